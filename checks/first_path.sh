@@ -1,0 +1,60 @@
+#!/usr/bin/env bash
+# The first example through the program itself: its lines, its status and its file, from the root and from another folder.
+cd "$(dirname "$0")/.." || exit 1
+passed=0
+failed=0
+check() {
+  if [ "$2" = "$3" ]; then
+    passed=$((passed + 1))
+  else
+    failed=$((failed + 1))
+    printf 'first path: %s: got\n%s\nwanted\n%s\n' "$1" "$2" "$3"
+  fi
+}
+
+rm -f examples/first/raised.npy
+lines=$(./dask run examples/first/job.txt)
+check 'status' "$?" 0
+check 'lines' "$lines" 'saved examples/first/raised.npy (3,)
+finished by: plain'
+check 'file' "$(cmp examples/first/raised.npy examples/first/expected.npy && echo same)" same
+if /usr/bin/python3 -c 'import numpy' 2>/dev/null; then
+  check 'as NumPy reads it' "$(/usr/bin/python3 -c 'import numpy; print(numpy.load("examples/first/raised.npy"))')" '[2 3 4]'
+else
+  echo 'first path: NumPy is not here, so its own reading of the file is not checked'
+fi
+rm -f examples/first/raised.npy
+
+# names are taken from the folder of the call
+folder=$(mktemp -d)
+root=$PWD
+printf 'input a "a.npy" shape (3) chunks (3)\nlet b = a + 40\nsave b "b.npy"\n' > "$folder/job.txt"
+cp examples/first/counts.npy "$folder/a.npy"
+lines=$(cd "$folder" && "$root/dask" run job.txt)
+check 'status in another folder' "$?" 0
+check 'lines in another folder' "$lines" 'saved b.npy (3,)
+finished by: plain'
+check 'data in another folder' "$(tail -c 24 "$folder/b.npy" | od -An -v -t d8 | tr -s ' \n' ' ')" ' 41 42 43 '
+
+# each refusal has its status and its line
+line=$(cd "$folder" && "$root/dask" walk job.txt 2>&1)
+check 'status of unknown words' "$?" 1
+check 'line of unknown words' "$line" 'dask: words'
+line=$(cd "$folder" && "$root/dask" run missing.txt 2>&1)
+check 'status of a missing job' "$?" 5
+check 'line of a missing job' "$line" 'dask: read fault'
+printf 'save b\n' > "$folder/bad.txt"
+line=$(cd "$folder" && "$root/dask" run bad.txt 2>&1)
+check 'status of a text that is no job' "$?" 2
+check 'line of a text that is no job' "$line" 'dask: job 1:1: not built'
+printf 'short' > "$folder/a.npy"
+line=$(cd "$folder" && "$root/dask" run job.txt 2>&1)
+check 'status of a file that is no array' "$?" 3
+check 'line of a file that is no array' "$line" 'dask: file a.npy: not built'
+line=$(cd "$folder" && cp "$root/examples/first/counts.npy" a.npy && "$root/dask" run job.txt 2>&1 >/dev/full)
+check 'status of a full standard output' "$?" 6
+check 'line of a full standard output' "$line" 'dask: write fault'
+rm -rf "$folder"
+
+echo "checks: $passed passed, $failed failed"
+[ "$failed" = 0 ]

@@ -1,0 +1,29 @@
+#!/usr/bin/env bash
+# The repository's own order: the line of HANDLES, crates that are listed and named in the README, no build products, short files.
+cd "$(dirname "$0")/.." || exit 1
+passed=0
+failed=0
+hold() {
+  if eval "$2"; then
+    passed=$((passed + 1))
+  else
+    failed=$((failed + 1))
+    echo "repository: $1"
+  fi
+}
+
+hold 'HANDLES is not its one line' '[ "$(cat HANDLES)" = "Handles allowed: Threads, Wait, Net." ]'
+hold 'files below an out/ are committed' '! git ls-files | grep -qE "(^|/)out/"'
+for folder in crates/*/; do
+  [ -d "$folder/src" ] || continue
+  crate=$(basename "$folder")
+  hold "crates.txt does not list $crate" 'grep -qE "^$crate( |:)" crates.txt'
+  hold "README.md does not name $crate" 'grep -q "\`$crate\`" README.md'
+  hold "docs/ARCHITECTURE.md does not name $crate" 'grep -q "\`$crate\`" docs/ARCHITECTURE.md'
+done
+for file in $(git ls-files '*.rt' '*.antt' '*.md'); do
+  hold "$file has more than 800 lines" '[ "$(wc -l < "$file")" -le 800 ]'
+done
+
+echo "checks: $passed passed, $failed failed"
+[ "$failed" = 0 ]
