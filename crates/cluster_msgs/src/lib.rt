@@ -1,0 +1,23 @@
+//! What the scheduler, its workers and its clients tell each other, and what a job is to them.
+//!
+//! Nothing of this repository stands below. The definitions of the machines, their cores, the links and the wire
+//! stand above, and all cite the types here. It promises that a copy equals its source, that a graph's dependencies
+//! are below their keys, and what a job's `run` answers: the value of its key, or a zero divisor, by formula.
+#![tactic(auto)]
+
+pub mod cores;
+pub mod events;
+pub mod lists;
+pub mod messages;
+pub mod packets;
+pub mod shape;
+
+pub use cores::{
+    ClientEvent, ClientInstruction, ClientOut, End, Instruction, Instructions, Outbox, Phase,
+    SchedEvent, Steal, Stop, WState, WorkerEvent,
+};
+pub use events::{Asker, Entry, Event, History, Item, Report, Script};
+pub use lists::{Cells, Duplicate, Holders, KeyList, Sequence, WhoHas};
+pub use messages::{Down, FromClient, Message, Peer, Role, ToClient, Up};
+pub use packets::Packet;
+pub use shape::GraphShape;
