@@ -7,6 +7,9 @@
 
 pub mod cores;
 pub mod events;
+pub mod jobs;
+pub mod labels;
+pub mod laws;
 pub mod lists;
 pub mod messages;
 pub mod packets;
@@ -17,6 +20,8 @@ pub use cores::{
     SchedEvent, Steal, Stop, WState, WorkerEvent,
 };
 pub use events::{Asker, Entry, Event, History, Item, Report, Script};
+pub use jobs::{JobSpec, Outcome, RunFail};
+pub use labels::{Label, Named, Naming};
 pub use lists::{Cells, Duplicate, Holders, KeyList, Sequence, WhoHas};
 pub use messages::{Down, FromClient, Message, Peer, Role, ToClient, Up};
 pub use packets::Packet;
