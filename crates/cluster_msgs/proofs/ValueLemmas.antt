@@ -50,7 +50,7 @@ any-more : {A : Type 0} (f g : A → Bool) (xs : List A) → AllByRecursion (λ 
 any-more f g [] h t = t
 any-more f g (x ∷ xs) h t =
     elim (or-cases (f x) (list_any f xs) t) [
-        inl a ↦ or-first (g x) (list_any g xs) (h.0 a)
+      | inl a ↦ or-first (g x) (list_any g xs) (h.0 a)
       | inr b ↦ or-second (g x) (list_any g xs) (any-more f g xs h.1 b)
     ]
 
@@ -146,7 +146,7 @@ cone-induction : (deps : ℕ → List ℕ) → IsEarlier deps → (j : ℕ) (P :
     → ((k d : ℕ) → Contains (deps k) d → cone deps d j ≡ true → P d → P k) → (k : ℕ) → cone deps k j ≡ true → P k
 cone-induction deps e j P here above = dag-induction deps (λ k. cone deps k j ≡ true → P k) e (λ k ih h.
     elim (cone-cases deps e k j h) [
-        inl a ↦ subst P (sym a) here
+      | inl a ↦ subst P (sym a) here
       | inr b ↦ any-gives (λ d. cone deps d j) (P k) (deps k)
           (all-weaker _ _ (deps k) (λ d p c. above k d p.0 c (p.1 c)) (pair-all _ _ (deps k) (all-members (deps k)) ih)) b
     ])
@@ -154,9 +154,9 @@ cone-induction deps e j P here above = dag-induction deps (λ k. cone deps k j �
 pub cone-closed : (deps : ℕ → List ℕ) → IsEarlier deps → (k j d : ℕ) → cone deps k j ≡ true → Contains (deps j) d → cone deps k d ≡ true
 cone-closed deps e k j d h m =
     cone-induction deps e j (λ i. cone deps i d ≡ true)
-      (cone-above deps e j d (any-at (λ x. cone deps x d) (deps j) d m.0 m.1 m.2 (cone-itself deps e d)))
-      (λ i x n c p. cone-above deps e i d (any-at (λ y. cone deps y d) (deps i) x n.0 n.1 n.2 p))
-      k h
+    (cone-above deps e j d (any-at (λ x. cone deps x d) (deps j) d m.0 m.1 m.2 (cone-itself deps e d)))
+    (λ i x n c p. cone-above deps e i d (any-at (λ y. cone deps y d) (deps i) x n.0 n.1 n.2 p))
+    k h
 
 pub cone-least : (deps : ℕ → List ℕ) → IsEarlier deps → (set : ℕ → Bool) (k : ℕ) → set k ≡ true
     → ((j d : ℕ) → set j ≡ true → Contains (deps j) d → set d ≡ true) → (j : ℕ) → cone deps k j ≡ true → set j ≡ true
@@ -166,7 +166,7 @@ cone-least deps e set k s closed j h =
 pub cone-below : (deps : ℕ → List ℕ) → IsEarlier deps → (k j : ℕ) → cone deps k j ≡ true → j ≤ k
 cone-below deps e k j h =
     cone-induction deps e j (λ i. j ≤ i) (omega arith)
-      (λ i d m c p. let lt : d < i = all-at (λ x. x < i) (deps i) d m.0 m.1 m.2 (e.below i) in omega arith) k h
+    (λ i d m c p. let lt : d < i = all-at (λ x. x < i) (deps i) d m.0 m.1 m.2 (e.below i) in omega arith) k h
 
 pub bad-above : {V : Type 0} (deps : ℕ → List ℕ) (op : ℕ → List V → Option V) → IsEarlier deps → (k j : ℕ) → cone deps k j ≡ true → faulty deps (val deps op) j ≡ true → val deps op k ≡ None
 bad-above deps op e k j h f =

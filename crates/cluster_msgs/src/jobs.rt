@@ -1,5 +1,5 @@
 //! What a cluster runs.
-ghost use Rattle.std.specs.Prelude.{◌≡◌, ◌<◌, ◌≤◌, ℕ, List, Option, Err, map, IfOk};
+ghost use Rattle.std.specs.Prelude.{◌≡◌, ◌<◌, ℕ, List, Option, map, IfOk};
 ghost use Rattle.cluster_msgs.specs.Shape.{Shape, key_count, deps_of};
 
 use crate::shape::GraphShape;
@@ -72,7 +72,7 @@ pub trait JobSpec: Send + Sync + Drop {
     /// How often a call of the feed has failed.
     ghost fault_count: { Self.Feed → ℕ };
 
-    ghost use Rattle.cluster_msgs.specs.Jobs.{value_of, IfValue, blocks_of, Rose};
+    ghost use Rattle.cluster_msgs.specs.Jobs.{value_of, IfValue, blocks_of, CountsFault};
 
     /// The graph. It takes no memory.
     fn shape(&self) -> &GraphShape
@@ -107,7 +107,5 @@ pub trait JobSpec: Send + Sync + Drop {
 
         ensures fits { feed_fits self.now feed.new }
         ensures tells { feed_tells self.now feed.old → feed_tells self.now feed.new }
-        ensures counted { fault_count feed.old ≤ fault_count feed.new }
-        ensures fault { result ≡ Err RunFail.Feed → Rose (fault_count feed.old) (fault_count feed.new) }
-        ensures no_fault { (result ≡ Err RunFail.Feed → ⊥) → fault_count feed.new ≡ fault_count feed.old };
+        ensures faults { CountsFault result (fault_count feed.old) (fault_count feed.new) };
 }
