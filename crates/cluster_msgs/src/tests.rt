@@ -1,5 +1,6 @@
-ghost use Rattle.std.specs.Prelude.{◌≡◌, ◌∷◌, [], IfOk, OnOk, IfErr};
+ghost use Rattle.std.specs.Prelude.{◌≡◌, ◌∷◌, [], length, IfOk, OnOk, IfErr};
 ghost use Rattle.cluster_msgs.specs.Jobs.{Rose};
+ghost use Rattle.cluster_msgs.specs.Labels.{PacketFits};
 
 use crate::{
     Asker, Cells, Down, Entry, Event, FromClient, GraphShape, History, Holders, Item, JobSpec,
@@ -383,5 +384,27 @@ fn a_job_runs_its_keys(rt: HostRuntime) -> Result<(), Fail> {
         assert_eq!(rt; last, quotient);
         assert_eq!(rt; job.faults(&feed), 0);
     }
+    Ok(())
+}
+
+/// How many blocks a packet of the run has.
+fn count_blocks<L: Label<Block = u64>>(packet: &Packet<u64>) -> usize
+    requires { PacketFits L.facts packet.now }
+    ensures { result ≡ length packet.now.blocks }
+{
+    packet.blocks.len()
+}
+
+#[test]
+fn a_packet_fits_a_run_that_is_not_told(rt: HostRuntime) -> Result<(), Fail> {
+    let mut found = KeyList::new(rt.alloc());
+    found.push(3)?;
+    let mut blocks = Sequence::new(rt.alloc());
+    blocks.push(Arc::new(rt.alloc(), 12)?)?;
+    let packet = Packet {
+        message: Message::Peer(Peer::Data { ask: 1, found }),
+        blocks,
+    };
+    assert_eq!(rt; count_blocks::<Named<u64, Brand>>(&packet), 1);
     Ok(())
 }
