@@ -241,6 +241,8 @@ fn an_outbox_opens_empty(rt: HostRuntime) {
 fn stops_and_failures_have_texts(rt: HostRuntime) -> Result<(), Fail> {
     let text = format!(in rt.alloc(); "{}, {}", Stop::Spent, RunFail::Feed)?;
     assert_eq!(rt; text.as_str(), "all events were taken, the feed failed");
+    assert_eq!(rt; Stop::from(AllocError), Stop::Memory);
+    assert_eq!(rt; RunFail::from(AllocError), RunFail::OutOfMemory);
     Ok(())
 }
 
