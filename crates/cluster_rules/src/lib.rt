@@ -1,0 +1,4 @@
+//! The rules of the cluster's machines, as definitions, and the laws about them.
+#![tactic(auto)]
+
+pub mod laws;
