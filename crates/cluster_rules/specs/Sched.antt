@@ -121,6 +121,10 @@ is_for w (Some p) = p.0 == w
 abbrev pub is_on : Facts → ℕ → ℕ → Bool
 is_on f w k = is_for w (f.on k)
 
+-- the key is to be stolen, or was and its worker refused
+abbrev pub is_stealing : Facts → ℕ → Bool
+is_stealing f k = is_some (f.steal k)
+
 -- the state of a key: the first that fits
 unfoldable pub phase : Facts → ℕ → Phase
 phase f k =
