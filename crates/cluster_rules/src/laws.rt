@@ -1,11 +1,12 @@
 //! Laws about the definitions. Each is the contract of a function with an empty body.
 ghost use Rattle.std.specs.Prelude.{◌≡◌, ℕ, Bool, List};
-ghost use Rattle.std.specs.Prelude.{true};
+ghost use Rattle.std.specs.Prelude.{true, not, ◌&&◌, ◌||◌, is_some};
+ghost use Rattle.std.specs.List.{list_any};
 ghost use Rattle.cluster_msgs.specs.declared.cores.SchedEvent.{SchedEvent};
-ghost use Rattle.cluster_rules.specs.Sched.{Facts as SchedFacts};
+ghost use Rattle.cluster_rules.specs.Sched.{Facts as SchedFacts, IsSound, keys, deps, held, erred, wanted, known, need, open_key, blame, blame_step};
 ghost use Rattle.cluster_rules.specs.SchedTable.{change, sched_takes};
 ghost use Rattle.cluster_rules.specs.SchedStep.{sched_step, settle, down_messages, client_messages};
-ghost use Rattle.cluster_rules.specs.Derived.{IsBelow, err, reach, err_step, reach_step};
+ghost use Rattle.cluster_rules.specs.Derived.{IsBelow, below, is_in, err, reach, err_step, reach_step};
 
 /// A key is erred exactly where its own facts and its dependencies say so.
 pub fn erred_by_dependencies()
@@ -23,4 +24,29 @@ pub fn reached_from_dependents()
 pub fn messages_of_an_event()
     ensures { (f : SchedFacts) (e : SchedEvent) → sched_takes f e ≡ true → let t = settle f (change f e) in
         ((sched_step f e).down ≡ down_messages t) × ((sched_step f e).clients ≡ client_messages t) × ((sched_step f e).joined ≡ t.changed.joined) }
+{}
+
+/// A key is erred where it is not held, and it is bad or a dependency is erred.
+pub fn erred_unfolds()
+    ensures { (f : SchedFacts) → IsSound f → (k : ℕ) → erred f k ≡ (not (held f k) && (f.bad k || list_any (erred f) (deps f k))) }
+{}
+
+/// A key is known where it is wanted or a dependent is known.
+pub fn known_unfolds()
+    ensures { (f : SchedFacts) → IsSound f → (k : ℕ) → known f k ≡ (wanted f k || list_any (λ j. is_in k (deps f j) && known f j) (below (keys f))) }
+{}
+
+/// A key is needed where it is wanted, or a dependent is needed, not held and not erred.
+pub fn need_unfolds()
+    ensures { (f : SchedFacts) → IsSound f → (k : ℕ) → need f k ≡ (wanted f k || list_any (λ j. is_in k (deps f j) && (open_key f j && need f j)) (below (keys f))) }
+{}
+
+/// An erred key is blamed on itself where it is bad, else on what its least erred dependency is blamed on.
+pub fn blame_unfolds()
+    ensures { (f : SchedFacts) → IsSound f → (k : ℕ) → blame f k ≡ blame_step f (blame f) k }
+{}
+
+/// An erred key, and no other, has a blame.
+pub fn erred_keys_are_blamed()
+    ensures { (f : SchedFacts) → IsSound f → (k : ℕ) → is_some (blame f k) ≡ erred f k }
 {}
