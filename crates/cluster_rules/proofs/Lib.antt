@@ -1,3 +1,4 @@
 pub mod DerivedLemmas
 pub mod FunctionLemmas
 pub mod SchedLemmas
+pub mod ChoiceLemmas

@@ -4,6 +4,8 @@ ghost use Rattle.std.specs.Prelude.{true, not, ◌&&◌, ◌||◌, is_some};
 ghost use Rattle.std.specs.List.{list_any};
 ghost use Rattle.cluster_msgs.specs.declared.cores.SchedEvent.{SchedEvent};
 ghost use Rattle.cluster_rules.specs.Sched.{Facts as SchedFacts, IsSound, keys, deps, held, erred, wanted, known, need, open_key, blame, blame_step};
+ghost use Rattle.cluster_rules.specs.Choice.{IsLeastOf};
+ghost use Rattle.cluster_rules.specs.Policies.{candidates, place_rank, place, steal_choices, steal_rank, next_steal};
 ghost use Rattle.cluster_rules.specs.SchedTable.{change, sched_takes};
 ghost use Rattle.cluster_rules.specs.SchedStep.{sched_step, settle, down_messages, client_messages};
 ghost use Rattle.cluster_rules.specs.Derived.{IsBelow, below, is_in, err, reach, err_step, reach_step};
@@ -49,4 +51,14 @@ pub fn blame_unfolds()
 /// An erred key, and no other, has a blame.
 pub fn erred_keys_are_blamed()
     ensures { (f : SchedFacts) → IsSound f → (k : ℕ) → is_some (blame f k) ≡ erred f k }
+{}
+
+/// The key is placed on the candidate with the least rank. It has no place exactly where it has no candidate.
+pub fn placed_on_the_least_candidate()
+    ensures { (f : SchedFacts) (k : ℕ) → IsLeastOf (place_rank f k) (candidates f k) (place f k) }
+{}
+
+/// The choice with the least rank is stolen. Nothing is stolen exactly where there is no choice.
+pub fn stolen_by_the_least_choice()
+    ensures { (f : SchedFacts) → IsLeastOf (steal_rank f) (steal_choices f) (next_steal f) }
 {}
