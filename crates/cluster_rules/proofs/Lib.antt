@@ -2,3 +2,5 @@ pub mod DerivedLemmas
 pub mod FunctionLemmas
 pub mod SchedLemmas
 pub mod ChoiceLemmas
+pub mod Members
+pub mod PolicyLemmas

@@ -1,11 +1,12 @@
 //! Laws about the definitions. Each is the contract of a function with an empty body.
 ghost use Rattle.std.specs.Prelude.{◌≡◌, ℕ, Bool, List};
 ghost use Rattle.std.specs.Prelude.{true, not, ◌&&◌, ◌||◌, is_some};
-ghost use Rattle.std.specs.List.{list_any};
+ghost use Rattle.std.specs.List.{list_any, Contains};
+ghost use Rattle.cluster_msgs.specs.declared.cores.Steal.{Steal};
 ghost use Rattle.cluster_msgs.specs.declared.cores.SchedEvent.{SchedEvent};
 ghost use Rattle.cluster_rules.specs.Sched.{Facts as SchedFacts, IsSound, keys, deps, held, erred, wanted, known, need, open_key, blame, blame_step};
 ghost use Rattle.cluster_rules.specs.Choice.{IsLeastOf};
-ghost use Rattle.cluster_rules.specs.Policies.{candidates, place_rank, place, steal_choices, steal_rank, next_steal};
+ghost use Rattle.cluster_rules.specs.Policies.{candidates, place_rank, place, steal_choices, steal_rank, next_steal, next_drop, IsStealChoice, IsDropOf};
 ghost use Rattle.cluster_rules.specs.SchedTable.{change, sched_takes};
 ghost use Rattle.cluster_rules.specs.SchedStep.{sched_step, settle, down_messages, client_messages};
 ghost use Rattle.cluster_rules.specs.Derived.{IsBelow, below, is_in, err, reach, err_step, reach_step};
@@ -61,4 +62,16 @@ pub fn placed_on_the_least_candidate()
 /// The choice with the least rank is stolen. Nothing is stolen exactly where there is no choice.
 pub fn stolen_by_the_least_choice()
     ensures { (f : SchedFacts) → IsLeastOf (steal_rank f) (steal_choices f) (next_steal f) }
+{}
+
+/// The choices of a steal are all steals that may be made.
+pub fn choices_of_a_steal()
+    ensures only { (f : SchedFacts) (c : Steal) → Contains (steal_choices f) c → IsStealChoice f c }
+    ensures all { (f : SchedFacts) → IsSound f → (c : Steal) → IsStealChoice f c → Contains (steal_choices f) c }
+{}
+
+/// The least key that may be dropped goes, at the first of those of its holders that hold most. Nothing is dropped
+/// exactly where no key may be.
+pub fn dropped_at_the_most_loaded_holder()
+    ensures { (f : SchedFacts) → IsDropOf f (next_drop f) }
 {}
