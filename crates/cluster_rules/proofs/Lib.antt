@@ -4,3 +4,4 @@ pub mod SchedLemmas
 pub mod ChoiceLemmas
 pub mod Members
 pub mod PolicyLemmas
+pub mod SchedFrame

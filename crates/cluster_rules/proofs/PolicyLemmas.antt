@@ -4,13 +4,13 @@ use Rattle.std.proofs.lemmas.Bool.{false≢true, not-false, cases_lt, ltb-true, 
 use Rattle.std.proofs.lemmas.Bool.Decides.{nat_tests}
 use Rattle.std.proofs.Math.Dec.{eqb, ltb}
 use Rattle.std.specs.List.{find, filter, flat_map, range_with_len, list_any, Contains}
-use Rattle.std.specs.Option.{option_map}
+use Rattle.std.specs.Option.{option_map, unwrap_or}
 use Rattle.cluster_msgs.specs.declared.cores.Steal.{Steal}
 use Rattle.cluster_rules.specs.Functions.{from_one, count}
 use Rattle.cluster_rules.specs.Derived.{below}
 use Rattle.cluster_rules.specs.Choice.{unbeaten, IsBest, IsBestOf}
 use Rattle.cluster_rules.specs.Sched.{Facts, IsSound, keys, holds, connected, workers, bytes_held, holder_count, waiters}
-use Rattle.cluster_rules.specs.Policies.{may_steal, steal_choices, IsStealChoice, may_drop, most_loaded, drop_of, next_drop, IsDrop, IsDropOf}
+use Rattle.cluster_rules.specs.Policies.{may_steal, steal_choices, IsStealChoice, may_drop, most_loaded, drop_of, next_drop, level, IsDrop, IsDropOf}
 use Rattle.cluster_rules.proofs.ChoiceLemmas.{IsPreference, unbeaten_best, FoundOf, find_found, contains_none, contains_head, contains_tail}
 use Rattle.cluster_rules.proofs.Members.{filter_from, filter_to, map_to, map_from, flat_map_to, flat_map_from, range_to, range_from, counted}
 
@@ -163,3 +163,26 @@ next_drop_is f = pick (find (may_drop f) (below (keys f))) refl (find_found (may
           most = λ v l m h. ltb-false (bytes_held f w) (bytes_held f v) (b.best v (is_holder f k v l m h));
           first = most_loaded_first f k w i b;
         }
+
+-- the level of a steal: what is found below 64, or 64
+abbrev lets : ℕ → ℕ → ℕ → Bool
+lets bytes work n = ltb bytes (2 ^ n * (work + 1))
+
+pub level_enough : (bytes work : ℕ) → bytes < 2 ^ 63 → bytes < 2 ^ level bytes work * (work + 1)
+unfolding level
+level_enough bytes work h = pick (find (lets bytes work) (below 64)) (find_found (lets bytes work) (below 64))
+  where
+    enough : 2 ^ 63 ≤ 2 ^ 63 * (work + 1)
+    enough = omega arith
+
+    pick : (o : Option ℕ) → FoundOf (lets bytes work) (below 64) o → bytes < 2 ^ unwrap_or o 64 * (work + 1)
+    pick None none = omega (arith, ltb-false bytes (2 ^ 63 * (work + 1)) (none 63 (range_to 0 64 63 (omega arith) (omega arith))))
+    pick (Some n) found = ltb-true bytes (2 ^ n * (work + 1)) found.1
+
+pub level_least : (bytes work n : ℕ) → n < level bytes work → 2 ^ n * (work + 1) ≤ bytes
+unfolding level
+level_least bytes work n l = pick (find (lets bytes work) (below 64)) refl (find_found (lets bytes work) (below 64)) l
+  where
+    pick : (o : Option ℕ) → find (lets bytes work) (below 64) ≡ o → FoundOf (lets bytes work) (below 64) o → n < unwrap_or o 64 → 2 ^ n * (work + 1) ≤ bytes
+    pick None e none m = ltb-false bytes (2 ^ n * (work + 1)) (none n (range_to 0 64 n (omega arith) (omega arith)))
+    pick (Some x) e found m = ltb-false bytes (2 ^ n * (work + 1)) (find_least (λ _. true) (lets bytes work) 0 64 x (ap (find (lets bytes work)) (all_pass 0 64) ∙ e) n (omega arith) m refl)

@@ -5,3 +5,4 @@ pub mod Sched
 pub mod Policies
 pub mod SchedTable
 pub mod SchedStep
+pub mod Frame

@@ -1,12 +1,13 @@
 //! Laws about the definitions. Each is the contract of a function with an empty body.
-ghost use Rattle.std.specs.Prelude.{◌≡◌, ℕ, Bool, List};
+ghost use Rattle.std.specs.Prelude.{◌≡◌, ℕ, Bool, List, ◌<◌, ◌≤◌, ◌^◌, ◌*◌, ◌+◌};
 ghost use Rattle.std.specs.Prelude.{true, not, ◌&&◌, ◌||◌, is_some};
 ghost use Rattle.std.specs.List.{list_any, Contains};
 ghost use Rattle.cluster_msgs.specs.declared.cores.Steal.{Steal};
 ghost use Rattle.cluster_msgs.specs.declared.cores.SchedEvent.{SchedEvent};
 ghost use Rattle.cluster_rules.specs.Sched.{Facts as SchedFacts, IsSound, keys, deps, held, erred, wanted, known, need, open_key, blame, blame_step};
 ghost use Rattle.cluster_rules.specs.Choice.{IsLeastOf};
-ghost use Rattle.cluster_rules.specs.Policies.{candidates, place_rank, place, steal_choices, steal_rank, next_steal, next_drop, IsStealChoice, IsDropOf};
+ghost use Rattle.cluster_rules.specs.Policies.{candidates, place_rank, place, steal_choices, steal_rank, next_steal, next_drop, IsStealChoice, IsDropOf, level};
+ghost use Rattle.cluster_rules.specs.Frame.{IsSettling};
 ghost use Rattle.cluster_rules.specs.SchedTable.{change, sched_takes};
 ghost use Rattle.cluster_rules.specs.SchedStep.{sched_step, settle, down_messages, client_messages};
 ghost use Rattle.cluster_rules.specs.Derived.{IsBelow, below, is_in, err, reach, err_step, reach_step};
@@ -74,4 +75,15 @@ pub fn choices_of_a_steal()
 /// exactly where no key may be.
 pub fn dropped_at_the_most_loaded_holder()
     ensures { (f : SchedFacts) → IsDropOf f (next_drop f) }
+{}
+
+/// After an event's own change nothing comes but new places under new attempts, and the counts of messages.
+pub fn settling_only_drops_and_places()
+    ensures { (f : SchedFacts) (e : SchedEvent) → IsSettling (change f e).facts (sched_step f e).facts }
+{}
+
+/// The level of a steal is the least power of two that lets the bytes to be moved stand against the work.
+pub fn level_is_the_least()
+    ensures enough { (bytes work : ℕ) → bytes < 2 ^ 63 → bytes < 2 ^ level bytes work * (work + 1) }
+    ensures least { (bytes work n : ℕ) → n < level bytes work → 2 ^ n * (work + 1) ≤ bytes }
 {}
