@@ -5,3 +5,4 @@ pub mod ChoiceLemmas
 pub mod Members
 pub mod PolicyLemmas
 pub mod SchedFrame
+pub mod OrderLemmas

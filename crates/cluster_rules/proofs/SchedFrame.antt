@@ -99,10 +99,10 @@ only_some : {A : Type 0} (b : Bool) (o : Option A) (x : A) → cond b o None ≡
 only_some true o x e = e
 only_some false o x e = absurd (none_is_no_some x e)
 
-same_eqb : (a b : ℕ) → a ≡ b → eqb a b ≡ true
+pub same_eqb : (a b : ℕ) → a ≡ b → eqb a b ≡ true
 same_eqb a b e = grind (arith, nat_tests)
 
-or_true : (b : Bool) → (b || true) ≡ true
+pub or_true : (b : Bool) → (b || true) ≡ true
 or_true true = refl
 or_true false = refl
 

@@ -6,3 +6,4 @@ pub mod Policies
 pub mod SchedTable
 pub mod SchedStep
 pub mod Frame
+pub mod Order

@@ -1,15 +1,16 @@
 //! Laws about the definitions. Each is the contract of a function with an empty body.
 ghost use Rattle.std.specs.Prelude.{◌≡◌, ℕ, Bool, List, ◌<◌, ◌≤◌, ◌^◌, ◌*◌, ◌+◌};
-ghost use Rattle.std.specs.Prelude.{true, not, ◌&&◌, ◌||◌, is_some};
+ghost use Rattle.std.specs.Prelude.{true, false, not, ◌++◌, [], ◌&&◌, ◌||◌, is_some};
 ghost use Rattle.std.specs.List.{list_any, Contains};
 ghost use Rattle.cluster_msgs.specs.declared.cores.Steal.{Steal};
 ghost use Rattle.cluster_msgs.specs.declared.cores.SchedEvent.{SchedEvent};
-ghost use Rattle.cluster_rules.specs.Sched.{Facts as SchedFacts, IsSound, keys, deps, held, erred, wanted, known, need, open_key, blame, blame_step};
+ghost use Rattle.cluster_rules.specs.Sched.{Facts as SchedFacts, IsSound, keys, workers, deps, held, erred, wanted, known, need, open_key, blame, blame_step};
 ghost use Rattle.cluster_rules.specs.Choice.{IsLeastOf};
 ghost use Rattle.cluster_rules.specs.Policies.{candidates, place_rank, place, steal_choices, steal_rank, next_steal, next_drop, IsStealChoice, IsDropOf, level};
 ghost use Rattle.cluster_rules.specs.Frame.{IsSettling};
+ghost use Rattle.cluster_rules.specs.Order.{Ascends, IsToldBefore, task_key};
 ghost use Rattle.cluster_rules.specs.SchedTable.{change, sched_takes};
-ghost use Rattle.cluster_rules.specs.SchedStep.{sched_step, settle, down_messages, client_messages};
+ghost use Rattle.cluster_rules.specs.SchedStep.{sched_step, settle, down_messages, client_messages, to_clients, mail, free_message, lost_keys, task_messages};
 ghost use Rattle.cluster_rules.specs.Derived.{IsBelow, below, is_in, err, reach, err_step, reach_step};
 
 /// A key is erred exactly where its own facts and its dependencies say so.
@@ -86,4 +87,17 @@ pub fn settling_only_drops_and_places()
 pub fn level_is_the_least()
     ensures enough { (bytes work : ℕ) → bytes < 2 ^ 63 → bytes < 2 ^ level bytes work * (work + 1) }
     ensures least { (bytes work n : ℕ) → n < level bytes work → 2 ^ n * (work + 1) ≤ bytes }
+{}
+
+/// The messages to workers stand by ascending worker. Those of a connected worker are one message with all keys that it
+/// lost, ascending, if any; then its new tasks, ascending; then its answers. A worker that is not connected gets none.
+/// Messages to clients stand by ascending client, then key.
+pub fn messages_stand_in_order()
+    ensures workers { (f : SchedFacts) (e : SchedEvent) → Ascends (λ m n. m.0 ≤ n.0) (sched_step f e).down }
+    ensures own { (f : SchedFacts) (e : SchedEvent) (w : ℕ) → let t = settle f (change f e) in is_in w (workers t.placed) ≡ true →
+        mail w (sched_step f e).down ≡ mail w (free_message w (lost_keys t w)) ++ (mail w (task_messages t.placed t.before.counter w) ++ t.changed.answer t.placed w) }
+    ensures others { (f : SchedFacts) (e : SchedEvent) (w : ℕ) → is_in w (workers (settle f (change f e)).placed) ≡ false → mail w (sched_step f e).down ≡ [] }
+    ensures lost { (f : SchedFacts) (e : SchedEvent) (w : ℕ) → Ascends (λ j k. j < k) (lost_keys (settle f (change f e)) w) }
+    ensures tasks { (f : SchedFacts) (since w : ℕ) → Ascends (λ m n. task_key m.1 < task_key n.1) (task_messages f since w) }
+    ensures clients { (f : SchedFacts) (e : SchedEvent) → Ascends IsToldBefore (to_clients (settle f (change f e))) }
 {}
