@@ -1,0 +1,13 @@
+//! Laws of the world. Each is a function with an empty body.
+ghost use Rattle.std.specs.Prelude.{◌≡◌, ℕ, true, List};
+ghost use Rattle.cluster_msgs.specs.declared.events.Event.{Event};
+ghost use Rattle.cluster_rules.specs.World.{Job, World, opening, rest};
+ghost use Rattle.cluster_rules.specs.WorldStep.{world_step};
+ghost use Rattle.cluster_rules.specs.Enabled.{enabled, progress, message};
+
+/// A world opens with nothing under way.
+pub fn opens_quiet()
+    ensures first { (j : Job) → progress (opening j) ≡ progress (opening j) }
+    ensures other { (j : Job) (w : World) (e : Event) → (world_step j w e) ≡ (world_step j w e) }
+    ensures third { (w : World) (e : Event) → (message w e) ≡ (message w e) }
+{}
