@@ -16,6 +16,18 @@ struct Row {
     nbytes: u64,
 }
 
+impl Row {
+    fn copy(&self) -> Result<Row, AllocError>
+        ensures { IfOk result (λ copy. copy ≡ self.now) }
+    {
+        Ok(Row {
+            deps: self.deps.copy()?,
+            work: self.work,
+            nbytes: self.nbytes,
+        })
+    }
+}
+
 /// What is known of each key beside its operation: its dependencies, its work and the bytes of its block.
 #[derive(Debug, Drop)]
 pub struct GraphShape {
@@ -53,6 +65,49 @@ impl GraphShape {
         ensures { IsShape self.now }
     {
         let _rows = &self.rows;
+    }
+
+    /// Adds the next key with its dependencies, its work and the bytes of its block.
+    ///
+    /// # Errors
+    /// Where no memory is left; the graph is then as before.
+    pub fn push(&mut self, deps: &KeyList, work: u64, nbytes: u64) -> Result<(), AllocError>
+        requires room { key_count self.old < 32768 }
+        requires edges { edge_count self.old + length deps.now ≤ 262144 }
+        requires rising { IsStrictlyIncreasing deps.now }
+        requires below { AllByRecursion (λ d. d < key_count self.old) deps.now }
+        requires light { work ≤ 2 ^ 46 }
+        requires small { nbytes ≤ 2 ^ 27 }
+        ensures ok { OnOk result (self.new ≡ pushed self.old deps.now work nbytes) }
+        ensures err { OnErr result (self.new ≡ self.old) }
+    {
+        let row = Row {
+            deps: deps.copy()?,
+            work,
+            nbytes,
+        };
+        let more = deps.len() as u32;
+        self.rows.push(row)?;
+        self.edge_total += more;
+        Ok(())
+    }
+
+    /// An equal graph of its own.
+    ///
+    /// # Errors
+    /// Where no memory is left.
+    pub fn copy(&self) -> Result<GraphShape, AllocError>
+        ensures { IfOk result (λ copy. copy ≡ self.now) }
+    {
+        let alloc = *self.rows.allocator();
+        let mut rows = Vec::with_capacity(alloc, self.rows.len())?;
+        for row in self.rows.as_slice() {
+            rows.push(row.copy()?)?;
+        }
+        Ok(GraphShape {
+            rows,
+            edge_total: self.edge_total,
+        })
     }
 
     /// The number of keys. They are 0 and the numbers up to it.
