@@ -5,3 +5,12 @@ pub mod Sched
 pub mod Policies
 pub mod SchedTable
 pub mod SchedStep
+pub mod Worker
+pub mod WorkerStep
+pub mod Client
+pub mod World
+pub mod WorldStep
+pub mod Enabled
+pub mod Runs
+pub mod Report
+pub mod Draw
