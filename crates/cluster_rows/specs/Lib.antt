@@ -1,2 +1,3 @@
 pub mod Talk
 pub mod SchedWorlds
+pub mod WorkerTalk

@@ -5,3 +5,4 @@
 #![tactic(auto)]
 
 pub mod sched;
+pub mod worker_rows;
