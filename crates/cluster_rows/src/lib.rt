@@ -6,3 +6,4 @@
 
 pub mod sched;
 pub mod worker_rows;
+pub mod world_rows;
