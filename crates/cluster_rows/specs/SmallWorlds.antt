@@ -4,6 +4,7 @@ use Rattle.cluster_msgs.specs.Shape.{Shape}
 use Rattle.cluster_msgs.specs.declared.events.Asker.TheVariants.{Client}
 use Rattle.cluster_msgs.specs.declared.events.Event.{Event}
 use Rattle.cluster_msgs.specs.declared.events.Event.TheVariants.{Want, Join, Lose, SeeLoss, Suspect, DeliverDown, DeliverUp, DeliverToClient, DeliverFromClient, Start, Finish, SendGather, ServeGather, ArriveGather}
+use Rattle.cluster_msgs.specs.declared.events.Item.TheVariants.{Lose as LoseItem}
 use Rattle.cluster_msgs.specs.declared.events.Report.{Report}
 use Rattle.cluster_rules.specs.World.{Job, World, opening}
 use Rattle.cluster_rules.specs.WorldStep.{world_step}
@@ -55,3 +56,51 @@ one_key_run =
     ∷ ServeGather 1 (Client 1) 1
     ∷ ArriveGather (Client 1) 1 1
     ∷ []
+
+-- the same for a key that depends on another; the last delivery, of what is freed, may come before the client is served
+abbrev pub two_keys_start : List Event
+two_keys_start =
+    DeliverFromClient 1
+    ∷ DeliverDown 1
+    ∷ Start 1
+    ∷ Finish 1 0
+    ∷ DeliverUp 1
+    ∷ DeliverDown 1
+    ∷ Start 1
+    ∷ Finish 1 1
+    ∷ DeliverUp 1
+    ∷ []
+
+abbrev pub client_served : ℕ → List Event
+client_served i = DeliverToClient 1 ∷ SendGather (Client 1) i ∷ ServeGather i (Client 1) 1 ∷ ArriveGather (Client 1) i 1 ∷ []
+
+-- worker 1 ends the first key and dies; worker 2 does both keys
+abbrev pub lost_at_one : Plan
+lost_at_one = record { workers = 2; threads = 1; script = LoseItem 1 1 ∷ [] }
+
+abbrev pub lost_start : List Event
+lost_start =
+    DeliverFromClient 1
+    ∷ DeliverDown 1
+    ∷ Start 1
+    ∷ Finish 1 0
+    ∷ DeliverUp 1
+    ∷ Lose 1
+    ∷ SeeLoss 1
+    ∷ DeliverDown 2
+    ∷ Start 2
+    ∷ Finish 2 0
+    ∷ DeliverUp 2
+    ∷ DeliverDown 2
+    ∷ Start 2
+    ∷ Finish 2 1
+    ∷ DeliverUp 2
+    ∷ []
+
+-- two workers of one thread, one key, wanted and given to worker 1, which starts it
+abbrev pub one_started : List Event
+one_started = opening_events (plan 2) (0 ∷ []) ++ DeliverFromClient 1 ∷ DeliverDown 1 ∷ Start 1 ∷ []
+
+-- worker 1 has ended it, and the client was told so
+abbrev pub one_told : List Event
+one_told = one_started ++ Finish 1 0 ∷ DeliverUp 1 ∷ DeliverToClient 1 ∷ []

@@ -103,3 +103,4 @@
 ))]
 
 pub mod simulated;
+pub mod losses;
