@@ -1,1 +1,3 @@
 pub mod ShapeLemmas
+pub mod SameMessages
+pub mod SameEvents

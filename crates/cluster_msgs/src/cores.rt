@@ -18,7 +18,7 @@ pub enum Stop {
 }
 
 /// An event of the scheduler.
-#[derive(Debug, Drop)]
+#[derive(Debug, PartialEq, Drop)]
 pub enum SchedEvent {
     Join { threads: u32 },
     Leave { w: u32 },
@@ -29,7 +29,7 @@ pub enum SchedEvent {
 }
 
 /// What the scheduler has to send: messages with their worker or client, and the numbers of the workers that joined.
-#[derive(Debug, Drop)]
+#[derive(Debug, PartialEq, Drop)]
 pub struct Outbox {
     pub down: Sequence<(u32, Down)>,
     pub clients: Sequence<(u32, ToClient)>,
@@ -72,7 +72,7 @@ pub struct Steal {
 }
 
 /// An event of a worker. `zero` says that the task met a zero divisor.
-#[derive(Debug, Drop)]
+#[derive(Debug, PartialEq, Drop)]
 pub enum WorkerEvent {
     Down(Down),
     Start,
@@ -84,7 +84,7 @@ pub enum WorkerEvent {
 }
 
 /// What a worker's node has to do for its core.
-#[derive(Debug, Drop)]
+#[derive(Debug, PartialEq, Drop)]
 pub enum Instruction {
     Execute { key: u32 },
     Gather { peer: u32, ask: u64, keys: KeyList },
@@ -117,7 +117,7 @@ pub enum WState {
 }
 
 /// An event of a client.
-#[derive(Debug, Drop)]
+#[derive(Debug, PartialEq, Drop)]
 pub enum ClientEvent {
     Want(KeyList),
     Release(KeyList),
@@ -128,7 +128,7 @@ pub enum ClientEvent {
 }
 
 /// What a client's node has to do for its core.
-#[derive(Debug, Drop)]
+#[derive(Debug, PartialEq, Drop)]
 pub enum ClientInstruction {
     Send(FromClient),
     Gather { peer: u32, ask: u64, keys: KeyList },

@@ -1,5 +1,5 @@
 //! The events of a cluster, and what its nodes keep of them.
-ghost use Rattle.std.specs.Prelude.{◌≡◌, IfOk};
+ghost use Rattle.std.specs.Prelude.{◌≡◌, ◌↔◌, IsTrue, IfOk};
 
 use crate::lists::{Duplicate, KeyList, Sequence};
 use crate::messages::Message;
@@ -13,7 +13,7 @@ pub enum Asker {
 }
 
 /// One action of one actor.
-#[derive(Debug, Drop)]
+#[derive(Debug, PartialEq, Drop)]
 pub enum Event {
     Want { client: u32, keys: KeyList },
     Release { client: u32, keys: KeyList },
@@ -38,7 +38,7 @@ pub enum Event {
 }
 
 /// An event as the node that took it keeps it: with its stamp, and the message that it took.
-#[derive(Debug, Drop)]
+#[derive(Debug, PartialEq, Drop)]
 pub struct Entry {
     pub stamp: u64,
     pub event: Event,
@@ -46,14 +46,14 @@ pub struct Entry {
 }
 
 /// The entries of one node. `cut` is the first that found no room.
-#[derive(Debug, Drop)]
+#[derive(Debug, PartialEq, Drop)]
 pub struct History {
     pub entries: Sequence<Entry>,
     pub cut: Option<Entry>,
 }
 
 /// Counts over a list of events. `workers` has each worker that joined, ascending, with the number of its starts.
-#[derive(Debug, Drop)]
+#[derive(Debug, PartialEq, Drop)]
 pub struct Report {
     pub keys: u32,
     pub edges: u32,
@@ -77,6 +77,13 @@ pub enum Item {
 pub type Script = Sequence<Item>;
 
 impl Event {
+    /// Whether the other event is the same, field by field.
+    pub fn is_same(&self, other: &Event) -> bool
+        ensures { IsTrue result ↔ (self.now ≡ other.now) }
+    {
+        self == other
+    }
+
     /// An equal event of its own.
     ///
     /// # Errors

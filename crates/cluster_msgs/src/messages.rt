@@ -1,11 +1,11 @@
 //! The messages, one variant per kind, with the fields in the order in which they are sent.
-ghost use Rattle.std.specs.Prelude.{◌≡◌, IfOk};
+ghost use Rattle.std.specs.Prelude.{◌≡◌, ◌↔◌, IsTrue, IfOk};
 
 use crate::lists::{Holders, KeyList, WhoHas};
 use std::alloc::AllocError;
 
 /// From the scheduler to a worker.
-#[derive(Debug, Drop)]
+#[derive(Debug, PartialEq, Drop)]
 pub enum Down {
     ComputeTask {
         key: u32,
@@ -32,7 +32,7 @@ pub enum Down {
 
 /// From a worker to the scheduler. `seen` is the number of messages from the scheduler that the worker had taken when
 /// it sent this one.
-#[derive(Debug, Drop)]
+#[derive(Debug, PartialEq, Drop)]
 pub enum Up {
     TaskFinished {
         seen: u64,
@@ -71,7 +71,7 @@ pub enum Up {
 }
 
 /// From the scheduler to a client. `blame` is a key whose own operation failed.
-#[derive(Debug, Drop)]
+#[derive(Debug, PartialEq, Drop)]
 pub enum ToClient {
     KeyInMemory { key: u32, holders: Holders },
     LostData { key: u32 },
@@ -79,7 +79,7 @@ pub enum ToClient {
 }
 
 /// From a client to the scheduler.
-#[derive(Debug, Drop)]
+#[derive(Debug, PartialEq, Drop)]
 pub enum FromClient {
     Want { keys: KeyList },
     Release { keys: KeyList },
@@ -87,7 +87,7 @@ pub enum FromClient {
 }
 
 /// Between those who ask for blocks and those who hold them. `found` are those of the asked keys that were there.
-#[derive(Debug, Drop)]
+#[derive(Debug, PartialEq, Drop)]
 pub enum Peer {
     GetData { ask: u64, keys: KeyList },
     Data { ask: u64, found: KeyList },
@@ -102,7 +102,7 @@ pub enum Role {
 }
 
 /// Any message, without blocks. `Hello` is the first of a connection.
-#[derive(Debug, Drop)]
+#[derive(Debug, PartialEq, Drop)]
 pub enum Message {
     Down(Down),
     Up(Up),
@@ -267,6 +267,13 @@ impl Peer {
 }
 
 impl Message {
+    /// Whether the other message is the same, field by field.
+    pub fn is_same(&self, other: &Message) -> bool
+        ensures { IsTrue result ↔ (self.now ≡ other.now) }
+    {
+        self == other
+    }
+
     /// An equal message of its own.
     ///
     /// # Errors

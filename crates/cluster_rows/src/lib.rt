@@ -5,3 +5,5 @@
 #![tactic(auto)]
 
 pub mod sched;
+pub mod worker_rows;
+pub mod world_rows;

@@ -7,3 +7,12 @@ pub mod SchedTable
 pub mod SchedStep
 pub mod Frame
 pub mod Order
+pub mod Worker
+pub mod WorkerStep
+pub mod Client
+pub mod World
+pub mod WorldStep
+pub mod Enabled
+pub mod Runs
+pub mod Report
+pub mod Draw

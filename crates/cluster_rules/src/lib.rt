@@ -8,5 +8,7 @@
 
 pub mod facts;
 pub mod laws;
+pub mod worker_laws;
+pub mod world_laws;
 
 pub use facts::Facts;
