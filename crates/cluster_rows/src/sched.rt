@@ -56,3 +56,7 @@
 ))]
 
 pub mod worked;
+pub mod workers;
+pub mod tasks;
+pub mod replicas;
+pub mod clients;
