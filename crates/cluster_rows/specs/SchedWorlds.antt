@@ -142,3 +142,44 @@ asked = record {
 
 abbrev pub when_asked : SchedEvent → Stepped
 when_asked e = sched_step (facts_of three_keys asked) e
+
+-- two keys with this work, of one byte each, both on worker 1; worker 2 is idle
+abbrev pub two_tasks : ℕ → ℕ → Setting
+two_tasks a b = record { shape = record { deps = [] ∷ [] ∷ []; work = a ∷ b ∷ []; nbytes = 1 ∷ 1 ∷ [] }; clients = 1; saturation = 11 }
+
+abbrev pub uneven : Table
+uneven = record {
+    want = (true ∷ true ∷ []) ∷ [];
+    workers =
+        record { threads = Some 1; has = None ∷ None ∷ []; sent = 2; fence = 0 ∷ 0 ∷ [] }
+        ∷ record { threads = Some 1; has = None ∷ None ∷ []; sent = 0; fence = 0 ∷ 0 ∷ [] }
+        ∷ [];
+    on = Some (1, 1) ∷ Some (1, 2) ∷ [];
+    steal = None ∷ None ∷ [];
+    bad = false ∷ false ∷ [];
+    counter = 3;
+    finishes = 0;
+  }
+
+-- keys 0 and 1 are held, by worker 1 and worker 2; key 2 depends on both; key 3 depends on none
+abbrev pub two_inputs : ℕ → ℕ → Setting
+two_inputs a b = record { shape = record { deps = [] ∷ [] ∷ (0 ∷ 1 ∷ []) ∷ [] ∷ []; work = 80 ∷ 80 ∷ 80 ∷ 90 ∷ []; nbytes = a ∷ b ∷ 8 ∷ 8 ∷ [] }; clients = 1; saturation = 11 }
+
+abbrev pub apart : Option (ℕ × ℕ) → Table
+apart place = record {
+    want = (false ∷ false ∷ true ∷ true ∷ []) ∷ [];
+    workers =
+        record { threads = Some 1; has = Some 3 ∷ None ∷ None ∷ None ∷ []; sent = 1; fence = 0 ∷ 0 ∷ 0 ∷ 0 ∷ [] }
+        ∷ record { threads = Some 1; has = None ∷ Some 4 ∷ None ∷ None ∷ []; sent = 1; fence = 0 ∷ 0 ∷ 0 ∷ 0 ∷ [] }
+        ∷ record { threads = Some 1; has = None ∷ None ∷ None ∷ None ∷ []; sent = 0; fence = 0 ∷ 0 ∷ 0 ∷ 0 ∷ [] }
+        ∷ [];
+    on = None ∷ None ∷ None ∷ place ∷ [];
+    steal = None ∷ None ∷ None ∷ None ∷ [];
+    bad = false ∷ false ∷ false ∷ false ∷ [];
+    counter = 6;
+    finishes = 2;
+  }
+
+-- key 2 depends on keys 0 and 1, key 3 on key 2, and key 4 on none
+abbrev pub diamond : Setting
+diamond = record { shape = record { deps = [] ∷ [] ∷ (0 ∷ 1 ∷ []) ∷ (2 ∷ []) ∷ [] ∷ []; work = 1 ∷ 1 ∷ 1 ∷ 1 ∷ 1 ∷ []; nbytes = 8 ∷ 8 ∷ 8 ∷ 8 ∷ 8 ∷ [] }; clients = 1; saturation = 11 }

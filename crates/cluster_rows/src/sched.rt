@@ -9,6 +9,7 @@
     cluster_rules::specs::Sched::need,
     cluster_rules::specs::Sched::ready,
     cluster_rules::specs::Sched::blame,
+    cluster_rules::specs::Sched::phase,
     cluster_rules::specs::Sched::tasks,
     cluster_rules::specs::Sched::occupancy,
     cluster_rules::specs::Sched::bytes_held,
@@ -60,3 +61,5 @@ pub mod workers;
 pub mod tasks;
 pub mod replicas;
 pub mod clients;
+pub mod steals;
+pub mod derived;
