@@ -43,17 +43,17 @@ wanted_again =
 -- the facts then: worker 1 holds keys 0 and 1, and key 2 was taken away by its fourth message; worker 2 holds key 2
 abbrev pub both_hold : Table
 both_hold = record {
-    want = (true ∷ true ∷ true ∷ []) ∷ [];
-    workers =
-        record { threads = Some 1; has = Some 3 ∷ Some 5 ∷ None ∷ []; sent = 4; fence = 0 ∷ 0 ∷ 4 ∷ [] }
-        ∷ record { threads = Some 1; has = None ∷ None ∷ Some 8 ∷ []; sent = 1; fence = 0 ∷ 0 ∷ 0 ∷ [] }
-        ∷ [];
-    on = None ∷ None ∷ None ∷ [];
-    steal = None ∷ None ∷ None ∷ [];
-    bad = false ∷ false ∷ false ∷ [];
-    counter = 9;
-    finishes = 4;
-  }
+  want = (true ∷ true ∷ true ∷ []) ∷ [];
+  workers =
+      record { threads = Some 1; has = Some 3 ∷ Some 5 ∷ None ∷ []; sent = 4; fence = 0 ∷ 0 ∷ 4 ∷ [] }
+      ∷ record { threads = Some 1; has = None ∷ None ∷ Some 8 ∷ []; sent = 1; fence = 0 ∷ 0 ∷ 0 ∷ [] }
+      ∷ [];
+  on = None ∷ None ∷ None ∷ [];
+  steal = None ∷ None ∷ None ∷ [];
+  bad = false ∷ false ∷ false ∷ [];
+  counter = 9;
+  finishes = 4;
+}
 
 -- one key without dependencies
 abbrev pub one_key : Setting
@@ -99,14 +99,14 @@ busy_two = record { threads = Some 1; has = None ∷ None ∷ None ∷ []; sent 
 
 abbrev pub busy : Table
 busy = record {
-    want = (false ∷ true ∷ true ∷ []) ∷ (false ∷ false ∷ false ∷ []) ∷ [];
-    workers = busy_one ∷ busy_two ∷ [];
-    on = None ∷ Some (1, 4) ∷ Some (2, 2) ∷ [];
-    steal = None ∷ None ∷ None ∷ [];
-    bad = false ∷ false ∷ false ∷ [];
-    counter = 5;
-    finishes = 1;
-  }
+  want = (false ∷ true ∷ true ∷ []) ∷ (false ∷ false ∷ false ∷ []) ∷ [];
+  workers = busy_one ∷ busy_two ∷ [];
+  on = None ∷ Some (1, 4) ∷ Some (2, 2) ∷ [];
+  steal = None ∷ None ∷ None ∷ [];
+  bad = false ∷ false ∷ false ∷ [];
+  counter = 5;
+  finishes = 1;
+}
 
 -- an event there
 abbrev pub when_busy : SchedEvent → Stepped
@@ -128,17 +128,17 @@ to_asked =
 
 abbrev pub asked : Table
 asked = record {
-    want = (true ∷ true ∷ true ∷ []) ∷ [];
-    workers =
-        record { threads = Some 1; has = None ∷ None ∷ None ∷ []; sent = 3; fence = 0 ∷ 0 ∷ 0 ∷ [] }
-        ∷ record { threads = Some 1; has = None ∷ None ∷ Some 4 ∷ []; sent = 1; fence = 0 ∷ 0 ∷ 0 ∷ [] }
-        ∷ [];
-    on = Some (1, 1) ∷ Some (1, 2) ∷ None ∷ [];
-    steal = Some (2, false) ∷ None ∷ None ∷ [];
-    bad = false ∷ false ∷ false ∷ [];
-    counter = 5;
-    finishes = 1;
-  }
+  want = (true ∷ true ∷ true ∷ []) ∷ [];
+  workers =
+      record { threads = Some 1; has = None ∷ None ∷ None ∷ []; sent = 3; fence = 0 ∷ 0 ∷ 0 ∷ [] }
+      ∷ record { threads = Some 1; has = None ∷ None ∷ Some 4 ∷ []; sent = 1; fence = 0 ∷ 0 ∷ 0 ∷ [] }
+      ∷ [];
+  on = Some (1, 1) ∷ Some (1, 2) ∷ None ∷ [];
+  steal = Some (2, false) ∷ None ∷ None ∷ [];
+  bad = false ∷ false ∷ false ∷ [];
+  counter = 5;
+  finishes = 1;
+}
 
 abbrev pub when_asked : SchedEvent → Stepped
 when_asked e = sched_step (facts_of three_keys asked) e
@@ -149,17 +149,17 @@ two_tasks a b = record { shape = record { deps = [] ∷ [] ∷ []; work = a ∷ 
 
 abbrev pub uneven : Table
 uneven = record {
-    want = (true ∷ true ∷ []) ∷ [];
-    workers =
-        record { threads = Some 1; has = None ∷ None ∷ []; sent = 2; fence = 0 ∷ 0 ∷ [] }
-        ∷ record { threads = Some 1; has = None ∷ None ∷ []; sent = 0; fence = 0 ∷ 0 ∷ [] }
-        ∷ [];
-    on = Some (1, 1) ∷ Some (1, 2) ∷ [];
-    steal = None ∷ None ∷ [];
-    bad = false ∷ false ∷ [];
-    counter = 3;
-    finishes = 0;
-  }
+  want = (true ∷ true ∷ []) ∷ [];
+  workers =
+      record { threads = Some 1; has = None ∷ None ∷ []; sent = 2; fence = 0 ∷ 0 ∷ [] }
+      ∷ record { threads = Some 1; has = None ∷ None ∷ []; sent = 0; fence = 0 ∷ 0 ∷ [] }
+      ∷ [];
+  on = Some (1, 1) ∷ Some (1, 2) ∷ [];
+  steal = None ∷ None ∷ [];
+  bad = false ∷ false ∷ [];
+  counter = 3;
+  finishes = 0;
+}
 
 -- keys 0 and 1 are held, by worker 1 and worker 2; key 2 depends on both; key 3 depends on none
 abbrev pub two_inputs : ℕ → ℕ → Setting
@@ -167,18 +167,18 @@ two_inputs a b = record { shape = record { deps = [] ∷ [] ∷ (0 ∷ 1 ∷ [])
 
 abbrev pub apart : Option (ℕ × ℕ) → Table
 apart place = record {
-    want = (false ∷ false ∷ true ∷ true ∷ []) ∷ [];
-    workers =
-        record { threads = Some 1; has = Some 3 ∷ None ∷ None ∷ None ∷ []; sent = 1; fence = 0 ∷ 0 ∷ 0 ∷ 0 ∷ [] }
-        ∷ record { threads = Some 1; has = None ∷ Some 4 ∷ None ∷ None ∷ []; sent = 1; fence = 0 ∷ 0 ∷ 0 ∷ 0 ∷ [] }
-        ∷ record { threads = Some 1; has = None ∷ None ∷ None ∷ None ∷ []; sent = 0; fence = 0 ∷ 0 ∷ 0 ∷ 0 ∷ [] }
-        ∷ [];
-    on = None ∷ None ∷ None ∷ place ∷ [];
-    steal = None ∷ None ∷ None ∷ None ∷ [];
-    bad = false ∷ false ∷ false ∷ false ∷ [];
-    counter = 6;
-    finishes = 2;
-  }
+  want = (false ∷ false ∷ true ∷ true ∷ []) ∷ [];
+  workers =
+      record { threads = Some 1; has = Some 3 ∷ None ∷ None ∷ None ∷ []; sent = 1; fence = 0 ∷ 0 ∷ 0 ∷ 0 ∷ [] }
+      ∷ record { threads = Some 1; has = None ∷ Some 4 ∷ None ∷ None ∷ []; sent = 1; fence = 0 ∷ 0 ∷ 0 ∷ 0 ∷ [] }
+      ∷ record { threads = Some 1; has = None ∷ None ∷ None ∷ None ∷ []; sent = 0; fence = 0 ∷ 0 ∷ 0 ∷ 0 ∷ [] }
+      ∷ [];
+  on = None ∷ None ∷ None ∷ place ∷ [];
+  steal = None ∷ None ∷ None ∷ None ∷ [];
+  bad = false ∷ false ∷ false ∷ false ∷ [];
+  counter = 6;
+  finishes = 2;
+}
 
 -- key 2 depends on keys 0 and 1, key 3 on key 2, and key 4 on none
 abbrev pub diamond : Setting

@@ -70,14 +70,20 @@ some_best {A = A} beats o x (z ∷ zs) = pick (some_best beats o z zs)
     pick (y, b) = at (beats x y) refl
       where
         at : (c : Bool) → beats x y ≡ c → (y : A) × IsBest beats (x ∷ z ∷ zs) y
-        at true e = (x, record {
-          member = contains_head x (z ∷ zs);
-          best = λ w h. ⊎_elim (λ s. subst (λ v. beats v x ≡ false) s (never_itself beats o x)) (λ t. transitive beats o w x y e (b.best w t)) (contains_cases x (z ∷ zs) w h);
-        })
-        at false e = (y, record {
-          member = contains_tail x (z ∷ zs) y b.member;
-          best = λ w h. ⊎_elim (λ s. subst (λ v. beats v y ≡ false) s e) (λ t. b.best w t) (contains_cases x (z ∷ zs) w h);
-        })
+        at true e = (
+          x,
+          record {
+            member = contains_head x (z ∷ zs);
+            best = λ w h. ⊎_elim (λ s. subst (λ v. beats v x ≡ false) s (never_itself beats o x)) (λ t. transitive beats o w x y e (b.best w t)) (contains_cases x (z ∷ zs) w h);
+          },
+        )
+        at false e = (
+          y,
+          record {
+            member = contains_tail x (z ∷ zs) y b.member;
+            best = λ w h. ⊎_elim (λ s. subst (λ v. beats v y ≡ false) s e) (λ t. b.best w t) (contains_cases x (z ∷ zs) w h);
+          },
+        )
 
 not_not : (b : Bool) → not b ≡ false → b ≡ true
 not_not true e = refl
@@ -132,13 +138,13 @@ before_apart (x ∷ xs) ys [] h i = refl
 before_apart (x ∷ xs) [] (z ∷ zs) h i = absurd (true≢false i)
 before_apart (x ∷ xs) (y ∷ ys) (z ∷ zs) h i = ⊎_elim
     (λ l. ⊎_elim
-      (λ m. not_after x z (is_before xs zs) (λ g. omega arith) (λ e. absurd (omega arith)))
-      (λ q. let e : y ≡ z = q.0 in not_after x z (is_before xs zs) (λ g. omega arith) (λ e. absurd (omega arith)))
-      (test_not y z (is_before ys zs) i))
+    (λ m. not_after x z (is_before xs zs) (λ g. omega arith) (λ e. absurd (omega arith)))
+    (λ q. let e : y ≡ z = q.0 in not_after x z (is_before xs zs) (λ g. omega arith) (λ e. absurd (omega arith)))
+    (test_not y z (is_before ys zs) i))
     (λ p. let e : x ≡ y = p.0 in ⊎_elim
-      (λ m. not_after x z (is_before xs zs) (λ g. omega arith) (λ e. absurd (omega arith)))
-      (λ q. let d : y ≡ z = q.0 in not_after x z (is_before xs zs) (λ g. omega arith) (λ e. before_apart xs ys zs p.1 q.1))
-      (test_not y z (is_before ys zs) i))
+    (λ m. not_after x z (is_before xs zs) (λ g. omega arith) (λ e. absurd (omega arith)))
+    (λ q. let d : y ≡ z = q.0 in not_after x z (is_before xs zs) (λ g. omega arith) (λ e. before_apart xs ys zs p.1 q.1))
+    (test_not y z (is_before ys zs) i))
     (test_not x y (is_before xs ys) h)
 
 pub rank_prefers : {A : Type 0} (rank : A → List ℕ) → IsPreference (λ y x. is_before (rank y) (rank x))

@@ -69,9 +69,10 @@ ascends_filter_map {A = A} {B = B} R S g keeps (x ∷ xs) h = pick (g x) refl (a
 
 ascends_append : {A : Type 0} (S : A → A → Type 0) (xs ys : List A) → Ascends S xs → Ascends S ys → ((x y : A) → Contains xs x → Contains ys y → S x y) → Ascends S (xs ++ ys)
 ascends_append S [] ys h i j = i
-ascends_append S (x ∷ xs) ys h i j =
-    (all_from (S x) (xs ++ ys) (λ y m. ⊎_elim (λ l. all_at (S x) xs h.0 y l) (λ r. j x y (contains_head x xs) r) (Contains-append_cases xs ys y m)),
-      ascends_append S xs ys h.1 i (λ z y m n. j z y (contains_tail x xs z m) n))
+ascends_append S (x ∷ xs) ys h i j = (
+  all_from (S x) (xs ++ ys) (λ y m. ⊎_elim (λ l. all_at (S x) xs h.0 y l) (λ r. j x y (contains_head x xs) r) (Contains-append_cases xs ys y m)),
+  ascends_append S xs ys h.1 i (λ z y m n. j z y (contains_tail x xs z m) n),
+)
 
 pub ascends_flat_map : {A B : Type 0} (R : A → A → Type 0) (S : B → B → Type 0) (g : A → List B) → ((x z : A) (y v : B) → R x z → Contains (g x) y → Contains (g z) v → S y v) → ((x : A) → Ascends S (g x)) → (xs : List A) → Ascends R xs → Ascends S (flat_map g xs)
 ascends_flat_map R S g keeps each [] h = tt
@@ -194,15 +195,16 @@ unfolding to_worker
 part-to t w m h = ⊎_elim
     (λ l. free-to w (lost_keys t w) m l)
     (λ r. ⊎_elim (λ l. tasks-to t.placed t.before.counter w m l) (λ s. answers-to w (t.changed.answer t.placed w) m s)
-      (Contains-append_cases (task_messages t.placed t.before.counter w) (all_to w (t.changed.answer t.placed w)) m r))
+    (Contains-append_cases (task_messages t.placed t.before.counter w) (all_to w (t.changed.answer t.placed w)) m r))
     (Contains-append_cases (free_message w (lost_keys t w)) (task_messages t.placed t.before.counter w ++ all_to w (t.changed.answer t.placed w)) m h)
 
 -- a list whose members all have one first part
 one_ascends : {A : Type 0} (w : ℕ) (ms : List (ℕ × A)) → ((m : ℕ × A) → Contains ms m → m.0 ≡ w) → Ascends (λ (m n : ℕ × A). m.0 ≤ n.0) ms
 one_ascends w [] h = tt
-one_ascends {A = A} w (m ∷ ms) h =
-    (all_from (λ (n : ℕ × A). m.0 ≤ n.0) ms (λ n c. let a : m.0 ≡ w = h m (contains_head m ms) in let b : n.0 ≡ w = h n (contains_tail m ms n c) in omega arith),
-      one_ascends w ms (λ n c. h n (contains_tail m ms n c)))
+one_ascends {A = A} w (m ∷ ms) h = (
+  all_from (λ (n : ℕ × A). m.0 ≤ n.0) ms (λ n c. let a : m.0 ≡ w = h m (contains_head m ms) in let b : n.0 ≡ w = h n (contains_tail m ms n c) in omega arith),
+  one_ascends w ms (λ n c. h n (contains_tail m ms n c)),
+)
 
 pub recipients_ascend : (t : Stages) → Ascends (λ (m n : ℕ × Down). m.0 ≤ n.0) (down_messages t)
 unfolding down_messages
@@ -234,11 +236,11 @@ unfolding to_clients
 clients_ascend t = ascends_flat_map (λ c d. c < d) IsToldBefore per_client
     (λ c d m n l a b. let e : m.0 ≡ c = told_to c m a in let g : n.0 ≡ d = told_to d n b in inl (omega arith))
     (λ c. ascends_filter_map (λ j k. j < k) IsToldBefore (client_message t c)
-      (λ j k m n l a b.
-        let x = client_message-key t c j m a in
-        let y = client_message-key t c k n b in
-        inr (x.0 ∙ sym y.0, subst (λ z. z < client_key n.1) (sym x.1) (subst (λ z. j < z) (sym y.1) l)))
-      (below (keys t.before)) (ascends_range 0 (keys t.before)))
+    (λ j k m n l a b.
+    let x = client_message-key t c j m a in
+    let y = client_message-key t c k n b in
+    inr (x.0 ∙ sym y.0, subst (λ z. z < client_key n.1) (sym x.1) (subst (λ z. j < z) (sym y.1) l)))
+    (below (keys t.before)) (ascends_range 0 (keys t.before)))
     (from_one t.before.setting.clients) (ascends_range 1 t.before.setting.clients)
   where
     per_client : ℕ → List (ℕ × ToClient)

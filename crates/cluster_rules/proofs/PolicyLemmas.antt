@@ -51,8 +51,8 @@ pub steal_choice_to : (f : Facts) → IsSound f → (c : Steal) → IsStealChoic
 unfolding steal_choices
 steal_choice_to f s c h = filter_to (may_steal f) (flat_map by_key (below (keys f))) c
     (flat_map_to by_key (below (keys f)) c.key c (range_to 0 (keys f) c.key (omega arith) (omega (arith, h.key)))
-      (flat_map_to (by_victim c.key) (workers f) c.victim c (worker_to f s c.victim h.victim)
-        (map_to (λ t. record { key = c.key; victim = c.victim; thief = t }) (workers f) c.thief (worker_to f s c.thief h.thief))))
+    (flat_map_to (by_victim c.key) (workers f) c.victim c (worker_to f s c.victim h.victim)
+    (map_to (λ t. record { key = c.key; victim = c.victim; thief = t }) (workers f) c.thief (worker_to f s c.thief h.thief))))
     h.allowed
   where
     by_victim : ℕ → ℕ → List Steal
@@ -128,8 +128,8 @@ most_loaded_first : (f : Facts) (k w : ℕ) → most_loaded f k ≡ Some w → I
 unfolding most_loaded
 most_loaded_first f k w e b v l m h =
     heavy (any_true (λ u. ltb (bytes_held f v) (bytes_held f u)) (holders_of f k)
-      (not-false (list_any (λ u. ltb (bytes_held f v) (bytes_held f u)) (holders_of f k))
-        (find_least (λ u. holds f u k) (λ x. not (list_any (λ y. ltb (bytes_held f x) (bytes_held f y)) (holders_of f k))) 1 f.last_worker w e v l m h)))
+    (not-false (list_any (λ u. ltb (bytes_held f v) (bytes_held f u)) (holders_of f k))
+    (find_least (λ u. holds f u k) (λ x. not (list_any (λ y. ltb (bytes_held f x) (bytes_held f y)) (holders_of f k))) 1 f.last_worker w e v l m h)))
   where
     heavy : (u : ℕ) × Contains (holders_of f k) u × (ltb (bytes_held f v) (bytes_held f u) ≡ true) → bytes_held f v < bytes_held f w
     heavy (u, c, g) = omega (arith, ltb-true (bytes_held f v) (bytes_held f u) g, ltb-false (bytes_held f w) (bytes_held f u) (b.best u c))

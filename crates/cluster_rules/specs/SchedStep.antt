@@ -154,9 +154,9 @@ fence_after k s (m ∷ ms) f = fence_after k (s + 1) ms (cond (takes_away k m) (
 -- each message takes the next place on its link, and a key that is taken away remembers the place of the message that says so
 unfoldable pub posted : Stages → List (ℕ × Down) → Facts
 posted t ms = record t.placed {
-    sent = λ w. t.placed.sent w + count_to w ms;
-    fence = λ w k. fence_after k (t.placed.sent w) (mail w ms) (t.placed.fence w k);
-  }
+  sent = λ w. t.placed.sent w + count_to w ms;
+  fence = λ w k. fence_after k (t.placed.sent w) (mail w ms) (t.placed.fence w k);
+}
 
 -- an event's result: the facts after it, the messages to workers and to clients, and the numbers that joined
 pub record Stepped : Type 0 where
@@ -167,11 +167,11 @@ pub record Stepped : Type 0 where
 
 unfoldable pub finish_step : Stages → Stepped
 finish_step t = record {
-    facts = posted t (down_messages t);
-    down = down_messages t;
-    clients = client_messages t;
-    joined = t.changed.joined;
-  }
+  facts = posted t (down_messages t);
+  down = down_messages t;
+  clients = client_messages t;
+  joined = t.changed.joined;
+}
 
 -- one event that is taken: its row of the table, what settles, and the messages
 unfoldable pub sched_step : Facts → SchedEvent → Stepped

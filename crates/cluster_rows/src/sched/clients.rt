@@ -38,9 +38,9 @@ pub fn an_empty_want()
 pub fn a_client_releases_a_key()
     ensures { let s = when_busy (FromClient 1 (Release (2 ∷ []))) in (s.down ≡ (2, FreeKeys (2 ∷ [])) ∷ []) × (s.clients ≡ [])
         × (table s.facts ≡ record busy {
-            want = (false ∷ true ∷ false ∷ []) ∷ (false ∷ false ∷ false ∷ []) ∷ [];
-            workers = busy_one ∷ record busy_two { sent = 2; fence = 0 ∷ 0 ∷ 2 ∷ [] } ∷ [];
-            on = None ∷ Some (1, 4) ∷ None ∷ []
+          want = (false ∷ true ∷ false ∷ []) ∷ (false ∷ false ∷ false ∷ []) ∷ [];
+          workers = busy_one ∷ record busy_two { sent = 2; fence = 0 ∷ 0 ∷ 2 ∷ [] } ∷ [];
+          on = None ∷ Some (1, 4) ∷ None ∷ [];
         }) }
 {}
 

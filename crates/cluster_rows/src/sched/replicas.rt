@@ -37,9 +37,9 @@ pub fn a_block_is_given_up()
     ensures { let s = when_busy (FromWorker 1 (ReleaseWorkerData 2 0)) in
         (s.down ≡ (1, FreeKeys (1 ∷ [])) ∷ (1, ComputeTask 0 5 []) ∷ []) × (s.clients ≡ [])
         × (table s.facts ≡ record busy {
-            workers = record busy_one { has = None ∷ None ∷ None ∷ []; sent = 4; fence = 0 ∷ 3 ∷ 0 ∷ [] } ∷ busy_two ∷ [];
-            on = Some (1, 5) ∷ None ∷ Some (2, 2) ∷ [];
-            counter = 6
+          workers = record busy_one { has = None ∷ None ∷ None ∷ []; sent = 4; fence = 0 ∷ 3 ∷ 0 ∷ [] } ∷ busy_two ∷ [];
+          on = Some (1, 5) ∷ None ∷ Some (2, 2) ∷ [];
+          counter = 6;
         }) }
 {}
 
@@ -61,9 +61,9 @@ pub fn a_copy_is_missing()
     ensures { let s = when_busy (FromWorker 2 (MissingData 1 0 1 3)) in
         (s.down ≡ (1, FreeKeys (0 ∷ 1 ∷ [])) ∷ (1, ComputeTask 0 5 []) ∷ (2, RefreshWhoHas ((0, []) ∷ [])) ∷ []) × (s.clients ≡ [])
         × (table s.facts ≡ record busy {
-            workers = record busy_one { has = None ∷ None ∷ None ∷ []; sent = 4; fence = 3 ∷ 3 ∷ 0 ∷ [] } ∷ record busy_two { sent = 2 } ∷ [];
-            on = Some (1, 5) ∷ None ∷ Some (2, 2) ∷ [];
-            counter = 6
+          workers = record busy_one { has = None ∷ None ∷ None ∷ []; sent = 4; fence = 3 ∷ 3 ∷ 0 ∷ [] } ∷ record busy_two { sent = 2 } ∷ [];
+          on = Some (1, 5) ∷ None ∷ Some (2, 2) ∷ [];
+          counter = 6;
         }) }
 {}
 

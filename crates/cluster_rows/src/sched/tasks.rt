@@ -17,10 +17,10 @@ pub fn a_task_finishes()
     ensures { let s = when_busy (FromWorker 1 (TaskFinished 2 1 4)) in
         (s.down ≡ (1, FreeKeys (0 ∷ [])) ∷ []) × (s.clients ≡ (1, KeyInMemory 1 ((1, 5) ∷ [])) ∷ [])
         × (table s.facts ≡ record busy {
-            workers = record busy_one { has = None ∷ Some 5 ∷ None ∷ []; sent = 3; fence = 3 ∷ 0 ∷ 0 ∷ [] } ∷ busy_two ∷ [];
-            on = None ∷ None ∷ Some (2, 2) ∷ [];
-            counter = 6;
-            finishes = 2
+          workers = record busy_one { has = None ∷ Some 5 ∷ None ∷ []; sent = 3; fence = 3 ∷ 0 ∷ 0 ∷ [] } ∷ busy_two ∷ [];
+          on = None ∷ None ∷ Some (2, 2) ∷ [];
+          counter = 6;
+          finishes = 2;
         }) }
 {}
 
@@ -41,9 +41,9 @@ pub fn a_task_errs()
     ensures { let s = when_busy (FromWorker 1 (TaskErred 0 1 4)) in
         (s.down ≡ (1, FreeKeys (0 ∷ [])) ∷ []) × (s.clients ≡ (1, ClientTaskErred 1 1) ∷ [])
         × (table s.facts ≡ record busy {
-            workers = record busy_one { has = None ∷ None ∷ None ∷ []; sent = 3; fence = 3 ∷ 0 ∷ 0 ∷ [] } ∷ busy_two ∷ [];
-            on = None ∷ None ∷ Some (2, 2) ∷ [];
-            bad = false ∷ true ∷ false ∷ []
+          workers = record busy_one { has = None ∷ None ∷ None ∷ []; sent = 3; fence = 3 ∷ 0 ∷ 0 ∷ [] } ∷ busy_two ∷ [];
+          on = None ∷ None ∷ Some (2, 2) ∷ [];
+          bad = false ∷ true ∷ false ∷ [];
         }) }
 {}
 

@@ -31,11 +31,9 @@ pub fn a_worker_joins_where_keys_are_queued()
 /// A worker has 1 to 16 threads, at most 64 are connected, and none gets a number above 1024.
 pub fn a_worker_that_may_not_join()
     ensures threads { (may_when_busy (Join 0) ≡ false) × (may_when_busy (Join 1) ≡ true) × (may_when_busy (Join 16) ≡ true) × (may_when_busy (Join 17) ≡ false) }
-    ensures connected {
-        (sched_takes (record (sched_opening one_key) { threads = λ w. cond (nat_le w 63) (Some 1) None; last_worker = 63 }) (Join 1) ≡ true)
+    ensures connected { (sched_takes (record (sched_opening one_key) { threads = λ w. cond (nat_le w 63) (Some 1) None; last_worker = 63 }) (Join 1) ≡ true)
         × (sched_takes (record (sched_opening one_key) { threads = λ w. cond (nat_le w 64) (Some 1) None; last_worker = 64 }) (Join 1) ≡ false) }
-    ensures numbers {
-        (sched_takes (record (sched_opening one_key) { last_worker = 1023 }) (Join 1) ≡ true)
+    ensures numbers { (sched_takes (record (sched_opening one_key) { last_worker = 1023 }) (Join 1) ≡ true)
         × (sched_takes (record (sched_opening one_key) { last_worker = 1024 }) (Join 1) ≡ false) }
 {}
 
@@ -43,9 +41,9 @@ pub fn a_worker_that_may_not_join()
 pub fn a_worker_leaves_its_task()
     ensures { let s = when_busy (Leave 2) in (s.down ≡ (1, ComputeTask 2 5 []) ∷ []) × (s.clients ≡ [])
         × (table s.facts ≡ record busy {
-            workers = record busy_one { sent = 3 } ∷ record busy_two { threads = None } ∷ [];
-            on = None ∷ Some (1, 4) ∷ Some (1, 5) ∷ [];
-            counter = 6
+          workers = record busy_one { sent = 3 } ∷ record busy_two { threads = None } ∷ [];
+          on = None ∷ Some (1, 4) ∷ Some (1, 5) ∷ [];
+          counter = 6;
         }) }
 {}
 
@@ -53,9 +51,9 @@ pub fn a_worker_leaves_its_task()
 pub fn a_worker_leaves_its_block()
     ensures { let s = when_busy (Leave 1) in (s.down ≡ (2, ComputeTask 0 5 []) ∷ []) × (s.clients ≡ [])
         × (table s.facts ≡ record busy {
-            workers = record busy_one { threads = None; has = None ∷ None ∷ None ∷ [] } ∷ record busy_two { sent = 2 } ∷ [];
-            on = Some (2, 5) ∷ None ∷ Some (2, 2) ∷ [];
-            counter = 6
+          workers = record busy_one { threads = None; has = None ∷ None ∷ None ∷ [] } ∷ record busy_two { sent = 2 } ∷ [];
+          on = Some (2, 5) ∷ None ∷ Some (2, 2) ∷ [];
+          counter = 6;
         }) }
 {}
 
