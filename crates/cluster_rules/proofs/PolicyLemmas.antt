@@ -1,16 +1,16 @@
 -- What may be stolen and dropped, and that the least is taken.
-use Rattle.std.proofs.Common.{◌≡◌, ℕ, zero, suc, ◌+◌, ◌*◌, ◌^◌, ◌<◌, ◌≤◌, ◌==◌, Bool, true, false, not, cond, ◌&&◌, ◌||◌, List, [], ◌∷◌, length, Option, Some, None, refl, sym, ap, ◌∙◌, subst, arith, inl, inr, ◌⊎◌, ⊎_elim, map, is_some}
+use Rattle.std.proofs.Common.{◌≡◌, ℕ, zero, suc, ◌+◌, ◌*◌, ◌^◌, ◌<◌, ◌≤◌, Bool, true, false, not, cond, ◌||◌, List, [], ◌∷◌, Option, Some, None, refl, sym, ap, ◌∙◌, subst, arith, inl, inr, ◌⊎◌, ⊎_elim, map}
 use Rattle.std.proofs.lemmas.Bool.{false≢true, not-false, cases_lt, ltb-true, ltb-false}
 use Rattle.std.proofs.lemmas.Bool.Decides.{nat_tests}
-use Rattle.std.proofs.Math.Dec.{eqb, ltb}
+use Rattle.std.proofs.Math.Dec.{ltb}
 use Rattle.std.specs.List.{find, filter, flat_map, range_with_len, list_any, Contains}
 use Rattle.std.specs.Option.{option_map, unwrap_or}
 use Rattle.cluster_msgs.specs.declared.cores.Steal.{Steal}
 use Rattle.cluster_rules.specs.Functions.{from_one, count}
 use Rattle.cluster_rules.specs.Derived.{below}
-use Rattle.cluster_rules.specs.Choice.{unbeaten, IsBest, IsBestOf}
+use Rattle.cluster_rules.specs.Choice.{IsBest, IsBestOf}
 use Rattle.cluster_rules.specs.Sched.{Facts, IsSound, keys, holds, connected, workers, bytes_held, holder_count, waiters}
-use Rattle.cluster_rules.specs.Policies.{may_steal, steal_choices, IsStealChoice, may_drop, most_loaded, drop_of, next_drop, level, IsDrop, IsDropOf}
+use Rattle.cluster_rules.specs.Policies.{may_steal, steal_choices, IsStealChoice, may_drop, most_loaded, drop_of, next_drop, level, IsDropOf}
 use Rattle.cluster_rules.proofs.ChoiceLemmas.{IsPreference, unbeaten_best, FoundOf, find_found, contains_none, contains_head, contains_tail}
 use Rattle.cluster_rules.proofs.Members.{filter_from, filter_to, map_to, map_from, flat_map_to, flat_map_from, range_to, range_from, counted}
 

@@ -1,17 +1,16 @@
 -- What one event of the scheduler leaves as it is.
-use Rattle.std.proofs.Common.{◌≡◌, ℕ, zero, suc, ◌+◌, ◌<◌, ◌≤◌, Bool, true, false, not, cond, ◌&&◌, ◌||◌, List, [], ◌∷◌, ◌++◌, length, Option, Some, None, refl, sym, ap, ◌∙◌, subst, arith, is_some, is_none, inl, inr, ◌⊎◌, ⊎_elim, zero-add}
+use Rattle.std.proofs.Common.{◌≡◌, ℕ, zero, suc, ◌+◌, ◌<◌, ◌≤◌, Bool, true, false, cond, ◌&&◌, ◌||◌, List, [], ◌∷◌, ◌++◌, length, Option, Some, None, refl, sym, ap, ◌∙◌, arith, is_none, inl, inr, ◌⊎◌, ⊎_elim}
 use Rattle.std.proofs.lemmas.Bool.{false≢true, eqb-true, or_cases, cases_lt}
 use Rattle.std.proofs.lemmas.Bool.Decides.{nat_tests}
-use Rattle.std.specs.List.{flat_map, filter, range_with_len}
+use Rattle.std.specs.List.{filter, range_with_len}
 use Rattle.std.proofs.Math.Dec.{eqb}
 use Rattle.cluster_msgs.specs.declared.messages.Down.{Down}
 use Rattle.cluster_msgs.specs.declared.cores.SchedEvent.{SchedEvent}
-use Rattle.cluster_rules.specs.Functions.{put, put_pair, from_one}
 use Rattle.cluster_rules.specs.Derived.{below, is_in}
-use Rattle.cluster_rules.specs.Sched.{Facts, keys, known, need, ready, holds, held, is_on, is_for, workers, connected}
+use Rattle.cluster_rules.specs.Sched.{Facts, keys, known, need, ready}
 use Rattle.cluster_rules.specs.Policies.{place}
 use Rattle.cluster_rules.specs.SchedTable.{Changed, change}
-use Rattle.cluster_rules.specs.SchedStep.{drop_bad, drop_has, drop_on, give, place_one, place_keys, place_all, settle, Stages, posted, down_messages, finish_step, sched_step, mail, count_to, takes_away, fence_after}
+use Rattle.cluster_rules.specs.SchedStep.{drop_bad, drop_has, drop_on, give, place_one, place_keys, place_all, settle, posted, down_messages, finish_step, sched_step, mail, count_to, takes_away, fence_after}
 use Rattle.cluster_rules.specs.Frame.{IsSettling}
 
 none_is_no_some : {A : Type 0} (x : A) → None ≡ Some x → ⊥

@@ -5,7 +5,6 @@ use Rattle.std.proofs.lemmas.Bool.{false≢true}
 use Rattle.std.proofs.lemmas.List.{get_or_past}
 use Rattle.std.proofs.lemmas.List.Elements.{filter_map-append, filter-append}
 use Rattle.std.specs.List.{list_any, range_with_len, AllByRecursion}
-use Rattle.cluster_msgs.specs.Shape.{deps_of}
 use Rattle.cluster_rules.specs.SchedTable.{failed, is_this}
 use Rattle.cluster_rules.specs.SchedStep.{give, place_one, place_keys}
 use Rattle.cluster_rules.specs.Functions.{from_one, put}

@@ -1,6 +1,6 @@
 -- What settling leaves as it is.
-use Rattle.std.specs.Prelude.{◌≡◌, ◌⊎◌, ℕ, ◌+◌, ◌<◌, ◌≤◌, Bool, true, Option, Some, None}
-use Rattle.cluster_rules.specs.Sched.{Setting, Facts}
+use Rattle.std.specs.Prelude.{◌≡◌, ◌⊎◌, ℕ, ◌<◌, ◌≤◌, true, Some, None}
+use Rattle.cluster_rules.specs.Sched.{Facts}
 
 -- from f the facts settle to g: facts only go, but for new places under new attempts and for what the messages of the event count
 pub record IsSettling (f g : Facts) : Type 0 where

@@ -12,7 +12,7 @@ use Rattle.cluster_msgs.specs.declared.cores.SchedEvent.{SchedEvent}
 use Rattle.cluster_msgs.specs.declared.cores.SchedEvent.TheVariants.{Join, Leave, FromWorker, FromClient, Balance, Evict}
 use Rattle.cluster_rules.specs.Functions.{put, put_pair}
 use Rattle.cluster_rules.specs.Derived.{is_in}
-use Rattle.cluster_rules.specs.Sched.{Facts, keys, connected, workers, holds, held, is_on, is_for, who_has}
+use Rattle.cluster_rules.specs.Sched.{Facts, keys, connected, workers, holds, held, is_on, who_has}
 use Rattle.cluster_rules.specs.Policies.{next_steal, next_drop}
 
 -- what an event changes by itself
