@@ -6,3 +6,5 @@ pub mod Members
 pub mod PolicyLemmas
 pub mod SchedFrame
 pub mod OrderLemmas
+pub mod SoundLemmas
+pub mod SoundStep
