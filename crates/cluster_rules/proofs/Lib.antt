@@ -8,3 +8,4 @@ pub mod SchedFrame
 pub mod OrderLemmas
 pub mod SoundLemmas
 pub mod SoundStep
+pub mod NothingLemmas

@@ -44,21 +44,21 @@ bounded_self f s = record { setting = refl; threads = refl; last_worker = refl; 
 
 pub sound_bounded : (f g : Facts) → IsSound f → IsBounded f g → IsSound g
 sound_bounded f g s b = record {
-    shape = subst (λ (c : Setting). IsShape c.shape) (sym b.setting) s.shape;
-    few_clients = subst (λ (c : Setting). c.clients ≤ 16) (sym b.setting) s.few_clients;
-    saturation = subst (λ (c : Setting). (1 ≤ c.saturation) × (c.saturation ≤ 1000)) (sym b.setting) s.saturation;
-    want = λ c k l. b.want c k (same_keys k l);
-    has = λ w k l. b.has w k (same_keys k l);
-    bad = λ k l. b.bad k (same_keys k l);
-    on = λ k l. b.on k (same_keys k l);
-    steal = b.steal;
-    numbers = λ w e. let n = s.numbers w (ap (λ t. is_some (t w)) (sym b.threads) ∙ e) in (n.0, subst (λ m. w ≤ m) (sym b.last_worker) n.1);
-    threads = λ w n e. s.threads w n (ap (λ t. t w) (sym b.threads) ∙ e);
-    few_workers = subst (λ m. length (filter (λ w. is_some (g.threads w)) (from_one m)) ≤ 64) (sym b.last_worker) (subst (λ t. length (filter (λ w. is_some (t w)) (from_one f.last_worker)) ≤ 64) (sym b.threads) s.few_workers);
-    few_numbers = subst (λ m. m ≤ 1024) (sym b.last_worker) s.few_numbers;
-    holders = λ w k e. ap (λ t. is_some (t w)) b.threads ∙ b.holders w k e;
-    places = λ w k e. ap (λ t. is_some (t w)) b.threads ∙ b.places w k e;
-  }
+  shape = subst (λ (c : Setting). IsShape c.shape) (sym b.setting) s.shape;
+  few_clients = subst (λ (c : Setting). c.clients ≤ 16) (sym b.setting) s.few_clients;
+  saturation = subst (λ (c : Setting). (1 ≤ c.saturation) × (c.saturation ≤ 1000)) (sym b.setting) s.saturation;
+  want = λ c k l. b.want c k (same_keys k l);
+  has = λ w k l. b.has w k (same_keys k l);
+  bad = λ k l. b.bad k (same_keys k l);
+  on = λ k l. b.on k (same_keys k l);
+  steal = b.steal;
+  numbers = λ w e. let n = s.numbers w (ap (λ t. is_some (t w)) (sym b.threads) ∙ e) in (n.0, subst (λ m. w ≤ m) (sym b.last_worker) n.1);
+  threads = λ w n e. s.threads w n (ap (λ t. t w) (sym b.threads) ∙ e);
+  few_workers = subst (λ m. length (filter (λ w. is_some (g.threads w)) (from_one m)) ≤ 64) (sym b.last_worker) (subst (λ t. length (filter (λ w. is_some (t w)) (from_one f.last_worker)) ≤ 64) (sym b.threads) s.few_workers);
+  few_numbers = subst (λ m. m ≤ 1024) (sym b.last_worker) s.few_numbers;
+  holders = λ w k e. ap (λ t. is_some (t w)) b.threads ∙ b.holders w k e;
+  places = λ w k e. ap (λ t. is_some (t w)) b.threads ∙ b.places w k e;
+}
   where
     same_keys : (k : ℕ) → keys g ≤ k → keys f ≤ k
     same_keys k l = subst (λ (c : Setting). length c.shape.deps ≤ k) b.setting l
@@ -161,45 +161,45 @@ bounded_failed f s w k a l = pick (is_this w a (f.on k))
 -- another copy at a worker, or none
 bounded_copy : (f : Facts) → IsSound f → (w k n : ℕ) (x : Option ℕ) → k < keys f → connected f w ≡ true → IsBounded f (record f { has = put_pair f.has w k x; counter = n })
 bounded_copy f s w k n x l c = record {
-    setting = refl;
-    threads = refl;
-    last_worker = refl;
-    want = s.want;
-    has = λ v j m. put_pair_past f.has w k (keys f) v j x l m (s.has v j m);
-    bad = s.bad;
-    on = s.on;
-    steal = s.steal;
-    holders = held_then f w k x s c;
-    places = s.places;
-  }
+  setting = refl;
+  threads = refl;
+  last_worker = refl;
+  want = s.want;
+  has = λ v j m. put_pair_past f.has w k (keys f) v j x l m (s.has v j m);
+  bad = s.bad;
+  on = s.on;
+  steal = s.steal;
+  holders = held_then f w k x s c;
+  places = s.places;
+}
 
 pub bounded_gone : (f : Facts) → IsSound f → (w k : ℕ) → IsBounded f (record f { has = put_pair f.has w k None })
 bounded_gone f s w k = record {
-    setting = refl;
-    threads = refl;
-    last_worker = refl;
-    want = s.want;
-    has = λ v j m. none_kept (eqb v w && eqb j k) (f.has v j) (s.has v j m);
-    bad = s.bad;
-    on = s.on;
-    steal = s.steal;
-    holders = λ v j h. held_less f (eqb v w && eqb j k) s v j h;
-    places = s.places;
-  }
+  setting = refl;
+  threads = refl;
+  last_worker = refl;
+  want = s.want;
+  has = λ v j m. none_kept (eqb v w && eqb j k) (f.has v j) (s.has v j m);
+  bad = s.bad;
+  on = s.on;
+  steal = s.steal;
+  holders = λ v j h. held_less f (eqb v w && eqb j k) s v j h;
+  places = s.places;
+}
 
 pub bounded_then : (f g h : Facts) → IsBounded f g → IsBounded g h → IsBounded f h
 bounded_then f g h p q = record {
-    setting = q.setting ∙ p.setting;
-    threads = q.threads ∙ p.threads;
-    last_worker = q.last_worker ∙ p.last_worker;
-    want = λ c k l. q.want c k (same_keys k l);
-    has = λ w k l. q.has w k (same_keys k l);
-    bad = λ k l. q.bad k (same_keys k l);
-    on = λ k l. q.on k (same_keys k l);
-    steal = q.steal;
-    holders = λ w k e. ap (λ t. is_some (t w)) (sym p.threads) ∙ q.holders w k e;
-    places = λ w k e. ap (λ t. is_some (t w)) (sym p.threads) ∙ q.places w k e;
-  }
+  setting = q.setting ∙ p.setting;
+  threads = q.threads ∙ p.threads;
+  last_worker = q.last_worker ∙ p.last_worker;
+  want = λ c k l. q.want c k (same_keys k l);
+  has = λ w k l. q.has w k (same_keys k l);
+  bad = λ k l. q.bad k (same_keys k l);
+  on = λ k l. q.on k (same_keys k l);
+  steal = q.steal;
+  holders = λ w k e. ap (λ t. is_some (t w)) (sym p.threads) ∙ q.holders w k e;
+  places = λ w k e. ap (λ t. is_some (t w)) (sym p.threads) ∙ q.places w k e;
+}
   where
     same_keys : (k : ℕ) → keys f ≤ k → keys g ≤ k
     same_keys k l = subst (λ (c : Setting). length c.shape.deps ≤ k) (sym p.setting) l
@@ -224,7 +224,7 @@ bounded_add_keys w seen g (k ∷ ks) s l c =
     let one = bounded_add_key w seen g k s (ltb-true k (keys g.facts) parts.0) c in
     let h = add_key w seen g k in
     bounded_then g.facts h.facts (add_keys w seen h ks).facts one
-      (bounded_add_keys w seen h ks (sound_bounded g.facts h.facts s one) (key_there g.facts h.facts one.setting ks parts.1) (ap (λ t. is_some (t w)) one.threads ∙ c))
+    (bounded_add_keys w seen h ks (sound_bounded g.facts h.facts s one) (key_there g.facts h.facts one.setting ks parts.1) (ap (λ t. is_some (t w)) one.threads ∙ c))
 
 pub bounded_released : (f : Facts) → IsSound f → (w seen k : ℕ) → IsBounded f (released f w seen k)
 unfolding released

@@ -52,17 +52,17 @@ not_listed f (q ∷ qs) h k l =
 bounded_wants_more : (f : Facts) → IsSound f → (c : ℕ) (ks : List ℕ) → are_keys f ks ≡ true → IsBounded f (wants_more f c ks)
 unfolding wants_more
 bounded_wants_more f s c ks h = record {
-    setting = refl;
-    threads = refl;
-    last_worker = refl;
-    want = λ d k l. ap (λ b. b || (eqb d c && is_in k ks)) (s.want d k l) ∙ ap (λ b. eqb d c && b) (not_listed f ks h k l) ∙ and_false (eqb d c);
-    has = s.has;
-    bad = s.bad;
-    on = s.on;
-    steal = s.steal;
-    holders = s.holders;
-    places = s.places;
-  }
+  setting = refl;
+  threads = refl;
+  last_worker = refl;
+  want = λ d k l. ap (λ b. b || (eqb d c && is_in k ks)) (s.want d k l) ∙ ap (λ b. eqb d c && b) (not_listed f ks h k l) ∙ and_false (eqb d c);
+  has = s.has;
+  bad = s.bad;
+  on = s.on;
+  steal = s.steal;
+  holders = s.holders;
+  places = s.places;
+}
   where
     and_false : (b : Bool) → (b && false) ≡ false
     and_false true = refl
@@ -71,17 +71,17 @@ bounded_wants_more f s c ks h = record {
 bounded_wants_less : (f : Facts) → IsSound f → (c : ℕ) (ks : List ℕ) → IsBounded f (wants_less f c ks)
 unfolding wants_less
 bounded_wants_less f s c ks = record {
-    setting = refl;
-    threads = refl;
-    last_worker = refl;
-    want = λ d k l. ap (λ b. b && not (eqb d c && is_in k ks)) (s.want d k l);
-    has = s.has;
-    bad = s.bad;
-    on = s.on;
-    steal = s.steal;
-    holders = s.holders;
-    places = s.places;
-  }
+  setting = refl;
+  threads = refl;
+  last_worker = refl;
+  want = λ d k l. ap (λ b. b && not (eqb d c && is_in k ks)) (s.want d k l);
+  has = s.has;
+  bad = s.bad;
+  on = s.on;
+  steal = s.steal;
+  holders = s.holders;
+  places = s.places;
+}
 
 bounded_client : (f : Facts) → IsSound f → (c : ℕ) (m : FromClientMessage) → are_keys f (client_keys m) ≡ true → IsBounded f (change_client f c m).facts
 bounded_client f s c (Want ks) h = bounded_wants_more f s c ks h
@@ -118,21 +118,21 @@ filter_no_more p q (x ∷ xs) h = pick (p x) (q x) refl refl (filter_no_more p q
 sound_joined : (f : Facts) → IsSound f → (n : ℕ) → 1 ≤ n → n ≤ 16 → length (workers f) < 64 → f.last_worker < 1024 → IsSound (joined f n)
 unfolding joined
 sound_joined f s n low high few last = record {
-    shape = s.shape;
-    few_clients = s.few_clients;
-    saturation = s.saturation;
-    want = s.want;
-    has = s.has;
-    bad = s.bad;
-    on = s.on;
-    steal = s.steal;
-    numbers = λ w e. number w (eqb w (f.last_worker + 1)) refl e;
-    threads = λ w m e. thread w m (eqb w (f.last_worker + 1)) e;
-    few_workers = fewer;
-    few_numbers = omega arith;
-    holders = λ w k e. still w (eqb w (f.last_worker + 1)) (s.holders w k e);
-    places = λ w k e. still w (eqb w (f.last_worker + 1)) (s.places w k e);
-  }
+  shape = s.shape;
+  few_clients = s.few_clients;
+  saturation = s.saturation;
+  want = s.want;
+  has = s.has;
+  bad = s.bad;
+  on = s.on;
+  steal = s.steal;
+  numbers = λ w e. number w (eqb w (f.last_worker + 1)) refl e;
+  threads = λ w m e. thread w m (eqb w (f.last_worker + 1)) e;
+  few_workers = fewer;
+  few_numbers = omega arith;
+  holders = λ w k e. still w (eqb w (f.last_worker + 1)) (s.holders w k e);
+  places = λ w k e. still w (eqb w (f.last_worker + 1)) (s.places w k e);
+}
   where
     number : (w : ℕ) (b : Bool) → eqb w (f.last_worker + 1) ≡ b → is_some (cond b (Some n) (f.threads w)) ≡ true → (1 ≤ w) × (w ≤ f.last_worker + 1)
     number w true e h = let same : w ≡ f.last_worker + 1 = eqb-true w (f.last_worker + 1) e in (omega arith, omega arith)
@@ -173,21 +173,21 @@ sound_joined f s n low high few last = record {
 sound_left : (f : Facts) → IsSound f → (w : ℕ) → IsSound (left f w)
 unfolding left
 sound_left f s w = record {
-    shape = s.shape;
-    few_clients = s.few_clients;
-    saturation = s.saturation;
-    want = s.want;
-    has = λ v k l. none_kept (eqb v w) (f.has v k) (s.has v k l);
-    bad = s.bad;
-    on = λ k l. none_kept (is_on f w k) (f.on k) (s.on k l);
-    steal = λ k h. steal_less f (is_on f w k) s k h;
-    numbers = λ v e. s.numbers v (was v (eqb v w) e);
-    threads = λ v n e. thread v n (eqb v w) e;
-    few_workers = let fewer = filter_no_more (λ v. is_some (put f.threads w None v)) (connected f) (from_one f.last_worker) (λ v m e. was v (eqb v w) e) in omega (arith, fewer, s.few_workers);
-    few_numbers = s.few_numbers;
-    holders = λ v k e. holder v k (eqb v w) e;
-    places = λ v k e. placed v k (is_on f w k) refl e;
-  }
+  shape = s.shape;
+  few_clients = s.few_clients;
+  saturation = s.saturation;
+  want = s.want;
+  has = λ v k l. none_kept (eqb v w) (f.has v k) (s.has v k l);
+  bad = s.bad;
+  on = λ k l. none_kept (is_on f w k) (f.on k) (s.on k l);
+  steal = λ k h. steal_less f (is_on f w k) s k h;
+  numbers = λ v e. s.numbers v (was v (eqb v w) e);
+  threads = λ v n e. thread v n (eqb v w) e;
+  few_workers = let fewer = filter_no_more (λ v. is_some (put f.threads w None v)) (connected f) (from_one f.last_worker) (λ v m e. was v (eqb v w) e) in omega (arith, fewer, s.few_workers);
+  few_numbers = s.few_numbers;
+  holders = λ v k e. holder v k (eqb v w) e;
+  places = λ v k e. placed v k (is_on f w k) refl e;
+}
   where
     was : (v : ℕ) (b : Bool) → is_some (cond b None (f.threads v)) ≡ true → connected f v ≡ true
     was v true h = absurd (false≢true h)
@@ -257,17 +257,17 @@ placed_connected f k w e =
 
 bounded_give : (f : Facts) → IsSound f → (k w : ℕ) → k < keys f → connected f w ≡ true → IsBounded f (give f k (Some w))
 bounded_give f s k w l c = record {
-    setting = refl;
-    threads = refl;
-    last_worker = refl;
-    want = s.want;
-    has = s.has;
-    bad = s.bad;
-    on = λ j m. put_past f.on k (keys f) j (Some (w, f.counter)) l m (s.on j m);
-    steal = λ j h. steal_at j (eqb j k) h;
-    holders = s.holders;
-    places = λ v j h. on_then f (eqb j k) w f.counter s c v j h;
-  }
+  setting = refl;
+  threads = refl;
+  last_worker = refl;
+  want = s.want;
+  has = s.has;
+  bad = s.bad;
+  on = λ j m. put_past f.on k (keys f) j (Some (w, f.counter)) l m (s.on j m);
+  steal = λ j h. steal_at j (eqb j k) h;
+  holders = s.holders;
+  places = λ v j h. on_then f (eqb j k) w f.counter s c v j h;
+}
   where
     some_none : (p : ℕ × ℕ) → Some p ≡ None → ⊥
     some_none p h = cc
@@ -290,7 +290,7 @@ bounded_place_keys f s [] h = bounded_self f s
 bounded_place_keys f s (k ∷ ks) h =
     let one = bounded_place_one f s k h.0 in
     bounded_then f (place_one f k) (place_keys (place_one f k) ks) one
-      (bounded_place_keys (place_one f k) (sound_bounded f (place_one f k) s one) ks (subst (λ (c : Setting). AllByRecursion (λ j. j < length c.shape.deps) ks) (sym one.setting) h.1))
+    (bounded_place_keys (place_one f k) (sound_bounded f (place_one f k) s one) ks (subst (λ (c : Setting). AllByRecursion (λ j. j < length c.shape.deps) ks) (sym one.setting) h.1))
 
 bounded_place_all : (f : Facts) → IsSound f → IsBounded f (place_all f)
 unfolding place_all
@@ -308,7 +308,7 @@ sound_settled f g s =
     let p = place_all o in
     let sp = sound_bounded o p so (bounded_place_all o so) in
     sound_bounded p (posted (settle f g) (down_messages (settle f g))) sp
-      (record { setting = refl; threads = refl; last_worker = refl; want = sp.want; has = sp.has; bad = sp.bad; on = sp.on; steal = sp.steal; holders = sp.holders; places = sp.places })
+    (record { setting = refl; threads = refl; last_worker = refl; want = sp.want; has = sp.has; bad = sp.bad; on = sp.on; steal = sp.steal; holders = sp.holders; places = sp.places })
 
 pub sound_changed : (f : Facts) → IsSound f → (e : SchedEvent) → sched_takes f e ≡ true → IsSound (change f e).facts
 unfolding sched_takes next_steal
@@ -333,21 +333,21 @@ sound_step f s e h = sound_settled f (change f e) (sound_changed f s e h)
 
 pub sound_opening : (c : Setting) → IsShape c.shape → c.clients ≤ 16 → (1 ≤ c.saturation) × (c.saturation ≤ 1000) → IsSound (sched_opening c)
 sound_opening c shape few saturation = record {
-    shape = shape;
-    few_clients = few;
-    saturation = saturation;
-    want = λ d k l. refl;
-    has = λ w k l. refl;
-    bad = λ k l. refl;
-    on = λ k l. refl;
-    steal = λ k h. refl;
-    numbers = λ w e. absurd (false≢true e);
-    threads = λ w n e. absurd (none_some n e);
-    few_workers = omega arith;
-    few_numbers = omega arith;
-    holders = λ w k e. absurd (false≢true e);
-    places = λ w k e. absurd (false≢true e);
-  }
+  shape = shape;
+  few_clients = few;
+  saturation = saturation;
+  want = λ d k l. refl;
+  has = λ w k l. refl;
+  bad = λ k l. refl;
+  on = λ k l. refl;
+  steal = λ k h. refl;
+  numbers = λ w e. absurd (false≢true e);
+  threads = λ w n e. absurd (none_some n e);
+  few_workers = omega arith;
+  few_numbers = omega arith;
+  holders = λ w k e. absurd (false≢true e);
+  places = λ w k e. absurd (false≢true e);
+}
   where
     none_some : (n : ℕ) → None ≡ Some n → ⊥
     none_some n h = cc
