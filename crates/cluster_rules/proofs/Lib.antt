@@ -1,2 +1,3 @@
 pub mod DerivedLemmas
 pub mod FunctionLemmas
+mod WorkerLemmas

@@ -7,6 +7,7 @@ pub mod SchedTable
 pub mod SchedStep
 pub mod Worker
 pub mod WorkerStep
+pub mod WorkerKept
 pub mod Client
 pub mod World
 pub mod WorldStep
