@@ -1,3 +1,4 @@
 pub mod DerivedLemmas
 pub mod FunctionLemmas
 mod WorkerLemmas
+mod WorldLemmas

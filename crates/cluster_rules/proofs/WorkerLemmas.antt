@@ -15,7 +15,7 @@ use Rattle.cluster_msgs.specs.declared.cores.WorkerEvent.{WorkerEvent}
 use Rattle.cluster_msgs.specs.declared.cores.WorkerEvent.TheVariants.{Down as Told, Start, Done, Ask as AskPeer, Gathered, GatherFailed, DataLost}
 use Rattle.cluster_rules.specs.Functions.{put}
 use Rattle.cluster_rules.specs.Derived.{below, is_in}
-use Rattle.cluster_rules.specs.Worker.{Ask, WorkerFacts, new_worker, worker_keys, names_key, is_asked_for, flying, awaited, used, is_wanted, is_fed, has_any, wstate, is_ready_state, is_fetch_state, is_missing_state, running_count, would_start, fetchable, item_at, copy_at, first_fit, ask_items, ask_to, without_ask, with_ask}
+use Rattle.cluster_rules.specs.Worker.{Ask, WorkerFacts, new_worker, worker_keys, names_key, is_asked_for, flying, awaited, used, is_wanted, is_fed, has_any, wstate, is_ready_state, is_fetch_state, is_missing_state, is_unstarted_state, running_count, would_start, fetchable, item_at, copy_at, first_fit, ask_items, ask_to, without_ask, with_ask}
 use Rattle.cluster_rules.specs.WorkerStep.{WorkerStep, quiet, after_out, each_key, others, taken, set_holders, into_mem, give_up, given, free_key, yields, asked_back, remove_replica, and_then, remove_replicas, acquire, refresh, take_down, start, Arrivals, arrive_as, arrive, counted, arrived, stopped, erred_as, done, keys_of, ask_with, ask_peer, lose_holders, report_missing, not_found, answered_ask, gathered_by, gathered, lose_data, worker_row, unasked_keys, ask_holders, seek_missing, worker_step, is_key, worker_takes}
 use Rattle.cluster_rules.specs.WorkerKept.{flights, KeyKept, KeptAt, KeysKept, IsKept}
 
@@ -582,3 +582,85 @@ kept_at_first g id threads = record {
 pub kept_by_event : (w : WorkerFacts) (e : WorkerEvent) → worker_takes w e ≡ true → IsKept w → IsKept (worker_step w e).facts
 unfolding worker_step
 kept_by_event w e t h = kept_sought (worker_row w e) (kept_row w e t h.keys)
+
+-- which tests each of these states is
+ready_test : (m r i x f d l e u : Bool) → is_ready_state (state_by m r i x f d l e u) ≡ (not m && (not r && (not f && (i && d))))
+ready_test true r i x f d l e u = refl
+ready_test false true true x f d l e u = refl
+ready_test false true false true f d l e u = refl
+ready_test false true false false f d l e u = refl
+ready_test false false true x true d l e u = refl
+ready_test false false false true true d l e u = refl
+ready_test false false false false true d l e u = refl
+ready_test false false true x false true l e u = refl
+ready_test false false true x false false l e u = refl
+ready_test false false false true false d true e u = refl
+ready_test false false false true false d false e u = refl
+ready_test false false false false false d l true u = refl
+ready_test false false false false false d l false true = refl
+ready_test false false false false false d l false false = refl
+
+fetch_test : (m r i x f d l e u : Bool) → is_fetch_state (state_by m r i x f d l e u) ≡ (not m && (not r && (not f && (not i && (x && l)))))
+fetch_test true r i x f d l e u = refl
+fetch_test false true true x f d l e u = refl
+fetch_test false true false true f d l e u = refl
+fetch_test false true false false f d l e u = refl
+fetch_test false false true x true d l e u = refl
+fetch_test false false false true true d l e u = refl
+fetch_test false false false false true d l e u = refl
+fetch_test false false true x false true l e u = refl
+fetch_test false false true x false false l e u = refl
+fetch_test false false false true false d true e u = refl
+fetch_test false false false true false d false e u = refl
+fetch_test false false false false false d l true u = refl
+fetch_test false false false false false d l false true = refl
+fetch_test false false false false false d l false false = refl
+
+missing_test : (m r i x f d l e u : Bool) → is_missing_state (state_by m r i x f d l e u) ≡ (not m && (not r && (not f && (not i && (x && not l)))))
+missing_test true r i x f d l e u = refl
+missing_test false true true x f d l e u = refl
+missing_test false true false true f d l e u = refl
+missing_test false true false false f d l e u = refl
+missing_test false false true x true d l e u = refl
+missing_test false false false true true d l e u = refl
+missing_test false false false false true d l e u = refl
+missing_test false false true x false true l e u = refl
+missing_test false false true x false false l e u = refl
+missing_test false false false true false d true e u = refl
+missing_test false false false true false d false e u = refl
+missing_test false false false false false d l true u = refl
+missing_test false false false false false d l false true = refl
+missing_test false false false false false d l false false = refl
+
+unstarted_test : (m r i x f d l e u : Bool) → is_unstarted_state (state_by m r i x f d l e u) ≡ (not m && (not r && (not f && (i))))
+unstarted_test true r i x f d l e u = refl
+unstarted_test false true true x f d l e u = refl
+unstarted_test false true false true f d l e u = refl
+unstarted_test false true false false f d l e u = refl
+unstarted_test false false true x true d l e u = refl
+unstarted_test false false false true true d l e u = refl
+unstarted_test false false false false true d l e u = refl
+unstarted_test false false true x false true l e u = refl
+unstarted_test false false true x false false l e u = refl
+unstarted_test false false false true false d true e u = refl
+unstarted_test false false false true false d false e u = refl
+unstarted_test false false false false false d l true u = refl
+unstarted_test false false false false false d l false true = refl
+unstarted_test false false false false false d l false false = refl
+
+pub ready_state-is : (w : WorkerFacts) (k : ℕ) → is_ready_state (wstate w k) ≡ (not (w.mem k) && (not (w.running k) && (not (flying w k) && (is_some (w.mine k) && is_fed w k))))
+unfolding wstate
+ready_state-is w k = ready_test (w.mem k) (w.running k) (is_some (w.mine k)) (is_wanted w k) (flying w k) (is_fed w k) (has_any (w.holders k)) (w.failed k) (used w k)
+
+pub fetch_state-is : (w : WorkerFacts) (k : ℕ) → is_fetch_state (wstate w k) ≡ (not (w.mem k) && (not (w.running k) && (not (flying w k) && (not (is_some (w.mine k)) && (is_wanted w k && has_any (w.holders k))))))
+unfolding wstate
+fetch_state-is w k = fetch_test (w.mem k) (w.running k) (is_some (w.mine k)) (is_wanted w k) (flying w k) (is_fed w k) (has_any (w.holders k)) (w.failed k) (used w k)
+
+pub missing_state-is : (w : WorkerFacts) (k : ℕ) → is_missing_state (wstate w k) ≡ (not (w.mem k) && (not (w.running k) && (not (flying w k) && (not (is_some (w.mine k)) && (is_wanted w k && not (has_any (w.holders k)))))))
+unfolding wstate
+missing_state-is w k = missing_test (w.mem k) (w.running k) (is_some (w.mine k)) (is_wanted w k) (flying w k) (is_fed w k) (has_any (w.holders k)) (w.failed k) (used w k)
+
+pub unstarted_state-is : (w : WorkerFacts) (k : ℕ) → is_unstarted_state (wstate w k) ≡ (not (w.mem k) && (not (w.running k) && (not (flying w k) && (is_some (w.mine k)))))
+unfolding wstate
+unstarted_state-is w k = unstarted_test (w.mem k) (w.running k) (is_some (w.mine k)) (is_wanted w k) (flying w k) (is_fed w k) (has_any (w.holders k)) (w.failed k) (used w k)
+
