@@ -8,6 +8,8 @@ use Rattle.cluster_msgs.specs.declared.cores.ClientInstruction.{ClientInstructio
 use Rattle.cluster_msgs.specs.declared.cores.WorkerEvent.{WorkerEvent}
 use Rattle.cluster_msgs.specs.declared.cores.WorkerEvent.TheVariants.{Down as Told, Start, Done, Ask as AskPeer}
 use Rattle.cluster_msgs.specs.declared.cores.ClientEvent.{ClientEvent}
+use Rattle.cluster_msgs.specs.declared.cores.ClientEvent.TheVariants.{Want as WantKeys, FromScheduler, Ask as ClientAsk, Gathered as ClientGathered}
+use Rattle.cluster_msgs.specs.declared.messages.ToClient.TheVariants.{KeyInMemory}
 use Rattle.cluster_msgs.specs.declared.cores.WState.{WState}
 use Rattle.cluster_rules.specs.Worker.{WorkerFacts, new_worker, wstate, worker_keys}
 use Rattle.cluster_rules.specs.WorkerStep.{worker_step, worker_takes}
@@ -102,3 +104,25 @@ made = Told (ComputeTask 0 1 []) ∷ Start ∷ Done 0 false ∷ []
 -- key 2 of the chain was given, and key 0 is sought; both that key and key 1 are asked for at worker 2, and key 1 is given while it flies
 abbrev pub chain_flies : List WorkerEvent
 chain_flies = Told (ComputeTask 2 3 ((1, (2, 5) ∷ []) ∷ [])) ∷ Told (AcquireReplicas ((0, (2, 4) ∷ []) ∷ [])) ∷ AskPeer 2 ∷ Told (ComputeTask 1 6 ((0, (2, 4) ∷ []) ∷ [])) ∷ []
+
+-- what a client does at one more event, and whether it takes it
+abbrev pub client_then : ClientFacts → List ClientEvent → ClientEvent → List ClientInstruction
+client_then c es e = (client_step (client_after c es) e).out
+
+abbrev pub client_then_takes : ClientFacts → List ClientEvent → ClientEvent → Bool
+client_then_takes c es e = client_takes (client_after c es) e
+
+abbrev pub fresh_client : Shape → ClientFacts
+fresh_client g = new_client g
+
+-- key 0 is wanted and held by worker 2
+abbrev pub told : List ClientEvent
+told = WantKeys (0 ∷ []) ∷ FromScheduler (KeyInMemory 0 ((2, 7) ∷ [])) ∷ []
+
+-- it was asked for there
+abbrev pub asking : List ClientEvent
+asking = told ++ ClientAsk 2 ∷ []
+
+-- it came
+abbrev pub served : List ClientEvent
+served = asking ++ ClientGathered 2 1 (0 ∷ []) ∷ []
