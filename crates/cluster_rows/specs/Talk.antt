@@ -33,14 +33,14 @@ worker_row f w = record { threads = f.threads w; has = by_key f (f.has w); sent 
 
 abbrev pub table : Facts → Table
 table f = record {
-    want = map (λ c. by_key f (f.want c)) (from_one f.setting.clients);
-    workers = map (worker_row f) (from_one f.last_worker);
-    on = by_key f f.on;
-    steal = by_key f f.steal;
-    bad = by_key f f.bad;
-    counter = f.counter;
-    finishes = f.finishes;
-  }
+  want = map (λ c. by_key f (f.want c)) (from_one f.setting.clients);
+  workers = map (worker_row f) (from_one f.last_worker);
+  on = by_key f f.on;
+  steal = by_key f f.steal;
+  bad = by_key f f.bad;
+  counter = f.counter;
+  finishes = f.finishes;
+}
 
 abbrev pub nobody : WorkerRow
 nobody = record { threads = None; has = []; sent = 0; fence = [] }
@@ -52,19 +52,19 @@ numbered xs n d = cond (n == 0) d (slice_index_or xs (n - 1) d)
 -- the facts that are written there
 abbrev pub facts_of : Setting → Table → Facts
 facts_of s t = record {
-    setting = s;
-    want = λ c k. slice_index_or (numbered t.want c []) k false;
-    has = λ w k. slice_index_or (numbered t.workers w nobody).has k None;
-    on = λ k. slice_index_or t.on k None;
-    steal = λ k. slice_index_or t.steal k None;
-    bad = λ k. slice_index_or t.bad k false;
-    threads = λ w. (numbered t.workers w nobody).threads;
-    sent = λ w. (numbered t.workers w nobody).sent;
-    fence = λ w k. slice_index_or (numbered t.workers w nobody).fence k 0;
-    last_worker = length t.workers;
-    counter = t.counter;
-    finishes = t.finishes;
-  }
+  setting = s;
+  want = λ c k. slice_index_or (numbered t.want c []) k false;
+  has = λ w k. slice_index_or (numbered t.workers w nobody).has k None;
+  on = λ k. slice_index_or t.on k None;
+  steal = λ k. slice_index_or t.steal k None;
+  bad = λ k. slice_index_or t.bad k false;
+  threads = λ w. (numbered t.workers w nobody).threads;
+  sent = λ w. (numbered t.workers w nobody).sent;
+  fence = λ w k. slice_index_or (numbered t.workers w nobody).fence k 0;
+  last_worker = length t.workers;
+  counter = t.counter;
+  finishes = t.finishes;
+}
 
 -- the facts after one event, written out, so that computing goes on from what they are
 abbrev pub step : Facts → SchedEvent → Facts

@@ -1,58 +1,10 @@
 //! Rows of the scheduler. Each computes with the definitions opened.
-#![tactic(auto, unfolding(
-    cluster_rules::specs::Derived::err,
-    cluster_rules::specs::Derived::reach,
-    cluster_rules::specs::Sched::held,
-    cluster_rules::specs::Sched::erred,
-    cluster_rules::specs::Sched::wanted,
-    cluster_rules::specs::Sched::known,
-    cluster_rules::specs::Sched::need,
-    cluster_rules::specs::Sched::ready,
-    cluster_rules::specs::Sched::blame,
-    cluster_rules::specs::Sched::tasks,
-    cluster_rules::specs::Sched::occupancy,
-    cluster_rules::specs::Sched::bytes_held,
-    cluster_rules::specs::Sched::full,
-    cluster_rules::specs::Sched::holders,
-    cluster_rules::specs::Sched::who_has,
-    cluster_rules::specs::Sched::holder_count,
-    cluster_rules::specs::Sched::waiters,
-    cluster_rules::specs::Policies::missing_bytes,
-    cluster_rules::specs::Policies::candidates,
-    cluster_rules::specs::Policies::place_rank,
-    cluster_rules::specs::Policies::place,
-    cluster_rules::specs::Policies::may_steal,
-    cluster_rules::specs::Policies::steal_choices,
-    cluster_rules::specs::Policies::level,
-    cluster_rules::specs::Policies::steal_rank,
-    cluster_rules::specs::Policies::next_steal,
-    cluster_rules::specs::Policies::may_drop,
-    cluster_rules::specs::Policies::most_loaded,
-    cluster_rules::specs::Policies::next_drop,
-    cluster_rules::specs::SchedTable::joined,
-    cluster_rules::specs::SchedTable::left,
-    cluster_rules::specs::SchedTable::finished,
-    cluster_rules::specs::SchedTable::failed,
-    cluster_rules::specs::SchedTable::released,
-    cluster_rules::specs::SchedTable::lost_copy,
-    cluster_rules::specs::SchedTable::answered,
-    cluster_rules::specs::SchedTable::wants_more,
-    cluster_rules::specs::SchedTable::wants_less,
-    cluster_rules::specs::SchedTable::sched_takes,
-    cluster_rules::specs::SchedStep::drop_bad,
-    cluster_rules::specs::SchedStep::drop_has,
-    cluster_rules::specs::SchedStep::drop_on,
-    cluster_rules::specs::SchedStep::place_one,
-    cluster_rules::specs::SchedStep::place_all,
-    cluster_rules::specs::SchedStep::settle,
-    cluster_rules::specs::SchedStep::task_messages,
-    cluster_rules::specs::SchedStep::to_worker,
-    cluster_rules::specs::SchedStep::down_messages,
-    cluster_rules::specs::SchedStep::to_clients,
-    cluster_rules::specs::SchedStep::client_messages,
-    cluster_rules::specs::SchedStep::posted,
-    cluster_rules::specs::SchedStep::finish_step,
-    cluster_rules::specs::SchedStep::sched_step,
-))]
+#![tactic(auto, unfolding(cluster_rules::specs::Derived::err, cluster_rules::specs::Derived::reach, cluster_rules::specs::Sched::held, cluster_rules::specs::Sched::erred, cluster_rules::specs::Sched::wanted, cluster_rules::specs::Sched::known, cluster_rules::specs::Sched::need, cluster_rules::specs::Sched::ready, cluster_rules::specs::Sched::blame, cluster_rules::specs::Sched::phase, cluster_rules::specs::Sched::tasks, cluster_rules::specs::Sched::occupancy, cluster_rules::specs::Sched::bytes_held, cluster_rules::specs::Sched::full, cluster_rules::specs::Sched::holders, cluster_rules::specs::Sched::who_has, cluster_rules::specs::Sched::holder_count, cluster_rules::specs::Sched::waiters, cluster_rules::specs::Policies::missing_bytes, cluster_rules::specs::Policies::candidates, cluster_rules::specs::Policies::place_rank, cluster_rules::specs::Policies::place, cluster_rules::specs::Policies::may_steal, cluster_rules::specs::Policies::steal_choices, cluster_rules::specs::Policies::level, cluster_rules::specs::Policies::steal_rank, cluster_rules::specs::Policies::next_steal, cluster_rules::specs::Policies::may_drop, cluster_rules::specs::Policies::most_loaded, cluster_rules::specs::Policies::next_drop, cluster_rules::specs::SchedTable::joined, cluster_rules::specs::SchedTable::left, cluster_rules::specs::SchedTable::finished, cluster_rules::specs::SchedTable::failed, cluster_rules::specs::SchedTable::released, cluster_rules::specs::SchedTable::lost_copy, cluster_rules::specs::SchedTable::answered, cluster_rules::specs::SchedTable::wants_more, cluster_rules::specs::SchedTable::wants_less, cluster_rules::specs::SchedTable::sched_takes, cluster_rules::specs::SchedStep::drop_bad, cluster_rules::specs::SchedStep::drop_has, cluster_rules::specs::SchedStep::drop_on, cluster_rules::specs::SchedStep::place_one, cluster_rules::specs::SchedStep::place_all, cluster_rules::specs::SchedStep::settle, cluster_rules::specs::SchedStep::task_messages, cluster_rules::specs::SchedStep::to_worker, cluster_rules::specs::SchedStep::down_messages, cluster_rules::specs::SchedStep::to_clients, cluster_rules::specs::SchedStep::client_messages, cluster_rules::specs::SchedStep::posted, cluster_rules::specs::SchedStep::finish_step, cluster_rules::specs::SchedStep::sched_step,))]
 
+pub mod clients;
+pub mod derived;
+pub mod replicas;
+pub mod steals;
+pub mod tasks;
 pub mod worked;
+pub mod workers;

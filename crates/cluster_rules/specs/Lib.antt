@@ -5,6 +5,8 @@ pub mod Sched
 pub mod Policies
 pub mod SchedTable
 pub mod SchedStep
+pub mod Frame
+pub mod Order
 pub mod Worker
 pub mod WorkerStep
 pub mod WorkerKept

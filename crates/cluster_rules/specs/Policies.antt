@@ -1,5 +1,5 @@
 -- Where a key is placed, which key is stolen and which replica is dropped ("Work Stealing" and "Active Memory Manager" of Dask.distributed's documentation).
-use Rattle.std.specs.Prelude.{ℕ, ◌+◌, ◌*◌, ◌/◌, ◌^◌, nat_le, nat_lt, Bool, not, ◌&&◌, List, [], ◌∷◌, Option, Some, None, is_none, filter, find, map, cond, unwrap_or}
+use Rattle.std.specs.Prelude.{◌≡◌, ℕ, ◌+◌, ◌*◌, ◌/◌, ◌^◌, ◌<◌, ◌≤◌, nat_le, nat_lt, Bool, true, false, not, ◌&&◌, List, [], ◌∷◌, Option, Some, None, is_none, filter, find, map, cond, unwrap_or}
 use Rattle.std.specs.List.{list_any, flat_map}
 use Rattle.std.specs.Option.{option_map}
 use Rattle.cluster_msgs.specs.Shape.{work_of, nbytes_of}
@@ -7,7 +7,7 @@ use Rattle.cluster_msgs.specs.declared.cores.Steal.{Steal}
 use Rattle.cluster_rules.specs.Functions.{from_one, total}
 use Rattle.cluster_rules.specs.Derived.{below}
 use Rattle.cluster_rules.specs.Choice.{unbeaten, least_by}
-use Rattle.cluster_rules.specs.Sched.{Facts, keys, deps, holds, workers, is_on, tasks, occupancy, bytes_held, threads_of, full, holder_count, waiters}
+use Rattle.cluster_rules.specs.Sched.{Facts, keys, deps, holds, connected, workers, is_on, tasks, occupancy, bytes_held, threads_of, full, holder_count, waiters}
 
 -- the bytes of a key's dependencies that the worker does not hold
 unfoldable pub missing_bytes : Facts → ℕ → ℕ → ℕ
@@ -45,6 +45,13 @@ unfoldable pub steal_choices : Facts → List Steal
 steal_choices f = filter (may_steal f)
     (flat_map (λ k. flat_map (λ v. map (λ t. record { key = k; victim = v; thief = t }) (workers f)) (workers f)) (below (keys f)))
 
+-- a steal that may be made, between connected workers
+pub record IsStealChoice (f : Facts) (c : Steal) : Type 0 where
+  pub key : c.key < keys f
+  pub victim : connected f c.victim ≡ true
+  pub thief : connected f c.thief ≡ true
+  pub allowed : may_steal f c ≡ true
+
 -- the least n with bytes < 2^n * (work + 1). Bytes are far below 2^63
 unfoldable pub level : ℕ → ℕ → ℕ
 level bytes work = unwrap_or (find (λ n. nat_lt bytes (2 ^ n * (work + 1))) (below 64)) 64
@@ -71,3 +78,17 @@ drop_of f (Some k) = option_map (λ w. (w, k)) (most_loaded f k)
 -- the worker and the key: the least key that may be dropped, at its most loaded holder
 unfoldable pub next_drop : Facts → Option (ℕ × ℕ)
 next_drop f = drop_of f (find (may_drop f) (below (keys f)))
+
+-- the least key that may be dropped, and the first of those of its holders that hold most
+pub record IsDrop (f : Facts) (w k : ℕ) : Type 0 where
+  pub key : k < keys f
+  pub spare : may_drop f k ≡ true
+  pub least : (j : ℕ) → j < k → may_drop f j ≡ false
+  pub holder : holds f w k ≡ true
+  pub most : (v : ℕ) → 1 ≤ v → v ≤ f.last_worker → holds f v k ≡ true → bytes_held f v ≤ bytes_held f w
+  pub first : (v : ℕ) → 1 ≤ v → v < w → holds f v k ≡ true → bytes_held f v < bytes_held f w
+
+-- the drop, or nothing where no key may be dropped
+abbrev pub IsDropOf : Facts → Option (ℕ × ℕ) → Type 0
+IsDropOf f None = (k : ℕ) → k < keys f → may_drop f k ≡ false
+IsDropOf f (Some p) = IsDrop f p.0 p.1

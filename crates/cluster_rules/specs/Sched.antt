@@ -1,5 +1,5 @@
 -- The scheduler's facts, and what is derived anew from them ("Scheduling State" of Dask.distributed's documentation).
-use Rattle.std.specs.Prelude.{◌≡◌, ℕ, zero, suc, ◌+◌, ◌*◌, ◌<◌, ◌≤◌, ◌==◌, nat_le, Bool, true, false, not, ◌&&◌, List, [], ◌∷◌, length, Option, Some, None, is_some, filter, find, map, cond, unwrap_or}
+use Rattle.std.specs.Prelude.{◌≡◌, ℕ, zero, suc, ◌*◌, ◌≤◌, ◌==◌, nat_le, Bool, true, false, not, ◌&&◌, List, length, Option, Some, None, is_some, filter, find, map, cond, unwrap_or}
 use Rattle.std.specs.List.{list_any, list_all, filter_map}
 use Rattle.std.specs.Option.{option_map}
 use Rattle.cluster_msgs.specs.Shape.{Shape, IsShape, deps_of, work_of, nbytes_of, key_count}
@@ -32,19 +32,19 @@ pub record Facts : Type 0 where
 -- nobody has joined and nothing is wanted
 abbrev pub sched_opening : Setting → Facts
 sched_opening s = record {
-    setting = s;
-    want = λ c k. false;
-    has = λ w k. None;
-    on = λ k. None;
-    steal = λ k. None;
-    bad = λ k. false;
-    threads = λ w. None;
-    sent = λ w. 0;
-    fence = λ w k. 0;
-    last_worker = 0;
-    counter = 1;
-    finishes = 0;
-  }
+  setting = s;
+  want = λ c k. false;
+  has = λ w k. None;
+  on = λ k. None;
+  steal = λ k. None;
+  bad = λ k. false;
+  threads = λ w. None;
+  sent = λ w. 0;
+  fence = λ w k. 0;
+  last_worker = 0;
+  counter = 1;
+  finishes = 0;
+}
 
 -- how many keys there are
 abbrev pub keys : Facts → ℕ

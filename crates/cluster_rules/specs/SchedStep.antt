@@ -1,5 +1,5 @@
 -- What settles after each change of the scheduler's facts, and the exact messages of one event.
-use Rattle.std.specs.Prelude.{ℕ, ◌+◌, ◌==◌, nat_le, Bool, true, false, not, ◌&&◌, ◌||◌, List, [], ◌∷◌, ◌++◌, Option, Some, None, is_none, filter, map, cond}
+use Rattle.std.specs.Prelude.{ℕ, ◌+◌, ◌==◌, nat_le, Bool, false, not, ◌&&◌, ◌||◌, List, [], ◌∷◌, ◌++◌, Option, Some, None, is_none, filter, map, cond}
 use Rattle.std.specs.List.{filter_map, flat_map, list_any}
 use Rattle.std.specs.Option.{option_map}
 use Rattle.cluster_msgs.specs.declared.messages.Down.{Down}
@@ -154,9 +154,9 @@ fence_after k s (m ∷ ms) f = fence_after k (s + 1) ms (cond (takes_away k m) (
 -- each message takes the next place on its link, and a key that is taken away remembers the place of the message that says so
 unfoldable pub posted : Stages → List (ℕ × Down) → Facts
 posted t ms = record t.placed {
-    sent = λ w. t.placed.sent w + count_to w ms;
-    fence = λ w k. fence_after k (t.placed.sent w) (mail w ms) (t.placed.fence w k);
-  }
+  sent = λ w. t.placed.sent w + count_to w ms;
+  fence = λ w k. fence_after k (t.placed.sent w) (mail w ms) (t.placed.fence w k);
+}
 
 -- an event's result: the facts after it, the messages to workers and to clients, and the numbers that joined
 pub record Stepped : Type 0 where
@@ -167,11 +167,11 @@ pub record Stepped : Type 0 where
 
 unfoldable pub finish_step : Stages → Stepped
 finish_step t = record {
-    facts = posted t (down_messages t);
-    down = down_messages t;
-    clients = client_messages t;
-    joined = t.changed.joined;
-  }
+  facts = posted t (down_messages t);
+  down = down_messages t;
+  clients = client_messages t;
+  joined = t.changed.joined;
+}
 
 -- one event that is taken: its row of the table, what settles, and the messages
 unfoldable pub sched_step : Facts → SchedEvent → Stepped

@@ -12,7 +12,7 @@ use Rattle.cluster_msgs.specs.declared.cores.SchedEvent.{SchedEvent}
 use Rattle.cluster_msgs.specs.declared.cores.SchedEvent.TheVariants.{Join, Leave, FromWorker, FromClient, Balance, Evict}
 use Rattle.cluster_rules.specs.Functions.{put, put_pair}
 use Rattle.cluster_rules.specs.Derived.{is_in}
-use Rattle.cluster_rules.specs.Sched.{Facts, keys, connected, workers, holds, held, is_on, is_for, who_has}
+use Rattle.cluster_rules.specs.Sched.{Facts, keys, connected, workers, holds, held, is_on, who_has}
 use Rattle.cluster_rules.specs.Policies.{next_steal, next_drop}
 
 -- what an event changes by itself
@@ -44,11 +44,11 @@ joined f threads = record f { threads = put f.threads (f.last_worker + 1) (Some 
 -- Leave: the worker, what it holds, what it was given and the steals of that go. A steal for it stays
 unfoldable pub left : Facts → ℕ → Facts
 left f w = record f {
-    threads = put f.threads w None;
-    has = λ v k. cond (v == w) None (f.has v k);
-    on = λ k. cond (is_on f w k) None (f.on k);
-    steal = λ k. cond (is_on f w k) None (f.steal k);
-  }
+  threads = put f.threads w None;
+  has = λ v k. cond (v == w) None (f.has v k);
+  on = λ k. cond (is_on f w k) None (f.on k);
+  steal = λ k. cond (is_on f w k) None (f.steal k);
+}
 
 -- whether the key was given to the worker under this attempt
 abbrev pub is_this : ℕ → ℕ → Option (ℕ × ℕ) → Bool
