@@ -1,7 +1,7 @@
 pub mod DerivedLemmas
 pub mod FunctionLemmas
-mod WorkerLemmas
-mod WorldLemmas
+pub mod WorkerLemmas
+pub mod WorldLemmas
 pub mod SchedLemmas
 pub mod ChoiceLemmas
 pub mod Members

@@ -21,7 +21,7 @@ use Rattle.cluster_rules.specs.Client.{ClientStep}
 use Rattle.cluster_rules.specs.World.{Job, World, Parcel, shape_of, is_connected, is_client, all_workers, all_clients, open_ask}
 use Rattle.cluster_rules.specs.WorldStep.{letters, scheduled, worked, client_worked, take_up_first, take_down_first, take_to_client, take_from_client, fail_ask, spill, world_step}
 use Rattle.cluster_rules.specs.Enabled.{enabled, progress, progress_kinds, connected_workers, quiet_askers, is_quiet_asker}
-use Rattle.cluster_rules.specs.Frames.{OnlyScheduler, OnlyWorker, OnlyClient, NothingMoves}
+use Rattle.cluster_rules.specs.WorldFrame.{OnlyScheduler, OnlyWorker, OnlyClient, NothingMoves}
 
 -- the scheduler alone
 pub only_scheduled : (w : World) (s : Stepped) → OnlyScheduler w (scheduled w s)

@@ -14,7 +14,7 @@ pub mod Client
 pub mod World
 pub mod WorldStep
 pub mod Enabled
-pub mod Frames
+pub mod WorldFrame
 pub mod Runs
 pub mod Report
 pub mod Draw

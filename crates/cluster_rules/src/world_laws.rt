@@ -12,7 +12,7 @@ ghost use Rattle.cluster_rules.specs.Worker.{has_any};
 ghost use Rattle.cluster_rules.specs.World.{Job, World, is_connected};
 ghost use Rattle.cluster_rules.specs.WorldStep.{world_step};
 ghost use Rattle.cluster_rules.specs.Enabled.{enabled, progress};
-ghost use Rattle.cluster_rules.specs.Frames.{OnlyScheduler, OnlyWorker, OnlyClient, NothingMoves};
+ghost use Rattle.cluster_rules.specs.WorldFrame.{OnlyScheduler, OnlyWorker, OnlyClient, NothingMoves};
 
 /// Each progress event is enabled, and where there is none, no event that would make progress is enabled.
 pub fn progress_is_what_moves()
