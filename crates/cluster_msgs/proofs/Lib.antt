@@ -1,3 +1,5 @@
-pub mod ShapeLemmas
-pub mod SameMessages
+pub mod Dags
 pub mod SameEvents
+pub mod SameMessages
+pub mod ShapeLemmas
+pub mod ValueLemmas

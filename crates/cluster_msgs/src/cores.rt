@@ -3,7 +3,7 @@ ghost use Rattle.std.specs.Prelude.{◌≡◌, []};
 
 use crate::lists::{KeyList, Sequence};
 use crate::messages::{Down, FromClient, ToClient, Up};
-use std::alloc::Global;
+use std::alloc::{AllocError, AllocFailed, Global};
 use thiserror::Error;
 
 /// Why a core didn't take an event. After `Refused` and `Spent` all is as before; after `Memory` the core stops.
@@ -15,6 +15,28 @@ pub enum Stop {
     Spent,
     #[error("out of memory")]
     Memory,
+}
+
+impl From<AllocError> for Stop {
+    ghost use Rattle.std.specs.Prelude.{◌≡◌};
+    ghost use Rattle.cluster_msgs.specs.declared.cores.Stop.TheVariants.{Memory};
+
+    ghost from_gives = { λ _ e. e ≡ Memory };
+
+    fn from(_error: AllocError) -> Stop {
+        Stop::Memory
+    }
+}
+
+impl<T: Drop> From<AllocFailed<T>> for Stop {
+    ghost use Rattle.std.specs.Prelude.{◌≡◌};
+    ghost use Rattle.cluster_msgs.specs.declared.cores.Stop.TheVariants.{Memory};
+
+    ghost from_gives = { λ _ e. e ≡ Memory };
+
+    fn from(_error: AllocFailed<T>) -> Stop {
+        Stop::Memory
+    }
 }
 
 /// An event of the scheduler.
@@ -50,7 +72,8 @@ impl Outbox {
     }
 }
 
-/// The state of a key at the scheduler.
+/// The state of a key at the scheduler, after Dask's "Scheduling State"
+/// (<https://distributed.dask.org/en/stable/scheduling-state.html>).
 #[derive(Clone, Copy, Debug, PartialEq, Eq)]
 pub enum Phase {
     Erred,
@@ -63,7 +86,8 @@ pub enum Phase {
     Forgotten,
 }
 
-/// A key that is to move from one worker to another.
+/// A key that is to move from one worker to another, after Dask's "Work Stealing"
+/// (<https://distributed.dask.org/en/stable/work-stealing.html>).
 #[derive(Clone, Copy, Debug, PartialEq, Eq)]
 pub struct Steal {
     pub key: u32,
@@ -96,8 +120,10 @@ pub enum Instruction {
 /// Instructions, in the order in which they are to be carried out.
 pub type Instructions = Sequence<Instruction>;
 
-/// The state of a key at a worker. A resumed or cancelled key is named with what it was before, as in Dask's
-/// `previous`: a resumed key that was executing goes on to `Fetch`, one that was in flight to `Waiting`.
+/// The state of a key at a worker, after Dask's "Worker State Machine"
+/// (<https://distributed.dask.org/en/stable/worker-state.html>). A resumed or cancelled key is named with what it was
+/// before, which Dask calls `previous`: a resumed key that was executing goes on to `Fetch`, one that was in flight to
+/// `Waiting`.
 #[derive(Clone, Copy, Debug, PartialEq, Eq)]
 pub enum WState {
     Memory,

@@ -5,8 +5,8 @@ use crate::lists::{Duplicate, KeyList, Sequence};
 use crate::messages::Message;
 use std::alloc::AllocError;
 
-/// Who asks a worker for blocks: a worker or a client, by its number.
-#[derive(Clone, Copy, Debug, PartialEq, Eq)]
+/// Who asks a worker for blocks: a worker or a client, by its number. Workers come before clients.
+#[derive(Clone, Copy, Debug, PartialEq, Eq, PartialOrd, Ord)]
 pub enum Asker {
     Worker(u32),
     Client(u32),

@@ -1,4 +1,8 @@
 //! The messages, one variant per kind, with the fields in the order in which they are sent.
+//!
+//! Most have the names of Dask.distributed ("Scheduling State" and "Worker State Machine" of its documentation). Which
+//! there are, and their fields, is this project's own choice. A key, a worker and a client are numbers, keys from 0 and
+//! the others from 1. Attempts and copies are drawn from one counter of the scheduler, which gives no number twice.
 ghost use Rattle.std.specs.Prelude.{◌≡◌, ◌↔◌, IsTrue, IfOk};
 
 use crate::lists::{Holders, KeyList, WhoHas};

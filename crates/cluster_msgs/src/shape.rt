@@ -29,6 +29,9 @@ impl Row {
 }
 
 /// What is known of each key beside its operation: its dependencies, its work and the bytes of its block.
+///
+/// Keys are the numbers below their count. There are at most 32,768, with at most 262,144 dependencies in all. A key's
+/// dependencies are smaller than it. Work is in bytes, at most 2^46 a key, and a block has at most 2^27 bytes.
 #[derive(Debug, Drop)]
 pub struct GraphShape {
     rows: Vec<Row>,

@@ -1,7 +1,7 @@
 -- Small jobs, their worlds, and what the simulator makes of them.
 use Rattle.std.specs.Prelude.{◌≡◌, ℕ, zero, suc, Bool, true, false, List, [], ◌∷◌, ◌++◌, Option, Some, None, cond, ◌&&◌}
 use Rattle.cluster_msgs.specs.Shape.{Shape}
-use Rattle.cluster_msgs.specs.declared.events.Asker.TheVariants.{Client}
+use Rattle.cluster_msgs.specs.declared.events.Asker.TheVariants.{Worker, Client}
 use Rattle.cluster_msgs.specs.declared.events.Event.{Event}
 use Rattle.cluster_msgs.specs.declared.events.Event.TheVariants.{Want, Join, Lose, SeeLoss, Suspect, DeliverDown, DeliverUp, DeliverToClient, DeliverFromClient, Start, Finish, SendGather, ServeGather, ArriveGather}
 use Rattle.cluster_msgs.specs.declared.events.Item.TheVariants.{Lose as LoseItem}
@@ -9,7 +9,7 @@ use Rattle.cluster_msgs.specs.declared.events.Report.{Report}
 use Rattle.cluster_rules.specs.World.{Job, World, opening}
 use Rattle.cluster_rules.specs.WorldStep.{world_step}
 use Rattle.cluster_rules.specs.Enabled.{enabled}
-use Rattle.cluster_rules.specs.Runs.{run_from}
+use Rattle.cluster_rules.specs.Runs.{run_from, reached}
 use Rattle.cluster_rules.specs.Report.{taken, report}
 use Rattle.cluster_rules.specs.Draw.{Plan, Sim, Next, Verdict, opening_events, sim_from, next, moved, event_of, verdict}
 
@@ -104,3 +104,49 @@ one_started = opening_events (plan 2) (0 ∷ []) ++ DeliverFromClient 1 ∷ Deli
 -- worker 1 has ended it, and the client was told so
 abbrev pub one_told : List Event
 one_told = one_started ++ Finish 1 0 ∷ DeliverUp 1 ∷ DeliverToClient 1 ∷ []
+
+-- a key that needs two others. Two workers make one each; the first gathers the other's, makes the third, and says so. The client wants the second
+-- and the third
+abbrev pub joined_two : List ℕ → List Event
+joined_two wanted = Join 1 ∷ Join 1 ∷ Want 1 wanted ∷ DeliverFromClient 1 ∷ []
+
+abbrev pub both_made : List Event
+both_made =
+    joined_two (1 ∷ 2 ∷ [])
+    ++ DeliverDown 1
+    ∷ DeliverDown 2
+    ∷ Start 1
+    ∷ Start 2
+    ∷ Finish 1 0
+    ∷ Finish 2 1
+    ∷ DeliverUp 1
+    ∷ DeliverUp 2
+    ∷ DeliverDown 1
+    ∷ []
+
+abbrev pub third_made : List Event
+third_made =
+    both_made
+    ++ SendGather (Worker 1) 2
+    ∷ ServeGather 2 (Worker 1) 1
+    ∷ ArriveGather (Worker 1) 2 1
+    ∷ DeliverUp 1
+    ∷ Start 1
+    ∷ Finish 1 2
+    ∷ DeliverUp 1
+    ∷ []
+
+-- three keys alone, all wanted. Worker 1 joins first and gets two of them; worker 2 ends the third
+abbrev pub three_alone : Shape
+three_alone = record { deps = [] ∷ [] ∷ [] ∷ []; work = 80 ∷ 80 ∷ 80 ∷ []; nbytes = 80 ∷ 80 ∷ 80 ∷ [] }
+
+abbrev pub one_idle : List Event
+one_idle = Want 1 (0 ∷ 1 ∷ 2 ∷ []) ∷ DeliverFromClient 1 ∷ Join 1 ∷ Join 1 ∷ DeliverDown 2 ∷ Start 2 ∷ Finish 2 2 ∷ DeliverUp 2 ∷ []
+
+-- a job in which the first key meets a zero divisor
+abbrev pub zero_job : Shape → Job
+zero_job g = record { setting = record { shape = g; clients = 1; saturation = 11 }; zero = λ k. true }
+
+-- after these events of this job
+abbrev pub then_enabled : Job → List Event → Event → Bool
+then_enabled j es e = enabled (reached j es) e

@@ -5,5 +5,6 @@
 #![tactic(auto)]
 
 pub mod sched;
+pub mod client_rows;
 pub mod worker_rows;
 pub mod world_rows;

@@ -24,3 +24,5 @@
 ))]
 
 pub mod worked;
+pub mod messages;
+pub mod own;

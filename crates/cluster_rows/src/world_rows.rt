@@ -104,3 +104,4 @@
 
 pub mod simulated;
 pub mod losses;
+pub mod events;

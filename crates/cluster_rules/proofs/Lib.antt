@@ -1,5 +1,7 @@
 pub mod DerivedLemmas
 pub mod FunctionLemmas
+pub mod WorkerLemmas
+pub mod WorldLemmas
 pub mod SchedLemmas
 pub mod ChoiceLemmas
 pub mod Members

@@ -81,20 +81,21 @@ is_quiet_asker w (Client c) = true
 
 -- the events of the kinds that make progress, kind by kind in the order of the table of events, and within a kind by worker, client or
 -- asker, then by peer, then by key or ask. What a suspected worker does beside serving blocks is no progress
-abbrev pub progress_kinds : World → List Event
+abbrev pub progress_kinds : World → List (List Event)
 progress_kinds w =
     map (λ i. SeeLoss i) (all_workers w)
-    ++ (map (λ i. DeliverDown i) (connected_workers w)
-    ++ (map (λ i. DeliverUp i) (connected_workers w)
-    ++ (map (λ c. DeliverToClient c) (all_clients w)
-    ++ (map (λ c. DeliverFromClient c) (all_clients w)
-    ++ (map (λ i. Start i) (connected_workers w)
-    ++ (flat_map (λ i. map (λ k. Finish i k) (below (key_count (shape_of w)))) (connected_workers w)
-    ++ (flat_map (λ a. map (λ p. SendGather a p) (all_workers w)) (quiet_askers w)
-    ++ (map (λ (q : Parcel). ServeGather q.peer q.asker q.ask) w.requests
-    ++ (map (λ (q : Parcel). ArriveGather q.asker q.peer q.ask) (filter (λ q. is_quiet_asker w q.asker) w.answers)
-    ++ flat_map (λ a. map (λ p. FailGather a p) (filter (λ p. not (w.alive p)) (all_workers w))) (quiet_askers w))))))))))
+    ∷ map (λ i. DeliverDown i) (connected_workers w)
+    ∷ map (λ i. DeliverUp i) (connected_workers w)
+    ∷ map (λ c. DeliverToClient c) (all_clients w)
+    ∷ map (λ c. DeliverFromClient c) (all_clients w)
+    ∷ map (λ i. Start i) (connected_workers w)
+    ∷ flat_map (λ i. map (λ k. Finish i k) (below (key_count (shape_of w)))) (connected_workers w)
+    ∷ flat_map (λ a. map (λ p. SendGather a p) (all_workers w)) (quiet_askers w)
+    ∷ map (λ (q : Parcel). ServeGather q.peer q.asker q.ask) w.requests
+    ∷ map (λ (q : Parcel). ArriveGather q.asker q.peer q.ask) (filter (λ q. is_quiet_asker w q.asker) w.answers)
+    ∷ flat_map (λ a. map (λ p. FailGather a p) (filter (λ p. not (w.alive p)) (all_workers w))) (quiet_askers w)
+    ∷ []
 
 -- the enabled progress events, in this order
 unfoldable pub progress : World → List Event
-progress w = filter (enabled w) (progress_kinds w)
+progress w = filter (enabled w) (flat_map (λ es. es) (progress_kinds w))

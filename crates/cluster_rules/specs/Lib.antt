@@ -9,10 +9,12 @@ pub mod Frame
 pub mod Order
 pub mod Worker
 pub mod WorkerStep
+pub mod WorkerKept
 pub mod Client
 pub mod World
 pub mod WorldStep
 pub mod Enabled
+pub mod WorldFrame
 pub mod Runs
 pub mod Report
 pub mod Draw

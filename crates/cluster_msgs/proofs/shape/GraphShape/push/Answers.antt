@@ -14,10 +14,10 @@ told rows = record { deps = map (λ (r : Row). r.deps) rows; work = map (λ (r :
 
 told-push : (rows : List Row) (row : Row) → told (rows ++ row ∷ []) ≡ pushed (told rows) row.deps row.work row.nbytes
 told-push rows row = λ i. record {
-    deps = map_push (λ (r : Row). r.deps) rows row i;
-    work = map_push (λ (r : Row). r.work) rows row i;
-    nbytes = map_push (λ (r : Row). r.nbytes) rows row i;
-  }
+  deps = map_push (λ (r : Row). r.deps) rows row i;
+  work = map_push (λ (r : Row). r.work) rows row i;
+  nbytes = map_push (λ (r : Row). r.nbytes) rows row i;
+}
 
 record Bounds (old : Shape) (deps : List ℕ) (work nbytes : ℕ) : Type 0 where
   room : key_count old < 32768
@@ -38,14 +38,18 @@ invariant_of-self-2 c =
     let row : Row = record { deps = c.in_ok-copy.field-0; work = c.args.work; nbytes = c.args.nbytes } in
     let rows : List Row = c.self.inside.rows.items in
     let given : Bounds c.args.self.now c.args.deps.now c.args.work c.args.nbytes = record {
-        room = c.requires.room; edges = c.requires.edges; rising = c.requires.rising;
-        below = c.requires.below; light = c.requires.light; small = c.requires.small;
-      } in
+      room = c.requires.room;
+      edges = c.requires.edges;
+      rising = c.requires.rising;
+      below = c.requires.below;
+      light = c.requires.light;
+      small = c.requires.small;
+    } in
     let bounds : Bounds (told rows) row.deps row.work row.nbytes = rw (c.self.view_is, c.in_ok-copy.ensures) given in
     record {
       shape = rw c.in_ok-push.ensures.items (more-shape rows row bounds c.self.invariant.shape);
       edges =
-        ap (λ (n : ℕ). n + c.len-more.result) c.self.invariant.edges
-        ∙ ap (λ (n : ℕ). edge_count (told rows) + n) (c.len-more.ensures ∙ ap (λ (ds : List ℕ). length ds) (sym c.in_ok-copy.ensures))
-        ∙ sym (ap (λ (rs : List Row). edge_count (told rs)) c.in_ok-push.ensures.items ∙ more-edges rows row);
+          ap (λ (n : ℕ). n + c.len-more.result) c.self.invariant.edges
+          ∙ ap (λ (n : ℕ). edge_count (told rows) + n) (c.len-more.ensures ∙ ap (λ (ds : List ℕ). length ds) (sym c.in_ok-copy.ensures))
+          ∙ sym (ap (λ (rs : List Row). edge_count (told rs)) c.in_ok-push.ensures.items ∙ more-edges rows row);
     }
