@@ -11,3 +11,5 @@ pub mod OrderLemmas
 pub mod SoundLemmas
 pub mod SoundStep
 pub mod NothingLemmas
+pub mod ChoiceAppend
+pub mod TotalLemmas
