@@ -150,3 +150,11 @@ zero_job g = record { setting = record { shape = g; clients = 1; saturation = 11
 -- after these events of this job
 abbrev pub then_enabled : Job → List Event → Event → Bool
 then_enabled j es e = enabled (reached j es) e
+
+-- where the simulation of two workers stands after these events, this many turns and this budget, with this script to come
+abbrev pub standing : Job → List Event → List Item → ℕ → ℕ → Sim
+standing j es script turns budget = record { world = reached j es; script = script; turns = turns; budget = budget; evicts = 0; evicted_at = 0; balances = 0; balanced_at = 0 }
+
+-- what comes next there
+abbrev pub comes : Sim → Next
+comes s = next (λ t. 0) (plan 2) s

@@ -105,3 +105,5 @@
 pub mod simulated;
 pub mod losses;
 pub mod events;
+pub mod progress;
+pub mod drawn;
