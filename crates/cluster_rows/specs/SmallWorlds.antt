@@ -4,6 +4,7 @@ use Rattle.cluster_msgs.specs.Shape.{Shape}
 use Rattle.cluster_msgs.specs.declared.events.Asker.TheVariants.{Worker, Client}
 use Rattle.cluster_msgs.specs.declared.events.Event.{Event}
 use Rattle.cluster_msgs.specs.declared.events.Event.TheVariants.{Want, Join, Lose, SeeLoss, Suspect, DeliverDown, DeliverUp, DeliverToClient, DeliverFromClient, Start, Finish, SendGather, ServeGather, ArriveGather}
+use Rattle.cluster_msgs.specs.declared.events.Item.{Item}
 use Rattle.cluster_msgs.specs.declared.events.Item.TheVariants.{Lose as LoseItem}
 use Rattle.cluster_msgs.specs.declared.events.Report.{Report}
 use Rattle.cluster_rules.specs.World.{Job, World, opening}
