@@ -1,9 +1,8 @@
 -- What a worker keeps at each of its events.
-use Rattle.std.proofs.Common.{◌≡◌, ℕ, zero, suc, ◌+◌, ◌<◌, ◌≤◌, Bool, true, false, not, ◌&&◌, ◌||◌, List, [], ◌∷◌, ◌++◌, Option, Some, None, refl, sym, ap, ◌∙◌, subst, arith, cond, is_some, is_none, take, filter, map, find, ⊎_elim, ◌⊎◌, inl, inr, zero-add, fold}
-use Rattle.std.specs.Prelude.{option_map, min, nat_lt, ◌==◌}
+use Rattle.std.proofs.Common.{◌≡◌, ℕ, zero, suc, ◌+◌, ◌<◌, ◌≤◌, Bool, true, false, not, ◌&&◌, ◌||◌, List, [], ◌∷◌, ◌++◌, Option, Some, None, refl, sym, ap, ◌∙◌, subst, arith, cond, is_some, take, filter, find, ⊎_elim, ◌⊎◌, inl, inr, zero-add, fold}
+use Rattle.std.specs.Prelude.{option_map, nat_lt, ◌==◌}
 use Rattle.std.specs.List.{list_any, filter_map, cons_option, range_with_len}
-use Rattle.std.proofs.lemmas.Bool.{true≢false, false≢true, eqb-true, eqb-false, eq-eqb, or_cases, and_parts, not-true}
-use Rattle.std.proofs.Math.Dec.{eqb}
+use Rattle.std.proofs.lemmas.Bool.{true≢false, false≢true, eqb-true, eqb-false, eq-eqb, or_cases, and_parts}
 use Rattle.cluster_msgs.specs.Shape.{Shape, key_count}
 use Rattle.cluster_msgs.specs.declared.cores.WState.{WState}
 use Rattle.cluster_msgs.specs.declared.cores.WState.TheVariants.{Memory, Executing, ResumedExecuting, CancelledExecuting, ResumedFlight, Flight, CancelledFlight, Ready, Waiting, Fetch, Missing, Error, Released, Forgotten}
@@ -14,9 +13,9 @@ use Rattle.cluster_msgs.specs.declared.cores.Instruction.TheVariants.{Send, Drop
 use Rattle.cluster_msgs.specs.declared.cores.WorkerEvent.{WorkerEvent}
 use Rattle.cluster_msgs.specs.declared.cores.WorkerEvent.TheVariants.{Down as Told, Start, Done, Ask as AskPeer, Gathered, GatherFailed, DataLost}
 use Rattle.cluster_rules.specs.Functions.{put}
-use Rattle.cluster_rules.specs.Derived.{below, is_in}
-use Rattle.cluster_rules.specs.Worker.{Ask, WorkerFacts, new_worker, worker_keys, names_key, is_asked_for, flying, awaited, used, is_wanted, is_fed, has_any, wstate, is_ready_state, is_fetch_state, is_missing_state, is_unstarted_state, running_count, would_start, fetchable, item_at, copy_at, first_fit, ask_items, ask_to, without_ask, with_ask}
-use Rattle.cluster_rules.specs.WorkerStep.{WorkerStep, quiet, after_out, each_key, others, taken, set_holders, into_mem, give_up, given, free_key, yields, asked_back, remove_replica, and_then, remove_replicas, acquire, refresh, take_down, start, Arrivals, arrive_as, arrive, counted, arrived, stopped, erred_as, done, keys_of, ask_with, ask_peer, lose_holders, report_missing, not_found, answered_ask, gathered_by, gathered, lose_data, worker_row, unasked_keys, ask_holders, seek_missing, worker_step, is_key, worker_takes}
+use Rattle.cluster_rules.specs.Derived.{is_in}
+use Rattle.cluster_rules.specs.Worker.{Ask, WorkerFacts, new_worker, worker_keys, names_key, is_asked_for, flying, awaited, used, is_wanted, is_fed, has_any, wstate, is_ready_state, is_fetch_state, is_missing_state, is_unstarted_state, running_count, would_start, fetchable, item_at, copy_at, ask_items, ask_to, without_ask, with_ask}
+use Rattle.cluster_rules.specs.WorkerStep.{WorkerStep, quiet, after_out, each_key, taken, set_holders, into_mem, give_up, given, free_key, yields, asked_back, remove_replica, remove_replicas, acquire, refresh, take_down, start, Arrivals, arrive_as, arrive, arrived, stopped, erred_as, done, keys_of, ask_with, ask_peer, lose_holders, not_found, answered_ask, gathered_by, gathered, worker_row, unasked_keys, seek_missing, worker_step, is_key, worker_takes}
 use Rattle.cluster_rules.specs.WorkerKept.{flights, KeyKept, KeptAt, KeysKept, IsKept}
 
 -- the states, as tests alone
@@ -170,7 +169,7 @@ kept_holders w p h = record { at = h.at }
 kept_free : (w : WorkerFacts) (q : ℕ) → KeysKept w → KeysKept (free_key w q).facts
 kept_free w q h = record {
   at = at_one q (λ b k. KeyKept (cond b None (w.mine k)) (cond b false (w.mem k)) (w.running k) (cond b false (w.asked k)) (cond b false (w.sought k)) (flights w.asks k))
-    (absent _ _ _ _ _ _ refl (h.at q).run_alone (h.at q).once) h.at;
+      (absent _ _ _ _ _ _ refl (h.at q).run_alone (h.at q).once) h.at;
 }
 
 -- compute-task
@@ -183,7 +182,7 @@ kept_given w q a who h = pick (w.mem q) refl
     pick true e = record { at = h.at }
     pick false e = kept_fold set_holders kept_holders _ who (record {
       at = at_one q (λ b k. KeyKept (cond b (Some a) (w.mine k)) (w.mem k) (w.running k) (w.asked k) (w.sought k) (flights w.asks k))
-        (absent _ _ _ _ _ _ e (h.at q).run_alone (h.at q).once) h.at;
+          (absent _ _ _ _ _ _ e (h.at q).run_alone (h.at q).once) h.at;
     })
 
 no_task_left : (o : Option ℕ) (m r d u : Bool) (n : ℕ) → KeyKept o m r d u n → KeyKept None m r d u n
@@ -209,7 +208,7 @@ asked_too o m r d u n b g h = record { no_task = h.no_task; not_run = h.not_run;
 kept_give_up : (w : WorkerFacts) (q : ℕ) → KeysKept w → KeysKept (give_up w q)
 kept_give_up w q h = record {
   at = at_one q (λ b k. KeyKept (cond b None (w.mine k)) (w.mem k) (w.running k) (w.asked k) (w.sought k) (flights w.asks k))
-    (no_task_left _ _ _ _ _ _ (h.at q)) h.at;
+      (no_task_left _ _ _ _ _ _ (h.at q)) h.at;
 }
 
 kept_asked_back : (w : WorkerFacts) (q a : ℕ) → KeysKept w → KeysKept (asked_back w q a).facts
@@ -224,7 +223,7 @@ kept_asked_back w q a h = pick (yields w q a)
 kept_lose : (w : WorkerFacts) (q : ℕ) → KeysKept w → KeysKept (record w { mem = put w.mem q false })
 kept_lose w q h = record {
   at = at_one q (λ b k. KeyKept (w.mine k) (cond b false (w.mem k)) (w.running k) (w.asked k) (w.sought k) (flights w.asks k))
-    (absent _ _ _ _ _ _ refl (h.at q).run_alone (h.at q).once) h.at;
+      (absent _ _ _ _ _ _ refl (h.at q).run_alone (h.at q).once) h.at;
 }
 
 kept_remove : (w : WorkerFacts) (q : ℕ) → KeysKept w → KeysKept (remove_replica w q).facts
@@ -241,13 +240,13 @@ kept_acquire w p h = pick (w.mem p.0) refl
     pick true e = h
     pick false e = record {
       at = at_one p.0 (λ b k. KeyKept (w.mine k) (w.mem k) (w.running k) (w.asked k) (cond b true (w.sought k)) (flights w.asks k))
-        (absent _ _ _ _ _ _ e (h.at p.0).run_alone (h.at p.0).once) h.at;
+          (absent _ _ _ _ _ _ e (h.at p.0).run_alone (h.at p.0).once) h.at;
     }
 
 kept_refresh : (w : WorkerFacts) (p : ℕ × List (ℕ × ℕ)) → KeysKept w → KeysKept (refresh w p)
 kept_refresh w p h = record {
   at = at_one p.0 (λ b k. KeyKept (w.mine k) (w.mem k) (w.running k) (cond b false (w.asked k)) (cond b (has_any p.1 && w.sought p.0) (w.sought k)) (flights w.asks k))
-    (answered_for _ _ _ _ _ (has_any p.1) _ (h.at p.0)) h.at;
+      (answered_for _ _ _ _ _ (has_any p.1) _ (h.at p.0)) h.at;
 }
 
 kept_down : (w : WorkerFacts) (m : Down) → KeysKept w → KeysKept (take_down w m).facts
@@ -295,7 +294,7 @@ kept_start w (Some q) r h =
     let idle : IdleAt w q = idle_where is_ready_state ready_is w q (r q refl) in
     record {
       at = at_one q (λ b k. KeyKept (w.mine k) (w.mem k) (cond b true (w.running k)) (w.asked k) (w.sought k) (flights w.asks k))
-        (absent _ _ _ _ _ _ idle.absent (λ e. grounded_is w q idle.grounded) (h.at q).once) h.at;
+          (absent _ _ _ _ _ _ idle.absent (λ e. grounded_is w q idle.grounded) (h.at q).once) h.at;
     }
 
 -- blocks that come
@@ -306,7 +305,7 @@ pub record Clears (w : WorkerFacts) (q : ℕ) : Type 0 where
 kept_into_mem : (w : WorkerFacts) (q : ℕ) → w.mine q ≡ None → Clears w q → KeysKept w → KeysKept (into_mem w q)
 kept_into_mem w q n c h = record {
   at = at_one q (λ b k. KeyKept (w.mine k) (cond b true (w.mem k)) (w.running k) (cond b false (w.asked k)) (cond b false (w.sought k)) (flights w.asks k))
-    (present _ _ _ n c.still c.grounded) h.at;
+      (present _ _ _ n c.still c.grounded) h.at;
 }
 
 kept_arrive : (r : Arrivals) (q : ℕ) (o : Option ℕ) → r.facts.mine q ≡ o → Clears r.facts q → KeysKept r.facts → KeysKept (arrive_as r q o).facts
@@ -332,7 +331,7 @@ kept_arrivals : (ks : List ℕ) (r : Arrivals) → ClearsAll r.facts ks → Keys
 kept_arrivals [] r c h = h
 kept_arrivals (q ∷ ks) r c h =
     kept_arrivals ks (arrive r q) (λ x e. clears_arrive r q (r.facts.mine q) x (c x (later (q == x) (is_in x ks) e)))
-      (kept_arrive r q (r.facts.mine q) refl (c q (first (q == q) (is_in q ks) (eq-eqb q q refl))) h)
+    (kept_arrive r q (r.facts.mine q) refl (c q (first (q == q) (is_in q ks) (eq-eqb q q refl))) h)
   where
     later : (a b : Bool) → b ≡ true → (a || b) ≡ true
     later true b e = refl
@@ -350,7 +349,7 @@ kept_arrived w ks c h = kept_arrivals ks (record { facts = w; out = []; added = 
 kept_stopped : (w : WorkerFacts) (q : ℕ) → KeysKept w → KeysKept (stopped w q)
 kept_stopped w q h = record {
   at = at_one q (λ b k. KeyKept (w.mine k) (w.mem k) (cond b false (w.running k)) (w.asked k) (w.sought k) (flights w.asks k))
-    (run_over _ _ _ _ _ _ (h.at q)) h.at;
+      (run_over _ _ _ _ _ _ (h.at q)) h.at;
 }
 
 kept_erred : (w : WorkerFacts) (q : ℕ) (o : Option ℕ) → KeysKept w → KeysKept (erred_as w q o).facts
@@ -478,7 +477,7 @@ kept_missed p w i h = pick (is_missing_state (wstate (lose_holders w i.0) i.0)) 
     pick false e = record { at = h.at }
     pick true e = record {
       at = at_one i.0 (λ b k. KeyKept (w.mine k) (w.mem k) (w.running k) (cond b true (w.asked k)) (w.sought k) (flights w.asks k))
-        (absent _ _ _ _ _ _ (idle_where is_missing_state missing_is (lose_holders w i.0) i.0 e).absent (h.at i.0).run_alone (h.at i.0).once) h.at;
+          (absent _ _ _ _ _ _ (idle_where is_missing_state missing_is (lose_holders w i.0) i.0 e).absent (h.at i.0).run_alone (h.at i.0).once) h.at;
     }
 
 kept_without : (w : WorkerFacts) (p : ℕ) → KeysKept w → KeysKept (record w { asks = without_ask w.asks p })
@@ -498,7 +497,7 @@ kept_without w p h = record { at = λ k. fewer k (h.at k) (flights-without w.ask
 kept_answered : (w : WorkerFacts) (p : ℕ) (a : Ask) (found : List ℕ) → ask_to w.asks p ≡ Some a → KeysKept w → KeysKept (answered_ask (record w { asks = without_ask w.asks p }) p a.items found).facts
 kept_answered w p a found e h =
     kept_each (not_found p) (kept_missed p) _ (filter (λ i. not (is_in i.0 found)) a.items)
-      (kept_arrived (record w { asks = without_ask w.asks p }) (keys_of (filter (λ i. is_in i.0 found) a.items)) clears (kept_without w p h))
+    (kept_arrived (record w { asks = without_ask w.asks p }) (keys_of (filter (λ i. is_in i.0 found) a.items)) clears (kept_without w p h))
   where
     clear : (q : ℕ) → names_key q a ≡ true → flights (without_ask w.asks p) q + 1 ≤ flights w.asks q → Clears (record w { asks = without_ask w.asks p }) q
     clear q n l = record { still = not_running (w.running q) refl; grounded = omega (arith, (h.at q).once) }
@@ -663,4 +662,3 @@ missing_state-is w k = missing_test (w.mem k) (w.running k) (is_some (w.mine k))
 pub unstarted_state-is : (w : WorkerFacts) (k : ℕ) → is_unstarted_state (wstate w k) ≡ (not (w.mem k) && (not (w.running k) && (not (flying w k) && (is_some (w.mine k)))))
 unfolding wstate
 unstarted_state-is w k = unstarted_test (w.mem k) (w.running k) (is_some (w.mine k)) (is_wanted w k) (flying w k) (is_fed w k) (has_any (w.holders k)) (w.failed k) (used w k)
-

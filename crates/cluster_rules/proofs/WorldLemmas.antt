@@ -1,7 +1,7 @@
 -- What the world's events change, and what its progress events are.
-use Rattle.std.proofs.Common.{◌≡◌, ℕ, zero, suc, ◌+◌, ◌<◌, ◌≤◌, Bool, true, false, not, ◌&&◌, ◌||◌, List, [], ◌∷◌, ◌++◌, Option, Some, None, refl, sym, ap, ◌∙◌, subst, arith, cond, filter, map, is_some}
+use Rattle.std.proofs.Common.{◌≡◌, ℕ, zero, suc, ◌+◌, ◌<◌, ◌≤◌, Bool, true, false, not, List, [], ◌∷◌, ◌++◌, Option, Some, None, refl, sym, ap, ◌∙◌, subst, arith, cond, filter, map}
 use Rattle.std.specs.Prelude.{◌==◌, slice_get}
-use Rattle.std.specs.List.{list_any, flat_map, range_with_len, AllByRecursion}
+use Rattle.std.specs.List.{flat_map, range_with_len, AllByRecursion}
 use Rattle.std.proofs.lemmas.Bool.{true≢false, false≢true, leb-true, and_parts, eqb-true, eqb-false}
 use Rattle.cluster_msgs.specs.Shape.{key_count}
 use Rattle.cluster_msgs.specs.declared.messages.Down.{Down}
@@ -11,15 +11,15 @@ use Rattle.cluster_msgs.specs.declared.messages.FromClient.{FromClient as Client
 use Rattle.cluster_msgs.specs.declared.events.Asker.{Asker}
 use Rattle.cluster_msgs.specs.declared.events.Asker.TheVariants.{Worker, Client}
 use Rattle.cluster_msgs.specs.declared.events.Event.{Event}
-use Rattle.cluster_msgs.specs.declared.events.Event.TheVariants.{Want, Release, Join, Lose, SeeLoss, Suspect, DeliverDown, DeliverUp, DeliverToClient, DeliverFromClient, Start, Finish, SendGather, ServeGather, ArriveGather, FailGather, Balance, Evict, Spill, LoseSpilled}
-use Rattle.cluster_rules.specs.Functions.{put, from_one}
-use Rattle.cluster_rules.specs.Derived.{below, is_in}
+use Rattle.cluster_msgs.specs.declared.events.Event.TheVariants.{Want, Release, SeeLoss, Suspect, DeliverDown, DeliverUp, DeliverToClient, DeliverFromClient, Start, Finish, SendGather, ServeGather, ArriveGather, FailGather, Balance, Evict, Spill, LoseSpilled}
+use Rattle.cluster_rules.specs.Functions.{put}
+use Rattle.cluster_rules.specs.Derived.{below}
 use Rattle.cluster_rules.specs.SchedStep.{Stepped, mail}
 use Rattle.cluster_rules.specs.Worker.{Ask, has_any}
 use Rattle.cluster_rules.specs.WorkerStep.{WorkerStep}
 use Rattle.cluster_rules.specs.Client.{ClientStep}
 use Rattle.cluster_rules.specs.World.{Job, World, Parcel, shape_of, is_connected, is_client, all_workers, all_clients, open_ask}
-use Rattle.cluster_rules.specs.WorldStep.{letters, scheduled, worked, client_worked, take_up_first, take_down_first, take_to_client, take_from_client, fail_ask, spill, world_step}
+use Rattle.cluster_rules.specs.WorldStep.{letters, scheduled, worked, client_worked, take_up_first, take_down_first, take_to_client, take_from_client, fail_ask, world_step}
 use Rattle.cluster_rules.specs.Enabled.{enabled, progress, progress_kinds, connected_workers, quiet_askers, is_quiet_asker}
 use Rattle.cluster_rules.specs.WorldFrame.{OnlyScheduler, OnlyWorker, OnlyClient, NothingMoves}
 
@@ -27,7 +27,14 @@ use Rattle.cluster_rules.specs.WorldFrame.{OnlyScheduler, OnlyWorker, OnlyClient
 pub only_scheduled : (w : World) (s : Stepped) → OnlyScheduler w (scheduled w s)
 unfolding scheduled
 only_scheduled w s = record {
-  clients = refl; workers = refl; alive = refl; spilled = refl; up = refl; from_client = refl; requests = refl; answers = refl;
+  clients = refl;
+  workers = refl;
+  alive = refl;
+  spilled = refl;
+  up = refl;
+  from_client = refl;
+  requests = refl;
+  answers = refl;
   down = λ i. (mail i s.down, refl);
   to_client = λ c. (letters c s.clients, refl);
 }
@@ -60,7 +67,13 @@ dropped_is j w i m ms e c = subst (λ l. take_up_first w i l ≡ record w { up =
 pub only_worked : (w : World) (i : ℕ) (s : WorkerStep) → OnlyWorker i w (worked w i s)
 unfolding worked
 only_worked w i s = record {
-  sched = refl; clients = refl; alive = refl; down = refl; to_client = refl; from_client = refl; answers = refl;
+  sched = refl;
+  clients = refl;
+  alive = refl;
+  down = refl;
+  to_client = refl;
+  from_client = refl;
+  answers = refl;
   workers = λ x e. rw e refl;
   spilled = λ x e. rw e refl;
   up = λ x e. rw e refl;
@@ -81,7 +94,13 @@ lose_spilled_is j w i k = only_worked w i _
 pub spill_is : (j : Job) (w : World) (i k : ℕ) → OnlyWorker i w (world_step j w (Spill i k))
 unfolding world_step
 spill_is j w i k = record {
-  sched = refl; clients = refl; alive = refl; down = refl; to_client = refl; from_client = refl; answers = refl;
+  sched = refl;
+  clients = refl;
+  alive = refl;
+  down = refl;
+  to_client = refl;
+  from_client = refl;
+  answers = refl;
   workers = λ x e. refl;
   spilled = λ x e. rw e refl;
   up = λ x e. refl;
@@ -97,7 +116,13 @@ fail_is j w i p = pick (open_ask w (Worker i) p)
   where
     pick : (o : Option Ask) → OnlyWorker i w (fail_ask w (Worker i) p o)
     pick None = record {
-      sched = refl; clients = refl; alive = refl; down = refl; to_client = refl; from_client = refl; answers = refl;
+      sched = refl;
+      clients = refl;
+      alive = refl;
+      down = refl;
+      to_client = refl;
+      from_client = refl;
+      answers = refl;
       workers = λ x e. refl;
       spilled = λ x e. refl;
       up = λ x e. refl;
@@ -112,7 +137,14 @@ down_is j w i m ms e = subst (λ l. OnlyWorker i (record w { down = put w.down i
 pub only_client_worked : (w : World) (c : ℕ) (s : ClientStep) → OnlyClient c w (client_worked w c s)
 unfolding client_worked
 only_client_worked w c s = record {
-  sched = refl; workers = refl; alive = refl; spilled = refl; down = refl; up = refl; to_client = refl; answers = refl;
+  sched = refl;
+  workers = refl;
+  alive = refl;
+  spilled = refl;
+  down = refl;
+  up = refl;
+  to_client = refl;
+  answers = refl;
   clients = λ x e. rw e refl;
   from_client = λ x e. rw e refl;
 }
@@ -135,7 +167,14 @@ client_fail_is j w c p = pick (open_ask w (Client c) p)
   where
     pick : (o : Option Ask) → OnlyClient c w (fail_ask w (Client c) p o)
     pick None = record {
-      sched = refl; workers = refl; alive = refl; spilled = refl; down = refl; up = refl; to_client = refl; answers = refl;
+      sched = refl;
+      workers = refl;
+      alive = refl;
+      spilled = refl;
+      down = refl;
+      up = refl;
+      to_client = refl;
+      answers = refl;
       clients = λ x e. refl;
       from_client = λ x e. refl;
     }
@@ -246,25 +285,25 @@ key_high w k h = omega arith
 
 nothing_of : (w : World) → AllByRecursion (λ es. AllByRecursion (Idle w) es) (progress_kinds w) → NothingMoves w
 nothing_of w kinds = record {
-      see_loss = λ i l u. worker_in w (λ i. Idle w (SeeLoss i)) i (all_map (Idle w) (λ i. SeeLoss i) _ kinds.0) l u;
-      down = λ i l u c. connected_in w (λ i. Idle w (DeliverDown i)) i (all_map (Idle w) (λ i. DeliverDown i) _ kinds.1.0) l u c;
-      up = λ i l u c. connected_in w (λ i. Idle w (DeliverUp i)) i (all_map (Idle w) (λ i. DeliverUp i) _ kinds.1.1.0) l u c;
-      to_client = λ c g. client_in w (λ c. Idle w (DeliverToClient c)) c (all_map (Idle w) (λ c. DeliverToClient c) _ kinds.1.1.1.0) g;
-      from_client = λ c g. client_in w (λ c. Idle w (DeliverFromClient c)) c (all_map (Idle w) (λ c. DeliverFromClient c) _ kinds.1.1.1.1.0) g;
-      start = λ i l u c. connected_in w (λ i. Idle w (Start i)) i (all_map (Idle w) (λ i. Start i) _ kinds.1.1.1.1.1.0) l u c;
-      finish = λ i k l u c m. at_range (λ k. Idle w (Finish i k)) 0 (key_count (shape_of w)) k (all_map (Idle w) (λ k. Finish i k) _
-        (connected_in w (λ i. AllByRecursion (Idle w) (map (λ k. Finish i k) (below (key_count (shape_of w))))) i (all_flat_map (Idle w) (λ i. map (λ k. Finish i k) (below (key_count (shape_of w)))) _ kinds.1.1.1.1.1.1.0) l u c)) (key_low k) (key_high w k m);
-      send = λ i p l u c m v. worker_in w (λ p. Idle w (SendGather (Worker i) p)) p (all_map (Idle w) (λ p. SendGather (Worker i) p) _
-        (asking_worker w (λ a. AllByRecursion (Idle w) (map (λ p. SendGather a p) (all_workers w))) i (all_flat_map (Idle w) (λ a. map (λ p. SendGather a p) (all_workers w)) _ kinds.1.1.1.1.1.1.1.0) l u c)) m v;
-      client_sends = λ c p g m v. worker_in w (λ p. Idle w (SendGather (Client c) p)) p (all_map (Idle w) (λ p. SendGather (Client c) p) _
-        (asking_client w (λ a. AllByRecursion (Idle w) (map (λ p. SendGather a p) (all_workers w))) c (all_flat_map (Idle w) (λ a. map (λ p. SendGather a p) (all_workers w)) _ kinds.1.1.1.1.1.1.1.0) g)) m v;
-      serve = all_map (Idle w) (λ (q : Parcel). ServeGather q.peer q.asker q.ask) w.requests kinds.1.1.1.1.1.1.1.1.0;
-      arrive = all_filter (λ (q : Parcel). Idle w (ArriveGather q.asker q.peer q.ask)) (λ (q : Parcel). is_quiet_asker w q.asker) w.answers (all_map (Idle w) (λ (q : Parcel). ArriveGather q.asker q.peer q.ask) _ kinds.1.1.1.1.1.1.1.1.1.0);
-      fail = λ i p l u c m v d. worker_in w (λ p. not (w.alive p) ≡ true → Idle w (FailGather (Worker i) p)) p (all_filter (λ p. Idle w (FailGather (Worker i) p)) (λ p. not (w.alive p)) (all_workers w) (all_map (Idle w) (λ p. FailGather (Worker i) p) _
-        (asking_worker w (λ a. AllByRecursion (Idle w) (map (λ p. FailGather a p) (filter (λ p. not (w.alive p)) (all_workers w)))) i (all_flat_map (Idle w) (λ a. map (λ p. FailGather a p) (filter (λ p. not (w.alive p)) (all_workers w))) _ kinds.1.1.1.1.1.1.1.1.1.1.0) l u c))) m v (ap not d);
-      client_fails = λ c p g m v d. worker_in w (λ p. not (w.alive p) ≡ true → Idle w (FailGather (Client c) p)) p (all_filter (λ p. Idle w (FailGather (Client c) p)) (λ p. not (w.alive p)) (all_workers w) (all_map (Idle w) (λ p. FailGather (Client c) p) _
-        (asking_client w (λ a. AllByRecursion (Idle w) (map (λ p. FailGather a p) (filter (λ p. not (w.alive p)) (all_workers w)))) c (all_flat_map (Idle w) (λ a. map (λ p. FailGather a p) (filter (λ p. not (w.alive p)) (all_workers w))) _ kinds.1.1.1.1.1.1.1.1.1.1.0) g))) m v (ap not d);
-    }
+  see_loss = λ i l u. worker_in w (λ i. Idle w (SeeLoss i)) i (all_map (Idle w) (λ i. SeeLoss i) _ kinds.0) l u;
+  down = λ i l u c. connected_in w (λ i. Idle w (DeliverDown i)) i (all_map (Idle w) (λ i. DeliverDown i) _ kinds.1.0) l u c;
+  up = λ i l u c. connected_in w (λ i. Idle w (DeliverUp i)) i (all_map (Idle w) (λ i. DeliverUp i) _ kinds.1.1.0) l u c;
+  to_client = λ c g. client_in w (λ c. Idle w (DeliverToClient c)) c (all_map (Idle w) (λ c. DeliverToClient c) _ kinds.1.1.1.0) g;
+  from_client = λ c g. client_in w (λ c. Idle w (DeliverFromClient c)) c (all_map (Idle w) (λ c. DeliverFromClient c) _ kinds.1.1.1.1.0) g;
+  start = λ i l u c. connected_in w (λ i. Idle w (Start i)) i (all_map (Idle w) (λ i. Start i) _ kinds.1.1.1.1.1.0) l u c;
+  finish = λ i k l u c m. at_range (λ k. Idle w (Finish i k)) 0 (key_count (shape_of w)) k (all_map (Idle w) (λ k. Finish i k) _
+      (connected_in w (λ i. AllByRecursion (Idle w) (map (λ k. Finish i k) (below (key_count (shape_of w))))) i (all_flat_map (Idle w) (λ i. map (λ k. Finish i k) (below (key_count (shape_of w)))) _ kinds.1.1.1.1.1.1.0) l u c)) (key_low k) (key_high w k m);
+  send = λ i p l u c m v. worker_in w (λ p. Idle w (SendGather (Worker i) p)) p (all_map (Idle w) (λ p. SendGather (Worker i) p) _
+      (asking_worker w (λ a. AllByRecursion (Idle w) (map (λ p. SendGather a p) (all_workers w))) i (all_flat_map (Idle w) (λ a. map (λ p. SendGather a p) (all_workers w)) _ kinds.1.1.1.1.1.1.1.0) l u c)) m v;
+  client_sends = λ c p g m v. worker_in w (λ p. Idle w (SendGather (Client c) p)) p (all_map (Idle w) (λ p. SendGather (Client c) p) _
+      (asking_client w (λ a. AllByRecursion (Idle w) (map (λ p. SendGather a p) (all_workers w))) c (all_flat_map (Idle w) (λ a. map (λ p. SendGather a p) (all_workers w)) _ kinds.1.1.1.1.1.1.1.0) g)) m v;
+  serve = all_map (Idle w) (λ (q : Parcel). ServeGather q.peer q.asker q.ask) w.requests kinds.1.1.1.1.1.1.1.1.0;
+  arrive = all_filter (λ (q : Parcel). Idle w (ArriveGather q.asker q.peer q.ask)) (λ (q : Parcel). is_quiet_asker w q.asker) w.answers (all_map (Idle w) (λ (q : Parcel). ArriveGather q.asker q.peer q.ask) _ kinds.1.1.1.1.1.1.1.1.1.0);
+  fail = λ i p l u c m v d. worker_in w (λ p. not (w.alive p) ≡ true → Idle w (FailGather (Worker i) p)) p (all_filter (λ p. Idle w (FailGather (Worker i) p)) (λ p. not (w.alive p)) (all_workers w) (all_map (Idle w) (λ p. FailGather (Worker i) p) _
+      (asking_worker w (λ a. AllByRecursion (Idle w) (map (λ p. FailGather a p) (filter (λ p. not (w.alive p)) (all_workers w)))) i (all_flat_map (Idle w) (λ a. map (λ p. FailGather a p) (filter (λ p. not (w.alive p)) (all_workers w))) _ kinds.1.1.1.1.1.1.1.1.1.1.0) l u c))) m v (ap not d);
+  client_fails = λ c p g m v d. worker_in w (λ p. not (w.alive p) ≡ true → Idle w (FailGather (Client c) p)) p (all_filter (λ p. Idle w (FailGather (Client c) p)) (λ p. not (w.alive p)) (all_workers w) (all_map (Idle w) (λ p. FailGather (Client c) p) _
+      (asking_client w (λ a. AllByRecursion (Idle w) (map (λ p. FailGather a p) (filter (λ p. not (w.alive p)) (all_workers w)))) c (all_flat_map (Idle w) (λ a. map (λ p. FailGather a p) (filter (λ p. not (w.alive p)) (all_workers w))) _ kinds.1.1.1.1.1.1.1.1.1.1.0) g))) m v (ap not d);
+}
 
 pub nothing_moves : (w : World) → has_any (progress w) ≡ false → NothingMoves w
 unfolding progress
