@@ -1,9 +1,10 @@
 -- Small jobs, their worlds, and what the simulator makes of them.
-use Rattle.std.specs.Prelude.{◌≡◌, ℕ, zero, suc, Bool, true, false, List, [], ◌∷◌, ◌++◌, Option, Some, None, cond, ◌&&◌}
+use Rattle.std.specs.Prelude.{ℕ, zero, suc, Bool, true, false, List, [], ◌∷◌, ◌++◌, Option, Some, None, ◌&&◌}
 use Rattle.cluster_msgs.specs.Shape.{Shape}
 use Rattle.cluster_msgs.specs.declared.events.Asker.TheVariants.{Worker, Client}
 use Rattle.cluster_msgs.specs.declared.events.Event.{Event}
-use Rattle.cluster_msgs.specs.declared.events.Event.TheVariants.{Want, Join, Lose, SeeLoss, Suspect, DeliverDown, DeliverUp, DeliverToClient, DeliverFromClient, Start, Finish, SendGather, ServeGather, ArriveGather}
+use Rattle.cluster_msgs.specs.declared.events.Event.TheVariants.{Want, Join, Lose, SeeLoss, DeliverDown, DeliverUp, DeliverToClient, DeliverFromClient, Start, Finish, SendGather, ServeGather, ArriveGather}
+use Rattle.cluster_msgs.specs.declared.events.Item.{Item}
 use Rattle.cluster_msgs.specs.declared.events.Item.TheVariants.{Lose as LoseItem}
 use Rattle.cluster_msgs.specs.declared.events.Report.{Report}
 use Rattle.cluster_rules.specs.World.{Job, World, opening}
@@ -30,9 +31,9 @@ kept (Some e) p = (e ∷ p.0, p.1)
 abbrev pub play : ℕ → Job → (ℕ → ℕ) → Plan → Sim → List Event × Option Verdict
 play zero j words p s = ([], None)
 play (suc n) j words p s = elim (verdict s (next words p s)) [
-    None ↦ kept (event_of (next words p s)) (play n j words p (moved j s (next words p s)))
+  | None ↦ kept (event_of (next words p s)) (play n j words p (moved j s (next words p s)))
   | Some v ↦ ([], Some v)
-  ]
+]
 
 abbrev pub play_all : ℕ → Job → (ℕ → ℕ) → Plan → List ℕ → List Event × Option Verdict
 play_all n j words p wanted = play n j words p (sim_from p (run_from j (opening j) (opening_events p wanted)))
@@ -150,3 +151,11 @@ zero_job g = record { setting = record { shape = g; clients = 1; saturation = 11
 -- after these events of this job
 abbrev pub then_enabled : Job → List Event → Event → Bool
 then_enabled j es e = enabled (reached j es) e
+
+-- where the simulation of two workers stands after these events, this many turns and this budget, with this script to come
+abbrev pub standing : Job → List Event → List Item → ℕ → ℕ → Sim
+standing j es script turns budget = record { world = reached j es; script = script; turns = turns; budget = budget; evicts = 0; evicted_at = 0; balances = 0; balanced_at = 0 }
+
+-- what comes next there
+abbrev pub comes : Sim → Next
+comes s = next (λ t. 0) (plan 2) s

@@ -1,5 +1,5 @@
 -- Lists of events of a worker, of a client and of the world: the facts after them, and what is said at each.
-use Rattle.std.specs.Prelude.{◌≡◌, ℕ, ◌+◌, Bool, true, false, List, [], ◌∷◌, ◌++◌, ◌&&◌, Option, Some, None, map, cond, replicate}
+use Rattle.std.specs.Prelude.{ℕ, Bool, true, false, List, [], ◌∷◌, ◌++◌, ◌&&◌, map, replicate}
 use Rattle.cluster_rules.specs.Derived.{below}
 use Rattle.cluster_msgs.specs.Shape.{Shape}
 use Rattle.cluster_msgs.specs.declared.messages.Down.TheVariants.{ComputeTask, AcquireReplicas}

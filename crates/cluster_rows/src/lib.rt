@@ -4,7 +4,7 @@
 //! an empty body: what the definitions make of a small world, with values that were worked out by hand.
 #![tactic(auto)]
 
-pub mod sched;
 pub mod client_rows;
+pub mod sched;
 pub mod worker_rows;
 pub mod world_rows;

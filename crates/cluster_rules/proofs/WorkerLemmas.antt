@@ -1,9 +1,8 @@
 -- What a worker keeps at each of its events.
-use Rattle.std.proofs.Common.{◌≡◌, ℕ, zero, suc, ◌+◌, ◌<◌, ◌≤◌, Bool, true, false, not, ◌&&◌, ◌||◌, List, [], ◌∷◌, ◌++◌, Option, Some, None, refl, sym, ap, ◌∙◌, subst, arith, cond, is_some, is_none, take, filter, map, find, ⊎_elim, ◌⊎◌, inl, inr, zero-add, fold}
-use Rattle.std.specs.Prelude.{option_map, min, nat_lt, ◌==◌}
+use Rattle.std.proofs.Common.{◌≡◌, ℕ, zero, suc, ◌+◌, ◌<◌, ◌≤◌, Bool, true, false, not, ◌&&◌, ◌||◌, List, [], ◌∷◌, ◌++◌, Option, Some, None, refl, sym, ap, ◌∙◌, subst, arith, cond, is_some, take, filter, find, ⊎_elim, ◌⊎◌, inl, inr, zero-add, fold}
+use Rattle.std.specs.Prelude.{option_map, nat_lt, ◌==◌}
 use Rattle.std.specs.List.{list_any, filter_map, cons_option, range_with_len}
-use Rattle.std.proofs.lemmas.Bool.{true≢false, false≢true, eqb-true, eqb-false, eq-eqb, or_cases, and_parts, not-true}
-use Rattle.std.proofs.Math.Dec.{eqb}
+use Rattle.std.proofs.lemmas.Bool.{true≢false, false≢true, eqb-true, eqb-false, eq-eqb, or_cases, and_parts}
 use Rattle.cluster_msgs.specs.Shape.{Shape, key_count}
 use Rattle.cluster_msgs.specs.declared.cores.WState.{WState}
 use Rattle.cluster_msgs.specs.declared.cores.WState.TheVariants.{Memory, Executing, ResumedExecuting, CancelledExecuting, ResumedFlight, Flight, CancelledFlight, Ready, Waiting, Fetch, Missing, Error, Released, Forgotten}
@@ -14,9 +13,9 @@ use Rattle.cluster_msgs.specs.declared.cores.Instruction.TheVariants.{Send, Drop
 use Rattle.cluster_msgs.specs.declared.cores.WorkerEvent.{WorkerEvent}
 use Rattle.cluster_msgs.specs.declared.cores.WorkerEvent.TheVariants.{Down as Told, Start, Done, Ask as AskPeer, Gathered, GatherFailed, DataLost}
 use Rattle.cluster_rules.specs.Functions.{put}
-use Rattle.cluster_rules.specs.Derived.{below, is_in}
-use Rattle.cluster_rules.specs.Worker.{Ask, WorkerFacts, new_worker, worker_keys, names_key, is_asked_for, flying, awaited, used, is_wanted, is_fed, has_any, wstate, is_ready_state, is_fetch_state, is_missing_state, is_unstarted_state, running_count, would_start, fetchable, item_at, copy_at, first_fit, ask_items, ask_to, without_ask, with_ask}
-use Rattle.cluster_rules.specs.WorkerStep.{WorkerStep, quiet, after_out, each_key, others, taken, set_holders, into_mem, give_up, given, free_key, yields, asked_back, remove_replica, and_then, remove_replicas, acquire, refresh, take_down, start, Arrivals, arrive_as, arrive, counted, arrived, stopped, erred_as, done, keys_of, ask_with, ask_peer, lose_holders, report_missing, not_found, answered_ask, gathered_by, gathered, lose_data, worker_row, unasked_keys, ask_holders, seek_missing, worker_step, is_key, worker_takes}
+use Rattle.cluster_rules.specs.Derived.{is_in}
+use Rattle.cluster_rules.specs.Worker.{Ask, WorkerFacts, new_worker, worker_keys, names_key, is_asked_for, flying, awaited, used, is_wanted, is_fed, has_any, wstate, is_ready_state, is_fetch_state, is_missing_state, is_unstarted_state, running_count, would_start, fetchable, item_at, copy_at, ask_items, ask_to, without_ask, with_ask}
+use Rattle.cluster_rules.specs.WorkerStep.{WorkerStep, quiet, after_out, each_key, taken, set_holders, into_mem, give_up, given, free_key, yields, asked_back, remove_replica, remove_replicas, acquire, refresh, take_down, start, Arrivals, arrive_as, arrive, arrived, stopped, erred_as, done, keys_of, ask_with, ask_peer, lose_holders, not_found, answered_ask, gathered_by, gathered, worker_row, unasked_keys, seek_missing, worker_step, is_key, worker_takes}
 use Rattle.cluster_rules.specs.WorkerKept.{flights, KeyKept, KeptAt, KeysKept, IsKept}
 
 -- the states, as tests alone

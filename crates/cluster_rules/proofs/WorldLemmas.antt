@@ -1,7 +1,7 @@
 -- What the world's events change, and what its progress events are.
-use Rattle.std.proofs.Common.{◌≡◌, ℕ, zero, suc, ◌+◌, ◌<◌, ◌≤◌, Bool, true, false, not, ◌&&◌, ◌||◌, List, [], ◌∷◌, ◌++◌, Option, Some, None, refl, sym, ap, ◌∙◌, subst, arith, cond, filter, map, is_some}
+use Rattle.std.proofs.Common.{◌≡◌, ℕ, zero, suc, ◌+◌, ◌<◌, ◌≤◌, Bool, true, false, not, List, [], ◌∷◌, ◌++◌, Option, Some, None, refl, sym, ap, ◌∙◌, subst, arith, cond, filter, map}
 use Rattle.std.specs.Prelude.{◌==◌, slice_get}
-use Rattle.std.specs.List.{list_any, flat_map, range_with_len, AllByRecursion}
+use Rattle.std.specs.List.{flat_map, range_with_len, AllByRecursion}
 use Rattle.std.proofs.lemmas.Bool.{true≢false, false≢true, leb-true, and_parts, eqb-true, eqb-false}
 use Rattle.cluster_msgs.specs.Shape.{key_count}
 use Rattle.cluster_msgs.specs.declared.messages.Down.{Down}
@@ -11,15 +11,15 @@ use Rattle.cluster_msgs.specs.declared.messages.FromClient.{FromClient as Client
 use Rattle.cluster_msgs.specs.declared.events.Asker.{Asker}
 use Rattle.cluster_msgs.specs.declared.events.Asker.TheVariants.{Worker, Client}
 use Rattle.cluster_msgs.specs.declared.events.Event.{Event}
-use Rattle.cluster_msgs.specs.declared.events.Event.TheVariants.{Want, Release, Join, Lose, SeeLoss, Suspect, DeliverDown, DeliverUp, DeliverToClient, DeliverFromClient, Start, Finish, SendGather, ServeGather, ArriveGather, FailGather, Balance, Evict, Spill, LoseSpilled}
-use Rattle.cluster_rules.specs.Functions.{put, from_one}
-use Rattle.cluster_rules.specs.Derived.{below, is_in}
+use Rattle.cluster_msgs.specs.declared.events.Event.TheVariants.{Want, Release, SeeLoss, Suspect, DeliverDown, DeliverUp, DeliverToClient, DeliverFromClient, Start, Finish, SendGather, ServeGather, ArriveGather, FailGather, Balance, Evict, Spill, LoseSpilled}
+use Rattle.cluster_rules.specs.Functions.{put}
+use Rattle.cluster_rules.specs.Derived.{below}
 use Rattle.cluster_rules.specs.SchedStep.{Stepped, mail}
 use Rattle.cluster_rules.specs.Worker.{Ask, has_any}
 use Rattle.cluster_rules.specs.WorkerStep.{WorkerStep}
 use Rattle.cluster_rules.specs.Client.{ClientStep}
 use Rattle.cluster_rules.specs.World.{Job, World, Parcel, shape_of, is_connected, is_client, all_workers, all_clients, open_ask}
-use Rattle.cluster_rules.specs.WorldStep.{letters, scheduled, worked, client_worked, take_up_first, take_down_first, take_to_client, take_from_client, fail_ask, spill, world_step}
+use Rattle.cluster_rules.specs.WorldStep.{letters, scheduled, worked, client_worked, take_up_first, take_down_first, take_to_client, take_from_client, fail_ask, world_step}
 use Rattle.cluster_rules.specs.Enabled.{enabled, progress, progress_kinds, connected_workers, quiet_askers, is_quiet_asker}
 use Rattle.cluster_rules.specs.WorldFrame.{OnlyScheduler, OnlyWorker, OnlyClient, NothingMoves}
 

@@ -1,5 +1,5 @@
 -- Which events of the world are enabled, which message each takes, and which of them are progress.
-use Rattle.std.specs.Prelude.{◌≡◌, ℕ, ◌+◌, ◌==◌, nat_lt, nat_le, Bool, true, false, not, ◌&&◌, List, [], ◌∷◌, ◌++◌, Option, Some, None, is_some, filter, map, cond}
+use Rattle.std.specs.Prelude.{ℕ, nat_lt, Bool, true, not, ◌&&◌, List, [], ◌∷◌, ◌++◌, Option, Some, None, is_some, filter, map, cond}
 use Rattle.std.specs.List.{list_all, flat_map}
 use Rattle.std.specs.Option.{option_map}
 use Rattle.cluster_msgs.specs.Shape.{key_count}
@@ -7,15 +7,13 @@ use Rattle.cluster_msgs.specs.declared.messages.Message.{Message}
 use Rattle.cluster_msgs.specs.declared.messages.Message.TheVariants.{Down as DownMessage, Up as UpMessage, ToClient as ToClientMessage, FromClient as FromClientMessage, Peer as PeerMessage}
 use Rattle.cluster_msgs.specs.declared.messages.Peer.TheVariants.{GetData, Data}
 use Rattle.cluster_msgs.specs.declared.cores.SchedEvent.TheVariants.{Join as JoinSched, Balance as BalanceSched, Evict as EvictSched}
-use Rattle.cluster_msgs.specs.declared.cores.WorkerEvent.TheVariants.{Start as StartTask, Ask as AskPeer}
-use Rattle.cluster_msgs.specs.declared.cores.ClientEvent.TheVariants.{Ask as ClientAsk}
 use Rattle.cluster_msgs.specs.declared.events.Asker.{Asker}
 use Rattle.cluster_msgs.specs.declared.events.Asker.TheVariants.{Worker, Client}
 use Rattle.cluster_msgs.specs.declared.events.Event.{Event}
 use Rattle.cluster_msgs.specs.declared.events.Event.TheVariants.{Want, Release, Join, Lose, SeeLoss, Suspect, DeliverDown, DeliverUp, DeliverToClient, DeliverFromClient, Start, Finish, SendGather, ServeGather, ArriveGather, FailGather, Balance, Evict, Spill, LoseSpilled}
 use Rattle.cluster_rules.specs.Derived.{below}
 use Rattle.cluster_rules.specs.SchedTable.{sched_takes}
-use Rattle.cluster_rules.specs.Worker.{has_any, would_ask, would_start, worker_keys}
+use Rattle.cluster_rules.specs.Worker.{has_any, would_ask, would_start}
 use Rattle.cluster_rules.specs.Client.{client_would_ask}
 use Rattle.cluster_rules.specs.World.{World, Parcel, shape_of, all_workers, all_clients, is_connected, is_client, is_asker, open_ask, parcel_of}
 

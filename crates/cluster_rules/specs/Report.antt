@@ -1,5 +1,5 @@
 -- The report of a list of events: what the program prints of a run.
-use Rattle.std.specs.Prelude.{ℕ, ◌==◌, Bool, true, false, List, [], ◌∷◌, Option, Some, None, filter, map, length}
+use Rattle.std.specs.Prelude.{ℕ, ◌==◌, Bool, true, false, List, [], ◌∷◌, Option, Some, filter, map, length}
 use Rattle.cluster_msgs.specs.Shape.{Shape, key_count, edge_count}
 use Rattle.cluster_msgs.specs.declared.messages.Message.{Message}
 use Rattle.cluster_msgs.specs.declared.messages.Message.TheVariants.{Up as UpMessage}

@@ -1,11 +1,11 @@
 -- The facts of a worker, and the state of a key at it ("Worker State Machine" of Dask.distributed).
-use Rattle.std.specs.Prelude.{◌≡◌, ℕ, ◌+◌, ◌≤◌, ◌==◌, nat_lt, nat_le, min, Bool, true, false, not, ◌&&◌, ◌||◌, List, [], ◌∷◌, ◌++◌, Option, Some, None, is_some, is_none, filter, find, map, cond, length, take}
+use Rattle.std.specs.Prelude.{ℕ, ◌==◌, nat_lt, nat_le, min, Bool, true, false, not, ◌&&◌, ◌||◌, List, [], ◌∷◌, Option, None, is_some, is_none, filter, find, map, cond, length, take}
 use Rattle.std.specs.List.{list_any, list_all, filter_map}
 use Rattle.std.specs.Option.{option_map}
 use Rattle.cluster_msgs.specs.Shape.{Shape, key_count, deps_of, nbytes_of}
 use Rattle.cluster_msgs.specs.declared.cores.WState.{WState}
 use Rattle.cluster_msgs.specs.declared.cores.WState.TheVariants.{Memory, Executing, ResumedExecuting, CancelledExecuting, ResumedFlight, Flight, CancelledFlight, Ready, Waiting, Fetch, Missing, Error, Released, Forgotten}
-use Rattle.cluster_rules.specs.Functions.{put, from_one, total, count}
+use Rattle.cluster_rules.specs.Functions.{from_one, total, count}
 use Rattle.cluster_rules.specs.Derived.{below, is_in}
 
 -- what one asker has asked of one peer: the number of the ask, and each key with the copy that it is to be

@@ -1,6 +1,6 @@
 -- What a worker keeps, whatever it is told and in whatever order its events come.
 use Rattle.std.specs.Prelude.{◌≡◌, ℕ, ◌+◌, ◌<◌, ◌≤◌, Bool, true, false, List, [], ◌∷◌, Option, None, cond}
-use Rattle.cluster_msgs.specs.Shape.{Shape, key_count}
+use Rattle.cluster_msgs.specs.Shape.{key_count}
 use Rattle.cluster_rules.specs.Worker.{Ask, WorkerFacts, names_key, wstate, is_missing_state}
 
 -- how many open asks name the key

@@ -1,5 +1,5 @@
 -- One event of a worker: the change of its facts, and its instructions in their order ("Worker State Machine" of Dask.distributed).
-use Rattle.std.specs.Prelude.{◌≡◌, ℕ, ◌+◌, ◌==◌, nat_lt, Bool, true, false, not, ◌&&◌, ◌||◌, List, [], ◌∷◌, ◌++◌, Option, Some, None, is_some, is_none, filter, map, cond, fold}
+use Rattle.std.specs.Prelude.{ℕ, ◌+◌, ◌==◌, nat_lt, Bool, true, false, not, ◌&&◌, ◌||◌, List, [], ◌∷◌, ◌++◌, Option, Some, None, is_some, filter, map, cond, fold}
 use Rattle.std.specs.List.{list_all}
 use Rattle.cluster_msgs.specs.Shape.{key_count}
 use Rattle.cluster_msgs.specs.declared.messages.Down.{Down}
@@ -10,7 +10,7 @@ use Rattle.cluster_msgs.specs.declared.cores.Instruction.TheVariants.{Execute, G
 use Rattle.cluster_msgs.specs.declared.cores.WorkerEvent.{WorkerEvent}
 use Rattle.cluster_msgs.specs.declared.cores.WorkerEvent.TheVariants.{Down as Told, Start, Done, Ask as AskPeer, Gathered, GatherFailed, DataLost}
 use Rattle.cluster_rules.specs.Functions.{put}
-use Rattle.cluster_rules.specs.Derived.{below, is_in}
+use Rattle.cluster_rules.specs.Derived.{is_in}
 use Rattle.cluster_rules.specs.Worker.{Ask, WorkerFacts, worker_keys, awaited, is_wanted, wstate, is_missing_state, is_unstarted_state, would_start, fetchable, ask_items, ask_to, without_ask, with_ask, would_ask, has_any}
 
 -- the facts after an event, and the instructions

@@ -1,7 +1,5 @@
 -- The world: the scheduler, its clients and workers, and the messages between them.
-use Rattle.std.specs.Prelude.{◌≡◌, ℕ, ◌+◌, ◌*◌, ◌^◌, ◌-◌, ◌≤◌, ◌<◌, ◌==◌, nat_lt, nat_le, min, max, Bool, true, false, not, ◌&&◌, ◌||◌, List, [], ◌∷◌, ◌++◌, Option, Some, None, is_some, is_none, filter, find, map, cond, length}
-use Rattle.std.specs.List.{list_any, list_all}
-use Rattle.std.specs.Option.{option_map}
+use Rattle.std.specs.Prelude.{◌≡◌, ℕ, ◌+◌, ◌*◌, ◌^◌, ◌-◌, ◌==◌, nat_lt, nat_le, min, max, Bool, true, false, not, ◌&&◌, ◌||◌, List, [], ◌∷◌, Option, filter, find, cond, length}
 use Rattle.cluster_msgs.specs.Shape.{Shape, key_count, edge_count}
 use Rattle.cluster_msgs.specs.declared.messages.Down.{Down}
 use Rattle.cluster_msgs.specs.declared.messages.Up.{Up}
@@ -10,7 +8,7 @@ use Rattle.cluster_msgs.specs.declared.messages.FromClient.{FromClient}
 use Rattle.cluster_msgs.specs.declared.events.Asker.{Asker}
 use Rattle.cluster_msgs.specs.declared.events.Asker.TheVariants.{Worker, Client}
 use Rattle.cluster_rules.specs.Functions.{from_one, total, count}
-use Rattle.cluster_rules.specs.Sched.{Setting, Facts, sched_opening, connected, workers as connected_workers}
+use Rattle.cluster_rules.specs.Sched.{Setting, Facts, sched_opening, connected}
 use Rattle.cluster_rules.specs.Worker.{Ask, WorkerFacts, new_worker, pairs, ask_to}
 use Rattle.cluster_rules.specs.Client.{ClientFacts, new_client, client_pairs, is_unfinished}
 

@@ -1,12 +1,10 @@
 -- What an event of the world leaves alone.
-use Rattle.std.specs.Prelude.{◌≡◌, ℕ, ◌<◌, ◌≤◌, ◌==◌, Bool, true, false, not, List, [], ◌∷◌, ◌++◌, Option, Some}
+use Rattle.std.specs.Prelude.{◌≡◌, ℕ, ◌<◌, ◌≤◌, ◌==◌, true, false, List, ◌++◌}
 use Rattle.std.specs.List.{AllByRecursion}
 use Rattle.cluster_msgs.specs.Shape.{key_count}
 use Rattle.cluster_msgs.specs.declared.messages.Down.{Down}
 use Rattle.cluster_msgs.specs.declared.messages.ToClient.{ToClient}
-use Rattle.cluster_msgs.specs.declared.events.Asker.{Asker}
 use Rattle.cluster_msgs.specs.declared.events.Asker.TheVariants.{Worker, Client}
-use Rattle.cluster_msgs.specs.declared.events.Event.{Event}
 use Rattle.cluster_msgs.specs.declared.events.Event.TheVariants.{SeeLoss, DeliverDown, DeliverUp, DeliverToClient, DeliverFromClient, Start, Finish, SendGather, ServeGather, ArriveGather, FailGather}
 use Rattle.cluster_rules.specs.World.{World, Parcel, shape_of, is_connected, is_client}
 use Rattle.cluster_rules.specs.Enabled.{enabled, is_quiet_asker}
