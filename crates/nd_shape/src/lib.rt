@@ -1,0 +1,11 @@
+//! Shapes, indexes and blocks of arrays, by NumPy's rules.
+//!
+//! This is the lowest crate of the array side: it stands on nothing of the repository, and the files, the expressions,
+//! the layouts and the kernels stand on it. It carries NumPy's shape rules: what a shape is and how it is written, how
+//! shapes are broadcast, which indexes a slice takes, and where an index lies in row-major order. The index formula of
+//! each array operation stands here too, in `specs/Grids.antt`, so that whole arrays and blocks are compared by one.
+#![tactic(auto)]
+
+pub mod shape;
+
+pub use shape::{Shape, ShapeLimit};
