@@ -1,2 +1,5 @@
 pub mod Shape
 pub mod Limits
+pub mod Region
+pub mod Slice
+pub mod Texts

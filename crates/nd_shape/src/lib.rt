@@ -6,6 +6,16 @@
 //! each array operation stands here too, in `specs/Grids.antt`, so that whole arrays and blocks are compared by one.
 #![tactic(auto)]
 
+pub mod chunk;
+pub mod error;
+pub mod region;
+pub mod sequence;
 pub mod shape;
+pub mod slice;
 
+pub use chunk::ChunkSpec;
+pub use error::{ChunkError, ShapeError};
+pub use region::{Piece, Region};
+pub use sequence::{Axes, Dims, Parts, Pieces, Sequence, Shapes, Sizes, Specs, StepList};
 pub use shape::{Shape, ShapeLimit};
+pub use slice::{Part, Steps, resolve_slice};
