@@ -1,5 +1,5 @@
 // Slices of one axis, by Python's rules.
-ghost use Rattle.std.specs.Prelude.{◌≡◌, ◌≢◌, ◌<◌, ◌≤◌, ℕ, ℤ, pos, negsuc, ◌*◌, ◌+ℤ◌, ◌-ℤ◌, ◌<ℤ◌, Option, IfOk, IfErr};
+ghost use Rattle.std.specs.Prelude.{◌≡◌, ◌≢◌, ◌<◌, ◌≤◌, ℕ, ℤ, pos, negsuc, ◌*◌, ◌+ℤ◌, ◌-ℤ◌, ◌<ℤ◌, Option, IfOk, IfErr, cond, nat_eq};
 ghost use Rattle.nd_shape.specs.Slice.{Resolves, RefusesPart, IsRange, clipped, from_end, first_index, end_index};
 
 use crate::error::ShapeError;
@@ -109,37 +109,78 @@ fn held_above(len: u64, index: i64) -> u64
     }
 }
 
+fn first_forwards(len: u64, step: i64, start: Option<i64>) -> u64
+    requires { pos 0 <ℤ step }
+    ensures { pos result ≡ first_index len step start }
+{
+    match start {
+        None => 0,
+        Some(index) => held(len, index),
+    }
+}
+
+fn end_forwards(len: u64, step: i64, stop: Option<i64>) -> u64
+    requires { pos 0 <ℤ step }
+    ensures { pos result ≡ end_index len step stop }
+{
+    match stop {
+        None => len,
+        Some(index) => held(len, index),
+    }
+}
+
+// One above the first index.
+fn first_backwards(len: u64, step: i64, start: Option<i64>) -> u64
+    requires { step <ℤ pos 0 }
+    ensures { pos result ≡ first_index len step start +ℤ pos 1 }
+{
+    match start {
+        None => len,
+        Some(index) => held_above(len, index),
+    }
+}
+
+// One above the end, which is -1 where it lies before the first index.
+fn end_backwards(len: u64, step: i64, stop: Option<i64>) -> u64
+    requires { step <ℤ pos 0 }
+    ensures { pos result ≡ end_index len step stop +ℤ pos 1 }
+{
+    match stop {
+        None => 0,
+        Some(index) => held_above(len, index),
+    }
+}
+
+fn start_of(first: u64, count: u64) -> u64
+    ensures { result ≡ cond (nat_eq count 0) 0 first }
+{
+    if count == 0 { 0 } else { first }
+}
+
 fn forwards(len: u64, start: Option<i64>, stop: Option<i64>, step: i64) -> Steps
     requires { pos 0 <ℤ step }
     ensures { IsRange (first_index len step start) (end_index len step stop) step result }
 {
-    let first = match start {
-        None => 0,
-        Some(index) => held(len, index),
-    };
-    let end = match stop {
-        None => len,
-        Some(index) => held(len, index),
-    };
+    let first = first_forwards(len, step, start);
+    let end = end_forwards(len, step, stop);
     let count = steps_within(end.saturating_sub(first), step.unsigned_abs());
-    let start = if count == 0 { 0 } else { first };
-    Steps { start, step, count }
+    Steps {
+        start: start_of(first, count),
+        step,
+        count,
+    }
 }
 
 fn backwards(len: u64, start: Option<i64>, stop: Option<i64>, step: i64) -> Steps
     requires { step <ℤ pos 0 }
     ensures { IsRange (first_index len step start) (end_index len step stop) step result }
 {
-    // Both are one above the index, since an end before the first index is -1.
-    let first = match start {
-        None => len,
-        Some(index) => held_above(len, index),
-    };
-    let end = match stop {
-        None => 0,
-        Some(index) => held_above(len, index),
-    };
+    let first = first_backwards(len, step, start);
+    let end = end_backwards(len, step, stop);
     let count = steps_within(first.saturating_sub(end), step.unsigned_abs());
-    let start = if count == 0 { 0 } else { first - 1 };
-    Steps { start, step, count }
+    Steps {
+        start: start_of(first.saturating_sub(1), count),
+        step,
+        count,
+    }
 }
