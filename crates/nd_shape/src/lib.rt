@@ -6,15 +6,19 @@
 //! each array operation stands here too, in `specs/Grids.antt`, so that whole arrays and blocks are compared by one.
 #![tactic(auto)]
 
+pub mod broadcasting;
 pub mod chunk;
 pub mod error;
+pub mod index;
 pub mod region;
 pub mod sequence;
 pub mod shape;
 pub mod slice;
 
-pub use chunk::ChunkSpec;
+pub use broadcasting::{broadcast, broadcast_three};
+pub use chunk::{ChunkSpec, axis_chunks, chunk_count};
 pub use error::{ChunkError, ShapeError};
+pub use index::{is_inside, ravel, unravel};
 pub use region::{Piece, Region};
 pub use sequence::{Axes, Dims, Parts, Pieces, Sequence, Shapes, Sizes, Specs, StepList};
 pub use shape::{Shape, ShapeLimit};
