@@ -5,3 +5,4 @@ pub mod Places
 pub mod Axes
 pub mod Totals
 pub mod Broadcasts
+pub mod Floor

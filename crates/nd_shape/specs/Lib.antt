@@ -6,3 +6,5 @@ pub mod Slice
 pub mod Chunk
 pub mod Broadcast
 pub mod Texts
+pub mod Int64
+pub mod Operation
