@@ -6,3 +6,5 @@ pub mod Axes
 pub mod Totals
 pub mod Broadcasts
 pub mod Floor
+pub mod Cells
+pub mod Dags

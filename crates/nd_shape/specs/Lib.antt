@@ -8,3 +8,6 @@ pub mod Broadcast
 pub mod Texts
 pub mod Int64
 pub mod Operation
+pub mod Grid
+pub mod Computed
+pub mod Dags

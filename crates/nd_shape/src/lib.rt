@@ -6,9 +6,11 @@
 //! each array operation stands here too, in `specs/Grids.antt`, so that whole arrays and blocks are compared by one.
 #![tactic(auto)]
 
+pub mod block;
 pub mod broadcasting;
 pub mod chunk;
 pub mod error;
+pub mod formula;
 pub mod index;
 pub mod int64;
 pub mod operation;
@@ -17,6 +19,7 @@ pub mod sequence;
 pub mod shape;
 pub mod slice;
 
+pub use block::Block;
 pub use broadcasting::{broadcast, broadcast_three};
 pub use chunk::{ChunkSpec, axis_chunks, chunk_count};
 pub use error::{ChunkError, ShapeError};
