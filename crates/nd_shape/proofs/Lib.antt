@@ -5,6 +5,3 @@ pub mod Places
 pub mod Axes
 pub mod Totals
 pub mod Broadcasts
-pub mod Floor
-pub mod Cells
-pub mod Dags

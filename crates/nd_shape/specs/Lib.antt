@@ -2,12 +2,8 @@ pub mod Shape
 pub mod Limits
 pub mod Index
 pub mod Region
+pub mod Block
 pub mod Slice
 pub mod Chunk
 pub mod Broadcast
 pub mod Texts
-pub mod Int64
-pub mod Operation
-pub mod Grid
-pub mod Computed
-pub mod Dags

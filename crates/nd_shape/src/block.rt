@@ -15,7 +15,7 @@ pub struct Block {
 
 impl Model for Block {
     ghost use Rattle.std.specs.Prelude.{◌≡◌, length};
-    ghost use Rattle.nd_shape.specs.Grid.{Array};
+    ghost use Rattle.nd_shape.specs.Block.{Array};
     ghost use Rattle.nd_shape.specs.Shape.{elements};
 
     ghost Value = { Array };

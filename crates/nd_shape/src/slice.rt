@@ -1,6 +1,6 @@
 // Slices of one axis, by Python's rules.
 ghost use Rattle.std.specs.Prelude.{◌≡◌, ◌≢◌, ◌<◌, ◌≤◌, ℕ, ℤ, pos, negsuc, ◌*◌, ◌+ℤ◌, ◌-ℤ◌, ◌<ℤ◌, Option, IfOk, IfErr, cond, nat_eq};
-ghost use Rattle.nd_shape.specs.Slice.{Resolves, RefusesPart, IsRange, clipped, from_end, first_index, end_index};
+ghost use Rattle.nd_shape.specs.Slice.{Resolves, RefusesPart, StepsFitAxis, IsRange, clipped, from_end, first_index, end_index};
 
 use crate::error::ShapeError;
 
@@ -27,6 +27,7 @@ pub struct Steps {
 /// No memory.
 pub fn resolve_slice(len: u64, part: &Part) -> Result<Steps, ShapeError>
     ensures ok { IfOk result (λ steps. Resolves len part.now steps) }
+    ensures inside { IfOk result (λ steps. StepsFitAxis steps len) }
     ensures err { IfErr result (λ e. RefusesPart len part.now e) }
 {
     match part {
