@@ -30,9 +30,9 @@ small_cond m a c false h k = k
 
 small_get : (m : ℕ) (ns : List ℕ) (k : ℕ) → 1 ≤ m → All (λ n. n ≤ m) ns → get_or ns k 1 ≤ m
 small_get m ns k one h = elim (cases_lt k (length ns)) [
-    | inl b ↦ h k 1 b
-    | inr b ↦ let e : get_or ns k 1 ≡ 1 = get_or_past ns k 1 b in omega arith
-  ]
+  | inl b ↦ h k 1 b
+  | inr b ↦ let e : get_or ns k 1 ≡ 1 = get_or_past ns k 1 b in omega arith
+]
 
 length_on-small : (m axes k : ℕ) (ns : List ℕ) → 1 ≤ m → All (λ n. n ≤ m) ns → length_on axes k ns ≤ m
 length_on-small m axes k ns one h = small_cond m 1 (get_or ns (k - (axes - length ns)) 1) (nat_lt k (axes - length ns)) one (small_get m ns (k - (axes - length ns)) one h)
@@ -52,10 +52,10 @@ broadcast-lengths x y z dims e hx hy hz =
     let l : length dims ≡ axes_of s = ap length e ∙ length-map-range_with_len f 0 (axes_of s) in
     let one : 1 ≤ 2 ^ 31 = omega arith in
     All-from_get_or (λ n. n ≤ 2 ^ 31) dims 0 (λ k b.
-      let at : get_or dims k 0 ≡ f k = ap (λ xs. get_or xs k 0) e ∙ get_or-map-range_with_len f 0 (axes_of s) k k 0 (omega arith) (omega arith) in
-      subst (λ n. n ≤ 2 ^ 31) (sym at)
-      (common-small (2 ^ 31) (length_on (axes_of s) k x) (length_on (axes_of s) k y) (length_on (axes_of s) k z) one (length_on-small (2 ^ 31) (axes_of s) k x one hx) (length_on-small (2 ^ 31) (axes_of s) k y one hy)
-        (length_on-small (2 ^ 31) (axes_of s) k z one hz)))
+    let at : get_or dims k 0 ≡ f k = ap (λ xs. get_or xs k 0) e ∙ get_or-map-range_with_len f 0 (axes_of s) k k 0 (omega arith) (omega arith) in
+    subst (λ n. n ≤ 2 ^ 31) (sym at)
+    (common-small (2 ^ 31) (length_on (axes_of s) k x) (length_on (axes_of s) k y) (length_on (axes_of s) k z) one (length_on-small (2 ^ 31) (axes_of s) k x one hx) (length_on-small (2 ^ 31) (axes_of s) k y one hy)
+    (length_on-small (2 ^ 31) (axes_of s) k z one hz)))
 
 -- ---- two operands: a third without axes changes nothing
 

@@ -28,9 +28,9 @@ chunks_of-even (suc len) size h = refl
 -- a size above the length leaves no whole chunk
 whole_chunks : (len size : ℕ) → 0 < size → replicate (len / size) (min size len) ≡ replicate (len / size) size
 whole_chunks len size h = elim (cases_lt len size) [
-    | inl b ↦ let z : len / size ≡ 0 = ap (λ n. n / size) (omega arith) ∙ div-mul-add 0 size len b in rw z refl
-    | inr b ↦ let e : min size len ≡ size = omega arith in rw e refl
-  ]
+  | inl b ↦ let z : len / size ≡ 0 = ap (λ n. n / size) (omega arith) ∙ div-mul-add 0 size len b in rw z refl
+  | inr b ↦ let e : min size len ≡ size = omega arith in rw e refl
+]
 
 pub can_cut-even : (len size : ℕ) → len ≢ 0 → CanCut len (Even size) → 0 < size
 can_cut-even zero size h c = absurd (h refl)

@@ -5,6 +5,12 @@ use Rattle.nd_shape.specs.declared.error.ShapeError.{ShapeError}
 use Rattle.nd_shape.specs.declared.error.ShapeError.TheVariants.{Misfit, BadAxis, BadIndex, ZeroStep, EmptyReduce, TooManyParts, BadSplit, Elements, OutOfMemory}
 use Rattle.nd_shape.specs.declared.error.ChunkError.{ChunkError}
 use Rattle.nd_shape.specs.declared.error.ChunkError.TheVariants.{AxisCount, SumDiffers, ZeroChunk, OutOfMemory as NoMemory}
+use Rattle.nd_shape.specs.declared.shape.ShapeLimit.{ShapeLimit}
+use Rattle.nd_shape.specs.declared.shape.ShapeLimit.TheVariants.{Axes, Elements as TooLarge}
+
+abbrev pub limit_text : ShapeLimit → List ℕ
+limit_text Axes = codes "axes"
+limit_text TooLarge = codes "elements"
 
 abbrev pub shape_error_text : ShapeError → List ℕ
 shape_error_text (Misfit axis left right) = codes "shape: axis " ++ decimal axis ++ codes ": " ++ decimal left ++ codes " and " ++ decimal right

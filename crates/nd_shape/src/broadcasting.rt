@@ -22,7 +22,12 @@ pub fn broadcast(alloc: Global, left: &Shape, right: &Shape) -> Result<Shape, Sh
 
 /// The shape of an operation on three arrays at once. Misfit names the first axis on which two of them don't agree, and
 /// the lengths there of the first such two: first and second, then first and third, then second and third.
-pub fn broadcast_three(alloc: Global, first: &Shape, second: &Shape, third: &Shape) -> Result<Shape, ShapeError>
+pub fn broadcast_three(
+    alloc: Global,
+    first: &Shape,
+    second: &Shape,
+    third: &Shape,
+) -> Result<Shape, ShapeError>
     ensures ok { IfOk result (λ shape. shape ≡ broadcast (first.now ∷ second.now ∷ third.now ∷ [])) }
     ensures agree { OnOk result (Agree (first.now ∷ second.now ∷ third.now ∷ [])) }
     ensures err { IfErr result (λ e. RefusesBroadcast (first.now ∷ second.now ∷ third.now ∷ []) e) }
@@ -113,4 +118,96 @@ fn broadcast_dims(alloc: Global, x: &[u64], y: &[u64], z: &[u64]) -> Result<Vec<
         }
     }
     Ok(dims)
+}
+
+#[cfg(test)]
+mod tests {
+    use super::*;
+    use std::process::Abort;
+    use std::test::Fail;
+
+    fn shape_of(rt: &impl AllocGlobal, dims: &[u64]) -> Result<Shape, Fail> {
+        Ok(Shape::new(Vec::from_slice(rt.alloc(), dims)?)?)
+    }
+
+    // The shapes give this one, in both orders.
+    fn fits<R: AllocGlobal + Abort>(
+        rt: &R,
+        left: &[u64],
+        right: &[u64],
+        wanted: &[u64],
+    ) -> Result<(), Fail> {
+        let left = shape_of(rt, left)?;
+        let right = shape_of(rt, right)?;
+        let made = broadcast(rt.alloc(), &left, &right)?;
+        assert_eq!(rt; made.dims(), wanted);
+        let turned = broadcast(rt.alloc(), &right, &left)?;
+        assert_eq!(rt; turned.dims(), wanted);
+        Ok(())
+    }
+
+    // Why the shapes don't fit.
+    fn refusal<R: AllocGlobal>(
+        rt: &R,
+        left: &[u64],
+        right: &[u64],
+    ) -> Result<Option<ShapeError>, Fail> {
+        let left = shape_of(rt, left)?;
+        let right = shape_of(rt, right)?;
+        Ok(broadcast(rt.alloc(), &left, &right).err())
+    }
+
+    fn misfit_on(axis: u64, left: u64, right: u64) -> Option<ShapeError> {
+        Some(ShapeError::Misfit { axis, left, right })
+    }
+
+    #[test]
+    fn lengths_that_agree_are_numpys(rt: HostRuntime) -> Result<(), Fail> {
+        fits(&rt, &[3, 1], &[1, 4], &[3, 4])?;
+        fits(&rt, &[256, 256, 3], &[3], &[256, 256, 3])?;
+        fits(&rt, &[8, 1, 6, 1], &[7, 1, 5], &[8, 7, 6, 5])?;
+        fits(&rt, &[5, 4], &[], &[5, 4])?;
+        fits(&rt, &[15, 3, 5], &[3, 1], &[15, 3, 5])?;
+        fits(&rt, &[0], &[1], &[0])?;
+        fits(&rt, &[2, 0], &[1, 1], &[2, 0])?;
+        fits(&rt, &[], &[], &[])
+    }
+
+    #[test]
+    fn the_first_axis_that_differs_is_named(rt: HostRuntime) -> Result<(), Fail> {
+        assert_eq!(rt; refusal(&rt, &[3], &[4])?, misfit_on(0, 3, 4));
+        assert_eq!(rt; refusal(&rt, &[2, 1], &[8, 4, 3])?, misfit_on(1, 2, 4));
+        assert_eq!(rt; refusal(&rt, &[2, 3], &[4, 5])?, misfit_on(0, 2, 4));
+        assert_eq!(rt; refusal(&rt, &[0], &[2])?, misfit_on(0, 0, 2));
+        assert_eq!(rt;
+            refusal(&rt, &[65536, 1], &[1, 65536])?,
+            Some(ShapeError::Elements)
+        );
+        Ok(())
+    }
+
+    #[test]
+    fn three_are_broadcast_at_once(rt: HostRuntime) -> Result<(), Fail> {
+        let wide = shape_of(&rt, &[65536, 1, 1])?;
+        let high = shape_of(&rt, &[1, 65536, 1])?;
+        let none = shape_of(&rt, &[1, 1, 0])?;
+        let made = broadcast_three(rt.alloc(), &wide, &high, &none)?;
+        assert_eq!(rt; made.dims(), [65536, 65536, 0].as_slice());
+        let two = shape_of(&rt, &[2])?;
+        let three = shape_of(&rt, &[3])?;
+        let one = shape_of(&rt, &[1])?;
+        assert_eq!(rt;
+            broadcast_three(rt.alloc(), &two, &one, &three).err(),
+            misfit_on(0, 2, 3)
+        );
+        assert_eq!(rt;
+            broadcast_three(rt.alloc(), &one, &two, &three).err(),
+            misfit_on(0, 2, 3)
+        );
+        assert_eq!(rt;
+            broadcast_three(rt.alloc(), &three, &two, &three).err(),
+            misfit_on(0, 3, 2)
+        );
+        Ok(())
+    }
 }

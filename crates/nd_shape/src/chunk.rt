@@ -17,7 +17,12 @@ pub enum ChunkSpec {
 /// (<https://docs.dask.org/en/stable/array-chunks.html>): a number cuts chunks of that size and a smaller last one, and
 /// a list is taken as it stands. An axis of length 0 has the one chunk 0, whatever number was given. A chunk of 0 is
 /// ZeroChunk, which goes before SumDiffers. It takes four bytes per chunk: `chunk_count` tells first how many there are.
-pub fn axis_chunks(alloc: Global, axis: u32, len: u64, spec: &ChunkSpec) -> Result<Sizes, ChunkError>
+pub fn axis_chunks(
+    alloc: Global,
+    axis: u32,
+    len: u64,
+    spec: &ChunkSpec,
+) -> Result<Sizes, ChunkError>
     requires { len ≤ 2 ^ 31 }
     ensures ok { IfOk result (λ sizes. sizes ≡ chunks_of len spec.now) }
     ensures cut { OnOk result (CanCut len spec.now) }
@@ -147,4 +152,63 @@ fn narrowed(alloc: Global, sizes: &[u64]) -> Result<Vec<u32>, AllocError>
         narrow.push(*size as u32)?;
     }
     Ok(narrow)
+}
+
+#[cfg(test)]
+mod tests {
+    use super::*;
+    use std::test::Fail;
+
+    fn listed(rt: &impl AllocGlobal, sizes: &[u64]) -> Result<ChunkSpec, AllocError> {
+        Ok(ChunkSpec::List(Dims::from_vec(Vec::from_slice(rt.alloc(), sizes)?)))
+    }
+
+    #[test]
+    fn a_number_cuts_even_chunks(rt: HostRuntime) -> Result<(), Fail> {
+        let sizes = axis_chunks(rt.alloc(), 0, 10, &ChunkSpec::Even(4))?;
+        assert_eq!(rt; sizes.as_slice(), [4, 4, 2].as_slice());
+        let sizes = axis_chunks(rt.alloc(), 0, 10, &ChunkSpec::Even(5))?;
+        assert_eq!(rt; sizes.as_slice(), [5, 5].as_slice());
+        let sizes = axis_chunks(rt.alloc(), 0, 10, &ChunkSpec::Even(18446744073709551615))?;
+        assert_eq!(rt; sizes.as_slice(), [10].as_slice());
+        let sizes = axis_chunks(rt.alloc(), 0, 0, &ChunkSpec::Even(0))?;
+        assert_eq!(rt; sizes.as_slice(), [0].as_slice());
+        assert_eq!(rt;
+            chunk_count(0, 2147483648, &ChunkSpec::Even(1)),
+            Ok(2147483648)
+        );
+        assert_eq!(rt;
+            chunk_count(3, 10, &ChunkSpec::Even(0)),
+            Err(ChunkError::ZeroChunk { axis: 3 })
+        );
+        Ok(())
+    }
+
+    #[test]
+    fn a_list_is_taken_as_it_stands(rt: HostRuntime) -> Result<(), Fail> {
+        let sizes = axis_chunks(rt.alloc(), 0, 10, &listed(&rt, &[1, 7, 2])?)?;
+        assert_eq!(rt; sizes.as_slice(), [1, 7, 2].as_slice());
+        let sizes = axis_chunks(rt.alloc(), 0, 0, &listed(&rt, &[0])?)?;
+        assert_eq!(rt; sizes.as_slice(), [0].as_slice());
+        Ok(())
+    }
+
+    #[test]
+    fn a_zero_chunk_goes_before_a_wrong_sum(rt: HostRuntime) -> Result<(), Fail> {
+        let wrong = |sum: u128, len: u64| Err(ChunkError::SumDiffers { axis: 0, sum, len });
+        let zero = Err(ChunkError::ZeroChunk { axis: 0 });
+        assert_eq!(rt; chunk_count(0, 10, &listed(&rt, &[4, 4])?), wrong(8, 10));
+        assert_eq!(rt; chunk_count(0, 10, &listed(&rt, &[])?), wrong(0, 10));
+        assert_eq!(rt; chunk_count(0, 0, &listed(&rt, &[3])?), wrong(3, 0));
+        let huge = 18446744073709551615;
+        assert_eq!(rt;
+            chunk_count(0, 10, &listed(&rt, &[huge, huge])?),
+            wrong(36893488147419103230, 10)
+        );
+        assert_eq!(rt; chunk_count(0, 10, &listed(&rt, &[4, 0, 4])?), zero);
+        assert_eq!(rt; chunk_count(0, 0, &listed(&rt, &[])?), zero);
+        assert_eq!(rt; chunk_count(0, 0, &listed(&rt, &[0, 0])?), zero);
+        assert!(rt; axis_chunks(rt.alloc(), 0, 10, &listed(&rt, &[4, 4])?).is_err());
+        Ok(())
+    }
 }

@@ -35,12 +35,21 @@ impl fmt::Display for ShapeError {
 
     fn fmt<W: fmt::Write>(&self, f: &mut fmt::Formatter<W>) -> fmt::Result {
         match self {
-            ShapeError::Misfit { axis, left, right } => write!(f, "shape: axis {axis}: {left} and {right}"),
+            ShapeError::Misfit { axis, left, right } => write!(
+                f,
+                "shape: axis {axis}: {left} and {right}"
+            ),
             ShapeError::BadAxis { axis } => write!(f, "shape: bad axis {axis}"),
-            ShapeError::BadIndex { index, len } => write!(f, "shape: index {index} of length {len}"),
+            ShapeError::BadIndex { index, len } => write!(
+                f,
+                "shape: index {index} of length {len}"
+            ),
             ShapeError::ZeroStep => write!(f, "shape: step 0"),
             ShapeError::EmptyReduce { axis } => write!(f, "shape: empty axis {axis}"),
-            ShapeError::TooManyParts { parts, axes } => write!(f, "shape: {parts} parts for {axes} axes"),
+            ShapeError::TooManyParts { parts, axes } => write!(
+                f,
+                "shape: {parts} parts for {axes} axes"
+            ),
             ShapeError::BadSplit { split } => write!(f, "shape: split_every {split}"),
             ShapeError::Elements => write!(f, "limit elements"),
             ShapeError::OutOfMemory => write!(f, "out of memory"),
@@ -92,8 +101,14 @@ impl fmt::Display for ChunkError {
 
     fn fmt<W: fmt::Write>(&self, f: &mut fmt::Formatter<W>) -> fmt::Result {
         match self {
-            ChunkError::AxisCount { given, axes } => write!(f, "chunks: {given} given for {axes} axes"),
-            ChunkError::SumDiffers { axis, sum, len } => write!(f, "chunks: axis {axis}: sum {sum}, length {len}"),
+            ChunkError::AxisCount { given, axes } => write!(
+                f,
+                "chunks: {given} given for {axes} axes"
+            ),
+            ChunkError::SumDiffers { axis, sum, len } => write!(
+                f,
+                "chunks: axis {axis}: sum {sum}, length {len}"
+            ),
             ChunkError::ZeroChunk { axis } => write!(f, "chunks: axis {axis}: zero chunk"),
             ChunkError::OutOfMemory => write!(f, "out of memory"),
         }
@@ -121,5 +136,70 @@ impl<T: Drop> From<AllocFailed<T>> for ChunkError {
 
     fn from(_: AllocFailed<T>) -> Self {
         ChunkError::OutOfMemory
+    }
+}
+
+#[cfg(test)]
+mod tests {
+    use super::*;
+    use std::test::Fail;
+
+    #[test]
+    fn refusals_are_printed(rt: HostRuntime) -> Result<(), Fail> {
+        let misfit = ShapeError::Misfit {
+            axis: 0,
+            left: 3,
+            right: 4,
+        };
+        assert_eq!(rt;
+            misfit.to_string(rt.alloc())?.as_str(),
+            "shape: axis 0: 3 and 4"
+        );
+        let axis = ShapeError::BadAxis { axis: 5 };
+        assert_eq!(rt; axis.to_string(rt.alloc())?.as_str(), "shape: bad axis 5");
+        let index = ShapeError::BadIndex { index: -6, len: 5 };
+        assert_eq!(rt;
+            index.to_string(rt.alloc())?.as_str(),
+            "shape: index -6 of length 5"
+        );
+        assert_eq!(rt;
+            ShapeError::ZeroStep.to_string(rt.alloc())?.as_str(),
+            "shape: step 0"
+        );
+        let empty = ShapeError::EmptyReduce { axis: 1 };
+        assert_eq!(rt;
+            empty.to_string(rt.alloc())?.as_str(),
+            "shape: empty axis 1"
+        );
+        let parts = ShapeError::TooManyParts { parts: 3, axes: 2 };
+        assert_eq!(rt;
+            parts.to_string(rt.alloc())?.as_str(),
+            "shape: 3 parts for 2 axes"
+        );
+        let split = ShapeError::BadSplit { split: 1 };
+        assert_eq!(rt;
+            split.to_string(rt.alloc())?.as_str(),
+            "shape: split_every 1"
+        );
+        let count = ChunkError::AxisCount { given: 1, axes: 2 };
+        assert_eq!(rt;
+            count.to_string(rt.alloc())?.as_str(),
+            "chunks: 1 given for 2 axes"
+        );
+        let sum = ChunkError::SumDiffers {
+            axis: 0,
+            sum: 8,
+            len: 10,
+        };
+        assert_eq!(rt;
+            sum.to_string(rt.alloc())?.as_str(),
+            "chunks: axis 0: sum 8, length 10"
+        );
+        let zero = ChunkError::ZeroChunk { axis: 2 };
+        assert_eq!(rt;
+            zero.to_string(rt.alloc())?.as_str(),
+            "chunks: axis 2: zero chunk"
+        );
+        Ok(())
     }
 }

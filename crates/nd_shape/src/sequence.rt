@@ -156,3 +156,60 @@ impl Copied for Piece {
         })
     }
 }
+
+#[cfg(test)]
+mod tests {
+    use super::*;
+    use crate::region::Region;
+    use std::test::Fail;
+
+    #[test]
+    fn lists_grow_and_are_copied(rt: HostRuntime) -> Result<(), Fail> {
+        let mut dims = Dims::new(rt.alloc());
+        dims.push(3)?;
+        dims.push(4)?;
+        assert_eq!(rt;
+            dims.copy(rt.alloc())?.into_vec().as_slice(),
+            [3, 4].as_slice()
+        );
+        let sizes = Sizes::from_vec([5, 6].to_vec(rt.alloc())?);
+        assert_eq!(rt; sizes.copy(rt.alloc())?.as_slice(), [5, 6].as_slice());
+        let mut parts = Parts::new(rt.alloc());
+        parts.push(Part::At(-1))?;
+        assert_eq!(rt; parts.copy(rt.alloc())?.as_slice(), parts.as_slice());
+        let mut steps = StepList::new(rt.alloc());
+        steps.push(Steps {
+            start: 1,
+            step: -1,
+            count: 2,
+        })?;
+        assert_eq!(rt; steps.copy(rt.alloc())?.as_slice(), steps.as_slice());
+        Ok(())
+    }
+
+    #[test]
+    fn lists_of_lists_are_copied(rt: HostRuntime) -> Result<(), Fail> {
+        let mut specs = Specs::new(rt.alloc());
+        specs.push(ChunkSpec::Even(2))?;
+        specs.push(ChunkSpec::List(Dims::from_vec([1, 2].to_vec(rt.alloc())?)))?;
+        let copied = specs.copy(rt.alloc())?;
+        let listed = match copied.as_slice() {
+            [ChunkSpec::Even(2), ChunkSpec::List(sizes)] => sizes.as_slice().len(),
+            _ => 0,
+        };
+        assert_eq!(rt; listed, 2);
+        let mut shapes = Shapes::new(rt.alloc());
+        shapes.push(Shape::line(rt.alloc(), 7)?)?;
+        let copied = shapes.copy(rt.alloc())?;
+        assert_eq!(rt; copied.as_slice().len(), 1);
+        let mut pieces = Pieces::new(rt.alloc());
+        pieces.push(Piece {
+            source: 1,
+            from: Region::whole(&[2]),
+            to: Region::whole(&[2]),
+        })?;
+        let copied = pieces.copy(rt.alloc())?;
+        assert_eq!(rt; copied.as_slice().len(), 1);
+        Ok(())
+    }
+}

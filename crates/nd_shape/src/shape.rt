@@ -4,8 +4,9 @@ ghost use Rattle.nd_shape.specs.Shape.{IsShape, elements, shape_text};
 ghost use Rattle.nd_shape.specs.Limits.{IsPassed};
 
 use std::alloc::{AllocError, Global};
+use std::error::Error;
+use std::fmt;
 use std::marker::Model;
-use thiserror::Error;
 
 /// The greatest number of axes.
 pub const AXES: usize = 8;
@@ -28,16 +29,30 @@ impl Model for Shape {
     ghost invariant = { λ s. IsShape s.dims.items };
 }
 
-/// The quantity that a list of lengths passes, so that it is no shape.
-#[derive(Clone, Copy, Debug, Error)]
+/// The quantity that a list of lengths passes, so that it is no shape. It is printed as `axes` or `elements`.
+#[derive(Clone, Copy, Debug, PartialEq, Eq)]
 pub enum ShapeLimit {
     /// There are more than eight axes.
-    #[error("axes")]
     Axes,
     /// A length or the number of elements is above 2^31.
-    #[error("elements")]
     Elements,
 }
+
+impl fmt::Display for ShapeLimit {
+    ghost use Rattle.std.specs.Prelude.{Some};
+    ghost use Rattle.nd_shape.specs.Texts.{limit_text};
+
+    ghost output = { λ limit. Some (limit_text limit) };
+
+    fn fmt<W: fmt::Write>(&self, f: &mut fmt::Formatter<W>) -> fmt::Result {
+        match self {
+            ShapeLimit::Axes => write!(f, "axes"),
+            ShapeLimit::Elements => write!(f, "elements"),
+        }
+    }
+}
+
+impl Error for ShapeLimit {}
 
 impl Shape {
     /// Takes a list of lengths over, or tells which limit it passes. No memory.

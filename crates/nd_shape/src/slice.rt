@@ -59,7 +59,12 @@ fn resolve_index(len: u64, index: i64) -> Result<Steps, ShapeError>
     })
 }
 
-fn resolve_range(len: u64, start: Option<i64>, stop: Option<i64>, step: i64) -> Result<Steps, ShapeError>
+fn resolve_range(
+    len: u64,
+    start: Option<i64>,
+    stop: Option<i64>,
+    step: i64,
+) -> Result<Steps, ShapeError>
     ensures ok { IfOk result (λ steps. (step ≢ pos 0) × IsRange (first_index len step start) (end_index len step stop) step steps) }
     ensures err { IfErr result (λ e. (step ≡ pos 0) × (e ≡ ShapeError.ZeroStep)) }
 {
@@ -185,3 +190,8 @@ fn backwards(len: u64, start: Option<i64>, stop: Option<i64>, step: i64) -> Step
         count,
     }
 }
+
+#[cfg(test)]
+mod table;
+#[cfg(test)]
+mod tests;
