@@ -1,0 +1,7 @@
+pub mod Commas
+pub mod Elements
+pub mod Ranges
+pub mod Places
+pub mod Axes
+pub mod Totals
+pub mod Broadcasts
