@@ -47,7 +47,7 @@ creates_of name old new tells opened created size_kept =
       opened = opened;
       grows = λ q. omega (arith, e q, (raised_bounds (old.created q) (times q (name ∷ []))).0);
       at_most = λ q. omega (arith, e q, (raised_bounds (old.created q) (times q (name ∷ []))).1);
-      size_kept = size_kept
+      size_kept = size_kept;
     }
 
 pub creates_nothing : (name : List ℕ) (old new : Files) → new ≡ old → Creates name old new
@@ -64,8 +64,8 @@ pub creates_made : (tells : Bool) (name : List ℕ) (old mid new : Book) (n : �
 creates_made tells name old mid new n begins makes =
     let a = creates_begun tells name old mid begins in
     creates_of name (book_files tells old) (book_files tells new) refl
-      (fun_ext (λ q. keeps (λ r. r.opened) (made n) name mid new (λ r. refl) makes q) ∙ a.opened) (made_counted name old mid new n begins makes)
-      (λ q s apart is. ap (λ r. r.size) (makes q) ∙ apart_size (bytes_eq name q) (record_at mid q) n apart ∙ a.size_kept q s apart is)
+    (fun_ext (λ q. keeps (λ r. r.opened) (made n) name mid new (λ r. refl) makes q) ∙ a.opened) (made_counted name old mid new n begins makes)
+    (λ q s apart is. ap (λ r. r.size) (makes q) ∙ apart_size (bytes_eq name q) (record_at mid q) n apart ∙ a.size_kept q s apart is)
 
 -- ## The real site's
 

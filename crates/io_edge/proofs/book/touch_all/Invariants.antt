@@ -5,5 +5,5 @@ use Rattle.io_edge.proofs.book.touch_all.Given as goal
 abbrev pub invariant-loop-name : goal.invariant-loop-name
 invariant-loop-name l = record {
   same : SameRecords l.initial.book l.book;
-  known : KnowsAll (take l.name-index (map string_bytes l.names)) l.book
+  known : KnowsAll (take l.name-index (map string_bytes l.names)) l.book;
 }

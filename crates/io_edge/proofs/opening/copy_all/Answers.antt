@@ -5,5 +5,5 @@ use Rattle.io_edge.proofs.opening.copy_all.Goals as goal
 
 pub loop-name-preserved : goal.loop-name-preserved
 loop-name-preserved c =
-  let e = one_more_name c.args.names.now c.loop-name.name-index c.name-item.result c.as_str.result.now c.loop-name-test.true c.name-item.is c.as_str.ensures.value in
-  rw (e, c.in_ok-push.ensures.items, map_push, map_push) (ap₂ (λ x y. x ++ y ∷ []) c.loop-name.invariant c.in_ok-copy_held.ensures)
+    let e = one_more_name c.args.names.now c.loop-name.name-index c.name-item.result c.as_str.result.now c.loop-name-test.true c.name-item.is c.as_str.ensures.value in
+    rw (e, c.in_ok-push.ensures.items, map_push, map_push) (ap₂ (λ x y. x ++ y ∷ []) c.loop-name.invariant c.in_ok-copy_held.ensures)

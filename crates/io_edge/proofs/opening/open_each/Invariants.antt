@@ -8,5 +8,5 @@ abbrev pub invariant-loop-at : goal.invariant-loop-at
 invariant-loop-at l = record {
   known : KnowsAll (map string_bytes l.names) l.book;
   opens : OpensTo (take l.at (map string_bytes l.names)) (book_files true l.initial.book) (book_files true l.book);
-  shows : Shows (take l.at (map string_bytes l.names)) (book_files true l.initial.book) (book_files true l.book) (map (λ n. Told (contents (book_files true l.initial.book) n)) (take l.at (map string_bytes l.names)))
+  shows : Shows (take l.at (map string_bytes l.names)) (book_files true l.initial.book) (book_files true l.book) (map (λ n. Told (contents (book_files true l.initial.book) n)) (take l.at (map string_bytes l.names)));
 }

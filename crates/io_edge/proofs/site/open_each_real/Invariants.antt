@@ -13,5 +13,5 @@ invariant-loop-name g l = record {
   sizes : length l.store.sizes.items ≡ l.name-index;
   files_room : length l.names ≤ vec_capacity l.store.files;
   sizes_room : length l.names ≤ vec_capacity l.store.sizes;
-  faults : l.store.faults ≡ 0
+  faults : l.store.faults ≡ 0;
 }
