@@ -12,7 +12,7 @@ use std::sync::Arc;
 pub struct MemoryStore {
     pub(crate) files: Vec<Vec<u8>>,
     pub(crate) faults: u64,
-    /// How many stores the site had made before.
+    /// How often the site had been asked for a store before.
     pub(crate) place: u64,
     pub(crate) lengths: u64,
     pub(crate) reads: u64,
@@ -70,7 +70,7 @@ pub struct MemoryFile {
     pub(crate) name: String,
     pub(crate) bytes: Vec<u8>,
     pub(crate) faults: u64,
-    /// How many files the site had made before.
+    /// How often the site had been asked for a file before.
     pub(crate) place: u64,
     pub(crate) writes: u64,
     pub(crate) most: Most,
@@ -101,4 +101,3 @@ impl OutFile for MemoryFile {
         self.faults
     }
 }
-
