@@ -1,5 +1,5 @@
 -- A text is taken apart as it was joined.
-use Rattle.std.proofs.Common.{◌≡◌, ◌≢◌, ℕ, ◌≤◌, ◌<◌, ◌+◌, List, [], ◌∷◌, ◌++◌, length, take, drop, arith, ap, refl, sym, ◌∙◌, Option, Some, None, Bool, true, false, cond, eqb, nat_eq}
+use Rattle.std.proofs.Common.{◌≡◌, ◌≢◌, ℕ, suc, ◌≤◌, ◌<◌, ◌+◌, List, [], ◌∷◌, ◌++◌, length, take, drop, arith, ap, refl, sym, ◌∙◌, Option, Some, None, Bool, true, false, cond, eqb, nat_eq}
 use Rattle.std.specs.Prelude.{option_and_then}
 use Rattle.std.specs.Option.{option_map}
 use Rattle.std.specs.List.{prefix_len, list_all, starts_with}
@@ -66,25 +66,28 @@ pub record IsPiece (kind : Kind) (word text front rest : List ℕ) : Type 0 wher
 
 record PieceFrom (n : ℕ) (word text front rest : List ℕ) : Type 0 where
   some : 1 ≤ n
-  front : front ≡ take n text
+  is_front : front ≡ take n text
   past : after word (drop n text) ≡ Some rest
 
-mapped : (n : ℕ) (text front rest : List ℕ) (o : Option (List ℕ)) → option_map (λ r. (take n text, r)) o ≡ Some (front, rest) → (front ≡ take n text) × (o ≡ Some rest)
-mapped n text front rest None e = cc
-mapped n text front rest (Some r) e = let pair : (take n text, r) ≡ (front, rest) = cc in (sym (ap (λ p. p.0) pair), ap (λ p. Some p.1) pair)
+abbrev paired : List ℕ → List ℕ → List ℕ × List ℕ
+paired front rest = (front, rest)
 
-piece_from : (n : ℕ) (none : Bool) (word text front rest : List ℕ) → eqb n 0 ≡ none → cond none None (option_map (λ r. (take n text, r)) (after word (drop n text))) ≡ Some (front, rest) → PieceFrom n word text front rest
+mapped : (n : ℕ) (text front rest : List ℕ) (o : Option (List ℕ)) → option_map (paired (take n text)) o ≡ Some (paired front rest) → (front ≡ take n text) × (o ≡ Some rest)
+mapped n text front rest None e = cc
+mapped n text front rest (Some r) e = let pair : paired (take n text) r ≡ paired front rest = cc in (sym (ap (λ p. p.0) pair), ap (λ p. Some p.1) pair)
+
+piece_from : (n : ℕ) (none : Bool) (word text front rest : List ℕ) → eqb n 0 ≡ none → cond none None (option_map (paired (take n text)) (after word (drop n text))) ≡ Some (paired front rest) → PieceFrom n word text front rest
 piece_from n true word text front rest is e = cc
 piece_from n false word text front rest is e =
     let m : (front ≡ take n text) × (after word (drop n text) ≡ Some rest) = mapped n text front rest (after word (drop n text)) e in
     let some : n ≡ 0 → ⊥ = eqb-false n 0 is in
-    record { some = omega arith; front = m.0; past = m.1 }
+    record { some = omega arith; is_front = m.0; past = m.1 }
 
 piece_parts : (p : ℕ → Bool) (kind : Kind) (word text front rest : List ℕ) → p ≡ passes kind → PieceFrom (prefix_len p text) word text front rest → IsPiece kind word text front rest
 piece_parts p kind word text front rest is from = record {
-    joined = sym (take-append-drop (prefix_len p text) text) ∙ ap (λ x. x ++ drop (prefix_len p text) text) (sym from.front) ∙ ap (λ x. front ++ x) (after_sound word (drop (prefix_len p text) text) rest from.past);
-    some = let l : length front ≡ prefix_len p text = ap length from.front ∙ length-take-le (prefix_len p text) text (prefix_len-le-length p text) in omega (arith, from.some);
-    pass = ap (λ q. list_all q front) (sym is) ∙ ap (list_all p) from.front ∙ front_passes p text
+    joined = sym (take-append-drop (prefix_len p text) text) ∙ ap (λ x. x ++ drop (prefix_len p text) text) (sym from.is_front) ∙ ap (λ x. front ++ x) (after_sound word (drop (prefix_len p text) text) rest from.past);
+    some = let l : length front ≡ prefix_len p text = ap length from.is_front ∙ length-take-le (prefix_len p text) text (prefix_len-le-length p text) in omega (arith, from.some);
+    pass = ap (λ q. list_all q front) (sym is) ∙ ap (list_all p) from.is_front ∙ front_passes p text
   }
 
 pub piece_sound : (kind : Kind) (word text front rest : List ℕ) → piece kind word text ≡ Some (front, rest) → IsPiece kind word text front rest

@@ -20,5 +20,5 @@ job_of (Run job) = job
 
 -- the names that are given for a run are the job's alone
 pub record IsJobOf (words names : List (List ℕ)) : Type 0 where
-  pub words : words ≡ codes "run" ∷ names
+  pub asked : words ≡ codes "run" ∷ names
   pub one : length names ≡ 1

@@ -29,17 +29,20 @@ fn job_line(alloc: Global, error: JobError) -> Result<String, AllocError>
 fn file_line(alloc: Global, name: &str, error: NpyError) -> Result<String, AllocError>
     ensures { IfOk result (λ t. string_bytes t ≡ codes "dask: file " ++ name.now ++ codes ": " ++ reason error ++ codes "\n") }
 {
-    format!(in alloc; "dask: file {name}: {error}\n")
+    let mut line = String::from_str(alloc, "dask: file ")?;
+    line.push_str(name)?;
+    line.push_str(": ")?;
+    line.push_str(error.to_string(alloc)?.as_str())?;
+    line.push_str("\n")?;
+    Ok(line)
 }
 
 // Prints the line of a refusal, or where memory for it was wanted, the line that says so.
 #[tactic(auto, unfolding(crate::specs::Answers::line_of))]
 fn tell_refusal<S: Site>(site: &mut S, end: End, line: Result<String, AllocError>) -> End
-    ghost inputs: { List (List ℕ) }
-    requires refusal { IsRefusal end }
-    requires line { IfOk line (λ t. string_bytes t ≡ line_of inputs end) }
+    requires { IsRefusal end }
     ensures told { Told end result }
-    ensures notes { Notes inputs (S.view site.old) (S.view site.new) result }
+    ensures notes { (inputs : List (List ℕ)) → IfOk line (λ t. string_bytes t ≡ line_of inputs end) → Notes inputs (S.view site.old) (S.view site.new) result }
     ensures only { OnlyErr (S.view site.old) (S.view site.new) }
 {
     match line {
