@@ -24,12 +24,12 @@ use Rattle.dask_top.proofs.Pieces.{Bound, bound}
 
 digits_test : IsDigitsTest (λ ds. list_all is_digit ds ≡ true)
 digits_test = record {
-    empty = refl;
-    parts = λ c cs all. let h : (is_digit c ≡ true) × (list_all is_digit cs ≡ true) = and_parts (is_digit c) (list_all is_digit cs) all in
+  empty = refl;
+  parts = λ c cs all. let h : (is_digit c ≡ true) × (list_all is_digit cs ≡ true) = and_parts (is_digit c) (list_all is_digit cs) all in
       let r : (nat_le 48 c ≡ true) × (nat_le c 57 ≡ true) = and_parts (nat_le 48 c) (nat_le c 57) h.0 in
       ((leb-true 48 c r.0, leb-true c 57 r.1), h.1);
-    more = λ c cs range all. and_from (is_digit c) (list_all is_digit cs) (and_from (nat_le 48 c) (nat_le c 57) (le-leb 48 c range.0) (le-leb c 57 range.1)) all
-  }
+  more = λ c cs range all. and_from (is_digit c) (list_all is_digit cs) (and_from (nat_le 48 c) (nat_le c 57) (le-leb 48 c range.0) (le-leb c 57 range.1)) all;
+}
 
 numerals : IsNumeralModel (λ ds. list_all is_digit ds ≡ true) (value_from 0)
 numerals = numerals_by_fold _ digits_test value_from (record { empty = λ n. refl; more = λ n c cs range. refl })
@@ -144,25 +144,27 @@ agree_sound i l s e =
       of_sum = (bytes_eq-Decides s.name l.name).0 n.at_c;
       names_differ = differ i.name l.name n.at_d;
       files_differ = differ i.file s.file n.at_f;
-      name = n.at_g; sum_name = n.at_h;
+      name = n.at_g;
+      sum_name = n.at_h;
       short = leb-true (length i.file) 255 n.at_j;
-      saved_short = leb-true (length s.file) 255 n.at_k
+      saved_short = leb-true (length s.file) 255 n.at_k;
     }
 
 agree_complete : (i : InputLine) (l : LetLine) (s : SaveLine) → Agree i l s → names_fit i l s ≡ true
 unfolding names_fit
 agree_complete i l s a =
     from_nine (eqb (length s.rest) 0) (bytes_eq l.of i.name) (bytes_eq s.name l.name) (not (bytes_eq i.name l.name)) (not (bytes_eq i.file s.file)) (names i.name) (names l.name) (nat_le (length i.file) 255) (nat_le (length s.file) 255)
-      (record {
-        at_a = eq-eqb (length s.rest) 0 (ap length a.ended);
-        at_b = (bytes_eq-Decides l.of i.name).1 a.of_input;
-        at_c = (bytes_eq-Decides s.name l.name).1 a.of_sum;
-        at_d = not_equal (bytes_eq i.name l.name) (λ t. a.names_differ ((bytes_eq-Decides i.name l.name).0 t));
-        at_f = not_equal (bytes_eq i.file s.file) (λ t. a.files_differ ((bytes_eq-Decides i.file s.file).0 t));
-        at_g = a.name; at_h = a.sum_name;
-        at_j = le-leb (length i.file) 255 a.short;
-        at_k = le-leb (length s.file) 255 a.saved_short
-      })
+    (record {
+      at_a = eq-eqb (length s.rest) 0 (ap length a.ended);
+      at_b = (bytes_eq-Decides l.of i.name).1 a.of_input;
+      at_c = (bytes_eq-Decides s.name l.name).1 a.of_sum;
+      at_d = not_equal (bytes_eq i.name l.name) (λ t. a.names_differ ((bytes_eq-Decides i.name l.name).0 t));
+      at_f = not_equal (bytes_eq i.file s.file) (λ t. a.files_differ ((bytes_eq-Decides i.file s.file).0 t));
+      at_g = a.name;
+      at_h = a.sum_name;
+      at_j = le-leb (length i.file) 255 a.short;
+      at_k = le-leb (length s.file) 255 a.saved_short;
+    })
 
 -- ## The plan of three lines
 
@@ -200,7 +202,7 @@ plan_complete i l s p from =
 
 joined_text : (name file size chunk sum_name of number sum_again saved rest : List ℕ) → of ≡ name → sum_again ≡ sum_name → rest ≡ [] →
     codes "input " ++ (name ++ (codes " \"" ++ (file ++ (codes "\" shape (" ++ (size ++ (codes ") chunks (" ++ (chunk ++ (codes ")\nlet " ++
-      (sum_name ++ (codes " = " ++ (of ++ (codes " + " ++ (number ++ (codes "\nsave " ++ (sum_again ++ (codes " \"" ++ (saved ++ (codes "\"\n" ++ rest))))))))))))))))))
+    (sum_name ++ (codes " = " ++ (of ++ (codes " + " ++ (number ++ (codes "\nsave " ++ (sum_again ++ (codes " \"" ++ (saved ++ (codes "\"\n" ++ rest))))))))))))))))))
     ≡ form_text (record { name = name; file = file; size = size; chunk = chunk; sum_name = sum_name; number = number; saved = saved })
 unfolding form_text
 joined_text name file size chunk sum_name of number sum_again saved rest is_of is_again is_rest = rw (is_of, is_again, is_rest) refl
@@ -213,7 +215,7 @@ first_sound text i l s p short hi hl hs agree from =
     record {
       places = places;
       joined = hi.joined ∙ ap (λ x. codes "input " ++ (i.name ++ (codes " \"" ++ (i.file ++ (codes "\" shape (" ++ (i.size ++ (codes ") chunks (" ++ (i.chunk ++ (codes ")\nlet " ++ x))))))))) (hl.joined ∙ ap (λ x. l.name ++ (codes " = " ++ (l.of ++ (codes " + " ++ (l.number ++ (codes "\nsave " ++ x)))))) hs.joined)
-        ∙ joined_text i.name i.file i.size i.chunk l.name l.of l.number s.name s.file s.rest agree.of_input agree.of_sum agree.ended;
+          ∙ joined_text i.name i.file i.size i.chunk l.name l.of l.number s.name s.file s.rest agree.of_input agree.of_sum agree.ended;
       short = short;
       name = name_sound i.name hi.name agree.name;
       sum_name = name_sound l.name hl.name agree.sum_name;
@@ -224,7 +226,7 @@ first_sound text i l s p short hi hl hs agree from =
       size = number_sound 0 1048576 i.size from.size hi.size from.is_size (omega arith);
       chunk = number_sound 1 1048576 i.chunk from.chunk hi.chunk from.is_chunk from.some_chunk;
       number = number_sound 0 9223372036854775807 l.number from.number hl.number from.is_number (omega arith);
-      says = from.says ∙ ap (λ n. record { input = i.file; saved = s.file; size = n; number = from.number }) size ∙ ap (λ n. record { input = i.file; saved = s.file; size = digits_value 10 i.size; number = n }) number
+      says = from.says ∙ ap (λ n. record { input = i.file; saved = s.file; size = n; number = from.number }) size ∙ ap (λ n. record { input = i.file; saved = s.file; size = digits_value 10 i.size; number = n }) number;
     }
 
 agreed : (fits : Bool) (i : InputLine) (l : LetLine) (s : SaveLine) (p : Plan) → cond fits (plan_from i l s) None ≡ Some p → (fits ≡ true) × (plan_from i l s ≡ Some p)
@@ -260,15 +262,36 @@ form_complete text p job =
     let i : InputLine = record { name = at.name; file = at.file; size = at.size; chunk = at.chunk; rest = more } in
     let name : IsWord Name at.name = name_word at.name job.name in
     let sum_name : IsWord Name at.sum_name = name_word at.sum_name job.sum_name in
-    let hi : input_line text ≡ Some i = input_complete text i (record { joined = job.joined ∙ sym (joined_text at.name at.file at.size at.chunk at.sum_name at.name at.number at.sum_name at.saved [] refl refl refl);
-      name = name; file = file_word at.file job.file; size = digits_word 0 1048576 at.size job.size; chunk = digits_word 1 1048576 at.chunk job.chunk }) in
+    let hi : input_line text ≡ Some i = input_complete text i (record {
+      joined = job.joined ∙ sym (joined_text at.name at.file at.size at.chunk at.sum_name at.name at.number at.sum_name at.saved [] refl refl refl);
+      name = name;
+      file = file_word at.file job.file;
+      size = digits_word 0 1048576 at.size job.size;
+      chunk = digits_word 1 1048576 at.chunk job.chunk;
+    }) in
     let hl : let_line more ≡ Some l = let_complete more l (record { joined = refl; name = sum_name; of = name; number = digits_word 0 9223372036854775807 at.number job.number }) in
     let hs : save_line last ≡ Some s = save_complete last s (record { joined = refl; name = sum_name; file = file_word at.saved job.saved }) in
-    let fits : names_fit i l s ≡ true = agree_complete i l s (record { ended = refl; of_input = refl; of_sum = refl; names_differ = job.names_differ; files_differ = job.files_differ;
-      name = name_complete at.name job.name; sum_name = name_complete at.sum_name job.sum_name; short = job.file.short; saved_short = job.saved.short }) in
-    let plan : plan_from i l s ≡ Some p = plan_complete i l s p (record { size = digits_value 10 at.size; chunk = digits_value 10 at.chunk; number = digits_value 10 at.number;
-      is_size = number_complete 0 1048576 at.size job.size; is_chunk = number_complete 1 1048576 at.chunk job.chunk; is_number = number_complete 0 9223372036854775807 at.number job.number;
-      some_chunk = job.chunk.low; says = job.says }) in
+    let fits : names_fit i l s ≡ true = agree_complete i l s (record {
+      ended = refl;
+      of_input = refl;
+      of_sum = refl;
+      names_differ = job.names_differ;
+      files_differ = job.files_differ;
+      name = name_complete at.name job.name;
+      sum_name = name_complete at.sum_name job.sum_name;
+      short = job.file.short;
+      saved_short = job.saved.short;
+    }) in
+    let plan : plan_from i l s ≡ Some p = plan_complete i l s p (record {
+      size = digits_value 10 at.size;
+      chunk = digits_value 10 at.chunk;
+      number = digits_value 10 at.number;
+      is_size = number_complete 0 1048576 at.size job.size;
+      is_chunk = number_complete 1 1048576 at.chunk job.chunk;
+      is_number = number_complete 0 9223372036854775807 at.number job.number;
+      some_chunk = job.chunk.low;
+      says = job.says;
+    }) in
     rw (hi, hl, hs, fits, plan) refl
 
 pub plan_is_complete : (text : List ℕ) (p : Plan) → IsFirstJob text p → first_plan text ≡ Some p
@@ -311,8 +334,9 @@ cut_reads text (Err e) long refused = (refused.0, λ p. too_long text p long)
 
 pub read_reads : (text : List ℕ) (reading : Result Plan JobError) → Reads (take 4097 text) reading → Reads text reading
 read_reads text reading reads = elim (cases_lt (length text) 4097) [
-    inl short ↦ let P : List ℕ → Type 0 = λ t. Reads t reading in subst P (take_all 4097 text (omega arith)) reads
-  | inr long ↦ cut_reads text reading long reads ]
+  | inl short ↦ let P : List ℕ → Type 0 = λ t. Reads t reading in subst P (take_all 4097 text (omega arith)) reads
+  | inr long ↦ cut_reads text reading long reads
+]
 
 -- ## What a job's reader needs to know of it
 

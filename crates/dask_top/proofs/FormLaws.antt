@@ -69,7 +69,10 @@ let_sound text l e =
     let P : LetLine → Type 0 = λ x. HasLet text x in
     subst P same (record {
       joined = p.joined ∙ ap (λ x. a.x.0 ++ (codes " = " ++ x)) q.joined ∙ ap (λ x. a.x.0 ++ (codes " = " ++ (b.x.0 ++ (codes " + " ++ x)))) r.joined;
-      name = word_of p; of = word_of q; number = word_of r })
+      name = word_of p;
+      of = word_of q;
+      number = word_of r;
+    })
 
 pub let_complete : (text : List ℕ) (l : LetLine) → HasLet text l → let_line text ≡ Some l
 unfolding let_line
@@ -107,9 +110,13 @@ input_sound text i e =
     let P : InputLine → Type 0 = λ x. HasInput text x in
     subst P same (record {
       joined = s ∙ ap (λ x. codes "input " ++ x) p.joined ∙ ap (λ x. codes "input " ++ (b.x.0 ++ (codes " \"" ++ x))) q.joined
-        ∙ ap (λ x. codes "input " ++ (b.x.0 ++ (codes " \"" ++ (c.x.0 ++ (codes "\" shape (" ++ x))))) r.joined
-        ∙ ap (λ x. codes "input " ++ (b.x.0 ++ (codes " \"" ++ (c.x.0 ++ (codes "\" shape (" ++ (d.x.0 ++ (codes ") chunks (" ++ x))))))) t.joined;
-      name = word_of p; file = word_of q; size = word_of r; chunk = word_of t })
+          ∙ ap (λ x. codes "input " ++ (b.x.0 ++ (codes " \"" ++ (c.x.0 ++ (codes "\" shape (" ++ x))))) r.joined
+          ∙ ap (λ x. codes "input " ++ (b.x.0 ++ (codes " \"" ++ (c.x.0 ++ (codes "\" shape (" ++ (d.x.0 ++ (codes ") chunks (" ++ x))))))) t.joined;
+      name = word_of p;
+      file = word_of q;
+      size = word_of r;
+      chunk = word_of t;
+    })
 
 pub input_complete : (text : List ℕ) (i : InputLine) → HasInput text i → input_line text ≡ Some i
 unfolding input_line

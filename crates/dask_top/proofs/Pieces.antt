@@ -85,10 +85,10 @@ piece_from n false word text front rest is e =
 
 piece_parts : (p : ℕ → Bool) (kind : Kind) (word text front rest : List ℕ) → p ≡ passes kind → PieceFrom (prefix_len p text) word text front rest → IsPiece kind word text front rest
 piece_parts p kind word text front rest is from = record {
-    joined = sym (take-append-drop (prefix_len p text) text) ∙ ap (λ x. x ++ drop (prefix_len p text) text) (sym from.is_front) ∙ ap (λ x. front ++ x) (after_sound word (drop (prefix_len p text) text) rest from.past);
-    some = let l : length front ≡ prefix_len p text = ap length from.is_front ∙ length-take-le (prefix_len p text) text (prefix_len-le-length p text) in omega (arith, from.some);
-    pass = ap (λ q. list_all q front) (sym is) ∙ ap (list_all p) from.is_front ∙ front_passes p text
-  }
+  joined = sym (take-append-drop (prefix_len p text) text) ∙ ap (λ x. x ++ drop (prefix_len p text) text) (sym from.is_front) ∙ ap (λ x. front ++ x) (after_sound word (drop (prefix_len p text) text) rest from.past);
+  some = let l : length front ≡ prefix_len p text = ap length from.is_front ∙ length-take-le (prefix_len p text) text (prefix_len-le-length p text) in omega (arith, from.some);
+  pass = ap (λ q. list_all q front) (sym is) ∙ ap (list_all p) from.is_front ∙ front_passes p text;
+}
 
 pub piece_sound : (kind : Kind) (word text front rest : List ℕ) → piece kind word text ≡ Some (front, rest) → IsPiece kind word text front rest
 unfolding piece

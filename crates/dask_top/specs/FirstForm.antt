@@ -32,10 +32,10 @@ is_file_byte byte = within 32 126 byte && not (byte == 34) && not (byte == 92)
 -- The words of the job language. `T` is none: it stands in `.T` alone, which is one token.
 unfoldable pub reserved_words : List (List ℕ)
 reserved_words =
-  codes "input" ∷ codes "shape" ∷ codes "chunks" ∷ codes "let" ∷ codes "save"
-  ∷ codes "sum" ∷ codes "prod" ∷ codes "min" ∷ codes "max" ∷ codes "axis" ∷ codes "split_every"
-  ∷ codes "minimum" ∷ codes "maximum" ∷ codes "where" ∷ codes "transpose" ∷ codes "rechunk"
-  ∷ codes "concatenate" ∷ codes "tensordot" ∷ codes "full" ∷ codes "ramp" ∷ []
+    codes "input" ∷ codes "shape" ∷ codes "chunks" ∷ codes "let" ∷ codes "save"
+    ∷ codes "sum" ∷ codes "prod" ∷ codes "min" ∷ codes "max" ∷ codes "axis" ∷ codes "split_every"
+    ∷ codes "minimum" ∷ codes "maximum" ∷ codes "where" ∷ codes "transpose" ∷ codes "rechunk"
+    ∷ codes "concatenate" ∷ codes "tensordot" ∷ codes "full" ∷ codes "ramp" ∷ []
 
 unfoldable pub is_reserved : List ℕ → Bool
 is_reserved word = list_any (λ w. bytes_eq word w) reserved_words
@@ -74,9 +74,9 @@ pub record Places : Type 0 where
 
 unfoldable pub form_text : Places → List ℕ
 form_text at = concat (
-  codes "input " ∷ at.name ∷ codes " \"" ∷ at.file ∷ codes "\" shape (" ∷ at.size ∷ codes ") chunks (" ∷ at.chunk ∷ codes ")\nlet "
-  ∷ at.sum_name ∷ codes " = " ∷ at.name ∷ codes " + " ∷ at.number ∷ codes "\nsave "
-  ∷ at.sum_name ∷ codes " \"" ∷ at.saved ∷ codes "\"\n" ∷ [])
+    codes "input " ∷ at.name ∷ codes " \"" ∷ at.file ∷ codes "\" shape (" ∷ at.size ∷ codes ") chunks (" ∷ at.chunk ∷ codes ")\nlet "
+    ∷ at.sum_name ∷ codes " = " ∷ at.name ∷ codes " + " ∷ at.number ∷ codes "\nsave "
+    ∷ at.sum_name ∷ codes " \"" ∷ at.saved ∷ codes "\"\n" ∷ [])
 
 -- what these places say
 abbrev pub plan_at : Places → Plan

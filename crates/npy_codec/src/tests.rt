@@ -6,7 +6,8 @@ use std::alloc::Global;
 use std::test::Fail;
 
 // The header of the shape (3,): 57 bytes of dictionary, 60 spaces and a newline make 118.
-const THREE: &str = "{'descr': '<i8', 'fortran_order': False, 'shape': (3,), }                                                            \n";
+const THREE: &str =
+    "{'descr': '<i8', 'fortran_order': False, 'shape': (3,), }                                                            \n";
 
 fn header(alloc: Global, text_len: u8, text: &str) -> Result<Vec<u8>, Fail> {
     let mut bytes = Vec::new(alloc);
@@ -24,13 +25,25 @@ fn written(alloc: Global, dims: &[u64]) -> Result<Vec<u8>, Fail> {
 #[test]
 fn headers_are_the_formats(rt: HostRuntime) -> Result<(), Fail> {
     let alloc = rt.alloc();
-    let none = "{'descr': '<i8', 'fortran_order': False, 'shape': (), }                                                              \n";
-    let two = "{'descr': '<i8', 'fortran_order': False, 'shape': (2, 3), }                                                          \n";
-    let eight = "{'descr': '<i8', 'fortran_order': False, 'shape': (2147483648, 2147483648, 2147483648, 2147483648, 2147483648, 2147483648, 2147483648, 0), }                                         \n";
+    let none =
+        "{'descr': '<i8', 'fortran_order': False, 'shape': (), }                                                              \n";
+    let two =
+        "{'descr': '<i8', 'fortran_order': False, 'shape': (2, 3), }                                                          \n";
+    let eight =
+        "{'descr': '<i8', 'fortran_order': False, 'shape': (2147483648, 2147483648, 2147483648, 2147483648, 2147483648, 2147483648, 2147483648, 0), }                                         \n";
     let long: u64 = 2147483648;
-    assert_eq!(rt; written(alloc, &[])?.as_slice(), header(alloc, 118, none)?.as_slice());
-    assert_eq!(rt; written(alloc, &[3])?.as_slice(), header(alloc, 118, THREE)?.as_slice());
-    assert_eq!(rt; written(alloc, &[2, 3])?.as_slice(), header(alloc, 118, two)?.as_slice());
+    assert_eq!(rt;
+        written(alloc, &[])?.as_slice(),
+        header(alloc, 118, none)?.as_slice()
+    );
+    assert_eq!(rt;
+        written(alloc, &[3])?.as_slice(),
+        header(alloc, 118, THREE)?.as_slice()
+    );
+    assert_eq!(rt;
+        written(alloc, &[2, 3])?.as_slice(),
+        header(alloc, 118, two)?.as_slice()
+    );
     let most = written(alloc, &[long, long, long, long, long, long, long, 0])?;
     assert_eq!(rt; most.as_slice(), header(alloc, 182, eight)?.as_slice());
     assert_eq!(rt; most.len(), 192);
@@ -38,7 +51,11 @@ fn headers_are_the_formats(rt: HostRuntime) -> Result<(), Fail> {
 }
 
 // What `read_first` answers for a file of these bytes and an array of three elements: the offset of the data.
-fn read(alloc: Global, bytes: &[u8], refusals: Vec<Refusal>) -> Result<Result<u64, NpyError>, Fail> {
+fn read(
+    alloc: Global,
+    bytes: &[u8],
+    refusals: Vec<Refusal>,
+) -> Result<Result<u64, NpyError>, Fail> {
     let mut site = MemorySite::new(alloc, 0, refusals)?;
     site.put(alloc, "a.npy", bytes)?;
     let names = vec![in alloc; String::from_str(alloc, "a.npy")?]?;
@@ -79,10 +96,12 @@ fn other_files_are_refused(rt: HostRuntime) -> Result<(), Fail> {
     assert_eq!(rt; short, Err(NpyError::NotBuilt));
     let empty = read(alloc, &[], Vec::new(alloc))?;
     assert_eq!(rt; empty, Err(NpyError::NotBuilt));
-    let four = "{'descr': '<i8', 'fortran_order': False, 'shape': (4,), }                                                            \n";
+    let four =
+        "{'descr': '<i8', 'fortran_order': False, 'shape': (4,), }                                                            \n";
     let shape = read(alloc, &file(alloc, four, 24)?, Vec::new(alloc))?;
     assert_eq!(rt; shape, Err(NpyError::NotBuilt));
-    let column_major = "{'descr': '<i8', 'fortran_order': True, 'shape': (3,), }                                                             \n";
+    let column_major =
+        "{'descr': '<i8', 'fortran_order': True, 'shape': (3,), }                                                             \n";
     let order = read(alloc, &file(alloc, column_major, 24)?, Vec::new(alloc))?;
     assert_eq!(rt; order, Err(NpyError::NotBuilt));
     Ok(())
