@@ -1,8 +1,6 @@
-use Rattle.std.proofs.Common.{map, string_bytes, length, ◌≡◌, ◌<◌, ◌≤◌, ◌+◌, ◌∙◌, ap, sym, arith, rules, subst, List, [], ℕ}
+use Rattle.std.proofs.Common.{map, string_bytes, length, ◌+◌, ◌∙◌, ap, arith}
 use Rattle.std.proofs.lemmas.List.{map_push, length_push, length-map}
-use Rattle.io_edge.specs.Content.{Content, Untold}
 use Rattle.io_edge.specs.Real.{real_files}
-use Rattle.io_edge.specs.View.{Shows}
 use Rattle.io_edge.proofs.OpeningLaws.{on_err, one_more_name, knows_item, knows_kept, opens_then, opens_no_names, opens_up_to, shows_then, shows_none}
 use Rattle.io_edge.proofs.site.open_each_real.Goals as goal
 
