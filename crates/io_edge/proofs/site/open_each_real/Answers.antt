@@ -33,7 +33,7 @@ loop-name-preserved g c =
       opens = rw e (opens_then _ _ (real_files c.args.book.now) (real_files c.loop-name.book) (real_files c.open_real.new.book) c.loop-name.invariant.opens c.open_real.ensures.opens);
       shows = rw (e, c.push_reserved.ensures.sizes, map_push) (shows_then _ _ (real_files c.args.book.now) (real_files c.loop-name.book) (real_files c.open_real.new.book) _ _
           c.loop-name.invariant.opens c.open_real.ensures.opens c.loop-name.invariant.shows c.in_ok-file.ensures.shows);
-      sizes = ap length c.push_reserved.ensures.sizes ∙ length_push _ _ ∙ ap (λ n. n + 1) c.loop-name.invariant.sizes;
+      sizes = rw (c.push_reserved.ensures.sizes, length_push) (ap (λ n. n + 1) c.loop-name.invariant.sizes);
       files_room = omega (arith, c.loop-name.invariant.files_room, c.push_reserved.ensures.files_room);
       sizes_room = omega (arith, c.loop-name.invariant.sizes_room, c.push_reserved.ensures.sizes_room);
       faults = c.push_reserved.ensures.faults ∙ c.loop-name.invariant.faults;
