@@ -181,6 +181,8 @@ fn a_name_keeps_its_length(rt: HostRuntime) -> Result<(), Fail> {
     );
     assert_eq!(rt; file.faults(), 0);
     assert_eq!(rt; site.read_faults(), 3);
+    let text = format!(in alloc; "{}, {}", OpenFault::Failed, OpenFault::OutOfMemory)?;
+    assert_eq!(rt; text.as_str(), "the call failed, out of memory");
     Ok(())
 }
 

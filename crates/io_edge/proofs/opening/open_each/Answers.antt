@@ -1,7 +1,6 @@
-use Rattle.std.proofs.Common.{true, map, string_bytes, take, length, ◌≡◌, ◌≤◌, arith}
+use Rattle.std.proofs.Common.{true, map, string_bytes, take, ◌≡◌, arith}
 use Rattle.std.proofs.lemmas.List.{map_push, take_all, length-map}
-use Rattle.io_edge.specs.Book.{book_files, contents}
-use Rattle.io_edge.specs.Content.{Told}
+use Rattle.io_edge.specs.Book.{book_files}
 use Rattle.io_edge.proofs.OpeningLaws.{on_err, one_more_name, knows_item, knows_kept, opens_then, opens_no_names, opens_up_to, shows_then, shows_none, shown_as}
 use Rattle.io_edge.proofs.opening.open_each.Goals as goal
 

@@ -1,8 +1,6 @@
-use Rattle.std.proofs.Common.{map, string_bytes, length, ◌≡◌, ◌<◌, ◌≤◌, ◌+◌, ◌∙◌, ap, sym, arith, rules, subst, List, [], ℕ}
+use Rattle.std.proofs.Common.{map, string_bytes, length, ◌+◌, ◌∙◌, ap, arith}
 use Rattle.std.proofs.lemmas.List.{map_push, length_push, length-map}
-use Rattle.io_edge.specs.Content.{Content, Untold}
 use Rattle.io_edge.specs.Real.{real_files}
-use Rattle.io_edge.specs.View.{Shows}
 use Rattle.io_edge.proofs.OpeningLaws.{on_err, one_more_name, knows_item, knows_kept, opens_then, opens_no_names, opens_up_to, shows_then, shows_none}
 use Rattle.io_edge.proofs.site.open_each_real.Goals as goal
 
@@ -35,7 +33,7 @@ loop-name-preserved g c =
       opens = rw e (opens_then _ _ (real_files c.args.book.now) (real_files c.loop-name.book) (real_files c.open_real.new.book) c.loop-name.invariant.opens c.open_real.ensures.opens);
       shows = rw (e, c.push_reserved.ensures.sizes, map_push) (shows_then _ _ (real_files c.args.book.now) (real_files c.loop-name.book) (real_files c.open_real.new.book) _ _
           c.loop-name.invariant.opens c.open_real.ensures.opens c.loop-name.invariant.shows c.in_ok-file.ensures.shows);
-      sizes = ap length c.push_reserved.ensures.sizes ∙ length_push _ _ ∙ ap (λ n. n + 1) c.loop-name.invariant.sizes;
+      sizes = rw (c.push_reserved.ensures.sizes, length_push) (ap (λ n. n + 1) c.loop-name.invariant.sizes);
       files_room = omega (arith, c.loop-name.invariant.files_room, c.push_reserved.ensures.files_room);
       sizes_room = omega (arith, c.loop-name.invariant.sizes_room, c.push_reserved.ensures.sizes_room);
       faults = c.push_reserved.ensures.faults ∙ c.loop-name.invariant.faults;

@@ -1,4 +1,4 @@
-use Rattle.std.proofs.Common.{◌≡◌, ◌≤◌, ◌+◌, map, take, string_bytes, length, vec_capacity}
+use Rattle.std.proofs.Common.{◌≡◌, ◌≤◌, map, take, string_bytes, length, vec_capacity}
 use Rattle.io_edge.specs.Content.{Untold}
 use Rattle.io_edge.specs.Real.{real_files}
 use Rattle.io_edge.specs.Book.{KnowsAll, OpensTo}

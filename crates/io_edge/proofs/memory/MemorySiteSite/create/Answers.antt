@@ -1,5 +1,0 @@
-use Rattle.io_edge.proofs.CreationLaws.{counted_some}
-use Rattle.io_edge.proofs.memory.MemorySiteSite.create.Goals as goal
-
-pub returns-in-Ok-clause-counted : goal.returns-in-Ok-clause-counted
-returns-in-Ok-clause-counted c = counted_some _ _ _ c.in-Ok.ensures.created
