@@ -8,3 +8,4 @@ pub mod Members
 pub mod PolicyLemmas
 pub mod SchedFrame
 pub mod OrderLemmas
+pub mod TruthWorker

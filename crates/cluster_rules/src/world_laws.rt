@@ -11,9 +11,13 @@ ghost use Rattle.cluster_msgs.specs.declared.events.Asker.{Asker};
 ghost use Rattle.cluster_msgs.specs.declared.cores.SchedEvent.TheVariants.{Join as JoinSched, Balance as BalanceSched, Evict as EvictSched};
 ghost use Rattle.cluster_rules.specs.SchedTable.{sched_takes};
 ghost use Rattle.cluster_rules.specs.Functions.{put};
-ghost use Rattle.cluster_rules.specs.Worker.{has_any, would_start};
+ghost use Rattle.cluster_rules.specs.Worker.{has_any, would_start, WorkerFacts};
 ghost use Rattle.cluster_rules.specs.World.{Job, World, is_connected, is_client, is_asker, open_ask, parcel_of};
-ghost use Rattle.cluster_rules.specs.WorldStep.{world_step};
+ghost use Rattle.std.specs.List.{AllByRecursion};
+ghost use Rattle.cluster_msgs.specs.declared.cores.WorkerEvent.{WorkerEvent};
+ghost use Rattle.cluster_rules.specs.WorkerStep.{worker_step, worker_takes};
+ghost use Rattle.cluster_rules.specs.Truth.{IsTrueWorker, IsTrueEvent, IsTrueUp};
+ghost use Rattle.cluster_rules.specs.WorldStep.{world_step, sends};
 ghost use Rattle.cluster_rules.specs.Enabled.{enabled, progress, are_named, may_ask};
 ghost use Rattle.cluster_rules.specs.WorldFrame.{OnlyScheduler, OnlyWorker, OnlyClient, NothingMoves};
 
@@ -82,4 +86,10 @@ pub fn where_events_are_enabled()
     ensures evict { (w : World) → enabled w Evict ≡ sched_takes w.sched EvictSched }
     ensures spill { (w : World) (i k : ℕ) → enabled w (Spill i k) ≡ (w.alive i && ((w.workers i).mem k && not (w.spilled i k))) }
     ensures lose_spilled { (w : World) (i k : ℕ) → enabled w (LoseSpilled i k) ≡ (w.alive i && w.spilled i k) }
+{}
+
+/// An event of a worker that goes by the job keeps what is true of its blocks, and reports errors of faulty keys alone.
+pub fn a_workers_blocks_are_true()
+    ensures { (j : Job) (w : WorkerFacts) (e : WorkerEvent) → worker_takes w e ≡ true → IsTrueEvent j e → IsTrueWorker j w →
+        IsTrueWorker j (worker_step w e).facts × AllByRecursion (IsTrueUp j) (sends (worker_step w e).out) }
 {}
