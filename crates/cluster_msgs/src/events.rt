@@ -55,13 +55,13 @@ pub struct History {
 /// Counts over a list of events. `workers` has each worker that joined, ascending, with the number of its starts.
 #[derive(Debug, PartialEq, Drop)]
 pub struct Report {
-    pub keys: u32,
-    pub edges: u32,
+    pub keys: u64,
+    pub edges: u64,
     pub started: u64,
     pub workers: Sequence<(u32, u64)>,
     pub gathers: u64,
-    pub steals_confirmed: u64,
-    pub steals_refused: u64,
+    pub confirmed: u64,
+    pub refused: u64,
     pub losses: u64,
 }
 

@@ -16,5 +16,6 @@ pub mod WorldStep
 pub mod Enabled
 pub mod WorldFrame
 pub mod Runs
+pub mod Truth
 pub mod Report
 pub mod Draw

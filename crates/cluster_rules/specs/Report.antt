@@ -66,7 +66,7 @@ report g es = record {
   started = how_many is_start es;
   workers = map (λ i. (i, how_many (starts_at i) es)) (from_one (how_many is_join es));
   gathers = how_many is_gather es;
-  steals_confirmed = how_many (is_answer true) es;
-  steals_refused = how_many (is_answer false) es;
+  confirmed = how_many (is_answer true) es;
+  refused = how_many (is_answer false) es;
   losses = how_many is_loss es;
 }

@@ -82,7 +82,7 @@ asked_back w k a = cond (yields w k a)
     (record { facts = give_up w k; out = Send (StealResponse w.seen k a true) ∷ [] })
     (record { facts = w; out = Send (StealResponse w.seen k a false) ∷ [] })
 
--- remove-replicas: a block that a pending task needs stays, and the scheduler is told that it does
+-- remove-replicas: a block that a pending task needs stays, and the scheduler is told of all of these, ascending
 abbrev pub remove_replica : WorkerFacts → ℕ → WorkerStep
 remove_replica w k = cond (w.mem k && not (awaited w k)) (record { facts = record w { mem = put w.mem k false }; out = Drop k ∷ [] }) (quiet w)
 
@@ -94,7 +94,7 @@ abbrev pub and_then : WorkerStep → List Instruction → WorkerStep
 and_then s out = record s { out = s.out ++ out }
 
 unfoldable pub remove_replicas : WorkerFacts → List ℕ → WorkerStep
-remove_replicas w ks = and_then (each_key remove_replica (quiet w) ks) (add_message w.seen (filter (λ k. w.mem k && awaited w k) ks))
+remove_replicas w ks = and_then (each_key remove_replica (quiet w) ks) (add_message w.seen (filter (λ k. is_in k ks && (w.mem k && awaited w k)) (worker_keys w)))
 
 -- acquire-replicas: a block that isn't here is sought
 abbrev pub acquire : WorkerFacts → ℕ × List (ℕ × ℕ) → WorkerFacts

@@ -1,6 +1,6 @@
 -- The world: the scheduler, its clients and workers, and the messages between them.
 use Rattle.std.specs.Prelude.{◌≡◌, ℕ, ◌+◌, ◌*◌, ◌^◌, ◌-◌, ◌==◌, nat_lt, nat_le, min, max, Bool, true, false, not, ◌&&◌, ◌||◌, List, [], ◌∷◌, Option, filter, find, cond, length}
-use Rattle.cluster_msgs.specs.Shape.{Shape, key_count, edge_count}
+use Rattle.cluster_msgs.specs.Shape.{Shape, IsShape, key_count, edge_count}
 use Rattle.cluster_msgs.specs.declared.messages.Down.{Down}
 use Rattle.cluster_msgs.specs.declared.messages.Up.{Up}
 use Rattle.cluster_msgs.specs.declared.messages.ToClient.{ToClient}
@@ -17,6 +17,14 @@ use Rattle.cluster_rules.specs.Client.{ClientFacts, new_client, client_pairs, is
 pub record Job : Type 0 where
   pub setting : Setting
   pub zero : ℕ → Bool
+
+-- what a job may be: a graph within its limits, at most 16 clients, and a saturation from 1 to 1000 tenths. What is promised of legal
+-- lists of events is promised for such jobs
+pub record IsJob (j : Job) : Type 0 where
+  pub shape : IsShape j.setting.shape
+  pub clients : j.setting.clients ≤ 16
+  pub some : 1 ≤ j.setting.saturation
+  pub most : j.setting.saturation ≤ 1000
 
 -- what is under way between an asker and a peer: the keys that one ask names, or those of them that were found
 pub record Parcel : Type 0 where

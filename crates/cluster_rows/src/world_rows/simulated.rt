@@ -25,7 +25,7 @@ pub fn two_keys_take_thirteen_or_fourteen_turns()
     ensures thirteen { play_all 20 (plain_job two_keys) (λ t. 1) (plan 1) (1 ∷ []) ≡
         (two_keys_start ++ client_served 1, Some (Served 13 None)) }
     ensures report { report_of (plain_job two_keys) (opening_events (plan 1) (1 ∷ []) ++ two_keys_start ++ client_served 1) ≡
-        record { keys = 2; edges = 1; started = 2; workers = (1, 2) ∷ []; gathers = 0; steals_confirmed = 0; steals_refused = 0; losses = 0 } }
+        record { keys = 2; edges = 1; started = 2; workers = (1, 2) ∷ []; gathers = 0; confirmed = 0; refused = 0; losses = 0 } }
 {}
 
 /// The first of two workers dies after one finish: the second does both keys, in eighteen turns or nineteen.
@@ -35,5 +35,5 @@ pub fn a_loss_costs_one_start()
     ensures eighteen { play_all 30 (plain_job two_keys) (λ t. 1) lost_at_one (1 ∷ []) ≡
         (lost_start ++ client_served 2, Some (Served 18 None)) }
     ensures report { report_of (plain_job two_keys) (opening_events (plan 2) (1 ∷ []) ++ lost_start ++ client_served 2) ≡
-        record { keys = 2; edges = 1; started = 3; workers = (1, 1) ∷ (2, 2) ∷ []; gathers = 0; steals_confirmed = 0; steals_refused = 0; losses = 1 } }
+        record { keys = 2; edges = 1; started = 3; workers = (1, 1) ∷ (2, 2) ∷ []; gathers = 0; confirmed = 0; refused = 0; losses = 1 } }
 {}

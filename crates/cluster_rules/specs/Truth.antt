@@ -1,0 +1,83 @@
+-- What is true of blocks and failures, at each worker, on each link and at each client.
+use Rattle.std.specs.Prelude.{◌≡◌, ℕ, Bool, true, false, not, ◌&&◌, List, [], ◌∷◌, Option, Some}
+use Rattle.std.specs.List.{list_all, AllByRecursion}
+use Rattle.cluster_msgs.specs.Shape.{Shape, deps_of}
+use Rattle.cluster_msgs.specs.Values.{cone}
+use Rattle.cluster_msgs.specs.declared.messages.Up.{Up}
+use Rattle.cluster_msgs.specs.declared.messages.Up.TheVariants.{TaskFinished, TaskErred, AddKeys, ReleaseWorkerData, MissingData, RequestRefreshWhoHas, StealResponse}
+use Rattle.cluster_msgs.specs.declared.messages.ToClient.{ToClient}
+use Rattle.cluster_msgs.specs.declared.messages.ToClient.TheVariants.{KeyInMemory, LostData, ClientTaskErred}
+use Rattle.cluster_msgs.specs.declared.cores.WorkerEvent.{WorkerEvent}
+use Rattle.cluster_msgs.specs.declared.cores.WorkerEvent.TheVariants.{Down as Told, Start, Done, Ask as AskPeer, Gathered, GatherFailed, DataLost}
+use Rattle.cluster_rules.specs.Sched.{Facts}
+use Rattle.cluster_rules.specs.Worker.{WorkerFacts}
+use Rattle.cluster_rules.specs.Client.{ClientFacts}
+use Rattle.cluster_rules.specs.World.{Job, World, Parcel}
+
+-- each dependency of the key has a value
+abbrev pub has_inputs : Job → ℕ → Bool
+has_inputs j k = list_all (λ d. not (j.zero d)) (deps_of j.setting.shape k)
+
+-- the key's own operation meets a zero divisor
+abbrev pub faulty_key : Job → ℕ → Bool
+faulty_key j k = has_inputs j k && j.zero k
+
+-- a failure of k is blamed on b: that key is faulty, and k is it or depends on it
+pub record IsBlame (j : Job) (k b : ℕ) : Type 0 where
+  pub faulty : faulty_key j b ≡ true
+  pub within : cone (deps_of j.setting.shape) k b ≡ true
+
+-- a block is there only of a key with a value, and a key runs only on inputs that have values
+pub record IsTrueKey (zero inputs mem running : Bool) : Type 0 where
+  pub valued : mem ≡ true → zero ≡ false
+  pub fed : running ≡ true → inputs ≡ true
+
+pub record IsTrueWorker (j : Job) (w : WorkerFacts) : Type 0 where
+  pub shape : w.shape ≡ j.setting.shape
+  pub at : (k : ℕ) → IsTrueKey (j.zero k) (has_inputs j k) (w.mem k) (w.running k)
+
+-- these keys have values
+abbrev pub AreValued : Job → List ℕ → Type 0
+AreValued j ks = AllByRecursion (λ k. j.zero k ≡ false) ks
+
+-- an event of a worker that goes by the job: an outcome is the key's, and blocks come only of keys with values
+abbrev pub IsTrueEvent : Job → WorkerEvent → Type 0
+IsTrueEvent j (Done k is_zero) = is_zero ≡ j.zero k
+IsTrueEvent j (Gathered p n found) = AreValued j found
+IsTrueEvent j (Told m) = Unit {0}
+IsTrueEvent j Start = Unit {0}
+IsTrueEvent j (AskPeer p) = Unit {0}
+IsTrueEvent j (GatherFailed p n) = Unit {0}
+IsTrueEvent j (DataLost k) = Unit {0}
+
+-- an error that a worker reports is of a faulty key
+abbrev pub IsTrueUp : Job → Up → Type 0
+IsTrueUp j (TaskErred seen k a) = faulty_key j k ≡ true
+IsTrueUp j (TaskFinished seen k a) = Unit {0}
+IsTrueUp j (AddKeys seen ks) = Unit {0}
+IsTrueUp j (ReleaseWorkerData seen k) = Unit {0}
+IsTrueUp j (MissingData seen k x c) = Unit {0}
+IsTrueUp j (RequestRefreshWhoHas seen k) = Unit {0}
+IsTrueUp j (StealResponse seen k a agreed) = Unit {0}
+
+-- a failure that a client is told of has its blame
+abbrev pub IsTrueNews : Job → ToClient → Type 0
+IsTrueNews j (ClientTaskErred k b) = IsBlame j k b
+IsTrueNews j (KeyInMemory k holders) = Unit {0}
+IsTrueNews j (LostData k) = Unit {0}
+
+pub record IsTrueSched (j : Job) (f : Facts) : Type 0 where
+  pub setting : f.setting ≡ j.setting
+  pub bad : (k : ℕ) → f.bad k ≡ true → faulty_key j k ≡ true
+
+pub record IsTrueClient (j : Job) (c : ClientFacts) : Type 0 where
+  pub got : (k : ℕ) → c.got k ≡ true → j.zero k ≡ false
+  pub failed : (k b : ℕ) → c.failed k ≡ Some b → IsBlame j k b
+
+pub record IsTrueWorld (j : Job) (w : World) : Type 0 where
+  pub sched : IsTrueSched j w.sched
+  pub workers : (i : ℕ) → IsTrueWorker j (w.workers i)
+  pub clients : (c : ℕ) → IsTrueClient j (w.clients c)
+  pub up : (i : ℕ) → AllByRecursion (IsTrueUp j) (w.up i)
+  pub to_client : (c : ℕ) → AllByRecursion (IsTrueNews j) (w.to_client c)
+  pub answers : AllByRecursion (λ (q : Parcel). AreValued j q.keys) w.answers
