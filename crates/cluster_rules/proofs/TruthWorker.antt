@@ -14,7 +14,7 @@ use Rattle.cluster_msgs.specs.declared.cores.WorkerEvent.{WorkerEvent}
 use Rattle.cluster_msgs.specs.declared.cores.WorkerEvent.TheVariants.{Down as Told, Start, Done, Ask as AskPeer, Gathered, GatherFailed, DataLost}
 use Rattle.cluster_rules.specs.Functions.{put}
 use Rattle.cluster_rules.specs.Derived.{is_in}
-use Rattle.cluster_rules.specs.Worker.{Ask, WorkerFacts, awaited, is_wanted, is_fed, wstate, is_ready_state, is_missing_state, would_start, fetchable, ask_items, ask_to, without_ask}
+use Rattle.cluster_rules.specs.Worker.{worker_keys, Ask, WorkerFacts, awaited, is_wanted, is_fed, wstate, is_ready_state, is_missing_state, would_start, fetchable, ask_items, ask_to, without_ask}
 use Rattle.cluster_rules.specs.WorkerStep.{WorkerStep, quiet, after_out, each_key, taken, set_holders, into_mem, give_up, given, free_key, yields, asked_back, remove_replica, add_message, and_then, remove_replicas, acquire, refresh, take_down, start, Arrivals, arrive_as, arrive, counted, arrived, stopped, erred_as, done, keys_of, ask_with, ask_peer, lose_holders, report_missing, not_found, answered_ask, gathered_by, gathered, lose_data, worker_row, unasked_keys, ask_holders, seek_missing, worker_step, is_key, worker_takes}
 use Rattle.cluster_rules.specs.World.{Job}
 use Rattle.cluster_rules.specs.WorldStep.{sends}
@@ -111,7 +111,7 @@ module _ (j : Job) where
   true_down w (StealRequest k a) h = true_asked_back w k a h
   true_down w (RemoveReplicas ks) h =
       let r = true_each remove_replica true_remove (quiet w) ks (quietly w h) in
-      record { facts = r.facts; out = all_append (IsTrueOut j) (each_key remove_replica (quiet w) ks).out _ r.out (true_add w.seen (filter (λ k. w.mem k && awaited w k) ks)) }
+      record { facts = r.facts; out = all_append (IsTrueOut j) (each_key remove_replica (quiet w) ks).out _ r.out (true_add w.seen (filter (λ k. is_in k ks && (w.mem k && awaited w k)) (worker_keys w))) }
   true_down w (AcquireReplicas who) h = quietly _ (true_fold acquire true_acquire w who h)
   true_down w (RefreshWhoHas who) h = quietly _ (true_fold refresh true_refresh w who h)
 
