@@ -9,3 +9,5 @@ pub mod PolicyLemmas
 pub mod SchedFrame
 pub mod OrderLemmas
 pub mod TruthWorker
+pub mod TruthSched
+pub mod TruthWorld

@@ -180,7 +180,7 @@ module _ (j : Job) where
       pick true i r e = subst (λ k. j.zero k ≡ false) (eqb-true x q i) v.0
       pick false i r e = r e
 
-  kept_valued : (found : List ℕ) → AreValued j found → (is : List (ℕ × ℕ)) → AreValued j (keys_of (filter (λ i. is_in i.0 found) is))
+  pub kept_valued : (found : List ℕ) → AreValued j found → (is : List (ℕ × ℕ)) → AreValued j (keys_of (filter (λ i. is_in i.0 found) is))
   kept_valued found v [] = tt
   kept_valued found v (i ∷ is) = pick (is_in i.0 found) refl (kept_valued found v is)
     where
@@ -207,11 +207,19 @@ module _ (j : Job) where
       pick None = quietly w h
       pick (Some a) = same a (a.number == n)
 
-  true_row : (w : WorkerFacts) (e : WorkerEvent) → worker_takes w e ≡ true → IsTrueEvent j e → IsTrueWorker j w → IsTrueStep j (worker_row w e)
-  unfolding worker_row worker_takes ask_peer
+  -- what is done runs
+  abbrev pub DoneRuns : WorkerFacts → WorkerEvent → Type 0
+  DoneRuns w e = (k : ℕ) (z : Bool) → e ≡ Done k z → w.running k ≡ true
+
+  pub taken_runs : (w : WorkerFacts) (e : WorkerEvent) → worker_takes w e ≡ true → DoneRuns w e
+  unfolding worker_takes
+  taken_runs w e t k z s = (and_parts (is_key w k) (w.running k) (subst (λ x. worker_takes w x ≡ true) s t)).1
+
+  true_row : (w : WorkerFacts) (e : WorkerEvent) → DoneRuns w e → IsTrueEvent j e → IsTrueWorker j w → IsTrueStep j (worker_row w e)
+  unfolding worker_row ask_peer
   true_row w (Told m) t f h = true_down (taken w) m (record { shape = h.shape; at = h.at })
   true_row w Start t f h = true_start w (would_start w) (start_is_ready w) h
-  true_row w (Done k z) t f h = true_done w k z f (and_parts (is_key w k) (w.running k) t).1 h
+  true_row w (Done k z) t f h = true_done w k z f (t k z refl) h
   true_row w (AskPeer p) t f h = record { facts = record { shape = h.shape; at = h.at }; out = (tt, tt) }
   true_row w (Gathered p n found) t f h = true_gathered w p n found f h
   true_row w (GatherFailed p n) t f h = true_gathered w p n [] tt h
@@ -221,7 +229,7 @@ module _ (j : Job) where
   requests_true seen [] = tt
   requests_true seen (k ∷ ks) = (tt, requests_true seen ks)
 
-  pub true_step : (w : WorkerFacts) (e : WorkerEvent) → worker_takes w e ≡ true → IsTrueEvent j e → IsTrueWorker j w → IsTrueStep j (worker_step w e)
+  pub true_step : (w : WorkerFacts) (e : WorkerEvent) → DoneRuns w e → IsTrueEvent j e → IsTrueWorker j w → IsTrueStep j (worker_step w e)
   unfolding worker_step
   true_step w e t f h =
       let r = true_row w e t f h in
