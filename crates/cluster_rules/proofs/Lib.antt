@@ -11,3 +11,8 @@ pub mod OrderLemmas
 pub mod TruthWorker
 pub mod TruthSched
 pub mod TruthWorld
+pub mod SoundLemmas
+pub mod SoundStep
+pub mod NothingLemmas
+pub mod ChoiceAppend
+pub mod TotalLemmas

@@ -1,5 +1,5 @@
 -- The best among several: the first member that no member beats.
-use Rattle.std.specs.Prelude.{◌≡◌, ℕ, ◌==◌, nat_lt, Bool, true, false, not, ◌&&◌, ◌||◌, List, [], ◌∷◌, Option, Some, None, find}
+use Rattle.std.specs.Prelude.{◌≡◌, ℕ, ◌==◌, nat_lt, Bool, true, false, not, ◌&&◌, ◌||◌, List, [], ◌∷◌, Option, Some, None, find, cond}
 use Rattle.std.specs.List.{list_any, Contains}
 
 -- the order of a dictionary
@@ -33,3 +33,9 @@ IsBestOf beats xs (Some x) = IsBest beats xs x
 
 abbrev pub IsLeastOf : {A : Type 0} → (A → List ℕ) → List A → Option A → Type 0
 IsLeastOf rank xs o = IsBestOf (λ y z. is_before (rank y) (rank z)) xs o
+
+-- the better of two, the first where neither beats the other
+abbrev pub better : {A : Type 0} → (A → A → Bool) → Option A → Option A → Option A
+better beats None o = o
+better beats (Some y) None = Some y
+better beats (Some y) (Some z) = cond (beats z y) (Some z) (Some y)

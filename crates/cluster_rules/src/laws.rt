@@ -2,10 +2,11 @@
 ghost use Rattle.std.specs.Prelude.{◌≡◌, ℕ, Bool, List, ◌<◌, ◌≤◌, ◌^◌, ◌*◌, ◌+◌};
 ghost use Rattle.std.specs.Prelude.{true, false, not, ◌++◌, [], ◌&&◌, ◌||◌, is_some};
 ghost use Rattle.std.specs.List.{list_any, Contains};
+ghost use Rattle.cluster_msgs.specs.Shape.{IsShape};
 ghost use Rattle.cluster_msgs.specs.declared.cores.Steal.{Steal};
 ghost use Rattle.cluster_msgs.specs.declared.cores.SchedEvent.{SchedEvent};
-ghost use Rattle.cluster_rules.specs.Sched.{Facts as SchedFacts, IsSound, keys, workers, deps, held, erred, wanted, known, need, open_key, blame, blame_step};
-ghost use Rattle.cluster_rules.specs.Choice.{IsLeastOf};
+ghost use Rattle.cluster_rules.specs.Sched.{Facts as SchedFacts, Setting, sched_opening, IsSound, keys, workers, deps, held, erred, wanted, known, need, open_key, blame, blame_step, tasks, occupancy, bytes_held};
+ghost use Rattle.cluster_rules.specs.Choice.{IsLeastOf, is_before, least_by, better};
 ghost use Rattle.cluster_rules.specs.Policies.{candidates, place_rank, place, steal_choices, steal_rank, next_steal, next_drop, IsStealChoice, IsDropOf, level};
 ghost use Rattle.cluster_rules.specs.Frame.{IsSettling};
 ghost use Rattle.cluster_rules.specs.Order.{Ascends, IsToldBefore, task_key};
@@ -100,4 +101,22 @@ pub fn messages_stand_in_order()
     ensures lost { (f : SchedFacts) (e : SchedEvent) (w : ℕ) → Ascends (λ j k. j < k) (lost_keys (settle f (change f e)) w) }
     ensures tasks { (f : SchedFacts) (since w : ℕ) → Ascends (λ m n. task_key m.1 < task_key n.1) (task_messages f since w) }
     ensures clients { (f : SchedFacts) (e : SchedEvent) → Ascends IsToldBefore (to_clients (settle f (change f e))) }
+{}
+
+/// The opening facts are in range, and each event that is taken keeps them so.
+pub fn facts_stay_in_range()
+    ensures opening { (c : Setting) → IsShape c.shape → c.clients ≤ 16 → (1 ≤ c.saturation) × (c.saturation ≤ 1000) → IsSound (sched_opening c) }
+    ensures event { (f : SchedFacts) → IsSound f → (e : SchedEvent) → sched_takes f e ≡ true → IsSound (sched_step f e).facts }
+{}
+
+/// The member with the least rank of two lists that are joined is the lesser of theirs, the first of two equal ones.
+pub fn least_of_joined_lists()
+    ensures { (rank : ℕ → List ℕ) (xs ys : List ℕ) → least_by rank (xs ++ ys) ≡ better (λ y z. is_before (rank y) (rank z)) (least_by rank xs) (least_by rank ys) }
+{}
+
+/// The work and the bytes at a worker are bounded by the largest work and block of all keys, and fit 64 bits.
+pub fn sums_fit()
+    ensures tasks { (f : SchedFacts) (w : ℕ) → IsSound f → tasks f w ≤ 32768 }
+    ensures occupancy { (f : SchedFacts) (w : ℕ) → IsSound f → occupancy f w ≤ 2 ^ 61 }
+    ensures bytes { (f : SchedFacts) (w : ℕ) → IsSound f → bytes_held f w ≤ 2 ^ 42 }
 {}

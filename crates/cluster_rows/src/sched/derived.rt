@@ -1,14 +1,12 @@
 //! What is derived of a key, and where it is placed.
-ghost use Rattle.std.specs.Prelude.{◌≡◌, ◌∷◌, ◌++◌, [], true, false, Some, None, cond, nat_le};
-ghost use Rattle.cluster_msgs.specs.declared.messages.Down.TheVariants.{ComputeTask, FreeKeys, StealRequest, RemoveReplicas, RefreshWhoHas};
-ghost use Rattle.cluster_msgs.specs.declared.messages.Up.TheVariants.{TaskFinished, TaskErred, AddKeys, ReleaseWorkerData, MissingData, RequestRefreshWhoHas, StealResponse};
-ghost use Rattle.cluster_msgs.specs.declared.messages.ToClient.TheVariants.{KeyInMemory, LostData, ClientTaskErred};
-ghost use Rattle.cluster_msgs.specs.declared.messages.FromClient.TheVariants.{Want, Release, Missing};
-ghost use Rattle.cluster_msgs.specs.declared.cores.SchedEvent.TheVariants.{Join, Leave, FromWorker, FromClient, Balance, Evict};
+ghost use Rattle.std.specs.Prelude.{◌≡◌, ◌∷◌, [], true, false, Some, None, nat_le};
+ghost use Rattle.cluster_msgs.specs.declared.messages.Down.TheVariants.{ComputeTask};
+ghost use Rattle.cluster_msgs.specs.declared.messages.Up.TheVariants.{TaskFinished, TaskErred};
+ghost use Rattle.cluster_msgs.specs.declared.messages.FromClient.TheVariants.{Want};
+ghost use Rattle.cluster_msgs.specs.declared.cores.SchedEvent.TheVariants.{Join, FromWorker, FromClient};
 ghost use Rattle.cluster_rules.specs.Sched.{sched_opening, phase, blame, known, need};
-ghost use Rattle.cluster_rules.specs.SchedTable.{sched_takes};
 ghost use Rattle.cluster_rules.specs.SchedStep.{sched_step};
-ghost use Rattle.cluster_rows.specs.Talk.{said, after, table, facts_of};
+ghost use Rattle.cluster_rows.specs.Talk.{after, facts_of};
 ghost use Rattle.cluster_msgs.specs.declared.cores.Phase.TheVariants.{Erred, Released, Memory, Waiting, Processing, NoWorker, Queued, Forgotten};
 ghost use Rattle.cluster_rules.specs.Policies.{place};
 ghost use Rattle.cluster_rows.specs.SchedWorlds.{three_keys, chain, busy, two_inputs, apart, diamond};

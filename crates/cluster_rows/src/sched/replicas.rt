@@ -1,12 +1,8 @@
 //! What workers tell of the blocks that they hold, and what they ask.
-ghost use Rattle.std.specs.Prelude.{◌≡◌, ◌∷◌, ◌++◌, [], true, false, Some, None, cond, nat_le};
-ghost use Rattle.cluster_msgs.specs.declared.messages.Down.TheVariants.{ComputeTask, FreeKeys, StealRequest, RemoveReplicas, RefreshWhoHas};
-ghost use Rattle.cluster_msgs.specs.declared.messages.Up.TheVariants.{TaskFinished, TaskErred, AddKeys, ReleaseWorkerData, MissingData, RequestRefreshWhoHas, StealResponse};
-ghost use Rattle.cluster_msgs.specs.declared.messages.ToClient.TheVariants.{KeyInMemory, LostData, ClientTaskErred};
-ghost use Rattle.cluster_msgs.specs.declared.messages.FromClient.TheVariants.{Want, Release, Missing};
-ghost use Rattle.cluster_msgs.specs.declared.cores.SchedEvent.TheVariants.{Join, Leave, FromWorker, FromClient, Balance, Evict};
-ghost use Rattle.cluster_rules.specs.Sched.{sched_opening};
-ghost use Rattle.cluster_rules.specs.SchedTable.{sched_takes};
+ghost use Rattle.std.specs.Prelude.{◌≡◌, ◌∷◌, [], false, Some, None};
+ghost use Rattle.cluster_msgs.specs.declared.messages.Down.TheVariants.{ComputeTask, FreeKeys, RefreshWhoHas};
+ghost use Rattle.cluster_msgs.specs.declared.messages.Up.TheVariants.{AddKeys, ReleaseWorkerData, MissingData, RequestRefreshWhoHas};
+ghost use Rattle.cluster_msgs.specs.declared.cores.SchedEvent.TheVariants.{FromWorker};
 ghost use Rattle.cluster_rules.specs.SchedStep.{sched_step};
 ghost use Rattle.cluster_rows.specs.Talk.{said, after, table, facts_of};
 ghost use Rattle.cluster_rows.specs.SchedWorlds.{three_keys, both_hold, chain, busy, busy_one, busy_two, when_busy, may_when_busy};

@@ -1,16 +1,15 @@
 //! What is stolen and dropped.
-ghost use Rattle.std.specs.Prelude.{◌≡◌, ◌∷◌, ◌++◌, [], true, false, Some, None, cond, nat_le};
-ghost use Rattle.cluster_msgs.specs.declared.messages.Down.TheVariants.{ComputeTask, FreeKeys, StealRequest, RemoveReplicas, RefreshWhoHas};
-ghost use Rattle.cluster_msgs.specs.declared.messages.Up.TheVariants.{TaskFinished, TaskErred, AddKeys, ReleaseWorkerData, MissingData, RequestRefreshWhoHas, StealResponse};
-ghost use Rattle.cluster_msgs.specs.declared.messages.ToClient.TheVariants.{KeyInMemory, LostData, ClientTaskErred};
-ghost use Rattle.cluster_msgs.specs.declared.messages.FromClient.TheVariants.{Want, Release, Missing};
-ghost use Rattle.cluster_msgs.specs.declared.cores.SchedEvent.TheVariants.{Join, Leave, FromWorker, FromClient, Balance, Evict};
-ghost use Rattle.cluster_rules.specs.Sched.{sched_opening, tasks, occupancy, bytes_held};
+ghost use Rattle.std.specs.Prelude.{◌≡◌, ◌∷◌, ◌++◌, [], true, false, Some, None};
+ghost use Rattle.cluster_msgs.specs.declared.messages.Down.TheVariants.{ComputeTask, StealRequest, RemoveReplicas};
+ghost use Rattle.cluster_msgs.specs.declared.messages.Up.TheVariants.{TaskFinished, AddKeys, StealResponse};
+ghost use Rattle.cluster_msgs.specs.declared.messages.FromClient.TheVariants.{Want};
+ghost use Rattle.cluster_msgs.specs.declared.cores.SchedEvent.TheVariants.{Join, FromWorker, FromClient, Balance, Evict};
+ghost use Rattle.cluster_rules.specs.Sched.{sched_opening, tasks};
 ghost use Rattle.cluster_rules.specs.SchedTable.{sched_takes};
 ghost use Rattle.cluster_rules.specs.SchedStep.{sched_step};
 ghost use Rattle.cluster_rows.specs.Talk.{said, after, table, facts_of};
-ghost use Rattle.cluster_rules.specs.Policies.{next_steal, next_drop, level};
-ghost use Rattle.cluster_rows.specs.SchedWorlds.{three_keys, chain, busy, asked, when_asked, two_tasks, uneven, replicas, three_holders, may_when_busy};
+ghost use Rattle.cluster_rules.specs.Policies.{next_drop, level};
+ghost use Rattle.cluster_rows.specs.SchedWorlds.{three_keys, chain, asked, when_asked, two_tasks, uneven, replicas, three_holders, may_when_busy};
 
 /// A yes counts: the thief gets the key under a new attempt.
 pub fn a_victim_says_yes()

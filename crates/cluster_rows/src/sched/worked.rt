@@ -1,5 +1,5 @@
 //! Whole stories of the scheduler, and its policies on one world each.
-ghost use Rattle.std.specs.Prelude.{◌≡◌, ◌∷◌, ◌++◌, [], true, false, Some, None};
+ghost use Rattle.std.specs.Prelude.{◌≡◌, ◌∷◌, ◌++◌, [], false, Some, None};
 ghost use Rattle.cluster_msgs.specs.declared.messages.Down.TheVariants.{ComputeTask, StealRequest, FreeKeys};
 ghost use Rattle.cluster_msgs.specs.declared.messages.Up.TheVariants.{AddKeys, TaskFinished};
 ghost use Rattle.cluster_msgs.specs.declared.messages.ToClient.TheVariants.{KeyInMemory, LostData};

@@ -1,10 +1,10 @@
 //! Workers that join and leave.
-ghost use Rattle.std.specs.Prelude.{◌≡◌, ◌∷◌, ◌++◌, [], true, false, Some, None, cond, nat_le};
-ghost use Rattle.cluster_msgs.specs.declared.messages.Down.TheVariants.{ComputeTask, FreeKeys, StealRequest, RemoveReplicas, RefreshWhoHas};
-ghost use Rattle.cluster_msgs.specs.declared.messages.Up.TheVariants.{TaskFinished, TaskErred, AddKeys, ReleaseWorkerData, MissingData, RequestRefreshWhoHas, StealResponse};
-ghost use Rattle.cluster_msgs.specs.declared.messages.ToClient.TheVariants.{KeyInMemory, LostData, ClientTaskErred};
-ghost use Rattle.cluster_msgs.specs.declared.messages.FromClient.TheVariants.{Want, Release, Missing};
-ghost use Rattle.cluster_msgs.specs.declared.cores.SchedEvent.TheVariants.{Join, Leave, FromWorker, FromClient, Balance, Evict};
+ghost use Rattle.std.specs.Prelude.{◌≡◌, ◌∷◌, [], true, false, Some, None, cond, nat_le};
+ghost use Rattle.cluster_msgs.specs.declared.messages.Down.TheVariants.{ComputeTask};
+ghost use Rattle.cluster_msgs.specs.declared.messages.Up.TheVariants.{StealResponse};
+ghost use Rattle.cluster_msgs.specs.declared.messages.ToClient.TheVariants.{LostData};
+ghost use Rattle.cluster_msgs.specs.declared.messages.FromClient.TheVariants.{Want};
+ghost use Rattle.cluster_msgs.specs.declared.cores.SchedEvent.TheVariants.{Join, Leave, FromWorker, FromClient};
 ghost use Rattle.cluster_rules.specs.Sched.{sched_opening};
 ghost use Rattle.cluster_rules.specs.SchedTable.{sched_takes};
 ghost use Rattle.cluster_rules.specs.SchedStep.{sched_step};
