@@ -1,8 +1,6 @@
 -- The derived tests of messages and events: each is true exactly where the two are the same.
-use Rattle.std.proofs.Common.{◌≡◌, ℕ, Bool, true, false, List, ◌&&◌, refl, sym}
-use Rattle.std.specs.Prelude.{◌==◌}
+use Rattle.std.proofs.Common.{◌≡◌, refl}
 use Rattle.std.specs.Bool.{Decides}
-use Rattle.std.specs.Cmp.Lexicographic.{pointwise, pointwise_decides}
 use Rattle.std.proofs.lemmas.Bool.Decides.{Decides-eqb}
 use Rattle.cluster_msgs.proofs.SameMessages.{both-decides, as-decides, keys-decides}
 use Rattle.cluster_msgs.specs.declared.events.Asker.{Asker}

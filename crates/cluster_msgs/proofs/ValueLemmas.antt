@@ -3,7 +3,7 @@ use Rattle.std.proofs.Common.{◌≡◌, ℕ, zero, suc, ◌<◌, ◌≤◌, Boo
 use Rattle.std.specs.Prelude.{◌==◌, Option, Some, None, is_some, is_none, option_and_then, slice_index_or, Contains}
 use Rattle.std.specs.List.{AllByRecursion, list_any, list_all}
 use Rattle.std.proofs.lemmas.Bool.Decides.{Decides-eqb}
-use Rattle.cluster_msgs.specs.Dags.{IsEarlier, dag}
+use Rattle.cluster_msgs.specs.Dags.{IsEarlier}
 use Rattle.cluster_msgs.specs.Values.{with_first, all_of, val_step, val, is_true, cone_step, cone, faulty}
 use Rattle.cluster_msgs.proofs.Dags.{dag-step, dag-induction, all-weaker, pair-all}
 

@@ -1,5 +1,5 @@
 -- What a label says of a run, and what fits it.
-use Rattle.std.specs.Prelude.{◌≡◌, ℕ, Bool, true, List, [], Option, Some, IsTrue}
+use Rattle.std.specs.Prelude.{◌≡◌, ℕ, Bool, List, [], Option, Some, IsTrue}
 use Rattle.std.specs.List.{AllZip}
 use Rattle.cluster_msgs.specs.Shape.{Shape, deps_of}
 use Rattle.cluster_msgs.specs.Values.{val, cone, faulty}

@@ -1,9 +1,8 @@
-use Rattle.std.proofs.Common.{◌≡◌, ◌+◌, ◌<◌, ◌≤◌, ◌^◌, ◌++◌, ◌∷◌, [], ℕ, List, length, map, sym, ap, subst, ◌∙◌, refl}
+use Rattle.std.proofs.Common.{◌≡◌, ◌+◌, ◌<◌, ◌≤◌, ◌^◌, ◌++◌, ◌∷◌, [], ℕ, List, length, map, sym, ap, ◌∙◌}
 use Rattle.std.proofs.lemmas.List.{map_push}
 use Rattle.std.specs.List.{AllByRecursion}
 use Rattle.std.specs.List.Sorted.{IsStrictlyIncreasing}
 use Rattle.cluster_msgs.specs.Shape.{Shape, IsShape, pushed, edge_count, key_count}
-use Rattle.cluster_msgs.specs.Stored.{IsStored}
 use Rattle.cluster_msgs.specs.declared.shape.Row.{Row}
 use Rattle.cluster_msgs.proofs.ShapeLemmas.{IsShape-pushed, total_length-append}
 use Rattle.cluster_msgs.proofs.shape.GraphShape.push.Goals as goal
