@@ -1,17 +1,15 @@
 -- The scheduler's errors are of faulty keys, and so is each failure that it tells a client. A client's steps keep what is true of it.
-use Rattle.std.proofs.Common.{◌≡◌, ℕ, zero, suc, ◌+◌, ◌<◌, ◌≤◌, Bool, true, false, not, ◌&&◌, ◌||◌, List, [], ◌∷◌, ◌++◌, Option, Some, None, refl, sym, ap, ◌∙◌, subst, arith, cond, is_some, is_none, filter, map, find, fold}
+use Rattle.std.proofs.Common.{◌≡◌, ℕ, zero, suc, ◌+◌, Bool, true, false, not, ◌&&◌, ◌||◌, List, [], ◌∷◌, Option, Some, None, refl, sym, ◌∙◌, subst, cond, filter, find, fold}
 use Rattle.std.specs.Prelude.{◌==◌, nat_le, option_map, filter_map, flat_map}
-use Rattle.std.specs.List.{list_any, list_all, cons_option, AllByRecursion}
-use Rattle.std.proofs.lemmas.Bool.{true≢false, false≢true, eqb-true, eq-eqb, and_parts, and_from}
+use Rattle.std.specs.List.{list_any, cons_option, AllByRecursion}
+use Rattle.std.proofs.lemmas.Bool.{false≢true, and_parts}
 use Rattle.cluster_msgs.specs.Dags.{IsEarlier}
 use Rattle.cluster_msgs.specs.Values.{cone}
 use Rattle.cluster_msgs.proofs.ValueLemmas.{cone-itself, cone-above}
-use Rattle.cluster_msgs.specs.Shape.{Shape, IsShape, deps_of}
-use Rattle.cluster_msgs.specs.declared.messages.Up.{Up}
+use Rattle.cluster_msgs.specs.Shape.{IsShape, deps_of}
 use Rattle.cluster_msgs.specs.declared.messages.Up.TheVariants.{TaskFinished, TaskErred, AddKeys, ReleaseWorkerData, MissingData, RequestRefreshWhoHas, StealResponse}
 use Rattle.cluster_msgs.specs.declared.messages.ToClient.{ToClient}
 use Rattle.cluster_msgs.specs.declared.messages.ToClient.TheVariants.{KeyInMemory, LostData, ClientTaskErred}
-use Rattle.cluster_msgs.specs.declared.messages.FromClient.{FromClient as FromClientMessage}
 use Rattle.cluster_msgs.specs.declared.messages.FromClient.TheVariants.{Want as WantMessage, Release as ReleaseMessage, Missing as MissingMessage}
 use Rattle.cluster_msgs.specs.declared.cores.Steal.{Steal}
 use Rattle.cluster_msgs.specs.declared.cores.SchedEvent.{SchedEvent}
@@ -20,18 +18,17 @@ use Rattle.cluster_msgs.specs.declared.cores.ClientEvent.{ClientEvent}
 use Rattle.cluster_msgs.specs.declared.cores.ClientEvent.TheVariants.{Want, Release, FromScheduler, Ask as ClientAsk, Gathered as ClientGathered, GatherFailed as ClientGatherFailed}
 use Rattle.cluster_rules.specs.Functions.{put, put_pair, from_one}
 use Rattle.cluster_rules.specs.Derived.{below, is_in}
-use Rattle.cluster_rules.specs.Sched.{Setting, Facts, keys, deps, connected, holds, held, erred, is_on, holders, blame, blame_in, blame_step, blame_from}
+use Rattle.cluster_rules.specs.Sched.{Setting, Facts, keys, deps, connected, holds, held, erred, is_on, holders, blame, blame_in, blame_from}
 use Rattle.cluster_rules.specs.Policies.{next_steal, next_drop}
-use Rattle.cluster_rules.specs.SchedTable.{Changed, plain, joined, left, is_this, finished, failed, add_key, add_keys, released, is_copy, lost_copy, is_asked_back, stolen_by, stolen_to, refused, answered, wants_more, wants_less, balanced, evicted, nothing_freed, change_up, change_client, change}
+use Rattle.cluster_rules.specs.SchedTable.{Changed, plain, joined, left, is_this, finished, failed, add_key, add_keys, released, is_copy, lost_copy, is_asked_back, stolen_to, refused, answered, wants_more, wants_less, balanced, evicted, nothing_freed, change}
 use Rattle.cluster_rules.specs.SchedStep.{Stages, settle, was_held, was_erred, client_message, to_clients, tells_held, reply_message, client_messages, posted, finish_step, sched_step}
 use Rattle.cluster_rules.specs.Worker.{Ask, ask_to, without_ask}
 use Rattle.cluster_rules.specs.WorkerStep.{keys_of}
 use Rattle.cluster_rules.specs.Client.{ClientFacts, client_wants, client_releases, hears, hear, client_ask, client_gets, client_misses, client_answered, client_gathered_by, client_gathered, keeps_still, client_step}
 use Rattle.cluster_rules.specs.World.{Job}
 use Rattle.cluster_rules.specs.WorldStep.{letters}
-use Rattle.cluster_rules.specs.Frame.{IsSettling}
 use Rattle.cluster_rules.proofs.SchedFrame.{step_settles}
-use Rattle.cluster_rules.specs.Truth.{has_inputs, faulty_key, IsBlame, AreValued, IsTrueUp, IsTrueNews, IsTrueSched, IsTrueClient, IsTrueClientEvent, IsTrueSchedEvent}
+use Rattle.cluster_rules.specs.Truth.{faulty_key, IsBlame, AreValued, IsTrueNews, IsTrueSched, IsTrueClient, IsTrueClientEvent, IsTrueSchedEvent}
 use Rattle.cluster_rules.proofs.WorkerLemmas.{at_one}
 use Rattle.cluster_rules.proofs.TruthWorker.{all_append, kept_valued}
 

@@ -1,21 +1,20 @@
 -- A worker's events keep what is true of its blocks, and its errors are of faulty keys.
-use Rattle.std.proofs.Common.{◌≡◌, ℕ, zero, suc, ◌+◌, ◌<◌, ◌≤◌, Bool, true, false, not, ◌&&◌, ◌||◌, List, [], ◌∷◌, ◌++◌, Option, Some, None, refl, sym, ap, ◌∙◌, subst, arith, cond, is_some, filter, map, fold}
+use Rattle.std.proofs.Common.{◌≡◌, ℕ, Bool, true, false, not, ◌&&◌, ◌||◌, List, [], ◌∷◌, ◌++◌, Option, Some, None, refl, sym, ap, ◌∙◌, subst, cond, is_some, filter, map, fold}
 use Rattle.std.specs.Prelude.{◌==◌}
-use Rattle.std.specs.List.{list_any, list_all, AllByRecursion}
-use Rattle.std.proofs.lemmas.Bool.{true≢false, false≢true, eqb-true, eq-eqb, and_parts, and_from}
+use Rattle.std.specs.List.{list_all, AllByRecursion}
+use Rattle.std.proofs.lemmas.Bool.{false≢true, eqb-true, and_parts, and_from}
 use Rattle.cluster_msgs.specs.Shape.{Shape, deps_of}
 use Rattle.cluster_msgs.specs.declared.messages.Down.{Down}
 use Rattle.cluster_msgs.specs.declared.messages.Down.TheVariants.{ComputeTask, FreeKeys, StealRequest, RemoveReplicas, AcquireReplicas, RefreshWhoHas}
-use Rattle.cluster_msgs.specs.declared.messages.Up.{Up}
-use Rattle.cluster_msgs.specs.declared.messages.Up.TheVariants.{TaskFinished, TaskErred, AddKeys, ReleaseWorkerData, MissingData, RequestRefreshWhoHas, StealResponse}
+use Rattle.cluster_msgs.specs.declared.messages.Up.TheVariants.{TaskFinished, MissingData, RequestRefreshWhoHas, StealResponse}
 use Rattle.cluster_msgs.specs.declared.cores.Instruction.{Instruction}
 use Rattle.cluster_msgs.specs.declared.cores.Instruction.TheVariants.{Execute, Gather, Keep, Drop, Send}
 use Rattle.cluster_msgs.specs.declared.cores.WorkerEvent.{WorkerEvent}
 use Rattle.cluster_msgs.specs.declared.cores.WorkerEvent.TheVariants.{Down as Told, Start, Done, Ask as AskPeer, Gathered, GatherFailed, DataLost}
 use Rattle.cluster_rules.specs.Functions.{put}
 use Rattle.cluster_rules.specs.Derived.{is_in}
-use Rattle.cluster_rules.specs.Worker.{Ask, WorkerFacts, awaited, is_wanted, is_fed, wstate, is_ready_state, is_missing_state, would_start, fetchable, ask_items, ask_to, without_ask}
-use Rattle.cluster_rules.specs.WorkerStep.{WorkerStep, quiet, after_out, each_key, taken, set_holders, into_mem, give_up, given, free_key, yields, asked_back, remove_replica, add_message, and_then, remove_replicas, acquire, refresh, take_down, start, Arrivals, arrive_as, arrive, counted, arrived, stopped, erred_as, done, keys_of, ask_with, ask_peer, lose_holders, report_missing, not_found, answered_ask, gathered_by, gathered, lose_data, worker_row, unasked_keys, ask_holders, seek_missing, worker_step, is_key, worker_takes}
+use Rattle.cluster_rules.specs.Worker.{Ask, WorkerFacts, awaited, is_wanted, is_fed, wstate, is_ready_state, is_missing_state, would_start, ask_to, without_ask}
+use Rattle.cluster_rules.specs.WorkerStep.{WorkerStep, quiet, after_out, each_key, taken, set_holders, into_mem, give_up, given, free_key, yields, asked_back, remove_replica, add_message, remove_replicas, acquire, refresh, take_down, start, Arrivals, arrive_as, arrive, arrived, stopped, erred_as, done, keys_of, ask_peer, lose_holders, not_found, answered_ask, gathered_by, gathered, worker_row, unasked_keys, worker_step, is_key, worker_takes}
 use Rattle.cluster_rules.specs.World.{Job}
 use Rattle.cluster_rules.specs.WorldStep.{sends}
 use Rattle.cluster_rules.specs.Truth.{has_inputs, faulty_key, IsTrueKey, IsTrueWorker, AreValued, IsTrueEvent, IsTrueUp}
@@ -71,7 +70,7 @@ module _ (j : Job) where
   true_given w q a who h = pick (w.mem q)
     where
       pick : (b : Bool) → IsTrueStep j (cond b (record { facts = record w { failed = put w.failed q false }; out = Send (TaskFinished w.seen q a) ∷ [] })
-        (quiet (fold set_holders (record w { failed = put w.failed q false; mine = put w.mine q (Some a) }) who)))
+          (quiet (fold set_holders (record w { failed = put w.failed q false; mine = put w.mine q (Some a) }) who)))
       pick true = record { facts = record { shape = h.shape; at = h.at }; out = (tt, tt) }
       pick false = quietly _ (true_fold set_holders true_holders _ who (record { shape = h.shape; at = h.at }))
 

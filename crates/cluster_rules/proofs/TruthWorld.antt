@@ -1,8 +1,7 @@
 -- Every legal event of the world keeps what is true of blocks and failures.
-use Rattle.std.proofs.Common.{◌≡◌, ℕ, zero, suc, ◌+◌, Bool, true, false, not, ◌&&◌, ◌||◌, List, [], ◌∷◌, ◌++◌, Option, Some, None, refl, sym, ap, ◌∙◌, subst, cond, is_some, filter, find}
-use Rattle.std.specs.Prelude.{◌==◌}
+use Rattle.std.proofs.Common.{◌≡◌, ℕ, ◌+◌, Bool, true, false, List, [], ◌∷◌, ◌++◌, Option, Some, None, refl, ap, subst, cond, filter, find}
 use Rattle.std.specs.List.{AllByRecursion}
-use Rattle.std.proofs.lemmas.Bool.{true≢false, false≢true, and_parts}
+use Rattle.std.proofs.lemmas.Bool.{false≢true, and_parts}
 use Rattle.cluster_msgs.specs.Shape.{IsShape}
 use Rattle.cluster_msgs.specs.declared.messages.Down.{Down}
 use Rattle.cluster_msgs.specs.declared.messages.Up.{Up}
@@ -21,14 +20,14 @@ use Rattle.cluster_msgs.specs.declared.events.Event.TheVariants.{Want, Release, 
 use Rattle.cluster_rules.specs.Functions.{put}
 use Rattle.cluster_rules.specs.Sched.{Setting}
 use Rattle.cluster_rules.specs.SchedStep.{sched_step}
-use Rattle.cluster_rules.specs.Worker.{Ask, new_worker, has_any}
-use Rattle.cluster_rules.specs.WorkerStep.{WorkerStep, worker_step, worker_takes}
+use Rattle.cluster_rules.specs.Worker.{Ask, new_worker}
+use Rattle.cluster_rules.specs.WorkerStep.{worker_step}
 use Rattle.cluster_rules.specs.Client.{client_step}
-use Rattle.cluster_rules.specs.World.{Job, World, Parcel, opening, is_connected, open_ask, parcel_before, with_parcel, is_parcel, parcel_of, without_parcel}
-use Rattle.cluster_rules.specs.WorldStep.{letters, scheduled, sends, worked, client_worked, at_scheduler, at_worker, at_client, new_at, died, cut_off, take_down_first, take_up, take_up_first, take_to_client, take_from_client, ask_by, gathered_at, failed_at, serve, take_answer, fail_ask, spill, world_step}
+use Rattle.cluster_rules.specs.World.{Job, World, Parcel, opening, is_connected, open_ask, parcel_before, with_parcel, is_parcel, parcel_of}
+use Rattle.cluster_rules.specs.WorldStep.{scheduled, sends, worked, client_worked, at_scheduler, at_worker, at_client, new_at, died, cut_off, take_down_first, take_up, take_up_first, take_to_client, take_from_client, ask_by, gathered_at, failed_at, serve, take_answer, fail_ask, world_step}
 use Rattle.cluster_rules.specs.Enabled.{enabled}
 use Rattle.cluster_rules.specs.Runs.{LegalFrom, run_from, legal, reached}
-use Rattle.cluster_rules.specs.Truth.{IsTrueKey, IsTrueWorker, AreValued, IsTrueEvent, IsTrueUp, IsTrueNews, IsTrueSched, IsTrueClient, IsTrueWorld, IsTrueClientEvent, IsTrueSchedEvent, IsBlame}
+use Rattle.cluster_rules.specs.Truth.{IsTrueWorker, AreValued, IsTrueEvent, IsTrueUp, IsTrueNews, IsTrueClient, IsTrueWorld, IsTrueClientEvent, IsTrueSchedEvent}
 use Rattle.cluster_rules.proofs.WorkerLemmas.{at_one}
 use Rattle.cluster_rules.proofs.TruthWorker.{all_append, DoneRuns, IsTrueStep, true_step, sends_true}
 use Rattle.cluster_rules.proofs.TruthSched.{true_sched_step, true_news, letters_true, true_client_step}
@@ -117,7 +116,11 @@ module _ (j : Job) (g : IsShape j.setting.shape) where
   true_serve : (w : World) (p : ℕ) (o : Option Parcel) → IsTrueWorld j w → IsTrueWorld j (serve w p o)
   true_serve w p None h = h
   true_serve w p (Some q) h = record {
-    sched = h.sched; workers = h.workers; clients = h.clients; up = h.up; to_client = h.to_client;
+    sched = h.sched;
+    workers = h.workers;
+    clients = h.clients;
+    up = h.up;
+    to_client = h.to_client;
     answers = valued_with _ w.answers (valued_here (w.workers p).mem j.zero (λ k e. ((h.workers p).at k).valued e) q.keys) h.answers;
   }
 
@@ -146,7 +149,11 @@ module _ (j : Job) (g : IsShape j.setting.shape) where
   true_take_answer : (w : World) (a : Asker) (p n : ℕ) (o : Option Parcel) → parcel_of a p n w.answers ≡ o → IsTrueWorld j w → IsTrueWorld j (take_answer w o)
   true_take_answer w a p n None e h = h
   true_take_answer w a p n (Some q) e h = true_gathered_at _ q.asker q.peer q.ask q.keys (valued_found (is_parcel a p n) w.answers q e h.answers) (record {
-    sched = h.sched; workers = h.workers; clients = h.clients; up = h.up; to_client = h.to_client;
+    sched = h.sched;
+    workers = h.workers;
+    clients = h.clients;
+    up = h.up;
+    to_client = h.to_client;
     answers = valued_filter _ w.answers h.answers;
   })
 
@@ -179,7 +186,11 @@ module _ (j : Job) (g : IsShape j.setting.shape) where
   true_take_to_client : (w : World) (c : ℕ) (ms : List ToClient) → w.to_client c ≡ ms → IsTrueWorld j w → IsTrueWorld j (take_to_client w c ms)
   true_take_to_client w c [] e h = h
   true_take_to_client w c (m ∷ ms) e h = true_at_client (record w { to_client = put w.to_client c ms }) c (FromScheduler m) all.0 (record {
-    sched = h.sched; workers = h.workers; clients = h.clients; up = h.up; answers = h.answers;
+    sched = h.sched;
+    workers = h.workers;
+    clients = h.clients;
+    up = h.up;
+    answers = h.answers;
     to_client = at_one c (λ b x. AllByRecursion (IsTrueNews j) (cond b ms (w.to_client x))) all.1 h.to_client;
   })
     where
@@ -193,21 +204,33 @@ module _ (j : Job) (g : IsShape j.setting.shape) where
   -- the other events
   true_new_at : (w : World) (i threads : ℕ) → IsTrueWorld j w → IsTrueWorld j (new_at w i threads)
   true_new_at w i threads h = record {
-    sched = h.sched; clients = h.clients; up = h.up; to_client = h.to_client; answers = h.answers;
+    sched = h.sched;
+    clients = h.clients;
+    up = h.up;
+    to_client = h.to_client;
+    answers = h.answers;
     workers = at_one i (λ b x. IsTrueWorker j (cond b (new_worker w.sched.setting.shape i threads) (w.workers x)))
-      (record { shape = ap (λ (s : Setting). s.shape) h.sched.setting; at = λ k. record { valued = λ e. absurd (false≢true e); fed = λ e. absurd (false≢true e) } }) h.workers;
+        (record { shape = ap (λ (s : Setting). s.shape) h.sched.setting; at = λ k. record { valued = λ e. absurd (false≢true e); fed = λ e. absurd (false≢true e) } }) h.workers;
   }
 
   true_died : (w : World) (i : ℕ) → IsTrueWorld j w → IsTrueWorld j (died w i)
   true_died w i h = record {
-    sched = h.sched; clients = h.clients; up = h.up; to_client = h.to_client; answers = h.answers;
+    sched = h.sched;
+    clients = h.clients;
+    up = h.up;
+    to_client = h.to_client;
+    answers = h.answers;
     workers = at_one i (λ b x. IsTrueWorker j (cond b (record (w.workers i) { mem = λ k. false }) (w.workers x)))
-      (record { shape = (h.workers i).shape; at = λ k. record { valued = λ e. absurd (false≢true e); fed = ((h.workers i).at k).fed } }) h.workers;
+        (record { shape = (h.workers i).shape; at = λ k. record { valued = λ e. absurd (false≢true e); fed = ((h.workers i).at k).fed } }) h.workers;
   }
 
   true_cut_off : (w : World) (i : ℕ) → IsTrueWorld j w → IsTrueWorld j (cut_off w i)
   true_cut_off w i h = record {
-    sched = h.sched; workers = h.workers; clients = h.clients; to_client = h.to_client; answers = h.answers;
+    sched = h.sched;
+    workers = h.workers;
+    clients = h.clients;
+    to_client = h.to_client;
+    answers = h.answers;
     up = at_one i (λ b x. AllByRecursion (IsTrueUp j) (cond b [] (w.up x))) tt h.up;
   }
 

@@ -1,7 +1,7 @@
 -- What is true of blocks and failures, at each worker, on each link and at each client.
-use Rattle.std.specs.Prelude.{◌≡◌, ℕ, Bool, true, false, not, ◌&&◌, List, [], ◌∷◌, Option, Some}
+use Rattle.std.specs.Prelude.{◌≡◌, ℕ, Bool, true, false, not, ◌&&◌, List, Some}
 use Rattle.std.specs.List.{list_all, AllByRecursion}
-use Rattle.cluster_msgs.specs.Shape.{Shape, deps_of}
+use Rattle.cluster_msgs.specs.Shape.{deps_of}
 use Rattle.cluster_msgs.specs.Values.{cone}
 use Rattle.cluster_msgs.specs.declared.messages.Up.{Up}
 use Rattle.cluster_msgs.specs.declared.messages.Up.TheVariants.{TaskFinished, TaskErred, AddKeys, ReleaseWorkerData, MissingData, RequestRefreshWhoHas, StealResponse}
