@@ -8,9 +8,11 @@ pub mod Members
 pub mod PolicyLemmas
 pub mod SchedFrame
 pub mod OrderLemmas
+pub mod TruthWorker
+pub mod TruthSched
+pub mod TruthWorld
 pub mod SoundLemmas
 pub mod SoundStep
 pub mod NothingLemmas
 pub mod ChoiceAppend
 pub mod TotalLemmas
-pub mod TruthWorker

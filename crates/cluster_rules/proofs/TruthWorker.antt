@@ -1,21 +1,20 @@
 -- A worker's events keep what is true of its blocks, and its errors are of faulty keys.
-use Rattle.std.proofs.Common.{◌≡◌, ℕ, zero, suc, ◌+◌, ◌<◌, ◌≤◌, Bool, true, false, not, ◌&&◌, ◌||◌, List, [], ◌∷◌, ◌++◌, Option, Some, None, refl, sym, ap, ◌∙◌, subst, arith, cond, is_some, filter, map, fold}
+use Rattle.std.proofs.Common.{◌≡◌, ℕ, Bool, true, false, not, ◌&&◌, ◌||◌, List, [], ◌∷◌, ◌++◌, Option, Some, None, refl, sym, ap, ◌∙◌, subst, cond, is_some, filter, map, fold}
 use Rattle.std.specs.Prelude.{◌==◌}
-use Rattle.std.specs.List.{list_any, list_all, AllByRecursion}
-use Rattle.std.proofs.lemmas.Bool.{true≢false, false≢true, eqb-true, eq-eqb, and_parts, and_from}
+use Rattle.std.specs.List.{list_all, AllByRecursion}
+use Rattle.std.proofs.lemmas.Bool.{false≢true, eqb-true, and_parts, and_from}
 use Rattle.cluster_msgs.specs.Shape.{Shape, deps_of}
 use Rattle.cluster_msgs.specs.declared.messages.Down.{Down}
 use Rattle.cluster_msgs.specs.declared.messages.Down.TheVariants.{ComputeTask, FreeKeys, StealRequest, RemoveReplicas, AcquireReplicas, RefreshWhoHas}
-use Rattle.cluster_msgs.specs.declared.messages.Up.{Up}
-use Rattle.cluster_msgs.specs.declared.messages.Up.TheVariants.{TaskFinished, TaskErred, AddKeys, ReleaseWorkerData, MissingData, RequestRefreshWhoHas, StealResponse}
+use Rattle.cluster_msgs.specs.declared.messages.Up.TheVariants.{TaskFinished, MissingData, RequestRefreshWhoHas, StealResponse}
 use Rattle.cluster_msgs.specs.declared.cores.Instruction.{Instruction}
 use Rattle.cluster_msgs.specs.declared.cores.Instruction.TheVariants.{Execute, Gather, Keep, Drop, Send}
 use Rattle.cluster_msgs.specs.declared.cores.WorkerEvent.{WorkerEvent}
 use Rattle.cluster_msgs.specs.declared.cores.WorkerEvent.TheVariants.{Down as Told, Start, Done, Ask as AskPeer, Gathered, GatherFailed, DataLost}
 use Rattle.cluster_rules.specs.Functions.{put}
 use Rattle.cluster_rules.specs.Derived.{is_in}
-use Rattle.cluster_rules.specs.Worker.{worker_keys, Ask, WorkerFacts, awaited, is_wanted, is_fed, wstate, is_ready_state, is_missing_state, would_start, fetchable, ask_items, ask_to, without_ask}
-use Rattle.cluster_rules.specs.WorkerStep.{WorkerStep, quiet, after_out, each_key, taken, set_holders, into_mem, give_up, given, free_key, yields, asked_back, remove_replica, add_message, and_then, remove_replicas, acquire, refresh, take_down, start, Arrivals, arrive_as, arrive, counted, arrived, stopped, erred_as, done, keys_of, ask_with, ask_peer, lose_holders, report_missing, not_found, answered_ask, gathered_by, gathered, lose_data, worker_row, unasked_keys, ask_holders, seek_missing, worker_step, is_key, worker_takes}
+use Rattle.cluster_rules.specs.Worker.{worker_keys, Ask, WorkerFacts, awaited, is_wanted, is_fed, wstate, is_ready_state, is_missing_state, would_start, ask_to, without_ask}
+use Rattle.cluster_rules.specs.WorkerStep.{WorkerStep, quiet, after_out, each_key, taken, set_holders, into_mem, give_up, given, free_key, yields, asked_back, remove_replica, add_message, remove_replicas, acquire, refresh, take_down, start, Arrivals, arrive_as, arrive, arrived, stopped, erred_as, done, keys_of, ask_peer, lose_holders, not_found, answered_ask, gathered_by, gathered, worker_row, unasked_keys, worker_step, is_key, worker_takes}
 use Rattle.cluster_rules.specs.World.{Job}
 use Rattle.cluster_rules.specs.WorldStep.{sends}
 use Rattle.cluster_rules.specs.Truth.{has_inputs, faulty_key, IsTrueKey, IsTrueWorker, AreValued, IsTrueEvent, IsTrueUp}
@@ -71,7 +70,7 @@ module _ (j : Job) where
   true_given w q a who h = pick (w.mem q)
     where
       pick : (b : Bool) → IsTrueStep j (cond b (record { facts = record w { failed = put w.failed q false }; out = Send (TaskFinished w.seen q a) ∷ [] })
-        (quiet (fold set_holders (record w { failed = put w.failed q false; mine = put w.mine q (Some a) }) who)))
+          (quiet (fold set_holders (record w { failed = put w.failed q false; mine = put w.mine q (Some a) }) who)))
       pick true = record { facts = record { shape = h.shape; at = h.at }; out = (tt, tt) }
       pick false = quietly _ (true_fold set_holders true_holders _ who (record { shape = h.shape; at = h.at }))
 
@@ -180,7 +179,7 @@ module _ (j : Job) where
       pick true i r e = subst (λ k. j.zero k ≡ false) (eqb-true x q i) v.0
       pick false i r e = r e
 
-  kept_valued : (found : List ℕ) → AreValued j found → (is : List (ℕ × ℕ)) → AreValued j (keys_of (filter (λ i. is_in i.0 found) is))
+  pub kept_valued : (found : List ℕ) → AreValued j found → (is : List (ℕ × ℕ)) → AreValued j (keys_of (filter (λ i. is_in i.0 found) is))
   kept_valued found v [] = tt
   kept_valued found v (i ∷ is) = pick (is_in i.0 found) refl (kept_valued found v is)
     where
@@ -207,11 +206,19 @@ module _ (j : Job) where
       pick None = quietly w h
       pick (Some a) = same a (a.number == n)
 
-  true_row : (w : WorkerFacts) (e : WorkerEvent) → worker_takes w e ≡ true → IsTrueEvent j e → IsTrueWorker j w → IsTrueStep j (worker_row w e)
-  unfolding worker_row worker_takes ask_peer
+  -- what is done runs
+  abbrev pub DoneRuns : WorkerFacts → WorkerEvent → Type 0
+  DoneRuns w e = (k : ℕ) (z : Bool) → e ≡ Done k z → w.running k ≡ true
+
+  pub taken_runs : (w : WorkerFacts) (e : WorkerEvent) → worker_takes w e ≡ true → DoneRuns w e
+  unfolding worker_takes
+  taken_runs w e t k z s = (and_parts (is_key w k) (w.running k) (subst (λ x. worker_takes w x ≡ true) s t)).1
+
+  true_row : (w : WorkerFacts) (e : WorkerEvent) → DoneRuns w e → IsTrueEvent j e → IsTrueWorker j w → IsTrueStep j (worker_row w e)
+  unfolding worker_row ask_peer
   true_row w (Told m) t f h = true_down (taken w) m (record { shape = h.shape; at = h.at })
   true_row w Start t f h = true_start w (would_start w) (start_is_ready w) h
-  true_row w (Done k z) t f h = true_done w k z f (and_parts (is_key w k) (w.running k) t).1 h
+  true_row w (Done k z) t f h = true_done w k z f (t k z refl) h
   true_row w (AskPeer p) t f h = record { facts = record { shape = h.shape; at = h.at }; out = (tt, tt) }
   true_row w (Gathered p n found) t f h = true_gathered w p n found f h
   true_row w (GatherFailed p n) t f h = true_gathered w p n [] tt h
@@ -221,7 +228,7 @@ module _ (j : Job) where
   requests_true seen [] = tt
   requests_true seen (k ∷ ks) = (tt, requests_true seen ks)
 
-  pub true_step : (w : WorkerFacts) (e : WorkerEvent) → worker_takes w e ≡ true → IsTrueEvent j e → IsTrueWorker j w → IsTrueStep j (worker_step w e)
+  pub true_step : (w : WorkerFacts) (e : WorkerEvent) → DoneRuns w e → IsTrueEvent j e → IsTrueWorker j w → IsTrueStep j (worker_step w e)
   unfolding worker_step
   true_step w e t f h =
       let r = true_row w e t f h in

@@ -1,7 +1,7 @@
 -- What is true of blocks and failures, at each worker, on each link and at each client.
-use Rattle.std.specs.Prelude.{◌≡◌, ℕ, Bool, true, false, not, ◌&&◌, List, [], ◌∷◌, Option, Some}
+use Rattle.std.specs.Prelude.{◌≡◌, ℕ, Bool, true, false, not, ◌&&◌, List, Some}
 use Rattle.std.specs.List.{list_all, AllByRecursion}
-use Rattle.cluster_msgs.specs.Shape.{Shape, deps_of}
+use Rattle.cluster_msgs.specs.Shape.{deps_of}
 use Rattle.cluster_msgs.specs.Values.{cone}
 use Rattle.cluster_msgs.specs.declared.messages.Up.{Up}
 use Rattle.cluster_msgs.specs.declared.messages.Up.TheVariants.{TaskFinished, TaskErred, AddKeys, ReleaseWorkerData, MissingData, RequestRefreshWhoHas, StealResponse}
@@ -9,6 +9,10 @@ use Rattle.cluster_msgs.specs.declared.messages.ToClient.{ToClient}
 use Rattle.cluster_msgs.specs.declared.messages.ToClient.TheVariants.{KeyInMemory, LostData, ClientTaskErred}
 use Rattle.cluster_msgs.specs.declared.cores.WorkerEvent.{WorkerEvent}
 use Rattle.cluster_msgs.specs.declared.cores.WorkerEvent.TheVariants.{Down as Told, Start, Done, Ask as AskPeer, Gathered, GatherFailed, DataLost}
+use Rattle.cluster_msgs.specs.declared.cores.ClientEvent.{ClientEvent}
+use Rattle.cluster_msgs.specs.declared.cores.ClientEvent.TheVariants.{Want, Release, FromScheduler, Ask as ClientAsk, Gathered as ClientGathered, GatherFailed as ClientGatherFailed}
+use Rattle.cluster_msgs.specs.declared.cores.SchedEvent.{SchedEvent}
+use Rattle.cluster_msgs.specs.declared.cores.SchedEvent.TheVariants.{Join, Leave, FromWorker, FromClient, Balance, Evict}
 use Rattle.cluster_rules.specs.Sched.{Facts}
 use Rattle.cluster_rules.specs.Worker.{WorkerFacts}
 use Rattle.cluster_rules.specs.Client.{ClientFacts}
@@ -81,3 +85,21 @@ pub record IsTrueWorld (j : Job) (w : World) : Type 0 where
   pub up : (i : ℕ) → AllByRecursion (IsTrueUp j) (w.up i)
   pub to_client : (c : ℕ) → AllByRecursion (IsTrueNews j) (w.to_client c)
   pub answers : AllByRecursion (λ (q : Parcel). AreValued j q.keys) w.answers
+
+-- an event of a client that goes by the job
+abbrev pub IsTrueClientEvent : Job → ClientEvent → Type 0
+IsTrueClientEvent j (FromScheduler m) = IsTrueNews j m
+IsTrueClientEvent j (ClientGathered p n found) = AreValued j found
+IsTrueClientEvent j (Want ks) = Unit {0}
+IsTrueClientEvent j (Release ks) = Unit {0}
+IsTrueClientEvent j (ClientAsk p) = Unit {0}
+IsTrueClientEvent j (ClientGatherFailed p n) = Unit {0}
+
+-- an event of the scheduler that goes by the job
+abbrev pub IsTrueSchedEvent : Job → SchedEvent → Type 0
+IsTrueSchedEvent j (FromWorker w up) = IsTrueUp j up
+IsTrueSchedEvent j (Join threads) = Unit {0}
+IsTrueSchedEvent j (Leave w) = Unit {0}
+IsTrueSchedEvent j (FromClient c msg) = Unit {0}
+IsTrueSchedEvent j Balance = Unit {0}
+IsTrueSchedEvent j Evict = Unit {0}

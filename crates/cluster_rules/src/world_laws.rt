@@ -14,9 +14,11 @@ ghost use Rattle.cluster_rules.specs.Functions.{put};
 ghost use Rattle.cluster_rules.specs.Worker.{has_any, would_start, WorkerFacts};
 ghost use Rattle.cluster_rules.specs.World.{Job, World, is_connected, is_client, is_asker, open_ask, parcel_of};
 ghost use Rattle.std.specs.List.{AllByRecursion};
+ghost use Rattle.cluster_msgs.specs.Shape.{IsShape};
+ghost use Rattle.cluster_rules.specs.Runs.{legal, reached};
 ghost use Rattle.cluster_msgs.specs.declared.cores.WorkerEvent.{WorkerEvent};
 ghost use Rattle.cluster_rules.specs.WorkerStep.{worker_step, worker_takes};
-ghost use Rattle.cluster_rules.specs.Truth.{IsTrueWorker, IsTrueEvent, IsTrueUp};
+ghost use Rattle.cluster_rules.specs.Truth.{IsTrueWorker, IsTrueEvent, IsTrueUp, IsTrueWorld, IsBlame};
 ghost use Rattle.cluster_rules.specs.WorldStep.{world_step, sends};
 ghost use Rattle.cluster_rules.specs.Enabled.{enabled, progress, are_named, may_ask};
 ghost use Rattle.cluster_rules.specs.WorldFrame.{OnlyScheduler, OnlyWorker, OnlyClient, NothingMoves};
@@ -92,4 +94,14 @@ pub fn where_events_are_enabled()
 pub fn a_workers_blocks_are_true()
     ensures { (j : Job) (w : WorkerFacts) (e : WorkerEvent) → worker_takes w e ≡ true → IsTrueEvent j e → IsTrueWorker j w →
         IsTrueWorker j (worker_step w e).facts × AllByRecursion (IsTrueUp j) (sends (worker_step w e).out) }
+{}
+
+/// After each legal list of events of a job whose graph is one, each block that a client got is of a key with a value,
+/// and each failure that it was told is blamed on a faulty key in the cone of its key.
+pub fn values_of_legal_lists()
+    ensures world { (j : Job) → IsShape j.setting.shape → (es : List Event) → legal j es → IsTrueWorld j (reached j es) }
+    ensures got { (j : Job) → IsShape j.setting.shape → (es : List Event) → legal j es → (c k : ℕ) →
+        ((reached j es).clients c).got k ≡ true → j.zero k ≡ false }
+    ensures failed { (j : Job) → IsShape j.setting.shape → (es : List Event) → legal j es → (c k b : ℕ) →
+        ((reached j es).clients c).failed k ≡ Some b → IsBlame j k b }
 {}
