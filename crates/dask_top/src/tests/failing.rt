@@ -110,7 +110,7 @@ fn a_missing_job_or_input_is_a_read_fault(rt: HostRuntime) -> Result<(), Fail> {
     let mut empty = MemorySite::new(alloc, 4096, Vec::new(alloc))?;
     assert_eq!(rt; run(alloc, &mut empty)?, 5);
     let mut alone = MemorySite::new(alloc, 4096, Vec::new(alloc))?;
-    alone.put(alloc, "job.txt", JOB)?;
+    alone.put(alloc, "job.txt", JOB.as_bytes())?;
     assert_eq!(rt; run(alloc, &mut alone)?, 5);
     assert_eq!(rt; alone.noted(), b"dask: read fault\n".as_slice());
     assert_eq!(rt; alone.file("out.npy"), None);

@@ -1,21 +1,13 @@
 // Texts, files and words that are refused, and texts at the edge of the form that aren't.
-use super::{JOB, LINES, THREE, npy, run, site, words};
+use super::{JOB, THREE, npy, run, site, words};
 use crate::serial;
 use io_edge::{Counted, Kind, MemorySite, Refusal};
 use std::alloc::Global;
 use std::process::Abort;
 use std::test::Fail;
 
-fn text(alloc: Global, pieces: &[&str]) -> Result<Vec<u8>, Fail> {
-    let mut text = Vec::new(alloc);
-    for piece in pieces {
-        text.extend_from_slice(piece.as_bytes())?;
-    }
-    Ok(text)
-}
-
 // A run of a job of this text answers 2 and its line, and saves and prints nothing.
-fn refuses(rt: &impl Abort, alloc: Global, job: &[u8]) -> Result<(), Fail> {
+fn refuses(rt: &impl Abort, alloc: Global, job: &str) -> Result<(), Fail> {
     let mut site = site(alloc, job, &npy(alloc, THREE, &[1, 2, 3])?, Vec::new(alloc))?;
     assert_eq!(rt; run(alloc, &mut site)?, 2);
     assert_eq!(rt; site.noted(), b"dask: job 1:1: not built\n".as_slice());
@@ -24,91 +16,120 @@ fn refuses(rt: &impl Abort, alloc: Global, job: &[u8]) -> Result<(), Fail> {
     Ok(())
 }
 
+// The same of row 1's job, with the second text in place of each of the first.
+fn refuses_with(rt: &impl Abort, alloc: Global, from: &str, to: &str) -> Result<(), Fail> {
+    let job = JOB.replace(alloc, from, to)?;
+    refuses(rt, alloc, job.as_str())
+}
+
 #[test]
-fn texts_of_another_form_are_refused(rt: HostRuntime) -> Result<(), Fail> {
+fn lines_of_another_form_are_refused(rt: HostRuntime) -> Result<(), Fail> {
     let alloc = rt.alloc();
-    let texts = [
-        "",
-        "\n",
-        // No newline at the end, more after it, two spaces, a blank line, a carriage return.
-        "input a \"a.npy\" shape (3) chunks (2)\nlet b = a + 1\nsave b \"out.npy\"",
-        "input a \"a.npy\" shape (3) chunks (2)\nlet b = a + 1\nsave b \"out.npy\"\n\n",
-        "input  a \"a.npy\" shape (3) chunks (2)\nlet b = a + 1\nsave b \"out.npy\"\n",
-        "input a \"a.npy\" shape (3) chunks (2)\n\nlet b = a + 1\nsave b \"out.npy\"\n",
-        "input a \"a.npy\" shape (3) chunks (2)\r\nlet b = a + 1\r\nsave b \"out.npy\"\r\n",
-        // Names: reserved, with a digit first, empty, equal, another one than was given.
-        "input let \"a.npy\" shape (3) chunks (2)\nlet b = let + 1\nsave b \"out.npy\"\n",
-        "input a \"a.npy\" shape (3) chunks (2)\nlet ramp = a + 1\nsave ramp \"out.npy\"\n",
-        "input 1a \"a.npy\" shape (3) chunks (2)\nlet b = 1a + 1\nsave b \"out.npy\"\n",
-        "input  \"a.npy\" shape (3) chunks (2)\nlet b =  + 1\nsave b \"out.npy\"\n",
-        "input a \"a.npy\" shape (3) chunks (2)\nlet a = a + 1\nsave a \"out.npy\"\n",
-        "input a \"a.npy\" shape (3) chunks (2)\nlet b = c + 1\nsave b \"out.npy\"\n",
-        "input a \"a.npy\" shape (3) chunks (2)\nlet b = a + 1\nsave a \"out.npy\"\n",
-        // Files: equal, empty, with a quote, a backslash, a tab or a letter that isn't ASCII.
-        "input a \"a.npy\" shape (3) chunks (2)\nlet b = a + 1\nsave b \"a.npy\"\n",
-        "input a \"\" shape (3) chunks (2)\nlet b = a + 1\nsave b \"out.npy\"\n",
-        "input a \"a.npy\" shape (3) chunks (2)\nlet b = a + 1\nsave b \"o\"ut.npy\"\n",
-        "input a \"a.npy\" shape (3) chunks (2)\nlet b = a + 1\nsave b \"o\\ut.npy\"\n",
-        "input a \"a.npy\" shape (3) chunks (2)\nlet b = a + 1\nsave b \"o\tut.npy\"\n",
-        "input a \"a.npy\" shape (3) chunks (2)\nlet b = a + 1\nsave b \"oüt.npy\"\n",
-        // Numbers: none, negative, too large.
-        "input a \"a.npy\" shape () chunks (2)\nlet b = a + 1\nsave b \"out.npy\"\n",
-        "input a \"a.npy\" shape (-3) chunks (2)\nlet b = a + 1\nsave b \"out.npy\"\n",
-        "input a \"a.npy\" shape (1048577) chunks (2)\nlet b = a + 1\nsave b \"out.npy\"\n",
-        "input a \"a.npy\" shape (18446744073709551619) chunks (2)\nlet b = a + 1\nsave b \"out.npy\"\n",
-        "input a \"a.npy\" shape (3) chunks (0)\nlet b = a + 1\nsave b \"out.npy\"\n",
-        "input a \"a.npy\" shape (3) chunks (1048577)\nlet b = a + 1\nsave b \"out.npy\"\n",
-        "input a \"a.npy\" shape (3) chunks (2)\nlet b = a + -1\nsave b \"out.npy\"\n",
-        "input a \"a.npy\" shape (3) chunks (2)\nlet b = a + 9223372036854775808\nsave b \"out.npy\"\n",
-        "input a \"a.npy\" shape (3) chunks (2)\nlet b = a + 340282366920938463463374607431768211457\nsave b \"out.npy\"\n",
-        // Another operation, another order.
-        "input a \"a.npy\" shape (3) chunks (2)\nlet b = a - 1\nsave b \"out.npy\"\n",
-        "input a \"a.npy\" shape (3) chunks (2)\nlet b = 1 + a\nsave b \"out.npy\"\n",
+    refuses(&rt, alloc, "")?;
+    refuses(&rt, alloc, "\n")?;
+    let changes = [
+        ("npy\"\n", "npy\""),
+        ("npy\"\n", "npy\"\n\n"),
+        ("\nlet", "\n\nlet"),
+        ("\n", "\r\n"),
+        ("input a", "input  a"),
+        ("+ 1", "- 1"),
+        ("a + 1", "1 + a"),
     ];
-    for text in texts {
-        refuses(&rt, alloc, text.as_bytes())?;
+    for (from, to) in changes {
+        refuses_with(&rt, alloc, from, to)?;
     }
-    refuses(
+    Ok(())
+}
+
+#[test]
+fn reserved_words_and_other_words_that_are_no_names_are_refused(
+    rt: HostRuntime,
+) -> Result<(), Fail> {
+    let alloc = rt.alloc();
+    let words = [
+        "input",
+        "shape",
+        "chunks",
+        "let",
+        "save",
+        "sum",
+        "prod",
+        "min",
+        "max",
+        "axis",
+        "split_every",
+        "minimum",
+        "maximum",
+        "where",
+        "transpose",
+        "rechunk",
+        "concatenate",
+        "tensordot",
+        "full",
+        "ramp",
+        "1a",
+        "",
+        "a-b",
+        "b",
+    ];
+    for word in words {
+        let name = format!(in alloc; " {word} ")?;
+        refuses_with(&rt, alloc, " a ", name.as_str())?;
+    }
+    refuses_with(&rt, alloc, " b ", " where ")?;
+    refuses_with(&rt, alloc, "= a", "= c")?;
+    refuses_with(&rt, alloc, "save b", "save a")
+}
+
+#[test]
+fn file_names_of_another_form_are_refused(rt: HostRuntime) -> Result<(), Fail> {
+    let alloc = rt.alloc();
+    for to in ["a", "o\"ut", "o\\ut", "o\tut", "oüt"] {
+        refuses_with(&rt, alloc, "out", to)?;
+    }
+    refuses_with(&rt, alloc, "a.npy", "")?;
+    let file = "f".repeat(alloc, 252)?;
+    refuses_with(&rt, alloc, "out", file.as_str())
+}
+
+#[test]
+fn numbers_out_of_range_are_refused(rt: HostRuntime) -> Result<(), Fail> {
+    let alloc = rt.alloc();
+    for size in ["()", "(-3)", "(1048577)", "(18446744073709551619)"] {
+        refuses_with(&rt, alloc, "(3)", size)?;
+    }
+    for chunk in ["(0)", "(1048577)"] {
+        refuses_with(&rt, alloc, "(2)", chunk)?;
+    }
+    refuses_with(&rt, alloc, "+ 1", "+ -1")?;
+    refuses_with(&rt, alloc, "+ 1", "+ 9223372036854775808")?;
+    refuses_with(
         &rt,
         alloc,
-        b"input a \"a.npy\" shape (3) chunks (2)\nlet b = a + 1\nsave b \"o\xFFt.npy\"\n",
+        "+ 1",
+        "+ 340282366920938463463374607431768211457",
     )
 }
 
 #[test]
-fn long_names_and_texts_are_refused_at_their_limits(rt: HostRuntime) -> Result<(), Fail> {
+fn a_text_of_4097_bytes_is_refused(rt: HostRuntime) -> Result<(), Fail> {
     let alloc = rt.alloc();
-    let file = "f".repeat(alloc, 256)?;
-    let long_file = text(
-        alloc,
-        &[
-            "input a \"a.npy\" shape (3) chunks (2)\nlet b = a + 1\nsave b \"",
-            file.as_str(),
-            "\"\n",
-        ],
-    )?;
-    refuses(&rt, alloc, &long_file)?;
-    // The rest of the text has 66 bytes, and the name stands in it twice.
-    let name = "n".repeat(alloc, 2015)?;
-    let long = text(
-        alloc,
-        &[
-            "input ",
-            name.as_str(),
-            " \"a.npy\" shape (3) chunks (2)\nlet b = ",
-            name.as_str(),
-            " + 11\nsave b \"out.npy\"\n",
-        ],
-    )?;
-    assert_eq!(rt; long.len(), 4097);
-    refuses(&rt, alloc, &long)
+    // The rest of row 1's job has 66 bytes, and the name stands in it twice.
+    let name = format!(in alloc; " {} ", "n".repeat(alloc, 2015)?)?;
+    let most = JOB.replace(alloc, " a ", name.as_str())?;
+    assert_eq!(rt; most.len(), 4096);
+    accepts(&rt, alloc, most.as_str(), "out.npy", &[2, 3, 4])?;
+    let more = most.replace(alloc, "+ 1", "+ 01")?;
+    assert_eq!(rt; more.len(), 4097);
+    refuses(&rt, alloc, more.as_str())
 }
 
-// A run of a job of this text saves the three elements with the number added.
+// A run of a job of this text saves these elements.
 fn accepts(
     rt: &impl Abort,
     alloc: Global,
-    job: &[u8],
+    job: &str,
     saved: &str,
     sums: &[u8],
 ) -> Result<(), Fail> {
@@ -125,48 +146,39 @@ fn accepts(
 #[test]
 fn texts_at_the_edge_of_the_form_are_accepted(rt: HostRuntime) -> Result<(), Fail> {
     let alloc = rt.alloc();
-    let texts = [
-        // `T`, `_`, words that only begin as reserved ones, the largest chunk, leading zeros of any number.
-        "input T \"a.npy\" shape (3) chunks (1048576)\nlet _ = T + 1\nsave _ \"out.npy\"\n",
-        "input sums \"a.npy\" shape (3) chunks (1)\nlet Let = sums + 1\nsave Let \"out.npy\"\n",
-        "input a9_Z \"a.npy\" shape (0003) chunks (2)\nlet b = a9_Z + 000000000000000000000000000000000000000001\nsave b \"out.npy\"\n",
+    // `T` and `_`, a word that begins as a reserved one, the largest chunk, leading zeros of any number.
+    let changes = [
+        (" a ", " T "),
+        (" a ", " _ "),
+        (" b ", " sums "),
+        (" b ", " Let9 "),
+        ("(2)", "(1048576)"),
+        ("(3)", "(0003)"),
+        ("+ 1", "+ 000000000000000000000000000000000000000001"),
     ];
-    for text in texts {
-        accepts(&rt, alloc, text.as_bytes(), "out.npy", &[2, 3, 4])?;
+    for (from, to) in changes {
+        let job = JOB.replace(alloc, from, to)?;
+        accepts(&rt, alloc, job.as_str(), "out.npy", &[2, 3, 4])?;
     }
-    let spaced = b"input a \"a.npy\" shape (3) chunks (2)\nlet b = a + 0\nsave b \" !#~.npy\"\n";
-    accepts(&rt, alloc, spaced, " !#~.npy", &[1, 2, 3])?;
+    let zero = JOB.replace(alloc, "+ 1", "+ 0")?;
+    accepts(&rt, alloc, zero.as_str(), "out.npy", &[1, 2, 3])?;
+    let spaced = JOB.replace(alloc, "out.npy", " !#~")?;
+    accepts(&rt, alloc, spaced.as_str(), " !#~", &[2, 3, 4])?;
     let file = "f".repeat(alloc, 255)?;
-    let long_file = text(
-        alloc,
-        &[
-            "input a \"a.npy\" shape (3) chunks (2)\nlet b = a + 1\nsave b \"",
-            file.as_str(),
-            "\"\n",
-        ],
-    )?;
-    accepts(&rt, alloc, &long_file, file.as_str(), &[2, 3, 4])?;
-    let name = "n".repeat(alloc, 2015)?;
-    let long = text(
-        alloc,
-        &[
-            "input ",
-            name.as_str(),
-            " \"a.npy\" shape (3) chunks (2)\nlet b = ",
-            name.as_str(),
-            " + 1\nsave b \"out.npy\"\n",
-        ],
-    )?;
-    assert_eq!(rt; long.len(), 4096);
-    accepts(&rt, alloc, &long, "out.npy", &[2, 3, 4])
+    let long = JOB.replace(alloc, "out.npy", file.as_str())?;
+    accepts(&rt, alloc, long.as_str(), file.as_str(), &[2, 3, 4])
 }
 
 #[test]
 fn the_largest_number_is_added(rt: HostRuntime) -> Result<(), Fail> {
     let alloc = rt.alloc();
-    let job =
-        b"input a \"a.npy\" shape (3) chunks (2)\nlet b = a + 9223372036854775807\nsave b \"out.npy\"\n";
-    let mut site = site(alloc, job, &npy(alloc, THREE, &[0, 1, 2])?, Vec::new(alloc))?;
+    let job = JOB.replace(alloc, "+ 1", "+ 9223372036854775807")?;
+    let mut site = site(
+        alloc,
+        job.as_str(),
+        &npy(alloc, THREE, &[0, 1, 2])?,
+        Vec::new(alloc),
+    )?;
     assert_eq!(rt; run(alloc, &mut site)?, 0);
     let mut wanted = npy(alloc, THREE, &[])?;
     wanted.extend_from_slice(&[255, 255, 255, 255, 255, 255, 255, 127])?;

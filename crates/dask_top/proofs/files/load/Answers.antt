@@ -1,6 +1,6 @@
 use Rattle.std.proofs.Common.{◌≡◌, lit<}
 use Rattle.dask_top.specs.Form.{plan_of}
-use Rattle.dask_top.proofs.Loading.{loads_shown, refused_shown}
+use Rattle.dask_top.proofs.Loading.{input_there, loads_shown, ok_there, refused_shown}
 use Rattle.dask_top.proofs.files.load.Goals as goal
 
 pub returns-clause-loaded : goal.returns-clause-loaded
@@ -11,4 +11,9 @@ returns-clause-loaded g c =
 pub returns-clause-refused : goal.returns-clause-refused
 returns-clause-refused g c refused =
     let shows = rw c.from_ref.ensures.value at c.in-Ok.ensures.shows in
-    refused_shown (plan_of c.args.job.now) (g.S.Site.view c.args.site.now).files _ (shows.each 0 (lit< tt)).held (c.load_from-loaded.ensures.refused refused)
+    refused_shown (plan_of c.args.job.now) (g.S.Site.view c.args.site.now).files _ (shows.each 0 (lit< tt)).told (shows.each 0 (lit< tt)).held (c.load_from-loaded.ensures.refused refused)
+
+pub returns-clause-there : goal.returns-clause-there
+returns-clause-there g c =
+    let shows = rw c.from_ref.ensures.value at c.in-Ok.ensures.shows in
+    ok_there c.load_from-loaded.result (input_there (g.S.Site.view c.args.site.now).files.held (g.S.Site.view c.args.site.now).files.tells (plan_of c.args.job.now).input (shows.each 0 (lit< tt)).told)
