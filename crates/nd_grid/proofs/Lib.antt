@@ -1,3 +1,0 @@
-pub mod Floor
-pub mod Cells
-pub mod Dags

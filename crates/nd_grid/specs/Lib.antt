@@ -1,5 +1,0 @@
-pub mod Int64
-pub mod Operation
-pub mod Grid
-pub mod Computed
-pub mod Dags
