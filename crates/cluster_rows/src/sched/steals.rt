@@ -5,7 +5,7 @@ ghost use Rattle.cluster_msgs.specs.declared.messages.Up.TheVariants.{TaskFinish
 ghost use Rattle.cluster_msgs.specs.declared.messages.ToClient.TheVariants.{KeyInMemory, ClientTaskErred};
 ghost use Rattle.cluster_msgs.specs.declared.messages.FromClient.TheVariants.{Want, Release};
 ghost use Rattle.cluster_msgs.specs.declared.cores.SchedEvent.TheVariants.{Join, Leave, FromWorker, FromClient, Balance, Evict};
-ghost use Rattle.cluster_rules.specs.Sched.{sched_opening, tasks};
+ghost use Rattle.cluster_rules.specs.Sched.{sched_opening};
 ghost use Rattle.cluster_rules.specs.SchedTable.{sched_takes};
 ghost use Rattle.cluster_rules.specs.SchedStep.{sched_step};
 ghost use Rattle.cluster_rows.specs.Talk.{said, after, table, facts_of};

@@ -1,5 +1,5 @@
 //! What no longer stands of a key once it is freed, or in memory; an ask of two keys; a list of replicas out of order.
-ghost use Rattle.std.specs.Prelude.{◌≡◌, ◌∷◌, ◌++◌, [], true, false, None};
+ghost use Rattle.std.specs.Prelude.{◌≡◌, ◌∷◌, ◌++◌, [], true, false};
 ghost use Rattle.cluster_msgs.specs.declared.messages.Down.TheVariants.{ComputeTask, FreeKeys, AcquireReplicas, RemoveReplicas};
 ghost use Rattle.cluster_msgs.specs.declared.messages.Up.TheVariants.{TaskFinished, AddKeys, MissingData, RequestRefreshWhoHas};
 ghost use Rattle.cluster_msgs.specs.declared.cores.Instruction.TheVariants.{Keep, Drop, Gather, Send};

@@ -1,11 +1,10 @@
 //! What the simulator does next: the end, the script, evictions and steals at their turns, a turn, or no turn left.
-ghost use Rattle.std.specs.Prelude.{◌≡◌, ◌∷◌, ◌++◌, [], true, false, Some, None};
+ghost use Rattle.std.specs.Prelude.{◌≡◌, ◌∷◌, ◌++◌, [], true, Some, None};
 ghost use Rattle.cluster_msgs.specs.declared.events.Item.TheVariants.{Lose as LoseItem, Suspect as SuspectItem, Join as JoinItem};
 ghost use Rattle.cluster_msgs.specs.declared.events.Event.TheVariants.{Want, Join, Lose, SeeLoss, Suspect, DeliverDown, DeliverUp, DeliverToClient, Finish, SendGather, ServeGather, ArriveGather};
 ghost use Rattle.cluster_msgs.specs.declared.events.Asker.TheVariants.{Client};
 ghost use Rattle.cluster_rules.specs.Draw.{Over, Scripted, Evicts, Balances, Spent, Drawn, is_time, next, moved, opening_events, scripted};
-ghost use Rattle.cluster_rules.specs.World.{rest};
-ghost use Rattle.cluster_rows.specs.WorkerTalk.{one_key, two_keys, three_keys};
+ghost use Rattle.cluster_rows.specs.WorkerTalk.{one_key, three_keys};
 ghost use Rattle.cluster_rows.specs.SmallWorlds.{plain_job, zero_job, plan, standing, comes, one_started, one_told, third_made, three_alone, one_idle, two_alone, two_end, crowd};
 
 /// The opening events are the joins, then one want of all keys.
