@@ -1,10 +1,10 @@
 -- The small worlds of the scheduler's rows.
-use Rattle.std.specs.Prelude.{ℕ, Bool, true, false, List, [], ◌∷◌, Option, Some, None}
+use Rattle.std.specs.Prelude.{ℕ, ◌==◌, Bool, true, false, List, [], ◌∷◌, Option, Some, None, cond}
 use Rattle.cluster_msgs.specs.declared.messages.Up.TheVariants.{TaskFinished, StealResponse}
 use Rattle.cluster_msgs.specs.declared.messages.FromClient.TheVariants.{Want, Release}
 use Rattle.cluster_msgs.specs.declared.cores.SchedEvent.{SchedEvent}
 use Rattle.cluster_msgs.specs.declared.cores.SchedEvent.TheVariants.{Join, FromWorker, FromClient, Balance}
-use Rattle.cluster_rules.specs.Sched.{Setting}
+use Rattle.cluster_rules.specs.Sched.{Setting, Facts}
 use Rattle.cluster_rules.specs.SchedTable.{sched_takes}
 use Rattle.cluster_rules.specs.SchedStep.{Stepped, sched_step}
 use Rattle.cluster_rows.specs.Talk.{WorkerRow, Table, facts_of}
@@ -41,13 +41,16 @@ wanted_again =
     ∷ []
 
 -- the facts then: worker 1 holds keys 0 and 1, and key 2 was taken away by its fourth message; worker 2 holds key 2
+abbrev pub both_one : WorkerRow
+both_one = record { threads = Some 1; has = Some 3 ∷ Some 5 ∷ None ∷ []; sent = 4; fence = 0 ∷ 0 ∷ 4 ∷ [] }
+
+abbrev pub both_two : WorkerRow
+both_two = record { threads = Some 1; has = None ∷ None ∷ Some 8 ∷ []; sent = 1; fence = 0 ∷ 0 ∷ 0 ∷ [] }
+
 abbrev pub both_hold : Table
 both_hold = record {
   want = (true ∷ true ∷ true ∷ []) ∷ [];
-  workers =
-      record { threads = Some 1; has = Some 3 ∷ Some 5 ∷ None ∷ []; sent = 4; fence = 0 ∷ 0 ∷ 4 ∷ [] }
-      ∷ record { threads = Some 1; has = None ∷ None ∷ Some 8 ∷ []; sent = 1; fence = 0 ∷ 0 ∷ 0 ∷ [] }
-      ∷ [];
+  workers = both_one ∷ both_two ∷ [];
   on = None ∷ None ∷ None ∷ [];
   steal = None ∷ None ∷ None ∷ [];
   bad = false ∷ false ∷ false ∷ [];
@@ -126,19 +129,26 @@ to_asked =
     ∷ Balance
     ∷ []
 
+abbrev pub asked_one : WorkerRow
+asked_one = record { threads = Some 1; has = None ∷ None ∷ None ∷ []; sent = 3; fence = 0 ∷ 0 ∷ 0 ∷ [] }
+
+abbrev pub asked_two : WorkerRow
+asked_two = record { threads = Some 1; has = None ∷ None ∷ Some 4 ∷ []; sent = 1; fence = 0 ∷ 0 ∷ 0 ∷ [] }
+
 abbrev pub asked : Table
 asked = record {
   want = (true ∷ true ∷ true ∷ []) ∷ [];
-  workers =
-      record { threads = Some 1; has = None ∷ None ∷ None ∷ []; sent = 3; fence = 0 ∷ 0 ∷ 0 ∷ [] }
-      ∷ record { threads = Some 1; has = None ∷ None ∷ Some 4 ∷ []; sent = 1; fence = 0 ∷ 0 ∷ 0 ∷ [] }
-      ∷ [];
+  workers = asked_one ∷ asked_two ∷ [];
   on = Some (1, 1) ∷ Some (1, 2) ∷ None ∷ [];
   steal = Some (2, false) ∷ None ∷ None ∷ [];
   bad = false ∷ false ∷ false ∷ [];
   counter = 5;
   finishes = 1;
 }
+
+-- the facts once the thief has left: nothing is on it or held by it
+abbrev pub thief_gone : Table
+thief_gone = record asked { workers = asked_one ∷ record asked_two { threads = None; has = None ∷ None ∷ None ∷ [] } ∷ [] }
 
 abbrev pub when_asked : SchedEvent → Stepped
 when_asked e = sched_step (facts_of three_keys asked) e
@@ -183,3 +193,67 @@ apart place = record {
 -- key 2 depends on keys 0 and 1, key 3 on key 2, and key 4 on none
 abbrev pub diamond : Setting
 diamond = record { shape = record { deps = [] ∷ [] ∷ (0 ∷ 1 ∷ []) ∷ (2 ∷ []) ∷ [] ∷ []; work = 1 ∷ 1 ∷ 1 ∷ 1 ∷ 1 ∷ []; nbytes = 8 ∷ 8 ∷ 8 ∷ 8 ∷ 8 ∷ [] }; clients = 1; saturation = 11 }
+
+-- worker 1 has this many threads and worker 2 this many
+abbrev pub staffed : ℕ → ℕ → Facts → Facts
+staffed a b f = record f { threads = λ w. cond (w == 1) (Some a) (cond (w == 2) (Some b) None) }
+
+-- worker 1 has two tasks of work 1000 each, and worker 2 a small one
+abbrev pub two_large : Setting
+two_large = record { shape = record { deps = [] ∷ [] ∷ [] ∷ []; work = 1000 ∷ 1000 ∷ 1 ∷ []; nbytes = 1 ∷ 1 ∷ 1 ∷ [] }; clients = 1; saturation = 11 }
+
+abbrev pub two_and_one : Table
+two_and_one = record {
+  want = (true ∷ true ∷ true ∷ []) ∷ [];
+  workers =
+      record { threads = Some 1; has = None ∷ None ∷ None ∷ []; sent = 2; fence = 0 ∷ 0 ∷ 0 ∷ [] }
+      ∷ record { threads = Some 1; has = None ∷ None ∷ None ∷ []; sent = 1; fence = 0 ∷ 0 ∷ 0 ∷ [] }
+      ∷ [];
+  on = Some (1, 1) ∷ Some (1, 2) ∷ Some (2, 3) ∷ [];
+  steal = None ∷ None ∷ None ∷ [];
+  bad = false ∷ false ∷ false ∷ [];
+  counter = 4;
+  finishes = 0;
+}
+
+-- key 2 depends on keys 0 and 1, of 10 bytes each; workers 1 and 2 hold one of these and have much work, and worker 3 has nothing
+abbrev pub busy_inputs : Setting
+busy_inputs = record {
+  shape = record { deps = [] ∷ [] ∷ (0 ∷ 1 ∷ []) ∷ [] ∷ [] ∷ []; work = 80 ∷ 80 ∷ 80 ∷ 1000 ∷ 1000 ∷ []; nbytes = 10 ∷ 10 ∷ 8 ∷ 8 ∷ 8 ∷ [] };
+  clients = 1;
+  saturation = 11;
+}
+
+abbrev pub busy_holders : Table
+busy_holders = record {
+  want = (false ∷ false ∷ true ∷ true ∷ true ∷ []) ∷ [];
+  workers =
+      record { threads = Some 1; has = Some 3 ∷ None ∷ None ∷ None ∷ None ∷ []; sent = 2; fence = 0 ∷ 0 ∷ 0 ∷ 0 ∷ 0 ∷ [] }
+      ∷ record { threads = Some 1; has = None ∷ Some 4 ∷ None ∷ None ∷ None ∷ []; sent = 2; fence = 0 ∷ 0 ∷ 0 ∷ 0 ∷ 0 ∷ [] }
+      ∷ record { threads = Some 1; has = None ∷ None ∷ None ∷ None ∷ None ∷ []; sent = 0; fence = 0 ∷ 0 ∷ 0 ∷ 0 ∷ 0 ∷ [] }
+      ∷ [];
+  on = None ∷ None ∷ None ∷ Some (1, 5) ∷ Some (2, 6) ∷ [];
+  steal = None ∷ None ∷ None ∷ None ∷ None ∷ [];
+  bad = false ∷ false ∷ false ∷ false ∷ false ∷ [];
+  counter = 20;
+  finishes = 2;
+}
+
+-- key 1 depends on key 0
+abbrev pub pair : Setting
+pair = record { shape = record { deps = [] ∷ (0 ∷ []) ∷ []; work = 80 ∷ 80 ∷ []; nbytes = 80 ∷ 80 ∷ [] }; clients = 1; saturation = 11 }
+
+-- key 0 is wanted and held by two workers, and key 1 may be wanted
+abbrev pub two_copies : Bool → Table
+two_copies other = record {
+  want = (true ∷ other ∷ []) ∷ [];
+  workers =
+      record { threads = Some 1; has = Some 3 ∷ None ∷ []; sent = 0; fence = 0 ∷ 0 ∷ [] }
+      ∷ record { threads = Some 1; has = Some 4 ∷ None ∷ []; sent = 0; fence = 0 ∷ 0 ∷ [] }
+      ∷ [];
+  on = None ∷ None ∷ [];
+  steal = None ∷ None ∷ [];
+  bad = false ∷ false ∷ [];
+  counter = 20;
+  finishes = 2;
+}

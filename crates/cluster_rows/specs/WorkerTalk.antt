@@ -105,6 +105,33 @@ made = Told (ComputeTask 0 1 []) ∷ Start ∷ Done 0 false ∷ []
 abbrev pub chain_flies : List WorkerEvent
 chain_flies = Told (ComputeTask 2 3 ((1, (2, 5) ∷ []) ∷ [])) ∷ Told (AcquireReplicas ((0, (2, 4) ∷ []) ∷ [])) ∷ AskPeer 2 ∷ Told (ComputeTask 1 6 ((0, (2, 4) ∷ []) ∷ [])) ∷ []
 
+-- key 2 of the three was given, and worker 2 holds the other two
+abbrev pub two_at_peer : WorkerEvent
+two_at_peer = Told (ComputeTask 2 3 ((0, (2, 7) ∷ []) ∷ (1, (2, 8) ∷ []) ∷ []))
+
+-- both were made here, and then key 2 was given
+abbrev pub both_here : List WorkerEvent
+both_here =
+    Told (ComputeTask 0 1 [])
+    ∷ Start
+    ∷ Done 0 false
+    ∷ Told (ComputeTask 1 2 [])
+    ∷ Start
+    ∷ Done 1 false
+    ∷ Told (ComputeTask 2 3 ((0, (1, 4) ∷ []) ∷ (1, (1, 5) ∷ []) ∷ []))
+    ∷ []
+
+-- key 1 of the two was given, and nobody was said to hold key 0
+abbrev pub asks_for_input : WorkerEvent
+asks_for_input = Told (ComputeTask 1 3 ((0, []) ∷ []))
+
+-- a worker of this graph in which every key runs, or is in memory
+abbrev pub all_run : Shape → WorkerFacts
+all_run g = record (fresh g) { running = λ k. true }
+
+abbrev pub all_kept : Shape → WorkerFacts
+all_kept g = record (fresh g) { mem = λ k. true }
+
 -- what a client does at one more event, and whether it takes it
 abbrev pub client_then : ClientFacts → List ClientEvent → ClientEvent → List ClientInstruction
 client_then c es e = (client_step (client_after c es) e).out
@@ -114,6 +141,10 @@ client_then_takes c es e = client_takes (client_after c es) e
 
 abbrev pub fresh_client : Shape → ClientFacts
 fresh_client g = new_client g
+
+-- both keys are wanted, and workers 2 and 3 hold them
+abbrev pub two_located : List ClientEvent
+two_located = WantKeys (0 ∷ 1 ∷ []) ∷ FromScheduler (KeyInMemory 0 ((2, 7) ∷ (3, 9) ∷ [])) ∷ FromScheduler (KeyInMemory 1 ((2, 8) ∷ (3, 10) ∷ [])) ∷ []
 
 -- key 0 is wanted and held by worker 2
 abbrev pub told : List ClientEvent

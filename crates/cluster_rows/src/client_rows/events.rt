@@ -5,8 +5,8 @@ ghost use Rattle.cluster_msgs.specs.declared.messages.FromClient.TheVariants.{Wa
 ghost use Rattle.cluster_msgs.specs.declared.cores.ClientInstruction.TheVariants.{Send, Gather};
 ghost use Rattle.cluster_msgs.specs.declared.cores.ClientEvent.TheVariants.{Want, Release, FromScheduler, Ask, Gathered, GatherFailed};
 ghost use Rattle.cluster_msgs.specs.declared.cores.End.TheVariants.{Got, Erred};
-ghost use Rattle.cluster_rules.specs.Client.{done, is_unfinished, client_pairs, client_would_ask};
-ghost use Rattle.cluster_rows.specs.WorkerTalk.{client_after, client_then, client_then_takes, one_key, two_keys, three_keys, sized, fresh_client, told, asking, served};
+ghost use Rattle.cluster_rules.specs.Client.{done, is_unfinished, client_pairs};
+ghost use Rattle.cluster_rows.specs.WorkerTalk.{client_after, client_then, client_then_takes, one_key, two_keys, sized, fresh_client, told, asking, served};
 
 /// The keys are wanted, and the scheduler is told. A key that isn't there is refused.
 pub fn want()

@@ -9,7 +9,7 @@ ghost use Rattle.cluster_rules.specs.SchedStep.{sched_step};
 ghost use Rattle.cluster_rows.specs.Talk.{after, facts_of};
 ghost use Rattle.cluster_msgs.specs.declared.cores.Phase.TheVariants.{Erred, Released, Memory, Waiting, Processing, NoWorker, Queued, Forgotten};
 ghost use Rattle.cluster_rules.specs.Policies.{place};
-ghost use Rattle.cluster_rows.specs.SchedWorlds.{three_keys, chain, busy, two_inputs, apart, diamond};
+ghost use Rattle.cluster_rows.specs.SchedWorlds.{three_keys, chain, busy, two_inputs, apart, diamond, two_tasks, busy_inputs, busy_holders};
 
 /// The eight states of a key.
 pub fn the_states_of_a_key()
@@ -36,6 +36,12 @@ pub fn a_key_goes_where_its_bytes_are()
     ensures { (place (facts_of (two_inputs 100 10) (apart None)) 2 ≡ Some 1) × (place (facts_of (two_inputs 10 100) (apart None)) 2 ≡ Some 2) }
 {}
 
+/// A holder of one dependency is a candidate though it holds not all, and nobody else is: both holders have much to do,
+/// and an idle worker would cost least.
+pub fn an_idle_worker_that_holds_nothing()
+    ensures { place (facts_of busy_inputs busy_holders) 2 ≡ Some 1 }
+{}
+
 /// The time until the worker could start counts as so many bytes more.
 pub fn a_busy_holder_is_passed_over()
     ensures equal { place (facts_of (two_inputs 100 10) (apart (Some (1, 5)))) 2 ≡ Some 2 }
@@ -48,9 +54,12 @@ pub fn the_least_of_equal_workers()
     ensures number { place (facts_of (two_inputs 50 50) (apart None)) 2 ≡ Some 1 }
 {}
 
-/// A key without dependencies goes to no full worker, and a key with dependencies does.
+/// A key without dependencies goes to no full worker, and a key with dependencies does. A worker is full as soon as it has
+/// as many tasks as the saturation says.
 pub fn a_full_worker()
     ensures without { place (after (sched_opening three_keys) (FromClient 1 (Want (0 ∷ 1 ∷ 2 ∷ [])) ∷ Join 1 ∷ [])) 2 ≡ None }
+    ensures equal { let s = sched_step (after (sched_opening (record (two_tasks 80 80) { saturation = 10 })) (FromClient 1 (Want (0 ∷ 1 ∷ [])) ∷ [])) (Join 1) in
+        (s.down ≡ (1, ComputeTask 0 1 []) ∷ []) × (s.facts.on 0 ≡ Some (1, 1)) × (s.facts.on 1 ≡ None) × (s.facts.counter ≡ 2) }
     ensures with { let f = after (sched_opening chain) (Join 1 ∷ FromClient 1 (Want (1 ∷ 2 ∷ [])) ∷ []) in
         (sched_step (record f { setting = record chain { saturation = 1 } }) (FromWorker 1 (TaskFinished 1 0 1))).down ≡ (1, ComputeTask 1 4 ((0, (1, 3) ∷ []) ∷ [])) ∷ [] }
 {}

@@ -4,7 +4,7 @@ ghost use Rattle.cluster_msgs.specs.declared.messages.Down.TheVariants.{ComputeT
 ghost use Rattle.cluster_msgs.specs.declared.messages.Up.TheVariants.{AddKeys, ReleaseWorkerData, MissingData, RequestRefreshWhoHas};
 ghost use Rattle.cluster_msgs.specs.declared.cores.SchedEvent.TheVariants.{FromWorker};
 ghost use Rattle.cluster_rules.specs.SchedStep.{sched_step};
-ghost use Rattle.cluster_rows.specs.Talk.{said, after, table, facts_of};
+ghost use Rattle.cluster_rows.specs.Talk.{after, table, facts_of};
 ghost use Rattle.cluster_rows.specs.SchedWorlds.{three_keys, both_hold, chain, busy, busy_one, busy_two, when_busy, may_when_busy};
 
 /// A worker that tells of a block held elsewhere is a further holder.

@@ -1,20 +1,64 @@
 //! What is stolen and dropped.
 ghost use Rattle.std.specs.Prelude.{◌≡◌, ◌∷◌, ◌++◌, [], true, false, Some, None};
-ghost use Rattle.cluster_msgs.specs.declared.messages.Down.TheVariants.{ComputeTask, StealRequest, RemoveReplicas};
-ghost use Rattle.cluster_msgs.specs.declared.messages.Up.TheVariants.{TaskFinished, AddKeys, StealResponse};
-ghost use Rattle.cluster_msgs.specs.declared.messages.FromClient.TheVariants.{Want};
-ghost use Rattle.cluster_msgs.specs.declared.cores.SchedEvent.TheVariants.{Join, FromWorker, FromClient, Balance, Evict};
-ghost use Rattle.cluster_rules.specs.Sched.{sched_opening, tasks};
+ghost use Rattle.cluster_msgs.specs.declared.messages.Down.TheVariants.{ComputeTask, StealRequest, RemoveReplicas, FreeKeys};
+ghost use Rattle.cluster_msgs.specs.declared.messages.Up.TheVariants.{TaskFinished, TaskErred, AddKeys, StealResponse};
+ghost use Rattle.cluster_msgs.specs.declared.messages.ToClient.TheVariants.{KeyInMemory, ClientTaskErred};
+ghost use Rattle.cluster_msgs.specs.declared.messages.FromClient.TheVariants.{Want, Release};
+ghost use Rattle.cluster_msgs.specs.declared.cores.SchedEvent.TheVariants.{Join, Leave, FromWorker, FromClient, Balance, Evict};
+ghost use Rattle.cluster_rules.specs.Sched.{sched_opening};
 ghost use Rattle.cluster_rules.specs.SchedTable.{sched_takes};
 ghost use Rattle.cluster_rules.specs.SchedStep.{sched_step};
 ghost use Rattle.cluster_rows.specs.Talk.{said, after, table, facts_of};
-ghost use Rattle.cluster_rules.specs.Policies.{next_drop, level};
-ghost use Rattle.cluster_rows.specs.SchedWorlds.{three_keys, chain, asked, when_asked, two_tasks, uneven, replicas, three_holders, may_when_busy};
+ghost use Rattle.cluster_rules.specs.Policies.{next_drop, next_steal, level};
+ghost use Rattle.cluster_rows.specs.SchedWorlds.{three_keys, chain, asked, asked_one, asked_two, thief_gone, when_asked, two_tasks, uneven, staffed, two_large, two_and_one, pair, two_copies, replicas, three_holders, may_when_busy};
 
-/// A yes counts: the thief gets the key under a new attempt.
+/// A yes counts: the thief gets the key under a new attempt, which the counter then has passed.
 pub fn a_victim_says_yes()
     ensures { let s = when_asked (FromWorker 1 (StealResponse 3 0 1 true)) in
-        (s.down ≡ (2, ComputeTask 0 5 []) ∷ []) × (s.clients ≡ []) × (s.facts.on 0 ≡ Some (2, 5)) × (s.facts.steal 0 ≡ None) × (s.facts.on 1 ≡ Some (1, 2)) }
+        (s.down ≡ (2, ComputeTask 0 5 []) ∷ []) × (s.clients ≡ [])
+        × (table s.facts ≡ record asked {
+          workers = asked_one ∷ record asked_two { sent = 2 } ∷ [];
+          on = Some (2, 5) ∷ Some (1, 2) ∷ None ∷ [];
+          steal = None ∷ None ∷ None ∷ [];
+          counter = 6;
+        }) }
+{}
+
+/// A yes counts where the thief has left too: the steal is gone, and the key is placed at once, here at its own victim.
+pub fn a_victim_says_yes_without_a_thief()
+    ensures left { table (when_asked (Leave 2)).facts ≡ thief_gone }
+    ensures yes { let s = sched_step (facts_of three_keys thief_gone) (FromWorker 1 (StealResponse 3 0 1 true)) in
+        (s.down ≡ (1, ComputeTask 0 5 []) ∷ []) × (s.clients ≡ [])
+        × (table s.facts ≡ record thief_gone {
+          workers = record asked_one { sent = 4 } ∷ record asked_two { threads = None; has = None ∷ None ∷ None ∷ [] } ∷ [];
+          on = Some (1, 5) ∷ Some (1, 2) ∷ None ∷ [];
+          steal = None ∷ None ∷ None ∷ [];
+          counter = 6;
+        }) }
+{}
+
+/// A steal goes with its key in settling, and with a finish that comes before the answer.
+pub fn a_steal_goes_with_its_key()
+    ensures released { let s = when_asked (FromClient 1 (Release (0 ∷ []))) in
+        (s.down ≡ (1, FreeKeys (0 ∷ [])) ∷ []) × (s.clients ≡ [])
+        × (table s.facts ≡ record asked {
+          want = (false ∷ true ∷ true ∷ []) ∷ [];
+          workers = record asked_one { sent = 4; fence = 4 ∷ 0 ∷ 0 ∷ [] } ∷ asked_two ∷ [];
+          on = None ∷ Some (1, 2) ∷ None ∷ [];
+          steal = None ∷ None ∷ None ∷ [];
+        }) }
+    ensures finished { let s = when_asked (FromWorker 1 (TaskFinished 2 0 1)) in
+        (s.down ≡ []) × (s.clients ≡ (1, KeyInMemory 0 ((1, 5) ∷ [])) ∷ [])
+        × (table s.facts ≡ record asked {
+          workers = record asked_one { has = Some 5 ∷ None ∷ None ∷ [] } ∷ asked_two ∷ [];
+          on = None ∷ Some (1, 2) ∷ None ∷ [];
+          steal = None ∷ None ∷ None ∷ [];
+          counter = 6;
+          finishes = 2;
+        }) }
+    ensures erred { let s = when_asked (FromWorker 1 (TaskErred 2 0 1)) in
+        (s.down ≡ []) × (s.clients ≡ (1, ClientTaskErred 0 0) ∷ [])
+        × (table s.facts ≡ record asked { on = None ∷ Some (1, 2) ∷ None ∷ []; steal = None ∷ None ∷ None ∷ []; bad = true ∷ false ∷ false ∷ [] }) }
 {}
 
 /// A no counts: the key stays, and isn't asked for again.
@@ -47,6 +91,14 @@ pub fn a_steal_that_just_gains()
     ensures none { sched_takes (facts_of (two_tasks 161 0) (record uneven { steal = None ∷ Some (2, true) ∷ [] })) Balance ≡ false }
 {}
 
+/// A victim has more tasks than threads, and a thief fewer: as many are not enough of either.
+pub fn as_many_tasks_as_threads()
+    ensures victim { next_steal (staffed 2 1 (facts_of (two_tasks 1000 1000) uneven)) ≡ None }
+    ensures victim_with_one_more { next_steal (staffed 1 1 (facts_of (two_tasks 1000 1000) uneven)) ≡ Some (record { key = 0; victim = 1; thief = 2 }) }
+    ensures thief { next_steal (staffed 1 1 (facts_of two_large two_and_one)) ≡ None }
+    ensures thief_with_one_fewer { next_steal (staffed 1 2 (facts_of two_large two_and_one)) ≡ Some (record { key = 0; victim = 1; thief = 2 }) }
+{}
+
 /// Where no worker has more tasks than threads, Balance has no choice and is refused.
 pub fn nothing_to_steal()
     ensures even { may_when_busy Balance ≡ false }
@@ -72,4 +124,10 @@ pub fn no_replica_to_spare()
 /// Of holders with as many bytes the least number gives its replica up.
 pub fn the_least_of_equal_holders()
     ensures { next_drop (after (sched_opening replicas) (Join 1 ∷ Join 1 ∷ Join 1 ∷ FromClient 1 (Want (1 ∷ 2 ∷ [])) ∷ FromWorker 1 (TaskFinished 1 0 1) ∷ FromWorker 2 (AddKeys 9 (0 ∷ [])) ∷ FromWorker 3 (AddKeys 9 (0 ∷ [])) ∷ [])) ≡ Some (1, 0) }
+{}
+
+/// A dependent that isn't needed doesn't wait: of two holders one is to spare then.
+pub fn a_dependent_that_is_not_needed()
+    ensures not_needed { next_drop (facts_of pair (two_copies false)) ≡ Some (1, 0) }
+    ensures needed { next_drop (facts_of pair (two_copies true)) ≡ None }
 {}

@@ -10,7 +10,7 @@ ghost use Rattle.cluster_rules.specs.Policies.{next_drop};
 ghost use Rattle.cluster_rules.specs.SchedTable.{sched_takes};
 ghost use Rattle.cluster_rules.specs.SchedStep.{sched_step};
 ghost use Rattle.cluster_rows.specs.Talk.{said, after, table, facts_of};
-ghost use Rattle.cluster_rows.specs.SchedWorlds.{three_keys, both_hold, one_key, four_keys, replicas, theft, wanted_again, ended_by_one, three_holders};
+ghost use Rattle.cluster_rows.specs.SchedWorlds.{three_keys, both_one, both_two, both_hold, one_key, four_keys, replicas, theft, wanted_again, ended_by_one, three_holders};
 
 /// A worker that is asked for a key that it runs refuses. Then it is asked for its other key and gives it up, and the
 /// thief gets that key under a new attempt.
@@ -53,7 +53,8 @@ pub fn news_from_before_and_after_the_fence()
     ensures before { let s = sched_step (facts_of three_keys both_hold) (FromWorker 1 (AddKeys 3 (2 ∷ []))) in
         (table s.facts ≡ both_hold) × (s.down ≡ []) × (s.clients ≡ []) }
     ensures after { let s = sched_step (facts_of three_keys both_hold) (FromWorker 1 (AddKeys 4 (2 ∷ []))) in
-        (s.facts.has 1 2 ≡ Some 9) × (s.facts.has 2 2 ≡ Some 8) × (s.down ≡ []) × (s.clients ≡ []) }
+        (table s.facts ≡ record both_hold { workers = record both_one { has = Some 3 ∷ Some 5 ∷ Some 9 ∷ [] } ∷ both_two ∷ []; counter = 10 })
+        × (s.down ≡ []) × (s.clients ≡ []) }
 {}
 
 /// The only holder leaves: the client hears that the key is lost, and the other worker gets it. Where that worker had

@@ -1,11 +1,11 @@
 //! The scheduler's messages at a worker: where each counts, where it doesn't, and at an edge.
-ghost use Rattle.std.specs.Prelude.{◌≡◌, ◌∷◌, ◌++◌, [], true, false, Some, None};
+ghost use Rattle.std.specs.Prelude.{◌≡◌, ◌∷◌, ◌++◌, [], true, false, None};
 ghost use Rattle.cluster_msgs.specs.declared.messages.Down.TheVariants.{ComputeTask, FreeKeys, StealRequest, RemoveReplicas, AcquireReplicas, RefreshWhoHas};
 ghost use Rattle.cluster_msgs.specs.declared.messages.Up.TheVariants.{TaskFinished, AddKeys, RequestRefreshWhoHas, StealResponse};
 ghost use Rattle.cluster_msgs.specs.declared.cores.Instruction.TheVariants.{Drop, Send};
 ghost use Rattle.cluster_msgs.specs.declared.cores.WorkerEvent.TheVariants.{Down as Told, Start, Done};
-ghost use Rattle.cluster_msgs.specs.declared.cores.WState.TheVariants.{Memory, Executing, ResumedExecuting, CancelledExecuting, CancelledFlight, Ready, Waiting, Fetch, Missing, Error, Released, Forgotten};
-ghost use Rattle.cluster_rows.specs.WorkerTalk.{worker_after, then_says, then_takes, then_states, one_key, two_keys, three_keys, chain, fresh, made, in_flight, chain_flies};
+ghost use Rattle.cluster_msgs.specs.declared.cores.WState.TheVariants.{Memory, Executing, CancelledExecuting, CancelledFlight, Ready, Waiting, Fetch, Missing, Released, Forgotten};
+ghost use Rattle.cluster_rows.specs.WorkerTalk.{worker_after, then_says, then_takes, then_states, one_key, two_keys, fresh, made, in_flight};
 
 /// A task that is given waits for its dependency, which is to be fetched. What is in memory is finished at once. A
 /// worker never looks for a block at itself; holders are noted for what is in memory too, and an error is forgotten.

@@ -1,10 +1,10 @@
 //! A worker's own events: where each counts, where it doesn't, and at an edge.
 ghost use Rattle.std.specs.Prelude.{◌≡◌, ◌∷◌, ◌++◌, [], true, false, Some, None};
-ghost use Rattle.cluster_msgs.specs.declared.messages.Down.TheVariants.{ComputeTask, FreeKeys, RefreshWhoHas, AcquireReplicas};
+ghost use Rattle.cluster_msgs.specs.declared.messages.Down.TheVariants.{ComputeTask, FreeKeys, RefreshWhoHas};
 ghost use Rattle.cluster_msgs.specs.declared.messages.Up.TheVariants.{TaskFinished, TaskErred, AddKeys, ReleaseWorkerData, MissingData, RequestRefreshWhoHas};
 ghost use Rattle.cluster_msgs.specs.declared.cores.Instruction.TheVariants.{Execute, Gather, Keep, Send};
 ghost use Rattle.cluster_msgs.specs.declared.cores.WorkerEvent.TheVariants.{Down as Told, Start, Done, Ask as AskPeer, Gathered, GatherFailed, DataLost};
-ghost use Rattle.cluster_msgs.specs.declared.cores.WState.TheVariants.{Memory, Executing, ResumedExecuting, CancelledExecuting, ResumedFlight, Flight, CancelledFlight, Ready, Waiting, Fetch, Missing, Error, Released, Forgotten};
+ghost use Rattle.cluster_msgs.specs.declared.cores.WState.TheVariants.{Memory, ResumedExecuting, Flight, Ready, Waiting, Fetch, Missing, Error, Forgotten};
 ghost use Rattle.cluster_rules.specs.Derived.{below};
 ghost use Rattle.cluster_rules.specs.Worker.{new_worker, would_start, pairs};
 ghost use Rattle.cluster_rows.specs.WorkerTalk.{worker_after, then_says, then_takes, then_states, one_key, two_keys, three_keys, chain, sized, many_keys, all_at_two, fresh, made, in_flight, chain_flies};

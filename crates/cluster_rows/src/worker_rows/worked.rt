@@ -1,5 +1,5 @@
 //! A task that is cancelled and given again, and one that is given while its block flies.
-ghost use Rattle.std.specs.Prelude.{◌≡◌, ◌∷◌, ◌++◌, [], true, false, Some, None};
+ghost use Rattle.std.specs.Prelude.{◌≡◌, ◌∷◌, ◌++◌, [], true, false};
 ghost use Rattle.cluster_msgs.specs.declared.messages.Down.TheVariants.{ComputeTask, FreeKeys};
 ghost use Rattle.cluster_msgs.specs.declared.messages.Up.TheVariants.{TaskFinished};
 ghost use Rattle.cluster_msgs.specs.declared.cores.Instruction.TheVariants.{Execute, Gather, Keep, Send};

@@ -1,12 +1,11 @@
 //! What the simulator does next: the end, the script, evictions and steals at their turns, a turn, or no turn left.
-ghost use Rattle.std.specs.Prelude.{◌≡◌, ◌∷◌, ◌++◌, [], true, false, Some, None};
+ghost use Rattle.std.specs.Prelude.{◌≡◌, ◌∷◌, ◌++◌, [], true, Some, None};
 ghost use Rattle.cluster_msgs.specs.declared.events.Item.TheVariants.{Lose as LoseItem, Suspect as SuspectItem, Join as JoinItem};
 ghost use Rattle.cluster_msgs.specs.declared.events.Event.TheVariants.{Want, Join, Lose, SeeLoss, Suspect, DeliverDown, DeliverUp, DeliverToClient, Finish, SendGather, ServeGather, ArriveGather};
 ghost use Rattle.cluster_msgs.specs.declared.events.Asker.TheVariants.{Client};
-ghost use Rattle.cluster_rules.specs.Draw.{Over, Scripted, Evicts, Balances, Spent, Drawn, is_time, next, moved, opening_events};
-ghost use Rattle.cluster_rules.specs.World.{rest};
-ghost use Rattle.cluster_rows.specs.WorkerTalk.{one_key, two_keys, three_keys};
-ghost use Rattle.cluster_rows.specs.SmallWorlds.{plain_job, zero_job, plan, standing, comes, one_started, one_told, third_made, three_alone, one_idle};
+ghost use Rattle.cluster_rules.specs.Draw.{Over, Scripted, Evicts, Balances, Spent, Drawn, is_time, next, moved, opening_events, scripted};
+ghost use Rattle.cluster_rows.specs.WorkerTalk.{one_key, three_keys};
+ghost use Rattle.cluster_rows.specs.SmallWorlds.{plain_job, zero_job, plan, standing, comes, one_started, one_told, third_made, three_alone, one_idle, two_alone, two_end, crowd};
 
 /// The opening events are the joins, then one want of all keys.
 pub fn opening_events_of_a_plan()
@@ -18,6 +17,18 @@ pub fn the_end_comes_first()
     ensures served { comes (standing (plain_job one_key) (one_told ++ SendGather (Client 1) 1 ∷ ServeGather 1 (Client 1) 1 ∷ ArriveGather (Client 1) 1 1 ∷ []) (LoseItem 2 0 ∷ []) 7 5) ≡ Over None }
     ensures failed { comes (standing (zero_job one_key) (one_started ++ Finish 1 0 ∷ DeliverUp 1 ∷ DeliverToClient 1 ∷ []) (LoseItem 2 0 ∷ []) 7 5) ≡ Over (Some 0) }
     ensures not_yet { comes (standing (plain_job one_key) one_started [] 3 5) ≡ Drawn (Finish 1 0) }
+{}
+
+/// Of two keys that failed the least ends the simulation, though the other's news came first.
+pub fn the_least_failure_ends_it()
+    ensures both { comes (standing (zero_job two_alone) (two_end ++ DeliverUp 2 ∷ DeliverUp 1 ∷ DeliverToClient 1 ∷ DeliverToClient 1 ∷ []) [] 9 5) ≡ Over (Some 0) }
+    ensures first { comes (standing (zero_job two_alone) (two_end ++ DeliverUp 2 ∷ DeliverUp 1 ∷ DeliverToClient 1 ∷ []) [] 9 5) ≡ Over (Some 1) }
+{}
+
+/// A join waits while 64 workers are connected.
+pub fn a_join_waits_for_a_place()
+    ensures place { scripted 1 (crowd 63) (JoinItem 0 ∷ []) ≡ Some (Join 1, []) }
+    ensures waits { scripted 1 (crowd 64) (JoinItem 0 ∷ []) ≡ None }
 {}
 
 /// An item comes once so many finishes were counted. One that finds no such worker is passed over, and leaves the rest

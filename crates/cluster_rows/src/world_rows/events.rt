@@ -4,7 +4,7 @@ ghost use Rattle.cluster_msgs.specs.declared.messages.Down.TheVariants.{ComputeT
 ghost use Rattle.cluster_msgs.specs.declared.messages.Up.TheVariants.{TaskFinished, TaskErred, AddKeys, ReleaseWorkerData, MissingData};
 ghost use Rattle.cluster_msgs.specs.declared.messages.ToClient.TheVariants.{KeyInMemory, ClientTaskErred};
 ghost use Rattle.cluster_msgs.specs.declared.messages.FromClient.TheVariants.{Want as WantMessage, Release as ReleaseMessage, Missing};
-ghost use Rattle.cluster_msgs.specs.declared.messages.Message.TheVariants.{Down as DownMessage, Up as UpMessage, Peer as PeerMessage};
+ghost use Rattle.cluster_msgs.specs.declared.messages.Message.TheVariants.{Down as DownMessage, Peer as PeerMessage};
 ghost use Rattle.cluster_msgs.specs.declared.messages.Peer.TheVariants.{GetData, Data};
 ghost use Rattle.cluster_msgs.specs.declared.events.Asker.TheVariants.{Worker, Client};
 ghost use Rattle.cluster_msgs.specs.declared.events.Event.TheVariants.{Want, Release, Join, Lose, SeeLoss, Suspect, DeliverDown, DeliverUp, DeliverToClient, DeliverFromClient, Start, Finish, SendGather, ServeGather, ArriveGather, FailGather, Balance, Evict, Spill, LoseSpilled};
@@ -12,7 +12,7 @@ ghost use Rattle.cluster_rules.specs.World.{opening, is_connected};
 ghost use Rattle.cluster_rules.specs.Enabled.{message};
 ghost use Rattle.cluster_rules.specs.Runs.{reached};
 ghost use Rattle.cluster_rows.specs.WorkerTalk.{one_key, two_keys, three_keys};
-ghost use Rattle.cluster_rows.specs.SmallWorlds.{plain_job, zero_job, can, then_enabled, joined_two, one_started, one_told, both_made, third_made, three_alone, one_idle, client_served};
+ghost use Rattle.cluster_rows.specs.SmallWorlds.{plain_job, zero_job, can, then_enabled, joined_two, one_started, one_told, both_made, third_made, three_alone, one_idle};
 
 /// A client wants keys of the graph, some at least; so it releases them.
 pub fn want_and_release()

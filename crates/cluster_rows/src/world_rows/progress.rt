@@ -1,11 +1,11 @@
 //! The progress events in their order, and the quiet bound.
-ghost use Rattle.std.specs.Prelude.{◌≡◌, ◌∷◌, ◌++◌, ◌^◌, ◌-◌, ◌*◌, [], true, false, Some, None};
+ghost use Rattle.std.specs.Prelude.{◌≡◌, ◌∷◌, ◌++◌, ◌^◌, ◌-◌, ◌*◌, [], true, false};
 ghost use Rattle.cluster_msgs.specs.declared.events.Asker.TheVariants.{Worker, Client};
-ghost use Rattle.cluster_msgs.specs.declared.events.Event.TheVariants.{Want, Join, Lose, SeeLoss, Suspect, DeliverDown, DeliverUp, DeliverToClient, DeliverFromClient, Start, Finish, SendGather, ServeGather, ArriveGather, FailGather};
-ghost use Rattle.cluster_rules.specs.World.{opening, under_way, worker_count, quiet_bound, rest_of, rest};
+ghost use Rattle.cluster_msgs.specs.declared.events.Event.TheVariants.{Want, Lose, SeeLoss, Suspect, DeliverDown, DeliverUp, DeliverToClient, DeliverFromClient, Start, Finish, SendGather, ServeGather, FailGather};
+ghost use Rattle.cluster_rules.specs.World.{opening, under_way, worker_count, quiet_bound, rest_of};
 ghost use Rattle.cluster_rules.specs.Enabled.{progress};
 ghost use Rattle.cluster_rules.specs.Runs.{reached};
-ghost use Rattle.cluster_rows.specs.WorkerTalk.{one_key, two_keys, three_keys};
+ghost use Rattle.cluster_rows.specs.WorkerTalk.{one_key, three_keys};
 ghost use Rattle.cluster_rows.specs.SmallWorlds.{plain_job, then_enabled, joined_two, one_started, one_told, both_made};
 
 /// Kind by kind in the table's order, and within a kind by number.

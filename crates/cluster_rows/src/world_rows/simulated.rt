@@ -2,7 +2,7 @@
 ghost use Rattle.std.specs.Prelude.{◌≡◌, ◌∷◌, ◌++◌, [], true, false, Some, None};
 ghost use Rattle.cluster_msgs.specs.declared.events.Event.TheVariants.{DeliverDown, DeliverUp};
 ghost use Rattle.cluster_rules.specs.World.{opening, rest};
-ghost use Rattle.cluster_rules.specs.Enabled.{enabled, progress};
+ghost use Rattle.cluster_rules.specs.Enabled.{enabled};
 ghost use Rattle.cluster_rules.specs.Runs.{reached};
 ghost use Rattle.cluster_rules.specs.Draw.{opening_events, Served};
 ghost use Rattle.cluster_rows.specs.WorkerTalk.{one_key, two_keys};
