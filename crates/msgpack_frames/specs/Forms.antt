@@ -1,5 +1,5 @@
 -- What the first byte of a value says, by the MessagePack specification.
-use Rattle.std.specs.Prelude.{ℕ, ◌-◌, List, [], ◌∷◌, pos, negsuc, true, false, nat_lt, if◌then◌else◌}
+use Rattle.std.specs.Prelude.{ℕ, ◌-◌, ◌^◌, List, [], ◌∷◌, pos, negsuc, true, false, nat_lt, if◌then◌else◌}
 use Rattle.std.specs.Int.{Width, w8, w16, w32, w64}
 use Rattle.msgpack_frames.specs.declared.form.Size.{Size}
 use Rattle.msgpack_frames.specs.declared.form.Size.TheVariants.{One, Two, Four, Eight}
@@ -13,6 +13,13 @@ width One = w8
 width Two = w16
 width Four = w32
 width Eight = w64
+
+-- What a number of this size is below.
+abbrev pub bound : Size → ℕ
+bound One = 2 ^ 8
+bound Two = 2 ^ 16
+bound Four = 2 ^ 32
+bound Eight = 2 ^ 64
 
 -- Each row holds for the bytes below its number that no row above it takes.
 abbrev pub rows : List (ℕ × (ℕ → Form))

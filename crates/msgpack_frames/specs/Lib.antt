@@ -1,3 +1,4 @@
 pub mod Data
 pub mod View
 pub mod Forms
+pub mod Reading

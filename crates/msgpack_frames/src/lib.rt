@@ -1,9 +1,11 @@
 //! MessagePack values and frame groups, as bytes.
 #![tactic(auto)]
 
+mod decoder;
 mod error;
 mod form;
 mod value;
 
+pub use decoder::decode;
 pub use error::MpError;
 pub use value::{Integer, Value};
