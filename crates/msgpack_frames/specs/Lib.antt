@@ -1,4 +1,5 @@
 pub mod Data
 pub mod View
 pub mod Forms
+pub mod Encoding
 pub mod Reading
