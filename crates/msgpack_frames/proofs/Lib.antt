@@ -4,3 +4,4 @@ pub mod Depths
 pub mod Numbers
 pub mod Lengths
 pub mod Sound
+pub mod Complete
