@@ -5,3 +5,5 @@ pub mod Numbers
 pub mod Lengths
 pub mod Sound
 pub mod Complete
+pub mod Further
+pub mod Places

@@ -166,6 +166,14 @@ module _ (at d n : ℕ) (head bytes : List ℕ) (x : Data × List ℕ) (small : 
   body_takes i sound Array h e = array_takes i sound h e
   body_takes i sound Map h e = map_takes i sound h e
 
+pub len_takes : (s : Size) (bytes : List ℕ) (x : ℕ × List ℕ) → IsBytes bytes → len_at s bytes ≡ Ok x → (bytes ≡ to_be_bytes (width s) x.0 ++ x.1) × (x.0 < bound s) × (x.0 ≤ max_len) × IsBytes x.1
+unfolding len_at
+len_takes s bytes x fits e =
+    let c = bind_ok (number_at s bytes) (λ n. cond (ltb max_len n.0) (Err errors.Limit) (Ok n)) x e in
+    let l = guard_ok (ltb max_len c.0.0) errors.Limit (Ok c.0) x c.2 in
+    let p = number_takes s bytes c.0.0 c.0.1 fits c.1 in
+    subst (λ (y : ℕ × List ℕ). (bytes ≡ to_be_bytes (width s) y.0 ++ y.1) × (y.0 < bound s) × (y.0 ≤ max_len) × IsBytes y.1) (ok_is c.0 x l.1) (p.0, p.1, ltb-false _ _ l.0, p.2)
+
 module _ (at d b : ℕ) (i : Inner) (sound : Sound d i) (bytes : List ℕ) (x : Data × List ℕ) (fits : IsBytes bytes) where
   whole : (v : Data) → Encodes v (b ∷ []) → depth v ≤ d → IsShort v → (v, bytes) ≡ x → Takes d (b ∷ bytes) x.0 x.1
   whole v encodes shallow short e =
@@ -203,18 +211,13 @@ module _ (at d b : ℕ) (i : Inner) (sound : Sound d i) (bytes : List ℕ) (x : 
       })
 
   sized_takes : (kind : Kind) (s : Size) → form b ≡ Sized kind s → sized_at at i kind s bytes ≡ Ok x → Takes d (b ∷ bytes) x.0 x.1
-  unfolding sized_at len_at
+  unfolding sized_at
   sized_takes kind s f e =
       let g = guard_ok (is_too_deep i kind) errors.Depth (len_at s bytes >>= λ n. body_at at i kind n.0 n.1) x e in
       let a = bind_ok (len_at s bytes) (λ n. body_at at i kind n.0 n.1) x g.1 in
-      let c = bind_ok (number_at s bytes) (λ n. cond (ltb max_len n.0) (Err errors.Limit) (Ok n)) a.0 a.1 in
-      let l = guard_ok (ltb max_len c.0.0) errors.Limit (Ok c.0) a.0 c.2 in
-      let same = ok_is c.0 a.0 l.1 in
-      let p = number_takes s bytes c.0.0 c.0.1 fits c.1 in
-      let small : c.0.0 ≤ max_len = ltb-false _ _ l.0 in
-      let more : body_at at i kind c.0.0 c.0.1 ≡ Ok x = subst (λ (n : ℕ × List ℕ). body_at at i kind n.0 n.1 ≡ Ok x) (sym same) a.2 in
+      let p = len_takes s bytes a.0 fits a.1 in
       subst (λ (t : List ℕ). Takes d (b ∷ t) x.0 x.1) (sym p.0)
-      (body_takes at d c.0.0 (b ∷ to_be_bytes (width s) c.0.0) c.0.1 x small p.2 i sound kind (inr (s, (b, f, p.1, refl))) more)
+      (body_takes at d a.0.0 (b ∷ to_be_bytes (width s) a.0.0) a.0.1 x p.2 p.3 i sound kind (inr (s, (b, f, p.1, refl))) a.2)
 
   formed_takes : (f : Form) → form b ≡ f → formed_at at i f bytes ≡ Ok x → Takes d (b ∷ bytes) x.0 x.1
   formed_takes Nil f e = whole nil (b, f, refl) (omega arith) tt (ok_is (nil, bytes) x e)
@@ -228,12 +231,12 @@ module _ (at d b : ℕ) (i : Inner) (sound : Sound d i) (bytes : List ℕ) (x : 
   formed_takes Ext f e = absurd cc
   formed_takes Reserved f e = absurd cc
 
-first_takes : (total d : ℕ) (i : Inner) → Sound d i → SoundReader d (first_at total i)
+pub first_takes : (total d : ℕ) (i : Inner) → Sound d i → SoundReader d (first_at total i)
 unfolding first_at
 first_takes total d i sound [] x fits e = absurd cc
 first_takes total d i sound (b ∷ bytes) x fits e = formed_takes _ d b i sound bytes x (IsBytes-rest b bytes fits) (form b) refl e
 
-inner_sound : (total d : ℕ) → Sound d (inner total d)
+pub inner_sound : (total d : ℕ) → Sound d (inner total d)
 unfolding inner
 inner_sound total zero = tt
 inner_sound total (suc d) = (d, refl, first_takes total d (inner total d) (inner_sound total d))

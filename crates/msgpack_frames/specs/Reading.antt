@@ -141,8 +141,12 @@ inner total (suc d) = Some (first_at total (inner total d))
 unfoldable pub value_at : ℕ → ℕ → List ℕ → Read Data
 value_at total d bytes = first_at total (inner total d) bytes
 
+-- a value, and how many of this many bytes it takes
+abbrev pub counted : ℕ → Read Data → Result (Data × ℕ) MpError
+counted total read = do
+  x ← read
+  Ok (x.0, total - length x.1)
+
 -- The value at the front, and how many bytes it takes.
 unfoldable pub outcome : List ℕ → Result (Data × ℕ) MpError
-outcome bytes = do
-  x ← value_at (length bytes) max_depth bytes
-  Ok (x.0, length bytes - length x.1)
+outcome bytes = counted (length bytes) (value_at (length bytes) max_depth bytes)
