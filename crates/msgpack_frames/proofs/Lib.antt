@@ -7,3 +7,4 @@ pub mod Sound
 pub mod Complete
 pub mod Further
 pub mod Places
+pub mod Outcome

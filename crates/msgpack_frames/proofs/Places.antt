@@ -13,7 +13,7 @@ use Rattle.msgpack_frames.specs.declared.form.Form.TheVariants.{Nil, Bool as Tru
 use Rattle.msgpack_frames.specs.Data.{Data, integer, text, binary, array, dictionary, Items, item, Pairs, pair, max_depth, max_len}
 use Rattle.msgpack_frames.specs.Forms.{form, width}
 use Rattle.msgpack_frames.specs.Reading.{◌>>=◌, Read, Inner, number_at, unsigned_at, signed_at, len_at, bytes_at, text_at, binary_at, items_at, pairs_at, array_at, map_at, body_at, is_too_deep, sized_at, formed_at, first_at, inner, value_at, counted, outcome}
-use Rattle.msgpack_frames.specs.Refusals.{IsOfText, IsPlace}
+use Rattle.msgpack_frames.specs.Decoded.{IsOfText, IsPlace}
 use Rattle.msgpack_frames.proofs.Numbers.{IsBytes, IsBytes-rest, number_takes}
 use Rattle.msgpack_frames.proofs.Sound.{SoundReader, Sound, len_takes, first_takes, inner_sound}
 use Rattle.msgpack_frames.proofs.Further.{failed, err_is}

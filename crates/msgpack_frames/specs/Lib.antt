@@ -3,4 +3,4 @@ pub mod View
 pub mod Forms
 pub mod Encoding
 pub mod Reading
-pub mod Refusals
+pub mod Decoded

@@ -1,9 +1,11 @@
 //! From bytes to a value.
 
-ghost use Rattle.std.specs.Prelude.{◌≡◌, ℕ, ◌-◌, ◌^◌, ◌<◌, ◌≤◌, List, length, IfOk, Ok};
+ghost use Rattle.std.specs.Prelude.{◌≡◌, ℕ, ◌-◌, ◌^◌, ◌<◌, ◌≤◌, ◌++◌, List, length, IfOk, IfErr, Ok};
 ghost use Rattle.std.specs.Int.{cast_signed};
 ghost use Rattle.msgpack_frames.specs.Forms.{width, bound};
-ghost use Rattle.msgpack_frames.specs.Data.{nil, integer, items_len};
+ghost use Rattle.msgpack_frames.specs.Data.{Data, IsWithin};
+ghost use Rattle.msgpack_frames.specs.Encoding.{Encodes};
+ghost use Rattle.msgpack_frames.specs.Decoded.{Answers, IsFound, Refuses};
 ghost use Rattle.msgpack_frames.specs.View.{view, items_view, pairs_view};
 ghost use Rattle.msgpack_frames.specs.Reading.{Gives, number_at, unsigned_at, signed_at, len_at, text_at, binary_at, items_at, pairs_at, array_at, map_at, body_at, is_too_deep, sized_at, formed_at, value_at, inner, outcome};
 
@@ -318,11 +320,33 @@ fn pairs_of(
     Ok((pairs, rest))
 }
 
-/// The value at the front of the bytes, and how many bytes it takes. Bytes may follow it.
 #[tactic(auto, unfolding(crate::specs::Reading::outcome))]
-pub fn decode(alloc: Global, bytes: &[u8]) -> Result<(Value, usize), MpError>
-    ensures exact { Gives (λ x. (view x.0, x.1)) result (outcome bytes.now) }
+fn first_value(alloc: Global, bytes: &[u8]) -> Result<(Value, usize), MpError>
+    ensures { Answers result (outcome bytes.now) }
 {
     let (value, rest) = value_of(alloc, bytes.len(), MAX_DEPTH, bytes)?;
     Ok((value, bytes.len().saturating_sub(rest.len())))
+}
+
+/// The value at the front of the bytes, and how many bytes it takes. Bytes may follow it.
+///
+/// Takes each form that the [MessagePack specification] gives a value, also one that is longer than need
+/// be, and no other bytes. A refusal is the first one from left to right. `Depth` is where a 17th array or
+/// map begins inside 16 that are open, `Limit` where a length above 2^27 has been read; a string is tested
+/// for UTF-8 once all its bytes are there. Memory is taken only for bytes that are there, whatever lengths
+/// they claim.
+///
+/// [MessagePack specification]: https://github.com/msgpack/msgpack/blob/master/spec.md
+pub fn decode(alloc: Global, bytes: &[u8]) -> Result<(Value, usize), MpError>
+    // What is read is encoded so, in the bytes that it takes.
+    ensures found { IfOk result (λ x. IsFound bytes.now (view x.0) x.1) }
+    // What is encoded so is read, whatever follows, unless memory runs out.
+    ensures accepted { (d : Data) (front rest : List ℕ) → Encodes d front → IsWithin d → bytes.now ≡ front ++ rest
+        → Answers result (Ok (d, length front)) }
+    // A refusal is the first one, at its place.
+    ensures refused { IfErr result (Refuses bytes.now) }
+    // Which answer it is.
+    ensures exact { Answers result (outcome bytes.now) }
+{
+    first_value(alloc, bytes)
 }

@@ -4,8 +4,10 @@
 mod decoder;
 mod error;
 mod form;
+mod laws;
 mod value;
 
 pub use decoder::decode;
 pub use error::MpError;
+pub use laws::one_value;
 pub use value::{Integer, Value};

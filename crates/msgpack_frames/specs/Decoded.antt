@@ -1,12 +1,24 @@
--- What a refusal says of the bytes.
-use Rattle.std.specs.Prelude.{◌≡◌, ℕ, ◌<◌, ◌++◌, List, length, take, slice_index, Result, Ok, Err}
+-- What an answer says of the bytes.
+use Rattle.std.specs.Prelude.{◌≡◌, ℕ, ◌<◌, ◌≤◌, ◌++◌, List, length, take, slice_index, Result, Ok, Err}
 use Rattle.msgpack_frames.specs.declared.error.MpError.{MpError}
 use Rattle.msgpack_frames.specs.declared.error.MpError.TheVariants as errors
 use Rattle.msgpack_frames.specs.declared.form.Kind.TheVariants.{Str, Bin, Array, Map}
 use Rattle.msgpack_frames.specs.declared.form.Form.{Form}
 use Rattle.msgpack_frames.specs.declared.form.Form.TheVariants.{Nil, Bool as Truth, Small, Unsigned, Signed, Fixed, Sized, Float, Ext, Reserved}
+use Rattle.msgpack_frames.specs.Data.{Data, IsWithin}
+use Rattle.msgpack_frames.specs.Encoding.{Encodes}
 use Rattle.msgpack_frames.specs.Forms.{form}
-use Rattle.msgpack_frames.specs.Reading.{outcome}
+use Rattle.msgpack_frames.specs.Reading.{Gives, outcome}
+use Rattle.msgpack_frames.specs.View.{view}
+use Rattle.msgpack_frames.specs.declared.value.Value.{Value}
+
+-- What was answered is what reading gives, unless memory ran out.
+abbrev pub Answers : Result (Value × ℕ) MpError → Result (Data × ℕ) MpError → Type 0
+Answers answer read = Gives (λ x. (view x.0, x.1)) answer read
+
+-- The first n bytes are the value d, which keeps both limits.
+abbrev pub IsFound : List ℕ → Data → ℕ → Type 0
+IsFound bytes d n = (n ≤ length bytes) × Encodes d (take n bytes) × IsWithin d
 
 abbrev pub IsOfText : Form → Type 0
 IsOfText (Fixed Str n) = Unit {0}
