@@ -4,3 +4,4 @@ pub mod Forms
 pub mod Encoding
 pub mod Reading
 pub mod Decoded
+pub mod Spelling

@@ -15,10 +15,10 @@ use crate::value::{Integer, Value};
 use std::alloc::Global;
 
 /// How many arrays and maps may be open at once.
-const MAX_DEPTH: usize = 16;
+pub(crate) const MAX_DEPTH: usize = 16;
 
 /// The greatest length.
-const MAX_LEN: u64 = 1 << 27;
+pub(crate) const MAX_LEN: u64 = 1 << 27;
 
 fn u8_at(bytes: &[u8]) -> Result<(u64, &[u8]), MpError>
     ensures read { Gives (λ x. (x.0, x.1.now)) result (number_at Size.One bytes.now) }
