@@ -8,3 +8,4 @@ pub mod Complete
 pub mod Further
 pub mod Places
 pub mod Outcome
+pub mod Faults

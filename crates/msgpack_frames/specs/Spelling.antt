@@ -102,10 +102,13 @@ abbrev mutual
   pairs_fault k (pair key v ps) = first_fault (fault_of k key) (first_fault (fault_of k v) (pairs_fault k ps))
 
 -- What a function returned tells of this fault, unless memory ran out.
+abbrev pub Names : MpError → Option MpError → Type 0
+Names errors.OutOfMemory fault = Unit {0}
+Names e fault = fault ≡ Some e
+
 abbrev pub Tells : {X : Type 0} → Result X MpError → Option MpError → Type 0
 Tells (Ok x) fault = fault ≡ None
-Tells (Err errors.OutOfMemory) fault = Unit {0}
-Tells (Err e) fault = fault ≡ Some e
+Tells (Err e) fault = Names e fault
 
 -- Why a value has no encoding within the limits: the first limit that it breaks.
 abbrev pub IsFaultOf : Data → MpError → Type 0

@@ -2,7 +2,7 @@
 
 ghost use Rattle.std.specs.Prelude.{◌≡◌, ℕ, ◌-◌, ◌^◌, ◌<◌, ◌≤◌, ◌++◌, ◌∷◌, [], List, length, negsuc, neg_ℤ, pos, ◌<ℤ◌, ◌≤ℤ◌, OnOk, IfOk, IfErr, Ok, None, Some};
 ghost use Rattle.std.specs.Int.{to_be_bytes};
-ghost use Rattle.msgpack_frames.specs.Data.{Data, array, dictionary, text, binary, max_len, IsWithin};
+ghost use Rattle.msgpack_frames.specs.Data.{Data, array, dictionary, text, binary, max_depth, max_len, IsInRange, IsWithin};
 ghost use Rattle.msgpack_frames.specs.Encoding.{Encodes};
 ghost use Rattle.msgpack_frames.specs.Forms.{bound, width};
 ghost use Rattle.msgpack_frames.specs.Reading.{outcome};
@@ -94,7 +94,8 @@ fn put_negative(out: &mut Vec<u8>, below: u64) -> Result<(), AllocError>
 }
 
 fn put_integer(out: &mut Vec<u8>, integer: Integer) -> Result<(), AllocError>
-    ensures { OnOk result (out.new.items ≡ out.old.items ++ number integer) }
+    ensures ok { OnOk result (out.new.items ≡ out.old.items ++ number integer) }
+    ensures range { IsInRange integer }
 {
     let number = integer.get();
     if number >= 0 {
@@ -186,4 +187,103 @@ fn begin(out: &mut Vec<u8>, kind: Kind, len: usize) -> Result<(), MpError>
     }
     put_head(out, kind, len)?;
     Ok(())
+}
+
+#[cycle(write)]
+fn put(out: &mut Vec<u8>, depth: usize, value: &Value) -> Result<(), MpError>
+    ensures ok { OnOk result (out.new.items ≡ out.old.items ++ spelling (view value.now)) }
+    ensures valid { OnOk result (IsValid (view value.now)) }
+    ensures fault { Tells result (fault_of depth (view value.now)) }
+{
+    match value {
+        Value::Nil => Ok(put_byte(out, 0xc0)?),
+        Value::Bool(false) => Ok(put_byte(out, 0xc2)?),
+        Value::Bool(true) => Ok(put_byte(out, 0xc3)?),
+        Value::Int(integer) => Ok(put_integer(out, *integer)?),
+        Value::Str(text) => put_text(out, text.as_str()),
+        Value::Bin(bytes) => put_binary(out, bytes),
+        Value::Array(items) => put_array(out, depth, items),
+        Value::Map(pairs) => put_map(out, depth, pairs),
+    }
+}
+
+fn put_text(out: &mut Vec<u8>, string: &str) -> Result<(), MpError>
+    ensures ok { OnOk result (out.new.items ≡ out.old.items ++ spelling (text string.now)) }
+    ensures valid { OnOk result (IsValid (text string.now)) }
+    ensures fault { (depth : ℕ) → Tells result (fault_of depth (text string.now)) }
+{
+    let bytes = string.as_bytes();
+    begin(out, Kind::Str, bytes.len())?;
+    out.extend_from_slice(bytes)?;
+    Ok(())
+}
+
+fn put_binary(out: &mut Vec<u8>, bytes: &[u8]) -> Result<(), MpError>
+    ensures ok { OnOk result (out.new.items ≡ out.old.items ++ spelling (binary bytes.now)) }
+    ensures fault { (depth : ℕ) → Tells result (fault_of depth (binary bytes.now)) }
+{
+    begin(out, Kind::Bin, bytes.len())?;
+    out.extend_from_slice(bytes)?;
+    Ok(())
+}
+
+#[cycle(write)]
+fn put_array(out: &mut Vec<u8>, depth: usize, items: &Vec<Value>) -> Result<(), MpError>
+    ensures ok { OnOk result (out.new.items ≡ out.old.items ++ spelling (array (items_view items.now.items))) }
+    ensures valid { OnOk result (AreValid (items_view items.now.items)) }
+    ensures fault { Tells result (fault_of depth (array (items_view items.now.items))) }
+{
+    if depth == 0 {
+        return Err(MpError::Depth);
+    }
+    begin(out, Kind::Array, items.len())?;
+    put_items(out, depth - 1, items)
+}
+
+#[cycle(write)]
+fn put_map(out: &mut Vec<u8>, depth: usize, pairs: &Vec<(Value, Value)>) -> Result<(), MpError>
+    ensures ok { OnOk result (out.new.items ≡ out.old.items ++ spelling (dictionary (pairs_view pairs.now.items))) }
+    ensures valid { OnOk result (PairsAreValid (pairs_view pairs.now.items)) }
+    ensures fault { Tells result (fault_of depth (dictionary (pairs_view pairs.now.items))) }
+{
+    if depth == 0 {
+        return Err(MpError::Depth);
+    }
+    begin(out, Kind::Map, pairs.len())?;
+    put_pairs(out, depth - 1, pairs)
+}
+
+#[cycle(write)]
+fn put_items(out: &mut Vec<u8>, depth: usize, items: &Vec<Value>) -> Result<(), MpError>
+    ensures ok { OnOk result (out.new.items ≡ out.old.items ++ items_spelling (items_view items.now.items)) }
+    ensures valid { OnOk result (AreValid (items_view items.now.items)) }
+    ensures fault { Tells result (items_fault depth (items_view items.now.items)) }
+{
+    for item in items {
+        put(out, depth, item)?;
+    }
+    Ok(())
+}
+
+#[cycle(write)]
+fn put_pairs(out: &mut Vec<u8>, depth: usize, pairs: &Vec<(Value, Value)>) -> Result<(), MpError>
+    ensures ok { OnOk result (out.new.items ≡ out.old.items ++ pairs_spelling (pairs_view pairs.now.items)) }
+    ensures valid { OnOk result (PairsAreValid (pairs_view pairs.now.items)) }
+    ensures fault { Tells result (pairs_fault depth (pairs_view pairs.now.items)) }
+{
+    for pair in pairs {
+        put(out, depth, &pair.0)?;
+        put(out, depth, &pair.1)?;
+    }
+    Ok(())
+}
+
+fn spelled(alloc: Global, value: &Value) -> Result<Vec<u8>, MpError>
+    ensures ok { IfOk result (λ v. v.items ≡ spelling (view value.now)) }
+    ensures valid { OnOk result (IsValid (view value.now)) }
+    ensures fault { Tells result (fault_of max_depth (view value.now)) }
+{
+    let mut out = Vec::new(alloc);
+    put(&mut out, MAX_DEPTH, value)?;
+    Ok(out)
 }
