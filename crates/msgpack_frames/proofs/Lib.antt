@@ -9,3 +9,5 @@ pub mod Further
 pub mod Places
 pub mod Outcome
 pub mod Faults
+pub mod Spelled
+pub mod Written

@@ -287,3 +287,24 @@ fn spelled(alloc: Global, value: &Value) -> Result<Vec<u8>, MpError>
     put(&mut out, MAX_DEPTH, value)?;
     Ok(out)
 }
+
+/// The shortest encoding of the value, with numbers that are not negative unsigned.
+///
+/// `Depth` is where more than 16 arrays and maps are open at once, and `Limit` where a length is above 2^27,
+/// of bytes, of elements or of pairs: whichever comes first. What is written reads back as the same value,
+/// whatever follows it. See the [MessagePack specification].
+///
+/// [MessagePack specification]: https://github.com/msgpack/msgpack/blob/master/spec.md
+pub fn encode(alloc: Global, value: &Value) -> Result<Vec<u8>, MpError>
+    // What is written encodes the value, and nothing shorter does.
+    ensures encoded { IfOk result (λ v. Encodes (view value.now) v.items) }
+    ensures shortest { IfOk result (λ v. (other : List ℕ) → Encodes (view value.now) other → length v.items ≤ length other) }
+    ensures spelled { IfOk result (λ v. v.items ≡ spelling (view value.now)) }
+    // It keeps the limits, and is read again.
+    ensures within { OnOk result (IsWithin (view value.now)) }
+    ensures read_back { IfOk result (λ v. (more : List ℕ) → outcome (v.items ++ more) ≡ Ok (view value.now, length v.items)) }
+    // The first limit that the value breaks.
+    ensures refused { IfErr result (IsFaultOf (view value.now)) }
+{
+    spelled(alloc, value)
+}

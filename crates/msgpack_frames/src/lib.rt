@@ -9,6 +9,7 @@ mod laws;
 mod value;
 
 pub use decoder::decode;
+pub use encoder::encode;
 pub use error::MpError;
 pub use laws::one_value;
 pub use value::{Integer, Value};
