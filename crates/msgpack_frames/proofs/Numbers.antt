@@ -28,23 +28,23 @@ pub IsBytes-rest : (b : ℕ) (bytes : List ℕ) → IsBytes (b ∷ bytes) → Is
 IsBytes-rest b bytes h i = h (suc i)
 
 -- the value of a step that did not fail
-pub bind_ok : {A B : Type 0} (r : Result A MpError) (f : A → Result B MpError) (y : B) → (r >>= f) ≡ Ok y → (x : A) × (r ≡ Ok x) × (f x ≡ Ok y)
+pub bind_ok : {A B E : Type 0} (r : Result A E) (f : A → Result B E) (y : B) → (r >>= f) ≡ Ok y → (x : A) × (r ≡ Ok x) × (f x ≡ Ok y)
 bind_ok (Ok x) f y e = (x, refl, e)
 bind_ok (Err d) f y e = absurd cc
 
 -- a test that did not fail
-pub guard_ok : {A : Type 0} (b : Bool) (d : MpError) (x : Result A MpError) (y : A) → cond b (Err d) x ≡ Ok y → (b ≡ false) × (x ≡ Ok y)
+pub guard_ok : {A E : Type 0} (b : Bool) (d : E) (x : Result A E) (y : A) → cond b (Err d) x ≡ Ok y → (b ≡ false) × (x ≡ Ok y)
 guard_ok true d x y e = absurd cc
 guard_ok false d x y e = (refl, e)
 
-pub guard_held : {A : Type 0} (b : Bool) (d : MpError) (x : Result A MpError) (y : A) → cond b x (Err d) ≡ Ok y → (b ≡ true) × (x ≡ Ok y)
+pub guard_held : {A E : Type 0} (b : Bool) (d : E) (x : Result A E) (y : A) → cond b x (Err d) ≡ Ok y → (b ≡ true) × (x ≡ Ok y)
 guard_held true d x y e = (refl, e)
 guard_held false d x y e = absurd cc
 
-abbrev done : {A : Type 0} → A → Result A MpError
+abbrev done : {A E : Type 0} → A → Result A E
 done x = Ok x
 
-pub ok_is : {A : Type 0} (x y : A) → done x ≡ done y → x ≡ y
+pub ok_is : {A E : Type 0} (x y : A) → done {E = E} x ≡ done y → x ≡ y
 ok_is x y e = cc
 
 -- what numbers of a size are

@@ -13,7 +13,7 @@ use Rattle.msgpack_frames.specs.Data.{Data, nil, boolean, integer, text, binary,
 use Rattle.msgpack_frames.specs.Forms.{width, form}
 
 infixl 10 ◌>>=◌
-abbrev pub ◌>>=◌ : {A B : Type 0} → Result A MpError → (A → Result B MpError) → Result B MpError
+abbrev pub ◌>>=◌ : {A B E : Type 0} → Result A E → (A → Result B E) → Result B E
 (Ok x) >>= f = f x
 (Err e) >>= f = Err e
 
