@@ -11,3 +11,4 @@ pub mod Outcome
 pub mod Faults
 pub mod Spelled
 pub mod Written
+pub mod GroupLoops

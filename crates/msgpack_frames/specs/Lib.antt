@@ -5,3 +5,4 @@ pub mod Encoding
 pub mod Reading
 pub mod Decoded
 pub mod Spelling
+pub mod Groups

@@ -34,6 +34,19 @@ pub enum MpError {
     OutOfMemory,
 }
 
+/// Why a stream of frame groups is refused.
+#[derive(Clone, Copy, Debug, PartialEq, Eq, Error)]
+pub enum FrameError {
+    /// A group of no frames, or of more than 17.
+    #[error("a group of {count} frames")]
+    TooMany { count: u64 },
+    /// A first frame longer than 2^24 bytes, or another longer than 2^27.
+    #[error("a frame of {len} bytes")]
+    TooLong { len: u64 },
+    #[error("out of memory")]
+    OutOfMemory,
+}
+
 impl From<AllocError> for MpError {
     ghost from_gives = { λ _ e. e ≡ OutOfMemory };
 

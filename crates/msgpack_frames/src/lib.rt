@@ -5,11 +5,12 @@ mod decoder;
 mod encoder;
 mod error;
 mod form;
+mod group;
 mod laws;
 mod value;
 
 pub use decoder::decode;
 pub use encoder::encode;
-pub use error::MpError;
+pub use error::{FrameError, MpError};
 pub use laws::one_value;
 pub use value::{Integer, Value};
