@@ -12,3 +12,4 @@ pub mod Faults
 pub mod Spelled
 pub mod Written
 pub mod GroupLoops
+pub mod GroupLaws
