@@ -6,9 +6,12 @@ use Rattle.std.proofs.lemmas.Bool.{ltb-true, ltb-false, lt-ltb, le-ltb, eqb-true
 use Rattle.std.proofs.lemmas.List.{append-nil, take_at, drop_at, take-append-drop, length-append, length-take, length-drop, length-map, drop-drop, take-append-le, drop-append-le}
 use Rattle.std.proofs.lemmas.Nat.{le_bytes_8, from_le_bytes-to_le_bytes_8}
 use Rattle.msgpack_frames.specs.declared.error.FrameError.{FrameError}
-use Rattle.msgpack_frames.specs.declared.error.FrameError.TheVariants.{TooMany, TooLong}
+use Rattle.msgpack_frames.specs.declared.error.FrameError.TheVariants.{TooMany, TooLong, OutOfMemory}
+use Rattle.std.specs.Prelude.{IfOk, IfErr}
+use Rattle.msgpack_frames.specs.declared.group.Stop.{Stop}
+use Rattle.msgpack_frames.specs.declared.group.Stop.TheVariants as stops
 use Rattle.msgpack_frames.specs.Reading.{◌>>=◌}
-use Rattle.msgpack_frames.specs.Groups.{Group, max_frames, frame_limit, AreWithin, IsGroup, number, lens_bytes, frames_bytes, group_bytes, Take, wanted, number_at, count_at, len_at, lens_at, total, cut, frames_at, group_at}
+use Rattle.msgpack_frames.specs.Groups.{Group, max_frames, frame_limit, AreWithin, IsGroup, number, lens_bytes, frames_bytes, group_bytes, Take, wanted, Stops, Takes, number_at, count_at, len_at, lens_at, total, cut, frames_at, group_at}
 use Rattle.msgpack_frames.proofs.Numbers.{IsBytes, IsBytes-take, IsBytes-drop, bind_ok, guard_ok, ok_is}
 
 -- ---- numbers
@@ -252,3 +255,67 @@ group_stays bytes more e h =
         | inr y ↦ absurd (never_refused _ _ e y.2)
       ]
     ]
+
+pub group_some : (g : Group) → 0 < length (group_bytes g)
+unfolding group_bytes
+group_some g = omega arith
+
+-- want of memory is no refusal
+pub never_memory : (bytes : List ℕ) → group_at bytes ≡ Err (Some OutOfMemory) → ⊥
+unfolding group_at frames_at count_at len_at lens_at
+never_memory bytes h =
+    elim (bind_refused (count_at bytes) (λ count. lens_at 0 count.0 count.1 >>= λ lens. frames_at lens.0 lens.1) OutOfMemory h) [
+      | inl stop ↦ never_count bytes stop
+      | inr x ↦ elim (bind_refused (lens_at 0 x.0.0 x.0.1) (λ lens. frames_at lens.0 lens.1) OutOfMemory x.2) [
+        | inl stop ↦ never_lens 0 x.0.0 x.0.1 stop
+        | inr y ↦ never_refused _ _ OutOfMemory y.2
+      ]
+    ]
+  where
+    never_count : (bytes : List ℕ) → count_at bytes ≡ refused OutOfMemory → ⊥
+    never_count bytes h =
+        elim (bind_refused (number_at bytes) (λ n. cond (is_wrong n.0) (refused (TooMany n.0)) (Ok n)) OutOfMemory h) [
+          | inl stop ↦ never_refused _ _ OutOfMemory stop
+          | inr x ↦ let t = test_refused (is_wrong x.0.0) (TooMany x.0.0) OutOfMemory x.0 x.2 in let e : TooMany x.0.0 ≡ OutOfMemory = t.1 in cc e
+        ]
+
+    never_len : (i : ℕ) (bytes : List ℕ) → len_at i bytes ≡ refused OutOfMemory → ⊥
+    never_len i bytes h =
+        elim (bind_refused (number_at bytes) (λ n. cond (ltb (frame_limit i) n.0) (refused (TooLong n.0)) (Ok n)) OutOfMemory h) [
+          | inl stop ↦ never_refused _ _ OutOfMemory stop
+          | inr x ↦ let t = test_refused (ltb (frame_limit i) x.0.0) (TooLong x.0.0) OutOfMemory x.0 x.2 in let e : TooLong x.0.0 ≡ OutOfMemory = t.1 in cc e
+        ]
+
+    never_lens : (i n : ℕ) (bytes : List ℕ) → lens_at i n bytes ≡ refused OutOfMemory → ⊥
+    never_lens i zero bytes h = cc
+    never_lens i (suc n) bytes h =
+        elim (bind_refused (len_at i bytes) (λ len. lens_at (suc i) n len.1 >>= λ others. Ok (len.0 ∷ others.0, others.1)) OutOfMemory h) [
+          | inl stop ↦ never_len i bytes stop
+          | inr x ↦ elim (bind_refused (lens_at (suc i) n x.0.1) (λ others. Ok (x.0.0 ∷ others.0, others.1)) OutOfMemory x.2) [
+            | inl stop ↦ never_lens (suc i) n x.0.1 stop
+            | inr y ↦ cc y.2
+          ]
+        ]
+
+-- ---- what a function that reads a group returned
+
+module _ {X : Type 0} (view : X → Group × List ℕ) (bytes : List ℕ) (fits : IsBytes bytes) where
+  pub group_parts : (r : Result X Stop) → Takes view r (group_at bytes) → IfOk r (λ x. IsGroup (view x).0 × (bytes ≡ group_bytes (view x).0 ++ (view x).1))
+  group_parts (Ok x) h = group_takes bytes (view x) fits h
+  group_parts (Err e) h = tt
+
+  pub group_shorter : (r : Result X Stop) → Takes view r (group_at bytes) → IfOk r (λ x. length (view x).1 < length bytes)
+  group_shorter (Ok x) h = let p = group_takes bytes (view x) fits h in omega (arith, ap length p.1, length-append (group_bytes (view x).0) (view x).1, group_some (view x).0)
+  group_shorter (Err e) h = tt
+
+  pub group_stops : (r : Result X Stop) → Takes view r (group_at bytes) → IfErr r (λ e. Stops e (group_at bytes))
+  group_stops (Ok x) h = tt
+  group_stops (Err e) h = h
+
+  pub group_refused : (r : Result X Stop) → Takes view r (group_at bytes) → IfErr r (λ e. e ≡ stops.At (Some OutOfMemory) → ⊥)
+  group_refused (Ok x) h = tt
+  group_refused (Err stops.Memory) h = λ e. cc e
+  group_refused (Err (stops.At why)) h = λ e. never_memory bytes (h ∙ ap (λ (w : Option FrameError). Err w) (why_is why e))
+    where
+      why_is : (why : Option FrameError) → stops.At why ≡ stops.At (Some OutOfMemory) → why ≡ Some OutOfMemory
+      why_is why e = cc e

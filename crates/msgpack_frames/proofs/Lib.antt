@@ -13,3 +13,4 @@ pub mod Spelled
 pub mod Written
 pub mod GroupLoops
 pub mod GroupLaws
+pub mod Streams

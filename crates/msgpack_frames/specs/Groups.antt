@@ -114,6 +114,19 @@ pub record Reads (stream : List ℕ) (groups : List Group) (rest : List ℕ) (wh
   pub whole : stream ≡ groups_bytes groups ++ rest
   pub stopped : group_at rest ≡ Err why
 
+-- The bytes begin with the groups that were added, and this is the rest.
+pub record Found (bytes : List ℕ) (old new : List Group) (rest : List ℕ) : Type 0 where
+  pub groups : List Group
+  pub ready : new ≡ old ++ groups
+  pub each : AllByRecursion IsGroup groups
+  pub whole : bytes ≡ groups_bytes groups ++ rest
+
+-- The same, where the rest is no whole group.
+pub record Advances (bytes : List ℕ) (old new : List Group) (rest : List ℕ) (why : Option FrameError) : Type 0 where
+  pub groups : List Group
+  pub ready : new ≡ old ++ groups
+  pub reads : Reads bytes groups rest why
+
 -- what a reader holds: the groups that were not taken yet, the bytes of the next, and why it refuses more
 pub record Progress : Type 0 where
   pub ready : List Group

@@ -1,7 +1,7 @@
 //! One frame group at the front of some bytes.
 
-ghost use Rattle.std.specs.Prelude.{◌≡◌, ◌==◌, ◌≤◌, ◌↔◌, map, drop, length, option_map, slice_get, IsTrue, IfOk, Some, None, Ok};
-ghost use Rattle.msgpack_frames.specs.Groups.{Takes, number_at, count_at, len_at, lens_at, total, cut, frames_at, group_at, frame_limit};
+ghost use Rattle.std.specs.Prelude.{◌≡◌, ◌==◌, ◌<◌, ◌≤◌, ◌++◌, ◌↔◌, map, drop, length, option_map, slice_get, IsTrue, IfOk, IfErr, Some, None, Ok};
+ghost use Rattle.msgpack_frames.specs.Groups.{IsGroup, group_bytes, Stops, Takes, number_at, count_at, len_at, lens_at, total, cut, frames_at, group_at, frame_limit};
 ghost use Rattle.msgpack_frames.specs.declared.group.Stop.TheVariants.{Memory};
 
 use crate::error::FrameError;
@@ -160,15 +160,24 @@ impl Frames {
     }
 }
 
-/// The group at the front of the bytes, and the bytes after it.
 #[tactic(auto, unfolding(crate::specs::Groups::group_at))]
-pub(crate) fn group_of(alloc: Global, bytes: &[u8]) -> Result<(Frames, &[u8]), Stop>
+fn first_group(alloc: Global, bytes: &[u8]) -> Result<(Frames, &[u8]), Stop>
     ensures { Takes (λ x. (x.0, x.1.now)) result (group_at bytes.now) }
 {
     let (count, rest) = count_of(bytes)?;
     let (lens, rest) = lens_of(alloc, count, rest)?;
     let (frames, rest) = body_of(alloc, &lens, rest)?;
     Ok((frames, rest))
+}
+
+/// The group at the front of the bytes, and the bytes after it.
+pub(crate) fn group_of(alloc: Global, bytes: &[u8]) -> Result<(Frames, &[u8]), Stop>
+    ensures parts { IfOk result (λ x. IsGroup x.0 × (bytes.now ≡ group_bytes x.0 ++ x.1.now)) }
+    ensures shorter { IfOk result (λ x. length x.1.now < length bytes.now) }
+    ensures stops { IfErr result (λ e. Stops e (group_at bytes.now)) }
+    ensures refused { IfErr result (λ e. e ≡ Stop.At (Some FrameError.OutOfMemory) → ⊥) }
+{
+    first_group(alloc, bytes)
 }
 
 #[tactic(auto, unfolding(crate::specs::Groups::frames_at))]
