@@ -135,6 +135,20 @@ impl Model for Frames {
 }
 
 impl Frames {
+    /// The group of these frames.
+    pub fn from_vec(frames: Vec<Vec<u8>>) -> Self
+        ensures { result ≡ map (λ f. f.items) frames.items }
+    {
+        Frames { frames }
+    }
+
+    /// The frames, taken out.
+    pub fn into_vec(self) -> Vec<Vec<u8>>
+        ensures { map (λ f. f.items) result.items ≡ self }
+    {
+        self.frames
+    }
+
     /// How many frames there are.
     pub fn len(&self) -> usize
         ensures { result ≡ length self.now }
