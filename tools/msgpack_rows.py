@@ -1,6 +1,7 @@
 """Writes crates/msgpack_frames/src/tests/rows.rt: values, and their encodings by another implementation.
 
 Run with Debian's python3-msgpack (1.0.3), at the top of the repository: /usr/bin/python3 tools/msgpack_rows.py
+Then run `rt fmt` in the crate.
 Each row is the bytes that `msgpack.packb` made, and the value as Rust's `{:?}` prints it.
 """
 

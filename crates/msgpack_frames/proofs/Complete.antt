@@ -73,6 +73,7 @@ map_again total k ps body rest lt h = rw (inner-some total k lt, h) refl
 module _ (total : ℕ) where
   mutual
     unfolding items_at pairs_at
+
     pub value_again : (k : ℕ) (v : Data) (front rest : List ℕ) → Encodes v front → depth v ≤ k → IsShort v → value_at total k (front ++ rest) ≡ Ok (v, rest)
     value_again k nil front rest h le short = rw h.2 (byte_again total k h.0 Nil rest h.1)
     value_again k (boolean b) front rest h le short = rw h.2 (byte_again total k h.0 (Truth b) rest h.1)

@@ -44,11 +44,94 @@ listed_in low (row ∷ others) b h le =
     cond_both (ltb b row.0) (row.1 b) (form_in others b) IsListed (λ e. h.0 b le (ltb-true b row.0 e)) (λ e. listed_in row.0 others b h.1 (ltb-false b row.0 e))
 
 listed_rows : AreListed 0 rows
-listed_rows =
-    (λ b le lt. omega arith, (λ b le lt. omega arith, (λ b le lt. omega arith, (λ b le lt. omega arith,
-    (λ b le lt. tt, (λ b le lt. tt, (λ b le lt. tt, (λ b le lt. tt, (λ b le lt. tt, (λ b le lt. tt, (λ b le lt. tt, (λ b le lt. tt, (λ b le lt. tt, (λ b le lt. tt, (λ b le lt. tt, (λ b le lt. tt,
-    (λ b le lt. tt, (λ b le lt. tt, (λ b le lt. tt, (λ b le lt. tt, (λ b le lt. tt, (λ b le lt. tt, (λ b le lt. tt, (λ b le lt. tt, (λ b le lt. tt, (λ b le lt. tt, (λ b le lt. tt, (λ b le lt. tt, (λ b le lt. tt,
-    (λ b le lt. omega arith, tt))))))))))))))))))))))))))))))
+listed_rows = (
+  λ b le lt. omega arith,
+  (
+    λ b le lt. omega arith,
+    (
+      λ b le lt. omega arith,
+      (
+        λ b le lt. omega arith,
+        (
+          λ b le lt. tt,
+          (
+            λ b le lt. tt,
+            (
+              λ b le lt. tt,
+              (
+                λ b le lt. tt,
+                (
+                  λ b le lt. tt,
+                  (
+                    λ b le lt. tt,
+                    (
+                      λ b le lt. tt,
+                      (
+                        λ b le lt. tt,
+                        (
+                          λ b le lt. tt,
+                          (
+                            λ b le lt. tt,
+                            (
+                              λ b le lt. tt,
+                              (
+                                λ b le lt. tt,
+                                (
+                                  λ b le lt. tt,
+                                  (
+                                    λ b le lt. tt,
+                                    (
+                                      λ b le lt. tt,
+                                      (
+                                        λ b le lt. tt,
+                                        (
+                                          λ b le lt. tt,
+                                          (
+                                            λ b le lt. tt,
+                                            (
+                                              λ b le lt. tt,
+                                              (
+                                                λ b le lt. tt,
+                                                (
+                                                  λ b le lt. tt,
+                                                  (
+                                                    λ b le lt. tt,
+                                                    (
+                                                      λ b le lt. tt,
+                                                      (
+                                                        λ b le lt. tt,
+                                                        (
+                                                          λ b le lt. tt,
+                                                          (λ b le lt. omega arith, tt),
+                                                        ),
+                                                      ),
+                                                    ),
+                                                  ),
+                                                ),
+                                              ),
+                                            ),
+                                          ),
+                                        ),
+                                      ),
+                                    ),
+                                  ),
+                                ),
+                              ),
+                            ),
+                          ),
+                        ),
+                      ),
+                    ),
+                  ),
+                ),
+              ),
+            ),
+          ),
+        ),
+      ),
+    ),
+  ),
+)
 
 pub listed : (b : ℕ) (f : Form) → form b ≡ f → IsListed f
 unfolding form

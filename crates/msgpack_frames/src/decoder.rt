@@ -120,12 +120,7 @@ fn len_of(size: Size, bytes: &[u8]) -> Result<(u64, &[u8]), MpError>
 }
 
 #[tactic(auto, unfolding(crate::specs::Reading::text_at))]
-fn text_of(
-    alloc: Global,
-    at: usize,
-    len: u64,
-    bytes: &[u8],
-) -> Result<(Value, &[u8]), MpError>
+fn text_of(alloc: Global, at: usize, len: u64, bytes: &[u8]) -> Result<(Value, &[u8]), MpError>
     ensures { Gives (λ x. (view x.0, x.1.now)) result (text_at at len bytes.now) }
 {
     let len = len as usize;

@@ -102,11 +102,7 @@ fn has_room(lens: &[u64], room: usize) -> bool
     true
 }
 
-fn frames_of(
-    alloc: Global,
-    lens: &[u64],
-    bytes: &[u8],
-) -> Result<Vec<Vec<u8>>, AllocError>
+fn frames_of(alloc: Global, lens: &[u64], bytes: &[u8]) -> Result<Vec<Vec<u8>>, AllocError>
     requires { total lens.now ≤ length bytes.now }
     ensures { IfOk result (λ v. map (λ f. f.items) v.items ≡ cut lens.now bytes.now) }
 {

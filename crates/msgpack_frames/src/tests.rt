@@ -13,7 +13,8 @@ const FREE_KEYS: [u8; 21] = [
 
 /// What the MessagePack specification says of each first byte: i number, m map, a array, s string, n nil,
 /// t truth, b bytes, f float, e extension, r reserved; in capitals where more bytes have to follow.
-const FIRST_BYTES: &str = "iiiiiiiiiiiiiiiiiiiiiiiiiiiiiiiiiiiiiiiiiiiiiiiiiiiiiiiiiiiiiiiiiiiiiiiiiiiiiiiiiiiiiiiiiiiiiiiiiiiiiiiiiiiiiiiiiiiiiiiiiiiiiiiimMMMMMMMMMMMMMMMaAAAAAAAAAAAAAAAsSSSSSSSSSSSSSSSSSSSSSSSSSSSSSSSnrttBBBEEEFFIIIIIIIIEEEEESSSAAMMiiiiiiiiiiiiiiiiiiiiiiiiiiiiiiii";
+const FIRST_BYTES: &str =
+    "iiiiiiiiiiiiiiiiiiiiiiiiiiiiiiiiiiiiiiiiiiiiiiiiiiiiiiiiiiiiiiiiiiiiiiiiiiiiiiiiiiiiiiiiiiiiiiiiiiiiiiiiiiiiiiiiiiiiiiiiiiiiiiiimMMMMMMMMMMMMMMMaAAAAAAAAAAAAAAAsSSSSSSSSSSSSSSSSSSSSSSSSSSSSSSSnrttBBBEEEFFIIIIIIIIEEEEESSSAAMMiiiiiiiiiiiiiiiiiiiiiiiiiiiiiiii";
 
 fn letter(value: &Value) -> u8 {
     match value {
@@ -48,7 +49,11 @@ fn each_first_byte(rt: HostRuntime) -> Result<(), Fail> {
         let mut bytes = vec![in rt.alloc(); 0u8; 41]?;
         bytes[0] = first;
         let long = letter_of(rt.alloc(), &bytes);
-        assert_eq!(rt; long.to_ascii_lowercase(), want.to_ascii_lowercase(), "at {first}");
+        assert_eq!(rt;
+            long.to_ascii_lowercase(),
+            want.to_ascii_lowercase(),
+            "at {first}"
+        );
         let alone = letter_of(rt.alloc(), &[first]);
         let refused = want == b'F' || want == b'E';
         let lacks = want.is_ascii_uppercase() && !refused;
@@ -89,7 +94,16 @@ fn longer_forms_and_refusals(rt: HostRuntime) -> Result<(), Fail> {
     for (bytes, want) in refusals {
         assert_eq!(rt; decode(rt.alloc(), bytes).err(), Some(want));
     }
-    assert!(rt; decode(rt.alloc(), &[0x91, 0x91, 0x91, 0x91, 0x91, 0x91, 0x91, 0x91, 0x91, 0x91, 0x91, 0x91, 0x91, 0x91, 0x91, 0x91, 0xc0]).is_ok());
+    assert!(rt;
+        decode(
+            rt.alloc(),
+            &[
+                0x91, 0x91, 0x91, 0x91, 0x91, 0x91, 0x91, 0x91, 0x91, 0x91, 0x91, 0x91, 0x91, 0x91,
+                0x91, 0x91, 0xc0
+            ]
+        )
+        .is_ok()
+    );
     Ok(())
 }
 
@@ -104,7 +118,10 @@ fn too_deep_to_encode(rt: HostRuntime) -> Result<(), Fail> {
     assert_eq!(rt; encode(rt.alloc(), &value)?.len(), 16);
     let mut outer = Vec::new(rt.alloc());
     outer.push(value)?;
-    assert_eq!(rt; encode(rt.alloc(), &Value::Array(outer)).err(), Some(MpError::Depth));
+    assert_eq!(rt;
+        encode(rt.alloc(), &Value::Array(outer)).err(),
+        Some(MpError::Depth)
+    );
     Ok(())
 }
 
@@ -130,7 +147,10 @@ fn a_group_byte_by_byte(rt: HostRuntime) -> Result<(), Fail> {
     assert_eq!(rt; group.get(0), Some(FREE_KEYS.as_slice()));
     let (value, len) = decode(rt.alloc(), &FREE_KEYS)?;
     assert_eq!(rt; len, 21);
-    assert_eq!(rt; encode(rt.alloc(), &value)?.as_slice(), FREE_KEYS.as_slice());
+    assert_eq!(rt;
+        encode(rt.alloc(), &value)?.as_slice(),
+        FREE_KEYS.as_slice()
+    );
     Ok(())
 }
 
@@ -148,8 +168,13 @@ fn two_groups_at_once_and_a_refusal(rt: HostRuntime) -> Result<(), Fail> {
     assert!(rt; reader.take().is_some());
     assert!(rt; reader.take().is_none());
     let mut reader = FrameReader::new(rt.alloc());
-    let long = [2, 0, 0, 0, 0, 0, 0, 0, 0, 0, 0, 1, 0, 0, 0, 0, 1, 0, 0, 8, 0, 0, 0, 0];
-    assert_eq!(rt; reader.feed(&long), Err(FrameError::TooLong { len: (1 << 27) + 1 }));
+    let long = [
+        2, 0, 0, 0, 0, 0, 0, 0, 0, 0, 0, 1, 0, 0, 0, 0, 1, 0, 0, 8, 0, 0, 0, 0,
+    ];
+    assert_eq!(rt;
+        reader.feed(&long),
+        Err(FrameError::TooLong { len: (1 << 27) + 1 })
+    );
     Ok(())
 }
 
