@@ -1,0 +1,5 @@
+pub mod Dags
+pub mod SameEvents
+pub mod SameMessages
+pub mod ShapeLemmas
+pub mod ValueLemmas

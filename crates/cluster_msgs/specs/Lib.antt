@@ -1,0 +1,6 @@
+pub mod Dags
+pub mod Jobs
+pub mod Labels
+pub mod Shape
+pub mod Stored
+pub mod Values

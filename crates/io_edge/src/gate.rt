@@ -1,0 +1,10 @@
+// The gate of the program itself.
+use crate::{Gate, Point};
+
+/// The gate that does nothing.
+#[derive(Clone, Copy, Debug, Default)]
+pub struct RealGate;
+
+impl Gate for RealGate {
+    fn at(&self, _point: Point) {}
+}

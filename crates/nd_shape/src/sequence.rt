@@ -1,0 +1,215 @@
+// Small lists that contracts see as lists.
+ghost use Rattle.std.specs.Prelude.{◌≡◌, List, [], ◌∷◌, ◌++◌, length, IfOk, OnOk, OnErr};
+
+use crate::chunk::ChunkSpec;
+use crate::region::Piece;
+use crate::shape::Shape;
+use crate::slice::{Part, Steps};
+use std::alloc::{AllocError, Global};
+use std::marker::Model;
+
+/// A list that contracts see as a list, whatever holds it.
+#[derive(Debug, Drop)]
+pub struct Sequence<T> {
+    items: Vec<T>,
+}
+
+/// Lengths, one per axis.
+pub type Dims = Sequence<u64>;
+
+/// Axes, counted from 0.
+pub type Axes = Sequence<u64>;
+
+/// The sizes of the chunks along one axis.
+pub type Sizes = Sequence<u32>;
+
+/// How each axis is cut into chunks.
+pub type Specs = Sequence<ChunkSpec>;
+
+/// The parts of a slice, one per axis from the first axis on.
+pub type Parts = Sequence<Part>;
+
+/// The indexes that a slice takes, one per axis.
+pub type StepList = Sequence<Steps>;
+
+/// Shapes, one per operand.
+pub type Shapes = Sequence<Shape>;
+
+/// What a block is put together of.
+pub type Pieces = Sequence<Piece>;
+
+impl<T> Model for Sequence<T> {
+    ghost Value = { List T };
+
+    ghost view = { λ s. s.items.items };
+}
+
+/// Items of which there can be an equal one.
+pub trait Copied: Drop {
+    /// An equal item.
+    fn copied(&self, alloc: Global) -> Result<Self, AllocError>
+        ensures { IfOk result (λ other. other ≡ self.now) };
+}
+
+impl<T: Drop> Sequence<T> {
+    /// An empty list. No memory.
+    pub fn new(alloc: Global) -> Self
+        ensures { result ≡ [] }
+    {
+        Sequence {
+            items: Vec::new(alloc),
+        }
+    }
+
+    /// Puts an item at the end. Where memory is wanting, the list is as before.
+    pub fn push(&mut self, item: T) -> Result<(), AllocError>
+        ensures ok { OnOk result (self.new ≡ self.old ++ item ∷ []) }
+        ensures err { OnErr result (self.new ≡ self.old) }
+    {
+        self.items.push(item)?;
+        Ok(())
+    }
+}
+
+impl<T> Sequence<T> {
+    /// Takes a vector over. No memory.
+    pub fn from_vec(items: Vec<T>) -> Self
+        ensures { result ≡ items.items }
+    {
+        Sequence { items }
+    }
+
+    /// Gives the vector back. No memory.
+    pub fn into_vec(self) -> Vec<T>
+        ensures { result.items ≡ self }
+    {
+        let Sequence { items } = self;
+        items
+    }
+
+    /// The items in order. No memory.
+    pub fn as_slice(&self) -> &[T]
+        ensures { result.now ≡ self.now }
+    {
+        self.items.as_slice()
+    }
+}
+
+impl<T: Copied> Sequence<T> {
+    /// An equal list.
+    pub fn copy(&self, alloc: Global) -> Result<Self, AllocError>
+        ensures { IfOk result (λ other. other ≡ self.now) }
+    {
+        let mut items = Vec::with_capacity(alloc, self.items.len())?;
+        for item in self.items.as_slice() {
+            items.push(item.copied(alloc)?)?;
+        }
+        Ok(Sequence { items })
+    }
+}
+
+impl Copied for u64 {
+    fn copied(&self, _alloc: Global) -> Result<u64, AllocError> {
+        Ok(*self)
+    }
+}
+
+impl Copied for u32 {
+    fn copied(&self, _alloc: Global) -> Result<u32, AllocError> {
+        Ok(*self)
+    }
+}
+
+impl Copied for Part {
+    fn copied(&self, _alloc: Global) -> Result<Part, AllocError> {
+        Ok(*self)
+    }
+}
+
+impl Copied for Steps {
+    fn copied(&self, _alloc: Global) -> Result<Steps, AllocError> {
+        Ok(*self)
+    }
+}
+
+impl Copied for ChunkSpec {
+    fn copied(&self, alloc: Global) -> Result<ChunkSpec, AllocError> {
+        match self {
+            ChunkSpec::Even(size) => Ok(ChunkSpec::Even(*size)),
+            ChunkSpec::List(sizes) => Ok(ChunkSpec::List(sizes.copy(alloc)?)),
+        }
+    }
+}
+
+impl Copied for Shape {
+    fn copied(&self, alloc: Global) -> Result<Shape, AllocError> {
+        self.copy(alloc)
+    }
+}
+
+impl Copied for Piece {
+    fn copied(&self, _alloc: Global) -> Result<Piece, AllocError> {
+        Ok(Piece {
+            source: self.source,
+            from: self.from.copy(),
+            to: self.to.copy(),
+        })
+    }
+}
+
+#[cfg(test)]
+mod tests {
+    use super::*;
+    use crate::region::Region;
+    use std::test::Fail;
+
+    #[test]
+    fn lists_grow_and_are_copied(rt: HostRuntime) -> Result<(), Fail> {
+        let mut dims = Dims::new(rt.alloc());
+        dims.push(3)?;
+        dims.push(4)?;
+        assert_eq!(rt;
+            dims.copy(rt.alloc())?.into_vec().as_slice(),
+            [3, 4].as_slice()
+        );
+        let sizes = Sizes::from_vec([5, 6].to_vec(rt.alloc())?);
+        assert_eq!(rt; sizes.copy(rt.alloc())?.as_slice(), [5, 6].as_slice());
+        let mut parts = Parts::new(rt.alloc());
+        parts.push(Part::At(-1))?;
+        assert_eq!(rt; parts.copy(rt.alloc())?.as_slice(), parts.as_slice());
+        let mut steps = StepList::new(rt.alloc());
+        steps.push(Steps {
+            start: 1,
+            step: -1,
+            count: 2,
+        })?;
+        assert_eq!(rt; steps.copy(rt.alloc())?.as_slice(), steps.as_slice());
+        Ok(())
+    }
+
+    #[test]
+    fn lists_of_lists_are_copied(rt: HostRuntime) -> Result<(), Fail> {
+        let mut specs = Specs::new(rt.alloc());
+        specs.push(ChunkSpec::Even(2))?;
+        specs.push(ChunkSpec::List(Dims::from_vec([1, 2].to_vec(rt.alloc())?)))?;
+        let copied = specs.copy(rt.alloc())?;
+        let listed = match copied.as_slice() {
+            [ChunkSpec::Even(2), ChunkSpec::List(sizes)] => sizes.as_slice().len(),
+            _ => 0,
+        };
+        assert_eq!(rt; listed, 2);
+        let mut shapes = Shapes::new(rt.alloc());
+        shapes.push(Shape::line(rt.alloc(), 7)?)?;
+        let copied = shapes.copy(rt.alloc())?;
+        assert_eq!(rt; copied.as_slice().len(), 1);
+        let mut pieces = Pieces::new(rt.alloc());
+        pieces.push(Piece {
+            source: 1,
+            from: Region::whole(&[2]),
+            to: Region::whole(&[2]),
+        })?;
+        let copied = pieces.copy(rt.alloc())?;
+        assert_eq!(rt; copied.as_slice().len(), 1);
+        Ok(())
+    }
+}
