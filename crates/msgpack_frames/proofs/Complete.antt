@@ -1,6 +1,6 @@
 -- What is encoded so is read, whatever follows it.
-use Rattle.std.proofs.Common.{◌≡◌, ℕ, zero, suc, ◌+◌, ◌-◌, ◌<◌, ◌≤◌, max, Bool, true, false, ltb, pos, List, [], ◌∷◌, ◌++◌, length, Some, None, Ok, Err, refl, sym, ap, ◌∙◌, append_assoc, arith, inl, inr}
-use Rattle.std.specs.Int.{cast_signed, to_be_bytes}
+use Rattle.std.proofs.Common.{◌≡◌, ℕ, suc, ◌-◌, ◌<◌, ◌≤◌, true, false, List, ◌∷◌, ◌++◌, length, Some, None, Ok, refl, ap, ◌∙◌, append_assoc, arith, inl, inr}
+use Rattle.std.specs.Int.{to_be_bytes}
 use Rattle.std.specs.Str.{is_utf8}
 use Rattle.std.proofs.lemmas.Bool.{le-ltb}
 use Rattle.std.proofs.lemmas.Str.{is_utf8-from_IsUtf8}
@@ -12,7 +12,7 @@ use Rattle.msgpack_frames.specs.declared.form.Form.TheVariants.{Nil, Bool as Tru
 use Rattle.msgpack_frames.specs.Data.{Data, nil, boolean, integer, text, binary, array, dictionary, Items, no_items, item, Pairs, no_pairs, pair, items_len, pairs_len, depth, items_depth, pairs_depth, max_len, IsShort, AreShort, PairsAreShort}
 use Rattle.msgpack_frames.specs.Forms.{form, width, bound}
 use Rattle.msgpack_frames.specs.Encoding.{IsHead, EncodesInteger, Encodes, EncodesItems, EncodesPairs}
-use Rattle.msgpack_frames.specs.Reading.{◌>>=◌, Inner, unsigned_at, signed_at, len_at, text_at, binary_at, items_at, pairs_at, array_at, map_at, body_at, is_too_deep, sized_at, formed_at, inner, value_at}
+use Rattle.msgpack_frames.specs.Reading.{Inner, unsigned_at, signed_at, len_at, text_at, binary_at, items_at, pairs_at, array_at, map_at, body_at, is_too_deep, sized_at, formed_at, inner, value_at}
 use Rattle.msgpack_frames.proofs.Numbers.{number_again, bytes_again}
 use Rattle.msgpack_frames.proofs.Depths.{inner-some, value_at-cons}
 

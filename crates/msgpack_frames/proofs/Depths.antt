@@ -3,12 +3,10 @@ use Rattle.std.proofs.Common.{◌≡◌, ℕ, zero, suc, ◌-◌, ◌<◌, List,
 use Rattle.std.proofs.lemmas.List.{take_rest}
 use Rattle.msgpack_frames.specs.declared.error.MpError.{MpError}
 use Rattle.msgpack_frames.specs.declared.error.MpError.TheVariants as errors
-use Rattle.msgpack_frames.specs.declared.form.Kind.{Kind}
 use Rattle.msgpack_frames.specs.declared.form.Kind.TheVariants.{Array, Map}
-use Rattle.msgpack_frames.specs.declared.form.Size.{Size}
-use Rattle.msgpack_frames.specs.Data.{Data, array, dictionary, Items, Pairs}
+use Rattle.msgpack_frames.specs.Data.{array, dictionary, Items, Pairs}
 use Rattle.msgpack_frames.specs.Forms.{form}
-use Rattle.msgpack_frames.specs.Reading.{◌>>=◌, Fails, Inner, len_at, items_at, pairs_at, array_at, map_at, body_at, is_too_deep, sized_at, first_at, formed_at, inner, value_at}
+use Rattle.msgpack_frames.specs.Reading.{◌>>=◌, Fails, items_at, pairs_at, array_at, map_at, is_too_deep, first_at, formed_at, inner, value_at}
 
 pub inner-none : (total d : ℕ) → d ≡ 0 → inner total d ≡ None
 unfolding inner

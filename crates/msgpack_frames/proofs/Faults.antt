@@ -1,5 +1,5 @@
 -- The first limit that a value breaks, a level at a time.
-use Rattle.std.proofs.Common.{◌≡◌, ℕ, zero, suc, ◌-◌, ◌<◌, ◌≤◌, max, cond, ltb, List, [], ◌∷◌, ◌++◌, map, length, Option, None, Some, Result, Ok, Err, refl, sym, ap, subst, ◌∙◌, append_assoc, arith}
+use Rattle.std.proofs.Common.{◌≡◌, ℕ, zero, suc, ◌-◌, ◌<◌, ◌≤◌, max, ltb, List, [], ◌∷◌, ◌++◌, length, Option, None, Some, Result, refl, sym, ap, subst, ◌∙◌, append_assoc, arith}
 use Rattle.std.proofs.lemmas.Bool.{cond_both, ltb-true, ltb-false}
 use Rattle.msgpack_frames.specs.declared.error.MpError.{MpError}
 use Rattle.msgpack_frames.specs.declared.error.MpError.TheVariants as errors
@@ -7,7 +7,7 @@ use Rattle.msgpack_frames.specs.declared.form.Kind.TheVariants.{Array as ArrayKi
 use Rattle.msgpack_frames.specs.declared.value.Value.{Value}
 use Rattle.msgpack_frames.specs.Data.{Data, nil, boolean, integer, text, binary, array, dictionary, Items, no_items, item, Pairs, no_pairs, pair, items_len, pairs_len, depth, items_depth, pairs_depth, max_depth, max_len, IsShort, AreShort, PairsAreShort, IsWithin}
 use Rattle.msgpack_frames.specs.Spelling.{head, spelling, items_spelling, pairs_spelling, first_fault, len_fault, fault_of, items_fault, pairs_fault, Names, Tells, IsFaultOf}
-use Rattle.msgpack_frames.specs.View.{view, items_view, pairs_view}
+use Rattle.msgpack_frames.specs.View.{items_view, pairs_view}
 
 pub items_len-view : (vs : List Value) → items_len (items_view vs) ≡ length vs
 items_len-view [] = refl

@@ -1,5 +1,5 @@
 -- What more bytes change: nothing, where reading did not end for want of bytes.
-use Rattle.std.proofs.Common.{◌≡◌, ℕ, zero, suc, ◌+◌, ◌-◌, ◌<◌, ◌≤◌, Bool, true, false, cond, ltb, pos, List, [], ◌∷◌, ◌++◌, length, take, drop, Some, None, Result, Ok, Err, refl, sym, ap, ap₂, ◌∙◌, arith, inl, inr}
+use Rattle.std.proofs.Common.{◌≡◌, ℕ, zero, suc, ◌+◌, ◌-◌, ◌≤◌, Bool, true, false, cond, ltb, pos, List, [], ◌∷◌, ◌++◌, length, take, drop, Some, None, Result, Ok, Err, refl, ap, arith}
 use Rattle.std.specs.Int.{byte_len, from_be_bytes, cast_signed}
 use Rattle.std.specs.Str.{is_utf8}
 use Rattle.std.proofs.lemmas.Bool.{ltb-false, le-ltb}
@@ -11,7 +11,7 @@ use Rattle.msgpack_frames.specs.declared.form.Kind.{Kind}
 use Rattle.msgpack_frames.specs.declared.form.Kind.TheVariants.{Str, Bin, Array, Map}
 use Rattle.msgpack_frames.specs.declared.form.Form.{Form}
 use Rattle.msgpack_frames.specs.declared.form.Form.TheVariants.{Nil, Bool as Truth, Small, Unsigned, Signed, Fixed, Sized, Float, Ext, Reserved}
-use Rattle.msgpack_frames.specs.Data.{Data, nil, boolean, integer, text, binary, array, dictionary, Items, no_items, item, Pairs, no_pairs, pair, max_depth, max_len}
+use Rattle.msgpack_frames.specs.Data.{Data, integer, text, binary, array, dictionary, item, pair, max_depth, max_len}
 use Rattle.msgpack_frames.specs.Forms.{form, width}
 use Rattle.msgpack_frames.specs.Reading.{◌>>=◌, Read, Inner, number_at, unsigned_at, signed_at, len_at, bytes_at, text_at, binary_at, items_at, pairs_at, array_at, map_at, body_at, is_too_deep, sized_at, formed_at, first_at, inner, value_at, counted, outcome}
 

@@ -1,11 +1,10 @@
 -- Lengths and frames one after the other, as loops read them.
-use Rattle.std.proofs.Common.{◌≡◌, ℕ, zero, suc, ◌-◌, ◌+◌, ◌≤◌, ◌<◌, List, [], ◌∷◌, ◌++◌, length, get_or, drop, Option, Some, None, Result, Ok, Err, refl, sym, ap, subst, ◌∙◌, append_assoc, arith}
+use Rattle.std.proofs.Common.{◌≡◌, ℕ, suc, ◌-◌, ◌+◌, ◌≤◌, ◌<◌, List, [], ◌∷◌, ◌++◌, length, get_or, drop, Ok, Err, refl, sym, ap, ◌∙◌, append_assoc, arith}
 use Rattle.std.proofs.lemmas.List.{append-nil, drop_more, drop-drop}
-use Rattle.msgpack_frames.specs.declared.error.FrameError.{FrameError}
 use Rattle.msgpack_frames.specs.declared.group.Stop.{Stop}
 use Rattle.msgpack_frames.specs.declared.group.Stop.TheVariants as stops
 use Rattle.msgpack_frames.specs.Reading.{◌>>=◌}
-use Rattle.msgpack_frames.specs.Groups.{Group, Take, Stops, len_at, lens_at, total}
+use Rattle.msgpack_frames.specs.Groups.{Take, Stops, len_at, lens_at, total}
 
 -- the lengths read before, and what is still read
 abbrev pub lens_after : List ℕ → Take (List ℕ) → Take (List ℕ)

@@ -1,5 +1,5 @@
 -- What the table says of each form: lengths and numbers in a first byte are small, and some forms don't occur.
-use Rattle.std.proofs.Common.{◌≡◌, ℕ, ◌-◌, ◌<◌, ◌≤◌, cond, ltb, pos, negsuc, List, [], ◌∷◌, subst, arith}
+use Rattle.std.proofs.Common.{◌≡◌, ℕ, ◌<◌, ◌≤◌, ltb, pos, negsuc, List, [], ◌∷◌, subst, arith}
 use Rattle.std.proofs.lemmas.Bool.{cond_both, ltb-true, ltb-false}
 use Rattle.msgpack_frames.specs.declared.form.Kind.{Kind}
 use Rattle.msgpack_frames.specs.declared.form.Kind.TheVariants.{Str, Bin, Array, Map}

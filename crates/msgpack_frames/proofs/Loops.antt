@@ -1,5 +1,5 @@
 -- Reading items and pairs one after the other, as a loop does.
-use Rattle.std.proofs.Common.{◌≡◌, ℕ, zero, suc, ◌-◌, ◌+◌, ◌≤◌, ◌<◌, List, [], ◌∷◌, ◌++◌, map, Result, Ok, Err, refl, sym, ap, ◌∙◌, arith}
+use Rattle.std.proofs.Common.{◌≡◌, ℕ, suc, ◌-◌, ◌+◌, ◌≤◌, ◌<◌, List, [], ◌∷◌, ◌++◌, Ok, Err, refl, sym, ap, ◌∙◌, arith}
 use Rattle.msgpack_frames.specs.declared.error.MpError.{MpError}
 use Rattle.msgpack_frames.specs.declared.error.MpError.TheVariants as errors
 use Rattle.msgpack_frames.specs.declared.value.Value.{Value}

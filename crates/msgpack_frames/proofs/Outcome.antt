@@ -1,5 +1,5 @@
 -- The laws of reading a whole value: what `decode` promises.
-use Rattle.std.proofs.Common.{◌≡◌, ℕ, zero, suc, ◌+◌, ◌-◌, ◌<◌, ◌≤◌, ◌⊎◌, max, List, [], ◌∷◌, ◌++◌, length, take, drop, Result, Ok, Err, refl, sym, ap, subst, ◌∙◌, arith, inl, inr}
+use Rattle.std.proofs.Common.{◌≡◌, ℕ, ◌-◌, ◌<◌, ◌⊎◌, max, List, ◌++◌, length, take, drop, Result, Ok, Err, refl, sym, ap, subst, ◌∙◌, arith, inl, inr}
 use Rattle.std.specs.Prelude.{IfOk, IfErr}
 use Rattle.std.proofs.lemmas.List.{length-append, length-take, take_at, take-append-drop, append_cancel_right}
 use Rattle.msgpack_frames.specs.declared.error.MpError.{MpError}
@@ -8,7 +8,7 @@ use Rattle.msgpack_frames.specs.declared.value.Value.{Value}
 use Rattle.msgpack_frames.specs.Data.{Data, depth, max_depth, IsShort, IsWithin}
 use Rattle.msgpack_frames.specs.Encoding.{Encodes}
 use Rattle.msgpack_frames.specs.View.{view}
-use Rattle.msgpack_frames.specs.Reading.{◌>>=◌, Gives, value_at, counted, outcome}
+use Rattle.msgpack_frames.specs.Reading.{Gives, value_at, outcome}
 use Rattle.msgpack_frames.specs.Decoded.{IsFound, IsPlace, IsFirst, IsFinal, IsFirstFault, Refuses}
 use Rattle.msgpack_frames.proofs.Numbers.{IsBytes, IsBytes-take, bind_ok, ok_is}
 use Rattle.msgpack_frames.proofs.Sound.{value_takes}

@@ -1,5 +1,5 @@
 -- The byte at a refusal's offset begins what the refusal names.
-use Rattle.std.proofs.Common.{◌≡◌, ℕ, zero, suc, ◌+◌, ◌-◌, ◌<◌, ◌≤◌, ◌⊎◌, Bool, true, false, cond, ltb, pos, List, [], ◌∷◌, ◌++◌, length, get_or, take, drop, Some, None, Result, Ok, Err, refl, sym, ap, subst, ◌∙◌, append_assoc, arith, inl, inr}
+use Rattle.std.proofs.Common.{◌≡◌, ℕ, zero, suc, ◌-◌, ◌<◌, ◌⊎◌, Bool, true, false, cond, ltb, pos, List, [], ◌∷◌, ◌++◌, length, get_or, Some, None, Result, Ok, Err, refl, sym, ap, subst, ◌∙◌, append_assoc, arith, inl, inr}
 use Rattle.std.specs.Int.{cast_signed, to_be_bytes}
 use Rattle.std.specs.Str.{is_utf8}
 use Rattle.std.proofs.lemmas.List.{length-append, get_or_at}
@@ -10,13 +10,13 @@ use Rattle.msgpack_frames.specs.declared.form.Kind.{Kind}
 use Rattle.msgpack_frames.specs.declared.form.Kind.TheVariants.{Str, Bin, Array, Map}
 use Rattle.msgpack_frames.specs.declared.form.Form.{Form}
 use Rattle.msgpack_frames.specs.declared.form.Form.TheVariants.{Nil, Bool as Truth, Small, Unsigned, Signed, Fixed, Sized, Float, Ext, Reserved}
-use Rattle.msgpack_frames.specs.Data.{Data, integer, text, binary, array, dictionary, Items, item, Pairs, pair, max_depth, max_len}
+use Rattle.msgpack_frames.specs.Data.{Data, integer, text, binary, array, dictionary, item, pair, max_depth, max_len}
 use Rattle.msgpack_frames.specs.Forms.{form, width}
-use Rattle.msgpack_frames.specs.Reading.{◌>>=◌, Read, Inner, number_at, unsigned_at, signed_at, len_at, bytes_at, text_at, binary_at, items_at, pairs_at, array_at, map_at, body_at, is_too_deep, sized_at, formed_at, first_at, inner, value_at, counted, outcome}
+use Rattle.msgpack_frames.specs.Reading.{◌>>=◌, Read, Inner, number_at, unsigned_at, signed_at, len_at, bytes_at, text_at, binary_at, items_at, pairs_at, array_at, map_at, body_at, is_too_deep, sized_at, formed_at, first_at, inner, value_at, outcome}
 use Rattle.msgpack_frames.specs.Decoded.{IsOfText, IsPlace}
-use Rattle.msgpack_frames.proofs.Numbers.{IsBytes, IsBytes-rest, number_takes}
-use Rattle.msgpack_frames.proofs.Sound.{SoundReader, Sound, len_takes, first_takes, inner_sound}
-use Rattle.msgpack_frames.proofs.Further.{failed, err_is}
+use Rattle.msgpack_frames.proofs.Numbers.{IsBytes, IsBytes-rest}
+use Rattle.msgpack_frames.proofs.Sound.{SoundReader, Sound, len_takes, inner_sound}
+use Rattle.msgpack_frames.proofs.Further.{err_is}
 
 -- where a chain of steps stop
 bind_err : {A B : Type 0} (r : Result A MpError) (f : A → Result B MpError) (e : MpError) → (r >>= f) ≡ Err e → (r ≡ Err e) ⊎ ((x : A) × (r ≡ Ok x) × (f x ≡ Err e))

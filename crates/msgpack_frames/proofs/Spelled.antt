@@ -1,5 +1,5 @@
 -- What is written is an encoding, and none is shorter.
-use Rattle.std.proofs.Common.{◌≡◌, ℕ, zero, suc, ◌+◌, ◌-◌, ◌^◌, ◌<◌, ◌≤◌, ◌⊎◌, ℤ, pos, negsuc, SFits, to_z, of_z, w8, w16, w32, w64, Bool, true, false, cond, ltb, List, [], ◌∷◌, ◌++◌, length, refl, sym, ap, subst, ◌∙◌, arith, inl, inr}
+use Rattle.std.proofs.Common.{◌≡◌, ℕ, suc, ◌+◌, ◌-◌, ◌^◌, ◌<◌, ◌≤◌, pos, negsuc, SFits, Bool, true, false, ltb, List, [], ◌∷◌, ◌++◌, length, refl, sym, ap, subst, arith, inl, inr}
 use Rattle.std.specs.Int.{byte_len, to_be_bytes, cast_unsigned, cast_signed}
 use Rattle.std.proofs.lemmas.Bool.{cond_both, ltb-true, ltb-false, lt-ltb, le-ltb}
 use Rattle.std.proofs.lemmas.Int.{ints, to_z-of_z}
@@ -13,7 +13,7 @@ use Rattle.msgpack_frames.specs.declared.form.Form.TheVariants.{Nil, Bool as Tru
 use Rattle.msgpack_frames.specs.Data.{Data, nil, boolean, integer, text, binary, array, dictionary, Items, no_items, item, Pairs, no_pairs, pair, items_len, pairs_len, max_len, IsShort, AreShort, PairsAreShort}
 use Rattle.msgpack_frames.specs.Forms.{form, width, bound}
 use Rattle.msgpack_frames.specs.Encoding.{IsHead, EncodesInteger, Encodes, EncodesItems, EncodesPairs}
-use Rattle.msgpack_frames.specs.Spelling.{sized, head, unsigned, negative, number, spelling, items_spelling, pairs_spelling, IsValid, AreValid, PairsAreValid}
+use Rattle.msgpack_frames.specs.Spelling.{sized, head, unsigned, negative, spelling, items_spelling, pairs_spelling, IsValid, AreValid, PairsAreValid}
 use Rattle.msgpack_frames.proofs.Numbers.{wide}
 use Rattle.msgpack_frames.proofs.Lengths.{IsListed, listed, fixed_len}
 

@@ -1,7 +1,7 @@
 -- A stream is these groups and no others, in whatever pieces it comes.
-use Rattle.std.proofs.Common.{◌≡◌, ℕ, zero, suc, ◌+◌, ◌-◌, ◌<◌, ◌≤◌, List, [], ◌∷◌, ◌++◌, length, drop, Option, Some, None, Result, Ok, Err, refl, sym, ap, subst, ◌∙◌, append_assoc, arith}
+use Rattle.std.proofs.Common.{◌≡◌, ℕ, ◌-◌, ◌≤◌, List, [], ◌∷◌, ◌++◌, length, drop, Option, Some, None, Result, Ok, Err, refl, sym, ap, subst, ◌∙◌, append_assoc, arith}
 use Rattle.std.specs.List.{AllByRecursion}
-use Rattle.std.proofs.lemmas.List.{append-nil, append_cancel_left, drop_at, length-append}
+use Rattle.std.proofs.lemmas.List.{append-nil, drop_at, length-append}
 use Rattle.msgpack_frames.specs.declared.error.FrameError.{FrameError}
 use Rattle.msgpack_frames.specs.Groups.{Group, IsGroup, group_bytes, groups_bytes, group_at, count_at, Reads, Found, Advances, Progress, IsReading}
 use Rattle.msgpack_frames.proofs.Numbers.{ok_is}

@@ -1,5 +1,5 @@
 -- What `encode` promises, from what it wrote.
-use Rattle.std.proofs.Common.{◌≡◌, ℕ, ◌++◌, ◌≤◌, List, length, Result, Ok, Err, None, refl, sym, subst}
+use Rattle.std.proofs.Common.{◌≡◌, ℕ, ◌++◌, ◌≤◌, List, length, Result, Ok, Err, sym, subst}
 use Rattle.std.specs.Prelude.{IfOk, IfErr, OnOk}
 use Rattle.std.specs.Global.{Vec}
 use Rattle.msgpack_frames.specs.declared.error.MpError.{MpError}

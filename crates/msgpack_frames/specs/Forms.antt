@@ -3,7 +3,6 @@ use Rattle.std.specs.Prelude.{ℕ, ◌-◌, ◌^◌, List, [], ◌∷◌, pos, n
 use Rattle.std.specs.Int.{Width, w8, w16, w32, w64}
 use Rattle.msgpack_frames.specs.declared.form.Size.{Size}
 use Rattle.msgpack_frames.specs.declared.form.Size.TheVariants.{One, Two, Four, Eight}
-use Rattle.msgpack_frames.specs.declared.form.Kind.{Kind}
 use Rattle.msgpack_frames.specs.declared.form.Kind.TheVariants.{Str, Bin, Array, Map}
 use Rattle.msgpack_frames.specs.declared.form.Form.{Form}
 use Rattle.msgpack_frames.specs.declared.form.Form.TheVariants.{Nil, Bool, Small, Unsigned, Signed, Fixed, Sized, Float, Ext, Reserved}

@@ -1,8 +1,7 @@
 -- Frame groups: how many frames, the length of each, and the frames, with numbers of 8 bytes, the lowest first.
-use Rattle.std.specs.Prelude.{◌≡◌, ℕ, zero, suc, ◌+◌, ◌*◌, ◌^◌, ◌<◌, ◌≤◌, List, [], ◌∷◌, ◌++◌, length, take, drop, map, Bool, ◌||◌, Option, Some, None, Result, Ok, Err, nat_lt, ◌==◌, if◌then◌else◌}
+use Rattle.std.specs.Prelude.{◌≡◌, ℕ, zero, suc, ◌+◌, ◌^◌, ◌<◌, ◌≤◌, List, [], ◌∷◌, ◌++◌, length, take, drop, ◌||◌, Option, Some, None, Result, Ok, Err, nat_lt, ◌==◌, if◌then◌else◌}
 use Rattle.std.specs.Int.{w64, to_le_bytes, from_le_bytes}
 use Rattle.std.specs.List.{flat_map, AllByRecursion}
-use Rattle.std.specs.Global.{Vec}
 use Rattle.msgpack_frames.specs.declared.error.FrameError.{FrameError}
 use Rattle.msgpack_frames.specs.declared.error.FrameError.TheVariants.{TooMany, TooLong}
 use Rattle.msgpack_frames.specs.declared.group.Stop.{Stop}

@@ -1,9 +1,9 @@
-use Rattle.std.proofs.Common.{◌≡◌, ◌-◌, List, ℕ, ◌∷◌, ◌++◌, [], length, get_or, take, drop, Ok, Err, sym, ap, subst, ◌∙◌, arith, rules}
+use Rattle.std.proofs.Common.{◌≡◌, ◌-◌, ◌∷◌, ◌++◌, [], length, get_or, take, drop, ap, ◌∙◌, arith, rules}
 use Rattle.std.proofs.lemmas.Result.{err_from_is_err_and}
 use Rattle.std.proofs.lemmas.List.{nil_from_length}
 use Rattle.msgpack_frames.specs.Data.{array, dictionary}
 use Rattle.msgpack_frames.specs.View.{view, items_view, pairs_view}
-use Rattle.msgpack_frames.specs.Reading.{Gives, items_at, pairs_at, formed_at, value_at, inner}
+use Rattle.msgpack_frames.specs.Reading.{items_at, pairs_at, value_at}
 use Rattle.msgpack_frames.specs.declared.value.Value.{Array, Map, the_lemmas}
 use Rattle.msgpack_frames.proofs.Depths.{array_too_deep, array_fails, array_read, map_too_deep, map_fails, map_read, value_at-nil, value_at-front, front_and_rest}
 use Rattle.msgpack_frames.proofs.Loops.{item_more, item_fails, items_done, pair_more, key_fails, value_fails, pairs_done}

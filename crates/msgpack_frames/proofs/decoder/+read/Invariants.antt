@@ -1,5 +1,4 @@
 use Rattle.std.proofs.Common.{◌≡◌, ◌+◌, ◌*◌, ◌-◌}
-use Rattle.msgpack_frames.specs.View.{items_view, pairs_view}
 use Rattle.msgpack_frames.specs.Reading.{value_at, items_at, pairs_at}
 use Rattle.msgpack_frames.proofs.Loops.{items_after, pairs_after}
 use Rattle.msgpack_frames.proofs.decoder.+read.Given as goal

@@ -1,6 +1,6 @@
-use Rattle.std.proofs.Common.{◌≡◌, arith, rules, take, drop, List, ℕ, Ok, Err, string_bytes, ◌≤◌, length, sym, subst, ◌∙◌, ap}
+use Rattle.std.proofs.Common.{◌≡◌, arith, rules, take, List, ℕ, string_bytes, subst, ◌∙◌}
 use Rattle.std.specs.Str.{IsUtf8}
-use Rattle.msgpack_frames.specs.Data.{Data, text}
+use Rattle.msgpack_frames.specs.Data.{text}
 use Rattle.msgpack_frames.specs.View.{view}
 use Rattle.msgpack_frames.specs.declared.value.Value.{Str, the_lemmas}
 use Rattle.msgpack_frames.proofs.Texts.{text_read, text_refused}

@@ -1,4 +1,4 @@
-use Rattle.std.proofs.Common.{drop, arith, rules}
+use Rattle.std.proofs.Common.{drop, arith}
 use Rattle.std.proofs.lemmas.Grind.{common_steps}
 use Rattle.msgpack_frames.specs.Groups.{total}
 use Rattle.msgpack_frames.proofs.GroupLoops.{after_more}

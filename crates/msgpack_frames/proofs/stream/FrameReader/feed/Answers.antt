@@ -1,6 +1,6 @@
 use Rattle.std.proofs.Common.{◌≡◌, Some, sym, ap, ◌∙◌}
 use Rattle.msgpack_frames.specs.Groups.{Progress}
-use Rattle.msgpack_frames.proofs.Streams.{stays_refused, advanced}
+use Rattle.msgpack_frames.proofs.Streams.{stays_refused}
 use Rattle.msgpack_frames.proofs.stream.FrameReader.feed.Goals as goal
 
 pub returns-in-Some-clause-reading : goal.returns-in-Some-clause-reading
