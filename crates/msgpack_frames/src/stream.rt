@@ -1,6 +1,6 @@
 //! Frame groups out of a stream that comes in pieces.
 
-ghost use Rattle.std.specs.Prelude.{◌≡◌, ◌-◌, ◌≤◌, ◌++◌, ◌∷◌, ◌⊎◌, [], List, ℕ, length, take, drop, IfOk, IfErr, IfSome, OnOk, OnErr, IsNone, ◌↔◌, None, Some, Err};
+ghost use Rattle.std.specs.Prelude.{◌≡◌, ◌-◌, ◌≤◌, ◌++◌, ◌∷◌, ◌⊎◌, [], List, ℕ, length, take, drop, IfOk, IfErr, IfSome, IfNone, OnOk, OnErr, IsNone, ◌↔◌, None, Some, Err};
 ghost use Rattle.msgpack_frames.specs.Groups.{Group, Found, Advances, IsReading};
 
 use crate::error::FrameError;
@@ -149,6 +149,7 @@ impl FrameReader {
     pub fn take(&mut self) -> Option<Frames>
         ensures none { IsNone result ↔ (self.old.ready ≡ []) }
         ensures some { IfSome result (λ group. self.old.ready ≡ group ∷ self.new.ready) }
+        ensures unchanged { IfNone result (self.new ≡ self.old) }
         ensures same { (self.new.rest ≡ self.old.rest) × (self.new.fault ≡ self.old.fault) }
         ensures reading { (stream : List ℕ) (taken : List Group) → IsReading stream taken self.old
             → IfSome result (λ group. IsReading stream (taken ++ group ∷ []) self.new) }
