@@ -1,0 +1,16 @@
+pub mod Texts
+pub mod Loops
+pub mod Depths
+pub mod Numbers
+pub mod Lengths
+pub mod Sound
+pub mod Complete
+pub mod Further
+pub mod Places
+pub mod Outcome
+pub mod Faults
+pub mod Spelled
+pub mod Written
+pub mod GroupLoops
+pub mod GroupLaws
+pub mod Streams
