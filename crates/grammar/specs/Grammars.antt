@@ -91,15 +91,17 @@ abbrev pub doing : ℕ → Step → Step
 doing a (taken actions left) = taken (a ∷ actions) left
 doing a (refused actions) = refused (a ∷ actions)
 
+-- what a move makes of a step, given the step of what is then left
+abbrev pub after_move : Move → (List Symbol → Step) → Step
+after_move (takes left) then = taken [] left
+after_move (does a left) then = doing a (then left)
+after_move (turns left) then = then left
+after_move stops then = refused []
+after_move ends then = taken [] []
+
 unfoldable pub step_in : Grammar → ℕ → List Symbol → Option ℕ → Step
 step_in g zero s next = refused []
-step_in g (suc n) s next = elim (move g s next) [
-  | takes left ↦ taken [] left
-  | does a left ↦ doing a (step_in g n left next)
-  | turns left ↦ step_in g n left next
-  | stops ↦ refused []
-  | ends ↦ taken [] []
-]
+step_in g (suc n) s next = after_move (move g s next) (λ left. step_in g n left next)
 
 -- more than the moves that symbols take before a token is looked at
 abbrev pub effort : Grammar → List Symbol → ℕ
