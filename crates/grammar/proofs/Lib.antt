@@ -1,3 +1,6 @@
 pub mod Clean
 pub mod Moves
 pub mod Steps
+pub mod Derivations
+pub mod Checked
+pub mod Texts
