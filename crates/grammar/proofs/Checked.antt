@@ -9,14 +9,8 @@ use Rattle.grammar.specs.declared.symbol.Row.{Row}
 use Rattle.grammar.specs.Grammars.{Grammar, cost}
 use Rattle.grammar.specs.Tables.{Rows, rule_maybe, on_entry, on_row, other_row, moves_row, grammar_of, all_at, costs_less, moves_end}
 use Rattle.grammar.specs.Tests.{Certificate, mask_at, flag_at, begin_mask, may_be_empty, within, followed, named, ranked, on_passes, on_mask, other_passes, lower_rule, lower_on, row_passes, is_ll1}
-use Rattle.grammar.proofs.Clean.{Tables, IsClean, IsBounded, begins, empties, Followed}
-
-abbrev pub tables_of : Certificate → Tables
-tables_of c = record {
-  starts = λ p k. nat_eq (bit_at (mask_at c.starts p) k) 1;
-  empty = λ p. flag_at c.empty p;
-  follow = λ p k. nat_eq (bit_at (mask_at c.follow p) k) 1;
-}
+use Rattle.grammar.specs.Follow.{Tables, begins, empties, Followed, tables_of}
+use Rattle.grammar.proofs.Clean.{IsClean, IsBounded}
 
 pub both : (a b : Bool) → (a && b) ≡ true → (a ≡ true) × (b ≡ true)
 both true b h = (refl, h)
@@ -222,9 +216,6 @@ implied false b h e = cc
 false-from : (b : Bool) → (b ≡ true → ⊥) → b ≡ false
 false-from true h = absurd (h refl)
 false-from false h = refl
-
-same-other : (r : Rows) (p : ℕ) (s : List Symbol) → (grammar_of r).other p ≡ Some s → FoundOther r p s
-same-other r p s h = other-found r p s h
 
 pub rows-clean : (r : Rows) (c : Certificate) → is_ll1 r c ≡ true → IsClean (grammar_of r) (tables_of c)
 rows-clean r c h = record {

@@ -3,32 +3,8 @@ use Rattle.std.proofs.Common.{◌≡◌, ℕ, zero, suc, ◌<◌, ◌≤◌, ◌
 use Rattle.std.specs.Prelude.{Option}
 use Rattle.grammar.specs.declared.symbol.Symbol.{Symbol}
 use Rattle.grammar.specs.declared.symbol.Symbol.TheVariants.{Token, Part, Action}
+use Rattle.grammar.specs.Follow.{Tables, begins, empties, Followed, nothing}
 use Rattle.grammar.specs.Grammars.{Grammar, Event, took, did, tokens, DerivesIn, Derives, cost, effort}
-
--- which kinds may begin a part, whether it may be empty, and which kinds may follow it
-pub record Tables : Type 0 where
-  pub starts : ℕ → ℕ → Bool
-  pub empty : ℕ → Bool
-  pub follow : ℕ → ℕ → Bool
-
-abbrev pub begins : Tables → List Symbol → ℕ → Bool
-begins t [] k = false
-begins t (Token j ∷ s) k = nat_eq j k
-begins t (Action a ∷ s) k = begins t s k
-begins t (Part p ∷ s) k = t.starts p k || (t.empty p && begins t s k)
-
-abbrev pub empties : Tables → List Symbol → Bool
-empties t [] = true
-empties t (Token j ∷ s) = false
-empties t (Action a ∷ s) = empties t s
-empties t (Part p ∷ s) = t.empty p && empties t s
-
--- what may follow each part of the symbols, where these kinds may follow them all
-abbrev pub Followed : Tables → List Symbol → (ℕ → Bool) → Type 0
-Followed t [] after = Unit {0}
-Followed t (Token j ∷ s) after = Followed t s after
-Followed t (Action a ∷ s) after = Followed t s after
-Followed t (Part p ∷ s) after = ((k : ℕ) → (begins t s k || (empties t s && after k)) ≡ true → t.follow p k ≡ true) × Followed t s after
 
 pub record IsClean (g : Grammar) (t : Tables) : Type 0 where
   pub starts_on : (p k : ℕ) (rule : List Symbol) → g.on p k ≡ Some rule → t.starts p k ≡ true
@@ -42,9 +18,6 @@ pub record IsClean (g : Grammar) (t : Tables) : Type 0 where
 -- each other rule costs less than its part
 pub record IsBounded (g : Grammar) : Type 0 where
   pub below : (p : ℕ) (rule : List Symbol) → g.other p ≡ Some rule → cost g rule < g.moves p
-
-abbrev pub nothing : ℕ → Bool
-nothing k = false
 
 -- booleans
 or-true : (a b : Bool) → (a || b) ≡ true → (a ≡ true) ⊎ (b ≡ true)

@@ -4,3 +4,4 @@ pub mod Steps
 pub mod Derivations
 pub mod Checked
 pub mod Texts
+pub mod RunLaws

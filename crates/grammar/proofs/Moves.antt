@@ -3,8 +3,9 @@ use Rattle.std.proofs.Common.{◌≡◌, ℕ, zero, suc, ◌<◌, ◌≤◌, ◌
 use Rattle.std.specs.Prelude.{Option}
 use Rattle.grammar.specs.declared.symbol.Symbol.{Symbol}
 use Rattle.grammar.specs.declared.symbol.Symbol.TheVariants.{Token, Part, Action}
-use Rattle.grammar.specs.Grammars.{Grammar, Event, took, did, tokens, DerivesIn, Derives, Move, takes, does, turns, stops, ends, on_next, turned, taken_if, move, cost, effort}
-use Rattle.grammar.proofs.Clean.{Tables, IsClean, IsBounded, Followed, nothing, decide-on, followed-on, followed-other, effort-append}
+use Rattle.grammar.specs.Follow.{Tables, Followed, nothing}
+use Rattle.grammar.specs.Grammars.{Grammar, Event, took, did, tokens, Begins, DerivesIn, Derives, Move, takes, does, turns, stops, ends, on_next, turned, taken_if, move, cost, effort}
+use Rattle.grammar.proofs.Clean.{IsClean, IsBounded, decide-on, followed-on, followed-other, effort-append}
 
 -- ---- which moves there are
 
@@ -106,13 +107,6 @@ takes-next g (Action b ∷ s) s' e = cc
 takes-next g (Part p ∷ s) s' e = let x = turned-takes s s' None (g.other p) e in let y : None ≡ Some x.0 = x.1 in cc
 
 -- ---- what is derived before a move is derived after it
-
--- a text's first token has this kind, or it is the end
-abbrev pub Begins : (ℕ → ℕ) → List ℕ → Option ℕ → Type 0
-Begins kind [] None = Unit {0}
-Begins kind [] (Some k) = ⊥
-Begins kind (t ∷ w) None = ⊥
-Begins kind (t ∷ w) (Some k) = kind t ≡ k
 
 begins-on : (g : Grammar) (kind : ℕ → ℕ) (p t : ℕ) (w : List ℕ) (next : Option ℕ) (o : Option (List Symbol)) → Begins kind (t ∷ w) next → g.on p (kind t) ≡ o → on_next g p next ≡ o
 begins-on g kind p t w None o b h = absurd b

@@ -3,9 +3,10 @@ use Rattle.std.proofs.Common.{◌≡◌, ℕ, zero, suc, ◌<◌, ◌≤◌, ◌
 use Rattle.std.specs.Prelude.{Option}
 use Rattle.grammar.specs.declared.symbol.Symbol.{Symbol}
 use Rattle.grammar.specs.declared.symbol.Symbol.TheVariants.{Token, Part, Action}
-use Rattle.grammar.specs.Grammars.{Grammar, Event, took, did, did_all, tokens, DerivesIn, Derives, Move, takes, does, turns, stops, ends, move, cost, effort, Step, taken, refused, doing, after_move, step_in, step}
-use Rattle.grammar.proofs.Clean.{Tables, IsClean, IsBounded, Followed, nothing, followed-on, followed-other, effort-some}
-use Rattle.grammar.proofs.Moves.{takes-onward, does-onward, turns-onward, ends-only, takes-next, Begins, takes-back, does-back, turns-back, stops-back, ends-back, IsKept, kept-takes, kept-turns, kept-does, turns-effort, does-effort}
+use Rattle.grammar.specs.Follow.{Tables, Followed, nothing}
+use Rattle.grammar.specs.Grammars.{Grammar, Event, took, did, did_all, tokens, Begins, DerivesIn, Derives, Move, takes, does, turns, stops, ends, move, cost, effort, Step, taken, refused, doing, after_move, step_in, step}
+use Rattle.grammar.proofs.Clean.{IsClean, IsBounded, followed-on, followed-other, effort-some}
+use Rattle.grammar.proofs.Moves.{takes-onward, does-onward, turns-onward, ends-only, takes-next, takes-back, does-back, turns-back, stops-back, ends-back, IsKept, kept-takes, kept-turns, kept-does, turns-effort, does-effort}
 
 doing-taken : (a : ℕ) (st : Step) (actions : List ℕ) (s : List Symbol) → doing a st ≡ taken actions s → (more : List ℕ) × (st ≡ taken more s) × (actions ≡ a ∷ more)
 doing-taken a (taken more s') actions s e = let x : s' ≡ s = cc in let y : a ∷ more ≡ actions = cc in (more, ap (taken more) x, sym y)

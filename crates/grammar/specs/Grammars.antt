@@ -28,6 +28,13 @@ abbrev pub did_all : List ℕ → List Event
 did_all [] = []
 did_all (a ∷ actions) = did a ∷ did_all actions
 
+-- a text's first token has this kind, or the text has none
+abbrev pub Begins : (ℕ → ℕ) → List ℕ → Option ℕ → Type 0
+Begins kind [] None = Unit {0}
+Begins kind [] (Some k) = ⊥
+Begins kind (t ∷ w) None = ⊥
+Begins kind (t ∷ w) (Some k) = kind t ≡ k
+
 -- In n steps the symbols derive these events.
 abbrev pub DerivesIn : Grammar → (ℕ → ℕ) → ℕ → List Symbol → List Event → Type 0
 DerivesIn g kind zero s es = (s ≡ []) × (es ≡ [])
