@@ -5,3 +5,4 @@ pub mod Derivations
 pub mod Checked
 pub mod Texts
 pub mod RunLaws
+pub mod Moving
