@@ -67,6 +67,7 @@ on-found r p k s h = by-row (slice_get r.rows p) refl h
     by-entry : (row : Row) (e : Option (Option ℕ)) → slice_get r.rows p ≡ Some row → slice_get row.on k ≡ e → on_entry r e ≡ Some s → FoundOn r p k s
     by-entry row None a b h = cc
     by-entry row (Some o) a b h = record { row = row; entry = o; row_is = a; entry_is = b; rule_is = h }
+
     by-row : (o : Option Row) → slice_get r.rows p ≡ o → on_row r k o ≡ Some s → FoundOn r p k s
     by-row None a h = cc
     by-row (Some row) a h = by-entry row (slice_get row.on k) a refl h

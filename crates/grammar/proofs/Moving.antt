@@ -30,12 +30,12 @@ moved-more g c s s' next old new m =
       | takes left ↦ λ is h. absurd h
       | does a left ↦ λ is h. (
         ap (after_actions old) (first-move g c s next ∙ ap (λ v. after_move v (λ y. step g y next)) is)
-        ∙ (actions-doing old a (step g left next) ∙ (ap (λ y. after_actions y (step g left next)) (sym h.1) ∙ ap (λ y. after_actions new (step g y next)) (sym h.0))),
+            ∙ (actions-doing old a (step g left next) ∙ (ap (λ y. after_actions y (step g left next)) (sym h.1) ∙ ap (λ y. after_actions new (step g y next)) (sym h.0))),
         omega (arith, does-effort g s left next a is, ap (effort g) h.0),
       )
       | turns left ↦ λ is h. (
         ap (after_actions old) (first-move g c s next ∙ ap (λ v. after_move v (λ y. step g y next)) is)
-        ∙ (ap (λ y. after_actions y (step g left next)) (sym h.1) ∙ ap (λ y. after_actions new (step g y next)) (sym h.0)),
+            ∙ (ap (λ y. after_actions y (step g left next)) (sym h.1) ∙ ap (λ y. after_actions new (step g y next)) (sym h.0)),
         omega (arith, turns-effort g c s left next is, ap (effort g) h.0),
       )
       | stops ↦ λ is h. absurd h

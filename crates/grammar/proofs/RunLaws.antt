@@ -20,6 +20,7 @@ ready-start r c p h = record { followed = (λ k b. let x : false ≡ true = b in
   where
     test : (p n : ℕ) → p < n → nat_lt p n ≡ true
     test p n h = grind arith
+
     below : (p n : ℕ) → p < n → named c.kinds n (Part p ∷ []) ≡ true
     below p n h = rw (test p n h) refl
 
@@ -63,10 +64,13 @@ leaves-taken r c h kind symbols s s' past t actions f e l = record {
   where
     join : (es : List Event) → past ++ (did_all actions ++ took t ∷ es) ≡ (past ++ (did_all actions ++ took t ∷ [])) ++ es
     join es = sym (append_assoc past (did_all actions ++ took t ∷ []) es ∙ ap (λ z. past ++ z) (append_assoc (did_all actions) (took t ∷ []) es))
+
     tokens-step : (es : List Event) → tokens (did_all actions ++ took t ∷ es) ≡ t ∷ tokens es
     tokens-step es = tokens-append (did_all actions) (took t ∷ es) ∙ ap (λ z. z ++ (t ∷ tokens es)) (tokens-did_all actions)
+
     tail-of : (t : ℕ) (a b : List ℕ) → t ∷ a ≡ t ∷ b → a ≡ b
     tail-of t a b e = cc
+
     split : (w : List ℕ) → tokens (past ++ (did_all actions ++ took t ∷ [])) ++ w ≡ tokens past ++ t ∷ w
     split w = ap (λ z. z ++ w) (tokens-append past (did_all actions ++ took t ∷ []) ∙ ap (λ z. tokens past ++ z) (tokens-step [])) ∙ append_assoc (tokens past) (t ∷ []) w
 

@@ -66,6 +66,7 @@ back-in g tb c kind (suc n) s s' t w actions es f e b d =
     rest tb (Token k) s f = f
     rest tb (Part p) s f = f.1
     rest tb (Action a) s f = f
+
     followed-kept : (g : Grammar) (tb : Tables) → IsClean g tb → IsKept g (λ y. Followed tb y nothing)
     followed-kept g tb c = record {
       rest = λ y s f. rest tb y s f;

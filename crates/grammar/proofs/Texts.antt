@@ -82,7 +82,7 @@ part-text r c kind token_of h ks (suc n) p b l =
     let row = get-some r.rows p b in
     let ok = row-ok r c p row.0 h row.1 in
     let text : (s : List Symbol) → named c.kinds (length r.rows) s ≡ true → ranked c (mask_at c.ranks p) s ≡ true → HasText (grammar_of r) kind s = λ s x y. join-texts (grammar_of r) kind token_of c ks s
-      (lower-texts (grammar_of r) kind c (length r.rows) n (mask_at c.ranks p) (omega arith) (λ q u v. part-text r c kind token_of h ks n q u v) s x y) in
+    (lower-texts (grammar_of r) kind c (length r.rows) n (mask_at c.ranks p) (omega arith) (λ q u v. part-text r c kind token_of h ks n q u v) s x y) in
     elim (either (lower_rule c (mask_at c.ranks p) (rule_maybe r row.0.other)) (lower_on r c (mask_at c.ranks p) row.0.on) ok.lower_ok) [
       | inl a ↦ by-other text row.0 row.1 (rule_maybe r row.0.other) refl a
       | inr a ↦ by-on text row.0 row.1 (lower-found r c (mask_at c.ranks p) row.0.on a)
@@ -94,6 +94,7 @@ part-text r c kind token_of h ks (suc n) p b l =
         let is : (grammar_of r).other p ≡ Some s = ap (other_row r) at ∙ e in
         let x = text s (other-ok r c p s (other-found r p s is) h).named_ok a in
         (x.0, derives-other (grammar_of r) kind p s [] x.0 is (subst (λ y. Derives (grammar_of r) kind y x.0) (sym (append-nil s)) x.1))
+
     by-on : ((s : List Symbol) → named c.kinds (length r.rows) s ≡ true → ranked c (mask_at c.ranks p) s ≡ true → HasText (grammar_of r) kind s) → (row : Row) → slice_get r.rows p ≡ Some row → Lower r c (mask_at c.ranks p) row.on → HasText (grammar_of r) kind (Part p ∷ [])
     by-on text row at f =
         let is : (grammar_of r).on p f.k ≡ Some f.rule = ap (on_row r f.k) at ∙ (ap (on_entry r) f.entry_is ∙ f.rule_is) in

@@ -15,7 +15,12 @@ use std::alloc::{AllocError, Global};
 use std::marker::Model;
 
 // What a part turns into.
-fn turn(table: &Table, part: u16, next: Option<u16>, left: &mut Left) -> Result<Option<Reply>, AllocError>
+fn turn(
+    table: &Table,
+    part: u16,
+    next: Option<u16>,
+    left: &mut Left,
+) -> Result<Option<Reply>, AllocError>
     ensures ok { IfOk result (λ r. Moved (turned left.old.left (on_next (grammar_of table.now) part next) ((grammar_of table.now).other part)) r left.new.left [] []) }
     ensures base { left.new.base ≡ left.old.base }
 {
@@ -76,7 +81,12 @@ fn one_move(
 }
 
 // All moves up to the one that takes the token, or the end.
-fn advance(table: &Table, next: Option<u16>, left: &mut Left, actions: &mut Vec<u16>) -> Result<Reply, AllocError>
+fn advance(
+    table: &Table,
+    next: Option<u16>,
+    left: &mut Left,
+    actions: &mut Vec<u16>,
+) -> Result<Reply, AllocError>
     requires bounded { moves_end table.now ≡ true }
     requires none { actions.old.items ≡ [] }
     ensures ok { IfOk result (λ r. step (grammar_of table.now) left.old.left next ≡ step_of r actions.new.items left.new.left) }
@@ -133,6 +143,29 @@ impl Reader {
         self.actions.as_slice()
     }
 
+    /// Takes a token of this kind, or refuses it: then no text of the grammar that begins with the tokens taken so far goes on
+    /// with such a token. The actions that are complete before the token are done in either case.
+    ///
+    /// After a refusal and where memory is out, what is left is as before, and the step may be tried again.
+    pub fn step(&mut self, kind: u16) -> Result<Reply, AllocError>
+        ensures step { IfOk result (λ r. step (grammar_of self.old.table) self.old.left (Some kind) ≡ step_of r self.new.actions self.new.left) }
+        ensures kept { result ≢ Ok Taken → self.new.left ≡ self.old.left }
+        ensures table { self.new.table ≡ self.old.table }
+    {
+        self.next(Some(kind))
+    }
+
+    /// Takes the end of the text, or refuses it: then the tokens taken so far are no text of the grammar.
+    ///
+    /// After a refusal and where memory is out, what is left is as before.
+    pub fn end(&mut self) -> Result<Reply, AllocError>
+        ensures step { IfOk result (λ r. step (grammar_of self.old.table) self.old.left None ≡ step_of r self.new.actions self.new.left) }
+        ensures kept { result ≢ Ok Taken → self.new.left ≡ self.old.left }
+        ensures table { self.new.table ≡ self.old.table }
+    {
+        self.next(None)
+    }
+
     fn next(&mut self, next: Option<u16>) -> Result<Reply, AllocError>
         ensures step { IfOk result (λ r. step (grammar_of self.old.table) self.old.left next ≡ step_of r self.new.actions self.new.left) }
         ensures kept { result ≢ Ok Taken → self.new.left ≡ self.old.left }
@@ -149,3 +182,6 @@ impl Reader {
         reply
     }
 }
+
+#[cfg(test)]
+mod tests;

@@ -21,7 +21,7 @@ loop-reply-smaller c =
 pub loop-reply-preserved : goal.loop-reply-preserved
 loop-reply-preserved c =
     let m = moved-more (grammar_of c.args.table.now) (rows-bounded c.args.table.now c.requires.bounded) c.loop-reply.left.left c.one_move.new.left.left c.args.next c.loop-reply.actions.items c.one_move.new.actions.items
-      (subst (λ r. Moved (move (grammar_of c.args.table.now) c.loop-reply.left.left c.args.next) r c.one_move.new.left.left c.loop-reply.actions.items c.one_move.new.actions.items) c.in_default.is c.in_ok-reply.ensures.ok) in
+    (subst (λ r. Moved (move (grammar_of c.args.table.now) c.loop-reply.left.left c.args.next) r c.one_move.new.left.left c.loop-reply.actions.items c.one_move.new.actions.items) c.in_default.is c.in_ok-reply.ensures.ok) in
     record {
       bounded = c.requires.bounded;
       base = c.in_ok-reply.ensures.base ∙ c.loop-reply.invariant.base;
