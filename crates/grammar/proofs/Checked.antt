@@ -1,14 +1,13 @@
 -- A table that the test passes is closed and has no conflict.
 use Rattle.std.proofs.Common.{◌≡◌, ℕ, zero, suc, ◌<◌, ◌≤◌, ◌+◌, ◌*◌, ◌/◌, ◌%◌, ◌^◌, Bool, true, false, ◌||◌, ◌&&◌, not, cond, nat_eq, nat_lt, is_some, List, [], ◌∷◌, ◌++◌, ◌⊎◌, inl, inr, length, Some, None, refl, ap, sym, subst, ◌∙◌, arith}
-use Rattle.std.specs.Prelude.{Option, bit_and, bit_or, slice_get}
+use Rattle.std.specs.Prelude.{Option, bit_and, bit_or, slice_get, slice_index_or}
 use Rattle.std.specs.Int.{bit_at}
 use Rattle.std.proofs.lemmas.Nat.Bits.{bit_at_or, bit_at_and, bit_at-pow_same, bit_at-zero}
 use Rattle.grammar.specs.declared.symbol.Symbol.{Symbol}
 use Rattle.grammar.specs.declared.symbol.Symbol.TheVariants.{Token, Part, Action}
-use Rattle.grammar.specs.declared.symbol.Row.{Row}
 use Rattle.grammar.specs.Grammars.{Grammar, cost}
-use Rattle.grammar.specs.Tables.{Rows, rule_maybe, on_entry, on_row, other_row, moves_row, grammar_of, all_at, costs_less, moves_end}
-use Rattle.grammar.specs.Tests.{Certificate, mask_at, flag_at, begin_mask, may_be_empty, within, followed, named, ranked, on_passes, on_mask, other_passes, lower_rule, lower_on, row_passes, is_ll1}
+use Rattle.grammar.specs.Tables.{Rows, rule_maybe, entry_rule, on_row, grammar_of, all_at, costs_less, moves_end}
+use Rattle.grammar.specs.Tests.{Certificate, mask_at, flag_at, begin_mask, may_be_empty, within, followed, named, ranked, on_passes, on_mask, other_passes, lower_rule, lower_on, row_of, row_passes, is_ll1}
 use Rattle.grammar.specs.Follow.{Tables, begins, empties, Followed, tables_of}
 use Rattle.grammar.proofs.Clean.{IsClean, IsBounded}
 
@@ -55,51 +54,55 @@ all_at-first test xs j x h g = let at : 0 + j ≡ j = omega arith in subst (λ k
 -- ---- where a rule was found
 
 pub record FoundOn (r : Rows) (p k : ℕ) (s : List Symbol) : Type 0 where
-  pub row : Row
+  pub row : List (Option ℕ)
   pub entry : Option ℕ
-  pub row_is : slice_get r.rows p ≡ Some row
-  pub entry_is : slice_get row.on k ≡ Some entry
+  pub row_is : slice_get r.on p ≡ Some row
+  pub entry_is : slice_get row k ≡ Some entry
   pub rule_is : rule_maybe r entry ≡ Some s
 
 pub on-found : (r : Rows) (p k : ℕ) (s : List Symbol) → (grammar_of r).on p k ≡ Some s → FoundOn r p k s
-on-found r p k s h = by-row (slice_get r.rows p) refl h
+on-found r p k s h = by-row (slice_get r.on p) refl h
   where
-    by-entry : (row : Row) (e : Option (Option ℕ)) → slice_get r.rows p ≡ Some row → slice_get row.on k ≡ e → on_entry r e ≡ Some s → FoundOn r p k s
+    by-entry : (row : List (Option ℕ)) (e : Option (Option ℕ)) → slice_get r.on p ≡ Some row → slice_get row k ≡ e → entry_rule r e ≡ Some s → FoundOn r p k s
     by-entry row None a b h = cc
     by-entry row (Some o) a b h = record { row = row; entry = o; row_is = a; entry_is = b; rule_is = h }
 
-    by-row : (o : Option Row) → slice_get r.rows p ≡ o → on_row r k o ≡ Some s → FoundOn r p k s
+    by-row : (o : Option (List (Option ℕ))) → slice_get r.on p ≡ o → on_row r k o ≡ Some s → FoundOn r p k s
     by-row None a h = cc
-    by-row (Some row) a h = by-entry row (slice_get row.on k) a refl h
+    by-row (Some row) a h = by-entry row (slice_get row k) a refl h
 
 pub record FoundOther (r : Rows) (p : ℕ) (s : List Symbol) : Type 0 where
-  pub row : Row
-  pub row_is : slice_get r.rows p ≡ Some row
-  pub rule_is : rule_maybe r row.other ≡ Some s
+  pub entry : Option ℕ
+  pub entry_is : slice_get r.other p ≡ Some entry
+  pub rule_is : rule_maybe r entry ≡ Some s
 
 pub other-found : (r : Rows) (p : ℕ) (s : List Symbol) → (grammar_of r).other p ≡ Some s → FoundOther r p s
-other-found r p s h = by-row (slice_get r.rows p) refl h
+other-found r p s h = by-entry (slice_get r.other p) refl h
   where
-    by-row : (o : Option Row) → slice_get r.rows p ≡ o → other_row r o ≡ Some s → FoundOther r p s
-    by-row None a h = cc
-    by-row (Some row) a h = record { row = row; row_is = a; rule_is = h }
+    by-entry : (o : Option (Option ℕ)) → slice_get r.other p ≡ o → entry_rule r o ≡ Some s → FoundOther r p s
+    by-entry None a h = cc
+    by-entry (Some entry) a h = record { entry = entry; entry_is = a; rule_is = h }
+
+get-index : {X : Type 0} (xs : List X) (i : ℕ) (x d : X) → slice_get xs i ≡ Some x → slice_index_or xs i d ≡ x
+get-index [] i x d h = cc
+get-index (y ∷ xs) zero x d h = cc
+get-index (y ∷ xs) (suc i) x d h = get-index xs i x d h
 
 -- ---- what passed
 
-pub record RowOk (r : Rows) (c : Certificate) (p : ℕ) (row : Row) : Type 0 where
-  pub on_ok : all_at (λ k o. on_passes r c p k (rule_maybe r o)) 0 row.on ≡ true
-  pub other_ok : other_passes r c p row.on (rule_maybe r row.other) ≡ true
-  pub lower_ok : (lower_rule c (mask_at c.ranks p) (rule_maybe r row.other) || lower_on r c (mask_at c.ranks p) row.on) ≡ true
+pub record RowOk (r : Rows) (c : Certificate) (p : ℕ) (row : List (Option ℕ)) : Type 0 where
+  pub on_ok : all_at (λ k o. on_passes r c p k (rule_maybe r o)) 0 row ≡ true
+  pub lower_ok : (lower_rule c (mask_at c.ranks p) (entry_rule r (slice_get r.other p)) || lower_on r c (mask_at c.ranks p) row) ≡ true
 
-pub row-ok : (r : Rows) (c : Certificate) (p : ℕ) (row : Row) → is_ll1 r c ≡ true → slice_get r.rows p ≡ Some row → RowOk r c p row
+pub row-ok : (r : Rows) (c : Certificate) (p : ℕ) (row : List (Option ℕ)) → is_ll1 r c ≡ true → slice_get r.on p ≡ Some row → RowOk r c p row
 row-ok r c p row h g =
-    let e = both _ _ (all_at-first (λ p row. row_passes r c p row) r.rows p row h g) in
-    let f = both _ _ e.1 in
-    record { on_ok = e.0; other_ok = f.0; lower_ok = f.1 }
+    let h' = both (all_at (λ p row. row_passes r c p row) 0 r.on) (all_at (λ p o. other_passes r c p (row_of r p) (rule_maybe r o)) 0 r.other) h in
+    let e = both _ _ (all_at-first (λ p row. row_passes r c p row) r.on p row h'.0 g) in
+    record { on_ok = e.0; lower_ok = e.1 }
 
 pub record OnOk (r : Rows) (c : Certificate) (p k : ℕ) (s : List Symbol) : Type 0 where
   pub kind_ok : nat_lt k c.kinds ≡ true
-  pub named_ok : named c.kinds (length r.rows) s ≡ true
+  pub named_ok : named c.kinds (length r.on) s ≡ true
   pub starts_ok : within (2 ^ k) (mask_at c.starts p) ≡ true
   pub follow_ok : followed c (mask_at c.follow p) s ≡ true
 
@@ -107,14 +110,14 @@ pub on-ok : (r : Rows) (c : Certificate) (p k : ℕ) (s : List Symbol) → is_ll
 on-ok r c p k s h g =
     let f = on-found r p k s g in
     let row = row-ok r c p f.row h f.row_is in
-    let t = all_at-first (λ k o. on_passes r c p k (rule_maybe r o)) f.row.on k f.entry row.on_ok f.entry_is in
+    let t = all_at-first (λ k o. on_passes r c p k (rule_maybe r o)) f.row k f.entry row.on_ok f.entry_is in
     parts (rule_maybe r f.entry) f.rule_is t
   where
     parts : (o : Option (List Symbol)) → o ≡ Some s → on_passes r c p k o ≡ true → OnOk r c p k s
     parts o e t =
         let t' : on_passes r c p k (Some s) ≡ true = subst (λ x. on_passes r c p k x ≡ true) e t in
-        let a = both (nat_lt k c.kinds && named c.kinds (length r.rows) s) (within (2 ^ k) (mask_at c.starts p) && followed c (mask_at c.follow p) s) t' in
-        let b = both (nat_lt k c.kinds) (named c.kinds (length r.rows) s) a.0 in
+        let a = both (nat_lt k c.kinds && named c.kinds (length r.on) s) (within (2 ^ k) (mask_at c.starts p) && followed c (mask_at c.follow p) s) t' in
+        let b = both (nat_lt k c.kinds) (named c.kinds (length r.on) s) a.0 in
         let d = both (within (2 ^ k) (mask_at c.starts p)) (followed c (mask_at c.follow p) s) a.1 in
         record { kind_ok = b.0; named_ok = b.1; starts_ok = d.0; follow_ok = d.1 }
 
@@ -124,7 +127,7 @@ pub record OtherOk (r : Rows) (c : Certificate) (p : ℕ) (on : List (Option ℕ
   pub follow_ok : followed c (mask_at c.follow p) s ≡ true
   pub apart : nat_eq (bit_and (on_mask r 0 on) (begin_mask c s)) 0 ≡ true
   pub after : (not (may_be_empty c s) || nat_eq (bit_and (on_mask r 0 on) (mask_at c.follow p)) 0) ≡ true
-  pub named_ok : named c.kinds (length r.rows) s ≡ true
+  pub named_ok : named c.kinds (length r.on) s ≡ true
 
 other-parts : (r : Rows) (c : Certificate) (p : ℕ) (on : List (Option ℕ)) (s : List Symbol) → other_passes r c p on (Some s) ≡ true → OtherOk r c p on s
 other-parts r c p on s h =
@@ -135,10 +138,11 @@ other-parts r c p on s h =
     let h5 = both _ _ h4.1 in
     record { begin_ok = h1.0; empty_ok = h2.0; follow_ok = h3.0; apart = h4.0; after = h5.0; named_ok = h5.1 }
 
-pub other-ok : (r : Rows) (c : Certificate) (p : ℕ) (s : List Symbol) (f : FoundOther r p s) → is_ll1 r c ≡ true → OtherOk r c p f.row.on s
+pub other-ok : (r : Rows) (c : Certificate) (p : ℕ) (s : List Symbol) → FoundOther r p s → is_ll1 r c ≡ true → OtherOk r c p (row_of r p) s
 other-ok r c p s f h =
-    let row = row-ok r c p f.row h f.row_is in
-    other-parts r c p f.row.on s (subst (λ x. other_passes r c p f.row.on x ≡ true) f.rule_is row.other_ok)
+    let h' = both (all_at (λ p row. row_passes r c p row) 0 r.on) (all_at (λ p o. other_passes r c p (row_of r p) (rule_maybe r o)) 0 r.other) h in
+    let t = all_at-first (λ p o. other_passes r c p (row_of r p) (rule_maybe r o)) r.other p f.entry h'.1 f.entry_is in
+    other-parts r c p (row_of r p) s (subst (λ x. other_passes r c p (row_of r p) x ≡ true) f.rule_is t)
 
 -- ---- sets of bits
 
@@ -159,15 +163,12 @@ mask-bit r i (x ∷ os) (suc j) o s g h =
     let rest : 1 ≤ bit_at (on_mask r (i + 1) os) (i + suc j) = subst (λ k. 1 ≤ bit_at (on_mask r (i + 1) os) k) at (mask-bit r (i + 1) os j o s g h) in
     omega (arith, bit_at_or (cond (is_some (rule_maybe r x)) (2 ^ i) 0) (on_mask r (i + 1) os) (i + suc j), rest)
 
-on-bit : (r : Rows) (p k : ℕ) (s : List Symbol) (row : Row) → (grammar_of r).on p k ≡ Some s → slice_get r.rows p ≡ Some row → 1 ≤ bit_at (on_mask r 0 row.on) k
-on-bit r p k s row h g =
+on-bit : (r : Rows) (p k : ℕ) (s : List Symbol) → (grammar_of r).on p k ≡ Some s → 1 ≤ bit_at (on_mask r 0 (row_of r p)) k
+on-bit r p k s h =
     let f = on-found r p k s h in
-    let same : f.row ≡ row = same-row (slice_get r.rows p) f.row row f.row_is g in
+    let same : row_of r p ≡ f.row = get-index r.on p f.row [] f.row_is in
     let at : 0 + k ≡ k = omega arith in
-    subst (λ x. 1 ≤ bit_at (on_mask r 0 x.on) k) same (subst (λ j. 1 ≤ bit_at (on_mask r 0 f.row.on) j) at (mask-bit r 0 f.row.on k f.entry s f.entry_is f.rule_is))
-  where
-    same-row : (o : Option Row) (a b : Row) → o ≡ Some a → o ≡ Some b → a ≡ b
-    same-row o a b x y = cc
+    subst (λ x. 1 ≤ bit_at (on_mask r 0 x) k) (sym same) (subst (λ j. 1 ≤ bit_at (on_mask r 0 f.row) j) at (mask-bit r 0 f.row k f.entry s f.entry_is f.rule_is))
 
 -- what may begin symbols stands in their set
 begins-bit : (c : Certificate) (s : List Symbol) (k : ℕ) → begins (tables_of c) s k ≡ true → 1 ≤ bit_at (begin_mask c s) k
@@ -230,16 +231,16 @@ rows-clean r c h = record {
   apart = λ p k s o a b. let f = other-found r p o b in
       let e = other-ok r c p o f h in
       false-from (begins (tables_of c) o k) (λ x.
-      omega (arith, on-bit r p k s f.row a f.row_is, begins-bit c o k x, bit_at_and (on_mask r 0 f.row.on) (begin_mask c o) k, ap (λ m. bit_at m k) (same-number _ 0 e.apart), bit_at-zero k));
+      omega (arith, on-bit r p k s a, begins-bit c o k x, bit_at_and (on_mask r 0 (row_of r p)) (begin_mask c o) k, ap (λ m. bit_at m k) (same-number _ 0 e.apart), bit_at-zero k));
   apart_after = λ p k s o a b x. let f = other-found r p o b in
       let e = other-ok r c p o f h in
       false-from (nat_eq (bit_at (mask_at c.follow p) k) 1) (λ t.
       omega (
         arith,
-        on-bit r p k s f.row a f.row_is,
+        on-bit r p k s a,
         is-one (bit_at (mask_at c.follow p) k) t,
-        bit_at_and (on_mask r 0 f.row.on) (mask_at c.follow p) k,
-        ap (λ m. bit_at m k) (same-number (bit_and (on_mask r 0 f.row.on) (mask_at c.follow p)) 0 (implied (may_be_empty c o) _ e.after (empties-flag c o x))),
+        bit_at_and (on_mask r 0 (row_of r p)) (mask_at c.follow p) k,
+        ap (λ m. bit_at m k) (same-number (bit_and (on_mask r 0 (row_of r p)) (mask_at c.follow p)) 0 (implied (may_be_empty c o) _ e.after (empties-flag c o x))),
         bit_at-zero k,
       ));
 }
@@ -247,8 +248,7 @@ rows-clean r c h = record {
 pub rows-bounded : (r : Rows) → moves_end r ≡ true → IsBounded (grammar_of r)
 rows-bounded r h = record {
   below = λ p s g. let f = other-found r p s g in
-      let t = all_at-first (λ p (row : Row). costs_less r row.moves (rule_maybe r row.other)) r.rows p f.row h f.row_is in
-      let t' : nat_lt (cost (grammar_of r) s) f.row.moves ≡ true = subst (λ x. costs_less r f.row.moves x ≡ true) f.rule_is t in
-      let m : moves_row (slice_get r.rows p) ≡ f.row.moves = ap moves_row f.row_is in
-      omega (arith, less-number (cost (grammar_of r) s) f.row.moves t', m);
+      let t = all_at-first (λ p o. costs_less r (slice_index_or r.moves p 0) (rule_maybe r o)) r.other p f.entry h f.entry_is in
+      let t' : nat_lt (cost (grammar_of r) s) (slice_index_or r.moves p 0) ≡ true = subst (λ x. costs_less r (slice_index_or r.moves p 0) x ≡ true) f.rule_is t in
+      less-number (cost (grammar_of r) s) (slice_index_or r.moves p 0) t';
 }

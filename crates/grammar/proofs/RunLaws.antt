@@ -15,8 +15,8 @@ use Rattle.grammar.proofs.Derivations.{tokens-append, tokens-did_all}
 use Rattle.grammar.proofs.Checked.{on-ok, other-ok, other-found, rows-clean, rows-bounded}
 use Rattle.grammar.proofs.Texts.{named-append, named-rest, HasText, left-text}
 
-pub ready-start : (r : Rows) (c : Certificate) (p : ℕ) → p < length r.rows → IsReady r c (Part p ∷ [])
-ready-start r c p h = record { followed = (λ k b. let x : false ≡ true = b in absurd (cc), tt); names = below p (length r.rows) h }
+pub ready-start : (r : Rows) (c : Certificate) (p : ℕ) → p < length r.on → IsReady r c (Part p ∷ [])
+ready-start r c p h = record { followed = (λ k b. let x : false ≡ true = b in absurd (cc), tt); names = below p (length r.on) h }
   where
     test : (p n : ℕ) → p < n → nat_lt p n ≡ true
     test p n h = grind arith
@@ -31,14 +31,14 @@ rest-followed tb (Action a) s f = f
 
 ready-kept : (r : Rows) (c : Certificate) → is_ll1 r c ≡ true → IsKept (grammar_of r) (λ s. IsReady r c s)
 ready-kept r c h = record {
-  rest = λ y s f. record { followed = rest-followed (tables_of c) y s f.followed; names = named-rest c.kinds (length r.rows) y s f.names };
+  rest = λ y s f. record { followed = rest-followed (tables_of c) y s f.followed; names = named-rest c.kinds (length r.on) y s f.names };
   on = λ p k s rule is f. record {
     followed = followed-on (grammar_of r) (tables_of c) (rows-clean r c h) p k s rule f.followed is;
-    names = named-append c.kinds (length r.rows) rule s (on-ok r c p k rule h is).named_ok (named-rest c.kinds (length r.rows) (Part p) s f.names);
+    names = named-append c.kinds (length r.on) rule s (on-ok r c p k rule h is).named_ok (named-rest c.kinds (length r.on) (Part p) s f.names);
   };
   other = λ p s rule is f. record {
     followed = followed-other (grammar_of r) (tables_of c) (rows-clean r c h) p s rule f.followed is;
-    names = named-append c.kinds (length r.rows) rule s (other-ok r c p rule (other-found r p rule is) h).named_ok (named-rest c.kinds (length r.rows) (Part p) s f.names);
+    names = named-append c.kinds (length r.on) rule s (other-ok r c p rule (other-found r p rule is) h).named_ok (named-rest c.kinds (length r.on) (Part p) s f.names);
   };
 }
 

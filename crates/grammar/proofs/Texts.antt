@@ -3,9 +3,8 @@ use Rattle.std.proofs.Common.{◌≡◌, ℕ, zero, suc, ◌<◌, ◌≤◌, ◌
 use Rattle.std.specs.Prelude.{Option, slice_get}
 use Rattle.grammar.specs.declared.symbol.Symbol.{Symbol}
 use Rattle.grammar.specs.declared.symbol.Symbol.TheVariants.{Token, Part, Action}
-use Rattle.grammar.specs.declared.symbol.Row.{Row}
 use Rattle.grammar.specs.Grammars.{Grammar, Event, took, did, Derives}
-use Rattle.grammar.specs.Tables.{Rows, rule_maybe, on_entry, on_row, other_row, grammar_of}
+use Rattle.grammar.specs.Tables.{Rows, rule_maybe, entry_rule, on_row, grammar_of}
 use Rattle.grammar.specs.Tests.{Certificate, mask_at, named, ranked, lower_rule, lower_on, is_ll1}
 use Rattle.grammar.specs.Runs.{HasKinds}
 use Rattle.grammar.proofs.Checked.{both, either, less-number, row-ok, on-ok, other-ok, other-found}
@@ -76,42 +75,42 @@ lower-found r c rank (o ∷ os) h = elim (either (lower_rule c rank (rule_maybe 
     here None e a = cc
     here (Some s) e a = record { k = 0; entry = o; rule = s; entry_is = refl; rule_is = e; is_ranked = a }
 
-part-text : (r : Rows) (c : Certificate) (kind token_of : ℕ → ℕ) → is_ll1 r c ≡ true → HasKinds c kind token_of → (n p : ℕ) → p < length r.rows → mask_at c.ranks p < n → HasText (grammar_of r) kind (Part p ∷ [])
+part-text : (r : Rows) (c : Certificate) (kind token_of : ℕ → ℕ) → is_ll1 r c ≡ true → HasKinds c kind token_of → (n p : ℕ) → p < length r.on → mask_at c.ranks p < n → HasText (grammar_of r) kind (Part p ∷ [])
 part-text r c kind token_of h ks zero p b l = absurd (omega arith)
 part-text r c kind token_of h ks (suc n) p b l =
-    let row = get-some r.rows p b in
+    let row = get-some r.on p b in
     let ok = row-ok r c p row.0 h row.1 in
-    let text : (s : List Symbol) → named c.kinds (length r.rows) s ≡ true → ranked c (mask_at c.ranks p) s ≡ true → HasText (grammar_of r) kind s = λ s x y. join-texts (grammar_of r) kind token_of c ks s
-    (lower-texts (grammar_of r) kind c (length r.rows) n (mask_at c.ranks p) (omega arith) (λ q u v. part-text r c kind token_of h ks n q u v) s x y) in
-    elim (either (lower_rule c (mask_at c.ranks p) (rule_maybe r row.0.other)) (lower_on r c (mask_at c.ranks p) row.0.on) ok.lower_ok) [
-      | inl a ↦ by-other text row.0 row.1 (rule_maybe r row.0.other) refl a
-      | inr a ↦ by-on text row.0 row.1 (lower-found r c (mask_at c.ranks p) row.0.on a)
+    let text : (s : List Symbol) → named c.kinds (length r.on) s ≡ true → ranked c (mask_at c.ranks p) s ≡ true → HasText (grammar_of r) kind s = λ s x y. join-texts (grammar_of r) kind token_of c ks s
+    (lower-texts (grammar_of r) kind c (length r.on) n (mask_at c.ranks p) (omega arith) (λ q u v. part-text r c kind token_of h ks n q u v) s x y) in
+    elim (either (lower_rule c (mask_at c.ranks p) (entry_rule r (slice_get r.other p))) (lower_on r c (mask_at c.ranks p) row.0) ok.lower_ok) [
+      | inl a ↦ by-other text (entry_rule r (slice_get r.other p)) refl a
+      | inr a ↦ by-on text row.0 row.1 (lower-found r c (mask_at c.ranks p) row.0 a)
     ]
   where
-    by-other : ((s : List Symbol) → named c.kinds (length r.rows) s ≡ true → ranked c (mask_at c.ranks p) s ≡ true → HasText (grammar_of r) kind s) → (row : Row) → slice_get r.rows p ≡ Some row → (m : Option (List Symbol)) → rule_maybe r row.other ≡ m → lower_rule c (mask_at c.ranks p) m ≡ true → HasText (grammar_of r) kind (Part p ∷ [])
-    by-other text row at None e a = cc
-    by-other text row at (Some s) e a =
-        let is : (grammar_of r).other p ≡ Some s = ap (other_row r) at ∙ e in
+    by-other : ((s : List Symbol) → named c.kinds (length r.on) s ≡ true → ranked c (mask_at c.ranks p) s ≡ true → HasText (grammar_of r) kind s) → (m : Option (List Symbol)) → (grammar_of r).other p ≡ m → lower_rule c (mask_at c.ranks p) m ≡ true → HasText (grammar_of r) kind (Part p ∷ [])
+    by-other text None e a = cc
+    by-other text (Some s) e a =
+        let is : (grammar_of r).other p ≡ Some s = e in
         let x = text s (other-ok r c p s (other-found r p s is) h).named_ok a in
         (x.0, derives-other (grammar_of r) kind p s [] x.0 is (subst (λ y. Derives (grammar_of r) kind y x.0) (sym (append-nil s)) x.1))
 
-    by-on : ((s : List Symbol) → named c.kinds (length r.rows) s ≡ true → ranked c (mask_at c.ranks p) s ≡ true → HasText (grammar_of r) kind s) → (row : Row) → slice_get r.rows p ≡ Some row → Lower r c (mask_at c.ranks p) row.on → HasText (grammar_of r) kind (Part p ∷ [])
+    by-on : ((s : List Symbol) → named c.kinds (length r.on) s ≡ true → ranked c (mask_at c.ranks p) s ≡ true → HasText (grammar_of r) kind s) → (row : List (Option ℕ)) → slice_get r.on p ≡ Some row → Lower r c (mask_at c.ranks p) row → HasText (grammar_of r) kind (Part p ∷ [])
     by-on text row at f =
-        let is : (grammar_of r).on p f.k ≡ Some f.rule = ap (on_row r f.k) at ∙ (ap (on_entry r) f.entry_is ∙ f.rule_is) in
+        let is : (grammar_of r).on p f.k ≡ Some f.rule = ap (on_row r f.k) at ∙ (ap (entry_rule r) f.entry_is ∙ f.rule_is) in
         let o = on-ok r c p f.k f.rule h is in
         let x = text f.rule o.named_ok f.is_ranked in
         let kd : kind (token_of f.k) ≡ f.k = ks f.k (less-number f.k c.kinds o.kind_ok) in
         let is' : (grammar_of r).on p (kind (token_of f.k)) ≡ Some f.rule = ap (λ k. (grammar_of r).on p k) kd ∙ is in
         (took (token_of f.k) ∷ x.0, derives-on (grammar_of r) kind p (token_of f.k) f.rule [] x.0 is' (subst (λ y. Derives (grammar_of r) kind y x.0) (sym (append-nil f.rule)) x.1))
 
-named-texts : (r : Rows) (c : Certificate) (kind token_of : ℕ → ℕ) → is_ll1 r c ≡ true → HasKinds c kind token_of → (s : List Symbol) → named c.kinds (length r.rows) s ≡ true → HaveTexts (grammar_of r) kind c.kinds s
+named-texts : (r : Rows) (c : Certificate) (kind token_of : ℕ → ℕ) → is_ll1 r c ≡ true → HasKinds c kind token_of → (s : List Symbol) → named c.kinds (length r.on) s ≡ true → HaveTexts (grammar_of r) kind c.kinds s
 named-texts r c kind token_of h ks [] a = tt
 named-texts r c kind token_of h ks (Token k ∷ s) a =
-    let e = both (nat_lt k c.kinds) (named c.kinds (length r.rows) s) a in (less-number k c.kinds e.0, named-texts r c kind token_of h ks s e.1)
+    let e = both (nat_lt k c.kinds) (named c.kinds (length r.on) s) a in (less-number k c.kinds e.0, named-texts r c kind token_of h ks s e.1)
 named-texts r c kind token_of h ks (Action k ∷ s) a = named-texts r c kind token_of h ks s a
 named-texts r c kind token_of h ks (Part p ∷ s) a =
-    let e = both (nat_lt p (length r.rows)) (named c.kinds (length r.rows) s) a in
-    (part-text r c kind token_of h ks (suc (mask_at c.ranks p)) p (less-number p (length r.rows) e.0) (omega arith), named-texts r c kind token_of h ks s e.1)
+    let e = both (nat_lt p (length r.on)) (named c.kinds (length r.on) s) a in
+    (part-text r c kind token_of h ks (suc (mask_at c.ranks p)) p (less-number p (length r.on) e.0) (omega arith), named-texts r c kind token_of h ks s e.1)
 
-pub left-text : (r : Rows) (c : Certificate) (kind token_of : ℕ → ℕ) → is_ll1 r c ≡ true → HasKinds c kind token_of → (s : List Symbol) → named c.kinds (length r.rows) s ≡ true → HasText (grammar_of r) kind s
+pub left-text : (r : Rows) (c : Certificate) (kind token_of : ℕ → ℕ) → is_ll1 r c ≡ true → HasKinds c kind token_of → (s : List Symbol) → named c.kinds (length r.on) s ≡ true → HasText (grammar_of r) kind s
 left-text r c kind token_of h ks s a = join-texts (grammar_of r) kind token_of c ks s (named-texts r c kind token_of h ks s a)

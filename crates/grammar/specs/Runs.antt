@@ -9,7 +9,7 @@ use Rattle.grammar.specs.Follow.{Followed, nothing, tables_of}
 -- the table's tests speak for what is left
 pub record IsReady (r : Rows) (c : Certificate) (left : List Symbol) : Type 0 where
   pub followed : Followed (tables_of c) left nothing
-  pub names : named c.kinds (length r.rows) left ≡ true
+  pub names : named c.kinds (length r.on) left ≡ true
 
 -- Once these events have happened, what the symbols derive goes on with what is left: whatever that derives, and nothing else
 -- that has the same tokens so far.

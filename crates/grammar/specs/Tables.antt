@@ -1,13 +1,16 @@
 -- The grammar of a table: for each part and kind of token the number of a rule.
-use Rattle.std.specs.Prelude.{ℕ, ◌+◌, Bool, true, false, cond, ◌&&◌, nat_lt, nat_le, List, [], ◌∷◌, Option, Some, None, reverse, length, slice_get, slice_range}
+use Rattle.std.specs.Prelude.{ℕ, ◌+◌, Bool, true, false, cond, ◌&&◌, nat_lt, nat_le, List, [], ◌∷◌, Option, Some, None, reverse, length, slice_get, slice_index_or, slice_range}
 use Rattle.grammar.specs.declared.symbol.Symbol.{Symbol}
 use Rattle.grammar.specs.declared.symbol.Symbol.TheVariants.{Token, Part, Action}
-use Rattle.grammar.specs.declared.symbol.Row.{Row}
 use Rattle.grammar.specs.declared.symbol.Rule.{Rule}
 use Rattle.grammar.specs.Grammars.{Grammar, cost}
 
+-- For each part: by kind the number of the rule for what follows a token of that kind, the number of its other rule, and
+-- more than the moves that it takes before a token is looked at.
 pub record Rows : Type 0 where
-  pub rows : List Row
+  pub on : List (List (Option ℕ))
+  pub other : List (Option ℕ)
+  pub moves : List ℕ
   pub rules : List Rule
   pub symbols : List Symbol
 
@@ -20,27 +23,20 @@ abbrev pub rule_maybe : Rows → Option ℕ → Option (List Symbol)
 rule_maybe r None = None
 rule_maybe r (Some i) = rule_of r (slice_get r.rules i)
 
-abbrev pub on_entry : Rows → Option (Option ℕ) → Option (List Symbol)
-on_entry r None = None
-on_entry r (Some o) = rule_maybe r o
+-- an entry that may be missing
+abbrev pub entry_rule : Rows → Option (Option ℕ) → Option (List Symbol)
+entry_rule r None = None
+entry_rule r (Some o) = rule_maybe r o
 
-abbrev pub on_row : Rows → ℕ → Option Row → Option (List Symbol)
+abbrev pub on_row : Rows → ℕ → Option (List (Option ℕ)) → Option (List Symbol)
 on_row r k None = None
-on_row r k (Some row) = on_entry r (slice_get row.on k)
-
-abbrev pub other_row : Rows → Option Row → Option (List Symbol)
-other_row r None = None
-other_row r (Some row) = rule_maybe r row.other
-
-abbrev pub moves_row : Option Row → ℕ
-moves_row None = 0
-moves_row (Some row) = row.moves
+on_row r k (Some row) = entry_rule r (slice_get row k)
 
 abbrev pub grammar_of : Rows → Grammar
 grammar_of r = record {
-  on = λ p k. on_row r k (slice_get r.rows p);
-  other = λ p. other_row r (slice_get r.rows p);
-  moves = λ p. moves_row (slice_get r.rows p);
+  on = λ p k. on_row r k (slice_get r.on p);
+  other = λ p. entry_rule r (slice_get r.other p);
+  moves = λ p. slice_index_or r.moves p 0;
 }
 
 -- ---- the test that a reader of the table needs: each other rule costs less than its part, so the moves before a token end
@@ -55,4 +51,4 @@ costs_less r moves None = true
 costs_less r moves (Some rule) = nat_lt (cost (grammar_of r) rule) moves
 
 abbrev pub moves_end : Rows → Bool
-moves_end r = all_at (λ p (row : Row). costs_less r row.moves (rule_maybe r row.other)) 0 r.rows
+moves_end r = all_at (λ p o. costs_less r (slice_index_or r.moves p 0) (rule_maybe r o)) 0 r.other

@@ -1,9 +1,8 @@
 -- A test that the next token decides in a table, and that each part stands for some text.
-use Rattle.std.specs.Prelude.{◌≡◌, ℕ, ◌+◌, ◌^◌, Bool, true, false, cond, ◌&&◌, ◌||◌, not, nat_eq, nat_lt, is_some, List, [], ◌∷◌, Option, Some, None, length, slice_index_or, bit_and, bit_or}
+use Rattle.std.specs.Prelude.{◌≡◌, ℕ, ◌+◌, ◌^◌, Bool, true, false, cond, ◌&&◌, ◌||◌, not, nat_eq, nat_lt, is_some, List, [], ◌∷◌, Option, Some, None, length, slice_get, slice_index_or, bit_and, bit_or}
 use Rattle.grammar.specs.declared.symbol.Symbol.{Symbol}
 use Rattle.grammar.specs.declared.symbol.Symbol.TheVariants.{Token, Part, Action}
-use Rattle.grammar.specs.declared.symbol.Row.{Row}
-use Rattle.grammar.specs.Tables.{Rows, rule_maybe, all_at}
+use Rattle.grammar.specs.Tables.{Rows, rule_maybe, entry_rule, all_at}
 
 -- For each part: the kinds that may begin it and those that may follow it, as sets of bits, whether it may be empty, and a
 -- rank that is above those of all parts of one of its rules. Kinds are the numbers below `kinds`.
@@ -59,7 +58,7 @@ ranked c rank (Part p ∷ s) = nat_lt (mask_at c.ranks p) rank && ranked c rank 
 
 abbrev pub on_passes : Rows → Certificate → ℕ → ℕ → Option (List Symbol) → Bool
 on_passes r c p k None = true
-on_passes r c p k (Some s) = (nat_lt k c.kinds && named c.kinds (length r.rows) s) && (within (2 ^ k) (mask_at c.starts p) && followed c (mask_at c.follow p) s)
+on_passes r c p k (Some s) = (nat_lt k c.kinds && named c.kinds (length r.on) s) && (within (2 ^ k) (mask_at c.starts p) && followed c (mask_at c.follow p) s)
 
 -- the kinds for which there is a rule
 abbrev pub on_mask : Rows → ℕ → List (Option ℕ) → ℕ
@@ -74,7 +73,7 @@ other_passes r c p on (Some s) =
     && (followed c (mask_at c.follow p) s
     && (nat_eq (bit_and (on_mask r 0 on) (begin_mask c s)) 0
     && ((not (may_be_empty c s) || nat_eq (bit_and (on_mask r 0 on) (mask_at c.follow p)) 0)
-    && named c.kinds (length r.rows) s))))
+    && named c.kinds (length r.on) s))))
 
 abbrev pub lower_rule : Certificate → ℕ → Option (List Symbol) → Bool
 lower_rule c rank None = false
@@ -84,11 +83,15 @@ abbrev pub lower_on : Rows → Certificate → ℕ → List (Option ℕ) → Boo
 lower_on r c rank [] = false
 lower_on r c rank (o ∷ os) = lower_rule c rank (rule_maybe r o) || lower_on r c rank os
 
-abbrev pub row_passes : Rows → Certificate → ℕ → Row → Bool
+abbrev pub row_of : Rows → ℕ → List (Option ℕ)
+row_of r p = slice_index_or r.on p []
+
+abbrev pub row_passes : Rows → Certificate → ℕ → List (Option ℕ) → Bool
 row_passes r c p row =
-    all_at (λ k o. on_passes r c p k (rule_maybe r o)) 0 row.on
-    && (other_passes r c p row.on (rule_maybe r row.other)
-    && (lower_rule c (mask_at c.ranks p) (rule_maybe r row.other) || lower_on r c (mask_at c.ranks p) row.on))
+    all_at (λ k o. on_passes r c p k (rule_maybe r o)) 0 row
+    && (lower_rule c (mask_at c.ranks p) (entry_rule r (slice_get r.other p)) || lower_on r c (mask_at c.ranks p) row)
 
 abbrev pub is_ll1 : Rows → Certificate → Bool
-is_ll1 r c = all_at (λ p row. row_passes r c p row) 0 r.rows
+is_ll1 r c =
+    all_at (λ p row. row_passes r c p row) 0 r.on
+    && all_at (λ p o. other_passes r c p (row_of r p) (rule_maybe r o)) 0 r.other

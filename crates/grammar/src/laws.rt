@@ -14,7 +14,7 @@ use crate::table::Table;
 /// The next token decides: once tokens were taken, what is left derives the rest of each text that begins with them, and
 /// nothing else; and every such text has had the actions that were done.
 pub fn taken_tokens_decide(table: &Table)
-    ensures ready_first { (c : Certificate) (part : ℕ) → part < length table.now.rows → IsReady table.now c (Part part ∷ []) }
+    ensures ready_first { (c : Certificate) (part : ℕ) → part < length table.now.on → IsReady table.now c (Part part ∷ []) }
     ensures ready { (c : Certificate) (left after : List Symbol) (k : ℕ) (actions : List ℕ) → is_ll1 table.now c ≡ true → IsReady table.now c left → step (grammar_of table.now) left (Some k) ≡ taken actions after → IsReady table.now c after }
     ensures first { (kind : ℕ → ℕ) (symbols : List Symbol) → Leaves (grammar_of table.now) kind symbols [] symbols }
     ensures next { (c : Certificate) (kind : ℕ → ℕ) (symbols left after : List Symbol) (past : List Event) (t : ℕ) (actions : List ℕ) → is_ll1 table.now c ≡ true → IsReady table.now c left → step (grammar_of table.now) left (Some (kind t)) ≡ taken actions after → Leaves (grammar_of table.now) kind symbols past left → Leaves (grammar_of table.now) kind symbols (past ++ (did_all actions ++ took t ∷ [])) after }

@@ -1,6 +1,6 @@
 //! Reads texts of a grammar in which the next token decides.
 //!
-//! A grammar is a table of rows: for each part of a text, and each kind of token, the rule that stands for what follows such
+//! A grammar is a table: for each part of a text, and each kind of token, the rule that stands for what follows such
 //! a token. A [`Reader`] is given the kinds of a text's tokens one after another. It does the grammar's actions in the order
 //! in which they are complete, and refuses the first token after which no text of the grammar goes on.
 //!

@@ -21,13 +21,19 @@ pub struct Rule {
     pub end: u16,
 }
 
-/// What a part may stand for.
-#[derive(Clone, Copy, Debug)]
-pub struct Row {
-    /// For each kind of token, the number of the rule that stands for what follows a token of that kind.
-    pub on: [Option<u16>; KINDS],
-    /// The number of the rule that the part stands for where the next token has none.
-    pub other: Option<u16>,
-    /// More than the moves that the part takes before a token is looked at.
-    pub moves: u16,
+/// What a part may stand for: for each kind of token, the number of the rule for what follows a token of that kind.
+pub type Row = [Option<u16>; KINDS];
+
+/// A row: a rule's number, or `-` for none, for each of the [`KINDS`] kinds.
+#[macro_export]
+macro_rules! rules_on {
+    (@ -) => {
+        None
+    };
+    (@ $rule:literal) => {
+        Some($rule)
+    };
+    ($($rule:tt)*) => {
+        [$($crate::rules_on!(@ $rule)),*]
+    };
 }

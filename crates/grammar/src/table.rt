@@ -1,18 +1,20 @@
 // A grammar's table, and the rules that it has for a part.
-ghost use Rattle.std.specs.Prelude.{◌≡◌, Option, reverse, slice_get};
+ghost use Rattle.std.specs.Prelude.{◌≡◌, Option, reverse, slice_get, slice_index_or};
 ghost use Rattle.std.specs.Option.{option_map};
-ghost use Rattle.grammar.specs.Tables.{Rows, rule_of, rule_maybe, on_entry, on_row, other_row, grammar_of};
+ghost use Rattle.grammar.specs.Tables.{Rows, rule_of, rule_maybe, entry_rule, on_row, grammar_of};
 ghost use Rattle.grammar.specs.Grammars.{on_next};
 
 use crate::symbol::{Row, Rule, Symbol};
 use std::marker::Model;
 
-/// A grammar: a row for each part, the rules, and the symbols of all rules one after another.
+/// A grammar: a row and another rule for each part, the rules, and the symbols of all rules one after another.
 ///
 /// It is made of constants. What it means is the grammar `grammar_of`.
 #[derive(Debug, Drop)]
 pub struct Table {
-    rows: &'static [Row],
+    on: &'static [Row],
+    other: &'static [Option<u16>],
+    moves: &'static [u16],
     rules: &'static [Rule],
     symbols: &'static [Symbol],
 }
@@ -22,26 +24,36 @@ impl Model for Table {
 
     ghost Value = { Rows };
 
-    ghost view = { λ t. record { rows = t.rows.now; rules = t.rules.now; symbols = t.symbols.now } };
+    ghost view = { λ t. record { on = t.on.now; other = t.other.now; moves = t.moves.now; rules = t.rules.now; symbols = t.symbols.now } };
 }
 
 // The number of the rule that a row has for a kind of token.
 fn entry(row: &Row, kind: u16) -> Option<u16>
-    ensures { (r : Rows) → on_entry r (slice_get row.now.on kind) ≡ rule_maybe r result }
+    ensures { (r : Rows) → entry_rule r (slice_get row.now kind) ≡ rule_maybe r result }
 {
-    match row.on.get(kind as usize) {
+    match row.get(kind as usize) {
         Some(entry) => *entry,
         None => None,
     }
 }
 
 impl Table {
+    /// For each part its row, the number of its other rule, and a number above the moves that it takes before a token is
+    /// looked at: above the sum of those of the parts that stand in the other rule before any token, and of its actions there.
     /// Takes no memory.
-    pub fn new(rows: &'static [Row], rules: &'static [Rule], symbols: &'static [Symbol]) -> Self
-        ensures { result ≡ record { rows = rows.now; rules = rules.now; symbols = symbols.now } }
+    pub fn new(
+        on: &'static [Row],
+        other: &'static [Option<u16>],
+        moves: &'static [u16],
+        rules: &'static [Rule],
+        symbols: &'static [Symbol],
+    ) -> Self
+        ensures { result ≡ record { on = on.now; other = other.now; moves = moves.now; rules = rules.now; symbols = symbols.now } }
     {
         Table {
-            rows,
+            on,
+            other,
+            moves,
             rules,
             symbols,
         }
@@ -75,7 +87,7 @@ impl Table {
     fn rule_on(&self, part: u16, kind: u16) -> Option<&'static [Symbol]>
         ensures { option_map (λ s. reverse s.now) result ≡ (grammar_of self.now).on part kind }
     {
-        match self.rows.get(part as usize) {
+        match self.on.get(part as usize) {
             Some(row) => self.rule(entry(row, kind)),
             None => None,
         }
@@ -95,8 +107,8 @@ impl Table {
     pub(crate) fn other_rule(&self, part: u16) -> Option<&'static [Symbol]>
         ensures { option_map (λ s. reverse s.now) result ≡ (grammar_of self.now).other part }
     {
-        match self.rows.get(part as usize) {
-            Some(row) => self.rule(row.other),
+        match self.other.get(part as usize) {
+            Some(entry) => self.rule(*entry),
             None => None,
         }
     }

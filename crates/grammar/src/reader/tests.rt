@@ -1,7 +1,7 @@
 // Sums of numbers, with parentheses and signs.
 use super::*;
-use crate::laws;
 use crate::symbol::{KINDS, Row, Rule};
+use crate::{laws, rules_on};
 use std::test::Fail;
 
 const NUMBER: u16 = 0;
@@ -14,7 +14,7 @@ const CLOSE: u16 = 3;
 
 const MINUS: u16 = 4;
 
-const OTHER: u16 = 5;
+const UNKNOWN: u16 = 5;
 
 const PUSH: u16 = 10;
 
@@ -31,7 +31,7 @@ const TERM: u16 = 2;
 const MORE: u16 = 3;
 
 // Each rule from its last symbol to its first.
-const SYMBOLS: [Symbol; 11] = [
+static SYMBOLS: [Symbol; 11] = [
     // a sum is a signed term and more
     Symbol::Part(MORE),
     Symbol::Part(SIGNED),
@@ -51,7 +51,7 @@ const SYMBOLS: [Symbol; 11] = [
     Symbol::Part(SIGNED),
 ];
 
-const RULES: [Rule; 7] = [
+static RULES: [Rule; 7] = [
     Rule { start: 0, end: 2 },
     Rule { start: 2, end: 4 },
     Rule { start: 4, end: 5 },
@@ -61,184 +61,24 @@ const RULES: [Rule; 7] = [
     Rule { start: 11, end: 11 },
 ];
 
-const ROWS: [Row; 4] = [
-    Row {
-        on: [
-            None, None, None, None, None, None, None, None, None, None, None, None, None, None,
-            None, None, None, None, None, None, None, None, None, None, None, None, None, None,
-            None, None, None, None, None, None, None, None, None, None, None, None, None, None,
-            None, None, None, None, None, None,
-        ],
-        other: Some(0),
-        moves: 5,
-    },
-    Row {
-        on: [
-            None,
-            None,
-            None,
-            None,
-            Some(1),
-            None,
-            None,
-            None,
-            None,
-            None,
-            None,
-            None,
-            None,
-            None,
-            None,
-            None,
-            None,
-            None,
-            None,
-            None,
-            None,
-            None,
-            None,
-            None,
-            None,
-            None,
-            None,
-            None,
-            None,
-            None,
-            None,
-            None,
-            None,
-            None,
-            None,
-            None,
-            None,
-            None,
-            None,
-            None,
-            None,
-            None,
-            None,
-            None,
-            None,
-            None,
-            None,
-            None,
-        ],
-        other: Some(2),
-        moves: 3,
-    },
-    Row {
-        on: [
-            Some(3),
-            None,
-            Some(4),
-            None,
-            None,
-            None,
-            None,
-            None,
-            None,
-            None,
-            None,
-            None,
-            None,
-            None,
-            None,
-            None,
-            None,
-            None,
-            None,
-            None,
-            None,
-            None,
-            None,
-            None,
-            None,
-            None,
-            None,
-            None,
-            None,
-            None,
-            None,
-            None,
-            None,
-            None,
-            None,
-            None,
-            None,
-            None,
-            None,
-            None,
-            None,
-            None,
-            None,
-            None,
-            None,
-            None,
-            None,
-            None,
-        ],
-        other: None,
-        moves: 1,
-    },
-    Row {
-        on: [
-            None,
-            Some(5),
-            None,
-            None,
-            None,
-            None,
-            None,
-            None,
-            None,
-            None,
-            None,
-            None,
-            None,
-            None,
-            None,
-            None,
-            None,
-            None,
-            None,
-            None,
-            None,
-            None,
-            None,
-            None,
-            None,
-            None,
-            None,
-            None,
-            None,
-            None,
-            None,
-            None,
-            None,
-            None,
-            None,
-            None,
-            None,
-            None,
-            None,
-            None,
-            None,
-            None,
-            None,
-            None,
-            None,
-            None,
-            None,
-            None,
-        ],
-        other: Some(6),
-        moves: 1,
-    },
+static ON: [Row; 4] = [
+    rules_on!(- - - - - - - - - - - - - - - - - - - - - - - - - - - - - - - - - - - - - - - - - - - - - - - -),
+    rules_on!(- - - - 1 - - - - - - - - - - - - - - - - - - - - - - - - - - - - - - - - - - - - - - - - - - -),
+    rules_on!(3 - 4 - - - - - - - - - - - - - - - - - - - - - - - - - - - - - - - - - - - - - - - - - - - - -),
+    rules_on!(- 5 - - - - - - - - - - - - - - - - - - - - - - - - - - - - - - - - - - - - - - - - - - - - - -),
 ];
+
+static OTHER: [Option<u16>; 4] = [Some(0), Some(2), None, Some(6)];
+
+static MOVES: [u16; 4] = [5, 3, 1, 1];
+
+fn table() -> Table {
+    Table::new(&ON, &OTHER, &MOVES, &RULES, &SYMBOLS)
+}
 
 // The place of the first token that is refused, or the number of tokens, and all actions up to there.
 fn read(rt: &HostRuntime, kinds: &[u16]) -> Result<(usize, Reply, Vec<u16>), Fail> {
-    let mut reader = Reader::new(rt.alloc(), Table::new(&ROWS, &RULES, &SYMBOLS), SUM)?;
+    let mut reader = Reader::new(rt.alloc(), table(), SUM)?;
     let mut actions = Vec::new(rt.alloc());
     for (i, kind) in kinds.iter().enumerate() {
         let reply = reader.step(*kind)?;
@@ -272,7 +112,7 @@ fn a_token_that_does_not_fit_is_refused_after_what_it_completes(
     rt: HostRuntime,
 ) -> Result<(), Fail> {
     // 1 + 2 $
-    let (at, reply, actions) = read(&rt, &[NUMBER, PLUS, NUMBER, OTHER])?;
+    let (at, reply, actions) = read(&rt, &[NUMBER, PLUS, NUMBER, UNKNOWN])?;
     assert_eq!(rt; (at, reply), (3, Reply::Refused));
     assert_eq!(rt; actions.as_slice(), [PUSH, PUSH, ADD].as_slice());
     // 1 + + 2
@@ -298,8 +138,17 @@ fn a_text_that_breaks_off_is_refused_at_its_end(rt: HostRuntime) -> Result<(), F
 }
 
 #[test]
+fn the_laws_hold_of_the_table() {
+    let table = table();
+    laws::taken_tokens_decide(&table);
+    laws::refusals_are_right(&table);
+    laws::ends_are_right(&table);
+    laws::no_token_is_taken_in_vain(&table);
+}
+
+#[test]
 fn a_million_signs_are_read(rt: HostRuntime) -> Result<(), Fail> {
-    let mut reader = Reader::new(rt.alloc(), Table::new(&ROWS, &RULES, &SYMBOLS), SUM)?;
+    let mut reader = Reader::new(rt.alloc(), table(), SUM)?;
     for _ in 0..1_000_000 {
         assert_eq!(rt; reader.step(MINUS)?, Reply::Taken);
     }
