@@ -1,4 +1,7 @@
 // Sums of numbers, with parentheses and signs.
+ghost use Rattle.std.specs.Prelude.{◌≡◌, true};
+ghost use Rattle.grammar.specs.Tables.{moves_end};
+
 use super::*;
 use crate::symbol::{KINDS, Row, Rule};
 use crate::{laws, rules_on};
@@ -72,7 +75,9 @@ static OTHER: [Option<u16>; 4] = [Some(0), Some(2), None, Some(6)];
 
 static MOVES: [u16; 4] = [5, 3, 1, 1];
 
-fn table() -> Table {
+fn table() -> Table
+    ensures { moves_end result ≡ true }
+{
     Table::new(&ON, &OTHER, &MOVES, &RULES, &SYMBOLS)
 }
 
