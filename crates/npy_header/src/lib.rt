@@ -1,0 +1,4 @@
+//! A stub.
+#![tactic(auto)]
+
+mod rows;
