@@ -1,2 +1,4 @@
 pub mod Table
 pub mod KindLaws
+pub mod Meaning
+pub mod Effects

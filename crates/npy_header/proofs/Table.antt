@@ -37,7 +37,7 @@ pub same_other : map (λ o. typed_maybe (rule_maybe header_rows o)) OTHER ≡ ma
 unfolding header_rows parts
 same_other = refl
 
-pub certificate : Certificate
+unfoldable pub certificate : Certificate
 certificate = record {
   kinds = 31;
   starts = 4 ∷ 3 ∷ 1 ∷ 768 ∷ 41943040 ∷ 16 ∷ 1073741565 ∷ 1073741309 ∷ 402653216 ∷ 402653216 ∷ 160 ∷ 402653184 ∷ 768 ∷ 768 ∷ 768 ∷ 768 ∷ 768 ∷ 768 ∷ 768 ∷ 37888 ∷ 37888 ∷ 33792 ∷ 33792 ∷ 5120 ∷ 5120 ∷ 1024 ∷ 1024 ∷ 36864 ∷ 36864 ∷ 32768 ∷ 32768 ∷ 4096 ∷ 4096 ∷ 128 ∷ 128 ∷ 128 ∷ 128 ∷ 128 ∷ 128 ∷ 128 ∷ [];

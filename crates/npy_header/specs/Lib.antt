@@ -1,3 +1,4 @@
 pub mod Headers
 pub mod Kinds
 pub mod Typed
+pub mod Scans
