@@ -2,3 +2,5 @@ pub mod Table
 pub mod KindLaws
 pub mod Meaning
 pub mod Effects
+pub mod Meanings
+pub mod Sound
