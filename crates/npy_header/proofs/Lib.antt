@@ -4,3 +4,4 @@ pub mod Meaning
 pub mod Effects
 pub mod Meanings
 pub mod Sound
+pub mod Complete

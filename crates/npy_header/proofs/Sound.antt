@@ -13,18 +13,18 @@ use Rattle.npy_header.proofs.Meanings.{same, keys, TailMeans, SpacesMean, String
 
 -- ---- which rule it is
 
-if-kind : (j k : ℕ) (r rule : List HSym) (none : Option (List HSym)) → if_kind j k r none ≡ Some rule → ((k ≡ j) × (r ≡ rule)) ⊎ (none ≡ Some rule)
-if-kind j k r rule none h = by (nat_eq k j) refl h
+if-kind : (j k : ℕ) (r rule : List HSym) (others : Option (List HSym)) → if_kind j k r others ≡ Some rule → ((k ≡ j) × (r ≡ rule)) ⊎ (others ≡ Some rule)
+if-kind j k r rule others h = by (nat_eq k j) refl h
   where
     equal : (k j : ℕ) → nat_eq k j ≡ true → k ≡ j
     equal k j e = grind arith
-    by : (c : Bool) → nat_eq k j ≡ c → cond c (Some r) none ≡ Some rule → ((k ≡ j) × (r ≡ rule)) ⊎ (none ≡ Some rule)
+    by : (c : Bool) → nat_eq k j ≡ c → cond c (Some r) others ≡ Some rule → ((k ≡ j) × (r ≡ rule)) ⊎ (others ≡ Some rule)
     by true e h = inl (equal k j e, cc)
     by false e h = inr h
 
-if-true : (c : Bool) (r rule : List HSym) (none : Option (List HSym)) → cond c (Some r) none ≡ Some rule → ((c ≡ true) × (r ≡ rule)) ⊎ (none ≡ Some rule)
-if-true true r rule none h = inl (refl, cc)
-if-true false r rule none h = inr h
+if-true : (c : Bool) (r rule : List HSym) (others : Option (List HSym)) → cond c (Some r) others ≡ Some rule → ((c ≡ true) × (r ≡ rule)) ⊎ (others ≡ Some rule)
+if-true true r rule others h = inl (refl, cc)
+if-true false r rule others h = inr h
 
 both : (a b : Bool) → (a && b) ≡ true → (a ≡ true) × (b ≡ true)
 both true b h = (refl, h)
@@ -42,7 +42,7 @@ last p es h = subst (M p) (sym (h.2 ∙ (ap (λ x. h.0 ++ x) h.4 ∙ append-nil 
 does-byte : (t b : ℕ) (es : List Event) (w : List ℕ) (f : Fields → Fields) → t ≡ b → Does es w f → Does (took t ∷ es) (b ∷ w) f
 does-byte t b es w f e d = subst (λ x. Does (took t ∷ es) (x ∷ w) f) e (does-took t es w f d)
 
-does-other : (es : List Event) (w : List ℕ) (f g : Fields → Fields) → ((x : Fields) → f x ≡ g x) → Does es w f → Does es w g
+pub does-other : (es : List Event) (w : List ℕ) (f g : Fields → Fields) → ((x : Fields) → f x ≡ g x) → Does es w f → Does es w g
 does-other es w f g e d = record { words = d.words; effect = λ st. d.effect st ∙ e (fields_of st) }
 
 -- a word in letters of their own
@@ -135,7 +135,7 @@ digits-number t es e d =
 push-more : (n : ℕ) (ns : List ℕ) (f : Fields) → pushes ns (pushes (n ∷ []) f) ≡ pushes (n ∷ ns) f
 push-more n ns f = ap (λ x. record f { shape = x }) (append_assoc f.shape (n ∷ []) ns)
 
-after-number : (num es : List Event) (x : NumberMeans num) (w ns : List ℕ) → Does es w (pushes ns) → Does (num ++ es) (x.words ++ w) (pushes (x.n ∷ ns))
+pub after-number : (num es : List Event) (x : NumberMeans num) (w ns : List ℕ) → Does es w (pushes ns) → Does (num ++ es) (x.words ++ w) (pushes (x.n ∷ ns))
 after-number num es x w ns d = does-other (num ++ es) (x.words ++ w) (λ f. pushes ns (pushes (x.n ∷ []) f)) (pushes (x.n ∷ ns)) (push-more x.n ns) (does-append num es x.words w (pushes (x.n ∷ [])) (pushes ns) x.does d)
 
 first-axis : (num es : List Event) → NumberMeans num → MeansAs M (sub spaces ∷ letter 7 ∷ sub spaces ∷ sub axes ∷ []) es → M tuple (num ++ es)
@@ -164,10 +164,10 @@ later-axis num es x h =
       does = after-number num es x (h.3.words ++ a.words) a.numbers (subst (λ y. Does y (h.3.words ++ a.words) (pushes a.numbers)) (sym h.2) (does-append h.0 h.1 h.3.words a.words same (pushes a.numbers) h.3.does a.does));
     }
 
-push-none : (f : Fields) → f ≡ pushes [] f
+pub push-none : (f : Fields) → f ≡ pushes [] f
 push-none f = ap (λ x. record f { shape = x }) (sym (append-nil f.shape))
 
-does-close : (t : ℕ) (es : List Event) → t ≡ 41 → es ≡ [] → Does (took t ∷ es) (41 ∷ []) (pushes [])
+pub does-close : (t : ℕ) (es : List Event) → t ≡ 41 → es ≡ [] → Does (took t ∷ es) (41 ∷ []) (pushes [])
 does-close t es b e = does-other (took t ∷ es) (41 ∷ []) same (pushes []) push-none (does-byte t 41 es [] same b (subst (λ x. Does x [] same) (sym e) does-nothing))
 
 on-tuple : (t : ℕ) (rule : List HSym) (es : List Event) → on_part tuple (kind_of t) ≡ Some rule → MeansAs M rule es → M tuple (took t ∷ es)
@@ -252,7 +252,7 @@ on-descr_value t rule es h m = elim (if-kind 8 (kind_of t) (act 1 ∷ sub (strin
 ]
 
 -- a word and the action that tells it
-does-bool : (b : Bool) (a : ℕ) (w : List ℕ) → ((st : Scan) → fields_of (after_action a st) ≡ with_entry (fortran b) (fields_of st)) → Does (taken_all w ++ did a ∷ []) w (with_entry (fortran b))
+pub does-bool : (b : Bool) (a : ℕ) (w : List ℕ) → ((st : Scan) → fields_of (after_action a st) ≡ with_entry (fortran b) (fields_of st)) → Does (taken_all w ++ did a ∷ []) w (with_entry (fortran b))
 does-bool b a w e =
     let d : Does (did a ∷ []) [] (with_entry (fortran b)) = record { words = refl; effect = λ st. e st } in
     subst (λ x. Does (taken_all w ++ did a ∷ []) x (with_entry (fortran b))) (append-nil w) (does-append (taken_all w) (did a ∷ []) w [] same (with_entry (fortran b)) (does-all w) d)
@@ -309,7 +309,7 @@ record Valued (k : Keys) (b : ℕ) (rest : List ℕ) (then : HPart) (es : List E
   does : Does es words (with_entry entry)
   then_is : (x : List Event) → M then x → MoreMeans (without k entry) x
 
-item-assoc : (q : ℕ) (name s1 s2 v w : List ℕ) → q ∷ (name ++ q ∷ (s1 ++ 58 ∷ (s2 ++ (v ++ w)))) ≡ (q ∷ (name ++ q ∷ (s1 ++ 58 ∷ (s2 ++ v)))) ++ w
+pub item-assoc : (q : ℕ) (name s1 s2 v w : List ℕ) → q ∷ (name ++ q ∷ (s1 ++ 58 ∷ (s2 ++ (v ++ w)))) ≡ (q ∷ (name ++ q ∷ (s1 ++ 58 ∷ (s2 ++ v)))) ++ w
 item-assoc q name s1 s2 v w =
     ap (λ x. q ∷ x) (
       ap (λ x. name ++ q ∷ x) (ap (λ x. s1 ++ 58 ∷ x) (sym (append_assoc s2 v w)) ∙ sym (append_assoc s1 (58 ∷ (s2 ++ v)) w))
