@@ -10,9 +10,10 @@ use Rattle.grammar.specs.Tests.{named}
 use Rattle.grammar.proofs.Checked.{on-found, other-found, on-ok, other-ok, less-number, both}
 use Rattle.grammar.proofs.Derivations.{derives-nothing, derives-token, derives-action, derives-on, derives-other, derives-append}
 use Rattle.npy_header.specs.declared.rows.TheConstants.{ON, OTHER}
+use Rattle.npy_header.specs.HeaderRows.{header_rows, certificate}
 use Rattle.npy_header.specs.Kinds.{kind_of}
 use Rattle.npy_header.specs.Typed.{HPart, start, HSym, letter, sub, act, on_part, other_part, parts}
-use Rattle.npy_header.proofs.Table.{header_rows, part_at, typed, typed_maybe, numbers, same_on, same_other, certificate, header_ll1}
+use Rattle.npy_header.proofs.Table.{part_at, typed, typed_maybe, numbers, same_on, same_other, header_ll1}
 use Rattle.npy_header.proofs.KindLaws.{kind-below}
 
 -- ---- places in lists

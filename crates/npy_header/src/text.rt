@@ -1,0 +1,2 @@
+// stub
+pub fn read_header_text() {}
