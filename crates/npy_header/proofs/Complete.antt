@@ -163,8 +163,8 @@ built-number n (b ∷ w) (inl z) =
     record {
       events = took 48 ∷ did 0 ∷ did 6 ∷ [];
       does = subst (λ x. Does (took 48 ∷ did 0 ∷ did 6 ∷ []) (b ∷ w) (pushes (x ∷ []))) (sym z.2)
-        (subst (λ x. Does (took 48 ∷ did 0 ∷ did 6 ∷ []) (b ∷ x) (pushes (0 ∷ []))) (sym z.1)
-        (subst (λ x. Does (took 48 ∷ did 0 ∷ did 6 ∷ []) (x ∷ []) (pushes (0 ∷ []))) (sym z.0) e));
+          (subst (λ x. Does (took 48 ∷ did 0 ∷ did 6 ∷ []) (b ∷ x) (pushes (0 ∷ []))) (sym z.1)
+          (subst (λ x. Does (took 48 ∷ did 0 ∷ did 6 ∷ []) (x ∷ []) (pushes (0 ∷ []))) (sym z.0) e));
       first = λ es m. derives-on-part tuple 48 (act 0 ∷ act 6 ∷ sub spaces ∷ letter 7 ∷ sub spaces ∷ sub axes ∷ []) (did 0 ∷ did 6 ∷ es) (ap (on_part tuple) zero-kind) (did 6 ∷ es, refl, (es, refl, m));
       later = λ es m. derives-on-part axes 48 (act 0 ∷ act 6 ∷ sub spaces ∷ sub axis ∷ []) (did 0 ∷ did 6 ∷ es) (ap (on_part axes) zero-kind) (did 6 ∷ es, refl, (es, refl, m));
     }
@@ -176,9 +176,9 @@ built-number n (b ∷ w) (inr d) =
       events = took b ∷ did 0 ∷ (taken_all w ++ did 6 ∷ []);
       does = subst (λ x. Does (took b ∷ did 0 ∷ (taken_all w ++ did 6 ∷ [])) (b ∷ w) (pushes (x ∷ []))) (sym num) (does-number b (taken_all w) w (digits-all w));
       first = λ es m. derives-on-part tuple b (act 0 ∷ sub digits ∷ act 6 ∷ sub spaces ∷ letter 7 ∷ sub spaces ∷ sub axes ∷ []) (did 0 ∷ ((taken_all w ++ did 6 ∷ []) ++ es)) (ap (on_part tuple) k)
-        ((taken_all w ++ did 6 ∷ []) ++ es, refl, (taken_all w, did 6 ∷ es, append_assoc (taken_all w) (did 6 ∷ []) es, built-digits w d.2, (es, refl, m)));
+          ((taken_all w ++ did 6 ∷ []) ++ es, refl, (taken_all w, did 6 ∷ es, append_assoc (taken_all w) (did 6 ∷ []) es, built-digits w d.2, (es, refl, m)));
       later = λ es m. derives-on-part axes b (act 0 ∷ sub digits ∷ act 6 ∷ sub spaces ∷ sub axis ∷ []) (did 0 ∷ ((taken_all w ++ did 6 ∷ []) ++ es)) (ap (on_part axes) k)
-        ((taken_all w ++ did 6 ∷ []) ++ es, refl, (taken_all w, did 6 ∷ es, append_assoc (taken_all w) (did 6 ∷ []) es, built-digits w d.2, (es, refl, m)));
+          ((taken_all w ++ did 6 ∷ []) ++ es, refl, (taken_all w, did 6 ∷ es, append_assoc (taken_all w) (did 6 ∷ []) es, built-digits w d.2, (es, refl, m)));
     }
 
 pushed : (n : ℕ) (ns : List ℕ) (f : Fields) → pushes ns (pushes (n ∷ []) f) ≡ pushes (n ∷ ns) f
@@ -210,7 +210,7 @@ built-axes (n ∷ ns) w h =
       events = x.events ++ (taken_all h.1 ++ a.events);
       derives = x.later (taken_all h.1 ++ a.events) (taken_all h.1, a.events, refl, built-spaces h.1 h.4, just axis a.events a.derives);
       does = does-other (x.events ++ (taken_all h.1 ++ a.events)) (h.0 ++ (h.1 ++ h.2)) (λ f. pushes ns (pushes (n ∷ []) f)) (pushes (n ∷ ns)) (pushed n ns)
-        (does-append x.events (taken_all h.1 ++ a.events) h.0 (h.1 ++ h.2) (pushes (n ∷ [])) (pushes ns) x.does da);
+          (does-append x.events (taken_all h.1 ++ a.events) h.0 (h.1 ++ h.2) (pushes (n ∷ [])) (pushes ns) x.does da);
     } in
     subst (λ y. Built axes y (pushes (n ∷ ns))) (sym h.5) b
 
@@ -225,7 +225,7 @@ built-descr t w h =
     let b : Built descr_value (quote_byte h.0 ∷ (t ++ quote_byte h.0 ∷ [])) (with_entry (descr t)) = record {
       events = took (quote_byte h.0) ∷ did 1 ∷ (taken_all t ++ did 2 ∷ took (quote_byte h.0) ∷ []);
       derives = derives-on-part descr_value (quote_byte h.0) (act 1 ∷ sub (string h.0) ∷ act 2 ∷ letter (quote_kind h.0) ∷ []) (did 1 ∷ (taken_all t ++ did 2 ∷ took (quote_byte h.0) ∷ [])) (quoted-rule h.0)
-        (taken_all t ++ did 2 ∷ took (quote_byte h.0) ∷ [], refl, (taken_all t, did 2 ∷ took (quote_byte h.0) ∷ [], refl, built-string h.0 t h.1, (took (quote_byte h.0) ∷ [], refl, (quote_byte h.0, [], refl, kind-quote h.0, refl))));
+          (taken_all t ++ did 2 ∷ took (quote_byte h.0) ∷ [], refl, (taken_all t, did 2 ∷ took (quote_byte h.0) ∷ [], refl, built-string h.0 t h.1, (took (quote_byte h.0) ∷ [], refl, (quote_byte h.0, [], refl, kind-quote h.0, refl))));
       does = does-descr (quote_byte h.0) (quote_byte h.0) (taken_all t) t (text-all t);
     } in
     subst (λ y. Built descr_value y (with_entry (descr t))) (sym h.2) b
@@ -234,13 +234,13 @@ built-fortran : (b : Bool) (w : List ℕ) → IsValue (fortran b) w → Built fo
 built-fortran true w h = subst (λ y. Built fortran_value y (with_entry (fortran true))) (sym h) (record {
   events = took 84 ∷ (taken_all (114 ∷ 117 ∷ 101 ∷ []) ++ did 3 ∷ []);
   derives = derives-on-part fortran_value 84 (letters (14 ∷ 24 ∷ 11 ∷ []) (act 3 ∷ [])) (taken_all (114 ∷ 117 ∷ 101 ∷ []) ++ did 3 ∷ []) (ap (on_part fortran_value) t-kind)
-    (spelled (14 ∷ 24 ∷ 11 ∷ []) (114 ∷ 117 ∷ 101 ∷ []) (act 3 ∷ []) (did 3 ∷ []) true-spelled ([], refl, refl));
+      (spelled (14 ∷ 24 ∷ 11 ∷ []) (114 ∷ 117 ∷ 101 ∷ []) (act 3 ∷ []) (did 3 ∷ []) true-spelled ([], refl, refl));
   does = does-bool true 3 (bool_text true) (λ st. refl);
 })
 built-fortran false w h = subst (λ y. Built fortran_value y (with_entry (fortran false))) (sym h) (record {
   events = took 70 ∷ (taken_all (97 ∷ 108 ∷ 115 ∷ 101 ∷ []) ++ did 4 ∷ []);
   derives = derives-on-part fortran_value 70 (letters (18 ∷ 26 ∷ 12 ∷ 11 ∷ []) (act 4 ∷ [])) (taken_all (97 ∷ 108 ∷ 115 ∷ 101 ∷ []) ++ did 4 ∷ []) (ap (on_part fortran_value) f-kind)
-    (spelled (18 ∷ 26 ∷ 12 ∷ 11 ∷ []) (97 ∷ 108 ∷ 115 ∷ 101 ∷ []) (act 4 ∷ []) (did 4 ∷ []) false-spelled ([], refl, refl));
+      (spelled (18 ∷ 26 ∷ 12 ∷ 11 ∷ []) (97 ∷ 108 ∷ 115 ∷ 101 ∷ []) (act 4 ∷ []) (did 4 ∷ []) false-spelled ([], refl, refl));
   does = does-bool false 4 (bool_text false) (λ st. refl);
 })
 
@@ -251,7 +251,7 @@ open-tuple ns s w a x =
     record {
       events = took 40 ∷ did 5 ∷ (taken_all s ++ x.events);
       derives = derives-on-part shape_value 40 (act 5 ∷ sub spaces ∷ sub tuple ∷ []) (did 5 ∷ (taken_all s ++ x.events)) (ap (on_part shape_value) paren-kind)
-        (taken_all s ++ x.events, refl, (taken_all s, x.events, refl, built-spaces s a, just tuple x.events x.derives));
+          (taken_all s ++ x.events, refl, (taken_all s, x.events, refl, built-spaces s a, just tuple x.events x.derives));
       does = record { words = ap (λ y. 40 ∷ y) d.words; effect = λ st. d.effect (after_action 5 (after_byte 40 st)) };
     }
 
@@ -267,7 +267,7 @@ built-shape (n ∷ ns) w (s, d, s', s'', r, sp0, num, sp1, sp2, ax, e) =
       events = x.events ++ (taken_all s' ++ took 44 ∷ tailev);
       derives = x.first (taken_all s' ++ took 44 ∷ tailev) (taken_all s', took 44 ∷ tailev, refl, built-spaces s' sp1, (44, tailev, refl, comma-kind, (taken_all s'', a.events, refl, built-spaces s'' sp2, just axes a.events a.derives)));
       does = does-other (x.events ++ (taken_all s' ++ took 44 ∷ tailev)) (d ++ (s' ++ 44 ∷ (s'' ++ r))) (λ f. pushes ns (pushes (n ∷ []) f)) (pushes (n ∷ ns)) (pushed n ns)
-        (does-append x.events (taken_all s' ++ took 44 ∷ tailev) d (s' ++ 44 ∷ (s'' ++ r)) (pushes (n ∷ [])) (pushes ns) x.does d1);
+          (does-append x.events (taken_all s' ++ took 44 ∷ tailev) d (s' ++ 44 ∷ (s'' ++ r)) (pushes (n ∷ [])) (pushes ns) x.does d1);
     } in
     subst (λ y. Built shape_value y (with_entry (shape (n ∷ ns)))) (sym e) (open-tuple (n ∷ ns) s (d ++ (s' ++ 44 ∷ (s'' ++ r))) sp0 b)
 
@@ -319,9 +319,31 @@ build-item d f s q e others b k rest ks before after v behind more' value then s
     let w1 : List ℕ = before ++ 58 ∷ w2 in
     let g : Fields → Fields = with_entries (e ∷ others) in
     let m : MeansAs DerivesPart (item_rest ks q value then) e0 =
-        spelled ks rest _ (took (quote_byte q) ∷ e1) sp
-        (quote_byte q, e1, refl, kind-quote q, (taken_all before, took 58 ∷ e2, refl, built-spaces before ab, (58, e2, refl, colon-kind, (taken_all after, x.events ++ e3, refl, built-spaces after aa,
-        (x.events, e3, refl, x.derives, (taken_all behind, y.events, refl, built-spaces behind ah, just then y.events y.derives)))))) in
+    spelled ks rest _ (took (quote_byte q) ∷ e1) sp (
+      quote_byte q,
+      e1,
+      refl,
+      kind-quote q,
+      (
+        taken_all before,
+        took 58 ∷ e2,
+        refl,
+        built-spaces before ab,
+        (
+          58,
+          e2,
+          refl,
+          colon-kind,
+          (
+            taken_all after,
+            x.events ++ e3,
+            refl,
+            built-spaces after aa,
+            (x.events, e3, refl, x.derives, (taken_all behind, y.events, refl, built-spaces behind ah, just then y.events y.derives)),
+          ),
+        ),
+      ),
+    ) in
     let d3 = does-append (taken_all behind) y.events behind more' same (with_entries others) (does-all behind) y.does in
     let dv = does-append x.events e3 v w3 (with_entry e) (with_entries others) x.does d3 in
     let d2 = does-append (taken_all after) (x.events ++ e3) after (v ++ w3) same g (does-all after) dv in
@@ -329,11 +351,11 @@ build-item d f s q e others b k rest ks before after v behind more' value then s
     let d0 = does-append (taken_all rest) (took (quote_byte q) ∷ e1) rest (quote_byte q ∷ w1) same g (does-all rest) (does-took (quote_byte q) e1 w1 g d1) in
     let dk = does-took (quote_byte q) (took b ∷ e0) (b ∷ (rest ++ quote_byte q ∷ w1)) g (does-took b e0 (rest ++ quote_byte q ∷ w1) g d0) in
     let text : quote_byte q ∷ (b ∷ (rest ++ quote_byte q ∷ w1)) ≡ (quote_byte q ∷ (key_text e ++ quote_byte q ∷ (before ++ 58 ∷ (after ++ v)))) ++ (behind ++ more') =
-        ap (λ z. quote_byte q ∷ (z ++ quote_byte q ∷ w1)) (sym is) ∙ item-assoc (quote_byte q) (key_text e) before after v w3 in
+    ap (λ z. quote_byte q ∷ (z ++ quote_byte q ∷ w1)) (sym is) ∙ item-assoc (quote_byte q) (key_text e) before after v w3 in
     record {
       events = took (quote_byte q) ∷ took b ∷ e0;
       derives = derives-on-part (items d f s) (quote_byte q) (sub (key d f s q) ∷ []) (took b ∷ e0) (items-rule d f s q some)
-        (just (key d f s q) (took b ∷ e0) (derives-on-part (key d f s q) b (item_rest ks q value then) e0 (ap (on_part (key d f s q)) kd ∙ rule) m));
+          (just (key d f s q) (took b ∷ e0) (derives-on-part (key d f s q) b (item_rest ks q value then) e0 (ap (on_part (key d f s q)) kd ∙ rule) m));
       does = subst (λ z. Does (took (quote_byte q) ∷ took b ∷ e0) z g) text dk;
     }
 
@@ -374,7 +396,7 @@ built-more (e ∷ others) d f s w once (s1, i, s2, r, as1, item, as2, more', tex
     let b : Built (more d f s) (44 ∷ (s1 ++ (i ++ (s2 ++ r)))) (with_entries (e ∷ others)) = record {
       events = took 44 ∷ (taken_all s1 ++ x.events);
       derives = derives-on-part (more d f s) 44 (sub spaces ∷ sub (items d f s) ∷ []) (taken_all s1 ++ x.events) (more-rule d f s true (some-key d f s e once.0))
-        (taken_all s1, x.events, refl, built-spaces s1 as1, just (items d f s) x.events x.derives);
+          (taken_all s1, x.events, refl, built-spaces s1 as1, just (items d f s) x.events x.derives);
       does = does-took 44 (taken_all s1 ++ x.events) (s1 ++ (i ++ (s2 ++ r))) (with_entries (e ∷ others)) (does-append (taken_all s1) x.events s1 (i ++ (s2 ++ r)) same (with_entries (e ∷ others)) (does-all s1) x.does);
     } in
     subst (λ y. Built (more d f s) y (with_entries (e ∷ others))) (sym text) b
@@ -390,17 +412,17 @@ pub record BuiltHeader (w : List ℕ) (f : Fields) : Type 0 where
 pub built-header : (w : List ℕ) (f : Fields) → IsHeader w f → BuiltHeader w f
 built-header w f h =
     let x = built-items true true true h.first h.others h.item h.behind h.more h.each_once.0 h.item_ok h.behind_ok
-      (λ d' f' s' is. built-more h.others d' f' s' h.more (subst (λ k. EachOnce k h.others) is h.each_once.1) h.more_ok) in
+    (λ d' f' s' is. built-more h.others d' f' s' h.more (subst (λ k. EachOnce k h.others) is h.each_once.1) h.more_ok) in
     let z : List ℕ = h.padding ++ 10 ∷ [] in
     let g : Fields → Fields = with_entries (h.first ∷ h.others) in
     let dz = does-took 125 (taken_all z) z same (does-all z) in
     let di = does-append x.events (took 125 ∷ taken_all z) (h.item ++ (h.behind ++ h.more)) (125 ∷ z) g same x.does dz in
     let ds = does-took 123 (taken_all h.spaces ++ (x.events ++ took 125 ∷ taken_all z)) (h.spaces ++ ((h.item ++ (h.behind ++ h.more)) ++ 125 ∷ z)) g
-      (does-append (taken_all h.spaces) (x.events ++ took 125 ∷ taken_all z) h.spaces ((h.item ++ (h.behind ++ h.more)) ++ 125 ∷ z) same g (does-all h.spaces) di) in
+    (does-append (taken_all h.spaces) (x.events ++ took 125 ∷ taken_all z) h.spaces ((h.item ++ (h.behind ++ h.more)) ++ 125 ∷ z) same g (does-all h.spaces) di) in
     record {
       events = took 123 ∷ (taken_all h.spaces ++ (x.events ++ took 125 ∷ taken_all z));
       derives = derives-on-part start 123 (sub spaces ∷ sub (items true true true) ∷ letter 3 ∷ sub tail ∷ []) (taken_all h.spaces ++ (x.events ++ took 125 ∷ taken_all z)) (ap (on_part start) open-kind)
-        (taken_all h.spaces, x.events ++ took 125 ∷ taken_all z, refl, built-spaces h.spaces h.spaces_ok, (x.events, took 125 ∷ taken_all z, refl, x.derives, (125, taken_all z, refl, close-kind, just tail (taken_all z) (built-tail h.padding h.padding_ok))));
+          (taken_all h.spaces, x.events ++ took 125 ∷ taken_all z, refl, built-spaces h.spaces h.spaces_ok, (x.events, took 125 ∷ taken_all z, refl, x.derives, (125, taken_all z, refl, close-kind, just tail (taken_all z) (built-tail h.padding h.padding_ok))));
       words = ds.words ∙ (ap (λ y. 123 ∷ (h.spaces ++ y)) (join h.item h.behind h.more (125 ∷ z)) ∙ sym h.text);
       fields = ds.effect fresh ∙ sym h.fields;
     }

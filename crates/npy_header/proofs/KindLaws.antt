@@ -43,6 +43,7 @@ rest-is b = by (nat_le 49 b && nat_le b 57) ((nat_le 32 b && nat_le b 126) && no
     not-92 : (c : Bool) → nat_eq b 92 ≡ c → not c ≡ true → b ≢ 92
     not-92 true e h = cc
     not-92 false e h = not-same b 92 e
+
     by : (x y : Bool) → (nat_le 49 b && nat_le b 57) ≡ x → ((nat_le 32 b && nat_le b 126) && not (nat_eq b 92)) ≡ y → Rest b (cond x 28 (cond y 29 30))
     by true y e f = record {
       least = omega arith;
@@ -69,6 +70,7 @@ found b (x ∷ xs) i = by (nat_eq b x) refl (found b xs (i + 1))
     next : Found b xs (i + 1) (kind_from b xs (i + 1)) → Found b (x ∷ xs) i (kind_from b xs (i + 1))
     next (inl a) = inl (suc a.0, omega (arith, a.1), a.2)
     next (inr e) = inr e
+
     by : (c : Bool) → nat_eq b x ≡ c → Found b xs (i + 1) (kind_from b xs (i + 1)) → Found b (x ∷ xs) i (cond c i (kind_from b xs (i + 1)))
     by true e f = inl (0, omega arith, ap Some (sym (same-number b x e)))
     by false e f = next f
@@ -91,6 +93,7 @@ kind-is b = by (kind_from b singles 0) (found b singles 0)
   where
     count : length singles ≡ 28
     count = refl
+
     by : (k : ℕ) → Found b singles 0 k → Kind b k
     by k (inl a) =
         let at : a.0 ≡ k = omega (arith, a.1) in
@@ -182,12 +185,16 @@ inside-kind q b i = tests (kind_of b) below no-newline no-quote
         by : (k : ℕ) → Found b singles 0 k → k < 30
         by k (inl a) = let c : length singles ≡ 28 = refl in omega (arith, a.1, got-below singles a.0 b a.2, c)
         by k (inr e) = omega (arith, e, rest-inside b i.low i.high i.no_backslash)
+
     no-newline : kind_of b ≢ 1
     no-newline e = omega (arith, one-byte b 1 10 e (omega arith) refl, i.low)
+
     no-quote : kind_of b ≢ quote_kind q
     no-quote e = i.no_quote (quote-byte q b e)
+
     less : (k n : ℕ) → k < n → nat_lt k n ≡ true
     less k n h = grind arith
+
     tests : (k : ℕ) → k < 30 → k ≢ 1 → k ≢ quote_kind q → may_stand_in q k ≡ true
     tests k h n m = rw (less k 30 h, test-apart k 1 n, test-apart k (quote_kind q) m) refl
 
@@ -206,6 +213,7 @@ kind-inside q b h =
     differ : (j k : ℕ) (c : Bool) → nat_eq j k ≡ c → not c ≡ true → j ≢ k
     differ j k true e h = cc
     differ j k false e h = not-same j k e
+
     by-test : (k : ℕ) → k ≢ 1 → (nat_eq k 1 || ((nat_le 32 b && nat_le b 126) && not (nat_eq b 92))) ≡ true → (32 ≤ b) × (b ≤ 126) × (b ≢ 92)
     by-test k ne h =
         let z : nat_eq k 1 ≡ false = test-apart k 1 ne in
@@ -213,8 +221,10 @@ kind-inside q b h =
         let x = both (nat_le 32 b && nat_le b 126) (not (nat_eq b 92)) t in
         let y = both (nat_le 32 b) (nat_le b 126) x.0 in
         (le-test 32 b y.0, le-test b 126 y.1, differ b 92 (nat_eq b 92) refl x.1)
+
     all-inside : all_at (λ i x. nat_eq i 1 || ((nat_le 32 x && nat_le x 126) && not (nat_eq x 92))) 0 singles ≡ true
     all-inside = refl
+
     range : (k : ℕ) → Kind b k → k < 30 → k ≢ 1 → (32 ≤ b) × (b ≤ 126) × (b ≢ 92)
     range k i lt ne =
         elim (nat_lt k 28) as (λ c. nat_lt k 28 ≡ c → (32 ≤ b) × (b ≤ 126) × (b ≢ 92)) [

@@ -5,3 +5,4 @@ pub mod Effects
 pub mod Meanings
 pub mod Sound
 pub mod Complete
+pub mod Readings

@@ -18,6 +18,7 @@ if-kind j k r rule others h = by (nat_eq k j) refl h
   where
     equal : (k j : ℕ) → nat_eq k j ≡ true → k ≡ j
     equal k j e = grind arith
+
     by : (c : Bool) → nat_eq k j ≡ c → cond c (Some r) others ≡ Some rule → ((k ≡ j) × (r ≡ rule)) ⊎ (others ≡ Some rule)
     by true e h = inl (equal k j e, cc)
     by false e h = inr h
@@ -146,7 +147,7 @@ first-axis num es x h =
     let comma : m.0 ≡ 44 = one-byte m.0 7 44 m.3 (omega arith) refl in
     let whole : es ≡ h.0 ++ (took m.0 ∷ (k.0 ++ k.1)) = h.2 ∙ ap (λ y. h.0 ++ y) (m.2 ∙ ap (λ y. took m.0 ∷ y) k.2) in
     let d = does-append h.0 (took m.0 ∷ (k.0 ++ k.1)) h.3.words (44 ∷ (k.3.words ++ a.words)) same (pushes a.numbers) h.3.does
-      (does-byte m.0 44 (k.0 ++ k.1) (k.3.words ++ a.words) (pushes a.numbers) comma (does-append k.0 k.1 k.3.words a.words same (pushes a.numbers) k.3.does a.does)) in
+    (does-byte m.0 44 (k.0 ++ k.1) (k.3.words ++ a.words) (pushes a.numbers) comma (does-append k.0 k.1 k.3.words a.words same (pushes a.numbers) k.3.does a.does)) in
     record {
       numbers = x.n ∷ a.numbers;
       words = x.words ++ (h.3.words ++ 44 ∷ (k.3.words ++ a.words));
@@ -312,8 +313,8 @@ record Valued (k : Keys) (b : ℕ) (rest : List ℕ) (then : HPart) (es : List E
 pub item-assoc : (q : ℕ) (name s1 s2 v w : List ℕ) → q ∷ (name ++ q ∷ (s1 ++ 58 ∷ (s2 ++ (v ++ w)))) ≡ (q ∷ (name ++ q ∷ (s1 ++ 58 ∷ (s2 ++ v)))) ++ w
 item-assoc q name s1 s2 v w =
     ap (λ x. q ∷ x) (
-      ap (λ x. name ++ q ∷ x) (ap (λ x. s1 ++ 58 ∷ x) (sym (append_assoc s2 v w)) ∙ sym (append_assoc s1 (58 ∷ (s2 ++ v)) w))
-      ∙ sym (append_assoc name (q ∷ (s1 ++ 58 ∷ (s2 ++ v))) w)
+    ap (λ x. name ++ q ∷ x) (ap (λ x. s1 ++ 58 ∷ x) (sym (append_assoc s2 v w)) ∙ sym (append_assoc s1 (58 ∷ (s2 ++ v)) w))
+    ∙ sym (append_assoc name (q ∷ (s1 ++ 58 ∷ (s2 ++ v))) w)
     )
 
 key-means : (q : Quote) (k : Keys) (b : ℕ) (rest ks : List ℕ) (value then : HPart) (t : ℕ) (es : List Event) → t ≡ b → Spells ks rest → ((x : List Event) → M value x → Valued k b rest then x)
@@ -339,7 +340,7 @@ key-means q k b rest ks value then t es e sp get h =
     let dq = does-byte cl.0 (quote_byte q) (s1.0 ++ took co.0 ∷ (s2.0 ++ (va.0 ++ (s3.0 ++ s3.1)))) (s1.3.words ++ 58 ∷ (s2.3.words ++ (v.words ++ w3))) (with_entries (v.entry ∷ r.others)) close d1 in
     let dl = does-append (taken_all rest) (took cl.0 ∷ (s1.0 ++ took co.0 ∷ (s2.0 ++ (va.0 ++ (s3.0 ++ s3.1))))) rest (quote_byte q ∷ (s1.3.words ++ 58 ∷ (s2.3.words ++ (v.words ++ w3)))) same (with_entries (v.entry ∷ r.others)) (does-all rest) dq in
     let whole : es ≡ taken_all rest ++ (took cl.0 ∷ (s1.0 ++ took co.0 ∷ (s2.0 ++ (va.0 ++ (s3.0 ++ s3.1))))) =
-        l.1 ∙ ap (λ y. taken_all rest ++ y) (cl.2 ∙ ap (λ y. took cl.0 ∷ y) (s1.2 ∙ ap (λ y. s1.0 ++ y) (co.2 ∙ ap (λ y. took co.0 ∷ y) (s2.2 ∙ ap (λ y. s2.0 ++ y) (va.2 ∙ ap (λ y. va.0 ++ y) s3.2))))) in
+    l.1 ∙ ap (λ y. taken_all rest ++ y) (cl.2 ∙ ap (λ y. took cl.0 ∷ y) (s1.2 ∙ ap (λ y. s1.0 ++ y) (co.2 ∙ ap (λ y. took co.0 ∷ y) (s2.2 ∙ ap (λ y. s2.0 ++ y) (va.2 ∙ ap (λ y. va.0 ++ y) s3.2))))) in
     let words : List ℕ = b ∷ (rest ++ quote_byte q ∷ (s1.3.words ++ 58 ∷ (s2.3.words ++ (v.words ++ w3)))) in
     record {
       first = v.entry;
@@ -354,7 +355,7 @@ key-means q k b rest ks value then t es e sp get h =
       rest_ok = r.ok;
       text = ap (λ y. quote_byte q ∷ (y ++ quote_byte q ∷ (s1.3.words ++ 58 ∷ (s2.3.words ++ (v.words ++ w3))))) (sym v.key_is) ∙ item-assoc (quote_byte q) (key_text v.entry) s1.3.words s2.3.words v.words w3;
       does = does-byte t b es (rest ++ quote_byte q ∷ (s1.3.words ++ 58 ∷ (s2.3.words ++ (v.words ++ w3)))) (with_entries (v.entry ∷ r.others)) e
-        (subst (λ y. Does y (rest ++ quote_byte q ∷ (s1.3.words ++ 58 ∷ (s2.3.words ++ (v.words ++ w3)))) (with_entries (v.entry ∷ r.others))) (sym whole) dl);
+          (subst (λ y. Does y (rest ++ quote_byte q ∷ (s1.3.words ++ 58 ∷ (s2.3.words ++ (v.words ++ w3)))) (with_entries (v.entry ∷ r.others))) (sym whole) dl);
     }
 
 on-key : (d f s : Bool) (q : Quote) (t : ℕ) (rule : List HSym) (es : List Event) → on_part (key d f s q) (kind_of t) ≡ Some rule → MeansAs M rule es → M (key d f s q) (took t ∷ es)
@@ -469,7 +470,7 @@ on-start t rule es h m = elim (if-kind 2 (kind_of t) (sub spaces ∷ sub (items 
       let dp = does-append p.0 (i.0 ++ took c.0 ∷ c.1) p.3.words (i.3.words ++ 125 ∷ (z.padding ++ 10 ∷ [])) same (with_entries (i.3.first ∷ i.3.others)) p.3.does di in
       let whole : es ≡ p.0 ++ (i.0 ++ took c.0 ∷ c.1) = p.2 ∙ ap (λ y. p.0 ++ y) (i.2 ∙ ap (λ y. i.0 ++ y) c.2) in
       let d = does-byte t 123 es (p.3.words ++ (i.3.words ++ 125 ∷ (z.padding ++ 10 ∷ []))) (with_entries (i.3.first ∷ i.3.others)) b
-        (subst (λ y. Does y (p.3.words ++ (i.3.words ++ 125 ∷ (z.padding ++ 10 ∷ []))) (with_entries (i.3.first ∷ i.3.others))) (sym whole) dp) in
+      (subst (λ y. Does y (p.3.words ++ (i.3.words ++ 125 ∷ (z.padding ++ 10 ∷ []))) (with_entries (i.3.first ∷ i.3.others))) (sym whole) dp) in
       record {
         first = i.3.first;
         others = i.3.others;

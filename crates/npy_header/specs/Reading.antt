@@ -2,13 +2,15 @@
 use Rattle.std.specs.Prelude.{◌≡◌, ℕ, ◌+◌, ◌-◌, ◌*◌, ◌^◌, ◌<◌, ◌≤◌, min, map, take, length, List, [], ◌∷◌, ◌++◌, Some}
 use Rattle.grammar.specs.declared.symbol.Symbol.{Symbol}
 use Rattle.grammar.specs.declared.symbol.Symbol.TheVariants.{Part}
-use Rattle.grammar.specs.Grammars.{Grammar, Event, took, did, tokens}
+use Rattle.grammar.specs.Grammars.{Event, tokens}
 use Rattle.grammar.specs.Tables.{grammar_of}
 use Rattle.grammar.specs.Runs.{IsReady, Leaves}
+use Rattle.npy_header.specs.declared.fields.HeaderError.{HeaderError}
+use Rattle.npy_header.specs.declared.fields.HeaderError.TheVariants.{Refused, OutOfMemory}
 use Rattle.npy_header.specs.Headers.{Fields, IsHeader}
 use Rattle.npy_header.specs.Kinds.{kind_of}
 use Rattle.npy_header.specs.HeaderRows.{header_rows, certificate}
-use Rattle.npy_header.specs.Scans.{Scan, fresh, after_byte, after_action, after_events}
+use Rattle.npy_header.specs.Scans.{Scan, fresh, fields_of, after_action, after_events}
 
 -- ---- numbers of any length in 64 bits
 
@@ -46,3 +48,15 @@ pub record IsRefused (w : List ℕ) (at : ℕ) : Type 0 where
   pub begun : (more : List ℕ) × (f : Fields) × IsHeader (take at w ++ more) f
   pub first : at < length w → (more : List ℕ) (f : Fields) → IsHeader (take (at + 1) w ++ more) f → ⊥
   pub no_header : (f : Fields) → IsHeader w f → ⊥
+
+-- nothing where memory ran out
+abbrev pub RefusedAs : List ℕ → HeaderError → Type 0
+RefusedAs w (Refused at) = IsRefused w at
+RefusedAs w OutOfMemory = Unit {0}
+
+-- the bytes are a header that says this and nothing else, and this is what it says
+pub record Says (w : List ℕ) (said : Fields) : Type 0 where
+  pub fields : Fields
+  pub header : IsHeader w fields
+  pub only : (f : Fields) → IsHeader w f → f ≡ fields
+  pub capped_is : said ≡ capped fields

@@ -6,8 +6,10 @@
 //! Below stands the crate `grammar`, above it the reader of whole files.
 #![tactic(auto)]
 
+pub mod fields;
 mod rows;
 mod scanner;
 pub mod text;
 
-
+pub use fields::{HeaderError, HeaderFields};
+pub use text::read_header_text;

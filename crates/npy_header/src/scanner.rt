@@ -1,8 +1,9 @@
 // What is kept of a header while it is read.
 ghost use Rattle.std.specs.Prelude.{◌≡◌, ◌+◌, ◌-◌, ◌*◌, OnOk};
-ghost use Rattle.npy_header.specs.Scans.{after_action, fresh};
+ghost use Rattle.npy_header.specs.Scans.{after_action, fields_of, fresh};
 ghost use Rattle.npy_header.specs.Reading.{cap, after_byte_capped, after_actions};
 
+use crate::fields::HeaderFields;
 use std::alloc::{AllocError, Global};
 use std::marker::Model;
 
@@ -81,5 +82,20 @@ impl Scanner {
             self.action(*action)?;
         }
         Ok(())
+    }
+
+    /// Takes no memory.
+    pub(crate) fn into_fields(self) -> HeaderFields
+        ensures { result ≡ fields_of self }
+    {
+        let Scanner {
+            last: _,
+            number: _,
+            text: _,
+            descr,
+            fortran,
+            shape,
+        } = self;
+        HeaderFields::new(descr, fortran, shape)
     }
 }
