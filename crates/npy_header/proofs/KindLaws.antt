@@ -1,9 +1,11 @@
 -- Which bytes have a kind.
-use Rattle.std.proofs.Common.{◌≡◌, ◌≢◌, ℕ, zero, suc, ◌<◌, ◌≤◌, ◌+◌, Bool, true, false, ◌||◌, ◌&&◌, not, cond, nat_eq, nat_le, nat_lt, List, [], ◌∷◌, ◌++◌, ◌⊎◌, inl, inr, length, Some, None, refl, ap, sym, subst, ◌∙◌, arith}
+use Rattle.std.proofs.Common.{◌≡◌, ◌≢◌, ℕ, zero, suc, ◌<◌, ◌≤◌, ◌+◌, Bool, true, false, ◌||◌, ◌&&◌, not, cond, nat_eq, nat_le, nat_lt, List, [], ◌∷◌, ◌++◌, ◌⊎◌, inl, inr, length, get_or, Some, None, refl, ap, sym, subst, ◌∙◌, arith}
 use Rattle.std.specs.Prelude.{Option, slice_get}
 use Rattle.std.specs.List.{list_all}
+use Rattle.std.proofs.lemmas.Option.{slice_get-get_or}
 use Rattle.grammar.specs.Tables.{all_at}
 use Rattle.grammar.proofs.Checked.{all_at-first}
+use Rattle.npy_header.specs.declared.rows.TheConstants.{KIND_OF_BYTE}
 use Rattle.npy_header.specs.Headers.{Quote, single, double, quote_byte, IsDigit, IsInside}
 use Rattle.npy_header.specs.Kinds.{singles, kind_of_rest, kind_from, kind_of}
 use Rattle.npy_header.specs.Typed.{quote_kind, may_stand_in}
@@ -237,3 +239,15 @@ kind-inside q b h =
       where
         last : (k : ℕ) → nat_lt k 28 ≡ false → nat_eq k 28 ≡ false → k < 30 → k ≡ 29
         last k a b c = grind arith
+
+-- ---- the table of kinds
+
+kinds-checked : all_at (λ b k. nat_eq k (kind_of b)) 0 KIND_OF_BYTE ≡ true
+unfolding kind_of
+kinds-checked = refl
+
+kinds_count : length KIND_OF_BYTE ≡ 256
+kinds_count = refl
+
+pub kind-table : (b : ℕ) → b < 256 → get_or KIND_OF_BYTE b 0 ≡ kind_of b
+kind-table b h = same-number (get_or KIND_OF_BYTE b 0) (kind_of b) (all_at-first (λ b k. nat_eq k (kind_of b)) KIND_OF_BYTE b (get_or KIND_OF_BYTE b 0) kinds-checked (slice_get-get_or KIND_OF_BYTE b 0 (omega (arith, kinds_count))))

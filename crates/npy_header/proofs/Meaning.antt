@@ -18,12 +18,12 @@ use Rattle.npy_header.proofs.KindLaws.{kind-below}
 
 -- ---- places in lists
 
-get-map : {X : Type 0} {Y : Type 0} (f : X → Y) (xs : List X) (i : ℕ) (x : X) → slice_get xs i ≡ Some x → slice_get (map f xs) i ≡ Some (f x)
+pub get-map : {X : Type 0} {Y : Type 0} (f : X → Y) (xs : List X) (i : ℕ) (x : X) → slice_get xs i ≡ Some x → slice_get (map f xs) i ≡ Some (f x)
 get-map f [] i x h = cc
 get-map f (y ∷ xs) zero x h = let e : y ≡ x = cc in ap (λ z. Some (f z)) e
 get-map f (y ∷ xs) (suc i) x h = get-map f xs i x h
 
-get-map-back : {X : Type 0} {Y : Type 0} (f : X → Y) (xs : List X) (i : ℕ) (y : Y) → slice_get (map f xs) i ≡ Some y → (x : X) × (slice_get xs i ≡ Some x) × (f x ≡ y)
+pub get-map-back : {X : Type 0} {Y : Type 0} (f : X → Y) (xs : List X) (i : ℕ) (y : Y) → slice_get (map f xs) i ≡ Some y → (x : X) × (slice_get xs i ≡ Some x) × (f x ≡ y)
 get-map-back f [] i y h = cc
 get-map-back f (x ∷ xs) zero y h = (x, refl, cc)
 get-map-back f (x ∷ xs) (suc i) y h = get-map-back f xs i y h
@@ -33,12 +33,12 @@ numbers-at zero i k x h = cc
 numbers-at (suc n) i zero x h = let e : i ≡ x = cc in omega (arith, e)
 numbers-at (suc n) i (suc k) x h = omega (arith, numbers-at n (i + 1) k x h)
 
-at-numbers : (n i k : ℕ) → k < n → slice_get (numbers n i) k ≡ Some (i + k)
+pub at-numbers : (n i k : ℕ) → k < n → slice_get (numbers n i) k ≡ Some (i + k)
 at-numbers zero i k h = absurd (omega arith)
 at-numbers (suc n) i zero h = let e : i ≡ i + 0 = omega arith in ap Some e
 at-numbers (suc n) i (suc k) h = let e : (i + 1) + k ≡ i + suc k = omega arith in at-numbers n (i + 1) k (omega arith) ∙ ap Some e
 
-index-at : {X : Type 0} (xs : List X) (i : ℕ) (x d : X) → slice_get xs i ≡ Some x → slice_index_or xs i d ≡ x
+pub index-at : {X : Type 0} (xs : List X) (i : ℕ) (x d : X) → slice_get xs i ≡ Some x → slice_index_or xs i d ≡ x
 index-at [] i x d h = cc
 index-at (y ∷ xs) zero x d h = cc
 index-at (y ∷ xs) (suc i) x d h = index-at xs i x d h

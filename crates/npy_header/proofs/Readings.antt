@@ -6,17 +6,20 @@ use Rattle.std.proofs.Math.Seq.{take-suc}
 use Rattle.grammar.specs.declared.symbol.Symbol.{Symbol}
 use Rattle.grammar.specs.declared.symbol.Symbol.TheVariants.{Part}
 use Rattle.grammar.specs.Grammars.{Grammar, Event, took, did, did_all, tokens, Begins, Derives, taken, refused, step}
-use Rattle.grammar.specs.Tables.{grammar_of}
+use Rattle.grammar.specs.Tables.{Rows, grammar_of}
+use Rattle.grammar.specs.Reading.{step_of}
+use Rattle.grammar.specs.declared.reply.Reply.{Reply}
+use Rattle.grammar.specs.declared.reply.Reply.TheVariants.{Taken, Refused}
 use Rattle.grammar.specs.Runs.{IsReady, Leaves, RefusesNext, Ends, HasKinds}
 use Rattle.grammar.proofs.Derivations.{tokens-append, tokens-did_all}
-use Rattle.grammar.proofs.RunLaws.{ready-start, ready-taken, leaves-start, leaves-taken, viable}
+use Rattle.grammar.proofs.RunLaws.{ready-start, ready-taken, leaves-start, leaves-taken, refused-next, ended, viable}
 use Rattle.npy_header.specs.Headers.{Fields, IsHeader}
 use Rattle.npy_header.specs.Kinds.{kind_of}
 use Rattle.npy_header.specs.HeaderRows.{header_rows, certificate}
 use Rattle.npy_header.specs.Typed.{start, parts}
 use Rattle.npy_header.specs.Scans.{Scan, fresh, fields_of, after_byte, after_action, after_event, after_events}
 use Rattle.npy_header.specs.Reading.{cap, capped, capped_scan, after_byte_capped, after_actions, IsReading, IsRefused, Says}
-use Rattle.npy_header.proofs.Table.{numbers, header_ll1}
+use Rattle.npy_header.proofs.Table.{numbers, header_ll1, header_moves}
 use Rattle.npy_header.proofs.Meaning.{G, MeansAs, means, get-map, get-map-back, at-numbers, index-at}
 use Rattle.npy_header.proofs.Effects.{events-append}
 use Rattle.npy_header.proofs.Sound.{closed}
@@ -143,7 +146,7 @@ goes-on w left scan r v f h =
     record { more = x.0; words = x.2; derives = x.3; fields = ap (λ es. fields_of (after_events es fresh)) (sym x.1) ∙ b.fields }
 
 pub refused-byte : (w : List ℕ) (at b : ℕ) (left : List Symbol) (scan : Scan) → IsReading (take at w) left scan → at < length w → get_or w at 0 ≡ b → RefusesNext G kind_of left (Some (kind_of b)) → IsRefused w at
-refused-byte w at b left scan r h e no = record {
+refused-byte w at b left scan r h e refusal = record {
   within = omega arith;
   begun = begun-by (take at w) left scan r;
   first = λ _ more f x. none more f x;
@@ -157,16 +160,16 @@ refused-byte w at b left scan r h e no = record {
     none more f x =
         let split : take (at + 1) w ++ more ≡ take at w ++ (b ∷ more) = ap (λ y. y ++ more) one ∙ append_assoc (take at w) (b ∷ []) more in
         let g = goes-on (take at w) left scan r (b ∷ more) f (subst (λ y. IsHeader y f) split x) in
-        no g.more g.derives (subst (λ y. Begins kind_of y (Some (kind_of b))) (sym g.words) refl)
+        refusal g.more g.derives (subst (λ y. Begins kind_of y (Some (kind_of b))) (sym g.words) refl)
 
 pub refused-end : (w : List ℕ) (left : List Symbol) (scan : Scan) → IsReading w left scan → RefusesNext G kind_of left None → IsRefused w (length w)
-refused-end w left scan r no = record {
+refused-end w left scan r refusal = record {
   within = omega arith;
   begun = subst (λ y. (more : List ℕ) × (f : Fields) × IsHeader (y ++ more) f) (sym (take_all (length w) w (omega arith))) (begun-by w left scan r);
   first = λ h. absurd (omega arith);
   no_header = λ f x.
       let g = goes-on w left scan r [] f (subst (λ y. IsHeader y f) (sym (append-nil w)) x) in
-      no g.more g.derives (subst (λ y. Begins kind_of y None) (sym g.words) tt);
+      refusal g.more g.derives (subst (λ y. Begins kind_of y None) (sym g.words) tt);
 }
 
 -- ---- the end
@@ -186,3 +189,39 @@ reading-ended w left scan actions r e =
           sym g.fields ∙ ap (λ x. fields_of (after_events (r.past ++ x) fresh)) m;
       capped_is = ap (λ x. fields_of (after_actions actions x)) r.scanned ∙ (ap fields_of (sym (capped-actions actions st r.byte)) ∙ ap (λ x. capped (fields_of x)) (sym run));
     }
+
+-- ---- what the code's calls say
+
+pub step-refused : (t : Rows) (left after : List Symbol) (next next' : Option ℕ) (r : Reply) (actions : List ℕ) → t ≡ header_rows → next ≡ next' → r ≡ Refused → step (grammar_of t) left next ≡ step_of r actions after
+    → RefusesNext G kind_of left next'
+step-refused t left after next next' r actions a b e h =
+    let x : step (grammar_of header_rows) left next ≡ refused actions = subst (λ y. step (grammar_of y) left next ≡ refused actions) a (h ∙ ap (λ y. step_of y actions after) e) in
+    refused-next header_rows header_moves kind_of left next' actions (subst (λ y. step (grammar_of header_rows) left y ≡ refused actions) b x)
+
+step-taken : (t : Rows) (left after : List Symbol) (next next' : Option ℕ) (r : Reply) (actions : List ℕ) → t ≡ header_rows → next ≡ next' → r ≡ Taken → step (grammar_of t) left next ≡ step_of r actions after
+    → step (grammar_of header_rows) left next' ≡ taken actions after
+step-taken t left after next next' r actions a b e h =
+    let x : step (grammar_of header_rows) left next ≡ taken actions after = subst (λ y. step (grammar_of y) left next ≡ taken actions after) a (h ∙ ap (λ y. step_of y actions after) e) in
+    subst (λ y. step (grammar_of header_rows) left y ≡ taken actions after) b x
+
+pub byte-taken : (t : Rows) (left after : List Symbol) (k b : ℕ) (r : Reply) (actions acts : List ℕ) (scan scan₁ scan₂ : Scan) → t ≡ header_rows → k ≡ kind_of b → b < 256 → r ≡ Taken → step (grammar_of t) left (Some k) ≡ step_of r actions after
+    → acts ≡ actions → scan₁ ≡ after_actions acts scan → scan₂ ≡ after_byte_capped b scan₁ → (w : List ℕ) → IsReading w left scan → IsReading (w ++ b ∷ []) after scan₂
+byte-taken t left after k b r actions acts scan scan₁ scan₂ a kb small e h same first second w reading =
+    let x = reading-taken w left after scan b actions small reading (step-taken t left after (Some k) (Some (kind_of b)) r actions a (ap Some kb) e h) in
+    let s : scan₂ ≡ after_byte_capped b (after_actions actions scan) = second ∙ ap (after_byte_capped b) (first ∙ ap (λ y. after_actions y scan) same) in
+    subst (λ y. IsReading (w ++ b ∷ []) after y) (sym s) x
+
+pub end-taken : (t : Rows) (left after : List Symbol) (r : Reply) (actions acts : List ℕ) (scan scan₁ : Scan) → t ≡ header_rows → r ≡ Taken → step (grammar_of t) left None ≡ step_of r actions after
+    → acts ≡ actions → scan₁ ≡ after_actions acts scan → (w : List ℕ) → IsReading w left scan → Says w (fields_of scan₁)
+end-taken t left after r actions acts scan scan₁ a e h same first w reading =
+    let x = reading-ended w left scan actions reading (ended header_rows kind_of left after actions (step-taken t left after None None r actions a none-same e h)) in
+    subst (λ y. Says w (fields_of y)) (sym (first ∙ ap (λ y. after_actions y scan) same)) x
+  where
+    none-same : ◌≡◌ {A = Option ℕ} None None
+    none-same = refl
+
+-- one byte more of the text
+pub reading-next : (w : List ℕ) (i b : ℕ) (left : List Symbol) (scan : Scan) → i < length w → get_or w i 0 ≡ b → IsReading (take i w ++ b ∷ []) left scan → IsReading (take (i + 1) w) left scan
+reading-next w i b left scan h e r =
+    let s : i + 1 ≡ suc i = omega arith in
+    subst (λ x. IsReading x left scan) (sym (ap (λ n. take n w) s ∙ (take-suc w i 0 h ∙ ap (λ x. take i w ++ x ∷ []) e))) r
