@@ -225,3 +225,6 @@ pub reading-next : (w : List ℕ) (i b : ℕ) (left : List Symbol) (scan : Scan)
 reading-next w i b left scan h e r =
     let s : i + 1 ≡ suc i = omega arith in
     subst (λ x. IsReading x left scan) (sym (ap (λ n. take n w) s ∙ (take-suc w i 0 h ∙ ap (λ x. take i w ++ x ∷ []) e))) r
+
+pub reading-first : (left : List Symbol) (scan : Scan) → left ≡ Part 0 ∷ [] → scan ≡ fresh → IsReading [] left scan
+reading-first left scan a b = subst (λ x. IsReading [] x scan) (sym a) (subst (λ x. IsReading [] (Part 0 ∷ []) x) (sym b) reading-start)
