@@ -83,3 +83,6 @@ pub fn read_header_text(alloc: Global, bytes: &[u8]) -> Result<HeaderFields, Hea
     }
     Ok(scanner.into_fields())
 }
+
+#[cfg(test)]
+mod tests;
