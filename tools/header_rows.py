@@ -8,8 +8,7 @@ is trusted.
 import itertools
 
 KINDS = 48
-SINGLE = " \n{}():,'\"" + "descrfotan_hpTuFl".replace("descr", "descr") + "0"
-SINGLE = "".join(dict.fromkeys(SINGLE))
+SINGLE = "".join(dict.fromkeys(" \n{}():,'\"descrfotan_hpTuFl0"))
 DIGIT, TEXT, OTHER = len(SINGLE), len(SINGLE) + 1, len(SINGLE) + 2
 PRINTABLE = [k for k in range(OTHER) if k != 1]
 FIRST, START, COPY, TRUE, FALSE, OPEN, NUMBER = range(7)
@@ -144,6 +143,16 @@ moves = [1] * n  # no other rule has a part or an action before a token
 
 # ---- what is written
 
+
+
+def title(name):
+    """A part's name, and for items the keys that are still to come."""
+    if isinstance(name, str):
+        return {"value0": "value of descr", "value1": "value of fortran_order", "value2": "value of shape"}.get(name, name)
+    keys = ", ".join(KEYS[k] for k in name[1])
+    return " ".join([name[0], "of (%s)" % keys] + (["in " + name[2]] if name[2:] else []))
+
+
 symbols, rules, number = [], [], {}
 for p, k, s in rows:
     if str(s) not in number:
@@ -152,10 +161,12 @@ for p, k, s in rows:
         symbols += reversed(s)
 
 out = ["// The table of the grammar of headers, written by tools/header_rows.py.", "use grammar::{Row, Rule, Symbol, rules_on};", ""]
+out += ["// The kinds: %s, then the digits 1 to 9, what else may stand in a string, and any other byte." % ascii(SINGLE)[1:-1], ""]
 out += ["/// The kind of each byte.", "pub(crate) static KIND_OF_BYTE: [u16; 256] = ["]
 out += ["    " + " ".join("%d," % kind_of_byte(b) for b in range(i, i + 16)) for i in range(0, 256, 16)] + ["];", ""]
 out += ["pub(crate) static ON: [Row; %d] = [" % n]
 for p in range(n):
+    out.append("    // %d: %s" % (p, title(parts[p])))
     entries = ["%d" % number[str(on[p, k])] if (p, k) in on else "-" for k in range(KINDS)]
     out.append("    rules_on!(%s)," % " ".join(entries))
 out += ["];", "", "pub(crate) static OTHER: [Option<u16>; %d] = [" % n]

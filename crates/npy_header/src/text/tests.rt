@@ -227,8 +227,8 @@ fn the_first_byte_that_no_header_has_is_refused(rt: HostRuntime) -> Result<(), F
             "descr': '<i8', 'fortran_order': False, 'shape': (3,), }\n",
         ),
         (
-            "{'descr': '<i8', 'fortran_order': False, 'shape': (3,), '",
-            "shape': (3,), }\n",
+            "{'descr': '<i8', 'fortran_order': False, 'shape': (3,), ",
+            "'shape': (3,), }\n",
         ),
         ("{'descr': '<i8', 'fortran_order': False", "}\n"),
         ("{'descr': '<i8', 'fortran_order': False, ", "}\n"),
