@@ -12,7 +12,8 @@ pub record Fields : Type 0 where
 abbrev pub blank : Fields
 blank = record { descr = []; fortran = false; shape = [] }
 
--- ---- bytes
+-- ---- bytes: 32 is the space, 39 and 34 are the quotes, 40 and 41 the parentheses, 44 the comma, 58 the colon, 123 and 125
+-- the braces, 10 the newline
 
 abbrev pub AllBytes : (ℕ → Type 0) → List ℕ → Type 0
 AllBytes P [] = Unit {0}
@@ -57,19 +58,19 @@ IsNumber n (b ∷ w) = ((b ≡ 48) × (w ≡ []) × (n ≡ 0)) ⊎ (IsDigit b ×
 
 -- ---- values
 
--- `'descr'` or `"descr"`: 100 101 115 99 114 are its letters
+-- a key with what stands at it
 pub data Entry : Type 0 where
   descr : List ℕ → Entry
   fortran : Bool → Entry
   shape : List ℕ → Entry
 
--- descr, fortran_order, shape
+-- the letters of descr, fortran_order and shape
 abbrev pub key_text : Entry → List ℕ
 key_text (descr t) = 100 ∷ 101 ∷ 115 ∷ 99 ∷ 114 ∷ []
 key_text (fortran b) = 102 ∷ 111 ∷ 114 ∷ 116 ∷ 114 ∷ 97 ∷ 110 ∷ 95 ∷ 111 ∷ 114 ∷ 100 ∷ 101 ∷ 114 ∷ []
 key_text (shape ns) = 115 ∷ 104 ∷ 97 ∷ 112 ∷ 101 ∷ []
 
--- True, False
+-- the letters of True and False
 abbrev pub bool_text : Bool → List ℕ
 bool_text true = 84 ∷ 114 ∷ 117 ∷ 101 ∷ []
 bool_text false = 70 ∷ 97 ∷ 108 ∷ 115 ∷ 101 ∷ []
