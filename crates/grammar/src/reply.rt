@@ -1,0 +1,8 @@
+// What a reader answers.
+
+/// Whether the grammar has a place for the next token, or for the end.
+#[derive(Clone, Copy, Debug, PartialEq, Eq)]
+pub enum Reply {
+    Taken,
+    Refused,
+}

@@ -1,0 +1,431 @@
+-- Each header is derived by the rows, with events that leave its fields.
+use Rattle.std.proofs.Common.{◌≡◌, ◌≢◌, ℕ, zero, suc, ◌<◌, ◌≤◌, ◌+◌, ◌-◌, ◌*◌, Bool, true, false, ◌||◌, ◌&&◌, not, cond, nat_eq, List, [], ◌∷◌, ◌++◌, ◌⊎◌, inl, inr, Some, None, refl, ap, sym, subst, ◌∙◌, arith, append_assoc, append-nil}
+use Rattle.std.specs.Prelude.{Option}
+use Rattle.grammar.specs.Grammars.{Event, took, did, tokens}
+use Rattle.npy_header.specs.Headers.{Fields, blank, Quote, single, double, quote_byte, AllBytes, AreSpaces, IsInside, IsDigit, decimal, IsNumber, Entry, descr, fortran, shape, key_text, bool_text, AreAxes, IsTuple, IsValue, IsItem, AreMore, Keys, has, without, EachOnce, with_entry, with_entries, IsHeader}
+use Rattle.npy_header.specs.Kinds.{kind_of}
+use Rattle.npy_header.specs.Scans.{Scan, fresh, fields_of, after_byte, after_action, after_events}
+use Rattle.npy_header.specs.Typed.{HPart, start, tail, spaces, descr_value, fortran_value, shape_value, string, tuple, axes, axis, digits, items, key, more, HSym, letter, sub, act, quote_kind, may_stand_in, letters, descr_rest, fortran_rest, shape_rest, item_rest, if_kind, on_items, on_key, on_more, on_part, other_part}
+use Rattle.npy_header.proofs.KindLaws.{kind-quote, digit-kind, inside-kind}
+use Rattle.npy_header.proofs.Meaning.{MeansAs, DerivesPart, derives-on-part, derives-other-part}
+use Rattle.npy_header.proofs.Effects.{Does, does-nothing, does-took, does-append, does-same, does-all, does-descr, does-number, text-all, digits-all, pushes, taken_all}
+use Rattle.npy_header.proofs.Meanings.{same, keys}
+use Rattle.npy_header.proofs.Sound.{does-bool, push-none, does-close, does-other, item-assoc}
+
+-- events that a part derives, with these bytes and this effect
+record Built (p : HPart) (w : List ℕ) (f : Fields → Fields) : Type 0 where
+  events : List Event
+  derives : DerivesPart p events
+  does : Does events w f
+
+just : (p : HPart) (es : List Event) → DerivesPart p es → MeansAs DerivesPart (sub p ∷ []) es
+just p es d = (es, [], sym (append-nil es), d, refl)
+
+-- ---- kinds of bytes
+
+abbrev Spelled : List ℕ → List ℕ → Type 0
+Spelled [] [] = Unit {0}
+Spelled [] (b ∷ bs) = ⊥
+Spelled (k ∷ ks) [] = ⊥
+Spelled (k ∷ ks) (b ∷ bs) = (kind_of b ≡ k) × Spelled ks bs
+
+spelled : (ks bs : List ℕ) (s : List HSym) (es : List Event) → Spelled ks bs → MeansAs DerivesPart s es → MeansAs DerivesPart (letters ks s) (taken_all bs ++ es)
+spelled [] [] s es p h = h
+spelled [] (b ∷ bs) s es p h = absurd p
+spelled (k ∷ ks) [] s es p h = absurd p
+spelled (k ∷ ks) (b ∷ bs) s es p h = (b, taken_all bs ++ es, refl, p.0, spelled ks bs s es p.1 h)
+
+descr-spelled : Spelled descr_rest (101 ∷ 115 ∷ 99 ∷ 114 ∷ [])
+unfolding kind_of
+descr-spelled = (refl, (refl, (refl, (refl, tt))))
+
+fortran-spelled : Spelled fortran_rest (111 ∷ 114 ∷ 116 ∷ 114 ∷ 97 ∷ 110 ∷ 95 ∷ 111 ∷ 114 ∷ 100 ∷ 101 ∷ 114 ∷ [])
+unfolding kind_of
+fortran-spelled = (refl, (refl, (refl, (refl, (refl, (refl, (refl, (refl, (refl, (refl, (refl, (refl, tt))))))))))))
+
+shape-spelled : Spelled shape_rest (104 ∷ 97 ∷ 112 ∷ 101 ∷ [])
+unfolding kind_of
+shape-spelled = (refl, (refl, (refl, (refl, tt))))
+
+true-spelled : Spelled (14 ∷ 24 ∷ 11 ∷ []) (114 ∷ 117 ∷ 101 ∷ [])
+unfolding kind_of
+true-spelled = (refl, (refl, (refl, tt)))
+
+false-spelled : Spelled (18 ∷ 26 ∷ 12 ∷ 11 ∷ []) (97 ∷ 108 ∷ 115 ∷ 101 ∷ [])
+unfolding kind_of
+false-spelled = (refl, (refl, (refl, (refl, tt))))
+
+space-kind : kind_of 32 ≡ 0
+unfolding kind_of
+space-kind = refl
+
+newline-kind : kind_of 10 ≡ 1
+unfolding kind_of
+newline-kind = refl
+
+open-kind : kind_of 123 ≡ 2
+unfolding kind_of
+open-kind = refl
+
+close-kind : kind_of 125 ≡ 3
+unfolding kind_of
+close-kind = refl
+
+paren-kind : kind_of 40 ≡ 4
+unfolding kind_of
+paren-kind = refl
+
+end-kind : kind_of 41 ≡ 5
+unfolding kind_of
+end-kind = refl
+
+colon-kind : kind_of 58 ≡ 6
+unfolding kind_of
+colon-kind = refl
+
+comma-kind : kind_of 44 ≡ 7
+unfolding kind_of
+comma-kind = refl
+
+zero-kind : kind_of 48 ≡ 27
+unfolding kind_of
+zero-kind = refl
+
+t-kind : kind_of 84 ≡ 23
+unfolding kind_of
+t-kind = refl
+
+f-kind : kind_of 70 ≡ 25
+unfolding kind_of
+f-kind = refl
+
+d-kind : kind_of 100 ≡ 10
+unfolding kind_of
+d-kind = refl
+
+o-kind : kind_of 102 ≡ 15
+unfolding kind_of
+o-kind = refl
+
+s-kind : kind_of 115 ≡ 12
+unfolding kind_of
+s-kind = refl
+
+-- ---- spaces, the tail, strings, digits
+
+built-spaces : (w : List ℕ) → AreSpaces w → DerivesPart spaces (taken_all w)
+built-spaces [] h = derives-other-part spaces [] [] refl refl
+built-spaces (b ∷ w) h =
+    let k : kind_of b ≡ 0 = ap kind_of h.0 ∙ space-kind in
+    derives-on-part spaces b (sub spaces ∷ []) (taken_all w) (ap (on_part spaces) k) (just spaces (taken_all w) (built-spaces w h.1))
+
+built-tail : (w : List ℕ) → AreSpaces w → DerivesPart tail (taken_all (w ++ 10 ∷ []))
+built-tail [] h = derives-on-part tail 10 [] [] (ap (on_part tail) newline-kind) refl
+built-tail (b ∷ w) h =
+    let k : kind_of b ≡ 0 = ap kind_of h.0 ∙ space-kind in
+    derives-on-part tail b (sub tail ∷ []) (taken_all (w ++ 10 ∷ [])) (ap (on_part tail) k) (just tail (taken_all (w ++ 10 ∷ [])) (built-tail w h.1))
+
+built-string : (q : Quote) (w : List ℕ) → AllBytes (IsInside q) w → DerivesPart (string q) (taken_all w)
+built-string q [] h = derives-other-part (string q) [] [] refl refl
+built-string q (b ∷ w) h =
+    let is : cond (may_stand_in q (kind_of b)) (Some (sub (string q) ∷ [])) None ≡ Some (sub (string q) ∷ []) = ap (λ c. cond c (Some (sub (string q) ∷ [])) None) (inside-kind q b h.0) in
+    derives-on-part (string q) b (sub (string q) ∷ []) (taken_all w) is (just (string q) (taken_all w) (built-string q w h.1))
+
+equal : (k j : ℕ) → nat_eq k j ≡ true → k ≡ j
+equal k j e = grind arith
+
+apart : (k j : ℕ) → nat_eq k j ≡ false → k ≢ j
+apart k j e x = grind arith
+
+digit-rule : (b : ℕ) → IsDigit b → on_part digits (kind_of b) ≡ Some (sub digits ∷ [])
+digit-rule b d = by (nat_eq b 48) refl
+  where
+    by : (c : Bool) → nat_eq b 48 ≡ c → on_part digits (kind_of b) ≡ Some (sub digits ∷ [])
+    by true e = let k : kind_of b ≡ 27 = ap kind_of (equal b 48 e) ∙ zero-kind in ap (on_part digits) k
+    by false e = ap (on_part digits) (digit-kind b d (apart b 48 e))
+
+built-digits : (w : List ℕ) → AllBytes IsDigit w → DerivesPart digits (taken_all w)
+built-digits [] h = derives-other-part digits [] [] refl refl
+built-digits (b ∷ w) h = derives-on-part digits b (sub digits ∷ []) (taken_all w) (digit-rule b h.0) (just digits (taken_all w) (built-digits w h.1))
+
+-- ---- numbers
+
+record BuiltNumber (n : ℕ) (w : List ℕ) : Type 0 where
+  events : List Event
+  does : Does events w (pushes (n ∷ []))
+  first : (es : List Event) → MeansAs DerivesPart (sub spaces ∷ letter 7 ∷ sub spaces ∷ sub axes ∷ []) es → DerivesPart tuple (events ++ es)
+  later : (es : List Event) → MeansAs DerivesPart (sub spaces ∷ sub axis ∷ []) es → DerivesPart axes (events ++ es)
+
+built-number : (n : ℕ) (w : List ℕ) → IsNumber n w → BuiltNumber n w
+built-number n [] h = absurd h
+built-number n (b ∷ w) (inl z) =
+    let e : Does (took 48 ∷ did 0 ∷ did 6 ∷ []) (48 ∷ []) (pushes (0 ∷ [])) = does-number 48 [] [] (digits-all []) in
+    record {
+      events = took 48 ∷ did 0 ∷ did 6 ∷ [];
+      does = subst (λ x. Does (took 48 ∷ did 0 ∷ did 6 ∷ []) (b ∷ w) (pushes (x ∷ []))) (sym z.2)
+          (subst (λ x. Does (took 48 ∷ did 0 ∷ did 6 ∷ []) (b ∷ x) (pushes (0 ∷ []))) (sym z.1)
+          (subst (λ x. Does (took 48 ∷ did 0 ∷ did 6 ∷ []) (x ∷ []) (pushes (0 ∷ []))) (sym z.0) e));
+      first = λ es m. derives-on-part tuple 48 (act 0 ∷ act 6 ∷ sub spaces ∷ letter 7 ∷ sub spaces ∷ sub axes ∷ []) (did 0 ∷ did 6 ∷ es) (ap (on_part tuple) zero-kind) (did 6 ∷ es, refl, (es, refl, m));
+      later = λ es m. derives-on-part axes 48 (act 0 ∷ act 6 ∷ sub spaces ∷ sub axis ∷ []) (did 0 ∷ did 6 ∷ es) (ap (on_part axes) zero-kind) (did 6 ∷ es, refl, (es, refl, m));
+    }
+built-number n (b ∷ w) (inr d) =
+    let k : kind_of b ≡ 28 = digit-kind b d.0 d.1 in
+    let v : 10 * 0 + (b - 48) ≡ b - 48 = omega arith in
+    let num : n ≡ decimal (b - 48) w = d.3 ∙ ap (λ x. decimal x w) v in
+    record {
+      events = took b ∷ did 0 ∷ (taken_all w ++ did 6 ∷ []);
+      does = subst (λ x. Does (took b ∷ did 0 ∷ (taken_all w ++ did 6 ∷ [])) (b ∷ w) (pushes (x ∷ []))) (sym num) (does-number b (taken_all w) w (digits-all w));
+      first = λ es m. derives-on-part tuple b (act 0 ∷ sub digits ∷ act 6 ∷ sub spaces ∷ letter 7 ∷ sub spaces ∷ sub axes ∷ []) (did 0 ∷ ((taken_all w ++ did 6 ∷ []) ++ es)) (ap (on_part tuple) k)
+          ((taken_all w ++ did 6 ∷ []) ++ es, refl, (taken_all w, did 6 ∷ es, append_assoc (taken_all w) (did 6 ∷ []) es, built-digits w d.2, (es, refl, m)));
+      later = λ es m. derives-on-part axes b (act 0 ∷ sub digits ∷ act 6 ∷ sub spaces ∷ sub axis ∷ []) (did 0 ∷ ((taken_all w ++ did 6 ∷ []) ++ es)) (ap (on_part axes) k)
+          ((taken_all w ++ did 6 ∷ []) ++ es, refl, (taken_all w, did 6 ∷ es, append_assoc (taken_all w) (did 6 ∷ []) es, built-digits w d.2, (es, refl, m)));
+    }
+
+pushed : (n : ℕ) (ns : List ℕ) (f : Fields) → pushes ns (pushes (n ∷ []) f) ≡ pushes (n ∷ ns) f
+pushed n ns f = ap (λ x. record f { shape = x }) (append_assoc f.shape (n ∷ []) ns)
+
+built-close : (p : HPart) → on_part p 5 ≡ Some [] → Built p (41 ∷ []) (pushes [])
+built-close p h = record { events = took 41 ∷ []; derives = derives-on-part p 41 [] [] (ap (on_part p) end-kind ∙ h) refl; does = does-close 41 [] refl refl }
+
+-- what stands behind a number, given the axes
+built-axis : (ns r : List ℕ) → ((r' : List ℕ) → AreAxes ns r' → Built axes r' (pushes ns))
+    → ((ns ≡ []) × (r ≡ 41 ∷ [])) ⊎ ((s' r' : List ℕ) × AreSpaces s' × (r ≡ 44 ∷ (s' ++ r')) × AreAxes ns r') → Built axis r (pushes ns)
+built-axis ns r ih (inl e) = subst (λ x. Built axis r (pushes x)) (sym e.0) (subst (λ x. Built axis x (pushes [])) (sym e.1) (built-close axis refl))
+built-axis ns r ih (inr h) =
+    let x = ih h.1 h.4 in
+    let b : Built axis (44 ∷ (h.0 ++ h.1)) (pushes ns) = record {
+      events = took 44 ∷ (taken_all h.0 ++ x.events);
+      derives = derives-on-part axis 44 (sub spaces ∷ sub axes ∷ []) (taken_all h.0 ++ x.events) (ap (on_part axis) comma-kind) (taken_all h.0, x.events, refl, built-spaces h.0 h.2, just axes x.events x.derives);
+      does = does-took 44 (taken_all h.0 ++ x.events) (h.0 ++ h.1) (pushes ns) (does-append (taken_all h.0) x.events h.0 h.1 same (pushes ns) (does-all h.0) x.does);
+    } in
+    subst (λ y. Built axis y (pushes ns)) (sym h.3) b
+
+built-axes : (ns w : List ℕ) → AreAxes ns w → Built axes w (pushes ns)
+built-axes [] w h = subst (λ x. Built axes x (pushes [])) (sym h) (built-close axes refl)
+built-axes (n ∷ ns) w h =
+    let x = built-number n h.0 h.3 in
+    let a = built-axis ns h.2 (λ r' k. built-axes ns r' k) h.6 in
+    let da = does-append (taken_all h.1) a.events h.1 h.2 same (pushes ns) (does-all h.1) a.does in
+    let b : Built axes (h.0 ++ (h.1 ++ h.2)) (pushes (n ∷ ns)) = record {
+      events = x.events ++ (taken_all h.1 ++ a.events);
+      derives = x.later (taken_all h.1 ++ a.events) (taken_all h.1, a.events, refl, built-spaces h.1 h.4, just axis a.events a.derives);
+      does = does-other (x.events ++ (taken_all h.1 ++ a.events)) (h.0 ++ (h.1 ++ h.2)) (λ f. pushes ns (pushes (n ∷ []) f)) (pushes (n ∷ ns)) (pushed n ns)
+          (does-append x.events (taken_all h.1 ++ a.events) h.0 (h.1 ++ h.2) (pushes (n ∷ [])) (pushes ns) x.does da);
+    } in
+    subst (λ y. Built axes y (pushes (n ∷ ns))) (sym h.5) b
+
+-- ---- values
+
+quoted-rule : (q : Quote) → on_part descr_value (kind_of (quote_byte q)) ≡ Some (act 1 ∷ sub (string q) ∷ act 2 ∷ letter (quote_kind q) ∷ [])
+quoted-rule single = ap (on_part descr_value) (kind-quote single)
+quoted-rule double = ap (on_part descr_value) (kind-quote double)
+
+built-descr : (t w : List ℕ) → IsValue (descr t) w → Built descr_value w (with_entry (descr t))
+built-descr t w h =
+    let b : Built descr_value (quote_byte h.0 ∷ (t ++ quote_byte h.0 ∷ [])) (with_entry (descr t)) = record {
+      events = took (quote_byte h.0) ∷ did 1 ∷ (taken_all t ++ did 2 ∷ took (quote_byte h.0) ∷ []);
+      derives = derives-on-part descr_value (quote_byte h.0) (act 1 ∷ sub (string h.0) ∷ act 2 ∷ letter (quote_kind h.0) ∷ []) (did 1 ∷ (taken_all t ++ did 2 ∷ took (quote_byte h.0) ∷ [])) (quoted-rule h.0)
+          (taken_all t ++ did 2 ∷ took (quote_byte h.0) ∷ [], refl, (taken_all t, did 2 ∷ took (quote_byte h.0) ∷ [], refl, built-string h.0 t h.1, (took (quote_byte h.0) ∷ [], refl, (quote_byte h.0, [], refl, kind-quote h.0, refl))));
+      does = does-descr (quote_byte h.0) (quote_byte h.0) (taken_all t) t (text-all t);
+    } in
+    subst (λ y. Built descr_value y (with_entry (descr t))) (sym h.2) b
+
+built-fortran : (b : Bool) (w : List ℕ) → IsValue (fortran b) w → Built fortran_value w (with_entry (fortran b))
+built-fortran true w h = subst (λ y. Built fortran_value y (with_entry (fortran true))) (sym h) (record {
+  events = took 84 ∷ (taken_all (114 ∷ 117 ∷ 101 ∷ []) ++ did 3 ∷ []);
+  derives = derives-on-part fortran_value 84 (letters (14 ∷ 24 ∷ 11 ∷ []) (act 3 ∷ [])) (taken_all (114 ∷ 117 ∷ 101 ∷ []) ++ did 3 ∷ []) (ap (on_part fortran_value) t-kind)
+      (spelled (14 ∷ 24 ∷ 11 ∷ []) (114 ∷ 117 ∷ 101 ∷ []) (act 3 ∷ []) (did 3 ∷ []) true-spelled ([], refl, refl));
+  does = does-bool true 3 (bool_text true) (λ st. refl);
+})
+built-fortran false w h = subst (λ y. Built fortran_value y (with_entry (fortran false))) (sym h) (record {
+  events = took 70 ∷ (taken_all (97 ∷ 108 ∷ 115 ∷ 101 ∷ []) ++ did 4 ∷ []);
+  derives = derives-on-part fortran_value 70 (letters (18 ∷ 26 ∷ 12 ∷ 11 ∷ []) (act 4 ∷ [])) (taken_all (97 ∷ 108 ∷ 115 ∷ 101 ∷ []) ++ did 4 ∷ []) (ap (on_part fortran_value) f-kind)
+      (spelled (18 ∷ 26 ∷ 12 ∷ 11 ∷ []) (97 ∷ 108 ∷ 115 ∷ 101 ∷ []) (act 4 ∷ []) (did 4 ∷ []) false-spelled ([], refl, refl));
+  does = does-bool false 4 (bool_text false) (λ st. refl);
+})
+
+-- a parenthesis, spaces and a tuple
+open-tuple : (ns s w : List ℕ) → AreSpaces s → Built tuple w (pushes ns) → Built shape_value (40 ∷ (s ++ w)) (with_entry (shape ns))
+open-tuple ns s w a x =
+    let d = does-append (taken_all s) x.events s w same (pushes ns) (does-all s) x.does in
+    record {
+      events = took 40 ∷ did 5 ∷ (taken_all s ++ x.events);
+      derives = derives-on-part shape_value 40 (act 5 ∷ sub spaces ∷ sub tuple ∷ []) (did 5 ∷ (taken_all s ++ x.events)) (ap (on_part shape_value) paren-kind)
+          (taken_all s ++ x.events, refl, (taken_all s, x.events, refl, built-spaces s a, just tuple x.events x.derives));
+      does = record { words = ap (λ y. 40 ∷ y) d.words; effect = λ st. d.effect (after_action 5 (after_byte 40 st)) };
+    }
+
+built-shape : (ns w : List ℕ) → IsValue (shape ns) w → Built shape_value w (with_entry (shape ns))
+built-shape [] w h = subst (λ y. Built shape_value y (with_entry (shape []))) (sym h.2) (open-tuple [] h.0 (41 ∷ []) h.1 (built-close tuple refl))
+built-shape (n ∷ ns) w (s, d, s', s'', r, sp0, num, sp1, sp2, ax, e) =
+    let x = built-number n d num in
+    let a = built-axes ns r ax in
+    let tailev : List Event = taken_all s'' ++ a.events in
+    let d2 = does-append (taken_all s'') a.events s'' r same (pushes ns) (does-all s'') a.does in
+    let d1 = does-append (taken_all s') (took 44 ∷ tailev) s' (44 ∷ (s'' ++ r)) same (pushes ns) (does-all s') (does-took 44 tailev (s'' ++ r) (pushes ns) d2) in
+    let b : Built tuple (d ++ (s' ++ 44 ∷ (s'' ++ r))) (pushes (n ∷ ns)) = record {
+      events = x.events ++ (taken_all s' ++ took 44 ∷ tailev);
+      derives = x.first (taken_all s' ++ took 44 ∷ tailev) (taken_all s', took 44 ∷ tailev, refl, built-spaces s' sp1, (44, tailev, refl, comma-kind, (taken_all s'', a.events, refl, built-spaces s'' sp2, just axes a.events a.derives)));
+      does = does-other (x.events ++ (taken_all s' ++ took 44 ∷ tailev)) (d ++ (s' ++ 44 ∷ (s'' ++ r))) (λ f. pushes ns (pushes (n ∷ []) f)) (pushes (n ∷ ns)) (pushed n ns)
+          (does-append x.events (taken_all s' ++ took 44 ∷ tailev) d (s' ++ 44 ∷ (s'' ++ r)) (pushes (n ∷ [])) (pushes ns) x.does d1);
+    } in
+    subst (λ y. Built shape_value y (with_entry (shape (n ∷ ns)))) (sym e) (open-tuple (n ∷ ns) s (d ++ (s' ++ 44 ∷ (s'' ++ r))) sp0 b)
+
+-- ---- items
+
+items-rule : (d f s : Bool) (q : Quote) → (d || (f || s)) ≡ true → on_part (items d f s) (kind_of (quote_byte q)) ≡ Some (sub (key d f s q) ∷ [])
+items-rule d f s q h = by q ∙ ap (λ c. cond c (Some (sub (key d f s q) ∷ [])) None) h
+  where
+    by : (q : Quote) → on_part (items d f s) (kind_of (quote_byte q)) ≡ cond (d || (f || s)) (Some (sub (key d f s q) ∷ [])) None
+    by single = ap (on_part (items d f s)) (kind-quote single)
+    by double = ap (on_part (items d f s)) (kind-quote double)
+
+descr-rule : (d f s : Bool) (q : Quote) → d ≡ true → on_part (key d f s q) 10 ≡ Some (item_rest descr_rest q descr_value (more false f s))
+descr-rule true f s q h = refl
+descr-rule false f s q h = cc
+
+fortran-rule : (d f s : Bool) (q : Quote) → f ≡ true → on_part (key d f s q) 15 ≡ Some (item_rest fortran_rest q fortran_value (more d false s))
+fortran-rule true true s q h = refl
+fortran-rule false true s q h = refl
+fortran-rule d false s q h = cc
+
+shape-rule : (d f s : Bool) (q : Quote) → s ≡ true → on_part (key d f s q) 12 ≡ Some (item_rest shape_rest q shape_value (more d f false))
+shape-rule true true true q h = refl
+shape-rule true false true q h = refl
+shape-rule false true true q h = refl
+shape-rule false false true q h = refl
+shape-rule d f false q h = cc
+
+some-key : (d f s : Bool) (e : Entry) → has (keys d f s) e ≡ true → (d || (f || s)) ≡ true
+some-key true f s e h = refl
+some-key false true s e h = refl
+some-key false false true e h = refl
+some-key false false false (descr t) h = h
+some-key false false false (fortran b) h = h
+some-key false false false (shape ns) h = h
+
+-- a key, a value and what follows
+build-item : (d f s : Bool) (q : Quote) (e : Entry) (others : List Entry) (b k : ℕ) (rest ks before after v behind more' : List ℕ) (value then : HPart)
+    → (d || (f || s)) ≡ true → key_text e ≡ b ∷ rest → kind_of b ≡ k → on_part (key d f s q) k ≡ Some (item_rest ks q value then) → Spelled ks rest
+    → AreSpaces before → AreSpaces after → AreSpaces behind → Built value v (with_entry e) → Built then more' (with_entries others)
+    → Built (items d f s) ((quote_byte q ∷ (key_text e ++ quote_byte q ∷ (before ++ 58 ∷ (after ++ v)))) ++ (behind ++ more')) (with_entries (e ∷ others))
+build-item d f s q e others b k rest ks before after v behind more' value then some is kd rule sp ab aa ah x y =
+    let e3 : List Event = taken_all behind ++ y.events in
+    let e2 : List Event = taken_all after ++ (x.events ++ e3) in
+    let e1 : List Event = taken_all before ++ took 58 ∷ e2 in
+    let e0 : List Event = taken_all rest ++ took (quote_byte q) ∷ e1 in
+    let w3 : List ℕ = behind ++ more' in
+    let w2 : List ℕ = after ++ (v ++ w3) in
+    let w1 : List ℕ = before ++ 58 ∷ w2 in
+    let g : Fields → Fields = with_entries (e ∷ others) in
+    let m : MeansAs DerivesPart (item_rest ks q value then) e0 =
+    spelled ks rest _ (took (quote_byte q) ∷ e1) sp (
+      quote_byte q,
+      e1,
+      refl,
+      kind-quote q,
+      (
+        taken_all before,
+        took 58 ∷ e2,
+        refl,
+        built-spaces before ab,
+        (
+          58,
+          e2,
+          refl,
+          colon-kind,
+          (
+            taken_all after,
+            x.events ++ e3,
+            refl,
+            built-spaces after aa,
+            (x.events, e3, refl, x.derives, (taken_all behind, y.events, refl, built-spaces behind ah, just then y.events y.derives)),
+          ),
+        ),
+      ),
+    ) in
+    let d3 = does-append (taken_all behind) y.events behind more' same (with_entries others) (does-all behind) y.does in
+    let dv = does-append x.events e3 v w3 (with_entry e) (with_entries others) x.does d3 in
+    let d2 = does-append (taken_all after) (x.events ++ e3) after (v ++ w3) same g (does-all after) dv in
+    let d1 = does-append (taken_all before) (took 58 ∷ e2) before (58 ∷ w2) same g (does-all before) (does-took 58 e2 w2 g d2) in
+    let d0 = does-append (taken_all rest) (took (quote_byte q) ∷ e1) rest (quote_byte q ∷ w1) same g (does-all rest) (does-took (quote_byte q) e1 w1 g d1) in
+    let dk = does-took (quote_byte q) (took b ∷ e0) (b ∷ (rest ++ quote_byte q ∷ w1)) g (does-took b e0 (rest ++ quote_byte q ∷ w1) g d0) in
+    let text : quote_byte q ∷ (b ∷ (rest ++ quote_byte q ∷ w1)) ≡ (quote_byte q ∷ (key_text e ++ quote_byte q ∷ (before ++ 58 ∷ (after ++ v)))) ++ (behind ++ more') =
+    ap (λ z. quote_byte q ∷ (z ++ quote_byte q ∷ w1)) (sym is) ∙ item-assoc (quote_byte q) (key_text e) before after v w3 in
+    record {
+      events = took (quote_byte q) ∷ took b ∷ e0;
+      derives = derives-on-part (items d f s) (quote_byte q) (sub (key d f s q) ∷ []) (took b ∷ e0) (items-rule d f s q some)
+          (just (key d f s q) (took b ∷ e0) (derives-on-part (key d f s q) b (item_rest ks q value then) e0 (ap (on_part (key d f s q)) kd ∙ rule) m));
+      does = subst (λ z. Does (took (quote_byte q) ∷ took b ∷ e0) z g) text dk;
+    }
+
+-- an item, given what follows it for the keys that are then left
+built-items : (d f s : Bool) (e : Entry) (others : List Entry) (i behind more' : List ℕ) → has (keys d f s) e ≡ true → IsItem e i → AreSpaces behind
+    → ((d' f' s' : Bool) → without (keys d f s) e ≡ keys d' f' s' → Built (more d' f' s') more' (with_entries others)) → Built (items d f s) (i ++ (behind ++ more')) (with_entries (e ∷ others))
+built-items d f s (descr t) others i behind more' h x ah rest =
+    subst (λ y. Built (items d f s) (y ++ (behind ++ more')) (with_entries (descr t ∷ others))) (sym x.text)
+    (build-item d f s x.quote (descr t) others 100 10 (101 ∷ 115 ∷ 99 ∷ 114 ∷ []) descr_rest x.before x.after x.value behind more' descr_value (more false f s)
+    (some-key d f s (descr t) h) refl d-kind (descr-rule d f s x.quote h) descr-spelled x.before_ok x.after_ok ah (built-descr t x.value x.value_ok) (rest false f s refl))
+built-items d f s (fortran b) others i behind more' h x ah rest =
+    subst (λ y. Built (items d f s) (y ++ (behind ++ more')) (with_entries (fortran b ∷ others))) (sym x.text)
+    (build-item d f s x.quote (fortran b) others 102 15 (111 ∷ 114 ∷ 116 ∷ 114 ∷ 97 ∷ 110 ∷ 95 ∷ 111 ∷ 114 ∷ 100 ∷ 101 ∷ 114 ∷ []) fortran_rest x.before x.after x.value behind more' fortran_value (more d false s)
+    (some-key d f s (fortran b) h) refl o-kind (fortran-rule d f s x.quote h) fortran-spelled x.before_ok x.after_ok ah (built-fortran b x.value x.value_ok) (rest d false s refl))
+built-items d f s (shape ns) others i behind more' h x ah rest =
+    subst (λ y. Built (items d f s) (y ++ (behind ++ more')) (with_entries (shape ns ∷ others))) (sym x.text)
+    (build-item d f s x.quote (shape ns) others 115 12 (104 ∷ 97 ∷ 112 ∷ 101 ∷ []) shape_rest x.before x.after x.value behind more' shape_value (more d f false)
+    (some-key d f s (shape ns) h) refl s-kind (shape-rule d f s x.quote h) shape-spelled x.before_ok x.after_ok ah (built-shape ns x.value x.value_ok) (rest d f false refl))
+
+no-key : (d f s : Bool) → keys d f s ≡ keys false false false → (d || (f || s)) ≡ false
+no-key d f s e = ap (λ (k : Keys). k.descr || (k.fortran || k.shape)) e
+
+more-rule : (d f s c : Bool) → (d || (f || s)) ≡ c → on_part (more d f s) (kind_of 44) ≡ Some (sub spaces ∷ cond c (sub (items d f s) ∷ []) [])
+more-rule d f s c e = ap (on_part (more d f s)) comma-kind ∙ ap (λ x. Some (sub spaces ∷ cond x (sub (items d f s) ∷ []) [])) e
+
+built-more : (others : List Entry) (d f s : Bool) (w : List ℕ) → EachOnce (keys d f s) others → AreMore others w → Built (more d f s) w (with_entries others)
+built-more [] d f s w once (inl e) =
+    let is : other_part (more d f s) ≡ Some [] = ap (λ c. cond c None (Some [])) (no-key d f s once) in
+    subst (λ y. Built (more d f s) y same) (sym e) (record { events = []; derives = derives-other-part (more d f s) [] [] is refl; does = does-nothing })
+built-more [] d f s w once (inr h) =
+    subst (λ y. Built (more d f s) y same) (sym h.2) (record {
+      events = took 44 ∷ taken_all h.0;
+      derives = derives-on-part (more d f s) 44 (sub spaces ∷ []) (taken_all h.0) (more-rule d f s false (no-key d f s once)) (just spaces (taken_all h.0) (built-spaces h.0 h.1));
+      does = does-took 44 (taken_all h.0) h.0 same (does-all h.0);
+    })
+built-more (e ∷ others) d f s w once (s1, i, s2, r, as1, item, as2, more', text) =
+    let x = built-items d f s e others i s2 r once.0 item as2 (λ d' f' s' is. built-more others d' f' s' r (subst (λ k. EachOnce k others) is once.1) more') in
+    let b : Built (more d f s) (44 ∷ (s1 ++ (i ++ (s2 ++ r)))) (with_entries (e ∷ others)) = record {
+      events = took 44 ∷ (taken_all s1 ++ x.events);
+      derives = derives-on-part (more d f s) 44 (sub spaces ∷ sub (items d f s) ∷ []) (taken_all s1 ++ x.events) (more-rule d f s true (some-key d f s e once.0))
+          (taken_all s1, x.events, refl, built-spaces s1 as1, just (items d f s) x.events x.derives);
+      does = does-took 44 (taken_all s1 ++ x.events) (s1 ++ (i ++ (s2 ++ r))) (with_entries (e ∷ others)) (does-append (taken_all s1) x.events s1 (i ++ (s2 ++ r)) same (with_entries (e ∷ others)) (does-all s1) x.does);
+    } in
+    subst (λ y. Built (more d f s) y (with_entries (e ∷ others))) (sym text) b
+
+-- ---- the whole
+
+pub record BuiltHeader (w : List ℕ) (f : Fields) : Type 0 where
+  pub events : List Event
+  pub derives : DerivesPart start events
+  pub words : tokens events ≡ w
+  pub fields : fields_of (after_events events fresh) ≡ f
+
+pub built-header : (w : List ℕ) (f : Fields) → IsHeader w f → BuiltHeader w f
+built-header w f h =
+    let x = built-items true true true h.first h.others h.item h.behind h.more h.each_once.0 h.item_ok h.behind_ok
+    (λ d' f' s' is. built-more h.others d' f' s' h.more (subst (λ k. EachOnce k h.others) is h.each_once.1) h.more_ok) in
+    let z : List ℕ = h.padding ++ 10 ∷ [] in
+    let g : Fields → Fields = with_entries (h.first ∷ h.others) in
+    let dz = does-took 125 (taken_all z) z same (does-all z) in
+    let di = does-append x.events (took 125 ∷ taken_all z) (h.item ++ (h.behind ++ h.more)) (125 ∷ z) g same x.does dz in
+    let ds = does-took 123 (taken_all h.spaces ++ (x.events ++ took 125 ∷ taken_all z)) (h.spaces ++ ((h.item ++ (h.behind ++ h.more)) ++ 125 ∷ z)) g
+    (does-append (taken_all h.spaces) (x.events ++ took 125 ∷ taken_all z) h.spaces ((h.item ++ (h.behind ++ h.more)) ++ 125 ∷ z) same g (does-all h.spaces) di) in
+    record {
+      events = took 123 ∷ (taken_all h.spaces ++ (x.events ++ took 125 ∷ taken_all z));
+      derives = derives-on-part start 123 (sub spaces ∷ sub (items true true true) ∷ letter 3 ∷ sub tail ∷ []) (taken_all h.spaces ++ (x.events ++ took 125 ∷ taken_all z)) (ap (on_part start) open-kind)
+          (taken_all h.spaces, x.events ++ took 125 ∷ taken_all z, refl, built-spaces h.spaces h.spaces_ok, (x.events, took 125 ∷ taken_all z, refl, x.derives, (125, taken_all z, refl, close-kind, just tail (taken_all z) (built-tail h.padding h.padding_ok))));
+      words = ds.words ∙ (ap (λ y. 123 ∷ (h.spaces ++ y)) (join h.item h.behind h.more (125 ∷ z)) ∙ sym h.text);
+      fields = ds.effect fresh ∙ sym h.fields;
+    }
+  where
+    join : (x y z w : List ℕ) → (x ++ (y ++ z)) ++ w ≡ x ++ (y ++ (z ++ w))
+    join x y z w = append_assoc x (y ++ z) w ∙ ap (λ v. x ++ v) (append_assoc y z w)

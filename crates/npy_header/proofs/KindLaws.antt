@@ -1,0 +1,253 @@
+-- Which bytes have a kind.
+use Rattle.std.proofs.Common.{◌≡◌, ◌≢◌, ℕ, zero, suc, ◌<◌, ◌≤◌, ◌+◌, Bool, true, false, ◌||◌, ◌&&◌, not, cond, nat_eq, nat_le, nat_lt, List, [], ◌∷◌, ◌++◌, ◌⊎◌, inl, inr, length, get_or, Some, None, refl, ap, sym, subst, ◌∙◌, arith}
+use Rattle.std.specs.Prelude.{Option, slice_get}
+use Rattle.std.specs.List.{list_all}
+use Rattle.std.proofs.lemmas.Option.{slice_get-get_or}
+use Rattle.grammar.specs.Tables.{all_at}
+use Rattle.grammar.proofs.Checked.{all_at-first}
+use Rattle.npy_header.specs.declared.rows.TheConstants.{KIND_OF_BYTE}
+use Rattle.npy_header.specs.Headers.{Quote, single, double, quote_byte, IsDigit, IsInside}
+use Rattle.npy_header.specs.Kinds.{singles, kind_of_rest, kind_from, kind_of}
+use Rattle.npy_header.specs.Typed.{quote_kind, may_stand_in}
+
+both : (a b : Bool) → (a && b) ≡ true → (a ≡ true) × (b ≡ true)
+both true b h = (refl, h)
+both false b h = cc
+
+same-number : (j k : ℕ) → nat_eq j k ≡ true → j ≡ k
+same-number j k h = grind arith
+
+not-same : (j k : ℕ) → nat_eq j k ≡ false → j ≢ k
+not-same j k h e = grind arith
+
+test-apart : (j k : ℕ) → j ≢ k → nat_eq j k ≡ false
+test-apart j k h = grind arith
+
+le-test : (j k : ℕ) → nat_le j k ≡ true → j ≤ k
+le-test j k h = grind arith
+
+test-le : (j k : ℕ) → j ≤ k → nat_le j k ≡ true
+test-le j k h = grind arith
+
+lt-test : (j k : ℕ) → nat_lt j k ≡ true → j < k
+lt-test j k h = grind arith
+
+-- what the test of a byte without a kind of its own says
+record Rest (b k : ℕ) : Type 0 where
+  least : 28 ≤ k
+  most : k ≤ 30
+  digit : k ≡ 28 → (49 ≤ b) × (b ≤ 57)
+  text : k ≡ 29 → (32 ≤ b) × (b ≤ 126) × (b ≢ 92)
+
+rest-is : (b : ℕ) → Rest b (kind_of_rest b)
+rest-is b = by (nat_le 49 b && nat_le b 57) ((nat_le 32 b && nat_le b 126) && not (nat_eq b 92)) refl refl
+  where
+    not-92 : (c : Bool) → nat_eq b 92 ≡ c → not c ≡ true → b ≢ 92
+    not-92 true e h = cc
+    not-92 false e h = not-same b 92 e
+
+    by : (x y : Bool) → (nat_le 49 b && nat_le b 57) ≡ x → ((nat_le 32 b && nat_le b 126) && not (nat_eq b 92)) ≡ y → Rest b (cond x 28 (cond y 29 30))
+    by true y e f = record {
+      least = omega arith;
+      most = omega arith;
+      digit = λ _. let q = both (nat_le 49 b) (nat_le b 57) e in (le-test 49 b q.0, le-test b 57 q.1);
+      text = λ h. absurd (omega arith);
+    }
+    by false true e f = record {
+      least = omega arith;
+      most = omega arith;
+      digit = λ h. absurd (omega arith);
+      text = λ _. let q = both (nat_le 32 b && nat_le b 126) (not (nat_eq b 92)) f in let r = both (nat_le 32 b) (nat_le b 126) q.0 in (le-test 32 b r.0, le-test b 126 r.1, not-92 (nat_eq b 92) refl q.1);
+    }
+    by false false e f = record { least = omega arith; most = omega arith; digit = λ h. absurd (omega arith); text = λ h. absurd (omega arith) }
+
+-- a byte among those that have a kind of their own, or none of them
+abbrev Found : ℕ → List ℕ → ℕ → ℕ → Type 0
+Found b xs i k = ((j : ℕ) × (k ≡ i + j) × (slice_get xs j ≡ Some b)) ⊎ (k ≡ kind_of_rest b)
+
+found : (b : ℕ) (xs : List ℕ) (i : ℕ) → Found b xs i (kind_from b xs i)
+found b [] i = inr refl
+found b (x ∷ xs) i = by (nat_eq b x) refl (found b xs (i + 1))
+  where
+    next : Found b xs (i + 1) (kind_from b xs (i + 1)) → Found b (x ∷ xs) i (kind_from b xs (i + 1))
+    next (inl a) = inl (suc a.0, omega (arith, a.1), a.2)
+    next (inr e) = inr e
+
+    by : (c : Bool) → nat_eq b x ≡ c → Found b xs (i + 1) (kind_from b xs (i + 1)) → Found b (x ∷ xs) i (cond c i (kind_from b xs (i + 1)))
+    by true e f = inl (0, omega arith, ap Some (sym (same-number b x e)))
+    by false e f = next f
+
+got-below : (xs : List ℕ) (j b : ℕ) → slice_get xs j ≡ Some b → j < length xs
+got-below [] j b h = cc
+got-below (x ∷ xs) zero b h = omega arith
+got-below (x ∷ xs) (suc j) b h = omega (arith, got-below xs j b h)
+
+-- a byte and its kind
+pub record Kind (b k : ℕ) : Type 0 where
+  pub single_byte : k < 28 → slice_get singles k ≡ Some b
+  pub another_digit : k ≡ 28 → (49 ≤ b) × (b ≤ 57)
+  pub other_text : k ≡ 29 → (32 ≤ b) × (b ≤ 126) × (b ≢ 92)
+  pub most : k ≤ 30
+
+pub kind-is : (b : ℕ) → Kind b (kind_of b)
+unfolding kind_of
+kind-is b = by (kind_from b singles 0) (found b singles 0)
+  where
+    count : length singles ≡ 28
+    count = refl
+
+    by : (k : ℕ) → Found b singles 0 k → Kind b k
+    by k (inl a) =
+        let at : a.0 ≡ k = omega (arith, a.1) in
+        let lt = got-below singles a.0 b a.2 in
+        record {
+          single_byte = λ _. subst (λ j. slice_get singles j ≡ Some b) at a.2;
+          another_digit = λ h. absurd (omega (arith, lt, count));
+          other_text = λ h. absurd (omega (arith, lt, count));
+          most = omega (arith, lt, count);
+        }
+    by k (inr e) =
+        let r = rest-is b in
+        record {
+          single_byte = λ h. absurd (omega (arith, r.least));
+          another_digit = λ h. r.digit (sym e ∙ h);
+          other_text = λ h. r.text (sym e ∙ h);
+          most = omega (arith, r.most);
+        }
+
+pub kind-below : (b : ℕ) → kind_of b < 31
+kind-below b = omega (arith, (kind-is b).most)
+
+-- a byte of a kind that one byte alone has
+pub one-byte : (t k b : ℕ) → kind_of t ≡ k → k < 28 → slice_get singles k ≡ Some b → t ≡ b
+one-byte t k b e h g =
+    let x : slice_get singles (kind_of t) ≡ Some t = (kind-is t).single_byte (omega (arith, e)) in
+    let y : slice_get singles k ≡ Some t = subst (λ j. slice_get singles j ≡ Some t) e x in
+    same (slice_get singles k) t b y g
+  where
+    same : (o : Option ℕ) (a b : ℕ) → o ≡ Some a → o ≡ Some b → a ≡ b
+    same o a b x y = cc
+
+pub quote-byte : (q : Quote) (t : ℕ) → kind_of t ≡ quote_kind q → t ≡ quote_byte q
+quote-byte single t e = one-byte t 8 39 e (omega arith) refl
+quote-byte double t e = one-byte t 9 34 e (omega arith) refl
+
+pub kind-quote : (q : Quote) → kind_of (quote_byte q) ≡ quote_kind q
+unfolding kind_of
+kind-quote single = refl
+kind-quote double = refl
+
+pub zero-digit : (t : ℕ) → kind_of t ≡ 27 → t ≡ 48
+zero-digit t e = one-byte t 27 48 e (omega arith) refl
+
+pub digit-from : (t : ℕ) → kind_of t ≡ 28 → IsDigit t × (t ≢ 48)
+digit-from t e = let d = (kind-is t).another_digit e in (record { low = omega (arith, d.0); high = d.1 }, λ z. omega (arith, d.0, z))
+
+-- ---- digits and bytes within quotes have the kinds that stand for them
+
+outside : ℕ → ℕ → ℕ → Bool
+outside lo hi x = nat_lt x lo || nat_lt hi x
+
+outside-apart : (lo hi x b : ℕ) → outside lo hi x ≡ true → lo ≤ b → b ≤ hi → b ≢ x
+unfolding outside
+outside-apart lo hi x b h l u e = grind arith
+
+kind-apart : (lo hi b : ℕ) (xs : List ℕ) (i : ℕ) → list_all (outside lo hi) xs ≡ true → lo ≤ b → b ≤ hi → kind_from b xs i ≡ kind_of_rest b
+kind-apart lo hi b [] i h l u = refl
+kind-apart lo hi b (x ∷ xs) i h l u =
+    let e = both (outside lo hi x) (list_all (outside lo hi) xs) h in
+    let a : nat_eq b x ≡ false = test-apart b x (outside-apart lo hi x b e.0 l u) in
+    rw a (kind-apart lo hi b xs (i + 1) e.1 l u)
+
+pub digit-kind : (b : ℕ) → IsDigit b → b ≢ 48 → kind_of b ≡ 28
+unfolding kind_of outside
+digit-kind b d z =
+    let lo : 49 ≤ b = omega (arith, d.low, z) in
+    let a : kind_from b singles 0 ≡ kind_of_rest b = kind-apart 49 57 b singles 0 refl lo d.high in
+    let t : (nat_le 49 b && nat_le b 57) ≡ true = rw (test-le 49 b lo, test-le b 57 d.high) refl in
+    a ∙ ap (λ c. cond c 28 (cond ((nat_le 32 b && nat_le b 126) && not (nat_eq b 92)) 29 30)) t
+
+rest-inside : (b : ℕ) → 32 ≤ b → b ≤ 126 → b ≢ 92 → kind_of_rest b < 30
+rest-inside b l u n =
+    let t : ((nat_le 32 b && nat_le b 126) && not (nat_eq b 92)) ≡ true = rw (test-le 32 b l, test-le b 126 u, test-apart b 92 n) refl in
+    by (nat_le 49 b && nat_le b 57) ((nat_le 32 b && nat_le b 126) && not (nat_eq b 92)) t
+  where
+    by : (x y : Bool) → y ≡ true → cond x 28 (cond y 29 30) < 30
+    by true y e = omega arith
+    by false true e = omega arith
+    by false false e = cc
+
+pub inside-kind : (q : Quote) (b : ℕ) → IsInside q b → may_stand_in q (kind_of b) ≡ true
+unfolding kind_of
+inside-kind q b i = tests (kind_of b) below no-newline no-quote
+  where
+    below : kind_of b < 30
+    below = by (kind_of b) (found b singles 0)
+      where
+        by : (k : ℕ) → Found b singles 0 k → k < 30
+        by k (inl a) = let c : length singles ≡ 28 = refl in omega (arith, a.1, got-below singles a.0 b a.2, c)
+        by k (inr e) = omega (arith, e, rest-inside b i.low i.high i.no_backslash)
+
+    no-newline : kind_of b ≢ 1
+    no-newline e = omega (arith, one-byte b 1 10 e (omega arith) refl, i.low)
+
+    no-quote : kind_of b ≢ quote_kind q
+    no-quote e = i.no_quote (quote-byte q b e)
+
+    less : (k n : ℕ) → k < n → nat_lt k n ≡ true
+    less k n h = grind arith
+
+    tests : (k : ℕ) → k < 30 → k ≢ 1 → k ≢ quote_kind q → may_stand_in q k ≡ true
+    tests k h n m = rw (less k 30 h, test-apart k 1 n, test-apart k (quote_kind q) m) refl
+
+pub kind-inside : (q : Quote) (b : ℕ) → may_stand_in q (kind_of b) ≡ true → IsInside q b
+kind-inside q b h =
+    let e = both (nat_lt (kind_of b) 30) (not (nat_eq (kind_of b) 1) && not (nat_eq (kind_of b) (quote_kind q))) h in
+    let f = both (not (nat_eq (kind_of b) 1)) (not (nat_eq (kind_of b) (quote_kind q))) e.1 in
+    let r = range (kind_of b) (kind-is b) (lt-test (kind_of b) 30 e.0) (differ (kind_of b) 1 (nat_eq (kind_of b) 1) refl f.0) in
+    record {
+      low = r.0;
+      high = r.1;
+      no_quote = λ x. differ (kind_of b) (quote_kind q) (nat_eq (kind_of b) (quote_kind q)) refl f.1 (ap kind_of x ∙ kind-quote q);
+      no_backslash = r.2;
+    }
+  where
+    differ : (j k : ℕ) (c : Bool) → nat_eq j k ≡ c → not c ≡ true → j ≢ k
+    differ j k true e h = cc
+    differ j k false e h = not-same j k e
+
+    by-test : (k : ℕ) → k ≢ 1 → (nat_eq k 1 || ((nat_le 32 b && nat_le b 126) && not (nat_eq b 92))) ≡ true → (32 ≤ b) × (b ≤ 126) × (b ≢ 92)
+    by-test k ne h =
+        let z : nat_eq k 1 ≡ false = test-apart k 1 ne in
+        let t : ((nat_le 32 b && nat_le b 126) && not (nat_eq b 92)) ≡ true = subst (λ c. (c || ((nat_le 32 b && nat_le b 126) && not (nat_eq b 92))) ≡ true) z h in
+        let x = both (nat_le 32 b && nat_le b 126) (not (nat_eq b 92)) t in
+        let y = both (nat_le 32 b) (nat_le b 126) x.0 in
+        (le-test 32 b y.0, le-test b 126 y.1, differ b 92 (nat_eq b 92) refl x.1)
+
+    all-inside : all_at (λ i x. nat_eq i 1 || ((nat_le 32 x && nat_le x 126) && not (nat_eq x 92))) 0 singles ≡ true
+    all-inside = refl
+
+    range : (k : ℕ) → Kind b k → k < 30 → k ≢ 1 → (32 ≤ b) × (b ≤ 126) × (b ≢ 92)
+    range k i lt ne =
+        elim (nat_lt k 28) as (λ c. nat_lt k 28 ≡ c → (32 ≤ b) × (b ≤ 126) × (b ≢ 92)) [
+          | true ↦ λ e. by-test k ne (all_at-first (λ i x. nat_eq i 1 || ((nat_le 32 x && nat_le x 126) && not (nat_eq x 92))) singles k b all-inside (i.single_byte (lt-test k 28 e)))
+          | false ↦ λ e. elim (nat_eq k 28) as (λ c. nat_eq k 28 ≡ c → (32 ≤ b) × (b ≤ 126) × (b ≢ 92)) [
+            | true ↦ λ f. let d = i.another_digit (same-number k 28 f) in (omega (arith, d.0), omega (arith, d.1), λ x. omega (arith, d.1, x))
+            | false ↦ λ f. i.other_text (last k e f lt)
+          ] refl
+        ] refl
+      where
+        last : (k : ℕ) → nat_lt k 28 ≡ false → nat_eq k 28 ≡ false → k < 30 → k ≡ 29
+        last k a b c = grind arith
+
+-- ---- the table of kinds
+
+kinds-checked : all_at (λ b k. nat_eq k (kind_of b)) 0 KIND_OF_BYTE ≡ true
+unfolding kind_of
+kinds-checked = refl
+
+kinds_count : length KIND_OF_BYTE ≡ 256
+kinds_count = refl
+
+pub kind-table : (b : ℕ) → b < 256 → get_or KIND_OF_BYTE b 0 ≡ kind_of b
+kind-table b h = same-number (get_or KIND_OF_BYTE b 0) (kind_of b) (all_at-first (λ b k. nat_eq k (kind_of b)) KIND_OF_BYTE b (get_or KIND_OF_BYTE b 0) kinds-checked (slice_get-get_or KIND_OF_BYTE b 0 (omega (arith, kinds_count))))

@@ -1,0 +1,536 @@
+-- What the rows derive is a header, with the fields that its events leave.
+use Rattle.std.proofs.Common.{◌≡◌, ◌≢◌, ℕ, zero, suc, ◌<◌, ◌≤◌, ◌+◌, ◌-◌, ◌*◌, Bool, true, false, ◌||◌, ◌&&◌, not, cond, nat_eq, List, [], ◌∷◌, ◌++◌, ◌⊎◌, inl, inr, Some, None, refl, ap, sym, subst, ◌∙◌, arith, append_assoc, append-nil}
+use Rattle.std.specs.Prelude.{Option, slice_get}
+use Rattle.grammar.specs.Grammars.{Event, took, did, tokens, DerivesIn, Derives}
+use Rattle.npy_header.specs.Headers.{Fields, Quote, single, double, quote_byte, AllBytes, AreSpaces, IsInside, IsDigit, decimal, IsNumber, Entry, descr, fortran, shape, key_text, bool_text, AreAxes, IsTuple, IsValue, IsItem, AreMore, Keys, has, without, EachOnce, with_entry, with_entries, IsHeader}
+use Rattle.npy_header.specs.Kinds.{singles, kind_of}
+use Rattle.npy_header.specs.Scans.{Scan, fresh, fields_of, after_byte, after_action, after_events}
+use Rattle.npy_header.specs.Typed.{HPart, start, tail, spaces, descr_value, fortran_value, shape_value, string, tuple, axes, axis, digits, items, key, more, HSym, letter, sub, act, quote_kind, may_stand_in, letters, descr_rest, fortran_rest, shape_rest, item_rest, if_kind, on_items, on_key, on_more, on_part, other_part}
+use Rattle.npy_header.proofs.KindLaws.{one-byte, quote-byte, zero-digit, digit-from, kind-inside}
+use Rattle.npy_header.proofs.Meaning.{MeansAs, IsClosed}
+use Rattle.npy_header.proofs.Effects.{Does, does-nothing, does-took, does-append, does-same, does-all, does-descr, does-number, DoesText, text-nothing, text-took, DoesDigits, digits-nothing, digits-took, pushes, taken_all, events-append}
+use Rattle.npy_header.proofs.Meanings.{same, keys, TailMeans, SpacesMean, StringMeans, DigitsMean, ValueMeans, NumbersMean, NumberMeans, AfterOpen, AfterNumber, ItemsMean, MoreMeans, M}
+
+-- ---- which rule it is
+
+if-kind : (j k : ℕ) (r rule : List HSym) (others : Option (List HSym)) → if_kind j k r others ≡ Some rule → ((k ≡ j) × (r ≡ rule)) ⊎ (others ≡ Some rule)
+if-kind j k r rule others h = by (nat_eq k j) refl h
+  where
+    equal : (k j : ℕ) → nat_eq k j ≡ true → k ≡ j
+    equal k j e = grind arith
+
+    by : (c : Bool) → nat_eq k j ≡ c → cond c (Some r) others ≡ Some rule → ((k ≡ j) × (r ≡ rule)) ⊎ (others ≡ Some rule)
+    by true e h = inl (equal k j e, cc)
+    by false e h = inr h
+
+if-true : (c : Bool) (r rule : List HSym) (others : Option (List HSym)) → cond c (Some r) others ≡ Some rule → ((c ≡ true) × (r ≡ rule)) ⊎ (others ≡ Some rule)
+if-true true r rule others h = inl (refl, cc)
+if-true false r rule others h = inr h
+
+both : (a b : Bool) → (a && b) ≡ true → (a ≡ true) × (b ≡ true)
+both true b h = (refl, h)
+both false b h = cc
+
+none-some : (rule : List HSym) → None ≡ Some rule → ⊥
+none-some rule h = cc
+
+-- ---- pieces
+
+-- the last part's events are all
+last : (p : HPart) (es : List Event) → MeansAs M (sub p ∷ []) es → M p es
+last p es h = subst (M p) (sym (h.2 ∙ (ap (λ x. h.0 ++ x) h.4 ∙ append-nil h.0))) h.3
+
+does-byte : (t b : ℕ) (es : List Event) (w : List ℕ) (f : Fields → Fields) → t ≡ b → Does es w f → Does (took t ∷ es) (b ∷ w) f
+does-byte t b es w f e d = subst (λ x. Does (took t ∷ es) (x ∷ w) f) e (does-took t es w f d)
+
+pub does-other : (es : List Event) (w : List ℕ) (f g : Fields → Fields) → ((x : Fields) → f x ≡ g x) → Does es w f → Does es w g
+does-other es w f g e d = record { words = d.words; effect = λ st. d.effect st ∙ e (fields_of st) }
+
+-- a word in letters of their own
+abbrev Spells : List ℕ → List ℕ → Type 0
+Spells [] [] = Unit {0}
+Spells [] (b ∷ bs) = ⊥
+Spells (k ∷ ks) [] = ⊥
+Spells (k ∷ ks) (b ∷ bs) = (k < 28) × (slice_get singles k ≡ Some b) × Spells ks bs
+
+spelled : (ks bs : List ℕ) (s : List HSym) (es : List Event) → Spells ks bs → MeansAs M (letters ks s) es → (more : List Event) × (es ≡ taken_all bs ++ more) × MeansAs M s more
+spelled [] [] s es p h = (es, refl, h)
+spelled [] (b ∷ bs) s es p h = absurd p
+spelled (k ∷ ks) [] s es p h = absurd p
+spelled (k ∷ ks) (b ∷ bs) s es p h =
+    let r = spelled ks bs s h.1 p.2 h.4 in
+    let e : h.0 ≡ b = one-byte h.0 k b h.3 p.0 p.1 in
+    (r.0, h.2 ∙ (ap (λ x. took x ∷ h.1) e ∙ ap (λ x. took b ∷ x) r.1), r.2)
+
+-- ---- spaces, strings, digits, the tail
+
+on-spaces : (t : ℕ) (rule : List HSym) (es : List Event) → on_part spaces (kind_of t) ≡ Some rule → MeansAs M rule es → M spaces (took t ∷ es)
+on-spaces t rule es h m = elim (if-kind 0 (kind_of t) (sub spaces ∷ []) rule None h) [
+  | inl a ↦ let r = last spaces es (subst (λ x. MeansAs M x es) (sym a.1) m) in
+      let b : t ≡ 32 = one-byte t 0 32 a.0 (omega arith) refl in
+      record { words = t ∷ r.words; ok = (b, r.ok); does = does-took t es r.words same r.does }
+  | inr n ↦ absurd (none-some rule n)
+]
+
+spaces-none : (es : List Event) → es ≡ [] → M spaces es
+spaces-none es e = record { words = []; ok = tt; does = subst (λ x. Does x [] same) (sym e) does-nothing }
+
+on-tail : (t : ℕ) (rule : List HSym) (es : List Event) → on_part tail (kind_of t) ≡ Some rule → MeansAs M rule es → M tail (took t ∷ es)
+on-tail t rule es h m = elim (if-kind 0 (kind_of t) (sub tail ∷ []) rule (if_kind 1 (kind_of t) [] None) h) [
+  | inl a ↦ let r = last tail es (subst (λ x. MeansAs M x es) (sym a.1) m) in
+      let b : t ≡ 32 = one-byte t 0 32 a.0 (omega arith) refl in
+      record { padding = t ∷ r.padding; ok = (b, r.ok); does = does-took t es (r.padding ++ 10 ∷ []) same r.does }
+  | inr n ↦ elim (if-kind 1 (kind_of t) [] rule None n) [
+    | inl a ↦ let e : es ≡ [] = subst (λ x. MeansAs M x es) (sym a.1) m in
+        let b : t ≡ 10 = one-byte t 1 10 a.0 (omega arith) refl in
+        record { padding = []; ok = tt; does = does-byte t 10 es [] same b (subst (λ x. Does x [] same) (sym e) does-nothing) }
+    | inr o ↦ absurd (none-some rule o)
+  ]
+]
+
+on-string : (q : Quote) (t : ℕ) (rule : List HSym) (es : List Event) → on_part (string q) (kind_of t) ≡ Some rule → MeansAs M rule es → M (string q) (took t ∷ es)
+on-string q t rule es h m = elim (if-true (may_stand_in q (kind_of t)) (sub (string q) ∷ []) rule None h) [
+  | inl a ↦ let r = last (string q) es (subst (λ x. MeansAs M x es) (sym a.1) m) in
+      record { words = t ∷ r.words; ok = (kind-inside q t a.0, r.ok); does = text-took t es r.words r.does }
+  | inr n ↦ absurd (none-some rule n)
+]
+
+string-none : (q : Quote) (es : List Event) → es ≡ [] → M (string q) es
+string-none q es e = record { words = []; ok = tt; does = subst (λ x. DoesText x []) (sym e) text-nothing }
+
+either : (a b : Bool) → (a || b) ≡ true → (a ≡ true) ⊎ (b ≡ true)
+either true b h = inl refl
+either false b h = inr h
+
+equal : (k j : ℕ) → nat_eq k j ≡ true → k ≡ j
+equal k j e = grind arith
+
+on-digits : (t : ℕ) (rule : List HSym) (es : List Event) → on_part digits (kind_of t) ≡ Some rule → MeansAs M rule es → M digits (took t ∷ es)
+on-digits t rule es h m = elim (if-true (nat_eq (kind_of t) 27 || nat_eq (kind_of t) 28) (sub digits ∷ []) rule None h) [
+  | inl a ↦ let r = last digits es (subst (λ x. MeansAs M x es) (sym a.1) m) in
+      record { words = t ∷ r.words; ok = (is-digit (either (nat_eq (kind_of t) 27) (nat_eq (kind_of t) 28) a.0), r.ok); does = digits-took t es r.words r.does }
+  | inr n ↦ absurd (none-some rule n)
+]
+  where
+    is-digit : (nat_eq (kind_of t) 27 ≡ true) ⊎ (nat_eq (kind_of t) 28 ≡ true) → IsDigit t
+    is-digit (inl z) = let e : t ≡ 48 = zero-digit t (equal (kind_of t) 27 z) in record { low = omega (arith, e); high = omega (arith, e) }
+    is-digit (inr d) = (digit-from t (equal (kind_of t) 28 d)).0
+
+digits-none : (es : List Event) → es ≡ [] → M digits es
+digits-none es e = record { words = []; ok = tt; does = subst (λ x. DoesDigits x []) (sym e) digits-nothing }
+
+-- ---- numbers
+
+zero-number : (t : ℕ) → kind_of t ≡ 27 → NumberMeans (took t ∷ did 0 ∷ did 6 ∷ [])
+zero-number t e =
+    let z : t ≡ 48 = zero-digit t e in
+    record { n = decimal (t - 48) []; words = t ∷ []; ok = inl (z, refl, omega (arith, z)); does = does-number t [] [] digits-nothing }
+
+digits-number : (t : ℕ) (es : List Event) → kind_of t ≡ 28 → M digits es → NumberMeans (took t ∷ did 0 ∷ (es ++ did 6 ∷ []))
+digits-number t es e d =
+    let g = digit-from t e in
+    let v : t - 48 ≡ 10 * 0 + (t - 48) = omega arith in
+    record { n = decimal (t - 48) d.words; words = t ∷ d.words; ok = inr (g.0, g.1, d.ok, ap (λ x. decimal x d.words) v); does = does-number t es d.words d.does }
+
+-- a number and what stands behind it
+push-more : (n : ℕ) (ns : List ℕ) (f : Fields) → pushes ns (pushes (n ∷ []) f) ≡ pushes (n ∷ ns) f
+push-more n ns f = ap (λ x. record f { shape = x }) (append_assoc f.shape (n ∷ []) ns)
+
+pub after-number : (num es : List Event) (x : NumberMeans num) (w ns : List ℕ) → Does es w (pushes ns) → Does (num ++ es) (x.words ++ w) (pushes (x.n ∷ ns))
+after-number num es x w ns d = does-other (num ++ es) (x.words ++ w) (λ f. pushes ns (pushes (x.n ∷ []) f)) (pushes (x.n ∷ ns)) (push-more x.n ns) (does-append num es x.words w (pushes (x.n ∷ [])) (pushes ns) x.does d)
+
+first-axis : (num es : List Event) → NumberMeans num → MeansAs M (sub spaces ∷ letter 7 ∷ sub spaces ∷ sub axes ∷ []) es → M tuple (num ++ es)
+first-axis num es x h =
+    let m = h.4 in
+    let k = m.4 in
+    let a = last axes k.1 k.4 in
+    let comma : m.0 ≡ 44 = one-byte m.0 7 44 m.3 (omega arith) refl in
+    let whole : es ≡ h.0 ++ (took m.0 ∷ (k.0 ++ k.1)) = h.2 ∙ ap (λ y. h.0 ++ y) (m.2 ∙ ap (λ y. took m.0 ∷ y) k.2) in
+    let d = does-append h.0 (took m.0 ∷ (k.0 ++ k.1)) h.3.words (44 ∷ (k.3.words ++ a.words)) same (pushes a.numbers) h.3.does
+    (does-byte m.0 44 (k.0 ++ k.1) (k.3.words ++ a.words) (pushes a.numbers) comma (does-append k.0 k.1 k.3.words a.words same (pushes a.numbers) k.3.does a.does)) in
+    record {
+      numbers = x.n ∷ a.numbers;
+      words = x.words ++ (h.3.words ++ 44 ∷ (k.3.words ++ a.words));
+      ok = (x.words, h.3.words, k.3.words, a.words, x.ok, h.3.ok, k.3.ok, a.ok, refl);
+      does = after-number num es x (h.3.words ++ 44 ∷ (k.3.words ++ a.words)) a.numbers (subst (λ y. Does y (h.3.words ++ 44 ∷ (k.3.words ++ a.words)) (pushes a.numbers)) (sym whole) d);
+    }
+
+later-axis : (num es : List Event) → NumberMeans num → MeansAs M (sub spaces ∷ sub axis ∷ []) es → M axes (num ++ es)
+later-axis num es x h =
+    let a = last axis h.1 h.4 in
+    record {
+      numbers = x.n ∷ a.numbers;
+      words = x.words ++ (h.3.words ++ a.words);
+      ok = (x.words, h.3.words, a.words, x.ok, h.3.ok, refl, a.ok);
+      does = after-number num es x (h.3.words ++ a.words) a.numbers (subst (λ y. Does y (h.3.words ++ a.words) (pushes a.numbers)) (sym h.2) (does-append h.0 h.1 h.3.words a.words same (pushes a.numbers) h.3.does a.does));
+    }
+
+pub push-none : (f : Fields) → f ≡ pushes [] f
+push-none f = ap (λ x. record f { shape = x }) (sym (append-nil f.shape))
+
+pub does-close : (t : ℕ) (es : List Event) → t ≡ 41 → es ≡ [] → Does (took t ∷ es) (41 ∷ []) (pushes [])
+does-close t es b e = does-other (took t ∷ es) (41 ∷ []) same (pushes []) push-none (does-byte t 41 es [] same b (subst (λ x. Does x [] same) (sym e) does-nothing))
+
+on-tuple : (t : ℕ) (rule : List HSym) (es : List Event) → on_part tuple (kind_of t) ≡ Some rule → MeansAs M rule es → M tuple (took t ∷ es)
+on-tuple t rule es h m = elim (if-kind 5 (kind_of t) [] rule _ h) [
+  | inl a ↦ let e : es ≡ [] = subst (λ x. MeansAs M x es) (sym a.1) m in
+      let b : t ≡ 41 = one-byte t 5 41 a.0 (omega arith) refl in
+      record { numbers = []; words = 41 ∷ []; ok = refl; does = does-close t es b e }
+  | inr n ↦ elim (if-kind 27 (kind_of t) (act 0 ∷ act 6 ∷ sub spaces ∷ letter 7 ∷ sub spaces ∷ sub axes ∷ []) rule _ n) [
+    | inl a ↦ let p = subst (λ x. MeansAs M x es) (sym a.1) m in
+        let whole : es ≡ did 0 ∷ did 6 ∷ p.2.0 = p.1 ∙ ap (λ y. did 0 ∷ y) p.2.1 in
+        subst (λ y. M tuple (took t ∷ y)) (sym whole) (first-axis (took t ∷ did 0 ∷ did 6 ∷ []) p.2.0 (zero-number t a.0) p.2.2)
+    | inr o ↦ elim (if-kind 28 (kind_of t) (act 0 ∷ sub digits ∷ act 6 ∷ sub spaces ∷ letter 7 ∷ sub spaces ∷ sub axes ∷ []) rule None o) [
+      | inl a ↦ let p = subst (λ x. MeansAs M x es) (sym a.1) m in
+          let whole : es ≡ did 0 ∷ ((p.2.0 ++ did 6 ∷ []) ++ p.2.4.0) = p.1 ∙ ap (λ y. did 0 ∷ y) (p.2.2 ∙ (ap (λ y. p.2.0 ++ y) p.2.4.1 ∙ sym (append_assoc p.2.0 (did 6 ∷ []) p.2.4.0))) in
+          subst (λ y. M tuple (took t ∷ y)) (sym whole) (first-axis (took t ∷ did 0 ∷ (p.2.0 ++ did 6 ∷ [])) p.2.4.0 (digits-number t p.2.0 a.0 p.2.3) p.2.4.2)
+      | inr x ↦ absurd (none-some rule x)
+    ]
+  ]
+]
+
+on-axes : (t : ℕ) (rule : List HSym) (es : List Event) → on_part axes (kind_of t) ≡ Some rule → MeansAs M rule es → M axes (took t ∷ es)
+on-axes t rule es h m = elim (if-kind 5 (kind_of t) [] rule _ h) [
+  | inl a ↦ let e : es ≡ [] = subst (λ x. MeansAs M x es) (sym a.1) m in
+      let b : t ≡ 41 = one-byte t 5 41 a.0 (omega arith) refl in
+      record { numbers = []; words = 41 ∷ []; ok = refl; does = does-close t es b e }
+  | inr n ↦ elim (if-kind 27 (kind_of t) (act 0 ∷ act 6 ∷ sub spaces ∷ sub axis ∷ []) rule _ n) [
+    | inl a ↦ let p = subst (λ x. MeansAs M x es) (sym a.1) m in
+        let whole : es ≡ did 0 ∷ did 6 ∷ p.2.0 = p.1 ∙ ap (λ y. did 0 ∷ y) p.2.1 in
+        subst (λ y. M axes (took t ∷ y)) (sym whole) (later-axis (took t ∷ did 0 ∷ did 6 ∷ []) p.2.0 (zero-number t a.0) p.2.2)
+    | inr o ↦ elim (if-kind 28 (kind_of t) (act 0 ∷ sub digits ∷ act 6 ∷ sub spaces ∷ sub axis ∷ []) rule None o) [
+      | inl a ↦ let p = subst (λ x. MeansAs M x es) (sym a.1) m in
+          let whole : es ≡ did 0 ∷ ((p.2.0 ++ did 6 ∷ []) ++ p.2.4.0) = p.1 ∙ ap (λ y. did 0 ∷ y) (p.2.2 ∙ (ap (λ y. p.2.0 ++ y) p.2.4.1 ∙ sym (append_assoc p.2.0 (did 6 ∷ []) p.2.4.0))) in
+          subst (λ y. M axes (took t ∷ y)) (sym whole) (later-axis (took t ∷ did 0 ∷ (p.2.0 ++ did 6 ∷ [])) p.2.4.0 (digits-number t p.2.0 a.0 p.2.3) p.2.4.2)
+      | inr x ↦ absurd (none-some rule x)
+    ]
+  ]
+]
+
+on-axis : (t : ℕ) (rule : List HSym) (es : List Event) → on_part axis (kind_of t) ≡ Some rule → MeansAs M rule es → M axis (took t ∷ es)
+on-axis t rule es h m = elim (if-kind 7 (kind_of t) (sub spaces ∷ sub axes ∷ []) rule _ h) [
+  | inl a ↦ let p = subst (λ x. MeansAs M x es) (sym a.1) m in
+      let x = last axes p.1 p.4 in
+      let comma : t ≡ 44 = one-byte t 7 44 a.0 (omega arith) refl in
+      record {
+        numbers = x.numbers;
+        words = 44 ∷ (p.3.words ++ x.words);
+        ok = inr (p.3.words, x.words, p.3.ok, refl, x.ok);
+        does = does-byte t 44 es (p.3.words ++ x.words) (pushes x.numbers) comma (subst (λ y. Does y (p.3.words ++ x.words) (pushes x.numbers)) (sym p.2) (does-append p.0 p.1 p.3.words x.words same (pushes x.numbers) p.3.does x.does));
+      }
+  | inr n ↦ elim (if-kind 5 (kind_of t) [] rule None n) [
+    | inl a ↦ let e : es ≡ [] = subst (λ x. MeansAs M x es) (sym a.1) m in
+        let b : t ≡ 41 = one-byte t 5 41 a.0 (omega arith) refl in
+        record { numbers = []; words = 41 ∷ []; ok = inl (refl, refl); does = does-close t es b e }
+    | inr o ↦ absurd (none-some rule o)
+  ]
+]
+
+-- ---- values
+
+quoted : (q : Quote) (t : ℕ) (es : List Event) → t ≡ quote_byte q → MeansAs M (act 1 ∷ sub (string q) ∷ act 2 ∷ letter (quote_kind q) ∷ []) es → M descr_value (took t ∷ es)
+quoted q t es b p =
+    let s = p.2 in
+    let c = s.4 in
+    let e = c.2 in
+    let close : e.0 ≡ quote_byte q = quote-byte q e.0 e.3 in
+    let whole : es ≡ did 1 ∷ (s.0 ++ did 2 ∷ took e.0 ∷ []) = p.1 ∙ ap (λ y. did 1 ∷ y) (s.2 ∙ ap (λ y. s.0 ++ y) (c.1 ∙ ap (λ y. did 2 ∷ y) (e.2 ∙ ap (λ y. took e.0 ∷ y) e.4))) in
+    let d = does-descr t e.0 s.0 s.3.words s.3.does in
+    record {
+      value = s.3.words;
+      words = t ∷ (s.3.words ++ e.0 ∷ []);
+      ok = (q, s.3.ok, ap (λ x. x ∷ (s.3.words ++ e.0 ∷ [])) b ∙ ap (λ x. quote_byte q ∷ (s.3.words ++ x ∷ [])) close);
+      does = subst (λ y. Does (took t ∷ y) (t ∷ (s.3.words ++ e.0 ∷ [])) (with_entry (descr s.3.words))) (sym whole) d;
+    }
+
+on-descr_value : (t : ℕ) (rule : List HSym) (es : List Event) → on_part descr_value (kind_of t) ≡ Some rule → MeansAs M rule es → M descr_value (took t ∷ es)
+on-descr_value t rule es h m = elim (if-kind 8 (kind_of t) (act 1 ∷ sub (string single) ∷ act 2 ∷ letter 8 ∷ []) rule _ h) [
+  | inl a ↦ quoted single t es (quote-byte single t a.0) (subst (λ x. MeansAs M x es) (sym a.1) m)
+  | inr n ↦ elim (if-kind 9 (kind_of t) (act 1 ∷ sub (string double) ∷ act 2 ∷ letter 9 ∷ []) rule None n) [
+    | inl a ↦ quoted double t es (quote-byte double t a.0) (subst (λ x. MeansAs M x es) (sym a.1) m)
+    | inr o ↦ absurd (none-some rule o)
+  ]
+]
+
+-- a word and the action that tells it
+pub does-bool : (b : Bool) (a : ℕ) (w : List ℕ) → ((st : Scan) → fields_of (after_action a st) ≡ with_entry (fortran b) (fields_of st)) → Does (taken_all w ++ did a ∷ []) w (with_entry (fortran b))
+does-bool b a w e =
+    let d : Does (did a ∷ []) [] (with_entry (fortran b)) = record { words = refl; effect = λ st. e st } in
+    subst (λ x. Does (taken_all w ++ did a ∷ []) x (with_entry (fortran b))) (append-nil w) (does-append (taken_all w) (did a ∷ []) w [] same (with_entry (fortran b)) (does-all w) d)
+
+on-fortran_value : (t : ℕ) (rule : List HSym) (es : List Event) → on_part fortran_value (kind_of t) ≡ Some rule → MeansAs M rule es → M fortran_value (took t ∷ es)
+on-fortran_value t rule es h m = elim (if-kind 23 (kind_of t) (letters (14 ∷ 24 ∷ 11 ∷ []) (act 3 ∷ [])) rule _ h) [
+  | inl a ↦ let p = spelled (14 ∷ 24 ∷ 11 ∷ []) (114 ∷ 117 ∷ 101 ∷ []) (act 3 ∷ []) es (omega arith, refl, (omega arith, refl, (omega arith, refl, tt))) (subst (λ x. MeansAs M x es) (sym a.1) m) in
+      let b : t ≡ 84 = one-byte t 23 84 a.0 (omega arith) refl in
+      let whole : took t ∷ es ≡ taken_all (bool_text true) ++ did 3 ∷ [] = ap (λ x. took x ∷ es) b ∙ ap (λ x. took 84 ∷ x) (p.1 ∙ ap (λ y. taken_all (114 ∷ 117 ∷ 101 ∷ []) ++ y) (p.2.1 ∙ ap (λ y. did 3 ∷ y) p.2.2)) in
+      record { value = true; words = bool_text true; ok = refl; does = subst (λ y. Does y (bool_text true) (with_entry (fortran true))) (sym whole) (does-bool true 3 (bool_text true) (λ st. refl)) }
+  | inr n ↦ elim (if-kind 25 (kind_of t) (letters (18 ∷ 26 ∷ 12 ∷ 11 ∷ []) (act 4 ∷ [])) rule None n) [
+    | inl a ↦ let p = spelled (18 ∷ 26 ∷ 12 ∷ 11 ∷ []) (97 ∷ 108 ∷ 115 ∷ 101 ∷ []) (act 4 ∷ []) es (omega arith, refl, (omega arith, refl, (omega arith, refl, (omega arith, refl, tt)))) (subst (λ x. MeansAs M x es) (sym a.1) m) in
+        let b : t ≡ 70 = one-byte t 25 70 a.0 (omega arith) refl in
+        let whole : took t ∷ es ≡ taken_all (bool_text false) ++ did 4 ∷ [] = ap (λ x. took x ∷ es) b ∙ ap (λ x. took 70 ∷ x) (p.1 ∙ ap (λ y. taken_all (97 ∷ 108 ∷ 115 ∷ 101 ∷ []) ++ y) (p.2.1 ∙ ap (λ y. did 4 ∷ y) p.2.2)) in
+        record { value = false; words = bool_text false; ok = refl; does = subst (λ y. Does y (bool_text false) (with_entry (fortran false))) (sym whole) (does-bool false 4 (bool_text false) (λ st. refl)) }
+    | inr o ↦ absurd (none-some rule o)
+  ]
+]
+
+tuple-text : (ns s w : List ℕ) → AreSpaces s → AfterOpen ns w → IsTuple ns (40 ∷ (s ++ w))
+tuple-text [] s w a h = (s, a, ap (λ x. 40 ∷ (s ++ x)) h)
+tuple-text (n ∷ ns) s w a h = (s, h.0, h.1, h.2, h.3, a, h.4, h.5, h.6, h.7, ap (λ x. 40 ∷ (s ++ x)) h.8)
+
+on-shape_value : (t : ℕ) (rule : List HSym) (es : List Event) → on_part shape_value (kind_of t) ≡ Some rule → MeansAs M rule es → M shape_value (took t ∷ es)
+on-shape_value t rule es h m = elim (if-kind 4 (kind_of t) (act 5 ∷ sub spaces ∷ sub tuple ∷ []) rule None h) [
+  | inl a ↦ let p = subst (λ x. MeansAs M x es) (sym a.1) m in
+      let s = p.2 in
+      let x = last tuple s.1 s.4 in
+      let b : t ≡ 40 = one-byte t 4 40 a.0 (omega arith) refl in
+      let d = does-append s.0 s.1 s.3.words x.words same (pushes x.numbers) s.3.does x.does in
+      let e : Does (took 40 ∷ did 5 ∷ (s.0 ++ s.1)) (40 ∷ (s.3.words ++ x.words)) (with_entry (shape x.numbers)) = record {
+        words = ap (λ y. 40 ∷ y) d.words;
+        effect = λ st. d.effect (after_action 5 (after_byte 40 st));
+      } in
+      let whole : took t ∷ es ≡ took 40 ∷ did 5 ∷ (s.0 ++ s.1) = ap (λ y. took y ∷ es) b ∙ ap (λ y. took 40 ∷ y) (p.1 ∙ ap (λ y. did 5 ∷ y) s.2) in
+      record {
+        value = x.numbers;
+        words = 40 ∷ (s.3.words ++ x.words);
+        ok = tuple-text x.numbers s.3.words x.words s.3.ok x.ok;
+        does = subst (λ y. Does y (40 ∷ (s.3.words ++ x.words)) (with_entry (shape x.numbers))) (sym whole) e;
+      }
+  | inr n ↦ absurd (none-some rule n)
+]
+
+-- ---- items
+
+-- a value whose key begins with this byte, and what may follow it
+record Valued (k : Keys) (b : ℕ) (rest : List ℕ) (then : HPart) (es : List Event) : Type 0 where
+  entry : Entry
+  words : List ℕ
+  key_is : key_text entry ≡ b ∷ rest
+  has_it : has k entry ≡ true
+  ok : IsValue entry words
+  does : Does es words (with_entry entry)
+  then_is : (x : List Event) → M then x → MoreMeans (without k entry) x
+
+pub item-assoc : (q : ℕ) (name s1 s2 v w : List ℕ) → q ∷ (name ++ q ∷ (s1 ++ 58 ∷ (s2 ++ (v ++ w)))) ≡ (q ∷ (name ++ q ∷ (s1 ++ 58 ∷ (s2 ++ v)))) ++ w
+item-assoc q name s1 s2 v w =
+    ap (λ x. q ∷ x) (
+    ap (λ x. name ++ q ∷ x) (ap (λ x. s1 ++ 58 ∷ x) (sym (append_assoc s2 v w)) ∙ sym (append_assoc s1 (58 ∷ (s2 ++ v)) w))
+    ∙ sym (append_assoc name (q ∷ (s1 ++ 58 ∷ (s2 ++ v))) w)
+    )
+
+key-means : (q : Quote) (k : Keys) (b : ℕ) (rest ks : List ℕ) (value then : HPart) (t : ℕ) (es : List Event) → t ≡ b → Spells ks rest → ((x : List Event) → M value x → Valued k b rest then x)
+    → MeansAs M (item_rest ks q value then) es → ItemsMean k (quote_byte q ∷ []) (took t ∷ es)
+key-means q k b rest ks value then t es e sp get h =
+    let l = spelled ks rest (letter (quote_kind q) ∷ sub spaces ∷ letter 6 ∷ sub spaces ∷ sub value ∷ sub spaces ∷ sub then ∷ []) es sp h in
+    let cl = l.2 in
+    let s1 = cl.4 in
+    let co = s1.4 in
+    let s2 = co.4 in
+    let va = s2.4 in
+    let s3 = va.4 in
+    let v = get va.0 va.3 in
+    let r = v.then_is s3.1 (last then s3.1 s3.4) in
+    let close : cl.0 ≡ quote_byte q = quote-byte q cl.0 cl.3 in
+    let colon : co.0 ≡ 58 = one-byte co.0 6 58 co.3 (omega arith) refl in
+    let w3 : List ℕ = s3.3.words ++ r.words in
+    let d3 = does-append s3.0 s3.1 s3.3.words r.words same (with_entries r.others) s3.3.does r.does in
+    let dv = does-append va.0 (s3.0 ++ s3.1) v.words w3 (with_entry v.entry) (with_entries r.others) v.does d3 in
+    let d2 = does-append s2.0 (va.0 ++ (s3.0 ++ s3.1)) s2.3.words (v.words ++ w3) same (with_entries (v.entry ∷ r.others)) s2.3.does dv in
+    let dc = does-byte co.0 58 (s2.0 ++ (va.0 ++ (s3.0 ++ s3.1))) (s2.3.words ++ (v.words ++ w3)) (with_entries (v.entry ∷ r.others)) colon d2 in
+    let d1 = does-append s1.0 (took co.0 ∷ (s2.0 ++ (va.0 ++ (s3.0 ++ s3.1)))) s1.3.words (58 ∷ (s2.3.words ++ (v.words ++ w3))) same (with_entries (v.entry ∷ r.others)) s1.3.does dc in
+    let dq = does-byte cl.0 (quote_byte q) (s1.0 ++ took co.0 ∷ (s2.0 ++ (va.0 ++ (s3.0 ++ s3.1)))) (s1.3.words ++ 58 ∷ (s2.3.words ++ (v.words ++ w3))) (with_entries (v.entry ∷ r.others)) close d1 in
+    let dl = does-append (taken_all rest) (took cl.0 ∷ (s1.0 ++ took co.0 ∷ (s2.0 ++ (va.0 ++ (s3.0 ++ s3.1))))) rest (quote_byte q ∷ (s1.3.words ++ 58 ∷ (s2.3.words ++ (v.words ++ w3)))) same (with_entries (v.entry ∷ r.others)) (does-all rest) dq in
+    let whole : es ≡ taken_all rest ++ (took cl.0 ∷ (s1.0 ++ took co.0 ∷ (s2.0 ++ (va.0 ++ (s3.0 ++ s3.1))))) =
+    l.1 ∙ ap (λ y. taken_all rest ++ y) (cl.2 ∙ ap (λ y. took cl.0 ∷ y) (s1.2 ∙ ap (λ y. s1.0 ++ y) (co.2 ∙ ap (λ y. took co.0 ∷ y) (s2.2 ∙ ap (λ y. s2.0 ++ y) (va.2 ∙ ap (λ y. va.0 ++ y) s3.2))))) in
+    let words : List ℕ = b ∷ (rest ++ quote_byte q ∷ (s1.3.words ++ 58 ∷ (s2.3.words ++ (v.words ++ w3)))) in
+    record {
+      first = v.entry;
+      others = r.others;
+      item = quote_byte q ∷ (key_text v.entry ++ quote_byte q ∷ (s1.3.words ++ 58 ∷ (s2.3.words ++ v.words)));
+      behind = s3.3.words;
+      rest = r.words;
+      words = words;
+      each_once = (v.has_it, r.each_once);
+      item_ok = record { quote = q; before = s1.3.words; after = s2.3.words; value = v.words; before_ok = s1.3.ok; after_ok = s2.3.ok; value_ok = v.ok; text = refl };
+      behind_ok = s3.3.ok;
+      rest_ok = r.ok;
+      text = ap (λ y. quote_byte q ∷ (y ++ quote_byte q ∷ (s1.3.words ++ 58 ∷ (s2.3.words ++ (v.words ++ w3))))) (sym v.key_is) ∙ item-assoc (quote_byte q) (key_text v.entry) s1.3.words s2.3.words v.words w3;
+      does = does-byte t b es (rest ++ quote_byte q ∷ (s1.3.words ++ 58 ∷ (s2.3.words ++ (v.words ++ w3)))) (with_entries (v.entry ∷ r.others)) e
+          (subst (λ y. Does y (rest ++ quote_byte q ∷ (s1.3.words ++ 58 ∷ (s2.3.words ++ (v.words ++ w3)))) (with_entries (v.entry ∷ r.others))) (sym whole) dl);
+    }
+
+on-key : (d f s : Bool) (q : Quote) (t : ℕ) (rule : List HSym) (es : List Event) → on_part (key d f s q) (kind_of t) ≡ Some rule → MeansAs M rule es → M (key d f s q) (took t ∷ es)
+on-key d f s q t rule es h m = elim (if-true (d && nat_eq (kind_of t) 10) (item_rest descr_rest q descr_value (more false f s)) rule _ h) [
+  | inl a ↦ let c = both d (nat_eq (kind_of t) 10) a.0 in
+      key-means q (keys d f s) 100 (101 ∷ 115 ∷ 99 ∷ 114 ∷ []) descr_rest descr_value (more false f s) t es (one-byte t 10 100 (equal (kind_of t) 10 c.1) (omega arith) refl)
+      (omega arith, refl, (omega arith, refl, (omega arith, refl, (omega arith, refl, tt))))
+      (λ x v. record { entry = descr v.value; words = v.words; key_is = refl; has_it = c.0; ok = v.ok; does = v.does; then_is = λ y z. z })
+      (subst (λ x. MeansAs M x es) (sym a.1) m)
+  | inr n ↦ elim (if-true (f && nat_eq (kind_of t) 15) (item_rest fortran_rest q fortran_value (more d false s)) rule _ n) [
+    | inl a ↦ let c = both f (nat_eq (kind_of t) 15) a.0 in
+        key-means q (keys d f s) 102 (111 ∷ 114 ∷ 116 ∷ 114 ∷ 97 ∷ 110 ∷ 95 ∷ 111 ∷ 114 ∷ 100 ∷ 101 ∷ 114 ∷ []) fortran_rest fortran_value (more d false s) t es (one-byte t 15 102 (equal (kind_of t) 15 c.1) (omega arith) refl)
+        (omega arith, refl, (omega arith, refl, (omega arith, refl, (omega arith, refl, (omega arith, refl, (omega arith, refl, (omega arith, refl, (omega arith, refl, (omega arith, refl, (omega arith, refl, (omega arith, refl, (omega arith, refl, tt))))))))))))
+        (λ x v. record { entry = fortran v.value; words = v.words; key_is = refl; has_it = c.0; ok = v.ok; does = v.does; then_is = λ y z. z })
+        (subst (λ x. MeansAs M x es) (sym a.1) m)
+    | inr o ↦ elim (if-true (s && nat_eq (kind_of t) 12) (item_rest shape_rest q shape_value (more d f false)) rule None o) [
+      | inl a ↦ let c = both s (nat_eq (kind_of t) 12) a.0 in
+          key-means q (keys d f s) 115 (104 ∷ 97 ∷ 112 ∷ 101 ∷ []) shape_rest shape_value (more d f false) t es (one-byte t 12 115 (equal (kind_of t) 12 c.1) (omega arith) refl)
+          (omega arith, refl, (omega arith, refl, (omega arith, refl, (omega arith, refl, tt))))
+          (λ x v. record { entry = shape v.value; words = v.words; key_is = refl; has_it = c.0; ok = v.ok; does = v.does; then_is = λ y z. z })
+          (subst (λ x. MeansAs M x es) (sym a.1) m)
+      | inr x ↦ absurd (none-some rule x)
+    ]
+  ]
+]
+
+-- the quote before a key
+open-key : (d f s : Bool) (q : Quote) (t : ℕ) (es : List Event) → t ≡ quote_byte q → M (key d f s q) es → M (items d f s) (took t ∷ es)
+open-key d f s q t es b x = record {
+  first = x.first;
+  others = x.others;
+  item = x.item;
+  behind = x.behind;
+  rest = x.rest;
+  words = quote_byte q ∷ x.words;
+  each_once = x.each_once;
+  item_ok = x.item_ok;
+  behind_ok = x.behind_ok;
+  rest_ok = x.rest_ok;
+  text = x.text;
+  does = does-byte t (quote_byte q) es x.words (with_entries (x.first ∷ x.others)) b x.does;
+}
+
+on-items : (d f s : Bool) (t : ℕ) (rule : List HSym) (es : List Event) → on_part (items d f s) (kind_of t) ≡ Some rule → MeansAs M rule es → M (items d f s) (took t ∷ es)
+on-items d f s t rule es h m = by (d || (f || s)) h
+  where
+    by : (c : Bool) → cond c (if_kind 8 (kind_of t) (sub (key d f s single) ∷ []) (if_kind 9 (kind_of t) (sub (key d f s double) ∷ []) None)) None ≡ Some rule → M (items d f s) (took t ∷ es)
+    by false h = absurd (none-some rule h)
+    by true h = elim (if-kind 8 (kind_of t) (sub (key d f s single) ∷ []) rule _ h) [
+      | inl a ↦ open-key d f s single t es (quote-byte single t a.0) (last (key d f s single) es (subst (λ x. MeansAs M x es) (sym a.1) m))
+      | inr n ↦ elim (if-kind 9 (kind_of t) (sub (key d f s double) ∷ []) rule None n) [
+        | inl a ↦ open-key d f s double t es (quote-byte double t a.0) (last (key d f s double) es (subst (λ x. MeansAs M x es) (sym a.1) m))
+        | inr o ↦ absurd (none-some rule o)
+      ]
+    ]
+
+no-keys : (d f s : Bool) → (d || (f || s)) ≡ false → keys d f s ≡ keys false false false
+no-keys true f s h = cc
+no-keys false true s h = cc
+no-keys false false true h = cc
+no-keys false false false h = refl
+
+on-more : (d f s : Bool) (t : ℕ) (rule : List HSym) (es : List Event) → on_part (more d f s) (kind_of t) ≡ Some rule → MeansAs M rule es → M (more d f s) (took t ∷ es)
+on-more d f s t rule es h m = elim (if-kind 7 (kind_of t) (sub spaces ∷ cond (d || (f || s)) (sub (items d f s) ∷ []) []) rule None h) [
+  | inl a ↦ by (d || (f || s)) refl (one-byte t 7 44 a.0 (omega arith) refl) (subst (λ x. MeansAs M x es) (sym a.1) m)
+  | inr n ↦ absurd (none-some rule n)
+]
+  where
+    by : (c : Bool) → (d || (f || s)) ≡ c → t ≡ 44 → MeansAs M (sub spaces ∷ cond c (sub (items d f s) ∷ []) []) es → M (more d f s) (took t ∷ es)
+    by true e b p =
+        let x = last (items d f s) p.1 p.4 in
+        let dd = does-append p.0 p.1 p.3.words x.words same (with_entries (x.first ∷ x.others)) p.3.does x.does in
+        record {
+          others = x.first ∷ x.others;
+          words = 44 ∷ (p.3.words ++ x.words);
+          each_once = x.each_once;
+          ok = (p.3.words, x.item, x.behind, x.rest, p.3.ok, x.item_ok, x.behind_ok, x.rest_ok, ap (λ y. 44 ∷ (p.3.words ++ y)) x.text);
+          does = does-byte t 44 es (p.3.words ++ x.words) (with_entries (x.first ∷ x.others)) b (subst (λ y. Does y (p.3.words ++ x.words) (with_entries (x.first ∷ x.others))) (sym p.2) dd);
+        }
+    by false e b p =
+        let x = last spaces es p in
+        record {
+          others = [];
+          words = 44 ∷ x.words;
+          each_once = no-keys d f s e;
+          ok = inr (x.words, x.ok, refl);
+          does = does-byte t 44 es x.words same b x.does;
+        }
+
+other-more : (d f s : Bool) (rule : List HSym) (es : List Event) → other_part (more d f s) ≡ Some rule → MeansAs M rule es → M (more d f s) es
+other-more d f s rule es h m = by (d || (f || s)) refl h
+  where
+    by : (c : Bool) → (d || (f || s)) ≡ c → cond c None (Some []) ≡ Some rule → M (more d f s) es
+    by true e h = absurd (none-some rule h)
+    by false e h =
+        let r : [] ≡ rule = cc in
+        let n : es ≡ [] = subst (λ x. MeansAs M x es) (sym r) m in
+        record { others = []; words = []; each_once = no-keys d f s e; ok = inl refl; does = subst (λ x. Does x [] same) (sym n) does-nothing }
+
+-- ---- the whole
+
+on-start : (t : ℕ) (rule : List HSym) (es : List Event) → on_part start (kind_of t) ≡ Some rule → MeansAs M rule es → M start (took t ∷ es)
+on-start t rule es h m = elim (if-kind 2 (kind_of t) (sub spaces ∷ sub (items true true true) ∷ letter 3 ∷ sub tail ∷ []) rule None h) [
+  | inl a ↦ let p = subst (λ x. MeansAs M x es) (sym a.1) m in
+      let i = p.4 in
+      let c = i.4 in
+      let z = last tail c.1 c.4 in
+      let b : t ≡ 123 = one-byte t 2 123 a.0 (omega arith) refl in
+      let close : c.0 ≡ 125 = one-byte c.0 3 125 c.3 (omega arith) refl in
+      let dc = does-byte c.0 125 c.1 (z.padding ++ 10 ∷ []) same close z.does in
+      let di = does-append i.0 (took c.0 ∷ c.1) i.3.words (125 ∷ (z.padding ++ 10 ∷ [])) (with_entries (i.3.first ∷ i.3.others)) same i.3.does dc in
+      let dp = does-append p.0 (i.0 ++ took c.0 ∷ c.1) p.3.words (i.3.words ++ 125 ∷ (z.padding ++ 10 ∷ [])) same (with_entries (i.3.first ∷ i.3.others)) p.3.does di in
+      let whole : es ≡ p.0 ++ (i.0 ++ took c.0 ∷ c.1) = p.2 ∙ ap (λ y. p.0 ++ y) (i.2 ∙ ap (λ y. i.0 ++ y) c.2) in
+      let d = does-byte t 123 es (p.3.words ++ (i.3.words ++ 125 ∷ (z.padding ++ 10 ∷ []))) (with_entries (i.3.first ∷ i.3.others)) b
+      (subst (λ y. Does y (p.3.words ++ (i.3.words ++ 125 ∷ (z.padding ++ 10 ∷ []))) (with_entries (i.3.first ∷ i.3.others))) (sym whole) dp) in
+      record {
+        first = i.3.first;
+        others = i.3.others;
+        spaces = p.3.words;
+        item = i.3.item;
+        behind = i.3.behind;
+        more = i.3.rest;
+        padding = z.padding;
+        each_once = i.3.each_once;
+        fields = d.effect fresh;
+        spaces_ok = p.3.ok;
+        item_ok = i.3.item_ok;
+        behind_ok = i.3.behind_ok;
+        more_ok = i.3.rest_ok;
+        padding_ok = z.ok;
+        text = d.words ∙ ap (λ y. 123 ∷ (p.3.words ++ y)) (ap (λ y. y ++ 125 ∷ (z.padding ++ 10 ∷ [])) i.3.text ∙ join i.3.item i.3.behind i.3.rest (125 ∷ (z.padding ++ 10 ∷ [])));
+      }
+  | inr n ↦ absurd (none-some rule n)
+]
+  where
+    join : (x y z w : List ℕ) → (x ++ (y ++ z)) ++ w ≡ x ++ (y ++ (z ++ w))
+    join x y z w = append_assoc x (y ++ z) w ∙ ap (λ v. x ++ v) (append_assoc y z w)
+
+none-rule : (p : HPart) (rule : List HSym) (es : List Event) → None ≡ Some rule → M p es
+none-rule p rule es h = absurd (none-some rule h)
+
+empty-rule : (rule : List HSym) (es : List Event) → Some [] ≡ Some rule → MeansAs M rule es → es ≡ []
+empty-rule rule es h m = let r : [] ≡ rule = cc in subst (λ x. MeansAs M x es) (sym r) m
+
+on-any : (p : HPart) (t : ℕ) (rule : List HSym) (es : List Event) → on_part p (kind_of t) ≡ Some rule → MeansAs M rule es → M p (took t ∷ es)
+on-any start t rule es h m = on-start t rule es h m
+on-any tail t rule es h m = on-tail t rule es h m
+on-any spaces t rule es h m = on-spaces t rule es h m
+on-any descr_value t rule es h m = on-descr_value t rule es h m
+on-any fortran_value t rule es h m = on-fortran_value t rule es h m
+on-any shape_value t rule es h m = on-shape_value t rule es h m
+on-any (string q) t rule es h m = on-string q t rule es h m
+on-any tuple t rule es h m = on-tuple t rule es h m
+on-any axes t rule es h m = on-axes t rule es h m
+on-any axis t rule es h m = on-axis t rule es h m
+on-any digits t rule es h m = on-digits t rule es h m
+on-any (items d f s) t rule es h m = on-items d f s t rule es h m
+on-any (key d f s q) t rule es h m = on-key d f s q t rule es h m
+on-any (more d f s) t rule es h m = on-more d f s t rule es h m
+
+other-any : (p : HPart) (rule : List HSym) (es : List Event) → other_part p ≡ Some rule → MeansAs M rule es → M p es
+other-any start rule es h m = none-rule start rule es h
+other-any tail rule es h m = none-rule tail rule es h
+other-any spaces rule es h m = spaces-none es (empty-rule rule es h m)
+other-any descr_value rule es h m = none-rule descr_value rule es h
+other-any fortran_value rule es h m = none-rule fortran_value rule es h
+other-any shape_value rule es h m = none-rule shape_value rule es h
+other-any (string q) rule es h m = string-none q es (empty-rule rule es h m)
+other-any tuple rule es h m = none-rule tuple rule es h
+other-any axes rule es h m = none-rule axes rule es h
+other-any axis rule es h m = none-rule axis rule es h
+other-any digits rule es h m = digits-none es (empty-rule rule es h m)
+other-any (items d f s) rule es h m = none-rule (items d f s) rule es h
+other-any (key d f s q) rule es h m = none-rule (key d f s q) rule es h
+other-any (more d f s) rule es h m = other-more d f s rule es h m
+
+pub closed : IsClosed M
+closed = record { on = λ p t rule es h m. on-any p t rule es h m; other = λ p rule es h m. other-any p rule es h m }

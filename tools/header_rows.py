@@ -1,0 +1,193 @@
+"""Writes the table of the grammar of .npy headers: crates/npy_header/src/rows.rt.
+
+Run it at the top of the repository: python3 tools/header_rows.py
+The rows are proved equal to specs/Typed.antt, and that to derive exactly the headers of specs/Headers.antt, so nothing here
+is trusted.
+"""
+
+import itertools
+
+KINDS = 48
+SINGLE = "".join(dict.fromkeys(" \n{}():,'\"descrfotan_hpTuFl0"))
+DIGIT, TEXT, OTHER = len(SINGLE), len(SINGLE) + 1, len(SINGLE) + 2
+PRINTABLE = [k for k in range(OTHER) if k != 1]
+FIRST, START, COPY, TRUE, FALSE, OPEN, NUMBER = range(7)
+KEYS = ("descr", "fortran_order", "shape")
+QUOTES = ("'", '"')
+
+
+def kind(char):
+    return SINGLE.index(char)
+
+
+def kind_of_byte(byte):
+    char = chr(byte)
+    if char in SINGLE:
+        return kind(char)
+    if char in "123456789":
+        return DIGIT
+    if 32 <= byte <= 126 and char != "\\":
+        return TEXT
+    return OTHER
+
+
+SETS = [tuple(k for k, b in zip(range(3), bits) if b) for bits in itertools.product((1, 0), repeat=3)]
+
+parts = ["header", "tail", "spaces", "value0", "value1", "value2", "string'", 'string"', "tuple", "axes", "axis", "digits"]
+parts += [("items", s) for s in SETS if s]
+parts += [("key", s, q) for s in SETS if s for q in QUOTES]
+parts += [("more", s) for s in SETS if len(s) < 3]
+
+
+def tok(text):
+    return [("Token", kind(c)) for c in text]
+
+
+def part(name):
+    return [("Part", parts.index(name))]
+
+
+def act(number):
+    return [("Action", number)]
+
+
+on, other = {}, {}
+
+
+def rule(name, kinds, symbols):
+    for k in kinds:
+        on[parts.index(name), k] = symbols
+
+
+sp = part("spaces")
+rule("header", [kind("{")], sp + part(("items", (0, 1, 2))) + tok("}") + part("tail"))
+rule("tail", [kind(" ")], part("tail"))
+rule("tail", [kind("\n")], [])
+rule("spaces", [kind(" ")], sp)
+other[parts.index("spaces")] = []
+for s in SETS:
+    for q in QUOTES:
+        if s:
+            rule(("items", s), [kind(q)], part(("key", s, q)))
+        for k in s:
+            rest = tuple(x for x in s if x != k)
+            value = part("value%d" % k) + sp + part(("more", rest))
+            rule(("key", s, q), [kind(KEYS[k][0])], tok(KEYS[k][1:] + q) + sp + tok(":") + sp + value)
+    if 0 < len(s) < 3:
+        rule(("more", s), [kind(",")], sp + part(("items", s)))
+rule(("more", ()), [kind(",")], sp)
+other[parts.index(("more", ()))] = []
+for q in QUOTES:
+    rule("value0", [kind(q)], act(START) + part("string" + q) + act(COPY) + tok(q))
+    rule("string" + q, [k for k in PRINTABLE if k != kind(q)], part("string" + q))
+    other[parts.index("string" + q)] = []
+rule("value1", [kind("T")], tok("rue") + act(TRUE))
+rule("value1", [kind("F")], tok("alse") + act(FALSE))
+rule("value2", [kind("(")], act(OPEN) + sp + part("tuple"))
+first = sp + tok(",") + sp + part("axes")
+rule("tuple", [kind(")")], [])
+rule("tuple", [kind("0")], act(FIRST) + act(NUMBER) + first)
+rule("tuple", [DIGIT], act(FIRST) + part("digits") + act(NUMBER) + first)
+later = sp + part("axis")
+rule("axes", [kind(")")], [])
+rule("axes", [kind("0")], act(FIRST) + act(NUMBER) + later)
+rule("axes", [DIGIT], act(FIRST) + part("digits") + act(NUMBER) + later)
+rule("axis", [kind(",")], sp + part("axes"))
+rule("axis", [kind(")")], [])
+rule("digits", [kind("0"), DIGIT], part("digits"))
+other[parts.index("digits")] = []
+
+# ---- the tables of the test
+
+n = len(parts)
+starts, empty, follow = [0] * n, [False] * n, [0] * n
+rows = [(p, k, s) for (p, k), s in on.items()] + [(p, None, s) for p, s in other.items()]
+
+
+def begin(symbols):
+    mask = 0
+    for what, x in symbols:
+        if what == "Token":
+            return mask | 1 << x
+        if what == "Part":
+            mask |= starts[x]
+            if not empty[x]:
+                return mask
+    return mask
+
+
+def may_be_empty(symbols):
+    return all(what == "Action" or (what == "Part" and empty[x]) for what, x in symbols)
+
+
+changed = True
+while changed:
+    before = list(starts), list(empty), list(follow)
+    for p, k, s in rows:
+        starts[p] |= begin(s) if k is None else 1 << k
+        empty[p] |= k is None and may_be_empty(s)
+        for i, (what, x) in enumerate(s):
+            if what == "Part":
+                follow[x] |= begin(s[i + 1 :]) | (follow[p] if may_be_empty(s[i + 1 :]) else 0)
+    changed = before != (starts, empty, follow)
+
+ranks = [None] * n
+while None in ranks:
+    for p, k, s in rows:
+        below = [ranks[x] for what, x in s if what == "Part"]
+        if None not in below:
+            rank = max(below, default=-1) + 1
+            if ranks[p] is None or rank < ranks[p]:
+                ranks[p] = rank
+moves = [1] * n  # no other rule has a part or an action before a token
+
+# ---- what is written
+
+
+
+def title(name):
+    """A part's name, and for items the keys that are still to come."""
+    if isinstance(name, str):
+        return {"value0": "value of descr", "value1": "value of fortran_order", "value2": "value of shape"}.get(name, name)
+    keys = ", ".join(KEYS[k] for k in name[1])
+    return " ".join([name[0], "of (%s)" % keys] + (["in " + name[2]] if name[2:] else []))
+
+
+symbols, rules, number = [], [], {}
+for p, k, s in rows:
+    if str(s) not in number:
+        number[str(s)] = len(rules)
+        rules.append((len(symbols), len(symbols) + len(s)))
+        symbols += reversed(s)
+
+out = ["// The table of the grammar of headers, written by tools/header_rows.py.", "use grammar::{Row, Rule, Symbol, rules_on};", ""]
+out += ["// The kinds: %s, then the digits 1 to 9, what else may stand in a string, and any other byte." % ascii(SINGLE)[1:-1], ""]
+out += ["/// The kind of each byte.", "pub(crate) static KIND_OF_BYTE: [u16; 256] = ["]
+out += ["    " + " ".join("%d," % kind_of_byte(b) for b in range(i, i + 16)) for i in range(0, 256, 16)] + ["];", ""]
+out += ["pub(crate) static ON: [Row; %d] = [" % n]
+for p in range(n):
+    out.append("    // %d: %s" % (p, title(parts[p])))
+    entries = ["%d" % number[str(on[p, k])] if (p, k) in on else "-" for k in range(KINDS)]
+    out.append("    rules_on!(%s)," % " ".join(entries))
+out += ["];", "", "pub(crate) static OTHER: [Option<u16>; %d] = [" % n]
+out += ["    %s," % ("Some(%d)" % number[str(other[p])] if p in other else "None") for p in range(n)]
+out += ["];", "", "pub(crate) static MOVES: [u16; %d] = [" % n, "    " + " ".join("%d," % m for m in moves), "];", ""]
+out += ["pub(crate) static RULES: [Rule; %d] = [" % len(rules)]
+out += ["    Rule { start: %d, end: %d }," % r for r in rules] + ["];", ""]
+out += ["/// Each rule from its last symbol to its first.", "pub(crate) static SYMBOLS: [Symbol; %d] = [" % len(symbols)]
+out += ["    Symbol::%s(%d)," % s for s in symbols] + ["];"]
+open("crates/npy_header/src/rows.rt", "w").write("\n".join(out) + "\n")
+
+
+def antt(xs):
+    return " ∷ ".join(str(x) for x in xs) + " ∷ []"
+
+
+print("parts", n, "rules", len(rules), "rows", len(rows), "symbols", len(symbols))
+print("singles =", antt(ord(c) for c in SINGLE))
+print("starts =", antt(starts))
+print("empty =", antt(str(e).lower() for e in empty))
+print("follow =", antt(follow))
+print("ranks =", antt(ranks))
+for i, p in enumerate(parts):
+    print(i, p)
