@@ -1,0 +1,4 @@
+pub mod Talk
+pub mod SchedWorlds
+pub mod WorkerTalk
+pub mod SmallWorlds

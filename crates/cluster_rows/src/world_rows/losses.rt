@@ -1,0 +1,37 @@
+//! A worker that is suspected, and one that is lost.
+ghost use Rattle.std.specs.Prelude.{◌≡◌, ◌∷◌, ◌++◌, [], true, false, Some, None};
+ghost use Rattle.cluster_msgs.specs.declared.messages.ToClient.TheVariants.{LostData};
+ghost use Rattle.cluster_msgs.specs.declared.events.Event.TheVariants.{Lose, SeeLoss, Suspect, DeliverDown, DeliverUp, DeliverToClient, Start, Finish};
+ghost use Rattle.cluster_rules.specs.World.{opening, unfinished};
+ghost use Rattle.cluster_rules.specs.Enabled.{progress};
+ghost use Rattle.cluster_rules.specs.Runs.{reached};
+ghost use Rattle.cluster_rows.specs.WorkerTalk.{one_key};
+ghost use Rattle.cluster_rows.specs.SmallWorlds.{plain_job, can, one_started, one_told, client_served};
+
+/// A worker is suspected while it runs the key. The other worker gets the key under a new attempt, and the first
+/// worker's finish is dropped.
+pub fn a_suspected_workers_finish_is_dropped()
+    ensures given { (reached (plain_job one_key) one_started).sched.on 0 ≡ Some (1, 1) }
+    ensures again { (reached (plain_job one_key) (one_started ++ Suspect 1 ∷ [])).sched.on 0 ≡ Some (2, 2) }
+    ensures dropped { let w = reached (plain_job one_key) (one_started ++ Suspect 1 ∷ Finish 1 0 ∷ DeliverUp 1 ∷ []) in
+        (w.sched.on 0 ≡ Some (2, 2)) × (w.sched.finishes ≡ 0) × (w.up 1 ≡ []) }
+    ensures counted { let w = reached (plain_job one_key) (one_started ++ Suspect 1 ∷ Finish 1 0 ∷ DeliverUp 1 ∷ DeliverDown 2 ∷ Start 2 ∷ Finish 2 0 ∷ DeliverUp 2 ∷ []) in
+        (w.sched.on 0 ≡ None) × (w.sched.has 2 0 ≡ Some 3) × (w.sched.finishes ≡ 1) }
+    ensures legal { can (plain_job one_key) (opening (plain_job one_key)) (one_started ++ Suspect 1 ∷ Finish 1 0 ∷ DeliverUp 1 ∷ DeliverDown 2 ∷ Start 2 ∷ Finish 2 0 ∷ DeliverUp 2 ∷ []) ≡ true }
+{}
+
+/// The only holder is lost before the client gathers: the client hears so, the other worker makes the block again, and
+/// the client gets it.
+pub fn a_lost_block_is_made_again()
+    ensures told { let w = reached (plain_job one_key) (one_told ++ Lose 1 ∷ SeeLoss 1 ∷ []) in
+        (w.to_client 1 ≡ LostData 0 ∷ []) × (w.sched.on 0 ≡ Some (2, 3)) }
+    ensures got { let w = reached (plain_job one_key) (one_told ++ Lose 1 ∷ SeeLoss 1 ∷ DeliverToClient 1 ∷ DeliverDown 2 ∷ Start 2 ∷ Finish 2 0 ∷ DeliverUp 2 ∷ client_served 2) in
+        (w.clients 1).got 0 ≡ true }
+    ensures legal { can (plain_job one_key) (opening (plain_job one_key)) (one_told ++ Lose 1 ∷ SeeLoss 1 ∷ DeliverToClient 1 ∷ DeliverDown 2 ∷ Start 2 ∷ Finish 2 0 ∷ DeliverUp 2 ∷ client_served 2) ≡ true }
+{}
+
+/// Once the last worker is lost too, and nothing is under way, no progress event is left, though the client waits.
+pub fn nothing_moves_without_workers()
+    ensures { let w = reached (plain_job one_key) (one_told ++ Lose 1 ∷ SeeLoss 1 ∷ DeliverToClient 1 ∷ Lose 2 ∷ SeeLoss 2 ∷ []) in
+        (progress w ≡ []) × (unfinished w 1 0 ≡ true) }
+{}

@@ -1,0 +1,15 @@
+pub mod DerivedLemmas
+pub mod FunctionLemmas
+pub mod WorkerLemmas
+pub mod WorldLemmas
+pub mod SchedLemmas
+pub mod ChoiceLemmas
+pub mod Members
+pub mod PolicyLemmas
+pub mod SchedFrame
+pub mod OrderLemmas
+pub mod SoundLemmas
+pub mod SoundStep
+pub mod NothingLemmas
+pub mod ChoiceAppend
+pub mod TotalLemmas
