@@ -1,5 +1,5 @@
 -- A loop over ascending numbers keeps the best so far.
-use Rattle.std.proofs.Common.{◌≡◌, ℕ, ◌+◌, ◌-◌, ◌≤◌, Bool, true, false, not, cond, ◌||◌, List, [], ◌∷◌, ◌++◌, Option, Some, None, refl, sym, ap, ◌∙◌, arith, map}
+use Rattle.std.proofs.Common.{◌≡◌, ℕ, ◌+◌, Bool, true, false, not, cond, ◌||◌, List, [], ◌∷◌, ◌++◌, Option, Some, None, refl, sym, ap, ◌∙◌, arith, map}
 use Rattle.std.specs.List.{find, list_any, filter_map, range_with_len, cons_option}
 use Rattle.std.specs.Option.{option_map}
 use Rattle.cluster_rules.specs.Functions.{from_one}
@@ -19,14 +19,11 @@ best-more beats o h a n =
     ∙ unbeaten-append beats o (filter_map h (range_with_len a n)) (cons_option (h (a + n)) [])
     ∙ ap (better beats (unbeaten beats (filter_map h (range_with_len a n)))) (alone beats o (h (a + n)))
 
--- the same for a loop that counts from 1
-pub best-next : {A : Type 0} (beats : A → A → Bool) → IsPreference beats → (h : ℕ → Option A) (w : ℕ) → 1 ≤ w → unbeaten beats (filter_map h (from_one (w + 1 - 1))) ≡ better beats (unbeaten beats (filter_map h (from_one (w - 1)))) (h w)
-best-next beats o h w l =
-    let e : w + 1 - 1 ≡ w - 1 + 1 = omega arith in
-    let d : 1 + (w - 1) ≡ w = omega arith in
-    ap (λ n. unbeaten beats (filter_map h (from_one n))) e
-    ∙ best-more beats o h 1 (w - 1)
-    ∙ ap (λ n. better beats (unbeaten beats (filter_map h (from_one (w - 1)))) (h n)) d
+-- the same for workers, which count from 1
+pub best-next : {A : Type 0} (beats : A → A → Bool) → IsPreference beats → (h : ℕ → Option A) (n : ℕ) → unbeaten beats (filter_map h (from_one (n + 1))) ≡ better beats (unbeaten beats (filter_map h (from_one n))) (h (n + 1))
+best-next beats o h n =
+    let d : 1 + n ≡ n + 1 = omega arith in
+    best-more beats o h 1 n ∙ ap (λ m. better beats (unbeaten beats (filter_map h (from_one n))) (h m)) d
 
 any-map : {A B : Type 0} (g : A → B) (p : B → Bool) (xs : List A) → list_any p (map g xs) ≡ list_any (λ x. p (g x)) xs
 any-map g p [] = refl

@@ -1,25 +1,33 @@
 -- The least of the offers is the place.
-use Rattle.std.proofs.Common.{◌≡◌, ℕ, ◌+◌, ◌-◌, ◌<◌, ◌≤◌, ◌^◌, ◌/◌, Bool, true, false, not, cond, ◌&&◌, List, [], ◌∷◌, length, Option, Some, None, is_some, unwrap_or, refl, sym, ap, ◌∙◌, subst, arith, map}
+use Rattle.std.proofs.Common.{◌≡◌, ℕ, ◌+◌, ◌<◌, ◌≤◌, ◌^◌, ◌*◌, ◌/◌, ◌%◌, Bool, true, false, not, cond, ◌&&◌, ◌==◌, List, [], ◌∷◌, length, Option, Some, None, is_some, unwrap_or, refl, sym, ap, ◌∙◌, subst, arith, map}
 use Rattle.std.proofs.lemmas.Bool.{false≢true}
+use Rattle.std.proofs.lemmas.Bool.Decides.{nat_tests}
+use Rattle.std.proofs.Math.Nat.{div-add-mod, mul-le-mul_left}
 use Rattle.std.specs.List.{filter, filter_map, list_any, cons_option}
 use Rattle.std.specs.Option.{option_map, option_or}
 use Rattle.cluster_rules.specs.Functions.{from_one}
 use Rattle.cluster_rules.specs.Choice.{unbeaten, least_by, better, IsLeastOf}
-use Rattle.cluster_rules.specs.Sched.{Facts, IsSound, deps, holds, connected, workers, threads_of, full}
+use Rattle.cluster_rules.specs.Sched.{Facts, IsSound, deps, holds, connected, workers, occupancy, threads_of, full}
 use Rattle.cluster_rules.specs.Policies.{place, place_rank, candidates, candidates_by, or_else}
 use Rattle.cluster_rules.proofs.ChoiceLemmas.{rank_prefers, least_by_least}
+use Rattle.cluster_rules.proofs.TotalLemmas.{occupancy_fits}
 use Rattle.placement.specs.declared.candidate.Candidate.{Candidate}
 use Rattle.placement.specs.declared.candidate.Pool.{Pool}
 use Rattle.placement.specs.declared.candidate.Pool.TheVariants.{NotFull, Holders, Everyone}
 use Rattle.placement.specs.Candidates.{rank_of, comes_before, candidate_of, admits, offer, offered}
 use Rattle.placement.proofs.BestSoFar.{best-next, best-map}
 
--- the best of the offers of the workers below this one
-abbrev pub best_before : Facts → ℕ → Pool → ℕ → Option Candidate
-best_before f k p w = unbeaten comes_before (filter_map (offer f k p) (from_one (w - 1)))
+-- the best of the offers of the first workers
+abbrev pub best_of : Facts → ℕ → Pool → ℕ → Option Candidate
+best_of f k p n = unbeaten comes_before (filter_map (offer f k p) (from_one n))
 
-pub best_before-next : (f : Facts) (k : ℕ) (p : Pool) (w : ℕ) → 1 ≤ w → best_before f k p (w + 1) ≡ better comes_before (best_before f k p w) (offer f k p w)
-best_before-next f k p w l = best-next comes_before (rank_prefers rank_of) (offer f k p) w l
+-- one more worker
+pub best_of-next : (f : Facts) (k : ℕ) (p : Pool) (n : ℕ) (best next new : Option Candidate) → best ≡ best_of f k p n → next ≡ offer f k p (n + 1) → new ≡ better comes_before best next → new ≡ best_of f k p (n + 1)
+best_of-next f k p n best next new e d q =
+    q
+    ∙ ap (λ b. better comes_before b next) e
+    ∙ ap (λ o. better comes_before (best_of f k p n) o) d
+    ∙ sym (best-next comes_before (rank_prefers rank_of) (offer f k p) n)
 
 offers-map : (f : Facts) (k : ℕ) (p : Pool) (ws : List ℕ) → filter_map (offer f k p) ws ≡ map (candidate_of f k) (filter (admits f k p) (filter (connected f) ws))
 unfolding offer
@@ -42,11 +50,12 @@ worker_again f k None = refl
 worker_again f k (Some w) = refl
 
 -- the worker of the best offer of all
-pub offered-is : (f : Facts) (k : ℕ) (p : Pool) → option_map (λ c. c.worker) (best_before f k p (f.last_worker + 1)) ≡ offered f k p
+pub offered-is : (f : Facts) (k : ℕ) (p : Pool) (n : ℕ) (best : Option Candidate) (r : Option ℕ) → n ≡ f.last_worker → best ≡ best_of f k p n → r ≡ option_map (λ c. c.worker) best → r ≡ offered f k p
 unfolding offered place_rank
-offered-is f k p =
-    let e : f.last_worker + 1 - 1 ≡ f.last_worker = omega arith in
-    ap (λ n. option_map (λ c. c.worker) (unbeaten comes_before (filter_map (offer f k p) (from_one n)))) e
+offered-is f k p n best r e d q =
+    q
+    ∙ ap (option_map (λ c. c.worker)) d
+    ∙ ap (λ m. option_map (λ c. c.worker) (unbeaten comes_before (filter_map (offer f k p) (from_one m)))) e
     ∙ ap (λ l. option_map (λ c. c.worker) (unbeaten comes_before l)) (offers-map f k p (from_one f.last_worker))
     ∙ ap (option_map (λ c. c.worker)) (best-map (candidate_of f k) comes_before (filter (admits f k p) (workers f)))
     ∙ worker_again f k (least_by (place_rank f k) (filter (admits f k p) (workers f)))
@@ -96,3 +105,47 @@ has_threads f s w h = pick (f.threads w) refl h
     pick : (o : Option ℕ) → f.threads w ≡ o → is_some o ≡ true → (1 ≤ unwrap_or o 0) × (unwrap_or o 0 ≤ 16)
     pick None e g = absurd (false≢true g)
     pick (Some n) e g = s.threads w n e
+
+-- an offer by its parts
+pub offer-yes : (f : Facts) (k : ℕ) (p : Pool) (w : ℕ) (x : Candidate) → connected f w ≡ true → admits f k p w ≡ true → x ≡ candidate_of f k w → Some x ≡ offer f k p w
+unfolding offer
+offer-yes f k p w x a b e = sym (ap (λ t. cond (t && admits f k p w) (Some (candidate_of f k w)) None) a ∙ ap (λ t. cond t (Some (candidate_of f k w)) None) b ∙ ap (λ y. Some y) (sym e))
+
+pub offer-away : (f : Facts) (k : ℕ) (p : Pool) (w : ℕ) → connected f w ≡ false → None ≡ offer f k p w
+unfolding offer
+offer-away f k p w a = sym (ap (λ t. cond (t && admits f k p w) (Some (candidate_of f k w)) None) a)
+
+pub offer-out : (f : Facts) (k : ℕ) (p : Pool) (w : ℕ) → admits f k p w ≡ false → None ≡ offer f k p w
+unfolding offer
+offer-out f k p w a = sym (ap (λ t. cond (connected f w && t) (Some (candidate_of f k w)) None) a ∙ ap (λ t. cond t (Some (candidate_of f k w)) None) (and_false (connected f w)))
+  where
+    and_false : (b : Bool) → (b && false) ≡ false
+    and_false true = refl
+    and_false false = refl
+
+-- the first pool that offers someone
+pub first_pool : (f : Facts) (k : ℕ) (w : ℕ) → (length (deps f k) ≡ 0 → ⊥) → Some w ≡ offered f k Holders → Some w ≡ place f k
+first_pool f k w n e = sym (place-fed f k n ∙ ap (λ o. option_or o (offered f k Everyone)) (sym e))
+
+pub second_pool : (f : Facts) (k : ℕ) → (length (deps f k) ≡ 0 → ⊥) → None ≡ offered f k Holders → offered f k Everyone ≡ place f k
+second_pool f k n e = sym (place-fed f k n ∙ ap (λ o. option_or o (offered f k Everyone)) (sym e))
+
+-- a test for no dependencies
+pub none_left : (f : Facts) (k : ℕ) (ds : List ℕ) (b : Bool) → ds ≡ deps f k → b ≡ (length ds == 0) → b ≡ true → length (deps f k) ≡ 0
+none_left f k ds b e t h = ap length (sym e) ∙ is_zero (length ds) (sym t ∙ h)
+  where
+    is_zero : (n : ℕ) → (n == 0) ≡ true → n ≡ 0
+    is_zero n h = grind (arith, nat_tests)
+
+pub some_left : (f : Facts) (k : ℕ) (ds : List ℕ) (b : Bool) → ds ≡ deps f k → b ≡ (length ds == 0) → b ≡ false → length (deps f k) ≡ 0 → ⊥
+some_left f k ds b e t h z = not_zero (length ds) (sym t ∙ h) (ap length e ∙ z)
+  where
+    not_zero : (n : ℕ) → (n == 0) ≡ false → n ≡ 0 → ⊥
+    not_zero n h z = grind (arith, nat_tests)
+
+-- the time until the worker could start fits with the bytes to fetch
+pub cost_fits : (f : Facts) → IsSound f → (w m o t : ℕ) → connected f w ≡ true → m ≤ 2 ^ 45 → o ≡ occupancy f w → t ≡ threads_of f w → o / t + m < 2 ^ 64
+cost_fits f s w m o t h l e d = fits (omega (arith, e, occupancy_fits f w s)) (omega (arith, d, (has_threads f s w h).0))
+  where
+    fits : o ≤ 2 ^ 61 → 1 ≤ t → o / t + m < 2 ^ 64
+    fits a b = let d : t * (o / t) + o % t ≡ o = div-add-mod o t in let m : o / t * 1 ≤ o / t * t = mul-le-mul_left (o / t) b in omega arith

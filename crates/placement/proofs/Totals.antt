@@ -1,6 +1,7 @@
 -- Sums and tests over the dependencies of a key, as far as a loop has come.
 use Rattle.std.proofs.Common.{◌≡◌, ℕ, zero, suc, ◌+◌, ◌*◌, ◌<◌, ◌≤◌, ◌^◌, Bool, true, false, cond, ◌||◌, List, [], ◌∷◌, ◌++◌, length, get_or, take, refl, sym, ap, ◌∙◌, subst, arith, length-take}
-use Rattle.std.proofs.Math.Seq.{take-suc, take-all}
+use Rattle.std.proofs.Math.Seq.{take-suc}
+use Rattle.std.proofs.lemmas.List.{take_all}
 use Rattle.std.proofs.lemmas.List.Folds.{list_any-append}
 use Rattle.std.specs.List.{list_any, AllByRecursion, slice_index_or}
 use Rattle.cluster_msgs.specs.Shape.{Shape, IsShape, deps_of, nbytes_of, total_length, key_count}
@@ -57,7 +58,13 @@ part_bound f s w k i = bound (length (take i (deps f k))) (total (fetched_bytes 
     bound : (n t : ℕ) → n ≤ 262144 → t ≤ n * 2 ^ 27 → t ≤ 2 ^ 45
     bound n t l h = omega arith
 
--- all of them
-pub whole : (f : Facts) (w k : ℕ) → total (fetched_bytes f w) (take (length (deps f k)) (deps f k)) ≡ missing_bytes f w k
+-- the loop that sums what is to be fetched, over the dependencies
+pub sum_more : (f : Facts) (w : ℕ) (xs : List ℕ) (i t r : ℕ) → i < length xs → t ≡ total (fetched_bytes f w) (take i xs) → r ≡ fetched_bytes f w (get_or xs i 0) → t + r ≡ total (fetched_bytes f w) (take (i + 1) xs)
+sum_more f w xs i t r l e d = let s : total (fetched_bytes f w) (take (i + 1) xs) ≡ total (fetched_bytes f w) (take i xs) + fetched_bytes f w (get_or xs i 0) = total-take (fetched_bytes f w) xs i l in omega (arith, s, e, d)
+
+pub sum_bound : (f : Facts) → IsSound f → (w k : ℕ) (xs : List ℕ) (i t : ℕ) → xs ≡ deps f k → t ≡ total (fetched_bytes f w) (take i xs) → t ≤ 2 ^ 45
+sum_bound f s w k xs i t q e = let b : total (fetched_bytes f w) (take i xs) ≤ 2 ^ 45 = subst (λ l. total (fetched_bytes f w) (take i l) ≤ 2 ^ 45) (sym q) (part_bound f s w k i) in omega (arith, b, e)
+
+pub sum_all : (f : Facts) (w k : ℕ) (xs : List ℕ) (i t : ℕ) → xs ≡ deps f k → length xs ≤ i → t ≡ total (fetched_bytes f w) (take i xs) → t ≡ missing_bytes f w k
 unfolding missing_bytes
-whole f w k = ap (total (fetched_bytes f w)) (take-all (length (deps f k)) (deps f k) (omega arith))
+sum_all f w k xs i t q l e = e ∙ ap (total (fetched_bytes f w)) (take_all i xs l) ∙ ap (total (fetched_bytes f w)) q

@@ -28,5 +28,9 @@ fn fetched<F: Facts>(facts: &F, shape: &GraphShape, worker: u32, key: u32) -> u6
     requires key { key < keys (F.facts facts.now) }
     ensures { result ≡ fetched_bytes (F.facts facts.now) worker key }
 {
-    if facts.holds(worker, key) { 0 } else { shape.nbytes(key) }
+    if facts.holds(worker, key) {
+        0
+    } else {
+        shape.nbytes(key)
+    }
 }

@@ -1,6 +1,7 @@
 //! The worker that a key goes to.
 ghost use Rattle.std.specs.Prelude.{◌≡◌, ◌<◌, true};
 ghost use Rattle.std.specs.List.{list_any};
+ghost use Rattle.std.specs.Option.{option_map};
 ghost use Rattle.cluster_rules.specs.Sched.{keys, deps, holds, connected};
 ghost use Rattle.cluster_rules.specs.Policies.{place};
 ghost use Rattle.placement.specs.Candidates.{admits, offer, offered, candidate_of};
@@ -39,11 +40,17 @@ fn least_of<F: Facts>(facts: &F, shape: &GraphShape, key: u32, pool: Pool) -> Op
     requires key { key < keys (F.facts facts.now) }
     ensures { result ≡ offered (F.facts facts.now) key pool }
 {
-    facts.sound();
     let mut best = None;
-    for worker in 1..=facts.last_worker() {
-        best = lesser(best, offer(facts, shape, key, pool, worker));
+    for before in 0..facts.last_worker() {
+        best = lesser(best, offer(facts, shape, key, pool, before + 1));
     }
+    worker_of(best)
+}
+
+/// The candidate's number.
+fn worker_of(best: Option<Candidate>) -> Option<u32>
+    ensures { result ≡ option_map (λ c. c.worker) best }
+{
     best.map(|candidate| candidate.worker)
 }
 

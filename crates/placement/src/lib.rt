@@ -13,3 +13,6 @@ pub mod choice;
 
 pub use bytes::missing_bytes;
 pub use choice::place;
+
+#[cfg(test)]
+mod tests;
