@@ -26,6 +26,7 @@ pub fn what_ends_no_attempt()
     ensures yes_of_other_key { then_ends (plain_job three_alone) one_yields (DeliverUp 1) 1 0 1 ≡ false }
     ensures dropped { (then_ends (plain_job one_key) (one_started ++ Suspect 1 ∷ Finish 1 0 ∷ []) (DeliverUp 1) 1 0 1 ≡ false)
         × (then_ends (plain_job one_key) (one_started ++ Suspect 1 ∷ Finish 1 0 ∷ []) (DeliverUp 1) 2 0 2 ≡ false) }
+    ensures after_its_end { then_ends (plain_job one_key) (one_started ++ Release 1 (0 ∷ []) ∷ DeliverFromClient 1 ∷ Finish 1 0 ∷ []) (DeliverUp 1) 1 0 1 ≡ false }
     ensures counted_then { then_ends (plain_job one_key) (one_started ++ Suspect 1 ∷ Finish 1 0 ∷ DeliverUp 1 ∷ DeliverDown 2 ∷ Start 2 ∷ Finish 2 0 ∷ []) (DeliverUp 2) 2 0 2 ≡ true }
     ensures death { then_ends (plain_job one_key) one_started (Lose 1) 1 0 1 ≡ false }
     ensures release { then_ends (plain_job one_key) one_started (Release 1 (0 ∷ [])) 1 0 1 ≡ false }
