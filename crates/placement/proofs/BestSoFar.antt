@@ -1,5 +1,5 @@
 -- A loop over ascending numbers keeps the best so far.
-use Rattle.std.proofs.Common.{◌≡◌, ℕ, ◌+◌, Bool, true, false, not, cond, ◌||◌, List, [], ◌∷◌, ◌++◌, Option, Some, None, refl, sym, ap, ◌∙◌, arith, map}
+use Rattle.std.proofs.Common.{◌≡◌, ℕ, ◌+◌, Bool, true, false, not, cond, ◌||◌, List, [], ◌∷◌, Option, Some, None, refl, ap, ◌∙◌, arith, map}
 use Rattle.std.specs.List.{find, list_any, filter_map, range_with_len, cons_option}
 use Rattle.std.specs.Option.{option_map}
 use Rattle.cluster_rules.specs.Functions.{from_one}

@@ -1,5 +1,5 @@
 -- The least of the offers is the place.
-use Rattle.std.proofs.Common.{◌≡◌, ℕ, ◌+◌, ◌<◌, ◌≤◌, ◌^◌, ◌*◌, ◌/◌, ◌%◌, Bool, true, false, not, cond, ◌&&◌, ◌==◌, List, [], ◌∷◌, length, Option, Some, None, is_some, unwrap_or, refl, sym, ap, ◌∙◌, subst, arith, map}
+use Rattle.std.proofs.Common.{◌≡◌, ℕ, ◌+◌, ◌<◌, ◌≤◌, ◌^◌, ◌*◌, ◌/◌, ◌%◌, Bool, true, false, cond, ◌&&◌, ◌==◌, List, [], ◌∷◌, length, Option, Some, None, is_some, unwrap_or, refl, sym, ap, ◌∙◌, arith, map}
 use Rattle.std.proofs.lemmas.Bool.{false≢true}
 use Rattle.std.proofs.lemmas.Bool.Decides.{nat_tests}
 use Rattle.std.proofs.Math.Nat.{div-add-mod, mul-le-mul_left}
@@ -7,7 +7,7 @@ use Rattle.std.specs.List.{filter, filter_map, list_any, cons_option}
 use Rattle.std.specs.Option.{option_map, option_or}
 use Rattle.cluster_rules.specs.Functions.{from_one}
 use Rattle.cluster_rules.specs.Choice.{unbeaten, least_by, better, IsLeastOf}
-use Rattle.cluster_rules.specs.Sched.{Facts, IsSound, deps, holds, connected, workers, occupancy, threads_of, full}
+use Rattle.cluster_rules.specs.Sched.{Facts, IsSound, deps, holds, connected, workers, occupancy, threads_of}
 use Rattle.cluster_rules.specs.Policies.{place, place_rank, candidates, candidates_by, or_else}
 use Rattle.cluster_rules.proofs.ChoiceLemmas.{rank_prefers, least_by_least}
 use Rattle.cluster_rules.proofs.TotalLemmas.{occupancy_fits}

@@ -4,7 +4,7 @@ use Rattle.std.proofs.Math.Seq.{take-suc}
 use Rattle.std.proofs.lemmas.List.{take_all}
 use Rattle.std.proofs.lemmas.List.Folds.{list_any-append}
 use Rattle.std.specs.List.{list_any, AllByRecursion, slice_index_or}
-use Rattle.cluster_msgs.specs.Shape.{Shape, IsShape, deps_of, nbytes_of, total_length, key_count}
+use Rattle.cluster_msgs.specs.Shape.{nbytes_of, total_length}
 use Rattle.cluster_rules.specs.Functions.{total}
 use Rattle.cluster_rules.specs.Sched.{Facts, IsSound, keys, deps, holds}
 use Rattle.cluster_rules.specs.Policies.{missing_bytes}

@@ -1,4 +1,4 @@
-use Rattle.std.proofs.Common.{refl, sym, ap}
+use Rattle.std.proofs.Common.{refl, sym}
 use Rattle.cluster_rules.proofs.NothingLemmas.{bytes_held-nowhere}
 use Rattle.placement.proofs.tests.AloneFacts.bytes_held.Goals as goal
 
