@@ -16,3 +16,4 @@ pub mod SoundStep
 pub mod NothingLemmas
 pub mod ChoiceAppend
 pub mod TotalLemmas
+pub mod InsideWorker
