@@ -17,3 +17,5 @@ pub mod NothingLemmas
 pub mod ChoiceAppend
 pub mod TotalLemmas
 pub mod InsideWorker
+pub mod InsideSched
+pub mod InsideWorld

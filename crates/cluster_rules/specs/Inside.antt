@@ -54,7 +54,7 @@ pub record IsInsideWorld (g : Shape) (w : World) : Type 0 where
   pub shape : w.sched.setting.shape ≡ g
   pub workers : (i : ℕ) → IsInsideWorker g (w.workers i)
   pub clients : (c : ℕ) → IsInsideClient g (w.clients c)
-  pub spilled : (i k : ℕ) → w.spilled i k ≡ true → (w.workers i).mem k ≡ true
+  pub spilled : (i k : ℕ) → w.spilled i k ≡ true → IsKey g k
   pub down : (i : ℕ) → AllByRecursion (λ m. AreKeys g (down_keys m)) (w.down i)
   pub up : (i : ℕ) → AllByRecursion (λ m. AreKeys g (up_keys m)) (w.up i)
   pub to_client : (c : ℕ) → AllByRecursion (λ m. AreKeys g (news_keys m)) (w.to_client c)

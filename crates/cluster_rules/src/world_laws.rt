@@ -16,7 +16,7 @@ ghost use Rattle.cluster_rules.specs.World.{Job, World, is_connected, is_client,
 ghost use Rattle.std.specs.List.{AllByRecursion};
 ghost use Rattle.cluster_msgs.specs.Shape.{Shape, IsShape};
 ghost use Rattle.cluster_msgs.specs.declared.cores.WorkerEvent.TheVariants.{Down as Told};
-ghost use Rattle.cluster_rules.specs.Inside.{AreKeys, down_keys, IsInsideWorker};
+ghost use Rattle.cluster_rules.specs.Inside.{AreKeys, down_keys, IsInsideWorker, IsInsideWorld};
 ghost use Rattle.cluster_rules.specs.Runs.{legal, reached};
 ghost use Rattle.cluster_msgs.specs.declared.cores.WorkerEvent.{WorkerEvent};
 ghost use Rattle.cluster_rules.specs.WorkerStep.{worker_step, worker_takes};
@@ -112,4 +112,10 @@ pub fn values_of_legal_lists()
 pub fn a_workers_keys_are_there()
     ensures { (g : Shape) (w : WorkerFacts) (m : Down) → AreKeys g (down_keys m) → IsInsideWorker g w →
         IsInsideWorker g (worker_step w (Told m)).facts × AllByRecursion (λ u. AreKeys g (up_keys u)) (sends (worker_step w (Told m)).out) }
+{}
+
+/// After each legal list of events nothing in the world names a key that isn't there, so that whoever is handed what is
+/// enabled takes it.
+pub fn nothing_names_a_missing_key()
+    ensures { (j : Job) → IsShape j.setting.shape → (es : List Event) → legal j es → IsInsideWorld j.setting.shape (reached j es) }
 {}
