@@ -115,9 +115,9 @@ module _ (g : Shape) (low : IsShape g) where
   steal_in : (f : Facts) → f.setting.shape ≡ g → AllByRecursion (λ (c : Steal). IsKey g c.key) (steal_choices f)
   unfolding steal_choices
   steal_in f s = all_filter_in (λ (c : Steal). IsKey g c.key) (may_steal f) _ (all_flat_map_in (λ (c : Steal). IsKey g c.key) (λ k. flat_map (λ v. map (λ t. record { key = k; victim = v; thief = t }) (workers f)) (workers f)) (below (keys f))
-    (all_weaken (IsKey g) (λ k. AllByRecursion (λ (c : Steal). IsKey g c.key) (flat_map (λ v. map (λ t. record { key = k; victim = v; thief = t }) (workers f)) (workers f)))
+      (all_weaken (IsKey g) (λ k. AllByRecursion (λ (c : Steal). IsKey g c.key) (flat_map (λ v. map (λ t. record { key = k; victim = v; thief = t }) (workers f)) (workers f)))
       (λ k i. all_flat_map_in (λ (c : Steal). IsKey g c.key) (λ v. map (λ t. record { key = k; victim = v; thief = t }) (workers f)) (workers f)
-        (all_always (λ v. AllByRecursion (λ (c : Steal). IsKey g c.key) (map (λ t. record { key = k; victim = v; thief = t }) (workers f))) (λ v. all_map_in (λ (c : Steal). IsKey g c.key) (λ t. record { key = k; victim = v; thief = t }) (workers f) (all_always (λ t. IsKey g k) (λ t. i) (workers f))) (workers f)))
+      (all_always (λ v. AllByRecursion (λ (c : Steal). IsKey g c.key) (map (λ t. record { key = k; victim = v; thief = t }) (workers f))) (λ v. all_map_in (λ (c : Steal). IsKey g c.key) (λ t. record { key = k; victim = v; thief = t }) (workers f) (all_always (λ t. IsKey g k) (λ t. i) (workers f))) (workers f)))
       (below (keys f)) (all_keys f s)))
 
   asked_message : (k : ℕ) (o : Option (ℕ × ℕ)) (w : ℕ) → IsKey g k → AllDown (ask_message k o w)
@@ -213,8 +213,8 @@ module _ (g : Shape) (low : IsShape g) where
       let t = settle f (change f e) in
       let placed : t.placed.setting.shape ≡ g = ap (λ (x : Setting). x.shape) ((step_settles f e).setting ∙ c) ∙ s in
       all_flat_map_in (λ (m : ℕ × Down). AreKeys g (down_keys m.1)) _ (workers t.placed) (all_always _ (λ w. all_append (λ (m : ℕ × Down). AreKeys g (down_keys m.1)) (free_message w (lost_keys t w)) _ (free_in w (lost_keys t w) (all_filter_in (IsKey g) (lost t w) (below (keys t.before)) (all_keys f s)))
-        (all_append (λ (m : ℕ × Down). AreKeys g (down_keys m.1)) (filter_map (λ k. task_message t.placed t.before.counter w k (t.placed.on k)) (below (keys t.placed))) _ (tasks_in t.placed placed t.before.counter w (below (keys t.placed)) (all_keys t.placed placed))
-          (all_map_in (λ (m : ℕ × Down). AreKeys g (down_keys m.1)) (λ m. (w, m)) (t.changed.answer t.placed w) (answer_in f e s v t.placed w)))) (workers t.placed))
+      (all_append (λ (m : ℕ × Down). AreKeys g (down_keys m.1)) (filter_map (λ k. task_message t.placed t.before.counter w k (t.placed.on k)) (below (keys t.placed))) _ (tasks_in t.placed placed t.before.counter w (below (keys t.placed)) (all_keys t.placed placed))
+      (all_map_in (λ (m : ℕ × Down). AreKeys g (down_keys m.1)) (λ m. (w, m)) (t.changed.answer t.placed w) (answer_in f e s v t.placed w)))) (workers t.placed))
 
   pub mail_in : (w : ℕ) (ms : List (ℕ × Down)) → AllByRecursion (λ (m : ℕ × Down). AreKeys g (down_keys m.1)) ms → AllByRecursion (λ m. AreKeys g (down_keys m)) (mail w ms)
   mail_in w [] h = tt
@@ -320,8 +320,8 @@ module _ (g : Shape) (low : IsShape g) where
       let t = settle f (change f e) in
       let placed : t.placed.setting.shape ≡ g = ap (λ (x : Setting). x.shape) ((step_settles f e).setting ∙ c) ∙ s in
       all_append (λ (m : ℕ × ToClient). AreKeys g (news_keys m.1)) (flat_map (λ c. filter_map (client_message t c) (below (keys t.before))) (from_one t.before.setting.clients)) _
-        (all_flat_map_in (λ (m : ℕ × ToClient). AreKeys g (news_keys m.1)) _ (from_one t.before.setting.clients) (all_always _ (λ c. news_keys_of j t placed c (below (keys t.before)) (all_keys f s)) (from_one t.before.setting.clients)))
-        (reply_in t (to_clients t) t.changed.reply (reply_key f e v))
+      (all_flat_map_in (λ (m : ℕ × ToClient). AreKeys g (news_keys m.1)) _ (from_one t.before.setting.clients) (all_always _ (λ c. news_keys_of j t placed c (below (keys t.before)) (all_keys f s)) (from_one t.before.setting.clients)))
+      (reply_in t (to_clients t) t.changed.reply (reply_key f e v))
 
   pub letters_in : (c : ℕ) (ms : List (ℕ × ToClient)) → AllByRecursion (λ (m : ℕ × ToClient). AreKeys g (news_keys m.1)) ms → AllByRecursion (λ m. AreKeys g (news_keys m)) (letters c ms)
   letters_in c [] h = tt

@@ -108,7 +108,7 @@ module _ (g : Shape) where
   in_given w q a who v h = pick (w.mem q)
     where
       pick : (b : Bool) → IsInsideStep (cond b (record { facts = record w { failed = put w.failed q false }; out = Send (TaskFinished w.seen q a) ∷ [] })
-        (quiet (fold set_holders (record w { failed = put w.failed q false; mine = put w.mine q (Some a) }) who)))
+          (quiet (fold set_holders (record w { failed = put w.failed q false; mine = put w.mine q (Some a) }) who)))
       pick true = record { facts = record { shape = h.shape; mem = h.mem; running = h.running; asks = h.asks }; out = ((v, tt), tt) }
       pick false = quietly _ (in_fold set_holders in_holders _ who (record { shape = h.shape; mem = h.mem; running = h.running; asks = h.asks }))
 
@@ -258,7 +258,7 @@ module _ (g : Shape) where
     where
       over : (a : Ask) → AllByRecursion (λ (i : ℕ × ℕ). IsKey g i.0) a.items → (b : Bool) → IsInsideStep (cond b (answered_ask (record w { asks = without_ask w.asks p }) p a.items found) (quiet w))
       over a v true = in_each (λ (i : ℕ × ℕ). IsKey g i.0) (not_found p) (in_missed p) _ (filter (λ i. not (is_in i.0 found)) a.items) (all_filter_in (λ (i : ℕ × ℕ). IsKey g i.0) _ a.items v)
-        (in_arrived (record w { asks = without_ask w.asks p }) (keys_of (filter (λ i. is_in i.0 found) a.items)) (all_map_in (IsKey g) (λ (i : ℕ × ℕ). i.0) _ (all_filter_in (λ (i : ℕ × ℕ). IsKey g i.0) _ a.items v))
+          (in_arrived (record w { asks = without_ask w.asks p }) (keys_of (filter (λ i. is_in i.0 found) a.items)) (all_map_in (IsKey g) (λ (i : ℕ × ℕ). i.0) _ (all_filter_in (λ (i : ℕ × ℕ). IsKey g i.0) _ a.items v))
           (record { shape = h.shape; mem = h.mem; running = h.running; asks = all_filter_in (λ (a : Ask). AreKeys g (item_keys a)) _ w.asks h.asks }))
       over a v false = quietly w h
 

@@ -75,7 +75,7 @@ module _ (j : Job) (low : IsShape j.setting.shape) where
         workers = at_one i (λ b x. IsInsideWorker graph (cond b (worker_step (w.workers i) e).facts (w.workers x))) r.facts h.workers;
         clients = h.clients;
         spilled = at_one i (λ b x. (k : ℕ) → cond b (λ k. w.spilled i k && (worker_step (w.workers i) e).facts.mem k) (w.spilled x) k ≡ true → IsKey graph k)
-          (λ k s. h.spilled i k (and_parts (w.spilled i k) _ s).0) h.spilled;
+            (λ k s. h.spilled i k (and_parts (w.spilled i k) _ s).0) h.spilled;
         down = h.down;
         up = at_one i (λ b x. AllByRecursion (λ m. AreKeys graph (up_keys m)) (cond b (w.up i ++ sends (worker_step (w.workers i) e).out) (w.up x))) (all_append (λ m. AreKeys graph (up_keys m)) (w.up i) _ (h.up i) (sends_in graph _ r.out)) h.up;
         to_client = h.to_client;
@@ -117,7 +117,14 @@ module _ (j : Job) (low : IsShape j.setting.shape) where
   in_serve : (w : World) (a : Asker) (p n : ℕ) (o : Option Parcel) → parcel_of a p n w.requests ≡ o → IsInsideWorld graph w → IsInsideWorld graph (serve w p o)
   in_serve w a p n None e h = h
   in_serve w a p n (Some q) e h = record {
-    shape = h.shape; workers = h.workers; clients = h.clients; spilled = h.spilled; down = h.down; up = h.up; to_client = h.to_client; from_client = h.from_client;
+    shape = h.shape;
+    workers = h.workers;
+    clients = h.clients;
+    spilled = h.spilled;
+    down = h.down;
+    up = h.up;
+    to_client = h.to_client;
+    from_client = h.from_client;
     requests = all_filter_in (λ (q : Parcel). AreKeys graph q.keys) _ w.requests h.requests;
     answers = parcels_with graph _ w.answers (all_filter_in (IsKey graph) (w.workers p).mem q.keys (all_found (λ (q : Parcel). AreKeys graph q.keys) _ w.requests q e h.requests)) h.answers;
   }
@@ -125,7 +132,15 @@ module _ (j : Job) (low : IsShape j.setting.shape) where
   in_take_answer : (w : World) (o : Option Parcel) → IsInsideWorld graph w → IsInsideWorld graph (take_answer w o)
   in_take_answer w None h = h
   in_take_answer w (Some q) h = in_gathered_at _ q.asker q.peer q.ask q.keys (record {
-    shape = h.shape; workers = h.workers; clients = h.clients; spilled = h.spilled; down = h.down; up = h.up; to_client = h.to_client; from_client = h.from_client; requests = h.requests;
+    shape = h.shape;
+    workers = h.workers;
+    clients = h.clients;
+    spilled = h.spilled;
+    down = h.down;
+    up = h.up;
+    to_client = h.to_client;
+    from_client = h.from_client;
+    requests = h.requests;
     answers = all_filter_in (λ (q : Parcel). AreKeys graph q.keys) _ w.answers h.answers;
   })
 
@@ -136,7 +151,15 @@ module _ (j : Job) (low : IsShape j.setting.shape) where
   in_take_down : (w : World) (i : ℕ) (ms : List Down) → w.down i ≡ ms → IsInsideWorld graph w → IsInsideWorld graph (take_down_first w i ms)
   in_take_down w i [] e h = h
   in_take_down w i (m ∷ ms) e h = in_worker (record w { down = put w.down i ms }) i (Told m) all.0 (record {
-    shape = h.shape; workers = h.workers; clients = h.clients; spilled = h.spilled; up = h.up; to_client = h.to_client; from_client = h.from_client; requests = h.requests; answers = h.answers;
+    shape = h.shape;
+    workers = h.workers;
+    clients = h.clients;
+    spilled = h.spilled;
+    up = h.up;
+    to_client = h.to_client;
+    from_client = h.from_client;
+    requests = h.requests;
+    answers = h.answers;
     down = at_one i (λ b x. AllByRecursion (λ m. AreKeys graph (down_keys m)) (cond b ms (w.down x))) all.1 h.down;
   })
     where
@@ -155,7 +178,15 @@ module _ (j : Job) (low : IsShape j.setting.shape) where
 
       rest : IsInsideWorld graph (record w { up = put w.up i ms })
       rest = record {
-        shape = h.shape; workers = h.workers; clients = h.clients; spilled = h.spilled; down = h.down; to_client = h.to_client; from_client = h.from_client; requests = h.requests; answers = h.answers;
+        shape = h.shape;
+        workers = h.workers;
+        clients = h.clients;
+        spilled = h.spilled;
+        down = h.down;
+        to_client = h.to_client;
+        from_client = h.from_client;
+        requests = h.requests;
+        answers = h.answers;
         up = at_one i (λ b x. AllByRecursion (λ m. AreKeys graph (up_keys m)) (cond b ms (w.up x))) all.1 h.up;
       }
 
@@ -169,7 +200,15 @@ module _ (j : Job) (low : IsShape j.setting.shape) where
   in_take_to_client : (w : World) (c : ℕ) (ms : List ToClient) → w.to_client c ≡ ms → IsInsideWorld graph w → IsInsideWorld graph (take_to_client w c ms)
   in_take_to_client w c [] e h = h
   in_take_to_client w c (m ∷ ms) e h = in_client (record w { to_client = put w.to_client c ms }) c (FromScheduler m) tt (record {
-    shape = h.shape; workers = h.workers; clients = h.clients; spilled = h.spilled; down = h.down; up = h.up; from_client = h.from_client; requests = h.requests; answers = h.answers;
+    shape = h.shape;
+    workers = h.workers;
+    clients = h.clients;
+    spilled = h.spilled;
+    down = h.down;
+    up = h.up;
+    from_client = h.from_client;
+    requests = h.requests;
+    answers = h.answers;
     to_client = at_one c (λ b x. AllByRecursion (λ m. AreKeys graph (news_keys m)) (cond b ms (w.to_client x))) all.1 h.to_client;
   })
     where
@@ -179,20 +218,36 @@ module _ (j : Job) (low : IsShape j.setting.shape) where
   in_take_from_client : (w : World) (c : ℕ) (ms : List ClientMessage) → w.from_client c ≡ ms → IsTrueWorld j w → IsInsideWorld graph w → IsInsideWorld graph (take_from_client w c ms)
   in_take_from_client w c [] e r h = h
   in_take_from_client w c (m ∷ ms) e r h = in_scheduler (record w { from_client = put w.from_client c ms }) (FromClient c m) all.0 tt
-    (record { sched = r.sched; workers = r.workers; clients = r.clients; up = r.up; to_client = r.to_client; answers = r.answers })
-    (record {
-      shape = h.shape; workers = h.workers; clients = h.clients; spilled = h.spilled; down = h.down; up = h.up; to_client = h.to_client; requests = h.requests; answers = h.answers;
-      from_client = at_one c (λ b x. AllByRecursion (λ m. AreKeys graph (client_keys m)) (cond b ms (w.from_client x))) all.1 h.from_client;
-    })
+      (record { sched = r.sched; workers = r.workers; clients = r.clients; up = r.up; to_client = r.to_client; answers = r.answers })
+      (record {
+        shape = h.shape;
+        workers = h.workers;
+        clients = h.clients;
+        spilled = h.spilled;
+        down = h.down;
+        up = h.up;
+        to_client = h.to_client;
+        requests = h.requests;
+        answers = h.answers;
+        from_client = at_one c (λ b x. AllByRecursion (λ m. AreKeys graph (client_keys m)) (cond b ms (w.from_client x))) all.1 h.from_client;
+      })
     where
       all : AllByRecursion (λ m. AreKeys graph (client_keys m)) (m ∷ ms)
       all = subst (λ l. AllByRecursion (λ m. AreKeys graph (client_keys m)) l) e (h.from_client c)
 
   in_new_at : (w : World) (i threads : ℕ) → IsInsideWorld graph w → IsInsideWorld graph (new_at w i threads)
   in_new_at w i threads h = record {
-    shape = h.shape; clients = h.clients; spilled = h.spilled; down = h.down; up = h.up; to_client = h.to_client; from_client = h.from_client; requests = h.requests; answers = h.answers;
+    shape = h.shape;
+    clients = h.clients;
+    spilled = h.spilled;
+    down = h.down;
+    up = h.up;
+    to_client = h.to_client;
+    from_client = h.from_client;
+    requests = h.requests;
+    answers = h.answers;
     workers = at_one i (λ b x. IsInsideWorker graph (cond b (new_worker w.sched.setting.shape i threads) (w.workers x)))
-      (record { shape = h.shape; mem = λ k e. absurd (false≢true e); running = λ k e. absurd (false≢true e); asks = tt }) h.workers;
+        (record { shape = h.shape; mem = λ k e. absurd (false≢true e); running = λ k e. absurd (false≢true e); asks = tt }) h.workers;
   }
 
   true_new : (w : World) (i threads : ℕ) → IsTrueWorld j w → IsTrueWorld j (new_at w i threads)
@@ -200,24 +255,46 @@ module _ (j : Job) (low : IsShape j.setting.shape) where
 
   in_died : (w : World) (i : ℕ) → IsInsideWorld graph w → IsInsideWorld graph (died w i)
   in_died w i h = record {
-    shape = h.shape; clients = h.clients; down = h.down; up = h.up; to_client = h.to_client; from_client = h.from_client; requests = h.requests; answers = h.answers;
+    shape = h.shape;
+    clients = h.clients;
+    down = h.down;
+    up = h.up;
+    to_client = h.to_client;
+    from_client = h.from_client;
+    requests = h.requests;
+    answers = h.answers;
     workers = at_one i (λ b x. IsInsideWorker graph (cond b (record (w.workers i) { mem = λ k. false }) (w.workers x)))
-      (record { shape = (h.workers i).shape; mem = λ k e. absurd (false≢true e); running = (h.workers i).running; asks = (h.workers i).asks }) h.workers;
+        (record { shape = (h.workers i).shape; mem = λ k e. absurd (false≢true e); running = (h.workers i).running; asks = (h.workers i).asks }) h.workers;
     spilled = at_one i (λ b x. (k : ℕ) → cond b (λ k. false) (w.spilled x) k ≡ true → IsKey graph k) (λ k e. absurd (false≢true e)) h.spilled;
   }
 
   in_cut_off : (w : World) (i : ℕ) → IsInsideWorld graph w → IsInsideWorld graph (cut_off w i)
   in_cut_off w i h = record {
-    shape = h.shape; workers = h.workers; clients = h.clients; spilled = h.spilled; to_client = h.to_client; from_client = h.from_client; requests = h.requests; answers = h.answers;
+    shape = h.shape;
+    workers = h.workers;
+    clients = h.clients;
+    spilled = h.spilled;
+    to_client = h.to_client;
+    from_client = h.from_client;
+    requests = h.requests;
+    answers = h.answers;
     down = at_one i (λ b x. AllByRecursion (λ m. AreKeys graph (down_keys m)) (cond b [] (w.down x))) tt h.down;
     up = at_one i (λ b x. AllByRecursion (λ m. AreKeys graph (up_keys m)) (cond b [] (w.up x))) tt h.up;
   }
 
   in_spill : (w : World) (i k : ℕ) → (w.workers i).mem k ≡ true → IsInsideWorld graph w → IsInsideWorld graph (spill w i k)
   in_spill w i k m h = record {
-    shape = h.shape; workers = h.workers; clients = h.clients; down = h.down; up = h.up; to_client = h.to_client; from_client = h.from_client; requests = h.requests; answers = h.answers;
+    shape = h.shape;
+    workers = h.workers;
+    clients = h.clients;
+    down = h.down;
+    up = h.up;
+    to_client = h.to_client;
+    from_client = h.from_client;
+    requests = h.requests;
+    answers = h.answers;
     spilled = at_one i (λ b x. (q : ℕ) → cond b (put (w.spilled i) k true) (w.spilled x) q ≡ true → IsKey graph q)
-      (at_one k (λ b q. cond b true (w.spilled i q) ≡ true → IsKey graph q) (λ e. (h.workers i).mem k m) (h.spilled i)) h.spilled;
+        (at_one k (λ b q. cond b true (w.spilled i q) ≡ true → IsKey graph q) (λ e. (h.workers i).mem k m) (h.spilled i)) h.spilled;
   }
 
   pub in_world_step : (w : World) (e : Event) → enabled w e ≡ true → IsTrueWorld j w → IsInsideWorld graph w → IsInsideWorld graph (world_step j w e)
@@ -249,7 +326,12 @@ module _ (j : Job) (low : IsShape j.setting.shape) where
     workers = λ i. record { shape = refl; mem = λ k e. absurd (false≢true e); running = λ k e. absurd (false≢true e); asks = tt };
     clients = λ c. record { shape = refl; asks = tt };
     spilled = λ i k e. absurd (false≢true e);
-    down = λ i. tt; up = λ i. tt; to_client = λ c. tt; from_client = λ c. tt; requests = tt; answers = tt;
+    down = λ i. tt;
+    up = λ i. tt;
+    to_client = λ c. tt;
+    from_client = λ c. tt;
+    requests = tt;
+    answers = tt;
   }
 
   in_from : (w : World) (es : List Event) → LegalFrom j w es → IsTrueWorld j w → IsInsideWorld graph w → IsInsideWorld graph (run_from j w es)
