@@ -16,3 +16,6 @@ pub mod SoundStep
 pub mod NothingLemmas
 pub mod ChoiceAppend
 pub mod TotalLemmas
+pub mod InsideWorker
+pub mod InsideSched
+pub mod InsideWorld

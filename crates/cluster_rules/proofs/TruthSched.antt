@@ -102,7 +102,7 @@ module _ (j : Job) where
   true_evicted f None h = h
   true_evicted f (Some p) h = record { setting = h.setting; bad = h.bad }
 
-  true_change : (f : Facts) (e : SchedEvent) → IsTrueSchedEvent j e → IsTrueSched j f → IsTrueSched j (change f e).facts
+  pub true_change : (f : Facts) (e : SchedEvent) → IsTrueSchedEvent j e → IsTrueSched j f → IsTrueSched j (change f e).facts
   unfolding joined left wants_more wants_less
   true_change f (Join threads) t h = record { setting = h.setting; bad = h.bad }
   true_change f (Leave w) t h = record { setting = h.setting; bad = h.bad }
@@ -142,7 +142,7 @@ module _ (j : Job) where
       pick true e r = first (q x) _ (subst (λ y. q y ≡ true) (sym (some_is x d e)) z)
       pick false e r = later (q x) _ (r e)
 
-  blame_below : (f : Facts) → IsEarlier (deps f) → (n k b : ℕ) → blame_in f n k ≡ Some b → (f.bad b ≡ true) × (cone (deps f) k b ≡ true)
+  pub blame_below : (f : Facts) → IsEarlier (deps f) → (n k b : ℕ) → blame_in f n k ≡ Some b → (f.bad b ≡ true) × (cone (deps f) k b ≡ true)
   blame_below f low zero k b e = absurd (none_some b e)
   blame_below f low (suc n) k b e = by (λ d i. blame_below f low n d b i) (erred f k) e
     where

@@ -202,7 +202,7 @@ module _ (j : Job) (g : IsShape j.setting.shape) where
   true_take_from_client w c (m ∷ ms) h = true_at_scheduler (record w { from_client = put w.from_client c ms }) (FromClient c m) tt (record { sched = h.sched; workers = h.workers; clients = h.clients; up = h.up; to_client = h.to_client; answers = h.answers })
 
   -- the other events
-  true_new_at : (w : World) (i threads : ℕ) → IsTrueWorld j w → IsTrueWorld j (new_at w i threads)
+  pub true_new_at : (w : World) (i threads : ℕ) → IsTrueWorld j w → IsTrueWorld j (new_at w i threads)
   true_new_at w i threads h = record {
     sched = h.sched;
     clients = h.clients;
@@ -266,7 +266,7 @@ module _ (j : Job) (g : IsShape j.setting.shape) where
       lost_never : {q : ℕ} {z : Bool} → DataLost k ≡ Done q z → ⊥
       lost_never e = cc
 
-  true_opening : IsTrueWorld j (opening j)
+  pub true_opening : IsTrueWorld j (opening j)
   true_opening = record {
     sched = record { setting = refl; bad = λ k e. absurd (false≢true e) };
     workers = λ i. record { shape = refl; at = λ k. record { valued = λ e. absurd (false≢true e); fed = λ e. absurd (false≢true e) } };

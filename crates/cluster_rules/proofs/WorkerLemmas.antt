@@ -259,7 +259,7 @@ kept_down w (AcquireReplicas who) h = kept_fold acquire kept_acquire w who h
 kept_down w (RefreshWhoHas who) h = kept_fold refresh kept_refresh w who h
 
 -- Start
-find_passes : (t : ℕ → Bool) (ks : List ℕ) (k : ℕ) → find t ks ≡ Some k → t k ≡ true
+pub find_passes : (t : ℕ → Bool) (ks : List ℕ) (k : ℕ) → find t ks ≡ Some k → t k ≡ true
 find_passes t [] k h = absurd (some_none h)
   where
     some_none : ◌≡◌ {A = Option ℕ} None (Some k) → ⊥

@@ -17,5 +17,6 @@ pub mod Enabled
 pub mod WorldFrame
 pub mod Runs
 pub mod Truth
+pub mod Inside
 pub mod Report
 pub mod Draw

@@ -9,12 +9,14 @@ ghost use Rattle.cluster_msgs.specs.declared.events.Event.{Event};
 ghost use Rattle.cluster_msgs.specs.declared.events.Event.TheVariants.{Want, Release, Join, Lose, SeeLoss, Suspect, DeliverDown, DeliverUp, DeliverToClient, DeliverFromClient, Start, Finish, SendGather, ServeGather, ArriveGather, FailGather, Balance, Evict, Spill, LoseSpilled};
 ghost use Rattle.cluster_msgs.specs.declared.events.Asker.{Asker};
 ghost use Rattle.cluster_msgs.specs.declared.cores.SchedEvent.TheVariants.{Join as JoinSched, Balance as BalanceSched, Evict as EvictSched};
-ghost use Rattle.cluster_rules.specs.SchedTable.{sched_takes};
+ghost use Rattle.cluster_rules.specs.SchedTable.{sched_takes, up_keys};
 ghost use Rattle.cluster_rules.specs.Functions.{put};
 ghost use Rattle.cluster_rules.specs.Worker.{has_any, would_start, WorkerFacts};
 ghost use Rattle.cluster_rules.specs.World.{Job, World, is_connected, is_client, is_asker, open_ask, parcel_of};
 ghost use Rattle.std.specs.List.{AllByRecursion};
-ghost use Rattle.cluster_msgs.specs.Shape.{IsShape};
+ghost use Rattle.cluster_msgs.specs.Shape.{Shape, IsShape};
+ghost use Rattle.cluster_msgs.specs.declared.cores.WorkerEvent.TheVariants.{Down as Told};
+ghost use Rattle.cluster_rules.specs.Inside.{AreKeys, down_keys, IsInsideWorker, IsInsideWorld};
 ghost use Rattle.cluster_rules.specs.Runs.{legal, reached};
 ghost use Rattle.cluster_msgs.specs.declared.cores.WorkerEvent.{WorkerEvent};
 ghost use Rattle.cluster_rules.specs.WorkerStep.{worker_step, worker_takes};
@@ -104,4 +106,16 @@ pub fn values_of_legal_lists()
         ((reached j es).clients c).got k ≡ true → j.zero k ≡ false }
     ensures failed { (j : Job) → IsShape j.setting.shape → (es : List Event) → legal j es → (c k b : ℕ) →
         ((reached j es).clients c).failed k ≡ Some b → IsBlame j k b }
+{}
+
+/// A worker that is told of keys of the graph alone names no other key.
+pub fn a_workers_keys_are_there()
+    ensures { (g : Shape) (w : WorkerFacts) (m : Down) → AreKeys g (down_keys m) → IsInsideWorker g w →
+        IsInsideWorker g (worker_step w (Told m)).facts × AllByRecursion (λ u. AreKeys g (up_keys u)) (sends (worker_step w (Told m)).out) }
+{}
+
+/// After each legal list of events nothing in the world names a key that isn't there, so that whoever is handed what is
+/// enabled takes it.
+pub fn nothing_names_a_missing_key()
+    ensures { (j : Job) → IsShape j.setting.shape → (es : List Event) → legal j es → IsInsideWorld j.setting.shape (reached j es) }
 {}
