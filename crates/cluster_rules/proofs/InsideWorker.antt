@@ -141,6 +141,9 @@ module _ (g : Shape) where
   in_refresh : (w : WorkerFacts) (p : ℕ × List (ℕ × ℕ)) → IsInsideWorker g w → IsInsideWorker g (refresh w p)
   in_refresh w p h = record { shape = h.shape; mem = h.mem; running = h.running; asks = h.asks }
 
+  own_keys : (w : WorkerFacts) → IsInsideWorker g w → AreKeys g (worker_keys w)
+  own_keys w h = subst (λ (s : Shape). AreKeys g (below (key_count s))) (sym h.shape) (keys_below g)
+
   in_down : (w : WorkerFacts) (m : Down) → AreKeys g (down_keys m) → IsInsideWorker g w → IsInsideStep (take_down w m)
   unfolding take_down remove_replicas
   in_down w (ComputeTask k a who) v h = in_given w k a who v.0 h
@@ -148,12 +151,9 @@ module _ (g : Shape) where
   in_down w (StealRequest k a) v h = in_asked_back w k a v.0 h
   in_down w (RemoveReplicas ks) v h =
       let r = in_each (IsKey g) remove_replica in_remove (quiet w) ks v (quietly w h) in
-      record { facts = r.facts; out = all_append IsInsideOut (each_key remove_replica (quiet w) ks).out _ r.out (in_add w.seen (filter (λ k. w.mem k && awaited w k) ks) (all_filter_in (IsKey g) _ ks v)) }
+      record { facts = r.facts; out = all_append IsInsideOut (each_key remove_replica (quiet w) ks).out _ r.out (in_add w.seen (filter (λ k. is_in k ks && (w.mem k && awaited w k)) (worker_keys w)) (all_filter_in (IsKey g) _ (worker_keys w) (own_keys w h))) }
   in_down w (AcquireReplicas who) v h = quietly _ (in_fold acquire in_acquire w who h)
   in_down w (RefreshWhoHas who) v h = quietly _ (in_fold refresh in_refresh w who h)
-
-  own_keys : (w : WorkerFacts) → IsInsideWorker g w → AreKeys g (worker_keys w)
-  own_keys w h = subst (λ (s : Shape). AreKeys g (below (key_count s))) (sym h.shape) (keys_below g)
 
   started_in : (w : WorkerFacts) → IsInsideWorker g w → (k : ℕ) → would_start w ≡ Some k → IsKey g k
   unfolding would_start
