@@ -1,5 +1,5 @@
 //! A worker that is suspected, and one that is lost.
-ghost use Rattle.std.specs.Prelude.{◌≡◌, ◌∷◌, ◌++◌, [], true, Some, None};
+ghost use Rattle.std.specs.Prelude.{false, ◌≡◌, ◌∷◌, ◌++◌, [], true, Some, None};
 ghost use Rattle.cluster_msgs.specs.declared.messages.ToClient.TheVariants.{LostData};
 ghost use Rattle.cluster_msgs.specs.declared.events.Event.TheVariants.{Lose, SeeLoss, Suspect, DeliverDown, DeliverUp, DeliverToClient, DeliverFromClient, Start, Finish};
 ghost use Rattle.cluster_rules.specs.World.{opening, unfinished};
