@@ -1,0 +1,9 @@
+pub mod Floor
+pub mod Cells
+pub mod Dags
+pub mod Written
+pub mod Under
+pub mod Slicing
+pub mod Turning
+pub mod Merging
+pub mod Folding

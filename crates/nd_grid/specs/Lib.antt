@@ -1,0 +1,5 @@
+pub mod Int64
+pub mod Operation
+pub mod Grid
+pub mod Computed
+pub mod Dags
