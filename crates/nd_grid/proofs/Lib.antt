@@ -1,6 +1,5 @@
 pub mod Floor
 pub mod Cells
-pub mod Dags
 pub mod Written
 pub mod Under
 pub mod Slicing

@@ -2,4 +2,3 @@ pub mod Int64
 pub mod Operation
 pub mod Grid
 pub mod Computed
-pub mod Dags
