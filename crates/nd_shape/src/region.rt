@@ -1,8 +1,9 @@
 // Regions: boxes of indexes.
-ghost use Rattle.std.specs.Prelude.{◌≡◌, ◌+◌, ◌<◌, ◌≤◌, ℕ, [], ◌∷◌, ◌++◌, length, take, replicate, IsTrue, ◌↔◌};
+ghost use Rattle.std.specs.Prelude.{◌≡◌, ◌+◌, ◌<◌, ◌≤◌, ℕ, [], ◌∷◌, ◌++◌, length, take, replicate, IsTrue, ◌↔◌, IfOk};
 ghost use Rattle.nd_shape.specs.Region.{Box, IsPart};
 
-use crate::shape::AXES;
+use crate::shape::{AXES, Shape};
+use std::alloc::{AllocError, Global};
 use std::marker::Model;
 
 /// A box of indexes: per axis its first index and its length. It has room for eight axes from its making, so that
@@ -93,6 +94,16 @@ impl Region {
         region
     }
 
+    /// The shape of what lies in the region of an array.
+    pub fn shape(&self, alloc: Global, whole: &Shape) -> Result<Shape, AllocError>
+        requires { IsPart self.now whole.now }
+        ensures { IfOk result (λ shape. shape ≡ self.now.lengths) }
+    {
+        let _ = whole.dims();
+        let dims = Vec::from_slice(alloc, self.lengths())?;
+        Ok(Shape::of(dims))
+    }
+
     /// Whether the region lies in an array with these lengths, and has as many axes. No memory.
     pub fn is_part(&self, dims: &[u64]) -> bool
         ensures { IsTrue result ↔ IsPart self.now dims.now }
@@ -123,6 +134,17 @@ pub struct Piece {
 #[cfg(test)]
 mod tests {
     use super::*;
+    use std::test::Fail;
+
+    #[test]
+    fn a_region_has_a_shape(rt: HostRuntime) -> Result<(), Fail> {
+        let whole = Shape::line(rt.alloc(), 5)?;
+        let mut region = Region::new();
+        region.push(2, 3);
+        assert!(rt; region.is_part(whole.dims()));
+        assert_eq!(rt; region.shape(rt.alloc(), &whole)?.dims(), [3].as_slice());
+        Ok(())
+    }
 
     #[test]
     fn a_region_is_filled_axis_by_axis(rt: HostRuntime) {

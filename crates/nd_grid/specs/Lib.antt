@@ -1,0 +1,4 @@
+pub mod Int64
+pub mod Operation
+pub mod Grid
+pub mod Computed
