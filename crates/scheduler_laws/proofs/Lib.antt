@@ -1,0 +1,5 @@
+pub mod Lists
+pub mod Fewer
+pub mod Placed
+pub mod Errors
+pub mod SettledLemmas
