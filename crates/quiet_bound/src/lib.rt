@@ -1,0 +1,89 @@
+//! How many events there can be while nothing fails and nobody asks for more: the bound's formula.
+//!
+//! `cluster_rules` stands below, with the definition `quiet_bound` and the world that it is of. The simulated cluster
+//! stands above: its budget of turns is this number. It carries the formula alone: that quiet lists of events are no
+//! longer is not proved here.
+#![tactic(auto)]
+
+ghost use Rattle.std.specs.Prelude.{◌≡◌, ℕ, ◌+◌, ◌*◌, ◌-◌, ◌^◌, ◌≤◌, ◌<◌, nat_le, max, min};
+ghost use Rattle.cluster_rules.specs.World.{quiet_bound, rest_of};
+
+/// The bound for so many clients, messages under way, workers, keys and edges, in events:
+/// `32 * C * (M+1)^2 * (W+1)^2 * (K+E+1)^3`, with at least one client.
+///
+/// Its greatest number, 2^128 - 1, stands for every larger one, and is also the answer where the messages are 2^64 - 1,
+/// which stands for more. It takes no memory.
+pub fn quiet_events(clients: u32, under_way: u64, workers: u64, keys: u32, edges: u32) -> u128
+    ensures { result ≡ rest_of (nat_le (2 ^ 64 - 1) under_way) (quiet_bound (max 1 clients) under_way workers keys edges) }
+{
+    if under_way == u64::MAX {
+        return u128::MAX;
+    }
+    let graph = u128::from(keys) + u128::from(edges) + 1;
+    formula(
+        u128::from(clients.max(1)),
+        u128::from(under_way) + 1,
+        u128::from(workers) + 1,
+        graph,
+    )
+}
+
+/// The formula over counts that are each at least one, or the greatest number where it is larger.
+fn formula(clients: u128, messages: u128, workers: u128, graph: u128) -> u128
+    requires clients { (1 ≤ clients) × (clients < 2 ^ 32) }
+    requires messages { 1 ≤ messages }
+    requires workers { 1 ≤ workers }
+    requires graph { 1 ≤ graph }
+    ensures { result ≡ min (((32 * clients) * (messages ^ 2)) * ((workers ^ 2) * (graph ^ 3))) (2 ^ 128 - 1) }
+{
+    let asked = times(32 * clients, square(messages));
+    times(asked, times(square(workers), cube(graph)))
+}
+
+/// The product, or the greatest number where it is larger.
+fn times(left: u128, right: u128) -> u128
+    ensures { result ≡ min (left * right) (2 ^ 128 - 1) }
+{
+    left.saturating_mul(right)
+}
+
+/// The second power, or the greatest number where it is larger.
+fn square(base: u128) -> u128
+    ensures { result ≡ min (base ^ 2) (2 ^ 128 - 1) }
+{
+    base.saturating_mul(base)
+}
+
+/// The third power, or the greatest number where it is larger.
+fn cube(base: u128) -> u128
+    requires { 1 ≤ base }
+    ensures { result ≡ min (base ^ 3) (2 ^ 128 - 1) }
+{
+    square(base).saturating_mul(base)
+}
+
+#[cfg(test)]
+mod tests {
+    use super::quiet_events;
+    use std::test::Fail;
+
+    // 32 * 1 * 2^2 * 2^2 * 2^3, and 32 * 1 * 2^2 * 4^2 * 5^3, by hand
+    #[test]
+    fn small_worlds_have_their_bounds(rt: HostRuntime) -> Result<(), Fail> {
+        assert_eq!(rt; quiet_events(1, 1, 1, 1, 0), 4096);
+        assert_eq!(rt; quiet_events(1, 1, 3, 3, 1), 256_000);
+        assert_eq!(rt; quiet_events(0, 0, 0, 0, 0), 32);
+        Ok(())
+    }
+
+    // 32 * 16 * 2^80 * 2^42 * 1 is 2^131
+    #[test]
+    fn a_bound_past_128_bits_is_the_greatest_number(rt: HostRuntime) -> Result<(), Fail> {
+        assert_eq!(rt;
+            quiet_events(16, (1 << 40) - 1, (1 << 21) - 1, 0, 0),
+            u128::MAX
+        );
+        assert_eq!(rt; quiet_events(1, u64::MAX, 0, 0, 0), u128::MAX);
+        Ok(())
+    }
+}
