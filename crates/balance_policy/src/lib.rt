@@ -1,0 +1,21 @@
+//! Which task is stolen and which replica is dropped, after "Work Stealing" and "Active Memory Manager" of
+//! Dask.distributed's documentation (<https://distributed.dask.org/en/stable/work-stealing.html>,
+//! <https://distributed.dask.org/en/stable/active_memory_manager.html>).
+//!
+//! The questions of `cluster_rules::Facts` and `placement::missing_bytes` stand below, so any scheduler that answers
+//! them may be asked. The scheduler's core stands above and asks at its events Balance and Evict. The promise: the answer
+//! is the least of all choices, in the order that the cluster's rules say, and there is none exactly where there is no
+//! choice. No call takes memory.
+#![tactic(auto)]
+
+pub mod drop;
+pub mod idle;
+pub mod level;
+pub mod offer;
+pub mod steal;
+
+pub use drop::next_drop;
+pub use steal::next_steal;
+
+#[cfg(test)]
+mod tests;
