@@ -1,0 +1,3 @@
+pub mod PairLemmas
+pub mod ChangeLemmas
+pub mod Counting

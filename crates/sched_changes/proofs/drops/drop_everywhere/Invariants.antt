@@ -1,0 +1,13 @@
+use Rattle.std.proofs.Common.{◌≡◌, ◌&&◌, ◌||◌, ℕ, leb}
+use Rattle.std.proofs.Math.Dec.{eqb}
+use Rattle.cluster_rules.specs.Sched.{holds}
+use Rattle.sched_facts.specs.Stored.{facts_of}
+use Rattle.sched_changes.specs.Pairs.{has_pair}
+use Rattle.sched_changes.specs.Dropped.{copies_up_to}
+use Rattle.sched_changes.proofs.drops.drop_everywhere.Given as goal
+
+abbrev pub invariant-loop-before : goal.invariant-loop-before
+invariant-loop-before l = let f = facts_of l.fn.table in record {
+  facts : facts_of l.table ≡ copies_up_to l.key f l.before;
+  lost : (w j : ℕ) → has_pair l.lost w j ≡ (has_pair l.fn.lost w j || (holds f w j && (eqb j l.key && (leb 1 w && leb w l.before))));
+}

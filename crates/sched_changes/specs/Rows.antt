@@ -1,0 +1,9 @@
+-- What add-keys says of one key.
+use Rattle.std.specs.Prelude.{ℕ, nat_le, Bool, cond}
+use Rattle.cluster_rules.specs.Sched.{Facts, holds, held, is_on}
+use Rattle.sched_changes.specs.declared.changes.News.{News}
+use Rattle.sched_changes.specs.declared.changes.News.TheVariants.{Nothing, Copy, Stray}
+
+-- nothing new, a new copy of a key that is held elsewhere, or a key that the worker should not hold
+abbrev pub news_of : Facts → ℕ → ℕ → ℕ → News
+news_of f w seen k = cond (nat_le (f.fence w k) seen) (cond (holds f w k) Nothing (cond (held f k) Copy (cond (is_on f w k) Nothing Stray))) Nothing

@@ -1,0 +1,8 @@
+use Rattle.std.proofs.Common.{sym, ap, ◌∙◌}
+use Rattle.std.specs.Prelude.{nat_lt}
+use Rattle.sched_facts.specs.Stored.{facts_of}
+use Rattle.sched_facts.proofs.Rooms.{any-wanted}
+use Rattle.sched_facts.proofs.table.FactTable.is_wanted.Goals as goal
+
+pub returns : goal.returns
+returns c = rw (← c.self.view_is) (c.is_positive.ensures ∙ ap (nat_lt 0) (c.sum_at.ensures ∙ c.self.invariant.sums.wanters c.args.key) ∙ sym (any-wanted (facts_of c.self.inside.store) c.args.key))

@@ -1,0 +1,5 @@
+pub mod Stored
+pub mod Stores
+pub mod Kept
+pub mod Tables
+pub mod Derived
