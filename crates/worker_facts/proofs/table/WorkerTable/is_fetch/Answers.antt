@@ -1,0 +1,12 @@
+use Rattle.std.proofs.Common.{◌∙◌, sym, not, is_some}
+use Rattle.cluster_rules.specs.Worker.{wstate, is_ready_state, is_fetch_state, is_missing_state, is_unstarted_state, is_wanted, is_fed, has_any, flying}
+use Rattle.cluster_rules.proofs.WorkerLemmas.{fetch_state-is}
+use Rattle.worker_facts.proofs.FactLemmas.{and_last}
+use Rattle.worker_facts.specs.Stored.{facts_of}
+use Rattle.worker_facts.proofs.table.WorkerTable.is_fetch.Goals as goal
+
+pub returns : goal.returns
+returns c =
+    let w = facts_of c.args.self.now in
+    let k = c.args.key in
+    rw (c.is_lacking.ensures, c.has_holder.ensures) (and_last (not (w.mem k)) (not (w.running k)) (not (flying w k)) (not (is_some (w.mine k))) (is_wanted w k) (has_any (w.holders k)) ∙ sym (fetch_state-is w k))

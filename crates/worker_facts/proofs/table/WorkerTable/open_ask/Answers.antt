@@ -1,0 +1,45 @@
+use Rattle.std.proofs.Common.{◌≡◌, ◌<◌, ◌≤◌, ◌∙◌, ◌||◌, ap, sym, refl, arith, false, true, not}
+use Rattle.std.specs.Prelude.{nat_lt}
+use Rattle.std.specs.List.{insert, position_or_len}
+use Rattle.std.proofs.lemmas.List.{get_or_past}
+use Rattle.cluster_msgs.specs.Shape.{key_count}
+use Rattle.cluster_rules.specs.Worker.{Ask, is_asked_for, names_key, with_ask}
+use Rattle.worker_facts.proofs.FactLemmas.{flying_all, asked-with, with_ask-insert, not_true}
+use Rattle.worker_facts.specs.Stored.{facts_of}
+use Rattle.worker_facts.proofs.table.WorkerTable.open_ask.Goals as goal
+
+pub invariant_of-self-2 : goal.invariant_of-self-2
+unfolding facts_of
+invariant_of-self-2 c =
+    let a = c.self.inside in
+    let v = c.self.invariant in
+    let ask : Ask = record { peer = c.args.peer; number = a.next_ask; items = c.args.items.items } in
+    let kept : c.insert.new.self.items ≡ with_ask ask a.asks.items
+    = c.in_ok-insert.ensures.items
+    ∙ ap (λ n. insert a.asks.items n c.new-ask.result) (c.place_for-place.ensures.place ∙ ap (position_or_len (λ (b : Ask). nat_lt c.args.peer b.peer)) c.as_slice.ensures.value)
+    ∙ ap (λ x. insert a.asks.items (position_or_len (λ (b : Ask). nat_lt c.args.peer b.peer) a.asks.items) x) c.new-ask.ensures
+    ∙ with_ask-insert ask a.asks.items in
+    let named = rw (← c.self.view_is) at c.requires.keys in
+    record {
+      rows = record { shape = v.rows.shape; mine = v.rows.mine; mem = v.rows.mem; running = v.rows.running; holders = v.rows.holders; asked = v.rows.asked; sought = v.rows.sought; failed = v.rows.failed };
+      flying_each = c.mark_asked.ensures.length ∙ v.flying_each;
+      awaiting_each = v.awaiting_each;
+      flying = flying_all c.mark_asked.new.row c.insert.new.self.items (key_count a.shape) (c.mark_asked.ensures.length ∙ v.flying_each)
+          (λ k h. c.mark_asked.ensures.marked k (omega (arith, h, v.flying_each)) ∙ ap (λ bs. is_asked_for bs k) c.as_slice-2.ensures.value)
+          (λ k h. ap (λ bs. is_asked_for bs k) kept ∙ asked-with ask a.asks.items k
+          ∙ ap (λ b. b || is_asked_for a.asks.items k) (not_true (names_key k ask) (λ e. let l : k < key_count a.shape = named k e in omega (arith, l, h)))
+          ∙ sym (v.flying k) ∙ get_or_past a.flying k false (omega (arith, h, v.flying_each)));
+      awaiting = v.awaiting;
+    }
+
+pub returns : goal.returns
+unfolding facts_of
+returns c =
+    let a = c.self.inside in
+    let ask : Ask = record { peer = c.args.peer; number = a.next_ask; items = c.args.items.items } in
+    let kept : c.insert.new.self.items ≡ with_ask ask a.asks.items
+    = c.in_ok-insert.ensures.items
+    ∙ ap (λ n. insert a.asks.items n c.new-ask.result) (c.place_for-place.ensures.place ∙ ap (position_or_len (λ (b : Ask). nat_lt c.args.peer b.peer)) c.as_slice.ensures.value)
+    ∙ ap (λ x. insert a.asks.items (position_or_len (λ (b : Ask). nat_lt c.args.peer b.peer) a.asks.items) x) c.new-ask.ensures
+    ∙ with_ask-insert ask a.asks.items in
+    rw (← c.self.view_is, kept) refl
