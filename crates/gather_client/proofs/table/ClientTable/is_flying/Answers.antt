@@ -1,0 +1,6 @@
+use Rattle.gather_client.specs.Stored.{facts_of}
+use Rattle.gather_client.proofs.table.ClientTable.is_flying.Goals as goal
+
+pub returns : goal.returns
+unfolding facts_of
+returns c = rw (← c.self.view_is) c.names.ensures

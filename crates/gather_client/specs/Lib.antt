@@ -1,0 +1,6 @@
+pub mod Stored
+pub mod Steps
+pub mod CoreState
+pub mod Table
+pub mod Kept
+pub mod Inner

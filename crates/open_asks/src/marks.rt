@@ -1,0 +1,39 @@
+//! Loops that mark keys.
+ghost use Rattle.std.specs.Prelude.{◌≡◌, ◌==◌, ◌||◌, ◌<◌, ℕ, false, length};
+ghost use Rattle.std.specs.List.{list_any};
+ghost use Rattle.cluster_rules.specs.Worker.{is_asked_for};
+ghost use Rattle.fact_rows.specs.Rows.{read};
+
+use crate::asks::OpenAsk;
+use fact_rows::Row;
+
+/// Marks a key, where the row has it.
+fn mark_key(row: &mut Row<bool>, key: u32)
+    ensures marked { (k : ℕ) → k < length row.old → read row.new false k ≡ (read row.old false k || key == k) }
+    ensures length { length row.new ≡ length row.old }
+{
+    if (key as usize) < row.len() {
+        row.set(key, true);
+    }
+}
+
+/// Marks the keys of these items.
+fn mark_items(row: &mut Row<bool>, items: &[(u32, u64)])
+    ensures marked { (k : ℕ) → k < length row.old → read row.new false k ≡ (read row.old false k || list_any (λ i. i.0 == k) items.now) }
+    ensures length { length row.new ≡ length row.old }
+{
+    for item in items {
+        mark_key(row, item.0);
+    }
+}
+
+/// Marks the keys that these asks name, and no other.
+pub fn mark_asked(row: &mut Row<bool>, asks: &[OpenAsk])
+    ensures marked { (k : ℕ) → k < length row.old → read row.new false k ≡ is_asked_for asks.now k }
+    ensures length { length row.new ≡ length row.old }
+{
+    row.fill(false);
+    for ask in asks {
+        mark_items(row, ask.items());
+    }
+}
