@@ -1,0 +1,4 @@
+pub mod Growing
+pub mod Listed
+pub mod Joined
+pub mod Parted

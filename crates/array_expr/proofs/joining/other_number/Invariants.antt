@@ -1,0 +1,7 @@
+use Rattle.std.proofs.Common.{◌≡◌, length, map, take}
+use Rattle.std.specs.Prelude.{All}
+use Rattle.array_expr.specs.Node.{shape_at}
+use Rattle.array_expr.proofs.joining.other_number.Given as goal
+
+abbrev pub invariant-loop-node : goal.invariant-loop-node
+invariant-loop-node l = All (λ dims. length dims ≡ l.axes) (take l.node-index (map (shape_at l.nodes) l.of))

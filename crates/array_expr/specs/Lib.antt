@@ -1,0 +1,5 @@
+pub mod Texts
+pub mod Axes
+pub mod Node
+pub mod Refusal
+pub mod Elem
