@@ -1,0 +1,7 @@
+pub mod Actions
+pub mod Phrases
+pub mod JobGrammar
+pub mod Heads
+pub mod Bounded
+pub mod JobRows
+pub mod Texts
