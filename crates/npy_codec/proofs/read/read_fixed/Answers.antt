@@ -1,0 +1,19 @@
+use Rattle.std.proofs.Common.{length, ap, ◌∙◌}
+use Rattle.io_edge.specs.Content.{file_at}
+use Rattle.npy_codec.proofs.FrontLemmas.{as_front, lens_of_front, front_errors, front_long}
+use Rattle.npy_codec.proofs.read.read_fixed.Goals as goal
+
+pub returns-clause-long : goal.returns-clause-long
+returns-clause-long g c = front_long c.args.size c.deref.result.now c.text_len.result (ap length c.deref.ensures.value ∙ c.in_ok-front.ensures.size ∙ c.min.ensures) c.text_len.ensures.fixed
+
+pub returns-clause-value : goal.returns-clause-value
+returns-clause-value g c =
+    let file = file_at (g.S.Store.files c.args.store.now) c.args.file in
+    let front = as_front file c.in_ok-front.front.items c.deref.result.now c.args.size c.min.result c.in_ok-front.ensures.part c.min.ensures c.requires.size c.deref.ensures.value in
+    lens_of_front file c.deref.result.now c.text_len.result front c.text_len.ensures.fixed c.text_len.ensures.value
+
+pub returns-clause-refused : goal.returns-clause-refused
+returns-clause-refused g c =
+    let file = file_at (g.S.Store.files c.args.store.now) c.args.file in
+    let front = as_front file c.in_ok-front.front.items c.deref.result.now c.args.size c.min.result c.in_ok-front.ensures.part c.min.ensures c.requires.size c.deref.ensures.value in
+    front_errors file c.deref.result.now c.text_len.result front c.text_len.ensures.refused

@@ -1,0 +1,16 @@
+use Rattle.std.proofs.Common.{◌≡◌, ◌≤◌, ◌+◌, ◌-◌, length}
+use Rattle.io_edge.specs.Content.{file_at}
+use Rattle.npy_region.proofs.CellLemmas.{ReadTo}
+use Rattle.npy_region.proofs.cells.read_cells.Given as goal
+
+abbrev pub invariant-loop-done : goal.invariant-loop-done
+invariant-loop-done g l = record {
+  within : l.done ≤ l.count;
+  same : g.S.Store.files l.store ≡ g.S.Store.files l.fn.store;
+  kept : g.S.Store.count l.store ≡ g.S.Store.count l.fn.store;
+  read : ReadTo (file_at (g.S.Store.files l.fn.store) l.file) l.offset l.done l.initial.out.items l.out.items;
+  size : length l.out.items ≡ length l.initial.out.items + l.done;
+}
+
+abbrev pub decreases-loop-done : goal.decreases-loop-done
+decreases-loop-done g l = l.count - l.done

@@ -1,0 +1,17 @@
+//! Parts of NumPy's `.npy` files: regions of a file's array, and the byte runs that hold them.
+//!
+//! It stands on the heads of `npy_codec` and on the walks of `nd_rows`, and the sequential evaluation and all that loads
+//! blocks stand on it. It carries the promise that what is read of a region is its elements, in row-major order whichever
+//! order the file has, that a region is refused exactly where its last run ends past the file, and that runs hold each
+//! element once and are as few as there can be. A fault of reading comes only where the store counted one.
+#![tactic(auto)]
+
+mod cells;
+mod region;
+mod runs;
+
+pub use region::read_region;
+pub use runs::{Run, RunList, region_runs};
+
+#[cfg(test)]
+mod tests;

@@ -1,0 +1,131 @@
+// Reads regions of a file's array.
+ghost use Rattle.std.specs.Prelude.{◌≡◌, ◌≤◌, ◌<◌, ◌+◌, ◌-◌, ◌*◌, ◌^◌, ℕ, length, IfOk, IfErr, OnOk, IsErrOf};
+ghost use Rattle.io_edge.specs.Cause.{Rose};
+ghost use Rattle.io_edge.specs.Content.{size_of, file_at, OnTold};
+ghost use Rattle.nd_shape.specs.Region.{IsPart};
+ghost use Rattle.nd_shape.specs.Shape.{elements};
+ghost use Rattle.nd_rows.specs.Storage.{count_of, spot, walk_of};
+ghost use Rattle.npy_region.specs.Cells.{AreStored, EndsWithin, InRowMajor};
+ghost use Rattle.npy_codec.specs.Fronts.{IsFaultOrMemory};
+ghost use Rattle.npy_codec.specs.Regions.{HoldsRegion, RegionRefusedAs, needed};
+
+use crate::cells::read_cells;
+use io_edge::Store;
+use nd_rows::{RegionWalk, from_column_major};
+use nd_shape::{Block, Region, Shape};
+use npy_codec::{Head, NpyError};
+use std::alloc::{AllocError, Global};
+
+// The bytes that are read at once, at most.
+const PIECE: usize = 65536;
+
+// The data bytes up to the end of the region's last element.
+fn bytes_needed(head: &Head, region: &Region, walk: &mut RegionWalk) -> u64
+    requires part { IsPart region.now head.now.shape }
+    requires walk { walk.old ≡ walk_of head.now.fortran head.now.shape region.now }
+    ensures same { walk.new ≡ walk.old }
+    ensures needed { result ≡ needed head.now region.now }
+    ensures last { (q : ℕ) → q < count_of walk.old → 8 * (spot walk.old q + 1) ≤ result }
+    ensures limit { result ≤ 2 ^ 34 }
+{
+    let _ = head.fortran;
+    let _ = region.lengths();
+    let count = walk.len();
+    if count == 0 {
+        return 0;
+    }
+    8 * (walk.place(count - 1) + 1)
+}
+
+// The region's elements in the order in which the file has them, row by row.
+fn read_stored<S: Store>(
+    alloc: Global,
+    store: &mut S,
+    file: u32,
+    data_at: u64,
+    walk: &mut RegionWalk,
+) -> Result<Vec<i64>, NpyError>
+    requires there { file < length (S.files store.old) }
+    requires near { data_at ≤ 2 ^ 21 }
+    requires some { 0 < count_of walk.old }
+    requires room { EndsWithin walk.old data_at (size_of (file_at (S.files store.old) file)) }
+    ensures same { S.files store.new ≡ S.files store.old }
+    ensures walk { walk.new ≡ walk.old }
+    ensures later { S.count store.old ≤ S.count store.new }
+    ensures kept { OnOk result (S.count store.new ≡ S.count store.old) }
+    ensures cells { IfOk result (λ v. OnTold (file_at (S.files store.old) file) (λ bytes. AreStored bytes data_at walk.old (count_of walk.old) v.items)) }
+    ensures size { IfOk result (λ v. length v.items ≡ count_of walk.old) }
+    ensures cause { IfErr result IsFaultOrMemory }
+    ensures fault { IsErrOf result NpyError.ReadFault → Rose (S.count store.old) (S.count store.new) }
+{
+    let count = walk.len();
+    let row = walk.row_len();
+    let mut room = vec![in alloc; 0; PIECE]?;
+    let buffer = room.as_mut_slice();
+    let mut cells = Vec::with_capacity(alloc, count as usize)?;
+    for k in 0..count / row {
+        let offset = data_at + 8 * walk.place(k * row);
+        read_cells(store, file, offset, row, buffer, &mut cells)?;
+    }
+    Ok(cells)
+}
+
+// The elements of a block in row-major order, from those in the order of the file.
+fn in_row_major(
+    alloc: Global,
+    column_major: bool,
+    shape: &Shape,
+    stored: Vec<i64>,
+) -> Result<Vec<i64>, AllocError>
+    requires { length stored.items ≡ elements shape.now }
+    ensures count { IfOk result (λ v. length v.items ≡ elements shape.now) }
+    ensures cells { IfOk result (λ v. InRowMajor column_major shape.now stored.items v.items) }
+{
+    if column_major {
+        from_column_major(alloc, shape, &stored)
+    } else {
+        Ok(stored)
+    }
+}
+
+/// Reads a region of a file's array into a block, in row-major order, whichever order the file has. It is refused as
+/// `Truncated` exactly where the region's last run ends past the file; the two counts are of data bytes.
+///
+/// Where the store doesn't tell what the file holds, nothing is said of the elements.
+pub fn read_region<S: Store>(
+    alloc: Global,
+    store: &mut S,
+    file: u32,
+    head: &Head,
+    region: &Region,
+) -> Result<Block, NpyError>
+    requires there { file < length (S.files store.old) }
+    requires part { IsPart region.now head.now.shape }
+    requires near { head.now.data_at ≤ 2 ^ 21 }
+    ensures same { S.files store.new ≡ S.files store.old }
+    ensures later { S.count store.old ≤ S.count store.new }
+    ensures kept { OnOk result (S.count store.new ≡ S.count store.old) }
+    ensures shape { IfOk result (λ block. block.shape ≡ region.now.lengths) }
+    ensures cells { IfOk result (λ block. OnTold (file_at (S.files store.old) file) (λ bytes. HoldsRegion bytes head.now region.now block)) }
+    ensures room { OnOk result (needed head.now region.now ≤ size_of (file_at (S.files store.old) file) - head.now.data_at) }
+    ensures refused { IfErr result (RegionRefusedAs (size_of (file_at (S.files store.old) file)) head.now region.now) }
+    ensures fault { IsErrOf result NpyError.ReadFault → Rose (S.count store.old) (S.count store.new) }
+{
+    let mut walk = RegionWalk::new(alloc, head.fortran, &head.shape, region)?;
+    let needs = bytes_needed(head, region, &mut walk);
+    let size = store.len(file)?;
+    let has = size.saturating_sub(head.data_at);
+    if has < needs {
+        return Err(NpyError::Truncated { has, needs });
+    }
+    let shape = region.shape(alloc, &head.shape)?;
+    let count = walk.len();
+    if count == 0 {
+        let empty = Block::new(shape, Vec::new(alloc));
+        return Ok(empty);
+    }
+    let stored = read_stored(alloc, store, file, head.data_at, &mut walk)?;
+    let cells = in_row_major(alloc, head.fortran, &shape, stored)?;
+    let block = Block::new(shape, cells);
+    Ok(block)
+}

@@ -1,0 +1,123 @@
+// The byte runs of a file that hold a region.
+ghost use Rattle.std.specs.Prelude.{◌≡◌, ◌≤◌, ◌<◌, ◌+◌, ◌*◌, ◌^◌, None, IfOk, IfSome};
+ghost use Rattle.nd_shape.specs.Region.{IsPart};
+ghost use Rattle.nd_rows.specs.Storage.{count_of, spot, target};
+ghost use Rattle.npy_region.specs.Building.{IsJoined, PutsRun, Splits};
+ghost use Rattle.npy_region.specs.Runs.{AreRuns, GoesOn};
+
+use nd_rows::{BlockTargets, RegionWalk};
+use nd_shape::{Region, Sequence};
+use npy_codec::Head;
+use std::alloc::{AllocError, Global};
+
+/// Bytes that are contiguous in a file, and whose elements are contiguous in a block.
+#[derive(Clone, Copy, Debug, PartialEq, Eq)]
+pub struct Run {
+    /// Where it begins in the file, in bytes.
+    pub offset: u64,
+    /// How many bytes it has.
+    pub length: u64,
+    /// Where its first element stands in the block, in row-major order.
+    pub place: u64,
+}
+
+/// Runs, ascending by offset.
+pub type RunList = Sequence<Run>;
+
+// The first run with the second, where that goes on at its end.
+fn joined(first: Run, second: Run) -> Option<Run>
+    requires offset { first.offset ≤ 2 ^ 35 }
+    requires place { first.place ≤ 2 ^ 35 }
+    requires first { first.length ≤ 2 ^ 35 }
+    requires second { second.length ≤ 2 ^ 35 }
+    ensures value { IfSome result (λ run. IsJoined first second run) }
+    ensures apart { result ≡ None → GoesOn first second → ⊥ }
+{
+    if second.offset != first.offset + first.length {
+        return None;
+    }
+    if second.place != first.place + first.length / 8 {
+        return None;
+    }
+    Some(Run {
+        offset: first.offset,
+        length: first.length + second.length,
+        place: first.place,
+    })
+}
+
+// Puts one more run behind others: the last one is put together with it, or is finished.
+fn put_run(runs: &mut Vec<Run>, last: Run, next: Run) -> Result<Run, AllocError>
+    requires offset { last.offset ≤ 2 ^ 35 }
+    requires place { last.place ≤ 2 ^ 35 }
+    requires last { last.length ≤ 2 ^ 35 }
+    requires next { next.length ≤ 2 ^ 35 }
+    ensures { IfOk result (λ run. PutsRun runs.old.items last next runs.new.items run) }
+{
+    match joined(last, next) {
+        Some(run) => Ok(run),
+        None => {
+            runs.push(last)?;
+            Ok(next)
+        }
+    }
+}
+
+// How many elements of a region at once are stored and stand in the block one behind the other.
+fn unit_len(column_major: bool, walk: &RegionWalk) -> u64
+    requires { 0 < count_of walk.now }
+    ensures { Splits column_major walk.now result }
+{
+    if column_major { 1 } else { walk.row_len() }
+}
+
+// The run of some elements from this number on.
+fn unit_run(
+    data_at: u64,
+    walk: &mut RegionWalk,
+    targets: &mut BlockTargets,
+    element: u64,
+    unit: u64,
+) -> Run
+    requires near { data_at ≤ 2 ^ 21 }
+    requires inside { element < count_of walk.old }
+    requires block { targets.old.lengths ≡ walk.old.region.lengths }
+    requires small { unit ≤ 2 ^ 31 }
+    ensures walk { walk.new ≡ walk.old }
+    ensures targets { targets.new ≡ targets.old }
+    ensures run { result ≡ record { offset = data_at + 8 * spot walk.old element; length = 8 * unit; place = target targets.old.by_column targets.old.lengths element } }
+    ensures offset { result.offset ≤ 2 ^ 35 }
+    ensures place { result.place ≤ 2 ^ 35 }
+{
+    Run {
+        offset: data_at + 8 * walk.place(element),
+        length: 8 * unit,
+        place: targets.place(element),
+    }
+}
+
+/// The runs that hold a region of a file's array, and where each goes in the region's block: as few as there can be,
+/// ascending by offset.
+pub fn region_runs(alloc: Global, head: &Head, region: &Region) -> Result<RunList, AllocError>
+    requires part { IsPart region.now head.now.shape }
+    requires near { head.now.data_at ≤ 2 ^ 21 }
+    ensures { IfOk result (λ runs. AreRuns head.now region.now runs) }
+{
+    let mut walk = RegionWalk::new(alloc, head.fortran, &head.shape, region)?;
+    let block = region.shape(alloc, &head.shape)?;
+    let mut targets = BlockTargets::new(alloc, head.fortran, &block)?;
+    let mut runs = Vec::new(alloc);
+    let count = walk.len();
+    if count == 0 {
+        return Ok(Sequence::from_vec(runs));
+    }
+    let unit = unit_len(head.fortran, &walk);
+    let mut last = unit_run(head.data_at, &mut walk, &mut targets, 0, unit);
+    for k in 1..count / unit {
+        let next = unit_run(head.data_at, &mut walk, &mut targets, k * unit, unit);
+        let joined = put_run(&mut runs, last, next)?;
+        last = joined;
+    }
+    runs.push(last)?;
+    Ok(Sequence::from_vec(runs))
+}
