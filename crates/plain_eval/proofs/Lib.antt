@@ -1,0 +1,11 @@
+pub mod Woven
+pub mod Folding
+pub mod Concatenated
+pub mod Contracting
+pub mod Products
+pub mod Fitting
+pub mod Paired
+pub mod Known
+pub mod Arrays
+pub mod Nodes
+pub mod Agreeing
