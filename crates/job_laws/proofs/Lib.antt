@@ -1,0 +1,5 @@
+pub mod Paths
+pub mod OneReading
+pub mod Counts
+pub mod OneJob
+pub mod OnePlace

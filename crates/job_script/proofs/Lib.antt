@@ -1,0 +1,4 @@
+pub mod Balance
+pub mod Steps
+pub mod Sound
+pub mod Inputs

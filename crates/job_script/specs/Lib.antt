@@ -1,0 +1,10 @@
+pub mod Words
+pub mod Arguments
+pub mod Operands
+pub mod Names
+pub mod Scopes
+pub mod Drafts
+pub mod Meanings
+pub mod Scripts
+pub mod Follows
+pub mod Earlier

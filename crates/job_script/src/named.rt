@@ -1,0 +1,66 @@
+// Names that stand for nodes, and files of nodes.
+ghost use Rattle.std.specs.Prelude.{◌≡◌, IfOk};
+ghost use Rattle.std.specs.Str.{bytes_eq};
+ghost use Rattle.job_script.specs.Names.{node_called};
+
+use array_expr::NodeId;
+use std::alloc::{AllocError, Global};
+use std::marker::Model;
+
+/// A name, or the name of a file, with its node.
+#[derive(Debug, Drop)]
+pub struct Named {
+    name: Vec<u8>,
+    node: NodeId,
+}
+
+impl Model for Named {
+    ghost use Rattle.job_script.specs.Names.{Called};
+
+    ghost Value = { Called };
+
+    ghost view = { λ n. record { name = n.name.items; node = n.node } };
+}
+
+impl Named {
+    pub(crate) fn new(alloc: Global, name: &[u8], node: NodeId) -> Result<Self, AllocError>
+        ensures { IfOk result (λ n. n ≡ record { name = name.now; node = node }) }
+    {
+        Ok(Named {
+            name: Vec::from_slice(alloc, name)?,
+            node,
+        })
+    }
+
+    /// The name. Takes no memory.
+    pub fn name(&self) -> &[u8]
+        ensures { result.now ≡ self.now.name }
+    {
+        self.name.as_slice()
+    }
+
+    /// The node. Takes no memory.
+    pub fn node(&self) -> NodeId
+        ensures { result ≡ self.now.node }
+    {
+        self.node
+    }
+
+    fn is_called(&self, name: &[u8]) -> bool
+        ensures { result ≡ bytes_eq self.now.name name.now }
+    {
+        self.name() == name
+    }
+}
+
+// The first node of this name.
+pub(crate) fn find_node(list: &[Named], name: &[u8]) -> Option<NodeId>
+    ensures { result ≡ node_called list.now name.now }
+{
+    for named in list {
+        if named.is_called(name) {
+            return Some(named.node());
+        }
+    }
+    None
+}

@@ -1,0 +1,76 @@
+-- The files of a job are those of its nodes.
+use Rattle.std.proofs.Common.{◌≡◌, ℕ, zero, suc, ◌+◌, ◌<◌, Bool, true, false, cond, List, [], ◌∷◌, ◌++◌, length, map, Ok, Err, refl, ap, sym, subst, ◌∙◌, arith, append_assoc}
+use Rattle.std.specs.Prelude.{Result, IfOk, All}
+use Rattle.std.proofs.lemmas.List.{append-nil}
+use Rattle.array_expr.specs.declared.expr.Node.{Node}
+use Rattle.array_expr.specs.Elem.{is_input}
+use Rattle.job_script.specs.declared.asked.Asked.{Asked}
+use Rattle.job_script.specs.declared.asked.Asked.TheVariants as AskedVariants
+use Rattle.job_script.specs.declared.asked.Placed.{Placed}
+use Rattle.job_script.specs.Earlier.{asks_input, inputs_from}
+use Rattle.job_script.proofs.Sound.{script-sound}
+use Rattle.job_text.specs.Nodes.{op_of, Builds}
+use Rattle.job_text.specs.Jobs.{Parts, spans_of, input_nodes, IsJob, FilesFit}
+use Rattle.job_text.proofs.Building.{builds-count}
+
+behind-if : (b : Bool) (k : ℕ) (w v : List ℕ) → cond b (k ∷ (w ++ v)) (w ++ v) ≡ cond b (k ∷ w) w ++ v
+behind-if true k w v = refl
+behind-if false k w v = refl
+
+before-if : (b : Bool) (k : ℕ) (w : List ℕ) → cond b (k ∷ []) [] ++ w ≡ cond b (k ∷ w) w
+before-if true k w = refl
+before-if false k w = refl
+
+inputs-more : (k : ℕ) (nodes : List Node) (n : Node) → input_nodes k (nodes ++ n ∷ []) ≡ input_nodes k nodes ++ cond (is_input n.op) ((k + length nodes) ∷ []) []
+inputs-more k [] n =
+    let here : k ≡ k + 0 = omega arith in
+    ap (λ j. cond (is_input n.op) (j ∷ []) []) here
+inputs-more k (q ∷ nodes) n =
+    let at : suc k + length nodes ≡ k + suc (length nodes) = omega arith in
+    ap (λ x. cond (is_input q.op) (k ∷ x) x) (inputs-more (suc k) nodes n)
+    ∙ (behind-if (is_input q.op) k (input_nodes (suc k) nodes) (cond (is_input n.op) ((suc k + length nodes) ∷ []) [])
+    ∙ ap (λ j. cond (is_input q.op) (k ∷ input_nodes (suc k) nodes) (input_nodes (suc k) nodes) ++ cond (is_input n.op) (j ∷ []) []) at)
+
+input-of : (nodes : List Node) (a : Asked) → is_input (op_of nodes a) ≡ asks_input a
+input-of nodes (AskedVariants.Op op) = refl
+input-of nodes (AskedVariants.ReverseAxes of) = refl
+
+builds-inputs : (nodes : List Node) (ps : List Placed) (all : List Node) → Builds nodes ps all → input_nodes 0 all ≡ input_nodes 0 nodes ++ inputs_from (length nodes) ps
+builds-inputs nodes [] all b = ap (input_nodes 0) b ∙ sym (append-nil (input_nodes 0 nodes))
+builds-inputs nodes (p ∷ ps) all b =
+    let n = b.1.node in
+    let more : b.0 ≡ nodes ++ n ∷ [] = b.1.more_is in
+    let size : length b.0 ≡ suc (length nodes) = ap length more ∙ count nodes n in
+    let is : is_input n.op ≡ asks_input p.asked = ap is_input b.1.op_is ∙ input-of nodes p.asked in
+    builds-inputs b.0 ps all b.2
+    ∙ (ap (λ x. x ++ inputs_from (length b.0) ps) (ap (input_nodes 0) more ∙ inputs-more 0 nodes n)
+    ∙ (append_assoc (input_nodes 0 nodes) (cond (is_input n.op) ((0 + length nodes) ∷ []) []) (inputs_from (length b.0) ps)
+    ∙ (ap (λ k. input_nodes 0 nodes ++ (cond (is_input n.op) (k ∷ []) [] ++ inputs_from (length b.0) ps)) (zero-plus (length nodes))
+    ∙ (ap (λ k. input_nodes 0 nodes ++ (cond (is_input n.op) (length nodes ∷ []) [] ++ inputs_from k ps)) size
+    ∙ (ap (λ x. input_nodes 0 nodes ++ x) (before-if (is_input n.op) (length nodes) (inputs_from (suc (length nodes)) ps))
+    ∙ ap (λ t. input_nodes 0 nodes ++ cond t (length nodes ∷ inputs_from (suc (length nodes)) ps) (inputs_from (suc (length nodes)) ps)) is)))))
+  where
+    count : (nodes : List Node) (n : Node) → length (nodes ++ n ∷ []) ≡ suc (length nodes)
+    count [] n = refl
+    count (m ∷ nodes) n = ap suc (count nodes n)
+
+    zero-plus : (n : ℕ) → 0 + n ≡ n
+    zero-plus n = omega arith
+
+spans-count : (text : List ℕ) (ps : List Placed) → length (spans_of text ps) ≡ length ps
+spans-count text [] = refl
+spans-count text (p ∷ ps) = ap suc (spans-count text ps)
+
+pub files-fit : (text : List ℕ) (job : Parts) → IsJob text job → FilesFit job
+files-fit text job j =
+    let s = script-sound text j.script j.is_script in
+    let count : length job.nodes ≡ length j.script.asked = omega (arith, builds-count [] j.script.asked job.nodes j.built.builds) in
+    record {
+      inputs_fit = ap (λ x. map (λ n. n.node) x) j.inputs_are ∙ (s.inputs_are j.whole ∙ sym (builds-inputs [] j.script.asked job.nodes j.built.builds));
+      saves_fit = subst (λ x. All (λ n. n.node < length job.nodes) x) (sym j.saves_are) (subst (λ k. All (λ n. n.node < k) j.script.saves) (sym count) (s.saves_are j.whole));
+      spans_fit = ap length j.built.spans_are ∙ (spans-count text j.script.asked ∙ sym count);
+    }
+
+pub files-if : {E : Type 0} (text : List ℕ) (r : Result Parts E) → IfOk r (IsJob text) → IfOk r FilesFit
+files-if text (Ok job) h = files-fit text job h
+files-if text (Err e) h = tt
