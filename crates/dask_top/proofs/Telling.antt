@@ -1,19 +1,23 @@
--- The line of a refusal.
+-- The line of a refusal is what is told of it.
 use Rattle.std.proofs.Common.{◌≡◌, ℕ, List, subst}
 use Rattle.io_edge.specs.View.{View}
+use Rattle.job_run.specs.declared.ends.Ended.TheVariants.{Done, File, Zero, ReadFault, WriteFault, OutOfMemory}
 use Rattle.dask_top.specs.declared.answer.End.{End}
-use Rattle.dask_top.specs.declared.answer.End.TheVariants.{Done, Words, Job, File, ReadFault, WriteFault, OutOfMemory}
+use Rattle.dask_top.specs.declared.answer.End.TheVariants.{Words, Job, Limit, Ran}
 use Rattle.dask_top.specs.Answers.{GetsLine, Notes, line_of}
+use Rattle.dask_top.specs.Reading.{Reading}
 use Rattle.dask_top.specs.Telling.{IsRefusal}
 
-refusal_notes : (inputs : List (List ℕ)) (old new : View) (end : End) → IsRefusal end → GetsLine (line_of inputs end) old new → Notes inputs old new end
-refusal_notes inputs old new (Job error) is gets = gets
-refusal_notes inputs old new (File place error) is gets = gets
-refusal_notes inputs old new Done is gets = absurd is
-refusal_notes inputs old new Words is gets = absurd is
-refusal_notes inputs old new ReadFault is gets = absurd is
-refusal_notes inputs old new WriteFault is gets = absurd is
-refusal_notes inputs old new OutOfMemory is gets = absurd is
+refusal_notes : (reading : Reading) (old new : View) (end : End) → IsRefusal end → GetsLine (line_of reading end) old new → Notes reading old new end
+refusal_notes reading old new (Job error) is gets = gets
+refusal_notes reading old new (Limit quantity) is gets = gets
+refusal_notes reading old new (Ran (File place error)) is gets = gets
+refusal_notes reading old new (Ran (Zero node)) is gets = gets
+refusal_notes reading old new (Ran Done) is gets = absurd is
+refusal_notes reading old new (Ran ReadFault) is gets = absurd is
+refusal_notes reading old new (Ran WriteFault) is gets = absurd is
+refusal_notes reading old new (Ran OutOfMemory) is gets = absurd is
+refusal_notes reading old new Words is gets = absurd is
 
-pub printed_notes : (line : List ℕ) (inputs : List (List ℕ)) (old new : View) (end : End) → IsRefusal end → GetsLine line old new → line ≡ line_of inputs end → Notes inputs old new end
-printed_notes line inputs old new end is gets same = let P : List ℕ → Type 0 = λ l. GetsLine l old new in refusal_notes inputs old new end is (subst P same gets)
+pub printed_notes : (line : List ℕ) (reading : Reading) (old new : View) (end : End) → IsRefusal end → GetsLine line old new → line ≡ line_of reading end → Notes reading old new end
+printed_notes line reading old new end is gets same = let P : List ℕ → Type 0 = λ l. GetsLine l old new in refusal_notes reading old new end is (subst P same gets)

@@ -1,15 +1,20 @@
 // The line on standard error.
-ghost use Rattle.std.specs.Prelude.{◌≡◌, ◌++◌, List, ℕ, map, codes, slice_index_or, string_bytes, IfOk};
+ghost use Rattle.std.specs.Prelude.{◌≡◌, ◌≤◌, ◌<◌, ◌++◌, List, ℕ, length, map, codes, decimal, string_bytes, IfOk, None, Some, Ok};
 ghost use Rattle.io_edge.specs.View.{OnlyErr};
-ghost use Rattle.npy_codec.specs.Head.{reason};
-ghost use Rattle.dask_top.specs.Answers.{GetsLine, Notes, line_of};
-ghost use Rattle.dask_top.specs.Telling.{IsPlaced, IsRefusal, Told};
-ghost use Rattle.dask_top.specs.JobText.{job_error_text};
+ghost use Rattle.array_expr.specs.Node.{shape_at};
+ghost use Rattle.job_run.specs.Inputs.{file_error_text};
+ghost use Rattle.job_run.specs.Jobs.{plan_of};
+ghost use Rattle.job_text.specs.Texts.{job_error_text, quantity_text};
+ghost use Rattle.dask_top.specs.declared.answer.End.TheVariants.{Ran};
+ghost use Rattle.dask_top.specs.Answers.{GetsLine, Notes, block_text, line_of};
+ghost use Rattle.dask_top.specs.Reading.{Reading};
+ghost use Rattle.dask_top.specs.Telling.{IsOfText, IsPlaced, IsRefusal, Told};
 
 use crate::answer::End;
-use crate::job::JobError;
+use array_expr::NodeId;
 use io_edge::{Site, note_full};
-use npy_codec::NpyError;
+use job_run::{Ended, FileError, Job};
+use job_text::{JobError, Quantity};
 use std::alloc::{AllocError, Global};
 
 // Prints a line to standard error. A failure there changes nothing more.
@@ -26,13 +31,78 @@ fn job_line(alloc: Global, error: JobError) -> Result<String, AllocError>
     format!(in alloc; "dask: job {error}\n")
 }
 
-fn file_line(alloc: Global, name: &str, error: NpyError) -> Result<String, AllocError>
-    ensures { IfOk result (λ t. string_bytes t ≡ codes "dask: file " ++ name.now ++ codes ": " ++ reason error ++ codes "\n") }
+fn limit_line(alloc: Global, quantity: Quantity) -> Result<String, AllocError>
+    ensures { IfOk result (λ t. string_bytes t ≡ codes "dask: limit " ++ quantity_text quantity ++ codes "\n") }
+{
+    format!(in alloc; "dask: limit {quantity}\n")
+}
+
+fn reason(alloc: Global, error: &FileError) -> Result<String, AllocError>
+    ensures { IfOk result (λ t. string_bytes t ≡ file_error_text error.now) }
+{
+    match error {
+        FileError::Npy(error) => error.to_string(alloc),
+        FileError::Shape { has, declared } => {
+            let mut text = String::from_str(alloc, "shape ")?;
+            text.push_str(has.text(alloc)?.as_str())?;
+            text.push_str(" declared ")?;
+            text.push_str(declared.text(alloc)?.as_str())?;
+            Ok(text)
+        }
+    }
+}
+
+fn file_line(alloc: Global, name: &str, error: &FileError) -> Result<String, AllocError>
+    ensures { IfOk result (λ t. string_bytes t ≡ codes "dask: file " ++ name.now ++ codes ": " ++ file_error_text error.now ++ codes "\n") }
 {
     let mut line = String::from_str(alloc, "dask: file ")?;
     line.push_str(name)?;
     line.push_str(": ")?;
-    line.push_str(error.to_string(alloc)?.as_str())?;
+    line.push_str(reason(alloc, error)?.as_str())?;
+    line.push_str("\n")?;
+    Ok(line)
+}
+
+// The index of the one block of an array with this many axes.
+fn zeros(axes: usize) -> &'static str
+    requires { axes ≤ 8 }
+    ensures { result.now ≡ block_text axes }
+{
+    if axes == 0 {
+        return "()";
+    }
+    if axes == 1 {
+        return "(0)";
+    }
+    if axes == 2 {
+        return "(0, 0)";
+    }
+    if axes == 3 {
+        return "(0, 0, 0)";
+    }
+    if axes == 4 {
+        return "(0, 0, 0, 0)";
+    }
+    if axes == 5 {
+        return "(0, 0, 0, 0, 0)";
+    }
+    if axes == 6 {
+        return "(0, 0, 0, 0, 0, 0)";
+    }
+    if axes == 7 {
+        return "(0, 0, 0, 0, 0, 0, 0)";
+    }
+    "(0, 0, 0, 0, 0, 0, 0, 0)"
+}
+
+fn zero_line(alloc: Global, job: &Job, node: NodeId) -> Result<String, AllocError>
+    requires { node < length job.now.expr }
+    ensures { IfOk result (λ t. string_bytes t ≡ codes "dask: zero division: node " ++ decimal node ++ codes " block " ++ block_text (length (shape_at job.now.expr node)) ++ codes "\n") }
+{
+    let number = node.number();
+    let block = zeros(job.expr.shape_of(node).dims().len());
+    let mut line = format!(in alloc; "dask: zero division: node {number} block ")?;
+    line.push_str(block)?;
     line.push_str("\n")?;
     Ok(line)
 }
@@ -42,7 +112,7 @@ fn file_line(alloc: Global, name: &str, error: NpyError) -> Result<String, Alloc
 fn tell_refusal<S: Site>(site: &mut S, end: End, line: Result<String, AllocError>) -> End
     requires { IsRefusal end }
     ensures told { Told end result }
-    ensures notes { (inputs : List (List ℕ)) → IfOk line (λ t. string_bytes t ≡ line_of inputs end) → Notes inputs (S.view site.old) (S.view site.new) result }
+    ensures notes { (reading : Reading) → IfOk line (λ t. string_bytes t ≡ line_of reading end) → Notes reading (S.view site.old) (S.view site.new) result }
     ensures only { OnlyErr (S.view site.old) (S.view site.new) }
 {
     match line {
@@ -52,31 +122,59 @@ fn tell_refusal<S: Site>(site: &mut S, end: End, line: Result<String, AllocError
         }
         Err(_) => {
             note(site, b"dask: out of memory\n");
-            End::OutOfMemory
+            End::Ran(Ended::OutOfMemory)
         }
     }
 }
 
-/// Prints the line of an end to standard error, for a job with these inputs. The end stays, but a refusal becomes
-/// `OutOfMemory` where memory for its line is wanted.
+/// Prints the line of a text that is refused. The end stays, but becomes `OutOfMemory` where memory for its line is wanted.
 #[tactic(auto, unfolding(crate::specs::Answers::line_of))]
-pub fn tell<S: Site>(alloc: Global, site: &mut S, inputs: &[String], end: End) -> End
-    requires { IsPlaced (map string_bytes inputs.now) end }
+pub fn tell_text<S: Site>(alloc: Global, site: &mut S, end: End) -> End
+    requires { IsOfText end }
     ensures told { Told end result }
-    ensures notes { Notes (map string_bytes inputs.now) (S.view site.old) (S.view site.new) result }
+    ensures notes { (reading : Reading) → Notes reading (S.view site.old) (S.view site.new) result }
     ensures only { OnlyErr (S.view site.old) (S.view site.new) }
 {
     match end {
-        End::Done => {}
         End::Words => note(site, b"dask: words\n"),
         End::Job(error) => return tell_refusal(site, end, job_line(alloc, error)),
-        End::File { input, error } => {
-            let line = file_line(alloc, inputs[input].as_str(), error);
-            return tell_refusal(site, end, line);
-        }
-        End::ReadFault => note(site, b"dask: read fault\n"),
-        End::WriteFault => note(site, b"dask: write fault\n"),
-        End::OutOfMemory => note(site, b"dask: out of memory\n"),
+        End::Limit(quantity) => return tell_refusal(site, end, limit_line(alloc, quantity)),
+        End::Ran(Ended::ReadFault) => note(site, b"dask: read fault\n"),
+        End::Ran(_) => note(site, b"dask: out of memory\n"),
     }
     end
+}
+
+/// Prints the line of the end of a run. The end stays, but a refusal becomes `OutOfMemory` where memory for its line is
+/// wanted.
+#[tactic(auto, unfolding(crate::specs::Answers::line_of))]
+pub fn tell_run<S: Site>(alloc: Global, site: &mut S, job: &Job, end: Ended) -> End
+    requires { IsPlaced (Some (Ok (plan_of job.now))) (Ran end) }
+    ensures told { Told (Ran end) result }
+    ensures notes { Notes (Some (Ok (plan_of job.now))) (S.view site.old) (S.view site.new) result }
+    ensures only { OnlyErr (S.view site.old) (S.view site.new) }
+{
+    match &end {
+        Ended::Done => End::Ran(Ended::Done),
+        Ended::File { input, error } => {
+            let line = file_line(alloc, job.inputs[*input].as_str(), error);
+            tell_refusal(site, End::Ran(end), line)
+        }
+        Ended::Zero { node } => {
+            let line = zero_line(alloc, job, *node);
+            tell_refusal(site, End::Ran(end), line)
+        }
+        Ended::ReadFault => {
+            note(site, b"dask: read fault\n");
+            End::Ran(Ended::ReadFault)
+        }
+        Ended::WriteFault => {
+            note(site, b"dask: write fault\n");
+            End::Ran(Ended::WriteFault)
+        }
+        Ended::OutOfMemory => {
+            note(site, b"dask: out of memory\n");
+            End::Ran(Ended::OutOfMemory)
+        }
+    }
 }

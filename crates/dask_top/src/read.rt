@@ -1,0 +1,42 @@
+// The job that a text is.
+ghost use Rattle.std.specs.Prelude.{IfOk, IfErr};
+ghost use Rattle.job_run.specs.Jobs.{plan_of};
+ghost use Rattle.job_run.specs.Plan.{IsRunnable};
+ghost use Rattle.dask_top.specs.Reading.{SaysPlan};
+ghost use Rattle.dask_top.specs.TextEnds.{EndsAs, TextEnds};
+
+use crate::answer::End;
+use crate::convert::job_of;
+use job_run::{Ended, Job};
+use job_text::{JobError, JobKind, parse};
+use std::alloc::Global;
+
+fn text_end(error: JobError) -> End
+    ensures { EndsAs error result }
+{
+    match error.kind {
+        JobKind::Limit { quantity } => End::Limit(quantity),
+        JobKind::OutOfMemory => End::Ran(Ended::OutOfMemory),
+        _ => End::Job(error),
+    }
+}
+
+/// The job of a text, or the end at which there is none.
+pub fn read_job(alloc: Global, text: &[u8]) -> Result<Job, End>
+    ensures job { IfOk result (λ j. SaysPlan text.now (plan_of j)) }
+    ensures runs { IfOk result (λ j. IsRunnable (plan_of j)) }
+    ensures ends { IfErr result (TextEnds text.now) }
+{
+    let job = match parse(alloc, text) {
+        Ok(job) => job,
+        Err(error) => return Err(text_end(error)),
+    };
+    let Ok(job) = job_of(alloc, job) else {
+        return Err(End::Ran(Ended::OutOfMemory));
+    };
+    // The rules of the text see to this, so the job of a text always can be run.
+    if !job.is_runnable() {
+        return Err(End::Ran(Ended::OutOfMemory));
+    }
+    Ok(job)
+}

@@ -1,0 +1,70 @@
+-- What inputs hold, as a list.
+use Rattle.std.proofs.Common.{◌≡◌, ℕ, zero, suc, ◌+◌, ◌<◌, ◌≤◌, List, [], ◌∷◌, length, get_or, refl, ap, sym, ◌∙◌, subst, arith, Option, Some, None, Bool, true}
+use Rattle.std.specs.Prelude.{IfSome, IsSome, IsTrue, option_and_then}
+use Rattle.std.specs.Option.{option_map}
+use Rattle.io_edge.specs.Content.{Content, Told, Untold, OnTold, file_at}
+use Rattle.io_edge.specs.View.{Files, Shows, ShowsFile}
+use Rattle.job_run.specs.Inputs.{told_all}
+
+abbrev value : {A : Type 0} → A → Option A → A
+value d None = d
+value d (Some x) = x
+
+-- ## Each name is told
+
+there_cons : (o : Option (List ℕ)) (m : Option (List (List ℕ))) → IsSome o → IsSome m → IsSome (option_and_then (λ bytes. option_map (λ more. bytes ∷ more) m) o)
+there_cons None m a b = cc
+there_cons (Some bytes) None a b = cc
+there_cons (Some bytes) (Some more) a b = refl
+
+all_there : (held : List ℕ → Option (List ℕ)) (names : List (List ℕ)) → ((k : ℕ) → k < length names → IsSome (held (get_or names k []))) → IsSome (told_all held names)
+all_there held [] each = refl
+all_there held (name ∷ names) each = there_cons (held name) (told_all held names) (each 0 (omega arith)) (all_there held names (λ k h. each (suc k) (omega (arith, h))))
+
+pub inputs_there : (names : List (List ℕ)) (old new : Files) (files : List Content) → Shows names old new files → IsTrue old.tells → IsSome (told_all old.held names)
+inputs_there names old new files shows tells = all_there old.held names (λ k h. (shows.each k h).told tells)
+
+-- ## What is told of each
+
+record Cons (o : Option (List ℕ)) (m : Option (List (List ℕ))) (contents : List (List ℕ)) : Type 0 where
+  bytes : List ℕ
+  more : List (List ℕ)
+  head : o ≡ Some bytes
+  tail : m ≡ Some more
+  is : contents ≡ bytes ∷ more
+
+cons_told : (o : Option (List ℕ)) (m : Option (List (List ℕ))) (contents : List (List ℕ)) → option_and_then (λ bytes. option_map (λ more. bytes ∷ more) m) o ≡ Some contents → Cons o m contents
+cons_told None m contents e = absurd (none_some e)
+  where
+    none_some : ◌≡◌ {A = Option (List (List ℕ))} None (Some contents) → ⊥
+    none_some e = cc
+cons_told (Some bytes) None contents e = absurd (none_some e)
+  where
+    none_some : ◌≡◌ {A = Option (List (List ℕ))} None (Some contents) → ⊥
+    none_some e = cc
+cons_told (Some bytes) (Some more) contents e = record { bytes = bytes; more = more; head = refl; tail = refl; is = sym (ap (value []) e) }
+
+told_at : (held : List ℕ → Option (List ℕ)) (names contents : List (List ℕ)) → told_all held names ≡ Some contents → (k : ℕ) → k < length names → held (get_or names k []) ≡ Some (get_or contents k [])
+told_at held [] contents e k h = absurd (omega (arith, h))
+told_at held (name ∷ names) contents e zero h =
+    let c = cons_told (held name) (told_all held names) contents e in
+    c.head ∙ ap Some (sym (ap (λ l. get_or l 0 []) c.is))
+told_at held (name ∷ names) contents e (suc k) h =
+    let c = cons_told (held name) (told_all held names) contents e in
+    told_at held names c.more c.tail k (omega (arith, h)) ∙ ap Some (sym (ap (λ l. get_or l (suc k) []) c.is))
+
+pub on_told : {A : Type 0} (o : Option A) (P : A → Type 0) → ((x : A) → o ≡ Some x → P x) → IfSome o P
+on_told None P gives = tt
+on_told (Some x) P gives = gives x refl
+
+shown : (held : Option (List ℕ)) (bytes : List ℕ) (file : Content) (P : List ℕ → Type 0) → held ≡ Some bytes → IfSome held (λ b. file ≡ Told b) → OnTold file P → P bytes
+shown held bytes file P e is on =
+    let F : Option (List ℕ) → Type 0 = λ o. IfSome o (λ b. file ≡ Told b) in
+    let same : file ≡ Told bytes = subst F e is in
+    let G : Content → Type 0 = λ f. OnTold f P in
+    subst G same on
+
+-- a fact of a file of the store is one of what its name is told to hold
+pub told_fact : (names : List (List ℕ)) (old new : Files) (files : List Content) (contents : List (List ℕ)) (k : ℕ) (P : List ℕ → Type 0) → Shows names old new files → told_all old.held names ≡ Some contents → k < length names →
+    OnTold (file_at files k) P → P (get_or contents k [])
+told_fact names old new files contents k P shows e h on = shown (old.held (get_or names k [])) (get_or contents k []) (file_at files k) P (told_at old.held names contents e k h) (shows.each k h).held on

@@ -1,0 +1,11 @@
+use Rattle.std.proofs.Common.{◌≡◌, length}
+use Rattle.job_run.specs.Loading.{AreBlocks}
+use Rattle.job_run.proofs.load.read_arrays.Given as goal
+
+abbrev pub invariant-loop-input : goal.invariant-loop-input
+invariant-loop-input g l = record {
+  same : g.I.Store.files l.store ≡ g.I.Store.files l.initial.store;
+  kept : g.I.Store.count l.store ≡ g.I.Store.count l.initial.store;
+  blocks : AreBlocks l.shapes (g.I.Store.files l.initial.store) l.blocks.items;
+  count : length l.blocks.items ≡ l.input;
+}

@@ -1,0 +1,157 @@
+// Reads of inputs from an open store: all heads first, then all data.
+ghost use Rattle.std.specs.Prelude.{◌≡◌, ◌⊎◌, ◌≤◌, ◌<◌, ◌+◌, ◌*◌, ◌^◌, [], length, slice_index_or, IfOk, IfErr, OnOk, IsErrOf, IsTrue, ◌↔◌};
+ghost use Rattle.io_edge.specs.Content.{OnTold, file_at};
+ghost use Rattle.npy_codec.specs.Fronts.{IsFaultOrMemory};
+ghost use Rattle.job_run.specs.Loading.{AreBlocks, AreHeads, HeadEnds, IsBlockFor, IsHeadFor, LoadEnds};
+
+use crate::ends::{Ended, FileError};
+use io_edge::Store;
+use nd_shape::{Block, Region, Shape};
+use npy_codec::{Head, NpyError, read_head};
+use npy_region::read_region;
+use std::alloc::Global;
+
+fn same_dims(left: &[u64], right: &[u64]) -> bool
+    ensures { IsTrue result ↔ (left.now ≡ right.now) }
+{
+    left == right
+}
+
+// Reads the head of the file at a place, which is to declare this shape.
+fn read_declared<I: Store>(
+    alloc: Global,
+    store: &mut I,
+    input: usize,
+    shape: &Shape,
+) -> Result<Head, Ended>
+    requires there { input < length (I.files store.old) }
+    requires small { input < 2 ^ 32 }
+    ensures same { I.files store.new ≡ I.files store.old }
+    ensures later { I.count store.old ≤ I.count store.new }
+    ensures kept { OnOk result (I.count store.new ≡ I.count store.old) }
+    ensures head { IfOk result (IsHeadFor shape.now (file_at (I.files store.old) input)) }
+    ensures cause { IfErr result (HeadEnds shape.now (file_at (I.files store.old) input) input (I.count store.old) (I.count store.new)) }
+{
+    let head = match read_head(alloc, store, input as u32) {
+        Ok(head) => head,
+        Err(NpyError::ReadFault) => return Err(Ended::ReadFault),
+        Err(NpyError::OutOfMemory) => return Err(Ended::OutOfMemory),
+        Err(error) => {
+            return Err(Ended::File {
+                input,
+                error: FileError::Npy(error),
+            });
+        }
+    };
+    if same_dims(head.shape.dims(), shape.dims()) {
+        return Ok(head);
+    }
+    let declared = shape.copy(alloc)?;
+    Err(Ended::File {
+        input,
+        error: FileError::Shape {
+            has: head.shape,
+            declared,
+        },
+    })
+}
+
+// Reads the heads of all files, which are to declare these shapes.
+fn read_heads<I: Store>(alloc: Global, store: &mut I, shapes: &[Shape]) -> Result<Vec<Head>, Ended>
+    requires there { length shapes.now ≤ length (I.files store.old) }
+    requires small { length shapes.now ≤ 65536 }
+    ensures same { I.files store.new ≡ I.files store.old }
+    ensures later { I.count store.old ≤ I.count store.new }
+    ensures kept { OnOk result (I.count store.new ≡ I.count store.old) }
+    ensures heads { IfOk result (λ v. AreHeads shapes.now (I.files store.old) v.items) }
+    ensures count { IfOk result (λ v. length v.items ≡ length shapes.now) }
+    ensures cause { IfErr result (LoadEnds shapes.now (I.files store.old) (I.count store.old) (I.count store.new)) }
+{
+    let mut heads = Vec::new(alloc);
+    for (input, shape) in shapes.iter().enumerate() {
+        match read_declared(alloc, store, input, shape) {
+            Ok(head) => heads.push(head)?,
+            Err(end) => return Err(end),
+        }
+    }
+    Ok(heads)
+}
+
+// The end that an error of reading alone is.
+fn fault_end(error: NpyError) -> Ended
+    requires { IsFaultOrMemory error }
+    ensures { ((result ≡ Ended.ReadFault) × (error ≡ NpyError.ReadFault)) ⊎ (result ≡ Ended.OutOfMemory) }
+{
+    match error {
+        NpyError::ReadFault => Ended::ReadFault,
+        NpyError::OutOfMemory => Ended::OutOfMemory,
+        _ => unreachable!(),
+    }
+}
+
+// Reads the array of the file at a place.
+fn read_array<I: Store>(
+    alloc: Global,
+    store: &mut I,
+    input: usize,
+    head: &Head,
+) -> Result<Block, Ended>
+    requires there { input < length (I.files store.old) }
+    requires small { input < 2 ^ 32 }
+    requires head { IsHeadFor head.now.shape (file_at (I.files store.old) input) head.now }
+    ensures same { I.files store.new ≡ I.files store.old }
+    ensures later { I.count store.old ≤ I.count store.new }
+    ensures kept { OnOk result (I.count store.new ≡ I.count store.old) }
+    ensures block { IfOk result (IsBlockFor head.now.shape (file_at (I.files store.old) input)) }
+    ensures cause { IfErr result (LoadEnds [] (I.files store.old) (I.count store.old) (I.count store.new)) }
+{
+    let region = Region::whole(head.shape.dims());
+    match read_region(alloc, store, input as u32, head, &region) {
+        Ok(block) => Ok(block),
+        Err(error) => Err(fault_end(error)),
+    }
+}
+
+// Reads the arrays of all files.
+fn read_arrays<I: Store>(
+    alloc: Global,
+    store: &mut I,
+    shapes: &[Shape],
+    heads: &[Head],
+) -> Result<Vec<Block>, Ended>
+    requires there { length heads.now ≤ length (I.files store.old) }
+    requires small { length heads.now ≤ 65536 }
+    requires heads { AreHeads shapes.now (I.files store.old) heads.now }
+    ensures same { I.files store.new ≡ I.files store.old }
+    ensures later { I.count store.old ≤ I.count store.new }
+    ensures kept { OnOk result (I.count store.new ≡ I.count store.old) }
+    ensures blocks { IfOk result (λ v. AreBlocks shapes.now (I.files store.old) v.items) }
+    ensures count { IfOk result (λ v. length v.items ≡ length heads.now) }
+    ensures cause { IfErr result (LoadEnds [] (I.files store.old) (I.count store.old) (I.count store.new)) }
+{
+    let mut blocks = Vec::new(alloc);
+    for (input, head) in heads.iter().enumerate() {
+        let block = read_array(alloc, store, input, head)?;
+        blocks.push(block)?;
+    }
+    Ok(blocks)
+}
+
+/// Reads the arrays of the first files of a store, which are to have these shapes, or tells why that fails: the first file
+/// that is another one, a fault of the store, or want of memory.
+pub fn load_from<I: Store>(
+    alloc: Global,
+    store: &mut I,
+    shapes: &[Shape],
+) -> Result<Vec<Block>, Ended>
+    requires there { length shapes.now ≤ length (I.files store.old) }
+    requires small { length shapes.now ≤ 65536 }
+    ensures same { I.files store.new ≡ I.files store.old }
+    ensures later { I.count store.old ≤ I.count store.new }
+    ensures blocks { IfOk result (λ v. AreBlocks shapes.now (I.files store.old) v.items) }
+    ensures count { IfOk result (λ v. length v.items ≡ length shapes.now) }
+    ensures cause { IfErr result (LoadEnds shapes.now (I.files store.old) (I.count store.old) (I.count store.new)) }
+{
+    let heads = read_heads(alloc, store, shapes)?;
+    read_arrays(alloc, store, shapes, &heads)
+}
