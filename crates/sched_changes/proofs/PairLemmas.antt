@@ -1,5 +1,6 @@
 -- Lists of pairs, and facts that go one by one.
 use Rattle.std.proofs.Common.{◌≡◌, ℕ, zero, suc, ◌+◌, ◌<◌, ◌≤◌, Bool, true, false, not, cond, ◌&&◌, ◌||◌, List, [], ◌∷◌, ◌++◌, Option, Some, None, is_some, refl, sym, ap, ◌∙◌, subst, arith, ltb, leb, ⊎_elim, ◌⊎◌, inl, inr}
+use Rattle.std.specs.Prelude.{Result, Ok, Err, OnErr}
 use Rattle.std.specs.List.{list_any, range_with_len}
 use Rattle.std.proofs.lemmas.Bool.Decides.{nat_tests}
 use Rattle.std.proofs.lemmas.Bool.{false≢true, eqb-true, cases_lt}
@@ -162,6 +163,24 @@ on_all f n s l = λ i. record f { on = λ k. all_gone (ready f k) None (f.on k) 
 pub setting_has : (passes : ℕ → Bool) (f : Facts) (n : ℕ) → keys (has_below passes f n) ≡ keys f
 unfolding has_below
 setting_has passes f n = refl
+
+-- what holds holds after want of memory too
+pub after_err : {A E : Type 0} (r : Result A E) (P : Type 0) → P → OnErr r P
+after_err (Ok x) P p = tt
+after_err (Err e) P p = p
+
+-- the setting stays, however far it has come
+pub same_setting_has : (passes : ℕ → Bool) (f : Facts) (n : ℕ) → (has_below passes f n).setting ≡ f.setting
+unfolding has_below
+same_setting_has passes f n = refl
+
+pub same_setting_on : (passes : ℕ → Bool) (f : Facts) (n : ℕ) → (on_below passes f n).setting ≡ f.setting
+unfolding on_below
+same_setting_on passes f n = refl
+
+pub same_setting_copies : (k : ℕ) (f : Facts) (m : ℕ) → (copies_up_to k f m).setting ≡ f.setting
+unfolding copies_up_to
+same_setting_copies k f m = refl
 
 pub setting_bad : (passes : ℕ → Bool) (f : Facts) (n : ℕ) → keys (bad_below passes f n) ≡ keys f
 unfolding bad_below

@@ -1,5 +1,5 @@
 //! What each event of the scheduler changes by itself, before the facts settle.
-ghost use Rattle.std.specs.Prelude.{◌≡◌, ℕ, ◌+◌, ◌<◌, ◌≤◌, ◌^◌, ◌==◌, ◌&&◌, true, false, None, Some, OnOk, is_some, [], ◌++◌, ◌∷◌, List, All, length, cond};
+ghost use Rattle.std.specs.Prelude.{◌≡◌, ℕ, ◌+◌, ◌<◌, ◌≤◌, ◌^◌, ◌==◌, ◌&&◌, true, false, None, Some, OnOk, OnErr, is_some, [], ◌++◌, ◌∷◌, List, All, length, cond};
 ghost use Rattle.cluster_rules.specs.Functions.{put, put_pair};
 ghost use Rattle.cluster_rules.specs.Derived.{is_in};
 ghost use Rattle.cluster_rules.specs.Sched.{Facts, keys, connected, holds, is_on};
@@ -116,7 +116,7 @@ fn choose_told(counts: bool, has: bool, held: bool, given: bool) -> News
 /// Add-keys, one key. It counts where no message after the worker's last news took the key away.
 ///
 /// # Errors
-/// Where no memory is left.
+/// Where no memory is left. The setting stays as it is.
 fn add(
     table: &mut FactTable,
     freed: &mut Pairs,
@@ -127,7 +127,8 @@ fn add(
     requires worker { connected (facts_of table.old) worker ≡ true }
     requires key { key < keys (facts_of table.old) }
     requires room { (facts_of table.old).counter < 2 ^ 62 }
-    ensures { OnOk result (so_far (facts_of table.new) freed.new ≡ add_key worker seen (so_far (facts_of table.old) freed.old) key) }
+    ensures change { OnOk result (so_far (facts_of table.new) freed.new ≡ add_key worker seen (so_far (facts_of table.old) freed.old) key) }
+    ensures err { OnErr result ((facts_of table.new).setting ≡ (facts_of table.old).setting) }
 {
     table.sound();
     let told = told_by(table, worker, seen, key);
@@ -144,7 +145,7 @@ fn add(
 /// Add-keys: each key in its order, seeing what the earlier ones changed.
 ///
 /// # Errors
-/// Where no memory is left.
+/// Where no memory is left. The setting stays as it is.
 pub fn add_all(
     table: &mut FactTable,
     freed: &mut Pairs,
@@ -155,7 +156,8 @@ pub fn add_all(
     requires worker { connected (facts_of table.old) worker ≡ true }
     requires keys { All (λ k. k < keys (facts_of table.old)) added.now }
     requires room { (facts_of table.old).counter + keys (facts_of table.old) < 2 ^ 62 }
-    ensures { OnOk result (so_far (facts_of table.new) freed.new ≡ add_keys worker seen (so_far (facts_of table.old) freed.old) added.now) }
+    ensures change { OnOk result (so_far (facts_of table.new) freed.new ≡ add_keys worker seen (so_far (facts_of table.old) freed.old) added.now) }
+    ensures err { OnErr result ((facts_of table.new).setting ≡ (facts_of table.old).setting) }
 {
     table.sound();
     for key in added {
@@ -191,7 +193,7 @@ fn is_the_copy(copy: u64, held: Option<u64>) -> bool
 /// Missing-data and missing: where the worker holds that very copy it goes, and the key is freed there.
 ///
 /// # Errors
-/// Where no memory is left.
+/// Where no memory is left. The setting stays as it is.
 #[tactic(auto, unfolding(cluster_rules::specs::SchedTable::lost_copy))]
 pub fn lose_copy(
     table: &mut FactTable,
@@ -202,7 +204,8 @@ pub fn lose_copy(
 ) -> Result<(), AllocError>
     requires key { key < keys (facts_of table.old) }
     requires freed { freed.old ≡ [] }
-    ensures { OnOk result (so_far (facts_of table.new) freed.new ≡ lost_copy (facts_of table.old) worker key copy) }
+    ensures change { OnOk result (so_far (facts_of table.new) freed.new ≡ lost_copy (facts_of table.old) worker key copy) }
+    ensures err { OnErr result ((facts_of table.new).setting ≡ (facts_of table.old).setting) }
 {
     let counts = is_the_copy(copy, table.copy_at(worker, key));
     if counts {
@@ -223,6 +226,7 @@ fn free_copy(
     requires holds { holds (facts_of table.old) worker key ≡ true }
     ensures facts { OnOk result (facts_of table.new ≡ record (facts_of table.old) { has = put_pair (facts_of table.old).has worker key None }) }
     ensures freed { OnOk result (freed.new ≡ freed.old ++ (worker, key) ∷ []) }
+    ensures err { OnErr result ((facts_of table.new).setting ≡ (facts_of table.old).setting) }
 {
     table.sound();
     table.drop_copy(worker, key);

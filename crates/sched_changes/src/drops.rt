@@ -1,6 +1,6 @@
 //! What settling takes away: errors of keys that are not known, copies of keys that are not needed, and places of keys
 //! that are not ready.
-ghost use Rattle.std.specs.Prelude.{◌≡◌, ℕ, ◌+◌, ◌<◌, ◌≤◌, ◌==◌, ◌&&◌, ◌||◌, not, true, false, None, Some, OnOk, cond, ◌++◌, ◌∷◌, []};
+ghost use Rattle.std.specs.Prelude.{◌≡◌, ℕ, ◌+◌, ◌<◌, ◌≤◌, ◌==◌, ◌&&◌, ◌||◌, not, true, false, None, Some, OnOk, OnErr, cond, ◌++◌, ◌∷◌, []};
 ghost use Rattle.cluster_rules.specs.Functions.{put, put_pair};
 ghost use Rattle.cluster_rules.specs.Sched.{Facts, keys, known, need, ready, holds, is_on};
 ghost use Rattle.cluster_rules.specs.SchedStep.{drop_bad, drop_has, drop_on};
@@ -37,7 +37,7 @@ fn forget_error(table: &mut FactTable, key: u32, is_known: bool)
 /// Keys that are not needed are held nowhere. The pairs that go are added to `lost`.
 ///
 /// # Errors
-/// Where no memory is left.
+/// Where no memory is left. The setting stays as it is.
 pub fn drop_copies(
     table: &mut FactTable,
     need_row: &Row<bool>,
@@ -46,6 +46,7 @@ pub fn drop_copies(
     requires { read need_row.now false ≡ need (facts_of table.old) }
     ensures facts { OnOk result (facts_of table.new ≡ drop_has (facts_of table.old)) }
     ensures lost { OnOk result ((w k : ℕ) → has_pair lost.new w k ≡ (has_pair lost.old w k || (holds (facts_of table.old) w k && not (need (facts_of table.old) k)))) }
+    ensures err { OnErr result ((facts_of table.new).setting ≡ (facts_of table.old).setting) }
 {
     table.sound();
     for key in 0..table.keys() {
@@ -64,6 +65,7 @@ fn drop_key(
     requires { key < keys (facts_of table.old) }
     ensures facts { OnOk result (facts_of table.new ≡ held_nowhere is_needed (facts_of table.old) key) }
     ensures lost { OnOk result ((w k : ℕ) → has_pair lost.new w k ≡ (has_pair lost.old w k || (holds (facts_of table.old) w k && (k == key && not is_needed)))) }
+    ensures err { OnErr result ((facts_of table.new).setting ≡ (facts_of table.old).setting) }
 {
     if is_needed {
         Ok(())
@@ -77,6 +79,7 @@ fn drop_held(table: &mut FactTable, key: u32, lost: &mut Pairs) -> Result<(), Al
     requires { key < keys (facts_of table.old) }
     ensures facts { OnOk result (facts_of table.new ≡ held_nowhere false (facts_of table.old) key) }
     ensures lost { OnOk result ((w k : ℕ) → has_pair lost.new w k ≡ (has_pair lost.old w k || (holds (facts_of table.old) w k && (k == key && not false)))) }
+    ensures err { OnErr result ((facts_of table.new).setting ≡ (facts_of table.old).setting) }
 {
     table.sound();
     let is_held = table.is_held(key);
@@ -92,6 +95,7 @@ fn drop_everywhere(table: &mut FactTable, key: u32, lost: &mut Pairs) -> Result<
     requires { key < keys (facts_of table.old) }
     ensures facts { OnOk result (facts_of table.new ≡ held_nowhere false (facts_of table.old) key) }
     ensures lost { OnOk result ((w k : ℕ) → has_pair lost.new w k ≡ (has_pair lost.old w k || (holds (facts_of table.old) w k && (k == key && not false)))) }
+    ensures err { OnErr result ((facts_of table.new).setting ≡ (facts_of table.old).setting) }
 {
     table.sound();
     for before in 0..table.last_worker() {
@@ -105,6 +109,7 @@ fn drop_at(table: &mut FactTable, worker: u32, key: u32, lost: &mut Pairs) -> Re
     requires { key < keys (facts_of table.old) }
     ensures facts { OnOk result (facts_of table.new ≡ record (facts_of table.old) { has = put_pair (facts_of table.old).has worker key None }) }
     ensures lost { OnOk result ((w k : ℕ) → has_pair lost.new w k ≡ (has_pair lost.old w k || (holds (facts_of table.old) w k && (w == worker && k == key)))) }
+    ensures err { OnErr result ((facts_of table.new).setting ≡ (facts_of table.old).setting) }
 {
     let does_hold = table.holds(worker, key);
     if does_hold {
@@ -125,6 +130,7 @@ fn take_copy(
     requires holds { holds (facts_of table.old) worker key ≡ true }
     ensures facts { OnOk result (facts_of table.new ≡ record (facts_of table.old) { has = put_pair (facts_of table.old).has worker key None }) }
     ensures lost { OnOk result (lost.new ≡ lost.old ++ (worker, key) ∷ []) }
+    ensures err { OnErr result ((facts_of table.new).setting ≡ (facts_of table.old).setting) }
 {
     table.sound();
     table.drop_copy(worker, key);
@@ -134,7 +140,7 @@ fn take_copy(
 /// Keys that are not ready are on no worker. The pairs that go are added to `lost`.
 ///
 /// # Errors
-/// Where no memory is left.
+/// Where no memory is left. The setting stays as it is.
 pub fn drop_places(
     table: &mut FactTable,
     ready_row: &Row<bool>,
@@ -143,6 +149,7 @@ pub fn drop_places(
     requires { read ready_row.now false ≡ ready (facts_of table.old) }
     ensures facts { OnOk result (facts_of table.new ≡ drop_on (facts_of table.old)) }
     ensures lost { OnOk result ((w k : ℕ) → has_pair lost.new w k ≡ (has_pair lost.old w k || (is_on (facts_of table.old) w k && not (ready (facts_of table.old) k)))) }
+    ensures err { OnErr result ((facts_of table.new).setting ≡ (facts_of table.old).setting) }
 {
     table.sound();
     for key in 0..table.keys() {
@@ -161,6 +168,7 @@ fn drop_place(
     requires { key < keys (facts_of table.old) }
     ensures facts { OnOk result (facts_of table.new ≡ placed_nowhere is_ready (facts_of table.old) key) }
     ensures lost { OnOk result ((w k : ℕ) → has_pair lost.new w k ≡ (has_pair lost.old w k || (is_on (facts_of table.old) w k && (k == key && not is_ready)))) }
+    ensures err { OnErr result ((facts_of table.new).setting ≡ (facts_of table.old).setting) }
 {
     if is_ready {
         Ok(())
@@ -174,6 +182,7 @@ fn drop_any_place(table: &mut FactTable, key: u32, lost: &mut Pairs) -> Result<(
     requires { key < keys (facts_of table.old) }
     ensures facts { OnOk result (facts_of table.new ≡ placed_nowhere false (facts_of table.old) key) }
     ensures lost { OnOk result ((w k : ℕ) → has_pair lost.new w k ≡ (has_pair lost.old w k || (is_on (facts_of table.old) w k && (k == key && not false)))) }
+    ensures err { OnErr result ((facts_of table.new).setting ≡ (facts_of table.old).setting) }
 {
     table.sound();
     let place = table.on(key);
@@ -193,6 +202,7 @@ fn take_place(
     requires { key < keys (facts_of table.old) }
     ensures facts { OnOk result (facts_of table.new ≡ record (facts_of table.old) { on = put (facts_of table.old).on key None; steal = put (facts_of table.old).steal key None }) }
     ensures lost { OnOk result (lost.new ≡ lost.old ++ (worker, key) ∷ []) }
+    ensures err { OnErr result ((facts_of table.new).setting ≡ (facts_of table.old).setting) }
 {
     table.unassign(key);
     lost.push((worker, key))

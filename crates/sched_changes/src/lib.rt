@@ -11,3 +11,6 @@ pub mod changes;
 pub mod drops;
 
 pub use changes::{News, Pairs};
+
+#[cfg(test)]
+mod tests;

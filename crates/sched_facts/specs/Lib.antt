@@ -3,3 +3,4 @@ pub mod Stores
 pub mod Kept
 pub mod Tables
 pub mod Derived
+pub mod Pairs

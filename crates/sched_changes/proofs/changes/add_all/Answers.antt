@@ -33,6 +33,6 @@ loop-key-preserved c =
     let w = c.args.worker in
     let x = get_or c.args.added.now c.loop-key.key-index 0 in
     record {
-      change = c.in_ok-add.ensures ∙ ap (λ (z : Changed). add_key w c.args.seen z x) c.loop-key.invariant.change ∙ sym (ap (add_keys w c.args.seen (so_far f c.args.freed.now)) (take_more c.args.added.now c.loop-key.key-index 0 (omega arith)) ∙ add_push w c.args.seen (so_far f c.args.freed.now) (take c.loop-key.key-index c.args.added.now) x);
-      kept = added_then f g (facts_of c.add.new.table) w (keys f) c.loop-key.invariant.kept (subst (λ (z : Facts). IsAdded g z w (keys f)) (sym (ap (λ (z : Changed). z.facts) c.in_ok-add.ensures)) (added_one g c.loop-key.freed w c.args.seen x (keys f) (c.requires.keys c.loop-key.key-index 0 (omega arith))));
+      change = c.in_ok-add.ensures.change ∙ ap (λ (z : Changed). add_key w c.args.seen z x) c.loop-key.invariant.change ∙ sym (ap (add_keys w c.args.seen (so_far f c.args.freed.now)) (take_more c.args.added.now c.loop-key.key-index 0 (omega arith)) ∙ add_push w c.args.seen (so_far f c.args.freed.now) (take c.loop-key.key-index c.args.added.now) x);
+      kept = added_then f g (facts_of c.add.new.table) w (keys f) c.loop-key.invariant.kept (subst (λ (z : Facts). IsAdded g z w (keys f)) (sym (ap (λ (z : Changed). z.facts) c.in_ok-add.ensures.change)) (added_one g c.loop-key.freed w c.args.seen x (keys f) (c.requires.keys c.loop-key.key-index 0 (omega arith))));
     }

@@ -4,7 +4,7 @@ use Rattle.cluster_rules.specs.Sched.{Facts, keys, need, holds}
 use Rattle.sched_facts.specs.Stored.{facts_of}
 use Rattle.sched_changes.specs.Pairs.{has_pair}
 use Rattle.sched_changes.specs.Dropped.{held_nowhere}
-use Rattle.sched_changes.proofs.PairLemmas.{has_none, has_more, has_all, setting_has, lost_copies_more, lost_none, lost_all}
+use Rattle.sched_changes.proofs.PairLemmas.{after_err, has_none, has_more, has_all, setting_has, same_setting_has, lost_copies_more, lost_none, lost_all}
 use Rattle.sched_changes.proofs.drops.drop_copies.Goals as goal
 
 pub loop-key-init : goal.loop-key-init
@@ -35,3 +35,8 @@ pub returns-clause-lost : goal.returns-clause-lost
 returns-clause-lost c w k =
     let f = facts_of c.args.table.now in
     c.loop-key.invariant.lost w k ∙ lost_all (has_pair c.args.lost.now w k) (holds f w k) (need f k) k c.loop-key.key (keys f) (omega (arith, c.keys-key-end.ensures)) (λ h. ap is_some (c.sound.ensures.has w k h))
+
+pub returns-in_err-drop_key-clause-err : goal.returns-in_err-drop_key-clause-err
+returns-in_err-drop_key-clause-err c =
+    let f = facts_of c.args.table.now in
+    after_err _ _ (c.in_err-drop_key.ensures.err ∙ ap (λ (g : Facts). g.setting) c.loop-key.invariant.facts ∙ same_setting_has (need f) f c.loop-key.key)

@@ -4,7 +4,7 @@ use Rattle.cluster_rules.specs.Functions.{put_pair}
 use Rattle.cluster_rules.specs.Sched.{Facts, keys, holds}
 use Rattle.sched_facts.specs.Stored.{facts_of}
 use Rattle.sched_changes.specs.Pairs.{has_pair}
-use Rattle.sched_changes.proofs.PairLemmas.{copies_none, copies_more, copies_all, setting_copies, lost_workers_more, lost_workers_none, lost_workers_all}
+use Rattle.sched_changes.proofs.PairLemmas.{after_err, copies_none, copies_more, copies_all, setting_copies, same_setting_copies, lost_workers_more, lost_workers_none, lost_workers_all}
 use Rattle.sched_changes.proofs.drops.drop_everywhere.Goals as goal
 
 pub loop-before-init : goal.loop-before-init
@@ -35,3 +35,8 @@ pub returns-clause-lost : goal.returns-clause-lost
 returns-clause-lost c w j =
     let f = facts_of c.args.table.now in
     c.loop-before.invariant.lost w j ∙ lost_workers_all c.args.key f c.loop-before.before (has_pair c.args.lost.now) c.sound.ensures (omega (arith, c.last_worker-before-end.ensures)) w j
+
+pub returns-in_err-drop_at-clause-err : goal.returns-in_err-drop_at-clause-err
+returns-in_err-drop_at-clause-err c =
+    let f = facts_of c.args.table.now in
+    after_err _ _ (c.in_err-drop_at.ensures.err ∙ ap (λ (g : Facts). g.setting) c.loop-before.invariant.facts ∙ same_setting_copies c.args.key f c.loop-before.before)

@@ -4,7 +4,7 @@ use Rattle.cluster_rules.specs.Sched.{Facts, keys, ready, is_on, is_for}
 use Rattle.sched_facts.specs.Stored.{facts_of}
 use Rattle.sched_changes.specs.Pairs.{has_pair}
 use Rattle.sched_changes.specs.Dropped.{placed_nowhere}
-use Rattle.sched_changes.proofs.PairLemmas.{on_none, on_more, on_all, setting_on, lost_places_more, lost_none, lost_all}
+use Rattle.sched_changes.proofs.PairLemmas.{after_err, on_none, on_more, on_all, setting_on, same_setting_on, lost_places_more, lost_none, lost_all}
 use Rattle.sched_changes.proofs.drops.drop_places.Goals as goal
 
 pub loop-key-init : goal.loop-key-init
@@ -35,3 +35,8 @@ pub returns-clause-lost : goal.returns-clause-lost
 returns-clause-lost c w k =
     let f = facts_of c.args.table.now in
     c.loop-key.invariant.lost w k ∙ lost_all (has_pair c.args.lost.now w k) (is_on f w k) (ready f k) k c.loop-key.key (keys f) (omega (arith, c.keys-key-end.ensures)) (λ h. ap (is_for w) (c.sound.ensures.on k h))
+
+pub returns-in_err-drop_place-clause-err : goal.returns-in_err-drop_place-clause-err
+returns-in_err-drop_place-clause-err c =
+    let f = facts_of c.args.table.now in
+    after_err _ _ (c.in_err-drop_place.ensures.err ∙ ap (λ (g : Facts). g.setting) c.loop-key.invariant.facts ∙ same_setting_on (ready f) f c.loop-key.key)

@@ -1,0 +1,8 @@
+use Rattle.std.proofs.Common.{◌≡◌, ℕ, None, cond, length, get_or, ltb}
+use Rattle.message_queues.proofs.shelf.Places.clear.Given as goal
+
+abbrev pub invariant-loop-place : goal.invariant-loop-place
+invariant-loop-place g l = record {
+  long : length l.self-inside.items.items ≡ length l.fn.self;
+  done : (k : ℕ) → get_or l.self-inside.items.items k None ≡ cond (ltb k l.place) None (get_or l.fn.self k None);
+}

@@ -1,0 +1,4 @@
+pub mod Books
+pub mod Settling
+pub mod Choices
+pub mod Effects

@@ -1,0 +1,210 @@
+//! The rows of the scheduler's table: what each event changes, frees, answers and leaves to be told.
+ghost use Rattle.std.specs.Prelude.{◌≡◌, ℕ, ◌+◌, ◌<◌, ◌≤◌, ◌^◌, nat_lt, nat_le, ◌&&◌, true, false, None, Some, IfOk, OnOk, OnErr, [], List};
+ghost use Rattle.std.specs.List.{list_all};
+ghost use Rattle.cluster_rules.specs.Sched.{Facts as SchedFacts, keys, connected, workers};
+ghost use Rattle.cluster_rules.specs.SchedTable.{change_up, change_client, change, up_keys, client_keys, sched_takes, joined, left, balanced, evicted};
+ghost use Rattle.cluster_rules.specs.Policies.{next_steal, next_drop};
+ghost use Rattle.sched_facts.specs.Stored.{facts_of};
+ghost use Rattle.sched_book.specs.Choices.{steal_for, drop_for};
+ghost use Rattle.sched_book.specs.Effects.{answering, asked_by, asked_in, changed_by, IsAnswer};
+
+use cluster_msgs::{FromClient, SchedEvent, Steal, Up};
+use sched_changes::{Pairs, changes};
+use sched_facts::FactTable;
+use sched_messages::Answer;
+use std::alloc::AllocError;
+
+/// What an event leaves to be told, beside the keys that it frees.
+#[derive(Clone, Copy, Debug, PartialEq, Eq)]
+pub struct Effect {
+    /// What a worker is answered.
+    pub answer: Answer,
+    /// The client that is answered, and about which key.
+    pub reply: Option<(u32, u32)>,
+    /// The number of the worker that joined.
+    pub joined: Option<u32>,
+}
+
+/// An effect that only answers a worker.
+fn answer_only(answer: Answer) -> Effect
+    ensures { result ≡ record { answer = answer; reply = None; joined = None } }
+{
+    Effect {
+        answer,
+        reply: None,
+        joined: None,
+    }
+}
+
+/// The rows of a worker's messages.
+///
+/// # Errors
+/// Where no memory is left. The setting stays as it is.
+pub fn hear_worker(
+    table: &mut FactTable,
+    freed: &mut Pairs,
+    worker: u32,
+    up: &Up,
+) -> Result<Answer, AllocError>
+    requires worker { connected (facts_of table.old) worker ≡ true }
+    requires keys { list_all (λ k. nat_lt k (keys (facts_of table.old))) (up_keys up.now) ≡ true }
+    requires room { (facts_of table.old).counter + keys (facts_of table.old) < 2 ^ 62 }
+    requires finishes { (facts_of table.old).finishes < 2 ^ 62 }
+    requires freed { freed.old ≡ [] }
+    ensures is_answer { IfOk result (λ a. IsAnswer (facts_of table.old) (facts_of table.new) a) }
+    ensures change { IfOk result (λ a. answering (facts_of table.old) (facts_of table.new) freed.new a ≡ change_up (facts_of table.old) worker up.now) }
+    ensures err { OnErr result ((facts_of table.new).setting ≡ (facts_of table.old).setting) }
+{
+    match up {
+        Up::TaskFinished { key, attempt, .. } => {
+            changes::finish(table, worker, *key, *attempt);
+            Ok(Answer::Nothing)
+        }
+        Up::TaskErred { key, attempt, .. } => {
+            changes::fail(table, worker, *key, *attempt);
+            Ok(Answer::Nothing)
+        }
+        Up::AddKeys { seen, keys } => {
+            changes::add_all(table, freed, worker, *seen, keys.as_slice())?;
+            Ok(Answer::Nothing)
+        }
+        Up::ReleaseWorkerData { seen, key } => {
+            changes::release(table, worker, *seen, *key);
+            Ok(Answer::Nothing)
+        }
+        Up::MissingData {
+            key,
+            holder,
+            copy,
+            ..
+        } => {
+            changes::lose_copy(table, freed, *holder, *key, *copy)?;
+            Ok(Answer::Refresh { worker, key: *key })
+        }
+        Up::RequestRefreshWhoHas { key, .. } => Ok(Answer::Refresh { worker, key: *key }),
+        Up::StealResponse {
+            key,
+            attempt,
+            yes,
+            ..
+        } => {
+            changes::answer_steal(table, worker, *key, *attempt, *yes);
+            Ok(Answer::Nothing)
+        }
+    }
+}
+
+/// The rows of a client's messages.
+///
+/// # Errors
+/// Where no memory is left. The setting stays as it is.
+pub fn hear_client(
+    table: &mut FactTable,
+    freed: &mut Pairs,
+    client: u32,
+    message: &FromClient,
+) -> Result<Effect, AllocError>
+    requires first { 1 ≤ client }
+    requires client { client ≤ (facts_of table.old).setting.clients }
+    requires keys { list_all (λ k. nat_lt k (keys (facts_of table.old))) (client_keys message.now) ≡ true }
+    requires freed { freed.old ≡ [] }
+    ensures is_answer { IfOk result (λ x. IsAnswer (facts_of table.old) (facts_of table.new) x.answer) }
+    ensures change { IfOk result (λ x. changed_by (facts_of table.old) (facts_of table.new) freed.new x (asked_by message.now) ≡ change_client (facts_of table.old) client message.now) }
+    ensures err { OnErr result ((facts_of table.new).setting ≡ (facts_of table.old).setting) }
+{
+    match message {
+        FromClient::Want { keys } => {
+            changes::want(table, client, keys.as_slice());
+            Ok(answer_only(Answer::Nothing))
+        }
+        FromClient::Release { keys } => {
+            changes::unwant(table, client, keys.as_slice());
+            Ok(answer_only(Answer::Nothing))
+        }
+        FromClient::Missing { key, holder, copy } => {
+            changes::lose_copy(table, freed, *holder, *key, *copy)?;
+            Ok(Effect {
+                answer: Answer::Nothing,
+                reply: Some((client, *key)),
+                joined: None,
+            })
+        }
+    }
+}
+
+/// Balance: the key is to be stolen, and its victim is asked for it.
+fn balance(table: &mut FactTable, choice: Option<Steal>) -> Effect
+    requires { choice ≡ next_steal (facts_of table.old) }
+    ensures change { changed_by (facts_of table.old) (facts_of table.new) [] result (λ k. false) ≡ balanced (facts_of table.old) choice }
+    ensures is_answer { IsAnswer (facts_of table.old) (facts_of table.new) result.answer }
+{
+    match choice {
+        Some(steal) => {
+            table.mark_steal(steal.key, Some((steal.thief, false)));
+            answer_only(Answer::AskBack { key: steal.key })
+        }
+        None => answer_only(Answer::Nothing),
+    }
+}
+
+/// Evict: the holder's copy goes, and it is told to remove it.
+fn evict(table: &mut FactTable, choice: Option<(u32, u32)>) -> Effect
+    requires { choice ≡ next_drop (facts_of table.old) }
+    ensures change { changed_by (facts_of table.old) (facts_of table.new) [] result (λ k. false) ≡ evicted (facts_of table.old) choice }
+    ensures is_answer { IsAnswer (facts_of table.old) (facts_of table.new) result.answer }
+{
+    match choice {
+        Some((worker, key)) => {
+            table.sound();
+            table.drop_copy(worker, key);
+            answer_only(Answer::Remove { worker, key })
+        }
+        None => answer_only(Answer::Nothing),
+    }
+}
+
+/// The event's own change. `steal` and `drop` are what the policies chose for it.
+///
+/// # Errors
+/// Where no memory is left. The setting stays as it is.
+pub fn apply(
+    table: &mut FactTable,
+    freed: &mut Pairs,
+    event: &SchedEvent,
+    steal: Option<Steal>,
+    drop: Option<(u32, u32)>,
+) -> Result<Effect, AllocError>
+    requires takes { sched_takes (facts_of table.old) event.now ≡ true }
+    requires steal { steal ≡ steal_for (facts_of table.old) event.now }
+    requires drop { drop ≡ drop_for (facts_of table.old) event.now }
+    requires room { (facts_of table.old).counter + keys (facts_of table.old) < 2 ^ 62 }
+    requires finishes { (facts_of table.old).finishes < 2 ^ 62 }
+    requires freed { freed.old ≡ [] }
+    ensures is_answer { IfOk result (λ x. IsAnswer (facts_of table.old) (facts_of table.new) x.answer) }
+    ensures change { IfOk result (λ x. changed_by (facts_of table.old) (facts_of table.new) freed.new x (asked_in event.now) ≡ change (facts_of table.old) event.now) }
+    ensures err { OnErr result ((facts_of table.new).setting ≡ (facts_of table.old).setting) }
+{
+    match event {
+        SchedEvent::Join { threads } => {
+            table.make_room()?;
+            let number = table.last_worker() + 1;
+            table.join(*threads);
+            Ok(Effect {
+                answer: Answer::Nothing,
+                reply: None,
+                joined: Some(number),
+            })
+        }
+        SchedEvent::Leave { w } => {
+            table.leave(*w);
+            Ok(answer_only(Answer::Nothing))
+        }
+        SchedEvent::FromWorker { w, up } => {
+            let answer = hear_worker(table, freed, *w, up)?;
+            Ok(answer_only(answer))
+        }
+        SchedEvent::FromClient { c, msg } => hear_client(table, freed, *c, msg),
+        SchedEvent::Balance => Ok(balance(table, steal)),
+        SchedEvent::Evict => Ok(evict(table, drop)),
+    }
+}

@@ -1,0 +1,4 @@
+pub mod MailLemmas
+pub mod NewsLemmas
+pub mod PostLemmas
+pub mod SentLemmas

@@ -1,0 +1,31 @@
+-- The messages of one event to the workers, by the facts once they have settled.
+use Rattle.std.specs.Prelude.{ℕ, ◌==◌, nat_le, Bool, false, List, [], ◌∷◌, ◌++◌, Option, Some, None, filter, cond}
+use Rattle.cluster_msgs.specs.declared.messages.Down.{Down}
+use Rattle.cluster_msgs.specs.declared.messages.Down.TheVariants.{RemoveReplicas, RefreshWhoHas}
+use Rattle.cluster_rules.specs.Derived.{below}
+use Rattle.cluster_rules.specs.Sched.{Facts, keys, who_has}
+use Rattle.cluster_rules.specs.SchedTable.{ask_message}
+use Rattle.cluster_rules.specs.SchedStep.{free_message, task_messages, all_to}
+pub use Rattle.sched_facts.specs.Pairs.{has_pair}
+use Rattle.sched_messages.specs.declared.answer.Answer.{Answer}
+use Rattle.sched_messages.specs.declared.answer.Answer.TheVariants.{Nothing, Refresh, AskBack, Remove}
+
+-- what the worker is answered
+abbrev pub answer_of : Answer → Facts → ℕ → List Down
+answer_of Nothing f w = []
+answer_of (Refresh v k) f w = cond (w == v) (RefreshWhoHas (who_has f (k ∷ [])) ∷ []) []
+answer_of (AskBack k) f w = ask_message k (f.on k) w
+answer_of (Remove v k) f w = cond (w == v) (RemoveReplicas (k ∷ []) ∷ []) []
+
+-- to one worker: what it lost, the keys that it was given since the counter stood there, what it is answered
+unfoldable pub worker_mail : Facts → List (ℕ × ℕ) → ℕ → Answer → ℕ → List (ℕ × Down)
+worker_mail f lost since a w = free_message w (filter (has_pair lost w) (below (keys f))) ++ (task_messages f since w ++ all_to w (answer_of a f w))
+
+-- the place is one that was given since the counter stood there
+abbrev pub is_since : ℕ → Option (ℕ × ℕ) → Bool
+is_since since None = false
+is_since since (Some p) = nat_le since p.1
+
+-- the keys that were given since the counter stood there, ascending
+unfoldable pub given_keys : Facts → ℕ → List ℕ
+given_keys f since = filter (λ k. is_since since (f.on k)) (below (keys f))

@@ -1,0 +1,25 @@
+//! The messages of one event of the scheduler: what each worker and each client is told once the facts have settled.
+//!
+//! `sched_facts` stands below: the settled facts, and the rows that are derived from them. The scheduler's core stands
+//! above: it changes the facts, lets them settle, and calls this crate. It carries the scheduler's share of *part
+//! correctness*: which messages an event sends, message by message, and how the facts remember that they were sent.
+//! `sched_step` of `cluster_rules` says the same of a whole event. The keys of which there is something to say are
+//! collected once, and not for each worker or client; only a worker that lost keys costs a visit of all keys of its own.
+#![tactic(auto)]
+
+pub mod answer;
+pub mod clients;
+pub mod copies;
+pub mod lost;
+pub mod news;
+pub mod posts;
+pub mod tasks;
+pub mod workers;
+
+pub use answer::Answer;
+pub use clients::tell_clients;
+pub use posts::post_all;
+pub use workers::tell_workers;
+
+#[cfg(test)]
+mod tests;

@@ -1,0 +1,5 @@
+pub mod Before
+pub mod Sent
+pub mod Courses
+pub mod Cores
+pub mod Inner

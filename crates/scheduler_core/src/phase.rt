@@ -1,0 +1,98 @@
+//! The state of a key.
+ghost use Rattle.std.specs.Prelude.{◌≡◌, ◌<◌, not, cond, is_some};
+ghost use Rattle.std.specs.List.{list_any};
+ghost use Rattle.cluster_rules.specs.Functions.{from_one};
+ghost use Rattle.cluster_msgs.specs.declared.cores.Phase.TheVariants.{Erred, Released, Memory, Waiting, Processing, NoWorker, Queued, Forgotten};
+ghost use Rattle.cluster_rules.specs.Sched.{keys, connected, fed, phase};
+ghost use Rattle.sched_facts.specs.Stored.{facts_of};
+
+use cluster_msgs::Phase;
+use cluster_rules::Facts;
+use sched_book::Book;
+use sched_facts::derived::is_fed;
+
+/// The state of a key: the first that fits. It is `Forgotten` where there is no such key.
+pub fn phase(book: &Book, key: u32) -> Phase
+    ensures { result ≡ phase (facts_of book.now) key }
+{
+    book.sound();
+    if key < book.keys() {
+        phase_of(book, key)
+    } else {
+        Phase::Forgotten
+    }
+}
+
+/// The state of a key that is there.
+fn phase_of(book: &Book, key: u32) -> Phase
+    requires { key < keys (facts_of book.now) }
+    ensures { result ≡ phase (facts_of book.now) key }
+{
+    let rest = waiting_phase(
+        is_fed_key(book, key),
+        is_placed(book, key),
+        has_workers(book),
+    );
+    first_phase(
+        book.is_known(key),
+        book.erred(key),
+        book.needed(key),
+        book.held(key),
+        rest,
+    )
+}
+
+/// Whether each dependency of the key is held.
+fn is_fed_key(book: &Book, key: u32) -> bool
+    requires { key < keys (facts_of book.now) }
+    ensures { result ≡ fed (facts_of book.now) key }
+{
+    is_fed(book.table(), key)
+}
+
+/// Whether the key is on a worker.
+fn is_placed(book: &Book, key: u32) -> bool
+    ensures { result ≡ is_some ((facts_of book.now).on key) }
+{
+    book.table().on(key).is_some()
+}
+
+/// Whether a worker is connected.
+fn has_workers(book: &Book) -> bool
+    ensures { result ≡ list_any (connected (facts_of book.now)) (from_one (facts_of book.now).last_worker) }
+{
+    0 < book.table().connected_count()
+}
+
+/// The state of a needed key that is not held: whether its dependencies are held, it is on a worker, and a worker is
+/// connected.
+fn waiting_phase(is_fed: bool, is_placed: bool, has_workers: bool) -> Phase
+    ensures { result ≡ cond (not is_fed) Waiting (cond is_placed Processing (cond (not has_workers) NoWorker Queued)) }
+{
+    if !is_fed {
+        Phase::Waiting
+    } else if is_placed {
+        Phase::Processing
+    } else if !has_workers {
+        Phase::NoWorker
+    } else {
+        Phase::Queued
+    }
+}
+
+/// The first state that fits, where `rest` is that of a needed key that is not held.
+fn first_phase(is_known: bool, is_erred: bool, is_needed: bool, is_held: bool, rest: Phase) -> Phase
+    ensures { result ≡ cond (not is_known) Forgotten (cond is_erred Erred (cond (not is_needed) Released (cond is_held Memory rest))) }
+{
+    if !is_known {
+        Phase::Forgotten
+    } else if is_erred {
+        Phase::Erred
+    } else if !is_needed {
+        Phase::Released
+    } else if is_held {
+        Phase::Memory
+    } else {
+        rest
+    }
+}

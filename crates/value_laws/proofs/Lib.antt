@@ -1,0 +1,5 @@
+pub mod Within
+pub mod WithinWorld
+pub mod Deliveries
+pub mod Moving
+pub mod Values
