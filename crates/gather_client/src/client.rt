@@ -1,5 +1,7 @@
 //! The client's core: events in, instructions out.
 ghost use Rattle.std.specs.Prelude.{◌≡◌, ◌↔◌, ◌-◌, ◌^◌, Err, IfOk, OnOk, OnErr, true, false, min};
+ghost use Rattle.std.specs.Option.{option_map};
+ghost use Rattle.cluster_rules.specs.Worker.{ask_to};
 ghost use Rattle.cluster_rules.specs.Client.{new_client, done, client_would_ask, client_pairs};
 ghost use Rattle.gather_client.specs.CoreState.{client_facts, IsTaken, IsRefused, IsSpent};
 ghost use Rattle.gather_client.specs.Kept.{KeysKept};
@@ -58,9 +60,9 @@ impl ClientCore {
     /// An event may come from a peer that lies. One that isn't possible, or names a key beyond the graph, is refused.
     ///
     /// # Errors
-    /// `Memory` where no memory is left, and from then on at every call; `Spent` where 2^40 events were taken; `Refused`
-    /// where the event isn't possible or a key is out of range. After `Spent` and `Refused` all is as before. After
-    /// `Memory` what `out` had still stands at its front.
+    /// `Memory` where no memory is left: the core has stopped then, and answers so to every later event; what `out` had
+    /// still stands at its front. Else `Spent` exactly where the core has taken 2^40 events. Else `Refused` exactly where
+    /// the event isn't possible or a key is out of range. After the latter two all is as before.
     pub fn on(&mut self, e: ClientEvent, out: &mut ClientOut) -> Result<(), Stop>
         ensures taken { OnOk result (IsTaken self.old e self.new out.old out.new) }
         ensures refused { (result ≡ Err Stop.Refused) ↔ IsRefused self.old e }
@@ -73,6 +75,8 @@ impl ClientCore {
         ensures spent_stays { result ≡ Err Stop.Spent → self.new ≡ self.old }
         ensures refused_silent { result ≡ Err Stop.Refused → out.new ≡ out.old }
         ensures spent_silent { result ≡ Err Stop.Spent → out.new ≡ out.old }
+        ensures stopped_stays { self.old.stopped ≡ true → self.new ≡ self.old }
+        ensures stopped_silent { self.old.stopped ≡ true → out.new ≡ out.old }
         ensures err { OnErr result (IsGrown out.old out.new) }
     {
         if self.stopped {
@@ -116,6 +120,13 @@ impl ClientCore {
         ensures { result ≡ client_would_ask (client_facts self.now) peer }
     {
         self.table.would_ask(peer)
+    }
+
+    /// The number of the open ask to a peer, if one is open.
+    pub fn ask_number(&self, peer: u32) -> Option<u64>
+        ensures { result ≡ option_map (λ a. a.number) (ask_to (client_facts self.now).asks peer) }
+    {
+        self.table.ask_number(peer)
     }
 
     /// How many pairs of a key and a holder the client knows, or 2^64 - 1 where it is more.

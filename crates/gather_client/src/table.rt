@@ -162,6 +162,7 @@ impl ClientTable {
         self.is_due(key) & !self.is_flying(key)
     }
 
+    /// The key is wanted, or no longer is.
     pub fn set_wanted(&mut self, key: u32, to: bool)
         requires { key < key_count (facts_of self.old).shape }
         ensures { facts_of self.new ≡ record (facts_of self.old) { wants = put (facts_of self.old).wants key to } }
@@ -169,6 +170,7 @@ impl ClientTable {
         self.wants.set(key, to);
     }
 
+    /// The key's block has come, or is let go.
     pub fn set_got(&mut self, key: u32, to: bool)
         requires { key < key_count (facts_of self.old).shape }
         ensures { facts_of self.new ≡ record (facts_of self.old) { got = put (facts_of self.old).got key to } }
@@ -176,6 +178,7 @@ impl ClientTable {
         self.got.set(key, to);
     }
 
+    /// The key to blame for the failure of this one, or none.
     pub fn set_failed(&mut self, key: u32, to: Option<u32>)
         requires { key < key_count (facts_of self.old).shape }
         ensures { facts_of self.new ≡ record (facts_of self.old) { failed = put (facts_of self.old).failed key to } }
@@ -198,6 +201,13 @@ impl ClientTable {
     {
         let nobody = Holders::new(self.alloc);
         self.set_located(key, nobody);
+    }
+
+    /// The number of the open ask to a peer, if one is open.
+    pub fn ask_number(&self, peer: u32) -> Option<u64>
+        ensures { result ≡ option_map (λ a. a.number) (ask_to (facts_of self.now).asks peer) }
+    {
+        self.asks.number_of(peer)
     }
 
     /// The items of the open ask to a peer, where it has this number.

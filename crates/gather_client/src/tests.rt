@@ -76,7 +76,36 @@ fn a_lost_block_is_gathered_from_another_worker(rt: HostRuntime) {
     gathers_elsewhere(rt.alloc(), &mut client, &mut out).expect(&rt, "gathered");
     assert_eq!(rt; client.done(0), Some(End::Got));
     assert_eq!(rt; client.done(1), None);
-    assert_eq!(rt; out.len(), 2);
+    let keys = key_list(rt.alloc(), &[0]).expect(&rt, "memory");
+    let wanted = ClientInstruction::Send(FromClient::Want { keys });
+    let keys = key_list(rt.alloc(), &[0]).expect(&rt, "memory");
+    let gather = ClientInstruction::Gather {
+        peer: 2,
+        ask: 1,
+        keys,
+    };
+    assert_eq!(rt; out.as_slice(), [wanted, gather].as_slice());
+}
+
+// A client of two keys that wants the first, and is told that it failed.
+fn told_of_a_failure(alloc: Global, out: &mut ClientOut) -> Result<ClientCore, Stop> {
+    let mut client = ClientCore::new(alloc, two_keys(alloc)?)?;
+    client.on(want(alloc, &[0])?, out)?;
+    let failed = ToClient::ClientTaskErred { key: 0, blame: 1 };
+    client.on(ClientEvent::FromScheduler(failed), out)?;
+    Ok(client)
+}
+
+#[test]
+fn a_failure_is_told_until_the_key_is_let_go(rt: HostRuntime) {
+    let mut out = ClientOut::new(rt.alloc());
+    let mut client = told_of_a_failure(rt.alloc(), &mut out).expect(&rt, "told");
+    assert_eq!(rt; client.done(0), Some(End::Erred { blame: 1 }));
+    let keys = key_list(rt.alloc(), &[0]).expect(&rt, "memory");
+    client
+        .on(ClientEvent::Release(keys), &mut out)
+        .expect(&rt, "released");
+    assert_eq!(rt; client.done(0), None);
 }
 
 #[test]
@@ -108,7 +137,7 @@ fn an_answer_to_an_old_ask_changes_nothing(rt: HostRuntime) {
 }
 
 #[test]
-fn what_is_not_possible_is_refused(rt: HostRuntime) {
+fn what_is_not_possible_is_refused_and_not_always_out_of_memory(rt: HostRuntime) {
     let mut out = ClientOut::new(rt.alloc());
     let mut client = asking(rt.alloc(), &mut out).expect(&rt, "asking");
     out.clear();

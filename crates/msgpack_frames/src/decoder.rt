@@ -328,8 +328,11 @@ fn first_value(alloc: Global, bytes: &[u8]) -> Result<(Value, usize), MpError>
 /// Takes each form that the [MessagePack specification] gives a value, also one that is longer than need
 /// be, and no other bytes. A refusal is the first one from left to right. `Depth` is where a 17th array or
 /// map begins inside 16 that are open, `Limit` where a length above 2^27 has been read; a string is tested
-/// for UTF-8 once all its bytes are there. Memory is taken only for bytes that are there, whatever lengths
-/// they claim.
+/// for UTF-8 once all its bytes are there.
+///
+/// # Errors
+/// `Short`, `Float`, `Ext`, `Reserved`, `Depth`, `NotUtf8` and `Limit` where the bytes are so; `OutOfMemory` where no memory is
+/// left.
 ///
 /// [MessagePack specification]: https://github.com/msgpack/msgpack/blob/master/spec.md
 pub fn decode(alloc: Global, bytes: &[u8]) -> Result<(Value, usize), MpError>

@@ -119,8 +119,9 @@ impl FrameReader {
 
     /// Takes the next piece of the stream. Whole groups are then ready to be taken.
     ///
+    /// # Errors
     /// `TooMany` and `TooLong` are answered again by every later call; the groups before stay ready.
-    /// After `OutOfMemory` the reader is as before. A length is tested before room is made for its frame.
+    /// After `OutOfMemory` the reader is as before.
     pub fn feed(&mut self, piece: &[u8]) -> Result<(), FrameError>
         // It is the reader of what was fed before and the piece, however that was cut.
         ensures reading { (stream : List ℕ) (taken : List Group) → IsReading stream taken self.old

@@ -38,12 +38,14 @@ impl OpenAsk {
         }
     }
 
+    /// The peer that was asked.
     pub fn peer(&self) -> u32
         ensures { result ≡ self.now.peer }
     {
         self.peer
     }
 
+    /// The number of the ask.
     pub fn number(&self) -> u64
         ensures { result ≡ self.now.number }
     {
@@ -58,7 +60,7 @@ impl OpenAsk {
     }
 }
 
-/// The open asks, at most one to each peer, and which keys they name.
+/// The open asks, and which keys they name. Callers open one to each peer at most.
 ///
 /// Contracts see how many keys there are, and the asks.
 #[derive(Drop)]
@@ -106,6 +108,16 @@ impl Asks {
         ensures { result ≡ is_asked_for self.now.asks key }
     {
         self.flying.test(key as usize)
+    }
+
+    /// The number of the open ask to a peer, if one is open.
+    pub fn number_of(&self, peer: u32) -> Option<u64>
+        ensures { result ≡ option_map (λ a. a.number) (ask_to self.now.asks peer) }
+    {
+        match find_ask(self.asks.as_slice(), peer) {
+            Some(ask) => Some(ask.number()),
+            None => None,
+        }
     }
 
     /// The items of the open ask to a peer, where it has this number.

@@ -22,7 +22,7 @@ use std::alloc::Global;
 /// `NotAMap` comes first. Then the operation is asked for: the field `op` is `Missing`, has a `WrongType`, or names an
 /// `UnknownOp`; the first pair under `op` counts. Then the first pair from the left at fault is named: its key is
 /// `Unknown`, its field is `Repeated`, or what stands there has a `WrongType` or is out of `Range`. Last comes the first
-/// field of the operation that is `Missing`, in the order of the table. A refused value takes no memory.
+/// field of the operation that is `Missing`, in the order of the table.
 #[tactic(auto, unfolding(crate::specs::Messages::answer))]
 pub fn from_value(alloc: Global, value: &Value) -> Result<Message, WireError>
     ensures answered { Answers result (answer (view value.now)) }

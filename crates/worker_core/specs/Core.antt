@@ -1,8 +1,8 @@
 -- What callers see of a worker's core.
-use Rattle.std.specs.Prelude.{ℕ, Bool, ◌&&◌, not, List, filter, cond}
+use Rattle.std.specs.Prelude.{ℕ, ◌≤◌, Bool, ◌&&◌, not, List, filter, cond}
 use Rattle.cluster_msgs.specs.declared.cores.Instruction.{Instruction}
 use Rattle.cluster_rules.specs.Derived.{is_in}
-use Rattle.cluster_rules.specs.Worker.{WorkerFacts, worker_keys, awaited}
+use Rattle.cluster_rules.specs.Worker.{WorkerFacts, worker_keys, awaited, running_count}
 use Rattle.cluster_rules.specs.WorkerStep.{WorkerStep, Arrivals}
 use Rattle.worker_facts.specs.Stored.{Stored, facts_of}
 
@@ -19,6 +19,10 @@ facts c = facts_of c.stored
 -- a core may take this many events
 abbrev pub event_limit : ℕ
 event_limit = 1099511627776
+
+-- no more tasks run than there are threads
+abbrev pub RunsFew : WorkerFacts → Type 0
+RunsFew w = running_count w ≤ w.threads
 
 -- stored facts with instructions
 abbrev pub step_of : Stored → List Instruction → WorkerStep

@@ -48,7 +48,7 @@ pub fn keys_of(alloc: Global, items: &[(u32, u64)]) -> Result<KeyList, AllocErro
     Ok(KeyList::from_vec(keys))
 }
 
-/// Appends what was made. After want of memory a front of it was appended.
+/// Appends what was made. After want of memory what `out` had still stands at its front.
 pub fn append(out: &mut Instructions, made: Instructions) -> Result<(), AllocError>
     ensures ok { OnOk result (out.new ≡ out.old ++ made) }
     ensures err { OnErr result ((front : List Instruction) × (out.new ≡ out.old ++ front)) }

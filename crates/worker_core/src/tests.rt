@@ -148,16 +148,34 @@ fn a_missing_key_is_asked_for_once_and_a_failed_gather_is_told(
         given(1, 1, told_of(alloc, &[])?),
         WorkerEvent::GatherFailed { peer: 2, ask: 1 },
         WorkerEvent::Down(told),
+        WorkerEvent::Ask { peer: 2 },
         WorkerEvent::GatherFailed { peer: 2, ask: 1 },
     ]?;
     let (out, states) = play(alloc, events)?;
     let question = Up::RequestRefreshWhoHas { seen: 1, key: 0 };
-    assert_eq!(rt; out.as_slice(), [Instruction::Send(question)].as_slice());
+    let missing = Up::MissingData {
+        seen: 2,
+        key: 0,
+        holder: 2,
+        copy: 40,
+    };
+    let keys = first_key(alloc)?;
+    let made = [
+        Instruction::Send(question),
+        Instruction::Gather {
+            peer: 2,
+            ask: 1,
+            keys,
+        },
+        Instruction::Send(missing),
+    ];
+    assert_eq!(rt; out.as_slice(), made.as_slice());
     let passed = [
         WState::Missing,
         WState::Missing,
         WState::Fetch,
-        WState::Fetch,
+        WState::Flight,
+        WState::Missing,
     ];
     assert_eq!(rt; states.as_slice(), passed.as_slice());
     Ok(())
@@ -195,7 +213,9 @@ fn a_task_that_runs_is_not_given_up(rt: HostRuntime) -> Result<(), Fail> {
 }
 
 #[test]
-fn a_worker_that_starts_has_nothing_to_do(rt: HostRuntime) -> Result<(), Fail> {
+fn a_new_worker_has_nothing_to_do_and_is_not_always_out_of_memory(
+    rt: HostRuntime,
+) -> Result<(), Fail> {
     let alloc = rt.alloc();
     let mut core = WorkerCore::new(alloc, 1, 1, chain(alloc)?)?;
     let mut out = Instructions::new(alloc);

@@ -3,10 +3,11 @@
 
 ghost use Rattle.std.specs.Prelude.{◌≡◌, ◌↔◌, ◌++◌, ◌+◌, ◌<◌, ◌≤◌, ◌-◌, ◌^◌, List, false, true, min, IfOk, OnOk, OnErr};
 ghost use Rattle.cluster_msgs.specs.declared.cores.Instruction.{Instruction};
-ghost use Rattle.cluster_rules.specs.Worker.{new_worker, wstate, would_start, would_ask, pairs};
+ghost use Rattle.std.specs.Option.{option_map};
+ghost use Rattle.cluster_rules.specs.Worker.{new_worker, wstate, would_start, would_ask, ask_to, pairs};
 ghost use Rattle.cluster_rules.specs.WorkerStep.{worker_step, worker_takes};
 ghost use Rattle.cluster_rules.specs.WorkerKept.{IsKept};
-ghost use Rattle.worker_core.specs.Core.{facts, event_limit};
+ghost use Rattle.worker_core.specs.Core.{RunsFew, facts, event_limit};
 ghost use Rattle.worker_facts.specs.Stored.{facts_of};
 
 use crate::push::append;
@@ -68,8 +69,8 @@ impl WorkerCore {
     /// Takes an event, and appends the instructions that it makes to `out`, in the order of the table of events.
     ///
     /// # Errors
-    /// `Memory` where no memory is left: the core has stopped then, and answers so to every later event; of the event's
-    /// instructions a front may stand in `out`. Else `Spent` exactly where the core has taken 2^40 events. Else `Refused`
+    /// `Memory` where no memory is left: the core has stopped then, and answers so to every later event; what `out` had
+    /// still stands at its front. Else `Spent` exactly where the core has taken 2^40 events. Else `Refused`
     /// exactly where the event isn't possible or names a key that isn't there. After the latter two all is as before.
     pub fn on(&mut self, event: WorkerEvent, out: &mut Instructions) -> Result<(), Stop>
         // The event is taken: the facts, the instructions, and what is counted.
@@ -115,9 +116,11 @@ impl WorkerCore {
         }
     }
 
-    /// Until it stops, a core keeps after every event, honest or not, what each worker keeps.
+    /// Until it stops, a core keeps after every event, honest or not, what each worker keeps, and runs no more tasks than
+    /// it has threads.
     pub fn sound(&self)
-        ensures { self.now.stopped ≡ false → IsKept (facts self.now) }
+        ensures kept { self.now.stopped ≡ false → IsKept (facts self.now) }
+        ensures runs { self.now.stopped ≡ false → RunsFew (facts self.now) }
     {
         let _table = &self.table;
     }
@@ -143,6 +146,27 @@ impl WorkerCore {
         self.table.would_ask(peer)
     }
 
+    /// Whether the worker holds the key's block.
+    pub fn holds(&self, key: u32) -> bool
+        ensures { result ≡ (facts self.now).mem key }
+    {
+        self.table.in_memory(key)
+    }
+
+    /// Whether the worker runs the key.
+    pub fn runs(&self, key: u32) -> bool
+        ensures { result ≡ (facts self.now).running key }
+    {
+        self.table.is_running(key)
+    }
+
+    /// The number of the open ask to a peer, if one is open.
+    pub fn ask_number(&self, peer: u32) -> Option<u64>
+        ensures { result ≡ option_map (λ a. a.number) (ask_to (facts self.now).asks peer) }
+    {
+        self.table.ask_number(peer)
+    }
+
     /// How many pairs the lists of holders have together, or 2^64 - 1 where it is more.
     pub fn pairs(&self) -> u64
         ensures { result ≡ min (pairs (facts self.now)) (2 ^ 64 - 1) }
@@ -151,7 +175,7 @@ impl WorkerCore {
     }
 }
 
-/// Carries an event out, and appends its instructions. After want of memory a front of them may have been appended.
+/// Carries an event out, and appends its instructions. After want of memory what `out` had still stands at its front.
 fn carry_out(
     alloc: Global,
     table: &mut WorkerTable,

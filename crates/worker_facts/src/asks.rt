@@ -23,6 +23,7 @@ impl Model for OpenAsk {
 }
 
 impl OpenAsk {
+    /// The ask of this number to a peer.
     pub fn new(peer: u32, number: u64, items: Vec<(u32, u64)>) -> OpenAsk
         ensures { result ≡ record { peer = peer; number = number; items = items.items } }
     {
@@ -33,12 +34,14 @@ impl OpenAsk {
         }
     }
 
+    /// The peer that was asked.
     pub fn peer(&self) -> u32
         ensures { result ≡ self.now.peer }
     {
         self.peer
     }
 
+    /// The number of the ask.
     pub fn number(&self) -> u64
         ensures { result ≡ self.now.number }
     {

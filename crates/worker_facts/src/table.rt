@@ -1,7 +1,7 @@
 //! The stored facts of a worker. Each call changes one fact, or answers one.
 #![tactic(auto, unfolding(crate::specs::Stored::facts_of))]
 
-ghost use Rattle.std.specs.Prelude.{◌≡◌, ◌==◌, ◌&&◌, ◌+◌, ◌<◌, ◌≤◌, ◌^◌, ℕ, true, false, None, Some, [], is_some, length, IfOk, OnOk};
+ghost use Rattle.std.specs.Prelude.{◌≡◌, ◌==◌, ◌&&◌, ◌+◌, ◌<◌, ◌≤◌, ◌^◌, ℕ, true, false, None, Some, [], is_some, length, IfOk, OnOk, OnErr};
 ghost use Rattle.std.specs.Option.{option_map};
 ghost use Rattle.std.specs.List.{list_any};
 ghost use Rattle.cluster_msgs.specs.Shape.{Shape, IsShape, key_count, deps_of, nbytes_of};
@@ -179,6 +179,7 @@ impl WorkerTable {
         self.mem.test(key as usize)
     }
 
+    /// Whether the worker runs the key's task.
     pub fn is_running(&self, key: u32) -> bool
         ensures { result ≡ (facts_of self.now).running key }
     {
@@ -199,6 +200,7 @@ impl WorkerTable {
         self.sought.test(key as usize)
     }
 
+    /// Whether the key's task met a zero divisor here.
     pub fn has_failed(&self, key: u32) -> bool
         ensures { result ≡ (facts_of self.now).failed key }
     {
@@ -283,6 +285,7 @@ impl WorkerTable {
         recount(&mut self.awaiting, self.shape.deps(key), before, after);
     }
 
+    /// The block is held, or no longer is.
     pub fn set_in_memory(&mut self, key: u32, to: bool)
         requires { key < key_count (facts_of self.old).shape }
         ensures { facts_of self.new ≡ record (facts_of self.old) { mem = put (facts_of self.old).mem key to } }
@@ -290,6 +293,7 @@ impl WorkerTable {
         self.mem.set(key, to);
     }
 
+    /// The scheduler was asked who holds the key, or has answered.
     pub fn set_asked(&mut self, key: u32, to: bool)
         requires { key < key_count (facts_of self.old).shape }
         ensures { facts_of self.new ≡ record (facts_of self.old) { asked = put (facts_of self.old).asked key to } }
@@ -297,6 +301,7 @@ impl WorkerTable {
         self.asked.set(key, to);
     }
 
+    /// The scheduler wants a copy of the block here, or no longer does.
     pub fn set_sought(&mut self, key: u32, to: bool)
         requires { key < key_count (facts_of self.old).shape }
         ensures { facts_of self.new ≡ record (facts_of self.old) { sought = put (facts_of self.old).sought key to } }
@@ -304,6 +309,7 @@ impl WorkerTable {
         self.sought.set(key, to);
     }
 
+    /// The task met a zero divisor here, or that is forgotten.
     pub fn set_failed(&mut self, key: u32, to: bool)
         requires { key < key_count (facts_of self.old).shape }
         ensures { facts_of self.new ≡ record (facts_of self.old) { failed = put (facts_of self.old).failed key to } }
@@ -326,6 +332,16 @@ impl WorkerTable {
         find_ask(self.asks.as_slice(), peer).is_some()
     }
 
+    /// The number of the open ask to a peer, if one is open.
+    pub fn ask_number(&self, peer: u32) -> Option<u64>
+        ensures { result ≡ option_map (λ a. a.number) (ask_to (facts_of self.now).asks peer) }
+    {
+        match find_ask(self.asks.as_slice(), peer) {
+            Some(ask) => Some(ask.number()),
+            None => None,
+        }
+    }
+
     /// The items of the open ask to a peer, where it has this number.
     ///
     /// # Errors
@@ -343,14 +359,15 @@ impl WorkerTable {
     /// Opens an ask to a peer under the next number.
     ///
     /// # Errors
-    /// Where no memory is left.
+    /// Where no memory is left; all is then as before.
     pub fn open_ask(&mut self, peer: u32, items: Vec<(u32, u64)>) -> Result<(), AllocError>
         requires keys { (k : ℕ) → list_any (λ i. i.0 == k) items.items ≡ true → k < key_count (facts_of self.old).shape }
         requires room { (facts_of self.old).next_ask < 2 ^ 63 }
-        ensures { OnOk result (facts_of self.new ≡ record (facts_of self.old) {
+        ensures ok { OnOk result (facts_of self.new ≡ record (facts_of self.old) {
           asks = with_ask (record { peer = peer; number = (facts_of self.old).next_ask; items = items.items }) (facts_of self.old).asks;
           next_ask = (facts_of self.old).next_ask + 1;
         }) }
+        ensures err { OnErr result (facts_of self.new ≡ facts_of self.old) }
     {
         let place = place_for(self.asks.as_slice(), peer);
         let ask = OpenAsk::new(peer, self.next_ask, items);

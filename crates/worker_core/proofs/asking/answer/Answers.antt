@@ -5,7 +5,7 @@ use Rattle.cluster_rules.specs.Derived.{is_in}
 use Rattle.cluster_rules.specs.Worker.{without_ask}
 use Rattle.cluster_rules.specs.WorkerStep.{keys_of}
 use Rattle.worker_core.proofs.CoreLemmas.{all_keys_of}
-use Rattle.worker_core.proofs.CountLemmas.{same_arrived}
+use Rattle.worker_core.proofs.CountLemmas.{same, same_arrived}
 use Rattle.worker_facts.specs.Stored.{facts_of}
 use Rattle.worker_core.specs.Core.{items_where}
 use Rattle.worker_core.proofs.asking.answer.Goals as goal
@@ -22,5 +22,5 @@ miss_all-requires c =
     let missed : All (λ i. i.0 < n) (items_where false c.args.items.now c.args.found.now) = All-filter (λ (i : ℕ × ℕ). not (is_in i.0 c.args.found.now)) (λ i. i.0 < n) c.args.items.now c.requires in
     let closed = facts_of c.close_ask.new.self in
     let kept : key_count (facts_of c.arrive_all.new.table).shape ≡ n
-    = ap (λ s. key_count s.facts.shape) c.in_ok-made.ensures ∙ ap key_count (same_arrived closed closed c.as_slice-2.result.now (record { shape = refl; seen = refl; asks = refl })).shape ∙ ap (λ f. key_count f.shape) c.close_ask.ensures in
+    = ap (λ s. key_count s.facts.shape) c.in_ok-made.ensures ∙ ap key_count (same_arrived closed closed c.as_slice-2.result.now (same closed)).shape ∙ ap (λ f. key_count f.shape) c.close_ask.ensures in
     rw (c.as_slice-3.ensures.value, c.in_ok-missed.ensures, kept) missed

@@ -2,7 +2,9 @@ use Rattle.std.proofs.Common.{◌≡◌, ◌∙◌, ap, sym, subst, arith, true,
 use Rattle.cluster_rules.specs.WorkerStep.{worker_step, worker_takes}
 use Rattle.cluster_rules.specs.WorkerKept.{IsKept}
 use Rattle.cluster_rules.proofs.WorkerLemmas.{kept_by_event}
+use Rattle.worker_core.specs.Core.{RunsFew}
 use Rattle.worker_core.proofs.CountLemmas.{one_more_event}
+use Rattle.worker_core.proofs.RunLemmas.{few_run}
 use Rattle.worker_facts.specs.Stored.{facts_of}
 use Rattle.worker_core.proofs.worker.WorkerCore.on.Goals as goal
 
@@ -17,6 +19,7 @@ invariant_of-self c =
     record {
       limit = omega (arith, c.if-self-ge-EVENT_LIMIT.false);
       kept = λ e. subst IsKept (sym after) (kept_by_event f c.args.event takes (v.kept runs));
+      runs = λ e. subst RunsFew (sym after) (few_run f c.args.event takes (v.runs runs));
       seen = λ e. omega (arith, ap (λ g. g.seen) after, more.seen, v.seen runs);
       asks = λ e. omega (arith, ap (λ g. g.next_ask) after, more.asks, v.asks runs);
     }

@@ -32,9 +32,9 @@ invariant_of-self-2 c =
       awaiting = v.awaiting;
     }
 
-pub returns : goal.returns
+pub returns-clause-ok : goal.returns-clause-ok
 unfolding facts_of
-returns c =
+returns-clause-ok c =
     let a = c.self.inside in
     let ask : Ask = record { peer = c.args.peer; number = a.next_ask; items = c.args.items.items } in
     let kept : c.insert.new.self.items ≡ with_ask ask a.asks.items
