@@ -46,11 +46,11 @@ check 'line of a missing job' "$line" 'dask: read fault'
 printf 'save b\n' > "$folder/bad.txt"
 line=$(cd "$folder" && "$root/dask" run bad.txt 2>&1)
 check 'status of a text that is no job' "$?" 2
-check 'line of a text that is no job' "$line" 'dask: job 1:1: not built'
+check 'line of a text that is no job' "$line" 'dask: job 1:6: unknown name'
 printf 'short' > "$folder/a.npy"
 line=$(cd "$folder" && "$root/dask" run job.txt 2>&1)
 check 'status of a file that is no array' "$?" 3
-check 'line of a file that is no array' "$line" 'dask: file a.npy: not built'
+check 'line of a file that is no array' "$line" 'dask: file a.npy: not npy at 0'
 line=$(cd "$folder" && cp "$root/examples/first/counts.npy" a.npy && "$root/dask" run job.txt 2>&1 >/dev/full)
 check 'status of a full standard output' "$?" 6
 check 'line of a full standard output' "$line" 'dask: write fault'
