@@ -1,5 +1,5 @@
 -- Where the elements of a region are stored: rows, and the array's bounds.
-use Rattle.std.proofs.Common.{◌≡◌, ℕ, zero, suc, ◌+◌, ◌*◌, ◌/◌, ◌%◌, ◌<◌, ◌≤◌, ◌^◌, List, [], ◌∷◌, ◌++◌, length, take, drop, set, get_or, refl, ap, sym, ◌∙◌, arith, subst}
+use Rattle.std.proofs.Common.{◌≡◌, ◌≢◌, ℕ, zero, suc, ◌+◌, ◌*◌, ◌/◌, ◌%◌, ◌<◌, ◌≤◌, ◌^◌, List, [], ◌∷◌, ◌++◌, length, take, drop, set, get_or, refl, ap, sym, ◌∙◌, arith, subst}
 use Rattle.std.proofs.lemmas.Nat.{div-add-mod', div_below, mod_below}
 use Rattle.std.proofs.lemmas.List.{take_more, take_more_set, take_all, drop_more, drop-set-lt, length-take-le}
 use Rattle.std.proofs.Common.{append_assoc}
@@ -51,8 +51,37 @@ row_full D S L d row sl ll some h =
           let x : k * (row * d) + r ≡ (k * row + r / d) * d + r % d = omega (arith, re) in
           let y : k * (row * d) ≡ (k * row) * d + 0 = omega arith in
           ap f x ∙ a ∙ ap (λ v. v * d + (0 + r % d)) e ∙ spread (spot (walk D S L) (k * row)) (r / d) d (r % d) r re ∙ ap (λ v. v + r) (sym b ∙ ap f (sym y));
+      longest = λ inside same.
+          let f = spot (walk (D ++ d ∷ []) (S ++ 0 ∷ []) (L ++ d ∷ [])) in
+          let few : row * d < elements L * d = subst (λ x. row * d < x) (elements-snoc L d) inside in
+          let row_in : row < elements L = fewer row (elements L) d few in
+          let a : f (row * d + 0) ≡ spot (walk D S L) row * d + (0 + 0) = spot-snoc D S L d 0 d row 0 sl ll row_in some in
+          let b : f (0 * d + 0) ≡ spot (walk D S L) 0 * d + (0 + 0) = spot-snoc D S L d 0 d 0 0 sl ll (omega arith) some in
+          let x : row * d + 0 ≡ row * d = omega arith in
+          let y : 0 * d + 0 ≡ 0 = omega arith in
+          let e : spot (walk D S L) row * d + (0 + 0) ≡ spot (walk D S L) 0 * d + (0 + 0) + row * d =
+          sym a ∙ ap f x ∙ same ∙ ap (λ v. v + row * d) (ap f (sym y) ∙ b) in
+          h.longest row_in (one_factor (spot (walk D S L) row) (spot (walk D S L) 0) row d some e);
     }
   where
+    fewer : (a b d : ℕ) → a * d < b * d → a < b
+    fewer a zero d h = absurd (omega (arith, h))
+    fewer zero (suc b) d h = omega arith
+    fewer (suc a) (suc b) d h = let r = fewer a b d (omega (arith, h)) in omega (arith, r)
+
+    cancelled : (a b d : ℕ) → 0 < d → a * d ≡ b * d → a ≡ b
+    cancelled zero zero d p e = refl
+    cancelled zero (suc b) d p e = absurd (omega (arith, e))
+    cancelled (suc a) zero d p e = absurd (omega (arith, e))
+    cancelled (suc a) (suc b) d p e = ap (λ x. suc x) (cancelled a b d p (omega (arith, e)))
+
+    sum_factor : (b r d : ℕ) → b * d + r * d ≡ (b + r) * d
+    sum_factor zero r d = omega arith
+    sum_factor (suc b) r d = let i = sum_factor b r d in omega (arith, i)
+
+    one_factor : (a b r d : ℕ) → 0 < d → a * d + (0 + 0) ≡ b * d + (0 + 0) + r * d → a ≡ b + r
+    one_factor a b r d p e = let s = sum_factor b r d in cancelled a (b + r) d p (omega (arith, e, s))
+
     product-positive : (m n : ℕ) → 0 < m → 0 < n → 0 < m * n
     product-positive zero n h p = absurd (omega arith)
     product-positive (suc m) n h p = omega arith
@@ -61,9 +90,9 @@ row_full D S L d row sl ll some h =
     spread v q d t r e = omega (arith, e)
 
 -- another axis begins them anew
-row_other : (D S L : List ℕ) (d s l : ℕ) → length S ≡ length D → length L ≡ length D → 0 < l →
+row_other : (D S L : List ℕ) (d s l : ℕ) → length S ≡ length D → length L ≡ length D → 0 < l → l < d →
     IsRow (walk (D ++ d ∷ []) (S ++ s ∷ []) (L ++ l ∷ [])) l
-row_other D S L d s l sl ll some = record {
+row_other D S L d s l sl ll some part = record {
   some = some;
   rows = elements L;
   whole = elements-snoc L l;
@@ -73,13 +102,34 @@ row_other D S L d s l sl ll some = record {
       let b = spot-snoc D S L d s l k 0 sl ll k_in some in
       let y : k * l ≡ k * l + 0 = omega arith in
       a ∙ arranged (spot (walk D S L) k * d) s r ∙ ap (λ v. v + r) (sym b ∙ ap f (sym y));
+  longest = λ inside same.
+      let f = spot (walk (D ++ d ∷ []) (S ++ s ∷ []) (L ++ l ∷ [])) in
+      let few : l < elements L * l = subst (λ x. l < x) (elements-snoc L l) inside in
+      let more : 1 < elements L = several (elements L) l few in
+      let a : f (1 * l + 0) ≡ spot (walk D S L) 1 * d + (s + 0) = spot-snoc D S L d s l 1 0 sl ll more some in
+      let b : f (0 * l + 0) ≡ spot (walk D S L) 0 * d + (s + 0) = spot-snoc D S L d s l 0 0 sl ll (omega (arith, more)) some in
+      let x : 1 * l + 0 ≡ l = omega arith in
+      let y : 0 * l + 0 ≡ 0 = omega arith in
+      let e : spot (walk D S L) 1 * d + (s + 0) ≡ spot (walk D S L) 0 * d + (s + 0) + l =
+      sym a ∙ ap f x ∙ same ∙ ap (λ v. v + l) (ap f (sym y) ∙ b) in
+      between (spot (walk D S L) 1) (spot (walk D S L) 0) d l some part (omega (arith, e));
 }
   where
+    several : (n l : ℕ) → l < n * l → 1 < n
+    several zero l h = absurd (omega (arith, h))
+    several (suc zero) l h = absurd (omega (arith, h))
+    several (suc (suc n)) l h = omega arith
+
+    between : (a b d l : ℕ) → 0 < l → l < d → a * d ≡ b * d + l → ⊥
+    between zero b d l p q e = omega (arith, e)
+    between (suc a) zero d l p q e = omega (arith, e)
+    between (suc a) (suc b) d l p q e = between a b d l p q (omega (arith, e))
+
     arranged : (v s r : ℕ) → v + (s + r) ≡ v + (s + 0) + r
     arranged v s r = omega arith
 
 pub row_none : IsRow (walk [] [] []) 1
-row_none = record { some = omega arith; rows = 1; whole = refl; together = λ k r k_in r_in. omega arith }
+row_none = record { some = omega arith; rows = 1; whole = refl; together = λ k r k_in r_in. omega arith; longest = λ inside same. omega (arith, inside) }
 
 -- ---- along the axes, for loops
 
@@ -120,13 +170,15 @@ longer_row D S L k row part h some full is_row =
     let r = row_full (take k D) (take k S) (take k L) (get_or D k 0) row (same_lengths D S k (omega arith) sl) (same_lengths D L k (omega arith) ll) p is_row in
     rw (take_more D k 0 h, take_more S k 0 k_start, take_more L k 0 k_lengths, z, full) r
 
-pub new_row : (D S L : List ℕ) (k : ℕ) → IsPart (record { start = S; lengths = L }) D → k < length D → 0 < elements L → IsRow (walk_to (k + 1) D S L) (get_or L k 0)
-new_row D S L k part h some =
+pub new_row : (D S L : List ℕ) (k : ℕ) → IsPart (record { start = S; lengths = L }) D → k < length D → 0 < elements L → get_or L k 0 ≢ get_or D k 0 → IsRow (walk_to (k + 1) D S L) (get_or L k 0)
+new_row D S L k part h some other =
     let sl : length S ≡ length D = part.starts in
     let ll : length L ≡ length D = part.lengths in
     let k_start : k < length S = omega arith in
     let k_lengths : k < length L = omega arith in
-    let r = row_other (take k D) (take k S) (take k L) (get_or D k 0) (get_or S k 0) (get_or L k 0) (same_lengths D S k (omega arith) sl) (same_lengths D L k (omega arith) ll) (axis_positive L k k_lengths some) in
+    let e : get_or S k 0 + get_or L k 0 ≤ get_or D k 0 = part.ends k h in
+    let less : get_or L k 0 < get_or D k 0 = omega (arith, e, other) in
+    let r = row_other (take k D) (take k S) (take k L) (get_or D k 0) (get_or S k 0) (get_or L k 0) (same_lengths D S k (omega arith) sl) (same_lengths D L k (omega arith) ll) (axis_positive L k k_lengths some) less in
     rw (take_more D k 0 h, take_more S k 0 k_start, take_more L k 0 k_lengths) r
 
 pub row_fits : (w : Walk) (row : ℕ) → 0 < count_of w → IsRow w row → row ≤ count_of w

@@ -1,5 +1,5 @@
 -- Arrays in row-major and in column-major order, and the elements of a region in the order in which they are stored.
-use Rattle.std.specs.Prelude.{◌≡◌, ◌<◌, ◌+◌, ◌-◌, ◌*◌, ℕ, ℤ, pos, List, [], ◌∷◌, get_or, reverse, Bool, true, false}
+use Rattle.std.specs.Prelude.{◌≡◌, ◌≢◌, ◌<◌, ◌+◌, ◌-◌, ◌*◌, ℕ, ℤ, pos, List, [], ◌∷◌, get_or, reverse, Bool, true, false}
 use Rattle.nd_shape.specs.Shape.{elements}
 use Rattle.nd_shape.specs.Index.{place, index_at}
 use Rattle.nd_shape.specs.Region.{Box, moved}
@@ -39,12 +39,14 @@ count_of w = elements w.region.lengths
 abbrev pub spot : Walk → ℕ → ℕ
 spot w q = place w.dims (moved w.region.start (index_at w.region.lengths q))
 
--- The region's elements come in rows of this length, and the elements of a row are stored one behind the other.
+-- The region's elements come in rows of this length, the elements of a row are stored one behind the other, and the rows are as
+-- long as can be: what is stored behind the first row is not the region's next element.
 pub record IsRow (w : Walk) (row : ℕ) : Type 0 where
   pub some : 0 < row
   pub rows : ℕ
   pub whole : count_of w ≡ rows * row
   pub together : (k r : ℕ) → k < rows → r < row → spot w (k * row + r) ≡ spot w (k * row) + r
+  pub longest : row < count_of w → spot w row ≢ spot w 0 + row
 
 -- the last index of a box
 abbrev pub last_index : List ℕ → List ℕ → List ℕ

@@ -22,7 +22,7 @@ loop-axis-preserved c =
     let v : get_or c.lengths-lengths.result.now k 0 ≡ get_or L k 0 = ap (λ xs. get_or xs k 0) c.lengths-lengths.ensures.value in
     elim c.if-lengths-axis.branch [
       | then-lengths-axis w ↦ subst (IsRow (walk_to (k + 1) D S L)) (sym w.row-is) (longer_row D S L k c.loop-axis.row c.requires.part c.loop-axis-test.true c.requires.some (sym v ∙ w.if-lengths-axis.true) c.loop-axis.invariant)
-      | else-lengths-axis w ↦ subst (IsRow (walk_to (k + 1) D S L)) (sym (w.row-is ∙ v)) (new_row D S L k c.requires.part c.loop-axis-test.true c.requires.some)
+      | else-lengths-axis w ↦ subst (IsRow (walk_to (k + 1) D S L)) (sym (w.row-is ∙ v)) (new_row D S L k c.requires.part c.loop-axis-test.true c.requires.some (λ e. w.if-lengths-axis.false (v ∙ e)))
     ]
 
 pub returns : goal.returns
