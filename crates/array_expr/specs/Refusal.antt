@@ -95,7 +95,7 @@ RefusesOrder dims axes e = ⊥
 
 abbrev pub RefusesTranspose : List ℕ → List ℕ → NodeError → Type 0
 RefusesTranspose dims axes (Shape e) = RefusesOrder dims axes e
-RefusesTranspose dims axes (Limit quantity) = AreAxes (length dims) axes × PassesLimit quantity (map (λ a. slice_index dims a) axes)
+RefusesTranspose dims axes (Limit quantity) = AreAxes (length dims) axes × (length axes ≡ length dims) × PassesLimit quantity (map (λ a. slice_index dims a) axes)
 RefusesTranspose dims axes (Chunks e) = ⊥
 RefusesTranspose dims axes OutOfMemory = Unit {0}
 

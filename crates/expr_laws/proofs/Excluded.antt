@@ -32,7 +32,7 @@ use Rattle.array_expr.specs.Refusal.{PassesLimit, RefusesLeaf, RefusesRechunk, R
 
 -- ---- limits
 
-not-passed : (quantity : Quantity) (dims : List ℕ) → IsShape dims → PassesLimit quantity dims → ⊥
+pub not-passed : (quantity : Quantity) (dims : List ℕ) → IsShape dims → PassesLimit quantity dims → ⊥
 not-passed Nodes dims s p = p
 not-passed Axes dims s p = absurd (omega (arith, s.axes, p))
 not-passed Elements dims s p = passed p.1
@@ -43,13 +43,13 @@ not-passed Elements dims s p = passed p.1
 
 -- ---- chunks
 
-zero-chunk : (len : ℕ) (spec : ChunkSpec) → CanCut len spec → HasZeroChunk len spec → ⊥
+pub zero-chunk : (len : ℕ) (spec : ChunkSpec) → CanCut len spec → HasZeroChunk len spec → ⊥
 zero-chunk zero (Even size) c h = h
 zero-chunk (suc n) (Even size) c h = c h
 zero-chunk zero (Listed sizes) c h = h.0 c
 zero-chunk (suc n) (Listed sizes) c h = c.0 h.0 0 h.1 h.2
 
-wrong-sum : (axis len : ℕ) (spec : ChunkSpec) (a sum n : ℕ) → CanCut len spec → RefusesChunks axis len spec (SumDiffers a sum n) → ⊥
+pub wrong-sum : (axis len : ℕ) (spec : ChunkSpec) (a sum n : ℕ) → CanCut len spec → RefusesChunks axis len spec (SumDiffers a sum n) → ⊥
 wrong-sum axis len (Even size) a sum n c r = r
 wrong-sum axis zero (Listed sizes) a sum n c r = r.3 (ap total c)
 wrong-sum axis (suc m) (Listed sizes) a sum n c r = r.3 c.1
@@ -80,7 +80,7 @@ nothing-excluded OutOfMemory r = refl
 
 -- ---- element by element
 
-misfit-excluded : (shapes : List (List ℕ)) (x : ShapeError) → Agree shapes → IsMisfitOf shapes x → ⊥
+pub misfit-excluded : (shapes : List (List ℕ)) (x : ShapeError) → Agree shapes → IsMisfitOf shapes x → ⊥
 misfit-excluded shapes (Misfit axis left right) a m = none-some {A = ℕ × ℕ} (left, right) (sym (a.each axis m.inside) ∙ m.here)
 misfit-excluded shapes (BadAxis axis) a m = m
 misfit-excluded shapes (BadIndex index len) a m = m
@@ -111,12 +111,12 @@ index-excluded : (n : ℕ) (i : ℤ) (steps : Steps) → IsIndex n i steps → (
 index-excluded n i steps t (inl low) = below-zero steps.start (subst (λ z. z <ℤ pos 0) (sym t.start_is) low)
 index-excluded n i steps t (inr high) = past-end steps.start n t.inside (subst (λ z. pos n ≤ℤ z) (sym t.start_is) high)
 
-part-excluded : (n : ℕ) (part : Part) (steps : Steps) (x : ShapeError) → Resolves n part steps → RefusesPart n part x → ⊥
+pub part-excluded : (n : ℕ) (part : Part) (steps : Steps) (x : ShapeError) → Resolves n part steps → RefusesPart n part x → ⊥
 part-excluded n (At i) steps (BadIndex index len) t r = index-excluded n i steps t r.2
 part-excluded n (Range start stop step) steps ZeroStep t r = t.0 (ap (λ o. unwrap_or o (pos 1)) r)
 part-excluded n part steps x t r = r
 
-first-place : Steps
+pub first-place : Steps
 first-place = record { start = 0; step = pos 1; count = 0 }
 
 bad-part : (dims : List ℕ) (parts : List Part) (taken : List Steps) (x : ShapeError) → Takes dims parts taken → IsFirstBadPart dims parts x → ⊥
@@ -125,7 +125,7 @@ bad-part dims parts taken x t b =
     let inside : k < length taken = omega (arith, b.inside, b.enough, t.axes) in
     part-excluded (get_or dims k 0) (part_on parts k) (get_or taken k first-place) x (t.first.each k (get_or taken k first-place) (slice_get-get_or taken k first-place inside)) b.here
 
-parts-excluded : (dims : List ℕ) (parts : List Part) (taken : List Steps) (x : ShapeError) → Takes dims parts taken → RefusesParts dims parts x → ⊥
+pub parts-excluded : (dims : List ℕ) (parts : List Part) (taken : List Steps) (x : ShapeError) → Takes dims parts taken → RefusesParts dims parts x → ⊥
 parts-excluded dims parts taken (TooManyParts given axes) t r = absurd (omega (arith, t.parts_fit, r.0, r.1, r.2))
 parts-excluded dims parts taken (Misfit axis left right) t r = bad-part dims parts taken (Misfit axis left right) t r
 parts-excluded dims parts taken (BadAxis axis) t r = bad-part dims parts taken (BadAxis axis) t r
@@ -160,7 +160,7 @@ sliced-same k (s ∷ ss) (t ∷ ts) gone l f =
     ap (λ n. cond (is_among k gone) (sliced_shape (suc k) ss gone) (n ∷ sliced_shape (suc k) ss gone)) here
     ∙ ap (λ ns. cond (is_among k gone) ns (t.count ∷ ns)) rest
 
-takes-same : (dims : List ℕ) (parts : List Part) (ss ts : List Steps) → Takes dims parts ss → Takes dims parts ts → sliced_shape 0 ss (dropped parts) ≡ sliced_shape 0 ts (dropped parts)
+pub takes-same : (dims : List ℕ) (parts : List Part) (ss ts : List Steps) → Takes dims parts ss → Takes dims parts ts → sliced_shape 0 ss (dropped parts) ≡ sliced_shape 0 ts (dropped parts)
 takes-same dims parts ss ts a b = sliced-same 0 ss ts (dropped parts) (a.axes ∙ sym b.axes) (λ j s t u v. part-count (get_or dims j 0) (part_on parts j) s t (a.first.each j s u) (b.first.each j t v))
 
 slice-excluded : (dims : List ℕ) (parts : List Part) (taken : List Steps) (e : NodeError) → Takes dims parts taken → IsShape (sliced_shape 0 taken (dropped parts)) → RefusesSlice dims parts e → e ≡ OutOfMemory
@@ -172,7 +172,7 @@ slice-excluded dims parts taken OutOfMemory t s r = refl
 
 -- ---- lists of axes
 
-axis-excluded : (n : ℕ) (axes : List ℕ) (axis : ℕ) → AreAxes n axes → IsFirstBadAxis n axes axis → ⊥
+pub axis-excluded : (n : ℕ) (axes : List ℕ) (axis : ℕ) → AreAxes n axes → IsFirstBadAxis n axes axis → ⊥
 axis-excluded n axes axis a b = at_fault b.here
   where
     at_fault : (n ≤ axis) ⊎ Contains (take b.at axes) axis → ⊥
@@ -183,7 +183,7 @@ axis-excluded n axes axis a b = at_fault b.here
         let same : get_or axes c.0 axis ≡ axis = sym (get_or-take b.at axes c.0 axis early) ∙ c.2 in
         a.distinct c.0 b.at early b.inside (get_or_default axes c.0 0 axis (omega (arith, early, b.inside)) ∙ same ∙ sym b.axis_is)
 
-order-excluded : (dims axes : List ℕ) (x : ShapeError) → AreAxes (length dims) axes → length axes ≡ length dims → RefusesOrder dims axes x → ⊥
+pub order-excluded : (dims axes : List ℕ) (x : ShapeError) → AreAxes (length dims) axes → length axes ≡ length dims → RefusesOrder dims axes x → ⊥
 order-excluded dims axes (BadAxis axis) a l (inl b) = axis-excluded (length dims) axes axis a b
 order-excluded dims axes (BadAxis axis) a l (inr d) = d.1 l
 order-excluded dims axes (Misfit axis left right) a l r = r
@@ -198,17 +198,17 @@ order-excluded dims axes NoMemory a l r = r
 transpose-excluded : (dims axes : List ℕ) (e : NodeError) → AreAxes (length dims) axes → length axes ≡ length dims → IsShape (map (λ a. get_or dims a 0) axes) → RefusesTranspose dims axes e → e ≡ OutOfMemory
 transpose-excluded dims axes (Shape x) a l s r = absurd (order-excluded dims axes x a l r)
 transpose-excluded dims axes (Chunks x) a l s r = absurd r
-transpose-excluded dims axes (Limit quantity) a l s r = absurd (not-passed quantity (map (λ k. get_or dims k 0) axes) s r.1)
+transpose-excluded dims axes (Limit quantity) a l s r = absurd (not-passed quantity (map (λ k. get_or dims k 0) axes) s r.2)
 transpose-excluded dims axes OutOfMemory a l s r = refl
 
 -- ---- concatenations
 
-other-excluded : (see : List ℕ → ℕ) (shapes : List (List ℕ)) (left right : ℕ) → All (λ dims. see dims ≡ left) shapes → IsFirstOther see shapes left right → ⊥
+pub other-excluded : (see : List ℕ → ℕ) (shapes : List (List ℕ)) (left right : ℕ) → All (λ dims. see dims ≡ left) shapes → IsFirstOther see shapes left right → ⊥
 other-excluded see shapes left right all o =
     let here : see (get_or shapes o.at []) ≡ left = all o.at [] (slice_get_within shapes o.at o.other o.is) in
     o.differs (o.right_is ∙ ap see (sym (get_or_from_slice_get shapes o.at o.other [] o.is)) ∙ here)
 
-join-excluded : (shapes : List (List ℕ)) (axis : ℕ) (x : ShapeError) → AreJoinable shapes axis → RefusesJoin shapes axis x → ⊥
+pub join-excluded : (shapes : List (List ℕ)) (axis : ℕ) (x : ShapeError) → AreJoinable shapes axis → RefusesJoin shapes axis x → ⊥
 join-excluded shapes axis (Misfit bad left right) j (inl p) =
     other-excluded (λ dims. length dims) shapes left right (subst (λ n. All (λ dims. length dims ≡ n) shapes) (sym p.1.left_is) j.axes) p.1.first
 join-excluded shapes axis (Misfit bad left right) j (inr o) =
@@ -230,7 +230,7 @@ concatenate-excluded shapes axis OutOfMemory j s r = refl
 
 -- ---- reductions
 
-fold-excluded : (fold : Fold) (dims axes : List ℕ) (split : ℕ) (x : ShapeError) → CanReduce fold dims axes split → RefusesFold fold dims axes split x → ⊥
+pub fold-excluded : (fold : Fold) (dims axes : List ℕ) (split : ℕ) (x : ShapeError) → CanReduce fold dims axes split → RefusesFold fold dims axes split x → ⊥
 fold-excluded fold dims axes split (BadAxis axis) c r = axis-excluded (length dims) axes axis c.axes_fit r
 fold-excluded fold dims axes split (EmptyReduce axis) c r =
     let there : Contains axes axis = r.least.folded in
@@ -252,7 +252,7 @@ reduce-excluded fold dims axes split OutOfMemory c s r = refl
 
 -- ---- products
 
-contraction-excluded : (left right left_axes right_axes : List ℕ) (x : ShapeError) → CanContract left right left_axes right_axes → RefusesContraction left right left_axes right_axes x → ⊥
+pub contraction-excluded : (left right left_axes right_axes : List ℕ) (x : ShapeError) → CanContract left right left_axes right_axes → RefusesContraction left right left_axes right_axes x → ⊥
 contraction-excluded left right left_axes right_axes (BadAxis axis) c (inl b) = axis-excluded (length left) left_axes axis c.left_fit b
 contraction-excluded left right left_axes right_axes (BadAxis axis) c (inr (inl b)) = axis-excluded (length right) right_axes axis c.right_fit b.right_bad
 contraction-excluded left right left_axes right_axes (BadAxis axis) c (inr (inr o)) = o.differs c.number

@@ -1,1 +1,3 @@
 mod Excluded
+mod OneCause
+mod Elements
