@@ -1,43 +1,28 @@
--- The loop over the inputs, and that blocks which were read hold what the files do.
-use Rattle.std.proofs.Common.{◌≡◌, ℕ, zero, suc, ◌+◌, ◌-◌, ◌<◌, ◌≤◌, cond, Bool, true, false, Some, Option, IsSome, unwrap_or, List, [], ◌∷◌, ◌++◌, length, take, replicate, get_or, ap, sym, subst, refl, ◌∙◌, arith, inl, inr, ◌⊎◌, ℤ, pos, slice_get, length-append}
-use Rattle.std.proofs.lemmas.Option.{slice_get_within, same_Some, none-some}
-use Rattle.std.proofs.lemmas.List.{get_or_append_left, get_or_push, length_push, length-replicate, get_or-replicate}
-use Rattle.std.proofs.lemmas.Bool.{cases_lt}
+-- The loop over the inputs, and that blocks which were read hold what is needed of the files.
+use Rattle.std.proofs.Common.{◌≡◌, ◌≢◌, ℕ, zero, suc, ◌+◌, ◌-◌, ◌<◌, ◌≤◌, cond, Bool, true, false, Some, None, Option, IsSome, unwrap_or, List, [], ◌∷◌, length, take, get_or, ap, sym, subst, refl, ◌∙◌, arith, inl, inr, ◌⊎◌, pos, slice_get}
+use Rattle.std.specs.Prelude.{Result, Ok, Err, IfOk, IfErr, OnOk}
+use Rattle.std.proofs.lemmas.Option.{slice_get_within, same_Some, get_or_from_slice_get}
+use Rattle.std.proofs.lemmas.List.{get_or_append_left, get_or_push, length_push, get_or_default}
+use Rattle.std.proofs.lemmas.Bool.{cases_eq}
 use Rattle.io_edge.specs.Content.{Content, Told, Untold, OnTold, file_at, size_of, told_bytes}
-use Rattle.nd_shape.specs.declared.chunk.ChunkSpec.{ChunkSpec}
 use Rattle.nd_shape.specs.Block.{Array}
-use Rattle.nd_shape.specs.Index.{IsIn, place}
-use Rattle.nd_shape.specs.Region.{Box, IsPart, moved}
-use Rattle.nd_shape.proofs.Places.{IsIn-length}
+use Rattle.nd_shape.specs.Index.{place}
+use Rattle.nd_shape.specs.Region.{Box, IsPart}
 use Rattle.npy_codec.specs.declared.head.Head.{Head}
 use Rattle.npy_codec.specs.declared.error.NpyError.{NpyError}
 use Rattle.npy_codec.specs.declared.error.NpyError.TheVariants.{NotNpy, Version, Truncated, HeaderText, Descr, ShapeLimit, ReadFault, OutOfMemory}
-use Rattle.npy_codec.specs.Regions.{element, whole, needed, HoldsRegion, EndsInside, RegionRefusedAs}
-use Rattle.array_expr.specs.declared.op.Op.{Op}
-use Rattle.array_expr.specs.declared.op.Op.TheVariants.{Input}
+use Rattle.npy_codec.specs.Regions.{element, needed, EndsInside, RegionRefusedAs}
 use Rattle.array_expr.specs.declared.expr.Node.{Node}
-use Rattle.array_expr.specs.Node.{IsExpression, Makes}
 use Rattle.array_expr.specs.Elem.{is_input, next_input}
-use Rattle.plain_eval.specs.declared.plain.PlainOutcome.{PlainOutcome}
-use Rattle.plain_eval.specs.Eval.{HaveBlocks, IsPlain, block_at, held_in, inputs_in, inputs_before}
-use Rattle.plain_eval.proofs.Agreeing.{AgreeInside, plain-agree}
-use Rattle.plain_block.specs.Files.{HaveFiles, IsRead, AreRead, AddsBlock, AreTold, AreWhole, IsShort, IsFirstShort, RefusesFiles, head_at, bytes_at, elements_in}
-
--- ---- whole arrays
-
-pub whole-part : (dims : List ℕ) → IsPart (whole dims) dims
-whole-part dims = record {
-  starts = length-replicate (length dims) 0;
-  lengths = refl;
-  ends = λ k h. omega (arith, get_or-replicate {A = ℕ} (length dims) k 0 0 h);
-}
-
-moved-none : (n : ℕ) (is : List ℕ) → length is ≡ n → moved (replicate n 0) is ≡ is
-moved-none zero [] h = refl
-moved-none zero (i ∷ is) h = absurd (omega (arith, h))
-moved-none (suc n) [] h = absurd (omega (arith, h))
-moved-none (suc n) (i ∷ is) h =
-    let z : 0 + i ≡ i = omega arith in ap (λ j. j ∷ moved (replicate n 0) is) z ∙ ap (λ js. i ∷ js) (moved-none n is (omega (arith, h)))
+use Rattle.array_expr.specs.Node.{shape_at}
+use Rattle.plain_eval.specs.Eval.{HaveBlocks, block_at, held_in, inputs_in, inputs_before}
+use Rattle.plain_eval.proofs.Arrays.{inputs-next}
+use Rattle.input_regions.specs.Boxes.{IsInRegion}
+use Rattle.input_regions.specs.Needed.{AreNeeded, region_at}
+use Rattle.input_regions.specs.Widening.{AreFit}
+use Rattle.input_regions.proofs.Widened.{shape-of}
+use Rattle.input_regions.proofs.Enough.{AgreeInRegions}
+use Rattle.plain_block.specs.Files.{HaveFiles, IsRead, AreRead, AddsBlock, AreTold, AreLong, IsFirstShort, RefusesRegions, IsRefusedRegion, EndsInRegion, HaveNeeded, RefusesFiles, head_at, elements_in}
 
 -- ---- the numbers of inputs
 
@@ -68,100 +53,162 @@ inputs-few j (n ∷ nodes) = omega (arith, next-few (is_input n.op) j, inputs-fe
     next-few true j = omega arith
     next-few false j = omega arith
 
--- ---- one more block
+-- ---- one more node
 
-pub read-none : (files : List Content) (heads : List Head) → AreRead files heads []
-read-none files heads = record { each = λ j h. absurd (omega (arith, h)) }
+pub read-none : (nodes : List Node) (files : List Content) (heads : List Head) (regions : List (Option Box)) → AreRead nodes 0 files heads regions []
+read-none nodes files heads regions = record { number = refl; each = λ k node h is i. absurd (omega (arith, h)) }
 
-read-push : (files : List Content) (heads : List Head) (old : List Array) (block : Array) → AreRead files heads old → IsRead files heads (length old) block → AreRead files heads (old ++ block ∷ [])
-read-push files heads old block a b = record { each = λ j h. by_order j h (cases_lt j (length old)) }
+number-added : (file : Content) (head : Head) (region : Option Box) (reads : Bool) (old new : List Array) (j : ℕ) → AddsBlock file head region reads old new → length old ≡ j → length new ≡ cond reads (suc j) j
+number-added file head region true old new j d e = let b = d.input refl in ap length b.1 ∙ length_push old b.0 ∙ omega (arith, e)
+number-added file head region false old new j d e = ap length (d.other refl) ∙ e
+
+kept-block : (file : Content) (head : Head) (region : Option Box) (reads : Bool) (old new : List Array) (j : ℕ) → AddsBlock file head region reads old new → j < length old → block_at new j ≡ block_at old j
+kept-block file head region true old new j d h = let b = d.input refl in ap (λ bs. block_at bs j) b.1 ∙ get_or_append_left old (b.0 ∷ []) (record { shape = []; cells = [] }) j h
+kept-block file head region false old new j d h = ap (λ bs. block_at bs j) (d.other refl)
+
+added-block : (file : Content) (head : Head) (region : Option Box) (old new : List Array) (j : ℕ) → AddsBlock file head region true old new → length old ≡ j → IsRead file head region (block_at new j)
+added-block file head region old new j d e = let b = d.input refl in subst (IsRead file head region) (sym (ap (λ bs. block_at bs j) b.1 ∙ get_or_push old b.0 (record { shape = []; cells = [] }) j e)) b.2
+
+pub read-more : (nodes : List Node) (k : ℕ) (node : Node) (files : List Content) (heads : List Head) (regions : List (Option Box)) (old new : List Array) → slice_get nodes k ≡ Some node
+    → AddsBlock (file_at files (length old)) (head_at heads (length old)) (region_at regions k) (is_input node.op) old new → AreRead nodes k files heads regions old → AreRead nodes (k + 1) files heads regions new
+read-more nodes k node files heads regions old new is d a = record {
+  number = number-added (file_at files (length old)) (head_at heads (length old)) (region_at regions k) (is_input node.op) old new (inputs_before nodes k) d a.number ∙ sym (inputs-next nodes k node is);
+  each = λ m other h at i. by m other h at i (cases_eq m k);
+}
   where
-    by_order : (j : ℕ) → j < length (old ++ block ∷ []) → (j < length old) ⊎ (length old ≤ j) → IsRead files heads j (block_at (old ++ block ∷ []) j)
-    by_order j h (inl less) = subst (IsRead files heads j) (sym (get_or_append_left old (block ∷ []) (record { shape = []; cells = [] }) j less)) (a.each j less)
-    by_order j h (inr more) =
-        let at : j ≡ length old = omega (arith, h, more, length_push old block) in
-        subst (IsRead files heads j) (sym (get_or_push old block (record { shape = []; cells = [] }) j (sym at))) (subst (λ k. IsRead files heads k block) (sym at) b)
+    here : is_input node.op ≡ true → IsRead (file_at files (inputs_before nodes k)) (head_at heads (inputs_before nodes k)) (region_at regions k) (block_at new (inputs_before nodes k))
+    here i =
+        subst (λ j. IsRead (file_at files j) (head_at heads j) (region_at regions k) (block_at new j)) a.number
+        (added-block (file_at files (length old)) (head_at heads (length old)) (region_at regions k) old new (length old) (subst (λ b. AddsBlock (file_at files (length old)) (head_at heads (length old)) (region_at regions k) b old new) i d) refl)
 
-pub read-added : (files : List Content) (heads : List Head) (reads : Bool) (old new : List Array) → AddsBlock files heads reads old new → AreRead files heads old → AreRead files heads new
-read-added files heads true old new d a = let b = d.input refl in subst (AreRead files heads) (sym b.1) (read-push files heads old b.0 a b.2)
-read-added files heads false old new d a = subst (AreRead files heads) (sym (d.other refl)) a
-
-pub number-added : (files : List Content) (heads : List Head) (reads : Bool) (old new : List Array) (j : ℕ) → AddsBlock files heads reads old new → length old ≡ j → length new ≡ cond reads (suc j) j
-number-added files heads true old new j d e = let b = d.input refl in ap length b.1 ∙ length_push old b.0 ∙ omega (arith, e)
-number-added files heads false old new j d e = ap length (d.other refl) ∙ e
+    by : (m : ℕ) (other : Node) → m < k + 1 → slice_get nodes m ≡ Some other → is_input other.op ≡ true → (m ≡ k) ⊎ (m ≢ k)
+        → IsRead (file_at files (inputs_before nodes m)) (head_at heads (inputs_before nodes m)) (region_at regions m) (block_at new (inputs_before nodes m))
+    by m other h at i (inl e) =
+        let same : other ≡ node = same_Some other node (sym at ∙ ap (slice_get nodes) e ∙ is) in
+        subst (λ x. IsRead (file_at files (inputs_before nodes x)) (head_at heads (inputs_before nodes x)) (region_at regions x) (block_at new (inputs_before nodes x))) (sym e) (here (ap (λ (x : Node). is_input x.op) (sym same) ∙ i))
+    by m other h at i (inr ne) =
+        let l : m < k = omega (arith, h, ne) in
+        let below : inputs_before nodes m < length old = omega (arith, inputs-below nodes m k other l at i, a.number) in
+        subst (IsRead (file_at files (inputs_before nodes m)) (head_at heads (inputs_before nodes m)) (region_at regions m))
+        (sym (kept-block (file_at files (length old)) (head_at heads (length old)) (region_at regions k) (is_input node.op) old new (inputs_before nodes m) d below)) (a.each m other l at i)
 
 -- ---- short data
 
-pub whole-read : (files : List Content) (heads : List Head) (blocks : List Array) → AreRead files heads blocks → AreWhole files heads (length blocks)
-whole-read files heads blocks a = record { each = λ j has needs h s. too_short (needed (head_at heads j) (whole (head_at heads j).shape)) (size_of (file_at files j) - (head_at heads j).data_at) has needs (a.each j h).room s.has_is s.needs_is s.short }
+pub read-long : (nodes : List Node) (count : ℕ) (files : List Content) (heads : List Head) (regions : List (Option Box)) (blocks : List Array) → AreRead nodes count files heads regions blocks → AreLong nodes files heads regions count
+read-long nodes count files heads regions blocks a = record {
+  each = λ k has needs h s. too_short (needed (head_at heads (inputs_before nodes k)) s.box) (size_of (file_at files (inputs_before nodes k)) - (head_at heads (inputs_before nodes k)).data_at) has needs
+      ((a.each k s.node h s.is s.input).room s.box s.region) s.short.has_is s.short.needs_is s.short.short;
+}
   where
     too_short : (needs_all has_all has needs : ℕ) → needs_all ≤ has_all → has ≡ has_all → needs ≡ needs_all → has < needs → ⊥
     too_short needs_all has_all has needs room e f short = absurd (omega (arith, room, e, f, short))
 
-pub refused-at : (files : List Content) (heads : List Head) (nodes : List Node) (blocks : List Array) (count k : ℕ) (node : Node) (e : NpyError) → AreRead files heads blocks → length blocks ≡ inputs_before nodes k
-    → k < count → slice_get nodes k ≡ Some node → is_input node.op ≡ true
-    → RegionRefusedAs (size_of (file_at files (length blocks))) (head_at heads (length blocks)) (whole (head_at heads (length blocks)).shape) e → RefusesFiles files heads (inputs_before nodes count) e
-refused-at files heads nodes blocks count k node (Truncated has needs) a l h is i r = record {
-  input = length blocks;
-  inside = omega (arith, l, inputs-below nodes k count node h is i);
-  before = whole-read files heads blocks a;
-  short = r;
+first-short : (nodes : List Node) (files : List Content) (heads : List Head) (regions : List (Option Box)) (blocks : List Array) (count k : ℕ) (node : Node) (has needs : ℕ) (region : Option Box) → region ≡ region_at regions k → AreRead nodes k files heads regions blocks → k < count
+    → slice_get nodes k ≡ Some node → is_input node.op ≡ true → EndsInRegion (file_at files (length blocks)) (head_at heads (length blocks)) region has needs → IsFirstShort nodes files heads regions count has needs
+first-short nodes files heads regions blocks count k node has needs None e a h is i r = absurd r
+first-short nodes files heads regions blocks count k node has needs (Some box) e a h is i r = record {
+  input = k;
+  inside = h;
+  before = read-long nodes k files heads regions blocks a;
+  short = record { node = node; is = is; input = i; box = box; region = sym e; short = subst (λ j. EndsInside (size_of (file_at files j)) (head_at heads j) box has needs) a.number r };
 }
-refused-at files heads nodes blocks count k node ReadFault a l h is i r = tt
-refused-at files heads nodes blocks count k node OutOfMemory a l h is i r = tt
-refused-at files heads nodes blocks count k node (NotNpy at) a l h is i r = r
-refused-at files heads nodes blocks count k node (Version major minor) a l h is i r = r
-refused-at files heads nodes blocks count k node (HeaderText at) a l h is i r = r
-refused-at files heads nodes blocks count k node Descr a l h is i r = r
-refused-at files heads nodes blocks count k node ShapeLimit a l h is i r = r
+
+pub refused-at : (nodes : List Node) (files : List Content) (heads : List Head) (regions : List (Option Box)) (blocks : List Array) (count k : ℕ) (node : Node) (e : NpyError) → AreRead nodes k files heads regions blocks → k < count → slice_get nodes k ≡ Some node → is_input node.op ≡ true
+    → IsRefusedRegion (file_at files (length blocks)) (head_at heads (length blocks)) (region_at regions k) e → RefusesRegions nodes files heads regions count e
+refused-at nodes files heads regions blocks count k node (Truncated has needs) a h is i r = first-short nodes files heads regions blocks count k node has needs (region_at regions k) refl a h is i r
+refused-at nodes files heads regions blocks count k node ReadFault a h is i r = tt
+refused-at nodes files heads regions blocks count k node OutOfMemory a h is i r = tt
+refused-at nodes files heads regions blocks count k node (NotNpy at) a h is i r = r
+refused-at nodes files heads regions blocks count k node (Version major minor) a h is i r = r
+refused-at nodes files heads regions blocks count k node (HeaderText at) a h is i r = r
+refused-at nodes files heads regions blocks count k node Descr a h is i r = r
+refused-at nodes files heads regions blocks count k node ShapeLimit a h is i r = r
+
+pub refused-files : (nodes : List Node) (n : ℕ) (box : Box) (files : List Content) (heads : List Head) (regions : List (Option Box)) (e : NpyError) → AreNeeded nodes n box regions → RefusesRegions nodes files heads regions (n + 1) e → RefusesFiles nodes n box files heads e
+refused-files nodes n box files heads regions (Truncated has needs) a r = record { regions = regions; needed = a; short = r }
+refused-files nodes n box files heads regions ReadFault a r = tt
+refused-files nodes n box files heads regions OutOfMemory a r = tt
+refused-files nodes n box files heads regions (NotNpy at) a r = r
+refused-files nodes n box files heads regions (Version major minor) a r = r
+refused-files nodes n box files heads regions (HeaderText at) a r = r
+refused-files nodes n box files heads regions Descr a r = r
+refused-files nodes n box files heads regions ShapeLimit a r = r
+
+pub has-needed : (nodes : List Node) (n : ℕ) (box : Box) (files : List Content) (heads : List Head) (regions : List (Option Box)) (blocks : List Array) → AreNeeded nodes n box regions → AreRead nodes (n + 1) files heads regions blocks → HaveNeeded nodes n box files heads
+has-needed nodes n box files heads regions blocks a r = record { regions = regions; needed = a; long = read-long nodes (n + 1) files heads regions blocks r }
+
+-- ---- one region
+
+refused-some : (file : Content) (head : Head) (box : Box) (e : NpyError) → RegionRefusedAs (size_of file) head box e → IsRefusedRegion file head (Some box) e
+refused-some file head box (Truncated has needs) r = r
+refused-some file head box ReadFault r = tt
+refused-some file head box OutOfMemory r = tt
+refused-some file head box (NotNpy at) r = r
+refused-some file head box (Version major minor) r = r
+refused-some file head box (HeaderText at) r = r
+refused-some file head box Descr r = r
+refused-some file head box ShapeLimit r = r
+
+pub refused-of : {A : Type 0} (r : Result A NpyError) (file : Content) (head : Head) (region : Option Box) (box : Box) → region ≡ Some box → IfErr r (RegionRefusedAs (size_of file) head box) → IfErr r (IsRefusedRegion file head region)
+refused-of (Ok x) file head region box e r = tt
+refused-of (Err err) file head region box e r = subst (λ (o : Option Box). IsRefusedRegion file head o err) (sym e) (refused-some file head box err r)
+
+pub if-ok : {A E : Type 0} (r : Result A E) (P Q : A → Type 0) → ((x : A) → P x → Q x) → IfOk r P → IfOk r Q
+if-ok (Ok x) P Q f p = f x p
+if-ok (Err e) P Q f p = tt
+
+pub if-err : {A E : Type 0} (r : Result A E) (P Q : E → Type 0) → ((e : E) → P e → Q e) → IfErr r P → IfErr r Q
+if-err (Ok x) P Q f p = tt
+if-err (Err e) P Q f p = f e p
+
+pub ok-if : {A E : Type 0} (r : Result A E) (P : A → Type 0) (Q : Type 0) → ((x : A) → P x → Q) → IfOk r P → OnOk r Q
+ok-if (Ok x) P Q f p = f x p
+ok-if (Err e) P Q f p = tt
 
 -- ---- the blocks are those of the inputs
 
-pub have-blocks : (nodes : List Node) (count : ℕ) (files : List Content) (heads : List Head) (blocks : List Array) → HaveFiles nodes count files heads → AreRead files heads blocks → length blocks ≡ inputs_before nodes count → HaveBlocks nodes count blocks
-have-blocks nodes count files heads blocks f a l = record {
-  there = λ k node h is i. below k node h is i;
-  shapes = λ k node h is i. (a.each (inputs_before nodes k) (below k node h is i)).shape ∙ f.shape k node h is i;
+pub have-blocks : (nodes : List Node) (count : ℕ) (files : List Content) (heads : List Head) (regions : List (Option Box)) (blocks : List Array) → HaveFiles nodes count files heads → AreRead nodes count files heads regions blocks → HaveBlocks nodes count blocks
+have-blocks nodes count files heads regions blocks f a = record {
+  there = λ k node h is i. omega (arith, inputs-below nodes k count node h is i, a.number);
+  shapes = λ k node h is i. (a.each k node h is i).shape ∙ f.shape k node h is i;
 }
-  where
-    below : (k : ℕ) (node : Node) → k < count → slice_get nodes k ≡ Some node → is_input node.op ≡ true → inputs_before nodes k < length blocks
-    below k node h is i = omega (arith, l, inputs-below nodes k count node h is i)
 
 told-on : (c : Content) (P : List ℕ → Type 0) → IsSome (told_bytes c) → OnTold c P → P (unwrap_or (told_bytes c) [])
-told-on (Told bytes) P s p = p
-told-on (Untold size) P s p = let e : false ≡ true = s in cc
-
--- an element of the first nodes' inputs
-front-node : (nodes : List Node) (count k : ℕ) (node : Node) → slice_get (take count nodes) k ≡ Some node → (k < count) × (slice_get nodes k ≡ Some node) × (take k (take count nodes) ≡ take k nodes)
-front-node nodes zero k node is = absurd (omega (arith, slice_get_within [] k node is))
-front-node [] (suc count) k node is = absurd (omega (arith, slice_get_within [] k node is))
-front-node (n ∷ nodes) (suc count) zero node is = (omega arith, is, refl)
-front-node (n ∷ nodes) (suc count) (suc k) node is = let f = front-node nodes count k node is in (omega (arith, f.0), f.1, ap (λ ns. n ∷ ns) f.2)
-
--- what a block that was read holds
-read-element : (files : List Content) (heads : List Head) (j : ℕ) (block : Array) (dims : List ℕ) (i : List ℕ) → IsRead files heads j block → IsSome (told_bytes (file_at files j)) → (head_at heads j).shape ≡ dims → IsIn dims i
-    → get_or block.cells (place block.shape i) (pos 0) ≡ elements_in files heads j i
-read-element files heads j block dims i b s e inside =
-    let holds : HoldsRegion (bytes_at files j) (head_at heads j) (whole (head_at heads j).shape) block = told-on (file_at files j) (λ bytes. HoldsRegion bytes (head_at heads j) (whole (head_at heads j).shape) block) s b.cells in
-    let there : IsIn (head_at heads j).shape i = subst (λ ns. IsIn ns i) (sym e) inside in
-    ap (λ ns. get_or block.cells (place ns i) (pos 0)) b.shape ∙ holds.each i there
-    ∙ ap (element (bytes_at files j) (head_at heads j)) (moved-none (length (head_at heads j).shape) i (IsIn-length (head_at heads j).shape i there))
-
-shape-is : (nodes : List Node) (k : ℕ) (node : Node) (dims : List ℕ) (chunks : List ChunkSpec) → IsExpression nodes → slice_get nodes k ≡ Some node → node.op ≡ Input dims chunks → node.shape ≡ dims
-shape-is nodes k node dims chunks s is op = let m : Makes (take k nodes) (Input dims chunks) node.taken node.shape = subst (λ o. Makes (take k nodes) o node.taken node.shape) op (s.each k node is).makes in m.1
-
-agree-files : (nodes : List Node) (count : ℕ) (files : List Content) (heads : List Head) (blocks : List Array) → IsExpression nodes → HaveFiles nodes count files heads → AreRead files heads blocks → length blocks ≡ inputs_before nodes count
-    → AreTold files (inputs_before nodes count) → AgreeInside (held_in blocks) (elements_in files heads) 0 (take count nodes)
-agree-files nodes count files heads blocks s f a l t = record { each = λ k node dims chunks is op i inside. at k node dims chunks (front-node nodes count k node is) op i inside }
+told-on (Told bytes) P s h = h
+told-on (Untold size) P s h = absurd (untold s)
   where
-    at : (k : ℕ) (node : Node) (dims : List ℕ) (chunks : List ChunkSpec) → (k < count) × (slice_get nodes k ≡ Some node) × (take k (take count nodes) ≡ take k nodes) → node.op ≡ Input dims chunks → (i : List ℕ) → IsIn dims i
-        → held_in blocks (inputs_in 0 (take k (take count nodes))) i ≡ elements_in files heads (inputs_in 0 (take k (take count nodes))) i
-    at k node dims chunks p op i inside =
-        let input : is_input node.op ≡ true = ap is_input op in
-        let below : inputs_before nodes k < inputs_before nodes count = inputs-below nodes k count node p.0 p.1 input in
-        let shape : (head_at heads (inputs_before nodes k)).shape ≡ dims = f.shape k node p.0 p.1 input ∙ shape-is nodes k node dims chunks s p.1 op in
-        subst (λ ns. held_in blocks (inputs_in 0 ns) i ≡ elements_in files heads (inputs_in 0 ns) i) (sym p.2)
-        (read-element files heads (inputs_before nodes k) (block_at blocks (inputs_before nodes k)) dims i (a.each (inputs_before nodes k) (omega (arith, l, below))) (t.each (inputs_before nodes k) below) shape inside)
+    untold : IsSome (told_bytes (Untold size)) → ⊥
+    untold e = cc
 
-pub plain-files : (nodes : List Node) (n : ℕ) (files : List Content) (heads : List Head) (blocks : List Array) (box : Box) (outcome : PlainOutcome) → IsExpression nodes → n < length nodes → HaveFiles nodes (n + 1) files heads → AreRead files heads blocks
-    → length blocks ≡ inputs_before nodes (n + 1) → IsPlain (held_in blocks) nodes n box outcome → AreTold files (inputs_before nodes (n + 1)) → IsPlain (elements_in files heads) nodes n box outcome
-plain-files nodes n files heads blocks box outcome s h f a l p t = plain-agree (held_in blocks) (elements_in files heads) nodes n box outcome h (agree-files nodes (n + 1) files heads blocks s f a l t) p
+pub agree-files : (nodes : List Node) (count : ℕ) (files : List Content) (heads : List Head) (regions : List (Option Box)) (blocks : List Array) → AreRead nodes count files heads regions blocks → AreTold files (inputs_before nodes count) → AgreeInRegions (held_in blocks) (elements_in files heads) nodes regions count
+agree-files nodes count files heads regions blocks a t = record {
+  each = λ k node h is i index inside.
+      let j = inputs_before nodes k in
+      told-on (file_at files j) (λ bytes. (x : List ℕ) → IsInRegion (region_at regions k) x → get_or (block_at blocks j).cells (place (block_at blocks j).shape x) (pos 0) ≡ element bytes (head_at heads j) x)
+      (t.each j (inputs-below nodes k count node h is i)) (a.each k node h is i).cells index inside;
+}
+
+-- ---- the region of one input
+
+pub read-region : (regions : List (Option Box)) (k : ℕ) (r : Option Box) → k < length regions → r ≡ get_or regions k r → r ≡ region_at regions k
+read-region regions k r h e = e ∙ get_or_default regions k r None h
+
+pub region-part : (nodes : List Node) (regions : List (Option Box)) (count : ℕ) (files : List Content) (heads : List Head) (k : ℕ) (node : Node) (j : ℕ) (r : Option Box) → AreFit nodes regions → HaveFiles nodes count files heads → k < count → slice_get nodes k ≡ Some node → is_input node.op ≡ true
+    → j ≡ inputs_before nodes k → r ≡ region_at regions k → (box : Box) → r ≡ Some box → IsPart box (head_at heads j).shape
+region-part nodes regions count files heads k node j r f h b is i at e box some =
+    let shape : shape_at nodes k ≡ (head_at heads j).shape = shape-of nodes k node (slice_get_within nodes k node is) (get_or_from_slice_get nodes k node node is) ∙ sym (h.shape k node b is i) ∙ ap (λ x. (head_at heads x).shape) (sym at) in
+    subst (IsPart box) shape (f.each k box (sym e ∙ some)).part
+
+-- ---- the same nodes and regions by other names
+
+pub read-turn : (a b : List Node) (x y : List (Option Box)) (n : ℕ) (files : List Content) (heads : List Head) (blocks : List Array) → a ≡ b → x ≡ y → length y ≡ n → AreRead a (length x) files heads x blocks → AreRead b n files heads y blocks
+read-turn a b x y n files heads blocks e f g r =
+    subst (λ m. AreRead b m files heads y blocks) g (subst (λ (z : List (Option Box)). AreRead b (length z) files heads z blocks) f (subst (λ ns. AreRead ns (length x) files heads x blocks) e r))
+
+pub files-turn : (a b : List Node) (x y : List (Option Box)) (n : ℕ) (files : List Content) (heads : List Head) → a ≡ b → x ≡ y → length y ≡ n → HaveFiles b n files heads → HaveFiles a (length x) files heads
+files-turn a b x y n files heads e f g h =
+    subst (λ ns. HaveFiles ns (length x) files heads) (sym e) (subst (λ m. HaveFiles b m files heads) (sym (ap length f ∙ g)) h)
+
+pub refused-turn : (a b : List Node) (x y : List (Option Box)) (n : ℕ) (files : List Content) (heads : List Head) (err : NpyError) → a ≡ b → x ≡ y → length y ≡ n → RefusesRegions a files heads x (length x) err → RefusesRegions b files heads y n err
+refused-turn a b x y n files heads err e f g r =
+    subst (λ m. RefusesRegions b files heads y m err) g (subst (λ (z : List (Option Box)). RefusesRegions b files heads z (length z) err) f (subst (λ ns. RefusesRegions ns files heads x (length x) err) e r))

@@ -1,13 +1,17 @@
-// Reads the arrays of inputs.
-ghost use Rattle.std.specs.Prelude.{◌≡◌, ◌≤◌, ◌<◌, ◌+◌, ◌-◌, ◌^◌, length, true, IfOk, IfErr, OnOk, OnErr, IsErrOf};
+// Reads what is needed of the arrays of inputs.
+ghost use Rattle.std.specs.Prelude.{◌≡◌, ◌≤◌, ◌<◌, ◌+◌, ◌-◌, ◌^◌, length, true, Some, IfOk, IfErr, OnOk, OnErr, IsErrOf};
 ghost use Rattle.io_edge.specs.Cause.{Rose};
 ghost use Rattle.io_edge.specs.Content.{file_at, size_of, OnTold};
-ghost use Rattle.npy_codec.specs.Regions.{HoldsRegion, RegionRefusedAs, needed, whole};
+ghost use Rattle.nd_shape.specs.Region.{Box, IsPart};
+ghost use Rattle.npy_codec.specs.Regions.{RegionRefusedAs};
 ghost use Rattle.array_expr.specs.Node.{IsExpression};
 ghost use Rattle.array_expr.specs.Elem.{is_input};
 ghost use Rattle.plain_eval.specs.Eval.{inputs_before};
-ghost use Rattle.plain_block.specs.Files.{HaveFiles, AddsBlock, AreRead, RefusesFiles, head_at};
+ghost use Rattle.input_regions.specs.Needed.{region_at};
+ghost use Rattle.input_regions.specs.Widening.{AreFit};
+ghost use Rattle.plain_block.specs.Files.{HaveFiles, AddsBlock, AreRead, IsRead, IsRefusedRegion, RefusesRegions, head_at};
 
+use crate::placing::{placed, zeros};
 use array_expr::{Node, Op};
 use io_edge::Store;
 use nd_shape::{Block, Region};
@@ -15,26 +19,54 @@ use npy_codec::{Head, NpyError};
 use npy_region::read_region;
 use std::alloc::Global;
 
-// The array of a file, whole.
-fn read_whole<S: Store>(
+// The array of a file with its elements in a region, and 0 elsewhere.
+fn read_box<S: Store>(
     alloc: Global,
     store: &mut S,
     file: u32,
     head: &Head,
+    region: &Region,
 ) -> Result<Block, NpyError>
     requires there { file < length (S.files store.old) }
     requires near { head.now.data_at ≤ 2 ^ 21 }
+    requires part { IsPart region.now head.now.shape }
     ensures same { S.files store.new ≡ S.files store.old }
     ensures later { S.count store.old ≤ S.count store.new }
     ensures kept { OnOk result (S.count store.new ≡ S.count store.old) }
-    ensures shape { IfOk result (λ block. block.shape ≡ head.now.shape) }
-    ensures cells { IfOk result (λ block. OnTold (file_at (S.files store.old) file) (λ bytes. HoldsRegion bytes head.now (whole head.now.shape) block)) }
-    ensures room { OnOk result (needed head.now (whole head.now.shape) ≤ size_of (file_at (S.files store.old) file) - head.now.data_at) }
-    ensures refused { IfErr result (RegionRefusedAs (size_of (file_at (S.files store.old) file)) head.now (whole head.now.shape)) }
+    ensures block { IfOk result (λ block. IsRead (file_at (S.files store.old) file) head.now (Some region.now) block) }
+    ensures refused { IfErr result (RegionRefusedAs (size_of (file_at (S.files store.old) file)) head.now region.now) }
     ensures fault { IsErrOf result NpyError.ReadFault → Rose (S.count store.old) (S.count store.new) }
 {
-    let region = Region::whole(head.shape.dims());
-    read_region(alloc, store, file, head, &region)
+    let part = read_region(alloc, store, file, head, region)?;
+    let block = placed(alloc, &head.shape, region, &part)?;
+    Ok(block)
+}
+
+// The array of a file with its elements in a region, if there is one, and 0 elsewhere.
+fn read_part<S: Store>(
+    alloc: Global,
+    store: &mut S,
+    file: u32,
+    head: &Head,
+    region: &Option<Region>,
+) -> Result<Block, NpyError>
+    requires there { file < length (S.files store.old) }
+    requires near { head.now.data_at ≤ 2 ^ 21 }
+    requires part { (box : Box) → region.now ≡ Some box → IsPart box head.now.shape }
+    ensures same { S.files store.new ≡ S.files store.old }
+    ensures later { S.count store.old ≤ S.count store.new }
+    ensures kept { OnOk result (S.count store.new ≡ S.count store.old) }
+    ensures block { IfOk result (λ block. IsRead (file_at (S.files store.old) file) head.now region.now block) }
+    ensures refused { IfErr result (IsRefusedRegion (file_at (S.files store.old) file) head.now region.now) }
+    ensures fault { IsErrOf result NpyError.ReadFault → Rose (S.count store.old) (S.count store.new) }
+{
+    match region {
+        None => {
+            let empty = zeros(alloc, &head.shape)?;
+            Ok(empty)
+        }
+        Some(needed) => read_box(alloc, store, file, head, needed),
+    }
 }
 
 // One more block, if a node is an input.
@@ -42,6 +74,7 @@ fn read_input<S: Store>(
     alloc: Global,
     store: &mut S,
     node: &Node,
+    region: &Option<Region>,
     heads: &[Head],
     blocks: &mut Vec<Block>,
 ) -> Result<(), NpyError>
@@ -49,18 +82,19 @@ fn read_input<S: Store>(
     requires file { is_input node.now.op ≡ true → length blocks.old.items < length (S.files store.old) }
     requires head { is_input node.now.op ≡ true → length blocks.old.items < length heads.now }
     requires near { is_input node.now.op ≡ true → (head_at heads.now (length blocks.old.items)).data_at ≤ 2 ^ 21 }
+    requires part { is_input node.now.op ≡ true → (box : Box) → region.now ≡ Some box → IsPart box (head_at heads.now (length blocks.old.items)).shape }
     ensures same { S.files store.new ≡ S.files store.old }
     ensures later { S.count store.old ≤ S.count store.new }
     ensures kept { OnOk result (S.count store.new ≡ S.count store.old) }
-    ensures block { OnOk result (AddsBlock (S.files store.old) heads.now (is_input node.now.op) blocks.old.items blocks.new.items) }
+    ensures block { OnOk result (AddsBlock (file_at (S.files store.old) (length blocks.old.items)) (head_at heads.now (length blocks.old.items)) region.now (is_input node.now.op) blocks.old.items blocks.new.items) }
     ensures input { OnErr result (is_input node.now.op ≡ true) }
-    ensures refused { IfErr result (RegionRefusedAs (size_of (file_at (S.files store.old) (length blocks.old.items))) (head_at heads.now (length blocks.old.items)) (whole (head_at heads.now (length blocks.old.items)).shape)) }
+    ensures refused { IfErr result (IsRefusedRegion (file_at (S.files store.old) (length blocks.old.items)) (head_at heads.now (length blocks.old.items)) region.now) }
     ensures fault { IsErrOf result NpyError.ReadFault → Rose (S.count store.old) (S.count store.new) }
 {
     match &node.op {
         Op::Input { .. } => {
             let file = blocks.len();
-            let block = read_whole(alloc, store, file as u32, &heads[file])?;
+            let block = read_part(alloc, store, file as u32, &heads[file], region)?;
             blocks.push(block)?;
             Ok(())
         }
@@ -68,28 +102,29 @@ fn read_input<S: Store>(
     }
 }
 
-/// The arrays of the inputs among the first so many nodes, whole, in order.
+/// The arrays of the inputs among the first so many nodes in order, each with the elements in its region, if there is one,
+/// and 0 elsewhere. An input without a region isn't read.
 pub fn read_inputs<S: Store>(
     alloc: Global,
     store: &mut S,
     nodes: &[Node],
-    count: usize,
+    regions: &[Option<Region>],
     heads: &[Head],
 ) -> Result<Vec<Block>, NpyError>
     requires sound { IsExpression nodes.now }
-    requires inside { count ≤ length nodes.now }
-    requires files { HaveFiles nodes.now count (S.files store.old) heads.now }
+    requires inside { length regions.now ≤ length nodes.now }
+    requires fit { AreFit nodes.now regions.now }
+    requires files { HaveFiles nodes.now (length regions.now) (S.files store.old) heads.now }
     ensures same { S.files store.new ≡ S.files store.old }
     ensures later { S.count store.old ≤ S.count store.new }
     ensures kept { OnOk result (S.count store.new ≡ S.count store.old) }
-    ensures number { IfOk result (λ v. length v.items ≡ inputs_before nodes.now count) }
-    ensures arrays { IfOk result (λ v. AreRead (S.files store.old) heads.now v.items) }
-    ensures refused { IfErr result (RefusesFiles (S.files store.old) heads.now (inputs_before nodes.now count)) }
+    ensures arrays { IfOk result (λ v. AreRead nodes.now (length regions.now) (S.files store.old) heads.now regions.now v.items) }
+    ensures refused { IfErr result (RefusesRegions nodes.now (S.files store.old) heads.now regions.now (length regions.now)) }
     ensures fault { IsErrOf result NpyError.ReadFault → Rose (S.count store.old) (S.count store.new) }
 {
     let mut blocks = Vec::new(alloc);
-    for k in 0..count {
-        read_input(alloc, store, &nodes[k], heads, &mut blocks)?;
+    for k in 0..regions.len() {
+        read_input(alloc, store, &nodes[k], &regions[k], heads, &mut blocks)?;
     }
     Ok(blocks)
 }

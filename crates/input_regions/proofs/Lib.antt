@@ -1,0 +1,9 @@
+pub mod Least
+pub mod Widened
+pub mod Between
+pub mod Used
+pub mod Joins
+pub mod Asked
+pub mod Fitted
+pub mod Formulas
+pub mod Enough

@@ -1,0 +1,10 @@
+use Rattle.nd_grid.specs.Grid.{under}
+use Rattle.array_expr.specs.Node.{shape_at}
+use Rattle.input_regions.specs.Uses.{IsAt}
+use Rattle.input_regions.proofs.Used.{used-two}
+use Rattle.input_regions.proofs.operands.use_pair.Goals as goal
+
+pub returns-clause-uses : goal.returns-clause-uses
+returns-clause-uses c =
+    used-two c.args.first.now c.args.last.now (λ i k j. IsAt c.args.left (under (shape_at c.args.nodes.now c.args.left) i) k j) (λ i k j. IsAt c.args.right (under (shape_at c.args.nodes.now c.args.right) i) k j)
+    c.args.needs.now c.use_under.new.needs c.use_under-2.new.needs c.use_under.ensures.uses c.use_under-2.ensures.uses

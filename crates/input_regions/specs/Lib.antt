@@ -1,0 +1,4 @@
+pub mod Boxes
+pub mod Uses
+pub mod Needed
+pub mod Widening
