@@ -2,4 +2,4 @@ pub mod Paths
 pub mod OneReading
 pub mod Counts
 pub mod OneJob
-pub mod OnePlace
+pub mod OneRefusal

@@ -1,9 +1,9 @@
 //! What holds of the texts of jobs beside what their reader answers: laws about the definitions.
 //!
 //! `job_text` and `expr_laws` stand below, with the definitions. This crate carries that a text has one reading and is one job at
-//! most, that a job's text has no cause of refusal, and that all refusals of a text stand at one place. Beside the clauses of
-//! `parse`, which say that it accepts only jobs and refuses only for a cause, this makes it accept exactly the jobs, and answer the
-//! one place of a refusal, but for want of memory.
+//! most, that a job's text has no cause of refusal, and that a text has one refusal at most. Beside the clauses of `parse`, which
+//! say that it accepts only jobs and refuses only for a cause, this makes it accept exactly the jobs, and answer the one refusal of
+//! another text, its line, its column and its kind, but for want of memory.
 #![tactic(auto)]
 
 ghost use Rattle.std.specs.Prelude.{◌≡◌, ◌≢◌, ℕ, List};
@@ -14,7 +14,7 @@ ghost use Rattle.job_text.specs.declared.error.JobError.{JobError};
 ghost use Rattle.job_text.specs.declared.error.JobKind.TheVariants.{OutOfMemory};
 ghost use Rattle.job_text.specs.Jobs.{Parts, IsJob, IsRefused};
 
-use expr_laws::fitting_excludes_refusal;
+use expr_laws::{fitting_excludes_refusal, one_refusal};
 
 /// A text has one list of steps and one end. No memory.
 pub fn one_reading()
@@ -38,9 +38,11 @@ pub fn jobs_are_not_refused()
     fitting_excludes_refusal();
 }
 
-/// All refusals of a text that have their causes stand at one place, but for want of memory. No memory.
-pub fn refusals_stand_at_one_place()
-    ensures { (text : List ℕ) (one other : JobError) → IsRefused text one → IsRefused text other → one.kind ≢ OutOfMemory → other.kind ≢ OutOfMemory → (one.line ≡ other.line) × (one.column ≡ other.column) }
+/// A text has one refusal at most that has its cause, with one line, one column and one kind, but for want of memory. No
+/// memory.
+pub fn one_refusal_of_a_text()
+    ensures { (text : List ℕ) (one other : JobError) → IsRefused text one → IsRefused text other → one.kind ≢ OutOfMemory → other.kind ≢ OutOfMemory → one ≡ other }
 {
     fitting_excludes_refusal();
+    one_refusal();
 }

@@ -1,9 +1,8 @@
 -- One operation more, and the operation at which a list of them stops.
-use Rattle.std.proofs.Common.{◌≡◌, ℕ, zero, suc, ◌+◌, ◌<◌, List, [], ◌∷◌, ◌++◌, length, map, take, drop, get_or, Some, refl, ap, sym, subst, ◌∙◌, arith, length-append, append_assoc, add-one, drop-cons, ◌-◌}
+use Rattle.std.proofs.Common.{◌≡◌, ℕ, zero, suc, ◌+◌, ◌<◌, List, [], ◌∷◌, ◌++◌, length, take, drop, get_or, Some, refl, ap, sym, subst, ◌∙◌, arith, length-append, append_assoc, add-one, drop-cons, ◌-◌}
 use Rattle.std.specs.Prelude.{slice_get}
 use Rattle.std.proofs.lemmas.List.{take-append-drop}
 use Rattle.array_expr.specs.declared.expr.Node.{Node}
-use Rattle.array_expr.specs.declared.op.Span.{Span}
 use Rattle.array_expr.specs.Node.{Adds}
 use Rattle.job_script.specs.declared.asked.Placed.{Placed}
 use Rattle.job_script.specs.Earlier.{NamesEarlier, AreEarlier}

@@ -1,5 +1,5 @@
 -- The files of a job are those of its nodes.
-use Rattle.std.proofs.Common.{◌≡◌, ℕ, zero, suc, ◌+◌, ◌<◌, Bool, true, false, cond, List, [], ◌∷◌, ◌++◌, length, map, Ok, Err, refl, ap, sym, subst, ◌∙◌, arith, append_assoc}
+use Rattle.std.proofs.Common.{◌≡◌, ℕ, suc, ◌+◌, ◌<◌, Bool, true, false, cond, List, [], ◌∷◌, ◌++◌, length, map, Ok, Err, refl, ap, sym, subst, ◌∙◌, arith, append_assoc}
 use Rattle.std.specs.Prelude.{Result, IfOk, All}
 use Rattle.std.proofs.lemmas.List.{append-nil}
 use Rattle.array_expr.specs.declared.expr.Node.{Node}
@@ -8,10 +8,13 @@ use Rattle.job_script.specs.declared.asked.Asked.{Asked}
 use Rattle.job_script.specs.declared.asked.Asked.TheVariants as AskedVariants
 use Rattle.job_script.specs.declared.asked.Placed.{Placed}
 use Rattle.job_script.specs.Earlier.{asks_input, inputs_from}
+use Rattle.job_script.specs.Drafts.{empty_draft}
+use Rattle.job_script.specs.Scripts.{run}
 use Rattle.job_script.proofs.Sound.{script-sound}
 use Rattle.job_text.specs.Nodes.{op_of, Builds}
 use Rattle.job_text.specs.Jobs.{Parts, spans_of, input_nodes, IsJob, FilesFit}
 use Rattle.job_text.proofs.Building.{builds-count}
+use Rattle.job_text.proofs.FileNames.{AreFiles, read-files}
 
 behind-if : (b : Bool) (k : ℕ) (w v : List ℕ) → cond b (k ∷ (w ++ v)) (w ++ v) ≡ cond b (k ∷ w) w ++ v
 behind-if true k w v = refl
@@ -61,14 +64,26 @@ spans-count : (text : List ℕ) (ps : List Placed) → length (spans_of text ps)
 spans-count text [] = refl
 spans-count text (p ∷ ps) = ap suc (spans-count text ps)
 
+files-are : (text : List ℕ) (job : Parts) → IsJob text job → AreFiles job.inputs job.saves
+files-are text job j =
+    let d = (run text j.is_script.found.steps empty_draft).draft in
+    let files : AreFiles d.scoped.inputs d.scoped.saves = read-files text j.is_script.found j.short j.is_script.read in
+    let inputs : AreFiles job.inputs d.scoped.saves = subst (λ x. AreFiles x d.scoped.saves) (sym (j.inputs_are ∙ j.is_script.inputs j.whole)) files in
+    subst (λ x. AreFiles job.inputs x) (sym (j.saves_are ∙ j.is_script.saves j.whole)) inputs
+
 pub files-fit : (text : List ℕ) (job : Parts) → IsJob text job → FilesFit job
 files-fit text job j =
     let s = script-sound text j.script j.is_script in
+    let f = files-are text job j in
     let count : length job.nodes ≡ length j.script.asked = omega (arith, builds-count [] j.script.asked job.nodes j.built.builds) in
     record {
       inputs_fit = ap (λ x. map (λ n. n.node) x) j.inputs_are ∙ (s.inputs_are j.whole ∙ sym (builds-inputs [] j.script.asked job.nodes j.built.builds));
       saves_fit = subst (λ x. All (λ n. n.node < length job.nodes) x) (sym j.saves_are) (subst (λ k. All (λ n. n.node < k) j.script.saves) (sym count) (s.saves_are j.whole));
       spans_fit = ap length j.built.spans_are ∙ (spans-count text j.script.asked ∙ sym count);
+      inputs_named = f.inputs_named;
+      saves_named = f.saves_named;
+      saves_apart = f.saves_apart;
+      saves_new = f.saves_new;
     }
 
 pub files-if : {E : Type 0} (text : List ℕ) (r : Result Parts E) → IfOk r (IsJob text) → IfOk r FilesFit

@@ -1,2 +1,5 @@
 pub mod Building
+pub mod FileOrder
+pub mod FileTokens
+pub mod FileNames
 pub mod Files

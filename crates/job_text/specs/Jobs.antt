@@ -1,5 +1,5 @@
 -- Which job a text says, and why a text is refused.
-use Rattle.std.specs.Prelude.{◌≡◌, ◌≢◌, ℕ, suc, ◌^◌, ◌<◌, ◌≤◌, cond, List, [], ◌∷◌, ◌++◌, length, map, All, Some, None}
+use Rattle.std.specs.Prelude.{◌≡◌, ◌≢◌, ℕ, suc, ◌^◌, ◌<◌, ◌≤◌, cond, List, [], ◌∷◌, ◌++◌, length, map, All, AllPairs, Some, None}
 use Rattle.array_expr.specs.declared.expr.Node.{Node}
 use Rattle.array_expr.specs.declared.op.Span.{Span}
 use Rattle.array_expr.specs.Elem.{is_input}
@@ -11,6 +11,7 @@ use Rattle.job_script.specs.Scripts.{Scripted, IsScript}
 use Rattle.job_text.specs.declared.error.JobError.{JobError}
 use Rattle.job_text.specs.declared.error.JobKind.TheVariants as Kinds
 use Rattle.job_text.specs.declared.error.Quantity.TheVariants as Quantities
+use Rattle.job_text.specs.Names.{IsFileName}
 use Rattle.job_text.specs.Texts.{kind_of_why}
 use Rattle.job_text.specs.Nodes.{op_of, Builds, RefusesAsked}
 
@@ -53,11 +54,16 @@ abbrev pub input_nodes : ℕ → List Node → List ℕ
 input_nodes k [] = []
 input_nodes k (n ∷ nodes) = cond (is_input n.op) (k ∷ input_nodes (suc k) nodes) (input_nodes (suc k) nodes)
 
--- The inputs have a file each, in their order, each save has a node, and each node a place.
+-- The inputs have a file each, in their order, each save has a node, and each node a place. No file is saved twice, and none that is
+-- read is saved.
 pub record FilesFit (job : Parts) : Type 0 where
   pub inputs_fit : map (λ n. n.node) job.inputs ≡ input_nodes 0 job.nodes
   pub saves_fit : All (λ n. n.node < length job.nodes) job.saves
   pub spans_fit : length job.spans ≡ length job.nodes
+  pub inputs_named : All (λ n. IsFileName n.name) job.inputs
+  pub saves_named : All (λ n. IsFileName n.name) job.saves
+  pub saves_apart : AllPairs (λ a b. a.name ≢ b.name) job.saves
+  pub saves_new : All (λ s. All (λ i. i.name ≢ s.name) job.inputs) job.saves
 
 -- ---- the first refusal
 

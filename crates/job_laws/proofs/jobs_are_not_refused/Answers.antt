@@ -1,5 +1,5 @@
 use Rattle.job_laws.proofs.OneJob.{job-excluded}
-use Rattle.job_laws.proofs.OnePlace.{job-expression}
+use Rattle.job_laws.proofs.OneRefusal.{job-expression}
 use Rattle.job_laws.proofs.jobs_are_not_refused.Goals as goal
 
 pub returns : goal.returns
