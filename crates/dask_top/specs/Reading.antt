@@ -2,7 +2,6 @@
 use Rattle.std.specs.Prelude.{◌≡◌, ◌≢◌, ℕ, List, [], map, Option, Some, None, Result, Ok, Err}
 use Rattle.array_expr.specs.declared.expr.Node.{Node}
 use Rattle.job_run.specs.Plan.{Plan, names_saved}
-use Rattle.job_script.specs.Names.{Called}
 use Rattle.job_text.specs.declared.error.JobError.{JobError}
 use Rattle.job_text.specs.declared.error.JobKind.TheVariants as Kinds
 use Rattle.job_text.specs.Jobs.{Parts, IsJob, IsRefused}

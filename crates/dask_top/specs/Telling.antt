@@ -1,6 +1,6 @@
 -- How the end of a job comes to be told on standard error, for the private functions.
-use Rattle.std.specs.Prelude.{◌≡◌, ◌<◌, ◌⊎◌, ℕ, List, length}
-use Rattle.job_run.specs.declared.ends.Ended.TheVariants.{Done, File, Zero, ReadFault, WriteFault, OutOfMemory}
+use Rattle.std.specs.Prelude.{◌≡◌, ◌<◌, ◌⊎◌, length}
+use Rattle.job_run.specs.declared.ends.Ended.TheVariants.{File, Zero, ReadFault, OutOfMemory}
 use Rattle.dask_top.specs.declared.answer.End.{End}
 use Rattle.dask_top.specs.declared.answer.End.TheVariants.{Words, Job, Limit, Ran}
 use Rattle.dask_top.specs.Reading.{Reading, inputs_in, nodes_in}

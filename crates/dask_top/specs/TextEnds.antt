@@ -1,11 +1,11 @@
 -- The ends at which no job was read of a text, for the private functions.
 use Rattle.std.specs.Prelude.{◌≡◌, ◌≢◌, ℕ, List}
-use Rattle.job_run.specs.declared.ends.Ended.TheVariants.{Done, File, Zero, ReadFault, WriteFault, OutOfMemory}
+use Rattle.job_run.specs.declared.ends.Ended.TheVariants.{OutOfMemory}
 use Rattle.job_text.specs.declared.error.JobError.{JobError}
 use Rattle.job_text.specs.declared.error.JobKind.{JobKind}
 use Rattle.job_text.specs.declared.error.JobKind.TheVariants as Kinds
 use Rattle.dask_top.specs.declared.answer.End.{End}
-use Rattle.dask_top.specs.declared.answer.End.TheVariants.{Words, Job, Limit, Ran}
+use Rattle.dask_top.specs.declared.answer.End.TheVariants.{Job, Limit, Ran}
 use Rattle.dask_top.specs.Answers.{IsNoLimit}
 use Rattle.dask_top.specs.Reading.{RefusesText}
 

@@ -31,12 +31,8 @@ pub fn read_job(alloc: Global, text: &[u8]) -> Result<Job, End>
         Ok(job) => job,
         Err(error) => return Err(text_end(error)),
     };
-    let Ok(job) = job_of(alloc, job) else {
-        return Err(End::Ran(Ended::OutOfMemory));
-    };
-    // The rules of the text see to this, so the job of a text always can be run.
-    if !job.is_runnable() {
-        return Err(End::Ran(Ended::OutOfMemory));
+    match job_of(alloc, job) {
+        Ok(job) => Ok(job),
+        Err(_) => Err(End::Ran(Ended::OutOfMemory)),
     }
-    Ok(job)
 }

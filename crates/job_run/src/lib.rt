@@ -20,3 +20,6 @@ mod values;
 pub use ends::{Ended, FileError};
 pub use job::{Job, Save};
 pub use run::run_job;
+
+#[cfg(test)]
+mod tests;

@@ -1,4 +1,4 @@
-use Rattle.std.proofs.Common.{◌≡◌, ◌∙◌}
+use Rattle.std.proofs.Common.{◌∙◌}
 use Rattle.dask_top.proofs.Telling.{printed_notes}
 use Rattle.dask_top.proofs.tell.tell_refusal.Goals as goal
 

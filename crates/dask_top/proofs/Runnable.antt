@@ -1,0 +1,49 @@
+-- The job of a text can be run.
+use Rattle.std.proofs.Common.{◌≡◌, ℕ, suc, ◌<◌, Bool, true, false, cond, List, [], ◌∷◌, length, map, ap, refl, sym, subst, ◌∙◌, arith}
+use Rattle.std.specs.Prelude.{slice_index_or}
+use Rattle.std.proofs.lemmas.Bool.{false_from_ne_true}
+use Rattle.std.proofs.lemmas.List.{length-map, get_or-map}
+use Rattle.std.proofs.lemmas.Slice.Eq.{bytes_eq-Decides}
+use Rattle.array_expr.specs.declared.expr.Node.{Node}
+use Rattle.array_expr.specs.Elem.{is_input}
+use Rattle.job_run.specs.Plan.{IsRunnable, Saved, input_shapes, name_at, names_saved}
+use Rattle.job_script.specs.Names.{Called}
+use Rattle.job_text.specs.Jobs.{FilesFit, Parts, input_nodes}
+use Rattle.dask_top.specs.Reading.{plan_said}
+
+inputs-count : (k : ℕ) (nodes : List Node) → length (input_nodes k nodes) ≡ length (input_shapes nodes)
+inputs-count k [] = refl
+inputs-count k (n ∷ nodes) = by-kind (is_input n.op) (inputs-count (suc k) nodes)
+  where
+    by-kind : (b : Bool) → length (input_nodes (suc k) nodes) ≡ length (input_shapes nodes) → length (cond b (k ∷ input_nodes (suc k) nodes) (input_nodes (suc k) nodes)) ≡ length (cond b (n.shape ∷ input_shapes nodes) (input_shapes nodes))
+    by-kind true same = ap suc same
+    by-kind false same = same
+
+nothing : Called
+nothing = record { name = []; node = 0 }
+
+abbrev saved : Called → Saved
+saved n = record { node = n.node; file = n.name }
+
+node-saved : (list : List Called) (k : ℕ) → k < length list → slice_index_or (map (λ s. s.node) (map saved list)) k 0 ≡ (slice_index_or list k nothing).node
+node-saved list k h =
+    let more : k < length (map saved list) = omega (arith, h, length-map list saved) in
+    get_or-map (λ (s : Saved). s.node) (map saved list) k (saved nothing) 0 more ∙ ap (λ (s : Saved). s.node) (get_or-map saved list k nothing (saved nothing) h)
+
+file-saved : (list : List Called) (k : ℕ) → k < length list → name_at (map (λ s. s.file) (map saved list)) k ≡ (slice_index_or list k nothing).name
+file-saved list k h =
+    let more : k < length (map saved list) = omega (arith, h, length-map list saved) in
+    get_or-map (λ (s : Saved). s.file) (map saved list) k (saved nothing) [] more ∙ ap (λ (s : Saved). s.file) (get_or-map saved list k nothing (saved nothing) h)
+
+pub runnable : (job : Parts) → FilesFit job → IsRunnable (plan_said job)
+runnable job fit = record {
+  inputs = length-map job.inputs (λ n. n.name) ∙ (sym (length-map job.inputs (λ n. n.node)) ∙ (ap length fit.inputs_fit ∙ inputs-count 0 job.nodes));
+  saves = λ k h.
+      let below : k < length job.saves = omega (arith, h, length-map job.saves saved) in
+      subst (λ x. x < length job.nodes) (sym (node-saved job.saves k below)) (fit.saves_fit k nothing below);
+  apart = λ j k before h.
+      let below : k < length job.saves = omega (arith, h, length-map job.saves saved, length-map (map saved job.saves) (λ s. s.file)) in
+      let first : j < length job.saves = omega (arith, below, before) in
+      false_from_ne_true _ (λ e. fit.saves_apart j k nothing before below
+      (sym (file-saved job.saves j first) ∙ (sym ((bytes_eq-Decides (name_at (names_saved (plan_said job)) k) (name_at (names_saved (plan_said job)) j)).0 e) ∙ file-saved job.saves k below)));
+}
