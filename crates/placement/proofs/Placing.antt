@@ -1,5 +1,5 @@
 -- The least of the offers is the place.
-use Rattle.std.proofs.Common.{◌≡◌, ℕ, ◌+◌, ◌<◌, ◌≤◌, ◌^◌, ◌*◌, ◌/◌, ◌%◌, Bool, true, false, cond, ◌&&◌, ◌==◌, List, [], ◌∷◌, length, Option, Some, None, is_some, unwrap_or, refl, sym, ap, ◌∙◌, arith, map}
+use Rattle.std.proofs.Common.{◌≡◌, ℕ, ◌+◌, ◌<◌, ◌≤◌, ◌^◌, ◌*◌, ◌/◌, ◌%◌, Bool, true, false, cond, ◌&&◌, ◌==◌, List, [], ◌∷◌, length, Option, Some, None, is_some, unwrap_or, refl, sym, ap, ◌∙◌, subst, arith, map}
 use Rattle.std.proofs.lemmas.Bool.{false≢true}
 use Rattle.std.proofs.lemmas.Bool.Decides.{nat_tests}
 use Rattle.std.proofs.Math.Nat.{div-add-mod, mul-le-mul_left}
@@ -149,3 +149,8 @@ cost_fits f s w m o t h l e d = fits (omega (arith, e, occupancy_fits f w s)) (o
   where
     fits : o ≤ 2 ^ 61 → 1 ≤ t → o / t + m < 2 ^ 64
     fits a b = let d : t * (o / t) + o % t ≡ o = div-add-mod o t in let m : o / t * 1 ≤ o / t * t = mul-le-mul_left (o / t) b in omega arith
+
+-- the place is the least of all candidates
+pub least_where : (f : Facts) (k : ℕ) (r : Option ℕ) → r ≡ place f k → IsLeastOf (place_rank f k) (candidates f k) r
+unfolding place
+least_where f k r e = subst (λ (o : Option ℕ). IsLeastOf (place_rank f k) (candidates f k) o) (sym e) (least_by_least (place_rank f k) (candidates f k))

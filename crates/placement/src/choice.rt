@@ -3,7 +3,8 @@ ghost use Rattle.std.specs.Prelude.{◌≡◌, ◌<◌, true};
 ghost use Rattle.std.specs.List.{list_any};
 ghost use Rattle.std.specs.Option.{option_map};
 ghost use Rattle.cluster_rules.specs.Sched.{keys, deps, holds, connected};
-ghost use Rattle.cluster_rules.specs.Policies.{place};
+ghost use Rattle.cluster_rules.specs.Choice.{IsLeastOf};
+ghost use Rattle.cluster_rules.specs.Policies.{place, place_rank, candidates};
 ghost use Rattle.placement.specs.Candidates.{admits, offer, offered, candidate_of};
 
 use crate::bytes::missing_bytes;
@@ -19,11 +20,13 @@ use cluster_rules::Facts;
 /// the worker holds; number), after "Choosing Workers" of Dask's page "Scheduling Policies"
 /// (<https://distributed.dask.org/en/stable/scheduling-policies.html>). Occupancy and bytes are in bytes.
 ///
-/// `shape` is the shape of the facts. Takes no memory, and asks a few questions for each dependency and connected worker.
+/// `shape` is the shape of the facts. Takes no memory, and asks a few questions for each dependency and each number that a
+/// worker got, twice where nobody holds a dependency.
 pub fn place<F: Facts>(facts: &F, shape: &GraphShape, key: u32) -> Option<u32>
     requires shape { shape.now ≡ (F.facts facts.now).setting.shape }
     requires key { key < keys (F.facts facts.now) }
-    ensures { result ≡ place (F.facts facts.now) key }
+    ensures is { result ≡ place (F.facts facts.now) key }
+    ensures least { IsLeastOf (place_rank (F.facts facts.now) key) (candidates (F.facts facts.now) key) result }
 {
     if shape.deps(key).is_empty() {
         return least_of(facts, shape, key, Pool::NotFull);

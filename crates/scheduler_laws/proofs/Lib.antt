@@ -3,3 +3,4 @@ pub mod Fewer
 pub mod Placed
 pub mod Errors
 pub mod SettledLemmas
+pub mod Attempts

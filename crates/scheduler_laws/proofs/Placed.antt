@@ -122,7 +122,7 @@ no_more_candidates f k w j free e = pick (deps f j) e
     pick [] q = filter_less (λ v. not (full f v)) (λ v. not (full (give f k (Some w)) v)) (workers f) (λ v x. back (full f v) (full (give f k (Some w)) v) (full_still f k w v free) x) q
     pick (d ∷ ds) q = q
 
-nowhere_one : (f : Facts) (k j : ℕ) → place f j ≡ None → place (place_one f k) j ≡ None
+pub nowhere_one : (f : Facts) (k j : ℕ) → place f j ≡ None → place (place_one f k) j ≡ None
 unfolding place_one
 nowhere_one f k j e = pick (ready f k && is_none (f.on k)) refl (place f k)
   where
@@ -136,7 +136,7 @@ nowhere_keys f [] j e = e
 nowhere_keys f (k ∷ ks) j e = nowhere_keys (place_one f k) ks j (nowhere_one f k j e)
 
 -- what is somewhere stays there
-left_alone : (f : Facts) (ks : List ℕ) (k : ℕ) → (place_keys f ks).on k ≡ None → f.on k ≡ None
+pub left_alone : (f : Facts) (ks : List ℕ) (k : ℕ) → (place_keys f ks).on k ≡ None → f.on k ≡ None
 left_alone f ks k e = pick (f.on k) refl
   where
     pick : (o : Option (ℕ × ℕ)) → f.on k ≡ o → o ≡ None
@@ -147,7 +147,7 @@ left_alone f ks k e = pick (f.on k) refl
         some_is_none p q = cc
 
 -- a ready key that is on no worker after its turn had no place in its turn
-left_in_turn : (f : Facts) (k : ℕ) → ready f k ≡ true → f.on k ≡ None → (place_one f k).on k ≡ None → place f k ≡ None
+pub left_in_turn : (f : Facts) (k : ℕ) → ready f k ≡ true → f.on k ≡ None → (place_one f k).on k ≡ None → place f k ≡ None
 unfolding place_one
 left_in_turn f k r n e = pick (place f k) refl
   where
