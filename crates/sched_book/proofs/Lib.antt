@@ -1,3 +1,4 @@
 pub mod BookLemmas
 pub mod RowLemmas
 pub mod Counting
+pub mod RootLemmas

@@ -1,4 +1,5 @@
 pub mod Books
+pub mod Roots
 pub mod Settling
 pub mod Choices
 pub mod Effects

@@ -1,5 +1,5 @@
 //! The facts with the rows that are derived from them. They answer the policies' questions, and place ready keys.
-ghost use Rattle.std.specs.Prelude.{◌≡◌, ℕ, ◌+◌, ◌*◌, ◌<◌, ◌≤◌, ◌^◌, true, false, None, Some, IfOk, All, [], is_some, is_none, length, nat_le, unwrap_or};
+ghost use Rattle.std.specs.Prelude.{◌≡◌, ℕ, ◌+◌, ◌*◌, ◌<◌, ◌≤◌, ◌^◌, ◌&&◌, true, false, None, Some, IfOk, All, [], is_some, is_none, length, nat_le, unwrap_or};
 ghost use Rattle.std.specs.Option.{option_map};
 ghost use Rattle.cluster_rules.specs.Sched.{Facts as SchedFacts, Setting, IsSound, sched_opening, keys, known, blame, ready, connected};
 ghost use Rattle.cluster_rules.specs.Policies.{place};
@@ -10,6 +10,7 @@ ghost use Rattle.sched_facts.specs.Derived.{IsDerived};
 ghost use Rattle.sched_messages.specs.Posted.{taken_keys, posted_mail};
 ghost use Rattle.sched_book.specs.Choices.{steal_for, drop_for};
 ghost use Rattle.sched_book.specs.Effects.{IsChange};
+ghost use Rattle.sched_book.specs.Roots.{is_root, RootsWait};
 
 use crate::change::change;
 use crate::rows::Effect;
@@ -120,6 +121,21 @@ impl Book {
         self.rows.ready.test(key as usize)
     }
 
+    /// Whether the key has no dependencies.
+    fn is_root(&self, key: u32) -> bool
+        requires { key < keys (facts_of self.now) }
+        ensures { result ≡ is_root (facts_of self.now) key }
+    {
+        self.table().shape().deps(key).is_empty()
+    }
+
+    /// Whether the key is ready and on no worker.
+    fn is_left(&self, key: u32) -> bool
+        ensures { result ≡ (ready (facts_of self.now) key && is_none ((facts_of self.now).on key)) }
+    {
+        self.is_ready(key) & is_nowhere(self.table().on(key))
+    }
+
     /// The key, which is on no worker, is given to the worker under a new attempt.
     fn give(&mut self, key: u32, worker: u32)
         requires key { key < keys (facts_of self.old) }
@@ -171,19 +187,38 @@ impl Book {
         requires room { (facts_of self.old).counter < 2 ^ 62 }
         ensures { facts_of self.new ≡ place_one (facts_of self.old) key }
     {
-        let is_free = self.is_ready(key) & is_nowhere(self.table().on(key));
-        if is_free {
+        if self.is_left(key) {
             self.place_free(key);
         }
     }
 
-    /// Each ready key that is on no worker is placed, where it has a candidate, in ascending order.
+    /// The key's turn. It is passed over where it has no dependencies and such keys wait. Answers whether they wait from
+    /// here on: once one of them found no worker none finds one, since placing only fills workers.
+    fn take_turn(&mut self, key: u32, roots_wait: bool) -> bool
+        requires key { key < keys (facts_of self.old) }
+        requires room { (facts_of self.old).counter < 2 ^ 62 }
+        requires roots { roots_wait ≡ true → RootsWait (facts_of self.old) }
+        ensures placed { facts_of self.new ≡ place_one (facts_of self.old) key }
+        ensures roots { result ≡ true → RootsWait (facts_of self.new) }
+    {
+        let is_root = self.is_root(key);
+        let is_passed_over = roots_wait & is_root;
+        if is_passed_over {
+            return true;
+        }
+        self.place_key(key);
+        roots_wait | (is_root & self.is_left(key))
+    }
+
+    /// Each ready key that is on no worker is placed, where it has a candidate, in ascending order. The policy is asked once
+    /// for each key that is placed, and at most once more for a key without dependencies.
     pub fn place_ready(&mut self)
         requires { (facts_of self.old).counter + keys (facts_of self.old) < 2 ^ 62 }
         ensures { facts_of self.new ≡ place_all (facts_of self.old) }
     {
+        let mut roots_wait = false;
         for key in 0..self.table().keys() {
-            self.place_key(key);
+            roots_wait = self.take_turn(key, roots_wait);
         }
     }
 

@@ -4,3 +4,4 @@ pub mod BeforeLemmas
 pub mod CourseLemmas
 pub mod AfterLemmas
 pub mod PhaseLemmas
+pub mod FrontLemmas

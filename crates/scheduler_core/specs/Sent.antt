@@ -1,7 +1,5 @@
 -- What is to be sent.
-use Rattle.std.specs.Prelude.{◌≡◌, ℕ, List, [], ◌++◌}
-use Rattle.cluster_msgs.specs.declared.messages.Down.{Down}
-use Rattle.cluster_msgs.specs.declared.messages.ToClient.{ToClient}
+use Rattle.std.specs.Prelude.{◌≡◌, List, [], ◌++◌}
 use Rattle.cluster_msgs.specs.declared.cores.Outbox.{Outbox}
 use Rattle.cluster_rules.specs.SchedStep.{Stepped}
 
@@ -16,8 +14,15 @@ sent_by s = record { down = s.down; clients = s.clients; joined = s.joined }
 abbrev pub appended : Outbox → Outbox → Outbox
 appended o m = record { down = o.down ++ m.down; clients = o.clients ++ m.clients; joined = o.joined ++ m.joined }
 
--- each list has what it had, and maybe more after it
-pub record HasGrown (o n : Outbox) : Type 0 where
-  pub down : (front : List (ℕ × Down)) × (n.down ≡ o.down ++ front)
-  pub clients : (front : List (ℕ × ToClient)) × (n.clients ≡ o.clients ++ front)
-  pub joined : (front : List ℕ) × (n.joined ≡ o.joined ++ front)
+-- the list o with a front of the list m behind it
+pub record HasFront {A : Type 0} (o m n : List A) : Type 0 where
+  pub front : List A
+  pub rest : List A
+  pub whole : m ≡ front ++ rest
+  pub grown : n ≡ o ++ front
+
+-- each list of o has a front of the same list of m behind it
+pub record HasGrown (o m n : Outbox) : Type 0 where
+  pub down : HasFront o.down m.down n.down
+  pub clients : HasFront o.clients m.clients n.clients
+  pub joined : HasFront o.joined m.joined n.joined

@@ -33,7 +33,8 @@ pub struct Course {
     pub effect: Effect,
 }
 
-/// Carries an event out, and appends what is to be sent. After want of memory a front of each list may have been appended.
+/// Carries an event out, and appends what is to be sent. After want of memory a front of each of its lists was appended,
+/// maybe none of it.
 ///
 /// # Errors
 /// Where no memory is left. The setting stays as it is.
@@ -56,7 +57,7 @@ pub fn carry_out(
     ensures few { OnOk result (length (sched_step (facts_of book.old) event.now).down ≤ 3 * 2 ^ 20) }
     ensures out { OnOk result (out.new ≡ appended out.old (sent_by (sched_step (facts_of book.old) event.now))) }
     ensures setting { (facts_of book.new).setting ≡ (facts_of book.old).setting }
-    ensures err { OnErr result (HasGrown out.old out.new) }
+    ensures err { OnErr result (HasGrown out.old (sent_by (sched_step (facts_of book.old) event.now)) out.new) }
 {
     let mut made = Outbox::new(alloc);
     take(alloc, book, event, steal, drop, &mut made)?;

@@ -4,6 +4,7 @@ ghost use Rattle.cluster_rules.specs.Sched.{Facts as SchedFacts, sched_opening, 
 ghost use Rattle.cluster_rules.specs.SchedTable.{sched_takes};
 ghost use Rattle.cluster_rules.specs.SchedStep.{sched_step};
 ghost use Rattle.scheduler_laws.specs.Settled.{IsSettled};
+ghost use Rattle.scheduler_laws.specs.Attempts.{AttemptsEndForACause};
 ghost use Rattle.scheduler_core.specs.Cores.{facts, event_limit};
 ghost use Rattle.scheduler_core.specs.Sent.{appended, sent_by, HasGrown};
 
@@ -69,20 +70,23 @@ impl Sched {
 
     /// Takes an event, also one that no honest peer sends, and appends what is to be sent to the lists of `out`: to
     /// connected workers by ascending worker, to each first what it lost, then its new tasks, then its answer; to clients
-    /// by ascending client and key, then the answer to a client; and the number of a worker that joined.
+    /// by ascending client and key, then the answer to a client; and the number of a worker that joined. A key keeps its
+    /// worker and its attempt, unless the event ends the attempt: by its finish, its error, the worker's yes to a steal,
+    /// the worker's leaving, or a free-keys to it.
     ///
     /// # Errors
-    /// `Memory` where no memory is left: the core has stopped then, and answers so to every later event; a front of the
-    /// event's messages may stand in each list of `out`. Else `Spent` exactly where the core has taken 2^40 events. Else
-    /// `Refused` exactly where the worker is not connected, the client is not there, a key is out of range, Balance or
-    /// Evict has no choice, or Join names no thread or more than 16, or meets the limits of 64 connected workers or of
-    /// 1,024 numbers. After the latter two all is as before.
+    /// `Memory` where no memory is left: the core has stopped then, and answers so to every later event, and each list of
+    /// `out` has a front of the event's own messages behind what it had, maybe none. Else `Spent` exactly where the core
+    /// has taken 2^40 events. Else `Refused` exactly where the worker is not connected, the client is not there, a key is
+    /// out of range, Balance or Evict has no choice, or Join names no thread or more than 16, or meets the limits of 64
+    /// connected workers or of 1,024 numbers. After the latter two all is as before.
     pub fn on(&mut self, event: SchedEvent, out: &mut Outbox) -> Result<(), Stop>
         // The event is taken: the facts, what is to be sent, and what is counted.
         ensures facts { OnOk result (facts self.new ≡ (sched_step (facts self.old) event).facts) }
         ensures out { OnOk result (out.new ≡ appended out.old (sent_by (sched_step (facts self.old) event))) }
         ensures taken { OnOk result (self.new.taken ≡ self.old.taken + 1) }
         ensures runs { OnOk result (self.new.stopped ≡ false) }
+        ensures attempts { OnOk result (AttemptsEndForACause (facts self.old) event (facts self.new)) }
         ensures possible { OnOk result ((self.old.stopped ≡ false) × (self.old.taken < event_limit) × (sched_takes (facts self.old) event ≡ true)) }
 
         // Refused and spent.
@@ -95,7 +99,7 @@ impl Sched {
 
         // Want of memory stops the core for good.
         ensures memory { result ≡ Err Stop.Memory → self.new.stopped ≡ true }
-        ensures memory_out { result ≡ Err Stop.Memory → HasGrown out.old out.new }
+        ensures memory_out { result ≡ Err Stop.Memory → self.old.stopped ≡ false → HasGrown out.old (sent_by (sched_step (facts self.old) event)) out.new }
         ensures stopped { self.old.stopped ≡ true → result ≡ Err Stop.Memory }
         ensures stopped_core { self.old.stopped ≡ true → self.new ≡ self.old }
         ensures stopped_out { self.old.stopped ≡ true → out.new ≡ out.old }

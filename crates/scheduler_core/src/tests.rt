@@ -1,17 +1,94 @@
 use crate::Sched;
-use cluster_msgs::{Down, FromClient, GraphShape, KeyList, Outbox, Phase, SchedEvent, Stop, Up};
+use cluster_msgs::{
+    Down, FromClient, GraphShape, KeyList, Outbox, Phase, SchedEvent, Stop, ToClient, Up,
+};
+use cluster_rules::Facts;
 use std::alloc::{AllocError, Global};
 use std::process::Abort;
 use std::test::Fail;
 
-/// The scheduler of three keys of 80 bytes without dependencies.
-fn of_three(alloc: Global) -> Result<Sched, AllocError> {
+/// What the tests ask of a core. It has no contracts, so that the tests' own proofs stay short.
+trait Core {
+    fn take(&mut self, event: SchedEvent, out: &mut Outbox) -> Result<(), Stop>;
+
+    fn is_in(&self, key: u32, phase: Phase) -> bool;
+
+    fn has(&self, worker: u32, key: u32) -> bool;
+
+    fn finished(&self) -> u64;
+
+    fn knows(&self, key: u32) -> bool;
+}
+
+impl Core for Sched {
+    fn take(&mut self, event: SchedEvent, out: &mut Outbox) -> Result<(), Stop> {
+        self.on(event, out)
+    }
+
+    fn is_in(&self, key: u32, phase: Phase) -> bool {
+        key < self.keys() && self.phase(key) == phase
+    }
+
+    fn has(&self, worker: u32, key: u32) -> bool {
+        key < self.keys() && self.holds(worker, key)
+    }
+
+    fn finished(&self) -> u64 {
+        self.finishes()
+    }
+
+    fn knows(&self, key: u32) -> bool {
+        self.known(key)
+    }
+}
+
+/// What happens in a test.
+#[derive(Clone, Copy)]
+enum Story {
+    LateNews,
+    Steal,
+    OnlyHolder,
+    SecondHolder,
+    Spare,
+    Refusals,
+}
+
+/// Adds a key without dependencies.
+fn push_alone(alloc: Global, shape: &mut GraphShape) -> Result<(), AllocError> {
+    shape.sound();
     let none = KeyList::new(alloc);
+    if shape.keys() < 32768 {
+        shape.push(&none, 80, 80)?;
+    }
+    Ok(())
+}
+
+/// Adds a key that depends on key 0.
+fn push_fed(alloc: Global, shape: &mut GraphShape) -> Result<(), AllocError> {
+    let mut first = KeyList::new(alloc);
+    first.push(0)?;
+    if 0 < shape.keys() && shape.keys() < 32768 && shape.edges() < 262144 {
+        shape.push(&first, 80, 80)?;
+    }
+    Ok(())
+}
+
+/// Three keys of 80 bytes; the last depends on the first, where it is said.
+fn three_keys(alloc: Global, depends: bool) -> Result<GraphShape, AllocError> {
     let mut shape = GraphShape::new(alloc);
-    shape.push(&none, 80, 80)?;
-    shape.push(&none, 80, 80)?;
-    shape.push(&none, 80, 80)?;
-    Sched::new(alloc, shape, 1, 11)
+    push_alone(alloc, &mut shape)?;
+    push_alone(alloc, &mut shape)?;
+    if depends {
+        push_fed(alloc, &mut shape)?;
+    } else {
+        push_alone(alloc, &mut shape)?;
+    }
+    Ok(shape)
+}
+
+/// The scheduler of three keys, with one client and a saturation of 1.1.
+fn of_three(alloc: Global, depends: bool) -> Result<Sched, AllocError> {
+    Sched::new(alloc, three_keys(alloc, depends)?, 1, 11)
 }
 
 fn keys(alloc: Global, named: &[u32]) -> KeyList {
@@ -22,77 +99,274 @@ fn keys(alloc: Global, named: &[u32]) -> KeyList {
 }
 
 /// Takes the event, which is possible.
-fn take(rt: &impl Abort, sched: &mut Sched, event: SchedEvent, out: &mut Outbox) {
-    sched.on(event, out).expect(rt, "the event is taken");
+fn take(rt: &impl Abort, core: &mut impl Core, event: SchedEvent, out: &mut Outbox) {
+    core.take(event, out).expect(rt, "the event is taken");
 }
 
-/// What the core answers to the event.
-fn answer(sched: &mut Sched, event: SchedEvent, out: &mut Outbox) -> Result<(), Stop> {
-    sched.on(event, out)
+fn join(rt: &impl Abort, core: &mut impl Core, out: &mut Outbox) {
+    take(rt, core, SchedEvent::Join { threads: 1 }, out);
 }
 
-fn join(rt: &impl Abort, sched: &mut Sched, out: &mut Outbox) {
-    take(rt, sched, SchedEvent::Join { threads: 1 }, out);
+fn leave(rt: &impl Abort, core: &mut impl Core, w: u32, out: &mut Outbox) {
+    take(rt, core, SchedEvent::Leave { w }, out);
 }
 
-fn want(rt: &impl Abort, alloc: Global, sched: &mut Sched, named: &[u32], out: &mut Outbox) {
-    let msg = FromClient::Want {
-        keys: keys(alloc, named),
-    };
-    take(rt, sched, SchedEvent::FromClient { c: 1, msg }, out);
+fn from_client(rt: &impl Abort, core: &mut impl Core, msg: FromClient, out: &mut Outbox) {
+    take(rt, core, SchedEvent::FromClient { c: 1, msg }, out);
 }
 
-fn finish(rt: &impl Abort, sched: &mut Sched, w: u32, key: u32, attempt: u64, out: &mut Outbox) {
-    let up = Up::TaskFinished {
+fn want(rt: &impl Abort, alloc: Global, core: &mut impl Core, named: &[u32], out: &mut Outbox) {
+    let keys = keys(alloc, named);
+    from_client(rt, core, FromClient::Want { keys }, out);
+}
+
+fn release(rt: &impl Abort, alloc: Global, core: &mut impl Core, named: &[u32], out: &mut Outbox) {
+    let keys = keys(alloc, named);
+    from_client(rt, core, FromClient::Release { keys }, out);
+}
+
+fn from_worker(rt: &impl Abort, core: &mut impl Core, w: u32, up: Up, out: &mut Outbox) {
+    take(rt, core, SchedEvent::FromWorker { w, up }, out);
+}
+
+fn finish(rt: &impl Abort, core: &mut impl Core, w: u32, key: u32, attempt: u64, out: &mut Outbox) {
+    let seen = 0;
+    from_worker(rt, core, w, Up::TaskFinished { seen, key, attempt }, out);
+}
+
+/// The worker says that it holds key 0, after it saw so many messages.
+fn add(rt: &impl Abort, alloc: Global, core: &mut impl Core, w: u32, seen: u64, out: &mut Outbox) {
+    let keys = keys(alloc, &[0]);
+    from_worker(rt, core, w, Up::AddKeys { seen, keys }, out);
+}
+
+/// Worker 1 answers to the request for the key.
+fn answer(
+    rt: &impl Abort,
+    core: &mut impl Core,
+    key: u32,
+    attempt: u64,
+    yes: bool,
+    out: &mut Outbox,
+) {
+    let up = Up::StealResponse {
         seen: 0,
         key,
         attempt,
+        yes,
     };
-    take(rt, sched, SchedEvent::FromWorker { w, up }, out);
+    from_worker(rt, core, 1, up, out);
+}
+
+/// The key and the attempt of a task that is given.
+fn task(down: &Down) -> Option<(u32, u64)> {
+    match down {
+        Down::ComputeTask { key, attempt, .. } => Some((*key, *attempt)),
+        _ => None,
+    }
+}
+
+/// The key and the attempt of a task that is asked back.
+fn asked_back(down: &Down) -> Option<(u32, u64)> {
+    match down {
+        Down::StealRequest { key, attempt } => Some((*key, *attempt)),
+        _ => None,
+    }
 }
 
 /// Whether the message at this place gives the worker the key under this attempt.
 fn gives(out: &Outbox, place: usize, worker: u32, key: u32, attempt: u64) -> bool {
     match out.down.as_slice().get(place) {
-        Some(
-            (
-                to,
-                Down::ComputeTask {
-                    key: told,
-                    attempt: under,
-                    ..
-                },
-            ),
-        ) => *to == worker && *told == key && *under == attempt,
+        Some((to, down)) => *to == worker && task(down) == Some((key, attempt)),
+        None => false,
+    }
+}
+
+/// Whether the message at this place asks the worker for the key under this attempt.
+fn asks_back(out: &Outbox, place: usize, worker: u32, key: u32, attempt: u64) -> bool {
+    match out.down.as_slice().get(place) {
+        Some((to, down)) => *to == worker && asked_back(down) == Some((key, attempt)),
+        None => false,
+    }
+}
+
+fn is_key_0(keys: &KeyList) -> bool {
+    keys.as_slice() == [0].as_slice()
+}
+
+/// Whether the message at this place takes key 0 away from the worker.
+fn takes_away(out: &Outbox, place: usize, worker: u32) -> bool {
+    match out.down.as_slice().get(place) {
+        Some((to, Down::FreeKeys { keys })) => *to == worker && is_key_0(keys),
+        Some((to, Down::RemoveReplicas { keys })) => *to == worker && is_key_0(keys),
         _ => false,
     }
 }
 
-#[test]
-fn a_wanted_key_is_given_to_the_worker_and_finished(rt: HostRuntime) -> Result<(), Fail> {
-    let alloc = rt.alloc();
+/// Worker 1 alone finishes all three keys, key 0 last.
+fn finish_three(rt: &impl Abort, alloc: Global, core: &mut impl Core, out: &mut Outbox) {
+    want(rt, alloc, core, &[1, 2], out);
+    join(rt, core, out);
+    finish(rt, core, 1, 1, 1, out);
+    finish(rt, core, 1, 2, 2, out);
+    want(rt, alloc, core, &[0], out);
+    finish(rt, core, 1, 0, 5, out);
+}
+
+/// Key 0 is freed at worker 1. Wanted again, it is given to worker 2, which holds less, and finished there.
+fn finish_again(rt: &impl Abort, alloc: Global, core: &mut impl Core, out: &mut Outbox) {
+    join(rt, core, out);
+    release(rt, alloc, core, &[0], out);
+    want(rt, alloc, core, &[0], out);
+    finish(rt, core, 2, 0, 7, out);
+}
+
+/// Worker 1's news from before the fence makes it no holder; later news does.
+fn tell_late(rt: &impl Abort, alloc: Global, core: &mut impl Core, out: &mut Outbox) {
+    add(rt, alloc, core, 1, 3, out);
+    assert!(rt; !core.has(1, 0) && core.has(2, 0));
+    add(rt, alloc, core, 1, 4, out);
+    assert!(rt; core.has(1, 0) && out.down.len() == 5);
+}
+
+fn tell_late_news(rt: &impl Abort, alloc: Global, core: &mut impl Core, out: &mut Outbox) {
+    finish_three(rt, alloc, core, out);
+    finish_again(rt, alloc, core, out);
+    assert!(rt; takes_away(out, 3, 1) && gives(out, 4, 2, 0, 7));
+    assert_eq!(rt; core.finished(), 4);
+    tell_late(rt, alloc, core, out);
+}
+
+/// Worker 1 alone has keys 0 and 1; worker 2 joins and finishes key 2.
+fn load(rt: &impl Abort, alloc: Global, core: &mut impl Core, out: &mut Outbox) {
+    want(rt, alloc, core, &[0, 1, 2], out);
+    join(rt, core, out);
+    assert!(rt; core.is_in(1, Phase::Processing) && core.is_in(2, Phase::Queued));
+    join(rt, core, out);
+    finish(rt, core, 2, 2, 3, out);
+}
+
+/// Worker 1 refuses to give key 0 back, and agrees to give key 1 back.
+fn steal(rt: &impl Abort, core: &mut impl Core, out: &mut Outbox) {
+    take(rt, core, SchedEvent::Balance, out);
+    answer(rt, core, 0, 1, false, out);
+    take(rt, core, SchedEvent::Balance, out);
+    answer(rt, core, 1, 2, true, out);
+}
+
+fn tell_steals(rt: &impl Abort, alloc: Global, core: &mut impl Core, out: &mut Outbox) {
+    load(rt, alloc, core, out);
+    steal(rt, core, out);
+    assert!(rt; gives(out, 1, 1, 1, 2) && asks_back(out, 3, 1, 0, 1));
+    assert!(rt; asks_back(out, 4, 1, 1, 2) && gives(out, 5, 2, 1, 5));
+    assert_eq!(rt; out.down.len(), 6);
+}
+
+/// Key 0 is held by worker 1, and worker 2 has joined.
+fn held_by_one(rt: &impl Abort, alloc: Global, core: &mut impl Core, out: &mut Outbox) {
+    join(rt, core, out);
+    want(rt, alloc, core, &[0], out);
+    finish(rt, core, 1, 0, 1, out);
+    join(rt, core, out);
+}
+
+fn lose_the_only_holder(rt: &impl Abort, alloc: Global, core: &mut impl Core, out: &mut Outbox) {
+    held_by_one(rt, alloc, core, out);
+    leave(rt, core, 1, out);
+    let lost = out.clients.as_slice().get(1);
+    assert!(rt; lost == Some(&(1, ToClient::LostData { key: 0 })));
+    assert!(rt; gives(out, 1, 2, 0, 3));
+}
+
+fn lose_a_second_holder(rt: &impl Abort, alloc: Global, core: &mut impl Core, out: &mut Outbox) {
+    held_by_one(rt, alloc, core, out);
+    add(rt, alloc, core, 2, 0, out);
+    leave(rt, core, 1, out);
+    assert!(rt; out.down.len() == 1 && out.clients.len() == 1);
+    assert!(rt; core.is_in(0, Phase::Memory));
+}
+
+/// Worker 1 finishes key 0, which key 2 waits for, and worker 2 key 1. Then three workers hold key 0.
+fn hold_three_times(rt: &impl Abort, alloc: Global, core: &mut impl Core, out: &mut Outbox) {
+    want(rt, alloc, core, &[1, 2], out);
+    finish(rt, core, 1, 0, 1, out);
+    finish(rt, core, 2, 1, 2, out);
+    add(rt, alloc, core, 2, 9, out);
+    add(rt, alloc, core, 3, 9, out);
+}
+
+fn drop_what_is_to_spare(rt: &impl Abort, alloc: Global, core: &mut impl Core, out: &mut Outbox) {
+    join(rt, core, out);
+    join(rt, core, out);
+    join(rt, core, out);
+    hold_three_times(rt, alloc, core, out);
+    take(rt, core, SchedEvent::Evict, out);
+    assert!(rt; takes_away(out, 3, 2) && !core.has(2, 0));
+    assert_eq!(rt; core.take(SchedEvent::Evict, out), Err(Stop::Refused));
+}
+
+fn refuse(rt: &impl Abort, alloc: Global, core: &mut impl Core, out: &mut Outbox) {
+    let left = SchedEvent::Leave { w: 9 };
+    assert_eq!(rt; core.take(left, out), Err(Stop::Refused));
+    let keys = keys(alloc, &[7]);
+    let msg = FromClient::Want { keys };
+    let unknown = SchedEvent::FromClient { c: 1, msg };
+    assert_eq!(rt; core.take(unknown, out), Err(Stop::Refused));
+    assert!(rt; !core.knows(0));
+}
+
+fn play(rt: &impl Abort, alloc: Global, story: Story, core: &mut impl Core, out: &mut Outbox) {
+    match story {
+        Story::LateNews => tell_late_news(rt, alloc, core, out),
+        Story::Steal => tell_steals(rt, alloc, core, out),
+        Story::OnlyHolder => lose_the_only_holder(rt, alloc, core, out),
+        Story::SecondHolder => lose_a_second_holder(rt, alloc, core, out),
+        Story::Spare => drop_what_is_to_spare(rt, alloc, core, out),
+        Story::Refusals => refuse(rt, alloc, core, out),
+    }
+}
+
+/// Plays the story with a core of its own, in which the last of three keys depends on the first where it is said. It
+/// alone owns a core, since a proof pays for each owner.
+fn run(rt: &impl Abort, alloc: Global, story: Story, depends: bool) -> Result<(), AllocError> {
+    let mut core = of_three(alloc, depends)?;
     let mut out = Outbox::new(alloc);
-    let mut sched = of_three(alloc)?;
-    join(&rt, &mut sched, &mut out);
-    want(&rt, alloc, &mut sched, &[0], &mut out);
-    finish(&rt, &mut sched, 1, 0, 1, &mut out);
-    assert!(rt; gives(&out, 0, 1, 0, 1));
-    assert_eq!(rt; sched.phase(0), Phase::Memory);
+    play(rt, alloc, story, &mut core, &mut out);
+    Ok(())
+}
+
+#[test]
+fn news_from_before_the_fence_makes_no_holder(rt: HostRuntime) -> Result<(), Fail> {
+    run(&rt, rt.alloc(), Story::LateNews, false)?;
+    Ok(())
+}
+
+#[test]
+fn a_thief_has_the_key_once_its_victim_agreed(rt: HostRuntime) -> Result<(), Fail> {
+    run(&rt, rt.alloc(), Story::Steal, false)?;
+    Ok(())
+}
+
+#[test]
+fn a_key_whose_only_holder_leaves_is_given_anew(rt: HostRuntime) -> Result<(), Fail> {
+    run(&rt, rt.alloc(), Story::OnlyHolder, false)?;
+    Ok(())
+}
+
+#[test]
+fn a_key_with_a_second_holder_stays(rt: HostRuntime) -> Result<(), Fail> {
+    run(&rt, rt.alloc(), Story::SecondHolder, false)?;
+    Ok(())
+}
+
+#[test]
+fn a_replica_to_spare_goes_where_most_is_held(rt: HostRuntime) -> Result<(), Fail> {
+    run(&rt, rt.alloc(), Story::Spare, true)?;
     Ok(())
 }
 
 #[test]
 fn nobody_and_nothing_is_refused(rt: HostRuntime) -> Result<(), Fail> {
-    let alloc = rt.alloc();
-    let mut out = Outbox::new(alloc);
-    let mut sched = of_three(alloc)?;
-    let left = SchedEvent::Leave { w: 9 };
-    assert_eq!(rt; answer(&mut sched, left, &mut out), Err(Stop::Refused));
-    let msg = FromClient::Want {
-        keys: keys(alloc, &[7]),
-    };
-    let unknown = SchedEvent::FromClient { c: 1, msg };
-    assert_eq!(rt; answer(&mut sched, unknown, &mut out), Err(Stop::Refused));
-    assert!(rt; !sched.known(0) && sched.blame(0).is_none());
+    run(&rt, rt.alloc(), Story::Refusals, false)?;
     Ok(())
 }

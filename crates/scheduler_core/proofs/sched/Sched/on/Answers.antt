@@ -2,6 +2,8 @@ use Rattle.std.proofs.Common.{◌≡◌, ◌<◌, ◌+◌, true, false, subst, s
 use Rattle.cluster_rules.specs.Sched.{Facts, keys}
 use Rattle.cluster_rules.specs.SchedTable.{sched_takes}
 use Rattle.sched_facts.specs.Stored.{Stored, facts_of}
+use Rattle.scheduler_laws.specs.Attempts.{AttemptsEndForACause}
+use Rattle.scheduler_laws.proofs.Attempts.{attempts_end}
 use Rattle.scheduler_core.specs.Inner.{IsAfter}
 use Rattle.scheduler_core.proofs.AfterLemmas.{after_more, room_left, sent_left}
 use Rattle.scheduler_core.proofs.sched.Sched.on.Goals as goal
@@ -27,3 +29,9 @@ invariant_of-self c =
       limit = omega (arith, c.if-self-ge-EVENT_LIMIT.false);
       after = λ e. subst (λ (z : Facts). IsAfter z (n + 1)) (sym c.in-Ok.ensures.facts) (after_more f c.args.event n c.sound.ensures h c.in-Ok.ensures.few (c.self.invariant.after c.if-self.false));
     }
+
+pub returns-in-Ok-clause-attempts : goal.returns-in-Ok-clause-attempts
+returns-in-Ok-clause-attempts c =
+    let f = facts_of c.self.inside.book in
+    let h : sched_takes f c.args.event ≡ true = ap (λ (z : Stored). sched_takes (facts_of z) c.args.event) (sym c.table.ensures) ∙ sym c.takes.ensures ∙ c.if-not-takes.false in
+    rw (← c.self.view_is) (subst (λ (z : Facts). AttemptsEndForACause f c.args.event z) (sym c.in-Ok.ensures.facts) (attempts_end f c.args.event c.sound.ensures h))
