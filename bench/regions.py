@@ -150,13 +150,6 @@ def build(folder):
     with open('crates.txt') as have, open(os.path.join(copy, 'crates.txt'), 'w') as out:
         out.write(have.read() + 'bench_regions: io_edge nd_shape npy_codec npy_region\n')
     crate = os.path.join(copy, 'crates', 'bench_regions')
-    subprocess.run(['rt', 'new', crate, 'start_io'], check=True, stdout=subprocess.DEVNULL)
-    for name in ('src', 'proofs', 'specs', 'stdin', 'stdout', 'BUILD.bazel'):
-        path = os.path.join(crate, name)
-        if os.path.isdir(path):
-            shutil.rmtree(path)
-        elif os.path.exists(path):
-            os.remove(path)
     os.makedirs(os.path.join(crate, 'src'))
     with open(os.path.join(crate, 'src', 'main.rt'), 'w') as out:
         out.write(MAIN)
