@@ -1,6 +1,7 @@
 //! The client's core: events in, instructions out.
-ghost use Rattle.std.specs.Prelude.{◌≡◌, ◌↔◌, ◌-◌, ◌^◌, Err, IfOk, OnOk, OnErr, true, false, min};
+ghost use Rattle.std.specs.Prelude.{◌≡◌, ◌↔◌, ◌-◌, ◌^◌, ◌≤◌, ℕ, Err, IfOk, OnOk, OnErr, true, false, min};
 ghost use Rattle.std.specs.Option.{option_map};
+ghost use Rattle.cluster_msgs.specs.Shape.{key_count};
 ghost use Rattle.cluster_rules.specs.Worker.{ask_to};
 ghost use Rattle.cluster_rules.specs.Client.{new_client, done, client_would_ask, client_pairs};
 ghost use Rattle.gather_client.specs.CoreState.{client_facts, IsTaken, IsRefused, IsSpent};
@@ -106,6 +107,20 @@ impl ClientCore {
         ensures { self.now.stopped ≡ false → KeysKept (client_facts self.now) }
     {
         let _table = &self.table;
+    }
+
+    /// A client has got keys of its graph alone.
+    pub fn inside(&self)
+        ensures { (k : ℕ) → key_count (client_facts self.now).shape ≤ k → (client_facts self.now).got k ≡ false }
+    {
+        self.table.inside();
+    }
+
+    /// Whether the client has got the key's block.
+    pub fn has_got(&self, key: u32) -> bool
+        ensures { result ≡ (client_facts self.now).got key }
+    {
+        self.table.has_got(key)
     }
 
     /// How the key ended: `Got` where its block came, else `Erred` where the scheduler said so. `None` where neither.

@@ -1,7 +1,7 @@
 //! The stored facts of a client. Each call changes one fact, or answers one.
 #![tactic(auto, unfolding(crate::specs::Stored::facts_of))]
 
-ghost use Rattle.std.specs.Prelude.{◌≡◌, ◌==◌, ◌&&◌, ◌+◌, ◌<◌, ◌^◌, ℕ, true, false, None, Some, [], not, is_some, length, All, IfOk, IfSome, OnOk, OnErr};
+ghost use Rattle.std.specs.Prelude.{◌≡◌, ◌==◌, ◌&&◌, ◌+◌, ◌<◌, ◌≤◌, ◌^◌, ℕ, true, false, None, Some, [], not, is_some, length, All, IfOk, IfSome, OnOk, OnErr};
 ghost use Rattle.std.specs.Option.{option_map};
 ghost use Rattle.std.specs.List.{list_any};
 ghost use Rattle.cluster_msgs.specs.Shape.{IsShape, key_count};
@@ -77,6 +77,13 @@ impl ClientTable {
         ensures { IsShape (facts_of self.now).shape }
     {
         let _shape = &self.shape;
+    }
+
+    /// A client has got keys of its graph alone.
+    pub fn inside(&self)
+        ensures { (k : ℕ) → key_count (facts_of self.now).shape ≤ k → (facts_of self.now).got k ≡ false }
+    {
+        let _got = &self.got;
     }
 
     /// The allocator of all that is stored.

@@ -1,5 +1,5 @@
 //! What stands at a node for a key: a block, say, or the inputs of a task that runs.
-ghost use Rattle.std.specs.Prelude.{◌≡◌, ◌<◌, ◌+◌, ◌==◌, ◌++◌, ◌∷◌, Option, None, Some, [], cond, length, IfOk, OnOk, OnErr, ℕ};
+ghost use Rattle.std.specs.Prelude.{◌≡◌, ◌<◌, ◌≤◌, ◌+◌, ◌==◌, ◌++◌, ◌∷◌, Option, None, Some, [], cond, length, IfOk, OnOk, OnErr, ℕ};
 ghost use Rattle.std.specs.Option.{option_copied};
 ghost use Rattle.cluster_rules.specs.Functions.{put, put_pair};
 ghost use Rattle.fact_rows.specs.Rows.{read, cell, width, height};
@@ -100,6 +100,13 @@ impl<T: Drop> Shelf<T> {
             rows: Vec::new(alloc),
             keys,
         }
+    }
+
+    /// Past its keys nothing stands at a node.
+    pub fn sound(&self)
+        ensures { (w k : ℕ) → width self.now ≤ k → cell self.now None w k ≡ None }
+    {
+        let _rows = &self.rows;
     }
 
     /// One more node, with nothing at it.

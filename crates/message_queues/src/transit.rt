@@ -111,6 +111,13 @@ impl<B: Drop> Transits<B> {
         self.items.len()
     }
 
+    /// All that is under way, in its order.
+    pub fn as_slice(&self) -> &[InTransit<B>]
+        ensures { result.now ≡ self.now }
+    {
+        self.items.as_slice()
+    }
+
     /// What belongs to this ask, if it is under way.
     pub fn find(&self, asker: Asker, peer: u32, ask: u64) -> Option<&InTransit<B>>
         ensures { option_copied result ≡ transit_of asker peer ask self.now }

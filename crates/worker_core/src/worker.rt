@@ -1,7 +1,8 @@
 //! The core of a worker.
 #![tactic(auto)]
 
-ghost use Rattle.std.specs.Prelude.{◌≡◌, ◌↔◌, ◌++◌, ◌+◌, ◌<◌, ◌≤◌, ◌-◌, ◌^◌, List, false, true, min, IfOk, OnOk, OnErr};
+ghost use Rattle.std.specs.Prelude.{◌≡◌, ◌↔◌, ◌++◌, ◌+◌, ◌<◌, ◌≤◌, ◌-◌, ◌^◌, ℕ, List, false, true, min, IfOk, OnOk, OnErr};
+ghost use Rattle.cluster_msgs.specs.Shape.{key_count};
 ghost use Rattle.cluster_msgs.specs.declared.cores.Instruction.{Instruction};
 ghost use Rattle.std.specs.Option.{option_map};
 ghost use Rattle.cluster_rules.specs.Worker.{new_worker, wstate, would_start, would_ask, ask_to, pairs};
@@ -123,6 +124,14 @@ impl WorkerCore {
         ensures runs { self.now.stopped ≡ false → RunsFew (facts self.now) }
     {
         let _table = &self.table;
+    }
+
+    /// A worker holds and runs keys of its graph alone.
+    pub fn inside(&self)
+        ensures mem { (k : ℕ) → key_count (facts self.now).shape ≤ k → (facts self.now).mem k ≡ false }
+        ensures running { (k : ℕ) → key_count (facts self.now).shape ≤ k → (facts self.now).running k ≡ false }
+    {
+        self.table.inside();
     }
 
     /// The state of a key. It is `Forgotten` where there is no such key.

@@ -102,6 +102,14 @@ impl WorkerTable {
         let _shape = &self.shape;
     }
 
+    /// A worker holds and runs keys of its graph alone.
+    pub fn inside(&self)
+        ensures mem { (k : ℕ) → key_count (facts_of self.now).shape ≤ k → (facts_of self.now).mem k ≡ false }
+        ensures running { (k : ℕ) → key_count (facts_of self.now).shape ≤ k → (facts_of self.now).running k ≡ false }
+    {
+        let _mem = &self.mem;
+    }
+
     /// The number of keys.
     pub fn keys(&self) -> u32
         ensures { result ≡ key_count (facts_of self.now).shape }
