@@ -19,3 +19,6 @@ pub mod table;
 pub use derived::{DerivedRows, refill};
 pub use store::FactStore;
 pub use table::FactTable;
+
+#[cfg(test)]
+mod tests;

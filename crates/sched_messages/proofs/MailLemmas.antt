@@ -1,19 +1,20 @@
 -- Lists of messages, key by key.
 use Rattle.std.proofs.Common.{◌≡◌, ℕ, zero, suc, ◌<◌, ◌≤◌, ◌+◌, Bool, true, false, ◌&&◌, ◌||◌, cond, List, [], ◌∷◌, ◌++◌, Option, Some, None, refl, sym, ap, ◌∙◌, arith, length, get_or, take, append-nil}
 use Rattle.std.proofs.Math.Dec.{eqb}
-use Rattle.std.specs.Prelude.{nat_le, ◌==◌}
+use Rattle.std.specs.Prelude.{nat_le}
 use Rattle.std.specs.List.{filter, filter_map, flat_map, cons_option, list_any, range_with_len}
-use Rattle.std.proofs.lemmas.Bool.{or_parts, or_from, and_left, and_right, cond-false}
+use Rattle.std.proofs.lemmas.Bool.{and_right, cond-false}
 use Rattle.std.proofs.lemmas.Bool.Decides.{nat_tests}
 use Rattle.std.proofs.lemmas.List.{take_more}
 use Rattle.std.proofs.lemmas.List.Elements.{filter_map-append}
 use Rattle.std.proofs.lemmas.List.Folds.{list_any_more}
-use Rattle.cluster_rules.specs.Derived.{below}
-use Rattle.cluster_rules.specs.Sched.{Facts}
-use Rattle.cluster_rules.specs.SchedStep.{task_message}
+use Rattle.cluster_rules.specs.Derived.{below, is_in}
+use Rattle.cluster_rules.specs.Sched.{Facts, keys, connected, workers}
+use Rattle.cluster_rules.specs.SchedStep.{task_message, task_messages, free_message, all_to}
 use Rattle.cluster_rules.proofs.DerivedLemmas.{range_more}
 use Rattle.cluster_rules.proofs.SchedLemmas.{flat_map-append}
-use Rattle.sched_messages.specs.Mail.{has_pair, is_since}
+use Rattle.sched_messages.specs.declared.answer.Answer.{Answer}
+use Rattle.sched_messages.specs.Mail.{has_pair, is_since, lost_by, mail_by, worker_mail, answer_of}
 
 agree_from : (p q : ℕ → Bool) (a n : ℕ) → ((k : ℕ) → a ≤ k → k < a + n → p k ≡ q k) → filter p (range_with_len a n) ≡ filter q (range_with_len a n)
 agree_from p q a zero h = refl
@@ -29,25 +30,19 @@ pub filter_none : (p : ℕ → Bool) (xs : List ℕ) → ((k : ℕ) → p k ≡ 
 filter_none p [] h = refl
 filter_none p (x ∷ xs) h = ap (λ b. cond b (x ∷ filter p xs) (filter p xs)) (h x) ∙ filter_none p xs h
 
--- who lost nothing has no pair
-pub no_pair : (ps : List (ℕ × ℕ)) (w : ℕ) → list_any (λ p. p.0 == w) ps ≡ false → (k : ℕ) → has_pair ps w k ≡ false
-no_pair [] w h k = refl
-no_pair (p ∷ ps) w h k =
-    let e = or_parts (eqb p.0 w) (list_any (λ (q : ℕ × ℕ). q.0 == w) ps) h in
-    or_from (eqb p.0 w && eqb p.1 k) (has_pair ps w k) (and_left (eqb p.0 w) (eqb p.1 k) e.0) (no_pair ps w e.1 k)
+-- an empty list has no key
+pub none_in : (ks : List ℕ) → length ks ≡ 0 → (k : ℕ) → is_in k ks ≡ false
+none_in [] e k = refl
+none_in (j ∷ ks) e k = grind arith
 
 or_assoc : (a b c : Bool) → ((a || b) || c) ≡ (a || (b || c))
 or_assoc true b c = refl
 or_assoc false b c = refl
 
--- one more pair is marked
-pub lost_more : (base old new : ℕ → Bool) (ps : List (ℕ × ℕ)) (i w n : ℕ) (d : ℕ × ℕ) → i < length ps
-    → ((k : ℕ) → k < n → old k ≡ (base k || has_pair (take i ps) w k))
-    → ((k : ℕ) → k < n → new k ≡ (old k || ((get_or ps i d).0 == w && (get_or ps i d).1 == k)))
-    → (k : ℕ) → k < n → new k ≡ (base k || has_pair (take (i + 1) ps) w k)
-lost_more base old new ps i w n d l was now k h =
-    let t = (get_or ps i d).0 == w && (get_or ps i d).1 == k in
-    now k h ∙ ap (λ b. b || t) (was k h) ∙ or_assoc (base k) (has_pair (take i ps) w k) t ∙ ap (λ b. base k || b) (sym (list_any_more (λ (p : ℕ × ℕ). p.0 == w && p.1 == k) ps i d l))
+-- one more member is seen
+pub any_more : {A : Type 0} (p : A → Bool) (base old new : Bool) (xs : List A) (i : ℕ) (d : A) → i < length xs → old ≡ (base || list_any p (take i xs)) → new ≡ (old || p (get_or xs i d)) → new ≡ (base || list_any p (take (i + 1) xs))
+any_more p base old new xs i d l was now =
+    now ∙ ap (λ b. b || p (get_or xs i d)) was ∙ or_assoc base (list_any p (take i xs)) (p (get_or xs i d)) ∙ ap (λ b. base || b) (sym (list_any_more p xs i d l))
 
 -- one more member of a list that is mapped and filtered
 pub filter_map_more : {A B : Type 0} (h : A → Option B) (xs : List A) (i : ℕ) (d : A) → i < length xs → filter_map h (take (i + 1) xs) ≡ filter_map h (take i xs) ++ cons_option (h (get_or xs i d)) []
@@ -75,24 +70,40 @@ pub flat_map_agree : {A : Type 0} (g h : ℕ → List A) → ((x : ℕ) → g x 
 flat_map_agree g h e [] = refl
 flat_map_agree g h e (x ∷ xs) = ap (λ l. l ++ flat_map g xs) (e x) ∙ ap (λ l. h x ++ l) (flat_map_agree g h e xs)
 
--- a mark that is set, and the others
-pub set_mark : (row : ℕ → Bool) (loser worker key k : ℕ) → loser ≡ worker → cond (eqb k key) true (row k) ≡ (row k || (eqb loser worker && eqb key k))
-set_mark row loser worker key k same = pick (eqb k key) (row k) refl
+-- the same among the keys up to n that pass
+pub flat_map_agree_below : {A : Type 0} (g h : ℕ → List A) (p : ℕ → Bool) (a n : ℕ) → ((x : ℕ) → x < a + n → g x ≡ h x) → flat_map g (filter p (range_with_len a n)) ≡ flat_map h (filter p (range_with_len a n))
+flat_map_agree_below g h p a zero e = refl
+flat_map_agree_below {A} g h p a (suc n) e = pick (p a) (e a (omega arith)) (flat_map_agree_below g h p (a + 1) n (λ x l. e x (omega arith)))
   where
-    alike : (a b : ℕ) → eqb a b ≡ true → loser ≡ worker → (eqb loser worker && eqb b a) ≡ true
-    alike a b e s = grind (arith, nat_tests)
+    pick : (b : Bool) → g a ≡ h a → flat_map g (filter p (range_with_len (a + 1) n)) ≡ flat_map h (filter p (range_with_len (a + 1) n))
+        → flat_map g (cond b (a ∷ filter p (range_with_len (a + 1) n)) (filter p (range_with_len (a + 1) n))) ≡ flat_map h (cond b (a ∷ filter p (range_with_len (a + 1) n)) (filter p (range_with_len (a + 1) n)))
+    pick true here later = ap (λ l. l ++ flat_map g (filter p (range_with_len (a + 1) n))) here ∙ ap (λ l. h a ++ l) later
+    pick false here later = later
 
-    apart : (a b : ℕ) → eqb a b ≡ false → (eqb loser worker && eqb b a) ≡ false
+or_none : (b : Bool) → b ≡ (b || false)
+or_none true = refl
+or_none false = refl
+
+-- a mark that is set, and the others
+pub set_mark : (row : ℕ → Bool) (key k : ℕ) → cond (eqb k key) true (row k) ≡ (row k || eqb key k)
+set_mark row key k = pick (eqb k key) (row k) refl
+  where
+    alike : (a b : ℕ) → eqb a b ≡ true → eqb b a ≡ true
+    alike a b e = grind (arith, nat_tests)
+
+    apart : (a b : ℕ) → eqb a b ≡ false → eqb b a ≡ false
     apart a b e = grind (arith, nat_tests)
 
     one : (b : Bool) → true ≡ (b || true)
     one true = refl
     one false = refl
 
-    none : (b : Bool) → b ≡ (b || false)
-    none true = refl
-    none false = refl
+    pick : (e b : Bool) → eqb k key ≡ e → cond e true b ≡ (b || eqb key k)
+    pick true b h = one b ∙ ap (λ t. b || t) (sym (alike k key h))
+    pick false b h = or_none b ∙ ap (λ t. b || t) (sym (apart k key h))
 
-    pick : (e b : Bool) → eqb k key ≡ e → cond e true b ≡ (b || (eqb loser worker && eqb key k))
-    pick true b h = one b ∙ ap (λ t. b || t) (sym (alike k key h same))
-    pick false b h = none b ∙ ap (λ t. b || t) (sym (apart k key h))
+-- what the lists say is what the pairs say
+pub mail_by_pairs : (f : Facts) (lists : List (List ℕ)) (lost : List (ℕ × ℕ)) (since : ℕ) (a : Answer) → ((w k : ℕ) → w ≤ f.last_worker → lost_by lists w k ≡ has_pair lost w k) → flat_map (mail_by f (lost_by lists) since a) (workers f) ≡ flat_map (worker_mail f lost since a) (workers f)
+unfolding mail_by worker_mail
+mail_by_pairs f lists lost since a h =
+    flat_map_agree_below (mail_by f (lost_by lists) since a) (worker_mail f lost since a) (connected f) 1 f.last_worker (λ w l. ap (λ (t : ℕ → Bool). free_message w (filter t (below (keys f))) ++ (task_messages f since w ++ all_to w (answer_of a f w))) (λ i k. h w k (omega arith) i))

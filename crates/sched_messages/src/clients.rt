@@ -24,7 +24,7 @@ use std::alloc::{AllocError, Global};
 /// The names are those of Dask.distributed (<https://distributed.dask.org/en/stable/scheduling-state.html>).
 ///
 /// # Errors
-/// Where no memory is left; some of the messages may then have been appended.
+/// Where no memory is left; nothing is said of the list then.
 pub fn tell_clients(
     alloc: Global,
     table: &FactTable,

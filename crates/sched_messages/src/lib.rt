@@ -4,7 +4,8 @@
 //! above: it changes the facts, lets them settle, and calls this crate. It carries the scheduler's share of *part
 //! correctness*: which messages an event sends, message by message, and how the facts remember that they were sent.
 //! `sched_step` of `cluster_rules` says the same of a whole event. The keys of which there is something to say are
-//! collected once, and not for each worker or client; only a worker that lost keys costs a visit of all keys of its own.
+//! collected once. Each worker and each client goes over what was collected: a worker over the keys that were given and its
+//! own that went, and over all keys where it lost some; a client over the keys of which there is news.
 #![tactic(auto)]
 
 pub mod answer;

@@ -1,64 +1,93 @@
 //! The keys that a worker lost.
-ghost use Rattle.std.specs.Prelude.{◌≡◌, ◌<◌, ◌++◌, ◌∷◌, ◌==◌, ◌&&◌, ◌||◌, [], ℕ, cond, false, filter, length, IfOk, OnOk};
-ghost use Rattle.std.specs.List.{list_any};
-ghost use Rattle.cluster_rules.specs.Derived.{below};
+ghost use Rattle.std.specs.Prelude.{◌≡◌, ◌<◌, ◌≤◌, ◌+◌, ◌++◌, ◌∷◌, ◌==◌, ◌&&◌, ◌||◌, [], ℕ, cond, false, filter, length, slice_index_or, IfOk, OnOk};
+ghost use Rattle.cluster_rules.specs.Derived.{below, is_in};
 ghost use Rattle.cluster_rules.specs.SchedStep.{free_message};
 ghost use Rattle.fact_rows.specs.Rows.{read};
-ghost use Rattle.sched_messages.specs.Mail.{has_pair};
+ghost use Rattle.sched_messages.specs.Mail.{has_pair, lost_by};
 
 use cluster_msgs::{Down, KeyList, Sequence};
 use fact_rows::Row;
 use std::alloc::{AllocError, Global};
 
-/// The keys below `count` that the worker lost, ascending, by all that is lost as pairs of worker and key.
+/// The keys that each worker up to `last` lost, in any order and any number of times, by all that is lost as pairs of
+/// worker and key. It is one pass over the pairs, so that each worker then goes over its own keys alone.
 ///
 /// # Errors
 /// Where no memory is left.
-pub fn lost_keys(
-    alloc: Global,
-    lost: &[(u32, u32)],
-    count: u32,
-    worker: u32,
-) -> Result<KeyList, AllocError>
-    ensures { IfOk result (λ all. all ≡ filter (has_pair lost.now worker) (below count)) }
+pub fn by_worker(alloc: Global, lost: &[(u32, u32)], last: u32) -> Result<Vec<KeyList>, AllocError>
+    ensures length { IfOk result (λ lists. length lists.items ≡ last + 1) }
+    ensures keys { IfOk result (λ lists. (w k : ℕ) → w ≤ last → lost_by lists.items w k ≡ has_pair lost.now w k) }
 {
-    if !is_loser(lost, worker) {
+    let mut lists = empty_lists(alloc, last as usize + 1)?;
+    for pair in lost {
+        add_pair(&mut lists, *pair)?;
+    }
+    Ok(lists)
+}
+
+/// So many empty lists.
+fn empty_lists(alloc: Global, count: usize) -> Result<Vec<KeyList>, AllocError>
+    ensures length { IfOk result (λ lists. length lists.items ≡ count) }
+    ensures empty { IfOk result (λ lists. (w : ℕ) → slice_index_or lists.items w [] ≡ []) }
+{
+    let mut lists = Vec::new(alloc);
+    for _i in 0..count {
+        lists.push(KeyList::new(alloc))?;
+    }
+    Ok(lists)
+}
+
+/// Adds the key of one pair to its worker's list, if there is one.
+fn add_pair(lists: &mut Vec<KeyList>, pair: (u32, u32)) -> Result<(), AllocError>
+    ensures keys { OnOk result ((w k : ℕ) → w < length lists.old.items → lost_by lists.new.items w k ≡ (lost_by lists.old.items w k || (pair.0 == w && pair.1 == k))) }
+    ensures length { OnOk result (length lists.new.items ≡ length lists.old.items) }
+{
+    let (worker, key) = pair;
+    if (worker as usize) < lists.len() {
+        lists[worker as usize].push(key)?;
+    }
+    Ok(())
+}
+
+/// The list of one worker.
+pub fn own_keys(lists: &[KeyList], worker: u32) -> &[u32]
+    requires { worker < length lists.now }
+    ensures { result.now ≡ slice_index_or lists.now worker [] }
+{
+    lists[worker as usize].as_slice()
+}
+
+/// The keys below `count` that stand in the list of a worker's lost keys, ascending.
+///
+/// # Errors
+/// Where no memory is left.
+pub fn lost_keys(alloc: Global, own: &[u32], count: u32) -> Result<KeyList, AllocError>
+    ensures { IfOk result (λ all. all ≡ filter (λ k. is_in k own.now) (below count)) }
+{
+    if own.is_empty() {
         return Ok(KeyList::new(alloc));
     }
     let mut marks = Row::filled(alloc, count as usize, false)?;
-    mark_lost(lost, worker, &mut marks);
+    mark_all(own, &mut marks);
     marked_keys(alloc, &marks, count)
 }
 
-/// Whether the worker lost some key.
-fn is_loser(lost: &[(u32, u32)], worker: u32) -> bool
-    ensures { result ≡ list_any (λ p. p.0 == worker) lost.now }
-{
-    for pair in lost {
-        if pair.0 == worker {
-            return true;
-        }
-    }
-    false
-}
-
-/// Marks each key that the worker lost.
-fn mark_lost(lost: &[(u32, u32)], worker: u32, marks: &mut Row<bool>)
-    ensures marked { (k : ℕ) → k < length marks.old → read marks.new false k ≡ (read marks.old false k || has_pair lost.now worker k) }
+/// Marks these keys.
+fn mark_all(own: &[u32], marks: &mut Row<bool>)
+    ensures marked { (k : ℕ) → k < length marks.old → read marks.new false k ≡ (read marks.old false k || is_in k own.now) }
     ensures length { length marks.new ≡ length marks.old }
 {
-    for pair in lost {
-        mark_pair(*pair, worker, marks);
+    for key in own {
+        mark(*key, marks);
     }
 }
 
-/// Marks the key of one pair, where it is the worker's.
-fn mark_pair(pair: (u32, u32), worker: u32, marks: &mut Row<bool>)
-    ensures marked { (k : ℕ) → k < length marks.old → read marks.new false k ≡ (read marks.old false k || (pair.0 == worker && pair.1 == k)) }
+/// Marks the key, where it has a mark.
+fn mark(key: u32, marks: &mut Row<bool>)
+    ensures marked { (k : ℕ) → k < length marks.old → read marks.new false k ≡ (read marks.old false k || (key == k)) }
     ensures length { length marks.new ≡ length marks.old }
 {
-    let (loser, key) = pair;
-    if loser == worker && (key as usize) < marks.len() {
+    if (key as usize) < marks.len() {
         marks.set(key, true);
     }
 }

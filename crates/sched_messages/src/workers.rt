@@ -1,24 +1,26 @@
 //! What the workers are told.
-ghost use Rattle.std.specs.Prelude.{◌≡◌, ◌++◌, ◌∷◌, ◌==◌, [], cond, OnOk};
+ghost use Rattle.std.specs.Prelude.{◌≡◌, ◌<◌, ◌++◌, ◌∷◌, ◌==◌, [], cond, length, OnOk};
 ghost use Rattle.std.specs.List.{flat_map};
 ghost use Rattle.cluster_msgs.specs.declared.messages.Down.TheVariants.{RefreshWhoHas, RemoveReplicas};
 ghost use Rattle.cluster_rules.specs.Sched.{connected, workers, who_has};
 ghost use Rattle.cluster_rules.specs.SchedTable.{ask_message};
 ghost use Rattle.cluster_rules.specs.SchedStep.{all_to};
 ghost use Rattle.sched_facts.specs.Stored.{facts_of};
-ghost use Rattle.sched_messages.specs.Mail.{answer_of, worker_mail, given_keys};
+ghost use Rattle.sched_messages.specs.Mail.{answer_of, worker_mail, mail_by, lost_by, given_keys};
 
 use crate::answer::Answer;
 use crate::copies::who_has;
-use crate::lost::{lost_keys, tell_lost};
+use crate::lost::{by_worker, lost_keys, own_keys, tell_lost};
 use crate::tasks::{given_keys, tell_tasks};
 use cluster_msgs::{Down, KeyList, Sequence};
 use sched_facts::FactTable;
 use std::alloc::{AllocError, Global};
 
-/// What one event has for the workers beside what they lost.
+/// What one event has for the workers.
 #[derive(Drop)]
 struct Errand {
+    /// The keys that went, worker by worker.
+    lost: Vec<KeyList>,
     /// Where the counter stood before the event.
     since: u64,
     /// The keys that were given since, ascending.
@@ -33,7 +35,7 @@ struct Errand {
 /// Dask.distributed (<https://distributed.dask.org/en/stable/scheduling-state.html>).
 ///
 /// # Errors
-/// Where no memory is left; some of the messages may then have been appended.
+/// Where no memory is left; nothing is said of the list then.
 pub fn tell_workers(
     alloc: Global,
     table: &FactTable,
@@ -45,26 +47,27 @@ pub fn tell_workers(
     ensures { OnOk result (out.new ≡ out.old ++ flat_map (worker_mail (facts_of table.now) lost.now since answer) (workers (facts_of table.now))) }
 {
     let errand = Errand {
+        lost: by_worker(alloc, lost.as_slice(), table.last_worker())?,
         since,
         given: given_keys(alloc, table, since)?,
         answer,
     };
-    tell_each(alloc, table, lost.as_slice(), &errand, out)
+    tell_each(alloc, table, &errand, out)
 }
 
 /// Appends the messages to the connected workers.
 fn tell_each(
     alloc: Global,
     table: &FactTable,
-    lost: &[(u32, u32)],
     errand: &Errand,
     out: &mut Sequence<(u32, Down)>,
 ) -> Result<(), AllocError>
-    requires { errand.now.given ≡ given_keys (facts_of table.now) errand.now.since }
-    ensures { OnOk result (out.new ≡ out.old ++ flat_map (worker_mail (facts_of table.now) lost.now errand.now.since errand.now.answer) (workers (facts_of table.now))) }
+    requires given { errand.now.given ≡ given_keys (facts_of table.now) errand.now.since }
+    requires lost { (facts_of table.now).last_worker < length errand.now.lost.items }
+    ensures { OnOk result (out.new ≡ out.old ++ flat_map (mail_by (facts_of table.now) (lost_by errand.now.lost.items) errand.now.since errand.now.answer) (workers (facts_of table.now))) }
 {
     for before in 0..table.last_worker() {
-        tell_connected(alloc, table, lost, errand, 1 + before, out)?;
+        tell_connected(alloc, table, errand, 1 + before, out)?;
     }
     Ok(())
 }
@@ -73,16 +76,16 @@ fn tell_each(
 fn tell_connected(
     alloc: Global,
     table: &FactTable,
-    lost: &[(u32, u32)],
     errand: &Errand,
     worker: u32,
     out: &mut Sequence<(u32, Down)>,
 ) -> Result<(), AllocError>
-    requires { errand.now.given ≡ given_keys (facts_of table.now) errand.now.since }
-    ensures { OnOk result (out.new ≡ out.old ++ cond (connected (facts_of table.now) worker) (worker_mail (facts_of table.now) lost.now errand.now.since errand.now.answer worker) []) }
+    requires given { errand.now.given ≡ given_keys (facts_of table.now) errand.now.since }
+    requires lost { worker < length errand.now.lost.items }
+    ensures { OnOk result (out.new ≡ out.old ++ cond (connected (facts_of table.now) worker) (mail_by (facts_of table.now) (lost_by errand.now.lost.items) errand.now.since errand.now.answer worker) []) }
 {
     if table.is_connected(worker) {
-        return tell_worker(alloc, table, lost, errand, worker, out);
+        return tell_worker(alloc, table, errand, worker, out);
     }
     Ok(())
 }
@@ -91,15 +94,16 @@ fn tell_connected(
 fn tell_worker(
     alloc: Global,
     table: &FactTable,
-    lost: &[(u32, u32)],
     errand: &Errand,
     worker: u32,
     out: &mut Sequence<(u32, Down)>,
 ) -> Result<(), AllocError>
-    requires { errand.now.given ≡ given_keys (facts_of table.now) errand.now.since }
-    ensures { OnOk result (out.new ≡ out.old ++ worker_mail (facts_of table.now) lost.now errand.now.since errand.now.answer worker) }
+    requires given { errand.now.given ≡ given_keys (facts_of table.now) errand.now.since }
+    requires lost { worker < length errand.now.lost.items }
+    ensures { OnOk result (out.new ≡ out.old ++ mail_by (facts_of table.now) (lost_by errand.now.lost.items) errand.now.since errand.now.answer worker) }
 {
-    let keys = lost_keys(alloc, lost, table.keys(), worker)?;
+    let own = own_keys(&errand.lost, worker);
+    let keys = lost_keys(alloc, own, table.keys())?;
     tell_lost(worker, keys, out)?;
     tell_tasks(
         alloc,

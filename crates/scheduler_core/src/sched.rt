@@ -129,6 +129,16 @@ impl Sched {
         }
     }
 
+    /// Whether the scheduler takes an event, or refuses it. Takes no memory.
+    pub fn takes(&self, event: &SchedEvent) -> bool
+        ensures { result ≡ sched_takes (facts self.now) event.now }
+    {
+        self.book.sound();
+        let steal = self.book.steal_for(event);
+        let drop = self.book.drop_for(event);
+        takes(self.book.table(), event, steal, drop)
+    }
+
     /// Until it stops, after every event, honest or not: only known keys have facts, only ready keys are on workers, and a
     /// ready key is on none only where no worker could take it.
     pub fn settled(&self)

@@ -18,6 +18,40 @@ trait Core {
     fn finished(&self) -> u64;
 
     fn knows(&self, key: u32) -> bool;
+
+    /// Whether the event would be taken.
+    fn would_take(&self, event: &SchedEvent) -> bool;
+
+    fn to_blame(&self, key: u32) -> Option<u32>;
+
+    /// How many keys and how many numbers of workers there are.
+    fn size(&self) -> (u32, u32);
+
+    fn about_key(&self, key: u32) -> Option<AboutKey>;
+
+    fn about_worker(&self, worker: u32) -> Option<AboutWorker>;
+}
+
+/// What the policies ask about a key.
+#[derive(Clone, Copy, Debug, PartialEq, Eq)]
+struct AboutKey {
+    needed: bool,
+    held: bool,
+    erred: bool,
+    on: Option<u32>,
+    holders: u32,
+    waiters: u32,
+    asked_steal: bool,
+}
+
+/// What the policies ask about a worker.
+#[derive(Clone, Copy, Debug, PartialEq, Eq)]
+struct AboutWorker {
+    threads: u32,
+    tasks: u32,
+    occupancy: u64,
+    bytes_held: u64,
+    full: bool,
 }
 
 impl Core for Sched {
@@ -40,6 +74,48 @@ impl Core for Sched {
     fn knows(&self, key: u32) -> bool {
         self.known(key)
     }
+
+    fn would_take(&self, event: &SchedEvent) -> bool {
+        self.settled();
+        self.takes(event)
+    }
+
+    fn to_blame(&self, key: u32) -> Option<u32> {
+        self.blame(key)
+    }
+
+    fn size(&self) -> (u32, u32) {
+        (self.shape().keys(), self.last_worker())
+    }
+
+    fn about_key(&self, key: u32) -> Option<AboutKey> {
+        if key >= self.keys() {
+            return None;
+        }
+        Some(AboutKey {
+            needed: self.needed(key),
+            held: self.held(key),
+            erred: self.erred(key),
+            on: Facts::on(self, key),
+            holders: self.holders(key),
+            waiters: self.waiters(key),
+            asked_steal: self.asked_steal(key),
+        })
+    }
+
+    fn about_worker(&self, worker: u32) -> Option<AboutWorker> {
+        Facts::sound(self);
+        if !self.connected(worker) {
+            return None;
+        }
+        Some(AboutWorker {
+            threads: self.threads(worker),
+            tasks: self.tasks(worker),
+            occupancy: self.occupancy(worker),
+            bytes_held: self.bytes_held(worker),
+            full: self.full(worker),
+        })
+    }
 }
 
 /// What happens in a test.
@@ -51,6 +127,7 @@ enum Story {
     SecondHolder,
     Spare,
     Refusals,
+    Questions,
 }
 
 /// Adds a key without dependencies.
@@ -315,6 +392,77 @@ fn refuse(rt: &impl Abort, alloc: Global, core: &mut impl Core, out: &mut Outbox
     assert!(rt; !core.knows(0));
 }
 
+/// Worker 1 of one thread has keys 0 and 1, of which key 2 waits for the first.
+fn ask_of_the_busy(rt: &impl Abort, core: &mut impl Core) {
+    assert!(rt;
+        core.size() == (3, 1) && core.about_key(3).is_none() && core.about_worker(2).is_none()
+    );
+    let first = AboutKey {
+        needed: true,
+        held: false,
+        erred: false,
+        on: Some(1),
+        holders: 0,
+        waiters: 1,
+        asked_steal: false,
+    };
+    assert_eq!(rt; core.about_key(0), Some(first));
+    let worker = AboutWorker {
+        threads: 1,
+        tasks: 2,
+        occupancy: 160,
+        bytes_held: 0,
+        full: true,
+    };
+    assert_eq!(rt; core.about_worker(1), Some(worker));
+}
+
+/// Worker 1 holds key 0, which key 2 still waits for, and has keys 1 and 2.
+fn ask_of_the_holder(rt: &impl Abort, core: &mut impl Core) {
+    let first = AboutKey {
+        needed: true,
+        held: true,
+        erred: false,
+        on: None,
+        holders: 1,
+        waiters: 1,
+        asked_steal: false,
+    };
+    assert_eq!(rt; core.about_key(0), Some(first));
+    let worker = AboutWorker {
+        threads: 1,
+        tasks: 2,
+        occupancy: 160,
+        bytes_held: 80,
+        full: true,
+    };
+    assert_eq!(rt; core.about_worker(1), Some(worker));
+}
+
+/// Key 1 fails under attempt 2.
+fn fail(rt: &impl Abort, core: &mut impl Core, out: &mut Outbox) {
+    let up = Up::TaskErred {
+        seen: 0,
+        key: 1,
+        attempt: 2,
+    };
+    from_worker(rt, core, 1, up, out);
+    assert!(rt; core.to_blame(1) == Some(1) && core.to_blame(0).is_none());
+    assert!(rt; core.is_in(1, Phase::Erred));
+}
+
+fn ask(rt: &impl Abort, alloc: Global, core: &mut impl Core, out: &mut Outbox) {
+    want(rt, alloc, core, &[1, 2], out);
+    join(rt, core, out);
+    ask_of_the_busy(rt, core);
+    finish(rt, core, 1, 0, 1, out);
+    ask_of_the_holder(rt, core);
+    fail(rt, core, out);
+    assert!(rt; core.would_take(&SchedEvent::Join { threads: 16 }));
+    assert!(rt; !core.would_take(&SchedEvent::Join { threads: 17 }));
+    assert!(rt; !core.would_take(&SchedEvent::Balance));
+}
+
 fn play(rt: &impl Abort, alloc: Global, story: Story, core: &mut impl Core, out: &mut Outbox) {
     match story {
         Story::LateNews => tell_late_news(rt, alloc, core, out),
@@ -323,6 +471,7 @@ fn play(rt: &impl Abort, alloc: Global, story: Story, core: &mut impl Core, out:
         Story::SecondHolder => lose_a_second_holder(rt, alloc, core, out),
         Story::Spare => drop_what_is_to_spare(rt, alloc, core, out),
         Story::Refusals => refuse(rt, alloc, core, out),
+        Story::Questions => ask(rt, alloc, core, out),
     }
 }
 
@@ -368,5 +517,11 @@ fn a_replica_to_spare_goes_where_most_is_held(rt: HostRuntime) -> Result<(), Fai
 #[test]
 fn nobody_and_nothing_is_refused(rt: HostRuntime) -> Result<(), Fail> {
     run(&rt, rt.alloc(), Story::Refusals, false)?;
+    Ok(())
+}
+
+#[test]
+fn the_policies_questions_are_answered(rt: HostRuntime) -> Result<(), Fail> {
+    run(&rt, rt.alloc(), Story::Questions, true)?;
     Ok(())
 }
