@@ -12,3 +12,6 @@ mod placing;
 
 pub use block::plain_block;
 pub use plain_eval::PlainOutcome;
+
+#[cfg(test)]
+mod tests;
