@@ -1,0 +1,12 @@
+use Rattle.std.proofs.Common.{◌≡◌, ℕ, false, ◌&&◌, cond, ltb}
+use Rattle.std.specs.Prelude.{◌==◌}
+use Rattle.fact_rows.specs.Rows.{cell, height, width}
+use Rattle.worker_core.specs.Core.{facts}
+use Rattle.cluster_nodes.proofs.cores.unspill.Given as goal
+
+abbrev pub invariant-loop-key : goal.invariant-loop-key
+invariant-loop-key l = record {
+  done : (w k : ℕ) → cell l.spilled false w k ≡ cond (w == l.worker && ltb k l.key) (cell l.fn.spilled false w k && (facts l.core).mem k) (cell l.fn.spilled false w k);
+  high : height l.spilled ≡ height l.fn.spilled;
+  wide : width l.spilled ≡ width l.fn.spilled;
+}

@@ -1,0 +1,43 @@
+use Rattle.std.proofs.Common.{◌≡◌, ◌∙◌, ℕ, List, ap, refl}
+use Rattle.std.specs.declared.sync.Arc.{Arc}
+use Rattle.std.specs.declared.alloc.Global.{Global}
+use Rattle.cluster_msgs.specs.declared.cores.WorkerEvent.TheVariants.{Down as Told}
+use Rattle.message_queues.proofs.QueueLemmas.{on_ok}
+use Rattle.value_laws.specs.Blocks.{Cluster}
+use Rattle.cluster_nodes.specs.Nodes.{world_of, cluster_of}
+use Rattle.cluster_nodes.specs.Turns.{among, nothing, worker_turned}
+use Rattle.cluster_nodes.proofs.Changing.{with_down, delivered, not_delivered}
+use Rattle.cluster_nodes.proofs.Keeping.{sized_links}
+use Rattle.cluster_nodes.proofs.nodes.Nodes.deliver_down.Goals as goal
+
+pub worker_turn-requires-clause-nodes : goal.worker_turn-requires-clause-nodes
+worker_turn-requires-clause-nodes g c =
+    let old = c.args.self.now in
+    let s = c.requires.nodes.sorted in
+    record {
+      sized = sized_links old c.pop_down.new.down old.up old.to_client old.from_client c.pop_down.ensures.length refl refl refl c.requires.nodes.sized;
+      sorted = record { down = c.pop_down.ensures.sorted; up = s.up; to_client = s.to_client; from_client = s.from_client };
+    }
+
+pub returns-in-Some-clause-cluster : goal.returns-in-Some-clause-cluster
+unfolding world_of
+returns-in-Some-clause-cluster g c = on_ok c.worker_turn.result
+    (λ h f. h f
+    ∙ ap (λ (l : List (ℕ × Arc g.row.B.Denot Global)). worker_turned (cluster_of f (record c.args.self.now { down = c.pop_down.new.down })) c.args.worker (Told c.in-Some.message) (among l)) c.new-none.ensures.items
+    ∙ ap (λ (x : Cluster g.row.B.Denot). worker_turned x c.args.worker (Told c.in-Some.message) nothing) (with_down f c.args.self.now c.pop_down.new.down _ c.pop_down.ensures.rest)
+    ∙ delivered (cluster_of f c.args.self.now) c.args.worker ((world_of f c.args.self.now).down c.args.worker) c.in-Some.message c.in-Some.ensures.first)
+    c.worker_turn.ensures.cluster
+
+pub returns-in-None-clause-cluster : goal.returns-in-None-clause-cluster
+unfolding world_of
+returns-in-None-clause-cluster g c f = with_down f c.args.self.now c.pop_down.new.down _ c.pop_down.ensures.rest
+    ∙ not_delivered (cluster_of f c.args.self.now) c.args.worker ((world_of f c.args.self.now).down c.args.worker) refl c.in-None.ensures.first
+
+pub returns-in-None-clause-nodes : goal.returns-in-None-clause-nodes
+returns-in-None-clause-nodes g c =
+    let old = c.args.self.now in
+    let s = c.requires.nodes.sorted in
+    record {
+      sized = sized_links old c.pop_down.new.down old.up old.to_client old.from_client c.pop_down.ensures.length refl refl refl c.requires.nodes.sized;
+      sorted = record { down = c.pop_down.ensures.sorted; up = s.up; to_client = s.to_client; from_client = s.from_client };
+    }

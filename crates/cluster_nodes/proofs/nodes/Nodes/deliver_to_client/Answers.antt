@@ -1,0 +1,43 @@
+use Rattle.std.proofs.Common.{◌≡◌, ◌∙◌, ℕ, List, ap, refl}
+use Rattle.std.specs.declared.sync.Arc.{Arc}
+use Rattle.std.specs.declared.alloc.Global.{Global}
+use Rattle.cluster_msgs.specs.declared.cores.ClientEvent.TheVariants.{FromScheduler}
+use Rattle.message_queues.proofs.QueueLemmas.{on_ok}
+use Rattle.value_laws.specs.Blocks.{Cluster}
+use Rattle.cluster_nodes.specs.Nodes.{world_of, cluster_of}
+use Rattle.cluster_nodes.specs.Turns.{among, nothing, client_turned}
+use Rattle.cluster_nodes.proofs.Changing.{with_to_client, told, not_told}
+use Rattle.cluster_nodes.proofs.Keeping.{sized_links}
+use Rattle.cluster_nodes.proofs.nodes.Nodes.deliver_to_client.Goals as goal
+
+pub client_turn-requires-clause-nodes : goal.client_turn-requires-clause-nodes
+client_turn-requires-clause-nodes g c =
+    let old = c.args.self.now in
+    let s = c.requires.nodes.sorted in
+    record {
+      sized = sized_links old old.down old.up c.pop_to_client.new.to_client old.from_client refl refl c.pop_to_client.ensures.length refl c.requires.nodes.sized;
+      sorted = record { down = s.down; up = s.up; to_client = c.pop_to_client.ensures.sorted; from_client = s.from_client };
+    }
+
+pub returns-in-Some-clause-cluster : goal.returns-in-Some-clause-cluster
+unfolding world_of
+returns-in-Some-clause-cluster g c = on_ok c.client_turn.result
+    (λ h f. h f
+    ∙ ap (λ (l : List (ℕ × Arc g.row.B.Denot Global)). client_turned (cluster_of f (record c.args.self.now { to_client = c.pop_to_client.new.to_client })) c.args.client (FromScheduler c.in-Some.message) (among l)) c.new-none.ensures.items
+    ∙ ap (λ (x : Cluster g.row.B.Denot). client_turned x c.args.client (FromScheduler c.in-Some.message) nothing) (with_to_client f c.args.self.now c.pop_to_client.new.to_client _ c.pop_to_client.ensures.rest)
+    ∙ told (cluster_of f c.args.self.now) c.args.client ((world_of f c.args.self.now).to_client c.args.client) c.in-Some.message c.in-Some.ensures.first)
+    c.client_turn.ensures.cluster
+
+pub returns-in-None-clause-cluster : goal.returns-in-None-clause-cluster
+unfolding world_of
+returns-in-None-clause-cluster g c f = with_to_client f c.args.self.now c.pop_to_client.new.to_client _ c.pop_to_client.ensures.rest
+    ∙ not_told (cluster_of f c.args.self.now) c.args.client ((world_of f c.args.self.now).to_client c.args.client) refl c.in-None.ensures.first
+
+pub returns-in-None-clause-nodes : goal.returns-in-None-clause-nodes
+returns-in-None-clause-nodes g c =
+    let old = c.args.self.now in
+    let s = c.requires.nodes.sorted in
+    record {
+      sized = sized_links old old.down old.up c.pop_to_client.new.to_client old.from_client refl refl c.pop_to_client.ensures.length refl c.requires.nodes.sized;
+      sorted = record { down = s.down; up = s.up; to_client = c.pop_to_client.ensures.sorted; from_client = s.from_client };
+    }

@@ -1,0 +1,34 @@
+use Rattle.std.proofs.Common.{◌≡◌, ◌∙◌, ◌<◌, ℕ, List, None, ap, sym, filter}
+use Rattle.std.specs.List.{filter_map}
+use Rattle.cluster_rules.specs.Worker.{WorkerFacts}
+use Rattle.fact_rows.specs.Rows.{cell}
+use Rattle.message_queues.proofs.QueueLemmas.{on_ok}
+use Rattle.message_queues.specs.Transit.{named_by}
+use Rattle.worker_core.specs.Core.{facts}
+use Rattle.cluster_nodes.specs.Nodes.{block_at, world_of}
+use Rattle.cluster_nodes.proofs.NodeLemmas.{worker_was}
+use Rattle.cluster_nodes.proofs.Keeping.{nodes_moving}
+use Rattle.cluster_nodes.proofs.Gathering.{none_served, served_is}
+use Rattle.cluster_nodes.proofs.nodes.Nodes.serve.Goals as goal
+
+pub returns-in-None-clause-cluster : goal.returns-in-None-clause-cluster
+returns-in-None-clause-cluster g c f = none_served f c.args.self.now c.args.asker c.args.peer c.args.ask c.take.new.self c.in-None.ensures.item c.in-None.ensures.rest
+
+pub returns-in-None-clause-nodes : goal.returns-in-None-clause-nodes
+returns-in-None-clause-nodes g c = nodes_moving c.args.self.now c.take.new.self c.args.self.now.answers c.requires.nodes
+
+pub returns-in_ok-blocks-in-Some-clause-cluster : goal.returns-in_ok-blocks-in-Some-clause-cluster
+unfolding world_of
+returns-in_ok-blocks-in-Some-clause-cluster g c = on_ok c.insert.result
+    (λ ok f.
+    let old = c.args.self.now in
+    let t = c.in-Some.request in
+    served_is f old c.args.asker c.args.peer c.args.ask c.take.new.self c.insert.new.self t c.answer.result c.in_ok-found-in-Some.found c.in_ok-blocks-in-Some.blocks
+    c.in-Some.ensures.item c.in-Some.ensures.rest
+    (c.in_ok-found-in-Some.ensures ∙ ap (filter (facts c.index-core.result.now).mem) (c.as_slice.ensures ∙ c.keys_of-keys.ensures)
+    ∙ ap (λ (w : WorkerFacts). filter w.mem (named_by t.message)) (sym (worker_was f.setting.shape old.alive old.workers.items c.args.peer c.index-core.result.now c.requires.peer c.requires.alive c.index-core.ensures)))
+    (c.in_ok-blocks-in-Some.ensures ∙ ap (filter_map (λ k. block_at (cell old.held None c.args.peer k))) c.as_slice-in-Some.ensures) c.answer.ensures.parcel c.answer.ensures.blocks ok)
+    c.insert.ensures.ok
+
+pub returns-in_ok-blocks-in-Some-clause-nodes : goal.returns-in_ok-blocks-in-Some-clause-nodes
+returns-in_ok-blocks-in-Some-clause-nodes g c = on_ok c.insert.result (λ ok. nodes_moving c.args.self.now c.take.new.self c.insert.new.self c.requires.nodes) c.insert.ensures.ok

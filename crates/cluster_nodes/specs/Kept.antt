@@ -1,0 +1,61 @@
+-- What a `Nodes` keeps.
+use Rattle.std.specs.Prelude.{◌≡◌, ◌<◌, ℕ, true, false, List, length}
+use Rattle.std.specs.List.{filter_map, AllByRecursion}
+use Rattle.cluster_msgs.specs.Shape.{Shape, key_count}
+use Rattle.cluster_msgs.specs.declared.events.Asker.{Asker}
+use Rattle.cluster_msgs.specs.declared.events.Asker.TheVariants.{Worker, Client}
+use Rattle.fact_rows.specs.Rows.{read, width, height}
+use Rattle.message_queues.specs.Queues.{waiting}
+use Rattle.message_queues.specs.Posts.{downs, ups, to_clients, from_clients}
+use Rattle.worker_core.specs.Core.{Core, facts}
+use Rattle.gather_client.specs.CoreState.{CoreState, client_facts}
+use Rattle.cluster_nodes.specs.Nodes.{as_down, as_up, as_to_client, as_from_client}
+use Rattle.cluster_nodes.specs.declared.nodes.Nodes.{Nodes}
+
+-- the cores are over this graph
+abbrev pub AreWorkersOver : Shape → List Core → Type 0
+AreWorkersOver g cores = AllByRecursion (λ c. (facts c).shape ≡ g) cores
+
+abbrev pub AreClientsOver : Shape → List CoreState → Type 0
+AreClientsOver g cores = AllByRecursion (λ c. (client_facts c).shape ≡ g) cores
+
+-- each list has a member for each worker, or for each client, and each row one for each key
+pub record IsSized {B : Type 0} (n : Nodes B) : Type 0 where
+  pub alive : length n.alive ≡ length n.workers.items
+  pub spilled : height n.spilled ≡ length n.workers.items
+  pub down : length n.down ≡ length n.workers.items
+  pub up : length n.up ≡ length n.workers.items
+  pub held : height n.held ≡ length n.workers.items
+  pub inputs : height n.inputs ≡ length n.workers.items
+  pub to_client : length n.to_client ≡ length n.clients.items
+  pub from_client : length n.from_client ≡ length n.clients.items
+  pub got : height n.got ≡ length n.clients.items
+  pub spilled_keys : width n.spilled ≡ key_count n.shape
+  pub held_keys : width n.held ≡ key_count n.shape
+  pub inputs_keys : width n.inputs ≡ key_count n.shape
+  pub got_keys : width n.got ≡ key_count n.shape
+  pub workers : AreWorkersOver n.shape n.workers.items
+  pub clients : AreClientsOver n.shape n.clients.items
+
+-- each link carries messages of its own kind
+pub record IsSorted {B : Type 0} (n : Nodes B) : Type 0 where
+  pub down : (i : ℕ) → downs (filter_map as_down (waiting n.down i)) ≡ waiting n.down i
+  pub up : (i : ℕ) → ups (filter_map as_up (waiting n.up i)) ≡ waiting n.up i
+  pub to_client : (c : ℕ) → to_clients (filter_map as_to_client (waiting n.to_client c)) ≡ waiting n.to_client c
+  pub from_client : (c : ℕ) → from_clients (filter_map as_from_client (waiting n.from_client c)) ≡ waiting n.from_client c
+
+pub record IsNodes {B : Type 0} (n : Nodes B) : Type 0 where
+  pub sized : IsSized n
+  pub sorted : IsSorted n
+
+-- nobody came, and nobody died
+pub record HasSameNodes {B : Type 0} (n m : Nodes B) : Type 0 where
+  pub workers : length m.workers.items ≡ length n.workers.items
+  pub clients : length m.clients.items ≡ length n.clients.items
+  pub alive : m.alive ≡ n.alive
+  pub shape : m.shape ≡ n.shape
+
+-- the asker is there, and alive
+abbrev pub HasAsker : {B : Type 0} → Nodes B → Asker → Type 0
+HasAsker n (Worker i) = (i < length n.workers.items) × (read n.alive false i ≡ true)
+HasAsker n (Client c) = c < length n.clients.items

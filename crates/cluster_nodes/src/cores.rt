@@ -1,0 +1,84 @@
+//! The cores of workers and clients, by number.
+ghost use Rattle.std.specs.Prelude.{◌≡◌, ◌&&◌, ◌<◌, ◌++◌, ℕ, List, Bool, Err, length, false, true, OnOk, OnErr};
+ghost use Rattle.cluster_msgs.specs.Shape.{Shape};
+ghost use Rattle.cluster_rules.specs.Functions.{put, put_pair};
+ghost use Rattle.cluster_rules.specs.Client.{client_step, client_takes};
+ghost use Rattle.cluster_rules.specs.WorkerStep.{worker_step, worker_takes};
+ghost use Rattle.fact_rows.specs.Rows.{read, cell, height, width};
+ghost use Rattle.worker_core.specs.Core.{facts};
+ghost use Rattle.cluster_nodes.specs.Nodes.{workers_of, clients_of};
+ghost use Rattle.cluster_nodes.specs.Kept.{AreWorkersOver, AreClientsOver};
+
+use cluster_msgs::{ClientEvent, ClientOut, Instructions, Stop, WorkerEvent};
+use fact_rows::Grid;
+use gather_client::ClientCore;
+use worker_core::WorkerCore;
+
+/// One worker takes an event. It is one that is alive, by any row of such marks.
+///
+/// # Errors
+/// Those of the worker's core.
+pub fn worker_on(
+    workers: &mut Vec<WorkerCore>,
+    worker: u32,
+    event: WorkerEvent,
+    out: &mut Instructions,
+) -> Result<(), Stop>
+    requires { worker < length workers.old.items }
+    ensures facts { OnOk result ((g : Shape) (alive : List Bool) → read alive false worker ≡ true →
+        workers_of g alive workers.new.items ≡ put (workers_of g alive workers.old.items) worker (worker_step (workers_of g alive workers.old.items worker) event).facts) }
+    ensures out { OnOk result ((g : Shape) (alive : List Bool) → read alive false worker ≡ true →
+        out.new ≡ out.old ++ (worker_step (workers_of g alive workers.old.items worker) event).out) }
+    ensures possible { OnOk result ((g : Shape) (alive : List Bool) → read alive false worker ≡ true →
+        worker_takes (workers_of g alive workers.old.items worker) event ≡ true) }
+    ensures over { OnOk result ((g : Shape) → AreWorkersOver g workers.old.items → AreWorkersOver g workers.new.items) }
+    ensures length { length workers.new.items ≡ length workers.old.items }
+{
+    workers[worker as usize].on(event, out)
+}
+
+/// One client takes an event.
+///
+/// # Errors
+/// Those of the client's core.
+pub fn client_on(
+    clients: &mut Vec<ClientCore>,
+    client: u32,
+    event: ClientEvent,
+    out: &mut ClientOut,
+) -> Result<(), Stop>
+    requires { client < length clients.old.items }
+    ensures facts { OnOk result ((g : Shape) → clients_of g clients.new.items ≡ put (clients_of g clients.old.items) client (client_step (clients_of g clients.old.items client) event).facts) }
+    ensures out { OnOk result ((g : Shape) → out.new ≡ out.old ++ (client_step (clients_of g clients.old.items client) event).out) }
+    ensures possible { OnOk result ((g : Shape) → client_takes (clients_of g clients.old.items client) event ≡ true) }
+    ensures over { OnOk result ((g : Shape) → AreClientsOver g clients.old.items → AreClientsOver g clients.new.items) }
+    ensures length { length clients.new.items ≡ length clients.old.items }
+{
+    clients[client as usize].on(event, out)
+}
+
+/// What has left a worker's memory is spilled no longer.
+pub fn unspill(spilled: &mut Grid<bool>, worker: u32, core: &WorkerCore, keys: u32)
+    requires row { worker < height spilled.old }
+    requires keys { keys ≡ width spilled.old }
+    ensures meaning { cell spilled.new false ≡ put (cell spilled.old false) worker (λ k. cell spilled.old false worker k && (facts core.now).mem k) }
+    ensures height { height spilled.new ≡ height spilled.old }
+    ensures width { width spilled.new ≡ width spilled.old }
+{
+    spilled.sound();
+    for key in 0..keys {
+        unspill_key(spilled, worker, core, key);
+    }
+}
+
+/// The same of one key.
+fn unspill_key(spilled: &mut Grid<bool>, worker: u32, core: &WorkerCore, key: u32)
+    requires row { worker < height spilled.old }
+    requires key { key < width spilled.old }
+    ensures meaning { cell spilled.new false ≡ put_pair (cell spilled.old false) worker key (cell spilled.old false worker key && (facts core.now).mem key) }
+    ensures height { height spilled.new ≡ height spilled.old }
+    ensures width { width spilled.new ≡ width spilled.old }
+{
+    let stays = spilled.test(worker, key) & core.holds(key);
+    spilled.set(worker, key, stays);
+}

@@ -1,0 +1,79 @@
+//! Messages that come to workers and clients, and those that the scheduler takes.
+ghost use Rattle.std.specs.Prelude.{◌≡◌, ◌<◌, true, false, drop, length, OnOk};
+ghost use Rattle.cluster_rules.specs.Enabled.{front as first_of};
+ghost use Rattle.cluster_rules.specs.Sched.{Facts};
+ghost use Rattle.fact_rows.specs.Rows.{read};
+ghost use Rattle.cluster_nodes.specs.Nodes.{world_of, cluster_of};
+ghost use Rattle.cluster_nodes.specs.Turns.{down_delivered, client_told, up_taken, from_client_taken};
+ghost use Rattle.cluster_nodes.specs.Kept.{IsNodes, HasSameNodes};
+
+use crate::nodes::Nodes;
+use crate::pops::{pop_down, pop_from_client, pop_to_client, pop_up};
+use cluster_msgs::{ClientEvent, FromClient, Stop, Up, WorkerEvent};
+
+impl<B: Drop> Nodes<B> {
+    /// A worker takes the first message of the scheduler, if one waits.
+    ///
+    /// # Errors
+    /// Those of `worker_turn`.
+    pub fn deliver_down(&mut self, worker: u32) -> Result<(), Stop>
+        requires nodes { IsNodes self.old }
+        requires worker { worker < length self.old.workers.items }
+        requires alive { read self.old.alive false worker ≡ true }
+        ensures cluster { OnOk result ((f : Facts) → cluster_of f self.new ≡ down_delivered (cluster_of f self.old) worker ((world_of f self.old).down worker)) }
+        ensures nodes { OnOk result (IsNodes self.new) }
+        ensures same { OnOk result (HasSameNodes self.old self.new) }
+    {
+        match pop_down(&mut self.down, worker) {
+            Some(message) => {
+                let none = Vec::new(self.alloc);
+                self.worker_turn(worker, WorkerEvent::Down(message), none)
+            }
+            None => Ok(()),
+        }
+    }
+
+    /// A client takes the first message of the scheduler, if one waits.
+    ///
+    /// # Errors
+    /// Those of `client_turn`.
+    pub fn deliver_to_client(&mut self, client: u32) -> Result<(), Stop>
+        requires nodes { IsNodes self.old }
+        requires client { client < length self.old.clients.items }
+        ensures cluster { OnOk result ((f : Facts) → cluster_of f self.new ≡ client_told (cluster_of f self.old) client ((world_of f self.old).to_client client)) }
+        ensures nodes { OnOk result (IsNodes self.new) }
+        ensures same { OnOk result (HasSameNodes self.old self.new) }
+    {
+        match pop_to_client(&mut self.to_client, client) {
+            Some(message) => {
+                let none = Vec::new(self.alloc);
+                self.client_turn(client, ClientEvent::FromScheduler(message), none)
+            }
+            None => Ok(()),
+        }
+    }
+
+    /// Takes a worker's first message to the scheduler off its link.
+    pub fn take_up(&mut self, worker: u32) -> Option<Up>
+        requires nodes { IsNodes self.old }
+        requires worker { worker < length self.old.workers.items }
+        ensures first { (f : Facts) → result ≡ first_of ((world_of f self.old).up worker) }
+        ensures cluster { (f : Facts) → cluster_of f self.new ≡ up_taken (cluster_of f self.old) worker }
+        ensures nodes { IsNodes self.new }
+        ensures same { HasSameNodes self.old self.new }
+    {
+        pop_up(&mut self.up, worker)
+    }
+
+    /// Takes a client's first message to the scheduler off its link.
+    pub fn take_from_client(&mut self, client: u32) -> Option<FromClient>
+        requires nodes { IsNodes self.old }
+        requires client { client < length self.old.clients.items }
+        ensures first { (f : Facts) → result ≡ first_of ((world_of f self.old).from_client client) }
+        ensures cluster { (f : Facts) → cluster_of f self.new ≡ from_client_taken (cluster_of f self.old) client }
+        ensures nodes { IsNodes self.new }
+        ensures same { HasSameNodes self.old self.new }
+    {
+        pop_from_client(&mut self.from_client, client)
+    }
+}
