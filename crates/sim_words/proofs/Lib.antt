@@ -1,0 +1,8 @@
+mod Digits
+mod Cuts
+mod Spoken
+mod Readings
+mod Places
+mod Crews
+mod Walking
+mod Saying
