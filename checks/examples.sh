@@ -40,7 +40,7 @@ done
 
 # NumPy, from the distribution's packages where it isn't there yet
 if ! /usr/bin/python3 -c 'import numpy' 2>/dev/null; then
-  apt-get install -y -q python3-numpy >/dev/null 2>&1
+  { apt-get update -q && apt-get install -y -q python3-numpy; } >/dev/null 2>&1
 fi
 if /usr/bin/python3 -c 'import numpy' 2>/dev/null; then
   folder=$(mktemp -d)
