@@ -8,11 +8,11 @@
 //! choice. No call takes memory.
 #![tactic(auto)]
 
-pub mod drop;
-pub mod idle;
-pub mod level;
-pub mod offer;
-pub mod steal;
+mod drop;
+mod idle;
+mod level;
+mod offer;
+mod steal;
 
 pub use drop::next_drop;
 pub use steal::next_steal;

@@ -7,9 +7,9 @@
 //! takes memory.
 #![tactic(auto)]
 
-pub mod bytes;
-pub mod candidate;
-pub mod choice;
+mod bytes;
+mod candidate;
+mod choice;
 
 pub use bytes::missing_bytes;
 pub use choice::place;

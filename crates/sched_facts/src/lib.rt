@@ -12,12 +12,11 @@
 #![tactic(auto)]
 
 pub mod derived;
-pub mod store;
-pub mod sums;
+mod store;
+mod sums;
 pub mod table;
 
 pub use derived::{DerivedRows, refill};
-pub use store::FactStore;
 pub use table::FactTable;
 
 #[cfg(test)]

@@ -8,14 +8,14 @@
 //! own that went, and over all keys where it lost some; a client over the keys of which there is news.
 #![tactic(auto)]
 
-pub mod answer;
-pub mod clients;
-pub mod copies;
-pub mod lost;
-pub mod news;
-pub mod posts;
-pub mod tasks;
-pub mod workers;
+mod answer;
+mod clients;
+mod copies;
+mod lost;
+mod news;
+mod posts;
+mod tasks;
+mod workers;
 
 pub use answer::Answer;
 pub use clients::tell_clients;
