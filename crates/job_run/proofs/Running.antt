@@ -73,6 +73,7 @@ pub early_runs : (p : Plan) (old new : View) (end : Ended) → IsEarly end → C
 early_runs p old new end is cause opens only = record {
   cause = cause;
   saves = early_saves p old.files new.files end is opens.held;
+  looked = inl (record { held = opens.held; created = opens.created });
   others = λ n none. ap (λ f. f n) opens.held;
   tells = opens.tells;
   opened = early_opened p.inputs old.files.opened new.files.opened end is (opened_most p.inputs old.files new.files opens);
@@ -129,6 +130,7 @@ failed_runs : (p : Plan) (old mid new : View) (known : List Cells) (end : Ended)
 failed_runs p old mid new known end f cause saves opened created prints = record {
   cause = cause;
   saves = saves;
+  looked = inr (record { opened = f.some.opened ∙ f.before.opened; values = f.before.sound });
   others = λ n none. f.some.others n none ∙ ap (λ g. g n) f.before.opens.held;
   tells = f.some.tells ∙ f.before.opens.tells;
   opened = opened;
@@ -172,6 +174,7 @@ printed_runs p old mid saved new known end f cause saves opened created prints =
     record {
       cause = cause;
       saves = subst S (sym f.prints.files) saves;
+      looked = inr (record { opened = ap (λ (x : Files). x.opened) f.prints.files ∙ (f.all.opened ∙ f.before.opened); values = f.before.sound });
       others = λ n none. ap (λ (x : Files). x.held n) f.prints.files ∙ (f.all.others n none ∙ ap (λ g. g n) f.before.opens.held);
       tells = ap (λ (x : Files). x.tells) f.prints.files ∙ (f.all.tells ∙ f.before.opens.tells);
       opened = subst O (sym f.prints.files) opened;

@@ -58,10 +58,25 @@ Prints p old new Done = new ≡ followed_by old (lines_of p)
 Prints p old new WriteFault = PrintsPart old new (lines_of p)
 Prints p old new end = new ≡ old
 
+-- no file was created, and each of them holds what it held
+pub record AreUntouched (old new : Files) : Type 0 where
+  pub held : new.held ≡ old.held
+  pub created : new.created ≡ old.created
+
+-- each of these names was opened just so often, the inputs are as declared, and no needed node meets a zero divisor
+pub record IsAccepted (p : Plan) (names : List (List ℕ)) (old new : Files) : Type 0 where
+  pub opened : new.opened ≡ raised_by names old.opened
+  pub values : HasValues p old
+
+-- Whatever the end: no file is touched before all of these names were opened, the inputs are accepted and all values are there.
+abbrev pub Looked : Plan → List (List ℕ) → Files → Files → Type 0
+Looked p names old new = AreUntouched old new ⊎ IsAccepted p names old new
+
 -- what a run of a job does
 pub record RunsPlan (p : Plan) (old new : View) (end : Ended) : Type 0 where
   pub cause : Cause p old new end
   pub saves : Saves p old.files new.files end
+  pub looked : Looked p p.inputs old.files new.files
   pub others : (n : List ℕ) → IsNoneOf n (names_saved p) → new.files.held n ≡ old.files.held n
   pub tells : new.files.tells ≡ old.files.tells
   pub opened : Opened p.inputs old.files.opened new.files.opened end
