@@ -26,6 +26,9 @@ trait Ledger {
     fn at_key(&self, key: u32) -> Option<AtKey>;
 
     fn at_worker(&self, worker: u32) -> Option<AtWorker>;
+
+    /// How many messages went to the number 0, and the place of the last that took key 0 away.
+    fn at_nobody(&self) -> (u64, u64);
 }
 
 /// What there is to ask about a key.
@@ -101,6 +104,14 @@ impl Ledger for Book {
             full: self.full(worker),
             holds_key_2: self.holds(worker, 2),
         })
+    }
+
+    fn at_nobody(&self) -> (u64, u64) {
+        if 0 < self.keys() {
+            (self.table().sent(0), self.table().fence(0, 0))
+        } else {
+            (0, 0)
+        }
     }
 }
 
@@ -380,22 +391,32 @@ fn mail(alloc: Global) -> Result<Sequence<(u32, Down)>, AllocError>
     Ok(mail)
 }
 
-/// How many messages went to the number 0, and the place of the one that took key 0 away, once the mail was sent.
-fn counts(alloc: Global) -> Result<(u64, u64), AllocError> {
-    let mut book = of_three(alloc)?;
+/// Sends the mail, where there is a key 0.
+fn send(book: &mut Book, mail: &[(u32, Down)])
+    requires sent { (w : ℕ) → (facts_of book.old).sent w ≡ 0 }
+    requires mail { mail.now ≡ (0, FreeKeys (0 ∷ [])) ∷ [] }
+{
+    if 0 < book.keys() {
+        book.post(mail);
+    }
+}
+
+/// Number 0 was sent one message, which took key 0 away.
+fn one_was_sent(rt: &impl Abort, book: &impl Ledger) {
+    assert_eq!(rt; book.at_nobody(), (1, 1));
+}
+
+/// Sends the message with a book of its own.
+fn post(rt: &impl Abort, alloc: Global) -> Result<(), AllocError> {
     let mail = mail(alloc)?;
-    if 0 < book.keys() {
-        book.post(mail.as_slice());
-    }
-    if 0 < book.keys() {
-        Ok((book.table().sent(0), book.table().fence(0, 0)))
-    } else {
-        Ok((0, 0))
-    }
+    let mut book = of_three(alloc)?;
+    send(&mut book, mail.as_slice());
+    one_was_sent(rt, &book);
+    Ok(())
 }
 
 #[test]
 fn a_message_takes_a_place_and_raises_its_fence(rt: HostRuntime) -> Result<(), Fail> {
-    assert_eq!(rt; counts(rt.alloc())?, (1, 1));
+    post(&rt, rt.alloc())?;
     Ok(())
 }
