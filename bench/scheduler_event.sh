@@ -1,7 +1,7 @@
 #!/bin/sh
 # Times single events of the scheduler's core at 1,000, 8,000 and 32,000 keys. It adds a small program to a temporary
-# copy of the repository, which is proved and built there (some minutes), and runs it five times. Run it on a quiet
-# machine.
+# copy of the repository, where all that stands below it is proved anew, then builds it and runs it five times. Run it
+# on a quiet machine.
 set -eu
 top=$(cd "$(dirname "$0")/.." && pwd)
 copy=$(mktemp -d)

@@ -18,3 +18,6 @@ pub mod takes;
 
 pub use book::Book;
 pub use rows::Effect;
+
+#[cfg(test)]
+mod tests;

@@ -211,9 +211,17 @@ fn finish(rt: &impl Abort, core: &mut impl Core, w: u32, key: u32, attempt: u64,
     from_worker(rt, core, w, Up::TaskFinished { seen, key, attempt }, out);
 }
 
-/// The worker says that it holds key 0, after it saw so many messages.
-fn add(rt: &impl Abort, alloc: Global, core: &mut impl Core, w: u32, seen: u64, out: &mut Outbox) {
-    let keys = keys(alloc, &[0]);
+/// The worker says that it holds the key, after it saw so many messages.
+fn add(
+    rt: &impl Abort,
+    alloc: Global,
+    core: &mut impl Core,
+    w: u32,
+    key: u32,
+    seen: u64,
+    out: &mut Outbox,
+) {
+    let keys = keys(alloc, &[key]);
     from_worker(rt, core, w, Up::AddKeys { seen, keys }, out);
 }
 
@@ -267,49 +275,48 @@ fn asks_back(out: &Outbox, place: usize, worker: u32, key: u32, attempt: u64) ->
     }
 }
 
-fn is_key_0(keys: &KeyList) -> bool {
-    keys.as_slice() == [0].as_slice()
+fn is_only(keys: &KeyList, key: u32) -> bool {
+    keys.as_slice() == [key].as_slice()
 }
 
-/// Whether the message at this place takes key 0 away from the worker.
-fn takes_away(out: &Outbox, place: usize, worker: u32) -> bool {
+/// Whether the message at this place takes the key away from the worker.
+fn takes_away(out: &Outbox, place: usize, worker: u32, key: u32) -> bool {
     match out.down.as_slice().get(place) {
-        Some((to, Down::FreeKeys { keys })) => *to == worker && is_key_0(keys),
-        Some((to, Down::RemoveReplicas { keys })) => *to == worker && is_key_0(keys),
+        Some((to, Down::FreeKeys { keys })) => *to == worker && is_only(keys, key),
+        Some((to, Down::RemoveReplicas { keys })) => *to == worker && is_only(keys, key),
         _ => false,
     }
 }
 
-/// Worker 1 alone finishes all three keys, key 0 last.
+/// Worker 1 alone finishes all three keys. It gets key 2 once it finished key 0.
 fn finish_three(rt: &impl Abort, alloc: Global, core: &mut impl Core, out: &mut Outbox) {
-    want(rt, alloc, core, &[1, 2], out);
+    want(rt, alloc, core, &[0, 1, 2], out);
     join(rt, core, out);
-    finish(rt, core, 1, 1, 1, out);
-    finish(rt, core, 1, 2, 2, out);
-    want(rt, alloc, core, &[0], out);
-    finish(rt, core, 1, 0, 5, out);
+    finish(rt, core, 1, 0, 1, out);
+    finish(rt, core, 1, 1, 2, out);
+    finish(rt, core, 1, 2, 4, out);
 }
 
-/// Key 0 is freed at worker 1. Wanted again, it is given to worker 2, which holds less, and finished there.
+/// Key 2 is freed at worker 1. Wanted again, it is given to worker 2, which holds less, and finished there.
 fn finish_again(rt: &impl Abort, alloc: Global, core: &mut impl Core, out: &mut Outbox) {
     join(rt, core, out);
-    release(rt, alloc, core, &[0], out);
-    want(rt, alloc, core, &[0], out);
-    finish(rt, core, 2, 0, 7, out);
+    release(rt, alloc, core, &[2], out);
+    want(rt, alloc, core, &[2], out);
+    finish(rt, core, 2, 2, 7, out);
 }
 
 /// Worker 1's news from before the fence makes it no holder; later news does.
 fn tell_late(rt: &impl Abort, alloc: Global, core: &mut impl Core, out: &mut Outbox) {
-    add(rt, alloc, core, 1, 3, out);
-    assert!(rt; !core.has(1, 0) && core.has(2, 0));
-    add(rt, alloc, core, 1, 4, out);
-    assert!(rt; core.has(1, 0) && out.down.len() == 5);
+    add(rt, alloc, core, 1, 2, 3, out);
+    assert!(rt; !core.has(1, 2) && core.has(2, 2));
+    add(rt, alloc, core, 1, 2, 4, out);
+    assert!(rt; core.has(1, 2) && out.down.len() == 5);
 }
 
 fn tell_late_news(rt: &impl Abort, alloc: Global, core: &mut impl Core, out: &mut Outbox) {
     finish_three(rt, alloc, core, out);
     finish_again(rt, alloc, core, out);
-    assert!(rt; takes_away(out, 3, 1) && gives(out, 4, 2, 0, 7));
+    assert!(rt; takes_away(out, 3, 1, 2) && gives(out, 4, 2, 2, 7));
     assert_eq!(rt; core.finished(), 4);
     tell_late(rt, alloc, core, out);
 }
@@ -357,7 +364,7 @@ fn lose_the_only_holder(rt: &impl Abort, alloc: Global, core: &mut impl Core, ou
 
 fn lose_a_second_holder(rt: &impl Abort, alloc: Global, core: &mut impl Core, out: &mut Outbox) {
     held_by_one(rt, alloc, core, out);
-    add(rt, alloc, core, 2, 0, out);
+    add(rt, alloc, core, 2, 0, 0, out);
     leave(rt, core, 1, out);
     assert!(rt; out.down.len() == 1 && out.clients.len() == 1);
     assert!(rt; core.is_in(0, Phase::Memory));
@@ -368,8 +375,8 @@ fn hold_three_times(rt: &impl Abort, alloc: Global, core: &mut impl Core, out: &
     want(rt, alloc, core, &[1, 2], out);
     finish(rt, core, 1, 0, 1, out);
     finish(rt, core, 2, 1, 2, out);
-    add(rt, alloc, core, 2, 9, out);
-    add(rt, alloc, core, 3, 9, out);
+    add(rt, alloc, core, 2, 0, 9, out);
+    add(rt, alloc, core, 3, 0, 9, out);
 }
 
 fn drop_what_is_to_spare(rt: &impl Abort, alloc: Global, core: &mut impl Core, out: &mut Outbox) {
@@ -378,18 +385,28 @@ fn drop_what_is_to_spare(rt: &impl Abort, alloc: Global, core: &mut impl Core, o
     join(rt, core, out);
     hold_three_times(rt, alloc, core, out);
     take(rt, core, SchedEvent::Evict, out);
-    assert!(rt; takes_away(out, 3, 2) && !core.has(2, 0));
+    assert!(rt; takes_away(out, 3, 2, 0) && !core.has(2, 0));
     assert_eq!(rt; core.take(SchedEvent::Evict, out), Err(Stop::Refused));
 }
 
-fn refuse(rt: &impl Abort, alloc: Global, core: &mut impl Core, out: &mut Outbox) {
+/// Worker 9 never joined.
+fn hear_a_stranger(rt: &impl Abort, core: &mut impl Core, out: &mut Outbox) {
+    let up = Up::RequestRefreshWhoHas { seen: 0, key: 0 };
+    let stranger = SchedEvent::FromWorker { w: 9, up };
+    assert_eq!(rt; core.take(stranger, out), Err(Stop::Refused));
     let left = SchedEvent::Leave { w: 9 };
     assert_eq!(rt; core.take(left, out), Err(Stop::Refused));
+}
+
+/// There is no key 7.
+fn refuse(rt: &impl Abort, alloc: Global, core: &mut impl Core, out: &mut Outbox) {
+    hear_a_stranger(rt, core, out);
     let keys = keys(alloc, &[7]);
     let msg = FromClient::Want { keys };
     let unknown = SchedEvent::FromClient { c: 1, msg };
     assert_eq!(rt; core.take(unknown, out), Err(Stop::Refused));
-    assert!(rt; !core.knows(0));
+    assert!(rt; !core.knows(0) && core.size() == (3, 0));
+    assert!(rt; out.down.is_empty() && out.clients.is_empty() && out.joined.is_empty());
 }
 
 /// Worker 1 of one thread has keys 0 and 1, of which key 2 waits for the first.
