@@ -13,7 +13,7 @@ use cluster_rules::Facts;
 /// A key may lose a replica where it has more holders than dependents that still wait for it, and one more. The least such
 /// key loses it at the holder with most bytes held, the least number among several.
 ///
-/// Takes no memory. It asks two questions for each key up to the one that it finds, and then two for each number that a
+/// Takes no memory. It asks two questions for each key up to the one that it finds, and then a few for each number that a
 /// worker got.
 pub fn next_drop<F: Facts>(facts: &F) -> Option<(u32, u32)>
     ensures is { result ≡ next_drop (F.facts facts.now) }
