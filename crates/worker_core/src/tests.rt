@@ -4,72 +4,174 @@ use cluster_msgs::{
     WorkerEvent,
 };
 use std::alloc::{AllocError, Global};
-use std::test::Fail;
+use std::process::Abort;
 
-/// Key 0, and key 1 which depends on it. Each block has 8 bytes.
-fn chain(alloc: Global) -> Result<GraphShape, AllocError> {
-    let mut shape = GraphShape::new(alloc);
-    shape.push(&KeyList::new(alloc), 8, 8)?;
-    let mut first = KeyList::new(alloc);
-    first.push(0)?;
-    shape.push(&first, 8, 8)?;
-    Ok(shape)
+/// What the tests ask of a worker. It has no contracts, so that the tests' own proofs stay short.
+trait Core {
+    fn take(&mut self, event: WorkerEvent, out: &mut Instructions) -> Result<(), Stop>;
+
+    /// The state of key 0.
+    fn first_state(&self) -> WState;
+
+    fn starts(&self) -> Option<u32>;
+
+    fn asks(&self, peer: u32) -> bool;
+
+    fn pair_count(&self) -> u64;
 }
 
-fn first_key(alloc: Global) -> Result<KeyList, AllocError> {
-    let mut list = KeyList::new(alloc);
-    list.push(0)?;
-    Ok(list)
+impl Core for WorkerCore {
+    fn take(&mut self, event: WorkerEvent, out: &mut Instructions) -> Result<(), Stop> {
+        self.on(event, out)
+    }
+
+    fn first_state(&self) -> WState {
+        self.state(0)
+    }
+
+    fn starts(&self) -> Option<u32> {
+        self.would_start()
+    }
+
+    fn asks(&self, peer: u32) -> bool {
+        self.would_ask(peer)
+    }
+
+    fn pair_count(&self) -> u64 {
+        self.pairs()
+    }
+}
+
+/// What happens in a test.
+#[derive(Clone, Copy)]
+enum Story {
+    GivenAgain,
+    InFlight,
+    Missing,
+    NotGivenUp,
+    New,
+}
+
+/// Adds a key without dependencies.
+fn push_alone(alloc: Global, shape: &mut GraphShape) -> Result<(), AllocError> {
+    shape.sound();
+    let none = KeyList::new(alloc);
+    if shape.keys() < 32768 {
+        shape.push(&none, 8, 8)?;
+    }
+    Ok(())
+}
+
+/// Adds a key that depends on key 0.
+fn push_fed(alloc: Global, shape: &mut GraphShape) -> Result<(), AllocError> {
+    let mut first = KeyList::new(alloc);
+    first.push(0)?;
+    if 0 < shape.keys() && shape.keys() < 32768 && shape.edges() < 262144 {
+        shape.push(&first, 8, 8)?;
+    }
+    Ok(())
+}
+
+/// Key 0, and key 1 which depends on it. Each block has 8 bytes.
+fn chain(rt: &impl Abort, alloc: Global) -> GraphShape {
+    let mut shape = GraphShape::new(alloc);
+    push_alone(alloc, &mut shape).expect(rt, "memory");
+    push_fed(alloc, &mut shape).expect(rt, "memory");
+    shape
+}
+
+fn first_key(rt: &impl Abort, alloc: Global) -> KeyList {
+    KeyList::from_vec(Vec::from_slice(alloc, &[0]).expect(rt, "memory"))
 }
 
 /// Key 0 with these holders.
-fn told_of(alloc: Global, holders: &[(u32, u64)]) -> Result<WhoHas, AllocError> {
-    let holders = Holders::from_vec(Vec::from_slice(alloc, holders)?);
+fn told_of(rt: &impl Abort, alloc: Global, holders: &[(u32, u64)]) -> WhoHas {
+    let holders = Holders::from_vec(Vec::from_slice(alloc, holders).expect(rt, "memory"));
     let mut list = WhoHas::new(alloc);
-    list.push((0, holders))?;
-    Ok(list)
+    list.push((0, holders)).expect(rt, "memory");
+    list
 }
 
-fn given(key: u32, attempt: u64, who_has: WhoHas) -> WorkerEvent {
-    WorkerEvent::Down(Down::ComputeTask {
-        key,
+/// Takes the event, which is possible, and leaves key 0 in this state.
+fn leads_to(
+    rt: &impl Abort,
+    core: &mut impl Core,
+    event: WorkerEvent,
+    state: WState,
+    out: &mut Instructions,
+) {
+    core.take(event, out).expect(rt, "the event is taken");
+    assert_eq!(rt; core.first_state(), state);
+}
+
+/// Takes a message of the scheduler.
+fn hear(
+    rt: &impl Abort,
+    core: &mut impl Core,
+    message: Down,
+    state: WState,
+    out: &mut Instructions,
+) {
+    leads_to(rt, core, WorkerEvent::Down(message), state, out);
+}
+
+/// Key 0 is given to the worker, which needs nothing for it.
+fn give_first(
+    rt: &impl Abort,
+    alloc: Global,
+    core: &mut impl Core,
+    attempt: u64,
+    state: WState,
+    out: &mut Instructions,
+) {
+    let task = Down::ComputeTask {
+        key: 0,
         attempt,
-        who_has,
-    })
-}
-
-fn done(key: u32, zero: bool) -> WorkerEvent {
-    WorkerEvent::Done { key, zero }
-}
-
-/// What a worker with one thread makes of these events, with the state of key 0 after each.
-fn play(alloc: Global, events: Vec<WorkerEvent>) -> Result<(Instructions, Vec<WState>), Stop> {
-    let mut core = WorkerCore::new(alloc, 1, 1, chain(alloc)?)?;
-    let mut out = Instructions::new(alloc);
-    let mut states = Vec::new(alloc);
-    for event in events {
-        core.on(event, &mut out)?;
-        states.push(core.state(0))?;
-    }
-    Ok((out, states))
-}
-
-#[test]
-fn a_cancelled_task_that_is_given_again_finishes_under_the_new_attempt(
-    rt: HostRuntime,
-) -> Result<(), Fail> {
-    let alloc = rt.alloc();
-    let freed = Down::FreeKeys {
-        keys: first_key(alloc)?,
+        who_has: WhoHas::new(alloc),
     };
-    let events = vec![in alloc;
-        given(0, 1, WhoHas::new(alloc)),
-        WorkerEvent::Start,
-        WorkerEvent::Down(freed),
-        given(0, 2, WhoHas::new(alloc)),
-        done(0, false),
-    ]?;
-    let (out, states) = play(alloc, events)?;
+    hear(rt, core, task, state, out);
+}
+
+fn end_first(
+    rt: &impl Abort,
+    core: &mut impl Core,
+    zero: bool,
+    state: WState,
+    out: &mut Instructions,
+) {
+    leads_to(rt, core, WorkerEvent::Done { key: 0, zero }, state, out);
+}
+
+fn ask_two(rt: &impl Abort, core: &mut impl Core, state: WState, out: &mut Instructions) {
+    leads_to(rt, core, WorkerEvent::Ask { peer: 2 }, state, out);
+}
+
+fn has_made(rt: &impl Abort, out: &Instructions, wanted: &[Instruction]) {
+    assert_eq!(rt; out.as_slice(), wanted);
+}
+
+fn free_and_give_again(
+    rt: &impl Abort,
+    alloc: Global,
+    core: &mut impl Core,
+    out: &mut Instructions,
+) {
+    give_first(rt, alloc, core, 1, WState::Ready, out);
+    leads_to(rt, core, WorkerEvent::Start, WState::Executing, out);
+    let keys = first_key(rt, alloc);
+    hear(
+        rt,
+        core,
+        Down::FreeKeys { keys },
+        WState::CancelledExecuting,
+        out,
+    );
+    give_first(rt, alloc, core, 2, WState::Executing, out);
+    end_first(rt, core, false, WState::Memory, out);
+}
+
+fn play_given_again(rt: &impl Abort, alloc: Global, core: &mut impl Core, out: &mut Instructions) {
+    free_and_give_again(rt, alloc, core, out);
     let finished = Up::TaskFinished {
         seen: 3,
         key: 0,
@@ -80,78 +182,95 @@ fn a_cancelled_task_that_is_given_again_finishes_under_the_new_attempt(
         Instruction::Keep { key: 0 },
         Instruction::Send(finished),
     ];
-    assert_eq!(rt; out.as_slice(), made.as_slice());
-    let passed = [
-        WState::Ready,
-        WState::Executing,
-        WState::CancelledExecuting,
-        WState::Executing,
-        WState::Memory,
-    ];
-    assert_eq!(rt; states.as_slice(), passed.as_slice());
-    Ok(())
+    has_made(rt, out, &made);
 }
 
-#[test]
-fn a_task_whose_block_was_in_flight_is_finished_by_the_gather(rt: HostRuntime) -> Result<(), Fail> {
-    let alloc = rt.alloc();
-    let sought = Down::AcquireReplicas {
-        who_has: told_of(alloc, &[(2, 40)])?,
+/// Key 0 is in flight as it is given, and comes.
+fn gather_what_is_given(
+    rt: &impl Abort,
+    alloc: Global,
+    core: &mut impl Core,
+    out: &mut Instructions,
+) {
+    let who_has = told_of(rt, alloc, &[(2, 40)]);
+    hear(
+        rt,
+        core,
+        Down::AcquireReplicas { who_has },
+        WState::Fetch,
+        out,
+    );
+    ask_two(rt, core, WState::Flight, out);
+    give_first(rt, alloc, core, 4, WState::ResumedFlight, out);
+    let gathered = WorkerEvent::Gathered {
+        peer: 2,
+        ask: 1,
+        found: first_key(rt, alloc),
     };
-    let found = first_key(alloc)?;
-    let events = vec![in alloc;
-        WorkerEvent::Down(sought),
-        WorkerEvent::Ask { peer: 2 },
-        given(0, 4, WhoHas::new(alloc)),
-        WorkerEvent::Gathered {
-            peer: 2,
-            ask: 1,
-            found
-        },
-    ]?;
-    let (out, states) = play(alloc, events)?;
-    let keys = first_key(alloc)?;
+    leads_to(rt, core, gathered, WState::Memory, out);
+}
+
+/// The first key is asked of worker 2.
+fn gather_first(rt: &impl Abort, alloc: Global) -> Instruction {
+    Instruction::Gather {
+        peer: 2,
+        ask: 1,
+        keys: first_key(rt, alloc),
+    }
+}
+
+fn play_in_flight(rt: &impl Abort, alloc: Global, core: &mut impl Core, out: &mut Instructions) {
+    gather_what_is_given(rt, alloc, core, out);
     let finished = Up::TaskFinished {
         seen: 2,
         key: 0,
         attempt: 4,
     };
     let made = [
-        Instruction::Gather {
-            peer: 2,
-            ask: 1,
-            keys,
-        },
+        gather_first(rt, alloc),
         Instruction::Keep { key: 0 },
         Instruction::Send(finished),
     ];
-    assert_eq!(rt; out.as_slice(), made.as_slice());
-    let passed = [
-        WState::Fetch,
-        WState::Flight,
-        WState::ResumedFlight,
-        WState::Memory,
-    ];
-    assert_eq!(rt; states.as_slice(), passed.as_slice());
-    Ok(())
+    has_made(rt, out, &made);
 }
 
-#[test]
-fn a_missing_key_is_asked_for_once_and_a_failed_gather_is_told(
-    rt: HostRuntime,
-) -> Result<(), Fail> {
-    let alloc = rt.alloc();
-    let told = Down::RefreshWhoHas {
-        who_has: told_of(alloc, &[(2, 40)])?,
+/// Key 1 is given while nobody is known to hold key 0, which it needs.
+fn give_second(rt: &impl Abort, alloc: Global, core: &mut impl Core, out: &mut Instructions) {
+    let task = Down::ComputeTask {
+        key: 1,
+        attempt: 1,
+        who_has: told_of(rt, alloc, &[]),
     };
-    let events = vec![in alloc;
-        given(1, 1, told_of(alloc, &[])?),
-        WorkerEvent::GatherFailed { peer: 2, ask: 1 },
-        WorkerEvent::Down(told),
-        WorkerEvent::Ask { peer: 2 },
-        WorkerEvent::GatherFailed { peer: 2, ask: 1 },
-    ]?;
-    let (out, states) = play(alloc, events)?;
+    hear(rt, core, task, WState::Missing, out);
+}
+
+fn fail_to_gather(rt: &impl Abort, core: &mut impl Core, out: &mut Instructions) {
+    let failed = WorkerEvent::GatherFailed { peer: 2, ask: 1 };
+    leads_to(rt, core, failed, WState::Missing, out);
+}
+
+fn miss_what_is_needed(
+    rt: &impl Abort,
+    alloc: Global,
+    core: &mut impl Core,
+    out: &mut Instructions,
+) {
+    give_second(rt, alloc, core, out);
+    fail_to_gather(rt, core, out);
+    let who_has = told_of(rt, alloc, &[(2, 40)]);
+    hear(
+        rt,
+        core,
+        Down::RefreshWhoHas { who_has },
+        WState::Fetch,
+        out,
+    );
+    ask_two(rt, core, WState::Flight, out);
+    fail_to_gather(rt, core, out);
+}
+
+fn play_missing(rt: &impl Abort, alloc: Global, core: &mut impl Core, out: &mut Instructions) {
+    miss_what_is_needed(rt, alloc, core, out);
     let question = Up::RequestRefreshWhoHas { seen: 1, key: 0 };
     let missing = Up::MissingData {
         seen: 2,
@@ -159,39 +278,34 @@ fn a_missing_key_is_asked_for_once_and_a_failed_gather_is_told(
         holder: 2,
         copy: 40,
     };
-    let keys = first_key(alloc)?;
     let made = [
         Instruction::Send(question),
-        Instruction::Gather {
-            peer: 2,
-            ask: 1,
-            keys,
-        },
+        gather_first(rt, alloc),
         Instruction::Send(missing),
     ];
-    assert_eq!(rt; out.as_slice(), made.as_slice());
-    let passed = [
-        WState::Missing,
-        WState::Missing,
-        WState::Fetch,
-        WState::Flight,
-        WState::Missing,
-    ];
-    assert_eq!(rt; states.as_slice(), passed.as_slice());
-    Ok(())
+    has_made(rt, out, &made);
 }
 
-#[test]
-fn a_task_that_runs_is_not_given_up(rt: HostRuntime) -> Result<(), Fail> {
-    let alloc = rt.alloc();
+/// Takes the event, which is possible.
+fn take(rt: &impl Abort, core: &mut impl Core, event: WorkerEvent, out: &mut Instructions) {
+    core.take(event, out).expect(rt, "the event is taken");
+}
+
+fn ask_back_what_runs(
+    rt: &impl Abort,
+    alloc: Global,
+    core: &mut impl Core,
+    out: &mut Instructions,
+) {
+    give_first(rt, alloc, core, 1, WState::Ready, out);
+    take(rt, core, WorkerEvent::Start, out);
     let asked = Down::StealRequest { key: 0, attempt: 1 };
-    let events = vec![in alloc;
-        given(0, 1, WhoHas::new(alloc)),
-        WorkerEvent::Start,
-        WorkerEvent::Down(asked),
-        done(0, true),
-    ]?;
-    let (out, _states) = play(alloc, events)?;
+    take(rt, core, WorkerEvent::Down(asked), out);
+    take(rt, core, WorkerEvent::Done { key: 0, zero: true }, out);
+}
+
+fn play_not_given_up(rt: &impl Abort, alloc: Global, core: &mut impl Core, out: &mut Instructions) {
+    ask_back_what_runs(rt, alloc, core, out);
     let no = Up::StealResponse {
         seen: 2,
         key: 0,
@@ -208,19 +322,60 @@ fn a_task_that_runs_is_not_given_up(rt: HostRuntime) -> Result<(), Fail> {
         Instruction::Send(no),
         Instruction::Send(erred),
     ];
-    assert_eq!(rt; out.as_slice(), made.as_slice());
-    Ok(())
+    has_made(rt, out, &made);
+}
+
+fn play_new(rt: &impl Abort, core: &mut impl Core, out: &mut Instructions) {
+    assert_eq!(rt; core.starts(), None);
+    assert_eq!(rt; (core.asks(2), core.pair_count()), (false, 0));
+    assert_eq!(rt; core.take(WorkerEvent::Start, out), Err(Stop::Refused));
+}
+
+fn play(
+    rt: &impl Abort,
+    alloc: Global,
+    story: Story,
+    core: &mut impl Core,
+    out: &mut Instructions,
+) {
+    match story {
+        Story::GivenAgain => play_given_again(rt, alloc, core, out),
+        Story::InFlight => play_in_flight(rt, alloc, core, out),
+        Story::Missing => play_missing(rt, alloc, core, out),
+        Story::NotGivenUp => play_not_given_up(rt, alloc, core, out),
+        Story::New => play_new(rt, core, out),
+    }
+}
+
+/// Plays the story with a worker of one thread over a chain of two keys. It alone owns a worker, since a proof pays for
+/// each owner.
+fn run(rt: &impl Abort, alloc: Global, story: Story) {
+    let mut core = WorkerCore::new(alloc, 1, 1, chain(rt, alloc)).expect(rt, "memory");
+    let mut out = Instructions::new(alloc);
+    play(rt, alloc, story, &mut core, &mut out);
 }
 
 #[test]
-fn a_new_worker_has_nothing_to_do_and_is_not_always_out_of_memory(
-    rt: HostRuntime,
-) -> Result<(), Fail> {
-    let alloc = rt.alloc();
-    let mut core = WorkerCore::new(alloc, 1, 1, chain(alloc)?)?;
-    let mut out = Instructions::new(alloc);
-    assert_eq!(rt; core.would_start(), None);
-    assert_eq!(rt; (core.would_ask(2), core.pairs()), (false, 0));
-    assert_eq!(rt; core.on(WorkerEvent::Start, &mut out), Err(Stop::Refused));
-    Ok(())
+fn a_cancelled_task_that_is_given_again_finishes_under_the_new_attempt(rt: HostRuntime) {
+    run(&rt, rt.alloc(), Story::GivenAgain);
+}
+
+#[test]
+fn a_task_whose_block_was_in_flight_is_finished_by_the_gather(rt: HostRuntime) {
+    run(&rt, rt.alloc(), Story::InFlight);
+}
+
+#[test]
+fn a_missing_key_is_asked_for_once_and_a_failed_gather_is_told(rt: HostRuntime) {
+    run(&rt, rt.alloc(), Story::Missing);
+}
+
+#[test]
+fn a_task_that_runs_is_not_given_up(rt: HostRuntime) {
+    run(&rt, rt.alloc(), Story::NotGivenUp);
+}
+
+#[test]
+fn a_new_worker_has_nothing_to_do_and_is_not_always_out_of_memory(rt: HostRuntime) {
+    run(&rt, rt.alloc(), Story::New);
 }
