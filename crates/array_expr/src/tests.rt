@@ -1,151 +1,209 @@
 // Shapes and refusals: expected values by NumPy's and Dask's pages, and counted by hand.
-ghost use Rattle.std.specs.Prelude.{◌≡◌, ℕ, length, IfOk};
+ghost use Rattle.std.specs.Prelude.{◌≡◌, ◌<◌, ◌+◌, ℕ, length};
 ghost use Rattle.array_expr.specs.Node.{NamesNodes};
 
 use crate::{Binary, Expr, Fold, NODES, NodeError, NodeId, NodeIds, Op, Quantity, Span, Spans};
 use nd_shape::{Axes, ChunkError, ChunkSpec, Dims, Part, Parts, ShapeError, Specs};
-use std::alloc::{AllocError, Global};
-use std::test::Fail;
+use std::alloc::Global;
+use std::process::Abort;
 
-fn list(alloc: Global, numbers: &[u64]) -> Result<Dims, AllocError> {
-    Ok(Dims::from_vec(Vec::from_slice(alloc, numbers)?))
+// The lengths of what an operation gives, or why it is refused.
+type Answer = Result<Vec<u64>, NodeError>;
+
+// Where memory fails a helper ends the test by the handle: it has one way out, which keeps its proof short.
+
+fn list(rt: &impl Abort, alloc: Global, numbers: &[u64]) -> Dims {
+    Dims::from_vec(Vec::from_slice(alloc, numbers).expect(rt, "memory"))
+}
+
+fn add_chunks(rt: &impl Abort, specs: &mut Specs, chunks: ChunkSpec) {
+    specs.push(chunks).expect(rt, "memory");
 }
 
 // One size per axis.
-fn even(alloc: Global, sizes: &[u64]) -> Result<Specs, AllocError> {
+fn even(rt: &impl Abort, alloc: Global, sizes: &[u64]) -> Specs {
     let mut specs = Specs::new(alloc);
     for size in sizes {
-        specs.push(ChunkSpec::Even(*size))?;
+        add_chunks(rt, &mut specs, ChunkSpec::Even(*size));
     }
-    Ok(specs)
+    specs
 }
 
-fn parts(alloc: Global, given: &[Part]) -> Result<Parts, AllocError> {
-    Ok(Parts::from_vec(Vec::from_slice(alloc, given)?))
+// Chunks of 1 on each of these axes.
+fn smallest(rt: &impl Abort, alloc: Global, lengths: &[u64]) -> Specs {
+    let mut specs = Specs::new(alloc);
+    for _ in lengths {
+        add_chunks(rt, &mut specs, ChunkSpec::Even(1));
+    }
+    specs
 }
 
-fn full(alloc: Global, lengths: &[u64], sizes: &[u64]) -> Result<Op, AllocError>
-    ensures { IfOk result (λ op. (count : ℕ) → NamesNodes op count) }
+fn full(rt: &impl Abort, alloc: Global, lengths: &[u64], sizes: &[u64]) -> Op
+    ensures { (count : ℕ) → NamesNodes result count }
 {
-    Ok(Op::Full {
-        dims: list(alloc, lengths)?,
+    Op::Full {
+        dims: list(rt, alloc, lengths),
         value: 7,
-        chunks: even(alloc, sizes)?,
-    })
+        chunks: even(rt, alloc, sizes),
+    }
 }
 
 // An array with these lengths, in chunks of 1.
-fn ones(alloc: Global, lengths: &[u64]) -> Result<Op, AllocError>
-    ensures { IfOk result (λ op. (count : ℕ) → NamesNodes op count) }
+fn ones(rt: &impl Abort, alloc: Global, lengths: &[u64]) -> Op
+    ensures { (count : ℕ) → NamesNodes result count }
 {
-    Ok(Op::Ramp {
-        dims: list(alloc, lengths)?,
+    Op::Ramp {
+        dims: list(rt, alloc, lengths),
         start: 0,
         step: 1,
-        chunks: even(alloc, [1; 8].as_slice().get(..lengths.len()).unwrap_or(&[]))?,
-    })
+        chunks: smallest(rt, alloc, lengths),
+    }
+}
+
+fn add_ones(rt: &impl Abort, alloc: Global, expr: &mut Expr, lengths: &[u64])
+    ensures { length expr.new ≡ length expr.old + 1 }
+{
+    expr.add_node(ones(rt, alloc, lengths))
+        .expect(rt, "an array");
 }
 
 // An expression whose nodes 0 and 1 are arrays with these lengths.
-fn two(alloc: Global, left: &[u64], right: &[u64]) -> Result<Expr, Fail>
-    ensures { IfOk result (λ expr. length expr ≡ 2) }
+fn two(rt: &impl Abort, alloc: Global, left: &[u64], right: &[u64]) -> Expr
+    ensures { length result ≡ 2 }
 {
     let mut expr = Expr::new(alloc);
-    expr.add_node(ones(alloc, left)?)?;
-    expr.add_node(ones(alloc, right)?)?;
-    Ok(expr)
+    add_ones(rt, alloc, &mut expr, left);
+    add_ones(rt, alloc, &mut expr, right);
+    expr
 }
 
-// The shape of an operation on two arrays with these lengths.
-fn shape(alloc: Global, left: &[u64], right: &[u64], op: Op) -> Result<Vec<u64>, Fail>
-    requires { NamesNodes op 2 }
+fn lengths_of(rt: &impl Abort, alloc: Global, expr: &Expr, node: NodeId) -> Vec<u64>
+    requires { node < length expr.now }
 {
-    let mut expr = two(alloc, left, right)?;
-    let node = expr.add_node(op)?;
-    Ok(Vec::from_slice(alloc, expr.shape_of(node).dims())?)
+    Vec::from_slice(alloc, expr.shape_of(node).dims()).expect(rt, "memory")
 }
 
-// Why an operation on two arrays with these lengths is refused. It leaves the expression as it was.
-fn refusal(alloc: Global, left: &[u64], right: &[u64], op: Op) -> Result<NodeError, Fail>
+// The answer to an operation on two arrays with these lengths. One that is refused leaves the expression as it was.
+fn answer(rt: &impl Abort, alloc: Global, left: &[u64], right: &[u64], op: Op) -> Answer
     requires { NamesNodes op 2 }
 {
-    let mut expr = two(alloc, left, right)?;
+    let mut expr = two(rt, alloc, left, right);
     match expr.add_node(op) {
-        Ok(_) => Err("not refused")?,
+        Ok(node) => Ok(lengths_of(rt, alloc, &expr, node)),
         Err(e) => {
-            if expr.nodes().len() != 2 {
-                return Err("changed")?;
-            }
-            Ok(e)
+            assert_eq!(rt; expr.nodes().len(), 2);
+            Err(e)
         }
     }
 }
 
-fn sum_of_both() -> Op
-    ensures { NamesNodes result 2 }
-{
-    Op::Elementwise {
+fn added(rt: &impl Abort, alloc: Global, left: &[u64], right: &[u64]) -> Answer {
+    let op = Op::Elementwise {
         op: Binary::Add,
         left: NodeId::new(0),
         right: NodeId::new(1),
-    }
+    };
+    answer(rt, alloc, left, right, op)
 }
 
-fn slice(alloc: Global, given: &[Part]) -> Result<Op, AllocError>
-    ensures { IfOk result (λ op. NamesNodes op 2) }
-{
-    Ok(Op::Slice {
+fn chosen(rt: &impl Abort, alloc: Global, left: &[u64], right: &[u64]) -> Answer {
+    let op = Op::Where {
+        cond: NodeId::new(0),
+        yes: NodeId::new(1),
+        no: NodeId::new(1),
+    };
+    answer(rt, alloc, left, right, op)
+}
+
+// The second array, negated.
+fn negated(rt: &impl Abort, alloc: Global, left: &[u64], right: &[u64]) -> Answer {
+    let op = Op::Negate { of: NodeId::new(1) };
+    answer(rt, alloc, left, right, op)
+}
+
+fn sliced(rt: &impl Abort, alloc: Global, lengths: &[u64], given: &[Part]) -> Answer {
+    let parts = Vec::from_slice(alloc, given).expect(rt, "memory");
+    let op = Op::Slice {
         of: NodeId::new(0),
-        parts: parts(alloc, given)?,
-    })
+        parts: Parts::from_vec(parts),
+    };
+    answer(rt, alloc, lengths, &[], op)
 }
 
-fn reduce(alloc: Global, fold: Fold, axes: &[u64], split: u64) -> Result<Op, AllocError>
-    ensures { IfOk result (λ op. NamesNodes op 2) }
-{
-    Ok(Op::Reduce {
-        fold,
+fn filled(rt: &impl Abort, alloc: Global, lengths: &[u64], sizes: &[u64]) -> Answer {
+    answer(rt, alloc, &[], &[], full(rt, alloc, lengths, sizes))
+}
+
+// An array in one list of chunks.
+fn rechunked(rt: &impl Abort, alloc: Global, lengths: &[u64], sizes: &[u64]) -> Answer {
+    let mut chunks = Specs::new(alloc);
+    add_chunks(rt, &mut chunks, ChunkSpec::List(list(rt, alloc, sizes)));
+    let op = Op::Rechunk {
         of: NodeId::new(0),
-        axes: Some(list(alloc, axes)?),
-        split,
-    })
+        chunks,
+    };
+    answer(rt, alloc, lengths, &[], op)
 }
 
-fn product(alloc: Global, left_axes: &[u64], right_axes: &[u64]) -> Result<Op, AllocError>
-    ensures { IfOk result (λ op. NamesNodes op 2) }
-{
-    Ok(Op::Tensordot {
-        left: NodeId::new(0),
-        right: NodeId::new(1),
-        left_axes: list(alloc, left_axes)?,
-        right_axes: list(alloc, right_axes)?,
-    })
-}
-
-fn transpose(alloc: Global, axes: &[u64]) -> Result<Op, AllocError>
-    ensures { IfOk result (λ op. NamesNodes op 2) }
-{
-    Ok(Op::Transpose {
+fn transposed(rt: &impl Abort, alloc: Global, lengths: &[u64], axes: &[u64]) -> Answer {
+    let op = Op::Transpose {
         of: NodeId::new(0),
-        axes: list(alloc, axes)?,
-    })
+        axes: list(rt, alloc, axes),
+    };
+    answer(rt, alloc, lengths, &[], op)
 }
 
 // Both arrays along an axis.
-fn joined(
+fn joined(rt: &impl Abort, alloc: Global, left: &[u64], right: &[u64], axis: u64) -> Answer {
+    let mut of = NodeIds::new(alloc);
+    of.push(NodeId::new(0)).expect(rt, "memory");
+    of.push(NodeId::new(1)).expect(rt, "memory");
+    answer(rt, alloc, left, right, Op::Concatenate { of, axis })
+}
+
+fn folded(
+    rt: &impl Abort,
+    alloc: Global,
+    lengths: &[u64],
+    fold: Fold,
+    axes: &[u64],
+    split: u64,
+) -> Answer {
+    let op = Op::Reduce {
+        fold,
+        of: NodeId::new(0),
+        axes: Some(list(rt, alloc, axes)),
+        split,
+    };
+    answer(rt, alloc, lengths, &[], op)
+}
+
+// The product over all axes.
+fn multiplied(rt: &impl Abort, alloc: Global, lengths: &[u64]) -> Answer {
+    let op = Op::Reduce {
+        fold: Fold::Prod,
+        of: NodeId::new(0),
+        axes: None,
+        split: 4,
+    };
+    answer(rt, alloc, lengths, &[], op)
+}
+
+fn paired(
+    rt: &impl Abort,
     alloc: Global,
     left: &[u64],
     right: &[u64],
-    axis: u64,
-) -> Result<Result<Vec<u64>, NodeError>, Fail> {
-    let mut expr = two(alloc, left, right)?;
-    let mut of = NodeIds::new(alloc);
-    of.push(NodeId::new(0))?;
-    of.push(NodeId::new(1))?;
-    match expr.add_node(Op::Concatenate { of, axis }) {
-        Ok(node) => Ok(Ok(Vec::from_slice(alloc, expr.shape_of(node).dims())?)),
-        Err(e) => Ok(Err(e)),
-    }
+    left_axes: &[u64],
+    right_axes: &[u64],
+) -> Answer {
+    let op = Op::Tensordot {
+        left: NodeId::new(0),
+        right: NodeId::new(1),
+        left_axes: list(rt, alloc, left_axes),
+        right_axes: list(rt, alloc, right_axes),
+    };
+    answer(rt, alloc, left, right, op)
 }
 
 const ALL: Part = Part::Range(None, None, None);
@@ -162,234 +220,202 @@ fn limit(quantity: Quantity) -> NodeError {
     NodeError::Limit { quantity }
 }
 
+fn is_shape(rt: &impl Abort, answer: Answer, wanted: &[u64]) {
+    let lengths = answer.expect(rt, "a shape");
+    assert_eq!(rt; lengths.as_slice(), wanted);
+}
+
+fn is_refused(rt: &impl Abort, answer: Answer, why: NodeError) {
+    assert_eq!(rt; answer.err(), Some(why));
+}
+
 #[test]
-fn arrays_are_broadcast(rt: HostRuntime) -> Result<(), Fail> {
+fn arrays_are_broadcast(rt: HostRuntime) {
     let alloc = rt.alloc();
-    assert_eq!(rt;
-        shape(alloc, &[3, 1], &[1, 4], sum_of_both())?.as_slice(),
-        [3, 4].as_slice()
+    is_shape(&rt, added(&rt, alloc, &[3, 1], &[1, 4]), &[3, 4]);
+    is_refused(&rt, added(&rt, alloc, &[3], &[4]), misfit(0, 3, 4));
+    let large = added(&rt, alloc, &[65536, 1], &[1, 65536]);
+    is_refused(&rt, large, limit(Quantity::Elements));
+    is_shape(&rt, chosen(&rt, alloc, &[2, 1], &[3]), &[2, 3]);
+    is_shape(&rt, negated(&rt, alloc, &[], &[2, 0]), &[2, 0]);
+}
+
+#[test]
+fn slices_take_and_drop_axes(rt: HostRuntime) {
+    let alloc = rt.alloc();
+    let back = Part::Range(None, None, Some(-2));
+    is_shape(&rt, sliced(&rt, alloc, &[5], &[back]), &[3]);
+    let none = Part::Range(Some(5), Some(2), None);
+    is_shape(&rt, sliced(&rt, alloc, &[5], &[none]), &[0]);
+    is_shape(&rt, sliced(&rt, alloc, &[2, 3], &[Part::At(-1)]), &[3]);
+    is_shape(&rt, sliced(&rt, alloc, &[2, 3], &[ALL, Part::At(0)]), &[2]);
+}
+
+#[test]
+fn parts_are_refused_from_the_left(rt: HostRuntime) {
+    let alloc = rt.alloc();
+    let many = sliced(&rt, alloc, &[5], &[ALL, Part::At(9)]);
+    let parts = ShapeError::TooManyParts { parts: 2, axes: 1 };
+    is_refused(&rt, many, NodeError::Shape(parts));
+    let still = Part::Range(None, None, Some(0));
+    let both = sliced(&rt, alloc, &[2, 3], &[still, Part::At(3)]);
+    is_refused(&rt, both, NodeError::Shape(ShapeError::ZeroStep));
+    let outside = sliced(&rt, alloc, &[2, 3], &[Part::At(-3), Part::At(9)]);
+    let index = ShapeError::BadIndex { index: -3, len: 2 };
+    is_refused(&rt, outside, NodeError::Shape(index));
+}
+
+#[test]
+fn chunks_are_looked_at_after_limits(rt: HostRuntime) {
+    let alloc = rt.alloc();
+    let long = filled(&rt, alloc, &[1, 1, 1, 1, 1, 1, 1, 1, 2147483649], &[]);
+    is_refused(&rt, long, limit(Quantity::Axes));
+    let large = filled(&rt, alloc, &[0, 2147483649], &[0]);
+    is_refused(&rt, large, limit(Quantity::Elements));
+    let count = ChunkError::AxisCount { given: 1, axes: 2 };
+    is_refused(
+        &rt,
+        filled(&rt, alloc, &[2, 3], &[0]),
+        NodeError::Chunks(count),
     );
-    assert_eq!(rt; refusal(alloc, &[3], &[4], sum_of_both())?, misfit(0, 3, 4));
-    assert_eq!(rt;
-        refusal(alloc, &[65536, 1], &[1, 65536], sum_of_both())?,
-        limit(Quantity::Elements)
+    let zero = ChunkError::ZeroChunk { axis: 1 };
+    is_refused(
+        &rt,
+        filled(&rt, alloc, &[2, 3], &[1, 0]),
+        NodeError::Chunks(zero),
     );
-    let choice = Op::Where {
-        cond: NodeId::new(0),
-        yes: NodeId::new(1),
-        no: NodeId::new(1),
+    let sum = ChunkError::SumDiffers {
+        axis: 0,
+        sum: 3,
+        len: 4,
     };
-    assert_eq!(rt;
-        shape(alloc, &[2, 1], &[3], choice)?.as_slice(),
-        [2, 3].as_slice()
+    is_refused(
+        &rt,
+        rechunked(&rt, alloc, &[4], &[1, 2]),
+        NodeError::Chunks(sum),
     );
-    let negation = Op::Negate { of: NodeId::new(1) };
-    assert_eq!(rt;
-        shape(alloc, &[], &[2, 0], negation)?.as_slice(),
-        [2, 0].as_slice()
-    );
-    Ok(())
 }
 
 #[test]
-fn slices_take_and_drop_axes(rt: HostRuntime) -> Result<(), Fail> {
+fn axes_are_put_in_another_order(rt: HostRuntime) {
     let alloc = rt.alloc();
-    let back = slice(alloc, &[Part::Range(None, None, Some(-2))])?;
-    assert_eq!(rt; shape(alloc, &[5], &[], back)?.as_slice(), [3].as_slice());
-    let none = slice(alloc, &[Part::Range(Some(5), Some(2), None)])?;
-    assert_eq!(rt; shape(alloc, &[5], &[], none)?.as_slice(), [0].as_slice());
-    let row = slice(alloc, &[Part::At(-1)])?;
-    assert_eq!(rt; shape(alloc, &[2, 3], &[], row)?.as_slice(), [3].as_slice());
-    let column = slice(alloc, &[ALL, Part::At(0)])?;
-    assert_eq!(rt;
-        shape(alloc, &[2, 3], &[], column)?.as_slice(),
-        [2].as_slice()
+    let turned = transposed(&rt, alloc, &[2, 3, 4], &[2, 0, 1]);
+    is_shape(&rt, turned, &[4, 2, 3]);
+    is_refused(
+        &rt,
+        transposed(&rt, alloc, &[2, 3], &[0, 2, 2]),
+        bad_axis(2),
     );
-    Ok(())
+    is_refused(
+        &rt,
+        transposed(&rt, alloc, &[2, 3], &[1, 0, 1]),
+        bad_axis(1),
+    );
+    is_refused(&rt, transposed(&rt, alloc, &[2, 3], &[1]), bad_axis(1));
 }
 
 #[test]
-fn parts_are_refused_from_the_left(rt: HostRuntime) -> Result<(), Fail> {
+fn arrays_are_joined(rt: HostRuntime) {
     let alloc = rt.alloc();
-    let many = slice(alloc, &[ALL, Part::At(9)])?;
-    assert_eq!(rt;
-        refusal(alloc, &[5], &[], many)?,
-        NodeError::Shape(ShapeError::TooManyParts { parts: 2, axes: 1 })
+    is_shape(&rt, joined(&rt, alloc, &[2, 3], &[4, 3], 0), &[6, 3]);
+    is_refused(&rt, joined(&rt, alloc, &[2], &[4, 3], 5), misfit(0, 1, 2));
+    is_refused(&rt, joined(&rt, alloc, &[2, 3], &[4, 3], 2), bad_axis(2));
+    is_refused(
+        &rt,
+        joined(&rt, alloc, &[2, 3], &[4, 5], 0),
+        misfit(1, 3, 5),
     );
-    let both = slice(alloc, &[Part::Range(None, None, Some(0)), Part::At(3)])?;
-    assert_eq!(rt;
-        refusal(alloc, &[2, 3], &[], both)?,
-        NodeError::Shape(ShapeError::ZeroStep)
-    );
-    let outside = slice(alloc, &[Part::At(-3), Part::At(9)])?;
-    assert_eq!(rt;
-        refusal(alloc, &[2, 3], &[], outside)?,
-        NodeError::Shape(ShapeError::BadIndex { index: -3, len: 2 })
-    );
-    Ok(())
+    let large = joined(&rt, alloc, &[2147483648], &[1], 0);
+    is_refused(&rt, large, limit(Quantity::Elements));
 }
 
 #[test]
-fn chunks_are_looked_at_after_limits(rt: HostRuntime) -> Result<(), Fail> {
+fn axes_are_folded(rt: HostRuntime) {
     let alloc = rt.alloc();
-    let op = full(alloc, &[1, 1, 1, 1, 1, 1, 1, 1, 2147483649], &[])?;
-    assert_eq!(rt; refusal(alloc, &[], &[], op)?, limit(Quantity::Axes));
-    let op = full(alloc, &[0, 2147483649], &[0])?;
-    assert_eq!(rt; refusal(alloc, &[], &[], op)?, limit(Quantity::Elements));
-    let op = full(alloc, &[2, 3], &[0])?;
-    assert_eq!(rt;
-        refusal(alloc, &[], &[], op)?,
-        NodeError::Chunks(ChunkError::AxisCount { given: 1, axes: 2 })
+    is_shape(&rt, folded(&rt, alloc, &[2, 3], Fold::Sum, &[0], 2), &[3]);
+    is_shape(&rt, multiplied(&rt, alloc, &[2, 0]), &[]);
+    let repeated = folded(&rt, alloc, &[2, 3], Fold::Sum, &[1, 1], 1);
+    is_refused(&rt, repeated, bad_axis(1));
+    let empty = folded(&rt, alloc, &[2, 0, 0], Fold::Min, &[2, 1], 1);
+    let nothing = ShapeError::EmptyReduce { axis: 1 };
+    is_refused(&rt, empty, NodeError::Shape(nothing));
+    let split = folded(&rt, alloc, &[2], Fold::Max, &[0], 1);
+    is_refused(
+        &rt,
+        split,
+        NodeError::Shape(ShapeError::BadSplit { split: 1 }),
     );
-    let op = full(alloc, &[2, 3], &[1, 0])?;
-    assert_eq!(rt;
-        refusal(alloc, &[], &[], op)?,
-        NodeError::Chunks(ChunkError::ZeroChunk { axis: 1 })
-    );
-    let mut chunks = Specs::new(alloc);
-    chunks.push(ChunkSpec::List(list(alloc, &[1, 2])?))?;
-    let op = Op::Rechunk {
-        of: NodeId::new(0),
-        chunks,
-    };
-    assert_eq!(rt;
-        refusal(alloc, &[4], &[], op)?,
-        NodeError::Chunks(ChunkError::SumDiffers {
-            axis: 0,
-            sum: 3,
-            len: 4
-        })
-    );
-    Ok(())
+    let wide = folded(&rt, alloc, &[65536, 65536, 0], Fold::Sum, &[2], 4);
+    is_refused(&rt, wide, limit(Quantity::Elements));
 }
 
 #[test]
-fn axes_are_put_in_another_order(rt: HostRuntime) -> Result<(), Fail> {
+fn axes_are_paired(rt: HostRuntime) {
     let alloc = rt.alloc();
-    let turned = transpose(alloc, &[2, 0, 1])?;
-    assert_eq!(rt;
-        shape(alloc, &[2, 3, 4], &[], turned)?.as_slice(),
-        [4, 2, 3].as_slice()
+    let (left, right) = ([2, 3], [3, 2]);
+    is_shape(&rt, paired(&rt, alloc, &left, &right, &[1], &[0]), &[2, 2]);
+    is_refused(
+        &rt,
+        paired(&rt, alloc, &left, &right, &[1], &[7]),
+        bad_axis(7),
     );
-    let outside = transpose(alloc, &[0, 2, 2])?;
-    assert_eq!(rt; refusal(alloc, &[2, 3], &[], outside)?, bad_axis(2));
-    let repeated = transpose(alloc, &[1, 0, 1])?;
-    assert_eq!(rt; refusal(alloc, &[2, 3], &[], repeated)?, bad_axis(1));
-    let few = transpose(alloc, &[1])?;
-    assert_eq!(rt; refusal(alloc, &[2, 3], &[], few)?, bad_axis(1));
-    Ok(())
+    is_refused(
+        &rt,
+        paired(&rt, alloc, &left, &right, &[4], &[7]),
+        bad_axis(4),
+    );
+    is_refused(
+        &rt,
+        paired(&rt, alloc, &left, &right, &[0, 1], &[0]),
+        bad_axis(1),
+    );
+    let unequal = paired(&rt, alloc, &[2, 3], &[3, 4], &[1, 0], &[0, 1]);
+    is_refused(&rt, unequal, misfit(1, 2, 4));
+    let many = paired(&rt, alloc, &[1, 1, 1, 1, 1], &[1, 1, 1, 1], &[], &[]);
+    is_refused(&rt, many, limit(Quantity::Axes));
 }
 
-#[test]
-fn arrays_are_joined(rt: HostRuntime) -> Result<(), Fail> {
-    let alloc = rt.alloc();
-    assert_eq!(rt;
-        joined(alloc, &[2, 3], &[4, 3], 0)??.as_slice(),
-        [6, 3].as_slice()
-    );
-    assert_eq!(rt;
-        joined(alloc, &[2], &[4, 3], 5)?.err(),
-        Some(misfit(0, 1, 2))
-    );
-    assert_eq!(rt;
-        joined(alloc, &[2, 3], &[4, 3], 2)?.err(),
-        Some(bad_axis(2))
-    );
-    assert_eq!(rt;
-        joined(alloc, &[2, 3], &[4, 5], 0)?.err(),
-        Some(misfit(1, 3, 5))
-    );
-    assert_eq!(rt;
-        joined(alloc, &[2147483648], &[1], 0)?.err(),
-        Some(limit(Quantity::Elements))
-    );
-    Ok(())
+fn add_full(
+    rt: &impl Abort,
+    alloc: Global,
+    expr: &mut Expr,
+    lengths: &[u64],
+    sizes: &[u64],
+) -> Result<NodeId, NodeError> {
+    expr.add_node(full(rt, alloc, lengths, sizes))
 }
 
-#[test]
-fn axes_are_folded(rt: HostRuntime) -> Result<(), Fail> {
-    let alloc = rt.alloc();
-    let rows = reduce(alloc, Fold::Sum, &[0], 2)?;
-    assert_eq!(rt;
-        shape(alloc, &[2, 3], &[], rows)?.as_slice(),
-        [3].as_slice()
-    );
-    let all = Op::Reduce {
-        fold: Fold::Prod,
-        of: NodeId::new(0),
-        axes: None,
-        split: 4,
-    };
-    assert_eq!(rt; shape(alloc, &[2, 0], &[], all)?.len(), 0);
-    let repeated = reduce(alloc, Fold::Sum, &[1, 1], 1)?;
-    assert_eq!(rt; refusal(alloc, &[2, 3], &[], repeated)?, bad_axis(1));
-    let empty = reduce(alloc, Fold::Min, &[2, 1], 1)?;
-    assert_eq!(rt;
-        refusal(alloc, &[2, 0, 0], &[], empty)?,
-        NodeError::Shape(ShapeError::EmptyReduce { axis: 1 })
-    );
-    let split = reduce(alloc, Fold::Max, &[0], 1)?;
-    assert_eq!(rt;
-        refusal(alloc, &[2], &[], split)?,
-        NodeError::Shape(ShapeError::BadSplit { split: 1 })
-    );
-    let wide = reduce(alloc, Fold::Sum, &[2], 4)?;
-    assert_eq!(rt;
-        refusal(alloc, &[65536, 65536, 0], &[], wide)?,
-        limit(Quantity::Elements)
-    );
-    Ok(())
+fn add_small(rt: &impl Abort, alloc: Global, expr: &mut Expr) -> u32 {
+    let node = add_full(rt, alloc, expr, &[2], &[2]);
+    node.expect(rt, "an array").number()
 }
 
-#[test]
-fn axes_are_paired(rt: HostRuntime) -> Result<(), Fail> {
-    let alloc = rt.alloc();
-    let rows = product(alloc, &[1], &[0])?;
-    assert_eq!(rt;
-        shape(alloc, &[2, 3], &[3, 2], rows)?.as_slice(),
-        [2, 2].as_slice()
-    );
-    let right = product(alloc, &[1], &[7])?;
-    assert_eq!(rt; refusal(alloc, &[2, 3], &[3, 2], right)?, bad_axis(7));
-    let left = product(alloc, &[4], &[7])?;
-    assert_eq!(rt; refusal(alloc, &[2, 3], &[3, 2], left)?, bad_axis(4));
-    let few = product(alloc, &[0, 1], &[0])?;
-    assert_eq!(rt; refusal(alloc, &[2, 3], &[3, 2], few)?, bad_axis(1));
-    let unequal = product(alloc, &[1, 0], &[0, 1])?;
-    assert_eq!(rt; refusal(alloc, &[2, 3], &[3, 4], unequal)?, misfit(1, 2, 4));
-    let many = product(alloc, &[], &[])?;
-    assert_eq!(rt;
-        refusal(alloc, &[1, 1, 1, 1, 1], &[1, 1, 1, 1], many)?,
-        limit(Quantity::Axes)
-    );
-    Ok(())
-}
-
-#[test]
-fn there_are_at_most_so_many_nodes(rt: HostRuntime) -> Result<(), Fail> {
-    let alloc = rt.alloc();
-    let mut expr = Expr::new(alloc);
-    let mut places = Spans::new(alloc);
+// As many nodes as there can be, and the place of each.
+fn fill(rt: &impl Abort, alloc: Global, expr: &mut Expr, places: &mut Spans) {
     for _ in 0..NODES {
-        let node = expr.add_node(full(alloc, &[2], &[2])?)?;
-        places.push(Span {
-            line: node.number(),
-            column: 1,
-        })?;
+        let line = add_small(rt, alloc, expr);
+        places.push(Span { line, column: 1 }).expect(rt, "memory");
     }
+}
+
+#[test]
+fn there_are_at_most_so_many_nodes(rt: HostRuntime) {
+    let mut expr = Expr::new(rt.alloc());
+    let mut places = Spans::new(rt.alloc());
+    fill(&rt, rt.alloc(), &mut expr, &mut places);
     assert_eq!(rt; places.as_slice().len(), 65536);
-    let refused = expr.add_node(full(alloc, &[3], &[])?).err();
+    let refused = add_full(&rt, rt.alloc(), &mut expr, &[3], &[]).err();
     assert_eq!(rt; refused, Some(limit(Quantity::Nodes)));
     assert_eq!(rt; expr.nodes().len(), 65536);
-    Ok(())
+}
+
+fn is_written(rt: &impl Abort, alloc: Global, error: NodeError, wanted: &str) {
+    let text = format!(in alloc; "{error}").expect(rt, "memory");
+    assert_eq!(rt; text.as_str(), wanted);
 }
 
 #[test]
-fn refusals_are_written(rt: HostRuntime) -> Result<(), Fail> {
-    let alloc = rt.alloc();
-    let text = format!(in alloc; "{}", misfit(0, 3, 4))?;
-    assert_eq!(rt; text.as_str(), "shape: axis 0: 3 and 4");
-    let text = format!(in alloc; "{}", limit(Quantity::Nodes))?;
-    assert_eq!(rt; text.as_str(), "limit nodes");
-    Ok(())
+fn refusals_are_written(rt: HostRuntime) {
+    is_written(&rt, rt.alloc(), misfit(0, 3, 4), "shape: axis 0: 3 and 4");
+    is_written(&rt, rt.alloc(), limit(Quantity::Nodes), "limit nodes");
 }
