@@ -1,0 +1,249 @@
+ghost use Rattle.std.specs.Prelude.{◌≡◌, ◌+◌, ◌-◌, ◌^◌, ◌≤◌, min, IfOk, IfErr, Unit};
+ghost use Rattle.cluster_msgs.specs.Jobs.{Rose};
+ghost use Rattle.cluster_msgs.specs.declared.jobs.RunFail.TheVariants as RunFail;
+
+use crate::{StepError, World};
+use cluster_msgs::{End, Event, GraphShape, JobSpec, KeyList, Outcome, RunFail};
+use std::alloc::{AllocError, Global};
+use std::process::Abort;
+use std::sync::Arc;
+use std::test::Fail;
+
+/// A number that may fail to be read.
+#[derive(Drop)]
+struct Number {
+    value: u64,
+    faults: u64,
+    fails: bool,
+}
+
+impl Number {
+    fn read(&mut self) -> Result<u64, RunFail>
+        ensures value { IfOk result (λ v. v ≡ self.old.value) }
+        ensures kept { self.new.value ≡ self.old.value }
+        ensures ok { IfOk result (λ v. self.new.faults ≡ self.old.faults) }
+        ensures err { IfErr result (λ e. (e ≡ RunFail.Feed) × Rose self.old.faults self.new.faults) }
+    {
+        if self.fails {
+            self.faults = self.faults.saturating_add(1);
+            return Err(RunFail::Feed);
+        }
+        Ok(self.value)
+    }
+}
+
+/// A key without dependencies is the feed's number, another one 100 divided by its first dependency.
+#[derive(Drop)]
+struct Quotients {
+    shape: GraphShape,
+    content: u64,
+}
+
+impl JobSpec for Quotients {
+    type Block = u64;
+
+    type Feed = Number;
+
+    ghost use Rattle.std.specs.Prelude.{◌≡◌, ◌==◌, ◌/◌, [], Some, None, cond, slice_get};
+    ghost use Rattle.std.specs.Option.{option_map_or};
+
+    ghost graph = { λ j. j.shape };
+
+    ghost key_dims = { λ j k. [] };
+
+    ghost block_dims = { λ b. [] };
+
+    ghost operation = { λ j k bs. option_map_or (λ b. cond (b == 0) None (Some (100 / b))) (slice_get bs 0) (Some j.content) };
+
+    ghost feed_fits = { λ j f. f.value ≡ j.content };
+
+    ghost feed_tells = { λ j f. Unit {0} };
+
+    ghost fault_count = { λ f. f.faults };
+
+    fn shape(&self) -> &GraphShape {
+        &self.shape
+    }
+
+    fn dims(&self, _key: u32) -> &[u64] {
+        &[]
+    }
+
+    fn faults(&self, feed: &Number) -> u64 {
+        feed.faults
+    }
+
+    fn run(
+        &self,
+        feed: &mut Number,
+        _key: u32,
+        inputs: &[Arc<u64>],
+    ) -> Result<Outcome<u64>, RunFail> {
+        let Some(first) = inputs.first() else {
+            return Ok(Outcome::Value(feed.read()?));
+        };
+        let divisor = **first;
+        if divisor == 0 {
+            return Ok(Outcome::Zero);
+        }
+        Ok(Outcome::Value(100 / divisor))
+    }
+}
+
+/// What the tests ask of a world. It has no contracts, so that the tests' own proofs stay short.
+trait Cluster {
+    fn take(&mut self, e: &Event) -> Result<(), StepError>;
+
+    fn next(&self) -> Option<Event>;
+
+    fn waiting(&self) -> u64;
+
+    fn block(&self, key: u32) -> Option<u64>;
+
+    fn end(&self, key: u32) -> Option<End>;
+}
+
+impl Cluster for World<Quotients> {
+    fn take(&mut self, e: &Event) -> Result<(), StepError> {
+        self.step(e)
+    }
+
+    fn next(&self) -> Option<Event> {
+        self.progress(0)
+    }
+
+    fn waiting(&self) -> u64 {
+        self.progress_count()
+    }
+
+    fn block(&self, key: u32) -> Option<u64> {
+        self.got(1, key).copied()
+    }
+
+    fn end(&self, key: u32) -> Option<End> {
+        self.done(1, key)
+    }
+}
+
+fn push_first(alloc: Global, shape: &mut GraphShape) -> Result<(), AllocError> {
+    shape.sound();
+    let none = KeyList::new(alloc);
+    if shape.keys() < 32768 {
+        shape.push(&none, 8, 8)?;
+    }
+    Ok(())
+}
+
+fn push_second(alloc: Global, shape: &mut GraphShape) -> Result<(), AllocError> {
+    let mut first = KeyList::new(alloc);
+    first.push(0)?;
+    if 0 < shape.keys() && shape.keys() < 32768 && shape.edges() < 262144 {
+        shape.push(&first, 8, 8)?;
+    }
+    Ok(())
+}
+
+/// Key 1 divides 100 by key 0, which is this number.
+fn quotient(alloc: Global, content: u64, fails: bool) -> Result<World<Quotients>, AllocError> {
+    let mut shape = GraphShape::new(alloc);
+    push_first(alloc, &mut shape)?;
+    push_second(alloc, &mut shape)?;
+    let feed = Number {
+        value: content,
+        faults: 0,
+        fails,
+    };
+    World::new(alloc, Quotients { shape, content }, feed, 1, 11)
+}
+
+/// One worker of one thread joins, and the client wants key 1.
+fn begin(rt: &impl Abort, alloc: Global, world: &mut impl Cluster) {
+    let mut keys = KeyList::new(alloc);
+    keys.push(1).expect(rt, "memory");
+    world
+        .take(&Event::Join { threads: 1 })
+        .expect(rt, "a worker joins");
+    world
+        .take(&Event::Want { client: 1, keys })
+        .expect(rt, "the client wants");
+}
+
+/// Takes the first event that makes progress, as long as there is one.
+fn go_on(rt: &impl Abort, world: &mut impl Cluster) {
+    for _turn in 0..40 {
+        if let Some(e) = world.next() {
+            world.take(&e).expect(rt, "progress is taken");
+        }
+    }
+    assert_eq!(rt; world.waiting(), 0);
+}
+
+fn expect_block(rt: &impl Abort, world: &impl Cluster, key: u32, block: Option<u64>) {
+    assert_eq!(rt; world.block(key), block);
+}
+
+fn expect_end(rt: &impl Abort, world: &impl Cluster, key: u32, end: Option<End>) {
+    assert!(rt; world.end(key) == end);
+}
+
+fn runs_to(rt: &impl Abort, world: &mut impl Cluster, block: Option<u64>, end: End) {
+    go_on(rt, world);
+    expect_block(rt, world, 1, block);
+    expect_end(rt, world, 1, Some(end));
+    expect_end(rt, world, 0, None);
+}
+
+// 100 / 8 = 12, with the rest left out.
+#[test]
+fn a_client_gets_its_block(rt: HostRuntime) -> Result<(), Fail> {
+    let alloc = rt.alloc();
+    let mut world = quotient(alloc, 8, false)?;
+    begin(&rt, alloc, &mut world);
+    runs_to(&rt, &mut world, Some(12), End::Got);
+    Ok(())
+}
+
+#[test]
+fn a_zero_divisor_is_blamed(rt: HostRuntime) -> Result<(), Fail> {
+    let alloc = rt.alloc();
+    let mut world = quotient(alloc, 0, false)?;
+    begin(&rt, alloc, &mut world);
+    runs_to(&rt, &mut world, None, End::Erred { blame: 1 });
+    Ok(())
+}
+
+fn refuses(rt: &impl Abort, world: &mut impl Cluster, e: &Event, why: StepError) {
+    assert!(rt; world.take(e) == Err(why));
+}
+
+fn stops(rt: &impl Abort, world: &mut impl Cluster) {
+    let mut fed = false;
+    for _turn in 0..40 {
+        if let Some(e) = world.next() {
+            fed = fed || world.take(&e) == Err(StepError::Feed);
+        }
+    }
+    assert!(rt; fed);
+    refuses(rt, world, &Event::Join { threads: 1 }, StepError::Stopped);
+}
+
+#[test]
+fn refusals(rt: HostRuntime) -> Result<(), Fail> {
+    let alloc = rt.alloc();
+    let mut world = quotient(alloc, 8, true)?;
+    refuses(
+        &rt,
+        &mut world,
+        &Event::Start { worker: 1 },
+        StepError::NotEnabled,
+    );
+    begin(&rt, alloc, &mut world);
+    refuses(
+        &rt,
+        &mut world,
+        &Event::Lose { worker: 2 },
+        StepError::NotEnabled,
+    );
+    stops(&rt, &mut world);
+    Ok(())
+}
