@@ -1,6 +1,6 @@
 -- A search over events in their order: event by event, and over the kinds of progress events.
 use Rattle.std.proofs.Common.{◌≡◌, ℕ, zero, suc, ◌+◌, ◌-◌, ◌<◌, ◌≤◌, Bool, true, false, not, ◌&&◌, List, [], ◌∷◌, ◌++◌, Option, Some, None, refl, sym, ap, ◌∙◌, subst, arith, cond, filter, map, length, take}
-use Rattle.std.specs.Prelude.{◌==◌, nat_lt, slice_get}
+use Rattle.std.specs.Prelude.{◌==◌, nat_lt, min, slice_get}
 use Rattle.std.specs.List.{flat_map, range_with_len}
 use Rattle.std.proofs.lemmas.Bool.{false≢true, ltb-true, ltb-false}
 use Rattle.std.proofs.lemmas.Option.{slice_get_past}
@@ -21,7 +21,7 @@ use Rattle.value_laws.proofs.Deliveries.{none_some, some_is}
 use Rattle.cluster_world.specs.declared.search.Search.{Search}
 use Rattle.cluster_world.specs.declared.search.Search.TheVariants.{Passing, Found}
 use Rattle.cluster_world.specs.declared.progress.Kind.TheVariants as kind
-use Rattle.cluster_world.specs.Searching.{next, searched, is_found, node_events, finish_events, ask_events, asks_of, worker_asks, name_of, serve_events, answer_events, found}
+use Rattle.cluster_world.specs.Searching.{next, searched, is_found, node_events, finish_events, ask_events, asks_of, worker_asks, name_of, serve_events, answer_events, found, left}
 
 -- events one by one
 module _ (on : Event → Bool) where
@@ -185,7 +185,7 @@ found_is_at on (e ∷ es) n = pick (on e) n (λ k. found_is_at on es k)
     pick true (suc n) r = let u : suc n - 1 ≡ n = omega arith in ap (λ z. found (searched on (cond z (Found e) (Passing (suc n - 1))) es)) (not_none n) ∙ ap (λ m. found (searched on (Passing m) es)) u ∙ r n
 
 -- what is left to be passed
-pub left_is : (on : Event → Bool) (es : List Event) (n m : ℕ) → searched on (Passing n) es ≡ Passing m → m + length (filter on es) ≡ n
+left_is : (on : Event → Bool) (es : List Event) (n m : ℕ) → searched on (Passing n) es ≡ Passing m → m + length (filter on es) ≡ n
 left_is on [] n m h = let e = passing_is n m h in omega (arith, e)
   where
     passing_is : (n m : ℕ) → Passing n ≡ Passing m → n ≡ m
@@ -201,7 +201,7 @@ left_is on (e ∷ es) n m h = pick (on e) n h (λ k. left_is on es k m)
     pick true (suc n) h r = let u : suc n - 1 ≡ n = omega arith in let i = r n (ap (λ k. searched on (Passing k) es) (sym u) ∙ sym (ap (λ z. searched on (cond z (Found e) (Passing (suc n - 1))) es) (not_none n)) ∙ h) in omega (arith, i)
 
 -- what is found stands past so many
-pub many_left : (on : Event → Bool) (es : List Event) (n : ℕ) (x : Event) → searched on (Passing n) es ≡ Found x → n < length (filter on es)
+many_left : (on : Event → Bool) (es : List Event) (n : ℕ) (x : Event) → searched on (Passing n) es ≡ Found x → n < length (filter on es)
 many_left on es n x h = pick (nat_lt n (length (filter on es))) refl
   where
     there : slice_get (filter on es) n ≡ Some x
@@ -210,3 +210,8 @@ many_left on es n x h = pick (nat_lt n (length (filter on es))) refl
     pick : (b : Bool) → nat_lt n (length (filter on es)) ≡ b → n < length (filter on es)
     pick true e = ltb-true n (length (filter on es)) e
     pick false e = absurd (none_some x (sym (slice_get_past (filter on es) n (ltb-false n (length (filter on es)) e)) ∙ there))
+
+-- how many events a search has passed
+pub passed_is : (on : Event → Bool) (es : List Event) (n : ℕ) (s : Search) → s ≡ searched on (Passing n) es → left s + min (length (filter on es)) n ≡ n
+passed_is on es n (Passing m) h = let e = left_is on es n m (sym h) in omega (arith, e)
+passed_is on es n (Found x) h = let l = many_left on es n x (sym h) in omega (arith, l)

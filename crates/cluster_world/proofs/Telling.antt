@@ -10,6 +10,11 @@ use Rattle.cluster_msgs.specs.declared.messages.Message.{Message}
 use Rattle.cluster_msgs.specs.declared.messages.Message.TheVariants.{Peer as PeerMessage}
 use Rattle.cluster_msgs.specs.declared.messages.Peer.TheVariants.{GetData, Data}
 use Rattle.cluster_msgs.specs.declared.events.Asker.{Asker}
+use Rattle.cluster_msgs.specs.declared.events.Event.{Event}
+use Rattle.cluster_msgs.specs.declared.events.Event.TheVariants as event
+use Rattle.cluster_rules.specs.Client.{new_client}
+use Rattle.cluster_rules.specs.Enabled.{message_at}
+use Rattle.std.proofs.lemmas.Option.{slice_get_past}
 use Rattle.cluster_rules.specs.Worker.{Ask, has_any, ask_to}
 use Rattle.cluster_rules.specs.World.{World, Parcel, is_client, is_parcel, parcel_of}
 use Rattle.fact_rows.specs.Rows.{read, cell}
@@ -19,7 +24,7 @@ use Rattle.message_queues.specs.Transit.{parcel_of_transit, parcels, is_transit,
 use Rattle.message_queues.specs.declared.transit.InTransit.{InTransit}
 use Rattle.worker_core.specs.Core.{Core, facts}
 use Rattle.cluster_nodes.specs.Kept.{IsNodes}
-use Rattle.cluster_nodes.specs.Nodes.{world_of}
+use Rattle.cluster_nodes.specs.Nodes.{world_of, clients_of, client_of}
 use Rattle.cluster_nodes.proofs.NodeLemmas.{worker_was, client_was}
 use Rattle.cluster_world.specs.declared.state.State.{State}
 use Rattle.cluster_world.specs.Searching.{name_of}
@@ -105,6 +110,17 @@ module _ {J B F : Type 0} (s : State J B F) where
   unfolding world_of
   client_at x v l h = client_was (setting s).shape s.nodes.clients.items x v l h
 
+-- what takes no message
+pub takes_none : (w : World) (e : Event) → ((i : ℕ) → e ≡ event.DeliverDown i → ⊥) → ((i : ℕ) → e ≡ event.DeliverUp i → ⊥) → ((c : ℕ) → e ≡ event.DeliverToClient c → ⊥) → ((c : ℕ) → e ≡ event.DeliverFromClient c → ⊥)
+    → ((p : ℕ) (a : Asker) (n : ℕ) → e ≡ event.ServeGather p a n → ⊥) → ((a : Asker) (p n : ℕ) → e ≡ event.ArriveGather a p n → ⊥) → None ≡ message_at w e
+takes_none w (event.DeliverDown i) a b c d s r = absurd (a i refl)
+takes_none w (event.DeliverUp i) a b c d s r = absurd (b i refl)
+takes_none w (event.DeliverToClient i) a b c d s r = absurd (c i refl)
+takes_none w (event.DeliverFromClient i) a b c d s r = absurd (d i refl)
+takes_none w (event.ServeGather p x n) a b c d s r = absurd (s p x n refl)
+takes_none w (event.ArriveGather x p n) a b c d s r = absurd (r x p n refl)
+takes_none w _ a b c d s r = refl
+
 -- what is under way, place by place
 pub named_at : {C : Type 0} (ts : List (InTransit C)) (n : ℕ) (t : InTransit C) → n < length ts → t ≡ get_or ts n t → Some (name_of (parcel_of_transit t)) ≡ slice_get (map name_of (parcels ts)) n
 named_at [] n t h e = absurd (omega (arith, h))
@@ -119,3 +135,8 @@ module _ {J B F : Type 0} (s : State J B F) where
   pub answer_there : (n : ℕ) → n < length (world s).answers → n < length s.nodes.answers
   unfolding world_of
   answer_there n h = let k : n < length (parcels s.nodes.answers) = h in let l = length-map s.nodes.answers (λ (t : InTransit B). parcel_of_transit t) in omega (arith, k, l)
+
+  -- past the last client nobody is
+  pub no_client : (x : ℕ) → length s.nodes.clients.items ≤ x → (world s).clients x ≡ new_client (setting s).shape
+  unfolding world_of clients_of
+  no_client x h = ap (client_of (setting s).shape) (slice_get_past s.nodes.clients.items x h)

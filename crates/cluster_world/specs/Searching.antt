@@ -27,6 +27,11 @@ abbrev pub is_found : Search → Bool
 is_found (Passing n) = false
 is_found (Found e) = true
 
+-- how many are still to be passed
+abbrev pub left : Search → ℕ
+left (Passing n) = n
+left (Found e) = 0
+
 abbrev pub found : Search → Option Event
 found (Passing n) = None
 found (Found e) = Some e

@@ -53,10 +53,7 @@ pub fn count_progress<C: Choices>(world: &C) -> u64
     requires { C.is_whole world.now }
     ensures { result ≡ min (length (progress (C.world world.now))) (2 ^ 64 - 1) }
 {
-    match search(world, u64::MAX) {
-        Search::Passing(left) => u64::MAX - left,
-        Search::Found(_) => u64::MAX,
-    }
+    u64::MAX - search(world, u64::MAX).left()
 }
 
 /// The enabled progress event of this number, from 0. None exactly where there are at most as many.

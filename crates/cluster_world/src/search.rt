@@ -1,10 +1,11 @@
 //! A search for the enabled event of a number, over events in their order.
 ghost use Rattle.std.specs.Prelude.{◌≡◌};
-ghost use Rattle.cluster_world.specs.Searching.{next, is_found};
+ghost use Rattle.cluster_world.specs.Searching.{next, is_found, left};
 
 use cluster_msgs::Event;
 
 /// Where a search stands: so many enabled events are still to be passed, or the event is found.
+#[derive(Drop)]
 pub enum Search {
     Passing(u64),
     Found(Event),
@@ -36,6 +37,16 @@ impl Search {
         match self {
             Search::Passing(_) => false,
             Search::Found(_) => true,
+        }
+    }
+
+    /// How many enabled events are still to be passed: none once the event is found.
+    pub fn left(&self) -> u64
+        ensures { result ≡ left self.now }
+    {
+        match self {
+            Search::Passing(left) => *left,
+            Search::Found(_) => 0,
         }
     }
 }

@@ -7,25 +7,13 @@ use Rattle.cluster_rules.specs.Enabled.{enabled, progress, progress_kinds}
 use Rattle.cluster_world.specs.declared.progress.Kind.TheVariants as kind
 use Rattle.cluster_world.specs.declared.search.Search.TheVariants.{Passing}
 use Rattle.cluster_world.specs.Searching.{found, next, searched, node_events, finish_events, ask_events, asks_of, worker_asks, name_of, serve_events, answer_events}
-use Rattle.cluster_world.proofs.Searches.{found_is_at, left_is, many_left, searched_more, searched_key, searched_place, searched_places, found_stays, up_to, askers_are, kinds_are}
+use Rattle.cluster_world.proofs.Searches.{found_is_at, passed_is, searched_more, searched_key, searched_place, searched_places, found_stays, up_to, askers_are, kinds_are}
 use Rattle.cluster_world.proofs.progress.count_progress.Goals as goal
 
-pub overflow_sub-result : goal.overflow_sub-result
-overflow_sub-result g c =
-    let w = g.C.Choices.world c.args.world.now in
-    let l = left_is (enabled w) (flat_map (λ es. es) (progress_kinds w)) 18446744073709551615 c.in-Passing.left (sym c.in-Passing.ensures) in
-    omega (arith, l)
-
-pub returns-in-Passing : goal.returns-in-Passing
+pub returns : goal.returns
 unfolding progress
-returns-in-Passing g c =
+returns g c =
     let w = g.C.Choices.world c.args.world.now in
-    let l = left_is (enabled w) (flat_map (λ es. es) (progress_kinds w)) 18446744073709551615 c.in-Passing.left (sym c.in-Passing.ensures) in
-    omega (arith, l)
-
-pub returns-in-Found : goal.returns-in-Found
-unfolding progress
-returns-in-Found g c =
-    let w = g.C.Choices.world c.args.world.now in
-    let l = many_left (enabled w) (flat_map (λ es. es) (progress_kinds w)) 18446744073709551615 c.in-Found.field-0 (sym c.in-Found.ensures) in
-    omega (arith, l)
+    let h = passed_is (enabled w) (flat_map (λ es. es) (progress_kinds w)) 18446744073709551615 c.search.result c.search.ensures in
+    let e = c.left.ensures in
+    omega (arith, h, e)

@@ -7,7 +7,7 @@ use Rattle.cluster_rules.specs.Enabled.{enabled, progress, progress_kinds}
 use Rattle.cluster_world.specs.declared.progress.Kind.TheVariants as kind
 use Rattle.cluster_world.specs.declared.search.Search.TheVariants.{Passing}
 use Rattle.cluster_world.specs.Searching.{found, next, searched, node_events, finish_events, ask_events, asks_of, worker_asks, name_of, serve_events, answer_events}
-use Rattle.cluster_world.proofs.Searches.{found_is_at, left_is, many_left, searched_more, searched_key, searched_place, searched_places, found_stays, up_to, askers_are, kinds_are}
+use Rattle.cluster_world.proofs.Searches.{found_is_at, searched_more, searched_key, searched_place, searched_places, found_stays, up_to, askers_are, kinds_are}
 use Rattle.cluster_world.proofs.progress.nth_progress.Goals as goal
 
 pub returns-in-Passing : goal.returns-in-Passing

@@ -17,9 +17,17 @@ use Rattle.message_queues.specs.Queues.{waiting}
 use Rattle.scheduler_core.specs.Cores.{facts}
 use Rattle.cluster_nodes.specs.Nodes.{world_of, blocks_in, clients_of, block_at}
 use Rattle.cluster_world.specs.Worlds.{cluster, world, setting}
-use Rattle.cluster_world.proofs.Telling.{client_number, client_at, asked, answered}
+use Rattle.cluster_world.proofs.Telling.{client_number, client_at, asked, answered, takes_none}
 use Rattle.cluster_world.proofs.Counts.{more, total_more, total_where, capped, one_or_none, kind_length, kind_front}
 use Rattle.cluster_world.proofs.state.State.done.Goals as goal
+use Rattle.cluster_world.proofs.Telling.{no_client}
 
-pub returns : goal.returns
-returns g c = ?
+pub returns-then-client-len : goal.returns-then-client-len
+returns-then-client-len g c =
+    let l : c.args.client < length c.args.self.now.nodes.clients.items = omega (arith, c.if-client-len.true, c.len.ensures) in
+    c.done.ensures ∙ ap (λ x. done x c.args.key) (sym (client_at c.args.self.now c.args.client c.index.result.now l c.index.ensures))
+
+pub returns-else-client-len : goal.returns-else-client-len
+returns-else-client-len g c =
+    let l : length c.args.self.now.nodes.clients.items ≤ c.args.client = omega (arith, c.if-client-len.false, c.len.ensures) in
+    sym (ap (λ x. done x c.args.key) (no_client c.args.self.now c.args.client l))

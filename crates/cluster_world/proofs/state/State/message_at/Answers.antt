@@ -17,7 +17,7 @@ use Rattle.message_queues.specs.Queues.{waiting}
 use Rattle.scheduler_core.specs.Cores.{facts}
 use Rattle.cluster_nodes.specs.Nodes.{world_of, blocks_in, clients_of, block_at}
 use Rattle.cluster_world.specs.Worlds.{cluster, world, setting}
-use Rattle.cluster_world.proofs.Telling.{client_number, client_at, asked, answered}
+use Rattle.cluster_world.proofs.Telling.{client_number, client_at, asked, answered, takes_none}
 use Rattle.cluster_world.proofs.Counts.{more, total_more, total_where, capped, one_or_none, kind_length, kind_front}
 use Rattle.cluster_world.proofs.state.State.message_at.Goals as goal
 
@@ -30,19 +30,19 @@ returns-in-DeliverDown g c =
 pub returns-in-DeliverUp : goal.returns-in-DeliverUp
 unfolding world_of
 returns-in-DeliverUp g c =
-    c.front.ensures ∙ kind_front (λ m. message.Up m) ((world c.args.self.now).up c.in-DeliverUp.worker) (waiting c.args.self.now.nodes.up c.in-DeliverUp.worker) (c.requires.nodes.sorted.up c.in-DeliverUp.worker)
+    c.front-in-DeliverUp.ensures ∙ kind_front (λ m. message.Up m) ((world c.args.self.now).up c.in-DeliverUp.worker) (waiting c.args.self.now.nodes.up c.in-DeliverUp.worker) (c.requires.nodes.sorted.up c.in-DeliverUp.worker)
     ∙ ap (message_at (world c.args.self.now)) (sym c.in-DeliverUp.is)
 
 pub returns-in-DeliverToClient : goal.returns-in-DeliverToClient
 unfolding world_of
 returns-in-DeliverToClient g c =
-    c.front.ensures ∙ kind_front (λ m. message.ToClient m) ((world c.args.self.now).to_client c.in-DeliverToClient.client) (waiting c.args.self.now.nodes.to_client c.in-DeliverToClient.client) (c.requires.nodes.sorted.to_client c.in-DeliverToClient.client)
+    c.front-in-DeliverToClient.ensures ∙ kind_front (λ m. message.ToClient m) ((world c.args.self.now).to_client c.in-DeliverToClient.client) (waiting c.args.self.now.nodes.to_client c.in-DeliverToClient.client) (c.requires.nodes.sorted.to_client c.in-DeliverToClient.client)
     ∙ ap (message_at (world c.args.self.now)) (sym c.in-DeliverToClient.is)
 
 pub returns-in-DeliverFromClient : goal.returns-in-DeliverFromClient
 unfolding world_of
 returns-in-DeliverFromClient g c =
-    c.front.ensures ∙ kind_front (λ m. message.FromClient m) ((world c.args.self.now).from_client c.in-DeliverFromClient.client) (waiting c.args.self.now.nodes.from_client c.in-DeliverFromClient.client) (c.requires.nodes.sorted.from_client c.in-DeliverFromClient.client)
+    c.front-in-DeliverFromClient.ensures ∙ kind_front (λ m. message.FromClient m) ((world c.args.self.now).from_client c.in-DeliverFromClient.client) (waiting c.args.self.now.nodes.from_client c.in-DeliverFromClient.client) (c.requires.nodes.sorted.from_client c.in-DeliverFromClient.client)
     ∙ ap (message_at (world c.args.self.now)) (sym c.in-DeliverFromClient.is)
 
 pub request-requires : goal.request-requires
@@ -58,4 +58,4 @@ pub returns-in-ArriveGather : goal.returns-in-ArriveGather
 returns-in-ArriveGather g c = c.answer.ensures ∙ ap (message_at (world c.args.self.now)) (sym c.in-ArriveGather.is)
 
 pub returns-in_default : goal.returns-in_default
-returns-in_default g c = ?
+returns-in_default g c = let d = c.in_default in takes_none (world c.args.self.now) c.args.e.now d.not-DeliverDown d.not-DeliverUp d.not-DeliverToClient d.not-DeliverFromClient d.not-ServeGather d.not-ArriveGather

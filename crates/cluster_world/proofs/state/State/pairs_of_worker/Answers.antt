@@ -17,7 +17,7 @@ use Rattle.message_queues.specs.Queues.{waiting}
 use Rattle.scheduler_core.specs.Cores.{facts}
 use Rattle.cluster_nodes.specs.Nodes.{world_of, blocks_in, clients_of, block_at}
 use Rattle.cluster_world.specs.Worlds.{cluster, world, setting}
-use Rattle.cluster_world.proofs.Telling.{client_number, client_at, asked, answered}
+use Rattle.cluster_world.proofs.Telling.{client_number, client_at, asked, answered, takes_none}
 use Rattle.cluster_world.proofs.Counts.{more, total_more, total_where, capped, one_or_none, kind_length, kind_front}
 use Rattle.cluster_world.proofs.state.State.pairs_of_worker.Goals as goal
 

@@ -17,7 +17,7 @@ use Rattle.message_queues.specs.Queues.{waiting}
 use Rattle.scheduler_core.specs.Cores.{facts}
 use Rattle.cluster_nodes.specs.Nodes.{world_of, blocks_in, clients_of, block_at}
 use Rattle.cluster_world.specs.Worlds.{cluster, world, setting}
-use Rattle.cluster_world.proofs.Telling.{client_number, client_at, asked, answered}
+use Rattle.cluster_world.proofs.Telling.{client_number, client_at, asked, answered, takes_none}
 use Rattle.cluster_world.proofs.Counts.{more, total_more, total_where, capped, one_or_none, kind_length, kind_front}
 use Rattle.cluster_world.proofs.state.State.under_way.Goals as goal
 
@@ -25,7 +25,7 @@ pub returns : goal.returns
 unfolding world_of under_way messages
 returns g c =
     let w = world c.args.self.now in
-    let m = 18446744073709551615 in
+    let m : ℕ = 18446744073709551615 in
     let down = total (λ i. length (w.down i) + length (w.up i)) (all_workers w) in
     let news = total (λ x. length (w.to_client x) + length (w.from_client x)) (all_clients w) in
     let held = total (λ i. cond (w.alive i) (pairs (w.workers i)) 0) (all_workers w) in

@@ -17,7 +17,7 @@ use Rattle.message_queues.specs.Queues.{waiting}
 use Rattle.scheduler_core.specs.Cores.{facts}
 use Rattle.cluster_nodes.specs.Nodes.{world_of, blocks_in, clients_of, block_at}
 use Rattle.cluster_world.specs.Worlds.{cluster, world, setting}
-use Rattle.cluster_world.proofs.Telling.{client_number, client_at, asked, answered}
+use Rattle.cluster_world.proofs.Telling.{client_number, client_at, asked, answered, takes_none}
 use Rattle.cluster_world.proofs.Counts.{more, total_more, total_where, capped, one_or_none, kind_length, kind_front}
 use Rattle.cluster_world.proofs.state.State.worker_count.Goals as goal
 
@@ -27,7 +27,7 @@ overflow_add-count g c =
     let i = c.loop-before.before + 1 in
     let few = c.loop-before.invariant.few in
     let h = one_or_none (w.alive i || is_connected w i) in
-    omega (arith, few, h, c.worker_counts.ensures)
+    omega (arith, few, h, c.worker_counts-count.ensures)
 
 pub loop-before-preserved : goal.loop-before-preserved
 loop-before-preserved g c =
@@ -37,8 +37,8 @@ loop-before-preserved g c =
     let few = c.loop-before.invariant.few in
     let h = one_or_none (w.alive (n + 1) || is_connected w (n + 1)) in
     record {
-      counted = (λ t. c.loop-before.invariant.counted t + c.worker_counts.ensures t) ∙ sym (total_more f n);
-      few = omega (arith, few, h, c.worker_counts.ensures);
+      counted = (λ t. c.loop-before.invariant.counted t + c.worker_counts-count.ensures t) ∙ sym (total_more f n);
+      few = omega (arith, few, h, c.worker_counts-count.ensures);
     }
 
 pub returns : goal.returns

@@ -17,9 +17,10 @@ use Rattle.message_queues.specs.Queues.{waiting}
 use Rattle.scheduler_core.specs.Cores.{facts}
 use Rattle.cluster_nodes.specs.Nodes.{world_of, blocks_in, clients_of, block_at}
 use Rattle.cluster_world.specs.Worlds.{cluster, world, setting}
-use Rattle.cluster_world.proofs.Telling.{client_number, client_at, asked, answered}
+use Rattle.cluster_world.proofs.Telling.{client_number, client_at, asked, answered, takes_none}
 use Rattle.cluster_world.proofs.Counts.{more, total_more, total_where, capped, one_or_none, kind_length, kind_front}
 use Rattle.cluster_world.proofs.state.State.worker_counts.Goals as goal
+use Rattle.worker_facts.proofs.FactLemmas.{byte_is}
 
 pub returns : goal.returns
-returns g c = ?
+returns g c = c.from.ensures ∙ byte_is (c.is_alive.result || c.is_connected.result) ∙ (λ t. cond (c.is_alive.ensures t || c.is_connected.ensures t) 1 0)
