@@ -22,7 +22,7 @@ pub fn take<J: JobSpec>(
     state: &mut State<J, J::Block, J::Feed>,
     e: &Event,
 ) -> Result<(), StepError>
-    requires { IsWorld J.graph J.key_dims J.block_dims J.feed_fits state.old }
+    requires world { IsWorld J.graph J.key_dims J.block_dims J.feed_fits state.old }
     ensures step { IsStep J.operation J.feed_tells J.fault_count e.now result state.old state.new }
     ensures world { IsWorld J.graph J.key_dims J.block_dims J.feed_fits state.new }
 {

@@ -49,6 +49,7 @@ impl<J: JobSpec> World<J> {
     ///
     /// # Errors
     /// Where no memory is left.
+    #[tactic(none)]
     pub fn new(
         alloc: Global,
         job: J,

@@ -1,7 +1,7 @@
 use Rattle.cluster_world.proofs.world.World.step.Goals as goal
 
-pub take-requires : goal.take-requires
-take-requires g c = c.self.invariant
+pub take-requires-clause-world : goal.take-requires-clause-world
+take-requires-clause-world g c = λ κs lives. c.self.invariant
 
 pub invariant_of-self : goal.invariant_of-self
 invariant_of-self g c = c.take.ensures.world
