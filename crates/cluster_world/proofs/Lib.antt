@@ -21,3 +21,4 @@ pub mod Reading
 pub mod Advancing
 pub mod Counts
 pub mod Stepwise
+pub mod Beginning

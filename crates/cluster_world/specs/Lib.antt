@@ -6,3 +6,4 @@ pub mod Outcomes
 pub mod Orderly
 pub mod Searching
 pub mod Taken
+pub mod Begun

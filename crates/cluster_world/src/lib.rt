@@ -12,6 +12,7 @@ mod choices;
 mod enabled;
 pub mod errors;
 pub mod events;
+mod opening;
 pub mod progress;
 mod questions;
 pub mod search;

@@ -18,8 +18,6 @@ use crate::progress::{count_progress, nth_progress};
 use crate::state::{Course, State};
 use crate::step::take;
 use cluster_msgs::{End, Event, GraphShape, JobSpec, Message};
-use cluster_nodes::Nodes;
-use scheduler_core::Sched;
 use std::alloc::{AllocError, Global};
 use std::marker::Model;
 
@@ -49,7 +47,6 @@ impl<J: JobSpec> World<J> {
     ///
     /// # Errors
     /// Where no memory is left.
-    #[tactic(none)]
     pub fn new(
         alloc: Global,
         job: J,
@@ -67,21 +64,11 @@ impl<J: JobSpec> World<J> {
         ensures feed { IfOk result (λ w. w.feed ≡ feed) }
         ensures reached { IfOk result (λ w. IsReached (setting w) (J.operation w.job) (cluster w)) }
     {
-        job.shape().sound();
-        let sched = Sched::new(alloc, job.shape().copy()?, clients, saturation)?;
-        let nodes = Nodes::new(alloc, job.shape().copy()?, clients)?;
-        Ok(World {
-            state: State {
-                alloc,
-                job,
-                feed,
-                clients,
-                sched,
-                nodes,
-                course: Course::Going,
-                events: 0,
-            },
-        })
+        let graph = job.shape();
+        graph.sound();
+        let shape = graph.copy()?;
+        let state = State::begin(alloc, job, feed, shape, clients, saturation)?;
+        Ok(World { state })
     }
 
     /// Takes an event: the world goes on exactly as the definition says, and so do the blocks. A task's operation is run
