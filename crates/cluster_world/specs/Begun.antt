@@ -1,5 +1,5 @@
 -- A world that starts.
-use Rattle.std.specs.Prelude.{◌≡◌, ℕ, ◌+◌, length}
+use Rattle.std.specs.Prelude.{◌≡◌, ℕ, ◌+◌, false, length}
 use Rattle.cluster_msgs.specs.Shape.{Shape}
 use Rattle.cluster_rules.specs.Sched.{sched_opening}
 use Rattle.cluster_rules.specs.World.{opening}

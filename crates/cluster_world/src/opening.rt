@@ -29,13 +29,13 @@ impl<J: Drop, B: Drop, F: Drop> State<J, B, F> {
     {
         State {
             alloc,
-            job,
-            feed,
             clients,
-            sched,
-            nodes,
             course: Course::Going,
             events: 0,
+            sched,
+            nodes,
+            job,
+            feed,
         }
     }
 

@@ -15,11 +15,11 @@ pub enum Course {
 #[derive(Drop)]
 pub struct State<J, B, F> {
     pub alloc: Global,
-    pub job: J,
-    pub feed: F,
     pub clients: u32,
-    pub sched: Sched,
-    pub nodes: Nodes<B>,
     pub course: Course,
     pub events: u64,
+    pub sched: Sched,
+    pub nodes: Nodes<B>,
+    pub job: J,
+    pub feed: F,
 }

@@ -232,13 +232,13 @@ impl<J: JobSpec> World<J> {
         let World { state } = self;
         let State {
             alloc: _,
-            job: _,
-            feed,
             clients: _,
-            sched: _,
-            nodes: _,
             course: _,
             events: _,
+            sched: _,
+            nodes: _,
+            job: _,
+            feed,
         } = state;
         feed
     }
