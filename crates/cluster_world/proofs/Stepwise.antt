@@ -97,8 +97,18 @@ module _ {J B F : Type 0} (operation : J → ℕ → List B → Option B) (feed_
   -- refused
   pub step_refused : IsReady s → enabled (world s) e ≡ false → Step (Err NotEnabled)
   step_refused ready off = record {
-    ready = tt; possible = tt; world = tt; cluster = tt; goes = tt; events = tt; by_values = tt; reached = tt;
-    job = refl; setting = refl; tells = λ t. t; faults = refl;
+    ready = tt;
+    possible = tt;
+    world = tt;
+    cluster = tt;
+    goes = tt;
+    events = tt;
+    by_values = tt;
+    reached = tt;
+    job = refl;
+    setting = refl;
+    tells = λ t. t;
+    faults = refl;
     not_enabled = (λ h. (ready, off), λ h. refl);
     not_enabled_stays = λ h. refl;
     spent = (λ h. other_error _ NotEnabled Spent ne_ns h, λ h. let r = ready.room in let m = h.1 in absurd (omega (arith, r, m)));
@@ -114,8 +124,18 @@ module _ {J B F : Type 0} (operation : J → ℕ → List B → Option B) (feed_
   -- spent
   pub step_spent : s.course ≡ Going → s.events ≡ event_limit → Step (Err Spent)
   step_spent going all = record {
-    ready = tt; possible = tt; world = tt; cluster = tt; goes = tt; events = tt; by_values = tt; reached = tt;
-    job = refl; setting = refl; tells = λ t. t; faults = refl;
+    ready = tt;
+    possible = tt;
+    world = tt;
+    cluster = tt;
+    goes = tt;
+    events = tt;
+    by_values = tt;
+    reached = tt;
+    job = refl;
+    setting = refl;
+    tells = λ t. t;
+    faults = refl;
     not_enabled = (λ h. other_error _ Spent NotEnabled sp_ne h, λ h. let r = h.0.room in absurd (omega (arith, r, all)));
     not_enabled_stays = λ h. refl;
     spent = (λ h. (going, all), λ h. refl);
@@ -131,8 +151,18 @@ module _ {J B F : Type 0} (operation : J → ℕ → List B → Option B) (feed_
   -- the feed failed before
   pub step_stopped : s.course ≡ Fed → Step (Err Stopped)
   step_stopped at = record {
-    ready = tt; possible = tt; world = tt; cluster = tt; goes = tt; events = tt; by_values = tt; reached = tt;
-    job = refl; setting = refl; tells = λ t. t; faults = refl;
+    ready = tt;
+    possible = tt;
+    world = tt;
+    cluster = tt;
+    goes = tt;
+    events = tt;
+    by_values = tt;
+    reached = tt;
+    job = refl;
+    setting = refl;
+    tells = λ t. t;
+    faults = refl;
     not_enabled = (λ h. other_error _ Stopped NotEnabled st_ne h, λ h. absurd (fed_going (sym at ∙ h.0.going)));
     not_enabled_stays = λ h. refl;
     spent = (λ h. other_error _ Stopped Spent st_sp h, λ h. absurd (fed_going (sym at ∙ h.0)));
@@ -148,8 +178,18 @@ module _ {J B F : Type 0} (operation : J → ℕ → List B → Option B) (feed_
   -- memory ran out before
   pub step_starved : s.course ≡ Starved → Step (Err OutOfMemory)
   step_starved at = record {
-    ready = tt; possible = tt; world = tt; cluster = tt; goes = tt; events = tt; by_values = tt; reached = tt;
-    job = refl; setting = refl; tells = λ t. t; faults = refl;
+    ready = tt;
+    possible = tt;
+    world = tt;
+    cluster = tt;
+    goes = tt;
+    events = tt;
+    by_values = tt;
+    reached = tt;
+    job = refl;
+    setting = refl;
+    tells = λ t. t;
+    faults = refl;
     not_enabled = (λ h. other_error _ OutOfMemory NotEnabled om_ne h, λ h. absurd (starved_going (sym at ∙ h.0.going)));
     not_enabled_stays = λ h. refl;
     spent = (λ h. other_error _ OutOfMemory Spent om_sp h, λ h. absurd (starved_going (sym at ∙ h.0)));

@@ -65,7 +65,9 @@ impl<J: Drop, B: Drop, F: Drop> State<J, B, F> {
         let requests = self.nodes.requests.len() as u64;
         let answers = self.nodes.answers.len() as u64;
         let moving = requests.saturating_add(answers);
-        let messages = self.worker_messages().saturating_add(self.client_messages());
+        let messages = self
+            .worker_messages()
+            .saturating_add(self.client_messages());
         let known = self.worker_pairs().saturating_add(self.client_pairs());
         let sent = messages.saturating_add(moving);
         sent.saturating_add(known)

@@ -11,7 +11,7 @@ pub enum Course {
     Starved,
 }
 
-/// The scheduler, the nodes, the job that they run and its feed, with the number of clients.
+/// The scheduler and the nodes, with the number of clients. The job and its feed, of any size, stand last.
 #[derive(Drop)]
 pub struct State<J, B, F> {
     pub alloc: Global,

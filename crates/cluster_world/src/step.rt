@@ -18,10 +18,7 @@ const EVENT_LIMIT: u64 = 1_099_511_627_776;
 /// `OutOfMemory` where no memory is left, and then at every later call. `Stopped` exactly where an earlier step answered
 /// `Feed`. Else `Spent` exactly where 2^40 events were taken. Else `NotEnabled` exactly where the event isn't enabled.
 /// `Feed` only where the feed's count of faults rose in this call.
-pub fn take<J: JobSpec>(
-    state: &mut State<J, J::Block, J::Feed>,
-    e: &Event,
-) -> Result<(), StepError>
+pub fn take<J: JobSpec>(state: &mut State<J, J::Block, J::Feed>, e: &Event) -> Result<(), StepError>
     requires world { IsWorld J.graph J.key_dims J.block_dims J.feed_fits state.old }
     ensures step { IsStep J.operation J.feed_tells J.fault_count e.now result state.old state.new }
     ensures world { IsWorld J.graph J.key_dims J.block_dims J.feed_fits state.new }

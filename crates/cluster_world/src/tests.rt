@@ -101,6 +101,24 @@ trait Cluster {
     fn block(&self, key: u32) -> Option<u64>;
 
     fn end(&self, key: u32) -> Option<End>;
+
+    fn can(&self, e: &Event) -> bool;
+
+    fn brings(&self, e: &Event) -> bool;
+
+    fn counts(&self) -> Counts;
+
+    fn faults(self) -> u64;
+}
+
+/// What a world counts.
+#[derive(Clone, Copy, Debug, PartialEq, Eq)]
+struct Counts {
+    under_way: u64,
+    workers: u64,
+    finishes: u64,
+    clients: u32,
+    keys: u32,
 }
 
 impl Cluster for World<Quotients> {
@@ -122,6 +140,29 @@ impl Cluster for World<Quotients> {
 
     fn end(&self, key: u32) -> Option<End> {
         self.done(1, key)
+    }
+
+    fn can(&self, e: &Event) -> bool {
+        self.enabled(e)
+    }
+
+    fn brings(&self, e: &Event) -> bool {
+        self.message(e).is_some()
+    }
+
+    fn counts(&self) -> Counts {
+        Counts {
+            under_way: self.under_way(),
+            workers: self.workers(),
+            finishes: self.finishes(),
+            clients: self.clients(),
+            keys: self.shape().keys(),
+        }
+    }
+
+    fn faults(self) -> u64 {
+        let feed = self.into_feed();
+        feed.faults
     }
 }
 
@@ -245,5 +286,29 @@ fn refusals(rt: HostRuntime) -> Result<(), Fail> {
         StepError::NotEnabled,
     );
     stops(&rt, &mut world);
+    Ok(())
+}
+
+// A client's message is under way once it wants a key; both keys finish.
+#[test]
+fn what_a_world_tells(rt: HostRuntime) -> Result<(), Fail> {
+    let alloc = rt.alloc();
+    let mut world = quotient(alloc, 8, false)?;
+    let told = Event::DeliverFromClient { client: 1 };
+    assert!(rt; !world.can(&told));
+    begin(&rt, alloc, &mut world);
+    assert!(rt; world.can(&told));
+    assert!(rt; world.brings(&told));
+    let counts = Counts {
+        under_way: 1,
+        workers: 1,
+        finishes: 0,
+        clients: 1,
+        keys: 2,
+    };
+    assert!(rt; world.counts() == counts);
+    go_on(&rt, &mut world);
+    assert_eq!(rt; world.counts().finishes, 2);
+    assert_eq!(rt; world.faults(), 0);
     Ok(())
 }
