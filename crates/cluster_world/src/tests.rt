@@ -1,4 +1,4 @@
-ghost use Rattle.std.specs.Prelude.{◌≡◌, ◌+◌, ◌-◌, ◌^◌, ◌≤◌, min, IfOk, IfErr, Unit};
+ghost use Rattle.std.specs.Prelude.{◌≡◌, IfOk, IfErr};
 ghost use Rattle.cluster_msgs.specs.Jobs.{Rose};
 ghost use Rattle.cluster_msgs.specs.declared.jobs.RunFail.TheVariants as RunFail;
 
