@@ -7,7 +7,6 @@ use cluster_msgs::{End, Event, GraphShape, JobSpec, KeyList, Outcome, RunFail};
 use std::alloc::{AllocError, Global};
 use std::process::Abort;
 use std::sync::Arc;
-use std::test::Fail;
 
 /// A number that may fail to be read.
 #[derive(Drop)]
@@ -197,24 +196,39 @@ fn quotient(alloc: Global, content: u64, fails: bool) -> Result<World<Quotients>
     World::new(alloc, Quotients { shape, content }, feed, 1, 11)
 }
 
-/// One worker of one thread joins, and the client wants key 1.
-fn begin(rt: &impl Abort, alloc: Global, world: &mut impl Cluster) {
-    let mut keys = KeyList::new(alloc);
-    keys.push(1).expect(rt, "memory");
-    world
-        .take(&Event::Join { threads: 1 })
-        .expect(rt, "a worker joins");
-    world
-        .take(&Event::Want { client: 1, keys })
-        .expect(rt, "the client wants");
+/// A world that is to be there.
+fn made(rt: &impl Abort, alloc: Global, content: u64, fails: bool) -> World<Quotients> {
+    quotient(alloc, content, fails).expect(rt, "memory")
 }
 
-/// Takes the first event that makes progress, as long as there is one.
+fn takes(rt: &impl Abort, world: &mut impl Cluster, e: &Event) {
+    world.take(e).expect(rt, "the event is taken");
+}
+
+fn key_1(rt: &impl Abort, alloc: Global) -> KeyList {
+    let mut keys = KeyList::new(alloc);
+    keys.push(1).expect(rt, "memory");
+    keys
+}
+
+/// One worker of one thread joins, and the client wants key 1.
+fn begin(rt: &impl Abort, alloc: Global, world: &mut impl Cluster) {
+    takes(rt, world, &Event::Join { threads: 1 });
+    let keys = key_1(rt, alloc);
+    takes(rt, world, &Event::Want { client: 1, keys });
+}
+
+/// Takes the first event that makes progress, if there is one.
+fn go_one_step(rt: &impl Abort, world: &mut impl Cluster) {
+    if let Some(e) = world.next() {
+        takes(rt, world, &e);
+    }
+}
+
+/// Goes on as long as an event makes progress.
 fn go_on(rt: &impl Abort, world: &mut impl Cluster) {
     for _turn in 0..40 {
-        if let Some(e) = world.next() {
-            world.take(&e).expect(rt, "progress is taken");
-        }
+        go_one_step(rt, world);
     }
     assert_eq!(rt; world.waiting(), 0);
 }
@@ -227,7 +241,8 @@ fn expect_end(rt: &impl Abort, world: &impl Cluster, key: u32, end: Option<End>)
     assert!(rt; world.end(key) == end);
 }
 
-fn runs_to(rt: &impl Abort, world: &mut impl Cluster, block: Option<u64>, end: End) {
+fn runs_to(rt: &impl Abort, alloc: Global, world: &mut impl Cluster, block: Option<u64>, end: End) {
+    begin(rt, alloc, world);
     go_on(rt, world);
     expect_block(rt, world, 1, block);
     expect_end(rt, world, 1, Some(end));
@@ -236,67 +251,62 @@ fn runs_to(rt: &impl Abort, world: &mut impl Cluster, block: Option<u64>, end: E
 
 // 100 / 8 = 12, with the rest left out.
 #[test]
-fn a_client_gets_its_block(rt: HostRuntime) -> Result<(), Fail> {
-    let alloc = rt.alloc();
-    let mut world = quotient(alloc, 8, false)?;
-    begin(&rt, alloc, &mut world);
-    runs_to(&rt, &mut world, Some(12), End::Got);
-    Ok(())
+fn a_client_gets_its_block(rt: HostRuntime) {
+    let mut world = made(&rt, rt.alloc(), 8, false);
+    runs_to(&rt, rt.alloc(), &mut world, Some(12), End::Got);
 }
 
 #[test]
-fn a_zero_divisor_is_blamed(rt: HostRuntime) -> Result<(), Fail> {
-    let alloc = rt.alloc();
-    let mut world = quotient(alloc, 0, false)?;
-    begin(&rt, alloc, &mut world);
-    runs_to(&rt, &mut world, None, End::Erred { blame: 1 });
-    Ok(())
+fn a_zero_divisor_is_blamed(rt: HostRuntime) {
+    let mut world = made(&rt, rt.alloc(), 0, false);
+    runs_to(&rt, rt.alloc(), &mut world, None, End::Erred { blame: 1 });
 }
 
 fn refuses(rt: &impl Abort, world: &mut impl Cluster, e: &Event, why: StepError) {
     assert!(rt; world.take(e) == Err(why));
 }
 
+/// Whether the next event that makes progress ends with a feed that fails.
+fn is_fed(world: &mut impl Cluster) -> bool {
+    match world.next() {
+        Some(e) => world.take(&e) == Err(StepError::Feed),
+        None => false,
+    }
+}
+
 fn stops(rt: &impl Abort, world: &mut impl Cluster) {
     let mut fed = false;
     for _turn in 0..40 {
-        if let Some(e) = world.next() {
-            fed = fed || world.take(&e) == Err(StepError::Feed);
-        }
+        let now = is_fed(world);
+        fed = fed || now;
     }
     assert!(rt; fed);
     refuses(rt, world, &Event::Join { threads: 1 }, StepError::Stopped);
 }
 
-#[test]
-fn refusals(rt: HostRuntime) -> Result<(), Fail> {
-    let alloc = rt.alloc();
-    let mut world = quotient(alloc, 8, true)?;
+fn refuses_what_cannot_be(rt: &impl Abort, alloc: Global, world: &mut impl Cluster) {
     refuses(
-        &rt,
-        &mut world,
+        rt,
+        world,
         &Event::Start { worker: 1 },
         StepError::NotEnabled,
     );
-    begin(&rt, alloc, &mut world);
-    refuses(
-        &rt,
-        &mut world,
-        &Event::Lose { worker: 2 },
-        StepError::NotEnabled,
-    );
-    stops(&rt, &mut world);
-    Ok(())
+    begin(rt, alloc, world);
+    refuses(rt, world, &Event::Lose { worker: 2 }, StepError::NotEnabled);
+    stops(rt, world);
+}
+
+#[test]
+fn what_cannot_be_is_refused_and_a_failing_feed_stops(rt: HostRuntime) {
+    let mut world = made(&rt, rt.alloc(), 8, true);
+    refuses_what_cannot_be(&rt, rt.alloc(), &mut world);
 }
 
 // A client's message is under way once it wants a key; both keys finish.
-#[test]
-fn what_a_world_tells(rt: HostRuntime) -> Result<(), Fail> {
-    let alloc = rt.alloc();
-    let mut world = quotient(alloc, 8, false)?;
+fn tells(rt: &impl Abort, alloc: Global, world: &mut impl Cluster) {
     let told = Event::DeliverFromClient { client: 1 };
     assert!(rt; !world.can(&told));
-    begin(&rt, alloc, &mut world);
+    begin(rt, alloc, world);
     assert!(rt; world.can(&told));
     assert!(rt; world.brings(&told));
     let counts = Counts {
@@ -307,8 +317,13 @@ fn what_a_world_tells(rt: HostRuntime) -> Result<(), Fail> {
         keys: 2,
     };
     assert!(rt; world.counts() == counts);
-    go_on(&rt, &mut world);
+    go_on(rt, world);
     assert_eq!(rt; world.counts().finishes, 2);
+}
+
+#[test]
+fn what_a_world_tells(rt: HostRuntime) {
+    let mut world = made(&rt, rt.alloc(), 8, false);
+    tells(&rt, rt.alloc(), &mut world);
     assert_eq!(rt; world.faults(), 0);
-    Ok(())
 }
