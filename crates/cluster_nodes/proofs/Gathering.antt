@@ -1,5 +1,5 @@
 -- Requests and answers under way, as the world and the blocks have them.
-use Rattle.std.proofs.Common.{◌≡◌, ℕ, Bool, true, false, not, ◌&&◌, List, [], ◌∷◌, ◌++◌, Option, Some, None, refl, sym, ap, ◌∙◌, cond, filter, find, map}
+use Rattle.std.proofs.Common.{◌≡◌, ℕ, Bool, true, false, not, ◌&&◌, List, [], ◌∷◌, ◌++◌, Option, Some, None, refl, sym, ap, ◌∙◌, subst, cond, filter, find, map}
 use Rattle.std.specs.Prelude.{◌==◌}
 use Rattle.std.specs.List.{filter_map, cons_option, zip}
 use Rattle.std.specs.Option.{option_map}
@@ -9,14 +9,14 @@ use Rattle.cluster_msgs.specs.Jobs.{blocks_of}
 use Rattle.cluster_msgs.specs.declared.events.Asker.{Asker}
 use Rattle.cluster_rules.specs.Sched.{Facts}
 use Rattle.cluster_rules.specs.World.{Parcel, parcel_before, is_parcel, with_parcel, parcel_of, without_parcel}
-use Rattle.message_queues.specs.Transit.{parcel_of_transit, parcels, is_transit, with_transit, transit_of, without_transit}
+use Rattle.message_queues.specs.Transit.{parcel_of_transit, parcels, is_transit, with_transit, transit_of, without_transit, IsRequest, IsAnswer, AreRequests, AreAnswers}
 use Rattle.message_queues.specs.declared.transit.InTransit.{InTransit}
 use Rattle.value_laws.specs.Blocks.{Delivery}
 use Rattle.value_laws.specs.Moves.{block_among, delivery_of, with_delivery, without_delivery}
 use Rattle.cluster_nodes.specs.declared.nodes.Nodes.{Nodes}
 use Rattle.cluster_nodes.specs.Nodes.{block_at, delivery_at, world_of, blocks_in, cluster_of}
 use Rattle.cluster_nodes.specs.Turns.{first_at, among, served_by, answer_gone, gathered_turned, answer_arrived}
-use Rattle.message_queues.proofs.QueueLemmas.{parcels-with}
+use Rattle.message_queues.proofs.QueueLemmas.{parcels-with, all_with, all_where}
 use Rattle.fact_rows.specs.Rows.{cell}
 use Rattle.message_queues.specs.Transit.{named_by}
 use Rattle.value_laws.specs.Blocks.{Cluster}
@@ -162,3 +162,13 @@ module _ {B : Type 0} (f : Facts) (old : Nodes B) (a : Asker) (p n : ℕ) where
       h ∙ ap (λ (c : Cluster B). gathered_turned c a p n (named_by t.message) (among new)) (gone_is x s)
       ∙ ap (λ (g : ℕ → Option B). gathered_turned (answer_gone (cluster_of f old) a p n) a p n (named_by t.message) g) came
       ∙ ap (answer_arrived (cluster_of f old) a p n) (sym some)
+
+-- what is left of what is under way, and one more answer, are of their kinds
+pub requests_left : {B : Type 0} (a : Asker) (p n : ℕ) (old new : List (InTransit B)) → new ≡ without_transit a p n old → AreRequests old → AreRequests new
+requests_left {B = B} a p n old new e h = subst (λ (ts : List (InTransit B)). AreRequests ts) (sym e) (all_where (λ (t : InTransit B). IsRequest t) (λ t. not (is_transit a p n t)) old h)
+
+pub answers_left : {B : Type 0} (a : Asker) (p n : ℕ) (old new : List (InTransit B)) → new ≡ without_transit a p n old → AreAnswers old → AreAnswers new
+answers_left {B = B} a p n old new e h = subst (λ (ts : List (InTransit B)). AreAnswers ts) (sym e) (all_where (λ (t : InTransit B). IsAnswer t) (λ t. not (is_transit a p n t)) old h)
+
+pub answers_more : {B : Type 0} (t : InTransit B) (old new : List (InTransit B)) → new ≡ with_transit t old → IsAnswer t → AreAnswers old → AreAnswers new
+answers_more {B = B} t old new e k h = subst (λ (ts : List (InTransit B)). AreAnswers ts) (sym e) (all_with (λ (t : InTransit B). IsAnswer t) t old k h)

@@ -12,6 +12,7 @@ use Rattle.fact_rows.specs.Rows.{read, width, height}
 use Rattle.gather_client.specs.CoreState.{CoreState, client_facts}
 use Rattle.message_queues.specs.Queues.{waiting}
 use Rattle.message_queues.specs.Posts.{downs, ups, to_clients, from_clients}
+use Rattle.message_queues.specs.Transit.{AreRequests, AreAnswers}
 use Rattle.message_queues.specs.declared.transit.InTransit.{InTransit}
 use Rattle.worker_core.specs.Core.{Core, facts}
 use Rattle.cluster_nodes.specs.declared.nodes.Nodes.{Nodes}
@@ -122,8 +123,8 @@ module _ {B : Type 0} (old : Nodes B) where
     clients = s.clients;
   }
 
-  pub nodes_moving : (r a : List (InTransit B)) → IsNodes old → IsNodes (record old { requests = r; answers = a })
-  nodes_moving r a n = record { sized = sized_moving r a n.sized; sorted = record { down = n.sorted.down; up = n.sorted.up; to_client = n.sorted.to_client; from_client = n.sorted.from_client } }
+  pub nodes_moving : (r a : List (InTransit B)) → AreRequests r → AreAnswers a → IsNodes old → IsNodes (record old { requests = r; answers = a })
+  nodes_moving r a x y n = record { sized = sized_moving r a n.sized; sorted = record { down = n.sorted.down; up = n.sorted.up; to_client = n.sorted.to_client; from_client = n.sorted.from_client; requests = x; answers = y } }
 
   pub sized_inputs : (ins : ℕ × List (List (Option (List (Arc B Global))))) → height ins ≡ height old.inputs → width ins ≡ width old.inputs → IsSized old → IsSized (record old { inputs = ins })
   sized_inputs ins a b s = record {

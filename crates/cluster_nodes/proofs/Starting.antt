@@ -12,7 +12,8 @@ use Rattle.cluster_rules.specs.World.{World, opening}
 use Rattle.fact_rows.specs.Rows.{read, cell, width, height}
 use Rattle.gather_client.specs.CoreState.{CoreState, client_facts}
 use Rattle.message_queues.specs.Queues.{waiting}
-use Rattle.message_queues.specs.Transit.{parcels}
+use Rattle.message_queues.specs.Transit.{parcels, AreRequests, AreAnswers}
+use Rattle.message_queues.specs.declared.transit.InTransit.{InTransit}
 use Rattle.value_laws.specs.Blocks.{Blocks, Cluster, no_blocks}
 use Rattle.worker_core.specs.Core.{Core, facts}
 use Rattle.cluster_nodes.specs.declared.nodes.Nodes.{Nodes}
@@ -86,8 +87,9 @@ module _ {B : Type 0} (n : Nodes B) (c : Core) where
       → length n.to_client ≡ length n.clients.items → length n.from_client ≡ length n.clients.items → height n.got ≡ length n.clients.items
       → width n.spilled ≡ key_count n.shape → width n.held ≡ key_count n.shape → width n.inputs ≡ key_count n.shape → width n.got ≡ key_count n.shape
       → waiting n.down ≡ (λ i. []) → waiting n.up ≡ (λ i. []) → waiting n.to_client ≡ (λ i. []) → waiting n.from_client ≡ (λ i. [])
+      → n.requests ≡ [] → n.answers ≡ []
       → IsNodes n
-  started we ce cs al sp d u h i t x g ws wh wi wg dn un tn xn =
+  started we ce cs al sp d u h i t x g ws wh wi wg dn un tn xn rn an =
       let one : ◌≡◌ {A = ℕ} 1 (length n.workers.items) = ap length (sym we) in
       record {
         sized = record {
@@ -112,5 +114,7 @@ module _ {B : Type 0} (n : Nodes B) (c : Core) where
           up = sorted_none as_up (λ m. message.Up m) n.up un;
           to_client = sorted_none as_to_client (λ m. message.ToClient m) n.to_client tn;
           from_client = sorted_none as_from_client (λ m. message.FromClient m) n.from_client xn;
+          requests = subst (λ (ts : List (InTransit B)). AreRequests ts) (sym rn) tt;
+          answers = subst (λ (ts : List (InTransit B)). AreAnswers ts) (sym an) tt;
         };
       }

@@ -6,6 +6,7 @@ use Rattle.cluster_msgs.specs.declared.events.Asker.{Asker}
 use Rattle.cluster_msgs.specs.declared.events.Asker.TheVariants.{Worker, Client}
 use Rattle.fact_rows.specs.Rows.{read, width, height}
 use Rattle.message_queues.specs.Queues.{waiting}
+use Rattle.message_queues.specs.Transit.{AreRequests, AreAnswers}
 use Rattle.message_queues.specs.Posts.{downs, ups, to_clients, from_clients}
 use Rattle.worker_core.specs.Core.{Core, facts}
 use Rattle.gather_client.specs.CoreState.{CoreState, client_facts}
@@ -37,12 +38,14 @@ pub record IsSized {B : Type 0} (n : Nodes B) : Type 0 where
   pub workers : AreWorkersOver n.shape n.workers.items
   pub clients : AreClientsOver n.shape n.clients.items
 
--- each link carries messages of its own kind
+-- each link carries messages of its own kind, and what is under way requests or answers
 pub record IsSorted {B : Type 0} (n : Nodes B) : Type 0 where
   pub down : (i : ℕ) → downs (filter_map as_down (waiting n.down i)) ≡ waiting n.down i
   pub up : (i : ℕ) → ups (filter_map as_up (waiting n.up i)) ≡ waiting n.up i
   pub to_client : (c : ℕ) → to_clients (filter_map as_to_client (waiting n.to_client c)) ≡ waiting n.to_client c
   pub from_client : (c : ℕ) → from_clients (filter_map as_from_client (waiting n.from_client c)) ≡ waiting n.from_client c
+  pub requests : AreRequests n.requests
+  pub answers : AreAnswers n.answers
 
 pub record IsNodes {B : Type 0} (n : Nodes B) : Type 0 where
   pub sized : IsSized n

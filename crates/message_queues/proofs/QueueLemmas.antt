@@ -1,7 +1,7 @@
 -- Places in lists: of queues by node, and of what is under way.
 use Rattle.std.proofs.Common.{◌≡◌, ℕ, zero, suc, ◌+◌, ◌<◌, ◌≤◌, ◌-◌, ◌^◌, Bool, true, false, not, ◌&&◌, List, [], ◌∷◌, ◌++◌, Option, Some, None, refl, sym, ap, ◌∙◌, subst, arith, cond, take, drop, filter, find, length, get_or}
 use Rattle.std.specs.Prelude.{nat_lt, min}
-use Rattle.std.specs.List.{position_or_len, insert, remove}
+use Rattle.std.specs.List.{position_or_len, insert, remove, AllByRecursion}
 use Rattle.std.proofs.lemmas.Bool.{true≢false, false≢true}
 use Rattle.std.proofs.lemmas.Bool.Decides.{nat_tests}
 use Rattle.std.proofs.lemmas.List.Sums.{prefix_len-le-length}
@@ -9,6 +9,8 @@ use Rattle.std.specs.Prelude.{map, ◌==◌, Result, Ok, Err, OnOk}
 use Rattle.std.proofs.lemmas.Bool.{eqb-true}
 use Rattle.std.proofs.lemmas.List.{map-append}
 use Rattle.cluster_msgs.specs.declared.messages.Message.{Message}
+use Rattle.cluster_msgs.specs.declared.messages.Message.TheVariants as message
+use Rattle.cluster_msgs.specs.declared.messages.Peer.TheVariants.{GetData, Data}
 use Rattle.cluster_msgs.specs.declared.cores.Instruction.{Instruction}
 use Rattle.cluster_msgs.specs.declared.cores.Instruction.TheVariants.{Execute, Gather, Keep, Drop, Send}
 use Rattle.cluster_msgs.specs.declared.cores.ClientInstruction.{ClientInstruction}
@@ -21,7 +23,7 @@ use Rattle.cluster_rules.proofs.DerivedLemmas.{eqb_comm}
 use Rattle.fact_rows.specs.Rows.{cell}
 use Rattle.message_queues.specs.declared.transit.InTransit.{InTransit}
 use Rattle.message_queues.specs.Queues.{waiting}
-use Rattle.message_queues.specs.Transit.{parcel_of_transit, parcels, with_transit}
+use Rattle.message_queues.specs.Transit.{parcel_of_transit, parcels, with_transit, IsRequest, IsAnswer}
 
 -- one more queue, with no message, changes nothing
 more_none : {A : Type 0} (queues : List (List A)) (k : ℕ) → get_or (queues ++ [] ∷ []) k [] ≡ get_or queues k []
@@ -213,3 +215,27 @@ module _ {M : Type 0} (wrap : M → Message) (of : ℕ → List (ℕ × M) → L
 pub on_ok : {A E P Q : Type 0} (r : Result A E) → (P → Q) → OnOk r P → OnOk r Q
 on_ok (Ok a) f h = f h
 on_ok (Err e) f h = tt
+
+-- what holds of each thing under way
+pub all_with : {B : Type 0} (P : InTransit B → Type 0) (t : InTransit B) (xs : List (InTransit B)) → P t → AllByRecursion P xs → AllByRecursion P (with_transit t xs)
+all_with P t [] p h = (p, tt)
+all_with P t (x ∷ xs) p h = pick (parcel_before (parcel_of_transit t) (parcel_of_transit x)) (all_with P t xs p h.1)
+  where
+    pick : (b : Bool) → AllByRecursion P (with_transit t xs) → AllByRecursion P (cond b (t ∷ x ∷ xs) (x ∷ with_transit t xs))
+    pick true r = (p, h)
+    pick false r = (h.0, r)
+
+pub all_where : {A : Type 0} (P : A → Type 0) (q : A → Bool) (xs : List A) → AllByRecursion P xs → AllByRecursion P (filter q xs)
+all_where P q [] h = tt
+all_where P q (x ∷ xs) h = pick (q x) (all_where P q xs h.1)
+  where
+    pick : (b : Bool) → AllByRecursion P (filter q xs) → AllByRecursion P (cond b (x ∷ filter q xs) (filter q xs))
+    pick true r = (h.0, r)
+    pick false r = r
+
+-- what a new request and a new answer carry
+pub request_kind : {B : Type 0} (t : InTransit B) (a : Asker) (p n : ℕ) (ks : List ℕ) → parcel_of_transit t ≡ record { asker = a; peer = p; ask = n; keys = ks } → t.message ≡ message.Peer (GetData n ks) → IsRequest t
+request_kind t a p n ks e m = m ∙ (λ i. message.Peer (GetData (sym (ap (λ (q : Parcel). q.ask) e) i) (sym (ap (λ (q : Parcel). q.keys) e) i)))
+
+pub answer_kind : {B : Type 0} (t : InTransit B) (a : Asker) (p n : ℕ) (ks : List ℕ) → parcel_of_transit t ≡ record { asker = a; peer = p; ask = n; keys = ks } → t.message ≡ message.Peer (Data n ks) → IsAnswer t
+answer_kind t a p n ks e m = m ∙ (λ i. message.Peer (Data (sym (ap (λ (q : Parcel). q.ask) e) i) (sym (ap (λ (q : Parcel). q.keys) e) i)))

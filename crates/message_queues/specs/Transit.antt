@@ -1,5 +1,6 @@
 -- What is under way between an asker and a peer, as it is kept: with its message and its blocks.
-use Rattle.std.specs.Prelude.{ℕ, Bool, not, List, [], ◌∷◌, Option, filter, find, map, cond}
+use Rattle.std.specs.Prelude.{◌≡◌, ℕ, Bool, not, List, [], ◌∷◌, Option, filter, find, map, cond}
+use Rattle.std.specs.List.{AllByRecursion}
 use Rattle.cluster_msgs.specs.declared.messages.Message.{Message}
 use Rattle.cluster_msgs.specs.declared.messages.Message.TheVariants as message
 use Rattle.cluster_msgs.specs.declared.messages.Peer.{Peer}
@@ -19,6 +20,19 @@ named_by _ = []
 
 abbrev pub parcel_of_transit : {B : Type 0} → InTransit B → Parcel
 parcel_of_transit t = record { asker = t.asker; peer = t.peer; ask = t.ask; keys = named_by t.message }
+
+-- a request carries get-data of its ask, and an answer carries data
+abbrev pub IsRequest : {B : Type 0} → InTransit B → Type 0
+IsRequest t = t.message ≡ message.Peer (GetData t.ask (named_by t.message))
+
+abbrev pub IsAnswer : {B : Type 0} → InTransit B → Type 0
+IsAnswer t = t.message ≡ message.Peer (Data t.ask (named_by t.message))
+
+abbrev pub AreRequests : {B : Type 0} → List (InTransit B) → Type 0
+AreRequests ts = AllByRecursion IsRequest ts
+
+abbrev pub AreAnswers : {B : Type 0} → List (InTransit B) → Type 0
+AreAnswers ts = AllByRecursion IsAnswer ts
 
 abbrev pub parcels : {B : Type 0} → List (InTransit B) → List Parcel
 parcels ts = map (λ t. parcel_of_transit t) ts

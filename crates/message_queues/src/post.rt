@@ -7,7 +7,7 @@ ghost use Rattle.cluster_rules.specs.SchedStep.{mail};
 ghost use Rattle.cluster_rules.specs.WorldStep.{letters, sends, requested, client_sends, client_requested};
 ghost use Rattle.message_queues.specs.Queues.{waiting};
 ghost use Rattle.message_queues.specs.Posts.{downs, ups, to_clients, from_clients, posted};
-ghost use Rattle.message_queues.specs.Transit.{parcels};
+ghost use Rattle.message_queues.specs.Transit.{parcels, AreRequests};
 
 use crate::links::Links;
 use crate::transit::{InTransit, Transits};
@@ -31,6 +31,7 @@ pub fn post_worker<B: Drop>(
     requires { worker < length up.old }
     ensures up { OnOk result (waiting up.new ≡ put (waiting up.old) worker (waiting up.old worker ++ ups (sends out))) }
     ensures requests { OnOk result (parcels requests.new ≡ requested (Worker worker) (parcels requests.old) out) }
+    ensures kind { OnOk result (AreRequests requests.old → AreRequests requests.new) }
     ensures length { length up.new ≡ length up.old }
     ensures err { OnErr result (waiting up.new ≡ waiting up.old) }
 {
@@ -51,6 +52,7 @@ fn post_instruction<B: Drop>(
 ) -> Result<(), AllocError>
     ensures messages { OnOk result (messages.new.items ≡ messages.old.items ++ ups (sends (instruction ∷ []))) }
     ensures requests { OnOk result (parcels requests.new ≡ requested (Worker worker) (parcels requests.old) (instruction ∷ [])) }
+    ensures kind { OnOk result (AreRequests requests.old → AreRequests requests.new) }
 {
     match instruction {
         Instruction::Send(message) => {
@@ -81,6 +83,7 @@ pub fn post_client<B: Drop>(
     requires { client < length from_client.old }
     ensures from_client { OnOk result (waiting from_client.new ≡ put (waiting from_client.old) client (waiting from_client.old client ++ from_clients (client_sends out))) }
     ensures requests { OnOk result (parcels requests.new ≡ client_requested (Client client) (parcels requests.old) out) }
+    ensures kind { OnOk result (AreRequests requests.old → AreRequests requests.new) }
     ensures length { length from_client.new ≡ length from_client.old }
     ensures err { OnErr result (waiting from_client.new ≡ waiting from_client.old) }
 {
@@ -101,6 +104,7 @@ fn post_client_instruction<B: Drop>(
 ) -> Result<(), AllocError>
     ensures messages { OnOk result (messages.new.items ≡ messages.old.items ++ from_clients (client_sends (instruction ∷ []))) }
     ensures requests { OnOk result (parcels requests.new ≡ client_requested (Client client) (parcels requests.old) (instruction ∷ [])) }
+    ensures kind { OnOk result (AreRequests requests.old → AreRequests requests.new) }
 {
     match instruction {
         ClientInstruction::Send(message) => {

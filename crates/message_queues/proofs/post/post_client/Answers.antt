@@ -22,4 +22,5 @@ loop-instruction-preserved g c =
       requests = c.in_ok-post_client_instruction.ensures.requests
           ∙ ap (λ (qs : List Parcel). client_requested (Client c.args.client) qs one) c.loop-instruction.invariant.requests
           ∙ sym (client_requested-append (Client c.args.client) before one (parcels c.args.requests.now));
+      kind = λ h. c.in_ok-post_client_instruction.ensures.kind (c.loop-instruction.invariant.kind h);
     }

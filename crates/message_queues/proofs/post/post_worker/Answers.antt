@@ -22,4 +22,5 @@ loop-instruction-preserved g c =
       requests = c.in_ok-post_instruction.ensures.requests
           ∙ ap (λ (qs : List Parcel). requested (Worker c.args.worker) qs one) c.loop-instruction.invariant.requests
           ∙ sym (requested-append (Worker c.args.worker) before one (parcels c.args.requests.now));
+      kind = λ h. c.in_ok-post_instruction.ensures.kind (c.loop-instruction.invariant.kind h);
     }

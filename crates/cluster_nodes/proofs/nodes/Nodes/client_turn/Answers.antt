@@ -48,5 +48,7 @@ returns-clause-nodes g c =
         up = c.requires.nodes.sorted.up;
         to_client = c.requires.nodes.sorted.to_client;
         from_client = only_more as_from_client (λ m. message.FromClient m) from_clients_are (waiting old.from_client) (waiting c.post_client.new.from_client) c.args.client (client_sends c.client_on.new.out) c.in_ok-post_client.ensures.from_client c.requires.nodes.sorted.from_client;
+        requests = c.in_ok-post_client.ensures.kind c.requires.nodes.sorted.requests;
+        answers = c.requires.nodes.sorted.answers;
       };
     }

@@ -25,5 +25,7 @@ returns-clause-nodes g c =
         up = only_none as_up (λ m. message.Up m) ups_are (waiting old.up) (waiting c.clear-2.new.self) c.args.worker c.clear-2.ensures.meaning s.up;
         to_client = s.to_client;
         from_client = s.from_client;
+        requests = s.requests;
+        answers = s.answers;
       };
     }

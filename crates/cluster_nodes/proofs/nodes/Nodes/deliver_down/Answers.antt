@@ -16,7 +16,7 @@ worker_turn-requires-clause-nodes g c =
     let s = c.requires.nodes.sorted in
     record {
       sized = sized_links old c.pop_down.new.down old.up old.to_client old.from_client c.pop_down.ensures.length refl refl refl c.requires.nodes.sized;
-      sorted = record { down = c.pop_down.ensures.sorted; up = s.up; to_client = s.to_client; from_client = s.from_client };
+      sorted = record { down = c.pop_down.ensures.sorted; up = s.up; to_client = s.to_client; from_client = s.from_client; requests = s.requests; answers = s.answers };
     }
 
 pub returns-in-Some-clause-cluster : goal.returns-in-Some-clause-cluster
@@ -39,5 +39,5 @@ returns-in-None-clause-nodes g c =
     let s = c.requires.nodes.sorted in
     record {
       sized = sized_links old c.pop_down.new.down old.up old.to_client old.from_client c.pop_down.ensures.length refl refl refl c.requires.nodes.sized;
-      sorted = record { down = c.pop_down.ensures.sorted; up = s.up; to_client = s.to_client; from_client = s.from_client };
+      sorted = record { down = c.pop_down.ensures.sorted; up = s.up; to_client = s.to_client; from_client = s.from_client; requests = s.requests; answers = s.answers };
     }

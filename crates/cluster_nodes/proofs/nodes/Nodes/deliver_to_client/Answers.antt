@@ -16,7 +16,7 @@ client_turn-requires-clause-nodes g c =
     let s = c.requires.nodes.sorted in
     record {
       sized = sized_links old old.down old.up c.pop_to_client.new.to_client old.from_client refl refl c.pop_to_client.ensures.length refl c.requires.nodes.sized;
-      sorted = record { down = s.down; up = s.up; to_client = c.pop_to_client.ensures.sorted; from_client = s.from_client };
+      sorted = record { down = s.down; up = s.up; to_client = c.pop_to_client.ensures.sorted; from_client = s.from_client; requests = s.requests; answers = s.answers };
     }
 
 pub returns-in-Some-clause-cluster : goal.returns-in-Some-clause-cluster
@@ -39,5 +39,5 @@ returns-in-None-clause-nodes g c =
     let s = c.requires.nodes.sorted in
     record {
       sized = sized_links old old.down old.up c.pop_to_client.new.to_client old.from_client refl refl c.pop_to_client.ensures.length refl c.requires.nodes.sized;
-      sorted = record { down = s.down; up = s.up; to_client = c.pop_to_client.ensures.sorted; from_client = s.from_client };
+      sorted = record { down = s.down; up = s.up; to_client = c.pop_to_client.ensures.sorted; from_client = s.from_client; requests = s.requests; answers = s.answers };
     }

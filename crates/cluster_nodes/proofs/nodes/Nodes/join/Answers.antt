@@ -42,5 +42,7 @@ returns-clause-nodes g c =
         up = subst (λ (f : ℕ → List Message). (i : ℕ) → ups (filter_map as_up (f i)) ≡ f i) (sym c.add-2.ensures.meaning) s.up;
         to_client = s.to_client;
         from_client = s.from_client;
+        requests = s.requests;
+        answers = s.answers;
       };
     }

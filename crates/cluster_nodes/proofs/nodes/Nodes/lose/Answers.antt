@@ -11,5 +11,5 @@ returns-clause-nodes g c =
     let s = c.requires.nodes.sorted in
     record {
       sized = sized_lost c.args.self.now c.set.new.self c.fill_row.new.self c.clear.new.self c.set.ensures.length c.fill_row.ensures.height c.fill_row.ensures.width c.clear.ensures.height c.clear.ensures.width c.requires.nodes.sized;
-      sorted = record { down = s.down; up = s.up; to_client = s.to_client; from_client = s.from_client };
+      sorted = record { down = s.down; up = s.up; to_client = s.to_client; from_client = s.from_client; requests = s.requests; answers = s.answers };
     }

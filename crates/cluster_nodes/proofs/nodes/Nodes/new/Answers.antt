@@ -40,4 +40,4 @@ returns-clause-nodes g c =
     (c.in_ok-to_client.ensures.length ∙ long) (c.in_ok-from_client.ensures.length ∙ long) (c.in_ok-got.ensures.height ∙ long)
     (ap width c.in_ok-push-2.ensures.ok ∙ ap (λ (v : ℕ × List (List Bool)). width v) c.empty-spilled.ensures ∙ c.keys-keys.ensures)
     (c.in_ok-held.ensures.width ∙ c.keys-keys.ensures) (c.in_ok-inputs.ensures.width ∙ c.keys-keys.ensures) (c.in_ok-got.ensures.width ∙ c.keys-keys.ensures)
-    c.in_ok-down.ensures.none c.in_ok-up.ensures.none c.in_ok-to_client.ensures.none c.in_ok-from_client.ensures.none
+    c.in_ok-down.ensures.none c.in_ok-up.ensures.none c.in_ok-to_client.ensures.none c.in_ok-from_client.ensures.none c.new-2.ensures c.new-3.ensures

@@ -2,20 +2,20 @@ use Rattle.std.proofs.Common.{◌≡◌, ◌∙◌, ◌<◌, ℕ, List, None, ap
 use Rattle.std.specs.List.{filter_map}
 use Rattle.cluster_rules.specs.Worker.{WorkerFacts}
 use Rattle.fact_rows.specs.Rows.{cell}
-use Rattle.message_queues.proofs.QueueLemmas.{on_ok}
+use Rattle.message_queues.proofs.QueueLemmas.{on_ok, answer_kind}
 use Rattle.message_queues.specs.Transit.{named_by}
 use Rattle.worker_core.specs.Core.{facts}
 use Rattle.cluster_nodes.specs.Nodes.{block_at, world_of}
 use Rattle.cluster_nodes.proofs.NodeLemmas.{worker_was}
 use Rattle.cluster_nodes.proofs.Keeping.{nodes_moving}
-use Rattle.cluster_nodes.proofs.Gathering.{none_served, served_is}
+use Rattle.cluster_nodes.proofs.Gathering.{none_served, served_is, requests_left, answers_more}
 use Rattle.cluster_nodes.proofs.nodes.Nodes.serve.Goals as goal
 
 pub returns-in-None-clause-cluster : goal.returns-in-None-clause-cluster
 returns-in-None-clause-cluster g c f = none_served f c.args.self.now c.args.asker c.args.peer c.args.ask c.take.new.self c.in-None.ensures.item c.in-None.ensures.rest
 
 pub returns-in-None-clause-nodes : goal.returns-in-None-clause-nodes
-returns-in-None-clause-nodes g c = nodes_moving c.args.self.now c.take.new.self c.args.self.now.answers c.requires.nodes
+returns-in-None-clause-nodes g c = nodes_moving c.args.self.now c.take.new.self c.args.self.now.answers (requests_left c.args.asker c.args.peer c.args.ask c.args.self.now.requests c.take.new.self c.in-None.ensures.rest c.requires.nodes.sorted.requests) c.requires.nodes.sorted.answers c.requires.nodes
 
 pub returns-in_ok-blocks-in-Some-clause-cluster : goal.returns-in_ok-blocks-in-Some-clause-cluster
 unfolding world_of
@@ -31,4 +31,7 @@ returns-in_ok-blocks-in-Some-clause-cluster g c = on_ok c.insert.result
     c.insert.ensures.ok
 
 pub returns-in_ok-blocks-in-Some-clause-nodes : goal.returns-in_ok-blocks-in-Some-clause-nodes
-returns-in_ok-blocks-in-Some-clause-nodes g c = on_ok c.insert.result (λ ok. nodes_moving c.args.self.now c.take.new.self c.insert.new.self c.requires.nodes) c.insert.ensures.ok
+returns-in_ok-blocks-in-Some-clause-nodes g c = on_ok c.insert.result (λ ok. nodes_moving c.args.self.now c.take.new.self c.insert.new.self
+    (requests_left c.args.asker c.args.peer c.args.ask c.args.self.now.requests c.take.new.self c.in-Some.ensures.rest c.requires.nodes.sorted.requests)
+    (answers_more c.answer.result c.args.self.now.answers c.insert.new.self ok (answer_kind c.answer.result _ _ _ _ c.answer.ensures.parcel c.answer.ensures.message) c.requires.nodes.sorted.answers)
+    c.requires.nodes) c.insert.ensures.ok

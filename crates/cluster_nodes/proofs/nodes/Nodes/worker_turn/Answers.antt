@@ -48,5 +48,7 @@ returns-clause-nodes g c =
         up = only_more as_up (λ m. message.Up m) ups_are (waiting old.up) (waiting c.post_worker.new.up) c.args.worker (sends c.worker_on.new.out) c.in_ok-post_worker.ensures.up c.requires.nodes.sorted.up;
         to_client = c.requires.nodes.sorted.to_client;
         from_client = c.requires.nodes.sorted.from_client;
+        requests = c.in_ok-post_worker.ensures.kind c.requires.nodes.sorted.requests;
+        answers = c.requires.nodes.sorted.answers;
       };
     }

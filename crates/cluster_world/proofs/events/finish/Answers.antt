@@ -1,0 +1,80 @@
+use Rattle.std.proofs.Common.{◌≡◌, ◌+◌, ◌++◌, ℕ, Bool, true, false, ◌&&◌, List, [], ◌∷◌, Option, Some, None, refl, sym, ap, ◌∙◌, subst, arith, cond, length, is_some}
+use Rattle.std.specs.Option.{option_map}
+use Rattle.cluster_msgs.specs.declared.cores.SchedEvent.TheVariants as sched
+use Rattle.cluster_msgs.specs.declared.cores.WorkerEvent.TheVariants as work
+use Rattle.cluster_msgs.specs.declared.cores.ClientEvent.TheVariants as client
+use Rattle.cluster_msgs.specs.declared.cores.Outbox.{Outbox}
+use Rattle.cluster_msgs.specs.declared.events.Asker.TheVariants.{Worker, Client}
+use Rattle.cluster_rules.specs.Sched.{Facts, Setting}
+use Rattle.cluster_rules.specs.SchedStep.{sched_step}
+use Rattle.cluster_rules.specs.Worker.{would_start}
+use Rattle.cluster_rules.specs.World.{World, is_asker, is_client, parcel_of}
+use Rattle.cluster_rules.specs.WorldStep.{at_scheduler}
+use Rattle.value_laws.specs.Blocks.{Cluster}
+use Rattle.value_laws.specs.Moves.{delivery_of}
+use Rattle.scheduler_core.specs.Cores.{facts}
+use Rattle.cluster_nodes.specs.Nodes.{cluster_of, world_of, blocks_in}
+use Rattle.cluster_nodes.specs.Kept.{IsNodes, HasSameNodes}
+use Rattle.cluster_nodes.specs.Turns.{among, nothing, in_world, worker_turned, client_turned, down_delivered, client_told, up_taken, served_by, answer_arrived}
+use Rattle.cluster_world.specs.Worlds.{cluster, world, setting}
+use Rattle.cluster_world.specs.Outcomes.{IsTurned, stepped}
+use Rattle.cluster_world.proofs.Acting as acting
+use Rattle.cluster_world.proofs.Rows as row
+use Rattle.cluster_world.proofs.Gathers as gather
+use Rattle.cluster_world.proofs.Telling.{alive_is}
+use Rattle.std.proofs.Common.{OnOk, map}
+use Rattle.cluster_msgs.specs.Jobs.{value_of}
+use Rattle.cluster_msgs.specs.Shape.{Shape, key_count, deps_of}
+use Rattle.cluster_msgs.specs.declared.events.Event.TheVariants as event
+use Rattle.cluster_rules.specs.Enabled.{enabled}
+use Rattle.value_laws.proofs.Deliveries.{none_some}
+use Rattle.cluster_world.specs.Kept.{LengthsFit}
+use Rattle.cluster_world.specs.Outcomes.{IsMoved, IsPerformed, IsUnended, CountsPerform, FeedLeaves}
+use Rattle.cluster_world.proofs.Finishing as finishing
+use Rattle.cluster_world.proofs.events.finish.Goals as goal
+
+pub inputs_of-inputs-requires : goal.inputs_of-inputs-requires
+inputs_of-inputs-requires g c = c.new-none.ensures
+
+pub run-requires : goal.run-requires
+run-requires g c =
+    record { key = finishing.finish_key g.J.JobSpec.graph g.J.JobSpec.key_dims g.J.JobSpec.block_dims c.args.state.now c.requires.whole c.args.worker c.args.key c.requires.possible; inputs = ap (λ bs. map g.J.JobSpec.block_dims bs) c.inputs_of-inputs.ensures ∙ finishing.finish_inputs g.J.JobSpec.graph g.J.JobSpec.key_dims g.J.JobSpec.block_dims c.args.state.now c.requires.whole c.args.worker c.args.key c.requires.possible; feed = c.requires.feed }
+
+pub returns-in_err-outcome : goal.returns-in_err-outcome
+returns-in_err-outcome g c =
+    record { performed = acting.exits _ _ c.from_residual.result c.from_residual.ensures.1; same = record { job = refl; course = refl; events = refl; clients = refl; setting = refl }; fits = c.run.ensures.fits; tells = c.run.ensures.tells; faults = finishing.counts_run _ g.row.J-Block.Denot c.from_residual.result _ _ _ c.from_residual.ensures.1 c.in_err-outcome.ensures.faults; left = finishing.left_run _ _ c.from_residual.result c.args.state.now _ c.from_residual.ensures.1 refl }
+
+pub returns-in_err-brought : goal.returns-in_err-brought
+returns-in_err-brought g c =
+    record { performed = acting.exits _ _ c.from_residual-in_err-brought.result c.from_residual-in_err-brought.ensures.1; same = record { job = refl; course = refl; events = refl; clients = refl; setting = refl }; fits = c.run.ensures.fits; tells = c.run.ensures.tells; faults = finishing.counts_memory _ c.from_residual-in_err-brought.result _ _ c.from_residual-in_err-brought.ensures.1 c.in_ok-outcome.ensures.faults; left = finishing.left_memory _ c.from_residual-in_err-brought.result c.args.state.now _ c.from_residual-in_err-brought.ensures.1 }
+
+pub worker_turn-requires : goal.worker_turn-requires
+worker_turn-requires g c =
+    let a = finishing.can_finish c.args.state.now c.args.worker c.args.key c.requires.possible in record { nodes = c.requires.whole.joint.nodes; worker = acting.worker_number c.args.state.now c.requires.whole.joint c.args.worker a.0; alive = alive_is c.args.state.now c.args.worker a.0 }
+
+pub returns-in_err-worker_turn : goal.returns-in_err-worker_turn
+returns-in_err-worker_turn g c =
+    record { performed = acting.exits _ _ c.from_residual-in_err-worker_turn.result c.from_residual-in_err-worker_turn.ensures.1; same = record { job = refl; course = refl; events = refl; clients = refl; setting = refl }; fits = c.run.ensures.fits; tells = c.run.ensures.tells; faults = finishing.counts_memory _ c.from_residual-in_err-worker_turn.result _ _ c.from_residual-in_err-worker_turn.ensures.1 c.in_ok-outcome.ensures.faults; left = finishing.left_memory _ c.from_residual-in_err-worker_turn.result c.args.state.now _ c.from_residual-in_err-worker_turn.ensures.1 }
+
+pub returns : goal.returns
+unfolding blocks_in
+returns g c =
+    let h = c.in_ok-worker_turn.ensures.same in
+    let o = value_of c.in_ok-outcome.outcome in
+    record {
+      performed = finishing.performed_by c.args.state.now _ c.args.worker c.args.key c.in_ok-outcome.outcome
+          (record {
+            cluster = c.in_ok-worker_turn.ensures.cluster (facts c.args.state.now.sched) ∙ ap (λ z. worker_turned (cluster c.args.state.now) c.args.worker (work.Done c.args.key z) (among c.in_ok-brought.brought.items)) c.is_zero-zero.ensures ∙ row.finish_is o (cluster c.args.state.now) c.requires.whole.joint.tidy c.args.worker c.args.key (among c.in_ok-brought.brought.items) c.in_ok-brought.ensures;
+            nodes = c.in_ok-worker_turn.ensures.nodes;
+            shape = h.shape;
+            workers = h.workers ∙ c.requires.whole.joint.workers;
+            clients = h.clients;
+            more = let l = h.workers in omega (arith, l);
+          })
+          c.in_ok-outcome.ensures.dims (λ t. c.in_ok-outcome.ensures.value t ∙ ap (g.J.JobSpec.operation c.args.state.now.job c.args.key) c.inputs_of-inputs.ensures);
+      same = record { job = refl; course = refl; events = refl; clients = refl; setting = refl };
+      fits = c.run.ensures.fits;
+      tells = c.run.ensures.tells;
+      faults = c.in_ok-outcome.ensures.faults;
+      left = tt;
+    }

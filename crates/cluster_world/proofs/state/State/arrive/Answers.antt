@@ -1,0 +1,38 @@
+use Rattle.std.proofs.Common.{◌≡◌, ◌+◌, ◌++◌, ℕ, Bool, true, false, ◌&&◌, List, [], ◌∷◌, Option, Some, None, refl, sym, ap, ◌∙◌, subst, arith, cond, length, is_some}
+use Rattle.std.specs.Option.{option_map}
+use Rattle.cluster_msgs.specs.declared.cores.SchedEvent.TheVariants as sched
+use Rattle.cluster_msgs.specs.declared.cores.WorkerEvent.TheVariants as work
+use Rattle.cluster_msgs.specs.declared.cores.ClientEvent.TheVariants as client
+use Rattle.cluster_msgs.specs.declared.cores.Outbox.{Outbox}
+use Rattle.cluster_msgs.specs.declared.events.Asker.TheVariants.{Worker, Client}
+use Rattle.cluster_rules.specs.Sched.{Facts, Setting}
+use Rattle.cluster_rules.specs.SchedStep.{sched_step}
+use Rattle.cluster_rules.specs.Worker.{would_start}
+use Rattle.cluster_rules.specs.World.{World, is_asker, is_client, parcel_of}
+use Rattle.cluster_rules.specs.WorldStep.{at_scheduler}
+use Rattle.value_laws.specs.Blocks.{Cluster}
+use Rattle.value_laws.specs.Moves.{delivery_of}
+use Rattle.scheduler_core.specs.Cores.{facts}
+use Rattle.cluster_nodes.specs.Nodes.{cluster_of, world_of, blocks_in}
+use Rattle.cluster_nodes.specs.Kept.{IsNodes, HasSameNodes}
+use Rattle.cluster_nodes.specs.Turns.{among, nothing, in_world, worker_turned, client_turned, down_delivered, client_told, up_taken, served_by, answer_arrived}
+use Rattle.cluster_world.specs.Worlds.{cluster, world, setting}
+use Rattle.cluster_world.specs.Outcomes.{IsTurned, stepped}
+use Rattle.cluster_world.proofs.Acting as acting
+use Rattle.cluster_world.proofs.Rows as row
+use Rattle.cluster_world.proofs.Gathers as gather
+use Rattle.cluster_world.proofs.Telling.{alive_is}
+use Rattle.cluster_world.proofs.Scheduling.{downs_there, news_there, sched_turned}
+use Rattle.cluster_world.proofs.state.State.arrive.Goals as goal
+
+pub arrive-requires : goal.arrive-requires
+arrive-requires g c =
+    record { nodes = c.requires.joint.nodes; asker = acting.asker_place c.args.self.now c.requires.joint c.args.asker (acting.can_arrive c.args.self.now c.requires.joint c.args.asker c.args.peer c.args.ask c.requires.possible) }
+
+pub returns-clause-moved : goal.returns-clause-moved
+returns-clause-moved g c =
+    acting.on_turned c.args.self.now _ c.arrive.result _ _ (gather.arrive_is None (cluster c.args.self.now) c.requires.joint.tidy c.args.asker c.args.peer c.args.ask c.requires.carried)
+    (acting.on_ok3 c.arrive.result (λ e n h. acting.nodes_turned c.args.self.now c.requires.joint c.arrive.new.self (λ (f : Facts). answer_arrived (cluster_of f c.args.self.now.nodes) c.args.asker c.args.peer c.args.ask (delivery_of c.args.asker c.args.peer c.args.ask (blocks_in c.args.self.now.nodes).carried)) e n h) c.arrive.ensures.cluster c.arrive.ensures.nodes c.arrive.ensures.same)
+
+pub returns-clause-kept : goal.returns-clause-kept
+returns-clause-kept g c = acting.kept_nodes c.args.self.now c.arrive.new.self

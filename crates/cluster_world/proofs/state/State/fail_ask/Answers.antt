@@ -1,0 +1,52 @@
+use Rattle.cluster_rules.specs.World.{open_ask}
+use Rattle.cluster_msgs.specs.declared.events.Event.TheVariants as event
+use Rattle.std.proofs.Common.{◌≡◌, ◌+◌, ◌++◌, ℕ, Bool, true, false, ◌&&◌, List, [], ◌∷◌, Option, Some, None, refl, sym, ap, ◌∙◌, subst, arith, cond, length, is_some}
+use Rattle.std.specs.Option.{option_map}
+use Rattle.cluster_msgs.specs.declared.cores.SchedEvent.TheVariants as sched
+use Rattle.cluster_msgs.specs.declared.cores.WorkerEvent.TheVariants as work
+use Rattle.cluster_msgs.specs.declared.cores.ClientEvent.TheVariants as client
+use Rattle.cluster_msgs.specs.declared.cores.Outbox.{Outbox}
+use Rattle.cluster_msgs.specs.declared.events.Asker.TheVariants.{Worker, Client}
+use Rattle.cluster_rules.specs.Sched.{Facts, Setting}
+use Rattle.cluster_rules.specs.SchedStep.{sched_step}
+use Rattle.cluster_rules.specs.Worker.{would_start}
+use Rattle.cluster_rules.specs.World.{World, is_asker, is_client, parcel_of}
+use Rattle.cluster_rules.specs.WorldStep.{at_scheduler}
+use Rattle.value_laws.specs.Blocks.{Cluster}
+use Rattle.value_laws.specs.Moves.{delivery_of}
+use Rattle.scheduler_core.specs.Cores.{facts}
+use Rattle.cluster_nodes.specs.Nodes.{cluster_of, world_of, blocks_in}
+use Rattle.cluster_nodes.specs.Kept.{IsNodes, HasSameNodes}
+use Rattle.cluster_nodes.specs.Turns.{among, nothing, in_world, worker_turned, client_turned, down_delivered, client_told, up_taken, served_by, answer_arrived}
+use Rattle.cluster_world.specs.Worlds.{cluster, world, setting}
+use Rattle.cluster_world.specs.Outcomes.{IsTurned, stepped}
+use Rattle.cluster_world.proofs.Acting as acting
+use Rattle.cluster_world.proofs.Rows as row
+use Rattle.cluster_world.proofs.Gathers as gather
+use Rattle.cluster_world.proofs.Telling.{alive_is}
+use Rattle.cluster_world.proofs.Scheduling.{downs_there, news_there, sched_turned}
+use Rattle.cluster_world.proofs.state.State.fail_ask.Goals as goal
+
+pub worker_turn-requires : goal.worker_turn-requires
+worker_turn-requires g c =
+    record { joint = c.requires.joint; alive = subst (λ a. is_asker (world c.args.self.now) a ≡ true) c.in-Worker.is c.requires.there }
+
+pub client_turn-requires : goal.client_turn-requires
+client_turn-requires g c =
+    record { joint = c.requires.joint; there = subst (λ a. is_asker (world c.args.self.now) a ≡ true) c.in-Client.is c.requires.there }
+
+pub returns-in-Worker : goal.returns-in-Worker
+returns-in-Worker g c =
+    let o = acting.open_there (open_ask (world c.args.self.now) c.args.asker c.args.peer) c.args.ask c.requires.ask in
+    record {
+      moved = acting.on_turned c.args.self.now _ c.worker_turn.result _ _ (ap (λ n. worker_turned (cluster c.args.self.now) c.in-Worker.worker (work.GatherFailed c.args.peer n) nothing) (sym o.2) ∙ row.worker_fails_is None (cluster c.args.self.now) c.requires.joint.tidy c.in-Worker.worker c.args.peer o.0 (ap (λ a. open_ask (world c.args.self.now) a c.args.peer) (sym c.in-Worker.is) ∙ o.1) ∙ ap (λ a. stepped None (cluster c.args.self.now) (event.FailGather a c.args.peer)) (sym c.in-Worker.is)) c.worker_turn.ensures.turned;
+      kept = c.worker_turn.ensures.kept;
+    }
+
+pub returns-in-Client : goal.returns-in-Client
+returns-in-Client g c =
+    let o = acting.open_there (open_ask (world c.args.self.now) c.args.asker c.args.peer) c.args.ask c.requires.ask in
+    record {
+      moved = acting.on_turned c.args.self.now _ c.client_turn.result _ _ (ap (λ n. client_turned (cluster c.args.self.now) c.in-Client.client (client.GatherFailed c.args.peer n) nothing) (sym o.2) ∙ row.client_fails_is None (cluster c.args.self.now) c.requires.joint.tidy c.in-Client.client c.args.peer o.0 (ap (λ a. open_ask (world c.args.self.now) a c.args.peer) (sym c.in-Client.is) ∙ o.1) ∙ ap (λ a. stepped None (cluster c.args.self.now) (event.FailGather a c.args.peer)) (sym c.in-Client.is)) c.client_turn.ensures.turned;
+      kept = c.client_turn.ensures.kept;
+    }

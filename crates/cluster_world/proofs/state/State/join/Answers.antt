@@ -1,0 +1,54 @@
+use Rattle.cluster_nodes.specs.Turns.{joined}
+use Rattle.cluster_world.proofs.Lasts.{step_last}
+use Rattle.std.proofs.Common.{◌≡◌, ◌+◌, ◌++◌, ℕ, Bool, true, false, ◌&&◌, List, [], ◌∷◌, Option, Some, None, refl, sym, ap, ◌∙◌, subst, arith, cond, length, is_some}
+use Rattle.std.specs.Option.{option_map}
+use Rattle.cluster_msgs.specs.declared.cores.SchedEvent.TheVariants as sched
+use Rattle.cluster_msgs.specs.declared.cores.WorkerEvent.TheVariants as work
+use Rattle.cluster_msgs.specs.declared.cores.ClientEvent.TheVariants as client
+use Rattle.cluster_msgs.specs.declared.cores.Outbox.{Outbox}
+use Rattle.cluster_msgs.specs.declared.events.Asker.TheVariants.{Worker, Client}
+use Rattle.cluster_rules.specs.Sched.{Facts, Setting}
+use Rattle.cluster_rules.specs.SchedStep.{sched_step}
+use Rattle.cluster_rules.specs.Worker.{would_start}
+use Rattle.cluster_rules.specs.World.{World, is_asker, is_client, parcel_of}
+use Rattle.cluster_rules.specs.WorldStep.{at_scheduler}
+use Rattle.value_laws.specs.Blocks.{Cluster}
+use Rattle.value_laws.specs.Moves.{delivery_of}
+use Rattle.scheduler_core.specs.Cores.{facts}
+use Rattle.cluster_nodes.specs.Nodes.{cluster_of, world_of, blocks_in}
+use Rattle.cluster_nodes.specs.Kept.{IsNodes, HasSameNodes}
+use Rattle.cluster_nodes.specs.Turns.{among, nothing, in_world, worker_turned, client_turned, down_delivered, client_told, up_taken, served_by, answer_arrived}
+use Rattle.cluster_world.specs.Worlds.{cluster, world, setting}
+use Rattle.cluster_world.specs.Outcomes.{IsTurned, stepped}
+use Rattle.cluster_world.proofs.Acting as acting
+use Rattle.cluster_world.proofs.Rows as row
+use Rattle.cluster_world.proofs.Gathers as gather
+use Rattle.cluster_world.proofs.Telling.{alive_is}
+use Rattle.cluster_world.proofs.Scheduling.{downs_there, news_there, sched_turned}
+use Rattle.cluster_world.proofs.state.State.join.Goals as goal
+
+pub join-requires : goal.join-requires
+join-requires g c =
+    record { nodes = c.requires.joint.nodes; few = acting.can_join c.args.self.now c.requires.joint c.args.threads c.requires.possible }
+
+pub returns-in_err-join : goal.returns-in_err-join
+returns-in_err-join g c =
+    record { moved = acting.exits _ _ c.from_residual.result c.from_residual.ensures.1; kept = acting.kept_nodes c.args.self.now c.join.new.self }
+
+pub scheduler_turn-requires : goal.scheduler_turn-requires
+scheduler_turn-requires g c =
+    record { nodes = c.in_ok-join.ensures.nodes; workers = c.in_ok-join.ensures.workers ∙ ap (λ n. n + 1) (c.requires.joint.workers ∙ sym (step_last (facts c.args.self.now.sched) (sched.Join c.args.threads))); clients = c.in_ok-join.ensures.clients ∙ c.requires.joint.clients }
+
+pub returns-clause-moved : goal.returns-clause-moved
+unfolding world_of
+returns-clause-moved g c =
+    let more = c.in_ok-join.ensures.workers in
+    let n = length c.args.self.now.nodes.workers.items in
+    let to = λ (x : Cluster _). in_world x (at_scheduler x.world (sched.Join c.args.threads)) in
+    acting.on_after c.args.self.now (record c.args.self.now { nodes = c.join.new.self }) _ c.scheduler_turn.result _ _ c.in_ok-join.ensures.shape c.in_ok-join.ensures.clients (omega (arith, more))
+    (ap to (c.in_ok-join.ensures.cluster (facts c.args.self.now.sched) (sym c.requires.joint.shape)) ∙ ap (λ (n : ℕ). to (joined (cluster c.args.self.now) n c.args.threads)) c.requires.joint.workers ∙ row.join_is None (cluster c.args.self.now) c.requires.joint.tidy c.args.threads (acting.newcomer c.args.self.now c.requires.joint))
+    c.scheduler_turn.ensures.turned
+
+pub returns-clause-kept : goal.returns-clause-kept
+returns-clause-kept g c =
+    acting.kept_both c.args.self.now (record c.args.self.now { nodes = c.join.new.self }) _ (acting.kept_nodes c.args.self.now c.join.new.self) c.scheduler_turn.ensures.kept

@@ -1,0 +1,57 @@
+use Rattle.std.proofs.Common.{◌≡◌, ◌+◌, ◌++◌, ℕ, Bool, true, false, ◌&&◌, List, [], ◌∷◌, Option, Some, None, refl, sym, ap, ◌∙◌, subst, arith, cond, length, is_some}
+use Rattle.std.specs.Option.{option_map}
+use Rattle.cluster_msgs.specs.declared.cores.SchedEvent.TheVariants as sched
+use Rattle.cluster_msgs.specs.declared.cores.WorkerEvent.TheVariants as work
+use Rattle.cluster_msgs.specs.declared.cores.ClientEvent.TheVariants as client
+use Rattle.cluster_msgs.specs.declared.cores.Outbox.{Outbox}
+use Rattle.cluster_msgs.specs.declared.events.Asker.TheVariants.{Worker, Client}
+use Rattle.cluster_rules.specs.Sched.{Facts, Setting}
+use Rattle.cluster_rules.specs.SchedStep.{sched_step}
+use Rattle.cluster_rules.specs.Worker.{would_start}
+use Rattle.cluster_rules.specs.World.{World, is_asker, is_client, parcel_of}
+use Rattle.cluster_rules.specs.WorldStep.{at_scheduler}
+use Rattle.value_laws.specs.Blocks.{Cluster}
+use Rattle.value_laws.specs.Moves.{delivery_of}
+use Rattle.scheduler_core.specs.Cores.{facts}
+use Rattle.cluster_nodes.specs.Nodes.{cluster_of, world_of, blocks_in}
+use Rattle.cluster_nodes.specs.Kept.{IsNodes, HasSameNodes}
+use Rattle.cluster_nodes.specs.Turns.{among, nothing, in_world, worker_turned, client_turned, down_delivered, client_told, up_taken, served_by, answer_arrived}
+use Rattle.cluster_world.specs.Worlds.{cluster, world, setting}
+use Rattle.cluster_world.specs.Outcomes.{IsTurned, stepped}
+use Rattle.cluster_world.proofs.Acting as acting
+use Rattle.cluster_world.proofs.Rows as row
+use Rattle.cluster_world.proofs.Gathers as gather
+use Rattle.cluster_world.proofs.Telling.{alive_is}
+use Rattle.cluster_world.proofs.Scheduling.{downs_there, news_there, sched_turned}
+use Rattle.cluster_world.proofs.state.State.scheduler_turn.Goals as goal
+
+pub post_down-requires : goal.post_down-requires
+post_down-requires g c =
+    downs_there (facts c.args.self.now.sched) c.args.event c.on.new.out.down (length c.args.self.now.nodes.down) (ap (λ (o : Outbox). o.down) c.in_ok-on.ensures.out ∙ ap (λ l. l ++ (sched_step (facts c.args.self.now.sched) c.args.event).down) c.new-out.ensures.down) (c.requires.nodes.sized.down ∙ c.requires.workers)
+
+pub post_to_clients-requires : goal.post_to_clients-requires
+post_to_clients-requires g c =
+    news_there (facts c.args.self.now.sched) c.args.event c.on.new.out.clients (length c.args.self.now.nodes.to_client) c.in_ok-on.ensures.possible.2 (ap (λ (o : Outbox). o.clients) c.in_ok-on.ensures.out ∙ ap (λ l. l ++ (sched_step (facts c.args.self.now.sched) c.args.event).clients) c.new-out.ensures.clients) (c.requires.nodes.sized.to_client ∙ c.requires.clients)
+
+pub returns-in_err-on : goal.returns-in_err-on
+returns-in_err-on g c =
+    record { turned = acting.exits _ _ c.from_residual.result c.from_residual.ensures.1; kept = acting.kept_sched c.args.self.now c.args.self.now.nodes c.on.new.self c.on.ensures.setting }
+
+pub returns-in_err-post_down : goal.returns-in_err-post_down
+returns-in_err-post_down g c =
+    record { turned = acting.exits _ _ c.from_residual-in_err-post_down.result c.from_residual-in_err-post_down.ensures.1; kept = acting.kept_sched c.args.self.now _ c.on.new.self c.on.ensures.setting }
+
+pub returns-in_err-post_to_clients : goal.returns-in_err-post_to_clients
+returns-in_err-post_to_clients g c =
+    record { turned = acting.exits _ _ c.from_residual-in_err-post_to_clients.result c.from_residual-in_err-post_to_clients.ensures.1; kept = acting.kept_sched c.args.self.now _ c.on.new.self c.on.ensures.setting }
+
+pub returns : goal.returns
+unfolding world_of
+returns g c =
+    record {
+      turned = sched_turned c.args.self.now c.on.new.self c.post_down.new.down c.post_to_clients.new.to_client (sched_step (facts c.args.self.now.sched) c.args.event) c.in_ok-on.ensures.facts c.on.ensures.setting
+          c.on.new.out.down (ap (λ (o : Outbox). o.down) c.in_ok-on.ensures.out ∙ ap (λ l. l ++ (sched_step (facts c.args.self.now.sched) c.args.event).down) c.new-out.ensures.down) c.in_ok-post_down.ensures.down c.post_down.ensures.length
+          c.on.new.out.clients (ap (λ (o : Outbox). o.clients) c.in_ok-on.ensures.out ∙ ap (λ l. l ++ (sched_step (facts c.args.self.now.sched) c.args.event).clients) c.new-out.ensures.clients) c.in_ok-post_to_clients.ensures.to_client c.post_to_clients.ensures.length
+          c.requires.nodes c.requires.workers;
+      kept = acting.kept_sched c.args.self.now _ c.on.new.self c.on.ensures.setting;
+    }

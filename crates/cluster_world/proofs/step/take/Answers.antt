@@ -1,0 +1,27 @@
+use Rattle.std.proofs.Common.{◌≡◌, ◌≢◌, ◌≤◌, true, false, refl, sym, ap, ◌∙◌, subst, arith}
+use Rattle.cluster_msgs.specs.Shape.{IsShape}
+use Rattle.cluster_rules.specs.Enabled.{enabled}
+use Rattle.cluster_world.specs.declared.state.Course.TheVariants.{Starved}
+use Rattle.cluster_world.specs.Kept.{LengthsFit, IsWhole}
+use Rattle.cluster_world.specs.Worlds.{world, setting, event_limit}
+use Rattle.cluster_world.proofs.Advancing.{whole_advanced}
+use Rattle.cluster_world.proofs.Stepwise.{step_refused, step_spent, step_stopped, step_starved, step_taken, going_starved}
+use Rattle.cluster_world.proofs.step.take.Goals as goal
+
+pub returns-in-Fed : goal.returns-in-Fed
+returns-in-Fed g c =
+    record { step = step_stopped g.J.JobSpec.operation g.J.JobSpec.feed_tells g.J.JobSpec.fault_count c.args.e.now c.args.state.now c.in-Fed.is; world = c.requires.world }
+
+pub returns-in-Starved : goal.returns-in-Starved
+returns-in-Starved g c =
+    record { step = step_starved g.J.JobSpec.operation g.J.JobSpec.feed_tells g.J.JobSpec.fault_count c.args.e.now c.args.state.now c.in-Starved.is; world = c.requires.world }
+
+pub take_going-requires-clause-world : goal.take_going-requires-clause-world
+take_going-requires-clause-world g c = λ κs lives. c.requires.world
+
+pub take_going-requires-clause-going : goal.take_going-requires-clause-going
+take_going-requires-clause-going g c = λ κs lives. c.in-Going.is
+
+pub returns-in-Going : goal.returns-in-Going
+returns-in-Going g c =
+    c.take_going.ensures
