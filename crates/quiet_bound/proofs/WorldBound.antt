@@ -1,5 +1,5 @@
 -- The bound over counts that a world tells, its messages held at a greatest number.
-use Rattle.std.proofs.Common.{◌≡◌, ℕ, ◌-◌, ◌^◌, ◌≤◌, ◌<◌, min, Bool, true, false, refl, sym, ap, ◌∙◌, arith, ⊎_elim, leb}
+use Rattle.std.proofs.Common.{◌≡◌, ℕ, ◌-◌, ◌^◌, ◌≤◌, ◌<◌, min, Bool, true, false, refl, sym, ap, ◌∙◌, arith, ⊎_elim}
 use Rattle.std.specs.Prelude.{nat_le, max}
 use Rattle.std.proofs.Math.Nat.{min-eq_left, min-eq_right, le_refl}
 use Rattle.std.proofs.lemmas.Bool.{cases_lt, le-leb}
