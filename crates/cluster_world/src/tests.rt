@@ -3,7 +3,9 @@ ghost use Rattle.cluster_msgs.specs.Jobs.{Rose};
 ghost use Rattle.cluster_msgs.specs.declared.jobs.RunFail.TheVariants as RunFail;
 
 use crate::{StepError, World};
-use cluster_msgs::{End, Event, GraphShape, JobSpec, KeyList, Outcome, RunFail};
+use cluster_msgs::{
+    Asker, Down, End, Event, GraphShape, JobSpec, KeyList, Message, Outcome, RunFail, ToClient, Up,
+};
 use std::alloc::{AllocError, Global};
 use std::process::Abort;
 use std::sync::Arc;
@@ -105,6 +107,8 @@ trait Cluster {
 
     fn brings(&self, e: &Event) -> bool;
 
+    fn said(&self, e: &Event) -> Option<Said>;
+
     fn counts(&self) -> Counts;
 
     fn faults(self) -> u64;
@@ -118,6 +122,52 @@ struct Counts {
     finishes: u64,
     clients: u32,
     keys: u32,
+}
+
+/// What the message that an event takes says of a key, without its lists.
+#[derive(Clone, Copy, Debug, PartialEq, Eq)]
+enum Said {
+    Given { key: u32, attempt: u64 },
+    Finished { key: u32, attempt: u64 },
+    InMemory { key: u32 },
+    Lost { key: u32 },
+}
+
+fn said_down(down: &Down) -> Option<Said> {
+    match down {
+        Down::ComputeTask { key, attempt, .. } => Some(Said::Given {
+            key: *key,
+            attempt: *attempt,
+        }),
+        _ => None,
+    }
+}
+
+fn said_up(up: &Up) -> Option<Said> {
+    match up {
+        Up::TaskFinished { key, attempt, .. } => Some(Said::Finished {
+            key: *key,
+            attempt: *attempt,
+        }),
+        _ => None,
+    }
+}
+
+fn said_to_client(news: &ToClient) -> Option<Said> {
+    match news {
+        ToClient::KeyInMemory { key, .. } => Some(Said::InMemory { key: *key }),
+        ToClient::LostData { key } => Some(Said::Lost { key: *key }),
+        _ => None,
+    }
+}
+
+fn said_by(message: &Message) -> Option<Said> {
+    match message {
+        Message::Down(down) => said_down(down),
+        Message::Up(up) => said_up(up),
+        Message::ToClient(news) => said_to_client(news),
+        _ => None,
+    }
 }
 
 impl Cluster for World<Quotients> {
@@ -147,6 +197,13 @@ impl Cluster for World<Quotients> {
 
     fn brings(&self, e: &Event) -> bool {
         self.message(e).is_some()
+    }
+
+    fn said(&self, e: &Event) -> Option<Said> {
+        match self.message(e) {
+            Some(message) => said_by(message),
+            None => None,
+        }
     }
 
     fn counts(&self) -> Counts {
@@ -183,11 +240,13 @@ fn push_second(alloc: Global, shape: &mut GraphShape) -> Result<(), AllocError> 
     Ok(())
 }
 
-/// Key 1 divides 100 by key 0, which is this number.
-fn quotient(alloc: Global, content: u64, fails: bool) -> Result<World<Quotients>, AllocError> {
-    let mut shape = GraphShape::new(alloc);
-    push_first(alloc, &mut shape)?;
-    push_second(alloc, &mut shape)?;
+/// One client over this graph, and a feed of this number.
+fn world_over(
+    alloc: Global,
+    shape: GraphShape,
+    content: u64,
+    fails: bool,
+) -> Result<World<Quotients>, AllocError> {
     let feed = Number {
         value: content,
         faults: 0,
@@ -196,25 +255,45 @@ fn quotient(alloc: Global, content: u64, fails: bool) -> Result<World<Quotients>
     World::new(alloc, Quotients { shape, content }, feed, 1, 11)
 }
 
+/// Key 1 divides 100 by key 0, which is this number.
+fn quotient(alloc: Global, content: u64, fails: bool) -> Result<World<Quotients>, AllocError> {
+    let mut shape = GraphShape::new(alloc);
+    push_first(alloc, &mut shape)?;
+    push_second(alloc, &mut shape)?;
+    world_over(alloc, shape, content, fails)
+}
+
+/// Key 0 alone, which is this number.
+fn one_key(alloc: Global, content: u64) -> Result<World<Quotients>, AllocError> {
+    let mut shape = GraphShape::new(alloc);
+    push_first(alloc, &mut shape)?;
+    world_over(alloc, shape, content, false)
+}
+
 /// A world that is to be there.
 fn made(rt: &impl Abort, alloc: Global, content: u64, fails: bool) -> World<Quotients> {
     quotient(alloc, content, fails).expect(rt, "memory")
+}
+
+/// A world of one key that is to be there.
+fn made_of_one(rt: &impl Abort, alloc: Global, content: u64) -> World<Quotients> {
+    one_key(alloc, content).expect(rt, "memory")
 }
 
 fn takes(rt: &impl Abort, world: &mut impl Cluster, e: &Event) {
     world.take(e).expect(rt, "the event is taken");
 }
 
-fn key_1(rt: &impl Abort, alloc: Global) -> KeyList {
+fn only(rt: &impl Abort, alloc: Global, key: u32) -> KeyList {
     let mut keys = KeyList::new(alloc);
-    keys.push(1).expect(rt, "memory");
+    keys.push(key).expect(rt, "memory");
     keys
 }
 
 /// One worker of one thread joins, and the client wants key 1.
 fn begin(rt: &impl Abort, alloc: Global, world: &mut impl Cluster) {
     takes(rt, world, &Event::Join { threads: 1 });
-    let keys = key_1(rt, alloc);
+    let keys = only(rt, alloc, 1);
     takes(rt, world, &Event::Want { client: 1, keys });
 }
 
@@ -326,4 +405,125 @@ fn what_a_world_tells(rt: HostRuntime) {
     let mut world = made(&rt, rt.alloc(), 8, false);
     tells(&rt, rt.alloc(), &mut world);
     assert_eq!(rt; world.faults(), 0);
+}
+
+fn expect_said(rt: &impl Abort, world: &impl Cluster, e: &Event, said: Said) {
+    assert!(rt; world.said(e) == Some(said));
+}
+
+fn expect_finishes(rt: &impl Abort, world: &impl Cluster, finishes: u64) {
+    assert_eq!(rt; world.counts().finishes, finishes);
+}
+
+/// Two workers of one thread join, and the scheduler hears that the client wants key 0.
+fn begin_with_two(rt: &impl Abort, alloc: Global, world: &mut impl Cluster) {
+    takes(rt, world, &Event::Join { threads: 1 });
+    takes(rt, world, &Event::Join { threads: 1 });
+    let keys = only(rt, alloc, 0);
+    takes(rt, world, &Event::Want { client: 1, keys });
+    takes(rt, world, &Event::DeliverFromClient { client: 1 });
+}
+
+fn expect_given(rt: &impl Abort, world: &impl Cluster, worker: u32, attempt: u64) {
+    let given = Said::Given { key: 0, attempt };
+    expect_said(rt, world, &Event::DeliverDown { worker }, given);
+}
+
+/// The worker is given key 0 under this attempt, and starts it.
+fn start(rt: &impl Abort, world: &mut impl Cluster, worker: u32, attempt: u64) {
+    expect_given(rt, world, worker, attempt);
+    takes(rt, world, &Event::DeliverDown { worker });
+    takes(rt, world, &Event::Start { worker });
+}
+
+/// The worker finishes key 0 under this attempt, and its message is delivered.
+fn finish(rt: &impl Abort, world: &mut impl Cluster, worker: u32, attempt: u64) {
+    takes(rt, world, &Event::Finish { worker, key: 0 });
+    let up = Event::DeliverUp { worker };
+    expect_said(rt, world, &up, Said::Finished { key: 0, attempt });
+    takes(rt, world, &up);
+}
+
+/// The client is told something of key 0.
+fn tell_client(rt: &impl Abort, world: &mut impl Cluster, said: Said) {
+    let news = Event::DeliverToClient { client: 1 };
+    expect_said(rt, world, &news, said);
+    takes(rt, world, &news);
+}
+
+/// Whether the client can gather key 0 from the worker.
+fn may_gather(world: &impl Cluster, peer: u32) -> bool {
+    world.can(&Event::SendGather {
+        asker: Asker::Client(1),
+        peer,
+    })
+}
+
+/// The client is told that key 0 is in memory, which worker 2 alone holds, and gets it.
+fn serve_from_the_second(rt: &impl Abort, world: &mut impl Cluster) {
+    tell_client(rt, world, Said::InMemory { key: 0 });
+    assert!(rt; !may_gather(world, 1) && may_gather(world, 2));
+    go_on(rt, world);
+    expect_block(rt, world, 0, Some(8));
+    expect_end(rt, world, 0, Some(End::Got));
+}
+
+/// Worker 1 is suspected while it runs key 0, which worker 2 then gets. Its finish counts for nothing.
+fn suspect_the_first(rt: &impl Abort, world: &mut impl Cluster) {
+    start(rt, world, 1, 1);
+    takes(rt, world, &Event::Suspect { worker: 1 });
+    expect_given(rt, world, 2, 2);
+    finish(rt, world, 1, 1);
+    expect_finishes(rt, world, 0);
+    assert!(rt; !world.can(&Event::DeliverToClient { client: 1 }));
+}
+
+fn finish_elsewhere(rt: &impl Abort, alloc: Global, world: &mut impl Cluster) {
+    begin_with_two(rt, alloc, world);
+    suspect_the_first(rt, world);
+    start(rt, world, 2, 2);
+    finish(rt, world, 2, 2);
+    expect_finishes(rt, world, 1);
+    serve_from_the_second(rt, world);
+}
+
+#[test]
+fn a_suspected_workers_finish_is_dropped(rt: HostRuntime) {
+    let mut world = made_of_one(&rt, rt.alloc(), 8);
+    finish_elsewhere(&rt, rt.alloc(), &mut world);
+}
+
+/// Worker 1 holds key 0, and the client knows, but hasn't gathered it.
+fn hold_at_the_first(rt: &impl Abort, world: &mut impl Cluster) {
+    start(rt, world, 1, 1);
+    finish(rt, world, 1, 1);
+    expect_finishes(rt, world, 1);
+    tell_client(rt, world, Said::InMemory { key: 0 });
+    assert!(rt; may_gather(world, 1) && !may_gather(world, 2));
+    expect_block(rt, world, 0, None);
+}
+
+/// Worker 1 is lost, and seen to be. Number 2 was drawn for its copy.
+fn lose_the_first(rt: &impl Abort, world: &mut impl Cluster) {
+    takes(rt, world, &Event::Lose { worker: 1 });
+    takes(rt, world, &Event::SeeLoss { worker: 1 });
+    expect_given(rt, world, 2, 3);
+    tell_client(rt, world, Said::Lost { key: 0 });
+    assert!(rt; !may_gather(world, 1) && !may_gather(world, 2));
+}
+
+fn make_again(rt: &impl Abort, alloc: Global, world: &mut impl Cluster) {
+    begin_with_two(rt, alloc, world);
+    hold_at_the_first(rt, world);
+    lose_the_first(rt, world);
+    start(rt, world, 2, 3);
+    finish(rt, world, 2, 3);
+    expect_finishes(rt, world, 2);
+    serve_from_the_second(rt, world);
+}
+
+#[test]
+fn a_lost_block_is_made_again(rt: HostRuntime) {
+    let mut world = made_of_one(&rt, rt.alloc(), 8);
+    make_again(&rt, rt.alloc(), &mut world);
 }
