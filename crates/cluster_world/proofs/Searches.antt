@@ -15,13 +15,16 @@ use Rattle.cluster_msgs.specs.declared.events.Event.TheVariants as event
 use Rattle.cluster_rules.specs.Derived.{below}
 use Rattle.cluster_rules.specs.Functions.{from_one}
 use Rattle.cluster_rules.specs.World.{World, Parcel, shape_of, all_workers, all_clients, is_connected}
-use Rattle.cluster_rules.specs.Enabled.{connected_workers, quiet_askers, is_quiet_asker, progress_kinds}
+use Rattle.cluster_rules.specs.Inside.{IsInsideWorker}
+use Rattle.cluster_rules.specs.Worker.{WorkerFacts}
+use Rattle.cluster_rules.specs.Enabled.{enabled, connected_workers, quiet_askers, is_quiet_asker, progress_kinds}
 use Rattle.cluster_rules.proofs.DerivedLemmas.{range_more}
 use Rattle.value_laws.proofs.Deliveries.{none_some, some_is}
+use Rattle.worker_core.specs.Runs.{IsNextRun}
 use Rattle.cluster_world.specs.declared.search.Search.{Search}
 use Rattle.cluster_world.specs.declared.search.Search.TheVariants.{Passing, Found}
 use Rattle.cluster_world.specs.declared.progress.Kind.TheVariants as kind
-use Rattle.cluster_world.specs.Searching.{next, searched, is_found, node_events, finish_events, ask_events, asks_of, worker_asks, name_of, serve_events, answer_events, found, left}
+use Rattle.cluster_world.specs.Searching.{IsNextFinish, next, searched, is_found, node_events, finish_events, ask_events, asks_of, worker_asks, name_of, serve_events, answer_events, found, left}
 
 -- events one by one
 module _ (on : Event → Bool) where
@@ -53,6 +56,34 @@ module _ (on : Event → Bool) where
       map_last : (xs : List ℕ) (x : ℕ) → map f (xs ++ x ∷ []) ≡ map f xs ++ f x ∷ []
       map_last [] x = refl
       map_last (y ∷ xs) x = ap (λ l. f y ∷ l) (map_last xs x)
+
+  -- what isn't enabled is passed over
+  kept : (s : Search) (e : Event) → next s false e ≡ s
+  kept (Passing n) e = refl
+  kept (Found x) e = refl
+
+  over : (s : Search) (f : ℕ → Event) (n d : ℕ) → ((k : ℕ) → n ≤ k → k < n + d → on (f k) ≡ false) → searched on s (map f (range_with_len 0 n)) ≡ searched on s (map f (range_with_len 0 (n + d)))
+  over s f n zero none = ap (λ m. searched on s (map f (range_with_len 0 m))) (let e : n ≡ n + 0 = omega arith in e)
+  over s f n (suc d) none =
+      let e : n + d + 1 ≡ n + suc d = omega arith in
+      over s f n d (λ k l m. none k l (omega arith))
+      ∙ sym (kept (searched on s (map f (range_with_len 0 (n + d)))) (f (n + d)))
+      ∙ ap (λ b. next (searched on s (map f (range_with_len 0 (n + d)))) b (f (n + d))) (sym (none (n + d) (omega arith) (omega arith)))
+      ∙ sym (searched_key s f (n + d))
+      ∙ ap (λ m. searched on s (map f (range_with_len 0 m))) e
+
+  pub passed_over : (s : Search) (f : ℕ → Event) (n m : ℕ) → n ≤ m → ((k : ℕ) → n ≤ k → k < m → on (f k) ≡ false) → searched on s (map f (range_with_len 0 n)) ≡ searched on s (map f (range_with_len 0 m))
+  passed_over s f n m l none =
+      over s f n (m - n) (λ k g h. none k g (omega arith))
+      ∙ ap (λ j. searched on s (map f (range_with_len 0 j))) (let e : n + (m - n) ≡ m = omega arith in e)
+
+  -- the next one that is enabled
+  pub found_next : (s : Search) (f : ℕ → Event) (n m : ℕ) → n ≤ m → on (f m) ≡ true → ((k : ℕ) → n ≤ k → k < m → on (f k) ≡ false)
+      → next (searched on s (map f (range_with_len 0 n))) true (f m) ≡ searched on s (map f (range_with_len 0 (m + 1)))
+  found_next s f n m l e none =
+      ap (λ t. next t true (f m)) (passed_over s f n m l none)
+      ∙ ap (λ b. next (searched on s (map f (range_with_len 0 m))) b (f m)) (sym e)
+      ∙ sym (searched_key s f m)
 
   -- a loop over what is under way
   pub searched_place : {A : Type 0} (s : Search) (f : A → List Event) (xs : List A) (n : ℕ) (x : A) → Some x ≡ slice_get xs n → searched on s (flat_map f (take (n + 1) xs)) ≡ searched on (searched on s (flat_map f (take n xs))) (f x)
@@ -215,3 +246,18 @@ many_left on es n x h = pick (nat_lt n (length (filter on es))) refl
 pub passed_is : (on : Event → Bool) (es : List Event) (n : ℕ) (s : Search) → s ≡ searched on (Passing n) es → left s + min (length (filter on es)) n ≡ n
 passed_is on es n (Passing m) h = let e = left_is on es n m (sym h) in omega (arith, e)
 passed_is on es n (Found x) h = let l = many_left on es n x (sym h) in omega (arith, l)
+
+-- the tasks that can finish at a worker that is alive are those that it runs
+pub next_finish : (w : World) (i first : ℕ) (f : WorkerFacts) (o : Option ℕ) → w.alive i ≡ true → w.workers i ≡ f → IsInsideWorker (shape_of w) (w.workers i) → IsNextRun f first o → IsNextFinish w i first o
+unfolding enabled
+next_finish w i first f None a e inside h = λ k l. (λ t. a t && (e t).running k) ∙ h k l
+next_finish w i first f (Some key) a e inside h = record {
+  past = h.past;
+  there = ltb-true key (key_count (shape_of w)) (inside.running key (ap (λ (g : WorkerFacts). g.running key) e ∙ h.runs));
+  finishes = (λ t. a t && (e t).running key) ∙ h.runs;
+  before = λ k l m. (λ t. a t && (e t).running k) ∙ h.before k l m;
+}
+
+pub none_finish : (w : World) (i first : ℕ) → w.alive i ≡ false → IsNextFinish w i first None
+unfolding enabled
+none_finish w i first a = λ k l. ap (λ b. b && (w.workers i).running k) a

@@ -1,5 +1,5 @@
 -- The search for the enabled event of a number, over events in their order.
-use Rattle.std.specs.Prelude.{ℕ, ◌-◌, ◌==◌, Bool, true, false, not, ◌&&◌, List, [], ◌∷◌, Option, Some, None, map, cond}
+use Rattle.std.specs.Prelude.{◌≡◌, ℕ, ◌-◌, ◌<◌, ◌≤◌, ◌==◌, Bool, true, false, not, ◌&&◌, List, [], ◌∷◌, Option, Some, None, map, cond}
 use Rattle.std.specs.List.{flat_map}
 use Rattle.cluster_msgs.specs.Shape.{key_count}
 use Rattle.cluster_msgs.specs.declared.events.Asker.{Asker}
@@ -9,7 +9,7 @@ use Rattle.cluster_msgs.specs.declared.events.Event.TheVariants as event
 use Rattle.cluster_rules.specs.Derived.{below}
 use Rattle.cluster_rules.specs.Functions.{from_one}
 use Rattle.cluster_rules.specs.World.{World, Parcel, shape_of, all_workers, is_connected}
-use Rattle.cluster_rules.specs.Enabled.{is_quiet_asker}
+use Rattle.cluster_rules.specs.Enabled.{enabled, is_quiet_asker}
 use Rattle.cluster_world.specs.declared.search.Search.{Search}
 use Rattle.cluster_world.specs.declared.search.Search.TheVariants.{Passing, Found}
 use Rattle.cluster_world.specs.declared.progress.Kind.{Kind}
@@ -59,6 +59,18 @@ node_events w kind i = cond (is_of_connected kind && not (is_connected w i)) [] 
 -- a connected worker's tasks finish
 abbrev pub finish_events : World → ℕ → List Event
 finish_events w i = cond (is_connected w i) (map (λ k. event.Finish i k) (below (key_count (shape_of w)))) []
+
+-- the task of a key can finish at a worker, and none from the first key up to it
+pub record IsLeastFinish (w : World) (i first key : ℕ) : Type 0 where
+  pub past : first ≤ key
+  pub there : key < key_count (shape_of w)
+  pub finishes : enabled w (event.Finish i key) ≡ true
+  pub before : (k : ℕ) → first ≤ k → k < key → enabled w (event.Finish i k) ≡ false
+
+-- the least key from this one on whose task can finish at a worker
+abbrev pub IsNextFinish : World → ℕ → ℕ → Option ℕ → Type 0
+IsNextFinish w i first None = (k : ℕ) → first ≤ k → enabled w (event.Finish i k) ≡ false
+IsNextFinish w i first (Some key) = IsLeastFinish w i first key
 
 -- an asker asks a peer, or an ask to a dead one fails
 abbrev pub ask_events : World → Bool → Asker → ℕ → List Event

@@ -3,7 +3,7 @@ ghost use Rattle.std.specs.Prelude.{◌≡◌, ◌<◌, length, map, Some, slice
 ghost use Rattle.cluster_msgs.specs.Shape.{key_count};
 ghost use Rattle.cluster_rules.specs.Enabled.{enabled};
 ghost use Rattle.cluster_rules.specs.World.{World, shape_of, is_connected};
-ghost use Rattle.cluster_world.specs.Searching.{name_of};
+ghost use Rattle.cluster_world.specs.Searching.{IsNextFinish, name_of};
 
 use crate::state::State;
 use cluster_msgs::{Asker, Event};
@@ -45,6 +45,11 @@ pub trait Choices {
     fn keys(&self) -> u32
         requires { is_whole self.now }
         ensures { result ≡ key_count (shape_of (world self.now)) };
+
+    /// The least key from this one on whose task can finish at a worker.
+    fn next_finish(&self, worker: u32, first: u32) -> Option<u32>
+        requires { is_whole self.now }
+        ensures { IsNextFinish (world self.now) worker first result };
 
     /// How many requests are under way.
     fn requests(&self) -> usize
@@ -99,6 +104,10 @@ impl<J: Drop, B: Drop, F: Drop> Choices for State<J, B, F> {
 
     fn keys(&self) -> u32 {
         self.nodes.shape.keys()
+    }
+
+    fn next_finish(&self, worker: u32, first: u32) -> Option<u32> {
+        State::next_finish(self, worker, first)
     }
 
     fn requests(&self) -> usize {

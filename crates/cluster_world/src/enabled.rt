@@ -11,6 +11,7 @@ ghost use Rattle.cluster_nodes.specs.Kept.{IsNodes};
 ghost use Rattle.cluster_world.specs.Worlds.{world, setting};
 ghost use Rattle.cluster_world.specs.Kept.{IsJoint};
 ghost use Rattle.cluster_world.specs.Found.{IsWorkerAt, IsClientAt};
+ghost use Rattle.cluster_world.specs.Searching.{IsNextFinish};
 
 use crate::state::State;
 use cluster_msgs::{Asker, Event, KeyList, SchedEvent};
@@ -237,6 +238,17 @@ impl<J: Drop, B: Drop, F: Drop> State<J, B, F> {
         match self.worker(worker) {
             Some(core) => core.runs(key),
             None => false,
+        }
+    }
+
+    /// The least key from this one on whose task can finish at a worker.
+    pub fn next_finish(&self, worker: u32, first: u32) -> Option<u32>
+        requires { IsJoint self.now }
+        ensures { IsNextFinish (world self.now) worker first result }
+    {
+        match self.worker(worker) {
+            Some(core) => core.next_run(first),
+            None => None,
         }
     }
 

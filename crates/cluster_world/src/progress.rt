@@ -1,10 +1,13 @@
 //! The events that make progress, in their order: which one has a number, and how many are enabled.
 ghost use Rattle.std.specs.Prelude.{◌≡◌, ◌-◌, ◌^◌, length, map, min, slice_get};
 ghost use Rattle.std.specs.List.{flat_map};
+ghost use Rattle.cluster_msgs.specs.Shape.{key_count};
 ghost use Rattle.cluster_msgs.specs.declared.events.Asker.TheVariants.{Client};
+ghost use Rattle.cluster_msgs.specs.declared.events.Event.TheVariants.{Finish};
+ghost use Rattle.cluster_rules.specs.Derived.{below};
 ghost use Rattle.cluster_rules.specs.Functions.{from_one};
 ghost use Rattle.cluster_rules.specs.Enabled.{enabled, progress, progress_kinds, quiet_askers, is_quiet_asker};
-ghost use Rattle.cluster_rules.specs.World.{all_workers, all_clients};
+ghost use Rattle.cluster_rules.specs.World.{all_workers, all_clients, shape_of};
 ghost use Rattle.cluster_world.specs.declared.search.Search.TheVariants as search;
 ghost use Rattle.cluster_world.specs.Searching.{next, searched, event_of, is_of_connected, node_events, finish_events, ask_events, asks_of, worker_asks, name_of, serve_events, answer_events};
 
@@ -142,9 +145,20 @@ fn search_finishes_of<C: Choices>(world: &C, worker: u32, search: Search) -> Sea
     if !world.connected(worker) {
         return search;
     }
+    search_runs(world, worker, search)
+}
+
+/// The tasks that can finish at a worker, by key. It passes over the keys that don't run.
+fn search_runs<C: Choices>(world: &C, worker: u32, search: Search) -> Search
+    requires { C.is_whole world.now }
+    ensures { result ≡ searched (enabled (C.world world.now)) search (map (λ k. Finish worker k) (below (key_count (shape_of (C.world world.now))))) }
+{
+    let keys = world.keys();
     let mut search = search;
-    for key in 0..world.keys() {
-        search = search_one(world, Event::Finish { worker, key }, search);
+    let mut first = 0;
+    while let Some(key) = world.next_finish(worker, first) {
+        search = search.next(true, Event::Finish { worker, key });
+        first = key + 1;
     }
     search
 }
@@ -199,6 +213,9 @@ fn search_asks_of<C: Choices>(world: &C, asker: Asker, failing: bool, search: Se
     requires { C.is_whole world.now }
     ensures { result ≡ searched (enabled (C.world world.now)) search (asks_of (C.world world.now) failing asker) }
 {
+    if search.is_found() {
+        return search;
+    }
     let mut search = search;
     for before in 0..world.last_worker() {
         search = search_ask(world, asker, before + 1, failing, search);

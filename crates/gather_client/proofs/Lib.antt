@@ -1,3 +1,4 @@
 pub mod FoldLemmas
 pub mod TableLemmas
 pub mod KeptLemmas
+pub mod PeerLemmas

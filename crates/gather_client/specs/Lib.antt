@@ -4,3 +4,4 @@ pub mod CoreState
 pub mod Table
 pub mod Kept
 pub mod Inner
+pub mod Peers

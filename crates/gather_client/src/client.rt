@@ -1,23 +1,27 @@
 //! The client's core: events in, instructions out.
-ghost use Rattle.std.specs.Prelude.{◌≡◌, ◌↔◌, ◌-◌, ◌^◌, ◌≤◌, ℕ, Err, IfOk, OnOk, OnErr, true, false, min};
+ghost use Rattle.std.specs.Prelude.{◌≡◌, ◌↔◌, ◌++◌, ◌-◌, ◌^◌, ◌<◌, ◌≤◌, ℕ, Err, IfOk, OnOk, OnErr, true, false, min};
 ghost use Rattle.std.specs.Option.{option_map};
 ghost use Rattle.cluster_msgs.specs.Shape.{key_count};
 ghost use Rattle.cluster_rules.specs.Worker.{ask_to};
-ghost use Rattle.cluster_rules.specs.Client.{new_client, done, client_would_ask, client_pairs};
+ghost use Rattle.cluster_rules.specs.Client.{new_client, done, client_step, client_takes, client_would_ask, client_pairs};
 ghost use Rattle.gather_client.specs.CoreState.{client_facts, IsTaken, IsRefused, IsSpent};
 ghost use Rattle.gather_client.specs.Kept.{KeysKept};
 ghost use Rattle.gather_client.specs.Inner.{IsGrown};
+ghost use Rattle.gather_client.specs.Peers.{HoldFetchable};
+ghost use Rattle.gather_client.specs.Stored.{facts_of};
 
 use crate::events::perform;
+use crate::peers::{mark_peers, marked_peers, would_ask};
 use crate::table::ClientTable;
 use cluster_msgs::{ClientEvent, ClientOut, End, GraphShape, Stop};
+use fact_rows::Row;
 use std::alloc::{AllocError, Global};
 use std::marker::Model;
 
 /// A core takes at most this many events, 2^40.
 const EVENT_LIMIT: u64 = 1_099_511_627_776;
 
-/// A client: its facts, how many events it took, and whether memory ran out.
+/// A client: its facts, how many events it took, whether memory ran out, and which peers hold a key to fetch.
 ///
 /// Contracts see the stored facts, of which `client_facts` makes functions of the key, and the count and the mark.
 #[derive(Drop)]
@@ -25,6 +29,7 @@ pub struct ClientCore {
     table: ClientTable,
     events: u64,
     stopped: bool,
+    peers: Row<bool>,
 }
 
 impl Model for ClientCore {
@@ -34,9 +39,9 @@ impl Model for ClientCore {
 
     ghost view = { λ s. record { stored = s.table; events = s.events; stopped = s.stopped } };
 
-    ghost use Rattle.gather_client.specs.Kept.{IsCore};
+    ghost use Rattle.gather_client.specs.Peers.{IsMarked};
 
-    ghost invariant = { λ s. IsCore s.table s.events s.stopped };
+    ghost invariant = { λ s. IsMarked s.table s.events s.stopped s.peers };
 }
 
 impl ClientCore {
@@ -49,10 +54,13 @@ impl ClientCore {
         ensures events { IfOk result (λ core. core.events ≡ 0) }
         ensures going { IfOk result (λ core. core.stopped ≡ false) }
     {
+        let table = ClientTable::new(alloc, shape)?;
+        let peers = marked_peers(alloc, &table)?;
         Ok(ClientCore {
-            table: ClientTable::new(alloc, shape)?,
+            table,
             events: 0,
             stopped: false,
+            peers,
         })
     }
 
@@ -89,7 +97,7 @@ impl ClientCore {
         if !self.table.takes(&e) {
             return Err(Stop::Refused);
         }
-        match perform(&mut self.table, e, out) {
+        match carry_out(&mut self.table, &mut self.peers, e, out) {
             Ok(()) => {
                 self.events += 1;
                 Ok(())
@@ -134,7 +142,7 @@ impl ClientCore {
     pub fn would_ask(&self, peer: u32) -> bool
         ensures { result ≡ client_would_ask (client_facts self.now) peer }
     {
-        self.table.would_ask(peer)
+        would_ask(&self.peers, &self.table, peer)
     }
 
     /// The number of the open ask to a peer, if one is open.
@@ -150,4 +158,26 @@ impl ClientCore {
     {
         self.table.pairs()
     }
+}
+
+/// Carries an event out that is possible, and marks the peers that hold a key to fetch.
+///
+/// # Errors
+/// Where no memory is left. The facts may then be amid the event.
+fn carry_out(
+    table: &mut ClientTable,
+    peers: &mut Row<bool>,
+    event: ClientEvent,
+    out: &mut ClientOut,
+) -> Result<(), AllocError>
+    requires possible { client_takes (facts_of table.old) event ≡ true }
+    requires room { (facts_of table.old).next_ask < 2 ^ 63 }
+    ensures facts { OnOk result (facts_of table.new ≡ (client_step (facts_of table.old) event).facts) }
+    ensures instructions { OnOk result (out.new ≡ out.old ++ (client_step (facts_of table.old) event).out) }
+    ensures err { OnErr result (IsGrown out.old out.new) }
+    ensures peers { HoldFetchable (facts_of table.new) peers.new }
+{
+    let end = perform(table, event, out);
+    mark_peers(peers, table);
+    end
 }

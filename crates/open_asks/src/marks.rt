@@ -17,8 +17,8 @@ fn mark_key(row: &mut Row<bool>, key: u32)
     }
 }
 
-/// Marks the keys of these items.
-fn mark_items(row: &mut Row<bool>, items: &[(u32, u64)])
+/// Marks the first of each of these pairs, where the row has it: the keys of items, say, or the peers of holders.
+pub fn mark_items(row: &mut Row<bool>, items: &[(u32, u64)])
     ensures marked { (k : ℕ) → k < length row.old → read row.new false k ≡ (read row.old false k || list_any (λ i. i.0 == k) items.now) }
     ensures length { length row.new ≡ length row.old }
 {

@@ -1,5 +1,6 @@
-use crate::{Asks, OpenAsk, fitting_count, item_at, keys_of, push_item};
+use crate::{Asks, OpenAsk, fitting_count, item_at, keys_of, mark_items, push_item};
 use cluster_msgs::{GraphShape, KeyList};
+use fact_rows::Row;
 use std::alloc::{AllocError, Global};
 use std::test::Fail;
 
@@ -73,5 +74,14 @@ fn an_ask_is_for_at_most_16_keys(rt: HostRuntime) -> Result<(), Fail> {
     let shape = three_blocks(rt.alloc())?;
     assert_eq!(rt; fitting_count(&shape, &[(2, 1); 16]), 16);
     assert_eq!(rt; fitting_count(&shape, &[(2, 1); 17]), 16);
+    Ok(())
+}
+
+#[test]
+fn the_first_of_each_pair_is_marked(rt: HostRuntime) -> Result<(), Fail> {
+    let mut row = Row::filled(rt.alloc(), 4, false)?;
+    mark_items(&mut row, &[(1, 9), (3, 2), (7, 5)]);
+    assert!(rt; row.test(1) & row.test(3));
+    assert!(rt; !row.test(0) & !row.test(2) & !row.test(7));
     Ok(())
 }

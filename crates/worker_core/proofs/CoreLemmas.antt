@@ -1,17 +1,13 @@
 -- Lemmas on the rows of a worker's table, one key after another.
-use Rattle.std.proofs.Common.{◌≡◌, ℕ, zero, suc, ◌+◌, ◌<◌, ◌≤◌, Bool, true, false, not, ◌&&◌, ◌||◌, List, [], ◌∷◌, ◌++◌, Option, Some, None, refl, sym, ap, ◌∙◌, subst, arith, cond, is_some, take, filter, find, map, length, get_or, fold, All, ⊎_elim}
+use Rattle.std.proofs.Common.{◌≡◌, ℕ, ◌+◌, ◌<◌, Bool, true, false, not, ◌&&◌, ◌||◌, List, [], ◌∷◌, ◌++◌, Option, Some, None, refl, sym, ap, ◌∙◌, subst, arith, cond, take, find, length, get_or, All}
 use Rattle.std.specs.Prelude.{◌==◌, nat_lt}
-use Rattle.std.specs.List.{list_any, list_all, AllByRecursion, Contains, range_with_len}
-use Rattle.std.proofs.lemmas.Bool.{true≢false, false≢true, eqb-true, eq-eqb, cases_lt, lt-ltb, and_parts}
+use Rattle.std.specs.List.{list_any, list_all, AllByRecursion}
+use Rattle.std.proofs.lemmas.Bool.{eq-eqb, and_parts}
 use Rattle.std.proofs.lemmas.Bool.Decides.{nat_tests}
-use Rattle.std.proofs.lemmas.List.{take_more, map-append}
-use Rattle.std.proofs.lemmas.List.Folds.{list_any_more}
-use Rattle.std.proofs.lemmas.List.Elements.{All-from_recursion, recursion_from_All, Contains-get_or, All-filter, filter_more}
-use Rattle.std.proofs.lemmas.List.Sums.{fold-append}
-use Rattle.cluster_msgs.specs.Shape.{Shape, key_count, deps_of}
+use Rattle.std.proofs.lemmas.List.{take_more}
+use Rattle.std.proofs.lemmas.List.Elements.{All-from_recursion, recursion_from_All, Contains-get_or, All-filter}
+use Rattle.cluster_msgs.specs.Shape.{key_count}
 use Rattle.cluster_msgs.specs.declared.cores.Instruction.{Instruction}
-use Rattle.cluster_rules.specs.Functions.{put}
-use Rattle.cluster_rules.specs.Derived.{below, is_in}
 use Rattle.cluster_rules.specs.Worker.{Ask, WorkerFacts, names_key, is_asked_for, ask_to, worker_keys, wstate, is_ready_state, is_missing_state, would_start, running_count}
 use Rattle.cluster_rules.specs.WorkerStep.{WorkerStep, after_out, each_key, unasked_keys, keys_of}
 use Rattle.cluster_rules.proofs.Members.{any_some}

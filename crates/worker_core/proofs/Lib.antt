@@ -1,3 +1,4 @@
 pub mod CoreLemmas
 pub mod CountLemmas
+pub mod MoveLemmas
 pub mod RunLemmas

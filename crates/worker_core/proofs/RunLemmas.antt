@@ -1,15 +1,15 @@
 -- No more tasks run than there are threads.
-use Rattle.std.proofs.Common.{◌≡◌, ℕ, ◌+◌, ◌<◌, ◌≤◌, Bool, true, false, not, List, [], ◌∷◌, Option, Some, None, refl, sym, ap, ◌∙◌, arith, cond, find}
+use Rattle.std.proofs.Common.{◌≡◌, ℕ, ◌+◌, ◌<◌, Bool, true, false, List, [], ◌∷◌, Option, Some, None, refl, ap, ◌∙◌, arith, cond, find}
 use Rattle.std.specs.Prelude.{◌==◌, nat_lt}
-use Rattle.std.proofs.lemmas.Bool.{true≢false, and_parts}
+use Rattle.std.proofs.lemmas.Bool.{and_parts}
 use Rattle.std.proofs.lemmas.Bool.Decides.{nat_tests}
 use Rattle.cluster_msgs.specs.Shape.{Shape, key_count}
 use Rattle.cluster_msgs.specs.declared.cores.WorkerEvent.{WorkerEvent}
 use Rattle.cluster_msgs.specs.declared.cores.WorkerEvent.TheVariants.{Down as Told, Start, Done, Ask as AskPeer, Gathered, GatherFailed, DataLost}
-use Rattle.cluster_rules.specs.Functions.{put, count, total}
+use Rattle.cluster_rules.specs.Functions.{put, count}
 use Rattle.cluster_rules.specs.Derived.{below}
 use Rattle.cluster_rules.specs.Worker.{WorkerFacts, new_worker, worker_keys, wstate, is_ready_state, running_count, would_start, ask_to}
-use Rattle.cluster_rules.specs.WorkerStep.{taken, start, stopped, done, gathered, ask_peer, worker_row, worker_step, worker_takes, is_key}
+use Rattle.cluster_rules.specs.WorkerStep.{taken, start, stopped, gathered, ask_peer, worker_row, worker_step, worker_takes, is_key}
 use Rattle.cluster_rules.proofs.TotalLemmas.{total-agree}
 use Rattle.worker_facts.proofs.FactLemmas.{total-put}
 use Rattle.worker_core.specs.Core.{RunsFew}

@@ -1,2 +1,4 @@
 pub mod Core
 pub mod Inner
+pub mod Moves
+pub mod Runs

@@ -17,6 +17,9 @@ trait Core {
 
     fn asks(&self, peer: u32) -> bool;
 
+    /// The least key from this one on that runs.
+    fn runs_from(&self, first: u32) -> Option<u32>;
+
     fn pair_count(&self) -> u64;
 }
 
@@ -37,6 +40,10 @@ impl Core for WorkerCore {
         self.would_ask(peer)
     }
 
+    fn runs_from(&self, first: u32) -> Option<u32> {
+        self.next_run(first)
+    }
+
     fn pair_count(&self) -> u64 {
         self.pairs()
     }
@@ -50,6 +57,7 @@ enum Story {
     Missing,
     NotGivenUp,
     New,
+    NextMoves,
 }
 
 /// Adds a key without dependencies.
@@ -331,6 +339,45 @@ fn play_new(rt: &impl Abort, core: &mut impl Core, out: &mut Instructions) {
     assert_eq!(rt; core.take(WorkerEvent::Start, out), Err(Stop::Refused));
 }
 
+fn could(rt: &impl Abort, core: &impl Core, start: Option<u32>, runs: Option<u32>) {
+    assert_eq!(rt; core.starts(), start);
+    assert_eq!(rt; core.runs_from(0), runs);
+    assert_eq!(rt; core.runs_from(1), None);
+}
+
+/// Key 0 is given, started and done.
+fn run_first(rt: &impl Abort, alloc: Global, core: &mut impl Core, out: &mut Instructions) {
+    give_first(rt, alloc, core, 1, WState::Ready, out);
+    could(rt, core, Some(0), None);
+    leads_to(rt, core, WorkerEvent::Start, WState::Executing, out);
+    could(rt, core, None, Some(0));
+    end_first(rt, core, false, WState::Memory, out);
+    could(rt, core, None, None);
+}
+
+fn could_ask(rt: &impl Abort, core: &impl Core, two: bool, far: bool) {
+    assert_eq!(rt; (core.asks(2), core.asks(200)), (two, far));
+    assert_eq!(rt; (core.asks(3), core.asks(201)), (false, false));
+}
+
+/// Key 0 is held by workers 2 and 200, and asked of worker 2.
+fn seek_first(rt: &impl Abort, alloc: Global, core: &mut impl Core, out: &mut Instructions) {
+    could_ask(rt, core, false, false);
+    let who_has = told_of(rt, alloc, &[(2, 40), (200, 40)]);
+    let sought = Down::AcquireReplicas { who_has };
+    hear(rt, core, sought, WState::Fetch, out);
+    could_ask(rt, core, true, true);
+    ask_two(rt, core, WState::Flight, out);
+    could_ask(rt, core, false, false);
+    let failed = WorkerEvent::GatherFailed { peer: 2, ask: 1 };
+    take(rt, core, failed, out);
+}
+
+fn play_next_moves(rt: &impl Abort, alloc: Global, core: &mut impl Core, out: &mut Instructions) {
+    seek_first(rt, alloc, core, out);
+    run_first(rt, alloc, core, out);
+}
+
 fn play(
     rt: &impl Abort,
     alloc: Global,
@@ -344,6 +391,7 @@ fn play(
         Story::Missing => play_missing(rt, alloc, core, out),
         Story::NotGivenUp => play_not_given_up(rt, alloc, core, out),
         Story::New => play_new(rt, core, out),
+        Story::NextMoves => play_next_moves(rt, alloc, core, out),
     }
 }
 
@@ -378,4 +426,9 @@ fn a_task_that_runs_is_not_given_up(rt: HostRuntime) {
 #[test]
 fn a_new_worker_has_nothing_to_do_and_is_not_always_out_of_memory(rt: HostRuntime) {
     run(&rt, rt.alloc(), Story::New);
+}
+
+#[test]
+fn what_could_be_done_next_follows_each_event(rt: HostRuntime) {
+    run(&rt, rt.alloc(), Story::NextMoves);
 }

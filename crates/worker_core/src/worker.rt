@@ -9,8 +9,11 @@ ghost use Rattle.cluster_rules.specs.Worker.{new_worker, wstate, would_start, wo
 ghost use Rattle.cluster_rules.specs.WorkerStep.{worker_step, worker_takes};
 ghost use Rattle.cluster_rules.specs.WorkerKept.{IsKept};
 ghost use Rattle.worker_core.specs.Core.{RunsFew, facts, event_limit};
+ghost use Rattle.worker_core.specs.Moves.{AreMoves};
+ghost use Rattle.worker_core.specs.Runs.{IsNextRun};
 ghost use Rattle.worker_facts.specs.Stored.{facts_of};
 
+use crate::moves::Moves;
 use crate::push::append;
 use crate::step::step;
 use crate::takes::takes;
@@ -29,6 +32,7 @@ pub struct WorkerCore {
     table: WorkerTable,
     stopped: bool,
     events: u64,
+    moves: Moves,
 }
 
 impl Model for WorkerCore {
@@ -59,11 +63,13 @@ impl WorkerCore {
         ensures events { IfOk result (λ core. core.events ≡ 0) }
     {
         let table = WorkerTable::new(alloc, id, threads, shape)?;
+        let moves = Moves::new(alloc, &table)?;
         Ok(WorkerCore {
             alloc,
             table,
             stopped: false,
             events: 0,
+            moves,
         })
     }
 
@@ -105,7 +111,7 @@ impl WorkerCore {
         if !takes(&self.table, &event) {
             return Err(Stop::Refused);
         }
-        match carry_out(self.alloc, &mut self.table, &event, out) {
+        match carry_out(self.alloc, &mut self.table, &mut self.moves, &event, out) {
             Ok(()) => {
                 self.events += 1;
                 Ok(())
@@ -145,14 +151,14 @@ impl WorkerCore {
     pub fn would_start(&self) -> Option<u32>
         ensures { result ≡ would_start (facts self.now) }
     {
-        self.table.would_start()
+        self.moves.start
     }
 
     /// Whether an ask to this peer is possible: none is open, and it holds a key to fetch.
     pub fn would_ask(&self, peer: u32) -> bool
         ensures { result ≡ would_ask (facts self.now) peer }
     {
-        self.table.would_ask(peer)
+        self.moves.would_ask(&self.table, peer)
     }
 
     /// Whether the worker holds the key's block.
@@ -167,6 +173,13 @@ impl WorkerCore {
         ensures { result ≡ (facts self.now).running key }
     {
         self.table.is_running(key)
+    }
+
+    /// The least key from this one on that the worker runs.
+    pub fn next_run(&self, from: u32) -> Option<u32>
+        ensures { IsNextRun (facts self.now) from result }
+    {
+        self.moves.next_run(&self.table, from)
     }
 
     /// The number of the open ask to a peer, if one is open.
@@ -184,8 +197,30 @@ impl WorkerCore {
     }
 }
 
-/// Carries an event out, and appends its instructions. After want of memory what `out` had still stands at its front.
+/// Carries an event out, appends its instructions, and works out what could be done next. After want of memory what `out`
+/// had still stands at its front.
 fn carry_out(
+    alloc: Global,
+    table: &mut WorkerTable,
+    moves: &mut Moves,
+    event: &WorkerEvent,
+    out: &mut Instructions,
+) -> Result<(), AllocError>
+    requires takes { worker_takes (facts_of table.old) event.now ≡ true }
+    requires seen { (facts_of table.old).seen < 2 ^ 63 }
+    requires asks { (facts_of table.old).next_ask < 2 ^ 63 }
+    ensures facts { OnOk result (facts_of table.new ≡ (worker_step (facts_of table.old) event.now).facts) }
+    ensures out { OnOk result (out.new ≡ out.old ++ (worker_step (facts_of table.old) event.now).out) }
+    ensures err { OnErr result ((front : List Instruction) × (out.new ≡ out.old ++ front)) }
+    ensures moves { AreMoves (facts_of table.new) moves.new }
+{
+    let end = perform(alloc, table, event, out);
+    moves.work_out(table);
+    end
+}
+
+/// Carries an event out, and appends its instructions. After want of memory what `out` had still stands at its front.
+fn perform(
     alloc: Global,
     table: &mut WorkerTable,
     event: &WorkerEvent,

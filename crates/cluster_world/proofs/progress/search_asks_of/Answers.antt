@@ -9,6 +9,11 @@ use Rattle.cluster_world.specs.Searching.{next, searched, node_events, finish_ev
 use Rattle.cluster_world.proofs.Searches.{searched_more, searched_key, searched_place, searched_places, found_stays, askers_are, kinds_are}
 use Rattle.cluster_world.proofs.progress.search_asks_of.Goals as goal
 
+pub returns-then-is_found : goal.returns-then-is_found
+returns-then-is_found g c =
+    let w = g.C.Choices.world c.args.world.now in
+    found_stays (enabled w) c.args.search (asks_of w c.args.failing c.args.asker) (sym c.is_found.ensures ∙ c.if-is_found.true)
+
 pub loop-before-preserved : goal.loop-before-preserved
 loop-before-preserved g c =
     let w = g.C.Choices.world c.args.world.now in

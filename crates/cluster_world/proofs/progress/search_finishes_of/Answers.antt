@@ -13,10 +13,3 @@ pub returns-then-is_found : goal.returns-then-is_found
 returns-then-is_found g c =
     let w = g.C.Choices.world c.args.world.now in
     found_stays (enabled w) c.args.search (finish_events w c.args.worker) (sym c.is_found.ensures ∙ c.if-is_found.true)
-
-pub loop-key-preserved : goal.loop-key-preserved
-loop-key-preserved g c =
-    let w = g.C.Choices.world c.args.world.now in
-    let e = event.Finish c.args.worker c.loop-key.key in
-    c.search_one-search.ensures ∙ ap (λ s. next s (enabled w e) e) c.loop-key.invariant
-    ∙ sym (searched_key (enabled w) c.args.search (λ k. event.Finish c.args.worker k) c.loop-key.key)

@@ -1,9 +1,7 @@
-use Rattle.std.proofs.Common.{◌≡◌, ◌<◌, ◌∙◌, ℕ, All, ap, sym, subst, true, false, not, refl}
+use Rattle.std.proofs.Common.{◌≡◌, ◌<◌, ◌∙◌, ℕ, All, ap, true, false, not}
 use Rattle.std.proofs.lemmas.List.Elements.{All-filter}
 use Rattle.cluster_msgs.specs.Shape.{key_count}
 use Rattle.cluster_rules.specs.Derived.{is_in}
-use Rattle.cluster_rules.specs.Worker.{without_ask}
-use Rattle.cluster_rules.specs.WorkerStep.{keys_of}
 use Rattle.worker_core.proofs.CoreLemmas.{all_keys_of}
 use Rattle.worker_core.proofs.CountLemmas.{same, same_arrived}
 use Rattle.worker_facts.specs.Stored.{facts_of}

@@ -1,8 +1,7 @@
-use Rattle.std.proofs.Common.{◌≡◌, ◌∙◌, ap, get_or}
+use Rattle.std.proofs.Common.{◌∙◌, ap}
 use Rattle.cluster_msgs.specs.Shape.{key_count}
 use Rattle.cluster_rules.specs.WorkerStep.{quiet, free_key}
 use Rattle.worker_core.proofs.CoreLemmas.{pushed_step}
-use Rattle.worker_core.proofs.CountLemmas.{same_remove}
 use Rattle.worker_facts.specs.Stored.{facts_of}
 use Rattle.worker_core.proofs.told.free_keys.Goals as goal
 

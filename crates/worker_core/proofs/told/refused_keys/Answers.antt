@@ -1,5 +1,5 @@
-use Rattle.std.proofs.Common.{◌≡◌, ◌<◌, ◌∙◌, ◌&&◌, ℕ, ap, sym, arith, filter}
-use Rattle.cluster_rules.specs.Derived.{below, is_in}
+use Rattle.std.proofs.Common.{◌≡◌, ◌<◌, ◌∙◌, ◌&&◌, ℕ, sym, arith}
+use Rattle.cluster_rules.specs.Derived.{is_in}
 use Rattle.cluster_rules.specs.Worker.{awaited}
 use Rattle.cluster_rules.proofs.SchedLemmas.{filter-below}
 use Rattle.worker_facts.specs.Stored.{facts_of}

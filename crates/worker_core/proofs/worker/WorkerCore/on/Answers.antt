@@ -22,4 +22,5 @@ invariant_of-self c =
       runs = λ e. subst RunsFew (sym after) (few_run f c.args.event takes (v.runs runs));
       seen = λ e. omega (arith, ap (λ g. g.seen) after, more.seen, v.seen runs);
       asks = λ e. omega (arith, ap (λ g. g.next_ask) after, more.asks, v.asks runs);
+      moves = c.carry_out.ensures.moves;
     }
