@@ -1,0 +1,3 @@
+pub mod Addition
+pub mod Chunks
+pub mod Stored
