@@ -1,8 +1,7 @@
 //! The job.
-ghost use Rattle.std.specs.Prelude.{◌≡◌, ◌+◌, ◌-◌, ◌*◌, ◌%◌, ◌<◌, ℕ, min, ◌≤◌, ◌^◌, ◌++◌, ◌∷◌, [], length, slice_index, IfOk, OnOk, OnErr};
-ghost use Rattle.std.specs.List.{AllByRecursion};
-ghost use Rattle.std.specs.List.Sorted.{IsStrictlyIncreasing};
-ghost use Rattle.cluster_msgs.specs.Shape.{IsShape, key_count, edge_count, pushed};
+ghost use Rattle.std.specs.Prelude.{◌≡◌, ◌+◌, ◌-◌, ◌*◌, ◌%◌, ◌<◌, ℕ, min, ◌≤◌, ◌^◌, ◌++◌, ◌∷◌, [], map, length, slice_index, IfOk, OnOk};
+ghost use Rattle.std.specs.List.{range_with_len};
+ghost use Rattle.cluster_msgs.specs.Shape.{key_count, edge_count, pushed};
 ghost use Rattle.cluster_msgs.specs.Jobs.{blocks_of};
 ghost use Rattle.addition_job.specs.Chunks.{chunks_in, added};
 ghost use Rattle.addition_job.specs.Addition.{IsAdditionJob, IsGraphOf, chunk_total, chunk, block_of, additions};
@@ -67,6 +66,7 @@ impl AdditionJob {
         let chunks = count_chunks(len, size);
         let lengths = lengths_of(alloc, len, size, chunks)?;
         let shape = graph_of(alloc, lengths.as_slice())?;
+        shape.sound();
         Ok(AdditionJob {
             shape,
             cells,
@@ -149,8 +149,7 @@ fn count_chunks(len: u64, size: u64) -> u32
 
 // The length of each chunk: the size, or what is left.
 fn lengths_of(alloc: Global, len: u64, size: u64, chunks: u32) -> Result<Vec<u64>, AllocError>
-    ensures number { IfOk result (λ v. length v.items ≡ chunks) }
-    ensures each { IfOk result (λ v. (i : ℕ) → i < chunks → slice_index v.items i ≡ min size (len - i * size)) }
+    ensures { IfOk result (λ v. v.items ≡ map (λ i. min size (len - i * size)) (range_with_len 0 chunks)) }
 {
     let mut lengths = Vec::with_capacity(alloc, chunks as usize)?;
     let mut rest = len;
@@ -165,20 +164,20 @@ fn lengths_of(alloc: Global, len: u64, size: u64, chunks: u32) -> Result<Vec<u64
 // The graph over chunks of these lengths.
 fn graph_of(alloc: Global, lengths: &[u64]) -> Result<GraphShape, AllocError>
     requires few { length lengths.now ≤ 16383 }
-    requires small { (i : ℕ) → slice_index lengths.now i ≤ 2 ^ 20 }
+    requires small { (i : ℕ) → i < length lengths.now → slice_index lengths.now i ≤ 2 ^ 20 }
     ensures { IfOk result (IsGraphOf (λ i. 8 * slice_index lengths.now i) (length lengths.now)) }
 {
     let mut shape = GraphShape::new(alloc);
     for length in lengths {
-        push_chunk(alloc, &mut shape, *length * 8)?;
+        push_chunk(alloc, &mut shape, 8 * *length)?;
     }
     Ok(shape)
 }
 
 // Adds the two keys of a chunk of so many bytes.
 fn push_chunk(alloc: Global, shape: &mut GraphShape, bytes: u64) -> Result<(), AllocError>
-    requires even { key_count shape.old ≡ 2 * edge_count shape.old }
-    requires room { key_count shape.old < 32766 }
+    requires room { key_count shape.old ≤ 32764 }
+    requires edges { edge_count shape.old ≤ 16382 }
     requires small { bytes ≤ 2 ^ 23 }
     ensures { OnOk result (shape.new ≡ pushed (pushed shape.old [] bytes bytes) (key_count shape.old ∷ []) (bytes + bytes) bytes) }
 {
@@ -193,11 +192,10 @@ fn push_chunk(alloc: Global, shape: &mut GraphShape, bytes: u64) -> Result<(), A
 fn sums(alloc: Global, cells: &[i64], addend: i64) -> Result<Vec<i64>, AllocError>
     ensures { IfOk result (λ v. v.items ≡ added addend cells.now) }
 {
-    let mut sums = Vec::with_capacity(alloc, cells.len())?;
-    for cell in cells {
-        sums.push(cell.wrapping_add(addend))?;
-    }
-    Ok(sums)
+    cells
+        .iter()
+        .map(|cell| cell.wrapping_add(addend))
+        .collect(alloc)
 }
 
 impl JobSpec for AdditionJob {
@@ -241,6 +239,7 @@ impl JobSpec for AdditionJob {
         key: u32,
         inputs: &[Arc<Chunk>],
     ) -> Result<Outcome<Chunk>, RunFail> {
+        self.sound();
         let cells = self.block(key, inputs)?;
         Ok(Outcome::Value(Chunk::from_vec(cells)))
     }
