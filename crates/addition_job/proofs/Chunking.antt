@@ -1,7 +1,10 @@
 -- How many chunks there are, what they hold, and that they are the whole list one after another.
 use Rattle.std.proofs.Common.{◌≡◌, ℕ, zero, suc, ◌+◌, ◌-◌, ◌*◌, ◌/◌, ◌%◌, ◌<◌, ◌≤◌, min, Bool, true, false, cond, nat_eq, List, [], ◌∷◌, ◌++◌, length, take, drop, map, replicate, ℤ, ◌+ℤ◌, refl, sym, ap, ◌∙◌, arith, zero-mul, suc-mul, length-append, length-take, length-drop, take-add, take_all, mul-le-mul_right, div-mul-le_self}
 use Rattle.std.proofs.Math.Nat.{lt-div-mul-add, div-add-mod}
-use Rattle.std.proofs.lemmas.List.{length-replicate, map-append}
+use Rattle.std.proofs.lemmas.List.{length-replicate, map-append, take_min}
+use Rattle.std.proofs.lemmas.List.FromFn.{length-map-range_with_len, get_or-map-range_with_len, map-range_with_len_more}
+use Rattle.std.specs.List.{range_with_len}
+use Rattle.std.specs.Prelude.{slice_index}
 use Rattle.std.proofs.lemmas.Bool.Decides.{Decides-eqb}
 use Rattle.nd_shape.specs.Chunk.{even_chunks}
 use Rattle.nd_grid.specs.Int64.{wrap}
@@ -83,3 +86,40 @@ pub chunks-whole : (cells : List ℤ) (size : ℕ) (addend : ℤ) → 1 ≤ size
 chunks-whole cells size addend h =
     joined-added addend (chunk_at cells size) (chunks_in (length cells) size)
     ∙ ap (added addend) (joined-chunks cells size (chunks_in (length cells) size) ∙ take_all (chunks_in (length cells) size * size) cells (chunks-reach (length cells) size h))
+
+-- ---- the part of the list that a chunk is
+
+pub part-ends : (cells : List ℤ) (size i n : ℕ) → i < chunks_in (length cells) size → n ≡ length (chunk_at cells size i) → i * size + n ≤ length cells
+part-ends cells size i n lt e =
+    let begins = chunk-begins (length cells) size i lt in
+    let long = e ∙ length-chunk_at cells size i in
+    omega arith
+
+pub part-is : (cells : List ℤ) (size i n : ℕ) → n ≡ length (chunk_at cells size i) → take (i * size + n - i * size) (drop (i * size) cells) ≡ chunk_at cells size i
+part-is cells size i n e =
+    ap (λ (m : ℕ). take m (drop (i * size) cells)) (let whole : i * size + n - i * size ≡ n = omega arith in whole ∙ e ∙ length-take size (drop (i * size) cells))
+    ∙ take_min size (drop (i * size) cells)
+
+-- ---- their lengths
+
+abbrev pub lengths_below : ℕ → ℕ → ℕ → List ℕ
+lengths_below len size n = map (λ i. min size (len - i * size)) (range_with_len 0 n)
+
+pub lengths-more : (len size n x : ℕ) (xs ys : List ℕ) → xs ≡ lengths_below len size n → ys ≡ xs ++ x ∷ [] → x ≡ min size (len - n * size) → ys ≡ lengths_below len size (n + 1)
+lengths-more len size n x xs ys h more e =
+    more
+    ∙ ap (λ (zs : List ℕ). zs ++ x ∷ []) h
+    ∙ ap (λ (y : ℕ). lengths_below len size n ++ y ∷ []) e
+    ∙ sym (map-range_with_len_more (λ i. min size (len - i * size)) 0 n n (omega arith))
+
+pub rest-more : (len size n : ℕ) → (len - n * size) - min size (len - n * size) ≡ len - (n + 1) * size
+rest-more len size n = omega arith
+
+pub length-lengths : (len size n : ℕ) (xs : List ℕ) → xs ≡ lengths_below len size n → length xs ≡ n
+length-lengths len size n xs e = ap length e ∙ length-map-range_with_len (λ i. min size (len - i * size)) 0 n
+
+pub lengths-at : (len size n i : ℕ) (xs : List ℕ) → xs ≡ lengths_below len size n → i < n → slice_index xs i ≡ min size (len - i * size)
+lengths-at len size n i xs e lt = ap (λ (ys : List ℕ). slice_index ys i) e ∙ get_or-map-range_with_len (λ k. min size (len - k * size)) 0 n i i 0 lt (omega arith)
+
+pub lengths-are : (cells : List ℤ) (size n i : ℕ) (xs : List ℕ) → xs ≡ lengths_below (length cells) size n → i < n → slice_index xs i ≡ length (chunk_at cells size i)
+lengths-are cells size n i xs e lt = lengths-at (length cells) size n i xs e lt ∙ sym (length-chunk_at cells size i)

@@ -1,9 +1,10 @@
 -- A graph that grows by the two keys of a chunk.
-use Rattle.std.proofs.Common.{◌≡◌, ℕ, zero, suc, ◌+◌, ◌*◌, ◌<◌, ◌≤◌, List, [], ◌∷◌, ◌++◌, length, get_or, refl, sym, ap, ◌∙◌, arith, below_more, length-append}
+use Rattle.std.proofs.Common.{◌≡◌, ℕ, zero, suc, ◌+◌, ◌*◌, ◌<◌, ◌≤◌, List, [], ◌∷◌, ◌++◌, length, get_or, refl, sym, ap, ◌∙◌, arith, below_more, length-append, subst, ◌^◌, slice_index}
 use Rattle.std.proofs.lemmas.List.{get_or_append_left, get_or_at, length_push}
-use Rattle.cluster_msgs.specs.Shape.{Shape, pushed, total_length, edge_count}
+use Rattle.cluster_msgs.specs.Shape.{Shape, IsShape, pushed, total_length, edge_count}
 use Rattle.cluster_msgs.proofs.ShapeLemmas.{total_length-append}
-use Rattle.addition_job.specs.Addition.{IsGraphOf}
+use Rattle.addition_job.specs.Addition.{Addition, IsGraphOf, IsAdditionJob, bytes_of, chunk_total}
+use Rattle.addition_job.proofs.Chunking.{some-chunk, lengths_below, length-lengths, lengths-are}
 
 -- the first n chunks, with as many works and sizes as keys
 pub record IsBuilt (bytes : ℕ → ℕ) (n : ℕ) (g : Shape) : Type 0 where
@@ -87,4 +88,23 @@ graph-agree f g n s h a = record {
   sum_nbytes = λ i lt. a.sum_nbytes i lt ∙ h i lt;
   load_work = λ i lt. a.load_work i lt ∙ h i lt;
   sum_work = λ i lt. a.sum_work i lt ∙ ap (λ m. m + m) (h i lt);
+}
+
+pub edges-pushed : (g : Shape) (work bytes : ℕ) → edge_count (pushed g [] work bytes) ≡ edge_count g
+edges-pushed g work bytes = total_length-append g.deps [] ∙ omega arith
+
+-- a graph over the lengths of all chunks is that of the job
+pub job-is : (j : Addition) (xs : List ℕ) → IsShape j.shape → xs ≡ lengths_below (length j.cells) j.chunk_size (chunk_total j)
+    → IsGraphOf (λ i. 8 * slice_index xs i) (length xs) j.shape
+    → 1 ≤ j.chunk_size → j.chunk_size ≤ 2 ^ 20 → length j.cells ≤ 2 ^ 20 → chunk_total j ≤ 16383 → IsAdditionJob j
+job-is j xs sound e g some small short few = record {
+  sound = sound;
+  graph = graph-agree (λ i. 8 * slice_index xs i) (bytes_of j) (chunk_total j) j.shape
+      (λ i lt. ap (λ (n : ℕ). 8 * n) (lengths-are j.cells j.chunk_size (chunk_total j) i xs e lt))
+      (subst (λ (n : ℕ). IsGraphOf (λ i. 8 * slice_index xs i) n j.shape) (length-lengths (length j.cells) j.chunk_size (chunk_total j) xs e) g);
+  some_size = some;
+  small_size = small;
+  short = short;
+  some_chunk = some-chunk (length j.cells) j.chunk_size some;
+  few_chunks = few;
 }

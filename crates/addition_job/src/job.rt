@@ -1,8 +1,9 @@
 //! The job.
-ghost use Rattle.std.specs.Prelude.{◌≡◌, ◌+◌, ◌-◌, ◌*◌, ◌%◌, ◌<◌, ℕ, min, ◌≤◌, ◌^◌, ◌++◌, ◌∷◌, [], map, length, slice_index, IfOk, OnOk};
+ghost use Rattle.std.specs.Prelude.{◌≡◌, ◌+◌, ◌-◌, ◌*◌, ◌%◌, ◌<◌, ℕ, min, ◌≤◌, ◌^◌, ◌++◌, ◌∷◌, [], map, length, slice_index, IfOk, OnOk, ◌+ℤ◌};
 ghost use Rattle.std.specs.List.{range_with_len};
 ghost use Rattle.cluster_msgs.specs.Shape.{key_count, edge_count, pushed};
 ghost use Rattle.cluster_msgs.specs.Jobs.{blocks_of};
+ghost use Rattle.nd_grid.specs.Int64.{wrap};
 ghost use Rattle.addition_job.specs.Chunks.{chunks_in, added};
 ghost use Rattle.addition_job.specs.Addition.{IsAdditionJob, IsGraphOf, chunk_total, chunk, block_of, additions};
 
@@ -188,14 +189,20 @@ fn push_chunk(alloc: Global, shape: &mut GraphShape, bytes: u64) -> Result<(), A
     shape.push(&deps, bytes + bytes, bytes)
 }
 
-// Each cell with the addend. It wraps.
+// Each cell with the addend.
 fn sums(alloc: Global, cells: &[i64], addend: i64) -> Result<Vec<i64>, AllocError>
     ensures { IfOk result (λ v. v.items ≡ added addend cells.now) }
 {
     cells
         .iter()
-        .map(|cell| cell.wrapping_add(addend))
+        .map(|cell| sum_of(*cell, addend))
         .collect(alloc)
+}
+
+fn sum_of(cell: i64, addend: i64) -> i64
+    ensures { result ≡ wrap (cell +ℤ addend) }
+{
+    cell.wrapping_add(addend)
 }
 
 impl JobSpec for AdditionJob {
