@@ -6,7 +6,7 @@ use Rattle.addition_job.proofs.job.push_chunk.Goals as goal
 pub push-requires-3-clause-edges : goal.push-requires-3-clause-edges
 push-requires-3-clause-edges c =
     let edges = ap edge_count c.in_ok-push.ensures.ok
-        ∙ ap (λ (ds : List ℕ). edge_count (pushed c.args.shape.now ds c.args.bytes c.args.bytes)) c.new-deps.ensures
-        ∙ edges-pushed c.args.shape.now c.args.bytes c.args.bytes in
+    ∙ ap (λ (ds : List ℕ). edge_count (pushed c.args.shape.now ds c.args.bytes c.args.bytes)) c.new-deps.ensures
+    ∙ edges-pushed c.args.shape.now c.args.bytes c.args.bytes in
     let one : length c.push-2.new.self ≡ 1 = ap length c.in_ok-push-2.ensures.ok ∙ ap (λ (ds : List ℕ). length (ds ++ c.keys-load.result ∷ [])) c.new-deps.ensures in
     omega arith
