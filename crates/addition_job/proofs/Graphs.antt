@@ -1,5 +1,5 @@
 -- A graph that grows by the two keys of a chunk.
-use Rattle.std.proofs.Common.{◌≡◌, ℕ, zero, suc, ◌+◌, ◌*◌, ◌<◌, ◌≤◌, List, [], ◌∷◌, ◌++◌, length, get_or, refl, sym, ap, ◌∙◌, arith, below_more, length-append, subst, ◌^◌, slice_index}
+use Rattle.std.proofs.Common.{◌≡◌, ℕ, ◌+◌, ◌*◌, ◌<◌, ◌≤◌, List, [], ◌∷◌, ◌++◌, length, get_or, refl, ap, ◌∙◌, arith, below_more, subst, ◌^◌, slice_index}
 use Rattle.std.proofs.lemmas.List.{get_or_append_left, get_or_at, length_push}
 use Rattle.cluster_msgs.specs.Shape.{Shape, IsShape, pushed, total_length, edge_count}
 use Rattle.cluster_msgs.proofs.ShapeLemmas.{total_length-append}

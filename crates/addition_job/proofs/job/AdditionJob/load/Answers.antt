@@ -1,6 +1,6 @@
-use Rattle.std.proofs.Common.{rules, ℕ, ◌≡◌, ap, sym, ◌∙◌, arith, length, get_or}
+use Rattle.std.proofs.Common.{rules, ◌∙◌, arith}
 use Rattle.std.proofs.lemmas.List.{get_or_default}
-use Rattle.addition_job.proofs.Chunking.{part-ends, part-is}
+use Rattle.addition_job.proofs.Chunking.{part-ends}
 use Rattle.addition_job.proofs.job.AdditionJob.load.Goals as goal
 
 pub slice_bounds-from_slice-end : goal.slice_bounds-from_slice-end

@@ -1,4 +1,4 @@
-use Rattle.std.proofs.Common.{ℕ, ◌≡◌, ◌*◌, List, length, vec_len, slice_index, ap, sym, ◌∙◌, subst, arith}
+use Rattle.std.proofs.Common.{ℕ, ◌≡◌, ◌*◌, List, length, slice_index, ap, ◌∙◌, subst, arith}
 use Rattle.addition_job.specs.Chunks.{chunks_in}
 use Rattle.addition_job.specs.Addition.{IsGraphOf}
 use Rattle.addition_job.proofs.Chunking.{lengths_below, length-lengths, lengths-at, lengths-are}
