@@ -1,10 +1,12 @@
 //! Laws about the job's values. Each is a function with an empty body.
-ghost use Rattle.std.specs.Prelude.{◌≡◌, ◌+◌, ◌*◌, ◌<◌, ◌≤◌, ℕ, ℤ, Bool, true, false, nat_lt, List, Some, length};
+ghost use Rattle.std.specs.Prelude.{◌≡◌, ◌+◌, ◌*◌, ◌<◌, ◌≤◌, ℕ, ℤ, Bool, true, false, nat_lt, List, Some, Ok, length};
 ghost use Rattle.std.specs.List.{list_all};
 ghost use Rattle.cluster_msgs.specs.Shape.{key_count, deps_of};
 ghost use Rattle.cluster_msgs.specs.Values.{val, faulty};
+ghost use Rattle.nd_grid.specs.Grid.{block_of};
 ghost use Rattle.addition_job.specs.Chunks.{chunks_in, chunk_at, added, joined};
 ghost use Rattle.addition_job.specs.Addition.{Addition, IsAdditionJob, chunk, chunk_total, made, additions};
+ghost use Rattle.addition_job.specs.Whole.{array_of, sum_grid};
 
 /// The value of a load is its chunk.
 pub fn value_of_load()
@@ -42,4 +44,9 @@ pub fn additions_are_keys()
     ensures number { (n : ℕ) → length (additions n) ≡ n }
     ensures keys { (j : Addition) → IsAdditionJob j →
         list_all (λ k. nat_lt k (key_count j.shape)) (additions (chunk_total j)) ≡ true }
+{}
+
+/// The array with the addend is what the formula of an addition, element by element, makes of the array and the number.
+pub fn addition_is_elementwise()
+    ensures { (cells : List ℤ) (addend : ℤ) → block_of (sum_grid cells addend) ≡ Ok (array_of (added addend cells)) }
 {}
