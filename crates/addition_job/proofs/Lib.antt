@@ -1,0 +1,4 @@
+mod Chunking
+mod Elementwise
+mod Graphs
+mod Values

@@ -1,0 +1,4 @@
+pub mod Addition
+pub mod Chunks
+pub mod Stored
+pub mod Whole
