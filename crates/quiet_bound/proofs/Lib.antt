@@ -1,1 +1,2 @@
 mod Capped
+pub mod WorldBound

@@ -1,12 +1,35 @@
 //! How many events there can be while nothing fails and nobody asks for more: the bound's formula.
 //!
-//! `cluster_rules` stands below, with the definition `quiet_bound` and the world that it is of. The simulated cluster
-//! stands above: its budget of turns is this number. It carries the formula alone: that quiet lists of events are no
-//! longer is not proved here.
+//! `cluster_rules` stands below, with the definition `quiet_bound`, and `cluster_world`, with the world that it is of. The
+//! simulated cluster stands above: its budget of turns is this number. It carries the formula alone: that quiet lists of
+//! events are no longer is not proved here.
 #![tactic(auto)]
 
-ghost use Rattle.std.specs.Prelude.{◌≡◌, ℕ, ◌+◌, ◌*◌, ◌-◌, ◌^◌, ◌≤◌, ◌<◌, nat_le, max, min};
-ghost use Rattle.cluster_rules.specs.World.{quiet_bound, rest_of};
+ghost use Rattle.std.specs.Prelude.{◌≡◌, ◌≢◌, ℕ, ◌+◌, ◌*◌, ◌-◌, ◌^◌, ◌≤◌, ◌<◌, nat_le, max, min};
+ghost use Rattle.cluster_msgs.specs.Shape.{key_count, edge_count};
+ghost use Rattle.cluster_rules.specs.World.{quiet_bound, rest_of, rest, worker_count};
+ghost use Rattle.cluster_world.specs.Worlds.{world as world_of, setting};
+ghost use Rattle.cluster_world.specs.declared.state.Course.TheVariants.{Starved};
+
+use cluster_msgs::JobSpec;
+use cluster_world::World;
+
+/// The bound of a world, in events: 2^128 - 1 stands for every larger one, and for where 2^64 - 1 messages or more are
+/// under way. Once memory ran out it is the bound with nothing under way. It takes no memory.
+pub fn rest<J: JobSpec>(world: &World<J>) -> u128
+    ensures bound { world.now.course ≢ Starved → result ≡ rest (world_of world.now) }
+    ensures starved { world.now.course ≡ Starved → let s = setting world.now in
+        result ≡ min (quiet_bound (max 1 s.clients) 0 (worker_count (world_of world.now)) (key_count s.shape) (edge_count s.shape)) (2 ^ 128 - 1) }
+{
+    let shape = world.shape();
+    quiet_events(
+        world.clients(),
+        world.under_way(),
+        world.workers(),
+        shape.keys(),
+        shape.edges(),
+    )
+}
 
 /// The bound for so many clients, messages under way, workers, keys and edges, in events:
 /// `32 * C * (M+1)^2 * (W+1)^2 * (K+E+1)^3`, with at least one client.
@@ -63,27 +86,4 @@ fn cube(base: u128) -> u128
 }
 
 #[cfg(test)]
-mod tests {
-    use super::quiet_events;
-    use std::test::Fail;
-
-    // 32 * 1 * 2^2 * 2^2 * 2^3, and 32 * 1 * 2^2 * 4^2 * 5^3, by hand
-    #[test]
-    fn small_worlds_have_their_bounds(rt: HostRuntime) -> Result<(), Fail> {
-        assert_eq!(rt; quiet_events(1, 1, 1, 1, 0), 4096);
-        assert_eq!(rt; quiet_events(1, 1, 3, 3, 1), 256_000);
-        assert_eq!(rt; quiet_events(0, 0, 0, 0, 0), 32);
-        Ok(())
-    }
-
-    // 32 * 16 * 2^80 * 2^42 * 1 is 2^131
-    #[test]
-    fn a_bound_past_128_bits_is_the_greatest_number(rt: HostRuntime) -> Result<(), Fail> {
-        assert_eq!(rt;
-            quiet_events(16, (1 << 40) - 1, (1 << 21) - 1, 0, 0),
-            u128::MAX
-        );
-        assert_eq!(rt; quiet_events(1, u64::MAX, 0, 0, 0), u128::MAX);
-        Ok(())
-    }
-}
+mod tests;
