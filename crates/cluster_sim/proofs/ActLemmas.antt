@@ -58,6 +58,10 @@ counts_as A B Feed n m h = h
 counts_as A B Spent n m h = h
 counts_as A B OutOfMemory n m h = h
 
+-- the same after calls that left the count alone
+pub counts_from : (A B : Type 0) (e : SimError) (n m k : ℕ) → m ≡ n → CountsSim {A = A} (Err e) m k → CountsSim {A = B} (Err e) n k
+counts_from A B e n m k q h = counts_as A B e n k (subst (λ x. CountsSim {A = A} (Err e) x k) q h)
+
 -- after calls that left the count alone
 pub counts_after : {A : Type 0} (r : Result A SimError) (n m k : ℕ) → m ≡ n → CountsSim r m k → CountsSim r n k
 counts_after r n m k e h = subst (λ x. CountsSim r x k) e h

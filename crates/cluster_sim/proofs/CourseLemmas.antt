@@ -54,8 +54,8 @@ taken_joins j w (x ∷ xs) =
     let i = join_is x (message w x) in
     omega (arith, k, r, h, i)
 
-pub made_none : (j : Job) (t : Tally) (n : ℕ) → IsCountOf t [] → IsMade j [] (opening j) t n
-made_none j t n h = record { legal = tt; reached = refl; counted = h; few = omega arith }
+pub made_none : (j : Job) (t : Tally) (n : ℕ) → n ≡ 0 → IsCountOf t [] → IsMade j [] (opening j) t n
+made_none j t n e h = record { legal = tt; reached = refl; counted = h; count = sym e }
 
 -- one more event was made, and counted
 pub made_more : (j : Job) (es : List Event) (w v : World) (t u : Tally) (n : ℕ) (e : Event) → IsMade j es w t n → n < 1099511627776 → w.sched.last_worker ≤ 128 → enabled w e ≡ true → v ≡ world_step j w e
@@ -65,11 +65,11 @@ made_more j es w v t u n e h room few may is count = record {
   legal = legal_more j (opening j) es e h.legal (subst (λ x. enabled x e ≡ true) (sym h.reached) may);
   reached = run_more j (opening j) es e ∙ ap (λ x. world_step j x e) h.reached ∙ sym is;
   counted = subst (λ ts. IsCountOf u ts) (sym (taken_more j (opening j) es e)) (subst (λ x. IsCountOf u (taken j (opening j) es ++ (e, message x e) ∷ [])) (sym h.reached) (count (taken j (opening j) es) short rare h.counted));
-  few = let l = length-append es (e ∷ []) in let f = h.few in omega (arith, l, f);
+  count = let l = length-append es (e ∷ []) in let f = h.count in omega (arith, l, f);
 }
   where
     short : length (taken j (opening j) es) < 2 ^ 64 - 1
-    short = let l = taken_length j (opening j) es in let f = h.few in omega (arith, l, f, room)
+    short = let l = taken_length j (opening j) es in let f = h.count in omega (arith, l, f, room)
 
     rare : how_many is_join (taken j (opening j) es) < 2 ^ 32 - 1
     rare = let l = taken_joins j (opening j) es in let r = ap (λ (x : World). x.sched.last_worker) h.reached in omega (arith, l, r, few)

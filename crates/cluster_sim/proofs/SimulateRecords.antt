@@ -27,6 +27,7 @@ use Rattle.cluster_sim.specs.declared.standing.Standing.{Standing}
 use Rattle.cluster_sim.specs.declared.run.Run.{Run}
 use Rattle.cluster_sim.proofs.CourseLemmas.{course_start, course_end}
 use Rattle.cluster_sim.proofs.SimulateLemmas.{standing_first, blame_is}
+use Rattle.cluster_sim.proofs.PlayLemmas.{same_job}
 use Rattle.cluster_sim.proofs.TurnLemmas.{budgeted}
 
 first_sim : (p : Plan) (w : Cluster) (b : ℕ) → b ≡ rest w → sim_of p w (first_standing b) ≡ sim_from p w
@@ -54,10 +55,6 @@ opened_drawn op tells p wanted number old new r b h stays is bound words told = 
   course = course_start (running op new) (word_of number) p wanted (world new) (sim_of p (world new) r.standing) r.tally new.events (h.made told)
       (ap (λ (s : Standing). sim_of p (world new) s) is ∙ first_sim p (world new) b bound);
 }
-
--- the job that runs stays
-same_job : {J B F : Type 0} (op : J → ℕ → List B → Option B) (tells : J → F → Type 0) (old new : State J B F) → Stays tells old new → running op new ≡ running op old
-same_job op tells old new s = λ i. job_of (s.setting i) (op (s.job i))
 
 there : {J B F : Type 0} (op : J → ℕ → List B → Option B) (tells : J → F → Type 0) (p : Plan) (wanted : List ℕ) (number : ℕ) (v : Verdict) (old new : State J B F) (r : Run) → Stays tells old new → HasPlayed op tells p wanted number v new r
     → Course (running op old) (word_of number) p wanted (sim_of p (world new) r.standing) r.tally new.events

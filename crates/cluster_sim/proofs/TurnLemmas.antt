@@ -36,15 +36,24 @@ event_made script e kind.Drawn h = refl
 abbrev pub budgeted : Sim → ℕ → Sim
 budgeted s n = record s { budget = n }
 
+not_scripted : (passed : ℕ) → kind.Scripted passed ≡ kind.Drawn → ⊥
+not_scripted passed h = cc
+
+not_evicts : kind.Evicts ≡ kind.Drawn → ⊥
+not_evicts h = cc
+
+not_balances : kind.Balances ≡ kind.Drawn → ⊥
+not_balances h = cc
+
 -- where the simulation stands then
-pub moved_after : (j : Job) (p : Plan) (w : World) (s : Standing) (e : Event) (k : Kind) (b : ℕ) → IsKindOf k e → b ≡ rest (world_step j w e) → sim_of p (world_step j w e) (after s k b) ≡ moved j (sim_of p w s) (made_by p.script e k)
-moved_after j p w s e (kind.Scripted passed) b h q = ap (budgeted (sim_of p (world_step j w e) (after s (kind.Scripted passed) b))) q
+pub moved_after : (j : Job) (p : Plan) (w : World) (s : Standing) (e : Event) (k : Kind) (b : ℕ) → IsKindOf k e → ((k ≡ kind.Drawn → ⊥) → b ≡ rest (world_step j w e)) → sim_of p (world_step j w e) (after s k b) ≡ moved j (sim_of p w s) (made_by p.script e k)
+moved_after j p w s e (kind.Scripted passed) b h q = ap (budgeted (sim_of p (world_step j w e) (after s (kind.Scripted passed) b))) (q (λ x. not_scripted passed x))
 moved_after j p w s e kind.Evicts b h q =
     subst (λ x. sim_of p (world_step j w x) (after s kind.Evicts b) ≡ moved j (sim_of p w s) (made_by p.script x kind.Evicts)) (sym h)
-      (ap (budgeted (sim_of p (world_step j w Evict) (after s kind.Evicts b))) (q ∙ ap (λ x. rest (world_step j w x)) h))
+      (ap (budgeted (sim_of p (world_step j w Evict) (after s kind.Evicts b))) (q (λ x. not_evicts x) ∙ ap (λ x. rest (world_step j w x)) h))
 moved_after j p w s e kind.Balances b h q =
     subst (λ x. sim_of p (world_step j w x) (after s kind.Balances b) ≡ moved j (sim_of p w s) (made_by p.script x kind.Balances)) (sym h)
-      (ap (budgeted (sim_of p (world_step j w Balance) (after s kind.Balances b))) (q ∙ ap (λ x. rest (world_step j w x)) h))
+      (ap (budgeted (sim_of p (world_step j w Balance) (after s kind.Balances b))) (q (λ x. not_balances x) ∙ ap (λ x. rest (world_step j w x)) h))
 moved_after j p w s e kind.Drawn b h q = refl
 
 script_after : (j : Job) (p : Plan) (w : World) (s : Standing) (e : Event) (k : Kind) (b : ℕ) → (moved j (sim_of p w s) (made_by p.script e k)).script ≡ drop (after s k b).passed p.script

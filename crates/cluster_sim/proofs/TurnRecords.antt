@@ -22,6 +22,7 @@ use Rattle.cluster_sim.specs.Passing.{IsKindOf, after, IsLeft}
 use Rattle.cluster_sim.specs.Turns.{IsBetween, IsDrawn, HasGone}
 use Rattle.cluster_sim.specs.declared.standing.Standing.{Standing}
 use Rattle.cluster_sim.specs.declared.choice.Kind.{Kind}
+use Rattle.cluster_sim.specs.declared.choice.Kind.TheVariants as kind
 use Rattle.cluster_sim.specs.declared.run.Run.{Run}
 use Rattle.cluster_sim.proofs.CourseLemmas.{course_more}
 use Rattle.cluster_sim.proofs.NextLemmas.{MayCome}
@@ -53,7 +54,7 @@ has_gone op tells p wanted old new a b e k word budget h act u is = record {
 }
 
 pub has_drawn : {J B F : Type 0} (op : J → ℕ → List B → Option B) (tells : J → F → Type 0) (p : Plan) (wanted : List ℕ) (number : ℕ) (old new : State J B F) (a b : Run) (e : Event) (k : Kind) (word budget : ℕ)
-    → IsChosen p wanted old a e k word → IsAct op tells old e new → Stays tells old new → a.words.word ≡ word → budget ≡ rest (world new) → b.standing ≡ after a.standing k budget
+    → IsChosen p wanted old a e k word → IsAct op tells old e new → Stays tells old new → a.words.word ≡ word → ((k ≡ kind.Drawn → ⊥) → budget ≡ rest (world new)) → b.standing ≡ after a.standing k budget
     → (IsAtTurn a.words number a.standing.turns → IsAtTurn b.words number b.standing.turns)
     → ((ts : List Taken) → length ts < 2 ^ 64 - 1 → how_many is_join ts < 2 ^ 32 - 1 → IsCountOf a.tally ts → IsCountOf b.tally (ts ++ (e, message (world old) e) ∷ []))
     → IsDrawn op tells p wanted number old a → IsDrawn op tells p wanted number new b
@@ -85,5 +86,5 @@ has_drawn {J} {B} {F} op tells p wanted number old new a b e k word budget h act
     moves =
         ap (λ (s : Standing). sim_of p (world new) s) is
         ∙ ap (λ (w : Cluster). sim_of p w (after a.standing k budget)) to
-        ∙ moved_after (running op old) p (world old) a.standing e k budget h.own (bound ∙ ap rest to)
+        ∙ moved_after (running op old) p (world old) a.standing e k budget h.own (λ x. bound x ∙ ap rest to)
         ∙ ap (λ n. moved (running op old) (sim_of p (world old) a.standing) n) same

@@ -8,12 +8,12 @@ use Rattle.cluster_rules.specs.Draw.{Plan, Sim, opening_events, sim_from, next, 
 use Rattle.run_report.specs.Counts.{IsCountOf}
 use Rattle.run_report.specs.declared.tally.Tally.{Tally}
 
--- at most n legal events that led to this world, and were counted
+-- n legal events that led to this world, and were counted
 pub record IsMade (j : Job) (es : List Event) (w : World) (t : Tally) (n : ℕ) : Type 0 where
   pub legal : legal j es
   pub reached : reached j es ≡ w
   pub counted : IsCountOf t (taken j (opening j) es)
-  pub few : length es ≤ n
+  pub count : length es ≡ n
 
 -- each of these events came next, and they led here
 abbrev pub DrawsTo : Job → (ℕ → ℕ) → Plan → Sim → List Event → Sim → Type 0

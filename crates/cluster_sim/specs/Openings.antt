@@ -1,5 +1,5 @@
 -- A world in which a simulation may begin.
-use Rattle.std.specs.Prelude.{◌≡◌, ℕ, ◌≤◌, ◌<◌, true, List, Option, None}
+use Rattle.std.specs.Prelude.{◌≡◌, ℕ, ◌≤◌, ◌<◌, true, List, length, Option, None}
 use Rattle.cluster_msgs.specs.Shape.{key_count}
 use Rattle.cluster_msgs.specs.declared.events.Event.{Event}
 use Rattle.cluster_rules.specs.Derived.{is_in}
@@ -14,11 +14,12 @@ use Rattle.cluster_sim.specs.Acts.{running}
 use Rattle.cluster_sim.specs.Courses.{IsMade}
 use Rattle.cluster_sim.specs.Standing.{IsFor}
 
--- it goes on, and is an opening world with a client
+-- it goes on, took no event, and is an opening world with a client
 pub record IsOpening {J B F : Type 0} (op : J → ℕ → List B → Option B) (s : State J B F) : Type 0 where
   pub going : s.course ≡ Going
   pub opening : cluster s ≡ opening_cluster (setting s) (op s.job)
   pub client : 1 ≤ (setting s).clients
+  pub fresh : s.events ≡ 0
 
 -- some keys, all of the graph
 pub record AreWanted (count : ℕ) (wanted : List ℕ) : Type 0 where
@@ -36,5 +37,6 @@ pub record IsOpen (wanted : List ℕ) (workers : ℕ) (w : Cluster) : Type 0 whe
 pub record HasOpened {J B F : Type 0} (op : J → ℕ → List B → Option B) (tells : J → F → Type 0) (wanted : List ℕ) (workers : ℕ) (es : List Event) (old new : State J B F) (t : Tally) : Type 0 where
   pub going : new.course ≡ Going
   pub opened : IsOpen wanted workers (world new)
+  pub count : new.events ≡ length es
   pub reaches : tells old.job old.feed → IsReached (setting new) (op new.job) (cluster new)
   pub made : tells old.job old.feed → IsMade (running op new) es (world new) t new.events

@@ -3,7 +3,7 @@ ghost use Rattle.std.specs.Prelude.{◌≡◌, [], Err, OnOk, replicate};
 ghost use Rattle.cluster_msgs.specs.declared.events.Event.TheVariants.{Join};
 ghost use Rattle.cluster_msgs.specs.Shape.{key_count};
 ghost use Rattle.cluster_rules.specs.Draw.{opening_events};
-ghost use Rattle.cluster_world.specs.Worlds.{setting, event_limit};
+ghost use Rattle.cluster_world.specs.Worlds.{setting};
 ghost use Rattle.run_report.specs.Counts.{IsCountOf};
 ghost use Rattle.cluster_sim.specs.Acts.{CountsSim, Stays};
 ghost use Rattle.cluster_sim.specs.Plans.{plan_of, IsPlan};
@@ -33,7 +33,7 @@ pub fn make_opening<J: JobSpec>(
     ensures opened { OnOk result (HasOpened J.operation J.feed_tells wanted.now plan.now.workers (opening_events (plan_of plan.now) wanted.now) world.old world.new tally.new) }
     ensures stays { Stays J.feed_tells world.old world.new }
     ensures faults { CountsSim result (J.fault_count world.old.feed) (J.fault_count world.new.feed) }
-    ensures spent { result ≡ Err SimError.Spent → world.new.events ≡ event_limit }
+    ensures spent { result ≡ Err SimError.Spent → ⊥ }
     ensures turns { result ≡ Err SimError.Turns → ⊥ }
 {
     join_all(world, plan, tally)?;
@@ -57,7 +57,7 @@ fn join_all<J: JobSpec>(
     ensures opened { OnOk result (HasOpened J.operation J.feed_tells [] plan.now.workers (replicate plan.now.workers (Join plan.now.threads)) world.old world.new tally.new) }
     ensures stays { Stays J.feed_tells world.old world.new }
     ensures faults { CountsSim result (J.fault_count world.old.feed) (J.fault_count world.new.feed) }
-    ensures spent { result ≡ Err SimError.Spent → world.new.events ≡ event_limit }
+    ensures spent { result ≡ Err SimError.Spent → ⊥ }
     ensures turns { result ≡ Err SimError.Turns → ⊥ }
 {
     let join = Event::Join {

@@ -1,11 +1,14 @@
 //! One event of a simulation.
-ghost use Rattle.std.specs.Prelude.{ℕ};
+ghost use Rattle.std.specs.Prelude.{◌≡◌, ◌<◌, ◌^◌, ℕ};
+ghost use Rattle.cluster_rules.specs.World.{rest};
+ghost use Rattle.cluster_world.specs.Worlds.{world as world_of};
+ghost use Rattle.cluster_world.specs.declared.state.Course.TheVariants.{Going};
 ghost use Rattle.cluster_sim.specs.Acts.{CountsSim, Stays};
 ghost use Rattle.cluster_sim.specs.Plans.{plan_of, IsPlan};
 ghost use Rattle.cluster_sim.specs.Turns.{IsBetween, IsDrawn, AfterTurn, DrawnTurn};
 
 use crate::act::{SimError, act};
-use crate::choice::Choice;
+use crate::choice::{Choice, Kind};
 use crate::choose::choose;
 use crate::ended::Ending;
 use crate::plan::SimPlan;
@@ -38,8 +41,20 @@ pub fn turn<J: JobSpec>(
         Choice::Spent => Err(SimError::Turns),
         Choice::Make { event, kind } => {
             act(world, &mut run.tally, &event)?;
-            run.go_on(kind, rest(world));
+            run.go_on(kind, turns_left(world, kind));
             Ok(None)
         }
+    }
+}
+
+/// The bound of the world, after an event that wasn't drawn. It isn't looked for after one that was, which needs none.
+fn turns_left<J: JobSpec>(world: &World<J>, kind: Kind) -> u128
+    requires going { world.now.course ≡ Going }
+    ensures bound { (kind ≡ Kind.Drawn → ⊥) → result ≡ rest (world_of world.now) }
+    ensures small { result < 2 ^ 128 }
+{
+    match kind {
+        Kind::Drawn => 0,
+        Kind::Scripted { .. } | Kind::Evicts | Kind::Balances => rest(world),
     }
 }

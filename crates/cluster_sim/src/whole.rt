@@ -1,15 +1,15 @@
 //! Whole simulations.
-ghost use Rattle.std.specs.Prelude.{◌≡◌, ◌↔◌, ℕ, None, Err, IfOk};
+ghost use Rattle.std.specs.Prelude.{◌≡◌, ◌↔◌, ℕ, None, Err, IfOk, OnOk};
 ghost use Rattle.cluster_msgs.specs.Shape.{key_count, deps_of};
 ghost use Rattle.cluster_msgs.specs.Values.{val};
 ghost use Rattle.cluster_rules.specs.Draw.{Served, OutOfTurns};
-ghost use Rattle.cluster_world.specs.Worlds.{world as world_of, setting, event_limit};
+ghost use Rattle.cluster_world.specs.Worlds.{cluster, world as world_of, setting, event_limit, IsReached};
 ghost use Rattle.cluster_sim.specs.Acts.{CountsSim, Stays, running};
 ghost use Rattle.cluster_sim.specs.Drawn.{word_of};
 ghost use Rattle.cluster_sim.specs.Plans.{plan_of, IsPlan};
 ghost use Rattle.cluster_sim.specs.Openings.{IsOpening, AreWanted};
 ghost use Rattle.cluster_sim.specs.Turns.{IsBetween, IsDrawn, AfterPlay, DrawnPlay};
-ghost use Rattle.cluster_sim.specs.Simulations.{IsReported, IsCut, HasAll, IfBlamed};
+ghost use Rattle.cluster_sim.specs.Simulations.{IsReported, IsCut, IsUnfinished, HasAll, IfBlamed};
 
 use crate::act::SimError;
 use crate::ended::Ending;
@@ -59,6 +59,8 @@ pub fn simulate<J: JobSpec>(
     ensures turns { result ≡ Err SimError.Turns → J.feed_tells world.old.job world.old.feed →
         IsCut (running J.operation world.old) (word_of number) (plan_of plan.now) wanted.now OutOfTurns (world_of world.new) }
 
+    ensures reached { OnOk result (J.feed_tells world.old.job world.old.feed → IsReached (setting world.new) (J.operation world.new.job) (cluster world.new)) }
+
     // A failure names a needed key at fault, and comes exactly where the client hasn't got all.
     ensures all { IfOk result (λ end. (end.zero ≡ None) ↔ HasAll (world_of world.new) wanted.now) }
     ensures blame { IfOk result (λ end. J.feed_tells world.old.job world.old.feed →
@@ -67,6 +69,8 @@ pub fn simulate<J: JobSpec>(
     // The causes of what is no result, and what stays.
     ensures faults { CountsSim result (J.fault_count world.old.feed) (J.fault_count world.new.feed) }
     ensures spent { result ≡ Err SimError.Spent → world.new.events ≡ event_limit }
+    ensures cut_off { result ≡ Err SimError.Spent → J.feed_tells world.old.job world.old.feed →
+        IsUnfinished (running J.operation world.old) (word_of number) (plan_of plan.now) wanted.now event_limit }
     ensures stays { Stays J.feed_tells world.old world.new }
 {
     let mut tally = Tally::new(alloc);

@@ -9,7 +9,6 @@ use Rattle.cluster_sim.specs.declared.act.SimError.{SimError}
 use Rattle.cluster_sim.specs.Drawn.{word_of}
 use Rattle.cluster_sim.specs.Plans.{plan_of}
 use Rattle.cluster_sim.specs.Standing.{sim_of}
-use Rattle.quiet_bound.proofs.WorldBound.{rest-small}
 use Rattle.cluster_sim.proofs.ActLemmas.{not_starved, stays_none, counts_as}
 use Rattle.cluster_sim.proofs.TurnLemmas.{can_pass}
 use Rattle.cluster_sim.proofs.TurnRecords.{IsChosen, chosen_comes, has_gone, has_drawn}
@@ -55,6 +54,15 @@ returns-in_err-act-in-Make-clause-turn g c =
     let p = err_from_is_err_and c.from_residual.result c.from_residual.ensures.1 in
     rw (p.1, p.2) (turn_failed (plan_of c.args.plan.now) c.args.wanted.now c.args.world.now c.act.new.world c.args.run.now _ _ (λ q. c.in_err-act-in-Make.ensures.turns (ap (λ (x : SimError). Err x) q)) (λ q. c.in_err-act-in-Make.ensures.spent (ap (λ (x : SimError). Err x) q)))
 
+pub returns-in_err-act-in-Make-clause-drawn : goal.returns-in_err-act-in-Make-clause-drawn
+returns-in_err-act-in-Make-clause-drawn g c number d =
+    let p = err_from_is_err_and c.from_residual.result c.from_residual.ensures.1 in
+    rw (p.1, p.2) (drawn_failed g.J.JobSpec.operation g.J.JobSpec.feed_tells (plan_of c.args.plan.now) c.args.wanted.now number c.args.world.now c.act.new.world c.args.run.now _ _ d
+      (λ q. c.in_err-act-in-Make.ensures.turns (ap (λ (x : SimError). Err x) q)) (λ q. c.in_err-act-in-Make.ensures.spent_before (ap (λ (x : SimError). Err x) q)))
+
+pub turns_left-requires : goal.turns_left-requires
+turns_left-requires g c = λ κs lives. c.in_ok-act-in-Make.ensures.done.going
+
 pub go_on-requires : goal.go_on-requires
 go_on-requires g c =
     let t = c.requires.between.turns in
@@ -63,15 +71,15 @@ go_on-requires g c =
 
 pub returns-in_ok-act-in-Make-clause-turn : goal.returns-in_ok-act-in-Make-clause-turn
 returns-in_ok-act-in-Make-clause-turn g c =
-    has_gone g.J.JobSpec.operation g.J.JobSpec.feed_tells (plan_of c.args.plan.now) c.args.wanted.now c.args.world.now c.act.new.world c.args.run.now _ c.in-Make.event c.in-Make.kind c.word-word.result c.rest.result
+    has_gone g.J.JobSpec.operation g.J.JobSpec.feed_tells (plan_of c.args.plan.now) c.args.wanted.now c.args.world.now c.act.new.world c.args.run.now _ c.in-Make.event c.in-Make.kind c.word-word.result c.turns_left.result
       (record { plan = c.requires.plan; between = c.requires.between; next = c.in-Make.ensures.next; own = c.in-Make.ensures.kind.0; some = c.in-Make.ensures.kind.1 })
-      c.in_ok-act-in-Make.ensures.done (rw (c.rest.ensures.bound (not_starved _ c.in_ok-act-in-Make.ensures.done.going)) (rest-small _)) c.go_on.ensures.standing
+      c.in_ok-act-in-Make.ensures.done c.turns_left.ensures.small c.go_on.ensures.standing
 
 pub returns-in_ok-act-in-Make-clause-drawn : goal.returns-in_ok-act-in-Make-clause-drawn
 returns-in_ok-act-in-Make-clause-drawn g c number d =
-    has_drawn g.J.JobSpec.operation g.J.JobSpec.feed_tells (plan_of c.args.plan.now) c.args.wanted.now number c.args.world.now c.act.new.world c.args.run.now _ c.in-Make.event c.in-Make.kind c.word-word.result c.rest.result
+    has_drawn g.J.JobSpec.operation g.J.JobSpec.feed_tells (plan_of c.args.plan.now) c.args.wanted.now number c.args.world.now c.act.new.world c.args.run.now _ c.in-Make.event c.in-Make.kind c.word-word.result c.turns_left.result
       (record { plan = c.requires.plan; between = c.requires.between; next = c.in-Make.ensures.next; own = c.in-Make.ensures.kind.0; some = c.in-Make.ensures.kind.1 })
-      c.in_ok-act-in-Make.ensures.done c.act.ensures.stays (sym c.word-word.ensures) (c.rest.ensures.bound (not_starved _ c.in_ok-act-in-Make.ensures.done.going)) c.go_on.ensures.standing (c.go_on.ensures.words number)
+      c.in_ok-act-in-Make.ensures.done c.act.ensures.stays (sym c.word-word.ensures) c.turns_left.ensures.bound c.go_on.ensures.standing (c.go_on.ensures.words number)
       (λ ts short rare h. subst (λ (t : Tally). IsCountOf t (ts ++ (c.in-Make.event, message (world c.args.world.now) c.in-Make.event) ∷ [])) (sym c.go_on.ensures.tally) (c.in_ok-act-in-Make.ensures.counted ts short rare h))
       d
 

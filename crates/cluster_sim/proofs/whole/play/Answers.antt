@@ -2,7 +2,7 @@ use Rattle.std.proofs.Common.{◌≡◌, ◌∙◌, sym, ap, refl, subst, Option
 use Rattle.std.proofs.lemmas.Result.{err_from_is_err_and}
 use Rattle.cluster_sim.specs.declared.ended.Ending.{Ending}
 use Rattle.cluster_sim.specs.Plans.{plan_of}
-use Rattle.cluster_sim.proofs.ActLemmas.{stays_none, stays_both, counts_after, counts_as}
+use Rattle.cluster_sim.proofs.ActLemmas.{stays_none, stays_both, counts_from}
 use Rattle.cluster_sim.proofs.PlayLemmas.{served_by, played_by, play_failed, drawn_play_failed, falls_there}
 use Rattle.cluster_sim.proofs.whole.play.Goals as goal
 
@@ -44,12 +44,12 @@ pub returns-in_err-next-clause-drawn : goal.returns-in_err-next-clause-drawn
 returns-in_err-next-clause-drawn g c number d =
     let p = err_from_is_err_and c.from_residual.result c.from_residual.ensures.1 in
     let e = c.turns.invariant.drawn number d in
-    rw (p.1, p.2) (drawn_play_failed _ _ (plan_of c.args.plan.now) c.args.wanted.now number c.turns.world c.turn.new.world c.turns.run c.turn.new.run _ e c.in_err-next.ensures.turn (c.in_err-next.ensures.drawn number e))
+    rw (p.1, p.2) (drawn_play_failed _ _ (plan_of c.args.plan.now) c.args.wanted.now number c.turns.world c.turn.new.world c.turns.run c.turn.new.run _ c.turn.ensures.stays e c.in_err-next.ensures.turn (c.in_err-next.ensures.drawn number e))
 
 pub returns-in_err-next-clause-faults : goal.returns-in_err-next-clause-faults
 returns-in_err-next-clause-faults g c =
     let p = err_from_is_err_and c.from_residual.result c.from_residual.ensures.1 in
-    rw (p.1, p.2) (counts_as (Option Ending) Ending _ _ _ (counts_after _ _ _ _ c.turns.invariant.faults c.in_err-next.ensures.faults))
+    rw (p.1, p.2) (counts_from (Option Ending) Ending c.in_err-next.field-0.0 _ _ _ c.turns.invariant.faults c.in_err-next.ensures.faults)
 
 pub returns-in_err-next-clause-stays : goal.returns-in_err-next-clause-stays
 returns-in_err-next-clause-stays g c = stays_both _ _ _ _ c.turns.invariant.stays c.turn.ensures.stays

@@ -6,8 +6,8 @@ use Rattle.cluster_sim.specs.declared.ended.Ending.{Ending}
 use Rattle.cluster_sim.specs.declared.whole.SimEnd.{SimEnd}
 use Rattle.cluster_sim.specs.Plans.{plan_of}
 use Rattle.std.proofs.lemmas.Result.{err_from_is_err_and}
-use Rattle.cluster_sim.proofs.ActLemmas.{not_starved, stays_both, counts_as, counts_after}
-use Rattle.cluster_sim.proofs.PlayLemmas.{spent_play, turns_play, same_error}
+use Rattle.cluster_sim.proofs.ActLemmas.{not_starved, stays_both, counts_as, counts_from}
+use Rattle.cluster_sim.proofs.PlayLemmas.{spent_play, turns_play, unfinished_play, same_error}
 use Rattle.cluster_sim.proofs.SimulateLemmas.{served_is}
 use Rattle.cluster_sim.proofs.SimulateRecords.{opened_between, opened_drawn, reported, cut_off, blamed_by}
 use Rattle.cluster_sim.proofs.whole.simulate.Goals as goal
@@ -40,12 +40,17 @@ returns-clause-stays g c = stays_both _ _ _ _ c.make_opening.ensures.stays c.pla
 pub returns-in_err-make_opening-clause-faults : goal.returns-in_err-make_opening-clause-faults
 returns-in_err-make_opening-clause-faults g c =
     let p = err_from_is_err_and c.from_residual.result c.from_residual.ensures.1 in
-    rw (p.1, p.2) (counts_as (Unit {0}) SimEnd _ _ _ c.in_err-make_opening.ensures.faults)
+    rw (p.1, p.2) (counts_as (Unit {0}) SimEnd c.in_err-make_opening.field-0.0 _ _ c.in_err-make_opening.ensures.faults)
 
 pub returns-in_err-make_opening-clause-spent : goal.returns-in_err-make_opening-clause-spent
 returns-in_err-make_opening-clause-spent g c q =
     let p = err_from_is_err_and c.from_residual.result c.from_residual.ensures.1 in
-    c.in_err-make_opening.ensures.spent (ap (λ (x : SimError). Err x) (sym p.2 ∙ same_error _ _ (sym p.1 ∙ q)))
+    absurd (c.in_err-make_opening.ensures.spent (ap (λ (x : SimError). Err x) (sym p.2 ∙ same_error _ _ (sym p.1 ∙ q))))
+
+pub returns-in_err-make_opening-clause-cut_off : goal.returns-in_err-make_opening-clause-cut_off
+returns-in_err-make_opening-clause-cut_off g c q told =
+    let p = err_from_is_err_and c.from_residual.result c.from_residual.ensures.1 in
+    absurd (c.in_err-make_opening.ensures.spent (ap (λ (x : SimError). Err x) (sym p.2 ∙ same_error _ _ (sym p.1 ∙ q))))
 
 pub returns-in_err-make_opening-clause-turns : goal.returns-in_err-make_opening-clause-turns
 returns-in_err-make_opening-clause-turns g c q told =
@@ -56,7 +61,7 @@ returns-in_err-make_opening-clause-turns g c q told =
 pub returns-in_err-end-clause-faults : goal.returns-in_err-end-clause-faults
 returns-in_err-end-clause-faults g c =
     let p = err_from_is_err_and c.from_residual-in_err-end.result c.from_residual-in_err-end.ensures.1 in
-    rw (p.1, p.2) (counts_as Ending SimEnd _ _ _ (counts_after _ _ _ _ c.in_ok-make_opening.ensures.faults c.in_err-end.ensures.faults))
+    rw (p.1, p.2) (counts_from Ending SimEnd c.in_err-end.field-0.0 _ _ _ c.in_ok-make_opening.ensures.faults c.in_err-end.ensures.faults)
 
 pub returns-in_err-end-clause-spent : goal.returns-in_err-end-clause-spent
 returns-in_err-end-clause-spent g c q =
@@ -69,6 +74,18 @@ returns-in_err-end-clause-turns g c q told =
     let d = opened_drawn _ _ (plan_of c.args.plan.now) c.args.wanted.now c.args.number c.args.world.now c.make_opening.new.world _ c.rest.result c.in_ok-make_opening.ensures.opened c.make_opening.ensures.stays c.new.ensures (c.rest.ensures.bound (not_starved _ c.in_ok-make_opening.ensures.opened.going)) c.new-2.ensures told in
     cut_off _ _ (plan_of c.args.plan.now) c.args.wanted.now c.args.number _ c.args.world.now c.play.new.world c.play.new.run
       (stays_both _ _ _ _ c.make_opening.ensures.stays c.play.ensures.stays) (turns_play _ _ (plan_of c.args.plan.now) c.args.wanted.now c.args.number c.play.new.world c.play.new.run _ (sym p.2 ∙ same_error _ _ (sym p.1 ∙ q)) (c.in_err-end.ensures.drawn c.args.number d))
+
+pub returns-in_err-end-clause-cut_off : goal.returns-in_err-end-clause-cut_off
+returns-in_err-end-clause-cut_off g c q told =
+    let p = err_from_is_err_and c.from_residual-in_err-end.result c.from_residual-in_err-end.ensures.1 in
+    let d = opened_drawn _ _ (plan_of c.args.plan.now) c.args.wanted.now c.args.number c.args.world.now c.make_opening.new.world _ c.rest.result c.in_ok-make_opening.ensures.opened c.make_opening.ensures.stays c.new.ensures (c.rest.ensures.bound (not_starved _ c.in_ok-make_opening.ensures.opened.going)) c.new-2.ensures told in
+    unfinished_play _ _ (plan_of c.args.plan.now) c.args.wanted.now c.args.number c.args.world.now c.play.new.world c.play.new.run c.in_err-end.field-0.0 (stays_both _ _ _ _ c.make_opening.ensures.stays c.play.ensures.stays)
+      (sym p.2 ∙ same_error _ _ (sym p.1 ∙ q)) (c.in_err-end.ensures.drawn c.args.number d)
+
+pub returns-clause-reached : goal.returns-clause-reached
+returns-clause-reached g c told =
+    let d = opened_drawn _ _ (plan_of c.args.plan.now) c.args.wanted.now c.args.number c.args.world.now c.make_opening.new.world _ c.rest.result c.in_ok-make_opening.ensures.opened c.make_opening.ensures.stays c.new.ensures (c.rest.ensures.bound (not_starved _ c.in_ok-make_opening.ensures.opened.going)) c.new-2.ensures told in
+    (c.in_ok-end.ensures.drawn c.args.number d).drawn.reached
 
 pub returns-in_err-end-clause-stays : goal.returns-in_err-end-clause-stays
 returns-in_err-end-clause-stays g c = stays_both _ _ _ _ c.make_opening.ensures.stays c.play.ensures.stays
