@@ -23,6 +23,10 @@ stays_none tells s = record { job = refl; setting = refl; tells = λ h. h }
 pub stays_both : {J B F : Type 0} (tells : J → F → Type 0) (s t u : State J B F) → Stays tells s t → Stays tells t u → Stays tells s u
 stays_both tells s t u a b = record { job = b.job ∙ a.job; setting = b.setting ∙ a.setting; tells = λ h. b.tells (a.tells h) }
 
+-- the job that runs stays
+pub same_job : {J B F : Type 0} (op : J → ℕ → List B → Option B) (tells : J → F → Type 0) (old new : State J B F) → Stays tells old new → running op new ≡ running op old
+same_job op tells old new s = λ i. job_of (s.setting i) (op (s.job i))
+
 -- an event that was taken
 pub act_is : {J B F : Type 0} (op : J → ℕ → List B → Option B) (tells : J → F → Type 0) (old new : State J B F) (e : Event) → old.course ≡ Going → IsReady old → new.course ≡ old.course → new.events ≡ old.events + 1
     → (met : Bool) × (world new ≡ world_after met (world old) e)

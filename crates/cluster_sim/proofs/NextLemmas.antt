@@ -142,15 +142,15 @@ scripted_comes threads w (i ∷ is) e later t n h = reached (not (is_reached w i
     rest : ◌≡◌ {A = Option (Event × List Item)} (Some (item_event threads i, is)) (Some (e, later)) → is ≡ later
     rest h = ap (λ (p : Event × List Item). p.1) (pair (item_event threads i, is) (e, later) h)
 
-    blocked : (b : Bool) → is_blocked w i ≡ b → is_idle w i ≡ false → cond b None (Some (item_event threads i, is)) ≡ Some (e, later) → MayCome w e (i ∷ is) later
+    blocked : (b : Bool) → is_blocked w i ≡ b → is_idle w i ≡ false → cond {A = Option (Event × List Item)} b None (Some (item_event threads i, is)) ≡ Some (e, later) → MayCome w e (i ∷ is) later
     blocked true q z h = absurd (no h)
     blocked false q z h = subst (λ x. MayCome w x (i ∷ is) later) (event h) (subst (λ xs. MayCome w (item_event threads i) (i ∷ is) xs) (rest h) (item_comes threads w i is t n z q))
 
-    idle : (b : Bool) → is_idle w i ≡ b → (scripted threads w is ≡ Some (e, later) → MayCome w e is later) → cond b (scripted threads w is) (cond (is_blocked w i) None (Some (item_event threads i, is))) ≡ Some (e, later) → MayCome w e (i ∷ is) later
+    idle : (b : Bool) → is_idle w i ≡ b → (scripted threads w is ≡ Some (e, later) → MayCome w e is later) → cond {A = Option (Event × List Item)} b (scripted threads w is) (cond {A = Option (Event × List Item)} (is_blocked w i) None (Some (item_event threads i, is))) ≡ Some (e, later) → MayCome w e (i ∷ is) later
     idle true q r h = weaker w e is later i (r h)
     idle false q r h = blocked (is_blocked w i) refl q h
 
-    reached : (b : Bool) → (scripted threads w is ≡ Some (e, later) → MayCome w e is later) → cond b None (cond (is_idle w i) (scripted threads w is) (cond (is_blocked w i) None (Some (item_event threads i, is)))) ≡ Some (e, later) → MayCome w e (i ∷ is) later
+    reached : (b : Bool) → (scripted threads w is ≡ Some (e, later) → MayCome w e is later) → cond {A = Option (Event × List Item)} b None (cond (is_idle w i) (scripted threads w is) (cond {A = Option (Event × List Item)} (is_blocked w i) None (Some (item_event threads i, is)))) ≡ Some (e, later) → MayCome w e (i ∷ is) later
     reached true r h = absurd (no h)
     reached false r h = idle (is_idle w i) refl r h
 

@@ -18,6 +18,7 @@ use Rattle.quiet_bound.proofs.WorldBound.{setting-world}
 use Rattle.cluster_sim.specs.Acts.{Stays, IsAct, running}
 use Rattle.cluster_sim.specs.Courses.{IsMade}
 use Rattle.cluster_sim.specs.Openings.{IsOpening, AreWanted, IsOpen, HasOpened}
+use Rattle.cluster_sim.proofs.ActLemmas.{same_job}
 use Rattle.cluster_sim.proofs.CourseLemmas.{made_none, made_more}
 use Rattle.cluster_sim.proofs.OpeningLemmas.{replicate-push, open_none, may_join, open_join, may_want, open_want}
 
@@ -41,7 +42,7 @@ made_on : {J B F : Type 0} (op : J → ℕ → List B → Option B) (tells : J �
     → IsMade (running op new) (es ++ e ∷ []) (world new) u new.events
 made_on op tells es mid new t u e told reached made act stays few may count =
     subst (λ (n : ℕ). IsMade (running op new) (es ++ e ∷ []) (world new) u n) (sym act.counted)
-      (subst (λ (j : Job). IsMade j (es ++ e ∷ []) (world new) u (mid.events + 1)) (λ i. job_of (stays.setting i) (op (stays.job i)))
+      (subst (λ (j : Job). IsMade j (es ++ e ∷ []) (world new) u (mid.events + 1)) (sym (same_job op tells mid new stays))
         (made_more (running op mid) es (world mid) (world new) t u mid.events e made act.room few may (act.exact told reached) count))
 
 -- a worker more joined

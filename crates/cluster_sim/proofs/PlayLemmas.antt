@@ -5,7 +5,7 @@ use Rattle.cluster_rules.specs.Sched.{Setting}
 use Rattle.cluster_rules.specs.Draw.{Plan, Served, OutOfTurns, over, next, verdict}
 use Rattle.cluster_world.specs.declared.state.State.{State}
 use Rattle.cluster_world.specs.Worlds.{world, setting, event_limit}
-use Rattle.value_laws.specs.Blocks.{job_of}
+use Rattle.cluster_sim.proofs.ActLemmas.{same_job}
 use Rattle.cluster_rules.specs.World.{Job}
 use Rattle.cluster_sim.specs.Acts.{Stays, running}
 use Rattle.cluster_sim.specs.Drawn.{word_of}
@@ -16,10 +16,6 @@ use Rattle.cluster_sim.specs.declared.ended.Ending.{Ending}
 use Rattle.cluster_sim.specs.declared.run.Run.{Run}
 use Rattle.cluster_sim.specs.declared.act.SimError.{SimError}
 use Rattle.cluster_sim.specs.declared.act.SimError.TheVariants.{Turns, Feed, Spent, OutOfMemory}
-
--- the job that runs stays
-pub same_job : {J B F : Type 0} (op : J → ℕ → List B → Option B) (tells : J → F → Type 0) (old new : State J B F) → Stays tells old new → running op new ≡ running op old
-same_job op tells old new s = λ i. job_of (s.setting i) (op (s.job i))
 
 pub turn_failed : {J B F : Type 0} (p : Plan) (wanted : List ℕ) (old new : State J B F) (a b : Run) (e : SimError) → (e ≡ Turns → ⊥) → (e ≡ Spent → new.events ≡ event_limit) → AfterTurn p wanted old new a b (Err e)
 turn_failed p wanted old new a b Turns f s = absurd (f refl)

@@ -1,5 +1,5 @@
 -- The script, item by item.
-use Rattle.std.proofs.Common.{◌≡◌, ℕ, suc, ◌+◌, ◌≤◌, ◌<◌, Bool, true, false, not, ◌&&◌, cond, List, [], ◌∷◌, drop, length, get_or, Option, Some, None, refl, sym, ap, ◌∙◌, arith, subst, add-one, drop-cons}
+use Rattle.std.proofs.Common.{◌≡◌, ℕ, zero, suc, ◌+◌, ◌≤◌, ◌<◌, Bool, true, false, not, ◌&&◌, cond, List, [], ◌∷◌, drop, length, get_or, Option, Some, None, refl, sym, ap, ◌∙◌, arith, subst, add-one, drop-cons}
 use Rattle.std.specs.Option.{option_map}
 use Rattle.std.proofs.lemmas.List.{drop_all}
 use Rattle.cluster_msgs.specs.declared.events.Item.{Item}
@@ -17,6 +17,12 @@ use Rattle.cluster_sim.specs.declared.script.Step.{Step}
 
 item_at : (xs : List Item) (at : ℕ) (i : Item) → at < length xs → i ≡ get_or xs at i → drop at xs ≡ i ∷ drop (at + 1) xs
 item_at xs at i h e = drop-cons xs at i h ∙ ap (λ x. x ∷ drop (suc at) xs) (sym e) ∙ ap (λ n. i ∷ drop n xs) (sym (add-one at))
+
+-- what is read inside a list, whatever is read outside
+pub same_item : (xs : List Item) (at : ℕ) (d : Item) → at < length xs → get_or xs at d ≡ get_or xs at (get_or xs at d)
+same_item [] at d h = absurd (omega (arith, h))
+same_item (x ∷ xs) zero d h = refl
+same_item (x ∷ xs) (suc at) d h = same_item xs at d (omega (arith, h))
 
 -- an item that isn't reached, that does nothing, or that comes
 pub script_waits : (threads : ℕ) (w : World) (xs : List Item) (at : ℕ) (i : Item) → at < length xs → i ≡ get_or xs at i → is_reached w i ≡ false → scripted threads w (drop at xs) ≡ None

@@ -47,7 +47,7 @@ over_served c h = pick (find (λ k. is_some (c.failed k)) (client_keys c)) refl 
     all true h = refl
     all false h = absurd (no h)
       where
-        no : None ≡ Some None → ⊥
+        no : ◌≡◌ {A = Option (Option ℕ)} None (Some None) → ⊥
         no h = cc
 
     same : (o : Option ℕ) → Some o ≡ Some None → o ≡ None

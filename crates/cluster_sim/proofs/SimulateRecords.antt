@@ -27,7 +27,7 @@ use Rattle.cluster_sim.specs.declared.standing.Standing.{Standing}
 use Rattle.cluster_sim.specs.declared.run.Run.{Run}
 use Rattle.cluster_sim.proofs.CourseLemmas.{course_start, course_end}
 use Rattle.cluster_sim.proofs.SimulateLemmas.{standing_first, blame_is}
-use Rattle.cluster_sim.proofs.PlayLemmas.{same_job}
+use Rattle.cluster_sim.proofs.ActLemmas.{same_job}
 use Rattle.cluster_sim.proofs.TurnLemmas.{budgeted}
 
 first_sim : (p : Plan) (w : Cluster) (b : ℕ) → b ≡ rest w → sim_of p w (first_standing b) ≡ sim_from p w

@@ -24,6 +24,7 @@ use Rattle.cluster_sim.specs.declared.standing.Standing.{Standing}
 use Rattle.cluster_sim.specs.declared.choice.Kind.{Kind}
 use Rattle.cluster_sim.specs.declared.choice.Kind.TheVariants as kind
 use Rattle.cluster_sim.specs.declared.run.Run.{Run}
+use Rattle.cluster_sim.proofs.ActLemmas.{same_job}
 use Rattle.cluster_sim.proofs.CourseLemmas.{course_more}
 use Rattle.cluster_sim.proofs.NextLemmas.{MayCome}
 use Rattle.cluster_sim.proofs.TurnLemmas.{event_made, moved_after, turns_after, falls_after, may_come, standing_after}
@@ -63,7 +64,7 @@ has_drawn {J} {B} {F} op tells p wanted number old new a b e k word budget h act
   reached = act.reached d.told d.reached;
   words = words d.words;
   course = subst (λ (n : ℕ). Course (running op new) (word_of number) p wanted (sim_of p (world new) b.standing) b.tally n) (sym act.counted)
-      (subst (λ (j : Job). Course j (word_of number) p wanted (sim_of p (world new) b.standing) b.tally (old.events + 1)) (λ i. job_of (stays.setting i) (op (stays.job i)))
+      (subst (λ (j : Job). Course j (word_of number) p wanted (sim_of p (world new) b.standing) b.tally (old.events + 1)) (sym (same_job op tells old new stays))
         (course_more (running op old) (word_of number) p wanted (sim_of p (world old) a.standing) (sim_of p (world new) b.standing) a.tally b.tally old.events e d.course act.room few come.enabled chosen moves counted));
 }
   where

@@ -28,11 +28,11 @@ pub record IsCut (j : Job) (words : ℕ → ℕ) (p : Plan) (wanted : List ℕ) 
   pub simulated : IsSimulated j words p wanted events v w
 
 -- so many of its events were made, one after another, and no end was reached
-pub record IsUnfinished (j : Job) (words : ℕ → ℕ) (p : Plan) (wanted : List ℕ) (count : ℕ) : Type 0 where
+pub record IsUnfinished (j : Job) (words : ℕ → ℕ) (p : Plan) (wanted : List ℕ) (many : ℕ) : Type 0 where
   pub later : List Event
   pub stands : Sim
   pub drawn : DrawsTo j words p (sim_from p (run_from j (opening j) (opening_events p wanted))) later stands
-  pub count : length (opening_events p wanted ++ later) ≡ count
+  pub count : length (opening_events p wanted ++ later) ≡ many
 
 -- the client has got all that is wanted
 abbrev pub HasAll : World → List ℕ → Type 0

@@ -60,10 +60,10 @@ fn join_all<J: JobSpec>(
     ensures spent { result ≡ Err SimError.Spent → ⊥ }
     ensures turns { result ≡ Err SimError.Turns → ⊥ }
 {
-    let join = Event::Join {
-        threads: plan.threads,
-    };
     for _number in 0..plan.workers {
+        let join = Event::Join {
+            threads: plan.threads,
+        };
         act(world, tally, &join)?;
     }
     Ok(())

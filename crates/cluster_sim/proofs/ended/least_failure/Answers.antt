@@ -7,7 +7,7 @@ use Rattle.cluster_sim.proofs.EndLemmas.{least_none, least_some, none_of}
 use Rattle.cluster_sim.proofs.ended.least_failure.Goals as goal
 
 pub failure_of-failure-requires : goal.failure_of-failure-requires
-failure_of-failure-requires g c = λ κs lives. c.requires.fresh c.loop-key.key
+failure_of-failure-requires g c = let b = c.type_bounds in (b.send-J, (b.send-J-Block, (b.send-J-Feed, (b.sync-J, (b.sync-J-Block, (b.sync-J-Feed, c.requires.fresh c.loop-key.key))))))
 
 pub returns-then-is_some : goal.returns-then-is_some
 returns-then-is_some g c =

@@ -57,11 +57,11 @@ returns-in_err-act-in-Make-clause-turn g c =
 pub returns-in_err-act-in-Make-clause-drawn : goal.returns-in_err-act-in-Make-clause-drawn
 returns-in_err-act-in-Make-clause-drawn g c number d =
     let p = err_from_is_err_and c.from_residual.result c.from_residual.ensures.1 in
-    rw (p.1, p.2) (drawn_failed g.J.JobSpec.operation g.J.JobSpec.feed_tells (plan_of c.args.plan.now) c.args.wanted.now number c.args.world.now c.act.new.world c.args.run.now _ _ d
+    rw (p.1, p.2) (drawn_failed g.J.JobSpec.operation g.J.JobSpec.feed_tells (plan_of c.args.plan.now) c.args.wanted.now number c.args.world.now c.act.new.world c.args.run.now c.args.run.now _ d
       (λ q. c.in_err-act-in-Make.ensures.turns (ap (λ (x : SimError). Err x) q)) (λ q. c.in_err-act-in-Make.ensures.spent_before (ap (λ (x : SimError). Err x) q)))
 
 pub turns_left-requires : goal.turns_left-requires
-turns_left-requires g c = λ κs lives. c.in_ok-act-in-Make.ensures.done.going
+turns_left-requires g c = let b = c.type_bounds in (b.send-J, (b.send-J-Block, (b.send-J-Feed, (b.sync-J, (b.sync-J-Block, (b.sync-J-Feed, c.in_ok-act-in-Make.ensures.done.going))))))
 
 pub go_on-requires : goal.go_on-requires
 go_on-requires g c =
