@@ -62,7 +62,7 @@ from_like c d h = alike c d h.shape h.wants h.failed
 answered_like : (c : ClientFacts) (asks : List Ask) (found : List ℕ) (missed : List (ℕ × ℕ)) → IsLike c (fold client_misses (fold client_gets (record c { asks = asks }) found) missed)
 answered_like c asks found missed =
     likes c (record c { asks = asks }) _ (record { shape = refl; wants = refl; failed = refl })
-      (likes (record c { asks = asks }) (fold client_gets (record c { asks = asks }) found) _ (all_get (record c { asks = asks }) found) (all_miss (fold client_gets (record c { asks = asks }) found) missed))
+    (likes (record c { asks = asks }) (fold client_gets (record c { asks = asks }) found) _ (all_get (record c { asks = asks }) found) (all_miss (fold client_gets (record c { asks = asks }) found) missed))
 
 gathered_like : (c : ClientFacts) (p n : ℕ) (found : List ℕ) (o : Option Ask) → IsLike c (client_gathered_by c p n found o).facts
 gathered_like c p n found None = like c

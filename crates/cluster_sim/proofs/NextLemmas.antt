@@ -40,19 +40,40 @@ each_pair : {A B : Type 0} (f : A → B → Event) → ((x : A) (y : B) → IsPr
 each_pair f h ys xs = all_flat_map_in IsProgress (λ x. map (f x) (ys x)) xs (all_always (λ x. AllByRecursion IsProgress (map (f x) (ys x))) (λ x. each (f x) (h x) (ys x)) xs)
 
 kinds : (w : World) → AllByRecursion (λ es. AllByRecursion IsProgress es) (progress_kinds w)
-kinds w =
-    (each (λ i. SeeLoss i) (λ i. easy (SeeLoss i) refl refl) (all_workers w),
-    (each (λ i. DeliverDown i) (λ i. easy (DeliverDown i) refl refl) (connected_workers w),
-    (each (λ i. DeliverUp i) (λ i. easy (DeliverUp i) refl refl) (connected_workers w),
-    (each (λ c. DeliverToClient c) (λ c. easy (DeliverToClient c) refl refl) (all_clients w),
-    (each (λ c. DeliverFromClient c) (λ c. easy (DeliverFromClient c) refl refl) (all_clients w),
-    (each (λ i. Start i) (λ i. easy (Start i) refl refl) (connected_workers w),
-    (each_pair (λ i k. Finish i k) (λ i k. easy (Finish i k) refl refl) (λ i. below (key_count (shape_of w))) (connected_workers w),
-    (each_pair (λ a p. SendGather a p) (λ a p. easy (SendGather a p) refl refl) (λ a. all_workers w) (quiet_askers w),
-    (each (λ (q : Parcel). ServeGather q.peer q.asker q.ask) (λ q. easy (ServeGather q.peer q.asker q.ask) refl refl) w.requests,
-    (each (λ (q : Parcel). ArriveGather q.asker q.peer q.ask) (λ q. easy (ArriveGather q.asker q.peer q.ask) refl refl) (filter (λ (q : Parcel). is_quiet_asker w q.asker) w.answers),
-    (each_pair (λ a p. FailGather a p) (λ a p. easy (FailGather a p) refl refl) (λ a. filter (λ p. not (w.alive p)) (all_workers w)) (quiet_askers w),
-    tt)))))))))))
+kinds w = (
+  each (λ i. SeeLoss i) (λ i. easy (SeeLoss i) refl refl) (all_workers w),
+  (
+    each (λ i. DeliverDown i) (λ i. easy (DeliverDown i) refl refl) (connected_workers w),
+    (
+      each (λ i. DeliverUp i) (λ i. easy (DeliverUp i) refl refl) (connected_workers w),
+      (
+        each (λ c. DeliverToClient c) (λ c. easy (DeliverToClient c) refl refl) (all_clients w),
+        (
+          each (λ c. DeliverFromClient c) (λ c. easy (DeliverFromClient c) refl refl) (all_clients w),
+          (
+            each (λ i. Start i) (λ i. easy (Start i) refl refl) (connected_workers w),
+            (
+              each_pair (λ i k. Finish i k) (λ i k. easy (Finish i k) refl refl) (λ i. below (key_count (shape_of w))) (connected_workers w),
+              (
+                each_pair (λ a p. SendGather a p) (λ a p. easy (SendGather a p) refl refl) (λ a. all_workers w) (quiet_askers w),
+                (
+                  each (λ (q : Parcel). ServeGather q.peer q.asker q.ask) (λ q. easy (ServeGather q.peer q.asker q.ask) refl refl) w.requests,
+                  (
+                    each (λ (q : Parcel). ArriveGather q.asker q.peer q.ask) (λ q. easy (ArriveGather q.asker q.peer q.ask) refl refl) (filter (λ (q : Parcel). is_quiet_asker w q.asker) w.answers),
+                    (
+                      each_pair (λ a p. FailGather a p) (λ a p. easy (FailGather a p) refl refl) (λ a. filter (λ p. not (w.alive p)) (all_workers w)) (quiet_askers w),
+                      tt,
+                    ),
+                  ),
+                ),
+              ),
+            ),
+          ),
+        ),
+      ),
+    ),
+  ),
+)
 
 all_get : {A : Type 0} (P : A → Type 0) (xs : List A) (n : ℕ) (x : A) → AllByRecursion P xs → slice_get xs n ≡ Some x → P x
 all_get {A} P [] n x h e = absurd (no n e)

@@ -85,10 +85,14 @@ may_want w wanted c h = and_from _ _ (and_from _ _ refl (le-leb 1 w.sched.settin
 -- the client that wanted nothing wants these keys
 wanting : (c : ClientFacts) (wanted : List ℕ) → IsFor [] c → ((k : ℕ) → c.failed k ≡ None) → IsFor wanted (client_step c (WantKeys wanted)).facts × ((k : ℕ) → (client_step c (WantKeys wanted)).facts.failed k ≡ None) × ((client_step c (WantKeys wanted)).facts.shape ≡ c.shape)
 unfolding client_step client_wants
-wanting c wanted h fresh = (record {
-  wants = λ k. ap (λ b. b || is_in k wanted) (h.wants k);
-  failed = λ k s. absurd (false≢true (ap is_some (sym (fresh k)) ∙ s));
-}, fresh, refl)
+wanting c wanted h fresh = (
+  record {
+    wants = λ k. ap (λ b. b || is_in k wanted) (h.wants k);
+    failed = λ k s. absurd (false≢true (ap is_some (sym (fresh k)) ∙ s));
+  },
+  fresh,
+  refl,
+)
 
 pub open_want : (j : Job) (w v : World) (n : ℕ) (wanted : List ℕ) → IsOpen [] n w → v ≡ world_step j w (Want 1 wanted) → IsOpen wanted n v
 unfolding world_step client_worked

@@ -42,8 +42,8 @@ made_on : {J B F : Type 0} (op : J → ℕ → List B → Option B) (tells : J �
     → IsMade (running op new) (es ++ e ∷ []) (world new) u new.events
 made_on op tells es mid new t u e told reached made act stays few may count =
     subst (λ (n : ℕ). IsMade (running op new) (es ++ e ∷ []) (world new) u n) (sym act.counted)
-      (subst (λ (j : Job). IsMade j (es ++ e ∷ []) (world new) u (mid.events + 1)) (sym (same_job op tells mid new stays))
-        (made_more (running op mid) es (world mid) (world new) t u mid.events e made act.room few may (act.exact told reached) count))
+    (subst (λ (j : Job). IsMade j (es ++ e ∷ []) (world new) u (mid.events + 1)) (sym (same_job op tells mid new stays))
+    (made_more (running op mid) es (world mid) (world new) t u mid.events e made act.room few may (act.exact told reached) count))
 
 -- a worker more joined
 pub join_on : {J B F : Type 0} (op : J → ℕ → List B → Option B) (tells : J → F → Type 0) (n threads : ℕ) (old mid new : State J B F) (t u : Tally) → HasOpened op tells [] n (replicate n (Join threads)) old mid t → n < 64 → (1 ≤ threads) × (threads ≤ 16)

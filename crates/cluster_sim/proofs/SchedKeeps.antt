@@ -57,10 +57,10 @@ lost_keeps f x k c = both_changed f (is_copy c (f.has x k)) _ (plain f) (record 
 add_keeps : (w seen : ℕ) (g : Changed) (k : ℕ) → Keeps g.facts (add_key w seen g k).facts
 add_keeps w seen g k =
     both_changed g.facts (nat_le (g.facts.fence w k) seen) _ g
-      (both_changed g.facts (holds g.facts w k) g _ (same g.facts)
-        (both_changed g.facts (held g.facts k) _ _ (record { setting = refl; last = refl })
-          (both_changed g.facts (is_on g.facts w k) g _ (same g.facts) (same g.facts))))
-      (same g.facts)
+    (both_changed g.facts (holds g.facts w k) g _ (same g.facts)
+    (both_changed g.facts (held g.facts k) _ _ (record { setting = refl; last = refl })
+    (both_changed g.facts (is_on g.facts w k) g _ (same g.facts) (same g.facts))))
+    (same g.facts)
 
 adds_keep : (w seen : ℕ) (g : Changed) (ks : List ℕ) → Keeps g.facts (add_keys w seen g ks).facts
 adds_keep w seen g [] = same g.facts

@@ -7,7 +7,6 @@ use Rattle.cluster_rules.specs.Derived.{is_in}
 use Rattle.cluster_rules.specs.Sched.{Setting}
 use Rattle.cluster_rules.specs.World.{Job, World as Cluster, opening, rest, shape_of}
 use Rattle.cluster_rules.specs.Report.{Taken, taken, report}
-
 use Rattle.cluster_rules.specs.Draw.{Plan, Sim, Verdict, Served, opening_events, sim_from, over}
 use Rattle.value_laws.specs.Blocks.{job_of}
 use Rattle.run_report.specs.Counts.{IsCountOf}

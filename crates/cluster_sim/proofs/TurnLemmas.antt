@@ -50,10 +50,10 @@ pub moved_after : (j : Job) (p : Plan) (w : World) (s : Standing) (e : Event) (k
 moved_after j p w s e (kind.Scripted passed) b h q = ap (budgeted (sim_of p (world_step j w e) (after s (kind.Scripted passed) b))) (q (λ x. not_scripted passed x))
 moved_after j p w s e kind.Evicts b h q =
     subst (λ x. sim_of p (world_step j w x) (after s kind.Evicts b) ≡ moved j (sim_of p w s) (made_by p.script x kind.Evicts)) (sym h)
-      (ap (budgeted (sim_of p (world_step j w Evict) (after s kind.Evicts b))) (q (λ x. not_evicts x) ∙ ap (λ x. rest (world_step j w x)) h))
+    (ap (budgeted (sim_of p (world_step j w Evict) (after s kind.Evicts b))) (q (λ x. not_evicts x) ∙ ap (λ x. rest (world_step j w x)) h))
 moved_after j p w s e kind.Balances b h q =
     subst (λ x. sim_of p (world_step j w x) (after s kind.Balances b) ≡ moved j (sim_of p w s) (made_by p.script x kind.Balances)) (sym h)
-      (ap (budgeted (sim_of p (world_step j w Balance) (after s kind.Balances b))) (q (λ x. not_balances x) ∙ ap (λ x. rest (world_step j w x)) h))
+    (ap (budgeted (sim_of p (world_step j w Balance) (after s kind.Balances b))) (q (λ x. not_balances x) ∙ ap (λ x. rest (world_step j w x)) h))
 moved_after j p w s e kind.Drawn b h q = refl
 
 script_after : (j : Job) (p : Plan) (w : World) (s : Standing) (e : Event) (k : Kind) (b : ℕ) → (moved j (sim_of p w s) (made_by p.script e k)).script ≡ drop (after s k b).passed p.script
@@ -124,9 +124,9 @@ may_come words p wanted w s e k b plan h own is =
     let j : Job = record { setting = w.sched.setting; zero = λ q. false } in
     let m = next_comes words p (sim_of p w s) (record { threads = plan.threads; numbers = h.joins }) in
     let made : MayCome w e (drop s.passed p.script) (moved j (sim_of p w s) (next words p (sim_of p w s))).script
-          = made_comes j (sim_of p w s) (next words p (sim_of p w s)) e m (ap event_of (sym is) ∙ event_made p.script e k own) in
+    = made_comes j (sim_of p w s) (next words p (sim_of p w s)) e m (ap event_of (sym is) ∙ event_made p.script e k own) in
     subst (λ xs. MayCome w e (drop s.passed p.script) xs) (script_after j p w s e k b)
-      (subst (λ n. MayCome w e (drop s.passed p.script) (moved j (sim_of p w s) n).script) (sym is) made)
+    (subst (λ n. MayCome w e (drop s.passed p.script) (moved j (sim_of p w s) n).script) (sym is) made)
 
 -- and the simulation stands as well in the world that it leads to
 pub standing_after : (words : ℕ → ℕ) (p : Plan) (wanted : List ℕ) (j : Job) (w v : World) (s : Standing) (e : Event) (k : Kind) (b : ℕ) → IsPlan p → IsStanding p wanted w s → IsKindOf k e → IsLeft (key_count (shape_of w)) (length p.script) s k

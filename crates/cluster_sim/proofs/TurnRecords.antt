@@ -65,7 +65,7 @@ has_drawn {J} {B} {F} op tells p wanted number old new a b e k word budget h act
   words = words d.words;
   course = subst (λ (n : ℕ). Course (running op new) (word_of number) p wanted (sim_of p (world new) b.standing) b.tally n) (sym act.counted)
       (subst (λ (j : Job). Course j (word_of number) p wanted (sim_of p (world new) b.standing) b.tally (old.events + 1)) (sym (same_job op tells old new stays))
-        (course_more (running op old) (word_of number) p wanted (sim_of p (world old) a.standing) (sim_of p (world new) b.standing) a.tally b.tally old.events e d.course act.room few come.enabled chosen moves counted));
+      (course_more (running op old) (word_of number) p wanted (sim_of p (world old) a.standing) (sim_of p (world new) b.standing) a.tally b.tally old.events e d.course act.room few come.enabled chosen moves counted));
 }
   where
     come : MayCome (world old) e (drop a.standing.passed p.script) (drop (after a.standing k 0).passed p.script)

@@ -21,6 +21,7 @@ use cluster_world::World;
 
 /// An eviction may come at each turn that this divides, and a steal at each that the other does.
 const EVICT_EVERY: u64 = 32;
+
 const BALANCE_EVERY: u64 = 8;
 
 /// What comes next where the simulation stands so, and `word` is the word of its turn.
@@ -47,12 +48,7 @@ pub fn choose<J: JobSpec>(
 }
 
 /// What comes where the client still waits: the script's next event, if one is due.
-fn go_on<J: JobSpec>(
-    world: &World<J>,
-    plan: &SimPlan,
-    standing: &Standing,
-    word: u32,
-) -> Choice
+fn go_on<J: JobSpec>(world: &World<J>, plan: &SimPlan, standing: &Standing, word: u32) -> Choice
     requires going { world.now.course ≡ Going }
     requires passed { standing.now.passed ≤ length plan.now.script }
     requires threads { (1 ≤ plan.now.threads) × (plan.now.threads ≤ 16) }

@@ -145,7 +145,13 @@ fn simulated(
 /// One key on one worker.
 fn of_one_key(alloc: Global, number: u64) -> Result<SimEnd, SimError> {
     let shape = one_key(alloc)?;
-    simulated(alloc, Quotients { shape, first: 5 }, 0, &alone(alloc), number)
+    simulated(
+        alloc,
+        Quotients { shape, first: 5 },
+        0,
+        &alone(alloc),
+        number,
+    )
 }
 
 /// Two keys, of which the first is 4 or 0, on one worker.
@@ -157,7 +163,13 @@ fn of_two_keys(alloc: Global, first: u64, number: u64) -> Result<SimEnd, SimErro
 /// Two keys on two workers, of which one dies.
 fn of_a_loss(alloc: Global, number: u64) -> Result<SimEnd, SimError> {
     let shape = two_keys(alloc)?;
-    simulated(alloc, Quotients { shape, first: 4 }, 1, &losing(alloc)?, number)
+    simulated(
+        alloc,
+        Quotients { shape, first: 4 },
+        1,
+        &losing(alloc)?,
+        number,
+    )
 }
 
 /// What a simulation counted, in the order of its report, and the key to blame.
@@ -185,7 +197,16 @@ fn counts_of(end: &SimEnd) -> Counts {
 fn one_key_takes_nine_turns(rt: HostRuntime) -> Result<(), Fail> {
     let end = of_one_key(rt.alloc(), 0)?;
     assert_eq!(rt; end.turns, 9);
-    assert_eq!(rt; counts_of(&end), Counts { keys: 1, edges: 0, started: 1, losses: 0, zero: None });
+    assert_eq!(rt;
+        counts_of(&end),
+        Counts {
+            keys: 1,
+            edges: 0,
+            started: 1,
+            losses: 0,
+            zero: None
+        }
+    );
     Ok(())
 }
 
@@ -201,7 +222,16 @@ fn another_number_takes_as_many_turns(rt: HostRuntime) -> Result<(), Fail> {
 fn two_keys_take_thirteen_or_fourteen_turns(rt: HostRuntime) -> Result<(), Fail> {
     let end = of_two_keys(rt.alloc(), 4, 7)?;
     assert!(rt; end.turns == 13 || end.turns == 14);
-    assert_eq!(rt; counts_of(&end), Counts { keys: 2, edges: 1, started: 2, losses: 0, zero: None });
+    assert_eq!(rt;
+        counts_of(&end),
+        Counts {
+            keys: 2,
+            edges: 1,
+            started: 2,
+            losses: 0,
+            zero: None
+        }
+    );
     Ok(())
 }
 
@@ -217,7 +247,16 @@ fn a_zero_divisor_is_blamed(rt: HostRuntime) -> Result<(), Fail> {
 fn a_lost_worker_costs_a_task(rt: HostRuntime) -> Result<(), Fail> {
     let end = of_a_loss(rt.alloc(), 7)?;
     assert!(rt; end.turns == 18 || end.turns == 19);
-    assert_eq!(rt; counts_of(&end), Counts { keys: 2, edges: 1, started: 3, losses: 1, zero: None });
+    assert_eq!(rt;
+        counts_of(&end),
+        Counts {
+            keys: 2,
+            edges: 1,
+            started: 3,
+            losses: 1,
+            zero: None
+        }
+    );
     assert_eq!(rt; end.report.workers.as_slice(), &[(1, 1), (2, 2)]);
     Ok(())
 }

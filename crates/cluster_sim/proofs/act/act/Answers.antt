@@ -28,8 +28,8 @@ pub cause_of-requires : goal.cause_of-requires
 cause_of-requires g c =
     let e = c.in-Err.ensures in
     is_cause c.in-Err.error
-      (λ q. true≢false (sym c.requires.enabled ∙ (e.not_enabled.0 (ap (λ (x : StepError). Err x) q)).1))
-      (λ q. not_fed _ c.requires.going (e.stopped.0 (ap (λ (x : StepError). Err x) q)))
+    (λ q. true≢false (sym c.requires.enabled ∙ (e.not_enabled.0 (ap (λ (x : StepError). Err x) q)).1))
+    (λ q. not_fed _ c.requires.going (e.stopped.0 (ap (λ (x : StepError). Err x) q)))
 
 pub returns-in-Err-clause-stays : goal.returns-in-Err-clause-stays
 returns-in-Err-clause-stays g c = record { job = c.step.ensures.job; setting = c.step.ensures.setting; tells = c.step.ensures.tells }
@@ -38,6 +38,6 @@ pub returns-in-Err-clause-faults : goal.returns-in-Err-clause-faults
 returns-in-Err-clause-faults g c =
     let e = c.in-Err.ensures in
     let k = is_cause c.in-Err.error
-          (λ q. true≢false (sym c.requires.enabled ∙ (e.not_enabled.0 (ap (λ (x : StepError). Err x) q)).1))
-          (λ q. not_fed _ c.requires.going (e.stopped.0 (ap (λ (x : StepError). Err x) q))) in
+    (λ q. true≢false (sym c.requires.enabled ∙ (e.not_enabled.0 (ap (λ (x : StepError). Err x) q)).1))
+    (λ q. not_fed _ c.requires.going (e.stopped.0 (ap (λ (x : StepError). Err x) q))) in
     rw c.cause_of.ensures (counts_cause (Unit {0}) (Unit {0}) c.in-Err.error _ _ k e.faults)

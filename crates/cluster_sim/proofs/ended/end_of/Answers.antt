@@ -15,10 +15,10 @@ pub returns-then-has_all : goal.returns-then-has_all
 returns-then-has_all g c =
     let d = (world c.args.world.now).clients 1 in
     sym (over_all d c.args.wanted.now c.has_all.result c.requires.client.wants (λ k q. subst (λ (x : Shape). k < key_count x) (sym c.requires.shape) (c.requires.keys k q)) c.in-None.ensures (c.has_all.ensures ∙ ap (list_all d.got) c.as_slice.ensures)
-      ∙ ap (λ (b : Bool). cond b (Some None) None) c.if-has_all.true)
+    ∙ ap (λ (b : Bool). cond b (Some None) None) c.if-has_all.true)
 
 pub returns-else-has_all : goal.returns-else-has_all
 returns-else-has_all g c =
     let d = (world c.args.world.now).clients 1 in
     sym (over_all d c.args.wanted.now c.has_all.result c.requires.client.wants (λ k q. subst (λ (x : Shape). k < key_count x) (sym c.requires.shape) (c.requires.keys k q)) c.in-None.ensures (c.has_all.ensures ∙ ap (list_all d.got) c.as_slice.ensures)
-      ∙ ap (λ (b : Bool). cond b (Some None) None) c.if-has_all.false)
+    ∙ ap (λ (b : Bool). cond b (Some None) None) c.if-has_all.false)

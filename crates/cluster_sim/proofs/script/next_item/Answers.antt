@@ -14,14 +14,14 @@ returns-then-does_something-clause-step g c =
     let t = c.args.plan.now.threads in
     let xs = c.as_slice-script.result.now in
     subst (λ (ys : List Item). option_map (λ (s : Step). (s.event, drop s.passed ys)) c.step_of.result ≡ scripted t w (drop c.args.passed ys)) c.as_slice-script.ensures
-      (step_mapped t xs (get_or c.as_slice-script.result.now c.loop-at.at _) (c.loop-at.at + 1) (is_blocked w (get_or c.as_slice-script.result.now c.loop-at.at _)) c.step_of.result c.step_of.ensures
-        ∙ sym (c.loop-at.invariant ∙ script_comes t w xs c.loop-at.at (get_or c.as_slice-script.result.now c.loop-at.at _) c.loop-at-test.true (same_item _ c.loop-at.at _ c.loop-at-test.true) (sym c.is_reached.ensures ∙ c.if-is_reached.true) (c.does_something.ensures ∙ ap not c.if-does_something.true)))
+    (step_mapped t xs (get_or c.as_slice-script.result.now c.loop-at.at _) (c.loop-at.at + 1) (is_blocked w (get_or c.as_slice-script.result.now c.loop-at.at _)) c.step_of.result c.step_of.ensures
+    ∙ sym (c.loop-at.invariant ∙ script_comes t w xs c.loop-at.at (get_or c.as_slice-script.result.now c.loop-at.at _) c.loop-at-test.true (same_item _ c.loop-at.at _ c.loop-at-test.true) (sym c.is_reached.ensures ∙ c.if-is_reached.true) (c.does_something.ensures ∙ ap not c.if-does_something.true)))
 
 pub returns-then-does_something-clause-passed : goal.returns-then-does_something-clause-passed
 returns-then-does_something-clause-passed g c =
     let w = world c.args.world.now in
     subst (λ (ys : List Item). IsBefore c.args.passed c.step_of.result (length ys)) c.as_slice-script.ensures
-      (step_before c.args.plan.now.threads (get_or c.as_slice-script.result.now c.loop-at.at _) c.args.passed c.loop-at.at (length c.as_slice-script.result.now) (is_blocked w (get_or c.as_slice-script.result.now c.loop-at.at _)) c.step_of.result c.step_of.ensures (omega arith) c.loop-at-test.true)
+    (step_before c.args.plan.now.threads (get_or c.as_slice-script.result.now c.loop-at.at _) c.args.passed c.loop-at.at (length c.as_slice-script.result.now) (is_blocked w (get_or c.as_slice-script.result.now c.loop-at.at _)) c.step_of.result c.step_of.ensures (omega arith) c.loop-at-test.true)
 
 pub returns-else-is_reached-clause-step : goal.returns-else-is_reached-clause-step
 returns-else-is_reached-clause-step g c =
@@ -29,7 +29,7 @@ returns-else-is_reached-clause-step g c =
     let t = c.args.plan.now.threads in
     let xs = c.as_slice-script.result.now in
     subst (λ (ys : List Item). option_map (λ (s : Step). (s.event, drop s.passed ys)) None ≡ scripted t w (drop c.args.passed ys)) c.as_slice-script.ensures
-      (sym (c.loop-at.invariant ∙ script_waits t w xs c.loop-at.at (get_or c.as_slice-script.result.now c.loop-at.at _) c.loop-at-test.true (same_item _ c.loop-at.at _ c.loop-at-test.true) (sym c.is_reached.ensures ∙ c.if-is_reached.false)))
+    (sym (c.loop-at.invariant ∙ script_waits t w xs c.loop-at.at (get_or c.as_slice-script.result.now c.loop-at.at _) c.loop-at-test.true (same_item _ c.loop-at.at _ c.loop-at-test.true) (sym c.is_reached.ensures ∙ c.if-is_reached.false)))
 
 pub loop-at-preserved : goal.loop-at-preserved
 loop-at-preserved g c =
@@ -42,4 +42,4 @@ returns-clause-step g c =
     let t = c.args.plan.now.threads in
     let xs = c.as_slice-script.result.now in
     subst (λ (ys : List Item). option_map (λ (s : Step). (s.event, drop s.passed ys)) None ≡ scripted t w (drop c.args.passed ys)) c.as_slice-script.ensures
-      (sym (c.loop-at.invariant ∙ script_ends t w xs c.loop-at.at c.loop-at-test.false))
+    (sym (c.loop-at.invariant ∙ script_ends t w xs c.loop-at.at c.loop-at-test.false))

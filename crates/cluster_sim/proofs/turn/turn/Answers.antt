@@ -47,7 +47,7 @@ act-requires-clause-going g c = λ κs lives. c.requires.between.going
 pub act-requires-clause-enabled : goal.act-requires-clause-enabled
 act-requires-clause-enabled g c = λ κs lives.
     (chosen_comes (plan_of c.args.plan.now) c.args.wanted.now c.args.world.now c.args.run.now c.in-Make.event c.in-Make.kind c.word-word.result
-      (record { plan = c.requires.plan; between = c.requires.between; next = c.in-Make.ensures.next; own = c.in-Make.ensures.kind.0; some = c.in-Make.ensures.kind.1 })).enabled
+    (record { plan = c.requires.plan; between = c.requires.between; next = c.in-Make.ensures.next; own = c.in-Make.ensures.kind.0; some = c.in-Make.ensures.kind.1 })).enabled
 
 pub returns-in_err-act-in-Make-clause-turn : goal.returns-in_err-act-in-Make-clause-turn
 returns-in_err-act-in-Make-clause-turn g c =
@@ -58,7 +58,7 @@ pub returns-in_err-act-in-Make-clause-drawn : goal.returns-in_err-act-in-Make-cl
 returns-in_err-act-in-Make-clause-drawn g c number d =
     let p = err_from_is_err_and c.from_residual.result c.from_residual.ensures.1 in
     rw (p.1, p.2) (drawn_failed g.J.JobSpec.operation g.J.JobSpec.feed_tells (plan_of c.args.plan.now) c.args.wanted.now number c.args.world.now c.act.new.world c.args.run.now c.args.run.now _ d
-      (λ q. c.in_err-act-in-Make.ensures.turns (ap (λ (x : SimError). Err x) q)) (λ q. c.in_err-act-in-Make.ensures.spent_before (ap (λ (x : SimError). Err x) q)))
+    (λ q. c.in_err-act-in-Make.ensures.turns (ap (λ (x : SimError). Err x) q)) (λ q. c.in_err-act-in-Make.ensures.spent_before (ap (λ (x : SimError). Err x) q)))
 
 pub turns_left-requires : goal.turns_left-requires
 turns_left-requires g c = let b = c.type_bounds in (b.send-J, (b.send-J-Block, (b.send-J-Feed, (b.sync-J, (b.sync-J-Block, (b.sync-J-Feed, c.in_ok-act-in-Make.ensures.done.going))))))
@@ -72,16 +72,16 @@ go_on-requires g c =
 pub returns-in_ok-act-in-Make-clause-turn : goal.returns-in_ok-act-in-Make-clause-turn
 returns-in_ok-act-in-Make-clause-turn g c =
     has_gone g.J.JobSpec.operation g.J.JobSpec.feed_tells (plan_of c.args.plan.now) c.args.wanted.now c.args.world.now c.act.new.world c.args.run.now _ c.in-Make.event c.in-Make.kind c.word-word.result c.turns_left.result
-      (record { plan = c.requires.plan; between = c.requires.between; next = c.in-Make.ensures.next; own = c.in-Make.ensures.kind.0; some = c.in-Make.ensures.kind.1 })
-      c.in_ok-act-in-Make.ensures.done c.turns_left.ensures.small c.go_on.ensures.standing
+    (record { plan = c.requires.plan; between = c.requires.between; next = c.in-Make.ensures.next; own = c.in-Make.ensures.kind.0; some = c.in-Make.ensures.kind.1 })
+    c.in_ok-act-in-Make.ensures.done c.turns_left.ensures.small c.go_on.ensures.standing
 
 pub returns-in_ok-act-in-Make-clause-drawn : goal.returns-in_ok-act-in-Make-clause-drawn
 returns-in_ok-act-in-Make-clause-drawn g c number d =
     has_drawn g.J.JobSpec.operation g.J.JobSpec.feed_tells (plan_of c.args.plan.now) c.args.wanted.now number c.args.world.now c.act.new.world c.args.run.now _ c.in-Make.event c.in-Make.kind c.word-word.result c.turns_left.result
-      (record { plan = c.requires.plan; between = c.requires.between; next = c.in-Make.ensures.next; own = c.in-Make.ensures.kind.0; some = c.in-Make.ensures.kind.1 })
-      c.in_ok-act-in-Make.ensures.done c.act.ensures.stays (sym c.word-word.ensures) c.turns_left.ensures.bound c.go_on.ensures.standing (c.go_on.ensures.words number)
-      (λ ts short rare h. subst (λ (t : Tally). IsCountOf t (ts ++ (c.in-Make.event, message (world c.args.world.now) c.in-Make.event) ∷ [])) (sym c.go_on.ensures.tally) (c.in_ok-act-in-Make.ensures.counted ts short rare h))
-      d
+    (record { plan = c.requires.plan; between = c.requires.between; next = c.in-Make.ensures.next; own = c.in-Make.ensures.kind.0; some = c.in-Make.ensures.kind.1 })
+    c.in_ok-act-in-Make.ensures.done c.act.ensures.stays (sym c.word-word.ensures) c.turns_left.ensures.bound c.go_on.ensures.standing (c.go_on.ensures.words number)
+    (λ ts short rare h. subst (λ (t : Tally). IsCountOf t (ts ++ (c.in-Make.event, message (world c.args.world.now) c.in-Make.event) ∷ [])) (sym c.go_on.ensures.tally) (c.in_ok-act-in-Make.ensures.counted ts short rare h))
+    d
 
 pub returns-in_ok-act-in-Make-clause-stays : goal.returns-in_ok-act-in-Make-clause-stays
 returns-in_ok-act-in-Make-clause-stays g c = c.act.ensures.stays
