@@ -1,0 +1,84 @@
+-- A whole simulation, put together.
+use Rattle.std.proofs.Common.{◌≡◌, ℕ, ◌+◌, ◌≤◌, ◌<◌, true, List, [], ◌∷◌, ◌++◌, length, drop, Option, Some, None, refl, sym, ap, ◌∙◌, arith, subst}
+use Rattle.cluster_msgs.specs.Shape.{Shape, IsShape, key_count, deps_of}
+use Rattle.cluster_msgs.specs.Values.{val}
+use Rattle.cluster_msgs.specs.declared.events.Report.{Report}
+use Rattle.cluster_rules.specs.Derived.{is_in}
+use Rattle.cluster_rules.specs.Sched.{Setting}
+use Rattle.cluster_rules.specs.World.{Job, World as Cluster, opening, rest, shape_of}
+use Rattle.cluster_rules.specs.Report.{Taken, taken, report}
+use Rattle.cluster_rules.specs.Draw.{Plan, Sim, Verdict, Served, opening_events, sim_from, over}
+use Rattle.value_laws.specs.Blocks.{job_of}
+use Rattle.run_report.specs.Counts.{IsCountOf}
+use Rattle.cluster_world.specs.declared.state.State.{State}
+use Rattle.cluster_world.specs.Worlds.{cluster, world, setting}
+use Rattle.quiet_bound.proofs.WorldBound.{setting-world}
+use Rattle.cluster_sim.specs.Acts.{Stays, running}
+use Rattle.cluster_sim.specs.Courses.{Course}
+use Rattle.cluster_sim.specs.Drawn.{word_of, IsAtTurn}
+use Rattle.cluster_sim.specs.Plans.{IsPlan}
+use Rattle.cluster_sim.specs.Standing.{sim_of, IsStanding}
+use Rattle.cluster_sim.specs.Passing.{first_standing}
+use Rattle.cluster_sim.specs.Openings.{AreWanted, HasOpened}
+use Rattle.cluster_sim.specs.Turns.{IsBetween, IsDrawn, HasServed, HasPlayed}
+use Rattle.cluster_sim.specs.Simulations.{IsSimulated, IsReported, IsCut, IfBlamed}
+use Rattle.cluster_sim.specs.declared.standing.Standing.{Standing}
+use Rattle.cluster_sim.specs.declared.run.Run.{Run}
+use Rattle.cluster_sim.proofs.CourseLemmas.{course_start, course_end}
+use Rattle.cluster_sim.proofs.SimulateLemmas.{standing_first, blame_is}
+use Rattle.cluster_sim.proofs.ActLemmas.{same_job}
+use Rattle.cluster_sim.proofs.TurnLemmas.{budgeted}
+
+first_sim : (p : Plan) (w : Cluster) (b : ℕ) → b ≡ rest w → sim_of p w (first_standing b) ≡ sim_from p w
+first_sim p w b e = ap (budgeted (sim_of p w (first_standing b))) e
+
+-- a simulation that has opened stands before its first turn
+pub opened_between : {J B F : Type 0} (op : J → ℕ → List B → Option B) (tells : J → F → Type 0) (p : Plan) (wanted : List ℕ) (old new : State J B F) (r : Run) (b : ℕ) → IsPlan p → AreWanted (key_count (setting old).shape) wanted
+    → HasOpened op tells wanted p.workers (opening_events p wanted) old new r.tally → Stays tells old new → r.standing ≡ first_standing b → IsBetween p wanted new r
+opened_between {J} {B} {F} op tells p wanted old new r b plan keys h stays is = record {
+  going = h.going;
+  standing = subst (λ (s : Standing). IsStanding p wanted (world new) s) (sym is)
+      (standing_first p wanted (world new) (first_standing b) plan h.opened (λ k q. subst (λ (s : Setting). k < key_count s.shape) (sym same) (keys.keys k q)) refl refl refl);
+  turns = subst (λ (s : Standing). s.turns ≤ new.events) (sym is) (omega arith);
+}
+  where
+    same : (world new).sched.setting ≡ setting old
+    same = setting-world new ∙ stays.setting
+
+pub opened_drawn : {J B F : Type 0} (op : J → ℕ → List B → Option B) (tells : J → F → Type 0) (p : Plan) (wanted : List ℕ) (number : ℕ) (old new : State J B F) (r : Run) (b : ℕ)
+    → HasOpened op tells wanted p.workers (opening_events p wanted) old new r.tally → Stays tells old new → r.standing ≡ first_standing b → b ≡ rest (world new) → IsAtTurn r.words number 0 → tells old.job old.feed → IsDrawn op tells p wanted number new r
+opened_drawn op tells p wanted number old new r b h stays is bound words told = record {
+  told = stays.tells told;
+  reached = h.reaches told;
+  words = subst (λ (s : Standing). IsAtTurn r.words number s.turns) (sym is) words;
+  course = course_start (running op new) (word_of number) p wanted (world new) (sim_of p (world new) r.standing) r.tally new.events (h.made told)
+      (ap (λ (s : Standing). sim_of p (world new) s) is ∙ first_sim p (world new) b bound);
+}
+
+there : {J B F : Type 0} (op : J → ℕ → List B → Option B) (tells : J → F → Type 0) (p : Plan) (wanted : List ℕ) (number : ℕ) (v : Verdict) (old new : State J B F) (r : Run) → Stays tells old new → HasPlayed op tells p wanted number v new r
+    → Course (running op old) (word_of number) p wanted (sim_of p (world new) r.standing) r.tally new.events
+there op tells p wanted number v old new r stays h = subst (λ (j : Job). Course j (word_of number) p wanted (sim_of p (world new) r.standing) r.tally new.events) (same_job op tells old new stays) h.drawn.course
+
+-- its report, and that it is the simulation
+pub reported : {J B F : Type 0} (op : J → ℕ → List B → Option B) (tells : J → F → Type 0) (p : Plan) (wanted : List ℕ) (number : ℕ) (v : Verdict) (old new : State J B F) (r : Run) (made : Report) (g : Shape) → Stays tells old new → g ≡ (setting new).shape
+    → ((es : List Taken) → IsCountOf r.tally es → made ≡ report g es) → HasPlayed op tells p wanted number v new r → IsReported (running op old) (word_of number) p wanted v (world new) made
+reported op tells p wanted number v old new r made g stays shape count h =
+    let c = there op tells p wanted number v old new r stays h in record {
+      events = opening_events p wanted ++ c.later;
+      simulated = course_end (running op old) (word_of number) p wanted (sim_of p (world new) r.standing) r.tally new.events v c h.ends;
+      report = count _ c.made.counted ∙ ap (λ x. report x (taken (running op old) (opening (running op old)) (opening_events p wanted ++ c.later))) (shape ∙ ap (λ (s : Setting). s.shape) stays.setting);
+    }
+
+pub cut_off : {J B F : Type 0} (op : J → ℕ → List B → Option B) (tells : J → F → Type 0) (p : Plan) (wanted : List ℕ) (number : ℕ) (v : Verdict) (old new : State J B F) (r : Run) → Stays tells old new → HasPlayed op tells p wanted number v new r
+    → IsCut (running op old) (word_of number) p wanted v (world new)
+cut_off op tells p wanted number v old new r stays h =
+    let c = there op tells p wanted number v old new r stays h in record {
+      events = opening_events p wanted ++ c.later;
+      simulated = course_end (running op old) (word_of number) p wanted (sim_of p (world new) r.standing) r.tally new.events v c h.ends;
+    }
+
+pub blamed_by : {J B F : Type 0} (op : J → ℕ → List B → Option B) (tells : J → F → Type 0) (p : Plan) (wanted : List ℕ) (number : ℕ) (failure : Option ℕ) (old new : State J B F) (r : Run) (g : Shape) → IsShape g → g ≡ (setting new).shape → Stays tells old new
+    → HasServed p wanted failure new r → HasPlayed op tells p wanted number (Served r.standing.turns failure) new r → IfBlamed (deps_of (setting old).shape) (val (deps_of (setting old).shape) (op old.job)) wanted failure
+blamed_by op tells p wanted number failure old new r g sound shape stays served h =
+    let c = cut_off op tells p wanted number (Served r.standing.turns failure) old new r stays h in
+    blame_is (setting old) (op old.job) wanted c.events (world new) failure (subst IsShape (shape ∙ ap (λ (s : Setting). s.shape) stays.setting) sound) c.simulated.legal c.simulated.reached served.between.standing.client served.over

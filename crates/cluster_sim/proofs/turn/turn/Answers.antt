@@ -1,0 +1,87 @@
+use Rattle.std.proofs.Common.{Err, ◌≡◌, ◌++◌, ◌∷◌, [], ◌∙◌, sym, ap, refl, subst, arith}
+use Rattle.std.proofs.lemmas.Result.{err_from_is_err_and}
+use Rattle.cluster_rules.specs.Enabled.{message}
+use Rattle.cluster_rules.specs.Draw.{Next, verdict}
+use Rattle.cluster_world.specs.Worlds.{world}
+use Rattle.run_report.specs.Counts.{IsCountOf}
+use Rattle.run_report.specs.declared.tally.Tally.{Tally}
+use Rattle.cluster_sim.specs.declared.act.SimError.{SimError}
+use Rattle.cluster_sim.specs.Drawn.{word_of}
+use Rattle.cluster_sim.specs.Plans.{plan_of}
+use Rattle.cluster_sim.specs.Standing.{sim_of}
+use Rattle.cluster_sim.proofs.ActLemmas.{not_starved, stays_none, counts_as}
+use Rattle.cluster_sim.proofs.TurnLemmas.{can_pass}
+use Rattle.cluster_sim.proofs.TurnRecords.{IsChosen, chosen_comes, has_gone, has_drawn}
+use Rattle.cluster_sim.proofs.PlayLemmas.{turn_failed, drawn_failed}
+use Rattle.cluster_sim.proofs.turn.turn.Goals as goal
+
+pub choose-requires-clause-going : goal.choose-requires-clause-going
+choose-requires-clause-going g c = λ κs lives. c.requires.between.going
+
+pub choose-requires-clause-standing : goal.choose-requires-clause-standing
+choose-requires-clause-standing g c = λ κs lives. c.requires.between.standing
+
+pub returns-in-Over-clause-turn : goal.returns-in-Over-clause-turn
+returns-in-Over-clause-turn g c = record { stayed = record { world = refl; run = refl }; over = c.in-Over.ensures.kind }
+
+pub returns-in-Over-clause-drawn : goal.returns-in-Over-clause-drawn
+returns-in-Over-clause-drawn g c number d =
+    ap (λ (n : Next). verdict (sim_of (plan_of c.args.plan.now) (world c.args.world.now) c.args.run.now.standing) n) (sym (c.in-Over.ensures.next (word_of number) (sym d.words.word ∙ sym c.word-word.ensures)))
+
+pub returns-in-Over-clause-stays : goal.returns-in-Over-clause-stays
+returns-in-Over-clause-stays g c = stays_none _ _
+
+pub returns-in-Spent-clause-turn : goal.returns-in-Spent-clause-turn
+returns-in-Spent-clause-turn g c = record { world = refl; run = refl }
+
+pub returns-in-Spent-clause-drawn : goal.returns-in-Spent-clause-drawn
+returns-in-Spent-clause-drawn g c number d =
+    ap (λ (n : Next). verdict (sim_of (plan_of c.args.plan.now) (world c.args.world.now) c.args.run.now.standing) n) (sym (c.in-Spent.ensures.next (word_of number) (sym d.words.word ∙ sym c.word-word.ensures)))
+
+pub returns-in-Spent-clause-stays : goal.returns-in-Spent-clause-stays
+returns-in-Spent-clause-stays g c = stays_none _ _
+
+pub act-requires-clause-going : goal.act-requires-clause-going
+act-requires-clause-going g c = λ κs lives. c.requires.between.going
+
+pub act-requires-clause-enabled : goal.act-requires-clause-enabled
+act-requires-clause-enabled g c = λ κs lives.
+    (chosen_comes (plan_of c.args.plan.now) c.args.wanted.now c.args.world.now c.args.run.now c.in-Make.event c.in-Make.kind c.word-word.result
+    (record { plan = c.requires.plan; between = c.requires.between; next = c.in-Make.ensures.next; own = c.in-Make.ensures.kind.0; some = c.in-Make.ensures.kind.1 })).enabled
+
+pub returns-in_err-act-in-Make-clause-turn : goal.returns-in_err-act-in-Make-clause-turn
+returns-in_err-act-in-Make-clause-turn g c =
+    let p = err_from_is_err_and c.from_residual.result c.from_residual.ensures.1 in
+    rw (p.1, p.2) (turn_failed (plan_of c.args.plan.now) c.args.wanted.now c.args.world.now c.act.new.world c.args.run.now _ _ (λ q. c.in_err-act-in-Make.ensures.turns (ap (λ (x : SimError). Err x) q)) (λ q. c.in_err-act-in-Make.ensures.spent (ap (λ (x : SimError). Err x) q)))
+
+pub returns-in_err-act-in-Make-clause-drawn : goal.returns-in_err-act-in-Make-clause-drawn
+returns-in_err-act-in-Make-clause-drawn g c number d =
+    let p = err_from_is_err_and c.from_residual.result c.from_residual.ensures.1 in
+    rw (p.1, p.2) (drawn_failed g.J.JobSpec.operation g.J.JobSpec.feed_tells (plan_of c.args.plan.now) c.args.wanted.now number c.args.world.now c.act.new.world c.args.run.now c.args.run.now _ d
+    (λ q. c.in_err-act-in-Make.ensures.turns (ap (λ (x : SimError). Err x) q)) (λ q. c.in_err-act-in-Make.ensures.spent_before (ap (λ (x : SimError). Err x) q)))
+
+pub turns_left-requires : goal.turns_left-requires
+turns_left-requires g c = let b = c.type_bounds in (b.send-J, (b.send-J-Block, (b.send-J-Feed, (b.sync-J, (b.sync-J-Block, (b.sync-J-Feed, c.in_ok-act-in-Make.ensures.done.going))))))
+
+pub go_on-requires : goal.go_on-requires
+go_on-requires g c =
+    let t = c.requires.between.turns in
+    let r = c.in_ok-act-in-Make.ensures.done.room in
+    can_pass _ _ c.args.run.now.standing c.in-Make.kind c.in-Make.ensures.kind.1 (omega (arith, t, r))
+
+pub returns-in_ok-act-in-Make-clause-turn : goal.returns-in_ok-act-in-Make-clause-turn
+returns-in_ok-act-in-Make-clause-turn g c =
+    has_gone g.J.JobSpec.operation g.J.JobSpec.feed_tells (plan_of c.args.plan.now) c.args.wanted.now c.args.world.now c.act.new.world c.args.run.now _ c.in-Make.event c.in-Make.kind c.word-word.result c.turns_left.result
+    (record { plan = c.requires.plan; between = c.requires.between; next = c.in-Make.ensures.next; own = c.in-Make.ensures.kind.0; some = c.in-Make.ensures.kind.1 })
+    c.in_ok-act-in-Make.ensures.done c.turns_left.ensures.small c.go_on.ensures.standing
+
+pub returns-in_ok-act-in-Make-clause-drawn : goal.returns-in_ok-act-in-Make-clause-drawn
+returns-in_ok-act-in-Make-clause-drawn g c number d =
+    has_drawn g.J.JobSpec.operation g.J.JobSpec.feed_tells (plan_of c.args.plan.now) c.args.wanted.now number c.args.world.now c.act.new.world c.args.run.now _ c.in-Make.event c.in-Make.kind c.word-word.result c.turns_left.result
+    (record { plan = c.requires.plan; between = c.requires.between; next = c.in-Make.ensures.next; own = c.in-Make.ensures.kind.0; some = c.in-Make.ensures.kind.1 })
+    c.in_ok-act-in-Make.ensures.done c.act.ensures.stays (sym c.word-word.ensures) c.turns_left.ensures.bound c.go_on.ensures.standing (c.go_on.ensures.words number)
+    (λ ts short rare h. subst (λ (t : Tally). IsCountOf t (ts ++ (c.in-Make.event, message (world c.args.world.now) c.in-Make.event) ∷ [])) (sym c.go_on.ensures.tally) (c.in_ok-act-in-Make.ensures.counted ts short rare h))
+    d
+
+pub returns-in_ok-act-in-Make-clause-stays : goal.returns-in_ok-act-in-Make-clause-stays
+returns-in_ok-act-in-Make-clause-stays g c = c.act.ensures.stays

@@ -1,0 +1,97 @@
+use Rattle.std.proofs.Common.{Err, ◌≡◌, ◌<◌, ◌∙◌, sym, ap, subst}
+use Rattle.cluster_msgs.specs.Shape.{Shape, key_count}
+use Rattle.cluster_world.specs.Worlds.{world}
+use Rattle.cluster_sim.specs.declared.act.SimError.{SimError}
+use Rattle.cluster_sim.specs.declared.ended.Ending.{Ending}
+use Rattle.cluster_sim.specs.declared.whole.SimEnd.{SimEnd}
+use Rattle.cluster_sim.specs.Plans.{plan_of}
+use Rattle.std.proofs.lemmas.Result.{err_from_is_err_and}
+use Rattle.cluster_sim.proofs.ActLemmas.{not_starved, stays_both, counts_as, counts_from}
+use Rattle.cluster_sim.proofs.PlayLemmas.{spent_play, turns_play, unfinished_play, same_error}
+use Rattle.cluster_sim.proofs.SimulateLemmas.{served_is}
+use Rattle.cluster_sim.proofs.SimulateRecords.{opened_between, opened_drawn, reported, cut_off, blamed_by}
+use Rattle.cluster_sim.proofs.whole.simulate.Goals as goal
+
+pub play-requires-clause-between : goal.play-requires-clause-between
+play-requires-clause-between g c = λ κs lives.
+    opened_between _ _ (plan_of c.args.plan.now) c.args.wanted.now c.args.world.now c.make_opening.new.world _ c.rest.result c.requires.plan c.requires.wanted c.in_ok-make_opening.ensures.opened c.make_opening.ensures.stays c.new.ensures
+
+pub returns-clause-served : goal.returns-clause-served
+returns-clause-served g c told =
+    let d = opened_drawn _ _ (plan_of c.args.plan.now) c.args.wanted.now c.args.number c.args.world.now c.make_opening.new.world _ c.rest.result c.in_ok-make_opening.ensures.opened c.make_opening.ensures.stays c.new.ensures (c.rest.ensures.bound (not_starved _ c.in_ok-make_opening.ensures.opened.going)) c.new-2.ensures told in
+    reported _ _ (plan_of c.args.plan.now) c.args.wanted.now c.args.number _ c.args.world.now c.play.new.world c.play.new.run c.in_ok-report.report c.shape-2.result.now
+    (stays_both _ _ _ _ c.make_opening.ensures.stays c.play.ensures.stays) c.shape-2.ensures.setting c.in_ok-report.ensures (c.in_ok-end.ensures.drawn c.args.number d)
+
+pub returns-clause-all : goal.returns-clause-all
+returns-clause-all g c =
+    let s = c.in_ok-end.ensures.play in
+    served_is (world c.play.new.world) c.args.wanted.now c.in_ok-end.end.failure s.between.standing.client (λ k q. subst (λ (x : Shape). k < key_count x) (sym s.between.standing.shape) (s.between.standing.keys k q)) s.over
+
+pub returns-clause-blame : goal.returns-clause-blame
+returns-clause-blame g c told =
+    let d = opened_drawn _ _ (plan_of c.args.plan.now) c.args.wanted.now c.args.number c.args.world.now c.make_opening.new.world _ c.rest.result c.in_ok-make_opening.ensures.opened c.make_opening.ensures.stays c.new.ensures (c.rest.ensures.bound (not_starved _ c.in_ok-make_opening.ensures.opened.going)) c.new-2.ensures told in
+    blamed_by _ _ (plan_of c.args.plan.now) c.args.wanted.now c.args.number c.in_ok-end.end.failure c.args.world.now c.play.new.world c.play.new.run c.shape.result.now c.sound.ensures c.shape.ensures.setting
+    (stays_both _ _ _ _ c.make_opening.ensures.stays c.play.ensures.stays) c.in_ok-end.ensures.play (c.in_ok-end.ensures.drawn c.args.number d)
+
+pub returns-clause-stays : goal.returns-clause-stays
+returns-clause-stays g c = stays_both _ _ _ _ c.make_opening.ensures.stays c.play.ensures.stays
+
+-- where the opening failed
+pub returns-in_err-make_opening-clause-faults : goal.returns-in_err-make_opening-clause-faults
+returns-in_err-make_opening-clause-faults g c =
+    let p = err_from_is_err_and c.from_residual.result c.from_residual.ensures.1 in
+    rw (p.1, p.2) (counts_as (Unit {0}) SimEnd c.in_err-make_opening.field-0.0 _ _ c.in_err-make_opening.ensures.faults)
+
+pub returns-in_err-make_opening-clause-spent : goal.returns-in_err-make_opening-clause-spent
+returns-in_err-make_opening-clause-spent g c q =
+    let p = err_from_is_err_and c.from_residual.result c.from_residual.ensures.1 in
+    absurd (c.in_err-make_opening.ensures.spent (ap (λ (x : SimError). Err x) (sym p.2 ∙ same_error _ _ (sym p.1 ∙ q))))
+
+pub returns-in_err-make_opening-clause-cut_off : goal.returns-in_err-make_opening-clause-cut_off
+returns-in_err-make_opening-clause-cut_off g c q told =
+    let p = err_from_is_err_and c.from_residual.result c.from_residual.ensures.1 in
+    absurd (c.in_err-make_opening.ensures.spent (ap (λ (x : SimError). Err x) (sym p.2 ∙ same_error _ _ (sym p.1 ∙ q))))
+
+pub returns-in_err-make_opening-clause-turns : goal.returns-in_err-make_opening-clause-turns
+returns-in_err-make_opening-clause-turns g c q told =
+    let p = err_from_is_err_and c.from_residual.result c.from_residual.ensures.1 in
+    absurd (c.in_err-make_opening.ensures.turns (ap (λ (x : SimError). Err x) (sym p.2 ∙ same_error _ _ (sym p.1 ∙ q))))
+
+-- where the play failed
+pub returns-in_err-end-clause-faults : goal.returns-in_err-end-clause-faults
+returns-in_err-end-clause-faults g c =
+    let p = err_from_is_err_and c.from_residual-in_err-end.result c.from_residual-in_err-end.ensures.1 in
+    rw (p.1, p.2) (counts_from Ending SimEnd c.in_err-end.field-0.0 _ _ _ c.in_ok-make_opening.ensures.faults c.in_err-end.ensures.faults)
+
+pub returns-in_err-end-clause-spent : goal.returns-in_err-end-clause-spent
+returns-in_err-end-clause-spent g c q =
+    let p = err_from_is_err_and c.from_residual-in_err-end.result c.from_residual-in_err-end.ensures.1 in
+    spent_play (plan_of c.args.plan.now) c.args.wanted.now c.play.new.world c.play.new.run _ (sym p.2 ∙ same_error _ _ (sym p.1 ∙ q)) c.in_err-end.ensures.play
+
+pub returns-in_err-end-clause-turns : goal.returns-in_err-end-clause-turns
+returns-in_err-end-clause-turns g c q told =
+    let p = err_from_is_err_and c.from_residual-in_err-end.result c.from_residual-in_err-end.ensures.1 in
+    let d = opened_drawn _ _ (plan_of c.args.plan.now) c.args.wanted.now c.args.number c.args.world.now c.make_opening.new.world _ c.rest.result c.in_ok-make_opening.ensures.opened c.make_opening.ensures.stays c.new.ensures (c.rest.ensures.bound (not_starved _ c.in_ok-make_opening.ensures.opened.going)) c.new-2.ensures told in
+    cut_off _ _ (plan_of c.args.plan.now) c.args.wanted.now c.args.number _ c.args.world.now c.play.new.world c.play.new.run
+    (stays_both _ _ _ _ c.make_opening.ensures.stays c.play.ensures.stays) (turns_play _ _ (plan_of c.args.plan.now) c.args.wanted.now c.args.number c.play.new.world c.play.new.run _ (sym p.2 ∙ same_error _ _ (sym p.1 ∙ q)) (c.in_err-end.ensures.drawn c.args.number d))
+
+pub returns-in_err-end-clause-cut_off : goal.returns-in_err-end-clause-cut_off
+returns-in_err-end-clause-cut_off g c q told =
+    let p = err_from_is_err_and c.from_residual-in_err-end.result c.from_residual-in_err-end.ensures.1 in
+    let d = opened_drawn _ _ (plan_of c.args.plan.now) c.args.wanted.now c.args.number c.args.world.now c.make_opening.new.world _ c.rest.result c.in_ok-make_opening.ensures.opened c.make_opening.ensures.stays c.new.ensures (c.rest.ensures.bound (not_starved _ c.in_ok-make_opening.ensures.opened.going)) c.new-2.ensures told in
+    unfinished_play _ _ (plan_of c.args.plan.now) c.args.wanted.now c.args.number c.args.world.now c.play.new.world c.play.new.run c.in_err-end.field-0.0 (stays_both _ _ _ _ c.make_opening.ensures.stays c.play.ensures.stays)
+    (sym p.2 ∙ same_error _ _ (sym p.1 ∙ q)) (c.in_err-end.ensures.drawn c.args.number d)
+
+pub returns-clause-reached : goal.returns-clause-reached
+returns-clause-reached g c told =
+    let d = opened_drawn _ _ (plan_of c.args.plan.now) c.args.wanted.now c.args.number c.args.world.now c.make_opening.new.world _ c.rest.result c.in_ok-make_opening.ensures.opened c.make_opening.ensures.stays c.new.ensures (c.rest.ensures.bound (not_starved _ c.in_ok-make_opening.ensures.opened.going)) c.new-2.ensures told in
+    (c.in_ok-end.ensures.drawn c.args.number d).drawn.reached
+
+pub returns-in_err-end-clause-stays : goal.returns-in_err-end-clause-stays
+returns-in_err-end-clause-stays g c = stays_both _ _ _ _ c.make_opening.ensures.stays c.play.ensures.stays
+
+pub returns-in_err-report-clause-stays : goal.returns-in_err-report-clause-stays
+returns-in_err-report-clause-stays g c = stays_both _ _ _ _ c.make_opening.ensures.stays c.play.ensures.stays
+
+pub returns-clause-faults : goal.returns-clause-faults
+returns-clause-faults g c = c.in_ok-end.ensures.faults ∙ c.in_ok-make_opening.ensures.faults

@@ -1,0 +1,10 @@
+pub mod Drawn
+pub mod Plans
+pub mod Standing
+pub mod Passing
+pub mod Scripts
+pub mod Courses
+pub mod Acts
+pub mod Turns
+pub mod Openings
+pub mod Simulations

@@ -1,0 +1,48 @@
+-- What a simulation made, and how it ended.
+use Rattle.std.specs.Prelude.{◌≡◌, ◌↔◌, ℕ, ◌+◌, true, List, [], ◌++◌, Option, Some, None, is_some, length}
+use Rattle.cluster_msgs.specs.declared.events.Event.{Event}
+use Rattle.cluster_msgs.specs.declared.events.Report.{Report}
+use Rattle.cluster_msgs.specs.Values.{faulty, needed}
+use Rattle.cluster_rules.specs.Derived.{is_in}
+use Rattle.cluster_rules.specs.World.{Job, World, opening}
+use Rattle.cluster_rules.specs.Runs.{legal, reached, run_from}
+use Rattle.cluster_rules.specs.Report.{taken, report}
+use Rattle.cluster_rules.specs.Draw.{Plan, Sim, Verdict, Draw, opening_events, sim_from, next, event_of}
+use Rattle.cluster_sim.specs.Courses.{DrawsTo}
+
+-- exactly the events that the rules draw, to this end. They are legal and led to this world
+pub record IsSimulated (j : Job) (words : ℕ → ℕ) (p : Plan) (wanted : List ℕ) (es : List Event) (v : Verdict) (w : World) : Type 0 where
+  pub drawn : Draw j words p wanted es v
+  pub legal : legal j es
+  pub reached : reached j es ≡ w
+
+-- the simulation of some events, with their report
+pub record IsReported (j : Job) (words : ℕ → ℕ) (p : Plan) (wanted : List ℕ) (v : Verdict) (w : World) (r : Report) : Type 0 where
+  pub events : List Event
+  pub simulated : IsSimulated j words p wanted events v w
+  pub report : r ≡ report j.setting.shape (taken j (opening j) events)
+
+-- the same, whose report nobody gets
+pub record IsCut (j : Job) (words : ℕ → ℕ) (p : Plan) (wanted : List ℕ) (v : Verdict) (w : World) : Type 0 where
+  pub events : List Event
+  pub simulated : IsSimulated j words p wanted events v w
+
+-- so many of its events were made, one after another, and no end was reached
+pub record IsUnfinished (j : Job) (words : ℕ → ℕ) (p : Plan) (wanted : List ℕ) (many : ℕ) : Type 0 where
+  pub later : List Event
+  pub stands : Sim
+  pub drawn : DrawsTo j words p (sim_from p (run_from j (opening j) (opening_events p wanted))) later stands
+  pub count : length (opening_events p wanted ++ later) ≡ many
+
+-- the client has got all that is wanted
+abbrev pub HasAll : World → List ℕ → Type 0
+HasAll w wanted = (k : ℕ) → is_in k wanted ≡ true → (w.clients 1).got k ≡ true
+
+-- a blame: a key that is needed, and whose own operation meets a zero divisor
+pub record IsNeededFault {B : Type 0} (deps : ℕ → List ℕ) (value : ℕ → Option B) (wanted : List ℕ) (b : ℕ) : Type 0 where
+  pub faulty : faulty deps value b ≡ true
+  pub needed : needed deps wanted b ≡ true
+
+abbrev pub IfBlamed : {B : Type 0} → (ℕ → List ℕ) → (ℕ → Option B) → List ℕ → Option ℕ → Type 0
+IfBlamed deps value wanted None = Unit {0}
+IfBlamed deps value wanted (Some b) = IsNeededFault deps value wanted b

@@ -1,0 +1,94 @@
+//! Whether the client's wait is over.
+ghost use Rattle.std.specs.Prelude.{◌≡◌, ◌<◌, ℕ, true, false, is_some, find, option_and_then, Some, None};
+ghost use Rattle.std.specs.List.{list_all};
+ghost use Rattle.std.specs.Option.{option_map};
+ghost use Rattle.cluster_rules.specs.Client.{client_keys};
+ghost use Rattle.cluster_rules.specs.Derived.{is_in};
+ghost use Rattle.cluster_rules.specs.World.{shape_of};
+ghost use Rattle.cluster_rules.specs.Draw.{over};
+ghost use Rattle.cluster_msgs.specs.Shape.{key_count};
+ghost use Rattle.cluster_world.specs.Worlds.{world as world_of};
+ghost use Rattle.cluster_sim.specs.Standing.{IsFor};
+
+use cluster_msgs::{End, JobSpec, KeyList};
+use cluster_world::World;
+
+/// The client whose wait a simulation is.
+pub const CLIENT: u32 = 1;
+
+/// The end of a simulation: the key to blame, where the client was told of a failure.
+#[derive(Clone, Copy)]
+pub struct Ending {
+    pub failure: Option<u32>,
+}
+
+/// The end, once the client has failed on a key, of which the least counts, or has got all that it wants.
+pub fn end_of<J: JobSpec>(world: &World<J>, wanted: &KeyList) -> Option<Ending>
+    requires client { IsFor wanted.now ((world_of world.now).clients 1) }
+    requires shape { ((world_of world.now).clients 1).shape ≡ shape_of (world_of world.now) }
+    requires keys { (k : ℕ) → is_in k wanted.now ≡ true → k < key_count (shape_of (world_of world.now)) }
+    ensures { option_map (λ e. e.failure) result ≡ over ((world_of world.now).clients 1) }
+{
+    match least_failure(world) {
+        Some(blame) => Some(Ending {
+            failure: Some(blame),
+        }),
+        None => {
+            if has_all(world, wanted.as_slice()) {
+                Some(Ending { failure: None })
+            } else {
+                None
+            }
+        }
+    }
+}
+
+/// The blame of the least key that the client has failed on.
+fn least_failure<J: JobSpec>(world: &World<J>) -> Option<u32>
+    requires fresh { (k : ℕ) → is_some (((world_of world.now).clients 1).failed k) ≡ true → ((world_of world.now).clients 1).got k ≡ false }
+    requires shape { ((world_of world.now).clients 1).shape ≡ shape_of (world_of world.now) }
+    ensures { let c = (world_of world.now).clients 1 in result ≡ option_and_then c.failed (find (λ k. is_some (c.failed k)) (client_keys c)) }
+{
+    let count = world.shape().keys();
+    for key in 0..count {
+        let failure = failure_of(world, key);
+        if failure.is_some() {
+            return failure;
+        }
+    }
+    None
+}
+
+/// The blame of a key that the client has failed on, and hasn't got.
+fn failure_of<J: JobSpec>(world: &World<J>, key: u32) -> Option<u32>
+    requires { is_some (((world_of world.now).clients 1).failed key) ≡ true → ((world_of world.now).clients 1).got key ≡ false }
+    ensures { result ≡ ((world_of world.now).clients 1).failed key }
+{
+    match world.done(CLIENT, key) {
+        Some(End::Erred { blame }) => Some(blame),
+        Some(End::Got) => None,
+        None => None,
+    }
+}
+
+/// Whether the client has got each of these keys.
+fn has_all<J: JobSpec>(world: &World<J>, keys: &[u32]) -> bool
+    ensures { result ≡ list_all ((world_of world.now).clients 1).got keys.now }
+{
+    for key in keys {
+        if !has_got(world, *key) {
+            return false;
+        }
+    }
+    true
+}
+
+fn has_got<J: JobSpec>(world: &World<J>, key: u32) -> bool
+    ensures { result ≡ ((world_of world.now).clients 1).got key }
+{
+    match world.done(CLIENT, key) {
+        Some(End::Got) => true,
+        Some(End::Erred { .. }) => false,
+        None => false,
+    }
+}

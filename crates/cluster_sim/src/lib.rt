@@ -1,0 +1,27 @@
+//! A simulated cluster: which event comes next is drawn from a number, so that the same number makes the same run.
+//!
+//! `cluster_world` stands below, with the world whose events are made, `quiet_bound`, with the bound that is its budget of
+//! turns, `run_report`, with the report, and `cluster_rules`, with the definition of the events that are drawn. The program
+//! stands above. It carries its share of *value correctness*: exactly the events that the rules draw are made, and where the
+//! client was told of a failure, a faulty key that is needed is named. It always returns.
+#![tactic(auto)]
+
+pub mod act;
+pub mod choice;
+mod choose;
+pub mod ended;
+mod opening;
+pub mod plan;
+pub mod run;
+pub mod script;
+pub mod standing;
+mod turn;
+pub mod whole;
+pub mod words;
+
+pub use act::SimError;
+pub use plan::SimPlan;
+pub use whole::{SimEnd, simulate};
+
+#[cfg(test)]
+mod tests;

@@ -1,0 +1,32 @@
+//! A simulation that goes on.
+ghost use Rattle.std.specs.Prelude.{◌≡◌, ℕ};
+ghost use Rattle.cluster_sim.specs.Drawn.{IsAtTurn};
+ghost use Rattle.cluster_sim.specs.Passing.{after, CanPass};
+
+use crate::choice::Kind;
+use crate::standing::Standing;
+use crate::words::Words;
+use run_report::Tally;
+
+/// Where the simulation stands, the words to come, and the counts of its events.
+#[derive(Drop)]
+pub struct Run {
+    pub standing: Standing,
+    pub words: Words,
+    pub tally: Tally,
+}
+
+impl Run {
+    /// Goes on after an event of this kind, where `budget` is the bound of the world that it led to.
+    pub fn go_on(&mut self, kind: Kind, budget: u128)
+        requires { CanPass self.old.standing kind }
+        ensures standing { self.new.standing ≡ after self.old.standing kind budget }
+        ensures words { (number : ℕ) → IsAtTurn self.old.words number self.old.standing.turns → IsAtTurn self.new.words number self.new.standing.turns }
+        ensures tally { self.new.tally ≡ self.old.tally }
+    {
+        self.standing.pass(kind, budget);
+        if let Kind::Drawn = kind {
+            self.words.advance();
+        }
+    }
+}

@@ -1,0 +1,115 @@
+//! Whole simulations.
+ghost use Rattle.std.specs.Prelude.{◌≡◌, ◌↔◌, ℕ, None, Err, IfOk, OnOk};
+ghost use Rattle.cluster_msgs.specs.Shape.{key_count, deps_of};
+ghost use Rattle.cluster_msgs.specs.Values.{val};
+ghost use Rattle.cluster_rules.specs.Draw.{Served, OutOfTurns};
+ghost use Rattle.cluster_world.specs.Worlds.{cluster, world as world_of, setting, event_limit, IsReached};
+ghost use Rattle.cluster_sim.specs.Acts.{CountsSim, Stays, running};
+ghost use Rattle.cluster_sim.specs.Drawn.{word_of};
+ghost use Rattle.cluster_sim.specs.Plans.{plan_of, IsPlan};
+ghost use Rattle.cluster_sim.specs.Openings.{IsOpening, AreWanted};
+ghost use Rattle.cluster_sim.specs.Turns.{IsBetween, IsDrawn, AfterPlay, DrawnPlay};
+ghost use Rattle.cluster_sim.specs.Simulations.{IsReported, IsCut, IsUnfinished, HasAll, IfBlamed};
+
+use crate::act::SimError;
+use crate::ended::Ending;
+use crate::opening::make_opening;
+use crate::plan::SimPlan;
+use crate::run::Run;
+use crate::standing::Standing;
+use crate::turn::turn;
+use crate::words::Words;
+use cluster_msgs::{JobSpec, KeyList, Report};
+use cluster_world::World;
+use quiet_bound::rest;
+use run_report::Tally;
+use std::alloc::Global;
+
+/// How a simulation ended: after so many turns, with the report of its events, and with the key to blame where the client
+/// was told of a failure.
+#[derive(Debug, Drop)]
+pub struct SimEnd {
+    pub turns: u64,
+    pub report: Report,
+    pub zero: Option<u32>,
+}
+
+/// Simulates a cluster until client 1 has got all wanted keys or was told of a failure: of those that it failed on, the
+/// least key's is told. The events are exactly those that the rules draw by the words of `rand_pcg`'s
+/// `Lcg64Xsh32::new(number, 1)`, one word a turn; where the world's feed tells what it holds, each outcome is that of the
+/// job's definition. It always returns.
+///
+/// # Errors
+/// `Turns` exactly where no turn is left of the bound on quiet runs, or nothing moves. `Feed` only where the feed's count of
+/// faults rose in this call. `Spent` only once the world took 2^40 events. `OutOfMemory` where no memory is left.
+pub fn simulate<J: JobSpec>(
+    alloc: Global,
+    world: &mut World<J>,
+    number: u64,
+    plan: &SimPlan,
+    wanted: &KeyList,
+) -> Result<SimEnd, SimError>
+    requires plan { IsPlan (plan_of plan.now) }
+    requires opening { IsOpening J.operation world.old }
+    requires wanted { AreWanted (key_count (setting world.old).shape) wanted.now }
+
+    // The events are those that are drawn, to this end, with their report.
+    ensures served { IfOk result (λ end. J.feed_tells world.old.job world.old.feed →
+        IsReported (running J.operation world.old) (word_of number) (plan_of plan.now) wanted.now (Served end.turns end.zero) (world_of world.new) end.report) }
+    ensures turns { result ≡ Err SimError.Turns → J.feed_tells world.old.job world.old.feed →
+        IsCut (running J.operation world.old) (word_of number) (plan_of plan.now) wanted.now OutOfTurns (world_of world.new) }
+
+    ensures reached { OnOk result (J.feed_tells world.old.job world.old.feed → IsReached (setting world.new) (J.operation world.new.job) (cluster world.new)) }
+
+    // A failure names a needed key at fault, and comes exactly where the client hasn't got all.
+    ensures all { IfOk result (λ end. (end.zero ≡ None) ↔ HasAll (world_of world.new) wanted.now) }
+    ensures blame { IfOk result (λ end. J.feed_tells world.old.job world.old.feed →
+        IfBlamed (deps_of (setting world.old).shape) (val (deps_of (setting world.old).shape) (J.operation world.old.job)) wanted.now end.zero) }
+
+    // The causes of what is no result, and what stays.
+    ensures faults { CountsSim result (J.fault_count world.old.feed) (J.fault_count world.new.feed) }
+    ensures spent { result ≡ Err SimError.Spent → world.new.events ≡ event_limit }
+    ensures cut_off { result ≡ Err SimError.Spent → J.feed_tells world.old.job world.old.feed →
+        IsUnfinished (running J.operation world.old) (word_of number) (plan_of plan.now) wanted.now event_limit }
+    ensures stays { Stays J.feed_tells world.old world.new }
+{
+    let mut tally = Tally::new(alloc);
+    make_opening(world, plan, wanted, &mut tally)?;
+    let mut run = Run {
+        standing: Standing::new(rest(world)),
+        words: Words::new(number),
+        tally,
+    };
+    let end = play(world, plan, wanted, &mut run)?;
+    world.shape().sound();
+    let report = run.tally.report(alloc, world.shape())?;
+    Ok(SimEnd {
+        turns: run.standing.turns,
+        report,
+        zero: end.failure,
+    })
+}
+
+/// Makes the events of a simulation that has opened, up to its end.
+fn play<J: JobSpec>(
+    world: &mut World<J>,
+    plan: &SimPlan,
+    wanted: &KeyList,
+    run: &mut Run,
+) -> Result<Ending, SimError>
+    requires plan { IsPlan (plan_of plan.now) }
+    requires between { IsBetween (plan_of plan.now) wanted.now world.old run.old }
+    ensures play { AfterPlay (plan_of plan.now) wanted.now world.new run.new result }
+    ensures drawn { (number : ℕ) → IsDrawn J.operation J.feed_tells (plan_of plan.now) wanted.now number world.old run.old →
+        DrawnPlay J.operation J.feed_tells (plan_of plan.now) wanted.now number world.new run.new result }
+    ensures stays { Stays J.feed_tells world.old world.new }
+    ensures faults { CountsSim result (J.fault_count world.old.feed) (J.fault_count world.new.feed) }
+{
+    'turns: loop {
+        let next = turn(world, plan, wanted, run)?;
+        match next {
+            Some(end) => return Ok(end),
+            None => {}
+        }
+    }
+}
