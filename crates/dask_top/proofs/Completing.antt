@@ -1,6 +1,6 @@
 -- A job ends as its text, its inputs and its values say where nothing failed.
-use Rattle.std.proofs.Common.{◌≡◌, ℕ, ℤ, List, [], ◌∷◌, get_or, refl, ap, sym, ◌∙◌, subst, inl, inr, codes, Option, Some, None, Ok, Err}
-use Rattle.std.specs.Prelude.{◌⊎◌, IfSome, IsSome, IsSomeAnd, MatchOption}
+use Rattle.std.proofs.Common.{◌≡◌, ℕ, ℤ, ◌≤◌, ◌<◌, List, [], ◌∷◌, map, length, get_or, refl, ap, sym, ◌∙◌, subst, inl, inr, arith, codes, Option, Some, None, Ok, Err}
+use Rattle.std.specs.Prelude.{◌⊎◌, IfSome, IsSome, IsSomeAnd}
 use Rattle.io_edge.specs.View.{View, Files}
 use Rattle.nd_shape.specs.Block.{Array}
 use Rattle.npy_codec.specs.declared.head.Head.{Head}
@@ -17,9 +17,16 @@ use Rattle.job_text.specs.declared.error.JobError.{JobError}
 use Rattle.job_text.specs.declared.error.JobKind.TheVariants as Kinds
 use Rattle.job_text.specs.Jobs.{Parts, IsJob, IsRefused}
 use Rattle.dask_top.specs.declared.answer.End.{End}
-use Rattle.dask_top.specs.declared.answer.End.TheVariants.{Words, Job, Limit, Ran}
-use Rattle.dask_top.specs.Answers.{Answers, Cause, Completes, EndsByInputs, EndsByText, MeetNoZero, MeetZero, NoFault, Performs, Refuses, status_of}
-use Rattle.dask_top.specs.Commands.{Command, Run, Plain, Asks, IsAsked, job_of}
+use Rattle.sim_words.specs.declared.sim.SimWords.{SimWords}
+use Rattle.sim_run.specs.declared.ends.SimEnded.{SimEnded}
+use Rattle.sim_run.specs.declared.ends.SimEnded.TheVariants as SimEnds
+use Rattle.sim_run.specs.Ends.{Cause as SimCause}
+use Rattle.sim_run.specs.Forms.{HasManyChunks, IsAddition, IsSimulable, chunks_in, operations}
+use Rattle.sim_run.specs.declared.form.Addition.{Addition}
+use Rattle.dask_top.specs.declared.answer.End.TheVariants.{Words, Job, Limit, NotBuilt, Keys, Events, Turns, Ran}
+use Rattle.dask_top.specs.Answers.{Answers, Cause, Completes, Does, EndsByInputs, EndsBySimulation, EndsByText, EndsByWork, MeetNoZero, MeetZero, NoFault, Obeys, Performs, RefusalCause, UnreadCause, WorkCause, status_of}
+use Rattle.dask_top.specs.Commands.{Command, Run, Plain, Sim, Asks, Asked, IsAsked, Known, Unread, Work, Evaluation, Simulation, job_of, work_of}
+use Rattle.dask_top.specs.Telling.{end_of}
 use Rattle.dask_top.specs.Reading.{Reading, Reads, RefusesText, SaysPlan, plan_said}
 
 told_and : {A : Type 0} (o : Option A) (P Q : A → Type 0) → IsSomeAnd o P → IfSome o Q → (x : A) × P x × Q x
@@ -79,12 +86,19 @@ not_fit p files unfit fit =
     let t = told_and (told_all files.held p.inputs) (λ contents. ¬ FitInputs p contents) (FitInputs p) unfit fit.fit in
     t.1 t.2
 
-memory_ends : (p : Plan) (old : View) → EndsByInputs p old 8
-memory_ends p old = record { unfit = λ u. inr refl; some = λ f m. inr refl; none = λ f m. inr refl }
+run_memory : (p : Plan) (old : View) → EndsByInputs p old 8
+run_memory p old = record { unfit = λ u. inr refl; some = λ f m. inr refl; none = λ f m. inr refl }
+
+sim_memory : (p : Plan) (old : View) → EndsBySimulation p old 8
+sim_memory p old = record { other = λ o. inr refl; many = λ m. inr refl; unfit = λ s u. inr refl; fit = λ s f. inr (inr (inr refl)) }
+
+memory_ends : (work : Work) (p : Plan) (old : View) → EndsByWork work p old 8
+memory_ends Evaluation p old = run_memory p old
+memory_ends (Simulation said) p old = sim_memory p old
 
 run_completes : (p : Plan) (old new : View) (end : Ended) → NoFault old new → RunCause p old new end → EndsByInputs p old (status_of (Ran end))
 run_completes p old new Done faults cause = record { unfit = λ u. absurd (not_fit p old.files u cause.inputs); some = λ f m. absurd (not_all p old.files m cause); none = λ f m. inl refl }
-run_completes p old new OutOfMemory faults cause = memory_ends p old
+run_completes p old new OutOfMemory faults cause = run_memory p old
 run_completes p old new ReadFault faults cause = absurd (faults.read cause)
 run_completes p old new WriteFault faults cause = absurd (elim cause.1 [ inl w ↦ faults.write w | inr q ↦ faults.print q ])
 run_completes p old new (File place error) faults cause = record {
@@ -94,77 +108,168 @@ run_completes p old new (File place error) faults cause = record {
 }
 run_completes p old new (Zero node) faults cause = record { unfit = λ u. absurd (not_fit p old.files u cause.inputs); some = λ f m. inl refl; none = λ f m. absurd (not_zero p old.files node m cause) }
 
-end_completes : (p : Plan) (old new : View) (end : End) → NoFault old new → Cause (Some (Ok p)) old new end → EndsByInputs p old (status_of end)
-end_completes p old new (Ran end) faults cause = run_completes p old new end faults cause
-end_completes p old new Words faults cause = absurd cause
-end_completes p old new (Job error) faults cause = absurd cause
-end_completes p old new (Limit quantity) faults cause = absurd cause
+-- ## The end of a simulation
+
+one_chunks : (p : Plan) (a b : Addition) → IsAddition p a → IsAddition p b → chunks_in a ≡ chunks_in b
+one_chunks p a b is_a is_b =
+    let same : operations a ≡ operations b = sym is_a.nodes ∙ is_b.nodes in
+    let count : a.count ≡ b.count = cc in
+    let size : a.size ≡ b.size = cc in
+    rw (count, size) refl
+
+not_many : (p : Plan) → IsSimulable p → HasManyChunks p → ⊥
+not_many p can many = let same : chunks_in can.addition ≡ chunks_in many.addition = one_chunks p can.addition many.addition can.can.is many.is in omega (arith, same, can.can.few, many.many)
+
+-- what has to be known of an end at which the job can be simulated
+simulable_ends : (p : Plan) (old : View) (status : ℕ) → IsSimulable p → (IsSomeAnd (told_all old.files.held p.inputs) (λ contents. ¬ FitInputs p contents) → (status ≡ 3) ⊎ (status ≡ 8)) →
+    (IsSomeAnd (told_all old.files.held p.inputs) (FitInputs p) → (status ≡ 0) ⊎ ((status ≡ 10) ⊎ ((status ≡ 9) ⊎ (status ≡ 8)))) → EndsBySimulation p old status
+simulable_ends p old status can unfit fit = record {
+  other = λ none. absurd (none can.addition can.can.is);
+  many = λ m. absurd (not_many p can m);
+  unfit = λ s u. unfit u;
+  fit = λ s f. fit f;
+}
+
+sim_run_completes : (p : Plan) (said : SimWords) (old new : View) (end : Ended) → NoFault old new → SimCause p said old new (SimEnds.Ran end) → EndsBySimulation p old (status_of (Ran end))
+sim_run_completes p said old new Done faults cause = simulable_ends p old 0 cause.0 (λ u. absurd (not_fit p old.files u cause.1.inputs)) (λ f. inl refl)
+sim_run_completes p said old new (File place error) faults cause = simulable_ends p old 3 cause.0 (λ u. inl refl) (λ f. absurd (not_refused_input p old.files place error f cause.1))
+sim_run_completes p said old new (Zero node) faults cause = absurd cause
+sim_run_completes p said old new ReadFault faults cause = absurd (faults.read cause.1)
+sim_run_completes p said old new WriteFault faults cause = absurd (elim cause.2 [ inl w ↦ faults.write w | inr q ↦ faults.print q ])
+sim_run_completes p said old new OutOfMemory faults cause = sim_memory p old
+
+sim_completes : (p : Plan) (said : SimWords) (old new : View) (end : SimEnded) → NoFault old new → SimCause p said old new end → EndsBySimulation p old (status_of (end_of end))
+sim_completes p said old new SimEnds.NotBuilt faults cause = record { other = λ none. inl refl; many = λ m. absurd (cause m.addition m.is); unfit = λ s u. absurd (cause s.addition s.can.is); fit = λ s f. absurd (cause s.addition s.can.is) }
+sim_completes p said old new SimEnds.Keys faults cause = record { other = λ none. absurd (none cause.addition cause.is); many = λ m. inl refl; unfit = λ s u. absurd (not_many p s cause); fit = λ s f. absurd (not_many p s cause) }
+sim_completes p said old new SimEnds.Events faults cause = simulable_ends p old 9 (record { addition = cause.addition; can = cause.can }) (λ u. absurd (not_fit p old.files u cause.inputs)) (λ f. inr (inr (inl refl)))
+sim_completes p said old new SimEnds.Turns faults cause = simulable_ends p old 10 (record { addition = cause.addition; can = cause.can }) (λ u. absurd (not_fit p old.files u cause.inputs)) (λ f. inr (inl refl))
+sim_completes p said old new (SimEnds.Ran end) faults cause = sim_run_completes p said old new end faults cause
+
+-- ## The end of the work on a job
+
+work_completes : (work : Work) (p : Plan) (old new : View) (end : End) → NoFault old new → WorkCause work p old new end → EndsByWork work p old (status_of end)
+work_completes Evaluation p old new (Ran end) faults cause = run_completes p old new end faults cause
+work_completes Evaluation p old new Words faults cause = absurd cause
+work_completes Evaluation p old new (Job error) faults cause = absurd cause
+work_completes Evaluation p old new (Limit quantity) faults cause = absurd cause
+work_completes Evaluation p old new NotBuilt faults cause = absurd cause
+work_completes Evaluation p old new Keys faults cause = absurd cause
+work_completes Evaluation p old new Events faults cause = absurd cause
+work_completes Evaluation p old new Turns faults cause = absurd cause
+work_completes (Simulation said) p old new (Ran end) faults cause = sim_completes p said old new (SimEnds.Ran end) faults cause
+work_completes (Simulation said) p old new NotBuilt faults cause = sim_completes p said old new SimEnds.NotBuilt faults cause
+work_completes (Simulation said) p old new Keys faults cause = sim_completes p said old new SimEnds.Keys faults cause
+work_completes (Simulation said) p old new Events faults cause = sim_completes p said old new SimEnds.Events faults cause
+work_completes (Simulation said) p old new Turns faults cause = sim_completes p said old new SimEnds.Turns faults cause
+work_completes (Simulation said) p old new Words faults cause = absurd cause
+work_completes (Simulation said) p old new (Job error) faults cause = absurd cause
+work_completes (Simulation said) p old new (Limit quantity) faults cause = absurd cause
 
 -- ## The end of a text
 
-unread_memory : (old new : View) (end : End) → NoFault old new → Cause None old new end → status_of end ≡ 8
-unread_memory old new (Ran ReadFault) faults cause = absurd (faults.read cause)
-unread_memory old new (Ran OutOfMemory) faults cause = refl
-unread_memory old new (Ran Done) faults cause = absurd cause
-unread_memory old new (Ran (File place error)) faults cause = absurd cause
-unread_memory old new (Ran (Zero node)) faults cause = absurd cause
-unread_memory old new (Ran WriteFault) faults cause = absurd cause
-unread_memory old new Words faults cause = absurd cause
-unread_memory old new (Job error) faults cause = absurd cause
-unread_memory old new (Limit quantity) faults cause = absurd cause
+unread_memory : (work : Work) (old new : View) (end : End) → NoFault old new → Cause work None old new end → status_of end ≡ 8
+unread_memory work old new (Ran ReadFault) faults cause = absurd (faults.read cause)
+unread_memory work old new (Ran OutOfMemory) faults cause = refl
+unread_memory work old new (Ran Done) faults cause = absurd cause
+unread_memory work old new (Ran (File place error)) faults cause = absurd cause
+unread_memory work old new (Ran (Zero node)) faults cause = absurd cause
+unread_memory work old new (Ran WriteFault) faults cause = absurd cause
+unread_memory work old new Words faults cause = absurd cause
+unread_memory work old new (Job error) faults cause = absurd cause
+unread_memory work old new (Limit quantity) faults cause = absurd cause
+unread_memory work old new NotBuilt faults cause = absurd cause
+unread_memory work old new Keys faults cause = absurd cause
+unread_memory work old new Events faults cause = absurd cause
+unread_memory work old new Turns faults cause = absurd cause
 
 abbrev IsRefusal : ℕ → Type 0
 IsRefusal status = (status ≡ 2) ⊎ ((status ≡ 9) ⊎ (status ≡ 8))
 
-refusal_ends : (e : JobError) (old new : View) (end : End) → Cause (Some (Err e)) old new end → IsRefusal (status_of end)
-refusal_ends e old new (Job error) cause = inl refl
-refusal_ends e old new (Limit quantity) cause = inr (inl refl)
-refusal_ends e old new (Ran OutOfMemory) cause = inr (inr refl)
-refusal_ends e old new (Ran Done) cause = absurd cause
-refusal_ends e old new (Ran (File place error)) cause = absurd cause
-refusal_ends e old new (Ran (Zero node)) cause = absurd cause
-refusal_ends e old new (Ran ReadFault) cause = absurd cause
-refusal_ends e old new (Ran WriteFault) cause = absurd cause
-refusal_ends e old new Words cause = absurd cause
+refusal_ends : (e : JobError) (end : End) → RefusalCause e end → IsRefusal (status_of end)
+refusal_ends e (Job error) cause = inl refl
+refusal_ends e (Limit quantity) cause = inr (inl refl)
+refusal_ends e (Ran OutOfMemory) cause = inr (inr refl)
+refusal_ends e (Ran Done) cause = absurd cause
+refusal_ends e (Ran (File place error)) cause = absurd cause
+refusal_ends e (Ran (Zero node)) cause = absurd cause
+refusal_ends e (Ran ReadFault) cause = absurd cause
+refusal_ends e (Ran WriteFault) cause = absurd cause
+refusal_ends e Words cause = absurd cause
+refusal_ends e NotBuilt cause = absurd cause
+refusal_ends e Keys cause = absurd cause
+refusal_ends e Events cause = absurd cause
+refusal_ends e Turns cause = absurd cause
 
-refused_completes : (held : Option (List ℕ)) (reading : Reading) (old new : View) (end : End) → IsSomeAnd held (λ text. (p : Plan) → ¬ SaysPlan text p) → IfSome reading (λ r. IfSome held (λ text. Reads text r)) → NoFault old new → Cause reading old new end → IsRefusal (status_of end)
-refused_completes held None old new end none told faults cause = inr (inr (unread_memory old new end faults cause))
-refused_completes held (Some (Err e)) old new end none told faults cause = refusal_ends e old new end cause
-refused_completes held (Some (Ok q)) old new end none told faults cause =
+refused_completes : (held : Option (List ℕ)) (work : Work) (reading : Reading) (old new : View) (end : End) → IsSomeAnd held (λ text. (p : Plan) → ¬ SaysPlan text p) → IfSome reading (λ r. IfSome held (λ text. Reads text r)) → NoFault old new → Cause work reading old new end → IsRefusal (status_of end)
+refused_completes held work None old new end none told faults cause = inr (inr (unread_memory work old new end faults cause))
+refused_completes held work (Some (Err e)) old new end none told faults cause = refusal_ends e end cause
+refused_completes held work (Some (Ok q)) old new end none told faults cause =
     let t = told_and held (λ text. (p : Plan) → ¬ SaysPlan text p) (λ text. SaysPlan text q) none told in
     absurd (t.1 q t.2)
 
-job_completes : Laws → (held : Option (List ℕ)) (p : Plan) (reading : Reading) (old new : View) (end : End) → IsSomeAnd held (λ text. SaysPlan text p) → IfSome reading (λ r. IfSome held (λ text. Reads text r)) → NoFault old new → Cause reading old new end → EndsByInputs p old (status_of end)
-job_completes laws held p None old new end says told faults cause =
-    let E : ℕ → Type 0 = λ s. EndsByInputs p old s in
-    subst E (sym (unread_memory old new end faults cause)) (memory_ends p old)
-job_completes laws held p (Some (Err e)) old new end says told faults cause =
+job_completes : Laws → (held : Option (List ℕ)) (work : Work) (p : Plan) (reading : Reading) (old new : View) (end : End) → IsSomeAnd held (λ text. SaysPlan text p) → IfSome reading (λ r. IfSome held (λ text. Reads text r)) → NoFault old new → Cause work reading old new end → EndsByWork work p old (status_of end)
+job_completes laws held work p None old new end says told faults cause =
+    let E : ℕ → Type 0 = λ s. EndsByWork work p old s in
+    subst E (sym (unread_memory work old new end faults cause)) (memory_ends work p old)
+job_completes laws held work p (Some (Err e)) old new end says told faults cause =
     let t = told_and held (λ text. SaysPlan text p) (λ text. RefusesText text e) says told in
     absurd (no_refusal laws t.0 p e t.1 t.2)
-job_completes laws held p (Some (Ok q)) old new end says told faults cause =
+job_completes laws held work p (Some (Ok q)) old new end says told faults cause =
     let t = told_and held (λ text. SaysPlan text p) (λ text. SaysPlan text q) says told in
-    let C : Plan → Type 0 = λ x. Cause (Some (Ok x)) old new end in
-    end_completes p old new end faults (subst C (one_plan laws t.0 p q t.1 t.2) cause)
+    let C : Plan → Type 0 = λ x. WorkCause work x old new end in
+    work_completes work p old new end faults (subst C (one_plan laws t.0 p q t.1 t.2) cause)
+
+text_completes : Laws → (job : List ℕ) (work : Work) (old new : View) (end : End) → Performs job work old new end → NoFault old new → EndsByText job work old (status_of end)
+text_completes laws job work old new end performs faults = record {
+  refused = λ none. refused_completes (old.files.held job) work performs.reading old new end none performs.told faults performs.cause;
+  runs = λ p says. job_completes laws (old.files.held job) work p performs.reading old new end says performs.told faults performs.cause;
+}
+
+text_memory : (job : List ℕ) (work : Work) (old : View) → EndsByText job work old 8
+text_memory job work old = record { refused = λ none. inr (inr refl); runs = λ p says. memory_ends work p old }
 
 -- ## The command that the words ask for
 
-same_job : (words : List (List ℕ)) (c d : Command) → Asks words c → Asks words d → job_of c ≡ job_of d
-same_job words (Run a) (Run b) first second = let e : codes "run" ∷ a ∷ [] ≡ codes "run" ∷ b ∷ [] = sym first ∙ second in ap (λ l. get_or l 1 []) e
-same_job words (Plain a) (Plain b) first second = let e : codes "plain" ∷ a ∷ [] ≡ codes "plain" ∷ b ∷ [] = sym first ∙ second in ap (λ l. get_or l 1 []) e
-same_job words (Run a) (Plain b) first second = let e : codes "run" ∷ a ∷ [] ≡ codes "plain" ∷ b ∷ [] = sym first ∙ second in ap (λ l. get_or l 1 []) e
-same_job words (Plain a) (Run b) first second = let e : codes "plain" ∷ a ∷ [] ≡ codes "run" ∷ b ∷ [] = sym first ∙ second in ap (λ l. get_or l 1 []) e
+-- all that is said of the end of a simulation is said of it whatever its words
+other_words : (job other : List ℕ) (said read : SimWords) (old : View) (status : ℕ) → job ≡ other → EndsByText job (Simulation said) old status → EndsByText other (Simulation read) old status
+other_words job other said read old status same ends =
+    let H : List ℕ → Type 0 = λ j. EndsByText j (Simulation said) old status in
+    let moved : EndsByText other (Simulation said) old status = subst H same ends in
+    record { refused = moved.refused; runs = moved.runs }
 
-asked_completes : Laws → (words : List (List ℕ)) (old new : View) (end : End) (command : Option Command) (c : Command) → IsAsked words command → MatchOption command (Refuses old new end) (λ d. Performs (job_of d) old new end) → Asks words c → NoFault old new → EndsByText (job_of c) old (status_of end)
-asked_completes laws words old new end None c none does asks faults = absurd (none c asks)
-asked_completes laws words old new end (Some d) c asked does asks faults =
-    let P : List ℕ → Type 0 = λ job. Performs job old new end in
-    let performs : Performs (job_of c) old new end = subst P (same_job words d c asked asks) does in
-    record {
-      refused = λ none. refused_completes (old.files.held (job_of c)) performs.reading old new end none performs.told faults performs.cause;
-      runs = λ p says. job_completes laws (old.files.held (job_of c)) p performs.reading old new end says performs.told faults performs.cause;
-    }
+not_both : (words : List (List ℕ)) (name job : List ℕ) → words ≡ name ∷ job ∷ [] → get_or words 0 [] ≡ codes "sim" → name ≡ codes "sim"
+not_both words name job is first = ap (λ w. get_or w 0 []) (sym is) ∙ first
+
+same_evaluation : (words : List (List ℕ)) (first second job other : List ℕ) → words ≡ first ∷ job ∷ [] → words ≡ second ∷ other ∷ [] → job ≡ other
+same_evaluation words first second job other is also = let e : first ∷ job ∷ [] ≡ second ∷ other ∷ [] = sym is ∙ also in ap (λ l. get_or l 1 []) e
+
+run_or_sim : codes "run" ≡ codes "sim" → ⊥
+run_or_sim e = omega (arith, ap (λ w. get_or w 0 0) e)
+
+plain_or_sim : codes "plain" ≡ codes "sim" → ⊥
+plain_or_sim e = omega (arith, ap (λ w. get_or w 0 0) e)
+
+evaluated : (job other : List ℕ) (old : View) (status : ℕ) → job ≡ other → EndsByText job Evaluation old status → EndsByText other Evaluation old status
+evaluated job other old status same ends = let H : List ℕ → Type 0 = λ j. EndsByText j Evaluation old status in subst H same ends
+
+-- what is said of the command that was read is said of each that the words ask for
+same_command : (words : List (List ℕ)) (d c : Command) (old : View) (status : ℕ) → Asks words d → Asks words c → EndsByText (job_of d) (work_of d) old status → EndsByText (job_of c) (work_of c) old status
+same_command words (Run a) (Run b) old status is also ends = evaluated a b old status (same_evaluation words (codes "run") (codes "run") a b is also) ends
+same_command words (Plain a) (Plain b) old status is also ends = evaluated a b old status (same_evaluation words (codes "plain") (codes "plain") a b is also) ends
+same_command words (Run a) (Plain b) old status is also ends = evaluated a b old status (same_evaluation words (codes "run") (codes "plain") a b is also) ends
+same_command words (Plain a) (Run b) old status is also ends = evaluated a b old status (same_evaluation words (codes "plain") (codes "run") a b is also) ends
+same_command words (Sim a said) (Sim b read) old status is also ends = other_words a b said read old status (sym is.1 ∙ also.1) ends
+same_command words (Run a) (Sim b read) old status is also ends = absurd (run_or_sim (not_both words (codes "run") a is also.0.command))
+same_command words (Plain a) (Sim b read) old status is also ends = absurd (plain_or_sim (not_both words (codes "plain") a is also.0.command))
+same_command words (Sim a said) (Run b) old status is also ends = absurd (run_or_sim (not_both words (codes "run") b also is.0.command))
+same_command words (Sim a said) (Plain b) old status is also ends = absurd (plain_or_sim (not_both words (codes "plain") b also is.0.command))
+
+asked_completes : Laws → (words : List (List ℕ)) (old new : View) (end : End) (asked : Asked) (c : Command) → IsAsked words asked → Does asked old new end → Asks words c → NoFault old new → EndsByText (job_of c) (work_of c) old (status_of end)
+asked_completes laws words old new end (Known None) c none does asks faults = absurd (none c asks)
+asked_completes laws words old new end (Known (Some d)) c asked does asks faults = same_command words d c old (status_of end) asked asks (text_completes laws (job_of d) (work_of d) old new end does faults)
+asked_completes laws words old new end Unread c first does asks faults = let E : End → Type 0 = λ e. EndsByText (job_of c) (work_of c) old (status_of e) in subst E (sym does.is) (text_memory (job_of c) (work_of c) old)
 
 pub completes : Laws → (words : List (List ℕ)) (old new : View) (status : ℕ) → Answers words old new status → Completes words old new status
 completes laws words old new status answers c asks faults =
-    let E : ℕ → Type 0 = λ s. EndsByText (job_of c) old s in
-    subst E (sym answers.is_status) (asked_completes laws words old new answers.end answers.command c answers.asked answers.does asks faults)
+    let E : ℕ → Type 0 = λ s. EndsByText (job_of c) (work_of c) old s in
+    subst E (sym answers.is_status) (asked_completes laws words old new answers.end answers.obeys.asked c answers.obeys.is answers.obeys.does asks faults)

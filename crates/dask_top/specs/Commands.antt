@@ -1,26 +1,48 @@
 -- The commands of the program, and the words that ask for them.
-use Rattle.std.specs.Prelude.{◌≡◌, ◌⊎◌, ℕ, List, [], ◌∷◌, codes, length, Option, Some, None}
+use Rattle.std.specs.Prelude.{◌≡◌, ◌⊎◌, ℕ, List, [], ◌∷◌, codes, length, slice_index_or, Option, Some, None}
+use Rattle.sim_words.specs.declared.sim.SimWords.{SimWords}
+use Rattle.sim_words.specs.Words.{IsSim}
 
 pub data Command : Type 0 where
   -- run the job in the file of this name
   Run : List ℕ → Command
   -- evaluate the job in the file of this name, node by node
   Plain : List ℕ → Command
+  -- simulate a cluster on the job in the file of this name, as these words say
+  Sim : List ℕ → SimWords → Command
 
 -- these words ask for a command
 abbrev pub Asks : List (List ℕ) → Command → Type 0
 Asks words (Run job) = words ≡ codes "run" ∷ job ∷ []
 Asks words (Plain job) = words ≡ codes "plain" ∷ job ∷ []
-
--- these words ask for this command, or for none
-abbrev pub IsAsked : List (List ℕ) → Option Command → Type 0
-IsAsked words (Some command) = Asks words command
-IsAsked words None = (command : Command) → ¬ Asks words command
+Asks words (Sim job said) = IsSim words said × (slice_index_or words 1 [] ≡ job)
 
 -- the name of the command's job
 abbrev pub job_of : Command → List ℕ
 job_of (Run job) = job
 job_of (Plain job) = job
+job_of (Sim job said) = job
+
+-- what is done with a job: it is evaluated, or a cluster on it is simulated
+pub data Work : Type 0 where
+  Evaluation : Work
+  Simulation : SimWords → Work
+
+abbrev pub work_of : Command → Work
+work_of (Run job) = Evaluation
+work_of (Plain job) = Evaluation
+work_of (Sim job said) = Simulation said
+
+-- What was read of the words: the command that they ask for, or that they ask for none; or nothing, where memory for their reading was wanted.
+pub data Asked : Type 0 where
+  Known : Option Command → Asked
+  Unread : Asked
+
+-- What is read of the words is so. Only the words of a simulation can stay unread.
+abbrev pub IsAsked : List (List ℕ) → Asked → Type 0
+IsAsked words (Known (Some command)) = Asks words command
+IsAsked words (Known None) = (command : Command) → ¬ Asks words command
+IsAsked words Unread = slice_index_or words 0 [] ≡ codes "sim"
 
 -- the words ask for a run or a plain evaluation of the job with the one name that is given
 pub record IsJobOf (words names : List (List ℕ)) : Type 0 where

@@ -2,7 +2,9 @@
 use Rattle.std.specs.Prelude.{◌≡◌, ◌<◌, ◌⊎◌, length}
 use Rattle.job_run.specs.declared.ends.Ended.TheVariants.{File, Zero, ReadFault, OutOfMemory}
 use Rattle.dask_top.specs.declared.answer.End.{End}
-use Rattle.dask_top.specs.declared.answer.End.TheVariants.{Words, Job, Limit, Ran}
+use Rattle.sim_run.specs.declared.ends.SimEnded.{SimEnded}
+use Rattle.sim_run.specs.declared.ends.SimEnded.TheVariants as SimEnds
+use Rattle.dask_top.specs.declared.answer.End.TheVariants.{Words, Job, Limit, NotBuilt, Keys, Events, Turns, Ran}
 use Rattle.dask_top.specs.Reading.{Reading, inputs_in, nodes_in}
 
 -- an end whose line is made when it comes
@@ -28,6 +30,18 @@ abbrev pub IsOfText : End → Type 0
 IsOfText Words = Unit {0}
 IsOfText (Job error) = Unit {0}
 IsOfText (Limit quantity) = Unit {0}
+IsOfText NotBuilt = Unit {0}
+IsOfText Keys = Unit {0}
+IsOfText Events = Unit {0}
+IsOfText Turns = Unit {0}
 IsOfText (Ran ReadFault) = Unit {0}
 IsOfText (Ran OutOfMemory) = Unit {0}
 IsOfText end = ⊥
+
+-- the end of the program that a simulation's is
+abbrev pub end_of : SimEnded → End
+end_of SimEnds.NotBuilt = NotBuilt
+end_of SimEnds.Keys = Keys
+end_of SimEnds.Events = Events
+end_of SimEnds.Turns = Turns
+end_of (SimEnds.Ran end) = Ran end

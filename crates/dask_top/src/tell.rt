@@ -8,13 +8,14 @@ ghost use Rattle.job_text.specs.Texts.{job_error_text, quantity_text};
 ghost use Rattle.dask_top.specs.declared.answer.End.TheVariants.{Ran};
 ghost use Rattle.dask_top.specs.Answers.{GetsLine, Notes, block_text, line_of};
 ghost use Rattle.dask_top.specs.Reading.{Reading};
-ghost use Rattle.dask_top.specs.Telling.{IsOfText, IsPlaced, IsRefusal, Told};
+ghost use Rattle.dask_top.specs.Telling.{IsOfText, IsPlaced, IsRefusal, Told, end_of};
 
 use crate::answer::End;
 use array_expr::NodeId;
 use io_edge::{Site, note_full};
 use job_run::{Ended, FileError, Job};
 use job_text::{JobError, Quantity};
+use sim_run::SimEnded;
 use std::alloc::{AllocError, Global};
 
 // Prints a line to standard error. A failure there changes nothing more.
@@ -127,7 +128,7 @@ fn tell_refusal<S: Site>(site: &mut S, end: End, line: Result<String, AllocError
     }
 }
 
-/// Prints the line of a text that is refused. The end stays, but becomes `OutOfMemory` where memory for its line is wanted.
+/// Prints the line of a text that is refused, or of a simulation that names nothing of its job. The end stays, but becomes `OutOfMemory` where memory for its line is wanted.
 #[tactic(auto, unfolding(crate::specs::Answers::line_of))]
 pub fn tell_text<S: Site>(alloc: Global, site: &mut S, end: End) -> End
     requires { IsOfText end }
@@ -139,6 +140,10 @@ pub fn tell_text<S: Site>(alloc: Global, site: &mut S, end: End) -> End
         End::Words => note(site, b"dask: words\n"),
         End::Job(error) => return tell_refusal(site, end, job_line(alloc, error)),
         End::Limit(quantity) => return tell_refusal(site, end, limit_line(alloc, quantity)),
+        End::NotBuilt => note(site, b"dask: job 1:1: not built\n"),
+        End::Keys => note(site, b"dask: limit keys\n"),
+        End::Events => note(site, b"dask: limit events\n"),
+        End::Turns => note(site, b"dask: turns\n"),
         End::Ran(Ended::ReadFault) => note(site, b"dask: read fault\n"),
         End::Ran(_) => note(site, b"dask: out of memory\n"),
     }
@@ -176,5 +181,22 @@ pub fn tell_run<S: Site>(alloc: Global, site: &mut S, job: &Job, end: Ended) -> 
             note(site, b"dask: out of memory\n");
             End::Ran(Ended::OutOfMemory)
         }
+    }
+}
+
+/// Prints the line of the end of a simulation. The end stays, but a refusal becomes `OutOfMemory` where memory for its line is
+/// wanted.
+pub fn tell_sim<S: Site>(alloc: Global, site: &mut S, job: &Job, end: SimEnded) -> End
+    requires { IsPlaced (Some (Ok (plan_of job.now))) (end_of end) }
+    ensures told { Told (end_of end) result }
+    ensures notes { Notes (Some (Ok (plan_of job.now))) (S.view site.old) (S.view site.new) result }
+    ensures only { OnlyErr (S.view site.old) (S.view site.new) }
+{
+    match end {
+        SimEnded::NotBuilt => tell_text(alloc, site, End::NotBuilt),
+        SimEnded::Keys => tell_text(alloc, site, End::Keys),
+        SimEnded::Events => tell_text(alloc, site, End::Events),
+        SimEnded::Turns => tell_text(alloc, site, End::Turns),
+        SimEnded::Ran(end) => tell_run(alloc, site, job, end),
     }
 }

@@ -1,0 +1,89 @@
+-- What the words are read as, and what is done with them.
+use Rattle.std.proofs.Common.{◌≡◌, ℕ, ◌+◌, ◌-◌, ◌*◌, ◌≤◌, ◌<◌, List, [], ◌∷◌, length, take, drop, get_or, map, string_bytes, String, refl, ap, sym, ◌∙◌, subst, inl, inr, arith, codes, Option, Some, None, Ok, Err}
+use Rattle.std.specs.Prelude.{◌⊎◌, ◌^◌}
+use Rattle.std.specs.declared.alloc.Global.{Global}
+use Rattle.std.proofs.lemmas.List.{length-map}
+use Rattle.io_edge.specs.View.{View, OnlyErr}
+use Rattle.job_run.specs.declared.ends.Ended.TheVariants.{OutOfMemory}
+use Rattle.sim_words.specs.declared.sim.SimWords.{SimWords}
+use Rattle.sim_words.specs.Numbers.{IsNumber}
+use Rattle.sim_words.specs.Options.{HasNumber}
+use Rattle.sim_words.specs.Words.{IsSim}
+use Rattle.sim_run.specs.Simulated.{AreSettings}
+use Rattle.dask_top.specs.declared.answer.End.{End}
+use Rattle.dask_top.specs.declared.answer.End.TheVariants.{Words, Job, Limit, NotBuilt, Keys, Events, Turns, Ran}
+use Rattle.dask_top.specs.Answers.{Notes, Obeys, OnlyTells, Performs}
+use Rattle.dask_top.specs.Commands.{Command, Run, Plain, Sim, Asks, Known, Unread, Evaluation, Simulation, IsJobOf}
+use Rattle.dask_top.specs.Reading.{Reading}
+use Rattle.dask_top.specs.Telling.{IsRefusal, Told}
+use Rattle.dask_top.proofs.Ends.{single}
+
+-- ## An end that only gets its line
+
+told_same : (wanted now : End) → ¬ IsRefusal wanted → Told wanted now → now ≡ wanted
+told_same wanted now not told = elim told [ inl same ↦ same | inr refused ↦ absurd (not refused.0) ]
+
+only_tells : (wanted : End) (old new : View) (now : End) → ¬ IsRefusal wanted → Told wanted now → OnlyErr old new → ((r : Reading) → Notes r old new now) → OnlyTells wanted old new now
+only_tells wanted old new now not told only notes =
+    let same : now ≡ wanted = told_same wanted now not told in
+    let N : End → Type 0 = λ e. Notes None old new e in
+    record { is = same; only = only; notes = subst N same (notes None) }
+
+-- ## Words of no command
+
+no_command : (words : List (List ℕ)) → ((names : List (List ℕ)) → ¬ IsJobOf words names) → ((s : SimWords) → ¬ IsSim words s) → (c : Command) → ¬ Asks words c
+no_command words none no_sim (Run job) asks = none (job ∷ []) (record { asked = inl asks; one = refl })
+no_command words none no_sim (Plain job) asks = none (job ∷ []) (record { asked = inr asks; one = refl })
+no_command words none no_sim (Sim job said) asks = no_sim said asks.0
+
+pub refused_words : (words : List (List ℕ)) (old new : View) (now : End) → ((names : List (List ℕ)) → ¬ IsJobOf words names) → ((s : SimWords) → ¬ IsSim words s) → Told Words now → OnlyErr old new → ((r : Reading) → Notes r old new now) → Obeys words old new now
+refused_words words old new now none no_sim told only notes = record {
+  asked = Known None;
+  is = no_command words none no_sim;
+  does = only_tells Words old new now (λ r. r) told only notes;
+}
+
+-- ## Words that stay unread
+
+pub unread_words : (words : List (List ℕ)) (old new : View) (now : End) → get_or words 0 [] ≡ codes "sim" → Told (Ran OutOfMemory) now → OnlyErr old new → ((r : Reading) → Notes r old new now) → Obeys words old new now
+unread_words words old new now first told only notes = record {
+  asked = Unread;
+  is = first;
+  does = only_tells (Ran OutOfMemory) old new now (λ r. r) told only notes;
+}
+
+-- ## Words of a command
+
+pub performed : (words names : List (List ℕ)) (old new : View) (end : End) → IsJobOf words names → Performs (get_or names 0 []) Evaluation old new end → Obeys words old new end
+performed words names old new end is performs = elim is.asked [
+  | inl run ↦ record { asked = Known (Some (Run (get_or names 0 []))); is = run ∙ ap (λ ns. codes "run" ∷ ns) (single names is.one); does = performs }
+  | inr plain ↦ record { asked = Known (Some (Plain (get_or names 0 []))); is = plain ∙ ap (λ ns. codes "plain" ∷ ns) (single names is.one); does = performs }
+]
+
+pub simulated : (words names : List (List ℕ)) (said : SimWords) (old new : View) (end : End) → IsSim words said → get_or words 1 [] ≡ get_or names 0 [] → Performs (get_or names 0 []) (Simulation said) old new end → Obeys words old new end
+simulated words names said old new end is first performs = record { asked = Known (Some (Sim (get_or names 0 []) said)); is = (is, first); does = performs }
+
+-- ## The numbers of a simulation
+
+in_range : (words : List (List ℕ)) (name : List ℕ) (least most default n : ℕ) → least ≤ default → default ≤ most → HasNumber words name least most default n → (least ≤ n) × (n ≤ most)
+in_range words name least most default n above below has = elim has [
+  | inl given ↦ (given.value.from, given.value.to)
+  | inr missing ↦ (omega (arith, missing.1), omega (arith, missing.1))
+]
+
+pub are_settings : (words : List (List ℕ)) (said : SimWords) → IsSim words said → AreSettings said
+are_settings words said is =
+    let w = in_range words (codes "--workers") 1 64 4 said.settings.workers (omega arith) (omega arith) is.settings.workers in
+    let t = in_range words (codes "--threads") 1 16 2 said.settings.threads (omega arith) (omega arith) is.settings.threads in
+    let s = in_range words (codes "--saturation") 1 1000 11 said.settings.saturation (omega arith) (omega arith) is.settings.saturation in
+    record { workers = w; threads = t; saturation = s; joins = is.walk.joins }
+
+-- ## The job's name
+
+pub is_long : (words : List (List ℕ)) (said : SimWords) → IsSim words said → 3 ≤ length words
+is_long words said is = omega (arith, is.options.pairs)
+
+pub second : (words : List (String Global)) (n : ℕ) → n ≡ 2 - 1 → 2 ≤ length words → get_or (map string_bytes words) 1 [] ≡ get_or (map string_bytes (take n (drop 1 words))) 0 []
+second [] n is long = absurd (omega (arith, long))
+second (a ∷ []) n is long = absurd (omega (arith, long))
+second (a ∷ b ∷ words) n is long = rw is refl
