@@ -1,8 +1,10 @@
 -- What the words are read as, and what is done with them.
 use Rattle.std.proofs.Common.{◌≡◌, ℕ, ◌+◌, ◌-◌, ◌*◌, ◌≤◌, ◌<◌, List, [], ◌∷◌, length, take, drop, get_or, map, string_bytes, String, refl, ap, sym, ◌∙◌, subst, inl, inr, arith, codes, Option, Some, None, Ok, Err}
-use Rattle.std.specs.Prelude.{◌⊎◌, ◌^◌}
+use Rattle.std.specs.Prelude.{◌⊎◌, bytes_eq, false}
 use Rattle.std.specs.declared.alloc.Global.{Global}
+use Rattle.std.proofs.lemmas.Bool.{false≢true}
 use Rattle.std.proofs.lemmas.List.{length-map}
+use Rattle.std.proofs.lemmas.Slice.Eq.{bytes_eq-Decides}
 use Rattle.io_edge.specs.View.{View, OnlyErr}
 use Rattle.job_run.specs.declared.ends.Ended.TheVariants.{OutOfMemory}
 use Rattle.sim_words.specs.declared.sim.SimWords.{SimWords}
@@ -43,6 +45,12 @@ refused_words words old new now none no_sim told only notes = record {
   does = only_tells Words old new now (λ r. r) told only notes;
 }
 
+not_name : (word : List ℕ) → bytes_eq word (codes "sim") ≡ false → word ≡ codes "sim" → ⊥
+not_name word other is = false≢true (sym other ∙ (bytes_eq-Decides word (codes "sim")).1 is)
+
+pub not_sim : (words : List (List ℕ)) → bytes_eq (get_or words 0 []) (codes "sim") ≡ false → (s : SimWords) → ¬ IsSim words s
+not_sim words other s is = not_name (get_or words 0 []) other is.command
+
 -- ## Words that stay unread
 
 pub unread_words : (words : List (List ℕ)) (old new : View) (now : End) → get_or words 0 [] ≡ codes "sim" → Told (Ran OutOfMemory) now → OnlyErr old new → ((r : Reading) → Notes r old new now) → Obeys words old new now
@@ -80,8 +88,8 @@ are_settings words said is =
 
 -- ## The job's name
 
-pub is_long : (words : List (List ℕ)) (said : SimWords) → IsSim words said → 3 ≤ length words
-is_long words said is = omega (arith, is.options.pairs)
+pub is_long : (words : List (String Global)) (said : SimWords) → IsSim (map string_bytes words) said → 2 ≤ length words
+is_long words said is = let e : length (map string_bytes words) ≡ length words = length-map words string_bytes in omega (arith, is.options.pairs, e)
 
 pub second : (words : List (String Global)) (n : ℕ) → n ≡ 2 - 1 → 2 ≤ length words → get_or (map string_bytes words) 1 [] ≡ get_or (map string_bytes (take n (drop 1 words))) 0 []
 second [] n is long = absurd (omega (arith, long))
