@@ -1,5 +1,7 @@
-use Rattle.std.proofs.Common.{map, string_bytes, take, drop, get_or, codes, [], refl, sym, ◌∙◌, arith}
+use Rattle.std.proofs.Common.{map, string_bytes, take, drop, get_or, codes, [], refl, sym, ◌∙◌, subst}
 use Rattle.std.proofs.lemmas.Slice.Eq.{bytes_eq-Decides}
+use Rattle.sim_words.specs.Words.{IsWhy}
+use Rattle.sim_words.specs.declared.fail.WordsFail.{WordsFail}
 use Rattle.dask_top.proofs.Obeying.{is_long, not_sim, performed, refused_words, second, simulated, unread_words}
 use Rattle.dask_top.proofs.command.obey.Goals as goal
 
@@ -15,8 +17,10 @@ returns-in-Ok g c = simulated (map string_bytes c.args.words.now) (map string_by
     c.in-Ok.ensures.said (second c.args.words.now 1 refl (is_long c.args.words.now c.in-Ok.said c.in-Ok.ensures.said)) c.simulate.ensures
 
 pub returns-in-Err-Refused : goal.returns-in-Err-Refused
-returns-in-Err-Refused g c = refused_words (map string_bytes c.args.words.now) (g.S.Site.view c.args.site.now) (g.S.Site.view c.tell_text-in-Err-Refused.new.site) c.tell_text-in-Err-Refused.result
-    c.in_default.ensures c.in-Err-Refused.ensures.refused c.tell_text-in-Err-Refused.ensures.told c.tell_text-in-Err-Refused.ensures.only c.tell_text-in-Err-Refused.ensures.notes
+returns-in-Err-Refused g c =
+    let why : WordsFail → Type 0 = λ e. IsWhy (map string_bytes c.args.words.now) e in
+    refused_words (map string_bytes c.args.words.now) (g.S.Site.view c.args.site.now) (g.S.Site.view c.tell_text-in-Err-Refused.new.site) c.tell_text-in-Err-Refused.result
+    c.in_default.ensures (subst why c.in-Err-Refused.field-0-is c.in-Err-Refused.ensures.refused) c.tell_text-in-Err-Refused.ensures.told c.tell_text-in-Err-Refused.ensures.only c.tell_text-in-Err-Refused.ensures.notes
 
 pub returns-in-Err-OutOfMemory : goal.returns-in-Err-OutOfMemory
 returns-in-Err-OutOfMemory g c = unread_words (map string_bytes c.args.words.now) (g.S.Site.view c.args.site.now) (g.S.Site.view c.tell_text-in-Err-OutOfMemory.new.site) c.tell_text-in-Err-OutOfMemory.result
