@@ -1,8 +1,8 @@
 -- The opening events, one after another.
 use Rattle.std.proofs.Common.{◌≡◌, ℕ, zero, suc, ◌+◌, ◌≤◌, ◌<◌, ◌^◌, Bool, true, false, not, ◌&&◌, ◌||◌, List, [], ◌∷◌, ◌++◌, length, replicate, filter, Option, Some, None, is_some, refl, sym, ap, ◌∙◌, arith, subst, add-one, cond}
-use Rattle.std.specs.Prelude.{nat_lt, nat_le}
+use Rattle.std.specs.Prelude.{nat_lt, nat_le, ◌==◌}
 use Rattle.std.specs.List.{list_all, range_with_len}
-use Rattle.std.proofs.lemmas.Bool.{false≢true, and_from, lt-ltb, le-leb}
+use Rattle.std.proofs.lemmas.Bool.{false≢true, and_from, eqb-true, lt-ltb, le-leb}
 use Rattle.cluster_msgs.specs.Shape.{Shape, key_count}
 use Rattle.cluster_msgs.specs.declared.cores.ClientEvent.TheVariants.{Want as WantKeys}
 use Rattle.cluster_msgs.specs.declared.events.Event.{Event}
@@ -102,3 +102,17 @@ open_want j w v n wanted h e = subst (λ x. IsOpen wanted n x) (sym e) (let q = 
   shape = q.2 ∙ h.shape;
   fresh = q.1;
 })
+
+-- one key is wanted
+pub one_wanted : (count key : ℕ) (keys : List ℕ) → keys ≡ key ∷ [] → key < count → AreWanted count keys
+one_wanted count key keys e h = subst (λ ks. AreWanted count ks) (sym e) (record {
+  some = refl;
+  keys = λ k q. subst (λ x. x < count) (only_one k q) h;
+})
+  where
+    pick : (k : ℕ) (b : Bool) → (key == k) ≡ b → (b || false) ≡ true → key ≡ k
+    pick k true q r = eqb-true key k q
+    pick k false q r = absurd (false≢true r)
+
+    only_one : (k : ℕ) → is_in k (key ∷ []) ≡ true → key ≡ k
+    only_one k q = pick k (key == k) refl q

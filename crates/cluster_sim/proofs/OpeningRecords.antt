@@ -1,6 +1,6 @@
 -- The opening of a simulation, put together.
 use Rattle.std.proofs.Common.{◌≡◌, ℕ, ◌+◌, ◌-◌, ◌^◌, ◌≤◌, ◌<◌, true, List, [], ◌∷◌, ◌++◌, length, replicate, Option, Result, Ok, Err, refl, sym, ap, ◌∙◌, arith, subst}
-use Rattle.std.specs.Prelude.{OnOk}
+use Rattle.std.specs.Prelude.{OnOk, IfOk}
 use Rattle.std.proofs.lemmas.List.{length-append, length-replicate}
 use Rattle.cluster_msgs.specs.Shape.{Shape, key_count}
 use Rattle.cluster_msgs.specs.declared.events.Event.{Event}
@@ -105,3 +105,7 @@ opening_is {J} {B} {F} op s g clients saturation ready fresh h some = record {
   where
     same : setting s ≡ setting_of g clients saturation
     same = sym (setting-world s) ∙ ap (λ (c : Blocks B). c.world.sched.setting) h
+
+pub opening_if : {J B F E : Type 0} (op : J → ℕ → List B → Option B) (r : Result (State J B F) E) (job : J) (g : Shape) (clients saturation : ℕ) → 1 ≤ clients → IfOk r (λ w. cluster w ≡ opening_cluster (setting_of g clients saturation) (op job)) → IfOk r (λ w. IsReady w) → IfOk r (λ w. w.events ≡ 0) → IfOk r (λ w. w.job ≡ job) → IfOk r (λ w. IsOpening op w)
+opening_if op (Ok w) job g clients saturation some a b e j = opening_is op w g clients saturation b e (a ∙ ap (λ i. opening_cluster (setting_of g clients saturation) (op i)) (sym j)) some
+opening_if op (Err x) job g clients saturation some a b e j = tt

@@ -1,6 +1,8 @@
 //! Small simulations, whose turns are counted by hand, and the words of a number.
 ghost use Rattle.std.specs.Prelude.{◌≡◌, ◌∷◌, ◌<◌, [], IfOk};
-ghost use Rattle.cluster_msgs.specs.Shape.{key_count};
+ghost use Rattle.cluster_msgs.specs.Shape.{key_count, edge_count};
+ghost use Rattle.cluster_world.specs.Worlds.{setting};
+ghost use Rattle.cluster_sim.specs.Openings.{IsOpening};
 ghost use Rattle.cluster_sim.specs.Plans.{plan_of, IsPlan};
 
 use crate::act::SimError;
@@ -76,7 +78,8 @@ impl JobSpec for Quotients {
 }
 
 fn one_key(alloc: Global) -> Result<GraphShape, AllocError>
-    ensures { IfOk result (λ g. key_count g ≡ 1) }
+    ensures keys { IfOk result (λ g. key_count g ≡ 1) }
+    ensures edges { IfOk result (λ g. edge_count g ≡ 0) }
 {
     let mut shape = GraphShape::new(alloc);
     shape.push(&KeyList::new(alloc), 8, 8)?;
@@ -126,20 +129,46 @@ fn losing(alloc: Global) -> Result<SimPlan, AllocError>
     })
 }
 
-/// The simulation of a job of which one key is wanted.
-fn simulated(
+/// A world with one client, in which nothing has happened.
+fn opened<J: JobSpec>(alloc: Global, job: J, feed: J::Feed) -> Result<World<J>, AllocError>
+    requires { J.feed_fits job feed }
+    ensures opening { IfOk result (λ w. IsOpening J.operation w) }
+    ensures graph { IfOk result (λ w. (setting w).shape ≡ J.graph job) }
+{
+    World::new(alloc, job, feed, 1, 11)
+}
+
+/// The simulation of a world whose client wants one key.
+fn played<J: JobSpec>(
     alloc: Global,
-    job: Quotients,
+    world: &mut World<J>,
     key: u32,
     plan: &SimPlan,
     number: u64,
 ) -> Result<SimEnd, SimError>
-    requires key { key < key_count job.shape }
+    requires opening { IsOpening J.operation world.old }
+    requires key { key < key_count (setting world.old).shape }
     requires plan { IsPlan (plan_of plan.now) }
 {
-    let mut world = World::new(alloc, job, Still, 1, 11)?;
     let wanted = only(alloc, key)?;
-    simulate(alloc, &mut world, number, plan, &wanted)
+    simulate(alloc, world, number, plan, &wanted)
+}
+
+/// The simulation of a job of which one key is wanted.
+fn simulated<J: JobSpec>(
+    alloc: Global,
+    job: J,
+    feed: J::Feed,
+    key: u32,
+    plan: &SimPlan,
+    number: u64,
+) -> Result<SimEnd, SimError>
+    requires feed { J.feed_fits job feed }
+    requires key { key < key_count (J.graph job) }
+    requires plan { IsPlan (plan_of plan.now) }
+{
+    let mut world = opened(alloc, job, feed)?;
+    played(alloc, &mut world, key, plan, number)
 }
 
 /// One key on one worker.
@@ -148,6 +177,7 @@ fn of_one_key(alloc: Global, number: u64) -> Result<SimEnd, SimError> {
     simulated(
         alloc,
         Quotients { shape, first: 5 },
+        Still,
         0,
         &alone(alloc),
         number,
@@ -157,7 +187,14 @@ fn of_one_key(alloc: Global, number: u64) -> Result<SimEnd, SimError> {
 /// Two keys, of which the first is 4 or 0, on one worker.
 fn of_two_keys(alloc: Global, first: u64, number: u64) -> Result<SimEnd, SimError> {
     let shape = two_keys(alloc)?;
-    simulated(alloc, Quotients { shape, first }, 1, &alone(alloc), number)
+    simulated(
+        alloc,
+        Quotients { shape, first },
+        Still,
+        1,
+        &alone(alloc),
+        number,
+    )
 }
 
 /// Two keys on two workers, of which one dies.
@@ -166,6 +203,7 @@ fn of_a_loss(alloc: Global, number: u64) -> Result<SimEnd, SimError> {
     simulated(
         alloc,
         Quotients { shape, first: 4 },
+        Still,
         1,
         &losing(alloc)?,
         number,
@@ -192,7 +230,7 @@ fn counts_of(end: &SimEnd) -> Counts {
     }
 }
 
-// The want, the task, its start, its finish and its message, the news for the client, the ask, its service and its arrival.
+// The want, the task, its start, its finish, what is said of it, the news for the client, the ask, its service, the answer.
 #[test]
 fn one_key_takes_nine_turns(rt: HostRuntime) -> Result<(), Fail> {
     let end = of_one_key(rt.alloc(), 0)?;
@@ -257,7 +295,7 @@ fn a_lost_worker_costs_a_task(rt: HostRuntime) -> Result<(), Fail> {
             zero: None
         }
     );
-    assert_eq!(rt; end.report.workers.as_slice(), &[(1, 1), (2, 2)]);
+    assert!(rt; end.report.workers.as_slice() == [(1, 1), (2, 2)].as_slice());
     Ok(())
 }
 
