@@ -16,7 +16,7 @@ use Rattle.job_run.specs.declared.ends.Ended.{Ended}
 use Rattle.job_run.specs.declared.ends.Ended.TheVariants.{Done, File, Zero, ReadFault, WriteFault, OutOfMemory}
 use Rattle.job_run.specs.declared.ends.FileError.{FileError}
 use Rattle.job_run.specs.Inputs.{FirstRefusal, FitInputs, FitsShape, HoldArrays, HoldsArray, InputRefused, InputsFit, RefusesFile, told_all}
-use Rattle.job_run.specs.Loading.{AreBlocks, AreHeads, HeadEnds, IsBlockFor, IsEarly, IsHeadFor, IsRefusedAt, LoadEnds}
+use Rattle.job_run.specs.Loading.{AreBlocks, AreHeads, HeadEnds, IsBlockFor, IsEarly, IsHeadFor, IsOfReading, IsRefusedAt, LoadEnds}
 use Rattle.job_run.specs.Plan.{Plan, input_shapes}
 use Rattle.job_run.specs.Runs.{Cause}
 use Rattle.job_run.specs.Values.{OnInputs}
@@ -143,6 +143,14 @@ load_early shapes files before after Done ends = absurd ends
 load_early shapes files before after (Zero node) ends = absurd ends
 load_early shapes files before after WriteFault ends = absurd ends
 
+load_reading : (shapes : List (List ℕ)) (files : List Content) (before after : ℕ) (end : Ended) → LoadEnds shapes files before after end → IsOfReading end
+load_reading shapes files before after (File at error) ends = tt
+load_reading shapes files before after ReadFault ends = tt
+load_reading shapes files before after OutOfMemory ends = tt
+load_reading shapes files before after Done ends = absurd ends
+load_reading shapes files before after (Zero node) ends = absurd ends
+load_reading shapes files before after WriteFault ends = absurd ends
+
 -- ## The inputs of a job
 
 -- a store that was opened for a job's inputs
@@ -230,3 +238,7 @@ results_cause (Err e) p old new mid files shapes before now o is zero risen ends
     let A : List (List ℕ) → Type 0 = λ s. LoadEnds s files before now e in
     let B : ℕ → Type 0 = λ b. LoadEnds (input_shapes p.nodes) files b now e in
     load_cause p old new mid files now e o risen (subst B zero (subst A is ends))
+
+pub results_reading : {V : Type 0} (r : Result V Ended) (files : List Content) (shapes : List (List ℕ)) (before now : ℕ) → IfErr r (LoadEnds shapes files before now) → IfErr r IsOfReading
+results_reading (Ok v) files shapes before now ends = tt
+results_reading (Err e) files shapes before now ends = load_reading shapes files before now e ends

@@ -1,13 +1,13 @@
 -- Files that are saved one after another.
-use Rattle.std.proofs.Common.{◌≡◌, ℕ, ◌<◌, ◌+◌, ◌-◌, ◌≤◌, min, List, [], ◌∷◌, length, take, get_or, refl, ap, sym, ◌∙◌, subst, inl, inr, arith, Option, Some, None, Bool, true, false}
-use Rattle.std.specs.Prelude.{bytes_eq, IfSome, IsSome, IsTrue, ◌⊎◌}
+use Rattle.std.proofs.Common.{◌≡◌, ℕ, ℤ, pos, ◌<◌, ◌++◌, ◌+◌, ◌-◌, ◌≤◌, min, List, [], ◌∷◌, length, take, get_or, refl, ap, sym, ◌∙◌, subst, inl, inr, arith, Option, Some, None, Bool, true, false}
+use Rattle.std.specs.Prelude.{bytes_eq, unwrap_or, Result, Ok, Err, OnOk, OnErr, IfSome, IsSome, IsTrue, ◌⊎◌}
 use Rattle.std.proofs.lemmas.Slice.Eq.{bytes_eq-Decides}
 use Rattle.std.proofs.lemmas.Bool.{cases_Bool, false≢true}
-use Rattle.std.proofs.lemmas.List.{get_or-take, length-take, take_all}
+use Rattle.std.proofs.lemmas.List.{get_or-take, length-take, map-append, take_all, take_more}
 use Rattle.io_edge.specs.View.{Files, Creates, raised_by, updated}
 use Rattle.job_run.specs.Part.{AreLeft, AreWhole, IsLeft, IsNoneOf, IsPart, RaisedAtMost, SavesPart}
 use Rattle.job_run.specs.Plan.{AreApart}
-use Rattle.job_run.specs.Saving.{SavesAll, SavesSome}
+use Rattle.job_run.specs.Saving.{SavesAll, SavesSome, elements_of}
 use Rattle.job_run.proofs.Counting.{none_raised, raised_at_most, raised_by-none, raised_next, raised_try}
 
 pub below_or : (a b : ℕ) → (a < b) ⊎ (b ≤ a)
@@ -159,3 +159,35 @@ saves_whole names files k old new h all = let P : List (List ℕ) → Type 0 = �
 
 pub all_some : (names files : List (List ℕ)) (old new : Files) → SavesAll names files old new → SavesSome names files old new
 all_some names files old new all = record { tells = all.tells; opened = all.opened; created = raised_at_most names old.created new.created all.created; left = all.left; others = all.others }
+
+-- ## One file alone
+
+apart_alone : (name : List ℕ) → AreApart (name ∷ [])
+apart_alone name j k h l = absurd (omega (arith, h, l))
+
+saves_one : (name bytes : List ℕ) (old new : Files) → Creates name old new → SavesPart name bytes old new → new.created ≡ raised_by (name ∷ []) old.created → (IsTrue old.tells → new.held ≡ updated name (Some bytes) old.held) → SavesAll (name ∷ []) (bytes ∷ []) old new
+saves_one name bytes old new creates part created saved =
+    saves_more (name ∷ []) (bytes ∷ []) 0 name bytes old old new (omega arith) refl refl (apart_alone name) (saves_none (name ∷ []) (bytes ∷ []) old) creates created saved part
+
+pub one_saved : {T E : Type 0} (r : Result T E) (name bytes written : List ℕ) (old new : Files) → written ≡ bytes → Creates name old new → SavesPart name written old new → OnOk r (new.created ≡ raised_by (name ∷ []) old.created) →
+    OnOk r (IsTrue old.tells → new.held ≡ updated name (Some written) old.held) → OnOk r (SavesAll (name ∷ []) (bytes ∷ []) old new)
+one_saved (Ok x) name bytes written old new e creates part created saved = let P : List ℕ → Type 0 = λ b. SavesAll (name ∷ []) (b ∷ []) old new in subst P e (saves_one name written old new creates part created saved)
+one_saved (Err x) name bytes written old new e creates part created saved = tt
+
+pub one_failed : {T E : Type 0} (r : Result T E) (name bytes written : List ℕ) (old new : Files) → written ≡ bytes → Creates name old new → SavesPart name written old new → OnErr r (SavesSome (name ∷ []) (bytes ∷ []) old new)
+one_failed (Ok x) name bytes written old new e creates part = tt
+one_failed (Err x) name bytes written old new e creates part =
+    let P : List ℕ → Type 0 = λ b. SavesSome (name ∷ []) (b ∷ []) old new in
+    subst P e (saves_failed (name ∷ []) (written ∷ []) 0 name written old old new (omega arith) refl refl (apart_alone name) (saves_none (name ∷ []) (written ∷ []) old) creates part)
+
+pub untouched_some : (names files : List (List ℕ)) (old : Files) → SavesSome names files old old
+untouched_some names files old = record { tells = refl; opened = refl; created = none_raised names old.created old.created refl; left = left_alone names files old old refl; others = λ n none. refl }
+
+-- ## Elements that are all there
+
+pub element_more : (cells : List ℤ) (all more : List (Option ℤ)) (i : ℕ) → i < length cells → elements_of all ≡ take i cells → more ≡ all ++ Some (get_or cells i (pos 0)) ∷ [] → elements_of more ≡ take (i + 1) cells
+element_more cells all more i h are is =
+    ap elements_of is ∙ (map-append (λ z. unwrap_or z (pos 0)) all (Some (get_or cells i (pos 0)) ∷ []) ∙ (ap (λ x. x ++ get_or cells i (pos 0) ∷ []) are ∙ sym (take_more cells i (pos 0) h)))
+
+pub elements_whole : (cells : List ℤ) (i : ℕ) → length cells ≤ i → take i cells ≡ cells
+elements_whole cells i h = take_all i cells h

@@ -60,3 +60,10 @@ abbrev pub IsEarly : Ended → Type 0
 IsEarly Done = ⊥
 IsEarly WriteFault = ⊥
 IsEarly end = Unit {0}
+
+-- an end that comes while inputs are read
+abbrev pub IsOfReading : Ended → Type 0
+IsOfReading Done = ⊥
+IsOfReading (Zero node) = ⊥
+IsOfReading WriteFault = ⊥
+IsOfReading end = Unit {0}

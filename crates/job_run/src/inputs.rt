@@ -5,7 +5,7 @@ ghost use Rattle.array_expr.specs.Elem.{is_input};
 ghost use Rattle.array_expr.specs.Node.{IsExpression};
 ghost use Rattle.job_run.specs.Inputs.{HoldArrays, InputsFit};
 ghost use Rattle.job_run.specs.Jobs.{plan_of};
-ghost use Rattle.job_run.specs.Loading.{IsEarly};
+ghost use Rattle.job_run.specs.Loading.{IsEarly, IsOfReading};
 ghost use Rattle.job_run.specs.Plan.{IsRunnable, input_shapes};
 ghost use Rattle.job_run.specs.Runs.{Cause};
 ghost use Rattle.job_run.specs.Values.{OnInputs};
@@ -59,6 +59,7 @@ pub fn load_inputs<S: Site>(alloc: Global, site: &mut S, job: &Job) -> Result<Ve
     ensures later { (S.view site.old).read_faults ≤ (S.view site.new).read_faults }
     ensures cause { IfErr result (λ e. Cause (plan_of job.now) (S.view site.old) (S.view site.new) e) }
     ensures early { IfErr result IsEarly }
+    ensures reading { IfErr result IsOfReading }
 {
     let shapes = declared_shapes(alloc, job.expr.nodes())?;
     let mut store = match site.store(alloc, job.inputs.as_slice()) {

@@ -18,8 +18,11 @@ mod save;
 mod values;
 
 pub use ends::{Ended, FileError};
+pub use inputs::load_inputs;
 pub use job::{Job, Save};
+pub use lines::saved_lines;
 pub use run::run_job;
+pub use save::save_block;
 
 #[cfg(test)]
 mod tests;

@@ -3,7 +3,7 @@ ghost use Rattle.std.specs.Prelude.{◌≡◌, ◌<◌, ◌≤◌, ◌++◌, len
 ghost use Rattle.job_run.specs.Jobs.{plan_of, saved_of};
 ghost use Rattle.job_run.specs.Plan.{IsRunnable};
 ghost use Rattle.job_run.specs.Runs.{lines_of};
-ghost use Rattle.job_run.specs.Values.{saved_line};
+ghost use Rattle.job_run.specs.Values.{saved_line, saved_lines};
 
 use crate::job::{Job, Save};
 use array_expr::Expr;
@@ -21,15 +21,24 @@ fn push_line(alloc: Global, text: &mut String, expr: &Expr, save: &Save) -> Resu
     text.push_str("\n")
 }
 
-/// The lines of a job that was saved.
-pub fn lines(alloc: Global, job: &Job) -> Result<String, AllocError>
+/// The lines of the files that a job saves.
+pub fn saved_lines(alloc: Global, job: &Job) -> Result<String, AllocError>
     requires { IsRunnable (plan_of job.now) }
-    ensures { IfOk result (λ t. string_bytes t ≡ lines_of (plan_of job.now)) }
+    ensures { IfOk result (λ t. string_bytes t ≡ saved_lines (plan_of job.now).nodes (plan_of job.now).saves) }
 {
     let mut text = String::new(alloc);
     for save in &job.saves {
         push_line(alloc, &mut text, &job.expr, save)?;
     }
+    Ok(text)
+}
+
+/// The lines of a job that was saved.
+pub fn lines(alloc: Global, job: &Job) -> Result<String, AllocError>
+    requires { IsRunnable (plan_of job.now) }
+    ensures { IfOk result (λ t. string_bytes t ≡ lines_of (plan_of job.now)) }
+{
+    let mut text = saved_lines(alloc, job)?;
     text.push_str("finished by: plain\n")?;
     Ok(text)
 }

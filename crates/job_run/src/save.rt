@@ -1,8 +1,8 @@
 // Saved files.
-ghost use Rattle.std.specs.Prelude.{◌≡◌, ◌<◌, ◌+◌, ◌*◌, ◌^◌, ◌++◌, [], ◌∷◌, ℕ, length, map, slice_index_or, OnOk, OnErr, IsTrue, Some};
+ghost use Rattle.std.specs.Prelude.{◌≡◌, ◌<◌, ◌+◌, ◌*◌, ◌^◌, ◌++◌, [], ◌∷◌, ℕ, length, map, slice_index_or, IfOk, OnOk, OnErr, IsTrue, Some};
 ghost use Rattle.io_edge.specs.Cause.{HasOpenCause};
 ghost use Rattle.io_edge.specs.View.{Creates, OnlyWrites, raised_by, updated};
-ghost use Rattle.npy_codec.specs.Npy.{cells_bytes};
+ghost use Rattle.npy_codec.specs.Npy.{cells_bytes, npy};
 ghost use Rattle.job_run.specs.Jobs.{saved_of};
 ghost use Rattle.job_run.specs.Part.{SavesPart};
 ghost use Rattle.job_run.specs.Plan.{AreApart};
@@ -12,9 +12,10 @@ ghost use Rattle.job_run.specs.Values.{cells_at, file_of};
 use crate::data::write_array;
 use crate::job::Save;
 use io_edge::{OpenFault, Site};
+use nd_shape::Block;
 use npy_codec::write_head;
 use plain_eval::Held;
-use std::alloc::Global;
+use std::alloc::{AllocError, Global};
 
 // Creates a file of a header and elements, whole or, after an error, in part.
 fn create_array<S: Site>(
@@ -57,6 +58,36 @@ fn save_array<S: Site>(
     let _ = shape.dims();
     let head = write_head(alloc, shape)?;
     create_array(alloc, site, name, &head, held.cells())
+}
+
+// Elements, each of which is there.
+fn present(alloc: Global, cells: &[i64]) -> Result<Vec<Option<i64>>, AllocError>
+    ensures { IfOk result (λ v. elements_of v.items ≡ cells.now) }
+{
+    let mut all = Vec::with_capacity(alloc, cells.len())?;
+    for cell in cells {
+        all.push(Some(*cell))?;
+    }
+    Ok(all)
+}
+
+/// Creates the file of a block, or fails at it: it is there in part then, or isn't there.
+pub fn save_block<S: Site>(
+    alloc: Global,
+    site: &mut S,
+    name: &str,
+    block: &Block,
+) -> Result<(), OpenFault>
+    ensures ok { OnOk result (SavesAll (name.now ∷ []) (npy block.now.shape block.now.cells ∷ []) (S.view site.old).files (S.view site.new).files) }
+    ensures err { OnErr result (SavesSome (name.now ∷ []) (npy block.now.shape block.now.cells ∷ []) (S.view site.old).files (S.view site.new).files) }
+    ensures only { OnlyWrites (S.view site.old) (S.view site.new) }
+    ensures cause { HasOpenCause (S.view site.old).write_faults (S.view site.new).write_faults result }
+{
+    let shape = block.shape();
+    let _ = shape.dims();
+    let head = write_head(alloc, shape)?;
+    let cells = present(alloc, block.cells())?;
+    create_array(alloc, site, name, &head, &cells)
 }
 
 /// Creates the files of all saves, one after another, or fails at one of them: that one is there in part, or isn't there.

@@ -1,7 +1,7 @@
 use Rattle.std.proofs.Common.{◌≡◌, ◌≤◌, ◌∙◌, ap, length, arith}
 use Rattle.job_run.specs.Jobs.{plan_of}
 use Rattle.job_run.specs.Plan.{input_shapes}
-use Rattle.job_run.proofs.Loads.{few_shapes, results_blocks, results_cause, results_fit, results_shapes}
+use Rattle.job_run.proofs.Loads.{few_shapes, results_blocks, results_cause, results_fit, results_reading, results_shapes}
 use Rattle.job_run.proofs.inputs.load_inputs.Goals as goal
 
 pub load_from-loaded-requires-clause-small : goal.load_from-loaded-requires-clause-small
@@ -32,3 +32,6 @@ returns-clause-cause g c =
     results_cause c.load_from-loaded.result (plan_of c.args.job.now) (g.S.Site.view c.args.site.now) (g.S.Site.view c.give_store.new.self) (g.S.Site.view c.store.new.self).files (g.S.In.Store.files c.in-Ok.store) c.deref.result.now
     (g.S.In.Store.count c.in-Ok.store) (g.S.In.Store.count c.load_from-loaded.new.store)
     (record { shows = rw c.as_slice.ensures.value at c.in-Ok.ensures.shows; declared = c.requires.runs.inputs }) e c.in-Ok.ensures.fresh (rw c.in-Ok.ensures.kept at c.give_store.ensures.cause.risen) c.load_from-loaded.ensures.cause
+
+pub returns-clause-reading : goal.returns-clause-reading
+returns-clause-reading g c = results_reading c.load_from-loaded.result (g.S.In.Store.files c.in-Ok.store) c.deref.result.now (g.S.In.Store.count c.in-Ok.store) (g.S.In.Store.count c.load_from-loaded.new.store) c.load_from-loaded.ensures.cause

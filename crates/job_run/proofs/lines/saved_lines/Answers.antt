@@ -4,7 +4,7 @@ use Rattle.job_run.specs.declared.job.Save.{Save}
 use Rattle.job_run.specs.Jobs.{saved_of}
 use Rattle.job_run.specs.Values.{saved_line}
 use Rattle.job_run.proofs.SavesList.{lines_more, lines_whole, saved_node}
-use Rattle.job_run.proofs.lines.lines.Goals as goal
+use Rattle.job_run.proofs.lines.saved_lines.Goals as goal
 
 pub push_line-requires : goal.push_line-requires
 push_line-requires c =
@@ -28,4 +28,4 @@ pub returns : goal.returns
 returns c =
     let e = c.deref-save-items.ensures.value in
     let L : List Save → Type 0 = λ l. length l ≤ c.loop-save.save-index in
-    c.in_ok-push_str.ensures.bytes ∙ ap (λ x. x ++ codes "finished by: plain\n") (c.loop-save.invariant ∙ lines_whole c.args.job.now.expr c.args.job.now.saves.items c.loop-save.save-index (subst L e c.loop-save-test.false))
+    c.loop-save.invariant ∙ lines_whole c.args.job.now.expr c.args.job.now.saves.items c.loop-save.save-index (subst L e c.loop-save-test.false)

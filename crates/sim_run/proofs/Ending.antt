@@ -1,0 +1,320 @@
+-- What a run leaves at each of its ends.
+use Rattle.std.proofs.Common.{◌≡◌, ℕ, ℤ, pos, ◌+◌, ◌*◌, ◌<◌, ◌≤◌, List, [], ◌∷◌, map, length, get_or, refl, ap, sym, ◌∙◌, subst, inl, inr, arith, Option}
+use Rattle.std.specs.Prelude.{◌⊎◌}
+use Rattle.io_edge.specs.Cause.{Rose}
+use Rattle.io_edge.specs.Content.{followed_by, PrintsPart}
+use Rattle.io_edge.specs.View.{View, Files, Opens, OnlyReads, OnlyWrites, OnlyOut, raised_by}
+use Rattle.io_edge.proofs.Pieces.{follow_none}
+use Rattle.cluster_msgs.specs.declared.events.Report.{Report}
+use Rattle.nd_shape.specs.Block.{Array}
+use Rattle.nd_shape.specs.Index.{place}
+use Rattle.npy_codec.specs.Npy.{npy}
+use Rattle.array_expr.specs.declared.expr.Node.{Node}
+use Rattle.array_expr.specs.Elem.{Cells}
+use Rattle.plain_eval.specs.Eval.{block_at, held_in}
+use Rattle.addition_job.specs.Chunks.{added}
+use Rattle.job_run.specs.declared.ends.Ended.{Ended}
+use Rattle.job_run.specs.declared.ends.Ended.TheVariants.{Done, File, Zero, ReadFault, WriteFault, OutOfMemory}
+use Rattle.job_run.specs.Inputs.{InputsFit}
+use Rattle.job_run.specs.Loading.{IsEarly, IsOfReading}
+use Rattle.job_run.specs.Plan.{Plan, Saved, names_saved, nodes_saved}
+use Rattle.job_run.specs.Runs.{Cause as RunCause, HasValues, RunsPlan, lines_of as run_lines}
+use Rattle.job_run.specs.Saving.{SavesAll, SavesSome}
+use Rattle.job_run.specs.Values.{OnInputs, HasElements, MeetsNone, cells_at, file_of, values_of}
+use Rattle.job_run.proofs.Running.{Evaluated, always, done_runs, early_runs, files_known, on_inputs, print_fault_runs, write_fault_runs, write_memory_runs}
+use Rattle.sim_words.specs.declared.sim.SimWords.{SimWords}
+use Rattle.sim_run.specs.declared.ends.SimEnded.{SimEnded}
+use Rattle.sim_run.specs.declared.ends.SimEnded.TheVariants.{NotBuilt, Keys, Events, Turns, Ran}
+use Rattle.sim_run.specs.declared.form.Addition.{Addition}
+use Rattle.sim_run.specs.Ends.{Cause, RanCause, RanPrints, SimulatesPlan}
+use Rattle.sim_run.specs.Forms.{CanRun, HasManyChunks, IsAddition, IsSimulable}
+use Rattle.sim_run.specs.Serving.{IsStopped}
+use Rattle.sim_run.specs.Simulated.{IsOutOfEvents, IsOutOfTurns, IsServed, SimulatesTo}
+use Rattle.sim_run.specs.Texts.{lines_of}
+use Rattle.sim_run.proofs.Values.{all_there, arrays_are, file_of-sum, three_nodes, three_of, ThreeNodes}
+
+-- A run that ends as others do leaves what those leave. What they print is left open.
+ran : (p : Plan) (s : SimWords) (old new : View) (out : Option (List ℕ)) (end : Ended) → RunsPlan p old (record new { out = out }) end → RanCause p old new end → RanPrints p s old new end → SimulatesPlan p s old new (Ran end)
+ran p s old new out end r cause prints = record {
+  cause = cause;
+  saves = r.saves;
+  looked = r.looked;
+  others = r.others;
+  tells = r.tells;
+  opened = r.opened;
+  created = r.created;
+  prints = prints;
+  err = r.err;
+  note_faults = r.note_faults;
+}
+
+-- ## Before anything is opened
+
+opens_none : (names : List (List ℕ)) (files : Files) → Opens names files files
+opens_none names files = record {
+  tells = refl;
+  held = refl;
+  created = refl;
+  grows = λ n. omega arith;
+  at_most = λ n. omega arith;
+  size_kept = λ n s h. h;
+  size_others = λ n h. refl;
+}
+
+-- no memory was left before anything was done
+pub starved : (p : Plan) (s : SimWords) (old : View) → SimulatesPlan p s old old (Ran OutOfMemory)
+starved p s old =
+    ran p s old old old.out OutOfMemory (early_runs p old old OutOfMemory tt tt (opens_none p.inputs old.files) (record { out = refl; err = refl; write_faults = refl; print_faults = refl; note_faults = refl })) tt refl
+
+pub not_built : (p : Plan) (s : SimWords) (old : View) → ((a : Addition) → ¬ IsAddition p a) → SimulatesPlan p s old old NotBuilt
+not_built p s old none = record {
+  cause = none;
+  saves = refl;
+  looked = inl (record { held = refl; created = refl });
+  others = λ n none. refl;
+  tells = refl;
+  opened = refl;
+  created = refl;
+  prints = refl;
+  err = refl;
+  note_faults = refl;
+}
+
+pub too_many : (p : Plan) (s : SimWords) (old : View) → HasManyChunks p → SimulatesPlan p s old old Keys
+too_many p s old many = record {
+  cause = many;
+  saves = refl;
+  looked = inl (record { held = refl; created = refl });
+  others = λ n none. refl;
+  tells = refl;
+  opened = refl;
+  created = refl;
+  prints = refl;
+  err = refl;
+  note_faults = refl;
+}
+
+-- ## Where the input isn't read
+
+read_cause : (p : Plan) (old new : View) (end : Ended) → IsSimulable p → IsOfReading end → RunCause p old new end → RanCause p old new end
+read_cause p old new Done is reading cause = absurd reading
+read_cause p old new (File place error) is reading cause = (is, cause)
+read_cause p old new (Zero node) is reading cause = absurd reading
+read_cause p old new ReadFault is reading cause = (is, cause)
+read_cause p old new WriteFault is reading cause = absurd reading
+read_cause p old new OutOfMemory is reading cause = tt
+
+read_prints : (p : Plan) (s : SimWords) (old new : View) (end : Ended) → IsOfReading end → new.out ≡ old.out → RanPrints p s old new end
+read_prints p s old new Done reading same = absurd reading
+read_prints p s old new (File place error) reading same = same
+read_prints p s old new (Zero node) reading same = absurd reading
+read_prints p s old new ReadFault reading same = same
+read_prints p s old new WriteFault reading same = absurd reading
+read_prints p s old new OutOfMemory reading same = same
+
+pub not_read : (p : Plan) (s : SimWords) (a : Addition) (old new : View) (end : Ended) → CanRun p a → IsEarly end → IsOfReading end → RunCause p old new end → Opens p.inputs old.files new.files → OnlyReads old new → SimulatesPlan p s old new (Ran end)
+not_read p s a old new end can early reading cause opens only =
+    ran p s old new new.out end (early_runs p old new end early cause opens only) (read_cause p old new end (record { addition = a; can = can }) reading cause) (read_prints p s old new end reading only.out)
+
+-- ## Once the input is read
+
+-- the inputs were read, and these are their arrays
+pub record IsRead (p : Plan) (old mid : View) (inputs : List Array) : Type 0 where
+  pub opens : Opens p.inputs old.files mid.files
+  pub opened : mid.files.opened ≡ raised_by p.inputs old.files.opened
+  pub only : OnlyReads old mid
+  pub fit : InputsFit p old.files
+  pub blocks : OnInputs p old.files (λ blocks. blocks ≡ inputs)
+
+on_blocks : (p : Plan) (old mid : View) (inputs : List Array) (P : List Array → Type 0) → IsRead p old mid inputs → P inputs → OnInputs p old.files P
+on_blocks p old mid inputs P r holds = on_inputs p old.files (λ blocks. blocks ≡ inputs) P (λ blocks same. subst P (sym same) holds) r.blocks
+
+nodes_are : (p : Plan) (a : Addition) → IsAddition p a → ThreeNodes p.nodes a
+nodes_are p a is = three_nodes p.nodes a is.nodes
+
+values_are : (p : Plan) (a : Addition) (blocks : List Array) → IsAddition p a → values_of p blocks ≡ three_of (held_in blocks 0) a.count a.addend
+values_are p a blocks is = arrays_are (held_in blocks) a p.nodes (nodes_are p a is)
+
+meets_none : (p : Plan) (a : Addition) (blocks : List Array) → IsAddition p a → MeetsNone p.nodes (nodes_saved p) (values_of p blocks)
+meets_none p a blocks is n h reaches =
+    let P : List Cells → Type 0 = λ known. HasElements known n in
+    subst P (sym (values_are p a blocks is)) (all_there (held_in blocks 0) a.count a.addend n (omega (arith, h, ap length (nodes_are p a is).is)))
+
+has_values : (p : Plan) (a : Addition) (old mid : View) (inputs : List Array) → IsAddition p a → IsRead p old mid inputs → HasValues p old.files
+has_values p a old mid inputs is r = record { inputs = r.fit; values = always p old.files (λ blocks. MeetsNone p.nodes (nodes_saved p) (values_of p blocks)) (λ blocks. meets_none p a blocks is) }
+
+evaluated : (p : Plan) (a : Addition) (old mid : View) (inputs : List Array) → IsAddition p a → IsRead p old mid inputs → Evaluated p old mid (values_of p inputs)
+evaluated p a old mid inputs is r = record {
+  opens = r.opens;
+  opened = r.opened;
+  only = r.only;
+  sound = has_values p a old mid inputs is r;
+  values = on_blocks p old mid inputs (λ blocks. values_of p inputs ≡ values_of p blocks) r refl;
+}
+
+-- the simulation came to no end of its own
+stopped : (p : Plan) (s : SimWords) (a : Addition) (old mid : View) (inputs : List Array) (P : Addition → SimWords → List ℤ → Type 0) → CanRun p a → IsRead p old mid inputs → P a s (block_at inputs 0).cells → SimulatesTo p s old.files P
+stopped p s a old mid inputs P can r ends = record { addition = a; can = can; inputs = r.fit; ends = on_blocks p old mid inputs (λ blocks. P a s (block_at blocks 0).cells) r ends }
+
+pub out_of_turns : (p : Plan) (s : SimWords) (a : Addition) (old mid : View) (inputs : List Array) → CanRun p a → IsRead p old mid inputs → IsOutOfTurns a s (block_at inputs 0).cells → SimulatesPlan p s old mid Turns
+out_of_turns p s a old mid inputs can r ends = record {
+  cause = stopped p s a old mid inputs IsOutOfTurns can r ends;
+  saves = r.opens.held;
+  looked = inl (record { held = r.opens.held; created = r.opens.created });
+  others = λ n none. ap (λ f. f n) r.opens.held;
+  tells = r.opens.tells;
+  opened = r.opened;
+  created = r.opens.created;
+  prints = r.only.out;
+  err = r.only.err;
+  note_faults = r.only.note_faults;
+}
+
+pub out_of_events : (p : Plan) (s : SimWords) (a : Addition) (old mid : View) (inputs : List Array) → CanRun p a → IsRead p old mid inputs → IsOutOfEvents a s (block_at inputs 0).cells → SimulatesPlan p s old mid Events
+out_of_events p s a old mid inputs can r ends = record {
+  cause = stopped p s a old mid inputs IsOutOfEvents can r ends;
+  saves = r.opens.held;
+  looked = inl (record { held = r.opens.held; created = r.opens.created });
+  others = λ n none. ap (λ f. f n) r.opens.held;
+  tells = r.opens.tells;
+  opened = r.opened;
+  created = r.opens.created;
+  prints = r.only.out;
+  err = r.only.err;
+  note_faults = r.only.note_faults;
+}
+
+pub out_of_memory : (p : Plan) (s : SimWords) (old mid : View) (inputs : List Array) → IsRead p old mid inputs → SimulatesPlan p s old mid (Ran OutOfMemory)
+out_of_memory p s old mid inputs r = ran p s old mid mid.out OutOfMemory (early_runs p old mid OutOfMemory tt tt r.opens r.only) tt r.only.out
+
+-- the simulation gave no result
+pub stopped_runs : (p : Plan) (s : SimWords) (a : Addition) (old mid : View) (inputs : List Array) (end : SimEnded) → CanRun p a → IsRead p old mid inputs → IsStopped a s (block_at inputs 0).cells end → SimulatesPlan p s old mid end
+stopped_runs p s a old mid inputs NotBuilt can r ends = absurd ends
+stopped_runs p s a old mid inputs Keys can r ends = absurd ends
+stopped_runs p s a old mid inputs Events can r ends = out_of_events p s a old mid inputs can r ends
+stopped_runs p s a old mid inputs Turns can r ends = out_of_turns p s a old mid inputs can r ends
+stopped_runs p s a old mid inputs (Ran Done) can r ends = absurd ends
+stopped_runs p s a old mid inputs (Ran (File place error)) can r ends = absurd ends
+stopped_runs p s a old mid inputs (Ran (Zero node)) can r ends = absurd ends
+stopped_runs p s a old mid inputs (Ran ReadFault) can r ends = absurd ends
+stopped_runs p s a old mid inputs (Ran WriteFault) can r ends = absurd ends
+stopped_runs p s a old mid inputs (Ran OutOfMemory) can r ends = out_of_memory p s old mid inputs r
+
+-- ## The saved file
+
+-- the one save
+pub record OneSave (saves : List Saved) : Type 0 where
+  pub save : Saved
+  pub is : saves ≡ save ∷ []
+  pub node_is : save.node ≡ 2
+
+pub one_save : (saves : List Saved) → map (λ s. s.node) saves ≡ 2 ∷ [] → OneSave saves
+one_save [] e = absurd (omega (arith, ap length e))
+one_save (s ∷ []) e = record { save = s; is = refl; node_is = ap (λ l. get_or l 0 0) e }
+one_save (s ∷ t ∷ ts) e = absurd (omega (arith, ap length e))
+
+files_one : (p : Plan) (known : List Cells) → OneSave p.saves → files_known p known ≡ file_of (cells_at known 2) ∷ []
+files_one p known o = ap (map (λ (s : Saved). file_of (cells_at known s.node))) o.is ∙ ap (λ n. file_of (cells_at known n) ∷ []) o.node_is
+
+-- the input's array, as the addition has it
+pub record IsInput (a : Addition) (array : Array) : Type 0 where
+  pub shape_is : array.shape ≡ a.count ∷ []
+  pub count_is : length array.cells ≡ a.count
+
+-- the file of the sum
+abbrev pub sum_file : Addition → List Array → List ℕ
+sum_file a inputs = npy (a.count ∷ []) (added (pos a.addend) (block_at inputs 0).cells)
+
+held_at : (n : ℕ) (array : Array) (q : ℕ) → array.shape ≡ n ∷ [] → get_or array.cells (place array.shape (q ∷ [])) (pos 0) ≡ get_or array.cells q (pos 0)
+held_at n array q e =
+    let z : q * 1 + 0 ≡ q = omega arith in
+    ap (λ s. get_or array.cells (place s (q ∷ [])) (pos 0)) e ∙ ap (λ x. get_or array.cells x (pos 0)) z
+
+file_is : (p : Plan) (a : Addition) (inputs : List Array) → IsAddition p a → IsInput a (block_at inputs 0) → files_known p (values_of p inputs) ≡ sum_file a inputs ∷ []
+file_is p a inputs is input =
+    files_one p (values_of p inputs) (one_save p.saves is.saved) ∙ (ap (λ known. file_of (cells_at known 2) ∷ []) (values_are p a inputs is)
+    ∙ ap (λ f. f ∷ []) (file_of-sum (block_at inputs 0).cells (held_in inputs 0) a.count a.addend input.count_is (λ q. held_at a.count (block_at inputs 0) q input.shape_is)))
+
+-- the simulation served the client
+pub record Finishes (p : Plan) (s : SimWords) (a : Addition) (old mid : View) (inputs : List Array) (name : List ℕ) (report : Report) (turns : ℕ) : Type 0 where
+  pub can : CanRun p a
+  pub read : IsRead p old mid inputs
+  pub input : IsInput a (block_at inputs 0)
+  pub name_is : names_saved p ≡ name ∷ []
+  pub served : IsServed a s (block_at inputs 0).cells report turns
+
+saves_all : (p : Plan) (s : SimWords) (a : Addition) (old mid : View) (inputs : List Array) (name : List ℕ) (report : Report) (turns : ℕ) (saved : Files) → Finishes p s a old mid inputs name report turns →
+    SavesAll (name ∷ []) (sum_file a inputs ∷ []) mid.files saved → SavesAll (names_saved p) (files_known p (values_of p inputs)) mid.files saved
+saves_all p s a old mid inputs name report turns saved f all =
+    let P : List (List ℕ) → Type 0 = λ names. SavesAll names (sum_file a inputs ∷ []) mid.files saved in
+    let Q : List (List ℕ) → Type 0 = λ files. SavesAll (names_saved p) files mid.files saved in
+    subst Q (sym (file_is p a inputs f.can.is f.input)) (subst P (sym f.name_is) all)
+
+saves_some : (p : Plan) (s : SimWords) (a : Addition) (old mid : View) (inputs : List Array) (name : List ℕ) (report : Report) (turns : ℕ) (saved : Files) → Finishes p s a old mid inputs name report turns →
+    SavesSome (name ∷ []) (sum_file a inputs ∷ []) mid.files saved → SavesSome (names_saved p) (files_known p (values_of p inputs)) mid.files saved
+saves_some p s a old mid inputs name report turns saved f some =
+    let P : List (List ℕ) → Type 0 = λ names. SavesSome names (sum_file a inputs ∷ []) mid.files saved in
+    let Q : List (List ℕ) → Type 0 = λ files. SavesSome (names_saved p) files mid.files saved in
+    subst Q (sym (file_is p a inputs f.can.is f.input)) (subst P (sym f.name_is) some)
+
+served_all : (p : Plan) (s : SimWords) (a : Addition) (old mid : View) (inputs : List Array) (name : List ℕ) (report : Report) (turns : ℕ) → Finishes p s a old mid inputs name report turns →
+    OnInputs p old.files (λ blocks. IsServed a s (block_at blocks 0).cells report turns)
+served_all p s a old mid inputs name report turns f = on_blocks p old mid inputs (λ blocks. IsServed a s (block_at blocks 0).cells report turns) f.read f.served
+
+-- standard output as it was, whatever is printed later
+with_out : (saved new : View) (out : Option (List ℕ)) → OnlyOut saved new → OnlyOut saved (record new { out = out })
+with_out saved new out only = record { files = only.files; err = only.err; read_faults = only.read_faults; write_faults = only.write_faults; note_faults = only.note_faults }
+
+nothing_printed : (old new : Option (List ℕ)) (lines : List ℕ) → new ≡ old → PrintsPart old new lines
+nothing_printed old new lines same = record { count = 0; bound = omega arith; content = same ∙ follow_none old lines }
+
+pub save_starved : (p : Plan) (s : SimWords) (a : Addition) (old mid new : View) (inputs : List Array) (name : List ℕ) (report : Report) (turns : ℕ) → Finishes p s a old mid inputs name report turns →
+    SavesSome (name ∷ []) (sum_file a inputs ∷ []) mid.files new.files → OnlyWrites mid new → SimulatesPlan p s old new (Ran OutOfMemory)
+save_starved p s a old mid new inputs name report turns f some only =
+    ran p s old new new.out OutOfMemory
+    (write_memory_runs p old mid new (values_of p inputs) (evaluated p a old mid inputs f.can.is f.read) (saves_some p s a old mid inputs name report turns new.files f some) only) tt (only.out ∙ f.read.only.out)
+
+pub save_failed : (p : Plan) (s : SimWords) (a : Addition) (old mid new : View) (inputs : List Array) (name : List ℕ) (report : Report) (turns : ℕ) → Finishes p s a old mid inputs name report turns →
+    SavesSome (name ∷ []) (sum_file a inputs ∷ []) mid.files new.files → OnlyWrites mid new → Rose mid.write_faults new.write_faults → SimulatesPlan p s old new (Ran WriteFault)
+save_failed p s a old mid new inputs name report turns f some only rose =
+    let r : RunsPlan p old new WriteFault = write_fault_runs p old mid new (values_of p inputs) (evaluated p a old mid inputs f.can.is f.read) (saves_some p s a old mid inputs name report turns new.files f some) only rose in
+    ran p s old new new.out WriteFault r (record { addition = a; can = f.can }, r.cause.0, r.cause.1) (record {
+      addition = a;
+      can = f.can;
+      report = report;
+      turns = turns;
+      served = served_all p s a old mid inputs name report turns f;
+      printed = nothing_printed old.out new.out (lines_of p report turns) (only.out ∙ f.read.only.out);
+    })
+
+pub print_failed : (p : Plan) (s : SimWords) (a : Addition) (old mid saved new : View) (inputs : List Array) (name : List ℕ) (report : Report) (turns : ℕ) → Finishes p s a old mid inputs name report turns →
+    SavesAll (name ∷ []) (sum_file a inputs ∷ []) mid.files saved.files → OnlyWrites mid saved → OnlyOut saved new → PrintsPart saved.out new.out (lines_of p report turns) → Rose saved.print_faults new.print_faults →
+    SimulatesPlan p s old new (Ran WriteFault)
+print_failed p s a old mid saved new inputs name report turns f all writes prints printed rose =
+    let r : RunsPlan p old (record new { out = saved.out }) WriteFault =
+        print_fault_runs p old mid saved (record new { out = saved.out }) (values_of p inputs) (evaluated p a old mid inputs f.can.is f.read) (saves_all p s a old mid inputs name report turns saved.files f all) writes
+        (with_out saved new saved.out prints) (nothing_printed saved.out saved.out (run_lines p) refl) rose in
+    let P : Option (List ℕ) → Type 0 = λ o. PrintsPart o new.out (lines_of p report turns) in
+    ran p s old new saved.out WriteFault r (record { addition = a; can = f.can }, r.cause.0, r.cause.1) (record {
+      addition = a;
+      can = f.can;
+      report = report;
+      turns = turns;
+      served = served_all p s a old mid inputs name report turns f;
+      printed = subst P (writes.out ∙ f.read.only.out) printed;
+    })
+
+pub done : (p : Plan) (s : SimWords) (a : Addition) (old mid saved new : View) (inputs : List Array) (name : List ℕ) (report : Report) (turns : ℕ) → Finishes p s a old mid inputs name report turns →
+    SavesAll (name ∷ []) (sum_file a inputs ∷ []) mid.files saved.files → OnlyWrites mid saved → OnlyOut saved new → new.out ≡ followed_by saved.out (lines_of p report turns) → SimulatesPlan p s old new (Ran Done)
+done p s a old mid saved new inputs name report turns f all writes prints printed =
+    let out : Option (List ℕ) = followed_by saved.out (run_lines p) in
+    let r : RunsPlan p old (record new { out = out }) Done =
+        done_runs p old mid saved (record new { out = out }) (values_of p inputs) (evaluated p a old mid inputs f.can.is f.read) (saves_all p s a old mid inputs name report turns saved.files f all) writes (with_out saved new out prints) refl in
+    ran p s old new out Done r (record { addition = a; can = f.can }, r.cause) (record {
+      addition = a;
+      can = f.can;
+      report = report;
+      turns = turns;
+      served = served_all p s a old mid inputs name report turns f;
+      printed = printed ∙ ap (λ o. followed_by o (lines_of p report turns)) (writes.out ∙ f.read.only.out);
+    })

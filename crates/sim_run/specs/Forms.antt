@@ -1,0 +1,46 @@
+-- The one form of job that is simulated so far: a number is added to an array of one axis, which is cut into chunks of one size, and the sum
+-- is saved.
+use Rattle.std.specs.Prelude.{◌≡◌, ◌≤◌, ◌<◌, ◌^◌, ℕ, pos, List, [], ◌∷◌, length, map}
+use Rattle.nd_grid.specs.declared.operation.Binary.TheVariants.{Add}
+use Rattle.nd_shape.specs.Chunk.{chunks_of}
+use Rattle.nd_shape.specs.declared.chunk.ChunkSpec.TheVariants.{Even}
+use Rattle.array_expr.specs.declared.op.Op.{Op}
+use Rattle.array_expr.specs.declared.op.Op.TheVariants.{Input, Full, Elementwise}
+use Rattle.job_run.specs.Plan.{Plan, nodes_saved}
+use Rattle.sim_run.specs.declared.form.Addition.{Addition}
+
+-- the operations of its nodes
+abbrev pub operations : Addition → List Op
+operations a = Input (a.count ∷ []) (Even a.size ∷ []) ∷ Full [] (pos a.addend) [] ∷ Elementwise Add 0 1 ∷ []
+
+-- the job is this addition, within the bounds of those that are simulated
+pub record IsAddition (p : Plan) (a : Addition) : Type 0 where
+  pub nodes : map (λ n. n.op) p.nodes ≡ operations a
+  pub saved : nodes_saved p ≡ 2 ∷ []
+  pub short : a.count ≤ 2 ^ 20
+  pub cut : (1 ≤ a.size) × (a.size ≤ 2 ^ 20)
+  pub added : a.addend < 2 ^ 63
+
+-- how many chunks it has
+abbrev pub chunks_in : Addition → ℕ
+chunks_in a = length (chunks_of a.count (Even a.size))
+
+-- no more than the keys allow, of which the number has one, and each chunk two: its load and its addition
+abbrev pub chunks_most : ℕ
+chunks_most = 16383
+
+-- the job is an addition, of chunks that are few enough
+pub record CanRun (p : Plan) (a : Addition) : Type 0 where
+  pub is : IsAddition p a
+  pub few : chunks_in a ≤ chunks_most
+
+-- the job is an addition, of too many chunks
+pub record HasManyChunks (p : Plan) : Type 0 where
+  pub addition : Addition
+  pub is : IsAddition p addition
+  pub many : chunks_most < chunks_in addition
+
+-- the job is an addition that can be simulated
+pub record IsSimulable (p : Plan) : Type 0 where
+  pub addition : Addition
+  pub can : CanRun p addition
