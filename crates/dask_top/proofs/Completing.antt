@@ -1,5 +1,5 @@
 -- A job ends as its text, its inputs and its values say where nothing failed.
-use Rattle.std.proofs.Common.{◌≡◌, ℕ, ℤ, ◌≤◌, ◌<◌, List, [], ◌∷◌, map, length, get_or, refl, ap, sym, ◌∙◌, subst, inl, inr, arith, codes, Option, Some, None, Ok, Err}
+use Rattle.std.proofs.Common.{◌≡◌, ℕ, ℤ, List, [], ◌∷◌, get_or, refl, ap, sym, ◌∙◌, subst, inl, inr, arith, codes, Option, Some, None, Ok, Err}
 use Rattle.std.specs.Prelude.{◌⊎◌, IfSome, IsSome, IsSomeAnd}
 use Rattle.io_edge.specs.View.{View, Files}
 use Rattle.nd_shape.specs.Block.{Array}
@@ -24,7 +24,7 @@ use Rattle.sim_run.specs.Ends.{Cause as SimCause}
 use Rattle.sim_run.specs.Forms.{HasManyChunks, IsAddition, IsSimulable, chunks_in, operations}
 use Rattle.sim_run.specs.declared.form.Addition.{Addition}
 use Rattle.dask_top.specs.declared.answer.End.TheVariants.{Words, Job, Limit, NotBuilt, Keys, Events, Turns, Ran}
-use Rattle.dask_top.specs.Answers.{Answers, Cause, Completes, Does, EndsByInputs, EndsBySimulation, EndsByText, EndsByWork, MeetNoZero, MeetZero, NoFault, Obeys, Performs, RefusalCause, UnreadCause, WorkCause, status_of}
+use Rattle.dask_top.specs.Answers.{Answers, Cause, Completes, Does, EndsByInputs, EndsBySimulation, EndsByText, EndsByWork, MeetNoZero, MeetZero, NoFault, Performs, RefusalCause, WorkCause, status_of}
 use Rattle.dask_top.specs.Commands.{Command, Run, Plain, Sim, Asks, Asked, IsAsked, Known, Unread, Work, Evaluation, Simulation, job_of, work_of}
 use Rattle.dask_top.specs.Telling.{end_of}
 use Rattle.dask_top.specs.Reading.{Reading, Reads, RefusesText, SaysPlan, plan_said}

@@ -1,6 +1,6 @@
 -- What the words are read as, and what is done with them.
-use Rattle.std.proofs.Common.{◌≡◌, ℕ, ◌+◌, ◌-◌, ◌*◌, ◌≤◌, ◌<◌, List, [], ◌∷◌, length, take, drop, get_or, map, string_bytes, String, refl, ap, sym, ◌∙◌, subst, inl, inr, arith, codes, Option, Some, None, Ok, Err}
-use Rattle.std.specs.Prelude.{◌⊎◌, bytes_eq, false}
+use Rattle.std.proofs.Common.{◌≡◌, ℕ, ◌-◌, ◌≤◌, List, [], ◌∷◌, length, take, drop, get_or, map, string_bytes, String, refl, ap, sym, ◌∙◌, subst, inl, inr, arith, codes, Some, None}
+use Rattle.std.specs.Prelude.{bytes_eq, false}
 use Rattle.std.specs.declared.alloc.Global.{Global}
 use Rattle.std.proofs.lemmas.Bool.{false≢true}
 use Rattle.std.proofs.lemmas.List.{length-map}
@@ -8,12 +8,11 @@ use Rattle.std.proofs.lemmas.Slice.Eq.{bytes_eq-Decides}
 use Rattle.io_edge.specs.View.{View, OnlyErr}
 use Rattle.job_run.specs.declared.ends.Ended.TheVariants.{OutOfMemory}
 use Rattle.sim_words.specs.declared.sim.SimWords.{SimWords}
-use Rattle.sim_words.specs.Numbers.{IsNumber}
 use Rattle.sim_words.specs.Options.{HasNumber}
 use Rattle.sim_words.specs.Words.{IsSim}
 use Rattle.sim_run.specs.Simulated.{AreSettings}
 use Rattle.dask_top.specs.declared.answer.End.{End}
-use Rattle.dask_top.specs.declared.answer.End.TheVariants.{Words, Job, Limit, NotBuilt, Keys, Events, Turns, Ran}
+use Rattle.dask_top.specs.declared.answer.End.TheVariants.{Words, Ran}
 use Rattle.dask_top.specs.Answers.{Notes, Obeys, OnlyTells, Performs}
 use Rattle.dask_top.specs.Commands.{Command, Run, Plain, Sim, Asks, Known, Unread, Evaluation, Simulation, IsJobOf}
 use Rattle.dask_top.specs.Reading.{Reading}
