@@ -1,8 +1,7 @@
 -- A step of the world as an event of a simulation.
-use Rattle.std.proofs.Common.{◌≡◌, ℕ, ◌+◌, ◌<◌, Bool, true, false, List, Option, Result, Ok, Err, refl, sym, ap, ◌∙◌, subst}
+use Rattle.std.proofs.Common.{◌≡◌, ℕ, ◌+◌, Bool, List, Option, Result, Ok, Err, refl, sym, ◌∙◌, subst}
 use Rattle.std.specs.Prelude.{OnOk}
 use Rattle.cluster_msgs.specs.declared.events.Event.{Event}
-use Rattle.cluster_rules.specs.World.{Job, World}
 use Rattle.cluster_rules.specs.WorldStep.{world_step}
 use Rattle.value_laws.specs.Blocks.{job_of}
 use Rattle.value_laws.specs.Moves.{world_after}

@@ -1,16 +1,15 @@
 -- What a client's events leave, but for its own Want and Release.
 use Rattle.std.proofs.Common.{◌≡◌, ℕ, Bool, true, false, not, ◌&&◌, cond, List, [], ◌∷◌, Option, Some, None, is_some, filter, fold, refl, sym, ap, ◌∙◌}
 use Rattle.std.specs.Prelude.{◌==◌}
-use Rattle.std.proofs.lemmas.Bool.{true≢false, false≢true, and_parts, eqb-true}
+use Rattle.std.proofs.lemmas.Bool.{false≢true, and_parts, eqb-true}
 use Rattle.cluster_msgs.specs.declared.messages.ToClient.{ToClient}
 use Rattle.cluster_msgs.specs.declared.messages.ToClient.TheVariants.{KeyInMemory, LostData, ClientTaskErred}
-use Rattle.cluster_msgs.specs.declared.cores.ClientEvent.{ClientEvent}
-use Rattle.cluster_msgs.specs.declared.cores.ClientEvent.TheVariants.{Want, Release, FromScheduler, Ask as AskPeer, Gathered, GatherFailed}
+use Rattle.cluster_msgs.specs.declared.cores.ClientEvent.TheVariants.{FromScheduler, Ask as AskPeer, Gathered, GatherFailed}
 use Rattle.cluster_rules.specs.Functions.{put}
 use Rattle.cluster_rules.specs.Derived.{is_in}
 use Rattle.cluster_rules.specs.Worker.{Ask, ask_to, without_ask}
 use Rattle.cluster_rules.specs.WorkerStep.{keys_of}
-use Rattle.cluster_rules.specs.Client.{ClientFacts, client_step, client_ask, client_gathered, client_gathered_by, client_answered, keeps_still, client_gets, client_misses, hear, hears}
+use Rattle.cluster_rules.specs.Client.{ClientFacts, client_step, client_ask, client_gathered, client_gathered_by, client_answered, keeps_still, client_gets, client_misses, hear}
 
 -- its graph and its wants stay. A failure that is new is of a key that it wants and hasn't got
 pub record IsQuiet (c d : ClientFacts) : Type 0 where

@@ -1,5 +1,5 @@
 -- One more event of a course.
-use Rattle.std.proofs.Common.{◌≡◌, ℕ, suc, ◌+◌, ◌*◌, ◌-◌, ◌^◌, ◌≤◌, ◌<◌, Bool, true, false, cond, List, [], ◌∷◌, ◌++◌, length, Option, Some, None, filter, refl, sym, ap, ◌∙◌, arith, subst, append_assoc, append-nil, add-zero}
+use Rattle.std.proofs.Common.{◌≡◌, ℕ, suc, ◌+◌, ◌-◌, ◌^◌, ◌≤◌, ◌<◌, Bool, true, false, cond, List, [], ◌∷◌, ◌++◌, length, Option, Some, None, filter, refl, sym, ap, ◌∙◌, arith, subst, append_assoc, append-nil, add-zero}
 use Rattle.std.proofs.lemmas.List.{length-append}
 use Rattle.cluster_msgs.specs.declared.messages.Message.{Message}
 use Rattle.cluster_msgs.specs.declared.events.Event.{Event}
@@ -7,9 +7,9 @@ use Rattle.cluster_msgs.specs.declared.events.Event.TheVariants.{Join, Balance, 
 use Rattle.cluster_rules.specs.World.{Job, World, opening}
 use Rattle.cluster_rules.specs.WorldStep.{world_step}
 use Rattle.cluster_rules.specs.Enabled.{enabled, message}
-use Rattle.cluster_rules.specs.Runs.{LegalFrom, legal, run_from, reached}
+use Rattle.cluster_rules.specs.Runs.{LegalFrom, run_from}
 use Rattle.cluster_rules.specs.Report.{Taken, taken, is_join, how_many}
-use Rattle.cluster_rules.specs.Draw.{Plan, Sim, Next, Over, Scripted, Evicts, Balances, Spent, Drawn, Verdict, DrawnFrom, Draw, opening_events, sim_from, next, event_of, moved, verdict}
+use Rattle.cluster_rules.specs.Draw.{Plan, Sim, Next, Over, Scripted, Evicts, Balances, Spent, Drawn, Verdict, DrawnFrom, opening_events, sim_from, next, event_of, moved, verdict}
 use Rattle.run_report.specs.Counts.{IsCountOf}
 use Rattle.run_report.specs.declared.tally.Tally.{Tally}
 use Rattle.cluster_sim.specs.Courses.{IsMade, DrawsTo, Course}

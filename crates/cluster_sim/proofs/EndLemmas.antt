@@ -5,10 +5,9 @@ use Rattle.std.specs.List.{list_all, range_with_len}
 use Rattle.std.specs.Option.{option_map}
 use Rattle.std.proofs.lemmas.Bool.{true≢false, false≢true, and_parts, and_from, eqb-true}
 use Rattle.cluster_msgs.specs.Shape.{key_count}
-use Rattle.cluster_msgs.specs.declared.cores.End.{End}
 use Rattle.cluster_msgs.specs.declared.cores.End.TheVariants.{Got, Erred}
-use Rattle.cluster_rules.specs.Derived.{below, is_in}
-use Rattle.cluster_rules.specs.Client.{ClientFacts, client_keys, done}
+use Rattle.cluster_rules.specs.Derived.{is_in}
+use Rattle.cluster_rules.specs.Client.{ClientFacts, client_keys}
 use Rattle.cluster_rules.specs.Draw.{over, over_by}
 use Rattle.cluster_rules.proofs.SchedFrame.{in_range, or_true, same_eqb}
 use Rattle.cluster_sim.specs.Standing.{IsFor}

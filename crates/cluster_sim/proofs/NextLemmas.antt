@@ -1,26 +1,21 @@
 -- What comes next in a simulation is enabled, and leaves what the client wants.
-use Rattle.std.proofs.Common.{◌≡◌, ℕ, zero, suc, ◌+◌, ◌≤◌, ◌<◌, ◌*◌, Bool, true, false, not, ◌&&◌, cond, List, [], ◌∷◌, ◌++◌, length, Option, Some, None, is_some, filter, map, refl, sym, ap, ◌∙◌, arith, subst}
-use Rattle.std.specs.Prelude.{◌==◌, nat_lt, nat_le, slice_get, ◌%◌}
+use Rattle.std.proofs.Common.{◌≡◌, ℕ, zero, suc, ◌+◌, ◌≤◌, Bool, true, false, not, ◌&&◌, cond, List, [], ◌∷◌, Option, Some, None, filter, map, refl, ap, arith, subst}
+use Rattle.std.specs.Prelude.{◌==◌, slice_get}
 use Rattle.std.specs.List.{flat_map, AllByRecursion}
-use Rattle.std.proofs.lemmas.Bool.{true≢false, false≢true, and_parts, and_from, lt-ltb, le-leb, leb-true, ltb-true}
-use Rattle.cluster_msgs.specs.declared.events.Asker.{Asker}
+use Rattle.std.proofs.lemmas.Bool.{true≢false, and_parts, and_from, lt-ltb, le-leb}
 use Rattle.cluster_msgs.specs.declared.events.Item.{Item}
 use Rattle.cluster_msgs.specs.declared.events.Item.TheVariants.{Lose as LoseItem, Suspect as SuspectItem, Join as JoinItem}
 use Rattle.cluster_msgs.specs.declared.events.Event.{Event}
-use Rattle.cluster_msgs.specs.declared.events.Event.TheVariants.{Join, Lose, SeeLoss, Suspect, DeliverDown, DeliverUp, DeliverToClient, DeliverFromClient, Start, Finish, SendGather, ServeGather, ArriveGather, FailGather, Balance, Evict}
-use Rattle.cluster_msgs.specs.declared.cores.SchedEvent.TheVariants.{Join as JoinSched}
-use Rattle.cluster_rules.specs.Functions.{from_one}
-use Rattle.cluster_rules.specs.Sched.{Facts, workers, connected}
+use Rattle.cluster_msgs.specs.declared.events.Event.TheVariants.{SeeLoss, DeliverDown, DeliverUp, DeliverToClient, DeliverFromClient, Start, Finish, SendGather, ServeGather, ArriveGather, FailGather, Balance, Evict}
 use Rattle.cluster_rules.specs.SchedTable.{sched_takes}
 use Rattle.cluster_msgs.specs.Shape.{key_count}
 use Rattle.cluster_rules.specs.Derived.{below}
 use Rattle.cluster_rules.specs.World.{Job, World, Parcel, all_workers, all_clients, is_connected, shape_of}
 use Rattle.cluster_rules.specs.Enabled.{enabled, progress, progress_kinds, connected_workers, quiet_askers, is_quiet_asker}
-use Rattle.cluster_rules.specs.Draw.{Plan, Sim, Next, Over, Scripted, Evicts, Balances, Spent, Drawn, over, is_reached, is_idle, is_blocked, item_event, scripted, evicts_now, balances_now, is_time, drawn, draw_one, turn, unscripted, next_by, next, event_of, moved}
+use Rattle.cluster_rules.specs.Draw.{Plan, Sim, Next, Over, Scripted, Evicts, Balances, Spent, Drawn, over, is_reached, is_idle, is_blocked, item_event, scripted, evicts_now, balances_now, drawn, draw_one, turn, unscripted, next_by, next, event_of, moved}
 use Rattle.cluster_rules.proofs.WorldLemmas.{progress_enabled}
 use Rattle.cluster_rules.proofs.InsideWorker.{all_filter_in, all_map_in}
 use Rattle.cluster_rules.proofs.InsideSched.{all_flat_map_in, all_always}
-use Rattle.cluster_rules.proofs.TruthWorker.{all_append}
 use Rattle.cluster_sim.specs.Plans.{joins_in}
 use Rattle.cluster_sim.proofs.WorldKeeps.{joins, is_gentle}
 

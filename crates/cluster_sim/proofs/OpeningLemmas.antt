@@ -1,25 +1,19 @@
 -- The opening events, one after another.
-use Rattle.std.proofs.Common.{◌≡◌, ℕ, zero, suc, ◌+◌, ◌≤◌, ◌<◌, ◌^◌, Bool, true, false, not, ◌&&◌, ◌||◌, List, [], ◌∷◌, ◌++◌, length, replicate, filter, Option, Some, None, is_some, refl, sym, ap, ◌∙◌, arith, subst, add-one, cond}
-use Rattle.std.specs.Prelude.{nat_lt, nat_le, ◌==◌}
-use Rattle.std.specs.List.{list_all, range_with_len}
+use Rattle.std.proofs.Common.{◌≡◌, ℕ, zero, suc, ◌+◌, ◌≤◌, ◌<◌, Bool, true, false, ◌||◌, List, [], ◌∷◌, ◌++◌, length, replicate, filter, Option, Some, None, is_some, refl, sym, ap, ◌∙◌, arith, subst, add-one, cond}
+use Rattle.std.specs.Prelude.{nat_lt, ◌==◌}
+use Rattle.std.specs.List.{range_with_len}
 use Rattle.std.proofs.lemmas.Bool.{false≢true, and_from, eqb-true, lt-ltb, le-leb}
-use Rattle.cluster_msgs.specs.Shape.{Shape, key_count}
+use Rattle.cluster_msgs.specs.Shape.{key_count}
 use Rattle.cluster_msgs.specs.declared.cores.ClientEvent.TheVariants.{Want as WantKeys}
-use Rattle.cluster_msgs.specs.declared.events.Event.{Event}
 use Rattle.cluster_msgs.specs.declared.events.Event.TheVariants.{Join, Want}
 use Rattle.cluster_rules.specs.Derived.{is_in}
 use Rattle.cluster_rules.specs.Functions.{from_one}
 use Rattle.cluster_rules.specs.Sched.{Setting, Facts, workers, connected}
 use Rattle.cluster_rules.specs.SchedTable.{sched_takes}
-use Rattle.cluster_rules.specs.Worker.{has_any}
 use Rattle.cluster_rules.specs.Client.{ClientFacts, client_step, client_wants}
 use Rattle.cluster_rules.specs.World.{Job, World, opening, shape_of}
-use Rattle.cluster_rules.specs.WorldStep.{client_worked, at_client, world_step}
+use Rattle.cluster_rules.specs.WorldStep.{client_worked, world_step}
 use Rattle.cluster_rules.specs.Enabled.{enabled}
-use Rattle.cluster_rules.specs.Report.{Taken, is_join, how_many}
-use Rattle.run_report.specs.Counts.{IsCountOf}
-use Rattle.run_report.specs.declared.tally.Tally.{Tally}
-use Rattle.cluster_sim.specs.Courses.{IsMade}
 use Rattle.cluster_sim.specs.Standing.{IsFor}
 use Rattle.cluster_sim.specs.Openings.{IsOpen, AreWanted}
 use Rattle.cluster_sim.proofs.ClientKeeps.{IsQuiet}

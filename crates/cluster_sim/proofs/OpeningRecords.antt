@@ -1,15 +1,15 @@
 -- The opening of a simulation, put together.
-use Rattle.std.proofs.Common.{◌≡◌, ℕ, ◌+◌, ◌-◌, ◌^◌, ◌≤◌, ◌<◌, true, List, [], ◌∷◌, ◌++◌, length, replicate, Option, Result, Ok, Err, refl, sym, ap, ◌∙◌, arith, subst}
+use Rattle.std.proofs.Common.{◌≡◌, ℕ, ◌+◌, ◌-◌, ◌^◌, ◌≤◌, ◌<◌, true, List, [], ◌∷◌, ◌++◌, length, replicate, Option, Result, Ok, Err, sym, ap, ◌∙◌, arith, subst}
 use Rattle.std.specs.Prelude.{OnOk, IfOk}
 use Rattle.std.proofs.lemmas.List.{length-append, length-replicate}
 use Rattle.cluster_msgs.specs.Shape.{Shape, key_count}
 use Rattle.cluster_msgs.specs.declared.events.Event.{Event}
 use Rattle.cluster_msgs.specs.declared.events.Event.TheVariants.{Join, Want}
 use Rattle.cluster_rules.specs.Sched.{Setting}
-use Rattle.cluster_rules.specs.World.{Job, World as Cluster, opening, shape_of}
+use Rattle.cluster_rules.specs.World.{Job, World as Cluster, opening}
 use Rattle.cluster_rules.specs.Enabled.{enabled, message}
 use Rattle.cluster_rules.specs.Report.{Taken, is_join, how_many}
-use Rattle.value_laws.specs.Blocks.{Cluster as Blocks, job_of, setting_of, opening_cluster}
+use Rattle.value_laws.specs.Blocks.{Cluster as Blocks, setting_of, opening_cluster}
 use Rattle.run_report.specs.Counts.{IsCountOf}
 use Rattle.run_report.specs.declared.tally.Tally.{Tally}
 use Rattle.cluster_world.specs.declared.state.State.{State}

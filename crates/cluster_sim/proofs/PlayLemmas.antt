@@ -1,8 +1,8 @@
 -- A turn that failed, and a play that ends.
-use Rattle.std.proofs.Common.{◌≡◌, ℕ, ◌<◌, List, length, Option, Some, None, Result, Ok, Err, refl, sym, ap, ◌∙◌, subst}
+use Rattle.std.proofs.Common.{◌≡◌, ℕ, ◌<◌, List, length, Option, Result, Err, refl, sym, ◌∙◌, subst}
 use Rattle.cluster_msgs.specs.Shape.{key_count}
 use Rattle.cluster_rules.specs.Sched.{Setting}
-use Rattle.cluster_rules.specs.Draw.{Plan, Served, OutOfTurns, over, next, verdict}
+use Rattle.cluster_rules.specs.Draw.{Plan, Served, OutOfTurns}
 use Rattle.cluster_world.specs.declared.state.State.{State}
 use Rattle.cluster_world.specs.Worlds.{world, setting, event_limit}
 use Rattle.cluster_sim.proofs.ActLemmas.{same_job}
@@ -11,8 +11,7 @@ use Rattle.cluster_sim.specs.Acts.{Stays, running}
 use Rattle.cluster_sim.specs.Drawn.{word_of}
 use Rattle.cluster_sim.specs.Simulations.{IsUnfinished}
 use Rattle.cluster_sim.specs.Standing.{sim_of, left}
-use Rattle.cluster_sim.specs.Turns.{IsBetween, IsDrawn, HasGone, HasStayed, HasEnded, EndsBy, AfterTurn, DrawnTurn, HasServed, HasPlayed, AfterPlay, DrawnPlay}
-use Rattle.cluster_sim.specs.declared.ended.Ending.{Ending}
+use Rattle.cluster_sim.specs.Turns.{IsBetween, IsDrawn, HasStayed, HasEnded, EndsBy, AfterTurn, DrawnTurn, HasServed, HasPlayed, AfterPlay, DrawnPlay}
 use Rattle.cluster_sim.specs.declared.run.Run.{Run}
 use Rattle.cluster_sim.specs.declared.act.SimError.{SimError}
 use Rattle.cluster_sim.specs.declared.act.SimError.TheVariants.{Turns, Feed, Spent, OutOfMemory}

@@ -1,5 +1,5 @@
 -- What the scheduler's events leave: its setting, and the greatest number of a worker but for a join.
-use Rattle.std.proofs.Common.{◌≡◌, ℕ, ◌+◌, Bool, true, false, ◌&&◌, cond, List, [], ◌∷◌, Option, Some, None, refl, sym, ap, ◌∙◌, add-zero}
+use Rattle.std.proofs.Common.{◌≡◌, ℕ, ◌+◌, Bool, true, false, ◌&&◌, cond, List, [], ◌∷◌, Option, Some, None, refl, ◌∙◌, add-zero}
 use Rattle.cluster_msgs.specs.declared.messages.Up.{Up}
 use Rattle.cluster_msgs.specs.declared.messages.Up.TheVariants.{TaskFinished, TaskErred, AddKeys, ReleaseWorkerData, MissingData, RequestRefreshWhoHas, StealResponse}
 use Rattle.cluster_msgs.specs.declared.messages.FromClient.{FromClient as ClientMessage}
@@ -12,7 +12,6 @@ use Rattle.cluster_rules.specs.Sched.{Facts, connected, holds, held, is_on}
 use Rattle.cluster_rules.specs.Policies.{next_steal, next_drop}
 use Rattle.cluster_rules.specs.SchedTable.{Changed, plain, is_this, is_copy, is_asked_back, joined, left, finished, failed, add_key, add_keys, released, lost_copy, stolen_to, answered, wants_more, wants_less, balanced, evicted, change_up, change_client, change}
 use Rattle.cluster_rules.specs.SchedStep.{sched_step}
-use Rattle.cluster_rules.specs.Frame.{IsSettling}
 use Rattle.cluster_rules.proofs.SchedFrame.{step_settles}
 
 -- the same setting, and the same greatest number

@@ -1,10 +1,10 @@
 -- What the end of a simulation says.
-use Rattle.std.proofs.Common.{◌≡◌, ℕ, ◌+◌, ◌≤◌, ◌<◌, Bool, true, false, not, ◌&&◌, ◌||◌, cond, List, [], ◌∷◌, length, drop, Option, Some, None, is_some, find, refl, sym, ap, ◌∙◌, arith, subst}
+use Rattle.std.proofs.Common.{◌≡◌, ℕ, ◌<◌, Bool, true, false, not, ◌&&◌, ◌||◌, cond, List, [], ◌∷◌, Option, Some, None, is_some, find, refl, sym, ap, ◌∙◌, arith}
 use Rattle.std.specs.Prelude.{◌==◌, ◌↔◌}
 use Rattle.std.specs.List.{list_all, list_any}
 use Rattle.std.proofs.lemmas.Bool.{true≢false, false≢true, eqb-true}
-use Rattle.cluster_msgs.specs.Shape.{Shape, IsShape, key_count, deps_of}
-use Rattle.cluster_msgs.specs.Values.{val, cone, needed}
+use Rattle.cluster_msgs.specs.Shape.{IsShape, key_count, deps_of}
+use Rattle.cluster_msgs.specs.Values.{val, cone}
 use Rattle.cluster_msgs.specs.declared.events.Event.{Event}
 use Rattle.cluster_rules.specs.Derived.{is_in}
 use Rattle.cluster_rules.specs.Sched.{Setting}
@@ -20,9 +20,9 @@ use Rattle.value_laws.proofs.Values.{blamed}
 use Rattle.cluster_sim.specs.Plans.{IsPlan}
 use Rattle.cluster_sim.specs.Standing.{IsFor, IsStanding}
 use Rattle.cluster_sim.specs.Openings.{IsOpen}
-use Rattle.cluster_sim.specs.Simulations.{HasAll, IsNeededFault, IfBlamed}
+use Rattle.cluster_sim.specs.Simulations.{HasAll, IfBlamed}
 use Rattle.cluster_sim.specs.declared.standing.Standing.{Standing}
-use Rattle.cluster_sim.proofs.EndLemmas.{found_passes, none_is, got_all, all_from, all_to}
+use Rattle.cluster_sim.proofs.EndLemmas.{found_passes, none_is, got_all, all_to}
 
 -- the failure that ends a simulation is one that the client was told
 over_blame : (c : ClientFacts) (b : ℕ) → over c ≡ Some (Some b) → (k : ℕ) × (c.failed k ≡ Some b)

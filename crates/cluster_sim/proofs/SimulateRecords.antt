@@ -1,17 +1,15 @@
 -- A whole simulation, put together.
-use Rattle.std.proofs.Common.{◌≡◌, ℕ, ◌+◌, ◌≤◌, ◌<◌, true, List, [], ◌∷◌, ◌++◌, length, drop, Option, Some, None, refl, sym, ap, ◌∙◌, arith, subst}
+use Rattle.std.proofs.Common.{◌≡◌, ℕ, ◌≤◌, ◌<◌, List, ◌++◌, Option, refl, sym, ap, ◌∙◌, arith, subst}
 use Rattle.cluster_msgs.specs.Shape.{Shape, IsShape, key_count, deps_of}
 use Rattle.cluster_msgs.specs.Values.{val}
 use Rattle.cluster_msgs.specs.declared.events.Report.{Report}
-use Rattle.cluster_rules.specs.Derived.{is_in}
 use Rattle.cluster_rules.specs.Sched.{Setting}
-use Rattle.cluster_rules.specs.World.{Job, World as Cluster, opening, rest, shape_of}
+use Rattle.cluster_rules.specs.World.{Job, World as Cluster, opening, rest}
 use Rattle.cluster_rules.specs.Report.{Taken, taken, report}
-use Rattle.cluster_rules.specs.Draw.{Plan, Sim, Verdict, Served, opening_events, sim_from, over}
-use Rattle.value_laws.specs.Blocks.{job_of}
+use Rattle.cluster_rules.specs.Draw.{Plan, Verdict, Served, opening_events, sim_from}
 use Rattle.run_report.specs.Counts.{IsCountOf}
 use Rattle.cluster_world.specs.declared.state.State.{State}
-use Rattle.cluster_world.specs.Worlds.{cluster, world, setting}
+use Rattle.cluster_world.specs.Worlds.{world, setting}
 use Rattle.quiet_bound.proofs.WorldBound.{setting-world}
 use Rattle.cluster_sim.specs.Acts.{Stays, running}
 use Rattle.cluster_sim.specs.Courses.{Course}
@@ -21,7 +19,7 @@ use Rattle.cluster_sim.specs.Standing.{sim_of, IsStanding}
 use Rattle.cluster_sim.specs.Passing.{first_standing}
 use Rattle.cluster_sim.specs.Openings.{AreWanted, HasOpened}
 use Rattle.cluster_sim.specs.Turns.{IsBetween, IsDrawn, HasServed, HasPlayed}
-use Rattle.cluster_sim.specs.Simulations.{IsSimulated, IsReported, IsCut, IfBlamed}
+use Rattle.cluster_sim.specs.Simulations.{IsReported, IsCut, IfBlamed}
 use Rattle.cluster_sim.specs.declared.standing.Standing.{Standing}
 use Rattle.cluster_sim.specs.declared.run.Run.{Run}
 use Rattle.cluster_sim.proofs.CourseLemmas.{course_start, course_end}

@@ -1,18 +1,16 @@
 -- What an event that comes next makes of where a simulation stands.
-use Rattle.std.proofs.Common.{◌≡◌, ℕ, suc, ◌+◌, ◌-◌, ◌*◌, ◌^◌, ◌≤◌, ◌<◌, Bool, true, false, List, [], ◌∷◌, ◌++◌, drop, length, Option, Some, None, is_some, Result, Ok, Err, refl, sym, ap, ◌∙◌, arith, subst}
+use Rattle.std.proofs.Common.{◌≡◌, ℕ, ◌+◌, ◌-◌, ◌*◌, ◌^◌, ◌≤◌, ◌<◌, false, List, drop, length, Some, None, refl, sym, ap, ◌∙◌, arith, subst}
 use Rattle.std.proofs.Math.Nat.{mul-le-mul_right}
 use Rattle.cluster_msgs.specs.Shape.{Shape, key_count}
 use Rattle.cluster_msgs.specs.declared.events.Item.{Item}
 use Rattle.cluster_msgs.specs.declared.events.Event.{Event}
 use Rattle.cluster_msgs.specs.declared.events.Event.TheVariants.{Evict, Balance}
-use Rattle.cluster_rules.specs.Derived.{is_in}
 use Rattle.cluster_rules.specs.Sched.{Setting}
 use Rattle.cluster_rules.specs.Client.{ClientFacts}
 use Rattle.cluster_rules.specs.World.{Job, World, rest, shape_of}
 use Rattle.cluster_rules.specs.WorldStep.{world_step}
-use Rattle.cluster_rules.specs.Enabled.{enabled, message}
-use Rattle.cluster_rules.specs.Draw.{Plan, Sim, Next, over, next, event_of, moved}
-use Rattle.cluster_sim.specs.Plans.{IsPlan, joins_in}
+use Rattle.cluster_rules.specs.Draw.{Plan, Sim, next, event_of, moved}
+use Rattle.cluster_sim.specs.Plans.{IsPlan}
 use Rattle.cluster_sim.specs.Standing.{sim_of, made_by, IsFor, IsStanding, events_left, left}
 use Rattle.cluster_sim.specs.Passing.{IsKindOf, after, CanPass, IsLeft}
 use Rattle.cluster_sim.specs.Drawn.{IsAtTurn}
@@ -21,8 +19,8 @@ use Rattle.cluster_sim.specs.declared.standing.Standing.{Standing}
 use Rattle.cluster_sim.specs.declared.choice.Kind.{Kind}
 use Rattle.cluster_sim.specs.declared.choice.Kind.TheVariants as kind
 use Rattle.cluster_sim.proofs.ClientKeeps.{IsQuiet}
-use Rattle.cluster_sim.proofs.WorldKeeps.{joins, world_keeps, quiet_step}
-use Rattle.cluster_sim.proofs.NextLemmas.{MayCome, HasNumbers, next_comes, made_comes, made_waits}
+use Rattle.cluster_sim.proofs.WorldKeeps.{world_keeps, quiet_step}
+use Rattle.cluster_sim.proofs.NextLemmas.{MayCome, next_comes, made_comes, made_waits}
 use Rattle.cluster_sim.proofs.EndLemmas.{not_over}
 
 -- the event of a choice is its own

@@ -1,17 +1,16 @@
 -- What a turn makes, put together.
-use Rattle.std.proofs.Common.{◌≡◌, ℕ, ◌+◌, ◌-◌, ◌^◌, ◌≤◌, ◌<◌, true, List, [], ◌∷◌, ◌++◌, length, drop, Option, Some, refl, sym, ap, ◌∙◌, arith, subst}
-use Rattle.cluster_msgs.specs.Shape.{Shape, key_count}
+use Rattle.std.proofs.Common.{◌≡◌, ℕ, ◌+◌, ◌-◌, ◌^◌, ◌≤◌, ◌<◌, List, [], ◌∷◌, ◌++◌, length, drop, Option, Some, refl, sym, ap, ◌∙◌, arith, subst}
+use Rattle.cluster_msgs.specs.Shape.{key_count}
 use Rattle.cluster_msgs.specs.declared.events.Event.{Event}
 use Rattle.cluster_rules.specs.Sched.{Setting}
 use Rattle.cluster_rules.specs.World.{Job, World as Cluster, rest, shape_of}
 use Rattle.cluster_rules.specs.WorldStep.{world_step}
 use Rattle.cluster_rules.specs.Enabled.{message}
 use Rattle.cluster_rules.specs.Report.{Taken, is_join, how_many}
-use Rattle.cluster_rules.specs.Draw.{Plan, Sim, next, event_of, moved}
-use Rattle.value_laws.specs.Blocks.{job_of}
+use Rattle.cluster_rules.specs.Draw.{Plan, next, event_of, moved}
 use Rattle.run_report.specs.Counts.{IsCountOf}
 use Rattle.cluster_world.specs.declared.state.State.{State}
-use Rattle.cluster_world.specs.Worlds.{cluster, world, setting}
+use Rattle.cluster_world.specs.Worlds.{world, setting}
 use Rattle.quiet_bound.proofs.WorldBound.{setting-world}
 use Rattle.cluster_sim.specs.Acts.{Stays, IsAct, running}
 use Rattle.cluster_sim.specs.Courses.{Course}

@@ -1,6 +1,6 @@
 -- The generator goes on by one step a word.
 use Rattle.std.proofs.Common.{◌≡◌, ℕ, zero, suc, ◌+◌, refl, sym, ap, ◌∙◌, add-one}
-use Rattle.rand_pcg.specs.Lcg.{Lcg, next_state, state_after, next, advance, started, increment_of}
+use Rattle.rand_pcg.specs.Lcg.{Lcg, next_state, state_after, started, increment_of}
 use Rattle.rand_pcg.specs.Pcg.{multiplier_64, pcg32}
 use Rattle.cluster_sim.specs.declared.words.Words.{Words}
 use Rattle.cluster_sim.specs.Drawn.{generator, word_of, IsAtTurn}

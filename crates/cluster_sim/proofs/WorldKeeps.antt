@@ -9,7 +9,7 @@ use Rattle.cluster_msgs.specs.declared.messages.FromClient.{FromClient as Client
 use Rattle.cluster_msgs.specs.declared.cores.SchedEvent.{SchedEvent}
 use Rattle.cluster_msgs.specs.declared.cores.SchedEvent.TheVariants.{Join as JoinSched, Leave, FromWorker, FromClient, Balance as BalanceSched, Evict as EvictSched}
 use Rattle.cluster_msgs.specs.declared.cores.ClientEvent.{ClientEvent}
-use Rattle.cluster_msgs.specs.declared.cores.ClientEvent.TheVariants.{Want as WantKeys, Release as ReleaseKeys, FromScheduler, Ask as ClientAsk, Gathered as ClientGathered, GatherFailed as ClientGatherFailed}
+use Rattle.cluster_msgs.specs.declared.cores.ClientEvent.TheVariants.{FromScheduler, Ask as ClientAsk, Gathered as ClientGathered, GatherFailed as ClientGatherFailed}
 use Rattle.cluster_msgs.specs.declared.events.Asker.{Asker}
 use Rattle.cluster_msgs.specs.declared.events.Asker.TheVariants.{Worker, Client}
 use Rattle.cluster_msgs.specs.declared.events.Event.{Event}
@@ -17,12 +17,11 @@ use Rattle.cluster_msgs.specs.declared.events.Event.TheVariants.{Want, Release, 
 use Rattle.cluster_rules.specs.Functions.{put}
 use Rattle.cluster_rules.specs.Sched.{Facts}
 use Rattle.cluster_rules.specs.Worker.{Ask}
-use Rattle.cluster_rules.specs.WorkerStep.{WorkerStep, worker_step}
-use Rattle.cluster_rules.specs.SchedStep.{sched_step}
+use Rattle.cluster_rules.specs.WorkerStep.{WorkerStep}
 use Rattle.cluster_rules.specs.Client.{ClientFacts, ClientStep, client_step}
 use Rattle.cluster_rules.specs.World.{Job, World, Parcel, is_connected, open_ask, parcel_of}
-use Rattle.cluster_rules.specs.WorldStep.{scheduled, worked, client_worked, at_scheduler, at_worker, at_client, take_down_first, take_up, take_up_first, take_to_client, take_from_client, gathered_at, failed_at, serve, take_answer, fail_ask, world_step}
-use Rattle.cluster_sim.proofs.SchedKeeps.{joins_by, StepKeeps, step_keeps}
+use Rattle.cluster_rules.specs.WorldStep.{scheduled, worked, client_worked, at_scheduler, at_client, take_down_first, take_up, take_up_first, take_to_client, take_from_client, gathered_at, failed_at, serve, take_answer, fail_ask, world_step}
+use Rattle.cluster_sim.proofs.SchedKeeps.{joins_by, step_keeps}
 use Rattle.cluster_sim.proofs.ClientKeeps.{IsQuiet, stays, hear_step, ask_step, gathered_step, failed_step}
 
 -- how many workers an event lets join, and whether it leaves what the clients want

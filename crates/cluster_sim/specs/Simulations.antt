@@ -1,5 +1,5 @@
 -- What a simulation made, and how it ended.
-use Rattle.std.specs.Prelude.{◌≡◌, ◌↔◌, ℕ, ◌+◌, true, List, [], ◌++◌, Option, Some, None, is_some, length}
+use Rattle.std.specs.Prelude.{◌≡◌, ℕ, true, List, ◌++◌, Option, Some, None, length}
 use Rattle.cluster_msgs.specs.declared.events.Event.{Event}
 use Rattle.cluster_msgs.specs.declared.events.Report.{Report}
 use Rattle.cluster_msgs.specs.Values.{faulty, needed}
@@ -7,7 +7,7 @@ use Rattle.cluster_rules.specs.Derived.{is_in}
 use Rattle.cluster_rules.specs.World.{Job, World, opening}
 use Rattle.cluster_rules.specs.Runs.{legal, reached, run_from}
 use Rattle.cluster_rules.specs.Report.{taken, report}
-use Rattle.cluster_rules.specs.Draw.{Plan, Sim, Verdict, Draw, opening_events, sim_from, next, event_of}
+use Rattle.cluster_rules.specs.Draw.{Plan, Sim, Verdict, Draw, opening_events, sim_from}
 use Rattle.cluster_sim.specs.Courses.{DrawsTo}
 
 -- exactly the events that the rules draw, to this end. They are legal and led to this world

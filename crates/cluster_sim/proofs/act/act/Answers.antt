@@ -1,9 +1,9 @@
-use Rattle.std.proofs.Common.{◌≡◌, ◌∙◌, ◌++◌, ◌∷◌, [], Err, sym, ap, subst, refl}
+use Rattle.std.proofs.Common.{◌∙◌, ◌++◌, ◌∷◌, [], Err, sym, ap, subst, refl}
 use Rattle.std.proofs.lemmas.Bool.{true≢false}
 use Rattle.std.proofs.lemmas.Result.{err_from_is_err_and}
 use Rattle.cluster_world.specs.declared.errors.StepError.{StepError}
 use Rattle.run_report.specs.Counts.{IsCountOf}
-use Rattle.cluster_sim.proofs.ActLemmas.{not_starved, stays_none, act_is, not_fed, is_cause, counts_cause, spent_cause, turns_cause}
+use Rattle.cluster_sim.proofs.ActLemmas.{not_starved, stays_none, act_is, not_fed, is_cause, counts_cause}
 use Rattle.cluster_sim.proofs.act.act.Goals as goal
 
 pub returns-in_err-count-clause-stays : goal.returns-in_err-count-clause-stays

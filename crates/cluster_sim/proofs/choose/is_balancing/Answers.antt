@@ -1,5 +1,5 @@
-use Rattle.std.proofs.Common.{◌≡◌, ◌<◌, ◌^◌, ℕ, ◌∙◌, ap, sym, subst, arith}
-use Rattle.cluster_msgs.specs.Shape.{Shape, key_count}
+use Rattle.std.proofs.Common.{◌≡◌, ◌<◌, ◌^◌, ◌∙◌, ap, sym, arith}
+use Rattle.cluster_msgs.specs.Shape.{key_count}
 use Rattle.cluster_msgs.specs.declared.events.Event.TheVariants.{Balance}
 use Rattle.cluster_rules.specs.Sched.{Setting}
 use Rattle.cluster_rules.specs.World.{shape_of}

@@ -1,4 +1,4 @@
-use Rattle.std.proofs.Common.{◌≡◌, ◌<◌, ◌∙◌, sym, ap, subst, Some, None, cond, ℕ, Option, Bool}
+use Rattle.std.proofs.Common.{◌<◌, ◌∙◌, sym, ap, subst, Some, None, cond, Bool}
 use Rattle.std.specs.List.{list_all}
 use Rattle.cluster_msgs.specs.Shape.{Shape, key_count}
 use Rattle.cluster_world.specs.Worlds.{world}

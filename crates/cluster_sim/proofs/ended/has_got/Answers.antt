@@ -1,5 +1,3 @@
-use Rattle.std.proofs.Common.{Some, None}
-use Rattle.cluster_msgs.specs.declared.cores.End.TheVariants.{Erred}
 use Rattle.cluster_world.specs.Worlds.{world}
 use Rattle.cluster_sim.proofs.EndLemmas.{got_true, not_got_erred, not_got_none}
 use Rattle.cluster_sim.proofs.ended.has_got.Goals as goal

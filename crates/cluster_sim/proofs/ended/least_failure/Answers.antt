@@ -1,5 +1,5 @@
 use Rattle.std.proofs.Common.{◌≡◌, ◌∙◌, sym, ap, arith, below_more, is_some}
-use Rattle.cluster_msgs.specs.Shape.{Shape, key_count}
+use Rattle.cluster_msgs.specs.Shape.{key_count}
 use Rattle.cluster_rules.specs.Sched.{Setting}
 use Rattle.cluster_world.specs.Worlds.{world}
 use Rattle.quiet_bound.proofs.WorldBound.{setting-world}

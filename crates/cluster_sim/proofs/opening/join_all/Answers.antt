@@ -1,4 +1,4 @@
-use Rattle.std.proofs.Common.{◌≡◌, ◌<◌, ◌∙◌, refl, arith}
+use Rattle.std.proofs.Common.{◌∙◌, refl, arith}
 use Rattle.cluster_world.specs.Worlds.{world}
 use Rattle.cluster_sim.proofs.ActLemmas.{stays_none, stays_both}
 use Rattle.cluster_sim.proofs.OpeningLemmas.{may_join}

@@ -1,4 +1,4 @@
-use Rattle.std.proofs.Common.{◌≡◌, ◌∙◌, sym, ap, subst, true}
+use Rattle.std.proofs.Common.{◌≡◌, sym, subst, true}
 use Rattle.cluster_msgs.specs.declared.events.Event.TheVariants.{Want}
 use Rattle.cluster_rules.specs.Enabled.{enabled}
 use Rattle.cluster_world.specs.Worlds.{world}

@@ -1,6 +1,5 @@
-use Rattle.std.proofs.Common.{ap, ◌∙◌, ◌&&◌}
+use Rattle.std.proofs.Common.{◌∙◌, ◌&&◌}
 use Rattle.cluster_world.specs.Worlds.{world}
-use Rattle.cluster_rules.specs.World.{is_connected}
 use Rattle.cluster_sim.proofs.ActLemmas.{not_starved}
 use Rattle.cluster_sim.proofs.ScriptLemmas.{lose_is, suspect_is}
 use Rattle.cluster_sim.proofs.script.is_serving.Goals as goal

@@ -1,4 +1,4 @@
-use Rattle.std.proofs.Common.{◌≡◌, ◌<◌, ◌+◌, ◌∙◌, ap, sym, subst, not, drop, length, get_or, List, None, arith}
+use Rattle.std.proofs.Common.{◌≡◌, ◌+◌, ◌∙◌, ap, sym, subst, not, drop, length, get_or, List, None, arith}
 use Rattle.std.specs.Option.{option_map}
 use Rattle.cluster_msgs.specs.declared.events.Item.{Item}
 use Rattle.cluster_rules.specs.Draw.{is_blocked, scripted}

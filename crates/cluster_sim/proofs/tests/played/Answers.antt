@@ -1,7 +1,5 @@
-use Rattle.std.proofs.Common.{◌≡◌, ℕ, ◌<◌, ◌∷◌, [], true, sym, subst}
 use Rattle.cluster_msgs.specs.Shape.{key_count}
 use Rattle.cluster_world.specs.Worlds.{setting}
-use Rattle.cluster_sim.specs.Openings.{AreWanted}
 use Rattle.cluster_sim.proofs.OpeningLemmas.{one_wanted}
 use Rattle.cluster_sim.proofs.tests.played.Goals as goal
 

@@ -1,4 +1,4 @@
-use Rattle.std.proofs.Common.{Err, ◌≡◌, ◌++◌, ◌∷◌, [], ◌∙◌, sym, ap, refl, subst, arith}
+use Rattle.std.proofs.Common.{Err, ◌++◌, ◌∷◌, [], ◌∙◌, sym, ap, refl, subst, arith}
 use Rattle.std.proofs.lemmas.Result.{err_from_is_err_and}
 use Rattle.cluster_rules.specs.Enabled.{message}
 use Rattle.cluster_rules.specs.Draw.{Next, verdict}
@@ -9,9 +9,9 @@ use Rattle.cluster_sim.specs.declared.act.SimError.{SimError}
 use Rattle.cluster_sim.specs.Drawn.{word_of}
 use Rattle.cluster_sim.specs.Plans.{plan_of}
 use Rattle.cluster_sim.specs.Standing.{sim_of}
-use Rattle.cluster_sim.proofs.ActLemmas.{not_starved, stays_none, counts_as}
+use Rattle.cluster_sim.proofs.ActLemmas.{stays_none}
 use Rattle.cluster_sim.proofs.TurnLemmas.{can_pass}
-use Rattle.cluster_sim.proofs.TurnRecords.{IsChosen, chosen_comes, has_gone, has_drawn}
+use Rattle.cluster_sim.proofs.TurnRecords.{chosen_comes, has_gone, has_drawn}
 use Rattle.cluster_sim.proofs.PlayLemmas.{turn_failed, drawn_failed}
 use Rattle.cluster_sim.proofs.turn.turn.Goals as goal
 
