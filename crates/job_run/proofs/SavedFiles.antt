@@ -180,9 +180,6 @@ one_failed (Err x) name bytes written old new e creates part =
     let P : List ℕ → Type 0 = λ b. SavesSome (name ∷ []) (b ∷ []) old new in
     subst P e (saves_failed (name ∷ []) (written ∷ []) 0 name written old old new (omega arith) refl refl (apart_alone name) (saves_none (name ∷ []) (written ∷ []) old) creates part)
 
-pub untouched_some : (names files : List (List ℕ)) (old : Files) → SavesSome names files old old
-untouched_some names files old = record { tells = refl; opened = refl; created = none_raised names old.created old.created refl; left = left_alone names files old old refl; others = λ n none. refl }
-
 -- ## Elements that are all there
 
 pub element_more : (cells : List ℤ) (all more : List (Option ℤ)) (i : ℕ) → i < length cells → elements_of all ≡ take i cells → more ≡ all ++ Some (get_or cells i (pos 0)) ∷ [] → elements_of more ≡ take (i + 1) cells

@@ -1,5 +1,5 @@
 -- Lines, one after another.
-use Rattle.std.proofs.Common.{◌≡◌, ℕ, ◌+◌, ◌<◌, ◌≤◌, List, [], ◌∷◌, ◌++◌, length, take, get_or, refl, ap, sym, ◌∙◌, arith, append_assoc, append-nil}
+use Rattle.std.proofs.Common.{◌≡◌, ℕ, ◌+◌, ◌<◌, ◌≤◌, List, [], ◌∷◌, ◌++◌, length, take, get_or, ap, sym, ◌∙◌, append_assoc, append-nil}
 use Rattle.std.proofs.lemmas.List.{take_more, take_all}
 use Rattle.std.specs.Prelude.{OnOk, Result, Ok, Err}
 use Rattle.sim_run.specs.Texts.{worker_line, worker_lines}
@@ -14,9 +14,6 @@ workers_more old before after ws i h e is =
     let w : ℕ × ℕ = get_or ws i (0, 0) in
     is ∙ (ap (λ x. x ++ worker_line w) e ∙ (append_assoc old (worker_lines (take i ws)) (worker_line w)
     ∙ ap (λ x. old ++ x) (sym (workers_snoc (take i ws) w) ∙ sym (ap worker_lines (take_more ws i (0, 0) h)))))
-
-pub workers_whole : (ws : List (ℕ × ℕ)) (i : ℕ) → length ws ≤ i → worker_lines (take i ws) ≡ worker_lines ws
-workers_whole ws i h = ap worker_lines (take_all i ws h)
 
 -- ## A report
 

@@ -1,6 +1,5 @@
 -- What a run leaves at each of its ends.
-use Rattle.std.proofs.Common.{◌≡◌, ℕ, ℤ, pos, ◌+◌, ◌*◌, ◌<◌, ◌≤◌, List, [], ◌∷◌, map, length, get_or, refl, ap, sym, ◌∙◌, subst, inl, inr, arith, Option}
-use Rattle.std.specs.Prelude.{◌⊎◌}
+use Rattle.std.proofs.Common.{◌≡◌, ℕ, ℤ, pos, ◌+◌, ◌*◌, List, [], ◌∷◌, map, length, get_or, refl, ap, sym, ◌∙◌, subst, inl, arith, Option}
 use Rattle.io_edge.specs.Cause.{Rose}
 use Rattle.io_edge.specs.Content.{followed_by, PrintsPart}
 use Rattle.io_edge.specs.View.{View, Files, Opens, OnlyReads, OnlyWrites, OnlyOut, raised_by}
@@ -9,7 +8,6 @@ use Rattle.cluster_msgs.specs.declared.events.Report.{Report}
 use Rattle.nd_shape.specs.Block.{Array}
 use Rattle.nd_shape.specs.Index.{place}
 use Rattle.npy_codec.specs.Npy.{npy}
-use Rattle.array_expr.specs.declared.expr.Node.{Node}
 use Rattle.array_expr.specs.Elem.{Cells}
 use Rattle.plain_eval.specs.Eval.{block_at, held_in}
 use Rattle.addition_job.specs.Chunks.{added}
@@ -26,7 +24,7 @@ use Rattle.sim_words.specs.declared.sim.SimWords.{SimWords}
 use Rattle.sim_run.specs.declared.ends.SimEnded.{SimEnded}
 use Rattle.sim_run.specs.declared.ends.SimEnded.TheVariants.{NotBuilt, Keys, Events, Turns, Ran}
 use Rattle.sim_run.specs.declared.form.Addition.{Addition}
-use Rattle.sim_run.specs.Ends.{Cause, RanCause, RanPrints, SimulatesPlan}
+use Rattle.sim_run.specs.Ends.{RanCause, RanPrints, SimulatesPlan}
 use Rattle.sim_run.specs.Forms.{CanRun, HasManyChunks, IsAddition, IsSimulable}
 use Rattle.sim_run.specs.Serving.{IsStopped}
 use Rattle.sim_run.specs.Simulated.{IsOutOfEvents, IsOutOfTurns, IsServed, SimulatesTo}
@@ -47,74 +45,6 @@ ran p s old new out end r cause prints = record {
   err = r.err;
   note_faults = r.note_faults;
 }
-
--- ## Before anything is opened
-
-opens_none : (names : List (List ℕ)) (files : Files) → Opens names files files
-opens_none names files = record {
-  tells = refl;
-  held = refl;
-  created = refl;
-  grows = λ n. omega arith;
-  at_most = λ n. omega arith;
-  size_kept = λ n s h. h;
-  size_others = λ n h. refl;
-}
-
--- no memory was left before anything was done
-pub starved : (p : Plan) (s : SimWords) (old : View) → SimulatesPlan p s old old (Ran OutOfMemory)
-starved p s old =
-    ran p s old old old.out OutOfMemory (early_runs p old old OutOfMemory tt tt (opens_none p.inputs old.files) (record { out = refl; err = refl; write_faults = refl; print_faults = refl; note_faults = refl })) tt refl
-
-pub not_built : (p : Plan) (s : SimWords) (old : View) → ((a : Addition) → ¬ IsAddition p a) → SimulatesPlan p s old old NotBuilt
-not_built p s old none = record {
-  cause = none;
-  saves = refl;
-  looked = inl (record { held = refl; created = refl });
-  others = λ n none. refl;
-  tells = refl;
-  opened = refl;
-  created = refl;
-  prints = refl;
-  err = refl;
-  note_faults = refl;
-}
-
-pub too_many : (p : Plan) (s : SimWords) (old : View) → HasManyChunks p → SimulatesPlan p s old old Keys
-too_many p s old many = record {
-  cause = many;
-  saves = refl;
-  looked = inl (record { held = refl; created = refl });
-  others = λ n none. refl;
-  tells = refl;
-  opened = refl;
-  created = refl;
-  prints = refl;
-  err = refl;
-  note_faults = refl;
-}
-
--- ## Where the input isn't read
-
-read_cause : (p : Plan) (old new : View) (end : Ended) → IsSimulable p → IsOfReading end → RunCause p old new end → RanCause p old new end
-read_cause p old new Done is reading cause = absurd reading
-read_cause p old new (File place error) is reading cause = (is, cause)
-read_cause p old new (Zero node) is reading cause = absurd reading
-read_cause p old new ReadFault is reading cause = (is, cause)
-read_cause p old new WriteFault is reading cause = absurd reading
-read_cause p old new OutOfMemory is reading cause = tt
-
-read_prints : (p : Plan) (s : SimWords) (old new : View) (end : Ended) → IsOfReading end → new.out ≡ old.out → RanPrints p s old new end
-read_prints p s old new Done reading same = absurd reading
-read_prints p s old new (File place error) reading same = same
-read_prints p s old new (Zero node) reading same = absurd reading
-read_prints p s old new ReadFault reading same = same
-read_prints p s old new WriteFault reading same = absurd reading
-read_prints p s old new OutOfMemory reading same = same
-
-pub not_read : (p : Plan) (s : SimWords) (a : Addition) (old new : View) (end : Ended) → CanRun p a → IsEarly end → IsOfReading end → RunCause p old new end → Opens p.inputs old.files new.files → OnlyReads old new → SimulatesPlan p s old new (Ran end)
-not_read p s a old new end can early reading cause opens only =
-    ran p s old new new.out end (early_runs p old new end early cause opens only) (read_cause p old new end (record { addition = a; can = can }) reading cause) (read_prints p s old new end reading only.out)
 
 -- ## Once the input is read
 
@@ -292,8 +222,8 @@ pub print_failed : (p : Plan) (s : SimWords) (a : Addition) (old mid saved new :
     SimulatesPlan p s old new (Ran WriteFault)
 print_failed p s a old mid saved new inputs name report turns f all writes prints printed rose =
     let r : RunsPlan p old (record new { out = saved.out }) WriteFault =
-        print_fault_runs p old mid saved (record new { out = saved.out }) (values_of p inputs) (evaluated p a old mid inputs f.can.is f.read) (saves_all p s a old mid inputs name report turns saved.files f all) writes
-        (with_out saved new saved.out prints) (nothing_printed saved.out saved.out (run_lines p) refl) rose in
+    print_fault_runs p old mid saved (record new { out = saved.out }) (values_of p inputs) (evaluated p a old mid inputs f.can.is f.read) (saves_all p s a old mid inputs name report turns saved.files f all) writes
+    (with_out saved new saved.out prints) (nothing_printed saved.out saved.out (run_lines p) refl) rose in
     let P : Option (List ℕ) → Type 0 = λ o. PrintsPart o new.out (lines_of p report turns) in
     ran p s old new saved.out WriteFault r (record { addition = a; can = f.can }, r.cause.0, r.cause.1) (record {
       addition = a;
@@ -309,7 +239,7 @@ pub done : (p : Plan) (s : SimWords) (a : Addition) (old mid saved new : View) (
 done p s a old mid saved new inputs name report turns f all writes prints printed =
     let out : Option (List ℕ) = followed_by saved.out (run_lines p) in
     let r : RunsPlan p old (record new { out = out }) Done =
-        done_runs p old mid saved (record new { out = out }) (values_of p inputs) (evaluated p a old mid inputs f.can.is f.read) (saves_all p s a old mid inputs name report turns saved.files f all) writes (with_out saved new out prints) refl in
+    done_runs p old mid saved (record new { out = out }) (values_of p inputs) (evaluated p a old mid inputs f.can.is f.read) (saves_all p s a old mid inputs name report turns saved.files f all) writes (with_out saved new out prints) refl in
     ran p s old new out Done r (record { addition = a; can = f.can }, r.cause) (record {
       addition = a;
       can = f.can;

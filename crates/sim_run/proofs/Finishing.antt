@@ -1,5 +1,5 @@
 -- A simulation that served the client, with what it was read from and what is saved of it.
-use Rattle.std.proofs.Common.{◌≡◌, ℕ, ℤ, pos, ◌<◌, List, [], ◌∷◌, map, length, get_or, string_bytes, refl, ap, sym, ◌∙◌, subst, arith}
+use Rattle.std.proofs.Common.{◌≡◌, ℕ, ℤ, pos, ◌<◌, List, [], ◌∷◌, map, length, get_or, string_bytes, ap, sym, ◌∙◌, subst, arith}
 use Rattle.io_edge.specs.Cause.{Rose}
 use Rattle.io_edge.specs.Content.{followed_by, PrintsPart}
 use Rattle.io_edge.specs.View.{View, Files, OnlyOut, OnlyWrites}
@@ -47,10 +47,6 @@ pub one_name : (saves : List Save) (save : Save) → map (λ s. s.node) (map sav
 one_name [] save e is = absurd (omega (arith, ap length e))
 one_name (x ∷ []) save e is = ap (λ (s : Save). string_bytes s.file ∷ []) (sym is)
 one_name (x ∷ y ∷ more) save e is = absurd (omega (arith, ap length e))
-
-pub some_save : (saves : List Save) → map (λ s. s.node) (map saved_of saves) ≡ 2 ∷ [] → 0 < length saves
-some_save [] e = absurd (omega (arith, ap length e))
-some_save (x ∷ more) e = omega arith
 
 pub finishes : (p : Plan) (s : SimWords) (a : Addition) (old mid : View) (inputs : List Array) (cells : List ℤ) (name : List ℕ) (report : Report) (turns : ℕ) → CanRun p a → IsRead p old mid inputs → IsInput a (block_at inputs 0) →
     cells ≡ (block_at inputs 0).cells → names_saved p ≡ name ∷ [] → IsServed a s cells report turns → Finishes p s a old mid inputs name report turns

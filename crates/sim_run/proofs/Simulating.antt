@@ -1,7 +1,6 @@
 -- The simulation of an addition.
-use Rattle.std.proofs.Common.{◌≡◌, ℕ, ℤ, pos, zero, suc, ◌+◌, ◌*◌, ◌^◌, ◌<◌, ◌≤◌, Bool, true, false, List, [], ◌∷◌, ◌++◌, map, length, get_or, refl, ap, sym, ◌∙◌, subst, arith, Option, Some, None, is_some, Result, Ok, Err}
-use Rattle.std.specs.Prelude.{◌↔◌, ◌==◌, IfOk}
-use Rattle.std.specs.List.{range_with_len}
+use Rattle.std.proofs.Common.{◌≡◌, ℕ, ℤ, ◌+◌, ◌*◌, ◌<◌, true, List, [], ◌∷◌, length, get_or, refl, ap, sym, ◌∙◌, subst, arith, Option, Some, None, is_some, Err}
+use Rattle.std.specs.Prelude.{◌↔◌, ◌==◌}
 use Rattle.std.proofs.lemmas.Bool.{eq-eqb, eqb-true, false≢true}
 use Rattle.std.proofs.lemmas.List.Folds.{Any-from_list_any, list_any_at}
 use Rattle.std.proofs.lemmas.List.FromFn.{get_or-map-range_with_len, length-map-range_with_len}
@@ -12,20 +11,19 @@ use Rattle.cluster_msgs.specs.declared.events.Item.{Item}
 use Rattle.cluster_msgs.specs.declared.events.Item.TheVariants.{Lose, Suspect, Join}
 use Rattle.cluster_msgs.specs.declared.events.Report.{Report}
 use Rattle.cluster_rules.specs.Derived.{is_in}
-use Rattle.cluster_rules.specs.Draw.{Plan as SimPlan, Verdict, Served, OutOfTurns}
+use Rattle.cluster_rules.specs.Draw.{Plan as SimPlan, Served, OutOfTurns}
 use Rattle.cluster_rules.specs.Sched.{Setting}
 use Rattle.cluster_rules.specs.Worker.{has_any}
 use Rattle.cluster_rules.specs.World.{Job, World}
 use Rattle.value_laws.specs.AreValues.{AreValues}
 use Rattle.value_laws.specs.Blocks.{Cluster, job_of, setting_of, opening_cluster}
-use Rattle.value_laws.specs.Moves.{cluster_run}
 use Rattle.value_laws.proofs.Values.{values_of}
 use Rattle.cluster_world.specs.declared.state.State.{State}
 use Rattle.cluster_world.specs.Worlds.{IsReached, IsReady, cluster, event_limit, setting, world}
 use Rattle.quiet_bound.proofs.WorldBound.{setting-world}
 use Rattle.cluster_sim.specs.declared.act.SimError.{SimError}
 use Rattle.cluster_sim.specs.declared.act.SimError.TheVariants as sim
-use Rattle.cluster_sim.specs.Acts.{CountsSim, Stays, running as runs_of}
+use Rattle.cluster_sim.specs.Acts.{CountsSim, running as runs_of}
 use Rattle.cluster_sim.specs.Drawn.{word_of}
 use Rattle.cluster_sim.specs.Openings.{AreWanted, IsOpening}
 use Rattle.cluster_sim.specs.Plans.{IsPlan, joins_in as plan_joins}
@@ -39,7 +37,7 @@ use Rattle.sim_run.specs.declared.ends.SimEnded.TheVariants.{NotBuilt, Keys, Eve
 use Rattle.sim_run.specs.declared.form.Addition.{Addition}
 use Rattle.sim_run.specs.Forms.{chunks_in}
 use Rattle.sim_run.specs.Serving.{HasSums, IsFound, IsHalted, IsStopped, KnowsAdditions, ended_of}
-use Rattle.sim_run.specs.Simulated.{AreSettings, IsJobOf, IsOutOfEvents, IsOutOfTurns, IsServed, running, sim_plan, wanted_keys}
+use Rattle.sim_run.specs.Simulated.{AreSettings, IsJobOf, IsServed, running, sim_plan, wanted_keys}
 
 -- ## The plan
 
@@ -126,7 +124,7 @@ unfolding KnowsAdditions
 none_blamed s j wanted None law is job shape blamed = refl
 none_blamed s j wanted (Some b) law is job shape blamed =
     let e : faulty (deps_of (setting s).shape) (val (deps_of (setting s).shape) (made s.job)) b ≡ faulty (deps_of j.shape) (val (deps_of j.shape) (made j)) b =
-        ap (λ (g : Shape). faulty (deps_of g) (val (deps_of g) (made s.job)) b) shape ∙ ap (λ i. faulty (deps_of j.shape) (val (deps_of j.shape) (made i)) b) job in
+    ap (λ (g : Shape). faulty (deps_of g) (val (deps_of g) (made s.job)) b) shape ∙ ap (λ i. faulty (deps_of j.shape) (val (deps_of j.shape) (made i)) b) job in
     absurd (false≢true (sym (law.1 j is b) ∙ (sym e ∙ blamed.faulty)))
 
 pub is_found : (j : Job) (words : ℕ → ℕ) (p : SimPlan) (wanted keys : List ℕ) (w : World) (report : Report) (turns : ℕ) (blame : Option ℕ) → wanted ≡ keys → blame ≡ None → IsReported j words p wanted (Served turns blame) w report → IsFound j words p keys report turns

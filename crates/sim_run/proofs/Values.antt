@@ -1,25 +1,23 @@
 -- What the nodes of an addition hold.
-use Rattle.std.proofs.Common.{◌≡◌, ℕ, ℤ, pos, zero, suc, ◌+◌, ◌*◌, ◌/◌, ◌<◌, ◌≤◌, ◌+ℤ◌, cond, List, [], ◌∷◌, ◌++◌, map, length, get_or, refl, ap, sym, ◌∙◌, subst, arith, Option, Some, None, Bool, true, false}
+use Rattle.std.proofs.Common.{◌≡◌, ℕ, ℤ, pos, zero, suc, ◌+◌, ◌*◌, ◌/◌, ◌<◌, ◌+ℤ◌, cond, List, [], ◌∷◌, map, length, get_or, refl, ap, sym, ◌∙◌, subst, arith, Option, Some, None, Bool, true, false}
 use Rattle.std.specs.Prelude.{IsSome, nat_eq, unwrap_or}
-use Rattle.std.specs.List.{range_with_len}
 use Rattle.std.proofs.lemmas.Bool.{eqb-true}
 use Rattle.std.proofs.lemmas.List.{ext_get_or, get_or-map, length-map}
 use Rattle.std.proofs.lemmas.List.FromFn.{get_or-map-range_with_len, length-map-range_with_len}
 use Rattle.std.proofs.Math.Nat.{div-one}
 use Rattle.nd_grid.specs.declared.operation.Binary.TheVariants.{Add}
-use Rattle.nd_grid.specs.Grid.{Grid, elementwise, filled}
+use Rattle.nd_grid.specs.Grid.{elementwise, filled}
 use Rattle.nd_grid.specs.Int64.{wrap}
 use Rattle.nd_grid.specs.Operation.{combine}
 use Rattle.nd_shape.specs.Index.{IsIn}
 use Rattle.nd_shape.specs.declared.chunk.ChunkSpec.TheVariants.{Even}
-use Rattle.nd_shape.specs.declared.slice.Steps.{Steps}
 use Rattle.npy_codec.specs.Npy.{npy}
 use Rattle.array_expr.specs.declared.op.Op.{Op}
 use Rattle.array_expr.specs.declared.op.Op.TheVariants.{Input, Full, Elementwise}
 use Rattle.array_expr.specs.declared.expr.Node.{Node}
-use Rattle.array_expr.specs.Elem.{Cells, array_at, arrays, arrays_after, cells_of, grid_of_cells}
+use Rattle.array_expr.specs.Elem.{Cells, arrays, arrays_after, cells_of, grid_of_cells}
 use Rattle.addition_job.specs.Chunks.{added}
-use Rattle.job_run.specs.Values.{HasElements, cells_at, file_of}
+use Rattle.job_run.specs.Values.{HasElements, file_of}
 use Rattle.sim_run.specs.declared.form.Addition.{Addition}
 use Rattle.sim_run.specs.Forms.{operations}
 

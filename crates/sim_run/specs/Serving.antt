@@ -14,7 +14,7 @@ use Rattle.cluster_sim.specs.declared.act.SimError.TheVariants as sim
 use Rattle.addition_job.specs.Chunks.{added, chunk_at, chunks_in as chunk_count, joined}
 use Rattle.addition_job.specs.Addition.{Addition as JobOf, IsAdditionJob, chunk, chunk_total, made}
 use Rattle.job_run.specs.declared.ends.Ended.{Ended}
-use Rattle.job_run.specs.declared.ends.Ended.TheVariants.{Done, File, Zero, ReadFault, WriteFault, OutOfMemory}
+use Rattle.job_run.specs.declared.ends.Ended.TheVariants.{OutOfMemory}
 use Rattle.sim_words.specs.declared.sim.SimWords.{SimWords}
 use Rattle.sim_run.specs.declared.ends.SimEnded.{SimEnded}
 use Rattle.sim_run.specs.declared.ends.SimEnded.TheVariants.{NotBuilt, Keys, Events, Turns, Ran}

@@ -9,12 +9,7 @@ use job_run::{Job, saved_lines};
 use std::alloc::{AllocError, Global};
 
 /// Appends a number behind what it counts.
-fn push_count(
-    alloc: Global,
-    text: &mut String,
-    what: &str,
-    count: u64,
-) -> Result<(), AllocError>
+fn push_count(alloc: Global, text: &mut String, what: &str, count: u64) -> Result<(), AllocError>
     ensures { OnOk result (string_bytes text.new ≡ string_bytes text.old ++ count_line what.now count) }
 {
     let line = format!(in alloc; "{what} {count}\n")?;
@@ -31,11 +26,7 @@ fn push_worker(alloc: Global, text: &mut String, worker: (u32, u64)) -> Result<(
 }
 
 /// Appends the same of all workers.
-fn push_workers(
-    alloc: Global,
-    text: &mut String,
-    workers: &[(u32, u64)],
-) -> Result<(), AllocError>
+fn push_workers(alloc: Global, text: &mut String, workers: &[(u32, u64)]) -> Result<(), AllocError>
     ensures { OnOk result (string_bytes text.new ≡ string_bytes text.old ++ worker_lines workers.now) }
 {
     for worker in workers {
@@ -59,12 +50,7 @@ fn push_report(alloc: Global, text: &mut String, report: &Report) -> Result<(), 
 }
 
 /// The lines of a job that was simulated in so many turns, and saved.
-pub fn lines(
-    alloc: Global,
-    job: &Job,
-    report: &Report,
-    turns: u64,
-) -> Result<String, AllocError>
+pub fn lines(alloc: Global, job: &Job, report: &Report, turns: u64) -> Result<String, AllocError>
     requires { IsRunnable (plan_of job.now) }
     ensures { IfOk result (λ t. string_bytes t ≡ lines_of (plan_of job.now) report.now turns) }
 {

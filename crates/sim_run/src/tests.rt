@@ -18,9 +18,7 @@ fn file_of(alloc: Global, digit: &str, elements: &[[u8; 8]]) -> Result<Vec<u8>, 
     file.extend_from_slice(b"\x93NUMPY\x01\x00\x76\x00")?;
     file.extend_from_slice(b"{'descr': '<i8', 'fortran_order': False, 'shape': (")?;
     file.extend_from_slice(digit.as_bytes())?;
-    file.extend_from_slice(
-        b",), }                                                            \n",
-    )?;
+    file.extend_from_slice(b",), }                                                            \n")?;
     for element in elements {
         file.extend_from_slice(element)?;
     }
@@ -28,13 +26,7 @@ fn file_of(alloc: Global, digit: &str, elements: &[[u8; 8]]) -> Result<Vec<u8>, 
 }
 
 // `a.npy` with a number and another operation's operand, in `b.npy`.
-fn job_of(
-    alloc: Global,
-    len: u64,
-    size: u64,
-    op: Binary,
-    value: i64,
-) -> Result<Job, Fail> {
+fn job_of(alloc: Global, len: u64, size: u64, op: Binary, value: i64) -> Result<Job, Fail> {
     let mut expr = Expr::new(alloc);
     let mut dims = Dims::new(alloc);
     dims.push(len)?;
@@ -81,10 +73,12 @@ fn told(end: SimEnded) -> &'static str {
         SimEnded::Events => "events",
         SimEnded::Turns => "turns",
         SimEnded::Ran(Ended::Done) => "done",
-        SimEnded::Ran(Ended::File {
-            input: _,
-            error: FileError::Shape { .. },
-        }) => "shape",
+        SimEnded::Ran(
+            Ended::File {
+                input: _,
+                error: FileError::Shape { .. },
+            },
+        ) => "shape",
         SimEnded::Ran(_) => "other",
     }
 }
@@ -106,7 +100,8 @@ fn run(
     Ok((end, site))
 }
 
-const FRONT: &str = "saved b.npy (1,)\nkeys 2\nedges 1\nstarted 2\nworker 1 started 2\ngathers 0\nsteals confirmed 0\nsteals refused 0\nlosses 0\nturns ";
+const FRONT: &str =
+    "saved b.npy (1,)\nkeys 2\nedges 1\nstarted 2\nworker 1 started 2\ngathers 0\nsteals confirmed 0\nsteals refused 0\nlosses 0\nturns ";
 
 #[test]
 fn a_job_of_one_chunk_is_simulated(rt: HostRuntime) -> Result<(), Fail> {
@@ -139,11 +134,7 @@ fn sums_wrap_and_chunks_are_joined(rt: HostRuntime) -> Result<(), Fail> {
     let file = file_of(
         alloc,
         "3",
-        &[
-            [4, 0, 0, 0, 0, 0, 0, 0],
-            [0, 0, 0, 0, 0, 0, 0, 0],
-            ones,
-        ],
+        &[[4, 0, 0, 0, 0, 0, 0, 0], [0, 0, 0, 0, 0, 0, 0, 0], ones],
     )?;
     let (end, site) = run(&rt, &job, &file, 1)?;
     assert_eq!(rt; end, "done");

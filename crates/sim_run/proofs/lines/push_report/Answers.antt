@@ -1,4 +1,4 @@
-use Rattle.std.proofs.Common.{◌≡◌, ◌∙◌, ◌++◌, codes, string_bytes}
+use Rattle.std.proofs.Common.{◌∙◌, codes, string_bytes}
 use Rattle.sim_run.specs.Texts.{count_line, report_text, worker_lines}
 use Rattle.sim_run.proofs.Appending.{eight, on_ok}
 use Rattle.sim_run.proofs.lines.push_report.Goals as goal

@@ -36,17 +36,17 @@ returns-in-Err-clause-halted c =
 
 pub sums-requires-clause-sums : goal.sums-requires-clause-sums
 sums-requires-clause-sums c = run_sums c.args.world.now c.simulate.new.world c.args.chunks c.in_ok-keys.keys c.in-Ok.end.zero (record {
-      known = c.known.ensures;
-      is = c.requires.job;
-      graph = c.requires.graph;
-      count = c.requires.chunks;
-      wanted = c.in_ok-keys.ensures;
-      job = c.in-Ok.ensures.stays.job;
-      kept = c.in-Ok.ensures.stays.setting;
-      reached = c.in-Ok.ensures.reached tt;
-      all = c.in-Ok.ensures.all;
-      blamed = c.in-Ok.ensures.blame tt;
-    })
+  known = c.known.ensures;
+  is = c.requires.job;
+  graph = c.requires.graph;
+  count = c.requires.chunks;
+  wanted = c.in_ok-keys.ensures;
+  job = c.in-Ok.ensures.stays.job;
+  kept = c.in-Ok.ensures.stays.setting;
+  reached = c.in-Ok.ensures.reached tt;
+  all = c.in-Ok.ensures.all;
+  blamed = c.in-Ok.ensures.blame tt;
+})
 
 pub sums-requires-clause-chunks : goal.sums-requires-clause-chunks
 sums-requires-clause-chunks c = c.requires.chunks ∙ ap chunk_total (sym c.in-Ok.ensures.stays.job)
@@ -72,14 +72,14 @@ returns-clause-found c =
 
 pub returns-clause-cells : goal.returns-clause-cells
 returns-clause-cells c = c.in_ok-cells.ensures ∙ run_whole c.args.world.now c.simulate.new.world c.args.chunks c.in_ok-keys.keys c.in-Ok.end.zero (record {
-      known = c.known.ensures;
-      is = c.requires.job;
-      graph = c.requires.graph;
-      count = c.requires.chunks;
-      wanted = c.in_ok-keys.ensures;
-      job = c.in-Ok.ensures.stays.job;
-      kept = c.in-Ok.ensures.stays.setting;
-      reached = c.in-Ok.ensures.reached tt;
-      all = c.in-Ok.ensures.all;
-      blamed = c.in-Ok.ensures.blame tt;
-    })
+  known = c.known.ensures;
+  is = c.requires.job;
+  graph = c.requires.graph;
+  count = c.requires.chunks;
+  wanted = c.in_ok-keys.ensures;
+  job = c.in-Ok.ensures.stays.job;
+  kept = c.in-Ok.ensures.stays.setting;
+  reached = c.in-Ok.ensures.reached tt;
+  all = c.in-Ok.ensures.all;
+  blamed = c.in-Ok.ensures.blame tt;
+})
