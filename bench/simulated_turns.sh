@@ -1,10 +1,10 @@
 #!/bin/sh
-# Times a simulation of about 10,000 turns with 64 workers by the built program: 1,150 numbers in chunks of one, which are
-# 2,300 keys. It runs the command three times and prints the processor time of each run, and how many turns it took. Run it
+# Times a simulation of about 10,000 turns with 64 workers by the built program: 750 numbers in chunks of one, which are
+# 1,500 keys. It runs the command three times and prints the processor time of each run, and how many turns it took. Run it
 # on a quiet machine.
 set -eu
 top=$(cd "$(dirname "$0")/.." && pwd)
-chunks=${1:-1150}
+chunks=${1:-750}
 folder=$(mktemp -d)
 trap 'rm -rf "$folder"' EXIT
 python3 - "$folder/counts.npy" "$chunks" <<'PY'
