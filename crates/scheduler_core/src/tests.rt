@@ -163,9 +163,11 @@ fn three_keys(alloc: Global, depends: bool) -> Result<GraphShape, AllocError> {
     Ok(shape)
 }
 
-/// The scheduler of three keys, with one client and a saturation of 1.1.
-fn of_three(alloc: Global, depends: bool) -> Result<Sched, AllocError> {
-    Sched::new(alloc, three_keys(alloc, depends)?, 1, 11)
+/// Four keys of 80 bytes without dependencies.
+fn four_keys(alloc: Global) -> Result<GraphShape, AllocError> {
+    let mut shape = three_keys(alloc, false)?;
+    push_alone(alloc, &mut shape)?;
+    Ok(shape)
 }
 
 fn keys(alloc: Global, named: &[u32]) -> KeyList {
@@ -398,14 +400,14 @@ fn hear_a_stranger(rt: &impl Abort, core: &mut impl Core, out: &mut Outbox) {
     assert_eq!(rt; core.take(left, out), Err(Stop::Refused));
 }
 
-/// There is no key 7.
+/// There is no key 7 among four.
 fn refuse(rt: &impl Abort, alloc: Global, core: &mut impl Core, out: &mut Outbox) {
     hear_a_stranger(rt, core, out);
     let keys = keys(alloc, &[7]);
     let msg = FromClient::Want { keys };
     let unknown = SchedEvent::FromClient { c: 1, msg };
     assert_eq!(rt; core.take(unknown, out), Err(Stop::Refused));
-    assert!(rt; !core.knows(0) && core.size() == (3, 0));
+    assert!(rt; !core.knows(0) && core.size() == (4, 0));
     assert!(rt; out.down.is_empty() && out.clients.is_empty() && out.joined.is_empty());
 }
 
@@ -492,53 +494,63 @@ fn play(rt: &impl Abort, alloc: Global, story: Story, core: &mut impl Core, out:
     }
 }
 
-/// Plays the story with a core of its own, in which the last of three keys depends on the first where it is said. It
-/// alone owns a core, since a proof pays for each owner.
-fn run(rt: &impl Abort, alloc: Global, story: Story, depends: bool) -> Result<(), AllocError> {
-    let mut core = of_three(alloc, depends)?;
+/// Plays the story with a core of its own for the graph, one client and a saturation of 1.1. It alone owns a core,
+/// since a proof pays for each owner.
+fn run(rt: &impl Abort, alloc: Global, story: Story, shape: GraphShape) -> Result<(), AllocError> {
+    let mut core = Sched::new(alloc, shape, 1, 11)?;
     let mut out = Outbox::new(alloc);
     play(rt, alloc, story, &mut core, &mut out);
     Ok(())
 }
 
+/// Plays the story with three keys, the last of which depends on the first where it is said.
+fn run_three(
+    rt: &impl Abort,
+    alloc: Global,
+    story: Story,
+    depends: bool,
+) -> Result<(), AllocError> {
+    run(rt, alloc, story, three_keys(alloc, depends)?)
+}
+
 #[test]
 fn news_from_before_the_fence_makes_no_holder(rt: HostRuntime) -> Result<(), Fail> {
-    run(&rt, rt.alloc(), Story::LateNews, false)?;
+    run_three(&rt, rt.alloc(), Story::LateNews, false)?;
     Ok(())
 }
 
 #[test]
 fn a_thief_has_the_key_once_its_victim_agreed(rt: HostRuntime) -> Result<(), Fail> {
-    run(&rt, rt.alloc(), Story::Steal, false)?;
+    run_three(&rt, rt.alloc(), Story::Steal, false)?;
     Ok(())
 }
 
 #[test]
 fn a_key_whose_only_holder_leaves_is_given_anew(rt: HostRuntime) -> Result<(), Fail> {
-    run(&rt, rt.alloc(), Story::OnlyHolder, false)?;
+    run_three(&rt, rt.alloc(), Story::OnlyHolder, false)?;
     Ok(())
 }
 
 #[test]
 fn a_key_with_a_second_holder_stays(rt: HostRuntime) -> Result<(), Fail> {
-    run(&rt, rt.alloc(), Story::SecondHolder, false)?;
+    run_three(&rt, rt.alloc(), Story::SecondHolder, false)?;
     Ok(())
 }
 
 #[test]
 fn a_replica_to_spare_goes_where_most_is_held(rt: HostRuntime) -> Result<(), Fail> {
-    run(&rt, rt.alloc(), Story::Spare, true)?;
+    run_three(&rt, rt.alloc(), Story::Spare, true)?;
     Ok(())
 }
 
 #[test]
 fn nobody_and_nothing_is_refused(rt: HostRuntime) -> Result<(), Fail> {
-    run(&rt, rt.alloc(), Story::Refusals, false)?;
+    run(&rt, rt.alloc(), Story::Refusals, four_keys(rt.alloc())?)?;
     Ok(())
 }
 
 #[test]
 fn the_policies_questions_are_answered(rt: HostRuntime) -> Result<(), Fail> {
-    run(&rt, rt.alloc(), Story::Questions, true)?;
+    run_three(&rt, rt.alloc(), Story::Questions, true)?;
     Ok(())
 }
