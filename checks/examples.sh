@@ -1,16 +1,8 @@
 #!/usr/bin/env bash
 # Every example by both commands against what NumPy made of it, and files that NumPy makes of every number of axes.
 cd "$(dirname "$0")/.." || exit 1
-passed=0
-failed=0
-check() {
-  if [ "$2" = "$3" ]; then
-    passed=$((passed + 1))
-  else
-    failed=$((failed + 1))
-    printf 'examples: %s: got\n%s\nwanted\n%s\n' "$1" "$2" "$3"
-  fi
-}
+about='examples'
+. tools/checking.bash
 
 # the first use builds the program where it isn't built, and says so; words that are none end with status 1
 ./dask >/dev/null 2>&1
@@ -76,5 +68,4 @@ else
   echo 'examples: NumPy is not here and its package could not be installed, so arrays of each number of axes are not checked'
 fi
 
-echo "checks: $passed passed, $failed failed"
-[ "$failed" = 0 ]
+summary

@@ -1,16 +1,8 @@
 #!/usr/bin/env bash
 # The first example through the program itself: its lines, its status and its file, from the root and from another folder.
 cd "$(dirname "$0")/.." || exit 1
-passed=0
-failed=0
-check() {
-  if [ "$2" = "$3" ]; then
-    passed=$((passed + 1))
-  else
-    failed=$((failed + 1))
-    printf 'first path: %s: got\n%s\nwanted\n%s\n' "$1" "$2" "$3"
-  fi
-}
+about='first path'
+. tools/checking.bash
 
 rm -f examples/first/raised.npy
 lines=$(./dask run examples/first/job.txt)
@@ -56,5 +48,4 @@ check 'status of a full standard output' "$?" 6
 check 'line of a full standard output' "$line" 'dask: write fault'
 rm -rf "$folder"
 
-echo "checks: $passed passed, $failed failed"
-[ "$failed" = 0 ]
+summary

@@ -1,16 +1,8 @@
 #!/usr/bin/env bash
 # The first example by the simulated cluster, through the program itself: the file is that of a run, and the same words print the same.
 cd "$(dirname "$0")/.." || exit 1
-passed=0
-failed=0
-check() {
-  if [ "$2" = "$3" ]; then
-    passed=$((passed + 1))
-  else
-    failed=$((failed + 1))
-    printf 'simulation: %s: got\n%s\nwanted\n%s\n' "$1" "$2" "$3"
-  fi
-}
+about='simulation'
+. tools/checking.bash
 
 job=examples/first/job.txt
 for options in '' '--workers 1 --threads 1' '--saturation 20 --script lose:1@1,join@1'; do
@@ -36,5 +28,4 @@ line=$(./dask sim examples/transpose/job.txt 7 2>&1)
 check 'status of a job of another form' "$?" 2
 check 'line of a job of another form' "$line" 'dask: job 1:1: not built'
 
-echo "checks: $passed passed, $failed failed"
-[ "$failed" = 0 ]
+summary
