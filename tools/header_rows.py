@@ -7,6 +7,8 @@ is trusted.
 
 import itertools
 
+from grammar_tables import Tables, as_rust
+
 KINDS = 48
 SINGLE = "".join(dict.fromkeys(" \n{}():,'\"descrfotan_hpTuFl0"))
 DIGIT, TEXT, OTHER = len(SINGLE), len(SINGLE) + 1, len(SINGLE) + 2
@@ -99,50 +101,10 @@ other[parts.index("digits")] = []
 
 # ---- the tables of the test
 
-n = len(parts)
-starts, empty, follow = [0] * n, [False] * n, [0] * n
-rows = [(p, k, s) for (p, k), s in on.items()] + [(p, None, s) for p, s in other.items()]
-
-
-def begin(symbols):
-    mask = 0
-    for what, x in symbols:
-        if what == "Token":
-            return mask | 1 << x
-        if what == "Part":
-            mask |= starts[x]
-            if not empty[x]:
-                return mask
-    return mask
-
-
-def may_be_empty(symbols):
-    return all(what == "Action" or (what == "Part" and empty[x]) for what, x in symbols)
-
-
-changed = True
-while changed:
-    before = list(starts), list(empty), list(follow)
-    for p, k, s in rows:
-        starts[p] |= begin(s) if k is None else 1 << k
-        empty[p] |= k is None and may_be_empty(s)
-        for i, (what, x) in enumerate(s):
-            if what == "Part":
-                follow[x] |= begin(s[i + 1 :]) | (follow[p] if may_be_empty(s[i + 1 :]) else 0)
-    changed = before != (starts, empty, follow)
-
-ranks = [None] * n
-while None in ranks:
-    for p, k, s in rows:
-        below = [ranks[x] for what, x in s if what == "Part"]
-        if None not in below:
-            rank = max(below, default=-1) + 1
-            if ranks[p] is None or rank < ranks[p]:
-                ranks[p] = rank
-moves = [1] * n  # no other rule has a part or an action before a token
+tables = Tables(len(parts), on, other)
+moves = [1] * len(parts)  # no other rule has a part or an action before a token
 
 # ---- what is written
-
 
 
 def title(name):
@@ -153,29 +115,11 @@ def title(name):
     return " ".join([name[0], "of (%s)" % keys] + (["in " + name[2]] if name[2:] else []))
 
 
-symbols, rules, number = [], [], {}
-for p, k, s in rows:
-    if str(s) not in number:
-        number[str(s)] = len(rules)
-        rules.append((len(symbols), len(symbols) + len(s)))
-        symbols += reversed(s)
-
 out = ["// The table of the grammar of headers, written by tools/header_rows.py.", "use grammar::{Row, Rule, Symbol, rules_on};", ""]
 out += ["// The kinds: %s, then the digits 1 to 9, what else may stand in a string, and any other byte." % ascii(SINGLE)[1:-1], ""]
 out += ["/// The kind of each byte.", "pub(crate) static KIND_OF_BYTE: [u16; 256] = ["]
 out += ["    " + " ".join("%d," % kind_of_byte(b) for b in range(i, i + 16)) for i in range(0, 256, 16)] + ["];", ""]
-out += ["pub(crate) static ON: [Row; %d] = [" % n]
-for p in range(n):
-    out.append("    // %d: %s" % (p, title(parts[p])))
-    entries = ["%d" % number[str(on[p, k])] if (p, k) in on else "-" for k in range(KINDS)]
-    out.append("    rules_on!(%s)," % " ".join(entries))
-out += ["];", "", "pub(crate) static OTHER: [Option<u16>; %d] = [" % n]
-out += ["    %s," % ("Some(%d)" % number[str(other[p])] if p in other else "None") for p in range(n)]
-out += ["];", "", "pub(crate) static MOVES: [u16; %d] = [" % n, "    " + " ".join("%d," % m for m in moves), "];", ""]
-out += ["pub(crate) static RULES: [Rule; %d] = [" % len(rules)]
-out += ["    Rule { start: %d, end: %d }," % r for r in rules] + ["];", ""]
-out += ["/// Each rule from its last symbol to its first.", "pub(crate) static SYMBOLS: [Symbol; %d] = [" % len(symbols)]
-out += ["    Symbol::%s(%d)," % s for s in symbols] + ["];"]
+out += as_rust([title(name) for name in parts], KINDS, on, other, tables.rows, moves)
 open("crates/npy_header/src/rows.rt", "w").write("\n".join(out) + "\n")
 
 
@@ -183,11 +127,11 @@ def antt(xs):
     return " ∷ ".join(str(x) for x in xs) + " ∷ []"
 
 
-print("parts", n, "rules", len(rules), "rows", len(rows), "symbols", len(symbols))
+print("parts", len(parts), "rows", len(tables.rows))
 print("singles =", antt(ord(c) for c in SINGLE))
-print("starts =", antt(starts))
-print("empty =", antt(str(e).lower() for e in empty))
-print("follow =", antt(follow))
-print("ranks =", antt(ranks))
+print("starts =", antt(tables.starts))
+print("empty =", antt(str(e).lower() for e in tables.empty))
+print("follow =", antt(tables.follow))
+print("ranks =", antt(tables.ranks))
 for i, p in enumerate(parts):
     print(i, p)

@@ -8,6 +8,8 @@ the grammar derives, so nothing here is trusted.
 
 import re
 
+from grammar_tables import Tables, as_rust
+
 KIND_COUNT = 48
 KINDS = (
     "Newline Name File Number Equals Plus Minus Times FloorDivide Remainder OpenParenthesis CloseParenthesis Comma OpenBracket "
@@ -218,51 +220,13 @@ def coded(symbols):
 
 on = {(number_of[p], KINDS.index(k)): coded(s) for (p, k), s in on.items()}
 other = {number_of[p]: coded(s) for p, s in other.items()}
-starts, empty, follow = [0] * n, [False] * n, [0] * n
-rows = [(p, k, s) for (p, k), s in on.items()] + [(p, None, s) for p, s in other.items()]
+tables = Tables(n, on, other)
 
-
-def begin(symbols):
-    mask = 0
-    for what, x in symbols:
-        if what == "Token":
-            return mask | 1 << x
-        if what == "Part":
-            mask |= starts[x]
-            if not empty[x]:
-                return mask
-    return mask
-
-
-def may_be_empty(symbols):
-    return all(what == "Action" or (what == "Part" and empty[x]) for what, x in symbols)
-
-
-changed = True
-while changed:
-    before = list(starts), list(empty), list(follow)
-    for p, k, s in rows:
-        starts[p] |= begin(s) if k is None else 1 << k
-        empty[p] |= k is None and may_be_empty(s)
-        for i, (what, x) in enumerate(s):
-            if what == "Part":
-                follow[x] |= begin(s[i + 1 :]) | (follow[p] if may_be_empty(s[i + 1 :]) else 0)
-    changed = before != (starts, empty, follow)
-
-for p, k, s in rows:
+for p, k, s in tables.rows:
     if k is None:
         taken = sum(1 << j for (q, j) in on if q == p)
-        assert taken & begin(s) == 0, row_names[p]
-        assert not may_be_empty(s) or taken & follow[p] == 0, row_names[p]
-
-ranks = [None] * n
-while None in ranks:
-    for p, k, s in rows:
-        below = [ranks[x] for what, x in s if what == "Part"]
-        if None not in below:
-            rank = max(below, default=-1) + 1
-            if ranks[p] is None or rank < ranks[p]:
-                ranks[p] = rank
+        assert taken & tables.begin(s) == 0, row_names[p]
+        assert not tables.may_be_empty(s) or taken & tables.follow[p] == 0, row_names[p]
 
 
 def cost(symbols):
@@ -284,26 +248,8 @@ while changed:
 
 # ---- what is written
 
-symbols, rule_list, number = [], [], {}
-for p, k, s in rows:
-    if str(s) not in number:
-        number[str(s)] = len(rule_list)
-        rule_list.append((len(symbols), len(symbols) + len(s)))
-        symbols += reversed(s)
-
 out = ["// The table of the grammar of jobs, written by tools/job_rows.py.", "use grammar::{Row, Rule, Symbol, rules_on};", ""]
-out += ["pub(crate) static ON: [Row; %d] = [" % n]
-for p in range(n):
-    out.append("    // %d: %s" % (p, row_names[p].replace("_", " ")))
-    entries = ["%d" % number[str(on[p, k])] if (p, k) in on else "-" for k in range(KIND_COUNT)]
-    out.append("    rules_on!(%s)," % " ".join(entries))
-out += ["];", "", "pub(crate) static OTHER: [Option<u16>; %d] = [" % n]
-out += ["    %s," % ("Some(%d)" % number[str(other[p])] if p in other else "None") for p in range(n)]
-out += ["];", "", "pub(crate) static MOVES: [u16; %d] = [" % n, "    " + " ".join("%d," % m for m in moves), "];", ""]
-out += ["pub(crate) static RULES: [Rule; %d] = [" % len(rule_list)]
-out += ["    Rule { start: %d, end: %d }," % r for r in rule_list] + ["];", ""]
-out += ["/// Each rule from its last symbol to its first.", "pub(crate) static SYMBOLS: [Symbol; %d] = [" % len(symbols)]
-out += ["    Symbol::%s(%d)," % s for s in symbols] + ["];"]
+out += as_rust([name.replace("_", " ") for name in row_names], KIND_COUNT, on, other, tables.rows, moves)
 open("crates/job_grammar/src/rows.rt", "w").write("\n".join(out) + "\n")
 
 
@@ -364,7 +310,7 @@ head += ["use Rattle.job_grammar.specs.Phrases.{Phrase, many, seq, either, optio
 head += ["use Rattle.job_grammar.specs.JobGrammar.{sub, %s}" % ", ".join(x for x in JOB_PARTS if re.search(r"sub %s\b" % x, text)), ""]
 head += ["unfoldable pub job_rows : Rows", "job_rows = record { on = ON; other = OTHER; moves = MOVES; rules = RULES; symbols = SYMBOLS }", ""]
 head += ["-- each kind is that of a token, and kind %d of no token" % len(KINDS)]
-head += ["unfoldable pub certificate : Certificate", "certificate = record {", "  kinds = %d;" % (len(KINDS) + 1), "  starts = %s;" % antt(starts)]
-head += ["  empty = %s;" % antt(str(e).lower() for e in empty), "  follow = %s;" % antt(follow), "  ranks = %s;" % antt(ranks), "}", ""]
+head += ["unfoldable pub certificate : Certificate", "certificate = record {", "  kinds = %d;" % (len(KINDS) + 1), "  starts = %s;" % antt(tables.starts)]
+head += ["  empty = %s;" % antt(str(e).lower() for e in tables.empty), "  follow = %s;" % antt(tables.follow), "  ranks = %s;" % antt(tables.ranks), "}", ""]
 open("crates/job_grammar/specs/JobRows.antt", "w").write("\n".join(head + body) + "\n")
-print("parts", n, "rules", len(rule_list), "rows", len(rows), "symbols", len(symbols), "moves", moves)
+print("parts", n, "rows", len(tables.rows), "moves", moves)
