@@ -1,5 +1,5 @@
 -- The workers that are there.
-use Rattle.std.proofs.Common.{◌≡◌, ℕ, ◌+◌, List, [], ◌∷◌, ◌++◌, zero, suc, refl, ap, sym, ◌∙◌, arith, add-one, add-zero}
+use Rattle.std.proofs.Common.{◌≡◌, ℕ, ◌+◌, [], ◌∷◌, ◌++◌, zero, suc, ap, sym, ◌∙◌, arith, add-one, add-zero}
 use Rattle.std.specs.List.{range_with_len}
 use Rattle.cluster_rules.specs.Functions.{from_one}
 

@@ -1,5 +1,5 @@
 -- The words as bytes, and the options among them.
-use Rattle.std.proofs.Common.{◌≡◌, ◌≢◌, ℕ, ◌<◌, ◌≤◌, ◌+◌, ◌-◌, ◌*◌, ◌/◌, ◌%◌, ◌⊎◌, inl, inr, Bool, true, false, List, [], length, get_or, map, string_bytes, String, codes, refl, ap, sym, subst, ◌∙◌, arith, Option, Some, None, MatchOption, MatchBool}
+use Rattle.std.proofs.Common.{◌≡◌, ◌≢◌, ℕ, ◌<◌, ◌≤◌, ◌+◌, ◌-◌, ◌*◌, ◌/◌, ◌%◌, ◌⊎◌, inl, inr, Bool, true, false, List, [], length, get_or, map, string_bytes, String, codes, ap, sym, subst, ◌∙◌, arith, Option, Some, None, MatchOption, MatchBool}
 use Rattle.std.specs.Prelude.{slice_index_or, bytes_eq, ◌||◌}
 use Rattle.std.specs.declared.alloc.Global.{Global}
 use Rattle.std.proofs.lemmas.Bool.{both_ways, or_cases, or_parts, cases_order}

@@ -2,7 +2,7 @@
 use Rattle.std.proofs.Common.{◌≡◌, ℕ, ◌<◌, ◌+◌, List, [], ◌∷◌, ◌++◌, length, refl, ap, sym, subst, ◌∙◌, arith}
 use Rattle.std.proofs.lemmas.List.{append_assoc, length-append}
 use Rattle.cluster_msgs.specs.declared.events.Item.{Item}
-use Rattle.sim_words.specs.Scripts.{IsClear, IsCut, IsItem, IsScript, IsFollowed, IsAdded, IsNoItem, IsNoScript, comma}
+use Rattle.sim_words.specs.Scripts.{IsClear, IsCut, IsItem, IsScript, IsAdded, IsNoItem, IsNoScript, comma}
 use Rattle.sim_words.specs.declared.fail.WordsFail.{WordsFail}
 use Rattle.sim_words.specs.declared.fail.WordsFail.TheVariants.{Refused, OutOfMemory}
 use Rattle.sim_words.proofs.Cuts.{same_cut, not_cut}

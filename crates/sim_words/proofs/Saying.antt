@@ -1,14 +1,13 @@
 -- What the words say, in one way.
-use Rattle.std.proofs.Common.{◌≡◌, ℕ, ◌<◌, ◌-◌, ◌^◌, ◌⊎◌, inl, inr, List, [], length, codes, refl, ap, sym, subst, ◌∙◌, arith}
+use Rattle.std.proofs.Common.{◌≡◌, ℕ, inl, inr, List, codes, sym, subst, ◌∙◌, arith}
 use Rattle.std.specs.Prelude.{Result, Ok, Err, IfOk, IfErr}
 use Rattle.cluster_msgs.specs.declared.events.Item.{Item}
 use Rattle.sim_words.specs.Numbers.{IsNumber}
-use Rattle.sim_words.specs.Options.{value_at, AreOptions, IsGiven, IsMissing, HasNumber, IsFirst}
+use Rattle.sim_words.specs.Options.{value_at, AreOptions, HasNumber, IsFirst}
 use Rattle.sim_words.specs.Scripts.{IsScript, IsNoScript}
 use Rattle.sim_words.specs.Walks.{IsWalk}
-use Rattle.sim_words.specs.Words.{IsSettings, IsSim, IsWhy, HasScript, IsNotGiven}
+use Rattle.sim_words.specs.Words.{IsSettings, IsWhy, HasScript, IsNotGiven}
 use Rattle.sim_words.specs.declared.sim.Settings.{Settings}
-use Rattle.sim_words.specs.declared.sim.SimWords.{SimWords}
 use Rattle.sim_words.specs.declared.fail.WordsFail.{WordsFail}
 use Rattle.sim_words.specs.declared.fail.WordsFail.TheVariants.{Refused, OutOfMemory}
 use Rattle.sim_words.proofs.Places.{given_at, not_missing, not_given}

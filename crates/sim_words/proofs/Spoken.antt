@@ -1,5 +1,5 @@
 -- What a text says of one item.
-use Rattle.std.proofs.Common.{◌≡◌, ℕ, ◌-◌, ◌^◌, List, refl, ap, sym, subst, ◌∙◌, Option, Some, None, MatchOption, codes, length, arith}
+use Rattle.std.proofs.Common.{◌≡◌, ℕ, List, refl, ap, sym, subst, ◌∙◌, Option, Some, None, MatchOption, codes, length, arith}
 use Rattle.cluster_msgs.specs.declared.events.Item.{Item}
 use Rattle.cluster_msgs.specs.declared.events.Item.TheVariants.{Lose, Suspect, Join}
 use Rattle.job_tokens.specs.Bytes.{decimal}

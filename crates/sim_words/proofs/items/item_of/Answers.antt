@@ -1,7 +1,7 @@
 -- The name and the number, or neither.
 use Rattle.std.proofs.Common.{arith}
-use Rattle.sim_words.proofs.Cuts.{cut_at, clear_at, none_case}
-use Rattle.sim_words.proofs.Spoken.{no_worker, worker_is, join_is}
+use Rattle.sim_words.proofs.Cuts.{cut_at, none_case}
+use Rattle.sim_words.proofs.Spoken.{no_worker}
 use Rattle.sim_words.proofs.items.item_of.Goals as goal
 
 pub returns-in_err-worker_number-in-Some : goal.returns-in_err-worker_number-in-Some

@@ -1,6 +1,6 @@
 -- The name at the place.
 use Rattle.std.proofs.Common.{arith, sym, ◌∙◌, map, string_bytes}
-use Rattle.sim_words.proofs.Places.{word_is, inside, option_is, no_option}
+use Rattle.sim_words.proofs.Places.{word_is, inside, option_is}
 use Rattle.sim_words.proofs.options.is_option.Goals as goal
 
 pub returns-then-is_name : goal.returns-then-is_name

@@ -1,5 +1,5 @@
 -- The place that is looked at has the name, or not.
-use Rattle.std.proofs.Common.{arith, inl, inr, subst, sym, ◌≡◌, ◌≢◌, ◌<◌, ℕ, map, string_bytes}
+use Rattle.std.proofs.Common.{arith, inl, inr, subst, sym, ◌≢◌, ◌<◌, map, string_bytes}
 use Rattle.sim_words.specs.Options.{name_at, options_in}
 use Rattle.sim_words.proofs.Places.{named, not_named, inside, below_or}
 use Rattle.sim_words.proofs.options.place_of.Goals as goal

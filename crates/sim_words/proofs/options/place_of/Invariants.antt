@@ -1,5 +1,5 @@
 -- No option that was passed has the name.
-use Rattle.std.proofs.Common.{◌≡◌, ◌≢◌, ◌<◌, ℕ, map, string_bytes}
+use Rattle.std.proofs.Common.{◌≢◌, ◌<◌, ℕ, map, string_bytes}
 use Rattle.sim_words.specs.Options.{name_at}
 use Rattle.sim_words.proofs.options.place_of.Given as goal
 

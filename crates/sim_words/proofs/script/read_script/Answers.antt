@@ -2,7 +2,7 @@
 use Rattle.std.proofs.Common.{arith, rules}
 use Rattle.std.proofs.lemmas.Result.{err_from_is_err_and}
 use Rattle.sim_words.proofs.Cuts.{cut_at, clear_at}
-use Rattle.sim_words.proofs.Readings.{begins, refused_leads, refused_ends, added_goes_on, added_ends, added_length, too_many}
+use Rattle.sim_words.proofs.Readings.{refused_leads, refused_ends, added_goes_on, added_ends, added_length}
 use Rattle.sim_words.proofs.script.read_script.Goals as goal
 
 pub returns-in_err-add_item-in-Some-clause-refused : goal.returns-in_err-add_item-in-Some-clause-refused

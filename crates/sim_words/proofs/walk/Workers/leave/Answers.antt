@@ -2,7 +2,6 @@
 use Rattle.std.proofs.Common.{◌≡◌, ◌==◌, rules, ℕ, not}
 use Rattle.std.proofs.lemmas.Fn.{filter_same}
 use Rattle.std.specs.Prelude.{filter}
-use Rattle.sim_words.specs.Walks.{Crew}
 use Rattle.sim_words.proofs.walk.Workers.leave.Goals as goal
 
 pub returns-clause-left : goal.returns-clause-left
