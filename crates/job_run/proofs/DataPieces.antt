@@ -1,7 +1,7 @@
 -- A header and elements that are written piece by piece.
-use Rattle.std.proofs.Common.{◌≡◌, ℕ, ℤ, pos, zero, suc, ◌+◌, ◌-◌, ◌*◌, ◌<◌, ◌≤◌, List, [], ◌∷◌, ◌++◌, map, length, take, drop, get_or, refl, ap, ap₂, sym, ◌∙◌, subst, arith, append_assoc, append-nil, length-append, Option}
+use Rattle.std.proofs.Common.{◌≡◌, ℕ, ℤ, pos, zero, suc, ◌+◌, ◌-◌, ◌*◌, ◌<◌, ◌≤◌, List, [], ◌∷◌, ◌++◌, length, take, drop, get_or, refl, ap, ap₂, sym, ◌∙◌, arith, append_assoc, append-nil, length-append, Option}
 use Rattle.std.specs.Prelude.{unwrap_or, Result, Ok, Err, OnOk, OnErr}
-use Rattle.std.proofs.lemmas.List.{length-map, map-append, take-map, drop-map, take-append-drop, take-append-le, take_all, length-take, length-drop, map_more}
+use Rattle.std.proofs.lemmas.List.{length-map, take-map, drop-map, take-append-drop, take-append-le, take_all, length-take, length-drop, map_more}
 use Rattle.std.proofs.Math.Seq.{take-append_seam, drop-append_seam, take-append-add}
 use Rattle.io_edge.specs.Content.{Content, overwritten, size_of, WritesPart}
 use Rattle.io_edge.proofs.Pieces.{overwrite_more}

@@ -1,6 +1,6 @@
 -- Arrays that are complete or not, the least needed one that isn't, and the blocks of inputs.
-use Rattle.std.proofs.Common.{◌≡◌, ◌≢◌, ℕ, ℤ, zero, suc, ◌+◌, ◌-◌, ◌<◌, ◌≤◌, List, [], ◌∷◌, ◌++◌, map, length, take, get_or, refl, ap, sym, ◌∙◌, subst, inl, inr, cond, arith, length-append, Option, Some, None, Bool, true, false}
-use Rattle.std.specs.Prelude.{IfSome, IsSome, slice_get, slice_index_or}
+use Rattle.std.proofs.Common.{◌≡◌, ℕ, ℤ, zero, suc, ◌+◌, ◌<◌, List, [], ◌∷◌, ◌++◌, map, length, take, get_or, refl, ap, sym, ◌∙◌, subst, inl, inr, cond, arith, length-append, Option, Some, None, Bool, true, false}
+use Rattle.std.specs.Prelude.{IsSome, slice_get}
 use Rattle.std.proofs.lemmas.Option.{get_or_from_slice_get, slice_get_read}
 use Rattle.std.proofs.lemmas.List.{length-take, length-map, get_or-map}
 use Rattle.nd_shape.specs.Block.{Array}
@@ -10,9 +10,9 @@ use Rattle.nd_shape.proofs.Places.{place-below, index_at-in, place-index_at}
 use Rattle.array_expr.specs.declared.expr.Node.{Node}
 use Rattle.array_expr.specs.Elem.{Cells, array_at, arrays, arrays_after, cells_of, formula, is_input, next_input}
 use Rattle.array_expr.specs.Node.{IsExpression}
-use Rattle.node_reach.specs.Reach.{IsClosed, Reaches, is_operand}
+use Rattle.node_reach.specs.Reach.{Reaches}
 use Rattle.node_reach.proofs.Marking.{names-more, operand-below}
-use Rattle.plain_eval.specs.Eval.{HaveBlocks, block_at, inputs_before, inputs_in}
+use Rattle.plain_eval.specs.Eval.{HaveBlocks, inputs_before, inputs_in}
 use Rattle.job_run.specs.Plan.{input_shapes}
 use Rattle.job_run.specs.Saving.{IsComplete, IsFirstLack, LacksAt}
 use Rattle.job_run.proofs.SavedFiles.{below_or}

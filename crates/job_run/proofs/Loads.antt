@@ -1,6 +1,6 @@
 -- Heads and arrays that are read one after another, and what follows for the run.
-use Rattle.std.proofs.Common.{◌≡◌, ℕ, suc, ◌+◌, ◌-◌, ◌^◌, ◌<◌, ◌≤◌, min, List, [], ◌∷◌, ◌++◌, map, length, take, get_or, cond, refl, ap, sym, ◌∙◌, subst, inl, inr, arith, length-append, Option, Some, None, Bool, true, false, Result, Ok, Err}
-use Rattle.std.specs.Prelude.{IfErr, IfOk, OnOk, IfSome, IsSome, IsTrue, ◌⊎◌}
+use Rattle.std.proofs.Common.{◌≡◌, ℕ, suc, ◌+◌, ◌<◌, ◌≤◌, List, [], ◌∷◌, ◌++◌, map, length, take, get_or, cond, refl, ap, sym, ◌∙◌, subst, inl, inr, arith, length-append, Some, Bool, true, false, Result, Ok, Err}
+use Rattle.std.specs.Prelude.{IfErr, IfOk, OnOk}
 use Rattle.std.proofs.Math.Seq.{get_or-append_seam}
 use Rattle.std.proofs.lemmas.List.{get_or_append_left, take_more, ext_get_or, get_or-map, length-map}
 use Rattle.std.proofs.lemmas.Option.{get_or_from_slice_get, slice_get_read}
@@ -15,7 +15,7 @@ use Rattle.plain_eval.specs.Eval.{block_at}
 use Rattle.job_run.specs.declared.ends.Ended.{Ended}
 use Rattle.job_run.specs.declared.ends.Ended.TheVariants.{Done, File, Zero, ReadFault, WriteFault, OutOfMemory}
 use Rattle.job_run.specs.declared.ends.FileError.{FileError}
-use Rattle.job_run.specs.Inputs.{FirstRefusal, FitInputs, FitsShape, HoldArrays, HoldsArray, InputRefused, InputsFit, RefusesFile, told_all}
+use Rattle.job_run.specs.Inputs.{FirstRefusal, FitInputs, FitsShape, HoldArrays, HoldsArray, InputsFit, RefusesFile, told_all}
 use Rattle.job_run.specs.Loading.{AreBlocks, AreHeads, HeadEnds, IsBlockFor, IsEarly, IsHeadFor, IsOfReading, IsRefusedAt, LoadEnds}
 use Rattle.job_run.specs.Plan.{Plan, input_shapes}
 use Rattle.job_run.specs.Runs.{Cause}

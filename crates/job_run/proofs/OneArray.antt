@@ -1,19 +1,18 @@
 -- A file holds one array, and is not refused where it holds one.
-use Rattle.std.proofs.Common.{◌≡◌, ◌≢◌, ℕ, ℤ, pos, zero, suc, ◌+◌, ◌-◌, ◌*◌, ◌<◌, ◌≤◌, List, [], ◌∷◌, length, take, get_or, refl, ap, ap₂, sym, ◌∙◌, subst, arith, inl, inr}
+use Rattle.std.proofs.Common.{◌≡◌, ◌≢◌, ℕ, pos, ◌<◌, List, [], length, take, get_or, ap, sym, ◌∙◌, subst, arith, inl, inr}
 use Rattle.std.specs.Prelude.{◌⊎◌, slice_index}
 use Rattle.std.proofs.lemmas.List.{ext_get_or, get_or-take, length-take}
 use Rattle.nd_shape.specs.Block.{Array}
 use Rattle.nd_shape.specs.Index.{IsIn, place, index_at}
-use Rattle.nd_shape.specs.Region.{moved}
 use Rattle.nd_shape.specs.Shape.{elements, IsShape}
 use Rattle.nd_shape.proofs.Places.{index_at-in, place-index_at}
 use Rattle.npy_codec.specs.declared.head.Head.{Head}
 use Rattle.npy_codec.specs.declared.error.NpyError.{NpyError}
 use Rattle.npy_codec.specs.declared.error.NpyError.TheVariants.{NotNpy, Version, Truncated, HeaderText, Descr, ShapeLimit, ReadFault, OutOfMemory}
-use Rattle.npy_codec.specs.Files.{HasHead, HasFixed, IsNpy, IsRefusedAs, IsNotMagic, IsOtherVersion, IsShortFixed, IsShortText, IsShortData, IsNoHeader, HasOtherDescr, PassesShapeLimit, text_len_at, text_of, magic}
-use Rattle.npy_codec.specs.Regions.{HoldsRegion, whole, element}
-use Rattle.npy_header.specs.Headers.{Fields, IsHeader}
-use Rattle.job_run.specs.Inputs.{HoldArrays, HoldsArray, IsOfFile}
+use Rattle.npy_codec.specs.Files.{HasHead, IsNpy, IsRefusedAs, text_of, magic}
+use Rattle.npy_codec.specs.Regions.{HoldsRegion, whole}
+use Rattle.npy_header.specs.Headers.{Fields}
+use Rattle.job_run.specs.Inputs.{HoldArrays, IsOfFile}
 use Rattle.job_run.proofs.OneHeader.{one_header}
 
 -- ## One head

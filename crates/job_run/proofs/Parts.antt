@@ -1,12 +1,12 @@
 -- A file that was written from its beginning.
-use Rattle.std.proofs.Common.{◌≡◌, ℕ, zero, suc, ◌+◌, ◌-◌, min, ◌≤◌, List, [], ◌∷◌, ◌++◌, length, take, drop, refl, ap, ap₂, sym, ◌∙◌, subst, inl, inr, arith, append-nil, Option, Some, None, Bool, true, false}
-use Rattle.std.specs.Prelude.{replicate, bytes_eq, IfSome, IsSome, IsTrue, ◌⊎◌, if◌then◌else◌}
+use Rattle.std.proofs.Common.{◌≡◌, ℕ, zero, suc, ◌+◌, min, ◌≤◌, List, [], ◌∷◌, ◌++◌, length, take, drop, refl, ap, ap₂, sym, ◌∙◌, subst, inl, inr, arith, append-nil, Option, Some, None, Bool, true, false}
+use Rattle.std.specs.Prelude.{replicate, bytes_eq, IfSome, IsSome, IsTrue, if◌then◌else◌}
 use Rattle.std.proofs.lemmas.Slice.Eq.{bytes_eq-Decides}
 use Rattle.std.proofs.lemmas.List.{take_all, drop_all, drop_min, length-replicate, length-take}
 use Rattle.std.proofs.Math.Seq.{paste}
-use Rattle.io_edge.specs.Content.{Content, Told, Untold, overwritten, zeros, told_bytes, WritesPart}
+use Rattle.io_edge.specs.Content.{Content, overwritten, zeros, told_bytes, WritesPart}
 use Rattle.io_edge.specs.View.{Files, updated}
-use Rattle.job_run.specs.Part.{IsPart, IsLeft, SavesPart}
+use Rattle.job_run.specs.Part.{IsPart, SavesPart}
 
 front_part : (bytes : List ℕ) (n : ℕ) → IsPart (take n bytes ++ drop n (replicate (length bytes) 0)) bytes
 front_part [] zero = tt

@@ -1,6 +1,6 @@
 -- What a run leaves at each of its ends.
-use Rattle.std.proofs.Common.{◌≡◌, ℕ, ◌+◌, ◌-◌, ◌<◌, ◌≤◌, List, [], ◌∷◌, ◌++◌, map, length, take, get_or, string_bytes, refl, ap, sym, ◌∙◌, subst, inl, inr, arith, Option, Some, None}
-use Rattle.std.specs.Prelude.{IfSome, IsSome, IsTrue, ◌⊎◌}
+use Rattle.std.proofs.Common.{◌≡◌, ℕ, List, [], map, get_or, ap, sym, ◌∙◌, subst, inl, inr, arith, Option, Some, None}
+use Rattle.std.specs.Prelude.{IfSome, IsTrue}
 use Rattle.io_edge.specs.Cause.{Rose}
 use Rattle.io_edge.specs.Content.{followed_by, PrintsPart}
 use Rattle.io_edge.specs.View.{View, Files, Opens, OnlyReads, OnlyWrites, OnlyOut, raised_by}
@@ -11,8 +11,8 @@ use Rattle.job_run.specs.declared.ends.Ended.{Ended}
 use Rattle.job_run.specs.declared.ends.Ended.TheVariants.{Done, File, Zero, ReadFault, WriteFault, OutOfMemory}
 use Rattle.job_run.specs.Inputs.{HoldArrays, told_all}
 use Rattle.job_run.specs.Loading.{IsEarly}
-use Rattle.job_run.specs.Part.{AreLeft, AreWhole, IsLeft, IsNoneOf, RaisedAtMost}
-use Rattle.job_run.specs.Plan.{Plan, Saved, names_saved, input_shapes}
+use Rattle.job_run.specs.Part.{AreLeft, AreWhole, IsLeft, RaisedAtMost}
+use Rattle.job_run.specs.Plan.{Plan, names_saved, input_shapes}
 use Rattle.job_run.specs.Runs.{Cause, Created, HasValues, Opened, Prints, RunsPlan, Saves, lines_of}
 use Rattle.job_run.specs.Saving.{SavesAll, SavesSome}
 use Rattle.job_run.specs.Values.{OnInputs, cells_at, file_of, files_of, values_of}

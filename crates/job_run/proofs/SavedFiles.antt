@@ -1,14 +1,14 @@
 -- Files that are saved one after another.
-use Rattle.std.proofs.Common.{◌≡◌, ℕ, ℤ, pos, ◌<◌, ◌++◌, ◌+◌, ◌-◌, ◌≤◌, min, List, [], ◌∷◌, length, take, get_or, refl, ap, sym, ◌∙◌, subst, inl, inr, arith, Option, Some, None, Bool, true, false}
+use Rattle.std.proofs.Common.{◌≡◌, ℕ, ℤ, pos, ◌<◌, ◌++◌, ◌+◌, ◌≤◌, List, [], ◌∷◌, length, take, get_or, refl, ap, sym, ◌∙◌, subst, inl, inr, arith, Option, Some, true, false}
 use Rattle.std.specs.Prelude.{bytes_eq, unwrap_or, Result, Ok, Err, OnOk, OnErr, IfSome, IsSome, IsTrue, ◌⊎◌}
 use Rattle.std.proofs.lemmas.Slice.Eq.{bytes_eq-Decides}
 use Rattle.std.proofs.lemmas.Bool.{cases_Bool, false≢true}
 use Rattle.std.proofs.lemmas.List.{get_or-take, length-take, map-append, take_all, take_more}
 use Rattle.io_edge.specs.View.{Files, Creates, raised_by, updated}
-use Rattle.job_run.specs.Part.{AreLeft, AreWhole, IsLeft, IsNoneOf, IsPart, RaisedAtMost, SavesPart}
+use Rattle.job_run.specs.Part.{AreLeft, IsLeft, IsPart, SavesPart}
 use Rattle.job_run.specs.Plan.{AreApart}
 use Rattle.job_run.specs.Saving.{SavesAll, SavesSome, elements_of}
-use Rattle.job_run.proofs.Counting.{none_raised, raised_at_most, raised_by-none, raised_next, raised_try}
+use Rattle.job_run.proofs.Counting.{raised_at_most, raised_by-none, raised_next, raised_try}
 
 pub below_or : (a b : ℕ) → (a < b) ⊎ (b ≤ a)
 below_or a b = grind arith

@@ -1,9 +1,9 @@
 -- What inputs hold, as a list.
-use Rattle.std.proofs.Common.{◌≡◌, ℕ, zero, suc, ◌+◌, ◌<◌, ◌≤◌, List, [], ◌∷◌, length, get_or, refl, ap, sym, ◌∙◌, subst, arith, Option, Some, None, Bool, true}
+use Rattle.std.proofs.Common.{◌≡◌, ℕ, zero, suc, ◌<◌, List, [], ◌∷◌, length, get_or, refl, ap, sym, ◌∙◌, subst, arith, Option, Some, None}
 use Rattle.std.specs.Prelude.{IfSome, IsSome, IsTrue, option_and_then}
 use Rattle.std.specs.Option.{option_map}
-use Rattle.io_edge.specs.Content.{Content, Told, Untold, OnTold, file_at}
-use Rattle.io_edge.specs.View.{Files, Shows, ShowsFile}
+use Rattle.io_edge.specs.Content.{Content, Told, OnTold, file_at}
+use Rattle.io_edge.specs.View.{Files, Shows}
 use Rattle.job_run.specs.Inputs.{told_all}
 
 abbrev value : {A : Type 0} → A → Option A → A

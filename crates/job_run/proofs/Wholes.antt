@@ -1,12 +1,12 @@
 -- The region of a whole array.
-use Rattle.std.proofs.Common.{◌≡◌, ℕ, zero, suc, ◌+◌, ◌-◌, ◌*◌, ◌<◌, ◌≤◌, List, [], ◌∷◌, length, get_or, refl, ap, sym, ◌∙◌, subst, arith, Bool, true, false}
+use Rattle.std.proofs.Common.{◌≡◌, ℕ, zero, suc, ◌+◌, ◌*◌, ◌<◌, ◌≤◌, List, [], ◌∷◌, length, get_or, refl, arith, Bool, true, false}
 use Rattle.std.specs.Prelude.{replicate}
 use Rattle.std.proofs.lemmas.List.{length-replicate}
-use Rattle.nd_shape.specs.Index.{IsIn, place}
-use Rattle.nd_shape.specs.Region.{Box, IsPart}
+use Rattle.nd_shape.specs.Index.{IsIn}
+use Rattle.nd_shape.specs.Region.{IsPart}
 use Rattle.nd_shape.specs.Shape.{elements}
 use Rattle.nd_shape.proofs.Places.{place-below}
-use Rattle.nd_rows.specs.Storage.{column_place, last_index, place_by}
+use Rattle.nd_rows.specs.Storage.{last_index, place_by}
 use Rattle.nd_rows.proofs.Turns.{column_place-below}
 use Rattle.npy_codec.specs.declared.head.Head.{Head}
 use Rattle.npy_codec.specs.declared.error.NpyError.{NpyError}

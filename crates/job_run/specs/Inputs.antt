@@ -1,5 +1,5 @@
 -- What the input files hold, and why one is refused.
-use Rattle.std.specs.Prelude.{◌≡◌, ◌≢◌, ◌<◌, ℕ, List, [], ◌∷◌, ◌++◌, length, codes, slice_index_or, Option, None, Some, IfSome, IsSome, IsTrue, option_and_then}
+use Rattle.std.specs.Prelude.{◌≡◌, ◌≢◌, ◌<◌, ℕ, List, [], ◌∷◌, ◌++◌, length, codes, slice_index_or, Option, Some, IfSome, IsSome, IsTrue, option_and_then}
 use Rattle.std.specs.Option.{option_map}
 use Rattle.io_edge.specs.View.{Files}
 use Rattle.nd_shape.specs.Block.{Array}

@@ -1,6 +1,6 @@
 -- What is left of the saved files, and how often names are used.
-use Rattle.std.specs.Prelude.{◌≡◌, ◌≤◌, ◌<◌, ◌+◌, ◌⊎◌, ℕ, List, [], ◌∷◌, length, Option, None, Some, IfSome, IsSome, IsTrue, bytes_eq, false}
-use Rattle.io_edge.specs.View.{Files, times, raised_by}
+use Rattle.std.specs.Prelude.{◌≡◌, ◌≤◌, ◌<◌, ◌+◌, ◌⊎◌, ℕ, List, [], ◌∷◌, length, Some, IfSome, IsSome, IsTrue, bytes_eq, false}
+use Rattle.io_edge.specs.View.{Files, times}
 use Rattle.job_run.specs.Plan.{name_at}
 
 -- each byte is the right one for its place, or 0

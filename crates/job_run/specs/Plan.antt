@@ -2,7 +2,6 @@
 use Rattle.std.specs.Prelude.{◌≡◌, ◌<◌, ℕ, List, [], ◌∷◌, length, map, slice_index_or, cond, bytes_eq, false}
 use Rattle.array_expr.specs.declared.expr.Node.{Node}
 use Rattle.array_expr.specs.Elem.{is_input}
-use Rattle.array_expr.specs.Node.{IsExpression}
 
 -- a node, and the name of the file that it is saved in
 pub record Saved : Type 0 where

@@ -1,5 +1,5 @@
 -- How a run of a job ends, why it ends so, and what it leaves.
-use Rattle.std.specs.Prelude.{◌≡◌, ◌<◌, ◌⊎◌, ℕ, List, ◌++◌, codes, length, Option, IfSome, IsTrue}
+use Rattle.std.specs.Prelude.{◌≡◌, ◌<◌, ◌⊎◌, ℕ, List, ◌++◌, codes, length, Option, IsTrue}
 use Rattle.io_edge.specs.Cause.{Rose}
 use Rattle.io_edge.specs.Content.{followed_by, PrintsPart}
 use Rattle.io_edge.specs.View.{View, Files, raised_by}

@@ -1,5 +1,5 @@
 -- What the private functions answer of arrays that are complete or not, and of files that are saved one after another.
-use Rattle.std.specs.Prelude.{◌≡◌, ◌<◌, ℕ, ℤ, List, length, map, unwrap_or, pos, slice_index_or, slice_get, Bool, true, false, Option, None, Some, IsSome, IsTrue}
+use Rattle.std.specs.Prelude.{◌≡◌, ◌<◌, ℕ, ℤ, List, length, map, unwrap_or, pos, slice_index_or, Bool, true, false, Option, None, IsSome, IsTrue}
 use Rattle.io_edge.specs.View.{Files, raised_by}
 use Rattle.array_expr.specs.Elem.{Cells}
 use Rattle.job_run.specs.Part.{AreLeft, AreWhole, IsNoneOf, RaisedAtMost}

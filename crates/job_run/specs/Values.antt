@@ -1,16 +1,16 @@
 -- The sequential evaluation: what the nodes hold, where a zero divisor is met, and the files that are saved.
-use Rattle.std.specs.Prelude.{◌≡◌, ◌<◌, ℕ, ℤ, pos, List, [], ◌∷◌, ◌++◌, codes, map, slice_get, slice_index_or, replicate, length, unwrap_or, Option, None, Some, IfSome, IsSome, true}
+use Rattle.std.specs.Prelude.{◌≡◌, ◌<◌, ℕ, pos, List, [], ◌∷◌, ◌++◌, codes, map, slice_get, slice_index_or, replicate, length, unwrap_or, None, Some, IfSome, IsSome, true}
 use Rattle.io_edge.specs.View.{Files}
 use Rattle.nd_shape.specs.Block.{Array}
 use Rattle.nd_shape.specs.Index.{IsIn}
 use Rattle.nd_shape.specs.Shape.{shape_text, comma_list}
 use Rattle.npy_codec.specs.Npy.{npy}
 use Rattle.array_expr.specs.declared.expr.Node.{Node}
-use Rattle.array_expr.specs.Elem.{Cells, arrays, array_at, elem}
+use Rattle.array_expr.specs.Elem.{Cells, arrays, array_at}
 use Rattle.array_expr.specs.Node.{shape_at}
 use Rattle.plain_eval.specs.Eval.{held_in}
 use Rattle.job_run.specs.Inputs.{HoldArrays, told_all}
-use Rattle.job_run.specs.Plan.{Plan, Saved, input_shapes, nodes_saved}
+use Rattle.job_run.specs.Plan.{Plan, Saved, input_shapes}
 use Rattle.node_reach.specs.Reach.{Reaches, is_operand}
 
 -- the array of each node, for inputs that are these arrays

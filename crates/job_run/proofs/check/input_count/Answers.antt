@@ -1,4 +1,4 @@
-use Rattle.std.proofs.Common.{◌≡◌, ◌≤◌, ◌+◌, ◌∙◌, ℕ, List, [], ◌∷◌, ◌++◌, length, take, ap, cond, length-append, arith, Bool, true, false, refl}
+use Rattle.std.proofs.Common.{◌≡◌, ◌≤◌, ◌+◌, ◌∙◌, ℕ, List, [], ◌∷◌, length, take, ap, cond, length-append, arith, Bool, true, false, refl}
 use Rattle.array_expr.specs.Elem.{is_input}
 use Rattle.job_run.specs.Plan.{input_shapes}
 use Rattle.job_run.proofs.Loads.{shapes_more}

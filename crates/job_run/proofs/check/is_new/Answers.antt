@@ -1,5 +1,5 @@
-use Rattle.std.proofs.Common.{◌≡◌, ◌≤◌, ◌+◌, ℕ, List, ◌<◌, ◌∙◌, ap, ap₂, sym, subst, inl, inr, map, length, get_or, arith, Bool, true, false, [], string_bytes}
-use Rattle.std.specs.Prelude.{◌⊎◌, bytes_eq}
+use Rattle.std.proofs.Common.{◌≡◌, ℕ, ◌<◌, ◌∙◌, ap, ap₂, sym, subst, inl, inr, map, length, get_or, arith, false, [], string_bytes}
+use Rattle.std.specs.Prelude.{bytes_eq}
 use Rattle.std.proofs.lemmas.Bool.{false≢true}
 use Rattle.job_run.specs.declared.job.Save.{Save}
 use Rattle.job_run.specs.Jobs.{saved_of}

@@ -1,6 +1,4 @@
-use Rattle.std.proofs.Common.{◌≡◌, ◌≤◌, ◌+◌, ℕ, ◌<◌, ◌∙◌, ap, sym, subst, inl, inr, map, length, get_or, arith}
-use Rattle.std.specs.Prelude.{◌⊎◌}
-use Rattle.std.proofs.lemmas.List.{length-map}
+use Rattle.std.proofs.Common.{◌≡◌, ℕ, ◌<◌, ◌∙◌, sym, subst, inl, inr, map, get_or, arith}
 use Rattle.job_run.specs.Jobs.{saved_of}
 use Rattle.job_run.proofs.SavedFiles.{below_or}
 use Rattle.job_run.proofs.SavesList.{saved_node}

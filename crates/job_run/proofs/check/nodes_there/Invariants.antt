@@ -1,4 +1,4 @@
-use Rattle.std.proofs.Common.{◌≡◌, ℕ, ◌<◌, map, get_or}
+use Rattle.std.proofs.Common.{ℕ, ◌<◌, map, get_or}
 use Rattle.job_run.specs.Jobs.{saved_of}
 use Rattle.job_run.proofs.check.nodes_there.Given as goal
 

@@ -1,4 +1,4 @@
-use Rattle.std.proofs.Common.{◌≡◌, ◌≤◌, ◌+◌, length, pos, arith}
+use Rattle.std.proofs.Common.{◌≤◌, ◌+◌, length, pos, arith}
 use Rattle.std.specs.Prelude.{unwrap_or}
 use Rattle.std.proofs.lemmas.List.{length-map}
 use Rattle.io_edge.specs.Content.{size_of}

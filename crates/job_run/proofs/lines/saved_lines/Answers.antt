@@ -1,4 +1,4 @@
-use Rattle.std.proofs.Common.{◌≡◌, ◌≤◌, ℕ, List, ◌<◌, ◌++◌, ◌∙◌, ap, sym, subst, codes, length, get_or, arith}
+use Rattle.std.proofs.Common.{◌≡◌, ◌≤◌, ℕ, List, ◌<◌, ◌++◌, ◌∙◌, ap, sym, subst, length, get_or, arith}
 use Rattle.std.proofs.lemmas.List.{length-map}
 use Rattle.job_run.specs.declared.job.Save.{Save}
 use Rattle.job_run.specs.Jobs.{saved_of}

@@ -1,8 +1,8 @@
-use Rattle.std.proofs.Common.{◌≡◌, List, ℕ, ◌∙◌, subst, ap}
+use Rattle.std.proofs.Common.{◌≡◌, ◌∙◌, subst, ap}
 use Rattle.nd_shape.specs.Region.{Box}
 use Rattle.io_edge.specs.Content.{file_at, size_of}
 use Rattle.npy_codec.specs.Regions.{RegionRefusedAs, whole}
-use Rattle.job_run.proofs.Wholes.{region_fault, whole_part}
+use Rattle.job_run.proofs.Wholes.{region_fault}
 use Rattle.job_run.proofs.load.read_array.Goals as goal
 
 pub fault_end-requires : goal.fault_end-requires

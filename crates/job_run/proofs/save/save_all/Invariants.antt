@@ -1,4 +1,4 @@
-use Rattle.std.proofs.Common.{◌≡◌, ◌≤◌, map, take}
+use Rattle.std.proofs.Common.{◌≤◌, map, take}
 use Rattle.job_run.specs.Jobs.{saved_of}
 use Rattle.io_edge.specs.View.{OnlyWrites}
 use Rattle.job_run.specs.Saving.{SavesAll}

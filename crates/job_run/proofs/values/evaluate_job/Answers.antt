@@ -1,4 +1,4 @@
-use Rattle.std.proofs.Common.{◌≡◌, List, ◌∙◌, ap, sym, subst, length}
+use Rattle.std.proofs.Common.{List, ◌∙◌, ap, sym, subst, length}
 use Rattle.nd_shape.specs.Block.{Array}
 use Rattle.plain_eval.specs.Eval.{HaveBlocks}
 use Rattle.job_run.proofs.Lacking.{have_blocks, length-arrays}

@@ -1,5 +1,5 @@
 use Rattle.std.proofs.Common.{◌≡◌, ℕ, List, Bool, ◌∙◌, ap, sym, subst, map, length, arith}
-use Rattle.job_run.specs.Jobs.{plan_of, saved_of}
+use Rattle.job_run.specs.Jobs.{plan_of}
 use Rattle.job_run.specs.Plan.{nodes_saved}
 use Rattle.job_run.specs.Saving.{IsFirstLack}
 use Rattle.job_run.specs.Values.{MeetsNone, MeetsZero}
