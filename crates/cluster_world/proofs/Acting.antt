@@ -1,8 +1,8 @@
 -- Actions of the scheduler and of the nodes, as steps of a cluster.
-use Rattle.std.proofs.Common.{◌≡◌, ℕ, ◌+◌, ◌<◌, ◌≤◌, Bool, true, false, ◌&&◌, List, [], ◌∷◌, Option, Some, None, Result, Ok, Err, OnOk, refl, sym, ap, ◌∙◌, subst, arith, cond, drop, length, is_some, get_or, map, find}
-use Rattle.std.specs.Prelude.{◌==◌, nat_lt, nat_le, slice_get}
+use Rattle.std.proofs.Common.{◌≡◌, ℕ, ◌+◌, ◌<◌, ◌≤◌, Bool, true, false, ◌&&◌, List, [], ◌∷◌, Option, Some, None, Result, Ok, Err, OnOk, refl, sym, ap, ◌∙◌, subst, arith, cond, drop, length, is_some, find}
+use Rattle.std.specs.Prelude.{nat_lt, nat_le, slice_get}
 use Rattle.std.specs.List.{filter_map, AllByRecursion}
-use Rattle.std.proofs.lemmas.Bool.{false≢true, and_parts, leb-true, ltb-true, ltb-false}
+use Rattle.std.proofs.lemmas.Bool.{false≢true, and_parts, ltb-true, ltb-false}
 use Rattle.std.proofs.lemmas.List.{get_or_past}
 use Rattle.std.proofs.lemmas.Result.{err_from_is_err_and}
 use Rattle.std.specs.Result.{IsErrAnd}
@@ -10,11 +10,10 @@ use Rattle.std.proofs.lemmas.Option.{slice_get_past}
 use Rattle.worker_core.specs.Core.{Core as WorkerState}
 use Rattle.cluster_msgs.specs.declared.messages.Message.{Message}
 use Rattle.cluster_msgs.specs.declared.cores.SchedEvent.{SchedEvent}
-use Rattle.cluster_msgs.specs.declared.cores.SchedEvent.TheVariants.{Join as JoinSched, Leave}
 use Rattle.cluster_msgs.specs.declared.events.Asker.{Asker}
 use Rattle.cluster_msgs.specs.declared.events.Asker.TheVariants.{Worker, Client}
-use Rattle.cluster_msgs.specs.declared.events.Event.TheVariants.{Want, Release, Join, Lose, SeeLoss, Suspect, DeliverDown, DeliverUp, DeliverToClient, DeliverFromClient, Start, SendGather, ServeGather, ArriveGather, FailGather, Spill, LoseSpilled}
-use Rattle.cluster_rules.specs.Sched.{Setting, Facts, IsSound, connected, workers}
+use Rattle.cluster_msgs.specs.declared.events.Event.TheVariants.{Want, Release, Join, Lose, SeeLoss, DeliverDown, DeliverUp, DeliverToClient, DeliverFromClient, Start, SendGather, ServeGather, ArriveGather, FailGather, Spill, LoseSpilled}
+use Rattle.cluster_rules.specs.Sched.{Facts, IsSound, workers}
 use Rattle.cluster_rules.specs.SchedTable.{sched_takes}
 use Rattle.cluster_rules.specs.SchedStep.{sched_step}
 use Rattle.cluster_msgs.specs.Shape.{Shape, key_count}
@@ -34,7 +33,7 @@ use Rattle.cluster_nodes.specs.declared.nodes.Nodes.{Nodes}
 use Rattle.cluster_nodes.specs.Kept.{IsNodes, HasSameNodes, HasAsker}
 use Rattle.cluster_nodes.specs.Nodes.{world_of, cluster_of, workers_of, worker_of, if_alive}
 use Rattle.cluster_world.specs.declared.state.State.{State}
-use Rattle.cluster_world.specs.Worlds.{cluster, world, setting}
+use Rattle.cluster_world.specs.Worlds.{world, setting}
 use Rattle.cluster_world.specs.Kept.{IsJoint, IsSame, IsKept}
 use Rattle.cluster_world.specs.Outcomes.{IsTurned}
 use Rattle.cluster_world.proofs.Lasts.{step_last, last_of}

@@ -1,22 +1,20 @@
 -- A step of a world, clause by clause.
-use Rattle.std.proofs.Common.{◌≡◌, ◌≢◌, ℕ, ◌+◌, ◌≤◌, Bool, true, false, List, Option, Some, None, Result, Ok, Err, OnOk, refl, sym, ap, ◌∙◌, subst}
-use Rattle.cluster_msgs.specs.Shape.{Shape, IsShape, deps_of}
+use Rattle.std.proofs.Common.{◌≡◌, ◌≢◌, ℕ, ◌+◌, Bool, true, List, Option, Result, Ok, Err, OnOk, refl, sym, ap, ◌∙◌, subst}
+use Rattle.cluster_msgs.specs.Shape.{Shape, IsShape}
 use Rattle.cluster_msgs.specs.declared.events.Event.{Event}
 use Rattle.cluster_msgs.specs.declared.events.Event.TheVariants.{Finish}
 use Rattle.cluster_rules.specs.Sched.{Setting}
-use Rattle.cluster_rules.specs.World.{World}
 use Rattle.cluster_rules.specs.WorldStep.{world_step}
 use Rattle.cluster_rules.specs.Enabled.{enabled}
 use Rattle.value_laws.specs.Blocks.{Cluster, job_of}
 use Rattle.value_laws.specs.Moves.{meets_zero, brought, world_after, cluster_step}
 use Rattle.cluster_world.specs.declared.state.State.{State}
-use Rattle.cluster_world.specs.declared.state.Course.{Course}
-use Rattle.cluster_world.specs.declared.state.Course.TheVariants.{Going, Fed, Starved}
+use Rattle.cluster_world.specs.declared.state.Course.TheVariants.{Fed, Starved}
 use Rattle.cluster_world.specs.declared.errors.StepError.{StepError}
 use Rattle.cluster_world.specs.declared.errors.StepError.TheVariants.{NotEnabled, Stopped, Feed, Spent, OutOfMemory}
 use Rattle.cluster_world.specs.Worlds.{cluster, world, setting, IsReached}
-use Rattle.cluster_world.specs.Kept.{IsJoint, IsWhole, IsSame, LengthsFit}
-use Rattle.cluster_world.specs.Outcomes.{stepped, IsOutcome, IsTurned, IsPerformed}
+use Rattle.cluster_world.specs.Kept.{IsWhole, LengthsFit}
+use Rattle.cluster_world.specs.Outcomes.{stepped, IsOutcome, IsPerformed}
 use Rattle.cluster_world.specs.Steps.{Advances}
 use Rattle.cluster_world.proofs.Reaching.{reached_step, step_by_values}
 use Rattle.cluster_world.proofs.Whole.{whole_after}

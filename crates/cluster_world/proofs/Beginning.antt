@@ -1,5 +1,5 @@
 -- The world that starts is whole, and no event led here.
-use Rattle.std.proofs.Common.{◌≡◌, ℕ, ◌+◌, ◌<◌, ◌≤◌, Bool, false, List, [], Option, None, sym, ap, ◌∙◌, subst, arith, length}
+use Rattle.std.proofs.Common.{◌≡◌, ℕ, ◌+◌, false, List, [], Option, None, sym, ap, ◌∙◌, subst, arith, length}
 use Rattle.cluster_msgs.specs.Shape.{Shape, IsShape}
 use Rattle.cluster_rules.specs.Sched.{Setting, Facts, sched_opening}
 use Rattle.cluster_rules.specs.World.{opening}
@@ -10,7 +10,7 @@ use Rattle.cluster_nodes.specs.Nodes.{cluster_of}
 use Rattle.value_laws.specs.Blocks.{setting_of, opening_cluster, no_blocks}
 use Rattle.cluster_world.specs.declared.state.State.{State}
 use Rattle.cluster_world.specs.declared.state.Course.TheVariants.{Going}
-use Rattle.cluster_world.specs.Worlds.{cluster, setting, event_limit, IsReady, IsReached}
+use Rattle.cluster_world.specs.Worlds.{cluster, setting, IsReady, IsReached}
 use Rattle.cluster_world.specs.Kept.{IsWorld}
 use Rattle.cluster_world.specs.Begun.{IsBegun}
 use Rattle.cluster_world.proofs.Whole.{whole_opening}

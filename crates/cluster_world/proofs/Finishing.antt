@@ -1,10 +1,10 @@
 -- A task that finishes, and what a call of its operation leaves.
-use Rattle.std.proofs.Common.{◌≡◌, ℕ, ◌<◌, Bool, true, false, ◌&&◌, List, [], ◌∷◌, Option, Some, None, Result, Ok, Err, refl, sym, ap, ◌∙◌, subst, map}
+use Rattle.std.proofs.Common.{◌≡◌, ℕ, ◌<◌, true, List, [], ◌∷◌, Option, Some, None, Result, Err, refl, sym, ap, ◌∙◌, subst, map}
 use Rattle.std.specs.Prelude.{nat_lt}
 use Rattle.std.proofs.lemmas.Bool.{and_parts, ltb-true}
 use Rattle.std.proofs.lemmas.Result.{err_from_is_err_and}
 use Rattle.std.specs.Result.{IsErrAnd}
-use Rattle.cluster_msgs.specs.Jobs.{Rose, value_of, IfValue, CountsFault}
+use Rattle.cluster_msgs.specs.Jobs.{value_of, IfValue, CountsFault}
 use Rattle.cluster_msgs.specs.Shape.{Shape, key_count, deps_of}
 use Rattle.cluster_msgs.specs.declared.jobs.Outcome.{Outcome}
 use Rattle.cluster_msgs.specs.declared.jobs.Outcome.TheVariants.{Value, Zero}
@@ -21,8 +21,8 @@ use Rattle.cluster_world.specs.declared.state.State.{State}
 use Rattle.cluster_world.specs.declared.state.Course.TheVariants.{Fed}
 use Rattle.cluster_world.specs.declared.errors.Broken.{Broken}
 use Rattle.cluster_world.specs.declared.errors.Broken.TheVariants.{Feed, Memory}
-use Rattle.cluster_world.specs.Worlds.{cluster, world, setting}
-use Rattle.cluster_world.specs.Kept.{AreFor, IsWhole, LengthsFit}
+use Rattle.cluster_world.specs.Worlds.{cluster, world}
+use Rattle.cluster_world.specs.Kept.{AreFor, IsWhole}
 use Rattle.cluster_world.specs.Outcomes.{stepped, IsTurned, IsPerformed, broken_by, IsUnended, CountsPerform, FeedLeaves}
 
 pub can_finish : {J B F : Type 0} (s : State J B F) (i k : ℕ) → enabled (world s) (Finish i k) ≡ true → ((world s).alive i ≡ true) × (((world s).workers i).running k ≡ true)

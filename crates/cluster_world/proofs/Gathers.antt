@@ -1,7 +1,6 @@
 -- Requests that are served and answers that arrive, as steps of a cluster.
-use Rattle.std.proofs.Common.{◌≡◌, ℕ, Bool, true, false, not, ◌&&◌, List, [], ◌∷◌, Option, Some, None, refl, sym, ap, ◌∙◌, subst, cond, filter, find, map}
+use Rattle.std.proofs.Common.{◌≡◌, ℕ, Bool, true, false, ◌&&◌, List, [], ◌∷◌, Option, Some, None, refl, sym, ap, ◌∙◌, subst, cond, find, map}
 use Rattle.std.specs.Prelude.{◌==◌}
-use Rattle.std.specs.List.{filter_map}
 use Rattle.std.specs.Option.{option_map}
 use Rattle.std.proofs.lemmas.Bool.{false≢true, eqb-true, and_parts}
 use Rattle.cluster_msgs.specs.declared.cores.WorkerEvent.TheVariants.{Gathered}
@@ -16,7 +15,7 @@ use Rattle.value_laws.specs.Blocks.{Delivery, Blocks, Cluster}
 use Rattle.cluster_rules.proofs.SchedFrame.{same_eqb}
 use Rattle.value_laws.specs.Moves.{block_among, delivery_of, delivered, without_delivery, served, taken, brought, starts, carried_after, blocks_after}
 use Rattle.value_laws.proofs.Deliveries.{some_is, none_some, parcel_found}
-use Rattle.cluster_nodes.specs.Turns.{served_by, answer_gone, answer_arrived, gathered_turned}
+use Rattle.cluster_nodes.specs.Turns.{served_by, answer_arrived}
 use Rattle.cluster_world.specs.Outcomes.{stepped}
 use Rattle.cluster_world.specs.Kept.{IsTidy}
 use Rattle.cluster_world.proofs.Stepping.{held_still, got_still, held_worked, got_worked, worker_clients, client_workers}

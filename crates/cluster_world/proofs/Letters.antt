@@ -1,5 +1,5 @@
 -- Messages wait only between the scheduler and clients that are there, after each event.
-use Rattle.std.proofs.Common.{◌≡◌, ℕ, zero, suc, ◌+◌, ◌<◌, ◌≤◌, Bool, true, false, ◌&&◌, List, [], ◌∷◌, ◌++◌, Option, Some, None, refl, sym, ap, ◌∙◌, subst, arith, cond}
+use Rattle.std.proofs.Common.{◌≡◌, ℕ, zero, suc, ◌+◌, ◌≤◌, Bool, true, false, ◌&&◌, List, [], ◌∷◌, ◌++◌, Option, Some, None, refl, sym, ap, ◌∙◌, subst, arith, cond}
 use Rattle.std.specs.Prelude.{◌==◌, nat_le}
 use Rattle.std.specs.List.{AllByRecursion, range_with_len}
 use Rattle.std.proofs.lemmas.Bool.{false≢true, eqb-true, leb-true, le-leb, and_parts, and_from}
@@ -20,15 +20,15 @@ use Rattle.cluster_msgs.specs.declared.events.Asker.{Asker}
 use Rattle.cluster_msgs.specs.declared.events.Asker.TheVariants.{Worker, Client}
 use Rattle.cluster_msgs.specs.declared.events.Event.{Event}
 use Rattle.cluster_msgs.specs.declared.events.Event.TheVariants.{Want, Release, Join, Lose, SeeLoss, Suspect, DeliverDown, DeliverUp, DeliverToClient, DeliverFromClient, Start, Finish, SendGather, ServeGather, ArriveGather, FailGather, Balance, Evict, Spill, LoseSpilled}
-use Rattle.cluster_rules.specs.Functions.{put, put_pair, from_one}
+use Rattle.cluster_rules.specs.Functions.{put, put_pair}
 use Rattle.cluster_rules.specs.Policies.{next_steal, next_drop}
 use Rattle.cluster_rules.specs.Sched.{Setting, Facts, holds, held, is_on}
-use Rattle.cluster_rules.specs.SchedTable.{Changed, plain, is_copy, add_key, add_keys, lost_copy, nothing_freed, balanced, evicted, change_up, change, sched_takes, are_keys, client_keys}
+use Rattle.cluster_rules.specs.SchedTable.{Changed, plain, is_copy, add_key, add_keys, lost_copy, nothing_freed, balanced, evicted, change_up, change, sched_takes}
 use Rattle.cluster_rules.specs.SchedStep.{sched_step}
 use Rattle.cluster_rules.specs.Worker.{Ask, has_any}
-use Rattle.cluster_rules.specs.Client.{ClientStep, client_step}
-use Rattle.cluster_rules.specs.World.{Job, World, Parcel, is_connected, is_client, is_asker, open_ask, parcel_of, is_parcel, same_asker, without_parcel}
-use Rattle.cluster_rules.specs.WorldStep.{letters, scheduled, worked, client_worked, client_sends, at_scheduler, at_worker, at_client, new_at, died, cut_off, take_down_first, take_up, take_up_first, take_to_client, take_from_client, ask_by, gathered_at, failed_at, serve, take_answer, fail_ask, spill, world_step}
+use Rattle.cluster_rules.specs.Client.{client_step}
+use Rattle.cluster_rules.specs.World.{Job, World, Parcel, is_connected, is_client, is_asker, open_ask, parcel_of, is_parcel, without_parcel}
+use Rattle.cluster_rules.specs.WorldStep.{letters, scheduled, worked, client_worked, client_sends, at_scheduler, at_worker, at_client, new_at, take_down_first, take_up, take_up_first, take_to_client, take_from_client, ask_by, gathered_at, failed_at, serve, take_answer, fail_ask, world_step}
 use Rattle.cluster_rules.specs.Enabled.{are_named, enabled}
 use Rattle.cluster_rules.proofs.SchedFrame.{step_settles}
 use Rattle.cluster_rules.proofs.WorkerLemmas.{at_one}
@@ -36,7 +36,7 @@ use Rattle.value_laws.specs.Moves.{world_after}
 use Rattle.value_laws.proofs.Deliveries.{none_some, some_is}
 use Rattle.cluster_world.proofs.Inside.{change_setting}
 use Rattle.cluster_world.proofs.Numbers.{news_go}
-use Rattle.cluster_world.proofs.Gathers.{IsOf, is_of, found_is}
+use Rattle.cluster_world.proofs.Gathers.{is_of, found_is}
 
 -- only a client's message is answered, and to that client
 added_reply : (w seen : ℕ) (g : Changed) (ks : List ℕ) → (add_keys w seen g ks).reply ≡ g.reply

@@ -1,6 +1,6 @@
 -- A world stays orderly, and in an orderly world whoever is handed an enabled event takes it.
-use Rattle.std.proofs.Common.{◌≡◌, ℕ, ◌+◌, Bool, true, false, ◌&&◌, List, [], ◌∷◌, Option, Some, None, refl, sym, ap, ◌∙◌, subst, map}
-use Rattle.std.specs.Prelude.{nat_lt, nat_le}
+use Rattle.std.proofs.Common.{◌≡◌, ℕ, ◌+◌, Bool, true, false, List, [], ◌∷◌, Some, refl, sym, ap, subst}
+use Rattle.std.specs.Prelude.{nat_lt}
 use Rattle.std.specs.List.{list_all, AllByRecursion}
 use Rattle.std.proofs.lemmas.Bool.{false≢true, and_from, and_parts}
 use Rattle.cluster_msgs.specs.Shape.{Shape, IsShape, key_count}
@@ -15,12 +15,12 @@ use Rattle.cluster_msgs.specs.declared.cores.WorkerEvent.TheVariants.{Down as To
 use Rattle.cluster_msgs.specs.declared.cores.ClientEvent.TheVariants.{Want as WantKeys, Release as ReleaseKeys, FromScheduler, Gathered as ClientGathered}
 use Rattle.cluster_msgs.specs.declared.events.Asker.{Asker}
 use Rattle.cluster_msgs.specs.declared.events.Event.{Event}
-use Rattle.cluster_rules.specs.Sched.{Setting, Facts, connected}
-use Rattle.cluster_rules.specs.SchedTable.{up_keys, client_keys, are_keys as are_sched_keys, sched_takes}
+use Rattle.cluster_rules.specs.Sched.{Setting, connected}
+use Rattle.cluster_rules.specs.SchedTable.{up_keys, client_keys, sched_takes}
 use Rattle.cluster_rules.specs.Worker.{WorkerFacts, has_any}
-use Rattle.cluster_rules.specs.WorkerStep.{is_key, are_keys, are_named as are_named_keys, takes_down, worker_takes}
+use Rattle.cluster_rules.specs.WorkerStep.{takes_down, worker_takes}
 use Rattle.cluster_rules.specs.Client.{ClientFacts, are_client_keys, can_hear, client_takes}
-use Rattle.cluster_rules.specs.World.{Job, World, Parcel, opening, shape_of, is_client, is_parcel, parcel_of}
+use Rattle.cluster_rules.specs.World.{Job, World, Parcel, opening, shape_of, is_parcel, parcel_of}
 use Rattle.cluster_rules.specs.Enabled.{are_named, enabled}
 use Rattle.cluster_rules.specs.Inside.{IsKey, AreKeys, named_keys, down_keys, news_keys, IsInsideWorld}
 use Rattle.cluster_rules.proofs.InsideSched.{all_found}

@@ -1,11 +1,11 @@
 -- A cluster that legal events made stays one after one more.
-use Rattle.std.proofs.Common.{◌≡◌, ℕ, true, List, [], ◌∷◌, ◌++◌, Option, refl, sym, ap, ◌∙◌, subst}
+use Rattle.std.proofs.Common.{◌≡◌, ℕ, true, List, [], ◌∷◌, ◌++◌, Option, refl, sym, ap, ◌∙◌}
 use Rattle.cluster_msgs.specs.declared.events.Event.{Event}
 use Rattle.cluster_rules.specs.Sched.{Setting}
 use Rattle.cluster_rules.specs.World.{Job, World}
 use Rattle.cluster_rules.specs.WorldStep.{world_step}
 use Rattle.cluster_rules.specs.Enabled.{enabled}
-use Rattle.cluster_rules.specs.Runs.{LegalFrom, legal, run_from, reached}
+use Rattle.cluster_rules.specs.Runs.{LegalFrom, run_from, reached}
 use Rattle.cluster_msgs.specs.Shape.{IsShape}
 use Rattle.value_laws.specs.Blocks.{Cluster, job_of, opening_cluster}
 use Rattle.value_laws.specs.Moves.{cluster_step, cluster_run}

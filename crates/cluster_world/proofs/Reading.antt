@@ -1,15 +1,14 @@
 -- What a world that legal events made tells: blocks are the values of their keys, and failures are blamed on faulty keys.
-use Rattle.std.proofs.Common.{◌≡◌, ℕ, Bool, true, false, List, [], Option, Some, None, refl, sym, ap, ◌∙◌, subst, cond, is_some, Bor}
+use Rattle.std.proofs.Common.{◌≡◌, ℕ, Bool, true, false, List, Option, Some, None, refl, sym, ap, ◌∙◌, subst, cond, is_some, Bor}
 use Rattle.std.specs.Prelude.{IfSome}
 use Rattle.std.specs.Option.{option_copied, option_map}
-use Rattle.std.proofs.lemmas.Bool.{false≢true}
 use Rattle.cluster_msgs.specs.Shape.{Shape, IsShape, deps_of}
 use Rattle.cluster_msgs.specs.Values.{val}
 use Rattle.cluster_msgs.specs.declared.cores.End.{End}
 use Rattle.cluster_msgs.specs.declared.cores.End.TheVariants.{Got, Erred}
 use Rattle.cluster_rules.specs.Sched.{Setting}
 use Rattle.cluster_rules.specs.World.{World}
-use Rattle.cluster_rules.specs.Client.{ClientFacts, done}
+use Rattle.cluster_rules.specs.Client.{done}
 use Rattle.cluster_rules.specs.Runs.{reached}
 use Rattle.cluster_rules.proofs.TruthWorld.{true_after}
 use Rattle.value_laws.specs.Blocks.{Cluster, job_of}

@@ -1,5 +1,5 @@
 -- Each row of the table of events: what its code makes of a cluster is one step of it.
-use Rattle.std.proofs.Common.{◌≡◌, ℕ, ◌+◌, Bool, true, false, not, ◌&&◌, List, [], ◌∷◌, ◌++◌, Option, Some, None, refl, sym, ap, ◌∙◌, subst, cond, drop, is_none}
+use Rattle.std.proofs.Common.{◌≡◌, ℕ, ◌+◌, Bool, true, false, ◌&&◌, List, [], ◌∷◌, Option, Some, None, refl, sym, ap, ◌∙◌, cond, drop, is_none}
 use Rattle.std.specs.Prelude.{◌==◌}
 use Rattle.std.specs.List.{filter_map}
 use Rattle.std.proofs.lemmas.Bool.{false≢true, eqb-true}
@@ -8,28 +8,23 @@ use Rattle.cluster_msgs.specs.declared.messages.Down.{Down}
 use Rattle.cluster_msgs.specs.declared.messages.Up.{Up}
 use Rattle.cluster_msgs.specs.declared.messages.ToClient.{ToClient}
 use Rattle.cluster_msgs.specs.declared.messages.FromClient.{FromClient as ClientMessage}
-use Rattle.cluster_msgs.specs.declared.cores.SchedEvent.{SchedEvent}
-use Rattle.cluster_msgs.specs.declared.cores.SchedEvent.TheVariants.{Join as JoinSched, Leave, FromWorker, FromClient, Balance as BalanceSched, Evict as EvictSched}
-use Rattle.cluster_msgs.specs.declared.cores.WorkerEvent.{WorkerEvent}
-use Rattle.cluster_msgs.specs.declared.cores.WorkerEvent.TheVariants.{Down as Told, Start as StartTask, Done, Ask as AskPeer, Gathered, GatherFailed, DataLost}
-use Rattle.cluster_msgs.specs.declared.cores.ClientEvent.{ClientEvent}
-use Rattle.cluster_msgs.specs.declared.cores.ClientEvent.TheVariants.{Want as WantKeys, Release as ReleaseKeys, FromScheduler, Ask as ClientAsk, Gathered as ClientGathered, GatherFailed as ClientGatherFailed}
-use Rattle.cluster_msgs.specs.declared.events.Asker.{Asker}
+use Rattle.cluster_msgs.specs.declared.cores.SchedEvent.TheVariants.{Join as JoinSched, Leave, FromClient, Balance as BalanceSched, Evict as EvictSched}
+use Rattle.cluster_msgs.specs.declared.cores.WorkerEvent.TheVariants.{Down as Told, Start as StartTask, Done, Ask as AskPeer, GatherFailed, DataLost}
+use Rattle.cluster_msgs.specs.declared.cores.ClientEvent.TheVariants.{Want as WantKeys, Release as ReleaseKeys, FromScheduler, Ask as ClientAsk, GatherFailed as ClientGatherFailed}
 use Rattle.cluster_msgs.specs.declared.events.Asker.TheVariants.{Worker, Client}
-use Rattle.cluster_msgs.specs.declared.events.Event.{Event}
-use Rattle.cluster_msgs.specs.declared.events.Event.TheVariants.{Want, Release, Join, Lose, SeeLoss, Suspect, DeliverDown, DeliverUp, DeliverToClient, DeliverFromClient, Start, Finish, SendGather, ServeGather, ArriveGather, FailGather, Balance, Evict, Spill, LoseSpilled}
+use Rattle.cluster_msgs.specs.declared.events.Event.TheVariants.{Want, Release, Join, Lose, SeeLoss, Suspect, DeliverDown, DeliverUp, DeliverToClient, DeliverFromClient, Start, Finish, SendGather, FailGather, Balance, Evict, Spill, LoseSpilled}
 use Rattle.cluster_rules.specs.Functions.{put}
-use Rattle.cluster_rules.specs.Worker.{Ask, WorkerFacts, has_any, new_worker, would_start}
-use Rattle.cluster_rules.specs.World.{Job, World, shape_of, is_connected, open_ask}
-use Rattle.cluster_rules.specs.WorldStep.{scheduled, worked, client_worked, at_scheduler, at_worker, at_client, new_at, died, cut_off, take_down_first, take_up, take_up_first, take_to_client, take_from_client, ask_by, failed_at, fail_ask, spill, world_step}
+use Rattle.cluster_rules.specs.Worker.{Ask, has_any, new_worker, would_start}
+use Rattle.cluster_rules.specs.World.{World, shape_of, is_connected, open_ask}
+use Rattle.cluster_rules.specs.WorldStep.{scheduled, at_scheduler, at_worker, at_client, new_at, died, cut_off, take_down_first, take_up, take_up_first, take_to_client, take_from_client, fail_ask, spill, world_step}
 use Rattle.cluster_rules.proofs.DerivedLemmas.{eqb_comm}
 use Rattle.cluster_rules.proofs.SchedFrame.{same_eqb}
 use Rattle.value_laws.specs.Blocks.{Blocks, Cluster}
-use Rattle.value_laws.specs.Moves.{brought, meets_zero, world_after, keeps, is_it, starts, carried_after, blocks_after, cluster_step}
-use Rattle.cluster_nodes.specs.Turns.{nothing, in_world, worker_turned, client_turned, down_delivered, client_told, joined, lost}
+use Rattle.value_laws.specs.Moves.{brought, meets_zero, keeps, is_it, starts, carried_after, blocks_after}
+use Rattle.cluster_nodes.specs.Turns.{nothing, in_world, worker_turned, client_turned, down_delivered, client_told, lost}
 use Rattle.cluster_world.specs.Outcomes.{stepped}
 use Rattle.cluster_world.specs.Kept.{IsTidy}
-use Rattle.cluster_world.proofs.Stepping.{IsQuiet, worker_blocks, client_blocks, same_blocks}
+use Rattle.cluster_world.proofs.Stepping.{worker_blocks, client_blocks, same_blocks}
 
 module _ {B : Type 0} (o : Option B) (c : Cluster B) (tidy : IsTidy c.world c.blocks) where
   abbrev op : ℕ → List B → Option B

@@ -1,9 +1,8 @@
 -- A scheduler's event, as its messages join the links.
-use Rattle.std.proofs.Common.{◌≡◌, true, false, ℕ, ◌+◌, ◌<◌, ◌≤◌, List, [], ◌∷◌, ◌++◌, refl, sym, ap, ◌∙◌, subst, arith, map, length, All}
+use Rattle.std.proofs.Common.{◌≡◌, true, false, ℕ, ◌+◌, ◌<◌, ◌≤◌, List, [], ◌∷◌, ◌++◌, refl, sym, ap, ◌∙◌, subst, arith, length, All}
 use Rattle.std.specs.List.{filter_map, AllByRecursion}
 use Rattle.std.proofs.lemmas.List.{map-append}
 use Rattle.std.proofs.lemmas.List.Elements.{filter_map-append}
-use Rattle.cluster_msgs.specs.Shape.{Shape}
 use Rattle.cluster_msgs.specs.declared.messages.Down.{Down}
 use Rattle.cluster_msgs.specs.declared.messages.ToClient.{ToClient}
 use Rattle.cluster_msgs.specs.declared.messages.Message.{Message}
@@ -11,8 +10,7 @@ use Rattle.cluster_msgs.specs.declared.cores.SchedEvent.{SchedEvent}
 use Rattle.cluster_rules.specs.Sched.{Setting, Facts}
 use Rattle.cluster_rules.specs.SchedTable.{sched_takes}
 use Rattle.cluster_rules.specs.SchedStep.{Stepped, mail, sched_step}
-use Rattle.cluster_rules.specs.World.{World}
-use Rattle.cluster_rules.specs.WorldStep.{letters, scheduled, at_scheduler}
+use Rattle.cluster_rules.specs.WorldStep.{letters, scheduled}
 use Rattle.fact_rows.specs.Rows.{read, cell}
 use Rattle.message_queues.specs.Queues.{waiting}
 use Rattle.message_queues.specs.Transit.{parcels}

@@ -1,5 +1,5 @@
 -- A search over events in their order: event by event, and over the kinds of progress events.
-use Rattle.std.proofs.Common.{◌≡◌, ℕ, zero, suc, ◌+◌, ◌-◌, ◌<◌, ◌≤◌, Bool, true, false, not, ◌&&◌, List, [], ◌∷◌, ◌++◌, Option, Some, None, refl, sym, ap, ◌∙◌, subst, arith, cond, filter, map, length, take}
+use Rattle.std.proofs.Common.{◌≡◌, ℕ, zero, suc, ◌+◌, ◌-◌, ◌<◌, ◌≤◌, Bool, true, false, not, ◌&&◌, List, [], ◌∷◌, ◌++◌, Option, Some, None, refl, sym, ap, ◌∙◌, arith, cond, filter, map, length, take}
 use Rattle.std.specs.Prelude.{◌==◌, nat_lt, min, slice_get}
 use Rattle.std.specs.List.{flat_map, range_with_len}
 use Rattle.std.proofs.lemmas.Bool.{false≢true, ltb-true, ltb-false}
@@ -8,7 +8,6 @@ use Rattle.std.proofs.lemmas.Bool.Decides.{nat_tests}
 use Rattle.std.proofs.lemmas.List.{append-nil, take_all, length-map}
 use Rattle.std.proofs.lemmas.Grind.{flat_map-append}
 use Rattle.cluster_msgs.specs.Shape.{key_count}
-use Rattle.cluster_msgs.specs.declared.events.Asker.{Asker}
 use Rattle.cluster_msgs.specs.declared.events.Asker.TheVariants.{Worker, Client}
 use Rattle.cluster_msgs.specs.declared.events.Event.{Event}
 use Rattle.cluster_msgs.specs.declared.events.Event.TheVariants as event
@@ -24,7 +23,7 @@ use Rattle.worker_core.specs.Runs.{IsNextRun}
 use Rattle.cluster_world.specs.declared.search.Search.{Search}
 use Rattle.cluster_world.specs.declared.search.Search.TheVariants.{Passing, Found}
 use Rattle.cluster_world.specs.declared.progress.Kind.TheVariants as kind
-use Rattle.cluster_world.specs.Searching.{IsNextFinish, next, searched, is_found, node_events, finish_events, ask_events, asks_of, worker_asks, name_of, serve_events, answer_events, found, left}
+use Rattle.cluster_world.specs.Searching.{IsNextFinish, next, searched, is_found, node_events, finish_events, asks_of, worker_asks, name_of, serve_events, answer_events, found, left}
 
 -- events one by one
 module _ (on : Event → Bool) where

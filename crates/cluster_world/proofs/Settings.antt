@@ -16,7 +16,6 @@ use Rattle.cluster_rules.specs.Worker.{Ask}
 use Rattle.cluster_rules.specs.World.{Job, World, Parcel, is_connected, open_ask, parcel_of}
 use Rattle.cluster_rules.specs.WorldStep.{scheduled, worked, client_worked, at_scheduler, new_at, take_down_first, take_up, take_up_first, take_to_client, take_from_client, ask_by, gathered_at, serve, take_answer, fail_ask, world_step}
 use Rattle.cluster_rules.proofs.SchedFrame.{step_settles}
-use Rattle.value_laws.specs.Moves.{world_after}
 use Rattle.cluster_world.proofs.Inside.{change_setting}
 
 abbrev set_in : World → Setting

@@ -1,5 +1,5 @@
 -- A task that starts: the blocks that it takes are kept.
-use Rattle.std.proofs.Common.{◌≡◌, ℕ, ◌+◌, ◌≤◌, Bool, true, false, ◌&&◌, List, [], Option, Some, None, refl, sym, ap, ◌∙◌, arith, cond, length}
+use Rattle.std.proofs.Common.{◌≡◌, ℕ, Bool, true, false, ◌&&◌, List, Option, Some, None, ap, ◌∙◌, cond}
 use Rattle.std.specs.Prelude.{◌==◌}
 use Rattle.std.specs.List.{filter_map}
 use Rattle.std.specs.declared.sync.Arc.{Arc}
@@ -13,7 +13,6 @@ use Rattle.cluster_rules.specs.Worker.{would_start}
 use Rattle.cluster_rules.specs.World.{shape_of}
 use Rattle.fact_rows.specs.Rows.{cell, height, width}
 use Rattle.value_laws.specs.Blocks.{Blocks, Cluster}
-use Rattle.scheduler_core.specs.Cores.{facts}
 use Rattle.cluster_nodes.specs.Nodes.{block_at, blocks_at, world_of, blocks_in}
 use Rattle.cluster_nodes.specs.Turns.{nothing, worker_turned}
 use Rattle.cluster_world.specs.declared.state.State.{State}

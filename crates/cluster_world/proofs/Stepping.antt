@@ -1,12 +1,10 @@
 -- What one node does to a cluster is what the definition says of the event, wherever no block stands that isn't counted.
-use Rattle.std.proofs.Common.{◌≡◌, ℕ, ◌+◌, Bool, true, false, not, ◌&&◌, List, [], ◌∷◌, ◌++◌, Option, Some, None, refl, sym, ap, ◌∙◌, subst, cond, drop, filter}
+use Rattle.std.proofs.Common.{◌≡◌, ℕ, Bool, true, false, List, Option, Some, None, refl, sym, ap, ◌∙◌, cond}
 use Rattle.std.specs.Prelude.{◌==◌}
 use Rattle.std.specs.List.{filter_map}
-use Rattle.std.proofs.lemmas.Bool.{false≢true, eqb-true, and_parts}
+use Rattle.std.proofs.lemmas.Bool.{eqb-true}
 use Rattle.cluster_msgs.specs.Shape.{deps_of}
-use Rattle.cluster_msgs.specs.declared.cores.SchedEvent.{SchedEvent}
 use Rattle.cluster_msgs.specs.declared.cores.WorkerEvent.{WorkerEvent}
-use Rattle.cluster_msgs.specs.declared.cores.WorkerEvent.TheVariants.{Down as Told, Start as StartTask, Done, Ask as AskPeer, Gathered, GatherFailed, DataLost}
 use Rattle.cluster_msgs.specs.declared.cores.ClientEvent.{ClientEvent}
 use Rattle.cluster_msgs.specs.declared.events.Asker.{Asker}
 use Rattle.cluster_msgs.specs.declared.events.Asker.TheVariants.{Worker, Client}
@@ -15,10 +13,10 @@ use Rattle.cluster_rules.specs.Functions.{put}
 use Rattle.cluster_rules.specs.WorkerStep.{worker_step}
 use Rattle.cluster_rules.specs.Client.{client_step}
 use Rattle.cluster_rules.specs.World.{World, shape_of}
-use Rattle.cluster_rules.specs.WorldStep.{worked, client_worked, scheduled, at_worker, at_client, at_scheduler}
-use Rattle.value_laws.specs.Blocks.{Blocks, Cluster}
+use Rattle.cluster_rules.specs.WorldStep.{worked, client_worked, at_worker, at_client}
+use Rattle.value_laws.specs.Blocks.{Blocks}
 use Rattle.cluster_world.specs.Kept.{IsTidy}
-use Rattle.value_laws.specs.Moves.{brought, either, keeps, starts, carried_after, blocks_after}
+use Rattle.value_laws.specs.Moves.{brought, keeps, starts, carried_after, blocks_after}
 
 still : {A : Type 0} (m : Bool) (x : Option A) → (m ≡ false → x ≡ None) → keeps m x None ≡ x
 still true None h = refl

@@ -1,18 +1,15 @@
 -- A step of a world: taken, refused, spent, or stopped before.
-use Rattle.std.proofs.Common.{◌≡◌, ◌≢◌, ℕ, ◌+◌, ◌<◌, ◌≤◌, Bool, true, false, List, Option, Result, Ok, Err, OnOk, refl, sym, ap, ◌∙◌, subst, arith}
+use Rattle.std.proofs.Common.{◌≡◌, ℕ, true, false, List, Option, Result, Ok, Err, OnOk, refl, sym, ◌∙◌, subst, arith}
 use Rattle.std.proofs.lemmas.Bool.{true≢false}
-use Rattle.cluster_msgs.specs.Shape.{Shape, IsShape}
+use Rattle.cluster_msgs.specs.Shape.{IsShape}
 use Rattle.cluster_msgs.specs.declared.events.Event.{Event}
 use Rattle.cluster_rules.specs.Sched.{Setting}
 use Rattle.cluster_rules.specs.Enabled.{enabled}
-use Rattle.value_laws.specs.Blocks.{Cluster}
 use Rattle.cluster_world.specs.declared.state.State.{State}
-use Rattle.cluster_world.specs.declared.state.Course.{Course}
 use Rattle.cluster_world.specs.declared.state.Course.TheVariants.{Going, Fed, Starved}
 use Rattle.cluster_world.specs.declared.errors.StepError.{StepError}
 use Rattle.cluster_world.specs.declared.errors.StepError.TheVariants.{NotEnabled, Stopped, Feed, Spent, OutOfMemory}
 use Rattle.cluster_world.specs.Worlds.{cluster, world, setting, event_limit, IsReady, IsReached}
-use Rattle.cluster_world.specs.Kept.{LengthsFit, IsWhole, IsWorld}
 use Rattle.cluster_world.specs.Steps.{Advances, CountsStep}
 use Rattle.cluster_world.specs.Taken.{IsStep}
 use Rattle.cluster_world.proofs.Advancing.{world_taken, cluster_taken, goes_on, counted, taken_by_values, taken_reached, not_refused, not_spent, not_stopped, fed, fed_stays, starved}

@@ -1,5 +1,5 @@
 -- Each event that is enabled keeps blocks where they are counted, and each one that its key may have.
-use Rattle.std.proofs.Common.{◌≡◌, ℕ, Bool, true, false, not, ◌&&◌, ◌||◌, List, [], ◌∷◌, Option, Some, None, refl, sym, ap, ◌∙◌, subst, cond, is_some, is_none, filter, find, map}
+use Rattle.std.proofs.Common.{◌≡◌, ℕ, Bool, true, false, ◌&&◌, ◌||◌, List, [], ◌∷◌, Option, Some, None, refl, sym, ap, ◌∙◌, subst, cond, is_some, is_none, filter}
 use Rattle.std.specs.Prelude.{◌==◌}
 use Rattle.std.specs.Option.{option_map}
 use Rattle.std.specs.List.{list_all, list_any, filter_map, cons_option, AllByRecursion}
@@ -12,10 +12,9 @@ use Rattle.cluster_msgs.specs.declared.events.Event.TheVariants.{Start, Finish, 
 use Rattle.cluster_rules.specs.Worker.{would_start}
 use Rattle.cluster_rules.specs.World.{Job, World, Parcel, shape_of, same_asker, is_parcel, parcel_of}
 use Rattle.cluster_rules.specs.WorldStep.{world_step}
-use Rattle.cluster_rules.specs.Enabled.{enabled}
 use Rattle.cluster_rules.proofs.SchedFrame.{same_eqb}
 use Rattle.value_laws.specs.Blocks.{Delivery, Blocks, Cluster}
-use Rattle.value_laws.specs.Moves.{block_among, delivery_of, delivered, brought, meets_zero, world_after, either, keeps, is_it, starts, served, taken, carried_after, blocks_after, cluster_step}
+use Rattle.value_laws.specs.Moves.{block_among, delivery_of, delivered, brought, meets_zero, either, keeps, is_it, starts, served, taken, carried_after}
 use Rattle.value_laws.proofs.WithinWorld.{IsWorldWithin, PassAt, WorldBrings, within_world}
 use Rattle.value_laws.proofs.Deliveries.{none_some, some_is, all_present, parcel_found, all_with, all_filter, all_found}
 use Rattle.value_laws.proofs.Moving.{answers_after, starts_fed}

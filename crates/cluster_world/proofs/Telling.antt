@@ -1,7 +1,6 @@
 -- What the stored nodes tell of the world.
-use Rattle.std.proofs.Common.{◌≡◌, ℕ, ◌+◌, ◌<◌, ◌≤◌, Bool, true, false, ◌&&◌, List, [], ◌∷◌, Option, Some, None, refl, sym, ap, ◌∙◌, subst, arith, cond, map, length, get_or, is_some, find, zero, suc, not, Bor}
+use Rattle.std.proofs.Common.{◌≡◌, ℕ, ◌+◌, ◌<◌, ◌≤◌, Bool, true, false, List, [], ◌∷◌, Option, Some, None, refl, sym, ap, ◌∙◌, arith, cond, map, length, get_or, is_some, zero, suc, not, Bor}
 use Rattle.std.specs.Prelude.{◌==◌, nat_lt, nat_le, slice_get}
-use Rattle.std.specs.List.{filter_map}
 use Rattle.std.specs.Option.{option_copied, option_map}
 use Rattle.std.proofs.lemmas.Bool.{false≢true, lt-ltb, ltb-true, ltb-false, leb-true, and_parts}
 use Rattle.std.proofs.lemmas.Bool.Decides.{nat_tests}
@@ -15,11 +14,10 @@ use Rattle.cluster_msgs.specs.declared.events.Event.TheVariants as event
 use Rattle.cluster_rules.specs.Client.{new_client}
 use Rattle.cluster_rules.specs.Enabled.{message_at}
 use Rattle.std.proofs.lemmas.Option.{slice_get_past}
-use Rattle.cluster_rules.specs.Worker.{Ask, has_any, ask_to}
-use Rattle.cluster_rules.specs.World.{World, Parcel, is_client, is_parcel, parcel_of}
-use Rattle.fact_rows.specs.Rows.{read, cell}
+use Rattle.cluster_rules.specs.Worker.{has_any}
+use Rattle.cluster_rules.specs.World.{World, Parcel, is_client, parcel_of}
+use Rattle.fact_rows.specs.Rows.{read}
 use Rattle.gather_client.specs.CoreState.{CoreState, client_facts}
-use Rattle.message_queues.specs.Queues.{waiting}
 use Rattle.message_queues.specs.Transit.{parcel_of_transit, parcels, is_transit, transit_of, AreRequests, AreAnswers}
 use Rattle.message_queues.specs.declared.transit.InTransit.{InTransit}
 use Rattle.worker_core.specs.Core.{Core, facts}

@@ -1,14 +1,14 @@
 -- A world that is whole is whole after an event, and the opening is.
-use Rattle.std.proofs.Common.{◌≡◌, ℕ, ◌+◌, ◌<◌, ◌≤◌, Bool, true, false, List, [], ◌∷◌, Option, Some, None, refl, sym, ap, ◌∙◌, subst, arith, length, get_or, is_some}
+use Rattle.std.proofs.Common.{◌≡◌, ℕ, ◌+◌, ◌≤◌, Bool, true, false, List, [], Option, None, refl, sym, ap, ◌∙◌, subst, arith, length, get_or}
 use Rattle.std.proofs.lemmas.Bool.{false≢true}
 use Rattle.std.proofs.lemmas.List.{get_or_past}
 use Rattle.cluster_msgs.specs.Shape.{Shape, IsShape, deps_of}
 use Rattle.cluster_msgs.specs.declared.events.Event.{Event}
 use Rattle.cluster_rules.specs.Sched.{Setting}
-use Rattle.cluster_rules.specs.World.{World, shape_of}
+use Rattle.cluster_rules.specs.World.{shape_of}
 use Rattle.cluster_rules.specs.Enabled.{enabled}
 use Rattle.fact_rows.specs.Rows.{cell, height}
-use Rattle.value_laws.specs.Blocks.{Delivery, Blocks, Cluster, job_of, opening_cluster}
+use Rattle.value_laws.specs.Blocks.{Cluster, job_of, opening_cluster}
 use Rattle.value_laws.specs.Moves.{meets_zero}
 use Rattle.value_laws.proofs.Deliveries.{none_some}
 use Rattle.scheduler_core.specs.Cores.{facts}

@@ -1,4 +1,4 @@
--- A world in which nothing names what isn't there: whoever is handed an enabled event takes it.
+-- A world in which nothing names what isn't there, so that each event that is enabled can be handed to its core.
 use Rattle.std.specs.Prelude.{◌≡◌, ℕ, true}
 use Rattle.cluster_rules.specs.Worker.{has_any}
 use Rattle.cluster_rules.specs.World.{World, shape_of, is_client}

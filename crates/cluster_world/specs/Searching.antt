@@ -7,7 +7,6 @@ use Rattle.cluster_msgs.specs.declared.events.Asker.TheVariants.{Worker}
 use Rattle.cluster_msgs.specs.declared.events.Event.{Event}
 use Rattle.cluster_msgs.specs.declared.events.Event.TheVariants as event
 use Rattle.cluster_rules.specs.Derived.{below}
-use Rattle.cluster_rules.specs.Functions.{from_one}
 use Rattle.cluster_rules.specs.World.{World, Parcel, shape_of, all_workers, is_connected}
 use Rattle.cluster_rules.specs.Enabled.{enabled, is_quiet_asker}
 use Rattle.cluster_world.specs.declared.search.Search.{Search}

@@ -1,7 +1,6 @@
 -- What a step of a world counts and answers.
 use Rattle.std.specs.Prelude.{◌≡◌, ◌+◌, ℕ, List, Option, Some, None, Result, Ok, Err}
 use Rattle.cluster_msgs.specs.Jobs.{Rose}
-use Rattle.cluster_msgs.specs.Values.{val}
 use Rattle.cluster_msgs.specs.declared.cores.End.{End}
 use Rattle.cluster_msgs.specs.declared.cores.End.TheVariants.{Got, Erred}
 use Rattle.cluster_msgs.specs.declared.events.Event.{Event}

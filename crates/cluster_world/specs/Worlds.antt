@@ -1,6 +1,5 @@
 -- The cluster that a `World` is, and what may be said of one that legal events made.
 use Rattle.std.specs.Prelude.{◌≡◌, ℕ, ◌<◌, List, Option}
-use Rattle.cluster_msgs.specs.Shape.{Shape}
 use Rattle.cluster_msgs.specs.declared.events.Event.{Event}
 use Rattle.cluster_rules.specs.Sched.{Setting}
 use Rattle.cluster_rules.specs.World.{World}
@@ -10,8 +9,7 @@ use Rattle.scheduler_core.specs.Cores.{facts}
 use Rattle.value_laws.specs.Blocks.{Cluster, job_of, opening_cluster}
 use Rattle.value_laws.specs.Moves.{cluster_run}
 use Rattle.cluster_world.specs.declared.state.State.{State}
-use Rattle.cluster_world.specs.declared.state.Course.{Course}
-use Rattle.cluster_world.specs.declared.state.Course.TheVariants.{Going, Fed, Starved}
+use Rattle.cluster_world.specs.declared.state.Course.TheVariants.{Going}
 
 -- the nodes, the links and the blocks, as the definitions have them
 abbrev pub cluster : {J B F : Type 0} → State J B F → Cluster B

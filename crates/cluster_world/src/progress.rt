@@ -70,7 +70,7 @@ pub fn nth_progress<C: Choices>(world: &C, n: u64) -> Option<Event>
     }
 }
 
-/// Goes through all progress events in their order, until the enabled one with this number is found.
+/// Goes through all progress events in their order, and finds the enabled one with this number.
 pub fn search<C: Choices>(world: &C, n: u64) -> Search
     requires { C.is_whole world.now }
     ensures { result ≡ searched (enabled (C.world world.now)) (search.Passing n) (flat_map (λ es. es) (progress_kinds (C.world world.now))) }

@@ -1,10 +1,8 @@
 -- searched as far as the loop has come
-use Rattle.std.proofs.Common.{◌≡◌, map, take}
+use Rattle.std.proofs.Common.{◌≡◌}
 use Rattle.std.specs.List.{flat_map, range_with_len}
-use Rattle.cluster_msgs.specs.declared.events.Asker.TheVariants.{Client}
-use Rattle.cluster_msgs.specs.declared.events.Event.TheVariants as event
 use Rattle.cluster_rules.specs.Enabled.{enabled}
-use Rattle.cluster_world.specs.Searching.{searched, node_events, finish_events, ask_events, asks_of, worker_asks, name_of, serve_events, answer_events}
+use Rattle.cluster_world.specs.Searching.{searched, finish_events}
 use Rattle.cluster_world.proofs.progress.search_finishes.Given as goal
 
 abbrev pub invariant-loop-before : goal.invariant-loop-before

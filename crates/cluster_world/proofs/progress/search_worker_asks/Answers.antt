@@ -1,12 +1,7 @@
-use Rattle.std.proofs.Common.{◌≡◌, ◌+◌, true, false, sym, ap, ◌∙◌, map}
-use Rattle.std.specs.List.{flat_map, range_with_len}
-use Rattle.cluster_msgs.specs.declared.events.Asker.TheVariants.{Client}
-use Rattle.cluster_msgs.specs.declared.events.Event.TheVariants as event
-use Rattle.cluster_rules.specs.World.{all_workers, all_clients}
+use Rattle.std.proofs.Common.{◌+◌, sym, ap, ◌∙◌}
 use Rattle.cluster_rules.specs.Enabled.{enabled}
-use Rattle.cluster_world.specs.declared.search.Search.TheVariants.{Passing}
-use Rattle.cluster_world.specs.Searching.{next, searched, node_events, finish_events, ask_events, asks_of, worker_asks, name_of, serve_events, answer_events}
-use Rattle.cluster_world.proofs.Searches.{searched_more, searched_key, searched_place, searched_places, found_stays, askers_are, kinds_are}
+use Rattle.cluster_world.specs.Searching.{searched, worker_asks}
+use Rattle.cluster_world.proofs.Searches.{searched_more}
 use Rattle.cluster_world.proofs.progress.search_worker_asks.Goals as goal
 
 pub loop-before-preserved : goal.loop-before-preserved

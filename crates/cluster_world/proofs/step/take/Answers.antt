@@ -1,11 +1,4 @@
-use Rattle.std.proofs.Common.{◌≡◌, ◌≢◌, ◌≤◌, true, false, refl, sym, ap, ◌∙◌, subst, arith}
-use Rattle.cluster_msgs.specs.Shape.{IsShape}
-use Rattle.cluster_rules.specs.Enabled.{enabled}
-use Rattle.cluster_world.specs.declared.state.Course.TheVariants.{Starved}
-use Rattle.cluster_world.specs.Kept.{LengthsFit, IsWhole}
-use Rattle.cluster_world.specs.Worlds.{world, setting, event_limit}
-use Rattle.cluster_world.proofs.Advancing.{whole_advanced}
-use Rattle.cluster_world.proofs.Stepwise.{step_refused, step_spent, step_stopped, step_starved, step_taken, going_starved}
+use Rattle.cluster_world.proofs.Stepwise.{step_stopped, step_starved}
 use Rattle.cluster_world.proofs.step.take.Goals as goal
 
 pub returns-in-Fed : goal.returns-in-Fed

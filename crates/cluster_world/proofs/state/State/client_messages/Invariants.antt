@@ -1,10 +1,7 @@
-use Rattle.std.proofs.Common.{◌≡◌, ◌+◌, ◌-◌, ◌^◌, ◌≤◌, ◌||◌, cond, length}
+use Rattle.std.proofs.Common.{◌≡◌, ◌+◌, ◌-◌, ◌^◌, length}
 use Rattle.std.specs.Prelude.{min}
 use Rattle.std.specs.List.{range_with_len}
-use Rattle.cluster_rules.specs.Client.{client_pairs}
-use Rattle.cluster_rules.specs.Functions.{total, count}
-use Rattle.cluster_rules.specs.Worker.{pairs}
-use Rattle.cluster_rules.specs.World.{is_connected}
+use Rattle.cluster_rules.specs.Functions.{total}
 use Rattle.cluster_world.specs.Worlds.{world}
 use Rattle.cluster_world.proofs.state.State.client_messages.Given as goal
 
