@@ -1,5 +1,5 @@
 -- A cluster whose links, marks or members changed.
-use Rattle.std.proofs.Common.{◌≡◌, ℕ, zero, suc, ◌+◌, ◌<◌, ◌≤◌, Bool, true, false, ◌&&◌, List, [], ◌∷◌, ◌++◌, Option, Some, None, refl, sym, ap, ◌∙◌, subst, arith, cond, length, get_or, drop}
+use Rattle.std.proofs.Common.{◌≡◌, ℕ, zero, suc, Bool, true, false, ◌&&◌, List, [], ◌∷◌, ◌++◌, Option, Some, None, refl, sym, ap, ◌∙◌, arith, cond, length, get_or, drop}
 use Rattle.std.specs.Prelude.{◌==◌, slice_get}
 use Rattle.std.specs.List.{filter_map, AllByRecursion}
 use Rattle.std.specs.declared.sync.Arc.{Arc}
@@ -19,13 +19,12 @@ use Rattle.cluster_rules.specs.Functions.{put, put_pair}
 use Rattle.cluster_rules.specs.Sched.{Facts}
 use Rattle.cluster_rules.specs.Enabled.{front}
 use Rattle.cluster_rules.specs.Worker.{WorkerFacts, new_worker}
-use Rattle.cluster_rules.specs.Client.{ClientFacts, new_client}
-use Rattle.cluster_rules.specs.World.{World}
+use Rattle.cluster_rules.specs.Client.{new_client}
 use Rattle.gather_client.specs.CoreState.{CoreState, client_facts}
-use Rattle.cluster_rules.specs.WorldStep.{new_at, died, cut_off, spill}
+use Rattle.cluster_rules.specs.WorldStep.{cut_off, spill}
 use Rattle.fact_rows.specs.Rows.{read, cell}
 use Rattle.message_queues.specs.Queues.{waiting}
-use Rattle.value_laws.specs.Blocks.{Blocks, Cluster}
+use Rattle.value_laws.specs.Blocks.{Cluster}
 use Rattle.worker_core.specs.Core.{Core, facts}
 use Rattle.cluster_nodes.specs.declared.nodes.Nodes.{Nodes}
 use Rattle.cluster_nodes.specs.Nodes.{as_down, as_up, as_to_client, as_from_client, block_at, blocks_at, worker_of, client_of, if_alive, workers_of, clients_of, world_of, blocks_in, cluster_of}

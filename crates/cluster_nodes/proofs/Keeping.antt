@@ -1,24 +1,16 @@
 -- Lists stay as long as they must be, and links carry messages of their own kind.
-use Rattle.std.proofs.Common.{◌≡◌, ℕ, ◌+◌, Bool, true, List, [], ◌∷◌, ◌++◌, Option, refl, sym, ap, ◌∙◌, length, arith}
-use Rattle.std.proofs.Math.ListN.{length-append}
-use Rattle.std.specs.Prelude.{◌≤◌}
-use Rattle.std.specs.List.{filter_map}
+use Rattle.std.proofs.Common.{◌≡◌, ℕ, ◌+◌, Bool, List, Option, sym, ap, ◌∙◌, length}
 use Rattle.std.specs.declared.sync.Arc.{Arc}
 use Rattle.std.specs.declared.vec.Vec.{Vec}
 use Rattle.std.specs.declared.alloc.Global.{Global}
-use Rattle.cluster_msgs.specs.Shape.{key_count}
 use Rattle.cluster_msgs.specs.declared.messages.Message.{Message}
-use Rattle.fact_rows.specs.Rows.{read, width, height}
-use Rattle.gather_client.specs.CoreState.{CoreState, client_facts}
-use Rattle.message_queues.specs.Queues.{waiting}
-use Rattle.message_queues.specs.Posts.{downs, ups, to_clients, from_clients}
+use Rattle.fact_rows.specs.Rows.{width, height}
+use Rattle.gather_client.specs.CoreState.{CoreState}
 use Rattle.message_queues.specs.Transit.{AreRequests, AreAnswers}
 use Rattle.message_queues.specs.declared.transit.InTransit.{InTransit}
-use Rattle.worker_core.specs.Core.{Core, facts}
+use Rattle.worker_core.specs.Core.{Core}
 use Rattle.cluster_nodes.specs.declared.nodes.Nodes.{Nodes}
-use Rattle.cluster_nodes.specs.Nodes.{as_down, as_up, as_to_client, as_from_client}
-use Rattle.cluster_nodes.specs.Kept.{AreWorkersOver, AreClientsOver, IsSized, IsSorted, IsNodes}
-use Rattle.cluster_nodes.proofs.Places.{all_more}
+use Rattle.cluster_nodes.specs.Kept.{AreWorkersOver, AreClientsOver, IsSized, IsNodes}
 
 module _ {B : Type 0} (old : Nodes B) where
   pub sized_links : (d u t x : List (List Message)) → length d ≡ length old.down → length u ≡ length old.up → length t ≡ length old.to_client → length x ≡ length old.from_client

@@ -1,5 +1,5 @@
 -- The nodes as functions of a number: cores, and messages of one kind.
-use Rattle.std.proofs.Common.{◌≡◌, ℕ, ◌+◌, ◌<◌, ◌≤◌, Bool, true, false, List, [], ◌∷◌, ◌++◌, Option, Some, None, refl, sym, ap, ◌∙◌, subst, arith, cond, length, get_or, set, drop}
+use Rattle.std.proofs.Common.{◌≡◌, ℕ, ◌<◌, Bool, true, false, List, [], ◌∷◌, ◌++◌, Option, Some, None, refl, sym, ap, ◌∙◌, subst, cond, length, get_or, set, drop}
 use Rattle.std.specs.Prelude.{◌==◌, slice_get, map}
 use Rattle.std.specs.List.{filter_map}
 use Rattle.std.proofs.lemmas.List.Elements.{filter_map-append}
@@ -11,7 +11,6 @@ use Rattle.cluster_msgs.specs.declared.messages.Up.{Up}
 use Rattle.cluster_msgs.specs.declared.messages.ToClient.{ToClient}
 use Rattle.cluster_msgs.specs.declared.messages.FromClient.{FromClient}
 use Rattle.cluster_msgs.specs.declared.messages.Message.{Message}
-use Rattle.cluster_msgs.specs.declared.messages.Message.TheVariants as message
 use Rattle.cluster_msgs.specs.declared.cores.WorkerEvent.{WorkerEvent}
 use Rattle.cluster_msgs.specs.declared.cores.WorkerEvent.TheVariants.{Down as Told, Start, Done, Ask as AskPeer, Gathered, GatherFailed, DataLost}
 use Rattle.cluster_msgs.specs.declared.cores.ClientEvent.{ClientEvent}
@@ -21,18 +20,15 @@ use Rattle.cluster_rules.specs.Derived.{is_in}
 use Rattle.cluster_rules.specs.Functions.{put}
 use Rattle.cluster_rules.specs.Enabled.{front}
 use Rattle.cluster_rules.specs.Worker.{Ask, WorkerFacts, would_start, ask_to, without_ask}
-use Rattle.cluster_rules.specs.WorkerStep.{WorkerStep, keys_of, taken, start, stopped, worker_row, worker_step, ask_peer, gathered}
-use Rattle.cluster_rules.specs.Client.{ClientFacts, hears, hear, client_gets, client_misses, client_answered, client_gathered_by, client_gathered, keeps_still, client_wants, client_releases, client_ask, client_step}
+use Rattle.cluster_rules.specs.WorkerStep.{keys_of, taken, start, worker_row, worker_step, ask_peer, gathered}
+use Rattle.cluster_rules.specs.Client.{ClientFacts, hears, hear, client_answered, client_gathered_by, client_gathered, keeps_still, client_wants, client_releases, client_ask, client_step}
 use Rattle.fact_rows.specs.Rows.{read}
 use Rattle.gather_client.specs.CoreState.{CoreState, client_facts}
 use Rattle.gather_client.proofs.FoldLemmas.{gets-shape, misses-shape}
-use Rattle.message_queues.specs.Queues.{waiting}
 use Rattle.message_queues.specs.Posts.{downs, ups, to_clients, from_clients}
 use Rattle.worker_core.specs.Core.{Core, facts}
 use Rattle.worker_core.proofs.CountLemmas.{same_down, same_done, same_gathered_by}
-use Rattle.std.proofs.lemmas.Bool.{eqb-true}
-use Rattle.std.proofs.lemmas.Bool.Decides.{nat_tests}
-use Rattle.std.specs.Prelude.{not, ◌&&◌, filter, fold}
+use Rattle.std.specs.Prelude.{not, ◌&&◌, filter}
 use Rattle.cluster_nodes.specs.Nodes.{as_down, as_up, as_to_client, as_from_client, worker_of, client_of, if_alive, workers_of, clients_of}
 use Rattle.cluster_nodes.proofs.Places.{get_was, cores_set}
 

@@ -1,5 +1,5 @@
 -- The nodes of a cluster that starts.
-use Rattle.std.proofs.Common.{◌≡◌, ℕ, zero, suc, ◌+◌, Bool, false, List, [], ◌∷◌, ◌++◌, Option, None, refl, sym, ap, ◌∙◌, subst, length, get_or}
+use Rattle.std.proofs.Common.{◌≡◌, ℕ, zero, suc, false, List, [], ◌∷◌, Option, None, refl, sym, ap, ◌∙◌, subst, length, get_or}
 use Rattle.std.specs.Prelude.{map}
 use Rattle.std.specs.List.{filter_map, AllByRecursion}
 use Rattle.cluster_msgs.specs.Shape.{Shape, key_count}
@@ -8,13 +8,13 @@ use Rattle.cluster_msgs.specs.declared.messages.Message.TheVariants as message
 use Rattle.cluster_rules.specs.Client.{ClientFacts, new_client}
 use Rattle.cluster_rules.specs.Sched.{Setting, sched_opening}
 use Rattle.cluster_rules.specs.Worker.{new_worker}
-use Rattle.cluster_rules.specs.World.{World, opening}
+use Rattle.cluster_rules.specs.World.{opening}
 use Rattle.fact_rows.specs.Rows.{read, cell, width, height}
 use Rattle.gather_client.specs.CoreState.{CoreState, client_facts}
 use Rattle.message_queues.specs.Queues.{waiting}
 use Rattle.message_queues.specs.Transit.{parcels, AreRequests, AreAnswers}
 use Rattle.message_queues.specs.declared.transit.InTransit.{InTransit}
-use Rattle.value_laws.specs.Blocks.{Blocks, Cluster, no_blocks}
+use Rattle.value_laws.specs.Blocks.{no_blocks}
 use Rattle.worker_core.specs.Core.{Core, facts}
 use Rattle.cluster_nodes.specs.declared.nodes.Nodes.{Nodes}
 use Rattle.cluster_nodes.specs.Nodes.{as_down, as_up, as_to_client, as_from_client, block_at, blocks_at, delivery_at, workers_of, world_of, blocks_in, cluster_of}

@@ -1,30 +1,22 @@
 -- A cluster after one node took an event.
-use Rattle.std.proofs.Common.{◌≡◌, ℕ, zero, suc, ◌+◌, ◌<◌, ◌≤◌, Bool, true, false, ◌&&◌, List, [], ◌∷◌, ◌++◌, Option, Some, None, refl, sym, ap, ◌∙◌, subst, arith, cond, length, get_or, drop, filter}
-use Rattle.std.specs.Prelude.{◌==◌, map}
-use Rattle.std.specs.List.{filter_map}
-use Rattle.std.specs.Arc.{arc_value}
+use Rattle.std.proofs.Common.{◌≡◌, ℕ, ◌<◌, Bool, true, false, ◌&&◌, List, ◌++◌, Option, Some, None, refl, sym, ap, ◌∙◌, cond, length, get_or}
+use Rattle.std.specs.Prelude.{◌==◌}
 use Rattle.std.specs.declared.sync.Arc.{Arc}
 use Rattle.std.specs.declared.vec.Vec.{Vec}
 use Rattle.std.specs.declared.alloc.Global.{Global}
 use Rattle.cluster_msgs.specs.Shape.{Shape}
-use Rattle.cluster_msgs.specs.declared.messages.Down.{Down}
-use Rattle.cluster_msgs.specs.declared.messages.ToClient.{ToClient}
 use Rattle.cluster_msgs.specs.declared.messages.Message.{Message}
 use Rattle.cluster_msgs.specs.declared.messages.Message.TheVariants as message
 use Rattle.cluster_msgs.specs.declared.events.Asker.TheVariants.{Worker, Client}
 use Rattle.cluster_msgs.specs.declared.cores.Instruction.{Instruction}
 use Rattle.cluster_msgs.specs.declared.cores.ClientInstruction.{ClientInstruction}
 use Rattle.cluster_msgs.specs.declared.cores.WorkerEvent.{WorkerEvent}
-use Rattle.cluster_msgs.specs.declared.cores.WorkerEvent.TheVariants.{Down as Told}
 use Rattle.cluster_msgs.specs.declared.cores.ClientEvent.{ClientEvent}
-use Rattle.cluster_msgs.specs.declared.cores.ClientEvent.TheVariants.{FromScheduler}
-use Rattle.cluster_rules.specs.Functions.{put, put_pair}
+use Rattle.cluster_rules.specs.Functions.{put}
 use Rattle.cluster_rules.specs.Sched.{Facts}
-use Rattle.cluster_rules.specs.Enabled.{front}
 use Rattle.cluster_rules.specs.Worker.{WorkerFacts}
 use Rattle.cluster_rules.specs.WorkerStep.{WorkerStep, worker_step}
 use Rattle.cluster_rules.specs.Client.{ClientFacts, ClientStep, client_step}
-use Rattle.cluster_rules.specs.World.{World, Parcel}
 use Rattle.cluster_rules.specs.WorldStep.{sends, requested, worked, at_worker, client_sends, client_requested, client_worked, at_client}
 use Rattle.fact_rows.specs.Rows.{read, cell}
 use Rattle.gather_client.specs.CoreState.{CoreState, client_facts}
@@ -32,12 +24,11 @@ use Rattle.message_queues.specs.Queues.{waiting}
 use Rattle.message_queues.specs.Posts.{ups, from_clients}
 use Rattle.message_queues.specs.Transit.{parcels}
 use Rattle.message_queues.specs.declared.transit.InTransit.{InTransit}
-use Rattle.value_laws.specs.Blocks.{Blocks, Cluster}
-use Rattle.value_laws.specs.Moves.{either, keeps}
+use Rattle.value_laws.specs.Moves.{keeps}
 use Rattle.worker_core.specs.Core.{Core, facts}
 use Rattle.cluster_nodes.specs.declared.nodes.Nodes.{Nodes}
-use Rattle.cluster_nodes.specs.Nodes.{as_down, as_up, as_to_client, as_from_client, block_at, workers_of, clients_of, world_of, blocks_in, cluster_of}
-use Rattle.cluster_nodes.specs.Turns.{first_at, among, nothing, in_world, worker_turned, client_turned, down_delivered, client_told}
+use Rattle.cluster_nodes.specs.Nodes.{as_up, as_from_client, block_at, workers_of, clients_of, world_of, blocks_in, cluster_of}
+use Rattle.cluster_nodes.specs.Turns.{first_at, among, worker_turned, client_turned}
 use Rattle.cluster_nodes.proofs.NodeLemmas.{ups_are, from_clients_are, more_at, worker_was, client_was}
 use Rattle.cluster_rules.proofs.SchedFrame.{same_eqb}
 

@@ -1,5 +1,5 @@
-use Rattle.std.proofs.Common.{◌≡◌, ◌∙◌, ℕ, Bool, false, ◌&&◌, ap, sym, rules, arith}
-use Rattle.fact_rows.specs.Rows.{cell, width}
+use Rattle.std.proofs.Common.{◌≡◌, ◌∙◌, false, ◌&&◌, ap, sym, rules, arith}
+use Rattle.fact_rows.specs.Rows.{cell}
 use Rattle.worker_core.specs.Core.{facts}
 use Rattle.cluster_nodes.proofs.Places.{change_none, change_more, change_all}
 use Rattle.cluster_nodes.proofs.cores.unspill.Goals as goal

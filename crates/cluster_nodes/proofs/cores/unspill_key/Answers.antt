@@ -1,4 +1,4 @@
-use Rattle.std.proofs.Common.{◌≡◌, ◌∙◌, Bool, false, ◌&&◌, ap}
+use Rattle.std.proofs.Common.{◌∙◌, Bool, false, ◌&&◌, ap}
 use Rattle.cluster_rules.specs.Functions.{put_pair}
 use Rattle.fact_rows.specs.Rows.{cell}
 use Rattle.cluster_nodes.proofs.cores.unspill_key.Goals as goal

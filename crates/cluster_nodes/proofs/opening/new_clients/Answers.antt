@@ -2,7 +2,7 @@ use Rattle.std.proofs.Common.{◌≡◌, ◌∙◌, List, ap, sym, subst, rules}
 use Rattle.std.specs.List.{AllByRecursion}
 use Rattle.cluster_rules.specs.Client.{new_client}
 use Rattle.gather_client.specs.CoreState.{CoreState, client_facts}
-use Rattle.cluster_nodes.proofs.Places.{all_more, one_longer}
+use Rattle.cluster_nodes.proofs.Places.{all_more}
 use Rattle.cluster_nodes.proofs.opening.new_clients.Goals as goal
 
 pub loop-core-preserved : goal.loop-core-preserved

@@ -1,4 +1,4 @@
-use Rattle.std.proofs.Common.{◌≡◌, ◌∙◌, ◌+◌, [], ap, length}
+use Rattle.std.proofs.Common.{◌∙◌, ◌+◌, [], ap, length}
 use Rattle.message_queues.specs.Queues.{waiting}
 use Rattle.cluster_nodes.proofs.Places.{one_longer}
 use Rattle.cluster_nodes.proofs.Starting.{none_waits}

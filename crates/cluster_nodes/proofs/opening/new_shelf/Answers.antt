@@ -1,4 +1,4 @@
-use Rattle.std.proofs.Common.{◌≡◌, ◌∙◌, ◌+◌, None, ap}
+use Rattle.std.proofs.Common.{◌∙◌, ◌+◌, None, ap}
 use Rattle.fact_rows.specs.Rows.{cell, height, width}
 use Rattle.cluster_nodes.proofs.Starting.{none_stands}
 use Rattle.cluster_nodes.proofs.opening.new_shelf.Goals as goal

@@ -1,4 +1,4 @@
-use Rattle.std.proofs.Common.{◌≡◌, ◌∙◌, ap, refl}
+use Rattle.std.proofs.Common.{◌∙◌, ap, refl}
 use Rattle.std.specs.Prelude.{option_and_then}
 use Rattle.cluster_msgs.specs.declared.messages.Message.TheVariants as message
 use Rattle.message_queues.specs.Queues.{waiting}

@@ -1,4 +1,4 @@
-use Rattle.std.proofs.Common.{◌≡◌, ℕ, None, rules}
+use Rattle.std.proofs.Common.{None, rules}
 use Rattle.fact_rows.specs.Rows.{cell}
 use Rattle.cluster_nodes.proofs.Places.{bring_none, bring_more}
 use Rattle.cluster_nodes.proofs.shelve.bring.Goals as goal

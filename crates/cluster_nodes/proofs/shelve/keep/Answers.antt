@@ -1,4 +1,4 @@
-use Rattle.std.proofs.Common.{◌≡◌, ℕ, None, cond, rules}
+use Rattle.std.proofs.Common.{None, cond, rules}
 use Rattle.fact_rows.specs.Rows.{cell}
 use Rattle.cluster_nodes.proofs.Places.{change_none, change_more}
 use Rattle.cluster_nodes.proofs.shelve.keep.Goals as goal

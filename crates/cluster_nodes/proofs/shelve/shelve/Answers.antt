@@ -1,4 +1,4 @@
-use Rattle.std.proofs.Common.{◌≡◌, ℕ, None, arith}
+use Rattle.std.proofs.Common.{None, arith}
 use Rattle.fact_rows.specs.Rows.{cell}
 use Rattle.cluster_nodes.specs.Turns.{first_at}
 use Rattle.cluster_nodes.proofs.Places.{shelved}

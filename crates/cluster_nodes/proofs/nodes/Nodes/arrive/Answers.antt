@@ -1,4 +1,4 @@
-use Rattle.std.proofs.Common.{◌≡◌, ◌∙◌, ℕ, List, ap, sym, refl}
+use Rattle.std.proofs.Common.{◌∙◌, ℕ, List, ap}
 use Rattle.message_queues.proofs.QueueLemmas.{on_ok}
 use Rattle.cluster_msgs.specs.Jobs.{blocks_of}
 use Rattle.value_laws.specs.Moves.{block_among}

@@ -1,4 +1,4 @@
-use Rattle.std.proofs.Common.{◌≡◌, refl}
+use Rattle.std.proofs.Common.{refl}
 use Rattle.cluster_msgs.specs.declared.messages.Message.TheVariants as message
 use Rattle.message_queues.specs.Queues.{waiting}
 use Rattle.cluster_nodes.specs.Nodes.{as_down, as_up}

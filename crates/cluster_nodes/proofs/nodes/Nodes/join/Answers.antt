@@ -1,4 +1,4 @@
-use Rattle.std.proofs.Common.{◌≡◌, ◌∙◌, ◌+◌, ℕ, List, true, false, refl, ap, sym, subst, length, [], ◌∷◌, ◌++◌}
+use Rattle.std.proofs.Common.{◌≡◌, ◌∙◌, ℕ, List, true, false, refl, ap, sym, subst, [], ◌∷◌, ◌++◌}
 use Rattle.std.specs.List.{filter_map, AllByRecursion}
 use Rattle.cluster_msgs.specs.declared.messages.Message.{Message}
 use Rattle.message_queues.specs.Posts.{downs, ups}

@@ -5,7 +5,7 @@ use Rattle.cluster_rules.specs.Client.{new_client}
 use Rattle.cluster_rules.specs.Worker.{WorkerFacts, new_worker}
 use Rattle.fact_rows.specs.Rows.{cell, height, width}
 use Rattle.gather_client.specs.CoreState.{CoreState, client_facts}
-use Rattle.worker_core.specs.Core.{Core, facts}
+use Rattle.worker_core.specs.Core.{Core}
 use Rattle.cluster_nodes.proofs.Changing.{grid_more}
 use Rattle.cluster_nodes.proofs.Starting.{no_rows, opening_is, started}
 use Rattle.cluster_nodes.proofs.nodes.Nodes.new.Goals as goal

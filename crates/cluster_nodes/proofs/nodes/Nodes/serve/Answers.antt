@@ -1,4 +1,4 @@
-use Rattle.std.proofs.Common.{◌≡◌, ◌∙◌, ◌<◌, ℕ, List, None, ap, sym, filter}
+use Rattle.std.proofs.Common.{◌∙◌, None, ap, sym, filter}
 use Rattle.std.specs.List.{filter_map}
 use Rattle.cluster_rules.specs.Worker.{WorkerFacts}
 use Rattle.fact_rows.specs.Rows.{cell}

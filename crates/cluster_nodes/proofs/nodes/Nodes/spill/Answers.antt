@@ -1,4 +1,4 @@
-use Rattle.std.proofs.Common.{◌≡◌, refl, false}
+use Rattle.std.proofs.Common.{refl, false}
 use Rattle.cluster_nodes.proofs.Changing.{spilled_is}
 use Rattle.cluster_nodes.proofs.Keeping.{sized_lost}
 use Rattle.cluster_nodes.proofs.nodes.Nodes.spill.Goals as goal

@@ -1,4 +1,4 @@
-use Rattle.std.proofs.Common.{◌≡◌, refl}
+use Rattle.std.proofs.Common.{refl}
 use Rattle.cluster_nodes.specs.Nodes.{world_of}
 use Rattle.cluster_nodes.proofs.Changing.{with_from_client}
 use Rattle.cluster_nodes.proofs.Keeping.{sized_links}
