@@ -55,7 +55,7 @@ taken_joins j w (x ∷ xs) =
     omega (arith, k, r, h, i)
 
 pub made_none : (j : Job) (t : Tally) (n : ℕ) → n ≡ 0 → IsCountOf t [] → IsMade j [] (opening j) t n
-made_none j t n e h = record { legal = tt; reached = refl; counted = h; count = sym e }
+made_none j t n e h = record { legal = tt; reached = refl; counted = h; count = sym e; few = omega arith }
 
 -- one more event was made, and counted
 pub made_more : (j : Job) (es : List Event) (w v : World) (t u : Tally) (n : ℕ) (e : Event) → IsMade j es w t n → n < 1099511627776 → w.sched.last_worker ≤ 128 → enabled w e ≡ true → v ≡ world_step j w e
@@ -66,6 +66,7 @@ made_more j es w v t u n e h room few may is count = record {
   reached = run_more j (opening j) es e ∙ ap (λ x. world_step j x e) h.reached ∙ sym is;
   counted = subst (λ ts. IsCountOf u ts) (sym (taken_more j (opening j) es e)) (subst (λ x. IsCountOf u (taken j (opening j) es ++ (e, message x e) ∷ [])) (sym h.reached) (count (taken j (opening j) es) short rare h.counted));
   count = let l = length-append es (e ∷ []) in let f = h.count in omega (arith, l, f);
+  few = let l = length-append es (e ∷ []) in let f = h.count in omega (arith, l, f, room);
 }
   where
     short : length (taken j (opening j) es) < 2 ^ 64 - 1
@@ -137,5 +138,6 @@ pub course_end : (j : Job) (words : ℕ → ℕ) (p : Plan) (wanted : List ℕ) 
 course_end j words p wanted s t n v h q = record {
   drawn = record { later = h.later; whole = refl; drawn = draws_end j words p _ s h.later v h.drawn q };
   legal = h.made.legal;
+  few = h.made.few;
   reached = h.made.reached;
 }

@@ -254,3 +254,15 @@ made_waits words p s e h = ended (over (s.world.clients 1)) h
     ended : (o : Option (Option ℕ)) → event_of (next_by words s o (scripted p.threads s.world s.script)) ≡ Some e → o ≡ None
     ended (Some failure) q = absurd (no q)
     ended None q = refl
+
+-- nor has it where nothing comes
+pub spent_waits : (words : ℕ → ℕ) (p : Plan) (s : Sim) → next words p s ≡ Spent → over (s.world.clients 1) ≡ None
+unfolding next
+spent_waits words p s h = ended (over (s.world.clients 1)) h
+  where
+    no : (failure : Option ℕ) → Over failure ≡ Spent → ⊥
+    no failure h = cc
+
+    ended : (o : Option (Option ℕ)) → next_by words s o (scripted p.threads s.world s.script) ≡ Spent → o ≡ None
+    ended (Some failure) q = absurd (no failure q)
+    ended None q = refl

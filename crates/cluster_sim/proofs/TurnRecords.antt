@@ -1,5 +1,5 @@
 -- What a turn makes, put together.
-use Rattle.std.proofs.Common.{◌≡◌, ℕ, ◌+◌, ◌-◌, ◌^◌, ◌≤◌, ◌<◌, List, [], ◌∷◌, ◌++◌, length, drop, Option, Some, refl, sym, ap, ◌∙◌, arith, subst}
+use Rattle.std.proofs.Common.{◌≡◌, ℕ, ◌+◌, ◌-◌, ◌^◌, ◌≤◌, ◌<◌, List, [], ◌∷◌, ◌++◌, length, drop, Option, Some, None, refl, sym, ap, ◌∙◌, arith, subst}
 use Rattle.cluster_msgs.specs.Shape.{key_count}
 use Rattle.cluster_msgs.specs.declared.events.Event.{Event}
 use Rattle.cluster_rules.specs.Sched.{Setting}
@@ -7,10 +7,10 @@ use Rattle.cluster_rules.specs.World.{Job, World as Cluster, rest, shape_of}
 use Rattle.cluster_rules.specs.WorldStep.{world_step}
 use Rattle.cluster_rules.specs.Enabled.{message}
 use Rattle.cluster_rules.specs.Report.{Taken, is_join, how_many}
-use Rattle.cluster_rules.specs.Draw.{Plan, next, event_of, moved}
+use Rattle.cluster_rules.specs.Draw.{Plan, next, event_of, moved, over}
 use Rattle.run_report.specs.Counts.{IsCountOf}
 use Rattle.cluster_world.specs.declared.state.State.{State}
-use Rattle.cluster_world.specs.Worlds.{world, setting}
+use Rattle.cluster_world.specs.Worlds.{world, setting, event_limit}
 use Rattle.quiet_bound.proofs.WorldBound.{setting-world}
 use Rattle.cluster_sim.specs.Acts.{Stays, IsAct, running}
 use Rattle.cluster_sim.specs.Courses.{Course}
@@ -18,14 +18,14 @@ use Rattle.cluster_sim.specs.Drawn.{word_of, IsAtTurn}
 use Rattle.cluster_sim.specs.Plans.{IsPlan}
 use Rattle.cluster_sim.specs.Standing.{sim_of, made_by, IsStanding, left}
 use Rattle.cluster_sim.specs.Passing.{IsKindOf, after, IsLeft}
-use Rattle.cluster_sim.specs.Turns.{IsBetween, IsDrawn, HasGone}
+use Rattle.cluster_sim.specs.Turns.{IsBetween, IsDrawn, HasGone, IsFull}
 use Rattle.cluster_sim.specs.declared.standing.Standing.{Standing}
 use Rattle.cluster_sim.specs.declared.choice.Kind.{Kind}
 use Rattle.cluster_sim.specs.declared.choice.Kind.TheVariants as kind
 use Rattle.cluster_sim.specs.declared.run.Run.{Run}
 use Rattle.cluster_sim.proofs.ActLemmas.{same_job}
 use Rattle.cluster_sim.proofs.CourseLemmas.{course_more}
-use Rattle.cluster_sim.proofs.NextLemmas.{MayCome}
+use Rattle.cluster_sim.proofs.NextLemmas.{MayCome, made_waits}
 use Rattle.cluster_sim.proofs.TurnLemmas.{event_made, moved_after, turns_after, falls_after, may_come, standing_after}
 
 -- the event that comes next is one that the choice made
@@ -40,6 +40,22 @@ pub record IsChosen {J B F : Type 0} (p : Plan) (wanted : List ℕ) (old : State
 pub chosen_comes : {J B F : Type 0} (p : Plan) (wanted : List ℕ) (old : State J B F) (a : Run) (e : Event) (k : Kind) (word : ℕ) → IsChosen p wanted old a e k word
     → MayCome (world old) e (drop a.standing.passed p.script) (drop (after a.standing k 0).passed p.script)
 chosen_comes p wanted old a e k word h = may_come (λ t. word) p wanted (world old) a.standing e k 0 h.plan h.between.standing h.own (h.next (λ t. word) refl)
+
+-- while the client waits
+pub full_there : {J B F : Type 0} (p : Plan) (wanted : List ℕ) (old new : State J B F) (a : Run) (e : Event) (k : Kind) (word : ℕ) → IsChosen p wanted old a e k word → new ≡ old → new.events ≡ event_limit → IsFull new
+full_there {J} {B} {F} p wanted old new a e k word h same events = record { events = events; waits = subst (λ (s : State J B F). over ((world s).clients 1) ≡ None) (sym same) waits }
+  where
+    waits : over ((world old).clients 1) ≡ None
+    waits = made_waits (λ t. word) p (sim_of p (world old) a.standing) e (ap event_of (sym (h.next (λ t. word) refl)) ∙ event_made p.script e k h.own)
+
+-- and it is the one that the number draws
+pub next_drawn : {J B F : Type 0} (p : Plan) (wanted : List ℕ) (number : ℕ) (old : State J B F) (a : Run) (e : Event) (k : Kind) (word : ℕ) → IsChosen p wanted old a e k word → a.words.word ≡ word → IsAtTurn a.words number a.standing.turns
+    → made_by p.script e k ≡ next (word_of number) p (sim_of p (world old) a.standing)
+next_drawn p wanted number old a e k word h at words = h.next (word_of number) (sym words.word ∙ at)
+
+pub event_drawn : {J B F : Type 0} (p : Plan) (wanted : List ℕ) (number : ℕ) (old : State J B F) (a : Run) (e : Event) (k : Kind) (word : ℕ) → IsChosen p wanted old a e k word → a.words.word ≡ word → IsAtTurn a.words number a.standing.turns
+    → event_of (next (word_of number) p (sim_of p (world old) a.standing)) ≡ Some e
+event_drawn p wanted number old a e k word h at words = ap event_of (sym (next_drawn p wanted number old a e k word h at words)) ∙ event_made p.script e k h.own
 
 pub has_gone : {J B F : Type 0} (op : J → ℕ → List B → Option B) (tells : J → F → Type 0) (p : Plan) (wanted : List ℕ) (old new : State J B F) (a b : Run) (e : Event) (k : Kind) (word budget : ℕ)
     → IsChosen p wanted old a e k word → IsAct op tells old e new → budget < 2 ^ 128 → b.standing ≡ after a.standing k budget → HasGone p wanted old new a b
@@ -77,10 +93,10 @@ has_drawn {J} {B} {F} op tells p wanted number old new a b e k word budget h act
     to = act.exact d.told d.reached
 
     same : made_by p.script e k ≡ next (word_of number) p (sim_of p (world old) a.standing)
-    same = h.next (word_of number) (sym d.words.word ∙ at)
+    same = next_drawn p wanted number old a e k word h at d.words
 
     chosen : event_of (next (word_of number) p (sim_of p (world old) a.standing)) ≡ Some e
-    chosen = ap event_of (sym same) ∙ event_made p.script e k h.own
+    chosen = event_drawn p wanted number old a e k word h at d.words
 
     moves : sim_of p (world new) b.standing ≡ moved (running op old) (sim_of p (world old) a.standing) (next (word_of number) p (sim_of p (world old) a.standing))
     moves =

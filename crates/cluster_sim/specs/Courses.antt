@@ -1,19 +1,21 @@
 -- The events of a simulation up to some point, and where they led.
-use Rattle.std.specs.Prelude.{◌≡◌, ℕ, List, [], ◌∷◌, ◌++◌, Some, length}
+use Rattle.std.specs.Prelude.{◌≡◌, ◌≤◌, ℕ, List, [], ◌∷◌, ◌++◌, Some, length}
 use Rattle.cluster_msgs.specs.declared.events.Event.{Event}
 use Rattle.cluster_rules.specs.World.{Job, World, opening}
 use Rattle.cluster_rules.specs.Runs.{legal, reached, run_from}
 use Rattle.cluster_rules.specs.Report.{taken}
 use Rattle.cluster_rules.specs.Draw.{Plan, Sim, opening_events, sim_from, next, event_of, moved}
+use Rattle.cluster_world.specs.Worlds.{event_limit}
 use Rattle.run_report.specs.Counts.{IsCountOf}
 use Rattle.run_report.specs.declared.tally.Tally.{Tally}
 
--- n legal events that led to this world, and were counted
+-- n legal events that led to this world, and were counted. A world takes no more
 pub record IsMade (j : Job) (es : List Event) (w : World) (t : Tally) (n : ℕ) : Type 0 where
   pub legal : legal j es
   pub reached : reached j es ≡ w
   pub counted : IsCountOf t (taken j (opening j) es)
   pub count : length es ≡ n
+  pub few : length es ≤ event_limit
 
 -- each of these events came next, and they led here
 abbrev pub DrawsTo : Job → (ℕ → ℕ) → Plan → Sim → List Event → Sim → Type 0

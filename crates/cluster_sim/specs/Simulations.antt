@@ -1,5 +1,5 @@
 -- What a simulation made, and how it ended.
-use Rattle.std.specs.Prelude.{◌≡◌, ℕ, true, List, ◌++◌, Option, Some, None, length}
+use Rattle.std.specs.Prelude.{◌≡◌, ◌≤◌, ℕ, true, List, ◌++◌, Option, Some, None, length}
 use Rattle.cluster_msgs.specs.declared.events.Event.{Event}
 use Rattle.cluster_msgs.specs.declared.events.Report.{Report}
 use Rattle.cluster_msgs.specs.Values.{faulty, needed}
@@ -7,13 +7,15 @@ use Rattle.cluster_rules.specs.Derived.{is_in}
 use Rattle.cluster_rules.specs.World.{Job, World, opening}
 use Rattle.cluster_rules.specs.Runs.{legal, reached, run_from}
 use Rattle.cluster_rules.specs.Report.{taken, report}
-use Rattle.cluster_rules.specs.Draw.{Plan, Sim, Verdict, Draw, opening_events, sim_from}
+use Rattle.cluster_rules.specs.Draw.{Plan, Sim, Verdict, Draw, opening_events, sim_from, next, event_of}
+use Rattle.cluster_world.specs.Worlds.{event_limit}
 use Rattle.cluster_sim.specs.Courses.{DrawsTo}
 
--- exactly the events that the rules draw, to this end. They are legal and led to this world
+-- exactly the events that the rules draw, to this end. They are legal, no more than a world takes, and led to this world
 pub record IsSimulated (j : Job) (words : ℕ → ℕ) (p : Plan) (wanted : List ℕ) (es : List Event) (v : Verdict) (w : World) : Type 0 where
   pub drawn : Draw j words p wanted es v
   pub legal : legal j es
+  pub few : length es ≤ event_limit
   pub reached : reached j es ≡ w
 
 -- the simulation of some events, with their report
@@ -27,12 +29,13 @@ pub record IsCut (j : Job) (words : ℕ → ℕ) (p : Plan) (wanted : List ℕ) 
   pub events : List Event
   pub simulated : IsSimulated j words p wanted events v w
 
--- so many of its events were made, one after another, and no end was reached
+-- so many of its events were made, one after another, and no end was reached: the rules go on by another event
 pub record IsUnfinished (j : Job) (words : ℕ → ℕ) (p : Plan) (wanted : List ℕ) (many : ℕ) : Type 0 where
   pub later : List Event
   pub stands : Sim
   pub drawn : DrawsTo j words p (sim_from p (run_from j (opening j) (opening_events p wanted))) later stands
   pub count : length (opening_events p wanted ++ later) ≡ many
+  pub goes_on : (e : Event) × (event_of (next words p stands) ≡ Some e)
 
 -- the client has got all that is wanted
 abbrev pub HasAll : World → List ℕ → Type 0

@@ -37,21 +37,32 @@ pub record HasGone {J B F : Type 0} (p : Plan) (wanted : List ℕ) (old new : St
   pub between : IsBetween p wanted new b
   pub falls : left (key_count (setting old).shape) (length p.script) b.standing < left (key_count (setting old).shape) (length p.script) a.standing
 
--- it found an end, and changed nothing
+-- it made none, and changed nothing
 pub record HasStayed {J B F : Type 0} (old new : State J B F) (a b : Run) : Type 0 where
   pub world : new ≡ old
   pub run : b ≡ a
 
+-- it found the client's end
 pub record HasEnded {J B F : Type 0} (failure : Option ℕ) (old new : State J B F) (a b : Run) : Type 0 where
   pub stayed : HasStayed old new a b
   pub over : over ((world old).clients 1) ≡ Some failure
 
+-- it found neither the client's end nor an event to make
+pub record HasRunOut {J B F : Type 0} (old new : State J B F) (a b : Run) : Type 0 where
+  pub stayed : HasStayed old new a b
+  pub waits : over ((world old).clients 1) ≡ None
+
+-- all events were taken, and the client waits still
+pub record IsFull {J B F : Type 0} (s : State J B F) : Type 0 where
+  pub events : s.events ≡ event_limit
+  pub waits : over ((world s).clients 1) ≡ None
+
 abbrev pub AfterTurn : {J B F : Type 0} → Plan → List ℕ → State J B F → State J B F → Run → Run → Result (Option Ending) SimError → Type 0
 AfterTurn p wanted old new a b (Ok None) = HasGone p wanted old new a b
 AfterTurn p wanted old new a b (Ok (Some end)) = HasEnded end.failure old new a b
-AfterTurn p wanted old new a b (Err Turns) = HasStayed old new a b
+AfterTurn p wanted old new a b (Err Turns) = HasRunOut old new a b
 AfterTurn p wanted old new a b (Err Feed) = Unit {0}
-AfterTurn p wanted old new a b (Err Spent) = new.events ≡ event_limit
+AfterTurn p wanted old new a b (Err Spent) = IsFull new
 AfterTurn p wanted old new a b (Err OutOfMemory) = Unit {0}
 
 -- the same of a run that was drawn so far: the event is the one that is drawn, and the end that of the rules
@@ -70,9 +81,9 @@ pub record HasServed {J B F : Type 0} (p : Plan) (wanted : List ℕ) (failure : 
 
 abbrev pub AfterPlay : {J B F : Type 0} → Plan → List ℕ → State J B F → Run → Result Ending SimError → Type 0
 AfterPlay p wanted s r (Ok end) = HasServed p wanted end.failure s r
-AfterPlay p wanted s r (Err Turns) = Unit {0}
+AfterPlay p wanted s r (Err Turns) = over ((world s).clients 1) ≡ None
 AfterPlay p wanted s r (Err Feed) = Unit {0}
-AfterPlay p wanted s r (Err Spent) = s.events ≡ event_limit
+AfterPlay p wanted s r (Err Spent) = IsFull s
 AfterPlay p wanted s r (Err OutOfMemory) = Unit {0}
 
 pub record HasPlayed {J B F : Type 0} (op : J → ℕ → List B → Option B) (tells : J → F → Type 0) (p : Plan) (wanted : List ℕ) (number : ℕ) (v : Verdict) (s : State J B F) (r : Run) : Type 0 where

@@ -52,6 +52,7 @@ pub fn act<J: JobSpec>(
     ensures stays { Stays J.feed_tells world.old world.new }
     ensures faults { CountsSim result (J.fault_count world.old.feed) (J.fault_count world.new.feed) }
     ensures spent { result ≡ Err SimError.Spent → world.new.events ≡ event_limit }
+    ensures spent_stays { result ≡ Err SimError.Spent → world.new ≡ world.old }
     ensures spent_before { result ≡ Err SimError.Spent → world.old.events ≡ event_limit }
     ensures turns { result ≡ Err SimError.Turns → ⊥ }
 {

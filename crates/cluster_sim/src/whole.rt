@@ -2,7 +2,7 @@
 ghost use Rattle.std.specs.Prelude.{◌≡◌, ◌↔◌, ℕ, None, Err, IfOk, OnOk};
 ghost use Rattle.cluster_msgs.specs.Shape.{key_count, deps_of};
 ghost use Rattle.cluster_msgs.specs.Values.{val};
-ghost use Rattle.cluster_rules.specs.Draw.{Served, OutOfTurns};
+ghost use Rattle.cluster_rules.specs.Draw.{Served, OutOfTurns, over};
 ghost use Rattle.cluster_world.specs.Worlds.{cluster, world as world_of, setting, event_limit, IsReached};
 ghost use Rattle.cluster_sim.specs.Acts.{CountsSim, Stays, running};
 ghost use Rattle.cluster_sim.specs.Drawn.{word_of};
@@ -40,8 +40,10 @@ pub struct SimEnd {
 /// job's definition. It always returns.
 ///
 /// # Errors
-/// `Turns` exactly where no turn is left of the bound on quiet runs, or nothing moves. `Feed` only where the feed's count of
-/// faults rose in this call. `Spent` only once the world took 2^40 events. `OutOfMemory` where no memory is left.
+/// `Turns` and `Spent` only while the client waits still: it hasn't got all, and was told of no failure. Where the feed tells,
+/// `Turns` exactly where the rules then have no turn left: the bound on quiet runs is spent, or nothing moves. `Spent` only
+/// once the world took 2^40 events, and where the feed tells, only where the rules go on after those. `Feed` only where the
+/// feed's count of faults rose in this call. `OutOfMemory` where no memory is left.
 pub fn simulate<J: JobSpec>(
     alloc: Global,
     world: &mut World<J>,
@@ -68,7 +70,9 @@ pub fn simulate<J: JobSpec>(
 
     // The causes of what is no result, and what stays.
     ensures faults { CountsSim result (J.fault_count world.old.feed) (J.fault_count world.new.feed) }
+    ensures waits { result ≡ Err SimError.Turns → over ((world_of world.new).clients 1) ≡ None }
     ensures spent { result ≡ Err SimError.Spent → world.new.events ≡ event_limit }
+    ensures spent_waits { result ≡ Err SimError.Spent → over ((world_of world.new).clients 1) ≡ None }
     ensures cut_off { result ≡ Err SimError.Spent → J.feed_tells world.old.job world.old.feed →
         IsUnfinished (running J.operation world.old) (word_of number) (plan_of plan.now) wanted.now event_limit }
     ensures stays { Stays J.feed_tells world.old world.new }

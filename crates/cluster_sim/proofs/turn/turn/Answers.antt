@@ -11,7 +11,8 @@ use Rattle.cluster_sim.specs.Plans.{plan_of}
 use Rattle.cluster_sim.specs.Standing.{sim_of}
 use Rattle.cluster_sim.proofs.ActLemmas.{stays_none}
 use Rattle.cluster_sim.proofs.TurnLemmas.{can_pass}
-use Rattle.cluster_sim.proofs.TurnRecords.{chosen_comes, has_gone, has_drawn}
+use Rattle.cluster_sim.proofs.NextLemmas.{spent_waits}
+use Rattle.cluster_sim.proofs.TurnRecords.{chosen_comes, full_there, event_drawn, has_gone, has_drawn}
 use Rattle.cluster_sim.proofs.PlayLemmas.{turn_failed, drawn_failed}
 use Rattle.cluster_sim.proofs.turn.turn.Goals as goal
 
@@ -32,7 +33,10 @@ pub returns-in-Over-clause-stays : goal.returns-in-Over-clause-stays
 returns-in-Over-clause-stays g c = stays_none _ _
 
 pub returns-in-Spent-clause-turn : goal.returns-in-Spent-clause-turn
-returns-in-Spent-clause-turn g c = record { world = refl; run = refl }
+returns-in-Spent-clause-turn g c = record {
+  stayed = record { world = refl; run = refl };
+  waits = spent_waits (λ t. c.word-word.result) (plan_of c.args.plan.now) (sim_of (plan_of c.args.plan.now) (world c.args.world.now) c.args.run.now.standing) (sym (c.in-Spent.ensures.next (λ t. c.word-word.result) refl));
+}
 
 pub returns-in-Spent-clause-drawn : goal.returns-in-Spent-clause-drawn
 returns-in-Spent-clause-drawn g c number d =
@@ -52,12 +56,17 @@ act-requires-clause-enabled g c = λ κs lives.
 pub returns-in_err-act-in-Make-clause-turn : goal.returns-in_err-act-in-Make-clause-turn
 returns-in_err-act-in-Make-clause-turn g c =
     let p = err_from_is_err_and c.from_residual.result c.from_residual.ensures.1 in
-    rw (p.1, p.2) (turn_failed (plan_of c.args.plan.now) c.args.wanted.now c.args.world.now c.act.new.world c.args.run.now _ _ (λ q. c.in_err-act-in-Make.ensures.turns (ap (λ (x : SimError). Err x) q)) (λ q. c.in_err-act-in-Make.ensures.spent (ap (λ (x : SimError). Err x) q)))
+    rw (p.1, p.2) (turn_failed (plan_of c.args.plan.now) c.args.wanted.now c.args.world.now c.act.new.world c.args.run.now _ _ (λ q. c.in_err-act-in-Make.ensures.turns (ap (λ (x : SimError). Err x) q))
+    (λ q. full_there (plan_of c.args.plan.now) c.args.wanted.now c.args.world.now c.act.new.world c.args.run.now c.in-Make.event c.in-Make.kind c.word-word.result
+    (record { plan = c.requires.plan; between = c.requires.between; next = c.in-Make.ensures.next; own = c.in-Make.ensures.kind.0; some = c.in-Make.ensures.kind.1 })
+    (c.in_err-act-in-Make.ensures.spent_stays (ap (λ (x : SimError). Err x) q)) (c.in_err-act-in-Make.ensures.spent (ap (λ (x : SimError). Err x) q))))
 
 pub returns-in_err-act-in-Make-clause-drawn : goal.returns-in_err-act-in-Make-clause-drawn
 returns-in_err-act-in-Make-clause-drawn g c number d =
     let p = err_from_is_err_and c.from_residual.result c.from_residual.ensures.1 in
-    rw (p.1, p.2) (drawn_failed g.J.JobSpec.operation g.J.JobSpec.feed_tells (plan_of c.args.plan.now) c.args.wanted.now number c.args.world.now c.act.new.world c.args.run.now c.args.run.now _ d
+    rw (p.1, p.2) (drawn_failed g.J.JobSpec.operation g.J.JobSpec.feed_tells (plan_of c.args.plan.now) c.args.wanted.now number c.args.world.now c.act.new.world c.args.run.now c.args.run.now _ c.in-Make.event d
+    (event_drawn (plan_of c.args.plan.now) c.args.wanted.now number c.args.world.now c.args.run.now c.in-Make.event c.in-Make.kind c.word-word.result
+    (record { plan = c.requires.plan; between = c.requires.between; next = c.in-Make.ensures.next; own = c.in-Make.ensures.kind.0; some = c.in-Make.ensures.kind.1 }) (sym c.word-word.ensures) d.words)
     (λ q. c.in_err-act-in-Make.ensures.turns (ap (λ (x : SimError). Err x) q)) (λ q. c.in_err-act-in-Make.ensures.spent_before (ap (λ (x : SimError). Err x) q)))
 
 pub turns_left-requires : goal.turns_left-requires

@@ -7,7 +7,7 @@ use Rattle.cluster_sim.specs.declared.whole.SimEnd.{SimEnd}
 use Rattle.cluster_sim.specs.Plans.{plan_of}
 use Rattle.std.proofs.lemmas.Result.{err_from_is_err_and}
 use Rattle.cluster_sim.proofs.ActLemmas.{not_starved, stays_both, counts_as, counts_from}
-use Rattle.cluster_sim.proofs.PlayLemmas.{spent_play, turns_play, unfinished_play, same_error}
+use Rattle.cluster_sim.proofs.PlayLemmas.{spent_play, waiting_play, turns_play, unfinished_play, same_error}
 use Rattle.cluster_sim.proofs.SimulateLemmas.{served_is}
 use Rattle.cluster_sim.proofs.SimulateRecords.{opened_between, opened_drawn, reported, cut_off, blamed_by}
 use Rattle.cluster_sim.proofs.whole.simulate.Goals as goal
@@ -47,6 +47,16 @@ returns-in_err-make_opening-clause-spent g c q =
     let p = err_from_is_err_and c.from_residual.result c.from_residual.ensures.1 in
     absurd (c.in_err-make_opening.ensures.spent (ap (λ (x : SimError). Err x) (sym p.2 ∙ same_error _ _ (sym p.1 ∙ q))))
 
+pub returns-in_err-make_opening-clause-waits : goal.returns-in_err-make_opening-clause-waits
+returns-in_err-make_opening-clause-waits g c q =
+    let p = err_from_is_err_and c.from_residual.result c.from_residual.ensures.1 in
+    absurd (c.in_err-make_opening.ensures.turns (ap (λ (x : SimError). Err x) (sym p.2 ∙ same_error _ _ (sym p.1 ∙ q))))
+
+pub returns-in_err-make_opening-clause-spent_waits : goal.returns-in_err-make_opening-clause-spent_waits
+returns-in_err-make_opening-clause-spent_waits g c q =
+    let p = err_from_is_err_and c.from_residual.result c.from_residual.ensures.1 in
+    absurd (c.in_err-make_opening.ensures.spent (ap (λ (x : SimError). Err x) (sym p.2 ∙ same_error _ _ (sym p.1 ∙ q))))
+
 pub returns-in_err-make_opening-clause-cut_off : goal.returns-in_err-make_opening-clause-cut_off
 returns-in_err-make_opening-clause-cut_off g c q told =
     let p = err_from_is_err_and c.from_residual.result c.from_residual.ensures.1 in
@@ -66,7 +76,17 @@ returns-in_err-end-clause-faults g c =
 pub returns-in_err-end-clause-spent : goal.returns-in_err-end-clause-spent
 returns-in_err-end-clause-spent g c q =
     let p = err_from_is_err_and c.from_residual-in_err-end.result c.from_residual-in_err-end.ensures.1 in
-    spent_play (plan_of c.args.plan.now) c.args.wanted.now c.play.new.world c.play.new.run _ (sym p.2 ∙ same_error _ _ (sym p.1 ∙ q)) c.in_err-end.ensures.play
+    (spent_play (plan_of c.args.plan.now) c.args.wanted.now c.play.new.world c.play.new.run _ (sym p.2 ∙ same_error _ _ (sym p.1 ∙ q)) c.in_err-end.ensures.play).events
+
+pub returns-in_err-end-clause-spent_waits : goal.returns-in_err-end-clause-spent_waits
+returns-in_err-end-clause-spent_waits g c q =
+    let p = err_from_is_err_and c.from_residual-in_err-end.result c.from_residual-in_err-end.ensures.1 in
+    (spent_play (plan_of c.args.plan.now) c.args.wanted.now c.play.new.world c.play.new.run _ (sym p.2 ∙ same_error _ _ (sym p.1 ∙ q)) c.in_err-end.ensures.play).waits
+
+pub returns-in_err-end-clause-waits : goal.returns-in_err-end-clause-waits
+returns-in_err-end-clause-waits g c q =
+    let p = err_from_is_err_and c.from_residual-in_err-end.result c.from_residual-in_err-end.ensures.1 in
+    waiting_play (plan_of c.args.plan.now) c.args.wanted.now c.play.new.world c.play.new.run _ (sym p.2 ∙ same_error _ _ (sym p.1 ∙ q)) c.in_err-end.ensures.play
 
 pub returns-in_err-end-clause-turns : goal.returns-in_err-end-clause-turns
 returns-in_err-end-clause-turns g c q told =
