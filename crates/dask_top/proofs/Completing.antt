@@ -22,7 +22,9 @@ use Rattle.sim_run.specs.declared.ends.SimEnded.{SimEnded}
 use Rattle.sim_run.specs.declared.ends.SimEnded.TheVariants as SimEnds
 use Rattle.sim_run.specs.Ends.{Cause as SimCause}
 use Rattle.sim_run.specs.Forms.{HasManyChunks, IsAddition, IsSimulable, chunks_in, operations}
+use Rattle.sim_run.specs.Simulated.{IsOutOfEvents, SimulatesTo}
 use Rattle.sim_run.specs.declared.form.Addition.{Addition}
+use Rattle.sim_run.proofs.OneSim.{one_sim}
 use Rattle.dask_top.specs.declared.answer.End.TheVariants.{Words, Job, Limit, NotBuilt, Keys, Events, Turns, Ran}
 use Rattle.dask_top.specs.Answers.{Answers, Cause, Completes, Does, EndsByInputs, EndsBySimulation, EndsByText, EndsByWork, MeetNoZero, MeetZero, NoFault, Performs, RefusalCause, WorkCause, status_of}
 use Rattle.dask_top.specs.Commands.{Command, Run, Plain, Sim, Asks, Asked, IsAsked, Known, Unread, Work, Evaluation, Simulation, job_of, work_of}
@@ -89,12 +91,18 @@ not_fit p files unfit fit =
 run_memory : (p : Plan) (old : View) → EndsByInputs p old 8
 run_memory p old = record { unfit = λ u. inr refl; some = λ f m. inr refl; none = λ f m. inr refl }
 
-sim_memory : (p : Plan) (old : View) → EndsBySimulation p old 8
-sim_memory p old = record { other = λ o. inr refl; many = λ m. inr refl; unfit = λ s u. inr refl; fit = λ s f. inr (inr (inr refl)) }
+sim_memory : (p : Plan) (said : SimWords) (old : View) → EndsBySimulation p said old 8
+sim_memory p said old = record {
+  other = λ o. inr refl;
+  many = λ m. inr refl;
+  unfit = λ s u. inr refl;
+  fit = λ s f none. inr (inr refl);
+  limit = λ s f. inr (inr (inr refl));
+}
 
 memory_ends : (work : Work) (p : Plan) (old : View) → EndsByWork work p old 8
 memory_ends Evaluation p old = run_memory p old
-memory_ends (Simulation said) p old = sim_memory p old
+memory_ends (Simulation said) p old = sim_memory p said old
 
 run_completes : (p : Plan) (old new : View) (end : Ended) → NoFault old new → RunCause p old new end → EndsByInputs p old (status_of (Ran end))
 run_completes p old new Done faults cause = record { unfit = λ u. absurd (not_fit p old.files u cause.inputs); some = λ f m. absurd (not_all p old.files m cause); none = λ f m. inl refl }
@@ -120,29 +128,55 @@ one_chunks p a b is_a is_b =
 not_many : (p : Plan) → IsSimulable p → HasManyChunks p → ⊥
 not_many p can many = let same : chunks_in can.addition ≡ chunks_in many.addition = one_chunks p can.addition many.addition can.can.is many.is in omega (arith, same, can.can.few, many.many)
 
--- what has to be known of an end at which the job can be simulated
-simulable_ends : (p : Plan) (old : View) (status : ℕ) → IsSimulable p → (IsSomeAnd (told_all old.files.held p.inputs) (λ contents. ¬ FitInputs p contents) → (status ≡ 3) ⊎ (status ≡ 8)) →
-    (IsSomeAnd (told_all old.files.held p.inputs) (FitInputs p) → (status ≡ 0) ⊎ ((status ≡ 10) ⊎ ((status ≡ 9) ⊎ (status ≡ 8)))) → EndsBySimulation p old status
-simulable_ends p old status can unfit fit = record {
+with_limit : (status : ℕ) → (status ≡ 0) ⊎ ((status ≡ 10) ⊎ (status ≡ 8)) → (status ≡ 0) ⊎ ((status ≡ 10) ⊎ ((status ≡ 9) ⊎ (status ≡ 8)))
+with_limit status ends = elim ends [ inl well ↦ inl well | inr other ↦ elim other [ inl turns ↦ inr (inl turns) | inr memory ↦ inr (inr (inr memory)) ] ]
+
+-- what has to be known of an end at which the job can be simulated, and no limit was passed
+simulable_ends : (p : Plan) (said : SimWords) (old : View) (status : ℕ) → IsSimulable p → (IsSomeAnd (told_all old.files.held p.inputs) (λ contents. ¬ FitInputs p contents) → (status ≡ 3) ⊎ (status ≡ 8)) →
+    (IsSomeAnd (told_all old.files.held p.inputs) (FitInputs p) → (status ≡ 0) ⊎ ((status ≡ 10) ⊎ (status ≡ 8))) → EndsBySimulation p said old status
+simulable_ends p said old status can unfit fit = record {
   other = λ none. absurd (none can.addition can.can.is);
   many = λ m. absurd (not_many p can m);
   unfit = λ s u. unfit u;
-  fit = λ s f. fit f;
+  fit = λ s f none. fit f;
+  limit = λ s f. with_limit status (fit f);
 }
 
-sim_run_completes : (p : Plan) (said : SimWords) (old new : View) (end : Ended) → NoFault old new → SimCause p said old new (SimEnds.Ran end) → EndsBySimulation p old (status_of (Ran end))
-sim_run_completes p said old new Done faults cause = simulable_ends p old 0 cause.0 (λ u. absurd (not_fit p old.files u cause.1.inputs)) (λ f. inl refl)
-sim_run_completes p said old new (File place error) faults cause = simulable_ends p old 3 cause.0 (λ u. inl refl) (λ f. absurd (not_refused_input p old.files place error f cause.1))
+-- the limit of events was passed
+limit_ends : (p : Plan) (said : SimWords) (old : View) → SimulatesTo p said old.files IsOutOfEvents → EndsBySimulation p said old 9
+limit_ends p said old to = record {
+  other = λ none. absurd (none to.addition to.can.is);
+  many = λ m. inl refl;
+  unfit = λ s u. absurd (not_fit p old.files u to.inputs);
+  fit = λ s f none. absurd (none to);
+  limit = λ s f. inr (inr (inl refl));
+}
+
+sim_run_completes : (p : Plan) (said : SimWords) (old new : View) (end : Ended) → NoFault old new → SimCause p said old new (SimEnds.Ran end) → EndsBySimulation p said old (status_of (Ran end))
+sim_run_completes p said old new Done faults cause = simulable_ends p said old 0 cause.0 (λ u. absurd (not_fit p old.files u cause.1.inputs)) (λ f. inl refl)
+sim_run_completes p said old new (File place error) faults cause = simulable_ends p said old 3 cause.0 (λ u. inl refl) (λ f. absurd (not_refused_input p old.files place error f cause.1))
 sim_run_completes p said old new (Zero node) faults cause = absurd cause
 sim_run_completes p said old new ReadFault faults cause = absurd (faults.read cause.1)
 sim_run_completes p said old new WriteFault faults cause = absurd (elim cause.2 [ inl w ↦ faults.write w | inr q ↦ faults.print q ])
-sim_run_completes p said old new OutOfMemory faults cause = sim_memory p old
+sim_run_completes p said old new OutOfMemory faults cause = sim_memory p said old
 
-sim_completes : (p : Plan) (said : SimWords) (old new : View) (end : SimEnded) → NoFault old new → SimCause p said old new end → EndsBySimulation p old (status_of (end_of end))
-sim_completes p said old new SimEnds.NotBuilt faults cause = record { other = λ none. inl refl; many = λ m. absurd (cause m.addition m.is); unfit = λ s u. absurd (cause s.addition s.can.is); fit = λ s f. absurd (cause s.addition s.can.is) }
-sim_completes p said old new SimEnds.Keys faults cause = record { other = λ none. absurd (none cause.addition cause.is); many = λ m. inl refl; unfit = λ s u. absurd (not_many p s cause); fit = λ s f. absurd (not_many p s cause) }
-sim_completes p said old new SimEnds.Events faults cause = simulable_ends p old 9 (record { addition = cause.addition; can = cause.can }) (λ u. absurd (not_fit p old.files u cause.inputs)) (λ f. inr (inr (inl refl)))
-sim_completes p said old new SimEnds.Turns faults cause = simulable_ends p old 10 (record { addition = cause.addition; can = cause.can }) (λ u. absurd (not_fit p old.files u cause.inputs)) (λ f. inr (inl refl))
+sim_completes : (p : Plan) (said : SimWords) (old new : View) (end : SimEnded) → NoFault old new → SimCause p said old new end → EndsBySimulation p said old (status_of (end_of end))
+sim_completes p said old new SimEnds.NotBuilt faults cause = record {
+  other = λ none. inl refl;
+  many = λ m. absurd (cause m.addition m.is);
+  unfit = λ s u. absurd (cause s.addition s.can.is);
+  fit = λ s f none. absurd (cause s.addition s.can.is);
+  limit = λ s f. absurd (cause s.addition s.can.is);
+}
+sim_completes p said old new SimEnds.Keys faults cause = record {
+  other = λ none. absurd (none cause.addition cause.is);
+  many = λ m. inl refl;
+  unfit = λ s u. absurd (not_many p s cause);
+  fit = λ s f none. absurd (not_many p s cause);
+  limit = λ s f. absurd (not_many p s cause);
+}
+sim_completes p said old new SimEnds.Events faults cause = limit_ends p said old cause
+sim_completes p said old new SimEnds.Turns faults cause = simulable_ends p said old 10 (record { addition = cause.addition; can = cause.can }) (λ u. absurd (not_fit p old.files u cause.inputs)) (λ f. inr (inl refl))
 sim_completes p said old new (SimEnds.Ran end) faults cause = sim_run_completes p said old new end faults cause
 
 -- ## The end of the work on a job
@@ -230,12 +264,11 @@ text_memory job work old = record { refused = λ none. inr (inr refl); runs = λ
 
 -- ## The command that the words ask for
 
--- all that is said of the end of a simulation is said of it whatever its words
-other_words : (job other : List ℕ) (said read : SimWords) (old : View) (status : ℕ) → job ≡ other → EndsByText job (Simulation said) old status → EndsByText other (Simulation read) old status
-other_words job other said read old status same ends =
+simulated : (job other : List ℕ) (said read : SimWords) (old : View) (status : ℕ) → job ≡ other → said ≡ read → EndsByText job (Simulation said) old status → EndsByText other (Simulation read) old status
+simulated job other said read old status same also ends =
     let H : List ℕ → Type 0 = λ j. EndsByText j (Simulation said) old status in
-    let moved : EndsByText other (Simulation said) old status = subst H same ends in
-    record { refused = moved.refused; runs = moved.runs }
+    let W : SimWords → Type 0 = λ w. EndsByText other (Simulation w) old status in
+    subst W also (subst H same ends)
 
 not_both : (words : List (List ℕ)) (name job : List ℕ) → words ≡ name ∷ job ∷ [] → get_or words 0 [] ≡ codes "sim" → name ≡ codes "sim"
 not_both words name job is first = ap (λ w. get_or w 0 []) (sym is) ∙ first
@@ -258,7 +291,7 @@ same_command words (Run a) (Run b) old status is also ends = evaluated a b old s
 same_command words (Plain a) (Plain b) old status is also ends = evaluated a b old status (same_evaluation words (codes "plain") (codes "plain") a b is also) ends
 same_command words (Run a) (Plain b) old status is also ends = evaluated a b old status (same_evaluation words (codes "run") (codes "plain") a b is also) ends
 same_command words (Plain a) (Run b) old status is also ends = evaluated a b old status (same_evaluation words (codes "plain") (codes "run") a b is also) ends
-same_command words (Sim a said) (Sim b read) old status is also ends = other_words a b said read old status (sym is.1 ∙ also.1) ends
+same_command words (Sim a said) (Sim b read) old status is also ends = simulated a b said read old status (sym is.1 ∙ also.1) (one_sim words said read is.0 also.0) ends
 same_command words (Run a) (Sim b read) old status is also ends = absurd (run_or_sim (not_both words (codes "run") a is also.0.command))
 same_command words (Plain a) (Sim b read) old status is also ends = absurd (plain_or_sim (not_both words (codes "plain") a is also.0.command))
 same_command words (Sim a said) (Run b) old status is also ends = absurd (run_or_sim (not_both words (codes "run") b also is.0.command))

@@ -14,9 +14,8 @@ use Rattle.addition_job.specs.Chunks.{added}
 use Rattle.job_run.specs.declared.ends.Ended.{Ended}
 use Rattle.job_run.specs.declared.ends.Ended.TheVariants.{Done, File, Zero, ReadFault, WriteFault, OutOfMemory}
 use Rattle.job_run.specs.Inputs.{InputsFit}
-use Rattle.job_run.specs.Loading.{IsEarly, IsOfReading}
 use Rattle.job_run.specs.Plan.{Plan, Saved, names_saved, nodes_saved}
-use Rattle.job_run.specs.Runs.{Cause as RunCause, HasValues, RunsPlan, lines_of as run_lines}
+use Rattle.job_run.specs.Runs.{HasValues, RunsPlan, lines_of as run_lines}
 use Rattle.job_run.specs.Saving.{SavesAll, SavesSome}
 use Rattle.job_run.specs.Values.{OnInputs, HasElements, MeetsNone, cells_at, file_of, values_of}
 use Rattle.job_run.proofs.Running.{Evaluated, always, done_runs, early_runs, files_known, on_inputs, print_fault_runs, write_fault_runs, write_memory_runs}
@@ -24,8 +23,8 @@ use Rattle.sim_words.specs.declared.sim.SimWords.{SimWords}
 use Rattle.sim_run.specs.declared.ends.SimEnded.{SimEnded}
 use Rattle.sim_run.specs.declared.ends.SimEnded.TheVariants.{NotBuilt, Keys, Events, Turns, Ran}
 use Rattle.sim_run.specs.declared.form.Addition.{Addition}
-use Rattle.sim_run.specs.Ends.{RanCause, RanPrints, SimulatesPlan}
-use Rattle.sim_run.specs.Forms.{CanRun, HasManyChunks, IsAddition, IsSimulable}
+use Rattle.sim_run.specs.Ends.{PrintsServed, RanCause, RanPrints, SimulatesPlan}
+use Rattle.sim_run.specs.Forms.{CanRun, IsAddition}
 use Rattle.sim_run.specs.Serving.{IsStopped}
 use Rattle.sim_run.specs.Simulated.{IsOutOfEvents, IsOutOfTurns, IsServed, SimulatesTo}
 use Rattle.sim_run.specs.Texts.{lines_of}
@@ -56,8 +55,16 @@ pub record IsRead (p : Plan) (old mid : View) (inputs : List Array) : Type 0 whe
   pub fit : InputsFit p old.files
   pub blocks : OnInputs p old.files (λ blocks. blocks ≡ inputs)
 
+-- the input's array, as the addition has it
+pub record IsInput (a : Addition) (array : Array) : Type 0 where
+  pub shape_is : array.shape ≡ a.count ∷ []
+  pub count_is : length array.cells ≡ a.count
+
 on_blocks : (p : Plan) (old mid : View) (inputs : List Array) (P : List Array → Type 0) → IsRead p old mid inputs → P inputs → OnInputs p old.files P
 on_blocks p old mid inputs P r holds = on_inputs p old.files (λ blocks. blocks ≡ inputs) P (λ blocks same. subst P (sym same) holds) r.blocks
+
+told_cells : (p : Plan) (old mid : View) (inputs : List Array) → IsRead p old mid inputs → OnInputs p old.files (λ blocks. (block_at blocks 0).cells ≡ (block_at inputs 0).cells)
+told_cells p old mid inputs r = on_blocks p old mid inputs (λ blocks. (block_at blocks 0).cells ≡ (block_at inputs 0).cells) r refl
 
 nodes_are : (p : Plan) (a : Addition) → IsAddition p a → ThreeNodes p.nodes a
 nodes_are p a is = three_nodes p.nodes a is.nodes
@@ -83,12 +90,21 @@ evaluated p a old mid inputs is r = record {
 }
 
 -- the simulation came to no end of its own
-stopped : (p : Plan) (s : SimWords) (a : Addition) (old mid : View) (inputs : List Array) (P : Addition → SimWords → List ℤ → Type 0) → CanRun p a → IsRead p old mid inputs → P a s (block_at inputs 0).cells → SimulatesTo p s old.files P
-stopped p s a old mid inputs P can r ends = record { addition = a; can = can; inputs = r.fit; ends = on_blocks p old mid inputs (λ blocks. P a s (block_at blocks 0).cells) r ends }
+stopped : (p : Plan) (s : SimWords) (a : Addition) (old mid : View) (inputs : List Array) (P : Addition → SimWords → List ℤ → Type 0) → CanRun p a → IsRead p old mid inputs → IsInput a (block_at inputs 0) → P a s (block_at inputs 0).cells →
+    SimulatesTo p s old.files P
+stopped p s a old mid inputs P can r input ends = record {
+  addition = a;
+  can = can;
+  inputs = r.fit;
+  cells = (block_at inputs 0).cells;
+  count = input.count_is;
+  ends = ends;
+  told = told_cells p old mid inputs r;
+}
 
-pub out_of_turns : (p : Plan) (s : SimWords) (a : Addition) (old mid : View) (inputs : List Array) → CanRun p a → IsRead p old mid inputs → IsOutOfTurns a s (block_at inputs 0).cells → SimulatesPlan p s old mid Turns
-out_of_turns p s a old mid inputs can r ends = record {
-  cause = stopped p s a old mid inputs IsOutOfTurns can r ends;
+pub out_of_turns : (p : Plan) (s : SimWords) (a : Addition) (old mid : View) (inputs : List Array) → CanRun p a → IsRead p old mid inputs → IsInput a (block_at inputs 0) → IsOutOfTurns a s (block_at inputs 0).cells → SimulatesPlan p s old mid Turns
+out_of_turns p s a old mid inputs can r input ends = record {
+  cause = stopped p s a old mid inputs IsOutOfTurns can r input ends;
   saves = r.opens.held;
   looked = inl (record { held = r.opens.held; created = r.opens.created });
   others = λ n none. ap (λ f. f n) r.opens.held;
@@ -100,9 +116,9 @@ out_of_turns p s a old mid inputs can r ends = record {
   note_faults = r.only.note_faults;
 }
 
-pub out_of_events : (p : Plan) (s : SimWords) (a : Addition) (old mid : View) (inputs : List Array) → CanRun p a → IsRead p old mid inputs → IsOutOfEvents a s (block_at inputs 0).cells → SimulatesPlan p s old mid Events
-out_of_events p s a old mid inputs can r ends = record {
-  cause = stopped p s a old mid inputs IsOutOfEvents can r ends;
+pub out_of_events : (p : Plan) (s : SimWords) (a : Addition) (old mid : View) (inputs : List Array) → CanRun p a → IsRead p old mid inputs → IsInput a (block_at inputs 0) → IsOutOfEvents a s (block_at inputs 0).cells → SimulatesPlan p s old mid Events
+out_of_events p s a old mid inputs can r input ends = record {
+  cause = stopped p s a old mid inputs IsOutOfEvents can r input ends;
   saves = r.opens.held;
   looked = inl (record { held = r.opens.held; created = r.opens.created });
   others = λ n none. ap (λ f. f n) r.opens.held;
@@ -118,17 +134,17 @@ pub out_of_memory : (p : Plan) (s : SimWords) (old mid : View) (inputs : List Ar
 out_of_memory p s old mid inputs r = ran p s old mid mid.out OutOfMemory (early_runs p old mid OutOfMemory tt tt r.opens r.only) tt r.only.out
 
 -- the simulation gave no result
-pub stopped_runs : (p : Plan) (s : SimWords) (a : Addition) (old mid : View) (inputs : List Array) (end : SimEnded) → CanRun p a → IsRead p old mid inputs → IsStopped a s (block_at inputs 0).cells end → SimulatesPlan p s old mid end
-stopped_runs p s a old mid inputs NotBuilt can r ends = absurd ends
-stopped_runs p s a old mid inputs Keys can r ends = absurd ends
-stopped_runs p s a old mid inputs Events can r ends = out_of_events p s a old mid inputs can r ends
-stopped_runs p s a old mid inputs Turns can r ends = out_of_turns p s a old mid inputs can r ends
-stopped_runs p s a old mid inputs (Ran Done) can r ends = absurd ends
-stopped_runs p s a old mid inputs (Ran (File place error)) can r ends = absurd ends
-stopped_runs p s a old mid inputs (Ran (Zero node)) can r ends = absurd ends
-stopped_runs p s a old mid inputs (Ran ReadFault) can r ends = absurd ends
-stopped_runs p s a old mid inputs (Ran WriteFault) can r ends = absurd ends
-stopped_runs p s a old mid inputs (Ran OutOfMemory) can r ends = out_of_memory p s old mid inputs r
+pub stopped_runs : (p : Plan) (s : SimWords) (a : Addition) (old mid : View) (inputs : List Array) (end : SimEnded) → CanRun p a → IsRead p old mid inputs → IsInput a (block_at inputs 0) → IsStopped a s (block_at inputs 0).cells end → SimulatesPlan p s old mid end
+stopped_runs p s a old mid inputs NotBuilt can r input ends = absurd ends
+stopped_runs p s a old mid inputs Keys can r input ends = absurd ends
+stopped_runs p s a old mid inputs Events can r input ends = out_of_events p s a old mid inputs can r input ends
+stopped_runs p s a old mid inputs Turns can r input ends = out_of_turns p s a old mid inputs can r input ends
+stopped_runs p s a old mid inputs (Ran Done) can r input ends = absurd ends
+stopped_runs p s a old mid inputs (Ran (File place error)) can r input ends = absurd ends
+stopped_runs p s a old mid inputs (Ran (Zero node)) can r input ends = absurd ends
+stopped_runs p s a old mid inputs (Ran ReadFault) can r input ends = absurd ends
+stopped_runs p s a old mid inputs (Ran WriteFault) can r input ends = absurd ends
+stopped_runs p s a old mid inputs (Ran OutOfMemory) can r input ends = out_of_memory p s old mid inputs r
 
 -- ## The saved file
 
@@ -145,11 +161,6 @@ one_save (s ∷ t ∷ ts) e = absurd (omega (arith, ap length e))
 
 files_one : (p : Plan) (known : List Cells) → OneSave p.saves → files_known p known ≡ file_of (cells_at known 2) ∷ []
 files_one p known o = ap (map (λ (s : Saved). file_of (cells_at known s.node))) o.is ∙ ap (λ n. file_of (cells_at known n) ∷ []) o.node_is
-
--- the input's array, as the addition has it
-pub record IsInput (a : Addition) (array : Array) : Type 0 where
-  pub shape_is : array.shape ≡ a.count ∷ []
-  pub count_is : length array.cells ≡ a.count
 
 -- the file of the sum
 abbrev pub sum_file : Addition → List Array → List ℕ
@@ -187,9 +198,19 @@ saves_some p s a old mid inputs name report turns saved f some =
     let Q : List (List ℕ) → Type 0 = λ files. SavesSome (names_saved p) files mid.files saved in
     subst Q (sym (file_is p a inputs f.can.is f.input)) (subst P (sym f.name_is) some)
 
-served_all : (p : Plan) (s : SimWords) (a : Addition) (old mid : View) (inputs : List Array) (name : List ℕ) (report : Report) (turns : ℕ) → Finishes p s a old mid inputs name report turns →
-    OnInputs p old.files (λ blocks. IsServed a s (block_at blocks 0).cells report turns)
-served_all p s a old mid inputs name report turns f = on_blocks p old mid inputs (λ blocks. IsServed a s (block_at blocks 0).cells report turns) f.read f.served
+prints_served : (p : Plan) (s : SimWords) (a : Addition) (old mid : View) (inputs : List Array) (name : List ℕ) (report : Report) (turns : ℕ) (Printed : List ℕ → Type 0) → Finishes p s a old mid inputs name report turns → Printed (lines_of p report turns) →
+    PrintsServed p s old.files Printed
+prints_served p s a old mid inputs name report turns Printed f printed = record {
+  addition = a;
+  can = f.can;
+  cells = (block_at inputs 0).cells;
+  count = f.input.count_is;
+  report = report;
+  turns = turns;
+  served = f.served;
+  told = told_cells p old mid inputs f.read;
+  printed = printed;
+}
 
 -- standard output as it was, whatever is printed later
 with_out : (saved new : View) (out : Option (List ℕ)) → OnlyOut saved new → OnlyOut saved (record new { out = out })
@@ -208,14 +229,8 @@ pub save_failed : (p : Plan) (s : SimWords) (a : Addition) (old mid new : View) 
     SavesSome (name ∷ []) (sum_file a inputs ∷ []) mid.files new.files → OnlyWrites mid new → Rose mid.write_faults new.write_faults → SimulatesPlan p s old new (Ran WriteFault)
 save_failed p s a old mid new inputs name report turns f some only rose =
     let r : RunsPlan p old new WriteFault = write_fault_runs p old mid new (values_of p inputs) (evaluated p a old mid inputs f.can.is f.read) (saves_some p s a old mid inputs name report turns new.files f some) only rose in
-    ran p s old new new.out WriteFault r (record { addition = a; can = f.can }, r.cause.0, r.cause.1) (record {
-      addition = a;
-      can = f.can;
-      report = report;
-      turns = turns;
-      served = served_all p s a old mid inputs name report turns f;
-      printed = nothing_printed old.out new.out (lines_of p report turns) (only.out ∙ f.read.only.out);
-    })
+    ran p s old new new.out WriteFault r (record { addition = a; can = f.can }, r.cause.0, r.cause.1)
+    (prints_served p s a old mid inputs name report turns (PrintsPart old.out new.out) f (nothing_printed old.out new.out (lines_of p report turns) (only.out ∙ f.read.only.out)))
 
 pub print_failed : (p : Plan) (s : SimWords) (a : Addition) (old mid saved new : View) (inputs : List Array) (name : List ℕ) (report : Report) (turns : ℕ) → Finishes p s a old mid inputs name report turns →
     SavesAll (name ∷ []) (sum_file a inputs ∷ []) mid.files saved.files → OnlyWrites mid saved → OnlyOut saved new → PrintsPart saved.out new.out (lines_of p report turns) → Rose saved.print_faults new.print_faults →
@@ -225,14 +240,8 @@ print_failed p s a old mid saved new inputs name report turns f all writes print
     print_fault_runs p old mid saved (record new { out = saved.out }) (values_of p inputs) (evaluated p a old mid inputs f.can.is f.read) (saves_all p s a old mid inputs name report turns saved.files f all) writes
     (with_out saved new saved.out prints) (nothing_printed saved.out saved.out (run_lines p) refl) rose in
     let P : Option (List ℕ) → Type 0 = λ o. PrintsPart o new.out (lines_of p report turns) in
-    ran p s old new saved.out WriteFault r (record { addition = a; can = f.can }, r.cause.0, r.cause.1) (record {
-      addition = a;
-      can = f.can;
-      report = report;
-      turns = turns;
-      served = served_all p s a old mid inputs name report turns f;
-      printed = subst P (writes.out ∙ f.read.only.out) printed;
-    })
+    ran p s old new saved.out WriteFault r (record { addition = a; can = f.can }, r.cause.0, r.cause.1)
+    (prints_served p s a old mid inputs name report turns (PrintsPart old.out new.out) f (subst P (writes.out ∙ f.read.only.out) printed))
 
 pub done : (p : Plan) (s : SimWords) (a : Addition) (old mid saved new : View) (inputs : List Array) (name : List ℕ) (report : Report) (turns : ℕ) → Finishes p s a old mid inputs name report turns →
     SavesAll (name ∷ []) (sum_file a inputs ∷ []) mid.files saved.files → OnlyWrites mid saved → OnlyOut saved new → new.out ≡ followed_by saved.out (lines_of p report turns) → SimulatesPlan p s old new (Ran Done)
@@ -240,11 +249,5 @@ done p s a old mid saved new inputs name report turns f all writes prints printe
     let out : Option (List ℕ) = followed_by saved.out (run_lines p) in
     let r : RunsPlan p old (record new { out = out }) Done =
     done_runs p old mid saved (record new { out = out }) (values_of p inputs) (evaluated p a old mid inputs f.can.is f.read) (saves_all p s a old mid inputs name report turns saved.files f all) writes (with_out saved new out prints) refl in
-    ran p s old new out Done r (record { addition = a; can = f.can }, r.cause) (record {
-      addition = a;
-      can = f.can;
-      report = report;
-      turns = turns;
-      served = served_all p s a old mid inputs name report turns f;
-      printed = printed ∙ ap (λ o. followed_by o (lines_of p report turns)) (writes.out ∙ f.read.only.out);
-    })
+    ran p s old new out Done r (record { addition = a; can = f.can }, r.cause)
+    (prints_served p s a old mid inputs name report turns (λ lines. new.out ≡ followed_by old.out lines) f (printed ∙ ap (λ o. followed_by o (lines_of p report turns)) (writes.out ∙ f.read.only.out)))

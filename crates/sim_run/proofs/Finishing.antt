@@ -1,5 +1,5 @@
 -- A simulation that served the client, with what it was read from and what is saved of it.
-use Rattle.std.proofs.Common.{◌≡◌, ℕ, ℤ, pos, ◌<◌, List, [], ◌∷◌, map, length, get_or, string_bytes, ap, sym, ◌∙◌, subst, arith}
+use Rattle.std.proofs.Common.{◌≡◌, ℕ, ℤ, pos, List, [], ◌∷◌, map, length, get_or, string_bytes, ap, sym, ◌∙◌, subst, arith}
 use Rattle.io_edge.specs.Cause.{Rose}
 use Rattle.io_edge.specs.Content.{followed_by, PrintsPart}
 use Rattle.io_edge.specs.View.{View, Files, OnlyOut, OnlyWrites}
@@ -16,13 +16,15 @@ use Rattle.job_run.specs.Jobs.{saved_of}
 use Rattle.job_run.specs.Plan.{Plan, input_shapes, names_saved}
 use Rattle.job_run.specs.Saving.{SavesAll, SavesSome}
 use Rattle.sim_words.specs.declared.sim.SimWords.{SimWords}
+use Rattle.sim_run.specs.declared.ends.SimEnded.{SimEnded}
 use Rattle.sim_run.specs.declared.ends.SimEnded.TheVariants.{Ran}
 use Rattle.sim_run.specs.declared.form.Addition.{Addition}
 use Rattle.sim_run.specs.Ends.{SimulatesPlan}
 use Rattle.sim_run.specs.Forms.{CanRun}
+use Rattle.sim_run.specs.Serving.{IsStopped}
 use Rattle.sim_run.specs.Simulated.{IsServed}
 use Rattle.sim_run.specs.Texts.{lines_of}
-use Rattle.sim_run.proofs.Ending.{Finishes, IsInput, IsRead, done, print_failed, save_failed, save_starved, sum_file}
+use Rattle.sim_run.proofs.Ending.{Finishes, IsInput, IsRead, done, print_failed, save_failed, save_starved, stopped_runs, sum_file}
 use Rattle.sim_run.proofs.Reading.{is_input_of, one_input, one_shape}
 use Rattle.sim_run.proofs.Values.{three_nodes}
 
@@ -95,3 +97,9 @@ pub ends_done : (p : Plan) (s : SimWords) (a : Addition) (old mid saved new : Vi
     SimulatesPlan p s old new (Ran Done)
 ends_done p s a old mid saved new inputs cells name sum report turns lines f all writes prints is printed =
     done p s a old mid saved new inputs name report turns f.finishes (saved_all p s a old mid inputs cells name sum report turns saved.files f all) writes prints (printed ∙ ap (followed_by saved.out) is)
+
+-- the simulation of the elements that were read gave no result
+pub ends_stopped : (p : Plan) (s : SimWords) (a : Addition) (old mid : View) (inputs : List Array) (cells : List ℤ) (end : SimEnded) → CanRun p a → IsRead p old mid inputs → IsInput a (block_at inputs 0) → cells ≡ (block_at inputs 0).cells →
+    IsStopped a s cells end → SimulatesPlan p s old mid end
+ends_stopped p s a old mid inputs cells end can read input same stopped =
+    let P : List ℤ → Type 0 = λ cs. IsStopped a s cs end in stopped_runs p s a old mid inputs end can read input (subst P same stopped)

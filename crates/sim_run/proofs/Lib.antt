@@ -1,6 +1,7 @@
 pub mod Appending
 pub mod Ending
 pub mod Finishing
+pub mod OneSim
 pub mod Reading
 pub mod Simulating
 pub mod Values

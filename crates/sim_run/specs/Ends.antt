@@ -1,5 +1,5 @@
 -- How the simulated run of a job ends, why it ends so, and what it leaves.
-use Rattle.std.specs.Prelude.{◌≡◌, ◌⊎◌, ℕ, List}
+use Rattle.std.specs.Prelude.{◌≡◌, ◌⊎◌, ℕ, ℤ, List, length}
 use Rattle.io_edge.specs.Cause.{Rose}
 use Rattle.io_edge.specs.Content.{followed_by, PrintsPart}
 use Rattle.io_edge.specs.View.{View, Files, raised_by}
@@ -53,13 +53,17 @@ abbrev pub Created : List (List ℕ) → (List ℕ → ℕ) → (List ℕ → �
 Created names old new (Ran end) = RunCreated names old new end
 Created names old new end = new ≡ old
 
--- the lines of a simulation in which the client got all
+-- The lines of a simulation in which the client got all, over elements that are as many as the one input declares. Where a site tells what the input
+-- holds, they are these.
 pub record PrintsServed (p : Plan) (s : SimWords) (files : Files) (Printed : List ℕ → Type 0) : Type 0 where
   pub addition : Addition
   pub can : CanRun p addition
+  pub cells : List ℤ
+  pub count : length cells ≡ addition.count
   pub report : Report
   pub turns : ℕ
-  pub served : OnInputs p files (λ blocks. IsServed addition s (block_at blocks 0).cells report turns)
+  pub served : IsServed addition s cells report turns
+  pub told : OnInputs p files (λ blocks. (block_at blocks 0).cells ≡ cells)
   pub printed : Printed (lines_of p report turns)
 
 abbrev pub RanPrints : Plan → SimWords → View → View → Ended → Type 0

@@ -1,5 +1,5 @@
 -- What is simulated, and how that ends: the events that the number draws, over the addition of what the input holds.
-use Rattle.std.specs.Prelude.{◌≡◌, ◌≤◌, ℕ, ℤ, pos, List, None}
+use Rattle.std.specs.Prelude.{◌≡◌, ◌≤◌, ℕ, ℤ, pos, List, length, None}
 use Rattle.cluster_msgs.specs.declared.events.Report.{Report}
 use Rattle.cluster_rules.specs.World.{Job, World}
 use Rattle.cluster_rules.specs.Draw.{Plan as SimPlan, Served, OutOfTurns}
@@ -63,9 +63,13 @@ pub record IsOutOfEvents (a : Addition) (s : SimWords) (cells : List ℤ) : Type
   pub is : IsJobOf a cells job
   pub unfinished : IsUnfinished (running s job) (word_of s.settings.number) (sim_plan s) (wanted_keys a) event_limit
 
--- the inputs are as declared, and the simulation over what the one input holds came to this end
+-- The inputs are as declared, and the simulation came to this end, over elements that are as many as the one input declares. Where a site tells what
+-- the input holds, they are these.
 pub record SimulatesTo (p : Plan) (s : SimWords) (files : Files) (P : Addition → SimWords → List ℤ → Type 0) : Type 0 where
   pub addition : Addition
   pub can : CanRun p addition
   pub inputs : InputsFit p files
-  pub ends : OnInputs p files (λ blocks. P addition s (block_at blocks 0).cells)
+  pub cells : List ℤ
+  pub count : length cells ≡ addition.count
+  pub ends : P addition s cells
+  pub told : OnInputs p files (λ blocks. (block_at blocks 0).cells ≡ cells)

@@ -1,5 +1,6 @@
 //! Runs over files in memory. The expected bytes and counts are worked out by hand: one chunk has two keys and one edge, and
-//! one worker starts both of its tasks and asks nobody.
+//! one worker starts both of its tasks and asks nobody. That the number 7 draws 14 turns for them was counted by a model of
+//! the rules that was written apart from the program.
 ghost use Rattle.sim_run.specs.Simulated.{AreSettings};
 
 use crate::{SimEnded, simulate_job};
@@ -114,14 +115,12 @@ fn a_job_of_one_chunk_is_simulated(rt: HostRuntime) -> Result<(), Fail> {
         site.file("b.npy").ok_or("no file")?,
         file_of(alloc, "1", &[[5, 0, 0, 0, 0, 0, 0, 0]])?.as_slice()
     );
-    let thirteen = format!(in alloc; "{FRONT}13\nfinished by: simulation\n")?;
-    let fourteen = format!(in alloc; "{FRONT}14\nfinished by: simulation\n")?;
-    let printed = site.printed();
-    assert!(rt; printed == thirteen.as_bytes() || printed == fourteen.as_bytes());
+    let lines = format!(in alloc; "{FRONT}14\nfinished by: simulation\n")?;
+    assert_eq!(rt; site.printed(), lines.as_bytes());
 
     let (again, other) = run(&rt, &job, &file, 7)?;
     assert_eq!(rt; again, "done");
-    assert_eq!(rt; other.printed(), printed);
+    assert_eq!(rt; other.printed(), lines.as_bytes());
     Ok(())
 }
 

@@ -1,6 +1,6 @@
 use Rattle.std.proofs.Common.{[], ◌∷◌, ◌∙◌, ap, sym, Err}
 use Rattle.job_run.specs.Jobs.{plan_of}
-use Rattle.sim_run.proofs.Finishing.{as_many, ends_cut, ends_done, ends_failed, ends_starved, finishes, input_is, just_one, one_name}
+use Rattle.sim_run.proofs.Finishing.{as_many, ends_cut, ends_done, ends_failed, ends_starved, ends_stopped, finishes, input_is, just_one, one_name}
 use Rattle.sim_run.proofs.simulated.run_addition.Goals as goal
 
 pub input_cells-requires : goal.input_cells-requires
@@ -8,6 +8,15 @@ input_cells-requires g c = just_one (plan_of c.args.job.now) c.args.addition c.i
 
 pub serve-requires-clause-count : goal.serve-requires-clause-count
 serve-requires-clause-count g c = as_many (plan_of c.args.job.now) c.args.addition c.in-Ok.inputs.items c.input_cells.result.items c.requires.can c.nodes.ensures.sound c.in-Ok.ensures.shapes c.input_cells.ensures.cells c.input_cells.ensures.count
+
+pub returns-in-Err-serve : goal.returns-in-Err-serve
+returns-in-Err-serve g c =
+    let p = plan_of c.args.job.now in
+    let old = g.S.Site.view c.args.site.now in
+    let mid = g.S.Site.view c.load_inputs.new.site in
+    ends_stopped p c.args.words c.args.addition old mid c.in-Ok.inputs.items c.input_cells.result.items c.in-Err-serve.end c.requires.can
+    (record { opens = c.in-Ok.ensures.opens; opened = c.in-Ok.ensures.opened; only = c.in-Ok.ensures.only; fit = c.in-Ok.ensures.fit; blocks = c.in-Ok.ensures.blocks })
+    (input_is p c.args.addition c.in-Ok.inputs.items c.input_cells.result.items c.requires.can c.nodes.ensures.sound c.in-Ok.ensures.shapes c.input_cells.ensures.cells c.input_cells.ensures.count) c.input_cells.ensures.cells c.in-Err-serve.ensures.stopped
 
 pub returns-in-Err-Failed : goal.returns-in-Err-Failed
 returns-in-Err-Failed g c =
