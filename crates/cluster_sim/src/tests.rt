@@ -138,20 +138,23 @@ fn opened<J: JobSpec>(alloc: Global, job: J, feed: J::Feed) -> Result<World<J>, 
     World::new(alloc, job, feed, 1, 11)
 }
 
-/// The simulation of a world whose client wants one key.
+/// The simulation of a world whose client wants one key, and the block that it has got then.
 fn played<J: JobSpec>(
     alloc: Global,
     world: &mut World<J>,
     key: u32,
     plan: &SimPlan,
     number: u64,
-) -> Result<SimEnd, SimError>
+) -> Result<(SimEnd, Option<J::Block>), SimError>
+where
+    J::Block: Copy,
     requires opening { IsOpening J.operation world.old }
     requires key { key < key_count (setting world.old).shape }
     requires plan { IsPlan (plan_of plan.now) }
 {
     let wanted = only(alloc, key)?;
-    simulate(alloc, world, number, plan, &wanted)
+    let end = simulate(alloc, world, number, plan, &wanted)?;
+    Ok((end, world.got(1, key).copied()))
 }
 
 /// The simulation of a job of which one key is wanted.
@@ -162,7 +165,9 @@ fn simulated<J: JobSpec>(
     key: u32,
     plan: &SimPlan,
     number: u64,
-) -> Result<SimEnd, SimError>
+) -> Result<(SimEnd, Option<J::Block>), SimError>
+where
+    J::Block: Copy,
     requires feed { J.feed_fits job feed }
     requires key { key < key_count (J.graph job) }
     requires plan { IsPlan (plan_of plan.now) }
@@ -172,7 +177,7 @@ fn simulated<J: JobSpec>(
 }
 
 /// One key on one worker.
-fn of_one_key(alloc: Global, number: u64) -> Result<SimEnd, SimError> {
+fn of_one_key(alloc: Global, number: u64) -> Result<(SimEnd, Option<u64>), SimError> {
     let shape = one_key(alloc)?;
     simulated(
         alloc,
@@ -184,44 +189,8 @@ fn of_one_key(alloc: Global, number: u64) -> Result<SimEnd, SimError> {
     )
 }
 
-/// One worker runs the first key in this world, and the client gets its block.
-fn block_in<J: JobSpec>(
-    alloc: Global,
-    world: &mut World<J>,
-    number: u64,
-) -> Result<Option<J::Block>, SimError>
-where
-    J::Block: Copy,
-    requires opening { IsOpening J.operation world.old }
-    requires key { 0 < key_count (setting world.old).shape }
-{
-    played(alloc, world, 0, &alone(alloc), number)?;
-    Ok(world.got(1, 0).copied())
-}
-
-/// The block of a job's first key.
-fn first_block<J: JobSpec>(
-    alloc: Global,
-    job: J,
-    feed: J::Feed,
-    number: u64,
-) -> Result<Option<J::Block>, SimError>
-where
-    J::Block: Copy,
-    requires feed { J.feed_fits job feed }
-    requires key { 0 < key_count (J.graph job) }
-{
-    let mut world = opened(alloc, job, feed)?;
-    block_in(alloc, &mut world, number)
-}
-
-fn block_of_one_key(alloc: Global, number: u64) -> Result<Option<u64>, SimError> {
-    let shape = one_key(alloc)?;
-    first_block(alloc, Quotients { shape, first: 5 }, Still, number)
-}
-
 /// Two keys, of which the first is 4 or 0, on one worker.
-fn of_two_keys(alloc: Global, first: u64, number: u64) -> Result<SimEnd, SimError> {
+fn of_two_keys(alloc: Global, first: u64, number: u64) -> Result<(SimEnd, Option<u64>), SimError> {
     let shape = two_keys(alloc)?;
     simulated(
         alloc,
@@ -234,7 +203,7 @@ fn of_two_keys(alloc: Global, first: u64, number: u64) -> Result<SimEnd, SimErro
 }
 
 /// Two keys on two workers, of which one dies.
-fn of_a_loss(alloc: Global, number: u64) -> Result<SimEnd, SimError> {
+fn of_a_loss(alloc: Global, number: u64) -> Result<(SimEnd, Option<u64>), SimError> {
     let shape = two_keys(alloc)?;
     simulated(
         alloc,
@@ -280,8 +249,9 @@ fn counts_of(end: &SimEnd) -> Counts {
 // The want, the task, its start, its finish, what is said of it, the news for the client, the ask, its service, the answer.
 #[test]
 fn one_key_takes_nine_turns(rt: HostRuntime) -> Result<(), Fail> {
-    let end = of_one_key(rt.alloc(), 0)?;
+    let (end, block) = of_one_key(rt.alloc(), 0)?;
     assert_eq!(rt; end.turns, 9);
+    assert_eq!(rt; block, Some(5));
     assert_eq!(rt;
         counts_of(&end),
         Counts {
@@ -297,14 +267,9 @@ fn one_key_takes_nine_turns(rt: HostRuntime) -> Result<(), Fail> {
 
 #[test]
 fn another_number_takes_as_many_turns(rt: HostRuntime) -> Result<(), Fail> {
-    let end = of_one_key(rt.alloc(), u64::MAX)?;
+    let (end, block) = of_one_key(rt.alloc(), u64::MAX)?;
     assert_eq!(rt; end.turns, 9);
-    Ok(())
-}
-
-#[test]
-fn the_client_gets_the_block_of_one_key(rt: HostRuntime) -> Result<(), Fail> {
-    assert_eq!(rt; block_of_one_key(rt.alloc(), 0)?, Some(5));
+    assert_eq!(rt; block, Some(5));
     Ok(())
 }
 
@@ -312,32 +277,36 @@ fn the_client_gets_the_block_of_one_key(rt: HostRuntime) -> Result<(), Fail> {
 // program.
 #[test]
 fn two_keys_take_fourteen_turns(rt: HostRuntime) -> Result<(), Fail> {
-    let end = of_two_keys(rt.alloc(), 4, 7)?;
+    let (end, block) = of_two_keys(rt.alloc(), 4, 7)?;
     assert_eq!(rt; end.turns, 14);
+    assert_eq!(rt; block, Some(25));
     assert_eq!(rt; counts_of(&end), of_two(2, 0));
     Ok(())
 }
 
 #[test]
 fn two_keys_take_thirteen_turns(rt: HostRuntime) -> Result<(), Fail> {
-    let end = of_two_keys(rt.alloc(), 4, 1)?;
+    let (end, block) = of_two_keys(rt.alloc(), 4, 1)?;
     assert_eq!(rt; end.turns, 13);
+    assert_eq!(rt; block, Some(25));
     assert_eq!(rt; counts_of(&end), of_two(2, 0));
     Ok(())
 }
 
 #[test]
 fn a_zero_divisor_is_blamed(rt: HostRuntime) -> Result<(), Fail> {
-    let end = of_two_keys(rt.alloc(), 0, 7)?;
+    let (end, block) = of_two_keys(rt.alloc(), 0, 7)?;
     assert_eq!(rt; end.zero, Some(1));
+    assert_eq!(rt; block, None);
     Ok(())
 }
 
 // The first worker's block is lost with it, so the second runs both keys: by the same model in 18 or 19 turns.
 #[test]
 fn a_lost_worker_costs_a_task(rt: HostRuntime) -> Result<(), Fail> {
-    let end = of_a_loss(rt.alloc(), 7)?;
+    let (end, block) = of_a_loss(rt.alloc(), 7)?;
     assert_eq!(rt; end.turns, 19);
+    assert_eq!(rt; block, Some(25));
     assert_eq!(rt; counts_of(&end), of_two(3, 1));
     assert!(rt; end.report.workers.as_slice() == [(1, 1), (2, 2)].as_slice());
     Ok(())
@@ -345,8 +314,9 @@ fn a_lost_worker_costs_a_task(rt: HostRuntime) -> Result<(), Fail> {
 
 #[test]
 fn a_lost_worker_costs_a_task_in_eighteen_turns(rt: HostRuntime) -> Result<(), Fail> {
-    let end = of_a_loss(rt.alloc(), 9)?;
+    let (end, block) = of_a_loss(rt.alloc(), 9)?;
     assert_eq!(rt; end.turns, 18);
+    assert_eq!(rt; block, Some(25));
     assert_eq!(rt; counts_of(&end), of_two(3, 1));
     assert!(rt; end.report.workers.as_slice() == [(1, 1), (2, 2)].as_slice());
     Ok(())
