@@ -1,6 +1,6 @@
 -- The simulation of an addition.
-use Rattle.std.proofs.Common.{◌≡◌, ℕ, ℤ, ◌+◌, ◌*◌, ◌<◌, true, List, [], ◌∷◌, length, get_or, refl, ap, sym, ◌∙◌, subst, arith, Option, Some, None, is_some, Err}
-use Rattle.std.specs.Prelude.{◌↔◌, ◌==◌}
+use Rattle.std.proofs.Common.{◌≡◌, ℕ, ℤ, ◌+◌, ◌*◌, ◌<◌, true, List, [], ◌∷◌, length, get_or, refl, ap, sym, ◌∙◌, subst, arith, Option, Some, None, is_some, Result, Ok, Err}
+use Rattle.std.specs.Prelude.{◌↔◌, ◌==◌, IfErr, IsErrAnd}
 use Rattle.std.proofs.lemmas.Bool.{eq-eqb, eqb-true, false≢true}
 use Rattle.std.proofs.lemmas.List.Folds.{Any-from_list_any, list_any_at}
 use Rattle.std.proofs.lemmas.List.FromFn.{get_or-map-range_with_len, length-map-range_with_len}
@@ -148,6 +148,10 @@ is_served a words cells j report turns is count found = record {
   world = found.world;
   reported = as_defined a cells j (λ keys. IsReported (running words j) (word_of words.settings.number) (sim_plan words) keys (Served turns None) found.world report) is count found.reported;
 }
+
+pub if_err : {A E : Type 0} (r : Result A E) (P Q : E → Type 0) → IsErrAnd r P → ((e : E) → P e → Q e) → IfErr r Q
+if_err (Ok x) P Q is f = tt
+if_err (Err e) P Q is f = f e is
 
 pub is_stopped : (a : Addition) (words : SimWords) (cells : List ℤ) (j : JobOf) (end : SimEnded) → IsJobOf a cells j → length cells ≡ a.count →
     IsHalted (running words j) (word_of words.settings.number) (sim_plan words) (additions (chunk_total j)) end → IsStopped a words cells end

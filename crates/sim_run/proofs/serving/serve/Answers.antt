@@ -1,7 +1,9 @@
-use Rattle.std.proofs.Common.{◌≤◌, ◌∙◌, ℕ, ap₂, arith, sym, subst, w64}
+use Rattle.std.proofs.Common.{◌≡◌, ◌≤◌, ◌∙◌, ℕ, ap₂, arith, sym, subst, w64}
 use Rattle.std.proofs.lemmas.Int.{to_z_pos}
 use Rattle.addition_job.specs.Chunks.{added, chunks_in as chunk_count}
-use Rattle.sim_run.proofs.Simulating.{is_served, plan_is}
+use Rattle.sim_run.specs.declared.ends.SimEnded.{SimEnded}
+use Rattle.sim_run.specs.Serving.{IsStopped}
+use Rattle.sim_run.proofs.Simulating.{if_err, is_served, is_stopped, plan_is}
 use Rattle.sim_run.proofs.serving.serve.Goals as goal
 
 pub new-requires-clause-short : goal.new-requires-clause-short
@@ -26,6 +28,13 @@ simulate_addition-requires-clause-plan c = plan_is c.args.words c.requires.words
 
 pub simulate_addition-requires-clause-job : goal.simulate_addition-requires-clause-job
 simulate_addition-requires-clause-job c = c.in_ok-job.ensures.job
+
+pub returns-in_err-found-clause-stopped : goal.returns-in_err-found-clause-stopped
+returns-in_err-found-clause-stopped c =
+    let P : SimEnded → Type 0 = IsStopped c.args.addition c.args.words c.args.cells.items in
+    let stopped : P c.in_err-found.field-0.0 = is_stopped c.args.addition c.args.words c.args.cells.items c.in_ok-job.job c.in_err-found.field-0.0
+    (record { is = c.in_ok-job.ensures.job; cells_are = c.in_ok-job.ensures.cells; size_is = c.in_ok-job.ensures.size; addend_is = c.in_ok-job.ensures.addend ∙ to_z_pos w64 c.args.addition.addend c.requires.within.added }) c.requires.count c.in_err-found.ensures.halted in
+    if_err c.from_residual-in_err-found.result (λ e. e ≡ c.in_err-found.field-0.0) P c.from_residual-in_err-found.ensures.1 (λ e same. subst P (sym same) stopped)
 
 pub returns-clause-served : goal.returns-clause-served
 returns-clause-served c =
