@@ -24,7 +24,7 @@ use Rattle.sim_run.specs.Ends.{Cause as SimCause}
 use Rattle.sim_run.specs.Forms.{HasManyChunks, IsAddition, IsSimulable, chunks_in, operations}
 use Rattle.sim_run.specs.Simulated.{IsOutOfEvents, SimulatesTo}
 use Rattle.sim_run.specs.declared.form.Addition.{Addition}
-use Rattle.sim_run.proofs.OneSim.{one_sim}
+use Rattle.sim_words.proofs.Saying.{one_sim}
 use Rattle.dask_top.specs.declared.answer.End.TheVariants.{Words, Job, Limit, NotBuilt, Keys, Events, Turns, Ran}
 use Rattle.dask_top.specs.Answers.{Answers, Cause, Completes, Does, EndsByInputs, EndsBySimulation, EndsByText, EndsByWork, MeetNoZero, MeetZero, NoFault, Performs, RefusalCause, WorkCause, status_of}
 use Rattle.dask_top.specs.Commands.{Command, Run, Plain, Sim, Asks, Asked, IsAsked, Known, Unread, Work, Evaluation, Simulation, job_of, work_of}

@@ -1,7 +1,6 @@
 pub mod Appending
 pub mod Ending
 pub mod Finishing
-pub mod OneSim
 pub mod Reading
 pub mod Simulating
 pub mod Values

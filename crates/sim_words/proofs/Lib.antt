@@ -5,4 +5,4 @@ mod Readings
 mod Places
 mod Crews
 mod Walking
-mod Saying
+pub mod Saying

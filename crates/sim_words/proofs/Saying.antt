@@ -1,13 +1,14 @@
 -- What the words say, in one way.
-use Rattle.std.proofs.Common.{◌≡◌, ℕ, inl, inr, List, codes, sym, subst, ◌∙◌, arith}
+use Rattle.std.proofs.Common.{◌≡◌, ℕ, ◌-◌, ◌^◌, inl, inr, List, [], codes, get_or, sym, subst, ◌∙◌, arith}
 use Rattle.std.specs.Prelude.{Result, Ok, Err, IfOk, IfErr}
 use Rattle.cluster_msgs.specs.declared.events.Item.{Item}
 use Rattle.sim_words.specs.Numbers.{IsNumber}
 use Rattle.sim_words.specs.Options.{value_at, AreOptions, HasNumber, IsFirst}
 use Rattle.sim_words.specs.Scripts.{IsScript, IsNoScript}
 use Rattle.sim_words.specs.Walks.{IsWalk}
-use Rattle.sim_words.specs.Words.{IsSettings, IsWhy, HasScript, IsNotGiven}
+use Rattle.sim_words.specs.Words.{IsSettings, IsSim, IsWhy, HasScript, IsNotGiven}
 use Rattle.sim_words.specs.declared.sim.Settings.{Settings}
+use Rattle.sim_words.specs.declared.sim.SimWords.{SimWords}
 use Rattle.sim_words.specs.declared.fail.WordsFail.{WordsFail}
 use Rattle.sim_words.specs.declared.fail.WordsFail.TheVariants.{Refused, OutOfMemory}
 use Rattle.sim_words.proofs.Places.{given_at, not_missing, not_given}
@@ -33,7 +34,7 @@ pub refused_or : {A : Type 0} (r : Result A WordsFail) (P Q : WordsFail → Type
 refused_or (Ok x) P Q f h = tt
 refused_or (Err e) P Q f h = f e h
 
--- one number, one setting, one script at most
+-- one number, one setting, one script, one simulation at most
 one_given : (words : List (List ℕ)) (name : List ℕ) (least most default m n : ℕ) → AreOptions words → HasNumber words name least most default m → HasNumber words name least most default n → m ≡ n
 one_given words name least most default m n o p q = elim p [
   | inl g ↦ elim q [
@@ -63,6 +64,15 @@ same_script words is js o p q = elim p [
     | inr other ↦ none.1 ∙ sym other.1
   ]
 ]
+
+pub one_sim : (words : List (List ℕ)) (a b : SimWords) → IsSim words a → IsSim words b → a ≡ b
+one_sim words a b p q =
+    let number : a.settings.number ≡ b.settings.number = one_number 0 (2 ^ 64 - 1) (get_or words 2 []) a.settings.number b.settings.number p.settings.number q.settings.number in
+    let workers : a.settings.workers ≡ b.settings.workers = same_workers words a.settings b.settings p.options p.settings q.settings in
+    let threads : a.settings.threads ≡ b.settings.threads = same_threads words a.settings b.settings p.options p.settings q.settings in
+    let saturation : a.settings.saturation ≡ b.settings.saturation = one_given words (codes "--saturation") 1 1000 11 a.settings.saturation b.settings.saturation p.options p.settings.saturation q.settings.saturation in
+    let script : a.script ≡ b.script = same_script words a.script b.script p.options p.script q.script in
+    λ i. record { settings = record { number = number i; workers = workers i; threads = threads i; saturation = saturation i }; script = script i }
 
 -- no script, or one that can't be followed
 pub none_said : (words : List (List ℕ)) (e : WordsFail) → IsNotGiven words e → IsWhy words e
