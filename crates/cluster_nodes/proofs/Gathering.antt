@@ -7,6 +7,7 @@ use Rattle.std.specs.declared.sync.Arc.{Arc}
 use Rattle.std.specs.declared.alloc.Global.{Global}
 use Rattle.cluster_msgs.specs.Jobs.{blocks_of}
 use Rattle.cluster_msgs.specs.declared.events.Asker.{Asker}
+use Rattle.cluster_msgs.specs.declared.events.Asker.TheVariants.{Worker, Client}
 use Rattle.cluster_rules.specs.Sched.{Facts}
 use Rattle.cluster_rules.specs.World.{Parcel, parcel_before, is_parcel, with_parcel, parcel_of, without_parcel}
 use Rattle.message_queues.specs.Transit.{parcel_of_transit, parcels, is_transit, with_transit, transit_of, without_transit, IsRequest, IsAnswer, AreRequests, AreAnswers}
@@ -15,7 +16,7 @@ use Rattle.value_laws.specs.Blocks.{Delivery}
 use Rattle.value_laws.specs.Moves.{block_among, delivery_of, with_delivery, without_delivery}
 use Rattle.cluster_nodes.specs.declared.nodes.Nodes.{Nodes}
 use Rattle.cluster_nodes.specs.Nodes.{block_at, delivery_at, world_of, blocks_in, cluster_of}
-use Rattle.cluster_nodes.specs.Turns.{first_at, among, served_by, answer_gone, gathered_turned, answer_arrived}
+use Rattle.cluster_nodes.specs.Turns.{IsRefusedBy, first_at, among, served_by, answer_gone, gathered_turned, answer_arrived}
 use Rattle.message_queues.proofs.QueueLemmas.{parcels-with, all_with, all_where}
 use Rattle.fact_rows.specs.Rows.{cell}
 use Rattle.message_queues.specs.Transit.{named_by}
@@ -162,6 +163,12 @@ module _ {B : Type 0} (f : Facts) (old : Nodes B) (a : Asker) (p n : ℕ) where
       h ∙ ap (λ (c : Cluster B). gathered_turned c a p n (named_by t.message) (among new)) (gone_is x s)
       ∙ ap (λ (g : ℕ → Option B). gathered_turned (answer_gone (cluster_of f old) a p n) a p n (named_by t.message) g) came
       ∙ ap (answer_arrived (cluster_of f old) a p n) (sym some)
+
+-- whether the asker takes what was found has nothing to do with what is under way
+pub refused_before : {B : Type 0} (f : Facts) (old : Nodes B) (x : List (InTransit B)) (a : Asker) (p n : ℕ) (found : List ℕ) → IsRefusedBy (world_of f (record old { answers = x })) a p n found → IsRefusedBy (world_of f old) a p n found
+unfolding world_of
+refused_before f old x (Worker i) p n found h = h
+refused_before f old x (Client c) p n found h = h
 
 -- what is left of what is under way, and one more answer, are of their kinds
 pub requests_left : {B : Type 0} (a : Asker) (p n : ℕ) (old new : List (InTransit B)) → new ≡ without_transit a p n old → AreRequests old → AreRequests new

@@ -5,3 +5,4 @@ pub mod Changing
 pub mod Gathering
 pub mod Keeping
 pub mod Starting
+pub mod Counting

@@ -51,6 +51,10 @@ pub all_more : {A : Type 0} (P : A → Type 0) (xs : List A) (v : A) → P v →
 all_more P [] v p h = (p, tt)
 all_more P (x ∷ xs) v p h = (h.0, all_more P xs v p h.1)
 
+pub all_weaker : {A : Type 0} (P Q : A → Type 0) → ((x : A) → P x → Q x) → (xs : List A) → AllByRecursion P xs → AllByRecursion Q xs
+all_weaker P Q f [] h = tt
+all_weaker P Q f (x ∷ xs) h = (f x h.0, all_weaker P Q f xs h.1)
+
 -- numbers
 not_below : (n : ℕ) → ltb n n ≡ false
 not_below n = grind (arith, nat_tests)

@@ -1,5 +1,5 @@
 -- What a `Nodes` keeps.
-use Rattle.std.specs.Prelude.{◌≡◌, ◌<◌, ℕ, true, false, List, length}
+use Rattle.std.specs.Prelude.{◌≡◌, ◌+◌, ◌<◌, ◌≤◌, ℕ, true, false, List, length}
 use Rattle.std.specs.List.{filter_map, AllByRecursion}
 use Rattle.cluster_msgs.specs.Shape.{Shape, key_count}
 use Rattle.cluster_msgs.specs.declared.events.Asker.{Asker}
@@ -19,6 +19,13 @@ AreWorkersOver g cores = AllByRecursion (λ c. (facts c).shape ≡ g) cores
 
 abbrev pub AreClientsOver : Shape → List CoreState → Type 0
 AreClientsOver g cores = AllByRecursion (λ c. (client_facts c).shape ≡ g) cores
+
+-- each core has taken at most this many events
+abbrev pub WorkersTookFew : ℕ → List Core → Type 0
+WorkersTookFew n cores = AllByRecursion (λ c. c.events ≤ n) cores
+
+abbrev pub ClientsTookFew : ℕ → List CoreState → Type 0
+ClientsTookFew n cores = AllByRecursion (λ c. c.events ≤ n) cores
 
 -- each list has a member for each worker, or for each client, and each row one for each key
 pub record IsSized {B : Type 0} (n : Nodes B) : Type 0 where
@@ -50,6 +57,10 @@ pub record IsSorted {B : Type 0} (n : Nodes B) : Type 0 where
 pub record IsNodes {B : Type 0} (n : Nodes B) : Type 0 where
   pub sized : IsSized n
   pub sorted : IsSorted n
+
+-- no worker and no client has taken more than this many events
+abbrev pub TookFew : {B : Type 0} → ℕ → Nodes B → Type 0
+TookFew b n = WorkersTookFew b n.workers.items × ClientsTookFew b n.clients.items
 
 -- nobody came, and nobody died
 pub record HasSameNodes {B : Type 0} (n m : Nodes B) : Type 0 where

@@ -1,5 +1,5 @@
 -- What one action of one node makes of a cluster: its world, and where its blocks stand.
-use Rattle.std.specs.Prelude.{ℕ, ◌==◌, List, [], ◌∷◌, Option, Some, None, cond, drop, filter}
+use Rattle.std.specs.Prelude.{◌≡◌, ℕ, ◌==◌, false, List, [], ◌∷◌, Option, Some, None, cond, drop, filter}
 use Rattle.std.specs.List.{filter_map}
 use Rattle.std.specs.declared.sync.Arc.{Arc}
 use Rattle.std.specs.declared.alloc.Global.{Global}
@@ -12,8 +12,8 @@ use Rattle.cluster_msgs.specs.declared.cores.ClientEvent.TheVariants.{FromSchedu
 use Rattle.cluster_msgs.specs.declared.events.Asker.{Asker}
 use Rattle.cluster_msgs.specs.declared.events.Asker.TheVariants.{Worker, Client}
 use Rattle.cluster_rules.specs.Functions.{put}
-use Rattle.cluster_rules.specs.WorkerStep.{worker_step}
-use Rattle.cluster_rules.specs.Client.{client_step}
+use Rattle.cluster_rules.specs.WorkerStep.{worker_step, worker_takes}
+use Rattle.cluster_rules.specs.Client.{client_step, client_takes}
 use Rattle.cluster_rules.specs.World.{World, Parcel, with_parcel, without_parcel}
 use Rattle.cluster_rules.specs.WorldStep.{at_worker, at_client, new_at, died}
 use Rattle.value_laws.specs.Blocks.{Delivery, Cluster}
@@ -87,6 +87,11 @@ served_by c a p n (Some q) =
 abbrev pub gathered_turned : {B : Type 0} → Cluster B → Asker → ℕ → ℕ → List ℕ → (ℕ → Option B) → Cluster B
 gathered_turned c (Worker i) p n found new = worker_turned c i (Gathered p n found) new
 gathered_turned c (Client x) p n found new = client_turned c x (ClientGathered p n found) new
+
+-- the asker doesn't take what was found
+abbrev pub IsRefusedBy : World → Asker → ℕ → ℕ → List ℕ → Type 0
+IsRefusedBy w (Worker i) p n found = worker_takes (w.workers i) (Gathered p n found) ≡ false
+IsRefusedBy w (Client x) p n found = client_takes (w.clients x) (ClientGathered p n found) ≡ false
 
 -- the answer of this ask is gone
 abbrev pub answer_gone : {B : Type 0} → Cluster B → Asker → ℕ → ℕ → Cluster B

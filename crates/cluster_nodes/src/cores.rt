@@ -1,13 +1,13 @@
 //! The cores of workers and clients, by number.
-ghost use Rattle.std.specs.Prelude.{◌≡◌, ◌&&◌, ◌<◌, ◌++◌, ℕ, List, Bool, Err, length, false, true, OnOk, OnErr};
+ghost use Rattle.std.specs.Prelude.{◌≡◌, ◌&&◌, ◌<◌, ◌≤◌, ◌+◌, ◌^◌, ◌++◌, ℕ, List, Bool, Err, length, false, true, OnOk};
 ghost use Rattle.cluster_msgs.specs.Shape.{Shape};
 ghost use Rattle.cluster_rules.specs.Functions.{put, put_pair};
 ghost use Rattle.cluster_rules.specs.Client.{client_step, client_takes};
 ghost use Rattle.cluster_rules.specs.WorkerStep.{worker_step, worker_takes};
 ghost use Rattle.fact_rows.specs.Rows.{read, cell, height, width};
-ghost use Rattle.worker_core.specs.Core.{facts};
+ghost use Rattle.worker_core.specs.Core.{facts, event_limit};
 ghost use Rattle.cluster_nodes.specs.Nodes.{workers_of, clients_of};
-ghost use Rattle.cluster_nodes.specs.Kept.{AreWorkersOver, AreClientsOver};
+ghost use Rattle.cluster_nodes.specs.Kept.{AreWorkersOver, AreClientsOver, WorkersTookFew, ClientsTookFew};
 
 use cluster_msgs::{ClientEvent, ClientOut, Instructions, Stop, WorkerEvent};
 use fact_rows::Grid;
@@ -17,7 +17,8 @@ use worker_core::WorkerCore;
 /// One worker takes an event. It is one that is alive, by any row of such marks.
 ///
 /// # Errors
-/// Those of the worker's core.
+/// `Refused` only where the event isn't possible or names a key that isn't there, `Spent` only where the core has taken all
+/// events that it takes, and `Memory` where no memory is left.
 pub fn worker_on(
     workers: &mut Vec<WorkerCore>,
     worker: u32,
@@ -32,6 +33,10 @@ pub fn worker_on(
     ensures possible { OnOk result ((g : Shape) (alive : List Bool) → read alive false worker ≡ true →
         worker_takes (workers_of g alive workers.old.items worker) event ≡ true) }
     ensures over { OnOk result ((g : Shape) → AreWorkersOver g workers.old.items → AreWorkersOver g workers.new.items) }
+    ensures few { OnOk result ((n : ℕ) → WorkersTookFew n workers.old.items → WorkersTookFew (n + 1) workers.new.items) }
+    ensures refused { result ≡ Err Stop.Refused → (g : Shape) (alive : List Bool) → read alive false worker ≡ true →
+        worker_takes (workers_of g alive workers.old.items worker) event ≡ false }
+    ensures spent { result ≡ Err Stop.Spent → (n : ℕ) → WorkersTookFew n workers.old.items → event_limit ≤ n }
     ensures length { length workers.new.items ≡ length workers.old.items }
 {
     workers[worker as usize].on(event, out)
@@ -40,7 +45,8 @@ pub fn worker_on(
 /// One client takes an event.
 ///
 /// # Errors
-/// Those of the client's core.
+/// `Refused` only where the event isn't possible or names a key that isn't there, `Spent` only where the core has taken all
+/// events that it takes, and `Memory` where no memory is left.
 pub fn client_on(
     clients: &mut Vec<ClientCore>,
     client: u32,
@@ -52,6 +58,9 @@ pub fn client_on(
     ensures out { OnOk result ((g : Shape) → out.new ≡ out.old ++ (client_step (clients_of g clients.old.items client) event).out) }
     ensures possible { OnOk result ((g : Shape) → client_takes (clients_of g clients.old.items client) event ≡ true) }
     ensures over { OnOk result ((g : Shape) → AreClientsOver g clients.old.items → AreClientsOver g clients.new.items) }
+    ensures few { OnOk result ((n : ℕ) → ClientsTookFew n clients.old.items → ClientsTookFew (n + 1) clients.new.items) }
+    ensures refused { result ≡ Err Stop.Refused → (g : Shape) → client_takes (clients_of g clients.old.items client) event ≡ false }
+    ensures spent { result ≡ Err Stop.Spent → (n : ℕ) → ClientsTookFew n clients.old.items → 2 ^ 40 ≤ n }
     ensures length { length clients.new.items ≡ length clients.old.items }
 {
     clients[client as usize].on(event, out)

@@ -1,11 +1,15 @@
 //! Messages that come to workers and clients, and those that the scheduler takes.
-ghost use Rattle.std.specs.Prelude.{◌≡◌, ◌<◌, true, false, drop, length, OnOk};
+ghost use Rattle.std.specs.Prelude.{◌≡◌, ◌<◌, ◌≤◌, ◌+◌, ◌^◌, ℕ, Err, true, false, drop, length, IsSomeAnd, OnOk};
 ghost use Rattle.cluster_rules.specs.Enabled.{front as first_of};
+ghost use Rattle.cluster_msgs.specs.declared.cores.WorkerEvent.TheVariants as to_worker;
+ghost use Rattle.cluster_msgs.specs.declared.cores.ClientEvent.TheVariants as to_client;
+ghost use Rattle.cluster_rules.specs.Client.{client_takes};
 ghost use Rattle.cluster_rules.specs.Sched.{Facts};
+ghost use Rattle.cluster_rules.specs.WorkerStep.{worker_takes};
 ghost use Rattle.fact_rows.specs.Rows.{read};
 ghost use Rattle.cluster_nodes.specs.Nodes.{world_of, cluster_of};
 ghost use Rattle.cluster_nodes.specs.Turns.{down_delivered, client_told, up_taken, from_client_taken};
-ghost use Rattle.cluster_nodes.specs.Kept.{IsNodes, HasSameNodes};
+ghost use Rattle.cluster_nodes.specs.Kept.{IsNodes, HasSameNodes, TookFew};
 
 use crate::nodes::Nodes;
 use crate::pops::{pop_down, pop_from_client, pop_to_client, pop_up};
@@ -15,7 +19,7 @@ impl<B: Drop> Nodes<B> {
     /// A worker takes the first message of the scheduler, if one waits.
     ///
     /// # Errors
-    /// Those of `worker_turn`.
+    /// Those of `worker_turn`, with `Refused` only where there is a message and the worker doesn't take it.
     pub fn deliver_down(&mut self, worker: u32) -> Result<(), Stop>
         requires nodes { IsNodes self.old }
         requires worker { worker < length self.old.workers.items }
@@ -23,6 +27,9 @@ impl<B: Drop> Nodes<B> {
         ensures cluster { OnOk result ((f : Facts) → cluster_of f self.new ≡ down_delivered (cluster_of f self.old) worker ((world_of f self.old).down worker)) }
         ensures nodes { OnOk result (IsNodes self.new) }
         ensures same { OnOk result (HasSameNodes self.old self.new) }
+        ensures few { OnOk result ((n : ℕ) → TookFew n self.old → TookFew (n + 1) self.new) }
+        ensures refused { result ≡ Err Stop.Refused → (f : Facts) → IsSomeAnd (first_of ((world_of f self.old).down worker)) (λ m. worker_takes ((world_of f self.old).workers worker) (to_worker.Down m) ≡ false) }
+        ensures spent { result ≡ Err Stop.Spent → (n : ℕ) → TookFew n self.old → 2 ^ 40 ≤ n }
     {
         match pop_down(&mut self.down, worker) {
             Some(message) => {
@@ -36,13 +43,16 @@ impl<B: Drop> Nodes<B> {
     /// A client takes the first message of the scheduler, if one waits.
     ///
     /// # Errors
-    /// Those of `client_turn`.
+    /// Those of `client_turn`, with `Refused` only where there is a message and the client doesn't take it.
     pub fn deliver_to_client(&mut self, client: u32) -> Result<(), Stop>
         requires nodes { IsNodes self.old }
         requires client { client < length self.old.clients.items }
         ensures cluster { OnOk result ((f : Facts) → cluster_of f self.new ≡ client_told (cluster_of f self.old) client ((world_of f self.old).to_client client)) }
         ensures nodes { OnOk result (IsNodes self.new) }
         ensures same { OnOk result (HasSameNodes self.old self.new) }
+        ensures few { OnOk result ((n : ℕ) → TookFew n self.old → TookFew (n + 1) self.new) }
+        ensures refused { result ≡ Err Stop.Refused → (f : Facts) → IsSomeAnd (first_of ((world_of f self.old).to_client client)) (λ m. client_takes ((world_of f self.old).clients client) (to_client.FromScheduler m) ≡ false) }
+        ensures spent { result ≡ Err Stop.Spent → (n : ℕ) → TookFew n self.old → 2 ^ 40 ≤ n }
     {
         match pop_to_client(&mut self.to_client, client) {
             Some(message) => {
@@ -61,6 +71,7 @@ impl<B: Drop> Nodes<B> {
         ensures cluster { (f : Facts) → cluster_of f self.new ≡ up_taken (cluster_of f self.old) worker }
         ensures nodes { IsNodes self.new }
         ensures same { HasSameNodes self.old self.new }
+        ensures few { (n : ℕ) → TookFew n self.old → TookFew n self.new }
     {
         pop_up(&mut self.up, worker)
     }
@@ -73,6 +84,7 @@ impl<B: Drop> Nodes<B> {
         ensures cluster { (f : Facts) → cluster_of f self.new ≡ from_client_taken (cluster_of f self.old) client }
         ensures nodes { IsNodes self.new }
         ensures same { HasSameNodes self.old self.new }
+        ensures few { (n : ℕ) → TookFew n self.old → TookFew n self.new }
     {
         pop_from_client(&mut self.from_client, client)
     }

@@ -1,5 +1,5 @@
 //! Requests that are served, and answers that arrive.
-ghost use Rattle.std.specs.Prelude.{◌≡◌, ◌<◌, ◌++◌, ◌∷◌, [], ℕ, true, false, cond, filter, length, IfOk, OnOk};
+ghost use Rattle.std.specs.Prelude.{◌≡◌, ◌<◌, ◌≤◌, ◌+◌, ◌^◌, ◌++◌, ◌∷◌, [], ℕ, Err, true, false, cond, filter, length, IfOk, IsSomeAnd, OnOk};
 ghost use Rattle.std.specs.List.{filter_map, cons_option};
 ghost use Rattle.std.specs.Option.{option_copied};
 ghost use Rattle.cluster_msgs.specs.Jobs.{blocks_of};
@@ -10,8 +10,8 @@ ghost use Rattle.message_queues.specs.Transit.{named_by};
 ghost use Rattle.worker_core.specs.Core.{facts};
 ghost use Rattle.value_laws.specs.Moves.{block_among, delivery_of};
 ghost use Rattle.cluster_nodes.specs.Nodes.{block_at, blocks_in, cluster_of, world_of};
-ghost use Rattle.cluster_nodes.specs.Turns.{among, answer_arrived, gathered_turned, served_by};
-ghost use Rattle.cluster_nodes.specs.Kept.{HasAsker, HasSameNodes, IsNodes};
+ghost use Rattle.cluster_nodes.specs.Turns.{IsRefusedBy, among, answer_arrived, gathered_turned, served_by};
+ghost use Rattle.cluster_nodes.specs.Kept.{HasAsker, HasSameNodes, IsNodes, TookFew};
 
 use crate::nodes::Nodes;
 use cluster_msgs::{Asker, ClientEvent, KeyList, Message, Peer, Sequence, Stop, WorkerEvent};
@@ -98,6 +98,7 @@ impl<B: Drop> Nodes<B> {
         ensures cluster { OnOk result ((f : Facts) → cluster_of f self.new ≡ served_by (cluster_of f self.old) asker peer ask (parcel_of asker peer ask (world_of f self.old).requests)) }
         ensures nodes { OnOk result (IsNodes self.new) }
         ensures same { OnOk result (HasSameNodes self.old self.new) }
+        ensures few { OnOk result ((n : ℕ) → TookFew n self.old → TookFew n self.new) }
     {
         match self.requests.take(asker, peer, ask) {
             None => Ok(()),
@@ -122,13 +123,16 @@ impl<B: Drop> Nodes<B> {
     /// An asker takes an answer that is under way, with its blocks.
     ///
     /// # Errors
-    /// Those of `worker_turn` and of `client_turn`.
+    /// Those of `worker_turn` and of `client_turn`, with `Refused` only where there is an answer and the asker doesn't take it.
     pub fn arrive(&mut self, asker: Asker, peer: u32, ask: u64) -> Result<(), Stop>
         requires nodes { IsNodes self.old }
         requires asker { HasAsker self.old asker }
         ensures cluster { OnOk result ((f : Facts) → cluster_of f self.new ≡ answer_arrived (cluster_of f self.old) asker peer ask (delivery_of asker peer ask (blocks_in self.old).carried)) }
         ensures nodes { OnOk result (IsNodes self.new) }
         ensures same { OnOk result (HasSameNodes self.old self.new) }
+        ensures few { OnOk result ((n : ℕ) → TookFew n self.old → TookFew (n + 1) self.new) }
+        ensures refused { result ≡ Err Stop.Refused → (f : Facts) → IsSomeAnd (parcel_of asker peer ask (world_of f self.old).answers) (λ q. IsRefusedBy (world_of f self.old) asker peer ask q.keys) }
+        ensures spent { result ≡ Err Stop.Spent → (n : ℕ) → TookFew n self.old → 2 ^ 40 ≤ n }
     {
         match self.answers.take(asker, peer, ask) {
             None => Ok(()),
@@ -161,6 +165,9 @@ impl<B: Drop> Nodes<B> {
         ensures cluster { OnOk result ((f : Facts) → cluster_of f self.new ≡ gathered_turned (cluster_of f self.old) asker peer ask found (among brought.items)) }
         ensures nodes { OnOk result (IsNodes self.new) }
         ensures same { OnOk result (HasSameNodes self.old self.new) }
+        ensures few { OnOk result ((n : ℕ) → TookFew n self.old → TookFew (n + 1) self.new) }
+        ensures refused { result ≡ Err Stop.Refused → (f : Facts) → IsRefusedBy (world_of f self.old) asker peer ask found }
+        ensures spent { result ≡ Err Stop.Spent → (n : ℕ) → TookFew n self.old → 2 ^ 40 ≤ n }
     {
         match asker {
             Asker::Worker(worker) => {

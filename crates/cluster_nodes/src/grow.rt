@@ -1,12 +1,12 @@
 //! Workers that join, die, are cut off and spill.
-ghost use Rattle.std.specs.Prelude.{◌≡◌, ◌<◌, ◌≤◌, ◌+◌, true, false, length, IfOk, OnOk};
+ghost use Rattle.std.specs.Prelude.{◌≡◌, ◌<◌, ◌≤◌, ◌+◌, ℕ, true, false, length, IfOk, OnOk};
 ghost use Rattle.cluster_msgs.specs.Shape.{key_count};
 ghost use Rattle.cluster_rules.specs.Sched.{Facts};
 ghost use Rattle.cluster_rules.specs.WorldStep.{cut_off, spill};
 ghost use Rattle.fact_rows.specs.Rows.{read};
 ghost use Rattle.cluster_nodes.specs.Nodes.{world_of, cluster_of};
 ghost use Rattle.cluster_nodes.specs.Turns.{in_world, joined, lost};
-ghost use Rattle.cluster_nodes.specs.Kept.{IsNodes, HasSameNodes};
+ghost use Rattle.cluster_nodes.specs.Kept.{IsNodes, HasSameNodes, TookFew};
 
 use crate::nodes::Nodes;
 use fact_rows::Row;
@@ -27,6 +27,7 @@ impl<B: Drop> Nodes<B> {
         ensures alive { OnOk result (read self.new.alive false (length self.old.workers.items) ≡ true) }
         ensures clients { OnOk result (length self.new.clients.items ≡ length self.old.clients.items) }
         ensures shape { self.new.shape ≡ self.old.shape }
+        ensures few { OnOk result ((n : ℕ) → TookFew n self.old → TookFew n self.new) }
     {
         let id = self.workers.len() as u32;
         let core = WorkerCore::new(self.alloc, id, threads, self.shape.copy()?)?;
@@ -50,6 +51,7 @@ impl<B: Drop> Nodes<B> {
         ensures workers { length self.new.workers.items ≡ length self.old.workers.items }
         ensures clients { length self.new.clients.items ≡ length self.old.clients.items }
         ensures shape { self.new.shape ≡ self.old.shape }
+        ensures few { (n : ℕ) → TookFew n self.old → TookFew n self.new }
     {
         self.alive.set(worker, false);
         self.spilled.fill_row(worker, false);
@@ -63,6 +65,7 @@ impl<B: Drop> Nodes<B> {
         ensures cluster { (f : Facts) → cluster_of f self.new ≡ in_world (cluster_of f self.old) (cut_off (world_of f self.old) worker) }
         ensures nodes { IsNodes self.new }
         ensures same { HasSameNodes self.old self.new }
+        ensures few { (n : ℕ) → TookFew n self.old → TookFew n self.new }
     {
         self.down.clear(worker);
         self.up.clear(worker);
@@ -76,6 +79,7 @@ impl<B: Drop> Nodes<B> {
         ensures cluster { (f : Facts) → cluster_of f self.new ≡ in_world (cluster_of f self.old) (spill (world_of f self.old) worker key) }
         ensures nodes { IsNodes self.new }
         ensures same { HasSameNodes self.old self.new }
+        ensures few { (n : ℕ) → TookFew n self.old → TookFew n self.new }
     {
         self.spilled.set(worker, key, true);
     }

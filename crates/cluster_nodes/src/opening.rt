@@ -10,7 +10,7 @@ ghost use Rattle.gather_client.specs.CoreState.{client_facts};
 ghost use Rattle.message_queues.specs.Queues.{waiting};
 ghost use Rattle.value_laws.specs.Blocks.{no_blocks};
 ghost use Rattle.cluster_nodes.specs.Nodes.{cluster_of};
-ghost use Rattle.cluster_nodes.specs.Kept.{IsNodes};
+ghost use Rattle.cluster_nodes.specs.Kept.{IsNodes, ClientsTookFew, TookFew};
 
 use crate::nodes::Nodes;
 use cluster_msgs::{GraphShape, Message};
@@ -24,6 +24,7 @@ use worker_core::WorkerCore;
 fn new_clients(alloc: Global, shape: &GraphShape, count: u32) -> Result<Vec<ClientCore>, AllocError>
     ensures length { IfOk result (λ cores. length cores.items ≡ count) }
     ensures new { IfOk result (λ cores. AllByRecursion (λ c. client_facts c ≡ new_client shape.now) cores.items) }
+    ensures few { IfOk result (λ cores. ClientsTookFew 0 cores.items) }
 {
     let mut cores = Vec::new(alloc);
     for _core in 0..count {
@@ -69,6 +70,7 @@ impl<B: Drop> Nodes<B> {
         ensures workers { IfOk result (λ n. length n.workers.items ≡ 1) }
         ensures clients { IfOk result (λ n. length n.clients.items ≡ clients + 1) }
         ensures shape { IfOk result (λ n. n.shape ≡ shape) }
+        ensures few { IfOk result (λ n. TookFew 0 n) }
     {
         let keys = shape.keys();
         let count = clients + 1;

@@ -1,12 +1,12 @@
 //! One worker or one client takes an event.
-ghost use Rattle.std.specs.Prelude.{◌≡◌, ◌<◌, true, false, length, OnOk};
+ghost use Rattle.std.specs.Prelude.{◌≡◌, ◌<◌, ◌≤◌, ◌+◌, ◌^◌, ℕ, Err, true, false, length, OnOk};
 ghost use Rattle.cluster_rules.specs.Sched.{Facts};
 ghost use Rattle.cluster_rules.specs.WorkerStep.{worker_takes};
 ghost use Rattle.cluster_rules.specs.Client.{client_takes};
 ghost use Rattle.fact_rows.specs.Rows.{read};
 ghost use Rattle.cluster_nodes.specs.Nodes.{world_of, cluster_of};
 ghost use Rattle.cluster_nodes.specs.Turns.{among, worker_turned, client_turned};
-ghost use Rattle.cluster_nodes.specs.Kept.{IsNodes, HasSameNodes};
+ghost use Rattle.cluster_nodes.specs.Kept.{IsNodes, HasSameNodes, TookFew};
 
 use crate::cores::{client_on, unspill, worker_on};
 use crate::nodes::Nodes;
@@ -20,7 +20,8 @@ impl<B: Drop> Nodes<B> {
     /// the blocks it keeps what it then counts.
     ///
     /// # Errors
-    /// Those of the worker's core, and `Memory` where no memory is left; what the nodes are then isn't said.
+    /// `Refused` only where the worker doesn't take the event, `Spent` only where a core has taken 2^40 events, and `Memory`
+    /// where no memory is left. What the nodes are then isn't said.
     pub fn worker_turn(
         &mut self,
         worker: u32,
@@ -34,6 +35,9 @@ impl<B: Drop> Nodes<B> {
         ensures possible { OnOk result ((f : Facts) → worker_takes ((world_of f self.old).workers worker) event ≡ true) }
         ensures nodes { OnOk result (IsNodes self.new) }
         ensures same { OnOk result (HasSameNodes self.old self.new) }
+        ensures few { OnOk result ((n : ℕ) → TookFew n self.old → TookFew (n + 1) self.new) }
+        ensures refused { result ≡ Err Stop.Refused → (f : Facts) → worker_takes ((world_of f self.old).workers worker) event ≡ false }
+        ensures spent { result ≡ Err Stop.Spent → (n : ℕ) → TookFew n self.old → 2 ^ 40 ≤ n }
     {
         let mut out = Instructions::new(self.alloc);
         worker_on(&mut self.workers, worker, event, &mut out)?;
@@ -50,7 +54,8 @@ impl<B: Drop> Nodes<B> {
     /// the blocks it keeps what it then has got.
     ///
     /// # Errors
-    /// Those of the client's core, and `Memory` where no memory is left; what the nodes are then isn't said.
+    /// `Refused` only where the client doesn't take the event, `Spent` only where a core has taken 2^40 events, and `Memory`
+    /// where no memory is left. What the nodes are then isn't said.
     pub fn client_turn(
         &mut self,
         client: u32,
@@ -63,6 +68,9 @@ impl<B: Drop> Nodes<B> {
         ensures possible { OnOk result ((f : Facts) → client_takes ((world_of f self.old).clients client) event ≡ true) }
         ensures nodes { OnOk result (IsNodes self.new) }
         ensures same { OnOk result (HasSameNodes self.old self.new) }
+        ensures few { OnOk result ((n : ℕ) → TookFew n self.old → TookFew (n + 1) self.new) }
+        ensures refused { result ≡ Err Stop.Refused → (f : Facts) → client_takes ((world_of f self.old).clients client) event ≡ false }
+        ensures spent { result ≡ Err Stop.Spent → (n : ℕ) → TookFew n self.old → 2 ^ 40 ≤ n }
     {
         let mut out = ClientOut::new(self.alloc);
         client_on(&mut self.clients, client, event, &mut out)?;

@@ -1,5 +1,5 @@
 -- Actions of the scheduler and of the nodes, as steps of a cluster.
-use Rattle.std.proofs.Common.{◌≡◌, ℕ, ◌+◌, ◌<◌, ◌≤◌, Bool, true, false, ◌&&◌, List, [], ◌∷◌, Option, Some, None, Result, Ok, Err, OnOk, refl, sym, ap, ◌∙◌, subst, arith, cond, drop, length, is_some, find}
+use Rattle.std.proofs.Common.{◌≡◌, ℕ, ◌+◌, ◌<◌, ◌≤◌, Bool, true, false, ◌&&◌, List, [], ◌∷◌, Option, Some, None, Result, Ok, Err, OnOk, is_ok, refl, sym, ap, ◌∙◌, subst, arith, cond, drop, length, is_some, find}
 use Rattle.std.specs.Prelude.{nat_lt, nat_le, slice_get}
 use Rattle.std.specs.List.{filter_map, AllByRecursion}
 use Rattle.std.proofs.lemmas.Bool.{false≢true, and_parts, ltb-true, ltb-false}
@@ -30,11 +30,11 @@ use Rattle.message_queues.specs.Queues.{waiting}
 use Rattle.value_laws.specs.Blocks.{Cluster}
 use Rattle.scheduler_core.specs.Cores.{Core, facts}
 use Rattle.cluster_nodes.specs.declared.nodes.Nodes.{Nodes}
-use Rattle.cluster_nodes.specs.Kept.{IsNodes, HasSameNodes, HasAsker}
+use Rattle.cluster_nodes.specs.Kept.{IsNodes, HasSameNodes, HasAsker, TookFew}
 use Rattle.cluster_nodes.specs.Nodes.{world_of, cluster_of, workers_of, worker_of, if_alive}
 use Rattle.cluster_world.specs.declared.state.State.{State}
 use Rattle.cluster_world.specs.Worlds.{world, setting}
-use Rattle.cluster_world.specs.Kept.{IsJoint, IsSame, IsKept}
+use Rattle.cluster_world.specs.Kept.{CoresTookFew, IsJoint, IsSame, IsKept}
 use Rattle.cluster_world.specs.Outcomes.{IsTurned}
 use Rattle.cluster_world.proofs.Lasts.{step_last, last_of}
 use Rattle.cluster_world.proofs.Telling.{alive_there, alive_is, client_number}
@@ -46,6 +46,20 @@ on_ok2 (Err e) f p q = tt
 pub on_ok3 : {A E P Q R S : Type 0} (r : Result A E) → (P → Q → R → S) → OnOk r P → OnOk r Q → OnOk r R → OnOk r S
 on_ok3 (Ok a) f p q s = f p q s
 on_ok3 (Err e) f p q s = tt
+
+pub on_ok4 : {A E P Q R S T : Type 0} (r : Result A E) → (P → Q → R → S → T) → OnOk r P → OnOk r Q → OnOk r R → OnOk r S → OnOk r T
+on_ok4 (Ok a) f p q s t = f p q s t
+on_ok4 (Err e) f p q s t = tt
+
+-- an answer that is Ok where another one is
+pub passed : {A B E F P : Type 0} (out : Result A E) (r : Result B F) → is_ok out ≡ is_ok r → OnOk r P → OnOk out P
+passed (Ok a) (Ok b) e p = p
+passed (Ok a) (Err x) e p = absurd (false≢true (sym e))
+passed (Err x) r e p = tt
+
+pub took : {B F P : Type 0} (r : Result B F) → true ≡ is_ok r → OnOk r P → P
+took (Ok b) e p = p
+took (Err x) e p = absurd (false≢true (sym e))
 
 -- what the exit of a `?` returns
 pub exits : {T E : Type 0} (P : Type 0) (Q : E → Type 0) (r : Result T E) → IsErrAnd r Q → OnOk r P
@@ -60,16 +74,16 @@ module _ {J B F : Type 0} where
   on_turned old new (Err x) c d e h = tt
 
   -- the nodes alone changed
-  pub nodes_turned : (old : State J B F) → IsJoint old → (n : Nodes B) (to : Facts → Cluster B) → ((f : Facts) → cluster_of f n ≡ to f) → IsNodes n → HasSameNodes old.nodes n → IsTurned old (record old { nodes = n }) (to (facts old.sched))
-  nodes_turned old j n to e k h = record { cluster = e (facts old.sched); nodes = k; shape = h.shape; workers = h.workers ∙ j.workers; clients = h.clients; more = omega (arith, h.workers) }
+  pub nodes_turned : (old : State J B F) → IsJoint old → (n : Nodes B) (to : Facts → Cluster B) → ((f : Facts) → cluster_of f n ≡ to f) → IsNodes n → HasSameNodes old.nodes n → ((b : ℕ) → TookFew b old.nodes → TookFew (b + 1) n) → IsTurned old (record old { nodes = n }) (to (facts old.sched))
+  nodes_turned old j n to e k h few = record { cluster = e (facts old.sched); nodes = k; shape = h.shape; workers = h.workers ∙ j.workers; clients = h.clients; more = omega (arith, h.workers); few = λ b f. (few b f.0, omega (arith, f.1)) }
 
   -- one turn after another
-  pub turned_after : (old mid new : State J B F) (c d : Cluster B) → mid.nodes.shape ≡ old.nodes.shape → length mid.nodes.clients.items ≡ length old.nodes.clients.items → length old.nodes.workers.items ≤ length mid.nodes.workers.items → c ≡ d → IsTurned mid new c → IsTurned old new d
-  turned_after old mid new c d g k l e t = record { cluster = t.cluster ∙ e; nodes = t.nodes; shape = t.shape ∙ g; workers = t.workers; clients = t.clients ∙ k; more = omega (arith, l, t.more) }
+  pub turned_after : (old mid new : State J B F) (c d : Cluster B) → mid.nodes.shape ≡ old.nodes.shape → length mid.nodes.clients.items ≡ length old.nodes.clients.items → length old.nodes.workers.items ≤ length mid.nodes.workers.items → ((b : ℕ) → CoresTookFew b old → CoresTookFew b mid) → c ≡ d → IsTurned mid new c → IsTurned old new d
+  turned_after old mid new c d g k l few e t = record { cluster = t.cluster ∙ e; nodes = t.nodes; shape = t.shape ∙ g; workers = t.workers; clients = t.clients ∙ k; more = omega (arith, l, t.more); few = λ b f. t.few b (few b f) }
 
-  pub on_after : {A E : Type 0} (old mid new : State J B F) (r : Result A E) (c d : Cluster B) → mid.nodes.shape ≡ old.nodes.shape → length mid.nodes.clients.items ≡ length old.nodes.clients.items → length old.nodes.workers.items ≤ length mid.nodes.workers.items → c ≡ d → OnOk r (IsTurned mid new c) → OnOk r (IsTurned old new d)
-  on_after old mid new (Ok a) c d g k l e t = turned_after old mid new c d g k l e t
-  on_after old mid new (Err x) c d g k l e t = tt
+  pub on_after : {A E : Type 0} (old mid new : State J B F) (r : Result A E) (c d : Cluster B) → mid.nodes.shape ≡ old.nodes.shape → length mid.nodes.clients.items ≡ length old.nodes.clients.items → length old.nodes.workers.items ≤ length mid.nodes.workers.items → ((b : ℕ) → CoresTookFew b old → CoresTookFew b mid) → c ≡ d → OnOk r (IsTurned mid new c) → OnOk r (IsTurned old new d)
+  on_after old mid new (Ok a) c d g k l few e t = turned_after old mid new c d g k l few e t
+  on_after old mid new (Err x) c d g k l few e t = tt
 
   pub kept_nodes : (old : State J B F) (n : Nodes B) → IsKept old (record old { nodes = n })
   kept_nodes old n = record { same = record { job = refl; course = refl; events = refl; clients = refl; setting = refl }; feed = refl }

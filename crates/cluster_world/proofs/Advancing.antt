@@ -83,6 +83,7 @@ whole_fed graph key_dims block_dims old f w = record {
     clients = w.joint.clients;
     counted = w.joint.counted;
     orderly = w.joint.orderly;
+    few = w.joint.few;
     tidy = w.joint.tidy;
   };
   low = w.low;
@@ -97,7 +98,7 @@ pub whole_advanced : {J B F : Type 0} (graph : J → Shape) (key_dims : J → �
 whole_advanced {J} {B} {F} graph key_dims block_dims tells op e old new r a w t job clients set n = by r a
   where
     by : (q : Result (Unit {0}) StepError) → Advances (LengthsFit key_dims block_dims old.job) tells op e q old new → IsWhole graph key_dims block_dims new
-    by (Ok x) a = whole_after graph key_dims block_dims old new a.0.outcome e w t (record { job = job; clients = clients; setting = set }) a.0.turned a.0.fits
+    by (Ok x) a = whole_after graph key_dims block_dims old new a.0.outcome e w t (record { job = job; clients = clients; setting = set }) a.2 a.0.turned a.0.fits
     by (Err Feed) a = subst (λ s. IsWhole graph key_dims block_dims s) (sym a) (whole_fed graph key_dims block_dims old new.feed w)
     by (Err OutOfMemory) a = absurd (n a)
     by (Err NotEnabled) a = absurd a

@@ -5,13 +5,13 @@ use Rattle.cluster_rules.specs.Sched.{Setting, Facts, sched_opening}
 use Rattle.cluster_rules.specs.World.{opening}
 use Rattle.scheduler_core.specs.Cores.{Core, facts}
 use Rattle.cluster_nodes.specs.declared.nodes.Nodes.{Nodes}
-use Rattle.cluster_nodes.specs.Kept.{IsNodes}
+use Rattle.cluster_nodes.specs.Kept.{IsNodes, TookFew}
 use Rattle.cluster_nodes.specs.Nodes.{cluster_of}
 use Rattle.value_laws.specs.Blocks.{setting_of, opening_cluster, no_blocks}
 use Rattle.cluster_world.specs.declared.state.State.{State}
 use Rattle.cluster_world.specs.declared.state.Course.TheVariants.{Going}
 use Rattle.cluster_world.specs.Worlds.{cluster, setting, IsReady, IsReached}
-use Rattle.cluster_world.specs.Kept.{IsWorld}
+use Rattle.cluster_world.specs.Kept.{CoresTookFew, IsWorld}
 use Rattle.cluster_world.specs.Begun.{IsBegun}
 use Rattle.cluster_world.proofs.Whole.{whole_opening}
 
@@ -45,16 +45,16 @@ module _ {J B F : Type 0} (job : J) (feed : F) (g : Shape) (clients saturation :
         clients = counted;
         whole = λ n. whole_opening graph key_dims block_dims s (λ k bs. None) (from_here (λ k bs. None)) here shape h.nodes
             (h.nodes_shape ∙ ap (λ (z : Setting). z.shape) (sym same_setting)) (h.workers ∙ ap (λ (f : Facts). f.last_worker + 1) (sym h.sched))
-            (h.clients_there ∙ ap (λ (z : Setting). z.clients + 1) (sym same_setting)) counted;
+            (h.clients_there ∙ ap (λ (z : Setting). z.clients + 1) (sym same_setting)) counted (subst (λ n. CoresTookFew n s) (sym h.events) h.few);
       }
 
 -- of its parts
 pub begun_by : {J B F : Type 0} (job : J) (feed : F) (g : Shape) (clients saturation : ℕ) (s : State J B F) (core : Core) (n : Nodes B)
     → s.job ≡ job → s.feed ≡ feed → s.clients ≡ clients → s.sched ≡ core → s.nodes ≡ n → s.course ≡ Going → s.events ≡ 0
-    → facts core ≡ sched_opening (setting_of g clients saturation) → IsNodes n → n.shape ≡ g → length n.workers.items ≡ 1 → length n.clients.items ≡ clients + 1
+    → facts core ≡ sched_opening (setting_of g clients saturation) → IsNodes n → n.shape ≡ g → length n.workers.items ≡ 1 → length n.clients.items ≡ clients + 1 → TookFew 0 n → core.taken ≡ 0
     → cluster_of (sched_opening (setting_of g clients saturation)) n ≡ record { world = opening (record { setting = setting_of g clients saturation; zero = λ k. false }); blocks = no_blocks }
     → IsBegun job feed g clients saturation s
-begun_by {B = B} job feed g clients saturation s core n j f c se ne co ev fs ns sh ws cs cl = record {
+begun_by {B = B} job feed g clients saturation s core n j f c se ne co ev fs ns sh ws cs fw ta cl = record {
   job_is = j;
   feed_is = f;
   counted = c;
@@ -65,5 +65,6 @@ begun_by {B = B} job feed g clients saturation s core n j f c se ne co ev fs ns 
   nodes_shape = ap (λ (x : Nodes B). x.shape) ne ∙ sh;
   workers = ap (λ (x : Nodes B). length x.workers.items) ne ∙ ws;
   clients_there = ap (λ (x : Nodes B). length x.clients.items) ne ∙ cs;
+  few = (subst (λ (x : Nodes B). TookFew 0 x) (sym ne) fw, let e = ap (λ (x : Core). x.taken) se in omega (arith, e, ta));
   cluster = ap (λ (x : Nodes B). cluster_of (sched_opening (setting_of g clients saturation)) x) ne ∙ cl;
 }

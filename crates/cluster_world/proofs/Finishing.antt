@@ -75,7 +75,7 @@ unended _ h = tt
 pub counted_once : {J B F : Type 0} {Fits : ℕ → B → Type 0} {tells : Type 0} {op : ℕ → List B → Option B} (old mid : State J B F) (e : Event) (n : ℕ) → IsPerformed Fits tells op old mid e → IsPerformed Fits tells op old (record mid { events = n }) e
 counted_once old mid e n p = record {
   outcome = p.outcome;
-  turned = record { cluster = p.turned.cluster; nodes = p.turned.nodes; shape = p.turned.shape; workers = p.turned.workers; clients = p.turned.clients; more = p.turned.more };
+  turned = record { cluster = p.turned.cluster; nodes = p.turned.nodes; shape = p.turned.shape; workers = p.turned.workers; clients = p.turned.clients; more = p.turned.more; few = p.turned.few };
   fits = p.fits;
   told = p.told;
 }

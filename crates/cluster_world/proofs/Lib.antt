@@ -22,3 +22,4 @@ pub mod Advancing
 pub mod Counts
 pub mod Stepwise
 pub mod Beginning
+pub mod Taking

@@ -19,6 +19,7 @@ use Rattle.scheduler_core.specs.Cores.{Core, facts}
 use Rattle.cluster_nodes.specs.Kept.{IsNodes}
 use Rattle.cluster_nodes.specs.Nodes.{as_down, as_up, as_to_client, as_from_client, workers_of, clients_of, world_of, blocks_in}
 use Rattle.cluster_nodes.specs.Turns.{in_world}
+use Rattle.cluster_nodes.proofs.Counting.{took_more}
 use Rattle.cluster_nodes.proofs.NodeLemmas.{downs_are, to_clients_are}
 use Rattle.cluster_world.specs.declared.state.State.{State}
 use Rattle.cluster_world.specs.Worlds.{cluster, world, setting}
@@ -62,13 +63,13 @@ module _ {J B F : Type 0} (old : State J B F) (core : Core) (d t : List (List Me
   abbrev after : State J B F
   after = record old { sched = core; nodes = record old.nodes { down = d; to_client = t } }
 
-  pub sched_turned : facts core ≡ s.facts → (facts core).setting ≡ setting old
+  pub sched_turned : facts core ≡ s.facts → (facts core).setting ≡ setting old → core.taken ≡ old.sched.taken + 1
       → (sent : List (ℕ × Down)) → sent ≡ s.down → waiting d ≡ posted (waiting old.nodes.down) (λ i. downs (mail i sent)) → length d ≡ length old.nodes.down
       → (news : List (ℕ × ToClient)) → news ≡ s.clients → waiting t ≡ posted (waiting old.nodes.to_client) (λ c. to_clients (letters c news)) → length t ≡ length old.nodes.to_client
       → IsNodes old.nodes → length old.nodes.workers.items ≡ s.facts.last_worker + 1
       → IsTurned old after (in_world (cluster old) (scheduled (world old) s))
   unfolding world_of blocks_in scheduled
-  sched_turned fe same sent se de dl news ne te tl n l = record {
+  sched_turned fe same counted sent se de dl news ne te tl n l = record {
     cluster = λ i. record {
       world = record {
         sched = fe i;
@@ -116,6 +117,7 @@ module _ {J B F : Type 0} (old : State J B F) (core : Core) (d t : List (List Me
     workers = l ∙ ap (λ (f : Facts). f.last_worker + 1) (sym fe);
     clients = refl;
     more = omega arith;
+    few = λ b f. (took_more b old.nodes f.0, omega (arith, f.1, counted));
   }
     where
       shape : (facts core).setting.shape ≡ (setting old).shape

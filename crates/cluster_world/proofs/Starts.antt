@@ -58,6 +58,7 @@ module _ {J B F : Type 0} (old : State J B F) (joint : IsJoint old) (i k : ℕ) 
     workers = t.workers;
     clients = t.clients;
     more = t.more;
+    few = t.few;
   }
     where
       w : world mid ≡ (worker_turned (cluster old) i work.Start nothing).world

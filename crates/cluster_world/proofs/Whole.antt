@@ -17,7 +17,7 @@ use Rattle.cluster_nodes.specs.Nodes.{world_of}
 use Rattle.cluster_world.specs.declared.state.State.{State}
 use Rattle.cluster_world.specs.Worlds.{cluster, world, setting}
 use Rattle.cluster_world.specs.Orderly.{IsOrderly}
-use Rattle.cluster_world.specs.Kept.{IsTidy, IsFilled, IsStocked, IsJoint, IsWhole, LengthsFit}
+use Rattle.cluster_world.specs.Kept.{CoresTookFew, IsTidy, IsFilled, IsStocked, IsJoint, IsWhole, LengthsFit}
 use Rattle.cluster_world.specs.Outcomes.{stepped, FitsKey, IsTurned}
 use Rattle.cluster_world.proofs.Orderliness.{orderly_after, orderly_opening}
 use Rattle.cluster_world.proofs.Stocking.{stocked_after}
@@ -56,9 +56,9 @@ module _ {J B F : Type 0} (graph : J → Shape) (key_dims : J → ℕ → List �
   unfolding world_of
   shape_is s = refl
 
-  pub whole_after : (old new : State J B F) (o : Option B) (e : Event) → IsWhole graph key_dims block_dims old → enabled (world old) e ≡ true → IsLike old new
+  pub whole_after : (old new : State J B F) (o : Option B) (e : Event) → IsWhole graph key_dims block_dims old → enabled (world old) e ≡ true → IsLike old new → new.events ≡ old.events + 1
       → IsTurned old new (stepped o (cluster old) e) → FitsKey (LengthsFit key_dims block_dims old.job) e o → IsWhole graph key_dims block_dims new
-  whole_after old new o e w t k m f =
+  whole_after old new o e w t k counted m f =
       let c = cluster old in
       let shape : shape_of c.world ≡ graph old.job = shape_is old ∙ w.shape in
       let low : IsShape (shape_of c.world) = subst IsShape (sym shape) w.low in
@@ -72,6 +72,7 @@ module _ {J B F : Type 0} (graph : J → Shape) (key_dims : J → ℕ → List �
           clients = m.clients ∙ w.joint.clients ∙ ap (λ (x : Setting). x.clients + 1) (sym k.setting);
           counted = k.clients ∙ w.joint.counted ∙ ap (λ (x : Setting). x.clients) (sym k.setting);
           orderly = subst (λ (d : Cluster B). IsOrderly d.world) (sym m.cluster) (orderly_after (meets_zero (λ k bs. o) c.blocks e) c.world e low t (unspilled old w.joint) w.joint.orderly);
+          few = subst (λ n. CoresTookFew n new) (sym counted) (m.few old.events w.joint.few);
           tidy = tidy_of (LengthsFit key_dims block_dims old.job) (deps_of (graph old.job)) (cluster new) stocked;
         };
         low = subst (λ j. IsShape (graph j)) (sym k.job) w.low;
@@ -80,9 +81,9 @@ module _ {J B F : Type 0} (graph : J → Shape) (key_dims : J → ℕ → List �
       }
 
   pub whole_opening : (s : State J B F) (op : ℕ → List B → Option B) → cluster s ≡ opening_cluster (setting s) op → IsShape (graph s.job) → (setting s).shape ≡ graph s.job
-      → IsNodes s.nodes → s.nodes.shape ≡ (setting s).shape → length s.nodes.workers.items ≡ (facts s.sched).last_worker + 1 → length s.nodes.clients.items ≡ (setting s).clients + 1 → s.clients ≡ (setting s).clients
+      → IsNodes s.nodes → s.nodes.shape ≡ (setting s).shape → length s.nodes.workers.items ≡ (facts s.sched).last_worker + 1 → length s.nodes.clients.items ≡ (setting s).clients + 1 → s.clients ≡ (setting s).clients → CoresTookFew s.events s
       → IsWhole graph key_dims block_dims s
-  whole_opening s op c low shape nodes nodes_shape workers clients counted =
+  whole_opening s op c low shape nodes nodes_shape workers clients counted few =
       let stocked : IsStocked (LengthsFit key_dims block_dims s.job) (deps_of (graph s.job)) (cluster s) = subst (λ d. IsStocked (LengthsFit key_dims block_dims s.job) (deps_of (graph s.job)) d) (sym c) (stocked_opening (LengthsFit key_dims block_dims s.job) (deps_of (graph s.job)) (setting s) op) in
       record {
         joint = record {
@@ -92,6 +93,7 @@ module _ {J B F : Type 0} (graph : J → Shape) (key_dims : J → ℕ → List �
           clients = clients;
           counted = counted;
           orderly = subst (λ (d : Cluster B). IsOrderly d.world) (sym c) (orderly_opening (job_of (setting s) op));
+          few = few;
           tidy = tidy_of (LengthsFit key_dims block_dims s.job) (deps_of (graph s.job)) (cluster s) stocked;
         };
         low = low;

@@ -7,6 +7,7 @@ use Rattle.cluster_nodes.specs.Kept.{IsNodes}
 use Rattle.cluster_nodes.specs.Nodes.{cluster_of}
 use Rattle.scheduler_core.specs.Cores.{facts}
 use Rattle.value_laws.specs.Blocks.{setting_of, no_blocks}
+use Rattle.cluster_world.specs.Kept.{CoresTookFew}
 use Rattle.cluster_world.specs.declared.state.State.{State}
 use Rattle.cluster_world.specs.declared.state.Course.TheVariants.{Going}
 
@@ -22,4 +23,5 @@ pub record IsBegun {J B F : Type 0} (job : J) (feed : F) (g : Shape) (clients sa
   pub nodes_shape : s.nodes.shape ≡ g
   pub workers : length s.nodes.workers.items ≡ 1
   pub clients_there : length s.nodes.clients.items ≡ clients + 1
+  pub few : CoresTookFew 0 s
   pub cluster : cluster_of (sched_opening (setting_of g clients saturation)) s.nodes ≡ record { world = opening (record { setting = setting_of g clients saturation; zero = λ k. false }); blocks = no_blocks }

@@ -3,7 +3,7 @@ use Rattle.std.specs.Prelude.{◌≡◌, ◌≢◌, ◌+◌, ◌≤◌, ℕ, Boo
 use Rattle.std.specs.List.{AllByRecursion}
 use Rattle.cluster_msgs.specs.Shape.{Shape, IsShape, deps_of}
 use Rattle.cluster_rules.specs.World.{World}
-use Rattle.cluster_nodes.specs.Kept.{IsNodes}
+use Rattle.cluster_nodes.specs.Kept.{IsNodes, TookFew}
 use Rattle.scheduler_core.specs.Cores.{facts}
 use Rattle.value_laws.specs.Blocks.{Delivery, Blocks, Cluster}
 use Rattle.cluster_world.specs.declared.state.State.{State}
@@ -37,7 +37,11 @@ pub record IsStocked {B : Type 0} (Fits : ℕ → B → Type 0) (deps : ℕ → 
   pub answers : map (λ (d : Delivery B). d.parcel) c.blocks.carried ≡ c.world.answers
   pub carried : AllByRecursion (λ (d : Delivery B). AreFor Fits d.parcel.keys d.blocks) c.blocks.carried
 
--- the nodes are those that the scheduler counts, over its graph
+-- no core has taken more than this many events
+abbrev pub CoresTookFew : {J B F : Type 0} → ℕ → State J B F → Type 0
+CoresTookFew n s = TookFew n s.nodes × (s.sched.taken ≤ n)
+
+-- the nodes are those that the scheduler counts, over its graph, and no core took more events than the world
 pub record IsJoint {J B F : Type 0} (s : State J B F) : Type 0 where
   pub nodes : IsNodes s.nodes
   pub shape : s.nodes.shape ≡ (setting s).shape
@@ -45,6 +49,7 @@ pub record IsJoint {J B F : Type 0} (s : State J B F) : Type 0 where
   pub clients : length s.nodes.clients.items ≡ (setting s).clients + 1
   pub counted : s.clients ≡ (setting s).clients
   pub orderly : IsOrderly (world s)
+  pub few : CoresTookFew s.events s
   pub tidy : IsTidy (world s) (cluster s).blocks
 
 -- a block has the lengths of its key

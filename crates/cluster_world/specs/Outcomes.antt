@@ -13,6 +13,7 @@ use Rattle.cluster_world.specs.declared.state.State.{State}
 use Rattle.cluster_world.specs.declared.errors.Broken.{Broken}
 use Rattle.cluster_world.specs.declared.errors.Broken.TheVariants.{Feed, Memory}
 use Rattle.cluster_world.specs.Worlds.{cluster}
+use Rattle.cluster_world.specs.Kept.{CoresTookFew}
 
 -- the event ended an operation so, if it ended one
 abbrev pub stepped : {B : Type 0} → Option B → Cluster B → Event → Cluster B
@@ -26,7 +27,7 @@ IsOutcome op c e o = (i k : ℕ) → e ≡ Finish i k → o ≡ op k (c.blocks.i
 abbrev pub FitsKey : {B : Type 0} → (ℕ → B → Type 0) → Event → Option B → Type 0
 FitsKey {B} Fits e o = (i k : ℕ) (b : B) → e ≡ Finish i k → o ≡ Some b → Fits k b
 
--- the cluster became this one, and the nodes are those that the scheduler counts
+-- the cluster became this one, the nodes are those that the scheduler counts, and each core took one event more at most
 pub record IsTurned {J B F : Type 0} (old new : State J B F) (to : Cluster B) : Type 0 where
   pub cluster : cluster new ≡ to
   pub nodes : IsNodes new.nodes
@@ -34,6 +35,7 @@ pub record IsTurned {J B F : Type 0} (old new : State J B F) (to : Cluster B) : 
   pub workers : length new.nodes.workers.items ≡ (facts new.sched).last_worker + 1
   pub clients : length new.nodes.clients.items ≡ length old.nodes.clients.items
   pub more : length old.nodes.workers.items ≤ length new.nodes.workers.items
+  pub few : (n : ℕ) → CoresTookFew n old → CoresTookFew (n + 1) new
 
 -- it went one step, by an event that ends no operation
 abbrev pub IsMoved : {J B F : Type 0} → State J B F → State J B F → Event → Type 0

@@ -1,23 +1,26 @@
 //! The actions of the scheduler and of the nodes: the rows of the table of events, but the one that ends an operation.
-ghost use Rattle.std.specs.Prelude.{◌≡◌, true, Some, OnOk, map};
+ghost use Rattle.std.specs.Prelude.{◌≡◌, ◌<◌, true, Some, OnOk, map};
 ghost use Rattle.std.specs.Option.{option_map};
 ghost use Rattle.cluster_msgs.specs.declared.events.Event.TheVariants as event;
 ghost use Rattle.cluster_rules.specs.Worker.{would_start};
 ghost use Rattle.cluster_rules.specs.World.{is_asker, is_connected, open_ask};
 ghost use Rattle.cluster_rules.specs.Enabled.{enabled};
-ghost use Rattle.cluster_world.specs.Worlds.{cluster, world};
+ghost use Rattle.cluster_world.specs.Worlds.{cluster, world, event_limit};
 ghost use Rattle.cluster_world.specs.Kept.{IsJoint, IsKept};
 ghost use Rattle.cluster_world.specs.Outcomes.{IsMoved, IsUnended};
 
 use crate::state::State;
-use cluster_msgs::{Asker, ClientEvent, Event, KeyList, SchedEvent, Stop, WorkerEvent};
+use crate::turns::without_refusal;
+use cluster_msgs::{Asker, ClientEvent, Event, KeyList, SchedEvent, WorkerEvent};
 use cluster_nodes::blocks_here;
 use cluster_rules::Facts;
+use std::alloc::AllocError;
 
 impl<J: Drop, B: Drop, F: Drop> State<J, B, F> {
     /// Carries an enabled event out that ends no operation.
-    pub fn act(&mut self, e: &Event) -> Result<(), Stop>
+    pub fn act(&mut self, e: &Event) -> Result<(), AllocError>
         requires joint { IsJoint self.old }
+        requires room { self.old.events < event_limit }
         requires carried { map (λ d. d.parcel) (cluster self.old).blocks.carried ≡ (world self.old).answers }
         requires possible { enabled (world self.old) e.now ≡ true }
         requires unended { IsUnended e.now }
@@ -55,8 +58,9 @@ impl<J: Drop, B: Drop, F: Drop> State<J, B, F> {
     }
 
     /// A client wants these keys.
-    pub fn want(&mut self, client: u32, keys: &KeyList) -> Result<(), Stop>
+    pub fn want(&mut self, client: u32, keys: &KeyList) -> Result<(), AllocError>
         requires joint { IsJoint self.old }
+        requires room { self.old.events < event_limit }
         requires possible { enabled (world self.old) (event.Want client keys.now) ≡ true }
         ensures moved { OnOk result (IsMoved self.old self.new (event.Want client keys.now)) }
         ensures kept { IsKept self.old self.new }
@@ -66,8 +70,9 @@ impl<J: Drop, B: Drop, F: Drop> State<J, B, F> {
     }
 
     /// A client lets these keys go.
-    pub fn release(&mut self, client: u32, keys: &KeyList) -> Result<(), Stop>
+    pub fn release(&mut self, client: u32, keys: &KeyList) -> Result<(), AllocError>
         requires joint { IsJoint self.old }
+        requires room { self.old.events < event_limit }
         requires possible { enabled (world self.old) (event.Release client keys.now) ≡ true }
         ensures moved { OnOk result (IsMoved self.old self.new (event.Release client keys.now)) }
         ensures kept { IsKept self.old self.new }
@@ -77,8 +82,9 @@ impl<J: Drop, B: Drop, F: Drop> State<J, B, F> {
     }
 
     /// A worker joins.
-    pub fn join(&mut self, threads: u32) -> Result<(), Stop>
+    pub fn join(&mut self, threads: u32) -> Result<(), AllocError>
         requires joint { IsJoint self.old }
+        requires room { self.old.events < event_limit }
         requires possible { enabled (world self.old) (event.Join threads) ≡ true }
         ensures moved { OnOk result (IsMoved self.old self.new (event.Join threads)) }
         ensures kept { IsKept self.old self.new }
@@ -98,8 +104,9 @@ impl<J: Drop, B: Drop, F: Drop> State<J, B, F> {
     }
 
     /// The scheduler sees that a worker is dead.
-    pub fn see_loss(&mut self, worker: u32) -> Result<(), Stop>
+    pub fn see_loss(&mut self, worker: u32) -> Result<(), AllocError>
         requires joint { IsJoint self.old }
+        requires room { self.old.events < event_limit }
         requires possible { enabled (world self.old) (event.SeeLoss worker) ≡ true }
         ensures moved { OnOk result (IsMoved self.old self.new (event.SeeLoss worker)) }
         ensures kept { IsKept self.old self.new }
@@ -111,8 +118,9 @@ impl<J: Drop, B: Drop, F: Drop> State<J, B, F> {
     }
 
     /// The scheduler takes a worker for lost.
-    pub fn suspect(&mut self, worker: u32) -> Result<(), Stop>
+    pub fn suspect(&mut self, worker: u32) -> Result<(), AllocError>
         requires joint { IsJoint self.old }
+        requires room { self.old.events < event_limit }
         requires possible { enabled (world self.old) (event.Suspect worker) ≡ true }
         ensures moved { OnOk result (IsMoved self.old self.new (event.Suspect worker)) }
         ensures kept { IsKept self.old self.new }
@@ -121,18 +129,20 @@ impl<J: Drop, B: Drop, F: Drop> State<J, B, F> {
     }
 
     /// A worker takes the first message of the scheduler.
-    pub fn deliver_down(&mut self, worker: u32) -> Result<(), Stop>
+    pub fn deliver_down(&mut self, worker: u32) -> Result<(), AllocError>
         requires joint { IsJoint self.old }
+        requires room { self.old.events < event_limit }
         requires possible { enabled (world self.old) (event.DeliverDown worker) ≡ true }
         ensures moved { OnOk result (IsMoved self.old self.new (event.DeliverDown worker)) }
         ensures kept { IsKept self.old self.new }
     {
-        self.nodes.deliver_down(worker)
+        without_refusal(self.nodes.deliver_down(worker))
     }
 
     /// The scheduler takes a worker's first message; one of a worker that isn't connected is dropped.
-    pub fn deliver_up(&mut self, worker: u32) -> Result<(), Stop>
+    pub fn deliver_up(&mut self, worker: u32) -> Result<(), AllocError>
         requires joint { IsJoint self.old }
+        requires room { self.old.events < event_limit }
         requires possible { enabled (world self.old) (event.DeliverUp worker) ≡ true }
         ensures moved { OnOk result (IsMoved self.old self.new (event.DeliverUp worker)) }
         ensures kept { IsKept self.old self.new }
@@ -146,8 +156,9 @@ impl<J: Drop, B: Drop, F: Drop> State<J, B, F> {
     }
 
     /// The scheduler takes the first message of a worker that is connected.
-    fn hear(&mut self, worker: u32) -> Result<(), Stop>
+    fn hear(&mut self, worker: u32) -> Result<(), AllocError>
         requires joint { IsJoint self.old }
+        requires room { self.old.events < event_limit }
         requires possible { enabled (world self.old) (event.DeliverUp worker) ≡ true }
         requires connected { is_connected (world self.old) worker ≡ true }
         ensures moved { OnOk result (IsMoved self.old self.new (event.DeliverUp worker)) }
@@ -160,18 +171,20 @@ impl<J: Drop, B: Drop, F: Drop> State<J, B, F> {
     }
 
     /// A client takes the first message of the scheduler.
-    pub fn deliver_to_client(&mut self, client: u32) -> Result<(), Stop>
+    pub fn deliver_to_client(&mut self, client: u32) -> Result<(), AllocError>
         requires joint { IsJoint self.old }
+        requires room { self.old.events < event_limit }
         requires possible { enabled (world self.old) (event.DeliverToClient client) ≡ true }
         ensures moved { OnOk result (IsMoved self.old self.new (event.DeliverToClient client)) }
         ensures kept { IsKept self.old self.new }
     {
-        self.nodes.deliver_to_client(client)
+        without_refusal(self.nodes.deliver_to_client(client))
     }
 
     /// The scheduler takes a client's first message.
-    pub fn deliver_from_client(&mut self, client: u32) -> Result<(), Stop>
+    pub fn deliver_from_client(&mut self, client: u32) -> Result<(), AllocError>
         requires joint { IsJoint self.old }
+        requires room { self.old.events < event_limit }
         requires possible { enabled (world self.old) (event.DeliverFromClient client) ≡ true }
         ensures moved { OnOk result (IsMoved self.old self.new (event.DeliverFromClient client)) }
         ensures kept { IsKept self.old self.new }
@@ -183,8 +196,9 @@ impl<J: Drop, B: Drop, F: Drop> State<J, B, F> {
     }
 
     /// A worker starts its least ready key, with the blocks of the key's dependencies.
-    pub fn start(&mut self, worker: u32) -> Result<(), Stop>
+    pub fn start(&mut self, worker: u32) -> Result<(), AllocError>
         requires joint { IsJoint self.old }
+        requires room { self.old.events < event_limit }
         requires possible { enabled (world self.old) (event.Start worker) ≡ true }
         ensures moved { OnOk result (IsMoved self.old self.new (event.Start worker)) }
         ensures kept { IsKept self.old self.new }
@@ -196,8 +210,9 @@ impl<J: Drop, B: Drop, F: Drop> State<J, B, F> {
     }
 
     /// The same of the key.
-    fn start_key(&mut self, worker: u32, key: u32) -> Result<(), Stop>
+    fn start_key(&mut self, worker: u32, key: u32) -> Result<(), AllocError>
         requires joint { IsJoint self.old }
+        requires room { self.old.events < event_limit }
         requires alive { (world self.old).alive worker ≡ true }
         requires key { would_start ((world self.old).workers worker) ≡ Some key }
         ensures moved { OnOk result (IsMoved self.old self.new (event.Start worker)) }
@@ -211,8 +226,9 @@ impl<J: Drop, B: Drop, F: Drop> State<J, B, F> {
     }
 
     /// An asker asks a peer for keys.
-    pub fn send_gather(&mut self, asker: Asker, peer: u32) -> Result<(), Stop>
+    pub fn send_gather(&mut self, asker: Asker, peer: u32) -> Result<(), AllocError>
         requires joint { IsJoint self.old }
+        requires room { self.old.events < event_limit }
         requires possible { enabled (world self.old) (event.SendGather asker peer) ≡ true }
         ensures moved { OnOk result (IsMoved self.old self.new (event.SendGather asker peer)) }
         ensures kept { IsKept self.old self.new }
@@ -224,30 +240,31 @@ impl<J: Drop, B: Drop, F: Drop> State<J, B, F> {
     }
 
     /// A peer serves a request.
-    pub fn serve(&mut self, peer: u32, asker: Asker, ask: u64) -> Result<(), Stop>
+    pub fn serve(&mut self, peer: u32, asker: Asker, ask: u64) -> Result<(), AllocError>
         requires joint { IsJoint self.old }
         requires possible { enabled (world self.old) (event.ServeGather peer asker ask) ≡ true }
         ensures moved { OnOk result (IsMoved self.old self.new (event.ServeGather peer asker ask)) }
         ensures kept { IsKept self.old self.new }
     {
-        self.nodes.serve(peer, asker, ask)?;
-        Ok(())
+        self.nodes.serve(peer, asker, ask)
     }
 
     /// An asker takes an answer.
-    pub fn arrive(&mut self, asker: Asker, peer: u32, ask: u64) -> Result<(), Stop>
+    pub fn arrive(&mut self, asker: Asker, peer: u32, ask: u64) -> Result<(), AllocError>
         requires joint { IsJoint self.old }
+        requires room { self.old.events < event_limit }
         requires possible { enabled (world self.old) (event.ArriveGather asker peer ask) ≡ true }
         requires carried { map (λ d. d.parcel) (cluster self.old).blocks.carried ≡ (world self.old).answers }
         ensures moved { OnOk result (IsMoved self.old self.new (event.ArriveGather asker peer ask)) }
         ensures kept { IsKept self.old self.new }
     {
-        self.nodes.arrive(asker, peer, ask)
+        without_refusal(self.nodes.arrive(asker, peer, ask))
     }
 
     /// An asker's open ask to a peer fails; what is under way for it stays there.
-    pub fn fail_gather(&mut self, asker: Asker, peer: u32) -> Result<(), Stop>
+    pub fn fail_gather(&mut self, asker: Asker, peer: u32) -> Result<(), AllocError>
         requires joint { IsJoint self.old }
+        requires room { self.old.events < event_limit }
         requires possible { enabled (world self.old) (event.FailGather asker peer) ≡ true }
         ensures moved { OnOk result (IsMoved self.old self.new (event.FailGather asker peer)) }
         ensures kept { IsKept self.old self.new }
@@ -259,8 +276,9 @@ impl<J: Drop, B: Drop, F: Drop> State<J, B, F> {
     }
 
     /// The same of the ask with this number.
-    fn fail_ask(&mut self, asker: Asker, peer: u32, ask: u64) -> Result<(), Stop>
+    fn fail_ask(&mut self, asker: Asker, peer: u32, ask: u64) -> Result<(), AllocError>
         requires joint { IsJoint self.old }
+        requires room { self.old.events < event_limit }
         requires there { is_asker (world self.old) asker ≡ true }
         requires ask { option_map (λ a. a.number) (open_ask (world self.old) asker peer) ≡ Some ask }
         ensures moved { OnOk result (IsMoved self.old self.new (event.FailGather asker peer)) }
@@ -277,8 +295,9 @@ impl<J: Drop, B: Drop, F: Drop> State<J, B, F> {
     }
 
     /// A key that is to be stolen is asked back.
-    pub fn balance(&mut self) -> Result<(), Stop>
+    pub fn balance(&mut self) -> Result<(), AllocError>
         requires joint { IsJoint self.old }
+        requires room { self.old.events < event_limit }
         requires possible { enabled (world self.old) event.Balance ≡ true }
         ensures moved { OnOk result (IsMoved self.old self.new event.Balance) }
         ensures kept { IsKept self.old self.new }
@@ -287,8 +306,9 @@ impl<J: Drop, B: Drop, F: Drop> State<J, B, F> {
     }
 
     /// A copy that isn't needed is to go.
-    pub fn evict(&mut self) -> Result<(), Stop>
+    pub fn evict(&mut self) -> Result<(), AllocError>
         requires joint { IsJoint self.old }
+        requires room { self.old.events < event_limit }
         requires possible { enabled (world self.old) event.Evict ≡ true }
         ensures moved { OnOk result (IsMoved self.old self.new event.Evict) }
         ensures kept { IsKept self.old self.new }
@@ -307,8 +327,9 @@ impl<J: Drop, B: Drop, F: Drop> State<J, B, F> {
     }
 
     /// A worker's spilled block is lost.
-    pub fn lose_spilled(&mut self, worker: u32, key: u32) -> Result<(), Stop>
+    pub fn lose_spilled(&mut self, worker: u32, key: u32) -> Result<(), AllocError>
         requires joint { IsJoint self.old }
+        requires room { self.old.events < event_limit }
         requires possible { enabled (world self.old) (event.LoseSpilled worker key) ≡ true }
         ensures moved { OnOk result (IsMoved self.old self.new (event.LoseSpilled worker key)) }
         ensures kept { IsKept self.old self.new }

@@ -1,5 +1,5 @@
 //! Why a world takes no event, or stops.
-use cluster_msgs::{RunFail, Stop};
+use cluster_msgs::RunFail;
 use std::alloc::AllocError;
 use thiserror::Error;
 
@@ -22,17 +22,6 @@ pub enum StepError {
 pub enum Broken {
     Feed,
     Memory,
-}
-
-impl From<Stop> for Broken {
-    ghost use Rattle.std.specs.Prelude.{◌≡◌};
-    ghost use Rattle.cluster_world.specs.declared.errors.Broken.TheVariants.{Memory};
-
-    ghost from_gives = { λ _ e. e ≡ Memory };
-
-    fn from(_stop: Stop) -> Broken {
-        Broken::Memory
-    }
 }
 
 impl From<AllocError> for Broken {

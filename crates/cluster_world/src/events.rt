@@ -13,6 +13,7 @@ ghost use Rattle.cluster_world.specs.Outcomes.{IsPerformed, IsUnended, CountsPer
 
 use crate::errors::{Broken, StepError};
 use crate::state::{Course, State};
+use crate::turns::without_refusal;
 use cluster_msgs::{Event, JobSpec, Outcome, Sequence, WorkerEvent};
 use message_queues::Shelf;
 use std::alloc::{AllocError, Global};
@@ -65,6 +66,7 @@ fn perform<J: JobSpec>(state: &mut State<J, J::Block, J::Feed>, e: &Event) -> Re
     requires whole { IsWhole J.graph J.key_dims J.block_dims state.old }
     requires feed { J.feed_fits state.old.job state.old.feed }
     requires possible { enabled (world state.old) e.now ≡ true }
+    requires room { state.old.events < event_limit }
     ensures performed { OnOk result (IsPerformed (LengthsFit J.key_dims J.block_dims state.old.job) (J.feed_tells state.old.job state.old.feed) (J.operation state.old.job) state.old state.new e.now) }
     ensures same { IsSame state.old state.new }
     ensures fits { J.feed_fits state.old.job state.new.feed }
@@ -83,6 +85,7 @@ fn carry<J: JobSpec>(state: &mut State<J, J::Block, J::Feed>, e: &Event) -> Resu
     requires whole { IsWhole J.graph J.key_dims J.block_dims state.old }
     requires feed { J.feed_fits state.old.job state.old.feed }
     requires possible { enabled (world state.old) e.now ≡ true }
+    requires room { state.old.events < event_limit }
     requires unended { IsUnended e.now }
     ensures performed { OnOk result (IsPerformed (LengthsFit J.key_dims J.block_dims state.old.job) (J.feed_tells state.old.job state.old.feed) (J.operation state.old.job) state.old state.new e.now) }
     ensures same { IsSame state.old state.new }
@@ -104,6 +107,7 @@ fn finish<J: JobSpec>(
     requires whole { IsWhole J.graph J.key_dims J.block_dims state.old }
     requires feed { J.feed_fits state.old.job state.old.feed }
     requires possible { enabled (world state.old) (event.Finish worker key) ≡ true }
+    requires room { state.old.events < event_limit }
     ensures performed { OnOk result (IsPerformed (LengthsFit J.key_dims J.block_dims state.old.job) (J.feed_tells state.old.job state.old.feed) (J.operation state.old.job) state.old state.new (event.Finish worker key)) }
     ensures same { IsSame state.old state.new }
     ensures fits { J.feed_fits state.old.job state.new.feed }
@@ -116,9 +120,8 @@ fn finish<J: JobSpec>(
     let outcome = state.job.run(&mut state.feed, key, inputs)?;
     let zero = is_zero(&outcome);
     let brought = shared(state.alloc, key, outcome)?;
-    state
-        .nodes
-        .worker_turn(worker, WorkerEvent::Done { key, zero }, brought)?;
+    let done = WorkerEvent::Done { key, zero };
+    without_refusal(state.nodes.worker_turn(worker, done, brought))?;
     Ok(())
 }
 

@@ -81,7 +81,7 @@ impl<J: JobSpec> World<J> {
     /// `OutOfMemory` where no memory is left, and then at every later call. `Stopped` exactly where an earlier step
     /// answered `Feed`. Else `Spent` exactly where 2^40 events were taken. Else `NotEnabled` exactly where the event isn't
     /// enabled. After the latter three all is as before. `Feed` only where the feed's count of faults rose in this call: the
-    /// world and its blocks stay. A core that refused what it is handed would be answered as want of memory.
+    /// world and its blocks stay.
     pub fn step(&mut self, e: &Event) -> Result<(), StepError>
         // The event is taken.
         ensures ready { OnOk result (IsReady self.old) }

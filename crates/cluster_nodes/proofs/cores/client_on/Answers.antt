@@ -1,4 +1,4 @@
-use Rattle.std.proofs.Common.{◌≡◌, ◌∙◌, ◌++◌, ap, sym}
+use Rattle.std.proofs.Common.{◌≡◌, ◌≤◌, ◌∙◌, ◌++◌, ap, sym, arith}
 use Rattle.cluster_rules.specs.Functions.{put}
 use Rattle.cluster_rules.specs.Client.{ClientFacts, client_step, client_takes}
 use Rattle.gather_client.specs.CoreState.{CoreState, client_facts}
@@ -6,6 +6,7 @@ use Rattle.cluster_nodes.specs.Nodes.{clients_of}
 use Rattle.message_queues.proofs.QueueLemmas.{on_ok}
 use Rattle.cluster_nodes.proofs.NodeLemmas.{clients_set, client_was, client_step_shape}
 use Rattle.cluster_nodes.proofs.Places.{all_set, all_at}
+use Rattle.cluster_nodes.proofs.Counting.{client_counted}
 use Rattle.cluster_nodes.proofs.cores.client_on.Goals as goal
 
 pub returns-clause-facts : goal.returns-clause-facts
@@ -32,3 +33,17 @@ returns-clause-over c = on_ok c.on.result
     ∙ all_at (λ (w : CoreState). (client_facts w).shape ≡ s) c.args.clients.now.items c.args.client c.index_mut.result.now c.requires c.index_mut.ensures.value h)
     h)
     c.on.ensures.taken
+
+pub returns-clause-few : goal.returns-clause-few
+returns-clause-few c = on_ok c.on.result
+    (λ e n h. client_counted n c.args.clients.now.items c.args.client c.index_mut.result.now c.on.new.self c.requires c.index_mut.ensures.value e.counted h)
+    c.on.ensures.taken
+
+pub returns-clause-refused : goal.returns-clause-refused
+returns-clause-refused c r g = ap (λ (w : ClientFacts). client_takes w c.args.event) (client_was g c.args.clients.now.items c.args.client c.index_mut.result.now c.requires c.index_mut.ensures.value) ∙ (c.on.ensures.refused.0 r).impossible
+
+pub returns-clause-spent : goal.returns-clause-spent
+returns-clause-spent c r n h =
+    let e = (c.on.ensures.spent.0 r).all in
+    let b = all_at (λ (w : CoreState). w.events ≤ n) c.args.clients.now.items c.args.client c.index_mut.result.now c.requires c.index_mut.ensures.value h in
+    omega (arith, e, b)

@@ -1,4 +1,4 @@
-use Rattle.std.proofs.Common.{◌≡◌, ◌∙◌, ◌++◌, ap, sym}
+use Rattle.std.proofs.Common.{◌≡◌, ◌≤◌, ◌∙◌, ◌++◌, ap, sym, arith}
 use Rattle.cluster_rules.specs.Functions.{put}
 use Rattle.cluster_rules.specs.Worker.{WorkerFacts}
 use Rattle.cluster_rules.specs.WorkerStep.{worker_step, worker_takes}
@@ -7,6 +7,7 @@ use Rattle.cluster_nodes.specs.Nodes.{workers_of}
 use Rattle.message_queues.proofs.QueueLemmas.{on_ok}
 use Rattle.cluster_nodes.proofs.NodeLemmas.{workers_set, worker_was, step_shape}
 use Rattle.cluster_nodes.proofs.Places.{all_set, all_at}
+use Rattle.cluster_nodes.proofs.Counting.{worker_counted}
 use Rattle.cluster_nodes.proofs.cores.worker_on.Goals as goal
 
 pub returns-clause-facts : goal.returns-clause-facts
@@ -33,3 +34,17 @@ returns-clause-over c = on_ok c.on.result
     ∙ all_at (λ (w : Core). (facts w).shape ≡ s) c.args.workers.now.items c.args.worker c.index_mut.result.now c.requires c.index_mut.ensures.value h)
     h)
     c.on.ensures.facts
+
+pub returns-clause-few : goal.returns-clause-few
+returns-clause-few c = on_ok c.on.result
+    (λ e n h. worker_counted n c.args.workers.now.items c.args.worker c.index_mut.result.now c.on.new.self c.requires c.index_mut.ensures.value e h)
+    c.on.ensures.events
+
+pub returns-clause-refused : goal.returns-clause-refused
+returns-clause-refused c r g alive a = ap (λ (w : WorkerFacts). worker_takes w c.args.event) (worker_was g alive c.args.workers.now.items c.args.worker c.index_mut.result.now c.requires a c.index_mut.ensures.value) ∙ (c.on.ensures.refused.0 r).2
+
+pub returns-clause-spent : goal.returns-clause-spent
+returns-clause-spent c r n h =
+    let e = (c.on.ensures.spent.0 r).1 in
+    let b = all_at (λ (w : Core). w.events ≤ n) c.args.workers.now.items c.args.worker c.index_mut.result.now c.requires c.index_mut.ensures.value h in
+    omega (arith, e, b)

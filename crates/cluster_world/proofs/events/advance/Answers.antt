@@ -13,6 +13,9 @@ perform-requires-clause-feed g c = λ κs lives. c.requires.feed
 pub perform-requires-clause-possible : goal.perform-requires-clause-possible
 perform-requires-clause-possible g c = λ κs lives. c.requires.possible
 
+pub perform-requires-clause-room : goal.perform-requires-clause-room
+perform-requires-clause-room g c = λ κs lives. c.requires.room
+
 pub returns-in-Ok : goal.returns-in-Ok
 returns-in-Ok g c =
     let k = c.perform.ensures.same in let r = c.requires.room in let n = k.events in record { advances = (finishing.counted_once c.args.state.now c.perform.new.state _ (c.perform.new.state.events + 1) c.in-Ok.ensures.performed, k.course, ap (λ n. n + 1) k.events); job = k.job; clients = k.clients; setting = k.setting; few = omega (arith, n, r); fits = c.perform.ensures.fits; tells = c.perform.ensures.tells; faults = c.in-Ok.ensures.faults }

@@ -7,7 +7,7 @@ use Rattle.cluster_world.proofs.events.carry.Goals as goal
 
 pub act-requires : goal.act-requires
 act-requires g c =
-    record { joint = c.requires.whole.joint; carried = c.requires.whole.stocked.answers; possible = c.requires.possible; unended = c.requires.unended }
+    record { joint = c.requires.whole.joint; carried = c.requires.whole.stocked.answers; possible = c.requires.possible; room = c.requires.room; unended = c.requires.unended }
 
 pub returns-in_err-act : goal.returns-in_err-act
 returns-in_err-act g c =

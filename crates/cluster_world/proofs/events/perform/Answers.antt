@@ -16,6 +16,9 @@ finish-requires-clause-feed g c = λ κs lives. c.requires.feed
 pub finish-requires-clause-possible : goal.finish-requires-clause-possible
 finish-requires-clause-possible g c = λ κs lives. subst (λ e. enabled (world c.args.state.now) e ≡ true) c.in-Finish.is c.requires.possible
 
+pub finish-requires-clause-room : goal.finish-requires-clause-room
+finish-requires-clause-room g c = λ κs lives. c.requires.room
+
 pub returns-in-Finish : goal.returns-in-Finish
 returns-in-Finish g c =
     record { performed = subst (λ e. OnOk c.finish.result (IsPerformed (LengthsFit g.J.JobSpec.key_dims g.J.JobSpec.block_dims c.args.state.now.job) (g.J.JobSpec.feed_tells c.args.state.now.job c.args.state.now.feed) (g.J.JobSpec.operation c.args.state.now.job) c.args.state.now c.finish.new.state e)) (sym c.in-Finish.is) c.finish.ensures.performed; same = c.finish.ensures.same; fits = c.finish.ensures.fits; tells = c.finish.ensures.tells; faults = c.finish.ensures.faults; left = c.finish.ensures.left }
@@ -28,6 +31,9 @@ carry-requires-clause-feed g c = λ κs lives. c.requires.feed
 
 pub carry-requires-clause-possible : goal.carry-requires-clause-possible
 carry-requires-clause-possible g c = λ κs lives. c.requires.possible
+
+pub carry-requires-clause-room : goal.carry-requires-clause-room
+carry-requires-clause-room g c = λ κs lives. c.requires.room
 
 pub carry-requires-clause-unended : goal.carry-requires-clause-unended
 carry-requires-clause-unended g c = λ κs lives. finishing.unended c.args.e.now c.in_default.not-Finish

@@ -1,11 +1,16 @@
-use Rattle.std.proofs.Common.{◌∙◌, ℕ, List, ap}
+use Rattle.std.proofs.Common.{◌∙◌, ℕ, List, ap, sym, subst}
+use Rattle.std.specs.Prelude.{IsSomeAnd}
+use Rattle.std.specs.Option.{option_map}
+use Rattle.message_queues.specs.Transit.{parcel_of_transit}
+use Rattle.message_queues.specs.declared.transit.InTransit.{InTransit}
 use Rattle.message_queues.proofs.QueueLemmas.{on_ok}
 use Rattle.cluster_msgs.specs.Jobs.{blocks_of}
 use Rattle.value_laws.specs.Moves.{block_among}
-use Rattle.cluster_nodes.specs.Nodes.{cluster_of}
-use Rattle.cluster_nodes.specs.Turns.{among, gathered_turned}
+use Rattle.cluster_nodes.specs.Nodes.{cluster_of, world_of}
+use Rattle.cluster_nodes.specs.Turns.{IsRefusedBy, among, gathered_turned}
 use Rattle.cluster_nodes.proofs.Keeping.{nodes_moving}
-use Rattle.cluster_nodes.proofs.Gathering.{none_arrived, arrived_is, answers_left}
+use Rattle.cluster_nodes.proofs.Gathering.{none_arrived, arrived_is, answers_left, parcel_found, refused_before}
+use Rattle.cluster_nodes.proofs.Counting.{took_more}
 use Rattle.cluster_nodes.proofs.nodes.Nodes.arrive.Goals as goal
 
 pub gathered-requires-clause-nodes : goal.gathered-requires-clause-nodes
@@ -26,3 +31,21 @@ returns-in_ok-brought-in-Some-clause-cluster g c = on_ok c.gathered.result
     (λ k. c.in_ok-brought-in-Some.ensures k ∙ ap (λ (l : List ℕ). block_among l (blocks_of t.blocks) k) (c.as_slice.ensures ∙ c.keys_of-found.ensures))
     (h f ∙ ap (λ (l : List ℕ). gathered_turned (cluster_of f (record old { answers = c.take.new.self })) c.args.asker c.args.peer c.args.ask l (among c.in_ok-brought-in-Some.brought.items)) c.keys_of-found.ensures))
     c.gathered.ensures.cluster
+
+pub returns-in-None-clause-few : goal.returns-in-None-clause-few
+returns-in-None-clause-few g c n h = took_more n c.args.self.now h
+
+pub returns-in_ok-brought-in-Some-clause-few : goal.returns-in_ok-brought-in-Some-clause-few
+returns-in_ok-brought-in-Some-clause-few g c = c.gathered.ensures.few
+
+pub returns-in_ok-brought-in-Some-clause-refused : goal.returns-in_ok-brought-in-Some-clause-refused
+unfolding world_of
+returns-in_ok-brought-in-Some-clause-refused g c r f =
+    let old = c.args.self.now in
+    let by = λ (l : List ℕ). IsRefusedBy (world_of f old) c.args.asker c.args.peer c.args.ask l in
+    subst (λ o. IsSomeAnd o (λ q. by q.keys))
+    (ap (option_map (λ (t : InTransit g.row.B.Denot). parcel_of_transit t)) c.in-Some.ensures.item ∙ sym (parcel_found c.args.asker c.args.peer c.args.ask old.answers))
+    (subst by c.keys_of-found.ensures (refused_before f old c.take.new.self c.args.asker c.args.peer c.args.ask c.keys_of-found.result (c.gathered.ensures.refused r f)))
+
+pub returns-in_ok-brought-in-Some-clause-spent : goal.returns-in_ok-brought-in-Some-clause-spent
+returns-in_ok-brought-in-Some-clause-spent g c = c.gathered.ensures.spent

@@ -1,4 +1,4 @@
-use Rattle.std.proofs.Common.{◌≡◌, ◌∙◌, ◌<◌, ◌++◌, List, ap, arith, length}
+use Rattle.std.proofs.Common.{◌≡◌, ◌∙◌, ◌<◌, ◌++◌, List, sym, ap, arith, length}
 use Rattle.cluster_msgs.specs.Shape.{key_count}
 use Rattle.cluster_msgs.specs.declared.cores.ClientInstruction.{ClientInstruction}
 use Rattle.cluster_msgs.specs.declared.messages.Message.TheVariants as message
@@ -9,6 +9,7 @@ use Rattle.gather_client.specs.CoreState.{CoreState, client_facts}
 use Rattle.cluster_nodes.specs.Nodes.{as_from_client, clients_of, world_of}
 use Rattle.cluster_nodes.proofs.NodeLemmas.{from_clients_are, only_more}
 use Rattle.cluster_nodes.proofs.Places.{all_at}
+use Rattle.cluster_nodes.proofs.Counting.{workers_more, same_err}
 use Rattle.cluster_nodes.proofs.Keeping.{sized_client}
 use Rattle.cluster_nodes.proofs.Turning.{client_turn_is, client_now}
 use Rattle.cluster_nodes.proofs.nodes.Nodes.client_turn.Goals as goal
@@ -52,3 +53,13 @@ returns-clause-nodes g c =
         answers = c.requires.nodes.sorted.answers;
       };
     }
+
+pub returns-clause-few : goal.returns-clause-few
+returns-clause-few g c n h = (workers_more n c.args.self.now.workers.items h.0, c.in_ok-client_on.ensures.few n h.1)
+
+pub returns-in_err-client_on-clause-refused : goal.returns-in_err-client_on-clause-refused
+unfolding world_of
+returns-in_err-client_on-clause-refused g c r f = c.in_err-client_on.ensures.refused (sym (same_err c.from_residual.result _ c.from_residual.ensures.1) ∙ r) f.setting.shape
+
+pub returns-in_err-client_on-clause-spent : goal.returns-in_err-client_on-clause-spent
+returns-in_err-client_on-clause-spent g c r n h = c.in_err-client_on.ensures.spent (sym (same_err c.from_residual.result _ c.from_residual.ensures.1) ∙ r) n h.1

@@ -29,3 +29,6 @@ returns-clause-nodes g c =
         answers = s.answers;
       };
     }
+
+pub returns-clause-few : goal.returns-clause-few
+returns-clause-few g c n h = h

@@ -1,13 +1,16 @@
-use Rattle.std.proofs.Common.{◌∙◌, ℕ, List, ap, refl}
+use Rattle.std.proofs.Common.{◌≡◌, ◌∙◌, ℕ, List, false, ap, refl, subst}
+use Rattle.std.specs.Prelude.{IsSomeAnd}
 use Rattle.std.specs.declared.sync.Arc.{Arc}
 use Rattle.std.specs.declared.alloc.Global.{Global}
 use Rattle.cluster_msgs.specs.declared.cores.WorkerEvent.TheVariants.{Down as Told}
+use Rattle.cluster_rules.specs.WorkerStep.{worker_takes}
 use Rattle.message_queues.proofs.QueueLemmas.{on_ok}
 use Rattle.value_laws.specs.Blocks.{Cluster}
 use Rattle.cluster_nodes.specs.Nodes.{world_of, cluster_of}
 use Rattle.cluster_nodes.specs.Turns.{among, nothing, worker_turned}
 use Rattle.cluster_nodes.proofs.Changing.{with_down, delivered, not_delivered}
 use Rattle.cluster_nodes.proofs.Keeping.{sized_links}
+use Rattle.cluster_nodes.proofs.Counting.{took_more}
 use Rattle.cluster_nodes.proofs.nodes.Nodes.deliver_down.Goals as goal
 
 pub worker_turn-requires-clause-nodes : goal.worker_turn-requires-clause-nodes
@@ -41,3 +44,16 @@ returns-in-None-clause-nodes g c =
       sized = sized_links old c.pop_down.new.down old.up old.to_client old.from_client c.pop_down.ensures.length refl refl refl c.requires.nodes.sized;
       sorted = record { down = c.pop_down.ensures.sorted; up = s.up; to_client = s.to_client; from_client = s.from_client; requests = s.requests; answers = s.answers };
     }
+
+pub returns-in-Some-clause-few : goal.returns-in-Some-clause-few
+returns-in-Some-clause-few g c = c.worker_turn.ensures.few
+
+pub returns-in-Some-clause-refused : goal.returns-in-Some-clause-refused
+unfolding world_of
+returns-in-Some-clause-refused g c r f = subst (λ o. IsSomeAnd o (λ m. worker_takes ((world_of f c.args.self.now).workers c.args.worker) (Told m) ≡ false)) c.in-Some.ensures.first (c.worker_turn.ensures.refused r f)
+
+pub returns-in-Some-clause-spent : goal.returns-in-Some-clause-spent
+returns-in-Some-clause-spent g c = c.worker_turn.ensures.spent
+
+pub returns-in-None-clause-few : goal.returns-in-None-clause-few
+returns-in-None-clause-few g c n h = took_more n c.args.self.now h

@@ -1,4 +1,4 @@
-use Rattle.std.proofs.Common.{◌≡◌, ◌∙◌, ℕ, List, true, false, refl, ap, sym, subst, [], ◌∷◌, ◌++◌}
+use Rattle.std.proofs.Common.{◌≡◌, ◌≤◌, ◌∙◌, ℕ, List, true, false, refl, ap, sym, subst, [], ◌∷◌, ◌++◌, arith}
 use Rattle.std.specs.List.{filter_map, AllByRecursion}
 use Rattle.cluster_msgs.specs.declared.messages.Message.{Message}
 use Rattle.message_queues.specs.Posts.{downs, ups}
@@ -7,6 +7,7 @@ use Rattle.cluster_msgs.specs.Shape.{Shape}
 use Rattle.cluster_rules.specs.Worker.{WorkerFacts, new_worker}
 use Rattle.fact_rows.specs.Rows.{cell, height, width}
 use Rattle.worker_core.specs.Core.{Core, facts}
+use Rattle.cluster_nodes.specs.Kept.{WorkersTookFew}
 use Rattle.cluster_nodes.proofs.Places.{all_more, one_longer}
 use Rattle.cluster_nodes.proofs.Changing.{joined_is, grid_more}
 use Rattle.cluster_nodes.proofs.Keeping.{sized_joined}
@@ -46,3 +47,8 @@ returns-clause-nodes g c =
         answers = s.answers;
       };
     }
+
+pub returns-clause-few : goal.returns-clause-few
+returns-clause-few g c n h =
+    let e = c.in_ok-core.ensures.events in
+    (subst (λ (l : List Core). WorkersTookFew n l) (sym c.in_ok-push.ensures.items) (all_more (λ (x : Core). x.events ≤ n) c.args.self.now.workers.items c.in_ok-core.core (omega (arith, e)) h.0), h.1)

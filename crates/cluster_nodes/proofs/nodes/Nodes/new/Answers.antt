@@ -1,4 +1,4 @@
-use Rattle.std.proofs.Common.{◌≡◌, ◌∙◌, ◌++◌, ◌∷◌, [], ℕ, Bool, List, false, sym, ap, subst, length}
+use Rattle.std.proofs.Common.{◌≡◌, ◌≤◌, ◌∙◌, ◌++◌, ◌∷◌, [], ℕ, Bool, List, false, sym, ap, subst, arith, length}
 use Rattle.std.specs.List.{AllByRecursion}
 use Rattle.cluster_msgs.specs.Shape.{Shape}
 use Rattle.cluster_rules.specs.Client.{new_client}
@@ -6,6 +6,7 @@ use Rattle.cluster_rules.specs.Worker.{WorkerFacts, new_worker}
 use Rattle.fact_rows.specs.Rows.{cell, height, width}
 use Rattle.gather_client.specs.CoreState.{CoreState, client_facts}
 use Rattle.worker_core.specs.Core.{Core}
+use Rattle.cluster_nodes.specs.Kept.{WorkersTookFew}
 use Rattle.cluster_nodes.proofs.Changing.{grid_more}
 use Rattle.cluster_nodes.proofs.Starting.{no_rows, opening_is, started}
 use Rattle.cluster_nodes.proofs.nodes.Nodes.new.Goals as goal
@@ -41,3 +42,9 @@ returns-clause-nodes g c =
     (ap width c.in_ok-push-2.ensures.ok ∙ ap (λ (v : ℕ × List (List Bool)). width v) c.empty-spilled.ensures ∙ c.keys-keys.ensures)
     (c.in_ok-held.ensures.width ∙ c.keys-keys.ensures) (c.in_ok-inputs.ensures.width ∙ c.keys-keys.ensures) (c.in_ok-got.ensures.width ∙ c.keys-keys.ensures)
     c.in_ok-down.ensures.none c.in_ok-up.ensures.none c.in_ok-to_client.ensures.none c.in_ok-from_client.ensures.none c.new-2.ensures c.new-3.ensures
+
+pub returns-clause-few : goal.returns-clause-few
+returns-clause-few g c =
+    let core = c.in_ok-new.field-0 in
+    let e = c.in_ok-new.ensures.events in
+    (subst (λ (l : List Core). WorkersTookFew 0 l) (sym (c.in_ok-push.ensures.items ∙ ap (λ (l : List Core). l ++ core ∷ []) c.new-workers.ensures.items)) (omega (arith, e), tt), c.in_ok-clients.ensures.few)

@@ -35,3 +35,9 @@ returns-in_ok-blocks-in-Some-clause-nodes g c = on_ok c.insert.result (λ ok. no
     (requests_left c.args.asker c.args.peer c.args.ask c.args.self.now.requests c.take.new.self c.in-Some.ensures.rest c.requires.nodes.sorted.requests)
     (answers_more c.answer.result c.args.self.now.answers c.insert.new.self ok (answer_kind c.answer.result _ _ _ _ c.answer.ensures.parcel c.answer.ensures.message) c.requires.nodes.sorted.answers)
     c.requires.nodes) c.insert.ensures.ok
+
+pub returns-in-None-clause-few : goal.returns-in-None-clause-few
+returns-in-None-clause-few g c n h = h
+
+pub returns-in_ok-blocks-in-Some-clause-few : goal.returns-in_ok-blocks-in-Some-clause-few
+returns-in_ok-blocks-in-Some-clause-few g c = on_ok c.insert.result (λ ok n h. h) c.insert.ensures.ok

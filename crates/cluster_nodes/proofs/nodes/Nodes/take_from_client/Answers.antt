@@ -20,3 +20,6 @@ returns-clause-nodes g c =
       sized = sized_links old old.down old.up old.to_client c.pop_from_client.new.from_client refl refl refl c.pop_from_client.ensures.length c.requires.nodes.sized;
       sorted = record { down = s.down; up = s.up; to_client = s.to_client; from_client = c.pop_from_client.ensures.sorted; requests = s.requests; answers = s.answers };
     }
+
+pub returns-clause-few : goal.returns-clause-few
+returns-clause-few g c n h = h

@@ -20,3 +20,6 @@ returns-clause-nodes g c =
       sized = sized_links old old.down c.pop_up.new.up old.to_client old.from_client refl c.pop_up.ensures.length refl refl c.requires.nodes.sized;
       sorted = record { down = s.down; up = c.pop_up.ensures.sorted; to_client = s.to_client; from_client = s.from_client; requests = s.requests; answers = s.answers };
     }
+
+pub returns-clause-few : goal.returns-clause-few
+returns-clause-few g c n h = h

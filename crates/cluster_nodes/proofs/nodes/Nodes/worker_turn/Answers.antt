@@ -1,4 +1,4 @@
-use Rattle.std.proofs.Common.{◌≡◌, ◌∙◌, ◌<◌, ◌++◌, List, ap, arith, length}
+use Rattle.std.proofs.Common.{◌≡◌, ◌∙◌, ◌<◌, ◌++◌, List, sym, ap, arith, length}
 use Rattle.cluster_msgs.specs.Shape.{key_count}
 use Rattle.cluster_msgs.specs.declared.cores.Instruction.{Instruction}
 use Rattle.cluster_msgs.specs.declared.messages.Message.TheVariants as message
@@ -9,6 +9,7 @@ use Rattle.worker_core.specs.Core.{Core, facts}
 use Rattle.cluster_nodes.specs.Nodes.{as_up, workers_of, world_of}
 use Rattle.cluster_nodes.proofs.NodeLemmas.{ups_are, only_more}
 use Rattle.cluster_nodes.proofs.Places.{all_at}
+use Rattle.cluster_nodes.proofs.Counting.{clients_more, same_err}
 use Rattle.cluster_nodes.proofs.Keeping.{sized_worker}
 use Rattle.cluster_nodes.proofs.Turning.{worker_turn_is, core_now}
 use Rattle.cluster_nodes.proofs.nodes.Nodes.worker_turn.Goals as goal
@@ -52,3 +53,13 @@ returns-clause-nodes g c =
         answers = c.requires.nodes.sorted.answers;
       };
     }
+
+pub returns-clause-few : goal.returns-clause-few
+returns-clause-few g c n h = (c.in_ok-worker_on.ensures.few n h.0, clients_more n c.args.self.now.clients.items h.1)
+
+pub returns-in_err-worker_on-clause-refused : goal.returns-in_err-worker_on-clause-refused
+unfolding world_of
+returns-in_err-worker_on-clause-refused g c r f = c.in_err-worker_on.ensures.refused (sym (same_err c.from_residual.result _ c.from_residual.ensures.1) ∙ r) f.setting.shape c.args.self.now.alive c.requires.alive
+
+pub returns-in_err-worker_on-clause-spent : goal.returns-in_err-worker_on-clause-spent
+returns-in_err-worker_on-clause-spent g c r n h = c.in_err-worker_on.ensures.spent (sym (same_err c.from_residual.result _ c.from_residual.ensures.1) ∙ r) n h.0

@@ -7,7 +7,7 @@ use Rattle.cluster_world.proofs.state.State.act.Goals as goal
 
 pub want-requires : goal.want-requires
 want-requires g c =
-    record { joint = c.requires.joint; possible = subst (λ e. enabled (world c.args.self.now) e ≡ true) c.in-Want.is c.requires.possible }
+    record { joint = c.requires.joint; room = c.requires.room; possible = subst (λ e. enabled (world c.args.self.now) e ≡ true) c.in-Want.is c.requires.possible }
 
 pub returns-in-Want : goal.returns-in-Want
 returns-in-Want g c =
@@ -15,7 +15,7 @@ returns-in-Want g c =
 
 pub release-requires : goal.release-requires
 release-requires g c =
-    record { joint = c.requires.joint; possible = subst (λ e. enabled (world c.args.self.now) e ≡ true) c.in-Release.is c.requires.possible }
+    record { joint = c.requires.joint; room = c.requires.room; possible = subst (λ e. enabled (world c.args.self.now) e ≡ true) c.in-Release.is c.requires.possible }
 
 pub returns-in-Release : goal.returns-in-Release
 returns-in-Release g c =
@@ -23,7 +23,7 @@ returns-in-Release g c =
 
 pub join-requires : goal.join-requires
 join-requires g c =
-    record { joint = c.requires.joint; possible = subst (λ e. enabled (world c.args.self.now) e ≡ true) c.in-Join.is c.requires.possible }
+    record { joint = c.requires.joint; room = c.requires.room; possible = subst (λ e. enabled (world c.args.self.now) e ≡ true) c.in-Join.is c.requires.possible }
 
 pub returns-in-Join : goal.returns-in-Join
 returns-in-Join g c =
@@ -31,7 +31,7 @@ returns-in-Join g c =
 
 pub see_loss-requires : goal.see_loss-requires
 see_loss-requires g c =
-    record { joint = c.requires.joint; possible = subst (λ e. enabled (world c.args.self.now) e ≡ true) c.in-SeeLoss.is c.requires.possible }
+    record { joint = c.requires.joint; room = c.requires.room; possible = subst (λ e. enabled (world c.args.self.now) e ≡ true) c.in-SeeLoss.is c.requires.possible }
 
 pub returns-in-SeeLoss : goal.returns-in-SeeLoss
 returns-in-SeeLoss g c =
@@ -39,7 +39,7 @@ returns-in-SeeLoss g c =
 
 pub suspect-requires : goal.suspect-requires
 suspect-requires g c =
-    record { joint = c.requires.joint; possible = subst (λ e. enabled (world c.args.self.now) e ≡ true) c.in-Suspect.is c.requires.possible }
+    record { joint = c.requires.joint; room = c.requires.room; possible = subst (λ e. enabled (world c.args.self.now) e ≡ true) c.in-Suspect.is c.requires.possible }
 
 pub returns-in-Suspect : goal.returns-in-Suspect
 returns-in-Suspect g c =
@@ -47,7 +47,7 @@ returns-in-Suspect g c =
 
 pub deliver_down-requires : goal.deliver_down-requires
 deliver_down-requires g c =
-    record { joint = c.requires.joint; possible = subst (λ e. enabled (world c.args.self.now) e ≡ true) c.in-DeliverDown.is c.requires.possible }
+    record { joint = c.requires.joint; room = c.requires.room; possible = subst (λ e. enabled (world c.args.self.now) e ≡ true) c.in-DeliverDown.is c.requires.possible }
 
 pub returns-in-DeliverDown : goal.returns-in-DeliverDown
 returns-in-DeliverDown g c =
@@ -55,7 +55,7 @@ returns-in-DeliverDown g c =
 
 pub deliver_up-requires : goal.deliver_up-requires
 deliver_up-requires g c =
-    record { joint = c.requires.joint; possible = subst (λ e. enabled (world c.args.self.now) e ≡ true) c.in-DeliverUp.is c.requires.possible }
+    record { joint = c.requires.joint; room = c.requires.room; possible = subst (λ e. enabled (world c.args.self.now) e ≡ true) c.in-DeliverUp.is c.requires.possible }
 
 pub returns-in-DeliverUp : goal.returns-in-DeliverUp
 returns-in-DeliverUp g c =
@@ -63,7 +63,7 @@ returns-in-DeliverUp g c =
 
 pub deliver_to_client-requires : goal.deliver_to_client-requires
 deliver_to_client-requires g c =
-    record { joint = c.requires.joint; possible = subst (λ e. enabled (world c.args.self.now) e ≡ true) c.in-DeliverToClient.is c.requires.possible }
+    record { joint = c.requires.joint; room = c.requires.room; possible = subst (λ e. enabled (world c.args.self.now) e ≡ true) c.in-DeliverToClient.is c.requires.possible }
 
 pub returns-in-DeliverToClient : goal.returns-in-DeliverToClient
 returns-in-DeliverToClient g c =
@@ -71,7 +71,7 @@ returns-in-DeliverToClient g c =
 
 pub deliver_from_client-requires : goal.deliver_from_client-requires
 deliver_from_client-requires g c =
-    record { joint = c.requires.joint; possible = subst (λ e. enabled (world c.args.self.now) e ≡ true) c.in-DeliverFromClient.is c.requires.possible }
+    record { joint = c.requires.joint; room = c.requires.room; possible = subst (λ e. enabled (world c.args.self.now) e ≡ true) c.in-DeliverFromClient.is c.requires.possible }
 
 pub returns-in-DeliverFromClient : goal.returns-in-DeliverFromClient
 returns-in-DeliverFromClient g c =
@@ -79,7 +79,7 @@ returns-in-DeliverFromClient g c =
 
 pub start-requires : goal.start-requires
 start-requires g c =
-    record { joint = c.requires.joint; possible = subst (λ e. enabled (world c.args.self.now) e ≡ true) c.in-Start.is c.requires.possible }
+    record { joint = c.requires.joint; room = c.requires.room; possible = subst (λ e. enabled (world c.args.self.now) e ≡ true) c.in-Start.is c.requires.possible }
 
 pub returns-in-Start : goal.returns-in-Start
 returns-in-Start g c =
@@ -87,7 +87,7 @@ returns-in-Start g c =
 
 pub send_gather-requires : goal.send_gather-requires
 send_gather-requires g c =
-    record { joint = c.requires.joint; possible = subst (λ e. enabled (world c.args.self.now) e ≡ true) c.in-SendGather.is c.requires.possible }
+    record { joint = c.requires.joint; room = c.requires.room; possible = subst (λ e. enabled (world c.args.self.now) e ≡ true) c.in-SendGather.is c.requires.possible }
 
 pub returns-in-SendGather : goal.returns-in-SendGather
 returns-in-SendGather g c =
@@ -103,7 +103,7 @@ returns-in-ServeGather g c =
 
 pub arrive-requires : goal.arrive-requires
 arrive-requires g c =
-    record { joint = c.requires.joint; possible = subst (λ e. enabled (world c.args.self.now) e ≡ true) c.in-ArriveGather.is c.requires.possible; carried = c.requires.carried }
+    record { joint = c.requires.joint; room = c.requires.room; possible = subst (λ e. enabled (world c.args.self.now) e ≡ true) c.in-ArriveGather.is c.requires.possible; carried = c.requires.carried }
 
 pub returns-in-ArriveGather : goal.returns-in-ArriveGather
 returns-in-ArriveGather g c =
@@ -111,7 +111,7 @@ returns-in-ArriveGather g c =
 
 pub fail_gather-requires : goal.fail_gather-requires
 fail_gather-requires g c =
-    record { joint = c.requires.joint; possible = subst (λ e. enabled (world c.args.self.now) e ≡ true) c.in-FailGather.is c.requires.possible }
+    record { joint = c.requires.joint; room = c.requires.room; possible = subst (λ e. enabled (world c.args.self.now) e ≡ true) c.in-FailGather.is c.requires.possible }
 
 pub returns-in-FailGather : goal.returns-in-FailGather
 returns-in-FailGather g c =
@@ -119,7 +119,7 @@ returns-in-FailGather g c =
 
 pub balance-requires : goal.balance-requires
 balance-requires g c =
-    record { joint = c.requires.joint; possible = subst (λ e. enabled (world c.args.self.now) e ≡ true) c.in-Balance.is c.requires.possible }
+    record { joint = c.requires.joint; room = c.requires.room; possible = subst (λ e. enabled (world c.args.self.now) e ≡ true) c.in-Balance.is c.requires.possible }
 
 pub returns-in-Balance : goal.returns-in-Balance
 returns-in-Balance g c =
@@ -127,7 +127,7 @@ returns-in-Balance g c =
 
 pub evict-requires : goal.evict-requires
 evict-requires g c =
-    record { joint = c.requires.joint; possible = subst (λ e. enabled (world c.args.self.now) e ≡ true) c.in-Evict.is c.requires.possible }
+    record { joint = c.requires.joint; room = c.requires.room; possible = subst (λ e. enabled (world c.args.self.now) e ≡ true) c.in-Evict.is c.requires.possible }
 
 pub returns-in-Evict : goal.returns-in-Evict
 returns-in-Evict g c =
@@ -135,7 +135,7 @@ returns-in-Evict g c =
 
 pub lose_spilled-requires : goal.lose_spilled-requires
 lose_spilled-requires g c =
-    record { joint = c.requires.joint; possible = subst (λ e. enabled (world c.args.self.now) e ≡ true) c.in-LoseSpilled.is c.requires.possible }
+    record { joint = c.requires.joint; room = c.requires.room; possible = subst (λ e. enabled (world c.args.self.now) e ≡ true) c.in-LoseSpilled.is c.requires.possible }
 
 pub returns-in-LoseSpilled : goal.returns-in-LoseSpilled
 returns-in-LoseSpilled g c =

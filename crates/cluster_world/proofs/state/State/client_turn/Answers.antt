@@ -1,19 +1,26 @@
-use Rattle.std.proofs.Common.{ap}
+use Rattle.std.proofs.Common.{sym, ap, ◌∙◌}
+use Rattle.std.proofs.lemmas.Bool.{false≢true}
+use Rattle.scheduler_core.specs.Cores.{facts}
 use Rattle.cluster_rules.specs.Sched.{Facts}
 use Rattle.cluster_nodes.specs.Nodes.{cluster_of}
 use Rattle.cluster_nodes.specs.Turns.{among, nothing, client_turned}
 use Rattle.cluster_world.specs.Worlds.{cluster}
 use Rattle.cluster_world.proofs.Acting as acting
+use Rattle.cluster_world.proofs.Taking as taking
 use Rattle.cluster_world.proofs.state.State.client_turn.Goals as goal
 
 pub client_turn-requires : goal.client_turn-requires
 client_turn-requires g c =
     record { nodes = c.requires.joint.nodes; client = acting.client_place c.args.self.now c.requires.joint c.args.client c.requires.there }
 
+pub without_refusal-requires : goal.without_refusal-requires
+without_refusal-requires g c =
+    record { refused = λ r. false≢true (sym (c.client_turn.ensures.refused r (facts c.args.self.now.sched)) ∙ c.requires.takes); spent = λ r. taking.not_spent c.args.self.now c.requires.joint c.requires.room (c.client_turn.ensures.spent r) }
+
 pub returns-clause-turned : goal.returns-clause-turned
 returns-clause-turned g c =
-    acting.on_turned c.args.self.now _ c.client_turn.result _ (client_turned (cluster c.args.self.now) c.args.client c.args.event nothing) (ap (λ ps. client_turned (cluster c.args.self.now) c.args.client c.args.event (among ps)) c.new-none.ensures.items)
-    (acting.on_ok3 c.client_turn.result (λ e n h. acting.nodes_turned c.args.self.now c.requires.joint c.client_turn.new.self (λ (f : Facts). client_turned (cluster_of f c.args.self.now.nodes) c.args.client c.args.event (among c.new-none.result.items)) e n h) c.client_turn.ensures.cluster c.client_turn.ensures.nodes c.client_turn.ensures.same)
+    acting.passed c.without_refusal.result c.client_turn.result c.without_refusal.ensures (acting.on_turned c.args.self.now _ c.client_turn.result _ (client_turned (cluster c.args.self.now) c.args.client c.args.event nothing) (ap (λ ps. client_turned (cluster c.args.self.now) c.args.client c.args.event (among ps)) c.new-none.ensures.items)
+    (acting.on_ok4 c.client_turn.result (λ e n h f. acting.nodes_turned c.args.self.now c.requires.joint c.client_turn.new.self (λ (f : Facts). client_turned (cluster_of f c.args.self.now.nodes) c.args.client c.args.event (among c.new-none.result.items)) e n h f) c.client_turn.ensures.cluster c.client_turn.ensures.nodes c.client_turn.ensures.same c.client_turn.ensures.few))
 
 pub returns-clause-kept : goal.returns-clause-kept
 returns-clause-kept g c = acting.kept_nodes c.args.self.now c.client_turn.new.self

@@ -3,11 +3,12 @@ use Rattle.cluster_msgs.specs.declared.cores.SchedEvent.TheVariants as sched
 use Rattle.cluster_world.specs.Worlds.{cluster}
 use Rattle.cluster_world.proofs.Acting as acting
 use Rattle.cluster_world.proofs.Rows as row
+use Rattle.cluster_world.proofs.Taking as taking
 use Rattle.cluster_world.proofs.state.State.evict.Goals as goal
 
 pub scheduler_turn-requires : goal.scheduler_turn-requires
 scheduler_turn-requires g c =
-    record { nodes = c.requires.joint.nodes; workers = acting.workers_stay c.args.self.now c.requires.joint (sched.Evict) refl; clients = c.requires.joint.clients }
+    record { nodes = c.requires.joint.nodes; workers = acting.workers_stay c.args.self.now c.requires.joint (sched.Evict) refl; clients = c.requires.joint.clients; takes = taking.takes_evict c.args.self.now c.requires.joint c.requires.possible; room = taking.has_room c.args.self.now c.requires.joint c.requires.room }
 
 pub returns-clause-moved : goal.returns-clause-moved
 returns-clause-moved g c =

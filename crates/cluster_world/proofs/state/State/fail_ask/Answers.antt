@@ -9,15 +9,16 @@ use Rattle.cluster_world.specs.Worlds.{cluster, world}
 use Rattle.cluster_world.specs.Outcomes.{stepped}
 use Rattle.cluster_world.proofs.Acting as acting
 use Rattle.cluster_world.proofs.Rows as row
+use Rattle.cluster_world.proofs.Taking as taking
 use Rattle.cluster_world.proofs.state.State.fail_ask.Goals as goal
 
 pub worker_turn-requires : goal.worker_turn-requires
 worker_turn-requires g c =
-    record { joint = c.requires.joint; alive = subst (λ a. is_asker (world c.args.self.now) a ≡ true) c.in-Worker.is c.requires.there }
+    record { joint = c.requires.joint; alive = subst (λ a. is_asker (world c.args.self.now) a ≡ true) c.in-Worker.is c.requires.there; takes = taking.takes_failure c.args.self.now c.requires.joint c.in-Worker.worker c.args.peer c.args.ask; room = c.requires.room }
 
 pub client_turn-requires : goal.client_turn-requires
 client_turn-requires g c =
-    record { joint = c.requires.joint; there = subst (λ a. is_asker (world c.args.self.now) a ≡ true) c.in-Client.is c.requires.there }
+    record { joint = c.requires.joint; there = subst (λ a. is_asker (world c.args.self.now) a ≡ true) c.in-Client.is c.requires.there; takes = taking.client_takes_failure c.args.self.now c.requires.joint c.in-Client.client c.args.peer c.args.ask; room = c.requires.room }
 
 pub returns-in-Worker : goal.returns-in-Worker
 returns-in-Worker g c =

@@ -10,7 +10,7 @@ ask_number-requires g c = c.requires.joint
 
 pub fail_ask-requires : goal.fail_ask-requires
 fail_ask-requires g c =
-    let a = (acting.can_fail c.args.self.now c.requires.joint c.args.asker c.args.peer c.requires.possible).0 in record { joint = c.requires.joint; there = a; ask = acting.under (is_asker (world c.args.self.now) c.args.asker) _ (Some c.in-Some.ask) c.in-Some.ensures a }
+    let a = (acting.can_fail c.args.self.now c.requires.joint c.args.asker c.args.peer c.requires.possible).0 in record { joint = c.requires.joint; room = c.requires.room; there = a; ask = acting.under (is_asker (world c.args.self.now) c.args.asker) _ (Some c.in-Some.ask) c.in-Some.ensures a }
 
 pub returns-in-Some : goal.returns-in-Some
 returns-in-Some g c = c.fail_ask.ensures

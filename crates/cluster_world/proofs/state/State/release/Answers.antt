@@ -4,11 +4,12 @@ use Rattle.cluster_nodes.specs.Turns.{nothing, client_turned}
 use Rattle.cluster_world.specs.Worlds.{cluster}
 use Rattle.cluster_world.proofs.Acting as acting
 use Rattle.cluster_world.proofs.Rows as row
+use Rattle.cluster_world.proofs.Taking as taking
 use Rattle.cluster_world.proofs.state.State.release.Goals as goal
 
 pub client_turn-requires : goal.client_turn-requires
 client_turn-requires g c =
-    record { joint = c.requires.joint; there = acting.can_release c.args.self.now c.requires.joint c.args.client c.args.keys.now c.requires.possible }
+    record { joint = c.requires.joint; there = acting.can_release c.args.self.now c.requires.joint c.args.client c.args.keys.now c.requires.possible; takes = taking.takes_release c.args.self.now c.requires.joint c.args.client c.args.keys.now c.in_ok-keys.keys c.in_ok-keys.ensures c.requires.possible; room = c.requires.room }
 
 pub returns-in_err-keys : goal.returns-in_err-keys
 returns-in_err-keys g c =

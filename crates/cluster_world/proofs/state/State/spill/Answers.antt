@@ -6,6 +6,7 @@ use Rattle.cluster_nodes.specs.Turns.{in_world}
 use Rattle.cluster_world.specs.Worlds.{cluster}
 use Rattle.cluster_world.proofs.Acting as acting
 use Rattle.cluster_world.proofs.Rows as row
+use Rattle.cluster_nodes.proofs.Counting.{took_more}
 use Rattle.cluster_world.proofs.state.State.spill.Goals as goal
 
 pub spill-requires : goal.spill-requires
@@ -14,7 +15,7 @@ spill-requires g c =
 
 pub returns-clause-moved : goal.returns-clause-moved
 returns-clause-moved g c =
-    acting.turned_to c.args.self.now _ _ _ (row.spill_is None (cluster c.args.self.now) c.requires.joint.tidy c.args.worker c.args.key) (acting.nodes_turned c.args.self.now c.requires.joint c.spill.new.self (λ (f : Facts). in_world (cluster_of f c.args.self.now.nodes) (spill (world_of f c.args.self.now.nodes) c.args.worker c.args.key)) c.spill.ensures.cluster c.spill.ensures.nodes c.spill.ensures.same)
+    acting.turned_to c.args.self.now _ _ _ (row.spill_is None (cluster c.args.self.now) c.requires.joint.tidy c.args.worker c.args.key) (acting.nodes_turned c.args.self.now c.requires.joint c.spill.new.self (λ (f : Facts). in_world (cluster_of f c.args.self.now.nodes) (spill (world_of f c.args.self.now.nodes) c.args.worker c.args.key)) c.spill.ensures.cluster c.spill.ensures.nodes c.spill.ensures.same (λ b t. took_more b c.spill.new.self (c.spill.ensures.few b t)))
 
 pub returns-clause-kept : goal.returns-clause-kept
 returns-clause-kept g c = acting.kept_nodes c.args.self.now c.spill.new.self

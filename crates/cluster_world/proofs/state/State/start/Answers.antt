@@ -8,7 +8,7 @@ would_start-requires g c = c.requires.joint.nodes
 
 pub start_key-requires : goal.start_key-requires
 start_key-requires g c =
-    let a = (acting.can_start c.args.self.now c.requires.joint c.args.worker c.requires.possible).0 in record { joint = c.requires.joint; alive = a; key = acting.under ((world c.args.self.now).alive c.args.worker) _ (Some c.in-Some.key) c.in-Some.ensures a }
+    let a = (acting.can_start c.args.self.now c.requires.joint c.args.worker c.requires.possible).0 in record { joint = c.requires.joint; room = c.requires.room; alive = a; key = acting.under ((world c.args.self.now).alive c.args.worker) _ (Some c.in-Some.key) c.in-Some.ensures a }
 
 pub returns-in-Some : goal.returns-in-Some
 returns-in-Some g c = c.start_key.ensures

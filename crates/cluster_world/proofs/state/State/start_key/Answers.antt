@@ -5,6 +5,7 @@ use Rattle.cluster_nodes.specs.Nodes.{block_at}
 use Rattle.cluster_world.proofs.Starts.{started}
 use Rattle.std.proofs.Common.{None, ap, ◌∙◌, arith}
 use Rattle.cluster_world.proofs.Acting as acting
+use Rattle.cluster_world.proofs.Taking as taking
 use Rattle.cluster_world.proofs.state.State.start_key.Goals as goal
 
 pub deps-deps-requires : goal.deps-deps-requires
@@ -17,7 +18,7 @@ returns-in_err-inputs g c =
 
 pub worker_turn-requires : goal.worker_turn-requires
 worker_turn-requires g c =
-    record { joint = c.requires.joint; alive = c.requires.alive }
+    record { joint = c.requires.joint; alive = c.requires.alive; takes = taking.takes_start c.args.self.now c.requires.joint c.args.worker c.args.key c.requires.key; room = c.requires.room }
 
 pub returns-in_err-worker_turn : goal.returns-in_err-worker_turn
 returns-in_err-worker_turn g c =
