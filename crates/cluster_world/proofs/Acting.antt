@@ -52,10 +52,10 @@ on_ok4 (Ok a) f p q s t = f p q s t
 on_ok4 (Err e) f p q s t = tt
 
 -- an answer that is Ok where another one is
-pub passed : {A B E F P : Type 0} (out : Result A E) (r : Result B F) → is_ok out ≡ is_ok r → OnOk r P → OnOk out P
-passed (Ok a) (Ok b) e p = p
-passed (Ok a) (Err x) e p = absurd (false≢true (sym e))
-passed (Err x) r e p = tt
+pub passed : {A B E F : Type 0} (P : Type 0) (out : Result A E) (r : Result B F) → is_ok out ≡ is_ok r → OnOk r P → OnOk out P
+passed P (Ok a) (Ok b) e p = p
+passed P (Ok a) (Err x) e p = absurd (false≢true (sym e))
+passed P (Err x) r e p = tt
 
 pub took : {B F P : Type 0} (r : Result B F) → true ≡ is_ok r → OnOk r P → P
 took (Ok b) e p = p

@@ -20,7 +20,7 @@ without_refusal-requires g c =
 
 pub returns-clause-moved : goal.returns-clause-moved
 returns-clause-moved g c =
-    acting.passed c.without_refusal.result c.arrive.result c.without_refusal.ensures (acting.on_turned c.args.self.now _ c.arrive.result _ _ (gather.arrive_is None (cluster c.args.self.now) c.requires.joint.tidy c.args.asker c.args.peer c.args.ask c.requires.carried)
+    acting.passed _ c.without_refusal.result c.arrive.result c.without_refusal.ensures (acting.on_turned c.args.self.now _ c.arrive.result _ _ (gather.arrive_is None (cluster c.args.self.now) c.requires.joint.tidy c.args.asker c.args.peer c.args.ask c.requires.carried)
     (acting.on_ok4 c.arrive.result (λ e n h f. acting.nodes_turned c.args.self.now c.requires.joint c.arrive.new.self (λ (f : Facts). answer_arrived (cluster_of f c.args.self.now.nodes) c.args.asker c.args.peer c.args.ask (delivery_of c.args.asker c.args.peer c.args.ask (blocks_in c.args.self.now.nodes).carried)) e n h f) c.arrive.ensures.cluster c.arrive.ensures.nodes c.arrive.ensures.same c.arrive.ensures.few))
 
 pub returns-clause-kept : goal.returns-clause-kept

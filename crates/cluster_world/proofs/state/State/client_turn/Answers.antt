@@ -19,7 +19,7 @@ without_refusal-requires g c =
 
 pub returns-clause-turned : goal.returns-clause-turned
 returns-clause-turned g c =
-    acting.passed c.without_refusal.result c.client_turn.result c.without_refusal.ensures (acting.on_turned c.args.self.now _ c.client_turn.result _ (client_turned (cluster c.args.self.now) c.args.client c.args.event nothing) (ap (λ ps. client_turned (cluster c.args.self.now) c.args.client c.args.event (among ps)) c.new-none.ensures.items)
+    acting.passed _ c.without_refusal.result c.client_turn.result c.without_refusal.ensures (acting.on_turned c.args.self.now _ c.client_turn.result _ (client_turned (cluster c.args.self.now) c.args.client c.args.event nothing) (ap (λ ps. client_turned (cluster c.args.self.now) c.args.client c.args.event (among ps)) c.new-none.ensures.items)
     (acting.on_ok4 c.client_turn.result (λ e n h f. acting.nodes_turned c.args.self.now c.requires.joint c.client_turn.new.self (λ (f : Facts). client_turned (cluster_of f c.args.self.now.nodes) c.args.client c.args.event (among c.new-none.result.items)) e n h f) c.client_turn.ensures.cluster c.client_turn.ensures.nodes c.client_turn.ensures.same c.client_turn.ensures.few))
 
 pub returns-clause-kept : goal.returns-clause-kept

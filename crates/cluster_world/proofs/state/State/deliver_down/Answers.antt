@@ -20,7 +20,7 @@ without_refusal-requires g c =
 
 pub returns-clause-moved : goal.returns-clause-moved
 returns-clause-moved g c =
-    acting.passed c.without_refusal.result c.deliver_down.result c.without_refusal.ensures (acting.on_turned c.args.self.now _ c.deliver_down.result _ _ (row.down_step None (cluster c.args.self.now) c.requires.joint.tidy c.args.worker)
+    acting.passed _ c.without_refusal.result c.deliver_down.result c.without_refusal.ensures (acting.on_turned c.args.self.now _ c.deliver_down.result _ _ (row.down_step None (cluster c.args.self.now) c.requires.joint.tidy c.args.worker)
     (acting.on_ok4 c.deliver_down.result (λ e n h f. acting.nodes_turned c.args.self.now c.requires.joint c.deliver_down.new.self (λ (f : Facts). down_delivered (cluster_of f c.args.self.now.nodes) c.args.worker ((world_of f c.args.self.now.nodes).down c.args.worker)) e n h f) c.deliver_down.ensures.cluster c.deliver_down.ensures.nodes c.deliver_down.ensures.same c.deliver_down.ensures.few))
 
 pub returns-clause-kept : goal.returns-clause-kept

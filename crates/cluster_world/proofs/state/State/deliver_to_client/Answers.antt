@@ -19,7 +19,7 @@ without_refusal-requires g c =
 
 pub returns-clause-moved : goal.returns-clause-moved
 returns-clause-moved g c =
-    acting.passed c.without_refusal.result c.deliver_to_client.result c.without_refusal.ensures (acting.on_turned c.args.self.now _ c.deliver_to_client.result _ _ (row.told_step None (cluster c.args.self.now) c.requires.joint.tidy c.args.client)
+    acting.passed _ c.without_refusal.result c.deliver_to_client.result c.without_refusal.ensures (acting.on_turned c.args.self.now _ c.deliver_to_client.result _ _ (row.told_step None (cluster c.args.self.now) c.requires.joint.tidy c.args.client)
     (acting.on_ok4 c.deliver_to_client.result (λ e n h f. acting.nodes_turned c.args.self.now c.requires.joint c.deliver_to_client.new.self (λ (f : Facts). client_told (cluster_of f c.args.self.now.nodes) c.args.client ((world_of f c.args.self.now.nodes).to_client c.args.client)) e n h f) c.deliver_to_client.ensures.cluster c.deliver_to_client.ensures.nodes c.deliver_to_client.ensures.same c.deliver_to_client.ensures.few))
 
 pub returns-clause-kept : goal.returns-clause-kept

@@ -20,7 +20,7 @@ without_refusal-requires g c =
 
 pub returns-clause-turned : goal.returns-clause-turned
 returns-clause-turned g c =
-    acting.passed c.without_refusal.result c.worker_turn.result c.without_refusal.ensures (acting.on_turned c.args.self.now _ c.worker_turn.result _ (worker_turned (cluster c.args.self.now) c.args.worker c.args.event nothing) (ap (λ ps. worker_turned (cluster c.args.self.now) c.args.worker c.args.event (among ps)) c.new-none.ensures.items)
+    acting.passed _ c.without_refusal.result c.worker_turn.result c.without_refusal.ensures (acting.on_turned c.args.self.now _ c.worker_turn.result _ (worker_turned (cluster c.args.self.now) c.args.worker c.args.event nothing) (ap (λ ps. worker_turned (cluster c.args.self.now) c.args.worker c.args.event (among ps)) c.new-none.ensures.items)
     (acting.on_ok4 c.worker_turn.result (λ e n h f. acting.nodes_turned c.args.self.now c.requires.joint c.worker_turn.new.self (λ (f : Facts). worker_turned (cluster_of f c.args.self.now.nodes) c.args.worker c.args.event (among c.new-none.result.items)) e n h f) c.worker_turn.ensures.cluster c.worker_turn.ensures.nodes c.worker_turn.ensures.same c.worker_turn.ensures.few))
 
 pub returns-clause-kept : goal.returns-clause-kept
