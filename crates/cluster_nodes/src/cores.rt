@@ -17,7 +17,7 @@ use worker_core::WorkerCore;
 /// One worker takes an event. It is one that is alive, by any row of such marks.
 ///
 /// # Errors
-/// `Refused` only where the event isn't possible or names a key that isn't there, `Spent` only where the core has taken all
+/// `Refused` only where the event isn't possible or names a key that isn't there, `Spent` only where a core has taken all
 /// events that it takes, and `Memory` where no memory is left.
 pub fn worker_on(
     workers: &mut Vec<WorkerCore>,
@@ -45,7 +45,7 @@ pub fn worker_on(
 /// One client takes an event.
 ///
 /// # Errors
-/// `Refused` only where the event isn't possible or names a key that isn't there, `Spent` only where the core has taken all
+/// `Refused` only where the event isn't possible or names a key that isn't there, `Spent` only where a core has taken all
 /// events that it takes, and `Memory` where no memory is left.
 pub fn client_on(
     clients: &mut Vec<ClientCore>,
