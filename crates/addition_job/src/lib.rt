@@ -12,6 +12,3 @@ pub mod laws;
 
 pub use chunk::Chunk;
 pub use job::{AdditionJob, NoFeed, wanted};
-
-#[cfg(test)]
-mod tests;

@@ -19,6 +19,3 @@ pub use error::{NodeError, Quantity};
 pub use expr::{Expr, NODES, Node};
 pub use nd_grid::{Binary, Fold};
 pub use op::{NodeId, NodeIds, Op, Span, Spans};
-
-#[cfg(test)]
-mod tests;

@@ -16,6 +16,3 @@ mod steal;
 
 pub use drop::next_drop;
 pub use steal::next_steal;
-
-#[cfg(test)]
-mod tests;

@@ -27,6 +27,3 @@ pub use lists::{Cells, Duplicate, Holders, KeyList, Sequence, WhoHas};
 pub use messages::{Down, FromClient, Message, Peer, Role, ToClient, Up};
 pub use packets::Packet;
 pub use shape::GraphShape;
-
-#[cfg(test)]
-mod tests;

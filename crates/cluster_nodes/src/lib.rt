@@ -19,6 +19,3 @@ mod turns;
 
 pub use gathers::blocks_here;
 pub use nodes::Nodes;
-
-#[cfg(test)]
-mod tests;

@@ -22,6 +22,3 @@ pub mod words;
 pub use act::SimError;
 pub use plan::SimPlan;
 pub use whole::{SimEnd, simulate};
-
-#[cfg(test)]
-mod tests;

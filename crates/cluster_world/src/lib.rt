@@ -24,6 +24,3 @@ pub mod world;
 pub use errors::StepError;
 pub use state::{Course, State};
 pub use world::World;
-
-#[cfg(test)]
-mod tests;

@@ -15,6 +15,3 @@ mod questions;
 pub mod table;
 
 pub use client::ClientCore;
-
-#[cfg(test)]
-mod tests;

@@ -182,6 +182,3 @@ impl Reader {
         reply
     }
 }
-
-#[cfg(test)]
-mod tests;

@@ -13,6 +13,3 @@ mod regions;
 mod uses;
 
 pub use regions::{needed_regions, needed_regions_are_one};
-
-#[cfg(test)]
-mod tests;

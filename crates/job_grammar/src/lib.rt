@@ -15,6 +15,3 @@ mod rows;
 
 pub use action::{Action, action_of};
 pub use reader::JobReader;
-
-#[cfg(test)]
-mod tests;

@@ -23,6 +23,3 @@ pub use job::{Job, Save};
 pub use lines::saved_lines;
 pub use run::run_job;
 pub use save::save_block;
-
-#[cfg(test)]
-mod tests;

@@ -21,6 +21,3 @@ mod words;
 pub use asked::{Asked, Placed, Refusal, Why};
 pub use named::Named;
 pub use reader::{Script, read_script};
-
-#[cfg(test)]
-mod tests;

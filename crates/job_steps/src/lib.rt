@@ -13,6 +13,3 @@ pub mod step;
 
 pub use reader::read_steps;
 pub use step::{Ending, Step, Steps};
-
-#[cfg(test)]
-mod tests;

@@ -17,6 +17,3 @@ pub mod reader;
 pub use error::{JobError, JobKind, Quantity};
 pub use job::{Input, Job, Save};
 pub use reader::{JOB_BYTES, parse};
-
-#[cfg(test)]
-mod tests;

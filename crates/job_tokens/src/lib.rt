@@ -20,6 +20,3 @@ pub use bytes::number;
 pub use kind::Kind;
 pub use place::{Place, place_of};
 pub use token::{Next, Token, next_token};
-
-#[cfg(test)]
-mod tests;

@@ -17,6 +17,3 @@ pub use links::{Links, Queue};
 pub use post::{post_client, post_down, post_to_clients, post_worker};
 pub use shelf::Shelf;
 pub use transit::{InTransit, Transits};
-
-#[cfg(test)]
-mod tests;

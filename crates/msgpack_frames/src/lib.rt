@@ -28,6 +28,3 @@ pub use group::Frames;
 pub use laws::{any_cut, one_value};
 pub use stream::FrameReader;
 pub use value::{Integer, Value};
-
-#[cfg(test)]
-mod tests;

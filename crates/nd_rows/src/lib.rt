@@ -12,6 +12,3 @@ pub mod walk;
 pub use target::BlockTargets;
 pub use turn::from_column_major;
 pub use walk::RegionWalk;
-
-#[cfg(test)]
-mod tests;

@@ -68,24 +68,3 @@ impl Block {
         Ok(Block { shape, cells })
     }
 }
-
-#[cfg(test)]
-mod tests {
-    use super::*;
-    use std::test::Fail;
-
-    #[test]
-    fn a_block_gives_its_parts_back(rt: HostRuntime) -> Result<(), Fail> {
-        let shape = Shape::new([2, 2].to_vec(rt.alloc())?)?;
-        let cells = [1, -2, 3, -4].to_vec(rt.alloc())?;
-        assert_eq!(rt; shape.elements(), cells.len() as u64);
-        let block = Block::new(shape, cells);
-        let other = block.copy(rt.alloc())?;
-        assert_eq!(rt; block.shape().dims(), [2, 2].as_slice());
-        let (shape, cells) = other.into_parts();
-        assert_eq!(rt; shape.dims(), block.shape().dims());
-        assert_eq!(rt; cells.as_slice(), block.cells());
-        assert_eq!(rt; block.cells(), [1, -2, 3, -4].as_slice());
-        Ok(())
-    }
-}

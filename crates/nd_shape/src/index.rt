@@ -78,29 +78,3 @@ fn index_of(dims: &[u64], position: u64, index: &mut [u64])
         left %= row;
     }
 }
-
-#[cfg(test)]
-mod tests {
-    use super::*;
-    use std::test::Fail;
-
-    // The examples of NumPy's pages on `ravel_multi_index` and `unravel_index`.
-    #[test]
-    fn places_are_numpys(rt: HostRuntime) -> Result<(), Fail> {
-        let shape = Shape::new([7, 6].to_vec(rt.alloc())?)?;
-        for (index, wanted) in [([3, 4], 22), ([6, 5], 41), ([6, 1], 37)] {
-            assert!(rt; is_inside(&shape, &index));
-            assert_eq!(rt; ravel(&shape, &index), wanted);
-            let mut back = [0, 0];
-            assert!(rt; wanted < shape.elements());
-            unravel(&shape, wanted, &mut back);
-            assert_eq!(rt; back, index);
-        }
-        assert!(rt; !is_inside(&shape, &[6, 6]));
-        assert!(rt; !is_inside(&shape, &[6]));
-        let long = Shape::new([6, 7, 8, 9].to_vec(rt.alloc())?)?;
-        assert!(rt; is_inside(&long, &[3, 1, 4, 1]));
-        assert_eq!(rt; ravel(&long, &[3, 1, 4, 1]), 1621);
-        Ok(())
-    }
-}

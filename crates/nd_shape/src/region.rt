@@ -130,38 +130,3 @@ pub struct Piece {
     pub from: Region,
     pub to: Region,
 }
-
-#[cfg(test)]
-mod tests {
-    use super::*;
-    use std::test::Fail;
-
-    #[test]
-    fn a_region_has_a_shape(rt: HostRuntime) -> Result<(), Fail> {
-        let whole = Shape::line(rt.alloc(), 5)?;
-        let mut region = Region::new();
-        region.push(2, 3);
-        assert!(rt; region.is_part(whole.dims()));
-        assert_eq!(rt; region.shape(rt.alloc(), &whole)?.dims(), [3].as_slice());
-        Ok(())
-    }
-
-    #[test]
-    fn a_region_is_filled_axis_by_axis(rt: HostRuntime) {
-        let mut region = Region::new();
-        region.push(1, 2);
-        region.push(0, 3);
-        assert_eq!(rt; region.starts(), [1, 0].as_slice());
-        assert_eq!(rt; region.lengths(), [2, 3].as_slice());
-        assert!(rt; region.is_part(&[3, 3]));
-        assert!(rt; !region.is_part(&[2, 3]));
-        assert!(rt; !region.is_part(&[3]));
-        let other = region.copy();
-        region.clear();
-        assert!(rt; region.is_part(&[]));
-        assert_eq!(rt; other.lengths(), [2, 3].as_slice());
-        let whole = Region::whole(&[4, 0]);
-        assert_eq!(rt; whole.starts(), [0, 0].as_slice());
-        assert!(rt; whole.is_part(&[4, 0]));
-    }
-}

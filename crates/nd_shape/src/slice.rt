@@ -190,8 +190,3 @@ fn backwards(len: u64, start: Option<i64>, stop: Option<i64>, step: i64) -> Step
         count,
     }
 }
-
-#[cfg(test)]
-mod table;
-#[cfg(test)]
-mod tests;

@@ -7,6 +7,3 @@
 mod marks;
 
 pub use marks::needed;
-
-#[cfg(test)]
-mod tests;

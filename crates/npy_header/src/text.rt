@@ -83,6 +83,3 @@ pub fn read_header_text(alloc: Global, bytes: &[u8]) -> Result<HeaderFields, Hea
     }
     Ok(scanner.into_fields())
 }
-
-#[cfg(test)]
-mod tests;

@@ -12,6 +12,3 @@ mod runs;
 
 pub use region::read_region;
 pub use runs::{Run, RunList, region_runs};
-
-#[cfg(test)]
-mod tests;

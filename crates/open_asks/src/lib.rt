@@ -14,6 +14,3 @@ mod marks;
 pub use asks::{Asks, OpenAsk};
 pub use items::{fitting_count, item_at, keys_of, push_item};
 pub use marks::mark_items;
-
-#[cfg(test)]
-mod tests;

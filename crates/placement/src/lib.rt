@@ -13,6 +13,3 @@ mod choice;
 
 pub use bytes::missing_bytes;
 pub use choice::place;
-
-#[cfg(test)]
-mod tests;

@@ -12,6 +12,3 @@ mod placing;
 
 pub use block::plain_block;
 pub use plain_eval::PlainOutcome;
-
-#[cfg(test)]
-mod tests;

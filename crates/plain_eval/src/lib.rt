@@ -17,6 +17,3 @@ mod weaving;
 
 pub use held::Held;
 pub use plain::{PlainOutcome, evaluate, evaluate_all};
-
-#[cfg(test)]
-mod tests;

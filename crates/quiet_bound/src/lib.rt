@@ -84,6 +84,3 @@ fn cube(base: u128) -> u128
 {
     square(base).saturating_mul(base)
 }
-
-#[cfg(test)]
-mod tests;

@@ -9,6 +9,3 @@ mod starts;
 pub mod tally;
 
 pub use tally::Tally;
-
-#[cfg(test)]
-mod tests;

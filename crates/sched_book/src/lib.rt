@@ -18,6 +18,3 @@ pub mod takes;
 
 pub use book::Book;
 pub use rows::Effect;
-
-#[cfg(test)]
-mod tests;

@@ -11,6 +11,3 @@ pub mod changes;
 pub mod drops;
 
 pub use changes::{News, Pairs};
-
-#[cfg(test)]
-mod tests;

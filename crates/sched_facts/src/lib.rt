@@ -18,6 +18,3 @@ pub mod table;
 
 pub use derived::{DerivedRows, refill};
 pub use table::FactTable;
-
-#[cfg(test)]
-mod tests;

@@ -21,6 +21,3 @@ pub use answer::Answer;
 pub use clients::tell_clients;
 pub use posts::post_all;
 pub use workers::tell_workers;
-
-#[cfg(test)]
-mod tests;

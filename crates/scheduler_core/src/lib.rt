@@ -15,6 +15,3 @@ mod phase;
 pub mod sched;
 
 pub use sched::Sched;
-
-#[cfg(test)]
-mod tests;

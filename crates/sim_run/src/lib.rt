@@ -16,6 +16,3 @@ pub mod simulated;
 
 pub use ends::SimEnded;
 pub use simulated::simulate_job;
-
-#[cfg(test)]
-mod tests;

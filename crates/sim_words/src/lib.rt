@@ -15,6 +15,3 @@ mod walk;
 
 pub use fail::WordsFail;
 pub use sim::{Settings, SimWords, read_sim};
-
-#[cfg(test)]
-mod tests;

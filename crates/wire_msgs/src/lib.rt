@@ -22,6 +22,3 @@ pub use field::Field;
 pub use laws::any_order;
 pub use reading::from_value;
 pub use writing::to_value;
-
-#[cfg(test)]
-mod tests;

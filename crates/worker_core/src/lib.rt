@@ -14,8 +14,6 @@ mod moves;
 mod push;
 mod step;
 mod takes;
-#[cfg(test)]
-mod tests;
 mod told;
 pub mod worker;
 

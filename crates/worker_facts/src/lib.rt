@@ -12,8 +12,6 @@ mod asks;
 pub mod marks;
 mod questions;
 pub mod table;
-#[cfg(test)]
-mod tests;
 
 pub use asks::OpenAsk;
 pub use table::WorkerTable;

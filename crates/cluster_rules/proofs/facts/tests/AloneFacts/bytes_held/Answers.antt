@@ -1,6 +1,0 @@
-use Rattle.std.proofs.Common.{refl, sym, ap}
-use Rattle.cluster_rules.proofs.NothingLemmas.{bytes_held-nowhere}
-use Rattle.cluster_rules.proofs.facts.tests.AloneFacts.bytes_held.Goals as goal
-
-pub returns : goal.returns
-returns c = sym (bytes_held-nowhere _ (λ w k. refl) _)

@@ -1,6 +1,0 @@
-use Rattle.std.proofs.Common.{refl, sym, ap}
-use Rattle.cluster_rules.proofs.NothingLemmas.{erred-nowhere}
-use Rattle.cluster_rules.proofs.facts.tests.AloneFacts.erred.Goals as goal
-
-pub returns : goal.returns
-returns c = sym (erred-nowhere _ (λ k. refl) _)

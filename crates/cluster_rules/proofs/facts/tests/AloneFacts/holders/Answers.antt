@@ -1,6 +1,0 @@
-use Rattle.std.proofs.Common.{refl, sym, ap}
-use Rattle.cluster_rules.proofs.NothingLemmas.{holder_count-nowhere}
-use Rattle.cluster_rules.proofs.facts.tests.AloneFacts.holders.Goals as goal
-
-pub returns : goal.returns
-returns c = sym (holder_count-nowhere _ (λ w k. refl) _)

@@ -1,6 +1,0 @@
-use Rattle.std.proofs.Common.{refl, sym, ap}
-use Rattle.cluster_rules.proofs.NothingLemmas.{occupancy-nowhere}
-use Rattle.cluster_rules.proofs.facts.tests.AloneFacts.occupancy.Goals as goal
-
-pub returns : goal.returns
-returns c = sym (occupancy-nowhere _ (λ w k. refl) _)
