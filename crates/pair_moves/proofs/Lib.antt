@@ -1,0 +1,3 @@
+pub mod PairTold
+pub mod Settling
+pub mod SettleKeeps
