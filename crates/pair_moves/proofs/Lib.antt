@@ -1,3 +1,6 @@
 pub mod PairTold
 pub mod Settling
 pub mod SettleKeeps
+pub mod Rows
+pub mod Framed
+pub mod TaskRows

@@ -18,7 +18,7 @@ use Rattle.pair_machine.specs.Moves.{withdrawn}
 use Rattle.pair_machine.proofs.PairKept.{kept_tell}
 use Rattle.pair_machine.proofs.PairLemmas.{length-more}
 use Rattle.pair_moves.specs.Projection.{notes, reports, at_worker, Side, pair_of}
-use Rattle.pair_moves.proofs.PairTold.{task_notes, sent_on, sent_none, kept_more, told_nothing, told_given}
+use Rattle.pair_moves.proofs.PairTold.{AreOther, fence_other, told_others, task_notes, sent_on, sent_none, kept_more, told_nothing, told_given}
 use Rattle.pair_moves.proofs.Settling.{none_not_some, same_eqb, notes-append, notes_long, free_notes, fence_noted, fence-append, fence_free, fence_tasks, new_at, in_filter_is, distinct_range, event_notes, placed_ready}
 
 -- the change of an event itself: a key with a place is neither freed nor held, and a key that is freed isn't held there
@@ -370,12 +370,12 @@ plain_newly f g w k from upto fair a e =
     p0 = placing_keys o (below (keys o))
 
 -- an event that answers nothing on the key: what is to be stolen stays so, where the place stays
-pub plain_closes : (f : Facts) (g : Changed) (w k : ℕ) → IsFair g w k → ((x : Facts) → notes k (g.answer x w) ≡ []) → ((p : ℕ × Bool) → g.facts.steal k ≡ Some p → (q : ℕ × ℕ) × ((g.facts.on k ≡ Some q) × (q.1 < f.counter))) → f.counter ≤ g.facts.counter
+pub plain_closes : (f : Facts) (g : Changed) (w k : ℕ) → IsFair g w k → ((x : Facts) → AreOther (notes k (g.answer x w))) → ((p : ℕ × Bool) → g.facts.steal k ≡ Some p → (q : ℕ × ℕ) × ((g.facts.on k ≡ Some q) × (q.1 < f.counter))) → f.counter ≤ g.facts.counter
     → Closes (settle f g) (holds g.facts w k) (is_some (old_at f.counter w (g.facts.on k)) && is_asked_back (g.facts.steal k)) w k
 unfolding settle place_all drop_bad drop_has drop_on
 plain_closes f g w k fair silent inside more x has on old asked counter s =
     subst (λ (y : Bool × Bool). IsPair (record x { has = y.0; asked = y.1; fence = fence_notes x.sent (notes k (g.answer t.placed w)) x.fence; down = x.down ++ notes k (g.answer t.placed w); sent = x.sent + length (notes k (g.answer t.placed w)) })) (λ i. ((has ∙ plain_has f g w k fair) i, (asked ∙ asked_is) i))
-    (subst (λ ns. IsPair (record x { fence = fence_notes x.sent ns x.fence; down = x.down ++ ns; sent = x.sent + length ns })) (sym (silent t.placed)) (sent_none x s))
+    (subst (λ n. IsPair (record x { fence = n; down = x.down ++ notes k (g.answer t.placed w); sent = x.sent + length (notes k (g.answer t.placed w)) })) (sym (fence_other x.sent (notes k (g.answer t.placed w)) x.fence (silent t.placed))) (told_others (notes k (g.answer t.placed w)) x (silent t.placed) s))
   where
     t : Stages
     t = settle f g
