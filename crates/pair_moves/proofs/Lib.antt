@@ -4,3 +4,4 @@ pub mod SettleKeeps
 pub mod Rows
 pub mod Framed
 pub mod TaskRows
+pub mod HoldRows

@@ -75,7 +75,7 @@ held_none f s w k e = pick (holds f w k) refl
     pick true h = sym (holder_holds f s w k h) ∙ e
     pick false h = refl
 
-on_some : (w : ℕ) (o : Option (ℕ × ℕ)) → is_for w o ≡ true → is_some o ≡ true
+pub on_some : (w : ℕ) (o : Option (ℕ × ℕ)) → is_for w o ≡ true → is_some o ≡ true
 on_some w None e = e
 on_some w (Some p) e = refl
 
