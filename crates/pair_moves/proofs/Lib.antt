@@ -5,3 +5,6 @@ pub mod Rows
 pub mod Framed
 pub mod TaskRows
 pub mod HoldRows
+pub mod Still
+pub mod OtherRows
+pub mod ChoiceRows
