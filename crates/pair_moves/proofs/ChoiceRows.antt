@@ -1,35 +1,34 @@
 -- The rows of Balance and Evict, for each worker and key.
 use Rattle.std.proofs.Common.{◌≡◌, ℕ, zero, suc, ◌+◌, ◌<◌, ◌≤◌, Bool, true, false, not, cond, ◌&&◌, ◌||◌, List, [], ◌∷◌, ◌++◌, Option, Some, None, refl, sym, ap, ◌∙◌, subst, arith, is_some, is_none, inl, inr, ◌⊎◌, ⊎_elim, length}
-use Rattle.std.specs.Prelude.{nat_lt}
-use Rattle.std.specs.List.{list_any, range_with_len}
+use Rattle.std.specs.List.{list_any, list_all, range_with_len}
 use Rattle.std.proofs.lemmas.Bool.{true≢false, false≢true, eqb-true, ltb-true}
 use Rattle.std.proofs.lemmas.Bool.Decides.{nat_tests}
 use Rattle.std.proofs.Math.Dec.{eqb}
 use Rattle.cluster_msgs.specs.declared.cores.Steal.{Steal}
 use Rattle.cluster_msgs.specs.declared.messages.Down.TheVariants.{StealRequest, RemoveReplicas}
 use Rattle.cluster_rules.specs.Functions.{put, put_pair, from_one, count}
-use Rattle.cluster_rules.specs.Derived.{below, is_in}
+use Rattle.cluster_rules.specs.Derived.{below, reach, err}
 use Rattle.cluster_rules.specs.Choice.{IsLeastOf}
-use Rattle.cluster_rules.specs.Sched.{Facts, IsSound, keys, holds, held, erred, need, known, ready, wanted, connected, is_on, is_for, holder_count, waiters}
-use Rattle.cluster_rules.specs.Policies.{may_steal, IsStealChoice, steal_rank, steal_choices, next_steal, may_drop, IsDrop, IsDropOf, next_drop}
+use Rattle.cluster_rules.specs.Sched.{Facts, IsSound, keys, deps, holds, held, erred, need, known, ready, wanted, connected, is_on, is_for, holder_count, waiters}
+use Rattle.cluster_rules.specs.Policies.{may_steal, IsStealChoice, steal_rank, steal_choices, may_drop, IsDrop, IsDropOf}
 use Rattle.cluster_rules.specs.SchedTable.{Changed, plain, is_asked_back, ask_message, balanced, evicted}
 use Rattle.cluster_rules.specs.SchedStep.{Stages, settle, finish_step, mail, place_all, place_keys, drop_bad, drop_has, drop_on, lost}
-use Rattle.cluster_rules.proofs.ChoiceLemmas.{least_by_least}
 use Rattle.cluster_rules.proofs.DerivedLemmas.{eqb_comm}
-use Rattle.cluster_rules.proofs.PolicyLemmas.{steal_choice_from, next_drop_is}
+use Rattle.cluster_rules.proofs.PolicyLemmas.{steal_choice_from}
 use Rattle.cluster_rules.proofs.SchedFrame.{IsPlacing, placing_keys, same_eqb}
 use Rattle.scheduler_laws.specs.Settled.{IsSettled}
 use Rattle.scheduler_laws.proofs.Errors.{holder_holds, ready_is_not_held}
 use Rattle.scheduler_laws.proofs.Lists.{and_first, and_second, any_weaken}
-use Rattle.pair_machine.specs.Pair.{Note, Ask, Remove, Other, Quiet, Pair, IsPair, fence_notes}
+use Rattle.pair_machine.specs.Pair.{Ask, Remove, Other, Quiet, IsPair, fence_notes}
 use Rattle.pair_machine.specs.Moves.{step, Evict, ask_back}
 use Rattle.pair_machine.proofs.PairKept.{kept_evict, kept_ask}
 use Rattle.pair_moves.specs.Projection.{notes, reports, at_worker, Side, pair_of, IsNumbered}
 use Rattle.pair_moves.proofs.PairTold.{AreOther}
 use Rattle.pair_moves.proofs.Settling.{none_not_some, new_at, placed_ready}
-use Rattle.pair_moves.proofs.SettleKeeps.{IsFair, old_at, asked_or, or_else, Closes}
-use Rattle.pair_moves.proofs.Rows.{Moved, Stays, IsFramed, IsRow, IsPlain, row_keeps, plain_keeps, calm_row, quiet_calm, same_moved, old_is, old_place, held_none, placed_apart, on_some}
-use Rattle.pair_moves.proofs.Still.{IsResting, still_settled, still_held}
+use Rattle.pair_moves.proofs.SettleKeeps.{asked_or, Closes}
+use Rattle.pair_moves.proofs.Rows.{Moved, Stays, IsFramed, IsRow, IsPlain, row_keeps, plain_keeps, calm_row, quiet_calm, same_moved, old_is, held_none, placed_apart, on_some}
+use Rattle.pair_moves.proofs.TaskRows.{other_pair}
+use Rattle.pair_moves.proofs.Still.{IsResting, still_settled}
 
 and_false : (b : Bool) → (b && false) ≡ false
 and_false true = refl
@@ -195,17 +194,165 @@ dropped f v q = record f { has = put_pair f.has v q None }
 abbrev but : (ℕ → Bool) → ℕ → ℕ → Bool
 but p v x = p x && not (eqb x v)
 
+none_above : (v c n : ℕ) → v < c → count (λ x. eqb x v) (range_with_len c n) ≡ 0
+none_above v c zero l = refl
+none_above v c (suc n) l = ap (λ y. cond y 1 0 + count (λ x. eqb x v) (range_with_len (c + 1) n)) (above c l) ∙ ap (λ y. 0 + y) (none_above v (c + 1) n (omega arith))
+  where
+    above : (c : ℕ) → v < c → eqb c v ≡ false
+    above c l = grind (arith, nat_tests)
+
+-- a number stands once in a range
 count_self : (v b n : ℕ) → count (λ x. eqb x v) (range_with_len b n) ≤ 1
 count_self v b zero = omega arith
-count_self v b (suc n) = pick (eqb b v) refl
+count_self v b (suc n) = pick (eqb b v) refl (count_self v (b + 1) n)
   where
-    later : (c n : ℕ) → v < c → count (λ x. eqb x v) (range_with_len c n) ≡ 0
-    later c zero l = refl
-    later c (suc n) l = ap (λ y. cond y 1 0 + count (λ x. eqb x v) (range_with_len (c + 1) n)) (above c l) ∙ later (c + 1) n (omega arith)
-      where
-        above : (c : ℕ) → v < c → eqb c v ≡ false
-        above c l = grind (arith, nat_tests)
+    pick : (c : Bool) → eqb b v ≡ c → count (λ x. eqb x v) (range_with_len (b + 1) n) ≤ 1 → cond c 1 0 + count (λ x. eqb x v) (range_with_len (b + 1) n) ≤ 1
+    pick true e l = let z : b ≡ v = eqb-true b v e in let r : count (λ x. eqb x v) (range_with_len (b + 1) n) ≡ 0 = none_above v (b + 1) n (omega arith) in omega arith
+    pick false e l = omega (arith, l)
 
-    pick : (c : Bool) → eqb b v ≡ c → cond c 1 0 + count (λ x. eqb x v) (range_with_len (b + 1) n) ≤ 1
-    pick true e = let z : b ≡ v = eqb-true b v e in let r : count (λ x. eqb x v) (range_with_len (b + 1) n) ≡ 0 = later (b + 1) n (omega arith) in omega arith
-    pick false e = let r : count (λ x. eqb x v) (range_with_len (b + 1) n) ≤ 1 = count_self v (b + 1) n in omega arith
+count_but : (p : ℕ → Bool) (v : ℕ) (xs : List ℕ) → count p xs ≤ count (but p v) xs + count (λ x. eqb x v) xs
+count_but p v [] = omega arith
+count_but p v (x ∷ xs) = pick (p x) (eqb x v) (count_but p v xs)
+  where
+    pick : (a b : Bool) → count p xs ≤ count (but p v) xs + count (λ x. eqb x v) xs → cond a 1 0 + count p xs ≤ (cond (a && not b) 1 0 + count (but p v) xs) + (cond b 1 0 + count (λ x. eqb x v) xs)
+    pick true true l = omega (arith, l)
+    pick true false l = omega (arith, l)
+    pick false true l = omega (arith, l)
+    pick false false l = omega (arith, l)
+
+some_counted : (p : ℕ → Bool) (xs : List ℕ) → 1 ≤ count p xs → list_any p xs ≡ true
+some_counted p [] l = absurd (omega arith)
+some_counted p (x ∷ xs) l = pick (p x) l (some_counted p xs)
+  where
+    pick : (b : Bool) → 1 ≤ cond b 1 0 + count p xs → (1 ≤ count p xs → list_any p xs ≡ true) → (b || list_any p xs) ≡ true
+    pick true m rest = refl
+    pick false m rest = rest (omega (arith, m))
+
+-- the key is held elsewhere
+held_elsewhere : (f : Facts) (v q : ℕ) → IsDrop f v q → held (dropped f v q) q ≡ true
+unfolding held may_drop holder_count
+held_elsewhere f v q d =
+    any_weaken (but (λ w. holds f w q) v) (λ w. holds (dropped f v q) w q) (from_one f.last_worker) (λ w e. there w e)
+    (some_counted (but (λ w. holds f w q) v) (from_one f.last_worker)
+    (let l : waiters f q + 1 < count (λ w. holds f w q) (from_one f.last_worker) = ltb-true (waiters f q + 1) (count (λ w. holds f w q) (from_one f.last_worker)) d.spare in
+    let m = count_but (λ w. holds f w q) v (from_one f.last_worker) in let o = count_self v 1 f.last_worker in omega (arith, m, o)))
+  where
+    there : (w : ℕ) → (holds f w q && not (eqb w v)) ≡ true → is_some (cond (eqb w v && eqb q q) None (f.has w q)) ≡ true
+    there w e = ap (λ b. is_some (cond (b && eqb q q) None (f.has w q))) (not_it (eqb w v) (and_second (holds f w q) (not (eqb w v)) e)) ∙ and_first (holds f w q) (not (eqb w v)) e
+      where
+        not_it : (b : Bool) → not b ≡ true → b ≡ false
+        not_it true e = absurd (false≢true e)
+        not_it false e = refl
+
+held_dropped : (f : Facts) → IsSound f → (v q : ℕ) → IsDrop f v q → (j : ℕ) → held (dropped f v q) j ≡ held f j
+unfolding held
+held_dropped f sound v q d j = pick (eqb j q) refl
+  where
+    other : eqb j q ≡ false → (w : ℕ) → holds (dropped f v q) w j ≡ holds f w j
+    other e w = ap (λ b. is_some (cond (eqb w v && b) None (f.has w j))) e ∙ ap (λ b. is_some (cond b None (f.has w j))) (and_false (eqb w v))
+
+    pick : (b : Bool) → eqb j q ≡ b → list_any (λ w. holds (dropped f v q) w j) (from_one f.last_worker) ≡ list_any (λ w. holds f w j) (from_one f.last_worker)
+    pick true e = ap (λ x. held (dropped f v q) x) (eqb-true j q e) ∙ held_elsewhere f v q d ∙ sym (holder_holds f sound v q d.holder) ∙ ap (held f) (sym (eqb-true j q e))
+    pick false e = ap (λ (p : ℕ → Bool). list_any p (from_one f.last_worker)) (λ i w. other e w i)
+
+same_derived : (f : Facts) → IsSound f → (v q : ℕ) → IsDrop f v q → (need (dropped f v q) ≡ need f) × (ready (dropped f v q) ≡ ready f)
+unfolding need ready erred wanted
+same_derived f sound v q d = (
+  ap (λ (h : ℕ → Bool). reach (deps f) (keys f) (wanted f) (λ j. not (h j) && not (err (deps f) h f.bad j))) same,
+  ap (λ (h : ℕ → Bool). λ k. (reach (deps f) (keys f) (wanted f) (λ j. not (h j) && not (err (deps f) h f.bad j)) k && (not (h k) && not (err (deps f) h f.bad k))) && list_all h (deps f k)) same,
+)
+  where
+    same : held (dropped f v q) ≡ held f
+    same = λ i j. held_dropped f sound v q d j i
+
+resting_dropped : (f : Facts) → IsSound f → IsSettled f → (v q : ℕ) → IsDrop f v q → IsResting (dropped f v q)
+unfolding known wanted
+resting_dropped f sound t v q d = record {
+  bad = t.errors_are_known;
+  has = λ w k e. ap (λ (p : ℕ → Bool). p k) (same_derived f sound v q d).0 ∙ t.held_are_needed w k (less (eqb w v && eqb k q) (f.has w k) e);
+  on = λ k e. ap (λ (p : ℕ → Bool). p k) (same_derived f sound v q d).1 ∙ t.placed_are_ready k e;
+  steal = λ k e. ap (λ (p : ℕ → Bool). p k) (same_derived f sound v q d).1 ∙ t.placed_are_ready k (t.stolen_are_placed k e);
+}
+  where
+    less : (b : Bool) (o : Option ℕ) → is_some (cond b None o) ≡ true → is_some o ≡ true
+    less true o e = absurd (false≢true e)
+    less false o e = e
+
+evicted_own : (f : Facts) (w k : ℕ) (s : Side) → IsSound f → IsSettled f → IsNumbered f → IsDrop f w k → IsRow f (evicted f (Some (w, k))) (holds f w k) false w k Quiet s
+unfolding settle place_all
+evicted_own f w k s sound t n d = record {
+  fair = record { freed = λ _. refl; apart = λ _. gone; gone = λ i. absurd (false≢true i); below = λ b e. n.below k w b e };
+  newly = λ b e. absurd (none_not_some b (sym (ap (new_at f.counter w) unplaced) ∙ e));
+  has = λ _. refl;
+  on = λ _. old_is f n w k;
+  asked = λ _. ap (λ o. is_some (at_worker w o) && is_asked_back (f.steal k)) nowhere;
+  closes = evict_closes u (holds f w k) w k says (ap (at_worker w) unplaced) (ap (λ (x : ℕ → ℕ → Option ℕ). is_some (x w k)) (p0.has ∙ ap (λ (x : Facts). x.has) rest) ∙ gone);
+}
+  where
+    g : Facts
+    g = dropped f w k
+
+    o : Facts
+    o = drop_on (drop_has (drop_bad g))
+
+    u : Stages
+    u = settle f (evicted f (Some (w, k)))
+
+    p0 : IsPlacing o (place_keys o (below (keys o)))
+    p0 = placing_keys o (below (keys o))
+
+    rest : o ≡ g
+    rest = still_settled g (resting_dropped f sound t w k d)
+
+    gone : holds g w k ≡ false
+    gone = ap (λ b. is_some (cond (b && eqb k k) None (f.has w k))) (same_eqb w w refl) ∙ ap (λ b. is_some (cond b None (f.has w k))) (same_eqb k k refl)
+
+    held_still : held g k ≡ true
+    held_still = held_dropped f sound w k d k ∙ holder_holds f sound w k d.holder
+
+    none : (x : Option (ℕ × ℕ)) → f.on k ≡ x → x ≡ None
+    none None e = refl
+    none (Some p) e = absurd (false≢true (sym (placed_apart f t k (ap is_some e)) ∙ holder_holds f sound w k d.holder))
+
+    nowhere : f.on k ≡ None
+    nowhere = none (f.on k) refl
+
+    left : (x : Option (ℕ × ℕ)) → (place_keys o (below (keys o))).on k ≡ x → x ≡ None
+    left None e = refl
+    left (Some p) e = absurd (⊎_elim
+        (λ i. none_not_some p (sym nowhere ∙ ap (λ (x : Facts). x.on k) (sym rest) ∙ i))
+        (λ r. false≢true (sym (ready_is_not_held g k (ap (λ (x : Facts). ready x k) (sym rest) ∙ r)) ∙ held_still))
+        (placed_ready o (below (keys o)) k p e))
+
+    unplaced : (place_keys o (below (keys o))).on k ≡ None
+    unplaced = left ((place_keys o (below (keys o))).on k) refl
+
+    says : notes k (cond (eqb w w) (RemoveReplicas (k ∷ []) ∷ []) []) ≡ Remove ∷ []
+    says = ap (λ b. notes k (cond b (RemoveReplicas (k ∷ []) ∷ []) [])) (same_eqb w w refl) ∙ ap (λ b. cond (b || false) Remove Other ∷ []) (same_eqb k k refl)
+
+evicted_other : (f : Facts) (v q w k : ℕ) (s : Side) → IsSound f → IsSettled f → IsNumbered f → (eqb v w ≡ false) ⊎ (eqb q k ≡ false) → IsPlain f (evicted f (Some (v, q))) w k Quiet s
+evicted_other f v q w k s sound t n other = calm_row f _ w k Quiet s sound t n (quiet_calm f (evicted f (Some (v, q))) w k s (same_moved f (dropped f v q) t k refl refl) (inl (refl, refl)) (ap (λ b. is_some (cond b None (f.has w k))) (other_pair v q w k other)) refl (λ x. silent other))
+  where
+    silent : (eqb v w ≡ false) ⊎ (eqb q k ≡ false) → AreOther (notes k (cond (eqb w v) (RemoveReplicas (q ∷ []) ∷ []) []))
+    silent (inl e) = subst (λ b. AreOther (notes k (cond b (RemoveReplicas (q ∷ []) ∷ []) []))) (sym (eqb_comm w v ∙ e)) tt
+    silent (inr e) = pick (eqb w v)
+      where
+        pick : (b : Bool) → AreOther (notes k (cond b (RemoveReplicas (q ∷ []) ∷ []) []))
+        pick true = (ap (λ b. cond (b || false) Remove Other) e, tt)
+        pick false = tt
+
+evicted_with : (f : Facts) (v q w k : ℕ) (s : Side) → IsSound f → IsSettled f → IsNumbered f → IsDrop f v q → IsFramed f (dropped f v q) → IsSound (dropped f v q) → k < keys f → connected f w ≡ true → Keeps f (evicted f (Some (v, q))) w k s
+evicted_with f v q w k s sound t n d frame after low there = pick (eqb v w) refl (eqb q k) refl
+  where
+    pick : (b : Bool) → eqb v w ≡ b → (c : Bool) → eqb q k ≡ c → Keeps f (evicted f (Some (v, q))) w k s
+    pick true i true j = subst (λ (x : ℕ × ℕ). Keeps f (evicted f (Some x)) w k s) (λ y. (sym (eqb-true v w i) y, sym (eqb-true q k j) y))
+        (row_keeps f (evicted f (Some (w, k))) (holds f w k) false w k Quiet s
+        (record { setting = refl; counter = omega arith; sent = refl; fence = refl })
+        (subst (λ (x : ℕ × ℕ). IsSound (dropped f x.0 x.1)) (λ y. (eqb-true v w i y, eqb-true q k j y)) after) low there
+        (evicted_own f w k s sound t n (subst (λ (x : ℕ × ℕ). IsDrop f x.0 x.1) (λ y. (eqb-true v w i y, eqb-true q k j y)) d)))
+    pick true i false j = plain_keeps f (evicted f (Some (v, q))) w k Quiet s n frame after low there (evicted_other f v q w k s sound t n (inr j))
+    pick false i c j = plain_keeps f (evicted f (Some (v, q))) w k Quiet s n frame after low there (evicted_other f v q w k s sound t n (inl i))
+
+pub evicted_keeps : (f : Facts) (o : Option (ℕ × ℕ)) (w k : ℕ) (s : Side) → IsSound f → IsSettled f → IsNumbered f → IsDropOf f o → IsFramed f (evicted f o).facts → IsSound (evicted f o).facts → k < keys f → connected f w ≡ true → Keeps f (evicted f o) w k s
+evicted_keeps f None w k s sound t n d frame after low there = plain_keeps f (plain f) w k Quiet s n frame after low there (calm_row f (plain f) w k Quiet s sound t n (quiet_calm f (plain f) w k s (same_moved f f t k refl refl) (inl (refl, refl)) refl refl (λ x. tt)))
+evicted_keeps f (Some (v, q)) w k s sound t n d frame after low there = evicted_with f v q w k s sound t n d frame after low there

@@ -1,7 +1,7 @@
 -- Facts that have settled settle to themselves, but for new places.
-use Rattle.std.proofs.Common.{◌≡◌, ℕ, Bool, true, false, cond, ◌&&◌, Option, Some, None, refl, sym, ap, ◌∙◌, is_some}
+use Rattle.std.proofs.Common.{◌≡◌, ℕ, Bool, true, false, cond, Option, Some, None, refl, ap, ◌∙◌, is_some}
 use Rattle.std.proofs.lemmas.Bool.{false≢true}
-use Rattle.cluster_rules.specs.Sched.{Facts, holds, known, need, ready, held, erred, wanted}
+use Rattle.cluster_rules.specs.Sched.{Facts, holds, known, need, ready}
 use Rattle.cluster_rules.specs.SchedStep.{drop_bad, drop_has, drop_on}
 
 only_known : (b x : Bool) → (x ≡ true → b ≡ true) → cond b x false ≡ x
