@@ -177,7 +177,7 @@ balanced_with f c w k s sound t n h frame after low there = pick (eqb c.victim w
     pick true i false j = plain_keeps f (balanced f (Some c)) w k Quiet s n frame after low there (balanced_other f c w k s sound t n h (inr j))
     pick false i d j = plain_keeps f (balanced f (Some c)) w k Quiet s n frame after low there (balanced_other f c w k s sound t n h (inl i))
 
-pub balanced_keeps : (f : Facts) (o : Option Steal) (w k : ℕ) (s : Side) → IsSound f → IsSettled f → IsNumbered f → IsLeastOf (steal_rank f) (steal_choices f) o → IsFramed f (balanced f o).facts → IsSound (balanced f o).facts → k < keys f → connected f w ≡ true → Keeps f (balanced f o) w k s
+pub balanced_keeps : (f : Facts) (o : Option Steal) (w k : ℕ) (s : Side) → IsSound f → IsSettled f → IsNumbered f → IsLeastOf (steal_rank f) (steal_choices f) o → IsFramed f (balanced f o).facts → IsSound (balanced f o).facts → k < keys f → connected (balanced f o).facts w ≡ true → Keeps f (balanced f o) w k s
 balanced_keeps f None w k s sound t n h frame after low there = plain_keeps f (plain f) w k Quiet s n frame after low there (calm_row f (plain f) w k Quiet s sound t n (quiet_calm f (plain f) w k s (same_moved f f t k refl refl) (inl (refl, refl)) refl refl (λ x. tt)))
 balanced_keeps f (Some c) w k s sound t n h frame after low there = balanced_with f c w k s sound t n (steal_choice_from f c h.member) frame after low there
 
@@ -353,6 +353,6 @@ evicted_with f v q w k s sound t n d frame after low there = pick (eqb v w) refl
     pick true i false j = plain_keeps f (evicted f (Some (v, q))) w k Quiet s n frame after low there (evicted_other f v q w k s sound t n (inr j))
     pick false i c j = plain_keeps f (evicted f (Some (v, q))) w k Quiet s n frame after low there (evicted_other f v q w k s sound t n (inl i))
 
-pub evicted_keeps : (f : Facts) (o : Option (ℕ × ℕ)) (w k : ℕ) (s : Side) → IsSound f → IsSettled f → IsNumbered f → IsDropOf f o → IsFramed f (evicted f o).facts → IsSound (evicted f o).facts → k < keys f → connected f w ≡ true → Keeps f (evicted f o) w k s
+pub evicted_keeps : (f : Facts) (o : Option (ℕ × ℕ)) (w k : ℕ) (s : Side) → IsSound f → IsSettled f → IsNumbered f → IsDropOf f o → IsFramed f (evicted f o).facts → IsSound (evicted f o).facts → k < keys f → connected (evicted f o).facts w ≡ true → Keeps f (evicted f o) w k s
 evicted_keeps f None w k s sound t n d frame after low there = plain_keeps f (plain f) w k Quiet s n frame after low there (calm_row f (plain f) w k Quiet s sound t n (quiet_calm f (plain f) w k s (same_moved f f t k refl refl) (inl (refl, refl)) refl refl (λ x. tt)))
 evicted_keeps f (Some (v, q)) w k s sound t n d frame after low there = evicted_with f v q w k s sound t n d frame after low there

@@ -141,12 +141,12 @@ copied_same : (f : Facts) (w k : ℕ) → holds (copied f w k) w k ≡ true
 copied_same f w k = ap (λ b. is_some (cond (b && eqb k k) (Some f.counter) (f.has w k))) (same_eqb w w refl) ∙ ap (λ b. is_some (cond b (Some f.counter) (f.has w k))) (same_eqb k k refl)
 
 -- what added keys leave alone
-record IsLeft (f : Facts) (g : Changed) : Type 0 where
-  on : g.facts.on ≡ f.on
-  steal : g.facts.steal ≡ f.steal
-  fence : g.facts.fence ≡ f.fence
-  last_worker : g.facts.last_worker ≡ f.last_worker
-  answer : g.answer ≡ no_answer
+pub record IsLeft (f : Facts) (g : Changed) : Type 0 where
+  pub on : g.facts.on ≡ f.on
+  pub steal : g.facts.steal ≡ f.steal
+  pub fence : g.facts.fence ≡ f.fence
+  pub last_worker : g.facts.last_worker ≡ f.last_worker
+  pub answer : g.answer ≡ no_answer
 
 abbrev add_to : ℕ → ℕ → Changed → Bool → Bool → Bool → Bool → Changed
 add_to w q g a b c d = cond a (cond b g (cond c (record g { facts = copied g.facts w q }) (cond d g (record g { freed = put_pair g.freed w q true })))) g
@@ -161,6 +161,9 @@ left_add f w q g l false u v x = l
 left_adds : (f : Facts) (w seen : ℕ) (ks : List ℕ) (g : Changed) → IsLeft f g → IsLeft f (add_keys w seen g ks)
 left_adds f w seen [] g l = l
 left_adds f w seen (q ∷ ks) g l = left_adds f w seen ks (add_key w seen g q) (left_add f w q g l (nat_le (g.facts.fence w q) seen) (holds g.facts w q) (held g.facts q) (is_on g.facts w q))
+
+pub left_plain : (f : Facts) (w seen : ℕ) (ks : List ℕ) → IsLeft f (add_keys w seen (plain f) ks)
+left_plain f w seen ks = left_adds f w seen ks (plain f) (record { on = refl; steal = refl; fence = refl; last_worker = refl; answer = refl })
 
 -- another worker's pair
 add_away : (v q w k : ℕ) (g : Changed) → eqb v w ≡ false → (a b c d : Bool) → (holds (add_to v q g a b c d).facts w k ≡ holds g.facts w k) × ((add_to v q g a b c d).freed w k ≡ g.freed w k)
@@ -361,7 +364,7 @@ add_row f v seen ks w k s there sound t n = pick (eqb v w) refl
     pick : (b : Bool) → eqb v w ≡ b → IsPlain f (add_keys v seen (plain f) ks) w k (cond b (cond (is_in k ks) (Added seen) Quiet) Quiet) s
     pick true e = subst (λ x. IsPlain f (add_keys x seen (plain f) ks) w k (cond (is_in k ks) (Added seen) Quiet) s) (sym (eqb-true v w e))
         (let m = sound.numbers w (ap (connected f) (sym (eqb-true v w e)) ∙ there) in add_own f w k seen ks s m.0 m.1 sound t n)
-    pick false e = let away = adds_away v seen w k e ks (plain f) in let l = left_adds f v seen ks (plain f) (record { on = refl; steal = refl; fence = refl; last_worker = refl; answer = refl }) in
+    pick false e = let away = adds_away v seen w k e ks (plain f) in let l = left_plain f v seen ks in
         calm_row f (add_keys v seen (plain f) ks) w k Quiet s sound t n (quiet_calm f (add_keys v seen (plain f) ks) w k s
         (same_moved f (add_keys v seen (plain f) ks).facts t k (ap (λ (o : ℕ → Option (ℕ × ℕ)). o k) l.on) (ap (λ (o : ℕ → Option (ℕ × Bool)). o k) l.steal))
         (inl (ap (λ (o : ℕ → Option (ℕ × ℕ)). o k) l.on, ap (λ (o : ℕ → Option (ℕ × Bool)). o k) l.steal)) away.0 away.1

@@ -8,3 +8,4 @@ pub mod HoldRows
 pub mod Still
 pub mod OtherRows
 pub mod ChoiceRows
+pub mod Events

@@ -84,7 +84,7 @@ moved_apart f g t w k (Stays on steal) e = placed_apart f t k (on_some w (f.on k
 moved_apart f g t w k (Ended on steal) e = absurd (false≢true (sym (ap (is_for w) on) ∙ e))
 moved_apart f g t w k (Stolen v was on c steal) e = placed_apart f t k was
 
-moved_below : (f g : Facts) → IsNumbered f → f.counter ≤ g.counter → (w k a : ℕ) → Moved f g k → g.on k ≡ Some (w, a) → a < g.counter
+pub moved_below : (f g : Facts) → IsNumbered f → f.counter ≤ g.counter → (w k a : ℕ) → Moved f g k → g.on k ≡ Some (w, a) → a < g.counter
 moved_below f g n l w k a (Stays on steal) e = let m : a < f.counter = n.below k w a (sym on ∙ e) in omega arith
 moved_below f g n l w k a (Ended on steal) e = absurd (none_not_some (w, a) (sym on ∙ e))
 moved_below f g n l w k a (Stolen v was on c steal) e = let m : f.counter ≡ a = same_some (v, f.counter) (w, a) (sym on ∙ e) in omega arith

@@ -1,5 +1,5 @@
 -- What the scheduler, a worker and the links between them are for one key.
-use Rattle.std.specs.Prelude.{◌≡◌, ℕ, ◌<◌, ◌≤◌, ◌==◌, Bool, true, ◌&&◌, List, [], ◌∷◌, ◌++◌, Option, Some, None, is_some, cond}
+use Rattle.std.specs.Prelude.{◌≡◌, ℕ, ◌<◌, ◌==◌, Bool, true, ◌&&◌, List, [], ◌∷◌, ◌++◌, Option, Some, None, is_some, cond}
 use Rattle.cluster_msgs.specs.declared.messages.Down.{Down}
 use Rattle.cluster_msgs.specs.declared.messages.Down.TheVariants.{ComputeTask, FreeKeys, StealRequest, RemoveReplicas, AcquireReplicas, RefreshWhoHas}
 use Rattle.cluster_msgs.specs.declared.messages.Up.{Up}
@@ -81,6 +81,6 @@ report_in Evict w k = Quiet
 
 -- an event of the scheduler keeps what holds of the pair of a worker that stays connected, and takes the message that it is about
 abbrev pub EventKeeps : Facts → SchedEvent → Type 0
-EventKeeps f e = (w k : ℕ) (s : Side) → k < keys f → 1 ≤ w → connected f w ≡ true → connected (sched_step f e).facts w ≡ true
+EventKeeps f e = (w k : ℕ) (s : Side) → k < keys f → connected (sched_step f e).facts w ≡ true
     → IsPair (record (pair_of f w k s) { up = report_in e w k ∷ reports k s.up })
     → IsPair (pair_of (sched_step f e).facts w k (record s { down = s.down ++ mail w (sched_step f e).down }))
