@@ -9,3 +9,4 @@ pub mod Still
 pub mod OtherRows
 pub mod ChoiceRows
 pub mod Events
+pub mod WorkerMoves
