@@ -1,6 +1,7 @@
 -- Each event of a worker, as moves of the pair of the worker and a key.
 use Rattle.std.proofs.Common.{◌≡◌, ℕ, ◌+◌, ◌<◌, Bool, true, false, not, cond, ◌&&◌, ◌||◌, List, [], ◌∷◌, ◌++◌, Option, Some, None, refl, sym, ap, ◌∙◌, subst, arith, filter, fold, map, append_assoc, append-nil}
-use Rattle.std.proofs.lemmas.Bool.{true≢false, false≢true, eqb-true, and_parts}
+use Rattle.std.proofs.lemmas.Bool.{true≢false, false≢true, eqb-true, ltb-true, and_parts}
+use Rattle.std.specs.List.{list_all}
 use Rattle.std.proofs.lemmas.List.Folds.{list_any-append}
 use Rattle.std.proofs.Math.Dec.{eqb}
 use Rattle.cluster_msgs.specs.Shape.{key_count}
@@ -15,7 +16,7 @@ use Rattle.cluster_msgs.specs.declared.cores.WorkerEvent.TheVariants.{Down as To
 use Rattle.cluster_rules.specs.Functions.{put}
 use Rattle.cluster_rules.specs.Derived.{is_in}
 use Rattle.cluster_rules.specs.Worker.{Ask as OpenAsk, WorkerFacts, worker_keys, awaited, is_wanted, wstate, is_missing_state, is_unstarted_state, would_start, ask_to, without_ask}
-use Rattle.cluster_rules.specs.WorkerStep.{WorkerStep, quiet, after_out, each_key, taken, set_holders, into_mem, give_up, given, free_key, is_attempt, yields, asked_back, remove_replica, remove_replicas, add_message, acquire, refresh, take_down, start, Arrivals, arrive_as, arrive, counted, arrived, stopped, erred_as, done, keys_of, ask_peer, lose_holders, not_found, answered_ask, gathered_by, gathered, lose_data, worker_row, unasked_keys, seek_missing, worker_step, is_key, worker_takes}
+use Rattle.cluster_rules.specs.WorkerStep.{WorkerStep, quiet, after_out, each_key, taken, set_holders, into_mem, give_up, given, free_key, is_attempt, yields, asked_back, remove_replica, remove_replicas, add_message, acquire, refresh, take_down, start, Arrivals, arrive_as, arrive, counted, arrived, stopped, erred_as, done, keys_of, ask_peer, lose_holders, not_found, answered_ask, gathered_by, gathered, lose_data, worker_row, unasked_keys, seek_missing, worker_step, is_key, takes_down, worker_takes}
 use Rattle.cluster_rules.specs.WorldStep.{sends}
 use Rattle.cluster_rules.proofs.DerivedLemmas.{eqb_comm}
 use Rattle.cluster_rules.proofs.WorkerLemmas.{in_filter, filter_in, range_in}
@@ -75,6 +76,15 @@ said-append k xs ys = ap (reports k) (sends-append xs ys) ∙ reports-append k (
 abbrev pub AreQuiet : List Report → Type 0
 AreQuiet [] = Unit {0}
 AreQuiet (r ∷ rs) = (r ≡ Quiet) × AreQuiet rs
+
+-- a member of a list whose members all pass
+pub all_in : (p : ℕ → Bool) (x : ℕ) (xs : List ℕ) → list_all p xs ≡ true → is_in x xs ≡ true → p x ≡ true
+all_in p x [] h i = absurd (false≢true i)
+all_in p x (y ∷ ys) h i = pick (eqb y x) refl i (and_parts (p y) (list_all p ys) h) (λ l m. all_in p x ys l m)
+  where
+    pick : (b : Bool) → eqb y x ≡ b → (b || is_in x ys) ≡ true → (p y ≡ true) × (list_all p ys ≡ true) → (list_all p ys ≡ true → is_in x ys ≡ true → p x ≡ true) → p x ≡ true
+    pick true e m l rest = ap p (sym (eqb-true y x e)) ∙ l.0
+    pick false e m l rest = rest l.1 m
 
 -- ## One worker and one key
 
@@ -514,7 +524,7 @@ module _ (I : Pair → Type 0) (Idle : Type 0) (cl : IsClosed I Idle) (k : ℕ) 
       both true false i d = refl
       both false c i d = refl
 
-  told_remove : (w : WorkerFacts) (ks : List ℕ) → k < key_count w.shape → let s = remove_replicas (taken w) ks in IsTold w (RemoveReplicas ks) s.facts (reports k (sends s.out))
+  told_remove : (w : WorkerFacts) (ks : List ℕ) → (is_in k ks ≡ true → k < key_count w.shape) → let s = remove_replicas (taken w) ks in IsTold w (RemoveReplicas ks) s.facts (reports k (sends s.out))
   unfolding remove_replicas
   told_remove w ks low = by (is_in k ks) refl (w.mem k) refl (awaited v k) refl (removing ks (quiet v))
     where
@@ -546,7 +556,7 @@ module _ (I : Pair → Type 0) (Idle : Type 0) (cl : IsClosed I Idle) (k : ℕ) 
           none false h = refl
 
       is_refused : (is_in k ks && (w.mem k && awaited v k)) ≡ true → is_in k refused ≡ true
-      is_refused e = filter_in (λ j. is_in j ks && (w.mem j && awaited v j)) (worker_keys w) k (range_in 0 (key_count w.shape) k (omega arith) (omega (arith, low))) e
+      is_refused e = filter_in (λ j. is_in j ks && (w.mem j && awaited v j)) (worker_keys w) k (range_in 0 (key_count w.shape) k (omega arith) (omega (arith, low (and_parts (is_in k ks) (w.mem k && awaited v k) e).0))) e
 
       test : (c b d : Bool) → is_in k ks ≡ c → w.mem k ≡ b → awaited v k ≡ d → (is_in k ks && (w.mem k && awaited v k)) ≡ (c && (b && d))
       test c b d ec eb ed = ap (λ x. x && (w.mem k && awaited v k)) ec ∙ ap (λ x. c && (x && awaited v k)) eb ∙ ap (λ x. c && (b && x)) ed
@@ -595,25 +605,25 @@ module _ (I : Pair → Type 0) (Idle : Type 0) (cl : IsClosed I Idle) (k : ℕ) 
       by true ec true eb false ed r = gone true false ec eb ed refl r
       by true ec false eb d ed r = gone false d ec eb ed refl r
 
-  told_all : (w : WorkerFacts) (m : Down) → k < key_count w.shape → (is_unstarted_state (wstate (taken w) k) ≡ true → Idle) → let s = take_down (taken w) m in IsTold w m s.facts (reports k (sends s.out))
+  told_all : (w : WorkerFacts) (m : Down) → takes_down w m ≡ true → (is_unstarted_state (wstate (taken w) k) ≡ true → Idle) → let s = take_down (taken w) m in IsTold w m s.facts (reports k (sends s.out))
   unfolding take_down
-  told_all w (ComputeTask q a who) low idle = told_compute w q a who
-  told_all w (FreeKeys ks) low idle = told_free w ks
-  told_all w (StealRequest q a) low idle = told_ask w q a idle
-  told_all w (RemoveReplicas ks) low idle = told_remove w ks low
-  told_all w (AcquireReplicas who) low idle = let s = same_acquire (taken w) who in let at = at_key (taken w) (fold acquire (taken w) who) s in told_other w (AcquireReplicas who) (fold acquire (taken w) who) [] refl s.seen at.0 at.1 tt
-  told_all w (RefreshWhoHas who) low idle = let s = same_refresh (taken w) who in let at = at_key (taken w) (fold refresh (taken w) who) s in told_other w (RefreshWhoHas who) (fold refresh (taken w) who) [] refl s.seen at.0 at.1 tt
+  told_all w (ComputeTask q a who) t idle = told_compute w q a who
+  told_all w (FreeKeys ks) t idle = told_free w ks
+  told_all w (StealRequest q a) t idle = told_ask w q a idle
+  told_all w (RemoveReplicas ks) t idle = told_remove w ks (λ e. ltb-true k (key_count w.shape) (all_in (is_key w) k ks t e))
+  told_all w (AcquireReplicas who) t idle = let s = same_acquire (taken w) who in let at = at_key (taken w) (fold acquire (taken w) who) s in told_other w (AcquireReplicas who) (fold acquire (taken w) who) [] refl s.seen at.0 at.1 tt
+  told_all w (RefreshWhoHas who) t idle = let s = same_refresh (taken w) who in let at = at_key (taken w) (fold refresh (taken w) who) s in told_other w (RefreshWhoHas who) (fold refresh (taken w) who) [] refl s.seen at.0 at.1 tt
 
   -- ## Every event
 
   -- a message of the scheduler
-  pub told_keeps : (w : WorkerFacts) (m : Down) → k < key_count w.shape → (is_unstarted_state (wstate (taken w) k) ≡ true → Idle) → (p : Pair) (ns : List Note)
+  pub told_keeps : (w : WorkerFacts) (m : Down) → worker_takes w (Told m) ≡ true → (is_unstarted_state (wstate (taken w) k) ≡ true → Idle) → (p : Pair) (ns : List Note)
       → let s = worker_step w (Told m) in I (record (at_side p w) { down = note_of k m ∷ ns }) → I (record (at_side p s.facts) { down = ns; up = p.up ++ reports k (sends s.out) })
-  unfolding worker_step worker_row
-  told_keeps w m low idle p ns i =
+  unfolding worker_step worker_row worker_takes
+  told_keeps w m t idle p ns i =
       let s = take_down (taken w) m in
       more_out w (record (at_side p s.facts) { down = ns }) p s.out (map (λ q. Send (RequestRefreshWhoHas s.facts.seen q)) (unasked_keys s.facts)) (asks_quietly s.facts.seen (unasked_keys s.facts))
-      (told_goes w m s.facts (reports k (sends s.out)) (told_all w m low idle) p ns i)
+      (told_goes w m s.facts (reports k (sends s.out)) (told_all w m t idle) p ns i)
 
   abbrev pub IsOwn : WorkerEvent → Type 0
   IsOwn (Told m) = ⊥
