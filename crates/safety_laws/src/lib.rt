@@ -1,0 +1,2 @@
+//! Schedule safety: laws about every legal list of events.
+#![tactic(auto)]
