@@ -347,7 +347,7 @@ evicted_with f v q w k s sound t n d frame after low there = pick (eqb v w) refl
     pick : (b : Bool) → eqb v w ≡ b → (c : Bool) → eqb q k ≡ c → Keeps f (evicted f (Some (v, q))) w k s
     pick true i true j = subst (λ (x : ℕ × ℕ). Keeps f (evicted f (Some x)) w k s) (λ y. (sym (eqb-true v w i) y, sym (eqb-true q k j) y))
         (row_keeps f (evicted f (Some (w, k))) (holds f w k) false w k Quiet s
-        (record { setting = refl; counter = omega arith; sent = refl; fence = refl })
+        (record { setting = refl; counter = omega arith; sent = refl; fence = refl; last_worker = omega arith; threads = λ i e l. e })
         (subst (λ (x : ℕ × ℕ). IsSound (dropped f x.0 x.1)) (λ y. (eqb-true v w i y, eqb-true q k j y)) after) low there
         (evicted_own f w k s sound t n (subst (λ (x : ℕ × ℕ). IsDrop f x.0 x.1) (λ y. (eqb-true v w i y, eqb-true q k j y)) d)))
     pick true i false j = plain_keeps f (evicted f (Some (v, q))) w k Quiet s n frame after low there (evicted_other f v q w k s sound t n (inr j))

@@ -26,6 +26,8 @@ pub record IsFramed (f g : Facts) : Type 0 where
   pub counter : f.counter ≤ g.counter
   pub sent : g.sent ≡ f.sent
   pub fence : g.fence ≡ f.fence
+  pub last_worker : f.last_worker ≤ g.last_worker
+  pub threads : (i : ℕ) → connected g i ≡ true → i ≤ f.last_worker → connected f i ≡ true
 
 -- ## What a row makes of a key's place and of its steal
 

@@ -1,1 +1,4 @@
 pub mod Turns
+pub mod Mine
+pub mod Homes
+pub mod Paired

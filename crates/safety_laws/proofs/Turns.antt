@@ -116,7 +116,7 @@ sched_is j w (LoseSpilled i k) = refl
 -- ## Whoever is handed an enabled event takes it
 
 -- keys of the graph are keys of whoever has that graph
-keys_there : (g s : Shape) → s ≡ g → (ks : List ℕ) → AreKeys g ks → list_all (λ k. nat_lt k (key_count s)) ks ≡ true
+pub keys_there : (g s : Shape) → s ≡ g → (ks : List ℕ) → AreKeys g ks → list_all (λ k. nat_lt k (key_count s)) ks ≡ true
 keys_there g s e [] h = refl
 keys_there g s e (k ∷ ks) h = and_from _ _ (subst (λ (x : Shape). nat_lt k (key_count x) ≡ true) (sym e) h.0) (keys_there g s e ks h.1)
 

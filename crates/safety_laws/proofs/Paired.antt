@@ -1,0 +1,208 @@
+-- What holds of each pair of a worker and a key holds after every event of the world.
+use Rattle.std.proofs.Common.{◌≡◌, ℕ, ◌+◌, ◌<◌, ◌≤◌, Bool, true, false, cond, not, ◌&&◌, List, [], ◌∷◌, ◌++◌, Option, Some, None, refl, sym, ap, ◌∙◌, subst, arith, is_some, inl, inr, ◌⊎◌, ⊎_elim, length}
+use Rattle.std.specs.Prelude.{nat_le, nat_lt}
+use Rattle.std.specs.List.{list_all, AllByRecursion}
+use Rattle.std.proofs.lemmas.Bool.{true≢false, false≢true, eqb-true, and_parts, and_from, cases_lt}
+use Rattle.std.proofs.lemmas.Bool.Decides.{nat_tests}
+use Rattle.std.proofs.Math.Dec.{eqb}
+use Rattle.cluster_msgs.specs.Shape.{Shape, key_count}
+use Rattle.cluster_msgs.specs.declared.messages.Down.{Down}
+use Rattle.cluster_msgs.specs.declared.messages.Up.{Up}
+use Rattle.cluster_msgs.specs.declared.messages.ToClient.{ToClient}
+use Rattle.cluster_msgs.specs.declared.messages.FromClient.{FromClient as ClientMessage}
+use Rattle.cluster_msgs.specs.declared.cores.SchedEvent.{SchedEvent}
+use Rattle.cluster_msgs.specs.declared.cores.SchedEvent.TheVariants.{Join as JoinSched, Leave, FromWorker, FromClient, Balance as BalanceSched, Evict as EvictSched}
+use Rattle.cluster_msgs.specs.declared.cores.WorkerEvent.{WorkerEvent}
+use Rattle.cluster_msgs.specs.declared.cores.WorkerEvent.TheVariants.{Down as Told, Start as StartTask, Done, Ask as AskPeer, Gathered, GatherFailed, DataLost}
+use Rattle.cluster_msgs.specs.declared.events.Asker.{Asker}
+use Rattle.cluster_msgs.specs.declared.events.Asker.TheVariants.{Worker, Client}
+use Rattle.cluster_msgs.specs.declared.events.Event.{Event}
+use Rattle.cluster_msgs.specs.declared.events.Event.TheVariants.{Want, Release, Join, Lose, SeeLoss, Suspect, DeliverDown, DeliverUp, DeliverToClient, DeliverFromClient, Start, Finish, SendGather, ServeGather, ArriveGather, FailGather, Balance, Evict, Spill, LoseSpilled}
+use Rattle.cluster_rules.specs.Functions.{put}
+use Rattle.cluster_rules.specs.Sched.{Facts, IsSound, keys, holds, connected, is_on, is_for}
+use Rattle.cluster_rules.specs.SchedTable.{is_asked_back, change, sched_takes}
+use Rattle.cluster_rules.specs.SchedStep.{sched_step, mail}
+use Rattle.cluster_rules.specs.Worker.{Ask, WorkerFacts, new_worker, has_any, would_start}
+use Rattle.cluster_rules.specs.WorkerStep.{worker_step, worker_takes}
+use Rattle.cluster_rules.specs.World.{Job, World, Parcel, shape_of, is_connected, is_client, is_asker, open_ask, is_parcel, parcel_of, without_parcel}
+use Rattle.cluster_rules.specs.WorldStep.{sends, scheduled, worked, client_worked, at_scheduler, at_worker, at_client, new_at, died, cut_off, take_down_first, take_up, take_up_first, take_to_client, take_from_client, ask_by, gathered_at, failed_at, serve, take_answer, fail_ask, world_step}
+use Rattle.cluster_rules.specs.Enabled.{enabled, may_ask}
+use Rattle.cluster_rules.specs.Inside.{AreKeys, down_keys, IsInsideWorld}
+use Rattle.cluster_rules.proofs.InsideSched.{all_found}
+use Rattle.cluster_rules.proofs.DerivedLemmas.{eqb_comm}
+use Rattle.cluster_rules.proofs.SchedFrame.{same_eqb, step_settles}
+use Rattle.cluster_rules.proofs.WorkerLemmas.{at_one}
+use Rattle.scheduler_laws.specs.Settled.{IsSettled}
+use Rattle.pair_machine.specs.Pair.{Quiet, Pair, IsPair}
+use Rattle.pair_machine.specs.Moves.{opening as opening_pair}
+use Rattle.pair_moves.specs.Projection.{note_of, report_of, report_in, notes, reports, at_worker as at_the_worker, Side, pair_of, IsNumbered}
+use Rattle.pair_moves.proofs.Framed.{change_framed}
+use Rattle.pair_moves.proofs.Events.{event_keeps}
+use Rattle.pair_moves.proofs.WorkerMoves.{pair_closed, own_keeps, told_keeps, IsOwn, reports-append}
+use Rattle.safety_laws.specs.Joint.{side_of, pair_at, IsPaired}
+use Rattle.safety_laws.proofs.Turns.{down_there, key_there, keys_there, up_taken, letter_taken}
+use Rattle.safety_laws.proofs.Homes.{IsHome, found_asker}
+
+-- a message that says nothing of the key, in front of those under way
+pub quiet_front : (p : Pair) → IsPair p → IsPair (record p { up = Quiet ∷ p.up })
+quiet_front p s = record {
+  places = s.places;
+  heard_of = (tt, s.heard_of);
+  placed = s.placed;
+  agree = s.agree;
+  apart = s.apart;
+  once = λ a. let o = s.once a in omega arith;
+  fresh = λ a l. let o = s.fresh a l in omega arith;
+  unasked = λ a l. let o = s.unasked a l in omega arith;
+  older = s.older;
+  stolen = λ a e. let o = s.stolen a e in omega arith;
+  clean = s.clean;
+}
+
+-- nothing of the key has been said yet
+pair_born : (c : ℕ) → IsPair (record opening_pair { counter = c })
+pair_born c = record {
+  places = refl;
+  heard_of = tt;
+  placed = omega arith;
+  agree = refl;
+  apart = λ e. absurd (false≢true e);
+  once = λ a. omega arith;
+  fresh = λ a l. refl;
+  unasked = λ a l. refl;
+  older = λ a e. absurd (none_some a e);
+  stolen = λ a e. absurd (none_some a e);
+  clean = tt;
+}
+  where
+    none_some : (a : ℕ) → None ≡ Some a → ⊥
+    none_some a e = cc
+
+module _ (f : Facts) (sound : IsSound f) (settled : IsSettled f) (numbered : IsNumbered f) where
+  -- a worker that is connected after an event was so before, or has just joined
+  was_connected : (s : SchedEvent) (i : ℕ) → i ≤ f.last_worker → connected (sched_step f s).facts i ≡ true → connected f i ≡ true
+  was_connected s i l e = (change_framed f s).threads i (ap (λ (t : ℕ → Option ℕ). is_some (t i)) (sym (step_settles f s).threads) ∙ e) l
+
+  -- an event that takes no message of the worker
+  quiet_event : (s : SchedEvent) → sched_takes f s ≡ true → (i k : ℕ) (side : Side) → k < keys f → report_in s i k ≡ Quiet → connected (sched_step f s).facts i ≡ true → IsPair (pair_of f i k side) → IsPair (pair_of (sched_step f s).facts i k (record side { down = side.down ++ mail i (sched_step f s).down }))
+  quiet_event s t i k side low q c p = event_keeps f s sound settled numbered t i k side low c (subst (λ r. IsPair (record (pair_of f i k side) { up = r ∷ reports k side.up })) (sym q) (quiet_front (pair_of f i k side) p))
+
+-- ## The world
+
+-- what is known of a pair whose worker is connected afterwards
+abbrev PairAfter : World → World → ℕ → ℕ → Type 0
+PairAfter w v i k = v.alive i ≡ true → is_connected v i ≡ true → IsPair (pair_at v i k)
+
+-- numbers that nobody has yet were sent nothing
+pub record IsUnsent (f : Facts) : Type 0 where
+  pub sent : (i : ℕ) → f.last_worker < i → f.sent i ≡ 0
+  pub fence : (i k : ℕ) → f.last_worker < i → f.fence i k ≡ 0
+
+module _ (j : Job) (w : World) (inside : IsInsideWorld j.setting.shape w) (sound : IsSound w.sched) (settled : IsSettled w.sched) (numbered : IsNumbered w.sched) (unsent : IsUnsent w.sched)
+    (home : IsHome j.setting.shape j.setting.clients w.sched.last_worker w) (letter_from : (c : ℕ) → has_any (w.from_client c) ≡ true → is_client w c ≡ true) (h : IsPaired w) (i k : ℕ) (low : k < key_count (shape_of w)) where
+  given : w.alive i ≡ true → i ≤ w.sched.last_worker
+  given a = ⊎_elim (λ l. absurd (true≢false (sym a ∙ (home.bare i l).alive))) (λ l. l) (cases_lt w.sched.last_worker i)
+
+  -- the scheduler's event, with the links as they are in v
+  p_scheduler : (v : World) (s : SchedEvent) → v.sched ≡ w.sched → v.alive i ≡ w.alive i → sched_takes w.sched s ≡ true → report_in s i k ≡ Quiet → (is_connected w i ≡ true → w.alive i ≡ true → IsPair (pair_at v i k)) → PairAfter w (at_scheduler v s) i k
+  unfolding scheduled
+  p_scheduler v s same living t q p a c = subst (λ (f : Facts). connected (sched_step f s).facts i ≡ true → (is_connected w i ≡ true → w.alive i ≡ true → IsPair (pair_of f i k (side_of v i k)))
+      → IsPair (pair_of (sched_step f s).facts i k (record (side_of v i k) { down = v.down i ++ mail i (sched_step f s).down })))
+      (sym same)
+      (λ d r. quiet_event w.sched sound settled numbered s t i k (side_of v i k) low q d (r (was_connected w.sched sound settled numbered s i (given (sym living ∙ a)) d) (sym living ∙ a)))
+      c p
+
+  -- a worker's own event
+  p_own : (v : World) (x : ℕ) (e : WorkerEvent) → IsOwn IsPair (Unit {0}) (pair_closed (Unit {0})) k e → worker_takes (v.workers x) e ≡ true → PairAfter w v i k → PairAfter w (at_worker v x e) i k
+  unfolding worked
+  p_own v x e o t p a c = pick (eqb i x) refl
+    where
+      own : i ≡ x → IsPair (pair_of v.sched i k (record { down = v.down i; seen = (worker_step (v.workers x) e).facts.seen; mine = (worker_step (v.workers x) e).facts.mine k; mem = (worker_step (v.workers x) e).facts.mem k; up = v.up x ++ sends (worker_step (v.workers x) e).out }))
+      own s = subst (λ y. IsPair (pair_of v.sched i k (record { down = v.down i; seen = (worker_step (v.workers x) e).facts.seen; mine = (worker_step (v.workers x) e).facts.mine k; mem = (worker_step (v.workers x) e).facts.mem k; up = v.up y ++ sends (worker_step (v.workers x) e).out }))) s
+          (subst (λ rs. IsPair (record (pair_at v i k) { seen = (worker_step (v.workers x) e).facts.seen; mine = (worker_step (v.workers x) e).facts.mine k; mem = (worker_step (v.workers x) e).facts.mem k; up = rs }))
+          (sym (reports-append k (v.up i) (sends (worker_step (v.workers x) e).out)))
+          (own_keeps IsPair (Unit {0}) (pair_closed (Unit {0})) k (v.workers x) e o t (pair_at v i k) (subst (λ y. IsPair (record (pair_at v i k) { seen = (v.workers y).seen; mem = (v.workers y).mem k; mine = (v.workers y).mine k })) s (p a c))))
+
+      pick : (b : Bool) → eqb i x ≡ b → IsPair (pair_of v.sched i k (record { down = v.down i; seen = (cond b (worker_step (v.workers x) e).facts (v.workers i)).seen; mine = (cond b (worker_step (v.workers x) e).facts (v.workers i)).mine k; mem = (cond b (worker_step (v.workers x) e).facts (v.workers i)).mem k; up = cond b (v.up x ++ sends (worker_step (v.workers x) e).out) (v.up i) }))
+      pick true e = own (eqb-true i x e)
+      pick false e = p a c
+
+  -- a message that a worker takes
+  p_told : (x : ℕ) (m : Down) (ms : List Down) → w.down x ≡ m ∷ ms → worker_takes (w.workers x) (Told m) ≡ true → PairAfter w (at_worker (record w { down = put w.down x ms }) x (Told m)) i k
+  unfolding worked
+  p_told x m ms e t a c = pick (eqb i x) refl
+    where
+      own : i ≡ x → IsPair (pair_of w.sched i k (record { down = ms; seen = (worker_step (w.workers x) (Told m)).facts.seen; mine = (worker_step (w.workers x) (Told m)).facts.mine k; mem = (worker_step (w.workers x) (Told m)).facts.mem k; up = w.up x ++ sends (worker_step (w.workers x) (Told m)).out }))
+      own s = subst (λ y. IsPair (pair_of w.sched i k (record { down = ms; seen = (worker_step (w.workers x) (Told m)).facts.seen; mine = (worker_step (w.workers x) (Told m)).facts.mine k; mem = (worker_step (w.workers x) (Told m)).facts.mem k; up = w.up y ++ sends (worker_step (w.workers x) (Told m)).out }))) s
+          (subst (λ rs. IsPair (record (pair_at w i k) { down = notes k ms; seen = (worker_step (w.workers x) (Told m)).facts.seen; mine = (worker_step (w.workers x) (Told m)).facts.mine k; mem = (worker_step (w.workers x) (Told m)).facts.mem k; up = rs }))
+          (sym (reports-append k (w.up i) (sends (worker_step (w.workers x) (Told m)).out)))
+          (told_keeps IsPair (Unit {0}) (pair_closed (Unit {0})) k (w.workers x) m t (λ _. tt) (pair_at w i k) (notes k ms)
+          (subst (λ y. IsPair (record (pair_at w i k) { down = notes k (m ∷ ms); seen = (w.workers y).seen; mem = (w.workers y).mem k; mine = (w.workers y).mine k })) s
+          (subst (λ l. IsPair (record (pair_at w i k) { down = notes k l })) (ap w.down s ∙ e) (h i k low a c)))))
+
+      pick : (b : Bool) → eqb i x ≡ b → IsPair (pair_of w.sched i k (record { down = cond b ms (w.down i); seen = (cond b (worker_step (w.workers x) (Told m)).facts (w.workers i)).seen; mine = (cond b (worker_step (w.workers x) (Told m)).facts (w.workers i)).mine k; mem = (cond b (worker_step (w.workers x) (Told m)).facts (w.workers i)).mem k; up = cond b (w.up x ++ sends (worker_step (w.workers x) (Told m)).out) (w.up i) }))
+      pick true q = own (eqb-true i x q)
+      pick false q = h i k low a c
+
+  -- a message that the scheduler takes
+  p_heard : (x : ℕ) (m : Up) (ms : List Up) → w.up x ≡ m ∷ ms → is_connected w x ≡ true → PairAfter w (at_scheduler (record w { up = put w.up x ms }) (FromWorker x m)) i k
+  unfolding scheduled
+  p_heard x m ms e there a c = event_keeps w.sched (FromWorker x m) sound settled numbered (up_taken j.setting.shape w inside x m ms e there) i k (record (side_of w i k) { up = put w.up x ms i }) low c
+      (pick (eqb i x) refl (h i k low a (was_connected w.sched sound settled numbered (FromWorker x m) i (given a) c)))
+    where
+      pick : (b : Bool) → eqb i x ≡ b → IsPair (pair_at w i k) → IsPair (record (pair_at w i k) { up = cond (eqb x i) (report_of k m) Quiet ∷ reports k (cond b ms (w.up i)) })
+      pick true q p = subst (λ b. IsPair (record (pair_at w i k) { up = cond b (report_of k m) Quiet ∷ reports k ms })) (sym (same_eqb x i (sym (eqb-true i x q)))) (subst (λ l. IsPair (record (pair_at w i k) { up = reports k l })) (ap w.up (eqb-true i x q) ∙ e) p)
+      pick false q p = subst (λ b. IsPair (record (pair_at w i k) { up = cond b (report_of k m) Quiet ∷ reports k (w.up i) })) (sym (eqb_comm x i ∙ q)) (quiet_front (pair_at w i k) p)
+
+  p_dropped : (x : ℕ) (m : Up) (ms : List Up) → is_connected w x ≡ false → PairAfter w (record w { up = put w.up x ms }) i k
+  p_dropped x m ms gone a c = pick (eqb i x) refl
+    where
+      pick : (b : Bool) → eqb i x ≡ b → IsPair (record (pair_at w i k) { up = reports k (cond b ms (w.up i)) })
+      pick true q = absurd (true≢false (sym c ∙ ap (is_connected w) (eqb-true i x q) ∙ gone))
+      pick false q = h i k low a c
+
+  -- a worker that joins
+  p_joined : (threads : ℕ) → sched_takes w.sched (JoinSched threads) ≡ true → PairAfter w (at_scheduler (new_at w (w.sched.last_worker + 1) threads) (JoinSched threads)) i k
+  unfolding scheduled
+  p_joined threads t a c = pick (eqb i (w.sched.last_worker + 1)) refl
+    where
+      n : ℕ
+      n = w.sched.last_worker + 1
+
+      not_holding : n ≤ w.sched.last_worker → ⊥
+      not_holding l = omega (arith, l)
+
+      holds_none : (b : Bool) → holds w.sched n k ≡ b → b ≡ false
+      holds_none true e = absurd (not_holding (sound.numbers n (sound.holders n k e)).1)
+      holds_none false e = refl
+
+      on_none : (o : Option (ℕ × ℕ)) → w.sched.on k ≡ o → at_the_worker n o ≡ None
+      on_none None e = refl
+      on_none (Some p) e = by (eqb p.0 n) refl
+        where
+          by : (b : Bool) → eqb p.0 n ≡ b → cond b (Some p.1) None ≡ None
+          by true q = absurd (not_holding (sound.numbers n (sound.places n k (ap (is_for n) e ∙ q))).1)
+          by false q = refl
+
+      born : IsPair (pair_of w.sched n k (record { down = w.down n; seen = 0; mine = None; mem = false; up = w.up n }))
+      born = let b = home.bare n (omega arith) in subst (λ (x : Pair). IsPair x)
+          (λ q. record opening_pair {
+            has = sym (holds_none (holds w.sched n k) refl) q;
+            on = sym (on_none (w.sched.on k) refl) q;
+            asked = is_some (sym (on_none (w.sched.on k) refl) q) && is_asked_back (w.sched.steal k);
+            fence = sym (unsent.fence n k (omega arith)) q;
+            sent = sym (unsent.sent n (omega arith)) q;
+            counter = w.sched.counter;
+            down = notes k (sym b.down q);
+            up = reports k (sym b.up q);
+          }) (pair_born w.sched.counter)
+
+      event : (side : Side) → IsPair (pair_of w.sched i k side) → IsPair (pair_of (sched_step w.sched (JoinSched threads)).facts i k (record side { down = side.down ++ mail i (sched_step w.sched (JoinSched threads)).down }))
+      event side p = quiet_event w.sched sound settled numbered (JoinSched threads) t i k side low refl c p
+
+      living : (b : Bool) → eqb i n ≡ b → b ≡ false → w.alive i ≡ true
+      living b e z = ap (λ x. cond x true (w.alive i)) (sym (e ∙ z)) ∙ a
+
+      pick : (b : Bool) → eqb i n ≡ b → IsPair (pair_of (sched_step w.sched (JoinSched threads)).facts i k (record { down = w.down i ++ mail i (sched_step w.sched (JoinSched threads)).down; seen = (cond b (new_worker (shape_of w) n threads) (w.workers i)).seen; mine = (cond b (new_worker (shape_of w) n threads) (w.workers i)).mine k; mem = (cond b (new_worker (shape_of w) n threads) (w.workers i)).mem k; up = w.up i }))
+      pick true e = event (record { down = w.down i; seen = 0; mine = None; mem = false; up = w.up i }) (subst (λ x. IsPair (pair_of w.sched x k (record { down = w.down x; seen = 0; mine = None; mem = false; up = w.up x }))) (sym (eqb-true i n e)) born)
+      pick false e = event (side_of w i k) (h i k low (living false e refl) (was_connected w.sched sound settled numbered (JoinSched threads) i (given (living false e refl)) c))
