@@ -14,6 +14,8 @@ use Rattle.cluster_msgs.specs.declared.cores.SchedEvent.{SchedEvent}
 use Rattle.cluster_msgs.specs.declared.cores.SchedEvent.TheVariants.{Join as JoinSched, Leave, FromWorker, FromClient, Balance as BalanceSched, Evict as EvictSched}
 use Rattle.cluster_msgs.specs.declared.cores.WorkerEvent.{WorkerEvent}
 use Rattle.cluster_msgs.specs.declared.cores.WorkerEvent.TheVariants.{Down as Told, Start as StartTask, Done, Ask as AskPeer, Gathered, GatherFailed, DataLost}
+use Rattle.cluster_msgs.specs.declared.cores.ClientEvent.{ClientEvent}
+use Rattle.cluster_msgs.specs.declared.cores.ClientEvent.TheVariants.{Want as WantKeys, Release as ReleaseKeys, FromScheduler, Ask as ClientAsk, Gathered as ClientGathered, GatherFailed as ClientGatherFailed}
 use Rattle.cluster_msgs.specs.declared.events.Asker.{Asker}
 use Rattle.cluster_msgs.specs.declared.events.Asker.TheVariants.{Worker, Client}
 use Rattle.cluster_msgs.specs.declared.events.Event.{Event}
@@ -31,7 +33,7 @@ use Rattle.cluster_rules.specs.Inside.{AreKeys, down_keys, IsInsideWorld}
 use Rattle.cluster_rules.proofs.InsideSched.{all_found}
 use Rattle.cluster_rules.proofs.DerivedLemmas.{eqb_comm}
 use Rattle.cluster_rules.proofs.SchedFrame.{same_eqb, step_settles}
-use Rattle.cluster_rules.proofs.WorkerLemmas.{at_one}
+use Rattle.cluster_rules.proofs.SoundStep.{sound_step}
 use Rattle.scheduler_laws.specs.Settled.{IsSettled}
 use Rattle.pair_machine.specs.Pair.{Quiet, Pair, IsPair}
 use Rattle.pair_machine.specs.Moves.{opening as opening_pair}
@@ -40,7 +42,7 @@ use Rattle.pair_moves.proofs.Framed.{change_framed}
 use Rattle.pair_moves.proofs.Events.{event_keeps}
 use Rattle.pair_moves.proofs.WorkerMoves.{pair_closed, own_keeps, told_keeps, IsOwn, reports-append}
 use Rattle.safety_laws.specs.Joint.{side_of, pair_at, IsPaired}
-use Rattle.safety_laws.proofs.Turns.{down_there, key_there, keys_there, up_taken, letter_taken}
+use Rattle.safety_laws.proofs.Turns.{sched_after, nothing_sent, down_there, key_there, keys_there, up_taken, letter_taken}
 use Rattle.safety_laws.proofs.Homes.{IsHome, found_asker}
 
 -- a message that says nothing of the key, in front of those under way
@@ -206,3 +208,132 @@ module _ (j : Job) (w : World) (inside : IsInsideWorld j.setting.shape w) (sound
       pick : (b : Bool) → eqb i n ≡ b → IsPair (pair_of (sched_step w.sched (JoinSched threads)).facts i k (record { down = w.down i ++ mail i (sched_step w.sched (JoinSched threads)).down; seen = (cond b (new_worker (shape_of w) n threads) (w.workers i)).seen; mine = (cond b (new_worker (shape_of w) n threads) (w.workers i)).mine k; mem = (cond b (new_worker (shape_of w) n threads) (w.workers i)).mem k; up = w.up i }))
       pick true e = event (record { down = w.down i; seen = 0; mine = None; mem = false; up = w.up i }) (subst (λ x. IsPair (pair_of w.sched x k (record { down = w.down x; seen = 0; mine = None; mem = false; up = w.up x }))) (sym (eqb-true i n e)) born)
       pick false e = event (side_of w i k) (h i k low (living false e refl) (was_connected w.sched sound settled numbered (JoinSched threads) i (given (living false e refl)) c))
+
+  -- clients and gathers
+  p_client : (v : World) (c : ℕ) (e : ClientEvent) → PairAfter w v i k → PairAfter w (at_client v c e) i k
+  unfolding client_worked
+  p_client v c e p a d = p a d
+
+  same_pair : PairAfter w w i k
+  same_pair a c = h i k low a c
+
+  found_keys : (a : Asker) (p n : ℕ) (q : Parcel) → parcel_of a p n w.answers ≡ Some q → AreKeys j.setting.shape q.keys
+  found_keys a p n q e = all_found (λ (x : Parcel). AreKeys j.setting.shape x.keys) (is_parcel a p n) w.answers q e inside.answers
+
+  p_gathered : (v : World) (a : Asker) (p n : ℕ) (found : List ℕ) → v.workers ≡ w.workers → AreKeys j.setting.shape found → PairAfter w v i k → PairAfter w (gathered_at v a p n found) i k
+  unfolding worker_takes
+  p_gathered v (Worker x) p n found same ks r = p_own v x (Gathered p n found) tt (keys_there j.setting.shape (v.workers x).shape (ap (λ (f : ℕ → WorkerFacts). (f x).shape) same ∙ (inside.workers x).shape) found ks) r
+  p_gathered v (Client c) p n found same ks r = p_client v c (ClientGathered p n found) r
+
+  p_failed : (a : Asker) (p : ℕ) (o : Option Ask) → PairAfter w (fail_ask w a p o) i k
+  unfolding worker_takes
+  p_failed a p None = same_pair
+  p_failed (Worker x) p (Some q) = p_own w x (GatherFailed p q.number) tt refl same_pair
+  p_failed (Client c) p (Some q) = p_client w c (ClientGatherFailed p q.number) same_pair
+
+  p_asks : (a : Asker) (p : ℕ) → may_ask w a p ≡ true → PairAfter w (ask_by w a p) i k
+  unfolding worker_takes
+  p_asks (Worker x) p t = p_own w x (AskPeer p) tt t same_pair
+  p_asks (Client c) p t = p_client w c (ClientAsk p) same_pair
+
+  p_serves : (p : ℕ) (o : Option Parcel) → PairAfter w (serve w p o) i k
+  p_serves p None = same_pair
+  p_serves p (Some q) = same_pair
+
+  p_answer : (a : Asker) (p n : ℕ) (o : Option Parcel) → parcel_of a p n w.answers ≡ o → PairAfter w (take_answer w o) i k
+  p_answer a p n None e = same_pair
+  p_answer a p n (Some q) e = p_gathered (record w { answers = without_parcel q.asker q.peer q.ask w.answers }) q.asker q.peer q.ask q.keys refl (found_keys a p n q e) same_pair
+
+  p_down : (x : ℕ) (ms : List Down) → w.down x ≡ ms → PairAfter w (take_down_first w x ms) i k
+  unfolding worker_takes
+  p_down x [] e = same_pair
+  p_down x (m ∷ ms) e = p_told x m ms e (down_there j.setting.shape (w.workers x) (inside.workers x).shape m (subst (λ l. AllByRecursion (λ y. AreKeys j.setting.shape (down_keys y)) l) e (inside.down x)).0)
+
+  p_up : (x : ℕ) (ms : List Up) → w.up x ≡ ms → PairAfter w (take_up_first w x ms) i k
+  p_up x [] e = same_pair
+  p_up x (m ∷ ms) e = pick (is_connected w x) refl
+    where
+      pick : (b : Bool) → is_connected w x ≡ b → PairAfter w (take_up (record w { up = put w.up x ms }) x m b) i k
+      pick true c = p_heard x m ms e c
+      pick false c = p_dropped x m ms c
+
+  p_news : (c : ℕ) (ms : List ToClient) → PairAfter w (take_to_client w c ms) i k
+  p_news c [] = same_pair
+  p_news c (m ∷ ms) = p_client (record w { to_client = put w.to_client c ms }) c (FromScheduler m) same_pair
+
+  p_letter : (c : ℕ) (ms : List ClientMessage) → w.from_client c ≡ ms → PairAfter w (take_from_client w c ms) i k
+  p_letter c [] e = same_pair
+  p_letter c (m ∷ ms) e = p_scheduler (record w { from_client = put w.from_client c ms }) (FromClient c m) refl refl (letter_taken j.setting.shape w inside c m ms e (letter_from c (ap has_any e))) refl (λ c a. h i k low a c)
+
+  p_plain : (s : SchedEvent) → sched_takes w.sched s ≡ true → report_in s i k ≡ Quiet → PairAfter w (at_scheduler w s) i k
+  p_plain s t q = p_scheduler w s refl refl t q (λ c a. h i k low a c)
+
+  p_leaves : (x : ℕ) → is_connected w x ≡ true → PairAfter w (at_scheduler w (Leave x)) i k
+  unfolding sched_takes
+  p_leaves x t = p_plain (Leave x) t refl
+
+  p_lost : (x : ℕ) → w.alive x ≡ false → is_connected w x ≡ true → PairAfter w (cut_off (at_scheduler w (Leave x)) x) i k
+  unfolding scheduled
+  p_lost x dead t a c = pick (eqb i x) refl (p_leaves x t a c)
+    where
+      pick : (b : Bool) → eqb i x ≡ b → IsPair (pair_at (at_scheduler w (Leave x)) i k) → IsPair (record (pair_at (at_scheduler w (Leave x)) i k) { down = notes k (cond b [] ((at_scheduler w (Leave x)).down i)); up = reports k (cond b [] ((at_scheduler w (Leave x)).up i)) })
+      pick true e p = absurd (true≢false (sym a ∙ ap w.alive (eqb-true i x e) ∙ dead))
+      pick false e p = p
+
+  p_died : (x : ℕ) → PairAfter w (died w x) i k
+  p_died x = pick (eqb i x)
+    where
+      pick : (b : Bool) → cond b false (w.alive i) ≡ true → is_connected w i ≡ true → IsPair (pair_of w.sched i k (record { down = w.down i; seen = (cond b (record (w.workers x) { mem = λ q. false }) (w.workers i)).seen; mine = (cond b (record (w.workers x) { mem = λ q. false }) (w.workers i)).mine k; mem = (cond b (record (w.workers x) { mem = λ q. false }) (w.workers i)).mem k; up = w.up i }))
+      pick true a c = absurd (false≢true a)
+      pick false a c = h i k low a c
+
+  dead_is : (x : ℕ) → not (w.alive x) ≡ true → w.alive x ≡ false
+  dead_is x e = by (w.alive x) e
+    where
+      by : (b : Bool) → not b ≡ true → b ≡ false
+      by true e = absurd (false≢true e)
+      by false e = refl
+
+  pub paired_step : (e : Event) → enabled w e ≡ true → PairAfter w (world_step j w e) i k
+  unfolding world_step enabled worker_takes
+  paired_step (Want c ks) t = p_client w c (WantKeys ks) same_pair
+  paired_step (Release c ks) t = p_client w c (ReleaseKeys ks) same_pair
+  paired_step (Join threads) t = p_joined threads t
+  paired_step (Lose x) t = p_died x
+  paired_step (SeeLoss x) t = let b = and_parts (not (w.alive x)) (is_connected w x) t in p_lost x (dead_is x b.0) b.1
+  paired_step (Suspect x) t = p_leaves x t
+  paired_step (DeliverDown x) t = p_down x (w.down x) refl
+  paired_step (DeliverUp x) t = p_up x (w.up x) refl
+  paired_step (DeliverToClient c) t = p_news c (w.to_client c)
+  paired_step (DeliverFromClient c) t = p_letter c (w.from_client c) refl
+  paired_step (Start x) t = p_own w x StartTask tt (and_parts (w.alive x) (is_some (would_start (w.workers x))) t).1 same_pair
+  paired_step (Finish x q) t = let b = and_parts (w.alive x) ((w.workers x).running q) t in
+      p_own w x (Done q (j.zero q)) tt (and_from _ _ (key_there j.setting.shape (w.workers x).shape (inside.workers x).shape q ((inside.workers x).running q b.1)) b.1) same_pair
+  paired_step (SendGather a p) t = p_asks a p (and_parts (is_asker w a) (may_ask w a p) t).1
+  paired_step (ServeGather p a n) t = p_serves p (parcel_of a p n w.requests)
+  paired_step (ArriveGather a p n) t = p_answer a p n (parcel_of a p n w.answers) refl
+  paired_step (FailGather a p) t = p_failed a p (open_ask w a p)
+  paired_step Balance t = p_plain BalanceSched t refl
+  paired_step Evict t = p_plain EvictSched t refl
+  paired_step (Spill x q) t = same_pair
+  paired_step (LoseSpilled x q) t = let b = and_parts (w.alive x) (w.spilled x q) t in
+      p_own w x (DataLost q) tt (and_from _ _ (key_there j.setting.shape (w.workers x).shape (inside.workers x).shape q (inside.spilled x q b.1)) (home.spilled x q b.1)) same_pair
+
+-- ## What was sent
+
+sent_step : (f : Facts) (s : SchedEvent) → IsSound f → sched_takes f s ≡ true → IsUnsent f → IsUnsent (sched_step f s).facts
+sent_step f s sound t u = record {
+  sent = λ i l. let n = nothing_sent f s i (apart i l (connected (sched_step f s).facts i) refl) in n.0 ∙ u.sent i (more i l);
+  fence = λ i k l. let n = nothing_sent f s i (apart i l (connected (sched_step f s).facts i) refl) in n.1 k ∙ u.fence i k (more i l);
+}
+  where
+    apart : (i : ℕ) → (sched_step f s).facts.last_worker < i → (b : Bool) → connected (sched_step f s).facts i ≡ b → b ≡ false
+    apart i l true e = let m : i ≤ (sched_step f s).facts.last_worker = ((sound_step f sound s t).numbers i e).1 in absurd (omega (arith, l))
+    apart i l false e = refl
+
+    more : (i : ℕ) → (sched_step f s).facts.last_worker < i → f.last_worker < i
+    more i l = let e : (sched_step f s).facts.last_worker ≡ (change f s).facts.last_worker = (step_settles f s).last_worker in omega (arith, l, (change_framed f s).last_worker)
+
+pub unsent_after : (f : Facts) (o : Option SchedEvent) → IsSound f → ((s : SchedEvent) → o ≡ Some s → sched_takes f s ≡ true) → IsUnsent f → IsUnsent (sched_after f o)
+unsent_after f None sound t u = u
+unsent_after f (Some s) sound t u = sent_step f s sound (t s refl) u

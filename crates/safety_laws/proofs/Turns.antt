@@ -1,5 +1,5 @@
 -- Each event of the world is one event of the scheduler, or leaves the scheduler alone.
-use Rattle.std.proofs.Common.{◌≡◌, ℕ, Bool, true, false, cond, not, List, [], ◌∷◌, Option, Some, None, refl, sym, ap, ◌∙◌, subst}
+use Rattle.std.proofs.Common.{◌≡◌, ℕ, ◌+◌, arith, length, Bool, true, false, cond, not, List, [], ◌∷◌, Option, Some, None, refl, sym, ap, ◌∙◌, subst}
 use Rattle.std.specs.Prelude.{nat_lt}
 use Rattle.std.specs.List.{list_all, AllByRecursion}
 use Rattle.std.specs.Option.{option_map}
@@ -16,12 +16,14 @@ use Rattle.cluster_msgs.specs.declared.events.Asker.{Asker}
 use Rattle.cluster_msgs.specs.declared.events.Asker.TheVariants.{Worker, Client}
 use Rattle.cluster_msgs.specs.declared.events.Event.{Event}
 use Rattle.cluster_msgs.specs.declared.events.Event.TheVariants.{Want, Release, Join, Lose, SeeLoss, Suspect, DeliverDown, DeliverUp, DeliverToClient, DeliverFromClient, Start, Finish, SendGather, ServeGather, ArriveGather, FailGather, Balance, Evict, Spill, LoseSpilled}
-use Rattle.cluster_rules.specs.Sched.{Facts, connected, workers}
+use Rattle.cluster_rules.specs.Sched.{Facts, keys, connected, workers}
 use Rattle.cluster_rules.specs.SchedTable.{up_keys, client_keys, sched_takes}
 use Rattle.cluster_rules.specs.SchedTable.{change}
 use Rattle.cluster_rules.specs.Functions.{put, from_one}
-use Rattle.cluster_rules.specs.Derived.{is_in}
-use Rattle.cluster_rules.specs.SchedStep.{Stages, sched_step, mail, settle, posted, finish_step, place_all, to_worker}
+use Rattle.cluster_rules.specs.Derived.{below, is_in}
+use Rattle.cluster_rules.specs.SchedStep.{Stages, sched_step, mail, settle, posted, finish_step, place_all, place_keys, drop_bad, drop_has, drop_on, down_messages, fence_after, to_worker}
+use Rattle.cluster_rules.proofs.SchedFrame.{IsPlacing, placing_keys, count_to-mail}
+use Rattle.pair_moves.proofs.Framed.{change_framed}
 use Rattle.cluster_rules.specs.Worker.{Ask, WorkerFacts, has_any}
 use Rattle.cluster_rules.specs.WorkerStep.{takes_down}
 use Rattle.cluster_rules.specs.World.{Job, World, Parcel, shape_of, is_connected, is_client, open_ask, parcel_of}
@@ -218,3 +220,31 @@ nothing_posted f s i e = mail-down t i ∙ ap (λ b. cond b (mail i (to_worker t
     none : (b : Bool) → is_in i (workers t.placed) ≡ b → b ≡ false
     none true h = sym (in_filter (connected t.placed) (from_one t.placed.last_worker) i h) ∙ e
     none false h = refl
+
+pub nothing_sent : (f : Facts) (s : SchedEvent) (i : ℕ) → connected (sched_step f s).facts i ≡ false → ((sched_step f s).facts.sent i ≡ f.sent i) × ((k : ℕ) → (sched_step f s).facts.fence i k ≡ f.fence i k)
+unfolding sched_step finish_step settle posted place_all drop_bad drop_has drop_on
+nothing_sent f s i e = (
+  ap (λ n. t.placed.sent i + n) (count_to-mail i (down_messages t) ∙ ap length none) ∙ zero_more (t.placed.sent i) ∙ ap (λ (x : ℕ → ℕ). x i) sent,
+  λ k. ap (λ ms. fence_after k (t.placed.sent i) ms (t.placed.fence i k)) none ∙ ap (λ (x : ℕ → ℕ → ℕ). x i k) fence,
+)
+  where
+    o : Facts
+    o = drop_on (drop_has (drop_bad (change f s).facts))
+
+    t : Stages
+    t = settle f (change f s)
+
+    p0 : IsPlacing o (place_keys o (below (keys o)))
+    p0 = placing_keys o (below (keys o))
+
+    sent : t.placed.sent ≡ f.sent
+    sent = p0.sent ∙ (change_framed f s).sent
+
+    fence : t.placed.fence ≡ f.fence
+    fence = p0.fence ∙ (change_framed f s).fence
+
+    none : mail i (down_messages t) ≡ []
+    none = nothing_posted f s i e
+
+    zero_more : (n : ℕ) → n + 0 ≡ n
+    zero_more n = omega arith
