@@ -29,15 +29,15 @@ use Rattle.pair_moves.proofs.Settling.{none_not_some}
 -- ## What a property of pairs must keep
 
 -- the worker may give an attempt back only where it may
-abbrev pub Yields : Type 0 → Note → Option ℕ → Bool → Type 0
-Yields Idle (Ask a) mine agrees = (is_at a mine && agrees) ≡ true → Idle
+abbrev pub Yields : (Option ℕ → Type 0) → Note → Option ℕ → Bool → Type 0
+Yields Idle (Ask a) mine agrees = (is_at a mine && agrees) ≡ true → Idle mine
 Yields Idle (Task a) mine agrees = Unit {0}
 Yields Idle Free mine agrees = Unit {0}
 Yields Idle Remove mine agrees = Unit {0}
 Yields Idle Other mine agrees = Unit {0}
 
 -- each move of the worker keeps the property
-pub record IsClosed (I : Pair → Type 0) (Idle : Type 0) : Type 0 where
+pub record IsClosed (I : Pair → Type 0) (Idle : Option ℕ → Type 0) : Type 0 where
   pub finish : (p : Pair) (a : ℕ) → p.mine ≡ Some a → I p → I (record p { mem = true; mine = None; up = p.up ++ Finished a ∷ [] })
   pub fail : (p : Pair) (a : ℕ) → p.mine ≡ Some a → I p → I (record p { mine = None; up = p.up ++ Erred a ∷ [] })
   pub store : (p : Pair) → p.mem ≡ false → p.mine ≡ None → I p → I (record p { mem = true; up = p.up ++ Added p.seen ∷ [] })
@@ -46,7 +46,7 @@ pub record IsClosed (I : Pair → Type 0) (Idle : Type 0) : Type 0 where
   pub takes : (agrees : Bool) (p : Pair) (n : Note) (ns : List Note) → Yields Idle n p.mine agrees → I (record p { down = n ∷ ns }) → I (take agrees (record p { down = n ∷ ns }) (n ∷ ns))
 
 -- the pair's own property does
-pub pair_closed : (Idle : Type 0) → IsClosed IsPair Idle
+pub pair_closed : (Idle : Option ℕ → Type 0) → IsClosed IsPair Idle
 pair_closed Idle = record {
   finish = λ p a e s. subst (λ o. IsPair (finish p o)) e (kept p Finish s tt);
   fail = λ p a e s. subst (λ o. IsPair (fail p o)) e (kept p Fail s tt);
@@ -88,7 +88,7 @@ all_in p x (y ∷ ys) h i = pick (eqb y x) refl i (and_parts (p y) (list_all p y
 
 -- ## One worker and one key
 
-module _ (I : Pair → Type 0) (Idle : Type 0) (cl : IsClosed I Idle) (k : ℕ) where
+module _ (I : Pair → Type 0) (Idle : Option ℕ → Type 0) (cl : IsClosed I Idle) (k : ℕ) where
   abbrev pub at_side : Pair → WorkerFacts → Pair
   at_side p w = record p { seen = w.seen; mem = w.mem k; mine = w.mine k }
 
@@ -422,7 +422,7 @@ module _ (I : Pair → Type 0) (Idle : Type 0) (cl : IsClosed I Idle) (k : ℕ) 
   attempt_is a None = refl
   attempt_is a (Some b) = refl
 
-  told_ask : (w : WorkerFacts) (q a : ℕ) → (is_unstarted_state (wstate (taken w) k) ≡ true → Idle) → let s = asked_back (taken w) q a in IsTold w (StealRequest q a) s.facts (reports k (sends s.out))
+  told_ask : (w : WorkerFacts) (q a : ℕ) → (is_unstarted_state (wstate (taken w) k) ≡ true → Idle (w.mine k)) → let s = asked_back (taken w) q a in IsTold w (StealRequest q a) s.facts (reports k (sends s.out))
   unfolding asked_back
   told_ask w q a idle = pick (eqb q k) refl (yields (taken w) q a) refl
     where
@@ -605,7 +605,7 @@ module _ (I : Pair → Type 0) (Idle : Type 0) (cl : IsClosed I Idle) (k : ℕ) 
       by true ec true eb false ed r = gone true false ec eb ed refl r
       by true ec false eb d ed r = gone false d ec eb ed refl r
 
-  told_all : (w : WorkerFacts) (m : Down) → takes_down w m ≡ true → (is_unstarted_state (wstate (taken w) k) ≡ true → Idle) → let s = take_down (taken w) m in IsTold w m s.facts (reports k (sends s.out))
+  told_all : (w : WorkerFacts) (m : Down) → takes_down w m ≡ true → (is_unstarted_state (wstate (taken w) k) ≡ true → Idle (w.mine k)) → let s = take_down (taken w) m in IsTold w m s.facts (reports k (sends s.out))
   unfolding take_down
   told_all w (ComputeTask q a who) t idle = told_compute w q a who
   told_all w (FreeKeys ks) t idle = told_free w ks
@@ -617,7 +617,7 @@ module _ (I : Pair → Type 0) (Idle : Type 0) (cl : IsClosed I Idle) (k : ℕ) 
   -- ## Every event
 
   -- a message of the scheduler
-  pub told_keeps : (w : WorkerFacts) (m : Down) → worker_takes w (Told m) ≡ true → (is_unstarted_state (wstate (taken w) k) ≡ true → Idle) → (p : Pair) (ns : List Note)
+  pub told_keeps : (w : WorkerFacts) (m : Down) → worker_takes w (Told m) ≡ true → (is_unstarted_state (wstate (taken w) k) ≡ true → Idle (w.mine k)) → (p : Pair) (ns : List Note)
       → let s = worker_step w (Told m) in I (record (at_side p w) { down = note_of k m ∷ ns }) → I (record (at_side p s.facts) { down = ns; up = p.up ++ reports k (sends s.out) })
   unfolding worker_step worker_row worker_takes
   told_keeps w m t idle p ns i =

@@ -4,3 +4,4 @@ pub mod Homes
 pub mod Paired
 pub mod Joint
 pub mod Attempts
+pub mod Tale

@@ -46,7 +46,7 @@ left_by agrees seen mem mine (Ask a) t e = pick (is_at a mine && agrees)
     pick false = e
 left_by agrees seen mem mine Other t e = e
 
-closed : IsClosed IsTaskless (Unit {0})
+closed : IsClosed IsTaskless (λ _. Unit {0})
 closed = record {
   finish = λ p a e x. (refl, x.1);
   fail = λ p a e x. (refl, x.1);
@@ -85,10 +85,10 @@ no_task w (RefreshWhoHas who) k t l = tt
 
 told_mine : (w : WorkerFacts) (m : Down) (k : ℕ) → worker_takes w (Told m) ≡ true → key_count w.shape ≤ k → w.mine k ≡ None → (worker_step w (Told m)).facts.mine k ≡ None
 unfolding worker_takes
-told_mine w m k t l e = (told_keeps IsTaskless (Unit {0}) closed k w m t (λ _. tt) opening [] (e, (no_task w m k t l, tt))).0
+told_mine w m k t l e = (told_keeps IsTaskless (λ _. Unit {0}) closed k w m t (λ _. tt) opening [] (e, (no_task w m k t l, tt))).0
 
-own_mine : (w : WorkerFacts) (e : WorkerEvent) (k : ℕ) → IsOwn IsTaskless (Unit {0}) closed k e → worker_takes w e ≡ true → w.mine k ≡ None → (worker_step w e).facts.mine k ≡ None
-own_mine w e k o t n = (own_keeps IsTaskless (Unit {0}) closed k w e o t opening (n, tt)).0
+own_mine : (w : WorkerFacts) (e : WorkerEvent) (k : ℕ) → IsOwn IsTaskless (λ _. Unit {0}) closed k e → worker_takes w e ≡ true → w.mine k ≡ None → (worker_step w e).facts.mine k ≡ None
+own_mine w e k o t n = (own_keeps IsTaskless (λ _. Unit {0}) closed k w e o t opening (n, tt)).0
 
 pub mine_inside : (w : WorkerFacts) (e : WorkerEvent) (k : ℕ) → worker_takes w e ≡ true → key_count w.shape ≤ k → w.mine k ≡ None → (worker_step w e).facts.mine k ≡ None
 mine_inside w (Told m) k t l n = told_mine w m k t l n

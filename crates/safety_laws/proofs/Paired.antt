@@ -115,7 +115,7 @@ module _ (j : Job) (w : World) (inside : IsInsideWorld j.setting.shape w) (sound
       c p
 
   -- a worker's own event
-  p_own : (v : World) (x : ℕ) (e : WorkerEvent) → IsOwn IsPair (Unit {0}) (pair_closed (Unit {0})) k e → worker_takes (v.workers x) e ≡ true → PairAfter w v i k → PairAfter w (at_worker v x e) i k
+  p_own : (v : World) (x : ℕ) (e : WorkerEvent) → IsOwn IsPair (λ _. Unit {0}) (pair_closed (λ _. Unit {0})) k e → worker_takes (v.workers x) e ≡ true → PairAfter w v i k → PairAfter w (at_worker v x e) i k
   unfolding worked
   p_own v x e o t p a c = pick (eqb i x) refl
     where
@@ -123,7 +123,7 @@ module _ (j : Job) (w : World) (inside : IsInsideWorld j.setting.shape w) (sound
       own s = subst (λ y. IsPair (pair_of v.sched i k (record { down = v.down i; seen = (worker_step (v.workers x) e).facts.seen; mine = (worker_step (v.workers x) e).facts.mine k; mem = (worker_step (v.workers x) e).facts.mem k; up = v.up y ++ sends (worker_step (v.workers x) e).out }))) s
           (subst (λ rs. IsPair (record (pair_at v i k) { seen = (worker_step (v.workers x) e).facts.seen; mine = (worker_step (v.workers x) e).facts.mine k; mem = (worker_step (v.workers x) e).facts.mem k; up = rs }))
           (sym (reports-append k (v.up i) (sends (worker_step (v.workers x) e).out)))
-          (own_keeps IsPair (Unit {0}) (pair_closed (Unit {0})) k (v.workers x) e o t (pair_at v i k) (subst (λ y. IsPair (record (pair_at v i k) { seen = (v.workers y).seen; mem = (v.workers y).mem k; mine = (v.workers y).mine k })) s (p a c))))
+          (own_keeps IsPair (λ _. Unit {0}) (pair_closed (λ _. Unit {0})) k (v.workers x) e o t (pair_at v i k) (subst (λ y. IsPair (record (pair_at v i k) { seen = (v.workers y).seen; mem = (v.workers y).mem k; mine = (v.workers y).mine k })) s (p a c))))
 
       pick : (b : Bool) → eqb i x ≡ b → IsPair (pair_of v.sched i k (record { down = v.down i; seen = (cond b (worker_step (v.workers x) e).facts (v.workers i)).seen; mine = (cond b (worker_step (v.workers x) e).facts (v.workers i)).mine k; mem = (cond b (worker_step (v.workers x) e).facts (v.workers i)).mem k; up = cond b (v.up x ++ sends (worker_step (v.workers x) e).out) (v.up i) }))
       pick true e = own (eqb-true i x e)
@@ -138,7 +138,7 @@ module _ (j : Job) (w : World) (inside : IsInsideWorld j.setting.shape w) (sound
       own s = subst (λ y. IsPair (pair_of w.sched i k (record { down = ms; seen = (worker_step (w.workers x) (Told m)).facts.seen; mine = (worker_step (w.workers x) (Told m)).facts.mine k; mem = (worker_step (w.workers x) (Told m)).facts.mem k; up = w.up y ++ sends (worker_step (w.workers x) (Told m)).out }))) s
           (subst (λ rs. IsPair (record (pair_at w i k) { down = notes k ms; seen = (worker_step (w.workers x) (Told m)).facts.seen; mine = (worker_step (w.workers x) (Told m)).facts.mine k; mem = (worker_step (w.workers x) (Told m)).facts.mem k; up = rs }))
           (sym (reports-append k (w.up i) (sends (worker_step (w.workers x) (Told m)).out)))
-          (told_keeps IsPair (Unit {0}) (pair_closed (Unit {0})) k (w.workers x) m t (λ _. tt) (pair_at w i k) (notes k ms)
+          (told_keeps IsPair (λ _. Unit {0}) (pair_closed (λ _. Unit {0})) k (w.workers x) m t (λ _. tt) (pair_at w i k) (notes k ms)
           (subst (λ y. IsPair (record (pair_at w i k) { down = notes k (m ∷ ms); seen = (w.workers y).seen; mem = (w.workers y).mem k; mine = (w.workers y).mine k })) s
           (subst (λ l. IsPair (record (pair_at w i k) { down = notes k l })) (ap w.down s ∙ e) (h i k low a c)))))
 
