@@ -60,7 +60,7 @@ old_at since w None = None
 old_at since w (Some p) = cond (eqb p.0 w && not (nat_le since p.1)) (Some p.1) None
 
 -- a place that is new and the worker's
-new_some : (since w a : ℕ) (x : Option (ℕ × ℕ)) → new_at since w x ≡ Some a → (x ≡ Some (w, a)) × (since ≤ a)
+pub new_some : (since w a : ℕ) (x : Option (ℕ × ℕ)) → new_at since w x ≡ Some a → (x ≡ Some (w, a)) × (since ≤ a)
 new_some since w a None e = absurd (none_not_some a e)
 new_some since w a (Some p) e = pick (eqb p.0 w) refl (nat_le since p.1) refl e
   where

@@ -5,3 +5,5 @@ pub mod Paired
 pub mod Joint
 pub mod Attempts
 pub mod Tale
+pub mod Posts
+pub mod Running
