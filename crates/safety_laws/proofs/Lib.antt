@@ -7,3 +7,4 @@ pub mod Attempts
 pub mod Tale
 pub mod Posts
 pub mod Running
+pub mod PastWorld
