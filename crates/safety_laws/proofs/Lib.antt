@@ -8,3 +8,4 @@ pub mod Tale
 pub mod Posts
 pub mod Running
 pub mod PastWorld
+pub mod Unstarted
