@@ -9,3 +9,4 @@ pub mod Posts
 pub mod Running
 pub mod PastWorld
 pub mod Unstarted
+pub mod Lively
