@@ -10,3 +10,4 @@ pub mod Running
 pub mod PastWorld
 pub mod Unstarted
 pub mod Lively
+pub mod Safety
