@@ -11,3 +11,4 @@ pub mod PastWorld
 pub mod Unstarted
 pub mod Lively
 pub mod Safety
+pub mod Threads
