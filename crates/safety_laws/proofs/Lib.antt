@@ -12,3 +12,4 @@ pub mod Unstarted
 pub mod Lively
 pub mod Safety
 pub mod Threads
+pub mod Answered
