@@ -1,5 +1,5 @@
 -- Each open ask has its request or its answer under way.
-use Rattle.std.proofs.Common.{◌≡◌, ℕ, ◌+◌, ◌<◌, ◌≤◌, Bool, true, false, cond, not, ◌&&◌, ◌||◌, List, [], ◌∷◌, ◌++◌, Option, Some, None, refl, sym, ap, ◌∙◌, subst, arith, filter, fold, inl, inr, ◌⊎◌, ⊎_elim}
+use Rattle.std.proofs.Common.{◌≡◌, ℕ, ◌+◌, ◌<◌, ◌≤◌, Bool, true, false, cond, not, ◌&&◌, ◌||◌, List, [], ◌∷◌, ◌++◌, Option, Some, None, refl, sym, ap, ◌∙◌, subst, arith, is_some, map, filter, fold, inl, inr, ◌⊎◌, ⊎_elim}
 use Rattle.std.proofs.lemmas.Bool.{true≢false, false≢true, eqb-true}
 use Rattle.std.proofs.Math.Dec.{eqb}
 use Rattle.cluster_msgs.specs.declared.messages.Down.{Down}
@@ -27,11 +27,20 @@ use Rattle.cluster_msgs.specs.declared.events.Event.TheVariants.{Want, Release, 
 use Rattle.cluster_rules.specs.World.{Job, World, Parcel, opening, shape_of, is_connected, is_client, is_asker, open_ask, is_parcel, parcel_of, without_parcel}
 use Rattle.cluster_rules.specs.WorldStep.{sends, scheduled, worked, client_worked, at_scheduler, at_worker, at_client, new_at, died, cut_off, take_down_first, take_up, take_up_first, take_to_client, take_from_client, ask_by, gathered_at, failed_at, serve, take_answer, fail_ask, world_step}
 use Rattle.cluster_rules.specs.Enabled.{enabled, may_ask}
-use Rattle.std.specs.Prelude.{nat_le}
-use Rattle.cluster_rules.specs.Worker.{new_worker, with_ask}
+use Rattle.std.specs.Prelude.{nat_le, nat_lt}
+use Rattle.cluster_rules.specs.Worker.{new_worker, with_ask, ask_items, fetchable}
+use Rattle.cluster_rules.specs.WorkerStep.{ask_with, unasked_keys}
+use Rattle.cluster_msgs.specs.declared.messages.Up.TheVariants.{RequestRefreshWhoHas}
+use Rattle.cluster_msgs.specs.declared.cores.Instruction.{Instruction}
+use Rattle.cluster_msgs.specs.declared.cores.Instruction.TheVariants.{Execute, Gather}
+use Rattle.cluster_msgs.specs.declared.cores.ClientInstruction.{ClientInstruction}
+use Rattle.cluster_msgs.specs.declared.cores.ClientInstruction.TheVariants.{Send as ClientSend, Gather as ClientGather}
+use Rattle.cluster_rules.specs.World.{with_parcel, parcel_before, same_asker}
+use Rattle.cluster_rules.specs.WorldStep.{requested, client_requested}
+use Rattle.safety_laws.proofs.Lively.{same_asker_is}
 use Rattle.cluster_rules.specs.SchedTable.{sched_takes}
 use Rattle.cluster_rules.proofs.WorkerLemmas.{at_one}
-use Rattle.std.proofs.lemmas.Bool.{and_parts, leb-true}
+use Rattle.std.proofs.lemmas.Bool.{and_parts, and_from}
 
 -- ## The rows
 
@@ -193,3 +202,122 @@ gathered_closes : (w : WorkerFacts) (x n : ℕ) (found : List ℕ) (p : ℕ) (q 
 unfolding worker_step worker_row
 gathered_closes w x n found p q h = asks_gathered w x n found p q h
 
+-- ## What is under way
+
+abbrev UnderWay : Asker → ℕ → ℕ → List Parcel → List Parcel → Type 0
+UnderWay a p n rs ss = (is_some (parcel_of a p n rs) ≡ true) ⊎ (is_some (parcel_of a p n ss) ≡ true)
+
+some_with : (a : Asker) (p n : ℕ) (x : Parcel) (qs : List Parcel) → (is_parcel a p n x ≡ true) ⊎ (is_some (parcel_of a p n qs) ≡ true) → is_some (parcel_of a p n (with_parcel x qs)) ≡ true
+some_with a p n x [] h = pick (is_parcel a p n x) h
+  where
+    pick : (b : Bool) → (b ≡ true) ⊎ (false ≡ true) → is_some (cond b (Some x) None) ≡ true
+    pick true h = refl
+    pick false (inl e) = absurd (false≢true e)
+    pick false (inr e) = absurd (false≢true e)
+some_with a p n x (y ∷ ys) h = pick (parcel_before x y) (is_parcel a p n x) refl (is_parcel a p n y) refl h (λ r. some_with a p n x ys r)
+  where
+    pick : (b : Bool) (c : Bool) → is_parcel a p n x ≡ c → (d : Bool) → is_parcel a p n y ≡ d → (c ≡ true) ⊎ (is_some (cond d (Some y) (parcel_of a p n ys)) ≡ true)
+        → ((is_parcel a p n x ≡ true) ⊎ (is_some (parcel_of a p n ys) ≡ true) → is_some (parcel_of a p n (with_parcel x ys)) ≡ true)
+        → is_some (parcel_of a p n (cond b (x ∷ y ∷ ys) (y ∷ with_parcel x ys))) ≡ true
+    pick true c e d i (inl z) rest = ap (λ u. is_some (cond u (Some x) (cond (is_parcel a p n y) (Some y) (parcel_of a p n ys)))) (e ∙ z)
+    pick true c e d i (inr z) rest = either (is_parcel a p n x) (ap (λ u. is_some (cond u (Some y) (parcel_of a p n ys))) i ∙ z)
+      where
+        either : (u : Bool) → is_some (cond (is_parcel a p n y) (Some y) (parcel_of a p n ys)) ≡ true → is_some (cond u (Some x) (cond (is_parcel a p n y) (Some y) (parcel_of a p n ys))) ≡ true
+        either true t = refl
+        either false t = t
+    pick false c e true i z rest = ap (λ u. is_some (cond u (Some y) (parcel_of a p n (with_parcel x ys)))) i
+    pick false c e false i (inl z) rest = ap (λ u. is_some (cond u (Some y) (parcel_of a p n (with_parcel x ys)))) i ∙ rest (inl (e ∙ z))
+    pick false c e false i (inr z) rest = ap (λ u. is_some (cond u (Some y) (parcel_of a p n (with_parcel x ys)))) i ∙ rest (inr z)
+
+-- another parcel goes
+abbrev IsSame : Asker → ℕ → ℕ → Asker → ℕ → ℕ → Bool
+IsSame a p n b x m = same_asker a b && (eqb p x && eqb n m)
+
+same_parcel : (a : Asker) (p n : ℕ) (b : Asker) (x m : ℕ) (q : Parcel) → is_parcel a p n q ≡ true → is_parcel b x m q ≡ true → IsSame a p n b x m ≡ true
+same_parcel a p n b x m q h i =
+    let t = and_parts (same_asker q.asker a) (eqb q.peer p && eqb q.ask n) h in let t2 = and_parts (eqb q.peer p) (eqb q.ask n) t.1 in
+    let u = and_parts (same_asker q.asker b) (eqb q.peer x && eqb q.ask m) i in let u2 = and_parts (eqb q.peer x) (eqb q.ask m) u.1 in
+    and_from (same_asker a b) (eqb p x && eqb n m) (ap (λ y. same_asker y b) (sym (same_asker_is q.asker a t.0)) ∙ u.0)
+    (and_from (eqb p x) (eqb n m) (ap (λ y. eqb y x) (sym (eqb-true q.peer p t2.0)) ∙ u2.0) (ap (λ y. eqb y m) (sym (eqb-true q.ask n t2.1)) ∙ u2.1))
+
+some_without : (a : Asker) (p n : ℕ) (b : Asker) (x m : ℕ) (qs : List Parcel) → IsSame a p n b x m ≡ false → is_some (parcel_of a p n qs) ≡ true → is_some (parcel_of a p n (without_parcel b x m qs)) ≡ true
+some_without a p n b x m [] s h = absurd (false≢true h)
+some_without a p n b x m (y ∷ ys) s h = pick (is_parcel a p n y) refl (is_parcel b x m y) refl h (λ r. some_without a p n b x m ys s r)
+  where
+    pick : (c : Bool) → is_parcel a p n y ≡ c → (d : Bool) → is_parcel b x m y ≡ d → is_some (cond c (Some y) (parcel_of a p n ys)) ≡ true → (is_some (parcel_of a p n ys) ≡ true → is_some (parcel_of a p n (without_parcel b x m ys)) ≡ true)
+        → is_some (parcel_of a p n (cond (not d) (y ∷ without_parcel b x m ys) (without_parcel b x m ys))) ≡ true
+    pick true e true i z rest = absurd (true≢false (sym (same_parcel a p n b x m y e i) ∙ s))
+    pick true e false i z rest = ap (λ u. is_some (cond u (Some y) (parcel_of a p n (without_parcel b x m ys)))) e
+    pick false e true i z rest = rest z
+    pick false e false i z rest = ap (λ u. is_some (cond u (Some y) (parcel_of a p n (without_parcel b x m ys)))) e ∙ rest z
+
+-- requests that are added leave those under way
+some_requested : (a : Asker) (p n : ℕ) (b : Asker) (out : List Instruction) (qs : List Parcel) → is_some (parcel_of a p n qs) ≡ true → is_some (parcel_of a p n (requested b qs out)) ≡ true
+some_requested a p n b [] qs h = h
+some_requested a p n b (Gather x m ks ∷ is) qs h = some_requested a p n b is (with_parcel (record { asker = b; peer = x; ask = m; keys = ks }) qs) (some_with a p n (record { asker = b; peer = x; ask = m; keys = ks }) qs (inr h))
+some_requested a p n b (Send m ∷ is) qs h = some_requested a p n b is qs h
+some_requested a p n b (Execute k ∷ is) qs h = some_requested a p n b is qs h
+some_requested a p n b (Keep k ∷ is) qs h = some_requested a p n b is qs h
+some_requested a p n b (Drop k ∷ is) qs h = some_requested a p n b is qs h
+
+some_client_requested : (a : Asker) (p n : ℕ) (b : Asker) (out : List ClientInstruction) (qs : List Parcel) → is_some (parcel_of a p n qs) ≡ true → is_some (parcel_of a p n (client_requested b qs out)) ≡ true
+some_client_requested a p n b [] qs h = h
+some_client_requested a p n b (ClientGather x m ks ∷ is) qs h = some_client_requested a p n b is (with_parcel (record { asker = b; peer = x; ask = m; keys = ks }) qs) (some_with a p n (record { asker = b; peer = x; ask = m; keys = ks }) qs (inr h))
+some_client_requested a p n b (ClientSend m ∷ is) qs h = some_client_requested a p n b is qs h
+
+self_asker : (a : Asker) → same_asker a a ≡ true
+self_asker (Worker i) = same_eqb i i refl
+self_asker (Client c) = same_eqb c c refl
+
+self_parcel : (a : Asker) (p n : ℕ) (ks : List ℕ) → is_parcel a p n (record { asker = a; peer = p; ask = n; keys = ks }) ≡ true
+self_parcel a p n ks = and_from (same_asker a a) (eqb p p && eqb n n) (self_asker a) (and_from (eqb p p) (eqb n n) (same_eqb p p refl) (same_eqb n n refl))
+
+-- an ask that is opened
+with_one : (a : OpenAsk) (qs : List OpenAsk) (p : ℕ) (q : OpenAsk) → ask_to (with_ask a qs) p ≡ Some q → ((q ≡ a) × (p ≡ a.peer)) ⊎ (ask_to qs p ≡ Some q)
+with_one a [] p q h = pick (eqb a.peer p) refl h
+  where
+    same : (u v : OpenAsk) → Some u ≡ Some v → v ≡ u
+    same u v z = cc
+
+    none_ask : (q : OpenAsk) → None ≡ Some q → ⊥
+    none_ask q e = cc
+
+    pick : (b : Bool) → eqb a.peer p ≡ b → cond b (Some a) None ≡ Some q → ((q ≡ a) × (p ≡ a.peer)) ⊎ (None ≡ Some q)
+    pick true e z = inl (same a q z, sym (eqb-true a.peer p e))
+    pick false e z = inr z
+with_one a (y ∷ ys) p q h = pick (nat_lt a.peer y.peer) (eqb a.peer p) refl (eqb y.peer p) refl h (λ r. with_one a ys p q r)
+  where
+    same : (u v : OpenAsk) → Some u ≡ Some v → v ≡ u
+    same u v z = cc
+
+    pick : (b c : Bool) → eqb a.peer p ≡ c → (d : Bool) → eqb y.peer p ≡ d → ask_to (cond b (a ∷ y ∷ ys) (y ∷ with_ask a ys)) p ≡ Some q → (ask_to (with_ask a ys) p ≡ Some q → ((q ≡ a) × (p ≡ a.peer)) ⊎ (ask_to ys p ≡ Some q))
+        → ((q ≡ a) × (p ≡ a.peer)) ⊎ (cond d (Some y) (ask_to ys p) ≡ Some q)
+    pick true true e d i z rest = inl (same a q (sym (ap (λ u. cond u (Some a) (cond (eqb y.peer p) (Some y) (ask_to ys p))) e) ∙ z), sym (eqb-true a.peer p e))
+    pick true false e d i z rest = inr (ap (λ u. cond u (Some y) (ask_to ys p)) (sym i) ∙ sym (ap (λ u. cond u (Some a) (cond (eqb y.peer p) (Some y) (ask_to ys p))) e) ∙ z)
+    pick false c e true i z rest = inr (sym (ap (λ u. cond u (Some y) (ask_to (with_ask a ys) p)) i) ∙ z)
+    pick false c e false i z rest = rest (sym (ap (λ u. cond u (Some y) (ask_to (with_ask a ys) p)) i) ∙ z)
+
+-- ## One asker's events
+
+-- whoever it is: where each ask that is open then was open and isn't what goes, or is new and its request was sent
+abbrev AsksAnswered : (ℕ → Option OpenAsk) → Asker → List Parcel → List Parcel → Type 0
+AsksAnswered asks a rs ss = (p : ℕ) (q : OpenAsk) → asks p ≡ Some q → UnderWay a p q.number rs ss
+
+worker_answered : (w : World) (i : ℕ) (e : WorkerEvent) → IsNoAsk e → AsksAnswered (ask_to (w.workers i).asks) (Worker i) w.requests w.answers → AsksAnswered (ask_to (worker_step (w.workers i) e).facts.asks) (Worker i) (requested (Worker i) w.requests (worker_step (w.workers i) e).out) w.answers
+worker_answered w i e o h p q k = ⊎_elim (λ r. inl (some_requested (Worker i) p q.number (Worker i) (worker_step (w.workers i) e).out w.requests r)) (λ r. inr r) (h p q (asks_fewer (w.workers i) e o p q k))
+
+worker_asks : (w : World) (i x : ℕ) → AsksAnswered (ask_to (w.workers i).asks) (Worker i) w.requests w.answers → AsksAnswered (ask_to (worker_step (w.workers i) (AskPeer x)).facts.asks) (Worker i) (requested (Worker i) w.requests (worker_step (w.workers i) (AskPeer x)).out) w.answers
+unfolding worker_step worker_row ask_peer
+worker_asks w i x h p q k = ⊎_elim (λ n. inl (some_requested (Worker i) p q.number (Worker i) (map (λ y. Send (RequestRefreshWhoHas (w.workers i).seen y)) (unasked_keys s.facts)) (with_parcel r w.requests)
+        (some_with (Worker i) p q.number r w.requests (inl (ap (λ (y : OpenAsk). is_parcel (Worker i) p y.number r) n.0 ∙ ap (λ y. is_parcel (Worker i) y (w.workers i).next_ask r) n.1 ∙ self_parcel (Worker i) x (w.workers i).next_ask (keys_of items))))))
+    (λ o. ⊎_elim (λ u. inl (some_requested (Worker i) p q.number (Worker i) (worker_step (w.workers i) (AskPeer x)).out w.requests u)) (λ u. inr u) (h p q o))
+    (with_one (record { peer = x; number = (w.workers i).next_ask; items = items }) (w.workers i).asks p q k)
+  where
+    items : List (ℕ × ℕ)
+    items = ask_items (w.workers i).shape (fetchable (w.workers i) x)
+
+    s : WorkerStep
+    s = ask_with (w.workers i) x items
+
+    r : Parcel
+    r = record { asker = Worker i; peer = x; ask = (w.workers i).next_ask; keys = keys_of items }

@@ -113,7 +113,7 @@ any_of : (p : ℕ → Bool) (x : ℕ) (xs : List ℕ) → is_in x xs ≡ true �
 any_of p x [] i e = absurd (false≢true i)
 any_of p x (y ∷ ys) i e = ⊎_elim (λ h. ap (λ b. b || list_any p ys) (ap p (eqb-true y x h) ∙ e)) (λ h. ap (λ b. p y || b) (any_of p x ys h e) ∙ or_true (p y)) (or_cases (eqb y x) (is_in x ys) i)
 
-same_asker_is : (a b : Asker) → same_asker a b ≡ true → a ≡ b
+pub same_asker_is : (a b : Asker) → same_asker a b ≡ true → a ≡ b
 same_asker_is (Worker v) (Worker u) e = ap Worker (eqb-true v u e)
 same_asker_is (Client c) (Client d) e = ap Client (eqb-true c d e)
 same_asker_is (Worker v) (Client d) e = absurd (false≢true e)
