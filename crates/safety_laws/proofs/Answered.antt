@@ -28,6 +28,8 @@ use Rattle.cluster_rules.specs.World.{Job, World, Parcel, opening, shape_of, is_
 use Rattle.cluster_rules.specs.WorldStep.{sends, scheduled, worked, client_worked, at_scheduler, at_worker, at_client, new_at, died, cut_off, take_down_first, take_up, take_up_first, take_to_client, take_from_client, ask_by, gathered_at, failed_at, serve, take_answer, fail_ask, world_step}
 use Rattle.cluster_rules.specs.Enabled.{enabled, may_ask}
 use Rattle.std.specs.Prelude.{nat_le, nat_lt}
+use Rattle.cluster_rules.specs.Client.{ClientFacts, hear, client_gets, client_misses, client_answered, client_gathered_by, client_gathered, keeps_still, client_wants, client_releases, client_fetchable, client_ask, client_step}
+use Rattle.cluster_msgs.specs.declared.messages.ToClient.TheVariants.{KeyInMemory, LostData, ClientTaskErred}
 use Rattle.cluster_rules.specs.Worker.{new_worker, with_ask, ask_items, fetchable}
 use Rattle.cluster_rules.specs.WorkerStep.{ask_with, unasked_keys}
 use Rattle.cluster_msgs.specs.declared.messages.Up.TheVariants.{RequestRefreshWhoHas}
@@ -36,8 +38,14 @@ use Rattle.cluster_msgs.specs.declared.cores.Instruction.TheVariants.{Execute, G
 use Rattle.cluster_msgs.specs.declared.cores.ClientInstruction.{ClientInstruction}
 use Rattle.cluster_msgs.specs.declared.cores.ClientInstruction.TheVariants.{Send as ClientSend, Gather as ClientGather}
 use Rattle.cluster_rules.specs.World.{with_parcel, parcel_before, same_asker}
-use Rattle.cluster_rules.specs.WorldStep.{requested, client_requested}
+use Rattle.cluster_rules.specs.WorldStep.{requested, client_requested, spill}
+use Rattle.cluster_rules.specs.Sched.{Facts, Setting}
+use Rattle.cluster_rules.specs.Runs.{sched_event}
+use Rattle.cluster_rules.proofs.SchedFrame.{step_settles}
+use Rattle.pair_moves.proofs.Framed.{change_framed}
+use Rattle.safety_laws.proofs.Turns.{sched_after, sched_is}
 use Rattle.safety_laws.proofs.Lively.{same_asker_is}
+use Rattle.safety_laws.proofs.Homes.{find_passes_any}
 use Rattle.cluster_rules.specs.SchedTable.{sched_takes}
 use Rattle.cluster_rules.proofs.WorkerLemmas.{at_one}
 use Rattle.std.proofs.lemmas.Bool.{and_parts, and_from}
@@ -321,3 +329,379 @@ worker_asks w i x h p q k = ⊎_elim (λ n. inl (some_requested (Worker i) p q.n
 
     r : Parcel
     r = record { asker = Worker i; peer = x; ask = (w.workers i).next_ask; keys = keys_of items }
+
+worker_gathers : (w : World) (i x n : ℕ) (found : List ℕ) → AsksAnswered (ask_to (w.workers i).asks) (Worker i) w.requests w.answers
+    → AsksAnswered (ask_to (worker_step (w.workers i) (Gathered x n found)).facts.asks) (Worker i) (requested (Worker i) w.requests (worker_step (w.workers i) (Gathered x n found)).out) (without_parcel (Worker i) x n w.answers)
+worker_gathers w i x n found h p q k = let g = gathered_closes (w.workers i) x n found p q k in
+    ⊎_elim (λ r. inl (some_requested (Worker i) p q.number (Worker i) (worker_step (w.workers i) (Gathered x n found)).out w.requests r))
+    (λ r. inr (some_without (Worker i) p q.number (Worker i) x n w.answers (ap (λ b. same_asker (Worker i) (Worker i) && b) g.1 ∙ and_false (eqb i i)) r)) (h p q g.0)
+  where
+    and_false : (b : Bool) → (b && false) ≡ false
+    and_false true = refl
+    and_false false = refl
+
+-- a client
+gets_asks : (ks : List ℕ) (c : ClientFacts) → (fold client_gets c ks).asks ≡ c.asks
+gets_asks [] c = refl
+gets_asks (k ∷ ks) c = gets_asks ks (client_gets c k) ∙ one (c.wants k)
+  where
+    one : (b : Bool) → (cond b (record c { got = put c.got k true; located = put c.located k [] }) c).asks ≡ c.asks
+    one true = refl
+    one false = refl
+
+misses_asks : (is : List (ℕ × ℕ)) (c : ClientFacts) → (fold client_misses c is).asks ≡ c.asks
+misses_asks [] c = refl
+misses_asks (i ∷ is) c = misses_asks is (client_misses c i)
+
+hears_asks : (c : ClientFacts) (m : ToClient) → (hear c m).asks ≡ c.asks
+unfolding hear
+hears_asks c (KeyInMemory k hs) = pick (c.wants k && not (c.got k))
+  where
+    pick : (b : Bool) → (cond b (record c { located = put c.located k hs }) c).asks ≡ c.asks
+    pick true = refl
+    pick false = refl
+hears_asks c (LostData k) = refl
+hears_asks c (ClientTaskErred k x) = pick (c.wants k && not (c.got k))
+  where
+    pick : (b : Bool) → (cond b (record c { failed = put c.failed k (Some x); located = put c.located k [] }) c).asks ≡ c.asks
+    pick true = refl
+    pick false = refl
+
+client_closes : (c : ClientFacts) (x n : ℕ) (found : List ℕ) (p : ℕ) (q : OpenAsk) → ask_to (client_gathered c x n found).facts.asks p ≡ Some q → (ask_to c.asks p ≡ Some q) × ((eqb p x && eqb q.number n) ≡ false)
+unfolding client_gathered
+client_closes c x n found p q = by_ask (ask_to c.asks x) refl
+  where
+    over : (a : OpenAsk) → ask_to c.asks x ≡ Some a → (b : Bool) → eqb a.number n ≡ b → ask_to (cond b (client_answered (record c { asks = without_ask c.asks x }) x (keys_of (filter (λ i. is_in i.0 found) a.items)) (filter (λ i. not (is_in i.0 found)) a.items)) (keeps_still c)).facts.asks p ≡ Some q → (ask_to c.asks p ≡ Some q) × ((eqb p x && eqb q.number n) ≡ false)
+    over a e true i h = let l = left_ask x p q c.asks (sym (ap (λ l. ask_to l p) (misses_asks (filter (λ i. not (is_in i.0 found)) a.items) (fold client_gets (record c { asks = without_ask c.asks x }) (keys_of (filter (λ i. is_in i.0 found) a.items)))
+        ∙ gets_asks (keys_of (filter (λ i. is_in i.0 found) a.items)) (record c { asks = without_ask c.asks x }))) ∙ h) in (l.0, ap (λ b. b && eqb q.number n) l.1)
+    over a e false i h = (h, by (eqb p x) refl)
+      where
+        same : (u v : OpenAsk) → Some u ≡ Some v → u ≡ v
+        same u v z = cc
+
+        by : (b : Bool) → eqb p x ≡ b → (b && eqb q.number n) ≡ false
+        by true m = ap (λ (y : OpenAsk). eqb y.number n) (same q a (sym h ∙ ap (ask_to c.asks) (eqb-true p x m) ∙ e)) ∙ i
+        by false m = refl
+
+    by_ask : (o : Option OpenAsk) → ask_to c.asks x ≡ o → ask_to (client_gathered_by c x n found o).facts.asks p ≡ Some q → (ask_to c.asks p ≡ Some q) × ((eqb p x && eqb q.number n) ≡ false)
+    by_ask None e h = (h, by (eqb p x) refl)
+      where
+        none_ask : (q : OpenAsk) → None ≡ Some q → ⊥
+        none_ask q e = cc
+
+        by : (b : Bool) → eqb p x ≡ b → (b && eqb q.number n) ≡ false
+        by true m = absurd (none_ask q (sym e ∙ ap (ask_to c.asks) (sym (eqb-true p x m)) ∙ h))
+        by false m = refl
+    by_ask (Some a) e h = over a e (eqb a.number n) refl h
+
+abbrev IsNoClientAsk : ClientEvent → Type 0
+IsNoClientAsk (ClientAsk p) = ⊥
+IsNoClientAsk e = Unit {0}
+
+client_fewer : (c : ClientFacts) (e : ClientEvent) → IsNoClientAsk e → AreFewer c.asks (client_step c e).facts.asks
+unfolding client_step client_wants client_releases
+client_fewer c (WantKeys ks) o = fewer_same c.asks _ refl
+client_fewer c (ReleaseKeys ks) o = fewer_same c.asks _ refl
+client_fewer c (FromScheduler m) o = fewer_same c.asks _ (hears_asks c m)
+client_fewer c (ClientAsk p) o = absurd o
+client_fewer c (ClientGathered x n found) o = λ p q h. (client_closes c x n found p q h).0
+client_fewer c (ClientGatherFailed x n) o = λ p q h. (client_closes c x n [] p q h).0
+
+client_answers : (w : World) (c : ℕ) (e : ClientEvent) → IsNoClientAsk e → AsksAnswered (ask_to (w.clients c).asks) (Client c) w.requests w.answers → AsksAnswered (ask_to (client_step (w.clients c) e).facts.asks) (Client c) (client_requested (Client c) w.requests (client_step (w.clients c) e).out) w.answers
+client_answers w c e o h p q k = ⊎_elim (λ r. inl (some_client_requested (Client c) p q.number (Client c) (client_step (w.clients c) e).out w.requests r)) (λ r. inr r) (h p q (client_fewer (w.clients c) e o p q k))
+
+client_asks : (w : World) (c x : ℕ) → AsksAnswered (ask_to (w.clients c).asks) (Client c) w.requests w.answers → AsksAnswered (ask_to (client_step (w.clients c) (ClientAsk x)).facts.asks) (Client c) (client_requested (Client c) w.requests (client_step (w.clients c) (ClientAsk x)).out) w.answers
+unfolding client_step client_ask
+client_asks w c x h p q k = ⊎_elim (λ n. inl (some_with (Client c) p q.number r w.requests (inl (ap (λ (y : OpenAsk). is_parcel (Client c) p y.number r) n.0 ∙ ap (λ y. is_parcel (Client c) y (w.clients c).next_ask r) n.1 ∙ self_parcel (Client c) x (w.clients c).next_ask (keys_of items)))))
+    (λ o. ⊎_elim (λ u. inl (some_with (Client c) p q.number r w.requests (inr u))) (λ u. inr u) (h p q o))
+    (with_one (record { peer = x; number = (w.clients c).next_ask; items = items }) (w.clients c).asks p q k)
+  where
+    items : List (ℕ × ℕ)
+    items = ask_items (w.clients c).shape (client_fetchable (w.clients c) x)
+
+    r : Parcel
+    r = record { asker = Client c; peer = x; ask = (w.clients c).next_ask; keys = keys_of items }
+
+client_gathers : (w : World) (c x n : ℕ) (found : List ℕ) → AsksAnswered (ask_to (w.clients c).asks) (Client c) w.requests w.answers
+    → AsksAnswered (ask_to (client_step (w.clients c) (ClientGathered x n found)).facts.asks) (Client c) (client_requested (Client c) w.requests (client_step (w.clients c) (ClientGathered x n found)).out) (without_parcel (Client c) x n w.answers)
+unfolding client_step
+client_gathers w c x n found h p q k = let g = client_closes (w.clients c) x n found p q k in
+    ⊎_elim (λ r. inl (some_client_requested (Client c) p q.number (Client c) (client_gathered (w.clients c) x n found).out w.requests r))
+    (λ r. inr (some_without (Client c) p q.number (Client c) x n w.answers (ap (λ b. same_asker (Client c) (Client c) && b) g.1 ∙ and_false (eqb c c)) r)) (h p q g.0)
+  where
+    and_false : (b : Bool) → (b && false) ≡ false
+    and_false true = refl
+    and_false false = refl
+
+-- ## The world
+
+abbrev Answers : World → Asker → Type 0
+Answers w a = AsksAnswered (open_ask w a) a w.requests w.answers
+
+an_worker : (w : World) (i : ℕ) (e : WorkerEvent) (ss : List Parcel) → AsksAnswered (ask_to (worker_step (w.workers i) e).facts.asks) (Worker i) (requested (Worker i) w.requests (worker_step (w.workers i) e).out) ss
+    → (a : Asker) → (same_asker a (Worker i) ≡ false → AsksAnswered (open_ask w a) a w.requests ss) → Answers (record (at_worker w i e) { answers = ss }) a
+unfolding worked
+an_worker w i e ss own (Worker x) h p q k = pick (eqb x i) refl p q k
+  where
+    pick : (b : Bool) → eqb x i ≡ b → AsksAnswered (ask_to (cond b (worker_step (w.workers i) e).facts (w.workers x)).asks) (Worker x) (requested (Worker i) w.requests (worker_step (w.workers i) e).out) ss
+    pick true s p2 q2 k2 = subst (λ y. AsksAnswered (ask_to (worker_step (w.workers i) e).facts.asks) (Worker y) (requested (Worker i) w.requests (worker_step (w.workers i) e).out) ss) (sym (eqb-true x i s)) own p2 q2 k2
+    pick false s p2 q2 k2 = ⊎_elim (λ r. inl (some_requested (Worker x) p2 q2.number (Worker i) (worker_step (w.workers i) e).out w.requests r)) (λ r. inr r) (h s p2 q2 k2)
+an_worker w i e ss own (Client c) h p q k = ⊎_elim (λ r. inl (some_requested (Client c) p q.number (Worker i) (worker_step (w.workers i) e).out w.requests r)) (λ r. inr r) (h refl p q k)
+
+an_client : (w : World) (c : ℕ) (e : ClientEvent) (ss : List Parcel) → (a : Asker) → (same_asker a (Client c) ≡ true → AsksAnswered (ask_to (client_step (w.clients c) e).facts.asks) (Client c) (client_requested (Client c) w.requests (client_step (w.clients c) e).out) ss)
+    → (same_asker a (Client c) ≡ false → AsksAnswered (open_ask w a) a w.requests ss) → Answers (record (at_client w c e) { answers = ss }) a
+unfolding client_worked
+an_client w c e ss (Client x) own h p q k = pick (eqb x c) refl p q k
+  where
+    pick : (b : Bool) → eqb x c ≡ b → AsksAnswered (ask_to (cond b (client_step (w.clients c) e).facts (w.clients x)).asks) (Client x) (client_requested (Client c) w.requests (client_step (w.clients c) e).out) ss
+    pick true s p2 q2 k2 = subst (λ y. AsksAnswered (ask_to (client_step (w.clients c) e).facts.asks) (Client y) (client_requested (Client c) w.requests (client_step (w.clients c) e).out) ss) (sym (eqb-true x c s)) (own s) p2 q2 k2
+    pick false s p2 q2 k2 = ⊎_elim (λ r. inl (some_client_requested (Client x) p2 q2.number (Client c) (client_step (w.clients c) e).out w.requests r)) (λ r. inr r) (h s p2 q2 k2)
+an_client w c e ss (Worker i) own h p q k = ⊎_elim (λ r. inl (some_client_requested (Worker i) p q.number (Client c) (client_step (w.clients c) e).out w.requests r)) (λ r. inr r) (h refl p q k)
+
+-- who is alive, and which clients there are, after an event
+abbrev alive_after : World → Event → ℕ → Bool
+alive_after w (Join threads) = put w.alive (w.sched.last_worker + 1) true
+alive_after w (Lose i) = put w.alive i false
+alive_after w _ = w.alive
+
+alive_gathered : (w : World) (a : Asker) (p n : ℕ) (found : List ℕ) → (gathered_at w a p n found).alive ≡ w.alive
+unfolding worked client_worked
+alive_gathered w (Worker i) p n found = refl
+alive_gathered w (Client c) p n found = refl
+
+alive_answer : (w : World) (o : Option Parcel) → (take_answer w o).alive ≡ w.alive
+alive_answer w None = refl
+alive_answer w (Some q) = alive_gathered (record w { answers = without_parcel q.asker q.peer q.ask w.answers }) q.asker q.peer q.ask q.keys
+
+alive_failed : (w : World) (a : Asker) (p : ℕ) (o : Option OpenAsk) → (fail_ask w a p o).alive ≡ w.alive
+unfolding worked client_worked
+alive_failed w a p None = refl
+alive_failed w (Worker i) p (Some q) = refl
+alive_failed w (Client c) p (Some q) = refl
+
+alive_asks : (w : World) (a : Asker) (p : ℕ) → (ask_by w a p).alive ≡ w.alive
+unfolding worked client_worked
+alive_asks w (Worker i) p = refl
+alive_asks w (Client c) p = refl
+
+alive_serves : (w : World) (p : ℕ) (o : Option Parcel) → (serve w p o).alive ≡ w.alive
+alive_serves w p None = refl
+alive_serves w p (Some q) = refl
+
+alive_down : (w : World) (i : ℕ) (ms : List Down) → (take_down_first w i ms).alive ≡ w.alive
+unfolding worked
+alive_down w i [] = refl
+alive_down w i (m ∷ ms) = refl
+
+alive_up : (w : World) (i : ℕ) (ms : List Up) → (take_up_first w i ms).alive ≡ w.alive
+unfolding scheduled
+alive_up w i [] = refl
+alive_up w i (m ∷ ms) = pick (is_connected w i)
+  where
+    pick : (b : Bool) → (take_up (record w { up = put w.up i ms }) i m b).alive ≡ w.alive
+    pick true = refl
+    pick false = refl
+
+alive_news : (w : World) (c : ℕ) (ms : List ToClient) → (take_to_client w c ms).alive ≡ w.alive
+unfolding client_worked
+alive_news w c [] = refl
+alive_news w c (m ∷ ms) = refl
+
+alive_letter : (w : World) (c : ℕ) (ms : List ClientMessage) → (take_from_client w c ms).alive ≡ w.alive
+unfolding scheduled
+alive_letter w c [] = refl
+alive_letter w c (m ∷ ms) = refl
+
+pub alive_is : (j : Job) (w : World) (e : Event) → (world_step j w e).alive ≡ alive_after w e
+unfolding world_step scheduled worked client_worked
+alive_is j w (Want c ks) = refl
+alive_is j w (Release c ks) = refl
+alive_is j w (Join threads) = refl
+alive_is j w (Lose i) = refl
+alive_is j w (SeeLoss i) = refl
+alive_is j w (Suspect i) = refl
+alive_is j w (DeliverDown i) = alive_down w i (w.down i)
+alive_is j w (DeliverUp i) = alive_up w i (w.up i)
+alive_is j w (DeliverToClient c) = alive_news w c (w.to_client c)
+alive_is j w (DeliverFromClient c) = alive_letter w c (w.from_client c)
+alive_is j w (Start i) = refl
+alive_is j w (Finish i k) = refl
+alive_is j w (SendGather a p) = alive_asks w a p
+alive_is j w (ServeGather p a n) = alive_serves w p (parcel_of a p n w.requests)
+alive_is j w (ArriveGather a p n) = alive_answer w (parcel_of a p n w.answers)
+alive_is j w (FailGather a p) = alive_failed w a p (open_ask w a p)
+alive_is j w Balance = refl
+alive_is j w Evict = refl
+alive_is j w (Spill i k) = refl
+alive_is j w (LoseSpilled i k) = refl
+
+setting_after : (f : Facts) (o : Option SchedEvent) → (sched_after f o).setting ≡ f.setting
+setting_after f None = refl
+setting_after f (Some s) = (step_settles f s).setting ∙ (change_framed f s).setting
+
+pub clients_same : (j : Job) (w : World) (e : Event) → (world_step j w e).sched.setting ≡ w.sched.setting
+clients_same j w e = ap (λ (f : Facts). f.setting) (sched_is j w e) ∙ setting_after w.sched (sched_event w e)
+
+module _ (w : World) (h : (a : Asker) → is_asker w a ≡ true → Answers w a) where
+  -- what an actor does, where its own asks are answered
+  an_own : (v : World) (i : ℕ) (e : WorkerEvent) → IsNoAsk e → v.workers ≡ w.workers → v.requests ≡ w.requests → v.answers ≡ w.answers → v.clients ≡ w.clients → w.alive i ≡ true → (a : Asker) → is_asker w a ≡ true → Answers (at_worker v i e) a
+  unfolding worked
+  an_own v i e o m r s k t a u = an_worker v i e v.answers (worker_answered v i e o (from (Worker i) t)) a (λ _. from a u)
+    where
+      from : (b : Asker) → is_asker w b ≡ true → AsksAnswered (open_ask v b) b v.requests v.answers
+      from (Worker x) t p q z = subst (λ (y : List Parcel × List Parcel). UnderWay (Worker x) p q.number y.0 y.1) (λ l. (sym r l, sym s l)) (h (Worker x) t p q (ap (λ (f : ℕ → WorkerFacts). ask_to (f x).asks p) (sym m) ∙ z))
+      from (Client c) t p q z = subst (λ (y : List Parcel × List Parcel). UnderWay (Client c) p q.number y.0 y.1) (λ l. (sym r l, sym s l)) (h (Client c) t p q (ap (λ (f : ℕ → ClientFacts). ask_to (f c).asks p) (sym k) ∙ z))
+
+  an_told : (v : World) (c : ℕ) (e : ClientEvent) → IsNoClientAsk e → v.workers ≡ w.workers → v.requests ≡ w.requests → v.answers ≡ w.answers → v.clients ≡ w.clients → (a : Asker) → is_asker w a ≡ true → Answers (at_client v c e) a
+  unfolding client_worked
+  an_told v c e o m r s k a u = an_client v c e v.answers a (λ z. client_answers v c e o (from (Client c) (ap (is_asker w) (sym (same_asker_is a (Client c) z)) ∙ u))) (λ _. from a u)
+    where
+      from : (b : Asker) → is_asker w b ≡ true → AsksAnswered (open_ask v b) b v.requests v.answers
+      from (Worker x) t p q z = subst (λ (y : List Parcel × List Parcel). UnderWay (Worker x) p q.number y.0 y.1) (λ l. (sym r l, sym s l)) (h (Worker x) t p q (ap (λ (f : ℕ → WorkerFacts). ask_to (f x).asks p) (sym m) ∙ z))
+      from (Client c) t p q z = subst (λ (y : List Parcel × List Parcel). UnderWay (Client c) p q.number y.0 y.1) (λ l. (sym r l, sym s l)) (h (Client c) t p q (ap (λ (f : ℕ → ClientFacts). ask_to (f c).asks p) (sym k) ∙ z))
+
+  an_asks : (a : Asker) (x : ℕ) → is_asker w a ≡ true → (b : Asker) → is_asker w b ≡ true → Answers (ask_by w a x) b
+  unfolding worked client_worked
+  an_asks (Worker i) x t b u = an_worker w i (AskPeer x) w.answers (worker_asks w i x (h (Worker i) t)) b (λ _. h b u)
+  an_asks (Client c) x t b u = an_client w c (ClientAsk x) w.answers b (λ z. client_asks w c x (h (Client c) t)) (λ _. h b u)
+
+  an_fails : (a : Asker) (x : ℕ) (o : Option OpenAsk) → is_asker w a ≡ true → (b : Asker) → is_asker w b ≡ true → Answers (fail_ask w a x o) b
+  an_fails a x None t b u = h b u
+  an_fails (Worker i) x (Some q) t b u = an_own w i (GatherFailed x q.number) tt refl refl refl refl t b u
+  an_fails (Client c) x (Some q) t b u = an_told w c (ClientGatherFailed x q.number) tt refl refl refl refl b u
+
+  an_serves : (p : ℕ) (o : Option Parcel) → (b : Asker) → is_asker w b ≡ true → Answers (serve w p o) b
+  an_serves p None b u = h b u
+  an_serves p (Some r) b u = kept b u
+    where
+      moved : (b : Asker) (p2 n : ℕ) → UnderWay b p2 n w.requests w.answers → UnderWay b p2 n (without_parcel r.asker r.peer r.ask w.requests) (with_parcel (record r { keys = filter (w.workers p).mem r.keys }) w.answers)
+      moved b p2 n (inr e) = inr (some_with b p2 n (record r { keys = filter (w.workers p).mem r.keys }) w.answers (inr e))
+      moved b p2 n (inl e) = pick (IsSame b p2 n r.asker r.peer r.ask) refl
+        where
+          turn : (x y : Asker) → same_asker x y ≡ true → same_asker y x ≡ true
+          turn (Worker x) (Worker y) s = same_eqb y x (sym (eqb-true x y s))
+          turn (Client x) (Client y) s = same_eqb y x (sym (eqb-true x y s))
+          turn (Worker x) (Client y) s = absurd (false≢true s)
+          turn (Client x) (Worker y) s = absurd (false≢true s)
+
+          pick : (c : Bool) → IsSame b p2 n r.asker r.peer r.ask ≡ c → UnderWay b p2 n (without_parcel r.asker r.peer r.ask w.requests) (with_parcel (record r { keys = filter (w.workers p).mem r.keys }) w.answers)
+          pick true s = let t = and_parts (same_asker b r.asker) (eqb p2 r.peer && eqb n r.ask) s in let v = and_parts (eqb p2 r.peer) (eqb n r.ask) t.1 in
+              inr (some_with b p2 n (record r { keys = filter (w.workers p).mem r.keys }) w.answers (inl (and_from (same_asker r.asker b) (eqb r.peer p2 && eqb r.ask n) (turn b r.asker t.0) (and_from (eqb r.peer p2) (eqb r.ask n) (same_eqb r.peer p2 (sym (eqb-true p2 r.peer v.0))) (same_eqb r.ask n (sym (eqb-true n r.ask v.1)))))))
+          pick false s = inl (some_without b p2 n r.asker r.peer r.ask w.requests s e)
+
+      kept : (b : Asker) → is_asker w b ≡ true → AsksAnswered (open_ask w b) b (without_parcel r.asker r.peer r.ask w.requests) (with_parcel (record r { keys = filter (w.workers p).mem r.keys }) w.answers)
+      kept b u p2 q k = moved b p2 q.number (h b u p2 q k)
+
+  -- an answer that comes
+  fewer_answers : (b c : Asker) (x m : ℕ) → is_asker w b ≡ true → same_asker b c ≡ false → AsksAnswered (open_ask w b) b w.requests (without_parcel c x m w.answers)
+  fewer_answers b c x m u s p q k = ⊎_elim (λ e. inl e) (λ e. inr (some_without b p q.number c x m w.answers (ap (λ y. y && (eqb p x && eqb q.number m)) s) e)) (h b u p q k)
+
+  an_answer : (a : Asker) (p n : ℕ) (o : Option Parcel) → parcel_of a p n w.answers ≡ o → is_asker w a ≡ true → (b : Asker) → is_asker w b ≡ true → Answers (take_answer w o) b
+  unfolding worked client_worked
+  an_answer a p n None e t b u = h b u
+  an_answer a p n (Some q) e t b u = by q.asker (asker_of (and_parts (same_asker q.asker a) _ (find_passes_any (is_parcel a p n) w.answers q e)).0)
+    where
+      asker_of : same_asker q.asker a ≡ true → is_asker w q.asker ≡ true
+      asker_of s = ap (is_asker w) (same_asker_is q.asker a s) ∙ t
+
+      by : (c : Asker) → is_asker w c ≡ true → Answers (gathered_at (record w { answers = without_parcel c q.peer q.ask w.answers }) c q.peer q.ask q.keys) b
+      by (Worker i) t = an_worker w i (Gathered q.peer q.ask q.keys) (without_parcel (Worker i) q.peer q.ask w.answers) (worker_gathers w i q.peer q.ask q.keys (h (Worker i) t)) b (λ s. fewer_answers b (Worker i) q.peer q.ask u s)
+      by (Client c) t = an_client w c (ClientGathered q.peer q.ask q.keys) (without_parcel (Client c) q.peer q.ask w.answers) b (λ z. client_gathers w c q.peer q.ask q.keys (h (Client c) t)) (λ s. fewer_answers b (Client c) q.peer q.ask u s)
+
+  an_down : (i : ℕ) (ms : List Down) → w.alive i ≡ true → (b : Asker) → is_asker w b ≡ true → Answers (take_down_first w i ms) b
+  an_down i [] t b u = h b u
+  an_down i (m ∷ ms) t b u = an_own (record w { down = put w.down i ms }) i (Told m) tt refl refl refl refl t b u
+
+  an_news : (c : ℕ) (ms : List ToClient) (b : Asker) → is_asker w b ≡ true → Answers (take_to_client w c ms) b
+  an_news c [] b u = h b u
+  an_news c (m ∷ ms) b u = an_told (record w { to_client = put w.to_client c ms }) c (FromScheduler m) tt refl refl refl refl b u
+
+  an_scheduler : (v : World) (s : SchedEvent) → v.workers ≡ w.workers → v.requests ≡ w.requests → v.answers ≡ w.answers → v.clients ≡ w.clients → (b : Asker) → is_asker w b ≡ true → Answers (at_scheduler v s) b
+  unfolding scheduled
+  an_scheduler v s m r k c (Worker x) u p q z = subst (λ (y : List Parcel × List Parcel). UnderWay (Worker x) p q.number y.0 y.1) (λ l. (sym r l, sym k l)) (h (Worker x) u p q (ap (λ (f : ℕ → WorkerFacts). ask_to (f x).asks p) (sym m) ∙ z))
+  an_scheduler v s m r k c (Client x) u p q z = subst (λ (y : List Parcel × List Parcel). UnderWay (Client x) p q.number y.0 y.1) (λ l. (sym r l, sym k l)) (h (Client x) u p q (ap (λ (f : ℕ → ClientFacts). ask_to (f x).asks p) (sym c) ∙ z))
+
+  an_up : (i : ℕ) (ms : List Up) (b : Asker) → is_asker w b ≡ true → Answers (take_up_first w i ms) b
+  an_up i [] b u = h b u
+  an_up i (m ∷ ms) b u = pick (is_connected w i)
+    where
+      less : (b : Asker) → is_asker w b ≡ true → Answers (record w { up = put w.up i ms }) b
+      less (Worker x) u = h (Worker x) u
+      less (Client c) u = h (Client c) u
+
+      pick : (d : Bool) → Answers (take_up (record w { up = put w.up i ms }) i m d) b
+      pick true = an_scheduler (record w { up = put w.up i ms }) (FromWorker i m) refl refl refl refl b u
+      pick false = less b u
+
+  an_letter : (c : ℕ) (ms : List ClientMessage) (b : Asker) → is_asker w b ≡ true → Answers (take_from_client w c ms) b
+  an_letter c [] b u = h b u
+  an_letter c (m ∷ ms) b u = an_scheduler (record w { from_client = put w.from_client c ms }) (FromClient c m) refl refl refl refl b u
+
+  an_joined : (i threads : ℕ) (b : Asker) → is_asker (new_at w i threads) b ≡ true → Answers (new_at w i threads) b
+  an_joined i threads (Client c) u = h (Client c) u
+  an_joined i threads (Worker x) u = pick (eqb x i) u
+    where
+      none_ask : (q : OpenAsk) → None ≡ Some q → ⊥
+      none_ask q e = cc
+
+      pick : (d : Bool) → cond d true (w.alive x) ≡ true → AsksAnswered (ask_to (cond d (new_worker (shape_of w) i threads) (w.workers x)).asks) (Worker x) w.requests w.answers
+      pick true u p q k = absurd (none_ask q k)
+      pick false u p q k = h (Worker x) u p q k
+
+  an_died : (i : ℕ) (b : Asker) → is_asker (died w i) b ≡ true → Answers (died w i) b
+  an_died i (Client c) u = h (Client c) u
+  an_died i (Worker x) u = pick (eqb x i) u
+    where
+      pick : (d : Bool) → cond d false (w.alive x) ≡ true → AsksAnswered (ask_to (cond d (record (w.workers i) { mem = λ k. false }) (w.workers x)).asks) (Worker x) w.requests w.answers
+      pick true u = absurd (false≢true u)
+      pick false u = h (Worker x) u
+
+
+  -- who may ask afterwards might before
+  asked_before : (j : Job) (e : Event) → alive_after w e ≡ w.alive → (b : Asker) → is_asker (world_step j w e) b ≡ true → is_asker w b ≡ true
+  asked_before j e s (Worker x) u = ap (λ (f : ℕ → Bool). f x) (sym (alive_is j w e ∙ s)) ∙ u
+  asked_before j e s (Client c) u = subst (λ (x : Setting). (nat_le 1 c && nat_le c x.clients) ≡ true) (clients_same j w e) u
+
+  client_before : (j : Job) (e : Event) (c : ℕ) → is_client (world_step j w e) c ≡ true → is_client w c ≡ true
+  client_before j e c u = subst (λ (x : Setting). (nat_le 1 c && nat_le c x.clients) ≡ true) (clients_same j w e) u
+
+  an_join : (j : Job) (threads : ℕ) (b : Asker) → is_asker (world_step j w (Join threads)) b ≡ true → Answers (at_scheduler (new_at w (w.sched.last_worker + 1) threads) (JoinSched threads)) b
+  unfolding scheduled
+  an_join j threads (Worker x) u p q k = an_joined (w.sched.last_worker + 1) threads (Worker x) (ap (λ (f : ℕ → Bool). f x) (sym (alive_is j w (Join threads))) ∙ u) p q k
+  an_join j threads (Client c) u p q k = h (Client c) (client_before j (Join threads) c u) p q k
+
+  an_lose : (j : Job) (i : ℕ) (b : Asker) → is_asker (world_step j w (Lose i)) b ≡ true → Answers (died w i) b
+  an_lose j i (Worker x) u p q k = an_died i (Worker x) (ap (λ (f : ℕ → Bool). f x) (sym (alive_is j w (Lose i))) ∙ u) p q k
+  an_lose j i (Client c) u p q k = h (Client c) (client_before j (Lose i) c u) p q k
+
+  an_cut : (i : ℕ) (b : Asker) → is_asker w b ≡ true → Answers (cut_off (at_scheduler w (Leave i)) i) b
+  unfolding scheduled
+  an_cut i (Worker x) u = h (Worker x) u
+  an_cut i (Client c) u = h (Client c) u
+
+  an_spill : (i k : ℕ) (b : Asker) → is_asker w b ≡ true → Answers (spill w i k) b
+  an_spill i k (Worker x) u = h (Worker x) u
+  an_spill i k (Client c) u = h (Client c) u
+
+  pub answered_step : (j : Job) (e : Event) → enabled w e ≡ true → (b : Asker) → is_asker (world_step j w e) b ≡ true → Answers (world_step j w e) b
+  unfolding world_step enabled
+  answered_step j (Want c ks) t b u = an_told w c (WantKeys ks) tt refl refl refl refl b (asked_before j (Want c ks) refl b u)
+  answered_step j (Release c ks) t b u = an_told w c (ReleaseKeys ks) tt refl refl refl refl b (asked_before j (Release c ks) refl b u)
+  answered_step j (Join threads) t b u = an_join j threads b u
+  answered_step j (Lose i) t b u = an_lose j i b u
+  answered_step j (SeeLoss i) t b u = an_cut i b (asked_before j (SeeLoss i) refl b u)
+  answered_step j (Suspect i) t b u = an_scheduler w (Leave i) refl refl refl refl b (asked_before j (Suspect i) refl b u)
+  answered_step j (DeliverDown i) t b u = an_down i (w.down i) (and_parts (w.alive i) _ t).0 b (asked_before j (DeliverDown i) refl b u)
+  answered_step j (DeliverUp i) t b u = an_up i (w.up i) b (asked_before j (DeliverUp i) refl b u)
+  answered_step j (DeliverToClient c) t b u = an_news c (w.to_client c) b (asked_before j (DeliverToClient c) refl b u)
+  answered_step j (DeliverFromClient c) t b u = an_letter c (w.from_client c) b (asked_before j (DeliverFromClient c) refl b u)
+  answered_step j (Start i) t b u = an_own w i StartTask tt refl refl refl refl (and_parts (w.alive i) _ t).0 b (asked_before j (Start i) refl b u)
+  answered_step j (Finish i k) t b u = an_own w i (Done k (j.zero k)) tt refl refl refl refl (and_parts (w.alive i) _ t).0 b (asked_before j (Finish i k) refl b u)
+  answered_step j (SendGather a p) t b u = an_asks a p (and_parts (is_asker w a) _ t).0 b (asked_before j (SendGather a p) refl b u)
+  answered_step j (ServeGather p a n) t b u = an_serves p (parcel_of a p n w.requests) b (asked_before j (ServeGather p a n) refl b u)
+  answered_step j (ArriveGather a p n) t b u = an_answer a p n (parcel_of a p n w.answers) refl (and_parts (is_asker w a) _ t).0 b (asked_before j (ArriveGather a p n) refl b u)
+  answered_step j (FailGather a p) t b u = an_fails a p (open_ask w a p) (and_parts (is_asker w a) _ t).0 b (asked_before j (FailGather a p) refl b u)
+  answered_step j Balance t b u = an_scheduler w BalanceSched refl refl refl refl b (asked_before j Balance refl b u)
+  answered_step j Evict t b u = an_scheduler w EvictSched refl refl refl refl b (asked_before j Evict refl b u)
+  answered_step j (Spill i k) t b u = an_spill i k b (asked_before j (Spill i k) refl b u)
+  answered_step j (LoseSpilled i k) t b u = an_own w i (DataLost k) tt refl refl refl refl (and_parts (w.alive i) _ t).0 b (asked_before j (LoseSpilled i k) refl b u)

@@ -13,3 +13,4 @@ pub mod Lively
 pub mod Safety
 pub mod Threads
 pub mod Answered
+pub mod Refreshing
