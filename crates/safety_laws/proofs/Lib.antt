@@ -14,3 +14,4 @@ pub mod Safety
 pub mod Threads
 pub mod Answered
 pub mod Refreshing
+pub mod Named
