@@ -210,7 +210,7 @@ home_scheduled g clients n w s sound t l h = h_scheduler g clients (sched_step w
     none x true e m = let u : x ≤ (sched_step w.sched s).facts.last_worker = (after.numbers x e).1 in absurd (omega (arith, m))
     none x false e m = refl
 
-last_more : (f : Facts) (s : SchedEvent) → f.last_worker ≤ (sched_step f s).facts.last_worker
+pub last_more : (f : Facts) (s : SchedEvent) → f.last_worker ≤ (sched_step f s).facts.last_worker
 last_more f s = let e : (sched_step f s).facts.last_worker ≡ (change f s).facts.last_worker = (step_settles f s).last_worker in omega (arith, (change_framed f s).last_worker)
 
 last_joined : (f : Facts) (threads : ℕ) → f.last_worker + 1 ≤ (sched_step f (JoinSched threads)).facts.last_worker

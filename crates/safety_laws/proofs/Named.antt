@@ -56,7 +56,7 @@ use Rattle.cluster_rules.proofs.SchedFrame.{step_settles}
 use Rattle.pair_moves.proofs.HoldRows.{left_plain}
 use Rattle.pair_moves.proofs.Framed.{change_framed}
 use Rattle.safety_laws.specs.Lively.{IsNumber, AreNumbers, AreHolders, AreNumbersDown, AreNumbersNews, AreNamed}
-use Rattle.safety_laws.proofs.Homes.{find_passes_any}
+use Rattle.safety_laws.proofs.Homes.{find_passes_any, last_more}
 
 module _ (N : ℕ) where
   -- ## The scheduler
@@ -608,3 +608,101 @@ named_to w N l h = record {
 
 named_at : (w : World) → AreNamedTo w.sched.last_worker w → AreNamed w
 named_at w h = record { holders = λ i. (h.workers i).holders; asks = λ i. (h.workers i).asks; located = λ c. (h.clients c).located; client_asks = λ c. (h.clients c).asks; down = h.down; news = h.news }
+
+-- ## Every event
+
+le_self : (n : ℕ) → n ≤ n
+le_self n = omega arith
+
+to_self : (w : World) → AreNamed w → AreNamedTo w.sched.last_worker w
+to_self w h = named_to w w.sched.last_worker (le_self w.sched.last_worker) h
+
+by_scheduler : (w : World) (s : SchedEvent) → AreNamed w → AreNamed (at_scheduler w s)
+unfolding scheduled
+by_scheduler w s h = named_at (at_scheduler w s) (nt_scheduler (sched_step w.sched s).facts.last_worker w s (le_self (sched_step w.sched s).facts.last_worker) (named_to w (sched_step w.sched s).facts.last_worker (last_more w.sched s) h))
+
+by_worker : (w : World) (i : ℕ) (e : WorkerEvent) → BringsNumbers w.sched.last_worker (w.workers i) e → AreNamed w → AreNamed (at_worker w i e)
+unfolding worked
+by_worker w i e b h = named_at (at_worker w i e) (nt_worker w.sched.last_worker w i e b (to_self w h))
+
+by_client : (w : World) (c : ℕ) (e : ClientEvent) → NewsNumbers w.sched.last_worker (w.clients c) e → AreNamed w → AreNamed (at_client w c e)
+unfolding client_worked
+by_client w c e b h = named_at (at_client w c e) (nt_client w.sched.last_worker w c e b (to_self w h))
+
+named_up : (w : World) (i : ℕ) (ms : List Up) → AreNamed w → AreNamed (take_up_first w i ms)
+named_up w i [] h = h
+named_up w i (m ∷ ms) h = pick (is_connected w i)
+  where
+    less : AreNamed (record w { up = put w.up i ms })
+    less = record { holders = h.holders; asks = h.asks; located = h.located; client_asks = h.client_asks; down = h.down; news = h.news }
+
+    pick : (b : Bool) → AreNamed (take_up (record w { up = put w.up i ms }) i m b)
+    pick true = by_scheduler (record w { up = put w.up i ms }) (FromWorker i m) less
+    pick false = less
+
+named_letter : (w : World) (c : ℕ) (ms : List ClientMessage) → AreNamed w → AreNamed (take_from_client w c ms)
+named_letter w c [] h = h
+named_letter w c (m ∷ ms) h = by_scheduler (record w { from_client = put w.from_client c ms }) (FromClient c m) (record { holders = h.holders; asks = h.asks; located = h.located; client_asks = h.client_asks; down = h.down; news = h.news })
+
+named_down : (w : World) (i : ℕ) (ms : List Down) → w.down i ≡ ms → AreNamed w → AreNamed (take_down_first w i ms)
+named_down w i [] e h = h
+named_down w i (m ∷ ms) e h = let d = subst (λ l. AllByRecursion (AreNumbersDown w.sched.last_worker) l) e (h.down i) in
+    by_worker (record w { down = put w.down i ms }) i (Told m) d.0 (record { holders = h.holders; asks = h.asks; located = h.located; client_asks = h.client_asks; down = at_one i (λ b x. AllByRecursion (AreNumbersDown w.sched.last_worker) (cond b ms (w.down x))) d.1 h.down; news = h.news })
+
+named_news : (w : World) (c : ℕ) (ms : List ToClient) → w.to_client c ≡ ms → AreNamed w → AreNamed (take_to_client w c ms)
+named_news w c [] e h = h
+named_news w c (m ∷ ms) e h = let d = subst (λ l. AllByRecursion (AreNumbersNews w.sched.last_worker) l) e (h.news c) in
+    by_client (record w { to_client = put w.to_client c ms }) c (FromScheduler m) d.0 (record { holders = h.holders; asks = h.asks; located = h.located; client_asks = h.client_asks; down = h.down; news = at_one c (λ b x. AllByRecursion (AreNumbersNews w.sched.last_worker) (cond b ms (w.to_client x))) d.1 h.news })
+
+named_gathered : (w : World) (a : Asker) (p n : ℕ) (found : List ℕ) → AreNamed w → AreNamed (gathered_at w a p n found)
+named_gathered w (Worker i) p n found h = by_worker w i (Gathered p n found) tt h
+named_gathered w (Client c) p n found h = by_client w c (ClientGathered p n found) tt h
+
+named_answer : (w : World) (o : Option Parcel) → AreNamed w → AreNamed (take_answer w o)
+named_answer w None h = h
+named_answer w (Some q) h = named_gathered (record w { answers = without_parcel q.asker q.peer q.ask w.answers }) q.asker q.peer q.ask q.keys (record { holders = h.holders; asks = h.asks; located = h.located; client_asks = h.client_asks; down = h.down; news = h.news })
+
+named_fails : (w : World) (a : Asker) (p : ℕ) (o : Option OpenAsk) → AreNamed w → AreNamed (fail_ask w a p o)
+named_fails w a p None h = h
+named_fails w (Worker i) p (Some q) h = by_worker w i (GatherFailed p q.number) tt h
+named_fails w (Client c) p (Some q) h = by_client w c (ClientGatherFailed p q.number) tt h
+
+named_asks : (w : World) (a : Asker) (p : ℕ) → may_ask w a p ≡ true → AreNamed w → AreNamed (ask_by w a p)
+named_asks w (Worker i) p t h = by_worker w i (AskPeer p) t h
+named_asks w (Client c) p t h = by_client w c (ClientAsk p) t h
+
+named_serves : (w : World) (p : ℕ) (o : Option Parcel) → AreNamed w → AreNamed (serve w p o)
+named_serves w p None h = h
+named_serves w p (Some q) h = record { holders = h.holders; asks = h.asks; located = h.located; client_asks = h.client_asks; down = h.down; news = h.news }
+
+named_new : (w : World) (i threads : ℕ) → AreNamed w → AreNamed (new_at w i threads)
+named_new w i threads h = named_at (new_at w i threads) (nt_new w.sched.last_worker w i threads (to_self w h))
+
+named_died : (w : World) (i : ℕ) → AreNamed w → AreNamed (died w i)
+named_died w i h = named_at (died w i) (nt_died w.sched.last_worker w i (to_self w h))
+
+named_cut : (w : World) (i : ℕ) → AreNamed w → AreNamed (cut_off w i)
+named_cut w i h = named_at (cut_off w i) (nt_cut w.sched.last_worker w i (to_self w h))
+
+pub named_step : (j : Job) (w : World) (e : Event) → enabled w e ≡ true → AreNamed w → AreNamed (world_step j w e)
+unfolding world_step enabled
+named_step j w (Want c ks) t h = by_client w c (WantKeys ks) tt h
+named_step j w (Release c ks) t h = by_client w c (ReleaseKeys ks) tt h
+named_step j w (Join threads) t h = by_scheduler (new_at w (w.sched.last_worker + 1) threads) (JoinSched threads) (named_new w (w.sched.last_worker + 1) threads h)
+named_step j w (Lose i) t h = named_died w i h
+named_step j w (SeeLoss i) t h = named_cut (at_scheduler w (Leave i)) i (by_scheduler w (Leave i) h)
+named_step j w (Suspect i) t h = by_scheduler w (Leave i) h
+named_step j w (DeliverDown i) t h = named_down w i (w.down i) refl h
+named_step j w (DeliverUp i) t h = named_up w i (w.up i) h
+named_step j w (DeliverToClient c) t h = named_news w c (w.to_client c) refl h
+named_step j w (DeliverFromClient c) t h = named_letter w c (w.from_client c) h
+named_step j w (Start i) t h = by_worker w i StartTask tt h
+named_step j w (Finish i k) t h = by_worker w i (Done k (j.zero k)) tt h
+named_step j w (SendGather a p) t h = named_asks w a p (and_parts (is_asker w a) (may_ask w a p) t).1 h
+named_step j w (ServeGather p a n) t h = named_serves w p (parcel_of a p n w.requests) h
+named_step j w (ArriveGather a p n) t h = named_answer w (parcel_of a p n w.answers) h
+named_step j w (FailGather a p) t h = named_fails w a p (open_ask w a p) h
+named_step j w Balance t h = by_scheduler w BalanceSched h
+named_step j w Evict t h = by_scheduler w EvictSched h
+named_step j w (Spill i k) t h = record { holders = h.holders; asks = h.asks; located = h.located; client_asks = h.client_asks; down = h.down; news = h.news }
+named_step j w (LoseSpilled i k) t h = by_worker w i (DataLost k) tt h
