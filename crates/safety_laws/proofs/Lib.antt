@@ -15,3 +15,4 @@ pub mod Threads
 pub mod Answered
 pub mod Refreshing
 pub mod Named
+pub mod News
