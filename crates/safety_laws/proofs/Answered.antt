@@ -317,7 +317,7 @@ worker_answered w i e o h p q k = ⊎_elim (λ r. inl (some_requested (Worker i)
 worker_asks : (w : World) (i x : ℕ) → AsksAnswered (ask_to (w.workers i).asks) (Worker i) w.requests w.answers → AsksAnswered (ask_to (worker_step (w.workers i) (AskPeer x)).facts.asks) (Worker i) (requested (Worker i) w.requests (worker_step (w.workers i) (AskPeer x)).out) w.answers
 unfolding worker_step worker_row ask_peer
 worker_asks w i x h p q k = ⊎_elim (λ n. inl (some_requested (Worker i) p q.number (Worker i) (map (λ y. Send (RequestRefreshWhoHas (w.workers i).seen y)) (unasked_keys s.facts)) (with_parcel r w.requests)
-        (some_with (Worker i) p q.number r w.requests (inl (ap (λ (y : OpenAsk). is_parcel (Worker i) p y.number r) n.0 ∙ ap (λ y. is_parcel (Worker i) y (w.workers i).next_ask r) n.1 ∙ self_parcel (Worker i) x (w.workers i).next_ask (keys_of items))))))
+    (some_with (Worker i) p q.number r w.requests (inl (ap (λ (y : OpenAsk). is_parcel (Worker i) p y.number r) n.0 ∙ ap (λ y. is_parcel (Worker i) y (w.workers i).next_ask r) n.1 ∙ self_parcel (Worker i) x (w.workers i).next_ask (keys_of items))))))
     (λ o. ⊎_elim (λ u. inl (some_requested (Worker i) p q.number (Worker i) (worker_step (w.workers i) (AskPeer x)).out w.requests u)) (λ u. inr u) (h p q o))
     (with_one (record { peer = x; number = (w.workers i).next_ask; items = items }) (w.workers i).asks p q k)
   where
@@ -655,7 +655,6 @@ module _ (w : World) (h : (a : Asker) → is_asker w a ≡ true → Answers w a)
       pick : (d : Bool) → cond d false (w.alive x) ≡ true → AsksAnswered (ask_to (cond d (record (w.workers i) { mem = λ k. false }) (w.workers x)).asks) (Worker x) w.requests w.answers
       pick true u = absurd (false≢true u)
       pick false u = h (Worker x) u
-
 
   -- who may ask afterwards might before
   asked_before : (j : Job) (e : Event) → alive_after w e ≡ w.alive → (b : Asker) → is_asker (world_step j w e) b ≡ true → is_asker w b ≡ true

@@ -156,10 +156,13 @@ drained_agrees j w h i d = record { mem = λ k. (at k).0; mine = λ k a. (at k).
             (sym r.0, λ a. place_is (w.sched.on k) ((w.workers i).mine k) r.1 a)
 
         past : key_count (shape_of w) ≤ k → ((w.workers i).mem k ≡ holds w.sched i k) × ((a : ℕ) → ((w.workers i).mine k ≡ Some a) ↔ (w.sched.on k ≡ Some (i, a)))
-        past l = (no_block ((w.workers i).mem k) refl ∙ sym (ap is_some (h.sound.has i k l)), λ a. (
-          λ q. absurd (none_some a (sym (h.home.mine i k (subst (λ (g : Shape). key_count g ≤ k) h.inside.shape l)) ∙ q)),
-          λ q. absurd (none_pair (i, a) (sym (h.sound.on k l) ∙ q)),
-        ))
+        past l = (
+          no_block ((w.workers i).mem k) refl ∙ sym (ap is_some (h.sound.has i k l)),
+          λ a. (
+            λ q. absurd (none_some a (sym (h.home.mine i k (subst (λ (g : Shape). key_count g ≤ k) h.inside.shape l)) ∙ q)),
+            λ q. absurd (none_pair (i, a) (sym (h.sound.on k l) ∙ q)),
+          ),
+        )
           where
             none_some : (x : ℕ) → None ≡ Some x → ⊥
             none_some x y = cc

@@ -10,9 +10,10 @@ pub mod Running
 pub mod PastWorld
 pub mod Unstarted
 pub mod Lively
-pub mod Safety
 pub mod Threads
 pub mod Answered
 pub mod Refreshing
 pub mod Named
 pub mod News
+pub mod Responsive
+pub mod Safety

@@ -36,7 +36,6 @@ use Rattle.cluster_rules.proofs.SchedFrame.{same_eqb, step_settles}
 use Rattle.cluster_rules.proofs.SoundStep.{sound_step}
 use Rattle.scheduler_laws.specs.Settled.{IsSettled}
 use Rattle.pair_machine.specs.Pair.{is_at}
-
 use Rattle.pair_moves.specs.Projection.{note_of, report_of, report_in, notes, reports, at_worker as at_the_worker, Side, pair_of, IsNumbered}
 use Rattle.pair_moves.proofs.Framed.{change_framed}
 use Rattle.pair_moves.proofs.Events.{event_keeps}
@@ -67,7 +66,6 @@ Both st yi v i k = IsTale st yi (pair_at v i k) × RunsIn st v i k
 
 module _ (j : Job) (w : World) (inside : IsInsideWorld j.setting.shape w) (settled : IsSettled w.sched) (numbered : IsNumbered w.sched)
     (home : IsHome j.setting.shape j.setting.clients w.sched.last_worker w) (st yi : ℕ → Bool) (i k : ℕ) where
-
   t_scheduler : (v : World) (s : SchedEvent) → v.sched ≡ w.sched → Both st yi v i k → Both st yi (at_scheduler v s) i k
   unfolding scheduled
   t_scheduler v s same h = (subst (λ (f : Facts). IsTale st yi (pair_of f i k (side_of v i k)) → IsTale st yi (pair_of (sched_step f s).facts i k (record (side_of v i k) { down = v.down i ++ mail i (sched_step f s).down }))) (sym same) go h.0, h.1)
@@ -151,9 +149,12 @@ module _ (j : Job) (w : World) (inside : IsInsideWorld j.setting.shape w) (settl
       or_false false = refl
 
       pick : (b : Bool) → eqb i x ≡ b → IsTale st (λ a. yi a || (eqb x i && hears_yes (reports k (w.up i)) a)) (record (pair_at w i k) { up = reports k (cond b ms (w.up i)) }) × RunsIn st w i k
-      pick true q = (subst (λ c. IsTale st (λ a. yi a || (c && hears_yes (reports k (w.up i)) a)) (record (pair_at w i k) { up = reports k ms })) (sym (same_eqb x i (sym (eqb-true i x q))))
-          (subst (λ l. IsTale st (λ a. yi a || hears_yes (reports k l) a) (record (pair_at w i k) { up = reports k ms })) (sym (ap w.up (eqb-true i x q) ∙ e))
-          (pop_tale st yi (pair_at w i k) (report_of k m) (reports k ms) (subst (λ l. IsTale st yi (record (pair_at w i k) { up = reports k l })) (ap w.up (eqb-true i x q) ∙ e) h.0))), h.1)
+      pick true q = (
+        subst (λ c. IsTale st (λ a. yi a || (c && hears_yes (reports k (w.up i)) a)) (record (pair_at w i k) { up = reports k ms })) (sym (same_eqb x i (sym (eqb-true i x q))))
+            (subst (λ l. IsTale st (λ a. yi a || hears_yes (reports k l) a) (record (pair_at w i k) { up = reports k ms })) (sym (ap w.up (eqb-true i x q) ∙ e))
+            (pop_tale st yi (pair_at w i k) (report_of k m) (reports k ms) (subst (λ l. IsTale st yi (record (pair_at w i k) { up = reports k l })) (ap w.up (eqb-true i x q) ∙ e) h.0))),
+        h.1,
+      )
       pick false q = (subst (λ (f : ℕ → Bool). IsTale st f (pair_at w i k)) (λ y a. sym (ap (λ c. yi a || (c && hears_yes (reports k (w.up i)) a)) (eqb_comm x i ∙ q) ∙ or_false (yi a)) y) h.0, h.1)
 
   t_new : (n threads : ℕ) → Both st yi w i k → Both st yi (new_at w n threads) i k

@@ -144,12 +144,3 @@ AreServed w = (c k : ℕ) → is_client w c ≡ true → IsServed w c k
 -- a worker that is alive has a thread
 abbrev pub HaveThreads : World → Type 0
 HaveThreads w = (i : ℕ) → w.alive i ≡ true → 1 ≤ (w.workers i).threads
-
--- ## Together
-
-pub record IsResponsive (w : World) : Type 0 where
-  pub answered : IsAnswered w
-  pub refreshing : IsRefreshing w
-  pub named : AreNamed w
-  pub threads : HaveThreads w
-  pub served : AreServed w

@@ -9,7 +9,7 @@ ghost use Rattle.std.specs.Prelude.{ℕ, List};
 ghost use Rattle.cluster_msgs.specs.declared.events.Event.{Event};
 ghost use Rattle.cluster_rules.specs.World.{Job, IsJob, Drained};
 ghost use Rattle.cluster_rules.specs.Runs.{legal, reached, OneAttempt, OnlyKnown, Agrees, IsLively, Safe};
-ghost use Rattle.safety_laws.specs.Lively.{IsResponsive};
+ghost use Rattle.safety_laws.specs.Lively.{IsAnswered, IsRefreshing, AreNamed, HaveThreads, AreServed};
 
 /// A key gets another attempt only once the earlier one has ended, by the same event at the latest; and an attempt that
 /// was given up is never started, neither before nor after.
@@ -28,13 +28,22 @@ pub fn drained_workers_agree()
     ensures { (j : Job) → IsJob j → (es : List Event) → legal j es → (i : ℕ) → Drained (reached j es) i → Agrees (reached j es) i }
 {}
 
-/// While a client waits for a key and a worker is alive and connected, some progress event is enabled: where each open
-/// gather, each question to the scheduler and each client's key is on its way, and holders are workers that joined.
+/// While a client waits for a key and a worker is alive and connected, some progress event is enabled: where what each
+/// client waits for is known to it or on its way.
 pub fn some_progress_is_enabled()
-    ensures { (j : Job) → IsJob j → (es : List Event) → legal j es → IsResponsive (reached j es) → IsLively (reached j es) }
+    ensures { (j : Job) → IsJob j → (es : List Event) → legal j es → AreServed (reached j es) → IsLively (reached j es) }
 {}
 
-/// Schedule safety, of every legal list, where gathers, questions and clients are on their way after each of them.
+/// Schedule safety, of every legal list, where after each of them what each client waits for is known to it or on its way.
 pub fn schedules_are_safe()
-    ensures { (j : Job) → IsJob j → ((es : List Event) → legal j es → IsResponsive (reached j es)) → (es : List Event) → legal j es → Safe j es }
+    ensures { (j : Job) → IsJob j → ((es : List Event) → legal j es → AreServed (reached j es)) → (es : List Event) → legal j es → Safe j es }
+{}
+
+/// An ask that is open has its request or its answer under way; what a connected worker has asked the scheduler, and
+/// hasn't heard of, is under way; each worker that is named as a holder has joined; and a worker that is alive has a thread.
+pub fn what_is_asked_is_under_way()
+    ensures answered { (j : Job) → IsJob j → (es : List Event) → legal j es → IsAnswered (reached j es) }
+    ensures refreshing { (j : Job) → IsJob j → (es : List Event) → legal j es → IsRefreshing (reached j es) }
+    ensures named { (j : Job) → IsJob j → (es : List Event) → legal j es → AreNamed (reached j es) }
+    ensures threads { (j : Job) → IsJob j → (es : List Event) → legal j es → HaveThreads (reached j es) }
 {}
