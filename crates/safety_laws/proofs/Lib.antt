@@ -15,5 +15,6 @@ pub mod Answered
 pub mod Refreshing
 pub mod Named
 pub mod News
+pub mod Served
 pub mod Responsive
 pub mod Safety

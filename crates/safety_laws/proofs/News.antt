@@ -114,7 +114,7 @@ late-append k (x ∷ xs) ys = ap (λ o. either o (cond (is_news k x) (Some x) No
 
 -- ## What one event tells a client
 
-letters-append : (c : ℕ) (xs ys : List (ℕ × ToClient)) → letters c (xs ++ ys) ≡ letters c xs ++ letters c ys
+pub letters-append : (c : ℕ) (xs ys : List (ℕ × ToClient)) → letters c (xs ++ ys) ≡ letters c xs ++ letters c ys
 letters-append c [] ys = refl
 letters-append c (m ∷ ms) ys = pick (eqb m.0 c) (letters-append c ms ys)
   where
@@ -123,7 +123,7 @@ letters-append c (m ∷ ms) ys = pick (eqb m.0 c) (letters-append c ms ys)
     pick false e = e
 
 -- a message of another client, and of another key
-abbrev Told : Option (ℕ × ToClient) → Option ToClient
+abbrev pub Told : Option (ℕ × ToClient) → Option ToClient
 Told None = None
 Told (Some m) = Some m.1
 
@@ -196,7 +196,7 @@ module _ (t : Stages) (c : ℕ) where
       pick false e false m = ap (λ l. l ++ []) (no_letters x e (below n))
 
   -- the answer to a client that missed a copy
-  abbrev Reply : ℕ → Option (ℕ × ℕ) → Option ToClient
+  abbrev pub Reply : ℕ → Option (ℕ × ℕ) → Option ToClient
   Reply k None = None
   Reply k (Some p) = cond (held t.placed p.1 && not (list_any (tells_held p.0 p.1) (to_clients t))) (cond (eqb p.0 c && eqb p.1 k) (Some (KeyInMemory p.1 (holders t.placed p.1))) None) None
 
