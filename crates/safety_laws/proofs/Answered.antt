@@ -341,7 +341,7 @@ worker_gathers w i x n found h p q k = let g = gathered_closes (w.workers i) x n
     and_false false = refl
 
 -- a client
-gets_asks : (ks : List ℕ) (c : ClientFacts) → (fold client_gets c ks).asks ≡ c.asks
+pub gets_asks : (ks : List ℕ) (c : ClientFacts) → (fold client_gets c ks).asks ≡ c.asks
 gets_asks [] c = refl
 gets_asks (k ∷ ks) c = gets_asks ks (client_gets c k) ∙ one (c.wants k)
   where
@@ -349,7 +349,7 @@ gets_asks (k ∷ ks) c = gets_asks ks (client_gets c k) ∙ one (c.wants k)
     one true = refl
     one false = refl
 
-misses_asks : (is : List (ℕ × ℕ)) (c : ClientFacts) → (fold client_misses c is).asks ≡ c.asks
+pub misses_asks : (is : List (ℕ × ℕ)) (c : ClientFacts) → (fold client_misses c is).asks ≡ c.asks
 misses_asks [] c = refl
 misses_asks (i ∷ is) c = misses_asks is (client_misses c i)
 

@@ -16,5 +16,6 @@ pub mod Refreshing
 pub mod Named
 pub mod News
 pub mod Served
+pub mod Waiting
 pub mod Responsive
 pub mod Safety
