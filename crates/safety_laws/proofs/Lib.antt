@@ -17,5 +17,7 @@ pub mod Named
 pub mod News
 pub mod Served
 pub mod Waiting
+pub mod Clients
+pub mod ClientWorld
 pub mod Responsive
 pub mod Safety

@@ -226,7 +226,7 @@ all_missing p c (x ∷ xs) = pick (c.wants x.0) (all_missing p c xs)
     pick true r = r
     pick false r = r
 
-wants-append : (k : ℕ) (xs ys : List ClientMessage) (b : Bool) → wants_at_last k (xs ++ ys) b ≡ wants_at_last k ys (wants_at_last k xs b)
+pub wants-append : (k : ℕ) (xs ys : List ClientMessage) (b : Bool) → wants_at_last k (xs ++ ys) b ≡ wants_at_last k ys (wants_at_last k xs b)
 wants-append k [] ys b = refl
 wants-append k (x ∷ xs) ys b = wants-append k xs ys (wants_then k x b)
 
@@ -251,11 +251,11 @@ item_split k found (x ∷ xs) e = pick (is_in x.0 found) (or_cases (eqb x.0 k) (
 
 -- ## One event of the client
 
-record IsOwnTurn (k : ℕ) (c d : ClientFacts) (ms : List ClientMessage) : Type 0 where
-  want : wants_at_last k ms (c.wants k) ≡ d.wants k
-  wanted : d.wants k ≡ true → list_any (names_want k) ms ≡ false → c.wants k ≡ true
-  ended : d.wants k ≡ true → (c.got k || is_some (c.failed k)) ≡ true → (d.got k || is_some (d.failed k)) ≡ true
-  known : d.wants k ≡ true → (c.got k || (has_any (c.located k) || is_asked_for c.asks k)) ≡ true → (d.got k || (has_any (d.located k) || (is_asked_for d.asks k || list_any (misses k) ms))) ≡ true
+pub record IsOwnTurn (k : ℕ) (c d : ClientFacts) (ms : List ClientMessage) : Type 0 where
+  pub want : wants_at_last k ms (c.wants k) ≡ d.wants k
+  pub wanted : d.wants k ≡ true → list_any (names_want k) ms ≡ false → c.wants k ≡ true
+  pub ended : d.wants k ≡ true → (c.got k || is_some (c.failed k)) ≡ true → (d.got k || is_some (d.failed k)) ≡ true
+  pub known : d.wants k ≡ true → (c.got k || (has_any (c.located k) || is_asked_for c.asks k)) ≡ true → (d.got k || (has_any (d.located k) || (is_asked_for d.asks k || list_any (misses k) ms))) ≡ true
 
 no_more : (a b d : Bool) → (a || (b || d)) ≡ true → (a || (b || (d || false))) ≡ true
 no_more true b d e = refl
@@ -263,7 +263,7 @@ no_more false true d e = refl
 no_more false false true e = refl
 no_more false false false e = absurd (false≢true e)
 
-turn_want : (k : ℕ) (c : ClientFacts) (ks : List ℕ) → IsOwnTurn k c (client_wants c ks).facts (client_sends (client_wants c ks).out)
+pub turn_want : (k : ℕ) (c : ClientFacts) (ks : List ℕ) → IsOwnTurn k c (client_wants c ks).facts (client_sends (client_wants c ks).out)
 unfolding client_wants
 turn_want k c ks = record {
   want = refl;
@@ -277,7 +277,7 @@ turn_want k c ks = record {
     by false true w n = absurd (true≢false n)
     by false false w n = w
 
-turn_release : (k : ℕ) (c : ClientFacts) (ks : List ℕ) → IsOwnTurn k c (client_releases c ks).facts (client_sends (client_releases c ks).out)
+pub turn_release : (k : ℕ) (c : ClientFacts) (ks : List ℕ) → IsOwnTurn k c (client_releases c ks).facts (client_sends (client_releases c ks).out)
 unfolding client_releases
 turn_release k c ks = record {
   want = refl;
@@ -296,10 +296,10 @@ turn_release k c ks = record {
     known false n true l a e = refl
     known false n false l a e = no_more false (has_any l) a e
 
-turn_same : (k : ℕ) (c : ClientFacts) → IsOwnTurn k c c []
+pub turn_same : (k : ℕ) (c : ClientFacts) → IsOwnTurn k c c []
 turn_same k c = record { want = refl; wanted = λ w n. w; ended = λ w e. e; known = λ w e. no_more (c.got k) (has_any (c.located k)) (is_asked_for c.asks k) e }
 
-turn_ask : (k : ℕ) (c : ClientFacts) (p : ℕ) → IsOwnTurn k c (client_ask c p).facts (client_sends (client_ask c p).out)
+pub turn_ask : (k : ℕ) (c : ClientFacts) (p : ℕ) → IsOwnTurn k c (client_ask c p).facts (client_sends (client_ask c p).out)
 unfolding client_ask
 turn_ask k c p = record {
   want = refl;
@@ -317,7 +317,7 @@ turn_ask k c p = record {
     by false false true i e = ap (λ u. u || false) (asked_more k (record { peer = p; number = c.next_ask; items = ask_items c.shape (client_fetchable c p) }) c.asks i)
     by false false false i e = absurd (false≢true e)
 
-turn_gathered : (k : ℕ) (c : ClientFacts) (p n : ℕ) (found : List ℕ) → AreDistinct c.asks → IsOwnTurn k c (client_gathered c p n found).facts (client_sends (client_gathered c p n found).out)
+pub turn_gathered : (k : ℕ) (c : ClientFacts) (p n : ℕ) (found : List ℕ) → AreDistinct c.asks → IsOwnTurn k c (client_gathered c p n found).facts (client_sends (client_gathered c p n found).out)
 unfolding client_gathered
 turn_gathered k c p n found distinct = by_ask (ask_to c.asks p) refl
   where
