@@ -96,7 +96,7 @@ use Rattle.safety_laws.proofs.Clients.{served_own, served_hear}
 
 -- ## Who is asked
 
-distinct_with : (a : OpenAsk) (qs : List OpenAsk) → ask_to qs a.peer ≡ None → AreDistinct qs → AreDistinct (with_ask a qs)
+pub distinct_with : (a : OpenAsk) (qs : List OpenAsk) → ask_to qs a.peer ≡ None → AreDistinct qs → AreDistinct (with_ask a qs)
 distinct_with a [] n d = (refl, tt)
 distinct_with a (q ∷ qs) n d = pick (nat_lt a.peer q.peer) (eqb q.peer a.peer) refl n (λ m. distinct_with a qs m d.1)
   where
@@ -117,7 +117,7 @@ distinct_with a (q ∷ qs) n d = pick (nat_lt a.peer q.peer) (eqb q.peer a.peer)
     pick true false e m rest = (ap (λ u. cond u (Some q) (ask_to qs a.peer)) e ∙ m, d)
     pick false false e m rest = (other q.peer qs (eqb_comm a.peer q.peer ∙ e) d.0, rest m)
 
-distinct_without : (p : ℕ) (qs : List OpenAsk) → AreDistinct qs → AreDistinct (without_ask qs p)
+pub distinct_without : (p : ℕ) (qs : List OpenAsk) → AreDistinct qs → AreDistinct (without_ask qs p)
 distinct_without p [] d = tt
 distinct_without p (q ∷ qs) d = pick (eqb q.peer p) (distinct_without p qs d.1)
   where
@@ -137,7 +137,7 @@ distinct_without p (q ∷ qs) d = pick (eqb q.peer p) (distinct_without p qs d.1
     pick true r = r
     pick false r = (still q.peer qs d.0, r)
 
-distinct_same : (xs ys : List OpenAsk) → ys ≡ xs → AreDistinct xs → AreDistinct ys
+pub distinct_same : (xs ys : List OpenAsk) → ys ≡ xs → AreDistinct xs → AreDistinct ys
 distinct_same xs ys e d = subst AreDistinct (sym e) d
 
 -- ## The wants of an event
@@ -195,7 +195,7 @@ want_evicted : (f : Facts) (o : Option (ℕ × ℕ)) → (evicted f o).facts.wan
 want_evicted f None = refl
 want_evicted f (Some p) = refl
 
-abbrev NoLetter : SchedEvent → Type 0
+abbrev pub NoLetter : SchedEvent → Type 0
 NoLetter (FromClient c m) = ⊥
 NoLetter s = Unit {0}
 
@@ -208,7 +208,7 @@ want_change f (FromClient c m) o = absurd o
 want_change f BalanceSched o = want_balanced f (next_steal f)
 want_change f EvictSched o = want_evicted f (next_drop f)
 
-turn_quiet : (w v : World) (s : SchedEvent) (c k : ℕ) → NoLetter s → v.from_client c ≡ w.from_client c → IsTurn w v s c k
+pub turn_quiet : (w v : World) (s : SchedEvent) (c k : ℕ) → NoLetter s → v.from_client c ≡ w.from_client c → IsTurn w v s c k
 turn_quiet w v s c k o from = record {
   want = ap (λ b. wants_at_last k (w.from_client c) b) (sym same) ∙ ap (λ l. wants_at_last k l ((sched_step w.sched s).facts.want c k)) (sym from);
   grown = λ e a. sym same ∙ e;
@@ -259,7 +259,7 @@ missed_reply f x (MissingMessage q p n) k e = ap (λ y. Some (x, y)) (eqb-true q
 missed_reply f x (WantMessage ks) k e = absurd (false≢true e)
 missed_reply f x (ReleaseMessage ks) k e = absurd (false≢true e)
 
-turn_letter : (w : World) (x : ℕ) (m : ClientMessage) (ms : List ClientMessage) (c k : ℕ) → w.from_client x ≡ m ∷ ms → IsTurn w (record w { from_client = put w.from_client x ms }) (FromClient x m) c k
+pub turn_letter : (w : World) (x : ℕ) (m : ClientMessage) (ms : List ClientMessage) (c k : ℕ) → w.from_client x ≡ m ∷ ms → IsTurn w (record w { from_client = put w.from_client x ms }) (FromClient x m) c k
 unfolding settle
 turn_letter w x m ms c k e = pick (eqb c x) refl
   where

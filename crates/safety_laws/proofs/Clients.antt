@@ -147,7 +147,7 @@ hears_known c k (ClientTaskErred q x) e = pick (c.wants q && not (c.got q))
     pick true = (ap (λ b. cond b [] (c.located k)) (eqb_comm k q ∙ e), (ap (λ b. cond b (Some x) (c.failed k)) (eqb_comm k q ∙ e), refl))
     pick false = (refl, (refl, refl))
 
-hears_same : (c : ClientFacts) (m : ToClient) → ((hear c m).wants ≡ c.wants) × ((hear c m).asks ≡ c.asks)
+pub hears_same : (c : ClientFacts) (m : ToClient) → ((hear c m).wants ≡ c.wants) × ((hear c m).asks ≡ c.asks)
 unfolding hear
 hears_same c (KeyInMemory q hs) = pick (c.wants q && not (c.got q))
   where

@@ -19,5 +19,6 @@ pub mod Served
 pub mod Waiting
 pub mod Clients
 pub mod ClientWorld
+pub mod WorldServed
 pub mod Responsive
 pub mod Safety
