@@ -1,17 +1,20 @@
 -- What is asked is under way, after every legal list.
-use Rattle.std.proofs.Common.{◌≡◌, ℕ, Bool, true, false, List, [], ◌∷◌, Some, None}
-use Rattle.std.proofs.lemmas.Bool.{false≢true}
+use Rattle.std.proofs.Common.{◌≡◌, ℕ, ◌&&◌, Bool, true, false, List, [], ◌∷◌, Some, None, refl, subst}
+use Rattle.std.proofs.lemmas.Bool.{false≢true, and_parts, leb-true}
 use Rattle.cluster_msgs.specs.declared.events.Asker.{Asker}
 use Rattle.cluster_msgs.specs.declared.events.Asker.TheVariants.{Worker, Client}
 use Rattle.cluster_msgs.specs.declared.events.Event.{Event}
 use Rattle.cluster_rules.specs.Worker.{Ask}
-use Rattle.cluster_rules.specs.World.{Job, IsJob, World, opening, is_asker, open_ask}
+use Rattle.cluster_rules.specs.World.{Job, IsJob, World, opening, is_client, is_asker, open_ask}
 use Rattle.cluster_rules.specs.WorldStep.{world_step}
 use Rattle.cluster_rules.specs.Enabled.{enabled}
 use Rattle.cluster_rules.specs.Runs.{LegalFrom, legal, run_from, reached, IsLively}
 use Rattle.safety_laws.specs.Lively.{IsAnswered, IsRefreshing, AreNamed, HaveThreads, AreServed}
-use Rattle.safety_laws.proofs.Joint.{IsJoint, joint_step, joint_opening}
-use Rattle.safety_laws.proofs.Answered.{answered_step}
+use Rattle.safety_laws.proofs.Joint.{IsJoint, joint_step, joint_opening, takes}
+use Rattle.safety_laws.proofs.Answered.{answered_step, clients_same}
+use Rattle.safety_laws.proofs.WorldServed.{AsksDiffer, differ_step, served_step}
+use Rattle.cluster_rules.specs.Sched.{Setting}
+use Rattle.std.specs.Prelude.{nat_le}
 use Rattle.safety_laws.proofs.Refreshing.{refreshing_step}
 use Rattle.safety_laws.proofs.Named.{named_step}
 use Rattle.safety_laws.proofs.Threads.{threaded_step}
@@ -23,6 +26,8 @@ pub record IsResponsive (j : Job) (w : World) : Type 0 where
   pub refreshing : IsRefreshing w
   pub named : AreNamed w
   pub threads : HaveThreads w
+  pub differ : AsksDiffer w
+  pub served : AreServed w
 
 module _ (j : Job) (job : IsJob j) where
   responsive_step : (w : World) (e : Event) → enabled w e ≡ true → IsResponsive j w → IsResponsive j (world_step j w e)
@@ -32,7 +37,14 @@ module _ (j : Job) (job : IsJob j) where
     refreshing = λ i k a c q. refreshing_step j w h.joint.inside h.joint.sound h.joint.home h.refreshing i k e t a c q;
     named = named_step j w e t h.named;
     threads = threaded_step j w e t h.threads;
+    differ = differ_step j w e t h.differ;
+    served = λ c k u. let u0 = client_before c u in let p = and_parts (nat_le 1 c) (nat_le c w.sched.setting.clients) u0 in
+        served_step w h.joint.sound h.differ c k (leb-true 1 c p.0) (leb-true c w.sched.setting.clients p.1) (h.served c k u0) j e (takes j job w e t h.joint);
   }
+
+    where
+      client_before : (c : ℕ) → is_client (world_step j w e) c ≡ true → is_client w c ≡ true
+      client_before c u = subst (λ (x : Setting). (nat_le 1 c && nat_le c x.clients) ≡ true) (clients_same j w e) u
 
   none_ask : (q : Ask) → None ≡ Some q → ⊥
   none_ask q e = cc
@@ -44,6 +56,14 @@ module _ (j : Job) (job : IsJob j) where
     refreshing = λ i k a c q. absurd (false≢true a);
     named = record { holders = λ i k. tt; asks = λ i. tt; located = λ c k. tt; client_asks = λ c. tt; down = λ i. tt; news = λ c. tt };
     threads = λ i a. absurd (false≢true a);
+    differ = λ c. tt;
+    served = λ c k u. record {
+      want = refl;
+      held_told = λ e n q. absurd (false≢true e);
+      erred_told = λ e n q. absurd (false≢true e);
+      erred_known = λ e u q n m. absurd (false≢true e);
+      held_known = λ e u q n m. absurd (false≢true e);
+    };
   }
     where
       none : IsAnswered (opening j)
@@ -57,5 +77,5 @@ module _ (j : Job) (job : IsJob j) where
   pub responsive_after : (es : List Event) → legal j es → IsResponsive j (reached j es)
   responsive_after es l = responsive_from (opening j) es l responsive_opening
 
-pub lively_after : (j : Job) → IsJob j → (es : List Event) → legal j es → AreServed (reached j es) → IsLively (reached j es)
-lively_after j job es l served = let r = responsive_after j job es l in lively j (reached j es) r.joint r.answered r.refreshing r.named r.threads served
+pub lively_after : (j : Job) → IsJob j → (es : List Event) → legal j es → IsLively (reached j es)
+lively_after j job es l = let r = responsive_after j job es l in lively j (reached j es) r.joint r.answered r.refreshing r.named r.threads r.served

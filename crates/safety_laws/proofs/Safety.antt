@@ -3,7 +3,6 @@ use Rattle.std.proofs.Common.{◌≡◌, ℕ, List, ◌++◌, refl, subst}
 use Rattle.cluster_msgs.specs.declared.events.Event.{Event}
 use Rattle.cluster_rules.specs.World.{Job, IsJob, opening, Drained}
 use Rattle.cluster_rules.specs.Runs.{legal, reached, OnlyKnown, Agrees, IsLively, Safe}
-use Rattle.safety_laws.specs.Lively.{AreServed}
 use Rattle.safety_laws.proofs.Joint.{joint_after, only_known, drained_agrees}
 use Rattle.safety_laws.proofs.Attempts.{legal_first}
 use Rattle.safety_laws.proofs.Unstarted.{one_attempt}
@@ -15,12 +14,12 @@ known_after j job es l = only_known (reached j es).sched (joint_after j job es l
 pub agrees_after : (j : Job) → IsJob j → (es : List Event) → legal j es → (i : ℕ) → Drained (reached j es) i → Agrees (reached j es) i
 agrees_after j job es l i d = drained_agrees j (reached j es) (joint_after j job es l) i d
 
-pub safe : (j : Job) → IsJob j → ((es : List Event) → legal j es → AreServed (reached j es)) → (es : List Event) → legal j es → Safe j es
-safe j job served es l = record {
+pub safe : (j : Job) → IsJob j → (es : List Event) → legal j es → Safe j es
+safe j job es l = record {
   attempts = one_attempt j job es l;
   known = λ fs gs e. known_after j job fs (first fs gs e);
   agrees = λ fs gs i e d. agrees_after j job fs (first fs gs e) i d;
-  lively = λ fs gs e. lively_after j job fs (first fs gs e) (served fs (first fs gs e));
+  lively = λ fs gs e. lively_after j job fs (first fs gs e);
 }
   where
     first : (fs gs : List Event) → es ≡ fs ++ gs → legal j fs

@@ -28,22 +28,23 @@ pub fn drained_workers_agree()
     ensures { (j : Job) → IsJob j → (es : List Event) → legal j es → (i : ℕ) → Drained (reached j es) i → Agrees (reached j es) i }
 {}
 
-/// While a client waits for a key and a worker is alive and connected, some progress event is enabled: where what each
-/// client waits for is known to it or on its way.
+/// While a client waits for a key and a worker is alive and connected, some progress event is enabled.
 pub fn some_progress_is_enabled()
-    ensures { (j : Job) → IsJob j → (es : List Event) → legal j es → AreServed (reached j es) → IsLively (reached j es) }
+    ensures { (j : Job) → IsJob j → (es : List Event) → legal j es → IsLively (reached j es) }
 {}
 
-/// Schedule safety, of every legal list, where after each of them what each client waits for is known to it or on its way.
+/// Schedule safety: each of the four holds of every legal list.
 pub fn schedules_are_safe()
-    ensures { (j : Job) → IsJob j → ((es : List Event) → legal j es → AreServed (reached j es)) → (es : List Event) → legal j es → Safe j es }
+    ensures { (j : Job) → IsJob j → (es : List Event) → legal j es → Safe j es }
 {}
 
 /// An ask that is open has its request or its answer under way; what a connected worker has asked the scheduler, and
-/// hasn't heard of, is under way; each worker that is named as a holder has joined; and a worker that is alive has a thread.
+/// hasn't heard of, is under way; each worker that is named as a holder has joined; a worker that is alive has a thread; and
+/// what each client waits for is known to it or on its way.
 pub fn what_is_asked_is_under_way()
     ensures answered { (j : Job) → IsJob j → (es : List Event) → legal j es → IsAnswered (reached j es) }
     ensures refreshing { (j : Job) → IsJob j → (es : List Event) → legal j es → IsRefreshing (reached j es) }
     ensures named { (j : Job) → IsJob j → (es : List Event) → legal j es → AreNamed (reached j es) }
     ensures threads { (j : Job) → IsJob j → (es : List Event) → legal j es → HaveThreads (reached j es) }
+    ensures served { (j : Job) → IsJob j → (es : List Event) → legal j es → AreServed (reached j es) }
 {}

@@ -12,3 +12,6 @@ returns-clause-named c j job es l = (responsive_after j job es l).named
 
 pub returns-clause-threads : goal.returns-clause-threads
 returns-clause-threads c j job es l = (responsive_after j job es l).threads
+
+pub returns-clause-served : goal.returns-clause-served
+returns-clause-served c j job es l = (responsive_after j job es l).served
