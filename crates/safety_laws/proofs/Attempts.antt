@@ -1,16 +1,14 @@
 -- A key gets another attempt only once the earlier one has ended.
-use Rattle.std.proofs.Common.{◌≡◌, ℕ, ◌+◌, ◌<◌, ◌≤◌, Bool, true, false, List, [], ◌∷◌, ◌++◌, Option, Some, None, refl, sym, ap, ◌∙◌, subst, arith, inl, inr, ◌⊎◌, append_assoc}
+use Rattle.std.proofs.Common.{◌≡◌, ℕ, ◌<◌, ◌≤◌, true, List, [], ◌∷◌, ◌++◌, Option, Some, None, refl, sym, ap, ◌∙◌, subst, arith, inl, inr, ◌⊎◌, append_assoc}
 use Rattle.cluster_msgs.specs.declared.cores.SchedEvent.{SchedEvent}
 use Rattle.cluster_msgs.specs.declared.events.Event.{Event}
-use Rattle.cluster_rules.specs.Sched.{Facts, IsSound}
+use Rattle.cluster_rules.specs.Sched.{Facts}
 use Rattle.cluster_rules.specs.SchedTable.{sched_takes}
-use Rattle.cluster_rules.specs.SchedStep.{sched_step}
 use Rattle.cluster_rules.specs.World.{Job, IsJob, World, opening}
 use Rattle.cluster_rules.specs.WorldStep.{world_step}
 use Rattle.cluster_rules.specs.Enabled.{enabled}
 use Rattle.cluster_rules.specs.Runs.{LegalFrom, legal, run_from, reached, sched_event, ends_in, Gives, Ended}
 use Rattle.scheduler_laws.proofs.Attempts.{attempts_end}
-use Rattle.pair_moves.specs.Projection.{IsNumbered}
 use Rattle.safety_laws.proofs.Turns.{sched_after, sched_is}
 use Rattle.safety_laws.proofs.Joint.{IsJoint, takes, joint_step, joint_from, joint_after}
 

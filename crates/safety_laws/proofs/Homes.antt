@@ -1,7 +1,7 @@
 -- Who is there, and what each worker keeps, after every event of the world.
-use Rattle.std.proofs.Common.{◌≡◌, ℕ, ◌+◌, ◌<◌, ◌≤◌, Bool, true, false, cond, not, ◌&&◌, find, List, [], ◌∷◌, ◌++◌, Option, Some, None, refl, sym, ap, ◌∙◌, subst, arith, is_some, inl, inr, ◌⊎◌, ⊎_elim}
-use Rattle.std.specs.Prelude.{nat_le, nat_lt}
-use Rattle.std.specs.List.{list_all, AllByRecursion}
+use Rattle.std.proofs.Common.{◌≡◌, ℕ, ◌+◌, ◌<◌, ◌≤◌, Bool, true, false, cond, not, ◌&&◌, find, List, [], ◌∷◌, ◌++◌, Option, Some, None, refl, sym, ap, ◌∙◌, subst, arith, is_some, inl, inr, ◌⊎◌}
+use Rattle.std.specs.Prelude.{nat_le}
+use Rattle.std.specs.List.{AllByRecursion}
 use Rattle.std.proofs.lemmas.Bool.{true≢false, false≢true, eqb-true, and_parts, and_from}
 use Rattle.std.proofs.lemmas.Bool.Decides.{nat_tests}
 use Rattle.std.proofs.Math.Dec.{eqb}
@@ -28,16 +28,16 @@ use Rattle.cluster_rules.specs.Truth.{IsTrueWorld}
 use Rattle.cluster_rules.proofs.SchedFrame.{step_settles}
 use Rattle.cluster_rules.proofs.SoundStep.{sound_step}
 use Rattle.pair_moves.proofs.Framed.{change_framed}
-use Rattle.cluster_rules.specs.Worker.{Ask, WorkerFacts, new_worker, has_any, would_ask, would_start, ask_to}
+use Rattle.cluster_rules.specs.Worker.{Ask, new_worker, has_any, would_start}
 use Rattle.cluster_rules.specs.WorkerStep.{worker_step, worker_takes}
-use Rattle.cluster_rules.specs.WorkerKept.{KeyKept, KeptAt, KeysKept, IsKept}
+use Rattle.cluster_rules.specs.WorkerKept.{IsKept}
 use Rattle.cluster_rules.specs.Client.{client_step}
 use Rattle.cluster_rules.specs.World.{Job, World, Parcel, opening, shape_of, is_connected, is_client, is_asker, open_ask, is_parcel, parcel_of, without_parcel, same_asker}
-use Rattle.cluster_rules.specs.WorldStep.{sends, scheduled, worked, client_worked, client_sends, at_scheduler, at_worker, at_client, new_at, died, cut_off, take_down_first, take_up, take_up_first, take_to_client, take_from_client, ask_by, gathered_at, failed_at, serve, take_answer, fail_ask, spill, world_step}
+use Rattle.cluster_rules.specs.WorldStep.{sends, scheduled, worked, client_worked, client_sends, at_scheduler, at_worker, at_client, new_at, died, cut_off, take_down_first, take_up, take_up_first, take_to_client, take_from_client, ask_by, gathered_at, serve, take_answer, fail_ask, spill, world_step}
 use Rattle.cluster_rules.specs.Enabled.{enabled, may_ask, are_named}
-use Rattle.cluster_rules.specs.Inside.{IsKey, AreKeys, down_keys, IsInsideWorld}
+use Rattle.cluster_rules.specs.Inside.{AreKeys, down_keys, IsInsideWorld}
 use Rattle.cluster_rules.proofs.InsideSched.{all_found}
-use Rattle.cluster_rules.proofs.WorkerLemmas.{at_one, kept_at_first, kept_by_event, find_passes}
+use Rattle.cluster_rules.proofs.WorkerLemmas.{at_one, kept_at_first, kept_by_event}
 use Rattle.safety_laws.proofs.Turns.{down_there, key_there, keys_there, up_taken, letter_taken, nothing_posted}
 use Rattle.safety_laws.proofs.Mine.{mine_inside}
 

@@ -1,16 +1,14 @@
 -- What holds of the world after every legal list of events.
-use Rattle.std.proofs.Common.{◌≡◌, ℕ, ◌+◌, ◌<◌, ◌≤◌, Bool, true, false, cond, ◌&&◌, List, [], ◌∷◌, ◌++◌, Option, Some, None, refl, sym, ap, ◌∙◌, subst, arith, is_some, ⊎_elim}
+use Rattle.std.proofs.Common.{◌≡◌, ℕ, ◌<◌, ◌≤◌, Bool, true, false, cond, ◌&&◌, List, [], ◌∷◌, Option, Some, None, refl, sym, ap, ◌∙◌, subst, arith, is_some, ⊎_elim}
 use Rattle.std.specs.Prelude.{◌↔◌}
 use Rattle.std.proofs.lemmas.Bool.{true≢false, false≢true, eqb-true, ltb-true, cases_lt}
 use Rattle.std.proofs.Math.Dec.{eqb}
 use Rattle.cluster_msgs.specs.Shape.{Shape, key_count}
 use Rattle.cluster_msgs.specs.declared.cores.SchedEvent.{SchedEvent}
 use Rattle.cluster_msgs.specs.declared.events.Event.{Event}
-use Rattle.cluster_rules.specs.Sched.{Facts, IsSound, keys, holds, held, known, need, ready, open_key, fed, connected, sched_opening}
+use Rattle.cluster_rules.specs.Sched.{Facts, IsSound, holds, need, ready, open_key, fed}
 use Rattle.cluster_rules.specs.SchedTable.{sched_takes}
-use Rattle.cluster_rules.specs.SchedStep.{sched_step}
-use Rattle.cluster_rules.specs.Worker.{has_any}
-use Rattle.cluster_rules.specs.World.{Job, IsJob, World, opening, shape_of, is_connected, is_client, Drained}
+use Rattle.cluster_rules.specs.World.{Job, IsJob, World, opening, shape_of, Drained}
 use Rattle.cluster_rules.specs.WorldStep.{world_step}
 use Rattle.cluster_rules.specs.Enabled.{enabled}
 use Rattle.cluster_rules.specs.Inside.{IsInsideWorld}

@@ -1,26 +1,24 @@
 -- Where a client waits for a key, and a worker is alive and connected, some progress event is enabled.
-use Rattle.std.proofs.Common.{◌≡◌, ℕ, zero, suc, ◌+◌, ◌*◌, ◌<◌, ◌≤◌, Bool, true, false, cond, not, ◌&&◌, ◌||◌, List, [], ◌∷◌, ◌++◌, Option, Some, None, refl, sym, ap, ◌∙◌, subst, arith, is_some, is_none, find, filter, inl, inr, ◌⊎◌, ⊎_elim}
+use Rattle.std.proofs.Common.{◌≡◌, ℕ, zero, suc, ◌+◌, ◌*◌, ◌<◌, ◌≤◌, Bool, true, false, cond, not, ◌&&◌, ◌||◌, List, [], ◌∷◌, Option, Some, None, refl, sym, ap, ◌∙◌, subst, arith, is_some, is_none, find, filter, inl, inr, ◌⊎◌, ⊎_elim}
 use Rattle.std.specs.Prelude.{nat_lt, nat_le, unwrap_or}
 use Rattle.std.specs.List.{list_any, list_all, filter_map, cons_option, AllByRecursion}
 use Rattle.std.specs.Option.{option_map}
 use Rattle.std.proofs.lemmas.Bool.{true≢false, false≢true, eqb-true, and_parts, and_from, or_cases, ltb-true, lt-ltb, leb-true, cases_lt}
 use Rattle.std.proofs.Math.Dec.{eqb}
-use Rattle.cluster_msgs.specs.Shape.{Shape, IsShape, key_count, deps_of}
+use Rattle.cluster_msgs.specs.Shape.{Shape, key_count, deps_of}
 use Rattle.cluster_msgs.specs.declared.events.Asker.{Asker}
 use Rattle.cluster_msgs.specs.declared.events.Asker.TheVariants.{Worker, Client}
-use Rattle.cluster_msgs.specs.declared.events.Event.TheVariants.{SeeLoss, DeliverDown, DeliverUp, DeliverToClient, DeliverFromClient, Start, Finish, SendGather, ServeGather, ArriveGather, FailGather}
-use Rattle.cluster_rules.specs.Functions.{total, count, from_one}
+use Rattle.cluster_msgs.specs.declared.events.Event.TheVariants.{ServeGather, ArriveGather, FailGather}
+use Rattle.cluster_rules.specs.Functions.{count, from_one}
 use Rattle.cluster_rules.specs.Derived.{below, is_in, reach}
-use Rattle.cluster_rules.specs.Sched.{Facts, IsSound, keys, deps, holds, held, erred, wanted, need, ready, fed, open_key, connected, workers, is_on, is_for, full, tasks, threads_of}
-use Rattle.cluster_rules.specs.Policies.{place, candidates, candidates_by, or_else}
-use Rattle.cluster_rules.specs.Worker.{Ask, WorkerFacts, worker_keys, flying, pending, awaited, is_wanted, is_fed, wstate, has_any, is_ready_state, is_fetch_state, is_missing_state, running_count, would_start, fetchable, copy_at, item_at, ask_to, would_ask, is_asked_for, names_key}
-use Rattle.cluster_rules.specs.WorkerKept.{IsKept}
+use Rattle.cluster_rules.specs.Sched.{Facts, keys, deps, holds, held, erred, wanted, need, ready, fed, open_key, connected, workers, is_for, full, threads_of}
+use Rattle.cluster_rules.specs.Policies.{candidates, candidates_by, or_else}
+use Rattle.cluster_rules.specs.Worker.{Ask, WorkerFacts, worker_keys, flying, pending, awaited, is_wanted, is_fed, wstate, has_any, is_ready_state, is_fetch_state, is_missing_state, running_count, would_start, fetchable, item_at, ask_to, would_ask, is_asked_for}
 use Rattle.cluster_rules.specs.Client.{ClientFacts, client_keys, is_unfinished, is_open, client_fetchable, client_would_ask}
 use Rattle.cluster_rules.specs.World.{Job, World, Parcel, shape_of, is_connected, is_client, is_asker, open_ask, is_parcel, parcel_of, same_asker, unfinished, Drained}
-use Rattle.cluster_rules.specs.Enabled.{enabled, may_ask, is_quiet_asker, progress}
+use Rattle.cluster_rules.specs.Enabled.{enabled, is_quiet_asker, progress}
 use Rattle.cluster_rules.specs.WorldFrame.{NothingMoves}
-use Rattle.cluster_rules.specs.Inside.{IsInsideWorld}
-use Rattle.cluster_rules.specs.Runs.{IsLively, Agrees}
+use Rattle.cluster_rules.specs.Runs.{IsLively}
 use Rattle.cluster_msgs.specs.declared.messages.FromClient.{FromClient as ClientMessage}
 use Rattle.cluster_rules.proofs.DerivedLemmas.{reach-is}
 use Rattle.cluster_rules.proofs.SchedLemmas.{erred-is, need-past}
@@ -29,7 +27,6 @@ use Rattle.cluster_rules.proofs.NothingLemmas.{full-nowhere}
 use Rattle.cluster_rules.proofs.InsideSched.{all_found}
 use Rattle.cluster_rules.proofs.WorldLemmas.{nothing_moves}
 use Rattle.cluster_rules.proofs.WorkerLemmas.{filter_in, range_in, ready_state-is, fetch_state-is, missing_state-is}
-use Rattle.scheduler_laws.specs.Settled.{IsSettled}
 use Rattle.scheduler_laws.proofs.Placed.{no_candidates}
 use Rattle.scheduler_laws.proofs.Fewer.{reach_next}
 use Rattle.safety_laws.specs.Lively.{IsAnswered, IsRefreshing, questions, refreshes, IsNumber, AreNumbers, AreNamed, AreServed, IsServed, HaveThreads, wants_at_last, names_want, misses, is_news}

@@ -1,5 +1,5 @@
 -- A worker has no task of a key that isn't there.
-use Rattle.std.proofs.Common.{◌≡◌, ℕ, ◌+◌, ◌<◌, ◌≤◌, Bool, true, false, cond, ◌&&◌, List, [], ◌∷◌, ◌++◌, Option, Some, None, refl, sym, ap, ◌∙◌, arith}
+use Rattle.std.proofs.Common.{◌≡◌, ℕ, ◌+◌, ◌<◌, ◌≤◌, Bool, true, false, cond, ◌&&◌, List, [], ◌∷◌, Option, None, refl, arith}
 use Rattle.std.proofs.lemmas.Bool.{true≢false, ltb-true, and_parts}
 use Rattle.std.proofs.lemmas.Bool.Decides.{nat_tests}
 use Rattle.std.proofs.Math.Dec.{eqb}
@@ -12,7 +12,7 @@ use Rattle.cluster_rules.specs.Derived.{is_in}
 use Rattle.cluster_rules.specs.Worker.{WorkerFacts}
 use Rattle.cluster_rules.specs.WorkerStep.{worker_step, is_key, takes_down, are_named, worker_takes}
 use Rattle.pair_machine.specs.Pair.{Note, Task, Free, Remove, Ask, Other, is_at, Pair}
-use Rattle.pair_machine.specs.Moves.{take, take_note, take_remove, take_ask, opening}
+use Rattle.pair_machine.specs.Moves.{take_note, take_remove, take_ask, opening}
 use Rattle.pair_moves.specs.Projection.{note_of}
 use Rattle.pair_moves.proofs.WorkerMoves.{IsClosed, own_keeps, told_keeps, IsOwn}
 

@@ -1,6 +1,6 @@
 -- Each worker that is named as a holder, or asked, has a number that was given.
-use Rattle.std.proofs.Common.{◌≡◌, ℕ, ◌+◌, ◌<◌, ◌≤◌, Bool, true, false, cond, not, ◌&&◌, ◌||◌, List, [], ◌∷◌, ◌++◌, Option, Some, None, refl, sym, ap, ◌∙◌, subst, arith, is_some, is_none, find, zero, suc, filter, fold, inl, inr, ◌⊎◌, ⊎_elim}
-use Rattle.std.proofs.lemmas.Bool.{true≢false, false≢true, eqb-true}
+use Rattle.std.proofs.Common.{◌≡◌, ℕ, ◌+◌, ◌≤◌, Bool, true, false, cond, not, ◌&&◌, List, [], ◌∷◌, ◌++◌, Option, Some, None, refl, sym, ap, subst, arith, is_some, is_none, find, zero, suc, filter, fold}
+use Rattle.std.proofs.lemmas.Bool.{false≢true, eqb-true}
 use Rattle.std.proofs.Math.Dec.{eqb}
 use Rattle.cluster_msgs.specs.declared.messages.Down.{Down}
 use Rattle.cluster_msgs.specs.declared.messages.Down.TheVariants.{ComputeTask, FreeKeys, StealRequest, RemoveReplicas, AcquireReplicas, RefreshWhoHas}
@@ -11,8 +11,7 @@ use Rattle.cluster_msgs.specs.declared.cores.WorkerEvent.TheVariants.{Down as To
 use Rattle.cluster_rules.specs.Functions.{put}
 use Rattle.cluster_rules.specs.Derived.{is_in}
 use Rattle.cluster_rules.specs.Worker.{Ask as OpenAsk, WorkerFacts, awaited, is_wanted, wstate, is_missing_state, would_start, ask_to, without_ask}
-use Rattle.cluster_rules.specs.WorkerStep.{WorkerStep, quiet, after_out, each_key, taken, set_holders, into_mem, give_up, given, free_key, yields, asked_back, remove_replica, remove_replicas, acquire, refresh, take_down, start, Arrivals, arrive_as, arrive, counted, arrived, stopped, erred_as, done, keys_of, ask_peer, lose_holders, not_found, answered_ask, gathered_by, gathered, lose_data, worker_row, seek_missing, worker_step, worker_takes}
-use Rattle.cluster_rules.proofs.SchedFrame.{same_eqb}
+use Rattle.cluster_rules.specs.WorkerStep.{WorkerStep, quiet, after_out, each_key, taken, set_holders, into_mem, give_up, given, free_key, yields, asked_back, remove_replica, remove_replicas, acquire, refresh, take_down, start, Arrivals, arrive_as, arrive, arrived, stopped, erred_as, done, keys_of, ask_peer, lose_holders, not_found, answered_ask, gathered_by, gathered, worker_row, worker_step}
 use Rattle.cluster_msgs.specs.declared.messages.Up.{Up}
 use Rattle.cluster_msgs.specs.declared.messages.ToClient.{ToClient}
 use Rattle.cluster_msgs.specs.declared.messages.FromClient.{FromClient as ClientMessage}
@@ -24,14 +23,13 @@ use Rattle.cluster_msgs.specs.declared.events.Asker.{Asker}
 use Rattle.cluster_msgs.specs.declared.events.Asker.TheVariants.{Worker, Client}
 use Rattle.cluster_msgs.specs.declared.events.Event.{Event}
 use Rattle.cluster_msgs.specs.declared.events.Event.TheVariants.{Want, Release, Join, Lose, SeeLoss, Suspect, DeliverDown, DeliverUp, DeliverToClient, DeliverFromClient, Start, Finish, SendGather, ServeGather, ArriveGather, FailGather, Balance, Evict, Spill, LoseSpilled}
-use Rattle.cluster_rules.specs.World.{Job, World, Parcel, opening, shape_of, is_connected, is_client, is_asker, open_ask, is_parcel, parcel_of, without_parcel}
-use Rattle.cluster_rules.specs.WorldStep.{sends, scheduled, worked, client_worked, at_scheduler, at_worker, at_client, new_at, died, cut_off, take_down_first, take_up, take_up_first, take_to_client, take_from_client, ask_by, gathered_at, failed_at, serve, take_answer, fail_ask, world_step}
+use Rattle.cluster_rules.specs.World.{Job, World, Parcel, shape_of, is_connected, is_asker, open_ask, parcel_of, without_parcel}
+use Rattle.cluster_rules.specs.WorldStep.{scheduled, worked, client_worked, at_scheduler, at_worker, at_client, new_at, died, cut_off, take_down_first, take_up, take_up_first, take_to_client, take_from_client, ask_by, gathered_at, serve, take_answer, fail_ask, world_step}
 use Rattle.cluster_rules.specs.Enabled.{enabled, may_ask}
 use Rattle.std.specs.Prelude.{nat_le}
 use Rattle.cluster_rules.specs.Worker.{new_worker}
-use Rattle.cluster_rules.specs.SchedTable.{sched_takes}
 use Rattle.cluster_rules.proofs.WorkerLemmas.{at_one}
-use Rattle.std.proofs.lemmas.Bool.{and_parts, leb-true}
+use Rattle.std.proofs.lemmas.Bool.{and_parts}
 use Rattle.std.specs.List.{list_any, filter_map, flat_map, cons_option, range_with_len, AllByRecursion}
 use Rattle.std.specs.Option.{option_map}
 use Rattle.std.specs.Prelude.{nat_lt}
@@ -43,18 +41,16 @@ use Rattle.cluster_rules.specs.Functions.{from_one, put_pair}
 use Rattle.cluster_rules.specs.Derived.{below}
 use Rattle.cluster_rules.specs.Sched.{Facts, keys, deps, held, erred, blame, holders, who_has, workers}
 use Rattle.cluster_rules.specs.Policies.{next_steal, next_drop}
-use Rattle.cluster_rules.specs.SchedTable.{Changed, plain, change, change_up, change_client, add_keys, is_copy, lost_copy, ask_message, balanced, evicted}
+use Rattle.cluster_rules.specs.SchedTable.{Changed, plain, change, is_copy, lost_copy, ask_message, balanced, evicted}
 use Rattle.cluster_rules.specs.SchedStep.{Stages, sched_step, settle, finish_step, posted, mail, to_worker, free_message, lost_keys, task_message, task_messages, down_messages, client_message, was_held, was_erred, to_clients, reply_message, client_messages, tells_held}
-use Rattle.cluster_rules.specs.Worker.{with_ask, has_any, fetchable, item_at, copy_at, ask_items, would_ask}
-use Rattle.cluster_rules.specs.WorkerStep.{others, ask_with, report_missing}
-use Rattle.cluster_rules.specs.WorldStep.{letters, spill}
-use Rattle.cluster_rules.specs.Client.{ClientFacts, hears, hear, client_gets, client_misses, client_answered, client_gathered_by, client_gathered, keeps_still, client_wants, client_releases, client_fetchable, client_ask, client_ask_with, client_would_ask, client_step}
+use Rattle.cluster_rules.specs.Worker.{with_ask, has_any, fetchable, item_at, would_ask}
+use Rattle.cluster_rules.specs.WorkerStep.{others}
+use Rattle.cluster_rules.specs.WorldStep.{letters}
+use Rattle.cluster_rules.specs.Client.{ClientFacts, hear, client_gets, client_misses, client_answered, client_gathered_by, client_gathered, keeps_still, client_wants, client_releases, client_fetchable, client_ask, client_would_ask, client_step}
 use Rattle.cluster_rules.proofs.TruthWorker.{all_append}
 use Rattle.cluster_rules.proofs.InsideWorker.{all_filter_in, all_map_in}
 use Rattle.cluster_rules.proofs.InsideSched.{all_flat_map_in, all_always, all_weaken, all_found}
-use Rattle.cluster_rules.proofs.SchedFrame.{step_settles}
 use Rattle.pair_moves.proofs.HoldRows.{left_plain}
-use Rattle.pair_moves.proofs.Framed.{change_framed}
 use Rattle.safety_laws.specs.Lively.{IsNumber, AreNumbers, AreHolders, AreNumbersDown, AreNumbersNews, AreNamed}
 use Rattle.safety_laws.proofs.Homes.{find_passes_any, last_more}
 

@@ -1,11 +1,9 @@
 -- What holds of each pair of a worker and a key holds after every event of the world.
-use Rattle.std.proofs.Common.{◌≡◌, ℕ, ◌+◌, ◌<◌, ◌≤◌, Bool, true, false, cond, not, ◌&&◌, List, [], ◌∷◌, ◌++◌, Option, Some, None, refl, sym, ap, ◌∙◌, subst, arith, is_some, inl, inr, ◌⊎◌, ⊎_elim, length}
-use Rattle.std.specs.Prelude.{nat_le, nat_lt}
-use Rattle.std.specs.List.{list_all, AllByRecursion}
+use Rattle.std.proofs.Common.{◌≡◌, ℕ, ◌+◌, ◌<◌, ◌≤◌, Bool, true, false, cond, not, ◌&&◌, List, [], ◌∷◌, ◌++◌, Option, Some, None, refl, sym, ap, ◌∙◌, subst, arith, is_some, ⊎_elim}
+use Rattle.std.specs.List.{AllByRecursion}
 use Rattle.std.proofs.lemmas.Bool.{true≢false, false≢true, eqb-true, and_parts, and_from, cases_lt}
-use Rattle.std.proofs.lemmas.Bool.Decides.{nat_tests}
 use Rattle.std.proofs.Math.Dec.{eqb}
-use Rattle.cluster_msgs.specs.Shape.{Shape, key_count}
+use Rattle.cluster_msgs.specs.Shape.{key_count}
 use Rattle.cluster_msgs.specs.declared.messages.Down.{Down}
 use Rattle.cluster_msgs.specs.declared.messages.Up.{Up}
 use Rattle.cluster_msgs.specs.declared.messages.ToClient.{ToClient}
@@ -21,13 +19,13 @@ use Rattle.cluster_msgs.specs.declared.events.Asker.TheVariants.{Worker, Client}
 use Rattle.cluster_msgs.specs.declared.events.Event.{Event}
 use Rattle.cluster_msgs.specs.declared.events.Event.TheVariants.{Want, Release, Join, Lose, SeeLoss, Suspect, DeliverDown, DeliverUp, DeliverToClient, DeliverFromClient, Start, Finish, SendGather, ServeGather, ArriveGather, FailGather, Balance, Evict, Spill, LoseSpilled}
 use Rattle.cluster_rules.specs.Functions.{put}
-use Rattle.cluster_rules.specs.Sched.{Facts, IsSound, keys, holds, connected, is_on, is_for}
+use Rattle.cluster_rules.specs.Sched.{Facts, IsSound, keys, holds, connected, is_for}
 use Rattle.cluster_rules.specs.SchedTable.{is_asked_back, change, sched_takes}
 use Rattle.cluster_rules.specs.SchedStep.{sched_step, mail}
 use Rattle.cluster_rules.specs.Worker.{Ask, WorkerFacts, new_worker, has_any, would_start}
 use Rattle.cluster_rules.specs.WorkerStep.{worker_step, worker_takes}
 use Rattle.cluster_rules.specs.World.{Job, World, Parcel, shape_of, is_connected, is_client, is_asker, open_ask, is_parcel, parcel_of, without_parcel}
-use Rattle.cluster_rules.specs.WorldStep.{sends, scheduled, worked, client_worked, at_scheduler, at_worker, at_client, new_at, died, cut_off, take_down_first, take_up, take_up_first, take_to_client, take_from_client, ask_by, gathered_at, failed_at, serve, take_answer, fail_ask, world_step}
+use Rattle.cluster_rules.specs.WorldStep.{sends, scheduled, worked, client_worked, at_scheduler, at_worker, at_client, new_at, died, cut_off, take_down_first, take_up, take_up_first, take_to_client, take_from_client, ask_by, gathered_at, serve, take_answer, fail_ask, world_step}
 use Rattle.cluster_rules.specs.Enabled.{enabled, may_ask}
 use Rattle.cluster_rules.specs.Inside.{AreKeys, down_keys, IsInsideWorld}
 use Rattle.cluster_rules.proofs.InsideSched.{all_found}
@@ -37,13 +35,13 @@ use Rattle.cluster_rules.proofs.SoundStep.{sound_step}
 use Rattle.scheduler_laws.specs.Settled.{IsSettled}
 use Rattle.pair_machine.specs.Pair.{Quiet, Pair, IsPair}
 use Rattle.pair_machine.specs.Moves.{opening as opening_pair}
-use Rattle.pair_moves.specs.Projection.{note_of, report_of, report_in, notes, reports, at_worker as at_the_worker, Side, pair_of, IsNumbered}
+use Rattle.pair_moves.specs.Projection.{report_of, report_in, notes, reports, at_worker as at_the_worker, Side, pair_of, IsNumbered}
 use Rattle.pair_moves.proofs.Framed.{change_framed}
 use Rattle.pair_moves.proofs.Events.{event_keeps}
 use Rattle.pair_moves.proofs.WorkerMoves.{pair_closed, own_keeps, told_keeps, IsOwn, reports-append}
 use Rattle.safety_laws.specs.Joint.{side_of, pair_at, IsPaired}
 use Rattle.safety_laws.proofs.Turns.{sched_after, nothing_sent, down_there, key_there, keys_there, up_taken, letter_taken}
-use Rattle.safety_laws.proofs.Homes.{IsHome, found_asker}
+use Rattle.safety_laws.proofs.Homes.{IsHome}
 
 -- a message that says nothing of the key, in front of those under way
 pub quiet_front : (p : Pair) → IsPair p → IsPair (record p { up = Quiet ∷ p.up })

@@ -1,11 +1,8 @@
 -- What was started and what was given back, after every event of the world.
-use Rattle.std.proofs.Common.{◌≡◌, ℕ, ◌+◌, ◌<◌, ◌≤◌, Bool, true, false, cond, not, ◌&&◌, ◌||◌, List, [], ◌∷◌, ◌++◌, Option, Some, None, refl, sym, ap, ◌∙◌, subst, arith, is_some, inl, inr, ◌⊎◌, ⊎_elim, length}
-use Rattle.std.specs.Prelude.{nat_le, nat_lt}
-use Rattle.std.specs.List.{list_all, AllByRecursion}
-use Rattle.std.proofs.lemmas.Bool.{true≢false, false≢true, eqb-true, and_parts, and_from, or_cases}
-use Rattle.std.proofs.lemmas.Bool.Decides.{nat_tests}
+use Rattle.std.proofs.Common.{◌≡◌, ℕ, ◌+◌, Bool, true, false, cond, not, ◌&&◌, ◌||◌, List, [], ◌∷◌, ◌++◌, Option, Some, None, refl, sym, ap, ◌∙◌, subst, arith, is_some, ⊎_elim}
+use Rattle.std.specs.List.{AllByRecursion}
+use Rattle.std.proofs.lemmas.Bool.{false≢true, eqb-true, and_parts, and_from, or_cases}
 use Rattle.std.proofs.Math.Dec.{eqb}
-use Rattle.cluster_msgs.specs.Shape.{Shape, key_count}
 use Rattle.cluster_msgs.specs.declared.messages.Down.{Down}
 use Rattle.cluster_msgs.specs.declared.messages.Up.{Up}
 use Rattle.cluster_msgs.specs.declared.messages.ToClient.{ToClient}
@@ -21,27 +18,23 @@ use Rattle.cluster_msgs.specs.declared.events.Asker.TheVariants.{Worker, Client}
 use Rattle.cluster_msgs.specs.declared.events.Event.{Event}
 use Rattle.cluster_msgs.specs.declared.events.Event.TheVariants.{Want, Release, Join, Lose, SeeLoss, Suspect, DeliverDown, DeliverUp, DeliverToClient, DeliverFromClient, Start, Finish, SendGather, ServeGather, ArriveGather, FailGather, Balance, Evict, Spill, LoseSpilled}
 use Rattle.cluster_rules.specs.Functions.{put}
-use Rattle.cluster_rules.specs.Sched.{Facts, IsSound, keys, holds, connected, is_on, is_for}
-use Rattle.cluster_rules.specs.SchedTable.{is_asked_back, change, sched_takes}
+use Rattle.cluster_rules.specs.Sched.{Facts}
 use Rattle.cluster_rules.specs.SchedStep.{sched_step, mail}
 use Rattle.cluster_rules.specs.Worker.{Ask, WorkerFacts, new_worker, would_start, wstate, is_unstarted_state}
 use Rattle.cluster_rules.specs.WorkerStep.{taken, worker_step, worker_takes}
-use Rattle.cluster_rules.specs.World.{Job, World, Parcel, opening, shape_of, is_connected, is_client, is_asker, open_ask, is_parcel, parcel_of, without_parcel}
-use Rattle.cluster_rules.specs.WorldStep.{sends, scheduled, worked, client_worked, at_scheduler, at_worker, at_client, new_at, died, cut_off, take_down_first, take_up, take_up_first, take_to_client, take_from_client, ask_by, gathered_at, failed_at, serve, take_answer, fail_ask, world_step}
+use Rattle.cluster_rules.specs.World.{Job, World, Parcel, opening, shape_of, is_connected, is_asker, open_ask, is_parcel, parcel_of, without_parcel}
+use Rattle.cluster_rules.specs.WorldStep.{sends, scheduled, worked, client_worked, at_scheduler, at_worker, at_client, new_at, died, cut_off, take_down_first, take_up, take_up_first, take_to_client, take_from_client, ask_by, gathered_at, serve, take_answer, fail_ask, world_step}
 use Rattle.cluster_rules.specs.Enabled.{enabled, may_ask}
 use Rattle.cluster_rules.specs.Inside.{AreKeys, down_keys, IsInsideWorld}
 use Rattle.cluster_rules.proofs.InsideSched.{all_found}
 use Rattle.cluster_rules.proofs.DerivedLemmas.{eqb_comm}
-use Rattle.cluster_rules.proofs.SchedFrame.{same_eqb, step_settles}
-use Rattle.cluster_rules.proofs.SoundStep.{sound_step}
+use Rattle.cluster_rules.proofs.SchedFrame.{same_eqb}
 use Rattle.scheduler_laws.specs.Settled.{IsSettled}
 use Rattle.pair_machine.specs.Pair.{is_at}
-use Rattle.pair_moves.specs.Projection.{note_of, report_of, report_in, notes, reports, at_worker as at_the_worker, Side, pair_of, IsNumbered}
-use Rattle.pair_moves.proofs.Framed.{change_framed}
-use Rattle.pair_moves.proofs.Events.{event_keeps}
+use Rattle.pair_moves.specs.Projection.{report_of, notes, reports, pair_of, IsNumbered}
 use Rattle.pair_moves.proofs.WorkerMoves.{own_keeps, told_keeps, IsOwn, reports-append}
 use Rattle.safety_laws.specs.Joint.{side_of, pair_at}
-use Rattle.safety_laws.specs.Past.{Past, is_it, past_after, no_past, past_from}
+use Rattle.safety_laws.specs.Past.{Past, is_it, past_after, no_past}
 use Rattle.safety_laws.proofs.Tale.{IsTale, less_tale, NotStarted, tale_closed, start_tale, pop_tale, post_tale}
 use Rattle.safety_laws.proofs.Posts.{posts_fresh}
 use Rattle.safety_laws.proofs.Running.{IsFrom, from_closed, told_from, told_runs, own_runs, start_runs}
@@ -49,8 +42,8 @@ use Rattle.scheduler_laws.proofs.Lists.{and_first, and_second}
 use Rattle.cluster_rules.proofs.WorkerLemmas.{unstarted_state-is}
 use Rattle.pair_machine.specs.Story.{hears_yes}
 use Rattle.pair_moves.proofs.Settling.{none_not_some, notes-append}
-use Rattle.safety_laws.proofs.Turns.{sched_after, nothing_sent, down_there, key_there, keys_there, up_taken, letter_taken}
-use Rattle.safety_laws.proofs.Homes.{IsHome, found_asker}
+use Rattle.safety_laws.proofs.Turns.{down_there, key_there, keys_there}
+use Rattle.safety_laws.proofs.Homes.{IsHome}
 
 -- of each worker and key
 pub record IsPast (w : World) (past : Past) : Type 0 where

@@ -1,8 +1,7 @@
 -- What an event of the scheduler sends a worker gives it no attempt but fresh ones, and each of those once.
-use Rattle.std.proofs.Common.{◌≡◌, ℕ, ◌+◌, ◌<◌, ◌≤◌, Bool, true, false, cond, ◌&&◌, ◌||◌, List, [], ◌∷◌, ◌++◌, Option, Some, None, refl, sym, ap, ◌∙◌, subst, arith, inl, inr, ◌⊎◌, ⊎_elim}
-use Rattle.std.specs.List.{filter_map, cons_option}
-use Rattle.std.proofs.lemmas.Bool.{true≢false, false≢true, eqb-true}
-use Rattle.std.proofs.lemmas.Bool.Decides.{nat_tests}
+use Rattle.std.proofs.Common.{◌≡◌, ℕ, ◌≤◌, Bool, true, false, cond, ◌||◌, List, [], ◌∷◌, ◌++◌, Option, Some, None, refl, sym, ap, ◌∙◌, subst, arith}
+use Rattle.std.specs.List.{cons_option}
+use Rattle.std.proofs.lemmas.Bool.{true≢false, eqb-true}
 use Rattle.std.proofs.Math.Dec.{eqb}
 use Rattle.cluster_msgs.specs.declared.cores.Steal.{Steal}
 use Rattle.cluster_msgs.specs.declared.cores.SchedEvent.{SchedEvent}
@@ -15,18 +14,18 @@ use Rattle.cluster_msgs.specs.declared.messages.FromClient.{FromClient as FromCl
 use Rattle.cluster_msgs.specs.declared.messages.FromClient.TheVariants.{Want, Release, Missing}
 use Rattle.cluster_rules.specs.Functions.{put_pair}
 use Rattle.cluster_rules.specs.Derived.{below, is_in}
-use Rattle.cluster_rules.specs.Sched.{Facts, keys, workers, connected}
+use Rattle.cluster_rules.specs.Sched.{Facts, keys, workers}
 use Rattle.cluster_rules.specs.Policies.{next_steal, next_drop}
-use Rattle.cluster_rules.specs.SchedTable.{Changed, plain, change, change_up, change_client, add_keys, is_copy, lost_copy, ask_message, balanced, evicted}
+use Rattle.cluster_rules.specs.SchedTable.{Changed, plain, change, change_up, change_client, is_copy, lost_copy, ask_message, balanced, evicted}
 use Rattle.cluster_rules.specs.SchedStep.{Stages, sched_step, settle, finish_step, posted, mail, down_messages, lost_keys, to_worker}
 use Rattle.cluster_rules.proofs.OrderLemmas.{mail-down}
 use Rattle.cluster_rules.proofs.SchedFrame.{step_settles}
 use Rattle.scheduler_laws.specs.Settled.{IsSettled}
-use Rattle.pair_machine.specs.Pair.{Note, Task, Free, Remove, Ask, Other, given_count, at_count}
+use Rattle.pair_machine.specs.Pair.{Task, Free, Remove, Ask, Other, given_count, at_count}
 use Rattle.pair_machine.proofs.PairLemmas.{given-append}
 use Rattle.pair_moves.specs.Projection.{notes, IsNumbered}
 use Rattle.pair_moves.proofs.PairTold.{task_note, task_notes, Distinct}
-use Rattle.pair_moves.proofs.Settling.{none_not_some, free_notes, new_at, distinct_range, event_notes}
+use Rattle.pair_moves.proofs.Settling.{free_notes, new_at, distinct_range, event_notes}
 use Rattle.pair_moves.proofs.SettleKeeps.{new_some}
 use Rattle.pair_moves.proofs.Framed.{change_framed}
 use Rattle.pair_moves.proofs.HoldRows.{left_plain}

@@ -1,11 +1,10 @@
 -- What is asked is under way, after every legal list.
-use Rattle.std.proofs.Common.{◌≡◌, ℕ, ◌&&◌, Bool, true, false, List, [], ◌∷◌, Some, None, refl, subst}
+use Rattle.std.proofs.Common.{◌≡◌, ℕ, ◌&&◌, true, List, [], ◌∷◌, Some, None, refl, subst}
 use Rattle.std.proofs.lemmas.Bool.{false≢true, and_parts, leb-true}
-use Rattle.cluster_msgs.specs.declared.events.Asker.{Asker}
 use Rattle.cluster_msgs.specs.declared.events.Asker.TheVariants.{Worker, Client}
 use Rattle.cluster_msgs.specs.declared.events.Event.{Event}
 use Rattle.cluster_rules.specs.Worker.{Ask}
-use Rattle.cluster_rules.specs.World.{Job, IsJob, World, opening, is_client, is_asker, open_ask}
+use Rattle.cluster_rules.specs.World.{Job, IsJob, World, opening, is_client}
 use Rattle.cluster_rules.specs.WorldStep.{world_step}
 use Rattle.cluster_rules.specs.Enabled.{enabled}
 use Rattle.cluster_rules.specs.Runs.{LegalFrom, legal, run_from, reached, IsLively}
@@ -41,7 +40,6 @@ module _ (j : Job) (job : IsJob j) where
     served = λ c k u. let u0 = client_before c u in let p = and_parts (nat_le 1 c) (nat_le c w.sched.setting.clients) u0 in
         served_step w h.joint.sound h.differ c k (leb-true 1 c p.0) (leb-true c w.sched.setting.clients p.1) (h.served c k u0) j e (takes j job w e t h.joint);
   }
-
     where
       client_before : (c : ℕ) → is_client (world_step j w e) c ≡ true → is_client w c ≡ true
       client_before c u = subst (λ (x : Setting). (nat_le 1 c && nat_le c x.clients) ≡ true) (clients_same j w e) u

@@ -1,6 +1,6 @@
 -- What runs goes on: an event of a worker leaves a task of it running, unless it is the task that ends.
-use Rattle.std.proofs.Common.{◌≡◌, ℕ, ◌+◌, ◌<◌, ◌≤◌, Bool, true, false, cond, not, ◌&&◌, ◌||◌, List, [], ◌∷◌, ◌++◌, Option, Some, None, refl, sym, ap, ◌∙◌, subst, arith, filter, fold, inl, inr, ◌⊎◌, ⊎_elim}
-use Rattle.std.proofs.lemmas.Bool.{true≢false, false≢true, eqb-true}
+use Rattle.std.proofs.Common.{◌≡◌, ℕ, ◌+◌, ◌≤◌, Bool, true, false, cond, not, ◌&&◌, List, [], ◌∷◌, ◌++◌, Option, Some, None, refl, sym, ap, ◌∙◌, subst, arith, filter, fold, inl, inr, ◌⊎◌}
+use Rattle.std.proofs.lemmas.Bool.{false≢true, eqb-true}
 use Rattle.std.proofs.Math.Dec.{eqb}
 use Rattle.cluster_msgs.specs.declared.messages.Down.{Down}
 use Rattle.cluster_msgs.specs.declared.messages.Down.TheVariants.{ComputeTask, FreeKeys, StealRequest, RemoveReplicas, AcquireReplicas, RefreshWhoHas}
@@ -11,10 +11,10 @@ use Rattle.cluster_msgs.specs.declared.cores.WorkerEvent.TheVariants.{Down as To
 use Rattle.cluster_rules.specs.Functions.{put}
 use Rattle.cluster_rules.specs.Derived.{is_in}
 use Rattle.cluster_rules.specs.Worker.{Ask as OpenAsk, WorkerFacts, awaited, is_wanted, wstate, is_missing_state, would_start, ask_to, without_ask}
-use Rattle.cluster_rules.specs.WorkerStep.{WorkerStep, quiet, after_out, each_key, taken, set_holders, into_mem, give_up, given, free_key, yields, asked_back, remove_replica, remove_replicas, acquire, refresh, take_down, start, Arrivals, arrive_as, arrive, counted, arrived, stopped, erred_as, done, keys_of, ask_peer, lose_holders, not_found, answered_ask, gathered_by, gathered, lose_data, worker_row, seek_missing, worker_step, worker_takes}
+use Rattle.cluster_rules.specs.WorkerStep.{WorkerStep, quiet, after_out, each_key, taken, set_holders, into_mem, give_up, given, free_key, yields, asked_back, remove_replica, remove_replicas, acquire, refresh, take_down, start, Arrivals, arrive_as, arrive, arrived, stopped, erred_as, done, keys_of, ask_peer, lose_holders, not_found, answered_ask, gathered_by, gathered, worker_row, worker_step, worker_takes}
 use Rattle.cluster_rules.proofs.SchedFrame.{same_eqb}
 use Rattle.pair_machine.specs.Pair.{Note, Task, Free, Remove, Ask, Other, is_at, given_count, Pair}
-use Rattle.pair_machine.specs.Moves.{take_note, take_task, take_remove, take_ask, opening}
+use Rattle.pair_machine.specs.Moves.{take_note, take_remove, take_ask, opening}
 use Rattle.pair_moves.specs.Projection.{note_of}
 use Rattle.pair_moves.proofs.Settling.{none_not_some}
 use Rattle.pair_moves.proofs.WorkerMoves.{IsClosed, own_keeps, told_keeps, IsOwn}

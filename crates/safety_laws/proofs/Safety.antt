@@ -1,8 +1,8 @@
 -- Schedule safety, put together.
-use Rattle.std.proofs.Common.{◌≡◌, ℕ, List, ◌++◌, refl, subst}
+use Rattle.std.proofs.Common.{◌≡◌, ℕ, List, ◌++◌, subst}
 use Rattle.cluster_msgs.specs.declared.events.Event.{Event}
 use Rattle.cluster_rules.specs.World.{Job, IsJob, opening, Drained}
-use Rattle.cluster_rules.specs.Runs.{legal, reached, OnlyKnown, Agrees, IsLively, Safe}
+use Rattle.cluster_rules.specs.Runs.{legal, reached, OnlyKnown, Agrees, Safe}
 use Rattle.safety_laws.proofs.Joint.{joint_after, only_known, drained_agrees}
 use Rattle.safety_laws.proofs.Attempts.{legal_first}
 use Rattle.safety_laws.proofs.Unstarted.{one_attempt}

@@ -1,76 +1,34 @@
 -- What each client waits for is known to it or on its way: what the scheduler's events keep of it.
-use Rattle.std.proofs.Common.{◌≡◌, ℕ, ◌+◌, ◌<◌, ◌≤◌, Bool, true, false, cond, not, ◌&&◌, ◌||◌, List, [], ◌∷◌, ◌++◌, Option, Some, None, refl, sym, ap, ◌∙◌, subst, arith, is_some, is_none, find, zero, suc, filter, fold, inl, inr, ◌⊎◌, ⊎_elim}
+use Rattle.std.proofs.Common.{◌≡◌, ℕ, ◌<◌, ◌≤◌, Bool, true, false, cond, not, ◌&&◌, ◌||◌, List, [], ◌∷◌, ◌++◌, Option, Some, None, refl, sym, ap, ◌∙◌, subst, arith, is_some, ◌⊎◌, ⊎_elim}
 use Rattle.std.proofs.lemmas.Bool.{true≢false, false≢true, eqb-true}
 use Rattle.std.proofs.Math.Dec.{eqb}
-use Rattle.cluster_msgs.specs.declared.messages.Down.{Down}
-use Rattle.cluster_msgs.specs.declared.messages.Down.TheVariants.{ComputeTask, FreeKeys, StealRequest, RemoveReplicas, AcquireReplicas, RefreshWhoHas}
-use Rattle.cluster_msgs.specs.declared.messages.Up.TheVariants.{TaskFinished, MissingData, StealResponse}
-use Rattle.cluster_msgs.specs.declared.cores.Instruction.TheVariants.{Keep, Drop, Send}
-use Rattle.cluster_msgs.specs.declared.cores.WorkerEvent.{WorkerEvent}
-use Rattle.cluster_msgs.specs.declared.cores.WorkerEvent.TheVariants.{Down as ToldWorker, Start as StartTask, Done, Ask as AskPeer, Gathered, GatherFailed, DataLost}
-use Rattle.cluster_rules.specs.Functions.{put}
-use Rattle.cluster_rules.specs.Derived.{is_in}
-use Rattle.cluster_rules.specs.Worker.{Ask as OpenAsk, WorkerFacts, awaited, is_wanted, wstate, is_missing_state, would_start, ask_to, without_ask}
-use Rattle.cluster_rules.specs.WorkerStep.{WorkerStep, quiet, after_out, each_key, taken, set_holders, into_mem, give_up, given, free_key, yields, asked_back, remove_replica, remove_replicas, acquire, refresh, take_down, start, Arrivals, arrive_as, arrive, counted, arrived, stopped, erred_as, done, keys_of, ask_peer, lose_holders, not_found, answered_ask, gathered_by, gathered, lose_data, worker_row, seek_missing, worker_step, worker_takes}
 use Rattle.cluster_rules.proofs.SchedFrame.{same_eqb}
-use Rattle.cluster_msgs.specs.declared.messages.Up.{Up}
 use Rattle.cluster_msgs.specs.declared.messages.ToClient.{ToClient}
-use Rattle.cluster_msgs.specs.declared.messages.FromClient.{FromClient as ClientMessage}
 use Rattle.cluster_msgs.specs.declared.cores.SchedEvent.{SchedEvent}
-use Rattle.cluster_msgs.specs.declared.cores.SchedEvent.TheVariants.{Join as JoinSched, Leave, FromWorker, FromClient, Balance as BalanceSched, Evict as EvictSched}
-use Rattle.cluster_msgs.specs.declared.cores.ClientEvent.{ClientEvent}
-use Rattle.cluster_msgs.specs.declared.cores.ClientEvent.TheVariants.{Want as WantKeys, Release as ReleaseKeys, FromScheduler, Ask as ClientAsk, Gathered as ClientGathered, GatherFailed as ClientGatherFailed}
-use Rattle.cluster_msgs.specs.declared.events.Asker.{Asker}
-use Rattle.cluster_msgs.specs.declared.events.Asker.TheVariants.{Worker, Client}
-use Rattle.cluster_msgs.specs.declared.events.Event.{Event}
-use Rattle.cluster_msgs.specs.declared.events.Event.TheVariants.{Want, Release, Join, Lose, SeeLoss, Suspect, DeliverDown, DeliverUp, DeliverToClient, DeliverFromClient, Start, Finish, SendGather, ServeGather, ArriveGather, FailGather, Balance, Evict, Spill, LoseSpilled}
-use Rattle.cluster_rules.specs.World.{Job, World, Parcel, opening, shape_of, is_connected, is_client, is_asker, open_ask, is_parcel, parcel_of, without_parcel}
-use Rattle.cluster_rules.specs.WorldStep.{sends, scheduled, worked, client_worked, at_scheduler, at_worker, at_client, new_at, died, cut_off, take_down_first, take_up, take_up_first, take_to_client, take_from_client, ask_by, gathered_at, failed_at, serve, take_answer, fail_ask, world_step}
-use Rattle.cluster_rules.specs.Enabled.{enabled, may_ask}
-use Rattle.std.specs.Prelude.{nat_le}
-use Rattle.cluster_rules.specs.Worker.{new_worker}
-use Rattle.cluster_rules.specs.SchedTable.{sched_takes}
-use Rattle.cluster_rules.proofs.WorkerLemmas.{at_one}
-use Rattle.std.proofs.lemmas.Bool.{and_parts, leb-true}
-use Rattle.std.specs.List.{list_any, filter_map, flat_map, cons_option, range_with_len, AllByRecursion}
+use Rattle.cluster_rules.specs.World.{World}
+use Rattle.cluster_rules.specs.WorldStep.{scheduled, at_scheduler}
+use Rattle.std.proofs.lemmas.Bool.{and_parts}
+use Rattle.std.specs.List.{list_any, filter_map, cons_option}
 use Rattle.std.specs.Option.{option_map}
-use Rattle.std.specs.Prelude.{nat_lt}
-use Rattle.cluster_msgs.specs.declared.cores.Steal.{Steal}
 use Rattle.cluster_msgs.specs.declared.messages.ToClient.TheVariants.{KeyInMemory, LostData, ClientTaskErred}
-use Rattle.cluster_msgs.specs.declared.messages.FromClient.TheVariants.{Want as WantMessage, Release as ReleaseMessage, Missing as MissingMessage}
-use Rattle.cluster_msgs.specs.declared.messages.Up.TheVariants.{TaskErred, AddKeys, ReleaseWorkerData, RequestRefreshWhoHas}
-use Rattle.cluster_rules.specs.Functions.{from_one, put_pair}
-use Rattle.cluster_rules.specs.Derived.{below}
-use Rattle.cluster_rules.specs.Sched.{Facts, keys, deps, held, erred, blame, holders, who_has, workers}
-use Rattle.cluster_rules.specs.Policies.{next_steal, next_drop}
-use Rattle.cluster_rules.specs.SchedTable.{Changed, plain, change, change_up, change_client, add_keys, is_copy, lost_copy, ask_message, balanced, evicted}
-use Rattle.cluster_rules.specs.SchedStep.{Stages, sched_step, settle, finish_step, posted, mail, to_worker, free_message, lost_keys, task_message, task_messages, down_messages, client_message, was_held, was_erred, to_clients, reply_message, client_messages, tells_held}
-use Rattle.cluster_rules.specs.Worker.{with_ask, has_any, fetchable, item_at, copy_at, ask_items, would_ask}
-use Rattle.cluster_rules.specs.WorkerStep.{others, ask_with, report_missing}
-use Rattle.cluster_rules.specs.WorldStep.{letters, spill}
-use Rattle.cluster_rules.specs.Client.{ClientFacts, hears, hear, client_gets, client_misses, client_answered, client_gathered_by, client_gathered, keeps_still, client_wants, client_releases, client_fetchable, client_ask, client_ask_with, client_would_ask, client_step}
-use Rattle.cluster_rules.proofs.TruthWorker.{all_append}
-use Rattle.cluster_rules.proofs.InsideWorker.{all_filter_in, all_map_in}
-use Rattle.cluster_rules.proofs.InsideSched.{all_flat_map_in, all_always, all_weaken, all_found}
+use Rattle.cluster_rules.specs.Functions.{from_one}
+use Rattle.cluster_rules.specs.Sched.{Facts, keys, deps, held, erred, blame, holders}
+use Rattle.cluster_rules.specs.SchedTable.{change}
+use Rattle.cluster_rules.specs.SchedStep.{Stages, sched_step, settle, finish_step, posted, client_message, was_held, was_erred, to_clients, reply_message, client_messages, tells_held}
+use Rattle.cluster_rules.specs.Worker.{has_any}
+use Rattle.cluster_rules.specs.WorldStep.{letters}
+use Rattle.cluster_rules.specs.Client.{ClientFacts}
 use Rattle.cluster_rules.proofs.SchedFrame.{step_settles}
-use Rattle.pair_moves.proofs.HoldRows.{left_plain}
 use Rattle.pair_moves.proofs.Framed.{change_framed}
-use Rattle.safety_laws.specs.Lively.{IsNumber, AreNumbers, AreHolders, AreNumbersDown, AreNumbersNews, AreNamed}
-use Rattle.safety_laws.proofs.Homes.{find_passes_any, last_more}
 use Rattle.std.proofs.lemmas.Bool.{or_cases}
 use Rattle.cluster_rules.specs.Sched.{IsSound, holds}
-use Rattle.cluster_rules.specs.SchedTable.{wants_more, wants_less, sched_takes}
-use Rattle.cluster_rules.proofs.DerivedLemmas.{eqb_comm}
-use Rattle.cluster_rules.proofs.SchedFrame.{or_true, in_range}
 use Rattle.cluster_rules.proofs.SchedLemmas.{erred-is, is_some-blame}
-use Rattle.pair_moves.proofs.PairTold.{Distinct}
-use Rattle.pair_moves.proofs.Settling.{distinct_range}
 use Rattle.safety_laws.specs.Lively.{is_news, last_news, tells_memory, tells_error}
-use Rattle.std.proofs.lemmas.Bool.{and_from, cases_lt}
+use Rattle.std.proofs.lemmas.Bool.{cases_lt}
 use Rattle.cluster_msgs.specs.Shape.{key_count}
 use Rattle.cluster_rules.specs.Sched.{Setting}
 use Rattle.cluster_rules.specs.Worker.{is_asked_for}
-use Rattle.safety_laws.specs.Lively.{IsServed, wants_then, wants_at_last, names_want, misses}
+use Rattle.safety_laws.specs.Lively.{IsServed, wants_at_last, names_want, misses}
 use Rattle.safety_laws.proofs.News.{either, late, verdict, any_late, last_late, late-append, letters-append, Told, Reply, told_late}
 
 -- ## A held key has holders

@@ -1,11 +1,11 @@
 -- Attempts are counted: each is in one place at most, one that was started is neither given again nor given back, and one that was given back is nowhere.
-use Rattle.std.proofs.Common.{◌≡◌, ℕ, ◌+◌, ◌<◌, ◌≤◌, Bool, true, false, cond, ◌&&◌, ◌||◌, List, [], ◌∷◌, ◌++◌, Option, Some, None, refl, sym, ap, ◌∙◌, subst, arith, inl, inr, ◌⊎◌, ⊎_elim}
+use Rattle.std.proofs.Common.{◌≡◌, ℕ, ◌+◌, ◌<◌, ◌≤◌, Bool, true, false, cond, ◌&&◌, ◌||◌, List, [], ◌∷◌, ◌++◌, Option, Some, None, refl, sym, ap, ◌∙◌, arith, ⊎_elim}
 use Rattle.std.proofs.lemmas.Bool.{true≢false, false≢true, eqb-true, or_cases, and_parts, cases_lt}
 use Rattle.std.proofs.Math.Dec.{eqb}
 use Rattle.pair_machine.specs.Pair.{Note, Task, Free, Remove, Ask, Other, Report, Finished, Erred, Gave, Declined, Added, Released, Quiet, is_at, given_count, ended_count, at_count, Pair, tally}
-use Rattle.pair_machine.specs.Moves.{Done, take, take_note, take_task, take_remove, take_ask}
+use Rattle.pair_machine.specs.Moves.{Done, take, take_task, take_remove, take_ask}
 use Rattle.pair_machine.specs.Story.{yields, yielded_count, hears_yes}
-use Rattle.pair_machine.proofs.PairLemmas.{same_eqb, given-append, ended-append}
+use Rattle.pair_machine.proofs.PairLemmas.{given-append, ended-append}
 use Rattle.pair_machine.proofs.StoryKept.{yielded-append, yielded_ended}
 use Rattle.pair_moves.proofs.WorkerMoves.{Yields, IsClosed}
 

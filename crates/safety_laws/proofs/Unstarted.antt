@@ -1,9 +1,7 @@
 -- An attempt that was given up is never started, neither before nor after.
-use Rattle.std.proofs.Common.{◌≡◌, ℕ, ◌+◌, Bool, true, false, cond, ◌&&◌, ◌||◌, List, [], ◌∷◌, ◌++◌, Option, Some, None, refl, sym, ap, ◌∙◌, subst}
-use Rattle.std.proofs.lemmas.Bool.{true≢false, false≢true}
-use Rattle.std.proofs.Math.Dec.{eqb}
+use Rattle.std.proofs.Common.{◌≡◌, ℕ, true, cond, ◌&&◌, ◌||◌, List, [], ◌∷◌, ◌++◌, refl, sym, ap, ◌∙◌, subst}
+use Rattle.std.proofs.lemmas.Bool.{true≢false}
 use Rattle.cluster_msgs.specs.declared.messages.Up.{Up}
-use Rattle.cluster_msgs.specs.declared.messages.Up.TheVariants.{StealResponse}
 use Rattle.cluster_msgs.specs.declared.events.Event.{Event}
 use Rattle.cluster_msgs.specs.declared.events.Event.TheVariants.{Start, DeliverUp}
 use Rattle.cluster_rules.specs.Worker.{would_start}
@@ -12,7 +10,7 @@ use Rattle.cluster_rules.specs.WorldStep.{world_step}
 use Rattle.cluster_rules.specs.Runs.{LegalFrom, legal, run_from, reached, Yielded, Started, OneAttempt}
 use Rattle.cluster_rules.proofs.SchedFrame.{same_eqb, or_true}
 use Rattle.scheduler_laws.proofs.Lists.{or_left}
-use Rattle.pair_machine.specs.Pair.{is_at, Gave, Quiet, Declined}
+use Rattle.pair_machine.specs.Pair.{is_at, Gave, Quiet}
 use Rattle.pair_machine.specs.Story.{hears_yes}
 use Rattle.pair_moves.specs.Projection.{reports}
 use Rattle.safety_laws.specs.Past.{Past, is_it, past_after, no_past, past_from}

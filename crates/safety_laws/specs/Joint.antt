@@ -1,5 +1,5 @@
 -- What holds of the world after every legal list of events, besides what `cluster_rules` says of it.
-use Rattle.std.specs.Prelude.{◌≡◌, ℕ, ◌<◌, ◌≤◌, true}
+use Rattle.std.specs.Prelude.{◌≡◌, ℕ, ◌<◌, true}
 use Rattle.cluster_msgs.specs.Shape.{key_count}
 use Rattle.cluster_rules.specs.World.{World, shape_of, is_connected}
 use Rattle.pair_machine.specs.Pair.{Pair, IsPair}

@@ -1,5 +1,5 @@
 -- What 'some progress event is enabled' rests on: the gathers, the questions to the scheduler, and the clients.
-use Rattle.std.specs.Prelude.{◌≡◌, ◌⊎◌, ℕ, ◌+◌, ◌<◌, ◌≤◌, ◌==◌, Bool, true, false, not, ◌&&◌, ◌||◌, List, [], ◌∷◌, Option, Some, None, is_some, cond}
+use Rattle.std.specs.Prelude.{◌≡◌, ◌⊎◌, ℕ, ◌≤◌, ◌==◌, Bool, true, false, not, ◌&&◌, ◌||◌, List, [], ◌∷◌, Some, is_some, cond}
 use Rattle.std.specs.List.{list_any, AllByRecursion}
 use Rattle.cluster_msgs.specs.declared.messages.Down.{Down}
 use Rattle.cluster_msgs.specs.declared.messages.Down.TheVariants.{ComputeTask, FreeKeys, StealRequest, RemoveReplicas, AcquireReplicas, RefreshWhoHas}
@@ -12,8 +12,7 @@ use Rattle.cluster_msgs.specs.declared.messages.FromClient.TheVariants.{Want, Re
 use Rattle.cluster_msgs.specs.declared.events.Asker.{Asker}
 use Rattle.cluster_rules.specs.Derived.{is_in}
 use Rattle.cluster_rules.specs.Sched.{held, erred}
-use Rattle.cluster_rules.specs.Worker.{Ask, WorkerFacts, is_asked_for, has_any}
-use Rattle.cluster_rules.specs.Client.{ClientFacts}
+use Rattle.cluster_rules.specs.Worker.{Ask, is_asked_for, has_any}
 use Rattle.cluster_rules.specs.World.{World, is_connected, is_client, is_asker, open_ask, parcel_of}
 
 -- ## Gathers
