@@ -1,5 +1,7 @@
 -- Schedule safety, put together.
-use Rattle.std.proofs.Common.{◌≡◌, ℕ, List, ◌++◌, subst}
+use Rattle.cluster_msgs.specs.Shape.{IsShape}
+use Rattle.cluster_rules.specs.Sched.{Setting, Facts, IsSound}
+use Rattle.std.proofs.Common.{◌≤◌, ◌≡◌, ℕ, List, ◌++◌, subst}
 use Rattle.cluster_msgs.specs.declared.events.Event.{Event}
 use Rattle.cluster_rules.specs.World.{Job, IsJob, opening, Drained}
 use Rattle.cluster_rules.specs.Runs.{legal, reached, OnlyKnown, Agrees, Safe}
@@ -24,3 +26,15 @@ safe j job es l = record {
   where
     first : (fs gs : List Event) → es ≡ fs ++ gs → legal j fs
     first fs gs e = legal_first j (opening j) fs gs (subst (legal j) e l)
+
+-- the job of facts that are sound
+pub is_job : (j : Job) (f : Facts) → IsSound f → f.setting ≡ j.setting → IsJob j
+is_job j f h e = record {
+  shape = subst (λ (s : Setting). IsShape s.shape) e h.shape;
+  clients = subst (λ (s : Setting). s.clients ≤ 16) e h.few_clients;
+  some = subst (λ (s : Setting). 1 ≤ s.saturation) e h.saturation.0;
+  most = subst (λ (s : Setting). s.saturation ≤ 1000) e h.saturation.1;
+}
+
+pub safe_of_sound : (j : Job) (f : Facts) → IsSound f → f.setting ≡ j.setting → (es : List Event) → legal j es → Safe j es
+safe_of_sound j f h e = safe j (is_job j f h e)

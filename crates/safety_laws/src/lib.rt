@@ -5,7 +5,8 @@
 //! simulator stands above.
 #![tactic(auto)]
 
-ghost use Rattle.std.specs.Prelude.{ℕ, List};
+ghost use Rattle.std.specs.Prelude.{◌≡◌, ℕ, List};
+ghost use Rattle.cluster_rules.specs.Sched.{Facts, IsSound};
 ghost use Rattle.cluster_msgs.specs.declared.events.Event.{Event};
 ghost use Rattle.cluster_rules.specs.World.{Job, IsJob, Drained};
 ghost use Rattle.cluster_rules.specs.Runs.{legal, reached, OneAttempt, OnlyKnown, Agrees, IsLively, Safe};
@@ -33,9 +34,10 @@ pub fn some_progress_is_enabled()
     ensures { (j : Job) → IsJob j → (es : List Event) → legal j es → IsLively (reached j es) }
 {}
 
-/// Schedule safety: each of the four holds of every legal list.
+/// Schedule safety: each of the four holds of every legal list. Facts that are sound have the setting of a job.
 pub fn schedules_are_safe()
-    ensures { (j : Job) → IsJob j → (es : List Event) → legal j es → Safe j es }
+    ensures job { (j : Job) → IsJob j → (es : List Event) → legal j es → Safe j es }
+    ensures sound { (j : Job) (f : Facts) → IsSound f → f.setting ≡ j.setting → (es : List Event) → legal j es → Safe j es }
 {}
 
 /// An ask that is open has its request or its answer under way; what a connected worker has asked the scheduler, and
