@@ -1,5 +1,5 @@
 //! The world of a whole cluster.
-ghost use Rattle.std.specs.Prelude.{◌≡◌, ◌≢◌, ◌↔◌, ◌+◌, ◌-◌, ◌≤◌, ◌^◌, Bool, true, false, length, min, slice_get, IfOk, OnOk, Err, Some, None, is_some, IfSome};
+ghost use Rattle.std.specs.Prelude.{List, ◌≡◌, ◌≢◌, ◌↔◌, ◌+◌, ◌-◌, ◌≤◌, ◌^◌, Bool, true, false, length, min, slice_get, IfOk, OnOk, Err, Some, None, is_some, IfSome};
 ghost use Rattle.std.specs.Option.{option_map, option_copied};
 ghost use Rattle.cluster_msgs.specs.Jobs.{Rose};
 ghost use Rattle.cluster_msgs.specs.Shape.{deps_of};
@@ -8,6 +8,8 @@ ghost use Rattle.cluster_rules.specs.Client.{done};
 ghost use Rattle.cluster_rules.specs.World.{under_way, worker_count};
 ghost use Rattle.cluster_rules.specs.WorldStep.{world_step};
 ghost use Rattle.cluster_rules.specs.Enabled.{enabled, progress, message};
+ghost use Rattle.cluster_rules.specs.Runs.{legal, Safe};
+ghost use Rattle.cluster_msgs.specs.declared.events.Event.{Event as EventFact};
 ghost use Rattle.value_laws.specs.Blocks.{job_of, setting_of, opening_cluster};
 ghost use Rattle.value_laws.specs.Moves.{world_after, cluster_step};
 ghost use Rattle.cluster_world.specs.Worlds.{cluster, world, setting, event_limit, IsReady, IsReached};
@@ -18,6 +20,8 @@ use crate::progress::{count_progress, nth_progress};
 use crate::state::{Course, State};
 use crate::step::take;
 use cluster_msgs::{End, Event, GraphShape, JobSpec, Message};
+use cluster_rules::Facts;
+use safety_laws::schedules_are_safe;
 use std::alloc::{AllocError, Global};
 use std::marker::Model;
 
@@ -148,6 +152,14 @@ impl<J: JobSpec> World<J> {
             IfSome result (λ b. val (deps_of (J.graph self.now.job)) (J.operation self.now.job) key ≡ Some b.now) }
     {
         self.state.block(client, key)
+    }
+
+    /// Schedule safety holds of all legal events of the world's setting, and so of those that made it.
+    pub fn is_safe(&self)
+        ensures { (es : List EventFact) → legal (job_of (setting self.now) (J.operation self.now.job)) es → Safe (job_of (setting self.now) (J.operation self.now.job)) es }
+    {
+        self.state.sched.sound();
+        schedules_are_safe();
     }
 
     /// How a key that a client waited for ended, none where it didn't. In a world that legal events made a key that erred

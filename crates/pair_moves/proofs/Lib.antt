@@ -1,0 +1,12 @@
+pub mod PairTold
+pub mod Settling
+pub mod SettleKeeps
+pub mod Rows
+pub mod Framed
+pub mod TaskRows
+pub mod HoldRows
+pub mod Still
+pub mod OtherRows
+pub mod ChoiceRows
+pub mod Events
+pub mod WorkerMoves

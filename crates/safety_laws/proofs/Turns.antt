@@ -1,0 +1,250 @@
+-- Each event of the world is one event of the scheduler, or leaves the scheduler alone.
+use Rattle.std.proofs.Common.{◌≡◌, ℕ, ◌+◌, arith, length, Bool, true, false, cond, not, List, [], ◌∷◌, Option, Some, None, refl, sym, ap, ◌∙◌, subst}
+use Rattle.std.specs.Prelude.{nat_lt}
+use Rattle.std.specs.List.{list_all, AllByRecursion}
+use Rattle.std.specs.Option.{option_map}
+use Rattle.std.proofs.lemmas.Bool.{and_parts, and_from}
+use Rattle.cluster_msgs.specs.Shape.{Shape, key_count}
+use Rattle.cluster_msgs.specs.declared.messages.Down.{Down}
+use Rattle.cluster_msgs.specs.declared.messages.Down.TheVariants.{ComputeTask, FreeKeys, StealRequest, RemoveReplicas, AcquireReplicas, RefreshWhoHas}
+use Rattle.cluster_msgs.specs.declared.messages.Up.{Up}
+use Rattle.cluster_msgs.specs.declared.messages.ToClient.{ToClient}
+use Rattle.cluster_msgs.specs.declared.messages.FromClient.{FromClient as ClientMessage}
+use Rattle.cluster_msgs.specs.declared.cores.SchedEvent.{SchedEvent}
+use Rattle.cluster_msgs.specs.declared.cores.SchedEvent.TheVariants.{Join as JoinSched, Leave, FromWorker, FromClient, Balance as BalanceSched, Evict as EvictSched}
+use Rattle.cluster_msgs.specs.declared.events.Asker.{Asker}
+use Rattle.cluster_msgs.specs.declared.events.Asker.TheVariants.{Worker, Client}
+use Rattle.cluster_msgs.specs.declared.events.Event.{Event}
+use Rattle.cluster_msgs.specs.declared.events.Event.TheVariants.{Want, Release, Join, Lose, SeeLoss, Suspect, DeliverDown, DeliverUp, DeliverToClient, DeliverFromClient, Start, Finish, SendGather, ServeGather, ArriveGather, FailGather, Balance, Evict, Spill, LoseSpilled}
+use Rattle.cluster_rules.specs.Sched.{Facts, keys, connected, workers}
+use Rattle.cluster_rules.specs.SchedTable.{up_keys, client_keys, sched_takes}
+use Rattle.cluster_rules.specs.SchedTable.{change}
+use Rattle.cluster_rules.specs.Functions.{put, from_one}
+use Rattle.cluster_rules.specs.Derived.{below, is_in}
+use Rattle.cluster_rules.specs.SchedStep.{Stages, sched_step, mail, settle, posted, finish_step, place_all, place_keys, drop_bad, drop_has, drop_on, down_messages, fence_after, to_worker}
+use Rattle.cluster_rules.proofs.SchedFrame.{IsPlacing, placing_keys, count_to-mail}
+use Rattle.pair_moves.proofs.Framed.{change_framed}
+use Rattle.cluster_rules.specs.Worker.{Ask, WorkerFacts, has_any}
+use Rattle.cluster_rules.specs.WorkerStep.{takes_down}
+use Rattle.cluster_rules.specs.World.{Job, World, Parcel, shape_of, is_connected, is_client, open_ask, parcel_of}
+use Rattle.cluster_rules.specs.WorldStep.{scheduled, worked, client_worked, take_down_first, take_up, take_up_first, take_to_client, take_from_client, ask_by, gathered_at, failed_at, serve, take_answer, fail_ask, world_step}
+use Rattle.cluster_rules.specs.Enabled.{enabled, front}
+use Rattle.cluster_rules.specs.Inside.{IsKey, AreKeys, named_keys, down_keys, IsInsideWorld}
+use Rattle.cluster_rules.specs.Runs.{sched_event}
+use Rattle.cluster_rules.proofs.OrderLemmas.{mail-down}
+use Rattle.cluster_rules.proofs.WorkerLemmas.{in_filter}
+
+none_event : (s : SchedEvent) → None ≡ Some s → ⊥
+none_event s e = cc
+
+-- ## The scheduler's part
+
+abbrev pub sched_after : Facts → Option SchedEvent → Facts
+sched_after f None = f
+sched_after f (Some s) = (sched_step f s).facts
+
+sched_gathered : (w : World) (a : Asker) (p n : ℕ) (found : List ℕ) → (gathered_at w a p n found).sched ≡ w.sched
+unfolding worked client_worked
+sched_gathered w (Worker i) p n found = refl
+sched_gathered w (Client c) p n found = refl
+
+sched_failed : (w : World) (a : Asker) (p n : ℕ) → (failed_at w a p n).sched ≡ w.sched
+unfolding worked client_worked
+sched_failed w (Worker i) p n = refl
+sched_failed w (Client c) p n = refl
+
+sched_asks : (w : World) (a : Asker) (p : ℕ) → (ask_by w a p).sched ≡ w.sched
+unfolding worked client_worked
+sched_asks w (Worker i) p = refl
+sched_asks w (Client c) p = refl
+
+sched_serves : (w : World) (p : ℕ) (o : Option Parcel) → (serve w p o).sched ≡ w.sched
+sched_serves w p None = refl
+sched_serves w p (Some q) = refl
+
+sched_answer : (w : World) (o : Option Parcel) → (take_answer w o).sched ≡ w.sched
+sched_answer w None = refl
+sched_answer w (Some q) = sched_gathered _ q.asker q.peer q.ask q.keys
+
+sched_fails : (w : World) (a : Asker) (p : ℕ) (o : Option Ask) → (fail_ask w a p o).sched ≡ w.sched
+sched_fails w a p None = refl
+sched_fails w a p (Some q) = sched_failed w a p q.number
+
+sched_down : (w : World) (i : ℕ) (ms : List Down) → (take_down_first w i ms).sched ≡ w.sched
+unfolding worked
+sched_down w i [] = refl
+sched_down w i (m ∷ ms) = refl
+
+sched_to_client : (w : World) (c : ℕ) (ms : List ToClient) → (take_to_client w c ms).sched ≡ w.sched
+unfolding client_worked
+sched_to_client w c [] = refl
+sched_to_client w c (m ∷ ms) = refl
+
+sched_from_client : (w : World) (c : ℕ) (ms : List ClientMessage) → (take_from_client w c ms).sched ≡ sched_after w.sched (option_map (λ m. FromClient c m) (front ms))
+unfolding scheduled
+sched_from_client w c [] = refl
+sched_from_client w c (m ∷ ms) = refl
+
+sched_up : (w : World) (i : ℕ) (ms : List Up) (b : Bool) → is_connected w i ≡ b → (take_up_first w i ms).sched ≡ sched_after w.sched (cond b (option_map (λ m. FromWorker i m) (front ms)) None)
+unfolding scheduled
+sched_up w i [] true e = refl
+sched_up w i [] false e = refl
+sched_up w i (m ∷ ms) true e = ap (λ b. (take_up (record w { up = put w.up i ms }) i m b).sched) e
+sched_up w i (m ∷ ms) false e = ap (λ b. (take_up (record w { up = put w.up i ms }) i m b).sched) e
+
+pub sched_is : (j : Job) (w : World) (e : Event) → (world_step j w e).sched ≡ sched_after w.sched (sched_event w e)
+unfolding world_step scheduled worked client_worked
+sched_is j w (Want c ks) = refl
+sched_is j w (Release c ks) = refl
+sched_is j w (Join threads) = refl
+sched_is j w (Lose i) = refl
+sched_is j w (SeeLoss i) = refl
+sched_is j w (Suspect i) = refl
+sched_is j w (DeliverDown i) = sched_down w i (w.down i)
+sched_is j w (DeliverUp i) = sched_up w i (w.up i) (is_connected w i) refl
+sched_is j w (DeliverToClient c) = sched_to_client w c (w.to_client c)
+sched_is j w (DeliverFromClient c) = sched_from_client w c (w.from_client c)
+sched_is j w (Start i) = refl
+sched_is j w (Finish i k) = refl
+sched_is j w (SendGather a p) = sched_asks w a p
+sched_is j w (ServeGather p a n) = sched_serves w p (parcel_of a p n w.requests)
+sched_is j w (ArriveGather a p n) = sched_answer w (parcel_of a p n w.answers)
+sched_is j w (FailGather a p) = sched_fails w a p (open_ask w a p)
+sched_is j w Balance = refl
+sched_is j w Evict = refl
+sched_is j w (Spill i k) = refl
+sched_is j w (LoseSpilled i k) = refl
+
+-- ## Whoever is handed an enabled event takes it
+
+-- keys of the graph are keys of whoever has that graph
+pub keys_there : (g s : Shape) → s ≡ g → (ks : List ℕ) → AreKeys g ks → list_all (λ k. nat_lt k (key_count s)) ks ≡ true
+keys_there g s e [] h = refl
+keys_there g s e (k ∷ ks) h = and_from _ _ (subst (λ (x : Shape). nat_lt k (key_count x) ≡ true) (sym e) h.0) (keys_there g s e ks h.1)
+
+named_there : (g s : Shape) → s ≡ g → (who : List (ℕ × List (ℕ × ℕ))) → AreKeys g (named_keys who) → list_all (λ (p : ℕ × List (ℕ × ℕ)). nat_lt p.0 (key_count s)) who ≡ true
+named_there g s e [] h = refl
+named_there g s e (p ∷ ps) h = and_from _ _ (subst (λ (x : Shape). nat_lt p.0 (key_count x) ≡ true) (sym e) h.0) (named_there g s e ps h.1)
+
+pub key_there : (g s : Shape) → s ≡ g → (k : ℕ) → IsKey g k → nat_lt k (key_count s) ≡ true
+key_there g s e k h = subst (λ (x : Shape). nat_lt k (key_count x) ≡ true) (sym e) h
+
+pub down_there : (g : Shape) (w : WorkerFacts) → w.shape ≡ g → (m : Down) → AreKeys g (down_keys m) → takes_down w m ≡ true
+down_there g w e (ComputeTask k a who) h = and_from _ _ (key_there g w.shape e k h.0) (named_there g w.shape e who h.1)
+down_there g w e (FreeKeys ks) h = keys_there g w.shape e ks h
+down_there g w e (StealRequest k a) h = key_there g w.shape e k h.0
+down_there g w e (RemoveReplicas ks) h = keys_there g w.shape e ks h
+down_there g w e (AcquireReplicas who) h = named_there g w.shape e who h
+down_there g w e (RefreshWhoHas who) h = named_there g w.shape e who h
+
+module _ (g : Shape) (w : World) (h : IsInsideWorld g w) where
+  pub up_taken : (i : ℕ) (m : Up) (ms : List Up) → w.up i ≡ m ∷ ms → connected w.sched i ≡ true → sched_takes w.sched (FromWorker i m) ≡ true
+  unfolding sched_takes
+  up_taken i m ms e l = and_from _ _ l (keys_there g (shape_of w) h.shape (up_keys m) (subst (λ l. AllByRecursion (λ m. AreKeys g (up_keys m)) l) e (h.up i)).0)
+
+  pub letter_taken : (c : ℕ) (m : ClientMessage) (ms : List ClientMessage) → w.from_client c ≡ m ∷ ms → is_client w c ≡ true → sched_takes w.sched (FromClient c m) ≡ true
+  unfolding sched_takes
+  letter_taken c m ms e l = and_from _ _ l (keys_there g (shape_of w) h.shape (client_keys m) (subst (λ l. AllByRecursion (λ m. AreKeys g (client_keys m)) l) e (h.from_client c)).0)
+
+  up_event : (i : ℕ) (s : SchedEvent) (ms : List Up) (b : Bool) → w.up i ≡ ms → is_connected w i ≡ b → cond b (option_map (λ m. FromWorker i m) (front ms)) None ≡ Some s → sched_takes w.sched s ≡ true
+  up_event i s [] true u c e = absurd (none_some s e)
+    where
+      none_some : (s : SchedEvent) → None ≡ Some s → ⊥
+      none_some s e = cc
+  up_event i s (m ∷ ms) true u c e = subst (λ x. sched_takes w.sched x ≡ true) (same (FromWorker i m) s e) (up_taken i m ms u c)
+    where
+      same : (x y : SchedEvent) → Some x ≡ Some y → x ≡ y
+      same x y e = cc
+  up_event i s ms false u c e = absurd (none_some s e)
+    where
+      none_some : (s : SchedEvent) → None ≡ Some s → ⊥
+      none_some s e = cc
+
+  letter_event : (c : ℕ) (s : SchedEvent) (ms : List ClientMessage) → w.from_client c ≡ ms → ((m : ClientMessage) (ns : List ClientMessage) → ms ≡ m ∷ ns → is_client w c ≡ true) → option_map (λ m. FromClient c m) (front ms) ≡ Some s → sched_takes w.sched s ≡ true
+  letter_event c s [] u l e = absurd (none_some s e)
+    where
+      none_some : (s : SchedEvent) → None ≡ Some s → ⊥
+      none_some s e = cc
+  letter_event c s (m ∷ ms) u l e = subst (λ x. sched_takes w.sched x ≡ true) (same (FromClient c m) s e) (letter_taken c m ms u (l m ms refl))
+    where
+      same : (x y : SchedEvent) → Some x ≡ Some y → x ≡ y
+      same x y e = cc
+
+  pub event_taken : ((c : ℕ) → has_any (w.from_client c) ≡ true → is_client w c ≡ true) → (e : Event) (s : SchedEvent) → enabled w e ≡ true → sched_event w e ≡ Some s → sched_takes w.sched s ≡ true
+  unfolding enabled sched_takes
+  event_taken l (Join threads) s t e = subst (λ x. sched_takes w.sched x ≡ true) (same (JoinSched threads) s e) t
+    where
+      same : (x y : SchedEvent) → Some x ≡ Some y → x ≡ y
+      same x y e = cc
+  event_taken l (SeeLoss i) s t e = subst (λ x. sched_takes w.sched x ≡ true) (same (Leave i) s e) (and_parts (not (w.alive i)) (is_connected w i) t).1
+    where
+      same : (x y : SchedEvent) → Some x ≡ Some y → x ≡ y
+      same x y e = cc
+  event_taken l (Suspect i) s t e = subst (λ x. sched_takes w.sched x ≡ true) (same (Leave i) s e) t
+    where
+      same : (x y : SchedEvent) → Some x ≡ Some y → x ≡ y
+      same x y e = cc
+  event_taken l (DeliverUp i) s t e = up_event i s (w.up i) (is_connected w i) refl refl e
+  event_taken l (DeliverFromClient c) s t e = letter_event c s (w.from_client c) refl (λ m ms q. l c t) e
+  event_taken l Balance s t e = subst (λ x. sched_takes w.sched x ≡ true) (same BalanceSched s e) t
+    where
+      same : (x y : SchedEvent) → Some x ≡ Some y → x ≡ y
+      same x y e = cc
+  event_taken l Evict s t e = subst (λ x. sched_takes w.sched x ≡ true) (same EvictSched s e) t
+    where
+      same : (x y : SchedEvent) → Some x ≡ Some y → x ≡ y
+      same x y e = cc
+  event_taken l (Want c ks) s t e = absurd (none_event s e)
+  event_taken l (Release c ks) s t e = absurd (none_event s e)
+  event_taken l (Lose i) s t e = absurd (none_event s e)
+  event_taken l (DeliverDown i) s t e = absurd (none_event s e)
+  event_taken l (DeliverToClient c) s t e = absurd (none_event s e)
+  event_taken l (Start i) s t e = absurd (none_event s e)
+  event_taken l (Finish i k) s t e = absurd (none_event s e)
+  event_taken l (SendGather a p) s t e = absurd (none_event s e)
+  event_taken l (ServeGather p a n) s t e = absurd (none_event s e)
+  event_taken l (ArriveGather a p n) s t e = absurd (none_event s e)
+  event_taken l (FailGather a p) s t e = absurd (none_event s e)
+  event_taken l (Spill i k) s t e = absurd (none_event s e)
+  event_taken l (LoseSpilled i k) s t e = absurd (none_event s e)
+
+-- ## A worker that isn't connected gets no message
+
+pub nothing_posted : (f : Facts) (s : SchedEvent) (i : ℕ) → connected (sched_step f s).facts i ≡ false → mail i (sched_step f s).down ≡ []
+unfolding sched_step finish_step settle posted place_all
+nothing_posted f s i e = mail-down t i ∙ ap (λ b. cond b (mail i (to_worker t i)) []) (none (is_in i (workers t.placed)) refl)
+  where
+    t : Stages
+    t = settle f (change f s)
+
+    none : (b : Bool) → is_in i (workers t.placed) ≡ b → b ≡ false
+    none true h = sym (in_filter (connected t.placed) (from_one t.placed.last_worker) i h) ∙ e
+    none false h = refl
+
+pub nothing_sent : (f : Facts) (s : SchedEvent) (i : ℕ) → connected (sched_step f s).facts i ≡ false → ((sched_step f s).facts.sent i ≡ f.sent i) × ((k : ℕ) → (sched_step f s).facts.fence i k ≡ f.fence i k)
+unfolding sched_step finish_step settle posted place_all drop_bad drop_has drop_on
+nothing_sent f s i e = (
+  ap (λ n. t.placed.sent i + n) (count_to-mail i (down_messages t) ∙ ap length none) ∙ zero_more (t.placed.sent i) ∙ ap (λ (x : ℕ → ℕ). x i) sent,
+  λ k. ap (λ ms. fence_after k (t.placed.sent i) ms (t.placed.fence i k)) none ∙ ap (λ (x : ℕ → ℕ → ℕ). x i k) fence,
+)
+  where
+    o : Facts
+    o = drop_on (drop_has (drop_bad (change f s).facts))
+
+    t : Stages
+    t = settle f (change f s)
+
+    p0 : IsPlacing o (place_keys o (below (keys o)))
+    p0 = placing_keys o (below (keys o))
+
+    sent : t.placed.sent ≡ f.sent
+    sent = p0.sent ∙ (change_framed f s).sent
+
+    fence : t.placed.fence ≡ f.fence
+    fence = p0.fence ∙ (change_framed f s).fence
+
+    none : mail i (down_messages t) ≡ []
+    none = nothing_posted f s i e
+
+    zero_more : (n : ℕ) → n + 0 ≡ n
+    zero_more n = omega arith

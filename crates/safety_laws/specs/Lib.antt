@@ -1,0 +1,3 @@
+pub mod Joint
+pub mod Past
+pub mod Lively
