@@ -4,7 +4,7 @@ ghost use Rattle.std.specs.Prelude.{◌≡◌};
 use std::marker::Model;
 
 /// The cells of one block, in order, of which a clause sees the list.
-#[derive(Debug, Drop)]
+#[derive(Drop)]
 pub struct Chunk {
     cells: Vec<i64>,
 }

@@ -15,13 +15,13 @@ use std::marker::Model;
 use std::sync::Arc;
 
 /// What a job reads while it runs: nothing, since its cells are in it.
-#[derive(Debug, Drop)]
+#[derive(Drop)]
 pub struct NoFeed;
 
 /// A number that is added to each cell of an array with one axis, chunk by chunk.
 ///
 /// Key 2i loads chunk i, and key 2i + 1 adds the number to it.
-#[derive(Debug, Drop)]
+#[derive(Drop)]
 pub struct AdditionJob {
     shape: GraphShape,
     cells: Vec<i64>,

@@ -7,7 +7,7 @@ use std::error::Error;
 use std::fmt;
 
 /// What is limited in an expression.
-#[derive(Clone, Copy, Debug, PartialEq, Eq)]
+#[derive(Clone, Copy, Debug)]
 pub enum Quantity {
     /// At most 65,536 nodes.
     Nodes,
@@ -33,7 +33,7 @@ impl fmt::Display for Quantity {
 }
 
 /// Why an operation isn't taken as a node.
-#[derive(Clone, Copy, Debug, PartialEq, Eq)]
+#[derive(Clone, Copy, Debug)]
 pub enum NodeError {
     /// The operands' shapes, the axes or the parts of a slice don't fit.
     Shape(ShapeError),

@@ -8,7 +8,7 @@ use std::alloc::{AllocError, Global};
 use std::marker::Model;
 
 /// The number of a node in its expression, from 0 in the order in which the nodes were added.
-#[derive(Clone, Copy, Debug, PartialEq, Eq)]
+#[derive(Clone, Copy)]
 pub struct NodeId {
     number: u32,
 }
@@ -51,7 +51,7 @@ impl Copied for NodeId {
 pub type NodeIds = Sequence<NodeId>;
 
 /// Where a node stands in a text: the line and the column of what made it, from 1, in bytes.
-#[derive(Clone, Copy, Debug, PartialEq, Eq)]
+#[derive(Clone, Copy)]
 pub struct Span {
     pub line: u32,
     pub column: u32,
@@ -62,7 +62,7 @@ pub type Spans = Sequence<Span>;
 
 /// An operation on arrays of int64. Its operands are earlier nodes, and its axes are counted from 0. How an array is cut
 /// into chunks is part of what makes it, as in Dask (<https://docs.dask.org/en/stable/array.html>).
-#[derive(Debug, Drop)]
+#[derive(Drop)]
 pub enum Op {
     /// An array that a file holds.
     Input {

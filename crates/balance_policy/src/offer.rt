@@ -6,7 +6,7 @@ ghost use Rattle.balance_policy.specs.Ranks.{rank_of, comes_before};
 use cluster_msgs::Steal;
 
 /// A steal that may be made, with its level.
-#[derive(Clone, Copy, Debug, PartialEq, Eq)]
+#[derive(Clone, Copy)]
 pub struct Offer {
     /// The least n for which 2^n times the key's work (and 1) is above the bytes to fetch.
     pub level: u32,

@@ -1,5 +1,3 @@
 pub mod Dags
-pub mod SameEvents
-pub mod SameMessages
 pub mod ShapeLemmas
 pub mod ValueLemmas

@@ -7,7 +7,7 @@ use std::alloc::{AllocError, AllocFailed, Global};
 use thiserror::Error;
 
 /// Why a core didn't take an event. After `Refused` and `Spent` all is as before; after `Memory` the core stops.
-#[derive(Clone, Copy, Debug, PartialEq, Eq, Error)]
+#[derive(Clone, Copy, Debug, Error)]
 pub enum Stop {
     #[error("the event isn't possible")]
     Refused,
@@ -40,7 +40,7 @@ impl<T: Drop> From<AllocFailed<T>> for Stop {
 }
 
 /// An event of the scheduler.
-#[derive(Debug, PartialEq, Drop)]
+#[derive(Drop)]
 pub enum SchedEvent {
     Join { threads: u32 },
     Leave { w: u32 },
@@ -51,7 +51,7 @@ pub enum SchedEvent {
 }
 
 /// What the scheduler has to send: messages with their worker or client, and the numbers of the workers that joined.
-#[derive(Debug, PartialEq, Drop)]
+#[derive(Drop)]
 pub struct Outbox {
     pub down: Sequence<(u32, Down)>,
     pub clients: Sequence<(u32, ToClient)>,
@@ -74,7 +74,7 @@ impl Outbox {
 
 /// The state of a key at the scheduler, after Dask's "Scheduling State"
 /// (<https://distributed.dask.org/en/stable/scheduling-state.html>).
-#[derive(Clone, Copy, Debug, PartialEq, Eq)]
+#[derive(Clone, Copy)]
 pub enum Phase {
     Erred,
     Released,
@@ -88,7 +88,7 @@ pub enum Phase {
 
 /// A key that is to move from one worker to another, after Dask's "Work Stealing"
 /// (<https://distributed.dask.org/en/stable/work-stealing.html>).
-#[derive(Clone, Copy, Debug, PartialEq, Eq)]
+#[derive(Clone, Copy)]
 pub struct Steal {
     pub key: u32,
     pub victim: u32,
@@ -96,7 +96,7 @@ pub struct Steal {
 }
 
 /// An event of a worker. `zero` says that the task met a zero divisor.
-#[derive(Debug, PartialEq, Drop)]
+#[derive(Drop)]
 pub enum WorkerEvent {
     Down(Down),
     Start,
@@ -108,7 +108,7 @@ pub enum WorkerEvent {
 }
 
 /// What a worker's node has to do for its core.
-#[derive(Debug, PartialEq, Drop)]
+#[derive(Drop)]
 pub enum Instruction {
     Execute { key: u32 },
     Gather { peer: u32, ask: u64, keys: KeyList },
@@ -124,7 +124,7 @@ pub type Instructions = Sequence<Instruction>;
 /// (<https://distributed.dask.org/en/stable/worker-state.html>). A resumed or cancelled key is named with what it was
 /// before, which Dask calls `previous`: a resumed key that was executing goes on to `Fetch`, one that was in flight to
 /// `Waiting`.
-#[derive(Clone, Copy, Debug, PartialEq, Eq)]
+#[derive(Clone, Copy)]
 pub enum WState {
     Memory,
     Executing,
@@ -143,7 +143,7 @@ pub enum WState {
 }
 
 /// An event of a client.
-#[derive(Debug, PartialEq, Drop)]
+#[derive(Drop)]
 pub enum ClientEvent {
     Want(KeyList),
     Release(KeyList),
@@ -154,7 +154,7 @@ pub enum ClientEvent {
 }
 
 /// What a client's node has to do for its core.
-#[derive(Debug, PartialEq, Drop)]
+#[derive(Drop)]
 pub enum ClientInstruction {
     Send(FromClient),
     Gather { peer: u32, ask: u64, keys: KeyList },
@@ -164,7 +164,7 @@ pub enum ClientInstruction {
 pub type ClientOut = Sequence<ClientInstruction>;
 
 /// How a key that a client waits for ended.
-#[derive(Clone, Copy, Debug, PartialEq, Eq)]
+#[derive(Clone, Copy)]
 pub enum End {
     Got,
     Erred { blame: u32 },

@@ -1,19 +1,19 @@
 //! The events of a cluster, and what its nodes keep of them.
-ghost use Rattle.std.specs.Prelude.{◌≡◌, ◌↔◌, IsTrue, IfOk};
+ghost use Rattle.std.specs.Prelude.{◌≡◌, IfOk};
 
 use crate::lists::{Duplicate, KeyList, Sequence};
 use crate::messages::Message;
 use std::alloc::AllocError;
 
 /// Who asks a worker for blocks: a worker or a client, by its number. Workers come before clients.
-#[derive(Clone, Copy, Debug, PartialEq, Eq, PartialOrd, Ord)]
+#[derive(Clone, Copy)]
 pub enum Asker {
     Worker(u32),
     Client(u32),
 }
 
 /// One action of one actor.
-#[derive(Debug, PartialEq, Drop)]
+#[derive(Drop)]
 pub enum Event {
     Want { client: u32, keys: KeyList },
     Release { client: u32, keys: KeyList },
@@ -38,7 +38,7 @@ pub enum Event {
 }
 
 /// An event as the node that took it keeps it: with its stamp, and the message that it took.
-#[derive(Debug, PartialEq, Drop)]
+#[derive(Drop)]
 pub struct Entry {
     pub stamp: u64,
     pub event: Event,
@@ -46,14 +46,14 @@ pub struct Entry {
 }
 
 /// The entries of one node. `cut` is the first that found no room.
-#[derive(Debug, PartialEq, Drop)]
+#[derive(Drop)]
 pub struct History {
     pub entries: Sequence<Entry>,
     pub cut: Option<Entry>,
 }
 
 /// Counts over a list of events. `workers` has each worker that joined, ascending, with the number of its starts.
-#[derive(Debug, PartialEq, Drop)]
+#[derive(Drop)]
 pub struct Report {
     pub keys: u64,
     pub edges: u64,
@@ -66,7 +66,7 @@ pub struct Report {
 }
 
 /// What a script makes happen once `at` finishes were counted.
-#[derive(Clone, Copy, Debug, PartialEq, Eq)]
+#[derive(Clone, Copy)]
 pub enum Item {
     Lose { w: u32, at: u128 },
     Suspect { w: u32, at: u128 },
@@ -77,13 +77,6 @@ pub enum Item {
 pub type Script = Sequence<Item>;
 
 impl Event {
-    /// Whether the other event is the same, field by field.
-    pub fn is_same(&self, other: &Event) -> bool
-        ensures { IsTrue result ↔ (self.now ≡ other.now) }
-    {
-        self == other
-    }
-
     /// An equal event of its own.
     ///
     /// # Errors

@@ -8,14 +8,14 @@ use std::sync::Arc;
 use thiserror::Error;
 
 /// What a key's operation made: a block, or nothing, since it met a zero divisor.
-#[derive(Debug, Drop)]
+#[derive(Drop)]
 pub enum Outcome<B> {
     Value(B),
     Zero,
 }
 
 /// Why a key could not be run.
-#[derive(Clone, Copy, Debug, PartialEq, Eq, Error)]
+#[derive(Clone, Copy, Debug, Error)]
 pub enum RunFail {
     #[error("the feed failed")]
     Feed,

@@ -1,6 +1,5 @@
 //! Lists that contracts see as lists.
 ghost use Rattle.std.specs.Prelude.{◌≡◌, ◌==◌, ◌∷◌, ◌++◌, [], length, IfOk, OnOk, OnErr};
-ghost use Rattle.std.specs.Cmp.Lexicographic.{pointwise, lists_per};
 
 use std::alloc::{AllocError, Global};
 use std::marker::Model;
@@ -18,7 +17,7 @@ pub type WhoHas = Sequence<(u32, Holders)>;
 pub type Cells = Sequence<i64>;
 
 /// A list, of which a clause sees the members in their order.
-#[derive(Debug, Drop)]
+#[derive(Drop)]
 pub struct Sequence<T> {
     items: Vec<T>,
 }
@@ -94,16 +93,6 @@ impl<T: Drop> Sequence<T> {
         ensures { self.new ≡ [] }
     {
         self.items.clear();
-    }
-}
-
-impl<T: PartialEq> PartialEq for Sequence<T> {
-    ghost eq = { pointwise T.eq };
-
-    ghost laws = { lists_per T.laws };
-
-    fn eq(&self, other: &Sequence<T>) -> bool {
-        self.as_slice() == other.as_slice()
     }
 }
 

@@ -3,13 +3,13 @@
 //! Most have the names of Dask.distributed ("Scheduling State" and "Worker State Machine" of its documentation). Which
 //! there are, and their fields, is this project's own choice. A key, a worker and a client are numbers, keys from 0 and
 //! the others from 1. Attempts and copies are drawn from one counter of the scheduler, which gives no number twice.
-ghost use Rattle.std.specs.Prelude.{◌≡◌, ◌↔◌, IsTrue, IfOk};
+ghost use Rattle.std.specs.Prelude.{◌≡◌, IfOk};
 
 use crate::lists::{Holders, KeyList, WhoHas};
 use std::alloc::AllocError;
 
 /// From the scheduler to a worker.
-#[derive(Debug, PartialEq, Drop)]
+#[derive(Drop)]
 pub enum Down {
     ComputeTask {
         key: u32,
@@ -36,7 +36,7 @@ pub enum Down {
 
 /// From a worker to the scheduler. `seen` is the number of messages from the scheduler that the worker had taken when
 /// it sent this one.
-#[derive(Debug, PartialEq, Drop)]
+#[derive(Drop)]
 pub enum Up {
     TaskFinished {
         seen: u64,
@@ -75,7 +75,7 @@ pub enum Up {
 }
 
 /// From the scheduler to a client. `blame` is a key whose own operation failed.
-#[derive(Debug, PartialEq, Drop)]
+#[derive(Drop)]
 pub enum ToClient {
     KeyInMemory { key: u32, holders: Holders },
     LostData { key: u32 },
@@ -83,7 +83,7 @@ pub enum ToClient {
 }
 
 /// From a client to the scheduler.
-#[derive(Debug, PartialEq, Drop)]
+#[derive(Drop)]
 pub enum FromClient {
     Want { keys: KeyList },
     Release { keys: KeyList },
@@ -91,14 +91,14 @@ pub enum FromClient {
 }
 
 /// Between those who ask for blocks and those who hold them. `found` are those of the asked keys that were there.
-#[derive(Debug, PartialEq, Drop)]
+#[derive(Drop)]
 pub enum Peer {
     GetData { ask: u64, keys: KeyList },
     Data { ask: u64, found: KeyList },
 }
 
 /// What the end of a connection is to the other end.
-#[derive(Clone, Copy, Debug, PartialEq, Eq)]
+#[derive(Clone, Copy)]
 pub enum Role {
     Scheduler,
     Worker,
@@ -106,7 +106,7 @@ pub enum Role {
 }
 
 /// Any message, without blocks. `Hello` is the first of a connection.
-#[derive(Debug, PartialEq, Drop)]
+#[derive(Drop)]
 pub enum Message {
     Down(Down),
     Up(Up),
@@ -271,13 +271,6 @@ impl Peer {
 }
 
 impl Message {
-    /// Whether the other message is the same, field by field.
-    pub fn is_same(&self, other: &Message) -> bool
-        ensures { IsTrue result ↔ (self.now ≡ other.now) }
-    {
-        self == other
-    }
-
     /// An equal message of its own.
     ///
     /// # Errors

@@ -9,7 +9,7 @@ use std::alloc::{AllocError, Global};
 use std::marker::Model;
 
 /// One key of a graph.
-#[derive(Debug, Drop)]
+#[derive(Drop)]
 struct Row {
     deps: KeyList,
     work: u64,
@@ -32,7 +32,7 @@ impl Row {
 ///
 /// Keys are the numbers below their count. There are at most 32,768, with at most 262,144 dependencies in all. A key's
 /// dependencies are smaller than it. Work is in bytes, at most 2^46 a key, and a block has at most 2^27 bytes.
-#[derive(Debug, Drop)]
+#[derive(Drop)]
 pub struct GraphShape {
     rows: Vec<Row>,
     edge_total: u32,

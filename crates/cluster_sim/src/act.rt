@@ -15,7 +15,7 @@ use std::alloc::AllocError;
 use thiserror::Error;
 
 /// Why a simulation gave no result.
-#[derive(Clone, Copy, Debug, PartialEq, Eq, Error)]
+#[derive(Clone, Copy, Debug, Error)]
 pub enum SimError {
     #[error("the turns are spent")]
     Turns,

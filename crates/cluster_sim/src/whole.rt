@@ -27,7 +27,7 @@ use std::alloc::Global;
 
 /// How a simulation ended: after so many turns, with the report of its events, and with the key to blame where the client
 /// was told of a failure.
-#[derive(Debug, Drop)]
+#[derive(Drop)]
 pub struct SimEnd {
     pub turns: u64,
     pub report: Report,

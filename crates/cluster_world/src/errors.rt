@@ -4,7 +4,7 @@ use std::alloc::AllocError;
 use thiserror::Error;
 
 /// Why a world didn't take an event. After `NotEnabled`, `Stopped` and `Spent` all is as before.
-#[derive(Clone, Copy, Debug, PartialEq, Eq, Error)]
+#[derive(Clone, Copy, Debug, Error)]
 pub enum StepError {
     #[error("the event isn't enabled")]
     NotEnabled,

@@ -4,7 +4,7 @@ use scheduler_core::Sched;
 use std::alloc::Global;
 
 /// How a world goes: on, or stopped since its feed failed, or for want of memory.
-#[derive(Clone, Copy, Debug, PartialEq, Eq)]
+#[derive(Clone, Copy)]
 pub enum Course {
     Going,
     Fed,

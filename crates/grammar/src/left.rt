@@ -9,7 +9,7 @@ use std::marker::Model;
 ///
 /// The symbols stand in reverse, so that the next one is the last. Of `base` the first `kept` are still left, and below the
 /// symbols of `fresh`.
-#[derive(Debug, Drop)]
+#[derive(Drop)]
 pub(crate) struct Left {
     base: Vec<Symbol>,
     kept: usize,

@@ -104,7 +104,7 @@ fn advance(
 /// It is seen as the symbols that are left, and the actions of the last step. It takes memory for what is left: at most
 /// the symbols of one rule for each token and each move before it. A step makes fewer moves than the parts that it meets
 /// may make, so the time of a text is linear in its tokens.
-#[derive(Debug, Drop)]
+#[derive(Drop)]
 pub struct Reader {
     table: Table,
     left: Left,

@@ -1,7 +1,7 @@
 // What rules are made of.
 
 /// What stands in a rule, and what is left to be read.
-#[derive(Clone, Copy, Debug, PartialEq, Eq)]
+#[derive(Clone, Copy)]
 pub enum Symbol {
     /// A token of this kind.
     Token(u16),
@@ -15,7 +15,7 @@ pub enum Symbol {
 pub const KINDS: usize = 48;
 
 /// Where the symbols of a rule stand in a table's list of symbols. They stand there in reverse, the last one first.
-#[derive(Clone, Copy, Debug)]
+#[derive(Clone, Copy)]
 pub struct Rule {
     pub start: u16,
     pub end: u16,

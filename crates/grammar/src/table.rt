@@ -10,7 +10,7 @@ use std::marker::Model;
 /// A grammar: a row and another rule for each part, the rules, and the symbols of all rules one after another.
 ///
 /// It is made of constants. What it means is the grammar `grammar_of`.
-#[derive(Debug, Drop)]
+#[derive(Drop)]
 pub struct Table {
     on: &'static [Row],
     other: &'static [Option<u16>],

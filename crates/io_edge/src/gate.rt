@@ -2,7 +2,7 @@
 use crate::{Gate, Point};
 
 /// The gate that does nothing.
-#[derive(Clone, Copy, Debug, Default)]
+#[derive(Clone, Copy, Default)]
 pub struct RealGate;
 
 impl Gate for RealGate {

@@ -6,7 +6,7 @@ ghost use Rattle.job_grammar.specs.Actions.{actions};
 ///
 /// An action comes as soon as the next token can't extend what is complete. Where an action speaks of a token, that is the last
 /// one that was taken.
-#[derive(Clone, Copy, Debug, PartialEq, Eq)]
+#[derive(Clone, Copy)]
 pub enum Action {
     /// A statement begins: at its word.
     Begin,

@@ -30,7 +30,7 @@ fn table() -> Table
 ///
 /// It is seen as what is left to be read, with the actions of the last call. That it has read certain tokens with certain actions
 /// is said by `IsReading`: then some job begins with these tokens, and each job that does has had these actions.
-#[derive(Debug, Drop)]
+#[derive(Drop)]
 pub struct JobReader {
     reader: Reader,
 }

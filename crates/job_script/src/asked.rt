@@ -6,7 +6,7 @@ use array_expr::{NodeId, Op};
 use std::alloc::{AllocError, AllocFailed};
 
 /// An operation on earlier nodes.
-#[derive(Debug, Drop)]
+#[derive(Drop)]
 pub enum Asked {
     Op(Op),
     /// The axes of a node in reverse order, as many as it has.
@@ -14,14 +14,14 @@ pub enum Asked {
 }
 
 /// An operation with the byte at which it stands: that of its operator, its call's word, its literal or the word `input`.
-#[derive(Debug, Drop)]
+#[derive(Drop)]
 pub struct Placed {
     pub asked: Asked,
     pub at: usize,
 }
 
 /// Why a text is refused.
-#[derive(Clone, Copy, Debug, PartialEq, Eq)]
+#[derive(Clone, Copy)]
 pub enum Why {
     /// No token begins there.
     Token,
@@ -42,14 +42,14 @@ pub enum Why {
 }
 
 /// A refusal and the byte at which it stands.
-#[derive(Clone, Copy, Debug, PartialEq, Eq)]
+#[derive(Clone, Copy)]
 pub struct Refusal {
     pub at: usize,
     pub why: Why,
 }
 
 /// Why a step is not done.
-#[derive(Clone, Copy, Debug, PartialEq, Eq)]
+#[derive(Clone, Copy)]
 pub(crate) enum Fault {
     Refused(Refusal),
     OutOfMemory,

@@ -8,7 +8,7 @@ use std::alloc::{AllocError, Global};
 use std::marker::Model;
 
 /// A name, or the name of a file, with its node.
-#[derive(Debug, Drop)]
+#[derive(Drop)]
 pub struct Named {
     name: Vec<u8>,
     node: NodeId,

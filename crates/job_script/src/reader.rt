@@ -14,7 +14,7 @@ use std::alloc::{AllocError, Global};
 use std::marker::Model;
 
 /// What a text asks for: operations on earlier nodes, and the files that are read and saved; and where it is refused behind them.
-#[derive(Debug, Drop)]
+#[derive(Drop)]
 pub struct Script {
     asked: Vec<Placed>,
     inputs: Vec<Named>,

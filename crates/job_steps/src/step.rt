@@ -6,14 +6,14 @@ use job_tokens::Token;
 use std::marker::Model;
 
 /// An action with the token at which it stands: the last one before it.
-#[derive(Clone, Copy, Debug, PartialEq, Eq)]
+#[derive(Clone, Copy)]
 pub struct Step {
     pub action: Action,
     pub token: Token,
 }
 
 /// How a text ends.
-#[derive(Clone, Copy, Debug, PartialEq, Eq)]
+#[derive(Clone, Copy)]
 pub enum Ending {
     /// The tokens are those of a job.
     Whole,
@@ -26,7 +26,7 @@ pub enum Ending {
 }
 
 /// The steps of a text, and how it ends. They are seen as a list and the end.
-#[derive(Debug, Drop)]
+#[derive(Drop)]
 pub struct Steps {
     list: Vec<Step>,
     ending: Ending,

@@ -10,7 +10,7 @@ use std::error::Error;
 use std::fmt;
 
 /// What is limited in a job.
-#[derive(Clone, Copy, Debug, PartialEq, Eq)]
+#[derive(Clone, Copy, Debug)]
 pub enum Quantity {
     /// At most 1,048,576 bytes of a text.
     JobBytes,
@@ -48,7 +48,7 @@ impl fmt::Display for Quantity {
 }
 
 /// Why a text is refused.
-#[derive(Clone, Copy, Debug, PartialEq, Eq)]
+#[derive(Clone, Copy, Debug)]
 pub enum JobKind {
     /// No token begins there.
     Token,
@@ -88,7 +88,7 @@ impl fmt::Display for JobKind {
 }
 
 /// A refusal of a text, with its line and column, from 1 in bytes. Want of memory stands at 1:1.
-#[derive(Clone, Copy, Debug, PartialEq, Eq)]
+#[derive(Clone, Copy, Debug)]
 pub struct JobError {
     pub line: u32,
     pub column: u32,

@@ -4,7 +4,7 @@ ghost use Rattle.std.specs.Str.{bytes_eq};
 ghost use Rattle.job_tokens.specs.Words.{spelling, word_kind, kind_number};
 
 /// What a token is. Each sign and each reserved word is a kind of its own.
-#[derive(Clone, Copy, Debug, PartialEq, Eq)]
+#[derive(Clone, Copy)]
 pub enum Kind {
     /// The end of a statement.
     Newline,

@@ -4,7 +4,7 @@ ghost use Rattle.std.specs.List.{suffix_len};
 ghost use Rattle.job_tokens.specs.Places.{is_no_newline, line_of, column_of};
 
 /// A place in a text, from 1; the column counts bytes.
-#[derive(Clone, Copy, Debug, PartialEq, Eq)]
+#[derive(Clone, Copy)]
 pub struct Place {
     pub line: u32,
     pub column: u32,

@@ -9,7 +9,7 @@ use crate::bytes::{
 use crate::kind::{Kind, kind_of_word};
 
 /// A token, with the places of its first byte and of the byte after it.
-#[derive(Clone, Copy, Debug, PartialEq, Eq)]
+#[derive(Clone, Copy)]
 pub struct Token {
     pub kind: Kind,
     pub start: usize,
@@ -17,7 +17,7 @@ pub struct Token {
 }
 
 /// What comes next in a text.
-#[derive(Clone, Copy, Debug, PartialEq, Eq)]
+#[derive(Clone, Copy)]
 pub enum Next {
     Token(Token),
     /// No token begins at this byte, which is no blank and stands in no comment.

@@ -7,7 +7,7 @@ use std::alloc::{AllocError, AllocFailed};
 use thiserror::Error;
 
 /// Why `decode` or `encode` gives no answer. `at` is the offset of the first byte of the refused form.
-#[derive(Clone, Copy, Debug, PartialEq, Eq, Error)]
+#[derive(Clone, Copy, Debug, Error)]
 pub enum MpError {
     /// The bytes end before the value does.
     #[error("the bytes end before the value does")]
@@ -35,7 +35,7 @@ pub enum MpError {
 }
 
 /// Why a stream of frame groups is refused.
-#[derive(Clone, Copy, Debug, PartialEq, Eq, Error)]
+#[derive(Clone, Copy, Debug, Error)]
 pub enum FrameError {
     /// A group of no frames, or of more than 17.
     #[error("a group of {count} frames")]

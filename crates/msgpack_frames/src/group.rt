@@ -117,7 +117,7 @@ fn frames_of(alloc: Global, lens: &[u64], bytes: &[u8]) -> Result<Vec<Vec<u8>>, 
 }
 
 /// The frames of a group, in order.
-#[derive(Debug, Drop)]
+#[derive(Drop)]
 pub struct Frames {
     frames: Vec<Vec<u8>>,
 }

@@ -90,7 +90,7 @@ fn advance_over(
 ///
 /// A group is its number of frames, from 1 to 17, the length of each, and the frames; the numbers are 8
 /// bytes, the lowest first. The first frame has at most 2^24 bytes, and the others at most 2^27.
-#[derive(Debug, Drop)]
+#[derive(Drop)]
 pub struct FrameReader {
     ready: VecDeque<Frames>,
     rest: Vec<u8>,

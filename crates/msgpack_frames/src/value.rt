@@ -5,7 +5,7 @@ ghost use Rattle.std.specs.Prelude.{◌≡◌, SomeIff};
 use std::marker::Model;
 
 /// A whole number from -2^63 to 2^64 - 1: what the integer forms of MessagePack can hold.
-#[derive(Clone, Copy, Debug, PartialEq, Eq)]
+#[derive(Clone, Copy)]
 pub struct Integer {
     number: i128,
 }
@@ -68,7 +68,7 @@ impl Integer {
 ///
 /// Strings are UTF-8. A map is its pairs in order: any value may be a key, and a key may come twice.
 /// See <https://github.com/msgpack/msgpack/blob/master/spec.md>.
-#[derive(Debug, PartialEq, Drop)]
+#[derive(Drop)]
 pub enum Value {
     Nil,
     Bool(bool),

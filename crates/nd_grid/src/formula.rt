@@ -12,7 +12,7 @@ use std::error::Error;
 use std::fmt;
 
 /// Why there is no block.
-#[derive(Clone, Copy, Debug, PartialEq, Eq)]
+#[derive(Clone, Copy, Debug)]
 pub enum Fail {
     /// The divisor at this place is the first in row-major order that is 0.
     ZeroDivide { position: u64 },

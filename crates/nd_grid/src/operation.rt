@@ -5,7 +5,7 @@ ghost use Rattle.nd_grid.specs.Operation.{apply, combine, pick, pick_all, negate
 use crate::int64::{floor_divide, floor_remainder};
 
 /// An operation on two elements.
-#[derive(Clone, Copy, Debug, PartialEq, Eq)]
+#[derive(Clone, Copy)]
 pub enum Binary {
     Add,
     Sub,
@@ -19,7 +19,7 @@ pub enum Binary {
 }
 
 /// An operation that folds elements into one.
-#[derive(Clone, Copy, Debug, PartialEq, Eq)]
+#[derive(Clone, Copy)]
 pub enum Fold {
     Sum,
     Prod,

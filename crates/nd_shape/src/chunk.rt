@@ -7,7 +7,7 @@ use crate::sequence::{Dims, Sizes};
 use std::alloc::{AllocError, Global};
 
 /// How an axis is cut into chunks: by one size, with a smaller last chunk, or by a list of sizes.
-#[derive(Debug, Drop)]
+#[derive(Drop)]
 pub enum ChunkSpec {
     Even(u64),
     List(Dims),

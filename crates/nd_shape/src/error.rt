@@ -6,7 +6,7 @@ use std::error::Error;
 use std::fmt;
 
 /// Why shapes, axes, indexes or splits don't fit an operation. Axes are counted from 0.
-#[derive(Clone, Copy, Debug, PartialEq, Eq)]
+#[derive(Clone, Copy, Debug)]
 pub enum ShapeError {
     /// Two lengths don't agree, on an axis of the result.
     Misfit { axis: u64, left: u64, right: u64 },
@@ -82,7 +82,7 @@ impl<T: Drop> From<AllocFailed<T>> for ShapeError {
 }
 
 /// Why a way to cut an array into chunks is refused. Axes are counted from 0.
-#[derive(Clone, Copy, Debug, PartialEq, Eq)]
+#[derive(Clone, Copy, Debug)]
 pub enum ChunkError {
     /// Chunks for another number of axes.
     AxisCount { given: u64, axes: u64 },

@@ -6,14 +6,14 @@ use crate::error::ShapeError;
 
 /// One part of a slice, between `[` and `]`: an index, or a range by its start, its stop and its step, each of which
 /// may be left out.
-#[derive(Clone, Copy, Debug, PartialEq, Eq)]
+#[derive(Clone, Copy)]
 pub enum Part {
     At(i64),
     Range(Option<i64>, Option<i64>, Option<i64>),
 }
 
 /// The indexes of an axis that a slice takes: `count` of them, from `start` on, `step` apart.
-#[derive(Clone, Copy, Debug, PartialEq, Eq)]
+#[derive(Clone, Copy)]
 pub struct Steps {
     pub start: u64,
     pub step: i64,

@@ -9,7 +9,7 @@ use std::fmt;
 use thiserror::Error;
 
 /// Why a file's head, or a region of its array, isn't given. Offsets and counts are in bytes.
-#[derive(Clone, Copy, Debug, PartialEq, Eq, Error)]
+#[derive(Clone, Copy, Debug, Error)]
 pub enum NpyError {
     /// The file doesn't begin with the magic: it differs or ends at this offset.
     NotNpy { at: u64 },

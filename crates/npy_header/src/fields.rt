@@ -7,7 +7,7 @@ use std::marker::Model;
 use thiserror::Error;
 
 /// Why there are no fields.
-#[derive(Clone, Copy, Debug, PartialEq, Eq, Error)]
+#[derive(Clone, Copy, Debug, Error)]
 pub enum HeaderError {
     /// The bytes are no header. The byte `at` is the first for which no header of any length begins with the bytes up to and
     /// with it; it is the number of bytes where there is no such byte.
@@ -36,7 +36,7 @@ impl<T: Drop> From<AllocFailed<T>> for HeaderError {
 /// What a header says: the string of `descr`, whether the data is in column-major order, and the lengths of the axes.
 ///
 /// A length above 2^64-1 is 2^64-1 here.
-#[derive(Debug, Drop)]
+#[derive(Drop)]
 pub struct HeaderFields {
     descr: Vec<u8>,
     fortran: bool,

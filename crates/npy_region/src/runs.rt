@@ -11,7 +11,7 @@ use npy_codec::Head;
 use std::alloc::{AllocError, Global};
 
 /// Bytes that are contiguous in a file, and whose elements are contiguous in a block.
-#[derive(Clone, Copy, Debug, PartialEq, Eq)]
+#[derive(Clone, Copy)]
 pub struct Run {
     /// Where it begins in the file, in bytes.
     pub offset: u64,

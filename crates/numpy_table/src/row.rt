@@ -7,7 +7,7 @@ use nd_shape::{ChunkSpec, Dims, Specs};
 use std::alloc::{AllocError, AllocFailed, Global};
 
 /// Why a row has no answer.
-#[derive(Clone, Copy, Debug, PartialEq, Eq)]
+#[derive(Clone, Copy)]
 pub enum RowError {
     /// It isn't numbers, or they stand for no expression.
     Ill,

@@ -11,7 +11,7 @@ use std::alloc::{AllocError, Global};
 use std::marker::Model;
 
 /// What was asked of one peer: the number of the ask, and each key with the copy that it is to be.
-#[derive(Debug, Drop)]
+#[derive(Drop)]
 pub struct OpenAsk {
     peer: u32,
     number: u64,

@@ -4,7 +4,7 @@ ghost use Rattle.cluster_rules.specs.Choice.{is_before, better};
 ghost use Rattle.placement.specs.Candidates.{rank_of, comes_before};
 
 /// Which of the connected workers are candidates.
-#[derive(Clone, Copy, Debug, PartialEq, Eq)]
+#[derive(Clone, Copy)]
 pub enum Pool {
     /// Those that are not full: where the key has no dependencies.
     NotFull,
@@ -15,7 +15,7 @@ pub enum Pool {
 }
 
 /// A worker with what it is ranked by.
-#[derive(Clone, Copy, Debug, PartialEq, Eq)]
+#[derive(Clone, Copy)]
 pub struct Candidate {
     /// The work ahead of the key for each thread, and the bytes to fetch.
     pub cost: u64,

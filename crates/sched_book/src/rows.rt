@@ -15,7 +15,7 @@ use sched_messages::Answer;
 use std::alloc::AllocError;
 
 /// What an event leaves to be told, beside the keys that it frees.
-#[derive(Clone, Copy, Debug, PartialEq, Eq)]
+#[derive(Clone, Copy)]
 pub struct Effect {
     /// What a worker is answered.
     pub answer: Answer,

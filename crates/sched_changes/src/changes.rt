@@ -16,7 +16,7 @@ use std::alloc::AllocError;
 pub type Pairs = Sequence<(u32, u32)>;
 
 /// What add-keys says of one key.
-#[derive(Clone, Copy, Debug, PartialEq, Eq)]
+#[derive(Clone, Copy)]
 pub enum News {
     Nothing,
     /// A new copy of a key that is held elsewhere.

@@ -1,7 +1,7 @@
 //! What a worker is told beside the keys that it lost and the keys that it was given.
 
 /// The event's own message to one worker.
-#[derive(Clone, Copy, Debug, PartialEq, Eq)]
+#[derive(Clone, Copy)]
 pub enum Answer {
     /// No worker is told more.
     Nothing,

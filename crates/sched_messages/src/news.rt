@@ -14,7 +14,7 @@ use sched_facts::{DerivedRows, FactTable};
 use std::alloc::{AllocError, Global};
 
 /// What is new of a key, whoever wants it.
-#[derive(Clone, Copy, Debug, PartialEq, Eq)]
+#[derive(Clone, Copy)]
 pub enum News {
     /// It is erred now.
     Erred { blame: u32 },

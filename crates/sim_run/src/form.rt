@@ -17,7 +17,7 @@ const ELEMENTS: u64 = 1_048_576;
 
 /// A number is added to an array of one axis, which is cut into chunks of one size: how many elements there are, how many a
 /// chunk has, and the number.
-#[derive(Clone, Copy, Debug, PartialEq, Eq)]
+#[derive(Clone, Copy)]
 pub struct Addition {
     pub count: u64,
     pub size: u64,

@@ -6,7 +6,7 @@ use std::alloc::AllocError;
 use thiserror::Error;
 
 /// Why no simulation was read.
-#[derive(Clone, Copy, Debug, Error, PartialEq, Eq, Drop)]
+#[derive(Clone, Copy, Debug, Error, Drop)]
 pub enum WordsFail {
     #[error("words")]
     Refused,

@@ -15,7 +15,7 @@ use std::alloc::Global;
 
 /// The numbers of a simulation: the generator's, how many workers there are at first, with how many threads each, and the
 /// saturation in tenths.
-#[derive(Clone, Copy, Debug, PartialEq, Eq)]
+#[derive(Clone, Copy)]
 pub struct Settings {
     pub number: u64,
     pub workers: u32,
@@ -24,7 +24,7 @@ pub struct Settings {
 }
 
 /// What the words of a simulation say besides the job's name.
-#[derive(Debug, Drop)]
+#[derive(Drop)]
 pub struct SimWords {
     pub settings: Settings,
     pub script: Script,

@@ -5,7 +5,7 @@ use std::alloc::{AllocError, AllocFailed};
 use thiserror::Error;
 
 /// Why `from_value` gives no message.
-#[derive(Clone, Copy, Debug, PartialEq, Eq, Error)]
+#[derive(Clone, Copy, Debug, Error)]
 pub enum WireError {
     /// The value is not a map.
     #[error("the value is not a map")]
@@ -55,7 +55,7 @@ impl<T: Drop> From<AllocFailed<T>> for WireError {
 }
 
 /// Why a value is no content of a field.
-#[derive(Clone, Copy, Debug, PartialEq, Eq)]
+#[derive(Clone, Copy)]
 pub(crate) enum PartError {
     WrongType,
     Range,

@@ -6,7 +6,7 @@ ghost use Rattle.wire_msgs.specs.Names.{name};
 use std::fmt;
 
 /// A field of a message, by its name in the map.
-#[derive(Clone, Copy, Debug, PartialEq, Eq)]
+#[derive(Clone, Copy, Debug)]
 pub enum Field {
     Op,
     Seen,

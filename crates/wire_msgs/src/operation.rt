@@ -8,7 +8,7 @@ ghost use Rattle.wire_msgs.specs.Names.{op_name, operations, operation_named, fi
 use crate::field::Field;
 
 /// What a message is, by the name under `op`.
-#[derive(Clone, Copy, Debug, PartialEq, Eq)]
+#[derive(Clone, Copy)]
 pub(crate) enum Operation {
     ComputeTask,
     FreeKeys,

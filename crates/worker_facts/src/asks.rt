@@ -7,7 +7,7 @@ ghost use Rattle.cluster_rules.specs.Worker.{Ask, ask_to};
 use std::marker::Model;
 
 /// What a worker has asked of one peer: the number of the ask, and each key with the copy that it is to be.
-#[derive(Debug, Drop)]
+#[derive(Drop)]
 pub struct OpenAsk {
     peer: u32,
     number: u64,
