@@ -1,3 +1,4 @@
 pub mod Dags
 pub mod ShapeLemmas
+pub mod StoredLemmas
 pub mod ValueLemmas

@@ -35,6 +35,15 @@ edge_count g = total_length g.deps
 abbrev pub pushed : Shape → List ℕ → ℕ → ℕ → Shape
 pushed g deps work nbytes = record { deps = g.deps ++ deps ∷ []; work = g.work ++ work ∷ []; nbytes = g.nbytes ++ nbytes ∷ [] }
 
+-- what the next key of a graph keeps to: its dependencies rise and are below it, and no limit is passed
+pub record Follows (g : Shape) (deps : List ℕ) (work nbytes : ℕ) : Type 0 where
+  pub room : key_count g < 32768
+  pub edges : edge_count g + length deps ≤ 262144
+  pub rising : IsStrictlyIncreasing deps
+  pub below : AllByRecursion (λ d. d < key_count g) deps
+  pub light : work ≤ 2 ^ 46
+  pub small : nbytes ≤ 2 ^ 27
+
 -- each dependency is below its key, the dependencies of a key rise, and no limit is passed
 pub record IsShape (g : Shape) : Type 0 where
   pub work_each : length g.work ≡ length g.deps

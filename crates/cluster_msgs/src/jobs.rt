@@ -1,5 +1,5 @@
 //! What a cluster runs.
-ghost use Rattle.std.specs.Prelude.{◌≡◌, ◌<◌, ℕ, List, Option, map, IfOk};
+ghost use Rattle.std.specs.Prelude.{◌≡◌, ◌↔◌, ◌<◌, ℕ, List, Option, map, IfOk};
 ghost use Rattle.cluster_msgs.specs.Shape.{Shape, key_count, deps_of};
 
 use crate::shape::GraphShape;
@@ -106,6 +106,6 @@ pub trait JobSpec: Send + Sync + Drop {
         ensures dims { IfOk result (λ o. IfValue o (λ b. block_dims b ≡ key_dims self.now key)) }
 
         ensures fits { feed_fits self.now feed.new }
-        ensures tells { feed_tells self.now feed.old → feed_tells self.now feed.new }
+        ensures tells { feed_tells self.now feed.new ↔ feed_tells self.now feed.old }
         ensures faults { CountsFault result (fault_count feed.old) (fault_count feed.new) };
 }

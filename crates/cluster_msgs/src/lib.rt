@@ -26,4 +26,4 @@ pub use labels::{Label, Named, Naming};
 pub use lists::{Cells, Duplicate, Holders, KeyList, Sequence, WhoHas};
 pub use messages::{Down, FromClient, Message, Peer, Role, ToClient, Up};
 pub use packets::Packet;
-pub use shape::GraphShape;
+pub use shape::{GraphRow, GraphShape, RowsError};
