@@ -24,7 +24,7 @@ use Rattle.gather_client.specs.CoreState.{CoreState, client_facts}
 use Rattle.cluster_rules.specs.WorldStep.{cut_off, spill}
 use Rattle.fact_rows.specs.Rows.{read, cell}
 use Rattle.message_queues.specs.Queues.{waiting}
-use Rattle.value_laws.specs.Blocks.{Cluster}
+use Rattle.cluster_laws.specs.Blocks.{Cluster}
 use Rattle.worker_core.specs.Core.{Core, facts}
 use Rattle.cluster_nodes.specs.declared.nodes.Nodes.{Nodes}
 use Rattle.cluster_nodes.specs.Nodes.{as_down, as_up, as_to_client, as_from_client, block_at, blocks_at, worker_of, client_of, if_alive, workers_of, clients_of, world_of, blocks_in, cluster_of}

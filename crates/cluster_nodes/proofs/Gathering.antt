@@ -12,15 +12,15 @@ use Rattle.cluster_rules.specs.Sched.{Facts}
 use Rattle.cluster_rules.specs.World.{Parcel, parcel_before, is_parcel, with_parcel, parcel_of, without_parcel}
 use Rattle.message_queues.specs.Transit.{parcel_of_transit, parcels, is_transit, with_transit, transit_of, without_transit, IsRequest, IsAnswer, AreRequests, AreAnswers}
 use Rattle.message_queues.specs.declared.transit.InTransit.{InTransit}
-use Rattle.value_laws.specs.Blocks.{Delivery}
-use Rattle.value_laws.specs.Moves.{block_among, delivery_of, with_delivery, without_delivery}
+use Rattle.cluster_laws.specs.Blocks.{Delivery}
+use Rattle.cluster_laws.specs.Moves.{block_among, delivery_of, with_delivery, without_delivery}
 use Rattle.cluster_nodes.specs.declared.nodes.Nodes.{Nodes}
 use Rattle.cluster_nodes.specs.Nodes.{block_at, delivery_at, world_of, blocks_in, cluster_of}
 use Rattle.cluster_nodes.specs.Turns.{IsRefusedBy, first_at, among, served_by, answer_gone, gathered_turned, answer_arrived}
 use Rattle.message_queues.proofs.QueueLemmas.{parcels-with, all_with, all_where}
 use Rattle.fact_rows.specs.Rows.{cell}
 use Rattle.message_queues.specs.Transit.{named_by}
-use Rattle.value_laws.specs.Blocks.{Cluster}
+use Rattle.cluster_laws.specs.Blocks.{Cluster}
 
 abbrev pub deliveries : {B : Type 0} → List (InTransit B) → List (Delivery B)
 deliveries ts = map (λ t. delivery_at t) ts

@@ -5,7 +5,7 @@ use Rattle.std.specs.List.{AllByRecursion}
 use Rattle.std.proofs.lemmas.Bool.{false≢true, eqb-true, cases_lt}
 use Rattle.std.proofs.lemmas.Bool.Decides.{nat_tests}
 use Rattle.cluster_rules.specs.Functions.{put, put_pair}
-use Rattle.value_laws.specs.Moves.{either, keeps}
+use Rattle.cluster_laws.specs.Moves.{either, keeps}
 use Rattle.cluster_nodes.specs.Turns.{first_at}
 
 -- a member that was written, and the others

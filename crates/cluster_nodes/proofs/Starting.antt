@@ -14,7 +14,7 @@ use Rattle.gather_client.specs.CoreState.{CoreState, client_facts}
 use Rattle.message_queues.specs.Queues.{waiting}
 use Rattle.message_queues.specs.Transit.{parcels, AreRequests, AreAnswers}
 use Rattle.message_queues.specs.declared.transit.InTransit.{InTransit}
-use Rattle.value_laws.specs.Blocks.{no_blocks}
+use Rattle.cluster_laws.specs.Blocks.{no_blocks}
 use Rattle.worker_core.specs.Core.{Core, facts}
 use Rattle.cluster_nodes.specs.declared.nodes.Nodes.{Nodes}
 use Rattle.cluster_nodes.specs.Nodes.{as_down, as_up, as_to_client, as_from_client, block_at, blocks_at, delivery_at, workers_of, world_of, blocks_in, cluster_of}

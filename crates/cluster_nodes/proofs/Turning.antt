@@ -24,7 +24,7 @@ use Rattle.message_queues.specs.Queues.{waiting}
 use Rattle.message_queues.specs.Posts.{ups, from_clients}
 use Rattle.message_queues.specs.Transit.{parcels}
 use Rattle.message_queues.specs.declared.transit.InTransit.{InTransit}
-use Rattle.value_laws.specs.Moves.{keeps}
+use Rattle.cluster_laws.specs.Moves.{keeps}
 use Rattle.worker_core.specs.Core.{Core, facts}
 use Rattle.cluster_nodes.specs.declared.nodes.Nodes.{Nodes}
 use Rattle.cluster_nodes.specs.Nodes.{as_up, as_from_client, block_at, workers_of, clients_of, world_of, blocks_in, cluster_of}

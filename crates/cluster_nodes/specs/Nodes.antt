@@ -22,7 +22,7 @@ use Rattle.gather_client.specs.CoreState.{CoreState, client_facts}
 use Rattle.message_queues.specs.Queues.{waiting}
 use Rattle.message_queues.specs.Transit.{parcel_of_transit, parcels}
 use Rattle.message_queues.specs.declared.transit.InTransit.{InTransit}
-use Rattle.value_laws.specs.Blocks.{Delivery, Blocks, Cluster}
+use Rattle.cluster_laws.specs.Blocks.{Delivery, Blocks, Cluster}
 use Rattle.worker_core.specs.Core.{Core, facts}
 use Rattle.cluster_nodes.specs.declared.nodes.Nodes.{Nodes}
 

@@ -16,8 +16,8 @@ use Rattle.cluster_rules.specs.WorkerStep.{worker_step, worker_takes}
 use Rattle.cluster_rules.specs.Client.{client_step, client_takes}
 use Rattle.cluster_rules.specs.World.{World, Parcel, with_parcel, without_parcel}
 use Rattle.cluster_rules.specs.WorldStep.{at_worker, at_client, new_at, died}
-use Rattle.value_laws.specs.Blocks.{Delivery, Cluster}
-use Rattle.value_laws.specs.Moves.{block_among, keeps, with_delivery, without_delivery}
+use Rattle.cluster_laws.specs.Blocks.{Delivery, Cluster}
+use Rattle.cluster_laws.specs.Moves.{block_among, keeps, with_delivery, without_delivery}
 use Rattle.cluster_nodes.specs.Nodes.{block_at}
 
 -- what stands first for a key among these

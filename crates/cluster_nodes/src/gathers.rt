@@ -8,7 +8,7 @@ ghost use Rattle.cluster_rules.specs.World.{parcel_of};
 ghost use Rattle.fact_rows.specs.Rows.{read, cell};
 ghost use Rattle.message_queues.specs.Transit.{named_by};
 ghost use Rattle.worker_core.specs.Core.{facts};
-ghost use Rattle.value_laws.specs.Moves.{block_among, delivery_of};
+ghost use Rattle.cluster_laws.specs.Moves.{block_among, delivery_of};
 ghost use Rattle.cluster_nodes.specs.Nodes.{block_at, blocks_in, cluster_of, world_of};
 ghost use Rattle.cluster_nodes.specs.Turns.{IsRefusedBy, among, answer_arrived, gathered_turned, served_by};
 ghost use Rattle.cluster_nodes.specs.Kept.{HasAsker, HasSameNodes, IsNodes, TookFew};

@@ -8,7 +8,7 @@ ghost use Rattle.cluster_rules.specs.World.{opening};
 ghost use Rattle.fact_rows.specs.Rows.{cell, height, width};
 ghost use Rattle.gather_client.specs.CoreState.{client_facts};
 ghost use Rattle.message_queues.specs.Queues.{waiting};
-ghost use Rattle.value_laws.specs.Blocks.{no_blocks};
+ghost use Rattle.cluster_laws.specs.Blocks.{no_blocks};
 ghost use Rattle.cluster_nodes.specs.Nodes.{cluster_of};
 ghost use Rattle.cluster_nodes.specs.Kept.{IsNodes, ClientsTookFew, TookFew};
 

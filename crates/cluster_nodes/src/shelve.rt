@@ -2,7 +2,7 @@
 ghost use Rattle.std.specs.Prelude.{◌≡◌, ◌<◌, ◌≤◌, ◌&&◌, ◌==◌, ℕ, Bool, false, None, Some, cond, nat_lt};
 ghost use Rattle.cluster_rules.specs.Functions.{put, put_pair};
 ghost use Rattle.fact_rows.specs.Rows.{cell, height, width};
-ghost use Rattle.value_laws.specs.Moves.{either, keeps};
+ghost use Rattle.cluster_laws.specs.Moves.{either, keeps};
 ghost use Rattle.cluster_nodes.specs.Turns.{first_at};
 
 use gather_client::ClientCore;

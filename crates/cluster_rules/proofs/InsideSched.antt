@@ -37,8 +37,8 @@ use Rattle.cluster_rules.specs.WorldStep.{letters, client_sends, client_requeste
 use Rattle.cluster_rules.specs.Frame.{IsSettling}
 use Rattle.cluster_rules.proofs.SchedFrame.{step_settles}
 use Rattle.cluster_rules.specs.Inside.{IsKey, AreKeys, named_keys, down_keys, news_keys, item_keys, IsInsideClient}
-use Rattle.cluster_rules.proofs.TruthWorker.{all_append}
-use Rattle.cluster_rules.proofs.TruthSched.{blame_below}
+use Rattle.cluster_rules.proofs.AllLemmas.{all_append}
+use Rattle.cluster_rules.proofs.BlameLemmas.{blame_below}
 use Rattle.cluster_rules.proofs.InsideWorker.{all_filter_in, all_take_in, all_map_in, all_map_out, keys_below, asks_with, items_of, asked_in, parcels_with}
 use Rattle.cluster_rules.specs.Worker.{ask_items}
 
@@ -229,7 +229,7 @@ module _ (g : Shape) (low : IsShape g) where
   unfolding blame
   blame_in_range j f s k b v e =
       let below : IsEarlier (deps f) = subst (λ (x : Shape). IsEarlier (deps_of x)) (sym s) (record { below = low.below }) in
-      let r = blame_below j f below (suc k) k b e in
+      let r = blame_below f below (suc k) k b e in
       lt-ltb b (key_count g) (omega (arith, cone-below (deps f) below k b r.1, ltb-true k (key_count g) v))
 
   news_of : (j : Job) (t : Stages) → t.placed.setting.shape ≡ g → (c k : ℕ) → IsKey g k → (ms : List (ℕ × ToClient)) → AllByRecursion (λ (m : ℕ × ToClient). AreKeys g (news_keys m.1)) ms

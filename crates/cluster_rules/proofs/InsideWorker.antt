@@ -22,7 +22,7 @@ use Rattle.cluster_rules.specs.World.{Parcel, parcel_before, with_parcel}
 use Rattle.cluster_rules.specs.WorldStep.{sends, requested}
 use Rattle.cluster_rules.specs.Inside.{IsKey, AreKeys, named_keys, down_keys, item_keys, IsInsideWorker}
 use Rattle.cluster_rules.proofs.WorkerLemmas.{at_one, find_passes}
-use Rattle.cluster_rules.proofs.TruthWorker.{all_append}
+use Rattle.cluster_rules.proofs.AllLemmas.{all_append}
 
 -- lists whose members are all of a kind
 pub all_filter_in : {A : Type 0} (P : A → Type 0) (t : A → Bool) (xs : List A) → AllByRecursion P xs → AllByRecursion P (filter t xs)

@@ -6,7 +6,6 @@ pub mod Policies
 pub mod SchedTable
 pub mod SchedStep
 pub mod Frame
-pub mod Order
 pub mod Worker
 pub mod WorkerStep
 pub mod WorkerKept
@@ -14,9 +13,7 @@ pub mod Client
 pub mod World
 pub mod WorldStep
 pub mod Enabled
-pub mod WorldFrame
 pub mod Runs
-pub mod Truth
 pub mod Inside
 pub mod Report
 pub mod Draw

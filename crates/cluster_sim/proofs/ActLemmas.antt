@@ -3,8 +3,8 @@ use Rattle.std.proofs.Common.{◌≡◌, ℕ, ◌+◌, Bool, List, Option, Resul
 use Rattle.std.specs.Prelude.{OnOk}
 use Rattle.cluster_msgs.specs.declared.events.Event.{Event}
 use Rattle.cluster_rules.specs.WorldStep.{world_step}
-use Rattle.value_laws.specs.Blocks.{job_of}
-use Rattle.value_laws.specs.Moves.{world_after}
+use Rattle.cluster_laws.specs.Blocks.{job_of}
+use Rattle.cluster_laws.specs.Moves.{world_after}
 use Rattle.cluster_world.specs.declared.state.State.{State}
 use Rattle.cluster_world.specs.declared.state.Course.{Course}
 use Rattle.cluster_world.specs.declared.state.Course.TheVariants.{Going, Fed, Starved}

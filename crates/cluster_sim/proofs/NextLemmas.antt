@@ -13,7 +13,7 @@ use Rattle.cluster_rules.specs.Derived.{below}
 use Rattle.cluster_rules.specs.World.{Job, World, Parcel, all_workers, all_clients, is_connected, shape_of}
 use Rattle.cluster_rules.specs.Enabled.{enabled, progress, progress_kinds, connected_workers, quiet_askers, is_quiet_asker}
 use Rattle.cluster_rules.specs.Draw.{Plan, Sim, Next, Over, Scripted, Evicts, Balances, Spent, Drawn, over, is_reached, is_idle, is_blocked, item_event, scripted, evicts_now, balances_now, drawn, draw_one, turn, unscripted, next_by, next, event_of, moved}
-use Rattle.cluster_rules.proofs.WorldLemmas.{progress_enabled}
+use Rattle.cluster_laws.proofs.WorldLemmas.{progress_enabled}
 use Rattle.cluster_rules.proofs.InsideWorker.{all_filter_in, all_map_in}
 use Rattle.cluster_rules.proofs.InsideSched.{all_flat_map_in, all_always}
 use Rattle.cluster_sim.specs.Plans.{joins_in}

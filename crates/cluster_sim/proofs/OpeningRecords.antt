@@ -9,7 +9,7 @@ use Rattle.cluster_rules.specs.Sched.{Setting}
 use Rattle.cluster_rules.specs.World.{Job, World as Cluster, opening}
 use Rattle.cluster_rules.specs.Enabled.{enabled, message}
 use Rattle.cluster_rules.specs.Report.{Taken, is_join, how_many}
-use Rattle.value_laws.specs.Blocks.{Cluster as Blocks, setting_of, opening_cluster}
+use Rattle.cluster_laws.specs.Blocks.{Cluster as Blocks, setting_of, opening_cluster}
 use Rattle.run_report.specs.Counts.{IsCountOf}
 use Rattle.run_report.specs.declared.tally.Tally.{Tally}
 use Rattle.cluster_world.specs.declared.state.State.{State}

@@ -13,10 +13,10 @@ use Rattle.cluster_rules.specs.World.{World, shape_of}
 use Rattle.cluster_rules.specs.Runs.{legal, reached}
 use Rattle.cluster_rules.specs.Draw.{Plan, over, over_by}
 use Rattle.cluster_rules.proofs.SchedFrame.{or_true}
-use Rattle.cluster_rules.proofs.TruthWorld.{true_after}
-use Rattle.value_laws.specs.Blocks.{job_of}
-use Rattle.value_laws.specs.AreValues.{IsBlamed}
-use Rattle.value_laws.proofs.Values.{blamed}
+use Rattle.cluster_laws.proofs.TruthWorld.{true_after}
+use Rattle.cluster_laws.specs.Blocks.{job_of}
+use Rattle.cluster_laws.specs.AreValues.{IsBlamed}
+use Rattle.cluster_laws.proofs.Values.{blamed}
 use Rattle.cluster_sim.specs.Plans.{IsPlan}
 use Rattle.cluster_sim.specs.Standing.{IsFor, IsStanding}
 use Rattle.cluster_sim.specs.Openings.{IsOpen}

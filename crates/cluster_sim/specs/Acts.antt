@@ -4,7 +4,7 @@ use Rattle.cluster_msgs.specs.Jobs.{Rose}
 use Rattle.cluster_msgs.specs.declared.events.Event.{Event}
 use Rattle.cluster_rules.specs.World.{Job}
 use Rattle.cluster_rules.specs.WorldStep.{world_step}
-use Rattle.value_laws.specs.Blocks.{job_of}
+use Rattle.cluster_laws.specs.Blocks.{job_of}
 use Rattle.cluster_world.specs.declared.state.State.{State}
 use Rattle.cluster_world.specs.declared.state.Course.TheVariants.{Going}
 use Rattle.cluster_world.specs.declared.errors.StepError.{StepError}

@@ -4,7 +4,7 @@ use Rattle.cluster_msgs.specs.declared.events.Event.{Event}
 use Rattle.cluster_rules.specs.Derived.{is_in}
 use Rattle.cluster_rules.specs.World.{World as Cluster, shape_of}
 use Rattle.cluster_rules.specs.Worker.{has_any}
-use Rattle.value_laws.specs.Blocks.{opening_cluster}
+use Rattle.cluster_laws.specs.Blocks.{opening_cluster}
 use Rattle.cluster_world.specs.declared.state.State.{State}
 use Rattle.cluster_world.specs.declared.state.Course.TheVariants.{Going}
 use Rattle.cluster_world.specs.Worlds.{cluster, world, setting, IsReached}

@@ -22,12 +22,12 @@ use Rattle.cluster_rules.specs.Derived.{below}
 use Rattle.cluster_rules.specs.Inside.{IsKey}
 use Rattle.cluster_rules.specs.Worker.{Ask, has_any, would_start, running_count, wstate, is_ready_state, worker_keys}
 use Rattle.cluster_rules.proofs.InsideWorker.{found_in, keys_below}
-use Rattle.value_laws.proofs.Deliveries.{none_some, some_is}
+use Rattle.cluster_laws.proofs.Deliveries.{none_some, some_is}
 use Rattle.cluster_rules.specs.World.{World, shape_of, is_client, is_asker, is_connected, open_ask}
 use Rattle.cluster_rules.specs.Enabled.{are_named, enabled, front}
 use Rattle.fact_rows.specs.Rows.{read}
 use Rattle.message_queues.specs.Queues.{waiting}
-use Rattle.value_laws.specs.Blocks.{Cluster}
+use Rattle.cluster_laws.specs.Blocks.{Cluster}
 use Rattle.scheduler_core.specs.Cores.{Core, facts}
 use Rattle.cluster_nodes.specs.declared.nodes.Nodes.{Nodes}
 use Rattle.cluster_nodes.specs.Kept.{IsNodes, HasSameNodes, HasAsker, TookFew}

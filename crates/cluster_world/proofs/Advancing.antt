@@ -6,8 +6,8 @@ use Rattle.cluster_msgs.specs.declared.events.Event.TheVariants.{Finish}
 use Rattle.cluster_rules.specs.Sched.{Setting}
 use Rattle.cluster_rules.specs.WorldStep.{world_step}
 use Rattle.cluster_rules.specs.Enabled.{enabled}
-use Rattle.value_laws.specs.Blocks.{Cluster, job_of}
-use Rattle.value_laws.specs.Moves.{meets_zero, brought, world_after, cluster_step}
+use Rattle.cluster_laws.specs.Blocks.{Cluster, job_of}
+use Rattle.cluster_laws.specs.Moves.{meets_zero, brought, world_after, cluster_step}
 use Rattle.cluster_world.specs.declared.state.State.{State}
 use Rattle.cluster_world.specs.declared.state.Course.TheVariants.{Fed, Starved}
 use Rattle.cluster_world.specs.declared.errors.StepError.{StepError}

@@ -7,7 +7,7 @@ use Rattle.scheduler_core.specs.Cores.{Core, facts}
 use Rattle.cluster_nodes.specs.declared.nodes.Nodes.{Nodes}
 use Rattle.cluster_nodes.specs.Kept.{IsNodes, TookFew}
 use Rattle.cluster_nodes.specs.Nodes.{cluster_of}
-use Rattle.value_laws.specs.Blocks.{setting_of, opening_cluster, no_blocks}
+use Rattle.cluster_laws.specs.Blocks.{setting_of, opening_cluster, no_blocks}
 use Rattle.cluster_world.specs.declared.state.State.{State}
 use Rattle.cluster_world.specs.declared.state.Course.TheVariants.{Going}
 use Rattle.cluster_world.specs.Worlds.{cluster, setting, IsReady, IsReached}

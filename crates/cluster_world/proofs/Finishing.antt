@@ -15,7 +15,7 @@ use Rattle.cluster_msgs.specs.declared.events.Event.TheVariants.{Finish}
 use Rattle.cluster_rules.specs.World.{shape_of}
 use Rattle.cluster_rules.specs.Enabled.{enabled}
 use Rattle.fact_rows.specs.Rows.{cell}
-use Rattle.value_laws.proofs.Deliveries.{none_some, some_is}
+use Rattle.cluster_laws.proofs.Deliveries.{none_some, some_is}
 use Rattle.cluster_nodes.specs.Nodes.{blocks_at, world_of, blocks_in}
 use Rattle.cluster_world.specs.declared.state.State.{State}
 use Rattle.cluster_world.specs.declared.state.Course.TheVariants.{Fed}

@@ -11,10 +11,10 @@ use Rattle.cluster_msgs.specs.declared.events.Event.TheVariants.{ServeGather, Ar
 use Rattle.cluster_rules.specs.World.{World, Parcel, same_asker, is_parcel, parcel_of, without_parcel}
 use Rattle.cluster_rules.specs.WorldStep.{at_worker, at_client, gathered_at, serve, take_answer, world_step}
 use Rattle.cluster_rules.proofs.DerivedLemmas.{eqb_comm}
-use Rattle.value_laws.specs.Blocks.{Delivery, Blocks, Cluster}
+use Rattle.cluster_laws.specs.Blocks.{Delivery, Blocks, Cluster}
 use Rattle.cluster_rules.proofs.SchedFrame.{same_eqb}
-use Rattle.value_laws.specs.Moves.{block_among, delivery_of, delivered, without_delivery, served, taken, brought, starts, carried_after, blocks_after}
-use Rattle.value_laws.proofs.Deliveries.{some_is, none_some, parcel_found}
+use Rattle.cluster_laws.specs.Moves.{block_among, delivery_of, delivered, without_delivery, served, taken, brought, starts, carried_after, blocks_after}
+use Rattle.cluster_laws.proofs.Deliveries.{some_is, none_some, parcel_found}
 use Rattle.cluster_nodes.specs.Turns.{served_by, answer_arrived}
 use Rattle.cluster_world.specs.Outcomes.{stepped}
 use Rattle.cluster_world.specs.Kept.{IsTidy}

@@ -30,7 +30,7 @@ use Rattle.cluster_rules.specs.WorldStep.{scheduled, sends, client_sends, worked
 use Rattle.cluster_rules.specs.Enabled.{enabled}
 use Rattle.cluster_rules.specs.Inside.{IsKey, AreKeys, down_keys, news_keys, IsInsideWorker, IsInsideClient, IsInsideWorld}
 use Rattle.cluster_rules.proofs.WorkerLemmas.{at_one}
-use Rattle.cluster_rules.proofs.TruthWorker.{all_append}
+use Rattle.cluster_rules.proofs.AllLemmas.{all_append}
 use Rattle.cluster_rules.proofs.InsideWorker.{all_filter_in, IsInsideStep, IsInsideEvent, in_step, sends_in, requested_in, parcels_with}
 use Rattle.cluster_rules.proofs.InsideSched.{IsInsideSched, down_in, mail_in, news_in, letters_in, IsInsideClientEvent, IsClientStep, client_in, client_sends_in, client_requested_in, all_found}
 use Rattle.cluster_msgs.specs.declared.messages.Up.TheVariants.{TaskFinished, TaskErred, AddKeys, ReleaseWorkerData, MissingData, RequestRefreshWhoHas, StealResponse}
@@ -38,7 +38,7 @@ use Rattle.cluster_msgs.specs.declared.messages.FromClient.TheVariants.{Want as 
 use Rattle.cluster_msgs.specs.declared.cores.Steal.{Steal}
 use Rattle.cluster_rules.specs.Policies.{next_steal, next_drop}
 use Rattle.cluster_rules.proofs.SchedFrame.{step_settles}
-use Rattle.value_laws.specs.Moves.{world_after}
+use Rattle.cluster_laws.specs.Moves.{world_after}
 
 -- the setting is this one
 record HasSetting (s : Setting) (f : Facts) : Type 0 where

@@ -32,8 +32,8 @@ use Rattle.cluster_rules.specs.WorldStep.{letters, scheduled, worked, client_wor
 use Rattle.cluster_rules.specs.Enabled.{are_named, enabled}
 use Rattle.cluster_rules.proofs.SchedFrame.{step_settles}
 use Rattle.cluster_rules.proofs.WorkerLemmas.{at_one}
-use Rattle.value_laws.specs.Moves.{world_after}
-use Rattle.value_laws.proofs.Deliveries.{none_some, some_is}
+use Rattle.cluster_laws.specs.Moves.{world_after}
+use Rattle.cluster_laws.proofs.Deliveries.{none_some, some_is}
 use Rattle.cluster_world.proofs.Inside.{change_setting}
 use Rattle.cluster_world.proofs.Numbers.{news_go}
 use Rattle.cluster_world.proofs.Gathers.{is_of, found_is}

@@ -24,7 +24,7 @@ use Rattle.cluster_rules.specs.World.{Job, World, Parcel, opening, shape_of, is_
 use Rattle.cluster_rules.specs.Enabled.{are_named, enabled}
 use Rattle.cluster_rules.specs.Inside.{IsKey, AreKeys, named_keys, down_keys, news_keys, IsInsideWorld}
 use Rattle.cluster_rules.proofs.InsideSched.{all_found}
-use Rattle.value_laws.specs.Moves.{world_after}
+use Rattle.cluster_laws.specs.Moves.{world_after}
 use Rattle.cluster_world.specs.Orderly.{IsOrderly}
 use Rattle.cluster_world.proofs.Settings.{same_setting}
 use Rattle.cluster_world.proofs.Inside.{inside_after}

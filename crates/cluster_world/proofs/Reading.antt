@@ -10,10 +10,10 @@ use Rattle.cluster_rules.specs.Sched.{Setting}
 use Rattle.cluster_rules.specs.World.{World}
 use Rattle.cluster_rules.specs.Client.{done}
 use Rattle.cluster_rules.specs.Runs.{reached}
-use Rattle.cluster_rules.proofs.TruthWorld.{true_after}
-use Rattle.value_laws.specs.Blocks.{Cluster, job_of}
-use Rattle.value_laws.specs.AreValues.{AreValues, IsBlamed}
-use Rattle.value_laws.proofs.Values.{values_of, blamed, world_of}
+use Rattle.cluster_laws.proofs.TruthWorld.{true_after}
+use Rattle.cluster_laws.specs.Blocks.{Cluster, job_of}
+use Rattle.cluster_laws.specs.AreValues.{AreValues, IsBlamed}
+use Rattle.cluster_laws.proofs.Values.{values_of, blamed, world_of}
 use Rattle.cluster_world.specs.Kept.{IsFilled}
 use Rattle.cluster_world.specs.Steps.{IfBlamed}
 use Rattle.cluster_world.specs.Worlds.{cluster, world, setting, IsReached}

@@ -19,8 +19,8 @@ use Rattle.cluster_rules.specs.World.{World, shape_of, is_connected, open_ask}
 use Rattle.cluster_rules.specs.WorldStep.{scheduled, at_scheduler, at_worker, at_client, new_at, died, cut_off, take_down_first, take_up, take_up_first, take_to_client, take_from_client, fail_ask, spill, world_step}
 use Rattle.cluster_rules.proofs.DerivedLemmas.{eqb_comm}
 use Rattle.cluster_rules.proofs.SchedFrame.{same_eqb}
-use Rattle.value_laws.specs.Blocks.{Blocks, Cluster}
-use Rattle.value_laws.specs.Moves.{brought, meets_zero, keeps, is_it, starts, carried_after, blocks_after}
+use Rattle.cluster_laws.specs.Blocks.{Blocks, Cluster}
+use Rattle.cluster_laws.specs.Moves.{brought, meets_zero, keeps, is_it, starts, carried_after, blocks_after}
 use Rattle.cluster_nodes.specs.Turns.{nothing, in_world, worker_turned, client_turned, down_delivered, client_told, lost}
 use Rattle.cluster_world.specs.Outcomes.{stepped}
 use Rattle.cluster_world.specs.Kept.{IsTidy}

@@ -18,7 +18,7 @@ use Rattle.cluster_rules.specs.Inside.{IsInsideWorker}
 use Rattle.cluster_rules.specs.Worker.{WorkerFacts}
 use Rattle.cluster_rules.specs.Enabled.{enabled, connected_workers, quiet_askers, is_quiet_asker, progress_kinds}
 use Rattle.cluster_rules.proofs.DerivedLemmas.{range_more}
-use Rattle.value_laws.proofs.Deliveries.{none_some, some_is}
+use Rattle.cluster_laws.proofs.Deliveries.{none_some, some_is}
 use Rattle.worker_core.specs.Runs.{IsNextRun}
 use Rattle.cluster_world.specs.declared.search.Search.{Search}
 use Rattle.cluster_world.specs.declared.search.Search.TheVariants.{Passing, Found}

@@ -23,7 +23,7 @@ use Rattle.cluster_rules.specs.World.{Job, World, Parcel, shape_of, is_connected
 use Rattle.cluster_rules.specs.WorldStep.{scheduled, worked, client_worked, at_scheduler, at_worker, at_client, new_at, died, take_down_first, take_up, take_up_first, take_to_client, take_from_client, ask_by, gathered_at, failed_at, serve, take_answer, fail_ask, spill, world_step}
 use Rattle.cluster_rules.specs.Enabled.{enabled}
 use Rattle.cluster_rules.proofs.WorkerLemmas.{at_one}
-use Rattle.value_laws.specs.Moves.{world_after}
+use Rattle.cluster_laws.specs.Moves.{world_after}
 
 abbrev AreHeld : World → Type 0
 AreHeld w = (i k : ℕ) → w.spilled i k ≡ true → (w.workers i).mem k ≡ true

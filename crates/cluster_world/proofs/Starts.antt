@@ -12,7 +12,7 @@ use Rattle.cluster_rules.specs.Functions.{put_pair}
 use Rattle.cluster_rules.specs.Worker.{would_start}
 use Rattle.cluster_rules.specs.World.{shape_of}
 use Rattle.fact_rows.specs.Rows.{cell, height, width}
-use Rattle.value_laws.specs.Blocks.{Blocks, Cluster}
+use Rattle.cluster_laws.specs.Blocks.{Blocks, Cluster}
 use Rattle.cluster_nodes.specs.Nodes.{block_at, blocks_at, world_of, blocks_in}
 use Rattle.cluster_nodes.specs.Turns.{nothing, worker_turned}
 use Rattle.cluster_world.specs.declared.state.State.{State}

@@ -14,9 +14,9 @@ use Rattle.cluster_rules.specs.WorkerStep.{worker_step}
 use Rattle.cluster_rules.specs.Client.{client_step}
 use Rattle.cluster_rules.specs.World.{World, shape_of}
 use Rattle.cluster_rules.specs.WorldStep.{worked, client_worked, at_worker, at_client}
-use Rattle.value_laws.specs.Blocks.{Blocks}
+use Rattle.cluster_laws.specs.Blocks.{Blocks}
 use Rattle.cluster_world.specs.Kept.{IsTidy}
-use Rattle.value_laws.specs.Moves.{brought, keeps, starts, carried_after, blocks_after}
+use Rattle.cluster_laws.specs.Moves.{brought, keeps, starts, carried_after, blocks_after}
 
 still : {A : Type 0} (m : Bool) (x : Option A) → (m ≡ false → x ≡ None) → keeps m x None ≡ x
 still true None h = refl

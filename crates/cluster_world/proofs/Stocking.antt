@@ -13,11 +13,11 @@ use Rattle.cluster_rules.specs.Worker.{would_start}
 use Rattle.cluster_rules.specs.World.{Job, World, Parcel, shape_of, same_asker, is_parcel, parcel_of}
 use Rattle.cluster_rules.specs.WorldStep.{world_step}
 use Rattle.cluster_rules.proofs.SchedFrame.{same_eqb}
-use Rattle.value_laws.specs.Blocks.{Delivery, Blocks, Cluster}
-use Rattle.value_laws.specs.Moves.{block_among, delivery_of, delivered, brought, meets_zero, either, keeps, is_it, starts, served, taken, carried_after}
-use Rattle.value_laws.proofs.WithinWorld.{IsWorldWithin, PassAt, WorldBrings, within_world}
-use Rattle.value_laws.proofs.Deliveries.{none_some, some_is, all_present, parcel_found, all_with, all_filter, all_found}
-use Rattle.value_laws.proofs.Moving.{answers_after, starts_fed}
+use Rattle.cluster_laws.specs.Blocks.{Delivery, Blocks, Cluster}
+use Rattle.cluster_laws.specs.Moves.{block_among, delivery_of, delivered, brought, meets_zero, either, keeps, is_it, starts, served, taken, carried_after}
+use Rattle.cluster_laws.proofs.WithinWorld.{IsWorldWithin, PassAt, WorldBrings, within_world}
+use Rattle.cluster_laws.proofs.Deliveries.{none_some, some_is, all_present, parcel_found, all_with, all_filter, all_found}
+use Rattle.cluster_laws.proofs.Moving.{answers_after, starts_fed}
 use Rattle.cluster_world.specs.Kept.{IsFilled, AreFor, IsStocked}
 use Rattle.cluster_world.specs.Outcomes.{stepped}
 

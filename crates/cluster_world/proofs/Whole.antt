@@ -8,9 +8,9 @@ use Rattle.cluster_rules.specs.Sched.{Setting}
 use Rattle.cluster_rules.specs.World.{shape_of}
 use Rattle.cluster_rules.specs.Enabled.{enabled}
 use Rattle.fact_rows.specs.Rows.{cell, height}
-use Rattle.value_laws.specs.Blocks.{Cluster, job_of, opening_cluster}
-use Rattle.value_laws.specs.Moves.{meets_zero}
-use Rattle.value_laws.proofs.Deliveries.{none_some}
+use Rattle.cluster_laws.specs.Blocks.{Cluster, job_of, opening_cluster}
+use Rattle.cluster_laws.specs.Moves.{meets_zero}
+use Rattle.cluster_laws.proofs.Deliveries.{none_some}
 use Rattle.scheduler_core.specs.Cores.{facts}
 use Rattle.cluster_nodes.specs.Kept.{IsNodes}
 use Rattle.cluster_nodes.specs.Nodes.{world_of}

@@ -6,7 +6,7 @@ use Rattle.cluster_rules.specs.World.{opening}
 use Rattle.cluster_nodes.specs.Kept.{IsNodes}
 use Rattle.cluster_nodes.specs.Nodes.{cluster_of}
 use Rattle.scheduler_core.specs.Cores.{facts}
-use Rattle.value_laws.specs.Blocks.{setting_of, no_blocks}
+use Rattle.cluster_laws.specs.Blocks.{setting_of, no_blocks}
 use Rattle.cluster_world.specs.Kept.{CoresTookFew}
 use Rattle.cluster_world.specs.declared.state.State.{State}
 use Rattle.cluster_world.specs.declared.state.Course.TheVariants.{Going}

@@ -5,7 +5,7 @@ use Rattle.cluster_msgs.specs.Shape.{Shape, IsShape, deps_of}
 use Rattle.cluster_rules.specs.World.{World}
 use Rattle.cluster_nodes.specs.Kept.{IsNodes, TookFew}
 use Rattle.scheduler_core.specs.Cores.{facts}
-use Rattle.value_laws.specs.Blocks.{Delivery, Blocks, Cluster}
+use Rattle.cluster_laws.specs.Blocks.{Delivery, Blocks, Cluster}
 use Rattle.cluster_world.specs.declared.state.State.{State}
 use Rattle.cluster_world.specs.declared.state.Course.TheVariants.{Starved}
 use Rattle.cluster_world.specs.Worlds.{cluster, world, setting, event_limit}

@@ -2,8 +2,8 @@
 use Rattle.std.specs.Prelude.{◌≡◌, ◌+◌, ◌≤◌, ℕ, List, Option, Some, None, Result, Ok, Err, length}
 use Rattle.cluster_msgs.specs.declared.events.Event.{Event}
 use Rattle.cluster_msgs.specs.declared.events.Event.TheVariants.{Finish}
-use Rattle.value_laws.specs.Blocks.{Cluster}
-use Rattle.value_laws.specs.Moves.{cluster_step}
+use Rattle.cluster_laws.specs.Blocks.{Cluster}
+use Rattle.cluster_laws.specs.Moves.{cluster_step}
 use Rattle.cluster_nodes.specs.Kept.{IsNodes}
 use Rattle.scheduler_core.specs.Cores.{facts}
 use Rattle.cluster_msgs.specs.Jobs.{Rose}

@@ -4,7 +4,7 @@ use Rattle.cluster_msgs.specs.Jobs.{Rose}
 use Rattle.cluster_msgs.specs.declared.cores.End.{End}
 use Rattle.cluster_msgs.specs.declared.cores.End.TheVariants.{Got, Erred}
 use Rattle.cluster_msgs.specs.declared.events.Event.{Event}
-use Rattle.value_laws.specs.AreValues.{IsBlamed}
+use Rattle.cluster_laws.specs.AreValues.{IsBlamed}
 use Rattle.cluster_world.specs.declared.state.State.{State}
 use Rattle.cluster_world.specs.declared.state.Course.TheVariants.{Fed, Starved}
 use Rattle.cluster_world.specs.Outcomes.{IsPerformed}

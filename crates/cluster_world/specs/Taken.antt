@@ -3,8 +3,8 @@ use Rattle.std.specs.Prelude.{◌≡◌, ◌+◌, ◌↔◌, ℕ, Bool, true, fa
 use Rattle.cluster_msgs.specs.declared.events.Event.{Event}
 use Rattle.cluster_rules.specs.WorldStep.{world_step}
 use Rattle.cluster_rules.specs.Enabled.{enabled}
-use Rattle.value_laws.specs.Blocks.{job_of}
-use Rattle.value_laws.specs.Moves.{world_after, cluster_step}
+use Rattle.cluster_laws.specs.Blocks.{job_of}
+use Rattle.cluster_laws.specs.Moves.{world_after, cluster_step}
 use Rattle.cluster_world.specs.declared.state.State.{State}
 use Rattle.cluster_world.specs.declared.state.Course.TheVariants as course
 use Rattle.cluster_world.specs.declared.errors.StepError.{StepError}

@@ -6,8 +6,8 @@ use Rattle.cluster_rules.specs.World.{World}
 use Rattle.cluster_rules.specs.Runs.{legal}
 use Rattle.cluster_nodes.specs.Nodes.{cluster_of}
 use Rattle.scheduler_core.specs.Cores.{facts}
-use Rattle.value_laws.specs.Blocks.{Cluster, job_of, opening_cluster}
-use Rattle.value_laws.specs.Moves.{cluster_run}
+use Rattle.cluster_laws.specs.Blocks.{Cluster, job_of, opening_cluster}
+use Rattle.cluster_laws.specs.Moves.{cluster_run}
 use Rattle.cluster_world.specs.declared.state.State.{State}
 use Rattle.cluster_world.specs.declared.state.Course.TheVariants.{Going}
 

@@ -10,8 +10,8 @@ ghost use Rattle.cluster_rules.specs.WorldStep.{world_step};
 ghost use Rattle.cluster_rules.specs.Enabled.{enabled, progress, message};
 ghost use Rattle.cluster_rules.specs.Runs.{legal, Safe};
 ghost use Rattle.cluster_msgs.specs.declared.events.Event.{Event as EventFact};
-ghost use Rattle.value_laws.specs.Blocks.{job_of, setting_of, opening_cluster};
-ghost use Rattle.value_laws.specs.Moves.{world_after, cluster_step};
+ghost use Rattle.cluster_laws.specs.Blocks.{job_of, setting_of, opening_cluster};
+ghost use Rattle.cluster_laws.specs.Moves.{world_after, cluster_step};
 ghost use Rattle.cluster_world.specs.Worlds.{cluster, world, setting, event_limit, IsReady, IsReached};
 ghost use Rattle.cluster_world.specs.Steps.{CountsStep, IfBlamed};
 

@@ -16,9 +16,9 @@ use Rattle.cluster_rules.specs.SchedStep.{Stages, settle, finish_step, mail, pla
 use Rattle.cluster_rules.proofs.DerivedLemmas.{eqb_comm}
 use Rattle.cluster_rules.proofs.PolicyLemmas.{steal_choice_from}
 use Rattle.cluster_rules.proofs.SchedFrame.{IsPlacing, placing_keys, same_eqb}
-use Rattle.scheduler_laws.specs.Settled.{IsSettled}
-use Rattle.scheduler_laws.proofs.Errors.{holder_holds, ready_is_not_held}
-use Rattle.scheduler_laws.proofs.Lists.{and_first, and_second, any_weaken}
+use Rattle.cluster_laws.specs.Settled.{IsSettled}
+use Rattle.cluster_laws.proofs.Errors.{holder_holds, ready_is_not_held}
+use Rattle.cluster_laws.proofs.Lists.{and_first, and_second, any_weaken}
 use Rattle.pair_machine.specs.Pair.{Ask, Remove, Other, Quiet, IsPair, fence_notes}
 use Rattle.pair_machine.specs.Moves.{step, Evict, ask_back}
 use Rattle.pair_machine.proofs.PairKept.{kept_evict, kept_ask}

@@ -18,7 +18,7 @@ use Rattle.cluster_rules.proofs.ChoiceLemmas.{least_by_least}
 use Rattle.cluster_rules.proofs.PolicyLemmas.{next_drop_is}
 use Rattle.cluster_rules.proofs.SchedFrame.{step_settles}
 use Rattle.cluster_rules.proofs.SoundStep.{sound_changed}
-use Rattle.scheduler_laws.specs.Settled.{IsSettled}
+use Rattle.cluster_laws.specs.Settled.{IsSettled}
 use Rattle.pair_machine.specs.Pair.{Quiet}
 use Rattle.pair_moves.specs.Projection.{report_of, report_in, Side, IsNumbered, EventKeeps}
 use Rattle.pair_moves.proofs.Settling.{none_not_some}

@@ -11,9 +11,9 @@ use Rattle.cluster_rules.specs.Sched.{Facts, IsSound, holds, held, connected, is
 use Rattle.cluster_rules.specs.SchedTable.{Changed, plain, is_asked_back, no_answer, released, is_copy, lost_copy, add_key, add_keys}
 use Rattle.cluster_rules.proofs.DerivedLemmas.{eqb_comm}
 use Rattle.cluster_rules.proofs.SchedFrame.{same_eqb, in_range}
-use Rattle.scheduler_laws.specs.Settled.{IsSettled}
-use Rattle.scheduler_laws.proofs.Errors.{holder_holds}
-use Rattle.scheduler_laws.proofs.Lists.{and_second}
+use Rattle.cluster_laws.specs.Settled.{IsSettled}
+use Rattle.cluster_laws.proofs.Errors.{holder_holds}
+use Rattle.cluster_laws.proofs.Lists.{and_second}
 use Rattle.pair_machine.specs.Pair.{Report, Added, Released, Quiet}
 use Rattle.pair_machine.specs.Moves.{counted, still_asked}
 use Rattle.pair_moves.specs.Projection.{notes, at_worker, Side, pair_of, IsNumbered}

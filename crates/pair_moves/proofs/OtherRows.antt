@@ -4,7 +4,7 @@ use Rattle.std.proofs.lemmas.Bool.{false≢true, eqb-true}
 use Rattle.std.proofs.Math.Dec.{eqb}
 use Rattle.cluster_rules.specs.Sched.{Facts, IsSound, connected, is_on, is_for}
 use Rattle.cluster_rules.specs.SchedTable.{plain, joined, left}
-use Rattle.scheduler_laws.specs.Settled.{IsSettled}
+use Rattle.cluster_laws.specs.Settled.{IsSettled}
 use Rattle.pair_machine.specs.Pair.{Quiet}
 use Rattle.pair_moves.specs.Projection.{at_worker, Side, IsNumbered}
 use Rattle.pair_moves.proofs.Rows.{Moved, Ended, IsPlain, calm_row, quiet_calm, same_moved}

@@ -7,9 +7,9 @@ use Rattle.cluster_rules.specs.Sched.{Facts, IsSound, keys, holds, held, connect
 use Rattle.cluster_rules.specs.SchedTable.{is_this, is_asked_back, Changed, refreshed}
 use Rattle.cluster_rules.specs.SchedStep.{settle, finish_step, lost, mail}
 use Rattle.cluster_rules.proofs.SchedFrame.{same_some}
-use Rattle.scheduler_laws.specs.Settled.{IsSettled}
-use Rattle.scheduler_laws.proofs.Errors.{holder_holds, ready_is_not_held}
-use Rattle.scheduler_laws.proofs.Lists.{and_first}
+use Rattle.cluster_laws.specs.Settled.{IsSettled}
+use Rattle.cluster_laws.proofs.Errors.{holder_holds, ready_is_not_held}
+use Rattle.cluster_laws.proofs.Lists.{and_first}
 use Rattle.pair_machine.specs.Pair.{Report, Quiet, is_at, Pair, IsPair}
 use Rattle.pair_machine.specs.Moves.{withdrawn, counted, still_asked}
 use Rattle.pair_machine.proofs.PairLemmas.{not_le, is_le}

@@ -12,7 +12,7 @@ use Rattle.cluster_rules.specs.Derived.{below, is_in}
 use Rattle.cluster_rules.specs.Sched.{Facts, keys, workers, ready, who_has}
 use Rattle.cluster_rules.specs.Policies.{place}
 use Rattle.cluster_rules.specs.SchedStep.{Stages, place_keys, place_one, give, down_messages, to_worker, free_message, task_message, task_messages, lost_keys, mail, takes_away, fence_after}
-use Rattle.cluster_rules.proofs.OrderLemmas.{mail-down, mail-own_part}
+use Rattle.cluster_laws.proofs.OrderLemmas.{mail-down, mail-own_part}
 use Rattle.cluster_rules.proofs.SchedLemmas.{ready-place_one}
 use Rattle.pair_machine.specs.Pair.{Note, Task, Free, Remove, Ask, Other, is_fence, fence_notes}
 use Rattle.pair_moves.specs.Projection.{note_of, notes}

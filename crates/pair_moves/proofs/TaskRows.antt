@@ -7,8 +7,8 @@ use Rattle.cluster_rules.specs.Sched.{Facts, IsSound, holds, connected, is_for}
 use Rattle.cluster_rules.specs.SchedTable.{plain, is_this, is_asked_back, finished, failed, stolen_to, refused, answered}
 use Rattle.cluster_rules.proofs.DerivedLemmas.{eqb_comm}
 use Rattle.cluster_rules.proofs.SchedFrame.{same_eqb}
-use Rattle.scheduler_laws.specs.Settled.{IsSettled}
-use Rattle.scheduler_laws.proofs.Lists.{and_first, and_second}
+use Rattle.cluster_laws.specs.Settled.{IsSettled}
+use Rattle.cluster_laws.proofs.Lists.{and_first, and_second}
 use Rattle.pair_machine.specs.Pair.{Report, Finished, Erred, Gave, Declined, Quiet, is_at}
 use Rattle.pair_machine.specs.Moves.{counted, still_asked}
 use Rattle.pair_moves.specs.Projection.{at_worker, Side, pair_of, IsNumbered}

@@ -1,6 +1,6 @@
 //! The scheduler's events, as the moves of each pair of a worker and a key: laws about the definitions.
 //!
-//! `pair_machine` stands below, with the moves and what they keep, and `scheduler_laws`, with what the scheduler keeps by
+//! `pair_machine` stands below, with the moves and what they keep, and `cluster_laws`, with what the scheduler keeps by
 //! itself. The laws of the world's safety stand above.
 #![tactic(auto)]
 
@@ -9,7 +9,7 @@ ghost use Rattle.cluster_msgs.specs.declared.cores.SchedEvent.{SchedEvent};
 ghost use Rattle.cluster_rules.specs.Sched.{Facts, IsSound};
 ghost use Rattle.cluster_rules.specs.SchedTable.{sched_takes};
 ghost use Rattle.cluster_rules.specs.SchedStep.{sched_step};
-ghost use Rattle.scheduler_laws.specs.Settled.{IsSettled};
+ghost use Rattle.cluster_laws.specs.Settled.{IsSettled};
 ghost use Rattle.pair_moves.specs.Projection.{IsNumbered, EventKeeps};
 
 /// An event that is taken keeps what holds of each worker that is connected afterwards and each key, whatever the worker

@@ -8,7 +8,7 @@ use Rattle.cluster_rules.specs.World.{Job, IsJob, World, opening}
 use Rattle.cluster_rules.specs.WorldStep.{world_step}
 use Rattle.cluster_rules.specs.Enabled.{enabled}
 use Rattle.cluster_rules.specs.Runs.{LegalFrom, legal, run_from, reached, sched_event, ends_in, Gives, Ended}
-use Rattle.scheduler_laws.proofs.Attempts.{attempts_end}
+use Rattle.cluster_laws.proofs.Attempts.{attempts_end}
 use Rattle.safety_laws.proofs.Turns.{sched_after, sched_is}
 use Rattle.safety_laws.proofs.Joint.{IsJoint, takes, joint_step, joint_from, joint_after}
 

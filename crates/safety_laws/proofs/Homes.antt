@@ -24,7 +24,7 @@ use Rattle.cluster_rules.specs.Functions.{put}
 use Rattle.cluster_rules.specs.Sched.{Facts, Setting, IsSound, connected}
 use Rattle.cluster_rules.specs.SchedTable.{change, joined, sched_takes}
 use Rattle.cluster_rules.specs.SchedStep.{sched_step, mail}
-use Rattle.cluster_rules.specs.Truth.{IsTrueWorld}
+use Rattle.cluster_laws.specs.Truth.{IsTrueWorld}
 use Rattle.cluster_rules.proofs.SchedFrame.{step_settles}
 use Rattle.cluster_rules.proofs.SoundStep.{sound_step}
 use Rattle.pair_moves.proofs.Framed.{change_framed}

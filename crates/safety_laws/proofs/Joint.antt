@@ -12,16 +12,16 @@ use Rattle.cluster_rules.specs.World.{Job, IsJob, World, opening, shape_of, Drai
 use Rattle.cluster_rules.specs.WorldStep.{world_step}
 use Rattle.cluster_rules.specs.Enabled.{enabled}
 use Rattle.cluster_rules.specs.Inside.{IsInsideWorld}
-use Rattle.cluster_rules.specs.Truth.{IsTrueWorld}
+use Rattle.cluster_laws.specs.Truth.{IsTrueWorld}
 use Rattle.cluster_rules.specs.Runs.{LegalFrom, legal, run_from, reached, sched_event, OnlyKnown, Agrees}
-use Rattle.cluster_rules.proofs.TruthWorld.{true_world_step, true_opening}
-use Rattle.cluster_rules.proofs.InsideWorld.{in_world_step, in_after}
+use Rattle.cluster_laws.proofs.TruthWorld.{true_world_step, true_opening}
+use Rattle.cluster_laws.proofs.InsideWorld.{in_world_step, in_after}
 use Rattle.cluster_rules.proofs.SchedFrame.{same_eqb}
 use Rattle.cluster_rules.proofs.SoundStep.{sound_step, sound_opening}
-use Rattle.scheduler_laws.specs.Settled.{IsSettled}
-use Rattle.scheduler_laws.proofs.SettledLemmas.{settled_step, settled_opening}
-use Rattle.scheduler_laws.proofs.Errors.{holder_of}
-use Rattle.scheduler_laws.proofs.Lists.{and_first}
+use Rattle.cluster_laws.specs.Settled.{IsSettled}
+use Rattle.cluster_laws.proofs.SettledLemmas.{settled_step, settled_opening}
+use Rattle.cluster_laws.proofs.Errors.{holder_of}
+use Rattle.cluster_laws.proofs.Lists.{and_first}
 use Rattle.pair_machine.proofs.PairKept.{at_rest}
 use Rattle.pair_moves.specs.Projection.{notes, reports, at_worker, IsNumbered}
 use Rattle.pair_moves.proofs.Events.{numbered_step, numbered_opening}

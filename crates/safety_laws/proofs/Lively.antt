@@ -17,7 +17,7 @@ use Rattle.cluster_rules.specs.Worker.{Ask, WorkerFacts, worker_keys, flying, pe
 use Rattle.cluster_rules.specs.Client.{ClientFacts, client_keys, is_unfinished, is_open, client_fetchable, client_would_ask}
 use Rattle.cluster_rules.specs.World.{Job, World, Parcel, shape_of, is_connected, is_client, is_asker, open_ask, is_parcel, parcel_of, same_asker, unfinished, Drained}
 use Rattle.cluster_rules.specs.Enabled.{enabled, is_quiet_asker, progress}
-use Rattle.cluster_rules.specs.WorldFrame.{NothingMoves}
+use Rattle.cluster_laws.specs.WorldFrame.{NothingMoves}
 use Rattle.cluster_rules.specs.Runs.{IsLively}
 use Rattle.cluster_msgs.specs.declared.messages.FromClient.{FromClient as ClientMessage}
 use Rattle.cluster_rules.proofs.DerivedLemmas.{reach-is}
@@ -25,10 +25,10 @@ use Rattle.cluster_rules.proofs.SchedLemmas.{erred-is, need-past}
 use Rattle.cluster_rules.proofs.SchedFrame.{same_eqb, or_true}
 use Rattle.cluster_rules.proofs.NothingLemmas.{full-nowhere}
 use Rattle.cluster_rules.proofs.InsideSched.{all_found}
-use Rattle.cluster_rules.proofs.WorldLemmas.{nothing_moves}
+use Rattle.cluster_laws.proofs.WorldLemmas.{nothing_moves}
 use Rattle.cluster_rules.proofs.WorkerLemmas.{filter_in, range_in, ready_state-is, fetch_state-is, missing_state-is}
-use Rattle.scheduler_laws.proofs.Placed.{no_candidates}
-use Rattle.scheduler_laws.proofs.Fewer.{reach_next}
+use Rattle.cluster_laws.proofs.Placed.{no_candidates}
+use Rattle.cluster_laws.proofs.Fewer.{reach_next}
 use Rattle.safety_laws.specs.Lively.{IsAnswered, IsRefreshing, questions, refreshes, IsNumber, AreNumbers, AreNamed, AreServed, IsServed, HaveThreads, wants_at_last, names_want, misses, is_news}
 use Rattle.safety_laws.proofs.Joint.{IsJoint, drained_agrees}
 use Rattle.safety_laws.proofs.Homes.{find_passes_any}

@@ -47,7 +47,7 @@ use Rattle.cluster_rules.specs.Worker.{with_ask, has_any, fetchable, item_at, wo
 use Rattle.cluster_rules.specs.WorkerStep.{others}
 use Rattle.cluster_rules.specs.WorldStep.{letters}
 use Rattle.cluster_rules.specs.Client.{ClientFacts, hear, client_gets, client_misses, client_answered, client_gathered_by, client_gathered, keeps_still, client_wants, client_releases, client_fetchable, client_ask, client_would_ask, client_step}
-use Rattle.cluster_rules.proofs.TruthWorker.{all_append}
+use Rattle.cluster_rules.proofs.AllLemmas.{all_append}
 use Rattle.cluster_rules.proofs.InsideWorker.{all_filter_in, all_map_in}
 use Rattle.cluster_rules.proofs.InsideSched.{all_flat_map_in, all_always, all_weaken, all_found}
 use Rattle.pair_moves.proofs.HoldRows.{left_plain}

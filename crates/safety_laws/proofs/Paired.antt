@@ -32,7 +32,7 @@ use Rattle.cluster_rules.proofs.InsideSched.{all_found}
 use Rattle.cluster_rules.proofs.DerivedLemmas.{eqb_comm}
 use Rattle.cluster_rules.proofs.SchedFrame.{same_eqb, step_settles}
 use Rattle.cluster_rules.proofs.SoundStep.{sound_step}
-use Rattle.scheduler_laws.specs.Settled.{IsSettled}
+use Rattle.cluster_laws.specs.Settled.{IsSettled}
 use Rattle.pair_machine.specs.Pair.{Quiet, Pair, IsPair}
 use Rattle.pair_machine.specs.Moves.{opening as opening_pair}
 use Rattle.pair_moves.specs.Projection.{report_of, report_in, notes, reports, at_worker as at_the_worker, Side, pair_of, IsNumbered}

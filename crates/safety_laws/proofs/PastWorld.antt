@@ -29,7 +29,7 @@ use Rattle.cluster_rules.specs.Inside.{AreKeys, down_keys, IsInsideWorld}
 use Rattle.cluster_rules.proofs.InsideSched.{all_found}
 use Rattle.cluster_rules.proofs.DerivedLemmas.{eqb_comm}
 use Rattle.cluster_rules.proofs.SchedFrame.{same_eqb}
-use Rattle.scheduler_laws.specs.Settled.{IsSettled}
+use Rattle.cluster_laws.specs.Settled.{IsSettled}
 use Rattle.pair_machine.specs.Pair.{is_at}
 use Rattle.pair_moves.specs.Projection.{report_of, notes, reports, pair_of, IsNumbered}
 use Rattle.pair_moves.proofs.WorkerMoves.{own_keeps, told_keeps, IsOwn, reports-append}
@@ -38,7 +38,7 @@ use Rattle.safety_laws.specs.Past.{Past, is_it, past_after, no_past}
 use Rattle.safety_laws.proofs.Tale.{IsTale, less_tale, NotStarted, tale_closed, start_tale, pop_tale, post_tale}
 use Rattle.safety_laws.proofs.Posts.{posts_fresh}
 use Rattle.safety_laws.proofs.Running.{IsFrom, from_closed, told_from, told_runs, own_runs, start_runs}
-use Rattle.scheduler_laws.proofs.Lists.{and_first, and_second}
+use Rattle.cluster_laws.proofs.Lists.{and_first, and_second}
 use Rattle.cluster_rules.proofs.WorkerLemmas.{unstarted_state-is}
 use Rattle.pair_machine.specs.Story.{hears_yes}
 use Rattle.pair_moves.proofs.Settling.{none_not_some, notes-append}

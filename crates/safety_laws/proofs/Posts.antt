@@ -18,9 +18,9 @@ use Rattle.cluster_rules.specs.Sched.{Facts, keys, workers}
 use Rattle.cluster_rules.specs.Policies.{next_steal, next_drop}
 use Rattle.cluster_rules.specs.SchedTable.{Changed, plain, change, change_up, change_client, is_copy, lost_copy, ask_message, balanced, evicted}
 use Rattle.cluster_rules.specs.SchedStep.{Stages, sched_step, settle, finish_step, posted, mail, down_messages, lost_keys, to_worker}
-use Rattle.cluster_rules.proofs.OrderLemmas.{mail-down}
+use Rattle.cluster_laws.proofs.OrderLemmas.{mail-down}
 use Rattle.cluster_rules.proofs.SchedFrame.{step_settles}
-use Rattle.scheduler_laws.specs.Settled.{IsSettled}
+use Rattle.cluster_laws.specs.Settled.{IsSettled}
 use Rattle.pair_machine.specs.Pair.{Task, Free, Remove, Ask, Other, given_count, at_count}
 use Rattle.pair_machine.proofs.PairLemmas.{given-append}
 use Rattle.pair_moves.specs.Projection.{notes, IsNumbered}

@@ -41,7 +41,7 @@ use Rattle.cluster_rules.specs.SchedStep.{Stages, sched_step, settle, finish_ste
 use Rattle.cluster_rules.specs.WorkerStep.{unasked_keys}
 use Rattle.cluster_rules.specs.WorldStep.{sends}
 use Rattle.cluster_rules.proofs.DerivedLemmas.{eqb_comm}
-use Rattle.cluster_rules.proofs.OrderLemmas.{mail-down, mail-own_part}
+use Rattle.cluster_laws.proofs.OrderLemmas.{mail-down, mail-own_part}
 use Rattle.cluster_rules.proofs.SchedFrame.{or_true}
 use Rattle.cluster_rules.proofs.WorkerLemmas.{filter_in, range_in}
 use Rattle.pair_moves.proofs.WorkerMoves.{sends-append}

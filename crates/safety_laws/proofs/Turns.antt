@@ -31,7 +31,7 @@ use Rattle.cluster_rules.specs.WorldStep.{scheduled, worked, client_worked, take
 use Rattle.cluster_rules.specs.Enabled.{enabled, front}
 use Rattle.cluster_rules.specs.Inside.{IsKey, AreKeys, named_keys, down_keys, IsInsideWorld}
 use Rattle.cluster_rules.specs.Runs.{sched_event}
-use Rattle.cluster_rules.proofs.OrderLemmas.{mail-down}
+use Rattle.cluster_laws.proofs.OrderLemmas.{mail-down}
 use Rattle.cluster_rules.proofs.WorkerLemmas.{in_filter}
 
 none_event : (s : SchedEvent) → None ≡ Some s → ⊥

@@ -9,7 +9,7 @@ use Rattle.cluster_rules.specs.World.{Job, IsJob, World, opening}
 use Rattle.cluster_rules.specs.WorldStep.{world_step}
 use Rattle.cluster_rules.specs.Runs.{LegalFrom, legal, run_from, reached, Yielded, Started, OneAttempt}
 use Rattle.cluster_rules.proofs.SchedFrame.{same_eqb, or_true}
-use Rattle.scheduler_laws.proofs.Lists.{or_left}
+use Rattle.cluster_laws.proofs.Lists.{or_left}
 use Rattle.pair_machine.specs.Pair.{is_at, Gave, Quiet}
 use Rattle.pair_machine.specs.Story.{hears_yes}
 use Rattle.pair_moves.specs.Projection.{reports}

@@ -1,6 +1,6 @@
 //! Schedule safety: what holds of every legal list of events, as laws about the definitions.
 //!
-//! `cluster_rules` stands below, with the world and which lists of events are legal, `scheduler_laws`, with what the
+//! `cluster_rules` stands below, with the world and which lists of events are legal, `cluster_laws`, with what the
 //! scheduler keeps by itself, and `pair_moves`, with what each event does to one worker and one key. The world of the
 //! simulator stands above.
 #![tactic(auto)]

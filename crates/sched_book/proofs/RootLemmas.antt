@@ -8,8 +8,8 @@ use Rattle.cluster_rules.specs.Sched.{Facts, Setting, deps, ready}
 use Rattle.cluster_rules.specs.Policies.{place, candidates, candidates_by}
 use Rattle.cluster_rules.specs.SchedStep.{give, place_one}
 use Rattle.cluster_rules.proofs.SchedLemmas.{keys-place_one, ready-place_one}
-use Rattle.scheduler_laws.proofs.Lists.{and_first, and_second}
-use Rattle.scheduler_laws.proofs.Placed.{no_candidates, nowhere, nowhere_one, left_alone, left_in_turn}
+use Rattle.cluster_laws.proofs.Lists.{and_first, and_second}
+use Rattle.cluster_laws.proofs.Placed.{no_candidates, nowhere, nowhere_one, left_alone, left_in_turn}
 use Rattle.sched_book.specs.Roots.{is_root, RootsWait}
 
 no_deps : (ds : List ℕ) → (length ds == 0) ≡ true → ds ≡ []

@@ -4,7 +4,7 @@ use Rattle.cluster_msgs.specs.declared.cores.SchedEvent.{SchedEvent}
 use Rattle.cluster_rules.specs.Sched.{Setting, Facts, IsSound, sched_opening, keys}
 use Rattle.cluster_rules.specs.SchedTable.{sched_takes}
 use Rattle.cluster_rules.specs.SchedStep.{sched_step}
-use Rattle.scheduler_laws.proofs.SettledLemmas.{settled_step, settled_opening}
+use Rattle.cluster_laws.proofs.SettledLemmas.{settled_step, settled_opening}
 use Rattle.scheduler_core.specs.Inner.{IsAfter}
 use Rattle.sched_book.proofs.Counting.{counted_step}
 

@@ -12,7 +12,7 @@ use Rattle.cluster_rules.proofs.SchedFrame.{placing_keys}
 use Rattle.cluster_rules.specs.Sched.{Setting, Facts, IsSound, keys, workers, held, erred}
 use Rattle.cluster_rules.specs.SchedTable.{ask_message, change, sched_takes}
 use Rattle.cluster_rules.specs.SchedStep.{Stages, drop_bad, drop_has, drop_on, place_all, settle, lost, finish_step, sched_step, down_messages}
-use Rattle.scheduler_laws.specs.Settled.{IsSettled}
+use Rattle.cluster_laws.specs.Settled.{IsSettled}
 use Rattle.sched_messages.specs.declared.answer.Answer.{Answer}
 use Rattle.sched_messages.specs.declared.answer.Answer.TheVariants.{Nothing, Refresh, AskBack, Remove}
 use Rattle.sched_messages.specs.Mail.{answer_of, worker_mail}

@@ -1,7 +1,7 @@
 -- What a `Sched` keeps.
 use Rattle.std.specs.Prelude.{◌≡◌, ℕ, ◌+◌, ◌*◌, ◌^◌, ◌≤◌, false}
 use Rattle.cluster_rules.specs.Sched.{Facts}
-use Rattle.scheduler_laws.specs.Settled.{IsSettled}
+use Rattle.cluster_laws.specs.Settled.{IsSettled}
 use Rattle.sched_facts.specs.Stored.{facts_of}
 use Rattle.scheduler_core.specs.Cores.{Core, event_limit}
 use Rattle.scheduler_core.specs.declared.sched.Sched.TheInside.{Inside}

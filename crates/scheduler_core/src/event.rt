@@ -7,7 +7,7 @@ ghost use Rattle.cluster_rules.specs.SchedStep.{sched_step};
 ghost use Rattle.sched_facts.specs.Stored.{facts_of};
 ghost use Rattle.sched_facts.specs.Derived.{IsDerived};
 ghost use Rattle.sched_book.specs.Choices.{steal_for, drop_for};
-ghost use Rattle.scheduler_laws.specs.Settled.{IsSettled};
+ghost use Rattle.cluster_laws.specs.Settled.{IsSettled};
 ghost use Rattle.scheduler_core.specs.Sent.{nothing, sent_by, appended, HasGrown};
 ghost use Rattle.scheduler_core.specs.Courses.{IsCourse, told_by};
 

@@ -2,7 +2,7 @@
 //! Dask.distributed, <https://distributed.dask.org/en/stable/scheduling-state.html>).
 //!
 //! A core touches no block, no thread and no connection. `sched_book` stands below, with the facts and what is derived from
-//! them, `sched_messages`, with the messages of an event, and `scheduler_laws`, with what holds of the facts after every
+//! them, `sched_messages`, with the messages of an event, and `cluster_laws`, with what holds of the facts after every
 //! event. The worlds of the simulator and the running nodes stand above. It carries a part of *part correctness*: on each
 //! event, also one that no honest peer sends, the facts and the messages go exactly by the table; and the scheduler's share
 //! of *schedule safety*, as facts of its type.

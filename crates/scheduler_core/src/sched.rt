@@ -3,8 +3,8 @@ ghost use Rattle.std.specs.Prelude.{◌≡◌, ◌↔◌, ◌++◌, ◌+◌, ◌
 ghost use Rattle.cluster_rules.specs.Sched.{Facts as SchedFacts, sched_opening, keys, known, blame, phase};
 ghost use Rattle.cluster_rules.specs.SchedTable.{sched_takes};
 ghost use Rattle.cluster_rules.specs.SchedStep.{sched_step};
-ghost use Rattle.scheduler_laws.specs.Settled.{IsSettled};
-ghost use Rattle.scheduler_laws.specs.Attempts.{AttemptsEndForACause};
+ghost use Rattle.cluster_laws.specs.Settled.{IsSettled};
+ghost use Rattle.cluster_laws.specs.Attempts.{AttemptsEndForACause};
 ghost use Rattle.scheduler_core.specs.Cores.{facts, event_limit};
 ghost use Rattle.scheduler_core.specs.Sent.{appended, sent_by, HasGrown};
 

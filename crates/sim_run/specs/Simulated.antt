@@ -14,7 +14,7 @@ use Rattle.job_run.specs.Values.{OnInputs}
 use Rattle.io_edge.specs.View.{Files}
 use Rattle.sim_words.specs.Walks.{joins_in}
 use Rattle.sim_words.specs.declared.sim.SimWords.{SimWords}
-use Rattle.value_laws.specs.Blocks.{job_of, setting_of}
+use Rattle.cluster_laws.specs.Blocks.{job_of, setting_of}
 use Rattle.sim_run.specs.declared.form.Addition.{Addition}
 use Rattle.sim_run.specs.Forms.{CanRun, chunks_in}
 

@@ -7,7 +7,7 @@ ghost use Rattle.cluster_sim.specs.Drawn.{word_of};
 ghost use Rattle.cluster_sim.specs.Openings.{IsOpening};
 ghost use Rattle.cluster_sim.specs.Plans.{plan_of, IsPlan};
 ghost use Rattle.cluster_world.specs.Worlds.{setting};
-ghost use Rattle.value_laws.specs.Blocks.{job_of, setting_of};
+ghost use Rattle.cluster_laws.specs.Blocks.{job_of, setting_of};
 ghost use Rattle.sim_run.specs.Serving.{HasSums, IsFound, IsHalted, IsStopped, IsWithin, KnowsAdditions, ended_of};
 ghost use Rattle.sim_run.specs.Simulated.{AreSettings, IsServed};
 

@@ -6,7 +6,7 @@ use Rattle.std.proofs.lemmas.Iterator.{YieldsList-from_slice, YieldsList-from_zi
 use Rattle.std.proofs.lemmas.Iterator.Adapters.{YieldsList-from_vec}
 use Rattle.std.proofs.lemmas.Iterator.Consumers.{YieldsList-at, YieldsList-from_copied}
 use Rattle.cluster_msgs.specs.Jobs.{blocks_of}
-use Rattle.value_laws.specs.Moves.{block_among}
+use Rattle.cluster_laws.specs.Moves.{block_among}
 use Rattle.cluster_nodes.specs.Turns.{among}
 use Rattle.cluster_nodes.proofs.Gathering.{among_zip}
 use Rattle.cluster_nodes.proofs.gathers.pair_up.Goals as goal

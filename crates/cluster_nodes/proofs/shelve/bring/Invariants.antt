@@ -1,7 +1,7 @@
 use Rattle.std.proofs.Common.{◌≡◌, ℕ, None, ◌&&◌, cond, ltb}
 use Rattle.std.specs.Prelude.{◌==◌}
 use Rattle.fact_rows.specs.Rows.{cell, height, width}
-use Rattle.value_laws.specs.Moves.{either}
+use Rattle.cluster_laws.specs.Moves.{either}
 use Rattle.cluster_nodes.specs.Turns.{first_at}
 use Rattle.cluster_nodes.proofs.shelve.bring.Given as goal
 

@@ -1,6 +1,6 @@
 use Rattle.std.proofs.Common.{None, sym, ap, subst}
 use Rattle.cluster_world.proofs.Acting as acting
-use Rattle.value_laws.proofs.Deliveries.{none_some}
+use Rattle.cluster_laws.proofs.Deliveries.{none_some}
 use Rattle.cluster_world.specs.Outcomes.{IsUnended}
 use Rattle.cluster_world.proofs.Finishing as finishing
 use Rattle.cluster_world.proofs.events.carry.Goals as goal

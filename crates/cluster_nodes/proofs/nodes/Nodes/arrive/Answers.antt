@@ -5,7 +5,7 @@ use Rattle.message_queues.specs.Transit.{parcel_of_transit}
 use Rattle.message_queues.specs.declared.transit.InTransit.{InTransit}
 use Rattle.message_queues.proofs.QueueLemmas.{on_ok}
 use Rattle.cluster_msgs.specs.Jobs.{blocks_of}
-use Rattle.value_laws.specs.Moves.{block_among}
+use Rattle.cluster_laws.specs.Moves.{block_among}
 use Rattle.cluster_nodes.specs.Nodes.{cluster_of, world_of}
 use Rattle.cluster_nodes.specs.Turns.{IsRefusedBy, among, gathered_turned}
 use Rattle.cluster_nodes.proofs.Keeping.{nodes_moving}

@@ -5,7 +5,7 @@ use Rattle.std.specs.declared.alloc.Global.{Global}
 use Rattle.cluster_msgs.specs.declared.cores.WorkerEvent.TheVariants.{Down as Told}
 use Rattle.cluster_rules.specs.WorkerStep.{worker_takes}
 use Rattle.message_queues.proofs.QueueLemmas.{on_ok}
-use Rattle.value_laws.specs.Blocks.{Cluster}
+use Rattle.cluster_laws.specs.Blocks.{Cluster}
 use Rattle.cluster_nodes.specs.Nodes.{world_of, cluster_of}
 use Rattle.cluster_nodes.specs.Turns.{among, nothing, worker_turned}
 use Rattle.cluster_nodes.proofs.Changing.{with_down, delivered, not_delivered}

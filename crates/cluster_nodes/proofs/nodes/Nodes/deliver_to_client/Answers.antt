@@ -5,7 +5,7 @@ use Rattle.std.specs.declared.alloc.Global.{Global}
 use Rattle.cluster_msgs.specs.declared.cores.ClientEvent.TheVariants.{FromScheduler}
 use Rattle.cluster_rules.specs.Client.{client_takes}
 use Rattle.message_queues.proofs.QueueLemmas.{on_ok}
-use Rattle.value_laws.specs.Blocks.{Cluster}
+use Rattle.cluster_laws.specs.Blocks.{Cluster}
 use Rattle.cluster_nodes.specs.Nodes.{world_of, cluster_of}
 use Rattle.cluster_nodes.specs.Turns.{among, nothing, client_turned}
 use Rattle.cluster_nodes.proofs.Changing.{with_to_client, told, not_told}

@@ -1,7 +1,7 @@
 use Rattle.std.proofs.Common.{None}
 use Rattle.scheduler_core.specs.Cores.{facts}
 use Rattle.cluster_rules.specs.Sched.{Facts}
-use Rattle.value_laws.specs.Moves.{delivery_of}
+use Rattle.cluster_laws.specs.Moves.{delivery_of}
 use Rattle.cluster_nodes.specs.Nodes.{cluster_of, blocks_in}
 use Rattle.cluster_nodes.specs.Turns.{answer_arrived}
 use Rattle.cluster_world.specs.Worlds.{cluster}

@@ -1,5 +1,5 @@
 use Rattle.std.proofs.Common.{◌∙◌, sym}
-use Rattle.value_laws.specs.Blocks.{setting_of}
+use Rattle.cluster_laws.specs.Blocks.{setting_of}
 use Rattle.cluster_world.proofs.Beginning.{begun_by}
 use Rattle.cluster_world.proofs.state.State.begin.Goals as goal
 

@@ -1,7 +1,7 @@
 use Rattle.std.proofs.Common.{true, None, refl, ap, ◌∙◌, arith}
 use Rattle.cluster_msgs.specs.declared.cores.SchedEvent.TheVariants as sched
 use Rattle.cluster_rules.specs.WorldStep.{at_scheduler}
-use Rattle.value_laws.specs.Blocks.{Cluster}
+use Rattle.cluster_laws.specs.Blocks.{Cluster}
 use Rattle.scheduler_core.specs.Cores.{facts}
 use Rattle.cluster_nodes.specs.Turns.{in_world}
 use Rattle.cluster_world.specs.Worlds.{cluster, world}

@@ -3,7 +3,7 @@ use Rattle.cluster_world.proofs.Lasts.{step_last}
 use Rattle.std.proofs.Common.{◌+◌, ℕ, None, sym, ap, ◌∙◌, arith, length}
 use Rattle.cluster_msgs.specs.declared.cores.SchedEvent.TheVariants as sched
 use Rattle.cluster_rules.specs.WorldStep.{at_scheduler}
-use Rattle.value_laws.specs.Blocks.{Cluster}
+use Rattle.cluster_laws.specs.Blocks.{Cluster}
 use Rattle.scheduler_core.specs.Cores.{facts}
 use Rattle.cluster_nodes.specs.Nodes.{world_of}
 use Rattle.cluster_nodes.specs.Turns.{in_world}

@@ -1,5 +1,5 @@
 use Rattle.std.proofs.Common.{refl}
-use Rattle.value_laws.specs.Blocks.{job_of}
+use Rattle.cluster_laws.specs.Blocks.{job_of}
 use Rattle.scheduler_core.specs.Cores.{facts}
 use Rattle.cluster_world.specs.Worlds.{setting}
 use Rattle.cluster_world.proofs.world.World.is_safe.Goals as goal

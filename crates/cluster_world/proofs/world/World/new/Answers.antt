@@ -1,6 +1,6 @@
 use Rattle.std.proofs.Common.{◌∙◌, ap, subst}
 use Rattle.cluster_msgs.specs.Shape.{Shape, IsShape}
-use Rattle.value_laws.specs.Blocks.{setting_of, opening_cluster}
+use Rattle.cluster_laws.specs.Blocks.{setting_of, opening_cluster}
 use Rattle.cluster_world.proofs.Beginning.{begun_cluster, begun_reached, begun_ready, begun_world}
 use Rattle.cluster_world.proofs.world.World.new.Goals as goal
 

@@ -1,6 +1,6 @@
 use Rattle.std.proofs.Common.{◌≡◌, true, sym, ◌∙◌}
 use Rattle.sched_facts.specs.Stored.{facts_of}
-use Rattle.scheduler_laws.proofs.Lists.{and_first, and_second}
+use Rattle.cluster_laws.proofs.Lists.{and_first, and_second}
 use Rattle.sched_book.specs.Roots.{is_root}
 use Rattle.sched_book.proofs.RootLemmas.{passed_over, roots_after}
 use Rattle.sched_book.proofs.book.Book.take_turn.Goals as goal

@@ -2,8 +2,8 @@ use Rattle.std.proofs.Common.{◌≡◌, ◌<◌, ◌+◌, true, false, subst, s
 use Rattle.cluster_rules.specs.Sched.{Facts, keys}
 use Rattle.cluster_rules.specs.SchedTable.{sched_takes}
 use Rattle.sched_facts.specs.Stored.{Stored, facts_of}
-use Rattle.scheduler_laws.specs.Attempts.{AttemptsEndForACause}
-use Rattle.scheduler_laws.proofs.Attempts.{attempts_end}
+use Rattle.cluster_laws.specs.Attempts.{AttemptsEndForACause}
+use Rattle.cluster_laws.proofs.Attempts.{attempts_end}
 use Rattle.scheduler_core.specs.Inner.{IsAfter}
 use Rattle.scheduler_core.proofs.AfterLemmas.{after_more, room_left, sent_left}
 use Rattle.scheduler_core.proofs.sched.Sched.on.Goals as goal

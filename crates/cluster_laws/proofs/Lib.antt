@@ -1,0 +1,17 @@
+pub mod OrderLemmas
+pub mod WorldLemmas
+pub mod TruthWorker
+pub mod TruthSched
+pub mod TruthWorld
+pub mod InsideWorld
+pub mod Lists
+pub mod Fewer
+pub mod Placed
+pub mod Errors
+pub mod SettledLemmas
+pub mod Attempts
+pub mod Within
+pub mod WithinWorld
+pub mod Deliveries
+pub mod Moving
+pub mod Values

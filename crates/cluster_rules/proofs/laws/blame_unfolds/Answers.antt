@@ -1,5 +1,0 @@
-use Rattle.cluster_rules.proofs.SchedLemmas.{blame-is}
-use Rattle.cluster_rules.proofs.laws.blame_unfolds.Goals as goal
-
-pub returns : goal.returns
-returns c = blame-is

@@ -1,5 +1,0 @@
-use Rattle.cluster_rules.proofs.PolicyLemmas.{next_drop_is}
-use Rattle.cluster_rules.proofs.laws.dropped_at_the_most_loaded_holder.Goals as goal
-
-pub returns : goal.returns
-returns c = next_drop_is

@@ -1,5 +1,0 @@
-use Rattle.cluster_rules.proofs.SchedLemmas.{erred-is}
-use Rattle.cluster_rules.proofs.laws.erred_unfolds.Goals as goal
-
-pub returns : goal.returns
-returns c = erred-is

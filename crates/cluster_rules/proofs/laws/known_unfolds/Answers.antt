@@ -1,5 +1,0 @@
-use Rattle.cluster_rules.proofs.SchedLemmas.{known-is}
-use Rattle.cluster_rules.proofs.laws.known_unfolds.Goals as goal
-
-pub returns : goal.returns
-returns c = known-is

@@ -1,5 +1,0 @@
-use Rattle.cluster_rules.proofs.PolicyLemmas.{level_enough, level_least}
-use Rattle.cluster_rules.proofs.laws.level_is_the_least.Goals as goal
-
-pub returns : goal.returns
-returns c = record { enough = level_enough; least = level_least }

@@ -1,5 +1,0 @@
-use Rattle.cluster_rules.proofs.SchedLemmas.{need-is}
-use Rattle.cluster_rules.proofs.laws.need_unfolds.Goals as goal
-
-pub returns : goal.returns
-returns c = need-is

@@ -1,5 +1,0 @@
-use Rattle.cluster_rules.proofs.TotalLemmas.{tasks_fit, occupancy_fits, bytes_held_fit}
-use Rattle.cluster_rules.proofs.laws.sums_fit.Goals as goal
-
-pub returns : goal.returns
-returns c = record { tasks = tasks_fit; occupancy = occupancy_fits; bytes = bytes_held_fit }

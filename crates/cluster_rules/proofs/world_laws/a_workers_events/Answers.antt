@@ -1,5 +1,0 @@
-use Rattle.cluster_rules.proofs.WorldLemmas.{start_is, finish_is, lose_spilled_is, spill_is, send_is, fail_is, down_is}
-use Rattle.cluster_rules.proofs.world_laws.a_workers_events.Goals as goal
-
-pub returns : goal.returns
-returns c = record { start = start_is; finish = finish_is; lose_spilled = lose_spilled_is; spill = spill_is; send = send_is; fail = fail_is; down = down_is }

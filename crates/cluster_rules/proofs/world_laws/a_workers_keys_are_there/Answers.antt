@@ -1,7 +1,0 @@
-use Rattle.cluster_msgs.specs.declared.cores.WorkerEvent.TheVariants.{Down as Told}
-use Rattle.cluster_rules.proofs.InsideWorker.{in_step, sends_in}
-use Rattle.cluster_rules.proofs.InsideSched.{down_in, mail_in, news_in, letters_in, client_in, client_sends_in, client_requested_in}
-use Rattle.cluster_rules.proofs.world_laws.a_workers_keys_are_there.Goals as goal
-
-pub returns : goal.returns
-returns c g w m v h = let r = in_step g w (Told m) v h in (r.facts, sends_in g _ r.out)

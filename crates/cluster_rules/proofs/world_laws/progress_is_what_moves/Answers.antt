@@ -1,5 +1,0 @@
-use Rattle.cluster_rules.proofs.WorldLemmas.{progress_enabled, nothing_moves}
-use Rattle.cluster_rules.proofs.world_laws.progress_is_what_moves.Goals as goal
-
-pub returns : goal.returns
-returns c = record { enabled = progress_enabled; none = nothing_moves }
