@@ -13,7 +13,7 @@ small_shape = record {
 
 -- where `given`, keys 1 to 3 are on worker 1, and where `asked` besides, key 1 is to be stolen. Worker 1 holds key 0, worker 3 holds key 4, and where `copied` also key 0
 unfoldable pub small_facts : Bool → Bool → Bool → Facts
-small_facts given asked copied = record (sched_opening (record { shape = small_shape; clients = 1; saturation = 11 })) {
+small_facts given asked copied = record (sched_opening (record { shape = small_shape; clients = 1; saturation = 11; allowed = None })) {
   has = λ w k. cond (k == 0 && (w == 1 || (copied && w == 3))) (Some 1) (cond (k == 4 && w == 3) (Some 2) None);
   on = λ k. cond (given && (nat_le 1 k && nat_le k 3)) (Some (1, k)) None;
   steal = λ k. cond (given && (asked && k == 1)) (Some (2, false)) None;

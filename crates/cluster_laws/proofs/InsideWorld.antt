@@ -29,7 +29,7 @@ use Rattle.cluster_rules.specs.World.{Job, World, Parcel, opening, is_connected,
 use Rattle.cluster_rules.specs.WorldStep.{scheduled, sends, client_sends, worked, client_worked, at_scheduler, at_worker, at_client, new_at, died, cut_off, take_down_first, take_up, take_up_first, take_to_client, take_from_client, ask_by, gathered_at, failed_at, serve, take_answer, fail_ask, spill, world_step}
 use Rattle.cluster_rules.specs.Enabled.{enabled}
 use Rattle.cluster_rules.specs.Runs.{LegalFrom, run_from, legal, reached}
-use Rattle.cluster_laws.specs.Truth.{IsTrueWorld, IsTrueSchedEvent, IsTrueUp}
+use Rattle.cluster_laws.specs.Truth.{no_excuse, IsTrueWorld, IsTrueSchedEvent, IsTrueUp}
 use Rattle.cluster_rules.specs.Inside.{IsKey, AreKeys, down_keys, news_keys, item_keys, IsInsideWorker, IsInsideClient, IsInsideWorld}
 use Rattle.cluster_rules.proofs.WorkerLemmas.{at_one}
 use Rattle.cluster_rules.proofs.AllLemmas.{all_append}
@@ -47,13 +47,13 @@ module _ (j : Job) (low : IsShape j.setting.shape) where
   keys_of_test (k ∷ ks) g e h = let p = and_parts (nat_lt k (key_count g)) _ h in (subst (λ (s : Shape). nat_lt k (key_count s) ≡ true) e p.0, keys_of_test ks g e p.1)
 
   -- the scheduler took an event
-  in_scheduler : (w : World) (e : SchedEvent) → IsInsideSched graph low e → IsTrueSchedEvent j e → IsTrueWorld j w → IsInsideWorld graph w → IsInsideWorld graph (at_scheduler w e)
+  in_scheduler : (w : World) (e : SchedEvent) → IsInsideSched graph low e → IsTrueSchedEvent j e → IsTrueWorld no_excuse j w → IsInsideWorld graph w → IsInsideWorld graph (at_scheduler w e)
   unfolding scheduled
   in_scheduler w e v t r h =
-      let c = true_change j w.sched e t r.sched in
+      let c = true_change no_excuse j w.sched e t r.sched in
       let same : (change w.sched e).facts.setting ≡ w.sched.setting = c.setting ∙ sym r.sched.setting in
       record {
-        shape = ap (λ (x : Setting). x.shape) (true_sched_step j w.sched e t r.sched).setting;
+        shape = ap (λ (x : Setting). x.shape) (true_sched_step no_excuse j w.sched e t r.sched).setting;
         workers = h.workers;
         clients = h.clients;
         spilled = h.spilled;
@@ -166,7 +166,7 @@ module _ (j : Job) (low : IsShape j.setting.shape) where
       all : AllByRecursion (λ m. AreKeys graph (down_keys m)) (m ∷ ms)
       all = subst (λ l. AllByRecursion (λ m. AreKeys graph (down_keys m)) l) e (h.down i)
 
-  in_take_up : (w : World) (i : ℕ) (ms : List Up) → w.up i ≡ ms → IsTrueWorld j w → IsInsideWorld graph w → IsInsideWorld graph (take_up_first w i ms)
+  in_take_up : (w : World) (i : ℕ) (ms : List Up) → w.up i ≡ ms → IsTrueWorld no_excuse j w → IsInsideWorld graph w → IsInsideWorld graph (take_up_first w i ms)
   in_take_up w i [] e r h = h
   in_take_up w i (m ∷ ms) e r h = heard (is_connected w i)
     where
@@ -190,7 +190,7 @@ module _ (j : Job) (low : IsShape j.setting.shape) where
         up = at_one i (λ b x. AllByRecursion (λ m. AreKeys graph (up_keys m)) (cond b ms (w.up x))) all.1 h.up;
       }
 
-      true_rest : IsTrueWorld j (record w { up = put w.up i ms })
+      true_rest : IsTrueWorld no_excuse j (record w { up = put w.up i ms })
       true_rest = record { sched = r.sched; workers = r.workers; clients = r.clients; up = at_one i (λ b x. AllByRecursion (IsTrueUp j) (cond b ms (w.up x))) true_all.1 r.up; to_client = r.to_client; answers = r.answers }
 
       heard : (b : Bool) → IsInsideWorld graph (take_up (record w { up = put w.up i ms }) i m b)
@@ -215,7 +215,7 @@ module _ (j : Job) (low : IsShape j.setting.shape) where
       all : AllByRecursion (λ m. AreKeys graph (news_keys m)) (m ∷ ms)
       all = subst (λ l. AllByRecursion (λ m. AreKeys graph (news_keys m)) l) e (h.to_client c)
 
-  in_take_from_client : (w : World) (c : ℕ) (ms : List ClientMessage) → w.from_client c ≡ ms → IsTrueWorld j w → IsInsideWorld graph w → IsInsideWorld graph (take_from_client w c ms)
+  in_take_from_client : (w : World) (c : ℕ) (ms : List ClientMessage) → w.from_client c ≡ ms → IsTrueWorld no_excuse j w → IsInsideWorld graph w → IsInsideWorld graph (take_from_client w c ms)
   in_take_from_client w c [] e r h = h
   in_take_from_client w c (m ∷ ms) e r h = in_scheduler (record w { from_client = put w.from_client c ms }) (FromClient c m) all.0 tt
       (record { sched = r.sched; workers = r.workers; clients = r.clients; up = r.up; to_client = r.to_client; answers = r.answers })
@@ -250,8 +250,8 @@ module _ (j : Job) (low : IsShape j.setting.shape) where
         (record { shape = h.shape; mem = λ k e. absurd (false≢true e); running = λ k e. absurd (false≢true e); asks = tt }) h.workers;
   }
 
-  true_new : (w : World) (i threads : ℕ) → IsTrueWorld j w → IsTrueWorld j (new_at w i threads)
-  true_new w i threads h = true_new_at j low w i threads h
+  true_new : (w : World) (i threads : ℕ) → IsTrueWorld no_excuse j w → IsTrueWorld no_excuse j (new_at w i threads)
+  true_new w i threads h = true_new_at no_excuse j low w i threads h
 
   in_died : (w : World) (i : ℕ) → IsInsideWorld graph w → IsInsideWorld graph (died w i)
   in_died w i h = record {
@@ -297,7 +297,7 @@ module _ (j : Job) (low : IsShape j.setting.shape) where
         (at_one k (λ b q. cond b true (w.spilled i q) ≡ true → IsKey graph q) (λ e. (h.workers i).mem k m) (h.spilled i)) h.spilled;
   }
 
-  pub in_world_step : (w : World) (e : Event) → enabled w e ≡ true → IsTrueWorld j w → IsInsideWorld graph w → IsInsideWorld graph (world_step j w e)
+  pub in_world_step : (w : World) (e : Event) → enabled w e ≡ true → IsTrueWorld no_excuse j w → IsInsideWorld graph w → IsInsideWorld graph (world_step j w e)
   unfolding world_step enabled
   in_world_step w (Want c ks) t r h = in_client w c (WantKeys ks) (keys_of_test ks w.sched.setting.shape h.shape (and_parts (has_any ks) _ (and_parts _ (has_any ks && _) t).1).1) h
   in_world_step w (Release c ks) t r h = in_client w c (ReleaseKeys ks) (keys_of_test ks w.sched.setting.shape h.shape (and_parts (has_any ks) _ (and_parts _ (has_any ks && _) t).1).1) h
@@ -334,9 +334,9 @@ module _ (j : Job) (low : IsShape j.setting.shape) where
     answers = tt;
   }
 
-  in_from : (w : World) (es : List Event) → LegalFrom j w es → IsTrueWorld j w → IsInsideWorld graph w → IsInsideWorld graph (run_from j w es)
+  in_from : (w : World) (es : List Event) → LegalFrom j w es → IsTrueWorld no_excuse j w → IsInsideWorld graph w → IsInsideWorld graph (run_from j w es)
   in_from w [] l r h = h
-  in_from w (e ∷ es) l r h = in_from (world_step j w e) es l.1 (true_world_step j low w e l.0 r) (in_world_step w e l.0 r h)
+  in_from w (e ∷ es) l r h = in_from (world_step j w e) es l.1 (true_world_step no_excuse j low w e l.0 r) (in_world_step w e l.0 r h)
 
   pub in_after : (es : List Event) → legal j es → IsInsideWorld graph (reached j es)
-  in_after es l = in_from (opening j) es l (true_opening j low) in_opening
+  in_after es l = in_from (opening j) es l (true_opening no_excuse j low) in_opening

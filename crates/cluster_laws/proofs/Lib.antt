@@ -14,4 +14,4 @@ pub mod Within
 pub mod WithinWorld
 pub mod Deliveries
 pub mod Moving
-pub mod Values
+pub mod BlockValues

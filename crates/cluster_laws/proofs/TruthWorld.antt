@@ -33,21 +33,21 @@ use Rattle.cluster_rules.proofs.AllLemmas.{all_append}
 use Rattle.cluster_laws.proofs.TruthWorker.{DoneRuns, IsTrueStep, true_step, sends_true}
 use Rattle.cluster_laws.proofs.TruthSched.{true_sched_step, true_news, letters_true, true_client_step}
 
-module _ (j : Job) (g : IsShape j.setting.shape) where
+module _ (excused : ℕ → Type 0) (j : Job) (g : IsShape j.setting.shape) where
   -- the scheduler took an event
-  true_at_scheduler : (w : World) (e : SchedEvent) → IsTrueSchedEvent j e → IsTrueWorld j w → IsTrueWorld j (at_scheduler w e)
+  true_at_scheduler : (w : World) (e : SchedEvent) → IsTrueSchedEvent j e → IsTrueWorld excused j w → IsTrueWorld excused j (at_scheduler w e)
   unfolding scheduled
   true_at_scheduler w e t h = record {
-    sched = true_sched_step j w.sched e t h.sched;
+    sched = true_sched_step excused j w.sched e t h.sched;
     workers = h.workers;
     clients = h.clients;
     up = h.up;
-    to_client = λ c. all_append (IsTrueNews j) (w.to_client c) _ (h.to_client c) (letters_true j c (sched_step w.sched e).clients (true_news j w.sched e g t h.sched));
+    to_client = λ c. all_append (IsTrueNews excused j) (w.to_client c) _ (h.to_client c) (letters_true excused j c (sched_step w.sched e).clients (true_news excused j w.sched e g t h.sched));
     answers = h.answers;
   }
 
   -- a worker took an event
-  true_at_worker : (w : World) (i : ℕ) (e : WorkerEvent) → DoneRuns j (w.workers i) e → IsTrueEvent j e → IsTrueWorld j w → IsTrueWorld j (at_worker w i e)
+  true_at_worker : (w : World) (i : ℕ) (e : WorkerEvent) → DoneRuns j (w.workers i) e → IsTrueEvent j e → IsTrueWorld excused j w → IsTrueWorld excused j (at_worker w i e)
   unfolding worked
   true_at_worker w i e p t h =
       let r : IsTrueStep j (worker_step (w.workers i) e) = true_step j (w.workers i) e p t (h.workers i) in
@@ -61,12 +61,12 @@ module _ (j : Job) (g : IsShape j.setting.shape) where
       }
 
   -- a client took an event
-  true_at_client : (w : World) (c : ℕ) (e : ClientEvent) → IsTrueClientEvent j e → IsTrueWorld j w → IsTrueWorld j (at_client w c e)
+  true_at_client : (w : World) (c : ℕ) (e : ClientEvent) → IsTrueClientEvent excused j e → IsTrueWorld excused j w → IsTrueWorld excused j (at_client w c e)
   unfolding client_worked
   true_at_client w c e t h = record {
     sched = h.sched;
     workers = h.workers;
-    clients = at_one c (λ b x. IsTrueClient j (cond b (client_step (w.clients c) e).facts (w.clients x))) (true_client_step j (w.clients c) e t (h.clients c)) h.clients;
+    clients = at_one c (λ b x. IsTrueClient excused j (cond b (client_step (w.clients c) e).facts (w.clients x))) (true_client_step excused j (w.clients c) e t (h.clients c)) h.clients;
     up = h.up;
     to_client = h.to_client;
     answers = h.answers;
@@ -114,7 +114,7 @@ module _ (j : Job) (g : IsShape j.setting.shape) where
       pick true e r = (h k e, r)
       pick false e r = r
 
-  true_serve : (w : World) (p : ℕ) (o : Option Parcel) → IsTrueWorld j w → IsTrueWorld j (serve w p o)
+  true_serve : (w : World) (p : ℕ) (o : Option Parcel) → IsTrueWorld excused j w → IsTrueWorld excused j (serve w p o)
   true_serve w p None h = h
   true_serve w p (Some q) h = record {
     sched = h.sched;
@@ -126,28 +126,28 @@ module _ (j : Job) (g : IsShape j.setting.shape) where
   }
 
   -- an asker's events
-  true_gathered_at : (w : World) (a : Asker) (p n : ℕ) (found : List ℕ) → AreValued j found → IsTrueWorld j w → IsTrueWorld j (gathered_at w a p n found)
+  true_gathered_at : (w : World) (a : Asker) (p n : ℕ) (found : List ℕ) → AreValued j found → IsTrueWorld excused j w → IsTrueWorld excused j (gathered_at w a p n found)
   true_gathered_at w (Worker i) p n found v h = true_at_worker w i (Gathered p n found) (λ k z e. absurd (never e)) v h
     where
       never : {k : ℕ} {z : Bool} → Gathered p n found ≡ Done k z → ⊥
       never e = cc
   true_gathered_at w (Client c) p n found v h = true_at_client w c (ClientGathered p n found) v h
 
-  true_failed_at : (w : World) (a : Asker) (p n : ℕ) → IsTrueWorld j w → IsTrueWorld j (failed_at w a p n)
+  true_failed_at : (w : World) (a : Asker) (p n : ℕ) → IsTrueWorld excused j w → IsTrueWorld excused j (failed_at w a p n)
   true_failed_at w (Worker i) p n h = true_at_worker w i (GatherFailed p n) (λ k z e. absurd (never e)) tt h
     where
       never : {k : ℕ} {z : Bool} → GatherFailed p n ≡ Done k z → ⊥
       never e = cc
   true_failed_at w (Client c) p n h = true_at_client w c (ClientGatherFailed p n) tt h
 
-  true_ask_by : (w : World) (a : Asker) (p : ℕ) → IsTrueWorld j w → IsTrueWorld j (ask_by w a p)
+  true_ask_by : (w : World) (a : Asker) (p : ℕ) → IsTrueWorld excused j w → IsTrueWorld excused j (ask_by w a p)
   true_ask_by w (Worker i) p h = true_at_worker w i (AskPeer p) (λ k z e. absurd (never e)) tt h
     where
       never : {k : ℕ} {z : Bool} → AskPeer p ≡ Done k z → ⊥
       never e = cc
   true_ask_by w (Client c) p h = true_at_client w c (ClientAsk p) tt h
 
-  true_take_answer : (w : World) (a : Asker) (p n : ℕ) (o : Option Parcel) → parcel_of a p n w.answers ≡ o → IsTrueWorld j w → IsTrueWorld j (take_answer w o)
+  true_take_answer : (w : World) (a : Asker) (p n : ℕ) (o : Option Parcel) → parcel_of a p n w.answers ≡ o → IsTrueWorld excused j w → IsTrueWorld excused j (take_answer w o)
   true_take_answer w a p n None e h = h
   true_take_answer w a p n (Some q) e h = true_gathered_at _ q.asker q.peer q.ask q.keys (valued_found (is_parcel a p n) w.answers q e h.answers) (record {
     sched = h.sched;
@@ -158,33 +158,33 @@ module _ (j : Job) (g : IsShape j.setting.shape) where
     answers = valued_filter _ w.answers h.answers;
   })
 
-  true_fail_ask : (w : World) (a : Asker) (p : ℕ) (o : Option Ask) → IsTrueWorld j w → IsTrueWorld j (fail_ask w a p o)
+  true_fail_ask : (w : World) (a : Asker) (p : ℕ) (o : Option Ask) → IsTrueWorld excused j w → IsTrueWorld excused j (fail_ask w a p o)
   true_fail_ask w a p None h = h
   true_fail_ask w a p (Some q) h = true_failed_at w a p q.number h
 
   -- deliveries
-  true_take_down : (w : World) (i : ℕ) (ms : List Down) → IsTrueWorld j w → IsTrueWorld j (take_down_first w i ms)
+  true_take_down : (w : World) (i : ℕ) (ms : List Down) → IsTrueWorld excused j w → IsTrueWorld excused j (take_down_first w i ms)
   true_take_down w i [] h = h
   true_take_down w i (m ∷ ms) h = true_at_worker (record w { down = put w.down i ms }) i (Told m) (λ k z e. absurd (never e)) tt (record { sched = h.sched; workers = h.workers; clients = h.clients; up = h.up; to_client = h.to_client; answers = h.answers })
     where
       never : {k : ℕ} {z : Bool} → Told m ≡ Done k z → ⊥
       never e = cc
 
-  true_take_up : (w : World) (i : ℕ) (ms : List Up) → w.up i ≡ ms → IsTrueWorld j w → IsTrueWorld j (take_up_first w i ms)
+  true_take_up : (w : World) (i : ℕ) (ms : List Up) → w.up i ≡ ms → IsTrueWorld excused j w → IsTrueWorld excused j (take_up_first w i ms)
   true_take_up w i [] e h = h
   true_take_up w i (m ∷ ms) e h = heard (is_connected w i)
     where
       all : AllByRecursion (IsTrueUp j) (m ∷ ms)
       all = subst (λ l. AllByRecursion (IsTrueUp j) l) e (h.up i)
 
-      rest : IsTrueWorld j (record w { up = put w.up i ms })
+      rest : IsTrueWorld excused j (record w { up = put w.up i ms })
       rest = record { sched = h.sched; workers = h.workers; clients = h.clients; up = at_one i (λ b x. AllByRecursion (IsTrueUp j) (cond b ms (w.up x))) all.1 h.up; to_client = h.to_client; answers = h.answers }
 
-      heard : (b : Bool) → IsTrueWorld j (take_up (record w { up = put w.up i ms }) i m b)
+      heard : (b : Bool) → IsTrueWorld excused j (take_up (record w { up = put w.up i ms }) i m b)
       heard true = true_at_scheduler (record w { up = put w.up i ms }) (FromWorker i m) all.0 rest
       heard false = rest
 
-  true_take_to_client : (w : World) (c : ℕ) (ms : List ToClient) → w.to_client c ≡ ms → IsTrueWorld j w → IsTrueWorld j (take_to_client w c ms)
+  true_take_to_client : (w : World) (c : ℕ) (ms : List ToClient) → w.to_client c ≡ ms → IsTrueWorld excused j w → IsTrueWorld excused j (take_to_client w c ms)
   true_take_to_client w c [] e h = h
   true_take_to_client w c (m ∷ ms) e h = true_at_client (record w { to_client = put w.to_client c ms }) c (FromScheduler m) all.0 (record {
     sched = h.sched;
@@ -192,18 +192,18 @@ module _ (j : Job) (g : IsShape j.setting.shape) where
     clients = h.clients;
     up = h.up;
     answers = h.answers;
-    to_client = at_one c (λ b x. AllByRecursion (IsTrueNews j) (cond b ms (w.to_client x))) all.1 h.to_client;
+    to_client = at_one c (λ b x. AllByRecursion (IsTrueNews excused j) (cond b ms (w.to_client x))) all.1 h.to_client;
   })
     where
-      all : AllByRecursion (IsTrueNews j) (m ∷ ms)
-      all = subst (λ l. AllByRecursion (IsTrueNews j) l) e (h.to_client c)
+      all : AllByRecursion (IsTrueNews excused j) (m ∷ ms)
+      all = subst (λ l. AllByRecursion (IsTrueNews excused j) l) e (h.to_client c)
 
-  true_take_from_client : (w : World) (c : ℕ) (ms : List ClientMessage) → IsTrueWorld j w → IsTrueWorld j (take_from_client w c ms)
+  true_take_from_client : (w : World) (c : ℕ) (ms : List ClientMessage) → IsTrueWorld excused j w → IsTrueWorld excused j (take_from_client w c ms)
   true_take_from_client w c [] h = h
   true_take_from_client w c (m ∷ ms) h = true_at_scheduler (record w { from_client = put w.from_client c ms }) (FromClient c m) tt (record { sched = h.sched; workers = h.workers; clients = h.clients; up = h.up; to_client = h.to_client; answers = h.answers })
 
   -- the other events
-  pub true_new_at : (w : World) (i threads : ℕ) → IsTrueWorld j w → IsTrueWorld j (new_at w i threads)
+  pub true_new_at : (w : World) (i threads : ℕ) → IsTrueWorld excused j w → IsTrueWorld excused j (new_at w i threads)
   true_new_at w i threads h = record {
     sched = h.sched;
     clients = h.clients;
@@ -214,7 +214,7 @@ module _ (j : Job) (g : IsShape j.setting.shape) where
         (record { shape = ap (λ (s : Setting). s.shape) h.sched.setting; at = λ k. record { valued = λ e. absurd (false≢true e); fed = λ e. absurd (false≢true e) } }) h.workers;
   }
 
-  true_died : (w : World) (i : ℕ) → IsTrueWorld j w → IsTrueWorld j (died w i)
+  true_died : (w : World) (i : ℕ) → IsTrueWorld excused j w → IsTrueWorld excused j (died w i)
   true_died w i h = record {
     sched = h.sched;
     clients = h.clients;
@@ -225,7 +225,7 @@ module _ (j : Job) (g : IsShape j.setting.shape) where
         (record { shape = (h.workers i).shape; at = λ k. record { valued = λ e. absurd (false≢true e); fed = ((h.workers i).at k).fed } }) h.workers;
   }
 
-  true_cut_off : (w : World) (i : ℕ) → IsTrueWorld j w → IsTrueWorld j (cut_off w i)
+  true_cut_off : (w : World) (i : ℕ) → IsTrueWorld excused j w → IsTrueWorld excused j (cut_off w i)
   true_cut_off w i h = record {
     sched = h.sched;
     workers = h.workers;
@@ -235,7 +235,7 @@ module _ (j : Job) (g : IsShape j.setting.shape) where
     up = at_one i (λ b x. AllByRecursion (IsTrueUp j) (cond b [] (w.up x))) tt h.up;
   }
 
-  pub true_world_step : (w : World) (e : Event) → enabled w e ≡ true → IsTrueWorld j w → IsTrueWorld j (world_step j w e)
+  pub true_world_step : (w : World) (e : Event) → enabled w e ≡ true → IsTrueWorld excused j w → IsTrueWorld excused j (world_step j w e)
   unfolding world_step enabled
   true_world_step w (Want c ks) t h = true_at_client w c (WantKeys ks) tt h
   true_world_step w (Release c ks) t h = true_at_client w c (ReleaseKeys ks) tt h
@@ -267,7 +267,7 @@ module _ (j : Job) (g : IsShape j.setting.shape) where
       lost_never : {q : ℕ} {z : Bool} → DataLost k ≡ Done q z → ⊥
       lost_never e = cc
 
-  pub true_opening : IsTrueWorld j (opening j)
+  pub true_opening : IsTrueWorld excused j (opening j)
   true_opening = record {
     sched = record { setting = refl; bad = λ k e. absurd (false≢true e) };
     workers = λ i. record { shape = refl; at = λ k. record { valued = λ e. absurd (false≢true e); fed = λ e. absurd (false≢true e) } };
@@ -280,9 +280,9 @@ module _ (j : Job) (g : IsShape j.setting.shape) where
       never : (b : ℕ) → None ≡ Some b → ⊥
       never b e = cc
 
-  true_from : (w : World) (es : List Event) → LegalFrom j w es → IsTrueWorld j w → IsTrueWorld j (run_from j w es)
+  true_from : (w : World) (es : List Event) → LegalFrom j w es → IsTrueWorld excused j w → IsTrueWorld excused j (run_from j w es)
   true_from w [] l h = h
   true_from w (e ∷ es) l h = true_from (world_step j w e) es l.1 (true_world_step w e l.0 h)
 
-  pub true_after : (es : List Event) → legal j es → IsTrueWorld j (reached j es)
+  pub true_after : (es : List Event) → legal j es → IsTrueWorld excused j (reached j es)
   true_after es l = true_from (opening j) es l true_opening

@@ -26,7 +26,7 @@ job_of s op = record { setting = s; zero = λ k. is_none (val (deps_of s.shape) 
 
 -- a graph's setting, with so many clients and this saturation
 abbrev pub setting_of : Shape → ℕ → ℕ → Setting
-setting_of g clients saturation = record { shape = g; clients = clients; saturation = saturation }
+setting_of g clients saturation = record { shape = g; clients = clients; saturation = saturation; allowed = None }
 
 -- no block is anywhere
 abbrev pub no_blocks : {B : Type 0} → Blocks B

@@ -1,5 +1,5 @@
 -- What is true of blocks and failures, at each worker, on each link and at each client.
-use Rattle.std.specs.Prelude.{◌≡◌, ℕ, Bool, true, false, not, ◌&&◌, List, Some}
+use Rattle.std.specs.Prelude.{◌≡◌, ◌⊎◌, ℕ, Bool, true, false, not, ◌&&◌, List, Some}
 use Rattle.std.specs.List.{list_all, AllByRecursion}
 use Rattle.cluster_msgs.specs.Shape.{deps_of}
 use Rattle.cluster_msgs.specs.Values.{cone}
@@ -26,9 +26,17 @@ has_inputs j k = list_all (λ d. not (j.zero d)) (deps_of j.setting.shape k)
 abbrev pub faulty_key : Job → ℕ → Bool
 faulty_key j k = has_inputs j k && j.zero k
 
--- a failure of k is blamed on b: that key is faulty, and k is it or depends on it
-pub record IsBlame (j : Job) (k b : ℕ) : Type 0 where
-  pub faulty : faulty_key j b ≡ true
+-- a key that may count as erred by itself: its own operation meets a zero divisor, or something else excuses it. What
+-- does is a parameter here, and no proof that carries it along looks into it; nothing does until losses are counted
+abbrev pub MayErr : (ℕ → Type 0) → Job → ℕ → Type 0
+MayErr excused j k = (faulty_key j k ≡ true) ⊎ excused k
+
+abbrev pub no_excuse : ℕ → Type 0
+no_excuse k = ⊥
+
+-- a failure of k is blamed on b: that key may err, and k is it or depends on it
+pub record IsBlame (excused : ℕ → Type 0) (j : Job) (k b : ℕ) : Type 0 where
+  pub fault : MayErr excused j b
   pub within : cone (deps_of j.setting.shape) k b ≡ true
 
 -- a block is there only of a key with a value, and a key runs only on inputs that have values
@@ -65,35 +73,35 @@ IsTrueUp j (RequestRefreshWhoHas seen k) = Unit {0}
 IsTrueUp j (StealResponse seen k a agreed) = Unit {0}
 
 -- a failure that a client is told of has its blame
-abbrev pub IsTrueNews : Job → ToClient → Type 0
-IsTrueNews j (ClientTaskErred k b) = IsBlame j k b
-IsTrueNews j (KeyInMemory k holders) = Unit {0}
-IsTrueNews j (LostData k) = Unit {0}
+abbrev pub IsTrueNews : (ℕ → Type 0) → Job → ToClient → Type 0
+IsTrueNews excused j (ClientTaskErred k b) = IsBlame excused j k b
+IsTrueNews excused j (KeyInMemory k holders) = Unit {0}
+IsTrueNews excused j (LostData k) = Unit {0}
 
-pub record IsTrueSched (j : Job) (f : Facts) : Type 0 where
+pub record IsTrueSched (excused : ℕ → Type 0) (j : Job) (f : Facts) : Type 0 where
   pub setting : f.setting ≡ j.setting
-  pub bad : (k : ℕ) → f.bad k ≡ true → faulty_key j k ≡ true
+  pub bad : (k : ℕ) → f.bad k ≡ true → MayErr excused j k
 
-pub record IsTrueClient (j : Job) (c : ClientFacts) : Type 0 where
+pub record IsTrueClient (excused : ℕ → Type 0) (j : Job) (c : ClientFacts) : Type 0 where
   pub got : (k : ℕ) → c.got k ≡ true → j.zero k ≡ false
-  pub failed : (k b : ℕ) → c.failed k ≡ Some b → IsBlame j k b
+  pub failed : (k b : ℕ) → c.failed k ≡ Some b → IsBlame excused j k b
 
-pub record IsTrueWorld (j : Job) (w : World) : Type 0 where
-  pub sched : IsTrueSched j w.sched
+pub record IsTrueWorld (excused : ℕ → Type 0) (j : Job) (w : World) : Type 0 where
+  pub sched : IsTrueSched excused j w.sched
   pub workers : (i : ℕ) → IsTrueWorker j (w.workers i)
-  pub clients : (c : ℕ) → IsTrueClient j (w.clients c)
+  pub clients : (c : ℕ) → IsTrueClient excused j (w.clients c)
   pub up : (i : ℕ) → AllByRecursion (IsTrueUp j) (w.up i)
-  pub to_client : (c : ℕ) → AllByRecursion (IsTrueNews j) (w.to_client c)
+  pub to_client : (c : ℕ) → AllByRecursion (IsTrueNews excused j) (w.to_client c)
   pub answers : AllByRecursion (λ (q : Parcel). AreValued j q.keys) w.answers
 
 -- an event of a client that goes by the job
-abbrev pub IsTrueClientEvent : Job → ClientEvent → Type 0
-IsTrueClientEvent j (FromScheduler m) = IsTrueNews j m
-IsTrueClientEvent j (ClientGathered p n found) = AreValued j found
-IsTrueClientEvent j (Want ks) = Unit {0}
-IsTrueClientEvent j (Release ks) = Unit {0}
-IsTrueClientEvent j (ClientAsk p) = Unit {0}
-IsTrueClientEvent j (ClientGatherFailed p n) = Unit {0}
+abbrev pub IsTrueClientEvent : (ℕ → Type 0) → Job → ClientEvent → Type 0
+IsTrueClientEvent excused j (FromScheduler m) = IsTrueNews excused j m
+IsTrueClientEvent excused j (ClientGathered p n found) = AreValued j found
+IsTrueClientEvent excused j (Want ks) = Unit {0}
+IsTrueClientEvent excused j (Release ks) = Unit {0}
+IsTrueClientEvent excused j (ClientAsk p) = Unit {0}
+IsTrueClientEvent excused j (ClientGatherFailed p n) = Unit {0}
 
 -- an event of the scheduler that goes by the job
 abbrev pub IsTrueSchedEvent : Job → SchedEvent → Type 0

@@ -20,7 +20,7 @@ ghost use Rattle.cluster_rules.specs.Inside.{AreKeys, down_keys, IsInsideWorker,
 ghost use Rattle.cluster_rules.specs.Runs.{legal, reached};
 ghost use Rattle.cluster_msgs.specs.declared.cores.WorkerEvent.{WorkerEvent};
 ghost use Rattle.cluster_rules.specs.WorkerStep.{worker_step, worker_takes};
-ghost use Rattle.cluster_laws.specs.Truth.{IsTrueWorker, IsTrueEvent, IsTrueUp, IsTrueWorld, IsBlame};
+ghost use Rattle.cluster_laws.specs.Truth.{no_excuse, IsTrueWorker, IsTrueEvent, IsTrueUp, IsTrueWorld, IsBlame};
 ghost use Rattle.cluster_rules.specs.WorldStep.{world_step, sends};
 ghost use Rattle.cluster_rules.specs.Enabled.{enabled, progress, are_named, may_ask};
 ghost use Rattle.cluster_laws.specs.WorldFrame.{OnlyScheduler, OnlyWorker, OnlyClient, NothingMoves};
@@ -101,11 +101,11 @@ pub fn a_workers_blocks_are_true()
 /// After each legal list of events of a job whose graph is one, each block that a client got is of a key with a value,
 /// and each failure that it was told is blamed on a faulty key in the cone of its key.
 pub fn values_of_legal_lists()
-    ensures world { (j : Job) → IsShape j.setting.shape → (es : List Event) → legal j es → IsTrueWorld j (reached j es) }
+    ensures world { (j : Job) → IsShape j.setting.shape → (es : List Event) → legal j es → IsTrueWorld no_excuse j (reached j es) }
     ensures got { (j : Job) → IsShape j.setting.shape → (es : List Event) → legal j es → (c k : ℕ) →
         ((reached j es).clients c).got k ≡ true → j.zero k ≡ false }
     ensures failed { (j : Job) → IsShape j.setting.shape → (es : List Event) → legal j es → (c k b : ℕ) →
-        ((reached j es).clients c).failed k ≡ Some b → IsBlame j k b }
+        ((reached j es).clients c).failed k ≡ Some b → IsBlame no_excuse j k b }
 {}
 
 /// A worker that is told of keys of the graph alone names no other key.

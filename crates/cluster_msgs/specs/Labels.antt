@@ -1,5 +1,5 @@
 -- What a label says of a run, and what fits it.
-use Rattle.std.specs.Prelude.{◌≡◌, ℕ, Bool, List, [], Option, Some, IsTrue}
+use Rattle.std.specs.Prelude.{◌≡◌, ℕ, Bool, List, [], Option, Some, None, IsTrue}
 use Rattle.std.specs.List.{AllZip}
 use Rattle.cluster_msgs.specs.Shape.{Shape, deps_of}
 use Rattle.cluster_msgs.specs.Values.{val, cone, faulty}
@@ -14,18 +14,20 @@ use Rattle.cluster_msgs.specs.declared.messages.Message.{Message}
 use Rattle.cluster_msgs.specs.declared.messages.Message.TheVariants as message
 use Rattle.cluster_msgs.specs.declared.packets.Packet.{Packet}
 
--- whether the run is told; each key's dependencies, dims and value, which is missing where it is Bad; and the dims of a block
+-- whether the run is told; how often a key's worker may leave while the key is assigned to it, where that is bounded; each key's
+-- dependencies, dims and value, which is missing where it is Bad; and the dims of a block
 pub record LabelFacts (B : Type 0) : Type 0 where
   pub told : Bool
+  pub allowed : Option ℕ
   pub deps : ℕ → List ℕ
   pub dims : ℕ → List ℕ
   pub value : ℕ → Option B
   pub block_dims : B → List ℕ
 
 -- the label of a job: its graph, operation and dims, and the dims of a block
-abbrev pub label_of : {B : Type 0} → Bool → Shape → (ℕ → List B → Option B) → (ℕ → List ℕ) → (B → List ℕ) → LabelFacts B
-label_of told graph op dims block_dims =
-    record { told = told; deps = deps_of graph; dims = dims; value = val (deps_of graph) op; block_dims = block_dims }
+abbrev pub label_of : {B : Type 0} → Bool → Option ℕ → Shape → (ℕ → List B → Option B) → (ℕ → List ℕ) → (B → List ℕ) → LabelFacts B
+label_of told allowed graph op dims block_dims =
+    record { told = told; allowed = allowed; deps = deps_of graph; dims = dims; value = val (deps_of graph) op; block_dims = block_dims }
 
 -- a block that is held for a key has the key's dims and, where the run is told, is its value
 pub record BlockFits {B : Type 0} (facts : LabelFacts B) (key : ℕ) (block : B) : Type 0 where
@@ -36,9 +38,9 @@ pub record BlockFits {B : Type 0} (facts : LabelFacts B) (key : ℕ) (block : B)
 abbrev pub ErrorFits : {B : Type 0} → LabelFacts B → ℕ → Type 0
 ErrorFits facts key = IsTrue facts.told → IsTrue (faulty facts.deps facts.value key)
 
--- where the run is told, the blame of a key is a faulty key of its cone
+-- where the run is told, the blame of a key is in its cone, and a faulty key unless losses are bounded
 pub record BlameFits {B : Type 0} (facts : LabelFacts B) (key blame : ℕ) : Type 0 where
-  pub fault : ErrorFits facts blame
+  pub fault : facts.allowed ≡ None → ErrorFits facts blame
   pub below : IsTrue facts.told → IsTrue (cone facts.deps key blame)
 
 abbrev pub UpFits : {B : Type 0} → LabelFacts B → Up → Type 0

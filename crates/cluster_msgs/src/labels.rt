@@ -2,7 +2,7 @@
 use std::marker::{Brand, PhantomData};
 
 /// Names one run. It has no bytes and no calls: it tells, for contracts, each key's dependencies, dims and value, the
-/// dims of a block, and whether the run is told, which is that its files, links and disks give what they hold.
+/// dims of a block, how often a key's worker may leave, and whether the run is told, which is that its files, links and disks give what they hold.
 pub trait Label {
     type Block;
 
@@ -21,7 +21,7 @@ pub trait Naming<B> {
 impl<B> Naming<B> for Brand {
     ghost use Rattle.std.specs.Prelude.{false, None, []};
 
-    ghost naming = { record { told = false; deps = λ _. []; dims = λ _. []; value = λ _. None; block_dims = λ _. [] } };
+    ghost naming = { record { told = false; allowed = None; deps = λ _. []; dims = λ _. []; value = λ _. None; block_dims = λ _. [] } };
 }
 
 /// The label of a run with blocks `B`, as `K` names it.

@@ -11,7 +11,7 @@ use Rattle.cluster_rows.specs.Talk.{WorkerRow, Table, facts_of}
 
 -- three keys without dependencies, 80 bytes each, one client, saturation 11
 abbrev pub three_keys : Setting
-three_keys = record { shape = record { deps = [] ∷ [] ∷ [] ∷ []; work = 80 ∷ 80 ∷ 80 ∷ []; nbytes = 80 ∷ 80 ∷ 80 ∷ [] }; clients = 1; saturation = 11 }
+three_keys = record { shape = record { deps = [] ∷ [] ∷ [] ∷ []; work = 80 ∷ 80 ∷ 80 ∷ []; nbytes = 80 ∷ 80 ∷ 80 ∷ [] }; clients = 1; saturation = 11; allowed = None }
 
 -- all three are wanted, two workers of one thread join, worker 2 ends its key, and worker 1 is asked for its keys
 abbrev pub theft : List SchedEvent
@@ -60,7 +60,7 @@ both_hold = record {
 
 -- one key without dependencies
 abbrev pub one_key : Setting
-one_key = record { shape = record { deps = [] ∷ []; work = 80 ∷ []; nbytes = 80 ∷ [] }; clients = 1; saturation = 11 }
+one_key = record { shape = record { deps = [] ∷ []; work = 80 ∷ []; nbytes = 80 ∷ [] }; clients = 1; saturation = 11; allowed = None }
 
 -- the key is wanted, two workers join, and worker 1 ends it
 abbrev pub ended_by_one : List SchedEvent
@@ -68,11 +68,11 @@ ended_by_one = FromClient 1 (Want (0 ∷ [])) ∷ Join 1 ∷ Join 1 ∷ FromWork
 
 -- four keys without dependencies
 abbrev pub four_keys : Setting
-four_keys = record { shape = record { deps = [] ∷ [] ∷ [] ∷ [] ∷ []; work = 80 ∷ 80 ∷ 80 ∷ 80 ∷ []; nbytes = 80 ∷ 80 ∷ 80 ∷ 80 ∷ [] }; clients = 1; saturation = 11 }
+four_keys = record { shape = record { deps = [] ∷ [] ∷ [] ∷ [] ∷ []; work = 80 ∷ 80 ∷ 80 ∷ 80 ∷ []; nbytes = 80 ∷ 80 ∷ 80 ∷ 80 ∷ [] }; clients = 1; saturation = 11; allowed = None }
 
 -- key 2 depends on key 0 and is wanted, as is key 1
 abbrev pub replicas : Setting
-replicas = record { shape = record { deps = [] ∷ [] ∷ (0 ∷ []) ∷ []; work = 80 ∷ 80 ∷ 80 ∷ []; nbytes = 80 ∷ 80 ∷ 80 ∷ [] }; clients = 1; saturation = 11 }
+replicas = record { shape = record { deps = [] ∷ [] ∷ (0 ∷ []) ∷ []; work = 80 ∷ 80 ∷ 80 ∷ []; nbytes = 80 ∷ 80 ∷ 80 ∷ [] }; clients = 1; saturation = 11; allowed = None }
 
 -- three workers join, worker 1 ends key 0 and worker 2 key 1
 abbrev pub three_holders : List SchedEvent
@@ -87,7 +87,7 @@ three_holders =
 
 -- key 1 depends on key 0, and key 2 on none; two clients
 abbrev pub chain : Setting
-chain = record { shape = record { deps = [] ∷ (0 ∷ []) ∷ [] ∷ []; work = 80 ∷ 80 ∷ 80 ∷ []; nbytes = 80 ∷ 80 ∷ 80 ∷ [] }; clients = 2; saturation = 11 }
+chain = record { shape = record { deps = [] ∷ (0 ∷ []) ∷ [] ∷ []; work = 80 ∷ 80 ∷ 80 ∷ []; nbytes = 80 ∷ 80 ∷ 80 ∷ [] }; clients = 2; saturation = 11; allowed = None }
 
 -- two workers of one thread join, client 1 wants keys 1 and 2, and worker 1 ends key 0
 abbrev pub to_busy : List SchedEvent
@@ -155,7 +155,7 @@ when_asked e = sched_step (facts_of three_keys asked) e
 
 -- two keys with this work, of one byte each, both on worker 1; worker 2 is idle
 abbrev pub two_tasks : ℕ → ℕ → Setting
-two_tasks a b = record { shape = record { deps = [] ∷ [] ∷ []; work = a ∷ b ∷ []; nbytes = 1 ∷ 1 ∷ [] }; clients = 1; saturation = 11 }
+two_tasks a b = record { shape = record { deps = [] ∷ [] ∷ []; work = a ∷ b ∷ []; nbytes = 1 ∷ 1 ∷ [] }; clients = 1; saturation = 11; allowed = None }
 
 abbrev pub uneven : Table
 uneven = record {
@@ -173,7 +173,7 @@ uneven = record {
 
 -- keys 0 and 1 are held, by worker 1 and worker 2; key 2 depends on both; key 3 depends on none
 abbrev pub two_inputs : ℕ → ℕ → Setting
-two_inputs a b = record { shape = record { deps = [] ∷ [] ∷ (0 ∷ 1 ∷ []) ∷ [] ∷ []; work = 80 ∷ 80 ∷ 80 ∷ 90 ∷ []; nbytes = a ∷ b ∷ 8 ∷ 8 ∷ [] }; clients = 1; saturation = 11 }
+two_inputs a b = record { shape = record { deps = [] ∷ [] ∷ (0 ∷ 1 ∷ []) ∷ [] ∷ []; work = 80 ∷ 80 ∷ 80 ∷ 90 ∷ []; nbytes = a ∷ b ∷ 8 ∷ 8 ∷ [] }; clients = 1; saturation = 11; allowed = None }
 
 abbrev pub apart : Option (ℕ × ℕ) → Table
 apart place = record {
@@ -192,7 +192,7 @@ apart place = record {
 
 -- key 2 depends on keys 0 and 1, key 3 on key 2, and key 4 on none
 abbrev pub diamond : Setting
-diamond = record { shape = record { deps = [] ∷ [] ∷ (0 ∷ 1 ∷ []) ∷ (2 ∷ []) ∷ [] ∷ []; work = 1 ∷ 1 ∷ 1 ∷ 1 ∷ 1 ∷ []; nbytes = 8 ∷ 8 ∷ 8 ∷ 8 ∷ 8 ∷ [] }; clients = 1; saturation = 11 }
+diamond = record { shape = record { deps = [] ∷ [] ∷ (0 ∷ 1 ∷ []) ∷ (2 ∷ []) ∷ [] ∷ []; work = 1 ∷ 1 ∷ 1 ∷ 1 ∷ 1 ∷ []; nbytes = 8 ∷ 8 ∷ 8 ∷ 8 ∷ 8 ∷ [] }; clients = 1; saturation = 11; allowed = None }
 
 -- worker 1 has this many threads and worker 2 this many
 abbrev pub staffed : ℕ → ℕ → Facts → Facts
@@ -200,7 +200,7 @@ staffed a b f = record f { threads = λ w. cond (w == 1) (Some a) (cond (w == 2)
 
 -- worker 1 has two tasks of work 1000 each, and worker 2 a small one
 abbrev pub two_large : Setting
-two_large = record { shape = record { deps = [] ∷ [] ∷ [] ∷ []; work = 1000 ∷ 1000 ∷ 1 ∷ []; nbytes = 1 ∷ 1 ∷ 1 ∷ [] }; clients = 1; saturation = 11 }
+two_large = record { shape = record { deps = [] ∷ [] ∷ [] ∷ []; work = 1000 ∷ 1000 ∷ 1 ∷ []; nbytes = 1 ∷ 1 ∷ 1 ∷ [] }; clients = 1; saturation = 11; allowed = None }
 
 abbrev pub two_and_one : Table
 two_and_one = record {
@@ -222,6 +222,7 @@ busy_inputs = record {
   shape = record { deps = [] ∷ [] ∷ (0 ∷ 1 ∷ []) ∷ [] ∷ [] ∷ []; work = 80 ∷ 80 ∷ 80 ∷ 1000 ∷ 1000 ∷ []; nbytes = 10 ∷ 10 ∷ 8 ∷ 8 ∷ 8 ∷ [] };
   clients = 1;
   saturation = 11;
+  allowed = None;
 }
 
 abbrev pub busy_holders : Table
@@ -241,7 +242,7 @@ busy_holders = record {
 
 -- key 1 depends on key 0
 abbrev pub pair : Setting
-pair = record { shape = record { deps = [] ∷ (0 ∷ []) ∷ []; work = 80 ∷ 80 ∷ []; nbytes = 80 ∷ 80 ∷ [] }; clients = 1; saturation = 11 }
+pair = record { shape = record { deps = [] ∷ (0 ∷ []) ∷ []; work = 80 ∷ 80 ∷ []; nbytes = 80 ∷ 80 ∷ [] }; clients = 1; saturation = 11; allowed = None }
 
 -- key 0 is wanted and held by two workers, and key 1 may be wanted
 abbrev pub two_copies : Bool → Table

@@ -26,7 +26,7 @@ can j w (e ∷ es) = enabled w e && can j (world_step j w e) es
 
 -- a job of this graph with one client and saturation 11, in which no key meets a zero divisor
 abbrev pub plain_job : Shape → Job
-plain_job g = record { setting = record { shape = g; clients = 1; saturation = 11 }; zero = λ k. false }
+plain_job g = record { setting = record { shape = g; clients = 1; saturation = 11; allowed = None }; zero = λ k. false }
 
 -- what the simulator makes within this many events: they, and how it ended
 abbrev pub kept : Option Event → List Event × Option Verdict → List Event × Option Verdict
@@ -221,7 +221,7 @@ then_ends j es e i k a = ends_in (reached j es) i k a (sched_event (reached j es
 
 -- a job in which the first key meets a zero divisor
 abbrev pub zero_job : Shape → Job
-zero_job g = record { setting = record { shape = g; clients = 1; saturation = 11 }; zero = λ k. true }
+zero_job g = record { setting = record { shape = g; clients = 1; saturation = 11; allowed = None }; zero = λ k. true }
 
 -- after these events of this job
 abbrev pub then_enabled : Job → List Event → Event → Bool

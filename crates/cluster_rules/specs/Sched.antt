@@ -8,11 +8,13 @@ use Rattle.cluster_msgs.specs.declared.cores.Phase.TheVariants.{Erred, Released,
 use Rattle.cluster_rules.specs.Functions.{from_one, total, count}
 use Rattle.cluster_rules.specs.Derived.{err, reach, below, is_in}
 
--- what never changes: the graph's shape, how many clients there are, and how many tenths of its threads a worker may be given in tasks
+-- what never changes: the graph's shape, how many clients there are, how many tenths of its threads a worker may be given in tasks,
+-- and how often a key's worker may leave while the key is assigned to it, where that is bounded; losses aren't counted yet
 pub record Setting : Type 0 where
   pub shape : Shape
   pub clients : ℕ
   pub saturation : ℕ
+  pub allowed : Option ℕ
 
 -- the scheduler's facts. A worker and a client count from 1, a key from 0
 pub record Facts : Type 0 where

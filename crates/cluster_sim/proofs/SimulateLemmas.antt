@@ -1,4 +1,5 @@
 -- What the end of a simulation says.
+use Rattle.cluster_laws.specs.Truth.{no_excuse}
 use Rattle.std.proofs.Common.{◌≡◌, ℕ, ◌<◌, Bool, true, false, not, ◌&&◌, ◌||◌, cond, List, [], ◌∷◌, Option, Some, None, is_some, find, refl, sym, ap, ◌∙◌, arith}
 use Rattle.std.specs.Prelude.{◌==◌, ◌↔◌}
 use Rattle.std.specs.List.{list_all, list_any}
@@ -16,7 +17,7 @@ use Rattle.cluster_rules.proofs.SchedFrame.{or_true}
 use Rattle.cluster_laws.proofs.TruthWorld.{true_after}
 use Rattle.cluster_laws.specs.Blocks.{job_of}
 use Rattle.cluster_laws.specs.AreValues.{IsBlamed}
-use Rattle.cluster_laws.proofs.Values.{blamed}
+use Rattle.cluster_laws.proofs.BlockValues.{blamed}
 use Rattle.cluster_sim.specs.Plans.{IsPlan}
 use Rattle.cluster_sim.specs.Standing.{IsFor, IsStanding}
 use Rattle.cluster_sim.specs.Openings.{IsOpen}
@@ -90,7 +91,7 @@ blame_is s op wanted es w None g l r h e = tt
 blame_is s op wanted es w (Some b) g l r h e =
     let k = over_blame (w.clients 1) b e in
     let told : ((reached (job_of s op) es).clients 1).failed k.0 ≡ Some b = ap (λ (x : World). (x.clients 1).failed k.0) r ∙ k.1 in
-    let i : IsBlamed (deps_of s.shape) (val (deps_of s.shape) op) k.0 b = blamed s op g k.0 b (((true_after (job_of s op) g es l).clients 1).failed k.0 b told) in
+    let i : IsBlamed (deps_of s.shape) (val (deps_of s.shape) op) k.0 b = blamed s op g k.0 b (((true_after no_excuse (job_of s op) g es l).clients 1).failed k.0 b told) in
     record { faulty = i.faulty; needed = any_from (λ j. cone (deps_of s.shape) j b) wanted k.0 (h.failed k.0 (ap is_some k.1)).0 i.within }
 
 -- where a simulation stands once it has opened

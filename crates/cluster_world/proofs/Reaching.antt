@@ -9,7 +9,7 @@ use Rattle.cluster_rules.specs.Runs.{LegalFrom, run_from, reached}
 use Rattle.cluster_msgs.specs.Shape.{IsShape}
 use Rattle.cluster_laws.specs.Blocks.{Cluster, job_of, opening_cluster}
 use Rattle.cluster_laws.specs.Moves.{cluster_step, cluster_run}
-use Rattle.cluster_laws.proofs.Values.{world_of}
+use Rattle.cluster_laws.proofs.BlockValues.{world_of}
 use Rattle.cluster_world.specs.Worlds.{IsReached}
 
 legal_more : (j : Job) (w : World) (es : List Event) (e : Event) → LegalFrom j w es → enabled (run_from j w es) e ≡ true → LegalFrom j w (es ++ e ∷ [])

@@ -1,4 +1,5 @@
 -- What a world that legal events made tells: blocks are the values of their keys, and failures are blamed on faulty keys.
+use Rattle.cluster_laws.specs.Truth.{no_excuse}
 use Rattle.std.proofs.Common.{◌≡◌, ℕ, Bool, true, false, List, Option, Some, None, refl, sym, ap, ◌∙◌, subst, cond, is_some, Bor}
 use Rattle.std.specs.Prelude.{IfSome}
 use Rattle.std.specs.Option.{option_copied, option_map}
@@ -13,7 +14,7 @@ use Rattle.cluster_rules.specs.Runs.{reached}
 use Rattle.cluster_laws.proofs.TruthWorld.{true_after}
 use Rattle.cluster_laws.specs.Blocks.{Cluster, job_of}
 use Rattle.cluster_laws.specs.AreValues.{AreValues, IsBlamed}
-use Rattle.cluster_laws.proofs.Values.{values_of, blamed, world_of}
+use Rattle.cluster_laws.proofs.BlockValues.{values_of, blamed, world_of}
 use Rattle.cluster_world.specs.Kept.{IsFilled}
 use Rattle.cluster_world.specs.Steps.{IfBlamed}
 use Rattle.cluster_world.specs.Worlds.{cluster, world, setting, IsReached}
@@ -35,7 +36,7 @@ module _ {B : Type 0} (s : Setting) (op : ℕ → List B → Option B) (g : IsSh
   is_reached = ap (λ (x : Cluster B). x.world) (sym r.run) ∙ world_of s op g r.events r.legal
 
   failed_blamed : (x k b : ℕ) → (c.world.clients x).failed k ≡ Some b → IsBlamed (deps_of s.shape) (val (deps_of s.shape) op) k b
-  failed_blamed x k b e = blamed s op g k b (((true_after (job_of s op) g r.events r.legal).clients x).failed k b (ap (λ (w : World). (w.clients x).failed k) (sym is_reached) ∙ e))
+  failed_blamed x k b e = blamed s op g k b (((true_after no_excuse (job_of s op) g r.events r.legal).clients x).failed k b (ap (λ (w : World). (w.clients x).failed k) (sym is_reached) ∙ e))
 
   pub done_blamed : (x k : ℕ) → IfBlamed (deps_of s.shape) (val (deps_of s.shape) op) k (done (c.world.clients x) k)
   done_blamed x k = pick ((c.world.clients x).got k) ((c.world.clients x).failed k) refl

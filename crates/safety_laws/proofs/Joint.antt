@@ -12,7 +12,7 @@ use Rattle.cluster_rules.specs.World.{Job, IsJob, World, opening, shape_of, Drai
 use Rattle.cluster_rules.specs.WorldStep.{world_step}
 use Rattle.cluster_rules.specs.Enabled.{enabled}
 use Rattle.cluster_rules.specs.Inside.{IsInsideWorld}
-use Rattle.cluster_laws.specs.Truth.{IsTrueWorld}
+use Rattle.cluster_laws.specs.Truth.{no_excuse, IsTrueWorld}
 use Rattle.cluster_rules.specs.Runs.{LegalFrom, legal, run_from, reached, sched_event, OnlyKnown, Agrees}
 use Rattle.cluster_laws.proofs.TruthWorld.{true_world_step, true_opening}
 use Rattle.cluster_laws.proofs.InsideWorld.{in_world_step, in_after}
@@ -33,7 +33,7 @@ use Rattle.safety_laws.proofs.Paired.{IsUnsent, unsent_after, paired_step}
 -- ## The joint invariant
 
 pub record IsJoint (j : Job) (w : World) : Type 0 where
-  pub values : IsTrueWorld j w
+  pub values : IsTrueWorld no_excuse j w
   pub inside : IsInsideWorld j.setting.shape w
   pub sound : IsSound w.sched
   pub settled : IsSettled w.sched
@@ -63,7 +63,7 @@ module _ (j : Job) (job : IsJob j) where
   joint_step w e t h =
       let inside = in_world_step j job.shape w e t h.values h.inside in
       record {
-        values = true_world_step j job.shape w e t h.values;
+        values = true_world_step no_excuse j job.shape w e t h.values;
         inside = inside;
         sound = subst IsSound (sym (sched_is j w e)) (after_sound w.sched (sched_event w e) (takes w e t h) h.sound);
         settled = subst IsSettled (sym (sched_is j w e)) (after_settled w.sched (sched_event w e) (takes w e t h) h.sound h.settled);
@@ -76,7 +76,7 @@ module _ (j : Job) (job : IsJob j) where
 
   pub joint_opening : IsJoint j (opening j)
   joint_opening = record {
-    values = true_opening j job.shape;
+    values = true_opening no_excuse j job.shape;
     inside = in_after j job.shape [] tt;
     sound = sound_opening j.setting job.shape job.clients (job.some, job.most);
     settled = settled_opening j.setting;

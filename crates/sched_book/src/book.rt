@@ -56,7 +56,7 @@ impl Book {
     ) -> Result<Book, AllocError>
         requires clients { clients ≤ 16 }
         requires saturation { (1 ≤ saturation) × (saturation ≤ 1000) }
-        ensures { IfOk result (λ book. facts_of book ≡ sched_opening (record { shape = shape; clients = clients; saturation = saturation })) }
+        ensures { IfOk result (λ book. facts_of book ≡ sched_opening (record { shape = shape; clients = clients; saturation = saturation; allowed = None })) }
     {
         let table = FactTable::new(alloc, shape, clients, saturation)?;
         let mut rows = DerivedRows::new(alloc, table.keys())?;

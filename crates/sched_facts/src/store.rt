@@ -55,7 +55,7 @@ impl FactStore {
         saturation: u32,
     ) -> Result<FactStore, AllocError>
         requires { clients ≤ 16 }
-        ensures facts { IfOk result (λ store. facts_of store ≡ sched_opening (record { shape = shape; clients = clients; saturation = saturation })) }
+        ensures facts { IfOk result (λ store. facts_of store ≡ sched_opening (record { shape = shape; clients = clients; saturation = saturation; allowed = None })) }
         ensures room { IfOk result (λ store. store.room ≡ 0) }
     {
         let wide = shape.keys();

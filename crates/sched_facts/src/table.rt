@@ -56,7 +56,7 @@ impl FactTable {
     ) -> Result<FactTable, AllocError>
         requires clients { clients ≤ 16 }
         requires saturation { (1 ≤ saturation) × (saturation ≤ 1000) }
-        ensures { IfOk result (λ table. facts_of table ≡ sched_opening (record { shape = shape; clients = clients; saturation = saturation })) }
+        ensures { IfOk result (λ table. facts_of table ≡ sched_opening (record { shape = shape; clients = clients; saturation = saturation; allowed = None })) }
     {
         let count = shape.keys() as usize;
         shape.sound();

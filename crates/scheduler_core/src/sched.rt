@@ -1,5 +1,5 @@
 //! The scheduler's core.
-ghost use Rattle.std.specs.Prelude.{◌≡◌, ◌↔◌, ◌++◌, ◌+◌, ◌*◌, ◌<◌, ◌≤◌, ◌^◌, ℕ, List, false, true, IfOk, OnOk, OnErr};
+ghost use Rattle.std.specs.Prelude.{◌≡◌, ◌↔◌, ◌++◌, ◌+◌, ◌*◌, ◌<◌, ◌≤◌, ◌^◌, ℕ, List, false, true, IfOk, OnOk, OnErr, None};
 ghost use Rattle.cluster_rules.specs.Sched.{Facts as SchedFacts, sched_opening, keys, known, blame, phase};
 ghost use Rattle.cluster_rules.specs.SchedTable.{sched_takes};
 ghost use Rattle.cluster_rules.specs.SchedStep.{sched_step};
@@ -55,7 +55,7 @@ impl Sched {
     ) -> Result<Sched, AllocError>
         requires clients { clients ≤ 16 }
         requires saturation { (1 ≤ saturation) × (saturation ≤ 1000) }
-        ensures facts { IfOk result (λ sched. facts sched ≡ sched_opening (record { shape = shape; clients = clients; saturation = saturation })) }
+        ensures facts { IfOk result (λ sched. facts sched ≡ sched_opening (record { shape = shape; clients = clients; saturation = saturation; allowed = None })) }
         ensures runs { IfOk result (λ sched. sched.stopped ≡ false) }
         ensures taken { IfOk result (λ sched. sched.taken ≡ 0) }
     {

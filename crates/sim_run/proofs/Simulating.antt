@@ -17,7 +17,7 @@ use Rattle.cluster_rules.specs.Worker.{has_any}
 use Rattle.cluster_rules.specs.World.{Job, World}
 use Rattle.cluster_laws.specs.AreValues.{AreValues}
 use Rattle.cluster_laws.specs.Blocks.{Cluster, job_of, setting_of, opening_cluster}
-use Rattle.cluster_laws.proofs.Values.{values_of}
+use Rattle.cluster_laws.proofs.BlockValues.{values_of}
 use Rattle.cluster_world.specs.declared.state.State.{State}
 use Rattle.cluster_world.specs.Worlds.{IsReached, IsReady, cluster, event_limit, setting, world}
 use Rattle.quiet_bound.proofs.WorldBound.{setting-world}

@@ -1,4 +1,4 @@
-use Rattle.cluster_laws.proofs.Values.{values_of, world_of, legal_is}
+use Rattle.cluster_laws.proofs.BlockValues.{values_of, world_of, legal_is}
 use Rattle.cluster_laws.proofs.values.blocks_are_values.Goals as goal
 
 pub returns-clause-values : goal.returns-clause-values

@@ -6,7 +6,7 @@ use Rattle.sched_facts.proofs.store.FactStore.new.Goals as goal
 
 pub returns-clause-facts : goal.returns-clause-facts
 unfolding facts_of
-returns-clause-facts c = λ i. record (sched_opening (record { shape = c.args.shape; clients = c.args.clients; saturation = c.args.saturation })) {
+returns-clause-facts c = λ i. record (sched_opening (record { shape = c.args.shape; clients = c.args.clients; saturation = c.args.saturation; allowed = None })) {
   want = (c.add_rows.ensures.same ∙ ap (λ g. cell g false) c.empty-want.ensures) i;
   has = (c.add_rows-2.ensures.same ∙ ap (λ g. cell g None) c.empty-has.ensures) i;
   on = λ k. c.in_ok-on.ensures.same k i;
