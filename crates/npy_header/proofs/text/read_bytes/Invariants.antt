@@ -2,7 +2,7 @@
 use Rattle.std.proofs.Common.{◌≡◌, take}
 use Rattle.npy_header.specs.HeaderRows.{header_rows}
 use Rattle.npy_header.specs.Reading.{IsReading}
-use Rattle.npy_header.proofs.text.read_header_text.Given as goal
+use Rattle.npy_header.proofs.text.read_bytes.Given as goal
 
 abbrev pub invariant-loop-at : goal.invariant-loop-at
 invariant-loop-at l = record {
