@@ -1,18 +1,18 @@
-use Rattle.std.proofs.Common.{◌≡◌, ◌≤◌, ◌<◌, ◌+◌, ◌*◌, ◌/◌, [], List, ℕ, length, arith, ap, sym, subst, ◌∙◌, refl}
+use Rattle.std.proofs.Common.{◌≡◌, ◌<◌, ◌+◌, ◌*◌, ◌/◌, [], List, ℕ, length, arith, ap, sym, subst, ◌∙◌, refl}
 use Rattle.io_edge.specs.Content.{Content, file_at, size_of}
 use Rattle.nd_rows.specs.Storage.{Walk, count_of, spot}
 use Rattle.nd_rows.proofs.Spots.{row_fits}
 use Rattle.npy_region.proofs.RegionLemmas.{row_starts, row_room, row_more, row_read, rows_are, rows_end, first_stored, StoredTo}
-use Rattle.npy_region.proofs.region.read_stored.Goals as goal
+use Rattle.npy_region.proofs.region.read_rows.Goals as goal
 
 pub loop-k-init : goal.loop-k-init
 loop-k-init g c =
-    let none : c.in_ok-cells.cells.items ≡ [] = c.in_ok-cells.ensures.items in
+    let none : c.args.cells.now.items ≡ [] = c.requires.none in
     record {
       same = refl;
       kept = refl;
       walk = refl;
-      cells = first_stored (file_at (g.S.Store.files c.args.store.now) c.args.file) c.args.data_at c.row_len-row.result c.args.walk.now c.in_ok-cells.cells.items none;
+      cells = first_stored (file_at (g.S.Store.files c.args.store.now) c.args.file) c.args.data_at c.row_len-row.result c.args.walk.now c.args.cells.now.items none;
       size = ap length none ∙ omega arith;
     }
 

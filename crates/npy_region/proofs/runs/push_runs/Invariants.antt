@@ -2,7 +2,7 @@ use Rattle.std.proofs.Common.{◌≡◌, ◌≤◌, ◌*◌, ◌^◌}
 use Rattle.nd_rows.specs.Storage.{walk_of}
 use Rattle.npy_region.specs.Building.{Covers}
 use Rattle.npy_region.proofs.RunLemmas.{offset_at, place_at}
-use Rattle.npy_region.proofs.runs.region_runs.Given as goal
+use Rattle.npy_region.proofs.runs.push_runs.Given as goal
 
 abbrev pub invariant-loop-k : goal.invariant-loop-k
 invariant-loop-k l = record {

@@ -1,7 +1,7 @@
 use Rattle.std.proofs.Common.{◌≡◌, ◌*◌, length}
 use Rattle.io_edge.specs.Content.{file_at}
 use Rattle.npy_region.proofs.RegionLemmas.{StoredTo}
-use Rattle.npy_region.proofs.region.read_stored.Given as goal
+use Rattle.npy_region.proofs.region.read_rows.Given as goal
 
 abbrev pub invariant-loop-k : goal.invariant-loop-k
 invariant-loop-k g l = record {
