@@ -5,10 +5,12 @@
 //! event. What it prints is compared with what the tables of events ask for.
 #![tactic(auto)]
 
+mod events;
 mod graph;
 mod messages;
 mod numbers;
 mod printed;
+mod report;
 mod scheduler;
 
 use numbers::Words;
@@ -21,6 +23,7 @@ fn play<R: Print>(rt: &R, alloc: Global, head: &str, events: &str) -> io::Result
     let mut setting = Words::of(alloc, head);
     match setting.word() {
         "scheduler" => scheduler::play(rt, alloc, &mut setting, events),
+        "report" => report::play(rt, alloc, &mut setting, events),
         _ => println!(rt; "no such story"),
     }
 }

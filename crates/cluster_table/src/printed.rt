@@ -1,6 +1,15 @@
 //! Messages and lists, printed as `messages` and `numbers` read them.
+use crate::numbers::RowError;
 use cluster_msgs::{Down, FromClient, Holders, Peer, ToClient, Up};
 use std::io;
+
+/// Why a line is not played.
+pub fn print_error<R: Print>(rt: &R, error: RowError) -> io::Result<()> {
+    match error {
+        RowError::Ill => println!(rt; "ill"),
+        RowError::OutOfMemory => println!(rt; "out of memory"),
+    }
+}
 
 /// Keys between commas, and `-` where there is none.
 pub fn print_keys<R: Print>(rt: &R, keys: &[u32]) -> io::Result<()> {
