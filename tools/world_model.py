@@ -10,7 +10,7 @@ Stories of other parts are left out.
 """
 import sys
 
-from cluster_model import (FIELDS, Client, Graph, Refused, Scheduler, Worker, fitting, keys_text, message_of,
+from cluster_model import (FIELDS, Client, Graph, Refused, Scheduler, Worker, keys_text, message_of,
                            message_text, read_keys)
 
 MOST_BOUND = (1 << 128) - 1
@@ -27,7 +27,7 @@ class Stopped(Exception):
 
 
 def asker_text(asker):
-    return f'{asker[0]}:{asker[1]}'
+    return f'{asker[0][0]}{asker[1]}'
 
 
 def bound(clients, under_way, workers, keys, edges):
@@ -38,8 +38,7 @@ def bound(clients, under_way, workers, keys, edges):
 
 
 class World:
-    """Workers come before clients where both ask: 'client' is written in a way that sorts behind 'worker'."""
-
+    # workers come before clients where both ask
     ORDER = {'worker': 0, 'client': 1}
 
     def __init__(self, graph, clients, saturation, content, fails):
@@ -391,18 +390,18 @@ class Simulation:
         starts = [event[1] for event, _ in self.events if event[0] == 'start']
         answers = [message[4] for event, message in self.events if event[0] == 'deliver-up' and message[0] == 'steal-response']
         asks = [event for event, _ in self.events if event[0] == 'send-gather' and event[1][0] == 'worker']
-        workers = ','.join(f'{w}:{starts.count(w)}' for w in joined) or '-'
         graph, losses = self.world.graph, names.count('see-loss') + names.count('suspect')
-        return (f'keys {len(graph.keys)} edges {graph.edges} started {len(starts)} workers {workers} gathers {len(asks)} '
-                f'confirmed {answers.count("true")} refused {answers.count("false")} losses {losses}')
+        return '\n'.join([
+            f'keys {len(graph.keys)} edges {graph.edges}', f'started {len(starts)}',
+            *(f'worker {w} started {starts.count(w)}' for w in joined), f'gathers {len(asks)}',
+            f'steals confirmed {answers.count("true")} refused {answers.count("false")}', f'losses {losses}'])
 
 
 # Stories.
 
 
 def read_asker(word):
-    kind, number = word.split(':')
-    return kind, int(number)
+    return {'w': 'worker', 'c': 'client'}[word[0]], int(word[1:])
 
 
 EVENT_FIELDS = {
@@ -448,9 +447,9 @@ def ended(core, event):
 
 
 def asks_text(core):
-    asks = ','.join(str(peer) for peer in PEERS if core.would_ask(peer)) or '-'
-    still = ','.join(f'{peer}@{core.ask_number(peer)}' for peer in PEERS if core.ask_number(peer)) or '-'
-    return f'ask {asks} open {still} pairs {core.pairs()}'
+    asks = ''.join(f' {peer}' for peer in PEERS if core.would_ask(peer))
+    still = ''.join(f' {peer}@{core.ask_number(peer)}' for peer in PEERS if core.ask_number(peer))
+    return f'; ask{asks}; open{still}; pairs {core.pairs()}'
 
 
 def play_worker(setting, events):
@@ -458,44 +457,48 @@ def play_worker(setting, events):
     for line in events:
         print(line + ended(core, core_event(line.split())))
         start = core.would_start()
-        states = ','.join(core.state(key) for key in core.graph.keys) or '-'
-        print(f'  {states} start {"-" if start is None else start} runs {keys_text(sorted(core.running))} {asks_text(core)}')
+        states = ''.join(f' {core.state(key)}' for key in core.graph.keys)
+        starts = '' if start is None else f' {start}'
+        runs = ''.join(f' {key}' for key in sorted(core.running))
+        print(f' {states}; start{starts}; runs{runs}{asks_text(core)}')
 
 
 def play_client(setting, events):
     core = Client(Graph(setting))
     for line in events:
         print(line + ended(core, core_event(line.split())))
-        ends = ','.join(core.done(key) for key in core.graph.keys) or '-'
-        print(f'  {ends} {asks_text(core)}')
+        ends = ''.join(f' {core.done(key)}' for key in core.graph.keys)
+        print(f' {ends}{asks_text(core)}')
 
 
 def world_of(setting):
-    clients, saturation, content, feed = setting[:4]
-    assert feed in ('tells', 'fails')
-    return World(Graph(setting[4:]), int(clients), int(saturation), int(content), feed == 'fails')
+    clients, saturation, content, fails = setting[:4]
+    assert fails in ('true', 'false')
+    return World(Graph(setting[4:]), int(clients), int(saturation), int(content), fails == 'true')
 
 
 def taken(world, event):
+    message = world.message(event) if world.enabled(event) else None
+    takes = f' takes {message_text(message)}' if message else ''
     try:
-        message = world.message(event) if world.enabled(event) else None
         world.step(event)
-        return ': taken' + (f' {message_text(message)}' if message else '')
+        return takes + ': taken'
     except Refused:
-        return ': not enabled'
+        return takes + ': not enabled'
     except Stopped:
-        return ': stopped'
+        return takes + ': stopped'
     except Feed:
-        return ': the feed failed'
+        return takes + ': the feed failed'
 
 
 def print_world(world):
     nexts = world.progress()
-    shown = ''.join(f' | {event_text(event)}' for event in nexts[:SHOWN])
-    print(f'  way {world.under_way()} workers {world.worker_count()} finishes {world.sched.finishes} rest {world.rest()} '
-          f'next {len(nexts)}{shown}')
+    shown = ''.join(f'; {event_text(event)}' for event in nexts[:SHOWN])
+    print(f'  under way {world.under_way()}; workers {world.worker_count()}; finishes {world.sched.finishes}; '
+          f'bound {world.rest()}')
+    print(f'  progress {len(nexts)}{shown}')
     for client in world.clients:
-        print(f'  client {client} ' + (','.join(world.key_text(client, key) for key in world.graph.keys) or '-'))
+        print(f'  client {client}:' + ''.join(f' {world.key_text(client, key)}' for key in world.graph.keys))
 
 
 def play_world(setting, events):
@@ -508,7 +511,10 @@ def play_world(setting, events):
                 if not world.progress():
                     break
                 event = world.progress()[0]
-                print(event_text(event) + taken(world, event))
+                ended = taken(world, event)
+                print(event_text(event) + ended)
+                if not ended.endswith('taken'):
+                    break
         else:
             print(line + taken(world, read_event(line.split())))
         print_world(world)
@@ -530,13 +536,13 @@ def play_simulation(setting, events):
         simulation = Simulation(world, int(workers), int(threads), int(number), wanted, items)
         if simulation.play():
             end = simulation.end()
-            print(f'turns {simulation.turns} blame {"-" if end == "all" else end}')
+            print(f'turns {simulation.turns}' + ('' if end == 'all' else f' blame {end}'))
             print(simulation.report())
         else:
             print('the turns are spent')
     except Feed:
         print('the feed failed')
-    print(' '.join(['blocks', *(world.key_text(1, key) for key in wanted)]))
+    print(' '.join(['wanted:', *(world.key_text(1, key) for key in wanted)]))
     print(f'faults {world.faults}')
 
 
@@ -545,28 +551,27 @@ def play_bound(setting, events):
         print(f'{line}: {bound(*map(int, line.split()))}')
 
 
-def play_words(setting, events):
-    words = Words(int(setting[0]))
-    print(' '.join(str(words.word()) for _ in range(int(setting[1]))))
+def play_generator(setting, events):
+    for line in events:
+        words = Words(int(line))
+        print(f'{line}: ' + ' '.join(str(words.word()) for _ in range(3)))
 
 
 def play_addition(setting, events):
     size, addend = int(setting[0]), int(setting[1])
     cells = [int(word) for word in setting[2:]]
     chunks = [cells[at:at + size] for at in range(0, len(cells), size)] or [[]]
-    wrap = lambda n: (n + 2**63) % 2**64 - 2**63
-    print(f'chunks {len(chunks)} keys {2 * len(chunks)} edges {len(chunks)} wanted '
-          + keys_text(range(1, 2 * len(chunks), 2)))
+    print(f'chunks {len(chunks)}, keys {2 * len(chunks)}, edges {len(chunks)}, faults 0')
     for place, chunk in enumerate(chunks):
-        size = 8 * len(chunk)
-        print(f'{2 * place} depends on - length {len(chunk)} bytes {size} work {size}')
-        print(f'{2 * place + 1} depends on {2 * place} length {len(chunk)} bytes {size} work {2 * size}')
-    print(' '.join(['first:', *(str(cell) for cell in chunks[0]), 'plus', str(addend), 'is',
-                    *(str(wrap(cell + addend)) for cell in chunks[0])]))
+        length, size = len(chunk), 8 * len(chunk)
+        print(f'  {2 * place} on -: length {length}, bytes {size}, work {size}')
+        print(f'  {2 * place + 1} on {2 * place}: length {length}, bytes {size}, work {2 * size}')
+    print('wanted ' + keys_text(range(1, 2 * len(chunks), 2)))
+    print(''.join(['first sum:', *(f' {(cell + addend + 2**63) % 2**64 - 2**63}' for cell in chunks[0])]))
 
 
 PARTS = {'worker': play_worker, 'client': play_client, 'world': play_world, 'simulation': play_simulation,
-         'bound': play_bound, 'words': play_words, 'addition': play_addition}
+         'bound': play_bound, 'generator': play_generator, 'addition': play_addition}
 
 
 def main():

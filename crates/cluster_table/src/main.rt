@@ -13,6 +13,14 @@ mod printed;
 mod report;
 mod scheduler;
 
+mod addition;
+mod asks;
+mod client;
+mod counted;
+mod simulation;
+mod worker;
+mod world;
+
 use numbers::Words;
 use std::alloc::Global;
 use std::io;
@@ -24,6 +32,21 @@ fn play<R: Print>(rt: &R, alloc: Global, head: &str, events: &str) -> io::Result
     match setting.word() {
         "scheduler" => scheduler::play(rt, alloc, &mut setting, events),
         "report" => report::play(rt, alloc, &mut setting, events),
+        _ => play_node(rt, alloc, head, events),
+    }
+}
+
+// Plays a story of a worker, a client, the world that they make, or its simulation.
+fn play_node<R: Print>(rt: &R, alloc: Global, head: &str, events: &str) -> io::Result<()> {
+    let mut setting = Words::of(alloc, head);
+    match setting.word() {
+        "worker" => worker::play(rt, alloc, &mut setting, events),
+        "client" => client::play(rt, alloc, &mut setting, events),
+        "world" => world::play(rt, alloc, &mut setting, events),
+        "simulation" => simulation::play(rt, alloc, &mut setting),
+        "bound" => counted::play_bounds(rt, alloc, events),
+        "generator" => counted::play_words(rt, alloc, events),
+        "addition" => addition::play(rt, alloc, &mut setting),
         _ => println!(rt; "no such story"),
     }
 }
