@@ -532,6 +532,9 @@ def play_simulation(setting, events):
     world = world_of(['1', '11', *setting[5:]])
     items = [] if script == '-' else [read_item(word) for word in script.split(',')]
     wanted = read_keys(wanted)
+    if not (wanted and max(wanted) < len(world.graph.keys) and int(workers) <= 64 and 1 <= int(threads) <= 16):
+        print('ill')
+        return
     try:
         simulation = Simulation(world, int(workers), int(threads), int(number), wanted, items)
         if simulation.play():
@@ -558,8 +561,10 @@ def play_generator(setting, events):
 
 
 def play_addition(setting, events):
-    size, addend = int(setting[0]), int(setting[1])
-    cells = [int(word) for word in setting[2:]]
+    if setting[0] == '0' or not all(word.lstrip('-').isdigit() for word in setting):
+        print('ill')
+        return
+    size, addend, *cells = map(int, setting)
     chunks = [cells[at:at + size] for at in range(0, len(cells), size)] or [[]]
     print(f'chunks {len(chunks)}, keys {2 * len(chunks)}, edges {len(chunks)}, faults 0')
     for place, chunk in enumerate(chunks):
@@ -577,7 +582,7 @@ PARTS = {'worker': play_worker, 'client': play_client, 'world': play_world, 'sim
 def main():
     for story in sys.stdin.read().split('\n\n'):
         head, *events = story.rstrip('\n').split('\n')
-        part, *setting = head.split() or ['']
+        part, *setting = head.split('#')[0].split() or ['']
         if part in PARTS:
             print(head)
             PARTS[part](setting, events)

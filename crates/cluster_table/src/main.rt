@@ -36,8 +36,9 @@ fn play<R: Print>(rt: &R, alloc: Global, head: &str, events: &str) -> io::Result
     }
 }
 
-// Plays a story of a worker, a client, the world that they make, or its simulation.
+// Plays a story of a worker, a client, the world that they make, or its simulation. What stands behind a `#` is its title.
 fn play_node<R: Print>(rt: &R, alloc: Global, head: &str, events: &str) -> io::Result<()> {
+    let (head, _title) = head.split_once('#').unwrap_or((head, ""));
     let mut setting = Words::of(alloc, head);
     match setting.word() {
         "worker" => worker::play(rt, alloc, &mut setting, events),
