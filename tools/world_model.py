@@ -528,7 +528,7 @@ def read_item(word):
 
 def play_simulation(setting, events):
     assert not events
-    workers, threads, number, wanted, script = setting[:5]
+    workers, threads, number, script, wanted = setting[:5]
     world = world_of(['1', '11', *setting[5:]])
     items = [] if script == '-' else [read_item(word) for word in script.split(',')]
     wanted = read_keys(wanted)

@@ -1,5 +1,5 @@
-//! Stories of a simulation, which are their first lines: how many workers and threads, the number, the wanted keys, the
-//! script, what the feed has and whether it fails, and the graph.
+//! Stories of a simulation, which are their first lines: how many workers and threads, the number, the script, the
+//! wanted keys, what the feed has and whether it fails, and the graph.
 ghost use Rattle.std.specs.Prelude.{◌≡◌, IfOk};
 ghost use Rattle.cluster_msgs.specs.Shape.{key_count};
 ghost use Rattle.cluster_world.specs.Worlds.{setting};

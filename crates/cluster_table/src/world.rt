@@ -1,5 +1,7 @@
 //! Stories of a world: its clients, its saturation, what its feed has and whether it fails, and its graph, and then an event
 //! a line. `go` takes the first event that makes progress, so many times.
+ghost use Rattle.std.specs.Prelude.{◌≡◌, IfOk};
+
 pub mod quotients;
 
 use crate::client::print_end;
@@ -160,7 +162,9 @@ pub struct Opening {
 }
 
 /// What the words say: what the feed has, whether it fails, and the graph.
-pub fn read_opening(alloc: Global, words: &mut Words<'_>) -> Result<Opening, RowError> {
+pub fn read_opening(alloc: Global, words: &mut Words<'_>) -> Result<Opening, RowError>
+    ensures { IfOk result (λ o. o.feed.value ≡ o.job.content) }
+{
     let content = words.number()?;
     let fails = words.truth()?;
     let shape = read_graph(alloc, words)?;

@@ -1,11 +1,11 @@
 //! What a simulation begins with.
-ghost use Rattle.std.specs.Prelude.{◌≡◌, ◌≤◌, ◌<◌, IfOk, MatchBool, length, nat_lt};
+ghost use Rattle.std.specs.Prelude.{◌≡◌, IfOk, nat_lt};
 ghost use Rattle.std.specs.List.{list_all};
 ghost use Rattle.cluster_msgs.specs.Shape.{key_count};
 ghost use Rattle.cluster_sim.specs.Openings.{AreWanted};
 ghost use Rattle.cluster_sim.specs.Plans.{plan_of, IsPlan};
 
-use crate::numbers::{RowError, Words, number, small};
+use crate::numbers::{RowError, Words, keys, number, small};
 use crate::world::quotients::{Number, Quotients};
 use crate::world::{Opening, read_opening};
 use cluster_msgs::{Item, KeyList, Script};
@@ -53,6 +53,7 @@ fn read_script(alloc: Global, word: &str) -> Result<Script, RowError> {
 }
 
 // The plan of so many workers and threads, and of a script.
+#[tactic(auto, using(cluster_table::proofs::Setups::plan_is))]
 fn plan_with(workers: u32, threads: u32, script: Script) -> Result<SimPlan, RowError>
     ensures { IfOk result (λ p. IsPlan (plan_of p)) }
 {
@@ -66,11 +67,27 @@ fn plan_with(workers: u32, threads: u32, script: Script) -> Result<SimPlan, RowE
     })
 }
 
-// Whether there is a key, and all are of a graph of so many.
-fn are_wanted(keys: &[u32], count: u32) -> bool
-    ensures { result ≡ true → AreWanted count keys.now }
+fn are_below(keys: &[u32], count: u32) -> bool
+    ensures { result ≡ list_all (λ k. nat_lt k count) keys.now }
 {
-    !keys.is_empty() && keys.iter().all(|key| *key < count)
+    for key in keys {
+        if *key >= count {
+            return false;
+        }
+    }
+    true
+}
+
+// Some keys, all of a graph of so many.
+#[tactic(auto, using(cluster_table::proofs::Setups::are_wanted))]
+fn wanted_of(alloc: Global, word: &str, count: u32) -> Result<KeyList, RowError>
+    ensures { IfOk result (λ keys. AreWanted count keys) }
+{
+    let keys = keys(alloc, word)?;
+    if keys.is_empty() || !are_below(keys.as_slice(), count) {
+        return Err(RowError::Ill);
+    }
+    Ok(keys)
 }
 
 /// What the words of a story say.
@@ -82,13 +99,11 @@ pub fn read_setup(alloc: Global, words: &mut Words<'_>) -> Result<Setup, RowErro
     let workers = words.small()?;
     let threads = words.small()?;
     let number = words.number()?;
-    let wanted = words.keys()?;
     let script = read_script(alloc, words.word())?;
     let plan = plan_with(workers, threads, script)?;
+    let wanted = words.word();
     let Opening { job, feed } = read_opening(alloc, words)?;
-    if !are_wanted(wanted.as_slice(), job.shape.keys()) {
-        return Err(RowError::Ill);
-    }
+    let wanted = wanted_of(alloc, wanted, job.shape.keys())?;
     Ok(Setup {
         plan,
         number,
