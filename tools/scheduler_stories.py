@@ -1,10 +1,10 @@
 #!/usr/bin/env python3
-"""Plays the stories of the scheduler by the table of its events, and prints what the program `cluster_table` must print.
+"""Works out what the program `cluster_table` must print for the stories of the scheduler and of what it stands on.
 
     python3 tools/scheduler_stories.py < crates/cluster_table/stdin
 
-It is written from docs/CLUSTER.md alone, stores facts as sets and maps, and derives all else anew each time. Stories of
-other parts are passed over.
+The scheduler goes by the rules of docs/CLUSTER.md: it stores facts as sets and maps, and derives all else anew each time.
+Stories of other parts are passed over.
 """
 
 import sys
@@ -332,15 +332,108 @@ class Scheduler:
         return lines
 
 
-def play(note, head, events):
-    print("\n".join(note + [head]))
-    scheduler = Scheduler(head.split()[1:])
+def play_scheduler(words, events):
+    scheduler = Scheduler(words)
     for event in events:
-        print(event)
-        lines = scheduler.facts() if event == "facts" else scheduler.take(event.split()) + [scheduler.phases()]
-        for line in lines:
-            print(f"  {line}")
-    print()
+        if event == "facts":
+            yield event, scheduler.facts()
+        else:
+            yield event, scheduler.take(event.split()) + [scheduler.phases()]
+
+
+def play_graph(words, _):
+    rows = [word.split(":") for word in words]
+    deps = [keys_of(row[2]) if len(row) > 2 else [] for row in rows]
+    lines = [f"keys {len(rows)} edges {sum(map(len, deps))}"]
+    for key, row in enumerate(rows):
+        lines.append(f"key {key}: work {row[0]} bytes {row[1]} on {show(deps[key])}")
+    yield None, lines
+
+
+TEXTS = [
+    "the event isn't possible", "all events were taken", "out of memory", "the feed failed", "out of memory"
+]
+
+
+def play_copies(_, events):
+    """A copy says what its source says, and 8 comes behind the keys."""
+    for event in events:
+        kind, _, rest = event.partition(" ")
+        if kind == "texts":
+            yield event, TEXTS
+        elif kind == "keys":
+            keys = keys_of(rest) + [8]
+            yield event, [f"{len(keys)} members, empty false; cleared 0, empty true; copy {show(keys)}"]
+        else:
+            yield event, [event if kind == "script" else rest]
+
+
+def play_row(words, events):
+    row = [int(words[1])] * int(words[0])
+    for event in events:
+        name, *fields = event.split()
+        if name == "set" and int(fields[0]) < len(row):
+            row[int(fields[0])] = int(fields[1])
+        elif name == "set":
+            yield event, None
+            continue
+        elif name == "push":
+            row.append(int(fields[0]))
+        elif name == "fill":
+            row = [int(fields[0])] * len(row)
+        elif name == "keep":
+            row = [n if k in keys_of(fields[0]) else int(fields[1]) for k, n in enumerate(row)]
+        yield event, [f"{len(row)} members:" + "".join(f" {n}" for n in row)]
+
+
+def play_mask(words, events):
+    members = [key for key in keys_of(words[1]) if key < int(words[0])]
+    tests = {"test": all, "any": any, "all": all}
+    for event in events:
+        name, keys = event.split()
+        yield f"{event}: {str(tests[name](key in members for key in keys_of(keys))).lower()}", []
+
+
+def play_grid(words, events):
+    wide, grid = int(words[0]), []
+    for event in events:
+        name, *fields = event.split()
+        if name == "push":
+            grid.append([None] * wide)
+        elif name == "clear":
+            grid[int(fields[0])] = [None] * wide
+        elif name == "keep":
+            grid = [[n if k in keys_of(fields[0]) else None for k, n in enumerate(row)] for row in grid]
+        elif int(fields[0]) < len(grid) and int(fields[1]) < wide:
+            grid[int(fields[0])][int(fields[1])] = int(fields[2])
+        else:
+            yield event, None
+            continue
+        shown = (",".join(f"Some({n})" if n is not None else "None" for n in row + [None]) for row in grid)
+        yield event, [f"{len(grid)} rows: " + " ".join(shown)]
+
+
+def play_report(words, events):
+    starts = [event.split()[1] for event in events if event.startswith("start ")]
+    joins = sum(event.startswith("join ") for event in events)
+    answers = [event.split()[-1] for event in events if event.startswith("deliver-up ") and "steal-response" in event]
+    lines = [f"keys {len(words)} edges {sum(word.count(':') - 1 for word in words)}", f"started {len(starts)}"]
+    lines += [f"worker {w + 1} started {starts.count(str(w + 1))}" for w in range(joins)]
+    lines.append(f"gathers {sum(event.startswith('send-gather w') for event in events)}")
+    lines.append(f"steals confirmed {answers.count('true')} refused {answers.count('false')}")
+    lines.append(f"losses {sum(event.startswith(('see-loss ', 'suspect ')) for event in events)}")
+    print("\n".join(lines))
+    return []
+
+
+def play_packet(words, _):
+    yield None, ["1 blocks"]
+
+
+PARTS = {
+    "scheduler": play_scheduler, "graph": play_graph, "copies": play_copies, "row": play_row, "mask": play_mask,
+    "grid": play_grid, "report": play_report, "packet": play_packet,
+}
 
 
 def main():
@@ -348,8 +441,13 @@ def main():
         lines = story.strip("\n").split("\n")
         note = lines[:1] if lines[0].startswith("#") else []
         head, *events = lines[len(note):]
-        if head.startswith("scheduler "):
-            play(note, head, events)
+        part, *words = head.split()
+        if part in PARTS:
+            print("\n".join(note + [head]))
+            for event, answer in PARTS[part](words, events):
+                told = ["ill"] if answer is None else [f"  {line}" for line in answer]
+                print("\n".join(([event] if event else []) + told))
+            print()
 
 
 main()

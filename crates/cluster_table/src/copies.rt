@@ -98,11 +98,12 @@ fn print_entries<R: Print>(rt: &R, entries: &[Entry]) -> io::Result<()> {
 }
 
 fn print_script<R: Print>(rt: &R, items: &[Item]) -> io::Result<()> {
+    print!(rt; "script")?;
     for item in items {
         match item {
-            Item::Lose { w, at } => print!(rt; "lose {w} {at} ")?,
-            Item::Suspect { w, at } => print!(rt; "suspect {w} {at} ")?,
-            Item::Join { at } => print!(rt; "join {at} ")?,
+            Item::Lose { w, at } => print!(rt; " lose {w} {at}")?,
+            Item::Suspect { w, at } => print!(rt; " suspect {w} {at}")?,
+            Item::Join { at } => print!(rt; " join {at}")?,
         }
     }
     Ok(())
@@ -110,10 +111,10 @@ fn print_script<R: Print>(rt: &R, items: &[Item]) -> io::Result<()> {
 
 // The list is emptied, and its copy gives its vector back.
 fn print_lists<R: Print>(rt: &R, list: KeyList, copy: KeyList) -> io::Result<()> {
-    print!(rt; "{} empty {} ", list.len(), list.is_empty())?;
+    print!(rt; "{} members, empty {}; ", list.len(), list.is_empty())?;
     let mut list = list;
     list.clear();
-    print!(rt; "{} empty {} copy ", list.len(), list.is_empty())?;
+    print!(rt; "cleared {}, empty {}; copy ", list.len(), list.is_empty())?;
     print_keys(rt, copy.into_vec().as_slice())
 }
 

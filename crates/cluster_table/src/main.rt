@@ -12,6 +12,7 @@ mod facts;
 mod graph;
 mod messages;
 mod numbers;
+mod packet;
 mod policy;
 mod printed;
 mod report;
@@ -29,6 +30,7 @@ fn play<R: Print>(rt: &R, alloc: Global, head: &str, events: &str) -> io::Result
     match setting.word() {
         "graph" => graph::play(rt, alloc, &mut setting),
         "copies" => copies::play(rt, alloc, events),
+        "packet" => packet::play(rt, alloc, &mut setting),
         "row" => rows::play_row(rt, alloc, &mut setting, events),
         "mask" => rows::play_mask(rt, alloc, &mut setting, events),
         "grid" => rows::play_grid(rt, alloc, &mut setting, events),
