@@ -1,7 +1,9 @@
 //! A graph, read from the words of a line.
 use crate::numbers::{RowError, Words, keys, number};
+use crate::printed::{print_error, print_keys};
 use cluster_msgs::{GraphShape, KeyList};
 use std::alloc::Global;
+use std::io;
 
 // Whether dependencies ascend strictly and are below the key.
 fn are_deps(deps: &[u32], key: u32) -> bool {
@@ -46,4 +48,30 @@ pub fn read_graph(alloc: Global, words: &mut Words<'_>) -> Result<GraphShape, Ro
         }
     }
     Ok(shape)
+}
+
+fn print_graph<R: Print>(rt: &R, shape: &GraphShape) -> io::Result<()> {
+    println!(rt; "  keys {} edges {}", shape.keys(), shape.edges())?;
+    for key in 0..shape.keys() {
+        print!(rt;
+            "  key {key}: work {} bytes {} on ",
+            shape.work(key),
+            shape.nbytes(key)
+        )?;
+        print_keys(rt, shape.deps(key))?;
+        println!(rt; "")?;
+    }
+    Ok(())
+}
+
+fn copy_graph(alloc: Global, words: &mut Words<'_>) -> Result<GraphShape, RowError> {
+    Ok(read_graph(alloc, words)?.copy()?)
+}
+
+/// Prints what a copy of the graph of a story's first line tells.
+pub fn play<R: Print>(rt: &R, alloc: Global, setting: &mut Words<'_>) -> io::Result<()> {
+    match copy_graph(alloc, setting) {
+        Ok(shape) => print_graph(rt, &shape),
+        Err(e) => print_error(rt, e),
+    }
 }

@@ -1,16 +1,22 @@
 //! The program `cluster_table`: plays stories of the parts of a cluster, and prints what each event leads to.
 //!
 //! It stands on the crates of the cluster, and nothing stands above it. It carries no promise of its own. Its input is
-//! stories between empty lines. The first line of a story names the part and its setting, and each further line is an
-//! event. What it prints is compared with what the tables of events ask for.
+//! stories between empty lines. A story begins with a note behind `#`, or with none; the next line names the part and its
+//! setting, and each further line is an event. What it prints is compared with what the tables of events ask for.
+//! `tools/scheduler_stories.py` works that out for the scheduler.
 #![tactic(auto)]
 
+mod copies;
 mod events;
+mod facts;
 mod graph;
 mod messages;
 mod numbers;
+mod packet;
+mod policy;
 mod printed;
 mod report;
+mod rows;
 mod scheduler;
 
 mod addition;
@@ -25,11 +31,17 @@ use numbers::Words;
 use std::alloc::Global;
 use std::io;
 
-// Plays a story: its first line, and the lines of its events.
+// Plays a story: the line of its setting, and the lines of its events.
 fn play<R: Print>(rt: &R, alloc: Global, head: &str, events: &str) -> io::Result<()> {
     println!(rt; "{head}")?;
     let mut setting = Words::of(alloc, head);
     match setting.word() {
+        "graph" => graph::play(rt, alloc, &mut setting),
+        "copies" => copies::play(rt, alloc, events),
+        "packet" => packet::play(rt, alloc, &mut setting),
+        "row" => rows::play_row(rt, alloc, &mut setting, events),
+        "mask" => rows::play_mask(rt, alloc, &mut setting, events),
+        "grid" => rows::play_grid(rt, alloc, &mut setting, events),
         "scheduler" => scheduler::play(rt, alloc, &mut setting, events),
         "report" => report::play(rt, alloc, &mut setting, events),
         _ => play_node(rt, alloc, head, events),
@@ -52,11 +64,22 @@ fn play_node<R: Print>(rt: &R, alloc: Global, head: &str, events: &str) -> io::R
     }
 }
 
+// Prints the note of a story, and plays the story.
+fn play_story<R: Print>(rt: &R, alloc: Global, story: &str) -> io::Result<()> {
+    let (head, events) = story.split_once('\n').unwrap_or((story, ""));
+    if head.starts_with('#') {
+        println!(rt; "{head}")?;
+        let (head, events) = events.split_once('\n').unwrap_or((events, ""));
+        play(rt, alloc, head, events)
+    } else {
+        play(rt, alloc, head, events)
+    }
+}
+
 fn main(rt: HostRuntime) -> io::Result<()> {
     let text = io::read_to_string(rt.alloc(), rt.reader())?;
     for story in text.as_str().split("\n\n") {
-        let (head, events) = story.split_once('\n').unwrap_or((story, ""));
-        play(&rt, rt.alloc(), head, events)?;
+        play_story(&rt, rt.alloc(), story)?;
         println!(rt; "")?;
     }
     Ok(())

@@ -1,6 +1,6 @@
 //! Messages, read from the words of a line: the message's name, and its fields in their order.
 use crate::numbers::{RowError, Words};
-use cluster_msgs::{Down, FromClient, Peer, ToClient, Up};
+use cluster_msgs::{Down, FromClient, Message, Peer, Role, ToClient, Up};
 
 /// A message from the scheduler to a worker.
 pub fn read_down(words: &mut Words<'_>) -> Result<Down, RowError> {
@@ -125,5 +125,38 @@ pub fn read_peer(words: &mut Words<'_>) -> Result<Peer, RowError> {
             found: words.keys()?,
         }),
         _ => Err(RowError::Ill),
+    }
+}
+
+fn read_role(word: &str) -> Result<Role, RowError> {
+    match word {
+        "scheduler" => Ok(Role::Scheduler),
+        "worker" => Ok(Role::Worker),
+        "client" => Ok(Role::Client),
+        _ => Err(RowError::Ill),
+    }
+}
+
+/// Any message, behind the name of its kind.
+pub fn read_message(words: &mut Words<'_>) -> Result<Message, RowError> {
+    match words.word() {
+        "down" => Ok(Message::Down(read_down(words)?)),
+        "up" => Ok(Message::Up(read_up(words)?)),
+        "to-client" => Ok(Message::ToClient(read_to_client(words)?)),
+        "from-client" => Ok(Message::FromClient(read_from_client(words)?)),
+        "peer" => Ok(Message::Peer(read_peer(words)?)),
+        "hello" => Ok(Message::Hello {
+            role: read_role(words.word())?,
+            id: words.small()?,
+        }),
+        _ => Err(RowError::Ill),
+    }
+}
+
+/// The message behind an event and `|`, if there is one.
+pub fn read_taken(words: &mut Words<'_>) -> Result<Option<Message>, RowError> {
+    match words.word() {
+        "|" => Ok(Some(read_message(words)?)),
+        _ => Ok(None),
     }
 }

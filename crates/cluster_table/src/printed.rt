@@ -1,6 +1,6 @@
 //! Messages and lists, printed as `messages` and `numbers` read them.
 use crate::numbers::RowError;
-use cluster_msgs::{Down, FromClient, Holders, Peer, ToClient, Up};
+use cluster_msgs::{Down, FromClient, Holders, Message, Peer, Role, ToClient, Up};
 use std::io;
 
 /// Why a line is not played.
@@ -8,6 +8,14 @@ pub fn print_error<R: Print>(rt: &R, error: RowError) -> io::Result<()> {
     match error {
         RowError::Ill => println!(rt; "ill"),
         RowError::OutOfMemory => println!(rt; "out of memory"),
+    }
+}
+
+/// A number, and `-` where there is none.
+pub fn print_option<R: Print>(rt: &R, number: Option<u32>) -> io::Result<()> {
+    match number {
+        Some(number) => print!(rt; "{number}"),
+        None => print!(rt; "-"),
     }
 }
 
@@ -143,5 +151,40 @@ pub fn print_peer<R: Print>(rt: &R, message: &Peer) -> io::Result<()> {
             print!(rt; "data {ask} ")?;
             print_keys(rt, found.as_slice())
         }
+    }
+}
+
+fn role_name(role: Role) -> &'static str {
+    match role {
+        Role::Scheduler => "scheduler",
+        Role::Worker => "worker",
+        Role::Client => "client",
+    }
+}
+
+/// Any message, behind the name of its kind.
+pub fn print_message<R: Print>(rt: &R, message: &Message) -> io::Result<()> {
+    match message {
+        Message::Down(down) => {
+            print!(rt; "down ")?;
+            print_down(rt, down)
+        }
+        Message::Up(up) => {
+            print!(rt; "up ")?;
+            print_up(rt, up)
+        }
+        Message::ToClient(to_client) => {
+            print!(rt; "to-client ")?;
+            print_to_client(rt, to_client)
+        }
+        Message::FromClient(from_client) => {
+            print!(rt; "from-client ")?;
+            print_from_client(rt, from_client)
+        }
+        Message::Peer(peer) => {
+            print!(rt; "peer ")?;
+            print_peer(rt, peer)
+        }
+        Message::Hello { role, id } => print!(rt; "hello {} {id}", role_name(*role)),
     }
 }

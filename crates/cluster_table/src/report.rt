@@ -1,23 +1,21 @@
 //! Stories of a report: the events that are counted, each with the message that it takes, behind a `|`.
 use crate::events::read_event;
 use crate::graph::read_graph;
-use crate::messages::read_up;
+use crate::messages::read_taken;
 use crate::numbers::{RowError, Words};
 use crate::printed::print_error;
-use cluster_msgs::{Message, Report};
+use cluster_msgs::Report;
 use run_report::Tally;
 use std::alloc::Global;
 use std::io;
 
 // Counts the event of a line, and the message behind it, if there is one.
 fn count(alloc: Global, tally: &mut Tally, line: &str) -> Result<(), RowError> {
-    let (event, message) = line.split_once('|').unwrap_or((line, ""));
-    let event = read_event(&mut Words::of(alloc, event))?;
-    if message.is_empty() {
-        tally.count(&event, None)?;
-    } else {
-        let message = Message::Up(read_up(&mut Words::of(alloc, message))?);
-        tally.count(&event, Some(&message))?;
+    let mut words = Words::of(alloc, line);
+    let event = read_event(&mut words)?;
+    match read_taken(&mut words)? {
+        Some(message) => tally.count(&event, Some(&message))?,
+        None => tally.count(&event, None)?,
     }
     Ok(())
 }
