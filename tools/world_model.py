@@ -1,8 +1,8 @@
 #!/usr/bin/env python3
 """The stories of a worker, a client, a world and a simulation, played by a model of the rules.
 
-The model is written from the tables that docs/CLUSTER.md explains, apart from the program, and never runs it. It reads
-the stories of `crates/cluster_table/stdin`, and writes what those of its parts lead to, with an empty line behind each:
+The model is written from the tables that docs/CLUSTER.md explains, apart from the program, and never runs it. It reads the
+stories of `crates/cluster_table/stdin`, and writes what those of its parts lead to, with an empty line behind each:
 
     tools/world_model.py < crates/cluster_table/stdin
 
@@ -581,11 +581,12 @@ PARTS = {'worker': play_worker, 'client': play_client, 'world': play_world, 'sim
 
 def main():
     for story in sys.stdin.read().split('\n\n'):
-        head, *events = story.rstrip('\n').split('\n')
-        part, *setting = head.split('#')[0].split() or ['']
+        lines = story.rstrip('\n').split('\n')
+        notes = [lines.pop(0)] if lines[0].startswith('#') else []
+        part, *setting = lines[0].split() or ['']
         if part in PARTS:
-            print(head)
-            PARTS[part](setting, events)
+            print(*notes, lines[0], sep='\n')
+            PARTS[part](setting, lines[1:])
             print()
 
 
