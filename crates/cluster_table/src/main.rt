@@ -7,7 +7,11 @@
 //! the world: models of the rules that are no part of the program. `docs/CLUSTER.md` tells the rules.
 #![tactic(auto)]
 
+mod addition;
+mod asks;
+mod client;
 mod copies;
+mod counted;
 mod events;
 mod facts;
 mod graph;
@@ -19,11 +23,6 @@ mod printed;
 mod report;
 mod rows;
 mod scheduler;
-
-mod addition;
-mod asks;
-mod client;
-mod counted;
 mod simulation;
 mod worker;
 mod world;
