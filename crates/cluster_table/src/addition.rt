@@ -1,6 +1,6 @@
 //! Stories of an addition to an array, which are their first lines: the size of a chunk, the number that is added, and the
 //! cells.
-ghost use Rattle.std.specs.Prelude.{◌≡◌, ◌≤◌, ◌<◌, ◌^◌, length, IfOk};
+ghost use Rattle.std.specs.Prelude.{◌≡◌, ◌≤◌, ◌<◌, true, length, IfOk};
 ghost use Rattle.cluster_msgs.specs.Shape.{key_count};
 ghost use Rattle.addition_job.specs.Chunks.{chunks_in};
 
