@@ -311,21 +311,21 @@ class Scheduler:
         return f"finishes {self.finishes}: {names}"
 
     def facts(self):
-        truth = lambda value: str(bool(value)).lower()
+        fields = lambda pairs: "".join(f" {name} {int(number)}" for (name, number) in pairs)
         lines = ["known" + "".join(f" {k}" for k in self.keys if self.known(k))]
         for key in self.keys:
-            lines.append(
-                f"key {key}: needed {truth(self.needed(key))} held {truth(self.held(key))} erred {truth(self.erred(key))}"
-                f" on {self.on.get(key, '-')[0]} holders {len(self.holders(key))} waiters {len(self.waiters(key))}"
-                f" asked {truth(key in self.steal)}"
-            )
+            lines.append(fields([
+                ("key", key), ("needed", self.needed(key)), ("held", self.held(key)), ("erred", self.erred(key)),
+                ("on", self.on.get(key, (0, 0))[0]), ("holders", len(self.holders(key))),
+                ("waiters", len(self.waiters(key))), ("asked", key in self.steal),
+            ])[1:])
         for worker in sorted(self.threads):
-            lines.append(
-                f"worker {worker}: threads {self.threads[worker]} tasks {len(self.tasks(worker))}"
-                f" occupancy {self.occupancy(worker)} bytes {self.load(worker)} full {truth(self.full(worker))}"
-                f" holds" + "".join(f" {k}" for k in self.held_keys(worker))
-            )
-        lines.append("places " + " ".join(str(self.place(k) or "-") for k in self.keys))
+            numbers = fields([
+                ("worker", worker), ("threads", self.threads[worker]), ("tasks", len(self.tasks(worker))),
+                ("occupancy", self.occupancy(worker)), ("bytes", self.load(worker)), ("full", self.full(worker)),
+            ])[1:]
+            lines.append(f"{numbers} holds" + "".join(f" {k}" for k in self.held_keys(worker)))
+        lines.append("places " + " ".join(str(self.place(k) or 0) for k in self.keys))
         steal, drop = self.next_steal(), self.next_drop()
         lines.append(f"steal of {steal[2]} from {steal[1]} to {steal[3]}" if steal else "no steal")
         lines.append(f"drop of {drop[1]} at {drop[0]}" if drop else "no drop")
@@ -344,54 +344,22 @@ def play_scheduler(words, events):
 def play_graph(words, _):
     rows = [word.split(":") for word in words]
     deps = [keys_of(row[2]) if len(row) > 2 else [] for row in rows]
-    lines = [f"keys {len(rows)} edges {sum(map(len, deps))}"]
+    lines = [f"{len(rows)} keys, {sum(map(len, deps))} edges"]
     for key, row in enumerate(rows):
-        lines.append(f"key {key}: work {row[0]} bytes {row[1]} on {show(deps[key])}")
+        lines.append(f"key {key} {row[0]} {row[1]} on {show(deps[key])}")
     yield None, lines
 
 
-TEXTS = [
-    "the event isn't possible", "all events were taken", "out of memory", "the feed failed", "out of memory"
-]
-
-
 def play_copies(_, events):
-    """A copy says what its source says, and 8 comes behind the keys."""
+    """A copy says what its source says."""
     for event in events:
-        kind, _, rest = event.partition(" ")
-        if kind == "texts":
-            yield event, TEXTS
-        elif kind == "keys":
-            keys = keys_of(rest) + [8]
-            yield event, [f"{len(keys)} members, empty false; cleared 0, empty true; copy {show(keys)}"]
+        if event == "texts":
+            yield event, ["all events were taken, the feed failed"]
+        elif event.startswith("script "):
+            _, worker, count = event.split()
+            yield event, [f"lose {worker} at {count}", f"suspect {worker} at {count}", f"join at {count}"]
         else:
-            yield event, [event if kind == "script" else rest]
-
-
-def play_row(words, events):
-    row = [int(words[1])] * int(words[0])
-    for event in events:
-        name, *fields = event.split()
-        if name == "set" and int(fields[0]) < len(row):
-            row[int(fields[0])] = int(fields[1])
-        elif name == "set":
-            yield event, None
-            continue
-        elif name == "push":
-            row.append(int(fields[0]))
-        elif name == "fill":
-            row = [int(fields[0])] * len(row)
-        elif name == "keep":
-            row = [n if k in keys_of(fields[0]) else int(fields[1]) for k, n in enumerate(row)]
-        yield event, [f"{len(row)} members:" + "".join(f" {n}" for n in row)]
-
-
-def play_mask(words, events):
-    members = [key for key in keys_of(words[1]) if key < int(words[0])]
-    tests = {"test": all, "any": any, "all": all}
-    for event in events:
-        name, keys = event.split()
-        yield f"{event}: {str(tests[name](key in members for key in keys_of(keys))).lower()}", []
+            yield event, [event]
 
 
 def play_grid(words, events):
@@ -403,14 +371,15 @@ def play_grid(words, events):
         elif name == "clear":
             grid[int(fields[0])] = [None] * wide
         elif name == "keep":
-            grid = [[n if k in keys_of(fields[0]) else None for k, n in enumerate(row)] for row in grid]
+            grid = [[n if k == int(fields[0]) else None for k, n in enumerate(row)] for row in grid]
         elif int(fields[0]) < len(grid) and int(fields[1]) < wide:
             grid[int(fields[0])][int(fields[1])] = int(fields[2])
         else:
             yield event, None
             continue
-        shown = (",".join(f"Some({n})" if n is not None else "None" for n in row + [None]) for row in grid)
-        yield event, [f"{len(grid)} rows: " + " ".join(shown)]
+        rows = [[grid[r][k] if r < len(grid) and k < wide else None for k in range(4)] for r in range(4)]
+        shown = "".join(" " + " ".join("-" if n is None else str(n) for n in row) + ";" for row in rows)
+        yield event, [f"{len(grid)} rows:{shown}"]
 
 
 def play_report(words, events):
@@ -431,8 +400,8 @@ def play_packet(words, _):
 
 
 PARTS = {
-    "scheduler": play_scheduler, "graph": play_graph, "copies": play_copies, "row": play_row, "mask": play_mask,
-    "grid": play_grid, "report": play_report, "packet": play_packet,
+    "scheduler": play_scheduler, "graph": play_graph, "copies": play_copies, "grid": play_grid,
+    "report": play_report, "packet": play_packet,
 }
 
 

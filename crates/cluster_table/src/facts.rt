@@ -2,7 +2,6 @@
 ghost use Rattle.std.specs.Prelude.{◌≡◌, ◌<◌, true};
 ghost use Rattle.cluster_rules.specs.Sched.{keys, connected};
 
-use crate::printed::print_option;
 use cluster_msgs::Phase;
 use cluster_rules::Facts;
 use scheduler_core::Sched;
@@ -45,27 +44,52 @@ pub fn print_known<R: Print>(rt: &R, core: &Sched) -> io::Result<()> {
     println!(rt; "")
 }
 
-// What is asked about a key.
+// Names with their numbers.
+fn print_fields<R: Print>(rt: &R, fields: &[(&str, u64)]) -> io::Result<()> {
+    for (name, number) in fields {
+        print!(rt; " {name} {number}")?;
+    }
+    Ok(())
+}
+
+// What is asked about a key: 1 for yes, and 0 where it is on no worker.
 fn print_key<R: Print, F: Facts>(rt: &R, facts: &F, key: u32) -> io::Result<()>
     requires { key < keys (F.facts facts.now) }
 {
-    let (needed, held, erred) = (facts.needed(key), facts.held(key), facts.erred(key));
-    print!(rt; "  key {key}: needed {needed} held {held} erred {erred} on ")?;
-    print_option(rt, facts.on(key))?;
-    let (holders, waiters) = (facts.holders(key), facts.waiters(key));
-    let stealing = facts.asked_steal(key);
-    println!(rt; " holders {holders} waiters {waiters} asked {stealing}")
+    let fields = [
+        ("key", u64::from(key)),
+        ("needed", u64::from(facts.needed(key))),
+        ("held", u64::from(facts.held(key))),
+        ("erred", u64::from(facts.erred(key))),
+        ("on", u64::from(facts.on(key).unwrap_or(0))),
+        ("holders", u64::from(facts.holders(key))),
+        ("waiters", u64::from(facts.waiters(key))),
+        ("asked", u64::from(facts.asked_steal(key))),
+    ];
+    print!(rt; " ")?;
+    print_fields(rt, &fields)?;
+    println!(rt; "")
 }
 
 // What is asked about a worker that is connected.
 fn print_worker<R: Print, F: Facts>(rt: &R, facts: &F, worker: u32) -> io::Result<()>
     requires { connected (F.facts facts.now) worker ≡ true }
 {
-    let (threads, tasks) = (facts.threads(worker), facts.tasks(worker));
-    print!(rt; "  worker {worker}: threads {threads} tasks {tasks}")?;
-    let (occupancy, bytes) = (facts.occupancy(worker), facts.bytes_held(worker));
-    let full = facts.full(worker);
-    print!(rt; " occupancy {occupancy} bytes {bytes} full {full} holds")?;
+    let fields = [
+        ("worker", u64::from(worker)),
+        ("threads", u64::from(facts.threads(worker))),
+        ("tasks", u64::from(facts.tasks(worker))),
+        ("occupancy", facts.occupancy(worker)),
+        ("bytes", facts.bytes_held(worker)),
+        ("full", u64::from(facts.full(worker))),
+    ];
+    print!(rt; " ")?;
+    print_fields(rt, &fields)?;
+    print_held(rt, facts, worker)
+}
+
+fn print_held<R: Print, F: Facts>(rt: &R, facts: &F, worker: u32) -> io::Result<()> {
+    print!(rt; " holds")?;
     for key in 0..facts.keys() {
         if facts.holds(worker, key) {
             print!(rt; " {key}")?;

@@ -1,6 +1,9 @@
 //! A graph, read from the words of a line.
+ghost use Rattle.std.specs.Prelude.{◌<◌};
+ghost use Rattle.cluster_msgs.specs.Shape.{key_count};
+
 use crate::numbers::{RowError, Words, keys, number};
-use crate::printed::{print_error, print_keys};
+use crate::printed::{print_error, print_keys, print_numbers};
 use cluster_msgs::{GraphShape, KeyList};
 use std::alloc::Global;
 use std::io;
@@ -50,27 +53,30 @@ pub fn read_graph(alloc: Global, words: &mut Words<'_>) -> Result<GraphShape, Ro
     Ok(shape)
 }
 
+fn print_key<R: Print>(rt: &R, shape: &GraphShape, key: u32) -> io::Result<()>
+    requires { key < key_count shape.now }
+{
+    print_numbers(
+        rt,
+        "  key",
+        &[u64::from(key), shape.work(key), shape.nbytes(key)],
+    )?;
+    print!(rt; " on ")?;
+    print_keys(rt, shape.deps(key))?;
+    println!(rt; "")
+}
+
 fn print_graph<R: Print>(rt: &R, shape: &GraphShape) -> io::Result<()> {
-    println!(rt; "  keys {} edges {}", shape.keys(), shape.edges())?;
+    println!(rt; "  {} keys, {} edges", shape.keys(), shape.edges())?;
     for key in 0..shape.keys() {
-        print!(rt;
-            "  key {key}: work {} bytes {} on ",
-            shape.work(key),
-            shape.nbytes(key)
-        )?;
-        print_keys(rt, shape.deps(key))?;
-        println!(rt; "")?;
+        print_key(rt, shape, key)?;
     }
     Ok(())
 }
 
-fn copy_graph(alloc: Global, words: &mut Words<'_>) -> Result<GraphShape, RowError> {
-    Ok(read_graph(alloc, words)?.copy()?)
-}
-
-/// Prints what a copy of the graph of a story's first line tells.
+/// Prints what the graph of a story's first line tells: of each key its work, its bytes and its dependencies.
 pub fn play<R: Print>(rt: &R, alloc: Global, setting: &mut Words<'_>) -> io::Result<()> {
-    match copy_graph(alloc, setting) {
+    match read_graph(alloc, setting) {
         Ok(shape) => print_graph(rt, &shape),
         Err(e) => print_error(rt, e),
     }

@@ -1,21 +1,15 @@
 //! Messages, read from the words of a line: the message's name, and its fields in their order.
 use crate::numbers::{RowError, Words};
 use cluster_msgs::{Down, FromClient, Message, Peer, Role, ToClient, Up};
+use std::alloc::Global;
 
 /// A message from the scheduler to a worker.
 pub fn read_down(words: &mut Words<'_>) -> Result<Down, RowError> {
     match words.word() {
-        "compute-task" => Ok(Down::ComputeTask {
-            key: words.small()?,
-            attempt: words.number()?,
-            who_has: words.who_has()?,
-        }),
+        "compute-task" => read_task(words),
+        "steal-request" => read_request(words),
         "free-keys" => Ok(Down::FreeKeys {
             keys: words.keys()?,
-        }),
-        "steal-request" => Ok(Down::StealRequest {
-            key: words.small()?,
-            attempt: words.number()?,
         }),
         "remove-replicas" => Ok(Down::RemoveReplicas {
             keys: words.keys()?,
@@ -30,48 +24,63 @@ pub fn read_down(words: &mut Words<'_>) -> Result<Down, RowError> {
     }
 }
 
+fn read_task(words: &mut Words<'_>) -> Result<Down, RowError> {
+    let key = words.small()?;
+    let attempt = words.number()?;
+    let who_has = words.who_has()?;
+    Ok(Down::ComputeTask {
+        key,
+        attempt,
+        who_has,
+    })
+}
+
+fn read_request(words: &mut Words<'_>) -> Result<Down, RowError> {
+    let key = words.small()?;
+    let attempt = words.number()?;
+    Ok(Down::StealRequest { key, attempt })
+}
+
 /// A message from a worker to the scheduler.
 pub fn read_up(words: &mut Words<'_>) -> Result<Up, RowError> {
     let name = words.word();
     let seen = words.number()?;
-    match name {
-        "add-keys" => Ok(Up::AddKeys {
-            seen,
-            keys: words.keys()?,
-        }),
-        _ => {
-            let key = words.small()?;
-            read_up_of(name, seen, key, words)
-        }
+    if name == "add-keys" {
+        let keys = words.keys()?;
+        return Ok(Up::AddKeys { seen, keys });
     }
+    let key = words.small()?;
+    if name == "missing-data" {
+        return read_missing_data(seen, key, words);
+    }
+    let attempt = words.number_or_0()?;
+    let yes = words.word() == "true";
+    up_of(name, seen, key, attempt, yes)
 }
 
-// A message from a worker that is about one key.
-fn read_up_of(name: &str, seen: u64, key: u32, words: &mut Words<'_>) -> Result<Up, RowError> {
+fn read_missing_data(seen: u64, key: u32, words: &mut Words<'_>) -> Result<Up, RowError> {
+    let holder = words.small()?;
+    let copy = words.number()?;
+    Ok(Up::MissingData {
+        seen,
+        key,
+        holder,
+        copy,
+    })
+}
+
+// A message from a worker that is about one key and maybe an attempt.
+fn up_of(name: &str, seen: u64, key: u32, attempt: u64, yes: bool) -> Result<Up, RowError> {
     match name {
-        "task-finished" => Ok(Up::TaskFinished {
-            seen,
-            key,
-            attempt: words.number()?,
-        }),
-        "task-erred" => Ok(Up::TaskErred {
-            seen,
-            key,
-            attempt: words.number()?,
-        }),
+        "task-finished" => Ok(Up::TaskFinished { seen, key, attempt }),
+        "task-erred" => Ok(Up::TaskErred { seen, key, attempt }),
         "release-worker-data" => Ok(Up::ReleaseWorkerData { seen, key }),
-        "missing-data" => Ok(Up::MissingData {
-            seen,
-            key,
-            holder: words.small()?,
-            copy: words.number()?,
-        }),
         "request-refresh-who-has" => Ok(Up::RequestRefreshWhoHas { seen, key }),
         "steal-response" => Ok(Up::StealResponse {
             seen,
             key,
-            attempt: words.number()?,
-            yes: words.truth()?,
+            attempt,
+            yes,
         }),
         _ => Err(RowError::Ill),
     }
@@ -79,16 +88,16 @@ fn read_up_of(name: &str, seen: u64, key: u32, words: &mut Words<'_>) -> Result<
 
 /// A message from the scheduler to a client.
 pub fn read_to_client(words: &mut Words<'_>) -> Result<ToClient, RowError> {
-    match words.word() {
+    let name = words.word();
+    let key = words.small()?;
+    match name {
         "key-in-memory" => Ok(ToClient::KeyInMemory {
-            key: words.small()?,
+            key,
             holders: words.holders()?,
         }),
-        "lost-data" => Ok(ToClient::LostData {
-            key: words.small()?,
-        }),
+        "lost-data" => Ok(ToClient::LostData { key }),
         "client-task-erred" => Ok(ToClient::ClientTaskErred {
-            key: words.small()?,
+            key,
             blame: words.small()?,
         }),
         _ => Err(RowError::Ill),
@@ -104,37 +113,42 @@ pub fn read_from_client(words: &mut Words<'_>) -> Result<FromClient, RowError> {
         "release" => Ok(FromClient::Release {
             keys: words.keys()?,
         }),
-        "missing" => Ok(FromClient::Missing {
-            key: words.small()?,
-            holder: words.small()?,
-            copy: words.number()?,
-        }),
+        "missing" => read_missing(words),
         _ => Err(RowError::Ill),
     }
+}
+
+fn read_missing(words: &mut Words<'_>) -> Result<FromClient, RowError> {
+    let key = words.small()?;
+    let holder = words.small()?;
+    let copy = words.number()?;
+    Ok(FromClient::Missing { key, holder, copy })
 }
 
 /// A message between those who ask for blocks and those who hold them.
 pub fn read_peer(words: &mut Words<'_>) -> Result<Peer, RowError> {
-    match words.word() {
-        "get-data" => Ok(Peer::GetData {
-            ask: words.number()?,
-            keys: words.keys()?,
-        }),
-        "data" => Ok(Peer::Data {
-            ask: words.number()?,
-            found: words.keys()?,
-        }),
+    let name = words.word();
+    let ask = words.number()?;
+    let keys = words.keys()?;
+    match name {
+        "get-data" => Ok(Peer::GetData { ask, keys }),
+        "data" => Ok(Peer::Data { ask, found: keys }),
         _ => Err(RowError::Ill),
     }
 }
 
-fn read_role(word: &str) -> Result<Role, RowError> {
+fn role_of(word: &str) -> Role {
     match word {
-        "scheduler" => Ok(Role::Scheduler),
-        "worker" => Ok(Role::Worker),
-        "client" => Ok(Role::Client),
-        _ => Err(RowError::Ill),
+        "scheduler" => Role::Scheduler,
+        "worker" => Role::Worker,
+        _ => Role::Client,
     }
+}
+
+fn read_hello(words: &mut Words<'_>) -> Result<Message, RowError> {
+    let role = role_of(words.word());
+    let id = words.small()?;
+    Ok(Message::Hello { role, id })
 }
 
 /// Any message, behind the name of its kind.
@@ -145,18 +159,15 @@ pub fn read_message(words: &mut Words<'_>) -> Result<Message, RowError> {
         "to-client" => Ok(Message::ToClient(read_to_client(words)?)),
         "from-client" => Ok(Message::FromClient(read_from_client(words)?)),
         "peer" => Ok(Message::Peer(read_peer(words)?)),
-        "hello" => Ok(Message::Hello {
-            role: read_role(words.word())?,
-            id: words.small()?,
-        }),
+        "hello" => read_hello(words),
         _ => Err(RowError::Ill),
     }
 }
 
-/// The message behind an event and `|`, if there is one.
-pub fn read_taken(words: &mut Words<'_>) -> Result<Option<Message>, RowError> {
-    match words.word() {
-        "|" => Ok(Some(read_message(words)?)),
-        _ => Ok(None),
+/// The message of a line, if there is one.
+pub fn read_taken(alloc: Global, line: &str) -> Result<Option<Message>, RowError> {
+    if line.is_empty() {
+        return Ok(None);
     }
+    Ok(Some(read_message(&mut Words::of(alloc, line))?))
 }

@@ -25,13 +25,6 @@ impl<T: Drop> From<AllocFailed<T>> for RowError {
     }
 }
 
-/// The words of a line, which are taken from the left.
-#[derive(Drop)]
-pub struct Words<'a> {
-    alloc: Global,
-    left: SplitWhitespace<'a>,
-}
-
 /// The number that a word stands for.
 pub fn number(word: &str) -> Result<u64, RowError> {
     word.parse::<u64>().map_err(|_| RowError::Ill)
@@ -53,26 +46,41 @@ pub fn keys(alloc: Global, word: &str) -> Result<KeyList, RowError> {
     Ok(list)
 }
 
+fn holder(word: &str) -> Result<(u32, u64), RowError> {
+    let (worker, copy) = word.split_once('@').ok_or(RowError::Ill)?;
+    Ok((small(worker)?, number(copy)?))
+}
+
 fn holders(alloc: Global, word: &str) -> Result<Holders, RowError> {
     let mut list = Holders::new(alloc);
     if word != "-" {
         for pair in word.split('+') {
-            let (worker, copy) = pair.split_once('@').ok_or(RowError::Ill)?;
-            list.push((small(worker)?, number(copy)?))?;
+            list.push(holder(pair)?)?;
         }
     }
     Ok(list)
+}
+
+fn held(alloc: Global, word: &str) -> Result<(u32, Holders), RowError> {
+    let (key, pairs) = word.split_once('=').ok_or(RowError::Ill)?;
+    Ok((small(key)?, holders(alloc, pairs)?))
 }
 
 fn who_has(alloc: Global, word: &str) -> Result<WhoHas, RowError> {
     let mut list = WhoHas::new(alloc);
     if word != "-" {
         for row in word.split(',') {
-            let (key, pairs) = row.split_once('=').ok_or(RowError::Ill)?;
-            list.push((small(key)?, holders(alloc, pairs)?))?;
+            list.push(held(alloc, row)?)?;
         }
     }
     Ok(list)
+}
+
+/// The words of a line, which are taken from the left.
+#[derive(Drop)]
+pub struct Words<'a> {
+    alloc: Global,
+    left: SplitWhitespace<'a>,
 }
 
 impl<'a> Words<'a> {
@@ -94,18 +102,17 @@ impl<'a> Words<'a> {
         number(self.word())
     }
 
+    /// The next number, or 0 where the line has ended.
+    pub fn number_or_0(&mut self) -> Result<u64, RowError> {
+        match self.word() {
+            "" => Ok(0),
+            word => number(word),
+        }
+    }
+
     /// The next number, which has 32 bits.
     pub fn small(&mut self) -> Result<u32, RowError> {
         small(self.word())
-    }
-
-    /// The next truth value.
-    pub fn truth(&mut self) -> Result<bool, RowError> {
-        match self.word() {
-            "true" => Ok(true),
-            "false" => Ok(false),
-            _ => Err(RowError::Ill),
-        }
     }
 
     /// The next list of keys.

@@ -1,9 +1,8 @@
-//! The answers of the policies: where each key would go, which key would be stolen and which replica dropped.
+//! The answers of the policies: where each key would go, or 0, which key would be stolen and which replica dropped.
 ghost use Rattle.std.specs.Prelude.{◌≡◌};
 
-use crate::printed::print_option;
 use balance_policy::{next_drop, next_steal};
-use cluster_msgs::GraphShape;
+use cluster_msgs::{GraphShape, Steal};
 use cluster_rules::Facts;
 use placement::place;
 use std::io;
@@ -13,10 +12,27 @@ fn print_places<R: Print, F: Facts>(rt: &R, facts: &F, shape: &GraphShape) -> io
 {
     print!(rt; "  places")?;
     for key in 0..facts.keys() {
-        print!(rt; " ")?;
-        print_option(rt, place(facts, shape, key))?;
+        let worker = place(facts, shape, key).unwrap_or(0);
+        print!(rt; " {worker}")?;
     }
     println!(rt; "")
+}
+
+fn print_steal<R: Print>(rt: &R, steal: Option<Steal>) -> io::Result<()> {
+    match steal {
+        Some(steal) => {
+            let (key, victim, thief) = (steal.key, steal.victim, steal.thief);
+            println!(rt; "  steal of {key} from {victim} to {thief}")
+        }
+        None => println!(rt; "  no steal"),
+    }
+}
+
+fn print_drop<R: Print>(rt: &R, drop: Option<(u32, u32)>) -> io::Result<()> {
+    match drop {
+        Some((worker, key)) => println!(rt; "  drop of {key} at {worker}"),
+        None => println!(rt; "  no drop"),
+    }
 }
 
 /// Where each key would go, the next steal and the next drop.
@@ -24,15 +40,6 @@ pub fn print_choices<R: Print, F: Facts>(rt: &R, facts: &F, shape: &GraphShape) 
     requires { shape.now ≡ (F.facts facts.now).setting.shape }
 {
     print_places(rt, facts, shape)?;
-    match next_steal(facts, shape) {
-        Some(steal) => {
-            let (key, victim, thief) = (steal.key, steal.victim, steal.thief);
-            println!(rt; "  steal of {key} from {victim} to {thief}")?
-        }
-        None => println!(rt; "  no steal")?,
-    }
-    match next_drop(facts) {
-        Some((worker, key)) => println!(rt; "  drop of {key} at {worker}"),
-        None => println!(rt; "  no drop"),
-    }
+    print_steal(rt, next_steal(facts, shape))?;
+    print_drop(rt, next_drop(facts))
 }

@@ -11,14 +11,6 @@ pub fn print_error<R: Print>(rt: &R, error: RowError) -> io::Result<()> {
     }
 }
 
-/// A number, and `-` where there is none.
-pub fn print_option<R: Print>(rt: &R, number: Option<u32>) -> io::Result<()> {
-    match number {
-        Some(number) => print!(rt; "{number}"),
-        None => print!(rt; "-"),
-    }
-}
-
 /// Keys between commas, and `-` where there is none.
 pub fn print_keys<R: Print>(rt: &R, keys: &[u32]) -> io::Result<()> {
     if keys.is_empty() {
@@ -56,6 +48,15 @@ pub fn print_who_has<R: Print>(rt: &R, who_has: &[(u32, Holders)]) -> io::Result
     Ok(())
 }
 
+/// A name, and numbers behind it.
+pub fn print_numbers<R: Print>(rt: &R, name: &str, numbers: &[u64]) -> io::Result<()> {
+    print!(rt; "{name}")?;
+    for number in numbers {
+        print!(rt; " {number}")?;
+    }
+    Ok(())
+}
+
 fn print_named_keys<R: Print>(rt: &R, name: &str, keys: &[u32]) -> io::Result<()> {
     print!(rt; "{name} ")?;
     print_keys(rt, keys)
@@ -66,6 +67,26 @@ fn print_named_holders<R: Print>(rt: &R, name: &str, who_has: &[(u32, Holders)])
     print_who_has(rt, who_has)
 }
 
+fn print_task<R: Print>(
+    rt: &R,
+    key: u32,
+    attempt: u64,
+    who_has: &[(u32, Holders)],
+) -> io::Result<()> {
+    print!(rt; "compute-task {key} {attempt} ")?;
+    print_who_has(rt, who_has)
+}
+
+fn print_held<R: Print>(rt: &R, key: u32, holders: &[(u32, u64)]) -> io::Result<()> {
+    print!(rt; "key-in-memory {key} ")?;
+    print_holders(rt, holders)
+}
+
+fn print_asked<R: Print>(rt: &R, name: &str, number: u64, keys: &[u32]) -> io::Result<()> {
+    print!(rt; "{name} {number} ")?;
+    print_keys(rt, keys)
+}
+
 /// A message from the scheduler to a worker.
 pub fn print_down<R: Print>(rt: &R, message: &Down) -> io::Result<()> {
     match message {
@@ -73,12 +94,11 @@ pub fn print_down<R: Print>(rt: &R, message: &Down) -> io::Result<()> {
             key,
             attempt,
             who_has,
-        } => {
-            print!(rt; "compute-task {key} {attempt} ")?;
-            print_who_has(rt, who_has.as_slice())
-        }
+        } => print_task(rt, *key, *attempt, who_has.as_slice()),
         Down::FreeKeys { keys } => print_named_keys(rt, "free-keys", keys.as_slice()),
-        Down::StealRequest { key, attempt } => print!(rt; "steal-request {key} {attempt}"),
+        Down::StealRequest { key, attempt } => {
+            print_numbers(rt, "steal-request", &[u64::from(*key), *attempt])
+        }
         Down::RemoveReplicas { keys } => print_named_keys(rt, "remove-replicas", keys.as_slice()),
         Down::AcquireReplicas { who_has } => {
             print_named_holders(rt, "acquire-replicas", who_has.as_slice())
@@ -93,22 +113,26 @@ pub fn print_down<R: Print>(rt: &R, message: &Down) -> io::Result<()> {
 pub fn print_up<R: Print>(rt: &R, message: &Up) -> io::Result<()> {
     match message {
         Up::TaskFinished { seen, key, attempt } => {
-            print!(rt; "task-finished {seen} {key} {attempt}")
+            print_numbers(rt, "task-finished", &[*seen, u64::from(*key), *attempt])
         }
-        Up::TaskErred { seen, key, attempt } => print!(rt; "task-erred {seen} {key} {attempt}"),
-        Up::AddKeys { seen, keys } => {
-            print!(rt; "add-keys {seen} ")?;
-            print_keys(rt, keys.as_slice())
+        Up::TaskErred { seen, key, attempt } => {
+            print_numbers(rt, "task-erred", &[*seen, u64::from(*key), *attempt])
         }
-        Up::ReleaseWorkerData { seen, key } => print!(rt; "release-worker-data {seen} {key}"),
+        Up::AddKeys { seen, keys } => print_asked(rt, "add-keys", *seen, keys.as_slice()),
+        Up::ReleaseWorkerData { seen, key } => {
+            print_numbers(rt, "release-worker-data", &[*seen, u64::from(*key)])
+        }
         Up::MissingData {
             seen,
             key,
             holder,
             copy,
-        } => print!(rt; "missing-data {seen} {key} {holder} {copy}"),
+        } => {
+            let (key, holder) = (u64::from(*key), u64::from(*holder));
+            print_numbers(rt, "missing-data", &[*seen, key, holder, *copy])
+        }
         Up::RequestRefreshWhoHas { seen, key } => {
-            print!(rt; "request-refresh-who-has {seen} {key}")
+            print_numbers(rt, "request-refresh-who-has", &[*seen, u64::from(*key)])
         }
         Up::StealResponse {
             seen,
@@ -122,12 +146,12 @@ pub fn print_up<R: Print>(rt: &R, message: &Up) -> io::Result<()> {
 /// A message from the scheduler to a client.
 pub fn print_to_client<R: Print>(rt: &R, message: &ToClient) -> io::Result<()> {
     match message {
-        ToClient::KeyInMemory { key, holders } => {
-            print!(rt; "key-in-memory {key} ")?;
-            print_holders(rt, holders.as_slice())
+        ToClient::KeyInMemory { key, holders } => print_held(rt, *key, holders.as_slice()),
+        ToClient::LostData { key } => print_numbers(rt, "lost-data", &[u64::from(*key)]),
+        ToClient::ClientTaskErred { key, blame } => {
+            let (key, blame) = (u64::from(*key), u64::from(*blame));
+            print_numbers(rt, "client-task-erred", &[key, blame])
         }
-        ToClient::LostData { key } => print!(rt; "lost-data {key}"),
-        ToClient::ClientTaskErred { key, blame } => print!(rt; "client-task-erred {key} {blame}"),
     }
 }
 
@@ -136,21 +160,29 @@ pub fn print_from_client<R: Print>(rt: &R, message: &FromClient) -> io::Result<(
     match message {
         FromClient::Want { keys } => print_named_keys(rt, "want", keys.as_slice()),
         FromClient::Release { keys } => print_named_keys(rt, "release", keys.as_slice()),
-        FromClient::Missing { key, holder, copy } => { print!(rt; "missing {key} {holder} {copy}") }
+        FromClient::Missing { key, holder, copy } => {
+            let (key, holder) = (u64::from(*key), u64::from(*holder));
+            print_numbers(rt, "missing", &[key, holder, *copy])
+        }
     }
 }
 
 /// A message between those who ask for blocks and those who hold them.
 pub fn print_peer<R: Print>(rt: &R, message: &Peer) -> io::Result<()> {
     match message {
-        Peer::GetData { ask, keys } => {
-            print!(rt; "get-data {ask} ")?;
-            print_keys(rt, keys.as_slice())
-        }
-        Peer::Data { ask, found } => {
-            print!(rt; "data {ask} ")?;
-            print_keys(rt, found.as_slice())
-        }
+        Peer::GetData { ask, keys } => print_asked(rt, "get-data", *ask, keys.as_slice()),
+        Peer::Data { ask, found } => print_asked(rt, "data", *ask, found.as_slice()),
+    }
+}
+
+fn kind_of(message: &Message) -> &'static str {
+    match message {
+        Message::Down(_) => "down ",
+        Message::Up(_) => "up ",
+        Message::ToClient(_) => "to-client ",
+        Message::FromClient(_) => "from-client ",
+        Message::Peer(_) => "peer ",
+        Message::Hello { .. } => "hello ",
     }
 }
 
@@ -164,27 +196,13 @@ fn role_name(role: Role) -> &'static str {
 
 /// Any message, behind the name of its kind.
 pub fn print_message<R: Print>(rt: &R, message: &Message) -> io::Result<()> {
+    rt.print(kind_of(message))?;
     match message {
-        Message::Down(down) => {
-            print!(rt; "down ")?;
-            print_down(rt, down)
-        }
-        Message::Up(up) => {
-            print!(rt; "up ")?;
-            print_up(rt, up)
-        }
-        Message::ToClient(to_client) => {
-            print!(rt; "to-client ")?;
-            print_to_client(rt, to_client)
-        }
-        Message::FromClient(from_client) => {
-            print!(rt; "from-client ")?;
-            print_from_client(rt, from_client)
-        }
-        Message::Peer(peer) => {
-            print!(rt; "peer ")?;
-            print_peer(rt, peer)
-        }
-        Message::Hello { role, id } => print!(rt; "hello {} {id}", role_name(*role)),
+        Message::Down(down) => print_down(rt, down),
+        Message::Up(up) => print_up(rt, up),
+        Message::ToClient(to_client) => print_to_client(rt, to_client),
+        Message::FromClient(from_client) => print_from_client(rt, from_client),
+        Message::Peer(peer) => print_peer(rt, peer),
+        Message::Hello { role, id } => print_numbers(rt, role_name(*role), &[u64::from(*id)]),
     }
 }

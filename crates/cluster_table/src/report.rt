@@ -11,12 +11,10 @@ use std::io;
 
 // Counts the event of a line, and the message behind it, if there is one.
 fn count(alloc: Global, tally: &mut Tally, line: &str) -> Result<(), RowError> {
-    let mut words = Words::of(alloc, line);
-    let event = read_event(&mut words)?;
-    match read_taken(&mut words)? {
-        Some(message) => tally.count(&event, Some(&message))?,
-        None => tally.count(&event, None)?,
-    }
+    let (event, message) = line.split_once('|').unwrap_or((line, ""));
+    let event = read_event(&mut Words::of(alloc, event))?;
+    let message = read_taken(alloc, message)?;
+    tally.count(&event, message.as_ref())?;
     Ok(())
 }
 
@@ -36,17 +34,14 @@ fn report_of(alloc: Global, setting: &mut Words<'_>, events: &str) -> Result<Rep
 
 /// A report.
 pub fn print_report<R: Print>(rt: &R, report: &Report) -> io::Result<()> {
-    println!(rt; "keys {} edges {}", report.keys, report.edges)?;
-    println!(rt; "started {}", report.started)?;
+    let (keys, edges, started) = (report.keys, report.edges, report.started);
+    println!(rt; "keys {keys} edges {edges}\nstarted {started}")?;
     for (worker, started) in report.workers.as_slice() {
         println!(rt; "worker {worker} started {started}")?;
     }
-    println!(rt; "gathers {}", report.gathers)?;
-    println!(rt;
-        "steals confirmed {} refused {}",
-        report.confirmed, report.refused
-    )?;
-    println!(rt; "losses {}", report.losses)
+    let (gathers, losses) = (report.gathers, report.losses);
+    let (yes, no) = (report.confirmed, report.refused);
+    println!(rt; "gathers {gathers}\nsteals confirmed {yes} refused {no}\nlosses {losses}")
 }
 
 /// Plays a story of a report.
