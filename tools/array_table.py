@@ -642,7 +642,7 @@ def over_inputs():
 def over_files():
     for text, bounds, files, failing, why in array_regions.FILES:
         made = build(text)
-        held = " ".join(f"{given_block(values)} {missing}" for values, missing in files)
+        held = " ".join(given_block(values) for values, _ in files) + " " + array_words.listed(missing for _, missing in files)
         label = f"({text}){region_text(bounds)}, of files without {', '.join(str(missing) for _, missing in files)} bytes"
         label += "" if failing is None else f", read {failing} fails"
         wanted = part_answer(made, bounds) if why is None else f" refused, {why}"
@@ -669,7 +669,7 @@ def regions():
 def lines():
     yield from expressions()
     yield "fill 65536", " 65536 nodes, 65536 places"
-    yield "fill 65537", " refused, limit nodes"
+    yield "fill 65537", " 65536 nodes, 65536 places, refused, limit nodes"
     yield from over_inputs()
     yield from over_files()
     yield from regions()

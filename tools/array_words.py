@@ -241,7 +241,7 @@ def blocks():
         yield f"negate {given(cells)}", cells_of(np.negative(array(cells)))
     five = array([0, 1, 2, 3, 4])
     for start, stop, step in TAKEN:
-        yield f"taken {listed(five)} {maybe(start)} {maybe(stop)} {maybe(step)}", cells_of(five[start:stop:step])
+        yield f"taken {maybe(start)} {maybe(stop)} {maybe(step)} {listed(five)}", cells_of(five[start:stop:step])
     for cells in TABLES:
         table = array(cells).reshape(2, 3)
         yield f"turned {listed(cells)}", cells_of(table.T)
@@ -254,7 +254,7 @@ def ramps():
         places = np.arange(math.prod(dims), dtype=np.int64).reshape(dims)
         whole = np.asarray(np.int64(start) + np.int64(step) * places)
         part = whole[tuple(slice(s, s + n) for s, n in zip(starts, lengths))]
-        yield f"ramp {listed(dims)} {listed(starts)} {listed(lengths)} {start} {step}", cells_of(np.asarray(part))
+        yield f"ramp {start} {step} {listed(starts)} {listed(lengths)} {listed(dims)}", cells_of(np.asarray(part))
 
 
 def part_of(order, dims, starts, lengths):
@@ -286,11 +286,11 @@ def runs_of(places, targets):
 
 def storage():
     for order, dims, starts, lengths in STORED:
-        words = f"{ORDERS[order]} {listed(dims)} {listed(starts)} {listed(lengths)}"
+        region = f"{listed(starts)} {listed(lengths)}"
         places, targets = part_of(order, dims, starts, lengths)
         walked = "".join(f" {p}" for p in places)
-        yield f"walk {words}", f"{walked} in rows of {row_len(places)}" if places else " none"
-        yield f"runs {words}", "".join(f" {n} from {at} to {place}" for n, at, place in runs_of(places, targets))
+        yield f"walk {ORDERS[order]} {listed(dims)} {region}", f"{walked} in rows of {row_len(places)}" if places else " none"
+        yield f"runs {ORDERS[order]} {region} {listed(dims)}", "".join(f" {n} from {at} to {place}" for n, at, place in runs_of(places, targets))
     for dims in TURNED:
         cells = np.arange(1, math.prod(dims) + 1)
         yield f"row-major {listed(dims)} {listed(cells)}", f" {listed(cells.reshape(dims, order='F').ravel())}"
@@ -302,13 +302,8 @@ def storage():
 def lists():
     yield "dims 3,4", " 3,4"
     yield "dims ()", " ()"
-    yield "sizes 5,6", " 5,6"
-    yield "parts -1,2", " at -1 at 2 all"
-    yield "steps 1,7", " start 1 step -1 count 2 start 7 step -1 count 2"
-    yield "specs 2 1,2", " even 2 list 1,2"
+    yield "specs 2 2 -1 2 1 2", " even 2 list 1,2"
     yield "shapes 7 2,3", " 7 2,3"
-    yield "pieces 2 3 4", " 1 2 3"
-    yield "ids 0,4294967295", " 0 4294967295"
 
 
 def lines():

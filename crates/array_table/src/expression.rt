@@ -11,13 +11,13 @@ use input_regions::needed_regions;
 use nd_shape::{Block, Dims, Region, Specs};
 use node_reach::needed;
 use plain_eval::{Held, PlainOutcome, evaluate, evaluate_all};
-use std::alloc::{AllocError, Global};
+use std::alloc::Global;
 
 // The most nodes of a line.
 const MOST: usize = 64;
 
-/// Adds the nodes that the words stand for.
-pub fn add_nodes(row: &mut Row, expr: &mut Expr) -> Result<(), Why> {
+// Adds the nodes that the words stand for.
+fn add_nodes(row: &mut Row, expr: &mut Expr) -> Result<(), Why> {
     for _ in 0..MOST {
         if row.is_empty() {
             break;
@@ -26,6 +26,15 @@ pub fn add_nodes(row: &mut Row, expr: &mut Expr) -> Result<(), Why> {
         expr.add_node(op)?;
     }
     Ok(())
+}
+
+/// The expression whose nodes the words stand for.
+pub fn expression(row: &mut Row) -> Result<Expr, Why> {
+    let mut expr = Expr::new(row.alloc());
+    match add_nodes(row, &mut expr) {
+        Ok(()) => Ok(expr),
+        Err(why) => Err(why),
+    }
 }
 
 /// The last node.
@@ -40,19 +49,14 @@ pub fn last_node(expr: &Expr) -> Result<NodeId, Why>
 }
 
 /// Puts what a region of a node is, or the first place in the region that met a zero divisor.
-pub fn put_outcome(out: &mut String, outcome: &PlainOutcome) -> Result<(), AllocError> {
+pub fn put_outcome(out: &mut String, outcome: &PlainOutcome) -> Result<(), Why> {
     match outcome {
-        PlainOutcome::Values(block) => put_cells(out, block.shape(), block.cells()),
-        PlainOutcome::Zero { position, .. } => write!(out, " zero divisor at {position}"),
+        PlainOutcome::Values(block) => Ok(put_cells(out, block.shape(), block.cells())?),
+        PlainOutcome::Zero { position, .. } => Ok(write!(out, " zero divisor at {position}")?),
     }
 }
 
-fn outcome(
-    alloc: Global,
-    expr: &Expr,
-    region: &Region,
-    blocks: &[Block],
-) -> Result<PlainOutcome, Why> {
+fn put_part(out: &mut String, expr: &Expr, region: &Region, blocks: &[Block]) -> Result<(), Why> {
     let node = last_node(expr)?;
     if !region.is_part(expr.shape_of(node).dims()) {
         return Err(Why::Ill);
@@ -60,47 +64,32 @@ fn outcome(
     if !have_blocks(expr.nodes(), node.number() as usize + 1, blocks) {
         return Err(Why::Ill);
     }
-    Ok(evaluate(alloc, expr, node, region, blocks)?)
+    let outcome = evaluate(*out.allocator(), expr, node, region, blocks)?;
+    put_outcome(out, &outcome)
 }
 
-// The region of all of the last node.
-fn whole(expr: &Expr) -> Result<Region, Why> {
+fn put_whole(out: &mut String, expr: &Expr) -> Result<(), Why> {
     let node = last_node(expr)?;
-    Ok(Region::whole(expr.shape_of(node).dims()))
+    let region = Region::whole(expr.shape_of(node).dims());
+    put_part(out, expr, &region, &[])
 }
 
 /// `eval NODES`: the array of the last node, which needs no input.
 pub fn eval(row: &mut Row, out: &mut String) -> Result<(), Why> {
-    let mut expr = Expr::new(row.alloc());
-    add_nodes(row, &mut expr)?;
-    let region = whole(&expr)?;
-    let outcome = outcome(row.alloc(), &expr, &region, &[])?;
-    put_outcome(out, &outcome)?;
-    Ok(())
+    let expr = expression(row)?;
+    put_whole(out, &expr)
 }
 
-// How many, and so many blocks.
-fn blocks(row: &mut Row) -> Result<Vec<Block>, Why> {
-    let count = row.natural()?;
-    let mut blocks = Vec::new(row.alloc());
-    for _ in 0..count {
-        blocks.push(row.block()?)?;
-    }
-    Ok(blocks)
-}
-
-/// `part STARTS LENGTHS BLOCKS NODES`: a region of the last node over the blocks of its inputs.
+/// `part STARTS LENGTHS COUNT BLOCKS NODES`: a region of the last node over the blocks of its inputs.
 pub fn part(row: &mut Row, out: &mut String) -> Result<(), Why> {
     let region = row.region()?;
-    let blocks = blocks(row)?;
-    let mut expr = Expr::new(row.alloc());
-    add_nodes(row, &mut expr)?;
-    let outcome = outcome(row.alloc(), &expr, &region, &blocks)?;
-    put_outcome(out, &outcome)?;
-    Ok(())
+    let count = row.natural()?;
+    let blocks = row.blocks(count)?;
+    let expr = expression(row)?;
+    put_part(out, &expr, &region, &blocks)
 }
 
-fn put_held(out: &mut String, held: &Held) -> Result<(), AllocError> {
+fn put_held(out: &mut String, held: &Held) -> Result<(), Why> {
     out.push_str(" |")?;
     for len in held.dims() {
         write!(out, " {len}")?;
@@ -117,30 +106,36 @@ fn put_all(out: &mut String, expr: &Expr, blocks: &[Block]) -> Result<(), Why> {
     if !have_blocks(nodes, nodes.len(), blocks) {
         return Err(Why::Ill);
     }
-    for held in &evaluate_all(*out.allocator(), expr, blocks)? {
+    let arrays = evaluate_all(*out.allocator(), expr, blocks)?;
+    for held in &arrays {
         put_held(out, held)?;
     }
     Ok(())
 }
 
-/// `all BLOCKS NODES`: the array of each node over the blocks of the inputs.
+/// `all COUNT BLOCKS NODES`: the array of each node over the blocks of the inputs.
 pub fn all(row: &mut Row, out: &mut String) -> Result<(), Why> {
-    let blocks = blocks(row)?;
-    let mut expr = Expr::new(row.alloc());
-    add_nodes(row, &mut expr)?;
+    let count = row.natural()?;
+    let blocks = row.blocks(count)?;
+    let expr = expression(row)?;
     put_all(out, &expr, &blocks)
 }
 
-fn put_needed(out: &mut String, expr: &Expr, region: &Region) -> Result<(), Why> {
+fn put_need(out: &mut String, region: &Option<Region>) -> Result<(), Why> {
+    match region {
+        Some(region) => Ok(put_region(out, region)?),
+        None => Ok(out.push_str(" none")?),
+    }
+}
+
+fn put_needs(out: &mut String, expr: &Expr, region: &Region) -> Result<(), Why> {
     let node = last_node(expr)?;
     if !region.is_part(expr.shape_of(node).dims()) {
         return Err(Why::Ill);
     }
-    for needs in &needed_regions(*out.allocator(), expr, node, region)? {
-        match needs {
-            Some(region) => put_region(out, region)?,
-            None => out.push_str(" none")?,
-        }
+    let regions = needed_regions(*out.allocator(), expr, node, region)?;
+    for region in &regions {
+        put_need(out, region)?;
     }
     Ok(())
 }
@@ -148,9 +143,8 @@ fn put_needed(out: &mut String, expr: &Expr, region: &Region) -> Result<(), Why>
 /// `needs STARTS LENGTHS NODES`: what a region of the last node needs of each node.
 pub fn needs(row: &mut Row, out: &mut String) -> Result<(), Why> {
     let region = row.region()?;
-    let mut expr = Expr::new(row.alloc());
-    add_nodes(row, &mut expr)?;
-    put_needed(out, &expr, &region)
+    let expr = expression(row)?;
+    put_needs(out, &expr, &region)
 }
 
 // Nodes among the first so many.
@@ -168,10 +162,8 @@ fn roots(alloc: Global, numbers: &[u64], count: usize) -> Result<Vec<NodeId>, Wh
     Ok(roots)
 }
 
-fn put_reached(out: &mut String, expr: &Expr, numbers: &[u64]) -> Result<(), Why> {
-    let alloc = *out.allocator();
-    let roots = roots(alloc, numbers, expr.nodes().len())?;
-    for (node, mark) in needed(alloc, expr, &roots)?.iter().enumerate() {
+fn put_marks(out: &mut String, marks: &[bool]) -> Result<(), Why> {
+    for (node, mark) in marks.iter().enumerate() {
         if *mark {
             write!(out, " {node}")?;
         }
@@ -179,11 +171,17 @@ fn put_reached(out: &mut String, expr: &Expr, numbers: &[u64]) -> Result<(), Why
     Ok(())
 }
 
+fn put_reached(out: &mut String, expr: &Expr, numbers: &[u64]) -> Result<(), Why> {
+    let alloc = *out.allocator();
+    let roots = roots(alloc, numbers, expr.nodes().len())?;
+    let marks = needed(alloc, expr, &roots)?;
+    put_marks(out, &marks)
+}
+
 /// `reach ROOTS NODES`: the nodes that are needed for these.
 pub fn reach(row: &mut Row, out: &mut String) -> Result<(), Why> {
     let numbers = row.naturals()?;
-    let mut expr = Expr::new(row.alloc());
-    add_nodes(row, &mut expr)?;
+    let expr = expression(row)?;
     put_reached(out, &expr, &numbers)
 }
 
@@ -201,16 +199,23 @@ fn add_point(alloc: Global, expr: &mut Expr, places: &mut Spans) -> Result<(), W
     Ok(())
 }
 
-/// `fill COUNT`: so many nodes, and how many there are.
+fn add_points(alloc: Global, count: u64, expr: &mut Expr, places: &mut Spans) -> Result<(), Why> {
+    for _ in 0..count {
+        add_point(alloc, expr, places)?;
+    }
+    Ok(())
+}
+
+/// `fill COUNT`: so many nodes, how many there are, and why there aren't more.
 pub fn fill(row: &mut Row, out: &mut String) -> Result<(), Why> {
     let count = row.natural()?;
     let mut expr = Expr::new(row.alloc());
     let mut places = Spans::new(row.alloc());
-    for _ in 0..count {
-        add_point(row.alloc(), &mut expr, &mut places)?;
-    }
+    let added = add_points(row.alloc(), count, &mut expr, &mut places);
     let nodes = expr.nodes().len();
     let places = places.as_slice().len();
-    write!(out, " {nodes} nodes, {places} places")?;
-    Ok(())
+    match added {
+        Ok(()) => Ok(write!(out, " {nodes} nodes, {places} places")?),
+        Err(why) => Ok(write!(out, " {nodes} nodes, {places} places, {why}")?),
+    }
 }

@@ -1,11 +1,11 @@
 // What is asked of expressions over two files in memory.
-ghost use Rattle.std.specs.Prelude.{◌≡◌, ◌<◌, ◌≤◌, ◌+◌, List, length};
+ghost use Rattle.std.specs.Prelude.{◌≡◌, ◌<◌, ◌+◌, List, length};
 ghost use Rattle.io_edge.specs.Content.{Content};
 ghost use Rattle.nd_shape.specs.Region.{IsPart};
 ghost use Rattle.array_expr.specs.Node.{shape_at};
 ghost use Rattle.plain_block.specs.Files.{HaveFiles};
 
-use crate::expression::{add_nodes, last_node, put_outcome};
+use crate::expression::{expression, last_node, put_outcome};
 use crate::inputs::have_files;
 use crate::row::Row;
 use crate::why::Why;
@@ -27,8 +27,24 @@ fn bytes(alloc: Global, block: &Block, missing: u64) -> Result<Vec<u8>, AllocErr
     Ok(bytes)
 }
 
-// A place for two files, in which one read is to fail.
-fn site(alloc: Global, failing: Option<i64>) -> Result<MemorySite, AllocError> {
+fn head(alloc: Global, block: &Block) -> Result<Head, AllocError> {
+    Ok(Head {
+        shape: block.shape().copy(alloc)?,
+        fortran: false,
+        data_at: 128,
+    })
+}
+
+fn heads(alloc: Global, blocks: &[Block]) -> Result<Vec<Head>, AllocError> {
+    let mut heads = Vec::new(alloc);
+    for block in blocks {
+        heads.push(head(alloc, block)?)?;
+    }
+    Ok(heads)
+}
+
+// The read that is to fail.
+fn refusals(alloc: Global, failing: Option<i64>) -> Result<Vec<Refusal>, AllocError> {
     let mut refusals = Vec::new(alloc);
     if let Some(call) = failing {
         refusals.push(Refusal {
@@ -37,20 +53,39 @@ fn site(alloc: Global, failing: Option<i64>) -> Result<MemorySite, AllocError> {
             call: call.unsigned_abs(),
         })?;
     }
-    MemorySite::new(alloc, 0, refusals)
+    Ok(refusals)
 }
 
-// Puts a file in place, by its block and the number of bytes that are missing, and answers its head.
-fn put_file(row: &mut Row, site: &mut MemorySite, name: &str) -> Result<Head, Why> {
-    let block = row.block()?;
-    let missing = row.natural()?;
-    let bytes = bytes(row.alloc(), &block, missing)?;
-    site.put(row.alloc(), name, &bytes)?;
-    Ok(Head {
-        shape: block.shape().copy(row.alloc())?,
-        fortran: false,
-        data_at: 128,
-    })
+// Puts a file in place, by its block and the number of bytes that are missing.
+fn put_file(
+    alloc: Global,
+    site: &mut MemorySite,
+    name: &str,
+    block: &Block,
+    missing: u64,
+) -> Result<(), AllocError> {
+    let bytes = bytes(alloc, block, missing)?;
+    site.put(alloc, name, &bytes)
+}
+
+fn put_files(
+    alloc: Global,
+    site: &mut MemorySite,
+    blocks: &[Block],
+    missing: &[u64],
+) -> Result<(), Why> {
+    match (blocks, missing) {
+        ([first, second], [of_first, of_second]) => {
+            put_file(alloc, site, "a.npy", first, *of_first)?;
+            Ok(put_file(alloc, site, "b.npy", second, *of_second)?)
+        }
+        _ => Err(Why::Ill),
+    }
+}
+
+fn names(alloc: Global) -> Result<[String; 2], AllocError> {
+    let first = String::from_str(alloc, "a.npy")?;
+    Ok([first, String::from_str(alloc, "b.npy")?])
 }
 
 // What a region of a node is over the two files.
@@ -66,10 +101,7 @@ fn over_files<S: Site>(
     requires region { IsPart region.now (shape_at expr.now node) }
     requires files { (files : List Content) → length files ≡ 2 → HaveFiles expr.now (node + 1) files heads.now }
 {
-    let names = [
-        String::from_str(alloc, "a.npy")?,
-        String::from_str(alloc, "b.npy")?,
-    ];
+    let names = names(alloc)?;
     let mut store = match site.store(alloc, &names) {
         Ok(store) => store,
         Err(_) => return Err(Why::Ill),
@@ -97,17 +129,42 @@ fn outcome<S: Site>(
     over_files(alloc, expr, node, region, site, heads)
 }
 
-/// `files STARTS LENGTHS FAILING LENGTHS ELEMENTS MISSING LENGTHS ELEMENTS MISSING NODES`: a region of the last node over
-/// two files, each without some bytes at its end. The read with the number FAILING, from 0, fails.
+fn put_over(
+    out: &mut String,
+    expr: &Expr,
+    region: &Region,
+    site: &mut MemorySite,
+    blocks: &[Block],
+) -> Result<(), Why> {
+    let alloc = *out.allocator();
+    let heads = heads(alloc, blocks)?;
+    let outcome = outcome(alloc, expr, region, site, &heads)?;
+    put_outcome(out, &outcome)
+}
+
+fn put_in_files(
+    out: &mut String,
+    expr: &Expr,
+    region: &Region,
+    blocks: &[Block],
+    missing: &[u64],
+    failing: Option<i64>,
+) -> Result<(), Why> {
+    let alloc = *out.allocator();
+    let mut site = MemorySite::new(alloc, 0, refusals(alloc, failing)?)?;
+    match put_files(alloc, &mut site, blocks, missing) {
+        Ok(()) => put_over(out, expr, region, &mut site, blocks),
+        Err(why) => Err(why),
+    }
+}
+
+/// `files STARTS LENGTHS FAILING LENGTHS ELEMENTS LENGTHS ELEMENTS MISSING NODES`: a region of the last node over two
+/// files, each without so many bytes at its end. The read with the number FAILING, from 0, fails.
 pub fn files(row: &mut Row, out: &mut String) -> Result<(), Why> {
     let region = row.region()?;
     let failing = row.optional()?;
-    let mut site = site(row.alloc(), failing)?;
-    let first = put_file(row, &mut site, "a.npy")?;
-    let second = put_file(row, &mut site, "b.npy")?;
-    let mut expr = Expr::new(row.alloc());
-    add_nodes(row, &mut expr)?;
-    let outcome = outcome(row.alloc(), &expr, &region, &mut site, &[first, second])?;
-    put_outcome(out, &outcome)?;
-    Ok(())
+    let blocks = row.blocks(2)?;
+    let missing = row.naturals()?;
+    let expr = expression(row)?;
+    put_in_files(out, &expr, &region, &blocks, &missing, failing)
 }

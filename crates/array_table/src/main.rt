@@ -8,12 +8,14 @@
 //! operation's number and what it needs (`operation`).
 //!
 //! `tools/array_table.py` writes the lines and the answers: those of shapes, elements, blocks, expressions and orders of
-//! storage are NumPy's, those of slices are Python's `slice` and `range`, and those of chunks follow Dask's page. What
-//! NumPy doesn't have is counted by hand there: which region a region needs, the runs of a file, and which nodes others
-//! need. The words of refusals are this project's, where NumPy refuses too, or has no such rule.
+//! storage are NumPy's, those of slices are Python's `slice` and `range`, those of chunks follow Dask's page, and the runs
+//! of a file are put together from NumPy's places. What NumPy doesn't have is counted by hand: which region a region
+//! needs, which nodes others need, and what of a short file is missing. The words of refusals are this project's, where
+//! NumPy refuses too, or has no such rule.
 #![tactic(auto)]
 
 mod axes;
+mod blocks;
 mod elements;
 mod expression;
 mod files;
@@ -57,14 +59,14 @@ fn block_answer(word: &str, row: &mut Row, out: &mut String) -> Result<(), Why> 
         "pick" => elements::picked(row, out),
         "negative" => elements::negative(row, out),
         "fold" => elements::folded(row, out),
-        "block" => elements::block(row, out),
-        "blocks" => elements::blocks(row, out),
-        "choose" => elements::chosen(row, out),
-        "negate" => elements::negated(row, out),
-        "ramp" => elements::ramp(row, out),
-        "taken" => elements::taken(row, out),
-        "turned" => elements::turned(row, out),
-        "columns" => elements::columns(row, out),
+        "block" => blocks::block(row, out),
+        "blocks" => blocks::blocks(row, out),
+        "choose" => blocks::chosen(row, out),
+        "negate" => blocks::negated(row, out),
+        "ramp" => blocks::ramp(row, out),
+        "taken" => blocks::taken(row, out),
+        "turned" => blocks::turned(row, out),
+        "columns" => blocks::columns(row, out),
         "walk" => storage::walk(row, out),
         "row-major" => storage::row_major(row, out),
         "targets" => storage::targets(row, out),
@@ -77,13 +79,8 @@ fn block_answer(word: &str, row: &mut Row, out: &mut String) -> Result<(), Why> 
 fn list_answer(word: &str, row: &mut Row, out: &mut String) -> Result<(), Why> {
     match word {
         "dims" => lists::dims(row, out),
-        "sizes" => lists::sizes(row, out),
-        "parts" => lists::parts(row, out),
-        "steps" => lists::steps(row, out),
         "specs" => lists::specs(row, out),
         "shapes" => lists::shapes(row, out),
-        "pieces" => lists::pieces(row, out),
-        "ids" => lists::ids(row, out),
         _ => block_answer(word, row, out),
     }
 }
@@ -102,29 +99,36 @@ fn answer(word: &str, row: &mut Row, out: &mut String) -> Result<(), Why> {
     }
 }
 
-fn answer_of(alloc: Global, words: &str) -> Result<String, Why> {
-    let mut out = String::new(alloc);
-    let mut row = Row::parse(alloc, words)?;
+// Takes all words of a line.
+fn take(row: &mut Row, out: &mut String) -> Result<(), Why> {
     let word = row.word()?;
-    answer(word, &mut row, &mut out)?;
+    answer(word, row, out)?;
     if row.is_empty() {
-        Ok(out)
+        Ok(())
     } else {
         Err(Why::Ill)
+    }
+}
+
+fn put_answer(out: &mut String, words: &str) -> Result<(), Why> {
+    let mut row = Row::parse(*out.allocator(), words)?;
+    take(&mut row, out)
+}
+
+// Prints what a line asks, and the answer.
+fn print_answer<R: Print>(rt: &R, alloc: Global, line: &str) -> io::Result<()> {
+    let (words, asked) = line.split_once('#').unwrap_or((line, line));
+    let mut out = String::new(alloc);
+    match put_answer(&mut out, words) {
+        Ok(()) => println!(rt; "{asked}:{}", out.as_str()),
+        Err(why) => println!(rt; "{asked}: {why}"),
     }
 }
 
 fn main(rt: HostRuntime) -> io::Result<()> {
     for line in rt.lines(rt.alloc()) {
         let line = line?;
-        let (words, asked) = line
-            .as_str()
-            .split_once('#')
-            .unwrap_or((line.as_str(), line.as_str()));
-        match answer_of(rt.alloc(), words) {
-            Ok(answer) => println!(rt; "{asked}:{}", answer.as_str())?,
-            Err(why) => println!(rt; "{asked}: {why}")?,
-        }
+        print_answer(&rt, rt.alloc(), line.as_str())?;
     }
     Ok(())
 }

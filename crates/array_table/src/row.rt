@@ -29,6 +29,22 @@ fn natural_of(word: &str) -> Result<u64, Why> {
     }
 }
 
+fn naturals_of(alloc: Global, word: &str) -> Result<Vec<u64>, Why> {
+    let mut list = Vec::new(alloc);
+    for number in word.split(',') {
+        list.push(natural_of(number)?)?;
+    }
+    Ok(list)
+}
+
+fn numbers_of(alloc: Global, word: &str) -> Result<Vec<i64>, Why> {
+    let mut list = Vec::new(alloc);
+    for number in word.split(',') {
+        list.push(number_of(number)?)?;
+    }
+    Ok(list)
+}
+
 impl<'a> Row<'a> {
     /// The words of a text, between blanks.
     pub fn parse(alloc: Global, text: &'a str) -> Result<Self, AllocError> {
@@ -83,28 +99,18 @@ impl<'a> Row<'a> {
 
     /// Numbers between commas, or `()` for none.
     pub fn naturals(&mut self) -> Result<Vec<u64>, Why> {
-        let mut list = Vec::new(self.alloc);
-        let word = self.word()?;
-        if word == "()" {
-            return Ok(list);
+        match self.word()? {
+            "()" => Ok(Vec::new(self.alloc)),
+            word => naturals_of(self.alloc, word),
         }
-        for number in word.split(',') {
-            list.push(natural_of(number)?)?;
-        }
-        Ok(list)
     }
 
     /// Numbers of either sign between commas, or `()` for none.
     pub fn numbers(&mut self) -> Result<Vec<i64>, Why> {
-        let mut list = Vec::new(self.alloc);
-        let word = self.word()?;
-        if word == "()" {
-            return Ok(list);
+        match self.word()? {
+            "()" => Ok(Vec::new(self.alloc)),
+            word => numbers_of(self.alloc, word),
         }
-        for number in word.split(',') {
-            list.push(number_of(number)?)?;
-        }
-        Ok(list)
     }
 
     /// The lengths of a shape, between commas.
@@ -123,13 +129,28 @@ impl<'a> Row<'a> {
         Ok(Block::new(shape, cells))
     }
 
+    /// So many shapes.
+    pub fn shapes(&mut self, count: u64) -> Result<Vec<Shape>, Why> {
+        let mut shapes = Vec::new(self.alloc);
+        for _ in 0..count {
+            shapes.push(self.shape()?)?;
+        }
+        Ok(shapes)
+    }
+
+    /// So many blocks.
+    pub fn blocks(&mut self, count: u64) -> Result<Vec<Block>, Why> {
+        let mut blocks = Vec::new(self.alloc);
+        for _ in 0..count {
+            blocks.push(self.block()?)?;
+        }
+        Ok(blocks)
+    }
+
     /// The first index on each axis, and as many lengths.
     pub fn region(&mut self) -> Result<Region, Why> {
         let starts = self.naturals()?;
         let lengths = self.naturals()?;
-        if starts.len() != lengths.len() {
-            return Err(Why::Ill);
-        }
         region_of(&starts, &lengths)
     }
 
@@ -200,6 +221,9 @@ impl<'a> Row<'a> {
 
 // A region of at most eight axes.
 fn region_of(starts: &[u64], lengths: &[u64]) -> Result<Region, Why> {
+    if starts.len() != lengths.len() {
+        return Err(Why::Ill);
+    }
     let mut region = Region::new();
     for (start, len) in starts.iter().zip(lengths) {
         if region.lengths().len() >= 8 {

@@ -1,5 +1,5 @@
 // Answers as text.
-use nd_shape::{Region, Shape, Steps};
+use nd_shape::{Region, Shape};
 use std::alloc::AllocError;
 use std::fmt::Display;
 
@@ -42,10 +42,4 @@ pub fn put_region(out: &mut String, region: &Region) -> Result<(), AllocError> {
     put_list(out, region.starts())?;
     out.push_str(" so many")?;
     put_list(out, region.lengths())
-}
-
-/// Puts a start, a step and a count.
-pub fn put_steps(out: &mut String, steps: Steps) -> Result<(), AllocError> {
-    let Steps { start, step, count } = steps;
-    write!(out, " start {start} step {step} count {count}")
 }
