@@ -1,10 +1,11 @@
 #!/usr/bin/env python3
-"""Writes the rows of the program numpy_table, and what NumPy gives for each.
+"""Writes the lines of the program array_table, and the answer to each.
 
-    python3 tools/numpy_table.py          writes crates/numpy_table/stdin and crates/numpy_table/stdout
+    python3 tools/array_table.py          writes crates/array_table/stdin and crates/array_table/stdout
 
-Each case is an expression. It is evaluated twice: once by NumPy on arrays of int64, and once to the numbers that the
-program reads. Beside its array each expression has a mask of the elements that met a zero divisor, made by the same
+`array_words.py` has the lines on shapes, chunks, elements, blocks and storage, `slices.py` those on slices, and
+`array_regions.py` the cases of expressions over inputs and of regions. The others, here, are expressions. Each is
+evaluated twice: once by NumPy on arrays of int64, and once to the numbers that the program reads. Beside its array each expression has a mask of the elements that met a zero divisor, made by the same
 NumPy calls on masks; the first of them in row-major order is what the program names. A case that is refused has the
 program's words for it, and NumPy must raise an error for it too, unless the rule is Dask's or this project's own.
 """
@@ -12,6 +13,10 @@ program's words for it, and NumPy must raise an error for it too, unless the rul
 import os
 
 import numpy as np
+
+import array_regions
+import array_words
+import slices
 
 MIN, MAX = -(2**63), 2**63 - 1
 BINARY = {"+": 0, "-": 1, "*": 2, "//": 3, "%": 4, "minimum": 5, "maximum": 6}
@@ -27,11 +32,11 @@ class Refused(Exception):
 
 
 class Row:
-    numbers, count = [], 0
+    numbers, made = [], []
 
 
 def begin():
-    Row.numbers, Row.count = [], 0
+    Row.numbers, Row.made = [], []
 
 
 def node(numbers, make):
@@ -42,8 +47,9 @@ def node(numbers, make):
             value, bad = make()
     except (ValueError, IndexError, TypeError) as e:
         raise Refused(str(e)) from e
-    Row.count += 1
-    return Node(Row.count - 1, np.asarray(value, dtype=np.int64), np.asarray(bad, dtype=bool))
+    made = Node(len(Row.made), np.asarray(value, dtype=np.int64), np.asarray(bad, dtype=bool))
+    Row.made.append(made)
+    return made
 
 
 def counted(items):
@@ -75,6 +81,19 @@ def ramp(dims, start, step, chunks=None):
         return np.add(np.int64(start), np.multiply(np.int64(step), places)), np.zeros(dims, bool)
 
     return node([1, start, step] + counted(dims) + specs(chunks), make)
+
+
+def given(values):
+    """An array that a file holds."""
+    held = np.array(values, dtype=np.int64)
+    return node([11] + counted(held.shape) + specs((1,) * held.ndim), lambda: (held, np.zeros(held.shape, bool)))
+
+
+def doubled(a, times):
+    """The sum of an array with itself, and of that with itself, and so on."""
+    for _ in range(times):
+        a = a + a
+    return a
 
 
 def array(values):
@@ -234,6 +253,7 @@ ramp((5,), 3, 0)
 -full((2,), 2**63 - 1)
 -(-ramp((2, 2), 0, 1))
 -full((0,), 1)
+-full((2, 0), 1)
 -(ramp((3,), 1, 1) // array([1, 0, 1]))
 -ramp((1, 1, 1, 1, 1, 1, 1, 2), 1, 1)
 -full((3,), 0)
@@ -322,6 +342,7 @@ maximum(ramp((2, 2), 0, 1), ramp((2,), 1, 1))
 maximum(full((1, 1, 1, 1, 1, 1, 1, 1), 3), 2)
 where(array([1, 0, -5]), ramp((3,), 0, 1), ramp((3,), 10, 1))
 where(array([1, 0]), 5, 6)
+where(ramp((2, 1), 0, 1), (x := ramp((3,), 0, 1)), x)
 where(1, full((2,), 3), full((2,), 4))
 where(0, full((2,), 3), full((2,), 4))
 where(ramp((2, 1), 0, 1), ramp((1, 3), 0, 1), ramp((3,), 10, 1))
@@ -344,6 +365,8 @@ ramp((5,), 0, 1)[2]
 ramp((5,), 0, 1)[-5]
 ramp((3, 4), 0, 1)[1]
 ramp((3, 4), 0, 1)[:, 2]
+ramp((2, 3), 0, 1)[-1]
+ramp((2, 3), 0, 1)[:, 0]
 ramp((3, 4), 0, 1)[::-1, 1::2]
 ramp((3, 4), 0, 1)[2, -1]
 ramp((2, 3, 4), 0, 1)[:, 1, ::-3]
@@ -378,6 +401,7 @@ concatenate([ramp((2,), 0, 1), ramp((3,), 10, 1)], 0)
 concatenate([ramp((2, 2), 0, 1), ramp((1, 2), 10, 1)], 0)
 concatenate([ramp((2, 2), 0, 1), ramp((2, 1), 10, 1)], 1)
 concatenate([ramp((3,), 0, 1)], 0)
+concatenate([ramp((2, 3), 0, 1), ramp((4, 3), 10, 1)], 0)
 concatenate([full((0,), 1), ramp((2,), 0, 1), full((0,), 1)], 0)
 concatenate([full((0, 3), 1), ramp((2, 3), 0, 1)], 0)
 concatenate([(x := ramp((2,), 0, 1)), x, x], 0)
@@ -400,6 +424,7 @@ sum(ramp((10,), 0, 1, (1,)), None, 2)
 sum(ramp((1, 1, 1, 1, 1, 1, 2, 2), 1, 1))
 prod(ramp((4,), 1, 1))
 prod(full((0,), 5))
+prod(full((2, 0), 5))
 prod(ramp((2, 3), 1, 1), (0,))
 prod(ramp((2, 3), 1, 1), (1,))
 prod(full((64,), 2))
@@ -430,6 +455,7 @@ max(array([[3, 1], [2, 4]]), (0,))
 max(-ramp((2, 2), 1, 1))
 tensordot(array([[1, 2, 3], [4, 5, 6]]), array([[1, 2], [3, 4], [5, 6]]), (1,), (0,))
 tensordot(ramp((3,), 1, 1), ramp((3,), 1, 1), (0,), (0,))
+tensordot(ramp((2, 3), 0, 1), ramp((3, 2), 0, 1), (1,), (0,))
 tensordot(ramp((2,), 1, 1), ramp((3,), 1, 1), (), ())
 tensordot(ramp((2, 3), 0, 1), ramp((2, 3), 0, 1), (0, 1), (0, 1))
 tensordot(ramp((2, 3), 0, 1), ramp((3, 2), 0, 1), (1, 0), (0, 1))
@@ -482,19 +508,50 @@ REFUSED = [
     ("full((4,), 1, ((4, 0),))", "chunks: axis 0: zero chunk", "own"),
     ("ramp((4,), 0, 1, (0,))", "chunks: axis 0: zero chunk", "own"),
     ("rechunk(ramp((4,), 0, 1), ((3,),))", "chunks: axis 0: sum 3, length 4", "own"),
+    ("ramp((5,), 0, 1)[:, 9]", "shape: 2 parts for 1 axes", "numpy"),
+    ("ramp((2, 3), 0, 1)[0, 0, 0]", "shape: 3 parts for 2 axes", "numpy"),
+    ("ramp((2, 3), 0, 1)[::0, 3]", "shape: step 0", "numpy"),
+    ("ramp((2, 3), 0, 1)[-3, 9]", "shape: index -3 of length 2", "numpy"),
+    ("full((1,) * 8 + (2147483649,), 1, ())", "limit axes", "own"),
+    ("full((0, 2147483649), 1, (0,))", "limit elements", "own"),
+    ("full((2, 3), 1, (0,))", "chunks: 1 given for 2 axes", "own"),
+    ("full((2, 3), 1, (1, 0))", "chunks: axis 1: zero chunk", "own"),
+    ("rechunk(ramp((4,), 0, 1), ((1, 2),))", "chunks: axis 0: sum 3, length 4", "own"),
+    ("transpose(ramp((2, 3), 0, 1), (0, 2, 2))", "shape: bad axis 2", "numpy"),
+    ("transpose(ramp((2, 3), 0, 1), (1, 0, 1))", "shape: bad axis 1", "numpy"),
+    ("concatenate([ramp((2,), 0, 1), ramp((4, 3), 0, 1)], 5)", "shape: axis 0: 1 and 2", "numpy"),
+    ("concatenate([ramp((2, 3), 0, 1), ramp((4, 3), 0, 1)], 2)", "shape: bad axis 2", "numpy"),
+    ("concatenate([ramp((2, 3), 0, 1), ramp((4, 5), 0, 1)], 0)", "shape: axis 1: 3 and 5", "numpy"),
+    ("concatenate([full((2147483648,), 1), full((1,), 1)], 0)", "limit elements", "own"),
+    ("sum(ramp((2, 3), 0, 1), (1, 1), 1)", "shape: bad axis 1", "numpy"),
+    ("min(full((2, 0, 0), 1), (2, 1), 1)", "shape: empty axis 1", "numpy"),
+    ("max(ramp((2,), 0, 1), (0,), 1)", "shape: split_every 1", "own"),
+    ("sum(full((65536, 65536, 0), 1), (2,))", "limit elements", "own"),
+    ("tensordot(ramp((2, 3), 0, 1), ramp((3, 2), 0, 1), (1,), (7,))", "shape: bad axis 7", "numpy"),
+    ("tensordot(ramp((2, 3), 0, 1), ramp((3, 2), 0, 1), (4,), (7,))", "shape: bad axis 4", "numpy"),
+    ("tensordot(ramp((2, 3), 0, 1), ramp((3, 2), 0, 1), (0, 1), (0,))", "shape: bad axis 1", "numpy"),
+    ("tensordot(ramp((2, 3), 0, 1), ramp((3, 4), 0, 1), (1, 0), (0, 1))", "shape: axis 1: 2 and 4", "numpy"),
 ]
 
 NAMES = {k: v for k, v in globals().items() if callable(v)}
 NAMES["max"] = max_of
 
 
-def answer(text):
+def cells(value, bad):
+    if bad.any():
+        return f" zero divisor at {int(np.argmax(bad.ravel()))}"
+    lengths = "".join(f" {n}" for n in value.shape)
+    return lengths + " :" + "".join(f" {int(x)}" for x in value.ravel())
+
+
+def build(text):
     begin()
-    made = eval(text, dict(NAMES))
-    if made.bad.any():
-        return f" zero divisor at {int(np.argmax(made.bad.ravel()))}"
-    lengths = "".join(f" {n}" for n in made.value.shape)
-    return lengths + " :" + "".join(f" {int(x)}" for x in made.value.ravel())
+    return eval(text, dict(NAMES))
+
+
+def answer(text):
+    made = build(text)
+    return cells(made.value, made.bad)
 
 
 def refusal(text, words, by):
@@ -533,15 +590,99 @@ def min_of(a, b):
     return a if a < b else b
 
 
-def main():
-    here = os.path.join(os.path.dirname(os.path.abspath(__file__)), "..", "crates", "numpy_table")
-    rows, answers = [], []
+def nodes():
+    return " ".join(map(str, Row.numbers))
+
+
+def expressions():
     for text in [line for line in VALUES.splitlines() if line]:
-        answers.append(f"{text}:{answer(text)}")
-        rows.append(" ".join(map(str, Row.numbers)) + f"#{text}")
+        wanted = answer(text)
+        yield f"eval {nodes()}#{text}", wanted
     for text, words, by in REFUSED:
-        answers.append(f"{text}:{refusal(text, words, by)}")
-        rows.append(" ".join(map(str, Row.numbers)) + f"#{text}")
+        wanted = refusal(text, words, by)
+        yield f"eval {nodes()}#{text}", wanted
+
+
+def given_block(values):
+    held = np.array(values, dtype=np.int64)
+    return f"{array_words.listed(held.shape)} {array_words.listed(held.ravel())}"
+
+
+def region_words(bounds):
+    starts, lengths = [s for s, _ in bounds], [n for _, n in bounds]
+    return f"{array_words.listed(starts)} {array_words.listed(lengths)}"
+
+
+def region_text(bounds):
+    return "[" + ", ".join(f"{s}:{s + n}" for s, n in bounds) + "]"
+
+
+def part_answer(made, bounds):
+    part = tuple(slice(s, s + n) for s, n in bounds)
+    return cells(np.asarray(made.value[part]), np.asarray(made.bad[part]))
+
+
+def held_answer(made):
+    lengths = "".join(f" {n}" for n in made.value.shape)
+    held = zip(made.value.ravel(), made.bad.ravel())
+    return f" |{lengths} :" + "".join(" nothing" if bad else f" {int(x)}" for x, bad in held)
+
+
+def over_inputs():
+    for text, inputs, bounds in array_regions.PARTS:
+        made = build(text)
+        blocks = " ".join([str(len(inputs))] + [given_block(values) for values in inputs])
+        yield f"part {region_words(bounds)} {blocks} {nodes()}#({text}){region_text(bounds)}", part_answer(made, bounds)
+    for text, inputs in array_regions.ALL:
+        build(text)
+        blocks = " ".join([str(len(inputs))] + [given_block(values) for values in inputs])
+        yield f"all {blocks} {nodes()}#all of {text}", "".join(held_answer(made) for made in Row.made)
+
+
+def over_files():
+    for text, bounds, files, failing, why in array_regions.FILES:
+        made = build(text)
+        held = " ".join(given_block(values) for values, _ in files) + " " + array_words.listed(missing for _, missing in files)
+        label = f"({text}){region_text(bounds)}, of files without {', '.join(str(missing) for _, missing in files)} bytes"
+        label += "" if failing is None else f", read {failing} fails"
+        wanted = part_answer(made, bounds) if why is None else f" refused, {why}"
+        yield f"files {region_words(bounds)} {array_words.maybe(failing)} {held} {nodes()}#{label}", wanted
+
+
+def bounds_answer(bounds):
+    if bounds is None:
+        return " none"
+    return array_words.bounds([s for s, _ in bounds], [n for _, n in bounds])
+
+
+def regions():
+    for text, bounds, needs in array_regions.NEEDS:
+        build(text)
+        wanted = "".join(bounds_answer(needed) for needed in needs)
+        yield f"needs {region_words(bounds)} {nodes()}#({text}){region_text(bounds)} needs", wanted
+    for text, roots, reached in array_regions.REACHED:
+        build(text)
+        wanted = "".join(f" {node}" for node in reached)
+        yield f"reach {array_words.listed(roots)} {nodes()}#{text}, for {array_words.listed(roots)}", wanted
+
+
+def lines():
+    yield from expressions()
+    yield "fill 65536", " 65536 nodes, 65536 places"
+    yield "fill 65537", " 65536 nodes, 65536 places, refused, limit nodes"
+    yield from over_inputs()
+    yield from over_files()
+    yield from regions()
+    yield from array_words.lines()
+    yield from slices.lines()
+
+
+def main():
+    here = os.path.join(os.path.dirname(os.path.abspath(__file__)), "..", "crates", "array_table")
+    rows, answers = [], []
+    for line, wanted in lines():
+        rows.append(line)
+        answers.append(line.split("#", 1)[-1] + ":" + wanted)
     with open(os.path.join(here, "stdin"), "w") as f:
         f.write("\n".join(rows) + "\n")
     with open(os.path.join(here, "stdout"), "w") as f:
