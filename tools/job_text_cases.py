@@ -1,17 +1,13 @@
-"""Writes the table of refused jobs: crates/job_text/src/tests/refused.rt.
+"""Jobs and refused texts, with their scripts: cases of format_table.
 
-Run it at the top of the repository: python3 tools/refused_job_texts.py
-The places and kinds are worked out here from the rules of docs/FORMATS.md, by a reader that goes down the grammar, keeps names,
-files and shapes as it goes, and shares nothing with the program: it is another one's reading of the same rules, and not a copy of
-the program's answers.
+What is wanted is worked out here from the rules of docs/FORMATS.md, by a reader that goes down the grammar, keeps names, files
+and shapes as it goes, and shares nothing with the program: it is another one's reading of the same rules, and not a copy of the
+program's answers. A script is what this reader finds without looking at shapes.
 """
 
-import os
-import sys
-
-sys.path.insert(0, os.path.dirname(__file__))
-import refused_jobs as grammar
-from refused_jobs import Refused, Text, literal, place
+import job_step_cases as grammar
+from case_lines import escaped, place
+from job_step_cases import Refused, Text
 
 LARGEST = 2**63 - 1
 ELEMENTS = 2**31
@@ -21,13 +17,18 @@ def limit(quantity):
     return "limit " + quantity
 
 
-class Job(Text):
-    """A text with what it has said so far."""
+class Array(list):
+    """The lengths of a node, with its number."""
 
-    def __init__(self, text):
+
+class Job(Text):
+    """A text with what it has said so far. Without `shapes` it does not look at what rests on shapes."""
+
+    def __init__(self, text, shapes=True):
         super().__init__(text)
-        self.names, self.inputs, self.saves = {}, set(), set()
-        self.statements, self.nodes, self.open = 0, 0, 0
+        self.shapes = shapes
+        self.names, self.inputs, self.saves = {}, {}, {}
+        self.statements, self.nodes, self.open = 0, [], 0
 
     def refuse(self):
         if self.kind == "NUMBER" and int(self.text[self.start : self.end]) > LARGEST:
@@ -55,15 +56,17 @@ class Job(Text):
         self.take(kind)
         self.open -= 1
 
-    def node(self, at, lengths):
+    def node(self, what, at, lengths):
         """One more node: its shape, or why it is refused."""
-        if self.nodes == 65536:
+        if len(self.nodes) == 65536:
             raise Refused(at, limit("nodes"))
-        self.nodes += 1
         try:
-            return lengths()
+            array = Array(lengths() if self.shapes else [])
         except ValueError as e:
             raise Refused(at, e.args[0])
+        array.number = len(self.nodes)
+        self.nodes.append((what, at))
+        return array
 
 
 # ---- shapes
@@ -209,7 +212,7 @@ def statement(t):
         t.take("FILE")
         if file in t.saves or file in t.inputs:
             raise Refused(file_at, "repeated name")
-        t.saves.add(file)
+        t.saves[file] = t.names[name].number
         return
     if name in t.names:
         raise Refused(name_at, "repeated name")
@@ -225,8 +228,8 @@ def statement(t):
     dims = numbers(t)
     t.take("chunks")
     sizes = chunks(t)
-    t.names[name] = t.node(at, lambda: cut(within_limits(dims), sizes))
-    t.inputs.add(file)
+    t.names[name] = t.node("input", at, lambda: cut(within_limits(dims), sizes))
+    t.inputs[file] = t.names[name].number
 
 
 def listed(t, one, firsts, least):
@@ -252,13 +255,17 @@ def chunks(t):
     return listed(t, lambda t: t.number() if t.at_any("NUMBER") else numbers(t, 1), ["NUMBER", "("], 0)
 
 
+def combined(t, at, left, right):
+    return t.node("elementwise", at, lambda: broadcast([left, right]))
+
+
 def chain(t, one, *signs):
     left = one(t)
     while t.at_any(*signs):
         at = t.start
         t.take(*signs)
         right = one(t)
-        left = t.node(at, lambda: broadcast([left, right]))
+        left = combined(t, at, left, right)
     return left
 
 
@@ -270,6 +277,18 @@ def product(t):
     return chain(t, unary, "*", "//", "%")
 
 
+def reversed_axes(t, at, value):
+    return t.node("reverse", at, lambda: value[::-1])
+
+
+def taken_out(t, at, value, parts):
+    return t.node("slice", at, lambda: sliced(value, parts))
+
+
+def negated(t, at, value):
+    return t.node("negate", at, lambda: value)
+
+
 def unary(t):
     signs = []
     while t.at_any("-"):
@@ -277,14 +296,14 @@ def unary(t):
         t.take("-")
     if signs and t.at_any("NUMBER"):
         t.number(LARGEST + 1)
-        value = t.node(signs.pop(), lambda: [])
+        value = t.node("full", signs.pop(), lambda: [])
     else:
         value = primary(t)
     while t.at_any("[", ".T"):
         at = t.start
         if t.at_any(".T"):
             t.take(".T")
-            value = t.node(at, lambda: value[::-1])
+            value = reversed_axes(t, at, value)
             continue
         t.take("[")
         parts = [piece(t)]
@@ -292,9 +311,9 @@ def unary(t):
             t.take(",")
             parts.append(piece(t))
         t.take("]")
-        value = t.node(at, lambda: sliced(value, parts))
+        value = taken_out(t, at, value, parts)
     for at in reversed(signs):
-        value = t.node(at, lambda: value)
+        value = negated(t, at, value)
     return value
 
 
@@ -325,7 +344,7 @@ def primary(t):
     at = t.start
     if t.at_any("NUMBER"):
         t.number()
-        return t.node(at, lambda: [])
+        return t.node("full", at, lambda: [])
     if t.at_any("NAME"):
         name = t.word()
         t.take("NAME")
@@ -338,6 +357,9 @@ def primary(t):
         t.leave(")")
         return value
     return call(t)
+
+
+OPERATIONS = dict.fromkeys(("sum", "prod", "min", "max"), "reduce") | dict.fromkeys(("minimum", "maximum"), "elementwise")
 
 
 def call(t):
@@ -404,7 +426,7 @@ def call(t):
             right = numbers(t)
             make = lambda: contracted(first, second, left, right)
     t.leave(")")
-    return t.node(at, make)
+    return t.node(OPERATIONS.get(kind, kind), at, make)
 
 
 def split_every(t):
@@ -413,13 +435,31 @@ def split_every(t):
     return t.number()
 
 
-def answer(text):
-    """The place and the kind of the refusal, or None."""
+def files(t):
+    named = [("input", t.inputs), ("save", t.saves)]
+    return "".join(", %s %s %d" % (word, file[1:-1].decode(), n) for word, files in named for file, n in files.items())
+
+
+def job_case(text):
+    """A job's places and files, or the place and the kind of its refusal."""
+    t = Job(text)
     try:
-        job(Job(text))
+        if len(text) > 2**20:
+            raise Refused(0, limit("job bytes"))
+        job(t)
+        answer = "%d nodes%s%s" % (len(t.nodes), "".join(" " + place(text, at) for _, at in t.nodes), files(t))
     except Refused as r:
-        return place(text, r.args[0]) + (r.args[1],)
-    return None
+        answer = "%s: %s" % (place(text, r.args[0]), r.args[1])
+    return "job " + escaped(text), answer
+
+
+def script_case(text):
+    t, refusal = Job(text, shapes=False), ""
+    try:
+        job(t)
+    except Refused as r:
+        refusal = "; %s at %d" % (r.args[1], r.args[0])
+    return "script " + escaped(text), "asks%s%s%s" % ("".join(" %s@%d" % node for node in t.nodes), files(t), refusal)
 
 
 # ---- the cases
@@ -485,15 +525,34 @@ CASES = [
     "concatenate([full((2147483648), 1, (1)), full((1), 1, (1))], axis=0)", "tensordot(full((1, 1, 1, 1, 1), 1, (1, 1, 1, 1, 1)), full((1, 1, 1, 1), 1, (1, 1, 1, 1)), (), ())",
 )
 
-rows = [(c, answer(c)) for c in CASES]
-assert len(CASES) == len(set(CASES))
-assert all(r for _, r in rows), [c for c, r in rows if not r]
-out = ["// Refused texts with what is printed of them. Written by tools/refused_job_texts.py from the rules."]
-for k in range(4):
-    part = rows[k * len(rows) // 4 : (k + 1) * len(rows) // 4]
-    out += ["", "pub(super) static REFUSED_%d: [(&str, &str); %d] = [" % (k, len(part))]
-    out += ["    (%s, \"%d:%d: %s\")," % ((literal(text),) + found) for text, found in part] + ["];"]
-if __name__ == "__main__":
-    os.makedirs("crates/job_text/src/tests", exist_ok=True)
-    open("crates/job_text/src/tests/refused.rt", "w").write("\n".join(out) + "\n")
-    print(len(rows), "refused texts")
+# At the limits of statements, nodes and bytes.
+STATEMENTS = b"\n".join(b"let x%d=1" % k for k in range(1023))
+LIMITS = [
+    STATEMENTS + SAVE.encode().replace(b"x", b"x0"), STATEMENTS + b"\nlet y=1\nsave y \"f\"",
+    b"let x = 1" + b"+1" * 32768 + SAVE.encode(), b" " * (2**20 - 20) + b"let x = 1" + SAVE.encode(), b" " * (2**20 - 19) + b"let x = 1" + SAVE.encode(),
+    b"$" + b" " * 2**20, b"#" + b"a" * (2**20 - 1),
+]
+
+# The job of docs/FORMATS.md, and jobs with every operation.
+JOBS = [
+    b'input a "a.npy" shape (4, 6) chunks (2, (3, 3))   # two axes\nlet b = (a + a[::-1]) // 2\nlet s = sum(b.T, axis=(0), split_every=2)\nsave b "b.npy"\nsave s "s.npy"\n',
+    b'input a "a.npy" shape (3) chunks (2)\nlet b = -a.T[0] + -5\nsave b "b.npy"', b'let x = 1\nsave x "f"\nsave x "g"',
+    b'input a "a" shape (2, 3) chunks (1, 2)\ninput b "b" shape (3) chunks (2)\nlet x = where(a, b, maximum(a, -2))\nsave x "f"',
+    b'input a "a" shape (2, 3) chunks (1, 2)\nlet x = tensordot(a, transpose(a, (1, 0)), (1), (0))\nlet y = concatenate([x, rechunk(a[:, :2], (2, 2))], axis=0)\nsave y "f"',
+    b'let x = ramp((2, 0, 3), -1, 5, (1, (0), (1, 2)))\nlet y = prod(x) % max(full((2), 9223372036854775807, (1)))\nsave y "f"',
+    b'let x = -9223372036854775808\nsave x "f"', b'let x = ' + b"-" * 5 + b'1\nsave x "f"', b'let x = ' + b"(" * 127 + b"1" + b")" * 127 + b'\nsave x "f"',
+]
+
+# Texts whose scripts are refused, and one whose script asks for what no shapes fit.
+SCRIPTS = [b"let a = $", b"let a = 1\n", b"let a = a", b"let a = 1\nlet a = 2", b"let a = 9223372036854775808", b"let a = -9223372036854775808 9223372036854775808",
+           b'let a = 1[0][::0].T\nsave a "f"', b"let a = sum(1, axis=(0)) + $"]
+
+
+def cases():
+    assert len(CASES) == len(set(CASES))
+    refused = [job_case(text) for text in CASES]
+    assert all(": " in answer for _, answer in refused)
+    jobs = [job_case(text) for text in JOBS]
+    assert all(" nodes " in answer for _, answer in jobs)
+    found = [("# jobs and their scripts", "jobs and their scripts")] + jobs + refused + [job_case(text) for text in LIMITS]
+    return found + [script_case(text) for text in JOBS + SCRIPTS + CASES]

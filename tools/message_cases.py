@@ -1,59 +1,60 @@
-"""Writes crates/wire_msgs/src/tests/rows.rt: maps as another MessagePack implementation encodes them, and their answers.
+"""Maps as another MessagePack implementation encodes them, and the messages that they are: cases of format_table.
 
-Run with Debian's python3-msgpack (1.0.3), at the top of the repository: /usr/bin/python3 tools/message_rows.py
-Then run `rt fmt` in the crate.
-Each line is the bytes that `msgpack.Packer` made, and the answer of `from_value`: a message as Rust's `{:?}` prints it, a
-refusal as `{}` does. The answers are written by hand here, from the table of fields in docs/FORMATS.md.
+The bytes are those of Debian's python3-msgpack (1.0.3). The answers are written by hand here, from the table of fields in
+docs/FORMATS.md: a message with its kind and its fields, and the bytes that it is written as, which are those of its map with
+the fields in the order of the table; or the text of a refusal.
 """
+
+import re
 
 import msgpack
 
 BIG = 2**64 - 1
 KEY = 2**32 - 1
 HOLDERS = [[1, 2], [KEY, BIG]]
-HOLDERS_TEXT = "Sequence { items: [(1, 2), (4294967295, 18446744073709551615)] }"
+HOLDERS_TEXT = " 1:2 4294967295:18446744073709551615"
 WHO_HAS = [[7, HOLDERS], [KEY, []]]
-WHO_HAS_TEXT = "Sequence { items: [(7, %s), (4294967295, Sequence { items: [] })] }" % HOLDERS_TEXT
+WHO_HAS_TEXT = " key 7%s key 4294967295" % HOLDERS_TEXT
 KEYS = [0, 300, KEY]
-KEYS_TEXT = "Sequence { items: [0, 300, 4294967295] }"
+KEYS_TEXT = " 0 300 4294967295"
 
 # each kind of message, with its fields in the order in which they are written
 MESSAGES = [
-    ("Down(ComputeTask { key: 7, attempt: 1099511627776, who_has: %s })" % WHO_HAS_TEXT,
+    ("ComputeTask: key 7, attempt 1099511627776, who_has%s" % WHO_HAS_TEXT,
      [("op", "compute-task"), ("key", 7), ("attempt", 2**40), ("who_has", WHO_HAS)]),
-    ("Down(FreeKeys { keys: Sequence { items: [3] } })", [("op", "free-keys"), ("keys", [3])]),
-    ("Down(FreeKeys { keys: Sequence { items: [] } })", [("op", "free-keys"), ("keys", [])]),
-    ("Down(StealRequest { key: 4294967295, attempt: 18446744073709551615 })",
+    ("FreeKeys: keys 3", [("op", "free-keys"), ("keys", [3])]),
+    ("FreeKeys: keys", [("op", "free-keys"), ("keys", [])]),
+    ("StealRequest: key 4294967295, attempt 18446744073709551615",
      [("op", "steal-request"), ("key", KEY), ("attempt", BIG)]),
-    ("Down(RemoveReplicas { keys: %s })" % KEYS_TEXT, [("op", "remove-replicas"), ("keys", KEYS)]),
-    ("Down(AcquireReplicas { who_has: %s })" % WHO_HAS_TEXT, [("op", "acquire-replicas"), ("who_has", WHO_HAS)]),
-    ("Down(RefreshWhoHas { who_has: Sequence { items: [] } })", [("op", "refresh-who-has"), ("who_has", [])]),
-    ("Up(TaskFinished { seen: 1, key: 2, attempt: 3 })",
+    ("RemoveReplicas: keys%s" % KEYS_TEXT, [("op", "remove-replicas"), ("keys", KEYS)]),
+    ("AcquireReplicas: who_has%s" % WHO_HAS_TEXT, [("op", "acquire-replicas"), ("who_has", WHO_HAS)]),
+    ("RefreshWhoHas: who_has", [("op", "refresh-who-has"), ("who_has", [])]),
+    ("TaskFinished: seen 1, key 2, attempt 3",
      [("op", "task-finished"), ("seen", 1), ("key", 2), ("attempt", 3)]),
-    ("Up(TaskErred { seen: 18446744073709551615, key: 2, attempt: 3 })",
+    ("TaskErred: seen 18446744073709551615, key 2, attempt 3",
      [("op", "task-erred"), ("seen", BIG), ("key", 2), ("attempt", 3)]),
-    ("Up(AddKeys { seen: 1, keys: %s })" % KEYS_TEXT, [("op", "add-keys"), ("seen", 1), ("keys", KEYS)]),
-    ("Up(ReleaseWorkerData { seen: 1, key: 2 })", [("op", "release-worker-data"), ("seen", 1), ("key", 2)]),
-    ("Up(MissingData { seen: 1, key: 2, holder: 3, copy: 4 })",
+    ("AddKeys: seen 1, keys%s" % KEYS_TEXT, [("op", "add-keys"), ("seen", 1), ("keys", KEYS)]),
+    ("ReleaseWorkerData: seen 1, key 2", [("op", "release-worker-data"), ("seen", 1), ("key", 2)]),
+    ("MissingData: seen 1, key 2, holder 3, copy 4",
      [("op", "missing-data"), ("seen", 1), ("key", 2), ("holder", 3), ("copy", 4)]),
-    ("Up(RequestRefreshWhoHas { seen: 1, key: 2 })", [("op", "request-refresh-who-has"), ("seen", 1), ("key", 2)]),
-    ("Up(StealResponse { seen: 1, key: 2, attempt: 3, yes: true })",
+    ("RequestRefreshWhoHas: seen 1, key 2", [("op", "request-refresh-who-has"), ("seen", 1), ("key", 2)]),
+    ("StealResponse: seen 1, key 2, attempt 3, yes true",
      [("op", "steal-response"), ("seen", 1), ("key", 2), ("attempt", 3), ("yes", True)]),
-    ("Up(StealResponse { seen: 1, key: 2, attempt: 3, yes: false })",
+    ("StealResponse: seen 1, key 2, attempt 3, yes false",
      [("op", "steal-response"), ("seen", 1), ("key", 2), ("attempt", 3), ("yes", False)]),
-    ("ToClient(KeyInMemory { key: 5, holders: %s })" % HOLDERS_TEXT,
+    ("KeyInMemory: key 5, holders%s" % HOLDERS_TEXT,
      [("op", "key-in-memory"), ("key", 5), ("holders", HOLDERS)]),
-    ("ToClient(LostData { key: 5 })", [("op", "lost-data"), ("key", 5)]),
-    ("ToClient(ClientTaskErred { key: 5, blame: 4 })", [("op", "client-task-erred"), ("key", 5), ("blame", 4)]),
-    ("FromClient(Want { keys: %s })" % KEYS_TEXT, [("op", "want"), ("keys", KEYS)]),
-    ("FromClient(Release { keys: %s })" % KEYS_TEXT, [("op", "release"), ("keys", KEYS)]),
-    ("FromClient(Missing { key: 1, holder: 2, copy: 3 })",
+    ("LostData: key 5", [("op", "lost-data"), ("key", 5)]),
+    ("ClientTaskErred: key 5, blame 4", [("op", "client-task-erred"), ("key", 5), ("blame", 4)]),
+    ("Want: keys%s" % KEYS_TEXT, [("op", "want"), ("keys", KEYS)]),
+    ("Release: keys%s" % KEYS_TEXT, [("op", "release"), ("keys", KEYS)]),
+    ("Missing: key 1, holder 2, copy 3",
      [("op", "missing"), ("key", 1), ("holder", 2), ("copy", 3)]),
-    ("Peer(GetData { ask: 9, keys: %s })" % KEYS_TEXT, [("op", "get-data"), ("ask", 9), ("keys", KEYS)]),
-    ("Peer(Data { ask: 9, found: %s })" % KEYS_TEXT, [("op", "data"), ("ask", 9), ("found", KEYS)]),
-    ("Hello { role: Scheduler, id: 1 }", [("op", "hello"), ("role", "scheduler"), ("id", 1)]),
-    ("Hello { role: Worker, id: 2 }", [("op", "hello"), ("role", "worker"), ("id", 2)]),
-    ("Hello { role: Client, id: 3 }", [("op", "hello"), ("role", "client"), ("id", 3)]),
+    ("GetData: ask 9, keys%s" % KEYS_TEXT, [("op", "get-data"), ("ask", 9), ("keys", KEYS)]),
+    ("Data: ask 9, found%s" % KEYS_TEXT, [("op", "data"), ("ask", 9), ("found", KEYS)]),
+    ("Hello: role Scheduler, id 1", [("op", "hello"), ("role", "scheduler"), ("id", 1)]),
+    ("Hello: role Worker, id 2", [("op", "hello"), ("role", "worker"), ("id", 2)]),
+    ("Hello: role Client, id 3", [("op", "hello"), ("role", "client"), ("id", 3)]),
 ]
 
 # other maps
@@ -119,10 +120,10 @@ ANSWERS = [
     ("the field role has another type", [("role", 5), ("op", "hello"), ("id", -1), (1, 2)]),
     ("the field keys has another type", [("keys", ["a"]), ("op", "free-keys"), ("op", 1)]),
     # fields in other orders
-    ("FromClient(Missing { key: 1, holder: 2, copy: 3 })", [("copy", 3), ("holder", 2), ("key", 1), ("op", "missing")]),
-    ("FromClient(Missing { key: 1, holder: 2, copy: 3 })", [("holder", 2), ("op", "missing"), ("copy", 3), ("key", 1)]),
-    ("Hello { role: Client, id: 3 }", [("id", 3), ("op", "hello"), ("role", "client")]),
-    ("Up(StealResponse { seen: 1, key: 2, attempt: 3, yes: true })",
+    ("Missing: key 1, holder 2, copy 3", [("copy", 3), ("holder", 2), ("key", 1), ("op", "missing")]),
+    ("Missing: key 1, holder 2, copy 3", [("holder", 2), ("op", "missing"), ("copy", 3), ("key", 1)]),
+    ("Hello: role Client, id 3", [("id", 3), ("op", "hello"), ("role", "client")]),
+    ("StealResponse: seen 1, key 2, attempt 3, yes true",
      [("yes", True), ("attempt", 3), ("key", 2), ("seen", 1), ("op", "steal-response")]),
 ]
 
@@ -134,19 +135,21 @@ def packed(value):
     return packer.pack(value)
 
 
-def table(rows):
-    text = "\\n".join("%s %s" % (packed(value).hex(), shown) for shown, value in rows)
-    return text.replace('"', '\\"')
+# the fields of each operation, in the order in which they are written
+ORDER = {dict(pairs)["op"]: [key for key, _ in pairs] for _, pairs in MESSAGES}
 
 
-def main():
-    with open("crates/wire_msgs/src/tests/rows.rt", "w") as out:
-        out.write("//! Encodings by Debian's python3-msgpack 1.0.3, written by tools/message_rows.py: don't edit.\n\n")
-        out.write("/// A line for each message: its encoding in hexadecimal, and the message as `{:?}` prints it.\n")
-        out.write('pub const MESSAGES: &str = "%s";\n\n' % table(MESSAGES))
-        out.write("/// A line for each other value: its encoding in hexadecimal, and the message or the refusal's text.\n")
-        out.write('pub const ANSWERS: &str = "%s";\n' % table(ANSWERS))
-    print(len(MESSAGES), "messages,", len(ANSWERS), "other values")
+def message_case(shown, pairs):
+    """A message of these pairs, and what it is written as."""
+    order = ORDER[dict(pairs)["op"]]
+    written = packed(sorted(pairs, key=lambda pair: order.index(pair[0])))
+    return "message " + packed(pairs).hex(), "%s = %s" % (shown, written.hex())
 
 
-main()
+def answer_case(shown, value):
+    is_message = re.match("[A-Z][A-Za-z]*: ", shown)
+    return message_case(shown, value) if is_message else ("message " + packed(value).hex(), shown)
+
+
+def cases():
+    return [("# messages", "messages")] + [message_case(*row) for row in MESSAGES] + [answer_case(*row) for row in ANSWERS]
