@@ -12,9 +12,10 @@ cd "$(dirname "$0")/.." || exit 1
 prefix=${1-}
 clone=${2-}
 if [ -z "$prefix" ]; then
-  folder=$(mktemp -d) || exit 1
-  trap 'rm -rf "$folder"' EXIT
-  clone=$folder/clone prefix=$folder/logs/
+  room=$(mktemp -d) || exit 1
+  readonly room
+  trap 'rm -rf "$room"' EXIT
+  clone=$room/clone prefix=$room/logs/
   mkdir "$prefix" && git clone -q . "$clone" && "$clone/tools/prove_crates.py" --logs "$prefix" || exit 1
 fi
 
@@ -23,16 +24,16 @@ lines() { # of the files of this kind below these folders
 }
 
 rows=
-for folder in crates/*/; do
-  folder=${folder%/} name=${folder##*/}
-  functions=$(find "$folder/src" -name '*.rt' -type f -exec cat {} + | grep -cE '^ *(pub(\([a-z ]+\))? )?(const )?(unsafe )?fn ')
-  edits=$(find "$folder/must-fail" -name '*.edit' 2> /dev/null | wc -l)
+for crate in crates/*/; do
+  crate=${crate%/} name=${crate##*/}
+  functions=$(find "$crate/src" -name '*.rt' -type f -exec cat {} + | grep -cE '^ *(pub(\([a-z ]+\))? )?(const )?(unsafe )?fn ')
+  edits=$(find "$crate/must-fail" -name '*.edit' 2> /dev/null | wc -l)
   log=$prefix$name.log seconds=0 star='-'
   if read -r seconds < <(tail -n 1 "$log" 2> /dev/null | awk '$1 == "cpu" { printf "%.0f\n", $2 + $3 }'); then
     star=
     grep -q "^rt: $name: begins with what a check kept" "$log" && star='*'
   fi
-  rows+="$name $functions $(lines rt "$folder/src") $(lines antt "$folder/specs" "$folder/proofs") ${seconds:-0} $edits $star"$'\n'
+  rows+="$name $functions $(lines rt "$crate/src") $(lines antt "$crate/specs" "$crate/proofs") ${seconds:-0} $edits $star"$'\n'
 done
 echo '| Crate | Functions | Lines of code | Lines of specs and proofs | Processor seconds of its proof | Edits |'
 echo '|---|---|---|---|---|---|'

@@ -68,6 +68,10 @@ note_of() { # PROGRAM KIT
   local crates
   local -A lines
   read_crates
+  cat << 'TEXT'
+# Of what the program beside this file is built. `sources` is the SHA-256 of what the function sources_text of
+# tools/program.bash prints: the kit's line, these crates' lines of crates.txt, and the SHA-256 and name of each of their .rt files.
+TEXT
   echo "kit $2"
   echo "sources $(sources_sum "$2")"
   echo "program $(sum "$1")"
@@ -135,7 +139,7 @@ build_program() {
   if [ "$processors" -gt 0 ]; then
     echo "from nothing that took ${build_minutes[processors]} minutes on an idle machine with $processors processors; what is proved already is not proved again" >&2
   else
-    echo 'from nothing that was not measured for so many processors; what is proved already is not proved again' >&2
+    echo 'how long that takes from nothing on so many processors was not measured; what is proved already is not proved again' >&2
   fi
   before=$(sources_sum "$kit")
   python3 tools/prove_crates.py --build "$program_crate" --caller "$$" || return 1

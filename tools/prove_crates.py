@@ -200,8 +200,8 @@ def lanes_that_fit():
 class Run:
     """One run over crates: which are proved, which are being proved, and since when."""
 
-    def __init__(self, crates, todo, program, logs, caller):
-        self.crates, self.todo, self.program, self.logs, self.caller = crates, todo, program, logs, caller
+    def __init__(self, crates, todo, processors, program, logs, caller):
+        self.crates, self.todo, self.processors, self.program, self.logs, self.caller = crates, todo, processors, program, logs, caller
         self.started, self.last = time.monotonic(), None
         self.proved = set() if logs else {it for it in todo if not crates.is_program(it) and crates.is_proved(it)}
         self.left, self.running = todo - self.proved, {}
@@ -217,9 +217,9 @@ class Run:
     def begin(self, pool, lanes):
         """Begins proofs in the lanes that are free. Where fewer crates are ready than processors are idle, a proof gets several of them."""
         busy = [lane for lane, _, _ in self.running.values()]
-        free, idle = [it for it in lanes if it not in busy], len(lanes) - sum(jobs for _, _, jobs in self.running.values())
+        free, idle = [it for it in lanes if it not in busy], self.processors - sum(jobs for _, _, jobs in self.running.values())
         ready = [it for it in self.left if self.crates.below(it) <= self.proved]
-        ready = sorted(ready, key=self.chain, reverse=True)[:idle]
+        ready = sorted(ready, key=self.chain, reverse=True)[: min(idle, len(free))]
         for number, (lane, name) in enumerate(zip(free, ready)):
             # (a measured proof has one job)
             jobs = 1 if self.logs else min(4, idle // (len(ready) - number))
@@ -251,7 +251,7 @@ class Run:
 
     def over(self, lanes):
         """Proves all in these lanes, and returns the first crate that could not be proved, if there is one."""
-        with ThreadPoolExecutor(len(lanes)) as pool:
+        with ThreadPoolExecutor(self.processors) as pool:
             try:
                 while self.left or self.running:
                     self.begin(pool, lanes)
@@ -272,11 +272,11 @@ class Run:
 
 
 def main(words):
-    jobs, logs, program, caller = lanes_that_fit(), None, None, None
+    processors, logs, program, caller = lanes_that_fit(), None, None, None
     while words and words[0].startswith("--"):
         flag, value, *words = words
         if flag == "--jobs":
-            jobs = int(value)
+            processors = max(1, int(value))
         elif flag == "--logs":
             logs = os.path.realpath(value)
         elif flag == "--build":
@@ -295,8 +295,8 @@ def main(words):
     held = lock(crates, todo)
     try:
         recover(crates, at)
-        run = Run(crates, {*todo}, program, logs, caller)
-        failed = run.over([Lane(crates, todo, f"{at}/{it}") for it in range(jobs)])
+        run = Run(crates, {*todo}, processors, program, logs, caller)
+        failed = run.over([Lane(crates, todo, f"{at}/{it}") for it in range(min(processors, len(run.left)))])
     except Interrupted:
         tell("\ninterrupted: what is proved stays, and the next run goes on from there")
         return 130
