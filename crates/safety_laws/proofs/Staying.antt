@@ -100,7 +100,7 @@ evicted_alike f None = refl
 evicted_alike f (Some p) = refl
 
 -- the event takes that the worker leaves
-abbrev leaves : SchedEvent → ℕ → Bool
+abbrev pub leaves : SchedEvent → ℕ → Bool
 leaves (JoinSched threads) i = false
 leaves (Leave w) i = w == i
 leaves (FromWorker w m) i = false
@@ -108,7 +108,7 @@ leaves (FromClient c m) i = false
 leaves BalanceSched i = false
 leaves EvictSched i = false
 
-not_same : (i w : ℕ) → (w == i) ≡ false → (i == w) ≡ false
+pub not_same : (i w : ℕ) → (w == i) ≡ false → (i == w) ≡ false
 not_same i w h = by (i == w) refl
   where
     by : (b : Bool) → (i == w) ≡ b → b ≡ false
@@ -131,7 +131,7 @@ connected_change f EvictSched i l c = ap (λ (t : ℕ → Option ℕ). is_some (
 connected_step : (f : Facts) (s : SchedEvent) (i : ℕ) → leaves s i ≡ false → connected f i ≡ true → connected (sched_step f s).facts i ≡ true
 connected_step f s i l c = ap (λ (t : ℕ → Option ℕ). is_some (t i)) (step_settles f s).threads ∙ connected_change f s i l c
 
-pub connected_joined : (f : Facts) (threads : ℕ) → connected (sched_step f (JoinSched threads)).facts (f.last_worker + 1) ≡ true
+connected_joined : (f : Facts) (threads : ℕ) → connected (sched_step f (JoinSched threads)).facts (f.last_worker + 1) ≡ true
 unfolding joined
 connected_joined f threads = ap (λ (t : ℕ → Option ℕ). is_some (t (f.last_worker + 1))) (step_settles f (JoinSched threads)).threads ∙ ap (λ b. is_some (cond b (Some threads) (f.threads (f.last_worker + 1)))) (same_eqb (f.last_worker + 1) (f.last_worker + 1) refl)
 
@@ -239,14 +239,16 @@ letter_leaves : (i c : ℕ) (ms : List ClientMessage) (s : SchedEvent) → optio
 letter_leaves i c [] s e = absurd (no_event s e)
 letter_leaves i c (m ∷ ms) s e = sym (ap (λ x. leaves x i) (same_event (FromClient c m) s e))
 
--- a loss is seen of the dead alone
-nobody_leaves : (w : World) (e : Event) (i : ℕ) → enabled w e ≡ true → takes_away e i ≡ false → w.alive i ≡ true → (s : SchedEvent) → sched_event w e ≡ Some s → leaves s i ≡ false
-unfolding enabled
+-- the worker isn't one whose loss is seen
+abbrev pub IsUnseen : World → Event → Type 0
+IsUnseen w e = (v : ℕ) → e ≡ SeeLoss v → w.alive v ≡ false
+
+nobody_leaves : (w : World) (e : Event) (i : ℕ) → IsUnseen w e → takes_away e i ≡ false → w.alive i ≡ true → (s : SchedEvent) → sched_event w e ≡ Some s → leaves s i ≡ false
 nobody_leaves w (Join threads) i t h a s e = sym (ap (λ x. leaves x i) (same_event (JoinSched threads) s e))
 nobody_leaves w (SeeLoss v) i t h a s e = sym (ap (λ x. leaves x i) (same_event (Leave v) s e)) ∙ by (v == i) refl
   where
     by : (b : Bool) → (v == i) ≡ b → b ≡ false
-    by true q = absurd (true≢false (sym (and_parts (not (w.alive v)) (is_connected w v) t).0 ∙ ap (λ x. not (w.alive x)) (eqb-true v i q) ∙ ap not a))
+    by true q = absurd (true≢false (sym a ∙ ap w.alive (sym (eqb-true v i q)) ∙ t v refl))
     by false q = refl
 nobody_leaves w (Suspect v) i t h a s e = sym (ap (λ x. leaves x i) (same_event (Leave v) s e)) ∙ h
 nobody_leaves w (DeliverUp v) i t h a s e = up_leaves i v (w.up v) (is_connected w v) s e
@@ -267,9 +269,26 @@ nobody_leaves w (FailGather x p) i t h a s e = absurd (no_event s e)
 nobody_leaves w (Spill v k) i t h a s e = absurd (no_event s e)
 nobody_leaves w (LoseSpilled v k) i t h a s e = absurd (no_event s e)
 
-pub connected_stays : (j : Job) (w : World) (e : Event) (i : ℕ) → enabled w e ≡ true → takes_away e i ≡ false → w.alive i ≡ true → is_connected w i ≡ true → is_connected (world_step j w e) i ≡ true
+pub connected_stays : (j : Job) (w : World) (e : Event) (i : ℕ) → IsUnseen w e → takes_away e i ≡ false → w.alive i ≡ true → is_connected w i ≡ true → is_connected (world_step j w e) i ≡ true
 connected_stays j w e i t h a c = ap (λ (f : Facts). connected f i) (sched_is j w e) ∙ after (sched_event w e) (nobody_leaves w e i t h a)
   where
     after : (o : Option SchedEvent) → ((s : SchedEvent) → o ≡ Some s → leaves s i ≡ false) → connected (sched_after w.sched o) i ≡ true
     after None l = c
     after (Some s) l = connected_step w.sched s i (l s refl) c
+
+-- a loss is seen of the dead alone
+pub unseen : (w : World) (e : Event) → enabled w e ≡ true → IsUnseen w e
+unfolding enabled
+unseen w e t v q = dead (w.alive v) refl (and_parts (not (w.alive v)) (is_connected w v) (subst (λ x. enabled w x ≡ true) q t)).0
+  where
+    dead : (b : Bool) → w.alive v ≡ b → not (w.alive v) ≡ true → b ≡ false
+    dead true a n = absurd (false≢true (ap not (sym a) ∙ n))
+    dead false a n = refl
+
+-- who joins is there
+pub joined_alive : (j : Job) (w : World) (threads : ℕ) → (world_step j w (Join threads)).alive (w.sched.last_worker + 1) ≡ true
+unfolding world_step scheduled
+joined_alive j w threads = ap (λ b. cond b true (w.alive (w.sched.last_worker + 1))) (same_eqb (w.sched.last_worker + 1) (w.sched.last_worker + 1) refl)
+
+pub joined_connected : (j : Job) (w : World) (threads : ℕ) → is_connected (world_step j w (Join threads)) (w.sched.last_worker + 1) ≡ true
+joined_connected j w threads = ap (λ (f : Facts). connected f (w.sched.last_worker + 1)) (sched_is j w (Join threads)) ∙ connected_joined w.sched threads
