@@ -218,9 +218,13 @@ spent_is s (Drawn e) h = absurd (no h)
 
 -- ## A client that has not ended waits for a key
 
-waits_in : (c : ClientFacts) (ks : List ℕ) → find (λ k. is_some (c.failed k)) ks ≡ None → list_all (λ k. not (c.wants k && not (c.got k))) ks ≡ false → (k : ℕ) × (is_unfinished c k ≡ true)
+-- of these keys none has failed and some is wanted and not got, so the client waits for one
+abbrev WaitsAmong : ClientFacts → List ℕ → Type 0
+WaitsAmong c ks = find (λ k. is_some (c.failed k)) ks ≡ None → list_all (λ k. not (c.wants k && not (c.got k))) ks ≡ false → (k : ℕ) × (is_unfinished c k ≡ true)
+
+waits_in : (c : ClientFacts) (ks : List ℕ) → WaitsAmong c ks
 waits_in c [] f a = absurd (true≢false a)
-waits_in c (k ∷ ks) f a = by_failed (c.failed k) refl f
+waits_in c (k ∷ ks) f a = by_failed (λ g r. waits_in c ks g r) (c.failed k) refl f
   where
     found : (x : ℕ) → Some x ≡ None → ⊥
     found x q = cc
@@ -233,13 +237,13 @@ waits_in c (k ∷ ks) f a = by_failed (c.failed k) refl f
     unfinished_here : c.failed k ≡ None → not (c.wants k && not (c.got k)) ≡ false → is_unfinished c k ≡ true
     unfinished_here n q = let r = is (c.wants k) (c.got k) q in rw (r.0, r.1, n) refl
 
-    by_got : (b : Bool) → not (c.wants k && not (c.got k)) ≡ b → c.failed k ≡ None → find (λ k. is_some (c.failed k)) ks ≡ None → (b && list_all (λ k. not (c.wants k && not (c.got k))) ks) ≡ false → (k : ℕ) × (is_unfinished c k ≡ true)
-    by_got true q n g r = waits_in c ks g r
-    by_got false q n g r = (k, unfinished_here n q)
+    by_got : WaitsAmong c ks → (b : Bool) → not (c.wants k && not (c.got k)) ≡ b → c.failed k ≡ None → find (λ k. is_some (c.failed k)) ks ≡ None → (b && list_all (λ k. not (c.wants k && not (c.got k))) ks) ≡ false → (k : ℕ) × (is_unfinished c k ≡ true)
+    by_got later true q n g r = later g r
+    by_got later false q n g r = (k, unfinished_here n q)
 
-    by_failed : (o : Option ℕ) → c.failed k ≡ o → cond (is_some o) (Some k) (find (λ k. is_some (c.failed k)) ks) ≡ None → (k : ℕ) × (is_unfinished c k ≡ true)
-    by_failed None n g = by_got (not (c.wants k && not (c.got k))) refl n g a
-    by_failed (Some x) n g = absurd (found k g)
+    by_failed : WaitsAmong c ks → (o : Option ℕ) → c.failed k ≡ o → cond (is_some o) (Some k) (find (λ k. is_some (c.failed k)) ks) ≡ None → (k : ℕ) × (is_unfinished c k ≡ true)
+    by_failed later None n g = by_got later (not (c.wants k && not (c.got k))) refl n g a
+    by_failed later (Some x) n g = absurd (found k g)
 
 waits : (c : ClientFacts) → over c ≡ None → (k : ℕ) × (is_unfinished c k ≡ true)
 waits c h = by_found (find (λ k. is_some (c.failed k)) (client_keys c)) refl h
@@ -290,12 +294,12 @@ past_bound j words p wanted s t n c safe some v i alive linked = by_cause (why_s
 
     by_cause : (s.budget ≡ 0) ⊎ (has_any (progress s.world) ≡ false) → IsPastBound j all
     by_cause (inr none) = absurd (true≢false (sym moving ∙ ap (λ w. has_any (progress w)) (sym here) ∙ none))
-    by_cause (inl zero) = record {
+    by_cause (inl spent) = record {
       before = opening_events p wanted ++ tail.before;
       quiet = tail.quiet;
       whole = ap (λ l. opening_events p wanted ++ l) tail.whole ∙ sym (append_assoc (opening_events p wanted) tail.before tail.quiet);
       moves = subst (λ w. QuietFrom j w tail.quiet) (sym (run_both j (opening j) (opening_events p wanted) tail.before)) tail.moves;
-      count = none_left (length tail.quiet) s.budget (rest (run_from j start tail.before)) zero tail.count ∙ ap rest (sym (run_both j (opening j) (opening_events p wanted) tail.before));
+      count = none_left (length tail.quiet) s.budget (rest (run_from j start tail.before)) spent tail.count ∙ ap rest (sym (run_both j (opening j) (opening_events p wanted) tail.before));
       more = moving;
     }
       where
