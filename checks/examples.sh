@@ -4,7 +4,7 @@ cd "$(dirname "$0")/.." || exit 1
 about='examples'
 . tools/checking.bash
 
-# the first use builds the program where it isn't built, and says so; words that are none end with status 1
+# words that are none end with status 1
 ./dask >/dev/null 2>&1
 check 'status without words' "$?" 1
 

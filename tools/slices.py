@@ -1,10 +1,5 @@
-#!/usr/bin/env python3
-"""Writes the table of slices of nd_shape's tests: what Python's own rules give for each.
-
-    python3 tools/slices.py > crates/nd_shape/src/slice/table.rt
-
-Then `rt fmt` in crates/nd_shape lays it out.
-"""
+"""What Python's own rules give for slices of one axis, as lines of the program array_table: `lines` gives each line and
+its answer. `array_table.py` writes them."""
 
 MIN, MAX = -(2**63), 2**63 - 1
 
@@ -28,37 +23,30 @@ RANGES = [
 
 INDEXES = [(5, 0), (5, 4), (5, -1), (5, -5), (5, 5), (5, -6), (0, 0), (0, -1), (5, MAX), (5, MIN), (2**31, -(2**31)), (1, 0)]
 
-
-def word(n):
-    return {MIN: "i64::MIN", MAX: "i64::MAX"}.get(n, str(n))
+ZERO_STEPS = [(5, None, 3), (0, None, None)]
 
 
 def maybe(n):
-    return "None" if n is None else f"Some({word(n)})"
+    return "-" if n is None else str(n)
 
 
-print("// What Python gives for slices of one axis. Made by tools/slices.py, from `slice.indices` and `range`.")
-print("#[derive(Clone, Copy)]")
-print("pub struct Taken { pub len: u64, pub start: Option<i64>, pub stop: Option<i64>, pub step: Option<i64>,")
-print("    pub first: u64, pub by: i64, pub count: u64 }")
-print()
-print(f"pub fn ranges() -> [Taken; {len(RANGES)}] {{ [")
-for length, start, stop, step in RANGES:
-    taken = range(*slice(start, stop, step).indices(length))
-    count = len(taken)
-    first = taken[0] if count else 0
-    by = 1 if step is None else step
-    print(f"    Taken {{ len: {length}, start: {maybe(start)}, stop: {maybe(stop)}, step: {maybe(step)}, first: {first}, by: {word(by)}, count: {count} }},")
-print("] }")
-print()
-print("#[derive(Clone, Copy)]")
-print("pub struct Element { pub len: u64, pub index: i64, pub at: Option<u64> }")
-print()
-print(f"pub fn elements() -> [Element; {len(INDEXES)}] {{ [")
-for length, index in INDEXES:
+def taken(length, start, stop, step):
+    steps = range(*slice(start, stop, step).indices(length))
+    first = steps[0] if len(steps) else 0
+    return f" start {first} step {1 if step is None else step} count {len(steps)}"
+
+
+def element(length, index):
     try:
-        at = f"Some({range(length)[index]})"
+        return f" start {range(length)[index]} step 1 count 1"
     except IndexError:
-        at = "None"
-    print(f"    Element {{ len: {length}, index: {word(index)}, at: {at} }},")
-print("] }")
+        return f" refused, shape: index {index} of length {length}"
+
+
+def lines():
+    for length, start, stop, step in RANGES:
+        yield f"slice {length} {maybe(start)} {maybe(stop)} {maybe(step)}", taken(length, start, stop, step)
+    for length, start, stop in ZERO_STEPS:
+        yield f"slice {length} {maybe(start)} {maybe(stop)} 0", " refused, shape: step 0"
+    for length, index in INDEXES:
+        yield f"index {length} {index}", element(length, index)

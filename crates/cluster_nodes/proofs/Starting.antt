@@ -39,6 +39,12 @@ none_waits = λ t i. at i t
     at zero = refl
     at (suc i) = refl
 
+-- nobody is alive where only the first place is, and nobody has that
+pub none_lives : (k : ℕ) → read (false ∷ []) false k ≡ false
+none_lives zero = refl
+none_lives (suc zero) = refl
+none_lives (suc (suc k)) = refl
+
 pub opening_is : {B : Type 0} (s : Setting) (n : Nodes B) (c : Core) → n.workers.items ≡ c ∷ [] → facts c ≡ new_worker s.shape 0 0
     → AllByRecursion (λ (c : CoreState). client_facts c ≡ new_client s.shape) n.clients.items
     → ((k : ℕ) → read n.alive false k ≡ false) → ((w k : ℕ) → cell n.spilled false w k ≡ false)

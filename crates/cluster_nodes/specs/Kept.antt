@@ -1,5 +1,5 @@
 -- What a `Nodes` keeps.
-use Rattle.std.specs.Prelude.{◌≡◌, ◌<◌, ◌≤◌, ℕ, true, false, List, length}
+use Rattle.std.specs.Prelude.{◌≡◌, ◌<◌, ◌≤◌, ℕ, true, false, List, [], length}
 use Rattle.std.specs.List.{filter_map, AllByRecursion}
 use Rattle.cluster_msgs.specs.Shape.{Shape, key_count}
 use Rattle.cluster_msgs.specs.declared.events.Asker.{Asker}
@@ -57,6 +57,22 @@ pub record IsSorted {B : Type 0} (n : Nodes B) : Type 0 where
 pub record IsNodes {B : Type 0} (n : Nodes B) : Type 0 where
   pub sized : IsSized n
   pub sorted : IsSorted n
+
+-- nobody is there, and nothing is under way
+pub record IsEmpty {B : Type 0} (n : Nodes B) : Type 0 where
+  pub clients : n.clients.items ≡ []
+  pub workers : n.workers.items ≡ []
+  pub alive : n.alive ≡ []
+  pub spilled : n.spilled ≡ (key_count n.shape, [])
+  pub down : n.down ≡ []
+  pub up : n.up ≡ []
+  pub to_client : n.to_client ≡ []
+  pub from_client : n.from_client ≡ []
+  pub requests : n.requests ≡ []
+  pub answers : n.answers ≡ []
+  pub held : n.held ≡ (key_count n.shape, [])
+  pub inputs : n.inputs ≡ (key_count n.shape, [])
+  pub got : n.got ≡ (key_count n.shape, [])
 
 -- no worker and no client has taken more than this many events
 abbrev pub TookFew : {B : Type 0} → ℕ → Nodes B → Type 0

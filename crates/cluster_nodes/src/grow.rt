@@ -30,11 +30,11 @@ impl<B: Drop> Nodes<B> {
         ensures few { OnOk result ((n : ℕ) → TookFew n self.old → TookFew n self.new) }
     {
         let id = self.workers.len() as u32;
-        let core = WorkerCore::new(self.alloc, id, threads, self.shape.copy()?)?;
         let row = Row::filled(self.alloc, self.shape.keys() as usize, false)?;
+        self.spilled.push(row)?;
+        let core = WorkerCore::new(self.alloc, id, threads, self.shape.copy()?)?;
         self.workers.push(core)?;
         self.alive.push(true)?;
-        self.spilled.push(row)?;
         self.down.add()?;
         self.up.add()?;
         self.held.add()?;

@@ -1,5 +1,5 @@
 //! The nodes of a cluster that starts.
-ghost use Rattle.std.specs.Prelude.{◌≡◌, ◌≤◌, ◌+◌, ℕ, false, None, [], length, IfOk};
+ghost use Rattle.std.specs.Prelude.{◌≡◌, ◌≤◌, ◌+◌, ℕ, false, None, [], length, IfOk, OnOk};
 ghost use Rattle.std.specs.List.{AllByRecursion};
 ghost use Rattle.cluster_msgs.specs.Shape.{key_count};
 ghost use Rattle.cluster_rules.specs.Client.{new_client};
@@ -10,7 +10,7 @@ ghost use Rattle.gather_client.specs.CoreState.{client_facts};
 ghost use Rattle.message_queues.specs.Queues.{waiting};
 ghost use Rattle.cluster_laws.specs.Blocks.{no_blocks};
 ghost use Rattle.cluster_nodes.specs.Nodes.{cluster_of};
-ghost use Rattle.cluster_nodes.specs.Kept.{IsNodes, ClientsTookFew, TookFew};
+ghost use Rattle.cluster_nodes.specs.Kept.{IsEmpty, IsNodes, ClientsTookFew, TookFew};
 
 use crate::nodes::Nodes;
 use cluster_msgs::{GraphShape, Message};
@@ -21,41 +21,44 @@ use std::alloc::{AllocError, Global};
 use worker_core::WorkerCore;
 
 /// This many clients that want nothing.
-fn new_clients(alloc: Global, shape: &GraphShape, count: u32) -> Result<Vec<ClientCore>, AllocError>
-    ensures length { IfOk result (λ cores. length cores.items ≡ count) }
-    ensures new { IfOk result (λ cores. AllByRecursion (λ c. client_facts c ≡ new_client shape.now) cores.items) }
-    ensures few { IfOk result (λ cores. ClientsTookFew 0 cores.items) }
+fn add_clients(
+    alloc: Global,
+    shape: &GraphShape,
+    cores: &mut Vec<ClientCore>,
+    count: u32,
+) -> Result<(), AllocError>
+    requires { cores.old.items ≡ [] }
+    ensures length { OnOk result (length cores.new.items ≡ count) }
+    ensures new { OnOk result (AllByRecursion (λ c. client_facts c ≡ new_client shape.now) cores.new.items) }
+    ensures few { OnOk result (ClientsTookFew 0 cores.new.items) }
 {
-    let mut cores = Vec::new(alloc);
     for _core in 0..count {
         cores.push(ClientCore::new(alloc, shape.copy()?)?)?;
     }
-    Ok(cores)
+    Ok(())
 }
 
-/// This many links without messages.
-fn new_links(alloc: Global, count: u32) -> Result<Links<Message>, AllocError>
-    ensures length { IfOk result (λ links. length links ≡ count) }
-    ensures none { IfOk result (λ links. waiting links ≡ (λ i. [])) }
+/// This many more links, without messages.
+fn add_links(links: &mut Links<Message>, count: u32) -> Result<(), AllocError>
+    ensures length { OnOk result (length links.new ≡ length links.old + count) }
+    ensures meaning { waiting links.new ≡ waiting links.old }
 {
-    let mut links = Links::new(alloc);
     for _link in 0..count {
         links.add()?;
     }
-    Ok(links)
+    Ok(())
 }
 
-/// This many nodes without anything.
-fn new_shelf<T: Drop>(alloc: Global, keys: u32, count: u32) -> Result<Shelf<T>, AllocError>
-    ensures height { IfOk result (λ shelf. height shelf ≡ count) }
-    ensures width { IfOk result (λ shelf. width shelf ≡ keys) }
-    ensures none { IfOk result (λ shelf. cell shelf None ≡ (λ i k. None)) }
+/// This many more nodes, without anything.
+fn add_nodes<T: Drop>(shelf: &mut Shelf<T>, count: u32) -> Result<(), AllocError>
+    ensures height { OnOk result (height shelf.new ≡ height shelf.old + count) }
+    ensures width { width shelf.new ≡ width shelf.old }
+    ensures meaning { cell shelf.new None ≡ cell shelf.old None }
 {
-    let mut shelf = Shelf::new(alloc, keys);
     for _node in 0..count {
         shelf.add()?;
     }
-    Ok(shelf)
+    Ok(())
 }
 
 impl<B: Drop> Nodes<B> {
@@ -73,36 +76,58 @@ impl<B: Drop> Nodes<B> {
         ensures few { IfOk result (λ n. TookFew 0 n) }
     {
         let keys = shape.keys();
-        let count = clients + 1;
-        let mut workers = Vec::new(alloc);
-        workers.push(WorkerCore::new(alloc, 0, 0, shape.copy()?)?)?;
-        let mut spilled = Grid::empty(alloc, keys);
-        spilled.push(Row::filled(alloc, keys as usize, false)?)?;
-        let clients = new_clients(alloc, &shape, count)?;
-        let alive = Row::filled(alloc, 1, false)?;
-        let down = new_links(alloc, 1)?;
-        let up = new_links(alloc, 1)?;
-        let to_client = new_links(alloc, count)?;
-        let from_client = new_links(alloc, count)?;
-        let held = new_shelf(alloc, keys, 1)?;
-        let inputs = new_shelf(alloc, keys, 1)?;
-        let got = new_shelf(alloc, keys, count)?;
-        Ok(Nodes {
+        let mut nodes = Nodes {
             alloc,
             shape,
-            clients,
-            workers,
-            alive,
-            spilled,
-            down,
-            up,
-            to_client,
-            from_client,
+            clients: Vec::new(alloc),
+            workers: Vec::new(alloc),
+            alive: Row::empty(alloc),
+            spilled: Grid::empty(alloc, keys),
+            down: Links::new(alloc),
+            up: Links::new(alloc),
+            to_client: Links::new(alloc),
+            from_client: Links::new(alloc),
             requests: Transits::new(alloc),
             answers: Transits::new(alloc),
-            held,
-            inputs,
-            got,
-        })
+            held: Shelf::new(alloc, keys),
+            inputs: Shelf::new(alloc, keys),
+            got: Shelf::new(alloc, keys),
+        };
+        match nodes.begin(clients + 1) {
+            Ok(()) => Ok(nodes),
+            Err(error) => {
+                drop(nodes);
+                Err(error)
+            }
+        }
+    }
+
+    /// The place of the worker that stands for nobody, and so many clients that want nothing.
+    ///
+    /// # Errors
+    /// Where no memory is left; what the nodes are then isn't said.
+    fn begin(&mut self, count: u32) -> Result<(), AllocError>
+        requires { IsEmpty self.old }
+        ensures cluster { OnOk result ((s : Setting) → s.shape ≡ self.old.shape → cluster_of (sched_opening s) self.new ≡ record { world = opening (record { setting = s; zero = λ k. false }); blocks = no_blocks }) }
+        ensures nodes { OnOk result (IsNodes self.new) }
+        ensures workers { OnOk result (length self.new.workers.items ≡ 1) }
+        ensures clients { OnOk result (length self.new.clients.items ≡ count) }
+        ensures shape { self.new.shape ≡ self.old.shape }
+        ensures few { OnOk result (TookFew 0 self.new) }
+    {
+        add_clients(self.alloc, &self.shape, &mut self.clients, count)?;
+        add_links(&mut self.to_client, count)?;
+        add_links(&mut self.from_client, count)?;
+        add_nodes(&mut self.got, count)?;
+        let row = Row::filled(self.alloc, self.shape.keys() as usize, false)?;
+        self.spilled.push(row)?;
+        self.alive.push(false)?;
+        self.down.add()?;
+        self.up.add()?;
+        self.held.add()?;
+        self.inputs.add()?;
+        let core = WorkerCore::new(self.alloc, 0, 0, self.shape.copy()?)?;
+        self.workers.push(core)?;
+        Ok(())
     }
 }

@@ -7,7 +7,7 @@ use Rattle.cluster_msgs.specs.declared.events.Event.TheVariants.{Join, Balance, 
 use Rattle.cluster_rules.specs.World.{Job, World, opening}
 use Rattle.cluster_rules.specs.WorldStep.{world_step}
 use Rattle.cluster_rules.specs.Enabled.{enabled, message}
-use Rattle.cluster_rules.specs.Runs.{LegalFrom, run_from}
+use Rattle.cluster_rules.specs.Runs.{LegalFrom, legal, run_from, Safe}
 use Rattle.cluster_rules.specs.Report.{Taken, taken, is_join, how_many}
 use Rattle.cluster_rules.specs.Draw.{Plan, Sim, Next, Over, Scripted, Evicts, Balances, Spent, Drawn, Verdict, DrawnFrom, opening_events, sim_from, next, event_of, moved, verdict}
 use Rattle.run_report.specs.Counts.{IsCountOf}
@@ -21,7 +21,7 @@ legal_more : (j : Job) (w : World) (es : List Event) (e : Event) → LegalFrom j
 legal_more j w [] e l h = (h, tt)
 legal_more j w (x ∷ xs) e l h = (l.0, legal_more j (world_step j w x) xs e l.1 h)
 
-run_more : (j : Job) (w : World) (es : List Event) (e : Event) → run_from j w (es ++ e ∷ []) ≡ world_step j (run_from j w es) e
+pub run_more : (j : Job) (w : World) (es : List Event) (e : Event) → run_from j w (es ++ e ∷ []) ≡ world_step j (run_from j w es) e
 run_more j w [] e = refl
 run_more j w (x ∷ xs) e = run_more j (world_step j w x) xs e
 
@@ -134,10 +134,11 @@ course_more j words p wanted s r t u n e h room few may q is count = subst (λ x
 })
 
 -- at its end the events are those of the simulation
-pub course_end : (j : Job) (words : ℕ → ℕ) (p : Plan) (wanted : List ℕ) (s : Sim) (t : Tally) (n : ℕ) (v : Verdict) (h : Course j words p wanted s t n) → verdict s (next words p s) ≡ Some v → IsSimulated j words p wanted (opening_events p wanted ++ h.later) v s.world
-course_end j words p wanted s t n v h q = record {
+pub course_end : (j : Job) (words : ℕ → ℕ) (p : Plan) (wanted : List ℕ) (s : Sim) (t : Tally) (n : ℕ) (v : Verdict) (h : Course j words p wanted s t n) → ((es : List Event) → legal j es → Safe j es) → verdict s (next words p s) ≡ Some v → IsSimulated j words p wanted (opening_events p wanted ++ h.later) v s.world
+course_end j words p wanted s t n v h safe q = record {
   drawn = record { later = h.later; whole = refl; drawn = draws_end j words p _ s h.later v h.drawn q };
   legal = h.made.legal;
+  safe = safe (opening_events p wanted ++ h.later) h.made.legal;
   few = h.made.few;
   reached = h.made.reached;
 }

@@ -16,16 +16,18 @@ use Rattle.cluster_rules.specs.Draw.{Plan, Sim, Next, Over, Scripted, Evicts, Ba
 use Rattle.cluster_laws.proofs.WorldLemmas.{progress_enabled}
 use Rattle.cluster_rules.proofs.InsideWorker.{all_filter_in, all_map_in}
 use Rattle.cluster_rules.proofs.InsideSched.{all_flat_map_in, all_always}
+use Rattle.safety_laws.proofs.Staying.{takes_away}
 use Rattle.cluster_sim.specs.Plans.{joins_in}
 use Rattle.cluster_sim.proofs.WorldKeeps.{joins, is_gentle}
 
--- a progress event is gentle, and no join
+-- a progress event is gentle, no join, and takes no worker away that is alive
 pub record IsProgress (e : Event) : Type 0 where
   pub gentle : is_gentle e ≡ true
   pub joins : joins e ≡ 0
+  pub takes : (i : ℕ) → takes_away e i ≡ false
 
-easy : (e : Event) → is_gentle e ≡ true → joins e ≡ 0 → IsProgress e
-easy e g n = record { gentle = g; joins = n }
+easy : (e : Event) → is_gentle e ≡ true → joins e ≡ 0 → ((i : ℕ) → takes_away e i ≡ false) → IsProgress e
+easy e g n t = record { gentle = g; joins = n; takes = t }
 
 -- each event of these kinds
 each : {A : Type 0} (f : A → Event) → ((x : A) → IsProgress (f x)) → (xs : List A) → AllByRecursion IsProgress (map f xs)
@@ -36,27 +38,27 @@ each_pair f h ys xs = all_flat_map_in IsProgress (λ x. map (f x) (ys x)) xs (al
 
 kinds : (w : World) → AllByRecursion (λ es. AllByRecursion IsProgress es) (progress_kinds w)
 kinds w = (
-  each (λ i. SeeLoss i) (λ i. easy (SeeLoss i) refl refl) (all_workers w),
+  each (λ i. SeeLoss i) (λ i. easy (SeeLoss i) refl refl (λ x. refl)) (all_workers w),
   (
-    each (λ i. DeliverDown i) (λ i. easy (DeliverDown i) refl refl) (connected_workers w),
+    each (λ i. DeliverDown i) (λ i. easy (DeliverDown i) refl refl (λ x. refl)) (connected_workers w),
     (
-      each (λ i. DeliverUp i) (λ i. easy (DeliverUp i) refl refl) (connected_workers w),
+      each (λ i. DeliverUp i) (λ i. easy (DeliverUp i) refl refl (λ x. refl)) (connected_workers w),
       (
-        each (λ c. DeliverToClient c) (λ c. easy (DeliverToClient c) refl refl) (all_clients w),
+        each (λ c. DeliverToClient c) (λ c. easy (DeliverToClient c) refl refl (λ x. refl)) (all_clients w),
         (
-          each (λ c. DeliverFromClient c) (λ c. easy (DeliverFromClient c) refl refl) (all_clients w),
+          each (λ c. DeliverFromClient c) (λ c. easy (DeliverFromClient c) refl refl (λ x. refl)) (all_clients w),
           (
-            each (λ i. Start i) (λ i. easy (Start i) refl refl) (connected_workers w),
+            each (λ i. Start i) (λ i. easy (Start i) refl refl (λ x. refl)) (connected_workers w),
             (
-              each_pair (λ i k. Finish i k) (λ i k. easy (Finish i k) refl refl) (λ i. below (key_count (shape_of w))) (connected_workers w),
+              each_pair (λ i k. Finish i k) (λ i k. easy (Finish i k) refl refl (λ x. refl)) (λ i. below (key_count (shape_of w))) (connected_workers w),
               (
-                each_pair (λ a p. SendGather a p) (λ a p. easy (SendGather a p) refl refl) (λ a. all_workers w) (quiet_askers w),
+                each_pair (λ a p. SendGather a p) (λ a p. easy (SendGather a p) refl refl (λ x. refl)) (λ a. all_workers w) (quiet_askers w),
                 (
-                  each (λ (q : Parcel). ServeGather q.peer q.asker q.ask) (λ q. easy (ServeGather q.peer q.asker q.ask) refl refl) w.requests,
+                  each (λ (q : Parcel). ServeGather q.peer q.asker q.ask) (λ q. easy (ServeGather q.peer q.asker q.ask) refl refl (λ x. refl)) w.requests,
                   (
-                    each (λ (q : Parcel). ArriveGather q.asker q.peer q.ask) (λ q. easy (ArriveGather q.asker q.peer q.ask) refl refl) (filter (λ (q : Parcel). is_quiet_asker w q.asker) w.answers),
+                    each (λ (q : Parcel). ArriveGather q.asker q.peer q.ask) (λ q. easy (ArriveGather q.asker q.peer q.ask) refl refl (λ x. refl)) (filter (λ (q : Parcel). is_quiet_asker w q.asker) w.answers),
                     (
-                      each_pair (λ a p. FailGather a p) (λ a p. easy (FailGather a p) refl refl) (λ a. filter (λ p. not (w.alive p)) (all_workers w)) (quiet_askers w),
+                      each_pair (λ a p. FailGather a p) (λ a p. easy (FailGather a p) refl refl (λ x. refl)) (λ a. filter (λ p. not (w.alive p)) (all_workers w)) (quiet_askers w),
                       tt,
                     ),
                   ),

@@ -10,7 +10,7 @@ use Rattle.cluster_sim.proofs.ActLemmas.{same_job}
 use Rattle.cluster_rules.specs.World.{Job}
 use Rattle.cluster_sim.specs.Acts.{Stays, running}
 use Rattle.cluster_sim.specs.Drawn.{word_of}
-use Rattle.cluster_sim.specs.Simulations.{IsUnfinished}
+use Rattle.cluster_sim.specs.Simulations.{GoesOn}
 use Rattle.cluster_sim.specs.Standing.{sim_of, left}
 use Rattle.cluster_sim.specs.Turns.{IsBetween, IsDrawn, HasStayed, HasEnded, EndsBy, AfterTurn, DrawnTurn, HasServed, HasPlayed, AfterPlay, DrawnPlay, IsFull}
 use Rattle.cluster_sim.specs.declared.run.Run.{Run}
@@ -27,7 +27,7 @@ pub drawn_failed : {J B F : Type 0} (op : J → ℕ → List B → Option B) (te
     → event_of (next (word_of number) p (sim_of p (world old) a.standing)) ≡ Some x → (e ≡ Turns → ⊥) → (e ≡ Spent → old.events ≡ event_limit) → DrawnTurn op tells p wanted number old new a b (Err e)
 drawn_failed op tells p wanted number old new a b Turns x d n f s = absurd (f refl)
 drawn_failed op tells p wanted number old new a b Feed x d n f s = tt
-drawn_failed op tells p wanted number old new a b Spent x d n f s = record { later = d.course.later; stands = sim_of p (world old) a.standing; drawn = d.course.drawn; count = d.course.made.count ∙ s refl; goes_on = (x, n) }
+drawn_failed op tells p wanted number old new a b Spent x d n f s = record { later = d.course.later; stands = sim_of p (world old) a.standing; drawn = d.course.drawn; legal = d.course.made.legal; count = d.course.made.count ∙ s refl; goes_on = (x, n) }
 drawn_failed op tells p wanted number old new a b OutOfMemory x d n f s = tt
 
 -- a turn that found the end, and what a play says then
@@ -52,7 +52,7 @@ pub drawn_play_failed : {J B F : Type 0} (op : J → ℕ → List B → Option B
 drawn_play_failed op tells p wanted number old new a b Turns k d s v =
     subst (λ x. HasPlayed op tells p wanted number OutOfTurns x b) (sym s.stayed.world) (subst (λ (r : Run). HasPlayed op tells p wanted number OutOfTurns old r) (sym s.stayed.run) (record { drawn = d; ends = v }))
 drawn_play_failed op tells p wanted number old new a b Feed k d s v = tt
-drawn_play_failed op tells p wanted number old new a b Spent k d s v = subst (λ (j : Job). IsUnfinished j (word_of number) p wanted event_limit) (sym (same_job op tells old new k)) v
+drawn_play_failed op tells p wanted number old new a b Spent k d s v = subst (λ (j : Job). GoesOn j (word_of number) p wanted event_limit) (sym (same_job op tells old new k)) v
 drawn_play_failed op tells p wanted number old new a b OutOfMemory k d s v = tt
 
 -- fewer events are left, also by the setting after the turn
@@ -68,9 +68,9 @@ pub waiting_play : {J B F : Type 0} (p : Plan) (wanted : List ℕ) (s : State J 
 waiting_play p wanted s r e q h = subst (λ x. AfterPlay p wanted s r (Err x)) q h
 
 pub unfinished_play : {J B F : Type 0} (op : J → ℕ → List B → Option B) (tells : J → F → Type 0) (p : Plan) (wanted : List ℕ) (number : ℕ) (old s : State J B F) (r : Run) (e : SimError) → Stays tells old s → e ≡ Spent → DrawnPlay op tells p wanted number s r (Err e)
-    → IsUnfinished (running op old) (word_of number) p wanted event_limit
+    → GoesOn (running op old) (word_of number) p wanted event_limit
 unfinished_play op tells p wanted number old s r e k q h =
-    subst (λ (j : Job). IsUnfinished j (word_of number) p wanted event_limit) (same_job op tells old s k) (subst (λ x. DrawnPlay op tells p wanted number s r (Err x)) q h)
+    subst (λ (j : Job). GoesOn j (word_of number) p wanted event_limit) (same_job op tells old s k) (subst (λ x. DrawnPlay op tells p wanted number s r (Err x)) q h)
 
 pub turns_play : {J B F : Type 0} (op : J → ℕ → List B → Option B) (tells : J → F → Type 0) (p : Plan) (wanted : List ℕ) (number : ℕ) (s : State J B F) (r : Run) (e : SimError) → e ≡ Turns → DrawnPlay op tells p wanted number s r (Err e) → HasPlayed op tells p wanted number OutOfTurns s r
 turns_play op tells p wanted number s r e q h = subst (λ x. DrawnPlay op tells p wanted number s r (Err x)) q h

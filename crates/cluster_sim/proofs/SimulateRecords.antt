@@ -5,8 +5,9 @@ use Rattle.cluster_msgs.specs.Values.{val}
 use Rattle.cluster_msgs.specs.declared.events.Report.{Report}
 use Rattle.cluster_rules.specs.Sched.{Setting}
 use Rattle.cluster_rules.specs.World.{Job, World as Cluster, opening, rest}
+use Rattle.cluster_rules.specs.Runs.{legal, Safe}
 use Rattle.cluster_rules.specs.Report.{Taken, taken, report}
-use Rattle.cluster_rules.specs.Draw.{Plan, Verdict, Served, opening_events, sim_from}
+use Rattle.cluster_rules.specs.Draw.{Plan, Verdict, Served, OutOfTurns, opening_events, sim_from}
 use Rattle.run_report.specs.Counts.{IsCountOf}
 use Rattle.cluster_world.specs.declared.state.State.{State}
 use Rattle.cluster_world.specs.Worlds.{world, setting}
@@ -19,11 +20,12 @@ use Rattle.cluster_sim.specs.Standing.{sim_of, IsStanding}
 use Rattle.cluster_sim.specs.Passing.{first_standing}
 use Rattle.cluster_sim.specs.Openings.{AreWanted, HasOpened}
 use Rattle.cluster_sim.specs.Turns.{IsBetween, IsDrawn, HasServed, HasPlayed}
-use Rattle.cluster_sim.specs.Simulations.{IsReported, IsCut, IfBlamed}
+use Rattle.cluster_sim.specs.Simulations.{IsReported, IsCut, IsExhausted, GoesOn, IsUnfinished, IfBlamed}
 use Rattle.cluster_sim.specs.declared.standing.Standing.{Standing}
 use Rattle.cluster_sim.specs.declared.run.Run.{Run}
 use Rattle.cluster_sim.proofs.CourseLemmas.{course_start, course_end}
 use Rattle.cluster_sim.proofs.SimulateLemmas.{standing_first, blame_is}
+use Rattle.cluster_sim.proofs.QuietLemmas.{past_bound}
 use Rattle.cluster_sim.proofs.ActLemmas.{same_job}
 use Rattle.cluster_sim.proofs.TurnLemmas.{budgeted}
 
@@ -59,24 +61,36 @@ there op tells p wanted number v old new r stays h = subst (λ (j : Job). Course
 
 -- its report, and that it is the simulation
 pub reported : {J B F : Type 0} (op : J → ℕ → List B → Option B) (tells : J → F → Type 0) (p : Plan) (wanted : List ℕ) (number : ℕ) (v : Verdict) (old new : State J B F) (r : Run) (made : Report) (g : Shape) → Stays tells old new → g ≡ (setting new).shape
-    → ((es : List Taken) → IsCountOf r.tally es → made ≡ report g es) → HasPlayed op tells p wanted number v new r → IsReported (running op old) (word_of number) p wanted v (world new) made
-reported op tells p wanted number v old new r made g stays shape count h =
+    → ((es : List Taken) → IsCountOf r.tally es → made ≡ report g es) → ((es : List Event) → legal (running op old) es → Safe (running op old) es) → HasPlayed op tells p wanted number v new r → IsReported (running op old) (word_of number) p wanted v (world new) made
+reported op tells p wanted number v old new r made g stays shape count safe h =
     let c = there op tells p wanted number v old new r stays h in record {
       events = opening_events p wanted ++ c.later;
-      simulated = course_end (running op old) (word_of number) p wanted (sim_of p (world new) r.standing) r.tally new.events v c h.ends;
+      simulated = course_end (running op old) (word_of number) p wanted (sim_of p (world new) r.standing) r.tally new.events v c safe h.ends;
       report = count _ c.made.counted ∙ ap (λ x. report x (taken (running op old) (opening (running op old)) (opening_events p wanted ++ c.later))) (shape ∙ ap (λ (s : Setting). s.shape) stays.setting);
     }
 
-pub cut_off : {J B F : Type 0} (op : J → ℕ → List B → Option B) (tells : J → F → Type 0) (p : Plan) (wanted : List ℕ) (number : ℕ) (v : Verdict) (old new : State J B F) (r : Run) → Stays tells old new → HasPlayed op tells p wanted number v new r
+pub cut_off : {J B F : Type 0} (op : J → ℕ → List B → Option B) (tells : J → F → Type 0) (p : Plan) (wanted : List ℕ) (number : ℕ) (v : Verdict) (old new : State J B F) (r : Run) → Stays tells old new → ((es : List Event) → legal (running op old) es → Safe (running op old) es) → HasPlayed op tells p wanted number v new r
     → IsCut (running op old) (word_of number) p wanted v (world new)
-cut_off op tells p wanted number v old new r stays h =
+cut_off op tells p wanted number v old new r stays safe h =
     let c = there op tells p wanted number v old new r stays h in record {
       events = opening_events p wanted ++ c.later;
-      simulated = course_end (running op old) (word_of number) p wanted (sim_of p (world new) r.standing) r.tally new.events v c h.ends;
+      simulated = course_end (running op old) (word_of number) p wanted (sim_of p (world new) r.standing) r.tally new.events v c safe h.ends;
     }
 
+-- no turn was left
+pub exhausted_by : {J B F : Type 0} (op : J → ℕ → List B → Option B) (tells : J → F → Type 0) (p : Plan) (wanted : List ℕ) (number : ℕ) (old new : State J B F) (r : Run) → Stays tells old new → ((es : List Event) → legal (running op old) es → Safe (running op old) es) → 1 ≤ (setting old).clients → HasPlayed op tells p wanted number OutOfTurns new r
+    → IsExhausted (running op old) (word_of number) p wanted (world new)
+unfolding cut_off
+exhausted_by op tells p wanted number old new r stays safe some h = record {
+  cut = cut_off op tells p wanted number OutOfTurns old new r stays safe h;
+  past = λ i a c. past_bound (running op old) (word_of number) p wanted (sim_of p (world new) r.standing) r.tally new.events (there op tells p wanted number OutOfTurns old new r stays h) (safe _ (there op tells p wanted number OutOfTurns old new r stays h).made.legal) some h.ends i a c;
+}
+
+pub unfinished_by : (j : Job) (words : ℕ → ℕ) (p : Plan) (wanted : List ℕ) (many : ℕ) → ((es : List Event) → legal j es → Safe j es) → GoesOn j words p wanted many → IsUnfinished j words p wanted many
+unfinished_by j words p wanted many safe h = record { made = h; safe = safe (opening_events p wanted ++ h.later) h.legal }
+
 pub blamed_by : {J B F : Type 0} (op : J → ℕ → List B → Option B) (tells : J → F → Type 0) (p : Plan) (wanted : List ℕ) (number : ℕ) (failure : Option ℕ) (old new : State J B F) (r : Run) (g : Shape) → IsShape g → g ≡ (setting new).shape → Stays tells old new
-    → HasServed p wanted failure new r → HasPlayed op tells p wanted number (Served r.standing.turns failure) new r → IfBlamed (deps_of (setting old).shape) (val (deps_of (setting old).shape) (op old.job)) wanted failure
-blamed_by op tells p wanted number failure old new r g sound shape stays served h =
-    let c = cut_off op tells p wanted number (Served r.standing.turns failure) old new r stays h in
+    → HasServed p wanted failure new r → ((es : List Event) → legal (running op old) es → Safe (running op old) es) → HasPlayed op tells p wanted number (Served r.standing.turns failure) new r → IfBlamed (deps_of (setting old).shape) (val (deps_of (setting old).shape) (op old.job)) wanted failure
+blamed_by op tells p wanted number failure old new r g sound shape stays served safe h =
+    let c = cut_off op tells p wanted number (Served r.standing.turns failure) old new r stays safe h in
     blame_is (setting old) (op old.job) wanted c.events (world new) failure (subst IsShape (shape ∙ ap (λ (s : Setting). s.shape) stays.setting) sound) c.simulated.legal c.simulated.reached served.between.standing.client served.over

@@ -8,3 +8,4 @@ pub mod Acts
 pub mod Turns
 pub mod Openings
 pub mod Simulations
+pub mod Quiet

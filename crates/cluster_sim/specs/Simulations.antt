@@ -4,17 +4,20 @@ use Rattle.cluster_msgs.specs.declared.events.Event.{Event}
 use Rattle.cluster_msgs.specs.declared.events.Report.{Report}
 use Rattle.cluster_msgs.specs.Values.{faulty, needed}
 use Rattle.cluster_rules.specs.Derived.{is_in}
-use Rattle.cluster_rules.specs.World.{Job, World, opening}
-use Rattle.cluster_rules.specs.Runs.{legal, reached, run_from}
+use Rattle.cluster_rules.specs.World.{Job, World, opening, is_connected}
+use Rattle.cluster_rules.specs.Runs.{legal, reached, run_from, Safe}
 use Rattle.cluster_rules.specs.Report.{taken, report}
-use Rattle.cluster_rules.specs.Draw.{Plan, Sim, Verdict, Draw, opening_events, sim_from, next, event_of}
+use Rattle.cluster_rules.specs.Draw.{Plan, Sim, Verdict, OutOfTurns, Draw, opening_events, sim_from, next, event_of}
 use Rattle.cluster_world.specs.Worlds.{event_limit}
 use Rattle.cluster_sim.specs.Courses.{DrawsTo}
+use Rattle.cluster_sim.specs.Quiet.{IsPastBound}
 
--- exactly the events that the rules draw, to this end. They are legal, no more than a world takes, and led to this world
+-- Exactly the events that the rules draw, to this end. They are legal, and so they are safe; they are no more than a world takes, and led to this
+-- world.
 pub record IsSimulated (j : Job) (words : ℕ → ℕ) (p : Plan) (wanted : List ℕ) (es : List Event) (v : Verdict) (w : World) : Type 0 where
   pub drawn : Draw j words p wanted es v
   pub legal : legal j es
+  pub safe : Safe j es
   pub few : length es ≤ event_limit
   pub reached : reached j es ≡ w
 
@@ -29,13 +32,25 @@ pub record IsCut (j : Job) (words : ℕ → ℕ) (p : Plan) (wanted : List ℕ) 
   pub events : List Event
   pub simulated : IsSimulated j words p wanted events v w
 
+-- No turn was left. Where a worker is alive and connected then, that isn't since nothing moves: some list of progress events is longer than the
+-- bound on such lists.
+pub record IsExhausted (j : Job) (words : ℕ → ℕ) (p : Plan) (wanted : List ℕ) (w : World) : Type 0 where
+  pub cut : IsCut j words p wanted OutOfTurns w
+  pub past : (i : ℕ) → w.alive i ≡ true → is_connected w i ≡ true → IsPastBound j cut.events
+
 -- so many of its events were made, one after another, and no end was reached: the rules go on by another event
-pub record IsUnfinished (j : Job) (words : ℕ → ℕ) (p : Plan) (wanted : List ℕ) (many : ℕ) : Type 0 where
+pub record GoesOn (j : Job) (words : ℕ → ℕ) (p : Plan) (wanted : List ℕ) (many : ℕ) : Type 0 where
   pub later : List Event
   pub stands : Sim
   pub drawn : DrawsTo j words p (sim_from p (run_from j (opening j) (opening_events p wanted))) later stands
+  pub legal : legal j (opening_events p wanted ++ later)
   pub count : length (opening_events p wanted ++ later) ≡ many
   pub goes_on : (e : Event) × (event_of (next words p stands) ≡ Some e)
+
+-- and so they are safe
+pub record IsUnfinished (j : Job) (words : ℕ → ℕ) (p : Plan) (wanted : List ℕ) (many : ℕ) : Type 0 where
+  pub made : GoesOn j words p wanted many
+  pub safe : Safe j (opening_events p wanted ++ made.later)
 
 -- the client has got all that is wanted
 abbrev pub HasAll : World → List ℕ → Type 0

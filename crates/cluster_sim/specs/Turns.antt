@@ -9,7 +9,7 @@ use Rattle.cluster_sim.specs.Acts.{running}
 use Rattle.cluster_sim.specs.Drawn.{word_of, IsAtTurn}
 use Rattle.cluster_sim.specs.Standing.{sim_of, IsStanding, left}
 use Rattle.cluster_sim.specs.Courses.{Course}
-use Rattle.cluster_sim.specs.Simulations.{IsUnfinished}
+use Rattle.cluster_sim.specs.Simulations.{GoesOn}
 use Rattle.cluster_sim.specs.declared.ended.Ending.{Ending}
 use Rattle.cluster_sim.specs.declared.run.Run.{Run}
 use Rattle.cluster_sim.specs.declared.act.SimError.{SimError}
@@ -71,7 +71,7 @@ DrawnTurn op tells p wanted number old new a b (Ok None) = IsDrawn op tells p wa
 DrawnTurn op tells p wanted number old new a b (Ok (Some end)) = EndsBy p number old a (Served a.standing.turns end.failure)
 DrawnTurn op tells p wanted number old new a b (Err Turns) = EndsBy p number old a OutOfTurns
 DrawnTurn op tells p wanted number old new a b (Err Feed) = Unit {0}
-DrawnTurn op tells p wanted number old new a b (Err Spent) = IsUnfinished (running op old) (word_of number) p wanted event_limit
+DrawnTurn op tells p wanted number old new a b (Err Spent) = GoesOn (running op old) (word_of number) p wanted event_limit
 DrawnTurn op tells p wanted number old new a b (Err OutOfMemory) = Unit {0}
 
 -- a whole play
@@ -94,5 +94,5 @@ abbrev pub DrawnPlay : {J B F : Type 0} → (J → ℕ → List B → Option B) 
 DrawnPlay op tells p wanted number s r (Ok end) = HasPlayed op tells p wanted number (Served r.standing.turns end.failure) s r
 DrawnPlay op tells p wanted number s r (Err Turns) = HasPlayed op tells p wanted number OutOfTurns s r
 DrawnPlay op tells p wanted number s r (Err Feed) = Unit {0}
-DrawnPlay op tells p wanted number s r (Err Spent) = IsUnfinished (running op s) (word_of number) p wanted event_limit
+DrawnPlay op tells p wanted number s r (Err Spent) = GoesOn (running op s) (word_of number) p wanted event_limit
 DrawnPlay op tells p wanted number s r (Err OutOfMemory) = Unit {0}

@@ -2,14 +2,14 @@
 ghost use Rattle.std.specs.Prelude.{◌≡◌, ◌↔◌, ℕ, None, Err, IfOk, OnOk};
 ghost use Rattle.cluster_msgs.specs.Shape.{key_count, deps_of};
 ghost use Rattle.cluster_msgs.specs.Values.{val};
-ghost use Rattle.cluster_rules.specs.Draw.{Served, OutOfTurns, over};
+ghost use Rattle.cluster_rules.specs.Draw.{Served, over};
 ghost use Rattle.cluster_world.specs.Worlds.{cluster, world as world_of, setting, event_limit, IsReached};
 ghost use Rattle.cluster_sim.specs.Acts.{CountsSim, Stays, running};
 ghost use Rattle.cluster_sim.specs.Drawn.{word_of};
 ghost use Rattle.cluster_sim.specs.Plans.{plan_of, IsPlan};
 ghost use Rattle.cluster_sim.specs.Openings.{IsOpening, AreWanted};
 ghost use Rattle.cluster_sim.specs.Turns.{IsBetween, IsDrawn, AfterPlay, DrawnPlay};
-ghost use Rattle.cluster_sim.specs.Simulations.{IsReported, IsCut, IsUnfinished, HasAll, IfBlamed};
+ghost use Rattle.cluster_sim.specs.Simulations.{IsReported, IsExhausted, IsUnfinished, HasAll, IfBlamed};
 
 use crate::act::SimError;
 use crate::ended::Ending;
@@ -37,13 +37,14 @@ pub struct SimEnd {
 /// Simulates a cluster until client 1 has got all wanted keys or was told of a failure: of those that it failed on, the
 /// least key's is told. The events are exactly those that the rules draw by the words of `rand_pcg`'s
 /// `Lcg64Xsh32::new(number, 1)`, one word a turn; where the world's feed tells what it holds, each outcome is that of the
-/// job's definition. It always returns.
+/// job's definition, and the events are legal and safe. It always returns.
 ///
 /// # Errors
 /// `Turns` and `Spent` only while the client waits still: it hasn't got all, and was told of no failure. Where the feed tells,
-/// `Turns` exactly where the rules then have no turn left: the bound on quiet runs is spent, or nothing moves. `Spent` only
-/// once the world took 2^40 events, and where the feed tells, only where the rules go on after those. `Feed` only where the
-/// feed's count of faults rose in this call. `OutOfMemory` where no memory is left.
+/// `Turns` exactly where the rules then have no turn left: while a worker is there, never since nothing moves, but since as
+/// many progress events as the bound on them allows were made one after another and one more is enabled. `Spent` only once
+/// the world took 2^40 events, and where the feed tells, only where the rules go on after those. `Feed` only where the feed's
+/// count of faults rose in this call. `OutOfMemory` where no memory is left.
 pub fn simulate<J: JobSpec>(
     alloc: Global,
     world: &mut World<J>,
@@ -59,7 +60,7 @@ pub fn simulate<J: JobSpec>(
     ensures served { IfOk result (λ end. J.feed_tells world.old.job world.old.feed →
         IsReported (running J.operation world.old) (word_of number) (plan_of plan.now) wanted.now (Served end.turns end.zero) (world_of world.new) end.report) }
     ensures turns { result ≡ Err SimError.Turns → J.feed_tells world.old.job world.old.feed →
-        IsCut (running J.operation world.old) (word_of number) (plan_of plan.now) wanted.now OutOfTurns (world_of world.new) }
+        IsExhausted (running J.operation world.old) (word_of number) (plan_of plan.now) wanted.now (world_of world.new) }
 
     ensures reached { OnOk result (J.feed_tells world.old.job world.old.feed → IsReached (setting world.new) (J.operation world.new.job) (cluster world.new)) }
 
@@ -77,6 +78,7 @@ pub fn simulate<J: JobSpec>(
         IsUnfinished (running J.operation world.old) (word_of number) (plan_of plan.now) wanted.now event_limit }
     ensures stays { Stays J.feed_tells world.old world.new }
 {
+    world.is_safe();
     let mut tally = Tally::new(alloc);
     make_opening(world, plan, wanted, &mut tally)?;
     let mut run = Run {

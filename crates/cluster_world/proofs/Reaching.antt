@@ -1,15 +1,16 @@
 -- A cluster that legal events made stays one after one more.
-use Rattle.std.proofs.Common.{◌≡◌, ℕ, true, List, [], ◌∷◌, ◌++◌, Option, refl, sym, ap, ◌∙◌}
+use Rattle.std.proofs.Common.{◌≡◌, ℕ, true, List, [], ◌∷◌, ◌++◌, Option, refl, sym, ap, ◌∙◌, subst, append-nil}
 use Rattle.cluster_msgs.specs.declared.events.Event.{Event}
 use Rattle.cluster_rules.specs.Sched.{Setting}
 use Rattle.cluster_rules.specs.World.{Job, World}
 use Rattle.cluster_rules.specs.WorldStep.{world_step}
 use Rattle.cluster_rules.specs.Enabled.{enabled}
-use Rattle.cluster_rules.specs.Runs.{LegalFrom, run_from, reached}
+use Rattle.cluster_rules.specs.Runs.{LegalFrom, legal, run_from, reached, Safe}
 use Rattle.cluster_msgs.specs.Shape.{IsShape}
 use Rattle.cluster_laws.specs.Blocks.{Cluster, job_of, opening_cluster}
 use Rattle.cluster_laws.specs.Moves.{cluster_step, cluster_run}
 use Rattle.cluster_laws.proofs.BlockValues.{world_of}
+use Rattle.cluster_world.specs.Safe.{IsSafeWorld}
 use Rattle.cluster_world.specs.Worlds.{IsReached}
 
 legal_more : (j : Job) (w : World) (es : List Event) (e : Event) → LegalFrom j w es → enabled (run_from j w es) e ≡ true → LegalFrom j w (es ++ e ∷ [])
@@ -29,8 +30,19 @@ module _ {B : Type 0} (s : Setting) (op : ℕ → List B → Option B) (g : IsSh
   reached_opening = record { events = []; legal = tt; run = refl }
 
   -- the world of such a cluster is the world of its events
-  world_is : (c : Cluster B) (r : IsReached s op c) → c.world ≡ reached (job_of s op) r.events
+  pub world_is : (c : Cluster B) (r : IsReached s op c) → c.world ≡ reached (job_of s op) r.events
   world_is c r = ap (λ (x : Cluster B). x.world) (sym r.run) ∙ world_of s op g r.events r.legal
+
+  -- and so it is safe, where the events that lead to it are
+  pub safe_now : (c : Cluster B) → IsReached s op c → ((es : List Event) → legal (job_of s op) es → Safe (job_of s op) es) → IsSafeWorld c.world
+  safe_now c r safe =
+      let h = safe r.events r.legal in
+      let whole : r.events ≡ r.events ++ [] = sym (append-nil r.events) in
+      subst IsSafeWorld (sym (world_is c r)) (record {
+        known = h.known r.events [] whole;
+        agrees = λ i d. h.agrees r.events [] i whole d;
+        lively = h.lively r.events [] whole;
+      })
 
   pub reached_step : (c : Cluster B) (e : Event) → enabled c.world e ≡ true → IsReached s op c → IsReached s op (cluster_step op c e)
   reached_step c e t r = record {

@@ -1,11 +1,19 @@
 -- A step of a world: taken, refused, spent, or stopped before.
-use Rattle.std.proofs.Common.{◌≡◌, ℕ, true, false, List, Option, Result, Ok, Err, OnOk, refl, sym, ◌∙◌, subst, arith}
+use Rattle.std.proofs.Common.{◌≡◌, ℕ, Bool, true, false, List, Option, Result, Ok, Err, OnOk, refl, sym, ◌∙◌, subst, arith}
 use Rattle.std.proofs.lemmas.Bool.{true≢false}
 use Rattle.cluster_msgs.specs.Shape.{IsShape}
 use Rattle.cluster_msgs.specs.declared.events.Event.{Event}
-use Rattle.cluster_rules.specs.Sched.{Setting}
+use Rattle.cluster_rules.specs.Sched.{Setting, IsSound}
+use Rattle.cluster_rules.specs.World.{Job, World, shape_of}
+use Rattle.cluster_rules.specs.WorldStep.{world_step}
 use Rattle.cluster_rules.specs.Enabled.{enabled}
+use Rattle.cluster_laws.specs.Moves.{world_after}
+use Rattle.safety_laws.specs.Attempts.{AttemptsEnd}
+use Rattle.safety_laws.proofs.Attempts.{world_attempts_end}
+use Rattle.scheduler_core.specs.Cores.{facts}
+use Rattle.cluster_nodes.specs.Nodes.{world_of}
 use Rattle.cluster_world.specs.declared.state.State.{State}
+use Rattle.cluster_world.specs.Orderly.{IsOrderly}
 use Rattle.cluster_world.specs.declared.state.Course.TheVariants.{Going, Fed, Starved}
 use Rattle.cluster_world.specs.declared.errors.StepError.{StepError}
 use Rattle.cluster_world.specs.declared.errors.StepError.TheVariants.{NotEnabled, Stopped, Feed, Spent, OutOfMemory}
@@ -102,6 +110,7 @@ module _ {J B F : Type 0} (operation : J → ℕ → List B → Option B) (feed_
     events = tt;
     by_values = tt;
     reached = tt;
+    attempts = tt;
     job = refl;
     setting = refl;
     tells = λ t. t;
@@ -129,6 +138,7 @@ module _ {J B F : Type 0} (operation : J → ℕ → List B → Option B) (feed_
     events = tt;
     by_values = tt;
     reached = tt;
+    attempts = tt;
     job = refl;
     setting = refl;
     tells = λ t. t;
@@ -156,6 +166,7 @@ module _ {J B F : Type 0} (operation : J → ℕ → List B → Option B) (feed_
     events = tt;
     by_values = tt;
     reached = tt;
+    attempts = tt;
     job = refl;
     setting = refl;
     tells = λ t. t;
@@ -183,6 +194,7 @@ module _ {J B F : Type 0} (operation : J → ℕ → List B → Option B) (feed_
     events = tt;
     by_values = tt;
     reached = tt;
+    attempts = tt;
     job = refl;
     setting = refl;
     tells = λ t. t;
@@ -199,11 +211,16 @@ module _ {J B F : Type 0} (operation : J → ℕ → List B → Option B) (feed_
     starved = λ h. refl;
   }
 
+-- where nothing names what isn't there, an attempt ends for a cause
+pub ends_for_a_cause : {J B F : Type 0} (e : Event) (s : State J B F) → IsOrderly (world s) → IsSound (facts s.sched) → enabled (world s) e ≡ true → (j : Job) → AttemptsEnd (world s) e (world_step j (world s) e)
+unfolding world_of
+ends_for_a_cause e s orderly sound t j = world_attempts_end (shape_of (world s)) j (world s) e orderly.inside orderly.from_client sound t
+
 -- taken, or stopped in this call
 pub step_taken : {J B F : Type 0} (operation : J → ℕ → List B → Option B) (feed_tells : J → F → Type 0) (fault_count : F → ℕ) (Fits : J → ℕ → B → Type 0) (e : Event) (r : Result (Unit {0}) StepError) (old new : State J B F)
-    → IsReady old → enabled (world old) e ≡ true → IsShape (setting old).shape → Advances (Fits old.job) (feed_tells old.job old.feed) (operation old.job) e r old new
+    → IsReady old → enabled (world old) e ≡ true → IsShape (setting old).shape → ((j : Job) → AttemptsEnd (world old) e (world_step j (world old) e)) → Advances (Fits old.job) (feed_tells old.job old.feed) (operation old.job) e r old new
     → new.job ≡ old.job → setting new ≡ setting old → (feed_tells old.job old.feed → feed_tells old.job new.feed) → CountsStep r (fault_count old.feed) (fault_count new.feed) → IsStep operation feed_tells fault_count e r old new
-step_taken {J} {B} {F} operation feed_tells fault_count Fits e r old new ready possible low a job set tells faults = record {
+step_taken {J} {B} {F} operation feed_tells fault_count Fits e r old new ready possible low ends a job set tells faults = record {
   ready = by r ready;
   possible = by r possible;
   world = world_taken (Fits old.job) (feed_tells old.job old.feed) (operation old.job) e old new r a;
@@ -212,6 +229,7 @@ step_taken {J} {B} {F} operation feed_tells fault_count Fits e r old new ready p
   events = counted (Fits old.job) (feed_tells old.job old.feed) (operation old.job) e old new r a;
   by_values = taken_by_values (Fits old.job) (feed_tells old.job old.feed) (operation old.job) e old new r a (setting old) low possible;
   reached = moved r (taken_reached (Fits old.job) (feed_tells old.job old.feed) (operation old.job) e old new r a (setting old) low possible);
+  attempts = ended r (world_taken (Fits old.job) (feed_tells old.job old.feed) (operation old.job) e old new r a);
   job = job;
   setting = set;
   tells = λ t. subst (λ j. feed_tells j new.feed) (sym job) (tells t);
@@ -231,6 +249,10 @@ step_taken {J} {B} {F} operation feed_tells fault_count Fits e r old new ready p
     by : {P : Type 0} (q : Result (Unit {0}) StepError) → P → OnOk q P
     by (Ok x) p = p
     by (Err x) p = tt
+
+    ended : (q : Result (Unit {0}) StepError) → OnOk q ((met : Bool) × (world new ≡ world_after met (world old) e)) → OnOk q (AttemptsEnd (world old) e (world new))
+    ended (Ok x) h = subst (λ (v : World). AttemptsEnd (world old) e v) (sym h.1) (ends (record { setting = (world old).sched.setting; zero = λ k. h.0 }))
+    ended (Err x) h = tt
 
     moved : (q : Result (Unit {0}) StepError) → OnOk q (feed_tells old.job old.feed → IsReached (setting old) (operation old.job) (cluster old) → IsReached (setting old) (operation old.job) (cluster new))
         → OnOk q (feed_tells old.job old.feed → IsReached (setting old) (operation old.job) (cluster old) → IsReached (setting new) (operation new.job) (cluster new))

@@ -7,3 +7,4 @@ pub mod Orderly
 pub mod Searching
 pub mod Taken
 pub mod Begun
+pub mod Safe

@@ -5,6 +5,7 @@ use Rattle.cluster_rules.specs.WorldStep.{world_step}
 use Rattle.cluster_rules.specs.Enabled.{enabled}
 use Rattle.cluster_laws.specs.Blocks.{job_of}
 use Rattle.cluster_laws.specs.Moves.{world_after, cluster_step}
+use Rattle.safety_laws.specs.Attempts.{AttemptsEnd}
 use Rattle.cluster_world.specs.declared.state.State.{State}
 use Rattle.cluster_world.specs.declared.state.Course.TheVariants as course
 use Rattle.cluster_world.specs.declared.errors.StepError.{StepError}
@@ -21,6 +22,7 @@ pub record IsStep {J B F : Type 0} (operation : J → ℕ → List B → Option 
   pub events : OnOk r (new.events ≡ old.events + 1)
   pub by_values : OnOk r (feed_tells old.job old.feed → IsReached (setting_now old) (operation old.job) (cluster_now old) → world_now new ≡ world_step (job_of (setting_now old) (operation old.job)) (world_now old) e)
   pub reached : OnOk r (feed_tells old.job old.feed → IsReached (setting_now old) (operation old.job) (cluster_now old) → IsReached (setting_now new) (operation new.job) (cluster_now new))
+  pub attempts : OnOk r (AttemptsEnd (world_now old) e (world_now new))
   pub job : new.job ≡ old.job
   pub setting : setting_now new ≡ setting_now old
   pub tells : feed_tells old.job old.feed → feed_tells new.job new.feed

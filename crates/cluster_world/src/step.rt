@@ -8,6 +8,7 @@ use crate::errors::StepError;
 use crate::events::advance;
 use crate::state::{Course, State};
 use cluster_msgs::{Event, JobSpec};
+use cluster_rules::Facts;
 
 /// A world takes at most this many events, 2^40.
 const EVENT_LIMIT: u64 = 1_099_511_627_776;
@@ -46,5 +47,6 @@ fn take_going<J: JobSpec>(
     if !state.enabled(e) {
         return Err(StepError::NotEnabled);
     }
+    state.sched.sound();
     advance(state, e)
 }

@@ -13,6 +13,8 @@ ghost use Rattle.cluster_msgs.specs.declared.events.Event.{Event as EventFact};
 ghost use Rattle.cluster_laws.specs.Blocks.{job_of, setting_of, opening_cluster};
 ghost use Rattle.cluster_laws.specs.Moves.{world_after, cluster_step};
 ghost use Rattle.cluster_world.specs.Worlds.{cluster, world, setting, event_limit, IsReady, IsReached};
+ghost use Rattle.safety_laws.specs.Attempts.{AttemptsEnd};
+ghost use Rattle.cluster_world.specs.Safe.{IsSafeWorld};
 ghost use Rattle.cluster_world.specs.Steps.{CountsStep, IfBlamed};
 
 use crate::errors::StepError;
@@ -81,6 +83,9 @@ impl<J: JobSpec> World<J> {
     /// Where the feed tells what it holds, the outcome of each operation is that of the definition. So a world that legal
     /// events made goes to `world_step` of it, and stays one that legal events made.
     ///
+    /// A key keeps its worker and its attempt, unless the event ends the attempt: the scheduler counts its finish, its error or
+    /// the worker's yes to a steal, takes that the worker leaves, or sends the worker a free-keys with the key.
+    ///
     /// # Errors
     /// `OutOfMemory` where no memory is left, and then at every later call. `Stopped` exactly where an earlier step
     /// answered `Feed`. Else `Spent` exactly where 2^40 events were taken. Else `NotEnabled` exactly where the event isn't
@@ -92,6 +97,7 @@ impl<J: JobSpec> World<J> {
         ensures possible { OnOk result (enabled (world self.old) e.now ≡ true) }
         ensures world { OnOk result ((met : Bool) × (world self.new ≡ world_after met (world self.old) e.now)) }
         ensures cluster { OnOk result (J.feed_tells self.old.job self.old.feed → cluster self.new ≡ cluster_step (J.operation self.old.job) (cluster self.old) e.now) }
+        ensures attempts { OnOk result (AttemptsEnd (world self.old) e.now (world self.new)) }
         ensures goes { OnOk result (self.new.course ≡ self.old.course) }
         ensures events { OnOk result (self.new.events ≡ self.old.events + 1) }
         ensures by_values { OnOk result (J.feed_tells self.old.job self.old.feed → IsReached (setting self.old) (J.operation self.old.job) (cluster self.old) →
@@ -154,9 +160,12 @@ impl<J: JobSpec> World<J> {
         self.state.block(client, key)
     }
 
-    /// Schedule safety holds of all legal events of the world's setting, and so of those that made it.
+    /// Schedule safety: it holds of every legal list of events of the world's job and setting. So a world that legal events
+    /// made is safe: the scheduler has facts of known keys alone and only needed ones are held, a worker with no message under
+    /// way agrees with it, and while a client waits and a worker is there, some progress event is enabled. It does nothing.
     pub fn is_safe(&self)
-        ensures { (es : List EventFact) → legal (job_of (setting self.now) (J.operation self.now.job)) es → Safe (job_of (setting self.now) (J.operation self.now.job)) es }
+        ensures events { (es : List EventFact) → legal (job_of (setting self.now) (J.operation self.now.job)) es → Safe (job_of (setting self.now) (J.operation self.now.job)) es }
+        ensures world { IsReached (setting self.now) (J.operation self.now.job) (cluster self.now) → IsSafeWorld (world self.now) }
     {
         self.state.sched.sound();
         schedules_are_safe();

@@ -1,5 +1,5 @@
 // The reader of a header's bytes.
-ghost use Rattle.std.specs.Prelude.{◌≡◌, ◌∷◌, ◌++◌, [], List, ℕ, true, false, Ok, Some, None, IfOk, IfErr};
+ghost use Rattle.std.specs.Prelude.{◌≡◌, ◌∷◌, ◌++◌, [], List, ℕ, true, false, Ok, Some, None, IfOk, IfErr, OnOk};
 ghost use Rattle.grammar.specs.Tables.{grammar_of, moves_end};
 ghost use Rattle.grammar.specs.Runs.{RefusesNext};
 ghost use Rattle.npy_header.specs.Kinds.{kind_of};
@@ -61,6 +61,24 @@ fn take_end(reader: &mut Reader, scanner: &mut Scanner) -> Result<bool, AllocErr
     }
 }
 
+// Reads all bytes of a header into what is kept of it.
+fn read_bytes(reader: &mut Reader, scanner: &mut Scanner, bytes: &[u8]) -> Result<(), HeaderError>
+    requires table { reader.old.table ≡ header_rows }
+    requires reading { IsReading [] reader.old.left scanner.old }
+    ensures ok { OnOk result (Says bytes.now (fields_of scanner.new)) }
+    ensures refused { IfErr result (RefusedAs bytes.now) }
+{
+    for (at, byte) in bytes.iter().enumerate() {
+        if !take_byte(reader, scanner, *byte)? {
+            return Err(HeaderError::Refused { at });
+        }
+    }
+    if !take_end(reader, scanner)? {
+        return Err(HeaderError::Refused { at: bytes.len() });
+    }
+    Ok(())
+}
+
 /// Reads a header: all bytes between the ten fixed bytes of the file and the data, as NEP 1 has them.
 ///
 /// The dictionary's keys may stand in any order, in either quotes, with any number of spaces between tokens, with or without
@@ -73,13 +91,6 @@ pub fn read_header_text(alloc: Global, bytes: &[u8]) -> Result<HeaderFields, Hea
 {
     let mut reader = Reader::new(alloc, table(), HEADER)?;
     let mut scanner = Scanner::new(alloc);
-    for (at, byte) in bytes.iter().enumerate() {
-        if !take_byte(&mut reader, &mut scanner, *byte)? {
-            return Err(HeaderError::Refused { at });
-        }
-    }
-    if !take_end(&mut reader, &mut scanner)? {
-        return Err(HeaderError::Refused { at: bytes.len() });
-    }
+    read_bytes(&mut reader, &mut scanner, bytes)?;
     Ok(scanner.into_fields())
 }

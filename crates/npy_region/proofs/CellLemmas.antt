@@ -1,13 +1,12 @@
 -- Bytes as elements: chunks of eight, parts of the data, and reads piece by piece.
-use Rattle.std.proofs.Common.{◌≡◌, ℕ, ℤ, pos, zero, suc, ◌≤◌, ◌<◌, ◌+◌, ◌-◌, ◌*◌, ◌/◌, List, [], ◌∷◌, ◌++◌, length, take, drop, get_or, refl, ap, ap₂, sym, ◌∙◌, arith, subst, append_assoc, min}
+use Rattle.std.proofs.Common.{◌≡◌, ℕ, ℤ, pos, zero, suc, ◌≤◌, ◌<◌, ◌+◌, ◌-◌, ◌*◌, ◌/◌, List, [], ◌∷◌, ◌++◌, length, take, drop, get_or, refl, ap, ap₂, sym, ◌∙◌, arith, append_assoc}
 use Rattle.std.specs.Prelude.{map, Result, Ok, Err, OnOk}
 use Rattle.std.specs.Simd.{first_chunks}
-use Rattle.std.proofs.lemmas.List.{length-drop, length-take-le, drop-drop, drop-take, take-append-drop}
+use Rattle.std.proofs.lemmas.List.{length-drop, length-take-le, drop-drop, take-append-drop}
 use Rattle.std.proofs.Math.Seq.{take-add}
 use Rattle.io_edge.specs.Content.{Content, Told, Untold, OnTold, size_of, ReadsAll}
 use Rattle.npy_codec.specs.Npy.{cell, cells}
 use Rattle.npy_codec.proofs.HeadLemmas.{filled_part}
-use Rattle.npy_region.specs.Cells.{cell_at, AreStored}
 
 pub cells_step : (rest : List ℕ) → 8 ≤ length rest → cells rest ≡ cell (take 8 rest) ∷ cells (drop 8 rest)
 cells_step [] h = absurd (omega arith)

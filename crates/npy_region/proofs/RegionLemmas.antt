@@ -1,11 +1,11 @@
 -- Elements of a region, as they are read row by row and as a block.
-use Rattle.std.proofs.Common.{◌≡◌, ℕ, ℤ, pos, zero, suc, ◌≤◌, ◌<◌, ◌+◌, ◌-◌, ◌*◌, ◌/◌, ◌⊎◌, inl, inr, List, [], ◌∷◌, ◌++◌, length, take, drop, get_or, refl, ap, ap₂, sym, ◌∙◌, arith, subst, length-append}
+use Rattle.std.proofs.Common.{◌≡◌, ℕ, ℤ, pos, zero, suc, ◌≤◌, ◌<◌, ◌+◌, ◌-◌, ◌*◌, ◌/◌, inl, inr, List, [], ◌∷◌, ◌++◌, length, take, drop, get_or, refl, ap, ap₂, sym, ◌∙◌, arith, subst, length-append}
 use Rattle.std.specs.Prelude.{Bool, true, false}
 use Rattle.std.proofs.lemmas.Nat.{div-mul-add}
 use Rattle.std.proofs.lemmas.List.{length-drop, length-take-le, drop-drop, drop-take, get_or_append_left, get_or-append_right}
 use Rattle.io_edge.specs.Content.{Content, Told, Untold, OnTold, size_of}
 use Rattle.nd_shape.specs.Shape.{elements}
-use Rattle.nd_shape.specs.Index.{IsIn, place, index_at}
+use Rattle.nd_shape.specs.Index.{place}
 use Rattle.nd_shape.specs.Block.{Array}
 use Rattle.nd_shape.specs.Region.{Box, IsPart, moved}
 use Rattle.nd_shape.proofs.Places.{place-below, index_at-place}
@@ -15,7 +15,7 @@ use Rattle.nd_rows.proofs.Turns.{column_place-below, split}
 use Rattle.npy_codec.specs.declared.head.Head.{Head}
 use Rattle.npy_codec.specs.Npy.{cell, cells}
 use Rattle.npy_region.specs.Cells.{cell_at, AreStored, EndsWithin, InRowMajor}
-use Rattle.npy_codec.specs.Regions.{HoldsRegion, needed, bytes_up_to, element}
+use Rattle.npy_codec.specs.Regions.{HoldsRegion, needed, bytes_up_to}
 use Rattle.npy_region.proofs.CellLemmas.{length-cells, cells-get}
 
 take-take : (k n : ℕ) (xs : List ℕ) → k ≤ n → take k (take n xs) ≡ take k xs

@@ -1,13 +1,13 @@
 -- Runs that are put together element by element hold all elements of a region, in as few runs as there can be.
-use Rattle.std.proofs.Common.{◌≡◌, ℕ, zero, suc, ◌≤◌, ◌<◌, ◌+◌, ◌-◌, ◌*◌, ◌/◌, ◌⊎◌, inl, inr, List, [], ◌∷◌, ◌++◌, length, get_or, refl, ap, ap₂, sym, ◌∙◌, arith, subst, length-append}
-use Rattle.std.specs.Prelude.{Bool, true, false}
+use Rattle.std.proofs.Common.{◌≡◌, ℕ, zero, suc, ◌≤◌, ◌<◌, ◌+◌, ◌-◌, ◌*◌, ◌/◌, inl, inr, List, [], ◌∷◌, ◌++◌, length, get_or, refl, ap, ap₂, sym, ◌∙◌, arith, subst, length-append}
+use Rattle.std.specs.Prelude.{Bool, false}
 use Rattle.std.proofs.lemmas.Nat.{div-mul-add}
 use Rattle.std.proofs.lemmas.List.{get_or_append_left, get_or-append_right}
 use Rattle.nd_shape.specs.Shape.{elements}
-use Rattle.nd_shape.specs.Index.{IsIn, place}
-use Rattle.nd_shape.specs.Region.{Box, IsPart, moved}
-use Rattle.nd_rows.specs.Storage.{Walk, Targets, IsRow, spot, count_of, walk_of, place_by, target, stored}
-use Rattle.nd_rows.proofs.Order.{count-walk_of, IsPart-walk_of, spot-place_by, spot-ascends, number_of, number_of-below, target-number_of, HasIndex, index_of}
+use Rattle.nd_shape.specs.Index.{IsIn}
+use Rattle.nd_shape.specs.Region.{Box, IsPart}
+use Rattle.nd_rows.specs.Storage.{Walk, Targets, IsRow, spot, count_of, walk_of, target, stored}
+use Rattle.nd_rows.proofs.Order.{count-walk_of, IsPart-walk_of, spot-place_by, spot-ascends, number_of, number_of-below, target-number_of, index_of}
 use Rattle.nd_rows.proofs.Turns.{split}
 use Rattle.npy_codec.specs.declared.head.Head.{Head}
 use Rattle.npy_region.specs.declared.runs.Run.{Run}

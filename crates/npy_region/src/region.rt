@@ -1,5 +1,5 @@
 // Reads regions of a file's array.
-ghost use Rattle.std.specs.Prelude.{◌≡◌, ◌≤◌, ◌<◌, ◌+◌, ◌-◌, ◌*◌, ◌^◌, ℕ, length, IfOk, IfErr, OnOk, IsErrOf};
+ghost use Rattle.std.specs.Prelude.{◌≡◌, ◌≤◌, ◌<◌, ◌+◌, ◌-◌, ◌*◌, ◌^◌, [], ℕ, length, IfOk, IfErr, OnOk, IsErrOf};
 ghost use Rattle.io_edge.specs.Cause.{Rose};
 ghost use Rattle.io_edge.specs.Content.{size_of, file_at, OnTold};
 ghost use Rattle.nd_shape.specs.Region.{IsPart};
@@ -37,7 +37,40 @@ fn bytes_needed(head: &Head, region: &Region, walk: &mut RegionWalk) -> u64
     8 * (walk.place(count - 1) + 1)
 }
 
-// The region's elements in the order in which the file has them, row by row.
+// Appends the region's elements in the order in which the file has them, row by row.
+fn read_rows<S: Store>(
+    store: &mut S,
+    file: u32,
+    data_at: u64,
+    walk: &mut RegionWalk,
+    buffer: &mut [u8],
+    cells: &mut Vec<i64>,
+) -> Result<(), NpyError>
+    requires there { file < length (S.files store.old) }
+    requires near { data_at ≤ 2 ^ 21 }
+    requires some { 0 < count_of walk.old }
+    requires room { EndsWithin walk.old data_at (size_of (file_at (S.files store.old) file)) }
+    requires buffer { 8 ≤ length buffer.old }
+    requires none { cells.old.items ≡ [] }
+    ensures same { S.files store.new ≡ S.files store.old }
+    ensures walk { walk.new ≡ walk.old }
+    ensures later { S.count store.old ≤ S.count store.new }
+    ensures kept { OnOk result (S.count store.new ≡ S.count store.old) }
+    ensures cells { OnOk result (OnTold (file_at (S.files store.old) file) (λ bytes. AreStored bytes data_at walk.old (count_of walk.old) cells.new.items)) }
+    ensures size { OnOk result (length cells.new.items ≡ count_of walk.old) }
+    ensures cause { IfErr result IsFaultOrMemory }
+    ensures fault { IsErrOf result NpyError.ReadFault → Rose (S.count store.old) (S.count store.new) }
+{
+    let count = walk.len();
+    let row = walk.row_len();
+    for k in 0..count / row {
+        let offset = data_at + 8 * walk.place(k * row);
+        read_cells(store, file, offset, row, buffer, cells)?;
+    }
+    Ok(())
+}
+
+// The region's elements in the order in which the file has them.
 fn read_stored<S: Store>(
     alloc: Global,
     store: &mut S,
@@ -59,14 +92,9 @@ fn read_stored<S: Store>(
     ensures fault { IsErrOf result NpyError.ReadFault → Rose (S.count store.old) (S.count store.new) }
 {
     let count = walk.len();
-    let row = walk.row_len();
-    let mut room = vec![in alloc; 0; PIECE]?;
-    let buffer = room.as_mut_slice();
     let mut cells = Vec::with_capacity(alloc, count as usize)?;
-    for k in 0..count / row {
-        let offset = data_at + 8 * walk.place(k * row);
-        read_cells(store, file, offset, row, buffer, &mut cells)?;
-    }
+    let mut room = vec![in alloc; 0; PIECE]?;
+    read_rows(store, file, data_at, walk, room.as_mut_slice(), &mut cells)?;
     Ok(cells)
 }
 
@@ -86,6 +114,46 @@ fn in_row_major(
     } else {
         Ok(stored)
     }
+}
+
+// Reads a region along its walk.
+fn read_walk<S: Store>(
+    alloc: Global,
+    store: &mut S,
+    file: u32,
+    head: &Head,
+    region: &Region,
+    walk: &mut RegionWalk,
+) -> Result<Block, NpyError>
+    requires there { file < length (S.files store.old) }
+    requires part { IsPart region.now head.now.shape }
+    requires near { head.now.data_at ≤ 2 ^ 21 }
+    requires walk { walk.old ≡ walk_of head.now.fortran head.now.shape region.now }
+    ensures same { S.files store.new ≡ S.files store.old }
+    ensures later { S.count store.old ≤ S.count store.new }
+    ensures kept { OnOk result (S.count store.new ≡ S.count store.old) }
+    ensures shape { IfOk result (λ block. block.shape ≡ region.now.lengths) }
+    ensures cells { IfOk result (λ block. OnTold (file_at (S.files store.old) file) (λ bytes. HoldsRegion bytes head.now region.now block)) }
+    ensures room { OnOk result (needed head.now region.now ≤ size_of (file_at (S.files store.old) file) - head.now.data_at) }
+    ensures refused { IfErr result (RegionRefusedAs (size_of (file_at (S.files store.old) file)) head.now region.now) }
+    ensures fault { IsErrOf result NpyError.ReadFault → Rose (S.count store.old) (S.count store.new) }
+{
+    let needs = bytes_needed(head, region, walk);
+    let size = store.len(file)?;
+    let has = size.saturating_sub(head.data_at);
+    if has < needs {
+        return Err(NpyError::Truncated { has, needs });
+    }
+    let shape = region.shape(alloc, &head.shape)?;
+    let count = walk.len();
+    if count == 0 {
+        let empty = Block::new(shape, Vec::new(alloc));
+        return Ok(empty);
+    }
+    let stored = read_stored(alloc, store, file, head.data_at, walk)?;
+    let cells = in_row_major(alloc, head.fortran, &shape, stored)?;
+    let block = Block::new(shape, cells);
+    Ok(block)
 }
 
 /// Reads a region of a file's array into a block, in row-major order, whichever order the file has. It is refused as
@@ -112,20 +180,5 @@ pub fn read_region<S: Store>(
     ensures fault { IsErrOf result NpyError.ReadFault → Rose (S.count store.old) (S.count store.new) }
 {
     let mut walk = RegionWalk::new(alloc, head.fortran, &head.shape, region)?;
-    let needs = bytes_needed(head, region, &mut walk);
-    let size = store.len(file)?;
-    let has = size.saturating_sub(head.data_at);
-    if has < needs {
-        return Err(NpyError::Truncated { has, needs });
-    }
-    let shape = region.shape(alloc, &head.shape)?;
-    let count = walk.len();
-    if count == 0 {
-        let empty = Block::new(shape, Vec::new(alloc));
-        return Ok(empty);
-    }
-    let stored = read_stored(alloc, store, file, head.data_at, &mut walk)?;
-    let cells = in_row_major(alloc, head.fortran, &shape, stored)?;
-    let block = Block::new(shape, cells);
-    Ok(block)
+    read_walk(alloc, store, file, head, region, &mut walk)
 }

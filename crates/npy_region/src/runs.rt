@@ -1,7 +1,7 @@
 // The byte runs of a file that hold a region.
-ghost use Rattle.std.specs.Prelude.{◌≡◌, ◌≤◌, ◌<◌, ◌+◌, ◌*◌, ◌^◌, None, IfOk, IfSome};
+ghost use Rattle.std.specs.Prelude.{◌≡◌, ◌≤◌, ◌<◌, ◌+◌, ◌*◌, ◌^◌, [], None, IfOk, IfSome, OnOk};
 ghost use Rattle.nd_shape.specs.Region.{IsPart};
-ghost use Rattle.nd_rows.specs.Storage.{count_of, spot, target};
+ghost use Rattle.nd_rows.specs.Storage.{count_of, spot, stored, target, walk_of};
 ghost use Rattle.npy_region.specs.Building.{IsJoined, PutsRun, Splits};
 ghost use Rattle.npy_region.specs.Runs.{AreRuns, GoesOn};
 
@@ -96,6 +96,63 @@ fn unit_run(
     }
 }
 
+// Where the elements of a region go in its block.
+fn targets_of(alloc: Global, head: &Head, region: &Region) -> Result<BlockTargets, AllocError>
+    requires { IsPart region.now head.now.shape }
+    ensures { IfOk result (λ targets. targets ≡ record { by_column = head.now.fortran; lengths = stored head.now.fortran region.now.lengths }) }
+{
+    let block = region.shape(alloc, &head.shape)?;
+    BlockTargets::new(alloc, head.fortran, &block)
+}
+
+// Puts the runs of a region, unit by unit.
+fn push_runs(
+    head: &Head,
+    region: &Region,
+    walk: &mut RegionWalk,
+    targets: &mut BlockTargets,
+    runs: &mut Vec<Run>,
+) -> Result<(), AllocError>
+    requires part { IsPart region.now head.now.shape }
+    requires near { head.now.data_at ≤ 2 ^ 21 }
+    requires walk { walk.old ≡ walk_of head.now.fortran head.now.shape region.now }
+    requires targets { targets.old ≡ record { by_column = head.now.fortran; lengths = stored head.now.fortran region.now.lengths } }
+    requires none { runs.old.items ≡ [] }
+    ensures { OnOk result (AreRuns head.now region.now runs.new.items) }
+{
+    let count = walk.len();
+    if count == 0 {
+        return Ok(());
+    }
+    let unit = unit_len(head.fortran, walk);
+    let mut last = unit_run(head.data_at, walk, targets, 0, unit);
+    for k in 1..count / unit {
+        let next = unit_run(head.data_at, walk, targets, k * unit, unit);
+        let joined = put_run(runs, last, next)?;
+        last = joined;
+    }
+    runs.push(last)?;
+    Ok(())
+}
+
+// The runs of a region along its walk.
+fn walk_runs(
+    alloc: Global,
+    head: &Head,
+    region: &Region,
+    walk: &mut RegionWalk,
+) -> Result<RunList, AllocError>
+    requires part { IsPart region.now head.now.shape }
+    requires near { head.now.data_at ≤ 2 ^ 21 }
+    requires walk { walk.old ≡ walk_of head.now.fortran head.now.shape region.now }
+    ensures { IfOk result (λ runs. AreRuns head.now region.now runs) }
+{
+    let mut targets = targets_of(alloc, head, region)?;
+    let mut runs = Vec::new(alloc);
+    push_runs(head, region, walk, &mut targets, &mut runs)?;
+    Ok(Sequence::from_vec(runs))
+}
+
 /// The runs that hold a region of a file's array, and where each goes in the region's block: as few as there can be,
 /// ascending by offset.
 pub fn region_runs(alloc: Global, head: &Head, region: &Region) -> Result<RunList, AllocError>
@@ -104,20 +161,5 @@ pub fn region_runs(alloc: Global, head: &Head, region: &Region) -> Result<RunLis
     ensures { IfOk result (λ runs. AreRuns head.now region.now runs) }
 {
     let mut walk = RegionWalk::new(alloc, head.fortran, &head.shape, region)?;
-    let block = region.shape(alloc, &head.shape)?;
-    let mut targets = BlockTargets::new(alloc, head.fortran, &block)?;
-    let mut runs = Vec::new(alloc);
-    let count = walk.len();
-    if count == 0 {
-        return Ok(Sequence::from_vec(runs));
-    }
-    let unit = unit_len(head.fortran, &walk);
-    let mut last = unit_run(head.data_at, &mut walk, &mut targets, 0, unit);
-    for k in 1..count / unit {
-        let next = unit_run(head.data_at, &mut walk, &mut targets, k * unit, unit);
-        let joined = put_run(&mut runs, last, next)?;
-        last = joined;
-    }
-    runs.push(last)?;
-    Ok(Sequence::from_vec(runs))
+    walk_runs(alloc, head, region, &mut walk)
 }

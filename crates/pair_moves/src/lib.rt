@@ -1,7 +1,11 @@
-//! The scheduler's events, as the moves of each pair of a worker and a key: laws about the definitions.
+//! The scheduler's events as moves of each pair of a worker and a key, and a worker's events as moves of its own pairs: laws
+//! about the definitions.
 //!
-//! `pair_machine` stands below, with the moves and what they keep, and `cluster_laws`, with what the scheduler keeps by
-//! itself. The laws of the world's safety stand above.
+//! `pair_machine` stands below, with the moves and what they keep, `cluster_rules`, with the events, and `cluster_laws`, with
+//! what the scheduler keeps by itself. The laws of the whole world's safety, `safety_laws`, stand above. It carries the step
+//! from the table of events to one pair: of *schedule safety*, that whatever event the scheduler takes, what holds of each
+//! pair of a worker that stays connected goes on to hold. The lemmas on a worker's events stand in `proofs/WorkerMoves.antt`,
+//! where `safety_laws` takes them.
 #![tactic(auto)]
 
 ghost use Rattle.std.specs.Prelude.{◌≡◌, true};

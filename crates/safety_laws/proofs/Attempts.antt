@@ -1,16 +1,21 @@
 -- A key gets another attempt only once the earlier one has ended.
-use Rattle.std.proofs.Common.{◌≡◌, ℕ, ◌<◌, ◌≤◌, true, List, [], ◌∷◌, ◌++◌, Option, Some, None, refl, sym, ap, ◌∙◌, subst, arith, inl, inr, ◌⊎◌, append_assoc}
+use Rattle.std.proofs.Common.{◌≡◌, ℕ, ◌<◌, ◌≤◌, true, List, [], ◌∷◌, ◌++◌, Option, Some, None, refl, sym, ap, ◌∙◌, subst, arith, inl, inr, ◌⊎◌, ⊎_elim, append_assoc}
+use Rattle.cluster_msgs.specs.Shape.{Shape}
 use Rattle.cluster_msgs.specs.declared.cores.SchedEvent.{SchedEvent}
 use Rattle.cluster_msgs.specs.declared.events.Event.{Event}
-use Rattle.cluster_rules.specs.Sched.{Facts}
+use Rattle.cluster_rules.specs.Inside.{IsInsideWorld}
+use Rattle.cluster_rules.specs.Sched.{Facts, IsSound}
 use Rattle.cluster_rules.specs.SchedTable.{sched_takes}
-use Rattle.cluster_rules.specs.World.{Job, IsJob, World, opening}
+use Rattle.cluster_rules.specs.Worker.{has_any}
+use Rattle.cluster_rules.specs.World.{Job, IsJob, World, opening, is_client}
 use Rattle.cluster_rules.specs.WorldStep.{world_step}
 use Rattle.cluster_rules.specs.Enabled.{enabled}
 use Rattle.cluster_rules.specs.Runs.{LegalFrom, legal, run_from, reached, sched_event, ends_in, Gives, Ended}
 use Rattle.cluster_laws.proofs.Attempts.{attempts_end}
-use Rattle.safety_laws.proofs.Turns.{sched_after, sched_is}
-use Rattle.safety_laws.proofs.Joint.{IsJoint, takes, joint_step, joint_from, joint_after}
+use Rattle.safety_laws.specs.Attempts.{AttemptsEnd}
+use Rattle.safety_laws.proofs.Turns.{sched_after, sched_is, event_taken}
+use Rattle.safety_laws.proofs.Homes.{letter_from}
+use Rattle.safety_laws.proofs.Joint.{IsJoint, joint_step, joint_from, joint_after}
 
 -- ## Lists of events in parts
 
@@ -26,7 +31,23 @@ pub legal_then : (j : Job) (w : World) (xs ys : List Event) → LegalFrom j w (x
 legal_then j w [] ys l = l
 legal_then j w (x ∷ xs) ys l = legal_then j (world_step j w x) xs ys l.1
 
+-- ## One event
+
+-- in a world that names nothing that isn't there: a legal list leads to such worlds alone
+pub world_attempts_end : (g : Shape) (j : Job) (w : World) (e : Event) → IsInsideWorld g w → ((c : ℕ) → has_any (w.from_client c) ≡ true → is_client w c ≡ true) → IsSound w.sched → enabled w e ≡ true → AttemptsEnd w e (world_step j w e)
+world_attempts_end g j w e inside letters sound t k i a q = pick (sched_event w e) (λ s z. event_taken g w inside letters e s t z) (sched_is j w e)
+  where
+    pick : (o : Option SchedEvent) → ((s : SchedEvent) → o ≡ Some s → sched_takes w.sched s ≡ true) → (world_step j w e).sched ≡ sched_after w.sched o → ((world_step j w e).sched.on k ≡ Some (i, a)) ⊎ (ends_in w i k a o ≡ true)
+    pick None h r = inl (ap (λ (f : Facts). f.on k) r ∙ q)
+    pick (Some s) h r = ⊎_elim (λ x. inl (ap (λ (f : Facts). f.on k) r ∙ x)) (λ x. inr x) (attempts_end w.sched s sound (h s refl) k i a q)
+
 -- ## The walk
+
+joint_ends : (j : Job) (w : World) → IsJoint j w → (e : Event) → enabled w e ≡ true → AttemptsEnd w e (world_step j w e)
+joint_ends j w h e t = world_attempts_end j.setting.shape j w e h.inside (letter_from j w h.values h.inside h.sound h.home) h.sound t
+
+pub attempts_end_after : (j : Job) → IsJob j → (es : List Event) → legal j es → (e : Event) → enabled (reached j es) e ≡ true → AttemptsEnd (reached j es) e (world_step j (reached j es) e)
+attempts_end_after j job es l e t = joint_ends j (reached j es) (joint_after j job es l) e t
 
 -- attempt a of key k, at worker i, ends at some event of the list
 record EndsAmong (j : Job) (w : World) (es : List Event) (i k a : ℕ) : Type 0 where
@@ -40,18 +61,14 @@ ends_later : (j : Job) (w : World) (e : Event) (es : List Event) (i k a : ℕ) �
 ends_later j w e es i k a r = record { before = e ∷ r.before; ending = r.ending; later = r.later; whole = ap (λ l. e ∷ l) r.whole; ends = r.ends }
 
 module _ (j : Job) (job : IsJob j) (i k a : ℕ) where
-  one_event : (w : World) (e : Event) → IsJoint j w → (o : Option SchedEvent) → ((s : SchedEvent) → o ≡ Some s → sched_takes w.sched s ≡ true) → w.sched.on k ≡ Some (i, a) → ((sched_after w.sched o).on k ≡ Some (i, a)) ⊎ (ends_in w i k a o ≡ true)
-  one_event w e h None t q = inl q
-  one_event w e h (Some s) t q = attempts_end w.sched s h.sound (t s refl) k i a q
-
   walk : (es : List Event) (w : World) → IsJoint j w → LegalFrom j w es → w.sched.on k ≡ Some (i, a) → ((run_from j w es).sched.on k ≡ Some (i, a)) ⊎ EndsAmong j w es i k a
   walk [] w h l q = inl q
-  walk (e ∷ es) w h l q = pick (one_event w e h (sched_event w e) (takes j job w e l.0 h) q) (walk es (world_step j w e) (joint_step j job w e l.0 h) l.1)
+  walk (e ∷ es) w h l q = pick (joint_ends j w h e l.0 k i a q) (walk es (world_step j w e) (joint_step j job w e l.0 h) l.1)
     where
-      pick : ((sched_after w.sched (sched_event w e)).on k ≡ Some (i, a)) ⊎ (ends_in w i k a (sched_event w e) ≡ true)
+      pick : ((world_step j w e).sched.on k ≡ Some (i, a)) ⊎ (ends_in w i k a (sched_event w e) ≡ true)
           → ((world_step j w e).sched.on k ≡ Some (i, a) → ((run_from j (world_step j w e) es).sched.on k ≡ Some (i, a)) ⊎ EndsAmong j (world_step j w e) es i k a)
           → ((run_from j (world_step j w e) es).sched.on k ≡ Some (i, a)) ⊎ EndsAmong j w (e ∷ es) i k a
-      pick (inl s) rest = later (rest (ap (λ (f : Facts). f.on k) (sched_is j w e) ∙ s))
+      pick (inl s) rest = later (rest s)
         where
           later : ((run_from j (world_step j w e) es).sched.on k ≡ Some (i, a)) ⊎ EndsAmong j (world_step j w e) es i k a → ((run_from j (world_step j w e) es).sched.on k ≡ Some (i, a)) ⊎ EndsAmong j w (e ∷ es) i k a
           later (inl s) = inl s

@@ -22,3 +22,4 @@ pub mod ClientWorld
 pub mod WorldServed
 pub mod Responsive
 pub mod Safety
+pub mod Staying

@@ -1,10 +1,13 @@
 -- Schedule safety, put together.
 use Rattle.cluster_msgs.specs.Shape.{IsShape}
-use Rattle.cluster_rules.specs.Sched.{Setting, Facts, IsSound}
-use Rattle.std.proofs.Common.{◌≤◌, ◌≡◌, ℕ, List, ◌++◌, subst}
+use Rattle.cluster_rules.specs.Sched.{Setting, Facts, IsSound, erred, held, known, need, phase}
+use Rattle.std.proofs.Common.{◌≤◌, ◌≡◌, ◌⊎◌, inl, inr, ℕ, Bool, true, false, List, ◌++◌, Option, Some, None, is_some, refl, sym, ◌∙◌, subst}
+use Rattle.std.proofs.lemmas.Bool.{true≢false}
+use Rattle.cluster_msgs.specs.declared.cores.Phase.TheVariants.{Erred, Released}
 use Rattle.cluster_msgs.specs.declared.events.Event.{Event}
 use Rattle.cluster_rules.specs.World.{Job, IsJob, opening, Drained}
 use Rattle.cluster_rules.specs.Runs.{legal, reached, OnlyKnown, Agrees, Safe}
+use Rattle.safety_laws.specs.Keys.{IsForgotten, IsLetGo, AreLetGo}
 use Rattle.safety_laws.proofs.Joint.{joint_after, only_known, drained_agrees}
 use Rattle.safety_laws.proofs.Attempts.{legal_first}
 use Rattle.safety_laws.proofs.Unstarted.{one_attempt}
@@ -12,6 +15,44 @@ use Rattle.safety_laws.proofs.Responsive.{lively_after}
 
 pub known_after : (j : Job) → IsJob j → (es : List Event) → legal j es → OnlyKnown (reached j es).sched
 known_after j job es l = only_known (reached j es).sched (joint_after j job es l).settled
+
+-- what is not known, and what is not needed
+let_go : (f : Facts) → OnlyKnown f → AreLetGo f
+unfolding phase
+let_go f h = record { forgotten = forgotten; let_go = released }
+  where
+    none_of : {A : Type 0} (o : Option A) → (is_some o ≡ true → ⊥) → o ≡ None
+    none_of None n = refl
+    none_of (Some x) n = absurd (n refl)
+
+    false_of : (b : Bool) → (b ≡ true → ⊥) → b ≡ false
+    false_of true n = absurd (n refl)
+    false_of false n = refl
+
+    not_known : (k : ℕ) → known f k ≡ false → known f k ≡ true → ⊥
+    not_known k e t = true≢false (sym t ∙ e)
+
+    not_held : (k : ℕ) → need f k ≡ false → held f k ≡ false
+    not_held k n = false_of (held f k) (λ e. true≢false (sym (h.held k e) ∙ n))
+
+    forgotten : (k : ℕ) → known f k ≡ false → IsForgotten f k
+    forgotten k e = record {
+      phase = rw e refl;
+      has = λ i. none_of (f.has i k) (λ t. not_known k e (h.has i k t));
+      on = none_of (f.on k) (λ t. not_known k e (h.on k t));
+      steal = none_of (f.steal k) (λ t. not_known k e (h.steal k t));
+      bad = false_of (f.bad k) (λ t. not_known k e (h.bad k t));
+    }
+
+    released : (k : ℕ) → known f k ≡ true → need f k ≡ false → IsLetGo f k
+    released k e n = record { phase = either (erred f k) refl; held = not_held k n }
+      where
+        either : (b : Bool) → erred f k ≡ b → (phase f k ≡ Released) ⊎ (phase f k ≡ Erred)
+        either true b = inr (rw (e, b) refl)
+        either false b = inl (rw (e, b, n) refl)
+
+pub let_go_after : (j : Job) → IsJob j → (es : List Event) → legal j es → AreLetGo (reached j es).sched
+let_go_after j job es l = let_go (reached j es).sched (known_after j job es l)
 
 pub agrees_after : (j : Job) → IsJob j → (es : List Event) → legal j es → (i : ℕ) → Drained (reached j es) i → Agrees (reached j es) i
 agrees_after j job es l i d = drained_agrees j (reached j es) (joint_after j job es l) i d

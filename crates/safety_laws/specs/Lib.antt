@@ -1,3 +1,5 @@
 pub mod Joint
 pub mod Past
 pub mod Lively
+pub mod Attempts
+pub mod Keys

@@ -58,8 +58,8 @@ impl Book {
         requires saturation { (1 ≤ saturation) × (saturation ≤ 1000) }
         ensures { IfOk result (λ book. facts_of book ≡ sched_opening (record { shape = shape; clients = clients; saturation = saturation; allowed = None })) }
     {
+        let mut rows = DerivedRows::new(alloc, shape.keys())?;
         let table = FactTable::new(alloc, shape, clients, saturation)?;
-        let mut rows = DerivedRows::new(alloc, table.keys())?;
         refill(&table, &mut rows);
         Ok(Book { table, rows })
     }

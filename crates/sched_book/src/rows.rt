@@ -1,6 +1,7 @@
 //! The rows of the scheduler's table: what each event changes, frees, answers and leaves to be told.
-ghost use Rattle.std.specs.Prelude.{◌≡◌, ℕ, ◌+◌, ◌<◌, ◌≤◌, ◌^◌, nat_lt, nat_le, ◌&&◌, true, false, None, Some, IfOk, OnOk, OnErr, [], List};
+ghost use Rattle.std.specs.Prelude.{◌≡◌, ℕ, ◌+◌, ◌<◌, ◌≤◌, ◌^◌, nat_lt, nat_le, ◌&&◌, true, false, None, Some, IfOk, OnOk, OnErr, [], List, length};
 ghost use Rattle.std.specs.List.{list_all};
+ghost use Rattle.cluster_msgs.specs.declared.cores.SchedEvent.TheVariants.{Join};
 ghost use Rattle.cluster_rules.specs.Sched.{Facts as SchedFacts, keys, connected, workers};
 ghost use Rattle.cluster_rules.specs.SchedTable.{change_up, change_client, change, up_keys, client_keys, sched_takes, joined, left, balanced, evicted};
 ghost use Rattle.cluster_rules.specs.Policies.{next_steal, next_drop};
@@ -163,6 +164,28 @@ fn evict(table: &mut FactTable, choice: Option<(u32, u32)>) -> Effect
     }
 }
 
+/// Join: the worker gets the next number.
+///
+/// # Errors
+/// Where no memory is left. The setting stays as it is.
+fn join(table: &mut FactTable, threads: u32) -> Result<Effect, AllocError>
+    requires threads { (1 ≤ threads) × (threads ≤ 16) }
+    requires workers { length (workers (facts_of table.old)) < 64 }
+    requires numbers { (facts_of table.old).last_worker < 1024 }
+    ensures is_answer { IfOk result (λ x. IsAnswer (facts_of table.old) (facts_of table.new) x.answer) }
+    ensures change { IfOk result (λ x. changed_by (facts_of table.old) (facts_of table.new) [] x (λ k. false) ≡ change (facts_of table.old) (Join threads)) }
+    ensures err { OnErr result ((facts_of table.new).setting ≡ (facts_of table.old).setting) }
+{
+    table.make_room()?;
+    let number = table.last_worker() + 1;
+    table.join(threads);
+    Ok(Effect {
+        answer: Answer::Nothing,
+        reply: None,
+        joined: Some(number),
+    })
+}
+
 /// The event's own change. `steal` and `drop` are what the policies chose for it.
 ///
 /// # Errors
@@ -185,16 +208,7 @@ pub fn apply(
     ensures err { OnErr result ((facts_of table.new).setting ≡ (facts_of table.old).setting) }
 {
     match event {
-        SchedEvent::Join { threads } => {
-            table.make_room()?;
-            let number = table.last_worker() + 1;
-            table.join(*threads);
-            Ok(Effect {
-                answer: Answer::Nothing,
-                reply: None,
-                joined: Some(number),
-            })
-        }
+        SchedEvent::Join { threads } => join(table, *threads),
         SchedEvent::Leave { w } => {
             table.leave(*w);
             Ok(answer_only(Answer::Nothing))

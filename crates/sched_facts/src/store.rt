@@ -1,8 +1,8 @@
 //! The facts in rows. Each call changes one fact, or answers one.
 #![tactic(auto, unfolding(crate::specs::Stored::facts_of))]
 
-ghost use Rattle.std.specs.Prelude.{◌≡◌, ◌+◌, ◌<◌, ◌≤◌, ◌^◌, None, Some, IfOk, OnOk, OnErr};
-ghost use Rattle.fact_rows.specs.Rows.{cell, height, width};
+ghost use Rattle.std.specs.Prelude.{◌≡◌, ℕ, ◌+◌, ◌<◌, ◌≤◌, ◌^◌, false, length, None, Some, IfOk, OnOk, OnErr};
+ghost use Rattle.fact_rows.specs.Rows.{cell, height, read, width};
 ghost use Rattle.cluster_msgs.specs.Shape.{deps_of, work_of, nbytes_of};
 ghost use Rattle.cluster_rules.specs.Functions.{put, put_pair};
 ghost use Rattle.cluster_rules.specs.Sched.{Facts, Setting, keys, holds, sched_opening};
@@ -59,31 +59,23 @@ impl FactStore {
         ensures room { IfOk result (λ store. store.room ≡ 0) }
     {
         let wide = shape.keys();
-        let count = wide as usize;
-        let mut want = Grid::empty(alloc, wide);
-        add_rows(alloc, &mut want, wide, clients + 1, false)?;
-        let mut has = Grid::empty(alloc, wide);
-        add_rows(alloc, &mut has, wide, 1, None)?;
-        let mut fence = Grid::empty(alloc, wide);
-        add_rows(alloc, &mut fence, wide, 1, 0)?;
-        let on = Row::filled(alloc, count, None)?;
-        let steal = Row::filled(alloc, count, None)?;
-        let bad = Row::filled(alloc, count, false)?;
         let threads = Row::filled(alloc, 1, None)?;
         let sent = Row::filled(alloc, 1, 0)?;
+        let rows = KeyRows::new(alloc, wide)?;
+        let grids = Grids::new(alloc, wide, clients)?;
         Ok(FactStore {
             alloc,
             shape,
             clients,
             saturation,
-            want,
-            has,
-            on,
-            steal,
-            bad,
+            want: grids.want,
+            has: grids.has,
+            on: rows.on,
+            steal: rows.steal,
+            bad: rows.bad,
             threads,
             sent,
-            fence,
+            fence: grids.fence,
             room: 0,
             last: 0,
             counter: 1,
@@ -339,6 +331,74 @@ impl FactStore {
     {
         self.fence.set(worker, key, to);
     }
+}
+
+/// The rows by key of a store that begins: no key has a place, none is to be stolen, and none is bad.
+#[derive(Drop)]
+struct KeyRows {
+    on: Row<Option<(u32, u64)>>,
+    steal: Row<Option<(u32, bool)>>,
+    bad: Row<bool>,
+}
+
+impl KeyRows {
+    fn new(alloc: Global, wide: u32) -> Result<KeyRows, AllocError>
+        ensures on { IfOk result (λ rows. (k : ℕ) → read rows.on None k ≡ None) }
+        ensures steal { IfOk result (λ rows. (k : ℕ) → read rows.steal None k ≡ None) }
+        ensures bad { IfOk result (λ rows. (k : ℕ) → read rows.bad false k ≡ false) }
+        ensures places { IfOk result (λ rows. length rows.on ≡ wide) }
+        ensures steals { IfOk result (λ rows. length rows.steal ≡ wide) }
+        ensures faults { IfOk result (λ rows. length rows.bad ≡ wide) }
+    {
+        let count = wide as usize;
+        Ok(KeyRows {
+            on: Row::filled(alloc, count, None)?,
+            steal: Row::filled(alloc, count, None)?,
+            bad: Row::filled(alloc, count, false)?,
+        })
+    }
+}
+
+/// The grids of a store that begins: nobody wants or holds a key, and no key was taken from a worker.
+#[derive(Drop)]
+struct Grids {
+    want: Grid<bool>,
+    has: Grid<Option<u64>>,
+    fence: Grid<u64>,
+}
+
+impl Grids {
+    fn new(alloc: Global, wide: u32, clients: u32) -> Result<Grids, AllocError>
+        requires { clients ≤ 16 }
+        ensures want { IfOk result (λ grids. cell grids.want false ≡ (λ i k. false)) }
+        ensures has { IfOk result (λ grids. cell grids.has None ≡ (λ i k. None)) }
+        ensures fence { IfOk result (λ grids. cell grids.fence 0 ≡ (λ i k. 0)) }
+        ensures wants { IfOk result (λ grids. (width grids.want ≡ wide) × (height grids.want ≡ clients + 1)) }
+        ensures copies { IfOk result (λ grids. (width grids.has ≡ wide) × (height grids.has ≡ 1)) }
+        ensures fences { IfOk result (λ grids. (width grids.fence ≡ wide) × (height grids.fence ≡ 1)) }
+    {
+        Ok(Grids {
+            want: grid_of(alloc, wide, clients + 1, false)?,
+            has: grid_of(alloc, wide, 1, None)?,
+            fence: grid_of(alloc, wide, 1, 0)?,
+        })
+    }
+}
+
+/// A grid of so many rows of equal members.
+fn grid_of<T: Copy + Drop>(
+    alloc: Global,
+    wide: u32,
+    count: u32,
+    value: T,
+) -> Result<Grid<T>, AllocError>
+    ensures height { IfOk result (λ grid. height grid ≡ count) }
+    ensures width { IfOk result (λ grid. width grid ≡ wide) }
+    ensures same { IfOk result (λ grid. cell grid value ≡ (λ i k. value)) }
+{
+    let mut grid = Grid::empty(alloc, wide);
+    add_rows(alloc, &mut grid, wide, count, value)?;
+    Ok(grid)
 }
 
 /// Rows of equal members at the end of a grid.

@@ -1,3 +1,4 @@
+pub mod Manned
 pub mod Appending
 pub mod Ending
 pub mod Finishing

@@ -27,7 +27,7 @@ use Rattle.cluster_sim.specs.Acts.{CountsSim, running as runs_of}
 use Rattle.cluster_sim.specs.Drawn.{word_of}
 use Rattle.cluster_sim.specs.Openings.{AreWanted, IsOpening}
 use Rattle.cluster_sim.specs.Plans.{IsPlan, joins_in as plan_joins}
-use Rattle.cluster_sim.specs.Simulations.{HasAll, IfBlamed, IsCut, IsReported, IsUnfinished}
+use Rattle.cluster_sim.specs.Simulations.{HasAll, IfBlamed, IsExhausted, IsReported, IsUnfinished}
 use Rattle.addition_job.specs.Chunks.{added, chunks_in as chunk_count, joined}
 use Rattle.addition_job.specs.Addition.{Addition as JobOf, IsAdditionJob, additions, chunk, chunk_total, made}
 use Rattle.sim_words.specs.declared.sim.SimWords.{SimWords}
@@ -38,6 +38,7 @@ use Rattle.sim_run.specs.declared.form.Addition.{Addition}
 use Rattle.sim_run.specs.Forms.{chunks_in}
 use Rattle.sim_run.specs.Serving.{HasSums, IsFound, IsHalted, IsStopped, KnowsAdditions, ended_of}
 use Rattle.sim_run.specs.Simulated.{AreSettings, IsJobOf, IsServed, running, sim_plan, wanted_keys}
+use Rattle.sim_run.proofs.Manned.{manned_at_end}
 
 -- ## The plan
 
@@ -133,9 +134,9 @@ is_found j words p wanted keys w report turns blame same none reported =
     let K : List ℕ → Type 0 = λ ks. IsReported j words p ks (Served turns None) w report in
     record { world = w; reported = subst K same (subst Z none reported) }
 
-pub is_halted : (j : Job) (words : ℕ → ℕ) (p : SimPlan) (wanted keys : List ℕ) (w : World) (error : SimError) → wanted ≡ keys → (error ≡ sim.Turns → IsCut j words p wanted OutOfTurns w) → (error ≡ sim.Spent → IsUnfinished j words p wanted event_limit) →
+pub is_halted : (j : Job) (words : ℕ → ℕ) (p : SimPlan) (wanted keys : List ℕ) (w : World) (error : SimError) → wanted ≡ keys → (error ≡ sim.Turns → IsExhausted j words p wanted w) → (error ≡ sim.Spent → IsUnfinished j words p wanted event_limit) →
     IsHalted j words p keys (ended_of error)
-is_halted j words p wanted keys w sim.Turns same turns spent = let K : List ℕ → Type 0 = λ ks. IsCut j words p ks OutOfTurns w in record { world = w; cut = subst K same (turns refl) }
+is_halted j words p wanted keys w sim.Turns same turns spent = let K : List ℕ → Type 0 = λ ks. IsExhausted j words p ks w in record { world = w; exhausted = subst K same (turns refl) }
 is_halted j words p wanted keys w sim.Feed same turns spent = tt
 is_halted j words p wanted keys w sim.Spent same turns spent = let K : List ℕ → Type 0 = λ ks. IsUnfinished j words p ks event_limit in subst K same (spent refl)
 is_halted j words p wanted keys w sim.OutOfMemory same turns spent = tt
@@ -160,7 +161,14 @@ is_stopped a words cells j Keys is count halted = absurd halted
 is_stopped a words cells j Events is count halted =
     record { job = j; is = is; unfinished = as_defined a cells j (λ keys. IsUnfinished (running words j) (word_of words.settings.number) (sim_plan words) keys event_limit) is count halted }
 is_stopped a words cells j Turns is count halted =
-    record { job = j; is = is; world = halted.world; cut = as_defined a cells j (λ keys. IsCut (running words j) (word_of words.settings.number) (sim_plan words) keys OutOfTurns halted.world) is count halted.cut }
+    let made = as_defined a cells j (λ keys. IsExhausted (running words j) (word_of words.settings.number) (sim_plan words) keys halted.world) is count halted.exhausted in
+    record {
+      job = j;
+      is = is;
+      world = halted.world;
+      exhausted = made;
+      past = λ walk. let m = manned_at_end (sim_plan words) walk (running words j) (word_of words.settings.number) (wanted_keys a) made.cut.events OutOfTurns halted.world made.cut.simulated in made.past m.0 m.1.0 m.1.1;
+    }
 is_stopped a words cells j (Ran end) is count halted = halted
 
 -- a feed that holds nothing doesn't fail

@@ -6,9 +6,9 @@ use Rattle.cluster_msgs.specs.Values.{val, faulty}
 use Rattle.cluster_world.specs.declared.state.State.{State}
 use Rattle.cluster_world.specs.Worlds.{cluster, event_limit}
 use Rattle.cluster_msgs.specs.declared.events.Report.{Report}
-use Rattle.cluster_rules.specs.Draw.{Plan as SimPlan, Served, OutOfTurns}
+use Rattle.cluster_rules.specs.Draw.{Plan as SimPlan, Served}
 use Rattle.cluster_rules.specs.World.{Job, World}
-use Rattle.cluster_sim.specs.Simulations.{IsReported, IsCut, IsUnfinished}
+use Rattle.cluster_sim.specs.Simulations.{IsReported, IsExhausted, IsUnfinished}
 use Rattle.cluster_sim.specs.declared.act.SimError.{SimError}
 use Rattle.cluster_sim.specs.declared.act.SimError.TheVariants as sim
 use Rattle.addition_job.specs.Chunks.{added, chunk_at, chunks_in as chunk_count, joined}
@@ -68,7 +68,7 @@ pub record IsFound (j : Job) (words : ℕ → ℕ) (p : SimPlan) (wanted : List 
 
 pub record IsCutOff (j : Job) (words : ℕ → ℕ) (p : SimPlan) (wanted : List ℕ) : Type 0 where
   pub world : World
-  pub cut : IsCut j words p wanted OutOfTurns world
+  pub exhausted : IsExhausted j words p wanted world
 
 -- why the client didn't get all
 abbrev pub IsHalted : Job → (ℕ → ℕ) → SimPlan → List ℕ → SimEnded → Type 0

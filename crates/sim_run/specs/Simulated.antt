@@ -2,9 +2,10 @@
 use Rattle.std.specs.Prelude.{◌≡◌, ◌≤◌, ℕ, ℤ, pos, List, length, None}
 use Rattle.cluster_msgs.specs.declared.events.Report.{Report}
 use Rattle.cluster_rules.specs.World.{Job, World}
-use Rattle.cluster_rules.specs.Draw.{Plan as SimPlan, Served, OutOfTurns}
+use Rattle.cluster_rules.specs.Draw.{Plan as SimPlan, Served}
 use Rattle.cluster_sim.specs.Drawn.{word_of}
-use Rattle.cluster_sim.specs.Simulations.{IsReported, IsCut, IsUnfinished}
+use Rattle.cluster_sim.specs.Quiet.{IsPastBound}
+use Rattle.cluster_sim.specs.Simulations.{IsReported, IsExhausted, IsUnfinished}
 use Rattle.cluster_world.specs.Worlds.{event_limit}
 use Rattle.addition_job.specs.Addition.{Addition as JobOf, IsAdditionJob, made, additions}
 use Rattle.plain_eval.specs.Eval.{block_at}
@@ -12,7 +13,7 @@ use Rattle.job_run.specs.Inputs.{InputsFit}
 use Rattle.job_run.specs.Plan.{Plan}
 use Rattle.job_run.specs.Values.{OnInputs}
 use Rattle.io_edge.specs.View.{Files}
-use Rattle.sim_words.specs.Walks.{joins_in}
+use Rattle.sim_words.specs.Walks.{joins_in, IsWalk}
 use Rattle.sim_words.specs.declared.sim.SimWords.{SimWords}
 use Rattle.cluster_laws.specs.Blocks.{job_of, setting_of}
 use Rattle.sim_run.specs.declared.form.Addition.{Addition}
@@ -50,12 +51,14 @@ pub record IsServed (a : Addition) (s : SimWords) (cells : List ℤ) (report : R
   pub world : World
   pub reported : IsReported (running s job) (word_of s.settings.number) (sim_plan s) (wanted_keys a) (Served turns None) world report
 
--- no turn was left, or nothing moved
+-- No turn was left. A script that can be followed leaves a worker at every point, so that isn't since nothing moves: some list of progress events is
+-- longer than the bound on such lists.
 pub record IsOutOfTurns (a : Addition) (s : SimWords) (cells : List ℤ) : Type 0 where
   pub job : JobOf
   pub is : IsJobOf a cells job
   pub world : World
-  pub cut : IsCut (running s job) (word_of s.settings.number) (sim_plan s) (wanted_keys a) OutOfTurns world
+  pub exhausted : IsExhausted (running s job) (word_of s.settings.number) (sim_plan s) (wanted_keys a) world
+  pub past : IsWalk s.settings.workers s.settings.threads s.script → IsPastBound (running s job) exhausted.cut.events
 
 -- as many events were drawn as a world takes, and no end was reached
 pub record IsOutOfEvents (a : Addition) (s : SimWords) (cells : List ℤ) : Type 0 where

@@ -1,7 +1,7 @@
 //! What a worker could do next, worked out once after each event, so that the questions about it need no search.
 #![tactic(auto)]
 
-ghost use Rattle.std.specs.Prelude.{◌≡◌, ◌||◌, ◌<◌, ◌≤◌, ℕ, true, false, is_some, length, IfOk};
+ghost use Rattle.std.specs.Prelude.{◌≡◌, ◌||◌, ◌<◌, ◌≤◌, ℕ, true, false, None, is_some, length, IfOk};
 ghost use Rattle.cluster_msgs.specs.Shape.{key_count};
 ghost use Rattle.cluster_rules.specs.Worker.{fetchable, has_any, would_ask};
 ghost use Rattle.fact_rows.specs.Rows.{read};
@@ -27,22 +27,23 @@ pub struct Moves {
 }
 
 impl Moves {
-    /// Those of these facts.
+    /// Of a worker that isn't there yet: nothing is worked out.
     ///
     /// # Errors
     /// Where no memory is left.
-    pub fn new(alloc: Global, table: &WorkerTable) -> Result<Moves, AllocError>
-        ensures { IfOk result (λ moves. AreMoves (facts_of table.now) moves) }
+    pub fn new(alloc: Global) -> Result<Moves, AllocError>
+        ensures start { IfOk result (λ moves. moves.start ≡ None) }
+        ensures runs { IfOk result (λ moves. moves.end_run ≡ 0) }
+        ensures peers { IfOk result (λ moves. length moves.peers ≡ 128) }
+        ensures fetches { IfOk result (λ moves. (p : ℕ) → read moves.peers false p ≡ false) }
     {
         let peers = Row::filled(alloc, PEERS, false)?;
-        let mut moves = Moves {
+        Ok(Moves {
             start: None,
             first_run: 0,
             end_run: 0,
             peers,
-        };
-        moves.work_out(table);
-        Ok(moves)
+        })
     }
 
     /// Works them out anew. It takes no memory.

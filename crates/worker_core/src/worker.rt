@@ -62,8 +62,9 @@ impl WorkerCore {
         ensures runs { IfOk result (λ core. core.stopped ≡ false) }
         ensures events { IfOk result (λ core. core.events ≡ 0) }
     {
+        let mut moves = Moves::new(alloc)?;
         let table = WorkerTable::new(alloc, id, threads, shape)?;
-        let moves = Moves::new(alloc, &table)?;
+        moves.work_out(&table);
         Ok(WorkerCore {
             alloc,
             table,
@@ -102,16 +103,13 @@ impl WorkerCore {
         ensures stopped_core { self.old.stopped ≡ true → self.new ≡ self.old }
         ensures stopped_out { self.old.stopped ≡ true → out.new ≡ out.old }
     {
-        if self.stopped {
-            return Err(Stop::Memory);
+        if let Err(stop) = self.check(&event) {
+            drop(event);
+            return Err(stop);
         }
-        if self.events >= EVENT_LIMIT {
-            return Err(Stop::Spent);
-        }
-        if !takes(&self.table, &event) {
-            return Err(Stop::Refused);
-        }
-        match carry_out(self.alloc, &mut self.table, &mut self.moves, &event, out) {
+        let end = carry_out(self.alloc, &mut self.table, &mut self.moves, &event, out);
+        drop(event);
+        match end {
             Ok(()) => {
                 self.events += 1;
                 Ok(())
@@ -121,6 +119,25 @@ impl WorkerCore {
                 Err(Stop::Memory)
             }
         }
+    }
+
+    /// Whether an event can be taken, and why not.
+    fn check(&self, event: &WorkerEvent) -> Result<(), Stop>
+        ensures possible { OnOk result ((self.now.stopped ≡ false) × (self.now.events < event_limit) × (worker_takes (facts self.now) event.now ≡ true)) }
+        ensures refused { (result ≡ Err Stop.Refused) ↔ ((self.now.stopped ≡ false) × (self.now.events < event_limit) × (worker_takes (facts self.now) event.now ≡ false)) }
+        ensures spent { (result ≡ Err Stop.Spent) ↔ ((self.now.stopped ≡ false) × (self.now.events ≡ event_limit)) }
+        ensures memory { (result ≡ Err Stop.Memory) ↔ (self.now.stopped ≡ true) }
+    {
+        if self.stopped {
+            return Err(Stop::Memory);
+        }
+        if self.events >= EVENT_LIMIT {
+            return Err(Stop::Spent);
+        }
+        if !takes(&self.table, event) {
+            return Err(Stop::Refused);
+        }
+        Ok(())
     }
 
     /// Until it stops, a core keeps after every event, honest or not, what each worker keeps, and runs no more tasks than

@@ -9,7 +9,7 @@ use Rattle.std.proofs.lemmas.Result.{err_from_is_err_and}
 use Rattle.cluster_sim.proofs.ActLemmas.{not_starved, stays_both, counts_as, counts_from}
 use Rattle.cluster_sim.proofs.PlayLemmas.{spent_play, waiting_play, turns_play, unfinished_play, same_error}
 use Rattle.cluster_sim.proofs.SimulateLemmas.{served_is}
-use Rattle.cluster_sim.proofs.SimulateRecords.{opened_between, opened_drawn, reported, cut_off, blamed_by}
+use Rattle.cluster_sim.proofs.SimulateRecords.{opened_between, opened_drawn, reported, exhausted_by, unfinished_by, blamed_by}
 use Rattle.cluster_sim.proofs.whole.simulate.Goals as goal
 
 pub play-requires-clause-between : goal.play-requires-clause-between
@@ -20,7 +20,7 @@ pub returns-clause-served : goal.returns-clause-served
 returns-clause-served g c told =
     let d = opened_drawn _ _ (plan_of c.args.plan.now) c.args.wanted.now c.args.number c.args.world.now c.make_opening.new.world _ c.rest.result c.in_ok-make_opening.ensures.opened c.make_opening.ensures.stays c.new.ensures (c.rest.ensures.bound (not_starved _ c.in_ok-make_opening.ensures.opened.going)) c.new-2.ensures told in
     reported _ _ (plan_of c.args.plan.now) c.args.wanted.now c.args.number _ c.args.world.now c.play.new.world c.play.new.run c.in_ok-report.report c.shape-2.result.now
-    (stays_both _ _ _ _ c.make_opening.ensures.stays c.play.ensures.stays) c.shape-2.ensures.setting c.in_ok-report.ensures (c.in_ok-end.ensures.drawn c.args.number d)
+    (stays_both _ _ _ _ c.make_opening.ensures.stays c.play.ensures.stays) c.shape-2.ensures.setting c.in_ok-report.ensures c.is_safe.ensures.events (c.in_ok-end.ensures.drawn c.args.number d)
 
 pub returns-clause-all : goal.returns-clause-all
 returns-clause-all g c =
@@ -31,7 +31,7 @@ pub returns-clause-blame : goal.returns-clause-blame
 returns-clause-blame g c told =
     let d = opened_drawn _ _ (plan_of c.args.plan.now) c.args.wanted.now c.args.number c.args.world.now c.make_opening.new.world _ c.rest.result c.in_ok-make_opening.ensures.opened c.make_opening.ensures.stays c.new.ensures (c.rest.ensures.bound (not_starved _ c.in_ok-make_opening.ensures.opened.going)) c.new-2.ensures told in
     blamed_by _ _ (plan_of c.args.plan.now) c.args.wanted.now c.args.number c.in_ok-end.end.failure c.args.world.now c.play.new.world c.play.new.run c.shape.result.now c.sound.ensures c.shape.ensures.setting
-    (stays_both _ _ _ _ c.make_opening.ensures.stays c.play.ensures.stays) c.in_ok-end.ensures.play (c.in_ok-end.ensures.drawn c.args.number d)
+    (stays_both _ _ _ _ c.make_opening.ensures.stays c.play.ensures.stays) c.in_ok-end.ensures.play c.is_safe.ensures.events (c.in_ok-end.ensures.drawn c.args.number d)
 
 pub returns-clause-stays : goal.returns-clause-stays
 returns-clause-stays g c = stays_both _ _ _ _ c.make_opening.ensures.stays c.play.ensures.stays
@@ -92,15 +92,16 @@ pub returns-in_err-end-clause-turns : goal.returns-in_err-end-clause-turns
 returns-in_err-end-clause-turns g c q told =
     let p = err_from_is_err_and c.from_residual-in_err-end.result c.from_residual-in_err-end.ensures.1 in
     let d = opened_drawn _ _ (plan_of c.args.plan.now) c.args.wanted.now c.args.number c.args.world.now c.make_opening.new.world _ c.rest.result c.in_ok-make_opening.ensures.opened c.make_opening.ensures.stays c.new.ensures (c.rest.ensures.bound (not_starved _ c.in_ok-make_opening.ensures.opened.going)) c.new-2.ensures told in
-    cut_off _ _ (plan_of c.args.plan.now) c.args.wanted.now c.args.number _ c.args.world.now c.play.new.world c.play.new.run
-    (stays_both _ _ _ _ c.make_opening.ensures.stays c.play.ensures.stays) (turns_play _ _ (plan_of c.args.plan.now) c.args.wanted.now c.args.number c.play.new.world c.play.new.run _ (sym p.2 ∙ same_error _ _ (sym p.1 ∙ q)) (c.in_err-end.ensures.drawn c.args.number d))
+    exhausted_by _ _ (plan_of c.args.plan.now) c.args.wanted.now c.args.number c.args.world.now c.play.new.world c.play.new.run
+    (stays_both _ _ _ _ c.make_opening.ensures.stays c.play.ensures.stays) c.is_safe.ensures.events c.requires.opening.client (turns_play _ _ (plan_of c.args.plan.now) c.args.wanted.now c.args.number c.play.new.world c.play.new.run _ (sym p.2 ∙ same_error _ _ (sym p.1 ∙ q)) (c.in_err-end.ensures.drawn c.args.number d))
 
 pub returns-in_err-end-clause-cut_off : goal.returns-in_err-end-clause-cut_off
 returns-in_err-end-clause-cut_off g c q told =
     let p = err_from_is_err_and c.from_residual-in_err-end.result c.from_residual-in_err-end.ensures.1 in
     let d = opened_drawn _ _ (plan_of c.args.plan.now) c.args.wanted.now c.args.number c.args.world.now c.make_opening.new.world _ c.rest.result c.in_ok-make_opening.ensures.opened c.make_opening.ensures.stays c.new.ensures (c.rest.ensures.bound (not_starved _ c.in_ok-make_opening.ensures.opened.going)) c.new-2.ensures told in
-    unfinished_play _ _ (plan_of c.args.plan.now) c.args.wanted.now c.args.number c.args.world.now c.play.new.world c.play.new.run c.in_err-end.field-0.0 (stays_both _ _ _ _ c.make_opening.ensures.stays c.play.ensures.stays)
-    (sym p.2 ∙ same_error _ _ (sym p.1 ∙ q)) (c.in_err-end.ensures.drawn c.args.number d)
+    unfinished_by _ _ (plan_of c.args.plan.now) c.args.wanted.now _ c.is_safe.ensures.events
+    (unfinished_play _ _ (plan_of c.args.plan.now) c.args.wanted.now c.args.number c.args.world.now c.play.new.world c.play.new.run c.in_err-end.field-0.0 (stays_both _ _ _ _ c.make_opening.ensures.stays c.play.ensures.stays)
+    (sym p.2 ∙ same_error _ _ (sym p.1 ∙ q)) (c.in_err-end.ensures.drawn c.args.number d))
 
 pub returns-clause-reached : goal.returns-clause-reached
 returns-clause-reached g c told =

@@ -5,7 +5,7 @@ use Rattle.cluster_rules.specs.Sched.{Setting}
 use Rattle.cluster_world.specs.Kept.{LengthsFit}
 use Rattle.cluster_world.specs.Worlds.{world, event_limit}
 use Rattle.cluster_world.proofs.Advancing.{whole_advanced}
-use Rattle.cluster_world.proofs.Stepwise.{step_refused, step_spent, step_taken, going_starved}
+use Rattle.cluster_world.proofs.Stepwise.{step_refused, step_spent, step_taken, ends_for_a_cause, going_starved}
 use Rattle.cluster_world.proofs.step.take_going.Goals as goal
 
 pub returns-then-state-ge-EVENT_LIMIT : goal.returns-then-state-ge-EVENT_LIMIT
@@ -41,6 +41,7 @@ returns g c =
     let k = c.advance.ensures in
     record {
       step = step_taken g.J.JobSpec.operation g.J.JobSpec.feed_tells g.J.JobSpec.fault_count (LengthsFit g.J.JobSpec.key_dims g.J.JobSpec.block_dims) c.args.e.now c.advance.result c.args.state.now c.advance.new.state (record { going = c.requires.going; room = room }) possible (subst IsShape (sym c.requires.world.shape) c.requires.world.low)
+          (ends_for_a_cause c.args.e.now c.args.state.now whole.joint.orderly c.sound.ensures possible)
           k.advances k.job k.setting k.tells k.faults;
       world = record {
         feed = subst (λ j. g.J.JobSpec.feed_fits j c.advance.new.state.feed) (sym k.job) k.fits;

@@ -1,6 +1,6 @@
-use Rattle.std.proofs.Common.{◌≡◌, ◌<◌, ℕ, true, length, subst, sym, arith}
+use Rattle.std.proofs.Common.{◌≡◌, true, subst}
 use Rattle.cluster_msgs.specs.declared.cores.SchedEvent.{SchedEvent}
-use Rattle.cluster_rules.specs.Sched.{Facts, workers}
+use Rattle.cluster_rules.specs.Sched.{Facts}
 use Rattle.cluster_rules.specs.SchedTable.{sched_takes}
 use Rattle.sched_facts.specs.Stored.{facts_of}
 use Rattle.sched_book.proofs.RowLemmas.{joins, leaves, tells, asks}
@@ -10,24 +10,14 @@ use Rattle.sched_book.proofs.rows.apply.Goals as goal
 this : (f : Facts) (d e : SchedEvent) → d ≡ e → sched_takes f d ≡ true → sched_takes f e ≡ true
 this f d e p h = subst (λ (x : SchedEvent). sched_takes f x ≡ true) p h
 
-below : (f g : Facts) → g ≡ f → f.last_worker < 1024 → g.last_worker < 1024
-below f g e h = subst (λ (z : Facts). z.last_worker < 1024) (sym e) h
-
-pub overflow_add-number : goal.overflow_add-number
-overflow_add-number c =
-    let j = joins (facts_of c.args.table.now) c.in-Join.threads (this (facts_of c.args.table.now) _ _ c.in-Join.is c.requires.takes) in
-    let l = below (facts_of c.args.table.now) (facts_of c.make_room.new.self) c.make_room.ensures.facts j.few_numbers in
-    let r : c.last_worker-number.result < 1024 = subst (λ (n : ℕ). n < 1024) (sym c.last_worker-number.ensures) l in
-    omega (arith, r)
-
 pub join-requires-clause-threads : goal.join-requires-clause-threads
 join-requires-clause-threads c = (joins (facts_of c.args.table.now) c.in-Join.threads (this (facts_of c.args.table.now) _ _ c.in-Join.is c.requires.takes)).threads_fit
 
 pub join-requires-clause-workers : goal.join-requires-clause-workers
-join-requires-clause-workers c = subst (λ (z : Facts). length (workers z) < 64) (sym c.make_room.ensures.facts) (joins (facts_of c.args.table.now) c.in-Join.threads (this (facts_of c.args.table.now) _ _ c.in-Join.is c.requires.takes)).few_workers
+join-requires-clause-workers c = (joins (facts_of c.args.table.now) c.in-Join.threads (this (facts_of c.args.table.now) _ _ c.in-Join.is c.requires.takes)).few_workers
 
 pub join-requires-clause-numbers : goal.join-requires-clause-numbers
-join-requires-clause-numbers c = below (facts_of c.args.table.now) (facts_of c.make_room.new.self) c.make_room.ensures.facts (joins (facts_of c.args.table.now) c.in-Join.threads (this (facts_of c.args.table.now) _ _ c.in-Join.is c.requires.takes)).few_numbers
+join-requires-clause-numbers c = (joins (facts_of c.args.table.now) c.in-Join.threads (this (facts_of c.args.table.now) _ _ c.in-Join.is c.requires.takes)).few_numbers
 
 pub leave-requires : goal.leave-requires
 leave-requires c = leaves (facts_of c.args.table.now) c.in-Leave.w (this (facts_of c.args.table.now) _ _ c.in-Leave.is c.requires.takes)

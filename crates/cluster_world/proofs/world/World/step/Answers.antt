@@ -18,6 +18,7 @@ returns g c =
       events = k.events;
       by_values = k.by_values;
       reached = k.reached;
+      attempts = k.attempts;
       job = k.job;
       setting = k.setting;
       tells = k.tells;

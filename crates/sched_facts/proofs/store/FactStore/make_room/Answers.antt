@@ -22,3 +22,22 @@ returns-clause-facts c = rw (← c.self.view_is) (λ i. record (facts_of (stored
   threads = (ap (λ r. read r None) c.in_ok-push.ensures.ok ∙ read-push c.self.inside.threads None) i;
   sent = (ap (λ r. read r 0) c.in_ok-push-2.ensures.ok ∙ read-push c.self.inside.sent 0) i;
 })
+
+pub returns-in_err-push-clause-facts : goal.returns-in_err-push-clause-facts
+unfolding facts_of
+returns-in_err-push-clause-facts c = rw (← c.self.view_is) (λ i. record (facts_of (stored c.self.inside)) {
+  has = c.add_rows.ensures.same i;
+  fence = c.add_rows-2.ensures.same i;
+  threads = (ap (λ r. read r None) c.in_err-push.ensures.err) i;
+})
+
+pub returns-in_err-add_rows-2-clause-facts : goal.returns-in_err-add_rows-2-clause-facts
+unfolding facts_of
+returns-in_err-add_rows-2-clause-facts c = rw (← c.self.view_is) (λ i. record (facts_of (stored c.self.inside)) {
+  has = c.add_rows.ensures.same i;
+  fence = c.add_rows-2.ensures.same i;
+})
+
+pub returns-in_err-add_rows-clause-facts : goal.returns-in_err-add_rows-clause-facts
+unfolding facts_of
+returns-in_err-add_rows-clause-facts c = rw (← c.self.view_is) (λ i. record (facts_of (stored c.self.inside)) { has = c.add_rows.ensures.same i })

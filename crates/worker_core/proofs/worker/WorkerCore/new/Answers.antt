@@ -12,5 +12,5 @@ invariant_of-result c = record {
   runs = λ e. subst RunsFew (sym c.in_ok-table.ensures) (few_at_first c.args.shape c.args.id c.args.threads);
   seen = λ e. omega (arith, ap (λ f. f.seen) c.in_ok-table.ensures);
   asks = λ e. omega (arith, ap (λ f. f.next_ask) c.in_ok-table.ensures);
-  moves = c.in_ok-moves.ensures;
+  moves = c.work_out.ensures;
 }

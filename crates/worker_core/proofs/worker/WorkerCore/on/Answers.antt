@@ -1,4 +1,4 @@
-use Rattle.std.proofs.Common.{◌≡◌, ◌∙◌, ap, sym, subst, arith, true, false}
+use Rattle.std.proofs.Common.{◌≡◌, ap, sym, subst, arith, true, false}
 use Rattle.cluster_rules.specs.WorkerStep.{worker_step, worker_takes}
 use Rattle.cluster_rules.specs.WorkerKept.{IsKept}
 use Rattle.cluster_rules.proofs.WorkerLemmas.{kept_by_event}
@@ -12,15 +12,16 @@ pub invariant_of-self : goal.invariant_of-self
 invariant_of-self c =
     let v = c.self.invariant in
     let f = facts_of c.self.inside.table in
-    let runs : c.self.inside.stopped ≡ false = c.if-self.false in
-    let takes : worker_takes f c.args.event ≡ true = sym c.takes.ensures ∙ c.if-not-takes.false in
-    let after : facts_of c.carry_out.new.table ≡ (worker_step f c.args.event).facts = c.in-Ok.ensures.facts in
+    let possible = rw (← c.self.view_is) at c.in_default.ensures.possible in
+    let runs : c.self.inside.stopped ≡ false = possible.0 in
+    let takes : worker_takes f c.args.event ≡ true = possible.2 in
+    let after : facts_of c.carry_out-end.new.table ≡ (worker_step f c.args.event).facts = c.in-Ok.ensures.facts in
     let more = one_more_event f c.args.event in
     record {
-      limit = omega (arith, c.if-self-ge-EVENT_LIMIT.false);
+      limit = omega (arith, possible.1);
       kept = λ e. subst IsKept (sym after) (kept_by_event f c.args.event takes (v.kept runs));
       runs = λ e. subst RunsFew (sym after) (few_run f c.args.event takes (v.runs runs));
       seen = λ e. omega (arith, ap (λ g. g.seen) after, more.seen, v.seen runs);
       asks = λ e. omega (arith, ap (λ g. g.next_ask) after, more.asks, v.asks runs);
-      moves = c.carry_out.ensures.moves;
+      moves = c.carry_out-end.ensures.moves;
     }

@@ -1,4 +1,4 @@
-use Rattle.std.proofs.Common.{rules, w64, ◌≡◌, ◌∙◌}
+use Rattle.std.proofs.Common.{rules, w64, ◌∙◌}
 use Rattle.std.proofs.lemmas.Int.{to_z-of_z}
 use mir.Val.{SFits}
 use Rattle.npy_region.proofs.cells.fn.append_cells.map+FnOnce.call_once.Goals as goal

@@ -1,0 +1,307 @@
+-- Where no turn is left, some list of progress events is longer than the bound, unless no worker is there.
+use Rattle.std.proofs.Common.{◌≡◌, ◌⊎◌, inl, inr, ℕ, zero, suc, ◌+◌, ◌-◌, ◌%◌, ◌≤◌, ◌<◌, Bool, true, false, not, ◌&&◌, cond, List, [], ◌∷◌, ◌++◌, length, Option, Some, None, is_some, is_none, find, refl, sym, ap, ◌∙◌, subst, arith, append_assoc, append-nil, get_or}
+use Rattle.std.specs.Prelude.{◌==◌, Contains, slice_get}
+use Rattle.std.specs.List.{list_all}
+use Rattle.std.proofs.Math.Nat.{mod-lt}
+use Rattle.std.proofs.lemmas.Bool.{true≢false, false≢true, and_from, eqb-true, le-leb}
+use Rattle.std.proofs.lemmas.List.{length-append}
+use Rattle.std.proofs.lemmas.List.Elements.{Contains-get_or}
+use Rattle.std.proofs.lemmas.Option.{slice_get_within, get_or_from_slice_get, slice_get-get_or}
+use Rattle.cluster_msgs.specs.declared.events.Event.{Event}
+use Rattle.cluster_msgs.specs.declared.events.Event.TheVariants.{Evict, Balance}
+use Rattle.cluster_rules.specs.Sched.{Setting}
+use Rattle.cluster_rules.specs.Worker.{has_any}
+use Rattle.cluster_rules.specs.Client.{ClientFacts, client_keys, is_unfinished}
+use Rattle.cluster_rules.specs.World.{Job, World, opening, rest, is_connected, unfinished}
+use Rattle.cluster_rules.specs.WorldStep.{world_step}
+use Rattle.cluster_rules.specs.Enabled.{progress}
+use Rattle.cluster_rules.specs.Runs.{run_from, reached, Safe}
+use Rattle.cluster_rules.specs.Draw.{Plan, Sim, Next, Over, Scripted, Evicts, Balances, Spent, Drawn, OutOfTurns, over, over_by, opening_events, sim_from, scripted, evicts_now, balances_now, drawn, draw_one, turn, unscripted, next_by, next, event_of, moved, verdict}
+use Rattle.run_report.specs.declared.tally.Tally.{Tally}
+use Rattle.cluster_sim.specs.Courses.{DrawsTo, Course}
+use Rattle.cluster_sim.specs.Quiet.{QuietFrom, IsPastBound}
+use Rattle.cluster_sim.proofs.WorldKeeps.{world_keeps}
+use Rattle.cluster_sim.proofs.CourseLemmas.{run_more, moved_world}
+use Rattle.cluster_sim.proofs.NextLemmas.{spent_waits}
+
+-- ## What a drawn event is
+
+-- an event that was drawn is progress, and a turn was left for it
+abbrev pub IsTurn : Sim → Next → Type 0
+IsTurn s (Over failure) = Unit {0}
+IsTurn s (Scripted e later) = Unit {0}
+IsTurn s Evicts = Unit {0}
+IsTurn s Balances = Unit {0}
+IsTurn s Spent = Unit {0}
+IsTurn s (Drawn e) = (1 ≤ s.budget) × Contains (progress s.world) e
+
+contains_at : (xs : List Event) (n : ℕ) (e : Event) → slice_get xs n ≡ Some e → Contains xs e
+contains_at xs n e h = subst (λ x. Contains xs x) (get_or_from_slice_get xs n e e h) (Contains-get_or xs n e (slice_get_within xs n e h))
+
+not_zero : (n : ℕ) → (n == 0) ≡ false → 1 ≤ n
+not_zero zero h = absurd (true≢false h)
+not_zero (suc n) h = omega arith
+
+one_drawn : (s : Sim) (o : Option Event) → 1 ≤ s.budget → ((e : Event) → o ≡ Some e → Contains (progress s.world) e) → IsTurn s (drawn o)
+one_drawn s None b h = tt
+one_drawn s (Some e) b h = (b, h e refl)
+
+turn_is : (words : ℕ → ℕ) (s : Sim) → IsTurn s (turn words s)
+turn_is words s = pick (s.budget == 0) refl
+  where
+    pick : (b : Bool) → (s.budget == 0) ≡ b → IsTurn s (cond b Spent (draw_one (words s.turns) (progress s.world)))
+    pick true q = tt
+    pick false q = one_drawn s _ (not_zero s.budget q) (λ e h. contains_at (progress s.world) (words s.turns % length (progress s.world)) e h)
+
+unscripted_is : (words : ℕ → ℕ) (s : Sim) → IsTurn s (unscripted words s)
+unscripted_is words s = evict (evicts_now s)
+  where
+    balance : (b : Bool) → IsTurn s (cond b Balances (turn words s))
+    balance true = tt
+    balance false = turn_is words s
+
+    evict : (b : Bool) → IsTurn s (cond b Evicts (cond (balances_now s) Balances (turn words s)))
+    evict true = tt
+    evict false = balance (balances_now s)
+
+next_is : (words : ℕ → ℕ) (p : Plan) (s : Sim) → IsTurn s (next words p s)
+unfolding next
+next_is words p s = ended (over (s.world.clients 1)) (scripted p.threads s.world s.script)
+  where
+    ended : (o : Option (Option ℕ)) (i : Option (Event × _)) → IsTurn s (next_by words s o i)
+    ended (Some failure) i = tt
+    ended None (Some i) = tt
+    ended None None = unscripted_is words s
+
+-- ## The events since the last that wasn't drawn
+
+-- of the events so far, the last were drawn: as many as are missing from the bound
+record Tail (j : Job) (w : World) (done : List Event) (s : Sim) : Type 0 where
+  before : List Event
+  quiet : List Event
+  whole : done ≡ before ++ quiet
+  moves : QuietFrom j (run_from j w before) quiet
+  count : length quiet + s.budget ≡ rest (run_from j w before)
+  here : s.world ≡ run_from j w done
+
+quiet_more : (j : Job) (w : World) (es : List Event) (e : Event) → QuietFrom j w es → Contains (progress (run_from j w es)) e → QuietFrom j w (es ++ e ∷ [])
+quiet_more j w [] e q h = (h, tt)
+quiet_more j w (x ∷ xs) e q h = (q.0, quiet_more j (world_step j w x) xs e q.1 h)
+
+run_both : (j : Job) (w : World) (xs ys : List Event) → run_from j w (xs ++ ys) ≡ run_from j (run_from j w xs) ys
+run_both j w [] ys = refl
+run_both j w (x ∷ xs) ys = run_both j (world_step j w x) xs ys
+
+tail_start : (j : Job) (p : Plan) (w : World) → Tail j w [] (sim_from p w)
+tail_start j p w = record { before = []; quiet = []; whole = refl; moves = tt; count = omega arith; here = refl }
+
+-- an event that wasn't drawn begins anew
+tail_anew : (j : Job) (w : World) (done : List Event) (s t : Sim) (e : Event) → Tail j w done s → t.world ≡ world_step j s.world e → t.budget ≡ rest t.world → Tail j w (done ++ e ∷ []) t
+tail_anew j w done s t e h to b = record {
+  before = done ++ e ∷ [];
+  quiet = [];
+  whole = sym (append-nil (done ++ e ∷ []));
+  moves = tt;
+  count = zero_more t.budget ∙ b ∙ ap rest there;
+  here = there;
+}
+  where
+    there : t.world ≡ run_from j w (done ++ e ∷ [])
+    there = to ∙ ap (λ x. world_step j x e) h.here ∙ sym (run_more j w done e)
+
+    zero_more : (n : ℕ) → 0 + n ≡ n
+    zero_more n = omega arith
+
+-- a drawn one takes a turn
+tail_drawn : (j : Job) (w : World) (done : List Event) (s t : Sim) (e : Event) → Tail j w done s → 1 ≤ s.budget → Contains (progress s.world) e → t.world ≡ world_step j s.world e → t.budget ≡ s.budget - 1 → Tail j w (done ++ e ∷ []) t
+tail_drawn j w done s t e h some is to b = record {
+  before = h.before;
+  quiet = h.quiet ++ e ∷ [];
+  whole = ap (λ l. l ++ e ∷ []) h.whole ∙ append_assoc h.before h.quiet (e ∷ []);
+  moves = quiet_more j (run_from j w h.before) h.quiet e h.moves (subst (λ x. Contains (progress x) e) at is);
+  count = let l = length-append h.quiet (e ∷ []) in let c = h.count in omega (arith, l, c, b, some);
+  here = to ∙ ap (λ x. world_step j x e) h.here ∙ sym (run_more j w done e);
+}
+  where
+    at : s.world ≡ run_from j (run_from j w h.before) h.quiet
+    at = h.here ∙ ap (run_from j w) h.whole ∙ run_both j w h.before h.quiet
+
+tail_more : (j : Job) (w : World) (done : List Event) (s : Sim) (n : Next) (e : Event) → Tail j w done s → IsTurn s n → event_of n ≡ Some e → Tail j w (done ++ e ∷ []) (moved j s n)
+tail_more j w done s (Over failure) e h i q = absurd (no q)
+  where
+    no : None ≡ Some e → ⊥
+    no q = cc
+tail_more j w done s Spent e h i q = absurd (no q)
+  where
+    no : None ≡ Some e → ⊥
+    no q = cc
+tail_more j w done s (Scripted x later) e h i q = tail_anew j w done s (moved j s (Scripted x later)) e h (moved_world j s (Scripted x later) e q) refl
+tail_more j w done s Evicts e h i q = tail_anew j w done s (moved j s Evicts) e h (moved_world j s Evicts e q) refl
+tail_more j w done s Balances e h i q = tail_anew j w done s (moved j s Balances) e h (moved_world j s Balances e q) refl
+tail_more j w done s (Drawn x) e h i q = tail_drawn j w done s (moved j s (Drawn x)) e h i.0 (subst (λ y. Contains (progress s.world) y) (same q) i.1) (moved_world j s (Drawn x) e q) refl
+  where
+    same : Some x ≡ Some e → x ≡ e
+    same q = cc
+
+tail_end : (j : Job) (words : ℕ → ℕ) (p : Plan) (w : World) (es done : List Event) (s t : Sim) → Tail j w done s → DrawsTo j words p s es t → Tail j w (done ++ es) t
+tail_end j words p w [] done s t h d = subst (λ l. Tail j w l t) (sym (append-nil done)) (subst (Tail j w done) d h)
+tail_end j words p w (e ∷ es) done s t h d =
+    subst (λ l. Tail j w l t) (append_assoc done (e ∷ []) es)
+    (tail_end j words p w es (done ++ e ∷ []) (moved j s (next words p s)) t (tail_more j w done s (next words p s) e h (next_is words p s) d.0) d.1)
+
+-- ## Why nothing comes
+
+-- a word picks a member of a list that has any
+picked : (word : ℕ) (es : List Event) → draw_one word es ≡ Spent → has_any es ≡ false
+picked word [] h = refl
+picked word (e ∷ es) h = absurd (no _ (sym (ap drawn (slice_get-get_or (e ∷ es) (word % length (e ∷ es)) e (mod-lt word (omega arith)))) ∙ h))
+  where
+    no : (x : Event) → Drawn x ≡ Spent → ⊥
+    no x q = cc
+
+-- the turns are spent, or no progress event is enabled
+why_spent : (words : ℕ → ℕ) (p : Plan) (s : Sim) → next words p s ≡ Spent → (s.budget ≡ 0) ⊎ (has_any (progress s.world) ≡ false)
+unfolding next
+why_spent words p s h = ended (over (s.world.clients 1)) (scripted p.threads s.world s.script) h
+  where
+    not_over : (failure : Option ℕ) → Over failure ≡ Spent → ⊥
+    not_over failure q = cc
+
+    not_scripted : (e : Event) (later : List _) → Scripted e later ≡ Spent → ⊥
+    not_scripted e later q = cc
+
+    not_evicts : Evicts ≡ Spent → ⊥
+    not_evicts q = cc
+
+    not_balances : Balances ≡ Spent → ⊥
+    not_balances q = cc
+
+    by_turn : (b : Bool) → (s.budget == 0) ≡ b → cond b Spent (draw_one (words s.turns) (progress s.world)) ≡ Spent → (s.budget ≡ 0) ⊎ (has_any (progress s.world) ≡ false)
+    by_turn true z q = inl (eqb-true s.budget 0 z)
+    by_turn false z q = inr (picked (words s.turns) (progress s.world) q)
+
+    balance : (b : Bool) → cond b Balances (turn words s) ≡ Spent → (s.budget ≡ 0) ⊎ (has_any (progress s.world) ≡ false)
+    balance true q = absurd (not_balances q)
+    balance false q = by_turn (s.budget == 0) refl q
+
+    evict : (b : Bool) → cond b Evicts (cond (balances_now s) Balances (turn words s)) ≡ Spent → (s.budget ≡ 0) ⊎ (has_any (progress s.world) ≡ false)
+    evict true q = absurd (not_evicts q)
+    evict false q = balance (balances_now s) q
+
+    ended : (o : Option (Option ℕ)) (i : Option (Event × _)) → next_by words s o i ≡ Spent → (s.budget ≡ 0) ⊎ (has_any (progress s.world) ≡ false)
+    ended (Some failure) i q = absurd (not_over failure q)
+    ended None (Some i) q = absurd (not_scripted i.0 i.1 q)
+    ended None None q = evict (evicts_now s) q
+
+spent_is : (s : Sim) (n : Next) → verdict s n ≡ Some OutOfTurns → n ≡ Spent
+spent_is s (Over failure) h = absurd (no h)
+  where
+    no : verdict s (Over failure) ≡ Some OutOfTurns → ⊥
+    no q = cc
+spent_is s Spent h = refl
+spent_is s (Scripted e later) h = absurd (no h)
+  where
+    no : ◌≡◌ {A = Option _} None (Some OutOfTurns) → ⊥
+    no q = cc
+spent_is s Evicts h = absurd (no h)
+  where
+    no : ◌≡◌ {A = Option _} None (Some OutOfTurns) → ⊥
+    no q = cc
+spent_is s Balances h = absurd (no h)
+  where
+    no : ◌≡◌ {A = Option _} None (Some OutOfTurns) → ⊥
+    no q = cc
+spent_is s (Drawn e) h = absurd (no h)
+  where
+    no : ◌≡◌ {A = Option _} None (Some OutOfTurns) → ⊥
+    no q = cc
+
+-- ## A client that has not ended waits for a key
+
+-- of these keys none has failed and some is wanted and not got, so the client waits for one
+abbrev WaitsAmong : ClientFacts → List ℕ → Type 0
+WaitsAmong c ks = find (λ k. is_some (c.failed k)) ks ≡ None → list_all (λ k. not (c.wants k && not (c.got k))) ks ≡ false → (k : ℕ) × (is_unfinished c k ≡ true)
+
+waits_in : (c : ClientFacts) (ks : List ℕ) → WaitsAmong c ks
+waits_in c [] f a = absurd (true≢false a)
+waits_in c (k ∷ ks) f a = by_failed (λ g r. waits_in c ks g r) (c.failed k) refl f
+  where
+    found : (x : ℕ) → Some x ≡ None → ⊥
+    found x q = cc
+
+    is : (w g : Bool) → not (w && not g) ≡ false → (w ≡ true) × (g ≡ false)
+    is true true q = absurd (true≢false q)
+    is true false q = (refl, refl)
+    is false g q = absurd (true≢false q)
+
+    unfinished_here : c.failed k ≡ None → not (c.wants k && not (c.got k)) ≡ false → is_unfinished c k ≡ true
+    unfinished_here n q = let r = is (c.wants k) (c.got k) q in rw (r.0, r.1, n) refl
+
+    by_got : WaitsAmong c ks → (b : Bool) → not (c.wants k && not (c.got k)) ≡ b → c.failed k ≡ None → find (λ k. is_some (c.failed k)) ks ≡ None → (b && list_all (λ k. not (c.wants k && not (c.got k))) ks) ≡ false → (k : ℕ) × (is_unfinished c k ≡ true)
+    by_got later true q n g r = later g r
+    by_got later false q n g r = (k, unfinished_here n q)
+
+    by_failed : WaitsAmong c ks → (o : Option ℕ) → c.failed k ≡ o → cond (is_some o) (Some k) (find (λ k. is_some (c.failed k)) ks) ≡ None → (k : ℕ) × (is_unfinished c k ≡ true)
+    by_failed later None n g = by_got later (not (c.wants k && not (c.got k))) refl n g a
+    by_failed later (Some x) n g = absurd (found k g)
+
+waits : (c : ClientFacts) → over c ≡ None → (k : ℕ) × (is_unfinished c k ≡ true)
+waits c h = by_found (find (λ k. is_some (c.failed k)) (client_keys c)) refl h
+  where
+    no : (x : Option ℕ) → Some x ≡ None → ⊥
+    no x q = cc
+
+    all : (b : Bool) → cond {A = Option (Option ℕ)} b (Some None) None ≡ None → b ≡ false
+    all true q = absurd (no None q)
+    all false q = refl
+
+    by_found : (o : Option ℕ) → find (λ k. is_some (c.failed k)) (client_keys c) ≡ o → over_by c o ≡ None → (k : ℕ) × (is_unfinished c k ≡ true)
+    by_found None f q = waits_in c (client_keys c) f (all _ q)
+    by_found (Some k) f q = absurd (no (c.failed k) q)
+
+settings_stay : (j : Job) (w : World) (es : List Event) → (run_from j w es).sched.setting ≡ w.sched.setting
+settings_stay j w [] = refl
+settings_stay j w (e ∷ es) = settings_stay j (world_step j w e) es ∙ (world_keeps j w e).setting
+
+-- ## Put together
+
+pub past_bound : (j : Job) (words : ℕ → ℕ) (p : Plan) (wanted : List ℕ) (s : Sim) (t : Tally) (n : ℕ) (c : Course j words p wanted s t n) → Safe j (opening_events p wanted ++ c.later) → 1 ≤ j.setting.clients → verdict s (next words p s) ≡ Some OutOfTurns
+    → (i : ℕ) → s.world.alive i ≡ true → is_connected s.world i ≡ true → IsPastBound j (opening_events p wanted ++ c.later)
+past_bound j words p wanted s t n c safe some v i alive linked = by_cause (why_spent words p s (spent_is s (next words p s) v))
+  where
+    all : List Event
+    all = opening_events p wanted ++ c.later
+
+    start : World
+    start = run_from j (opening j) (opening_events p wanted)
+
+    tail : Tail j start c.later s
+    tail = tail_end j words p start c.later [] (sim_from p start) s (tail_start j p start) c.drawn
+
+    here : s.world ≡ reached j all
+    here = sym c.made.reached
+
+    client : (w : World) → w.sched.setting ≡ j.setting → (k : ℕ) → is_unfinished (w.clients 1) k ≡ true → unfinished w 1 k ≡ true
+    client w e k u = and_from _ _ (and_from _ _ refl (le-leb 1 w.sched.setting.clients (subst (λ (x : Setting). 1 ≤ x.clients) (sym e) some))) u
+
+    moving : has_any (progress (reached j all)) ≡ true
+    moving =
+        let k = waits (s.world.clients 1) (spent_waits words p s (spent_is s (next words p s) v)) in
+        safe.lively all [] (sym (append-nil all)) 1 k.0 i
+        (client (reached j all) (settings_stay j (opening j) all) k.0 (subst (λ (w : World). is_unfinished (w.clients 1) k.0 ≡ true) here k.1))
+        (subst (λ (w : World). w.alive i ≡ true) here alive)
+        (subst (λ w. is_connected w i ≡ true) here linked)
+
+    by_cause : (s.budget ≡ 0) ⊎ (has_any (progress s.world) ≡ false) → IsPastBound j all
+    by_cause (inr none) = absurd (true≢false (sym moving ∙ ap (λ w. has_any (progress w)) (sym here) ∙ none))
+    by_cause (inl spent) = record {
+      before = opening_events p wanted ++ tail.before;
+      quiet = tail.quiet;
+      whole = ap (λ l. opening_events p wanted ++ l) tail.whole ∙ sym (append_assoc (opening_events p wanted) tail.before tail.quiet);
+      moves = subst (λ w. QuietFrom j w tail.quiet) (sym (run_both j (opening j) (opening_events p wanted) tail.before)) tail.moves;
+      count = none_left (length tail.quiet) s.budget (rest (run_from j start tail.before)) spent tail.count ∙ ap rest (sym (run_both j (opening j) (opening_events p wanted) tail.before));
+      more = moving;
+    }
+      where
+        none_left : (a b m : ℕ) → b ≡ 0 → a + b ≡ m → a ≡ m
+        none_left a b m e h = omega arith

@@ -1,0 +1,68 @@
+use Rattle.std.proofs.Common.{◌≡◌, ◌<◌, ◌+◌, ◌*◌, ◌/◌, [], List, ℕ, length, arith, ap, sym, subst, ◌∙◌, refl}
+use Rattle.io_edge.specs.Content.{Content, file_at, size_of}
+use Rattle.nd_rows.specs.Storage.{Walk, count_of, spot}
+use Rattle.nd_rows.proofs.Spots.{row_fits}
+use Rattle.npy_region.proofs.RegionLemmas.{row_starts, row_room, row_more, row_read, rows_are, rows_end, first_stored, StoredTo}
+use Rattle.npy_region.proofs.region.read_rows.Goals as goal
+
+pub loop-k-init : goal.loop-k-init
+loop-k-init g c =
+    let none : c.args.cells.now.items ≡ [] = c.requires.none in
+    record {
+      same = refl;
+      kept = refl;
+      walk = refl;
+      cells = first_stored (file_at (g.S.Store.files c.args.store.now) c.args.file) c.args.data_at c.row_len-row.result c.args.walk.now c.args.cells.now.items none;
+      size = ap length none ∙ omega arith;
+    }
+
+pub place-requires : goal.place-requires
+place-requires g c =
+    let k = c.loop-k.k in
+    let row = c.row_len-row.result in
+    let starts = row_starts c.args.walk.now row c.len-count.result k c.row_len-row.ensures c.len-count.ensures.count c.loop-k-test.true in
+    subst (λ (w : Walk). k * row < count_of w) (sym c.loop-k.invariant.walk) (subst (λ (n : ℕ). k * row < n) c.len-count.ensures.count starts)
+
+pub read_cells-requires-clause-fits : goal.read_cells-requires-clause-fits
+read_cells-requires-clause-fits g c = omega (arith, c.place.ensures.limit, c.requires.near, row_fits c.args.walk.now c.row_len-row.result c.requires.some c.row_len-row.ensures, c.len-count.ensures.count, c.len-count.ensures.limit)
+
+pub read_cells-requires-clause-room : goal.read_cells-requires-clause-room
+read_cells-requires-clause-room g c =
+    let walk = c.args.walk.now in
+    let row = c.row_len-row.result in
+    let k = c.loop-k.k in
+    let k_in = subst (λ (n : ℕ). k < n) (rows_are walk row c.len-count.result c.row_len-row.ensures c.len-count.ensures.count) c.loop-k-test.true in
+    let size : size_of (file_at (g.S.Store.files c.loop-k.store) c.args.file) ≡ size_of (file_at (g.S.Store.files c.args.store.now) c.args.file) = ap (λ (fs : List Content). size_of (file_at fs c.args.file)) c.loop-k.invariant.same in
+    let at : c.place.result ≡ spot walk (k * row) = c.place.ensures.place ∙ ap (λ (w : Walk). spot w (k * row)) c.loop-k.invariant.walk in
+    let room = row_room (size_of (file_at (g.S.Store.files c.args.store.now) c.args.file)) c.args.data_at row k walk c.row_len-row.ensures k_in c.requires.room in
+    omega (arith, size, at, room)
+
+pub loop-k-preserved : goal.loop-k-preserved
+loop-k-preserved g c =
+    let file = file_at (g.S.Store.files c.args.store.now) c.args.file in
+    let walk = c.args.walk.now in
+    let k = c.loop-k.k in
+    let row = c.row_len-row.result in
+    let k_in = subst (λ (n : ℕ). k < n) (rows_are walk row c.len-count.result c.row_len-row.ensures c.len-count.ensures.count) c.loop-k-test.true in
+    let room = row_room (size_of file) c.args.data_at row k walk c.row_len-row.ensures k_in c.requires.room in
+    let at : c.args.data_at + 8 * c.place.result ≡ c.args.data_at + 8 * spot walk (k * row) = ap (λ (n : ℕ). c.args.data_at + 8 * n) (c.place.ensures.place ∙ ap (λ (w : Walk). spot w (k * row)) c.loop-k.invariant.walk) in
+    let more = row_read file (file_at (g.S.Store.files c.loop-k.store) c.args.file) (c.args.data_at + 8 * c.place.result) (c.args.data_at + 8 * spot walk (k * row)) row c.loop-k.cells.items c.read_cells.new.out.items
+    (ap (λ (fs : List Content). file_at fs c.args.file) c.loop-k.invariant.same) at c.in_ok-read_cells.ensures.cells in
+    record {
+      same = c.read_cells.ensures.same ∙ c.loop-k.invariant.same;
+      kept = c.in_ok-read_cells.ensures.kept ∙ c.loop-k.invariant.kept;
+      walk = c.place.ensures.same ∙ c.loop-k.invariant.walk;
+      cells = row_more file c.args.data_at row k walk c.loop-k.cells.items c.read_cells.new.out.items c.row_len-row.ensures k_in room c.loop-k.invariant.cells more;
+      size = c.in_ok-read_cells.ensures.size ∙ omega (arith, c.loop-k.invariant.size);
+    }
+
+pub returns-clause-cells : goal.returns-clause-cells
+returns-clause-cells g c =
+    let last : c.loop-k.k ≡ c.len-count.result / c.row_len-row.result = omega arith in
+    subst (λ n. StoredTo (file_at (g.S.Store.files c.args.store.now) c.args.file) c.args.data_at c.args.walk.now n c.loop-k.cells.items)
+    (rows_end c.args.walk.now c.row_len-row.result c.len-count.result c.loop-k.k c.row_len-row.ensures c.len-count.ensures.count last) c.loop-k.invariant.cells
+
+pub returns-clause-size : goal.returns-clause-size
+returns-clause-size g c =
+    let last : c.loop-k.k ≡ c.len-count.result / c.row_len-row.result = omega arith in
+    c.loop-k.invariant.size ∙ rows_end c.args.walk.now c.row_len-row.result c.len-count.result c.loop-k.k c.row_len-row.ensures c.len-count.ensures.count last

@@ -1,0 +1,13 @@
+use Rattle.std.proofs.Common.{◌≡◌, ◌*◌, length}
+use Rattle.io_edge.specs.Content.{file_at}
+use Rattle.npy_region.proofs.RegionLemmas.{StoredTo}
+use Rattle.npy_region.proofs.region.read_rows.Given as goal
+
+abbrev pub invariant-loop-k : goal.invariant-loop-k
+invariant-loop-k g l = record {
+  same : g.S.Store.files l.store ≡ g.S.Store.files l.fn.store;
+  kept : g.S.Store.count l.store ≡ g.S.Store.count l.fn.store;
+  walk : l.walk ≡ l.fn.walk;
+  cells : StoredTo (file_at (g.S.Store.files l.fn.store) l.file) l.data_at l.fn.walk (l.k * l.row) l.cells.items;
+  size : length l.cells.items ≡ l.k * l.row;
+}

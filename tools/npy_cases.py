@@ -1,0 +1,121 @@
+"""Files that numpy.save writes, and what NumPy has in them: cases of format_table.
+
+The runs of bytes and the regions past a file's end are worked out by hand from docs/FORMATS.md, on the file SIX.
+"""
+
+import io
+
+import numpy as np
+
+from case_lines import escaped, numbers, order
+
+SHAPES = [(), (3,), (0,), (2, 3), (3, 0), (2, 3, 2), (1, 2, 1, 3), (2, 1, 2, 1, 2), (1, 1, 2, 1, 1, 2),
+          (1, 2, 1, 1, 2, 1, 1), (1, 1, 2, 1, 1, 2, 1, 2)]
+AXES = (2, 3, 1, 4, 1, 2, 1, 5)
+CUBE = (3, 4, 2)
+PARTS = [((0, 0, 0), (3, 4, 2)), ((1, 0, 0), (2, 4, 2)), ((0, 1, 1), (3, 2, 1)), ((1, 1, 0), (1, 2, 2)),
+         ((2, 3, 1), (1, 1, 1)), ((0, 4, 0), (3, 0, 2))]
+
+
+def array_of(shape, order):
+    count = int(np.prod(shape, dtype=np.int64))
+    values = [(i * 1234567890123456789 + 987654321 + 2**63) % 2**64 - 2**63 for i in range(count)]
+    return np.array(np.array(values, dtype="<i8").reshape(shape), order=order)
+
+
+def file_of(array):
+    out = io.BytesIO()
+    np.save(out, array)
+    return out.getvalue()
+
+
+def is_fortran(array):
+    return array.flags.f_contiguous and not array.flags.c_contiguous
+
+
+def axes(starts, lengths):
+    return ",".join("%d+%d" % pair for pair in zip(starts, lengths)) or "-"
+
+
+def region_line(data, starts, lengths, most, size=None, fault="-"):
+    return "region %d %s %d %s %s" % (most, fault, len(data) if size is None else size, axes(starts, lengths), escaped(data))
+
+
+def cells_of(array, starts, lengths):
+    part = array[tuple(slice(s, s + n) for s, n in zip(starts, lengths))]
+    return "".join(" %d" % v for v in part.ravel(order="C").tolist())
+
+
+def region_cases(array, starts, lengths):
+    """The region of the array's file, however short the reads are."""
+    data = file_of(array)
+    at = len(data) - 8 * array.size
+    answer = "%s (%s) at %d; (%s)" % (order(is_fortran(array)), numbers(array.shape), at, numbers(lengths))
+    answer += cells_of(array, starts, lengths)
+    return [(region_line(data, starts, lengths, most), answer) for most in (7, 100000)]
+
+
+def header_case(shape, letter):
+    """The header of an array: NumPy writes False for fewer than two axes in either order."""
+    data = file_of(np.zeros(shape, dtype="<i8", order=letter))
+    text = data[10 : 10 + data[8] + 256 * data[9]]
+    fortran = letter == "F" and len(shape) > 1
+    return "header " + escaped(text), "%s (%s) of '<i8'" % (order(fortran), numbers(shape))
+
+
+# A column-major file of shape (2, 3) with the data 1 to 6, and a header of 70 bytes.
+SIX = b"\x93NUMPY\x01\x00\x46\x00{'descr': '<i8', 'fortran_order': True, 'shape': (2, 3), }           \n"
+SIX += b"".join(n.to_bytes(8, "little") for n in range(1, 7))
+SIX_HEAD = "column-major (2,3) at 80; "
+
+
+def six(starts, lengths, most, size, answer, fault="-"):
+    return region_line(SIX, starts, lengths, most, size, fault), SIX_HEAD + answer
+
+
+# Of 48 bytes of data 39 are there where the file has 119: the element at (0, 2) ends at 40, and the last one at 48.
+SIX_CASES = [
+    six((0, 0), (2, 3), 7, 128, "(2,3) 1 3 5 2 4 6"),
+    six((1, 1), (1, 2), 7, 128, "(1,2) 4 6"),
+    six((0, 3), (2, 0), 7, 128, "(2,0)"),
+    six((0, 0), (2, 3), 100000, 128, "(2,3) 1 3 5 2 4 6"),
+    six((1, 1), (1, 2), 100000, 128, "(1,2) 4 6"),
+    six((0, 3), (2, 0), 100000, 128, "(2,0)"),
+    six((0, 2), (1, 1), 9, 119, "truncated: has 39, needs 40"),
+    six((0, 0), (2, 3), 9, 119, "truncated: has 39, needs 48"),
+    six((0, 0), (1, 1), 9, 0, "truncated: has 0, needs 8"),
+    six((0, 0), (2, 2), 100000, 119, "(2,2) 1 3 2 4"),
+    six((0, 3), (2, 0), 100000, 119, "(2,0)"),
+    # the head takes one call for the length and two reads where a call moves all
+    six((0, 0), (2, 2), 100000, 128, "read fault", "length:1"),
+    six((0, 0), (2, 2), 100000, 128, "read fault", "read:2"),
+    six((0, 0), (2, 2), 7, 128, "read fault", "read:14"),
+]
+
+# The same header as `written 2,2` of format_table has, with -1, 0, the largest and the smallest number.
+WRITTEN = b"\x93NUMPY\x01\x00v\x00{'descr': '<i8', 'fortran_order': False, 'shape': (2, 2), }" + b" " * 58 + b"\n"
+WRITTEN += b"".join(n.to_bytes(8, "little", signed=True) for n in (-1, 0, 2**63 - 1, -(2**63)))
+WRITTEN_CELLS = "row-major (2,2) at 128; (2,2) -1 0 9223372036854775807 -9223372036854775808"
+WRITTEN_CASES = [(region_line(WRITTEN, (0, 0), (2, 2), most), WRITTEN_CELLS) for most in (7, 100000)]
+
+# The runs of a region of a file whose data begins at byte 80: the first byte, how many, and the place in the block.
+RUNS = [
+    ("runs row-major 2,3 0+2,0+3", "runs 80+48@0"),
+    ("runs row-major 2,3 0+2,1+2", "runs 88+16@0 112+16@2"),
+    ("runs column-major 2,3 0+2,1+2", "runs 96+8@0 104+8@2 112+8@1 120+8@3"),
+    ("runs column-major 2,3 0+2,1+1", "runs 96+16@0"),
+    ("runs column-major - -", "runs 80+8@0"),
+    ("runs column-major 2,3 0+0,1+1", "runs"),
+    ("runs row-major 2,3 0+2,2+2", "no part"),
+]
+
+
+def cases():
+    found = [("# files of NumPy", "files of NumPy")]
+    found += [header_case(AXES[:count], letter) for count in range(9) for letter in "CF"]
+    for letter in "CF":
+        for shape in SHAPES:
+            found += region_cases(array_of(shape, letter), (0,) * len(shape), shape)
+        for starts, lengths in PARTS:
+            found += region_cases(array_of(CUBE, letter), starts, lengths)
+    return found + SIX_CASES + WRITTEN_CASES + RUNS
