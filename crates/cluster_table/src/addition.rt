@@ -47,8 +47,10 @@ fn begin(alloc: Global, words: &mut Words<'_>) -> Result<AdditionJob, RowError> 
     let size = words.number()?;
     let addend = cell(words.word())?;
     let cells = read_cells(alloc, words)?;
-    let is_short = cells.len() <= MOST_CELLS;
-    if !is_short || size < 1 || size > 1 << 20 || !can_cut(cells.len() as u64, size) {
+    if cells.len() > MOST_CELLS || size < 1 || size > 1 << 20 {
+        return Err(RowError::Ill);
+    }
+    if !can_cut(cells.len() as u64, size) {
         return Err(RowError::Ill);
     }
     Ok(AdditionJob::new(alloc, cells, size, addend)?)
