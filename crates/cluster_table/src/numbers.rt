@@ -115,6 +115,15 @@ impl<'a> Words<'a> {
         small(self.word())
     }
 
+    /// The next truth value.
+    pub fn truth(&mut self) -> Result<bool, RowError> {
+        match self.word() {
+            "true" => Ok(true),
+            "false" => Ok(false),
+            _ => Err(RowError::Ill),
+        }
+    }
+
     /// The next list of keys.
     pub fn keys(&mut self) -> Result<KeyList, RowError> {
         keys(self.alloc, self.word())
