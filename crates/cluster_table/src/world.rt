@@ -153,7 +153,7 @@ pub fn read_opening(alloc: Global, words: &mut Words<'_>) -> Result<Opening, Row
     ensures { IfOk result (λ o. o.feed.value ≡ o.job.content) }
 {
     let content = words.number()?;
-    let fails = words.word() == "true";
+    let fails = words.truth()?;
     let shape = read_graph(alloc, words)?;
     Ok(Opening {
         job: Quotients { shape, content },
