@@ -71,8 +71,8 @@ def shown(out, err, faults, file, held):
 
 
 def often(file, command, answer):
-    """A run, the same again, and the same in one thread."""
-    say(f'often {file} {command}', 'often:' + answer, 'again: the same', 'again: the same')
+    """A run, and the same in one thread."""
+    say(f'often {file} {command}', 'often:' + answer, 'again: the same')
 
 
 def both(file, answer):
@@ -453,16 +453,16 @@ def faults():
         # the job and each input are opened once, each saved file is created once
         read_fails('o.npy', command, done, 3)
         fail('create', 'o.npy', command, (*write, 'none'), (*write, 'whole'), done, count=2)
-        fail('create', 's.npy', command, (*write, 'none'), done, count=2)
-        fail('write', 'o.npy', command, (*write, 'in part'), (*write, 'whole'), done)
         fail('write', 's.npy', command, (*write, 'none'), (*write, 'in part'), done)
         fail('out', 's.npy', command, (6, '', 'dask: write fault|', '0 0 1 0', 'whole'), done)
-        fail('err', 'o.npy', command, done)
-    title('the same by seven bytes a call')
-    say('site 4096 7')
+    fail('create', 's.npy', 'plain job.txt', (*write, 'none'), done, count=2)
+    fail('write', 'o.npy', 'plain job.txt', (*write, 'in part'), (*write, 'whole'), done)
+    fail('err', 'o.npy', 'plain job.txt', done)
+    title('the same by sixteen bytes a call')
+    say('site 4096 16')
     read_fails('s.npy', 'plain job.txt', done, 3)
     fail('write', 's.npy', 'plain job.txt', (*write, 'none'), (*write, 'in part'), done)
-    fronts = [(6, PAIR_LINES[:k], 'dask: write fault|', '0 0 1 0', 'whole') for k in range(0, len(PAIR_LINES), 7)]
+    fronts = [(6, PAIR_LINES[:k], 'dask: write fault|', '0 0 1 0', 'whole') for k in range(0, len(PAIR_LINES), 16)]
     fail('out', 'o.npy', 'plain job.txt', *fronts, done)
     title('a stream without room for all lines')
     say('site 20 0')
@@ -574,7 +574,7 @@ def simulations():
     command = f'sim job.txt 7 {ALONE}'
     done = (0, report('(1,)', [2], 14), '', '0 0 0 0', 'whole')
     write = (6, '', 'dask: write fault|', '0 1 0 0')
-    for most in (0, 9):
+    for most in (0, 16):
         say(f'site 4096 {most}')
         read_fails('o.npy', command, done, 2)
         fail('create', 'o.npy', command, (*write, 'none'), done, count=1)

@@ -169,9 +169,9 @@ pub fn print_block<R: Print>(
     let node = NodeId::new(words.below(65535)? as u32);
     let region = region_of(words.word())?;
     let text = bytes_of(alloc, words.rest)?;
-    let Ok(job) = parse(alloc, &text) else {
-        return Err(Trouble::Ill);
-    };
     let heads = heads_of(alloc, &mut desk.sound_site(alloc)?, &names)?;
-    print_node(rt, alloc, job.expr(), node, &region, site, &names, &heads)
+    match parse(alloc, &text) {
+        Ok(job) => print_node(rt, alloc, job.expr(), node, &region, site, &names, &heads),
+        Err(_) => Err(Trouble::Ill),
+    }
 }

@@ -19,13 +19,12 @@ fn print_faults<R: Print>(rt: &R, faults: u64) -> Result<(), Trouble> {
     Ok(print!(rt; " faults {faults}")?)
 }
 
-// Reads from an offset on so many bytes, by one call or by as many as it takes.
-fn read<R: Print, I: Store>(
+// One read: the offset, and how many bytes are wanted.
+fn read_once<R: Print, I: Store>(
     rt: &R,
     alloc: Global,
     store: &mut I,
     file: u32,
-    is_whole: bool,
     words: &mut Words,
 ) -> Result<(), Trouble>
     requires { file < length (I.files store.old) }
@@ -34,12 +33,25 @@ fn read<R: Print, I: Store>(
     let offset = number(words.word())?;
     let count = words.below(64)? as usize;
     let mut buf = [0u8; 64];
-    let part = &mut buf[..count];
-    let answer = if is_whole && offset < 1048576 {
-        read_full(store, file, offset, part)
-    } else {
-        store.read_at(file, offset, part)
-    };
+    let answer = store.read_at(file, offset, &mut buf[..count]);
+    say_bytes(rt, alloc, &buf, answer)
+}
+
+// As many reads as it takes.
+fn read_whole<R: Print, I: Store>(
+    rt: &R,
+    alloc: Global,
+    store: &mut I,
+    file: u32,
+    words: &mut Words,
+) -> Result<(), Trouble>
+    requires { file < length (I.files store.old) }
+    ensures { I.files store.new ≡ I.files store.old }
+{
+    let offset = words.below(1048576)?;
+    let count = words.below(64)? as usize;
+    let mut buf = [0u8; 64];
+    let answer = read_full(store, file, offset, &mut buf[..count]);
     say_bytes(rt, alloc, &buf, answer)
 }
 
@@ -57,8 +69,8 @@ fn call_at<R: Print, I: Store>(
 {
     match place(call, &["length", "read", "whole", "head", "region"]) {
         0 => say(rt, store.len(file)),
-        1 => read(rt, alloc, store, file, false, words),
-        2 => read(rt, alloc, store, file, true, words),
+        1 => read_once(rt, alloc, store, file, words),
+        2 => read_whole(rt, alloc, store, file, words),
         3 => print_head(rt, alloc, store, file),
         4 => print_region(rt, alloc, store, file, words.word()),
         _ => Err(Trouble::Ill),
@@ -205,19 +217,16 @@ fn call_file_often<R: Print, F: OutFile>(
     Ok(())
 }
 
-// Creates a file with a name and a length, makes the calls that follow, and gives it back. A file is lost where it isn't to
-// be given back.
+// Creates a file with a name and a length, makes the calls that follow, and gives it back.
 fn create<R: Print, S: Site>(
     rt: &R,
     alloc: Global,
     site: &mut S,
-    is_lost: bool,
     words: &mut Words,
 ) -> Result<(), Trouble> {
     let name = words.word();
     let len = words.below(65536)?;
     match site.create(alloc, name, len) {
-        Ok(_) if is_lost => print_faults(rt, 0),
         Ok(mut file) => {
             let told = call_file_often(rt, alloc, &mut file, len, words);
             let faults = file.faults();
@@ -225,6 +234,21 @@ fn create<R: Print, S: Site>(
             told?;
             print_faults(rt, faults)
         }
+        Err(fault) => say(rt, Err::<u64, OpenFault>(fault)),
+    }
+}
+
+// Creates a file with a name and a length, and never gives it back.
+fn lose<R: Print, S: Site>(
+    rt: &R,
+    alloc: Global,
+    site: &mut S,
+    words: &mut Words,
+) -> Result<(), Trouble> {
+    let name = words.word();
+    let len = words.below(65536)?;
+    match site.create(alloc, name, len) {
+        Ok(file) => print_faults(rt, file.faults()),
         Err(fault) => say(rt, Err::<u64, OpenFault>(fault)),
     }
 }
@@ -273,8 +297,8 @@ pub fn call<R: Print + Files, S: Site>(
 ) -> Result<(), Trouble> {
     match place(name, &["open", "create", "lose", "out", "err", "faults"]) {
         0 => open(rt, alloc, site, words),
-        1 => create(rt, alloc, site, false, words),
-        2 => create(rt, alloc, site, true, words),
+        1 => create(rt, alloc, site, words),
+        2 => lose(rt, alloc, site, words),
         3 => print(rt, alloc, site, true, words),
         4 => print(rt, alloc, site, false, words),
         5 => print_all_faults(rt, faults(site)),

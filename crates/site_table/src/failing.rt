@@ -4,7 +4,7 @@ use crate::desk::{Desk, kind_of};
 use crate::runs::{status, told_streams};
 use crate::words::{Trouble, Words, split};
 use io_edge::{Counted, Kind, MemorySite, Refusal};
-use std::alloc::AllocError;
+use std::alloc::{AllocError, Global};
 use std::random::RandomSource;
 use std::sync::Wait;
 use std::thread::Threads;
@@ -19,6 +19,12 @@ struct Wanted {
     bytes: Vec<u8>,
 }
 
+fn wanted_of(alloc: Global, site: &MemorySite, file: &str) -> Result<Wanted, AllocError> {
+    let bytes = site.file(file).unwrap_or(&[]).to_vec(alloc)?;
+    let file = String::from_str(alloc, file)?;
+    Ok(Wanted { file, bytes })
+}
+
 fn undisturbed<R: Threads + Wait + RandomSource + AllocGlobal + Sync>(
     rt: &R,
     desk: &Desk,
@@ -27,11 +33,7 @@ fn undisturbed<R: Threads + Wait + RandomSource + AllocGlobal + Sync>(
 ) -> Result<Wanted, AllocError> {
     let mut site = desk.sound_site(rt.alloc())?;
     let _ = status(rt, false, words, &mut site);
-    let bytes = site.file(file).unwrap_or(&[]).to_vec(rt.alloc())?;
-    Ok(Wanted {
-        file: String::from_str(rt.alloc(), file)?,
-        bytes,
-    })
+    wanted_of(rt.alloc(), &site, file)
 }
 
 // Whether each byte is the wanted one for its place, or 0.
@@ -66,6 +68,19 @@ struct Tried {
     failed: bool,
 }
 
+fn make_tried(
+    alloc: Global,
+    site: &MemorySite,
+    status: u8,
+    wanted: &Wanted,
+) -> Result<Tried, AllocError> {
+    let streams = told_streams(alloc, site)?;
+    let state = state(site, wanted);
+    let failed = faults(site) != [0, 0, 0, 0];
+    let told = format!(in alloc; " {status}{streams} {} {state}", wanted.file)?;
+    Ok(Tried { told, failed })
+}
+
 fn run_failing<R: Threads + Wait + RandomSource + AllocGlobal + Sync>(
     rt: &R,
     desk: &Desk,
@@ -81,11 +96,7 @@ fn run_failing<R: Threads + Wait + RandomSource + AllocGlobal + Sync>(
     };
     let mut site = desk.site(rt.alloc(), Some(refusal))?;
     let status = status(rt, false, words, &mut site);
-    let told = told_streams(rt.alloc(), &site)?;
-    let state = state(&site, wanted);
-    let failed = faults(&site) != [0, 0, 0, 0];
-    let told = format!(in rt.alloc(); " {status}{told} {} {state}", wanted.file)?;
-    Ok(Tried { told, failed })
+    make_tried(rt.alloc(), &site, status, wanted)
 }
 
 // Prints what came of a call where it isn't what came of the one before it.

@@ -93,7 +93,7 @@ fn print_again<R: Print>(rt: &R, told: &str, again: &str) -> Result<(), Trouble>
     }
 }
 
-/// Runs the program over new sites, twice and then in one thread: the file that is shown, and the words.
+/// Runs the program over a new site, and in one thread over another: the file that is shown, and the words.
 pub fn run_often<R: Print + Threads + Wait + RandomSource + AllocGlobal + Sync>(
     rt: &R,
     desk: &Desk,
@@ -103,11 +103,21 @@ pub fn run_often<R: Print + Threads + Wait + RandomSource + AllocGlobal + Sync>(
     let list = split(rt.alloc(), words.rest, ' ')?;
     let told = run_anew(rt, desk, false, &list, file)?;
     print!(rt; "{told}")?;
-    for is_serial in [false, true] {
-        let again = run_anew(rt, desk, is_serial, &list, file)?;
-        print_again(rt, told.as_str(), again.as_str())?;
-    }
-    Ok(())
+    let again = run_anew(rt, desk, true, &list, file)?;
+    print_again(rt, told.as_str(), again.as_str())
+}
+
+// Runs the program over a new site, and tells the status and a file.
+fn run_for_text<R: Threads + Wait + RandomSource + AllocGlobal + Sync>(
+    rt: &R,
+    desk: &Desk,
+    words: &[String],
+    file: &str,
+) -> Result<(u8, String), AllocError> {
+    let mut site = desk.site(rt.alloc(), None)?;
+    let status = status(rt, false, words, &mut site);
+    let held = file_text(rt.alloc(), &site, file)?;
+    Ok((status, held))
 }
 
 /// Runs the program over a new site, and prints the status and a file: the file, and the words.
@@ -118,8 +128,6 @@ pub fn run_for_file<R: Print + Threads + Wait + RandomSource + AllocGlobal + Syn
 ) -> Result<(), Trouble> {
     let file = words.word();
     let list = split(rt.alloc(), words.rest, ' ')?;
-    let mut site = desk.site(rt.alloc(), None)?;
-    let status = status(rt, false, &list, &mut site);
-    let held = file_text(rt.alloc(), &site, file)?;
+    let (status, held) = run_for_text(rt, desk, &list, file)?;
     Ok(print!(rt; " {status} {file} {held}")?)
 }

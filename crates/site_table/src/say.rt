@@ -1,6 +1,7 @@
 // What is printed.
 use crate::text::text_of;
 use crate::words::Trouble;
+use io_edge::Failed;
 use std::alloc::Global;
 use std::fmt::Display;
 
@@ -21,16 +22,19 @@ pub fn say_word<R: Print>(rt: &R, word: &str) -> Result<(), Trouble> {
     Ok(print!(rt; " {word}")?)
 }
 
-/// Prints how many bytes were read, and which, or why none were.
-pub fn say_bytes<R: Print, E: Display + Drop>(
+/// Prints which bytes were read, and how many, or that the call failed.
+pub fn say_bytes<R: Print>(
     rt: &R,
     alloc: Global,
     buf: &[u8],
-    answer: Result<usize, E>,
+    answer: Result<usize, Failed>,
 ) -> Result<(), Trouble> {
-    if let Ok(count) = answer {
-        let text = text_of(alloc, &buf[..count.min(buf.len())])?;
-        say_word(rt, text.as_str())?;
+    match answer {
+        Ok(count) => {
+            let text = text_of(alloc, &buf[..count.min(buf.len())])?;
+            print!(rt; " {text} {count}")?;
+        }
+        Err(Failed) => print!(rt; " {Failed}")?,
     }
-    say(rt, answer)
+    Ok(())
 }
