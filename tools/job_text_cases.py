@@ -525,11 +525,11 @@ CASES = [
     "concatenate([full((2147483648), 1, (1)), full((1), 1, (1))], axis=0)", "tensordot(full((1, 1, 1, 1, 1), 1, (1, 1, 1, 1, 1)), full((1, 1, 1, 1), 1, (1, 1, 1, 1)), (), ())",
 )
 
-# At the limits of statements, nodes and bytes.
+# At the limits of statements and bytes.
 STATEMENTS = b"\n".join(b"let x%d=1" % k for k in range(1023))
 LIMITS = [
     STATEMENTS + SAVE.encode().replace(b"x", b"x0"), STATEMENTS + b"\nlet y=1\nsave y \"f\"",
-    b"let x = 1" + b"+1" * 32768 + SAVE.encode(), b" " * (2**20 - 20) + b"let x = 1" + SAVE.encode(), b" " * (2**20 - 19) + b"let x = 1" + SAVE.encode(),
+    b" " * (2**20 - 20) + b"let x = 1" + SAVE.encode(), b" " * (2**20 - 19) + b"let x = 1" + SAVE.encode(),
     b"$" + b" " * 2**20, b"#" + b"a" * (2**20 - 1),
 ]
 

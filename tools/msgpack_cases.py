@@ -31,7 +31,8 @@ class Pairs(list):
     """A map as its pairs: a key may come twice."""
 
 
-def shown(value):
+def leaf(value):
+    """A value that holds no others, or how many it holds."""
     if value is None:
         return "nil"
     if isinstance(value, bool):
@@ -42,9 +43,16 @@ def shown(value):
         return "'%s'" % case_lines.shown(value.encode())
     if isinstance(value, bytes):
         return "<%s>" % value.hex()
+    return "%s of %d" % ("map" if isinstance(value, Pairs) else "array", len(value))
+
+
+def shown(value):
+    """A value with those that it holds. What lies deeper shows in its bytes."""
     if isinstance(value, Pairs):
-        return "{%s }" % "".join(" %s %s" % (shown(k), shown(v)) for k, v in value)
-    return "[%s ]" % "".join(" " + shown(v) for v in value)
+        return "{%s }" % "".join(" %s %s" % (leaf(k), leaf(v)) for k, v in value)
+    if isinstance(value, list):
+        return "[%s ]" % "".join(" " + leaf(v) for v in value)
+    return leaf(value)
 
 
 def decoded(data):
@@ -104,7 +112,7 @@ BY_HAND = [
     ("value df08000001", "a length above 2^27"), ("value c608000000", SHORT), ("value dd08000000", SHORT),
     ("value " + "91" * 17, "more than 16 nested arrays and maps"), ("value " + "91" * 16, SHORT),
     ("value " + "91" * 16 + "80", "more than 16 nested arrays and maps"),
-    ("value " + "91" * 16 + "c0", "17 %snil%s = %sc0" % ("[ " * 16, " ]" * 16, "91" * 16)), ("value", SHORT),
+    ("value " + "91" * 16 + "c0", "17 [ array of 1 ] = %sc0" % ("91" * 16)), ("value", SHORT),
     ("nested 1", "90"), ("nested 15", "91" * 14 + "90"), ("nested 16", "91" * 15 + "90"),
     ("nested 17", "more than 16 nested arrays and maps"),
 ]

@@ -13,16 +13,18 @@ released_note=release/SOURCES
 # nothing on an otherwise idle machine with so many processors. docs/GATE.md says on which. Empty where none was measured.
 build_minutes=([2]='' [4]='')
 
-# Sets `crates` to the crates that the program stands on, its own among them, and `lines` to their lines of crates.txt, by name.
-# A name that crates.txt does not list is a library of the kit.
+# Sets `crates` to the crates that the program stands on, its own among them, and `lines` to their lines of crates.txt, by name,
+# each with one space between words. A name that crates.txt does not list is a library of the kit.
 read_crates() {
-  local line name text
+  local line name uses words head
   local -A listed=()
   declare -gA lines=()
   while read -r line || [ -n "$line" ]; do
-    read -r line <<< "${line%%#*}"
-    read -r name text <<< "${line%%:*}"
-    [ -n "$name" ] && listed[$name]=$line
+    line=${line%%#*}
+    # a line is words
+    # shellcheck disable=SC2206
+    words=($line) head=(${line%%:*})
+    [ "${#head[@]}" = 0 ] || listed[${head[0]}]=${words[*]}
   done < crates.txt
   local todo=("$program_crate")
   while [ "${#todo[@]}" -gt 0 ]; do
@@ -30,9 +32,10 @@ read_crates() {
     unset 'todo[-1]'
     if [ -z "${listed[$name]-}" ] || [ -n "${lines[$name]-}" ]; then continue; fi
     lines[$name]=${listed[$name]}
-    # the names are words, with commas or without
+    uses=${lines[$name]#*:}
+    # the names of what it uses, with commas or without
     # shellcheck disable=SC2206
-    [[ ${lines[$name]} == *:* ]] && text=${lines[$name]#*:} && todo+=(${text//,/ })
+    [[ ${lines[$name]} != *:* ]] || todo+=(${uses//,/ })
   done
   mapfile -t crates < <(printf '%s\n' "${!lines[@]}" | LC_ALL=C sort)
 }

@@ -415,6 +415,10 @@ def read_event(words):
     return (name, *(read(word) for read, word in zip(EVENT_FIELDS.get(name, [int] * len(fields)), fields, strict=True)))
 
 
+KINDS = {'deliver-down': 'down', 'deliver-up': 'up', 'deliver-to-client': 'to-client',
+         'deliver-from-client': 'from-client', 'serve-gather': 'peer', 'arrive-gather': 'peer'}
+
+
 def event_text(event):
     return ' '.join(asker_text(field) if isinstance(field, tuple) else str(field) for field in event)
 
@@ -479,7 +483,7 @@ def world_of(setting):
 
 def taken(world, event):
     message = world.message(event) if world.enabled(event) else None
-    takes = f' takes {message_text(message)}' if message else ''
+    takes = f' takes {KINDS[event[0]]} {message_text(message)}' if message else ''
     try:
         world.step(event)
         return takes + ': taken'

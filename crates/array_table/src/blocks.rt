@@ -124,7 +124,7 @@ fn put_taken(out: &mut String, block: &Block, part: &Part) -> Result<(), Why>
 {
     let alloc = *out.allocator();
     let steps = resolve_slice(5, part)?;
-    let shape = Shape::line(alloc, steps.count)?;
+    let shape = shape_of(alloc, &[steps.count])?;
     put_parts(out, slice(alloc, &[steps], &[], block, shape)?)
 }
 

@@ -83,11 +83,6 @@ fn put_files(
     }
 }
 
-fn names(alloc: Global) -> Result<[String; 2], AllocError> {
-    let first = String::from_str(alloc, "a.npy")?;
-    Ok([first, String::from_str(alloc, "b.npy")?])
-}
-
 // What a region of a node is over the two files.
 fn over_files<S: Site>(
     alloc: Global,
@@ -101,7 +96,10 @@ fn over_files<S: Site>(
     requires region { IsPart region.now (shape_at expr.now node) }
     requires files { (files : List Content) → length files ≡ 2 → HaveFiles expr.now (node + 1) files heads.now }
 {
-    let names = names(alloc)?;
+    let names = [
+        String::from_str(alloc, "a.npy")?,
+        String::from_str(alloc, "b.npy")?,
+    ];
     let mut store = match site.store(alloc, &names) {
         Ok(store) => store,
         Err(_) => return Err(Why::Ill),

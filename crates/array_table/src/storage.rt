@@ -16,10 +16,17 @@ fn by_column(row: &mut Row) -> Result<bool, Why> {
     }
 }
 
+fn put_place(out: &mut String, walk: &mut RegionWalk, element: u64) -> Result<(), Why> {
+    if element >= walk.len() {
+        return Err(Why::Ill);
+    }
+    let place = walk.place(element);
+    Ok(write!(out, " {place}")?)
+}
+
 fn put_places(out: &mut String, walk: &mut RegionWalk) -> Result<(), Why> {
     for element in 0..walk.len() {
-        let place = walk.place(element);
-        write!(out, " {place}")?;
+        put_place(out, walk, element)?;
     }
     if walk.len() == 0 {
         return Ok(out.push_str(" none")?);
@@ -59,11 +66,18 @@ pub fn row_major(row: &mut Row, out: &mut String) -> Result<(), Why> {
     put_row_major(out, &shape, &cells)
 }
 
+fn put_target(out: &mut String, targets: &mut BlockTargets, element: u64) -> Result<(), Why> {
+    if element >= targets.len() {
+        return Err(Why::Ill);
+    }
+    let place = targets.place(element);
+    Ok(write!(out, " {place}")?)
+}
+
 fn put_targets(out: &mut String, by_column: bool, shape: &Shape) -> Result<(), Why> {
     let mut targets = BlockTargets::new(*out.allocator(), by_column, shape)?;
     for element in 0..targets.len() {
-        let place = targets.place(element);
-        write!(out, " {place}")?;
+        put_target(out, &mut targets, element)?;
     }
     Ok(())
 }

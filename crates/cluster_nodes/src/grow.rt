@@ -1,17 +1,67 @@
 //! Workers that join, die, are cut off and spill.
-ghost use Rattle.std.specs.Prelude.{◌≡◌, ◌<◌, ◌≤◌, ◌+◌, ℕ, true, false, length, IfOk, OnOk};
+ghost use Rattle.std.specs.Prelude.{◌≡◌, ◌<◌, ◌≤◌, ◌+◌, ◌++◌, ◌∷◌, [], ℕ, true, false, None, length, IfOk, OnOk};
 ghost use Rattle.cluster_msgs.specs.Shape.{key_count};
 ghost use Rattle.cluster_rules.specs.Sched.{Facts};
 ghost use Rattle.cluster_rules.specs.WorldStep.{cut_off, spill};
-ghost use Rattle.fact_rows.specs.Rows.{read};
+ghost use Rattle.fact_rows.specs.Rows.{cell, height, read, width};
+ghost use Rattle.message_queues.specs.Queues.{waiting};
 ghost use Rattle.cluster_nodes.specs.Nodes.{world_of, cluster_of};
+ghost use Rattle.cluster_nodes.specs.Growing.{HasCore};
 ghost use Rattle.cluster_nodes.specs.Turns.{in_world, joined, lost};
 ghost use Rattle.cluster_nodes.specs.Kept.{IsNodes, HasSameNodes, TookFew};
 
 use crate::nodes::Nodes;
-use fact_rows::Row;
-use std::alloc::AllocError;
+use cluster_msgs::{GraphShape, Message, Sequence};
+use fact_rows::{Grid, Row};
+use message_queues::{Links, Shelf};
+use std::alloc::{AllocError, Global};
+use std::sync::Arc;
 use worker_core::WorkerCore;
+
+/// One more core, of a worker with so many threads, under the next number.
+pub(crate) fn add_core(
+    alloc: Global,
+    shape: &GraphShape,
+    workers: &mut Vec<WorkerCore>,
+    threads: u32,
+) -> Result<(), AllocError>
+    requires { length workers.old.items ≤ 1024 }
+    ensures { OnOk result (HasCore shape.now (length workers.old.items) threads workers.old.items workers.new.items) }
+{
+    let id = workers.len() as u32;
+    let core = WorkerCore::new(alloc, id, threads, shape.copy()?)?;
+    workers.push(core)?;
+    Ok(())
+}
+
+/// One more place for a worker in the other lists, with nothing at it.
+pub(crate) fn add_places<B: Drop>(
+    alloc: Global,
+    keys: u32,
+    spilled: &mut Grid<bool>,
+    down: &mut Links<Message>,
+    up: &mut Links<Message>,
+    held: &mut Shelf<Arc<B>>,
+    inputs: &mut Shelf<Sequence<Arc<B>>>,
+) -> Result<(), AllocError>
+    requires { width spilled.old ≡ keys }
+    ensures spilled { OnOk result (cell spilled.new false ≡ cell spilled.old false) }
+    ensures spilled_size { OnOk result ((height spilled.new ≡ height spilled.old + 1) × (width spilled.new ≡ width spilled.old)) }
+    ensures down { OnOk result ((down.new ≡ down.old ++ [] ∷ []) × (waiting down.new ≡ waiting down.old)) }
+    ensures up { OnOk result ((up.new ≡ up.old ++ [] ∷ []) × (waiting up.new ≡ waiting up.old)) }
+    ensures held { OnOk result (cell held.new None ≡ cell held.old None) }
+    ensures held_size { OnOk result ((height held.new ≡ height held.old + 1) × (width held.new ≡ width held.old)) }
+    ensures inputs { OnOk result (cell inputs.new None ≡ cell inputs.old None) }
+    ensures inputs_size { OnOk result ((height inputs.new ≡ height inputs.old + 1) × (width inputs.new ≡ width inputs.old)) }
+{
+    let row = Row::filled(alloc, keys as usize, false)?;
+    spilled.push(row)?;
+    down.add()?;
+    up.add()?;
+    held.add()?;
+    inputs.add()?;
+    Ok(())
+}
 
 impl<B: Drop> Nodes<B> {
     /// One more worker, alive, under the next number.
@@ -29,16 +79,17 @@ impl<B: Drop> Nodes<B> {
         ensures shape { self.new.shape ≡ self.old.shape }
         ensures few { OnOk result ((n : ℕ) → TookFew n self.old → TookFew n self.new) }
     {
-        let id = self.workers.len() as u32;
-        let row = Row::filled(self.alloc, self.shape.keys() as usize, false)?;
-        self.spilled.push(row)?;
-        let core = WorkerCore::new(self.alloc, id, threads, self.shape.copy()?)?;
-        self.workers.push(core)?;
+        add_places(
+            self.alloc,
+            self.shape.keys(),
+            &mut self.spilled,
+            &mut self.down,
+            &mut self.up,
+            &mut self.held,
+            &mut self.inputs,
+        )?;
         self.alive.push(true)?;
-        self.down.add()?;
-        self.up.add()?;
-        self.held.add()?;
-        self.inputs.add()?;
+        add_core(self.alloc, &self.shape, &mut self.workers, threads)?;
         Ok(())
     }
 

@@ -12,13 +12,13 @@ ghost use Rattle.cluster_laws.specs.Blocks.{no_blocks};
 ghost use Rattle.cluster_nodes.specs.Nodes.{cluster_of};
 ghost use Rattle.cluster_nodes.specs.Kept.{IsEmpty, IsNodes, ClientsTookFew, TookFew};
 
+use crate::grow::{add_core, add_places};
 use crate::nodes::Nodes;
 use cluster_msgs::{GraphShape, Message};
 use fact_rows::{Grid, Row};
 use gather_client::ClientCore;
 use message_queues::{Links, Shelf, Transits};
 use std::alloc::{AllocError, Global};
-use worker_core::WorkerCore;
 
 /// This many clients that want nothing.
 fn add_clients(
@@ -119,15 +119,17 @@ impl<B: Drop> Nodes<B> {
         add_links(&mut self.to_client, count)?;
         add_links(&mut self.from_client, count)?;
         add_nodes(&mut self.got, count)?;
-        let row = Row::filled(self.alloc, self.shape.keys() as usize, false)?;
-        self.spilled.push(row)?;
+        add_places(
+            self.alloc,
+            self.shape.keys(),
+            &mut self.spilled,
+            &mut self.down,
+            &mut self.up,
+            &mut self.held,
+            &mut self.inputs,
+        )?;
         self.alive.push(false)?;
-        self.down.add()?;
-        self.up.add()?;
-        self.held.add()?;
-        self.inputs.add()?;
-        let core = WorkerCore::new(self.alloc, 0, 0, self.shape.copy()?)?;
-        self.workers.push(core)?;
+        add_core(self.alloc, &self.shape, &mut self.workers, 0)?;
         Ok(())
     }
 }

@@ -2,6 +2,7 @@
 use Rattle.std.proofs.Common.{◌≡◌, ℕ, ◌≤◌, ◌<◌, List, ◌++◌, Option, refl, sym, ap, ◌∙◌, arith, subst}
 use Rattle.cluster_msgs.specs.Shape.{Shape, IsShape, key_count, deps_of}
 use Rattle.cluster_msgs.specs.Values.{val}
+use Rattle.cluster_msgs.specs.declared.events.Event.{Event}
 use Rattle.cluster_msgs.specs.declared.events.Report.{Report}
 use Rattle.cluster_rules.specs.Sched.{Setting}
 use Rattle.cluster_rules.specs.World.{Job, World as Cluster, opening, rest}

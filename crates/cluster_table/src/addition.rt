@@ -1,6 +1,6 @@
 //! Stories of an addition to an array, which are their first lines: the size of a chunk, the number that is added, and the
 //! cells.
-ghost use Rattle.std.specs.Prelude.{◌≡◌, ◌≤◌, ◌<◌, true, length, IfOk};
+ghost use Rattle.std.specs.Prelude.{◌≡◌, ◌≤◌, ◌<◌, ◌^◌, true};
 ghost use Rattle.cluster_msgs.specs.Shape.{key_count};
 ghost use Rattle.addition_job.specs.Chunks.{chunks_in};
 
@@ -13,16 +13,17 @@ use std::alloc::{AllocError, Global};
 use std::io;
 use std::sync::Arc;
 
+/// A story has at most this many cells.
+const MOST_CELLS: usize = 1000;
+
 fn cell(word: &str) -> Result<i64, RowError> {
     word.parse::<i64>().map_err(|_| RowError::Ill)
 }
 
 // The cells of the words that are left.
-fn read_cells(alloc: Global, words: &mut Words<'_>) -> Result<Vec<i64>, RowError>
-    ensures { IfOk result (λ v. length v.items ≤ 1000) }
-{
+fn read_cells(alloc: Global, words: &mut Words<'_>) -> Result<Vec<i64>, RowError> {
     let mut cells = Vec::new(alloc);
-    for _ in 0..1000 {
+    for _ in 0..MOST_CELLS {
         match words.word() {
             "" => break,
             word => cells.push(cell(word)?)?,
@@ -33,7 +34,7 @@ fn read_cells(alloc: Global, words: &mut Words<'_>) -> Result<Vec<i64>, RowError
 
 // Whether an axis can be cut into chunks of this size, into not too many.
 fn can_cut(len: u64, size: u64) -> bool
-    requires { len ≤ 1000 }
+    requires { len ≤ 2 ^ 20 }
     ensures { result ≡ true → (chunks_in len size ≤ 16383) }
 {
     match chunk_count(0, len, &ChunkSpec::Even(size)) {
@@ -46,7 +47,10 @@ fn begin(alloc: Global, words: &mut Words<'_>) -> Result<AdditionJob, RowError> 
     let size = words.number()?;
     let addend = cell(words.word())?;
     let cells = read_cells(alloc, words)?;
-    if size < 1 || size > 1 << 20 || !can_cut(cells.len() as u64, size) {
+    if cells.len() > MOST_CELLS || size < 1 || size > 1 << 20 {
+        return Err(RowError::Ill);
+    }
+    if !can_cut(cells.len() as u64, size) {
         return Err(RowError::Ill);
     }
     Ok(AdditionJob::new(alloc, cells, size, addend)?)

@@ -8,10 +8,8 @@ use crate::client::print_end;
 use crate::events::{print_event, read_event};
 use crate::graph::read_graph;
 use crate::numbers::{RowError, Words};
-use crate::printed::{
-    print_down, print_error, print_from_client, print_peer, print_to_client, print_up,
-};
-use cluster_msgs::{Event, Message};
+use crate::printed::{print_error, print_message};
+use cluster_msgs::Event;
 use cluster_world::{StepError, World};
 use quiet_bound::rest;
 use quotients::{Number, Quotients};
@@ -30,17 +28,6 @@ fn end_of(end: Result<(), StepError>) -> &'static str {
         Err(StepError::Feed) => "the feed failed",
         Err(StepError::Spent) => "spent",
         Err(StepError::OutOfMemory) => "out of memory",
-    }
-}
-
-fn print_message<R: Print>(rt: &R, message: &Message) -> io::Result<()> {
-    match message {
-        Message::Down(down) => print_down(rt, down),
-        Message::Up(up) => print_up(rt, up),
-        Message::ToClient(news) => print_to_client(rt, news),
-        Message::FromClient(request) => print_from_client(rt, request),
-        Message::Peer(peer) => print_peer(rt, peer),
-        Message::Hello { id, .. } => print!(rt; "hello {id}"),
     }
 }
 

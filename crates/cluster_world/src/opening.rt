@@ -54,7 +54,10 @@ impl<J: Drop, B: Drop, F: Drop> State<J, B, F> {
     {
         let again = shape.copy()?;
         let sched = Sched::new(alloc, shape, clients, saturation)?;
-        let nodes = Nodes::new(alloc, again, clients)?;
+        let Ok(nodes) = Nodes::new(alloc, again, clients) else {
+            drop(sched);
+            return Err(AllocError);
+        };
         Ok(State::of_parts(alloc, job, feed, clients, sched, nodes))
     }
 }

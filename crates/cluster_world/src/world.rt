@@ -256,11 +256,14 @@ impl<J: JobSpec> World<J> {
             clients: _,
             course: _,
             events: _,
-            sched: _,
-            nodes: _,
-            job: _,
+            sched,
+            nodes,
+            job,
             feed,
         } = state;
+        drop(sched);
+        drop(nodes);
+        drop(job);
         feed
     }
 }

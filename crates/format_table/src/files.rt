@@ -15,7 +15,11 @@ fn refusals_of(alloc: Global, fault: &str) -> Result<Vec<Refusal>, AllocError> {
     let mut refusals = Vec::new(alloc);
     if let Some((kind, call)) = fault.split_once(':') {
         refusals.push(Refusal {
-            kind: if kind == "read" { Kind::Read } else { Kind::Length },
+            kind: if kind == "read" {
+                Kind::Read
+            } else {
+                Kind::Length
+            },
             counted: Counted::OverAll,
             call: number(call),
         })?;
@@ -123,7 +127,9 @@ pub fn print_head_case<R: Print>(rt: &R, alloc: Global, case: &str) -> io::Resul
 fn region_of(axes: &str) -> Region {
     let mut region = Region::new();
     for axis in axes.split(',') {
-        if let Some((start, len)) = axis.split_once('+') && region.lengths().len() < 8 {
+        if let Some((start, len)) = axis.split_once('+')
+            && region.lengths().len() < 8
+        {
             region.push(number(start), number(len));
         }
     }

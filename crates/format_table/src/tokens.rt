@@ -1,6 +1,6 @@
 // The tokens of a job's text.
 use crate::text::{count, next_word, unescaped};
-use job_tokens::{Kind, Next, number, next_token, place_of};
+use job_tokens::{Kind, Next, next_token, number, place_of};
 use std::alloc::{AllocError, Global};
 use std::io;
 
@@ -58,7 +58,12 @@ fn print_next<R: Print>(rt: &R, next: Next) -> io::Result<()> {
     match next {
         Next::Token(token) => {
             let word = token.kind.spelling();
-            print!(rt; " {}{word}@{}-{}", token.kind.number(), token.start, token.end)
+            print!(rt;
+                " {}{word}@{}-{}",
+                token.kind.number(),
+                token.start,
+                token.end
+            )
         }
         Next::Refused(at) => print!(rt; " refused@{at}"),
         Next::End(at) => print!(rt; " end@{at}"),

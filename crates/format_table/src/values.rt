@@ -16,31 +16,45 @@ fn print_binary<R: Print>(rt: &R, bytes: &[u8]) -> io::Result<()> {
     print!(rt; ">")
 }
 
-fn print_value<R: Print>(rt: &R, value: &Value) -> io::Result<()> {
+// A value that holds no others, or how many it holds.
+fn print_leaf<R: Print>(rt: &R, value: &Value) -> io::Result<()> {
     match value {
         Value::Nil => print!(rt; "nil"),
         Value::Bool(truth) => print!(rt; "{truth}"),
         Value::Int(number) => print!(rt; "{}", number.get()),
         Value::Str(text) => print_text(rt, text.as_str()),
         Value::Bin(bytes) => print_binary(rt, bytes),
-        Value::Array(items) => {
-            print!(rt; "[")?;
-            for item in items {
-                print!(rt; " ")?;
-                print_value(rt, item)?;
-            }
-            print!(rt; " ]")
-        }
-        Value::Map(pairs) => {
-            print!(rt; "{{")?;
-            for (key, held) in pairs {
-                print!(rt; " ")?;
-                print_value(rt, key)?;
-                print!(rt; " ")?;
-                print_value(rt, held)?;
-            }
-            print!(rt; " }}")
-        }
+        Value::Array(items) => print!(rt; "array of {}", items.len()),
+        Value::Map(pairs) => print!(rt; "map of {}", pairs.len()),
+    }
+}
+
+fn print_items<R: Print>(rt: &R, items: &[Value]) -> io::Result<()> {
+    print!(rt; "[")?;
+    for item in items {
+        print!(rt; " ")?;
+        print_leaf(rt, item)?;
+    }
+    print!(rt; " ]")
+}
+
+fn print_pairs<R: Print>(rt: &R, pairs: &[(Value, Value)]) -> io::Result<()> {
+    print!(rt; "{{")?;
+    for pair in pairs {
+        print!(rt; " ")?;
+        print_leaf(rt, &pair.0)?;
+        print!(rt; " ")?;
+        print_leaf(rt, &pair.1)?;
+    }
+    print!(rt; " }}")
+}
+
+// What lies deeper shows in the bytes that the value is written as.
+fn print_value<R: Print>(rt: &R, value: &Value) -> io::Result<()> {
+    match value {
+        Value::Array(items) => print_items(rt, items),
+        Value::Map(pairs) => print_pairs(rt, pairs),
+        _ => print_leaf(rt, value),
     }
 }
 
@@ -52,16 +66,18 @@ pub fn print_encoded<R: Print>(rt: &R, alloc: Global, value: &Value) -> io::Resu
     }
 }
 
+fn print_decoded<R: Print>(rt: &R, alloc: Global, size: usize, value: &Value) -> io::Result<()> {
+    print!(rt; "{size} ")?;
+    print_value(rt, value)?;
+    print!(rt; " = ")?;
+    print_encoded(rt, alloc, value)
+}
+
 /// `value HEX`: how many bytes a value takes, what it is, and the bytes that it is written as.
 pub fn print_value_case<R: Print>(rt: &R, alloc: Global, case: &str) -> io::Result<()> {
     let bytes = bytes_of(alloc, case)?;
     match decode(alloc, &bytes) {
-        Ok((value, size)) => {
-            print!(rt; "{size} ")?;
-            print_value(rt, &value)?;
-            print!(rt; " = ")?;
-            print_encoded(rt, alloc, &value)?;
-        }
+        Ok((value, size)) => print_decoded(rt, alloc, size, &value)?,
         Err(e) => print!(rt; "{e}")?,
     }
     println!(rt; "")

@@ -103,6 +103,34 @@ fn stop_at(
     Ok(Ending::NoToken(byte))
 }
 
+// Reads the steps of a text, up to its end or to the first place that is no job's.
+fn read_into(
+    reader: &mut JobReader,
+    steps: &mut Vec<Step>,
+    text: &[u8],
+) -> Result<Ending, AllocError>
+    requires { IsPast text.now 0 0 nothing_yet steps.old.items reader.old.left }
+    ensures { IfOk result (λ e. IsRead text.now (record { steps = steps.new.items; ending = e })) }
+{
+    let mut last = before_all();
+    let mut at = 0;
+    let mut depth = 0;
+    'tokens: loop {
+        match next_token(text, at, 0 < depth) {
+            Next::Token(token) => {
+                if !take_token(reader, steps, last, token)? {
+                    return Ok(Ending::Unexpected(token));
+                }
+                depth = open_behind(depth, token.kind);
+                last = token;
+                at = token.end;
+            }
+            Next::End(end) => return take_end(reader, steps, last, end),
+            Next::Refused(byte) => return stop_at(reader, steps, last, byte),
+        }
+    }
+}
+
 /// Reads the steps of a text of any length, up to its end or to the first place that is no job's.
 /// It takes memory for the steps, and for what is left to be read.
 pub fn read_steps(alloc: Global, text: &[u8]) -> Result<Steps, AllocError>
@@ -110,27 +138,6 @@ pub fn read_steps(alloc: Global, text: &[u8]) -> Result<Steps, AllocError>
 {
     let mut reader = JobReader::new(alloc)?;
     let mut steps = Vec::new(alloc);
-    let mut last = before_all();
-    let mut at = 0;
-    let mut depth = 0;
-    'tokens: loop {
-        match next_token(text, at, 0 < depth) {
-            Next::Token(token) => {
-                if !take_token(&mut reader, &mut steps, last, token)? {
-                    return Ok(Steps::new(steps, Ending::Unexpected(token)));
-                }
-                depth = open_behind(depth, token.kind);
-                last = token;
-                at = token.end;
-            }
-            Next::End(end) => {
-                let ending = take_end(&mut reader, &mut steps, last, end)?;
-                return Ok(Steps::new(steps, ending));
-            }
-            Next::Refused(byte) => {
-                let ending = stop_at(&mut reader, &mut steps, last, byte)?;
-                return Ok(Steps::new(steps, ending));
-            }
-        }
-    }
+    let ending = read_into(&mut reader, &mut steps, text)?;
+    Ok(Steps::new(steps, ending))
 }

@@ -12,4 +12,4 @@ swapped : (ns : List ℕ) → length ns ≡ 2 → IsTranspose (1 ∷ 0 ∷ []) (
 swapped ns e = record { number = sym e; each = λ a h. has_both a (omega arith) }
 
 pub transpose-requires-clause-axes : goal.transpose-requires-clause-axes
-transpose-requires-clause-axes g c = swapped c.args.table.now.shape (ap length c.requires)
+transpose-requires-clause-axes c = swapped c.args.table.now.shape (ap length c.requires)

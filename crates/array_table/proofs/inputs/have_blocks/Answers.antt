@@ -3,7 +3,7 @@ use Rattle.array_expr.specs.Elem.{is_input, next_input}
 use Rattle.plain_eval.specs.Eval.{block_at}
 use Rattle.plain_eval.proofs.Arrays.{inputs-next, next-few}
 use Rattle.plain_eval.proofs.Nodes.{node-is}
-use Rattle.array_table.proofs.Inputs.{HasBlock, blocks-none, blocks-more}
+use Rattle.array_table.proofs.FirstInputs.{HasBlock, blocks-none, blocks-more}
 use Rattle.array_table.proofs.inputs.have_blocks.Goals as goal
 
 pub loop-k-init : goal.loop-k-init

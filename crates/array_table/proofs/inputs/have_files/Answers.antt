@@ -4,7 +4,7 @@ use Rattle.plain_eval.proofs.Arrays.{inputs-next, next-few}
 use Rattle.plain_eval.proofs.Nodes.{node-is}
 use Rattle.plain_eval.specs.Eval.{inputs_before}
 use Rattle.plain_block.specs.Files.{head_at}
-use Rattle.array_table.proofs.Inputs.{HasFile, files-none, files-more}
+use Rattle.array_table.proofs.FirstInputs.{HasFile, files-none, files-more}
 use Rattle.array_table.proofs.inputs.have_files.Goals as goal
 
 pub loop-k-init : goal.loop-k-init

@@ -1,21 +1,8 @@
--- The loop begins, goes on and ends as the text does.
-use Rattle.std.proofs.Common.{ℕ, false, Ok, sym, ap, subst, arith}
-use Rattle.job_steps.specs.Steps.{IsPast}
+-- The reading begins with nothing read.
+use Rattle.std.proofs.Common.{refl}
+use Rattle.job_steps.specs.Steps.{nothing_yet}
 use Rattle.job_steps.proofs.Pasts.{past-first}
 use Rattle.job_steps.proofs.reader.read_steps.Goals as goal
 
-pub tokens-init : goal.tokens-init
-tokens-init c = record {
-  within = omega arith;
-  few = omega arith;
-  past = past-first c.args.text.now c.before_all-last.result c.new-steps.result.items c.in_ok-reader.reader.left c.before_all-last.ensures c.new-steps.ensures.items c.in_ok-reader.ensures;
-}
-
-pub tokens-preserved : goal.tokens-preserved
-tokens-preserved c = record {
-  within = omega (arith, c.in-Token.ensures.within);
-  few = omega (arith, c.in-Token.ensures.within, c.open_behind-depth.ensures.within);
-  past =
-      let p = c.in_ok-take_token-in-Token.ensures.taken (ap Ok c.if-not-branch.false) c.args.text.now c.tokens.at c.tokens.depth (sym c.in-Token.ensures.next) c.tokens.invariant.past in
-      subst (λ (n : ℕ). IsPast c.args.text.now c.in-Token.token.end n c.in-Token.token c.take_token.new.steps.items c.take_token.new.reader.left) (sym c.open_behind-depth.ensures.value) p;
-}
+pub read_into-requires : goal.read_into-requires
+read_into-requires c = past-first c.args.text.now nothing_yet c.new-steps.result.items c.in_ok-reader.reader.left refl c.new-steps.ensures.items c.in_ok-reader.ensures

@@ -1,46 +1,47 @@
-use Rattle.std.proofs.Common.{◌≡◌, ◌≤◌, ◌∙◌, ℕ, List, true, false, refl, ap, sym, subst, [], ◌∷◌, ◌++◌, arith}
+use Rattle.std.proofs.Common.{◌≡◌, ◌≤◌, ◌∙◌, ℕ, List, true, ap, sym, subst, [], arith, length}
 use Rattle.std.specs.List.{filter_map, AllByRecursion}
 use Rattle.cluster_msgs.specs.declared.messages.Message.{Message}
 use Rattle.message_queues.specs.Posts.{downs, ups}
 use Rattle.cluster_nodes.specs.Nodes.{as_down, as_up}
 use Rattle.cluster_msgs.specs.Shape.{Shape}
 use Rattle.cluster_rules.specs.Worker.{WorkerFacts, new_worker}
-use Rattle.fact_rows.specs.Rows.{cell, height, width}
 use Rattle.worker_core.specs.Core.{Core, facts}
+use Rattle.cluster_nodes.specs.Growing.{HasCore}
 use Rattle.cluster_nodes.specs.Kept.{WorkersTookFew}
 use Rattle.cluster_nodes.proofs.Places.{all_more, one_longer}
-use Rattle.cluster_nodes.proofs.Changing.{joined_is, grid_more}
+use Rattle.cluster_nodes.proofs.Changing.{joined_is}
 use Rattle.cluster_nodes.proofs.Keeping.{sized_joined}
 use Rattle.cluster_nodes.proofs.nodes.Nodes.join.Goals as goal
+
+pub add_places-requires : goal.add_places-requires
+add_places-requires g c = c.requires.nodes.sized.spilled_keys ∙ sym c.keys.ensures
 
 pub returns-clause-cluster : goal.returns-clause-cluster
 returns-clause-cluster g c f e =
     let old = c.args.self.now in
-    joined_is f old c.push-2.new.self c.push-3.new.self c.push.new.self c.add.new.self c.add-2.new.self c.add-3.new.self c.add-4.new.self c.in_ok-core.core c.args.threads
-    c.requires.nodes.sized.alive c.in_ok-push-2.ensures.items
-    (c.in_ok-core.ensures.facts ∙ ap (λ (s : Shape). new_worker s c.len-id.result c.args.threads) (c.in_ok-copy.ensures ∙ sym e) ∙ ap (λ (n : ℕ). new_worker f.setting.shape n c.args.threads) c.len-id.ensures ∙ ap (λ (n : ℕ). new_worker f.setting.shape n c.args.threads) old.workers.ok.0)
-    c.in_ok-push-3.ensures.ok
-    (ap (λ v. cell v false) c.in_ok-push.ensures.ok ∙ grid_more false (width old.spilled) (width old.spilled) old.spilled.1 c.in_ok-row.row c.in_ok-row.ensures.same)
-    c.add.ensures.meaning c.add-2.ensures.meaning c.add-3.ensures.meaning c.add-4.ensures.meaning
+    let more : HasCore old.shape (length old.workers.items) c.args.threads old.workers.items c.add_core.new.workers.items = c.in_ok-add_core.ensures in
+    joined_is f old c.add_core.new.workers c.push.new.self c.add_places.new.spilled c.add_places.new.down c.add_places.new.up c.add_places.new.held c.add_places.new.inputs more.added c.args.threads
+    c.requires.nodes.sized.alive more.cores (more.starts ∙ ap (λ (s : Shape). new_worker s (length old.workers.items) c.args.threads) (sym e)) c.in_ok-push.ensures.ok
+    c.in_ok-add_places.ensures.spilled c.in_ok-add_places.ensures.down.1 c.in_ok-add_places.ensures.up.1 c.in_ok-add_places.ensures.held c.in_ok-add_places.ensures.inputs
 
 pub returns-clause-nodes : goal.returns-clause-nodes
 returns-clause-nodes g c =
     let old = c.args.self.now in
     let s = c.requires.nodes.sorted in
+    let more : HasCore old.shape (length old.workers.items) c.args.threads old.workers.items c.add_core.new.workers.items = c.in_ok-add_core.ensures in
     record {
-      sized = sized_joined old c.push-2.new.self c.push-3.new.self c.push.new.self c.add.new.self c.add-2.new.self c.add-3.new.self c.add-4.new.self
-          (one_longer c.push-2.new.self.items old.workers.items c.in_ok-core.core c.in_ok-push-2.ensures.items)
-          (one_longer c.push-3.new.self old.alive true c.in_ok-push-3.ensures.ok)
-          (ap height c.in_ok-push.ensures.ok ∙ one_longer (old.spilled.1 ++ c.in_ok-row.row ∷ []) old.spilled.1 c.in_ok-row.row refl)
-          (ap width c.in_ok-push.ensures.ok)
-          (one_longer c.add.new.self old.down [] c.in_ok-add.ensures.ok) (one_longer c.add-2.new.self old.up [] c.in_ok-add-2.ensures.ok)
-          c.in_ok-add-3.ensures.height c.add-3.ensures.width c.in_ok-add-4.ensures.height c.add-4.ensures.width
-          (subst (λ (l : List Core). AllByRecursion (λ (w : Core). (facts w).shape ≡ old.shape) l) (sym c.in_ok-push-2.ensures.items)
-          (all_more (λ (w : Core). (facts w).shape ≡ old.shape) old.workers.items c.in_ok-core.core (ap (λ (w : WorkerFacts). w.shape) c.in_ok-core.ensures.facts ∙ c.in_ok-copy.ensures) c.requires.nodes.sized.workers))
+      sized = sized_joined old c.add_core.new.workers c.push.new.self c.add_places.new.spilled c.add_places.new.down c.add_places.new.up c.add_places.new.held c.add_places.new.inputs
+          (one_longer c.add_core.new.workers.items old.workers.items more.added more.cores)
+          (one_longer c.push.new.self old.alive true c.in_ok-push.ensures.ok)
+          c.in_ok-add_places.ensures.spilled_size.0 c.in_ok-add_places.ensures.spilled_size.1
+          (one_longer c.add_places.new.down old.down [] c.in_ok-add_places.ensures.down.0) (one_longer c.add_places.new.up old.up [] c.in_ok-add_places.ensures.up.0)
+          c.in_ok-add_places.ensures.held_size.0 c.in_ok-add_places.ensures.held_size.1 c.in_ok-add_places.ensures.inputs_size.0 c.in_ok-add_places.ensures.inputs_size.1
+          (subst (λ (l : List Core). AllByRecursion (λ (w : Core). (facts w).shape ≡ old.shape) l) (sym more.cores)
+          (all_more (λ (w : Core). (facts w).shape ≡ old.shape) old.workers.items more.added (ap (λ (w : WorkerFacts). w.shape) more.starts) c.requires.nodes.sized.workers))
           c.requires.nodes.sized;
       sorted = record {
-        down = subst (λ (f : ℕ → List Message). (i : ℕ) → downs (filter_map as_down (f i)) ≡ f i) (sym c.add.ensures.meaning) s.down;
-        up = subst (λ (f : ℕ → List Message). (i : ℕ) → ups (filter_map as_up (f i)) ≡ f i) (sym c.add-2.ensures.meaning) s.up;
+        down = subst (λ (f : ℕ → List Message). (i : ℕ) → downs (filter_map as_down (f i)) ≡ f i) (sym c.in_ok-add_places.ensures.down.1) s.down;
+        up = subst (λ (f : ℕ → List Message). (i : ℕ) → ups (filter_map as_up (f i)) ≡ f i) (sym c.in_ok-add_places.ensures.up.1) s.up;
         to_client = s.to_client;
         from_client = s.from_client;
         requests = s.requests;
@@ -50,5 +51,6 @@ returns-clause-nodes g c =
 
 pub returns-clause-few : goal.returns-clause-few
 returns-clause-few g c n h =
-    let e = c.in_ok-core.ensures.events in
-    (subst (λ (l : List Core). WorkersTookFew n l) (sym c.in_ok-push-2.ensures.items) (all_more (λ (x : Core). x.events ≤ n) c.args.self.now.workers.items c.in_ok-core.core (omega (arith, e)) h.0), h.1)
+    let old = c.args.self.now in
+    let more : HasCore old.shape (length old.workers.items) c.args.threads old.workers.items c.add_core.new.workers.items = c.in_ok-add_core.ensures in
+    (subst (λ (l : List Core). WorkersTookFew n l) (sym more.cores) (all_more (λ (x : Core). x.events ≤ n) old.workers.items more.added (omega (arith, more.fresh)) h.0), h.1)

@@ -1,7 +1,7 @@
 -- The tokens so far were taken.
 use Rattle.std.proofs.Common.{◌≤◌, ◌-◌, length}
 use Rattle.job_steps.specs.Steps.{IsPast}
-use Rattle.job_steps.proofs.reader.read_steps.Given as goal
+use Rattle.job_steps.proofs.reader.read_into.Given as goal
 
 abbrev pub invariant-tokens : goal.invariant-tokens
 invariant-tokens l = record {

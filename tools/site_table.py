@@ -1,0 +1,609 @@
+#!/usr/bin/env python3
+"""Writes the lines of the program site_table, and what is wanted for each.
+
+Run it with a Python that has NumPy, at the top of the repository:
+
+    /usr/bin/python3 tools/site_table.py
+
+The files are those that NumPy writes, and the saved arrays are NumPy's. Statuses, lines, counts and places are worked out by
+hand from the tables of docs/PROGRAM.md and docs/FORMATS.md. How many turns a simulation takes was counted by a model of the
+rules that was written apart from the program. The script never runs the program.
+"""
+import io
+import os
+
+import numpy as np
+
+LINES = []
+WANTED = []
+
+
+def text(data):
+    """Bytes as the table writes them."""
+    out = ''
+    for byte in data:
+        if byte == 10:
+            out += '|'
+        elif 32 <= byte <= 126 and byte not in (92, 124):
+            out += chr(byte)
+        else:
+            out += '\\%02x' % byte
+    return out
+
+
+def npy(array):
+    """The file that NumPy writes of an array."""
+    out = io.BytesIO()
+    np.save(out, array)
+    return out.getvalue()
+
+
+def saved(array):
+    """The file of an array in row-major order."""
+    return npy(np.array(array, dtype='<i8', order='C'))
+
+
+def say(line, *answers):
+    LINES.append(line)
+    WANTED.extend(answers)
+
+
+def title(words):
+    say('# ' + words, '# ' + words)
+
+
+def shelve(name, data):
+    say(f'file {name} ' + text(data))
+
+
+def shape_text(array):
+    return str(tuple(np.asarray(array).shape))
+
+
+def told(status, out, err, faults, file, held):
+    """The answer of a run."""
+    return f' {status} out "{out}" err "{err}" faults {faults} {file} {held}'
+
+
+def shown(out, err, faults, file, held):
+    """The answer of `show`."""
+    return f'show: out "{out}" err "{err}" faults {faults} {file} {held}'
+
+
+def often(file, command, answer):
+    """A run, and the same in one thread."""
+    say(f'often {file} {command}', 'often:' + answer, 'again: the same')
+
+
+def both(file, answer):
+    """A run of `job.txt` by each of its commands."""
+    for command in ('plain', 'run'):
+        often(file, f'{command} job.txt', answer)
+
+
+def plain_lines(*saves):
+    return ''.join(f'saved {name} {shape_text(array)}|' for name, array in saves) + 'finished by: plain|'
+
+
+ARRAYS = {
+    'a.npy': [1, 2, 3],
+    'one.npy': [4],
+    'e.npy': np.zeros((0,)),
+    'most.npy': [2**63 - 1],
+    'least.npy': [-2**63],
+    'x.npy': [1, 2, 3, 4],
+    'd.npy': [1, 0, 1, 1],
+    'r.npy': [0, 1, 2, 3, 4],
+    'p.npy': [[10], [20], [30]],
+    'q.npy': [[1, 2, 3, 4]],
+    'm.npy': [[1, 2, 3], [4, 5, 6]],
+    'first.npy': [4, 0, 6],
+    'second.npy': [7, 8, 9],
+    'rows.npy': [[10, 20, 30], [40, 50, 60]],
+}
+ARRAYS = {name: np.array(value, dtype=np.int64) for name, value in ARRAYS.items()}
+COLUMNS = np.asfortranarray(np.array([[1, 3, 5], [2, 4, 6]], dtype=np.int64))
+A, ONE, MOST, LEAST, X, D, R, P, Q, M = (ARRAYS[k + '.npy'] for k in ('a', 'one', 'most', 'least', 'x', 'd', 'r', 'p', 'q', 'm'))
+
+INPUT = {
+    'a': 'input a "a.npy" shape (3) chunks (2)|',
+    'e': 'input e "e.npy" shape (0) chunks (2)|',
+    'most': 'input m "most.npy" shape (1) chunks (1)|',
+    'least': 'input m "least.npy" shape (1) chunks (1)|',
+    'r': 'input r "r.npy" shape (5) chunks (2)|',
+    'p': 'input p "p.npy" shape (3, 1) chunks (1, 1)|',
+    'q': 'input q "q.npy" shape (1, 4) chunks (1, 2)|',
+    'm': 'input m "m.npy" shape (2, 3) chunks (1, 2)|',
+}
+
+
+def full(shape, value):
+    return np.full(shape, value, dtype=np.int64)
+
+
+def ramp(shape, start, step):
+    count = int(np.prod(shape, dtype=np.int64))
+    return (start + step * np.arange(count, dtype=np.int64)).reshape(shape)
+
+
+def doubled():
+    """Sixty sums, each of the one before it and itself: it ends only where each node is evaluated once."""
+    sums = ''.join(f'let a{k + 1} = a{k} + a{k}|' for k in range(60))
+    return f'let a0 = full((), 1, ())|{sums}save a60 "o.npy"|', full((), 2**60)
+
+
+def saving(inputs, expression, array):
+    lines = ''.join(INPUT[name] for name in inputs)
+    return lines + f'let b = {expression}|save b "o.npy"|', array
+
+
+def saved_jobs():
+    with np.errstate(over='ignore'):
+        return [
+            saving(['a'], 'a + 1', A + 1),
+            saving(['a'], 'sum(a)', np.sum(A)),
+            saving(['e'], 'sum(e)', np.sum(ARRAYS['e.npy'])),
+            saving(['most'], 'm + 1', MOST + 1),
+            saving(['least'], 'm // -1', -LEAST),
+            saving(['least'], 'm % -1', LEAST % -1),
+            saving([], 'full((1), -7, (1)) // 2', full((1,), -7) // 2),
+            saving([], 'full((1), -7, (1)) % 2', full((1,), -7) % 2),
+            saving([], 'full((1), 7, (1)) % -2', full((1,), 7) % -2),
+            saving(['r'], 'r[::-2]', R[::-2]),
+            saving(['r'], 'r[5:2]', R[5:2]),
+            ('input f "columns.npy" shape (2, 3) chunks (1, 3)|save f "o.npy"|', np.ascontiguousarray(COLUMNS)),
+            saving(['p', 'q'], 'p + q', P + Q),
+            doubled(),
+            saving([], 'ramp((2, 3), 5, -2, (1, 2))', ramp((2, 3), 5, -2)),
+            saving([], '7 - full((2), 10, (1)) * -3', 7 - full((2,), 10) * -3),
+            saving([], 'full((1), -9223372036854775808, (1))', full((1,), -2**63)),
+            saving([], '-7 % 2', full((), -7) % 2),
+            saving([], '-(7 % 2)', -(full((), 7) % 2)),
+            saving([], '10 - 4 - 3', full((), 10) - 4 - 3),
+            saving([], 'ramp((8), 0, 1, (3))[6:1:-2]', ramp((8,), 0, 1)[6:1:-2]),
+            saving([], 'transpose(ramp((2, 3, 1), 1, 1, (1, 2, 1)), (1, 2, 0))', ramp((2, 3, 1), 1, 1).transpose((1, 2, 0))),
+            saving(['m'], 'concatenate([m[1], minimum(m[0], 2), maximum(m[0], 2)], axis=0)',
+                   np.concatenate([M[1], np.minimum(M[0], 2), np.maximum(M[0], 2)])),
+            saving(['m'], 'where(m % 2, m, -m)', np.where(M % 2, M, -M)),
+            saving(['m'], 'rechunk(m, ((1, 1), 3))[:, 1:]', M[:, 1:]),
+            saving(['m'], 'prod(m, axis=(1))', np.prod(M, axis=1)),
+            saving(['m'], 'max(m, axis=(1), split_every=2) * 10 - min(m)', np.max(M, axis=1) * 10 - np.min(M)),
+            saving(['m'], 'tensordot(m, m.T, (1), (0))', np.tensordot(M, M.T, ([1], [0]))),
+            # every second element of what was read, and a quotient
+            ('input a "second.npy" shape (3) chunks (2)|input b "x.npy" shape (4) chunks (3)|let c = a // b[1:]|save c "o.npy"|',
+             ARRAYS['second.npy'] // X[1:]),
+        ]
+
+
+X_AND_D = 'input x "x.npy" shape (4) chunks (2)|input d "d.npy" shape (4) chunks (2)|'
+# jobs that save nothing: the status and the line on standard error
+REFUSED = [
+    ('', 2, 'job 1:1: grammar'),
+    ('let b = c + 1|', 2, 'job 1:9: unknown name'),
+    (INPUT['a'] + 'input b "x.npy" shape (4) chunks (2)|let c = a + b|save c "o.npy"|', 2, 'job 3:11: shape: axis 0: 3 and 4'),
+    (INPUT['e'] + 'let b = min(e)|save b "o.npy"|', 2, 'job 2:9: shape: empty axis 0'),
+    ('let b = 9223372036854775808|save b "o.npy"|', 9, 'limit number'),
+    ('input a "short.npy" shape (3) chunks (2)|save a "o.npy"|', 3, 'file short.npy: truncated: has 23, needs 24'),
+    ('input a "front.npy" shape (3) chunks (2)|save a "o.npy"|', 3, 'file front.npy: not npy at 4'),
+    ('input a "a.npy" shape (2) chunks (2)|save a "o.npy"|', 3, 'file a.npy: shape (3,) declared (2,)'),
+    ('input a "none.npy" shape (2) chunks (2)|save a "o.npy"|', 5, 'read fault'),
+    # so far an array is one block, so an element that no save needs counts too
+    (X_AND_D + 'let q = (x // d)[2:4]|save q "o.npy"|', 4, 'zero division: node 2 block (0)'),
+    (X_AND_D + 'let q = (x // d)[0:1]|save q "o.npy"|', 4, 'zero division: node 2 block (0)'),
+    # its shape is another one too
+    ('input a "short.npy" shape (2) chunks (2)|save a "o.npy"|', 3, 'file short.npy: truncated: has 23, needs 24'),
+    # all inputs are opened before the first is read
+    ('input a "front.npy" shape (3) chunks (2)|input b "none.npy" shape (3) chunks (2)|let c = a + b|save c "o.npy"|',
+     5, 'read fault'),
+    # the second input is the first that isn't as declared
+    (INPUT['a'] + 'input b "text.npy" shape (3) chunks (2)|let c = a // b|save c "o.npy"|', 3, 'file text.npy: not npy at 0'),
+    (INPUT['a'] + 'input b "first.npy" shape (3) chunks (2)|let c = a // b|save c "o.npy"|', 4, 'zero division: node 2 block (0)'),
+]
+
+
+def refusal(status, line):
+    faults = '1 0 0 0' if status == 5 else '0 0 0 0'
+    return told(status, '', f'dask: {line}|', faults, 'o.npy', 'none')
+
+
+# ---- the outside's own calls
+
+
+def pieces():
+    title('a file is read at once and in pieces')
+    for most in (1, 4, 64):
+        say(f'site 64 {most}')
+        say('open t length 0 read 0 1 4 whole 0 1 4 whole 0 4 4 read 0 6 4 read 0 18446744073709551615 4',
+            f'open: 6 {"bcde"[:most]} {min(most, 4)} bcde 4 ef 2  0  0 faults 0')
+        say('faults', 'faults: 0 0 0 0')
+
+
+def creations():
+    title('a created file is held once it is given back')
+    say('site 64 2')
+    say('create t 5 write 1 xyz whole 1 abc', 'create: 2 done faults 0')
+    say('show t', shown('', '', '0 0 0 0', 't', '\\00abc\\00'))
+    say('open t length 0', 'open: 5 faults 0')
+    say('faults', 'faults: 0 0 0 0')
+    say('lose t 4', 'lose: faults 0')
+    say('show t', shown('', '', '0 0 0 0', 't', 'none'))
+    say('open t', 'open: the call failed')
+    say('create t 6 whole 0 uvwxyz write 6 ', 'create: done 0 faults 0')
+    say('open t whole 0 0 8', 'open: uvwxyz 6 faults 0')
+    say('faults', 'faults: 1 0 0 0')
+
+
+def room():
+    title('a stream takes what it has room for')
+    say('site 6 0')
+    say('out ', 'out: done')
+    say('out abcd', 'out: done')
+    say('err note', 'err: done')
+    say('out efgh', 'out: the call failed')
+    say('show t', shown('abcdef', 'note', '0 0 1 0', 't', 'abcdef'))
+    say('err again', 'err: the call failed')
+    say('show t', shown('abcdef', 'noteag', '0 0 1 1', 't', 'abcdef'))
+
+
+KINDS = ['open', 'length', 'read', 'create', 'write', 'out', 'err']
+COUNTED = {'open': '1 0 0 0', 'length': '1 0 0 0', 'read': '1 0 0 0', 'create': '0 1 0 0', 'write': '0 1 0 0', 'out': '0 0 1 0',
+           'err': '0 0 0 1', None: '0 0 0 0'}
+
+
+def use_all(failing, counts):
+    say('open t length 0 read 0 0 2', {
+        'open': 'open: the call failed',
+        'length': 'open: the call failed ab 2 faults 1',
+        'read': 'open: 6 the call failed faults 1',
+    }.get(failing, 'open: 6 ab 2 faults 0'))
+    say('create b 2 whole 0 xy', {
+        'create': 'create: the call failed',
+        'write': 'create: the call failed faults 1',
+    }.get(failing, 'create: done faults 0'))
+    say('out out', 'out: the call failed' if failing == 'out' else 'out: done')
+    say('err err', 'err: the call failed' if failing == 'err' else 'err: done')
+    say('faults', f'faults: {counts}')
+
+
+def alone():
+    title('the first call of each kind fails, and no other')
+    for kind in KINDS:
+        for place in ('', '@0'):
+            say(f'site 64 0 {kind}:0{place}')
+            use_all(kind, COUNTED[kind])
+            use_all(None, COUNTED[kind])
+
+
+def objects():
+    title('calls are counted over all objects or at one')
+    for refused, reads in (('read:2', [1, 1, 0, 1]), ('read:1@0', [1, 0, 1, 1]), ('read:1@1', [1, 1, 1, 0]), ('read:2@1', [1, 1, 1, 1])):
+        say(f'site 64 0 {refused}')
+        for two in (reads[:2], reads[2:]):
+            answers = ''.join(' a 1' if good else ' the call failed' for good in two)
+            say('open t read 0 0 1 read 0 0 1', f'open:{answers} faults {2 - sum(two)}')
+    say('site 64 0 open:1@0 create:0@1 write:1@0')
+    say('open t,t', 'open: the call failed')
+    say('open t,t length 1', 'open: 6 faults 0')
+    say('create b 3 write 0 x write 1 y write 2 z', 'create: 1 the call failed 1 faults 1')
+    say('show b', shown('', '', '1 1 0 0', 'b', 'x\\00z'))
+    say('create b 3', 'create: the call failed')
+    say('show b', shown('', '', '1 2 0 0', 'b', 'x\\00z'))
+    say('create b 3', 'create: faults 0')
+    say('faults', 'faults: 1 2 0 0')
+
+
+def lengths():
+    title('a name keeps its length')
+    say('site 64 0')
+    say('open b', 'open: the call failed')
+    say('open t', 'open: faults 0')
+    say('put t abcdefg')
+    say('open t', 'open: the call failed')
+    say('put t ghijkl')
+    say('open t whole 0 0 6', 'open: ghijkl 6 faults 0')
+    say('lose t 6', 'lose: faults 0')
+    say('open t', 'open: the call failed')
+    say('faults', 'faults: 3 0 0 0')
+    say('open ', 'open: faults 0')
+
+
+def real():
+    title('the real site, over a real file')
+    name = 'site_table.bin'
+    say(f'real open {name}', 'real: open the call failed')
+    say(f'real create {name} 5 write 1 abc whole 1 abc', 'real: create 3 done faults 0')
+    say(f'real open {name} length 0 read 0 1 3 whole 0 0 8 read 0 5 3 read 0 18446744073709551615 4',
+        'real: open 5 abc 3 \\00abc\\00 5  0  0 faults 0')
+    say('real faults', 'real: faults 1 0 0 0')
+    # a file that ends earlier than it did fails, and so does an opening that finds another length
+    say(f'real open {name} disk write {name} ab read 0 2 8 read 0 0 8 length 0', 'real: open the call failed ab 2 5 faults 1')
+    say(f'real open {name}', 'real: open the call failed')
+    say(f'disk remove {name}')
+    say(f'real open {name}', 'real: open the call failed')
+    say(f'real create none/{name} 3', 'real: create the call failed')
+    say('real out ', 'real: out done')
+    say('real out shown', 'real: outshown done')
+    say('real err ', 'real: err done')
+    say('real faults', 'real: faults 4 1 0 0')
+    title('the texts of faults, and the gate that does nothing')
+    say('texts', 'texts: the call failed, the call failed, out of memory')
+
+
+# ---- files of arrays
+
+
+def heads():
+    title('the head of a file')
+    say('site 4096 0')
+    say('open a.npy head 0', 'open: (3,) at 128 faults 0')
+    for refused in ('length:0', 'read:0', 'read:1'):
+        say(f'site 4096 0 {refused}')
+        say('open a.npy head 0', 'open: read fault faults 1')
+        say('open a.npy head 0', 'open: (3,) at 128 faults 0')
+        say('faults', 'faults: 1 0 0 0')
+    title('a region of a file: by nine bytes a call the ten fixed bytes are two reads, the 118 of the header 14, and 32 bytes of data 4')
+    region = ' '.join(str(cell) for cell in COLUMNS[:2, :2].ravel())
+    for refused in ('length:0', 'length:1', 'read:0', 'read:15', 'read:16', 'read:17', 'read:19'):
+        say(f'site 4096 9 {refused}')
+        say('open columns.npy region 0 0+2,0+2', 'open: read fault faults 1')
+        say('faults', 'faults: 1 0 0 0')
+    for sound in ('length:2', 'read:20'):
+        say(f'site 4096 9 {sound}')
+        say('open columns.npy region 0 0+2,0+2', f'open: {region} faults 0')
+
+
+def blocks():
+    title('a region of a node over two files')
+    files = 'first.npy,second.npy'
+    both = 'input a "first.npy" shape (3) chunks (1)|input b "second.npy" shape (3) chunks (1)|'
+    joined = 'concatenate([a, b], axis=0)'
+    quotient = both + f'let q = 24 // {joined}[-2::-1]|save q "o.npy"|'
+    second = both + f'let q = {joined}[::2]|save q "o.npy"|'
+    turned = 'input a "rows.npy" shape (2, 3) chunks (1, 1)|let q = a.T|save q "o.npy"|'
+    cut = saved(ARRAYS['second.npy'])[:-9]
+    # all but the zero: 24 by 8, 7 and 6
+    whole = [(0, 3, ' 3 3 4'),
+             # the zero is the third of 7, 6, 0 and 4
+             (1, 4, ' zero divisor at 2')]
+    say('site 4096 0')
+    for start, length, answer in whole:
+        say(f'block {files} 5 {start}+{length} {quotient}', f'block:{answer}')
+    # each second element, 4, 6 and 8, of which the last two
+    say(f'block {files} 3 1+2 {second}', 'block: 6 8')
+    # the second file's first two elements are 16 bytes, of which it has 15; its first element is there; 24 by 4 needs the first file alone
+    say('site 4096 0')
+    say(f'put second.npy {text(cut)}')
+    for start, length, answer in ((0, 2, ' truncated: has 15, needs 16'), (1, 1, ' 3'), (4, 1, ' 6')):
+        say(f'block {files} 5 {start}+{length} {quotient}', f'block:{answer}')
+    say('faults', 'faults: 0 0 0 0')
+    # it is one read, so that no second one can fail
+    say('site 4096 0 read:1')
+    say(f'block {files} 5 4+1 {quotient}', 'block: 6')
+    say('faults', 'faults: 0 0 0 0')
+    say('site 4096 0 read:1')
+    say(f'block {files} 5 1+2 {quotient}', 'block: read fault')
+    say('faults', 'faults: 1 0 0 0')
+    say('site 4096 0 open:1')
+    say(f'block {files} 5 1+2 {quotient}', 'block: the call failed')
+    # columns become rows; the last element, which is missing, isn't asked for
+    say('site 4096 0')
+    say(f'put rows.npy {text(saved(ARRAYS["rows.npy"])[:-8])}')
+    say(f'block rows.npy 1 0+2,0+2 {turned}', 'block: 10 40 20 50')
+    say(f'block rows.npy 1 2+1,1+1 {turned}', 'block: truncated: has 40, needs 48')
+
+
+# ---- the program
+
+
+def job(lines):
+    say(f'file job.txt {lines}')
+
+
+def saves():
+    title('jobs that save, by each command and in one thread')
+    say('site 4096 0')
+    for lines, array in saved_jobs():
+        job(lines)
+        both('o.npy', told(0, plain_lines(('o.npy', array)), '', '0 0 0 0', 'o.npy', text(saved(array))))
+
+
+def refusals():
+    title('jobs that save nothing')
+    for lines, status, line in REFUSED:
+        job(lines)
+        both('o.npy', refusal(status, line))
+
+
+def words():
+    title('words that ask for nothing')
+    job(saved_jobs()[0][0])
+    for list_of_words in ('', 'run', 'plain', 'runs job.txt', 'run job.txt x', 'Run job.txt', 'sim', 'sim job.txt', 'sim job.txt x',
+                          'sim job.txt 7 --workers', 'sim job.txt 7 --workers 1 --script lose:1@1', 'sim job.txt 7 --workers 65'):
+        say('site 4096 0')
+        say(f'top o.npy {list_of_words}', 'top:' + refusal(1, 'words'))
+    say('serial o.npy run', 'serial:' + told(1, '', 'dask: words|dask: words|', '0 0 0 0', 'o.npy', 'none'))
+
+
+PAIR = INPUT['a'] + 'input b "first.npy" shape (3) chunks (3)|let c = a + b|let d = a - b|save c "o.npy"|save d "s.npy"|'
+ONE_CELL = 'input a "one.npy" shape (1) chunks (1)|let b = a + 1|save b "o.npy"|'
+SUM = A + ARRAYS['first.npy']
+DIFFERENCE = A - ARRAYS['first.npy']
+PAIR_LINES = plain_lines(('o.npy', SUM), ('s.npy', DIFFERENCE))
+
+
+def fail(kind, file, command, *answers, count=None):
+    """Each call of a kind fails in turn. How many there are is promised of openings and creations alone."""
+    first, *others = [told(*answer[:4], file, answer[4]) for answer in answers]
+    say(f'fail {kind} {file} {command}', f'fail:{first}', *others, *([] if count is None else [f'count: {count}']))
+
+
+def read_fails(file, command, done, opened):
+    for kind in ('open', 'length', 'read'):
+        fail(kind, file, command, (5, '', 'dask: read fault|', '1 0 0 0', 'none'), done, count=opened if kind == 'open' else None)
+
+
+def faults():
+    title('each call fails in turn, over two inputs and two saved files')
+    job(PAIR)
+    say('site 4096 0')
+    both('s.npy', told(0, PAIR_LINES, '', '0 0 0 0', 's.npy', text(saved(DIFFERENCE))))
+    done = (0, PAIR_LINES, '', '0 0 0 0', 'whole')
+    write = (6, '', 'dask: write fault|', '0 1 0 0')
+    for command in ('plain job.txt', 'run job.txt'):
+        # the job and each input are opened once, each saved file is created once
+        read_fails('o.npy', command, done, 3)
+        fail('create', 'o.npy', command, (*write, 'none'), (*write, 'whole'), done, count=2)
+        fail('write', 's.npy', command, (*write, 'none'), (*write, 'in part'), done)
+        fail('out', 's.npy', command, (6, '', 'dask: write fault|', '0 0 1 0', 'whole'), done)
+    fail('create', 's.npy', 'plain job.txt', (*write, 'none'), done, count=2)
+    fail('write', 'o.npy', 'plain job.txt', (*write, 'in part'), (*write, 'whole'), done)
+    fail('err', 'o.npy', 'plain job.txt', done)
+    title('the same by sixteen bytes a call')
+    say('site 4096 16')
+    read_fails('s.npy', 'plain job.txt', done, 3)
+    fail('write', 's.npy', 'plain job.txt', (*write, 'none'), (*write, 'in part'), done)
+    fronts = [(6, PAIR_LINES[:k], 'dask: write fault|', '0 0 1 0', 'whole') for k in range(0, len(PAIR_LINES), 16)]
+    fail('out', 'o.npy', 'plain job.txt', *fronts, done)
+    title('a stream without room for all lines')
+    say('site 20 0')
+    say('top o.npy plain job.txt', 'top:' + told(6, PAIR_LINES[:20], 'dask: write fault|', '0 0 1 0', 'o.npy', text(saved(SUM))))
+    title('calls at one object')
+    for refused in ('open:0@1', 'open:1@1', 'length:0@1', 'read:0@1'):
+        say(f'site 4096 0 {refused}')
+        say('top o.npy plain job.txt', 'top:' + refusal(5, 'read fault'))
+    for refused, held in (('create:0@0', 'none'), ('create:0@1', text(saved(SUM))), ('write:0@1', text(saved(SUM)))):
+        say(f'site 4096 0 {refused}')
+        say('top o.npy plain job.txt', 'top:' + told(*write, 'o.npy', held))
+    title('standard error fails')
+    job(REFUSED[0][0])
+    line = 'dask: job 1:1: grammar|'
+    say('site 4096 0')
+    fail('err', 'o.npy', 'plain job.txt', (2, '', '', '0 0 0 1', 'none'), (2, '', line, '0 0 0 0', 'none'))
+    say('site 4096 10')
+    fronts = [(2, '', line[:k], '0 0 0 1', 'none') for k in range(0, len(line), 10)]
+    fail('err', 'o.npy', 'plain job.txt', *fronts, (2, '', line, '0 0 0 0', 'none'))
+
+
+def places():
+    title('files of a site over several runs')
+    job(PAIR)
+    say('site 4096 0 create:0')
+    say('put o.npy old')
+    say('top o.npy plain job.txt', 'top:' + told(6, '', 'dask: write fault|', '0 1 0 0', 'o.npy', 'old'))
+    say('top o.npy run job.txt', 'top:' + told(0, PAIR_LINES, 'dask: write fault|', '0 1 0 0', 'o.npy', text(saved(SUM))))
+    # what was saved is an input
+    say('put next.txt input o "o.npy" shape (3) chunks (1)|let n = o * o|save n "n.npy"|')
+    lines = PAIR_LINES + plain_lines(('n.npy', SUM * SUM))
+    say('serial n.npy run next.txt', 'serial:' + told(0, lines, 'dask: write fault|', '0 1 0 0', 'n.npy', text(saved(SUM * SUM))))
+    # a job of another length can't be opened
+    say('put job.txt save a "o.npy"|')
+    say('serial n.npy plain job.txt', 'serial:' + told(5, lines, 'dask: write fault|dask: read fault|', '1 1 0 0', 'n.npy', text(saved(SUM * SUM))))
+    say('site 4096 0')
+    say('top o.npy plain none.txt', 'top:' + refusal(5, 'read fault'))
+    title('one file is two inputs')
+    job(INPUT['a'] + 'input b "a.npy" shape (3) chunks (3)|let c = a + b|save c "o.npy"|')
+    done = (0, plain_lines(('o.npy', A + A)), '', '0 0 0 0', 'whole')
+    read_fails('o.npy', 'plain job.txt', done, 3)
+    fail('create', 'o.npy', 'plain job.txt', (6, '', 'dask: write fault|', '0 1 0 0', 'none'), done, count=1)
+    both('o.npy', told(0, plain_lines(('o.npy', A + A)), '', '0 0 0 0', 'o.npy', text(saved(A + A))))
+    title('one array is two files')
+    job(INPUT['a'] + 'save a "o.npy"|save a "n.npy"|')
+    lines = plain_lines(('o.npy', A), ('n.npy', A))
+    done = (0, lines, '', '0 0 0 0', 'whole')
+    read_fails('n.npy', 'plain job.txt', done, 2)
+    fail('create', 'n.npy', 'plain job.txt', (6, '', 'dask: write fault|', '0 1 0 0', 'none'), done, count=2)
+    both('n.npy', told(0, lines, '', '0 0 0 0', 'n.npy', text(saved(A))))
+
+
+# ---- simulations
+
+NO_CELL = INPUT['e'] + 'let b = e + 1|save b "o.npy"|'
+ALONE = '--workers 1 --threads 1'
+
+
+def report(shape, workers, turns):
+    started = ''.join(f'worker {w + 1} started {n}|' for w, n in enumerate(workers))
+    return (f'saved o.npy {shape}|keys 2|edges 1|started 2|{started}gathers 0|steals confirmed 0|steals refused 0|losses 0|'
+            f'turns {turns}|finished by: simulation|')
+
+
+def simulations():
+    title('simulations with every line')
+    five = text(saved(ONE + 1))
+    for lines, command, shape, workers, turns, held in (
+            (ONE_CELL, f'sim job.txt 1 {ALONE}', '(1,)', [2], 13, five),
+            (ONE_CELL, f'sim job.txt 7 {ALONE}', '(1,)', [2], 14, five),
+            (NO_CELL, 'sim job.txt 7', '(0,)', [2, 0, 0, 0], 14, text(saved(ARRAYS['e.npy'])))):
+        job(lines)
+        say('site 4096 0')
+        often('o.npy', command, told(0, report(shape, workers, turns), '', '0 0 0 0', 'o.npy', held))
+    title('simulations that save what a run saves')
+    job(INPUT['a'] + 'let b = a + 1|save b "o.npy"|')
+    for options in ('7', '8 --workers 3 --threads 1 --saturation 10', '9 --script lose:1@1,join@2'):
+        say(f'saved o.npy sim job.txt {options}', f'saved: 0 o.npy {text(saved(A + 1))}')
+    # sums wrap, and chunks are joined
+    job('input a "wide.npy" shape (3) chunks (2)|let b = a + 9223372036854775807|save b "o.npy"|')
+    wide = np.array([4, 0, -1], dtype=np.int64)
+    with np.errstate(over='ignore'):
+        say(f'saved o.npy sim job.txt 1 {ALONE}', f'saved: 0 o.npy {text(saved(wide + np.int64(2**63 - 1)))}')
+    title('jobs that are not simulated to an end')
+    for lines, status, line in (
+            ('', 2, 'job 1:1: grammar'),
+            (INPUT['a'] + 'let b = a * 2|save b "o.npy"|', 2, 'job 1:1: not built'),
+            (INPUT['m'] + 'let b = m + 1|save b "o.npy"|', 2, 'job 1:1: not built'),
+            (INPUT['a'] + 'let b = a - 1|save b "o.npy"|', 2, 'job 1:1: not built'),
+            (INPUT['a'] + 'let b = a + -1|save b "o.npy"|', 2, 'job 1:1: not built'),
+            (INPUT['a'] + 'let b = 1 + a|save b "o.npy"|', 2, 'job 1:1: not built'),
+            # more elements than an array, or a chunk, may have
+            ('input a "none.npy" shape (1048577) chunks (1048576)|let b = a + 1|save b "o.npy"|', 2, 'job 1:1: not built'),
+            ('input a "none.npy" shape (1) chunks (1048577)|let b = a + 1|save b "o.npy"|', 2, 'job 1:1: not built'),
+            # one chunk too many; the file isn't there, and isn't looked for
+            ('input a "none.npy" shape (16384) chunks (1)|let b = a + 1|save b "o.npy"|', 9, 'limit keys'),
+            ('input a "short.npy" shape (3) chunks (2)|let b = a + 1|save b "o.npy"|', 3, 'file short.npy: truncated: has 23, needs 24'),
+            ('input a "one.npy" shape (2) chunks (1)|let b = a + 1|save b "o.npy"|', 3, 'file one.npy: shape (1,) declared (2,)'),
+            ('input a "none.npy" shape (3) chunks (2)|let b = a + 1|save b "o.npy"|', 5, 'read fault')):
+        job(lines)
+        often('o.npy', 'sim job.txt 7', refusal(status, line))
+    title('no input is opened of a job that is not simulated, or has too many chunks')
+    job('input a "none.npy" shape (16384) chunks (1)|let b = a + 1|save b "o.npy"|')
+    missing = (9, '', 'dask: limit keys|', '0 0 0 0', 'none')
+    fail('open', 'o.npy', 'sim job.txt 7', (5, '', 'dask: read fault|', '1 0 0 0', 'none'), missing, count=1)
+    fail('create', 'o.npy', 'sim job.txt 7', missing, count=0)
+    title('each call of a simulation fails in turn')
+    job(ONE_CELL)
+    command = f'sim job.txt 7 {ALONE}'
+    done = (0, report('(1,)', [2], 14), '', '0 0 0 0', 'whole')
+    write = (6, '', 'dask: write fault|', '0 1 0 0')
+    for most in (0, 16):
+        say(f'site 4096 {most}')
+        read_fails('o.npy', command, done, 2)
+        fail('create', 'o.npy', command, (*write, 'none'), done, count=1)
+        fail('write', 'o.npy', command, (*write, 'in part'), done)
+        fail('err', 'o.npy', command, done)
+    say('site 4096 0')
+    fail('out', 'o.npy', command, (6, '', 'dask: write fault|', '0 0 1 0', 'whole'), done)
+    say('site 4096 40')
+    lines = done[1]
+    fronts = [(6, lines[:k], 'dask: write fault|', '0 0 1 0', 'whole') for k in range(0, len(lines), 40)]
+    fail('out', 'o.npy', command, *fronts, done)
+
+
+def main():
+    shelve('t', b'abcdef')
+    for name, array in ARRAYS.items():
+        shelve(name, saved(array))
+    shelve('columns.npy', npy(COLUMNS))
+    shelve('wide.npy', saved([4, 0, -1]))
+    # a file that lacks its last byte, one that ends in its magic, and one that is none
+    shelve('short.npy', saved(A)[:-1])
+    shelve('front.npy', saved(A)[:4])
+    shelve('text.npy', b'nothing')
+    for part in (pieces, creations, room, alone, objects, lengths, real, heads, blocks, saves, refusals, words, faults, places, simulations):
+        part()
+    here = os.path.join(os.path.dirname(os.path.abspath(__file__)), '..', 'crates', 'site_table')
+    for name, lines in (('stdin', LINES), ('stdout', WANTED)):
+        with open(os.path.join(here, name), 'w', encoding='ascii') as out:
+            out.write(''.join(line + '\n' for line in lines))
+
+
+main()
