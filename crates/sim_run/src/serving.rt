@@ -126,7 +126,7 @@ fn simulate_world(
     })
 }
 
-/// Simulates a job from its opening on. The world is dropped at one place: that is costly to prove.
+/// Simulates a job from its opening on. The world is let go by one call: anywhere else that is costly to prove.
 fn simulate_addition(
     alloc: Global,
     job: AdditionJob,
@@ -143,7 +143,9 @@ fn simulate_addition(
 {
     let chunks = job.chunks();
     let mut world = World::new(alloc, job, NoFeed, CLIENT, saturation)?;
-    simulate_world(alloc, &mut world, number, plan, chunks)
+    let found = simulate_world(alloc, &mut world, number, plan, chunks);
+    drop(world);
+    found
 }
 
 /// Simulates an addition over these elements.

@@ -18,32 +18,32 @@ new-requires-clause-saturation c κs = c.requires.saturation
 pub new-requires-clause-feed : goal.new-requires-clause-feed
 new-requires-clause-feed c κs = tt
 
-pub simulate_world-requires-clause-plan : goal.simulate_world-requires-clause-plan
-simulate_world-requires-clause-plan c = c.requires.plan
+pub simulate_world-found-requires-clause-plan : goal.simulate_world-found-requires-clause-plan
+simulate_world-found-requires-clause-plan c = c.requires.plan
 
-pub simulate_world-requires-clause-opening : goal.simulate_world-requires-clause-opening
-simulate_world-requires-clause-opening c = opens c.in_ok-world.world c.args.job c.args.saturation c.in_ok-world.ensures.job c.in_ok-world.ensures.opening c.in_ok-world.ensures.ready c.in_ok-world.ensures.events
+pub simulate_world-found-requires-clause-opening : goal.simulate_world-found-requires-clause-opening
+simulate_world-found-requires-clause-opening c = opens c.in_ok-world.world c.args.job c.args.saturation c.in_ok-world.ensures.job c.in_ok-world.ensures.opening c.in_ok-world.ensures.ready c.in_ok-world.ensures.events
 
-pub simulate_world-requires-clause-graph : goal.simulate_world-requires-clause-graph
-simulate_world-requires-clause-graph c = graph_is c.in_ok-world.world c.args.job c.args.saturation c.in_ok-world.ensures.job c.in_ok-world.ensures.opening
+pub simulate_world-found-requires-clause-graph : goal.simulate_world-found-requires-clause-graph
+simulate_world-found-requires-clause-graph c = graph_is c.in_ok-world.world c.args.job c.args.saturation c.in_ok-world.ensures.job c.in_ok-world.ensures.opening
 
-pub simulate_world-requires-clause-job : goal.simulate_world-requires-clause-job
-simulate_world-requires-clause-job c = let I : JobOf → Type 0 = IsAdditionJob in subst I (sym c.in_ok-world.ensures.job) c.requires.job
+pub simulate_world-found-requires-clause-job : goal.simulate_world-found-requires-clause-job
+simulate_world-found-requires-clause-job c = let I : JobOf → Type 0 = IsAdditionJob in subst I (sym c.in_ok-world.ensures.job) c.requires.job
 
-pub simulate_world-requires-clause-chunks : goal.simulate_world-requires-clause-chunks
-simulate_world-requires-clause-chunks c = c.chunks-chunks.ensures.number ∙ ap chunk_total (sym c.in_ok-world.ensures.job)
+pub simulate_world-found-requires-clause-chunks : goal.simulate_world-found-requires-clause-chunks
+simulate_world-found-requires-clause-chunks c = c.chunks-chunks.ensures.number ∙ ap chunk_total (sym c.in_ok-world.ensures.job)
 
 pub returns-clause-found : goal.returns-clause-found
 returns-clause-found c =
-    let P : Job → List ℕ → Type 0 = λ job keys. IfOk c.simulate_world.result (λ f. IsFound job (word_of c.args.number) (plan_of c.args.plan.now) keys f.report f.turns) in
-    as_begun c.in_ok-world.world c.args.job c.args.saturation c.chunks-chunks.result P c.in_ok-world.ensures.job c.in_ok-world.ensures.opening c.chunks-chunks.ensures.number c.simulate_world.ensures.found
+    let P : Job → List ℕ → Type 0 = λ job keys. IfOk c.simulate_world-found.result (λ f. IsFound job (word_of c.args.number) (plan_of c.args.plan.now) keys f.report f.turns) in
+    as_begun c.in_ok-world.world c.args.job c.args.saturation c.chunks-chunks.result P c.in_ok-world.ensures.job c.in_ok-world.ensures.opening c.chunks-chunks.ensures.number c.simulate_world-found.ensures.found
 
 pub returns-clause-cells : goal.returns-clause-cells
 returns-clause-cells c =
-    let P : JobOf → Type 0 = λ j. IfOk c.simulate_world.result (λ f. f.cells.items ≡ added j.addend j.cells) in
-    subst P c.in_ok-world.ensures.job c.simulate_world.ensures.cells
+    let P : JobOf → Type 0 = λ j. IfOk c.simulate_world-found.result (λ f. f.cells.items ≡ added j.addend j.cells) in
+    subst P c.in_ok-world.ensures.job c.simulate_world-found.ensures.cells
 
 pub returns-clause-halted : goal.returns-clause-halted
 returns-clause-halted c =
-    let P : Job → List ℕ → Type 0 = λ job keys. IfErr c.simulate_world.result (IsHalted job (word_of c.args.number) (plan_of c.args.plan.now) keys) in
-    as_begun c.in_ok-world.world c.args.job c.args.saturation c.chunks-chunks.result P c.in_ok-world.ensures.job c.in_ok-world.ensures.opening c.chunks-chunks.ensures.number c.simulate_world.ensures.halted
+    let P : Job → List ℕ → Type 0 = λ job keys. IfErr c.simulate_world-found.result (IsHalted job (word_of c.args.number) (plan_of c.args.plan.now) keys) in
+    as_begun c.in_ok-world.world c.args.job c.args.saturation c.chunks-chunks.result P c.in_ok-world.ensures.job c.in_ok-world.ensures.opening c.chunks-chunks.ensures.number c.simulate_world-found.ensures.halted
