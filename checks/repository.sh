@@ -18,9 +18,14 @@ for folder in crates/*/; do
   [ -d "$folder/src" ] || continue
   crate=$(basename "$folder")
   hold "crates.txt does not list $crate" 'grep -qE "^$crate( |:)" crates.txt'
-  hold "README.md does not name $crate" 'grep -q "\`$crate\`" README.md'
+  hold "crates/$crate/README.md does not begin with the name of its crate" '[ "$(head -n 1 "crates/$crate/README.md")" = "# $crate" ]'
   hold "docs/ARCHITECTURE.md does not name $crate" 'grep -q "\`$crate\`" docs/ARCHITECTURE.md'
 done
+hold 'README.md has more than 6144 bytes' '[ "$(wc -c < README.md)" -le 6144 ]'
+# each link from a rule leads to a file that has the word it stands for
+while IFS=' ' read -r word path; do
+  hold "docs/RULES.md: $path does not have the word $word" 'grep -qwF -- "$word" "docs/$path"'
+done < <(grep -oE '\[`[^`]+`\]\([^)]+\.(rt|antt)\)' docs/RULES.md | sed -E 's/^\[`([^`]+)`\]\(([^)]+)\)$/\1 \2/')
 for file in $(git ls-files '*.rt' '*.antt' '*.md'); do
   hold "$file has more than 800 lines" '[ "$(wc -l < "$file")" -le 800 ]'
 done
