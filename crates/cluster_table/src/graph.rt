@@ -1,5 +1,7 @@
 //! A graph, read from the words of a line.
-ghost use Rattle.std.specs.Prelude.{◌<◌};
+ghost use Rattle.std.specs.Prelude.{◌<◌, IsTrue};
+ghost use Rattle.std.specs.List.{AllByRecursion};
+ghost use Rattle.std.specs.List.Sorted.{IsStrictlyIncreasing};
 ghost use Rattle.cluster_msgs.specs.Shape.{key_count};
 
 use crate::numbers::{RowError, Words, keys, number};
@@ -8,16 +10,24 @@ use cluster_msgs::{GraphShape, KeyList};
 use std::alloc::Global;
 use std::io;
 
-// Whether dependencies ascend strictly and are below the key.
-fn are_deps(deps: &[u32], key: u32) -> bool {
-    let mut least = 0;
-    for dep in deps {
-        if *dep < least || *dep >= key {
+// Whether keys ascend strictly.
+fn is_rising(keys: &[u32]) -> bool
+    ensures { IsTrue result → IsStrictlyIncreasing keys.now }
+{
+    for at in 1..keys.len() {
+        if keys[at - 1] >= keys[at] {
             return false;
         }
-        least = *dep + 1;
     }
     true
+}
+
+// Whether the next key of a graph can have these dependencies.
+fn are_deps(deps: &[u32], key: u32) -> bool
+    ensures rising { IsTrue result → IsStrictlyIncreasing deps.now }
+    ensures below { IsTrue result → AllByRecursion (λ d. d < key) deps.now }
+{
+    is_rising(deps) && deps.iter().all(|dep| *dep < key)
 }
 
 // Adds the key of a word `work:bytes:dependencies`.

@@ -53,7 +53,6 @@ fn read_script(alloc: Global, word: &str) -> Result<Script, RowError> {
 }
 
 // The plan of so many workers and threads, and of a script.
-#[tactic(auto, using(crate::proofs::Setups::plan_is))]
 fn plan_with(workers: u32, threads: u32, script: Script) -> Result<SimPlan, RowError>
     ensures { IfOk result (λ p. IsPlan (plan_of p)) }
 {
@@ -79,7 +78,6 @@ fn are_below(keys: &[u32], count: u32) -> bool
 }
 
 // Some keys, all of a graph of so many.
-#[tactic(auto, using(crate::proofs::Setups::are_wanted))]
 fn wanted_of(alloc: Global, word: &str, count: u32) -> Result<KeyList, RowError>
     ensures { IfOk result (λ keys. AreWanted count keys) }
 {
