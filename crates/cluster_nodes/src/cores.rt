@@ -5,7 +5,8 @@ ghost use Rattle.cluster_rules.specs.Functions.{put, put_pair};
 ghost use Rattle.cluster_rules.specs.Client.{client_step, client_takes};
 ghost use Rattle.cluster_rules.specs.WorkerStep.{worker_step, worker_takes};
 ghost use Rattle.fact_rows.specs.Rows.{read, cell, height, width};
-ghost use Rattle.worker_core.specs.Core.{facts, event_limit};
+ghost use Rattle.worker_core.specs.Core.{facts};
+ghost use Rattle.cluster_rules.specs.Runs.{event_limit};
 ghost use Rattle.cluster_nodes.specs.Nodes.{workers_of, clients_of};
 ghost use Rattle.cluster_nodes.specs.Kept.{AreWorkersOver, AreClientsOver, WorkersTookFew, ClientsTookFew};
 

@@ -152,6 +152,11 @@ verdict s Evicts = None
 verdict s Balances = None
 verdict s (Drawn e) = None
 
+-- each of these events came next, and they led here
+abbrev pub DrawsTo : Job → (ℕ → ℕ) → Plan → Sim → List Event → Sim → Type 0
+DrawsTo j words p s [] t = s ≡ t
+DrawsTo j words p s (e ∷ es) t = (event_of (next words p s) ≡ Some e) × DrawsTo j words p (moved j s (next words p s)) es t
+
 -- the events are those that come next, one after another, up to this end
 abbrev pub DrawnFrom : Job → (ℕ → ℕ) → Plan → Sim → List Event → Verdict → Type 0
 DrawnFrom j words p s [] v = verdict s (next words p s) ≡ Some v

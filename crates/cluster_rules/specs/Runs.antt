@@ -19,6 +19,10 @@ use Rattle.cluster_rules.specs.World.{Job, World, opening, is_connected, unfinis
 use Rattle.cluster_rules.specs.WorldStep.{world_step}
 use Rattle.cluster_rules.specs.Enabled.{enabled, front, progress}
 
+-- a core, a world and a simulation take this many events
+abbrev pub event_limit : ℕ
+event_limit = 1099511627776
+
 -- each event is enabled in the world that the earlier ones leave
 abbrev pub LegalFrom : Job → World → List Event → Type 0
 LegalFrom j w [] = Unit {0}

@@ -9,10 +9,10 @@ use Rattle.cluster_rules.specs.WorldStep.{world_step}
 use Rattle.cluster_rules.specs.Enabled.{enabled, message}
 use Rattle.cluster_rules.specs.Runs.{LegalFrom, legal, run_from, Safe}
 use Rattle.cluster_rules.specs.Report.{Taken, taken, is_join, how_many}
-use Rattle.cluster_rules.specs.Draw.{Plan, Sim, Next, Over, Scripted, Evicts, Balances, Spent, Drawn, Verdict, DrawnFrom, opening_events, sim_from, next, event_of, moved, verdict}
+use Rattle.cluster_rules.specs.Draw.{Plan, Sim, Next, Over, Scripted, Evicts, Balances, Spent, Drawn, Verdict, DrawnFrom, opening_events, sim_from, next, event_of, moved, verdict, DrawsTo}
 use Rattle.run_report.specs.Counts.{IsCountOf}
 use Rattle.run_report.specs.declared.tally.Tally.{Tally}
-use Rattle.cluster_sim.specs.Courses.{IsMade, DrawsTo, Course}
+use Rattle.cluster_sim.specs.Courses.{IsMade, Course}
 use Rattle.cluster_sim.specs.Simulations.{IsSimulated}
 use Rattle.cluster_sim.proofs.WorldKeeps.{joins, world_keeps}
 

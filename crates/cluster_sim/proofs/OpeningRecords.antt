@@ -13,7 +13,8 @@ use Rattle.cluster_laws.specs.Blocks.{Cluster as Blocks, setting_of, opening_clu
 use Rattle.run_report.specs.Counts.{IsCountOf}
 use Rattle.run_report.specs.declared.tally.Tally.{Tally}
 use Rattle.cluster_world.specs.declared.state.State.{State}
-use Rattle.cluster_world.specs.Worlds.{cluster, world, setting, event_limit, IsReady, IsReached}
+use Rattle.cluster_world.specs.Worlds.{cluster, world, setting, IsReady, IsReached}
+use Rattle.cluster_rules.specs.Runs.{event_limit}
 use Rattle.quiet_bound.proofs.WorldBound.{setting-world}
 use Rattle.cluster_sim.specs.Acts.{Stays, IsAct, running}
 use Rattle.cluster_sim.specs.Courses.{IsMade}

@@ -5,7 +5,8 @@ use Rattle.cluster_msgs.specs.declared.events.Event.{Event}
 use Rattle.cluster_rules.specs.Sched.{Setting}
 use Rattle.cluster_rules.specs.Draw.{Plan, Served, OutOfTurns, next, event_of, over}
 use Rattle.cluster_world.specs.declared.state.State.{State}
-use Rattle.cluster_world.specs.Worlds.{world, setting, event_limit}
+use Rattle.cluster_world.specs.Worlds.{world, setting}
+use Rattle.cluster_rules.specs.Runs.{event_limit}
 use Rattle.cluster_sim.proofs.ActLemmas.{same_job}
 use Rattle.cluster_rules.specs.World.{Job}
 use Rattle.cluster_sim.specs.Acts.{Stays, running}

@@ -16,9 +16,9 @@ use Rattle.cluster_rules.specs.World.{Job, World, opening, rest, is_connected, u
 use Rattle.cluster_rules.specs.WorldStep.{world_step}
 use Rattle.cluster_rules.specs.Enabled.{progress}
 use Rattle.cluster_rules.specs.Runs.{run_from, reached, Safe}
-use Rattle.cluster_rules.specs.Draw.{Plan, Sim, Next, Over, Scripted, Evicts, Balances, Spent, Drawn, OutOfTurns, over, over_by, opening_events, sim_from, scripted, evicts_now, balances_now, drawn, draw_one, turn, unscripted, next_by, next, event_of, moved, verdict}
+use Rattle.cluster_rules.specs.Draw.{Plan, Sim, Next, Over, Scripted, Evicts, Balances, Spent, Drawn, OutOfTurns, over, over_by, opening_events, sim_from, scripted, evicts_now, balances_now, drawn, draw_one, turn, unscripted, next_by, next, event_of, moved, verdict, DrawsTo}
 use Rattle.run_report.specs.declared.tally.Tally.{Tally}
-use Rattle.cluster_sim.specs.Courses.{DrawsTo, Course}
+use Rattle.cluster_sim.specs.Courses.{Course}
 use Rattle.cluster_sim.specs.Quiet.{QuietFrom, IsPastBound}
 use Rattle.cluster_sim.proofs.WorldKeeps.{world_keeps}
 use Rattle.cluster_sim.proofs.CourseLemmas.{run_more, moved_world}

@@ -10,7 +10,8 @@ use Rattle.cluster_rules.specs.Report.{Taken, is_join, how_many}
 use Rattle.cluster_rules.specs.Draw.{Plan, next, event_of, moved, over}
 use Rattle.run_report.specs.Counts.{IsCountOf}
 use Rattle.cluster_world.specs.declared.state.State.{State}
-use Rattle.cluster_world.specs.Worlds.{world, setting, event_limit}
+use Rattle.cluster_world.specs.Worlds.{world, setting}
+use Rattle.cluster_rules.specs.Runs.{event_limit}
 use Rattle.quiet_bound.proofs.WorldBound.{setting-world}
 use Rattle.cluster_sim.specs.Acts.{Stays, IsAct, running}
 use Rattle.cluster_sim.specs.Courses.{Course}

@@ -9,7 +9,8 @@ use Rattle.cluster_world.specs.declared.state.State.{State}
 use Rattle.cluster_world.specs.declared.state.Course.TheVariants.{Going}
 use Rattle.cluster_world.specs.declared.errors.StepError.{StepError}
 use Rattle.cluster_world.specs.declared.errors.StepError.TheVariants as step
-use Rattle.cluster_world.specs.Worlds.{cluster, world, setting, event_limit, IsReached}
+use Rattle.cluster_world.specs.Worlds.{cluster, world, setting, IsReached}
+use Rattle.cluster_rules.specs.Runs.{event_limit}
 use Rattle.cluster_sim.specs.declared.act.SimError.{SimError}
 use Rattle.cluster_sim.specs.declared.act.SimError.TheVariants.{Turns, Feed, Spent, OutOfMemory}
 

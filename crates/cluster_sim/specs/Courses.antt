@@ -2,10 +2,9 @@
 use Rattle.std.specs.Prelude.{◌≡◌, ◌≤◌, ℕ, List, [], ◌∷◌, ◌++◌, Some, length}
 use Rattle.cluster_msgs.specs.declared.events.Event.{Event}
 use Rattle.cluster_rules.specs.World.{Job, World, opening}
-use Rattle.cluster_rules.specs.Runs.{legal, reached, run_from}
+use Rattle.cluster_rules.specs.Runs.{legal, reached, run_from, event_limit}
 use Rattle.cluster_rules.specs.Report.{taken}
 use Rattle.cluster_rules.specs.Draw.{Plan, Sim, opening_events, sim_from, next, event_of, moved}
-use Rattle.cluster_world.specs.Worlds.{event_limit}
 use Rattle.run_report.specs.Counts.{IsCountOf}
 use Rattle.run_report.specs.declared.tally.Tally.{Tally}
 
@@ -16,11 +15,6 @@ pub record IsMade (j : Job) (es : List Event) (w : World) (t : Tally) (n : ℕ) 
   pub counted : IsCountOf t (taken j (opening j) es)
   pub count : length es ≡ n
   pub few : length es ≤ event_limit
-
--- each of these events came next, and they led here
-abbrev pub DrawsTo : Job → (ℕ → ℕ) → Plan → Sim → List Event → Sim → Type 0
-DrawsTo j words p s [] t = s ≡ t
-DrawsTo j words p s (e ∷ es) t = (event_of (next words p s) ≡ Some e) × DrawsTo j words p (moved j s (next words p s)) es t
 
 -- the opening events, and then those that came next
 pub record Course (j : Job) (words : ℕ → ℕ) (p : Plan) (wanted : List ℕ) (s : Sim) (t : Tally) (n : ℕ) : Type 0 where

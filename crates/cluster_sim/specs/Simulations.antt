@@ -5,11 +5,9 @@ use Rattle.cluster_msgs.specs.declared.events.Report.{Report}
 use Rattle.cluster_msgs.specs.Values.{faulty, needed}
 use Rattle.cluster_rules.specs.Derived.{is_in}
 use Rattle.cluster_rules.specs.World.{Job, World, opening, is_connected}
-use Rattle.cluster_rules.specs.Runs.{legal, reached, run_from, Safe}
+use Rattle.cluster_rules.specs.Runs.{legal, reached, run_from, Safe, event_limit}
 use Rattle.cluster_rules.specs.Report.{taken, report}
-use Rattle.cluster_rules.specs.Draw.{Plan, Sim, Verdict, OutOfTurns, Draw, opening_events, sim_from, next, event_of}
-use Rattle.cluster_world.specs.Worlds.{event_limit}
-use Rattle.cluster_sim.specs.Courses.{DrawsTo}
+use Rattle.cluster_rules.specs.Draw.{Plan, Sim, Verdict, OutOfTurns, Draw, opening_events, sim_from, next, event_of, DrawsTo}
 use Rattle.cluster_sim.specs.Quiet.{IsPastBound}
 
 -- Exactly the events that the rules draw, to this end. They are legal, and so they are safe; they are no more than a world takes, and led to this

@@ -4,7 +4,8 @@ use Rattle.cluster_msgs.specs.Shape.{key_count}
 use Rattle.cluster_rules.specs.Draw.{Plan, Verdict, Served, OutOfTurns, next, over, verdict}
 use Rattle.cluster_world.specs.declared.state.State.{State}
 use Rattle.cluster_world.specs.declared.state.Course.TheVariants.{Going}
-use Rattle.cluster_world.specs.Worlds.{cluster, world, setting, event_limit, IsReached}
+use Rattle.cluster_world.specs.Worlds.{cluster, world, setting, IsReached}
+use Rattle.cluster_rules.specs.Runs.{event_limit}
 use Rattle.cluster_sim.specs.Acts.{running}
 use Rattle.cluster_sim.specs.Drawn.{word_of, IsAtTurn}
 use Rattle.cluster_sim.specs.Standing.{sim_of, IsStanding, left}

@@ -3,7 +3,8 @@ ghost use Rattle.std.specs.Prelude.{◌≡◌, ◌++◌, ◌∷◌, ◌<◌, ◌
 ghost use Rattle.cluster_msgs.specs.declared.messages.Message.{Message as AnyMessage};
 ghost use Rattle.cluster_rules.specs.Enabled.{enabled, message};
 ghost use Rattle.cluster_rules.specs.Report.{Taken, is_join, how_many};
-ghost use Rattle.cluster_world.specs.Worlds.{world as world_of, event_limit};
+ghost use Rattle.cluster_world.specs.Worlds.{world as world_of};
+ghost use Rattle.cluster_rules.specs.Runs.{event_limit};
 ghost use Rattle.cluster_world.specs.declared.state.Course.TheVariants.{Going};
 ghost use Rattle.run_report.specs.Counts.{IsCountOf};
 ghost use Rattle.cluster_sim.specs.Acts.{CountsSim, Stays, IsAct, IsCause, cause};

@@ -3,7 +3,8 @@ ghost use Rattle.std.specs.Prelude.{◌≡◌, ◌↔◌, ℕ, None, Err, IfOk, 
 ghost use Rattle.cluster_msgs.specs.Shape.{key_count, deps_of};
 ghost use Rattle.cluster_msgs.specs.Values.{val};
 ghost use Rattle.cluster_rules.specs.Draw.{Served, over};
-ghost use Rattle.cluster_world.specs.Worlds.{cluster, world as world_of, setting, event_limit, IsReached};
+ghost use Rattle.cluster_world.specs.Worlds.{cluster, world as world_of, setting, IsReached};
+ghost use Rattle.cluster_rules.specs.Runs.{event_limit};
 ghost use Rattle.cluster_sim.specs.Acts.{CountsSim, Stays, running};
 ghost use Rattle.cluster_sim.specs.Drawn.{word_of};
 ghost use Rattle.cluster_sim.specs.Plans.{plan_of, IsPlan};

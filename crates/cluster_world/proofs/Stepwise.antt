@@ -17,7 +17,8 @@ use Rattle.cluster_world.specs.Orderly.{IsOrderly}
 use Rattle.cluster_world.specs.declared.state.Course.TheVariants.{Going, Fed, Starved}
 use Rattle.cluster_world.specs.declared.errors.StepError.{StepError}
 use Rattle.cluster_world.specs.declared.errors.StepError.TheVariants.{NotEnabled, Stopped, Feed, Spent, OutOfMemory}
-use Rattle.cluster_world.specs.Worlds.{cluster, world, setting, event_limit, IsReady, IsReached}
+use Rattle.cluster_world.specs.Worlds.{cluster, world, setting, IsReady, IsReached}
+use Rattle.cluster_rules.specs.Runs.{event_limit}
 use Rattle.cluster_world.specs.Steps.{Advances, CountsStep}
 use Rattle.cluster_world.specs.Taken.{IsStep}
 use Rattle.cluster_world.proofs.Advancing.{world_taken, cluster_taken, goes_on, counted, taken_by_values, taken_reached, not_refused, not_spent, not_stopped, fed, fed_stays, starved}

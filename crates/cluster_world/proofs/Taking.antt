@@ -23,7 +23,8 @@ use Rattle.cluster_nodes.specs.Kept.{TookFew}
 use Rattle.cluster_nodes.specs.Nodes.{world_of}
 use Rattle.cluster_nodes.specs.Turns.{IsRefusedBy}
 use Rattle.cluster_world.specs.declared.state.State.{State}
-use Rattle.cluster_world.specs.Worlds.{world, event_limit}
+use Rattle.cluster_world.specs.Worlds.{world}
+use Rattle.cluster_rules.specs.Runs.{event_limit}
 use Rattle.cluster_world.specs.Kept.{IsJoint}
 use Rattle.cluster_world.proofs.Acting.{front_is}
 use Rattle.cluster_world.proofs.Orderliness as orderly

@@ -8,7 +8,8 @@ use Rattle.scheduler_core.specs.Cores.{facts}
 use Rattle.cluster_laws.specs.Blocks.{Delivery, Blocks, Cluster}
 use Rattle.cluster_world.specs.declared.state.State.{State}
 use Rattle.cluster_world.specs.declared.state.Course.TheVariants.{Starved}
-use Rattle.cluster_world.specs.Worlds.{cluster, world, setting, event_limit}
+use Rattle.cluster_world.specs.Worlds.{cluster, world, setting}
+use Rattle.cluster_rules.specs.Runs.{event_limit}
 use Rattle.cluster_world.specs.Orderly.{IsOrderly}
 
 -- no block stands where its key isn't counted

@@ -10,7 +10,8 @@ use Rattle.cluster_world.specs.declared.state.State.{State}
 use Rattle.cluster_world.specs.declared.state.Course.TheVariants as course
 use Rattle.cluster_world.specs.declared.errors.StepError.{StepError}
 use Rattle.cluster_world.specs.declared.errors.StepError.TheVariants as error
-use Rattle.cluster_world.specs.Worlds.{cluster as cluster_now, world as world_now, setting as setting_now, event_limit, IsReady, IsReached}
+use Rattle.cluster_world.specs.Worlds.{cluster as cluster_now, world as world_now, setting as setting_now, IsReady, IsReached}
+use Rattle.cluster_rules.specs.Runs.{event_limit}
 use Rattle.cluster_world.specs.Steps.{CountsStep}
 
 pub record IsStep {J B F : Type 0} (operation : J → ℕ → List B → Option B) (feed_tells : J → F → Type 0) (fault_count : F → ℕ) (e : Event) (r : Result (Unit {0}) StepError) (old new : State J B F) : Type 0 where

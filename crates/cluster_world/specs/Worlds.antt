@@ -21,10 +21,6 @@ world s = (cluster s).world
 abbrev pub setting : {J B F : Type 0} → State J B F → Setting
 setting s = (facts s.sched).setting
 
--- a world takes this many events, 2^40
-abbrev pub event_limit : ℕ
-event_limit = 1099511627776
-
 -- it goes on, and may take an event
 pub record IsReady {J B F : Type 0} (s : State J B F) : Type 0 where
   pub going : s.course ≡ Going

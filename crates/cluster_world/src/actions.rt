@@ -5,7 +5,8 @@ ghost use Rattle.cluster_msgs.specs.declared.events.Event.TheVariants as event;
 ghost use Rattle.cluster_rules.specs.Worker.{would_start};
 ghost use Rattle.cluster_rules.specs.World.{is_asker, is_connected, open_ask};
 ghost use Rattle.cluster_rules.specs.Enabled.{enabled};
-ghost use Rattle.cluster_world.specs.Worlds.{cluster, world, event_limit};
+ghost use Rattle.cluster_world.specs.Worlds.{cluster, world};
+ghost use Rattle.cluster_rules.specs.Runs.{event_limit};
 ghost use Rattle.cluster_world.specs.Kept.{IsJoint, IsKept};
 ghost use Rattle.cluster_world.specs.Outcomes.{IsMoved, IsUnended};
 

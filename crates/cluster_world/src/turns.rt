@@ -9,7 +9,8 @@ ghost use Rattle.cluster_rules.specs.WorldStep.{at_scheduler};
 ghost use Rattle.cluster_nodes.specs.Kept.{IsNodes};
 ghost use Rattle.cluster_nodes.specs.Turns.{in_world, nothing, worker_turned, client_turned};
 ghost use Rattle.scheduler_core.specs.Cores.{facts};
-ghost use Rattle.cluster_world.specs.Worlds.{cluster, world, setting, event_limit};
+ghost use Rattle.cluster_world.specs.Worlds.{cluster, world, setting};
+ghost use Rattle.cluster_rules.specs.Runs.{event_limit};
 ghost use Rattle.cluster_world.specs.Kept.{IsJoint, IsKept};
 ghost use Rattle.cluster_world.specs.Outcomes.{IsTurned};
 

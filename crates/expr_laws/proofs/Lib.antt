@@ -1,3 +1,3 @@
 mod Excluded
 mod OneCause
-mod Elements
+pub mod Elements

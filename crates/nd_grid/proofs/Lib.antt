@@ -6,3 +6,4 @@ pub mod Slicing
 pub mod Turning
 pub mod Merging
 pub mod Folding
+pub mod FoldAlgebra

@@ -45,7 +45,7 @@ taken n c h = grind arith
 passed : (n c : ℕ) → n ≡ 1 → cond (nat_eq n 1) c n ≡ c
 passed n c h = grind arith
 
-common-member : (ls : List ℕ) (j : ℕ) → first_misfit ls ≡ None → j < length ls → get_or ls j 1 ≢ 1 → common ls ≡ get_or ls j 1
+pub common-member : (ls : List ℕ) (j : ℕ) → first_misfit ls ≡ None → j < length ls → get_or ls j 1 ≢ 1 → common ls ≡ get_or ls j 1
 common-member [] j h b ne = absurd (omega arith)
 common-member (n ∷ ns) zero h b ne = taken n (common ns) ne
 common-member (n ∷ ns) (suc j) h b ne =
@@ -55,7 +55,7 @@ common-member (n ∷ ns) (suc j) h b ne =
       | inr d ↦ taken n (common ns) d ∙ agreed n (get_or ns j 1) (agrees-all n ns j both.0 (omega arith)) d ne
     ]
 
-axes-member : (shapes : List (List ℕ)) (j : ℕ) (ns : List ℕ) → j < length shapes → get_or shapes j ns ≡ ns → length ns ≤ axes_of shapes
+pub axes-member : (shapes : List (List ℕ)) (j : ℕ) (ns : List ℕ) → j < length shapes → get_or shapes j ns ≡ ns → length ns ≤ axes_of shapes
 axes-member [] j ns h e = absurd (omega arith)
 axes-member (ms ∷ shapes) zero ns h e = let l : length ms ≡ length ns = ap length e in omega arith
 axes-member (ms ∷ shapes) (suc j) ns h e = let r : length ns ≤ axes_of shapes = axes-member shapes j ns (omega arith) e in omega arith
@@ -67,7 +67,7 @@ pub broadcast-at : (shapes : List (List ℕ)) (k : ℕ) → k < axes_of shapes �
 broadcast-at shapes k h = get_or-map-range_with_len (λ k. common (lengths_on shapes k)) 0 (axes_of shapes) k k 0 h (omega arith)
 
 -- the length of a shape on an axis that it has
-length_on-own : (axes k : ℕ) (ns : List ℕ) → length ns ≤ axes → k < length ns → length_on axes (axes - length ns + k) ns ≡ get_or ns k 0
+pub length_on-own : (axes k : ℕ) (ns : List ℕ) → length ns ≤ axes → k < length ns → length_on axes (axes - length ns + k) ns ≡ get_or ns k 0
 length_on-own axes k ns h b =
     let e : axes - length ns + k - (axes - length ns) ≡ k = omega arith in
     not_front (axes - length ns + k) (axes - length ns) (get_or ns (axes - length ns + k - (axes - length ns)) 1) (omega arith) ∙ ap (λ j. get_or ns j 1) e ∙ get_or_default ns k 1 0 b

@@ -13,6 +13,3 @@ pub record Core : Type 0 where
 abbrev pub facts : Core → Facts
 facts c = facts_of c.stored
 
--- a core may take this many events
-abbrev pub event_limit : ℕ
-event_limit = 1099511627776

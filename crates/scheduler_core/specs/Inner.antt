@@ -3,7 +3,8 @@ use Rattle.std.specs.Prelude.{◌≡◌, ℕ, ◌+◌, ◌*◌, ◌^◌, ◌≤�
 use Rattle.cluster_rules.specs.Sched.{Facts}
 use Rattle.cluster_laws.specs.Settled.{IsSettled}
 use Rattle.sched_facts.specs.Stored.{facts_of}
-use Rattle.scheduler_core.specs.Cores.{Core, event_limit}
+use Rattle.scheduler_core.specs.Cores.{Core}
+use Rattle.cluster_rules.specs.Runs.{event_limit}
 use Rattle.scheduler_core.specs.declared.sched.Sched.TheInside.{Inside}
 
 abbrev pub seen_core : Inside → Core

@@ -5,7 +5,8 @@ ghost use Rattle.cluster_rules.specs.SchedTable.{sched_takes};
 ghost use Rattle.cluster_rules.specs.SchedStep.{sched_step};
 ghost use Rattle.cluster_laws.specs.Settled.{IsSettled};
 ghost use Rattle.cluster_laws.specs.Attempts.{AttemptsEndForACause};
-ghost use Rattle.scheduler_core.specs.Cores.{facts, event_limit};
+ghost use Rattle.scheduler_core.specs.Cores.{facts};
+ghost use Rattle.cluster_rules.specs.Runs.{event_limit};
 ghost use Rattle.scheduler_core.specs.Sent.{appended, sent_by, HasGrown};
 
 use crate::event::carry_out;

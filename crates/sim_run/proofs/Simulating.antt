@@ -19,7 +19,8 @@ use Rattle.cluster_laws.specs.AreValues.{AreValues}
 use Rattle.cluster_laws.specs.Blocks.{Cluster, job_of, setting_of, opening_cluster}
 use Rattle.cluster_laws.proofs.BlockValues.{values_of}
 use Rattle.cluster_world.specs.declared.state.State.{State}
-use Rattle.cluster_world.specs.Worlds.{IsReached, IsReady, cluster, event_limit, setting, world}
+use Rattle.cluster_world.specs.Worlds.{IsReached, IsReady, cluster, setting, world}
+use Rattle.cluster_rules.specs.Runs.{event_limit}
 use Rattle.quiet_bound.proofs.WorldBound.{setting-world}
 use Rattle.cluster_sim.specs.declared.act.SimError.{SimError}
 use Rattle.cluster_sim.specs.declared.act.SimError.TheVariants as sim

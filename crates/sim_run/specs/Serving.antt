@@ -4,7 +4,8 @@ use Rattle.array_expr.specs.declared.expr.Node.{Node}
 use Rattle.cluster_msgs.specs.Shape.{deps_of}
 use Rattle.cluster_msgs.specs.Values.{val, faulty}
 use Rattle.cluster_world.specs.declared.state.State.{State}
-use Rattle.cluster_world.specs.Worlds.{cluster, event_limit}
+use Rattle.cluster_world.specs.Worlds.{cluster}
+use Rattle.cluster_rules.specs.Runs.{event_limit}
 use Rattle.cluster_msgs.specs.declared.events.Report.{Report}
 use Rattle.cluster_rules.specs.Draw.{Plan as SimPlan, Served}
 use Rattle.cluster_rules.specs.World.{Job, World}

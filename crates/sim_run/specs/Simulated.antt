@@ -6,7 +6,7 @@ use Rattle.cluster_rules.specs.Draw.{Plan as SimPlan, Served}
 use Rattle.cluster_sim.specs.Drawn.{word_of}
 use Rattle.cluster_sim.specs.Quiet.{IsPastBound}
 use Rattle.cluster_sim.specs.Simulations.{IsReported, IsExhausted, IsUnfinished}
-use Rattle.cluster_world.specs.Worlds.{event_limit}
+use Rattle.cluster_rules.specs.Runs.{event_limit}
 use Rattle.addition_job.specs.Addition.{Addition as JobOf, IsAdditionJob, made, additions}
 use Rattle.plain_eval.specs.Eval.{block_at}
 use Rattle.job_run.specs.Inputs.{InputsFit}

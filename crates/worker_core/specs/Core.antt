@@ -16,10 +16,6 @@ pub record Core : Type 0 where
 abbrev pub facts : Core → WorkerFacts
 facts c = facts_of c.stored
 
--- a core may take this many events
-abbrev pub event_limit : ℕ
-event_limit = 1099511627776
-
 -- no more tasks run than there are threads
 abbrev pub RunsFew : WorkerFacts → Type 0
 RunsFew w = running_count w ≤ w.threads

@@ -2,7 +2,8 @@
 use Rattle.std.specs.Prelude.{◌≡◌, ◌+◌, ◌≤◌, false}
 use Rattle.cluster_rules.specs.WorkerKept.{IsKept}
 use Rattle.worker_facts.specs.Stored.{facts_of}
-use Rattle.worker_core.specs.Core.{Core, RunsFew, event_limit}
+use Rattle.worker_core.specs.Core.{Core, RunsFew}
+use Rattle.cluster_rules.specs.Runs.{event_limit}
 use Rattle.worker_core.specs.Moves.{AreMoves}
 use Rattle.worker_core.specs.declared.worker.WorkerCore.TheInside.{Inside}
 

@@ -3,7 +3,8 @@ use Rattle.cluster_msgs.specs.Shape.{IsShape}
 use Rattle.cluster_rules.specs.Enabled.{enabled}
 use Rattle.cluster_rules.specs.Sched.{Setting}
 use Rattle.cluster_world.specs.Kept.{LengthsFit}
-use Rattle.cluster_world.specs.Worlds.{world, event_limit}
+use Rattle.cluster_world.specs.Worlds.{world}
+use Rattle.cluster_rules.specs.Runs.{event_limit}
 use Rattle.cluster_world.proofs.Advancing.{whole_advanced}
 use Rattle.cluster_world.proofs.Stepwise.{step_refused, step_spent, step_taken, ends_for_a_cause, going_starved}
 use Rattle.cluster_world.proofs.step.take_going.Goals as goal
