@@ -3,7 +3,7 @@ use Rattle.std.specs.Prelude.{◌≡◌, ℕ, ◌<◌, List, Option}
 use Rattle.cluster_msgs.specs.declared.events.Event.{Event}
 use Rattle.cluster_rules.specs.Sched.{Setting}
 use Rattle.cluster_rules.specs.World.{World}
-use Rattle.cluster_rules.specs.Runs.{legal}
+use Rattle.cluster_rules.specs.Runs.{legal, event_limit}
 use Rattle.cluster_nodes.specs.Nodes.{cluster_of}
 use Rattle.scheduler_core.specs.Cores.{facts}
 use Rattle.cluster_laws.specs.Blocks.{Cluster, job_of, opening_cluster}
