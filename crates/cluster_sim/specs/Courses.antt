@@ -4,7 +4,7 @@ use Rattle.cluster_msgs.specs.declared.events.Event.{Event}
 use Rattle.cluster_rules.specs.World.{Job, World, opening}
 use Rattle.cluster_rules.specs.Runs.{legal, reached, run_from, event_limit}
 use Rattle.cluster_rules.specs.Report.{taken}
-use Rattle.cluster_rules.specs.Draw.{Plan, Sim, opening_events, sim_from, next, event_of, moved}
+use Rattle.cluster_rules.specs.Draw.{Plan, Sim, opening_events, sim_from, DrawsTo}
 use Rattle.run_report.specs.Counts.{IsCountOf}
 use Rattle.run_report.specs.declared.tally.Tally.{Tally}
 
