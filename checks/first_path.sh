@@ -46,6 +46,39 @@ check 'line of a file that is no array' "$line" 'dask: file a.npy: not npy at 0'
 line=$(cd "$folder" && cp "$root/examples/first/counts.npy" a.npy && "$root/dask" run job.txt 2>&1 >/dev/full)
 check 'status of a full standard output' "$?" 6
 check 'line of a full standard output' "$line" 'dask: write fault'
+
+# a saved file has its name once it is whole, and keeps what it held where it can't be
+name=$folder/b.npy
+echo before > "$name"
+line=$(cd "$folder" && ulimit -f 0 && "$root/dask" run job.txt 2>&1)
+check 'status where no file may have a length' "$?" 6
+check 'what the name holds then' "$(cat "$name")" before
+check 'what is left beside it' "$(ls "$folder")" "$(printf 'a.npy\nb.npy\nbad.txt\njob.txt')"
+chmod 640 "$name"
+(cd "$folder" && "$root/dask" run job.txt > /dev/null)
+check 'status where the name was there' "$?" 0
+check 'data where the name was there' "$(tail -c 24 "$name" | od -An -v -t d8 | tr -s ' \n' ' ')" ' 41 42 43 '
+check 'permissions where the name was there' "$(stat -c %a "$name")" 640
+mv "$name" "$folder/whole.npy" && touch "$folder/aim.npy" && ln -s aim.npy "$name"
+(cd "$folder" && "$root/dask" run job.txt > /dev/null)
+check 'a link that has the name' "$(readlink "$name")" aim.npy
+check 'what it leads to' "$(cmp "$folder/aim.npy" "$folder/whole.npy" && echo same)" same
+# what is no regular file is written in place
+rm "$name" && mkfifo "$name"
+(cd "$folder" && timeout 20 "$root/dask" run job.txt > /dev/null) &
+timeout 20 cat "$name" > "$folder/piped.npy"
+wait $!
+check 'status where a pipe has the name' "$?" 0
+check 'what came through the pipe' "$(cmp "$folder/piped.npy" "$folder/whole.npy" && echo same)" same
+rm "$name" && ln -s /dev/full "$name"
+line=$(cd "$folder" && "$root/dask" run job.txt 2>&1)
+check 'status where a full device has the name' "$?" 6
+check 'line where a full device has the name' "$line" 'dask: write fault'
+# what is no regular file is no input
+rm "$folder/a.npy" && mkfifo "$folder/a.npy"
+line=$(cd "$folder" && timeout 20 "$root/dask" run job.txt 2>&1)
+check 'status of a pipe as an input' "$?" 5
+check 'line of a pipe as an input' "$line" 'dask: read fault'
 rm -rf "$folder"
 
 summary

@@ -3,3 +3,4 @@ pub mod FileOrder
 pub mod FileTokens
 pub mod FileNames
 pub mod Files
+pub mod CursorSteps

@@ -1,4 +1,5 @@
 pub mod Names
 pub mod Texts
 pub mod Nodes
+pub mod Cursors
 pub mod Jobs

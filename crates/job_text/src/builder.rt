@@ -3,8 +3,10 @@ ghost use Rattle.std.specs.Prelude.{◌≡◌, ◌∷◌, ◌++◌, [], length, 
 ghost use Rattle.array_expr.specs.Node.{Adds};
 ghost use Rattle.job_text.specs.Nodes.{op_of, RefusesAsked};
 ghost use Rattle.job_script.specs.Earlier.{NamesEarlier, AreEarlier};
+ghost use Rattle.job_text.specs.Cursors.{Stands};
 ghost use Rattle.job_text.specs.Jobs.{IsShort, span_at, RefusesPlaced, IsBuilt, RefusesOne};
 
+use crate::cursor::Cursor;
 use crate::error::{JobError, JobKind, kind_of_node};
 use crate::operands::op_of;
 use array_expr::{Expr, Span, Spans};
@@ -41,18 +43,21 @@ fn add_node(alloc: Global, expr: &mut Expr, asked: Asked) -> Result<(), JobKind>
 pub(crate) fn add_placed(
     alloc: Global,
     text: &[u8],
+    cursor: &mut Cursor,
     expr: &mut Expr,
     spans: &mut Spans,
     placed: Placed,
 ) -> Result<(), JobError>
     requires short { IsShort text.now }
+    requires stands { Stands text.now cursor.old }
     requires names { NamesEarlier placed.asked (length expr.old) }
     ensures nodes { OnOk result (Adds expr.old (op_of expr.old placed.asked) expr.new) }
     ensures spans { OnOk result (spans.new ≡ spans.old ++ span_at text.now placed.at ∷ []) }
     ensures err { IfErr result (RefusesPlaced text.now expr.old placed) }
+    ensures stands { Stands text.now cursor.new }
 {
     let Placed { asked, at } = placed;
-    let span = span_at(text, at);
+    let span = cursor.span_at(text, at);
     match add_node(alloc, expr, asked) {
         Ok(()) => {
             spans.push(span)?;
@@ -82,8 +87,9 @@ pub(crate) fn build(alloc: Global, text: &[u8], asked: Vec<Placed>) -> Result<Bu
 {
     let mut expr = Expr::new(alloc);
     let mut spans = Spans::new(alloc);
+    let mut cursor = Cursor::new();
     for placed in asked {
-        add_placed(alloc, text, &mut expr, &mut spans, placed)?;
+        add_placed(alloc, text, &mut cursor, &mut expr, &mut spans, placed)?;
     }
     Ok(Built { expr, spans })
 }

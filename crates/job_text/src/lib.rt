@@ -9,6 +9,7 @@
 #![tactic(auto)]
 
 mod builder;
+mod cursor;
 pub mod error;
 pub mod job;
 mod operands;

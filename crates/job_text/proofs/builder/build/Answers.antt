@@ -16,6 +16,7 @@ pub loop-placed-preserved : goal.loop-placed-preserved
 loop-placed-preserved c = record {
   builds = builds-more [] c.loop-placed.yielded c.in-Some.placed c.loop-placed.expr c.add_placed.new.expr c.loop-placed.invariant.builds c.in_ok-add_placed.ensures.nodes;
   spans_are = c.in_ok-add_placed.ensures.spans ∙ (ap (λ w. w ++ span_at c.args.text.now c.in-Some.placed.at ∷ []) c.loop-placed.invariant.spans_are ∙ sym (spans-more c.args.text.now c.loop-placed.yielded c.in-Some.placed));
+  stands = c.add_placed.ensures.stands;
 }
 
 pub returns-in_err-add_placed-clause-err : goal.returns-in_err-add_placed-clause-err
