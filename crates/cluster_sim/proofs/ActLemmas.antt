@@ -1,5 +1,5 @@
 -- A step of the world as an event of a simulation.
-use Rattle.std.proofs.Common.{◌≡◌, ℕ, ◌+◌, Bool, List, Option, Result, Ok, Err, refl, sym, ◌∙◌, subst}
+use Rattle.std.proofs.Common.{◌≡◌, ℕ, ◌+◌, Bool, List, [], ◌∷◌, ◌++◌, Option, Result, Ok, Err, refl, sym, ◌∙◌, subst}
 use Rattle.std.specs.Prelude.{OnOk}
 use Rattle.cluster_msgs.specs.declared.events.Event.{Event}
 use Rattle.cluster_rules.specs.WorldStep.{world_step}
@@ -11,16 +11,16 @@ use Rattle.cluster_world.specs.declared.state.Course.TheVariants.{Going, Fed, St
 use Rattle.cluster_world.specs.declared.errors.StepError.{StepError}
 use Rattle.cluster_world.specs.declared.errors.StepError.TheVariants as step
 use Rattle.cluster_world.specs.Steps.{CountsStep}
-use Rattle.cluster_world.specs.Worlds.{cluster, world, setting, IsReady, IsReached}
+use Rattle.cluster_world.specs.Worlds.{world, setting, running, IsReady, IsMadeBy}
 use Rattle.cluster_sim.specs.declared.act.SimError.{SimError}
 use Rattle.cluster_sim.specs.declared.act.SimError.TheVariants.{Turns, Feed, Spent, OutOfMemory}
-use Rattle.cluster_sim.specs.Acts.{CountsSim, Stays, IsAct, IsCause, cause, running}
+use Rattle.cluster_sim.specs.Acts.{CountsSim, Stays, IsAct, IsCause, cause}
 
 pub stays_none : {J B F : Type 0} (tells : J → F → Type 0) (s : State J B F) → Stays tells s s
-stays_none tells s = record { job = refl; setting = refl; tells = λ h. h }
+stays_none tells s = record { job = refl; setting = refl; tells = (λ h. h, λ h. h) }
 
 pub stays_both : {J B F : Type 0} (tells : J → F → Type 0) (s t u : State J B F) → Stays tells s t → Stays tells t u → Stays tells s u
-stays_both tells s t u a b = record { job = b.job ∙ a.job; setting = b.setting ∙ a.setting; tells = λ h. b.tells (a.tells h) }
+stays_both tells s t u a b = record { job = b.job ∙ a.job; setting = b.setting ∙ a.setting; tells = (λ h. a.tells.0 (b.tells.0 h), λ h. b.tells.1 (a.tells.1 h)) }
 
 -- the job that runs stays
 pub same_job : {J B F : Type 0} (op : J → ℕ → List B → Option B) (tells : J → F → Type 0) (old new : State J B F) → Stays tells old new → running op new ≡ running op old
@@ -29,16 +29,16 @@ same_job op tells old new s = λ i. job_of (s.setting i) (op (s.job i))
 -- an event that was taken
 pub act_is : {J B F : Type 0} (op : J → ℕ → List B → Option B) (tells : J → F → Type 0) (old new : State J B F) (e : Event) → old.course ≡ Going → IsReady old → new.course ≡ old.course → new.events ≡ old.events + 1
     → (met : Bool) × (world new ≡ world_after met (world old) e)
-    → (tells old.job old.feed → IsReached (setting old) (op old.job) (cluster old) → world new ≡ world_step (job_of (setting old) (op old.job)) (world old) e)
-    → (tells old.job old.feed → IsReached (setting old) (op old.job) (cluster old) → IsReached (setting new) (op new.job) (cluster new))
+    → (tells old.job old.feed → world new ≡ world_step (running op old) (world old) e)
+    → (tells old.job old.feed → (es : List Event) → IsMadeBy op es old → IsMadeBy op (es ++ e ∷ []) new)
     → IsAct op tells old e new
-act_is op tells old new e going ready goes counted some exact reached = record {
+act_is op tells old new e going ready goes counted some exact made = record {
   going = goes ∙ going;
   room = ready.room;
   counted = counted;
   some = (record { setting = (world old).sched.setting; zero = λ k. some.0 }, some.1);
   exact = exact;
-  reached = reached;
+  made = made;
 }
 
 -- the course of a world that goes on is no other

@@ -1,26 +1,25 @@
 -- One more event of a course.
 use Rattle.std.proofs.Common.{◌≡◌, ℕ, suc, ◌+◌, ◌-◌, ◌^◌, ◌≤◌, ◌<◌, Bool, true, false, cond, List, [], ◌∷◌, ◌++◌, length, Option, Some, None, filter, refl, sym, ap, ◌∙◌, arith, subst, append_assoc, append-nil, add-zero}
-use Rattle.std.proofs.lemmas.List.{length-append}
 use Rattle.cluster_msgs.specs.declared.messages.Message.{Message}
 use Rattle.cluster_msgs.specs.declared.events.Event.{Event}
 use Rattle.cluster_msgs.specs.declared.events.Event.TheVariants.{Join, Balance, Evict}
 use Rattle.cluster_rules.specs.World.{Job, World, opening}
 use Rattle.cluster_rules.specs.WorldStep.{world_step}
-use Rattle.cluster_rules.specs.Enabled.{enabled, message}
-use Rattle.cluster_rules.specs.Runs.{LegalFrom, legal, run_from, Safe}
+use Rattle.cluster_rules.specs.Enabled.{message}
+use Rattle.cluster_rules.specs.Runs.{legal, reached, run_from, Safe, event_limit}
 use Rattle.cluster_rules.specs.Report.{Taken, taken, is_join, how_many}
 use Rattle.cluster_rules.specs.Draw.{Plan, Sim, Next, Over, Scripted, Evicts, Balances, Spent, Drawn, Verdict, DrawnFrom, opening_events, sim_from, next, event_of, moved, verdict, DrawsTo}
 use Rattle.run_report.specs.Counts.{IsCountOf}
 use Rattle.run_report.specs.declared.tally.Tally.{Tally}
-use Rattle.cluster_sim.specs.Courses.{IsMade, Course}
+use Rattle.cluster_world.specs.declared.state.State.{State}
+use Rattle.cluster_world.specs.Worlds.{world, running, IsMadeBy}
+use Rattle.cluster_sim.specs.Acts.{Stays, IsAct}
+use Rattle.cluster_sim.specs.Courses.{IsCounted, Course}
 use Rattle.cluster_sim.specs.Simulations.{IsSimulated}
+use Rattle.cluster_sim.proofs.ActLemmas.{same_job}
 use Rattle.cluster_sim.proofs.WorldKeeps.{joins, world_keeps}
 
 -- lists of events with one more at the end
-legal_more : (j : Job) (w : World) (es : List Event) (e : Event) → LegalFrom j w es → enabled (run_from j w es) e ≡ true → LegalFrom j w (es ++ e ∷ [])
-legal_more j w [] e l h = (h, tt)
-legal_more j w (x ∷ xs) e l h = (l.0, legal_more j (world_step j w x) xs e l.1 h)
-
 pub run_more : (j : Job) (w : World) (es : List Event) (e : Event) → run_from j w (es ++ e ∷ []) ≡ world_step j (run_from j w es) e
 run_more j w [] e = refl
 run_more j w (x ∷ xs) e = run_more j (world_step j w x) xs e
@@ -54,30 +53,28 @@ taken_joins j w (x ∷ xs) =
     let i = join_is x (message w x) in
     omega (arith, k, r, h, i)
 
-pub made_none : (j : Job) (t : Tally) (n : ℕ) → n ≡ 0 → IsCountOf t [] → IsMade j [] (opening j) t n
-made_none j t n e h = record { legal = tt; reached = refl; counted = h; count = sym e; few = omega arith }
+-- no event, and none counted
+pub counted_none : {J B F : Type 0} (op : J → ℕ → List B → Option B) (s : State J B F) (t : Tally) → IsMadeBy op [] s → IsCountOf t [] → IsCounted op [] s t
+counted_none op s t m h = record { made = m; counted = h }
 
--- one more event was made, and counted
-pub made_more : (j : Job) (es : List Event) (w v : World) (t u : Tally) (n : ℕ) (e : Event) → IsMade j es w t n → n < 1099511627776 → w.sched.last_worker ≤ 128 → enabled w e ≡ true → v ≡ world_step j w e
+-- one event more is counted
+counted_one : (j : Job) (es : List Event) (w : World) (t u : Tally) (e : Event) → reached j es ≡ w → length es ≤ event_limit → w.sched.last_worker ≤ 128 → IsCountOf t (taken j (opening j) es)
     → ((ts : List Taken) → length ts < 2 ^ 64 - 1 → how_many is_join ts < 2 ^ 32 - 1 → IsCountOf t ts → IsCountOf u (ts ++ (e, message w e) ∷ []))
-    → IsMade j (es ++ e ∷ []) v u (n + 1)
-made_more j es w v t u n e h room few may is count = record {
-  legal = legal_more j (opening j) es e h.legal (subst (λ x. enabled x e ≡ true) (sym h.reached) may);
-  reached = run_more j (opening j) es e ∙ ap (λ x. world_step j x e) h.reached ∙ sym is;
-  counted = subst (λ ts. IsCountOf u ts) (sym (taken_more j (opening j) es e)) (subst (λ x. IsCountOf u (taken j (opening j) es ++ (e, message x e) ∷ [])) (sym h.reached) (count (taken j (opening j) es) short rare h.counted));
-  count = let l = length-append es (e ∷ []) in let f = h.count in omega (arith, l, f);
-  few = let l = length-append es (e ∷ []) in let f = h.count in omega (arith, l, f, room);
+    → IsCountOf u (taken j (opening j) (es ++ e ∷ []))
+counted_one j es w t u e led short few h count =
+    subst (λ ts. IsCountOf u ts) (sym (taken_more j (opening j) es e)) (subst (λ x. IsCountOf u (taken j (opening j) es ++ (e, message x e) ∷ [])) (sym led) (count (taken j (opening j) es)
+    (let l = taken_length j (opening j) es in omega (arith, l, short))
+    (let l = taken_joins j (opening j) es in let r = ap (λ (x : World). x.sched.last_worker) led in omega (arith, l, r, few)) h))
+
+pub counted_more : {J B F : Type 0} (op : J → ℕ → List B → Option B) (tells : J → F → Type 0) (es : List Event) (old new : State J B F) (t u : Tally) (e : Event) → IsCounted op es old t → IsAct op tells old e new → Stays tells old new → tells old.job old.feed
+    → (world old).sched.last_worker ≤ 128
+    → ((ts : List Taken) → length ts < 2 ^ 64 - 1 → how_many is_join ts < 2 ^ 32 - 1 → IsCountOf t ts → IsCountOf u (ts ++ (e, message (world old) e) ∷ []))
+    → IsCounted op (es ++ e ∷ []) new u
+counted_more op tells es old new t u e h act stays told few count = record {
+  made = act.made told es h.made;
+  counted = subst (λ (j : Job). IsCountOf u (taken j (opening j) (es ++ e ∷ []))) (sym (same_job op tells old new stays))
+      (counted_one (running op old) es (world old) t u e h.made.run.reached h.made.few few h.counted count);
 }
-  where
-    short : length (taken j (opening j) es) < 2 ^ 64 - 1
-    short = let l = taken_length j (opening j) es in let f = h.count in omega (arith, l, f, room)
-
-    rare : how_many is_join (taken j (opening j) es) < 2 ^ 32 - 1
-    rare = let l = taken_joins j (opening j) es in let r = ap (λ (x : World). x.sched.last_worker) h.reached in omega (arith, l, r, few)
-
--- how few joins a report lists
-pub few_joins : (j : Job) (es : List Event) (w : World) (t : Tally) (n : ℕ) → IsMade j es w t n → w.sched.last_worker ≡ how_many is_join (taken j (opening j) es)
-few_joins j es w t n h = let l = taken_joins j (opening j) es in let r = ap (λ (x : World). x.sched.last_worker) h.reached in omega (arith, l, r)
 
 -- what comes next, made
 pub moved_world : (j : Job) (s : Sim) (n : Next) (e : Event) → event_of n ≡ Some e → (moved j s n).world ≡ world_step j s.world e
@@ -115,30 +112,32 @@ draws_end j words p s t [] v d h = ap (λ x. verdict x (next words p x)) d ∙ h
 draws_end j words p s t (x ∷ xs) v d h = (d.0, draws_end j words p (moved j s (next words p s)) t xs v d.1 h)
 
 -- a course begins where the opening events led
-pub course_start : (j : Job) (words : ℕ → ℕ) (p : Plan) (wanted : List ℕ) (w : World) (s : Sim) (t : Tally) (n : ℕ) → IsMade j (opening_events p wanted) w t n → s ≡ sim_from p w → Course j words p wanted s t n
-course_start j words p wanted w s t n h e = record {
+pub course_start : {J B F : Type 0} (op : J → ℕ → List B → Option B) (words : ℕ → ℕ) (p : Plan) (wanted : List ℕ) (s : State J B F) (at : Sim) (t : Tally) → IsCounted op (opening_events p wanted) s t → at ≡ sim_from p (world s) → Course op words p wanted at s t
+course_start op words p wanted s at t h e = record {
   later = [];
-  drawn = ap (λ x. sim_from p x) h.reached ∙ sym e;
-  made = subst (λ es. IsMade j es s.world t n) (sym (append-nil (opening_events p wanted))) (subst (λ x. IsMade j (opening_events p wanted) x t n) (ap (λ (x : Sim). x.world) (sym e)) h);
+  drawn = ap (λ x. sim_from p x) h.made.run.reached ∙ sym e;
+  all = subst (λ es. IsCounted op es s t) (sym (append-nil (opening_events p wanted))) h;
 }
 
 -- and goes on by what comes next
-pub course_more : (j : Job) (words : ℕ → ℕ) (p : Plan) (wanted : List ℕ) (s r : Sim) (t u : Tally) (n : ℕ) (e : Event) → Course j words p wanted s t n → n < 1099511627776 → s.world.sched.last_worker ≤ 128 → enabled s.world e ≡ true
-    → event_of (next words p s) ≡ Some e → r ≡ moved j s (next words p s)
-    → ((ts : List Taken) → length ts < 2 ^ 64 - 1 → how_many is_join ts < 2 ^ 32 - 1 → IsCountOf t ts → IsCountOf u (ts ++ (e, message s.world e) ∷ []))
-    → Course j words p wanted r u (n + 1)
-course_more j words p wanted s r t u n e h room few may q is count = subst (λ x. Course j words p wanted x u (n + 1)) (sym is) (record {
+pub course_more : {J B F : Type 0} (op : J → ℕ → List B → Option B) (tells : J → F → Type 0) (words : ℕ → ℕ) (p : Plan) (wanted : List ℕ) (a b : Sim) (old new : State J B F) (t u : Tally) (e : Event) → Course op words p wanted a old t → IsAct op tells old e new → Stays tells old new → tells old.job old.feed
+    → (world old).sched.last_worker ≤ 128 → event_of (next words p a) ≡ Some e → b ≡ moved (running op old) a (next words p a)
+    → ((ts : List Taken) → length ts < 2 ^ 64 - 1 → how_many is_join ts < 2 ^ 32 - 1 → IsCountOf t ts → IsCountOf u (ts ++ (e, message (world old) e) ∷ []))
+    → Course op words p wanted b new u
+course_more op tells words p wanted a b old new t u e h act stays told few q is count = record {
   later = h.later ++ e ∷ [];
-  drawn = draws_more j words p _ s h.later e h.drawn q;
-  made = subst (λ es. IsMade j es (moved j s (next words p s)).world u (n + 1)) (append_assoc (opening_events p wanted) h.later (e ∷ [])) (made_more j (opening_events p wanted ++ h.later) s.world _ t u n e h.made room few may (moved_world j s (next words p s) e q) count);
-})
+  drawn = subst (λ (j : Job). DrawsTo j words p (sim_from p (reached j (opening_events p wanted))) (h.later ++ e ∷ []) b) (sym (same_job op tells old new stays))
+      (subst (λ (x : Sim). DrawsTo (running op old) words p (sim_from p (reached (running op old) (opening_events p wanted))) (h.later ++ e ∷ []) x) (sym is) (draws_more (running op old) words p _ a h.later e h.drawn q));
+  all = subst (λ es. IsCounted op es new u) (append_assoc (opening_events p wanted) h.later (e ∷ [])) (counted_more op tells (opening_events p wanted ++ h.later) old new t u e h.all act stays told few count);
+}
 
 -- at its end the events are those of the simulation
-pub course_end : (j : Job) (words : ℕ → ℕ) (p : Plan) (wanted : List ℕ) (s : Sim) (t : Tally) (n : ℕ) (v : Verdict) (h : Course j words p wanted s t n) → ((es : List Event) → legal j es → Safe j es) → verdict s (next words p s) ≡ Some v → IsSimulated j words p wanted (opening_events p wanted ++ h.later) v s.world
-course_end j words p wanted s t n v h safe q = record {
-  drawn = record { later = h.later; whole = refl; drawn = draws_end j words p _ s h.later v h.drawn q };
-  legal = h.made.legal;
-  safe = safe (opening_events p wanted ++ h.later) h.made.legal;
-  few = h.made.few;
-  reached = h.made.reached;
+pub course_end : {J B F : Type 0} (op : J → ℕ → List B → Option B) (words : ℕ → ℕ) (p : Plan) (wanted : List ℕ) (at : Sim) (s : State J B F) (t : Tally) (v : Verdict) (h : Course op words p wanted at s t) → ((es : List Event) → legal (running op s) es → Safe (running op s) es) → verdict at (next words p at) ≡ Some v
+    → IsSimulated (running op s) words p wanted (opening_events p wanted ++ h.later) v (world s)
+course_end op words p wanted at s t v h safe q = record {
+  drawn = record { later = h.later; whole = refl; drawn = draws_end (running op s) words p _ at h.later v h.drawn q };
+  legal = h.all.made.run.legal;
+  safe = safe (opening_events p wanted ++ h.later) h.all.made.run.legal;
+  few = h.all.made.few;
+  reached = h.all.made.run.reached;
 }

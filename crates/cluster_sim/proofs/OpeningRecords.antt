@@ -3,65 +3,49 @@ use Rattle.std.proofs.Common.{◌≡◌, ℕ, ◌+◌, ◌-◌, ◌^◌, ◌≤�
 use Rattle.std.specs.Prelude.{OnOk, IfOk}
 use Rattle.std.proofs.lemmas.List.{length-append, length-replicate}
 use Rattle.cluster_msgs.specs.Shape.{Shape, key_count}
-use Rattle.cluster_msgs.specs.declared.events.Event.{Event}
 use Rattle.cluster_msgs.specs.declared.events.Event.TheVariants.{Join, Want}
 use Rattle.cluster_rules.specs.Sched.{Setting}
-use Rattle.cluster_rules.specs.World.{Job, World as Cluster, opening}
+use Rattle.cluster_rules.specs.World.{World as Cluster, opening}
 use Rattle.cluster_rules.specs.Enabled.{enabled, message}
 use Rattle.cluster_rules.specs.Report.{Taken, is_join, how_many}
 use Rattle.cluster_laws.specs.Blocks.{Cluster as Blocks, setting_of, opening_cluster}
 use Rattle.run_report.specs.Counts.{IsCountOf}
 use Rattle.run_report.specs.declared.tally.Tally.{Tally}
 use Rattle.cluster_world.specs.declared.state.State.{State}
-use Rattle.cluster_world.specs.Worlds.{cluster, world, setting, IsReady, IsReached}
+use Rattle.cluster_world.specs.Worlds.{cluster, world, setting, running, IsReady}
 use Rattle.cluster_rules.specs.Runs.{event_limit}
 use Rattle.quiet_bound.proofs.WorldBound.{setting-world}
-use Rattle.cluster_sim.specs.Acts.{Stays, IsAct, running}
-use Rattle.cluster_sim.specs.Courses.{IsMade}
+use Rattle.cluster_sim.specs.Acts.{Stays, IsAct}
+use Rattle.cluster_sim.specs.Courses.{IsCounted}
 use Rattle.cluster_sim.specs.Openings.{IsOpening, AreWanted, IsOpen, HasOpened}
-use Rattle.cluster_sim.proofs.ActLemmas.{same_job}
-use Rattle.cluster_sim.proofs.CourseLemmas.{made_none, made_more}
-use Rattle.cluster_sim.proofs.OpeningLemmas.{replicate-push, open_none, may_join, open_join, may_want, open_want}
+use Rattle.cluster_world.proofs.Making.{made_opening}
+use Rattle.cluster_sim.proofs.CourseLemmas.{counted_none, counted_more}
+use Rattle.cluster_sim.proofs.OpeningLemmas.{replicate-push, open_none, open_join, may_want, open_want}
 
 -- an opening world has opened with no event
 pub open_first : {J B F : Type 0} (op : J → ℕ → List B → Option B) (tells : J → F → Type 0) (s : State J B F) (t : Tally) → IsOpening op s → IsCountOf t [] → HasOpened op tells [] 0 [] s s t
 open_first {J} {B} {F} op tells s t h count = record {
   going = h.going;
   opened = subst (λ (w : Cluster). IsOpen [] 0 w) (sym first) (open_none (running op s));
-  count = h.fresh;
-  reaches = λ told. record { events = []; legal = tt; run = sym h.opening };
-  made = λ told. subst (λ (w : Cluster). IsMade (running op s) [] w t s.events) (sym first) (made_none (running op s) t s.events h.fresh count);
+  count = sym h.made.count;
+  all = λ told. counted_none op s t h.made count;
 }
   where
     first : world s ≡ opening (running op s)
-    first = ap (λ (c : Blocks B). c.world) h.opening
-
--- what one more event adds
-made_on : {J B F : Type 0} (op : J → ℕ → List B → Option B) (tells : J → F → Type 0) (es : List Event) (mid new : State J B F) (t u : Tally) (e : Event) → tells mid.job mid.feed → IsReached (setting mid) (op mid.job) (cluster mid)
-    → IsMade (running op mid) es (world mid) t mid.events → IsAct op tells mid e new → Stays tells mid new → (world mid).sched.last_worker ≤ 128 → enabled (world mid) e ≡ true
-    → ((ts : List Taken) → length ts < 2 ^ 64 - 1 → how_many is_join ts < 2 ^ 32 - 1 → IsCountOf t ts → IsCountOf u (ts ++ (e, message (world mid) e) ∷ []))
-    → IsMade (running op new) (es ++ e ∷ []) (world new) u new.events
-made_on op tells es mid new t u e told reached made act stays few may count =
-    subst (λ (n : ℕ). IsMade (running op new) (es ++ e ∷ []) (world new) u n) (sym act.counted)
-    (subst (λ (j : Job). IsMade j (es ++ e ∷ []) (world new) u (mid.events + 1)) (sym (same_job op tells mid new stays))
-    (made_more (running op mid) es (world mid) (world new) t u mid.events e made act.room few may (act.exact told reached) count))
+    first = sym h.made.run.reached
 
 -- a worker more joined
-pub join_on : {J B F : Type 0} (op : J → ℕ → List B → Option B) (tells : J → F → Type 0) (n threads : ℕ) (old mid new : State J B F) (t u : Tally) → HasOpened op tells [] n (replicate n (Join threads)) old mid t → n < 64 → (1 ≤ threads) × (threads ≤ 16)
+pub join_on : {J B F : Type 0} (op : J → ℕ → List B → Option B) (tells : J → F → Type 0) (n threads : ℕ) (old mid new : State J B F) (t u : Tally) → HasOpened op tells [] n (replicate n (Join threads)) old mid t → n < 64
     → IsAct op tells mid (Join threads) new → Stays tells old mid → Stays tells mid new
     → ((ts : List Taken) → length ts < 2 ^ 64 - 1 → how_many is_join ts < 2 ^ 32 - 1 → IsCountOf t ts → IsCountOf u (ts ++ (Join threads, message (world mid) (Join threads)) ∷ []))
     → HasOpened op tells [] (n + 1) (replicate (n + 1) (Join threads)) old new u
-join_on op tells n threads old mid new t u h few fit act before stays count = record {
+join_on op tells n threads old mid new t u h few act before stays count = record {
   going = act.going;
   opened = open_join act.some.0 (world mid) (world new) n threads h.opened act.some.1;
   count = let a = act.counted in let b = h.count in let c = length-replicate n (Join threads) in let d = length-replicate (n + 1) (Join threads) in omega (arith, a, b, c, d);
-  reaches = λ told. act.reached (before.tells told) (h.reaches told);
-  made = λ told. subst (λ es. IsMade (running op new) es (world new) u new.events) (sym (replicate-push n (Join threads)))
-      (made_on op tells (replicate n (Join threads)) mid new t u (Join threads) (before.tells told) (h.reaches told) (h.made told) act stays (let l = h.opened.last in omega (arith, l, few)) (join_may op tells n threads old mid t h few fit) count);
+  all = λ told. subst (λ es. IsCounted op es new u) (sym (replicate-push n (Join threads)))
+      (counted_more op tells (replicate n (Join threads)) mid new t u (Join threads) (h.all told) act stays (before.tells.1 told) (let l = h.opened.last in omega (arith, l, few)) count);
 }
-  where
-    join_may : {J B F : Type 0} (op : J → ℕ → List B → Option B) (tells : J → F → Type 0) (n threads : ℕ) (old mid : State J B F) (t : Tally) → HasOpened op tells [] n (replicate n (Join threads)) old mid t → n < 64 → (1 ≤ threads) × (threads ≤ 16) → enabled (world mid) (Join threads) ≡ true
-    join_may op tells n threads old mid t h few fit = may_join (world mid) threads fit (let l = h.opened.last in omega (arith, l, few))
 
 -- the client may want its keys
 pub want_may : {J B F : Type 0} (op : J → ℕ → List B → Option B) (tells : J → F → Type 0) (old mid : State J B F) (wanted : List ℕ) → IsOpening op old → Stays tells old mid → AreWanted (key_count (setting old).shape) wanted → enabled (world mid) (Want 1 wanted) ≡ true
@@ -72,18 +56,16 @@ want_may op tells old mid wanted h stays keys =
     same = setting-world mid ∙ stays.setting
 
 -- and then it waits for them
-pub want_on : {J B F : Type 0} (op : J → ℕ → List B → Option B) (tells : J → F → Type 0) (n threads : ℕ) (wanted keys : List ℕ) (old mid new : State J B F) (t u : Tally) → HasOpened op tells [] n (replicate n (Join threads)) old mid t → n ≤ 64 → keys ≡ wanted → IsOpening op old → AreWanted (key_count (setting old).shape) wanted
+pub want_on : {J B F : Type 0} (op : J → ℕ → List B → Option B) (tells : J → F → Type 0) (n threads : ℕ) (wanted keys : List ℕ) (old mid new : State J B F) (t u : Tally) → HasOpened op tells [] n (replicate n (Join threads)) old mid t → n ≤ 64 → keys ≡ wanted
     → IsAct op tells mid (Want 1 keys) new → Stays tells old mid → Stays tells mid new
     → ((ts : List Taken) → length ts < 2 ^ 64 - 1 → how_many is_join ts < 2 ^ 32 - 1 → IsCountOf t ts → IsCountOf u (ts ++ (Want 1 keys, message (world mid) (Want 1 keys)) ∷ []))
     → HasOpened op tells wanted n (replicate n (Join threads) ++ Want 1 wanted ∷ []) old new u
-want_on {J} {B} {F} op tells n threads wanted keys old mid new t u h few same first fit act before stays count =
+want_on op tells n threads wanted keys old mid new t u h few same act before stays count =
     subst (λ ks. HasOpened op tells ks n (replicate n (Join threads) ++ Want 1 ks ∷ []) old new u) same (record {
       going = act.going;
       opened = open_want act.some.0 (world mid) (world new) n keys h.opened act.some.1;
       count = let a = act.counted in let b = h.count in let l = length-append (replicate n (Join threads)) (Want 1 keys ∷ []) in omega (arith, a, b, l);
-      reaches = λ told. act.reached (before.tells told) (h.reaches told);
-      made = λ told. made_on op tells (replicate n (Join threads)) mid new t u (Want 1 keys) (before.tells told) (h.reaches told) (h.made told) act stays (let l = h.opened.last in omega (arith, l, few))
-          (want_may op tells old mid keys first before (subst (λ ks. AreWanted (key_count (setting old).shape) ks) (sym same) fit)) count;
+      all = λ told. counted_more op tells (replicate n (Join threads)) mid new t u (Want 1 keys) (h.all told) act stays (before.tells.1 told) (let l = h.opened.last in omega (arith, l, few)) count;
     })
 
 -- of two calls' promises
@@ -99,9 +81,8 @@ opening_goes op tells n threads old mid t h few e = let b = h.count in let c = l
 pub opening_is : {J B F : Type 0} (op : J → ℕ → List B → Option B) (s : State J B F) (g : Shape) (clients saturation : ℕ) → IsReady s → s.events ≡ 0 → cluster s ≡ opening_cluster (setting_of g clients saturation) (op s.job) → 1 ≤ clients → IsOpening op s
 opening_is {J} {B} {F} op s g clients saturation ready fresh h some = record {
   going = ready.going;
-  opening = h ∙ ap (λ (x : Setting). opening_cluster x (op s.job)) (sym same);
+  made = made_opening op s (h ∙ ap (λ (x : Setting). opening_cluster x (op s.job)) (sym same)) fresh;
   client = subst (λ (x : Setting). 1 ≤ x.clients) (sym same) some;
-  fresh = fresh;
 }
   where
     same : setting s ≡ setting_of g clients saturation

@@ -5,11 +5,11 @@ use Rattle.cluster_msgs.specs.declared.events.Event.{Event}
 use Rattle.cluster_rules.specs.Sched.{Setting}
 use Rattle.cluster_rules.specs.Draw.{Plan, Served, OutOfTurns, next, event_of, over}
 use Rattle.cluster_world.specs.declared.state.State.{State}
-use Rattle.cluster_world.specs.Worlds.{world, setting}
+use Rattle.cluster_world.specs.Worlds.{world, setting, running}
 use Rattle.cluster_rules.specs.Runs.{event_limit}
 use Rattle.cluster_sim.proofs.ActLemmas.{same_job}
 use Rattle.cluster_rules.specs.World.{Job}
-use Rattle.cluster_sim.specs.Acts.{Stays, running}
+use Rattle.cluster_sim.specs.Acts.{Stays}
 use Rattle.cluster_sim.specs.Drawn.{word_of}
 use Rattle.cluster_sim.specs.Simulations.{GoesOn}
 use Rattle.cluster_sim.specs.Standing.{sim_of, left}
@@ -28,7 +28,7 @@ pub drawn_failed : {J B F : Type 0} (op : J → ℕ → List B → Option B) (te
     → event_of (next (word_of number) p (sim_of p (world old) a.standing)) ≡ Some x → (e ≡ Turns → ⊥) → (e ≡ Spent → old.events ≡ event_limit) → DrawnTurn op tells p wanted number old new a b (Err e)
 drawn_failed op tells p wanted number old new a b Turns x d n f s = absurd (f refl)
 drawn_failed op tells p wanted number old new a b Feed x d n f s = tt
-drawn_failed op tells p wanted number old new a b Spent x d n f s = record { later = d.course.later; stands = sim_of p (world old) a.standing; drawn = d.course.drawn; legal = d.course.made.legal; count = d.course.made.count ∙ s refl; goes_on = (x, n) }
+drawn_failed op tells p wanted number old new a b Spent x d n f s = record { later = d.course.later; stands = sim_of p (world old) a.standing; drawn = d.course.drawn; legal = d.course.all.made.run.legal; count = d.course.all.made.count ∙ s refl; goes_on = (x, n) }
 drawn_failed op tells p wanted number old new a b OutOfMemory x d n f s = tt
 
 -- a turn that found the end, and what a play says then

@@ -17,8 +17,6 @@ use Rattle.cluster_rules.specs.WorldStep.{world_step}
 use Rattle.cluster_rules.specs.Enabled.{progress}
 use Rattle.cluster_rules.specs.Runs.{run_from, reached, Safe}
 use Rattle.cluster_rules.specs.Draw.{Plan, Sim, Next, Over, Scripted, Evicts, Balances, Spent, Drawn, OutOfTurns, over, over_by, opening_events, sim_from, scripted, evicts_now, balances_now, drawn, draw_one, turn, unscripted, next_by, next, event_of, moved, verdict, DrawsTo}
-use Rattle.run_report.specs.declared.tally.Tally.{Tally}
-use Rattle.cluster_sim.specs.Courses.{Course}
 use Rattle.cluster_sim.specs.Quiet.{QuietFrom, IsPastBound}
 use Rattle.cluster_sim.proofs.WorldKeeps.{world_keeps}
 use Rattle.cluster_sim.proofs.CourseLemmas.{run_more, moved_world}
@@ -265,21 +263,21 @@ settings_stay j w (e ∷ es) = settings_stay j (world_step j w e) es ∙ (world_
 
 -- ## Put together
 
-pub past_bound : (j : Job) (words : ℕ → ℕ) (p : Plan) (wanted : List ℕ) (s : Sim) (t : Tally) (n : ℕ) (c : Course j words p wanted s t n) → Safe j (opening_events p wanted ++ c.later) → 1 ≤ j.setting.clients → verdict s (next words p s) ≡ Some OutOfTurns
-    → (i : ℕ) → s.world.alive i ≡ true → is_connected s.world i ≡ true → IsPastBound j (opening_events p wanted ++ c.later)
-past_bound j words p wanted s t n c safe some v i alive linked = by_cause (why_spent words p s (spent_is s (next words p s) v))
+pub past_bound : (j : Job) (words : ℕ → ℕ) (p : Plan) (wanted : List ℕ) (s : Sim) (later : List Event) → DrawsTo j words p (sim_from p (reached j (opening_events p wanted))) later s → reached j (opening_events p wanted ++ later) ≡ s.world → Safe j (opening_events p wanted ++ later) → 1 ≤ j.setting.clients → verdict s (next words p s) ≡ Some OutOfTurns
+    → (i : ℕ) → s.world.alive i ≡ true → is_connected s.world i ≡ true → IsPastBound j (opening_events p wanted ++ later)
+past_bound j words p wanted s later draws led safe some v i alive linked = by_cause (why_spent words p s (spent_is s (next words p s) v))
   where
     all : List Event
-    all = opening_events p wanted ++ c.later
+    all = opening_events p wanted ++ later
 
     start : World
     start = run_from j (opening j) (opening_events p wanted)
 
-    tail : Tail j start c.later s
-    tail = tail_end j words p start c.later [] (sim_from p start) s (tail_start j p start) c.drawn
+    tail : Tail j start later s
+    tail = tail_end j words p start later [] (sim_from p start) s (tail_start j p start) draws
 
     here : s.world ≡ reached j all
-    here = sym c.made.reached
+    here = sym led
 
     client : (w : World) → w.sched.setting ≡ j.setting → (k : ℕ) → is_unfinished (w.clients 1) k ≡ true → unfinished w 1 k ≡ true
     client w e k u = and_from _ _ (and_from _ _ refl (le-leb 1 w.sched.setting.clients (subst (λ (x : Setting). 1 ≤ x.clients) (sym e) some))) u

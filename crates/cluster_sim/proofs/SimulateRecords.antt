@@ -11,10 +11,9 @@ use Rattle.cluster_rules.specs.Report.{Taken, taken, report}
 use Rattle.cluster_rules.specs.Draw.{Plan, Verdict, Served, OutOfTurns, opening_events, sim_from}
 use Rattle.run_report.specs.Counts.{IsCountOf}
 use Rattle.cluster_world.specs.declared.state.State.{State}
-use Rattle.cluster_world.specs.Worlds.{world, setting}
+use Rattle.cluster_world.specs.Worlds.{world, setting, running}
 use Rattle.quiet_bound.proofs.WorldBound.{setting-world}
-use Rattle.cluster_sim.specs.Acts.{Stays, running}
-use Rattle.cluster_sim.specs.Courses.{Course}
+use Rattle.cluster_sim.specs.Acts.{Stays}
 use Rattle.cluster_sim.specs.Drawn.{word_of, IsAtTurn}
 use Rattle.cluster_sim.specs.Plans.{IsPlan}
 use Rattle.cluster_sim.specs.Standing.{sim_of, IsStanding}
@@ -49,43 +48,49 @@ opened_between {J} {B} {F} op tells p wanted old new r b plan keys h stays is = 
 pub opened_drawn : {J B F : Type 0} (op : J → ℕ → List B → Option B) (tells : J → F → Type 0) (p : Plan) (wanted : List ℕ) (number : ℕ) (old new : State J B F) (r : Run) (b : ℕ)
     → HasOpened op tells wanted p.workers (opening_events p wanted) old new r.tally → Stays tells old new → r.standing ≡ first_standing b → b ≡ rest (world new) → IsAtTurn r.words number 0 → tells old.job old.feed → IsDrawn op tells p wanted number new r
 opened_drawn op tells p wanted number old new r b h stays is bound words told = record {
-  told = stays.tells told;
-  reached = h.reaches told;
+  told = stays.tells.1 told;
   words = subst (λ (s : Standing). IsAtTurn r.words number s.turns) (sym is) words;
-  course = course_start (running op new) (word_of number) p wanted (world new) (sim_of p (world new) r.standing) r.tally new.events (h.made told)
+  course = course_start op (word_of number) p wanted new (sim_of p (world new) r.standing) r.tally (h.all told)
       (ap (λ (s : Standing). sim_of p (world new) s) is ∙ first_sim p (world new) b bound);
 }
 
-there : {J B F : Type 0} (op : J → ℕ → List B → Option B) (tells : J → F → Type 0) (p : Plan) (wanted : List ℕ) (number : ℕ) (v : Verdict) (old new : State J B F) (r : Run) → Stays tells old new → HasPlayed op tells p wanted number v new r
-    → Course (running op old) (word_of number) p wanted (sim_of p (world new) r.standing) r.tally new.events
-there op tells p wanted number v old new r stays h = subst (λ (j : Job). Course j (word_of number) p wanted (sim_of p (world new) r.standing) r.tally new.events) (same_job op tells old new stays) h.drawn.course
+-- of what holds of each legal list of the job, as it was when it began
+still : {J B F : Type 0} (op : J → ℕ → List B → Option B) (tells : J → F → Type 0) (old new : State J B F) → Stays tells old new → ((es : List Event) → legal (running op old) es → Safe (running op old) es) → (es : List Event) → legal (running op new) es → Safe (running op new) es
+still op tells old new stays safe = subst (λ (j : Job). (es : List Event) → legal j es → Safe j es) (sym (same_job op tells old new stays)) safe
 
 -- its report, and that it is the simulation
 pub reported : {J B F : Type 0} (op : J → ℕ → List B → Option B) (tells : J → F → Type 0) (p : Plan) (wanted : List ℕ) (number : ℕ) (v : Verdict) (old new : State J B F) (r : Run) (made : Report) (g : Shape) → Stays tells old new → g ≡ (setting new).shape
     → ((es : List Taken) → IsCountOf r.tally es → made ≡ report g es) → ((es : List Event) → legal (running op old) es → Safe (running op old) es) → HasPlayed op tells p wanted number v new r → IsReported (running op old) (word_of number) p wanted v (world new) made
 reported op tells p wanted number v old new r made g stays shape count safe h =
-    let c = there op tells p wanted number v old new r stays h in record {
+    let c = h.drawn.course in
+    subst (λ (j : Job). IsReported j (word_of number) p wanted v (world new) made) (same_job op tells old new stays) (record {
       events = opening_events p wanted ++ c.later;
-      simulated = course_end (running op old) (word_of number) p wanted (sim_of p (world new) r.standing) r.tally new.events v c safe h.ends;
-      report = count _ c.made.counted ∙ ap (λ x. report x (taken (running op old) (opening (running op old)) (opening_events p wanted ++ c.later))) (shape ∙ ap (λ (s : Setting). s.shape) stays.setting);
-    }
+      simulated = course_end op (word_of number) p wanted (sim_of p (world new) r.standing) new r.tally v c (still op tells old new stays safe) h.ends;
+      report = count _ c.all.counted ∙ ap (λ x. report x (taken (running op new) (opening (running op new)) (opening_events p wanted ++ c.later))) shape;
+    })
 
 pub cut_off : {J B F : Type 0} (op : J → ℕ → List B → Option B) (tells : J → F → Type 0) (p : Plan) (wanted : List ℕ) (number : ℕ) (v : Verdict) (old new : State J B F) (r : Run) → Stays tells old new → ((es : List Event) → legal (running op old) es → Safe (running op old) es) → HasPlayed op tells p wanted number v new r
     → IsCut (running op old) (word_of number) p wanted v (world new)
 cut_off op tells p wanted number v old new r stays safe h =
-    let c = there op tells p wanted number v old new r stays h in record {
+    let c = h.drawn.course in
+    subst (λ (j : Job). IsCut j (word_of number) p wanted v (world new)) (same_job op tells old new stays) (record {
       events = opening_events p wanted ++ c.later;
-      simulated = course_end (running op old) (word_of number) p wanted (sim_of p (world new) r.standing) r.tally new.events v c safe h.ends;
-    }
+      simulated = course_end op (word_of number) p wanted (sim_of p (world new) r.standing) new r.tally v c (still op tells old new stays safe) h.ends;
+    })
 
 -- no turn was left
 pub exhausted_by : {J B F : Type 0} (op : J → ℕ → List B → Option B) (tells : J → F → Type 0) (p : Plan) (wanted : List ℕ) (number : ℕ) (old new : State J B F) (r : Run) → Stays tells old new → ((es : List Event) → legal (running op old) es → Safe (running op old) es) → 1 ≤ (setting old).clients → HasPlayed op tells p wanted number OutOfTurns new r
     → IsExhausted (running op old) (word_of number) p wanted (world new)
-unfolding cut_off
-exhausted_by op tells p wanted number old new r stays safe some h = record {
-  cut = cut_off op tells p wanted number OutOfTurns old new r stays safe h;
-  past = λ i a c. past_bound (running op old) (word_of number) p wanted (sim_of p (world new) r.standing) r.tally new.events (there op tells p wanted number OutOfTurns old new r stays h) (safe _ (there op tells p wanted number OutOfTurns old new r stays h).made.legal) some h.ends i a c;
-}
+exhausted_by op tells p wanted number old new r stays safe some h =
+    let c = h.drawn.course in
+    let sure = still op tells old new stays safe in
+    subst (λ (j : Job). IsExhausted j (word_of number) p wanted (world new)) (same_job op tells old new stays) (record {
+      cut = record {
+        events = opening_events p wanted ++ c.later;
+        simulated = course_end op (word_of number) p wanted (sim_of p (world new) r.standing) new r.tally OutOfTurns c sure h.ends;
+      };
+      past = λ i a l. past_bound (running op new) (word_of number) p wanted (sim_of p (world new) r.standing) c.later c.drawn c.all.made.run.reached (sure _ c.all.made.run.legal) (subst (λ (s : Setting). 1 ≤ s.clients) (sym stays.setting) some) h.ends i a l;
+    })
 
 pub unfinished_by : (j : Job) (words : ℕ → ℕ) (p : Plan) (wanted : List ℕ) (many : ℕ) → ((es : List Event) → legal j es → Safe j es) → GoesOn j words p wanted many → IsUnfinished j words p wanted many
 unfinished_by j words p wanted many safe h = record { made = h; safe = safe (opening_events p wanted ++ h.later) h.legal }

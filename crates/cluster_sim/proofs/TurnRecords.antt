@@ -3,18 +3,17 @@ use Rattle.std.proofs.Common.{◌≡◌, ℕ, ◌+◌, ◌-◌, ◌^◌, ◌≤�
 use Rattle.cluster_msgs.specs.Shape.{key_count}
 use Rattle.cluster_msgs.specs.declared.events.Event.{Event}
 use Rattle.cluster_rules.specs.Sched.{Setting}
-use Rattle.cluster_rules.specs.World.{Job, World as Cluster, rest, shape_of}
+use Rattle.cluster_rules.specs.World.{World as Cluster, rest, shape_of}
 use Rattle.cluster_rules.specs.WorldStep.{world_step}
 use Rattle.cluster_rules.specs.Enabled.{message}
 use Rattle.cluster_rules.specs.Report.{Taken, is_join, how_many}
 use Rattle.cluster_rules.specs.Draw.{Plan, next, event_of, moved, over}
 use Rattle.run_report.specs.Counts.{IsCountOf}
 use Rattle.cluster_world.specs.declared.state.State.{State}
-use Rattle.cluster_world.specs.Worlds.{world, setting}
+use Rattle.cluster_world.specs.Worlds.{world, setting, running}
 use Rattle.cluster_rules.specs.Runs.{event_limit}
 use Rattle.quiet_bound.proofs.WorldBound.{setting-world}
-use Rattle.cluster_sim.specs.Acts.{Stays, IsAct, running}
-use Rattle.cluster_sim.specs.Courses.{Course}
+use Rattle.cluster_sim.specs.Acts.{Stays, IsAct}
 use Rattle.cluster_sim.specs.Drawn.{word_of, IsAtTurn}
 use Rattle.cluster_sim.specs.Plans.{IsPlan}
 use Rattle.cluster_sim.specs.Standing.{sim_of, made_by, IsStanding, left}
@@ -24,7 +23,6 @@ use Rattle.cluster_sim.specs.declared.standing.Standing.{Standing}
 use Rattle.cluster_sim.specs.declared.choice.Kind.{Kind}
 use Rattle.cluster_sim.specs.declared.choice.Kind.TheVariants as kind
 use Rattle.cluster_sim.specs.declared.run.Run.{Run}
-use Rattle.cluster_sim.proofs.ActLemmas.{same_job}
 use Rattle.cluster_sim.proofs.CourseLemmas.{course_more}
 use Rattle.cluster_sim.proofs.NextLemmas.{MayCome, made_waits}
 use Rattle.cluster_sim.proofs.TurnLemmas.{event_made, moved_after, turns_after, falls_after, may_come, standing_after}
@@ -76,22 +74,16 @@ pub has_drawn : {J B F : Type 0} (op : J → ℕ → List B → Option B) (tells
     → ((ts : List Taken) → length ts < 2 ^ 64 - 1 → how_many is_join ts < 2 ^ 32 - 1 → IsCountOf a.tally ts → IsCountOf b.tally (ts ++ (e, message (world old) e) ∷ []))
     → IsDrawn op tells p wanted number old a → IsDrawn op tells p wanted number new b
 has_drawn {J} {B} {F} op tells p wanted number old new a b e k word budget h act stays at bound is words counted d = record {
-  told = stays.tells d.told;
-  reached = act.reached d.told d.reached;
+  told = stays.tells.1 d.told;
   words = words d.words;
-  course = subst (λ (n : ℕ). Course (running op new) (word_of number) p wanted (sim_of p (world new) b.standing) b.tally n) (sym act.counted)
-      (subst (λ (j : Job). Course j (word_of number) p wanted (sim_of p (world new) b.standing) b.tally (old.events + 1)) (sym (same_job op tells old new stays))
-      (course_more (running op old) (word_of number) p wanted (sim_of p (world old) a.standing) (sim_of p (world new) b.standing) a.tally b.tally old.events e d.course act.room few come.enabled chosen moves counted));
+  course = course_more op tells (word_of number) p wanted (sim_of p (world old) a.standing) (sim_of p (world new) b.standing) old new a.tally b.tally e d.course act stays d.told few chosen moves counted;
 }
   where
-    come : MayCome (world old) e (drop a.standing.passed p.script) (drop (after a.standing k 0).passed p.script)
-    come = chosen_comes p wanted old a e k word h
-
     few : (world old).sched.last_worker ≤ 128
     few = let n = h.between.standing.joins in omega (arith, n)
 
     to : world new ≡ world_step (running op old) (world old) e
-    to = act.exact d.told d.reached
+    to = act.exact d.told
 
     same : made_by p.script e k ≡ next (word_of number) p (sim_of p (world old) a.standing)
     same = next_drawn p wanted number old a e k word h at d.words

@@ -1,15 +1,14 @@
 -- What an event makes of a world that is simulated.
-use Rattle.std.specs.Prelude.{◌≡◌, ℕ, ◌+◌, ◌<◌, List, Option, Result, Ok, Err}
+use Rattle.std.specs.Prelude.{◌≡◌, ◌↔◌, ℕ, ◌+◌, ◌<◌, List, [], ◌∷◌, ◌++◌, Option, Result, Ok, Err}
 use Rattle.cluster_msgs.specs.Jobs.{Rose}
 use Rattle.cluster_msgs.specs.declared.events.Event.{Event}
 use Rattle.cluster_rules.specs.World.{Job}
 use Rattle.cluster_rules.specs.WorldStep.{world_step}
-use Rattle.cluster_laws.specs.Blocks.{job_of}
 use Rattle.cluster_world.specs.declared.state.State.{State}
 use Rattle.cluster_world.specs.declared.state.Course.TheVariants.{Going}
 use Rattle.cluster_world.specs.declared.errors.StepError.{StepError}
 use Rattle.cluster_world.specs.declared.errors.StepError.TheVariants as step
-use Rattle.cluster_world.specs.Worlds.{cluster, world, setting, IsReached}
+use Rattle.cluster_world.specs.Worlds.{world, setting, running, IsMadeBy}
 use Rattle.cluster_rules.specs.Runs.{event_limit}
 use Rattle.cluster_sim.specs.declared.act.SimError.{SimError}
 use Rattle.cluster_sim.specs.declared.act.SimError.TheVariants.{Turns, Feed, Spent, OutOfMemory}
@@ -37,15 +36,11 @@ cause step.Feed = Feed
 cause step.Spent = Spent
 cause step.OutOfMemory = OutOfMemory
 
--- the world keeps its job, and its feed still tells what it holds where it did
+-- the world keeps its job, and its feed tells what it holds exactly where it did
 pub record Stays {J B F : Type 0} (knows : J → F → Type 0) (old new : State J B F) : Type 0 where
   pub job : new.job ≡ old.job
   pub setting : setting new ≡ setting old
-  pub tells : knows old.job old.feed → knows new.job new.feed
-
--- the job that a world runs
-abbrev pub running : {J B F : Type 0} → (J → ℕ → List B → Option B) → State J B F → Job
-running op s = job_of (setting s) (op s.job)
+  pub tells : knows new.job new.feed ↔ knows old.job old.feed
 
 -- the world took an event: by some outcome, and where its feed tells what it holds, by that of the definition
 pub record IsAct {J B F : Type 0} (op : J → ℕ → List B → Option B) (tells : J → F → Type 0) (old : State J B F) (e : Event) (new : State J B F) : Type 0 where
@@ -53,5 +48,5 @@ pub record IsAct {J B F : Type 0} (op : J → ℕ → List B → Option B) (tell
   pub room : old.events < event_limit
   pub counted : new.events ≡ old.events + 1
   pub some : (j : Job) × (world new ≡ world_step j (world old) e)
-  pub exact : tells old.job old.feed → IsReached (setting old) (op old.job) (cluster old) → world new ≡ world_step (running op old) (world old) e
-  pub reached : tells old.job old.feed → IsReached (setting old) (op old.job) (cluster old) → IsReached (setting new) (op new.job) (cluster new)
+  pub exact : tells old.job old.feed → world new ≡ world_step (running op old) (world old) e
+  pub made : tells old.job old.feed → (es : List Event) → IsMadeBy op es old → IsMadeBy op (es ++ e ∷ []) new

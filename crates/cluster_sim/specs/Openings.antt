@@ -1,24 +1,21 @@
 -- A world in which a simulation may begin.
-use Rattle.std.specs.Prelude.{◌≡◌, ℕ, ◌≤◌, ◌<◌, true, List, length, Option, None}
+use Rattle.std.specs.Prelude.{◌≡◌, ℕ, ◌≤◌, ◌<◌, true, List, [], length, Option, None}
 use Rattle.cluster_msgs.specs.declared.events.Event.{Event}
 use Rattle.cluster_rules.specs.Derived.{is_in}
 use Rattle.cluster_rules.specs.World.{World as Cluster, shape_of}
 use Rattle.cluster_rules.specs.Worker.{has_any}
-use Rattle.cluster_laws.specs.Blocks.{opening_cluster}
 use Rattle.cluster_world.specs.declared.state.State.{State}
 use Rattle.cluster_world.specs.declared.state.Course.TheVariants.{Going}
-use Rattle.cluster_world.specs.Worlds.{cluster, world, setting, IsReached}
+use Rattle.cluster_world.specs.Worlds.{world, setting, IsMadeBy}
 use Rattle.run_report.specs.declared.tally.Tally.{Tally}
-use Rattle.cluster_sim.specs.Acts.{running}
-use Rattle.cluster_sim.specs.Courses.{IsMade}
+use Rattle.cluster_sim.specs.Courses.{IsCounted}
 use Rattle.cluster_sim.specs.Standing.{IsFor}
 
--- it goes on, took no event, and is an opening world with a client
+-- it goes on, no event made it, and it has a client
 pub record IsOpening {J B F : Type 0} (op : J → ℕ → List B → Option B) (s : State J B F) : Type 0 where
   pub going : s.course ≡ Going
-  pub opening : cluster s ≡ opening_cluster (setting s) (op s.job)
+  pub made : IsMadeBy op [] s
   pub client : 1 ≤ (setting s).clients
-  pub fresh : s.events ≡ 0
 
 -- some keys, all of the graph
 pub record AreWanted (count : ℕ) (wanted : List ℕ) : Type 0 where
@@ -37,5 +34,4 @@ pub record HasOpened {J B F : Type 0} (op : J → ℕ → List B → Option B) (
   pub going : new.course ≡ Going
   pub opened : IsOpen wanted workers (world new)
   pub count : new.events ≡ length es
-  pub reaches : tells old.job old.feed → IsReached (setting new) (op new.job) (cluster new)
-  pub made : tells old.job old.feed → IsMade (running op new) es (world new) t new.events
+  pub all : tells old.job old.feed → IsCounted op es new t

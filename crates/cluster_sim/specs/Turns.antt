@@ -4,9 +4,8 @@ use Rattle.cluster_msgs.specs.Shape.{key_count}
 use Rattle.cluster_rules.specs.Draw.{Plan, Verdict, Served, OutOfTurns, next, over, verdict}
 use Rattle.cluster_world.specs.declared.state.State.{State}
 use Rattle.cluster_world.specs.declared.state.Course.TheVariants.{Going}
-use Rattle.cluster_world.specs.Worlds.{cluster, world, setting, IsReached}
+use Rattle.cluster_world.specs.Worlds.{world, setting, running}
 use Rattle.cluster_rules.specs.Runs.{event_limit}
-use Rattle.cluster_sim.specs.Acts.{running}
 use Rattle.cluster_sim.specs.Drawn.{word_of, IsAtTurn}
 use Rattle.cluster_sim.specs.Standing.{sim_of, IsStanding, left}
 use Rattle.cluster_sim.specs.Courses.{Course}
@@ -25,9 +24,8 @@ pub record IsBetween {J B F : Type 0} (p : Plan) (wanted : List ℕ) (s : State 
 -- what it is by a feed that tells what it holds: its events so far are those that the number draws
 pub record IsDrawn {J B F : Type 0} (op : J → ℕ → List B → Option B) (tells : J → F → Type 0) (p : Plan) (wanted : List ℕ) (number : ℕ) (s : State J B F) (r : Run) : Type 0 where
   pub told : tells s.job s.feed
-  pub reached : IsReached (setting s) (op s.job) (cluster s)
   pub words : IsAtTurn r.words number r.standing.turns
-  pub course : Course (running op s) (word_of number) p wanted (sim_of p (world s) r.standing) r.tally s.events
+  pub course : Course op (word_of number) p wanted (sim_of p (world s) r.standing) s r.tally
 
 -- the rules end a simulation that stands so
 abbrev pub EndsBy : {J B F : Type 0} → Plan → ℕ → State J B F → Run → Verdict → Type 0

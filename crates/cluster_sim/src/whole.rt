@@ -3,9 +3,10 @@ ghost use Rattle.std.specs.Prelude.{◌≡◌, ◌↔◌, ℕ, None, Err, IfOk, 
 ghost use Rattle.cluster_msgs.specs.Shape.{key_count, deps_of};
 ghost use Rattle.cluster_msgs.specs.Values.{val};
 ghost use Rattle.cluster_rules.specs.Draw.{Served, over};
-ghost use Rattle.cluster_world.specs.Worlds.{cluster, world as world_of, setting, IsReached};
+ghost use Rattle.cluster_world.specs.Worlds.{world as world_of, setting, running, IsMade};
+ghost use Rattle.cluster_world.specs.declared.state.Course.TheVariants.{Going};
 ghost use Rattle.cluster_rules.specs.Runs.{event_limit};
-ghost use Rattle.cluster_sim.specs.Acts.{CountsSim, Stays, running};
+ghost use Rattle.cluster_sim.specs.Acts.{CountsSim, Stays};
 ghost use Rattle.cluster_sim.specs.Drawn.{word_of};
 ghost use Rattle.cluster_sim.specs.Plans.{plan_of, IsPlan};
 ghost use Rattle.cluster_sim.specs.Openings.{IsOpening, AreWanted};
@@ -63,7 +64,8 @@ pub fn simulate<J: JobSpec>(
     ensures turns { result ≡ Err SimError.Turns → J.feed_tells world.old.job world.old.feed →
         IsExhausted (running J.operation world.old) (word_of number) (plan_of plan.now) wanted.now (world_of world.new) }
 
-    ensures reached { OnOk result (J.feed_tells world.old.job world.old.feed → IsReached (setting world.new) (J.operation world.new.job) (cluster world.new)) }
+    ensures made { OnOk result (J.feed_tells world.old.job world.old.feed → IsMade J.operation world.new) }
+    ensures going { OnOk result (world.new.course ≡ Going) }
 
     // A failure names a needed key at fault, and comes exactly where the client hasn't got all.
     ensures all { IfOk result (λ end. (end.zero ≡ None) ↔ HasAll (world_of world.new) wanted.now) }

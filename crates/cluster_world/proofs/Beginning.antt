@@ -10,9 +10,10 @@ use Rattle.cluster_nodes.specs.Nodes.{cluster_of}
 use Rattle.cluster_laws.specs.Blocks.{setting_of, opening_cluster, no_blocks}
 use Rattle.cluster_world.specs.declared.state.State.{State}
 use Rattle.cluster_world.specs.declared.state.Course.TheVariants.{Going}
-use Rattle.cluster_world.specs.Worlds.{cluster, setting, IsReady, IsReached}
+use Rattle.cluster_world.specs.Worlds.{cluster, setting, IsReady, IsMadeBy}
 use Rattle.cluster_world.specs.Kept.{CoresTookFew, IsWorld}
 use Rattle.cluster_world.specs.Begun.{IsBegun}
+use Rattle.cluster_world.proofs.Making.{made_opening}
 use Rattle.cluster_world.proofs.Whole.{whole_opening}
 
 module _ {J B F : Type 0} (job : J) (feed : F) (g : Shape) (clients saturation : ℕ) (s : State J B F) (h : IsBegun job feed g clients saturation s) where
@@ -25,15 +26,15 @@ module _ {J B F : Type 0} (job : J) (feed : F) (g : Shape) (clients saturation :
   from_here : (op : ℕ → List B → Option B) → cluster s ≡ opening_cluster (setting s) op
   from_here op = begun_cluster op ∙ ap (λ (z : Setting). opening_cluster z op) (sym same_setting)
 
-  pub begun_reached : (op : ℕ → List B → Option B) → IsReached (setting s) op (cluster s)
-  begun_reached op = record { events = []; legal = tt; run = sym (from_here op) }
+  pub begun_made : (op : J → ℕ → List B → Option B) → IsMadeBy op [] s
+  begun_made op = made_opening op s (from_here (op s.job)) h.events
 
   pub begun_ready : IsReady s
   begun_ready = record { going = h.course; room = let e = h.events in omega (arith, e) }
 
-  pub begun_world : (graph : J → Shape) (key_dims : J → ℕ → List ℕ) (block_dims : B → List ℕ) (feed_fits : J → F → Type 0)
-      → g ≡ graph job → IsShape (graph job) → feed_fits job feed → IsWorld graph key_dims block_dims feed_fits s
-  begun_world graph key_dims block_dims feed_fits e low fits =
+  pub begun_world : (graph : J → Shape) (key_dims : J → ℕ → List ℕ) (block_dims : B → List ℕ) (operation : J → ℕ → List B → Option B) (feed_fits feed_tells : J → F → Type 0)
+      → g ≡ graph job → IsShape (graph job) → feed_fits job feed → IsWorld graph key_dims block_dims operation feed_fits feed_tells s
+  begun_world graph key_dims block_dims operation feed_fits feed_tells e low fits =
       let shape : (setting s).shape ≡ graph s.job = ap (λ (z : Setting). z.shape) same_setting ∙ e ∙ ap graph (sym h.job_is) in
       let here : IsShape (graph s.job) = subst (λ (j : J). IsShape (graph j)) (sym h.job_is) low in
       let counted : s.clients ≡ (setting s).clients = h.counted ∙ ap (λ (z : Setting). z.clients) (sym same_setting) in
@@ -46,6 +47,7 @@ module _ {J B F : Type 0} (job : J) (feed : F) (g : Shape) (clients saturation :
         whole = λ n. whole_opening graph key_dims block_dims s (λ k bs. None) (from_here (λ k bs. None)) here shape h.nodes
             (h.nodes_shape ∙ ap (λ (z : Setting). z.shape) (sym same_setting)) (h.workers ∙ ap (λ (f : Facts). f.last_worker + 1) (sym h.sched))
             (h.clients_there ∙ ap (λ (z : Setting). z.clients + 1) (sym same_setting)) counted (subst (λ n. CoresTookFew n s) (sym h.events) h.few);
+        made = λ t. record { events = []; made = begun_made operation };
       }
 
 -- of its parts

@@ -3,7 +3,7 @@ pub mod Rows
 pub mod Gathers
 pub mod Numbers
 pub mod Stocking
-pub mod Reaching
+pub mod Making
 pub mod Letters
 pub mod Settings
 pub mod Orderliness

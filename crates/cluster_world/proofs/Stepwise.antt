@@ -1,9 +1,10 @@
 -- A step of a world: taken, refused, spent, or stopped before.
 use Rattle.std.proofs.Common.{◌≡◌, ℕ, Bool, true, false, List, Option, Result, Ok, Err, OnOk, refl, sym, ◌∙◌, subst, arith}
+use Rattle.std.specs.Prelude.{◌↔◌}
 use Rattle.std.proofs.lemmas.Bool.{true≢false}
 use Rattle.cluster_msgs.specs.Shape.{IsShape}
 use Rattle.cluster_msgs.specs.declared.events.Event.{Event}
-use Rattle.cluster_rules.specs.Sched.{Setting, IsSound}
+use Rattle.cluster_rules.specs.Sched.{IsSound}
 use Rattle.cluster_rules.specs.World.{Job, World, shape_of}
 use Rattle.cluster_rules.specs.WorldStep.{world_step}
 use Rattle.cluster_rules.specs.Enabled.{enabled}
@@ -17,11 +18,11 @@ use Rattle.cluster_world.specs.Orderly.{IsOrderly}
 use Rattle.cluster_world.specs.declared.state.Course.TheVariants.{Going, Fed, Starved}
 use Rattle.cluster_world.specs.declared.errors.StepError.{StepError}
 use Rattle.cluster_world.specs.declared.errors.StepError.TheVariants.{NotEnabled, Stopped, Feed, Spent, OutOfMemory}
-use Rattle.cluster_world.specs.Worlds.{cluster, world, setting, IsReady, IsReached}
+use Rattle.cluster_world.specs.Worlds.{cluster, world, setting, IsReady, IsMade}
 use Rattle.cluster_rules.specs.Runs.{event_limit}
 use Rattle.cluster_world.specs.Steps.{Advances, CountsStep}
 use Rattle.cluster_world.specs.Taken.{IsStep}
-use Rattle.cluster_world.proofs.Advancing.{world_taken, cluster_taken, goes_on, counted, taken_by_values, taken_reached, not_refused, not_spent, not_stopped, fed, fed_stays, starved}
+use Rattle.cluster_world.proofs.Advancing.{world_taken, cluster_taken, goes_on, counted, taken_by_values, taken_made, fed_made, not_refused, not_spent, not_stopped, fed, fed_stays, starved}
 
 -- two errors are never one, and no two courses
 other_error : (P : Type 0) (x y : StepError) → (x ≡ y → ⊥) → ◌≡◌ {A = Result (Unit {0}) StepError} (Err x) (Err y) → P
@@ -110,11 +111,11 @@ module _ {J B F : Type 0} (operation : J → ℕ → List B → Option B) (feed_
     goes = tt;
     events = tt;
     by_values = tt;
-    reached = tt;
+    made = tt;
     attempts = tt;
     job = refl;
     setting = refl;
-    tells = λ t. t;
+    tells = (λ t. t, λ t. t);
     faults = refl;
     not_enabled = (λ h. (ready, off), λ h. refl);
     not_enabled_stays = λ h. refl;
@@ -124,6 +125,7 @@ module _ {J B F : Type 0} (operation : J → ℕ → List B → Option B) (feed_
     stopped_stays = λ h. refl;
     feed = λ h. other_error _ NotEnabled Feed ne_fe h;
     feed_stays = λ h. refl;
+    feed_made = λ h es m. m;
     memory = λ h. other_error _ NotEnabled OutOfMemory ne_om h;
     starved = λ h. absurd (going_starved (sym ready.going ∙ h));
   }
@@ -138,11 +140,11 @@ module _ {J B F : Type 0} (operation : J → ℕ → List B → Option B) (feed_
     goes = tt;
     events = tt;
     by_values = tt;
-    reached = tt;
+    made = tt;
     attempts = tt;
     job = refl;
     setting = refl;
-    tells = λ t. t;
+    tells = (λ t. t, λ t. t);
     faults = refl;
     not_enabled = (λ h. other_error _ Spent NotEnabled sp_ne h, λ h. let r = h.0.room in absurd (omega (arith, r, all)));
     not_enabled_stays = λ h. refl;
@@ -152,6 +154,7 @@ module _ {J B F : Type 0} (operation : J → ℕ → List B → Option B) (feed_
     stopped_stays = λ h. refl;
     feed = λ h. other_error _ Spent Feed sp_fe h;
     feed_stays = λ h. refl;
+    feed_made = λ h es m. m;
     memory = λ h. other_error _ Spent OutOfMemory sp_om h;
     starved = λ h. absurd (going_starved (sym going ∙ h));
   }
@@ -166,11 +169,11 @@ module _ {J B F : Type 0} (operation : J → ℕ → List B → Option B) (feed_
     goes = tt;
     events = tt;
     by_values = tt;
-    reached = tt;
+    made = tt;
     attempts = tt;
     job = refl;
     setting = refl;
-    tells = λ t. t;
+    tells = (λ t. t, λ t. t);
     faults = refl;
     not_enabled = (λ h. other_error _ Stopped NotEnabled st_ne h, λ h. absurd (fed_going (sym at ∙ h.0.going)));
     not_enabled_stays = λ h. refl;
@@ -180,6 +183,7 @@ module _ {J B F : Type 0} (operation : J → ℕ → List B → Option B) (feed_
     stopped_stays = λ h. refl;
     feed = λ h. other_error _ Stopped Feed st_fe h;
     feed_stays = λ h. refl;
+    feed_made = λ h es m. m;
     memory = λ h. other_error _ Stopped OutOfMemory st_om h;
     starved = λ h. absurd (fed_starved (sym at ∙ h));
   }
@@ -194,11 +198,11 @@ module _ {J B F : Type 0} (operation : J → ℕ → List B → Option B) (feed_
     goes = tt;
     events = tt;
     by_values = tt;
-    reached = tt;
+    made = tt;
     attempts = tt;
     job = refl;
     setting = refl;
-    tells = λ t. t;
+    tells = (λ t. t, λ t. t);
     faults = refl;
     not_enabled = (λ h. other_error _ OutOfMemory NotEnabled om_ne h, λ h. absurd (starved_going (sym at ∙ h.0.going)));
     not_enabled_stays = λ h. refl;
@@ -208,6 +212,7 @@ module _ {J B F : Type 0} (operation : J → ℕ → List B → Option B) (feed_
     stopped_stays = λ h. refl;
     feed = λ h. other_error _ OutOfMemory Feed om_fe h;
     feed_stays = λ h. refl;
+    feed_made = λ h es m. m;
     memory = λ h. at;
     starved = λ h. refl;
   }
@@ -220,20 +225,20 @@ ends_for_a_cause e s orderly sound t j = world_attempts_end (shape_of (world s))
 -- taken, or stopped in this call
 pub step_taken : {J B F : Type 0} (operation : J → ℕ → List B → Option B) (feed_tells : J → F → Type 0) (fault_count : F → ℕ) (Fits : J → ℕ → B → Type 0) (e : Event) (r : Result (Unit {0}) StepError) (old new : State J B F)
     → IsReady old → enabled (world old) e ≡ true → IsShape (setting old).shape → ((j : Job) → AttemptsEnd (world old) e (world_step j (world old) e)) → Advances (Fits old.job) (feed_tells old.job old.feed) (operation old.job) e r old new
-    → new.job ≡ old.job → setting new ≡ setting old → (feed_tells old.job old.feed → feed_tells old.job new.feed) → CountsStep r (fault_count old.feed) (fault_count new.feed) → IsStep operation feed_tells fault_count e r old new
-step_taken {J} {B} {F} operation feed_tells fault_count Fits e r old new ready possible low ends a job set tells faults = record {
+    → (feed_tells old.job old.feed → IsMade operation old) → new.job ≡ old.job → setting new ≡ setting old → (feed_tells old.job new.feed ↔ feed_tells old.job old.feed) → CountsStep r (fault_count old.feed) (fault_count new.feed) → IsStep operation feed_tells fault_count e r old new
+step_taken {J} {B} {F} operation feed_tells fault_count Fits e r old new ready possible low ends a made job set tells faults = record {
   ready = by r ready;
   possible = by r possible;
   world = world_taken (Fits old.job) (feed_tells old.job old.feed) (operation old.job) e old new r a;
   cluster = cluster_taken (Fits old.job) (feed_tells old.job old.feed) (operation old.job) e old new r a;
   goes = goes_on (Fits old.job) (feed_tells old.job old.feed) (operation old.job) e old new r a;
   events = counted (Fits old.job) (feed_tells old.job old.feed) (operation old.job) e old new r a;
-  by_values = taken_by_values (Fits old.job) (feed_tells old.job old.feed) (operation old.job) e old new r a (setting old) low possible;
-  reached = moved r (taken_reached (Fits old.job) (feed_tells old.job old.feed) (operation old.job) e old new r a (setting old) low possible);
+  by_values = taken_by_values (Fits old.job) (feed_tells old.job old.feed) operation e old new r a low possible made;
+  made = taken_made (Fits old.job) (feed_tells old.job old.feed) operation e old new r a low possible ready.room job set;
   attempts = ended r (world_taken (Fits old.job) (feed_tells old.job old.feed) (operation old.job) e old new r a);
   job = job;
   setting = set;
-  tells = λ t. subst (λ j. feed_tells j new.feed) (sym job) (tells t);
+  tells = (λ t. tells.0 (subst (λ j. feed_tells j new.feed) job t), λ t. subst (λ j. feed_tells j new.feed) (sym job) (tells.1 t));
   faults = faults;
   not_enabled = (λ h. not_refused (Fits old.job) (feed_tells old.job old.feed) (operation old.job) e old new r a _ h, λ h. absurd (true≢false (sym possible ∙ h.1)));
   not_enabled_stays = λ h. not_refused (Fits old.job) (feed_tells old.job old.feed) (operation old.job) e old new r a _ h;
@@ -243,6 +248,7 @@ step_taken {J} {B} {F} operation feed_tells fault_count Fits e r old new ready p
   stopped_stays = λ h. not_stopped (Fits old.job) (feed_tells old.job old.feed) (operation old.job) e old new r a _ h;
   feed = fed (Fits old.job) (feed_tells old.job old.feed) (operation old.job) e old new r a;
   feed_stays = fed_stays (Fits old.job) (feed_tells old.job old.feed) (operation old.job) e old new r a;
+  feed_made = fed_made (Fits old.job) (feed_tells old.job old.feed) operation e old new r a low possible;
   memory = starved (Fits old.job) (feed_tells old.job old.feed) (operation old.job) e old new r a;
   starved = λ h. absurd (going_starved (sym ready.going ∙ h));
 }
@@ -254,8 +260,3 @@ step_taken {J} {B} {F} operation feed_tells fault_count Fits e r old new ready p
     ended : (q : Result (Unit {0}) StepError) → OnOk q ((met : Bool) × (world new ≡ world_after met (world old) e)) → OnOk q (AttemptsEnd (world old) e (world new))
     ended (Ok x) h = subst (λ (v : World). AttemptsEnd (world old) e v) (sym h.1) (ends (record { setting = (world old).sched.setting; zero = λ k. h.0 }))
     ended (Err x) h = tt
-
-    moved : (q : Result (Unit {0}) StepError) → OnOk q (feed_tells old.job old.feed → IsReached (setting old) (operation old.job) (cluster old) → IsReached (setting old) (operation old.job) (cluster new))
-        → OnOk q (feed_tells old.job old.feed → IsReached (setting old) (operation old.job) (cluster old) → IsReached (setting new) (operation new.job) (cluster new))
-    moved (Ok x) h = λ t p. subst (λ (z : Setting). IsReached z (operation new.job) (cluster new)) (sym set) (subst (λ (j : J). IsReached (setting old) (operation j) (cluster new)) (sym job) (h t p))
-    moved (Err x) h = tt

@@ -8,7 +8,7 @@ use Rattle.scheduler_core.specs.Cores.{facts}
 use Rattle.cluster_laws.specs.Blocks.{Delivery, Blocks, Cluster}
 use Rattle.cluster_world.specs.declared.state.State.{State}
 use Rattle.cluster_world.specs.declared.state.Course.TheVariants.{Starved}
-use Rattle.cluster_world.specs.Worlds.{cluster, world, setting}
+use Rattle.cluster_world.specs.Worlds.{cluster, world, setting, IsMade, IsTelling}
 use Rattle.cluster_rules.specs.Runs.{event_limit}
 use Rattle.cluster_world.specs.Orderly.{IsOrderly}
 
@@ -64,14 +64,16 @@ pub record IsWhole {J B F : Type 0} (graph : J → Shape) (key_dims : J → ℕ 
   pub shape : (setting s).shape ≡ graph s.job
   pub stocked : IsStocked (LengthsFit key_dims block_dims s.job) (deps_of (graph s.job)) (cluster s)
 
--- what holds of each world: it is whole but for want of memory
-pub record IsWorld {J B F : Type 0} (graph : J → Shape) (key_dims : J → ℕ → List ℕ) (block_dims : B → List ℕ) (feed_fits : J → F → Type 0) (s : State J B F) : Type 0 where
+-- What holds of each world: it is whole but for want of memory, and where its feed tells what it holds, legal events made it. A feed tells after an
+-- event exactly where it did before, so there is no world whose feed began to tell.
+pub record IsWorld {J B F : Type 0} (graph : J → Shape) (key_dims : J → ℕ → List ℕ) (block_dims : B → List ℕ) (operation : J → ℕ → List B → Option B) (feed_fits feed_tells : J → F → Type 0) (s : State J B F) : Type 0 where
   pub feed : feed_fits s.job s.feed
   pub few : s.events ≤ event_limit
   pub low : IsShape (graph s.job)
   pub shape : (setting s).shape ≡ graph s.job
   pub clients : s.clients ≡ (setting s).clients
   pub whole : s.course ≢ Starved → IsWhole graph key_dims block_dims s
+  pub made : IsTelling feed_tells s → IsMade operation s
 
 -- what no event changes
 pub record IsSame {J B F : Type 0} (old new : State J B F) : Type 0 where

@@ -1,5 +1,5 @@
 //! One event that is enabled: each row of the table of events.
-ghost use Rattle.std.specs.Prelude.{◌≡◌, ◌<◌, ◌≤◌, ◌==◌, ℕ, [], None, true, IfOk, OnOk, cond, is_none};
+ghost use Rattle.std.specs.Prelude.{◌≡◌, ◌↔◌, ◌<◌, ◌≤◌, ◌==◌, ℕ, [], None, true, IfOk, OnOk, cond, is_none};
 ghost use Rattle.cluster_msgs.specs.Jobs.{blocks_of, value_of};
 ghost use Rattle.cluster_msgs.specs.declared.events.Event.TheVariants as event;
 ghost use Rattle.cluster_rules.specs.Enabled.{enabled};
@@ -38,7 +38,7 @@ pub fn advance<J: JobSpec>(
     ensures setting { setting state.new ≡ setting state.old }
     ensures few { state.new.events ≤ event_limit }
     ensures fits { J.feed_fits state.old.job state.new.feed }
-    ensures tells { J.feed_tells state.old.job state.old.feed → J.feed_tells state.old.job state.new.feed }
+    ensures tells { J.feed_tells state.old.job state.new.feed ↔ J.feed_tells state.old.job state.old.feed }
     ensures faults { CountsStep result (J.fault_count state.old.feed) (J.fault_count state.new.feed) }
 {
     match perform(state, e) {
@@ -71,7 +71,7 @@ fn perform<J: JobSpec>(state: &mut State<J, J::Block, J::Feed>, e: &Event) -> Re
     ensures performed { OnOk result (IsPerformed (LengthsFit J.key_dims J.block_dims state.old.job) (J.feed_tells state.old.job state.old.feed) (J.operation state.old.job) state.old state.new e.now) }
     ensures same { IsSame state.old state.new }
     ensures fits { J.feed_fits state.old.job state.new.feed }
-    ensures tells { J.feed_tells state.old.job state.old.feed → J.feed_tells state.old.job state.new.feed }
+    ensures tells { J.feed_tells state.old.job state.new.feed ↔ J.feed_tells state.old.job state.old.feed }
     ensures faults { CountsPerform result (J.fault_count state.old.feed) (J.fault_count state.new.feed) }
     ensures left { FeedLeaves result state.old state.new }
 {
@@ -91,7 +91,7 @@ fn carry<J: JobSpec>(state: &mut State<J, J::Block, J::Feed>, e: &Event) -> Resu
     ensures performed { OnOk result (IsPerformed (LengthsFit J.key_dims J.block_dims state.old.job) (J.feed_tells state.old.job state.old.feed) (J.operation state.old.job) state.old state.new e.now) }
     ensures same { IsSame state.old state.new }
     ensures fits { J.feed_fits state.old.job state.new.feed }
-    ensures tells { J.feed_tells state.old.job state.old.feed → J.feed_tells state.old.job state.new.feed }
+    ensures tells { J.feed_tells state.old.job state.new.feed ↔ J.feed_tells state.old.job state.old.feed }
     ensures faults { CountsPerform result (J.fault_count state.old.feed) (J.fault_count state.new.feed) }
     ensures left { FeedLeaves result state.old state.new }
 {
@@ -112,7 +112,7 @@ fn finish<J: JobSpec>(
     ensures performed { OnOk result (IsPerformed (LengthsFit J.key_dims J.block_dims state.old.job) (J.feed_tells state.old.job state.old.feed) (J.operation state.old.job) state.old state.new (event.Finish worker key)) }
     ensures same { IsSame state.old state.new }
     ensures fits { J.feed_fits state.old.job state.new.feed }
-    ensures tells { J.feed_tells state.old.job state.old.feed → J.feed_tells state.old.job state.new.feed }
+    ensures tells { J.feed_tells state.old.job state.new.feed ↔ J.feed_tells state.old.job state.old.feed }
     ensures faults { CountsPerform result (J.fault_count state.old.feed) (J.fault_count state.new.feed) }
     ensures left { FeedLeaves result state.old state.new }
 {

@@ -20,9 +20,9 @@ const EVENT_LIMIT: u64 = 1_099_511_627_776;
 /// `Feed`. Else `Spent` exactly where 2^40 events were taken. Else `NotEnabled` exactly where the event isn't enabled.
 /// `Feed` only where the feed's count of faults rose in this call.
 pub fn take<J: JobSpec>(state: &mut State<J, J::Block, J::Feed>, e: &Event) -> Result<(), StepError>
-    requires world { IsWorld J.graph J.key_dims J.block_dims J.feed_fits state.old }
+    requires world { IsWorld J.graph J.key_dims J.block_dims J.operation J.feed_fits J.feed_tells state.old }
     ensures step { IsStep J.operation J.feed_tells J.fault_count e.now result state.old state.new }
-    ensures world { IsWorld J.graph J.key_dims J.block_dims J.feed_fits state.new }
+    ensures world { IsWorld J.graph J.key_dims J.block_dims J.operation J.feed_fits J.feed_tells state.new }
 {
     match state.course {
         Course::Fed => Err(StepError::Stopped),
@@ -36,10 +36,10 @@ fn take_going<J: JobSpec>(
     state: &mut State<J, J::Block, J::Feed>,
     e: &Event,
 ) -> Result<(), StepError>
-    requires world { IsWorld J.graph J.key_dims J.block_dims J.feed_fits state.old }
+    requires world { IsWorld J.graph J.key_dims J.block_dims J.operation J.feed_fits J.feed_tells state.old }
     requires going { state.old.course ≡ course.Going }
     ensures step { IsStep J.operation J.feed_tells J.fault_count e.now result state.old state.new }
-    ensures world { IsWorld J.graph J.key_dims J.block_dims J.feed_fits state.new }
+    ensures world { IsWorld J.graph J.key_dims J.block_dims J.operation J.feed_fits J.feed_tells state.new }
 {
     if state.events >= EVENT_LIMIT {
         return Err(StepError::Spent);

@@ -1,5 +1,5 @@
 //! The world of a whole cluster.
-ghost use Rattle.std.specs.Prelude.{List, ◌≡◌, ◌≢◌, ◌↔◌, ◌+◌, ◌-◌, ◌≤◌, ◌^◌, Bool, true, false, length, min, slice_get, IfOk, OnOk, Err, Some, None, is_some, IfSome};
+ghost use Rattle.std.specs.Prelude.{List, [], ◌∷◌, ◌++◌, ◌≡◌, ◌≢◌, ◌↔◌, ◌+◌, ◌-◌, ◌≤◌, ◌^◌, Bool, true, false, length, min, slice_get, IfOk, OnOk, Err, Some, None, is_some, IfSome};
 ghost use Rattle.std.specs.Option.{option_map, option_copied};
 ghost use Rattle.cluster_msgs.specs.Jobs.{Rose};
 ghost use Rattle.cluster_msgs.specs.Shape.{deps_of};
@@ -10,9 +10,9 @@ ghost use Rattle.cluster_rules.specs.WorldStep.{world_step};
 ghost use Rattle.cluster_rules.specs.Enabled.{enabled, progress, message};
 ghost use Rattle.cluster_rules.specs.Runs.{legal, Safe, event_limit};
 ghost use Rattle.cluster_msgs.specs.declared.events.Event.{Event as EventFact};
-ghost use Rattle.cluster_laws.specs.Blocks.{job_of, setting_of, opening_cluster};
+ghost use Rattle.cluster_laws.specs.Blocks.{setting_of, opening_cluster};
 ghost use Rattle.cluster_laws.specs.Moves.{world_after, cluster_step};
-ghost use Rattle.cluster_world.specs.Worlds.{cluster, world, setting, IsReady, IsReached};
+ghost use Rattle.cluster_world.specs.Worlds.{cluster, world, setting, running, IsReady, IsMade, IsMadeBy, IsTelling};
 ghost use Rattle.safety_laws.specs.Attempts.{AttemptsEnd};
 ghost use Rattle.cluster_world.specs.Safe.{IsSafeWorld};
 ghost use Rattle.cluster_world.specs.Steps.{CountsStep, IfBlamed};
@@ -45,7 +45,7 @@ impl<J: JobSpec> Model for World<J> {
 
     ghost use Rattle.cluster_world.specs.Kept.{IsWorld};
 
-    ghost invariant = { λ w. IsWorld J.graph J.key_dims J.block_dims J.feed_fits w.state };
+    ghost invariant = { λ w. IsWorld J.graph J.key_dims J.block_dims J.operation J.feed_fits J.feed_tells w.state };
 }
 
 impl<J: JobSpec> World<J> {
@@ -68,7 +68,7 @@ impl<J: JobSpec> World<J> {
         ensures events { IfOk result (λ w. w.events ≡ 0) }
         ensures job { IfOk result (λ w. w.job ≡ job) }
         ensures feed { IfOk result (λ w. w.feed ≡ feed) }
-        ensures reached { IfOk result (λ w. IsReached (setting w) (J.operation w.job) (cluster w)) }
+        ensures made { IfOk result (λ w. IsMadeBy J.operation [] w) }
     {
         let graph = job.shape();
         graph.sound();
@@ -80,8 +80,9 @@ impl<J: JobSpec> World<J> {
     /// Takes an event: the world goes on exactly as the definition says, and so do the blocks. A task's operation is run
     /// when it finishes, on the blocks that its worker had when it started.
     ///
-    /// Where the feed tells what it holds, the outcome of each operation is that of the definition. So a world that legal
-    /// events made goes to `world_step` of it, and stays one that legal events made.
+    /// Where the feed tells what it holds, the outcome of each operation is that of the definition: the world goes to
+    /// `world_step` of it by the job, and what events made it, these and then this one make the next. The feed tells after
+    /// the call exactly where it did before.
     ///
     /// A key keeps its worker and its attempt, unless the event ends the attempt: the scheduler counts its finish, its error or
     /// the worker's yes to a steal, takes that the worker leaves, or sends the worker a free-keys with the key.
@@ -100,15 +101,15 @@ impl<J: JobSpec> World<J> {
         ensures attempts { OnOk result (AttemptsEnd (world self.old) e.now (world self.new)) }
         ensures goes { OnOk result (self.new.course ≡ self.old.course) }
         ensures events { OnOk result (self.new.events ≡ self.old.events + 1) }
-        ensures by_values { OnOk result (J.feed_tells self.old.job self.old.feed → IsReached (setting self.old) (J.operation self.old.job) (cluster self.old) →
-            world self.new ≡ world_step (job_of (setting self.old) (J.operation self.old.job)) (world self.old) e.now) }
-        ensures reached { OnOk result (J.feed_tells self.old.job self.old.feed → IsReached (setting self.old) (J.operation self.old.job) (cluster self.old) →
-            IsReached (setting self.new) (J.operation self.new.job) (cluster self.new)) }
+        ensures by_values { OnOk result (J.feed_tells self.old.job self.old.feed →
+            world self.new ≡ world_step (running J.operation self.old) (world self.old) e.now) }
+        ensures made { OnOk result (J.feed_tells self.old.job self.old.feed → (es : List EventFact) → IsMadeBy J.operation es self.old →
+            IsMadeBy J.operation (es ++ e.now ∷ []) self.new) }
 
         // What stays.
         ensures job { self.new.job ≡ self.old.job }
         ensures setting { setting self.new ≡ setting self.old }
-        ensures tells { J.feed_tells self.old.job self.old.feed → J.feed_tells self.new.job self.new.feed }
+        ensures tells { J.feed_tells self.new.job self.new.feed ↔ J.feed_tells self.old.job self.old.feed }
         ensures faults { CountsStep result (J.fault_count self.old.feed) (J.fault_count self.new.feed) }
 
         // What is refused.
@@ -120,6 +121,7 @@ impl<J: JobSpec> World<J> {
         ensures stopped_stays { result ≡ Err StepError.Stopped → self.new ≡ self.old }
         ensures feed { result ≡ Err StepError.Feed → self.new.course ≡ Course.Fed }
         ensures feed_stays { result ≡ Err StepError.Feed → cluster self.new ≡ cluster self.old }
+        ensures feed_made { result ≡ Err StepError.Feed → (es : List EventFact) → IsMadeBy J.operation es self.old → IsMadeBy J.operation es self.new }
         ensures memory { result ≡ Err StepError.OutOfMemory → self.new.course ≡ Course.Starved }
         ensures starved { self.old.course ≡ Course.Starved → result ≡ Err StepError.OutOfMemory }
     {
@@ -149,36 +151,50 @@ impl<J: JobSpec> World<J> {
         }
     }
 
-    /// The block that a client has got of a key: none exactly where the client hasn't got it. In a world that legal events
-    /// made it is the key's value. Takes no memory.
+    /// The block that a client has got of a key: none exactly where the client hasn't got it. Where the feed tells what it
+    /// holds, and in each world that legal events made, it is the key's value. Takes no memory.
     pub fn got(&self, client: u32, key: u32) -> Option<&J::Block>
         ensures block { option_copied result ≡ (cluster self.now).blocks.got client key }
         ensures present { self.now.course ≢ Course.Starved → is_some result ≡ ((world self.now).clients client).got key }
-        ensures value { IsReached (setting self.now) (J.operation self.now.job) (cluster self.now) →
+        ensures value { IsTelling J.feed_tells self.now →
+            IfSome result (λ b. val (deps_of (J.graph self.now.job)) (J.operation self.now.job) key ≡ Some b.now) }
+        ensures made { IsMade J.operation self.now →
             IfSome result (λ b. val (deps_of (J.graph self.now.job)) (J.operation self.now.job) key ≡ Some b.now) }
     {
         self.state.block(client, key)
     }
 
     /// Schedule safety: it holds of every legal list of events of the world's job and setting. So a world that legal events
-    /// made is safe: the scheduler has facts of known keys alone and only needed ones are held, a worker with no message under
-    /// way agrees with it, and while a client waits and a worker is there, some progress event is enabled. It does nothing.
+    /// made is safe, as each is whose feed tells what it holds: the scheduler has facts of known keys alone and only needed
+    /// ones are held, a worker with no message under way agrees with it, and while a client waits and a worker is there,
+    /// some progress event is enabled. It does nothing.
     pub fn is_safe(&self)
-        ensures events { (es : List EventFact) → legal (job_of (setting self.now) (J.operation self.now.job)) es → Safe (job_of (setting self.now) (J.operation self.now.job)) es }
-        ensures world { IsReached (setting self.now) (J.operation self.now.job) (cluster self.now) → IsSafeWorld (world self.now) }
+        ensures events { (es : List EventFact) → legal (running J.operation self.now) es → Safe (running J.operation self.now) es }
+        ensures made { IsTelling J.feed_tells self.now → IsMade J.operation self.now }
+        ensures world { IsMade J.operation self.now → IsSafeWorld (world self.now) }
     {
         self.state.sched.sound();
         schedules_are_safe();
     }
 
-    /// How a key that a client waited for ended, none where it didn't. In a world that legal events made a key that erred
-    /// is blamed on a key in its cone whose own operation meets a zero divisor. Takes no memory.
+    /// How a key that a client waited for ended, none where it didn't. Where the feed tells what it holds, and in each world
+    /// that legal events made, a key that erred is blamed on a key in its cone whose own operation meets a zero divisor.
+    /// Takes no memory.
     pub fn done(&self, client: u32, key: u32) -> Option<End>
         ensures done { result ≡ done ((world self.now).clients client) key }
-        ensures blame { IsReached (setting self.now) (J.operation self.now.job) (cluster self.now) →
+        ensures blame { IsTelling J.feed_tells self.now →
+            IfBlamed (deps_of (J.graph self.now.job)) (val (deps_of (J.graph self.now.job)) (J.operation self.now.job)) key result }
+        ensures made { IsMade J.operation self.now →
             IfBlamed (deps_of (J.graph self.now.job)) (val (deps_of (J.graph self.now.job)) (J.operation self.now.job)) key result }
     {
         self.state.done(client, key)
+    }
+
+    /// The job that it runs. Takes no memory.
+    pub fn job(&self) -> &J
+        ensures { result.now ≡ self.now.job }
+    {
+        &self.state.job
     }
 
     /// The graph. Takes no memory.

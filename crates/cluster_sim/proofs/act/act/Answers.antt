@@ -15,7 +15,7 @@ returns-in_err-count-clause-faults g c = let p = err_from_is_err_and c.from_resi
 pub returns-in-Ok-clause-done : goal.returns-in-Ok-clause-done
 returns-in-Ok-clause-done g c =
     let e = c.in-Ok.ensures in
-    act_is _ _ c.args.world.now c.step.new.self c.args.event.now c.requires.going e.ready e.goes e.events e.world e.by_values e.reached
+    act_is _ _ c.args.world.now c.step.new.self c.args.event.now c.requires.going e.ready e.goes e.events e.world e.by_values e.made
 
 pub returns-in-Ok-clause-counted : goal.returns-in-Ok-clause-counted
 returns-in-Ok-clause-counted g c es short rare h =

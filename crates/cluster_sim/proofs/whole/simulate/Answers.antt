@@ -103,10 +103,14 @@ returns-in_err-end-clause-cut_off g c q told =
     (unfinished_play _ _ (plan_of c.args.plan.now) c.args.wanted.now c.args.number c.args.world.now c.play.new.world c.play.new.run c.in_err-end.field-0.0 (stays_both _ _ _ _ c.make_opening.ensures.stays c.play.ensures.stays)
     (sym p.2 ∙ same_error _ _ (sym p.1 ∙ q)) (c.in_err-end.ensures.drawn c.args.number d))
 
-pub returns-clause-reached : goal.returns-clause-reached
-returns-clause-reached g c told =
+pub returns-clause-going : goal.returns-clause-going
+returns-clause-going g c = c.in_ok-end.ensures.play.between.going
+
+pub returns-clause-made : goal.returns-clause-made
+returns-clause-made g c told =
     let d = opened_drawn _ _ (plan_of c.args.plan.now) c.args.wanted.now c.args.number c.args.world.now c.make_opening.new.world _ c.rest.result c.in_ok-make_opening.ensures.opened c.make_opening.ensures.stays c.new.ensures (c.rest.ensures.bound (not_starved _ c.in_ok-make_opening.ensures.opened.going)) c.new-2.ensures told in
-    (c.in_ok-end.ensures.drawn c.args.number d).drawn.reached
+    let h = (c.in_ok-end.ensures.drawn c.args.number d).drawn.course in
+    record { events = _; made = h.all.made }
 
 pub returns-in_err-end-clause-stays : goal.returns-in_err-end-clause-stays
 returns-in_err-end-clause-stays g c = stays_both _ _ _ _ c.make_opening.ensures.stays c.play.ensures.stays

@@ -11,8 +11,8 @@ act-requires g c =
 
 pub returns-in_err-act : goal.returns-in_err-act
 returns-in_err-act g c =
-    let k = c.act.ensures.kept in record { performed = acting.exits _ _ c.from_residual.result c.from_residual.ensures.1; same = k.same; fits = subst (λ f. g.J.JobSpec.feed_fits c.args.state.now.job f) (sym k.feed) c.requires.feed; tells = λ t. subst (λ f. g.J.JobSpec.feed_tells c.args.state.now.job f) (sym k.feed) t; faults = finishing.counts_memory _ c.from_residual.result _ _ c.from_residual.ensures.1 (ap g.J.JobSpec.fault_count k.feed); left = finishing.left_memory _ c.from_residual.result c.args.state.now _ c.from_residual.ensures.1 }
+    let k = c.act.ensures.kept in record { performed = acting.exits _ _ c.from_residual.result c.from_residual.ensures.1; same = k.same; fits = subst (λ f. g.J.JobSpec.feed_fits c.args.state.now.job f) (sym k.feed) c.requires.feed; tells = (λ t. subst (λ f. g.J.JobSpec.feed_tells c.args.state.now.job f) k.feed t, λ t. subst (λ f. g.J.JobSpec.feed_tells c.args.state.now.job f) (sym k.feed) t); faults = finishing.counts_memory _ c.from_residual.result _ _ c.from_residual.ensures.1 (ap g.J.JobSpec.fault_count k.feed); left = finishing.left_memory _ c.from_residual.result c.args.state.now _ c.from_residual.ensures.1 }
 
 pub returns : goal.returns
 returns g c =
-    let k = c.act.ensures.kept in record { performed = record { outcome = None; turned = c.in_ok-act.ensures.moved; fits = λ i k b e x. absurd (none_some b x); told = λ t i k e. absurd (subst IsUnended e c.requires.unended) }; same = k.same; fits = subst (λ f. g.J.JobSpec.feed_fits c.args.state.now.job f) (sym k.feed) c.requires.feed; tells = λ t. subst (λ f. g.J.JobSpec.feed_tells c.args.state.now.job f) (sym k.feed) t; faults = ap g.J.JobSpec.fault_count k.feed; left = tt }
+    let k = c.act.ensures.kept in record { performed = record { outcome = None; turned = c.in_ok-act.ensures.moved; fits = λ i k b e x. absurd (none_some b x); told = λ t i k e. absurd (subst IsUnended e c.requires.unended) }; same = k.same; fits = subst (λ f. g.J.JobSpec.feed_fits c.args.state.now.job f) (sym k.feed) c.requires.feed; tells = (λ t. subst (λ f. g.J.JobSpec.feed_tells c.args.state.now.job f) k.feed t, λ t. subst (λ f. g.J.JobSpec.feed_tells c.args.state.now.job f) (sym k.feed) t); faults = ap g.J.JobSpec.fault_count k.feed; left = tt }

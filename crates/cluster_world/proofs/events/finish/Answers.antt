@@ -23,11 +23,11 @@ run-requires g c =
 
 pub returns-in_err-outcome : goal.returns-in_err-outcome
 returns-in_err-outcome g c =
-    record { performed = acting.exits _ _ c.from_residual.result c.from_residual.ensures.1; same = record { job = refl; course = refl; events = refl; clients = refl; setting = refl }; fits = c.run.ensures.fits; tells = c.run.ensures.tells.1; faults = finishing.counts_run _ g.row.J-Block.Denot c.from_residual.result _ _ _ c.from_residual.ensures.1 c.in_err-outcome.ensures.faults; left = finishing.left_run _ _ c.from_residual.result c.args.state.now _ c.from_residual.ensures.1 refl }
+    record { performed = acting.exits _ _ c.from_residual.result c.from_residual.ensures.1; same = record { job = refl; course = refl; events = refl; clients = refl; setting = refl }; fits = c.run.ensures.fits; tells = c.run.ensures.tells; faults = finishing.counts_run _ g.row.J-Block.Denot c.from_residual.result _ _ _ c.from_residual.ensures.1 c.in_err-outcome.ensures.faults; left = finishing.left_run _ _ c.from_residual.result c.args.state.now _ c.from_residual.ensures.1 refl }
 
 pub returns-in_err-brought : goal.returns-in_err-brought
 returns-in_err-brought g c =
-    record { performed = acting.exits _ _ c.from_residual-in_err-brought.result c.from_residual-in_err-brought.ensures.1; same = record { job = refl; course = refl; events = refl; clients = refl; setting = refl }; fits = c.run.ensures.fits; tells = c.run.ensures.tells.1; faults = finishing.counts_memory _ c.from_residual-in_err-brought.result _ _ c.from_residual-in_err-brought.ensures.1 c.in_ok-outcome.ensures.faults; left = finishing.left_memory _ c.from_residual-in_err-brought.result c.args.state.now _ c.from_residual-in_err-brought.ensures.1 }
+    record { performed = acting.exits _ _ c.from_residual-in_err-brought.result c.from_residual-in_err-brought.ensures.1; same = record { job = refl; course = refl; events = refl; clients = refl; setting = refl }; fits = c.run.ensures.fits; tells = c.run.ensures.tells; faults = finishing.counts_memory _ c.from_residual-in_err-brought.result _ _ c.from_residual-in_err-brought.ensures.1 c.in_ok-outcome.ensures.faults; left = finishing.left_memory _ c.from_residual-in_err-brought.result c.args.state.now _ c.from_residual-in_err-brought.ensures.1 }
 
 pub worker_turn-requires : goal.worker_turn-requires
 worker_turn-requires g c =
@@ -43,7 +43,7 @@ without_refusal-requires g c =
 
 pub returns-in_err-without_refusal : goal.returns-in_err-without_refusal
 returns-in_err-without_refusal g c =
-    record { performed = acting.exits _ _ c.from_residual-in_err-without_refusal.result c.from_residual-in_err-without_refusal.ensures.1; same = record { job = refl; course = refl; events = refl; clients = refl; setting = refl }; fits = c.run.ensures.fits; tells = c.run.ensures.tells.1; faults = finishing.counts_memory _ c.from_residual-in_err-without_refusal.result _ _ c.from_residual-in_err-without_refusal.ensures.1 c.in_ok-outcome.ensures.faults; left = finishing.left_memory _ c.from_residual-in_err-without_refusal.result c.args.state.now _ c.from_residual-in_err-without_refusal.ensures.1 }
+    record { performed = acting.exits _ _ c.from_residual-in_err-without_refusal.result c.from_residual-in_err-without_refusal.ensures.1; same = record { job = refl; course = refl; events = refl; clients = refl; setting = refl }; fits = c.run.ensures.fits; tells = c.run.ensures.tells; faults = finishing.counts_memory _ c.from_residual-in_err-without_refusal.result _ _ c.from_residual-in_err-without_refusal.ensures.1 c.in_ok-outcome.ensures.faults; left = finishing.left_memory _ c.from_residual-in_err-without_refusal.result c.args.state.now _ c.from_residual-in_err-without_refusal.ensures.1 }
 
 pub returns : goal.returns
 unfolding blocks_in
@@ -64,7 +64,7 @@ returns g c =
           c.in_ok-outcome.ensures.dims (λ t. c.in_ok-outcome.ensures.value t ∙ ap (g.J.JobSpec.operation c.args.state.now.job c.args.key) c.inputs_of-inputs.ensures);
       same = record { job = refl; course = refl; events = refl; clients = refl; setting = refl };
       fits = c.run.ensures.fits;
-      tells = c.run.ensures.tells.1;
+      tells = c.run.ensures.tells;
       faults = c.in_ok-outcome.ensures.faults;
       left = tt;
     }

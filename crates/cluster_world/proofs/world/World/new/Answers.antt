@@ -1,13 +1,13 @@
 use Rattle.std.proofs.Common.{◌∙◌, ap, subst}
 use Rattle.cluster_msgs.specs.Shape.{Shape, IsShape}
 use Rattle.cluster_laws.specs.Blocks.{setting_of, opening_cluster}
-use Rattle.cluster_world.proofs.Beginning.{begun_cluster, begun_reached, begun_ready, begun_world}
+use Rattle.cluster_world.proofs.Beginning.{begun_cluster, begun_made, begun_ready, begun_world}
 use Rattle.cluster_world.proofs.world.World.new.Goals as goal
 
 pub invariant_of-result : goal.invariant_of-result
 invariant_of-result g c =
     begun_world c.args.job c.args.feed c.in_ok-shape.shape c.args.clients c.args.saturation c.in_ok-state.state c.in_ok-state.ensures
-    g.J.JobSpec.graph g.J.JobSpec.key_dims g.J.JobSpec.block_dims g.J.JobSpec.feed_fits (c.in_ok-shape.ensures ∙ c.shape-graph.ensures) (subst IsShape c.shape-graph.ensures c.sound.ensures) c.requires.feed
+    g.J.JobSpec.graph g.J.JobSpec.key_dims g.J.JobSpec.block_dims g.J.JobSpec.operation g.J.JobSpec.feed_fits g.J.JobSpec.feed_tells (c.in_ok-shape.ensures ∙ c.shape-graph.ensures) (subst IsShape c.shape-graph.ensures c.sound.ensures) c.requires.feed
 
 pub returns-clause-opening : goal.returns-clause-opening
 returns-clause-opening g c =
@@ -26,5 +26,5 @@ returns-clause-job g c = c.in_ok-state.ensures.job_is
 pub returns-clause-feed : goal.returns-clause-feed
 returns-clause-feed g c = c.in_ok-state.ensures.feed_is
 
-pub returns-clause-reached : goal.returns-clause-reached
-returns-clause-reached g c = begun_reached c.args.job c.args.feed c.in_ok-shape.shape c.args.clients c.args.saturation c.in_ok-state.state c.in_ok-state.ensures (g.J.JobSpec.operation c.in_ok-state.state.job)
+pub returns-clause-made : goal.returns-clause-made
+returns-clause-made g c = begun_made c.args.job c.args.feed c.in_ok-shape.shape c.args.clients c.args.saturation c.in_ok-state.state c.in_ok-state.ensures g.J.JobSpec.operation

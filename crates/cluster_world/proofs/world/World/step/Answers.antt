@@ -17,7 +17,7 @@ returns g c =
       goes = k.goes;
       events = k.events;
       by_values = k.by_values;
-      reached = k.reached;
+      made = k.made;
       attempts = k.attempts;
       job = k.job;
       setting = k.setting;
@@ -31,6 +31,7 @@ returns g c =
       stopped_stays = k.stopped_stays;
       feed = k.feed;
       feed_stays = k.feed_stays;
+      feed_made = k.feed_made;
       memory = k.memory;
       starved = k.starved;
     })
