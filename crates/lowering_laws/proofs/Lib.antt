@@ -34,8 +34,6 @@ pub mod FedMoved
 pub mod Counting
 pub mod MadeTasks
 pub mod Limits
-pub mod TmpWoven
-pub mod TmpFitting
 pub mod Own
 pub mod NamedKeys
 pub mod Totals

@@ -25,7 +25,7 @@ use Rattle.array_expr.specs.Node.{shape_at, dropped, folded_axes, NamesEarlier, 
 use Rattle.array_expr.specs.Elem.{formula, elem}
 use Rattle.expr_laws.specs.Formulas.{inputs_before, whole, made_of}
 use Rattle.expr_laws.proofs.Elements.{shape-formula, element-formula}
-use Rattle.lowering_laws.proofs.TmpFitting.{transposes, takes-fit}
+use Rattle.plain_eval.proofs.Fitting.{transposes, takes-fit}
 use Rattle.chunk_layout.specs.Layouts.{lengths, normalized}
 use Rattle.cluster_msgs.specs.Dags.{IsEarlier}
 use Rattle.cluster_msgs.specs.Shape.{deps_of}

@@ -21,7 +21,7 @@ use Rattle.array_expr.specs.declared.expr.Node.{Node}
 use Rattle.array_expr.specs.Axes.{AreCut}
 use Rattle.array_expr.specs.Node.{shape_at, dropped, folded_axes, NamesEarlier, Makes, IsExpression}
 use Rattle.expr_laws.specs.Formulas.{whole, inputs_before}
-use Rattle.lowering_laws.proofs.TmpFitting.{takes-fit}
+use Rattle.plain_eval.proofs.Fitting.{takes-fit}
 use Rattle.chunk_layout.specs.Layouts.{lengths, normalized}
 use Rattle.cluster_msgs.specs.Dags.{IsEarlier}
 use Rattle.cluster_msgs.specs.Shape.{deps_of}

@@ -17,7 +17,7 @@ use Rattle.nd_grid.specs.Operation.{combine}
 use Rattle.nd_grid.specs.Grid.{Grid, Holds, grid_of, is_among, kept_shape, woven, contracted}
 use Rattle.nd_grid.proofs.Cells.{block-at, block-shape}
 use Rattle.nd_grid.proofs.Turning.{position-below, position-at, moved-at}
-use Rattle.lowering_laws.proofs.TmpWoven.{among-contains}
+use Rattle.plain_eval.proofs.Woven.{among-contains}
 use Rattle.chunk_layout.specs.Layouts.{counts, lengths, starts_at, lengths_at, box_at}
 use Rattle.chunk_layout.specs.Unions.{union}
 use Rattle.chunk_layout.proofs.Unions.{total-union}

@@ -15,7 +15,7 @@ use Rattle.array_expr.specs.declared.expr.Node.{Node}
 use Rattle.array_expr.specs.Axes.{AreCut}
 use Rattle.array_expr.specs.Node.{shape_at, dropped, folded_axes, NamesEarlier, Makes, IsExpression}
 use Rattle.expr_laws.specs.Formulas.{inputs_before}
-use Rattle.lowering_laws.proofs.TmpFitting.{takes-fit}
+use Rattle.plain_eval.proofs.Fitting.{takes-fit}
 use Rattle.chunk_layout.specs.Layouts.{normalized}
 use Rattle.task_graph.specs.declared.graph.Task.{Task}
 use Rattle.lowering_laws.specs.Sources.{Source}

@@ -1,7 +1,6 @@
 //! The limits of graphs.
 
-/// What a graph has too much of.
-#[derive(Clone, Copy, Debug, PartialEq, Eq)]
+/// What a graph has too much of: keys, dependencies of all keys, or bytes of a block.
 pub enum Quantity {
     Keys,
     Edges,
