@@ -1,0 +1,5 @@
+pub mod Layouts
+pub mod Unions
+pub mod Slices
+pub mod Plans
+pub mod Trees

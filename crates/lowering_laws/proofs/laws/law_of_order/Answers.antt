@@ -1,0 +1,5 @@
+use Rattle.lowering_laws.proofs.Runs.{order-law}
+use Rattle.lowering_laws.proofs.laws.law_of_order.Goals as goal
+
+pub returns : goal.returns
+returns c = λ nodes saves ex inside. order-law nodes saves ex inside

@@ -1,0 +1,10 @@
+pub mod Sources
+pub mod Stages
+pub mod Lowered
+pub mod Law
+pub mod Built
+pub mod Boxes
+pub mod Numberings
+pub mod Whole
+pub mod Named
+pub mod Faults
