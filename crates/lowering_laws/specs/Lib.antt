@@ -8,3 +8,4 @@ pub mod Numberings
 pub mod Whole
 pub mod Named
 pub mod Faults
+pub mod Growth

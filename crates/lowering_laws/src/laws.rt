@@ -3,12 +3,24 @@ ghost use Rattle.std.specs.Prelude.{◌≡◌, ℕ, ℤ, ◌<◌, List, length, 
 ghost use Rattle.array_expr.specs.declared.expr.Node.{Node};
 ghost use Rattle.array_expr.specs.Node.{IsExpression};
 ghost use Rattle.cluster_msgs.specs.Shape.{IsShape};
+ghost use Rattle.task_graph.specs.declared.graph.Task.{Task};
 ghost use Rattle.task_graph.specs.Graphs.{shape_of};
 ghost use Rattle.lowering_laws.specs.Built.{AreBuilt};
 ghost use Rattle.lowering_laws.specs.Lowered.{lowered, limit_of};
 ghost use Rattle.lowering_laws.specs.Whole.{LawOfOrder, LawOfLowering, LawOfLowered};
 ghost use Rattle.lowering_laws.specs.Named.{LawOfNames, LawOfNamed};
 ghost use Rattle.lowering_laws.specs.Faults.{LawOfFaults};
+ghost use Rattle.lowering_laws.specs.Growth.{LawOfGrowth, LawOfRefusal};
+
+/// Nodes can be lowered one after another: each adds its tasks behind those of the nodes before it. No memory.
+pub fn law_of_growth()
+    ensures { (nodes : List Node) → LawOfGrowth nodes }
+{}
+
+/// The first limit that is passed is the one that the first refused task passes, whatever follows it. No memory.
+pub fn law_of_refusal()
+    ensures { (tasks : List Task) (t : Task) → LawOfRefusal tasks t }
+{}
 
 /// The tasks of an expression depend on earlier ones alone, in rising order, name places among them, and take inputs of the
 /// shapes that they make, before culling and in the graph that is run. No memory.
