@@ -1,5 +1,5 @@
 -- Nodes are lowered one after another, and limits are met in the order of making.
-use Rattle.std.proofs.Common.{◌≡◌, ℕ, zero, suc, ◌+◌, ◌<◌, ◌≤◌, cond, Bool, true, false, List, [], ◌∷◌, ◌++◌, length, map, take, drop, get_or, refl, ap, sym, ◌∙◌, arith, Some, None}
+use Rattle.std.proofs.Common.{◌≡◌, ℕ, suc, ◌+◌, ◌<◌, cond, Bool, true, false, List, [], ◌∷◌, ◌++◌, length, take, drop, get_or, refl, ap, sym, ◌∙◌, arith, Some, None}
 use Rattle.std.specs.Prelude.{nat_lt, slice_get, Option}
 use Rattle.std.proofs.lemmas.List.{take_more, take_all, length-take-le, take-append-drop}
 use Rattle.std.proofs.lemmas.Option.{slice_get_within, get_or_from_slice_get}
@@ -7,7 +7,7 @@ use Rattle.array_expr.specs.declared.expr.Node.{Node}
 use Rattle.task_graph.specs.declared.graph.Task.{Task}
 use Rattle.lowering_laws.specs.declared.limit.Quantity.{Quantity}
 use Rattle.lowering_laws.specs.declared.limit.Quantity.TheVariants.{Keys, Edges, BlockBytes}
-use Rattle.lowering_laws.specs.Lowered.{no_node, lower_op, Lowering, with_made, lower_from, lowering, limit_at, limit_from}
+use Rattle.lowering_laws.specs.Lowered.{no_node, lower_op, Lowering, with_made, lower_from, lowering, limit_from}
 use Rattle.lowering_laws.specs.Growth.{lowering_to, edges_of, IsFront, LawOfGrowth, LawOfRefusal}
 use Rattle.lowering_laws.proofs.Lowering.{lower-extends}
 

@@ -1,5 +1,5 @@
 -- Lowering one node after another, and the first limit that is passed, as a loop over nodes and tasks meets them.
-use Rattle.std.specs.Prelude.{◌≡◌, ℕ, ◌+◌, ◌<◌, ◌≤◌, List, [], ◌∷◌, ◌++◌, length, take, map, Some, None, slice_get}
+use Rattle.std.specs.Prelude.{◌≡◌, ℕ, ◌+◌, ◌≤◌, List, [], ◌∷◌, ◌++◌, length, take, map, Some, None, slice_get}
 use Rattle.array_expr.specs.declared.expr.Node.{Node}
 use Rattle.cluster_msgs.specs.Shape.{total_length}
 use Rattle.task_graph.specs.declared.graph.Task.{Task}

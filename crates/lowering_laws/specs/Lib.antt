@@ -3,6 +3,7 @@ pub mod Stages
 pub mod Lowered
 pub mod Law
 pub mod Built
+pub mod Each
 pub mod Boxes
 pub mod Numberings
 pub mod Whole
