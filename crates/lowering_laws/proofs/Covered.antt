@@ -1,8 +1,6 @@
 -- Each index of a block that is put together of parts lies in one of them.
-use Rattle.std.proofs.Common.{◌≡◌, ◌≢◌, ℕ, zero, suc, ◌+◌, ◌-◌, ◌<◌, ◌≤◌, ◌||◌, cond, Bool, true, false, List, [], ◌∷◌, ◌++◌, length, map, take, get_or, set, refl, ap, sym, subst, ◌∙◌, arith, ℤ, pos}
-use Rattle.std.specs.Prelude.{All}
+use Rattle.std.proofs.Common.{◌≡◌, ℕ, zero, suc, ◌+◌, ◌<◌, ◌≤◌, ◌||◌, cond, Bool, true, false, List, [], ◌∷◌, ◌++◌, length, map, take, get_or, set, refl, ap, sym, subst, ◌∙◌, arith, ℤ, pos}
 use Rattle.std.specs.List.{AllByRecursion, list_any, range_with_len}
-use Rattle.std.proofs.lemmas.List.{length-map, get_or-map}
 use Rattle.nd_shape.specs.declared.slice.Steps.{Steps}
 use Rattle.nd_shape.specs.declared.region.Piece.{Piece}
 use Rattle.nd_shape.specs.Index.{IsIn, index_at}
@@ -10,14 +8,13 @@ use Rattle.nd_shape.specs.Shape.{elements}
 use Rattle.nd_shape.specs.Broadcast.{broadcast, Agree}
 use Rattle.nd_shape.proofs.Places.{index_at-in}
 use Rattle.nd_grid.specs.declared.operation.Binary.TheVariants.{Sub}
-use Rattle.nd_grid.specs.declared.operation.Fold.{Fold}
 use Rattle.nd_grid.specs.declared.operation.Fold.TheVariants.{Sum}
 use Rattle.nd_grid.specs.Grid.{Grid, filled, folded_shape}
 use Rattle.array_expr.specs.declared.op.Op.{Op}
 use Rattle.array_expr.specs.declared.op.Op.TheVariants.{Input, Full, Ramp, Negate, Elementwise, Where, Slice, Transpose, Rechunk, Concatenate, Reduce, Tensordot}
 use Rattle.array_expr.specs.declared.expr.Node.{Node}
 use Rattle.array_expr.specs.Axes.{AreCut}
-use Rattle.array_expr.specs.Node.{shape_at, folded_axes, NamesEarlier, Makes, AreJoinable, IsExpression}
+use Rattle.array_expr.specs.Node.{shape_at, folded_axes, NamesEarlier, Makes, IsExpression}
 use Rattle.expr_laws.specs.Formulas.{whole}
 use Rattle.chunk_layout.specs.Layouts.{counts, lengths, blocks, lengths_at, normalized}
 use Rattle.chunk_layout.specs.Plans.{Overlap, to_box, parts}
@@ -26,16 +23,14 @@ use Rattle.task_graph.specs.declared.graph.Task.{Task}
 use Rattle.lowering_laws.specs.Sources.{Source, Made, one_each, placed, rechunk_task, rechunked, same_layout, fitted}
 use Rattle.lowering_laws.specs.Stages.{Arg, Literal, Blocks, Point, Pair, Choice, arg_layout, arg_target, fitted_args, point_layout, point_task, pointwise, Along, along_all, or_empty, common_layout, fitted_along, joined_task, concatenated_blocks, no_source, paired_sizes, with_sizes, kept_axes, partial_task, product_task, contracted_blocks}
 use Rattle.lowering_laws.specs.Lowered.{source_at, arg_of, lower_op}
-use Rattle.lowering_laws.specs.Law.{Carries}
 use Rattle.lowering_laws.specs.Faults.{IsCovered}
 use Rattle.lowering_laws.proofs.Pieces.{all-join, parts-any}
 use Rattle.lowering_laws.proofs.Cutting.{lengths-normalized}
 use Rattle.lowering_laws.proofs.MadeTasks.{all-of, all-folded}
 use Rattle.lowering_laws.proofs.Pointwise.{AllCarry, AllAligned, target, target-is, IsPoint, point-is}
 use Rattle.lowering_laws.proofs.Joined.{AllSources, AreJoined, joined-targets, zeros-within, layouts_of}
-use Rattle.lowering_laws.proofs.Products.{with-lengths, paired-totals, length-pairs}
-use Rattle.lowering_laws.proofs.Points.{IsNumber}
-use Rattle.lowering_laws.proofs.Lowering.{IsHeld, AllHeld, shape-front, arg-carries, all-sources, joined-of, number-agrees, number-broadcast}
+use Rattle.lowering_laws.proofs.Products.{with-lengths, paired-totals}
+use Rattle.lowering_laws.proofs.Lowering.{AllHeld, shape-front, arg-carries, all-sources, joined-of, number-agrees, number-broadcast}
 
 abbrev pub IsWhole : Task → Type 0
 IsWhole t = IsCovered t.spec
@@ -158,7 +153,7 @@ op-covered files tasks nodes sources n (Transpose of axes) taken shape base ex l
 op-covered files tasks nodes sources n (Rechunk of chunks) taken shape base ex le names makes held =
     let cut : AreCut shape chunks = subst (λ ns. AreCut ns chunks) (sym makes.1) makes.0 in
     whole-rechunked (source_at sources of) (normalized shape chunks) base ((held of names).carries.shape ∙ sym (lengths-normalized shape chunks cut ∙ makes.1 ∙ shape-front nodes n of names))
-op-covered files tasks nodes sources n (Concatenate []  axis) taken shape base ex le names makes held = absurd (let t = makes.0.there in omega arith)
+op-covered files tasks nodes sources n (Concatenate [] axis) taken shape base ex le names makes held = absurd (let t = makes.0.there in omega arith)
 op-covered files tasks nodes sources n (Concatenate (x ∷ xs) axis) taken shape base ex le names makes held =
     whole-joined files tasks axis (source_at sources x) (map (source_at sources) xs) (whole files nodes x) (map (whole files nodes) xs) base (all-sources files tasks nodes sources n (x ∷ xs) names held) (joined-of files nodes n x xs axis names makes.0)
 op-covered files tasks nodes sources n (Reduce fold of axes split) taken shape base ex le names makes held = all-folded IsWhole fold (elements (folded_shape 0 (counts (source_at sources of).layout) (folded_axes axes (length (shape_at nodes of))))) split (kept_axes 0 (source_at sources of).layout (folded_axes axes (length (shape_at nodes of)))) (partial_task fold (folded_axes axes (length (shape_at nodes of))) (source_at sources of)) base (λ g over inputs deps. tt) (λ bs p. tt)

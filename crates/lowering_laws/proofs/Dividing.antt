@@ -1,9 +1,8 @@
 -- Each task that divides makes what its node has in the block's box, and all parts are covered.
-use Rattle.std.proofs.Common.{◌≡◌, ℕ, suc, ◌+◌, ◌-◌, ◌<◌, ◌≤◌, Bool, true, false, List, [], ◌∷◌, ◌++◌, length, drop, take, get_or, refl, ap, sym, subst, ◌∙◌, arith, inl, inr, ℤ}
-use Rattle.std.specs.Prelude.{slice_get, slice_index_or}
-use Rattle.std.specs.List.{AllByRecursion}
+use Rattle.std.proofs.Common.{◌≡◌, ℕ, suc, ◌+◌, ◌-◌, ◌<◌, ◌≤◌, Bool, true, false, List, [], ◌∷◌, ◌++◌, length, drop, take, refl, ap, sym, subst, ◌∙◌, arith, inl, inr, ℤ}
+use Rattle.std.specs.Prelude.{slice_index_or}
 use Rattle.std.proofs.lemmas.Bool.{cases_lt}
-use Rattle.std.proofs.lemmas.List.{length-take-le, get_or_append_left, get_or_push, length_push}
+use Rattle.std.proofs.lemmas.List.{length-take-le, get_or_append_left, get_or_push}
 use Rattle.std.proofs.lemmas.Option.{slice_get_within, get_or_from_slice_get}
 use Rattle.nd_shape.specs.declared.slice.Steps.{Steps}
 use Rattle.nd_shape.specs.Index.{IsIn, index_at}
@@ -13,12 +12,12 @@ use Rattle.nd_shape.specs.Region.{Box}
 use Rattle.nd_grid.specs.declared.operation.Binary.{Binary}
 use Rattle.nd_grid.specs.Grid.{Grid, elementwise}
 use Rattle.array_expr.specs.declared.op.Op.{Op}
-use Rattle.array_expr.specs.declared.op.Op.TheVariants.{Input, Full, Ramp, Negate, Elementwise, Where, Slice, Transpose, Rechunk, Concatenate, Reduce, Tensordot}
+use Rattle.array_expr.specs.declared.op.Op.TheVariants.{Elementwise}
 use Rattle.array_expr.specs.declared.expr.Node.{Node}
 use Rattle.array_expr.specs.Node.{shape_at, NamesEarlier, Makes, IsExpression}
 use Rattle.array_expr.specs.Elem.{formula}
 use Rattle.expr_laws.specs.Formulas.{whole, made_of, inputs_before}
-use Rattle.expr_laws.proofs.Elements.{element-formula, shape-formula}
+use Rattle.expr_laws.proofs.Elements.{element-formula}
 use Rattle.chunk_layout.specs.Layouts.{counts, lengths, blocks, region}
 use Rattle.cluster_msgs.specs.Dags.{IsEarlier}
 use Rattle.cluster_msgs.specs.Shape.{deps_of}
@@ -27,15 +26,15 @@ use Rattle.task_graph.specs.Graphs.{task_at, shape_of}
 use Rattle.lowering_laws.specs.Sources.{Source, Made, key_of}
 use Rattle.lowering_laws.specs.Stages.{no_source}
 use Rattle.lowering_laws.specs.Lowered.{no_node, source_at, arg_of, lower_op, Lowering, with_made, lower_from, lowering}
-use Rattle.lowering_laws.specs.Law.{Carries, Stand}
-use Rattle.lowering_laws.specs.Built.{IsBuilt, AreBuilt}
+use Rattle.lowering_laws.specs.Law.{Stand}
+use Rattle.lowering_laws.specs.Built.{AreBuilt}
 use Rattle.lowering_laws.specs.Faults.{is_division}
 use Rattle.lowering_laws.proofs.Carrying.{Fits, Holds-same}
 use Rattle.lowering_laws.proofs.Pieces.{all-join}
 use Rattle.lowering_laws.proofs.Pointwise.{HasOperands, fits-pair, there-pair}
 use Rattle.lowering_laws.proofs.Lowering.{IsHeld, AllHeld, node-held, shape-is, shape-front, arg-carries, lower-extends, Stand-here, drop-head, drop-none}
 use Rattle.lowering_laws.proofs.Good.{IsMade, none-good}
-use Rattle.lowering_laws.proofs.Order.{IsKnown, AllKnown, IsInOrder, op-made, one-node}
+use Rattle.lowering_laws.proofs.Order.{IsInOrder, op-made, one-node}
 use Rattle.lowering_laws.proofs.Own.{NoneDivides, IsOwn, at-place, op-own, op-whole}
 use Rattle.lowering_laws.proofs.Covered.{IsWhole, AreWhole, op-covered}
 

@@ -1,46 +1,42 @@
 -- Which keys of the graph that is run meet a zero divisor.
-use Rattle.std.proofs.Common.{◌≡◌, ℕ, zero, suc, ◌+◌, ◌<◌, ◌≤◌, ◌&&◌, Bool, true, false, List, [], ◌∷◌, length, map, get_or, refl, ap, sym, subst, ◌∙◌, arith, inl, inr, Some, None, ℤ}
-use Rattle.std.specs.Prelude.{All, Contains, Option, option_and_then, is_some, slice_index_or}
-use Rattle.std.specs.List.{AllByRecursion, list_all}
-use Rattle.std.proofs.lemmas.List.{length-map, get_or-map, get_or_default}
+use Rattle.std.proofs.Common.{◌≡◌, ℕ, suc, ◌<◌, true, List, [], ◌∷◌, length, map, get_or, refl, ap, sym, subst, ◌∙◌, arith, Some, None, ℤ}
+use Rattle.std.specs.Prelude.{All, Contains, Option, option_and_then, slice_index_or}
+use Rattle.std.proofs.lemmas.List.{length-map, get_or-map}
 use Rattle.nd_shape.specs.Block.{Array}
 use Rattle.nd_shape.specs.Index.{IsIn}
 use Rattle.nd_shape.specs.Region.{Box, moved}
 use Rattle.nd_grid.specs.declared.operation.Binary.{Binary}
 use Rattle.nd_grid.specs.Operation.{combine}
 use Rattle.array_expr.specs.declared.op.Op.TheVariants as ops
-use Rattle.nd_shape.specs.declared.region.Piece.{Piece}
-use Rattle.nd_grid.specs.Grid.{Grid, Holds, grid_of, block_of, elementwise, under}
+use Rattle.nd_grid.specs.Grid.{Holds, grid_of, block_of, elementwise, under}
 use Rattle.nd_grid.proofs.Turning.{position-below, position-at}
 use Rattle.array_expr.specs.declared.expr.Node.{Node}
 use Rattle.array_expr.specs.Node.{IsExpression, shape_at}
 use Rattle.expr_laws.specs.Formulas.{whole}
-use Rattle.chunk_layout.specs.Layouts.{blocks, region}
+use Rattle.chunk_layout.specs.Layouts.{region}
 use Rattle.cluster_msgs.specs.Dags.{IsEarlier}
 use Rattle.cluster_msgs.specs.Shape.{deps_of}
 use Rattle.cluster_msgs.specs.Values.{all_of, with_first, faulty}
 use Rattle.cluster_msgs.proofs.ValueLemmas.{val-step, faulty-operation, faulty-none}
 use Rattle.block_kernels.specs.declared.spec.Spec.{Spec}
 use Rattle.block_kernels.specs.declared.spec.Spec.TheVariants.{Elementwise, Where, Slice, Transpose, Assemble, Reduce, Contract, Fill, Load}
-use Rattle.block_kernels.specs.Kernels.{kernel, if_ok, is_within}
+use Rattle.block_kernels.specs.Kernels.{kernel, if_ok}
 use Rattle.task_graph.specs.declared.graph.Task.{Task}
 use Rattle.task_graph.specs.Graphs.{task_at, shape_of, operation, value}
-use Rattle.task_graph.specs.Orders.{position, moved_piece, moved_spec, moved_task, inputs_of, renumbered, ascending}
+use Rattle.task_graph.specs.Orders.{position, moved_spec, renumbered, ascending}
 use Rattle.task_graph.proofs.Making.{deps-at, all-at, all-length}
-use Rattle.lowering_laws.specs.Sources.{key_of}
 use Rattle.lowering_laws.specs.Lowered.{no_node, source_at, lowering, lowered}
 use Rattle.lowering_laws.specs.Built.{AreBuilt}
-use Rattle.lowering_laws.specs.Whole.{IsSound, LawOfOrder}
-use Rattle.lowering_laws.specs.Named.{name_of, box_of}
+use Rattle.lowering_laws.specs.Whole.{LawOfOrder}
+use Rattle.lowering_laws.specs.Named.{box_of}
 use Rattle.lowering_laws.specs.Faults.{is_division, IsCovered, IsMissing, IsFault, IsDivide, LawOfFaults}
 use Rattle.lowering_laws.specs.Numberings.{AreFit, IsNumbering, PlacesFit}
 use Rattle.lowering_laws.proofs.Uses.{ascending-has}
 use Rattle.lowering_laws.proofs.Visits.{numbering}
-use Rattle.lowering_laws.proofs.Moved.{place_now, shapes_now, contains-at}
+use Rattle.lowering_laws.proofs.Moved.{contains-at}
 use Rattle.lowering_laws.proofs.Renumbered.{task-moved, renumbered-value}
-use Rattle.lowering_laws.proofs.Carrying.{Fits}
 use Rattle.lowering_laws.proofs.Lowering.{IsHeld}
-use Rattle.lowering_laws.proofs.Totals.{IsHole, hole-of, IsThere, zero-divisor, no-block-divides}
+use Rattle.lowering_laws.proofs.Totals.{IsHole, hole-of, zero-divisor, no-block-divides}
 use Rattle.lowering_laws.proofs.Pointwise.{AreThere}
 use Rattle.lowering_laws.proofs.Own.{at-place}
 use Rattle.lowering_laws.proofs.NamedKeys.{AreNamed, IsOwned, IsDivided, lowering-named}

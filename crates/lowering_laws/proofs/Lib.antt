@@ -41,3 +41,4 @@ pub mod Covered
 pub mod Dividing
 pub mod NamesLaw
 pub mod FaultLaw
+pub mod Growing

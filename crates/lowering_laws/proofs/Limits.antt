@@ -1,7 +1,7 @@
 -- Where no limit is passed, the graph that is run has a shape that the cluster takes.
 use Rattle.std.proofs.Common.{◌≡◌, ℕ, zero, suc, ◌+◌, ◌*◌, ◌^◌, ◌<◌, ◌≤◌, cond, Bool, true, false, List, [], ◌∷◌, length, map, get_or, refl, ap, sym, subst, ◌∙◌, arith, inl, inr, Some, None}
 use Rattle.std.specs.Prelude.{nat_eq, nat_lt, All, Option}
-use Rattle.std.specs.List.{AllByRecursion, flat_map}
+use Rattle.std.specs.List.{AllByRecursion}
 use Rattle.std.proofs.Math.ListN.{get_or-map}
 use Rattle.std.proofs.lemmas.Bool.{cases_lt}
 use Rattle.std.proofs.lemmas.List.{length-map, get_or_past}
@@ -9,11 +9,11 @@ use Rattle.std.specs.List.Sorted.{IsStrictlyIncreasing}
 use Rattle.nd_shape.specs.Chunk.{total}
 use Rattle.array_expr.specs.declared.expr.Node.{Node}
 use Rattle.array_expr.specs.Node.{IsExpression}
-use Rattle.cluster_msgs.specs.Shape.{IsShape, deps_of, total_length, edge_count}
+use Rattle.cluster_msgs.specs.Shape.{IsShape, deps_of, total_length}
 use Rattle.block_kernels.specs.Kernels.{input_shapes, result_shape}
 use Rattle.task_graph.specs.declared.graph.Task.{Task}
-use Rattle.task_graph.specs.Graphs.{task, task_at, no_task, shape_of, bytes}
-use Rattle.task_graph.specs.Orders.{with_key, ascending, position, depth_first, moved_task, renumbered}
+use Rattle.task_graph.specs.Graphs.{task_at, no_task, shape_of, bytes}
+use Rattle.task_graph.specs.Orders.{with_key, ascending, position, moved_task, renumbered}
 use Rattle.task_graph.proofs.Making.{deps-at}
 use Rattle.lowering_laws.specs.declared.limit.Quantity.{Quantity}
 use Rattle.lowering_laws.specs.declared.limit.Quantity.TheVariants.{Keys, Edges, BlockBytes}

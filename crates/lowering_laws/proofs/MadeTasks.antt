@@ -21,7 +21,7 @@ use Rattle.block_kernels.specs.declared.spec.Spec.{Spec}
 use Rattle.block_kernels.specs.declared.spec.Spec.TheVariants as kernels
 use Rattle.task_graph.specs.declared.graph.Task.{Task}
 use Rattle.task_graph.specs.Graphs.{task}
-use Rattle.lowering_laws.specs.Sources.{Source, Made, one_each, rechunk_task, rechunked, same_layout, fitted}
+use Rattle.lowering_laws.specs.Sources.{Source, Made, rechunk_task, rechunked, same_layout, fitted}
 use Rattle.lowering_laws.specs.Stages.{Arg, Literal, Blocks, Point, Pair, Choice, arg_layout, arg_target, fitted_args, point_layout, point_task, pointwise, Along, along_all, or_empty, common_layout, fitted_along, joined_task, concatenated_blocks, group_tasks, level_tasks, tree_count, folded_tasks, folded_each, partial_task, paired_sizes, with_sizes, kept_axes, product_task, contracted_blocks}
 use Rattle.lowering_laws.specs.Lowered.{source_at, arg_of, lower_op, Lowering, with_made, lower_from, lowering}
 use Rattle.lowering_laws.proofs.Pieces.{all-join}

@@ -1,11 +1,11 @@
 -- The names of keys, before culling: each is that of the node's own block that the key is, and each own block has its name.
-use Rattle.std.proofs.Common.{◌≡◌, ℕ, suc, zero, ◌+◌, ◌-◌, ◌*◌, ◌/◌, ◌%◌, ◌<◌, ◌≤◌, cond, Bool, true, false, List, [], ◌∷◌, ◌++◌, length, map, drop, take, get_or, refl, ap, sym, subst, ◌∙◌, arith, inl, inr, Some, None, length-append}
-use Rattle.std.specs.Prelude.{nat_eq, nat_lt, Option}
-use Rattle.std.specs.List.{AllByRecursion, range_with_len}
+use Rattle.std.proofs.Common.{◌≡◌, ℕ, suc, ◌+◌, ◌-◌, ◌*◌, ◌/◌, ◌%◌, ◌<◌, ◌≤◌, cond, Bool, true, false, List, [], ◌∷◌, ◌++◌, length, map, drop, take, get_or, refl, ap, sym, subst, ◌∙◌, arith, inl, inr, Some, None, length-append}
+use Rattle.std.specs.Prelude.{nat_eq, nat_lt}
+use Rattle.std.specs.List.{range_with_len}
 use Rattle.std.proofs.Math.Nat.{mul-le-mul_left}
 use Rattle.std.proofs.lemmas.Bool.{cases_lt}
 use Rattle.std.proofs.lemmas.Nat.{div-mul-add, mod-mul-add}
-use Rattle.std.proofs.lemmas.List.{length-map, length-take-le, get_or_append_left, get_or-append_right, get_or_push, length_push}
+use Rattle.std.proofs.lemmas.List.{length-take-le, get_or_append_left, get_or-append_right, get_or_push}
 use Rattle.std.proofs.lemmas.List.FromFn.{length-map-range_with_len, get_or-map-range_with_len}
 use Rattle.std.proofs.lemmas.Option.{slice_get_within}
 use Rattle.array_expr.specs.declared.expr.Node.{Node}
@@ -18,8 +18,8 @@ use Rattle.lowering_laws.specs.Stages.{no_source}
 use Rattle.lowering_laws.specs.Lowered.{source_at, lower_op, name_at, Lowering, with_made, lower_from, lowering}
 use Rattle.lowering_laws.specs.Faults.{is_division}
 use Rattle.lowering_laws.proofs.Lowering.{drop-head, drop-none}
-use Rattle.lowering_laws.proofs.Good.{IsMade, IsBelow, none-good}
-use Rattle.lowering_laws.proofs.Order.{IsKnown, AllKnown, IsInOrder, op-made, one-node}
+use Rattle.lowering_laws.proofs.Good.{IsMade, none-good}
+use Rattle.lowering_laws.proofs.Order.{IsInOrder, op-made, one-node}
 use Rattle.lowering_laws.proofs.Own.{IsOwn, IsBlock, op-own}
 
 -- ---- the name at one key

@@ -1,13 +1,12 @@
 -- The names of the keys that are run.
-use Rattle.std.proofs.Common.{◌≡◌, ℕ, zero, suc, ◌+◌, ◌<◌, ◌≤◌, List, [], ◌∷◌, length, map, get_or, refl, ap, sym, subst, ◌∙◌, arith, Some, None, ℤ}
+use Rattle.std.proofs.Common.{◌≡◌, ℕ, zero, suc, ◌<◌, List, [], ◌∷◌, length, map, get_or, ap, sym, subst, ◌∙◌, arith, Some, None, ℤ}
 use Rattle.std.specs.Prelude.{All, Contains, Option, slice_index_or}
 use Rattle.std.specs.List.{AllByRecursion}
 use Rattle.std.proofs.lemmas.List.{length-map, get_or-map, get_or_default}
-use Rattle.nd_shape.specs.Index.{place, index_at}
 use Rattle.array_expr.specs.declared.expr.Node.{Node}
 use Rattle.array_expr.specs.Node.{IsExpression}
 use Rattle.nd_grid.proofs.Turning.{position-below, position-at}
-use Rattle.chunk_layout.specs.Layouts.{blocks, region}
+use Rattle.chunk_layout.specs.Layouts.{blocks}
 use Rattle.cluster_msgs.specs.Shape.{deps_of}
 use Rattle.task_graph.specs.declared.graph.Task.{Task}
 use Rattle.task_graph.specs.Graphs.{task_at, shape_of, value}
@@ -15,9 +14,9 @@ use Rattle.task_graph.specs.Orders.{position, moved_task, renumbered}
 use Rattle.lowering_laws.specs.Sources.{key_of}
 use Rattle.lowering_laws.specs.Lowered.{source_at, lowering, lowered, keys_of}
 use Rattle.lowering_laws.specs.Built.{AreBuilt}
-use Rattle.lowering_laws.specs.Whole.{IsSound, LawOfOrder, saved_key}
-use Rattle.lowering_laws.specs.Named.{layout_of, box_of, name_of, IsName, LawOfNames, LawOfNamed}
-use Rattle.lowering_laws.specs.Numberings.{AreFit, IsNumbering}
+use Rattle.lowering_laws.specs.Whole.{IsSound, LawOfOrder}
+use Rattle.lowering_laws.specs.Named.{layout_of, name_of, LawOfNames, LawOfNamed}
+use Rattle.lowering_laws.specs.Numberings.{IsNumbering}
 use Rattle.lowering_laws.proofs.Visits.{numbering}
 use Rattle.lowering_laws.proofs.Fed.{dims_at}
 use Rattle.lowering_laws.proofs.FedMoved.{dims-moved}

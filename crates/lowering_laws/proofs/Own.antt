@@ -8,7 +8,6 @@ use Rattle.std.proofs.lemmas.List.FromFn.{length-map-range_with_len}
 use Rattle.nd_shape.specs.declared.slice.Steps.{Steps}
 use Rattle.nd_shape.specs.Index.{index_at}
 use Rattle.nd_shape.specs.Shape.{elements}
-use Rattle.nd_grid.specs.declared.operation.Binary.{Binary}
 use Rattle.nd_grid.specs.declared.operation.Binary.TheVariants.{Sub}
 use Rattle.nd_grid.specs.declared.operation.Fold.{Fold}
 use Rattle.nd_grid.specs.declared.operation.Fold.TheVariants.{Sum}
@@ -24,10 +23,10 @@ use Rattle.block_kernels.specs.declared.spec.Spec.TheVariants as kernels
 use Rattle.task_graph.specs.declared.graph.Task.{Task}
 use Rattle.task_graph.specs.Graphs.{task, task_at, no_task}
 use Rattle.lowering_laws.specs.Sources.{Source, Made, key_of, key_at, one_each, rechunk_task, fitted}
-use Rattle.lowering_laws.specs.Stages.{Arg, Literal, Blocks, Point, Pair, Choice, arg_layout, fitted_args, point_layout, point_task, pointwise, after, Along, along_all, or_empty, common_layout, fitted_along, joined_task, concatenated_blocks, folded_tasks, folded_each, tree_count, reduced_blocks, paired_sizes, with_sizes, kept_axes, slice_task, turned_layout, partial_task, product_task, product_blocks, contracted_blocks}
+use Rattle.lowering_laws.specs.Stages.{Arg, Literal, Point, Pair, Choice, arg_layout, fitted_args, point_layout, point_task, pointwise, after, Along, along_all, or_empty, common_layout, fitted_along, joined_task, concatenated_blocks, folded_tasks, folded_each, tree_count, paired_sizes, with_sizes, kept_axes, slice_task, turned_layout, partial_task, product_task, product_blocks, contracted_blocks}
 use Rattle.lowering_laws.specs.Lowered.{source_at, arg_of, lower_op}
 use Rattle.lowering_laws.specs.Faults.{divides, is_division}
-use Rattle.lowering_laws.proofs.MadeTasks.{all-of, all-rechunked, all-fitted, all-args, all-along, all-folded}
+use Rattle.lowering_laws.proofs.MadeTasks.{all-of, all-fitted, all-args, all-along, all-folded}
 use Rattle.lowering_laws.proofs.Pieces.{all-join}
 use Rattle.lowering_laws.proofs.Reductions.{length-folded, length-strides}
 

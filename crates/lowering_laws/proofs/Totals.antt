@@ -1,5 +1,5 @@
 -- What an operation makes of blocks is there at each index, but for a zero divisor.
-use Rattle.std.proofs.Common.{◌≡◌, ℕ, zero, suc, ◌+◌, ◌<◌, ◌||◌, cond, Bool, true, false, List, [], ◌∷◌, length, map, drop, get_or, refl, ap, sym, subst, ◌∙◌, arith, inl, inr, ◌⊎◌, Some, None, Ok, Err, ℤ, pos, negsuc}
+use Rattle.std.proofs.Common.{◌≡◌, ℕ, zero, suc, ◌<◌, ◌||◌, cond, Bool, true, false, List, [], ◌∷◌, length, map, drop, get_or, refl, ap, sym, ◌∙◌, arith, inl, inr, ◌⊎◌, Some, None, Ok, Err, ℤ, pos, negsuc}
 use Rattle.std.specs.Prelude.{Option, Result}
 use Rattle.std.specs.List.{AllByRecursion, list_any, range_with_len}
 use Rattle.std.proofs.lemmas.List.{get_or-map}
@@ -14,8 +14,8 @@ use Rattle.nd_grid.specs.declared.operation.Binary.TheVariants.{Add, Sub, Mul, F
 use Rattle.nd_grid.specs.declared.operation.Fold.{Fold}
 use Rattle.nd_grid.specs.declared.operation.Fold.TheVariants.{Sum}
 use Rattle.nd_grid.specs.Int64.{wrap, floor_div, floor_rem}
-use Rattle.nd_grid.specs.Operation.{is_zero, combine, apply, pick_all, neutral, fold_two, combine_two, folded_from, folded}
-use Rattle.nd_grid.specs.Grid.{Grid, grid_of, block_of, cells_up_to, then_cell, as_array, under, reduced, merged, folded_shape, woven, kept_shape}
+use Rattle.nd_grid.specs.Operation.{is_zero, combine, apply, pick_all, neutral, fold_two, combine_two, folded_from}
+use Rattle.nd_grid.specs.Grid.{Grid, grid_of, block_of, cells_up_to, then_cell, as_array, reduced, merged, folded_shape, woven, kept_shape}
 use Rattle.block_kernels.specs.declared.spec.Operand.{Operand}
 use Rattle.block_kernels.specs.declared.spec.Operand.TheVariants.{Input, Number}
 use Rattle.block_kernels.specs.declared.spec.Spec.{Spec}

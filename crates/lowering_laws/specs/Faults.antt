@@ -11,7 +11,7 @@ use Rattle.array_expr.specs.declared.op.Op.TheVariants.{Elementwise}
 use Rattle.array_expr.specs.declared.expr.Node.{Node}
 use Rattle.array_expr.specs.Node.{shape_at}
 use Rattle.expr_laws.specs.Formulas.{whole}
-use Rattle.chunk_layout.specs.Layouts.{blocks, region}
+use Rattle.chunk_layout.specs.Layouts.{region}
 use Rattle.cluster_msgs.specs.Shape.{deps_of}
 use Rattle.cluster_msgs.specs.Values.{faulty}
 use Rattle.block_kernels.specs.declared.spec.Spec.{Spec}

@@ -3,8 +3,10 @@ pub mod Stages
 pub mod Lowered
 pub mod Law
 pub mod Built
+pub mod Each
 pub mod Boxes
 pub mod Numberings
 pub mod Whole
 pub mod Named
 pub mod Faults
+pub mod Growth
