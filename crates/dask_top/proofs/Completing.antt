@@ -1,15 +1,15 @@
 -- A job ends as its text, its inputs and its values say where nothing failed.
-use Rattle.std.proofs.Common.{◌≡◌, ℕ, ℤ, List, [], ◌∷◌, get_or, refl, ap, sym, ◌∙◌, subst, inl, inr, arith, codes, Option, Some, None, Ok, Err}
-use Rattle.std.specs.Prelude.{◌⊎◌, IfSome, IsSome, IsSomeAnd}
+use Rattle.std.proofs.Common.{◌≡◌, ℕ, List, [], ◌∷◌, get_or, refl, ap, sym, ◌∙◌, subst, inl, inr, arith, codes, Option, Some, None, Ok, Err}
+use Rattle.std.specs.Prelude.{◌⊎◌, IfSome, IsSomeAnd}
 use Rattle.io_edge.specs.View.{View, Files}
 use Rattle.nd_shape.specs.Block.{Array}
 use Rattle.npy_codec.specs.declared.head.Head.{Head}
 use Rattle.job_run.specs.declared.ends.Ended.{Ended}
-use Rattle.job_run.specs.declared.ends.Ended.TheVariants.{Done, File, Zero, ReadFault, WriteFault, OutOfMemory}
+use Rattle.job_run.specs.declared.ends.Ended.TheVariants as RunEnds
 use Rattle.job_run.specs.declared.ends.FileError.{FileError}
 use Rattle.job_run.specs.declared.ends.FileError.TheVariants.{Npy, Shape}
 use Rattle.job_run.specs.Inputs.{FitInputs, FirstRefusal, HoldArrays, HoldsArray, InputRefused, InputsFit, RefusesFile, told_all}
-use Rattle.job_run.specs.Plan.{Plan, input_shapes, nodes_saved}
+use Rattle.job_run.specs.Plan.{Plan, input_shapes}
 use Rattle.job_run.specs.Runs.{Cause as RunCause, HasValues, HasZero}
 use Rattle.job_run.specs.Values.{MeetsNone, MeetsZero, values_of}
 use Rattle.job_run.proofs.OneArray.{not_refused, one_head}
@@ -25,11 +25,14 @@ use Rattle.sim_run.specs.Forms.{HasManyChunks, IsAddition, IsSimulable, chunks_i
 use Rattle.sim_run.specs.Simulated.{IsOutOfEvents, SimulatesTo}
 use Rattle.sim_run.specs.declared.form.Addition.{Addition}
 use Rattle.sim_words.proofs.Saying.{one_sim}
-use Rattle.dask_top.specs.declared.answer.End.TheVariants.{Words, Job, Limit, NotBuilt, Keys, Events, Turns, Ran}
-use Rattle.dask_top.specs.Answers.{Answers, Cause, Completes, Does, EndsByInputs, EndsBySimulation, EndsByText, EndsByWork, MeetNoZero, MeetZero, NoFault, Performs, RefusalCause, WorkCause, status_of}
-use Rattle.dask_top.specs.Commands.{Command, Run, Plain, Sim, Asks, Asked, IsAsked, Known, Unread, Work, Evaluation, Simulation, job_of, work_of}
-use Rattle.dask_top.specs.Telling.{end_of}
-use Rattle.dask_top.specs.Reading.{Reading, Reads, RefusesText, SaysPlan, plan_said}
+use Rattle.dask_top.specs.declared.answer.End.TheVariants.{Words, Job, Limit, NotBuilt, Keys, Events, Turns, Done, File, Zero, ReadFault, WriteFault, OutOfMemory}
+use Rattle.dask_top.specs.Answers.{Answers, AskedDoes, Performs}
+use Rattle.dask_top.specs.Commands.{Command, Run, Plain, Sim, Asks, Asked, IsAsked, Known, Unread, Work, Evaluation, Simulation, sources_of, work_of}
+use Rattle.dask_top.specs.Completing.{Completes, EndsByInputs, EndsBySimulation, EndsByTexts, EndsByWork, MeetNoZero, MeetZero, NoFault}
+use Rattle.dask_top.specs.Ends.{run_end, sim_end, status_of}
+use Rattle.dask_top.specs.Reading.{IsRead, Reading, Reads, RefusesText, SaysPlan, plan_said}
+use Rattle.dask_top.specs.Telling.{end_of, sim_end_of}
+use Rattle.dask_top.specs.Works.{Does, Evaluates, RefusalCause, Simulates, UnreadCause, WorkDoes}
 
 told_and : {A : Type 0} (o : Option A) (P Q : A → Type 0) → IsSomeAnd o P → IfSome o Q → (x : A) × P x × Q x
 told_and None P Q both if = absurd both
@@ -50,24 +53,17 @@ not_refused_input p files place error fit refused =
     let a = t.1.each place refused.within in
     fits_not (get_or (input_shapes p.nodes) place []) (get_or t.0 place []) a.0 error a.1 t.2.here
 
--- ## No zero divisor is met
+-- ## No zero divisor is met, or some
 
-some_not : (o : Option ℤ) → IsSome o → o ≡ None → ⊥
-some_not None some none = cc
-some_not (Some x) some none = cc
-
-not_zero : (p : Plan) (files : Files) (node : ℕ) → IsSomeAnd (told_all files.held p.inputs) (MeetNoZero p) → HasZero p files node → ⊥
-not_zero p files node meets has =
-    let t = told_and (told_all files.held p.inputs) (MeetNoZero p) (λ contents. (blocks : List Array) → HoldArrays (input_shapes p.nodes) contents blocks → MeetsZero p.nodes (nodes_saved p) (values_of p blocks) node) meets has.zero_at in
-    let z = t.2 t.1.blocks t.1.hold in
-    some_not _ (t.1.none node z.within z.reached z.lacks.0 z.lacks.1) z.lacks.2
-
--- ## Some zero divisor is met
+not_zero : (p : Plan) (files : Files) (node : ℕ) (block : List ℕ) → IsSomeAnd (told_all files.held p.inputs) (MeetNoZero p) → HasZero p files node block → ⊥
+not_zero p files node block meets has =
+    let t = told_and (told_all files.held p.inputs) (MeetNoZero p) (λ contents. (blocks : List Array) → HoldArrays (input_shapes p.nodes) contents blocks → MeetsZero p (values_of p blocks) node block) meets has.zero_at in
+    t.1.none node block (t.2 t.1.blocks t.1.hold).fault
 
 not_all : (p : Plan) (files : Files) → IsSomeAnd (told_all files.held p.inputs) (MeetZero p) → HasValues p files → ⊥
 not_all p files meets has =
-    let t = told_and (told_all files.held p.inputs) (MeetZero p) (λ contents. (blocks : List Array) → HoldArrays (input_shapes p.nodes) contents blocks → MeetsNone p.nodes (nodes_saved p) (values_of p blocks)) meets has.values in
-    some_not _ (t.2 t.1.blocks t.1.hold t.1.node t.1.within t.1.reached t.1.lacks.0 t.1.lacks.1) t.1.lacks.2
+    let t = told_and (told_all files.held p.inputs) (MeetZero p) (λ contents. (blocks : List Array) → HoldArrays (input_shapes p.nodes) contents blocks → MeetsNone p (values_of p blocks)) meets has.values in
+    t.2 t.1.blocks t.1.hold t.1.node t.1.block t.1.fault
 
 -- ## The laws of texts
 
@@ -75,11 +71,15 @@ pub record Laws : Type 0 where
   pub one : (text : List ℕ) (a b : Parts) → IsJob text a → IsJob text b → a ≡ b
   pub excluded : (text : List ℕ) (job : Parts) (e : JobError) → IsJob text job → IsRefused text e → e.kind ≡ Kinds.OutOfMemory
 
-one_plan : Laws → (text : List ℕ) (p q : Plan) → SaysPlan text p → SaysPlan text q → q ≡ p
-one_plan laws text p q a b = b.says ∙ (ap plan_said (laws.one text b.parts a.parts b.job a.job) ∙ sym a.says)
+one_plan : Laws → (texts : List (List ℕ)) (p q : Plan) → Reads texts (Ok p) → Reads texts (Ok q) → q ≡ p
+one_plan laws [] p q a b = absurd a
+one_plan laws (text ∷ []) p q a b = b.says ∙ (ap plan_said (laws.one text b.parts a.parts b.job a.job) ∙ sym a.says)
+one_plan laws (text ∷ other ∷ more) p q a b = absurd a
 
-no_refusal : Laws → (text : List ℕ) (p : Plan) (e : JobError) → SaysPlan text p → RefusesText text e → ⊥
-no_refusal laws text p e says refuses = refuses.of_text (laws.excluded text says.parts e says.job refuses.refused)
+no_refusal : Laws → (texts : List (List ℕ)) (p : Plan) (e : JobError) → Reads texts (Ok p) → Reads texts (Err e) → ⊥
+no_refusal laws [] p e says refuses = says
+no_refusal laws (text ∷ []) p e says refuses = refuses.of_text (laws.excluded text says.parts e says.job refuses.refused)
+no_refusal laws (text ∷ other ∷ more) p e says refuses = says
 
 -- ## The end of a job
 
@@ -104,17 +104,17 @@ memory_ends : (work : Work) (p : Plan) (old : View) → EndsByWork work p old 8
 memory_ends Evaluation p old = run_memory p old
 memory_ends (Simulation said) p old = sim_memory p said old
 
-run_completes : (p : Plan) (old new : View) (end : Ended) → NoFault old new → RunCause p old new end → EndsByInputs p old (status_of (Ran end))
-run_completes p old new Done faults cause = record { unfit = λ u. absurd (not_fit p old.files u cause.inputs); some = λ f m. absurd (not_all p old.files m cause); none = λ f m. inl refl }
-run_completes p old new OutOfMemory faults cause = run_memory p old
-run_completes p old new ReadFault faults cause = absurd (faults.read cause)
-run_completes p old new WriteFault faults cause = absurd (elim cause.1 [ inl w ↦ faults.write w | inr q ↦ faults.print q ])
-run_completes p old new (File place error) faults cause = record {
+run_completes : (p : Plan) (old new : View) (end : Ended) → NoFault old new → RunCause p old new end → EndsByInputs p old (status_of (end_of end))
+run_completes p old new RunEnds.Done faults cause = record { unfit = λ u. absurd (not_fit p old.files u cause.inputs); some = λ f m. absurd (not_all p old.files m cause); none = λ f m. inl refl }
+run_completes p old new RunEnds.OutOfMemory faults cause = run_memory p old
+run_completes p old new RunEnds.ReadFault faults cause = absurd (faults.read cause)
+run_completes p old new RunEnds.WriteFault faults cause = absurd (elim cause.1 [ inl w ↦ faults.write w | inr q ↦ faults.print q ])
+run_completes p old new (RunEnds.File place error) faults cause = record {
   unfit = λ u. inl refl;
   some = λ f m. absurd (not_refused_input p old.files place error f cause);
   none = λ f m. absurd (not_refused_input p old.files place error f cause);
 }
-run_completes p old new (Zero node) faults cause = record { unfit = λ u. absurd (not_fit p old.files u cause.inputs); some = λ f m. inl refl; none = λ f m. absurd (not_zero p old.files node m cause) }
+run_completes p old new (RunEnds.Zero node) faults cause = record { unfit = λ u. absurd (not_fit p old.files u cause.inputs); some = λ f m. inl refl; none = λ f m. absurd (not_zero p old.files node _ m cause) }
 
 -- ## The end of a simulation
 
@@ -152,15 +152,15 @@ limit_ends p said old to = record {
   limit = λ s f. inr (inr (inl refl));
 }
 
-sim_run_completes : (p : Plan) (said : SimWords) (old new : View) (end : Ended) → NoFault old new → SimCause p said old new (SimEnds.Ran end) → EndsBySimulation p said old (status_of (Ran end))
-sim_run_completes p said old new Done faults cause = simulable_ends p said old 0 cause.0 (λ u. absurd (not_fit p old.files u cause.1.inputs)) (λ f. inl refl)
-sim_run_completes p said old new (File place error) faults cause = simulable_ends p said old 3 cause.0 (λ u. inl refl) (λ f. absurd (not_refused_input p old.files place error f cause.1))
-sim_run_completes p said old new (Zero node) faults cause = absurd cause
-sim_run_completes p said old new ReadFault faults cause = absurd (faults.read cause.1)
-sim_run_completes p said old new WriteFault faults cause = absurd (elim cause.2 [ inl w ↦ faults.write w | inr q ↦ faults.print q ])
-sim_run_completes p said old new OutOfMemory faults cause = sim_memory p said old
+sim_run_completes : (p : Plan) (said : SimWords) (old new : View) (end : Ended) → NoFault old new → SimCause p said old new (SimEnds.Ran end) → EndsBySimulation p said old (status_of (end_of end))
+sim_run_completes p said old new RunEnds.Done faults cause = simulable_ends p said old 0 cause.0 (λ u. absurd (not_fit p old.files u cause.1.inputs)) (λ f. inl refl)
+sim_run_completes p said old new (RunEnds.File place error) faults cause = simulable_ends p said old 3 cause.0 (λ u. inl refl) (λ f. absurd (not_refused_input p old.files place error f cause.1))
+sim_run_completes p said old new (RunEnds.Zero node) faults cause = absurd cause
+sim_run_completes p said old new RunEnds.ReadFault faults cause = absurd (faults.read cause.1)
+sim_run_completes p said old new RunEnds.WriteFault faults cause = absurd (elim cause.2 [ inl w ↦ faults.write w | inr q ↦ faults.print q ])
+sim_run_completes p said old new RunEnds.OutOfMemory faults cause = sim_memory p said old
 
-sim_completes : (p : Plan) (said : SimWords) (old new : View) (end : SimEnded) → NoFault old new → SimCause p said old new end → EndsBySimulation p said old (status_of (end_of end))
+sim_completes : (p : Plan) (said : SimWords) (old new : View) (end : SimEnded) → NoFault old new → SimCause p said old new end → EndsBySimulation p said old (status_of (sim_end_of end))
 sim_completes p said old new SimEnds.NotBuilt faults cause = record {
   other = λ none. inl refl;
   many = λ m. absurd (cause m.addition m.is);
@@ -181,40 +181,57 @@ sim_completes p said old new (SimEnds.Ran end) faults cause = sim_run_completes 
 
 -- ## The end of the work on a job
 
-work_completes : (work : Work) (p : Plan) (old new : View) (end : End) → NoFault old new → WorkCause work p old new end → EndsByWork work p old (status_of end)
-work_completes Evaluation p old new (Ran end) faults cause = run_completes p old new end faults cause
-work_completes Evaluation p old new Words faults cause = absurd cause
-work_completes Evaluation p old new (Job error) faults cause = absurd cause
-work_completes Evaluation p old new (Limit quantity) faults cause = absurd cause
-work_completes Evaluation p old new NotBuilt faults cause = absurd cause
-work_completes Evaluation p old new Keys faults cause = absurd cause
-work_completes Evaluation p old new Events faults cause = absurd cause
-work_completes Evaluation p old new Turns faults cause = absurd cause
-work_completes (Simulation said) p old new (Ran end) faults cause = sim_completes p said old new (SimEnds.Ran end) faults cause
-work_completes (Simulation said) p old new NotBuilt faults cause = sim_completes p said old new SimEnds.NotBuilt faults cause
-work_completes (Simulation said) p old new Keys faults cause = sim_completes p said old new SimEnds.Keys faults cause
-work_completes (Simulation said) p old new Events faults cause = sim_completes p said old new SimEnds.Events faults cause
-work_completes (Simulation said) p old new Turns faults cause = sim_completes p said old new SimEnds.Turns faults cause
-work_completes (Simulation said) p old new Words faults cause = absurd cause
-work_completes (Simulation said) p old new (Job error) faults cause = absurd cause
-work_completes (Simulation said) p old new (Limit quantity) faults cause = absurd cause
+-- what is said of each end of a run is said of each end that is one
+of_run : (P : Ended → Type 0) (Q : ℕ → Type 0) → ((e : Ended) → P e → Q (status_of (end_of e))) → (end : End) → IsSomeAnd (run_end end) P → Q (status_of end)
+of_run P Q f Done holds = f RunEnds.Done holds
+of_run P Q f (File place error) holds = f (RunEnds.File place error) holds
+of_run P Q f (Zero node) holds = f (RunEnds.Zero node) holds
+of_run P Q f ReadFault holds = f RunEnds.ReadFault holds
+of_run P Q f WriteFault holds = f RunEnds.WriteFault holds
+of_run P Q f OutOfMemory holds = f RunEnds.OutOfMemory holds
+of_run P Q f Words holds = absurd holds
+of_run P Q f (Job error) holds = absurd holds
+of_run P Q f (Limit quantity) holds = absurd holds
+of_run P Q f NotBuilt holds = absurd holds
+of_run P Q f Keys holds = absurd holds
+of_run P Q f Events holds = absurd holds
+of_run P Q f Turns holds = absurd holds
+
+of_sim : (P : SimEnded → Type 0) (Q : ℕ → Type 0) → ((e : SimEnded) → P e → Q (status_of (sim_end_of e))) → (end : End) → IsSomeAnd (sim_end end) P → Q (status_of end)
+of_sim P Q f Done holds = f (SimEnds.Ran RunEnds.Done) holds
+of_sim P Q f (File place error) holds = f (SimEnds.Ran (RunEnds.File place error)) holds
+of_sim P Q f (Zero node) holds = f (SimEnds.Ran (RunEnds.Zero node)) holds
+of_sim P Q f ReadFault holds = f (SimEnds.Ran RunEnds.ReadFault) holds
+of_sim P Q f WriteFault holds = f (SimEnds.Ran RunEnds.WriteFault) holds
+of_sim P Q f OutOfMemory holds = f (SimEnds.Ran RunEnds.OutOfMemory) holds
+of_sim P Q f NotBuilt holds = f SimEnds.NotBuilt holds
+of_sim P Q f Keys holds = f SimEnds.Keys holds
+of_sim P Q f Events holds = f SimEnds.Events holds
+of_sim P Q f Turns holds = f SimEnds.Turns holds
+of_sim P Q f Words holds = absurd holds
+of_sim P Q f (Job error) holds = absurd holds
+of_sim P Q f (Limit quantity) holds = absurd holds
+
+work_completes : (work : Work) (sources : List (List ℕ)) (p : Plan) (old new : View) (end : End) → NoFault old new → WorkDoes work sources p old new end → EndsByWork work p old (status_of end)
+work_completes Evaluation sources p old new end faults does = of_run (Evaluates sources p old new) (EndsByInputs p old) (λ e d. run_completes p old new e faults d.cause) end does
+work_completes (Simulation said) sources p old new end faults does = of_sim (Simulates sources p said old new) (EndsBySimulation p said old) (λ e d. sim_completes p said old new e faults d.cause) end does
 
 -- ## The end of a text
 
-unread_memory : (work : Work) (old new : View) (end : End) → NoFault old new → Cause work None old new end → status_of end ≡ 8
-unread_memory work old new (Ran ReadFault) faults cause = absurd (faults.read cause)
-unread_memory work old new (Ran OutOfMemory) faults cause = refl
-unread_memory work old new (Ran Done) faults cause = absurd cause
-unread_memory work old new (Ran (File place error)) faults cause = absurd cause
-unread_memory work old new (Ran (Zero node)) faults cause = absurd cause
-unread_memory work old new (Ran WriteFault) faults cause = absurd cause
-unread_memory work old new Words faults cause = absurd cause
-unread_memory work old new (Job error) faults cause = absurd cause
-unread_memory work old new (Limit quantity) faults cause = absurd cause
-unread_memory work old new NotBuilt faults cause = absurd cause
-unread_memory work old new Keys faults cause = absurd cause
-unread_memory work old new Events faults cause = absurd cause
-unread_memory work old new Turns faults cause = absurd cause
+unread_memory : (old new : View) (end : End) → NoFault old new → UnreadCause old new end → status_of end ≡ 8
+unread_memory old new ReadFault faults cause = absurd (faults.read cause)
+unread_memory old new OutOfMemory faults cause = refl
+unread_memory old new Done faults cause = absurd cause
+unread_memory old new (File place error) faults cause = absurd cause
+unread_memory old new (Zero node) faults cause = absurd cause
+unread_memory old new WriteFault faults cause = absurd cause
+unread_memory old new Words faults cause = absurd cause
+unread_memory old new (Job error) faults cause = absurd cause
+unread_memory old new (Limit quantity) faults cause = absurd cause
+unread_memory old new NotBuilt faults cause = absurd cause
+unread_memory old new Keys faults cause = absurd cause
+unread_memory old new Events faults cause = absurd cause
+unread_memory old new Turns faults cause = absurd cause
 
 abbrev IsRefusal : ℕ → Type 0
 IsRefusal status = (status ≡ 2) ⊎ ((status ≡ 9) ⊎ (status ≡ 8))
@@ -222,52 +239,57 @@ IsRefusal status = (status ≡ 2) ⊎ ((status ≡ 9) ⊎ (status ≡ 8))
 refusal_ends : (e : JobError) (end : End) → RefusalCause e end → IsRefusal (status_of end)
 refusal_ends e (Job error) cause = inl refl
 refusal_ends e (Limit quantity) cause = inr (inl refl)
-refusal_ends e (Ran OutOfMemory) cause = inr (inr refl)
-refusal_ends e (Ran Done) cause = absurd cause
-refusal_ends e (Ran (File place error)) cause = absurd cause
-refusal_ends e (Ran (Zero node)) cause = absurd cause
-refusal_ends e (Ran ReadFault) cause = absurd cause
-refusal_ends e (Ran WriteFault) cause = absurd cause
+refusal_ends e OutOfMemory cause = inr (inr refl)
+refusal_ends e Done cause = absurd cause
+refusal_ends e (File place error) cause = absurd cause
+refusal_ends e (Zero node) cause = absurd cause
+refusal_ends e ReadFault cause = absurd cause
+refusal_ends e WriteFault cause = absurd cause
 refusal_ends e Words cause = absurd cause
 refusal_ends e NotBuilt cause = absurd cause
 refusal_ends e Keys cause = absurd cause
 refusal_ends e Events cause = absurd cause
 refusal_ends e Turns cause = absurd cause
 
-refused_completes : (held : Option (List ℕ)) (work : Work) (reading : Reading) (old new : View) (end : End) → IsSomeAnd held (λ text. (p : Plan) → ¬ SaysPlan text p) → IfSome reading (λ r. IfSome held (λ text. Reads text r)) → NoFault old new → Cause work reading old new end → IsRefusal (status_of end)
-refused_completes held work None old new end none told faults cause = inr (inr (unread_memory work old new end faults cause))
-refused_completes held work (Some (Err e)) old new end none told faults cause = refusal_ends e end cause
-refused_completes held work (Some (Ok q)) old new end none told faults cause =
-    let t = told_and held (λ text. (p : Plan) → ¬ SaysPlan text p) (λ text. SaysPlan text q) none told in
-    absurd (t.1 q t.2)
+refused_completes : (sources : List (List ℕ)) (work : Work) (reading : Reading) (old new : View) (end : End) → IsSomeAnd (told_all old.files.held sources) (λ texts. (p : Plan) → ¬ Reads texts (Ok p)) → IfSome reading (IsRead sources old.files) → NoFault old new → Does work sources reading old new end →
+    IsRefusal (status_of end)
+refused_completes sources work None old new end none read faults does = inr (inr (unread_memory old new end faults does.cause))
+refused_completes sources work (Some (Err e)) old new end none read faults does = refusal_ends e end does.cause
+refused_completes sources work (Some (Ok q)) old new end none read faults does =
+    let t = told_and (told_all old.files.held sources) (λ texts. (p : Plan) → ¬ Reads texts (Ok p)) (λ texts. read.texts ≡ texts) none read.held in
+    let R : List (List ℕ) → Type 0 = λ texts. Reads texts (Ok q) in
+    absurd (t.1 q (subst R t.2 read.reads))
 
-job_completes : Laws → (held : Option (List ℕ)) (work : Work) (p : Plan) (reading : Reading) (old new : View) (end : End) → IsSomeAnd held (λ text. SaysPlan text p) → IfSome reading (λ r. IfSome held (λ text. Reads text r)) → NoFault old new → Cause work reading old new end → EndsByWork work p old (status_of end)
-job_completes laws held work p None old new end says told faults cause =
+job_completes : Laws → (sources : List (List ℕ)) (work : Work) (p : Plan) (reading : Reading) (old new : View) (end : End) → IsSomeAnd (told_all old.files.held sources) (λ texts. Reads texts (Ok p)) → IfSome reading (IsRead sources old.files) → NoFault old new → Does work sources reading old new end →
+    EndsByWork work p old (status_of end)
+job_completes laws sources work p None old new end says read faults does =
     let E : ℕ → Type 0 = λ s. EndsByWork work p old s in
-    subst E (sym (unread_memory work old new end faults cause)) (memory_ends work p old)
-job_completes laws held work p (Some (Err e)) old new end says told faults cause =
-    let t = told_and held (λ text. SaysPlan text p) (λ text. RefusesText text e) says told in
-    absurd (no_refusal laws t.0 p e t.1 t.2)
-job_completes laws held work p (Some (Ok q)) old new end says told faults cause =
-    let t = told_and held (λ text. SaysPlan text p) (λ text. SaysPlan text q) says told in
-    let C : Plan → Type 0 = λ x. WorkCause work x old new end in
-    work_completes work p old new end faults (subst C (one_plan laws t.0 p q t.1 t.2) cause)
+    subst E (sym (unread_memory old new end faults does.cause)) (memory_ends work p old)
+job_completes laws sources work p (Some (Err e)) old new end says read faults does =
+    let t = told_and (told_all old.files.held sources) (λ texts. Reads texts (Ok p)) (λ texts. read.texts ≡ texts) says read.held in
+    let R : List (List ℕ) → Type 0 = λ texts. Reads texts (Err e) in
+    absurd (no_refusal laws t.0 p e t.1 (subst R t.2 read.reads))
+job_completes laws sources work p (Some (Ok q)) old new end says read faults does =
+    let t = told_and (told_all old.files.held sources) (λ texts. Reads texts (Ok p)) (λ texts. read.texts ≡ texts) says read.held in
+    let R : List (List ℕ) → Type 0 = λ texts. Reads texts (Ok q) in
+    let W : Plan → Type 0 = λ x. WorkDoes work sources x old new end in
+    work_completes work sources p old new end faults (subst W (one_plan laws t.0 p q t.1 (subst R t.2 read.reads)) does)
 
-text_completes : Laws → (job : List ℕ) (work : Work) (old new : View) (end : End) → Performs job work old new end → NoFault old new → EndsByText job work old (status_of end)
-text_completes laws job work old new end performs faults = record {
-  refused = λ none. refused_completes (old.files.held job) work performs.reading old new end none performs.told faults performs.cause;
-  runs = λ p says. job_completes laws (old.files.held job) work p performs.reading old new end says performs.told faults performs.cause;
+text_completes : Laws → (sources : List (List ℕ)) (work : Work) (old new : View) (end : End) → Performs sources work old new end → NoFault old new → EndsByTexts sources work old (status_of end)
+text_completes laws sources work old new end performs faults = record {
+  refused = λ none. refused_completes sources work performs.reading old new end none performs.read faults performs.does;
+  runs = λ p says. job_completes laws sources work p performs.reading old new end says performs.read faults performs.does;
 }
 
-text_memory : (job : List ℕ) (work : Work) (old : View) → EndsByText job work old 8
-text_memory job work old = record { refused = λ none. inr (inr refl); runs = λ p says. memory_ends work p old }
+text_memory : (sources : List (List ℕ)) (work : Work) (old : View) → EndsByTexts sources work old 8
+text_memory sources work old = record { refused = λ none. inr (inr refl); runs = λ p says. memory_ends work p old }
 
 -- ## The command that the words ask for
 
-simulated : (job other : List ℕ) (said read : SimWords) (old : View) (status : ℕ) → job ≡ other → said ≡ read → EndsByText job (Simulation said) old status → EndsByText other (Simulation read) old status
+simulated : (job other : List ℕ) (said read : SimWords) (old : View) (status : ℕ) → job ≡ other → said ≡ read → EndsByTexts (job ∷ []) (Simulation said) old status → EndsByTexts (other ∷ []) (Simulation read) old status
 simulated job other said read old status same also ends =
-    let H : List ℕ → Type 0 = λ j. EndsByText j (Simulation said) old status in
-    let W : SimWords → Type 0 = λ w. EndsByText other (Simulation w) old status in
+    let H : List ℕ → Type 0 = λ j. EndsByTexts (j ∷ []) (Simulation said) old status in
+    let W : SimWords → Type 0 = λ w. EndsByTexts (other ∷ []) (Simulation w) old status in
     subst W also (subst H same ends)
 
 not_both : (words : List (List ℕ)) (name job : List ℕ) → words ≡ name ∷ job ∷ [] → get_or words 0 [] ≡ codes "sim" → name ≡ codes "sim"
@@ -282,11 +304,11 @@ run_or_sim e = omega (arith, ap (λ w. get_or w 0 0) e)
 plain_or_sim : codes "plain" ≡ codes "sim" → ⊥
 plain_or_sim e = omega (arith, ap (λ w. get_or w 0 0) e)
 
-evaluated : (job other : List ℕ) (old : View) (status : ℕ) → job ≡ other → EndsByText job Evaluation old status → EndsByText other Evaluation old status
-evaluated job other old status same ends = let H : List ℕ → Type 0 = λ j. EndsByText j Evaluation old status in subst H same ends
+evaluated : (job other : List ℕ) (old : View) (status : ℕ) → job ≡ other → EndsByTexts (job ∷ []) Evaluation old status → EndsByTexts (other ∷ []) Evaluation old status
+evaluated job other old status same ends = let H : List ℕ → Type 0 = λ j. EndsByTexts (j ∷ []) Evaluation old status in subst H same ends
 
 -- what is said of the command that was read is said of each that the words ask for
-same_command : (words : List (List ℕ)) (d c : Command) (old : View) (status : ℕ) → Asks words d → Asks words c → EndsByText (job_of d) (work_of d) old status → EndsByText (job_of c) (work_of c) old status
+same_command : (words : List (List ℕ)) (d c : Command) (old : View) (status : ℕ) → Asks words d → Asks words c → EndsByTexts (sources_of d) (work_of d) old status → EndsByTexts (sources_of c) (work_of c) old status
 same_command words (Run a) (Run b) old status is also ends = evaluated a b old status (same_evaluation words (codes "run") (codes "run") a b is also) ends
 same_command words (Plain a) (Plain b) old status is also ends = evaluated a b old status (same_evaluation words (codes "plain") (codes "plain") a b is also) ends
 same_command words (Run a) (Plain b) old status is also ends = evaluated a b old status (same_evaluation words (codes "run") (codes "plain") a b is also) ends
@@ -297,12 +319,12 @@ same_command words (Plain a) (Sim b read) old status is also ends = absurd (plai
 same_command words (Sim a said) (Run b) old status is also ends = absurd (run_or_sim (not_both words (codes "run") b also is.0.command))
 same_command words (Sim a said) (Plain b) old status is also ends = absurd (plain_or_sim (not_both words (codes "plain") b also is.0.command))
 
-asked_completes : Laws → (words : List (List ℕ)) (old new : View) (end : End) (asked : Asked) (c : Command) → IsAsked words asked → Does asked old new end → Asks words c → NoFault old new → EndsByText (job_of c) (work_of c) old (status_of end)
+asked_completes : Laws → (words : List (List ℕ)) (old new : View) (end : End) (asked : Asked) (c : Command) → IsAsked words asked → AskedDoes asked old new end → Asks words c → NoFault old new → EndsByTexts (sources_of c) (work_of c) old (status_of end)
 asked_completes laws words old new end (Known None) c none does asks faults = absurd (none c asks)
-asked_completes laws words old new end (Known (Some d)) c asked does asks faults = same_command words d c old (status_of end) asked asks (text_completes laws (job_of d) (work_of d) old new end does faults)
-asked_completes laws words old new end Unread c first does asks faults = let E : End → Type 0 = λ e. EndsByText (job_of c) (work_of c) old (status_of e) in subst E (sym does.is) (text_memory (job_of c) (work_of c) old)
+asked_completes laws words old new end (Known (Some d)) c asked does asks faults = same_command words d c old (status_of end) asked asks (text_completes laws (sources_of d) (work_of d) old new end does faults)
+asked_completes laws words old new end Unread c first does asks faults = let E : End → Type 0 = λ e. EndsByTexts (sources_of c) (work_of c) old (status_of e) in subst E (sym does.is) (text_memory (sources_of c) (work_of c) old)
 
 pub completes : Laws → (words : List (List ℕ)) (old new : View) (status : ℕ) → Answers words old new status → Completes words old new status
 completes laws words old new status answers c asks faults =
-    let E : ℕ → Type 0 = λ s. EndsByText (job_of c) (work_of c) old s in
+    let E : ℕ → Type 0 = λ s. EndsByTexts (sources_of c) (work_of c) old s in
     subst E (sym answers.is_status) (asked_completes laws words old new answers.end answers.obeys.asked c answers.obeys.is answers.obeys.does asks faults)

@@ -6,23 +6,21 @@ use Rattle.std.proofs.lemmas.Bool.{false≢true}
 use Rattle.std.proofs.lemmas.List.{length-map}
 use Rattle.std.proofs.lemmas.Slice.Eq.{bytes_eq-Decides}
 use Rattle.io_edge.specs.View.{View, OnlyErr}
-use Rattle.job_run.specs.declared.ends.Ended.TheVariants.{OutOfMemory}
 use Rattle.sim_words.specs.declared.sim.SimWords.{SimWords}
 use Rattle.sim_words.specs.Options.{HasNumber}
 use Rattle.sim_words.specs.Words.{IsSim}
 use Rattle.sim_run.specs.Simulated.{AreSettings}
 use Rattle.dask_top.specs.declared.answer.End.{End}
-use Rattle.dask_top.specs.declared.answer.End.TheVariants.{Words, Ran}
-use Rattle.dask_top.specs.Answers.{Notes, Obeys, OnlyTells, Performs}
-use Rattle.dask_top.specs.Commands.{Command, Run, Plain, Sim, Asks, Known, Unread, Evaluation, Simulation, IsJobOf}
+use Rattle.dask_top.specs.declared.answer.End.TheVariants.{Words, OutOfMemory}
+use Rattle.dask_top.specs.Answers.{Obeys, OnlyTells, Performs}
+use Rattle.dask_top.specs.Commands.{Command, Run, Plain, Sim, Asks, Known, Unread, Work, Evaluation, Simulation, IsJobOf}
+use Rattle.dask_top.specs.Ends.{Notes}
 use Rattle.dask_top.specs.Reading.{Reading}
 use Rattle.dask_top.specs.Telling.{IsRefusal, Told}
-use Rattle.dask_top.proofs.Ends.{single}
+use Rattle.dask_top.proofs.Reading.{single}
+use Rattle.dask_top.proofs.Unread.{told_same}
 
 -- ## An end that only gets its line
-
-told_same : (wanted now : End) → ¬ IsRefusal wanted → Told wanted now → now ≡ wanted
-told_same wanted now not told = elim told [ inl same ↦ same | inr refused ↦ absurd (not refused.0) ]
 
 only_tells : (wanted : End) (old new : View) (now : End) → ¬ IsRefusal wanted → Told wanted now → OnlyErr old new → ((r : Reading) → Notes r old new now) → OnlyTells wanted old new now
 only_tells wanted old new now not told only notes =
@@ -52,23 +50,30 @@ not_sim words other s is = not_name (get_or words 0 []) other is.command
 
 -- ## Words that stay unread
 
-pub unread_words : (words : List (List ℕ)) (old new : View) (now : End) → get_or words 0 [] ≡ codes "sim" → Told (Ran OutOfMemory) now → OnlyErr old new → ((r : Reading) → Notes r old new now) → Obeys words old new now
+pub unread_words : (words : List (List ℕ)) (old new : View) (now : End) → get_or words 0 [] ≡ codes "sim" → Told OutOfMemory now → OnlyErr old new → ((r : Reading) → Notes r old new now) → Obeys words old new now
 unread_words words old new now first told only notes = record {
   asked = Unread;
-  is = first;
-  does = only_tells (Ran OutOfMemory) old new now (λ r. r) told only notes;
+  is = inr first;
+  does = only_tells OutOfMemory old new now (λ r. r) told only notes;
 }
 
 -- ## Words of a command
 
-pub performed : (words names : List (List ℕ)) (old new : View) (end : End) → IsJobOf words names → Performs (get_or names 0 []) Evaluation old new end → Obeys words old new end
-performed words names old new end is performs = elim is.asked [
-  | inl run ↦ record { asked = Known (Some (Run (get_or names 0 []))); is = run ∙ ap (λ ns. codes "run" ∷ ns) (single names is.one); does = performs }
-  | inr plain ↦ record { asked = Known (Some (Plain (get_or names 0 []))); is = plain ∙ ap (λ ns. codes "plain" ∷ ns) (single names is.one); does = performs }
-]
+performs_single : (names : List (List ℕ)) (work : Work) (old new : View) (end : End) → length names ≡ 1 → Performs names work old new end → Performs (get_or names 0 [] ∷ []) work old new end
+performs_single names work old new end one performs = let P : List (List ℕ) → Type 0 = λ ns. Performs ns work old new end in subst P (single names one) performs
 
-pub simulated : (words names : List (List ℕ)) (said : SimWords) (old new : View) (end : End) → IsSim words said → get_or words 1 [] ≡ get_or names 0 [] → Performs (get_or names 0 []) (Simulation said) old new end → Obeys words old new end
-simulated words names said old new end is first performs = record { asked = Known (Some (Sim (get_or names 0 []) said)); is = (is, first); does = performs }
+pub performed : (words names : List (List ℕ)) (old new : View) (end : End) → IsJobOf words names → Performs names Evaluation old new end → Obeys words old new end
+performed words names old new end is performs =
+    let does : Performs (get_or names 0 [] ∷ []) Evaluation old new end = performs_single names Evaluation old new end is.one performs in
+    elim is.asked [
+      | inl run ↦ record { asked = Known (Some (Run (get_or names 0 []))); is = run ∙ ap (λ ns. codes "run" ∷ ns) (single names is.one); does = does }
+      | inr plain ↦ record { asked = Known (Some (Plain (get_or names 0 []))); is = plain ∙ ap (λ ns. codes "plain" ∷ ns) (single names is.one); does = does }
+    ]
+
+pub simulated : (words names : List (List ℕ)) (said : SimWords) (old new : View) (end : End) → IsSim words said → names ≡ get_or words 1 [] ∷ [] → Performs names (Simulation said) old new end → Obeys words old new end
+simulated words names said old new end is alone performs =
+    let P : List (List ℕ) → Type 0 = λ ns. Performs ns (Simulation said) old new end in
+    record { asked = Known (Some (Sim (get_or words 1 []) said)); is = (is, refl); does = subst P alone performs }
 
 -- ## The numbers of a simulation
 
@@ -90,7 +95,7 @@ are_settings words said is =
 pub is_long : (words : List (String Global)) (said : SimWords) → IsSim (map string_bytes words) said → 2 ≤ length words
 is_long words said is = let e : length (map string_bytes words) ≡ length words = length-map words string_bytes in omega (arith, is.options.pairs, e)
 
-pub second : (words : List (String Global)) (n : ℕ) → n ≡ 2 - 1 → 2 ≤ length words → get_or (map string_bytes words) 1 [] ≡ get_or (map string_bytes (take n (drop 1 words))) 0 []
+pub second : (words : List (String Global)) (n : ℕ) → n ≡ 2 - 1 → 2 ≤ length words → map string_bytes (take n (drop 1 words)) ≡ get_or (map string_bytes words) 1 [] ∷ []
 second [] n is long = absurd (omega (arith, long))
 second (a ∷ []) n is long = absurd (omega (arith, long))
 second (a ∷ b ∷ words) n is long = rw is refl

@@ -1,18 +1,21 @@
--- Counts of names, where the job was opened first.
-use Rattle.std.proofs.Common.{◌≡◌, ℕ, ◌+◌, List, [], ◌∷◌, ap, sym, ◌∙◌, arith}
+-- Counts of names, where the sources were opened first.
+use Rattle.std.proofs.Common.{◌≡◌, ℕ, ◌+◌, ◌≤◌, List, ◌++◌, ap, sym, ◌∙◌, arith}
 use Rattle.io_edge.specs.View.{Files, Opens, raised, raised_by, times}
 use Rattle.job_run.specs.Part.{RaisedAtMost}
-use Rattle.job_run.proofs.Counting.{times_cons}
+use Rattle.job_run.proofs.Counting.{times-append}
 
 raised-raised : (count j k : ℕ) → raised (raised count j) k ≡ raised count (j + k)
 unfolding raised
 raised-raised count j k = omega arith
 
-pub raised_by-cons : (name : List ℕ) (more : List (List ℕ)) (counts : List ℕ → ℕ) → raised_by more (raised_by (name ∷ []) counts) ≡ raised_by (name ∷ more) counts
-raised_by-cons name more counts = λ i. λ n. (raised-raised (counts n) (times n (name ∷ [])) (times n more) ∙ ap (raised (counts n)) (sym (times_cons n name more))) i
+pub raised_by-append : (names more : List (List ℕ)) (counts : List ℕ → ℕ) → raised_by more (raised_by names counts) ≡ raised_by (names ++ more) counts
+raised_by-append names more counts = λ i. λ n. (raised-raised (counts n) (times n names) (times n more) ∙ ap (raised (counts n)) (sym (times-append n names more))) i
 
-pub raised_more : (name : List ℕ) (more : List (List ℕ)) (old mid : Files) (new : List ℕ → ℕ) → Opens (name ∷ []) old mid → RaisedAtMost more mid.opened new → RaisedAtMost (name ∷ more) old.opened new
-raised_more name more old mid new opens most = record {
+pub raised_more : (names more : List (List ℕ)) (old mid : Files) (new : List ℕ → ℕ) → Opens names old mid → RaisedAtMost more mid.opened new → RaisedAtMost (names ++ more) old.opened new
+raised_more names more old mid new opens most = record {
   grows = λ n. omega (arith, opens.grows n, most.grows n);
-  at_most = λ n. omega (arith, opens.at_most n, most.at_most n, times_cons n name more);
+  at_most = λ n. omega (arith, opens.at_most n, most.at_most n, times-append n names more);
 }
+
+pub raised_at_least : (names : List (List ℕ)) (old new : List ℕ → ℕ) → new ≡ raised_by names old → (n : List ℕ) → raised_by names old n ≤ new n
+raised_at_least names old new is n = let e : new n ≡ raised (old n) (times n names) = ap (λ f. f n) is in omega (arith, e)

@@ -1,22 +1,21 @@
 -- The line of a refusal is what is told of it.
-use Rattle.std.proofs.Common.{◌≡◌, ℕ, List, subst}
+use Rattle.std.proofs.Common.{◌≡◌, ◌<◌, ℕ, List, length, subst}
 use Rattle.io_edge.specs.View.{View}
-use Rattle.job_run.specs.declared.ends.Ended.TheVariants.{Done, File, Zero, ReadFault, WriteFault, OutOfMemory}
 use Rattle.dask_top.specs.declared.answer.End.{End}
-use Rattle.dask_top.specs.declared.answer.End.TheVariants.{Words, Job, Limit, NotBuilt, Keys, Events, Turns, Ran}
-use Rattle.dask_top.specs.Answers.{GetsLine, Notes, line_of}
+use Rattle.dask_top.specs.declared.answer.End.TheVariants.{Words, Job, Limit, NotBuilt, Keys, Events, Turns, Done, File, Zero, ReadFault, WriteFault, OutOfMemory}
+use Rattle.dask_top.specs.Ends.{GetsLine, Notes, line_of}
 use Rattle.dask_top.specs.Reading.{Reading}
 use Rattle.dask_top.specs.Telling.{IsRefusal}
 
 refusal_notes : (reading : Reading) (old new : View) (end : End) → IsRefusal end → GetsLine (line_of reading end) old new → Notes reading old new end
 refusal_notes reading old new (Job error) is gets = gets
 refusal_notes reading old new (Limit quantity) is gets = gets
-refusal_notes reading old new (Ran (File place error)) is gets = gets
-refusal_notes reading old new (Ran (Zero node)) is gets = gets
-refusal_notes reading old new (Ran Done) is gets = absurd is
-refusal_notes reading old new (Ran ReadFault) is gets = absurd is
-refusal_notes reading old new (Ran WriteFault) is gets = absurd is
-refusal_notes reading old new (Ran OutOfMemory) is gets = absurd is
+refusal_notes reading old new (File place error) is gets = gets
+refusal_notes reading old new (Zero node) is gets = gets
+refusal_notes reading old new Done is gets = absurd is
+refusal_notes reading old new ReadFault is gets = absurd is
+refusal_notes reading old new WriteFault is gets = absurd is
+refusal_notes reading old new OutOfMemory is gets = absurd is
 refusal_notes reading old new Words is gets = absurd is
 refusal_notes reading old new NotBuilt is gets = absurd is
 refusal_notes reading old new Keys is gets = absurd is

@@ -17,11 +17,11 @@ Asks words (Run job) = words ≡ codes "run" ∷ job ∷ []
 Asks words (Plain job) = words ≡ codes "plain" ∷ job ∷ []
 Asks words (Sim job said) = IsSim words said × (slice_index_or words 1 [] ≡ job)
 
--- the name of the command's job
-abbrev pub job_of : Command → List ℕ
-job_of (Run job) = job
-job_of (Plain job) = job
-job_of (Sim job said) = job
+-- the names of the command's sources: here the one file with its job's text
+abbrev pub sources_of : Command → List (List ℕ)
+sources_of (Run job) = job ∷ []
+sources_of (Plain job) = job ∷ []
+sources_of (Sim job said) = job ∷ []
 
 -- what is done with a job: it is evaluated, or a cluster on it is simulated
 pub data Work : Type 0 where
@@ -38,11 +38,16 @@ pub data Asked : Type 0 where
   Known : Option Command → Asked
   Unread : Asked
 
--- What is read of the words is so. Only the words of a simulation can stay unread.
+-- these words ask for a command, or begin as those of a simulation, which take memory to be read
+abbrev pub MayStayUnread : List (List ℕ) → Type 0
+MayStayUnread words = ((command : Command) × Asks words command) ⊎ (slice_index_or words 0 [] ≡ codes "sim")
+
+-- What is read of the words is so. Words of any command may stay unread; words of none are found to be so without memory, but where they begin as a
+-- simulation's.
 abbrev pub IsAsked : List (List ℕ) → Asked → Type 0
 IsAsked words (Known (Some command)) = Asks words command
 IsAsked words (Known None) = (command : Command) → ¬ Asks words command
-IsAsked words Unread = slice_index_or words 0 [] ≡ codes "sim"
+IsAsked words Unread = MayStayUnread words
 
 -- the words ask for a run or a plain evaluation of the job with the one name that is given
 pub record IsJobOf (words names : List (List ℕ)) : Type 0 where

@@ -1,7 +1,8 @@
--- What a job's text is read as.
-use Rattle.std.specs.Prelude.{◌≡◌, ◌≢◌, ℕ, List, [], map, Option, Some, None, Result, Ok, Err}
-use Rattle.array_expr.specs.declared.expr.Node.{Node}
-use Rattle.job_run.specs.Plan.{Plan, names_saved}
+-- What the text of a job is read as, and the texts of a command's sources.
+use Rattle.std.specs.Prelude.{◌≡◌, ◌≢◌, ℕ, List, [], ◌∷◌, map, Option, Some, None, Result, Ok, Err, IfSome, IsSome, IsTrue}
+use Rattle.io_edge.specs.View.{Files}
+use Rattle.job_run.specs.Inputs.{told_all}
+use Rattle.job_run.specs.Plan.{Plan}
 use Rattle.job_text.specs.declared.error.JobError.{JobError}
 use Rattle.job_text.specs.declared.error.JobKind.TheVariants as Kinds
 use Rattle.job_text.specs.Jobs.{Parts, IsJob, IsRefused}
@@ -21,25 +22,25 @@ pub record RefusesText (text : List ℕ) (e : JobError) : Type 0 where
   pub refused : IsRefused text e
   pub of_text : e.kind ≢ Kinds.OutOfMemory
 
-abbrev pub Reads : List ℕ → Result Plan JobError → Type 0
-Reads text (Ok p) = SaysPlan text p
-Reads text (Err e) = RefusesText text e
+-- One text says a job, or is refused.
+abbrev pub Reads : List (List ℕ) → Result Plan JobError → Type 0
+Reads (text ∷ []) (Ok p) = SaysPlan text p
+Reads (text ∷ []) (Err e) = RefusesText text e
+Reads texts result = ⊥
 
--- what was read, or nothing where the text wasn't read to its end
+-- These texts of the sources are read as this: those that the files hold, where they are told, and in each case some. A site that tells has them all.
+pub record IsRead (sources : List (List ℕ)) (files : Files) (result : Result Plan JobError) : Type 0 where
+  pub there : IsTrue files.tells → IsSome (told_all files.held sources)
+  pub texts : List (List ℕ)
+  pub held : IfSome (told_all files.held sources) (λ held. texts ≡ held)
+  pub reads : Reads texts result
+
+-- what was read, or nothing where the sources weren't read to their end
 abbrev pub Reading : Type 0
 Reading = Option (Result Plan JobError)
 
-abbrev pub inputs_in : Reading → List (List ℕ)
-inputs_in (Some (Ok p)) = p.inputs
-inputs_in (Some (Err e)) = []
-inputs_in None = []
-
-abbrev pub saves_in : Reading → List (List ℕ)
-saves_in (Some (Ok p)) = names_saved p
-saves_in (Some (Err e)) = []
-saves_in None = []
-
-abbrev pub nodes_in : Reading → List Node
-nodes_in (Some (Ok p)) = p.nodes
-nodes_in (Some (Err e)) = []
-nodes_in None = []
+-- the plan that was read, or one of nothing
+abbrev pub plan_in : Reading → Plan
+plan_in (Some (Ok p)) = p
+plan_in (Some (Err e)) = record { nodes = []; inputs = []; saves = [] }
+plan_in None = record { nodes = []; inputs = []; saves = [] }

@@ -1,47 +1,55 @@
 -- How the end of a job comes to be told on standard error, for the private functions.
-use Rattle.std.specs.Prelude.{◌≡◌, ◌<◌, ◌⊎◌, length}
-use Rattle.job_run.specs.declared.ends.Ended.TheVariants.{File, Zero, ReadFault, OutOfMemory}
+use Rattle.std.specs.Prelude.{◌≡◌, ◌<◌, ◌⊎◌, ℕ, List, length, replicate}
+use Rattle.job_run.specs.declared.ends.Ended.{Ended}
+use Rattle.job_run.specs.declared.ends.Ended.TheVariants as RunEnds
+use Rattle.job_run.specs.Values.{index_text}
 use Rattle.dask_top.specs.declared.answer.End.{End}
 use Rattle.sim_run.specs.declared.ends.SimEnded.{SimEnded}
 use Rattle.sim_run.specs.declared.ends.SimEnded.TheVariants as SimEnds
-use Rattle.dask_top.specs.declared.answer.End.TheVariants.{Words, Job, Limit, NotBuilt, Keys, Events, Turns, Ran}
-use Rattle.dask_top.specs.Reading.{Reading, inputs_in, nodes_in}
+use Rattle.dask_top.specs.declared.answer.End.TheVariants.{Words, Job, Limit, NotBuilt, Keys, Events, Turns, Done, File, Zero, ReadFault, WriteFault, OutOfMemory}
+use Rattle.dask_top.specs.Reading.{Reading, plan_in}
 
 -- an end whose line is made when it comes
 abbrev pub IsRefusal : End → Type 0
 IsRefusal (Job error) = Unit {0}
 IsRefusal (Limit quantity) = Unit {0}
-IsRefusal (Ran (File place error)) = Unit {0}
-IsRefusal (Ran (Zero node)) = Unit {0}
+IsRefusal (File place error) = Unit {0}
+IsRefusal (Zero node) = Unit {0}
 IsRefusal end = ⊥
 
 -- an end that was told is that end, or memory for the line was wanted
 abbrev pub Told : End → End → Type 0
-Told before now = (now ≡ before) ⊎ (IsRefusal before × (now ≡ Ran OutOfMemory))
+Told before now = (now ≡ before) ⊎ (IsRefusal before × (now ≡ OutOfMemory))
 
 -- the place or the node that a refusal names is there
 abbrev pub IsPlaced : Reading → End → Type 0
-IsPlaced reading (Ran (File place error)) = place < length (inputs_in reading)
-IsPlaced reading (Ran (Zero node)) = node < length (nodes_in reading)
+IsPlaced reading (File place error) = place < length (plan_in reading).inputs
+IsPlaced reading (Zero node) = node < length (plan_in reading).nodes
 IsPlaced reading end = Unit {0}
 
 -- an end whose line names nothing of a job
 abbrev pub IsOfText : End → Type 0
-IsOfText Words = Unit {0}
-IsOfText (Job error) = Unit {0}
-IsOfText (Limit quantity) = Unit {0}
-IsOfText NotBuilt = Unit {0}
-IsOfText Keys = Unit {0}
-IsOfText Events = Unit {0}
-IsOfText Turns = Unit {0}
-IsOfText (Ran ReadFault) = Unit {0}
-IsOfText (Ran OutOfMemory) = Unit {0}
-IsOfText end = ⊥
+IsOfText (File place error) = ⊥
+IsOfText (Zero node) = ⊥
+IsOfText end = Unit {0}
 
--- the end of the program that a simulation's is
-abbrev pub end_of : SimEnded → End
-end_of SimEnds.NotBuilt = NotBuilt
-end_of SimEnds.Keys = Keys
-end_of SimEnds.Events = Events
-end_of SimEnds.Turns = Turns
-end_of (SimEnds.Ran end) = Ran end
+-- the end of the program that a run's is
+abbrev pub end_of : Ended → End
+end_of RunEnds.Done = Done
+end_of (RunEnds.File place error) = File place error
+end_of (RunEnds.Zero node) = Zero node
+end_of RunEnds.ReadFault = ReadFault
+end_of RunEnds.WriteFault = WriteFault
+end_of RunEnds.OutOfMemory = OutOfMemory
+
+-- and the one that a simulation's is
+abbrev pub sim_end_of : SimEnded → End
+sim_end_of SimEnds.NotBuilt = NotBuilt
+sim_end_of SimEnds.Keys = Keys
+sim_end_of SimEnds.Events = Events
+sim_end_of SimEnds.Turns = Turns
+sim_end_of (SimEnds.Ran end) = end_of end
+
+-- the index of the one block of an array with this many axes
+abbrev pub block_text : ℕ → List ℕ
+block_text axes = index_text (replicate axes 0)

@@ -7,7 +7,7 @@ ghost use Rattle.dask_top.specs.TextEnds.{EndsAs, TextEnds};
 
 use crate::answer::End;
 use crate::convert::job_of;
-use job_run::{Ended, Job};
+use job_run::Job;
 use job_text::{JobError, JobKind, parse};
 use std::alloc::Global;
 
@@ -16,7 +16,7 @@ fn text_end(error: JobError) -> End
 {
     match error.kind {
         JobKind::Limit { quantity } => End::Limit(quantity),
-        JobKind::OutOfMemory => End::Ran(Ended::OutOfMemory),
+        JobKind::OutOfMemory => End::OutOfMemory,
         _ => End::Job(error),
     }
 }
@@ -33,6 +33,6 @@ pub fn read_job(alloc: Global, text: &[u8]) -> Result<Job, End>
     };
     match job_of(alloc, job) {
         Ok(job) => Ok(job),
-        Err(_) => Err(End::Ran(Ended::OutOfMemory)),
+        Err(_) => Err(End::OutOfMemory),
     }
 }

@@ -1,14 +1,13 @@
 // The line on standard error.
 ghost use Rattle.std.specs.Prelude.{◌≡◌, ◌≤◌, ◌<◌, ◌++◌, List, ℕ, length, map, codes, decimal, string_bytes, IfOk, None, Some, Ok};
 ghost use Rattle.io_edge.specs.View.{OnlyErr};
-ghost use Rattle.array_expr.specs.Node.{shape_at};
 ghost use Rattle.job_run.specs.Inputs.{file_error_text};
 ghost use Rattle.job_run.specs.Jobs.{plan_of};
+ghost use Rattle.job_run.specs.Values.{block_of, index_text};
 ghost use Rattle.job_text.specs.Texts.{job_error_text, quantity_text};
-ghost use Rattle.dask_top.specs.declared.answer.End.TheVariants.{Ran};
-ghost use Rattle.dask_top.specs.Answers.{GetsLine, Notes, block_text, line_of};
+ghost use Rattle.dask_top.specs.Ends.{GetsLine, Notes, line_of};
 ghost use Rattle.dask_top.specs.Reading.{Reading};
-ghost use Rattle.dask_top.specs.Telling.{IsOfText, IsPlaced, IsRefusal, Told, end_of};
+ghost use Rattle.dask_top.specs.Telling.{IsOfText, IsPlaced, IsRefusal, Told, block_text, end_of, sim_end_of};
 
 use crate::answer::End;
 use array_expr::NodeId;
@@ -98,7 +97,7 @@ fn zeros(axes: usize) -> &'static str
 
 fn zero_line(alloc: Global, job: &Job, node: NodeId) -> Result<String, AllocError>
     requires { node < length job.now.expr }
-    ensures { IfOk result (λ t. string_bytes t ≡ codes "dask: zero division: node " ++ decimal node ++ codes " block " ++ block_text (length (shape_at job.now.expr node)) ++ codes "\n") }
+    ensures { IfOk result (λ t. string_bytes t ≡ codes "dask: zero division: node " ++ decimal node ++ codes " block " ++ index_text (block_of (plan_of job.now) node) ++ codes "\n") }
 {
     let number = node.number();
     let block = zeros(job.expr.shape_of(node).dims().len());
@@ -109,7 +108,7 @@ fn zero_line(alloc: Global, job: &Job, node: NodeId) -> Result<String, AllocErro
 }
 
 // Prints the line of a refusal, or where memory for it was wanted, the line that says so.
-#[tactic(auto, unfolding(crate::specs::Answers::line_of))]
+#[tactic(auto, unfolding(crate::specs::Ends::line_of))]
 fn tell_refusal<S: Site>(site: &mut S, end: End, line: Result<String, AllocError>) -> End
     requires { IsRefusal end }
     ensures told { Told end result }
@@ -123,13 +122,14 @@ fn tell_refusal<S: Site>(site: &mut S, end: End, line: Result<String, AllocError
         }
         Err(_) => {
             note(site, b"dask: out of memory\n");
-            End::Ran(Ended::OutOfMemory)
+            End::OutOfMemory
         }
     }
 }
 
-/// Prints the line of a text that is refused, or of a simulation that names nothing of its job. The end stays, but becomes `OutOfMemory` where memory for its line is wanted.
-#[tactic(auto, unfolding(crate::specs::Answers::line_of))]
+/// Prints the line of an end that names nothing of a job. The end stays, but becomes `OutOfMemory` where memory for its line is
+/// wanted.
+#[tactic(auto, unfolding(crate::specs::Ends::line_of))]
 pub fn tell_text<S: Site>(alloc: Global, site: &mut S, end: End) -> End
     requires { IsOfText end }
     ensures told { Told end result }
@@ -144,42 +144,46 @@ pub fn tell_text<S: Site>(alloc: Global, site: &mut S, end: End) -> End
         End::Keys => note(site, b"dask: limit keys\n"),
         End::Events => note(site, b"dask: limit events\n"),
         End::Turns => note(site, b"dask: turns\n"),
-        End::Ran(Ended::ReadFault) => note(site, b"dask: read fault\n"),
-        End::Ran(_) => note(site, b"dask: out of memory\n"),
+        End::Done => {}
+        End::ReadFault => note(site, b"dask: read fault\n"),
+        End::WriteFault => note(site, b"dask: write fault\n"),
+        End::OutOfMemory => note(site, b"dask: out of memory\n"),
+        End::File { .. } => unreachable!(),
+        End::Zero { .. } => unreachable!(),
     }
     end
 }
 
 /// Prints the line of the end of a run. The end stays, but a refusal becomes `OutOfMemory` where memory for its line is
 /// wanted.
-#[tactic(auto, unfolding(crate::specs::Answers::line_of))]
+#[tactic(auto, unfolding(crate::specs::Ends::line_of))]
 pub fn tell_run<S: Site>(alloc: Global, site: &mut S, job: &Job, end: Ended) -> End
-    requires { IsPlaced (Some (Ok (plan_of job.now))) (Ran end) }
-    ensures told { Told (Ran end) result }
+    requires { IsPlaced (Some (Ok (plan_of job.now))) (end_of end) }
+    ensures told { Told (end_of end) result }
     ensures notes { Notes (Some (Ok (plan_of job.now))) (S.view site.old) (S.view site.new) result }
     ensures only { OnlyErr (S.view site.old) (S.view site.new) }
 {
-    match &end {
-        Ended::Done => End::Ran(Ended::Done),
+    match end {
+        Ended::Done => End::Done,
         Ended::File { input, error } => {
-            let line = file_line(alloc, job.inputs[*input].as_str(), error);
-            tell_refusal(site, End::Ran(end), line)
+            let line = file_line(alloc, job.inputs[input].as_str(), &error);
+            tell_refusal(site, End::File { input, error }, line)
         }
         Ended::Zero { node } => {
-            let line = zero_line(alloc, job, *node);
-            tell_refusal(site, End::Ran(end), line)
+            let line = zero_line(alloc, job, node);
+            tell_refusal(site, End::Zero { node }, line)
         }
         Ended::ReadFault => {
             note(site, b"dask: read fault\n");
-            End::Ran(Ended::ReadFault)
+            End::ReadFault
         }
         Ended::WriteFault => {
             note(site, b"dask: write fault\n");
-            End::Ran(Ended::WriteFault)
+            End::WriteFault
         }
         Ended::OutOfMemory => {
             note(site, b"dask: out of memory\n");
-            End::Ran(Ended::OutOfMemory)
+            End::OutOfMemory
         }
     }
 }
@@ -187,8 +191,8 @@ pub fn tell_run<S: Site>(alloc: Global, site: &mut S, job: &Job, end: Ended) -> 
 /// Prints the line of the end of a simulation. The end stays, but a refusal becomes `OutOfMemory` where memory for its line is
 /// wanted.
 pub fn tell_sim<S: Site>(alloc: Global, site: &mut S, job: &Job, end: SimEnded) -> End
-    requires { IsPlaced (Some (Ok (plan_of job.now))) (end_of end) }
-    ensures told { Told (end_of end) result }
+    requires { IsPlaced (Some (Ok (plan_of job.now))) (sim_end_of end) }
+    ensures told { Told (sim_end_of end) result }
     ensures notes { Notes (Some (Ok (plan_of job.now))) (S.view site.old) (S.view site.new) result }
     ensures only { OnlyErr (S.view site.old) (S.view site.new) }
 {

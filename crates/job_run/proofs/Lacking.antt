@@ -13,10 +13,10 @@ use Rattle.array_expr.specs.Node.{IsExpression}
 use Rattle.node_reach.specs.Reach.{Reaches}
 use Rattle.node_reach.proofs.Marking.{names-more, operand-below}
 use Rattle.plain_eval.specs.Eval.{HaveBlocks, inputs_before, inputs_in}
-use Rattle.job_run.specs.Plan.{input_shapes}
+use Rattle.job_run.specs.Plan.{Plan, input_shapes, nodes_saved}
 use Rattle.job_run.specs.Saving.{IsComplete, IsFirstLack, LacksAt}
 use Rattle.job_run.proofs.SavedFiles.{below_or}
-use Rattle.job_run.specs.Values.{HasElements, LacksElement, MeetsNone, MeetsZero, cells_at}
+use Rattle.job_run.specs.Values.{HasElements, LacksElement, MeetsNone, MeetsZero, NeedsFault, block_of, cells_at}
 
 -- ## One array
 
@@ -54,21 +54,26 @@ complete_next known marks node held h is count complete before n below marked = 
 
 -- ## The least needed one
 
-pub meets_none : (nodes : List Node) (roots : List ℕ) (known : List Cells) (marks : List Bool) → length known ≡ length nodes → ((n : ℕ) → Reaches nodes roots n → get_or marks n false ≡ true) →
-    ((n : ℕ) → n < length known → get_or marks n false ≡ true → HasElements known n) → MeetsNone nodes roots known
-meets_none nodes roots known marks count all complete = λ n h reaches. complete n (omega (arith, h, count)) (all n reaches)
+some_none : (o : Option ℤ) → IsSome o → o ≡ None → ⊥
+some_none None some none = cc
+some_none (Some x) some none = cc
 
-pub meets_zero : (nodes : List Node) (roots : List ℕ) (known : List Cells) (marks : List Bool) (n : ℕ) → IsExpression nodes → length known ≡ length nodes → ((n : ℕ) → get_or marks n false ≡ true → Reaches nodes roots n) → ((n : ℕ) → Reaches nodes roots n → get_or marks n false ≡ true) →
-    IsFirstLack known marks n → MeetsZero nodes roots known n
-meets_zero nodes roots known marks n sound count reached all first = record {
-  within = omega (arith, first.within, count);
-  reached = reached n first.marked;
-  lacks = first.lacks;
+pub has_not_lacks : (known : List Cells) (n : ℕ) → HasElements known n → LacksElement known n → ⊥
+has_not_lacks known n has lacks = some_none _ (has lacks.0 lacks.1) lacks.2
+
+pub meets_none : (p : Plan) (known : List Cells) (marks : List Bool) → length known ≡ length p.nodes → ((n : ℕ) → Reaches p.nodes (nodes_saved p) n → get_or marks n false ≡ true) →
+    ((n : ℕ) → n < length known → get_or marks n false ≡ true → HasElements known n) → MeetsNone p known
+meets_none p known marks count all complete = λ n block fault. has_not_lacks known n (complete n (omega (arith, fault.within, count)) (all n fault.reached)) fault.lacks
+
+pub meets_zero : (p : Plan) (known : List Cells) (marks : List Bool) (n : ℕ) → IsExpression p.nodes → length known ≡ length p.nodes → ((n : ℕ) → get_or marks n false ≡ true → Reaches p.nodes (nodes_saved p) n) →
+    ((n : ℕ) → Reaches p.nodes (nodes_saved p) n → get_or marks n false ≡ true) → IsFirstLack known marks n → MeetsZero p known n (block_of p n)
+meets_zero p known marks n sound count reached all first = record {
+  fault = record { within = omega (arith, first.within, count); reached = reached n first.marked; is_block = refl; lacks = first.lacks };
   operands = λ k node at operand.
-      let names = names-more node.op (length (take n nodes)) n (omega (arith, length-take n nodes)) (sound.each n node at).names.there in
-      let r : Reaches nodes roots k = λ set closed. closed.operands n k node at (reached n first.marked set closed) operand in
+      let names = names-more node.op (length (take n p.nodes)) n (omega (arith, length-take n p.nodes)) (sound.each n node at).names.there in
+      let r : Reaches p.nodes (nodes_saved p) k = λ set closed. closed.operands n k node at (reached n first.marked set closed) operand in
       first.before k (operand-below node.op n k names operand) (all k r);
-  before = λ k below reaches. first.before k below (all k reaches);
+  before = λ k block below fault. has_not_lacks known k (first.before k below (all k fault.reached)) fault.lacks;
 }
 
 -- ## As many arrays as nodes

@@ -4,7 +4,6 @@ use Rattle.std.specs.Prelude.{IfSome, IsTrue}
 use Rattle.io_edge.specs.Cause.{Rose}
 use Rattle.io_edge.specs.Content.{followed_by, PrintsPart}
 use Rattle.io_edge.specs.View.{View, Files, Opens, OnlyReads, OnlyWrites, OnlyOut, raised_by}
-use Rattle.io_edge.proofs.Pieces.{follow_none}
 use Rattle.nd_shape.specs.Block.{Array}
 use Rattle.array_expr.specs.Elem.{Cells}
 use Rattle.job_run.specs.declared.ends.Ended.{Ended}
@@ -13,7 +12,7 @@ use Rattle.job_run.specs.Inputs.{HoldArrays, told_all}
 use Rattle.job_run.specs.Loading.{IsEarly}
 use Rattle.job_run.specs.Part.{AreLeft, AreWhole, IsLeft, RaisedAtMost}
 use Rattle.job_run.specs.Plan.{Plan, names_saved, input_shapes}
-use Rattle.job_run.specs.Runs.{Cause, Created, HasValues, Opened, Prints, RunsPlan, Saves, lines_of}
+use Rattle.job_run.specs.Runs.{AreSaved, Cause, Created, HasValues, Opened, Prints, RunsPlan, Saves, StopsPrinting, lines_of}
 use Rattle.job_run.specs.Saving.{SavesAll, SavesSome}
 use Rattle.job_run.specs.Values.{OnInputs, cells_at, file_of, files_of, values_of}
 use Rattle.job_run.proofs.Counting.{none_raised, opened_most}
@@ -61,7 +60,7 @@ early_created names old new (Zero node) is same = same
 early_created names old new ReadFault is same = same
 early_created names old new OutOfMemory is same = none_raised names old new same
 
-early_prints : (p : Plan) (old new : Option (List ℕ)) (end : Ended) → IsEarly end → new ≡ old → Prints p old new end
+early_prints : (p : Plan) (old new : View) (end : Ended) → IsEarly end → new.out ≡ old.out → Prints p old new end
 early_prints p old new Done is same = absurd is
 early_prints p old new WriteFault is same = absurd is
 early_prints p old new (File place error) is same = same
@@ -73,12 +72,12 @@ pub early_runs : (p : Plan) (old new : View) (end : Ended) → IsEarly end → C
 early_runs p old new end is cause opens only = record {
   cause = cause;
   saves = early_saves p old.files new.files end is opens.held;
-  looked = inl (record { held = opens.held; created = opens.created });
+  valued = inl (record { held = opens.held; created = opens.created });
   others = λ n none. ap (λ f. f n) opens.held;
   tells = opens.tells;
   opened = early_opened p.inputs old.files.opened new.files.opened end is (opened_most p.inputs old.files new.files opens);
   created = early_created (names_saved p) old.files.created new.files.created end is opens.created;
-  prints = early_prints p old.out new.out end is only.out;
+  prints = early_prints p old new end is only.out;
   err = only.err;
   note_faults = only.note_faults;
 }
@@ -109,9 +108,6 @@ left_before names files old mid new held tells left = λ k h. turn (get_or names
 most_before : (names : List (List ℕ)) (old mid new : List ℕ → ℕ) → mid ≡ old → RaisedAtMost names mid new → RaisedAtMost names old new
 most_before names old mid new same most = let P : (List ℕ → ℕ) → Type 0 = λ f. RaisedAtMost names f new in subst P same most
 
-no_lines : (old new : Option (List ℕ)) (lines : List ℕ) → new ≡ old → PrintsPart old new lines
-no_lines old new lines same = record { count = 0; bound = omega arith; content = same ∙ follow_none old lines }
-
 -- a save failed
 record Failed (p : Plan) (old mid new : View) (known : List Cells) : Type 0 where
   before : Evaluated p old mid known
@@ -126,11 +122,11 @@ opened_after : (p : Plan) (old mid new : View) (known : List Cells) → Evaluate
 opened_after p old mid new known e same = let P : (List ℕ → ℕ) → Type 0 = λ f. RaisedAtMost p.inputs old.files.opened f in subst P (sym same) (opened_most p.inputs old.files mid.files e.opens)
 
 failed_runs : (p : Plan) (old mid new : View) (known : List Cells) (end : Ended) → Failed p old mid new known → Cause p old new end → Saves p old.files new.files end → Opened p.inputs old.files.opened new.files.opened end →
-    Created (names_saved p) old.files.created new.files.created end → Prints p old.out new.out end → RunsPlan p old new end
+    Created (names_saved p) old.files.created new.files.created end → Prints p old new end → RunsPlan p old new end
 failed_runs p old mid new known end f cause saves opened created prints = record {
   cause = cause;
   saves = saves;
-  looked = inr (record { opened = f.some.opened ∙ f.before.opened; values = f.before.sound });
+  valued = inr (record { opened = f.some.opened ∙ f.before.opened; values = f.before.sound });
   others = λ n none. f.some.others n none ∙ ap (λ g. g n) f.before.opens.held;
   tells = f.some.tells ∙ f.before.opens.tells;
   opened = opened;
@@ -150,7 +146,7 @@ pub write_fault_runs : (p : Plan) (old mid new : View) (known : List Cells) → 
 write_fault_runs p old mid new known e some only rose =
     let f : Failed p old mid new known = record { before = e; some = some; only = only } in
     failed_runs p old mid new known WriteFault f (e.sound, inl (rose_at old.write_faults mid.write_faults new.write_faults e.only.write_faults rose)) (failed_left p old mid new known f) (opened_after p old mid new known e some.opened)
-    (failed_created p old mid new known f) (no_lines old.out new.out (lines_of p) (only.out ∙ e.only.out))
+    (failed_created p old mid new known f) (inl (only.out ∙ e.only.out))
 
 pub write_memory_runs : (p : Plan) (old mid new : View) (known : List Cells) → Evaluated p old mid known → SavesSome (names_saved p) (files_known p known) mid.files new.files → OnlyWrites mid new → RunsPlan p old new OutOfMemory
 write_memory_runs p old mid new known e some only =
@@ -166,7 +162,7 @@ record Printed (p : Plan) (old mid saved new : View) (known : List Cells) : Type
   prints : OnlyOut saved new
 
 printed_runs : (p : Plan) (old mid saved new : View) (known : List Cells) (end : Ended) → Printed p old mid saved new known → Cause p old new end → Saves p old.files saved.files end → Opened p.inputs old.files.opened saved.files.opened end →
-    Created (names_saved p) old.files.created saved.files.created end → Prints p old.out new.out end → RunsPlan p old new end
+    Created (names_saved p) old.files.created saved.files.created end → Prints p old new end → RunsPlan p old new end
 printed_runs p old mid saved new known end f cause saves opened created prints =
     let S : Files → Type 0 = λ x. Saves p old.files x end in
     let O : Files → Type 0 = λ x. Opened p.inputs old.files.opened x.opened end in
@@ -174,7 +170,7 @@ printed_runs p old mid saved new known end f cause saves opened created prints =
     record {
       cause = cause;
       saves = subst S (sym f.prints.files) saves;
-      looked = inr (record { opened = ap (λ (x : Files). x.opened) f.prints.files ∙ (f.all.opened ∙ f.before.opened); values = f.before.sound });
+      valued = inr (record { opened = ap (λ (x : Files). x.opened) f.prints.files ∙ (f.all.opened ∙ f.before.opened); values = f.before.sound });
       others = λ n none. ap (λ (x : Files). x.held n) f.prints.files ∙ (f.all.others n none ∙ ap (λ g. g n) f.before.opens.held);
       tells = ap (λ (x : Files). x.tells) f.prints.files ∙ (f.all.tells ∙ f.before.opens.tells);
       opened = subst O (sym f.prints.files) opened;
@@ -188,14 +184,30 @@ printed_runs p old mid saved new known end f cause saves opened created prints =
 out_before : (p : Plan) (old mid saved new : View) (known : List Cells) → Printed p old mid saved new known → saved.out ≡ old.out
 out_before p old mid saved new known f = f.writes.out ∙ f.before.only.out
 
+all_saved : (p : Plan) (old mid saved : View) (known : List Cells) → Evaluated p old mid known → SavesAll (names_saved p) (files_known p known) mid.files saved.files → AreSaved p old.files saved.files
+all_saved p old mid saved known e all = on_values p old mid known (λ files. IsTrue old.files.tells → AreWhole (names_saved p) files saved.files) e (λ t. all.whole (subst IsTrue (sym e.opens.tells) t))
+
 pub done_runs : (p : Plan) (old mid saved new : View) (known : List Cells) → Evaluated p old mid known → SavesAll (names_saved p) (files_known p known) mid.files saved.files → OnlyWrites mid saved → OnlyOut saved new →
     new.out ≡ followed_by saved.out (lines_of p) → RunsPlan p old new Done
 done_runs p old mid saved new known e all writes prints printed =
     let f : Printed p old mid saved new known = record { before = e; all = all; writes = writes; prints = prints } in
     printed_runs p old mid saved new known Done f e.sound
-    (on_values p old mid known (λ files. IsTrue old.files.tells → AreWhole (names_saved p) files saved.files) e (λ t. all.whole (subst IsTrue (sym e.opens.tells) t)))
+    (all_saved p old mid saved known e all)
     (all.opened ∙ e.opened) (all.created ∙ ap (raised_by (names_saved p)) e.opens.created)
     (printed ∙ ap (λ o. followed_by o (lines_of p)) (out_before p old mid saved new known f))
+
+-- a front of these lines was printed
+pub stops_printing : (p : Plan) (old mid saved new : View) (known : List Cells) (lines : List ℕ) → Evaluated p old mid known → SavesAll (names_saved p) (files_known p known) mid.files saved.files → OnlyWrites mid saved → OnlyOut saved new →
+    PrintsPart saved.out new.out lines → Rose saved.print_faults new.print_faults → StopsPrinting p old new lines
+stops_printing p old mid saved new known lines e all writes prints printed rose =
+    let S : Files → Type 0 = λ x. AreSaved p old.files x in
+    let P : Option (List ℕ) → Type 0 = λ o. PrintsPart o new.out lines in
+    record {
+      saved = subst S (sym prints.files) (all_saved p old mid saved known e all);
+      created = ap (λ (x : Files). x.created) prints.files ∙ (all.created ∙ ap (raised_by (names_saved p)) e.opens.created);
+      fault = rose_at old.print_faults saved.print_faults new.print_faults (writes.print_faults ∙ e.only.print_faults) rose;
+      front = subst P (writes.out ∙ e.only.out) printed;
+    }
 
 pub print_fault_runs : (p : Plan) (old mid saved new : View) (known : List Cells) → Evaluated p old mid known → SavesAll (names_saved p) (files_known p known) mid.files saved.files → OnlyWrites mid saved → OnlyOut saved new →
     PrintsPart saved.out new.out (lines_of p) → Rose saved.print_faults new.print_faults → RunsPlan p old new WriteFault
@@ -203,7 +215,6 @@ print_fault_runs p old mid saved new known e all writes prints printed rose =
     let f : Printed p old mid saved new known = record { before = e; all = all; writes = writes; prints = prints } in
     let some = all_some (names_saved p) (files_known p known) mid.files saved.files all in
     let g : Failed p old mid saved known = record { before = e; some = some; only = writes } in
-    let P : Option (List ℕ) → Type 0 = λ o. PrintsPart o new.out (lines_of p) in
     printed_runs p old mid saved new known WriteFault f (e.sound, inr (rose_at old.print_faults saved.print_faults new.print_faults (writes.print_faults ∙ e.only.print_faults) rose))
     (failed_left p old mid saved known g) (opened_after p old mid saved known e all.opened) (failed_created p old mid saved known g)
-    (subst P (out_before p old mid saved new known f) printed)
+    (inr (stops_printing p old mid saved new known (lines_of p) e all writes prints printed rose))

@@ -10,7 +10,7 @@ use Rattle.array_expr.specs.Elem.{Cells, arrays, array_at}
 use Rattle.array_expr.specs.Node.{shape_at}
 use Rattle.plain_eval.specs.Eval.{held_in}
 use Rattle.job_run.specs.Inputs.{HoldArrays, told_all}
-use Rattle.job_run.specs.Plan.{Plan, Saved, input_shapes}
+use Rattle.job_run.specs.Plan.{Plan, Saved, input_shapes, nodes_saved}
 use Rattle.node_reach.specs.Reach.{Reaches, is_operand}
 
 -- the array of each node, for inputs that are these arrays
@@ -35,17 +35,26 @@ HasElements known n = (i : List ℕ) → IsIn (array_at known n).shape i → IsS
 abbrev pub LacksElement : List Cells → ℕ → Type 0
 LacksElement known n = (i : List ℕ) × IsIn (array_at known n).shape i × ((array_at known n).at i ≡ None)
 
--- The least of the needed nodes that lacks an element. Its operands have all of theirs, so it is there that a divisor is zero.
-pub record MeetsZero (nodes : List Node) (roots : List ℕ) (known : List Cells) (n : ℕ) : Type 0 where
-  pub within : n < length nodes
-  pub reached : Reaches nodes roots n
-  pub lacks : LacksElement known n
-  pub operands : (k : ℕ) (node : Node) → slice_get nodes n ≡ Some node → is_operand node.op k ≡ true → HasElements known k
-  pub before : (k : ℕ) → k < n → Reaches nodes roots k → HasElements known k
+-- The index of the one block of the array of a node, which is taken whole: 0 on each axis.
+abbrev pub block_of : Plan → ℕ → List ℕ
+block_of p n = replicate (length (shape_at p.nodes n)) 0
 
--- each needed node has all of its elements
-abbrev pub MeetsNone : List Node → List ℕ → List Cells → Type 0
-MeetsNone nodes roots known = (n : ℕ) → n < length nodes → Reaches nodes roots n → HasElements known n
+-- Some element of a block that is needed is nothing, where these are the nodes' arrays: a divisor is zero there, or somewhere below.
+pub record NeedsFault (p : Plan) (known : List Cells) (node : ℕ) (block : List ℕ) : Type 0 where
+  pub within : node < length p.nodes
+  pub reached : Reaches p.nodes (nodes_saved p) node
+  pub is_block : block ≡ block_of p node
+  pub lacks : LacksElement known node
+
+-- The first of them. The operands have all of their elements, so it is there that a divisor is zero.
+pub record MeetsZero (p : Plan) (known : List Cells) (node : ℕ) (block : List ℕ) : Type 0 where
+  pub fault : NeedsFault p known node block
+  pub operands : (k : ℕ) (n : Node) → slice_get p.nodes node ≡ Some n → is_operand n.op k ≡ true → HasElements known k
+  pub before : (k : ℕ) (b : List ℕ) → k < node → ¬ NeedsFault p known k b
+
+-- no block that is needed lacks an element
+abbrev pub MeetsNone : Plan → List Cells → Type 0
+MeetsNone p known = (node : ℕ) (block : List ℕ) → ¬ NeedsFault p known node block
 
 -- ## The saved files
 
@@ -70,7 +79,3 @@ saved_lines nodes (s ∷ saves) = saved_line nodes s ++ saved_lines nodes saves
 -- an index of a block: `(0)`, `(1, 2)`, and `()` for zero axes
 abbrev pub index_text : List ℕ → List ℕ
 index_text i = codes "(" ++ comma_list i ++ codes ")"
-
--- the one block of the array of a node, which is taken whole
-abbrev pub block_of : Plan → ℕ → List ℕ
-block_of p n = replicate (length (shape_at p.nodes n)) 0

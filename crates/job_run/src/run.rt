@@ -16,8 +16,8 @@ use std::alloc::Global;
 /// saved names differ.
 ///
 /// `RunsPlan` says for each end why it comes and what it leaves: the files, byte for byte, how often each name was opened
-/// and created, and the lines. Whatever the end, no file is touched before all inputs were opened and accepted and all
-/// values are there.
+/// and created, and the lines. Whatever the end, a file is touched only where all inputs were opened and accepted and all
+/// values are there, and a line is printed only where all files are whole.
 pub fn run_job<S: Site>(alloc: Global, site: &mut S, job: &Job) -> Ended
     requires { IsRunnable (plan_of job.now) }
     ensures { RunsPlan (plan_of job.now) (S.view site.old) (S.view site.new) result }

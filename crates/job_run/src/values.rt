@@ -6,10 +6,10 @@ ghost use Rattle.array_expr.specs.Elem.{arrays};
 ghost use Rattle.plain_eval.specs.Eval.{held_in};
 ghost use Rattle.job_run.specs.Jobs.{plan_of};
 ghost use Rattle.job_run.specs.Loading.{IsEarly};
-ghost use Rattle.job_run.specs.Plan.{IsRunnable, nodes_saved};
+ghost use Rattle.job_run.specs.Plan.{IsRunnable};
 ghost use Rattle.job_run.specs.Runs.{Cause, HasValues};
 ghost use Rattle.job_run.specs.Saving.{IsComplete, IsFirstLack, LacksAt};
-ghost use Rattle.job_run.specs.Values.{HasElements, MeetsNone, MeetsZero, OnInputs, values_of};
+ghost use Rattle.job_run.specs.Values.{HasElements, MeetsNone, MeetsZero, OnInputs, block_of, values_of};
 
 use crate::ends::Ended;
 use crate::inputs::load_inputs;
@@ -76,8 +76,8 @@ fn roots(alloc: Global, saves: &[Save]) -> Result<Vec<NodeId>, AllocError>
 fn zero_node(alloc: Global, job: &Job, known: &[Held]) -> Result<Option<NodeId>, AllocError>
     requires runs { IsRunnable (plan_of job.now) }
     requires count { length known.now ≡ length job.now.expr }
-    ensures none { result ≡ Ok None → MeetsNone job.now.expr (nodes_saved (plan_of job.now)) known.now }
-    ensures zero { IfOk result (λ o. IfSome o (MeetsZero job.now.expr (nodes_saved (plan_of job.now)) known.now)) }
+    ensures none { result ≡ Ok None → MeetsNone (plan_of job.now) known.now }
+    ensures zero { IfOk result (λ o. IfSome o (λ n. MeetsZero (plan_of job.now) known.now n (block_of (plan_of job.now) n))) }
 {
     let _ = job.expr.nodes();
     let roots = roots(alloc, job.saves.as_slice())?;

@@ -1,5 +1,5 @@
 -- What a run leaves at each of its ends.
-use Rattle.std.proofs.Common.{◌≡◌, ℕ, ℤ, pos, ◌+◌, ◌*◌, List, [], ◌∷◌, map, length, get_or, refl, ap, sym, ◌∙◌, subst, inl, arith, Option}
+use Rattle.std.proofs.Common.{◌≡◌, ℕ, ℤ, pos, ◌+◌, ◌*◌, List, [], ◌∷◌, map, length, get_or, refl, ap, sym, ◌∙◌, subst, inl, inr, arith, ◌<◌, Option}
 use Rattle.io_edge.specs.Cause.{Rose}
 use Rattle.io_edge.specs.Content.{followed_by, PrintsPart}
 use Rattle.io_edge.specs.View.{View, Files, Opens, OnlyReads, OnlyWrites, OnlyOut, raised_by}
@@ -14,11 +14,12 @@ use Rattle.addition_job.specs.Chunks.{added}
 use Rattle.job_run.specs.declared.ends.Ended.{Ended}
 use Rattle.job_run.specs.declared.ends.Ended.TheVariants.{Done, File, Zero, ReadFault, WriteFault, OutOfMemory}
 use Rattle.job_run.specs.Inputs.{InputsFit}
-use Rattle.job_run.specs.Plan.{Plan, Saved, names_saved, nodes_saved}
-use Rattle.job_run.specs.Runs.{HasValues, RunsPlan, lines_of as run_lines}
+use Rattle.job_run.specs.Plan.{Plan, Saved, names_saved}
+use Rattle.job_run.specs.Runs.{HasValues, PrintsFront, RunsPlan, lines_of as run_lines}
 use Rattle.job_run.specs.Saving.{SavesAll, SavesSome}
 use Rattle.job_run.specs.Values.{OnInputs, HasElements, MeetsNone, cells_at, file_of, values_of}
-use Rattle.job_run.proofs.Running.{Evaluated, always, done_runs, early_runs, files_known, on_inputs, print_fault_runs, write_fault_runs, write_memory_runs}
+use Rattle.job_run.proofs.Lacking.{has_not_lacks}
+use Rattle.job_run.proofs.Running.{Evaluated, always, done_runs, early_runs, files_known, on_inputs, print_fault_runs, stops_printing, write_fault_runs, write_memory_runs}
 use Rattle.sim_words.specs.declared.sim.SimWords.{SimWords}
 use Rattle.sim_run.specs.declared.ends.SimEnded.{SimEnded}
 use Rattle.sim_run.specs.declared.ends.SimEnded.TheVariants.{NotBuilt, Keys, Events, Turns, Ran}
@@ -35,7 +36,7 @@ ran : (p : Plan) (s : SimWords) (old new : View) (out : Option (List ℕ)) (end 
 ran p s old new out end r cause prints = record {
   cause = cause;
   saves = r.saves;
-  looked = r.looked;
+  valued = r.valued;
   others = r.others;
   tells = r.tells;
   opened = r.opened;
@@ -72,13 +73,16 @@ nodes_are p a is = three_nodes p.nodes a is.nodes
 values_are : (p : Plan) (a : Addition) (blocks : List Array) → IsAddition p a → values_of p blocks ≡ three_of (held_in blocks 0) a.count a.addend
 values_are p a blocks is = arrays_are (held_in blocks) a p.nodes (nodes_are p a is)
 
-meets_none : (p : Plan) (a : Addition) (blocks : List Array) → IsAddition p a → MeetsNone p.nodes (nodes_saved p) (values_of p blocks)
-meets_none p a blocks is n h reaches =
+has_all : (p : Plan) (a : Addition) (blocks : List Array) (n : ℕ) → IsAddition p a → n < length p.nodes → HasElements (values_of p blocks) n
+has_all p a blocks n is h =
     let P : List Cells → Type 0 = λ known. HasElements known n in
     subst P (sym (values_are p a blocks is)) (all_there (held_in blocks 0) a.count a.addend n (omega (arith, h, ap length (nodes_are p a is).is)))
 
+meets_none : (p : Plan) (a : Addition) (blocks : List Array) → IsAddition p a → MeetsNone p (values_of p blocks)
+meets_none p a blocks is n block fault = has_not_lacks (values_of p blocks) n (has_all p a blocks n is fault.within) fault.lacks
+
 has_values : (p : Plan) (a : Addition) (old mid : View) (inputs : List Array) → IsAddition p a → IsRead p old mid inputs → HasValues p old.files
-has_values p a old mid inputs is r = record { inputs = r.fit; values = always p old.files (λ blocks. MeetsNone p.nodes (nodes_saved p) (values_of p blocks)) (λ blocks. meets_none p a blocks is) }
+has_values p a old mid inputs is r = record { inputs = r.fit; values = always p old.files (λ blocks. MeetsNone p (values_of p blocks)) (λ blocks. meets_none p a blocks is) }
 
 evaluated : (p : Plan) (a : Addition) (old mid : View) (inputs : List Array) → IsAddition p a → IsRead p old mid inputs → Evaluated p old mid (values_of p inputs)
 evaluated p a old mid inputs is r = record {
@@ -106,7 +110,7 @@ pub out_of_turns : (p : Plan) (s : SimWords) (a : Addition) (old mid : View) (in
 out_of_turns p s a old mid inputs can r input ends = record {
   cause = stopped p s a old mid inputs IsOutOfTurns can r input ends;
   saves = r.opens.held;
-  looked = inl (record { held = r.opens.held; created = r.opens.created });
+  valued = inl (record { held = r.opens.held; created = r.opens.created });
   others = λ n none. ap (λ f. f n) r.opens.held;
   tells = r.opens.tells;
   opened = r.opened;
@@ -120,7 +124,7 @@ pub out_of_events : (p : Plan) (s : SimWords) (a : Addition) (old mid : View) (i
 out_of_events p s a old mid inputs can r input ends = record {
   cause = stopped p s a old mid inputs IsOutOfEvents can r input ends;
   saves = r.opens.held;
-  looked = inl (record { held = r.opens.held; created = r.opens.created });
+  valued = inl (record { held = r.opens.held; created = r.opens.created });
   others = λ n none. ap (λ f. f n) r.opens.held;
   tells = r.opens.tells;
   opened = r.opened;
@@ -216,8 +220,8 @@ prints_served p s a old mid inputs name report turns Printed f printed = record 
 with_out : (saved new : View) (out : Option (List ℕ)) → OnlyOut saved new → OnlyOut saved (record new { out = out })
 with_out saved new out only = record { files = only.files; err = only.err; read_faults = only.read_faults; write_faults = only.write_faults; note_faults = only.note_faults }
 
-nothing_printed : (old new : Option (List ℕ)) (lines : List ℕ) → new ≡ old → PrintsPart old new lines
-nothing_printed old new lines same = record { count = 0; bound = omega arith; content = same ∙ follow_none old lines }
+nothing_printed : (out : Option (List ℕ)) (lines : List ℕ) → PrintsPart out out lines
+nothing_printed out lines = record { count = 0; bound = omega arith; content = follow_none out lines }
 
 pub save_starved : (p : Plan) (s : SimWords) (a : Addition) (old mid new : View) (inputs : List Array) (name : List ℕ) (report : Report) (turns : ℕ) → Finishes p s a old mid inputs name report turns →
     SavesSome (name ∷ []) (sum_file a inputs ∷ []) mid.files new.files → OnlyWrites mid new → SimulatesPlan p s old new (Ran OutOfMemory)
@@ -230,7 +234,7 @@ pub save_failed : (p : Plan) (s : SimWords) (a : Addition) (old mid new : View) 
 save_failed p s a old mid new inputs name report turns f some only rose =
     let r : RunsPlan p old new WriteFault = write_fault_runs p old mid new (values_of p inputs) (evaluated p a old mid inputs f.can.is f.read) (saves_some p s a old mid inputs name report turns new.files f some) only rose in
     ran p s old new new.out WriteFault r (record { addition = a; can = f.can }, r.cause.0, r.cause.1)
-    (prints_served p s a old mid inputs name report turns (PrintsPart old.out new.out) f (nothing_printed old.out new.out (lines_of p report turns) (only.out ∙ f.read.only.out)))
+    (prints_served p s a old mid inputs name report turns (PrintsFront p old new) f (inl (only.out ∙ f.read.only.out)))
 
 pub print_failed : (p : Plan) (s : SimWords) (a : Addition) (old mid saved new : View) (inputs : List Array) (name : List ℕ) (report : Report) (turns : ℕ) → Finishes p s a old mid inputs name report turns →
     SavesAll (name ∷ []) (sum_file a inputs ∷ []) mid.files saved.files → OnlyWrites mid saved → OnlyOut saved new → PrintsPart saved.out new.out (lines_of p report turns) → Rose saved.print_faults new.print_faults →
@@ -238,10 +242,10 @@ pub print_failed : (p : Plan) (s : SimWords) (a : Addition) (old mid saved new :
 print_failed p s a old mid saved new inputs name report turns f all writes prints printed rose =
     let r : RunsPlan p old (record new { out = saved.out }) WriteFault =
     print_fault_runs p old mid saved (record new { out = saved.out }) (values_of p inputs) (evaluated p a old mid inputs f.can.is f.read) (saves_all p s a old mid inputs name report turns saved.files f all) writes
-    (with_out saved new saved.out prints) (nothing_printed saved.out saved.out (run_lines p) refl) rose in
-    let P : Option (List ℕ) → Type 0 = λ o. PrintsPart o new.out (lines_of p report turns) in
+    (with_out saved new saved.out prints) (nothing_printed saved.out (run_lines p)) rose in
     ran p s old new saved.out WriteFault r (record { addition = a; can = f.can }, r.cause.0, r.cause.1)
-    (prints_served p s a old mid inputs name report turns (PrintsPart old.out new.out) f (subst P (writes.out ∙ f.read.only.out) printed))
+    (prints_served p s a old mid inputs name report turns (PrintsFront p old new) f
+    (inr (stops_printing p old mid saved new (values_of p inputs) (lines_of p report turns) (evaluated p a old mid inputs f.can.is f.read) (saves_all p s a old mid inputs name report turns saved.files f all) writes prints printed rose)))
 
 pub done : (p : Plan) (s : SimWords) (a : Addition) (old mid saved new : View) (inputs : List Array) (name : List ℕ) (report : Report) (turns : ℕ) → Finishes p s a old mid inputs name report turns →
     SavesAll (name ∷ []) (sum_file a inputs ∷ []) mid.files saved.files → OnlyWrites mid saved → OnlyOut saved new → new.out ≡ followed_by saved.out (lines_of p report turns) → SimulatesPlan p s old new (Ran Done)

@@ -1,7 +1,7 @@
 -- How the simulated run of a job ends, why it ends so, and what it leaves.
 use Rattle.std.specs.Prelude.{◌≡◌, ◌⊎◌, ℕ, ℤ, List, length}
 use Rattle.io_edge.specs.Cause.{Rose}
-use Rattle.io_edge.specs.Content.{followed_by, PrintsPart}
+use Rattle.io_edge.specs.Content.{followed_by}
 use Rattle.io_edge.specs.View.{View, Files, raised_by}
 use Rattle.cluster_msgs.specs.declared.events.Report.{Report}
 use Rattle.job_run.specs.declared.ends.Ended.{Ended}
@@ -9,7 +9,7 @@ use Rattle.job_run.specs.declared.ends.Ended.TheVariants.{Done, File, Zero, Read
 use Rattle.job_run.specs.Inputs.{InputRefused}
 use Rattle.job_run.specs.Part.{IsNoneOf}
 use Rattle.job_run.specs.Plan.{Plan, names_saved}
-use Rattle.job_run.specs.Runs.{HasValues, Saves as RunSaves, Opened as RunOpened, Created as RunCreated, Looked as RunLooked}
+use Rattle.job_run.specs.Runs.{HasValues, Saves as RunSaves, Opened as RunOpened, Created as RunCreated, PrintsFront, Valued as RunValued}
 use Rattle.job_run.specs.Values.{OnInputs}
 use Rattle.plain_eval.specs.Eval.{block_at}
 use Rattle.sim_words.specs.declared.sim.SimWords.{SimWords}
@@ -68,7 +68,7 @@ pub record PrintsServed (p : Plan) (s : SimWords) (files : Files) (Printed : Lis
 
 abbrev pub RanPrints : Plan → SimWords → View → View → Ended → Type 0
 RanPrints p s old new Done = PrintsServed p s old.files (λ lines. new.out ≡ followed_by old.out lines)
-RanPrints p s old new WriteFault = PrintsServed p s old.files (PrintsPart old.out new.out)
+RanPrints p s old new WriteFault = PrintsServed p s old.files (PrintsFront p old new)
 RanPrints p s old new end = new.out ≡ old.out
 
 -- the lines on standard output
@@ -80,7 +80,7 @@ Prints p s old new end = new.out ≡ old.out
 pub record SimulatesPlan (p : Plan) (s : SimWords) (old new : View) (end : SimEnded) : Type 0 where
   pub cause : Cause p s old new end
   pub saves : Saves p old.files new.files end
-  pub looked : RunLooked p p.inputs old.files new.files
+  pub valued : RunValued p p.inputs old.files new.files
   pub others : (n : List ℕ) → IsNoneOf n (names_saved p) → new.files.held n ≡ old.files.held n
   pub tells : new.files.tells ≡ old.files.tells
   pub opened : Opened p.inputs old.files.opened new.files.opened end

@@ -77,8 +77,8 @@ fn run_addition<S: Site>(
 /// of the simulation, and two last lines.
 ///
 /// `SimulatesPlan` says for each end why it comes and what it leaves: the file, byte for byte, how often each name was
-/// opened and created, and the lines. Whatever the end, no file is opened where the job isn't one that can be simulated, and
-/// none is touched before the input was accepted.
+/// opened and created, and the lines. Whatever the end, no file is opened where the job isn't one that can be simulated, none
+/// is touched unless the input was accepted, and no line is printed unless the saved file is whole.
 pub fn simulate_job<S: Site>(alloc: Global, site: &mut S, job: &Job, words: SimWords) -> SimEnded
     requires runs { IsRunnable (plan_of job.now) }
     requires words { AreSettings words }

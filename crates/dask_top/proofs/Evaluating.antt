@@ -1,0 +1,224 @@
+-- An evaluation of a job, whose text was read before it and whose end was told after it.
+use Rattle.std.proofs.Common.{◌≡◌, ℕ, ◌≤◌, List, ◌++◌, ap, sym, ◌∙◌, subst, inl, inr, arith, Option, Some, None, Ok}
+use Rattle.std.specs.Prelude.{IfSome, IsSomeAnd}
+use Rattle.io_edge.specs.Cause.{Rose}
+use Rattle.io_edge.specs.Content.{followed_by, PrintsPart}
+use Rattle.io_edge.specs.View.{View, Files, Opens, OnlyReads, OnlyErr, raised_by}
+use Rattle.job_run.specs.declared.ends.Ended.{Ended}
+use Rattle.job_run.specs.declared.ends.Ended.TheVariants as RunEnds
+use Rattle.job_run.specs.Inputs.{InputsFit}
+use Rattle.job_run.specs.Part.{AreLeft, IsNoneOf, RaisedAtMost}
+use Rattle.job_run.specs.Plan.{Plan, names_saved}
+use Rattle.job_run.specs.Runs.{AreSaved, Cause as RunCause, Saves as RunSaves, Opened as RunOpened, Created as RunCreated, Prints as RunPrints, HasValues, Looked, PrintsFront, RunsPlan, StopsPrinting, Valued, lines_of}
+use Rattle.job_run.specs.Values.{files_of}
+use Rattle.job_run.proofs.Counting.{none_raised}
+use Rattle.job_run.proofs.Running.{always}
+use Rattle.job_run.proofs.SavedFiles.{left_alone}
+use Rattle.dask_top.specs.declared.answer.End.{End}
+use Rattle.dask_top.specs.Answers.{Performs}
+use Rattle.dask_top.specs.Commands.{Evaluation}
+use Rattle.dask_top.specs.Ends.{Notes, run_end}
+use Rattle.dask_top.specs.Opening.{TextRead, JobRead}
+use Rattle.dask_top.specs.Telling.{IsPlaced, IsRefusal, Told, end_of}
+use Rattle.dask_top.specs.Works.{Evaluates, WorkDoes}
+use Rattle.dask_top.proofs.Opening.{raised_by-append, raised_more, raised_at_least}
+use Rattle.dask_top.proofs.Reading.{is_read}
+use Rattle.dask_top.proofs.Unread.{notes_before}
+
+-- ## After it, only standard error got its line
+
+cause_told : (p : Plan) (old mid new : View) (end : Ended) → OnlyErr mid new → RunCause p old mid end → RunCause p old new end
+cause_told p old mid new RunEnds.Done only cause = cause
+cause_told p old mid new (RunEnds.File place error) only cause = cause
+cause_told p old mid new (RunEnds.Zero node) only cause = cause
+cause_told p old mid new RunEnds.ReadFault only cause = rw only.read_faults cause
+cause_told p old mid new RunEnds.WriteFault only cause = rw (only.write_faults, only.print_faults) cause
+cause_told p old mid new RunEnds.OutOfMemory only cause = tt
+
+stops_told : (p : Plan) (old mid new : View) (lines : List ℕ) → OnlyErr mid new → StopsPrinting p old mid lines → StopsPrinting p old new lines
+stops_told p old mid new lines only s =
+    let S : Files → Type 0 = λ x. AreSaved p old.files x in
+    let O : Option (List ℕ) → Type 0 = λ o. PrintsPart old.out o lines in
+    let R : ℕ → Type 0 = λ n. Rose old.print_faults n in
+    record {
+      saved = subst S (sym only.files) s.saved;
+      created = ap (λ (x : Files). x.created) only.files ∙ s.created;
+      fault = subst R (sym only.print_faults) s.fault;
+      front = subst O (sym only.out) s.front;
+    }
+
+pub front_told : (p : Plan) (old mid new : View) (lines : List ℕ) → OnlyErr mid new → PrintsFront p old mid lines → PrintsFront p old new lines
+front_told p old mid new lines only prints = elim prints [ inl same ↦ inl (only.out ∙ same) | inr stops ↦ inr (stops_told p old mid new lines only stops) ]
+
+prints_told : (p : Plan) (old mid new : View) (end : Ended) → OnlyErr mid new → RunPrints p old mid end → RunPrints p old new end
+prints_told p old mid new RunEnds.Done only prints = only.out ∙ prints
+prints_told p old mid new RunEnds.WriteFault only prints = front_told p old mid new (lines_of p) only prints
+prints_told p old mid new (RunEnds.File place error) only prints = only.out ∙ prints
+prints_told p old mid new (RunEnds.Zero node) only prints = only.out ∙ prints
+prints_told p old mid new RunEnds.ReadFault only prints = only.out ∙ prints
+prints_told p old mid new RunEnds.OutOfMemory only prints = only.out ∙ prints
+
+evaluates_told : (sources : List (List ℕ)) (p : Plan) (old mid new : View) (end : Ended) → OnlyErr mid new → Evaluates sources p old mid end → Evaluates sources p old new end
+evaluates_told sources p old mid new end only e =
+    let S : Files → Type 0 = λ x. RunSaves p old.files x end in
+    let L : Files → Type 0 = λ x. Looked p (sources ++ p.inputs) old.files x in
+    let V : Files → Type 0 = λ x. Valued p (sources ++ p.inputs) old.files x in
+    let O : Files → Type 0 = λ x. RunOpened (sources ++ p.inputs) old.files.opened x.opened end in
+    let C : Files → Type 0 = λ x. RunCreated (names_saved p) old.files.created x.created end in
+    record {
+      cause = cause_told p old mid new end only e.cause;
+      saves = subst S (sym only.files) e.saves;
+      looked = subst L (sym only.files) e.looked;
+      valued = subst V (sym only.files) e.valued;
+      others = λ n none. ap (λ (x : Files). x.held n) only.files ∙ e.others n none;
+      opened = subst O (sym only.files) e.opened;
+      created = subst C (sym only.files) e.created;
+      prints = prints_told p old mid new end only e.prints;
+    }
+
+-- ## Memory was wanted for a refusal's line
+
+pub memory_saves : (p : Plan) (old new : Files) → new.held ≡ old.held → RunSaves p old new RunEnds.OutOfMemory
+memory_saves p old new same = always p old (λ blocks. AreLeft (names_saved p) (files_of p blocks) old new) (λ blocks. left_alone (names_saved p) (files_of p blocks) old new same)
+
+starved : (sources : List (List ℕ)) (p : Plan) (old new : View) → new.files.held ≡ old.files.held → Looked p (sources ++ p.inputs) old.files new.files → Valued p (sources ++ p.inputs) old.files new.files →
+    ((n : List ℕ) → IsNoneOf n (names_saved p) → new.files.held n ≡ old.files.held n) → RaisedAtMost (sources ++ p.inputs) old.files.opened new.files.opened → new.files.created ≡ old.files.created → new.out ≡ old.out → Evaluates sources p old new RunEnds.OutOfMemory
+starved sources p old new held looked valued others opened created prints = record {
+  cause = tt;
+  saves = memory_saves p old.files new.files held;
+  looked = looked;
+  valued = valued;
+  others = others;
+  opened = opened;
+  created = none_raised (names_saved p) old.files.created new.files.created created;
+  prints = prints;
+}
+
+evaluates_starved : (sources : List (List ℕ)) (p : Plan) (old new : View) (end : Ended) → IsRefusal (end_of end) → Evaluates sources p old new end → Evaluates sources p old new RunEnds.OutOfMemory
+evaluates_starved sources p old new (RunEnds.File place error) is e = starved sources p old new e.saves e.looked e.valued e.others e.opened e.created e.prints
+evaluates_starved sources p old new (RunEnds.Zero node) is e = starved sources p old new e.saves e.looked e.valued e.others e.opened e.created e.prints
+evaluates_starved sources p old new RunEnds.Done is e = absurd is
+evaluates_starved sources p old new RunEnds.ReadFault is e = absurd is
+evaluates_starved sources p old new RunEnds.WriteFault is e = absurd is
+evaluates_starved sources p old new RunEnds.OutOfMemory is e = absurd is
+
+-- ## Its end as an end of the program
+
+run_is : (P : Ended → Type 0) (end : Ended) → P end → IsSomeAnd (run_end (end_of end)) P
+run_is P RunEnds.Done holds = holds
+run_is P (RunEnds.File place error) holds = holds
+run_is P (RunEnds.Zero node) holds = holds
+run_is P RunEnds.ReadFault holds = holds
+run_is P RunEnds.WriteFault holds = holds
+run_is P RunEnds.OutOfMemory holds = holds
+
+evaluated : (sources : List (List ℕ)) (p : Plan) (old mid new : View) (end : Ended) (now : End) → Told (end_of end) now → OnlyErr mid new → Evaluates sources p old mid end → WorkDoes Evaluation sources p old new now
+evaluated sources p old mid new end now told only e =
+    let W : End → Type 0 = λ x. WorkDoes Evaluation sources p old new x in
+    elim told [
+      | inl same ↦ subst W (sym same) (run_is (Evaluates sources p old new) end (evaluates_told sources p old mid new end only e))
+      | inr refused ↦ subst W (sym refused.1) (evaluates_told sources p old mid new RunEnds.OutOfMemory only (evaluates_starved sources p old mid end refused.0 e))
+    ]
+
+pub placed : (p : Plan) (old new : View) (end : Ended) → RunCause p old new end → IsPlaced (Some (Ok p)) (end_of end)
+placed p old new RunEnds.Done cause = tt
+placed p old new (RunEnds.File place error) cause = cause.within
+placed p old new (RunEnds.Zero node) cause = cause.within
+placed p old new RunEnds.ReadFault cause = tt
+placed p old new RunEnds.WriteFault cause = tt
+placed p old new RunEnds.OutOfMemory cause = tt
+
+-- ## Before it, only the text was read
+
+pub rose_later : (a b c : ℕ) → a ≤ b → Rose b c → Rose a c
+rose_later a b c le rose = omega (arith, le, rose)
+
+pub fit_before : (p : Plan) (old mid : Files) → mid.held ≡ old.held → mid.tells ≡ old.tells → InputsFit p mid → InputsFit p old
+fit_before p old mid held tells fit = record { there = rw (← held, ← tells) fit.there; fit = rw (← held) fit.fit }
+
+pub values_before : (p : Plan) (old mid : Files) → mid.held ≡ old.held → mid.tells ≡ old.tells → HasValues p mid → HasValues p old
+values_before p old mid held tells has = record { inputs = fit_before p old mid held tells has.inputs; values = rw (← held) has.values }
+
+pub cause_before : (p : Plan) (old mid new : View) (end : Ended) → mid.files.held ≡ old.files.held → mid.files.tells ≡ old.files.tells → OnlyReads old mid → old.read_faults ≤ mid.read_faults → RunCause p mid new end → RunCause p old new end
+cause_before p old mid new RunEnds.Done held tells only later cause = values_before p old.files mid.files held tells cause
+cause_before p old mid new (RunEnds.File place error) held tells only later cause = record { within = cause.within; there = rw (← held, ← tells) cause.there; first = rw (← held) cause.first }
+cause_before p old mid new (RunEnds.Zero node) held tells only later cause = record { inputs = fit_before p old.files mid.files held tells cause.inputs; within = cause.within; zero_at = rw (← held) cause.zero_at }
+cause_before p old mid new RunEnds.ReadFault held tells only later cause = rose_later old.read_faults mid.read_faults new.read_faults later cause
+cause_before p old mid new RunEnds.WriteFault held tells only later cause = (values_before p old.files mid.files held tells cause.0, rw (← only.write_faults, ← only.print_faults) cause.1)
+cause_before p old mid new RunEnds.OutOfMemory held tells only later cause = tt
+
+pub saves_before : (p : Plan) (old mid new : Files) (end : Ended) → mid.held ≡ old.held → mid.tells ≡ old.tells → RunSaves p mid new end → RunSaves p old new end
+saves_before p old mid new RunEnds.Done held tells saves = rw (← held, ← tells) saves
+saves_before p old mid new RunEnds.WriteFault held tells saves = rw (← held, ← tells) saves
+saves_before p old mid new RunEnds.OutOfMemory held tells saves = rw (← held, ← tells) saves
+saves_before p old mid new (RunEnds.File place error) held tells saves = saves ∙ held
+saves_before p old mid new (RunEnds.Zero node) held tells saves = saves ∙ held
+saves_before p old mid new RunEnds.ReadFault held tells saves = saves ∙ held
+
+pub all_before : (names more : List (List ℕ)) (old mid new : List ℕ → ℕ) → mid ≡ raised_by names old → new ≡ raised_by more mid → new ≡ raised_by (names ++ more) old
+all_before names more old mid new first opened = opened ∙ (ap (raised_by more) first ∙ raised_by-append names more old)
+
+pub opened_before : (names more : List (List ℕ)) (old mid : Files) (new : List ℕ → ℕ) (end : Ended) → Opens names old mid → mid.opened ≡ raised_by names old.opened → RunOpened more mid.opened new end → RunOpened (names ++ more) old.opened new end
+opened_before names more old mid new RunEnds.Done opens first opened = all_before names more old.opened mid.opened new first opened
+opened_before names more old mid new RunEnds.WriteFault opens first opened = raised_more names more old mid new opens opened
+opened_before names more old mid new RunEnds.OutOfMemory opens first opened = raised_more names more old mid new opens opened
+opened_before names more old mid new (RunEnds.File place error) opens first opened = raised_more names more old mid new opens opened
+opened_before names more old mid new (RunEnds.Zero node) opens first opened = raised_more names more old mid new opens opened
+opened_before names more old mid new RunEnds.ReadFault opens first opened = raised_more names more old mid new opens opened
+
+pub valued_before : (names : List (List ℕ)) (p : Plan) (old mid new : Files) → Opens names old mid → mid.opened ≡ raised_by names old.opened → Valued p p.inputs mid new → Valued p (names ++ p.inputs) old new
+valued_before names p old mid new opens first valued = elim valued [
+  | inl same ↦ inl (record { held = same.held ∙ opens.held; created = same.created ∙ opens.created })
+  | inr there ↦ inr (record { opened = all_before names p.inputs old.opened mid.opened new.opened first there.opened; values = values_before p old mid opens.held opens.tells there.values })
+]
+
+pub looked_from : (names : List (List ℕ)) (p : Plan) (old new : Files) → Valued p names old new → Looked p names old new
+looked_from names p old new valued = elim valued [
+  | inl same ↦ inl same
+  | inr there ↦ inr (record { opened = raised_at_least names old.opened new.opened there.opened; inputs = there.values.inputs })
+]
+
+stops_before : (p : Plan) (old mid new : View) (lines : List ℕ) → mid.files.held ≡ old.files.held → mid.files.tells ≡ old.files.tells → mid.files.created ≡ old.files.created → OnlyReads old mid → StopsPrinting p mid new lines → StopsPrinting p old new lines
+stops_before p old mid new lines held tells created only s = record {
+  saved = saves_before p old.files mid.files new.files RunEnds.Done held tells s.saved;
+  created = s.created ∙ ap (raised_by (names_saved p)) created;
+  fault = rw (← only.print_faults) s.fault;
+  front = rw (← only.out) s.front;
+}
+
+pub front_before : (p : Plan) (old mid new : View) (lines : List ℕ) → mid.files.held ≡ old.files.held → mid.files.tells ≡ old.files.tells → mid.files.created ≡ old.files.created → OnlyReads old mid → PrintsFront p mid new lines → PrintsFront p old new lines
+front_before p old mid new lines held tells created only prints = elim prints [ inl same ↦ inl (same ∙ only.out) | inr stops ↦ inr (stops_before p old mid new lines held tells created only stops) ]
+
+prints_before : (p : Plan) (old mid new : View) (end : Ended) → mid.files.held ≡ old.files.held → mid.files.tells ≡ old.files.tells → mid.files.created ≡ old.files.created → OnlyReads old mid → RunPrints p mid new end → RunPrints p old new end
+prints_before p old mid new RunEnds.Done held tells created only prints = prints ∙ ap (λ o. followed_by o (lines_of p)) only.out
+prints_before p old mid new RunEnds.WriteFault held tells created only prints = front_before p old mid new (lines_of p) held tells created only prints
+prints_before p old mid new (RunEnds.File place error) held tells created only prints = prints ∙ only.out
+prints_before p old mid new (RunEnds.Zero node) held tells created only prints = prints ∙ only.out
+prints_before p old mid new RunEnds.ReadFault held tells created only prints = prints ∙ only.out
+prints_before p old mid new RunEnds.OutOfMemory held tells created only prints = prints ∙ only.out
+
+evaluates : (names : List (List ℕ)) (p : Plan) (old mid new : View) (read : List ℕ) (end : Ended) → TextRead names old mid read → RunsPlan p mid new end → Evaluates names p old new end
+evaluates names p old mid new read end t runs =
+    let opens = t.opens in
+    let valued : Valued p (names ++ p.inputs) old.files new.files = valued_before names p old.files mid.files new.files opens t.opened runs.valued in
+    let C : (List ℕ → ℕ) → Type 0 = λ f. RunCreated (names_saved p) f new.files.created end in
+    record {
+      cause = cause_before p old mid new end opens.held opens.tells t.only t.later runs.cause;
+      saves = saves_before p old.files mid.files new.files end opens.held opens.tells runs.saves;
+      looked = looked_from (names ++ p.inputs) p old.files new.files valued;
+      valued = valued;
+      others = λ n none. runs.others n none ∙ ap (λ f. f n) opens.held;
+      opened = opened_before names p.inputs old.files mid.files new.files.opened end opens t.opened runs.opened;
+      created = subst C opens.created runs.created;
+      prints = prints_before p old mid new end opens.held opens.tells opens.created t.only runs.prints;
+    }
+
+pub run_performs : (names : List (List ℕ)) (p : Plan) (old mid done new : View) (end : Ended) (now : End) → JobRead names old mid p → RunsPlan p mid done end → Told (end_of end) now → OnlyErr done new →
+    Notes (Some (Ok p)) done new now → Performs names Evaluation old new now
+run_performs names p old mid done new end now j runs told only notes = record {
+  reading = Some (Ok p);
+  read = is_read names old mid j.read (Ok p) j.text j.says;
+  does = evaluated names p old done new end now told only (evaluates names p old mid done j.read end j.text runs);
+  tells = ap (λ (x : Files). x.tells) only.files ∙ (runs.tells ∙ j.text.opens.tells);
+  notes = notes_before (Some (Ok p)) old done new now (runs.err ∙ j.text.only.err) (runs.note_faults ∙ j.text.only.note_faults) notes;
+}
