@@ -1,0 +1,4 @@
+pub mod Parting
+pub mod Unions
+pub mod Slicings
+pub mod Cutting
