@@ -67,14 +67,17 @@ impl<'a> Row<'a> {
         Ok(word)
     }
 
-    /// The next number.
-    pub fn number(&mut self) -> Result<i64, Why> {
-        number_of(self.word()?)
-    }
-
     /// The next number, which isn't negative.
     pub fn natural(&mut self) -> Result<u64, Why> {
         natural_of(self.word()?)
+    }
+
+    /// A number, or `-` for none.
+    pub fn optional(&mut self) -> Result<Option<i64>, Why> {
+        match self.word()? {
+            "-" => Ok(None),
+            word => Ok(Some(number_of(word)?)),
+        }
     }
 
     /// Numbers between commas, or `()` for none.

@@ -1,6 +1,6 @@
 //! Answers as text.
-use chunk_layout::Layout;
-use nd_shape::Region;
+use chunk_layout::{Layout, Levels};
+use nd_shape::{Piece, Region};
 use std::alloc::AllocError;
 use std::fmt::Display;
 
@@ -25,10 +25,28 @@ pub fn put_layout(out: &mut String, layout: &Layout) -> Result<(), AllocError> {
     Ok(())
 }
 
+/// Puts the sizes of the groups of each level.
+pub fn put_levels(out: &mut String, levels: &Levels) -> Result<(), AllocError> {
+    for sizes in levels.as_slice() {
+        put_list(out, sizes.as_slice())?;
+    }
+    Ok(())
+}
+
 /// Puts a region by its first indexes and its lengths.
 pub fn put_region(out: &mut String, region: &Region) -> Result<(), AllocError> {
     out.push_str(" from")?;
     put_list(out, region.starts())?;
     out.push_str(" so many")?;
     put_list(out, region.lengths())
+}
+
+/// Puts a piece: its source, where it begins there and in the new block, and its lengths.
+pub fn put_piece(out: &mut String, piece: &Piece) -> Result<(), AllocError> {
+    write!(out, " | {} at", piece.source)?;
+    put_list(out, piece.from.starts())?;
+    out.push_str(" to")?;
+    put_list(out, piece.to.starts())?;
+    out.push_str(" so many")?;
+    put_list(out, piece.to.lengths())
 }

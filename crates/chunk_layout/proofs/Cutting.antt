@@ -59,7 +59,7 @@ all_cut-push (s ∷ layout) sizes a c = (a.0, all_cut-push layout sizes a.1 c)
 
 -- ---- sizes as they are asked for
 
-some-append : (xs ys : List ℕ) → AllSome xs → AllSome ys → AllSome (xs ++ ys)
+pub some-append : (xs ys : List ℕ) → AllSome xs → AllSome ys → AllSome (xs ++ ys)
 some-append [] ys a b = b
 some-append (x ∷ xs) ys a b = (a.0, some-append xs ys a.1 b)
 
@@ -92,7 +92,7 @@ nonempty (s ∷ ss) n e = omega arith
 
 some-chunks : (n : ℕ) (spec : ChunkSpec) → CanCut (suc n) spec → AllSome (chunks_of (suc n) spec)
 some-chunks n (Even size) c = some-even (suc n) size c
-some-chunks n (Listed sizes) c = some-listed sizes (?)
+some-chunks n (Listed sizes) c = some-listed sizes (λ k b. c.0 k 0 b)
 
 -- what is cut as it is asked for
 pub is_cut-chunks : (len : ℕ) (spec : ChunkSpec) → len ≤ 2 ^ 31 → CanCut len spec → IsCut (chunks_of len spec)

@@ -5,3 +5,5 @@ pub mod Plans
 pub mod Trees
 pub mod Cuts
 pub mod Refusals
+pub mod Crossings
+pub mod Slicing

@@ -88,7 +88,9 @@ pub fn numbers_at(axes: &[Cuts], block: u64, numbers: &mut [u64])
     ensures inside { IsIn (counts axes.now) numbers.new }
 {
     let mut left = block;
-    for axis in (0..axes.len()).rev() {
+    let mut axis = axes.len();
+    while axis > 0 {
+        axis -= 1;
         let count = axes[axis].count();
         numbers[axis] = left % count;
         left /= count;

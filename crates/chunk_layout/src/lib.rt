@@ -8,9 +8,17 @@
 #![tactic(auto)]
 
 pub mod cuts;
+pub mod fold_tree;
 pub mod layout;
+pub mod merge;
 pub mod normal;
+pub mod plans;
+pub mod slices;
 
 pub use cuts::Cuts;
-pub use layout::Layout;
+pub use fold_tree::{Levels, tree};
+pub use layout::{Layout, numbers_at};
+pub use merge::{unify, union_of};
 pub use normal::{blocks_of, normalize};
+pub use plans::plan;
+pub use slices::{ChunkSteps, chunks_taken, slice_layout, slice_of};

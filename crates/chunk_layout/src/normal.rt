@@ -1,7 +1,7 @@
 //! Layouts from specifications of chunks.
 ghost use Rattle.std.specs.Prelude.{◌≡◌, ◌≢◌, ◌≤◌, ◌^◌, ◌-◌, length, min, IfOk, OnOk, IfErr};
 ghost use Rattle.nd_shape.specs.Shape.{IsShape};
-ghost use Rattle.chunk_layout.specs.Layouts.{blocks, normalized};
+ghost use Rattle.chunk_layout.specs.Layouts.{blocks, lengths, normalized};
 ghost use Rattle.chunk_layout.specs.Cuts.{IsLayout};
 ghost use Rattle.chunk_layout.specs.Refusals.{AreCut, RefusesCut};
 
@@ -16,6 +16,7 @@ use std::alloc::Global;
 /// wrong sum. Everything is counted before a size is made: `blocks_of` tells how many blocks there would be.
 pub fn normalize(alloc: Global, shape: &Shape, specs: &[ChunkSpec]) -> Result<Layout, ChunkError>
     ensures ok { IfOk result (λ layout. layout ≡ normalized shape.now specs.now) }
+    ensures shape { IfOk result (λ layout. lengths layout ≡ shape.now) }
     ensures cut { OnOk result (AreCut shape.now specs.now) }
     ensures err { IfErr result (λ e. RefusesCut shape.now specs.now e) }
 {
@@ -53,6 +54,7 @@ fn axes_of(alloc: Global, dims: &[u64], specs: &[ChunkSpec]) -> Result<Vec<Cuts>
     requires shape { IsShape dims.now }
     requires cut { AreCut dims.now specs.now }
     ensures ok { IfOk result (λ axes. axes.items ≡ normalized dims.now specs.now) }
+    ensures shape { IfOk result (λ axes. lengths axes.items ≡ dims.now) }
     ensures sound { IfOk result (λ axes. IsLayout axes.items) }
     ensures err { IfErr result (λ e. RefusesCut dims.now specs.now e) }
 {
