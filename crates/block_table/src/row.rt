@@ -11,13 +11,6 @@ pub struct Row<'a> {
     taken: usize,
 }
 
-fn number_of(word: &str) -> Result<i64, Why> {
-    match word.parse::<i64>() {
-        Ok(number) => Ok(number),
-        Err(_) => Err(Why::Ill),
-    }
-}
-
 fn natural_of(word: &str) -> Result<u64, Why> {
     match word.parse::<u64>() {
         Ok(number) => Ok(number),
@@ -70,14 +63,6 @@ impl<'a> Row<'a> {
     /// The next number, which isn't negative.
     pub fn natural(&mut self) -> Result<u64, Why> {
         natural_of(self.word()?)
-    }
-
-    /// A number, or `-` for none.
-    pub fn optional(&mut self) -> Result<Option<i64>, Why> {
-        match self.word()? {
-            "-" => Ok(None),
-            word => Ok(Some(number_of(word)?)),
-        }
     }
 
     /// Numbers between commas, or `()` for none.

@@ -3,18 +3,20 @@ use Rattle.std.proofs.Common.{◌≡◌, ◌≢◌, ℕ, zero, suc, ◌+◌, ◌
 use Rattle.std.specs.Prelude.{nat_lt, max}
 use Rattle.std.specs.List.{flat_map}
 use Rattle.std.proofs.lemmas.Grind.{flat_map-append}
-use Rattle.std.proofs.lemmas.List.{drop_more, drop_all, length_push, map-append, length-map}
+use Rattle.std.proofs.lemmas.List.{drop_more, drop_all, take_all, length_push, map-append, length-map}
 use Rattle.std.proofs.lemmas.Bool.{cases_lt, cases_eq}
 use Rattle.nd_shape.specs.declared.region.Piece.{Piece}
 use Rattle.nd_shape.specs.Index.{IsIn, place}
 use Rattle.nd_shape.specs.Region.{Box}
 use Rattle.nd_shape.specs.Chunk.{total}
-use Rattle.nd_shape.proofs.Totals.{total-more}
-use Rattle.chunk_layout.specs.Layouts.{counts, lengths, blocks}
+use Rattle.nd_shape.specs.Shape.{elements}
+use Rattle.nd_shape.proofs.Totals.{total-more, total-ge}
+use Rattle.chunk_layout.specs.Layouts.{counts, lengths, blocks, chunk_of}
 use Rattle.chunk_layout.specs.Cuts.{AllSome, IsCut, AllCut, AreStarts, IsLayout}
 use Rattle.chunk_layout.specs.Plans.{Overlap, with_overlap, overlaps_from, overlaps, overlaps_at, tuples, chunks_in, from_box, to_box, piece, parts}
 use Rattle.chunk_layout.specs.Crossings.{extended, IsOpen, AllOpen, HasElements, pieces_at}
-use Rattle.chunk_layout.proofs.Parting.{total-before}
+use Rattle.chunk_layout.proofs.Parting.{total-before, in-chunk, InChunk}
+use Rattle.chunk_layout.proofs.Cutting.{blocks-cut, count-small}
 
 -- ---- along an axis
 
@@ -323,3 +325,85 @@ no-parts (xs ∷ from) (ys ∷ to) (b ∷ bs) e i h = elim (cases_eq (get_or ys 
     both : get_or ys b 0 ≢ 0 → HasElements to bs → HasElements (ys ∷ to) (b ∷ bs)
     both d r zero g = d
     both d r (suc k) g = r k (omega arith)
+
+-- ---- as the code has it
+
+pub number-there : (layout : List (List ℕ)) (bs : List ℕ) (k : ℕ) → IsIn (counts layout) bs → k < length layout → (k < length bs) × (get_or bs k 0 < length (get_or layout k []))
+number-there [] bs k i h = absurd (omega arith)
+number-there (ss ∷ layout) [] k i h = absurd i
+number-there (ss ∷ layout) (b ∷ bs) zero i h = (omega arith, i.0)
+number-there (ss ∷ layout) (b ∷ bs) (suc k) i h = let r = number-there layout bs k i.1 (omega arith) in let r0 : k < length bs = r.0 in (omega arith, r.1)
+
+pub walked-begin : (from : List ℕ) (n : ℕ) (p : Piece) (low high chunk : ℕ) (outs : List Piece) → low < total from → chunk ≡ chunk_of from low
+    → IsWalked from n p low high chunk outs (outs ++ map (extended n p) (overlaps_from 0 0 low high from))
+walked-begin from n p low high chunk outs h e =
+    let i : InChunk from low chunk = subst (InChunk from low) (sym e) (in-chunk from low h) in
+    walked-first from n p low high chunk outs i.there i.low i.high
+
+pub record WalkedHere (from starts : List ℕ) (low high chunk : ℕ) : Type 0 where
+  pub inside : chunk < length from
+  pub at_is : get_or starts chunk 0 ≡ total (take chunk from)
+  pub next_is : get_or starts (chunk + 1) 0 ≡ total (take (chunk + 1) from)
+  pub past : low < total (take (chunk + 1) from)
+  pub grows : total (take chunk from) ≤ total (take (chunk + 1) from)
+
+pub walked-here : (from starts : List ℕ) (n : ℕ) (p : Piece) (low high chunk : ℕ) (outs res : List Piece) → AreStarts from starts → IsWalked from n p low high chunk outs res
+    → get_or starts chunk 0 < high → high ≤ total from → WalkedHere from starts low high chunk
+walked-here from starts n p low high chunk outs res s w b t =
+    let at : get_or starts chunk 0 ≡ total (take chunk from) = s.at chunk w.there in
+    let h : chunk < length from = elim (cases_lt chunk (length from)) [
+      | inl lt ↦ lt
+      | inr ge ↦ let e : total (take chunk from) ≡ total from = ap total (take_all chunk from ge) in absurd (omega arith)
+    ] in
+    let m : total (take (chunk + 1) from) ≡ total (take chunk from) + get_or from chunk 0 = total-more from chunk h in
+    let u : low < total (take chunk from) + get_or from chunk 0 = w.above h in
+    record { inside = h; at_is = at; next_is = s.at (chunk + 1) (omega arith); past = omega arith; grows = omega arith }
+
+both-some : (m n : ℕ) → 0 < m → 0 < n → 0 < m * n
+both-some zero n h g = absurd (omega arith)
+both-some (suc m) n h g = omega arith
+
+some-elements : (to : List (List ℕ)) (bs : List ℕ) → IsIn (counts to) bs → HasElements to bs → 0 < elements (lengths to)
+some-elements [] bs i h = omega arith
+some-elements (ys ∷ to) [] i h = absurd i
+some-elements (ys ∷ to) (b ∷ bs) i h =
+    let d : get_or ys b 0 ≢ 0 = h 0 (omega arith) in
+    let g : get_or ys b 0 ≤ total ys = total-ge ys b i.0 in
+    both-some (total ys) (elements (lengths to)) (some d g) (some-elements to bs i.1 (λ k lt. h (suc k) (omega arith)))
+  where
+    some : get_or ys b 0 ≢ 0 → get_or ys b 0 ≤ total ys → 0 < total ys
+    some d g = omega arith
+
+pub crossed-begin : (from to : List (List ℕ)) (bs : List ℕ) → IsLayout from → lengths from ≡ lengths to → IsIn (counts to) bs → HasElements to bs → IsCrossed from to bs 0 (no_axis ∷ [])
+crossed-begin from to bs l e i h =
+    let p : 0 < elements (lengths to) = some-elements to bs i h in
+    let q : 0 < elements (lengths from) = rw e p in
+    let b : blocks from ≤ elements (lengths from) = blocks-cut from l.cuts q in
+    let s : elements (lengths from) ≤ 2 ^ 31 = l.shape.product in
+    let n : length (lengths from) ≡ length from = length-map from (λ (ss : List ℕ). total ss) in
+    let a : length (lengths from) ≤ 8 = l.shape.axes in
+    crossed-first from to bs (omega arith) (omega arith)
+
+-- the range of a chunk of the block, which has an element
+pub record RangeHere (xs ys starts : List ℕ) (j : ℕ) : Type 0 where
+  pub low_is : get_or starts j 0 ≡ total (take j ys)
+  pub high_is : get_or starts (j + 1) 0 ≡ total (take j ys) + get_or ys j 0
+  pub some : get_or starts j 0 < get_or starts (j + 1) 0
+  pub top : get_or starts (j + 1) 0 ≤ total xs
+
+pub range-here : (xs ys starts : List ℕ) (j : ℕ) → AreStarts ys starts → total xs ≡ total ys → j < length ys → get_or ys j 0 ≢ 0 → RangeHere xs ys starts j
+range-here xs ys starts j s e h d =
+    let a : get_or starts j 0 ≡ total (take j ys) = s.at j (omega arith) in
+    let z : get_or starts (j + 1) 0 ≡ total (take (j + 1) ys) = s.at (j + 1) (omega arith) in
+    let m : total (take (j + 1) ys) ≡ total (take j ys) + get_or ys j 0 = total-more ys j h in
+    let b : total (take j ys) + get_or ys j 0 ≤ total ys = total-before ys j h in
+    record { low_is = a; high_is = omega arith; some = positive d; top = omega arith }
+  where
+    positive : get_or ys j 0 ≢ 0 → get_or starts j 0 < get_or starts (j + 1) 0
+    positive q = let a : get_or starts j 0 ≡ total (take j ys) = s.at j (omega arith) in
+        let z : get_or starts (j + 1) 0 ≡ total (take (j + 1) ys) = s.at (j + 1) (omega arith) in
+        let m : total (take (j + 1) ys) ≡ total (take j ys) + get_or ys j 0 = total-more ys j h in
+        omega arith
+
+pub no_pieces : (from to : List (List ℕ)) (bs : List ℕ) → lengths from ≡ lengths to → IsIn (counts to) bs → (HasElements to bs → ⊥) → [] ≡ pieces_at from to bs
+no_pieces from to bs e i h = sym (ap (λ (ts : List (List Overlap)). map (λ os. piece (place (counts from) (chunks_in os)) os) ts) (no-parts from to bs e i h))

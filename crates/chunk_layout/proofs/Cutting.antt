@@ -36,6 +36,12 @@ count-cut sizes c p = elim c.each [
   | inr s ↦ count-some sizes s
 ]
 
+pub count-small : (sizes : List ℕ) → IsCut sizes → length sizes ≤ 2 ^ 31
+count-small sizes c = elim c.each [
+  | inl e ↦ let one : length sizes ≡ 1 = ap length e in omega arith
+  | inr s ↦ let a : length sizes ≤ total sizes = count-some sizes s in let b : total sizes ≤ 2 ^ 31 = c.small in omega arith
+]
+
 factor-pos : (n s : ℕ) → 0 < n * s → (0 < n) × (0 < s)
 factor-pos zero s h = absurd (omega arith)
 factor-pos (suc n) zero h = absurd (omega arith)

@@ -7,5 +7,3 @@ pub mod Normals
 pub mod Folding
 pub mod Merging
 pub mod Crossing
-pub mod Running
-pub mod Taking

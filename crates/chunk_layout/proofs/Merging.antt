@@ -7,7 +7,7 @@ use Rattle.nd_shape.specs.Chunk.{total}
 use Rattle.nd_shape.proofs.Totals.{total-more}
 use Rattle.chunk_layout.specs.Layouts.{lengths}
 use Rattle.chunk_layout.specs.Unions.{Parted, part_more, parted, union, unified}
-use Rattle.chunk_layout.specs.Cuts.{AllSome, IsCut, AllCut}
+use Rattle.chunk_layout.specs.Cuts.{AllSome, IsCut, AllCut, AreStarts}
 use Rattle.chunk_layout.proofs.Parting.{total-before}
 use Rattle.chunk_layout.proofs.Unions.{total-union}
 use Rattle.chunk_layout.proofs.Cutting.{some-append, all_cut-push}
@@ -91,7 +91,7 @@ zero-union xs ys c d t z =
     let ey : ys ≡ 0 ∷ [] = zero-cut ys d (sym t ∙ z) in
     ex ∙ sym (ap (λ (zs : List ℕ). union zs ys) ex ∙ ap (union (0 ∷ [])) ey)
 
-has-some : (xs : List ℕ) → 0 < total xs → 0 < length xs
+pub has-some : (xs : List ℕ) → 0 < total xs → 0 < length xs
 has-some [] h = absurd (omega arith)
 has-some (x ∷ xs) h = omega arith
 
@@ -198,7 +198,7 @@ stayed xs i at end s h b e =
 
 pub merged-more : (xs ys sizes : List ℕ) (i j at end i' j' : ℕ) → AllSome xs → AllSome ys → total xs ≡ total ys → IsMerged xs ys sizes i j at → at < total xs
     → end ≡ min (total (take (i + 1) xs)) (total (take (j + 1) ys))
-    → i' ≡ i + cond (nat_eq (total (take (i + 1) xs)) end) 1 0 → j' ≡ j + cond (nat_eq (total (take (j + 1) ys)) end) 1 0
+    → i' ≡ i + cond {A = ℕ} (nat_eq (total (take (i + 1) xs)) end) 1 0 → j' ≡ j + cond {A = ℕ} (nat_eq (total (take (j + 1) ys)) end) 1 0
     → IsMerged xs ys (sizes ++ (end - at) ∷ []) i' j' end
 merged-more xs ys sizes i j at end i' j' a b t m h en ei ej =
     let hi : i < length xs = stands-in xs i at m.left h in
@@ -218,7 +218,7 @@ merged-more xs ys sizes i j at end i' j' a b t m h en ei ej =
       | inl lt ↦
           let e : end ≡ x = omega arith in
           let pi : i' ≡ i + 1 = ei ∙ ap (λ (k : ℕ). i + k) (passes x end (sym e)) in
-          let pj : j' ≡ j = ej ∙ ap (λ (k : ℕ). j + k) (stays y end (omega arith)) ∙ plus-none j in
+          let pj : j' ≡ j = ej ∙ ap (λ (k : ℕ). j + k) (stays y end (λ q. absurd (omega arith))) ∙ plus-none j in
           subst (λ k. IsMerged xs ys (sizes ++ (end - at) ∷ []) k j' end) (sym pi) (subst (λ k. IsMerged xs ys (sizes ++ (end - at) ∷ []) (i + 1) k end) (sym pj) (record {
             left = pass xs i end a hi (sym e);
             right = stay ys j at end m.right hj (omega arith) (omega arith);
@@ -232,7 +232,7 @@ merged-more xs ys sizes i j at end i' j' a b t m h en ei ej =
       | inr ge ↦ elim (cases_lt y x) [
         | inl lt ↦
             let e : end ≡ y = omega arith in
-            let pi : i' ≡ i = ei ∙ ap (λ (k : ℕ). i + k) (stays x end (omega arith)) ∙ plus-none i in
+            let pi : i' ≡ i = ei ∙ ap (λ (k : ℕ). i + k) (stays x end (λ q. absurd (omega arith))) ∙ plus-none i in
             let pj : j' ≡ j + 1 = ej ∙ ap (λ (k : ℕ). j + k) (passes y end (sym e)) in
             subst (λ k. IsMerged xs ys (sizes ++ (end - at) ∷ []) k j' end) (sym pi) (subst (λ k. IsMerged xs ys (sizes ++ (end - at) ∷ []) i k end) (sym pj) (record {
               left = stay xs i at end m.left hi (omega arith) (omega arith);
@@ -262,10 +262,10 @@ merged-more xs ys sizes i j at end i' j' a b t m h en ei ej =
       ]
     ]
   where
-    passes : (x end : ℕ) → x ≡ end → cond (nat_eq x end) 1 0 ≡ 1
+    passes : (x end : ℕ) → x ≡ end → cond {A = ℕ} (nat_eq x end) 1 0 ≡ 1
     passes x end h = grind arith
 
-    stays : (x end : ℕ) → x ≢ end → cond (nat_eq x end) 1 0 ≡ 0
+    stays : (x end : ℕ) → x ≢ end → cond {A = ℕ} (nat_eq x end) 1 0 ≡ 0
     stays x end h = grind arith
 
     plus-none : (n : ℕ) → n + 0 ≡ n
@@ -302,3 +302,37 @@ unions-more axes a b k x same h e c t l v =
           ∙ ap (λ (ns : List (List ℕ)). axes ++ unified ns (get_or b k [] ∷ drop (k + 1) b)) (sym (drop_more a k [] h))
           ∙ ap (λ (ns : List (List ℕ)). axes ++ unified (drop k a) ns) (sym (drop_more b k [] g)) ∙ v;
     }
+
+-- ---- where the walk goes next
+
+pub record MergeEnd (xs ys left right : List ℕ) (i j at end : ℕ) : Type 0 where
+  pub past : at < end
+  pub top : end ≤ total xs
+  pub left_is : get_or left (i + 1) 0 ≡ total (take (i + 1) xs)
+  pub right_is : get_or right (j + 1) 0 ≡ total (take (j + 1) ys)
+  pub end_is : end ≡ min (total (take (i + 1) xs)) (total (take (j + 1) ys))
+
+pub merge-end : (xs ys left right sizes : List ℕ) (i j at end : ℕ) → AreStarts xs left → AreStarts ys right → total xs ≡ total ys → IsMerged xs ys sizes i j at → at < total xs
+    → end ≡ min (get_or left (i + 1) 0) (get_or right (j + 1) 0) → MergeEnd xs ys left right i j at end
+merge-end xs ys left right sizes i j at end s t e m h en =
+    let hi : i < length xs = stands-in xs i at m.left h in
+    let hj : j < length ys = stands-in ys j at m.right (omega arith) in
+    let x : get_or left (i + 1) 0 ≡ total (take (i + 1) xs) = s.at (i + 1) (omega arith) in
+    let y : get_or right (j + 1) 0 ≡ total (take (j + 1) ys) = t.at (j + 1) (omega arith) in
+    let mx : total (take (i + 1) xs) ≡ total (take i xs) + get_or xs i 0 = total-more xs i hi in
+    let my : total (take (j + 1) ys) ≡ total (take j ys) + get_or ys j 0 = total-more ys j hj in
+    let bx : total (take i xs) + get_or xs i 0 ≤ total xs = total-before xs i hi in
+    let ux : at < total (take i xs) + get_or xs i 0 = m.left.high hi in
+    let uy : at < total (take j ys) + get_or ys j 0 = m.right.high hj in
+    record { past = omega arith; top = omega arith; left_is = x; right_is = y; end_is = omega arith }
+
+-- ---- as the code has it
+
+pub union_of_none : (zs xs ys : List ℕ) → zs ≡ xs → IsCut xs → IsCut ys → total xs ≡ total ys → total xs ≡ 0 → zs ≡ union xs ys
+union_of_none zs xs ys e c d t z = e ∙ zero-union xs ys c d t z
+
+pub union_is_cut : (zs xs ys : List ℕ) → zs ≡ union xs ys → IsCut xs → IsCut ys → total xs ≡ total ys → IsCut zs
+union_is_cut zs xs ys e c d t = subst IsCut (sym e) (is_cut-union xs ys c d t)
+
+pub cut_of_union : (xs ys : List ℕ) → IsCut xs → IsCut ys → total xs ≡ total ys → IsCut (union xs ys)
+cut_of_union xs ys c d t = is_cut-union xs ys c d t

@@ -6,4 +6,3 @@ pub mod Trees
 pub mod Cuts
 pub mod Refusals
 pub mod Crossings
-pub mod Slicing

@@ -33,16 +33,19 @@ fn unions(alloc: Global, a: &[Cuts], b: &[Cuts]) -> Result<Vec<Cuts>, AllocError
 }
 
 /// The cut of an axis at the boundaries of two cuts of it.
+#[tactic(auto, using(crate::proofs::Merging::union_of_none, crate::proofs::Merging::union_is_cut, crate::proofs::Merging::cut_of_union))]
 pub fn union_of(alloc: Global, a: &Cuts, b: &Cuts) -> Result<Cuts, AllocError>
     requires { total a.now ≡ total b.now }
     ensures value { IfOk result (λ cuts. cuts ≡ union a.now b.now) }
     ensures cut { IsCut (union a.now b.now) }
 {
-    let _ = (a.sizes(), b.sizes());
+    let _ = a.sizes();
+    let _ = b.sizes();
     if a.len() == 0 {
         return a.copy(alloc);
     }
-    Cuts::of(alloc, merged(alloc, a, b)?)
+    let sizes = merged(alloc, a, b)?;
+    Cuts::of(alloc, sizes)
 }
 
 // 1 where a chunk ends here, 0 where it goes on.
