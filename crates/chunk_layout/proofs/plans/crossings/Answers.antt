@@ -23,7 +23,7 @@ bounds-numbers-axis c =
 pub crossed-requires-clause-open : goal.crossed-requires-clause-open
 crossed-requires-clause-open c =
     let x : c.index-from-axis.result ≡ get_or c.args.from.now c.loop-axis.axis [] = get_or_read c.args.from.now c.loop-axis.axis c.index-from-axis.result c.loop-axis-test.true c.index-from-axis.is [] in
-    rw c.as_slice.ensures (subst (λ (ss : List ℕ). AllOpen 1 (length ss) c.loop-axis.pieces.items) (sym x)
+    rw c.as_slice.ensures.value (subst (λ (ss : List ℕ). AllOpen 1 (length ss) c.loop-axis.pieces.items) (sym x)
     (crossed-room c.args.from.now c.args.to.now c.args.numbers.now c.loop-axis.axis c.loop-axis.pieces.items c.requires.sound.cuts c.loop-axis-test.true c.loop-axis.invariant))
 
 pub crossed-requires-clause-some : goal.crossed-requires-clause-some
@@ -63,7 +63,7 @@ loop-axis-preserved c =
     let high = get_or c.starts-starts.result.now (j + 1) 0 in
     crossed-more c.args.from.now c.args.to.now c.args.numbers.now c.loop-axis.axis low high c.loop-axis.pieces.items _
     c.loop-axis-test.true s.0 n.0 r.low_is r.high_is
-    (c.in_ok-pieces.ensures ∙ ap (λ (ps : List Piece). flat_map (λ (p : Piece). map (extended (length c.index-from-axis.result) p) (overlaps_from 0 0 low high c.index-from-axis.result)) ps) c.as_slice.ensures ∙ ap (λ (ss : List ℕ). flat_map (λ (p : Piece). map (extended (length ss) p) (overlaps_from 0 0 low high ss)) c.loop-axis.pieces.items) x)
+    (c.in_ok-pieces.ensures ∙ ap (λ (ps : List Piece). flat_map (λ (p : Piece). map (extended (length c.index-from-axis.result) p) (overlaps_from 0 0 low high c.index-from-axis.result)) ps) c.as_slice.ensures.value ∙ ap (λ (ss : List ℕ). flat_map (λ (p : Piece). map (extended (length ss) p) (overlaps_from 0 0 low high ss)) c.loop-axis.pieces.items) x)
     c.loop-axis.invariant
 
 pub returns : goal.returns
