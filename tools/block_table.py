@@ -4,9 +4,8 @@
     python3 tools/block_table.py          writes crates/block_table/stdin and crates/block_table/stdout
 
 An array is here the list of its indexes, and nothing of the program's way is used: the chunks of an axis follow Dask's
-page on chunks; the blocks, the block of an index, the pieces of a plan and the chunks of a slice are read off from which
-indexes lie together; a union of boundaries is the sorted set of both; a slice is Python's `range`. What is refused has the
-program's words for it.
+page on chunks; the blocks, the block of an index and the pieces of a plan are read off from which indexes lie together; a
+union of boundaries is the sorted set of both. What is refused has the program's words for it.
 """
 
 import itertools
