@@ -1,3 +1,9 @@
 pub mod Parting
 pub mod Unions
 pub mod Slicings
+pub mod Cutting
+pub mod Numbering
+pub mod Normals
+pub mod Folding
+pub mod Merging
+pub mod Crossing

@@ -95,7 +95,7 @@ chunks-box (ss ∷ layout) (b ∷ bs) [] h g = absurd g
 chunks-box (ss ∷ layout) (b ∷ bs) (i ∷ is) h g =
     ap (λ x. x ∷ chunks_at layout (moved (starts_at layout bs) is)) (chunk_of-at ss b i h.0 g.0) ∙ ap (λ xs. b ∷ xs) (chunks-box layout bs is h.1 g.1)
 
-chunks-in : (layout : List (List ℕ)) (is : List ℕ) → IsIn (lengths layout) is
+pub chunks-in : (layout : List (List ℕ)) (is : List ℕ) → IsIn (lengths layout) is
     → IsIn (counts layout) (chunks_at layout is) × ((js : List ℕ) × IsIn (lengths_at layout (chunks_at layout is)) js × (moved (starts_at layout (chunks_at layout is)) js ≡ is))
 chunks-in [] [] h = (tt, ([], tt, refl))
 chunks-in [] (i ∷ is) h = absurd h

@@ -65,14 +65,14 @@ abbrev pub PiecesFit : List ℕ → Steps → ℕ → List Taken → Type 0
 PiecesFit sizes s t [] = Unit {0}
 PiecesFit sizes s t (p ∷ ps) = PieceFits sizes s t p × PiecesFit sizes s (t + p.steps.count) ps
 
-spread : (a step : ℤ) (t i : ℕ) → a +ℤ (step *ℤ pos (t + i)) ≡ a +ℤ (step *ℤ pos t) +ℤ (step *ℤ pos i)
+pub spread : (a step : ℤ) (t i : ℕ) → a +ℤ (step *ℤ pos (t + i)) ≡ a +ℤ (step *ℤ pos t) +ℤ (step *ℤ pos i)
 spread a step t i = omega (arith, ints)
 
-abs-of : (z : ℤ) → pos 0 ≤ℤ z → pos (unsigned_abs z) ≡ z
+pub abs-of : (z : ℤ) → pos 0 ≤ℤ z → pos (unsigned_abs z) ≡ z
 abs-of (pos n) h = refl
 abs-of (negsuc n) h = absurd (omega (arith, ints, h))
 
-below-abs : (z : ℤ) (n : ℕ) → pos 0 ≤ℤ z → z <ℤ pos n → unsigned_abs z < n
+pub below-abs : (z : ℤ) (n : ℕ) → pos 0 ≤ℤ z → z <ℤ pos n → unsigned_abs z < n
 below-abs z n low high = let e : pos (unsigned_abs z) ≡ z = abs-of z low in omega (arith, ints, high)
 
 counted-from : (a b l : ℕ) (d : ℤ) → pos b ≡ pos a +ℤ d → l ≤ a → l ≤ b → pos (a - l) +ℤ d ≡ pos (b - l)
@@ -99,7 +99,7 @@ piece-at sizes s t n f h some run =
     }
 
 -- no run is empty
-abbrev AllSome : List Run → Type 0
+abbrev pub AllSome : List Run → Type 0
 AllSome [] = Unit {0}
 AllSome (r ∷ rs) = (0 < r.count) × AllSome rs
 
@@ -116,7 +116,7 @@ some-more c (r ∷ rs) a = elim (cases_eq c r.number) [
     other : (c : ℕ) (r : Run) (rs : List Run) → c ≢ r.number → with_number c (r ∷ rs) ≡ record { number = c; count = 1 } ∷ r ∷ rs
     other c r rs h = grind arith
 
-some-runs : (cs : List ℕ) → AllSome (runs cs)
+pub some-runs : (cs : List ℕ) → AllSome (runs cs)
 some-runs [] = tt
 some-runs (c ∷ cs) = some-more c (runs cs) (some-runs cs)
 
@@ -124,10 +124,11 @@ pieces-from : (sizes : List ℕ) (s : Steps) (t : ℕ) (rs : List Run) → Steps
 pieces-from sizes s t [] f a p h = tt
 pieces-from sizes s t (r ∷ rs) f a p h =
     let z : t + 0 ≡ t = omega arith in
-    let first : chunk_of sizes (coordinate s t) ≡ r.number = ap (λ k. chunk_of sizes (coordinate s k)) (sym z) ∙ a.0 0 p.0 in
-    (subst (λ c. PieceFits sizes s t (record { chunk = c; steps = record { start = coordinate s t - total (take c sizes); step = s.step; count = r.count } })) first
-    (piece-at sizes s t r.count f (omega arith) p.0 (λ i lt. a.0 i lt ∙ sym first)),
-    pieces-from sizes s (t + r.count) rs f a.1 p.1 (omega arith))
+    let first : chunk_of sizes (coordinate s t) ≡ r.number = ap (λ k. chunk_of sizes (coordinate s k)) (sym z) ∙ a.0 0 p.0 in (
+      subst (λ c. PieceFits sizes s t (record { chunk = c; steps = record { start = coordinate s t - total (take c sizes); step = s.step; count = r.count } })) first
+          (piece-at sizes s t r.count f (omega arith) p.0 (λ i lt. a.0 i lt ∙ sym first)),
+      pieces-from sizes s (t + r.count) rs f a.1 p.1 (omega arith),
+    )
 
 counts-from : (sizes : List ℕ) (s : Steps) (t : ℕ) (rs : List Run) → total (counts_taken (taken_from sizes s t rs)) ≡ counts_run rs
 counts-from sizes s t [] = refl
