@@ -1,4 +1,4 @@
--- Nothing in the world names a key that isn't there.
+-- Nothing in the world names a key that isn't there, whatever operations give.
 use Rattle.std.proofs.Common.{◌≡◌, ℕ, zero, suc, ◌+◌, Bool, true, false, not, ◌&&◌, List, [], ◌∷◌, ◌++◌, Option, Some, None, refl, sym, ap, ◌∙◌, subst, cond, is_some, filter, find}
 use Rattle.std.specs.Prelude.{◌==◌, nat_lt}
 use Rattle.std.specs.List.{list_all, AllByRecursion}
@@ -29,12 +29,11 @@ use Rattle.cluster_rules.specs.World.{Job, World, Parcel, opening, is_connected,
 use Rattle.cluster_rules.specs.WorldStep.{scheduled, sends, client_sends, worked, client_worked, at_scheduler, at_worker, at_client, new_at, died, cut_off, take_down_first, take_up, take_up_first, take_to_client, take_from_client, ask_by, gathered_at, failed_at, serve, take_answer, fail_ask, spill, world_step}
 use Rattle.cluster_rules.specs.Enabled.{enabled}
 use Rattle.cluster_rules.specs.Runs.{LegalFrom, run_from, legal, reached}
-use Rattle.cluster_laws.specs.Truth.{no_excuse, IsTrueWorld, IsTrueSchedEvent, IsTrueUp}
+use Rattle.cluster_laws.specs.Moves.{world_after}
 use Rattle.cluster_rules.specs.Inside.{IsKey, AreKeys, down_keys, news_keys, item_keys, IsInsideWorker, IsInsideClient, IsInsideWorld}
 use Rattle.cluster_rules.proofs.WorkerLemmas.{at_one}
 use Rattle.cluster_rules.proofs.AllLemmas.{all_append}
-use Rattle.cluster_laws.proofs.TruthSched.{true_change, true_sched_step}
-use Rattle.cluster_laws.proofs.TruthWorld.{true_world_step, true_opening, true_new_at}
+use Rattle.cluster_laws.proofs.Framed.{change_framed, step_setting}
 use Rattle.cluster_rules.proofs.InsideWorker.{all_filter_in, IsInsideStep, IsInsideEvent, in_step, sends_in, requested_in, parcels_with}
 use Rattle.cluster_rules.proofs.InsideSched.{IsInsideSched, down_in, mail_in, news_in, letters_in, IsInsideClientEvent, IsClientStep, client_in, client_sends_in, client_requested_in, all_found}
 
@@ -47,13 +46,12 @@ module _ (j : Job) (low : IsShape j.setting.shape) where
   keys_of_test (k ∷ ks) g e h = let p = and_parts (nat_lt k (key_count g)) _ h in (subst (λ (s : Shape). nat_lt k (key_count s) ≡ true) e p.0, keys_of_test ks g e p.1)
 
   -- the scheduler took an event
-  in_scheduler : (w : World) (e : SchedEvent) → IsInsideSched graph low e → IsTrueSchedEvent j e → IsTrueWorld no_excuse j w → IsInsideWorld graph w → IsInsideWorld graph (at_scheduler w e)
+  in_scheduler : (w : World) (e : SchedEvent) → IsInsideSched graph low e → IsInsideWorld graph w → IsInsideWorld graph (at_scheduler w e)
   unfolding scheduled
-  in_scheduler w e v t r h =
-      let c = true_change no_excuse j w.sched e t r.sched in
-      let same : (change w.sched e).facts.setting ≡ w.sched.setting = c.setting ∙ sym r.sched.setting in
+  in_scheduler w e v h =
+      let same : (change w.sched e).facts.setting ≡ w.sched.setting = (change_framed w.sched e).setting in
       record {
-        shape = ap (λ (x : Setting). x.shape) (true_sched_step no_excuse j w.sched e t r.sched).setting;
+        shape = ap (λ (x : Setting). x.shape) (step_setting w.sched e) ∙ h.shape;
         workers = h.workers;
         clients = h.clients;
         spilled = h.spilled;
@@ -166,15 +164,12 @@ module _ (j : Job) (low : IsShape j.setting.shape) where
       all : AllByRecursion (λ m. AreKeys graph (down_keys m)) (m ∷ ms)
       all = subst (λ l. AllByRecursion (λ m. AreKeys graph (down_keys m)) l) e (h.down i)
 
-  in_take_up : (w : World) (i : ℕ) (ms : List Up) → w.up i ≡ ms → IsTrueWorld no_excuse j w → IsInsideWorld graph w → IsInsideWorld graph (take_up_first w i ms)
-  in_take_up w i [] e r h = h
-  in_take_up w i (m ∷ ms) e r h = heard (is_connected w i)
+  in_take_up : (w : World) (i : ℕ) (ms : List Up) → w.up i ≡ ms → IsInsideWorld graph w → IsInsideWorld graph (take_up_first w i ms)
+  in_take_up w i [] e h = h
+  in_take_up w i (m ∷ ms) e h = heard (is_connected w i)
     where
       all : AllByRecursion (λ m. AreKeys graph (up_keys m)) (m ∷ ms)
       all = subst (λ l. AllByRecursion (λ m. AreKeys graph (up_keys m)) l) e (h.up i)
-
-      true_all : AllByRecursion (IsTrueUp j) (m ∷ ms)
-      true_all = subst (λ l. AllByRecursion (IsTrueUp j) l) e (r.up i)
 
       rest : IsInsideWorld graph (record w { up = put w.up i ms })
       rest = record {
@@ -190,11 +185,8 @@ module _ (j : Job) (low : IsShape j.setting.shape) where
         up = at_one i (λ b x. AllByRecursion (λ m. AreKeys graph (up_keys m)) (cond b ms (w.up x))) all.1 h.up;
       }
 
-      true_rest : IsTrueWorld no_excuse j (record w { up = put w.up i ms })
-      true_rest = record { sched = r.sched; workers = r.workers; clients = r.clients; up = at_one i (λ b x. AllByRecursion (IsTrueUp j) (cond b ms (w.up x))) true_all.1 r.up; to_client = r.to_client; answers = r.answers }
-
       heard : (b : Bool) → IsInsideWorld graph (take_up (record w { up = put w.up i ms }) i m b)
-      heard true = in_scheduler (record w { up = put w.up i ms }) (FromWorker i m) all.0 true_all.0 true_rest rest
+      heard true = in_scheduler (record w { up = put w.up i ms }) (FromWorker i m) all.0 rest
       heard false = rest
 
   in_take_to_client : (w : World) (c : ℕ) (ms : List ToClient) → w.to_client c ≡ ms → IsInsideWorld graph w → IsInsideWorld graph (take_to_client w c ms)
@@ -215,10 +207,9 @@ module _ (j : Job) (low : IsShape j.setting.shape) where
       all : AllByRecursion (λ m. AreKeys graph (news_keys m)) (m ∷ ms)
       all = subst (λ l. AllByRecursion (λ m. AreKeys graph (news_keys m)) l) e (h.to_client c)
 
-  in_take_from_client : (w : World) (c : ℕ) (ms : List ClientMessage) → w.from_client c ≡ ms → IsTrueWorld no_excuse j w → IsInsideWorld graph w → IsInsideWorld graph (take_from_client w c ms)
-  in_take_from_client w c [] e r h = h
-  in_take_from_client w c (m ∷ ms) e r h = in_scheduler (record w { from_client = put w.from_client c ms }) (FromClient c m) all.0 tt
-      (record { sched = r.sched; workers = r.workers; clients = r.clients; up = r.up; to_client = r.to_client; answers = r.answers })
+  in_take_from_client : (w : World) (c : ℕ) (ms : List ClientMessage) → w.from_client c ≡ ms → IsInsideWorld graph w → IsInsideWorld graph (take_from_client w c ms)
+  in_take_from_client w c [] e h = h
+  in_take_from_client w c (m ∷ ms) e h = in_scheduler (record w { from_client = put w.from_client c ms }) (FromClient c m) all.0
       (record {
         shape = h.shape;
         workers = h.workers;
@@ -249,9 +240,6 @@ module _ (j : Job) (low : IsShape j.setting.shape) where
     workers = at_one i (λ b x. IsInsideWorker graph (cond b (new_worker w.sched.setting.shape i threads) (w.workers x)))
         (record { shape = h.shape; mem = λ k e. absurd (false≢true e); running = λ k e. absurd (false≢true e); asks = tt }) h.workers;
   }
-
-  true_new : (w : World) (i threads : ℕ) → IsTrueWorld no_excuse j w → IsTrueWorld no_excuse j (new_at w i threads)
-  true_new w i threads h = true_new_at no_excuse j low w i threads h
 
   in_died : (w : World) (i : ℕ) → IsInsideWorld graph w → IsInsideWorld graph (died w i)
   in_died w i h = record {
@@ -297,28 +285,28 @@ module _ (j : Job) (low : IsShape j.setting.shape) where
         (at_one k (λ b q. cond b true (w.spilled i q) ≡ true → IsKey graph q) (λ e. (h.workers i).mem k m) (h.spilled i)) h.spilled;
   }
 
-  pub in_world_step : (w : World) (e : Event) → enabled w e ≡ true → IsTrueWorld no_excuse j w → IsInsideWorld graph w → IsInsideWorld graph (world_step j w e)
+  pub in_world_step : (w : World) (e : Event) → enabled w e ≡ true → IsInsideWorld graph w → IsInsideWorld graph (world_step j w e)
   unfolding world_step enabled
-  in_world_step w (Want c ks) t r h = in_client w c (WantKeys ks) (keys_of_test ks w.sched.setting.shape h.shape (and_parts (has_any ks) _ (and_parts _ (has_any ks && _) t).1).1) h
-  in_world_step w (Release c ks) t r h = in_client w c (ReleaseKeys ks) (keys_of_test ks w.sched.setting.shape h.shape (and_parts (has_any ks) _ (and_parts _ (has_any ks && _) t).1).1) h
-  in_world_step w (Join threads) t r h = in_scheduler (new_at w (w.sched.last_worker + 1) threads) (JoinSched threads) tt tt (true_new w (w.sched.last_worker + 1) threads r) (in_new_at w (w.sched.last_worker + 1) threads h)
-  in_world_step w (Lose i) t r h = in_died w i h
-  in_world_step w (SeeLoss i) t r h = in_cut_off (at_scheduler w (Leave i)) i (in_scheduler w (Leave i) tt tt r h)
-  in_world_step w (Suspect i) t r h = in_scheduler w (Leave i) tt tt r h
-  in_world_step w (DeliverDown i) t r h = in_take_down w i (w.down i) refl h
-  in_world_step w (DeliverUp i) t r h = in_take_up w i (w.up i) refl r h
-  in_world_step w (DeliverToClient c) t r h = in_take_to_client w c (w.to_client c) refl h
-  in_world_step w (DeliverFromClient c) t r h = in_take_from_client w c (w.from_client c) refl r h
-  in_world_step w (Start i) t r h = in_worker w i StartTask tt h
-  in_world_step w (Finish i k) t r h = in_worker w i (Done k (j.zero k)) ((h.workers i).running k (and_parts (w.alive i) _ t).1) h
-  in_world_step w (SendGather a p) t r h = in_ask_by w a p h
-  in_world_step w (ServeGather p a n) t r h = in_serve w a p n (parcel_of a p n w.requests) refl h
-  in_world_step w (ArriveGather a p n) t r h = in_take_answer w (parcel_of a p n w.answers) h
-  in_world_step w (FailGather a p) t r h = in_fail_ask w a p (open_ask w a p) h
-  in_world_step w Balance t r h = in_scheduler w BalanceSched tt tt r h
-  in_world_step w Evict t r h = in_scheduler w EvictSched tt tt r h
-  in_world_step w (Spill i k) t r h = in_spill w i k (and_parts ((w.workers i).mem k) _ (and_parts (w.alive i) _ t).1).0 h
-  in_world_step w (LoseSpilled i k) t r h = in_worker w i (DataLost k) (h.spilled i k (and_parts (w.alive i) _ t).1) h
+  in_world_step w (Want c ks) t h = in_client w c (WantKeys ks) (keys_of_test ks w.sched.setting.shape h.shape (and_parts (has_any ks) _ (and_parts _ (has_any ks && _) t).1).1) h
+  in_world_step w (Release c ks) t h = in_client w c (ReleaseKeys ks) (keys_of_test ks w.sched.setting.shape h.shape (and_parts (has_any ks) _ (and_parts _ (has_any ks && _) t).1).1) h
+  in_world_step w (Join threads) t h = in_scheduler (new_at w (w.sched.last_worker + 1) threads) (JoinSched threads) tt (in_new_at w (w.sched.last_worker + 1) threads h)
+  in_world_step w (Lose i) t h = in_died w i h
+  in_world_step w (SeeLoss i) t h = in_cut_off (at_scheduler w (Leave i)) i (in_scheduler w (Leave i) tt h)
+  in_world_step w (Suspect i) t h = in_scheduler w (Leave i) tt h
+  in_world_step w (DeliverDown i) t h = in_take_down w i (w.down i) refl h
+  in_world_step w (DeliverUp i) t h = in_take_up w i (w.up i) refl h
+  in_world_step w (DeliverToClient c) t h = in_take_to_client w c (w.to_client c) refl h
+  in_world_step w (DeliverFromClient c) t h = in_take_from_client w c (w.from_client c) refl h
+  in_world_step w (Start i) t h = in_worker w i StartTask tt h
+  in_world_step w (Finish i k) t h = in_worker w i (Done k (j.zero k)) ((h.workers i).running k (and_parts (w.alive i) _ t).1) h
+  in_world_step w (SendGather a p) t h = in_ask_by w a p h
+  in_world_step w (ServeGather p a n) t h = in_serve w a p n (parcel_of a p n w.requests) refl h
+  in_world_step w (ArriveGather a p n) t h = in_take_answer w (parcel_of a p n w.answers) h
+  in_world_step w (FailGather a p) t h = in_fail_ask w a p (open_ask w a p) h
+  in_world_step w Balance t h = in_scheduler w BalanceSched tt h
+  in_world_step w Evict t h = in_scheduler w EvictSched tt h
+  in_world_step w (Spill i k) t h = in_spill w i k (and_parts ((w.workers i).mem k) _ (and_parts (w.alive i) _ t).1).0 h
+  in_world_step w (LoseSpilled i k) t h = in_worker w i (DataLost k) (h.spilled i k (and_parts (w.alive i) _ t).1) h
 
   in_opening : IsInsideWorld graph (opening j)
   in_opening = record {
@@ -334,9 +322,13 @@ module _ (j : Job) (low : IsShape j.setting.shape) where
     answers = tt;
   }
 
-  in_from : (w : World) (es : List Event) → LegalFrom j w es → IsTrueWorld no_excuse j w → IsInsideWorld graph w → IsInsideWorld graph (run_from j w es)
-  in_from w [] l r h = h
-  in_from w (e ∷ es) l r h = in_from (world_step j w e) es l.1 (true_world_step no_excuse j low w e l.0 r) (in_world_step w e l.0 r h)
+  in_from : (w : World) (es : List Event) → LegalFrom j w es → IsInsideWorld graph w → IsInsideWorld graph (run_from j w es)
+  in_from w [] l h = h
+  in_from w (e ∷ es) l h = in_from (world_step j w e) es l.1 (in_world_step w e l.0 h)
 
   pub in_after : (es : List Event) → legal j es → IsInsideWorld graph (reached j es)
-  in_after es l = in_from (opening j) es l (true_opening no_excuse j low) in_opening
+  in_after es l = in_from (opening j) es l in_opening
+
+-- whatever the operation gave that an event ended
+pub inside_after : (met : Bool) (w : World) (e : Event) → IsShape w.sched.setting.shape → enabled w e ≡ true → IsInsideWorld w.sched.setting.shape w → IsInsideWorld w.sched.setting.shape (world_after met w e)
+inside_after met w e low t h = in_world_step (record { setting = w.sched.setting; zero = λ k. met }) low w e t h

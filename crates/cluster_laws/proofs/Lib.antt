@@ -1,3 +1,4 @@
+pub mod Framed
 pub mod OrderLemmas
 pub mod WorldLemmas
 pub mod TruthWorker

@@ -1,5 +1,5 @@
 //! The cores of workers and clients, by number.
-ghost use Rattle.std.specs.Prelude.{◌≡◌, ◌&&◌, ◌<◌, ◌≤◌, ◌+◌, ◌^◌, ◌++◌, ℕ, List, Bool, Err, length, false, true, OnOk};
+ghost use Rattle.std.specs.Prelude.{◌≡◌, ◌&&◌, ◌<◌, ◌≤◌, ◌+◌, ◌++◌, ℕ, List, Bool, Err, length, false, true, OnOk};
 ghost use Rattle.cluster_msgs.specs.Shape.{Shape};
 ghost use Rattle.cluster_rules.specs.Functions.{put, put_pair};
 ghost use Rattle.cluster_rules.specs.Client.{client_step, client_takes};
@@ -61,7 +61,7 @@ pub fn client_on(
     ensures over { OnOk result ((g : Shape) → AreClientsOver g clients.old.items → AreClientsOver g clients.new.items) }
     ensures few { OnOk result ((n : ℕ) → ClientsTookFew n clients.old.items → ClientsTookFew (n + 1) clients.new.items) }
     ensures refused { result ≡ Err Stop.Refused → (g : Shape) → client_takes (clients_of g clients.old.items client) event ≡ false }
-    ensures spent { result ≡ Err Stop.Spent → (n : ℕ) → ClientsTookFew n clients.old.items → 2 ^ 40 ≤ n }
+    ensures spent { result ≡ Err Stop.Spent → (n : ℕ) → ClientsTookFew n clients.old.items → event_limit ≤ n }
     ensures length { length clients.new.items ≡ length clients.old.items }
 {
     clients[client as usize].on(event, out)

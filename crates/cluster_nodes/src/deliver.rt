@@ -1,5 +1,6 @@
 //! Messages that come to workers and clients, and those that the scheduler takes.
-ghost use Rattle.std.specs.Prelude.{◌≡◌, ◌<◌, ◌≤◌, ◌+◌, ◌^◌, ℕ, Err, true, false, drop, length, IsSomeAnd, OnOk};
+ghost use Rattle.std.specs.Prelude.{◌≡◌, ◌<◌, ◌≤◌, ◌+◌, ℕ, Err, true, false, drop, length, IsSomeAnd, OnOk};
+ghost use Rattle.cluster_rules.specs.Runs.{event_limit};
 ghost use Rattle.cluster_rules.specs.Enabled.{front as first_of};
 ghost use Rattle.cluster_msgs.specs.declared.cores.WorkerEvent.TheVariants as to_worker;
 ghost use Rattle.cluster_msgs.specs.declared.cores.ClientEvent.TheVariants as to_client;
@@ -29,7 +30,7 @@ impl<B: Drop> Nodes<B> {
         ensures same { OnOk result (HasSameNodes self.old self.new) }
         ensures few { OnOk result ((n : ℕ) → TookFew n self.old → TookFew (n + 1) self.new) }
         ensures refused { result ≡ Err Stop.Refused → (f : Facts) → IsSomeAnd (first_of ((world_of f self.old).down worker)) (λ m. worker_takes ((world_of f self.old).workers worker) (to_worker.Down m) ≡ false) }
-        ensures spent { result ≡ Err Stop.Spent → (n : ℕ) → TookFew n self.old → 2 ^ 40 ≤ n }
+        ensures spent { result ≡ Err Stop.Spent → (n : ℕ) → TookFew n self.old → event_limit ≤ n }
     {
         match pop_down(&mut self.down, worker) {
             Some(message) => {
@@ -52,7 +53,7 @@ impl<B: Drop> Nodes<B> {
         ensures same { OnOk result (HasSameNodes self.old self.new) }
         ensures few { OnOk result ((n : ℕ) → TookFew n self.old → TookFew (n + 1) self.new) }
         ensures refused { result ≡ Err Stop.Refused → (f : Facts) → IsSomeAnd (first_of ((world_of f self.old).to_client client)) (λ m. client_takes ((world_of f self.old).clients client) (to_client.FromScheduler m) ≡ false) }
-        ensures spent { result ≡ Err Stop.Spent → (n : ℕ) → TookFew n self.old → 2 ^ 40 ≤ n }
+        ensures spent { result ≡ Err Stop.Spent → (n : ℕ) → TookFew n self.old → event_limit ≤ n }
     {
         match pop_to_client(&mut self.to_client, client) {
             Some(message) => {

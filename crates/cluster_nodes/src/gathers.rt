@@ -1,8 +1,9 @@
 //! Requests that are served, and answers that arrive.
-ghost use Rattle.std.specs.Prelude.{◌≡◌, ◌<◌, ◌≤◌, ◌+◌, ◌^◌, ◌++◌, ◌∷◌, [], ℕ, Err, true, false, cond, filter, length, IfOk, IsSomeAnd, OnOk};
+ghost use Rattle.std.specs.Prelude.{◌≡◌, ◌<◌, ◌≤◌, ◌+◌, ◌++◌, ◌∷◌, [], ℕ, Err, true, false, cond, filter, length, IfOk, IsSomeAnd, OnOk};
 ghost use Rattle.std.specs.List.{filter_map, cons_option};
 ghost use Rattle.std.specs.Option.{option_copied};
 ghost use Rattle.cluster_msgs.specs.Jobs.{blocks_of};
+ghost use Rattle.cluster_rules.specs.Runs.{event_limit};
 ghost use Rattle.cluster_rules.specs.Sched.{Facts};
 ghost use Rattle.cluster_rules.specs.World.{parcel_of};
 ghost use Rattle.fact_rows.specs.Rows.{read, cell};
@@ -132,7 +133,7 @@ impl<B: Drop> Nodes<B> {
         ensures same { OnOk result (HasSameNodes self.old self.new) }
         ensures few { OnOk result ((n : ℕ) → TookFew n self.old → TookFew (n + 1) self.new) }
         ensures refused { result ≡ Err Stop.Refused → (f : Facts) → IsSomeAnd (parcel_of asker peer ask (world_of f self.old).answers) (λ q. IsRefusedBy (world_of f self.old) asker peer ask q.keys) }
-        ensures spent { result ≡ Err Stop.Spent → (n : ℕ) → TookFew n self.old → 2 ^ 40 ≤ n }
+        ensures spent { result ≡ Err Stop.Spent → (n : ℕ) → TookFew n self.old → event_limit ≤ n }
     {
         match self.answers.take(asker, peer, ask) {
             None => Ok(()),
@@ -167,7 +168,7 @@ impl<B: Drop> Nodes<B> {
         ensures same { OnOk result (HasSameNodes self.old self.new) }
         ensures few { OnOk result ((n : ℕ) → TookFew n self.old → TookFew (n + 1) self.new) }
         ensures refused { result ≡ Err Stop.Refused → (f : Facts) → IsRefusedBy (world_of f self.old) asker peer ask found }
-        ensures spent { result ≡ Err Stop.Spent → (n : ℕ) → TookFew n self.old → 2 ^ 40 ≤ n }
+        ensures spent { result ≡ Err Stop.Spent → (n : ℕ) → TookFew n self.old → event_limit ≤ n }
     {
         match asker {
             Asker::Worker(worker) => {

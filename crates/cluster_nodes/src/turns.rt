@@ -1,5 +1,6 @@
 //! One worker or one client takes an event.
-ghost use Rattle.std.specs.Prelude.{◌≡◌, ◌<◌, ◌≤◌, ◌+◌, ◌^◌, ℕ, Err, true, false, length, OnOk};
+ghost use Rattle.std.specs.Prelude.{◌≡◌, ◌<◌, ◌≤◌, ◌+◌, ℕ, Err, true, false, length, OnOk};
+ghost use Rattle.cluster_rules.specs.Runs.{event_limit};
 ghost use Rattle.cluster_rules.specs.Sched.{Facts};
 ghost use Rattle.cluster_rules.specs.WorkerStep.{worker_takes};
 ghost use Rattle.cluster_rules.specs.Client.{client_takes};
@@ -37,7 +38,7 @@ impl<B: Drop> Nodes<B> {
         ensures same { OnOk result (HasSameNodes self.old self.new) }
         ensures few { OnOk result ((n : ℕ) → TookFew n self.old → TookFew (n + 1) self.new) }
         ensures refused { result ≡ Err Stop.Refused → (f : Facts) → worker_takes ((world_of f self.old).workers worker) event ≡ false }
-        ensures spent { result ≡ Err Stop.Spent → (n : ℕ) → TookFew n self.old → 2 ^ 40 ≤ n }
+        ensures spent { result ≡ Err Stop.Spent → (n : ℕ) → TookFew n self.old → event_limit ≤ n }
     {
         let mut out = Instructions::new(self.alloc);
         worker_on(&mut self.workers, worker, event, &mut out)?;
@@ -70,7 +71,7 @@ impl<B: Drop> Nodes<B> {
         ensures same { OnOk result (HasSameNodes self.old self.new) }
         ensures few { OnOk result ((n : ℕ) → TookFew n self.old → TookFew (n + 1) self.new) }
         ensures refused { result ≡ Err Stop.Refused → (f : Facts) → client_takes ((world_of f self.old).clients client) event ≡ false }
-        ensures spent { result ≡ Err Stop.Spent → (n : ℕ) → TookFew n self.old → 2 ^ 40 ≤ n }
+        ensures spent { result ≡ Err Stop.Spent → (n : ℕ) → TookFew n self.old → event_limit ≤ n }
     {
         let mut out = ClientOut::new(self.alloc);
         client_on(&mut self.clients, client, event, &mut out)?;

@@ -1,5 +1,4 @@
 pub mod WordLemmas
-pub mod SchedKeeps
 pub mod ClientKeeps
 pub mod WorldKeeps
 pub mod NextLemmas

@@ -21,7 +21,7 @@ use Rattle.cluster_rules.specs.WorkerStep.{WorkerStep}
 use Rattle.cluster_rules.specs.Client.{ClientFacts, ClientStep, client_step}
 use Rattle.cluster_rules.specs.World.{Job, World, Parcel, is_connected, open_ask, parcel_of}
 use Rattle.cluster_rules.specs.WorldStep.{scheduled, worked, client_worked, at_scheduler, at_client, take_down_first, take_up, take_up_first, take_to_client, take_from_client, gathered_at, failed_at, serve, take_answer, fail_ask, world_step}
-use Rattle.cluster_sim.proofs.SchedKeeps.{joins_by, step_keeps}
+use Rattle.cluster_laws.proofs.Framed.{joins_by, step_last, step_setting}
 use Rattle.cluster_sim.proofs.ClientKeeps.{IsQuiet, stays, hear_step, ask_step, gathered_step, failed_step}
 
 -- how many workers an event lets join, and whether it leaves what the clients want
@@ -47,7 +47,7 @@ alike w v e = record { setting = ap (λ f. f.setting) e; last = ap (λ f. f.last
 
 at_sched : (w : World) (e : SchedEvent) → WorldKeeps w (at_scheduler w e) (joins_by e)
 unfolding scheduled
-at_sched w e = let h = step_keeps w.sched e in record { setting = h.setting; last = h.last }
+at_sched w e = record { setting = step_setting w.sched e; last = step_last w.sched e }
 
 worker_alike : (w : World) (i : ℕ) (s : WorkerStep) → WorldKeeps w (worked w i s) 0
 unfolding worked

@@ -36,7 +36,7 @@ use Rattle.cluster_world.specs.declared.state.State.{State}
 use Rattle.cluster_world.specs.Worlds.{world, setting}
 use Rattle.cluster_world.specs.Kept.{CoresTookFew, IsJoint, IsSame, IsKept}
 use Rattle.cluster_world.specs.Outcomes.{IsTurned}
-use Rattle.cluster_world.proofs.Lasts.{step_last, last_of}
+use Rattle.cluster_laws.proofs.Framed.{joins_by, step_last}
 use Rattle.cluster_world.proofs.Telling.{alive_there, alive_is, client_number}
 
 pub on_ok2 : {A E P Q R : Type 0} (r : Result A E) → (P → Q → R) → OnOk r P → OnOk r Q → OnOk r R
@@ -202,8 +202,8 @@ module _ {J B F : Type 0} (s : State J B F) (j : IsJoint s) where
       omega (arith, h, j.workers)
 
   -- the nodes are those that the scheduler counts after an event that isn't a join
-  pub workers_stay : (e : SchedEvent) → last_of (facts s.sched) e ≡ (facts s.sched).last_worker → length s.nodes.workers.items ≡ (sched_step (facts s.sched) e).facts.last_worker + 1
-  workers_stay e h = j.workers ∙ ap (λ n. n + 1) (sym (step_last (facts s.sched) e ∙ h))
+  pub workers_stay : (e : SchedEvent) → joins_by e ≡ 0 → length s.nodes.workers.items ≡ (sched_step (facts s.sched) e).facts.last_worker + 1
+  workers_stay e h = let l = step_last (facts s.sched) e in let n = j.workers in omega (arith, l, h, n)
 
   -- the number that joins next has no blocks
   pub newcomer : (k : ℕ) → (w.workers (w.sched.last_worker + 1)).mem k ≡ false

@@ -30,11 +30,10 @@ use Rattle.cluster_rules.specs.Client.{client_step}
 use Rattle.cluster_rules.specs.World.{Job, World, Parcel, is_connected, is_client, is_asker, open_ask, parcel_of, is_parcel, without_parcel}
 use Rattle.cluster_rules.specs.WorldStep.{letters, scheduled, worked, client_worked, client_sends, at_scheduler, at_worker, at_client, new_at, take_down_first, take_up, take_up_first, take_to_client, take_from_client, ask_by, gathered_at, failed_at, serve, take_answer, fail_ask, world_step}
 use Rattle.cluster_rules.specs.Enabled.{are_named, enabled}
-use Rattle.cluster_rules.proofs.SchedFrame.{step_settles}
 use Rattle.cluster_rules.proofs.WorkerLemmas.{at_one}
 use Rattle.cluster_laws.specs.Moves.{world_after}
 use Rattle.cluster_laws.proofs.Deliveries.{none_some, some_is}
-use Rattle.cluster_world.proofs.Inside.{change_setting}
+use Rattle.cluster_laws.proofs.Framed.{step_setting}
 use Rattle.cluster_world.proofs.Numbers.{news_go}
 use Rattle.cluster_world.proofs.Gathers.{is_of, found_is}
 
@@ -119,7 +118,7 @@ go_scheduler : (w : World) (e : SchedEvent) → ((c : ℕ) (m : ClientMessage) �
 unfolding scheduled
 go_scheduler w e from h =
     let n = w.sched.setting.clients in
-    let same : w.sched.setting ≡ (sched_step w.sched e).facts.setting = sym ((step_settles w.sched e).setting ∙ change_setting w.sched e) in
+    let same : w.sched.setting ≡ (sched_step w.sched e).facts.setting = sym (step_setting w.sched e) in
     let news = news_go (λ c. is_there n c ≡ true) w.sched e (numbered n 1 n (omega arith) (omega arith)) (reply_goes (λ c. is_there n c ≡ true) w.sched e from) in
     record {
       to_client = λ c s. subst (λ (x : Setting). is_there x.clients c ≡ true) same (one_of (is_there n c ≡ true) (w.to_client c) (letters c (sched_step w.sched e).clients) (h.to_client c) (letters_go n c (sched_step w.sched e).clients news) s);

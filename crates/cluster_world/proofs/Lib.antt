@@ -7,10 +7,8 @@ pub mod Making
 pub mod Letters
 pub mod Settings
 pub mod Orderliness
-pub mod Inside
 pub mod Spills
 pub mod Searches
-pub mod Lasts
 pub mod Telling
 pub mod Whole
 pub mod Scheduling

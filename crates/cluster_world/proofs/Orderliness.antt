@@ -27,7 +27,7 @@ use Rattle.cluster_rules.proofs.InsideSched.{all_found}
 use Rattle.cluster_laws.specs.Moves.{world_after}
 use Rattle.cluster_world.specs.Orderly.{IsOrderly}
 use Rattle.cluster_world.proofs.Settings.{same_setting}
-use Rattle.cluster_world.proofs.Inside.{inside_after}
+use Rattle.cluster_laws.proofs.InsideWorld.{inside_after}
 use Rattle.cluster_world.proofs.Spills.{held_after}
 use Rattle.cluster_world.proofs.Letters.{addressed_after}
 

@@ -15,15 +15,14 @@ use Rattle.cluster_rules.specs.Sched.{Setting}
 use Rattle.cluster_rules.specs.Worker.{Ask}
 use Rattle.cluster_rules.specs.World.{Job, World, Parcel, is_connected, open_ask, parcel_of}
 use Rattle.cluster_rules.specs.WorldStep.{scheduled, worked, client_worked, at_scheduler, new_at, take_down_first, take_up, take_up_first, take_to_client, take_from_client, ask_by, gathered_at, serve, take_answer, fail_ask, world_step}
-use Rattle.cluster_rules.proofs.SchedFrame.{step_settles}
-use Rattle.cluster_world.proofs.Inside.{change_setting}
+use Rattle.cluster_laws.proofs.Framed.{step_setting}
 
 abbrev set_in : World → Setting
 set_in w = w.sched.setting
 
 same_scheduler : (w : World) (e : SchedEvent) → set_in (at_scheduler w e) ≡ set_in w
 unfolding scheduled
-same_scheduler w e = (step_settles w.sched e).setting ∙ change_setting w.sched e
+same_scheduler w e = step_setting w.sched e
 
 same_down : (w : World) (i : ℕ) (ms : List Down) → set_in (take_down_first w i ms) ≡ set_in w
 unfolding worked

@@ -1,5 +1,5 @@
 -- An enabled event is one that the core takes that is handed it, in a world whose cores took no more events than it did.
-use Rattle.std.proofs.Common.{◌≡◌, ℕ, ◌<◌, ◌≤◌, ◌^◌, Bool, true, false, List, [], ◌∷◌, Option, Some, None, refl, sym, ap, ◌∙◌, subst, arith, drop, is_some}
+use Rattle.std.proofs.Common.{◌≡◌, ℕ, ◌<◌, ◌≤◌, Bool, true, false, List, [], ◌∷◌, Option, Some, None, refl, sym, ap, ◌∙◌, subst, arith, drop, is_some}
 use Rattle.std.specs.Prelude.{IsSomeAnd}
 use Rattle.std.proofs.lemmas.Bool.{false≢true, and_parts}
 use Rattle.cluster_msgs.specs.declared.messages.Down.{Down}
@@ -129,5 +129,5 @@ module _ {J B F : Type 0} (s : State J B F) (j : IsJoint s) where
   pub has_room : s.events < event_limit → s.sched.taken < event_limit
   has_room r = let h = j.few.1 in omega (arith, r, h)
 
-  pub not_spent : s.events < event_limit → ((n : ℕ) → TookFew n s.nodes → 2 ^ 40 ≤ n) → ⊥
+  pub not_spent : s.events < event_limit → ((n : ℕ) → TookFew n s.nodes → event_limit ≤ n) → ⊥
   not_spent r f = let h = f s.events j.few.0 in omega (arith, r, h)

@@ -21,7 +21,7 @@ use Rattle.sim_words.specs.declared.sim.SimWords.{SimWords}
 use Rattle.sim_run.specs.declared.ends.SimEnded.{SimEnded}
 use Rattle.sim_run.specs.declared.ends.SimEnded.TheVariants as SimEnds
 use Rattle.sim_run.specs.Ends.{Cause as SimCause}
-use Rattle.sim_run.specs.Forms.{HasManyChunks, IsAddition, IsSimulable, chunks_in, operations}
+use Rattle.sim_run.specs.Forms.{HasManyChunks, IsAddition, IsSimulable, IsTextJob, chunks_in, operations}
 use Rattle.sim_run.specs.Simulated.{IsOutOfEvents, SimulatesTo}
 use Rattle.sim_run.specs.declared.form.Addition.{Addition}
 use Rattle.sim_words.proofs.Saying.{one_sim}
@@ -143,11 +143,11 @@ simulable_ends p said old status can unfit fit = record {
 }
 
 -- the limit of events was passed
-limit_ends : (p : Plan) (said : SimWords) (old : View) → SimulatesTo p said old.files IsOutOfEvents → EndsBySimulation p said old 9
+limit_ends : (p : Plan) (said : SimWords) (old : View) → SimulatesTo (IsTextJob p old.files said) said IsOutOfEvents → EndsBySimulation p said old 9
 limit_ends p said old to = record {
-  other = λ none. absurd (none to.addition to.can.is);
+  other = λ none. absurd (none to.is.addition to.is.can.is);
   many = λ m. inl refl;
-  unfit = λ s u. absurd (not_fit p old.files u to.inputs);
+  unfit = λ s u. absurd (not_fit p old.files u to.is.inputs);
   fit = λ s f none. absurd (none to);
   limit = λ s f. inr (inr (inl refl));
 }

@@ -1,5 +1,5 @@
 -- A simulation of a cluster on a job, whose text was read before it and whose end was told after it.
-use Rattle.std.proofs.Common.{◌≡◌, ℕ, ℤ, ◌≤◌, List, ◌++◌, refl, ap, sym, ◌∙◌, subst, inl, inr, Some, Ok}
+use Rattle.std.proofs.Common.{◌≡◌, ℕ, ◌≤◌, List, ◌++◌, refl, ap, sym, ◌∙◌, subst, inl, inr, Some, Ok}
 use Rattle.std.specs.Prelude.{IsSomeAnd}
 use Rattle.io_edge.specs.Content.{followed_by}
 use Rattle.io_edge.specs.View.{View, Files, Opens, OnlyReads, OnlyErr, raised_by}
@@ -11,10 +11,8 @@ use Rattle.job_run.proofs.Counting.{none_raised}
 use Rattle.sim_words.specs.declared.sim.SimWords.{SimWords}
 use Rattle.sim_run.specs.declared.ends.SimEnded.{SimEnded}
 use Rattle.sim_run.specs.declared.ends.SimEnded.TheVariants as SimEnds
-use Rattle.sim_run.specs.declared.form.Addition.{Addition}
-use Rattle.sim_run.specs.Ends.{Cause as SimCause, Saves as SimSaves, Opened as SimOpens, Created as SimCreated, Prints as SimPrints, PrintsServed, SimulatesPlan}
-use Rattle.sim_run.specs.Simulated.{SimulatesTo}
-use Rattle.sim_run.specs.Texts.{lines_of}
+use Rattle.sim_run.specs.Ends.{Cause as SimCause, Saves as SimSaves, Opened as SimOpens, Created as SimCreated, Prints as SimPrints, SimulatesPlan}
+use Rattle.sim_run.proofs.Over.{simulates_over, prints_over}
 use Rattle.dask_top.specs.declared.answer.End.{End}
 use Rattle.dask_top.specs.Answers.{Performs}
 use Rattle.dask_top.specs.Commands.{Simulation}
@@ -25,20 +23,6 @@ use Rattle.dask_top.specs.Works.{SimOpened, Simulates, WorkDoes}
 use Rattle.dask_top.proofs.Evaluating.{all_before, cause_before, fit_before, front_before, front_told, looked_from, memory_saves, opened_before, rose_later, saves_before, valued_before, values_before}
 use Rattle.dask_top.proofs.Reading.{is_read}
 use Rattle.dask_top.proofs.Unread.{notes_before}
-
--- what was printed of a simulation, over files that hold the same, and with another fact of the lines
-served_as : (p : Plan) (said : SimWords) (old mid : Files) (P Q : List ℕ → Type 0) → mid.held ≡ old.held → ((lines : List ℕ) → P lines → Q lines) → PrintsServed p said mid P → PrintsServed p said old Q
-served_as p said old mid P Q held printed prints = record {
-  addition = prints.addition;
-  can = prints.can;
-  cells = prints.cells;
-  count = prints.count;
-  report = prints.report;
-  turns = prints.turns;
-  served = prints.served;
-  told = rw (← held) prints.told;
-  printed = printed (lines_of p prints.report prints.turns) prints.printed;
-}
 
 -- ## After it, only standard error got its line
 
@@ -60,9 +44,9 @@ prints_told p said old mid new SimEnds.Keys only prints = only.out ∙ prints
 prints_told p said old mid new SimEnds.Events only prints = only.out ∙ prints
 prints_told p said old mid new SimEnds.Turns only prints = only.out ∙ prints
 prints_told p said old mid new (SimEnds.Ran RunEnds.Done) only prints =
-    served_as p said old.files old.files (λ lines. mid.out ≡ followed_by old.out lines) (λ lines. new.out ≡ followed_by old.out lines) refl (λ lines printed. only.out ∙ printed) prints
+    prints_over p said old.files old.files refl (λ fit. fit) (λ lines. mid.out ≡ followed_by old.out lines) (λ lines. new.out ≡ followed_by old.out lines) (λ lines printed. only.out ∙ printed) prints
 prints_told p said old mid new (SimEnds.Ran RunEnds.WriteFault) only prints =
-    served_as p said old.files old.files (PrintsFront p old mid) (PrintsFront p old new) refl (λ lines printed. front_told p old mid new lines only printed) prints
+    prints_over p said old.files old.files refl (λ fit. fit) (PrintsFront p old mid) (PrintsFront p old new) (λ lines printed. front_told p old mid new lines only printed) prints
 prints_told p said old mid new (SimEnds.Ran (RunEnds.File place error)) only prints = only.out ∙ prints
 prints_told p said old mid new (SimEnds.Ran (RunEnds.Zero node)) only prints = only.out ∙ prints
 prints_told p said old mid new (SimEnds.Ran RunEnds.ReadFault) only prints = only.out ∙ prints
@@ -149,23 +133,12 @@ placed p said old new (SimEnds.Ran RunEnds.OutOfMemory) cause = tt
 
 -- ## Before it, only the text was read
 
-simulates_before : (p : Plan) (said : SimWords) (P : Addition → SimWords → List ℤ → Type 0) (old mid : Files) → mid.held ≡ old.held → mid.tells ≡ old.tells → SimulatesTo p said mid P → SimulatesTo p said old P
-simulates_before p said P old mid held tells to = record {
-  addition = to.addition;
-  can = to.can;
-  inputs = fit_before p old mid held tells to.inputs;
-  cells = to.cells;
-  count = to.count;
-  ends = to.ends;
-  told = rw (← held) to.told;
-}
-
 sim_cause_before : (p : Plan) (said : SimWords) (old mid new : View) (end : SimEnded) → mid.files.held ≡ old.files.held → mid.files.tells ≡ old.files.tells → OnlyReads old mid → old.read_faults ≤ mid.read_faults →
     SimCause p said mid new end → SimCause p said old new end
 sim_cause_before p said old mid new SimEnds.NotBuilt held tells only later cause = cause
 sim_cause_before p said old mid new SimEnds.Keys held tells only later cause = cause
-sim_cause_before p said old mid new SimEnds.Events held tells only later cause = simulates_before p said _ old.files mid.files held tells cause
-sim_cause_before p said old mid new SimEnds.Turns held tells only later cause = simulates_before p said _ old.files mid.files held tells cause
+sim_cause_before p said old mid new SimEnds.Events held tells only later cause = simulates_over p said old.files mid.files held (fit_before p old.files mid.files held tells) _ cause
+sim_cause_before p said old mid new SimEnds.Turns held tells only later cause = simulates_over p said old.files mid.files held (fit_before p old.files mid.files held tells) _ cause
 sim_cause_before p said old mid new (SimEnds.Ran RunEnds.Done) held tells only later cause = (cause.0, cause_before p old mid new RunEnds.Done held tells only later cause.1)
 sim_cause_before p said old mid new (SimEnds.Ran (RunEnds.File place error)) held tells only later cause = (cause.0, cause_before p old mid new (RunEnds.File place error) held tells only later cause.1)
 sim_cause_before p said old mid new (SimEnds.Ran (RunEnds.Zero node)) held tells only later cause = absurd cause
@@ -196,9 +169,9 @@ sim_prints_before p said old mid new SimEnds.Keys held tells created only prints
 sim_prints_before p said old mid new SimEnds.Events held tells created only prints = prints ∙ only.out
 sim_prints_before p said old mid new SimEnds.Turns held tells created only prints = prints ∙ only.out
 sim_prints_before p said old mid new (SimEnds.Ran RunEnds.Done) held tells created only prints =
-    served_as p said old.files mid.files (λ lines. new.out ≡ followed_by mid.out lines) (λ lines. new.out ≡ followed_by old.out lines) held (λ lines printed. printed ∙ ap (λ o. followed_by o lines) only.out) prints
+    prints_over p said old.files mid.files held (fit_before p old.files mid.files held tells) (λ lines. new.out ≡ followed_by mid.out lines) (λ lines. new.out ≡ followed_by old.out lines) (λ lines printed. printed ∙ ap (λ o. followed_by o lines) only.out) prints
 sim_prints_before p said old mid new (SimEnds.Ran RunEnds.WriteFault) held tells created only prints =
-    served_as p said old.files mid.files (PrintsFront p mid new) (PrintsFront p old new) held (λ lines printed. front_before p old mid new lines held tells created only printed) prints
+    prints_over p said old.files mid.files held (fit_before p old.files mid.files held tells) (PrintsFront p mid new) (PrintsFront p old new) (λ lines printed. front_before p old mid new lines held tells created only printed) prints
 sim_prints_before p said old mid new (SimEnds.Ran (RunEnds.File place error)) held tells created only prints = prints ∙ only.out
 sim_prints_before p said old mid new (SimEnds.Ran (RunEnds.Zero node)) held tells created only prints = prints ∙ only.out
 sim_prints_before p said old mid new (SimEnds.Ran RunEnds.ReadFault) held tells created only prints = prints ∙ only.out

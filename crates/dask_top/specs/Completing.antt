@@ -6,7 +6,7 @@ use Rattle.nd_shape.specs.Block.{Array}
 use Rattle.job_run.specs.Inputs.{FitInputs, HoldArrays, told_all}
 use Rattle.job_run.specs.Plan.{Plan, input_shapes}
 use Rattle.job_run.specs.Values.{MeetsNone, NeedsFault, values_of}
-use Rattle.sim_run.specs.Forms.{HasManyChunks, IsAddition, IsSimulable}
+use Rattle.sim_run.specs.Forms.{HasManyChunks, IsAddition, IsSimulable, IsTextJob}
 use Rattle.sim_run.specs.Simulated.{IsOutOfEvents, SimulatesTo}
 use Rattle.sim_run.specs.declared.form.Addition.{Addition}
 use Rattle.sim_words.specs.declared.sim.SimWords.{SimWords}
@@ -47,7 +47,7 @@ pub record EndsBySimulation (p : Plan) (said : SimWords) (old : View) (status : 
   pub other : ((a : Addition) → ¬ IsAddition p a) → (status ≡ 2) ⊎ (status ≡ 8)
   pub many : HasManyChunks p → (status ≡ 9) ⊎ (status ≡ 8)
   pub unfit : IsSimulable p → IsSomeAnd (told_all old.files.held p.inputs) (λ contents. ¬ FitInputs p contents) → (status ≡ 3) ⊎ (status ≡ 8)
-  pub fit : IsSimulable p → IsSomeAnd (told_all old.files.held p.inputs) (FitInputs p) → ¬ SimulatesTo p said old.files IsOutOfEvents → (status ≡ 0) ⊎ ((status ≡ 10) ⊎ (status ≡ 8))
+  pub fit : IsSimulable p → IsSomeAnd (told_all old.files.held p.inputs) (FitInputs p) → ¬ SimulatesTo (IsTextJob p old.files said) said IsOutOfEvents → (status ≡ 0) ⊎ ((status ≡ 10) ⊎ (status ≡ 8))
   pub limit : IsSimulable p → IsSomeAnd (told_all old.files.held p.inputs) (FitInputs p) → (status ≡ 0) ⊎ ((status ≡ 10) ⊎ ((status ≡ 9) ⊎ (status ≡ 8)))
 
 abbrev pub EndsByWork : Work → Plan → View → ℕ → Type 0

@@ -1,5 +1,5 @@
 -- What a client keeps is kept by each event.
-use Rattle.std.proofs.Common.{◌≡◌, ℕ, zero, suc, ◌+◌, ◌<◌, ◌≤◌, ◌^◌, Bool, true, false, not, ◌&&◌, ◌||◌, List, [], ◌∷◌, Option, Some, None, is_some, refl, sym, ◌∙◌, subst, arith, cond, filter, take, zero-add}
+use Rattle.std.proofs.Common.{◌≡◌, ℕ, zero, suc, ◌+◌, ◌<◌, ◌≤◌, Bool, true, false, not, ◌&&◌, ◌||◌, List, [], ◌∷◌, Option, Some, None, is_some, refl, sym, ◌∙◌, subst, arith, cond, filter, take, zero-add}
 use Rattle.std.specs.Prelude.{◌==◌, fold}
 use Rattle.std.specs.List.{list_any, filter_map, cons_option, range_with_len}
 use Rattle.std.specs.Option.{option_map}
@@ -16,6 +16,7 @@ use Rattle.cluster_rules.specs.WorkerStep.{keys_of}
 use Rattle.cluster_rules.specs.WorkerKept.{flights}
 use Rattle.cluster_rules.specs.Client.{ClientFacts, new_client, client_keys, is_open, client_fetchable, client_wants, client_releases, hears, hear, client_ask, client_gets, client_misses, client_gathered, client_gathered_by, client_answered, client_step, keeps_still}
 use Rattle.cluster_rules.proofs.WorkerLemmas.{no_flight, flights-with, flights-without, in_filter}
+use Rattle.cluster_rules.specs.Runs.{event_limit}
 use Rattle.gather_client.specs.Stored.{Stored, facts_of}
 use Rattle.gather_client.specs.Kept.{KeyKept, KeysKept, IsCore}
 use Rattle.gather_client.proofs.FoldLemmas.{gets-next, misses-next}
@@ -263,14 +264,14 @@ number_step c (Gathered p n found) = number_gathered c p n found
 number_step c (GatherFailed p n) = number_gathered c p n []
 
 -- a core after an event, and one that stopped
-pub core_step : (s t : Stored) (e : ClientEvent) (n : ℕ) (b : Bool) → IsCore s n b → b ≡ false → n < 2 ^ 40 → facts_of t ≡ (client_step (facts_of s) e).facts → IsCore t (n + 1) b
+pub core_step : (s t : Stored) (e : ClientEvent) (n : ℕ) (b : Bool) → IsCore s n b → b ≡ false → n < event_limit → facts_of t ≡ (client_step (facts_of s) e).facts → IsCore t (n + 1) b
 core_step s t e n b h z l f = record {
   few = omega arith;
   numbered = λ g. subst (λ (c : ClientFacts). c.next_ask ≤ n + 1 + 1) (sym f) (omega (arith, number_step (facts_of s) e, h.numbered z));
   kept = λ g. subst KeysKept (sym f) (kept_step (facts_of s) e (h.kept z));
 }
 
-pub core_stopped : (t : Stored) (n : ℕ) → n ≤ 2 ^ 40 → IsCore t n true
+pub core_stopped : (t : Stored) (n : ℕ) → n ≤ event_limit → IsCore t n true
 core_stopped t n l = record { few = l; numbered = λ g. absurd (true≢false g); kept = λ g. absurd (true≢false g) }
 
 pub core_new : (t : Stored) (g : Shape) → facts_of t ≡ new_client g → IsCore t 0 false

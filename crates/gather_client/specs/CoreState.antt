@@ -1,8 +1,9 @@
 -- A client's core, and what one event makes of it.
-use Rattle.std.specs.Prelude.{◌≡◌, ℕ, ◌+◌, ◌<◌, ◌≤◌, ◌^◌, Bool, true, false, List, ◌++◌}
+use Rattle.std.specs.Prelude.{◌≡◌, ℕ, ◌+◌, ◌<◌, ◌≤◌, Bool, true, false, List, ◌++◌}
 use Rattle.cluster_msgs.specs.declared.cores.ClientEvent.{ClientEvent}
 use Rattle.cluster_msgs.specs.declared.cores.ClientInstruction.{ClientInstruction}
 use Rattle.cluster_rules.specs.Client.{ClientFacts, client_step, client_takes}
+use Rattle.cluster_rules.specs.Runs.{event_limit}
 use Rattle.gather_client.specs.Stored.{Stored, facts_of}
 
 -- the stored facts, how many events were taken, and whether memory ran out
@@ -25,10 +26,10 @@ pub record IsTaken (old : CoreState) (e : ClientEvent) (new : CoreState) (before
 -- the core goes on, but the event isn't possible or names a key that isn't there
 pub record IsRefused (c : CoreState) (e : ClientEvent) : Type 0 where
   pub going : c.stopped ≡ false
-  pub room : c.events < 2 ^ 40
+  pub room : c.events < event_limit
   pub impossible : client_takes (client_facts c) e ≡ false
 
 -- the core goes on, but has taken all events that it takes
 pub record IsSpent (c : CoreState) : Type 0 where
   pub going : c.stopped ≡ false
-  pub all : 2 ^ 40 ≤ c.events
+  pub all : event_limit ≤ c.events

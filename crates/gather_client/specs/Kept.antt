@@ -1,8 +1,9 @@
 -- What a client keeps, whatever it is told and in whatever order its events come.
-use Rattle.std.specs.Prelude.{◌≡◌, ℕ, ◌+◌, ◌≤◌, ◌^◌, Bool, true, false, is_some}
+use Rattle.std.specs.Prelude.{◌≡◌, ℕ, ◌+◌, ◌≤◌, Bool, true, false, is_some}
 use Rattle.cluster_rules.specs.Worker.{has_any}
 use Rattle.cluster_rules.specs.WorkerKept.{flights}
 use Rattle.cluster_rules.specs.Client.{ClientFacts}
+use Rattle.cluster_rules.specs.Runs.{event_limit}
 use Rattle.gather_client.specs.Stored.{Stored, facts_of}
 
 -- of one key: what is got, failed or located is wanted, what is got is no longer located, and a key is asked of one peer at most
@@ -20,8 +21,8 @@ KeptAt c k = KeyKept (c.wants k) (c.got k) (is_some (c.failed k)) (has_any (c.lo
 pub record KeysKept (c : ClientFacts) : Type 0 where
   pub at : (k : ℕ) → KeptAt c k
 
--- of a core: it took at most 2^40 events, and as long as it goes on, asks are numbered below its count and the keys are kept
+-- of a core: it took no more events than a core does, and as long as it goes on, asks are numbered below its count and the keys are kept
 pub record IsCore (s : Stored) (events : ℕ) (stopped : Bool) : Type 0 where
-  pub few : events ≤ 2 ^ 40
+  pub few : events ≤ event_limit
   pub numbered : stopped ≡ false → (facts_of s).next_ask ≤ events + 1
   pub kept : stopped ≡ false → KeysKept (facts_of s)

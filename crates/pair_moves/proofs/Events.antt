@@ -23,7 +23,7 @@ use Rattle.pair_machine.specs.Pair.{Quiet}
 use Rattle.pair_moves.specs.Projection.{report_of, report_in, Side, IsNumbered, EventKeeps}
 use Rattle.pair_moves.proofs.Settling.{none_not_some}
 use Rattle.pair_moves.proofs.Rows.{Moved, moved_below, IsPlain, plain_keeps, calm_row, quiet_calm, same_moved, refreshed_plain}
-use Rattle.pair_moves.proofs.Framed.{change_framed}
+use Rattle.cluster_laws.proofs.Framed.{change_framed}
 use Rattle.pair_moves.proofs.TaskRows.{moved_where, moved_finished, moved_failed, moved_answered, finished_row, failed_row, answered_row}
 use Rattle.pair_moves.proofs.HoldRows.{left_plain, released_row, lost_row, add_row}
 use Rattle.pair_moves.proofs.OtherRows.{joined_row, moved_left, left_row}

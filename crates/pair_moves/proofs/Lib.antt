@@ -2,7 +2,6 @@ pub mod PairTold
 pub mod Settling
 pub mod SettleKeeps
 pub mod Rows
-pub mod Framed
 pub mod TaskRows
 pub mod HoldRows
 pub mod Still

@@ -8,6 +8,7 @@ use Rattle.cluster_rules.specs.SchedTable.{is_this, is_asked_back, Changed, refr
 use Rattle.cluster_rules.specs.SchedStep.{settle, finish_step, lost, mail}
 use Rattle.cluster_rules.proofs.SchedFrame.{same_some}
 use Rattle.cluster_laws.specs.Settled.{IsSettled}
+use Rattle.cluster_laws.proofs.Framed.{IsFramed}
 use Rattle.cluster_laws.proofs.Errors.{holder_holds, ready_is_not_held}
 use Rattle.cluster_laws.proofs.Lists.{and_first}
 use Rattle.pair_machine.specs.Pair.{Report, Quiet, is_at, Pair, IsPair}
@@ -18,16 +19,6 @@ use Rattle.pair_moves.specs.Projection.{notes, reports, at_worker, Side, pair_of
 use Rattle.pair_moves.proofs.PairTold.{AreOther}
 use Rattle.pair_moves.proofs.Settling.{none_not_some, new_at}
 use Rattle.pair_moves.proofs.SettleKeeps.{IsFair, old_at, changed_pair, Closes, settle_keeps, plain_closes, plain_newly}
-
--- ## What every row leaves alone
-
-pub record IsFramed (f g : Facts) : Type 0 where
-  pub setting : g.setting ≡ f.setting
-  pub counter : f.counter ≤ g.counter
-  pub sent : g.sent ≡ f.sent
-  pub fence : g.fence ≡ f.fence
-  pub last_worker : f.last_worker ≤ g.last_worker
-  pub threads : (i : ℕ) → connected g i ≡ true → i ≤ f.last_worker → connected f i ≡ true
 
 -- ## What a row makes of a key's place and of its steal
 
@@ -110,7 +101,7 @@ pub record IsRow (f : Facts) (g : Changed) (copy was : Bool) (w k : ℕ) (r : Re
   pub asked : g.freed w k ≡ false → still_asked (pair_of f w k s) r ≡ was
   pub closes : Closes (settle f g) copy was w k
 
-pub row_keeps : (f : Facts) (g : Changed) (has was : Bool) (w k : ℕ) (r : Report) (s : Side) → IsFramed f g.facts → IsSound g.facts → k < keys f → connected g.facts w ≡ true → IsRow f g has was w k r s
+pub row_keeps : {joining : ℕ} (f : Facts) (g : Changed) (has was : Bool) (w k : ℕ) (r : Report) (s : Side) → IsFramed f joining g.facts → IsSound g.facts → k < keys f → connected g.facts w ≡ true → IsRow f g has was w k r s
     → IsPair (record (pair_of f w k s) { up = r ∷ reports k s.up }) → IsPair (pair_of (finish_step (settle f g)).facts w k (record s { down = s.down ++ mail w (finish_step (settle f g)).down }))
 unfolding settle
 row_keeps f g has was w k r s frame sound low there row p =
@@ -147,7 +138,7 @@ pub record IsPlain (f : Facts) (g : Changed) (w k : ℕ) (r : Report) (s : Side)
   pub has : g.freed w k ≡ false → (counted (pair_of f w k s) r).0 ≡ holds g.facts w k
   pub silent : (x : Facts) → AreOther (notes k (g.answer x w))
 
-pub plain_keeps : (f : Facts) (g : Changed) (w k : ℕ) (r : Report) (s : Side) → IsNumbered f → IsFramed f g.facts → IsSound g.facts → k < keys f → connected g.facts w ≡ true → IsPlain f g w k r s
+pub plain_keeps : {joining : ℕ} (f : Facts) (g : Changed) (w k : ℕ) (r : Report) (s : Side) → IsNumbered f → IsFramed f joining g.facts → IsSound g.facts → k < keys f → connected g.facts w ≡ true → IsPlain f g w k r s
     → IsPair (record (pair_of f w k s) { up = r ∷ reports k s.up }) → IsPair (pair_of (finish_step (settle f g)).facts w k (record s { down = s.down ++ mail w (finish_step (settle f g)).down }))
 plain_keeps f g w k r s n frame sound low there row p =
     row_keeps f g (holds g.facts w k) (is_some (old_at f.counter w (g.facts.on k)) && is_asked_back (g.facts.steal k)) w k r s frame sound low there (record {

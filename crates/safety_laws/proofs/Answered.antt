@@ -42,7 +42,7 @@ use Rattle.cluster_rules.specs.WorldStep.{requested, client_requested, spill}
 use Rattle.cluster_rules.specs.Sched.{Facts, Setting}
 use Rattle.cluster_rules.specs.Runs.{sched_event}
 use Rattle.cluster_rules.proofs.SchedFrame.{step_settles}
-use Rattle.pair_moves.proofs.Framed.{change_framed}
+use Rattle.cluster_laws.proofs.Framed.{change_framed}
 use Rattle.safety_laws.proofs.Turns.{sched_after, sched_is}
 use Rattle.safety_laws.proofs.Lively.{same_asker_is}
 use Rattle.safety_laws.proofs.Homes.{find_passes_any}

@@ -27,7 +27,7 @@ use Rattle.cluster_rules.specs.SchedStep.{sched_step, mail}
 use Rattle.cluster_laws.specs.Truth.{no_excuse, IsTrueWorld}
 use Rattle.cluster_rules.proofs.SchedFrame.{step_settles}
 use Rattle.cluster_rules.proofs.SoundStep.{sound_step}
-use Rattle.pair_moves.proofs.Framed.{change_framed}
+use Rattle.cluster_laws.proofs.Framed.{change_framed}
 use Rattle.cluster_rules.specs.Worker.{Ask, new_worker, has_any, would_start}
 use Rattle.cluster_rules.specs.WorkerStep.{worker_step, worker_takes}
 use Rattle.cluster_rules.specs.WorkerKept.{IsKept}

@@ -61,7 +61,7 @@ module _ (j : Job) (job : IsJob j) where
 
   pub joint_step : (w : World) (e : Event) → enabled w e ≡ true → IsJoint j w → IsJoint j (world_step j w e)
   joint_step w e t h =
-      let inside = in_world_step j job.shape w e t h.values h.inside in
+      let inside = in_world_step j job.shape w e t h.inside in
       record {
         values = true_world_step no_excuse j job.shape w e t h.values;
         inside = inside;

@@ -36,7 +36,7 @@ use Rattle.cluster_laws.specs.Settled.{IsSettled}
 use Rattle.pair_machine.specs.Pair.{Quiet, Pair, IsPair}
 use Rattle.pair_machine.specs.Moves.{opening as opening_pair}
 use Rattle.pair_moves.specs.Projection.{report_of, report_in, notes, reports, at_worker as at_the_worker, Side, pair_of, IsNumbered}
-use Rattle.pair_moves.proofs.Framed.{change_framed}
+use Rattle.cluster_laws.proofs.Framed.{change_framed}
 use Rattle.pair_moves.proofs.Events.{event_keeps}
 use Rattle.pair_moves.proofs.WorkerMoves.{pair_closed, own_keeps, told_keeps, IsOwn, reports-append}
 use Rattle.safety_laws.specs.Joint.{side_of, pair_at, IsPaired}

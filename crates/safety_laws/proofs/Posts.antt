@@ -27,7 +27,7 @@ use Rattle.pair_moves.specs.Projection.{notes, IsNumbered}
 use Rattle.pair_moves.proofs.PairTold.{task_note, task_notes, Distinct}
 use Rattle.pair_moves.proofs.Settling.{free_notes, new_at, distinct_range, event_notes}
 use Rattle.pair_moves.proofs.SettleKeeps.{new_some}
-use Rattle.pair_moves.proofs.Framed.{change_framed}
+use Rattle.cluster_laws.proofs.Framed.{change_framed}
 use Rattle.pair_moves.proofs.HoldRows.{left_plain}
 use Rattle.pair_moves.proofs.Events.{numbered_step}
 use Rattle.safety_laws.proofs.Tale.{AreFresh}

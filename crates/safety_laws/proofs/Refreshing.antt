@@ -48,7 +48,7 @@ use Rattle.pair_moves.proofs.WorkerMoves.{sends-append}
 use Rattle.cluster_rules.specs.Inside.{IsInsideWorld}
 use Rattle.cluster_rules.proofs.SchedFrame.{step_settles}
 use Rattle.cluster_rules.proofs.SoundStep.{sound_step}
-use Rattle.pair_moves.proofs.Framed.{change_framed}
+use Rattle.cluster_laws.proofs.Framed.{change_framed}
 use Rattle.safety_laws.specs.Lively.{IsRefreshing, questions, refreshes}
 use Rattle.safety_laws.proofs.Turns.{up_taken}
 use Rattle.safety_laws.proofs.Homes.{IsHome}

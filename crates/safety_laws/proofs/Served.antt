@@ -19,7 +19,7 @@ use Rattle.cluster_rules.specs.Worker.{has_any}
 use Rattle.cluster_rules.specs.WorldStep.{letters}
 use Rattle.cluster_rules.specs.Client.{ClientFacts}
 use Rattle.cluster_rules.proofs.SchedFrame.{step_settles}
-use Rattle.pair_moves.proofs.Framed.{change_framed}
+use Rattle.cluster_laws.proofs.Framed.{change_framed}
 use Rattle.std.proofs.lemmas.Bool.{or_cases}
 use Rattle.cluster_rules.specs.Sched.{IsSound, holds}
 use Rattle.cluster_rules.proofs.SchedLemmas.{erred-is, is_some-blame}

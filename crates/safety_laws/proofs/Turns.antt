@@ -23,7 +23,7 @@ use Rattle.cluster_rules.specs.Functions.{put, from_one}
 use Rattle.cluster_rules.specs.Derived.{below, is_in}
 use Rattle.cluster_rules.specs.SchedStep.{Stages, sched_step, mail, settle, posted, finish_step, place_all, place_keys, drop_bad, drop_has, drop_on, down_messages, fence_after, to_worker}
 use Rattle.cluster_rules.proofs.SchedFrame.{IsPlacing, placing_keys, count_to-mail}
-use Rattle.pair_moves.proofs.Framed.{change_framed}
+use Rattle.cluster_laws.proofs.Framed.{change_framed}
 use Rattle.cluster_rules.specs.Worker.{Ask, WorkerFacts, has_any}
 use Rattle.cluster_rules.specs.WorkerStep.{takes_down}
 use Rattle.cluster_rules.specs.World.{Job, World, Parcel, shape_of, is_connected, is_client, open_ask, parcel_of}

@@ -5,6 +5,7 @@ use Rattle.io_edge.specs.Content.{followed_by, PrintsPart}
 use Rattle.io_edge.specs.View.{View, Files, Opens, OnlyReads, OnlyWrites, OnlyOut, raised_by}
 use Rattle.io_edge.proofs.Pieces.{follow_none}
 use Rattle.cluster_msgs.specs.declared.events.Report.{Report}
+use Rattle.cluster_rules.specs.World.{Job}
 use Rattle.nd_shape.specs.Block.{Array}
 use Rattle.nd_shape.specs.Index.{place}
 use Rattle.npy_codec.specs.Npy.{npy}
@@ -25,9 +26,9 @@ use Rattle.sim_run.specs.declared.ends.SimEnded.{SimEnded}
 use Rattle.sim_run.specs.declared.ends.SimEnded.TheVariants.{NotBuilt, Keys, Events, Turns, Ran}
 use Rattle.sim_run.specs.declared.form.Addition.{Addition}
 use Rattle.sim_run.specs.Ends.{PrintsServed, RanCause, RanPrints, SimulatesPlan}
-use Rattle.sim_run.specs.Forms.{CanRun, IsAddition}
-use Rattle.sim_run.specs.Serving.{IsStopped}
-use Rattle.sim_run.specs.Simulated.{IsOutOfEvents, IsOutOfTurns, IsServed, SimulatesTo}
+use Rattle.sim_run.specs.Forms.{CanRun, IsAddition, IsRunOf, IsTextJob}
+use Rattle.sim_run.specs.Serving.{IsAdded, IsStopped}
+use Rattle.sim_run.specs.Simulated.{IsOutOfEvents, IsOutOfTurns, SimulatesTo}
 use Rattle.sim_run.specs.Texts.{lines_of}
 use Rattle.sim_run.proofs.Values.{all_there, arrays_are, file_of-sum, three_nodes, three_of, ThreeNodes}
 
@@ -93,20 +94,29 @@ evaluated p a old mid inputs is r = record {
   values = on_blocks p old mid inputs (λ blocks. values_of p inputs ≡ values_of p blocks) r refl;
 }
 
--- the simulation came to no end of its own
-stopped : (p : Plan) (s : SimWords) (a : Addition) (old mid : View) (inputs : List Array) (P : Addition → SimWords → List ℤ → Type 0) → CanRun p a → IsRead p old mid inputs → IsInput a (block_at inputs 0) → P a s (block_at inputs 0).cells →
-    SimulatesTo p s old.files P
-stopped p s a old mid inputs P can r input ends = record {
+-- the addition of what was read is the text's job
+text_job : (p : Plan) (s : SimWords) (a : Addition) (old mid : View) (inputs : List Array) (job : Job) (wanted : List ℕ) → CanRun p a → IsRead p old mid inputs → IsInput a (block_at inputs 0) → IsRunOf a (block_at inputs 0).cells s job wanted → IsTextJob p old.files s job wanted
+text_job p s a old mid inputs job wanted can r input run = record {
   addition = a;
   can = can;
   inputs = r.fit;
   cells = (block_at inputs 0).cells;
   count = input.count_is;
-  ends = ends;
+  run = run;
   told = told_cells p old mid inputs r;
 }
 
-pub out_of_turns : (p : Plan) (s : SimWords) (a : Addition) (old mid : View) (inputs : List Array) → CanRun p a → IsRead p old mid inputs → IsInput a (block_at inputs 0) → IsOutOfTurns a s (block_at inputs 0).cells → SimulatesPlan p s old mid Turns
+-- the simulation came to no end of its own
+stopped : (p : Plan) (s : SimWords) (a : Addition) (old mid : View) (inputs : List Array) (P : Job → List ℕ → SimWords → Type 0) → CanRun p a → IsRead p old mid inputs → IsInput a (block_at inputs 0) → SimulatesTo (IsRunOf a (block_at inputs 0).cells s) s P →
+    SimulatesTo (IsTextJob p old.files s) s P
+stopped p s a old mid inputs P can r input to = record {
+  job = to.job;
+  wanted = to.wanted;
+  is = text_job p s a old mid inputs to.job to.wanted can r input to.is;
+  ends = to.ends;
+}
+
+pub out_of_turns : (p : Plan) (s : SimWords) (a : Addition) (old mid : View) (inputs : List Array) → CanRun p a → IsRead p old mid inputs → IsInput a (block_at inputs 0) → SimulatesTo (IsRunOf a (block_at inputs 0).cells s) s IsOutOfTurns → SimulatesPlan p s old mid Turns
 out_of_turns p s a old mid inputs can r input ends = record {
   cause = stopped p s a old mid inputs IsOutOfTurns can r input ends;
   saves = r.opens.held;
@@ -120,7 +130,7 @@ out_of_turns p s a old mid inputs can r input ends = record {
   note_faults = r.only.note_faults;
 }
 
-pub out_of_events : (p : Plan) (s : SimWords) (a : Addition) (old mid : View) (inputs : List Array) → CanRun p a → IsRead p old mid inputs → IsInput a (block_at inputs 0) → IsOutOfEvents a s (block_at inputs 0).cells → SimulatesPlan p s old mid Events
+pub out_of_events : (p : Plan) (s : SimWords) (a : Addition) (old mid : View) (inputs : List Array) → CanRun p a → IsRead p old mid inputs → IsInput a (block_at inputs 0) → SimulatesTo (IsRunOf a (block_at inputs 0).cells s) s IsOutOfEvents → SimulatesPlan p s old mid Events
 out_of_events p s a old mid inputs can r input ends = record {
   cause = stopped p s a old mid inputs IsOutOfEvents can r input ends;
   saves = r.opens.held;
@@ -186,7 +196,7 @@ pub record Finishes (p : Plan) (s : SimWords) (a : Addition) (old mid : View) (i
   pub read : IsRead p old mid inputs
   pub input : IsInput a (block_at inputs 0)
   pub name_is : names_saved p ≡ name ∷ []
-  pub served : IsServed a s (block_at inputs 0).cells report turns
+  pub served : IsAdded a s (block_at inputs 0).cells report turns
 
 saves_all : (p : Plan) (s : SimWords) (a : Addition) (old mid : View) (inputs : List Array) (name : List ℕ) (report : Report) (turns : ℕ) (saved : Files) → Finishes p s a old mid inputs name report turns →
     SavesAll (name ∷ []) (sum_file a inputs ∷ []) mid.files saved → SavesAll (names_saved p) (files_known p (values_of p inputs)) mid.files saved
@@ -205,14 +215,12 @@ saves_some p s a old mid inputs name report turns saved f some =
 prints_served : (p : Plan) (s : SimWords) (a : Addition) (old mid : View) (inputs : List Array) (name : List ℕ) (report : Report) (turns : ℕ) (Printed : List ℕ → Type 0) → Finishes p s a old mid inputs name report turns → Printed (lines_of p report turns) →
     PrintsServed p s old.files Printed
 prints_served p s a old mid inputs name report turns Printed f printed = record {
-  addition = a;
-  can = f.can;
-  cells = (block_at inputs 0).cells;
-  count = f.input.count_is;
+  job = f.served.job;
+  wanted = f.served.wanted;
+  is = text_job p s a old mid inputs f.served.job f.served.wanted f.can f.read f.input f.served.is;
   report = report;
   turns = turns;
-  served = f.served;
-  told = told_cells p old mid inputs f.read;
+  served = f.served.ends;
   printed = printed;
 }
 

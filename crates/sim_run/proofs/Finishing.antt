@@ -21,8 +21,7 @@ use Rattle.sim_run.specs.declared.ends.SimEnded.TheVariants.{Ran}
 use Rattle.sim_run.specs.declared.form.Addition.{Addition}
 use Rattle.sim_run.specs.Ends.{SimulatesPlan}
 use Rattle.sim_run.specs.Forms.{CanRun}
-use Rattle.sim_run.specs.Serving.{IsStopped}
-use Rattle.sim_run.specs.Simulated.{IsServed}
+use Rattle.sim_run.specs.Serving.{IsAdded, IsStopped}
 use Rattle.sim_run.specs.Texts.{lines_of}
 use Rattle.sim_run.proofs.Ending.{Finishes, IsInput, IsRead, done, print_failed, save_failed, save_starved, stopped_runs, sum_file}
 use Rattle.sim_run.proofs.Reading.{is_input_of, one_input, one_shape}
@@ -51,9 +50,9 @@ one_name (x ∷ []) save e is = ap (λ (s : Save). string_bytes s.file ∷ []) (
 one_name (x ∷ y ∷ more) save e is = absurd (omega (arith, ap length e))
 
 pub finishes : (p : Plan) (s : SimWords) (a : Addition) (old mid : View) (inputs : List Array) (cells : List ℤ) (name : List ℕ) (report : Report) (turns : ℕ) → CanRun p a → IsRead p old mid inputs → IsInput a (block_at inputs 0) →
-    cells ≡ (block_at inputs 0).cells → names_saved p ≡ name ∷ [] → IsServed a s cells report turns → Finishes p s a old mid inputs name report turns
+    cells ≡ (block_at inputs 0).cells → names_saved p ≡ name ∷ [] → IsAdded a s cells report turns → Finishes p s a old mid inputs name report turns
 finishes p s a old mid inputs cells name report turns can read input same name_is served =
-    let P : List ℤ → Type 0 = λ cs. IsServed a s cs report turns in
+    let P : List ℤ → Type 0 = λ cs. IsAdded a s cs report turns in
     record { can = can; read = read; input = input; name_is = name_is; served = subst P same served }
 
 pub sum_is : (a : Addition) (inputs : List Array) (cells : List ℤ) (sum : Array) → sum ≡ record { shape = a.count ∷ []; cells = added (pos a.addend) cells } → cells ≡ (block_at inputs 0).cells → npy sum.shape sum.cells ≡ sum_file a inputs

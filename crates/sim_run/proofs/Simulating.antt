@@ -19,12 +19,12 @@ use Rattle.cluster_laws.specs.AreValues.{AreValues}
 use Rattle.cluster_laws.specs.Blocks.{Cluster, job_of, setting_of, opening_cluster}
 use Rattle.cluster_laws.proofs.BlockValues.{values_of}
 use Rattle.cluster_world.specs.declared.state.State.{State}
-use Rattle.cluster_world.specs.Worlds.{IsReached, IsReady, cluster, setting, world}
+use Rattle.cluster_world.specs.Worlds.{IsMade, IsMadeBy, IsReady, cluster, running as runs_of, setting, world}
 use Rattle.cluster_rules.specs.Runs.{event_limit}
 use Rattle.quiet_bound.proofs.WorldBound.{setting-world}
 use Rattle.cluster_sim.specs.declared.act.SimError.{SimError}
 use Rattle.cluster_sim.specs.declared.act.SimError.TheVariants as sim
-use Rattle.cluster_sim.specs.Acts.{CountsSim, running as runs_of}
+use Rattle.cluster_sim.specs.Acts.{CountsSim}
 use Rattle.cluster_sim.specs.Drawn.{word_of}
 use Rattle.cluster_sim.specs.Openings.{AreWanted, IsOpening}
 use Rattle.cluster_sim.specs.Plans.{IsPlan, joins_in as plan_joins}
@@ -36,9 +36,9 @@ use Rattle.sim_words.specs.Walks.{joins_in}
 use Rattle.sim_run.specs.declared.ends.SimEnded.{SimEnded}
 use Rattle.sim_run.specs.declared.ends.SimEnded.TheVariants.{NotBuilt, Keys, Events, Turns, Ran}
 use Rattle.sim_run.specs.declared.form.Addition.{Addition}
-use Rattle.sim_run.specs.Forms.{chunks_in}
-use Rattle.sim_run.specs.Serving.{HasSums, IsFound, IsHalted, IsStopped, KnowsAdditions, ended_of}
-use Rattle.sim_run.specs.Simulated.{AreSettings, IsJobOf, IsServed, running, sim_plan, wanted_keys}
+use Rattle.sim_run.specs.Forms.{IsJobOf, IsRunOf, chunks_in, wanted_keys}
+use Rattle.sim_run.specs.Serving.{HasSums, IsAdded, IsFound, IsHalted, IsStopped, KnowsAdditions, ended_of}
+use Rattle.sim_run.specs.Simulated.{AreSettings, running, sim_plan}
 use Rattle.sim_run.proofs.Manned.{manned_at_end}
 
 -- ## The plan
@@ -87,12 +87,11 @@ are_wanted j n is e = record {
 pub setting_is : {F : Type 0} (s : State JobOf (List ℤ) F) (set : Setting) (op : ℕ → List (List ℤ) → Option (List ℤ)) → cluster s ≡ opening_cluster set op → setting s ≡ set
 setting_is s set op e = sym (setting-world s) ∙ ap (λ (c : Cluster (List ℤ)). c.world.sched.setting) e
 
-pub opens : {F : Type 0} (s : State JobOf (List ℤ) F) (j : JobOf) (saturation : ℕ) → s.job ≡ j → cluster s ≡ opening_cluster (setting_of j.shape 1 saturation) (made j) → IsReady s → s.events ≡ 0 → IsOpening made s
-opens s j saturation job e ready fresh = record {
+pub opens : {F : Type 0} (s : State JobOf (List ℤ) F) (j : JobOf) (saturation : ℕ) → s.job ≡ j → cluster s ≡ opening_cluster (setting_of j.shape 1 saturation) (made j) → IsReady s → IsMadeBy made [] s → IsOpening made s
+opens s j saturation job e ready none = record {
   going = ready.going;
-  opening = e ∙ (ap (λ set. opening_cluster set (made j)) (sym (setting_is s (setting_of j.shape 1 saturation) (made j) e)) ∙ ap (λ i. opening_cluster (setting s) (made i)) (sym job));
+  made = none;
   client = omega (arith, ap (λ (set : Setting). set.clients) (setting_is s (setting_of j.shape 1 saturation) (made j) e));
-  fresh = fresh;
 }
 
 total_is : (a : Addition) (cells : List ℤ) (j : JobOf) → IsJobOf a cells j → length cells ≡ a.count → chunk_total j ≡ chunks_in a
@@ -142,13 +141,19 @@ is_halted j words p wanted keys w sim.Feed same turns spent = tt
 is_halted j words p wanted keys w sim.Spent same turns spent = let K : List ℕ → Type 0 = λ ks. IsUnfinished j words p ks event_limit in subst K same (spent refl)
 is_halted j words p wanted keys w sim.OutOfMemory same turns spent = tt
 
+is_run : (a : Addition) (words : SimWords) (cells : List ℤ) (j : JobOf) → IsJobOf a cells j → IsRunOf a cells words (running words j.shape (made j)) (wanted_keys a)
+is_run a words cells j is = record { addition_job = j; is = is; runs = refl; wants = refl }
+
 pub is_served : (a : Addition) (words : SimWords) (cells : List ℤ) (j : JobOf) (report : Report) (turns : ℕ) → IsJobOf a cells j → length cells ≡ a.count →
-    IsFound (running words j) (word_of words.settings.number) (sim_plan words) (additions (chunk_total j)) report turns → IsServed a words cells report turns
+    IsFound (running words j.shape (made j)) (word_of words.settings.number) (sim_plan words) (additions (chunk_total j)) report turns → IsAdded a words cells report turns
 is_served a words cells j report turns is count found = record {
-  job = j;
-  is = is;
-  world = found.world;
-  reported = as_defined a cells j (λ keys. IsReported (running words j) (word_of words.settings.number) (sim_plan words) keys (Served turns None) found.world report) is count found.reported;
+  job = running words j.shape (made j);
+  wanted = wanted_keys a;
+  is = is_run a words cells j is;
+  ends = record {
+    world = found.world;
+    reported = as_defined a cells j (λ keys. IsReported (running words j.shape (made j)) (word_of words.settings.number) (sim_plan words) keys (Served turns None) found.world report) is count found.reported;
+  };
 }
 
 pub if_err : {A E : Type 0} (r : Result A E) (P Q : E → Type 0) → IsErrAnd r P → ((e : E) → P e → Q e) → IfErr r Q
@@ -156,19 +161,27 @@ if_err (Ok x) P Q is f = tt
 if_err (Err e) P Q is f = f e is
 
 pub is_stopped : (a : Addition) (words : SimWords) (cells : List ℤ) (j : JobOf) (end : SimEnded) → IsJobOf a cells j → length cells ≡ a.count →
-    IsHalted (running words j) (word_of words.settings.number) (sim_plan words) (additions (chunk_total j)) end → IsStopped a words cells end
+    IsHalted (running words j.shape (made j)) (word_of words.settings.number) (sim_plan words) (additions (chunk_total j)) end → IsStopped a words cells end
 is_stopped a words cells j NotBuilt is count halted = absurd halted
 is_stopped a words cells j Keys is count halted = absurd halted
 is_stopped a words cells j Events is count halted =
-    record { job = j; is = is; unfinished = as_defined a cells j (λ keys. IsUnfinished (running words j) (word_of words.settings.number) (sim_plan words) keys event_limit) is count halted }
-is_stopped a words cells j Turns is count halted =
-    let made = as_defined a cells j (λ keys. IsExhausted (running words j) (word_of words.settings.number) (sim_plan words) keys halted.world) is count halted.exhausted in
     record {
-      job = j;
-      is = is;
-      world = halted.world;
-      exhausted = made;
-      past = λ walk. let m = manned_at_end (sim_plan words) walk (running words j) (word_of words.settings.number) (wanted_keys a) made.cut.events OutOfTurns halted.world made.cut.simulated in made.past m.0 m.1.0 m.1.1;
+      job = running words j.shape (made j);
+      wanted = wanted_keys a;
+      is = is_run a words cells j is;
+      ends = as_defined a cells j (λ keys. IsUnfinished (running words j.shape (made j)) (word_of words.settings.number) (sim_plan words) keys event_limit) is count halted;
+    }
+is_stopped a words cells j Turns is count halted =
+    let done = as_defined a cells j (λ keys. IsExhausted (running words j.shape (made j)) (word_of words.settings.number) (sim_plan words) keys halted.world) is count halted.exhausted in
+    record {
+      job = running words j.shape (made j);
+      wanted = wanted_keys a;
+      is = is_run a words cells j is;
+      ends = record {
+        world = halted.world;
+        exhausted = done;
+        past = λ walk. let m = manned_at_end (sim_plan words) walk (running words j.shape (made j)) (word_of words.settings.number) (wanted_keys a) done.cut.events OutOfTurns halted.world done.cut.simulated in done.past m.0 m.1.0 m.1.1;
+      };
     }
 is_stopped a words cells j (Ran end) is count halted = halted
 
@@ -191,12 +204,12 @@ there : {A : Type 0} (block value : Option A) → is_some block ≡ true → ((b
 there None value some right = absurd (false≢true some)
 there (Some b) value some right = sym (right b refl)
 
-values_in : {F : Type 0} (s : State JobOf (List ℤ) F) → IsShape (setting s).shape → IsReached (setting s) (made s.job) (cluster s) → AreValues (deps_of (setting s).shape) (val (deps_of (setting s).shape) (made s.job)) (cluster s)
+values_in : {F : Type 0} (s : State JobOf (List ℤ) F) → IsShape (setting s).shape → IsMade made s → AreValues (deps_of (setting s).shape) (val (deps_of (setting s).shape) (made s.job)) (cluster s)
 values_in s low r =
     let P : Cluster (List ℤ) → Type 0 = λ c. AreValues (deps_of (setting s).shape) (val (deps_of (setting s).shape) (made s.job)) c in
-    subst P r.run (values_of (setting s) (made s.job) low r.events r.legal)
+    subst P r.made.blocks (values_of (setting s) (made s.job) low r.events r.made.run.legal)
 
-sum_at : {F : Type 0} (s : State JobOf (List ℤ) F) (i : ℕ) → KnowsAdditions → IsAdditionJob s.job → (setting s).shape ≡ s.job.shape → IsReached (setting s) (made s.job) (cluster s) → HasAll (world s) (additions (chunk_total s.job)) → i < chunk_total s.job →
+sum_at : {F : Type 0} (s : State JobOf (List ℤ) F) (i : ℕ) → KnowsAdditions → IsAdditionJob s.job → (setting s).shape ≡ s.job.shape → IsMade made s → HasAll (world s) (additions (chunk_total s.job)) → i < chunk_total s.job →
     (cluster s).blocks.got 1 (2 * i + 1) ≡ Some (added s.job.addend (chunk s.job i))
 unfolding KnowsAdditions
 sum_at s i law is shape r all h =
@@ -205,7 +218,7 @@ sum_at s i law is shape r all h =
     there ((cluster s).blocks.got 1 (2 * i + 1)) (val (deps_of (setting s).shape) (made s.job) (2 * i + 1)) (place.present (all (2 * i + 1) (in_additions (chunk_total s.job) i h))) place.right
     ∙ (ap (λ (g : Shape). val (deps_of g) (made s.job) (2 * i + 1)) shape ∙ law.0 s.job is i h)
 
-pub has_sums : {F : Type 0} (s : State JobOf (List ℤ) F) → KnowsAdditions → IsAdditionJob s.job → (setting s).shape ≡ s.job.shape → IsReached (setting s) (made s.job) (cluster s) → HasAll (world s) (additions (chunk_total s.job)) → HasSums s
+pub has_sums : {F : Type 0} (s : State JobOf (List ℤ) F) → KnowsAdditions → IsAdditionJob s.job → (setting s).shape ≡ s.job.shape → IsMade made s → HasAll (world s) (additions (chunk_total s.job)) → HasSums s
 has_sums s law is shape r all = record { each = λ i h. sum_at s i law is shape r all h }
 
 -- the blocks are the whole sum
@@ -222,7 +235,7 @@ pub record HasRun {F : Type 0} (s t : State JobOf (List ℤ) F) (n : ℕ) (keys 
   pub wanted : keys ≡ additions n
   pub job : t.job ≡ s.job
   pub kept : setting t ≡ setting s
-  pub reached : IsReached (setting t) (made t.job) (cluster t)
+  pub led : IsMade made t
   pub all : (blame ≡ None) ↔ HasAll (world t) keys
   pub blamed : IfBlamed (deps_of (setting s).shape) (val (deps_of (setting s).shape) (made s.job)) keys blame
 
@@ -235,7 +248,7 @@ run_sums s t n keys blame r =
     let A : List ℕ → Type 0 = λ ks. HasAll (world t) ks in
     let shape : (setting t).shape ≡ t.job.shape = ap (λ (set : Setting). set.shape) r.kept ∙ (r.graph ∙ ap (λ (i : JobOf). i.shape) (sym r.job)) in
     let keys_are : keys ≡ additions (chunk_total t.job) = r.wanted ∙ ap additions (r.count ∙ ap chunk_total (sym r.job)) in
-    has_sums t r.known (subst I (sym r.job) r.is) shape r.reached (subst A keys_are (r.all.0 (none_told s t n keys blame r)))
+    has_sums t r.known (subst I (sym r.job) r.is) shape r.led (subst A keys_are (r.all.0 (none_told s t n keys blame r)))
 
 pub run_whole : {F : Type 0} (s t : State JobOf (List ℤ) F) (n : ℕ) (keys : List ℕ) (blame : Option ℕ) → HasRun s t n keys blame → joined (λ i. added t.job.addend (chunk t.job i)) n ≡ added s.job.addend s.job.cells
 run_whole s t n keys blame r = ap (λ (j : JobOf). joined (λ i. added j.addend (chunk j i)) n) r.job ∙ sum_whole s.job n r.known r.is r.count

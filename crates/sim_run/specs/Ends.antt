@@ -1,22 +1,21 @@
 -- How the simulated run of a job ends, why it ends so, and what it leaves.
-use Rattle.std.specs.Prelude.{◌≡◌, ◌⊎◌, ℕ, ℤ, List, length}
+use Rattle.std.specs.Prelude.{◌≡◌, ◌⊎◌, ℕ, List}
 use Rattle.io_edge.specs.Cause.{Rose}
 use Rattle.io_edge.specs.Content.{followed_by}
 use Rattle.io_edge.specs.View.{View, Files, raised_by}
 use Rattle.cluster_msgs.specs.declared.events.Report.{Report}
+use Rattle.cluster_rules.specs.World.{Job}
 use Rattle.job_run.specs.declared.ends.Ended.{Ended}
 use Rattle.job_run.specs.declared.ends.Ended.TheVariants.{Done, File, Zero, ReadFault, WriteFault, OutOfMemory}
 use Rattle.job_run.specs.Inputs.{InputRefused}
 use Rattle.job_run.specs.Part.{IsNoneOf}
 use Rattle.job_run.specs.Plan.{Plan, names_saved}
 use Rattle.job_run.specs.Runs.{HasValues, Saves as RunSaves, Opened as RunOpened, Created as RunCreated, PrintsFront, Valued as RunValued}
-use Rattle.job_run.specs.Values.{OnInputs}
-use Rattle.plain_eval.specs.Eval.{block_at}
 use Rattle.sim_words.specs.declared.sim.SimWords.{SimWords}
 use Rattle.sim_run.specs.declared.ends.SimEnded.{SimEnded}
 use Rattle.sim_run.specs.declared.ends.SimEnded.TheVariants.{NotBuilt, Keys, Events, Turns, Ran}
 use Rattle.sim_run.specs.declared.form.Addition.{Addition}
-use Rattle.sim_run.specs.Forms.{CanRun, IsAddition, HasManyChunks, IsSimulable}
+use Rattle.sim_run.specs.Forms.{IsAddition, HasManyChunks, IsSimulable, IsTextJob}
 use Rattle.sim_run.specs.Simulated.{IsServed, IsOutOfTurns, IsOutOfEvents, SimulatesTo}
 use Rattle.sim_run.specs.Texts.{lines_of}
 
@@ -32,8 +31,8 @@ RanCause p old new OutOfMemory = Unit {0}
 abbrev pub Cause : Plan → SimWords → View → View → SimEnded → Type 0
 Cause p s old new NotBuilt = (a : Addition) → ¬ IsAddition p a
 Cause p s old new Keys = HasManyChunks p
-Cause p s old new Events = SimulatesTo p s old.files IsOutOfEvents
-Cause p s old new Turns = SimulatesTo p s old.files IsOutOfTurns
+Cause p s old new Events = SimulatesTo (IsTextJob p old.files s) s IsOutOfEvents
+Cause p s old new Turns = SimulatesTo (IsTextJob p old.files s) s IsOutOfTurns
 Cause p s old new (Ran end) = RanCause p old new end
 
 -- the saved file: as a run of the same job in the calling thread leaves it
@@ -53,17 +52,14 @@ abbrev pub Created : List (List ℕ) → (List ℕ → ℕ) → (List ℕ → �
 Created names old new (Ran end) = RunCreated names old new end
 Created names old new end = new ≡ old
 
--- The lines of a simulation in which the client got all, over elements that are as many as the one input declares. Where a site tells what the input
--- holds, they are these.
+-- the lines of a simulation of the text's job in which the client got all
 pub record PrintsServed (p : Plan) (s : SimWords) (files : Files) (Printed : List ℕ → Type 0) : Type 0 where
-  pub addition : Addition
-  pub can : CanRun p addition
-  pub cells : List ℤ
-  pub count : length cells ≡ addition.count
+  pub job : Job
+  pub wanted : List ℕ
+  pub is : IsTextJob p files s job wanted
   pub report : Report
   pub turns : ℕ
-  pub served : IsServed addition s cells report turns
-  pub told : OnInputs p files (λ blocks. (block_at blocks 0).cells ≡ cells)
+  pub served : IsServed job wanted s report turns
   pub printed : Printed (lines_of p report turns)
 
 abbrev pub RanPrints : Plan → SimWords → View → View → Ended → Type 0

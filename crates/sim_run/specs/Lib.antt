@@ -1,5 +1,5 @@
-pub mod Forms
 pub mod Simulated
+pub mod Forms
 pub mod Serving
 pub mod Texts
 pub mod Ends

@@ -20,8 +20,8 @@ use Rattle.sim_words.specs.declared.sim.SimWords.{SimWords}
 use Rattle.sim_run.specs.declared.ends.SimEnded.{SimEnded}
 use Rattle.sim_run.specs.declared.ends.SimEnded.TheVariants.{NotBuilt, Keys, Events, Turns, Ran}
 use Rattle.sim_run.specs.declared.form.Addition.{Addition}
-use Rattle.sim_run.specs.Forms.{operations, chunks_in, chunks_most}
-use Rattle.sim_run.specs.Simulated.{IsOutOfTurns, IsOutOfEvents}
+use Rattle.sim_run.specs.Forms.{operations, chunks_in, chunks_most, IsRunOf}
+use Rattle.sim_run.specs.Simulated.{IsServed, IsOutOfTurns, IsOutOfEvents, SimulatesTo}
 
 -- the nodes are this addition's, whose number is from 0 to 2^63 - 1
 pub record AreNodesOf (nodes : List Node) (a : Addition) : Type 0 where
@@ -79,10 +79,14 @@ IsHalted j words p wanted Events = IsUnfinished j words p wanted event_limit
 IsHalted j words p wanted Turns = IsCutOff j words p wanted
 IsHalted j words p wanted (Ran end) = IsStarved end
 
+-- the client got all of an addition
+abbrev pub IsAdded : Addition → SimWords → List ℤ → Report → ℕ → Type 0
+IsAdded a s cells report turns = SimulatesTo (IsRunOf a cells s) s (λ job wanted s. IsServed job wanted s report turns)
+
 -- why an addition wasn't served
 abbrev pub IsStopped : Addition → SimWords → List ℤ → SimEnded → Type 0
 IsStopped a s cells NotBuilt = ⊥
 IsStopped a s cells Keys = ⊥
-IsStopped a s cells Events = IsOutOfEvents a s cells
-IsStopped a s cells Turns = IsOutOfTurns a s cells
+IsStopped a s cells Events = SimulatesTo (IsRunOf a cells s) s IsOutOfEvents
+IsStopped a s cells Turns = SimulatesTo (IsRunOf a cells s) s IsOutOfTurns
 IsStopped a s cells (Ran end) = IsStarved end

@@ -2,14 +2,13 @@
 ghost use Rattle.std.specs.Prelude.{◌≡◌, ◌≢◌, ◌≤◌, ◌<◌, ◌+◌, ◌*◌, ◌++◌, [], ◌∷◌, length, pos, IfOk, IfErr, OnOk};
 ghost use Rattle.addition_job.specs.Chunks.{added, joined};
 ghost use Rattle.addition_job.specs.Addition.{IsAdditionJob, additions, chunk, chunk_total, made};
-ghost use Rattle.cluster_sim.specs.Acts.{running};
 ghost use Rattle.cluster_sim.specs.Drawn.{word_of};
 ghost use Rattle.cluster_sim.specs.Openings.{IsOpening};
 ghost use Rattle.cluster_sim.specs.Plans.{plan_of, IsPlan};
-ghost use Rattle.cluster_world.specs.Worlds.{setting};
+ghost use Rattle.cluster_world.specs.Worlds.{setting, running};
 ghost use Rattle.cluster_laws.specs.Blocks.{job_of, setting_of};
-ghost use Rattle.sim_run.specs.Serving.{HasSums, IsFound, IsHalted, IsStopped, IsWithin, KnowsAdditions, ended_of};
-ghost use Rattle.sim_run.specs.Simulated.{AreSettings, IsServed};
+ghost use Rattle.sim_run.specs.Serving.{HasSums, IsAdded, IsFound, IsHalted, IsStopped, IsWithin, KnowsAdditions, ended_of};
+ghost use Rattle.sim_run.specs.Simulated.{AreSettings};
 
 use crate::ends::SimEnded;
 use crate::form::Addition;
@@ -161,7 +160,7 @@ pub fn serve(
     requires within { IsWithin addition }
     requires count { length cells.items ≡ addition.count }
     requires words { AreSettings words }
-    ensures served { IfOk result (λ s. IsServed addition words cells.items s.report s.turns) }
+    ensures served { IfOk result (λ s. IsAdded addition words cells.items s.report s.turns) }
     ensures sum { IfOk result (λ s. s.sum ≡ record { shape = addition.count ∷ []; cells = added (pos addition.addend) cells.items }) }
     ensures stopped { IfErr result (IsStopped addition words cells.items) }
 {

@@ -22,7 +22,7 @@ pub simulate_world-found-requires-clause-plan : goal.simulate_world-found-requir
 simulate_world-found-requires-clause-plan c = c.requires.plan
 
 pub simulate_world-found-requires-clause-opening : goal.simulate_world-found-requires-clause-opening
-simulate_world-found-requires-clause-opening c = opens c.in_ok-world.world c.args.job c.args.saturation c.in_ok-world.ensures.job c.in_ok-world.ensures.opening c.in_ok-world.ensures.ready c.in_ok-world.ensures.events
+simulate_world-found-requires-clause-opening c = opens c.in_ok-world.world c.args.job c.args.saturation c.in_ok-world.ensures.job c.in_ok-world.ensures.opening c.in_ok-world.ensures.ready c.in_ok-world.ensures.made
 
 pub simulate_world-found-requires-clause-graph : goal.simulate_world-found-requires-clause-graph
 simulate_world-found-requires-clause-graph c = graph_is c.in_ok-world.world c.args.job c.args.saturation c.in_ok-world.ensures.job c.in_ok-world.ensures.opening

@@ -1,9 +1,8 @@
 use Rattle.std.proofs.Common.{ap, arith, sym, subst, Err, ◌∙◌}
-use Rattle.cluster_sim.specs.Acts.{running}
 use Rattle.cluster_sim.specs.Drawn.{word_of}
 use Rattle.cluster_sim.specs.Plans.{plan_of}
 use Rattle.cluster_sim.specs.declared.whole.SimEnd.{SimEnd}
-use Rattle.cluster_world.specs.Worlds.{setting, world}
+use Rattle.cluster_world.specs.Worlds.{running, setting, world}
 use Rattle.addition_job.specs.Addition.{additions, chunk_total, made}
 use Rattle.sim_run.specs.declared.ends.SimEnded.{SimEnded}
 use Rattle.sim_run.specs.Serving.{IsHalted}
@@ -43,7 +42,7 @@ sums-requires-clause-sums c = run_sums c.args.world.now c.simulate.new.world c.a
   wanted = c.in_ok-keys.ensures;
   job = c.in-Ok.ensures.stays.job;
   kept = c.in-Ok.ensures.stays.setting;
-  reached = c.in-Ok.ensures.reached tt;
+  led = c.in-Ok.ensures.made tt;
   all = c.in-Ok.ensures.all;
   blamed = c.in-Ok.ensures.blame tt;
 })
@@ -65,7 +64,7 @@ returns-clause-found c =
       wanted = c.in_ok-keys.ensures;
       job = c.in-Ok.ensures.stays.job;
       kept = c.in-Ok.ensures.stays.setting;
-      reached = c.in-Ok.ensures.reached tt;
+      led = c.in-Ok.ensures.made tt;
       all = c.in-Ok.ensures.all;
       blamed = c.in-Ok.ensures.blame tt;
     })) (c.in-Ok.ensures.served tt)
@@ -79,7 +78,7 @@ returns-clause-cells c = c.in_ok-cells.ensures ∙ run_whole c.args.world.now c.
   wanted = c.in_ok-keys.ensures;
   job = c.in-Ok.ensures.stays.job;
   kept = c.in-Ok.ensures.stays.setting;
-  reached = c.in-Ok.ensures.reached tt;
+  led = c.in-Ok.ensures.made tt;
   all = c.in-Ok.ensures.all;
   blamed = c.in-Ok.ensures.blame tt;
 })

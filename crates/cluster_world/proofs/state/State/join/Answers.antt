@@ -1,5 +1,5 @@
 use Rattle.cluster_nodes.specs.Turns.{joined}
-use Rattle.cluster_world.proofs.Lasts.{step_last}
+use Rattle.cluster_laws.proofs.Framed.{step_last}
 use Rattle.std.proofs.Common.{◌+◌, ℕ, None, sym, ap, ◌∙◌, arith, length}
 use Rattle.cluster_msgs.specs.declared.cores.SchedEvent.TheVariants as sched
 use Rattle.cluster_rules.specs.WorldStep.{at_scheduler}
