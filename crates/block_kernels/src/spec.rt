@@ -4,7 +4,7 @@ use nd_grid::{Binary, Fold};
 use nd_shape::{Axes, Pieces, Region, Shape, Shapes, StepList};
 
 /// An operand of an elementwise operation: an input by its place, or a number that stands at every element.
-#[derive(Clone, Copy, Debug, PartialEq, Eq)]
+#[derive(Clone, Copy)]
 pub enum Operand {
     Input(u32),
     Number(i64),

@@ -1,1 +1,14 @@
+pub mod Bounds
+pub mod Culled
+pub mod Edges
+pub mod Keys
 pub mod Making
+pub mod Moved
+pub mod Moving
+pub mod Numbered
+pub mod Ordered
+pub mod Pushed
+pub mod Renumbered
+pub mod Rising
+pub mod Visits
+pub mod Walked

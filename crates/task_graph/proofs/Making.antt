@@ -2,7 +2,7 @@
 use Rattle.std.proofs.Common.{◌≡◌, ℕ, zero, suc, ◌<◌, List, [], ◌∷◌, length, map, get_or, refl, ap, sym, ◌∙◌, arith, Ok, Err, Some, None, ℤ}
 use Rattle.std.specs.Prelude.{Option, Result, option_and_then}
 use Rattle.std.proofs.Math.ListN.{get_or-map}
-use Rattle.std.proofs.lemmas.List.{get_or-map as get_or-map-at}
+use Rattle.std.proofs.lemmas.List.{get_or_default, get_or-map as get_or-map-at}
 use Rattle.nd_shape.specs.Block.{Array}
 use Rattle.nd_grid.specs.Grid.{grid_of, block_of}
 use Rattle.cluster_msgs.specs.Dags.{IsEarlier}
@@ -18,6 +18,10 @@ no_array = record { shape = []; cells = [] }
 
 pub deps-at : (tasks : List Task) (k : ℕ) → deps_of (shape_of tasks) k ≡ (task_at tasks k).deps
 deps-at tasks k = get_or-map (λ (t : Task). t.deps) tasks k no_task
+
+-- the same for the task that stands there
+pub deps-there : (tasks : List Task) (k : ℕ) (t : Task) → k < length tasks → t ≡ get_or tasks k t → deps_of (shape_of tasks) k ≡ t.deps
+deps-there tasks k t h e = deps-at tasks k ∙ ap (λ (u : Task). u.deps) (get_or_default tasks k no_task t h ∙ sym e)
 
 then-some : {A B : Type 0} (f : A → Option B) (o : Option A) (b : B) → option_and_then f o ≡ Some b → (a : A) × (o ≡ Some a) × (f a ≡ Some b)
 then-some f None b h = absurd cc

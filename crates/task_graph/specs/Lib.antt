@@ -1,2 +1,9 @@
+pub mod Culls
 pub mod Graphs
+pub mod Moves
+pub mod Numberings
+pub mod Numbers
 pub mod Orders
+pub mod Pushes
+pub mod Stored
+pub mod Walks

@@ -1,0 +1,1 @@
+// Blocks put together of parts of others.

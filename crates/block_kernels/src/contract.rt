@@ -1,0 +1,1 @@
+// Products of two blocks summed over paired axes.

@@ -1,0 +1,1 @@
+// Reductions of blocks along axes.
