@@ -30,11 +30,11 @@ use Rattle.lowering_laws.specs.Built.{AreBuilt}
 use Rattle.lowering_laws.specs.Whole.{LawOfOrder}
 use Rattle.lowering_laws.specs.Named.{box_of}
 use Rattle.lowering_laws.specs.Faults.{is_division, IsCovered, IsMissing, IsFault, IsDivide, LawOfFaults}
-use Rattle.lowering_laws.specs.Numberings.{AreFit, IsNumbering, PlacesFit}
-use Rattle.lowering_laws.proofs.Uses.{ascending-has}
-use Rattle.lowering_laws.proofs.Visits.{numbering}
-use Rattle.lowering_laws.proofs.Moved.{contains-at}
-use Rattle.lowering_laws.proofs.Renumbered.{task-moved, renumbered-value}
+use Rattle.task_graph.specs.Numberings.{AreFit, IsNumbering, PlacesFit}
+use Rattle.task_graph.proofs.Keys.{ascending-has}
+use Rattle.task_graph.proofs.Visits.{numbering}
+use Rattle.task_graph.proofs.Moved.{contains-at}
+use Rattle.task_graph.proofs.Renumbered.{task-moved, renumbered-value}
 use Rattle.lowering_laws.proofs.Lowering.{IsHeld}
 use Rattle.lowering_laws.proofs.Totals.{IsHole, hole-of, zero-divisor, no-block-divides}
 use Rattle.lowering_laws.proofs.Pointwise.{AreThere}

@@ -24,7 +24,7 @@ use Rattle.lowering_laws.specs.Stages.{Use, keys_used, shapes_used, deps_of_uses
 use Rattle.lowering_laws.specs.Law.{Stand, HaveChunks}
 use Rattle.lowering_laws.proofs.Pieces.{parts-fit}
 use Rattle.lowering_laws.proofs.Plain.{IsOrder, counts-turned, turned-holds}
-use Rattle.lowering_laws.proofs.Renumbered.{ascending-from}
+use Rattle.task_graph.proofs.Renumbered.{ascending-from}
 use Rattle.lowering_laws.proofs.Sliced.{slice-of, lists_of}
 use Rattle.lowering_laws.proofs.Rising.{parts-in}
 

@@ -26,7 +26,7 @@ use Rattle.lowering_laws.proofs.Reductions.{folded_part, counts-folded, Merging,
 use Rattle.nd_grid.proofs.Turning.{position-below, position-at}
 use Rattle.lowering_laws.proofs.Under.{drop-counts, IsIn-drop}
 use Rattle.lowering_laws.proofs.Cutting.{chunks-on, some-union}
-use Rattle.lowering_laws.proofs.Uses.{ascending-has, contains-here, contains-later}
+use Rattle.task_graph.proofs.Keys.{ascending-has, contains-here, contains-later}
 use Rattle.lowering_laws.proofs.Fitting.{same-layout}
 use Rattle.lowering_laws.proofs.Products.{ArePaired, Weaving, weaving, AreOnce, drop-append, lengths-join, some-elements, length-pairs, pair-at, length-with, with-paired}
 use Rattle.lowering_laws.proofs.GoodFolded.{some-blocks}

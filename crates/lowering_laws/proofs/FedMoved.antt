@@ -13,10 +13,10 @@ use Rattle.block_kernels.specs.declared.spec.Spec.TheVariants.{Elementwise, Wher
 use Rattle.task_graph.specs.declared.graph.Task.{Task}
 use Rattle.task_graph.specs.Graphs.{task_at}
 use Rattle.task_graph.specs.Orders.{position, ascending, moved_spec, inputs_of, renumbered}
-use Rattle.lowering_laws.specs.Numberings.{PlacesFit, AreFit, IsNumbering}
-use Rattle.lowering_laws.proofs.Uses.{ascending-has}
-use Rattle.lowering_laws.proofs.Renumbered.{AreOnce, ascending-from, keys-once, task-moved}
-use Rattle.lowering_laws.proofs.Moved.{place_now, shapes_now, contains-at, place-below, shape-now}
+use Rattle.task_graph.specs.Numberings.{PlacesFit, AreFit, IsNumbering}
+use Rattle.task_graph.proofs.Keys.{ascending-has}
+use Rattle.task_graph.proofs.Renumbered.{AreOnce, ascending-from, keys-once, task-moved}
+use Rattle.task_graph.proofs.Moved.{place_now, shapes_now, contains-at, place-below, shape-now}
 use Rattle.lowering_laws.proofs.Fed.{dims_at}
 
 -- the shape of the input that stood at a place

@@ -21,7 +21,7 @@ use Rattle.task_graph.specs.Graphs.{task, task_at, no_task}
 use Rattle.lowering_laws.specs.Sources.{Source, Made, key_of, key_at, one_each, placed, rechunk_task, rechunked, same_layout, fitted}
 use Rattle.lowering_laws.specs.Stages.{after, filled_blocks, loaded_blocks, sliced_blocks, slice_task, transposed_blocks, turned_layout, pieces_at, chunks_taken, kept_axes}
 use Rattle.lowering_laws.specs.Law.{HaveChunks}
-use Rattle.lowering_laws.specs.Numberings.{PlacesFit}
+use Rattle.task_graph.specs.Numberings.{PlacesFit}
 use Rattle.lowering_laws.proofs.Fitting.{same-layout}
 use Rattle.lowering_laws.proofs.Pieces.{parts-fit, all-mapped}
 use Rattle.lowering_laws.proofs.Plain.{IsOrder, counts-turned}

@@ -22,7 +22,7 @@ use Rattle.lowering_laws.specs.Stages.{Use, keys_used, deps_of_uses, kept_axes, 
 use Rattle.lowering_laws.specs.Law.{HaveChunks}
 use Rattle.lowering_laws.proofs.Under.{drop-counts, IsIn-drop}
 use Rattle.lowering_laws.proofs.Cutting.{chunks-on, some-union}
-use Rattle.lowering_laws.proofs.Uses.{ascending-has, contains-here, contains-later}
+use Rattle.task_graph.proofs.Keys.{ascending-has, contains-here, contains-later}
 use Rattle.lowering_laws.proofs.Trees.{AreLevels, tree-levels, length-groups}
 use Rattle.lowering_laws.proofs.Reductions.{folded_part, counts-folded, Merging, merging, length-folded, length-strides}
 use Rattle.lowering_laws.proofs.Products.{ArePaired, Weaving, weaving, AreOnce, drop-append, some-elements, length-pairs, pair-at, length-with, with-paired}

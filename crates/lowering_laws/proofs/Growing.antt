@@ -5,8 +5,8 @@ use Rattle.std.proofs.lemmas.List.{take_more, take_all, length-take-le, take-app
 use Rattle.std.proofs.lemmas.Option.{slice_get_within, get_or_from_slice_get}
 use Rattle.array_expr.specs.declared.expr.Node.{Node}
 use Rattle.task_graph.specs.declared.graph.Task.{Task}
-use Rattle.lowering_laws.specs.declared.limit.Quantity.{Quantity}
-use Rattle.lowering_laws.specs.declared.limit.Quantity.TheVariants.{Keys, Edges, BlockBytes}
+use Rattle.task_graph.specs.declared.limit.Quantity.{Quantity}
+use Rattle.task_graph.specs.declared.limit.Quantity.TheVariants.{Keys, Edges, BlockBytes}
 use Rattle.lowering_laws.specs.Lowered.{no_node, lower_op, Lowering, with_made, lower_from, lowering, limit_from}
 use Rattle.lowering_laws.specs.Growth.{lowering_to, edges_of, IsFront, LawOfGrowth, LawOfRefusal}
 use Rattle.lowering_laws.proofs.Lowering.{lower-extends}

@@ -12,10 +12,8 @@ pub mod Lowering
 pub mod Folds
 pub mod Trees
 pub mod Reductions
-pub mod Renumbered
 pub mod Joined
 pub mod Products
-pub mod Visits
 pub mod Saved
 pub mod Rising
 pub mod Good
@@ -25,7 +23,6 @@ pub mod GoodFolded
 pub mod Order
 pub mod Runs
 pub mod Numbers
-pub mod Moved
 pub mod Fed
 pub mod FedPoints
 pub mod FedFolded

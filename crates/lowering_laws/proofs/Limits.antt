@@ -15,14 +15,14 @@ use Rattle.task_graph.specs.declared.graph.Task.{Task}
 use Rattle.task_graph.specs.Graphs.{task_at, no_task, shape_of, bytes}
 use Rattle.task_graph.specs.Orders.{with_key, ascending, position, moved_task, renumbered}
 use Rattle.task_graph.proofs.Making.{deps-at}
-use Rattle.lowering_laws.specs.declared.limit.Quantity.{Quantity}
-use Rattle.lowering_laws.specs.declared.limit.Quantity.TheVariants.{Keys, Edges, BlockBytes}
+use Rattle.task_graph.specs.declared.limit.Quantity.{Quantity}
+use Rattle.task_graph.specs.declared.limit.Quantity.TheVariants.{Keys, Edges, BlockBytes}
 use Rattle.lowering_laws.specs.Lowered.{lowering, lowered, limit_from, limit_of}
 use Rattle.lowering_laws.specs.Whole.{LawOfOrder}
 use Rattle.lowering_laws.proofs.Counting.{sum_below, sum_over, AreDistinct, distinct-sum, distinct-from, sum-ones, below-ones, total-below, member-length, total-bounded}
 use Rattle.lowering_laws.proofs.MadeTasks.{all-lowered}
 use Rattle.lowering_laws.proofs.Fed.{dims_at}
-use Rattle.lowering_laws.proofs.Renumbered.{task-moved}
+use Rattle.task_graph.proofs.Renumbered.{task-moved}
 use Rattle.lowering_laws.proofs.Runs.{Ordering, run-order}
 
 -- ---- what the limits leave

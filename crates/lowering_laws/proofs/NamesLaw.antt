@@ -16,8 +16,8 @@ use Rattle.lowering_laws.specs.Lowered.{source_at, lowering, lowered, keys_of}
 use Rattle.lowering_laws.specs.Built.{AreBuilt}
 use Rattle.lowering_laws.specs.Whole.{IsSound, LawOfOrder}
 use Rattle.lowering_laws.specs.Named.{layout_of, name_of, LawOfNames, LawOfNamed}
-use Rattle.lowering_laws.specs.Numberings.{IsNumbering}
-use Rattle.lowering_laws.proofs.Visits.{numbering}
+use Rattle.task_graph.specs.Numberings.{IsNumbering}
+use Rattle.task_graph.proofs.Visits.{numbering}
 use Rattle.lowering_laws.proofs.Fed.{dims_at}
 use Rattle.lowering_laws.proofs.FedMoved.{dims-moved}
 use Rattle.lowering_laws.proofs.NamedKeys.{AreNamed, IsOwned, lowering-named}

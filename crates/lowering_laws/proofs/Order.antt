@@ -36,7 +36,7 @@ use Rattle.lowering_laws.specs.Stages.{Literal, Pair, Choice, no_source}
 use Rattle.lowering_laws.specs.Lowered.{no_node, source_at, arg_of_op, arg_of, lower_op, Lowering, with_made, lower_from, lowering}
 use Rattle.lowering_laws.specs.Law.{Stand, HaveChunks}
 use Rattle.lowering_laws.specs.Built.{IsBuilt}
-use Rattle.lowering_laws.specs.Numberings.{AreFit, PlacesFit}
+use Rattle.task_graph.specs.Numberings.{AreFit, PlacesFit}
 use Rattle.lowering_laws.proofs.Plain.{IsOrder}
 use Rattle.lowering_laws.proofs.Products.{AreOnce}
 use Rattle.lowering_laws.proofs.Cutting.{chunks-on, lengths-normalized, some-normalized}

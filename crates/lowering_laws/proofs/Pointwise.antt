@@ -29,7 +29,8 @@ use Rattle.lowering_laws.proofs.Points.{IsNumber, under-holds, pair-local, choic
 use Rattle.lowering_laws.proofs.Carrying.{Fits, task-each, fits-each, carries-each, input-holds, Stand-front, Stand-back}
 use Rattle.lowering_laws.proofs.Fitting.{IsFitted, carries-fitted}
 use Rattle.lowering_laws.proofs.Totals.{IsThere}
-use Rattle.lowering_laws.proofs.Uses.{use-at, contains-here, contains-later}
+use Rattle.task_graph.proofs.Keys.{contains-here, contains-later}
+use Rattle.lowering_laws.proofs.Uses.{use-at}
 
 -- ---- operands
 

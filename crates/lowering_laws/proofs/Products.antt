@@ -41,7 +41,8 @@ use Rattle.lowering_laws.proofs.Fitting.{IsFitted, carries-fitted}
 use Rattle.lowering_laws.proofs.Folds.{below-same, box-blocks, start-box}
 use Rattle.lowering_laws.proofs.Reductions.{lengths-kept, carries-folded}
 use Rattle.lowering_laws.proofs.Trees.{KeyHas}
-use Rattle.lowering_laws.proofs.Uses.{use-at, contains-here, contains-later}
+use Rattle.task_graph.proofs.Keys.{contains-here, contains-later}
+use Rattle.lowering_laws.proofs.Uses.{use-at}
 
 -- ---- an index woven of one of the result and one of the paired axes
 

@@ -22,7 +22,7 @@ use Rattle.lowering_laws.specs.Whole.{IsSound, LawOfOrder, LawOfLowered, saved_k
 use Rattle.lowering_laws.proofs.Pieces.{all-join}
 use Rattle.lowering_laws.proofs.Good.{IsBelow}
 use Rattle.lowering_laws.proofs.Order.{IsKnown, AllKnown, AreLowered, lowering-order, good-earlier, good-rising, good-fit}
-use Rattle.lowering_laws.proofs.Visits.{IsOrder, depth-first, depth-first-below, numbering, renumbered-earlier}
+use Rattle.task_graph.proofs.Visits.{IsOrder, depth-first, depth-first-below, numbering, renumbered-earlier}
 use Rattle.lowering_laws.proofs.Rising.{ascending-rises, rising-increasing}
 use Rattle.block_kernels.specs.Kernels.{input_shapes}
 use Rattle.chunk_layout.specs.Layouts.{counts, region}
@@ -30,9 +30,9 @@ use Rattle.nd_shape.specs.Index.{place, index_at}
 use Rattle.nd_shape.proofs.Places.{place-index_at, index_at-in}
 use Rattle.lowering_laws.proofs.Fed.{dims_at}
 use Rattle.lowering_laws.proofs.FedMoved.{dims-moved, fed-moved}
-use Rattle.lowering_laws.specs.Numberings.{AreFit, AreBehind, IsNumbering}
+use Rattle.task_graph.specs.Numberings.{AreFit, AreBehind, IsNumbering}
 use Rattle.lowering_laws.proofs.Shapes.{IsShapely, lowering-shapes}
-use Rattle.lowering_laws.proofs.Moved.{renumbered-fit}
+use Rattle.task_graph.proofs.Moved.{renumbered-fit}
 use Rattle.lowering_laws.proofs.Saved.{culled-law}
 
 contains-left : (xs ys : List ℕ) (k : ℕ) → Contains xs k → Contains (xs ++ ys) k

@@ -18,11 +18,11 @@ use Rattle.task_graph.specs.Orders.{position, renumbered}
 use Rattle.lowering_laws.specs.Sources.{key_of}
 use Rattle.lowering_laws.specs.Lowered.{source_at, lowering}
 use Rattle.lowering_laws.specs.Built.{AreBuilt}
-use Rattle.lowering_laws.specs.Numberings.{IsNumbering, AreBehind}
+use Rattle.task_graph.specs.Numberings.{IsNumbering, AreBehind}
 use Rattle.lowering_laws.proofs.Lowering.{law-of-lowering}
-use Rattle.lowering_laws.proofs.Renumbered.{renumbered-value}
+use Rattle.task_graph.proofs.Renumbered.{renumbered-value}
 use Rattle.lowering_laws.proofs.Order.{lowering-order, good-earlier, good-fit}
-use Rattle.lowering_laws.proofs.Visits.{numbering, renumbered-earlier}
+use Rattle.task_graph.proofs.Visits.{numbering, renumbered-earlier}
 
 -- a key without a faulty key in its cone has a value
 has-value : (files : ℕ → List ℕ → ℤ) (tasks : List Task) → IsEarlier (deps_of (shape_of tasks)) → (k : ℕ) → ((j : ℕ) → cone (deps_of (shape_of tasks)) k j ≡ true → faulty (deps_of (shape_of tasks)) (value files tasks) j ≡ true → ⊥)

@@ -22,7 +22,7 @@ use Rattle.block_kernels.specs.declared.spec.Spec.{Spec}
 use Rattle.block_kernels.specs.declared.spec.Spec.TheVariants.{Elementwise, Where, Slice, Transpose, Assemble, Reduce, Contract, Fill, Load}
 use Rattle.block_kernels.specs.Kernels.{kernel, if_ok, nth, no_grid, operand, in_pieces, is_within, counted, elements_at}
 use Rattle.task_graph.proofs.Making.{no_array}
-use Rattle.lowering_laws.specs.Numberings.{OperandFits, PlacesFit}
+use Rattle.task_graph.specs.Numberings.{OperandFits, PlacesFit}
 use Rattle.lowering_laws.specs.Faults.{divides, is_division, IsCovered}
 
 -- ---- a grid that is no block

@@ -3,7 +3,7 @@ use Rattle.std.specs.Prelude.{◌≡◌, ℕ, ◌+◌, ◌≤◌, List, [], ◌�
 use Rattle.array_expr.specs.declared.expr.Node.{Node}
 use Rattle.cluster_msgs.specs.Shape.{total_length}
 use Rattle.task_graph.specs.declared.graph.Task.{Task}
-use Rattle.lowering_laws.specs.declared.limit.Quantity.{Quantity}
+use Rattle.task_graph.specs.declared.limit.Quantity.{Quantity}
 use Rattle.lowering_laws.specs.Lowered.{lower_op, Lowering, with_made, lower_from, lowering, limit_at, limit_from}
 
 -- the first n nodes, lowered

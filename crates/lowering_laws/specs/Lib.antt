@@ -5,7 +5,6 @@ pub mod Law
 pub mod Built
 pub mod Each
 pub mod Boxes
-pub mod Numberings
 pub mod Whole
 pub mod Named
 pub mod Faults

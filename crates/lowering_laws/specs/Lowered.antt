@@ -11,8 +11,8 @@ use Rattle.expr_laws.specs.Formulas.{inputs_before}
 use Rattle.chunk_layout.specs.Layouts.{blocks, normalized}
 use Rattle.task_graph.specs.declared.graph.Task.{Task}
 use Rattle.task_graph.specs.Orders.{depth_first, renumbered, position}
-use Rattle.lowering_laws.specs.declared.limit.Quantity.{Quantity}
-use Rattle.lowering_laws.specs.declared.limit.Quantity.TheVariants.{Keys, Edges, BlockBytes}
+use Rattle.task_graph.specs.declared.limit.Quantity.{Quantity}
+use Rattle.task_graph.specs.declared.limit.Quantity.TheVariants.{Keys, Edges, BlockBytes}
 use Rattle.lowering_laws.specs.Sources.{Source, Made, key_of}
 use Rattle.lowering_laws.specs.Stages.{Arg, Literal, Blocks, Pair, Choice, no_source, pointwise, filled_blocks, loaded_blocks, sliced_blocks, transposed_blocks, rechunked_blocks, concatenated_blocks, reduced_blocks, contracted_blocks}
 

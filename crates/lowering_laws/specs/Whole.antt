@@ -15,7 +15,7 @@ use Rattle.block_kernels.specs.Kernels.{input_shapes, result_shape}
 use Rattle.task_graph.specs.Orders.{position, renumbered}
 use Rattle.lowering_laws.specs.Sources.{key_of}
 use Rattle.lowering_laws.specs.Lowered.{source_at, lowering, lowered}
-use Rattle.lowering_laws.specs.Numberings.{AreFit, AreBehind}
+use Rattle.task_graph.specs.Numberings.{AreFit, AreBehind}
 
 -- no key of the cone of k is faulty
 abbrev pub IsSound : (ℕ → List ℕ → ℤ) → List Task → ℕ → Type 0

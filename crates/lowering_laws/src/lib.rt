@@ -7,7 +7,4 @@
 #![tactic(auto)]
 
 pub mod laws;
-pub mod limit;
 pub mod values;
-
-pub use limit::Quantity;

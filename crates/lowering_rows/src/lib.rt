@@ -5,7 +5,7 @@
 #![tactic(auto)]
 
 ghost use Rattle.std.specs.Prelude.{◌≡◌, [], ◌∷◌, length, Some, None};
-ghost use Rattle.lowering_laws.specs.declared.limit.Quantity.TheVariants.{BlockBytes};
+ghost use Rattle.task_graph.specs.declared.limit.Quantity.TheVariants.{BlockBytes};
 ghost use Rattle.lowering_laws.specs.Lowered.{lowering, lowered, limit_of};
 ghost use Rattle.lowering_rows.specs.Rows.{edges, filled_line, added_number, added_number_graph, culled_division, culled_division_graph, empty_slice, empty_slice_graph, backward_slice, backward_slice_graph, slice_of_nothing, slice_of_nothing_graph, product, product_graph, tree_of_ten, tree_of_ten_graph, chunks_of_a_choice, chunks_of_a_choice_graph, joined_arrays, joined_arrays_graph, rechunked_array, rechunked_array_graph, four_blocks, four_blocks_graph};
 

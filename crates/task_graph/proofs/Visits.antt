@@ -151,6 +151,14 @@ depth-first tasks wanted e h =
     (record { fresh = λ i j a b. absurd (omega arith); behind = λ j d b c. absurd (omega arith) }) in
     record { sound = r.0.sound; has = r.1 }
 
+-- each of its keys is one of the tasks
+pub depth-first-below : (tasks : List Task) (wanted : List ℕ) → IsEarlier (deps_of (shape_of tasks)) → AllByRecursion (λ k. k < length tasks) wanted → AllByRecursion (λ k. k < length tasks) (depth_first tasks wanted)
+depth-first-below tasks wanted e h =
+    let r = visits-all (deps_of (shape_of tasks)) (length tasks) (length tasks) (visit_within (length tasks) (deps_of (shape_of tasks))) (visit-well (deps_of (shape_of tasks)) e (length tasks)) (omega arith) wanted [] h
+    (record { fresh = λ i j a b. absurd (omega arith); behind = λ j d b c. absurd (omega arith) }) in
+    let v = r.0 in
+    subst (AllByRecursion (λ k. k < length tasks)) (sym v.all_is) v.small
+
 -- it is a numbering
 pub numbering : (tasks : List Task) (order : List ℕ) → AreBehind (deps_of (shape_of tasks)) order → IsNumbering tasks order
 numbering tasks order s =
