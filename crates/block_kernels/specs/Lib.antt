@@ -1,2 +1,4 @@
 pub mod Kernels
 pub mod Folds
+pub mod Inputs
+pub mod WellFormed
