@@ -35,7 +35,7 @@ block-filled g xs n e =
 
 -- ---- two blocks of one shape
 
-own-along : (ns is : List ℕ) → IsIn ns is → under_along ns is ≡ is
+pub own-along : (ns is : List ℕ) → IsIn ns is → under_along ns is ≡ is
 own-along [] [] h = refl
 own-along [] (i ∷ is) h = absurd h
 own-along (n ∷ ns) [] h = absurd h

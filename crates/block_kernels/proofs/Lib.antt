@@ -1,2 +1,13 @@
 pub mod Filled
-pub mod Summed
+pub mod Broadcasts
+pub mod Shared
+pub mod RowLemmas
+pub mod Parts
+pub mod RunLemmas
+pub mod Slopes
+pub mod Evens
+pub mod Filling
+pub mod Ready
+pub mod Takes
+pub mod Spots
+pub mod Divisors

@@ -7,9 +7,22 @@
 #![tactic(auto)]
 
 pub mod assemble;
+pub mod binary;
+pub mod broadcast;
+pub mod choice;
+pub mod choices;
 pub mod contract;
-pub mod fast;
+pub mod gather;
+pub mod inputs;
+pub mod pairs;
 pub mod reduce;
+pub mod rows;
+pub mod running;
+pub mod shapes;
+pub mod slope;
+pub mod source;
 pub mod spec;
+pub mod taking;
 
+pub use running::run;
 pub use spec::{Operand, Spec};

@@ -1,0 +1,7 @@
+use Rattle.std.proofs.Common.{length}
+use Rattle.block_kernels.proofs.Divisors.{remainder-refused}
+use Rattle.block_kernels.proofs.binary.fill_remainders.Goals as goal
+
+pub returns-in-Some-clause-some : goal.returns-in-Some-clause-some
+returns-in-Some-clause-some c =
+    remainder-refused c.args.left.cells.now c.args.left.single c.args.right.cells.now c.args.right.single (length c.args.out.now) c.in-Some.zero c.in-Some.ensures.inside c.in-Some.ensures.zero c.in-Some.ensures.first
