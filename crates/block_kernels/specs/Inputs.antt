@@ -1,5 +1,5 @@
 -- What the operations take: blocks that are shared, and operands by their places.
-use Rattle.std.specs.Prelude.{ℕ, ◌<◌, List, [], map, length, slice_index_or}
+use Rattle.std.specs.Prelude.{ℕ, ◌<◌, ℤ, pos, List, [], ◌∷◌, map, length, slice_index_or}
 use Rattle.std.specs.Arc.{arc_value}
 use Rattle.std.specs.declared.sync.Arc.{Arc}
 use Rattle.std.specs.declared.alloc.Global.{Global}
@@ -28,3 +28,11 @@ IsPlace (Number v) n = Unit {0}
 abbrev pub operand_shape : Operand → List (List ℕ) → List ℕ
 operand_shape (Input p) inputs = slice_index_or inputs p []
 operand_shape (Number v) inputs = []
+
+-- the block that stands for a number
+abbrev pub number_of : Operand → ℤ
+number_of (Input p) = pos 0
+number_of (Number v) = v
+
+abbrev pub number_array : Operand → Array
+number_array operand = record { shape = []; cells = number_of operand ∷ [] }

@@ -9,6 +9,7 @@
 pub mod assemble;
 pub mod contract;
 pub mod fast;
+pub mod inputs;
 pub mod reduce;
 pub mod spec;
 
