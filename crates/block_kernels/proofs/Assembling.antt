@@ -203,6 +203,7 @@ counts (n ∷ ns) (s ∷ ss) (l ∷ ls) (i ∷ is) h e f w =
   where
     below : (i s l : ℕ) → not (nat_lt i s) ≡ true → nat_lt i (s + l) ≡ true → i - s < l
     below i s l a b = grind arith
+
     again : (i s : ℕ) → not (nat_lt i s) ≡ true → s + (i - s) ≡ i
     again i s a = grind arith
 
@@ -228,9 +229,9 @@ untouched : (at : ℕ) (cells : List ℤ) (from run : ℕ) (now new : List ℤ) 
 untouched at cells from run now new x c f = elim (cases_lt x at) [
   | inl b ↦ c.before x b
   | inr b ↦ elim (cases_lt x (at + run)) [
-      | inl d ↦ absurd (f (x - at) (omega arith) (omega arith))
-      | inr d ↦ c.after x d
-    ]
+    | inl d ↦ absurd (f (x - at) (omega arith) (omega arith))
+    | inr d ↦ c.after x d
+  ]
 ]
 
 pub paints-more : (origin : List ℕ) (to : Box) (shape : List ℕ) (source : Array) (run r : ℕ) (old now new : List ℤ) → IsPart to shape → Runs shape to.start to.lengths run → Runs source.shape origin to.lengths run → r * run + run ≤ elements to.lengths
@@ -306,13 +307,15 @@ there-is (p ∷ ps) blocks inputs shape i a n e =
   where
     fits : FitsPiece p inputs shape
     fits = a 0 p (omega arith)
+
     by_case : (b : Bool) → (covered ps i ≡ 1 → (v : ℤ) × (in_pieces ps (grids_of blocks) i ≡ Some v)) → cond b 1 0 + covered ps i ≡ 1
         → (v : ℤ) × (cond b ((nth (grids_of blocks) p.source).at (moved p.from.start (counted p.to.start i))) (in_pieces ps (grids_of blocks) i) ≡ Some v)
     by_case true rest h =
         let a0 : Array = get_or blocks p.source (record { shape = []; cells = [] }) in
-        let there : p.source < length blocks = omega (arith, fits.source_in) in
-        (get_or a0.cells (place a0.shape (moved p.from.start (counted p.to.start i))) (pos 0),
-        ap (λ (x : Grid). x.at (moved p.from.start (counted p.to.start i))) (get_or-map grid_of blocks p.source (record { shape = []; cells = [] }) no_grid there))
+        let there : p.source < length blocks = omega (arith, fits.source_in) in (
+          get_or a0.cells (place a0.shape (moved p.from.start (counted p.to.start i))) (pos 0),
+          ap (λ (x : Grid). x.at (moved p.from.start (counted p.to.start i))) (get_or-map grid_of blocks p.source (record { shape = []; cells = [] }) no_grid there),
+        )
     by_case false rest h = rest (omega arith)
 
 pub assembled-filled : (ps : List Piece) (blocks : List Array) (inputs : List (List ℕ)) (shape : List ℕ) (xs : List ℤ) → All (λ p. FitsPiece p inputs shape) ps → length inputs ≡ length blocks → ((i : List ℕ) → IsIn shape i → covered ps i ≡ 1)

@@ -1,7 +1,10 @@
 pub mod Assembling
+pub mod Contracting
 pub mod Filled
+pub mod Paired
 pub mod Reducing
 pub mod Shared
 pub mod Summed
 pub mod Totals
 pub mod Viewing
+pub mod Woven

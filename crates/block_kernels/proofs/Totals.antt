@@ -52,15 +52,16 @@ rows-more fold place cells from rows count old now new t r = record {
 pub view-none : (fold : Fold) (cells : List ℤ) (rows inner : ℕ) (old : List ℤ) → TakesView fold cells 0 rows inner old old
 view-none fold cells rows inner old = record { at = λ o i ho hi. absurd (omega arith) }
 
-row-end : (o part inner i : ℕ) → o < part → i < inner → o * inner + i < part * inner
+pub row-end : (o part inner i : ℕ) → o < part → i < inner → o * inner + i < part * inner
 row-end o part inner i ho hi = omega (arith, mul-le-mul_left inner (le-suc o part ho), mul_comm inner (suc o), mul_comm inner part, suc-times o inner)
   where
     le-suc : (o part : ℕ) → o < part → suc o ≤ part
     le-suc o part h = omega arith
+
     suc-times : (o inner : ℕ) → suc o * inner ≡ o * inner + inner
     suc-times o inner = omega arith
 
-next-part : (part inner : ℕ) → (part + 1) * inner ≡ part * inner + inner
+pub next-part : (part inner : ℕ) → (part + 1) * inner ≡ part * inner + inner
 next-part part inner = omega arith
 
 cell-of : (part rows inner q i : ℕ) → (part * (rows * inner) + q * inner) + i ≡ (part * rows + q) * inner + i
@@ -90,9 +91,11 @@ parts-more fold cells part rows inner old now new t l r = record {
   where
     cell : (i q : ℕ) → ◌≡◌ {A = Option ℤ} (Some (get_or cells ((part * rows + q) * inner + i) (pos 0))) (Some (get_or cells ((part * (rows * inner) + q * inner) + i) (pos 0)))
     cell i q = ap (λ x. Some (get_or cells x (pos 0))) (sym (cell-of part rows inner q i))
+
     each : (i : ℕ) (xs : List ℕ) → map (λ q. Some (get_or cells ((part * rows + q) * inner + i) (pos 0))) xs ≡ map (λ q. Some (get_or cells ((part * (rows * inner) + q * inner) + i) (pos 0))) xs
     each i [] = refl
     each i (x ∷ xs) = ap (λ y. y ∷ map (λ q. Some (get_or cells ((part * rows + q) * inner + i) (pos 0))) xs) (cell i x) ∙ ap (λ ys. Some (get_or cells ((part * (rows * inner) + x * inner) + i) (pos 0)) ∷ ys) (each i xs)
+
     map-cells : (i : ℕ) → map (λ q. Some (get_or cells ((part * rows + q) * inner + i) (pos 0))) (range_with_len 0 rows) ≡ map (λ q. Some (get_or cells ((part * (rows * inner) + q * inner) + i) (pos 0))) (range_with_len 0 rows)
     map-cells i = each i (range_with_len 0 rows)
 
@@ -147,6 +150,7 @@ line-row fold part rows cells now inner x one h e =
   where
     cell-place : (q i : ℕ) → i ≡ 0 → (part * (rows * inner) + q * inner) + i ≡ part * rows + q
     cell-place q i zi = ap (λ n. (part * (rows * n) + q * n) + i) one ∙ omega arith
+
     each : (i : ℕ) → i ≡ 0 → (xs : List ℕ) → map (λ q. Some (get_or cells ((part * (rows * inner) + q * inner) + i) (pos 0))) xs ≡ map (λ q. Some (get_or cells (part * rows + q) (pos 0))) xs
     each i zi [] = refl
     each i zi (q ∷ xs) =

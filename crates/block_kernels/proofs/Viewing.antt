@@ -52,8 +52,8 @@ view-folded k n ns axes f i e v =
           let r : q % f < f = mod_below q f pf in
           let z : o * i + j ≡ 0 * i + j = drop-part o i j ho in
           ap (λ b. place (n ∷ ns) (cond b
-              (get_or (index_at (cond b (n ∷ fs) fs) q) 0 0 ∷ merged (suc k) ns axes (index_at (cond b ks (n ∷ ks)) (o * i + j)) (drop 1 (index_at (cond b (n ∷ fs) fs) q)))
-              (get_or (index_at (cond b ks (n ∷ ks)) (o * i + j)) 0 0 ∷ merged (suc k) ns axes (drop 1 (index_at (cond b ks (n ∷ ks)) (o * i + j))) (index_at (cond b (n ∷ fs) fs) q)))) e
+          (get_or (index_at (cond b (n ∷ fs) fs) q) 0 0 ∷ merged (suc k) ns axes (index_at (cond b ks (n ∷ ks)) (o * i + j)) (drop 1 (index_at (cond b (n ∷ fs) fs) q)))
+          (get_or (index_at (cond b ks (n ∷ ks)) (o * i + j)) 0 0 ∷ merged (suc k) ns axes (drop 1 (index_at (cond b ks (n ∷ ks)) (o * i + j))) (index_at (cond b (n ∷ fs) fs) q)))) e
           ∙ ap (λ p. q / elements fs * elements ns + place ns (merged (suc k) ns axes (index_at ks p) (index_at fs (q % elements fs)))) z
           ∙ ap (λ x. q / x * elements ns + place ns (merged (suc k) ns axes (index_at ks (0 * i + j)) (index_at fs (q % x)))) v.folded_is
           ∙ ap (λ x. q / f * elements ns + x) (v.place_is 0 j (q % f) (omega arith) hj r)
@@ -88,8 +88,8 @@ view-outer k n ns axes o f i e v =
           let p1 : (o' * i + j) / elements ks ≡ o' / o = ap (λ x. (o' * i + j) / x) v.kept ∙ ap (λ x. x / (o * i)) at ∙ div-mul-add (o' / o) (o * i) ((o' % o) * i + j) low in
           let p2 : (o' * i + j) % elements ks ≡ (o' % o) * i + j = ap (λ x. (o' * i + j) % x) v.kept ∙ ap (λ x. x % (o * i)) at ∙ mod-mul-add (o' / o) (o * i) ((o' % o) * i + j) low in
           ap (λ b. place (n ∷ ns) (cond b
-              (get_or (index_at (cond b (n ∷ fs) fs) q) 0 0 ∷ merged (suc k) ns axes (index_at (cond b ks (n ∷ ks)) (o' * i + j)) (drop 1 (index_at (cond b (n ∷ fs) fs) q)))
-              (get_or (index_at (cond b ks (n ∷ ks)) (o' * i + j)) 0 0 ∷ merged (suc k) ns axes (drop 1 (index_at (cond b ks (n ∷ ks)) (o' * i + j))) (index_at (cond b (n ∷ fs) fs) q)))) e
+          (get_or (index_at (cond b (n ∷ fs) fs) q) 0 0 ∷ merged (suc k) ns axes (index_at (cond b ks (n ∷ ks)) (o' * i + j)) (drop 1 (index_at (cond b (n ∷ fs) fs) q)))
+          (get_or (index_at (cond b ks (n ∷ ks)) (o' * i + j)) 0 0 ∷ merged (suc k) ns axes (drop 1 (index_at (cond b ks (n ∷ ks)) (o' * i + j))) (index_at (cond b (n ∷ fs) fs) q)))) e
           ∙ ap (λ x. x * elements ns + place ns (merged (suc k) ns axes (index_at ks ((o' * i + j) % elements ks)) (index_at fs q))) p1
           ∙ ap (λ x. o' / o * elements ns + place ns (merged (suc k) ns axes (index_at ks x) (index_at fs q))) p2
           ∙ ap (λ x. o' / o * elements ns + x) (v.place_is (o' % o) j q hb hj hq)
@@ -124,8 +124,8 @@ view-inner k n ns axes i e v =
           let low : j % i < i = mod_below j i pi in
           let w : j % i ≡ 0 * i + j % i = omega arith in
           ap (λ b. place (n ∷ ns) (cond b
-              (get_or (index_at (cond b (n ∷ fs) fs) q) 0 0 ∷ merged (suc k) ns axes (index_at (cond b ks (n ∷ ks)) (o * (n * i) + j)) (drop 1 (index_at (cond b (n ∷ fs) fs) q)))
-              (get_or (index_at (cond b ks (n ∷ ks)) (o * (n * i) + j)) 0 0 ∷ merged (suc k) ns axes (drop 1 (index_at (cond b ks (n ∷ ks)) (o * (n * i) + j))) (index_at (cond b (n ∷ fs) fs) q)))) e
+          (get_or (index_at (cond b (n ∷ fs) fs) q) 0 0 ∷ merged (suc k) ns axes (index_at (cond b ks (n ∷ ks)) (o * (n * i) + j)) (drop 1 (index_at (cond b (n ∷ fs) fs) q)))
+          (get_or (index_at (cond b ks (n ∷ ks)) (o * (n * i) + j)) 0 0 ∷ merged (suc k) ns axes (drop 1 (index_at (cond b ks (n ∷ ks)) (o * (n * i) + j))) (index_at (cond b (n ∷ fs) fs) q)))) e
           ∙ ap (λ p. p / elements ks * elements ns + place ns (merged (suc k) ns axes (index_at ks (p % elements ks)) (index_at fs q))) z
           ∙ ap (λ x. j / x * elements ns + place ns (merged (suc k) ns axes (index_at ks (j % x)) (index_at fs q))) size
           ∙ ap (λ x. j / i * elements ns + place ns (merged (suc k) ns axes (index_at ks x) (index_at fs q))) w

@@ -5,3 +5,4 @@ pub mod WellFormed
 pub mod Reducing
 pub mod Viewing
 pub mod Assembling
+pub mod Contracting

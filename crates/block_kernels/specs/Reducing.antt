@@ -1,12 +1,31 @@
 -- What one more block leaves of the totals of a reduction.
-use Rattle.std.specs.Prelude.{◌≡◌, ℕ, ◌+◌, ◌*◌, ◌<◌, ◌≤◌, List, [], map, length, slice_index_or, ℤ, pos, Some}
+use Rattle.std.specs.Prelude.{◌≡◌, ℕ, ◌+◌, ◌*◌, ◌<◌, ◌≤◌, List, [], map, slice_index_or, ℤ, pos, Option, Some}
 use Rattle.std.specs.List.{range_with_len}
 use Rattle.nd_shape.specs.Block.{Array}
 use Rattle.nd_shape.specs.Shape.{elements}
 use Rattle.nd_shape.specs.Index.{index_at}
 use Rattle.nd_grid.specs.declared.operation.Fold.{Fold}
-use Rattle.nd_grid.specs.Operation.{neutral, combine_two, folded_from, fold_two}
-use Rattle.nd_grid.specs.Grid.{grid_of, reduced}
+use Rattle.nd_grid.specs.Operation.{neutral, combine_two, folded, folded_from, fold_two}
+use Rattle.nd_grid.specs.Grid.{Grid, grid_of, reduced, kept_shape}
+use Rattle.block_kernels.specs.Kernels.{reduced_all, elements_at}
+use Rattle.block_kernels.specs.Inputs.{grids_of, shapes_of}
+
+-- the reduction of the blocks, within each and then over all in order
+abbrev pub reduced_blocks : Fold → List ℕ → List Array → Grid
+reduced_blocks fold axes blocks = reduced_all fold axes (slice_index_or (shapes_of blocks) 0 []) (grids_of blocks)
+
+-- the shape that it leaves
+abbrev pub reduced_dims : List ℕ → List Array → List ℕ
+reduced_dims axes blocks = kept_shape 0 (slice_index_or (shapes_of blocks) 0 []) axes
+
+-- the totals are what the blocks leave at each place
+abbrev pub AreTotals : Fold → List ℕ → List ℕ → List Array → List ℤ → Type 0
+AreTotals fold axes shape blocks totals =
+    (p : ℕ) → p < elements shape → folded fold (elements_at (map (reduced fold axes) (grids_of blocks)) (index_at shape p)) ≡ Some (slice_index_or totals p (pos 0))
+
+-- so many cells from a place on
+abbrev pub line_of : List ℤ → ℕ → ℕ → List (Option ℤ)
+line_of cells from count = map (λ q. Some (slice_index_or cells (from + q) (pos 0))) (range_with_len 0 count)
 
 -- each total has gone on by what the block leaves at its place, if it was made by the fold
 pub record TakesBlock (fold : Fold) (axes shape : List ℕ) (block : Array) (old new : List ℤ) : Type 0 where

@@ -64,7 +64,14 @@ fn run_length(to: &Region, shape: &[u64], from: &Region, source: &[u64]) -> u64
         axis -= 1;
         let len = lengths[axis];
         run = longer(run, whole, len);
-        whole = stays_whole(whole, starts[axis], origins[axis], len, shape[axis], source[axis]);
+        whole = stays_whole(
+            whole,
+            starts[axis],
+            origins[axis],
+            len,
+            shape[axis],
+            source[axis],
+        );
     }
     run
 }
@@ -131,12 +138,7 @@ fn copy_piece(
     if lengths.elements() == 0 {
         return Ok(());
     }
-    let run = run_length(
-        &piece.to,
-        shape.dims(),
-        &piece.from,
-        source.shape().dims(),
-    );
+    let run = run_length(&piece.to, shape.dims(), &piece.from, source.shape().dims());
     copy_runs(&piece.to, &piece.from, &lengths, run, source, shape, cells);
     Ok(())
 }

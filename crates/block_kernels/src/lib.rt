@@ -12,5 +12,6 @@ pub mod fast;
 pub mod inputs;
 pub mod reduce;
 pub mod spec;
+pub mod weaving;
 
 pub use spec::{Operand, Spec};

@@ -1,15 +1,12 @@
 //! Reductions: the elements along some axes folded into one, within each block and then over the blocks in order.
-ghost use Rattle.std.specs.Prelude.{◌≡◌, ◌+◌, ◌*◌, ◌<◌, ◌≤◌, ◌^◌, ◌++◌, ℕ, [], ◌∷◌, length, map, drop, cond, pos, slice_index_or, true, false, Some, Ok, IfOk, OnOk, MatchOption};
+ghost use Rattle.std.specs.Prelude.{◌≡◌, ◌+◌, ◌*◌, ◌<◌, ◌≤◌, ◌^◌, ◌++◌, ℕ, [], ◌∷◌, length, cond, pos, slice_index_or, Some, Ok, IfOk, OnOk, MatchOption};
 ghost use Rattle.nd_shape.specs.Shape.{elements, IsShape};
-ghost use Rattle.nd_shape.specs.Index.{index_at};
 ghost use Rattle.nd_grid.specs.declared.operation.Fold.{Fold};
-ghost use Rattle.nd_grid.specs.Operation.{folded, folded_from, fold_two, neutral};
-ghost use Rattle.std.specs.List.{range_with_len};
-ghost use Rattle.nd_grid.specs.Grid.{grid_of, block_of, is_among, kept_shape, folded_shape, reduced};
-ghost use Rattle.block_kernels.specs.Kernels.{reduced_all, elements_at};
-ghost use Rattle.block_kernels.specs.Inputs.{blocks_of, grids_of, shapes_of};
+ghost use Rattle.nd_grid.specs.Operation.{folded_from, fold_two, neutral};
+ghost use Rattle.nd_grid.specs.Grid.{block_of, is_among, kept_shape, folded_shape};
+ghost use Rattle.block_kernels.specs.Inputs.{blocks_of, shapes_of};
 ghost use Rattle.block_kernels.specs.WellFormed.{FitsReduce};
-ghost use Rattle.block_kernels.specs.Reducing.{TakesBlock, TakesRow, TakesRows};
+ghost use Rattle.block_kernels.specs.Reducing.{TakesBlock, TakesRow, TakesRows, AreTotals, line_of, reduced_blocks, reduced_dims};
 ghost use Rattle.block_kernels.specs.Viewing.{IsView, Extends, TakesView};
 
 use crate::inputs::input_at;
@@ -127,7 +124,14 @@ pub fn kept_dims(alloc: Global, dims: &[u64], axes: &[u64]) -> Result<Vec<u64>, 
 }
 
 // Folds a row of cells into as many totals, one by one. No memory.
-fn fold_row<F: Folding>(folding: &F, totals: &mut [i64], place: usize, cells: &[i64], from: usize, count: usize)
+fn fold_row<F: Folding>(
+    folding: &F,
+    totals: &mut [i64],
+    place: usize,
+    cells: &[i64],
+    from: usize,
+    count: usize,
+)
     requires room { place + count ≤ length totals.old }
     requires cells { from + count ≤ length cells.now }
     ensures { TakesRow (F.fold folding.now) place cells.now from count totals.old totals.new }
@@ -160,7 +164,7 @@ fn fold_rows<F: Folding>(
 // Folds cells that lie side by side into one total. No memory.
 fn fold_line<F: Folding>(folding: &F, total: i64, cells: &[i64], from: usize, count: usize) -> i64
     requires { from + count ≤ length cells.now }
-    ensures { folded_from (F.fold folding.now) (Some total) (map (λ q. Some (slice_index_or cells.now (from + q) (pos 0))) (range_with_len 0 count)) ≡ Some result }
+    ensures { folded_from (F.fold folding.now) (Some total) (line_of cells.now from count) ≡ Some result }
 {
     let mut all = total;
     for q in 0..count {
@@ -377,7 +381,7 @@ fn fold_blocks(
     requires kept { (k : ℕ) → k < length blocks.now → kept_shape 0 (slice_index_or (shapes_of (blocks_of blocks.now)) k []) axes.now ≡ shape.now }
     requires room { length totals.old ≡ elements shape.now }
     requires start { (p : ℕ) → p < elements shape.now → slice_index_or totals.old p (pos 0) ≡ neutral fold }
-    ensures { OnOk result ((p : ℕ) → p < elements shape.now → folded fold (elements_at (map (reduced fold axes.now) (grids_of (blocks_of blocks.now))) (index_at shape.now p)) ≡ Some (slice_index_or totals.new p (pos 0))) }
+    ensures { OnOk result (AreTotals fold axes.now shape.now (blocks_of blocks.now) totals.new) }
 {
     for block in blocks {
         fold_block(alloc, fold, axes, shape, block, totals)?;
@@ -395,7 +399,7 @@ fn totals_of(
 ) -> Result<Vec<i64>, AllocError>
     requires { (k : ℕ) → k < length blocks.now → kept_shape 0 (slice_index_or (shapes_of (blocks_of blocks.now)) k []) axes.now ≡ shape.now }
     ensures size { IfOk result (λ v. length v.items ≡ elements shape.now) }
-    ensures at { IfOk result (λ v. (p : ℕ) → p < elements shape.now → folded fold (elements_at (map (reduced fold axes.now) (grids_of (blocks_of blocks.now))) (index_at shape.now p)) ≡ Some (slice_index_or v.items p (pos 0))) }
+    ensures at { IfOk result (λ v. AreTotals fold axes.now shape.now (blocks_of blocks.now) v.items) }
 {
     let mut totals = vec![in alloc; neutral(fold); shape.elements() as usize]?;
     fold_blocks(alloc, fold, axes, shape, blocks, totals.as_mut_slice())?;
@@ -411,8 +415,8 @@ pub fn reduce_blocks(
     inputs: &[Arc<Block>],
 ) -> Result<Block, AllocError>
     requires fits { FitsReduce fold axes.now (shapes_of (blocks_of inputs.now)) }
-    requires limits { IsShape (kept_shape 0 (slice_index_or (shapes_of (blocks_of inputs.now)) 0 []) axes.now) }
-    ensures { IfOk result (λ block. block_of (reduced_all fold axes.now (slice_index_or (shapes_of (blocks_of inputs.now)) 0 []) (grids_of (blocks_of inputs.now))) ≡ Ok block) }
+    requires limits { IsShape (reduced_dims axes.now (blocks_of inputs.now)) }
+    ensures { IfOk result (λ block. block_of (reduced_blocks fold axes.now (blocks_of inputs.now)) ≡ Ok block) }
 {
     let shape = Shape::of(kept_dims(alloc, input_at(inputs, 0).shape().dims(), axes)?);
     let totals = totals_of(alloc, fold, axes, &shape, inputs)?;
