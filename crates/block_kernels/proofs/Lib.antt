@@ -1,3 +1,5 @@
+pub mod Assembling
+pub mod Contracting
 pub mod Filled
 pub mod Broadcasts
 pub mod Shared
@@ -11,3 +13,8 @@ pub mod Ready
 pub mod Takes
 pub mod Spots
 pub mod Divisors
+pub mod Paired
+pub mod Reducing
+pub mod Totals
+pub mod Viewing
+pub mod Woven

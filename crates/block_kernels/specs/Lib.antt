@@ -1,7 +1,10 @@
 pub mod Kernels
-pub mod Folds
 pub mod Inputs
 pub mod WellFormed
 pub mod Rows
 pub mod Pairing
 pub mod Gathers
+pub mod Reducing
+pub mod Viewing
+pub mod Assembling
+pub mod Contracting
