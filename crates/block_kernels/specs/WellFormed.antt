@@ -95,14 +95,14 @@ pub record IsWellFormed (spec : Spec) : Type 0 where
   pub rules : Fits spec
   pub shape : IsShape (result_shape spec)
 
--- the operations that `run` makes
+-- the operations that `run` makes: all but a load, which has no inputs
 abbrev pub IsMade : Spec → Type 0
 IsMade (Elementwise op left right inputs shape) = Unit {0}
 IsMade (Where condition first second inputs shape) = Unit {0}
 IsMade (Slice steps dropped input) = Unit {0}
 IsMade (Transpose axes input) = Unit {0}
-IsMade (Assemble pieces inputs shape) = ⊥
-IsMade (Reduce fold axes inputs) = ⊥
-IsMade (Contract left right left_axes right_axes inputs) = ⊥
+IsMade (Assemble pieces inputs shape) = Unit {0}
+IsMade (Reduce fold axes inputs) = Unit {0}
+IsMade (Contract left right left_axes right_axes inputs) = Unit {0}
 IsMade (Fill dims region start step) = Unit {0}
 IsMade (Load input region) = ⊥

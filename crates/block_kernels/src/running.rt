@@ -1,21 +1,24 @@
 // What a task makes of the blocks of its dependencies.
-ghost use Rattle.std.specs.Prelude.{◌≡◌, ℕ, ℤ, List, IfOk, IfErr, Ok, [], ◌∷◌, length, map, get_or};
+ghost use Rattle.std.specs.Prelude.{◌≡◌, ℕ, ℤ, List, IfOk, IfErr, Ok, [], ◌∷◌, ◌++◌, length, map, get_or, slice_index_or};
 ghost use Rattle.nd_shape.specs.Shape.{IsShape};
 ghost use Rattle.nd_shape.specs.Region.{IsPart};
-ghost use Rattle.nd_grid.specs.Grid.{grid_of, block_of, elementwise, chosen, sliced, sliced_shape, transposed, ramp, part, IsTranspose};
+ghost use Rattle.nd_grid.specs.Grid.{grid_of, block_of, elementwise, chosen, sliced, sliced_shape, transposed, ramp, part, IsTranspose, kept_shape, contracted};
 ghost use Rattle.nd_grid.specs.Computed.{FailsAs};
-ghost use Rattle.block_kernels.specs.Kernels.{kernel, operand, nth, input_shapes, result_shape};
+ghost use Rattle.block_kernels.specs.Kernels.{kernel, operand, nth, input_shapes, result_shape, reduced_all, assembled};
 ghost use Rattle.block_kernels.specs.Inputs.{blocks_of, grids_of, shapes_of};
-ghost use Rattle.block_kernels.specs.WellFormed.{FitsPair, FitsWhere, FitsSlice, IsWellFormed, IsMade};
+ghost use Rattle.block_kernels.specs.WellFormed.{FitsPair, FitsWhere, FitsSlice, FitsReduce, FitsContract, FitsAssemble, IsWellFormed, IsMade};
 
+use crate::assemble::assemble;
 use crate::choices::choose;
+use crate::contract::contract;
 use crate::inputs::{input_at, number_block, operand_at};
 use crate::pairs::elementwise;
+use crate::reduce::reduce_blocks;
 use crate::slope::fill;
 use crate::spec::{Operand, Spec};
 use crate::taking::{slice, transpose};
-use nd_grid::{Binary, Fail};
-use nd_shape::{Axes, Block, Shape, StepList};
+use nd_grid::{Binary, Fail, Fold};
+use nd_shape::{Axes, Block, Pieces, Shape, Shapes, StepList};
 use std::alloc::Global;
 use std::sync::Arc;
 
@@ -105,9 +108,81 @@ fn run_transpose(
     transpose(alloc, order, of)
 }
 
+// The elements along the axes folded, within each input and then over the inputs in order.
+fn run_reduce(
+    alloc: Global,
+    fold: Fold,
+    axes: &Axes,
+    shapes: &Shapes,
+    inputs: &[Arc<Block>],
+) -> Result<Block, Fail>
+    requires rules { FitsReduce fold axes.now shapes.now }
+    requires limits { IsShape (kept_shape 0 (slice_index_or shapes.now 0 []) axes.now) }
+    requires shapes { shapes_of (blocks_of inputs.now) ≡ shapes.now }
+    ensures ok { IfOk result (λ block. block_of (reduced_all fold axes.now (slice_index_or shapes.now 0 []) (grids_of (blocks_of inputs.now))) ≡ Ok block) }
+    ensures dims { IfOk result (λ block. block.shape ≡ kept_shape 0 (slice_index_or shapes.now 0 []) axes.now) }
+    ensures err { IfErr result (λ e. FailsAs e (block_of (reduced_all fold axes.now (slice_index_or shapes.now 0 []) (grids_of (blocks_of inputs.now))))) }
+{
+    let _ = shapes.as_slice();
+    let listed = axes.as_slice();
+    match reduce_blocks(alloc, fold, listed, inputs) {
+        Ok(block) => Ok(block),
+        Err(_) => Err(Fail::OutOfMemory),
+    }
+}
+
+// The products over paired axes of two inputs, summed.
+fn run_contract(
+    alloc: Global,
+    left: u32,
+    right: u32,
+    left_axes: &Axes,
+    right_axes: &Axes,
+    shapes: &Shapes,
+    inputs: &[Arc<Block>],
+) -> Result<Block, Fail>
+    requires rules { FitsContract left right left_axes.now right_axes.now shapes.now }
+    requires limits { IsShape (kept_shape 0 (slice_index_or shapes.now left []) left_axes.now ++ kept_shape 0 (slice_index_or shapes.now right []) right_axes.now) }
+    requires shapes { shapes_of (blocks_of inputs.now) ≡ shapes.now }
+    ensures ok { IfOk result (λ block. block_of (contracted left_axes.now right_axes.now (nth (grids_of (blocks_of inputs.now)) left) (nth (grids_of (blocks_of inputs.now)) right)) ≡ Ok block) }
+    ensures dims { IfOk result (λ block. block.shape ≡ kept_shape 0 (slice_index_or shapes.now left []) left_axes.now ++ kept_shape 0 (slice_index_or shapes.now right []) right_axes.now) }
+    ensures err { IfErr result (λ e. FailsAs e (block_of (contracted left_axes.now right_axes.now (nth (grids_of (blocks_of inputs.now)) left) (nth (grids_of (blocks_of inputs.now)) right)))) }
+{
+    let _ = shapes.as_slice();
+    let first = left_axes.as_slice();
+    let second = right_axes.as_slice();
+    match contract(alloc, left, right, first, second, inputs) {
+        Ok(block) => Ok(block),
+        Err(_) => Err(Fail::OutOfMemory),
+    }
+}
+
+// Parts of the inputs put together.
+fn run_assemble(
+    alloc: Global,
+    pieces: &Pieces,
+    shapes: &Shapes,
+    inputs: &[Arc<Block>],
+    shape: &Shape,
+) -> Result<Block, Fail>
+    requires rules { FitsAssemble pieces.now shapes.now shape.now }
+    requires shapes { shapes_of (blocks_of inputs.now) ≡ shapes.now }
+    ensures ok { IfOk result (λ block. block_of (assembled pieces.now shape.now (grids_of (blocks_of inputs.now))) ≡ Ok block) }
+    ensures dims { IfOk result (λ block. block.shape ≡ shape.now) }
+    ensures err { IfErr result (λ e. FailsAs e (block_of (assembled pieces.now shape.now (grids_of (blocks_of inputs.now))))) }
+{
+    let _ = shapes.as_slice();
+    let parts = pieces.as_slice();
+    match assemble(alloc, parts, inputs, shape) {
+        Ok(block) => Ok(block),
+        Err(_) => Err(Fail::OutOfMemory),
+    }
+}
+
 /// What the operation makes of its inputs: the block of its formula, or the first place in row-major order at which a
 /// divisor is 0. It is NumPy's `add`, `subtract`, `multiply`, `floor_divide`, `remainder`, `minimum` and `maximum`,
-/// `where`, basic slicing, `transpose`, `full` and `arange` on the blocks' elements, in int64 arithmetic that wraps.
+/// `where`, basic slicing, `transpose`, `full` and `arange`, `sum`, `prod`, `min` and `max` along axes, `tensordot`, and parts
+/// put together, on the blocks' elements, in int64 arithmetic that wraps. A load has no inputs, and isn't made here.
 pub fn run(alloc: Global, spec: &Spec, inputs: &[Arc<Block>]) -> Result<Block, Fail>
     requires rules { IsWellFormed spec.now }
     requires made { IsMade spec.now }
@@ -143,6 +218,23 @@ pub fn run(alloc: Global, spec: &Spec, inputs: &[Arc<Block>]) -> Result<Block, F
             start,
             step,
         } => fill(alloc, dims, region, *start, *step),
-        _ => Err(Fail::OutOfMemory),
+        Spec::Reduce {
+            fold,
+            axes,
+            inputs: shapes,
+        } => run_reduce(alloc, *fold, axes, shapes, inputs),
+        Spec::Contract {
+            left,
+            right,
+            left_axes,
+            right_axes,
+            inputs: shapes,
+        } => run_contract(alloc, *left, *right, left_axes, right_axes, shapes, inputs),
+        Spec::Assemble {
+            pieces,
+            inputs: shapes,
+            shape,
+        } => run_assemble(alloc, pieces, shapes, inputs, shape),
+        Spec::Load { .. } => unreachable!(),
     }
 }

@@ -176,7 +176,7 @@ sim_completes p said old new SimEnds.Keys faults cause = record {
   limit = λ s f. absurd (not_many p s cause);
 }
 sim_completes p said old new SimEnds.Events faults cause = limit_ends p said old cause
-sim_completes p said old new SimEnds.Turns faults cause = simulable_ends p said old 10 (record { addition = cause.addition; can = cause.can }) (λ u. absurd (not_fit p old.files u cause.inputs)) (λ f. inr (inl refl))
+sim_completes p said old new SimEnds.Turns faults cause = simulable_ends p said old 10 (record { addition = cause.is.addition; can = cause.is.can }) (λ u. absurd (not_fit p old.files u cause.is.inputs)) (λ f. inr (inl refl))
 sim_completes p said old new (SimEnds.Ran end) faults cause = sim_run_completes p said old new end faults cause
 
 -- ## The end of the work on a job
