@@ -1,68 +1,63 @@
 // What is asked of single elements.
 use crate::row::Row;
-use crate::text::put_maybe;
-use crate::why::Why;
+use crate::text::Answer;
 use nd_grid::operation::{combine, fold_two, negate_element, neutral, pick};
 use nd_grid::{Binary, Fold};
 
 /// An operation on two elements, by its sign or its name.
-pub fn binary(row: &mut Row) -> Result<Binary, Why> {
-    match row.word()? {
-        "+" => Ok(Binary::Add),
-        "-" => Ok(Binary::Sub),
-        "*" => Ok(Binary::Mul),
-        "//" => Ok(Binary::FloorDiv),
-        "%" => Ok(Binary::Rem),
-        "minimum" => Ok(Binary::Minimum),
-        "maximum" => Ok(Binary::Maximum),
-        _ => Err(Why::Ill),
+pub fn binary(name: &str) -> Binary {
+    match name {
+        "+" => Binary::Add,
+        "-" => Binary::Sub,
+        "*" => Binary::Mul,
+        "//" => Binary::FloorDiv,
+        "%" => Binary::Rem,
+        "minimum" => Binary::Minimum,
+        _ => Binary::Maximum,
     }
 }
 
 /// An operation that folds elements into one, by its name.
-pub fn fold(row: &mut Row) -> Result<Fold, Why> {
-    match row.word()? {
-        "sum" => Ok(Fold::Sum),
-        "prod" => Ok(Fold::Prod),
-        "min" => Ok(Fold::Min),
-        "max" => Ok(Fold::Max),
-        _ => Err(Why::Ill),
+pub fn fold(name: &str) -> Fold {
+    match name {
+        "sum" => Fold::Sum,
+        "prod" => Fold::Prod,
+        "min" => Fold::Min,
+        _ => Fold::Max,
     }
 }
 
 /// `element OPERATION LEFT RIGHT`: an operation on two elements.
-pub fn element(row: &mut Row, out: &mut String) -> Result<(), Why> {
-    let op = binary(row)?;
-    let left = row.optional()?;
-    let right = row.optional()?;
-    Ok(put_maybe(out, combine(op, left, right))?)
+pub fn element(row: &mut Row, out: &mut Answer) {
+    let op = binary(row.word());
+    let left = row.optional();
+    let right = row.optional();
+    out.put_maybe(combine(op, left, right));
 }
 
 /// `pick CONDITION YES NO`: the element that a condition chooses.
-pub fn picked(row: &mut Row, out: &mut String) -> Result<(), Why> {
-    let condition = row.optional()?;
-    let yes = row.optional()?;
-    let no = row.optional()?;
-    Ok(put_maybe(out, pick(condition, yes, no))?)
+pub fn picked(row: &mut Row, out: &mut Answer) {
+    let condition = row.optional();
+    let yes = row.optional();
+    let no = row.optional();
+    out.put_maybe(pick(condition, yes, no));
 }
 
 /// `negative ELEMENT`: an element negated.
-pub fn negative(row: &mut Row, out: &mut String) -> Result<(), Why> {
-    let element = negate_element(row.number()?);
-    Ok(write!(out, " {element}")?)
+pub fn negative(row: &mut Row, out: &mut Answer) {
+    out.put_item(negate_element(row.number()));
 }
 
-fn put_folded(out: &mut String, fold: Fold, elements: &[i64]) -> Result<(), Why> {
+fn put_folded(out: &mut Answer, fold: Fold, elements: &[i64]) {
     let mut total = neutral(fold);
     for element in elements {
         total = fold_two(fold, total, *element);
     }
-    Ok(write!(out, " {total}")?)
+    out.put_item(total);
 }
 
 /// `fold FOLD ELEMENTS`: elements folded into one.
-pub fn folded(row: &mut Row, out: &mut String) -> Result<(), Why> {
-    let fold = fold(row)?;
-    let elements = row.numbers()?;
-    put_folded(out, fold, &elements)
+pub fn folded(row: &mut Row, out: &mut Answer) {
+    let fold = fold(row.word());
+    put_folded(out, fold, &row.numbers());
 }

@@ -8,11 +8,11 @@ ghost use Rattle.plain_block.specs.Files.{HaveFiles};
 use crate::expression::{expression, last_node, put_outcome};
 use crate::inputs::have_files;
 use crate::row::Row;
-use crate::why::Why;
+use crate::text::Answer;
 use array_expr::{Expr, NodeId};
 use io_edge::{Counted, Kind, MemorySite, Refusal, Site};
 use nd_shape::{Block, Region};
-use npy_codec::{Head, write_head};
+use npy_codec::{Head, NpyError, write_head};
 use plain_block::{PlainOutcome, plain_block};
 use std::alloc::{AllocError, Global};
 
@@ -73,96 +73,112 @@ fn put_files(
     site: &mut MemorySite,
     blocks: &[Block],
     missing: &[u64],
-) -> Result<(), Why> {
-    match (blocks, missing) {
-        ([first, second], [of_first, of_second]) => {
-            put_file(alloc, site, "a.npy", first, *of_first)?;
-            Ok(put_file(alloc, site, "b.npy", second, *of_second)?)
-        }
-        _ => Err(Why::Ill),
+) -> Result<(), AllocError> {
+    if let ([first, second], [of_first, of_second]) = (blocks, missing) {
+        put_file(alloc, site, "a.npy", first, *of_first)?;
+        put_file(alloc, site, "b.npy", second, *of_second)?;
+    }
+    Ok(())
+}
+
+fn site_of(alloc: Global, failing: Option<i64>) -> Result<MemorySite, AllocError> {
+    let refusals = refusals(alloc, failing)?;
+    MemorySite::new(alloc, 0, refusals)
+}
+
+fn names(alloc: Global) -> Result<[String; 2], AllocError> {
+    let first = String::from_str(alloc, "a.npy")?;
+    let second = String::from_str(alloc, "b.npy")?;
+    Ok([first, second])
+}
+
+fn put_made(out: &mut Answer, made: Result<PlainOutcome, NpyError>) {
+    match made {
+        Ok(outcome) => put_outcome(out, &outcome),
+        Err(e) => out.refuse(e),
     }
 }
 
-// What a region of a node is over the two files.
-fn over_files<S: Site>(
-    alloc: Global,
+// Puts what a region of a node is over the two files.
+fn put_over_files<S: Site>(
+    out: &mut Answer,
     expr: &Expr,
     node: NodeId,
     region: &Region,
     site: &mut S,
+    names: &[String],
     heads: &[Head],
-) -> Result<PlainOutcome, Why>
+)
     requires node { node < length expr.now }
     requires region { IsPart region.now (shape_at expr.now node) }
+    requires names { length names.now ≡ 2 }
     requires files { (files : List Content) → length files ≡ 2 → HaveFiles expr.now (node + 1) files heads.now }
 {
-    let names = [
-        String::from_str(alloc, "a.npy")?,
-        String::from_str(alloc, "b.npy")?,
-    ];
-    let mut store = match site.store(alloc, &names) {
-        Ok(store) => store,
-        Err(_) => return Err(Why::Ill),
-    };
-    let given = plain_block(alloc, expr, node, region, &mut store, heads);
-    site.give_store(store);
-    Ok(given?)
+    let alloc = out.alloc();
+    match site.store(alloc, names) {
+        Ok(mut store) => {
+            let made = plain_block(alloc, expr, node, region, &mut store, heads);
+            site.give_store(store);
+            put_made(out, made);
+        }
+        Err(_) => out.mark_ill(),
+    }
 }
 
 // The same of the last node, where all is there.
-fn outcome<S: Site>(
-    alloc: Global,
+fn put_over<S: Site>(
+    out: &mut Answer,
     expr: &Expr,
     region: &Region,
     site: &mut S,
+    names: &[String],
     heads: &[Head],
-) -> Result<PlainOutcome, Why> {
-    let node = last_node(expr)?;
-    if !region.is_part(expr.shape_of(node).dims()) {
-        return Err(Why::Ill);
+)
+    requires { length names.now ≡ 2 }
+{
+    if let Some(node) = last_node(expr)
+        && region.is_part(expr.shape_of(node).dims())
+        && have_files(expr.nodes(), node.number() as usize + 1, 2, heads)
+    {
+        put_over_files(out, expr, node, region, site, names, heads);
+    } else {
+        out.mark_ill();
     }
-    if !have_files(expr.nodes(), node.number() as usize + 1, 2, heads) {
-        return Err(Why::Ill);
-    }
-    over_files(alloc, expr, node, region, site, heads)
 }
 
-fn put_over(
-    out: &mut String,
+// Puts a region of the last node over two files with these blocks.
+fn put_in_files(
+    out: &mut Answer,
     expr: &Expr,
     region: &Region,
     site: &mut MemorySite,
     blocks: &[Block],
-) -> Result<(), Why> {
-    let alloc = *out.allocator();
-    let heads = heads(alloc, blocks)?;
-    let outcome = outcome(alloc, expr, region, site, &heads)?;
-    put_outcome(out, &outcome)
-}
-
-fn put_in_files(
-    out: &mut String,
-    expr: &Expr,
-    region: &Region,
-    blocks: &[Block],
-    missing: &[u64],
-    failing: Option<i64>,
-) -> Result<(), Why> {
-    let alloc = *out.allocator();
-    let mut site = MemorySite::new(alloc, 0, refusals(alloc, failing)?)?;
-    match put_files(alloc, &mut site, blocks, missing) {
-        Ok(()) => put_over(out, expr, region, &mut site, blocks),
-        Err(why) => Err(why),
+) {
+    let alloc = out.alloc();
+    match heads(alloc, blocks) {
+        Ok(heads) => match names(alloc) {
+            Ok(names) => put_over(out, expr, region, site, &names, &heads),
+            Err(_) => out.fail(),
+        },
+        Err(_) => out.fail(),
     }
 }
 
 /// `files STARTS LENGTHS FAILING LENGTHS ELEMENTS LENGTHS ELEMENTS MISSING NODES`: a region of the last node over two
 /// files, each without so many bytes at its end. The read with the number FAILING, from 0, fails.
-pub fn files(row: &mut Row, out: &mut String) -> Result<(), Why> {
-    let region = row.region()?;
-    let failing = row.optional()?;
-    let blocks = row.blocks(2)?;
-    let missing = row.naturals()?;
-    let expr = expression(row)?;
-    put_in_files(out, &expr, &region, &blocks, &missing, failing)
+pub fn files(row: &mut Row, out: &mut Answer) {
+    let region = row.region();
+    let failing = row.optional();
+    let blocks = row.blocks(2, out);
+    let missing = row.naturals();
+    let expr = expression(row, out);
+    let alloc = out.alloc();
+    match site_of(alloc, failing) {
+        Ok(mut site) => {
+            let done = put_files(alloc, &mut site, &blocks, &missing);
+            out.keep(done);
+            put_in_files(out, &expr, &region, &mut site, &blocks);
+        }
+        Err(_) => out.fail(),
+    }
 }

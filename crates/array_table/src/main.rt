@@ -26,20 +26,19 @@ mod row;
 mod shapes;
 mod storage;
 mod text;
-mod why;
 
 use row::Row;
 use std::alloc::Global;
 use std::io;
-use why::Why;
+use text::Answer;
 
 // What is asked of shapes and axes.
-fn shape_answer(word: &str, row: &mut Row, out: &mut String) -> Result<(), Why> {
+fn shape_answer(word: &str, row: &mut Row, out: &mut Answer) {
     match word {
         "shape" => shapes::shape(row, out),
         "line" => shapes::line(row, out),
-        "broadcast" => shapes::two_broadcast(row, out),
-        "broadcast-three" => shapes::three_broadcast(row, out),
+        "broadcast" => shapes::broadcasted(row, 2, out),
+        "broadcast-three" => shapes::broadcasted(row, 3, out),
         "ravel" => shapes::raveled(row, out),
         "unravel" => shapes::unraveled(row, out),
         "region" => shapes::region(row, out),
@@ -48,36 +47,38 @@ fn shape_answer(word: &str, row: &mut Row, out: &mut String) -> Result<(), Why> 
         "index" => axes::index(row, out),
         "chunks" => axes::chunks(row, out),
         "count" => axes::count(row, out),
-        _ => Err(Why::Ill),
+        _ => out.mark_ill(),
     }
 }
 
-// What is asked of elements and blocks.
-fn block_answer(word: &str, row: &mut Row, out: &mut String) -> Result<(), Why> {
+// What is asked of blocks.
+fn block_answer(word: &str, row: &mut Row, out: &mut Answer) {
+    match word {
+        "block" | "negate" => blocks::of_blocks(row, word, 1, out),
+        "blocks" => {
+            let op = row.word();
+            blocks::of_blocks(row, op, 2, out);
+        }
+        "choose" => blocks::of_blocks(row, word, 3, out),
+        "ramp" => blocks::ramp(row, out),
+        "taken" => blocks::taken(row, out),
+        "turned" => blocks::turned(row, out),
+        "columns" => blocks::columns(row, out),
+        _ => shape_answer(word, row, out),
+    }
+}
+
+// What is asked of elements, orders of storage and lists.
+fn element_answer(word: &str, row: &mut Row, out: &mut Answer) {
     match word {
         "element" => elements::element(row, out),
         "pick" => elements::picked(row, out),
         "negative" => elements::negative(row, out),
         "fold" => elements::folded(row, out),
-        "block" => blocks::block(row, out),
-        "blocks" => blocks::blocks(row, out),
-        "choose" => blocks::chosen(row, out),
-        "negate" => blocks::negated(row, out),
-        "ramp" => blocks::ramp(row, out),
-        "taken" => blocks::taken(row, out),
-        "turned" => blocks::turned(row, out),
-        "columns" => blocks::columns(row, out),
         "walk" => storage::walk(row, out),
         "row-major" => storage::row_major(row, out),
         "targets" => storage::targets(row, out),
         "runs" => storage::runs(row, out),
-        _ => shape_answer(word, row, out),
-    }
-}
-
-// What is asked of lists.
-fn list_answer(word: &str, row: &mut Row, out: &mut String) -> Result<(), Why> {
-    match word {
         "dims" => lists::dims(row, out),
         "specs" => lists::specs(row, out),
         "shapes" => lists::shapes(row, out),
@@ -86,43 +87,33 @@ fn list_answer(word: &str, row: &mut Row, out: &mut String) -> Result<(), Why> {
 }
 
 // What is asked of expressions, or else of what they are made of.
-fn answer(word: &str, row: &mut Row, out: &mut String) -> Result<(), Why> {
+fn answer(word: &str, row: &mut Row, out: &mut Answer) {
     match word {
-        "eval" => expression::eval(row, out),
-        "part" => expression::part(row, out),
-        "all" => expression::all(row, out),
-        "needs" => expression::needs(row, out),
-        "reach" => expression::reach(row, out),
+        "eval" | "part" | "all" | "needs" | "reach" => expression::of_expression(word, row, out),
         "fill" => expression::fill(row, out),
         "files" => files::files(row, out),
-        _ => list_answer(word, row, out),
+        _ => element_answer(word, row, out),
     }
 }
 
-// Takes all words of a line.
-fn take(row: &mut Row, out: &mut String) -> Result<(), Why> {
-    let word = row.word()?;
-    answer(word, row, out)?;
-    if row.is_empty() {
-        Ok(())
-    } else {
-        Err(Why::Ill)
+// The answer to all words of a line.
+fn answer_of(alloc: Global, words: &str) -> Answer {
+    let mut row = Row::new(alloc, words);
+    let mut out = Answer::new(alloc);
+    let word = row.word();
+    answer(word, &mut row, &mut out);
+    if row.is_ill() || !row.is_empty() && !out.is_refused() {
+        out.mark_ill();
     }
-}
-
-fn put_answer(out: &mut String, words: &str) -> Result<(), Why> {
-    let mut row = Row::parse(*out.allocator(), words)?;
-    take(&mut row, out)
+    out.end();
+    out
 }
 
 // Prints what a line asks, and the answer.
 fn print_answer<R: Print>(rt: &R, alloc: Global, line: &str) -> io::Result<()> {
     let (words, asked) = line.split_once('#').unwrap_or((line, line));
-    let mut out = String::new(alloc);
-    match put_answer(&mut out, words) {
-        Ok(()) => println!(rt; "{asked}:{}", out.as_str()),
-        Err(why) => println!(rt; "{asked}: {why}"),
-    }
+    let out = answer_of(alloc, words);
+    println!(rt; "{asked}:{}", out.as_str())
 }
 
 fn main(rt: HostRuntime) -> io::Result<()> {

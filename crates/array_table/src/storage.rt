@@ -1,123 +1,123 @@
 // What is asked of arrays in the order in which they are stored.
 use crate::row::Row;
-use crate::text::put_list;
-use crate::why::Why;
+use crate::text::Answer;
 use nd_rows::{BlockTargets, RegionWalk, from_column_major};
 use nd_shape::{Region, Shape};
 use npy_codec::Head;
 use npy_region::{Run, region_runs};
 
 // Whether an array is stored in column-major order.
-fn by_column(row: &mut Row) -> Result<bool, Why> {
-    match row.word()? {
-        "by-row" => Ok(false),
-        "by-column" => Ok(true),
-        _ => Err(Why::Ill),
-    }
+fn by_column(row: &mut Row) -> bool {
+    row.word() == "by-column"
 }
 
-fn put_place(out: &mut String, walk: &mut RegionWalk, element: u64) -> Result<(), Why> {
-    if element >= walk.len() {
-        return Err(Why::Ill);
-    }
-    let place = walk.place(element);
-    Ok(write!(out, " {place}")?)
-}
-
-fn put_places(out: &mut String, walk: &mut RegionWalk) -> Result<(), Why> {
+fn put_places(out: &mut Answer, walk: &mut RegionWalk) {
     for element in 0..walk.len() {
-        put_place(out, walk, element)?;
+        if element < walk.len() {
+            out.put_item(walk.place(element));
+        }
     }
     if walk.len() == 0 {
-        return Ok(out.push_str(" none")?);
+        return out.put(" none");
     }
-    let len = walk.row_len();
-    Ok(write!(out, " in rows of {len}")?)
+    out.put(" in rows of");
+    out.put_item(walk.row_len());
 }
 
-fn put_walk(out: &mut String, by_column: bool, shape: &Shape, region: &Region) -> Result<(), Why> {
+fn put_walk(out: &mut Answer, by_column: bool, shape: &Shape, region: &Region) {
     if !region.is_part(shape.dims()) {
-        return Err(Why::Ill);
+        return out.mark_ill();
     }
-    let mut walk = RegionWalk::new(*out.allocator(), by_column, shape, region)?;
-    put_places(out, &mut walk)
+    match RegionWalk::new(out.alloc(), by_column, shape, region) {
+        Ok(mut walk) => put_places(out, &mut walk),
+        Err(_) => out.fail(),
+    }
 }
 
 /// `walk ORDER LENGTHS STARTS LENGTHS`: where each element of a region is stored, and the length of a row.
-pub fn walk(row: &mut Row, out: &mut String) -> Result<(), Why> {
-    let by_column = by_column(row)?;
-    let shape = row.shape()?;
-    let region = row.region()?;
-    put_walk(out, by_column, &shape, &region)
+pub fn walk(row: &mut Row, out: &mut Answer) {
+    let by_column = by_column(row);
+    match Shape::new(row.naturals()) {
+        Ok(shape) => put_walk(out, by_column, &shape, &row.region()),
+        Err(limit) => out.refuse(limit),
+    }
 }
 
-fn put_row_major(out: &mut String, shape: &Shape, cells: &[i64]) -> Result<(), Why> {
+fn put_row_major(out: &mut Answer, shape: &Shape, cells: &[i64]) {
     if shape.elements() != cells.len() as u64 {
-        return Err(Why::Ill);
+        return out.mark_ill();
     }
-    let turned = from_column_major(*out.allocator(), shape, cells)?;
-    Ok(put_list(out, &turned)?)
+    match from_column_major(out.alloc(), shape, cells) {
+        Ok(turned) => out.put_list(&turned),
+        Err(_) => out.fail(),
+    }
 }
 
 /// `row-major LENGTHS ELEMENTS`: the elements of a column-major array in row-major order.
-pub fn row_major(row: &mut Row, out: &mut String) -> Result<(), Why> {
-    let shape = row.shape()?;
-    let cells = row.numbers()?;
-    put_row_major(out, &shape, &cells)
-}
-
-fn put_target(out: &mut String, targets: &mut BlockTargets, element: u64) -> Result<(), Why> {
-    if element >= targets.len() {
-        return Err(Why::Ill);
+pub fn row_major(row: &mut Row, out: &mut Answer) {
+    match Shape::new(row.naturals()) {
+        Ok(shape) => put_row_major(out, &shape, &row.numbers()),
+        Err(limit) => out.refuse(limit),
     }
-    let place = targets.place(element);
-    Ok(write!(out, " {place}")?)
 }
 
-fn put_targets(out: &mut String, by_column: bool, shape: &Shape) -> Result<(), Why> {
-    let mut targets = BlockTargets::new(*out.allocator(), by_column, shape)?;
+fn put_all_targets(out: &mut Answer, targets: &mut BlockTargets) {
     for element in 0..targets.len() {
-        put_target(out, &mut targets, element)?;
+        if element < targets.len() {
+            out.put_item(targets.place(element));
+        }
     }
-    Ok(())
+}
+
+fn put_targets(out: &mut Answer, by_column: bool, shape: &Shape) {
+    match BlockTargets::new(out.alloc(), by_column, shape) {
+        Ok(mut targets) => put_all_targets(out, &mut targets),
+        Err(_) => out.fail(),
+    }
 }
 
 /// `targets ORDER LENGTHS`: where each element of a block goes that comes in the order of storage.
-pub fn targets(row: &mut Row, out: &mut String) -> Result<(), Why> {
-    let by_column = by_column(row)?;
-    let shape = row.shape()?;
-    put_targets(out, by_column, &shape)
+pub fn targets(row: &mut Row, out: &mut Answer) {
+    let by_column = by_column(row);
+    match Shape::new(row.naturals()) {
+        Ok(shape) => put_targets(out, by_column, &shape),
+        Err(limit) => out.refuse(limit),
+    }
 }
 
-fn put_run(out: &mut String, run: &Run) -> Result<(), Why> {
-    let Run {
-        offset,
-        length,
-        place,
-    } = *run;
-    Ok(write!(out, " {length} from {offset} to {place}")?)
+fn put_all_runs(out: &mut Answer, runs: &[Run]) {
+    for run in runs {
+        out.put_item(run.length);
+        out.put(" from");
+        out.put_item(run.offset);
+        out.put(" to");
+        out.put_item(run.place);
+    }
 }
 
-fn put_runs(out: &mut String, head: &Head, region: &Region) -> Result<(), Why> {
+fn put_runs(out: &mut Answer, head: &Head, region: &Region) {
     if !region.is_part(head.shape.dims()) || head.data_at > 128 {
-        return Err(Why::Ill);
+        return out.mark_ill();
     }
-    let runs = region_runs(*out.allocator(), head, region)?;
-    for run in runs.as_slice() {
-        put_run(out, run)?;
+    match region_runs(out.alloc(), head, region) {
+        Ok(runs) => put_all_runs(out, runs.as_slice()),
+        Err(_) => out.fail(),
     }
-    Ok(())
 }
 
 /// `runs ORDER STARTS LENGTHS LENGTHS`: the bytes of a file that hold a region, where its data begins at 80.
-pub fn runs(row: &mut Row, out: &mut String) -> Result<(), Why> {
-    let fortran = by_column(row)?;
-    let region = row.region()?;
-    let shape = row.shape()?;
-    let head = Head {
-        shape,
-        fortran,
-        data_at: 80,
-    };
-    put_runs(out, &head, &region)
+pub fn runs(row: &mut Row, out: &mut Answer) {
+    let fortran = by_column(row);
+    let region = row.region();
+    match Shape::new(row.naturals()) {
+        Ok(shape) => {
+            let head = Head {
+                shape,
+                fortran,
+                data_at: 80,
+            };
+            put_runs(out, &head, &region);
+        }
+        Err(limit) => out.refuse(limit),
+    }
 }

@@ -10,6 +10,8 @@ use std::str::SplitWhitespace;
 #[derive(Clone, Copy, Debug)]
 pub enum RowError {
     Ill,
+    /// No graph has this row at its place.
+    Unfit { key: u32 },
     OutOfMemory,
 }
 

@@ -7,6 +7,7 @@ use std::io;
 pub fn print_error<R: Print>(rt: &R, error: RowError) -> io::Result<()> {
     match error {
         RowError::Ill => println!(rt; "ill"),
+        RowError::Unfit { key } => println!(rt; "no graph has row {key}"),
         RowError::OutOfMemory => println!(rt; "out of memory"),
     }
 }
