@@ -1,5 +1,5 @@
 -- Parts of blocks put into a block, run after run.
-use Rattle.std.proofs.Common.{◌≡◌, ◌≢◌, ℕ, zero, suc, ◌+◌, ◌-◌, ◌*◌, ◌/◌, ◌%◌, ◌<◌, ◌≤◌, ◌^◌, cond, not, ◌&&◌, Bool, true, false, List, [], ◌∷◌, length, map, take, drop, ◌++◌, get_or, refl, ap, sym, subst, ◌∙◌, arith, ℤ, pos, Some, None, Ok, inl, inr}
+use Rattle.std.proofs.Common.{◌≡◌, ℕ, zero, suc, ◌+◌, ◌-◌, ◌*◌, ◌/◌, ◌%◌, ◌<◌, ◌≤◌, ◌^◌, cond, not, ◌&&◌, Bool, true, false, List, [], ◌∷◌, length, take, drop, ◌++◌, get_or, refl, ap, sym, subst, ◌∙◌, arith, ℤ, pos, Some, Ok, inl, inr}
 use Rattle.std.specs.Prelude.{Option, All, nat_lt}
 use Rattle.std.proofs.Math.Nat.{mul_comm, mul_assoc}
 use Rattle.std.proofs.lemmas.Bool.{cases_lt}
@@ -17,7 +17,7 @@ use Rattle.nd_grid.proofs.Turning.{moved-in}
 use Rattle.block_kernels.specs.Kernels.{nth, no_grid, is_within, counted, in_pieces, assembled}
 use Rattle.block_kernels.specs.Inputs.{grids_of}
 use Rattle.block_kernels.specs.WellFormed.{covered, FitsPiece}
-use Rattle.block_kernels.specs.Assembling.{Runs, IsWhole, Lies, StaysWhole, Copied, Paints, Painted}
+use Rattle.block_kernels.specs.Assembling.{Runs, IsWhole, Lies, Copied, Paints, Painted}
 use Rattle.block_kernels.proofs.Filled.{block-filled}
 use Rattle.block_kernels.proofs.Viewing.{axis-bounds}
 

@@ -1,13 +1,13 @@
 -- Rows of broadcast arrays: along the last axes of the result an operand has a whole row, where its last axes are the
 -- same, or one element, where they are all 1.
-use Rattle.std.proofs.Common.{◌≡◌, ℕ, zero, suc, ◌+◌, ◌-◌, ◌*◌, ◌/◌, ◌%◌, ◌<◌, ◌≤◌, cond, List, [], ◌∷◌, ◌++◌, length, take, drop, refl, ap, sym, subst, ◌∙◌, arith, length-append, inl, inr}
+use Rattle.std.proofs.Common.{◌≡◌, ℕ, zero, suc, ◌+◌, ◌-◌, ◌*◌, ◌/◌, ◌%◌, ◌<◌, ◌≤◌, cond, List, [], ◌∷◌, ◌++◌, length, take, drop, refl, ap, sym, ◌∙◌, arith, length-append, inl, inr}
 use Rattle.std.specs.Prelude.{nat_eq}
 use Rattle.std.proofs.lemmas.Nat.{mul-add-lt, div-mul-add, mod-mul-add, div-add-mod', mod_below}
 use Rattle.std.proofs.lemmas.List.{drop-append-le, length-drop, length-take-le, take-append-drop}
 use Rattle.std.proofs.lemmas.Bool.{cases_lt}
 use Rattle.nd_shape.specs.Shape.{elements}
-use Rattle.nd_shape.specs.Index.{IsIn, place, index_at}
-use Rattle.nd_shape.proofs.Places.{elements-pos, index_at-in, place-index_at, IsIn-length}
+use Rattle.nd_shape.specs.Index.{place, index_at}
+use Rattle.nd_shape.proofs.Places.{elements-pos, index_at-in, place-index_at}
 use Rattle.nd_grid.specs.Grid.{under, under_along}
 use Rattle.block_kernels.specs.Rows.{tail}
 use Rattle.block_kernels.proofs.Filled.{own-along}

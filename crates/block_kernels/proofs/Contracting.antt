@@ -1,5 +1,5 @@
 -- Products over paired axes as products of matrices.
-use Rattle.std.proofs.Common.{◌≡◌, ◌≢◌, ℕ, zero, suc, ◌+◌, ◌*◌, ◌/◌, ◌%◌, ◌<◌, ◌≤◌, ◌^◌, cond, Bool, true, false, List, [], ◌∷◌, ◌++◌, length, set, map, drop, get_or, refl, ap, sym, subst, ◌∙◌, arith, ℤ, pos, ◌*ℤ◌, Some, Ok, inl, inr, below_more}
+use Rattle.std.proofs.Common.{◌≡◌, ◌≢◌, ℕ, zero, suc, ◌+◌, ◌*◌, ◌/◌, ◌%◌, ◌<◌, ◌≤◌, cond, Bool, true, false, List, [], ◌∷◌, ◌++◌, length, set, map, drop, get_or, refl, ap, sym, subst, ◌∙◌, arith, ℤ, pos, ◌*ℤ◌, Some, Ok, inl, inr, below_more}
 use Rattle.std.specs.Prelude.{Option, nat_eq}
 use Rattle.std.specs.List.{range_with_len, position_or_len}
 use Rattle.std.proofs.Math.Nat.{mul_comm}

@@ -1,5 +1,5 @@
 -- A divisor of 0 leaves nothing, and any other something.
-use Rattle.std.proofs.Common.{◌≡◌, ◌≢◌, ℕ, zero, suc, ◌<◌, cond, Bool, true, false, List, get_or, ap, refl, sym, ◌∙◌, arith, ℤ, pos, negsuc, Some, None}
+use Rattle.std.proofs.Common.{◌≡◌, ◌≢◌, ℕ, zero, suc, ◌<◌, cond, Bool, true, false, List, get_or, ap, refl, ◌∙◌, arith, ℤ, pos, negsuc, Some, None}
 use Rattle.std.specs.Prelude.{Option, IfSome}
 use Rattle.nd_grid.specs.Operation.{apply}
 use Rattle.nd_grid.specs.declared.operation.Binary.TheVariants.{FloorDiv, Rem}

@@ -1,5 +1,5 @@
 -- What each kernel writes into a row is its formula's.
-use Rattle.std.proofs.Common.{◌≡◌, ◌≢◌, ℕ, zero, suc, ◌+◌, ◌-◌, ◌*◌, ◌<◌, ◌≤◌, Bool, List, [], ◌∷◌, length, get_or, refl, ap, sym, subst, ◌∙◌, arith, ℤ, pos, ◌+ℤ◌, ◌-ℤ◌, ◌*ℤ◌, Some, None, w64, to_z, of_z}
+use Rattle.std.proofs.Common.{◌≡◌, ℕ, ◌+◌, ◌-◌, ◌*◌, ◌<◌, ◌≤◌, Bool, List, [], ◌∷◌, length, get_or, ap, sym, subst, ◌∙◌, arith, ℤ, pos, ◌+ℤ◌, ◌*ℤ◌, Some, None, w64, to_z, of_z}
 use Rattle.std.specs.Prelude.{Option, IfNone, IfSome}
 use Rattle.std.proofs.lemmas.Int.{to_z-of_z}
 use mir.Val.{SFits}
@@ -8,11 +8,10 @@ use Rattle.nd_shape.specs.Shape.{elements}
 use Rattle.nd_shape.specs.Index.{IsIn, place, index_at}
 use Rattle.nd_shape.specs.Region.{Box, moved}
 use Rattle.nd_shape.specs.Broadcast.{broadcast, Agree}
-use Rattle.nd_shape.specs.declared.slice.Steps.{Steps}
 use Rattle.nd_grid.specs.declared.operation.Binary.{Binary}
 use Rattle.nd_grid.specs.Int64.{wrap}
 use Rattle.nd_grid.specs.Operation.{apply, combine, pick, pick_all}
-use Rattle.nd_grid.specs.Grid.{Grid, grid_of, elementwise, chosen, under, sliced, sliced_from, transposed, turned, ramp, part}
+use Rattle.nd_grid.specs.Grid.{Grid, grid_of, elementwise, chosen, under, ramp, part}
 use Rattle.nd_grid.proofs.Under.{under-in}
 use Rattle.block_kernels.specs.Rows.{at_place, Fills, Misses, item, Applied, Refused, row_count, row_length}
 use Rattle.block_kernels.specs.Gathers.{IsSpot}

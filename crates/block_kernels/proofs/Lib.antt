@@ -18,3 +18,4 @@ pub mod Reducing
 pub mod Totals
 pub mod Viewing
 pub mod Woven
+pub mod Products

@@ -1,6 +1,6 @@
 -- How many elements are kept and paired, and that both make shapes.
 use Rattle.std.proofs.Common.{◌≡◌, ℕ, zero, suc, ◌+◌, ◌*◌, ◌^◌, ◌<◌, ◌≤◌, cond, Bool, true, false, List, [], ◌∷◌, ◌++◌, length, map, get_or, ap, sym, subst, refl, ◌∙◌, arith}
-use Rattle.std.specs.Prelude.{nat_eq, ◌||◌, All, Contains}
+use Rattle.std.specs.Prelude.{nat_eq, ◌||◌, Contains}
 use Rattle.std.specs.List.{AllByRecursion, IsDistinct, list_any}
 use Rattle.std.proofs.Math.Nat.{mul_comm, mul_assoc, mul_left_comm}
 use Rattle.std.proofs.lemmas.List.{get_or-map, length-map, get_or_default, length-append, get_or_append_left, get_or-append-add}

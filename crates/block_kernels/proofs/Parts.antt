@@ -1,9 +1,9 @@
 -- What a write to a part of a list leaves, and one more element of a row.
-use Rattle.std.proofs.Common.{◌≡◌, ℕ, zero, suc, ◌+◌, ◌-◌, ◌<◌, ◌≤◌, List, ◌++◌, length, get_or, set, take, ap, sym, subst, ◌∙◌, arith, ℤ, pos, Some, inl, inr}
+use Rattle.std.proofs.Common.{◌≡◌, ℕ, ◌+◌, ◌<◌, ◌≤◌, List, ◌++◌, length, get_or, set, take, ap, sym, ◌∙◌, arith, ℤ, pos, Some, inl, inr}
 use Rattle.std.specs.Prelude.{Option}
 use Rattle.std.proofs.lemmas.Bool.{cases_lt}
 use Rattle.std.proofs.lemmas.List.{get_or_append_left, get_or-append-add, get_or-take, get_or-set_same, get_or-set_other, length-take-le, take_at}
-use borrow.Rule.Slice.PartMut.{put_mid, post_of}
+use borrow.Rule.Slice.PartMut.{put_mid}
 
 pub put-before : (a k : ℕ) (xs ys : List ℤ) (p : ℕ) → a ≤ length xs → p < a → get_or (put_mid a k xs ys) p (pos 0) ≡ get_or xs p (pos 0)
 put-before a k xs ys p h b =

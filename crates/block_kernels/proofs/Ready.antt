@@ -7,13 +7,13 @@ use Rattle.nd_shape.specs.Block.{Array}
 use Rattle.nd_grid.specs.declared.formula.Fail.{Fail}
 use Rattle.nd_grid.specs.Computed.{FailsAs}
 use Rattle.nd_shape.specs.Shape.{IsShape}
-use Rattle.nd_shape.specs.Region.{Box, IsPart}
+use Rattle.nd_shape.specs.Region.{Box}
 use Rattle.nd_shape.specs.declared.slice.Steps.{Steps}
 use Rattle.nd_grid.specs.declared.operation.Binary.{Binary}
 use Rattle.nd_grid.specs.Grid.{SlicesFit, sliced_shape, IsTranspose, block_of, part, ramp}
 use Rattle.block_kernels.specs.declared.spec.Operand.{Operand}
 use Rattle.block_kernels.specs.declared.spec.Spec.{Spec}
-use Rattle.block_kernels.specs.declared.spec.Spec.TheVariants.{Elementwise, Where, Slice, Transpose, Fill}
+use Rattle.block_kernels.specs.declared.spec.Spec.TheVariants.{Elementwise, Where, Slice, Transpose}
 use Rattle.block_kernels.specs.Kernels.{input_shapes, result_shape}
 use Rattle.block_kernels.specs.WellFormed.{FitsPair, FitsWhere, Fits, IsWellFormed}
 

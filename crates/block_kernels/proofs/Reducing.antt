@@ -1,12 +1,12 @@
 -- Folds over one block after another, and over one row of cells after another.
-use Rattle.std.proofs.Common.{◌≡◌, ℕ, zero, suc, ◌+◌, ◌*◌, ◌^◌, ◌<◌, ◌≤◌, cond, Bool, true, false, List, [], ◌∷◌, ◌++◌, length, map, take, get_or, refl, ap, sym, subst, ◌∙◌, arith, ℤ, pos, Some, Ok, Err, zero-add}
+use Rattle.std.proofs.Common.{◌≡◌, ℕ, zero, suc, ◌+◌, ◌*◌, ◌^◌, ◌<◌, ◌≤◌, cond, Bool, true, false, List, [], ◌∷◌, ◌++◌, length, map, take, get_or, refl, ap, sym, subst, ◌∙◌, arith, ℤ, pos, Some, Ok, Err}
 use Rattle.std.specs.Prelude.{Option, All}
 use Rattle.std.specs.List.{range_with_len}
 use Rattle.std.specs.Arc.{arc_value}
 use Rattle.std.specs.declared.sync.Arc.{Arc}
 use Rattle.std.specs.declared.alloc.Global.{Global}
 use Rattle.std.proofs.Math.Nat.{mul_assoc, mul_left_comm}
-use Rattle.std.proofs.lemmas.List.{map_more, map_push, length-map}
+use Rattle.std.proofs.lemmas.List.{map_more, map_push}
 use Rattle.std.proofs.lemmas.List.FromFn.{get_or-map-range_with_len, length-map-range_with_len}
 use Rattle.nd_shape.specs.Block.{Array}
 use Rattle.nd_shape.specs.Shape.{elements, IsShape}
@@ -19,7 +19,7 @@ use Rattle.nd_grid.proofs.Cells.{block-shape, block-at}
 use Rattle.nd_grid.proofs.FoldAlgebra.{combine-assoc, combine-comm, start-folded}
 use Rattle.block_kernels.specs.Kernels.{elements_at, reduced_all}
 use Rattle.block_kernels.specs.Inputs.{blocks_of}
-use Rattle.block_kernels.specs.Reducing.{TakesBlock, TakesRow, TakesRows}
+use Rattle.block_kernels.specs.Reducing.{TakesBlock, TakesRow}
 use Rattle.block_kernels.proofs.Filled.{block-filled}
 
 -- ---- one more element

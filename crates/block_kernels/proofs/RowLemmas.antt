@@ -2,15 +2,14 @@
 use Rattle.std.proofs.Common.{◌≡◌, ◌≢◌, ℕ, zero, suc, ◌+◌, ◌-◌, ◌*◌, ◌<◌, ◌≤◌, ◌^◌, min, List, [], ◌∷◌, ◌++◌, length, get_or, take, drop, refl, ap, sym, subst, ◌∙◌, arith, add-one, ℤ, pos, Some, None, Ok, Err, inl, inr}
 use Rattle.std.specs.Prelude.{Option}
 use Rattle.std.proofs.lemmas.Bool.{cases_lt}
-use Rattle.std.proofs.lemmas.List.{take-append-drop, get_or_append_left, length-take-le}
+use Rattle.std.proofs.lemmas.List.{take-append-drop}
 use Rattle.nd_shape.specs.Shape.{elements}
-use Rattle.nd_shape.specs.Index.{index_at}
 use Rattle.nd_grid.specs.Grid.{Grid, block_of, cells_up_to}
 use Rattle.nd_grid.specs.Computed.{FailsAs}
 use Rattle.nd_grid.specs.declared.formula.Fail.{Fail}
 use Rattle.nd_grid.specs.declared.formula.Fail.TheVariants.{ZeroDivide, OutOfMemory}
 use Rattle.nd_grid.proofs.Cells.{cells-none, cells-more, block-missing}
-use Rattle.block_kernels.specs.Rows.{at_place, Fills, Misses, FillsAll, MissesFirst, row_count, row_length, FailsFirst}
+use Rattle.block_kernels.specs.Rows.{at_place, Misses, FillsAll, MissesFirst, row_count, row_length, FailsFirst}
 use Rattle.block_kernels.proofs.Filled.{block-filled}
 use Rattle.block_kernels.proofs.Broadcasts.{elements-append}
 

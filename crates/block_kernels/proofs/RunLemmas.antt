@@ -1,5 +1,5 @@
 -- Rows of operands under rows of the shape that they are broadcast to.
-use Rattle.std.proofs.Common.{◌≡◌, ℕ, zero, suc, ◌+◌, ◌-◌, ◌*◌, ◌<◌, ◌≤◌, cond, Bool, true, false, List, [], ◌∷◌, length, drop, get_or, refl, ap, sym, subst, ◌∙◌, arith, ℤ, pos, Some, inl, inr, ◌⊎◌}
+use Rattle.std.proofs.Common.{◌≡◌, ℕ, ◌+◌, ◌-◌, ◌*◌, ◌<◌, ◌≤◌, cond, Bool, true, false, List, [], ◌∷◌, length, drop, get_or, refl, ap, sym, subst, ◌∙◌, arith, pos, Some, inl, inr}
 use Rattle.std.specs.Prelude.{IsTrue, ◌↔◌}
 use Rattle.std.proofs.lemmas.Nat.{mul-add-lt}
 use Rattle.nd_shape.specs.Block.{Array}
@@ -10,7 +10,7 @@ use Rattle.nd_grid.specs.Grid.{grid_of, under}
 use Rattle.nd_grid.proofs.Under.{under-axes}
 use Rattle.nd_shape.specs.Broadcast.{broadcast, Agree}
 use Rattle.block_kernels.specs.Pairing.{CanPair, CanChoose}
-use Rattle.block_kernels.specs.Rows.{tail, item, FitsRun, HoldsItems, row_count, row_length}
+use Rattle.block_kernels.specs.Rows.{tail, FitsRun, row_count, row_length}
 use Rattle.block_kernels.proofs.Broadcasts.{full-place, flat-place, length-index_at}
 use Rattle.block_kernels.proofs.RowLemmas.{rows-all}
 

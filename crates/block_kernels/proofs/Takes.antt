@@ -1,11 +1,11 @@
 -- Rows of slices and transposes, as their kernels make them.
-use Rattle.std.proofs.Common.{◌≡◌, ℕ, zero, suc, ◌+◌, ◌-◌, ◌*◌, ◌<◌, ◌≤◌, min, List, length, map, get_or, refl, ap, sym, subst, ◌∙◌, arith, ℤ, pos, Some}
+use Rattle.std.proofs.Common.{◌≡◌, ℕ, ◌+◌, ◌-◌, ◌*◌, ◌<◌, min, List, length, map, get_or, ap, sym, subst, ◌∙◌, arith, ℤ, pos, Some}
 use Rattle.nd_shape.specs.Block.{Array}
 use Rattle.nd_shape.specs.Shape.{elements}
 use Rattle.nd_shape.specs.Index.{IsIn, place, index_at}
 use Rattle.nd_shape.specs.declared.slice.Steps.{Steps}
 use Rattle.nd_shape.proofs.Places.{index_at-in, place-below}
-use Rattle.nd_grid.specs.Grid.{grid_of, SlicesFit, sliced, sliced_shape, sliced_from, transposed, turned, IsTranspose}
+use Rattle.nd_grid.specs.Grid.{grid_of, sliced, sliced_shape, sliced_from, transposed, turned}
 use Rattle.nd_grid.proofs.Slicing.{sliced-in}
 use Rattle.nd_grid.proofs.Turning.{turned-in}
 use Rattle.block_kernels.specs.Rows.{Fills, row_count, row_length}

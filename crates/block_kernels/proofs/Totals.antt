@@ -1,5 +1,5 @@
 -- Loops that fold cells into totals.
-use Rattle.std.proofs.Common.{◌≡◌, ◌≢◌, ℕ, zero, suc, ◌+◌, ◌*◌, ◌<◌, ◌≤◌, List, [], ◌∷◌, ◌++◌, length, set, map, get_or, refl, ap, sym, subst, ◌∙◌, arith, ℤ, pos, Some, inl, inr, below_more, add-one}
+use Rattle.std.proofs.Common.{◌≡◌, ◌≢◌, ℕ, suc, ◌+◌, ◌*◌, ◌<◌, ◌≤◌, List, [], ◌∷◌, length, set, map, get_or, refl, ap, sym, subst, ◌∙◌, arith, ℤ, pos, Some, inl, inr, below_more}
 use Rattle.std.specs.Prelude.{Option}
 use Rattle.std.specs.List.{range_with_len}
 use Rattle.std.proofs.Math.Nat.{mul-le-mul_left, mul_comm}

@@ -1,5 +1,5 @@
 -- Products over paired axes as products of matrices.
-use Rattle.std.specs.Prelude.{◌≡◌, ℕ, ◌+◌, ◌*◌, ◌/◌, ◌%◌, ◌<◌, ◌≤◌, ◌++◌, List, [], map, length, slice_index_or, ℤ, pos, ◌*ℤ◌, Option, Some, Ok}
+use Rattle.std.specs.Prelude.{◌≡◌, ℕ, ◌+◌, ◌*◌, ◌/◌, ◌%◌, ◌<◌, ◌≤◌, ◌++◌, List, [], map, slice_index_or, ℤ, pos, ◌*ℤ◌, Option, Some, Ok}
 use Rattle.std.specs.List.{range_with_len}
 use Rattle.nd_shape.specs.Block.{Array}
 use Rattle.nd_shape.specs.Shape.{elements}

@@ -1,5 +1,5 @@
 -- Rows: what the last axes of an array hold, for one index of its first axes.
-use Rattle.std.specs.Prelude.{◌≡◌, ◌≢◌, ℕ, ◌+◌, ◌-◌, ◌*◌, ◌<◌, ◌≤◌, ◌⊎◌, Bool, cond, List, length, take, drop, get_or, Option, Some, None, ℤ, pos}
+use Rattle.std.specs.Prelude.{◌≡◌, ◌≢◌, ℕ, ◌+◌, ◌-◌, ◌<◌, ◌≤◌, ◌⊎◌, Bool, cond, List, length, take, drop, get_or, Option, Some, None, ℤ, pos}
 use Rattle.nd_shape.specs.Shape.{elements}
 use Rattle.nd_shape.specs.Index.{index_at}
 use Rattle.nd_grid.specs.Grid.{Grid}

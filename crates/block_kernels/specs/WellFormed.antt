@@ -2,7 +2,7 @@
 use Rattle.std.specs.Prelude.{◌≡◌, ◌≢◌, ℕ, ◌+◌, ◌<◌, List, [], ◌∷◌, length, map, cond, get_or, slice_index_or, All}
 use Rattle.nd_shape.specs.Shape.{IsShape}
 use Rattle.nd_shape.specs.Index.{IsIn}
-use Rattle.nd_shape.specs.Region.{Box, IsPart}
+use Rattle.nd_shape.specs.Region.{IsPart}
 use Rattle.nd_shape.specs.Broadcast.{broadcast, Agree}
 use Rattle.nd_shape.specs.declared.region.Piece.{Piece}
 use Rattle.nd_shape.specs.declared.slice.Steps.{Steps}

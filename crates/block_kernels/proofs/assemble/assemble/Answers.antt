@@ -1,4 +1,4 @@
-use Rattle.std.proofs.Common.{arith, ◌≡◌, ◌∙◌, sym, ap, length, List, ℕ, Ok}
+use Rattle.std.proofs.Common.{◌∙◌, sym, ap, List, ℕ, Ok}
 use Rattle.std.proofs.lemmas.List.{length-map}
 use Rattle.nd_shape.specs.Block.{Array}
 use Rattle.block_kernels.specs.Inputs.{blocks_of, shapes_of}

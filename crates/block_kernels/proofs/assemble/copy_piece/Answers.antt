@@ -1,4 +1,4 @@
-use Rattle.std.proofs.Common.{arith, ◌≡◌, ◌∙◌, sym, ap, subst}
+use Rattle.std.proofs.Common.{arith, ◌∙◌, sym, ap, subst}
 use Rattle.nd_shape.specs.Shape.{elements}
 use Rattle.nd_shape.specs.Region.{IsPart}
 use Rattle.nd_shape.proofs.Axes.{part-shape}

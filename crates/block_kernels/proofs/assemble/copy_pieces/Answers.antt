@@ -1,4 +1,4 @@
-use Rattle.std.proofs.Common.{arith, ◌≡◌, ◌-◌, ◌<◌, ◌∙◌, sym, ap, subst, length, drop}
+use Rattle.std.proofs.Common.{arith, ◌≡◌, ◌-◌, sym, subst, drop}
 use Rattle.std.specs.Arc.{arc_value}
 use Rattle.std.proofs.lemmas.List.{length-map}
 use Rattle.nd_shape.specs.Block.{Array}

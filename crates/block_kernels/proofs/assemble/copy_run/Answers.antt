@@ -1,4 +1,4 @@
-use Rattle.std.proofs.Common.{arith, refl}
+use Rattle.std.proofs.Common.{arith}
 use Rattle.block_kernels.proofs.Assembling.{copied-put}
 use Rattle.block_kernels.proofs.assemble.copy_run.Goals as goal
 

@@ -1,4 +1,4 @@
-use Rattle.std.proofs.Common.{arith, ◌≡◌, ◌+◌, ◌-◌, ◌≤◌, ◌<◌, ◌^◌, ◌∙◌, sym, ap, subst, length, drop}
+use Rattle.std.proofs.Common.{arith, ◌≡◌, ◌-◌, ◌≤◌, ◌<◌, ◌^◌, sym, ap, subst, length, drop}
 use Rattle.nd_shape.specs.Shape.{elements}
 use Rattle.block_kernels.specs.Assembling.{Lies, Runs}
 use Rattle.block_kernels.proofs.Assembling.{lies-start, lies-step, lies-small}

@@ -1,5 +1,5 @@
-use Rattle.std.proofs.Common.{◌≡◌, ℕ, ◌+◌, ◌*◌, ◌<◌, List, length, get_or, cond, ap, sym, subst, ◌∙◌, arith, ℤ, pos, Some, Bool}
-use Rattle.nd_shape.specs.Index.{IsIn, place, index_at}
+use Rattle.std.proofs.Common.{◌≡◌, ℕ, ◌+◌, ◌*◌, List, length, get_or, cond, ap, sym, ◌∙◌, arith, ℤ, pos, Some, Bool}
+use Rattle.nd_shape.specs.Index.{place, index_at}
 use Rattle.nd_shape.proofs.Places.{index_at-in}
 use Rattle.nd_grid.specs.Grid.{under}
 use Rattle.block_kernels.specs.Rows.{item}

@@ -1,4 +1,4 @@
-use Rattle.std.proofs.Common.{arith, rules, refl, subst, ◌≡◌, ◌∙◌, ◌+◌, ◌*◌, length, get_or, pos, w64, to_z, of_z}
+use Rattle.std.proofs.Common.{arith, rules, refl, subst, ◌≡◌, ◌+◌, ◌*◌, get_or, pos, w64}
 use Rattle.std.proofs.lemmas.Int.{to_z-of_z}
 use mir.Val.{SFits}
 use Rattle.block_kernels.specs.Contracting.{AddsRow, AddsProducts}

@@ -1,4 +1,4 @@
-use Rattle.std.proofs.Common.{arith, ◌≡◌, ◌∙◌, ◌*◌, sym, ap, subst, length}
+use Rattle.std.proofs.Common.{◌∙◌, ◌*◌, ap, subst}
 use Rattle.nd_shape.specs.Shape.{elements}
 use Rattle.block_kernels.specs.Contracting.{IsProduct}
 use Rattle.block_kernels.proofs.Contracting.{IsKeptRows, IsPairedRows, contracted-filled}

@@ -1,4 +1,4 @@
-use Rattle.std.proofs.Common.{arith, refl, subst, ◌≡◌, ◌∙◌, ◌*◌, length}
+use Rattle.std.proofs.Common.{arith, refl, subst, ◌≡◌, ◌*◌}
 use Rattle.block_kernels.specs.Contracting.{IsProduct}
 use Rattle.block_kernels.proofs.Contracting.{all-zeros, multiplied-none, multiplied-more}
 use Rattle.block_kernels.proofs.Totals.{part-room}

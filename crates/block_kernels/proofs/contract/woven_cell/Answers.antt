@@ -1,4 +1,4 @@
-use Rattle.std.proofs.Common.{arith, ap, sym, subst, ◌∙◌, ◌≡◌, length, map, get_or, w64, Some}
+use Rattle.std.proofs.Common.{arith, ap, sym, subst, ◌∙◌, length, get_or, w64, Some}
 use Rattle.std.proofs.lemmas.Int.{to_z-of_z}
 use mir.Val.{SFits}
 use Rattle.std.proofs.lemmas.List.{length-map}

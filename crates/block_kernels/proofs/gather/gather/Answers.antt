@@ -1,4 +1,4 @@
-use Rattle.std.proofs.Common.{◌≡◌, ℕ, ◌+◌, ◌*◌, ◌<◌, length, get_or, ap, sym, subst, ◌∙◌, pos}
+use Rattle.std.proofs.Common.{ℕ, ◌<◌, length, get_or, ap, sym, subst, ◌∙◌, pos}
 use Rattle.block_kernels.proofs.Spots.{down-below, down-place, up-spot}
 use Rattle.block_kernels.proofs.gather.gather.Goals as goal
 

@@ -1,5 +1,5 @@
 use Rattle.std.proofs.Common.{arith, refl}
-use Rattle.block_kernels.specs.Viewing.{Extends, folds, lengthens, surrounds}
+use Rattle.block_kernels.specs.Viewing.{folds, lengthens, surrounds}
 use Rattle.block_kernels.proofs.Viewing.{factors-small}
 use Rattle.block_kernels.proofs.reduce.extended.Goals as goal
 

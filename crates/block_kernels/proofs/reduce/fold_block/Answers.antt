@@ -1,4 +1,4 @@
-use Rattle.std.proofs.Common.{arith, ap, sym, subst, length, ◌∙◌, ◌≡◌, ◌*◌}
+use Rattle.std.proofs.Common.{arith, ap, subst, length, ◌∙◌}
 use Rattle.nd_shape.specs.Shape.{elements}
 use Rattle.block_kernels.specs.Viewing.{IsView}
 use Rattle.block_kernels.proofs.Viewing.{view-taken, view-cells, view-room}

@@ -1,4 +1,4 @@
-use Rattle.std.proofs.Common.{arith, ◌≡◌, ◌∙◌, sym, ap, subst, length, Some}
+use Rattle.std.proofs.Common.{arith, ◌∙◌, sym, ap, subst, Some}
 use Rattle.nd_shape.specs.Block.{Array}
 use Rattle.nd_grid.specs.Grid.{kept_shape}
 use Rattle.block_kernels.specs.Reducing.{TakesBlock}

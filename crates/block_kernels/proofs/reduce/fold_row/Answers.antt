@@ -1,4 +1,4 @@
-use Rattle.std.proofs.Common.{arith, rules, refl, ap, subst, ◌≡◌, ◌∙◌, ◌+◌, ◌<◌, length, length-set, get_or, pos, w64, to_z, of_z}
+use Rattle.std.proofs.Common.{arith, rules, refl, ap, subst, ◌≡◌, ◌∙◌, ◌+◌, length-set, get_or, pos, w64, to_z, of_z}
 use Rattle.std.proofs.lemmas.Int.{to_z-of_z}
 use mir.Val.{SFits}
 use Rattle.nd_grid.specs.Operation.{fold_two}

@@ -1,4 +1,4 @@
-use Rattle.std.proofs.Common.{arith, refl, subst, ◌∙◌, ◌≡◌, length}
+use Rattle.std.proofs.Common.{arith, refl, subst, ◌≡◌}
 use Rattle.block_kernels.specs.Reducing.{TakesRows}
 use Rattle.block_kernels.proofs.Totals.{rows-none, rows-more, row-room}
 use Rattle.block_kernels.proofs.reduce.fold_rows.Goals as goal

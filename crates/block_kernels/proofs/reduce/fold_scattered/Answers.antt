@@ -1,4 +1,4 @@
-use Rattle.std.proofs.Common.{arith, ap, sym, subst, length, ◌∙◌, ◌≡◌}
+use Rattle.std.proofs.Common.{ap, sym, subst, length, ◌∙◌, ◌≡◌}
 use Rattle.nd_shape.specs.Shape.{elements, IsShape}
 use Rattle.nd_grid.specs.Grid.{grid_of, block_of, folded_shape, reduced}
 use Rattle.nd_grid.specs.Computed.{FailsAs}

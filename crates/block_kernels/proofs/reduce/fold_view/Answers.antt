@@ -1,4 +1,4 @@
-use Rattle.std.proofs.Common.{arith, refl, length, ◌∙◌}
+use Rattle.std.proofs.Common.{arith, refl}
 use Rattle.block_kernels.proofs.Totals.{parts-none, parts-more, view-end, part-room, part-cells}
 use Rattle.block_kernels.proofs.reduce.fold_view.Goals as goal
 

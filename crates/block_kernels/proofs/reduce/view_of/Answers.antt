@@ -1,4 +1,4 @@
-use Rattle.std.proofs.Common.{arith, subst, ◌≡◌, ◌+◌, ◌-◌, ◌<◌, length, drop}
+use Rattle.std.proofs.Common.{arith, subst, ◌≡◌, ◌-◌, drop}
 use Rattle.block_kernels.specs.Viewing.{IsView}
 use Rattle.block_kernels.proofs.Viewing.{view-start, view-bounds, view-step}
 use Rattle.block_kernels.proofs.reduce.view_of.Goals as goal

@@ -1,7 +1,7 @@
-use Rattle.std.proofs.Common.{◌≡◌, ℕ, ◌+◌, ◌*◌, ◌^◌, ◌<◌, ◌≤◌, min, List, length, take, drop, ap, sym, subst, ◌∙◌, arith, ℤ}
+use Rattle.std.proofs.Common.{◌≡◌, ℕ, ◌+◌, ◌^◌, min, take, drop, ap, sym, subst, ◌∙◌, arith}
 use Rattle.nd_shape.specs.Shape.{elements}
 use Rattle.block_kernels.specs.Rows.{row_count, row_length, FillsAll, MissesFirst}
-use Rattle.block_kernels.proofs.RowLemmas.{AreRows, are-rows}
+use Rattle.block_kernels.proofs.RowLemmas.{are-rows}
 use Rattle.block_kernels.proofs.Parts.{take-front}
 use Rattle.block_kernels.proofs.rows.cells_of.Goals as goal
 

@@ -1,4 +1,4 @@
-use Rattle.std.proofs.Common.{◌∙◌, ap, sym, subst, w64, rules}
+use Rattle.std.proofs.Common.{◌∙◌, ap, subst, w64, rules}
 use mir.Val.{SFits}
 use Rattle.nd_shape.specs.Shape.{IsShape}
 use Rattle.block_kernels.specs.declared.spec.Spec.{Spec}
@@ -84,3 +84,9 @@ returns-in-Fill-clause-err c = λ files.
     let fa : SFits w64 c.in-Fill.start = search rules in
     let fs : SFits w64 c.in-Fill.step = search rules in
     rw c.in-Fill.is (slope-err c.in-Fill.region c.in-Fill.dims c.in-Fill.start c.in-Fill.step c.fill.result fa fs c.fill.ensures.err)
+
+pub returns-in-Contract-clause-ok : goal.returns-in-Contract-clause-ok
+returns-in-Contract-clause-ok c = λ files. rw c.in-Contract.is c.run_contract.ensures.ok
+
+pub returns-in-Contract-clause-err : goal.returns-in-Contract-clause-err
+returns-in-Contract-clause-err c = λ files. rw c.in-Contract.is c.run_contract.ensures.err

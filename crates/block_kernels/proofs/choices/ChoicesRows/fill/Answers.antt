@@ -1,4 +1,4 @@
-use Rattle.std.proofs.Common.{◌≡◌, ℕ, ◌*◌, ◌<◌, List, [], ◌∷◌, length, refl, ap, sym, ◌∙◌, arith}
+use Rattle.std.proofs.Common.{◌*◌, [], ◌∷◌, length, refl, ap, sym, ◌∙◌, arith}
 use Rattle.nd_shape.specs.Index.{index_at}
 use Rattle.nd_shape.specs.Broadcast.{broadcast}
 use Rattle.block_kernels.proofs.Filling.{row-in, row-first, under-all, choice-fills}

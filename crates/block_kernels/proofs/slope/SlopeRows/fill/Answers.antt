@@ -1,8 +1,6 @@
-use Rattle.std.proofs.Common.{◌≡◌, ℕ, ◌+◌, ◌*◌, ◌^◌, ◌<◌, ◌≤◌, List, length, get_or, ap, sym, subst, ◌∙◌, arith, rules, ℤ, pos, ◌+ℤ◌, ◌*ℤ◌}
-use Rattle.nd_shape.specs.Shape.{elements}
+use Rattle.std.proofs.Common.{◌≡◌, ℕ, ◌+◌, ◌*◌, ◌^◌, ◌<◌, List, length, get_or, ap, sym, subst, ◌∙◌, arith, rules}
 use Rattle.nd_shape.specs.Index.{IsIn, place, index_at}
 use Rattle.nd_shape.specs.Region.{moved}
-use Rattle.nd_grid.specs.Int64.{wrap}
 use Rattle.nd_grid.proofs.Turning.{moved-in, moved-small}
 use Rattle.block_kernels.proofs.Filling.{row-in, row-first, row-short, slope-fills, slope-made}
 use Rattle.block_kernels.proofs.slope.SlopeRows.fill.Goals as goal

@@ -1,7 +1,7 @@
-use Rattle.std.proofs.Common.{◌≡◌, ℕ, ◌*◌, ◌<◌, List, length, map, get_or, ap, sym, subst, ◌∙◌, arith, ℤ}
+use Rattle.std.proofs.Common.{ℕ, ◌<◌, List, length, ap, sym, subst, ◌∙◌, arith, ℤ}
 use Rattle.nd_shape.specs.Shape.{elements}
 use Rattle.nd_shape.specs.Index.{place, index_at}
-use Rattle.nd_grid.specs.Grid.{sliced_shape, sliced_from, turned}
+use Rattle.nd_grid.specs.Grid.{sliced_shape, sliced_from}
 use Rattle.block_kernels.specs.Gathers.{IsRow}
 use Rattle.block_kernels.proofs.Filling.{row-first}
 use Rattle.block_kernels.proofs.Takes.{row-next, taken, taken-fills}
