@@ -12,4 +12,3 @@ pub record Core : Type 0 where
 -- the facts of a core
 abbrev pub facts : Core → Facts
 facts c = facts_of c.stored
-
