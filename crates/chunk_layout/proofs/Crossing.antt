@@ -1,22 +1,21 @@
 -- The pieces of a plan, chunk by chunk along an axis, and axis by axis.
-use Rattle.std.proofs.Common.{◌≡◌, ◌≢◌, ℕ, zero, suc, ◌+◌, ◌-◌, ◌*◌, ◌<◌, ◌≤◌, ◌^◌, min, cond, List, [], ◌∷◌, ◌++◌, append_assoc, append-nil, length, get_or, map, take, drop, refl, ap, sym, subst, ◌∙◌, arith, inl, inr}
-use Rattle.std.specs.Prelude.{nat_lt, max}
+use Rattle.std.proofs.Common.{◌≡◌, ◌≢◌, ℕ, zero, suc, ◌+◌, ◌-◌, ◌*◌, ◌<◌, ◌≤◌, ◌^◌, min, List, [], ◌∷◌, ◌++◌, append_assoc, append-nil, length, get_or, map, take, drop, refl, ap, sym, subst, ◌∙◌, arith, inl, inr}
+use Rattle.std.specs.Prelude.{max}
 use Rattle.std.specs.List.{flat_map}
 use Rattle.std.proofs.lemmas.Grind.{flat_map-append}
 use Rattle.std.proofs.lemmas.List.{drop_more, drop_all, take_all, length_push, map-append, length-map}
 use Rattle.std.proofs.lemmas.Bool.{cases_lt, cases_eq}
 use Rattle.nd_shape.specs.declared.region.Piece.{Piece}
 use Rattle.nd_shape.specs.Index.{IsIn, place}
-use Rattle.nd_shape.specs.Region.{Box}
 use Rattle.nd_shape.specs.Chunk.{total}
 use Rattle.nd_shape.specs.Shape.{elements}
 use Rattle.nd_shape.proofs.Totals.{total-more, total-ge}
 use Rattle.chunk_layout.specs.Layouts.{counts, lengths, blocks, chunk_of}
-use Rattle.chunk_layout.specs.Cuts.{AllSome, IsCut, AllCut, AreStarts, IsLayout}
-use Rattle.chunk_layout.specs.Plans.{Overlap, with_overlap, overlaps_from, overlaps, overlaps_at, tuples, chunks_in, from_box, to_box, piece, parts}
+use Rattle.chunk_layout.specs.Cuts.{AllSome, AllCut, AreStarts, IsLayout}
+use Rattle.chunk_layout.specs.Plans.{Overlap, with_overlap, overlaps_from, overlaps, chunks_in, piece, parts}
 use Rattle.chunk_layout.specs.Crossings.{extended, IsOpen, AllOpen, HasElements, pieces_at}
 use Rattle.chunk_layout.proofs.Parting.{total-before, in-chunk, InChunk}
-use Rattle.chunk_layout.proofs.Cutting.{blocks-cut, count-small}
+use Rattle.chunk_layout.proofs.Cutting.{blocks-cut}
 
 -- ---- along an axis
 

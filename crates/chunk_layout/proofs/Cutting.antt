@@ -1,6 +1,6 @@
 -- Sizes that cut an axis, their running sums, and what is known of all axes.
 use Rattle.std.proofs.Common.{◌≡◌, ◌≢◌, ℕ, zero, suc, ◌+◌, ◌*◌, ◌/◌, ◌%◌, ◌<◌, ◌≤◌, ◌^◌, cond, List, [], ◌∷◌, ◌++◌, length, get_or, take, replicate, refl, ap, sym, subst, ◌∙◌, arith, inl, inr, lit≤}
-use Rattle.std.specs.Prelude.{All, nat_eq, ◌⊎◌}
+use Rattle.std.specs.Prelude.{nat_eq}
 use Rattle.std.proofs.lemmas.List.{get_or_append_left, get_or_push}
 use Rattle.std.proofs.lemmas.Bool.{cases_eq, cases_lt}
 use Rattle.nd_shape.specs.declared.chunk.ChunkSpec.{ChunkSpec}
@@ -8,8 +8,8 @@ use Rattle.nd_shape.specs.declared.chunk.ChunkSpec.TheVariants.{Even, List as Li
 use Rattle.nd_shape.specs.Shape.{elements}
 use Rattle.nd_shape.specs.Chunk.{total, even_chunks, chunks_of, CanCut}
 use Rattle.nd_shape.proofs.Totals.{total-more, total-chunks_of}
-use Rattle.chunk_layout.specs.Layouts.{counts, lengths, blocks}
-use Rattle.chunk_layout.specs.Cuts.{AllSome, IsCut, AllCut, AreStarts}
+use Rattle.chunk_layout.specs.Layouts.{lengths, blocks}
+use Rattle.chunk_layout.specs.Cuts.{AllSome, IsCut, AllCut}
 
 -- ---- running sums
 

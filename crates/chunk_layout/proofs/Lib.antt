@@ -7,3 +7,5 @@ pub mod Normals
 pub mod Folding
 pub mod Merging
 pub mod Crossing
+pub mod Running
+pub mod Taking

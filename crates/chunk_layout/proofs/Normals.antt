@@ -1,17 +1,15 @@
 -- Steps of the loops that cut the axes of an array as it is asked for.
-use Rattle.std.proofs.Common.{◌≡◌, ◌≢◌, ℕ, zero, suc, ◌+◌, ◌*◌, ◌<◌, ◌≤◌, ◌^◌, ◌-◌, min, List, [], ◌∷◌, ◌++◌, append_assoc, append-nil, length, get_or, take, drop, refl, ap, sym, subst, ◌∙◌, arith, inl, inr, Some}
+use Rattle.std.proofs.Common.{◌≡◌, ℕ, zero, suc, ◌+◌, ◌*◌, ◌<◌, ◌^◌, ◌-◌, min, List, [], ◌∷◌, ◌++◌, append_assoc, length, get_or, take, drop, refl, ap, sym, subst, ◌∙◌, arith, inl, inr, Some}
 use Rattle.std.specs.Prelude.{slice_get}
 use Rattle.std.proofs.Math.Numerals.{add-one}
-use Rattle.std.proofs.lemmas.List.{drop_more, take_more, map_push, get_or_read}
+use Rattle.std.proofs.lemmas.List.{drop_more, take_more, map_push}
 use Rattle.std.proofs.lemmas.Option.{get_or_from_slice_get}
 use Rattle.std.proofs.lemmas.Bool.{cases_lt}
 use Rattle.nd_shape.specs.declared.chunk.ChunkSpec.{ChunkSpec}
-use Rattle.nd_shape.specs.Shape.{IsShape}
 use Rattle.nd_shape.specs.Chunk.{total, chunks_of, CanCut}
-use Rattle.nd_shape.proofs.Totals.{total-chunks_of}
 use Rattle.chunk_layout.specs.Layouts.{normalized, lengths, blocks}
 use Rattle.chunk_layout.specs.Cuts.{IsCut, AllCut}
-use Rattle.chunk_layout.proofs.Cutting.{all_cut-push, is_cut-chunks}
+use Rattle.chunk_layout.proofs.Cutting.{all_cut-push}
 use Rattle.chunk_layout.proofs.Numbering.{blocks-push, held}
 
 -- one axis more

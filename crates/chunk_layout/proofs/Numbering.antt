@@ -1,18 +1,17 @@
 -- Steps of the loops over the axes of a layout: its number of blocks, the numbers of a block's chunks, the number of a block.
-use Rattle.std.proofs.Common.{◌≡◌, ℕ, zero, suc, ◌+◌, ◌-◌, ◌*◌, ◌/◌, ◌%◌, ◌<◌, ◌≤◌, ◌^◌, min, List, [], ◌∷◌, ◌++◌, append_assoc, length, get_or, set, take, drop, refl, ap, sym, subst, ◌∙◌, arith, inl, inr}
-use Rattle.std.proofs.Math.Numerals.{add-one}
+use Rattle.std.proofs.Common.{◌≡◌, ℕ, zero, suc, ◌+◌, ◌-◌, ◌*◌, ◌/◌, ◌%◌, ◌<◌, ◌≤◌, ◌^◌, min, List, [], ◌∷◌, ◌++◌, append_assoc, length, get_or, set, take, drop, refl, ap, sym, ◌∙◌, arith, inl, inr}
 use Rattle.std.proofs.Math.Nat.{mul_comm}
 use Rattle.std.proofs.lemmas.List.{drop_more, take_more, drop-set, drop_all, length-map, map_push}
 use Rattle.std.proofs.lemmas.Nat.{mul-add-lt, div-mul-add, mod-mul-add, div-add-mod', div_below, mod_below}
 use Rattle.std.proofs.lemmas.Bool.{cases_lt}
 use Rattle.nd_shape.specs.Shape.{elements}
-use Rattle.nd_shape.specs.Index.{IsIn, place, index_at}
+use Rattle.nd_shape.specs.Index.{IsIn, index_at}
 use Rattle.nd_shape.specs.Chunk.{total}
 use Rattle.nd_shape.proofs.Places.{along-bound, elements-pos, elements-pos_in, IsIn-length}
 use Rattle.nd_shape.proofs.Totals.{total-more}
 use Rattle.chunk_layout.specs.Layouts.{counts, lengths, blocks, chunk_of, block_of}
 use Rattle.chunk_layout.specs.Cuts.{AreStarts, IsLayout}
-use Rattle.chunk_layout.proofs.Parting.{in-region, chunk_of-at, total-before}
+use Rattle.chunk_layout.proofs.Parting.{in-region, chunk_of-at}
 use Rattle.chunk_layout.proofs.Cutting.{blocks-cut}
 
 -- ---- products

@@ -6,3 +6,4 @@ pub mod Trees
 pub mod Cuts
 pub mod Refusals
 pub mod Crossings
+pub mod Slicing

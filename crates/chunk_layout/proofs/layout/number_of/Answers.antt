@@ -1,4 +1,4 @@
-use Rattle.std.proofs.Common.{rules, arith, ◌≡◌, ◌+◌, ◌*◌, ◌<◌, ◌^◌, ap, [], length, get_or}
+use Rattle.std.proofs.Common.{arith, ◌≡◌, ◌+◌, ◌*◌, ◌<◌, ◌^◌, [], length, get_or}
 use Rattle.std.proofs.lemmas.List.{get_or_read}
 use Rattle.chunk_layout.specs.Layouts.{chunk_of}
 use Rattle.chunk_layout.proofs.Numbering.{number-fits, number-end}

@@ -1,7 +1,6 @@
 use Rattle.std.proofs.Common.{◌≡◌, ◌+◌, ◌*◌, drop}
-use Rattle.nd_shape.specs.Shape.{elements}
-use Rattle.nd_shape.specs.Index.{IsIn, place}
-use Rattle.chunk_layout.specs.Layouts.{counts, chunks_at, lengths, block_of, blocks}
+use Rattle.nd_shape.specs.Index.{IsIn}
+use Rattle.chunk_layout.specs.Layouts.{lengths, block_of, blocks}
 use Rattle.chunk_layout.proofs.layout.number_of.Given as goal
 
 abbrev pub invariant-loop-axis : goal.invariant-loop-axis

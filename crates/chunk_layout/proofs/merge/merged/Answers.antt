@@ -1,4 +1,4 @@
-use Rattle.std.proofs.Common.{arith, ◌≡◌, ◌<◌, ◌≤◌, ◌+◌, ◌-◌, ◌^◌, ℕ, ap, ◌∙◌, cond}
+use Rattle.std.proofs.Common.{arith, ◌<◌, ◌≤◌, ◌+◌, ◌-◌, ◌^◌, ℕ, ap, ◌∙◌, cond}
 use Rattle.std.specs.Prelude.{nat_eq}
 use Rattle.nd_shape.specs.Chunk.{total}
 use Rattle.chunk_layout.proofs.Merging.{merge-end, merged-more, merged-end}

@@ -1,4 +1,4 @@
-use Rattle.std.proofs.Common.{rules, arith, ◌≡◌, ◌≤◌, ◌^◌, ◌∙◌, sym, ap, subst, get_or}
+use Rattle.std.proofs.Common.{arith, ◌≡◌, ◌∙◌, sym, ap, subst, get_or}
 use Rattle.nd_shape.specs.Chunk.{total, chunks_of}
 use Rattle.chunk_layout.specs.Cuts.{IsCut}
 use Rattle.chunk_layout.proofs.Cutting.{is_cut-chunks}

@@ -1,4 +1,4 @@
-use Rattle.std.proofs.Common.{arith, ◌≡◌, ◌<◌, ◌≤◌, ◌^◌, [], length, get_or, ap, ◌∙◌, sym}
+use Rattle.std.proofs.Common.{arith, ◌≡◌, ◌<◌, ◌≤◌, ◌^◌, [], length, get_or, ap, ◌∙◌}
 use Rattle.std.proofs.lemmas.List.{get_or_read}
 use Rattle.chunk_layout.proofs.Crossing.{number-there}
 use Rattle.chunk_layout.proofs.Cutting.{count-small}
