@@ -38,7 +38,7 @@ IsWhole t = IsCovered t.spec
 abbrev pub AreWhole : List Task → Type 0
 AreWhole tasks = AllByRecursion IsWhole tasks
 
-all-below : (P : Task → Type 0) (f : ℕ → Task) (a n : ℕ) → ((c : ℕ) → c < a + n → P (f c)) → AllByRecursion P (map f (range_with_len a n))
+pub all-below : (P : Task → Type 0) (f : ℕ → Task) (a n : ℕ) → ((c : ℕ) → c < a + n → P (f c)) → AllByRecursion P (map f (range_with_len a n))
 all-below P f a zero h = tt
 all-below P f a (suc n) h = (h a (omega arith), all-below P f (a + 1) n (λ c l. h c (omega arith)))
 

@@ -52,12 +52,12 @@ some-chunks zero spec h = omega arith
 some-chunks (suc n) spec h = some-total (chunks_of (suc n) spec) (omega (arith, total-chunks (suc n) spec h))
 
 -- each axis can be cut
-abbrev CanCutAll : List ℕ → List ChunkSpec → Type 0
+abbrev pub CanCutAll : List ℕ → List ChunkSpec → Type 0
 CanCutAll [] specs = Unit {0}
 CanCutAll (n ∷ ns) [] = ⊥
 CanCutAll (n ∷ ns) (s ∷ specs) = CanCut n s × CanCutAll ns specs
 
-can-cut : (ns : List ℕ) (specs : List ChunkSpec) → length specs ≡ length ns → ((k : ℕ) (spec : ChunkSpec) → slice_get specs k ≡ Some spec → CanCut (get_or ns k 0) spec) → CanCutAll ns specs
+pub can-cut : (ns : List ℕ) (specs : List ChunkSpec) → length specs ≡ length ns → ((k : ℕ) (spec : ChunkSpec) → slice_get specs k ≡ Some spec → CanCut (get_or ns k 0) spec) → CanCutAll ns specs
 can-cut [] specs e h = tt
 can-cut (n ∷ ns) [] e h = absurd (omega arith)
 can-cut (n ∷ ns) (s ∷ specs) e h = (h 0 s refl, can-cut ns specs (omega arith) (λ k spec is. h (suc k) spec is))

@@ -1,5 +1,5 @@
 -- The inputs of reductions and products have the shapes that their dependencies make.
-use Rattle.std.proofs.Common.{◌≡◌, ℕ, zero, suc, ◌+◌, ◌-◌, ◌*◌, ◌<◌, ◌≤◌, cond, Bool, true, false, List, [], ◌∷◌, ◌++◌, length, map, drop, get_or, refl, ap, sym, subst, ◌∙◌, arith, replicate, append-nil}
+use Rattle.std.proofs.Common.{◌≡◌, ℕ, zero, suc, ◌+◌, ◌-◌, ◌*◌, ◌<◌, ◌≤◌, List, [], ◌∷◌, ◌++◌, length, map, drop, get_or, refl, ap, sym, subst, ◌∙◌, arith, replicate, append-nil}
 use Rattle.std.specs.List.{AllByRecursion, range_with_len, flat_map}
 use Rattle.std.proofs.lemmas.List.{get_or-map}
 use Rattle.std.proofs.lemmas.List.FromFn.{length-map-range_with_len, get_or-map-range_with_len}
@@ -16,7 +16,7 @@ use Rattle.block_kernels.specs.declared.spec.Spec.TheVariants as kernels
 use Rattle.block_kernels.specs.Kernels.{result_shape}
 use Rattle.task_graph.specs.declared.graph.Task.{Task}
 use Rattle.task_graph.specs.Graphs.{task, task_at, no_task}
-use Rattle.lowering_laws.specs.Sources.{Source, Made, key_at, rechunked, same_layout, fitted}
+use Rattle.lowering_laws.specs.Sources.{Source, key_at, fitted}
 use Rattle.std.specs.Prelude.{Contains}
 use Rattle.lowering_laws.specs.Stages.{kept_axes, group_tasks, level_tasks, tree_tasks, tree_count, folded_tasks, folded_each, partial_task, reduced_blocks, Use, keys_used, deps_of_uses, inputs_among, place_among, product_task, product_blocks, contracted_blocks, paired_sizes, with_sizes}
 use Rattle.lowering_laws.specs.Law.{Stand, HaveChunks}
@@ -27,7 +27,7 @@ use Rattle.nd_grid.proofs.Turning.{position-below, position-at}
 use Rattle.lowering_laws.proofs.Under.{drop-counts, IsIn-drop}
 use Rattle.lowering_laws.proofs.Cutting.{chunks-on, some-union}
 use Rattle.task_graph.proofs.Keys.{ascending-has, contains-here, contains-later}
-use Rattle.lowering_laws.proofs.Fitting.{same-layout}
+use Rattle.lowering_laws.proofs.Fitting.{fitted-layout}
 use Rattle.lowering_laws.proofs.Products.{ArePaired, Weaving, weaving, AreOnce, drop-append, lengths-join, some-elements, length-pairs, pair-at, length-with, with-paired}
 use Rattle.lowering_laws.proofs.GoodFolded.{some-blocks}
 use Rattle.lowering_laws.proofs.FedPoints.{cut-after}
@@ -57,7 +57,7 @@ groups-fed all fold dims at (g ∷ gs) h =
     fed-cons all (task (kernels.Reduce fold [] (replicate g dims)) (range_with_len at g)) (group_tasks fold dims (at + g) gs) (record { inputs = range-make all dims at g (λ k l. h k (omega arith)) })
     (groups-fed all fold dims (at + g) gs (λ k l. let y : at + g + k ≡ at + (g + k) = omega arith in ap (dims_at all) y ∙ h (g + k) (omega arith)))
 
-group-shape : (fold : Fold) (dims : List ℕ) (g : ℕ) → 0 < g → kept_shape 0 (get_or (replicate g dims) 0 []) [] ≡ dims
+pub group-shape : (fold : Fold) (dims : List ℕ) (g : ℕ) → 0 < g → kept_shape 0 (get_or (replicate g dims) 0 []) [] ≡ dims
 group-shape fold dims zero h = absurd (omega arith)
 group-shape fold dims (suc g) h = all-kept 0 dims
 
@@ -146,45 +146,75 @@ cut-reduced all fold axes split s base some two sh stand =
     (λ bs p h lt. (m bs p h lt).kept_is) stand
 
 -- the shape that stands for a key among the inputs is the one that it makes
-input-shape : (all : List Task) (uses : List Use) (k : ℕ) → AllByRecursion (UseFits all) uses → Contains (keys_used uses) k → get_or (inputs_among uses) (place_among uses k) [] ≡ dims_at all k
+pub input-shape : (all : List Task) (uses : List Use) (k : ℕ) → AllByRecursion (UseFits all) uses → Contains (keys_used uses) k → get_or (inputs_among uses) (place_among uses k) [] ≡ dims_at all k
 input-shape all uses k a c =
     let there : Contains (deps_of_uses uses) k = ascending-has (keys_used uses) k c in
     ap (λ nss. get_or nss (place_among uses k) []) (sym (uses-fed all uses a))
     ∙ get_or-map (dims_at all) (deps_of_uses uses) (place_among uses k) 0 [] (position-below (deps_of_uses uses) k there)
     ∙ ap (dims_at all) (position-at (deps_of_uses uses) k there)
 
+-- the blocks of the operands that a partial result of a product takes, and how its task uses them
+abbrev pub own_left : List ℕ → List (List ℕ) → Source → List ℕ → ℕ → List ℕ
+own_left la pairs l bs p = woven 0 (counts l.layout) la bs (index_at (counts pairs) p)
+
+abbrev pub own_right : List ℕ → List ℕ → List (List ℕ) → Source → Source → List ℕ → ℕ → List ℕ
+own_right la ra pairs l r bs p = woven 0 (counts r.layout) ra (drop (length (kept_axes 0 l.layout la)) bs) (index_at (counts pairs) p)
+
+abbrev pub product_uses : List ℕ → List ℕ → List (List ℕ) → Source → Source → List ℕ → ℕ → List Use
+product_uses la ra pairs l r bs p =
+    let own_l = own_left la pairs l bs p in
+    let own_r = own_right la ra pairs l r bs p in
+    record { key = key_at l own_l; shape = lengths_at l.layout own_l } ∷ record { key = key_at r own_r; shape = lengths_at r.layout own_r } ∷ []
+
+pub record IsProduct (all : List Task) (la ra : List ℕ) (pairs : List (List ℕ)) (l r : Source) (bs : List ℕ) (p : ℕ) : Type 0 where
+  pub left_inside : IsIn (counts l.layout) (own_left la pairs l bs p)
+  pub right_inside : IsIn (counts r.layout) (own_right la ra pairs l r bs p)
+  pub left_there : Contains (keys_used (product_uses la ra pairs l r bs p)) (key_at l (own_left la pairs l bs p))
+  pub right_there : Contains (keys_used (product_uses la ra pairs l r bs p)) (key_at r (own_right la ra pairs l r bs p))
+  pub left_is : get_or (inputs_among (product_uses la ra pairs l r bs p)) (place_among (product_uses la ra pairs l r bs p) (key_at l (own_left la pairs l bs p))) [] ≡ lengths_at l.layout (own_left la pairs l bs p)
+  pub right_is : get_or (inputs_among (product_uses la ra pairs l r bs p)) (place_among (product_uses la ra pairs l r bs p) (key_at r (own_right la ra pairs l r bs p))) [] ≡ lengths_at r.layout (own_right la ra pairs l r bs p)
+  pub fed : IsFed all (product_task la ra (counts pairs) l r bs p)
+  pub shape : result_shape (product_task la ra (counts pairs) l r bs p).spec ≡ lengths_at (kept_axes 0 l.layout la ++ kept_axes 0 r.layout ra) bs
+
+pub product-is : (all : List Task) (la ra : List ℕ) (pairs : List (List ℕ)) (l r : Source) → ArePaired 0 la l.layout pairs → ArePaired 0 ra r.layout pairs → IsShaped all l → IsShaped all r
+    → (bs : List ℕ) (p : ℕ) → IsIn (counts (kept_axes 0 l.layout la ++ kept_axes 0 r.layout ra)) bs → p < elements (counts pairs) → IsProduct all la ra pairs l r bs p
+product-is all la ra pairs l r pl pr sl sr bs p inside lt =
+    let kl = kept_axes 0 l.layout la in
+    let kr = kept_axes 0 r.layout ra in
+    let n = length kl in
+    let ts = index_at (counts pairs) p in
+    let tin : IsIn (counts pairs) ts = index_at-in (counts pairs) p lt in
+    let own_l = own_left la pairs l bs p in
+    let own_r = own_right la ra pairs l r bs p in
+    let uses : List Use = product_uses la ra pairs l r bs p in
+    let right-in : IsIn (counts kr) (drop n bs) = subst (λ (xs : List (List ℕ)). IsIn (counts xs) (drop n bs)) (drop-append kl kr) (subst (λ xs. IsIn xs (drop n bs)) (drop-counts n (kl ++ kr)) (IsIn-drop n (counts (kl ++ kr)) bs inside)) in
+    let wl : Weaving 0 la l.layout pairs kr bs ts = weaving 0 la l.layout pairs kr bs ts pl tin inside in
+    let wr : Weaving 0 ra r.layout pairs [] (drop n bs) ts = weaving 0 ra r.layout pairs [] (drop n bs) ts pr tin (subst (λ (xs : List (List ℕ)). IsIn (counts xs) (drop n bs)) (sym (append-nil kr)) right-in) in
+    let fit : AllByRecursion (UseFits all) uses = (sl.at own_l wl.inside, (sr.at own_r wr.inside, tt)) in
+    let first : Contains (keys_used uses) (key_at l own_l) = contains-here (key_at l own_l) (key_at r own_r ∷ []) in
+    let second : Contains (keys_used uses) (key_at r own_r) = contains-later (key_at r own_r) (key_at l own_l) (key_at r own_r ∷ []) (contains-here (key_at r own_r) []) in
+    let x : get_or (inputs_among uses) (place_among uses (key_at l own_l)) [] ≡ lengths_at l.layout own_l = input-shape all uses (key_at l own_l) fit first ∙ sl.at own_l wl.inside in
+    let y : get_or (inputs_among uses) (place_among uses (key_at r own_r)) [] ≡ lengths_at r.layout own_r = input-shape all uses (key_at r own_r) fit second ∙ sr.at own_r wr.inside in
+    record {
+      left_inside = wl.inside;
+      right_inside = wr.inside;
+      left_there = first;
+      right_there = second;
+      left_is = x;
+      right_is = y;
+      fed = record { inputs = uses-fed all uses fit };
+      shape = ap (λ ns. kept_shape 0 ns la ++ kept_shape 0 (get_or (inputs_among uses) (place_among uses (key_at r own_r)) []) ra) x
+          ∙ ap (λ ns. kept_shape 0 (lengths_at l.layout own_l) la ++ kept_shape 0 ns ra) y
+          ∙ ap (λ ns. ns ++ kept_shape 0 (lengths_at r.layout own_r) ra) wl.kept_is
+          ∙ ap (λ ns. lengths_at kl bs ++ ns) wr.kept_is
+          ∙ sym (lengths-join kl kr bs inside);
+    }
+
 pub cut-product : (all : List Task) (la ra : List ℕ) (pairs : List (List ℕ)) (l r : Source) (base : ℕ) → ArePaired 0 la l.layout pairs → ArePaired 0 ra r.layout pairs → ((j : ℕ) → j < length pairs → 0 < length (get_or pairs j [])) → IsShaped all l → IsShaped all r
     → Stand all base (product_blocks la ra (counts pairs) l r base).tasks → IsCut all (product_blocks la ra (counts pairs) l r base)
 cut-product all la ra pairs l r base pl pr some sl sr stand =
     cut-folded all Sum (elements (counts pairs)) 4 (kept_axes 0 l.layout la ++ kept_axes 0 r.layout ra) (product_task la ra (counts pairs) l r) base (some-elements pairs some) (omega arith)
-    (λ bs p inside lt. (parts all la ra pairs l r pl pr sl sr bs p inside lt).0) (λ bs p inside lt. (parts all la ra pairs l r pl pr sl sr bs p inside lt).1) stand
-  where
-    parts : (all : List Task) (la ra : List ℕ) (pairs : List (List ℕ)) (l r : Source) → ArePaired 0 la l.layout pairs → ArePaired 0 ra r.layout pairs → IsShaped all l → IsShaped all r
-        → (bs : List ℕ) (p : ℕ) → IsIn (counts (kept_axes 0 l.layout la ++ kept_axes 0 r.layout ra)) bs → p < elements (counts pairs)
-        → IsFed all (product_task la ra (counts pairs) l r bs p) × (result_shape (product_task la ra (counts pairs) l r bs p).spec ≡ lengths_at (kept_axes 0 l.layout la ++ kept_axes 0 r.layout ra) bs)
-    parts all la ra pairs l r pl pr sl sr bs p inside lt =
-        let kl = kept_axes 0 l.layout la in
-        let kr = kept_axes 0 r.layout ra in
-        let n = length kl in
-        let ts = index_at (counts pairs) p in
-        let tin : IsIn (counts pairs) ts = index_at-in (counts pairs) p lt in
-        let own_l = woven 0 (counts l.layout) la bs ts in
-        let own_r = woven 0 (counts r.layout) ra (drop n bs) ts in
-        let uses : List Use = record { key = key_at l own_l; shape = lengths_at l.layout own_l } ∷ record { key = key_at r own_r; shape = lengths_at r.layout own_r } ∷ [] in
-        let right-in : IsIn (counts kr) (drop n bs) = subst (λ (xs : List (List ℕ)). IsIn (counts xs) (drop n bs)) (drop-append kl kr) (subst (λ xs. IsIn xs (drop n bs)) (drop-counts n (kl ++ kr)) (IsIn-drop n (counts (kl ++ kr)) bs inside)) in
-        let wl : Weaving 0 la l.layout pairs kr bs ts = weaving 0 la l.layout pairs kr bs ts pl tin inside in
-        let wr : Weaving 0 ra r.layout pairs [] (drop n bs) ts = weaving 0 ra r.layout pairs [] (drop n bs) ts pr tin (subst (λ (xs : List (List ℕ)). IsIn (counts xs) (drop n bs)) (sym (append-nil kr)) right-in) in
-        let fit : AllByRecursion (UseFits all) uses = (sl.at own_l wl.inside, (sr.at own_r wr.inside, tt)) in
-        let x : get_or (inputs_among uses) (place_among uses (key_at l own_l)) [] ≡ lengths_at l.layout own_l = input-shape all uses (key_at l own_l) fit (contains-here (key_at l own_l) (key_at r own_r ∷ [])) ∙ sl.at own_l wl.inside in
-        let y : get_or (inputs_among uses) (place_among uses (key_at r own_r)) [] ≡ lengths_at r.layout own_r =
-        input-shape all uses (key_at r own_r) fit (contains-later (key_at r own_r) (key_at l own_l) (key_at r own_r ∷ []) (contains-here (key_at r own_r) [])) ∙ sr.at own_r wr.inside in (
-          record { inputs = uses-fed all uses fit },
-          ap (λ ns. kept_shape 0 ns la ++ kept_shape 0 (get_or (inputs_among uses) (place_among uses (key_at r own_r)) []) ra) x
-              ∙ ap (λ ns. kept_shape 0 (lengths_at l.layout own_l) la ++ kept_shape 0 ns ra) y
-              ∙ ap (λ ns. ns ++ kept_shape 0 (lengths_at r.layout own_r) ra) wl.kept_is
-              ∙ ap (λ ns. lengths_at kl bs ++ ns) wr.kept_is
-              ∙ sym (lengths-join kl kr bs inside),
-        )
+    (λ bs p inside lt. (product-is all la ra pairs l r pl pr sl sr bs p inside lt).fed) (λ bs p inside lt. (product-is all la ra pairs l r pl pr sl sr bs p inside lt).shape) stand
 
 pub cut-contracted : (all : List Task) (la ra : List ℕ) (l r : Source) (base : ℕ) → HaveChunks l.layout → AreOnce la (length l.layout) → length la ≡ length ra → IsShaped all l → IsShaped all r → Stand all base (contracted_blocks la ra l r base).tasks
     → IsCut all (contracted_blocks la ra l r base)
@@ -208,10 +238,3 @@ cut-contracted all la ra l r base sl ol n shl shr stand =
     (subst (λ (xs : List (List ℕ)). ArePaired 0 la xs pairs) (sym fl) (with-paired l.layout la pairs (sym np)))
     (subst (λ (xs : List (List ℕ)). ArePaired 0 ra xs pairs) (sym fr) (with-paired r.layout ra pairs (sym n ∙ sym np)))
     some-pairs f.shaped k.shaped (Stand-back all base (fit_l.tasks ++ fit_r.tasks) _ stand))
-  where
-    fitted-layout : (s : Source) (layout : List (List ℕ)) (base : ℕ) → (fitted base s layout).source.layout ≡ layout
-    fitted-layout s layout base = in-case (same_layout s.layout layout) (same-layout s.layout layout)
-      where
-        in-case : (c : Bool) → (c ≡ true → s.layout ≡ layout) → (cond {A = Made} c (record { tasks = []; source = s }) (rechunked base s layout)).source.layout ≡ layout
-        in-case true h = h refl
-        in-case false h = refl

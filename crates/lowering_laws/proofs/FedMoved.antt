@@ -20,13 +20,13 @@ use Rattle.task_graph.proofs.Moved.{place_now, shapes_now, contains-at, place-be
 use Rattle.lowering_laws.proofs.Fed.{dims_at}
 
 -- the shape of the input that stood at a place
-shape-at-now : (keys : List ℕ) (inputs : List (List ℕ)) (p : ℕ) → AreOnce keys → p < length keys → get_or (shapes_now keys inputs) (place_now keys p) [] ≡ get_or inputs p []
+pub shape-at-now : (keys : List ℕ) (inputs : List (List ℕ)) (p : ℕ) → AreOnce keys → p < length keys → get_or (shapes_now keys inputs) (place_now keys p) [] ≡ get_or inputs p []
 shape-at-now keys inputs p o h =
     let has : Contains (ascending keys) (get_or keys p 0) = ascending-has keys (get_or keys p 0) (contains-at keys p h) in
     get_or-map (λ k. get_or inputs (position keys k) []) (ascending keys) (place_now keys p) 0 [] (place-below keys p h)
     ∙ ap (λ k. get_or inputs (position keys k) []) (position-at (ascending keys) (get_or keys p 0) has) ∙ ap (λ q. get_or inputs q []) (o.at p h)
 
-reduced-now : (keys : List ℕ) (inputs : List (List ℕ)) (axes : List ℕ) → length inputs ≡ length keys → ((q : ℕ) → q < length keys → kept_shape 0 (get_or inputs q []) axes ≡ kept_shape 0 (get_or inputs 0 []) axes)
+pub reduced-now : (keys : List ℕ) (inputs : List (List ℕ)) (axes : List ℕ) → length inputs ≡ length keys → ((q : ℕ) → q < length keys → kept_shape 0 (get_or inputs q []) axes ≡ kept_shape 0 (get_or inputs 0 []) axes)
     → kept_shape 0 (get_or (shapes_now keys inputs) 0 []) axes ≡ kept_shape 0 (get_or inputs 0 []) axes
 reduced-now [] [] axes n same = refl
 reduced-now [] (x ∷ inputs) axes n same = absurd (omega arith)
@@ -34,7 +34,7 @@ reduced-now (k ∷ keys) inputs axes n same =
     let has : Contains (ascending (k ∷ keys)) k = ascending-has (k ∷ keys) k (0, omega arith, refl) in
     shape-now (k ∷ keys) inputs axes 0 same (let b = has.1 in omega arith)
 
-result-moved : (keys : List ℕ) (spec : Spec) → AreOnce keys → PlacesFit spec (length keys) → result_shape (moved_spec (place_now keys) (shapes_now keys (inputs_of spec)) spec) ≡ result_shape spec
+pub result-moved : (keys : List ℕ) (spec : Spec) → AreOnce keys → PlacesFit spec (length keys) → result_shape (moved_spec (place_now keys) (shapes_now keys (inputs_of spec)) spec) ≡ result_shape spec
 result-moved keys (Elementwise op left right inputs shape) o h = refl
 result-moved keys (Where condition first second inputs shape) o h = refl
 result-moved keys (Slice steps dropped input) o h = refl
@@ -70,7 +70,7 @@ inputs-moved keys (Contract left right left_axes right_axes inputs) h n = refl
 inputs-moved keys (Fill dims region start step) h n = none-now keys n
 inputs-moved keys (Load input region) h n = none-now keys n
 
-number-of-keys : (tasks : List Task) (order : List ℕ) (old : ℕ) → length (task_at tasks old).deps ≡ length (map (position order) (task_at tasks old).deps)
+pub number-of-keys : (tasks : List Task) (order : List ℕ) (old : ℕ) → length (task_at tasks old).deps ≡ length (map (position order) (task_at tasks old).deps)
 number-of-keys tasks order old = sym (length-map (task_at tasks old).deps (position order))
 
 -- what a key makes under its new number

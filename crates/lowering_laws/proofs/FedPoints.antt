@@ -27,9 +27,9 @@ abbrev pub ArgShaped : List Task → Arg → Type 0
 ArgShaped all (Literal v) = Unit {0}
 ArgShaped all (Blocks s) = IsShaped all s
 
-record ArgsCut (all tasks : List Task) (args : List Arg) : Type 0 where
-  fed : AreFed all tasks
-  shaped : AllByRecursion (ArgShaped all) args
+pub record ArgsCut (all tasks : List Task) (args : List Arg) : Type 0 where
+  pub fed : AreFed all tasks
+  pub shaped : AllByRecursion (ArgShaped all) args
 
 one-cut : (all : List Task) (layout : List (List ℕ)) (bound : ℕ) (a : Arg) (base : ℕ) → ArgBelow bound (length layout) a → ArgShaped all a → Stand all base (fitted_arg base layout a).tasks → ArgsCut all (fitted_arg base layout a).tasks (fitted_arg base layout a).args
 one-cut all layout bound (Literal v) base h sh stand = record { fed = none-fed all; shaped = (tt, tt) }
@@ -40,7 +40,7 @@ one-cut all layout bound (Blocks s) base h sh stand =
     let c : IsCut all (fitted base s (arg_target layout (Blocks s))) = cut-fitted all s (arg_target layout (Blocks s)) base number sh stand in
     record { fed = c.fed; shaped = (c.shaped, tt) }
 
-all-cut : (all : List Task) (layout : List (List ℕ)) (bound : ℕ) (args : List Arg) (base : ℕ) → AllByRecursion (ArgBelow bound (length layout)) args → AllByRecursion (ArgShaped all) args → Stand all base (fitted_args layout args base).tasks
+pub all-cut : (all : List Task) (layout : List (List ℕ)) (bound : ℕ) (args : List Arg) (base : ℕ) → AllByRecursion (ArgBelow bound (length layout)) args → AllByRecursion (ArgShaped all) args → Stand all base (fitted_args layout args base).tasks
     → ArgsCut all (fitted_args layout args base).tasks (fitted_args layout args base).args
 all-cut all layout bound [] base h sh stand = record { fed = none-fed all; shaped = tt }
 all-cut all layout bound (a ∷ args) base h sh stand =
@@ -50,7 +50,7 @@ all-cut all layout bound (a ∷ args) base h sh stand =
     let more : ArgsCut all rest.tasks rest.args = all-cut all layout bound args (base + length first.tasks) h.1 sh.1 (Stand-back all base first.tasks rest.tasks stand) in
     record { fed = fed-append all first.tasks rest.tasks one.fed more.fed; shaped = all-join (ArgShaped all) first.args rest.args one.shaped more.shaped }
 
-uses-fit : (all : List Task) (bound : ℕ) (layout : List (List ℕ)) (args : List Arg) (bs : List ℕ) → IsIn (counts layout) bs → AllByRecursion (ArgReady bound layout) args → AllByRecursion (ArgShaped all) args → AllByRecursion (UseFits all) (uses_of args bs)
+pub uses-fit : (all : List Task) (bound : ℕ) (layout : List (List ℕ)) (args : List Arg) (bs : List ℕ) → IsIn (counts layout) bs → AllByRecursion (ArgReady bound layout) args → AllByRecursion (ArgShaped all) args → AllByRecursion (UseFits all) (uses_of args bs)
 uses-fit all bound layout [] bs i r sh = tt
 uses-fit all bound layout (Literal v ∷ args) bs i r sh = uses-fit all bound layout args bs i r.1 sh.1
 uses-fit all bound layout (Blocks s ∷ args) bs i r sh = (sh.0.at (chunks_under s bs) (r.0.1 bs i), uses-fit all bound layout args bs i r.1 sh.1)

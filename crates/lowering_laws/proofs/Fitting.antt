@@ -10,7 +10,7 @@ use Rattle.cluster_msgs.specs.Shape.{deps_of}
 use Rattle.task_graph.specs.declared.graph.Task.{Task}
 use Rattle.task_graph.specs.Graphs.{shape_of}
 use Rattle.task_graph.proofs.Making.{input-at}
-use Rattle.lowering_laws.specs.Sources.{Source, key_at, rechunk_task, rechunked, same_sizes, same_layout, fitted}
+use Rattle.lowering_laws.specs.Sources.{Source, Made, key_at, rechunk_task, rechunked, same_sizes, same_layout, fitted}
 use Rattle.lowering_laws.specs.Law.{Carries, Stand}
 use Rattle.lowering_laws.proofs.Carrying.{carries-each, input-holds}
 use Rattle.lowering_laws.proofs.Pieces.{assembled-local}
@@ -52,6 +52,14 @@ same-layout (a ∷ as') [] h = cc
 same-layout (a ∷ as') (b ∷ bs) h =
     let p = and-both (same_sizes a b) (same_layout as' bs) h in
     ap (λ x. x ∷ as') (same-sizes a b p.0) ∙ ap (λ xs. b ∷ xs) (same-layout as' bs p.1)
+
+-- an array is in the layout that it is fitted to
+pub fitted-layout : (s : Source) (layout : List (List ℕ)) (base : ℕ) → (fitted base s layout).source.layout ≡ layout
+fitted-layout s layout base = in-case (same_layout s.layout layout) (same-layout s.layout layout)
+  where
+    in-case : (c : Bool) → (c ≡ true → s.layout ≡ layout) → (cond {A = Made} c (record { tasks = []; source = s }) (rechunked base s layout)).source.layout ≡ layout
+    in-case true h = h refl
+    in-case false h = refl
 
 -- the array in this layout holds the same
 pub record IsFitted (files : ℕ → List ℕ → ℤ) (tasks : List Task) (layout : List (List ℕ)) (g : Grid) (s : Source) : Type 0 where

@@ -196,7 +196,7 @@ starts-set (c ∷ common) axis z w [] j h e = absurd (omega arith)
 starts-set (c ∷ common) zero z w (b ∷ bs) j h e = refl
 starts-set (c ∷ common) (suc axis) z w (b ∷ bs) j h e = ap (λ xs. total (take b c) ∷ xs) (starts-set common axis z w bs j (omega arith) (omega arith))
 
-lengths-set : (common : List (List ℕ)) (axis : ℕ) (z w : List ℕ) (bs : List ℕ) (j : ℕ) → axis < length common → length bs ≡ length common → get_or z j 0 ≡ get_or w (get_or bs axis 0) 0 → lengths_at (set common axis z) (set bs axis j) ≡ lengths_at (set common axis w) bs
+pub lengths-set : (common : List (List ℕ)) (axis : ℕ) (z w : List ℕ) (bs : List ℕ) (j : ℕ) → axis < length common → length bs ≡ length common → get_or z j 0 ≡ get_or w (get_or bs axis 0) 0 → lengths_at (set common axis z) (set bs axis j) ≡ lengths_at (set common axis w) bs
 lengths-set [] axis z w bs j h e f = absurd (omega arith)
 lengths-set (c ∷ common) axis z w [] j h e f = absurd (omega arith)
 lengths-set (c ∷ common) zero z w (b ∷ bs) j h e f = ap (λ n. n ∷ lengths_at common bs) f

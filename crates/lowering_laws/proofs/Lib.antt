@@ -39,3 +39,14 @@ pub mod Dividing
 pub mod NamesLaw
 pub mod FaultLaw
 pub mod Growing
+pub mod Formed
+pub mod FormedSlices
+pub mod Tight
+pub mod FormedPieces
+pub mod FormedMoved
+pub mod FormedPoints
+pub mod FormedJoined
+pub mod FormedFolded
+pub mod TightNodes
+pub mod FormedNodes
+pub mod FormLaw

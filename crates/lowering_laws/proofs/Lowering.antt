@@ -144,7 +144,7 @@ once-of axes n a = record {
 
 -- ---- what is known of a node
 
-slice-at : {A : Type 0} (xs : List A) (k : ℕ) (d : A) → k < length xs → slice_get xs k ≡ Some (get_or xs k d)
+pub slice-at : {A : Type 0} (xs : List A) (k : ℕ) (d : A) → k < length xs → slice_get xs k ≡ Some (get_or xs k d)
 slice-at [] k d h = absurd (omega arith)
 slice-at (x ∷ xs) zero d h = refl
 slice-at (x ∷ xs) (suc k) d h = slice-at xs k d (omega arith)

@@ -212,6 +212,29 @@ no-value files tasks k b e is h =
     not-none : (v : ℤ) → ◌≡◌ {A = Option ℤ} (Some v) None → ⊥
     not-none v h = cc
 
+-- in a graph of faults older arrays hold what they are to, since no key has a value
+known-held : (files : ℕ → List ℕ → ℤ) (all : List Task) (nodes : List Node) (sources : List Source) (n base : ℕ) → IsEarlier (deps_of (shape_of all)) → ((j : ℕ) → j < base → task_at all j ≡ fault) → AllKnown base nodes sources n → AllHeld files all nodes sources n
+known-held files all nodes sources n base e at known = λ k lt.
+    let it : IsKnown base (source_at sources k) (shape_at nodes k) = known k lt in
+    record {
+      carries = record {
+        shape = it.cut;
+        each = λ c b lc v. absurd (no-value files all (key_of (source_at sources k) c) b e (at (key_of (source_at sources k) c) (it.below.keys c lc)) v);
+      };
+      some = it.some;
+    }
+
+-- known arrays are held in some graph
+pub record HaveGraph (files : ℕ → List ℕ → ℤ) (nodes : List Node) (sources : List Source) (n : ℕ) : Type 0 where
+  pub tasks : List Task
+  pub held : AllHeld files tasks nodes sources n
+
+pub graph-of : (files : ℕ → List ℕ → ℤ) (nodes : List Node) (sources : List Source) (n base : ℕ) → AllKnown base nodes sources n → HaveGraph files nodes sources n
+graph-of files nodes sources n base known = record {
+  tasks = replicate base fault;
+  held = known-held files (replicate base fault) nodes sources n base (good-earlier (replicate base fault) (faults-good base)) (fault-at base) known;
+}
+
 node-held-known : (nodes : List Node) (sources : List Source) (n : ℕ) (x : Node) (base : ℕ) → IsExpression nodes → slice_get nodes n ≡ Some x → AllKnown base nodes sources n → IsMade base (lower_op nodes sources n x.taken x.shape x.op base)
     → IsBuilt x.op → IsKnown (base + length (lower_op nodes sources n x.taken x.shape x.op base).tasks) (lower_op nodes sources n x.taken x.shape x.op base).source (shape_at nodes n)
 node-held-known nodes sources n x base ex is known m built =
@@ -222,18 +245,7 @@ node-held-known nodes sources n x base ex is known m built =
     let all = replicate base fault ++ ts in
     let good : AreGood 0 (replicate base fault ++ ts) = good-append 0 (replicate base fault) ts (faults-good base) (subst (λ k. AreGood k ts) (sym z) m.good) in
     let e : IsEarlier (deps_of (shape_of (replicate base fault ++ ts))) = good-earlier (replicate base fault ++ ts) good in
-    let held : AllHeld files (replicate base fault ++ ts) nodes sources n = λ k lt.
-    let it : IsKnown base (source_at sources k) (shape_at nodes k) = known k lt in
-    record {
-      carries = record {
-        shape = it.cut;
-        each = λ c b lc v.
-            let low : key_of (source_at sources k) c < base = it.below.keys c lc in
-            absurd (no-value files (replicate base fault ++ ts) (key_of (source_at sources k) c) b e
-            (get_or_append_left (replicate base fault) ts no_task (key_of (source_at sources k) c) (omega arith) ∙ fault-at base (key_of (source_at sources k) c) low) v);
-      };
-      some = it.some;
-    } in
+    let held : AllHeld files (replicate base fault ++ ts) nodes sources n = known-held files (replicate base fault ++ ts) nodes sources n base e (λ j lt. get_or_append_left (replicate base fault) ts no_task j (omega arith) ∙ fault-at base j lt) known in
     let stand : Stand (replicate base fault ++ ts) base ts = record {
       at = λ j h. let y : base + j - base ≡ j = omega arith in get_or-append_right (replicate base fault) ts base (base + j) no_task front (omega arith) ∙ ap (task_at ts) y;
     } in

@@ -78,7 +78,7 @@ overlaps-fit from to b = fits-from from 0 0 (total (take b to)) (total (take b t
 
 -- ---- each place of the range is in one of them
 
-abbrev covers : ℕ → Overlap → Bool
+abbrev pub covers : ℕ → Overlap → Bool
 covers i o = not (nat_lt i o.to) && nat_lt i (o.to + o.len)
 
 covered : (i to len : ℕ) → to ≤ i → i < to + len → (not (nat_lt i to) && nat_lt i (to + len)) ≡ true

@@ -189,16 +189,16 @@ point-axis n xs h = elim (cases_eq n 1) [ inl e ↦ ap total (one n xs e) ∙ sy
     other : (n : ℕ) (xs : List ℕ) → n ≢ 1 → cond (nat_eq n 1) (1 ∷ []) xs ≡ xs
     other n xs e = grind arith
 
-abbrev point_sizes : List ℕ → List (List (List ℕ)) → ℕ → List ℕ
+abbrev pub point_sizes : List ℕ → List (List (List ℕ)) → ℕ → List ℕ
 point_sizes dims layouts k = cond (nat_eq (get_or dims k 0) 1) (1 ∷ []) (joined_all (map (sizes_on dims k) layouts))
 
 pub length-point : (dims : List ℕ) (layouts : List (List (List ℕ))) → length (point_layout dims layouts) ≡ length dims
 length-point dims layouts = length-map-range_with_len (point_sizes dims layouts) 0 (length dims)
 
-point-at : (dims : List ℕ) (layouts : List (List (List ℕ))) (k : ℕ) → k < length dims → get_or (point_layout dims layouts) k [] ≡ point_sizes dims layouts k
+pub point-at : (dims : List ℕ) (layouts : List (List (List ℕ))) (k : ℕ) → k < length dims → get_or (point_layout dims layouts) k [] ≡ point_sizes dims layouts k
 point-at dims layouts k h = get_or-map-range_with_len (point_sizes dims layouts) 0 (length dims) k k [] h (omega arith)
 
-abbrev shapes_of : List (List (List ℕ)) → List (List ℕ)
+abbrev pub shapes_of : List (List (List ℕ)) → List (List ℕ)
 shapes_of layouts = map (λ (layout : List (List ℕ)). lengths layout) layouts
 
 shapes-at : (layouts : List (List (List ℕ))) (axes k j : ℕ) → j < length layouts → get_or (map (length_on axes k) (shapes_of layouts)) j 1 ≡ length_on axes k (lengths (get_or layouts j []))

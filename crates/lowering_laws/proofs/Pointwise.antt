@@ -228,7 +228,7 @@ aligned shapes layout ns m a e =
           ap total (get_or-drop off layout k []) ∙ total-on layout (off + k) ∙ ap (λ ns. get_or ns (off + k) 0) e ∙ ap (λ j. get_or (broadcast shapes) j 0) at ∙ broadcast-member shapes ns k m a lt d);
     }
 
-abbrev grid_shapes : List Grid → List (List ℕ)
+abbrev pub grid_shapes : List Grid → List (List ℕ)
 grid_shapes gs = map (λ (g : Grid). g.shape) gs
 
 aligned-all : (shapes : List (List ℕ)) (layout : List (List ℕ)) (gs : List Grid) → ((k : ℕ) (g : Grid) → k < length gs → get_or gs k g ≡ g → Contains shapes g.shape) → Agree shapes → lengths layout ≡ broadcast shapes → AllAligned layout gs
@@ -239,7 +239,7 @@ member-shape : (gs : List Grid) (k : ℕ) (g : Grid) → k < length gs → get_o
 member-shape gs k g lt e = (k, omega (arith, length-map gs (λ (g : Grid). g.shape)), get_or-map (λ (g : Grid). g.shape) gs k g g.shape lt ∙ ap (λ (g : Grid). g.shape) e)
 
 -- the layouts of operands cut their shapes
-layouts-are : (files : ℕ → List ℕ → ℤ) (tasks : List Task) (args : List Arg) (gs : List Grid) → AllCarry files tasks args gs → map (λ (layout : List (List ℕ)). lengths layout) (map arg_layout args) ≡ grid_shapes gs
+pub layouts-are : (files : ℕ → List ℕ → ℤ) (tasks : List Task) (args : List Arg) (gs : List Grid) → AllCarry files tasks args gs → map (λ (layout : List (List ℕ)). lengths layout) (map arg_layout args) ≡ grid_shapes gs
 layouts-are files tasks [] [] c = refl
 layouts-are files tasks [] (g ∷ gs) c = absurd c
 layouts-are files tasks (a ∷ args) [] c = absurd c

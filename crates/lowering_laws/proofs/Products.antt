@@ -65,7 +65,7 @@ pub record IsWeave (k : ℕ) (axes : List ℕ) (layout : List (List ℕ)) (own :
   pub same : (is rs : List ℕ) → IsIn klens is → IsIn (lengths_at pairs ts) rs
       → moved (starts_at layout own) (woven k (lengths_at layout own) axes is rs) ≡ woven k (lengths layout) axes (moved kstarts is) (moved (starts_at pairs ts) rs)
 
-count-on : (layout : List (List ℕ)) (k : ℕ) → length (get_or layout k []) ≡ get_or (counts layout) k 0
+pub count-on : (layout : List (List ℕ)) (k : ℕ) → length (get_or layout k []) ≡ get_or (counts layout) k 0
 count-on [] k = refl
 count-on (sizes ∷ layout) zero = refl
 count-on (sizes ∷ layout) (suc k) = count-on layout k
@@ -180,7 +180,7 @@ pub record AreOnce (axes : List ℕ) (n : ℕ) : Type 0 where
   pub once : (j : ℕ) → j < length axes → position_or_len (nat_eq (get_or axes j 0)) axes ≡ j
   pub among : (j : ℕ) → j < length axes → is_among (get_or axes j 0) axes ≡ true
 
-paired-lens : (axes : List ℕ) (layout pairs : List (List ℕ)) (bs ts : List ℕ) → AreOnce axes (length layout) → length axes ≡ length pairs → ArePaired 0 axes layout pairs → IsIn (counts pairs) ts → IsIn (counts layout) (woven 0 (counts layout) axes bs ts)
+pub paired-lens : (axes : List ℕ) (layout pairs : List (List ℕ)) (bs ts : List ℕ) → AreOnce axes (length layout) → length axes ≡ length pairs → ArePaired 0 axes layout pairs → IsIn (counts pairs) ts → IsIn (counts layout) (woven 0 (counts layout) axes bs ts)
     → map (λ a. get_or (lengths_at layout (woven 0 (counts layout) axes bs ts)) a 0) axes ≡ lengths_at pairs ts
 paired-lens axes layout pairs bs ts o n p t inside =
     let own = woven 0 (counts layout) axes bs ts in
@@ -338,7 +338,7 @@ carries-product files tasks e la ra pairs l r g h base o stand =
 
 -- ---- operands in layouts whose paired axes have the same chunks
 
-total-on : (layout : List (List ℕ)) (k : ℕ) → total (get_or layout k []) ≡ get_or (lengths layout) k 0
+pub total-on : (layout : List (List ℕ)) (k : ℕ) → total (get_or layout k []) ≡ get_or (lengths layout) k 0
 total-on [] k = refl
 total-on (sizes ∷ layout) zero = refl
 total-on (sizes ∷ layout) (suc k) = total-on layout k
@@ -355,7 +355,7 @@ pair-at l r (a ∷ la) [] j e h = absurd (omega arith)
 pair-at l r (a ∷ la) (b ∷ ra) zero e h = refl
 pair-at l r (a ∷ la) (b ∷ ra) (suc j) e h = pair-at l r la ra j (omega arith) (omega arith)
 
-with-at : (layout : List (List ℕ)) (axes : List ℕ) (pairs : List (List ℕ)) (k : ℕ) → k < length layout → get_or (with_sizes layout axes pairs) k [] ≡ cond (is_among k axes) (get_or pairs (position_or_len (nat_eq k) axes) []) (get_or layout k [])
+pub with-at : (layout : List (List ℕ)) (axes : List ℕ) (pairs : List (List ℕ)) (k : ℕ) → k < length layout → get_or (with_sizes layout axes pairs) k [] ≡ cond (is_among k axes) (get_or pairs (position_or_len (nat_eq k) axes) []) (get_or layout k [])
 with-at layout axes pairs k h = get_or-map-range_with_len (λ k. cond (is_among k axes) (get_or pairs (position_or_len (nat_eq k) axes) []) (get_or layout k [])) 0 (length layout) k k [] h (omega arith)
 
 pub length-with : (layout : List (List ℕ)) (axes : List ℕ) (pairs : List (List ℕ)) → length (with_sizes layout axes pairs) ≡ length layout

@@ -32,7 +32,7 @@ use Rattle.lowering_laws.proofs.Fed.{AreFed, IsShaped, IsCut, none-fed, fed-appe
 use Rattle.lowering_laws.proofs.FedPoints.{ArgShaped, cut-pointwise, cut-joined}
 use Rattle.lowering_laws.proofs.FedFolded.{cut-reduced, cut-contracted}
 
-abbrev AllShaped : List Task → List Source → ℕ → Type 0
+abbrev pub AllShaped : List Task → List Source → ℕ → Type 0
 AllShaped all sources n = (k : ℕ) → k < n → IsShaped all (source_at sources k)
 
 arg-shaped : (all : List Task) (op : Op) (s : Source) → IsShaped all s → ArgShaped all (arg_of_op op s)
@@ -50,14 +50,14 @@ arg-shaped all (Concatenate of axis) s h = h
 arg-shaped all (Reduce fold of axes split) s h = h
 arg-shaped all (Tensordot left right left_axes right_axes) s h = h
 
-arg-at : (all : List Task) (nodes : List Node) (sources : List Source) (n k : ℕ) → k < n → AllShaped all sources n → ArgShaped all (arg_of nodes sources k)
+pub arg-at : (all : List Task) (nodes : List Node) (sources : List Source) (n k : ℕ) → k < n → AllShaped all sources n → ArgShaped all (arg_of nodes sources k)
 arg-at all nodes sources n k lt sh = arg-shaped all (get_or nodes k no_node).op (source_at sources k) (sh k lt)
 
-all-shaped : (all : List Task) (sources : List Source) (n : ℕ) (of : List ℕ) → All (λ k. k < n) of → AllShaped all sources n → AllByRecursion (IsShaped all) (map (source_at sources) of)
+pub all-shaped : (all : List Task) (sources : List Source) (n : ℕ) (of : List ℕ) → All (λ k. k < n) of → AllShaped all sources n → AllByRecursion (IsShaped all) (map (source_at sources) of)
 all-shaped all sources n [] a sh = tt
 all-shaped all sources n (k ∷ of) a sh = (sh k (a 0 0 (omega arith)), all-shaped all sources n of (λ j d lt. a (suc j) d (omega (arith, lt))) sh)
 
-op-cut : (all : List Task) (nodes : List Node) (sources : List Source) (n : ℕ) (op : Op) (taken : List Steps) (shape : List ℕ) (base : ℕ) → n ≤ length nodes → NamesEarlier op n → Makes (take n nodes) op taken shape → AllKnown base nodes sources n
+pub op-cut : (all : List Task) (nodes : List Node) (sources : List Source) (n : ℕ) (op : Op) (taken : List Steps) (shape : List ℕ) (base : ℕ) → n ≤ length nodes → NamesEarlier op n → Makes (take n nodes) op taken shape → AllKnown base nodes sources n
     → AllShaped all sources n → Stand all base (lower_op nodes sources n taken shape op base).tasks → IsCut all (lower_op nodes sources n taken shape op base)
 op-cut all nodes sources n (Input dims chunks) taken shape base le names makes known sh stand = cut-loaded all (inputs_before nodes n) (normalized dims chunks) base stand
 op-cut all nodes sources n (Full dims v chunks) taken shape base le names makes known sh stand = cut-filled all dims (normalized dims chunks) v (pos 0) base stand

@@ -83,14 +83,14 @@ slice-kept k dropped sizes layout s own steps p t chunks starts lens e f r = rec
 
 -- ---- all axes
 
-some-pieces : (sizes : List ℕ) (s : Steps) → 0 < length (taken_of sizes s)
+pub some-pieces : (sizes : List ℕ) (s : Steps) → 0 < length (taken_of sizes s)
 some-pieces sizes s = some s (taken_from sizes s 0 (runs (map (λ t. chunk_of sizes (coordinate s t)) (range_with_len 0 s.count))))
   where
     some : (s : Steps) (ps : List Taken) → 0 < length (or_nothing s ps)
     some s [] = omega arith
     some s (p ∷ ps) = omega arith
 
-first-one : (sizes : List ℕ) (s : Steps) → s.count ≡ 1 → (get_or (taken_of sizes s) 0 nothing_taken).steps.count ≡ 1
+pub first-one : (sizes : List ℕ) (s : Steps) → s.count ≡ 1 → (get_or (taken_of sizes s) 0 nothing_taken).steps.count ≡ 1
 first-one sizes s e = ap (λ n. (get_or (or_nothing s (taken_from sizes s 0 (runs (map (λ t. chunk_of sizes (coordinate s t)) (range_with_len 0 n))))) 0 nothing_taken).steps.count) e
 
 abbrev pub lists_of : List (List ℕ) → List Steps → List (List ℕ)

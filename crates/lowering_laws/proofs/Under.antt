@@ -113,7 +113,7 @@ under-moved ns is box e a h =
 
 -- ---- the shape of the result
 
-abbrev one_or : ℕ → ℕ → ℕ
+abbrev pub one_or : ℕ → ℕ → ℕ
 one_or l n = cond (nat_eq n 1) 1 l
 
 common-ones : (l : ℕ) (ns : List ℕ) → common (map (one_or l) ns) ≡ one_or l (common ns)
@@ -152,14 +152,14 @@ length_on-block lens ns k h b =
     behind : (x l n k o : ℕ) → o ≤ k → x ≡ one_or l n → cond (nat_lt k o) 1 x ≡ one_or l (cond (nat_lt k o) 1 n)
     behind x l n k o h e = grind arith
 
-axes-blocks : (lens : List ℕ) (shapes : List (List ℕ)) → axes_of shapes ≤ length lens → axes_of (map (block_under lens) shapes) ≡ axes_of shapes
+pub axes-blocks : (lens : List ℕ) (shapes : List (List ℕ)) → axes_of shapes ≤ length lens → axes_of (map (block_under lens) shapes) ≡ axes_of shapes
 axes-blocks lens [] h = refl
 axes-blocks lens (ns ∷ shapes) h =
     let r : axes_of (map (block_under lens) shapes) ≡ axes_of shapes = axes-blocks lens shapes (omega arith) in
     let l : length (block_under lens ns) ≡ length ns = length-block lens ns (omega arith) in
     omega arith
 
-lengths-blocks : (lens : List ℕ) (k : ℕ) (shapes : List (List ℕ)) → axes_of shapes ≤ length lens → k < length lens
+pub lengths-blocks : (lens : List ℕ) (k : ℕ) (shapes : List (List ℕ)) → axes_of shapes ≤ length lens → k < length lens
     → map (length_on (length lens) k) (map (block_under lens) shapes) ≡ map (one_or (get_or lens k 0)) (map (length_on (length lens) k) shapes)
 lengths-blocks lens k [] h b = refl
 lengths-blocks lens k (ns ∷ shapes) h b =

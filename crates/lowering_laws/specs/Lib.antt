@@ -9,3 +9,4 @@ pub mod Whole
 pub mod Named
 pub mod Faults
 pub mod Growth
+pub mod Formed

@@ -11,6 +11,7 @@ ghost use Rattle.lowering_laws.specs.Lowered.{lowered, limit_of};
 ghost use Rattle.lowering_laws.specs.Whole.{LawOfOrder, LawOfLowering, LawOfLowered};
 ghost use Rattle.lowering_laws.specs.Named.{LawOfNames, LawOfNamed};
 ghost use Rattle.lowering_laws.specs.Faults.{LawOfFaults};
+ghost use Rattle.lowering_laws.specs.Formed.{LawOfForm};
 ghost use Rattle.lowering_laws.specs.Growth.{LawOfGrowth, LawOfRefusal};
 
 /// Nodes can be lowered one after another: each adds its tasks behind those of the nodes before it. No memory.
@@ -27,6 +28,12 @@ pub fn law_of_refusal()
 /// shapes that they make, before culling and in the graph that is run. No memory.
 pub fn law_of_order()
     ensures { OfEachJob LawOfOrder }
+{}
+
+/// Each operation is well formed, and each load reads a region that lies in its input's array, before culling and in the graph
+/// that is run. No memory.
+pub fn law_of_form()
+    ensures { OfEachJob LawOfForm }
 {}
 
 /// Where no limit is passed, the graph that is run has a shape that the cluster takes: at most 32,768 keys and 262,144 edges,
