@@ -1,0 +1,13 @@
+pub mod Stored
+pub mod Growing
+pub mod Standing
+pub mod Shortened
+pub mod Tasks
+pub mod Args
+pub mod Ready
+pub mod Moving
+pub mod Rechunking
+pub mod Using
+pub mod Pointing
+pub mod Joining
+pub mod Pairing

@@ -1,0 +1,32 @@
+//! The graph of block tasks that a job is lowered to, and that graph as the job which the cluster runs.
+//!
+//! It stands on `chunk_layout` (layouts, plans and trees), `block_kernels` (what a task computes), `task_graph` (graphs, their
+//! order and their numbers) and `lowering_laws` (what a job is lowered to, and what its keys hold); the program that runs a
+//! job on the cluster stands on it. It carries that `lower` answers exactly the graph, the names and the saved keys that are
+//! defined there, or the first limit that is passed, and that `JobGraph` computes each key by its task's formula.
+#![tactic(auto)]
+
+pub mod counts;
+pub mod error;
+pub mod expression;
+pub mod finish;
+pub mod folds;
+pub mod growing;
+pub mod joins;
+pub mod layouts;
+pub mod lists;
+pub mod making;
+pub mod moving;
+pub mod nodes;
+pub mod parts;
+pub mod plain;
+pub mod points;
+pub mod products;
+pub mod rechunk;
+pub mod sources;
+pub mod sums;
+pub mod uses;
+
+pub use error::LowerError;
+pub use expression::lower;
+pub use finish::Lowered;
