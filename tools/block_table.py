@@ -4,12 +4,16 @@
     python3 tools/block_table.py          writes crates/block_table/stdin and crates/block_table/stdout
 
 An array is here the list of its indexes, and nothing of the program's way is used: the chunks of an axis follow Dask's
-page on chunks; the blocks, the block of an index and the pieces of a plan are read off from which indexes lie together; a
-union of boundaries is the sorted set of both. What is refused has the program's words for it.
+page on chunks; the blocks, the block of an index, the pieces of a plan and the chunks of a slice are read off from which
+indexes lie together; a union of boundaries is the sorted set of both; a slice is Python's `range`. What is refused has the
+program's words for it. The lines on graphs are those of `task_graphs.py`, and those on jobs of `job_graphs.py`.
 """
 
 import itertools
 import os
+
+import job_graphs
+import task_graphs
 
 HERE = os.path.dirname(os.path.dirname(os.path.abspath(__file__)))
 LINES = []
@@ -124,6 +128,24 @@ def folded(partials, split):
     line(f"layout tree {partials} {split}", answer)
 
 
+def sliced(shape, specs, parts):
+    """The chunks of a slice: how many of its indexes stand together that lie in one chunk."""
+    layout = []
+    for n, spec, part in zip(shape, specs, parts):
+        sizes = cut(n, spec)
+        chunk = [number for number, size in enumerate(sizes) for _ in range(size)]
+        taken = [chunk[i] for i in range(*slice(*part).indices(n))]
+        layout.append([len(list(run)) for _, run in itertools.groupby(taken)] or [0])
+    words = " ".join(" ".join("-" if x is None else str(x) for x in part) for part in parts)
+    line(f"layout slice {listed(shape)} {written(specs)} {words}".rstrip(), put_layout(layout))
+
+
+def runs_back(length, half, step):
+    """How many of length - 1, length - 1 - step, .. are in the upper half, and how many in the lower one."""
+    upper = len(range(length - 1, half - 1, -step))
+    return [upper, len(range(length - 1, -1, -step)) - upper]
+
+
 def lines():
     big = 2**31
     for shape, specs in [
@@ -159,14 +181,32 @@ def lines():
         folded(partials, split)
     line("layout tree 10 1", " ill row")
     line(f"layout tree {2**32} 4", " ill row")
+    for shape, specs, parts in SLICES:
+        sliced(shape, specs, parts)
+    line("layout slice 5 1 even 2 - - 0", " refused, shape: step 0")
+    line("layout slice 5 1 even 2 - -", " ill row")
+    line(f"layout slice {big} 1 even {big // 2} - - -3", f" {listed(runs_back(big, big // 2, 3))}")
     line("layout", " ill row")
     line("layout of", " ill row")
     line("layout of 3 1 even", " ill row")
     line("nothing", " ill row")
 
 
+N = None
+SLICES = [
+    ((5,), [2], [(N, N, -2)]), ((5,), [2], [(N, N, N)]), ((5,), [2], [(1, 4, N)]), ((5,), [2], [(5, 2, N)]), ((5,), [2], [(N, N, 3)]),
+    ((5,), [2], [(-1, N, -1)]), ((10,), [[4, 4, 2]], [(3, 9, 2)]), ((10,), [[4, 4, 2]], [(N, N, 5)]), ((10,), [[4, 4, 2]], [(8, N, -3)]),
+    ((10,), [1], [(N, N, 4)]), ((10,), [10], [(2, 7, 2)]), ((0,), [4], [(N, N, N)]), ((0,), [4], [(N, N, -1)]), ((), [], []),
+    ((6, 7), [2, 3], [(N, N, -1), (1, N, 2)]), ((6, 7), [2, 3], [(4, 4, N), (N, N, N)]), ((6, 0), [4, 1], [(1, 5, 3), (N, N, N)]),
+    ((12,), [[5, 1, 6]], [(N, N, 2)]), ((12,), [[5, 1, 6]], [(11, N, -6)]), ((3,), [1], [(1, 2, 2**63 - 1)]), ((3,), [1], [(2, N, -(2**63))]),
+    ((3,), [1], [(N, N, -(2**63) + 1)]),
+]
+
+
 def main():
     lines()
+    for words, answer in itertools.chain(task_graphs.lines(), job_graphs.lines()):
+        line(words, answer)
     crate = os.path.join(HERE, "crates", "block_table")
     with open(os.path.join(crate, "stdin"), "w") as f:
         f.writelines(words + "\n" for words, _ in LINES)

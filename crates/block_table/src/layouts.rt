@@ -1,13 +1,15 @@
 //! What is asked of layouts: `layout WORD SHAPE ..`, where chunks are written `COUNT` and so many `even SIZE` or
 //! `list SIZES`.
 ghost use Rattle.std.specs.Prelude.{◌≡◌, IfOk};
+ghost use Rattle.nd_shape.specs.Chunk.{total};
 ghost use Rattle.chunk_layout.specs.Layouts.{lengths};
+ghost use Rattle.chunk_layout.specs.Slicing.{TakesOf, TakesAll};
 
 use crate::row::Row;
 use crate::text::{put_layout, put_levels, put_piece, put_region};
 use crate::why::Why;
-use chunk_layout::{Layout, blocks_of, normalize, plan, tree, unify};
-use nd_shape::{ChunkSpec, Region, Shape, is_inside};
+use chunk_layout::{Cuts, Layout, blocks_of, normalize, plan, slice_layout, tree, unify};
+use nd_shape::{ChunkSpec, Part, Region, Shape, Steps, is_inside, resolve_slice};
 
 // A layout of a shape, from specifications of chunks.
 fn layout(row: &mut Row, shape: &Shape) -> Result<Layout, Why>
@@ -115,6 +117,41 @@ fn planned(row: &mut Row, out: &mut String) -> Result<(), Why> {
     put_plan(out, &from, &to, block)
 }
 
+// `START STOP STEP`, where `-` leaves one out: what a range takes of an axis.
+fn part(row: &mut Row, cuts: &Cuts) -> Result<Steps, Why>
+    ensures { IfOk result (λ steps. TakesOf (total cuts.now) steps) }
+{
+    let start = row.optional()?;
+    let stop = row.optional()?;
+    let step = row.optional()?;
+    Ok(resolve_slice(cuts.len(), &Part::Range(start, stop, step))?)
+}
+
+fn parts(row: &mut Row, axes: &[Cuts]) -> Result<Vec<Steps>, Why>
+    ensures { IfOk result (λ list. TakesAll axes.now list.items) }
+{
+    let mut list = Vec::new(row.alloc());
+    for cuts in axes {
+        list.push(part(row, cuts)?)?;
+    }
+    Ok(list)
+}
+
+fn put_slice(out: &mut String, layout: &Layout, parts: &[Steps]) -> Result<(), Why>
+    requires { TakesAll layout.now parts.now }
+{
+    let slice = slice_layout(*out.allocator(), layout, parts)?;
+    Ok(put_layout(out, &slice)?)
+}
+
+// `slice SHAPE CHUNKS RANGES`: the layout of a slice, with a range for each axis.
+fn sliced(row: &mut Row, out: &mut String) -> Result<(), Why> {
+    let shape = row.shape()?;
+    let layout = layout(row, &shape)?;
+    let parts = parts(row, layout.axes())?;
+    put_slice(out, &layout, parts.as_slice())
+}
+
 fn put_tree(out: &mut String, partials: u64, split: u64) -> Result<(), Why> {
     if partials >= 4294967296 || split >= 4294967296 || split < 2 {
         return Err(Why::Ill);
@@ -140,6 +177,7 @@ pub fn answer(row: &mut Row, out: &mut String) -> Result<(), Why> {
         "block" => block(row, out),
         "unify" => both(row, out),
         "plan" => planned(row, out),
+        "slice" => sliced(row, out),
         "tree" => folded(row, out),
         _ => Err(Why::Ill),
     }

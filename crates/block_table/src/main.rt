@@ -1,13 +1,16 @@
 //! The program `block_table`: answers what the lines of a table ask of blocks.
 //!
-//! It stands on `chunk_layout` and `nd_shape`, and nothing stands above it. It carries no promise of its own: what it
-//! prints is compared with answers that come from outside. A line is a word that says what is asked and words that say of
-//! what, and it is printed before its answer. Each area has a module: `layouts` has the cuts of arrays into blocks.
-//! A list is written with commas, `()` where it is empty; the axes of a layout are lists with blanks between.
+//! It stands on `chunk_layout`, `task_graph` and `block_lowering`, and nothing stands above it. It carries no promise of its
+//! own: what it prints is compared with answers that come from outside. A line is a word that says what is asked and words
+//! that say of what, and it is printed before its answer. Each area has a module: `layouts` has the cuts of arrays into
+//! blocks, `graphs` the graphs of tasks, `jobs` what jobs are lowered to. A list is written with commas, `()` where it is
+//! empty; the axes of a layout are lists with blanks between.
 //!
 //! `tools/block_table.py` writes the lines and the answers.
 #![tactic(auto)]
 
+mod graphs;
+mod jobs;
 mod layouts;
 mod row;
 mod text;
@@ -22,6 +25,9 @@ use why::Why;
 fn answer(word: &str, row: &mut Row, out: &mut String) -> Result<(), Why> {
     match word {
         "layout" => layouts::answer(row, out),
+        "graph" => graphs::answer(row, out),
+        "job" => jobs::answer(row, out, true),
+        "count" => jobs::answer(row, out, false),
         _ => Err(Why::Ill),
     }
 }

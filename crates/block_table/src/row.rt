@@ -11,6 +11,13 @@ pub struct Row<'a> {
     taken: usize,
 }
 
+fn number_of(word: &str) -> Result<i64, Why> {
+    match word.parse::<i64>() {
+        Ok(number) => Ok(number),
+        Err(_) => Err(Why::Ill),
+    }
+}
+
 fn natural_of(word: &str) -> Result<u64, Why> {
     match word.parse::<u64>() {
         Ok(number) => Ok(number),
@@ -50,6 +57,11 @@ impl<'a> Row<'a> {
         self.taken >= self.words.len()
     }
 
+    /// How many words are left.
+    pub fn left(&self) -> usize {
+        self.words.len().saturating_sub(self.taken)
+    }
+
     /// The next word.
     pub fn word(&mut self) -> Result<&'a str, Why> {
         if self.taken >= self.words.len() {
@@ -63,6 +75,14 @@ impl<'a> Row<'a> {
     /// The next number, which isn't negative.
     pub fn natural(&mut self) -> Result<u64, Why> {
         natural_of(self.word()?)
+    }
+
+    /// A number, or `-` for none.
+    pub fn optional(&mut self) -> Result<Option<i64>, Why> {
+        match self.word()? {
+            "-" => Ok(None),
+            word => Ok(Some(number_of(word)?)),
+        }
     }
 
     /// Numbers between commas, or `()` for none.

@@ -3,6 +3,7 @@ use chunk_layout::{Layout, Levels};
 use nd_shape::{Piece, Region};
 use std::alloc::AllocError;
 use std::fmt::Display;
+use task_graph::Quantity;
 
 /// Puts items between commas, or `()` for none.
 pub fn put_list<T: Display>(out: &mut String, list: &[T]) -> Result<(), AllocError> {
@@ -49,4 +50,13 @@ pub fn put_piece(out: &mut String, piece: &Piece) -> Result<(), AllocError> {
     put_list(out, piece.to.starts())?;
     out.push_str(" so many")?;
     put_list(out, piece.to.lengths())
+}
+
+/// Puts the limit that is passed.
+pub fn put_quantity(out: &mut String, quantity: Quantity) -> Result<(), AllocError> {
+    match quantity {
+        Quantity::Keys => out.push_str(" keys"),
+        Quantity::Edges => out.push_str(" edges"),
+        Quantity::BlockBytes => out.push_str(" block bytes"),
+    }
 }
