@@ -1,9 +1,9 @@
-//! The graph of block tasks that a job is lowered to, and that graph as the job which the cluster runs.
+//! The graph of block tasks that a job is lowered to.
 //!
 //! It stands on `chunk_layout` (layouts, plans and trees), `block_kernels` (what a task computes), `task_graph` (graphs, their
-//! order and their numbers) and `lowering_laws` (what a job is lowered to, and what its keys hold); the program that runs a
-//! job on the cluster stands on it. It carries that `lower` answers exactly the graph, the names and the saved keys that are
-//! defined there, or the first limit that is passed, and that `JobGraph` computes each key by its task's formula.
+//! order and their numbers) and `lowering_laws` (what a job is lowered to, and what its keys hold); nothing stands on it yet
+//! but the driver `block_table`. It carries that `lower` answers exactly the graph, the names and the saved keys that are
+//! defined there, or the first limit that is passed.
 #![tactic(auto)]
 
 pub mod counts;
