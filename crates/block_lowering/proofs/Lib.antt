@@ -25,3 +25,4 @@ pub mod SourcesSteps
 pub mod Standing
 pub mod UsesZipped
 pub mod Within
+pub mod Loading

@@ -11,3 +11,5 @@ pub mod Using
 pub mod Pointing
 pub mod Joining
 pub mod Pairing
+pub mod Jobs
+pub mod Reading
