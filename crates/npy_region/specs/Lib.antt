@@ -1,3 +1,4 @@
 pub mod Building
 pub mod Cells
 pub mod Runs
+pub mod Writing

@@ -9,6 +9,8 @@
 mod cells;
 mod region;
 mod runs;
+mod write;
 
 pub use region::read_region;
 pub use runs::{Run, RunList, region_runs};
+pub use write::write_region;

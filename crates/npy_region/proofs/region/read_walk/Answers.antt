@@ -19,7 +19,7 @@ returns-then-count-eq0-clause-cells g c =
     (ap (λ (a : Array). a.shape) c.new-empty.ensures ∙ c.in_ok-shape.ensures) (ap (λ (a : Array). length a.cells) c.new-empty.ensures ∙ ap length c.new.ensures.items) (sym c.len-count.ensures.count ∙ c.if-count-eq0.true)
 
 pub read_stored-requires-clause-room : goal.read_stored-requires-clause-room
-read_stored-requires-clause-room g c = λ lifetimes inside.
+read_stored-requires-clause-room g c =
     let size : size_of (file_at (g.S.Store.files c.len.new.self) c.args.file) ≡ c.in_ok-size.size = ap (λ (fs : List Content). size_of (file_at fs c.args.file)) c.len.ensures.same ∙ sym c.in_ok-size.ensures.size in
     ends_within c.args.walk.now c.bytes_needed-needs.new.walk c.args.head.now.data_at c.bytes_needed-needs.result (size_of (file_at (g.S.Store.files c.len.new.self) c.args.file))
     c.bytes_needed-needs.ensures.same c.bytes_needed-needs.ensures.last (omega (arith, size, c.if-has-needs.false, c.saturating_sub-has.ensures))
