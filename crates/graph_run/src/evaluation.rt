@@ -1,0 +1,102 @@
+//! The evaluation of a job's keys in order.
+ghost use Rattle.std.specs.Prelude.{◌≡◌, ◌<◌, ◌↔◌, IfOk};
+ghost use Rattle.cluster_msgs.specs.Shape.{key_count, deps_of};
+ghost use Rattle.cluster_msgs.specs.Values.{val};
+ghost use Rattle.graph_run.specs.Evaluations.{HaveValues, IfMade, CountsStep, value_of_step, next_after};
+
+use cluster_msgs::{JobSpec, RunFail};
+use std::alloc::{AllocError, Global};
+use std::marker::Model;
+use std::sync::Arc;
+
+/// What the next key gave: its block, or nothing, since its operation met a zero divisor.
+#[derive(Drop)]
+pub enum Step<B> {
+    Made(Arc<B>),
+    Zero,
+}
+
+/// A job whose keys are run in ascending order, with what it reads, and the blocks that later keys use. Contracts see the job,
+/// the feed and the key that comes next.
+#[derive(Drop)]
+pub struct Evaluation<J: JobSpec> {
+    alloc: Global,
+    next: u32,
+    kept: Vec<Option<Arc<J::Block>>>,
+    job: J,
+    feed: J::Feed,
+}
+
+impl<J: JobSpec> Model for Evaluation<J> {
+    ghost use Rattle.graph_run.specs.Evaluations.{Evaluation};
+
+    ghost Value = { Evaluation J J.Feed };
+
+    ghost view = { λ e. record { job = e.job; feed = e.feed; next = e.next } };
+}
+
+impl<J: JobSpec> Evaluation<J> {
+    /// The evaluation of a job before its first key.
+    ///
+    /// # Errors
+    /// Where no memory is left.
+    pub fn new(alloc: Global, job: J, feed: J::Feed) -> Result<Evaluation<J>, AllocError>
+        requires feed { J.feed_fits job feed }
+        ensures { IfOk result (λ e. e ≡ record { job = job; feed = feed; next = 0 }) }
+    {
+        Ok(Evaluation {
+            alloc,
+            next: 0,
+            kept: Vec::new(alloc),
+            job,
+            feed,
+        })
+    }
+
+    /// The job. No memory.
+    pub fn job(&self) -> &J
+        ensures { result.now ≡ self.now.job }
+    {
+        &self.job
+    }
+
+    /// The key that comes next, or the number of keys at the end. No memory.
+    pub fn next(&self) -> u32
+        ensures { result ≡ self.now.next }
+    {
+        self.next
+    }
+
+    /// Runs the next key. After a zero divisor or an error it is still the next one.
+    ///
+    /// # Errors
+    /// `Feed` only where the feed's count of faults rose in this call, and `OutOfMemory` where no memory is left.
+    pub fn step(&mut self) -> Result<Step<J::Block>, RunFail>
+        requires { self.old.next < key_count (J.graph self.old.job) }
+        ensures job { self.new.job ≡ self.old.job }
+        ensures next { self.new.next ≡ next_after result self.old.next }
+        ensures tells { J.feed_tells self.new.job self.new.feed ↔ J.feed_tells self.old.job self.old.feed }
+        ensures before { J.feed_tells self.old.job self.old.feed →
+            HaveValues (deps_of (J.graph self.old.job)) (J.operation self.old.job) self.old.next }
+        ensures value { IfOk result (λ s. J.feed_tells self.old.job self.old.feed →
+            value_of_step s ≡ val (deps_of (J.graph self.old.job)) (J.operation self.old.job) self.old.next) }
+        ensures dims { IfOk result (λ s. IfMade s (λ b. J.block_dims b ≡ J.key_dims self.old.job self.old.next)) }
+        ensures faults { CountsStep result (J.fault_count self.old.feed) (J.fault_count self.new.feed) }
+    {
+        Err(RunFail::OutOfMemory)
+    }
+
+    /// All keys before the next one have values, where the feed tells what it holds. It does nothing.
+    pub fn sound(&self)
+        ensures { J.feed_tells self.now.job self.now.feed →
+            HaveValues (deps_of (J.graph self.now.job)) (J.operation self.now.job) self.now.next }
+    {
+    }
+
+    /// Gives the feed back. No memory.
+    pub fn into_feed(self) -> J::Feed
+        ensures { result ≡ self.feed }
+    {
+        self.feed
+    }
+}

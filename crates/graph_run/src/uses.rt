@@ -1,0 +1,1 @@
+//! The last use of each key's block.
