@@ -1,0 +1,84 @@
+-- Files that are being saved: what they hold so far, and what is left of them at a site.
+use Rattle.std.specs.Prelude.{◌≡◌, ◌≢◌, ◌⊎◌, ◌<◌, ◌+◌, ◌*◌, ℕ, List, [], ◌∷◌, ◌++◌, length, slice_index_or, bytes_eq, false, true, Some, IfSome, IsSome, IsTrue, Bool}
+use Rattle.io_edge.specs.Cause.{Rose}
+use Rattle.io_edge.specs.Content.{Content, Told, Untold, OnTold, size_of, told_bytes}
+use Rattle.io_edge.specs.View.{Files, View}
+use Rattle.nd_shape.specs.Block.{Array}
+use Rattle.nd_shape.specs.Shape.{elements}
+use Rattle.nd_shape.specs.Region.{Box}
+use Rattle.npy_codec.specs.Npy.{header}
+use Rattle.npy_region.specs.Writing.{Turns}
+use Rattle.saved_files.specs.Filling.{IsFilling, HoldsBox, IsPart, file_of}
+
+-- an open file: its name, the lengths of its array, what it holds, and how often a call of it has failed
+pub record Saving : Type 0 where
+  pub name : List ℕ
+  pub dims : List ℕ
+  pub content : Content
+  pub faults : ℕ
+
+abbrev pub saving_at : List Saving → ℕ → Saving
+saving_at files k = slice_index_or files k (record { name = []; dims = []; content = Untold 0; faults = 0 })
+
+-- an array with these lengths
+pub record IsOf (dims : List ℕ) (a : Array) : Type 0 where
+  pub shape : a.shape ≡ dims
+  pub count : length a.cells ≡ elements dims
+
+-- the room of a file is that of its header and of all elements
+abbrev pub HasRoom : Saving → Type 0
+HasRoom s = size_of s.content ≡ length (header s.dims) + 8 * elements s.dims
+
+-- a file that was just created at a site, with its header alone
+pub record IsFresh (tells : Bool) (name dims : List ℕ) (s : Saving) : Type 0 where
+  pub name_is : s.name ≡ name
+  pub dims_are : s.dims ≡ dims
+  pub faults_are : s.faults ≡ 0
+  pub told : IsTrue tells → IsSome (told_bytes s.content)
+  pub filling : OnTold s.content (λ bytes. (a : Array) → IsOf dims a → IsFilling a [] bytes)
+
+-- the file of this name is as it was, or each of its bytes is right or 0, and a site that tells does tell it
+abbrev pub IsLeft : List ℕ → List ℕ → Files → Files → Type 0
+IsLeft name bytes old new = (new.held name ≡ old.held name)
+    ⊎ (IfSome (new.held name) (λ held. IsPart held bytes) × (IsTrue old.tells → IsSome (new.held name)))
+
+-- one file may have changed, and is left so, whatever array of these lengths was to be saved
+pub record LeavesOne (name dims : List ℕ) (old new : Files) : Type 0 where
+  pub others : (n : List ℕ) → bytes_eq name n ≡ false → new.held n ≡ old.held n
+  pub here : (a : Array) → IsOf dims a → IsLeft name (file_of a) old new
+
+-- what a file holds before and after a block was written whole
+abbrev pub FillsMore : Box → Array → Content → Content → Type 0
+FillsMore box block old new = Turns (λ before after. (a : Array) (boxes : List Box)
+    → IsFilling a boxes before → HoldsBox a box block → IsFilling a (boxes ++ box ∷ []) after) old new
+
+-- the same where writing it failed
+abbrev pub FillsPart : Box → Array → Content → Content → Type 0
+FillsPart box block old new = Turns (λ before after. (a : Array) (boxes : List Box)
+    → IsFilling a boxes before → HoldsBox a box block → IsFilling a boxes after) old new
+
+-- the file at one place may have changed in what it holds and in its count of faults, and nothing else
+pub record ChangesAt (place : ℕ) (old new : List Saving) : Type 0 where
+  pub count : length new ≡ length old
+  pub others : (k : ℕ) → k ≢ place → saving_at new k ≡ saving_at old k
+  pub name_is : (saving_at new place).name ≡ (saving_at old place).name
+  pub dims_are : (saving_at new place).dims ≡ (saving_at old place).dims
+
+-- each of the files was created at the site
+abbrev pub WereCreated : List Saving → Files → Type 0
+WereCreated files at = (k : ℕ) → k < length files → 0 < at.created (saving_at files k).name
+
+-- the files are given back: under each name, of which no two are the same, the site holds what its file held
+pub record GivesBack (files : List Saving) (old new : Files) : Type 0 where
+  pub held : ((j k : ℕ) → j < k → k < length files → bytes_eq (saving_at files k).name (saving_at files j).name ≡ false)
+      → (k : ℕ) → k < length files → new.held (saving_at files k).name ≡ told_bytes (saving_at files k).content
+  pub others : (n : List ℕ) → ((k : ℕ) → k < length files → bytes_eq (saving_at files k).name n ≡ false) → new.held n ≡ old.held n
+  pub tells : new.tells ≡ old.tells
+  pub size : new.size ≡ old.size
+  pub opened : new.opened ≡ old.opened
+  pub created : new.created ≡ old.created
+
+-- a count of faults rises where a file's was above 0, and stays where none was
+pub record TakesAll (files : List Saving) (before now : ℕ) : Type 0 where
+  pub risen : (k : ℕ) → k < length files → 0 < (saving_at files k).faults → Rose before now
+  pub kept : ((k : ℕ) → k < length files → (saving_at files k).faults ≡ 0) → now ≡ before

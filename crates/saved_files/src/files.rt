@@ -1,0 +1,116 @@
+//! Files that are being saved.
+ghost use Rattle.std.specs.Prelude.{◌≡◌, ◌<◌, ◌≤◌, ◌+◌, ◌∷◌, [], ℕ, length, OnOk, OnErr, None};
+ghost use Rattle.io_edge.specs.Cause.{HasOpenCause};
+ghost use Rattle.io_edge.specs.View.{Creates, OnlyWrites, raised_by, updated};
+ghost use Rattle.nd_shape.specs.Region.{IsPart};
+ghost use Rattle.saved_files.specs.Saving.{ChangesAt, FillsMore, FillsPart, GivesBack, IsFresh, LeavesOne, TakesAll, WereCreated, saving_at};
+
+use io_edge::{OpenFault, OutFile, Site};
+use nd_shape::{Block, Region, Shape};
+use npy_codec::{Head, write_head};
+use npy_region::write_region;
+use std::alloc::Global;
+use std::marker::Model;
+
+// A created file, and the head that was written into it.
+#[derive(Drop)]
+struct OpenFile<F> {
+    file: F,
+    head: Head,
+}
+
+/// Files of a site that are being saved, in the order of their creation. Contracts see of each its name, the lengths of its array,
+/// what it holds so far, and its count of faults.
+#[derive(Drop)]
+pub struct SavedFiles<S: Site> {
+    files: Vec<OpenFile<S::Out>>,
+}
+
+impl<S: Site> Model for SavedFiles<S> {
+    ghost use Rattle.std.specs.Prelude.{List, map};
+    ghost use Rattle.saved_files.specs.Saving.{Saving};
+
+    ghost Value = { List Saving };
+
+    ghost view = { λ s. map (λ f. record { name = S.Out.named f.file; dims = f.head.shape; content = S.Out.content f.file; faults = S.Out.count f.file }) s.files.items };
+}
+
+impl<S: Site> SavedFiles<S> {
+    /// No files. No memory.
+    pub fn new(alloc: Global) -> SavedFiles<S>
+        ensures { result ≡ [] }
+    {
+        SavedFiles {
+            files: Vec::new(alloc),
+        }
+    }
+
+    /// How many files there are. No memory.
+    pub fn len(&self) -> usize
+        ensures { result ≡ length self.now }
+    {
+        self.files.len()
+    }
+
+    /// Creates the file of an array with these lengths, in place of one that has the name, and writes its header. The file is as
+    /// long as it will be, and its elements are 0.
+    ///
+    /// # Errors
+    /// `Failed` only where the site's count of write faults rose, and `OutOfMemory` where no memory is left. No file is added
+    /// then: one that was created is given back.
+    pub fn create(
+        &mut self,
+        alloc: Global,
+        site: &mut S,
+        name: &str,
+        shape: &Shape,
+    ) -> Result<(), OpenFault>
+        ensures creates { Creates name.now (S.view site.old).files (S.view site.new).files }
+        ensures created { OnOk result ((S.view site.new).files.created ≡ raised_by (name.now ∷ []) (S.view site.old).files.created) }
+        ensures counted { OnOk result (0 < (S.view site.new).files.created name.now) }
+        ensures held { OnOk result ((S.view site.new).files.held ≡ updated name.now None (S.view site.old).files.held) }
+        ensures more { OnOk result (length self.new ≡ length self.old + 1) }
+        ensures same { OnOk result ((k : ℕ) → k < length self.old → saving_at self.new k ≡ saving_at self.old k) }
+        ensures fresh { OnOk result (IsFresh (S.view site.old).files.tells name.now shape.now (saving_at self.new (length self.old))) }
+        ensures kept { OnErr result (self.new ≡ self.old) }
+        ensures left { OnErr result (LeavesOne name.now shape.now (S.view site.old).files (S.view site.new).files) }
+        ensures only { OnlyWrites (S.view site.old) (S.view site.new) }
+        ensures cause { HasOpenCause (S.view site.old).write_faults (S.view site.new).write_faults result }
+    {
+        Err(OpenFault::OutOfMemory)
+    }
+
+    /// Writes a block into a box of the array of the file at a place.
+    ///
+    /// # Errors
+    /// `Failed` only where that file's count of faults rose, and `OutOfMemory` where no memory is left. Some of the block's
+    /// bytes are written then.
+    pub fn write(
+        &mut self,
+        alloc: Global,
+        place: usize,
+        region: &Region,
+        block: &Block,
+    ) -> Result<(), OpenFault>
+        requires there { place < length self.old }
+        requires inside { IsPart region.now (saving_at self.old place).dims }
+        requires shape { block.now.shape ≡ region.now.lengths }
+        ensures changes { ChangesAt place self.old self.new }
+        ensures filled { OnOk result (FillsMore region.now block.now (saving_at self.old place).content (saving_at self.new place).content) }
+        ensures part { OnErr result (FillsPart region.now block.now (saving_at self.old place).content (saving_at self.new place).content) }
+        ensures kept { OnOk result ((saving_at self.new place).faults ≡ (saving_at self.old place).faults) }
+        ensures cause { HasOpenCause (saving_at self.old place).faults (saving_at self.new place).faults result }
+    {
+        Err(OpenFault::OutOfMemory)
+    }
+
+    /// Gives all files back. The count of write faults rises where a file's count is above 0, and only there.
+    pub fn give(self, site: &mut S)
+        requires { WereCreated self (S.view site.old).files }
+        ensures gives { GivesBack self (S.view site.old).files (S.view site.new).files }
+        ensures only { OnlyWrites (S.view site.old) (S.view site.new) }
+        ensures later { (S.view site.old).write_faults ≤ (S.view site.new).write_faults }
+        ensures cause { TakesAll self (S.view site.old).write_faults (S.view site.new).write_faults }
+    {
+    }
+}
