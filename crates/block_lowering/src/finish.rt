@@ -7,6 +7,7 @@ ghost use Rattle.lowering_laws.specs.Lowered.{source_at, keys_of, culled};
 use crate::making::Making;
 use crate::sources::{Keyed, Name};
 use array_expr::NodeId;
+use chunk_layout::Layout;
 use cluster_msgs::{KeyList, Sequence};
 use std::alloc::{AllocError, Global};
 use task_graph::moves::renumber;
@@ -19,6 +20,7 @@ pub struct Lowered {
     pub graph: Graph,
     pub names: Sequence<Name>,
     pub saved: Sequence<KeyList>,
+    pub layouts: Vec<Layout>,
 }
 
 // The keys of an array's blocks, all of them below a bound: they are keys of the graph.
@@ -158,5 +160,6 @@ pub fn finish(alloc: Global, made: Making, saves: &[NodeId]) -> Result<Lowered, 
         graph,
         names,
         saved,
+        layouts: Vec::new(alloc),
     })
 }

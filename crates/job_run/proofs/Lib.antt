@@ -1,12 +1,6 @@
 pub mod Counting
-pub mod DataPieces
-pub mod Lacking
 pub mod Loads
 pub mod OneArray
 pub mod OneHeader
-pub mod Parts
 pub mod Running
-pub mod SavedFiles
-pub mod SavesList
 pub mod Told
-pub mod Wholes
