@@ -1,5 +1,5 @@
 pub mod Simulated
-pub mod Forms
-pub mod Serving
+pub mod Jobs
 pub mod Texts
 pub mod Ends
+pub mod Serving
