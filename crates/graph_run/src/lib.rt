@@ -6,6 +6,7 @@
 #![tactic(auto)]
 
 mod evaluation;
+mod slots;
 mod uses;
 
 pub use evaluation::{Evaluation, Step};
