@@ -44,9 +44,9 @@ module _ {B : Type 0} (deps : ℕ → List ℕ) (count : ℕ) (last : List ℕ) 
   still p k lt later = elim (cases_eq k key) [
     | inl e ↦ block-there (ap (block_at (set mid key slot)) e ∙ own p ∙ p.used (subst (λ i. key < get_or last i 0) e (omega arith)))
     | inr ne ↦ elim (freed-at p k) [
-        | inl same ↦ ap is_some (other k ne ∙ same) ∙ p.kept.kept k (omega arith) (omega arith)
-        | inr h ↦ let same : get_or last k 0 ≡ key = h.0 in absurd (omega arith)
-      ]
+      | inl same ↦ ap is_some (other k ne ∙ same) ∙ p.kept.kept k (omega arith) (omega arith)
+      | inr h ↦ let same : get_or last k 0 ≡ key = h.0 in absurd (omega arith)
+    ]
   ]
 
   -- a key whose last use this is, is a dependency
@@ -62,9 +62,9 @@ module _ {B : Type 0} (deps : ℕ → List ℕ) (count : ℕ) (last : List ℕ) 
   past p k lt spent = elim (cases_eq k key) [
     | inl e ↦ ap (block_at (set mid key slot)) e ∙ own p ∙ p.unused (subst (λ i. get_or last i 0 ≤ key) e (omega arith))
     | inr ne ↦ elim (cases_eq (get_or last k 0) key) [
-        | inl e ↦ other k ne ∙ ap (option_map arc_value) (p.freed.written k (dependency p k (omega arith) e) e)
-        | inr earlier ↦ none-still p k ne (p.kept.gone k (omega arith) (omega arith))
-      ]
+      | inl e ↦ other k ne ∙ ap (option_map arc_value) (p.freed.written k (dependency p k (omega arith) e) e)
+      | inr earlier ↦ none-still p k ne (p.kept.gone k (omega arith) (omega arith))
+    ]
   ]
 
   one-block : (b : B) (o : Option B) → o ≡ Some block → o ≡ Some b → b ≡ block

@@ -16,15 +16,15 @@ module _ (deps : ℕ → List ℕ) where
     after_all = λ k lt m. elim (cases_eq k count) [
       | inl e ↦ let n : now ≡ count = marked (subst (λ i. Contains (deps i) d) e m) in omega arith
       | inr ne ↦ elim either [
-          | inl same ↦ let h : k ≤ last = u.after_all k (omega arith) m in omega arith
-          | inr h ↦ let n : now ≡ count = h.1 in omega arith
-        ]
+        | inl same ↦ let h : k ≤ last = u.after_all k (omega arith) m in omega arith
+        | inr h ↦ let n : now ≡ count = h.1 in omega arith
+      ]
     ];
     is_one = elim either [
       | inl same ↦ elim u.is_one [
-          | inl e ↦ inl (same ∙ e)
-          | inr h ↦ inr (let lt : last < count = h.0 in omega arith, subst (λ i. Contains (deps i) d) (sym same) h.1)
-        ]
+        | inl e ↦ inl (same ∙ e)
+        | inr h ↦ inr (let lt : last < count = h.0 in omega arith, subst (λ i. Contains (deps i) d) (sym same) h.1)
+      ]
       | inr h ↦ inr (let n : now ≡ count = h.1 in omega arith, subst (λ i. Contains (deps i) d) (sym h.1) h.0)
     ];
   }

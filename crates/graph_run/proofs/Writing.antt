@@ -30,9 +30,9 @@ module _ {A : Type 0} (P : ℕ → Type 0) (default value : A) where
     others = λ k. elim (cases_eq j k) [
       | inl e ↦ inr (subst (Contains (places ++ j ∷ [])) e (Contains-push places j), subst P e p, put-same new j k lt e)
       | inr ne ↦ elim (w.others k) [
-          | inl same ↦ inl (put-other new j k ne ∙ same)
-          | inr h ↦ inr (Contains-append_left places (j ∷ []) k h.0, h.1, put-other new j k ne ∙ h.2)
-        ]
+        | inl same ↦ inl (put-other new j k ne ∙ same)
+        | inr h ↦ inr (Contains-append_left places (j ∷ []) k h.0, h.1, put-other new j k ne ∙ h.2)
+      ]
     ];
   }
 

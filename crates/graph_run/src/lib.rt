@@ -6,6 +6,7 @@
 #![tactic(auto)]
 
 mod evaluation;
+mod running;
 mod slots;
 mod uses;
 

@@ -11,8 +11,8 @@ loop-key-preserved c =
     let key = c.loop-key.key in
     let deps = deps_of c.args.graph.now in
     let marked =
-      subst (λ (ks : List ℕ). IsWritten (λ d. Unit {0}) 0 key ks c.loop-key.last.items c.mark.new.last) c.deps.ensures
-      (subst (λ (xs : List ℕ). IsWritten (λ d. Unit {0}) 0 key c.deps.result.now xs c.mark.new.last) c.as_mut_slice.ensures.value c.mark.ensures) in
+    subst (λ (ks : List ℕ). IsWritten (λ d. Unit {0}) 0 key ks c.loop-key.last.items c.mark.new.last) c.deps.ensures
+    (subst (λ (xs : List ℕ). IsWritten (λ d. Unit {0}) 0 key c.deps.result.now xs c.mark.new.last) c.as_mut_slice.ensures.value c.mark.ensures) in
     let whole = with_items_is c.loop-key.last c.mark.new.last (c.mark.ensures.same_length ∙ c.as_mut_slice.ensures.len) in
     subst (λ (xs : List ℕ). AreLastUses deps (key + 1) xs) (sym (c.in_ok-push.ensures.items ∙ ap (λ (xs : List ℕ). xs ++ key ∷ []) whole))
     (uses-more deps key c.loop-key.last.items c.mark.new.last c.loop-key.invariant marked)
