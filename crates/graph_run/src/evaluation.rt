@@ -95,23 +95,13 @@ impl<J: JobSpec> Evaluation<J> {
         ensures dims { IfOk result (λ s. IfMade s (λ b. J.block_dims b ≡ J.key_dims self.old.job self.old.next)) }
         ensures faults { CountsStep result (J.fault_count self.old.feed) (J.fault_count self.new.feed) }
     {
-        let step = run_key(
-            self.alloc,
-            &self.job,
-            &mut self.feed,
-            self.slots.as_slice(),
-            self.next,
-        )?;
+        let graph = self.job.shape();
+        graph.sound();
+        let slots = self.slots.as_slice();
+        let step = run_key(self.alloc, &self.job, &mut self.feed, slots, self.next)?;
         if let Step::Made(block) = &step {
-            let graph = self.job.shape();
-            graph.sound();
-            keep(
-                self.slots.as_mut_slice(),
-                self.last.as_slice(),
-                graph,
-                self.next,
-                block,
-            )?;
+            let slots = self.slots.as_mut_slice();
+            keep(slots, self.last.as_slice(), graph, self.next, block)?;
             self.next += 1;
         }
         Ok(step)
