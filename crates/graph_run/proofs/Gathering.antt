@@ -30,9 +30,9 @@ module _ {B : Type 0} (block : ℕ → Option B) where
       ap (λ o. with_first o (all_of (map value ks))) (h k b here) ∙ ap (with_first (Some b)) (all-gathered value ks bs rest h)
 
   -- what the operation of a key makes of the gathered values of its dependencies is the value of the key
-  pub val-gathered : (g : Shape) (op : ℕ → List B → Option B) (key : ℕ) (bs : List B) (made : Option B) → IsShape g → map (λ b. Some b) bs ≡ map block (deps_of g key) → made ≡ op key bs
+  pub val-gathered : (g : Shape) (op : ℕ → List B → Option B) (key : ℕ) (bs : List B) (made outcome : Option B) → IsShape g → map (λ b. Some b) bs ≡ map block (deps_of g key) → made ≡ outcome → outcome ≡ op key bs
       → ((k : ℕ) (b : B) → block k ≡ Some b → val (deps_of g) op k ≡ Some b) → made ≡ val (deps_of g) op key
-  val-gathered g op key bs made s e m h = m ∙ sym (val-values (deps_of g) op (earlier g s) key bs (all-gathered (val (deps_of g) op) (deps_of g key) bs e h))
+  val-gathered g op key bs made outcome s e m o h = m ∙ o ∙ sym (val-values (deps_of g) op (earlier g s) key bs (all-gathered (val (deps_of g) op) (deps_of g key) bs e h))
 
 -- the list that was gathered for a key, as it is passed on
 pub gathered-of : {B : Type 0} (block : ℕ → Option B) (xs ys : List (Arc B Global)) (ks : List ℕ) (shape graph : Shape) (key : ℕ) → xs ≡ ys → map (λ b. Some b) (blocks_of ys) ≡ map block ks → ks ≡ deps_of shape key → shape ≡ graph

@@ -21,8 +21,8 @@ returns-in-Value-clause-value g c =
     let block = block_at c.args.slots.now in
     let graph = g.J.JobSpec.graph job in
     let whole = gathered-of block c.as_slice.result.now c.in_ok-inputs.inputs.items c.deps.result.now c.shape-graph.result.now graph c.args.key c.as_slice.ensures.value c.in_ok-inputs.ensures c.deps.ensures c.shape-graph.ensures in
-    λ t v. val-gathered block graph (g.J.JobSpec.operation job) c.args.key (blocks_of c.as_slice.result.now) (Some (arc_value c.in_ok-block-in-Value.block)) (subst IsShape c.shape-graph.ensures c.sound.ensures) whole
-    (ap (λ b. Some b) c.in_ok-block-in-Value.ensures.ok ∙ sym (ap value_of c.in-Value.is) ∙ c.in_ok-outcome.ensures.value t) v
+    λ t v. val-gathered block graph (g.J.JobSpec.operation job) c.args.key (blocks_of c.as_slice.result.now) (Some (arc_value c.in_ok-block-in-Value.block)) (value_of c.in_ok-outcome.outcome) (subst IsShape c.shape-graph.ensures c.sound.ensures) whole
+    (ap (λ b. Some b) c.in_ok-block-in-Value.ensures.ok ∙ sym (ap value_of c.in-Value.is)) (c.in_ok-outcome.ensures.value t) v
 
 pub returns-clause-value : goal.returns-clause-value
 returns-clause-value g c =
@@ -30,5 +30,5 @@ returns-clause-value g c =
     let block = block_at c.args.slots.now in
     let graph = g.J.JobSpec.graph job in
     let whole = gathered-of block c.as_slice.result.now c.in_ok-inputs.inputs.items c.deps.result.now c.shape-graph.result.now graph c.args.key c.as_slice.ensures.value c.in_ok-inputs.ensures c.deps.ensures c.shape-graph.ensures in
-    λ t v. val-gathered block graph (g.J.JobSpec.operation job) c.args.key (blocks_of c.as_slice.result.now) None (subst IsShape c.shape-graph.ensures c.sound.ensures) whole
-    (sym (ap value_of c.in-Zero.is) ∙ c.in_ok-outcome.ensures.value t) v
+    λ t v. val-gathered block graph (g.J.JobSpec.operation job) c.args.key (blocks_of c.as_slice.result.now) None (value_of c.in_ok-outcome.outcome) (subst IsShape c.shape-graph.ensures c.sound.ensures) whole
+    (sym (ap value_of c.in-Zero.is)) (c.in_ok-outcome.ensures.value t) v
