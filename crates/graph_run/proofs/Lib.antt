@@ -1,4 +1,5 @@
 pub mod Gathering
+pub mod Holding
 pub mod Keeping
 pub mod Marking
 pub mod Stepping

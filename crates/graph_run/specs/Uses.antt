@@ -10,3 +10,7 @@ pub record IsLastUse (deps : ℕ → List ℕ) (count d last : ℕ) : Type 0 whe
 pub record AreLastUses (deps : ℕ → List ℕ) (count : ℕ) (last : List ℕ) : Type 0 where
   pub counted : length last ≡ count
   pub each : (d : ℕ) → d < count → IsLastUse deps count d (slice_index last d)
+
+-- some key from this one on depends on key d
+abbrev pub IsUsedFrom : (ℕ → List ℕ) → ℕ → ℕ → Type 0
+IsUsedFrom deps next d = (k : ℕ) × (next ≤ k) × Contains (deps k) d

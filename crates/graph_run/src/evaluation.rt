@@ -1,8 +1,9 @@
 //! The evaluation of a job's keys in order.
-ghost use Rattle.std.specs.Prelude.{◌≡◌, ◌<◌, ◌↔◌, IfOk};
+ghost use Rattle.std.specs.Prelude.{◌≡◌, ◌<◌, ◌↔◌, IfOk, IsTrue};
 ghost use Rattle.cluster_msgs.specs.Shape.{key_count, deps_of};
 ghost use Rattle.cluster_msgs.specs.Values.{val};
 ghost use Rattle.graph_run.specs.Evaluations.{HaveValues, IfMade, CountsStep, value_of_step, next_after};
+ghost use Rattle.graph_run.specs.Uses.{IsUsedFrom};
 
 use crate::running::run_key;
 use crate::slots::{empty, keep};
@@ -105,6 +106,14 @@ impl<J: JobSpec> Evaluation<J> {
             self.next += 1;
         }
         Ok(step)
+    }
+
+    /// Whether a key's block is held: that of a key that was run, which some key uses that wasn't. No memory.
+    pub fn holds(&self, key: u32) -> bool
+        requires { key < key_count (J.graph self.now.job) }
+        ensures { IsTrue result ↔ ((key < self.now.next) × IsUsedFrom (deps_of (J.graph self.now.job)) self.now.next key) }
+    {
+        self.slots[key as usize].is_some()
     }
 
     /// All keys before the next one have values, where the feed tells what it holds. It does nothing.
