@@ -1,24 +1,27 @@
 -- Files of a plan while its blocks are made, key by key: what the private functions answer.
-use Rattle.std.specs.Prelude.{◌≡◌, ◌≢◌, ◌⊎◌, ◌≤◌, ◌<◌, ℕ, List, [], ◌∷◌, cond, nat_eq, length, take, slice_index_or, Option, Some, None, Bool, IsTrue}
+use Rattle.std.specs.Prelude.{◌≡◌, ◌≢◌, ◌⊎◌, ◌≤◌, ◌<◌, ℕ, List, [], ◌∷◌, cond, nat_eq, length, take, slice_index_or, Option, Some, None, Bool, IsTrue, IsSome}
 use Rattle.io_edge.specs.Cause.{Rose}
-use Rattle.io_edge.specs.Content.{Content, OnTold}
+use Rattle.io_edge.specs.Content.{Content, OnTold, told_bytes}
 use Rattle.io_edge.specs.View.{View, Files, raised_by}
 use Rattle.nd_shape.specs.Block.{Array}
 use Rattle.nd_shape.specs.Region.{Box}
-use Rattle.array_expr.specs.Node.{shape_at}
+use Rattle.array_expr.specs.Node.{shape_at, IsExpression}
 use Rattle.chunk_layout.specs.Layouts.{region}
+use Rattle.task_graph.specs.Graphs.{value}
 use Rattle.lowering_laws.specs.Lowered.{lowered}
-use Rattle.lowering_laws.specs.Named.{layout_of, box_of}
+use Rattle.lowering_laws.specs.Named.{layout_of, box_of, LawOfNames, LawOfNamed}
 use Rattle.lowering_laws.specs.Named.{IsName as NamesBlock}
-use Rattle.saved_files.specs.Filling.{IsFilling, IsPart, file_of as bytes_of}
+use Rattle.lowering_laws.specs.Faults.{LawOfFaults}
+use Rattle.lowering_laws.specs.Whole.{LawOfOrder}
+use Rattle.saved_files.specs.Filling.{IsFilling, IsPart, HoldsBox, file_of as bytes_of}
 use Rattle.saved_files.specs.Saving.{Saving, saving_at, IsFresh, IsOf, IsLeft, FillsMore, FillsPart}
 use Rattle.job_run.specs.declared.ends.Ended.{Ended}
 use Rattle.job_run.specs.declared.ends.Ended.TheVariants.{Done, Zero, ReadFault, WriteFault, OutOfMemory}
-use Rattle.job_run.specs.declared.evaluate.Halt.{Halt}
-use Rattle.job_run.specs.declared.evaluate.Halt.TheVariants as halts
+use Rattle.job_run.specs.declared.blocks.Halt.{Halt}
+use Rattle.job_run.specs.declared.blocks.Halt.TheVariants as halts
 use Rattle.job_run.specs.Part.{AreWhole, AreLeft, IsNoneOf, RaisedAtMost}
 use Rattle.job_run.specs.Plan.{Plan, names_saved, nodes_saved, name_at}
-use Rattle.job_run.specs.Values.{Named, IsNeeded, IsFaulty, MeetsZero, MeetsNone, NeedsFault, arrays_saved, files_of, index_of}
+use Rattle.job_run.specs.Values.{Named, MeetsZero, MeetsNone, arrays_saved, files_of, index_of, tasks_of}
 
 abbrev pub node_at : Plan → ℕ → ℕ
 node_at p k = slice_index_or (nodes_saved p) k 0
@@ -52,7 +55,7 @@ pub record AreSameFiles (old new : List Saving) : Type 0 where
   pub count : length new ≡ length old
   pub names : (k : ℕ) → k < length old → (saving_at new k).name ≡ (saving_at old k).name
   pub dims : (k : ℕ) → k < length old → (saving_at new k).dims ≡ (saving_at old k).dims
-  pub told : (k : ℕ) → k < length old → OnTold (saving_at old k).content (λ before. OnTold (saving_at new k).content (λ after. length after ≡ length before))
+  pub told : (k : ℕ) → k < length old → IsSome (told_bytes (saving_at old k).content) → IsSome (told_bytes (saving_at new k).content)
 
 -- one of the files has failed
 pub record HasFailed (files : List Saving) : Type 0 where
@@ -101,6 +104,37 @@ SavesPartAt p name block k old new = (new ≡ old) ⊎ (SavesAt p name block k o
 abbrev pub IsBlockNamed : Plan → Option (ℕ × ℕ) → Array → Type 0
 IsBlockNamed p None block = Unit {0}
 IsBlockNamed p (Some x) block = (key : ℕ) × NamesBlock p.nodes (nodes_saved p) key x.0 x.1 × (block.shape ≡ (box_of p.nodes x.0 x.1).lengths)
+
+-- the files before this place took the block, and those from it on are as they were
+pub record SavedBelow (p : Plan) (name : Option (ℕ × ℕ)) (block : Array) (place : ℕ) (old new : List Saving) : Type 0 where
+  pub same : AreSameFiles old new
+  pub below : (k : ℕ) → k < place → k < length old → SavesAt p name block k (saving_at old k).content (saving_at new k).content
+  pub above : (k : ℕ) → place ≤ k → saving_at new k ≡ saving_at old k
+  pub kept : (k : ℕ) → k < length old → (saving_at new k).faults ≡ (saving_at old k).faults
+
+-- ## The next key
+
+-- what the laws of lowering say of a plan, where the inputs hold these elements
+pub record HasLaws (p : Plan) (named : Named) : Type 0 where
+  pub expression : IsExpression p.nodes
+  pub order : LawOfOrder p.nodes (nodes_saved p)
+  pub names : LawOfNames p.nodes (nodes_saved p)
+  pub named_is : LawOfNamed named p.nodes (nodes_saved p)
+  pub faults : LawOfFaults named p.nodes (nodes_saved p)
+
+-- all keys before this one have values
+abbrev pub HaveAll : Plan → Named → ℕ → Type 0
+HaveAll p named key = (k : ℕ) → k < key → IsSome (value named (tasks_of p) k)
+
+-- the block under this name holds the elements of each saved array of its node
+abbrev pub HoldsNamed : Plan → Named → Option (ℕ × ℕ) → Array → Type 0
+HoldsNamed p named None block = Unit {0}
+HoldsNamed p named (Some x) block = (k : ℕ) → k < length p.saves → node_at p k ≡ x.0 → HoldsBox (array_at p named k) (box_of p.nodes x.0 x.1) block
+
+-- the halt is a zero divisor in the block under this name
+abbrev pub IsZeroOf : Plan → Option (ℕ × ℕ) → Halt → Type 0
+IsZeroOf p (Some x) (halts.Zero node block) = (node ≡ x.0) × (block ≡ index_of p x.0 x.1)
+IsZeroOf p name halt = ⊥
 
 -- ## All keys
 
