@@ -1,5 +1,5 @@
 -- What a key's operation makes of blocks with the shapes of its dependencies.
-use Rattle.std.proofs.Common.{◌≡◌, refl, ℕ, ◌<◌, List, [], ◌∷◌, map, ap, sym, subst, ◌∙◌}
+use Rattle.std.proofs.Common.{◌≡◌, refl, ℕ, List, [], ◌∷◌, map, ap, subst, ◌∙◌}
 use Rattle.std.specs.Prelude.{IfOk, IfErr, Result, Ok, Err, Option}
 use Rattle.nd_shape.specs.Block.{Array}
 use Rattle.cluster_msgs.specs.Shape.{deps_of}

@@ -27,3 +27,4 @@ pub mod UsesZipped
 pub mod Within
 pub mod Loading
 pub mod Fed
+pub mod Untruncated

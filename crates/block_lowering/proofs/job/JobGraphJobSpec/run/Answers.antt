@@ -4,7 +4,6 @@ use Rattle.cluster_msgs.specs.Jobs.{blocks_of}
 use Rattle.block_kernels.specs.declared.spec.Spec.{Spec}
 use Rattle.block_kernels.specs.declared.spec.Spec.TheVariants.{Load}
 use Rattle.block_kernels.specs.Kernels.{input_shapes, result_shape, made}
-use Rattle.block_kernels.specs.Inputs.{shapes_of}
 use Rattle.task_graph.specs.Graphs.{task_at}
 use Rattle.block_lowering.specs.Jobs.{TellsFeed, FitsFeed}
 use Rattle.block_lowering.proofs.Fed.{fed-shapes, no-blocks, told-value, dims-are, counts-none}
@@ -21,7 +20,7 @@ returns-in-Load-clause-value g c =
     let none : blocks ≡ [] = no-blocks blocks (fed-shapes job.tasks c.args.key blocks c.sound.ensures.fed c.requires.inputs ∙ ap input_shapes spec) in
     told-value (TellsFeed job.heads files) c.run_load.result (made named load []) (made named (task_at job.tasks c.args.key).spec blocks)
     (λ tells. c.run_load.ensures.value named (subst (λ (heads : List Head). FitsFeed named heads files) (sym c.heads.ensures) c.requires.feed)
-        (subst (λ (heads : List Head). TellsFeed heads files) (sym c.heads.ensures) tells))
+    (subst (λ (heads : List Head). TellsFeed heads files) (sym c.heads.ensures) tells))
     (ap (made named load) (sym none) ∙ ap (λ (s : Spec). made named s blocks) (sym spec))
 
 pub returns-in_default : goal.returns-in_default
