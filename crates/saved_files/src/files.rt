@@ -99,8 +99,8 @@ impl<S: Site> SavedFiles<S> {
         ensures kept { OnOk result ((saving_at self.new place).faults ≡ (saving_at self.old place).faults) }
         ensures cause { HasOpenCause (saving_at self.old place).faults (saving_at self.new place).faults result }
     {
-        let open = &mut self.files[place];
-        write_block(alloc, open, region, block)
+        let opened = &mut self.files[place];
+        write_block(alloc, opened, region, block)
     }
 
     /// Gives all files back. The count of write faults rises where a file's count is above 0, and only there.

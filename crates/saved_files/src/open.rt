@@ -85,22 +85,22 @@ pub fn open_file<S: Site>(
 /// Writes a block into a box of the file's array.
 pub fn write_block<F: OutFile>(
     alloc: Global,
-    open: &mut OpenFile<F>,
+    opened: &mut OpenFile<F>,
     region: &Region,
     block: &Block,
 ) -> Result<(), OpenFault>
-    requires kept { IsKept F.content open.old }
-    requires inside { IsPart region.now open.old.head.shape }
+    requires kept { IsKept F.content opened.old }
+    requires inside { IsPart region.now opened.old.head.shape }
     requires shape { block.now.shape ≡ region.now.lengths }
-    ensures still { IsKept F.content open.new }
-    ensures head { open.new.head ≡ open.old.head }
-    ensures named { F.named open.new.file ≡ F.named open.old.file }
-    ensures filled { OnOk result (FillsMore open.old.head.shape region.now block.now (F.content open.old.file) (F.content open.new.file)) }
-    ensures part { OnErr result (FillsPart open.old.head.shape region.now block.now (F.content open.old.file) (F.content open.new.file)) }
-    ensures faults { OnOk result (F.count open.new.file ≡ F.count open.old.file) }
-    ensures cause { HasOpenCause (F.count open.old.file) (F.count open.new.file) result }
+    ensures still { IsKept F.content opened.new }
+    ensures head { opened.new.head ≡ opened.old.head }
+    ensures named { F.named opened.new.file ≡ F.named opened.old.file }
+    ensures filled { OnOk result (FillsMore opened.old.head.shape region.now block.now (F.content opened.old.file) (F.content opened.new.file)) }
+    ensures part { OnErr result (FillsPart opened.old.head.shape region.now block.now (F.content opened.old.file) (F.content opened.new.file)) }
+    ensures faults { OnOk result (F.count opened.new.file ≡ F.count opened.old.file) }
+    ensures cause { HasOpenCause (F.count opened.old.file) (F.count opened.new.file) result }
 {
-    write_region(alloc, &mut open.file, &open.head, region, block)
+    write_region(alloc, &mut opened.file, &opened.head, region, block)
 }
 
 /// Gives files back, one after another.
@@ -111,7 +111,7 @@ pub fn give_all<S: Site>(files: Vec<OpenFile<S::Out>>, site: &mut S)
     ensures later { (S.view site.old).write_faults ≤ (S.view site.new).write_faults }
     ensures cause { TakesAll (map (saving_of S.Out.named S.Out.content S.Out.count) files.items) (S.view site.old).write_faults (S.view site.new).write_faults }
 {
-    for open in files {
-        site.give_file(open.file);
+    for opened in files {
+        site.give_file(opened.file);
     }
 }
