@@ -1,3 +1,3 @@
 pub mod Manned
 pub mod Appending
-pub mod Over
+pub mod Filling

@@ -2,4 +2,5 @@ pub mod Simulated
 pub mod Jobs
 pub mod Texts
 pub mod Ends
+pub mod Saving
 pub mod Serving

@@ -9,6 +9,7 @@
 
 pub mod ends;
 mod lines;
+mod saving;
 mod serving;
 pub mod simulated;
 

@@ -1,35 +1,48 @@
 //! The simulation of a job's graph over its open inputs.
-ghost use Rattle.std.specs.Prelude.{◌≡◌, ◌≤◌, ◌<◌, ◌++◌, ℕ, [], length, IfOk, IfErr, OnOk, OnErr};
+ghost use Rattle.std.specs.Prelude.{◌≡◌, ◌++◌, [], length, IfOk, IfErr, OnOk};
 ghost use Rattle.std.specs.List.{flat_map};
+ghost use Rattle.io_edge.specs.Cause.{Rose};
 ghost use Rattle.block_lowering.specs.Jobs.{FitsFeed, TellsFeed};
+ghost use Rattle.cluster_laws.specs.Blocks.{setting_of};
+ghost use Rattle.cluster_sim.specs.Openings.{IsOpening};
+ghost use Rattle.cluster_world.specs.Worlds.{setting};
+ghost use Rattle.task_graph.specs.Graphs.{shape_of};
 ghost use Rattle.job_run.specs.Jobs.{plan_of};
 ghost use Rattle.job_run.specs.Loading.{AreHeads};
 ghost use Rattle.job_run.specs.Lowering.{IsGraphOf};
 ghost use Rattle.job_run.specs.Plan.{IsRunnable, input_shapes};
-ghost use Rattle.sim_run.specs.Serving.{ServesAll, ServesFiles, ServesPart, ended_of};
+ghost use Rattle.job_run.specs.Values.{tasks_of};
+ghost use Rattle.sim_run.specs.Serving.{EndsAtKey, IsWantedOf, SavesFiles, ServesAll, ServesFiles, ServesPart, ended_of};
 ghost use Rattle.sim_run.specs.Simulated.{AreSettings};
 
 use crate::ends::SimEnded;
+use crate::saving::{CLIENT, save_all};
+use block_lowering::sources::Name;
 use block_lowering::{Elements, JobGraph, Lowered};
 use chunk_layout::Layout;
-use cluster_msgs::{KeyList, Report};
-use cluster_sim::{SimEnd, SimError, SimPlan, simulate};
+use cluster_msgs::{JobSpec, KeyList, Report, Sequence};
+use cluster_sim::{SimError, SimPlan, simulate};
 use cluster_world::World;
 use io_edge::{OpenFault, Site};
-use job_run::{Ended, Inputs, Job, create_files};
-use nd_shape::Region;
-use saved_files::SavedFiles;
+use job_run::{Ended, Inputs, Job};
 use sim_words::SimWords;
 use std::alloc::{AllocError, Global};
-
-/// The one client of a simulation.
-const CLIENT: u32 = 1;
 
 /// What a simulation gave whose client got all: the report, and how many turns it took.
 #[derive(Drop)]
 pub struct Served {
     pub report: Report,
     pub turns: u64,
+}
+
+/// What the client wants: the keys of all saved blocks. And what is known of them: those of each save, in row-major order, with
+/// the layout of its array, and the node and block of each key of the graph.
+#[derive(Drop)]
+pub struct Wanted {
+    pub all: KeyList,
+    pub saved: Sequence<KeyList>,
+    pub layouts: Vec<Layout>,
+    pub names: Sequence<Name>,
 }
 
 // How the run ends where the simulation gave no result.
@@ -65,55 +78,57 @@ fn joined_keys(alloc: Global, lists: &[KeyList]) -> Result<KeyList, AllocError>
     Ok(KeyList::from_vec(all))
 }
 
-// Writes the client's blocks of one array into the file at a place.
-fn save_array<S: Site, E: Elements + Send + Sync + Drop>(
-    alloc: Global,
-    world: &World<JobGraph<S::In, E>>,
-    files: &mut SavedFiles<S>,
-    place: usize,
-    keys: &[u32],
-    layout: &Layout,
-) -> Result<(), OpenFault> {
-    let mut region = Region::new();
-    for (number, key) in keys.iter().enumerate() {
-        match world.got(CLIENT, *key) {
-            Some(block) => {
-                layout.block_region(number as u64, &mut region);
-                files.write(alloc, place, &region, block)?;
-            }
-            None => unreachable!(),
-        }
-    }
-    Ok(())
+// How the run ends where the client was told of a zero divisor at a key.
+fn ended_at(_alloc: Global, job: &Job, wanted: &Wanted, key: u32) -> Ended
+    requires { IsWantedOf (plan_of job.now) wanted.now }
+    ensures { EndsAtKey (plan_of job.now) key result }
+{
+    Ended::OutOfMemory
 }
 
-// Writes the client's blocks of all saves.
-fn save_arrays<S: Site, E: Elements + Send + Sync + Drop>(
-    alloc: Global,
-    world: &World<JobGraph<S::In, E>>,
-    files: &mut SavedFiles<S>,
-    saved: &[KeyList],
-    layouts: &[Layout],
-) -> Result<(), OpenFault> {
-    for (place, keys) in saved.iter().enumerate() {
-        save_array(alloc, world, files, place, keys.as_slice(), &layouts[place])?;
-    }
-    Ok(())
-}
-
-// Creates the files of a job's saves and writes the client's blocks into them.
-fn save_all<S: Site, E: Elements + Send + Sync + Drop>(
+// Simulates the job of a world that was just made, and saves what its client got.
+fn simulate_world<S: Site, E: Elements + Send + Sync + Drop>(
     alloc: Global,
     site: &mut S,
     job: &Job,
-    world: &World<JobGraph<S::In, E>>,
-    saved: &[KeyList],
-    layouts: &[Layout],
-) -> Result<(), OpenFault> {
-    let mut files = create_files(alloc, site, job)?;
-    let done = save_arrays(alloc, world, &mut files, saved, layouts);
-    files.give(site);
-    done
+    world: &mut World<JobGraph<S::In, E>>,
+    wanted: &Wanted,
+    words: SimWords,
+) -> Result<Served, SimEnded>
+    requires runs { IsRunnable (plan_of job.now) }
+    requires wanted { IsWantedOf (plan_of job.now) wanted.now }
+    requires words { AreSettings words }
+    requires opening { IsOpening ⟦<JobGraph<S::In, E> as JobSpec>⟧.operation world.old }
+    requires setting { setting world.old ≡ setting_of (shape_of (tasks_of (plan_of job.now))) 1 words.settings.saturation }
+    requires tasks { world.old.job.job.tasks ≡ tasks_of (plan_of job.now) }
+    ensures files { SavesFiles (plan_of job.now) (S.view site.old) (S.view site.new) }
+    ensures served { IfOk result (λ s. ServesAll (plan_of job.now) words E.named
+        (TellsFeed world.old.job.job.heads (S.In.files world.old.feed)) (S.view site.old).files (S.view site.new).files s.report s.turns) }
+    ensures stopped { IfErr result (ServesPart (plan_of job.now) words E.named (TellsFeed world.old.job.job.heads (S.In.files world.old.feed))
+        (Rose (S.In.count world.old.feed) (S.In.count world.new.feed)) (Rose (S.view site.old).write_faults (S.view site.new).write_faults)
+        (S.view site.old).files (S.view site.new).files) }
+{
+    let SimWords { settings, script } = words;
+    let plan = SimPlan {
+        workers: settings.workers,
+        threads: settings.threads,
+        script,
+    };
+    let end = match simulate(alloc, world, settings.number, &plan, &wanted.all) {
+        Ok(end) => end,
+        Err(error) => return Err(ended(error)),
+    };
+    if let Some(key) = end.zero {
+        return Err(SimEnded::Ran(ended_at(alloc, job, wanted, key)));
+    }
+    match save_all(alloc, site, job, world, wanted.saved.as_slice(), &wanted.layouts) {
+        Ok(()) => Ok(Served {
+            report: end.report,
+            turns: end.turns,
+        }),
+        Err(OpenFault::Failed) => Err(SimEnded::Ran(Ended::WriteFault)),
+        Err(OpenFault::OutOfMemory) => Err(SimEnded::Ran(Ended::OutOfMemory)),
+    }
 }
 
 /// Simulates a job's graph over its open inputs, and saves what the client got. Where the client didn't get all, no file is
@@ -138,49 +153,30 @@ pub fn serve<S: Site, E: Elements + Send + Sync + Drop>(
     requires fresh { S.In.count inputs.store ≡ 0 }
     requires words { AreSettings words }
     ensures files { ServesFiles (plan_of job.now) (S.view site.old) (S.view site.new) }
-    ensures served { IfOk result (λ s. ServesAll (plan_of job.now) words E.named (TellsFeed inputs.heads.items (S.In.files inputs.store)) (S.view site.old) (S.view site.new) s.report s.turns) }
-    ensures stopped { IfErr result (ServesPart (plan_of job.now) words E.named (TellsFeed inputs.heads.items (S.In.files inputs.store)) (S.view site.old) (S.view site.new)) }
+    ensures served { IfOk result (λ s. ServesAll (plan_of job.now) words E.named
+        (TellsFeed inputs.heads.items (S.In.files inputs.store)) (S.view site.old).files (S.view site.new).files s.report s.turns) }
+    ensures stopped { IfErr result (ServesPart (plan_of job.now) words E.named (TellsFeed inputs.heads.items (S.In.files inputs.store))
+        (Rose (S.view site.old).read_faults (S.view site.new).read_faults) (Rose (S.view site.old).write_faults (S.view site.new).write_faults)
+        (S.view site.old).files (S.view site.new).files) }
 {
     let Inputs { store, heads } = inputs;
-    let Lowered { graph, saved, layouts, .. } = lowered;
-    let SimWords { settings, script } = words;
-    let plan = SimPlan {
-        workers: settings.workers,
-        threads: settings.threads,
-        script,
+    let Lowered {
+        graph,
+        names,
+        saved,
+        layouts,
+    } = lowered;
+    let all = joined_keys(alloc, saved.as_slice())?;
+    let wanted = Wanted {
+        all,
+        saved,
+        layouts,
+        names,
     };
-    let wanted = joined_keys(alloc, saved.as_slice())?;
     let graph = JobGraph::<S::In, E>::new(alloc, graph, heads)?;
-    let mut world = World::new(alloc, graph, store, CLIENT, settings.saturation)?;
-    let end = simulate(alloc, &mut world, settings.number, &plan, &wanted);
-    let served = finish(alloc, site, job, &world, end, saved.as_slice(), &layouts);
+    let saturation = words.settings.saturation;
+    let mut world = World::new(alloc, graph, store, CLIENT, saturation)?;
+    let served = simulate_world(alloc, site, job, &mut world, &wanted, words);
     site.give_store(world.into_feed());
     served
-}
-
-// What the simulation came to: the client's blocks saved, or why they aren't.
-fn finish<S: Site, E: Elements + Send + Sync + Drop>(
-    alloc: Global,
-    site: &mut S,
-    job: &Job,
-    world: &World<JobGraph<S::In, E>>,
-    end: Result<SimEnd, SimError>,
-    saved: &[KeyList],
-    layouts: &[Layout],
-) -> Result<Served, SimEnded> {
-    let end = match end {
-        Ok(end) => end,
-        Err(error) => return Err(ended(error)),
-    };
-    if let Some(_key) = end.zero {
-        return Err(SimEnded::Ran(Ended::OutOfMemory));
-    }
-    match save_all(alloc, site, job, world, saved, layouts) {
-        Ok(()) => Ok(Served {
-            report: end.report,
-            turns: end.turns,
-        }),
-        Err(OpenFault::Failed) => Err(SimEnded::Ran(Ended::WriteFault)),
-        Err(OpenFault::OutOfMemory) => Err(SimEnded::Ran(Ended::OutOfMemory)),
-    }
 }
