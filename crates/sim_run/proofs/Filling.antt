@@ -11,13 +11,21 @@ use Rattle.nd_shape.specs.Shape.{elements}
 use Rattle.chunk_layout.specs.Layouts.{blocks, block_of, lengths, region}
 use Rattle.chunk_layout.proofs.Parting.{in-region}
 use Rattle.saved_files.specs.Filling.{Cover, HoldsBox, IsCovered, IsFilling, IsPart, box_of, file_of}
-use Rattle.saved_files.specs.Saving.{ChangesAt, FillsMore, FillsPart, IsOf, Saving, saving_at}
-use Rattle.sim_run.specs.Saving.{AreBlocksOf, FillsAll, FillsFirst, FillsSome, FilledBelow, KeepNames, boxes_to, keys_at, layout_at}
+use Rattle.npy_region.specs.Writing.{Turns}
+use Rattle.saved_files.specs.Saving.{ChangesAt, IsOf, Saving, saving_at}
+use Rattle.sim_run.specs.Filling.{AreBlocksOf, FillsAll, FillsFirst, FillsSome, FilledBelow, KeepNames, boxes_to, keys_at, layout_at}
 
 -- ## One file
 
 fewer : (a : Array) (boxes : List Box) (bytes : List ℕ) → IsFilling a boxes bytes → IsFilling a [] bytes
 fewer a boxes bytes f = record { part = f.part; header_is = f.header_is; there = λ k i j h. absurd (omega (arith, h)) }
+
+-- a file of an array of these lengths, before and after a block was written, whole or in part
+abbrev pub More : List ℕ → Box → Array → Content → Content → Type 0
+More dims box block old new = Turns (λ before after. (a : Array) (boxes : List Box) → a.shape ≡ dims → IsFilling a boxes before → HoldsBox a box block → IsFilling a (boxes ++ box ∷ []) after) old new
+
+abbrev pub Part : List ℕ → Box → Array → Content → Content → Type 0
+Part dims box block old new = Turns (λ before after. (a : Array) (boxes : List Box) → a.shape ≡ dims → IsFilling a boxes before → HoldsBox a box block → IsFilling a boxes after) old new
 
 module _ (layout : List (List ℕ)) (keys : List ℕ) (got : ℕ → Option Array) where
   pub fills-none : (file : Content) → FillsFirst layout keys got 0 file file
@@ -26,7 +34,7 @@ module _ (layout : List (List ℕ)) (keys : List ℕ) (got : ℕ → Option Arra
 
   -- one block more
   pub fills-next : (n : ℕ) (dims : List ℕ) (box : Box) (block : Array) (old mid new : Content) → n < length keys → got (get_or keys n 0) ≡ Some block → dims ≡ lengths layout → box ≡ region layout n → FillsFirst layout keys got n old mid →
-      FillsMore dims box block mid new → FillsFirst layout keys got (n + 1) old new
+      More dims box block mid new → FillsFirst layout keys got (n + 1) old new
   fills-next n dims box block (Told x) (Told y) (Told z) lt has shape here f more = record {
     turns = λ a is h.
         let each = is.each n block lt has in
@@ -42,7 +50,7 @@ module _ (layout : List (List ℕ)) (keys : List ℕ) (got : ℕ → Option Arra
 
   -- a block in part
   pub fills-cut : (n : ℕ) (dims : List ℕ) (box : Box) (block : Array) (old mid new : Content) → n < length keys → got (get_or keys n 0) ≡ Some block → dims ≡ lengths layout → box ≡ region layout n → FillsFirst layout keys got n old mid →
-      FillsPart dims box block mid new → FillsFirst layout keys got 0 old new
+      Part dims box block mid new → FillsFirst layout keys got 0 old new
   fills-cut n dims box block (Told x) (Told y) (Told z) lt has shape here f part = record {
     turns = λ a is h.
         fewer a (boxes_to layout n) z (part a (boxes_to layout n) (is.shape ∙ sym shape) (f.turns a is h) (subst (λ b. HoldsBox a b block) (sym here) (is.each n block lt has)));

@@ -1,3 +1,6 @@
 pub mod Manned
 pub mod Appending
 pub mod Filling
+pub mod Reached
+pub mod Wanted
+pub mod Simulating

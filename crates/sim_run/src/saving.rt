@@ -11,7 +11,8 @@ ghost use Rattle.job_run.specs.Evaluating.{HasFailed};
 ghost use Rattle.job_run.specs.Jobs.{plan_of};
 ghost use Rattle.job_run.specs.Part.{IsNoneOf, RaisedAtMost};
 ghost use Rattle.job_run.specs.Plan.{IsRunnable, names_saved};
-ghost use Rattle.sim_run.specs.Saving.{FillsAll, FillsFirst, FillsSome, FitFiles, HasBlocks, HasSaves, KeepNames, SavesLeft, SavesWhole};
+ghost use Rattle.sim_run.specs.Filling.{FillsAll, FillsFirst, FillsSome, FitFiles, HasBlocks, KeepNames};
+ghost use Rattle.sim_run.specs.Saving.{HasSaves, SavesLeft, SavesWhole};
 
 use block_lowering::{Elements, JobGraph};
 use chunk_layout::Layout;
