@@ -3,4 +3,5 @@ pub mod Loads
 pub mod OneArray
 pub mod OneHeader
 pub mod Running
+pub mod SavesList
 pub mod Told
