@@ -1,7 +1,5 @@
 -- The saves of a job, one after another.
-use Rattle.std.proofs.Common.{◌≡◌, ℕ, ◌+◌, ◌<◌, ◌≤◌, List, [], ◌∷◌, ◌++◌, map, length, take, get_or, string_bytes, ap, sym, ◌∙◌, subst, arith, append_assoc, append-nil}
-use Rattle.std.specs.Prelude.{All}
-use Rattle.std.proofs.lemmas.Grind.{get_or_default_zero}
+use Rattle.std.proofs.Common.{◌≡◌, ℕ, ◌+◌, ◌<◌, ◌≤◌, List, [], ◌∷◌, ◌++◌, map, length, take, get_or, string_bytes, ap, sym, ◌∙◌, arith, append_assoc, append-nil}
 use Rattle.std.proofs.lemmas.List.{get_or-map, length-map, map_more, take_all}
 use Rattle.array_expr.specs.declared.expr.Node.{Node}
 use Rattle.job_run.specs.declared.job.Save.{Save}
@@ -30,10 +28,3 @@ lines_more nodes saves i save h is =
 
 pub lines_whole : (nodes : List Node) (saves : List Save) (i : ℕ) → length saves ≤ i → saved_lines nodes (map saved_of (take i saves)) ≡ saved_lines nodes (map saved_of saves)
 lines_whole nodes saves i h = ap (λ x. saved_lines nodes (map saved_of x)) (take_all i saves h)
-
--- the nodes that are saved are there
-pub nodes_there : (saves : List Saved) (count : ℕ) (nodes : List ℕ) → nodes ≡ map (λ s. s.node) saves → ((k : ℕ) → k < length saves → get_or (map (λ s. s.node) saves) k 0 < count) → All (λ k. k < count) nodes
-nodes_there saves count nodes is there = λ k d h.
-    let l : k < length saves = omega (arith, h, ap length is, length-map saves (λ (s : Saved). s.node)) in
-    let e : get_or (map (λ s. s.node) saves) k 0 ≡ get_or nodes k d = ap (λ l. get_or l k 0) (sym is) ∙ sym (get_or_default_zero nodes k d h) in
-    subst (λ n. n < count) e (there k l)
