@@ -1,4 +1,5 @@
 pub mod Counting
+pub mod Creating
 pub mod Loads
 pub mod OneArray
 pub mod OneHeader
