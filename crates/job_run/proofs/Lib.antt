@@ -7,6 +7,7 @@ pub mod MadeBoxes
 pub mod OneArray
 pub mod OneHeader
 pub mod Running
+pub mod SavePlaces
 pub mod SavedArrays
 pub mod SavesList
 pub mod SavingSteps
