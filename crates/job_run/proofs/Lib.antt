@@ -1,4 +1,5 @@
 pub mod Counting
+pub mod Creating
 pub mod FilledFiles
 pub mod KeyValues
 pub mod Loads
@@ -6,6 +7,8 @@ pub mod MadeBoxes
 pub mod OneArray
 pub mod OneHeader
 pub mod Running
+pub mod SavePlaces
 pub mod SavedArrays
+pub mod SavesList
 pub mod SavingSteps
 pub mod Told
