@@ -11,8 +11,10 @@ use Rattle.lowering_laws.specs.Lowered.{lowered}
 use Rattle.lowering_laws.specs.Named.{layout_of, name_of}
 use Rattle.job_run.specs.declared.ends.Ended.{Ended}
 use Rattle.job_run.specs.declared.ends.Ended.TheVariants.{Done, Zero, ReadFault, WriteFault, OutOfMemory}
+use Rattle.job_run.specs.Lowering.{counts_made}
 use Rattle.job_run.specs.Part.{AreLeft, AreWhole, IsNoneOf, RaisedAtMost}
 use Rattle.job_run.specs.Plan.{Plan, names_saved, nodes_saved}
+use Rattle.job_run.specs.Runs.{IsSmall}
 use Rattle.job_run.specs.Values.{Named, IsFaulty, MeetsNone, files_of, index_of, tasks_of}
 use Rattle.sim_words.specs.declared.sim.SimWords.{SimWords}
 use Rattle.sim_run.specs.declared.ends.SimEnded.{SimEnded}
@@ -29,8 +31,10 @@ job_named p s named = running s (shape_of (tasks_of p)) (operation named (tasks_
 pub record IsWantedOf (p : Plan) (w : Wanted) : Type 0 where
   pub all_is : w.all ≡ wanted_of p
   pub saved_is : w.saved ≡ (lowered p.nodes (nodes_saved p)).saved
-  pub layouts_are : w.layouts.items ≡ map (layout_of p.nodes) (nodes_saved p)
+  pub layouts_are : w.layouts ≡ map (layout_of p.nodes) (nodes_saved p)
   pub names_are : w.names ≡ (lowered p.nodes (nodes_saved p)).names
+  pub blocks_are : w.blocks ≡ counts_made p.nodes
+  pub small : IsSmall p
 
 -- how a run ends whose simulation gave no result
 abbrev pub ended_of : SimError → SimEnded

@@ -1,5 +1,5 @@
 //! The simulation of a job's graph over its open inputs.
-ghost use Rattle.std.specs.Prelude.{◌≡◌, ◌++◌, [], length, IfOk, IfErr, OnOk};
+ghost use Rattle.std.specs.Prelude.{◌≡◌, ◌++◌, [], length, slice_index_or, None, IfOk, IfErr, OnOk};
 ghost use Rattle.std.specs.List.{flat_map};
 ghost use Rattle.io_edge.specs.Cause.{Rose};
 ghost use Rattle.block_lowering.specs.Jobs.{FitsFeed, TellsFeed};
@@ -24,7 +24,8 @@ use cluster_msgs::{JobSpec, KeyList, Report, Sequence};
 use cluster_sim::{SimError, SimPlan, simulate};
 use cluster_world::World;
 use io_edge::{OpenFault, Site};
-use job_run::{Ended, Inputs, Job};
+use job_run::{Ended, Halt, Inputs, Job, halt_at, laws_hold};
+use nd_shape::Dims;
 use sim_words::SimWords;
 use std::alloc::{AllocError, Global};
 
@@ -36,13 +37,14 @@ pub struct Served {
 }
 
 /// What the client wants: the keys of all saved blocks. And what is known of them: those of each save, in row-major order, with
-/// the layout of its array, and the node and block of each key of the graph.
+/// the layout of its array; the node and block of each key of the graph; for each node how many chunks its array has on each axis.
 #[derive(Drop)]
 pub struct Wanted {
     pub all: KeyList,
     pub saved: Sequence<KeyList>,
-    pub layouts: Vec<Layout>,
+    pub layouts: Sequence<Layout>,
     pub names: Sequence<Name>,
+    pub blocks: Sequence<Dims>,
 }
 
 // How the run ends where the simulation gave no result.
@@ -78,12 +80,28 @@ fn joined_keys(alloc: Global, lists: &[KeyList]) -> Result<KeyList, AllocError>
     Ok(KeyList::from_vec(all))
 }
 
+// The node and the block that a key is, where it is one's own.
+fn name_at(names: &[Name], key: u32) -> Name
+    ensures { result ≡ slice_index_or names.now key None }
+{
+    match names.get(key as usize) {
+        Some(name) => *name,
+        None => None,
+    }
+}
+
 // How the run ends where the client was told of a zero divisor at a key.
-fn ended_at(_alloc: Global, job: &Job, wanted: &Wanted, key: u32) -> Ended
-    requires { IsWantedOf (plan_of job.now) wanted.now }
+fn ended_at(alloc: Global, job: &Job, wanted: &Wanted, key: u32) -> Ended
+    requires runs { IsRunnable (plan_of job.now) }
+    requires wanted { IsWantedOf (plan_of job.now) wanted.now }
     ensures { EndsAtKey (plan_of job.now) key result }
 {
-    Ended::OutOfMemory
+    laws_hold(job);
+    let name = name_at(wanted.names.as_slice(), key);
+    match halt_at(alloc, job, wanted.blocks.as_slice(), name) {
+        Halt::Zero { node, block } => Ended::Zero { node, block },
+        _ => Ended::OutOfMemory,
+    }
 }
 
 // Simulates the job of a world that was just made, and saves what its client got.
@@ -121,7 +139,7 @@ fn simulate_world<S: Site, E: Elements + Send + Sync + Drop>(
     if let Some(key) = end.zero {
         return Err(SimEnded::Ran(ended_at(alloc, job, wanted, key)));
     }
-    match save_all(alloc, site, job, world, wanted.saved.as_slice(), &wanted.layouts) {
+    match save_all(alloc, site, job, world, wanted.saved.as_slice(), wanted.layouts.as_slice()) {
         Ok(()) => Ok(Served {
             report: end.report,
             turns: end.turns,
@@ -165,6 +183,7 @@ pub fn serve<S: Site, E: Elements + Send + Sync + Drop>(
         names,
         saved,
         layouts,
+        blocks,
     } = lowered;
     let all = joined_keys(alloc, saved.as_slice())?;
     let wanted = Wanted {
@@ -172,6 +191,7 @@ pub fn serve<S: Site, E: Elements + Send + Sync + Drop>(
         saved,
         layouts,
         names,
+        blocks,
     };
     let graph = JobGraph::<S::In, E>::new(alloc, graph, heads)?;
     let saturation = words.settings.saturation;
