@@ -21,6 +21,7 @@ pub struct Lowered {
     pub names: Sequence<Name>,
     pub saved: Sequence<KeyList>,
     pub layouts: Vec<Layout>,
+    pub blocks: Vec<nd_shape::Dims>,
 }
 
 // The keys of an array's blocks, all of them below a bound: they are keys of the graph.
@@ -161,5 +162,6 @@ pub fn finish(alloc: Global, made: Making, saves: &[NodeId]) -> Result<Lowered, 
         names,
         saved,
         layouts: Vec::new(alloc),
+        blocks: Vec::new(alloc),
     })
 }

@@ -1,6 +1,13 @@
 pub mod Counting
+pub mod FilledFiles
+pub mod KeyValues
 pub mod Loads
+pub mod MadeBoxes
+pub mod Naming
 pub mod OneArray
 pub mod OneHeader
 pub mod Running
+pub mod SavedArrays
+pub mod SavingSteps
+pub mod Starting
 pub mod Told

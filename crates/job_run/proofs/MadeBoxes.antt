@@ -12,10 +12,10 @@ use Rattle.chunk_layout.proofs.Parting.{in-region}
 use Rattle.lowering_laws.specs.Lowered.{lowered}
 use Rattle.lowering_laws.specs.Named.{layout_of, name_of, LawOfNames}
 use Rattle.lowering_laws.specs.Whole.{saved_key}
-use Rattle.lowering_laws.proofs.Order.{lowering-order}
 use Rattle.saved_files.specs.Filling.{Cover, IsCovered, box_of as box_at}
 use Rattle.job_run.specs.Evaluating.{node_at, boxes_in, boxes_made}
 use Rattle.job_run.specs.Plan.{Plan, Saved, IsRunnable, nodes_saved}
+use Rattle.job_run.proofs.SavedArrays.{layout-cuts}
 
 abbrev Names : Type 0
 Names = List (Option (ℕ × ℕ))
@@ -104,10 +104,9 @@ all-covered p k runs ex law lt i inside =
     let names = (lowered p.nodes (nodes_saved p)).names in
     let n = node_at p k in
     let layout = layout_of p.nodes n in
-    let known = (lowering-order p.nodes ex).known n (runs.saves k lt) in
     let all : boxes_made p (length names) k ≡ boxes_in layout n names = ap (boxes_in layout n) (take_all (length names) names (omega arith)) in
     subst (λ boxes. IsCovered boxes i) (sym all)
-    (covers layout (boxes_in layout n names) i (λ c there. box-there layout n c (saved_key p.nodes (nodes_saved p) k c) names (law.saved k c (in-saves p k lt) there)) (subst (λ ns. IsIn ns i) (sym known.cut) inside))
+    (covers layout (boxes_in layout n names) i (λ c there. box-there layout n c (saved_key p.nodes (nodes_saved p) k c) names (law.saved k c (in-saves p k lt) there)) (subst (λ ns. IsIn ns i) (sym (layout-cuts p.nodes n ex (runs.saves k lt))) inside))
   where
     in-saves : (p : Plan) (k : ℕ) → k < length p.saves → k < length (nodes_saved p)
     in-saves p k lt = omega (arith, length-map p.saves (λ (s : Saved). s.node))

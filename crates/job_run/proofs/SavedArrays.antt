@@ -19,7 +19,7 @@ use Rattle.array_expr.specs.Node.{shape_at, IsExpression}
 use Rattle.expr_laws.specs.Formulas.{whole}
 use Rattle.expr_laws.proofs.Elements.{shapes-all, shape-known}
 use Rattle.plain_eval.proofs.Agreeing.{length-arrays}
-use Rattle.chunk_layout.specs.Layouts.{counts, blocks}
+use Rattle.chunk_layout.specs.Layouts.{counts, lengths, blocks, region}
 use Rattle.lowering_laws.specs.Named.{layout_of, box_of}
 use Rattle.lowering_laws.proofs.Formed.{box-part}
 use Rattle.lowering_laws.proofs.Order.{lowering-order}
@@ -83,12 +83,16 @@ saved-is p named k runs ex lt = subst (IsOf (shape_at p.nodes (node_at p k))) (s
 
 -- ## Blocks of it
 
+pub region-in : (layout : List (List ℕ)) (c : ℕ) → c < blocks layout → LiesIn (region layout c) (lengths layout)
+region-in layout c there = box-part layout (index_at (counts layout) c) (index_at-in (counts layout) c there)
+
+-- the layout of a node cuts its shape
+pub layout-cuts : (nodes : List Node) (n : ℕ) → IsExpression nodes → n < length nodes → lengths (layout_of nodes n) ≡ shape_at nodes n
+layout-cuts nodes n ex lt = ((lowering-order nodes ex).known n lt).cut
+
 -- the box of a block lies in its node's array
 pub part-of : (nodes : List Node) (n c : ℕ) → IsExpression nodes → n < length nodes → c < blocks (layout_of nodes n) → LiesIn (box_of nodes n c) (shape_at nodes n)
-part-of nodes n c ex lt there =
-    let layout = layout_of nodes n in
-    let known = (lowering-order nodes ex).known n lt in
-    subst (LiesIn (box_of nodes n c)) known.cut (box-part layout (index_at (counts layout) c) (index_at-in (counts layout) c there))
+part-of nodes n c ex lt there = subst (LiesIn (box_of nodes n c)) (layout-cuts nodes n ex lt) (region-in (layout_of nodes n) c there)
 
 some-or : (o : Option ℤ) (v : ℤ) → Some v ≡ o → v ≡ unwrap_or o (pos 0)
 some-or None v h = absurd cc

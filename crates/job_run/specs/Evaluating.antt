@@ -89,12 +89,12 @@ boxes_made p keys k = boxes_in (layout_of p.nodes (node_at p k)) (node_at p k) (
 abbrev pub SavesAt : Plan → Option (ℕ × ℕ) → Array → ℕ → Content → Content → Type 0
 SavesAt p None block k old new = new ≡ old
 SavesAt p (Some x) block k old new =
-    ((node_at p k ≡ x.0) × FillsMore (box_of p.nodes x.0 x.1) block old new) ⊎ ((node_at p k ≢ x.0) × (new ≡ old))
+    ((node_at p k ≡ x.0) × FillsMore (shape_at p.nodes x.0) (box_of p.nodes x.0 x.1) block old new) ⊎ ((node_at p k ≢ x.0) × (new ≡ old))
 
 -- the block was written in part into the file of its node
 abbrev pub SavesPart : Plan → Option (ℕ × ℕ) → Array → ℕ → Content → Content → Type 0
 SavesPart p None block k old new = ⊥
-SavesPart p (Some x) block k old new = (node_at p k ≡ x.0) × FillsPart (box_of p.nodes x.0 x.1) block old new
+SavesPart p (Some x) block k old new = (node_at p k ≡ x.0) × FillsPart (shape_at p.nodes x.0) (box_of p.nodes x.0 x.1) block old new
 
 -- the same where one of these failed
 abbrev pub SavesPartAt : Plan → Option (ℕ × ℕ) → Array → ℕ → Content → Content → Type 0
@@ -131,9 +131,10 @@ abbrev pub HoldsNamed : Plan → Named → Option (ℕ × ℕ) → Array → Typ
 HoldsNamed p named None block = Unit {0}
 HoldsNamed p named (Some x) block = (k : ℕ) → k < length p.saves → node_at p k ≡ x.0 → HoldsBox (array_at p named k) (box_of p.nodes x.0 x.1) block
 
--- the halt is a zero divisor in the block under this name
+-- a zero divisor in the block under this name, or want of memory
 abbrev pub IsZeroOf : Plan → Option (ℕ × ℕ) → Halt → Type 0
 IsZeroOf p (Some x) (halts.Zero node block) = (node ≡ x.0) × (block ≡ index_of p x.0 x.1)
+IsZeroOf p name halts.OutOfMemory = Unit {0}
 IsZeroOf p name halt = ⊥
 
 -- ## All keys
@@ -145,9 +146,10 @@ HaltCause p named told files before now halts.ReadFault = Rose before now
 HaltCause p named told files before now halts.WriteFault = HasFailed files
 HaltCause p named told files before now halts.OutOfMemory = Unit {0}
 
--- no file has failed, but where that is the halt's cause
+-- no file has failed before a halt that isn't a write's: one that wants memory may be
 abbrev pub HaltKeeps : List Saving → Halt → Type 0
 HaltKeeps files halts.WriteFault = Unit {0}
+HaltKeeps files halts.OutOfMemory = Unit {0}
 HaltKeeps files halt = HasNotFailed files
 
 -- ## The whole evaluation over open inputs

@@ -7,6 +7,7 @@
 //! opens nothing before the limits are kept, and creates nothing before all inputs are accepted.
 #![tactic(auto)]
 
+mod blocks;
 mod check;
 mod create;
 mod ends;
