@@ -1,4 +1,5 @@
 pub mod Counting
+pub mod Evaluated
 pub mod FilledFiles
 pub mod KeyValues
 pub mod Loads
@@ -6,7 +7,6 @@ pub mod MadeBoxes
 pub mod Naming
 pub mod OneArray
 pub mod OneHeader
-pub mod Running
 pub mod SavedArrays
 pub mod SavingSteps
 pub mod Starting

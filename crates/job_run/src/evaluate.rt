@@ -6,7 +6,7 @@ ghost use Rattle.job_run.specs.Jobs.{plan_of};
 ghost use Rattle.job_run.specs.Loading.{AreHeads};
 ghost use Rattle.job_run.specs.Lowering.{IsGraphOf};
 ghost use Rattle.job_run.specs.Plan.{IsRunnable, input_shapes};
-ghost use Rattle.job_run.specs.Starting.{AreOfShapes, IsJobOver};
+ghost use Rattle.job_run.specs.Starting.{AreOfShapes, IsJobOver, end_of};
 
 use crate::blocks::{Halt, make_blocks};
 use crate::create::create_files;
@@ -47,6 +47,18 @@ fn begin<S: Site, E: Elements + Send + Sync + Drop>(
 {
     let job = JobGraph::new(alloc, graph, heads)?;
     Evaluation::new(alloc, job, store)
+}
+
+// The end of a run whose blocks were not all made and written.
+fn end_of(halt: Halt) -> Ended
+    ensures { result ≡ end_of halt }
+{
+    match halt {
+        Halt::Zero { node, block } => Ended::Zero { node, block },
+        Halt::ReadFault => Ended::ReadFault,
+        Halt::WriteFault => Ended::WriteFault,
+        Halt::OutOfMemory => Ended::OutOfMemory,
+    }
 }
 
 /// Evaluates a job over its open inputs: creates the files of its saves, makes its blocks in the order of their keys, each let go
@@ -105,9 +117,6 @@ pub fn evaluate<S: Site, E: Elements + Send + Sync + Drop>(
     files.give(site);
     match made {
         Ok(()) => Ended::Done,
-        Err(Halt::Zero { node, block }) => Ended::Zero { node, block },
-        Err(Halt::ReadFault) => Ended::ReadFault,
-        Err(Halt::WriteFault) => Ended::WriteFault,
-        Err(Halt::OutOfMemory) => Ended::OutOfMemory,
+        Err(halt) => end_of(halt),
     }
 }
