@@ -1,6 +1,7 @@
 pub mod Counting
 pub mod Creating
 pub mod FilledFiles
+pub mod Halting
 pub mod KeyValues
 pub mod Loads
 pub mod MadeBoxes
