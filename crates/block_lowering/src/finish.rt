@@ -2,26 +2,32 @@
 ghost use Rattle.std.specs.Prelude.{◌≡◌, ◌<◌, ◌++◌, None, length, map, All, slice_index_or, IfOk, OnOk};
 ghost use Rattle.std.specs.List.{AllByRecursion, flat_map};
 ghost use Rattle.task_graph.specs.Orders.{position};
+ghost use Rattle.chunk_layout.specs.Layouts.{counts};
+ghost use Rattle.lowering_laws.specs.Sources.{Source};
 ghost use Rattle.lowering_laws.specs.Lowered.{source_at, keys_of, culled};
 
+use crate::counts::counts_of;
+use crate::layouts::copied_layout;
 use crate::making::Making;
+use crate::nodes::source_of;
 use crate::sources::{Keyed, Name};
 use array_expr::NodeId;
 use chunk_layout::Layout;
 use cluster_msgs::{KeyList, Sequence};
+use nd_shape::Dims;
 use std::alloc::{AllocError, Global};
 use task_graph::moves::renumber;
 use task_graph::{Graph, Renumber, order};
 
 /// The graph that makes the saved blocks, the node and block of each key that is one's own, and the keys of the blocks of each
-/// save, in row-major order.
+/// save, in row-major order, and the layout of each save's array; for each node how many chunks its array has on each axis.
 #[derive(Drop)]
 pub struct Lowered {
     pub graph: Graph,
     pub names: Sequence<Name>,
     pub saved: Sequence<KeyList>,
-    pub layouts: Vec<Layout>,
-    pub blocks: Vec<nd_shape::Dims>,
+    pub layouts: Sequence<Layout>,
+    pub blocks: Sequence<Dims>,
 }
 
 // The keys of an array's blocks, all of them below a bound: they are keys of the graph.
@@ -59,6 +65,35 @@ fn wanted_keys(
         wanted.push(KeyList::from_vec(keys))?;
     }
     Ok(wanted)
+}
+
+// The layout of each save's array.
+fn saved_layouts(
+    alloc: Global,
+    sources: &[Keyed],
+    saves: &[NodeId],
+) -> Result<Sequence<Layout>, AllocError>
+    requires { All (λ n. n < length sources.now) saves.now }
+    ensures { IfOk result (λ layouts. layouts ≡ map (λ n. (source_at sources.now n).layout) saves.now) }
+{
+    let mut layouts = Vec::with_capacity(alloc, saves.len())?;
+    for node in saves {
+        let source = source_of(sources, *node);
+        layouts.push(copied_layout(alloc, source.layout())?)?;
+    }
+    Ok(Sequence::from_vec(layouts))
+}
+
+// How many chunks each array has on each axis.
+fn all_counts(alloc: Global, sources: &[Keyed]) -> Result<Sequence<Dims>, AllocError>
+    ensures { IfOk result (λ blocks. blocks ≡ map (λ (s : Source). counts s.layout) sources.now) }
+{
+    let mut blocks = Vec::with_capacity(alloc, sources.len())?;
+    for source in sources {
+        let counts = counts_of(alloc, source.layout().axes())?;
+        blocks.push(Dims::from_vec(counts))?;
+    }
+    Ok(Sequence::from_vec(blocks))
 }
 
 // Puts keys at the end.
@@ -149,6 +184,8 @@ pub fn finish(alloc: Global, made: Making, saves: &[NodeId]) -> Result<Lowered, 
     ensures tasks { IfOk result (λ l. l.graph ≡ (culled made saves.now).tasks) }
     ensures names { IfOk result (λ l. l.names ≡ (culled made saves.now).names) }
     ensures saved { IfOk result (λ l. l.saved ≡ (culled made saves.now).saved) }
+    ensures layouts { IfOk result (λ l. l.layouts ≡ map (λ n. (source_at made.sources n).layout) saves.now) }
+    ensures blocks { IfOk result (λ l. l.blocks ≡ map (λ (s : Source). counts s.layout) made.sources) }
 {
     let (graph, names, sources) = made.into_parts();
     let wanted = wanted_keys(alloc, sources.as_slice(), saves, graph.keys())?;
@@ -157,11 +194,13 @@ pub fn finish(alloc: Global, made: Making, saves: &[NodeId]) -> Result<Lowered, 
     let saved = saved_keys(alloc, &numbers, wanted.as_slice())?;
     let names = kept_names(alloc, names.as_slice(), numbers.order())?;
     let graph = renumber(graph, &numbers)?;
+    let layouts = saved_layouts(alloc, sources.as_slice(), saves)?;
+    let blocks = all_counts(alloc, sources.as_slice())?;
     Ok(Lowered {
         graph,
         names,
         saved,
-        layouts: Vec::new(alloc),
-        blocks: Vec::new(alloc),
+        layouts,
+        blocks,
     })
 }

@@ -1,6 +1,8 @@
 pub mod Counting
+pub mod Creating
 pub mod Evaluated
 pub mod FilledFiles
+pub mod Halting
 pub mod KeyValues
 pub mod Loads
 pub mod MadeBoxes
@@ -8,7 +10,9 @@ pub mod Naming
 pub mod OneArray
 pub mod OneHeader
 pub mod Running
+pub mod SavePlaces
 pub mod SavedArrays
+pub mod SavesList
 pub mod SavingSteps
 pub mod Starting
 pub mod Told

@@ -4,7 +4,6 @@ use Rattle.std.specs.Prelude.{Option, Some, IsSome, is_some}
 use Rattle.std.proofs.lemmas.Bool.{cases_lt}
 use Rattle.io_edge.specs.Content.{Content, Told, Untold, told_bytes}
 use Rattle.nd_shape.specs.Block.{Array}
-use Rattle.array_expr.specs.Node.{shape_at}
 use Rattle.lowering_laws.specs.Named.{box_of}
 use Rattle.npy_region.specs.Writing.{Turns}
 use Rattle.saved_files.specs.Saving.{Saving, saving_at, ChangesAt, FillsMore, FillsPart}
@@ -72,7 +71,7 @@ saved-skip p x block place old new ne s = record {
   same = s.same;
   below = λ k h lt. elim (below-next k place h) [
     | inl a ↦ s.below k a lt
-    | inr e ↦ subst (λ j. SavesAt p (Some x) block j (saving_at old j).content (saving_at new j).content) e (inr (ne, ap (λ (f : Saving). f.content) (s.above place (omega arith))))
+    | inr e ↦ subst (λ j. SavesAt p (Some x) block j (saving_at old j) (saving_at new j)) e (inr (ne, s.above place (omega arith)))
   ];
   above = λ k h. s.above k (omega (arith, h));
   kept = s.kept;
@@ -80,15 +79,15 @@ saved-skip p x block place old new ne s = record {
 
 -- a file of the node took the block
 pub saved-write : (p : Plan) (x : ℕ × ℕ) (block : Array) (place : ℕ) (old mid new : List Saving) → node_at p place ≡ x.0 → SavedBelow p (Some x) block place old mid → ChangesAt place mid new
-    → FillsMore (shape_at p.nodes x.0) (box_of p.nodes x.0 x.1) block (saving_at mid place).content (saving_at new place).content → (saving_at new place).faults ≡ (saving_at mid place).faults → SavedBelow p (Some x) block (place + 1) old new
+    → FillsMore (box_of p.nodes x.0 x.1) block (saving_at mid place) (saving_at new place) → (saving_at new place).faults ≡ (saving_at mid place).faults → SavedBelow p (Some x) block (place + 1) old new
 saved-write p x block place old mid new node s c fills kept =
     let before : saving_at mid place ≡ saving_at old place = s.above place (omega arith) in
     record {
       same = same-then old mid new s.same (same-write place mid new c (turns-told _ (saving_at mid place).content (saving_at new place).content fills));
       below = λ k h lt. elim (below-next k place h) [
-        | inl a ↦ subst (λ (f : Saving). SavesAt p (Some x) block k (saving_at old k).content f.content) (sym (c.others k (omega (arith, a)))) (s.below k a lt)
-        | inr e ↦ subst (λ j. SavesAt p (Some x) block j (saving_at old j).content (saving_at new j).content) e
-            (inl (node, subst (λ (f : Saving). FillsMore (shape_at p.nodes x.0) (box_of p.nodes x.0 x.1) block f.content (saving_at new place).content) before fills))
+        | inl a ↦ subst (λ (f : Saving). SavesAt p (Some x) block k (saving_at old k) f) (sym (c.others k (omega (arith, a)))) (s.below k a lt)
+        | inr e ↦ subst (λ j. SavesAt p (Some x) block j (saving_at old j) (saving_at new j)) e
+            (inl (node, subst (λ (f : Saving). FillsMore (box_of p.nodes x.0 x.1) block f (saving_at new place)) before fills))
       ];
       above = λ k h. c.others k (omega (arith, h)) ∙ s.above k (omega (arith, h));
       kept = λ k lt. each-file (λ j f. f.faults ≡ (saving_at old j).faults) place mid new c (kept ∙ ap (λ (f : Saving). f.faults) before) k (λ ne. s.kept k lt);
@@ -97,23 +96,23 @@ saved-write p x block place old mid new node s c fills kept =
 -- ## Where a write failed
 
 pub failed-same : (p : Plan) (x : ℕ × ℕ) (block : Array) (place : ℕ) (old mid new : List Saving) → SavedBelow p (Some x) block place old mid → ChangesAt place mid new
-    → FillsPart (shape_at p.nodes x.0) (box_of p.nodes x.0 x.1) block (saving_at mid place).content (saving_at new place).content → AreSameFiles old new
+    → FillsPart (box_of p.nodes x.0 x.1) block (saving_at mid place) (saving_at new place) → AreSameFiles old new
 failed-same p x block place old mid new s c fills =
     same-then old mid new s.same (same-write place mid new c (turns-told _ (saving_at mid place).content (saving_at new place).content fills))
 
 pub failed-part : (p : Plan) (x : ℕ × ℕ) (block : Array) (place : ℕ) (old mid new : List Saving) → node_at p place ≡ x.0 → SavedBelow p (Some x) block place old mid → ChangesAt place mid new
-    → FillsPart (shape_at p.nodes x.0) (box_of p.nodes x.0 x.1) block (saving_at mid place).content (saving_at new place).content
-    → (k : ℕ) → k < length old → SavesPartAt p (Some x) block k (saving_at old k).content (saving_at new k).content
+    → FillsPart (box_of p.nodes x.0 x.1) block (saving_at mid place) (saving_at new place)
+    → (k : ℕ) → k < length old → SavesPartAt p (Some x) block k (saving_at old k) (saving_at new k)
 failed-part p x block place old mid new node s c fills k lt =
     let before : saving_at mid place ≡ saving_at old place = s.above place (omega arith) in
-    each-file (λ j f. SavesPartAt p (Some x) block j (saving_at old j).content f.content) place mid new c
-    (inr (inr (node, subst (λ (f : Saving). FillsPart (shape_at p.nodes x.0) (box_of p.nodes x.0 x.1) block f.content (saving_at new place).content) before fills))) k
+    each-file (λ j f. SavesPartAt p (Some x) block j (saving_at old j) f) place mid new c
+    (inr (inr (node, subst (λ (f : Saving). FillsPart (box_of p.nodes x.0 x.1) block f (saving_at new place)) before fills))) k
     (λ ne. elim (cases_lt k place) [
       | inl a ↦ inr (inl (s.below k a lt))
-      | inr b ↦ inl (ap (λ (f : Saving). f.content) (s.above k b))
+      | inr b ↦ inl (s.above k b)
     ])
 
 -- after all saves
 pub saved-all : (p : Plan) (name : Option (ℕ × ℕ)) (block : Array) (place : ℕ) (old new : List Saving) → length old ≤ place → SavedBelow p name block place old new
-    → (k : ℕ) → k < length old → SavesAt p name block k (saving_at old k).content (saving_at new k).content
+    → (k : ℕ) → k < length old → SavesAt p name block k (saving_at old k) (saving_at new k)
 saved-all p name block place old new h s k lt = s.below k (omega arith) lt

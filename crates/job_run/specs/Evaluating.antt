@@ -1,7 +1,7 @@
 -- Files of a plan while its blocks are made, key by key: what the private functions answer.
 use Rattle.std.specs.Prelude.{◌≡◌, ◌≢◌, ◌⊎◌, ◌≤◌, ◌<◌, ℕ, List, [], ◌∷◌, cond, nat_eq, length, take, slice_index_or, Option, Some, None, Bool, IsTrue, IsSome}
 use Rattle.io_edge.specs.Cause.{Rose}
-use Rattle.io_edge.specs.Content.{Content, OnTold, told_bytes}
+use Rattle.io_edge.specs.Content.{OnTold, told_bytes}
 use Rattle.io_edge.specs.View.{View, Files, raised_by}
 use Rattle.nd_shape.specs.Block.{Array}
 use Rattle.nd_shape.specs.Region.{Box}
@@ -86,18 +86,18 @@ boxes_made p keys k = boxes_in (layout_of p.nodes (node_at p k)) (node_at p k) (
 -- ## A block at its places
 
 -- the block under this name was written into the files of its node, and the other files are as they were
-abbrev pub SavesAt : Plan → Option (ℕ × ℕ) → Array → ℕ → Content → Content → Type 0
+abbrev pub SavesAt : Plan → Option (ℕ × ℕ) → Array → ℕ → Saving → Saving → Type 0
 SavesAt p None block k old new = new ≡ old
 SavesAt p (Some x) block k old new =
-    ((node_at p k ≡ x.0) × FillsMore (shape_at p.nodes x.0) (box_of p.nodes x.0 x.1) block old new) ⊎ ((node_at p k ≢ x.0) × (new ≡ old))
+    ((node_at p k ≡ x.0) × FillsMore (box_of p.nodes x.0 x.1) block old new) ⊎ ((node_at p k ≢ x.0) × (new ≡ old))
 
 -- the block was written in part into the file of its node
-abbrev pub SavesPart : Plan → Option (ℕ × ℕ) → Array → ℕ → Content → Content → Type 0
+abbrev pub SavesPart : Plan → Option (ℕ × ℕ) → Array → ℕ → Saving → Saving → Type 0
 SavesPart p None block k old new = ⊥
-SavesPart p (Some x) block k old new = (node_at p k ≡ x.0) × FillsPart (shape_at p.nodes x.0) (box_of p.nodes x.0 x.1) block old new
+SavesPart p (Some x) block k old new = (node_at p k ≡ x.0) × FillsPart (box_of p.nodes x.0 x.1) block old new
 
 -- the same where one of these failed
-abbrev pub SavesPartAt : Plan → Option (ℕ × ℕ) → Array → ℕ → Content → Content → Type 0
+abbrev pub SavesPartAt : Plan → Option (ℕ × ℕ) → Array → ℕ → Saving → Saving → Type 0
 SavesPartAt p name block k old new = (new ≡ old) ⊎ (SavesAt p name block k old new ⊎ SavesPart p name block k old new)
 
 -- the name is one of the plan's graph, and the block has its lengths
@@ -108,7 +108,7 @@ IsBlockNamed p (Some x) block = (key : ℕ) × NamesBlock p.nodes (nodes_saved p
 -- the files before this place took the block, and those from it on are as they were
 pub record SavedBelow (p : Plan) (name : Option (ℕ × ℕ)) (block : Array) (place : ℕ) (old new : List Saving) : Type 0 where
   pub same : AreSameFiles old new
-  pub below : (k : ℕ) → k < place → k < length old → SavesAt p name block k (saving_at old k).content (saving_at new k).content
+  pub below : (k : ℕ) → k < place → k < length old → SavesAt p name block k (saving_at old k) (saving_at new k)
   pub above : (k : ℕ) → place ≤ k → saving_at new k ≡ saving_at old k
   pub kept : (k : ℕ) → k < length old → (saving_at new k).faults ≡ (saving_at old k).faults
 

@@ -1,3 +1,4 @@
+pub mod Creating
 pub mod Evaluating
 pub mod Inputs
 pub mod Jobs

@@ -6,7 +6,7 @@ use Rattle.nd_shape.specs.Shape.{elements}
 use Rattle.npy_codec.specs.declared.head.Head.{Head}
 use Rattle.npy_codec.specs.Files.{HasHead}
 use Rattle.job_run.specs.declared.ends.Ended.{Ended}
-use Rattle.job_run.specs.declared.ends.Ended.TheVariants.{Done, Limit, File, Zero, ReadFault, WriteFault, OutOfMemory}
+use Rattle.job_run.specs.declared.ends.Ended.TheVariants.{File, ReadFault, OutOfMemory}
 use Rattle.job_run.specs.declared.ends.FileError.{FileError}
 use Rattle.job_run.specs.Inputs.{FitsShape, RefusesFile}
 
@@ -16,9 +16,6 @@ pub record IsHeadFor (shape : List ℕ) (file : Content) (head : Head) : Type 0 
   pub declared : head.shape ≡ shape
   pub near : head.data_at < 2 ^ 17
   pub room : head.data_at + 8 * elements head.shape ≤ size_of file
-
-abbrev pub head_at : List Head → ℕ → Head → Head
-head_at heads k none = slice_index_or heads k none
 
 -- heads of the first files
 pub record AreHeads (shapes : List (List ℕ)) (files : List Content) (heads : List Head) : Type 0 where

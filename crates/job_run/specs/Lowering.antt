@@ -26,8 +26,8 @@ pub record IsGraphOf (p : Plan) (l : Lowered) : Type 0 where
   pub tasks : l.graph ≡ (lowered p.nodes (nodes_saved p)).tasks
   pub names : l.names ≡ (lowered p.nodes (nodes_saved p)).names
   pub saved : l.saved ≡ (lowered p.nodes (nodes_saved p)).saved
-  pub layouts : l.layouts.items ≡ map (layout_of p.nodes) (nodes_saved p)
-  pub blocks : l.blocks.items ≡ counts_made p.nodes
+  pub layouts : l.layouts ≡ map (layout_of p.nodes) (nodes_saved p)
+  pub blocks : l.blocks ≡ counts_made p.nodes
 
 -- why there is no graph
 abbrev pub LowerCause : Plan → Ended → Type 0

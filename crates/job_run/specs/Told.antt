@@ -11,7 +11,10 @@ use Rattle.plain_eval.specs.Eval.{held_in}
 
 -- the array of a file with this head, or one of no elements where the file doesn't tell them
 abbrev pub array_told : Content → Head → Array
-array_told (Told bytes) head = record { shape = head.shape; cells = map (λ p. element bytes head (index_at head.shape p)) (range_with_len 0 (elements head.shape)) }
+array_told (Told bytes) head = record {
+  shape = head.shape;
+  cells = map (λ p. element bytes head (index_at head.shape p)) (range_with_len 0 (elements head.shape));
+}
 array_told (Untold size) head = record { shape = head.shape; cells = [] }
 
 -- those of the first files

@@ -69,10 +69,8 @@ fn save_at<S: Site>(
     requires number { number < block_count layout.now }
     requires shape { block.now.shape ≡ (region layout.now number).lengths }
     ensures changes { ChangesAt place files.old files.new }
-    ensures filled { OnOk result (FillsMore (lengths layout.now) (region layout.now number) block.now
-        (saving_at files.old place).content (saving_at files.new place).content) }
-    ensures part { OnErr result (FillsPart (lengths layout.now) (region layout.now number) block.now
-        (saving_at files.old place).content (saving_at files.new place).content) }
+    ensures filled { OnOk result (FillsMore (region layout.now number) block.now (saving_at files.old place) (saving_at files.new place)) }
+    ensures part { OnErr result (FillsPart (region layout.now number) block.now (saving_at files.old place) (saving_at files.new place)) }
     ensures kept { OnOk result ((saving_at files.new place).faults ≡ (saving_at files.old place).faults) }
     ensures cause { HasOpenCause (saving_at files.old place).faults (saving_at files.new place).faults result }
 {
@@ -99,7 +97,7 @@ fn save_named<S: Site>(
     ensures same { AreSameFiles files.old files.new }
     ensures saved { OnOk result (SavedBelow (plan_of job.now) (Some (node, number)) block.now (length files.old) files.old files.new) }
     ensures part { OnErr result ((k : ℕ) → k < length files.old →
-        SavesPartAt (plan_of job.now) (Some (node, number)) block.now k (saving_at files.old k).content (saving_at files.new k).content) }
+        SavesPartAt (plan_of job.now) (Some (node, number)) block.now k (saving_at files.old k) (saving_at files.new k)) }
     ensures failed { IsErrOf result OpenFault.Failed → HasFailed files.new }
 {
     let _nodes = job.expr.nodes();
@@ -126,9 +124,9 @@ fn save_block<S: Site>(
     requires named { IsBlockNamed (plan_of job.now) name block.now }
     ensures same { AreSameFiles files.old files.new }
     ensures saved { OnOk result ((k : ℕ) → k < length files.old →
-        SavesAt (plan_of job.now) name block.now k (saving_at files.old k).content (saving_at files.new k).content) }
+        SavesAt (plan_of job.now) name block.now k (saving_at files.old k) (saving_at files.new k)) }
     ensures part { OnErr result ((k : ℕ) → k < length files.old →
-        SavesPartAt (plan_of job.now) name block.now k (saving_at files.old k).content (saving_at files.new k).content) }
+        SavesPartAt (plan_of job.now) name block.now k (saving_at files.old k) (saving_at files.new k)) }
     ensures kept { OnOk result ((k : ℕ) → k < length files.old → (saving_at files.new k).faults ≡ (saving_at files.old k).faults) }
     ensures failed { IsErrOf result OpenFault.Failed → HasFailed files.new }
 {

@@ -1,8 +1,9 @@
 // The files of a job's saves.
-ghost use Rattle.std.specs.Prelude.{◌≡◌, ℕ, List, IfOk, OnOk, OnErr};
+ghost use Rattle.std.specs.Prelude.{◌≡◌, ℕ, List, [], length, IfOk, OnOk, OnErr};
 ghost use Rattle.io_edge.specs.Cause.{HasOpenCause};
 ghost use Rattle.io_edge.specs.View.{OnlyWrites, raised_by};
 ghost use Rattle.saved_files.specs.Saving.{WereCreated};
+ghost use Rattle.job_run.specs.Creating.{CreatesFirst, FailsNext};
 ghost use Rattle.job_run.specs.Evaluating.{AreFresh, AreOpenFor, LeavesAll};
 ghost use Rattle.job_run.specs.Jobs.{plan_of};
 ghost use Rattle.job_run.specs.Part.{IsNoneOf, RaisedAtMost};
@@ -19,7 +20,14 @@ fn create_each<S: Site>(
     site: &mut S,
     job: &Job,
     files: &mut SavedFiles<S>,
-) -> Result<(), OpenFault> {
+) -> Result<(), OpenFault>
+    requires runs { IsRunnable (plan_of job.now) }
+    requires none { files.old ≡ [] }
+    ensures all { OnOk result (CreatesFirst (plan_of job.now) (length (plan_of job.now).saves) (S.view site.old).files (S.view site.new).files files.new) }
+    ensures some { OnErr result (FailsNext (plan_of job.now) (S.view site.old).files (S.view site.new).files files.new) }
+    ensures only { OnlyWrites (S.view site.old) (S.view site.new) }
+    ensures cause { HasOpenCause (S.view site.old).write_faults (S.view site.new).write_faults result }
+{
     for save in &job.saves {
         let shape = job.expr.shape_of(save.node);
         files.create(alloc, site, save.file.as_str(), shape)?;

@@ -56,7 +56,11 @@ fn read_declared<I: Store>(
 
 /// Reads the heads of the first files of a store, which are to declare these shapes, or tells why that fails: the first file that
 /// is another one, a fault of the store, or want of memory. All of each file's data is there.
-pub fn read_heads<I: Store>(alloc: Global, store: &mut I, shapes: &[Shape]) -> Result<Vec<Head>, Ended>
+pub fn read_heads<I: Store>(
+    alloc: Global,
+    store: &mut I,
+    shapes: &[Shape],
+) -> Result<Vec<Head>, Ended>
     requires there { length shapes.now ≤ length (I.files store.old) }
     requires small { length shapes.now ≤ 65536 }
     ensures same { I.files store.new ≡ I.files store.old }

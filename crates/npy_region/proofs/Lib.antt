@@ -1,3 +1,4 @@
 pub mod CellLemmas
 pub mod RegionLemmas
 pub mod RunLemmas
+pub mod WriteLemmas

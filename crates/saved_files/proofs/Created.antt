@@ -1,22 +1,23 @@
 -- A file that was created, and the header that was written into it, whole or in part.
-use Rattle.std.proofs.Common.{◌≡◌, ℕ, ◌≤◌, ◌<◌, ◌+◌, ◌-◌, ◌*◌, ◌⊎◌, inl, inr, List, [], ◌∷◌, ◌++◌, length, take, drop, get_or, refl, ap, sym, ◌∙◌, subst, arith, Option, Some, None, Bool, true, false}
-use Rattle.std.specs.Prelude.{replicate, bytes_eq, IfSome, IsSome, IsTrue, if◌then◌else◌}
+use Rattle.std.proofs.Common.{◌≡◌, ℕ, ◌≤◌, ◌<◌, ◌+◌, ◌*◌, inl, inr, List, [], ◌∷◌, length, take, refl, ap, sym, ◌∙◌, subst, arith, Option, None, Bool, true, false}
+use Rattle.std.specs.Prelude.{replicate, bytes_eq, IfSome, IsSome, IsTrue}
 use Rattle.std.proofs.lemmas.Bool.{cases_lt}
-use Rattle.std.proofs.lemmas.List.{get_or_append_left, get_or-append_right, get_or-drop, get_or_past, get_or-replicate, get_or-take, length-replicate, length-take}
-use Rattle.std.proofs.lemmas.List.Edits.{length-paste, paste_all}
+use Rattle.std.proofs.lemmas.List.{get_or_past, get_or-replicate, get_or-take, length-replicate, length-take}
+use Rattle.std.proofs.lemmas.List.Edits.{length-paste}
 use Rattle.std.proofs.lemmas.Slice.Eq.{bytes_eq-Decides}
 use Rattle.std.proofs.Math.Seq.{paste}
-use Rattle.io_edge.specs.Content.{Content, Told, Untold, OnTold, overwritten, size_of, told_bytes, zeros, WritesPart}
+use Rattle.io_edge.specs.Content.{Content, OnTold, overwritten, size_of, told_bytes, zeros, WritesPart}
 use Rattle.io_edge.specs.View.{Files, updated}
 use Rattle.io_edge.proofs.Pieces.{size_of-overwritten}
 use Rattle.nd_shape.specs.Block.{Array}
 use Rattle.nd_shape.specs.Shape.{elements}
 use Rattle.npy_codec.specs.Npy.{header}
 use Rattle.npy_region.specs.Writing.{byte_at}
+use Rattle.npy_region.proofs.WriteLemmas.{patched}
 use Rattle.saved_files.specs.Filling.{IsFilling, IsPart, file_of}
 use Rattle.saved_files.specs.declared.open.OpenFile.{OpenFile}
-use Rattle.saved_files.specs.Kept.{IsKept}
-use Rattle.saved_files.specs.Saving.{IsFresh, IsLeft, IsOf, LeavesOne, Saving}
+use Rattle.saved_files.specs.Kept.{IsKept, begun_with}
+use Rattle.saved_files.specs.Saving.{IsFresh, IsOf, LeavesOne, Saving}
 use Rattle.saved_files.proofs.FileBytes.{header_byte, length-file}
 
 -- ## Zeros with some bytes at their front
@@ -30,21 +31,23 @@ zero_at n i = elim (cases_lt i n) [
 abbrev begun : ℕ → List ℕ → List ℕ
 begun len s = paste (replicate len 0) 0 s (length s)
 
-front_byte : (len : ℕ) (s : List ℕ) (p : ℕ) → p < length s → byte_at (begun len s) p ≡ byte_at s p
-front_byte len s p h =
-    ap (λ l. byte_at l p) (paste_all (replicate len 0) 0 s (length s) refl) ∙ get_or_append_left s (drop (0 + length s) (replicate len 0)) 0 p h
-
-rest_byte : (len : ℕ) (s : List ℕ) (p : ℕ) → length s ≤ p → byte_at (begun len s) p ≡ 0
-rest_byte len s p h =
-    ap (λ l. byte_at l p) (paste_all (replicate len 0) 0 s (length s) refl)
-    ∙ (get_or-append_right s (drop (0 + length s) (replicate len 0)) (length s) p 0 refl h
-    ∙ (get_or-drop (0 + length s) (replicate len 0) (p - length s) 0 ∙ zero_at len (0 + length s + (p - length s))))
+within : (len : ℕ) (s : List ℕ) → length s ≤ len → 0 + length s ≤ length (replicate {A = ℕ} len 0)
+within len s room = let z : ℕ = 0 in omega (arith, room, length-replicate len z)
 
 length-begun : (len : ℕ) (s : List ℕ) → length s ≤ len → length (begun len s) ≡ len
-length-begun len s h =
-    let z : ℕ = 0 in
-    let l : 0 + length s ≤ length (replicate len z) = omega (arith, h, length-replicate len z) in
-    length-paste (replicate len z) 0 s (length s) l (omega arith) ∙ length-replicate {A = ℕ} len 0
+length-begun len s room = let z : ℕ = 0 in length-paste (replicate len z) 0 s (length s) (within len s room) (omega arith) ∙ length-replicate len z
+
+front_byte : (len : ℕ) (s : List ℕ) (p : ℕ) → length s ≤ len → p < length s → byte_at (begun len s) p ≡ byte_at s p
+front_byte len s p room h = elim (patched (replicate len 0) s 0 p (within len s room)) [
+  | inl out ↦ absurd (elim out.0 [ inl low ↦ omega (arith, low) | inr high ↦ omega (arith, h, high) ])
+  | inr here ↦ here.3 ∙ ap (byte_at s) (omega (arith, here.2))
+]
+
+rest_byte : (len : ℕ) (s : List ℕ) (p : ℕ) → length s ≤ len → length s ≤ p → byte_at (begun len s) p ≡ 0
+rest_byte len s p room h = elim (patched (replicate len 0) s 0 p (within len s room)) [
+  | inl out ↦ out.1 ∙ zero_at len p
+  | inr here ↦ absurd (omega (arith, h, here.1, here.2))
+]
 
 -- ## A header, or the first bytes of one
 
@@ -61,13 +64,15 @@ front_of a dims front n shape is =
     }
 
 begun_part : (a : Array) (len : ℕ) (s : List ℕ) → IsFront a s → len ≡ length (file_of a) → IsPart (begun len s) (file_of a)
-begun_part a len s front is = record {
-  size = length-begun len s (omega (arith, front.short, is, length-file a)) ∙ is;
-  each = λ p p_in. elim (cases_lt p (length s)) [
-    | inl low ↦ inr (front_byte len s p low ∙ (front.each p low ∙ sym (header_byte a p (omega (arith, low, front.short)))))
-    | inr high ↦ inl (rest_byte len s p high)
-  ];
-}
+begun_part a len s front is =
+    let room : length s ≤ len = omega (arith, front.short, is, length-file a) in
+    record {
+      size = length-begun len s room ∙ is;
+      each = λ p p_in. elim (cases_lt p (length s)) [
+        | inl low ↦ inr (front_byte len s p room low ∙ (front.each p low ∙ sym (header_byte a p (omega (arith, low, front.short)))))
+        | inr high ↦ inl (rest_byte len s p room high)
+      ];
+    }
 
 file_len : (a : Array) (dims front : List ℕ) → IsOf dims a → front ≡ header dims → length front + 8 * elements dims ≡ length (file_of a)
 file_len a dims front of is =
@@ -86,7 +91,7 @@ begun_filling a dims front of is =
       part = begun_part a (length front + 8 * elements dims) front f (file_len a dims front of is);
       header_is = λ p p_in.
           let low : p < length front = subst (λ n. p < n) h p_in in
-          front_byte (length front + 8 * elements dims) front p low ∙ (f.each p low ∙ sym (header_byte a p p_in));
+          front_byte (length front + 8 * elements dims) front p (omega arith) low ∙ (f.each p low ∙ sym (header_byte a p p_in));
       there = λ k i j h inside few. absurd (omega (arith, h));
     }
 
@@ -100,12 +105,12 @@ fresh_told false len s t = absurd (untrue t)
     untrue t = cc
 
 fresh_filling : (tells : Bool) (dims front : List ℕ) → front ≡ header dims →
-    OnTold (overwritten (zeros tells (length front + 8 * elements dims)) 0 front) (λ bytes. (a : Array) → IsOf dims a → IsFilling a [] bytes)
+    OnTold (begun_with tells dims front) (λ bytes. (a : Array) → IsOf dims a → IsFilling a [] bytes)
 fresh_filling true dims front is = λ a of. begun_filling a dims front of is
 fresh_filling false dims front is = tt
 
 pub fresh_of : (tells : Bool) (name dims front : List ℕ) (s : Saving) → s.name ≡ name → s.dims ≡ dims → s.faults ≡ 0 → front ≡ header dims →
-    s.content ≡ overwritten (zeros tells (length front + 8 * elements dims)) 0 front → IsFresh tells name dims s
+    s.content ≡ begun_with tells dims front → IsFresh tells name dims s
 fresh_of tells name dims front s name_is dims_are faults_are is content_is = record {
   name_is = name_is;
   dims_are = dims_are;
@@ -118,14 +123,14 @@ size_of-zeros : (tells : Bool) (n : ℕ) → size_of (zeros tells n) ≡ n
 size_of-zeros true n = length-replicate n 0
 size_of-zeros false n = refl
 
-room_of : (tells : Bool) (dims front : List ℕ) (content : Content) → front ≡ header dims → content ≡ overwritten (zeros tells (length front + 8 * elements dims)) 0 front →
+room_of : (tells : Bool) (dims front : List ℕ) (content : Content) → front ≡ header dims → content ≡ begun_with tells dims front →
     size_of content ≡ length (header dims) + 8 * elements dims
 room_of tells dims front content is content_is =
     let z = size_of-zeros tells (length front + 8 * elements dims) in
     ap size_of content_is ∙ (size_of-overwritten (zeros tells (length front + 8 * elements dims)) 0 front (omega (arith, z)) ∙ (z ∙ ap (λ l. length l + 8 * elements dims) is))
 
 pub kept_of : {F : Type 0} (content : F → Content) (tells : Bool) (dims front : List ℕ) (f : OpenFile F) → f.head.fortran ≡ false → f.head.shape ≡ dims → f.head.data_at ≡ length front → length (header dims) ≤ 512 → front ≡ header dims →
-    content f.file ≡ overwritten (zeros tells (length front + 8 * elements dims)) 0 front → IsKept content f
+    content f.file ≡ begun_with tells dims front → IsKept content f
 kept_of content tells dims front f rows shape at short is content_is = record {
   rows = rows;
   begins = at ∙ (ap length is ∙ ap (λ d. length (header d)) (sym shape));

@@ -1,6 +1,5 @@
 -- The bytes of an array's file.
-use Rattle.std.proofs.Common.{◌≡◌, ℕ, ℤ, pos, zero, suc, ◌≤◌, ◌<◌, ◌+◌, ◌-◌, ◌*◌, List, [], ◌∷◌, ◌++◌, length, get_or, refl, ap, sym, ◌∙◌, inl, inr, arith, length-append}
-use Rattle.std.proofs.lemmas.Bool.{cases_lt}
+use Rattle.std.proofs.Common.{◌≡◌, ℕ, ℤ, pos, ◌≤◌, ◌<◌, ◌+◌, ◌-◌, ◌*◌, List, ◌++◌, length, get_or, refl, ap, sym, ◌∙◌, arith, length-append}
 use Rattle.std.proofs.lemmas.List.{get_or_append_left, get_or-append_right, get_or_past}
 use Rattle.nd_shape.specs.Block.{Array}
 use Rattle.nd_shape.specs.Index.{IsIn, place}
@@ -8,24 +7,8 @@ use Rattle.nd_shape.specs.Shape.{elements}
 use Rattle.nd_shape.proofs.Places.{place-below}
 use Rattle.npy_codec.specs.Npy.{cell_bytes, cells_bytes, header}
 use Rattle.npy_region.specs.Writing.{byte_at}
+use Rattle.npy_region.proofs.WriteLemmas.{byte_of_cells, length-cells_bytes}
 use Rattle.saved_files.specs.Filling.{file_of, spot}
-
-length-cells_bytes : (zs : List ℤ) → length (cells_bytes zs) ≡ 8 * length zs
-length-cells_bytes [] = refl
-length-cells_bytes (z ∷ zs) = let r = length-cells_bytes zs in let e : length (cell_bytes z) ≡ 8 = refl in omega (arith, r, length-append (cell_bytes z) (cells_bytes zs), e)
-
-byte_of_cells : (zs : List ℤ) (q j : ℕ) → q < length zs → j < 8 → byte_at (cells_bytes zs) (8 * q + j) ≡ byte_at (cell_bytes (get_or zs q (pos 0))) j
-byte_of_cells [] q j h few = absurd (omega (arith, h))
-byte_of_cells (z ∷ zs) zero j h few =
-    let e : 8 * 0 + j ≡ j = omega arith in
-    ap (byte_at (cell_bytes z ++ cells_bytes zs)) e ∙ first (cell_bytes z) (cells_bytes zs) refl
-  where
-    first : (xs ys : List ℕ) → length xs ≡ 8 → byte_at (xs ++ ys) j ≡ byte_at xs j
-    first xs ys l = get_or_append_left xs ys 0 j (omega arith)
-byte_of_cells (z ∷ zs) (suc q) j h few = later (cell_bytes z) (cells_bytes zs) refl ∙ byte_of_cells zs q j (omega arith) few
-  where
-    later : (xs ys : List ℕ) → length xs ≡ 8 → byte_at (xs ++ ys) (8 * suc q + j) ≡ byte_at ys (8 * q + j)
-    later xs ys l = let e : 8 * suc q + j - 8 ≡ 8 * q + j = omega arith in get_or-append_right xs ys 8 (8 * suc q + j) 0 l (omega arith) ∙ ap (byte_at ys) e
 
 length-front : (front : List ℕ) (zs : List ℤ) → length (front ++ cells_bytes zs) ≡ length front + 8 * length zs
 length-front front zs = omega (arith, length-append front (cells_bytes zs), length-cells_bytes zs)
