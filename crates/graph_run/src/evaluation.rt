@@ -1,9 +1,13 @@
 //! The evaluation of a job's keys in order.
-ghost use Rattle.std.specs.Prelude.{◌≡◌, ◌<◌, ◌↔◌, IfOk};
+ghost use Rattle.std.specs.Prelude.{◌≡◌, ◌<◌, ◌↔◌, IfOk, IsTrue};
 ghost use Rattle.cluster_msgs.specs.Shape.{key_count, deps_of};
 ghost use Rattle.cluster_msgs.specs.Values.{val};
 ghost use Rattle.graph_run.specs.Evaluations.{HaveValues, IfMade, CountsStep, value_of_step, next_after};
+ghost use Rattle.graph_run.specs.Uses.{IsUsedFrom};
 
+use crate::running::run_key;
+use crate::slots::{empty, keep};
+use crate::uses::last_uses;
 use cluster_msgs::{JobSpec, RunFail};
 use std::alloc::{AllocError, Global};
 use std::marker::Model;
@@ -22,7 +26,8 @@ pub enum Step<B> {
 pub struct Evaluation<J: JobSpec> {
     alloc: Global,
     next: u32,
-    kept: Vec<Option<Arc<J::Block>>>,
+    last: Vec<u32>,
+    slots: Vec<Option<Arc<J::Block>>>,
     job: J,
     feed: J::Feed,
 }
@@ -33,6 +38,10 @@ impl<J: JobSpec> Model for Evaluation<J> {
     ghost Value = { Evaluation J J.Feed };
 
     ghost view = { λ e. record { job = e.job; feed = e.feed; next = e.next } };
+
+    ghost use Rattle.graph_run.specs.Kept.{IsEvaluation};
+
+    ghost invariant = { λ e. IsEvaluation J.graph J.key_dims J.block_dims J.operation J.feed_fits J.feed_tells e.job e.feed e.next e.last.items e.slots.items };
 }
 
 impl<J: JobSpec> Evaluation<J> {
@@ -44,10 +53,14 @@ impl<J: JobSpec> Evaluation<J> {
         requires feed { J.feed_fits job feed }
         ensures { IfOk result (λ e. e ≡ record { job = job; feed = feed; next = 0 }) }
     {
+        let graph = job.shape();
+        let last = last_uses(alloc, graph)?;
+        let slots = empty(alloc, graph.keys())?;
         Ok(Evaluation {
             alloc,
             next: 0,
-            kept: Vec::new(alloc),
+            last,
+            slots,
             job,
             feed,
         })
@@ -83,7 +96,24 @@ impl<J: JobSpec> Evaluation<J> {
         ensures dims { IfOk result (λ s. IfMade s (λ b. J.block_dims b ≡ J.key_dims self.old.job self.old.next)) }
         ensures faults { CountsStep result (J.fault_count self.old.feed) (J.fault_count self.new.feed) }
     {
-        Err(RunFail::OutOfMemory)
+        let graph = self.job.shape();
+        graph.sound();
+        let slots = self.slots.as_slice();
+        let step = run_key(self.alloc, &self.job, &mut self.feed, slots, self.next)?;
+        if let Step::Made(block) = &step {
+            let slots = self.slots.as_mut_slice();
+            keep(slots, self.last.as_slice(), graph, self.next, block)?;
+            self.next += 1;
+        }
+        Ok(step)
+    }
+
+    /// Whether a key's block is held: that of a key that was run, which some key uses that wasn't. No memory.
+    pub fn holds(&self, key: u32) -> bool
+        requires { key < key_count (J.graph self.now.job) }
+        ensures { IsTrue result ↔ ((key < self.now.next) × IsUsedFrom (deps_of (J.graph self.now.job)) self.now.next key) }
+    {
+        self.slots[key as usize].is_some()
     }
 
     /// All keys before the next one have values, where the feed tells what it holds. It does nothing.
@@ -91,6 +121,7 @@ impl<J: JobSpec> Evaluation<J> {
         ensures { J.feed_tells self.now.job self.now.feed →
             HaveValues (deps_of (J.graph self.now.job)) (J.operation self.now.job) self.now.next }
     {
+        let _next = self.next;
     }
 
     /// Gives the feed back. No memory.

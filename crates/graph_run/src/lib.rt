@@ -6,6 +6,8 @@
 #![tactic(auto)]
 
 mod evaluation;
+mod running;
+mod slots;
 mod uses;
 
 pub use evaluation::{Evaluation, Step};
