@@ -1,6 +1,6 @@
 -- Elements that are written piece by piece, and runs of a region that are written one after the other.
 use Rattle.std.proofs.Common.{◌≡◌, ℕ, ℤ, pos, zero, suc, ◌≤◌, ◌<◌, ◌+◌, ◌-◌, ◌*◌, ◌/◌, ◌%◌, ◌⊎◌, inl, inr, List, [], ◌∷◌, ◌++◌, length, take, drop, get_or, refl, ap, ap₂, sym, ◌∙◌, arith, subst, append_assoc, length-append}
-use Rattle.std.specs.Prelude.{Bool, true, false, map, Result, Ok, Err, OnOk}
+use Rattle.std.specs.Prelude.{Bool, true, false, map, Result, Ok, Err, OnOk, OnErr}
 use Rattle.std.specs.List.{flat_map}
 use Rattle.std.proofs.lemmas.List.{take-append-drop, take_all, length-take, length-take-le, length-drop, get_or-take, get_or-drop, get_or_append_left, get_or-append_right}
 use Rattle.std.proofs.lemmas.List.Concat.{flat_map-cons}
@@ -73,6 +73,10 @@ take-take (suc k) zero xs h = absurd (omega (arith, h))
 take-take (suc k) (suc n) [] h = refl
 take-take (suc k) (suc n) (x ∷ xs) h = ap (λ l. x ∷ l) (take-take k n xs (omega (arith, h)))
 
+pub always_err : {T E : Type 0} {P : Type 0} (r : Result T E) → P → OnErr r P
+always_err (Ok x) p = tt
+always_err (Err e) p = p
+
 -- what a chain over the elements put into an empty buffer
 pub filled : {E : Type 0} {A : Type 0} (P Q : Type 0) (r : Result (Unit {0}) E) (cleared all new : List A) → cleared ≡ [] → OnOk r ((new ≡ cleared ++ all) × P × Q) → OnOk r (new ≡ all)
 filled P Q (Ok x) cleared all new none h = h.0 ∙ ap (λ l. l ++ all) none
@@ -128,10 +132,6 @@ piece_part c d e at done step zs bytes a wrote =
       bound = omega (arith, h, a.within, length-cells_bytes zs);
       content = wrote.content ∙ written_front c d at done step wrote.count zs bytes a h;
     }
-
--- memory was wanted between two pieces
-pub pieces_stopped : (c d : Content) (at done : ℕ) (zs : List ℤ) → done ≤ length zs → d ≡ overwritten c at (take (8 * done) (cells_bytes zs)) → WritesPart c d at (cells_bytes zs)
-pieces_stopped c d at done zs h e = record { count = 8 * done; bound = omega (arith, h, length-cells_bytes zs); content = e }
 
 pub pieces_whole : (c d : Content) (at done : ℕ) (zs : List ℤ) → length zs ≤ done → d ≡ overwritten c at (take (8 * done) (cells_bytes zs)) → d ≡ overwritten c at (cells_bytes zs)
 pieces_whole c d at done zs h e = e ∙ ap (overwritten c at) (take_all (8 * done) (cells_bytes zs) (omega (arith, h, length-cells_bytes zs)))
@@ -305,8 +305,18 @@ FirstWritten head region block runs k = Turns (WritesFirst head region block run
 pub first_none : (head : Head) (region : Box) (block : Array) (runs : List Run) (c : Content) → FirstWritten head region block runs 0 c c
 first_none head region block runs c = turns_same (WritesFirst head region block runs 0) c (writes_none head region block runs)
 
-pub some_none : (head : Head) (region : Box) (block : Array) (c : Content) → Turns (WritesSome head region block) c c
-some_none head region block c = turns_same (WritesSome head region block) c (λ bytes. record { size = refl; each = λ p p_in. inl refl })
+size-turns : (R : List ℕ → List ℕ → Type 0) (c d : Content) → ((old new : List ℕ) → R old new → length new ≡ length old) → Turns R c d → size_of d ≡ size_of c
+size-turns R (Told old) (Told new) keeps turns = keeps old new turns
+size-turns R (Told old) (Untold size) keeps turns = absurd turns
+size-turns R (Untold size) (Told new) keeps turns = absurd turns
+size-turns R (Untold size) (Untold now) keeps turns = turns
+
+-- a file that is written into stays as long as it is
+pub size-written : (head : Head) (region : Box) (block : Array) (c d : Content) → Turns (WritesRegion head region block) c d → size_of d ≡ size_of c
+size-written head region block c d turns = size-turns (WritesRegion head region block) c d (λ old new w. w.size) turns
+
+pub size-written_some : (head : Head) (region : Box) (block : Array) (c d : Content) → Turns (WritesSome head region block) c d → size_of d ≡ size_of c
+size-written_some head region block c d turns = size-turns (WritesSome head region block) c d (λ old new w. w.size) turns
 
 -- where a run ends, in the file and in the block
 pub record RunFits (head : Head) (block : Array) (run : Run) : Type 0 where

@@ -1,11 +1,6 @@
 use Rattle.std.proofs.Common.{◌≤◌, ◌+◌, ◌∙◌, length, arith}
-use Rattle.std.specs.Prelude.{OnErr, Result, Ok, Err}
-use Rattle.npy_region.proofs.WriteLemmas.{ahead, piece_more, piece_part, pieces_whole}
+use Rattle.npy_region.proofs.WriteLemmas.{ahead, always_err, piece_more, piece_part, pieces_whole}
 use Rattle.npy_region.proofs.write.write_cells.Goals as goal
-
-always_err : {T E : Type 0} {P : Type 0} (r : Result T E) → P → OnErr r P
-always_err (Ok x) p = tt
-always_err (Err e) p = p
 
 pub returns-in_err-write_full-clause-part : goal.returns-in_err-write_full-clause-part
 returns-in_err-write_full-clause-part g c =

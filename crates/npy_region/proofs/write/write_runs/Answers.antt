@@ -1,11 +1,6 @@
 use Rattle.std.proofs.Common.{refl, ap, length, ◌∙◌, arith}
-use Rattle.std.specs.Prelude.{OnErr, Result, Ok, Err}
-use Rattle.npy_region.proofs.WriteLemmas.{first_all, first_more, first_none, first_stopped, next_run, run_fits}
+use Rattle.npy_region.proofs.WriteLemmas.{always_err, first_all, first_more, first_none, first_stopped, next_run, run_fits}
 use Rattle.npy_region.proofs.write.write_runs.Goals as goal
-
-always_err : {T E : Type 0} {P : Type 0} (r : Result T E) → P → OnErr r P
-always_err (Ok x) p = tt
-always_err (Err e) p = p
 
 pub loop-run-init : goal.loop-run-init
 loop-run-init g c = record {
