@@ -26,3 +26,5 @@ pub mod Standing
 pub mod UsesZipped
 pub mod Within
 pub mod Loading
+pub mod Fed
+pub mod Untruncated

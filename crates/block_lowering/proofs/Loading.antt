@@ -1,9 +1,9 @@
 -- What is read of an input is what its operation makes.
-use Rattle.std.proofs.Common.{◌≡◌, ℕ, ℤ, List, [], ap, sym, ◌∙◌, pos, Some, arith}
+use Rattle.std.proofs.Common.{◌≡◌, ℕ, ℤ, List, [], ap, sym, ◌∙◌, pos, Some}
 use Rattle.std.specs.Prelude.{◌<◌, get_or, IsSome}
 use Rattle.std.proofs.lemmas.Bool.{false≢true}
 use Rattle.nd_shape.specs.Block.{Array}
-use Rattle.nd_shape.specs.Index.{IsIn, index_at, place}
+use Rattle.nd_shape.specs.Index.{IsIn, index_at}
 use Rattle.nd_shape.specs.Region.{Box, IsPart, moved}
 use Rattle.nd_shape.specs.Shape.{elements}
 use Rattle.nd_shape.proofs.Places.{place-index_at, index_at-in}

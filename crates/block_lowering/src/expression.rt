@@ -1,8 +1,9 @@
 //! Expressions, lowered.
-ghost use Rattle.std.specs.Prelude.{◌≡◌, ◌<◌, ◌+◌, length, All, None, IfOk, IfErr, OnOk, cond};
+ghost use Rattle.std.specs.Prelude.{◌≡◌, ◌<◌, ◌+◌, length, map, All, None, IfOk, IfErr, OnOk, cond};
 ghost use Rattle.array_expr.specs.Node.{IsExpression};
 ghost use Rattle.array_expr.specs.Elem.{is_input};
 ghost use Rattle.lowering_laws.specs.Lowered.{lowering, lowered, limit_of};
+ghost use Rattle.lowering_laws.specs.Named.{layout_of};
 ghost use Rattle.block_lowering.specs.Growing.{IsCause};
 
 use crate::error::LowerError;
@@ -40,8 +41,8 @@ fn lower_nodes(alloc: Global, nodes: &[Node]) -> Result<Making, LowerError>
 }
 
 /// What the nodes of an expression are lowered to, of which some are saved: the graph of block tasks that makes the saved
-/// blocks and no more, numbered depth first, the name of each key, and the keys of each save. Layouts, tasks and their order
-/// are those of Dask's arrays (<https://docs.dask.org/en/stable/array.html>), as `lowering_laws` defines them.
+/// blocks and no more, numbered depth first, the name of each key, and the keys and the layout of each save. Layouts, tasks
+/// and their order are those of Dask's arrays (<https://docs.dask.org/en/stable/array.html>), as `lowering_laws` defines them.
 ///
 /// # Errors
 /// `Limit` only where a limit is passed, with the first that is, in the order in which the keys are made: keys,
@@ -52,6 +53,7 @@ pub fn lower(alloc: Global, expr: &Expr, saves: &[NodeId]) -> Result<Lowered, Lo
     ensures tasks { IfOk result (λ l. l.graph ≡ (lowered expr.now saves.now).tasks) }
     ensures names { IfOk result (λ l. l.names ≡ (lowered expr.now saves.now).names) }
     ensures saved { IfOk result (λ l. l.saved ≡ (lowered expr.now saves.now).saved) }
+    ensures layouts { IfOk result (λ l. l.layouts ≡ map (layout_of expr.now) saves.now) }
     ensures err { IfErr result (IsCause expr.now) }
 {
     let nodes = expr.nodes();

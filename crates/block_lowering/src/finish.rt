@@ -4,21 +4,25 @@ ghost use Rattle.std.specs.List.{AllByRecursion, flat_map};
 ghost use Rattle.task_graph.specs.Orders.{position};
 ghost use Rattle.lowering_laws.specs.Lowered.{source_at, keys_of, culled};
 
+use crate::layouts::copied_layout;
 use crate::making::Making;
+use crate::nodes::source_of;
 use crate::sources::{Keyed, Name};
 use array_expr::NodeId;
+use chunk_layout::Layout;
 use cluster_msgs::{KeyList, Sequence};
 use std::alloc::{AllocError, Global};
 use task_graph::moves::renumber;
 use task_graph::{Graph, Renumber, order};
 
 /// The graph that makes the saved blocks, the node and block of each key that is one's own, and the keys of the blocks of each
-/// save, in row-major order.
+/// save, in row-major order, and the layout of each save's array.
 #[derive(Drop)]
 pub struct Lowered {
     pub graph: Graph,
     pub names: Sequence<Name>,
     pub saved: Sequence<KeyList>,
+    pub layouts: Sequence<Layout>,
 }
 
 // The keys of an array's blocks, all of them below a bound: they are keys of the graph.
@@ -56,6 +60,23 @@ fn wanted_keys(
         wanted.push(KeyList::from_vec(keys))?;
     }
     Ok(wanted)
+}
+
+// The layout of each save's array.
+fn saved_layouts(
+    alloc: Global,
+    sources: &[Keyed],
+    saves: &[NodeId],
+) -> Result<Sequence<Layout>, AllocError>
+    requires { All (λ n. n < length sources.now) saves.now }
+    ensures { IfOk result (λ layouts. layouts ≡ map (λ n. (source_at sources.now n).layout) saves.now) }
+{
+    let mut layouts = Vec::with_capacity(alloc, saves.len())?;
+    for node in saves {
+        let source = source_of(sources, *node);
+        layouts.push(copied_layout(alloc, source.layout())?)?;
+    }
+    Ok(Sequence::from_vec(layouts))
 }
 
 // Puts keys at the end.
@@ -146,6 +167,7 @@ pub fn finish(alloc: Global, made: Making, saves: &[NodeId]) -> Result<Lowered, 
     ensures tasks { IfOk result (λ l. l.graph ≡ (culled made saves.now).tasks) }
     ensures names { IfOk result (λ l. l.names ≡ (culled made saves.now).names) }
     ensures saved { IfOk result (λ l. l.saved ≡ (culled made saves.now).saved) }
+    ensures layouts { IfOk result (λ l. l.layouts ≡ map (λ n. (source_at made.sources n).layout) saves.now) }
 {
     let (graph, names, sources) = made.into_parts();
     let wanted = wanted_keys(alloc, sources.as_slice(), saves, graph.keys())?;
@@ -154,9 +176,11 @@ pub fn finish(alloc: Global, made: Making, saves: &[NodeId]) -> Result<Lowered, 
     let saved = saved_keys(alloc, &numbers, wanted.as_slice())?;
     let names = kept_names(alloc, names.as_slice(), numbers.order())?;
     let graph = renumber(graph, &numbers)?;
+    let layouts = saved_layouts(alloc, sources.as_slice(), saves)?;
     Ok(Lowered {
         graph,
         names,
         saved,
+        layouts,
     })
 }

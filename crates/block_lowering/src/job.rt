@@ -180,6 +180,7 @@ impl<S: Store, E: Elements + Send + Sync + Drop> JobGraph<S, E> {
         })
     }
 }
+
 impl<S: Store + Send + Sync, E: Elements + Send + Sync + Drop> JobSpec for JobGraph<S, E> {
     type Block = Block;
 

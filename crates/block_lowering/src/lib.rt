@@ -1,9 +1,10 @@
 //! The graph of block tasks that a job is lowered to.
 //!
 //! It stands on `chunk_layout` (layouts, plans and trees), `block_kernels` (what a task computes), `task_graph` (graphs, their
-//! order and their numbers) and `lowering_laws` (what a job is lowered to, and what its keys hold); nothing stands on it yet
-//! but the driver `block_table`. It carries that `lower` answers exactly the graph, the names and the saved keys that are
-//! defined there, or the first limit that is passed.
+//! order and their numbers), `lowering_laws` (what a job is lowered to, and what its keys hold) and `npy_region` (regions of
+//! files); nothing stands on it yet but the driver `block_table`. It carries that `lower` answers exactly the graph, the names
+//! and the saved keys that are defined there, or the first limit that is passed, and that a key that the cluster runs makes
+//! what its task says of the blocks of its dependencies and of its input's file.
 #![tactic(auto)]
 
 pub mod counts;

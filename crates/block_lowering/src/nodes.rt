@@ -27,8 +27,8 @@ const OPERANDS: usize = 0xffff_ffff;
 
 // ---- operands
 
-// The array of a node before this one.
-fn source_of(sources: &[Keyed], node: NodeId) -> &Keyed
+/// The array of a node that is lowered.
+pub fn source_of(sources: &[Keyed], node: NodeId) -> &Keyed
     requires { node < length sources.now }
     ensures { result.now ≡ source_at sources.now node }
 {

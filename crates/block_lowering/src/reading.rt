@@ -3,6 +3,7 @@ ghost use Rattle.std.specs.Prelude.{◌≡◌, ◌≤◌, ◌<◌, ◌+◌, ◌*
 ghost use Rattle.io_edge.specs.Content.{file_at, size_of, OnTold};
 ghost use Rattle.nd_shape.specs.Shape.{elements};
 ghost use Rattle.nd_shape.specs.Region.{IsPart};
+ghost use Rattle.npy_codec.specs.Fronts.{IsFaultOrMemory};
 ghost use Rattle.npy_codec.specs.Regions.{HoldsRegion};
 ghost use Rattle.block_kernels.specs.Kernels.{result_shape};
 ghost use Rattle.nd_grid.specs.Grid.{kept_shape};
@@ -20,8 +21,9 @@ use npy_codec::{Head, NpyError};
 use npy_region::read_region;
 use std::alloc::{AllocError, Global};
 
-// Why a region wasn't read. All of the file's data is there, so that it isn't for want of that.
+// Why a region wasn't read.
 fn read_fail(error: NpyError, rose: bool) -> RunFail
+    requires { IsFaultOrMemory error }
     ensures { result ≡ fail_of error rose }
 {
     match error {
@@ -36,7 +38,7 @@ fn read_fail(error: NpyError, rose: bool) -> RunFail
     }
 }
 
-/// Reads the region of an input, and no more than its runs.
+/// Reads the region of an input, and no more than its runs. All of the file's data is there, so that it isn't truncated.
 pub fn load<S: Store>(
     alloc: Global,
     feed: &mut S,

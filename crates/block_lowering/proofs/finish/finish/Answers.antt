@@ -53,3 +53,8 @@ returns-clause-saved c =
     let order = ap (λ (n : Numbers). n.order) c.in_ok-numbers.ensures.numbers ∙ ap (λ (ts : List Task). depth_first ts c.in_ok-all.all) graph ∙ ap (depth_first c.args.made.tasks) all in
     c.in_ok-saved.ensures ∙ ap (map (λ ks. map (position c.in_ok-numbers.numbers.order) ks)) (c.as_slice-3.ensures.value ∙ wanted)
     ∙ ap (λ o. map (λ ks. map (position o) ks) (map (λ n. keys_of (source_at c.args.made.sources n)) saves)) order
+
+pub returns-clause-layouts : goal.returns-clause-layouts
+returns-clause-layouts c =
+    let sources = c.as_slice-5.ensures.value ∙ c.into_parts-graph.ensures.sources in
+    c.in_ok-layouts.ensures ∙ ap (λ (ss : List Source). map (λ n. (source_at ss n).layout) c.args.saves.now) sources
