@@ -1,0 +1,6 @@
+pub mod Created
+pub mod FileBytes
+pub mod Filled
+pub mod Given
+pub mod Places
+pub mod Written

@@ -1,2 +1,3 @@
 pub mod Filling
+pub mod Kept
 pub mod Saving

@@ -47,15 +47,15 @@ pub record LeavesOne (name dims : List ℕ) (old new : Files) : Type 0 where
   pub others : (n : List ℕ) → bytes_eq name n ≡ false → new.held n ≡ old.held n
   pub here : (a : Array) → IsOf dims a → IsLeft name (file_of a) old new
 
--- what a file holds before and after a block was written whole
-abbrev pub FillsMore : Box → Array → Content → Content → Type 0
-FillsMore box block old new = Turns (λ before after. (a : Array) (boxes : List Box)
-    → IsFilling a boxes before → HoldsBox a box block → IsFilling a (boxes ++ box ∷ []) after) old new
+-- what the file of an array with these lengths holds before and after a block was written whole
+abbrev pub FillsMore : List ℕ → Box → Array → Content → Content → Type 0
+FillsMore dims box block old new = Turns (λ before after. (a : Array) (boxes : List Box)
+    → a.shape ≡ dims → IsFilling a boxes before → HoldsBox a box block → IsFilling a (boxes ++ box ∷ []) after) old new
 
 -- the same where writing it failed
-abbrev pub FillsPart : Box → Array → Content → Content → Type 0
-FillsPart box block old new = Turns (λ before after. (a : Array) (boxes : List Box)
-    → IsFilling a boxes before → HoldsBox a box block → IsFilling a boxes after) old new
+abbrev pub FillsPart : List ℕ → Box → Array → Content → Content → Type 0
+FillsPart dims box block old new = Turns (λ before after. (a : Array) (boxes : List Box)
+    → a.shape ≡ dims → IsFilling a boxes before → HoldsBox a box block → IsFilling a boxes after) old new
 
 -- the file at one place may have changed in what it holds and in its count of faults, and nothing else
 pub record ChangesAt (place : ℕ) (old new : List Saving) : Type 0 where

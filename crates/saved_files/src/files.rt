@@ -5,19 +5,11 @@ ghost use Rattle.io_edge.specs.View.{Creates, OnlyWrites, raised_by, updated};
 ghost use Rattle.nd_shape.specs.Region.{IsPart};
 ghost use Rattle.saved_files.specs.Saving.{ChangesAt, FillsMore, FillsPart, GivesBack, IsFresh, LeavesOne, TakesAll, WereCreated, saving_at};
 
-use io_edge::{OpenFault, OutFile, Site};
+use crate::open::{OpenFile, give_all, open_file, write_block};
+use io_edge::{OpenFault, Site};
 use nd_shape::{Block, Region, Shape};
-use npy_codec::{Head, write_head};
-use npy_region::write_region;
 use std::alloc::Global;
 use std::marker::Model;
-
-// A created file, and the head that was written into it.
-#[derive(Drop)]
-struct OpenFile<F> {
-    file: F,
-    head: Head,
-}
 
 /// Files of a site that are being saved, in the order of their creation. Contracts see of each its name, the lengths of its array,
 /// what it holds so far, and its count of faults.
@@ -27,12 +19,15 @@ pub struct SavedFiles<S: Site> {
 }
 
 impl<S: Site> Model for SavedFiles<S> {
-    ghost use Rattle.std.specs.Prelude.{List, map};
+    ghost use Rattle.std.specs.Prelude.{List, map, All};
+    ghost use Rattle.saved_files.specs.Kept.{IsKept, saving_of};
     ghost use Rattle.saved_files.specs.Saving.{Saving};
 
     ghost Value = { List Saving };
 
-    ghost view = { λ s. map (λ f. record { name = S.Out.named f.file; dims = f.head.shape; content = S.Out.content f.file; faults = S.Out.count f.file }) s.files.items };
+    ghost view = { λ s. map (saving_of S.Out.named S.Out.content S.Out.count) s.files.items };
+
+    ghost invariant = { λ s. All (IsKept S.Out.content) s.files.items };
 }
 
 impl<S: Site> SavedFiles<S> {
@@ -77,7 +72,10 @@ impl<S: Site> SavedFiles<S> {
         ensures only { OnlyWrites (S.view site.old) (S.view site.new) }
         ensures cause { HasOpenCause (S.view site.old).write_faults (S.view site.new).write_faults result }
     {
-        Err(OpenFault::OutOfMemory)
+        self.files.reserve(1)?;
+        let file = open_file(alloc, site, name, shape)?;
+        self.files.push_reserved(file);
+        Ok(())
     }
 
     /// Writes a block into a box of the array of the file at a place.
@@ -96,12 +94,13 @@ impl<S: Site> SavedFiles<S> {
         requires inside { IsPart region.now (saving_at self.old place).dims }
         requires shape { block.now.shape ≡ region.now.lengths }
         ensures changes { ChangesAt place self.old self.new }
-        ensures filled { OnOk result (FillsMore region.now block.now (saving_at self.old place).content (saving_at self.new place).content) }
-        ensures part { OnErr result (FillsPart region.now block.now (saving_at self.old place).content (saving_at self.new place).content) }
+        ensures filled { OnOk result (FillsMore (saving_at self.old place).dims region.now block.now (saving_at self.old place).content (saving_at self.new place).content) }
+        ensures part { OnErr result (FillsPart (saving_at self.old place).dims region.now block.now (saving_at self.old place).content (saving_at self.new place).content) }
         ensures kept { OnOk result ((saving_at self.new place).faults ≡ (saving_at self.old place).faults) }
         ensures cause { HasOpenCause (saving_at self.old place).faults (saving_at self.new place).faults result }
     {
-        Err(OpenFault::OutOfMemory)
+        let opened = &mut self.files[place];
+        write_block(alloc, opened, region, block)
     }
 
     /// Gives all files back. The count of write faults rises where a file's count is above 0, and only there.
@@ -112,5 +111,6 @@ impl<S: Site> SavedFiles<S> {
         ensures later { (S.view site.old).write_faults ≤ (S.view site.new).write_faults }
         ensures cause { TakesAll self (S.view site.old).write_faults (S.view site.new).write_faults }
     {
+        give_all(self.files, site);
     }
 }

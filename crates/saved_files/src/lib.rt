@@ -7,6 +7,7 @@
 
 mod files;
 mod laws;
+mod open;
 
 pub use files::SavedFiles;
 pub use laws::filled_is_whole;

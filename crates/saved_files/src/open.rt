@@ -1,0 +1,117 @@
+// Open files, one by one.
+ghost use Rattle.std.specs.Prelude.{◌≡◌, ◌<◌, ◌≤◌, ◌+◌, ◌*◌, ◌∷◌, [], ℕ, length, map, OnOk, OnErr, IfOk, None};
+ghost use Rattle.io_edge.specs.Cause.{HasOpenCause};
+ghost use Rattle.io_edge.specs.Content.{overwritten, zeros};
+ghost use Rattle.io_edge.specs.View.{Creates, OnlyWrites, raised_by, updated};
+ghost use Rattle.nd_shape.specs.Region.{IsPart};
+ghost use Rattle.nd_shape.specs.Shape.{elements};
+ghost use Rattle.npy_codec.specs.Npy.{header};
+ghost use Rattle.saved_files.specs.Kept.{IsKept, saving_of};
+ghost use Rattle.saved_files.specs.Saving.{FillsMore, FillsPart, GivesBack, IsFresh, LeavesOne, TakesAll, WereCreated};
+
+use io_edge::{OpenFault, OutFile, Site, write_full};
+use nd_shape::{Block, Region, Shape};
+use npy_codec::{Head, write_head};
+use npy_region::write_region;
+use std::alloc::Global;
+
+/// A created file, and the head that was written into it.
+#[derive(Drop)]
+pub struct OpenFile<F> {
+    pub file: F,
+    pub head: Head,
+}
+
+// Creates a file with this header and room for the elements, or gives back what was created of it.
+fn create_with<S: Site>(
+    alloc: Global,
+    site: &mut S,
+    name: &str,
+    shape: &Shape,
+    front: &[u8],
+) -> Result<S::Out, OpenFault>
+    requires front { front.now ≡ header shape.now }
+    requires short { length front.now ≤ 512 }
+    ensures creates { Creates name.now (S.view site.old).files (S.view site.new).files }
+    ensures created { OnOk result ((S.view site.new).files.created ≡ raised_by (name.now ∷ []) (S.view site.old).files.created) }
+    ensures counted { OnOk result (0 < (S.view site.new).files.created name.now) }
+    ensures held { OnOk result ((S.view site.new).files.held ≡ updated name.now None (S.view site.old).files.held) }
+    ensures content { IfOk result (λ f. S.Out.content f ≡ overwritten (zeros (S.view site.old).files.tells (length front.now + 8 * elements shape.now)) 0 front.now) }
+    ensures named { IfOk result (λ f. S.Out.named f ≡ name.now) }
+    ensures faults { IfOk result (λ f. S.Out.count f ≡ 0) }
+    ensures left { OnErr result (LeavesOne name.now shape.now (S.view site.old).files (S.view site.new).files) }
+    ensures only { OnlyWrites (S.view site.old) (S.view site.new) }
+    ensures cause { HasOpenCause (S.view site.old).write_faults (S.view site.new).write_faults result }
+{
+    let _ = shape.dims();
+    let len = front.len() as u64 + 8 * shape.elements();
+    let mut file = site.create(alloc, name, len)?;
+    match write_full(&mut file, 0, front) {
+        Ok(()) => Ok(file),
+        Err(fault) => {
+            site.give_file(file);
+            Err(OpenFault::from(fault))
+        }
+    }
+}
+
+/// Creates a file with the header of an array with these lengths, or gives back what was created of it.
+pub fn open_file<S: Site>(
+    alloc: Global,
+    site: &mut S,
+    name: &str,
+    shape: &Shape,
+) -> Result<OpenFile<S::Out>, OpenFault>
+    ensures creates { Creates name.now (S.view site.old).files (S.view site.new).files }
+    ensures created { OnOk result ((S.view site.new).files.created ≡ raised_by (name.now ∷ []) (S.view site.old).files.created) }
+    ensures counted { OnOk result (0 < (S.view site.new).files.created name.now) }
+    ensures held { OnOk result ((S.view site.new).files.held ≡ updated name.now None (S.view site.old).files.held) }
+    ensures kept { IfOk result (λ f. IsKept S.Out.content f) }
+    ensures fresh { IfOk result (λ f. IsFresh (S.view site.old).files.tells name.now shape.now (saving_of S.Out.named S.Out.content S.Out.count f)) }
+    ensures left { OnErr result (LeavesOne name.now shape.now (S.view site.old).files (S.view site.new).files) }
+    ensures only { OnlyWrites (S.view site.old) (S.view site.new) }
+    ensures cause { HasOpenCause (S.view site.old).write_faults (S.view site.new).write_faults result }
+{
+    let front = write_head(alloc, shape)?;
+    let head = Head {
+        shape: shape.copy(alloc)?,
+        fortran: false,
+        data_at: front.len() as u64,
+    };
+    let file = create_with(alloc, site, name, shape, &front)?;
+    Ok(OpenFile { file, head })
+}
+
+/// Writes a block into a box of the file's array.
+pub fn write_block<F: OutFile>(
+    alloc: Global,
+    opened: &mut OpenFile<F>,
+    region: &Region,
+    block: &Block,
+) -> Result<(), OpenFault>
+    requires kept { IsKept F.content opened.old }
+    requires inside { IsPart region.now opened.old.head.shape }
+    requires shape { block.now.shape ≡ region.now.lengths }
+    ensures still { IsKept F.content opened.new }
+    ensures head { opened.new.head ≡ opened.old.head }
+    ensures named { F.named opened.new.file ≡ F.named opened.old.file }
+    ensures filled { OnOk result (FillsMore opened.old.head.shape region.now block.now (F.content opened.old.file) (F.content opened.new.file)) }
+    ensures part { OnErr result (FillsPart opened.old.head.shape region.now block.now (F.content opened.old.file) (F.content opened.new.file)) }
+    ensures faults { OnOk result (F.count opened.new.file ≡ F.count opened.old.file) }
+    ensures cause { HasOpenCause (F.count opened.old.file) (F.count opened.new.file) result }
+{
+    write_region(alloc, &mut opened.file, &opened.head, region, block)
+}
+
+/// Gives files back, one after another.
+pub fn give_all<S: Site>(files: Vec<OpenFile<S::Out>>, site: &mut S)
+    requires { WereCreated (map (saving_of S.Out.named S.Out.content S.Out.count) files.items) (S.view site.old).files }
+    ensures gives { GivesBack (map (saving_of S.Out.named S.Out.content S.Out.count) files.items) (S.view site.old).files (S.view site.new).files }
+    ensures only { OnlyWrites (S.view site.old) (S.view site.new) }
+    ensures later { (S.view site.old).write_faults ≤ (S.view site.new).write_faults }
+    ensures cause { TakesAll (map (saving_of S.Out.named S.Out.content S.Out.count) files.items) (S.view site.old).write_faults (S.view site.new).write_faults }
+{
+    for opened in files {
+        site.give_file(opened.file);
+    }
+}
