@@ -1,12 +1,12 @@
 -- A file that was created, and the header that was written into it, whole or in part.
-use Rattle.std.proofs.Common.{◌≡◌, ℕ, ◌≤◌, ◌<◌, ◌+◌, ◌-◌, ◌*◌, ◌⊎◌, inl, inr, List, [], ◌∷◌, ◌++◌, length, take, drop, get_or, refl, ap, sym, ◌∙◌, subst, arith, Option, Some, None, Bool, true, false}
-use Rattle.std.specs.Prelude.{replicate, bytes_eq, IfSome, IsSome, IsTrue, if◌then◌else◌}
+use Rattle.std.proofs.Common.{◌≡◌, ℕ, ◌≤◌, ◌<◌, ◌+◌, ◌*◌, inl, inr, List, [], ◌∷◌, length, take, refl, ap, sym, ◌∙◌, subst, arith, Option, None, Bool, true, false}
+use Rattle.std.specs.Prelude.{replicate, bytes_eq, IfSome, IsSome, IsTrue}
 use Rattle.std.proofs.lemmas.Bool.{cases_lt}
 use Rattle.std.proofs.lemmas.List.{get_or_past, get_or-replicate, get_or-take, length-replicate, length-take}
 use Rattle.std.proofs.lemmas.List.Edits.{length-paste}
 use Rattle.std.proofs.lemmas.Slice.Eq.{bytes_eq-Decides}
 use Rattle.std.proofs.Math.Seq.{paste}
-use Rattle.io_edge.specs.Content.{Content, Told, Untold, OnTold, overwritten, size_of, told_bytes, zeros, WritesPart}
+use Rattle.io_edge.specs.Content.{Content, OnTold, overwritten, size_of, told_bytes, zeros, WritesPart}
 use Rattle.io_edge.specs.View.{Files, updated}
 use Rattle.io_edge.proofs.Pieces.{size_of-overwritten}
 use Rattle.nd_shape.specs.Block.{Array}
@@ -16,8 +16,8 @@ use Rattle.npy_region.specs.Writing.{byte_at}
 use Rattle.npy_region.proofs.WriteLemmas.{patched}
 use Rattle.saved_files.specs.Filling.{IsFilling, IsPart, file_of}
 use Rattle.saved_files.specs.declared.open.OpenFile.{OpenFile}
-use Rattle.saved_files.specs.Kept.{IsKept}
-use Rattle.saved_files.specs.Saving.{IsFresh, IsLeft, IsOf, LeavesOne, Saving}
+use Rattle.saved_files.specs.Kept.{IsKept, begun_with}
+use Rattle.saved_files.specs.Saving.{IsFresh, IsOf, LeavesOne, Saving}
 use Rattle.saved_files.proofs.FileBytes.{header_byte, length-file}
 
 -- ## Zeros with some bytes at their front
@@ -31,7 +31,7 @@ zero_at n i = elim (cases_lt i n) [
 abbrev begun : ℕ → List ℕ → List ℕ
 begun len s = paste (replicate len 0) 0 s (length s)
 
-within : (len : ℕ) (s : List ℕ) → length s ≤ len → 0 + length s ≤ length (replicate len 0)
+within : (len : ℕ) (s : List ℕ) → length s ≤ len → 0 + length s ≤ length (replicate {A = ℕ} len 0)
 within len s room = let z : ℕ = 0 in omega (arith, room, length-replicate len z)
 
 length-begun : (len : ℕ) (s : List ℕ) → length s ≤ len → length (begun len s) ≡ len
@@ -105,12 +105,12 @@ fresh_told false len s t = absurd (untrue t)
     untrue t = cc
 
 fresh_filling : (tells : Bool) (dims front : List ℕ) → front ≡ header dims →
-    OnTold (overwritten (zeros tells (length front + 8 * elements dims)) 0 front) (λ bytes. (a : Array) → IsOf dims a → IsFilling a [] bytes)
+    OnTold (begun_with tells dims front) (λ bytes. (a : Array) → IsOf dims a → IsFilling a [] bytes)
 fresh_filling true dims front is = λ a of. begun_filling a dims front of is
 fresh_filling false dims front is = tt
 
 pub fresh_of : (tells : Bool) (name dims front : List ℕ) (s : Saving) → s.name ≡ name → s.dims ≡ dims → s.faults ≡ 0 → front ≡ header dims →
-    s.content ≡ overwritten (zeros tells (length front + 8 * elements dims)) 0 front → IsFresh tells name dims s
+    s.content ≡ begun_with tells dims front → IsFresh tells name dims s
 fresh_of tells name dims front s name_is dims_are faults_are is content_is = record {
   name_is = name_is;
   dims_are = dims_are;
@@ -123,14 +123,14 @@ size_of-zeros : (tells : Bool) (n : ℕ) → size_of (zeros tells n) ≡ n
 size_of-zeros true n = length-replicate n 0
 size_of-zeros false n = refl
 
-room_of : (tells : Bool) (dims front : List ℕ) (content : Content) → front ≡ header dims → content ≡ overwritten (zeros tells (length front + 8 * elements dims)) 0 front →
+room_of : (tells : Bool) (dims front : List ℕ) (content : Content) → front ≡ header dims → content ≡ begun_with tells dims front →
     size_of content ≡ length (header dims) + 8 * elements dims
 room_of tells dims front content is content_is =
     let z = size_of-zeros tells (length front + 8 * elements dims) in
     ap size_of content_is ∙ (size_of-overwritten (zeros tells (length front + 8 * elements dims)) 0 front (omega (arith, z)) ∙ (z ∙ ap (λ l. length l + 8 * elements dims) is))
 
 pub kept_of : {F : Type 0} (content : F → Content) (tells : Bool) (dims front : List ℕ) (f : OpenFile F) → f.head.fortran ≡ false → f.head.shape ≡ dims → f.head.data_at ≡ length front → length (header dims) ≤ 512 → front ≡ header dims →
-    content f.file ≡ overwritten (zeros tells (length front + 8 * elements dims)) 0 front → IsKept content f
+    content f.file ≡ begun_with tells dims front → IsKept content f
 kept_of content tells dims front f rows shape at short is content_is = record {
   rows = rows;
   begins = at ∙ (ap length is ∙ ap (λ d. length (header d)) (sym shape));

@@ -9,7 +9,7 @@ use Rattle.nd_shape.specs.Shape.{elements}
 use Rattle.nd_shape.proofs.Places.{index_at-in, place-index_at}
 use Rattle.npy_codec.specs.Npy.{header}
 use Rattle.npy_region.specs.Writing.{byte_at}
-use Rattle.saved_files.specs.Filling.{Cover, IsFilling, box_of, file_of, spot}
+use Rattle.saved_files.specs.Filling.{Cover, IsFilling, box_of, file_of}
 use Rattle.saved_files.proofs.FileBytes.{length-file}
 
 -- the byte of an element that lies in one of the boxes

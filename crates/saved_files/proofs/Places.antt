@@ -1,9 +1,8 @@
 -- Open files at their places.
-use Rattle.std.proofs.Common.{◌≡◌, ◌≢◌, ℕ, ◌≤◌, ◌<◌, ◌+◌, ◌-◌, List, [], ◌∷◌, ◌++◌, map, length, get_or, set, refl, ap, sym, ◌∙◌, subst, arith}
+use Rattle.std.proofs.Common.{◌≡◌, ◌≢◌, ℕ, ◌≤◌, ◌<◌, ◌-◌, List, [], ◌∷◌, ◌++◌, map, length, get_or, set, refl, ap, sym, ◌∙◌, subst, arith}
 use Rattle.std.proofs.lemmas.List.{get_or_append_left, get_or-append_right, get_or-map, get_or-set_other, get_or-set_same, length-map, length_push, length-set, map-set}
 use Rattle.io_edge.specs.Content.{Untold}
 use Rattle.saved_files.specs.Saving.{Saving, saving_at}
-
 
 -- the files before one that was added
 pub at_old : (files : List Saving) (s : Saving) (k : ℕ) → k < length files → saving_at (files ++ s ∷ []) k ≡ saving_at files k

@@ -1,22 +1,21 @@
 -- A file into which a block was written.
-use Rattle.std.proofs.Common.{◌≡◌, ℕ, ℤ, pos, ◌≤◌, ◌<◌, ◌+◌, ◌-◌, ◌*◌, ◌⊎◌, inl, inr, List, [], ◌∷◌, ◌++◌, length, get_or, refl, ap, sym, ◌∙◌, subst, arith, length-append}
-use Rattle.std.specs.Prelude.{Bool, false, Result, Ok, Err, OnOk, OnErr}
+use Rattle.std.proofs.Common.{◌≡◌, ℕ, ◌≤◌, ◌<◌, ◌+◌, ◌-◌, ◌*◌, ◌⊎◌, inl, inr, List, [], ◌∷◌, ◌++◌, length, refl, ap, sym, ◌∙◌, subst, arith, length-append}
+use Rattle.std.specs.Prelude.{false, Result, Ok, Err, OnOk, OnErr}
 use Rattle.std.proofs.lemmas.Bool.{cases_lt}
 use Rattle.std.proofs.lemmas.List.{get_or_append_left, get_or-append_right}
 use Rattle.io_edge.specs.Content.{Content, Told, Untold, size_of}
 use Rattle.nd_shape.specs.Block.{Array}
 use Rattle.nd_shape.specs.Index.{IsIn, place}
 use Rattle.nd_shape.specs.Region.{Box, moved}
-use Rattle.nd_shape.specs.Region.{IsPart as LiesIn}
 use Rattle.nd_shape.specs.Shape.{elements}
 use Rattle.nd_rows.specs.Storage.{place_by}
 use Rattle.nd_rows.proofs.Spots.{moved-in}
 use Rattle.npy_codec.specs.declared.head.Head.{Head}
 use Rattle.npy_codec.specs.Npy.{cell_bytes, header}
 use Rattle.npy_codec.specs.Regions.{offset_of}
-use Rattle.npy_region.specs.Writing.{byte_at, IsByteOf, IsOutside, Turns, WritesRegion, WritesSome}
+use Rattle.npy_region.specs.Writing.{byte_at, IsByteOf, Turns, WritesRegion, WritesSome}
 use Rattle.saved_files.specs.Filling.{HoldsBox, IsFilling, IsPart, box_of, file_of, spot}
-use Rattle.saved_files.specs.Saving.{FillsMore, FillsPart}
+use Rattle.saved_files.specs.Saving.{FillsMore, FillsPart, Saving}
 use Rattle.saved_files.proofs.FileBytes.{element_byte, length-file, past_both}
 
 -- the array that a head stands before
@@ -161,19 +160,27 @@ head_of head a size bytes rows begins room shape is_size is_file =
   where
     same_count : (f m n : ℕ) → f + 8 * m ≡ f + 8 * n → m ≡ n
     same_count f m n e = omega (arith, e)
+
     sums : {f g m n : ℕ} → f ≡ g → m ≡ n → g + 8 * n ≡ f + 8 * m
     sums {f} {g} {m} {n} e d = omega (arith, e, d)
 
-pub fills_more : (head : Head) (box : Box) (block : Array) (c d : Content) → head.fortran ≡ false → head.data_at ≡ length (header head.shape) → size_of c ≡ length (header head.shape) + 8 * elements head.shape →
-    Turns (WritesRegion head box block) c d → FillsMore head.shape box block c d
-fills_more head box block c d rows begins room t = turns_weaker (WritesRegion head box block) _ c d (λ before after is_size wrote. λ a boxes shape filling holds.
-    filling_more head a boxes box block before after (head_of head a (size_of c) before rows begins room shape is_size filling.part.size) holds wrote filling) t
+-- a head that fits what is kept of a file
+pub record Heads (head : Head) (s : Saving) : Type 0 where
+  pub rows : head.fortran ≡ false
+  pub begins : head.data_at ≡ length (header head.shape)
+  pub room : size_of s.content ≡ length (header head.shape) + 8 * elements head.shape
+  pub dims : s.dims ≡ head.shape
 
-pub fills_part : (head : Head) (box : Box) (block : Array) (c d : Content) → head.fortran ≡ false → head.data_at ≡ length (header head.shape) → size_of c ≡ length (header head.shape) + 8 * elements head.shape →
-    Turns (WritesSome head box block) c d → FillsPart head.shape box block c d
-fills_part head box block c d rows begins room t = turns_weaker (WritesSome head box block) _ c d (λ before after is_size wrote. λ a boxes shape filling holds.
-    let h = head_of head a (size_of c) before rows begins room shape is_size filling.part.size in
-    filling_stays a boxes before after (some_mends head a box block before after h holds wrote) filling) t
+headed : (head : Head) (a : Array) (s : Saving) (bytes : List ℕ) → Heads head s → a.shape ≡ s.dims → length bytes ≡ size_of s.content → length bytes ≡ length (file_of a) → IsHeadOf head a
+headed head a s bytes h shape is_size is_file = head_of head a (size_of s.content) bytes h.rows h.begins h.room (shape ∙ h.dims) is_size is_file
+
+pub fills_more : (head : Head) (box : Box) (block : Array) (old new : Saving) → Heads head old → Turns (WritesRegion head box block) old.content new.content → FillsMore box block old new
+fills_more head box block old new h t = turns_weaker (WritesRegion head box block) _ old.content new.content (λ before after is_size wrote. λ a boxes shape filling holds.
+    filling_more head a boxes box block before after (headed head a old before h shape is_size filling.part.size) holds wrote filling) t
+
+pub fills_part : (head : Head) (box : Box) (block : Array) (old new : Saving) → Heads head old → Turns (WritesSome head box block) old.content new.content → FillsPart box block old new
+fills_part head box block old new h t = turns_weaker (WritesSome head box block) _ old.content new.content (λ before after is_size wrote. λ a boxes shape filling holds.
+    filling_stays a boxes before after (some_mends head a box block before after (headed head a old before h shape is_size filling.part.size) holds wrote) filling) t
 
 -- whatever the result, the file keeps its length
 pub size_kept : {T E : Type 0} (r : Result T E) (head : Head) (box : Box) (block : Array) (c d : Content) → OnOk r (Turns (WritesRegion head box block) c d) → OnErr r (Turns (WritesSome head box block) c d) → size_of d ≡ size_of c

@@ -4,6 +4,7 @@ use Rattle.nd_shape.specs.Block.{Array}
 use Rattle.nd_shape.specs.Index.{IsIn, place}
 use Rattle.nd_shape.specs.Region.{Box, moved}
 use Rattle.nd_shape.specs.Region.{IsPart as LiesIn}
+use Rattle.nd_shape.specs.Shape.{elements}
 use Rattle.npy_codec.specs.Npy.{header, npy}
 use Rattle.npy_region.specs.Writing.{byte_at}
 
@@ -48,3 +49,7 @@ pub record IsCovered (boxes : List Box) (i : List ℕ) : Type 0 where
 -- the boxes hold every index
 abbrev pub Cover : List ℕ → List Box → Type 0
 Cover dims boxes = (i : List ℕ) → IsIn dims i → IsCovered boxes i
+
+-- a file of this array is whole once the boxes that are there hold every index
+abbrev pub FillsWhole : Array → List Box → List ℕ → Type 0
+FillsWhole a boxes bytes = length a.cells ≡ elements a.shape → IsFilling a boxes bytes → Cover a.shape boxes → bytes ≡ file_of a

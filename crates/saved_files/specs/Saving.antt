@@ -1,12 +1,11 @@
 -- Files that are being saved: what they hold so far, and what is left of them at a site.
-use Rattle.std.specs.Prelude.{◌≡◌, ◌≢◌, ◌⊎◌, ◌<◌, ◌+◌, ◌*◌, ℕ, List, [], ◌∷◌, ◌++◌, length, slice_index_or, bytes_eq, false, true, Some, IfSome, IsSome, IsTrue, Bool}
+use Rattle.std.specs.Prelude.{◌≡◌, ◌≢◌, ◌⊎◌, ◌<◌, ℕ, List, [], ◌∷◌, ◌++◌, length, slice_index_or, bytes_eq, false, IfSome, IsSome, IsTrue, Bool}
 use Rattle.io_edge.specs.Cause.{Rose}
-use Rattle.io_edge.specs.Content.{Content, Told, Untold, OnTold, size_of, told_bytes}
-use Rattle.io_edge.specs.View.{Files, View}
+use Rattle.io_edge.specs.Content.{Content, Untold, OnTold, told_bytes}
+use Rattle.io_edge.specs.View.{Files}
 use Rattle.nd_shape.specs.Block.{Array}
 use Rattle.nd_shape.specs.Shape.{elements}
 use Rattle.nd_shape.specs.Region.{Box}
-use Rattle.npy_codec.specs.Npy.{header}
 use Rattle.npy_region.specs.Writing.{Turns}
 use Rattle.saved_files.specs.Filling.{IsFilling, HoldsBox, IsPart, file_of}
 
@@ -24,10 +23,6 @@ saving_at files k = slice_index_or files k (record { name = []; dims = []; conte
 pub record IsOf (dims : List ℕ) (a : Array) : Type 0 where
   pub shape : a.shape ≡ dims
   pub count : length a.cells ≡ elements dims
-
--- the room of a file is that of its header and of all elements
-abbrev pub HasRoom : Saving → Type 0
-HasRoom s = size_of s.content ≡ length (header s.dims) + 8 * elements s.dims
 
 -- a file that was just created at a site, with its header alone
 pub record IsFresh (tells : Bool) (name dims : List ℕ) (s : Saving) : Type 0 where
@@ -47,15 +42,15 @@ pub record LeavesOne (name dims : List ℕ) (old new : Files) : Type 0 where
   pub others : (n : List ℕ) → bytes_eq name n ≡ false → new.held n ≡ old.held n
   pub here : (a : Array) → IsOf dims a → IsLeft name (file_of a) old new
 
--- what the file of an array with these lengths holds before and after a block was written whole
-abbrev pub FillsMore : List ℕ → Box → Array → Content → Content → Type 0
-FillsMore dims box block old new = Turns (λ before after. (a : Array) (boxes : List Box)
-    → a.shape ≡ dims → IsFilling a boxes before → HoldsBox a box block → IsFilling a (boxes ++ box ∷ []) after) old new
+-- a file before and after a block of its array was written whole
+abbrev pub FillsMore : Box → Array → Saving → Saving → Type 0
+FillsMore box block old new = Turns (λ before after. (a : Array) (boxes : List Box)
+    → a.shape ≡ old.dims → IsFilling a boxes before → HoldsBox a box block → IsFilling a (boxes ++ box ∷ []) after) old.content new.content
 
 -- the same where writing it failed
-abbrev pub FillsPart : List ℕ → Box → Array → Content → Content → Type 0
-FillsPart dims box block old new = Turns (λ before after. (a : Array) (boxes : List Box)
-    → a.shape ≡ dims → IsFilling a boxes before → HoldsBox a box block → IsFilling a boxes after) old new
+abbrev pub FillsPart : Box → Array → Saving → Saving → Type 0
+FillsPart box block old new = Turns (λ before after. (a : Array) (boxes : List Box)
+    → a.shape ≡ old.dims → IsFilling a boxes before → HoldsBox a box block → IsFilling a boxes after) old.content new.content
 
 -- the file at one place may have changed in what it holds and in its count of faults, and nothing else
 pub record ChangesAt (place : ℕ) (old new : List Saving) : Type 0 where

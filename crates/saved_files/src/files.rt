@@ -94,8 +94,8 @@ impl<S: Site> SavedFiles<S> {
         requires inside { IsPart region.now (saving_at self.old place).dims }
         requires shape { block.now.shape ≡ region.now.lengths }
         ensures changes { ChangesAt place self.old self.new }
-        ensures filled { OnOk result (FillsMore (saving_at self.old place).dims region.now block.now (saving_at self.old place).content (saving_at self.new place).content) }
-        ensures part { OnErr result (FillsPart (saving_at self.old place).dims region.now block.now (saving_at self.old place).content (saving_at self.new place).content) }
+        ensures filled { OnOk result (FillsMore region.now block.now (saving_at self.old place) (saving_at self.new place)) }
+        ensures part { OnErr result (FillsPart region.now block.now (saving_at self.old place) (saving_at self.new place)) }
         ensures kept { OnOk result ((saving_at self.new place).faults ≡ (saving_at self.old place).faults) }
         ensures cause { HasOpenCause (saving_at self.old place).faults (saving_at self.new place).faults result }
     {

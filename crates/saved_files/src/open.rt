@@ -1,12 +1,10 @@
 // Open files, one by one.
-ghost use Rattle.std.specs.Prelude.{◌≡◌, ◌<◌, ◌≤◌, ◌+◌, ◌*◌, ◌∷◌, [], ℕ, length, map, OnOk, OnErr, IfOk, None};
+ghost use Rattle.std.specs.Prelude.{◌≡◌, ◌<◌, ◌≤◌, ◌∷◌, [], length, map, OnOk, OnErr, IfOk, None};
 ghost use Rattle.io_edge.specs.Cause.{HasOpenCause};
-ghost use Rattle.io_edge.specs.Content.{overwritten, zeros};
 ghost use Rattle.io_edge.specs.View.{Creates, OnlyWrites, raised_by, updated};
 ghost use Rattle.nd_shape.specs.Region.{IsPart};
-ghost use Rattle.nd_shape.specs.Shape.{elements};
 ghost use Rattle.npy_codec.specs.Npy.{header};
-ghost use Rattle.saved_files.specs.Kept.{IsKept, saving_of};
+ghost use Rattle.saved_files.specs.Kept.{IsKept, begun_with, saving_of};
 ghost use Rattle.saved_files.specs.Saving.{FillsMore, FillsPart, GivesBack, IsFresh, LeavesOne, TakesAll, WereCreated};
 
 use io_edge::{OpenFault, OutFile, Site, write_full};
@@ -36,7 +34,7 @@ fn create_with<S: Site>(
     ensures created { OnOk result ((S.view site.new).files.created ≡ raised_by (name.now ∷ []) (S.view site.old).files.created) }
     ensures counted { OnOk result (0 < (S.view site.new).files.created name.now) }
     ensures held { OnOk result ((S.view site.new).files.held ≡ updated name.now None (S.view site.old).files.held) }
-    ensures content { IfOk result (λ f. S.Out.content f ≡ overwritten (zeros (S.view site.old).files.tells (length front.now + 8 * elements shape.now)) 0 front.now) }
+    ensures content { IfOk result (λ f. S.Out.content f ≡ begun_with (S.view site.old).files.tells shape.now front.now) }
     ensures named { IfOk result (λ f. S.Out.named f ≡ name.now) }
     ensures faults { IfOk result (λ f. S.Out.count f ≡ 0) }
     ensures left { OnErr result (LeavesOne name.now shape.now (S.view site.old).files (S.view site.new).files) }
@@ -95,8 +93,8 @@ pub fn write_block<F: OutFile>(
     ensures still { IsKept F.content opened.new }
     ensures head { opened.new.head ≡ opened.old.head }
     ensures named { F.named opened.new.file ≡ F.named opened.old.file }
-    ensures filled { OnOk result (FillsMore opened.old.head.shape region.now block.now (F.content opened.old.file) (F.content opened.new.file)) }
-    ensures part { OnErr result (FillsPart opened.old.head.shape region.now block.now (F.content opened.old.file) (F.content opened.new.file)) }
+    ensures filled { OnOk result (FillsMore region.now block.now (saving_of F.named F.content F.count opened.old) (saving_of F.named F.content F.count opened.new)) }
+    ensures part { OnErr result (FillsPart region.now block.now (saving_of F.named F.content F.count opened.old) (saving_of F.named F.content F.count opened.new)) }
     ensures faults { OnOk result (F.count opened.new.file ≡ F.count opened.old.file) }
     ensures cause { HasOpenCause (F.count opened.old.file) (F.count opened.new.file) result }
 {

@@ -1,17 +1,24 @@
-use Rattle.std.proofs.lemmas.Result.{on_ok_weaker, on_err_weaker}
-use Rattle.std.proofs.Common.{◌∙◌}
+use Rattle.std.proofs.Common.{◌∙◌, refl}
+use Rattle.std.proofs.lemmas.Result.{on_err_weaker, on_ok_weaker}
+use Rattle.saved_files.specs.Kept.{saving_of}
 use Rattle.saved_files.proofs.Written.{fills_more, fills_part, size_kept}
 use Rattle.saved_files.proofs.open.write_block.Goals as goal
 
 pub returns-clause-filled : goal.returns-clause-filled
 returns-clause-filled g c =
     let k = c.requires.kept in
-    on_ok_weaker c.write_region.result (λ t. fills_more c.args.opened.now.head c.args.region.now c.args.block.now (g.F.OutFile.content c.args.opened.now.file) (g.F.OutFile.content c.write_region.new.file) k.rows k.begins k.room t) c.write_region.ensures.written
+    let f = saving_of g.F.OutFile.named g.F.OutFile.content g.F.OutFile.count in
+    let head = c.args.opened.now.head in
+    on_ok_weaker c.write_region.result (λ t. fills_more head c.args.region.now c.args.block.now (f c.args.opened.now) (f (record { file = c.write_region.new.file; head = head }))
+    (record { rows = k.rows; begins = k.begins; room = k.room; dims = refl }) t) c.write_region.ensures.written
 
 pub returns-clause-part : goal.returns-clause-part
 returns-clause-part g c =
     let k = c.requires.kept in
-    on_err_weaker c.write_region.result (λ t. fills_part c.args.opened.now.head c.args.region.now c.args.block.now (g.F.OutFile.content c.args.opened.now.file) (g.F.OutFile.content c.write_region.new.file) k.rows k.begins k.room t) c.write_region.ensures.part
+    let f = saving_of g.F.OutFile.named g.F.OutFile.content g.F.OutFile.count in
+    let head = c.args.opened.now.head in
+    on_err_weaker c.write_region.result (λ t. fills_part head c.args.region.now c.args.block.now (f c.args.opened.now) (f (record { file = c.write_region.new.file; head = head }))
+    (record { rows = k.rows; begins = k.begins; room = k.room; dims = refl }) t) c.write_region.ensures.part
 
 pub returns-clause-still : goal.returns-clause-still
 returns-clause-still g c =

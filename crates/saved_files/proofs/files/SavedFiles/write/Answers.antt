@@ -21,13 +21,13 @@ pub returns-clause-filled : goal.returns-clause-filled
 returns-clause-filled g c =
     let f = saving_of g.S.Out.OutFile.named g.S.Out.OutFile.content g.S.Out.OutFile.count in
     let r = replaces f c.self.inside.files.items c.args.place c.index_mut-opened.result.now c.write_block.new.opened c.args.self.now c.self.view_is c.requires.there c.index_mut-opened.ensures.value in
-    at_place (λ s t. OnOk c.write_block.result (FillsMore s.dims c.args.region.now c.args.block.now s.content t.content)) c.args.place c.args.self.now _ (f c.index_mut-opened.result.now) (f c.write_block.new.opened) r c.write_block.ensures.filled
+    at_place (λ s t. OnOk c.write_block.result (FillsMore c.args.region.now c.args.block.now s t)) c.args.place c.args.self.now _ (f c.index_mut-opened.result.now) (f c.write_block.new.opened) r c.write_block.ensures.filled
 
 pub returns-clause-part : goal.returns-clause-part
 returns-clause-part g c =
     let f = saving_of g.S.Out.OutFile.named g.S.Out.OutFile.content g.S.Out.OutFile.count in
     let r = replaces f c.self.inside.files.items c.args.place c.index_mut-opened.result.now c.write_block.new.opened c.args.self.now c.self.view_is c.requires.there c.index_mut-opened.ensures.value in
-    at_place (λ s t. OnErr c.write_block.result (FillsPart s.dims c.args.region.now c.args.block.now s.content t.content)) c.args.place c.args.self.now _ (f c.index_mut-opened.result.now) (f c.write_block.new.opened) r c.write_block.ensures.part
+    at_place (λ s t. OnErr c.write_block.result (FillsPart c.args.region.now c.args.block.now s t)) c.args.place c.args.self.now _ (f c.index_mut-opened.result.now) (f c.write_block.new.opened) r c.write_block.ensures.part
 
 pub returns-clause-kept : goal.returns-clause-kept
 returns-clause-kept g c =
