@@ -5,7 +5,7 @@ use Rattle.job_run.proofs.Loads.{few_shapes, results_blocks, results_cause, resu
 use Rattle.job_run.proofs.inputs.load_inputs.Goals as goal
 
 pub load_from-loaded-requires-clause-small : goal.load_from-loaded-requires-clause-small
-load_from-loaded-requires-clause-small g c κs within =
+load_from-loaded-requires-clause-small g c =
     let e : c.deref.result.now ≡ input_shapes c.args.job.now.expr = c.deref.ensures.value ∙ (c.in_ok-shapes.ensures ∙ ap input_shapes c.nodes.ensures.value) in
     omega (arith, ap length e, few_shapes c.args.job.now.expr, c.nodes.ensures.sound.count)
 
