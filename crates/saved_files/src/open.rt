@@ -1,5 +1,5 @@
 // Open files, one by one.
-ghost use Rattle.std.specs.Prelude.{◌≡◌, ◌<◌, ◌≤◌, ◌∷◌, [], length, map, OnOk, OnErr, IfOk, None};
+ghost use Rattle.std.specs.Prelude.{◌≡◌, ◌<◌, ◌≤◌, ◌∷◌, [], length, map, OnOk, OnErr, IfOk, IsErrOf, None};
 ghost use Rattle.io_edge.specs.Cause.{HasOpenCause};
 ghost use Rattle.io_edge.specs.View.{Creates, OnlyWrites, raised_by, updated};
 ghost use Rattle.nd_shape.specs.Region.{IsPart};
@@ -38,6 +38,9 @@ fn create_with<S: Site>(
     ensures named { IfOk result (λ f. S.Out.named f ≡ name.now) }
     ensures faults { IfOk result (λ f. S.Out.count f ≡ 0) }
     ensures left { OnErr result (LeavesOne name.now shape.now (S.view site.old).files (S.view site.new).files) }
+    ensures tried { IsErrOf result OpenFault.Failed → (S.view site.new).files.created ≡ raised_by (name.now ∷ []) (S.view site.old).files.created }
+    ensures memory { IsErrOf result OpenFault.OutOfMemory → S.view site.new ≡ S.view site.old }
+    ensures no_faults { OnOk result ((S.view site.new).write_faults ≡ (S.view site.old).write_faults) }
     ensures only { OnlyWrites (S.view site.old) (S.view site.new) }
     ensures cause { HasOpenCause (S.view site.old).write_faults (S.view site.new).write_faults result }
 {
@@ -67,6 +70,9 @@ pub fn open_file<S: Site>(
     ensures kept { IfOk result (λ f. IsKept S.Out.content f) }
     ensures fresh { IfOk result (λ f. IsFresh (S.view site.old).files.tells name.now shape.now (saving_of S.Out.named S.Out.content S.Out.count f)) }
     ensures left { OnErr result (LeavesOne name.now shape.now (S.view site.old).files (S.view site.new).files) }
+    ensures tried { IsErrOf result OpenFault.Failed → (S.view site.new).files.created ≡ raised_by (name.now ∷ []) (S.view site.old).files.created }
+    ensures memory { IsErrOf result OpenFault.OutOfMemory → S.view site.new ≡ S.view site.old }
+    ensures no_faults { OnOk result ((S.view site.new).write_faults ≡ (S.view site.old).write_faults) }
     ensures only { OnlyWrites (S.view site.old) (S.view site.new) }
     ensures cause { HasOpenCause (S.view site.old).write_faults (S.view site.new).write_faults result }
 {
