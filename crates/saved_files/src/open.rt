@@ -89,22 +89,22 @@ pub fn open_file<S: Site>(
 /// Writes a block into a box of the file's array.
 pub fn write_block<F: OutFile>(
     alloc: Global,
-    opened: &mut OpenFile<F>,
+    out: &mut OpenFile<F>,
     region: &Region,
     block: &Block,
 ) -> Result<(), OpenFault>
-    requires kept { IsKept F.content opened.old }
-    requires inside { IsPart region.now opened.old.head.shape }
+    requires kept { IsKept F.content out.old }
+    requires inside { IsPart region.now out.old.head.shape }
     requires shape { block.now.shape ≡ region.now.lengths }
-    ensures still { IsKept F.content opened.new }
-    ensures head { opened.new.head ≡ opened.old.head }
-    ensures named { F.named opened.new.file ≡ F.named opened.old.file }
-    ensures filled { OnOk result (FillsMore region.now block.now (saving_of F.named F.content F.count opened.old) (saving_of F.named F.content F.count opened.new)) }
-    ensures part { OnErr result (FillsPart region.now block.now (saving_of F.named F.content F.count opened.old) (saving_of F.named F.content F.count opened.new)) }
-    ensures faults { OnOk result (F.count opened.new.file ≡ F.count opened.old.file) }
-    ensures cause { HasOpenCause (F.count opened.old.file) (F.count opened.new.file) result }
+    ensures still { IsKept F.content out.new }
+    ensures head { out.new.head ≡ out.old.head }
+    ensures named { F.named out.new.file ≡ F.named out.old.file }
+    ensures filled { OnOk result (FillsMore region.now block.now (saving_of F.named F.content F.count out.old) (saving_of F.named F.content F.count out.new)) }
+    ensures part { OnErr result (FillsPart region.now block.now (saving_of F.named F.content F.count out.old) (saving_of F.named F.content F.count out.new)) }
+    ensures faults { OnOk result (F.count out.new.file ≡ F.count out.old.file) }
+    ensures cause { HasOpenCause (F.count out.old.file) (F.count out.new.file) result }
 {
-    write_region(alloc, &mut opened.file, &opened.head, region, block)
+    write_region(alloc, &mut out.file, &out.head, region, block)
 }
 
 /// Gives files back, one after another.
