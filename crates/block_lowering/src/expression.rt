@@ -2,6 +2,8 @@
 ghost use Rattle.std.specs.Prelude.{◌≡◌, ◌<◌, ◌+◌, length, map, All, None, IfOk, IfErr, OnOk, cond};
 ghost use Rattle.array_expr.specs.Node.{IsExpression};
 ghost use Rattle.array_expr.specs.Elem.{is_input};
+ghost use Rattle.chunk_layout.specs.Layouts.{counts};
+ghost use Rattle.lowering_laws.specs.Sources.{Source};
 ghost use Rattle.lowering_laws.specs.Lowered.{lowering, lowered, limit_of};
 ghost use Rattle.lowering_laws.specs.Named.{layout_of};
 ghost use Rattle.block_lowering.specs.Growing.{IsCause};
@@ -54,6 +56,7 @@ pub fn lower(alloc: Global, expr: &Expr, saves: &[NodeId]) -> Result<Lowered, Lo
     ensures names { IfOk result (λ l. l.names ≡ (lowered expr.now saves.now).names) }
     ensures saved { IfOk result (λ l. l.saved ≡ (lowered expr.now saves.now).saved) }
     ensures layouts { IfOk result (λ l. l.layouts ≡ map (layout_of expr.now) saves.now) }
+    ensures blocks { IfOk result (λ l. l.blocks ≡ map (λ (s : Source). counts s.layout) (lowering expr.now).sources) }
     ensures err { IfErr result (IsCause expr.now) }
 {
     let nodes = expr.nodes();

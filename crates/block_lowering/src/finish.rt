@@ -2,8 +2,11 @@
 ghost use Rattle.std.specs.Prelude.{◌≡◌, ◌<◌, ◌++◌, None, length, map, All, slice_index_or, IfOk, OnOk};
 ghost use Rattle.std.specs.List.{AllByRecursion, flat_map};
 ghost use Rattle.task_graph.specs.Orders.{position};
+ghost use Rattle.chunk_layout.specs.Layouts.{counts};
+ghost use Rattle.lowering_laws.specs.Sources.{Source};
 ghost use Rattle.lowering_laws.specs.Lowered.{source_at, keys_of, culled};
 
+use crate::counts::counts_of;
 use crate::layouts::copied_layout;
 use crate::making::Making;
 use crate::nodes::source_of;
@@ -11,18 +14,20 @@ use crate::sources::{Keyed, Name};
 use array_expr::NodeId;
 use chunk_layout::Layout;
 use cluster_msgs::{KeyList, Sequence};
+use nd_shape::Dims;
 use std::alloc::{AllocError, Global};
 use task_graph::moves::renumber;
 use task_graph::{Graph, Renumber, order};
 
 /// The graph that makes the saved blocks, the node and block of each key that is one's own, and the keys of the blocks of each
-/// save, in row-major order, and the layout of each save's array.
+/// save, in row-major order, and the layout of each save's array; for each node how many chunks its array has on each axis.
 #[derive(Drop)]
 pub struct Lowered {
     pub graph: Graph,
     pub names: Sequence<Name>,
     pub saved: Sequence<KeyList>,
     pub layouts: Sequence<Layout>,
+    pub blocks: Sequence<Dims>,
 }
 
 // The keys of an array's blocks, all of them below a bound: they are keys of the graph.
@@ -77,6 +82,18 @@ fn saved_layouts(
         layouts.push(copied_layout(alloc, source.layout())?)?;
     }
     Ok(Sequence::from_vec(layouts))
+}
+
+// How many chunks each array has on each axis.
+fn all_counts(alloc: Global, sources: &[Keyed]) -> Result<Sequence<Dims>, AllocError>
+    ensures { IfOk result (λ blocks. blocks ≡ map (λ (s : Source). counts s.layout) sources.now) }
+{
+    let mut blocks = Vec::with_capacity(alloc, sources.len())?;
+    for source in sources {
+        let counts = counts_of(alloc, source.layout().axes())?;
+        blocks.push(Dims::from_vec(counts))?;
+    }
+    Ok(Sequence::from_vec(blocks))
 }
 
 // Puts keys at the end.
@@ -168,6 +185,7 @@ pub fn finish(alloc: Global, made: Making, saves: &[NodeId]) -> Result<Lowered, 
     ensures names { IfOk result (λ l. l.names ≡ (culled made saves.now).names) }
     ensures saved { IfOk result (λ l. l.saved ≡ (culled made saves.now).saved) }
     ensures layouts { IfOk result (λ l. l.layouts ≡ map (λ n. (source_at made.sources n).layout) saves.now) }
+    ensures blocks { IfOk result (λ l. l.blocks ≡ map (λ (s : Source). counts s.layout) made.sources) }
 {
     let (graph, names, sources) = made.into_parts();
     let wanted = wanted_keys(alloc, sources.as_slice(), saves, graph.keys())?;
@@ -177,10 +195,12 @@ pub fn finish(alloc: Global, made: Making, saves: &[NodeId]) -> Result<Lowered, 
     let names = kept_names(alloc, names.as_slice(), numbers.order())?;
     let graph = renumber(graph, &numbers)?;
     let layouts = saved_layouts(alloc, sources.as_slice(), saves)?;
+    let blocks = all_counts(alloc, sources.as_slice())?;
     Ok(Lowered {
         graph,
         names,
         saved,
         layouts,
+        blocks,
     })
 }

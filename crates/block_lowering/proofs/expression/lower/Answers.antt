@@ -1,6 +1,8 @@
-use Rattle.std.proofs.Common.{◌≡◌, ◌<◌, length, ap, sym, subst, ◌∙◌}
+use Rattle.std.proofs.Common.{◌≡◌, ◌<◌, length, map, ap, sym, subst, ◌∙◌}
 use Rattle.std.specs.Prelude.{slice_index_or, List}
 use Rattle.array_expr.specs.declared.expr.Node.{Node}
+use Rattle.chunk_layout.specs.Layouts.{counts}
+use Rattle.lowering_laws.specs.Sources.{Source}
 use Rattle.lowering_laws.specs.Lowered.{Lowering, lowering, culled}
 use Rattle.block_lowering.proofs.Ready.{sources-all}
 use Rattle.block_lowering.proofs.expression.lower.Goals as goal
@@ -15,3 +17,8 @@ pub returns-clause-saved : goal.returns-clause-saved
 returns-clause-saved c =
     let all : c.in_ok-made.made ≡ lowering c.args.expr.now = c.in_ok-made.ensures.ok ∙ ap (λ (ns : List Node). lowering ns) c.nodes-nodes.ensures.value in
     c.in_ok-finish.ensures.saved ∙ ap (λ (l : Lowering). (culled l c.args.saves.now).saved) all
+
+pub returns-clause-blocks : goal.returns-clause-blocks
+returns-clause-blocks c =
+    let all : c.in_ok-made.made ≡ lowering c.args.expr.now = c.in_ok-made.ensures.ok ∙ ap (λ (ns : List Node). lowering ns) c.nodes-nodes.ensures.value in
+    c.in_ok-finish.ensures.blocks ∙ ap (λ (l : Lowering). map (λ (s : Source). counts s.layout) l.sources) all

@@ -4,6 +4,7 @@ use Rattle.std.specs.List.{AllByRecursion, flat_map}
 use Rattle.task_graph.specs.declared.graph.Task.{Task}
 use Rattle.task_graph.specs.Numbers.{Numbers}
 use Rattle.task_graph.specs.Orders.{depth_first, renumbered, position}
+use Rattle.chunk_layout.specs.Layouts.{counts}
 use Rattle.lowering_laws.specs.Sources.{Source}
 use Rattle.lowering_laws.specs.Lowered.{source_at, keys_of}
 use Rattle.block_lowering.proofs.Finishing.{all-flat}
@@ -58,3 +59,8 @@ pub returns-clause-layouts : goal.returns-clause-layouts
 returns-clause-layouts c =
     let sources = c.as_slice-5.ensures.value ∙ c.into_parts-graph.ensures.sources in
     c.in_ok-layouts.ensures ∙ ap (λ (ss : List Source). map (λ n. (source_at ss n).layout) c.args.saves.now) sources
+
+pub returns-clause-blocks : goal.returns-clause-blocks
+returns-clause-blocks c =
+    let sources = c.as_slice-6.ensures.value ∙ c.into_parts-graph.ensures.sources in
+    c.in_ok-blocks.ensures ∙ ap (λ (ss : List Source). map (λ (s : Source). counts s.layout) ss) sources
