@@ -151,11 +151,12 @@ impl<J: JobSpec> World<J> {
         }
     }
 
-    /// The block that a client has got of a key: none exactly where the client hasn't got it. Where the feed tells what it
-    /// holds, and in each world that legal events made, it is the key's value. Takes no memory.
+    /// The block that a client has got of a key: none exactly where the client hasn't got it. It has the key's lengths; where the
+    /// feed tells what it holds, and in each world that legal events made, it is the key's value. Takes no memory.
     pub fn got(&self, client: u32, key: u32) -> Option<&J::Block>
         ensures block { option_copied result ≡ (cluster self.now).blocks.got client key }
         ensures present { self.now.course ≢ Course.Starved → is_some result ≡ ((world self.now).clients client).got key }
+        ensures dims { self.now.course ≢ Course.Starved → IfSome result (λ b. J.block_dims b.now ≡ J.key_dims self.now.job key) }
         ensures value { IsTelling J.feed_tells self.now →
             IfSome result (λ b. val (deps_of (J.graph self.now.job)) (J.operation self.now.job) key ≡ Some b.now) }
         ensures made { IsMade J.operation self.now →
