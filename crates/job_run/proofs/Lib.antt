@@ -3,6 +3,7 @@ pub mod Creating
 pub mod FilledFiles
 pub mod Halting
 pub mod KeyValues
+pub mod Laws
 pub mod Loads
 pub mod MadeBoxes
 pub mod OneArray
