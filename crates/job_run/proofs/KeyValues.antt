@@ -17,7 +17,8 @@ use Rattle.lowering_laws.specs.Named.{box_of, name_of, IsName}
 use Rattle.lowering_laws.specs.Faults.{IsFault, IsZeroDivide, DividesByZero}
 use Rattle.lowering_laws.specs.Whole.{IsSound}
 use Rattle.job_run.specs.Evaluating.{node_at, array_at, HasLaws, HaveAll, HoldsNamed, IsBlockNamed}
-use Rattle.job_run.specs.Plan.{Plan, IsRunnable, nodes_saved}
+use Rattle.job_run.specs.Lowering.{HasBlock}
+use Rattle.job_run.specs.Plan.{Plan, nodes_saved}
 use Rattle.job_run.specs.Values.{Named, IsNeeded, NeedsFault, MeetsNone, MeetsZero, tasks_of, index_of}
 use Rattle.job_run.proofs.SavedArrays.{part-of, holds-saved}
 
@@ -112,3 +113,9 @@ block-named p named key None block laws lt name shape = tt
 block-named p named key (Some x) block laws lt name shape =
     let is : IsName p.nodes (nodes_saved p) key x.0 x.1 = laws.names.each key x.0 x.1 lt name in
     (key, is, shape x.0 x.1 is)
+
+pub has-block : (p : Plan) (named : Named) (key : ℕ) (name : Option (ℕ × ℕ)) → HasLaws p named → key < length (tasks_of p) → name_of p.nodes (nodes_saved p) key ≡ name → HasBlock p.nodes name
+has-block p named key None laws lt name = tt
+has-block p named key (Some x) laws lt name =
+    let is : IsName p.nodes (nodes_saved p) key x.0 x.1 = laws.names.each key x.0 x.1 lt name in
+    (is.node, is.block)

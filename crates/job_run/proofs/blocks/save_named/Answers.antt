@@ -36,7 +36,7 @@ returns-in_err-save_at-clause-part g c =
     let at = save-place c.args.job.now c.deref-save-items.result.now c.args.layouts.now c.loop-place.place c.args.node c.save-item.result c.index-layouts-place.result c.requires.runs c.nodes-nodes.ensures.sound c.requires.layouts c.deref-save-items.ensures.value
         c.loop-place-test.true c.save-item.is (sym c.number.ensures ∙ c.if-number-node.true) c.index-layouts-place.is in
     on_err c.from_residual.result (failed-part p (c.args.node, c.args.number) c.args.block.now c.loop-place.place c.args.files.now c.loop-place.files c.save_at.new.files at.node_is c.loop-place.invariant c.save_at.ensures.changes
-    (place-part p c.loop-place.place c.args.node c.args.number c.index-layouts-place.result c.args.block.now _ _ at c.in_err-save_at.ensures.part))
+    (place-part p c.loop-place.place c.args.node c.args.number c.index-layouts-place.result c.args.block.now c.loop-place.files c.save_at.new.files at c.in_err-save_at.ensures.part))
 
 pub loop-place-preserved : goal.loop-place-preserved
 loop-place-preserved g c =
@@ -49,7 +49,7 @@ loop-place-preserved g c =
               c.loop-place-test.true c.save-item.is (sym c.number.ensures ∙ w.if-number-node.true) w.index-layouts-place.is in
           subst (λ (fs : List Saving). SavedBelow p (Some (c.args.node, c.args.number)) c.args.block.now (place + 1) c.args.files.now fs) (sym w.files-is)
           (saved-write p (c.args.node, c.args.number) c.args.block.now place c.args.files.now c.loop-place.files w.save_at.new.files at.node_is c.loop-place.invariant w.save_at.ensures.changes
-          (place-more p place c.args.node c.args.number w.index-layouts-place.result c.args.block.now _ _ at w.in_ok-save_at.ensures.filled) w.in_ok-save_at.ensures.kept)
+          (place-more p place c.args.node c.args.number w.index-layouts-place.result c.args.block.now c.loop-place.files w.save_at.new.files at w.in_ok-save_at.ensures.filled) w.in_ok-save_at.ensures.kept)
       | else-number-node w ↦
           subst (λ (fs : List Saving). SavedBelow p (Some (c.args.node, c.args.number)) c.args.block.now (place + 1) c.args.files.now fs) (sym w.files-is)
           (saved-skip p (c.args.node, c.args.number) c.args.block.now place c.args.files.now c.loop-place.files (λ e. w.if-number-node.false (c.number.ensures ∙ sym node ∙ e)) c.loop-place.invariant)
