@@ -91,10 +91,10 @@ formula-shape nodes (Tensordot left right left_axes right_axes) taken shape inpu
     ap (λ ns. kept_shape 0 ns left_axes ++ kept_shape 0 (array right).shape right_axes) (h left)
     ∙ (ap (λ ns. kept_shape 0 (shape_at nodes left) left_axes ++ kept_shape 0 ns right_axes) (h right) ∙ sym m.1)
 
-abbrev shapes_in : List Cells → List (List ℕ)
+abbrev pub shapes_in : List Cells → List (List ℕ)
 shapes_in known = map (λ (c : Cells). c.shape) known
 
-shape-known : (known : List Cells) (nodes : List Node) → shapes_in known ≡ shapes_of nodes → (k : ℕ) → (array_at known k).shape ≡ shape_at nodes k
+pub shape-known : (known : List Cells) (nodes : List Node) → shapes_in known ≡ shapes_of nodes → (k : ℕ) → (array_at known k).shape ≡ shape_at nodes k
 shape-known known nodes h k =
     let none : Cells = record { shape = []; cells = [] } in
     sym (get_or-map (λ (c : Cells). c.shape) known k none) ∙ ap (λ ss. get_or ss k []) h
@@ -123,7 +123,7 @@ shapes-after inputs j known done (x ∷ rest) e h =
     ∙ (ap (λ ss. ss ++ made.shape ∷ []) h ∙ (ap (λ s. shapes_of done ++ s ∷ []) shape ∙ sym (map-append (λ (n : Node). n.shape) done (x ∷ [])))) in
     shapes-after inputs (next_input x.op j) (known ++ made ∷ []) (done ++ x ∷ []) rest (subst IsExpression (sym joined) e) now ∙ ap shapes_of joined
 
-shapes-all : (inputs : ℕ → List ℕ → ℤ) (nodes : List Node) → IsExpression nodes → shapes_in (arrays inputs nodes) ≡ shapes_of nodes
+pub shapes-all : (inputs : ℕ → List ℕ → ℤ) (nodes : List Node) → IsExpression nodes → shapes_in (arrays inputs nodes) ≡ shapes_of nodes
 shapes-all inputs nodes e = shapes-after inputs 0 [] [] nodes e refl
 
 -- ---- formulas look at the nodes that are named alone

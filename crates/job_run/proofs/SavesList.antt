@@ -1,14 +1,11 @@
 -- The saves of a job, one after another.
-use Rattle.std.proofs.Common.{◌≡◌, ℕ, ◌+◌, ◌<◌, ◌≤◌, List, [], ◌∷◌, ◌++◌, map, length, take, get_or, string_bytes, refl, ap, sym, ◌∙◌, subst, arith, append_assoc, append-nil}
-use Rattle.std.specs.Prelude.{All}
-use Rattle.std.proofs.lemmas.Grind.{get_or_default_zero}
+use Rattle.std.proofs.Common.{◌≡◌, ℕ, ◌+◌, ◌<◌, ◌≤◌, List, [], ◌∷◌, ◌++◌, map, length, take, get_or, string_bytes, ap, sym, ◌∙◌, arith, append_assoc, append-nil}
 use Rattle.std.proofs.lemmas.List.{get_or-map, length-map, map_more, take_all}
 use Rattle.array_expr.specs.declared.expr.Node.{Node}
-use Rattle.array_expr.specs.Elem.{Cells}
 use Rattle.job_run.specs.declared.job.Save.{Save}
 use Rattle.job_run.specs.Jobs.{saved_of}
 use Rattle.job_run.specs.Plan.{Saved}
-use Rattle.job_run.specs.Values.{cells_at, file_of, saved_line, saved_lines}
+use Rattle.job_run.specs.Values.{saved_line, saved_lines}
 
 -- what a function makes of the save at a place
 at_save : {B : Type 0} (f : Saved → B) (none : B) (saves : List Save) (i : ℕ) (save : Save) → i < length saves → save ≡ get_or saves i save → get_or (map f (map saved_of saves)) i none ≡ f (saved_of save)
@@ -21,9 +18,6 @@ saved_node saves i save h is = at_save (λ s. s.node) 0 saves i save h is
 pub saved_name : (saves : List Save) (i : ℕ) (save : Save) → i < length saves → save ≡ get_or saves i save → get_or (map (λ s. s.file) (map saved_of saves)) i [] ≡ string_bytes save.file
 saved_name saves i save h is = at_save (λ s. s.file) [] saves i save h is
 
-pub saved_file : (known : List Cells) (saves : List Save) (i : ℕ) (save : Save) → i < length saves → save ≡ get_or saves i save → get_or (map (λ s. file_of (cells_at known s.node)) (map saved_of saves)) i [] ≡ file_of (cells_at known save.node)
-saved_file known saves i save h is = at_save (λ s. file_of (cells_at known s.node)) [] saves i save h is
-
 lines_snoc : (nodes : List Node) (saves : List Saved) (s : Saved) → saved_lines nodes (saves ++ s ∷ []) ≡ saved_lines nodes saves ++ saved_line nodes s
 lines_snoc nodes [] s = append-nil (saved_line nodes s)
 lines_snoc nodes (t ∷ saves) s = ap (λ x. saved_line nodes t ++ x) (lines_snoc nodes saves s) ∙ sym (append_assoc (saved_line nodes t) (saved_lines nodes saves) (saved_line nodes s))
@@ -34,14 +28,3 @@ lines_more nodes saves i save h is =
 
 pub lines_whole : (nodes : List Node) (saves : List Save) (i : ℕ) → length saves ≤ i → saved_lines nodes (map saved_of (take i saves)) ≡ saved_lines nodes (map saved_of saves)
 lines_whole nodes saves i h = ap (λ x. saved_lines nodes (map saved_of x)) (take_all i saves h)
-
-pub map_saved : {B : Type 0} (f : Saved → B) (saves : List Save) → map f (map saved_of saves) ≡ map (λ s. f (saved_of s)) saves
-map_saved f [] = refl
-map_saved f (s ∷ saves) = ap (λ l. f (saved_of s) ∷ l) (map_saved f saves)
-
--- the nodes that are saved are there
-pub roots_there : (saves : List Save) (count : ℕ) (roots : List ℕ) → roots ≡ map (λ s. s.node) saves → ((k : ℕ) → k < length (map saved_of saves) → get_or (map (λ s. s.node) (map saved_of saves)) k 0 < count) → All (λ k. k < count) roots
-roots_there saves count roots is there = λ k d h.
-    let l : k < length (map saved_of saves) = omega (arith, h, ap length is, length-map saves (λ (s : Save). s.node), length-map saves saved_of) in
-    let e : get_or (map (λ s. s.node) (map saved_of saves)) k 0 ≡ get_or roots k d = ap (λ l. get_or l k 0) (map_saved (λ s. s.node) saves ∙ sym is) ∙ sym (get_or_default_zero roots k d h) in
-    subst (λ n. n < count) e (there k l)

@@ -1,10 +1,19 @@
--- What inputs hold, as a list.
-use Rattle.std.proofs.Common.{◌≡◌, ℕ, zero, suc, ◌<◌, List, [], ◌∷◌, length, get_or, refl, ap, sym, ◌∙◌, subst, arith, Option, Some, None}
-use Rattle.std.specs.Prelude.{IfSome, IsSome, IsTrue, option_and_then}
+-- What inputs hold, as a list, and the array of each.
+use Rattle.std.proofs.Common.{◌≡◌, ℕ, zero, suc, ◌<◌, pos, List, [], ◌∷◌, length, get_or, refl, ap, ap₂, sym, ◌∙◌, subst, arith, Option, Some, None}
+use Rattle.std.specs.Prelude.{IfSome, IsSome, IsTrue, option_and_then, replicate}
 use Rattle.std.specs.Option.{option_map}
-use Rattle.io_edge.specs.Content.{Content, Told, OnTold, file_at}
+use Rattle.std.proofs.lemmas.List.FromFn.{get_or-map-range_with_len, length-map-range_with_len}
+use Rattle.io_edge.specs.Content.{Content, Told, Untold, OnTold, file_at}
 use Rattle.io_edge.specs.View.{Files, Shows}
-use Rattle.job_run.specs.Inputs.{told_all}
+use Rattle.nd_shape.specs.Index.{IsIn, index_at, place}
+use Rattle.nd_shape.specs.Region.{moved}
+use Rattle.nd_shape.specs.Shape.{elements}
+use Rattle.nd_shape.proofs.Places.{IsIn-length, index_at-place, place-below}
+use Rattle.npy_codec.specs.declared.head.Head.{Head}
+use Rattle.npy_codec.specs.Files.{HasHead}
+use Rattle.npy_codec.specs.Regions.{HoldsRegion, element, whole}
+use Rattle.job_run.specs.Inputs.{HoldsArray, told_all}
+use Rattle.job_run.specs.Told.{array_told}
 
 abbrev value : {A : Type 0} → A → Option A → A
 value d None = d
@@ -68,3 +77,29 @@ shown held bytes file P e is on =
 pub told_fact : (names : List (List ℕ)) (old new : Files) (files : List Content) (contents : List (List ℕ)) (k : ℕ) (P : List ℕ → Type 0) → Shows names old new files → told_all old.held names ≡ Some contents → k < length names →
     OnTold (file_at files k) P → P (get_or contents k [])
 told_fact names old new files contents k P shows e h on = shown (old.held (get_or names k [])) (get_or contents k []) (file_at files k) P (told_at old.held names contents e k h) (shows.each k h).held on
+
+-- ## The array of a file
+
+pub on_content : (c : Content) (P Q : List ℕ → Type 0) → ((b : List ℕ) → P b → Q b) → OnTold c P → OnTold c Q
+on_content (Told bytes) P Q f on = f bytes on
+on_content (Untold s) P Q f on = tt
+
+moved_whole : (dims i : List ℕ) → length i ≡ length dims → moved (replicate (length dims) 0) i ≡ i
+moved_whole [] [] e = refl
+moved_whole [] (k ∷ i) e = absurd (omega arith)
+moved_whole (d ∷ dims) [] e = absurd (omega arith)
+moved_whole (d ∷ dims) (k ∷ i) e = ap₂ (λ a b. a ∷ b) (omega arith) (moved_whole dims i (omega arith))
+
+told_region : (bytes : List ℕ) (head : Head) → HoldsRegion bytes head (whole head.shape) (array_told (Told bytes) head)
+told_region bytes head = record {
+  shape = refl;
+  count = length-map-range_with_len (λ p. element bytes head (index_at head.shape p)) 0 (elements head.shape);
+  each = λ i inside.
+      let at = place head.shape i in
+      get_or-map-range_with_len (λ p. element bytes head (index_at head.shape p)) 0 (elements head.shape) at at (pos 0) (place-below head.shape i inside) (omega arith)
+      ∙ ap (element bytes head) (index_at-place head.shape i inside ∙ sym (moved_whole head.shape i (IsIn-length head.shape i inside)));
+}
+
+-- a file with this head is that of the array that it tells
+pub held_array : (shape bytes : List ℕ) (head : Head) → HasHead bytes head → head.shape ≡ shape → HoldsArray shape bytes (array_told (Told bytes) head)
+held_array shape bytes head front declared = record { is = record { head = head; front = front; content = told_region bytes head }; declared = declared }

@@ -1,8 +1,11 @@
+pub mod Creating
+pub mod Evaluating
 pub mod Inputs
 pub mod Jobs
 pub mod Loading
+pub mod Lowering
 pub mod Part
 pub mod Plan
 pub mod Runs
-pub mod Saving
+pub mod Told
 pub mod Values

@@ -2,15 +2,13 @@
 use Rattle.std.specs.Prelude.{◌≡◌, ◌≤◌, ◌<◌, ◌+◌, ◌*◌, ◌^◌, ℕ, List, [], length, slice_index_or}
 use Rattle.io_edge.specs.Cause.{Rose}
 use Rattle.io_edge.specs.Content.{Content, OnTold, file_at, size_of}
-use Rattle.nd_shape.specs.Block.{Array}
 use Rattle.nd_shape.specs.Shape.{elements}
 use Rattle.npy_codec.specs.declared.head.Head.{Head}
 use Rattle.npy_codec.specs.Files.{HasHead}
-use Rattle.plain_eval.specs.Eval.{block_at}
 use Rattle.job_run.specs.declared.ends.Ended.{Ended}
-use Rattle.job_run.specs.declared.ends.Ended.TheVariants.{Done, File, Zero, ReadFault, WriteFault, OutOfMemory}
+use Rattle.job_run.specs.declared.ends.Ended.TheVariants.{File, ReadFault, OutOfMemory}
 use Rattle.job_run.specs.declared.ends.FileError.{FileError}
-use Rattle.job_run.specs.Inputs.{FitsShape, HoldsArray, RefusesFile}
+use Rattle.job_run.specs.Inputs.{FitsShape, RefusesFile}
 
 -- a head that was read of a file, of this shape, with all of its data
 pub record IsHeadFor (shape : List ℕ) (file : Content) (head : Head) : Type 0 where
@@ -19,21 +17,9 @@ pub record IsHeadFor (shape : List ℕ) (file : Content) (head : Head) : Type 0 
   pub near : head.data_at < 2 ^ 17
   pub room : head.data_at + 8 * elements head.shape ≤ size_of file
 
-abbrev pub head_at : List Head → ℕ → Head → Head
-head_at heads k none = slice_index_or heads k none
-
 -- heads of the first files
 pub record AreHeads (shapes : List (List ℕ)) (files : List Content) (heads : List Head) : Type 0 where
   pub each : (k : ℕ) (none : Head) → k < length heads → IsHeadFor (slice_index_or shapes k []) (file_at files k) (slice_index_or heads k none)
-
--- a block that was read of a file
-pub record IsBlockFor (shape : List ℕ) (file : Content) (block : Array) : Type 0 where
-  pub shape_is : block.shape ≡ shape
-  pub is : OnTold file (λ bytes. HoldsArray shape bytes block)
-
--- blocks of the first files
-pub record AreBlocks (shapes : List (List ℕ)) (files : List Content) (blocks : List Array) : Type 0 where
-  pub each : (k : ℕ) → k < length blocks → IsBlockFor (slice_index_or shapes k []) (file_at files k) (block_at blocks k)
 
 -- the file at this place is refused, and those before it are as declared
 pub record IsRefusedAt (shapes : List (List ℕ)) (files : List Content) (place : ℕ) (error : FileError) : Type 0 where
@@ -54,16 +40,3 @@ HeadEnds shape file place before now (File at error) = (at ≡ place) × OnTold 
 HeadEnds shape file place before now ReadFault = Rose before now
 HeadEnds shape file place before now OutOfMemory = Unit {0}
 HeadEnds shape file place before now end = ⊥
-
--- an end that comes before anything is created
-abbrev pub IsEarly : Ended → Type 0
-IsEarly Done = ⊥
-IsEarly WriteFault = ⊥
-IsEarly end = Unit {0}
-
--- an end that comes while inputs are read
-abbrev pub IsOfReading : Ended → Type 0
-IsOfReading Done = ⊥
-IsOfReading (Zero node) = ⊥
-IsOfReading WriteFault = ⊥
-IsOfReading end = Unit {0}

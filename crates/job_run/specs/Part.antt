@@ -1,22 +1,8 @@
 -- What is left of the saved files, and how often names are used.
-use Rattle.std.specs.Prelude.{◌≡◌, ◌≤◌, ◌<◌, ◌+◌, ◌⊎◌, ℕ, List, [], ◌∷◌, length, Some, IfSome, IsSome, IsTrue, bytes_eq, false}
+use Rattle.std.specs.Prelude.{◌≡◌, ◌≤◌, ◌<◌, ◌+◌, ℕ, List, length, Some, bytes_eq, false}
 use Rattle.io_edge.specs.View.{Files, times}
+use Rattle.saved_files.specs.Saving.{IsLeft}
 use Rattle.job_run.specs.Plan.{name_at}
-
--- each byte is the right one for its place, or 0
-abbrev pub IsPart : List ℕ → List ℕ → Type 0
-IsPart [] [] = Unit {0}
-IsPart (x ∷ xs) (y ∷ ys) = ((x ≡ 0) ⊎ (x ≡ y)) × IsPart xs ys
-IsPart xs ys = ⊥
-
--- the file of this name is as it was, or each of its bytes is right or 0, and a site that tells does tell it
-abbrev pub IsLeft : List ℕ → List ℕ → Files → Files → Type 0
-IsLeft name bytes old new = (new.held name ≡ old.held name) ⊎ (IfSome (new.held name) (λ held. IsPart held bytes) × (IsTrue old.tells → IsSome (new.held name)))
-
--- one file may have changed, and is left so
-pub record SavesPart (name bytes : List ℕ) (old new : Files) : Type 0 where
-  pub others : (n : List ℕ) → bytes_eq name n ≡ false → new.held n ≡ old.held n
-  pub here : IsLeft name bytes old new
 
 -- the files of these names hold these bytes
 abbrev pub AreWhole : List (List ℕ) → List (List ℕ) → Files → Type 0

@@ -1,21 +1,31 @@
--- The sequential evaluation: what the nodes hold, where a zero divisor is met, and the files that are saved.
-use Rattle.std.specs.Prelude.{◌≡◌, ◌<◌, ℕ, pos, List, [], ◌∷◌, ◌++◌, codes, map, slice_get, slice_index_or, replicate, length, unwrap_or, None, Some, IfSome, IsSome, true}
+-- The sequential evaluation: what the nodes hold, which blocks are needed, where a zero divisor is met, and the files that are saved.
+use Rattle.std.specs.Prelude.{◌≡◌, ◌<◌, ℕ, ℤ, pos, List, [], ◌∷◌, ◌++◌, codes, map, slice_index_or, length, unwrap_or, Some, IfSome, true}
 use Rattle.io_edge.specs.View.{Files}
 use Rattle.nd_shape.specs.Block.{Array}
-use Rattle.nd_shape.specs.Index.{IsIn}
+use Rattle.nd_shape.specs.Index.{index_at}
 use Rattle.nd_shape.specs.Shape.{shape_text, comma_list}
 use Rattle.npy_codec.specs.Npy.{npy}
 use Rattle.array_expr.specs.declared.expr.Node.{Node}
-use Rattle.array_expr.specs.Elem.{Cells, arrays, array_at}
+use Rattle.array_expr.specs.Elem.{Cells, arrays}
 use Rattle.array_expr.specs.Node.{shape_at}
-use Rattle.plain_eval.specs.Eval.{held_in}
+use Rattle.chunk_layout.specs.Layouts.{counts}
+use Rattle.cluster_msgs.specs.Shape.{deps_of}
+use Rattle.cluster_msgs.specs.Values.{faulty}
+use Rattle.task_graph.specs.declared.graph.Task.{Task}
+use Rattle.task_graph.specs.Graphs.{shape_of, value}
+use Rattle.lowering_laws.specs.Lowered.{lowered}
+use Rattle.lowering_laws.specs.Named.{layout_of, name_of}
+use Rattle.lowering_laws.specs.Faults.{IsMissing, DividesByZero}
 use Rattle.job_run.specs.Inputs.{HoldArrays, told_all}
 use Rattle.job_run.specs.Plan.{Plan, Saved, input_shapes, nodes_saved}
-use Rattle.node_reach.specs.Reach.{Reaches, is_operand}
 
--- the array of each node, for inputs that are these arrays
-abbrev pub values_of : Plan → List Array → List Cells
-values_of p blocks = arrays (held_in blocks) p.nodes
+-- the elements of each input, by its number
+abbrev pub Named : Type 0
+Named = ℕ → List ℕ → ℤ
+
+-- the array of each node, where the inputs hold these elements
+abbrev pub values_of : Plan → Named → List Cells
+values_of p named = arrays named p.nodes
 
 -- the array at this place
 abbrev pub cells_at : List Cells → ℕ → Cells
@@ -25,46 +35,64 @@ cells_at known n = slice_index_or known n (record { shape = []; cells = [] })
 abbrev pub OnInputs : Plan → Files → (List Array → Type 0) → Type 0
 OnInputs p files P = IfSome (told_all files.held p.inputs) (λ contents. (blocks : List Array) → HoldArrays (input_shapes p.nodes) contents blocks → P blocks)
 
+-- ## Needed blocks
+
+-- the tasks that make the saved blocks, and no others
+abbrev pub tasks_of : Plan → List Task
+tasks_of p = (lowered p.nodes (nodes_saved p)).tasks
+
+-- A block of a node, by its number in row-major order, that is needed: a key of the graph that makes the saved blocks is its own.
+pub record IsNeeded (p : Plan) (key node number : ℕ) : Type 0 where
+  pub within : key < length (tasks_of p)
+  pub name : name_of p.nodes (nodes_saved p) key ≡ Some (node, number)
+
+-- the index of a block of a node: its chunk on each axis
+abbrev pub index_of : Plan → ℕ → ℕ → List ℕ
+index_of p node number = index_at (counts (layout_of p.nodes node)) number
+
 -- ## Zero divisors
 
--- each element of the array is there
-abbrev pub HasElements : List Cells → ℕ → Type 0
-HasElements known n = (i : List ℕ) → IsIn (array_at known n).shape i → IsSome ((array_at known n).at i)
+-- some element of a needed block is nothing: a divisor is zero there, or somewhere below
+pub record NeedsFault (p : Plan) (named : Named) (key : ℕ) : Type 0 where
+  pub node : ℕ
+  pub number : ℕ
+  pub needed : IsNeeded p key node number
+  pub missing : IsMissing named p.nodes node number
 
--- some element of the array is nothing
-abbrev pub LacksElement : List Cells → ℕ → Type 0
-LacksElement known n = (i : List ℕ) × IsIn (array_at known n).shape i × ((array_at known n).at i ≡ None)
+-- A needed block whose key is faulty: its dependencies have values, and it has none, since its node divides by 0 at some place in the block.
+pub record IsFaulty (p : Plan) (named : Named) (node : ℕ) (block : List ℕ) : Type 0 where
+  pub key : ℕ
+  pub number : ℕ
+  pub needed : IsNeeded p key node number
+  pub is_block : block ≡ index_of p node number
+  pub faulty_is : faulty (deps_of (shape_of (tasks_of p))) (value named (tasks_of p)) key ≡ true
+  pub divides : DividesByZero named p.nodes node number
 
--- The index of the one block of the array of a node, which is taken whole: 0 on each axis.
-abbrev pub block_of : Plan → ℕ → List ℕ
-block_of p n = replicate (length (shape_at p.nodes n)) 0
+-- the first of them in the order of the keys
+pub record MeetsZero (p : Plan) (named : Named) (node : ℕ) (block : List ℕ) : Type 0 where
+  pub fault : IsFaulty p named node block
+  pub before : (k : ℕ) → k < fault.key → NeedsFault p named k → ⊥
 
--- Some element of a block that is needed is nothing, where these are the nodes' arrays: a divisor is zero there, or somewhere below.
-pub record NeedsFault (p : Plan) (known : List Cells) (node : ℕ) (block : List ℕ) : Type 0 where
-  pub within : node < length p.nodes
-  pub reached : Reaches p.nodes (nodes_saved p) node
-  pub is_block : block ≡ block_of p node
-  pub lacks : LacksElement known node
-
--- The first of them. The operands have all of their elements, so it is there that a divisor is zero.
-pub record MeetsZero (p : Plan) (known : List Cells) (node : ℕ) (block : List ℕ) : Type 0 where
-  pub fault : NeedsFault p known node block
-  pub operands : (k : ℕ) (n : Node) → slice_get p.nodes node ≡ Some n → is_operand n.op k ≡ true → HasElements known k
-  pub before : (k : ℕ) (b : List ℕ) → k < node → ¬ NeedsFault p known k b
-
--- no block that is needed lacks an element
-abbrev pub MeetsNone : Plan → List Cells → Type 0
-MeetsNone p known = (node : ℕ) (block : List ℕ) → ¬ NeedsFault p known node block
+-- no needed block lacks an element
+abbrev pub MeetsNone : Plan → Named → Type 0
+MeetsNone p named = (key : ℕ) → NeedsFault p named key → ⊥
 
 -- ## The saved files
+
+-- the array with 0 where it has nothing
+abbrev pub array_of : Cells → Array
+array_of c = record { shape = c.shape; cells = map (λ z. unwrap_or z (pos 0)) c.cells }
 
 -- the file of an array all of whose elements are there
 abbrev pub file_of : Cells → List ℕ
 file_of c = npy c.shape (map (λ z. unwrap_or z (pos 0)) c.cells)
 
--- the saved file at each place
-abbrev pub files_of : Plan → List Array → List (List ℕ)
-files_of p blocks = map (λ s. file_of (cells_at (values_of p blocks) s.node)) p.saves
+-- the array of the node that is saved at each place, and its file
+abbrev pub arrays_saved : Plan → Named → List Array
+arrays_saved p named = map (λ s. array_of (cells_at (values_of p named) s.node)) p.saves
+
+abbrev pub files_of : Plan → Named → List (List ℕ)
+files_of p named = map (λ s. file_of (cells_at (values_of p named) s.node)) p.saves
 
 -- ## Printed lines
 

@@ -4,10 +4,10 @@ ghost use Rattle.job_run.specs.Inputs.{file_error_text};
 ghost use Rattle.job_run.specs.declared.ends.Ended.TheVariants.{OutOfMemory};
 
 use array_expr::NodeId;
-use nd_shape::Shape;
+use nd_shape::{Dims, Shape};
 use npy_codec::NpyError;
 use std::alloc::{AllocError, AllocFailed};
-use std::fmt;
+use task_graph::Quantity;
 
 /// Why an input file is refused.
 #[derive(Drop)]
@@ -22,10 +22,12 @@ pub enum FileError {
 #[derive(Drop)]
 pub enum Ended {
     Done,
+    /// The job's graph would pass a limit: the first that it would, in the order in which its keys are made.
+    Limit(Quantity),
     /// An input file was refused: its place among the job's inputs, and why.
     File { input: usize, error: FileError },
-    /// A divisor of this node is zero.
-    Zero { node: NodeId },
+    /// A divisor in this block of this node is zero.
+    Zero { node: NodeId, block: Dims },
     /// An opening or a read failed, and the site's count of them rose.
     ReadFault,
     /// A creation, a write or a print failed, and the site's count of them rose.

@@ -1,21 +1,20 @@
-// The inputs of a job, opened and read.
+// The inputs of a job, opened, and their heads read.
 ghost use Rattle.std.specs.Prelude.{◌≡◌, ◌≤◌, ◌++◌, [], ◌∷◌, length, cond, map, IfOk, IfErr, OnOk, string_bytes};
-ghost use Rattle.io_edge.specs.View.{Opens, OnlyReads, raised_by};
+ghost use Rattle.io_edge.specs.View.{Opens, OnlyReads, Shows, raised_by};
 ghost use Rattle.array_expr.specs.Elem.{is_input};
-ghost use Rattle.array_expr.specs.Node.{IsExpression};
-ghost use Rattle.job_run.specs.Inputs.{HoldArrays, InputsFit};
+ghost use Rattle.job_run.specs.Inputs.{InputsFit};
 ghost use Rattle.job_run.specs.Jobs.{plan_of};
-ghost use Rattle.job_run.specs.Loading.{IsEarly, IsOfReading};
+ghost use Rattle.job_run.specs.Loading.{AreHeads};
 ghost use Rattle.job_run.specs.Plan.{IsRunnable, input_shapes};
-ghost use Rattle.job_run.specs.Runs.{Cause};
-ghost use Rattle.job_run.specs.Values.{OnInputs};
+ghost use Rattle.job_run.specs.Runs.{ReadCause};
 
 use crate::ends::Ended;
 use crate::job::Job;
-use crate::load::load_from;
+use crate::load::read_heads;
 use array_expr::{Node, Op};
 use io_edge::{OpenFault, Site};
-use nd_shape::{Block, Shape};
+use nd_shape::Shape;
+use npy_codec::Head;
 use std::alloc::{AllocError, Global};
 
 /// Whether an operation is an input.
@@ -47,19 +46,27 @@ fn declared_shapes(alloc: Global, nodes: &[Node]) -> Result<Vec<Shape>, AllocErr
     Ok(shapes)
 }
 
-/// Opens all inputs of a job by one call and reads their arrays, or tells why that fails.
-pub fn load_inputs<S: Site>(alloc: Global, site: &mut S, job: &Job) -> Result<Vec<Block>, Ended>
+/// The open files of a job's inputs, and the head of each.
+#[derive(Drop)]
+pub struct Inputs<I> {
+    pub store: I,
+    pub heads: Vec<Head>,
+}
+
+/// Opens all inputs of a job by one call and reads their heads, or tells why that fails. Where it succeeds each input is as
+/// declared, and all of its data is there.
+pub fn open_inputs<S: Site>(alloc: Global, site: &mut S, job: &Job) -> Result<Inputs<S::In>, Ended>
     requires runs { IsRunnable (plan_of job.now) }
     ensures opens { Opens (plan_of job.now).inputs (S.view site.old).files (S.view site.new).files }
     ensures opened { OnOk result ((S.view site.new).files.opened ≡ raised_by (plan_of job.now).inputs (S.view site.old).files.opened) }
     ensures fit { OnOk result (InputsFit (plan_of job.now) (S.view site.old).files) }
-    ensures blocks { IfOk result (λ v. OnInputs (plan_of job.now) (S.view site.old).files (λ blocks. blocks ≡ v.items)) }
-    ensures shapes { IfOk result (λ v. map (λ b. b.shape) v.items ≡ input_shapes job.now.expr) }
+    ensures heads { IfOk result (λ i. AreHeads (input_shapes job.now.expr) (S.In.files i.store) i.heads.items) }
+    ensures count { IfOk result (λ i. length i.heads.items ≡ length (input_shapes job.now.expr)) }
+    ensures shows { IfOk result (λ i. Shows (plan_of job.now).inputs (S.view site.old).files (S.view site.new).files (S.In.files i.store)) }
+    ensures fresh { IfOk result (λ i. S.In.count i.store ≡ 0) }
     ensures only { OnlyReads (S.view site.old) (S.view site.new) }
     ensures later { (S.view site.old).read_faults ≤ (S.view site.new).read_faults }
-    ensures cause { IfErr result (λ e. Cause (plan_of job.now) (S.view site.old) (S.view site.new) e) }
-    ensures early { IfErr result IsEarly }
-    ensures reading { IfErr result IsOfReading }
+    ensures cause { IfErr result (λ e. ReadCause (plan_of job.now) (S.view site.old) (S.view site.new) e) }
 {
     let shapes = declared_shapes(alloc, job.expr.nodes())?;
     let mut store = match site.store(alloc, job.inputs.as_slice()) {
@@ -67,7 +74,11 @@ pub fn load_inputs<S: Site>(alloc: Global, site: &mut S, job: &Job) -> Result<Ve
         Err(OpenFault::Failed) => return Err(Ended::ReadFault),
         Err(OpenFault::OutOfMemory) => return Err(Ended::OutOfMemory),
     };
-    let loaded = load_from(alloc, &mut store, &shapes);
-    site.give_store(store);
-    loaded
+    match read_heads(alloc, &mut store, &shapes) {
+        Ok(heads) => Ok(Inputs { store, heads }),
+        Err(end) => {
+            site.give_store(store);
+            Err(end)
+        }
+    }
 }

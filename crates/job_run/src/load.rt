@@ -1,14 +1,12 @@
-// Reads of inputs from an open store: all heads first, then all data.
+// Reads of the inputs' heads from an open store.
 ghost use Rattle.std.specs.Prelude.{◌≡◌, ◌⊎◌, ◌≤◌, ◌<◌, ◌+◌, ◌*◌, ◌^◌, [], length, slice_index_or, IfOk, IfErr, OnOk, IsErrOf, IsTrue, ◌↔◌};
 ghost use Rattle.io_edge.specs.Content.{OnTold, file_at};
-ghost use Rattle.npy_codec.specs.Fronts.{IsFaultOrMemory};
-ghost use Rattle.job_run.specs.Loading.{AreBlocks, AreHeads, HeadEnds, IsBlockFor, IsHeadFor, LoadEnds};
+ghost use Rattle.job_run.specs.Loading.{AreHeads, HeadEnds, IsHeadFor, LoadEnds};
 
 use crate::ends::{Ended, FileError};
 use io_edge::Store;
-use nd_shape::{Block, Region, Shape};
+use nd_shape::Shape;
 use npy_codec::{Head, NpyError, read_head};
-use npy_region::read_region;
 use std::alloc::Global;
 
 fn same_dims(left: &[u64], right: &[u64]) -> bool
@@ -56,8 +54,13 @@ fn read_declared<I: Store>(
     })
 }
 
-// Reads the heads of all files, which are to declare these shapes.
-fn read_heads<I: Store>(alloc: Global, store: &mut I, shapes: &[Shape]) -> Result<Vec<Head>, Ended>
+/// Reads the heads of the first files of a store, which are to declare these shapes, or tells why that fails: the first file that
+/// is another one, a fault of the store, or want of memory. All of each file's data is there.
+pub fn read_heads<I: Store>(
+    alloc: Global,
+    store: &mut I,
+    shapes: &[Shape],
+) -> Result<Vec<Head>, Ended>
     requires there { length shapes.now ≤ length (I.files store.old) }
     requires small { length shapes.now ≤ 65536 }
     ensures same { I.files store.new ≡ I.files store.old }
@@ -75,83 +78,4 @@ fn read_heads<I: Store>(alloc: Global, store: &mut I, shapes: &[Shape]) -> Resul
         }
     }
     Ok(heads)
-}
-
-// The end that an error of reading alone is.
-fn fault_end(error: NpyError) -> Ended
-    requires { IsFaultOrMemory error }
-    ensures { ((result ≡ Ended.ReadFault) × (error ≡ NpyError.ReadFault)) ⊎ (result ≡ Ended.OutOfMemory) }
-{
-    match error {
-        NpyError::ReadFault => Ended::ReadFault,
-        NpyError::OutOfMemory => Ended::OutOfMemory,
-        _ => unreachable!(),
-    }
-}
-
-// Reads the array of the file at a place.
-fn read_array<I: Store>(
-    alloc: Global,
-    store: &mut I,
-    input: usize,
-    head: &Head,
-) -> Result<Block, Ended>
-    requires there { input < length (I.files store.old) }
-    requires small { input < 2 ^ 32 }
-    requires head { IsHeadFor head.now.shape (file_at (I.files store.old) input) head.now }
-    ensures same { I.files store.new ≡ I.files store.old }
-    ensures later { I.count store.old ≤ I.count store.new }
-    ensures kept { OnOk result (I.count store.new ≡ I.count store.old) }
-    ensures block { IfOk result (IsBlockFor head.now.shape (file_at (I.files store.old) input)) }
-    ensures cause { IfErr result (LoadEnds [] (I.files store.old) (I.count store.old) (I.count store.new)) }
-{
-    let region = Region::whole(head.shape.dims());
-    match read_region(alloc, store, input as u32, head, &region) {
-        Ok(block) => Ok(block),
-        Err(error) => Err(fault_end(error)),
-    }
-}
-
-// Reads the arrays of all files.
-fn read_arrays<I: Store>(
-    alloc: Global,
-    store: &mut I,
-    shapes: &[Shape],
-    heads: &[Head],
-) -> Result<Vec<Block>, Ended>
-    requires there { length heads.now ≤ length (I.files store.old) }
-    requires small { length heads.now ≤ 65536 }
-    requires heads { AreHeads shapes.now (I.files store.old) heads.now }
-    ensures same { I.files store.new ≡ I.files store.old }
-    ensures later { I.count store.old ≤ I.count store.new }
-    ensures kept { OnOk result (I.count store.new ≡ I.count store.old) }
-    ensures blocks { IfOk result (λ v. AreBlocks shapes.now (I.files store.old) v.items) }
-    ensures count { IfOk result (λ v. length v.items ≡ length heads.now) }
-    ensures cause { IfErr result (LoadEnds [] (I.files store.old) (I.count store.old) (I.count store.new)) }
-{
-    let mut blocks = Vec::new(alloc);
-    for (input, head) in heads.iter().enumerate() {
-        let block = read_array(alloc, store, input, head)?;
-        blocks.push(block)?;
-    }
-    Ok(blocks)
-}
-
-/// Reads the arrays of the first files of a store, which are to have these shapes, or tells why that fails: the first file
-/// that is another one, a fault of the store, or want of memory.
-pub fn load_from<I: Store>(
-    alloc: Global,
-    store: &mut I,
-    shapes: &[Shape],
-) -> Result<Vec<Block>, Ended>
-    requires there { length shapes.now ≤ length (I.files store.old) }
-    requires small { length shapes.now ≤ 65536 }
-    ensures same { I.files store.new ≡ I.files store.old }
-    ensures later { I.count store.old ≤ I.count store.new }
-    ensures blocks { IfOk result (λ v. AreBlocks shapes.now (I.files store.old) v.items) }
-    ensures count { IfOk result (λ v. length v.items ≡ length shapes.now) }
-    ensures cause { IfErr result (LoadEnds shapes.now (I.files store.old) (I.count store.old) (I.count store.new)) }
-{
-    let heads = read_heads(alloc, store, shapes)?;
-    read_arrays(alloc, store, shapes, &heads)
 }

@@ -3,7 +3,7 @@ use Rattle.std.specs.Prelude.{bytes_eq}
 use Rattle.std.proofs.lemmas.Bool.{false≢true}
 use Rattle.job_run.specs.declared.job.Save.{Save}
 use Rattle.job_run.specs.Jobs.{saved_of}
-use Rattle.job_run.proofs.SavedFiles.{below_or}
+use Rattle.nd_rows.proofs.Turns.{split as below_or}
 use Rattle.job_run.proofs.SavesList.{saved_name}
 use Rattle.job_run.proofs.check.is_new.Goals as goal
 

@@ -1,6 +1,6 @@
 use Rattle.std.proofs.Common.{◌≡◌, ℕ, ◌<◌, ◌∙◌, sym, subst, inl, inr, map, get_or, arith}
 use Rattle.job_run.specs.Jobs.{saved_of}
-use Rattle.job_run.proofs.SavedFiles.{below_or}
+use Rattle.nd_rows.proofs.Turns.{split as below_or}
 use Rattle.job_run.proofs.SavesList.{saved_node}
 use Rattle.job_run.proofs.check.nodes_there.Goals as goal
 

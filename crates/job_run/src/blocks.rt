@@ -1,0 +1,285 @@
+// The blocks of a job, made key by key, and written where they are saved.
+ghost use Rattle.std.specs.Prelude.{◌≡◌, ◌<◌, ◌+◌, ◌↔◌, ℕ, [], map, length, Some, IfOk, IfErr, OnOk, OnErr, IsErrOf};
+ghost use Rattle.std.specs.Arc.{arc_value};
+ghost use Rattle.io_edge.specs.Cause.{HasOpenCause};
+ghost use Rattle.nd_shape.specs.Index.{index_at};
+ghost use Rattle.nd_shape.specs.Shape.{elements};
+ghost use Rattle.chunk_layout.specs.Layouts.{region, lengths, blocks as block_count};
+ghost use Rattle.block_lowering.specs.Jobs.{TellsFeed};
+ghost use Rattle.lowering_laws.specs.Lowered.{lowered};
+ghost use Rattle.lowering_laws.specs.Named.{layout_of, box_of, name_of};
+ghost use Rattle.saved_files.specs.Saving.{ChangesAt, FillsMore, FillsPart, saving_at};
+ghost use Rattle.job_run.specs.Evaluating.{AreOpenFor, AreSameFiles, HasFailed, HasNotFailed, HasLaws, HaltCause, HaltKeeps};
+ghost use Rattle.job_run.specs.Evaluating.{FilesHold, FilesRight, FilesWhole, HoldsNamed, IsBlockNamed, IsZeroOf, SavedBelow, SavesAt, SavesPartAt, boxes_made};
+ghost use Rattle.job_run.specs.Jobs.{plan_of};
+ghost use Rattle.job_run.specs.Lowering.{HasBlock, counts_made};
+ghost use Rattle.job_run.specs.Plan.{IsRunnable, nodes_saved};
+ghost use Rattle.job_run.specs.Values.{Named, MeetsNone, tasks_of};
+
+use crate::job::Job;
+use array_expr::NodeId;
+use block_lowering::counts::numbers_of;
+use block_lowering::sources::Name;
+use block_lowering::{Elements, JobGraph};
+use chunk_layout::Layout;
+use cluster_msgs::RunFail;
+use graph_run::{Evaluation, Step};
+use io_edge::{OpenFault, Site};
+use lowering_laws::laws::{law_of_names, law_of_order};
+use lowering_laws::values::law_of_expression;
+use nd_shape::{Block, Dims, Region};
+use saved_files::{SavedFiles, filled_is_whole};
+use std::alloc::{AllocError, Global};
+use std::sync::Arc;
+
+/// Why not all blocks were made and written.
+#[derive(Drop)]
+pub enum Halt {
+    /// A divisor in this block of this node is zero.
+    Zero { node: NodeId, block: Dims },
+    ReadFault,
+    WriteFault,
+    OutOfMemory,
+}
+
+// The laws of lowering hold of a job. It does nothing.
+fn laws_hold(job: &Job)
+    requires { IsRunnable (plan_of job.now) }
+    ensures { (named : Named) → HasLaws (plan_of job.now) named }
+{
+    let _nodes = job.expr.nodes();
+    law_of_order();
+    law_of_names();
+    law_of_expression(&job.expr);
+}
+
+// ---- a block at its places
+
+// Writes a block into the file of an array with this layout.
+fn save_at<S: Site>(
+    alloc: Global,
+    files: &mut SavedFiles<S>,
+    place: usize,
+    layout: &Layout,
+    number: u32,
+    block: &Block,
+) -> Result<(), OpenFault>
+    requires there { place < length files.old }
+    requires dims { (saving_at files.old place).dims ≡ lengths layout.now }
+    requires number { number < block_count layout.now }
+    requires shape { block.now.shape ≡ (region layout.now number).lengths }
+    ensures changes { ChangesAt place files.old files.new }
+    ensures filled { OnOk result (FillsMore (region layout.now number) block.now (saving_at files.old place) (saving_at files.new place)) }
+    ensures part { OnErr result (FillsPart (region layout.now number) block.now (saving_at files.old place) (saving_at files.new place)) }
+    ensures kept { OnOk result ((saving_at files.new place).faults ≡ (saving_at files.old place).faults) }
+    ensures cause { HasOpenCause (saving_at files.old place).faults (saving_at files.new place).faults result }
+{
+    let mut region = Region::new();
+    layout.block_region(u64::from(number), &mut region);
+    files.write(alloc, place, &region, block)
+}
+
+// Writes a block of a node into the files of its saves.
+fn save_named<S: Site>(
+    alloc: Global,
+    files: &mut SavedFiles<S>,
+    job: &Job,
+    layouts: &[Layout],
+    node: u32,
+    number: u32,
+    block: &Block,
+) -> Result<(), OpenFault>
+    requires runs { IsRunnable (plan_of job.now) }
+    requires open { AreOpenFor (plan_of job.now) files.old }
+    requires layouts { layouts.now ≡ map (layout_of job.now.expr) (nodes_saved (plan_of job.now)) }
+    requires number { number < block_count (layout_of job.now.expr node) }
+    requires shape { block.now.shape ≡ (box_of job.now.expr node number).lengths }
+    ensures same { AreSameFiles files.old files.new }
+    ensures saved { OnOk result (SavedBelow (plan_of job.now) (Some (node, number)) block.now (length files.old) files.old files.new) }
+    ensures part { OnErr result ((k : ℕ) → k < length files.old →
+        SavesPartAt (plan_of job.now) (Some (node, number)) block.now k (saving_at files.old k) (saving_at files.new k)) }
+    ensures failed { IsErrOf result OpenFault.Failed → HasFailed files.new }
+{
+    let _nodes = job.expr.nodes();
+    for (place, save) in job.saves.iter().enumerate() {
+        if save.node.number() == node {
+            save_at(alloc, files, place, &layouts[place], number, block)?;
+        }
+    }
+    Ok(())
+}
+
+// Writes a block into the files of the saves of its node, where it is a node's own.
+fn save_block<S: Site>(
+    alloc: Global,
+    files: &mut SavedFiles<S>,
+    job: &Job,
+    layouts: &[Layout],
+    name: Name,
+    block: &Block,
+) -> Result<(), OpenFault>
+    requires runs { IsRunnable (plan_of job.now) }
+    requires open { AreOpenFor (plan_of job.now) files.old }
+    requires layouts { layouts.now ≡ map (layout_of job.now.expr) (nodes_saved (plan_of job.now)) }
+    requires named { IsBlockNamed (plan_of job.now) name block.now }
+    ensures same { AreSameFiles files.old files.new }
+    ensures saved { OnOk result ((k : ℕ) → k < length files.old →
+        SavesAt (plan_of job.now) name block.now k (saving_at files.old k) (saving_at files.new k)) }
+    ensures part { OnErr result ((k : ℕ) → k < length files.old →
+        SavesPartAt (plan_of job.now) name block.now k (saving_at files.old k) (saving_at files.new k)) }
+    ensures kept { OnOk result ((k : ℕ) → k < length files.old → (saving_at files.new k).faults ≡ (saving_at files.old k).faults) }
+    ensures failed { IsErrOf result OpenFault.Failed → HasFailed files.new }
+{
+    match name {
+        Some((node, number)) => save_named(alloc, files, job, layouts, node, number, block),
+        None => Ok(()),
+    }
+}
+
+// ---- the next key
+
+// The index at a place below these counts.
+fn index_of(alloc: Global, counts: &Dims, place: u32) -> Result<Dims, AllocError>
+    requires { place < elements counts.now }
+    ensures { IfOk result (λ index. index ≡ index_at counts.now place) }
+{
+    let counts = counts.as_slice();
+    let mut numbers = Vec::from_slice(alloc, counts)?;
+    numbers_of(counts, u64::from(place), numbers.as_mut_slice());
+    Ok(Dims::from_vec(numbers))
+}
+
+// A zero divisor in the block with this name. What has no name divides nothing.
+fn halt_at(alloc: Global, job: &Job, blocks: &[Dims], name: Name) -> Halt
+    requires blocks { blocks.now ≡ counts_made job.now.expr }
+    requires there { HasBlock job.now.expr name }
+    ensures { IsZeroOf (plan_of job.now) name result }
+{
+    let _nodes = job.expr.nodes();
+    let Some((node, number)) = name else {
+        return Halt::OutOfMemory;
+    };
+    match index_of(alloc, &blocks[node as usize], number) {
+        Ok(block) => Halt::Zero {
+            node: NodeId::new(node),
+            block,
+        },
+        Err(_) => Halt::OutOfMemory,
+    }
+}
+
+// Makes the block of the next key, or tells why there is none.
+fn next_block<S: Site, E: Elements + Send + Sync + Drop>(
+    alloc: Global,
+    evaluation: &mut Evaluation<JobGraph<S::In, E>>,
+    job: &Job,
+    blocks: &[Dims],
+    name: Name,
+) -> Result<Arc<Block>, Halt>
+    requires runs { IsRunnable (plan_of job.now) }
+    requires tasks { evaluation.old.job.job.tasks ≡ tasks_of (plan_of job.now) }
+    requires there { evaluation.old.next < length (tasks_of (plan_of job.now)) }
+    requires name { name_of job.now.expr (nodes_saved (plan_of job.now)) evaluation.old.next ≡ name }
+    requires blocks { blocks.now ≡ counts_made job.now.expr }
+    ensures job { evaluation.new.job ≡ evaluation.old.job }
+    ensures next { OnOk result (evaluation.new.next ≡ evaluation.old.next + 1) }
+    ensures tells { TellsFeed evaluation.old.job.job.heads (S.In.files evaluation.new.feed)
+        ↔ TellsFeed evaluation.old.job.job.heads (S.In.files evaluation.old.feed) }
+    ensures reads { OnOk result (S.In.count evaluation.new.feed ≡ S.In.count evaluation.old.feed) }
+    ensures named { IfOk result (λ b. IsBlockNamed (plan_of job.now) name (arc_value b)) }
+    ensures holds { IfOk result (λ b. TellsFeed evaluation.old.job.job.heads (S.In.files evaluation.old.feed)
+        → HoldsNamed (plan_of job.now) E.named name (arc_value b)) }
+    ensures cause { IfErr result (HaltCause (plan_of job.now) E.named (TellsFeed evaluation.old.job.job.heads (S.In.files evaluation.old.feed))
+        [] (S.In.count evaluation.old.feed) (S.In.count evaluation.new.feed)) }
+{
+    laws_hold(job);
+    match evaluation.step() {
+        Ok(Step::Made(block)) => Ok(block),
+        Ok(Step::Zero) => Err(halt_at(alloc, job, blocks, name)),
+        Err(RunFail::Feed) => Err(Halt::ReadFault),
+        Err(RunFail::OutOfMemory) => Err(Halt::OutOfMemory),
+    }
+}
+
+// Makes the block of the next key and writes it where it is saved.
+fn make_block<S: Site, E: Elements + Send + Sync + Drop>(
+    alloc: Global,
+    evaluation: &mut Evaluation<JobGraph<S::In, E>>,
+    files: &mut SavedFiles<S>,
+    job: &Job,
+    name: Name,
+    layouts: &[Layout],
+    blocks: &[Dims],
+) -> Result<(), Halt>
+    requires runs { IsRunnable (plan_of job.now) }
+    requires tasks { evaluation.old.job.job.tasks ≡ tasks_of (plan_of job.now) }
+    requires there { evaluation.old.next < length (tasks_of (plan_of job.now)) }
+    requires name { name_of job.now.expr (nodes_saved (plan_of job.now)) evaluation.old.next ≡ name }
+    requires layouts { layouts.now ≡ map (layout_of job.now.expr) (nodes_saved (plan_of job.now)) }
+    requires blocks { blocks.now ≡ counts_made job.now.expr }
+    requires open { AreOpenFor (plan_of job.now) files.old }
+    ensures job { evaluation.new.job ≡ evaluation.old.job }
+    ensures next { OnOk result (evaluation.new.next ≡ evaluation.old.next + 1) }
+    ensures tells { TellsFeed evaluation.old.job.job.heads (S.In.files evaluation.new.feed)
+        ↔ TellsFeed evaluation.old.job.job.heads (S.In.files evaluation.old.feed) }
+    ensures reads { OnOk result (S.In.count evaluation.new.feed ≡ S.In.count evaluation.old.feed) }
+    ensures same { AreSameFiles files.old files.new }
+    ensures holds { OnOk result (TellsFeed evaluation.old.job.job.heads (S.In.files evaluation.old.feed)
+        → FilesHold (plan_of job.now) E.named (boxes_made (plan_of job.now) evaluation.old.next) files.old
+        → FilesHold (plan_of job.now) E.named (boxes_made (plan_of job.now) (evaluation.old.next + 1)) files.new) }
+    ensures right { OnErr result (TellsFeed evaluation.old.job.job.heads (S.In.files evaluation.old.feed)
+        → FilesHold (plan_of job.now) E.named (boxes_made (plan_of job.now) evaluation.old.next) files.old
+        → FilesRight (plan_of job.now) E.named files.new) }
+    ensures sound { OnOk result (HasNotFailed files.old → HasNotFailed files.new) }
+    ensures keeps { IfErr result (λ halt. HasNotFailed files.old → HaltKeeps files.new halt) }
+    ensures cause { IfErr result (HaltCause (plan_of job.now) E.named (TellsFeed evaluation.old.job.job.heads (S.In.files evaluation.old.feed))
+        files.new (S.In.count evaluation.old.feed) (S.In.count evaluation.new.feed)) }
+{
+    laws_hold(job);
+    let made = next_block::<S, E>(alloc, evaluation, job, blocks, name)?;
+    match save_block(alloc, files, job, layouts, name, &made) {
+        Ok(()) => Ok(()),
+        Err(OpenFault::Failed) => Err(Halt::WriteFault),
+        Err(OpenFault::OutOfMemory) => Err(Halt::OutOfMemory),
+    }
+}
+
+/// Makes all blocks, in the order of their keys, and writes the saved ones as they come.
+pub fn make_blocks<S: Site, E: Elements + Send + Sync + Drop>(
+    alloc: Global,
+    evaluation: &mut Evaluation<JobGraph<S::In, E>>,
+    files: &mut SavedFiles<S>,
+    job: &Job,
+    names: &[Name],
+    layouts: &[Layout],
+    blocks: &[Dims],
+) -> Result<(), Halt>
+    requires runs { IsRunnable (plan_of job.now) }
+    requires tasks { evaluation.old.job.job.tasks ≡ tasks_of (plan_of job.now) }
+    requires first { evaluation.old.next ≡ 0 }
+    requires names { names.now ≡ (lowered job.now.expr (nodes_saved (plan_of job.now))).names }
+    requires layouts { layouts.now ≡ map (layout_of job.now.expr) (nodes_saved (plan_of job.now)) }
+    requires blocks { blocks.now ≡ counts_made job.now.expr }
+    requires open { AreOpenFor (plan_of job.now) files.old }
+    requires fresh { FilesHold (plan_of job.now) E.named (λ k. []) files.old }
+    requires sound { HasNotFailed files.old }
+    ensures same { AreSameFiles files.old files.new }
+    ensures values { OnOk result (TellsFeed evaluation.old.job.job.heads (S.In.files evaluation.old.feed) → MeetsNone (plan_of job.now) E.named) }
+    ensures whole { OnOk result (TellsFeed evaluation.old.job.job.heads (S.In.files evaluation.old.feed)
+        → FilesWhole (plan_of job.now) E.named files.new) }
+    ensures right { OnErr result (TellsFeed evaluation.old.job.job.heads (S.In.files evaluation.old.feed)
+        → FilesRight (plan_of job.now) E.named files.new) }
+    ensures sound { OnOk result (HasNotFailed files.new) }
+    ensures keeps { IfErr result (HaltKeeps files.new) }
+    ensures reads { OnOk result (S.In.count evaluation.new.feed ≡ S.In.count evaluation.old.feed) }
+    ensures cause { IfErr result (HaltCause (plan_of job.now) E.named (TellsFeed evaluation.old.job.job.heads (S.In.files evaluation.old.feed))
+        files.new (S.In.count evaluation.old.feed) (S.In.count evaluation.new.feed)) }
+{
+    laws_hold(job);
+    filled_is_whole();
+    for name in names {
+        make_block::<S, E>(alloc, evaluation, files, job, *name, layouts, blocks)?;
+    }
+    evaluation.sound();
+    Ok(())
+}

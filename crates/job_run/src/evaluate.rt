@@ -1,0 +1,92 @@
+// The evaluation of a job over its open inputs.
+ghost use Rattle.std.specs.Prelude.{◌≡◌, length};
+ghost use Rattle.block_lowering.specs.Jobs.{FitsFeed, TellsFeed};
+ghost use Rattle.job_run.specs.Evaluating.{EvaluatesInputs};
+ghost use Rattle.job_run.specs.Jobs.{plan_of};
+ghost use Rattle.job_run.specs.Loading.{AreHeads};
+ghost use Rattle.job_run.specs.Lowering.{IsGraphOf};
+ghost use Rattle.job_run.specs.Plan.{IsRunnable, input_shapes};
+
+use crate::blocks::{Halt, make_blocks};
+use crate::create::create_files;
+use crate::ends::Ended;
+use crate::inputs::Inputs;
+use crate::job::Job;
+use block_lowering::{Elements, JobGraph, Lowered};
+use graph_run::Evaluation;
+use io_edge::{OpenFault, Site};
+use std::alloc::{AllocError, Global};
+use task_graph::Graph;
+
+/// Evaluates a job over its open inputs: creates the files of its saves, makes its blocks in the order of their keys, each let go
+/// after its last use, and writes those that are saved. All is given back at the end.
+pub fn evaluate<S: Site, E: Elements + Send + Sync + Drop>(
+    alloc: Global,
+    site: &mut S,
+    job: &Job,
+    lowered: Lowered,
+    inputs: Inputs<S::In>,
+) -> Ended
+    requires runs { IsRunnable (plan_of job.now) }
+    requires graph { IsGraphOf (plan_of job.now) lowered }
+    requires heads { AreHeads (input_shapes job.now.expr) (S.In.files inputs.store) inputs.heads.items }
+    requires count { length inputs.heads.items ≡ length (input_shapes job.now.expr) }
+    requires fits { FitsFeed E.named inputs.heads.items (S.In.files inputs.store) }
+    requires fresh { S.In.count inputs.store ≡ 0 }
+    ensures { EvaluatesInputs (plan_of job.now) E.named (TellsFeed inputs.heads.items (S.In.files inputs.store)) (S.view site.old) (S.view site.new) result }
+{
+    let Inputs { store, heads } = inputs;
+    let Lowered {
+        graph,
+        names,
+        layouts,
+        blocks,
+        ..
+    } = lowered;
+    let mut files = match create_files(alloc, site, job) {
+        Ok(files) => files,
+        Err(fault) => {
+            site.give_store(store);
+            return match fault {
+                OpenFault::Failed => Ended::WriteFault,
+                OpenFault::OutOfMemory => Ended::OutOfMemory,
+            };
+        }
+    };
+    let mut evaluation = match begin::<S, E>(alloc, graph, heads, store) {
+        Ok(evaluation) => evaluation,
+        Err(_) => {
+            files.give(site);
+            return Ended::OutOfMemory;
+        }
+    };
+    let made = make_blocks(
+        alloc,
+        &mut evaluation,
+        &mut files,
+        job,
+        names.as_slice(),
+        layouts.as_slice(),
+        blocks.as_slice(),
+    );
+    site.give_store(evaluation.into_feed());
+    files.give(site);
+    match made {
+        Ok(()) => Ended::Done,
+        Err(Halt::Zero { node, block }) => Ended::Zero { node, block },
+        Err(Halt::ReadFault) => Ended::ReadFault,
+        Err(Halt::WriteFault) => Ended::WriteFault,
+        Err(Halt::OutOfMemory) => Ended::OutOfMemory,
+    }
+}
+
+// The evaluation of a graph over these files, before its first key.
+fn begin<S: Site, E: Elements + Send + Sync + Drop>(
+    alloc: Global,
+    graph: Graph,
+    heads: Vec<npy_codec::Head>,
+    store: S::In,
+) -> Result<Evaluation<JobGraph<S::In, E>>, AllocError> {
+    let job = JobGraph::new(alloc, graph, heads)?;
+    Evaluation::new(alloc, job, store)
+}
