@@ -12,4 +12,15 @@ pub mod SavePlaces
 pub mod SavedArrays
 pub mod SavesList
 pub mod SavingSteps
+pub mod Evaluated
+pub mod FilledFiles
+pub mod KeyValues
+pub mod Loads
+pub mod MadeBoxes
+pub mod Naming
+pub mod OneArray
+pub mod OneHeader
+pub mod SavedArrays
+pub mod SavingSteps
+pub mod Starting
 pub mod Told
