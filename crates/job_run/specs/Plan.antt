@@ -34,8 +34,9 @@ input_shapes (n ∷ nodes) = cond (is_input n.op) (n.shape ∷ input_shapes node
 abbrev pub AreApart : List (List ℕ) → Type 0
 AreApart names = (j k : ℕ) → j < k → k < length names → bytes_eq (name_at names k) (name_at names j) ≡ false
 
--- a job can be run: each input node has a file, and the nodes that are saved are there, each in a file of its own
+-- a job can be run: each input node has a file, and there are nodes to save, each of them in a file of its own
 pub record IsRunnable (p : Plan) : Type 0 where
   pub inputs : length p.inputs ≡ length (input_shapes p.nodes)
   pub saves : (k : ℕ) → k < length p.saves → slice_index_or (nodes_saved p) k 0 < length p.nodes
   pub apart : AreApart (names_saved p)
+  pub some : 0 < length p.saves

@@ -42,8 +42,8 @@ pub enum Halt {
     OutOfMemory,
 }
 
-// The laws of lowering hold of a job. It does nothing.
-fn laws_hold(job: &Job)
+/// The laws of lowering hold of a job. It does nothing.
+pub fn laws_hold(job: &Job)
     requires { IsRunnable (plan_of job.now) }
     ensures { (named : Named) → HasLaws (plan_of job.now) named }
 {
@@ -149,8 +149,8 @@ fn index_of(alloc: Global, counts: &Dims, place: u32) -> Result<Dims, AllocError
     Ok(Dims::from_vec(numbers))
 }
 
-// A zero divisor in the block with this name. What has no name divides nothing.
-fn halt_at(alloc: Global, job: &Job, blocks: &[Dims], name: Name) -> Halt
+/// A zero divisor in the block with this name. What has no name divides nothing.
+pub fn halt_at(alloc: Global, job: &Job, blocks: &[Dims], name: Name) -> Halt
     requires blocks { blocks.now ≡ counts_made job.now.expr }
     requires there { HasBlock job.now.expr name }
     ensures { IsZeroOf (plan_of job.now) name result }

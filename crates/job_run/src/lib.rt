@@ -19,6 +19,7 @@ mod load;
 mod lowering;
 mod run;
 
+pub use blocks::{Halt, halt_at, laws_hold};
 pub use create::create_files;
 pub use ends::{Ended, FileError};
 pub use inputs::{Inputs, open_inputs};

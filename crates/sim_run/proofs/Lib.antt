@@ -1,8 +1,6 @@
 pub mod Manned
 pub mod Appending
-pub mod Ending
-pub mod Finishing
-pub mod Over
-pub mod Reading
+pub mod Filling
+pub mod Reached
+pub mod Wanted
 pub mod Simulating
-pub mod Values

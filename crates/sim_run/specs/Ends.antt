@@ -1,65 +1,68 @@
 -- How the simulated run of a job ends, why it ends so, and what it leaves.
-use Rattle.std.specs.Prelude.{◌≡◌, ◌⊎◌, ℕ, List}
+use Rattle.std.specs.Prelude.{◌≡◌, ◌⊎◌, ℕ, List, IfSome}
 use Rattle.io_edge.specs.Cause.{Rose}
 use Rattle.io_edge.specs.Content.{followed_by}
 use Rattle.io_edge.specs.View.{View, Files, raised_by}
 use Rattle.cluster_msgs.specs.declared.events.Report.{Report}
 use Rattle.cluster_rules.specs.World.{Job}
 use Rattle.job_run.specs.declared.ends.Ended.{Ended}
-use Rattle.job_run.specs.declared.ends.Ended.TheVariants.{Done, File, Zero, ReadFault, WriteFault, OutOfMemory}
-use Rattle.job_run.specs.Inputs.{InputRefused}
+use Rattle.job_run.specs.declared.ends.Ended.TheVariants.{Done, Limit, File, Zero, ReadFault, WriteFault, OutOfMemory}
+use Rattle.job_run.specs.Inputs.{InputsFit, InputRefused, told_all}
 use Rattle.job_run.specs.Part.{IsNoneOf}
 use Rattle.job_run.specs.Plan.{Plan, names_saved}
-use Rattle.job_run.specs.Runs.{HasValues, Saves as RunSaves, Opened as RunOpened, Created as RunCreated, PrintsFront, Valued as RunValued}
+use Rattle.job_run.specs.Runs.{HasFault, HasValues, IsSmall, Cause as RunCause, Saves as RunSaves, Opened as RunOpened, Created as RunCreated, PrintsFront, Looked}
 use Rattle.sim_words.specs.declared.sim.SimWords.{SimWords}
 use Rattle.sim_run.specs.declared.ends.SimEnded.{SimEnded}
-use Rattle.sim_run.specs.declared.ends.SimEnded.TheVariants.{NotBuilt, Keys, Events, Turns, Ran}
-use Rattle.sim_run.specs.declared.form.Addition.{Addition}
-use Rattle.sim_run.specs.Forms.{IsAddition, HasManyChunks, IsSimulable, IsTextJob}
+use Rattle.sim_run.specs.declared.ends.SimEnded.TheVariants.{Events, Turns, Ran}
+use Rattle.sim_run.specs.Jobs.{IsTextJob}
 use Rattle.sim_run.specs.Simulated.{IsServed, IsOutOfTurns, IsOutOfEvents, SimulatesTo}
 use Rattle.sim_run.specs.Texts.{lines_of}
 
--- why a run ends so, where it ends as other runs do
-abbrev pub RanCause : Plan → View → View → Ended → Type 0
-RanCause p old new Done = IsSimulable p × HasValues p old.files
-RanCause p old new (File place error) = IsSimulable p × InputRefused p old.files place error
-RanCause p old new (Zero node) = ⊥
-RanCause p old new ReadFault = IsSimulable p × Rose old.read_faults new.read_faults
-RanCause p old new WriteFault = IsSimulable p × HasValues p old.files × (Rose old.write_faults new.write_faults ⊎ Rose old.print_faults new.print_faults)
-RanCause p old new OutOfMemory = Unit {0}
+-- a fact of a simulation whose inputs are told
+abbrev pub WhereTold : Plan → Files → Type 0 → Type 0
+WhereTold p files P = IfSome (told_all files.held p.inputs) (λ contents. P)
 
+-- Why a run ends so, where it ends as other runs do. A zero divisor is met by some needed block: not always the first.
+abbrev pub RanCause : Plan → View → View → Ended → Type 0
+RanCause p old new (Zero node block) = IsSmall p × HasFault p old.files node block
+RanCause p old new WriteFault = IsSmall p × HasValues p old.files × (Rose old.write_faults new.write_faults ⊎ Rose old.print_faults new.print_faults)
+RanCause p old new end = RunCause p old new end
+
+-- Why a simulation ends so. Where the turns or the events come to their end, the inputs are as declared, and where they are told, the drawn events do so.
 abbrev pub Cause : Plan → SimWords → View → View → SimEnded → Type 0
-Cause p s old new NotBuilt = (a : Addition) → ¬ IsAddition p a
-Cause p s old new Keys = HasManyChunks p
-Cause p s old new Events = SimulatesTo (IsTextJob p old.files s) s IsOutOfEvents
-Cause p s old new Turns = SimulatesTo (IsTextJob p old.files s) s IsOutOfTurns
+Cause p s old new Events = IsSmall p × InputsFit p old.files × WhereTold p old.files (SimulatesTo (IsTextJob p old.files s) s IsOutOfEvents)
+Cause p s old new Turns = IsSmall p × InputsFit p old.files × WhereTold p old.files (SimulatesTo (IsTextJob p old.files s) s IsOutOfTurns)
 Cause p s old new (Ran end) = RanCause p old new end
 
--- the saved file: as a run of the same job in the calling thread leaves it
+-- The saved files: as a run of the same job in the calling thread leaves them, and as they were where the client didn't get all.
+abbrev pub RanSaves : Plan → Files → Files → Ended → Type 0
+RanSaves p old new (Zero node block) = new.held ≡ old.held
+RanSaves p old new end = RunSaves p old new end
+
 abbrev pub Saves : Plan → Files → Files → SimEnded → Type 0
-Saves p old new (Ran end) = RunSaves p old new end
+Saves p old new (Ran end) = RanSaves p old new end
 Saves p old new end = new.held ≡ old.held
 
--- no name is opened before the job is known to be one that can be simulated
+-- how often each name was opened: none before the limits are known to be kept
 abbrev pub Opened : List (List ℕ) → (List ℕ → ℕ) → (List ℕ → ℕ) → SimEnded → Type 0
-Opened names old new NotBuilt = new ≡ old
-Opened names old new Keys = new ≡ old
 Opened names old new Events = new ≡ raised_by names old
 Opened names old new Turns = new ≡ raised_by names old
 Opened names old new (Ran end) = RunOpened names old new end
 
+-- the same of creations: none before the client got all
+abbrev pub RanCreated : List (List ℕ) → (List ℕ → ℕ) → (List ℕ → ℕ) → Ended → Type 0
+RanCreated names old new (Zero node block) = new ≡ old
+RanCreated names old new end = RunCreated names old new end
+
 abbrev pub Created : List (List ℕ) → (List ℕ → ℕ) → (List ℕ → ℕ) → SimEnded → Type 0
-Created names old new (Ran end) = RunCreated names old new end
+Created names old new (Ran end) = RanCreated names old new end
 Created names old new end = new ≡ old
 
--- the lines of a simulation of the text's job in which the client got all
+-- the lines of a simulation of the text's job in which the client got all; where the inputs are told, the drawn events are so
 pub record PrintsServed (p : Plan) (s : SimWords) (files : Files) (Printed : List ℕ → Type 0) : Type 0 where
-  pub job : Job
-  pub wanted : List ℕ
-  pub is : IsTextJob p files s job wanted
   pub report : Report
   pub turns : ℕ
-  pub served : IsServed job wanted s report turns
+  pub served : WhereTold p files (SimulatesTo (IsTextJob p files s) s (λ job wanted s. IsServed job wanted s report turns))
   pub printed : Printed (lines_of p report turns)
 
 abbrev pub RanPrints : Plan → SimWords → View → View → Ended → Type 0
@@ -76,7 +79,7 @@ Prints p s old new end = new.out ≡ old.out
 pub record SimulatesPlan (p : Plan) (s : SimWords) (old new : View) (end : SimEnded) : Type 0 where
   pub cause : Cause p s old new end
   pub saves : Saves p old.files new.files end
-  pub valued : RunValued p p.inputs old.files new.files
+  pub looked : Looked p p.inputs old.files new.files
   pub others : (n : List ℕ) → IsNoneOf n (names_saved p) → new.files.held n ≡ old.files.held n
   pub tells : new.files.tells ≡ old.files.tells
   pub opened : Opened p.inputs old.files.opened new.files.opened end

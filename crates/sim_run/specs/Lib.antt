@@ -1,5 +1,7 @@
 pub mod Simulated
-pub mod Forms
-pub mod Serving
+pub mod Jobs
 pub mod Texts
 pub mod Ends
+pub mod Filling
+pub mod Saving
+pub mod Serving

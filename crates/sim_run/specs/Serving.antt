@@ -1,92 +1,113 @@
--- What the private functions answer of the form of a job, and of the simulation of an addition.
-use Rattle.std.specs.Prelude.{◌≡◌, ◌≤◌, ◌<◌, ◌+◌, ◌*◌, ◌^◌, ℕ, ℤ, List, length, map, Some, None, false}
-use Rattle.array_expr.specs.declared.expr.Node.{Node}
-use Rattle.cluster_msgs.specs.Shape.{deps_of}
-use Rattle.cluster_msgs.specs.Values.{val, faulty}
-use Rattle.cluster_world.specs.declared.state.State.{State}
-use Rattle.cluster_world.specs.Worlds.{cluster}
-use Rattle.cluster_rules.specs.Runs.{event_limit}
+-- What the private functions answer of a simulation over open inputs.
+use Rattle.std.specs.Prelude.{◌≡◌, ◌≤◌, ◌<◌, ℕ, List, IsTrue, map, length, Some}
+use Rattle.io_edge.specs.Cause.{Rose}
+use Rattle.io_edge.specs.View.{View, Files, OnlyWrites, raised_by}
 use Rattle.cluster_msgs.specs.declared.events.Report.{Report}
-use Rattle.cluster_rules.specs.Draw.{Plan as SimPlan, Served}
-use Rattle.cluster_rules.specs.World.{Job, World}
-use Rattle.cluster_sim.specs.Simulations.{IsReported, IsExhausted, IsUnfinished}
+use Rattle.cluster_rules.specs.World.{Job}
+use Rattle.task_graph.specs.Graphs.{operation, shape_of}
 use Rattle.cluster_sim.specs.declared.act.SimError.{SimError}
 use Rattle.cluster_sim.specs.declared.act.SimError.TheVariants as sim
-use Rattle.addition_job.specs.Chunks.{added, chunk_at, chunks_in as chunk_count, joined}
-use Rattle.addition_job.specs.Addition.{Addition as JobOf, IsAdditionJob, chunk, chunk_total, made}
+use Rattle.lowering_laws.specs.Lowered.{lowered}
+use Rattle.lowering_laws.specs.Named.{layout_of, name_of}
 use Rattle.job_run.specs.declared.ends.Ended.{Ended}
-use Rattle.job_run.specs.declared.ends.Ended.TheVariants.{OutOfMemory}
+use Rattle.job_run.specs.declared.ends.Ended.TheVariants.{Done, Zero, ReadFault, WriteFault, OutOfMemory}
+use Rattle.job_run.specs.Lowering.{counts_made}
+use Rattle.job_run.specs.Part.{AreLeft, AreWhole, IsNoneOf, RaisedAtMost}
+use Rattle.job_run.specs.Plan.{Plan, names_saved, nodes_saved}
+use Rattle.job_run.specs.Runs.{IsSmall}
+use Rattle.job_run.specs.Values.{Named, IsFaulty, MeetsNone, files_of, index_of, tasks_of}
 use Rattle.sim_words.specs.declared.sim.SimWords.{SimWords}
 use Rattle.sim_run.specs.declared.ends.SimEnded.{SimEnded}
-use Rattle.sim_run.specs.declared.ends.SimEnded.TheVariants.{NotBuilt, Keys, Events, Turns, Ran}
-use Rattle.sim_run.specs.declared.form.Addition.{Addition}
-use Rattle.sim_run.specs.Forms.{operations, chunks_in, chunks_most, IsRunOf}
-use Rattle.sim_run.specs.Simulated.{IsServed, IsOutOfTurns, IsOutOfEvents, SimulatesTo}
+use Rattle.sim_run.specs.declared.ends.SimEnded.TheVariants.{Events, Turns, Ran}
+use Rattle.sim_run.specs.declared.serving.Wanted.{Wanted}
+use Rattle.sim_run.specs.Jobs.{wanted_of}
+use Rattle.sim_run.specs.Simulated.{running, IsServed, IsOutOfTurns, IsOutOfEvents}
 
--- the nodes are this addition's, whose number is from 0 to 2^63 - 1
-pub record AreNodesOf (nodes : List Node) (a : Addition) : Type 0 where
-  pub made_by : map (λ n. n.op) nodes ≡ operations a
-  pub added : a.addend < 2 ^ 63
+-- the job that is simulated, where the inputs hold these elements
+abbrev pub job_named : Plan → SimWords → Named → Job
+job_named p s named = running s (shape_of (tasks_of p)) (operation named (tasks_of p))
 
--- there aren't too many elements, and a chunk has from 1 to 2^20
-pub record IsBounded (a : Addition) : Type 0 where
-  pub short : a.count ≤ 2 ^ 20
-  pub some : 1 ≤ a.size
-  pub small : a.size ≤ 2 ^ 20
-
--- an addition that can be simulated
-pub record IsWithin (a : Addition) : Type 0 where
-  pub bounded : IsBounded a
-  pub added : a.addend < 2 ^ 63
-  pub few : chunks_in a ≤ chunks_most
-
--- what is known of every addition as a job: the values of its additions, that no key is at fault, and that its chunks make up the whole
-unfoldable pub KnowsAdditions : Type 0
-KnowsAdditions =
-    ((j : JobOf) → IsAdditionJob j → (i : ℕ) → i < chunk_total j → val (deps_of j.shape) (made j) (2 * i + 1) ≡ Some (added j.addend (chunk j i)))
-    × ((j : JobOf) → IsAdditionJob j → (k : ℕ) → faulty (deps_of j.shape) (val (deps_of j.shape) (made j)) k ≡ false)
-    × ((cells : List ℤ) (size : ℕ) (addend : ℤ) → 1 ≤ size → joined (λ i. added addend (chunk_at cells size i)) (chunk_count (length cells) size) ≡ added addend cells)
-
--- the client's block of each addition is its chunk of the sum
-pub record HasSums {F : Type 0} (s : State JobOf (List ℤ) F) : Type 0 where
-  pub each : (i : ℕ) → i < chunk_total s.job → (cluster s).blocks.got 1 (2 * i + 1) ≡ Some (added s.job.addend (chunk s.job i))
+-- what is wanted of a plan: the keys of its saved blocks, and what is known of them
+pub record IsWantedOf (p : Plan) (w : Wanted) : Type 0 where
+  pub all_is : w.all ≡ wanted_of p
+  pub saved_is : w.saved ≡ (lowered p.nodes (nodes_saved p)).saved
+  pub layouts_are : w.layouts ≡ map (layout_of p.nodes) (nodes_saved p)
+  pub names_are : w.names ≡ (lowered p.nodes (nodes_saved p)).names
+  pub blocks_are : w.blocks ≡ counts_made p.nodes
+  pub small : IsSmall p
 
 -- how a run ends whose simulation gave no result
 abbrev pub ended_of : SimError → SimEnded
 ended_of sim.Turns = Turns
-ended_of sim.Feed = Ran OutOfMemory
+ended_of sim.Feed = Ran ReadFault
 ended_of sim.Spent = Events
 ended_of sim.OutOfMemory = Ran OutOfMemory
 
-abbrev pub IsStarved : Ended → Type 0
-IsStarved OutOfMemory = Unit {0}
-IsStarved end = ⊥
+-- the block that a key is
+pub record IsBlockAt (p : Plan) (key node : ℕ) (block : List ℕ) : Type 0 where
+  pub number : ℕ
+  pub name : name_of p.nodes (nodes_saved p) key ≡ Some (node, number)
+  pub is_block : block ≡ index_of p node number
 
--- the client got all of a job
-pub record IsFound (j : Job) (words : ℕ → ℕ) (p : SimPlan) (wanted : List ℕ) (report : Report) (turns : ℕ) : Type 0 where
-  pub world : World
-  pub reported : IsReported j words p wanted (Served turns None) world report
+-- how a run ends that is told of a zero divisor at a key
+abbrev pub EndsAtKey : Plan → ℕ → Ended → Type 0
+EndsAtKey p key (Zero node block) = IsBlockAt p key node block
+EndsAtKey p key OutOfMemory = Unit {0}
+EndsAtKey p key end = ⊥
 
-pub record IsCutOff (j : Job) (words : ℕ → ℕ) (p : SimPlan) (wanted : List ℕ) : Type 0 where
-  pub world : World
-  pub exhausted : IsExhausted j words p wanted world
+-- why the client's blocks weren't all saved; the two facts are the causes of faults
+abbrev pub RanStops : Plan → Named → Type 0 → Type 0 → Type 0 → Ended → Type 0
+RanStops p named told reads writes (Zero node block) = told → IsFaulty p named node block
+RanStops p named told reads writes ReadFault = reads
+RanStops p named told reads writes WriteFault = (told → MeetsNone p named) × writes
+RanStops p named told reads writes OutOfMemory = Unit {0}
+RanStops p named told reads writes end = ⊥
 
--- why the client didn't get all
-abbrev pub IsHalted : Job → (ℕ → ℕ) → SimPlan → List ℕ → SimEnded → Type 0
-IsHalted j words p wanted NotBuilt = ⊥
-IsHalted j words p wanted Keys = ⊥
-IsHalted j words p wanted Events = IsUnfinished j words p wanted event_limit
-IsHalted j words p wanted Turns = IsCutOff j words p wanted
-IsHalted j words p wanted (Ran end) = IsStarved end
+abbrev pub Stops : Plan → SimWords → Named → Type 0 → Type 0 → Type 0 → SimEnded → Type 0
+Stops p s named told reads writes Events = told → IsOutOfEvents (job_named p s named) (wanted_of p) s
+Stops p s named told reads writes Turns = told → IsOutOfTurns (job_named p s named) (wanted_of p) s
+Stops p s named told reads writes (Ran end) = RanStops p named told reads writes end
 
--- the client got all of an addition
-abbrev pub IsAdded : Addition → SimWords → List ℤ → Report → ℕ → Type 0
-IsAdded a s cells report turns = SimulatesTo (IsRunOf a cells s) s (λ job wanted s. IsServed job wanted s report turns)
+-- an end at which no file was created
+abbrev pub IsBare : SimEnded → Type 0
+IsBare Events = Unit {0}
+IsBare Turns = Unit {0}
+IsBare (Ran (Zero node block)) = Unit {0}
+IsBare (Ran ReadFault) = Unit {0}
+IsBare (Ran end) = ⊥
 
--- why an addition wasn't served
-abbrev pub IsStopped : Addition → SimWords → List ℤ → SimEnded → Type 0
-IsStopped a s cells NotBuilt = ⊥
-IsStopped a s cells Keys = ⊥
-IsStopped a s cells Events = SimulatesTo (IsRunOf a cells s) s IsOutOfEvents
-IsStopped a s cells Turns = SimulatesTo (IsRunOf a cells s) s IsOutOfTurns
-IsStopped a s cells (Ran end) = IsStarved end
+-- nothing but creations and writes of the saved files
+pub record SavesFiles (p : Plan) (old new : View) : Type 0 where
+  pub others : (n : List ℕ) → IsNoneOf n (names_saved p) → new.files.held n ≡ old.files.held n
+  pub tells : new.files.tells ≡ old.files.tells
+  pub opened : new.files.opened ≡ old.files.opened
+  pub created : RaisedAtMost (names_saved p) old.files.created new.files.created
+  pub only : OnlyWrites old new
+  pub write_later : old.write_faults ≤ new.write_faults
+
+-- nothing but reads, creations and writes of the saved files
+pub record ServesFiles (p : Plan) (old new : View) : Type 0 where
+  pub others : (n : List ℕ) → IsNoneOf n (names_saved p) → new.files.held n ≡ old.files.held n
+  pub tells : new.files.tells ≡ old.files.tells
+  pub opened : new.files.opened ≡ old.files.opened
+  pub created : RaisedAtMost (names_saved p) old.files.created new.files.created
+  pub out : new.out ≡ old.out
+  pub err : new.err ≡ old.err
+  pub note_faults : new.note_faults ≡ old.note_faults
+  pub print_faults : new.print_faults ≡ old.print_faults
+  pub read_later : old.read_faults ≤ new.read_faults
+  pub write_later : old.write_faults ≤ new.write_faults
+
+-- the client got all, and its blocks were saved
+pub record ServesAll (p : Plan) (s : SimWords) (named : Named) (told : Type 0) (old new : Files) (report : Report) (turns : ℕ) : Type 0 where
+  pub served : told → IsServed (job_named p s named) (wanted_of p) s report turns
+  pub values : told → MeetsNone p named
+  pub whole : told → IsTrue old.tells → AreWhole (names_saved p) (files_of p named) new
+  pub left : told → AreLeft (names_saved p) (files_of p named) old new
+  pub created : new.created ≡ raised_by (names_saved p) old.created
+
+-- it didn't, or they weren't all saved; the two facts are the causes of faults
+pub record ServesPart (p : Plan) (s : SimWords) (named : Named) (told reads writes : Type 0) (old new : Files) (end : SimEnded) : Type 0 where
+  pub cause : Stops p s named told reads writes end
+  pub left : told → AreLeft (names_saved p) (files_of p named) old new
+  pub bare : IsBare end → (new.held ≡ old.held) × (new.created ≡ old.created)

@@ -9,10 +9,6 @@ use std::alloc::AllocError;
 /// How a simulated run of a job ends.
 #[derive(Drop)]
 pub enum SimEnded {
-    /// The job isn't one of those that can be simulated so far.
-    NotBuilt,
-    /// It has more chunks than keys are given.
-    Keys,
     /// The simulation took 2^40 events, and no end was reached.
     Events,
     /// No turn was left of the bound on quiet runs, or nothing moved.

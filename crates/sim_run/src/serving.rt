@@ -1,168 +1,130 @@
-//! The simulation of an addition.
-ghost use Rattle.std.specs.Prelude.{◌≡◌, ◌≢◌, ◌≤◌, ◌<◌, ◌+◌, ◌*◌, ◌++◌, [], ◌∷◌, length, pos, IfOk, IfErr, OnOk};
-ghost use Rattle.addition_job.specs.Chunks.{added, joined};
-ghost use Rattle.addition_job.specs.Addition.{IsAdditionJob, additions, chunk, chunk_total, made};
-ghost use Rattle.cluster_sim.specs.Drawn.{word_of};
+//! The simulation of a job's graph over its open inputs.
+ghost use Rattle.std.specs.Prelude.{◌≡◌, ◌++◌, [], length, slice_index_or, None, IfOk, IfErr, OnOk};
+ghost use Rattle.std.specs.List.{flat_map};
+ghost use Rattle.io_edge.specs.Cause.{Rose};
+ghost use Rattle.block_lowering.specs.Jobs.{FitsFeed, TellsFeed};
+ghost use Rattle.cluster_laws.specs.Blocks.{setting_of};
 ghost use Rattle.cluster_sim.specs.Openings.{IsOpening};
-ghost use Rattle.cluster_sim.specs.Plans.{plan_of, IsPlan};
-ghost use Rattle.cluster_world.specs.Worlds.{setting, running};
-ghost use Rattle.cluster_laws.specs.Blocks.{job_of, setting_of};
-ghost use Rattle.sim_run.specs.Serving.{HasSums, IsAdded, IsFound, IsHalted, IsStopped, IsWithin, KnowsAdditions, ended_of};
+ghost use Rattle.cluster_world.specs.Worlds.{setting};
+ghost use Rattle.task_graph.specs.Graphs.{shape_of};
+ghost use Rattle.job_run.specs.Jobs.{plan_of};
+ghost use Rattle.job_run.specs.Loading.{AreHeads};
+ghost use Rattle.job_run.specs.Lowering.{IsGraphOf};
+ghost use Rattle.job_run.specs.Plan.{IsRunnable, input_shapes};
+ghost use Rattle.job_run.specs.Values.{tasks_of};
+ghost use Rattle.sim_run.specs.Serving.{EndsAtKey, IsWantedOf, SavesFiles, ServesAll, ServesFiles, ServesPart, ended_of};
 ghost use Rattle.sim_run.specs.Simulated.{AreSettings};
 
 use crate::ends::SimEnded;
-use crate::form::Addition;
-use addition_job::laws::{chunks_are_whole, nothing_is_at_fault, value_of_addition};
-use addition_job::{AdditionJob, NoFeed, wanted};
-use cluster_msgs::Report;
+use crate::saving::{CLIENT, save_all};
+use block_lowering::sources::Name;
+use block_lowering::{Elements, JobGraph, Lowered};
+use chunk_layout::Layout;
+use cluster_msgs::{JobSpec, KeyList, Report, Sequence};
 use cluster_sim::{SimError, SimPlan, simulate};
 use cluster_world::World;
-use job_run::Ended;
-use nd_shape::{Block, Shape};
+use io_edge::{OpenFault, Site};
+use job_run::{Ended, Halt, Inputs, Job, halt_at, laws_hold};
+use nd_shape::Dims;
 use sim_words::SimWords;
 use std::alloc::{AllocError, Global};
 
-/// The one client of a simulation.
-const CLIENT: u32 = 1;
-
-/// What a simulation gave in which the client got all: the sum, the report, and how many turns it took.
+/// What a simulation gave whose client got all: the report, and how many turns it took.
 #[derive(Drop)]
 pub struct Served {
-    pub sum: Block,
     pub report: Report,
     pub turns: u64,
 }
 
-/// The laws of `addition_job` that the proofs below cite, as one fact.
-fn known()
-    ensures { KnowsAdditions }
-{
-    value_of_addition();
-    nothing_is_at_fault();
-    chunks_are_whole();
+/// What the client wants: the keys of all saved blocks. And what is known of them: those of each save, in row-major order, with
+/// the layout of its array; the node and block of each key of the graph; for each node how many chunks its array has on each axis.
+#[derive(Drop)]
+pub struct Wanted {
+    pub all: KeyList,
+    pub saved: Sequence<KeyList>,
+    pub layouts: Sequence<Layout>,
+    pub names: Sequence<Name>,
+    pub blocks: Sequence<Dims>,
 }
 
-/// How the run ends where the simulation gave no result. An addition reads from no feed, so none fails.
+// How the run ends where the simulation gave no result.
 fn ended(error: SimError) -> SimEnded
-    requires { error ≢ SimError.Feed }
     ensures { result ≡ ended_of error }
 {
     match error {
         SimError::Turns => SimEnded::Turns,
-        SimError::Feed => unreachable!(),
+        SimError::Feed => SimEnded::Ran(Ended::ReadFault),
         SimError::Spent => SimEnded::Events,
         SimError::OutOfMemory => SimEnded::Ran(Ended::OutOfMemory),
     }
 }
 
-/// Appends the client's block of a chunk.
-fn append_chunk(
-    cells: &mut Vec<i64>,
-    world: &World<AdditionJob>,
-    place: u32,
-) -> Result<(), AllocError>
-    requires sums { HasSums world.now }
-    requires within { place < chunk_total world.now.job }
-    requires few { chunk_total world.now.job ≤ 16383 }
-    ensures { OnOk result (cells.new.items ≡ cells.old.items ++ added world.now.job.addend (chunk world.now.job place)) }
+// Puts keys at the end.
+fn push_keys(all: &mut Vec<u32>, keys: &[u32]) -> Result<(), AllocError>
+    ensures { OnOk result (all.new.items ≡ all.old.items ++ keys.now) }
 {
-    match world.got(CLIENT, 2 * place + 1) {
-        Some(chunk) => cells.extend_from_slice(chunk.cells()),
-        None => unreachable!(),
+    for key in keys {
+        all.push(*key)?;
+    }
+    Ok(())
+}
+
+// All of them, one list after another.
+fn joined_keys(alloc: Global, lists: &[KeyList]) -> Result<KeyList, AllocError>
+    ensures { IfOk result (λ keys. keys ≡ flat_map (λ ks. ks) lists.now) }
+{
+    let mut all = Vec::new(alloc);
+    for keys in lists {
+        push_keys(&mut all, keys.as_slice())?;
+    }
+    Ok(KeyList::from_vec(all))
+}
+
+// The node and the block that a key is, where it is one's own.
+fn name_at(names: &[Name], key: u32) -> Name
+    ensures { result ≡ slice_index_or names.now key None }
+{
+    match names.get(key as usize) {
+        Some(name) => *name,
+        None => None,
     }
 }
 
-/// The client's blocks, one after another.
-fn sums(alloc: Global, world: &World<AdditionJob>, chunks: u32) -> Result<Vec<i64>, AllocError>
-    requires sums { HasSums world.now }
-    requires chunks { chunks ≡ chunk_total world.now.job }
-    requires few { chunks ≤ 16383 }
-    ensures { IfOk result (λ v. v.items ≡ joined (λ i. added world.now.job.addend (chunk world.now.job i)) chunks) }
+// How the run ends where the client was told of a zero divisor at a key.
+fn ended_at(alloc: Global, job: &Job, wanted: &Wanted, key: u32) -> Ended
+    requires runs { IsRunnable (plan_of job.now) }
+    requires wanted { IsWantedOf (plan_of job.now) wanted.now }
+    ensures { EndsAtKey (plan_of job.now) key result }
 {
-    let mut cells = Vec::new(alloc);
-    for place in 0..chunks {
-        append_chunk(&mut cells, world, place)?;
+    laws_hold(job);
+    let name = name_at(wanted.names.as_slice(), key);
+    match halt_at(alloc, job, wanted.blocks.as_slice(), name) {
+        Halt::Zero { node, block } => Ended::Zero { node, block },
+        _ => Ended::OutOfMemory,
     }
-    Ok(cells)
 }
 
-/// What the client got of a job: the elements of the sum, the report, and after how many turns.
-#[derive(Drop)]
-struct Found {
-    cells: Vec<i64>,
-    report: Report,
-    turns: u64,
-}
-
-/// Simulates the job of a world that has just been made.
-fn simulate_world(
+// Simulates the job of a world that was just made, and saves what its client got.
+fn simulate_world<S: Site, E: Elements + Send + Sync + Drop>(
     alloc: Global,
-    world: &mut World<AdditionJob>,
-    number: u64,
-    plan: &SimPlan,
-    chunks: u32,
-) -> Result<Found, SimEnded>
-    requires plan { IsPlan (plan_of plan.now) }
-    requires opening { IsOpening made world.old }
-    requires graph { (setting world.old).shape ≡ world.old.job.shape }
-    requires job { IsAdditionJob world.old.job }
-    requires chunks { chunks ≡ chunk_total world.old.job }
-    ensures found { IfOk result (λ f. IsFound (running made world.old) (word_of number) (plan_of plan.now) (additions chunks) f.report f.turns) }
-    ensures cells { IfOk result (λ f. f.cells.items ≡ added world.old.job.addend world.old.job.cells) }
-    ensures halted { IfErr result (IsHalted (running made world.old) (word_of number) (plan_of plan.now) (additions chunks)) }
-{
-    known();
-    let keys = wanted(alloc, chunks)?;
-    let end = match simulate(alloc, world, number, plan, &keys) {
-        Ok(end) => end,
-        Err(error) => return Err(ended(error)),
-    };
-    let cells = sums(alloc, world, chunks)?;
-    Ok(Found {
-        cells,
-        report: end.report,
-        turns: end.turns,
-    })
-}
-
-/// Simulates a job from its opening on. The world is let go by one call: anywhere else that is costly to prove.
-fn simulate_addition(
-    alloc: Global,
-    job: AdditionJob,
-    number: u64,
-    saturation: u32,
-    plan: &SimPlan,
-) -> Result<Found, SimEnded>
-    requires saturation { (1 ≤ saturation) × (saturation ≤ 1000) }
-    requires plan { IsPlan (plan_of plan.now) }
-    requires job { IsAdditionJob job }
-    ensures found { IfOk result (λ f. IsFound (job_of (setting_of job.shape 1 saturation) (made job)) (word_of number) (plan_of plan.now) (additions (chunk_total job)) f.report f.turns) }
-    ensures cells { IfOk result (λ f. f.cells.items ≡ added job.addend job.cells) }
-    ensures halted { IfErr result (IsHalted (job_of (setting_of job.shape 1 saturation) (made job)) (word_of number) (plan_of plan.now) (additions (chunk_total job))) }
-{
-    let chunks = job.chunks();
-    let mut world = World::new(alloc, job, NoFeed, CLIENT, saturation)?;
-    let found = simulate_world(alloc, &mut world, number, plan, chunks);
-    drop(world);
-    found
-}
-
-/// Simulates an addition over these elements.
-///
-/// # Errors
-/// `Turns` and `Events` where the simulation came to no end, and `Ran(OutOfMemory)` where no memory is left.
-pub fn serve(
-    alloc: Global,
-    addition: Addition,
-    cells: Vec<i64>,
+    site: &mut S,
+    job: &Job,
+    world: &mut World<JobGraph<S::In, E>>,
+    wanted: &Wanted,
     words: SimWords,
 ) -> Result<Served, SimEnded>
-    requires within { IsWithin addition }
-    requires count { length cells.items ≡ addition.count }
+    requires runs { IsRunnable (plan_of job.now) }
+    requires wanted { IsWantedOf (plan_of job.now) wanted.now }
     requires words { AreSettings words }
-    ensures served { IfOk result (λ s. IsAdded addition words cells.items s.report s.turns) }
-    ensures sum { IfOk result (λ s. s.sum ≡ record { shape = addition.count ∷ []; cells = added (pos addition.addend) cells.items }) }
-    ensures stopped { IfErr result (IsStopped addition words cells.items) }
+    requires opening { IsOpening ⟦<JobGraph<S::In, E> as JobSpec>⟧.operation world.old }
+    requires setting { setting world.old ≡ setting_of (shape_of (tasks_of (plan_of job.now))) 1 words.settings.saturation }
+    requires tasks { world.old.job.job.tasks ≡ tasks_of (plan_of job.now) }
+    ensures files { SavesFiles (plan_of job.now) (S.view site.old) (S.view site.new) }
+    ensures served { IfOk result (λ s. ServesAll (plan_of job.now) words E.named
+        (TellsFeed world.old.job.job.heads (S.In.files world.old.feed)) (S.view site.old).files (S.view site.new).files s.report s.turns) }
+    ensures stopped { IfErr result (ServesPart (plan_of job.now) words E.named (TellsFeed world.old.job.job.heads (S.In.files world.old.feed))
+        (Rose (S.In.count world.old.feed) (S.In.count world.new.feed)) (Rose (S.view site.old).write_faults (S.view site.new).write_faults)
+        (S.view site.old).files (S.view site.new).files) }
 {
     let SimWords { settings, script } = words;
     let plan = SimPlan {
@@ -170,12 +132,71 @@ pub fn serve(
         threads: settings.threads,
         script,
     };
-    let job = AdditionJob::new(alloc, cells, addition.size, addition.addend as i64)?;
-    let found = simulate_addition(alloc, job, settings.number, settings.saturation, &plan)?;
-    let sum = Block::new(Shape::line(alloc, addition.count)?, found.cells);
-    Ok(Served {
-        sum,
-        report: found.report,
-        turns: found.turns,
-    })
+    let end = match simulate(alloc, world, settings.number, &plan, &wanted.all) {
+        Ok(end) => end,
+        Err(error) => return Err(ended(error)),
+    };
+    if let Some(key) = end.zero {
+        return Err(SimEnded::Ran(ended_at(alloc, job, wanted, key)));
+    }
+    match save_all(alloc, site, job, world, wanted.saved.as_slice(), wanted.layouts.as_slice()) {
+        Ok(()) => Ok(Served {
+            report: end.report,
+            turns: end.turns,
+        }),
+        Err(OpenFault::Failed) => Err(SimEnded::Ran(Ended::WriteFault)),
+        Err(OpenFault::OutOfMemory) => Err(SimEnded::Ran(Ended::OutOfMemory)),
+    }
+}
+
+/// Simulates a job's graph over its open inputs, and saves what the client got. Where the client didn't get all, no file is
+/// created.
+///
+/// # Errors
+/// How the run ends: `Turns` and `Events` where the simulation came to no end, a zero divisor that the client was told of, a fault,
+/// or want of memory.
+pub fn serve<S: Site, E: Elements + Send + Sync + Drop>(
+    alloc: Global,
+    site: &mut S,
+    job: &Job,
+    lowered: Lowered,
+    inputs: Inputs<S::In>,
+    words: SimWords,
+) -> Result<Served, SimEnded>
+    requires runs { IsRunnable (plan_of job.now) }
+    requires graph { IsGraphOf (plan_of job.now) lowered }
+    requires heads { AreHeads (input_shapes job.now.expr) (S.In.files inputs.store) inputs.heads.items }
+    requires count { length inputs.heads.items ≡ length (input_shapes job.now.expr) }
+    requires fits { FitsFeed E.named inputs.heads.items (S.In.files inputs.store) }
+    requires fresh { S.In.count inputs.store ≡ 0 }
+    requires words { AreSettings words }
+    ensures files { ServesFiles (plan_of job.now) (S.view site.old) (S.view site.new) }
+    ensures served { IfOk result (λ s. ServesAll (plan_of job.now) words E.named
+        (TellsFeed inputs.heads.items (S.In.files inputs.store)) (S.view site.old).files (S.view site.new).files s.report s.turns) }
+    ensures stopped { IfErr result (ServesPart (plan_of job.now) words E.named (TellsFeed inputs.heads.items (S.In.files inputs.store))
+        (Rose (S.view site.old).read_faults (S.view site.new).read_faults) (Rose (S.view site.old).write_faults (S.view site.new).write_faults)
+        (S.view site.old).files (S.view site.new).files) }
+{
+    let Inputs { store, heads } = inputs;
+    let Lowered {
+        graph,
+        names,
+        saved,
+        layouts,
+        blocks,
+    } = lowered;
+    let all = joined_keys(alloc, saved.as_slice())?;
+    let wanted = Wanted {
+        all,
+        saved,
+        layouts,
+        names,
+        blocks,
+    };
+    let graph = JobGraph::<S::In, E>::new(alloc, graph, heads)?;
+    let saturation = words.settings.saturation;
+    let mut world = World::new(alloc, graph, store, CLIENT, saturation)?;
+    let served = simulate_world(alloc, site, job, &mut world, &wanted, words);
+    site.give_store(world.into_feed());
+    served
 }
