@@ -12,6 +12,7 @@ the program.
 """
 import io
 import os
+import re
 
 import numpy as np
 
@@ -674,7 +675,7 @@ def by_chance():
     say('site 65536 0')
     chance = Chance(4242, longest=4)
     for place in range(200):
-        lines = chance.job((2, 6), 40)
+        lines = re.sub(r'save (\w) "(\w).npy"', r'save \1 "out\2.npy"', chance.job((2, 6), 40))
         run_of = lower(lines)
         inputs = [node for node in run_of.job.nodes if node.op == 'input']
         arrays = [chance_inputs(chance, node) for node in inputs]
