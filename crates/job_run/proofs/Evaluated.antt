@@ -9,7 +9,8 @@ use Rattle.nd_shape.specs.Block.{Array}
 use Rattle.array_expr.specs.Node.{shape_at}
 use Rattle.array_expr.specs.Elem.{Cells}
 use Rattle.npy_codec.specs.declared.head.Head.{Head}
-use Rattle.block_lowering.specs.Jobs.{TellsFeed}
+use Rattle.task_graph.specs.declared.graph.Task.{Task}
+use Rattle.block_lowering.specs.Jobs.{Job, TellsFeed}
 use Rattle.saved_files.specs.Filling.{IsFilling, IsPart, file_of as bytes_of}
 use Rattle.saved_files.specs.Saving.{Saving, saving_at, GivesBack, IsFresh, IsLeft, IsOf, TakesAll, WereCreated}
 use Rattle.job_run.specs.declared.blocks.Halt.{Halt}
@@ -18,7 +19,7 @@ use Rattle.job_run.specs.declared.ends.Ended.{Ended}
 use Rattle.job_run.specs.declared.ends.Ended.TheVariants.{Done, Zero, ReadFault, WriteFault, OutOfMemory}
 use Rattle.job_run.specs.Evaluating.{AreFresh, AreSameFiles, EvaluatesInputs, EvaluationCause, EvaluationCreates, EvaluationSaves, FilesHold, FilesRight, FilesWhole, HaltCause, LeavesAll, array_at, node_at}
 use Rattle.job_run.specs.Part.{AreLeft, AreWhole, IsNoneOf, RaisedAtMost}
-use Rattle.job_run.specs.Plan.{AreApart, Plan, Saved, IsRunnable, name_at, names_saved}
+use Rattle.job_run.specs.Plan.{AreApart, Plan, Saved, name_at, names_saved}
 use Rattle.job_run.specs.Starting.{AreOfShapes, end_of}
 use Rattle.job_run.specs.Values.{MeetsNone, Named, file_of, files_of, cells_at, values_of}
 use Rattle.job_run.proofs.Counting.{raised_at_most}
@@ -125,7 +126,7 @@ module _ (p : Plan) (named : Named) (old mid between new : View) (files now : Li
       held_is apart k b ∙ (whole_told (saving_at now k).content (bytes_of (array_at p named k)) (told_now tells k b) (whole k b) ∙ ap Some (file_saved p named k b))
 
   -- right files are left right
-  pub are_left : AreApart (names_saved p) → FilesRight p named now → AreLeft (names_saved p) (files_of p named) old.files new.files
+  are_left : AreApart (names_saved p) → FilesRight p named now → AreLeft (names_saved p) (files_of p named) old.files new.files
   are_left apart right k h =
       let b : k < length p.saves = omega (arith, h, length-map p.saves (λ (s : Saved). s.file)) in
       let P : Option (List ℕ) → Type 0 = λ o. IfSome o (λ held. IsPart held (name_at (files_of p named) k)) × (IsTrue old.files.tells → IsSome o) in
@@ -136,10 +137,11 @@ module _ (p : Plan) (named : Named) (old mid between new : View) (files now : Li
   created_is = back.gives.created ∙ (ap (λ (f : Files). f.created) back.files_same ∙ made.created)
 
   -- all that is left, whatever the end
-  pub evaluated : (told : Type 0) (end : Ended) → EvaluationCause p named told old new end → EvaluationSaves p named told old.files new.files end → EvaluatesInputs p named told old new end
-  evaluated told end cause saves = record {
+  pub evaluated : (told : Type 0) (end : Ended) → AreApart (names_saved p) → (told → FilesRight p named now) → EvaluationCause p named told old new end → EvaluationSaves p named told old.files new.files end → EvaluatesInputs p named told old new end
+  evaluated told end apart right cause saves = record {
     cause = cause;
     saves = saves;
+    left = λ t. are_left apart (right t);
     others = others_are;
     tells = back.gives.tells ∙ (ap (λ (f : Files). f.tells) back.files_same ∙ made.tells);
     opened = back.gives.opened ∙ (ap (λ (f : Files). f.opened) back.files_same ∙ made.opened);
@@ -160,6 +162,9 @@ tells_same heads again files same e f tells = record { each = λ j h.
     let Q : List Content → Type 0 = λ fs. IsSome (told_bytes (file_at fs j)) in
     subst Q (sym f) (tells.each j (subst P e h)) }
 
+pub heads_same : (j : Job) (tasks : List Task) (heads : List Head) → j ≡ record { tasks = tasks; heads = heads } → j.heads ≡ heads
+heads_same j tasks heads e = ap (λ (x : Job). x.heads) e
+
 pub were_created : (files now : List Saving) (mid between : Files) → AreSameFiles files now → between ≡ mid → WereCreated files mid → WereCreated now between
 were_created files now mid between same e created k h =
     let there : k < length files = omega (arith, h, same.count) in
@@ -173,23 +178,33 @@ fresh_right p named tells files shapes fresh k h = right_part (array_at p named 
 pub rose_from : (a b c d : ℕ) → a ≤ b → c ≤ d → Rose b c → Rose a d
 rose_from a b c d low high rose = omega (arith, low, high, rose)
 
+-- whole files are right
+whole_right : (a : Array) (c : Content) → OnTold c (λ bytes. bytes ≡ bytes_of a) → OnTold c (λ bytes. IsPart bytes (bytes_of a))
+whole_right a (Told bytes) e = let P : List ℕ → Type 0 = λ b. IsPart b (bytes_of a) in subst P (sym e) (record { size = refl; each = λ q h. inr refl })
+whole_right a (Untold size) e = tt
+
+-- all blocks were made and written
+pub ended : (p : Plan) (named : Named) (old mid between new : View) (files now : List Saving) (given : ℕ) (told again : Type 0) → HaveCreated p old mid files → HaveGiven files now given mid between new → AreApart (names_saved p) →
+    (told → again) → (again → MeetsNone p named) → (again → FilesWhole p named now) → EvaluatesInputs p named told old new Done
+ended p named old mid between new files now given told again made back apart gives values whole =
+    evaluated p named old mid between new files now given made back told Done apart (λ t k h. whole_right (array_at p named k) (saving_at now k).content (whole (gives t) k h)) (λ t. values (gives t))
+    (λ t tells. are_whole p named old mid between new files now given made back apart (whole (gives t)) tells)
+
 -- not all blocks were made and written; the two numbers are the feed's counts of faults
 pub halted : (p : Plan) (named : Named) (old mid between new : View) (files now : List Saving) (given before count : ℕ) (told again : Type 0) (halt : Halt) → HaveCreated p old mid files → HaveGiven files now given mid between new → AreApart (names_saved p) →
     given ≡ count → (told → again) → (again → FilesRight p named now) → HaltCause p named again now before count halt → EvaluatesInputs p named told old new (end_of halt)
 halted p named old mid between new files now given before count told again (halts.Zero node block) made back apart same gives right cause =
-    evaluated p named old mid between new files now given made back told (Zero node block) (λ t. cause (gives t)) (λ t. are_left p named old mid between new files now given made back apart (right (gives t)))
+    evaluated p named old mid between new files now given made back told (Zero node block) apart (λ t. right (gives t)) (λ t. cause (gives t)) tt
 halted p named old mid between new files now given before count told again halts.ReadFault made back apart same gives right cause =
     let rose : Rose mid.read_faults between.read_faults = back.faults.risen (omega (arith, same, cause)) in
-    evaluated p named old mid between new files now given made back told ReadFault
-    (rose_from old.read_faults mid.read_faults between.read_faults new.read_faults (omega (arith, made.only.read_faults)) (omega (arith, back.writes.read_faults)) rose)
-    (λ t. are_left p named old mid between new files now given made back apart (right (gives t)))
+    evaluated p named old mid between new files now given made back told ReadFault apart (λ t. right (gives t))
+    (rose_from old.read_faults mid.read_faults between.read_faults new.read_faults (omega (arith, made.only.read_faults)) (omega (arith, back.writes.read_faults)) rose) tt
 halted p named old mid between new files now given before count told again halts.WriteFault made back apart same gives right cause =
     let rose : Rose between.write_faults new.write_faults = back.takes.risen cause.place cause.there cause.failed in
-    evaluated p named old mid between new files now given made back told WriteFault
-    (rose_from old.write_faults between.write_faults new.write_faults new.write_faults (omega (arith, made.later, back.reads.write_faults)) (omega arith) rose)
-    (λ t. are_left p named old mid between new files now given made back apart (right (gives t)))
+    evaluated p named old mid between new files now given made back told WriteFault apart (λ t. right (gives t))
+    (rose_from old.write_faults between.write_faults new.write_faults new.write_faults (omega (arith, made.later, back.reads.write_faults)) (omega arith) rose) tt
 halted p named old mid between new files now given before count told again halts.OutOfMemory made back apart same gives right cause =
-    evaluated p named old mid between new files now given made back told OutOfMemory tt (λ t. are_left p named old mid between new files now given made back apart (right (gives t)))
+    evaluated p named old mid between new files now given made back told OutOfMemory apart (λ t. right (gives t)) tt tt
 
 -- not all files were created, and those that were are given back
 pub record HaveRefused (p : Plan) (old mid : View) : Type 0 where
@@ -215,11 +230,12 @@ refused_left p named old mid new shapes r c k h =
     subst Q (sym c.files_same) (subst P (file_saved p named k b) (r.left k (array_at p named k) b (shapes named k b)))
 
 pub refused : (p : Plan) (named : Named) (old mid new : View) (told : Type 0) (end : Ended) → AreOfShapes p → HaveRefused p old mid → HaveClosed mid new → EvaluationCause p named told old new end →
-    (AreLeft (names_saved p) (files_of p named) old.files new.files → EvaluationSaves p named told old.files new.files end) →
+    EvaluationSaves p named told old.files new.files end →
     (RaisedAtMost (names_saved p) old.files.created new.files.created → EvaluationCreates (names_saved p) old.files.created new.files.created end) → EvaluatesInputs p named told old new end
 refused p named old mid new told end shapes r c cause saves created = record {
   cause = cause;
-  saves = saves (refused_left p named old mid new shapes r c);
+  saves = saves;
+  left = λ t. refused_left p named old mid new shapes r c;
   others = λ n none. ap (λ (f : Files). f.held n) c.files_same ∙ r.others n none;
   tells = ap (λ (f : Files). f.tells) c.files_same ∙ r.tells;
   opened = ap (λ (f : Files). f.opened) c.files_same ∙ r.opened;

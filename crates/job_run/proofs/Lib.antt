@@ -20,6 +20,7 @@ pub mod MadeBoxes
 pub mod Naming
 pub mod OneArray
 pub mod OneHeader
+pub mod Running
 pub mod SavedArrays
 pub mod SavingSteps
 pub mod Starting

@@ -1,10 +1,10 @@
 use Rattle.std.proofs.Common.{ap, sym, subst, arith, Err}
-use Rattle.block_lowering.specs.Jobs.{IsJob, TellsFeed}
+use Rattle.block_lowering.specs.Jobs.{TellsFeed}
 use Rattle.job_run.specs.declared.ends.Ended.{Ended}
-use Rattle.job_run.specs.declared.ends.Ended.TheVariants.{Done, WriteFault, OutOfMemory}
+use Rattle.job_run.specs.declared.ends.Ended.TheVariants.{WriteFault, OutOfMemory}
 use Rattle.job_run.specs.Evaluating.{EvaluatesInputs}
 use Rattle.job_run.specs.Jobs.{plan_of}
-use Rattle.job_run.proofs.Evaluated.{HaveClosed, HaveCreated, HaveGiven, HaveRefused, are_left, are_whole, evaluated, files_given, fresh_holds, fresh_right, halted, refused, rose_from, tells_same, were_created}
+use Rattle.job_run.proofs.Evaluated.{HaveClosed, HaveCreated, HaveGiven, HaveRefused, ended, evaluated, files_given, fresh_holds, fresh_right, halted, heads_same, refused, rose_from, tells_same, were_created}
 use Rattle.job_run.proofs.evaluate.evaluate.Goals as goal
 use Rattle.job_run.proofs.evaluate.evaluate.Goals.{in-Failed, in-OutOfMemory}
 
@@ -24,8 +24,8 @@ returns-in-Err g c =
     elim c.match-fault.branch [
       | in-Failed w ↦
           let rose = rose_from old.write_faults old.write_faults mid.write_faults new.write_faults (omega arith) (omega (arith, s.reads.write_faults)) (e.cause.failed (ap Err w.in-Failed.is)) in
-          subst P (sym w.result-is) (refused p named old mid new told WriteFault shapes r s rose (λ left t. left) (λ most. most))
-      | in-OutOfMemory w ↦ subst P (sym w.result-is) (refused p named old mid new told OutOfMemory shapes r s tt (λ left t. left) (λ most. most))
+          subst P (sym w.result-is) (refused p named old mid new told WriteFault shapes r s rose tt (λ most. most))
+      | in-OutOfMemory w ↦ subst P (sym w.result-is) (refused p named old mid new told OutOfMemory shapes r s tt tt (λ most. most))
     ]
 
 pub begin-requires-clause-job : goal.begin-requires-clause-job
@@ -44,8 +44,7 @@ returns-in-Err-begin g c =
     let e = c.in-Ok.ensures in
     let made : HaveCreated p old mid files = record { number = e.open.count; fresh = e.fresh; created = e.created; others = e.others; tells = e.tells; opened = e.opened; only = e.only; later = e.cause.later } in
     let back : HaveGiven files files 0 mid mid new = files_given files mid new c.give.ensures.gives c.give.ensures.only c.give.ensures.later c.give.ensures.cause in
-    let right = fresh_right p named old.files.tells files c.laws_of_start.ensures.arrays e.fresh in
-    evaluated p named old mid mid new files files 0 made back told OutOfMemory tt (λ t. are_left p named old mid mid new files files 0 made back c.requires.runs.apart right)
+    evaluated p named old mid mid new files files 0 made back told OutOfMemory c.requires.runs.apart (λ t. fresh_right p named old.files.tells files c.laws_of_start.ensures.arrays e.fresh) tt tt
 
 pub make_blocks-made-requires-clause-fresh : goal.make_blocks-made-requires-clause-fresh
 make_blocks-made-requires-clause-fresh g c κs within = fresh_holds (plan_of c.args.job.now) g.E.Elements.named (g.S.Site.view c.args.site.now).files.tells c.in-Ok.files c.laws_of_start.ensures.arrays c.in-Ok.ensures.fresh
@@ -73,10 +72,10 @@ returns-in-Ok-made g c =
     let begun = c.in-Ok-begin.evaluation in
     let made : HaveCreated p old mid files = record { number = e.open.count; fresh = e.fresh; created = e.created; others = e.others; tells = e.tells; opened = e.opened; only = e.only; later = e.cause.later } in
     let back : HaveGiven files now given mid between new = record { same = c.make_blocks-made.ensures.same; files_same = s.files; reads = s.only; faults = s.cause; gives = b.gives; writes = b.only; later = b.later; takes = b.cause } in
-    let again : TellsFeed heads store → TellsFeed begun.job.job.heads (g.S.In.Store.files begun.feed) =
-    tells_same heads begun.job.job.heads store (g.S.In.Store.files begun.feed) (ap (λ j. j.heads) c.in-Ok-begin.ensures.job) (ap g.S.In.Store.files c.in-Ok-begin.ensures.feed) in
-    evaluated p named old mid between new files now given made back (TellsFeed heads store) Done (λ t. c.in-Ok-made.ensures.values (again t))
-    (λ t tells. are_whole p named old mid between new files now given made back c.requires.runs.apart (c.in-Ok-made.ensures.whole (again t)) tells)
+    let told_again : Type 0 = TellsFeed begun.job.job.heads (g.S.In.Store.files begun.feed) in
+    let again : TellsFeed heads store → told_again =
+    tells_same heads begun.job.job.heads store (g.S.In.Store.files begun.feed) (heads_same begun.job.job c.args.lowered.graph heads c.in-Ok-begin.ensures.job) (ap g.S.In.Store.files c.in-Ok-begin.ensures.feed) in
+    ended p named old mid between new files now given (TellsFeed heads store) told_again made back c.requires.runs.apart again c.in-Ok-made.ensures.values c.in-Ok-made.ensures.whole
 
 pub returns : goal.returns
 returns g c =
@@ -99,7 +98,7 @@ returns g c =
     let told_again : Type 0 = TellsFeed begun.job.job.heads (g.S.In.Store.files begun.feed) in
     let made : HaveCreated p old mid files = record { number = e.open.count; fresh = e.fresh; created = e.created; others = e.others; tells = e.tells; opened = e.opened; only = e.only; later = e.cause.later } in
     let back : HaveGiven files now given mid between new = record { same = c.make_blocks-made.ensures.same; files_same = s.files; reads = s.only; faults = s.cause; gives = b.gives; writes = b.only; later = b.later; takes = b.cause } in
-    let again : told → told_again = tells_same heads begun.job.job.heads store (g.S.In.Store.files begun.feed) (ap (λ j. j.heads) c.in-Ok-begin.ensures.job) (ap g.S.In.Store.files c.in-Ok-begin.ensures.feed) in
+    let again : told → told_again = tells_same heads begun.job.job.heads store (g.S.In.Store.files begun.feed) (heads_same begun.job.job c.args.lowered.graph heads c.in-Ok-begin.ensures.job) (ap g.S.In.Store.files c.in-Ok-begin.ensures.feed) in
     let P : Ended → Type 0 = λ end. EvaluatesInputs p named told old new end in
     subst P (sym c.end_of.ensures) (halted p named old mid between new files now given (g.S.In.Store.count begun.feed) (g.S.In.Store.count c.make_blocks-made.new.evaluation.feed) told told_again c.in-Err-made.halt made back c.requires.runs.apart
     (ap g.S.In.Store.count c.into_feed.ensures) again c.in-Err-made.ensures.right c.in-Err-made.ensures.cause)
