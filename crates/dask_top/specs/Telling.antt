@@ -1,5 +1,6 @@
 -- How the end of a job comes to be told on standard error, for the private functions.
-use Rattle.std.specs.Prelude.{◌≡◌, ◌<◌, ◌⊎◌, length}
+use Rattle.std.specs.Prelude.{◌≡◌, ◌<◌, ◌⊎◌, ◌++◌, ℕ, List, length, codes, decimal}
+use Rattle.std.specs.List.{flat_map}
 use Rattle.job_run.specs.declared.ends.Ended.{Ended}
 use Rattle.job_run.specs.declared.ends.Ended.TheVariants as RunEnds
 use Rattle.dask_top.specs.declared.answer.End.{End}
@@ -47,3 +48,7 @@ abbrev pub sim_end_of : SimEnded → End
 sim_end_of SimEnds.Events = Events
 sim_end_of SimEnds.Turns = Turns
 sim_end_of (SimEnds.Ran end) = end_of end
+
+-- numbers as they are printed behind others
+abbrev pub rest_of : List ℕ → List ℕ
+rest_of numbers = flat_map (λ n. codes ", " ++ decimal n) numbers

@@ -1,14 +1,14 @@
 // The line on standard error.
-ghost use Rattle.std.specs.Prelude.{◌≡◌, ◌≤◌, ◌<◌, ◌++◌, List, ℕ, length, map, codes, decimal, string_bytes, IfOk, OnOk, None, Some, Ok};
-ghost use Rattle.std.specs.List.{flat_map};
+ghost use Rattle.std.specs.Prelude.{◌≡◌, ◌≤◌, ◌<◌, ◌++◌, ◌∷◌, List, ℕ, length, map, codes, decimal, string_bytes, IfOk, OnOk, None, Some, Ok};
 ghost use Rattle.io_edge.specs.View.{OnlyErr};
 ghost use Rattle.job_run.specs.Inputs.{file_error_text};
 ghost use Rattle.job_run.specs.Jobs.{plan_of};
 ghost use Rattle.job_run.specs.Values.{index_text};
 ghost use Rattle.job_text.specs.Texts.{job_error_text, quantity_text};
+ghost use Rattle.nd_shape.specs.Shape.{comma_list};
 ghost use Rattle.dask_top.specs.Ends.{GetsLine, Notes, graph_text, line_of};
 ghost use Rattle.dask_top.specs.Reading.{Reading};
-ghost use Rattle.dask_top.specs.Telling.{IsOfText, IsPlaced, IsRefusal, Told, end_of, sim_end_of};
+ghost use Rattle.dask_top.specs.Telling.{IsOfText, IsPlaced, IsRefusal, Told, end_of, rest_of, sim_end_of};
 
 use crate::answer::End;
 use array_expr::NodeId;
@@ -85,15 +85,35 @@ fn graph_line(alloc: Global, quantity: Quantity) -> Result<String, AllocError>
     Ok(line)
 }
 
-// Appends the rest of an index, from this axis on.
-fn push_rest(alloc: Global, text: &mut String, index: &[u64]) -> Result<(), AllocError>
-    ensures { OnOk result (string_bytes text.new ≡ string_bytes text.old ++ flat_map (λ n. codes ", " ++ decimal n) index.now) }
+// Appends numbers, each behind a comma.
+fn push_rest(alloc: Global, text: &mut String, numbers: &[u64]) -> Result<(), AllocError>
+    ensures { OnOk result (string_bytes text.new ≡ string_bytes text.old ++ rest_of numbers.now) }
 {
-    for chunk in index {
-        let part = format!(in alloc; ", {chunk}")?;
+    for number in numbers {
+        let part = format!(in alloc; ", {number}")?;
         text.push_str(part.as_str())?;
     }
     Ok(())
+}
+
+// Appends a number and others, with commas between them.
+fn push_several(alloc: Global, text: &mut String, first: u64, rest: &[u64]) -> Result<(), AllocError>
+    ensures { OnOk result (string_bytes text.new ≡ string_bytes text.old ++ comma_list (first ∷ rest.now)) }
+{
+    let part = format!(in alloc; "{first}")?;
+    text.push_str(part.as_str())?;
+    push_rest(alloc, text, rest)?;
+    Ok(())
+}
+
+// Appends numbers, with commas between them.
+fn push_list(alloc: Global, text: &mut String, numbers: &[u64]) -> Result<(), AllocError>
+    ensures { OnOk result (string_bytes text.new ≡ string_bytes text.old ++ comma_list numbers.now) }
+{
+    match numbers {
+        [] => Ok(()),
+        [first, rest @ ..] => push_several(alloc, text, *first, rest),
+    }
 }
 
 // Appends an index.
@@ -101,11 +121,7 @@ fn push_index(alloc: Global, text: &mut String, index: &[u64]) -> Result<(), All
     ensures { OnOk result (string_bytes text.new ≡ string_bytes text.old ++ index_text index.now) }
 {
     text.push_str("(")?;
-    if let Some((first, rest)) = index.split_first() {
-        let part = format!(in alloc; "{first}")?;
-        text.push_str(part.as_str())?;
-        push_rest(alloc, text, rest)?;
-    }
+    push_list(alloc, text, index)?;
     text.push_str(")")
 }
 
