@@ -110,8 +110,8 @@ pub fn evaluate<S: Site, E: Elements + Send + Sync + Drop>(
         &mut files,
         job,
         names.as_slice(),
-        &layouts,
-        &blocks,
+        layouts.as_slice(),
+        blocks.as_slice(),
     );
     site.give_store(evaluation.into_feed());
     files.give(site);
