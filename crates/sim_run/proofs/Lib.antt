@@ -4,3 +4,6 @@ pub mod Filling
 pub mod Reached
 pub mod Wanted
 pub mod Simulating
+pub mod Saves
+pub mod Got
+pub mod Stops
