@@ -196,11 +196,6 @@ REFUSED = [
     ('input a "front.npy" shape (3) chunks (2)|save a "o.npy"|', 3, 'file front.npy: not npy at 4'),
     ('input a "a.npy" shape (2) chunks (2)|save a "o.npy"|', 3, 'file a.npy: shape (3,) declared (2,)'),
     ('input a "none.npy" shape (2) chunks (2)|save a "o.npy"|', 5, 'read fault'),
-    # more keys, more dependencies in all, and a larger block than there may be; no file is looked for
-    ('input a "none.npy" shape (32769) chunks (1)|save a "o.npy"|', 9, 'limit keys'),
-    ('input a "none.npy" shape (3) chunks (3)|let r = ramp((600, 600), 0, 1, (1, 600))|let b = rechunk(r, (600, 1))|save b "o.npy"|',
-     9, 'limit edges'),
-    ('let b = full((16777217), 1, (16777217))|save b "o.npy"|', 9, 'limit block bytes'),
     # its shape is another one too
     ('input a "short.npy" shape (2) chunks (2)|save a "o.npy"|', 3, 'file short.npy: truncated: has 23, needs 24'),
     # all inputs are opened before the first is read
@@ -208,6 +203,12 @@ REFUSED = [
      5, 'read fault'),
     # the second input is the first that isn't as declared
     (INPUT['a'] + 'input b "text.npy" shape (3) chunks (2)|let c = a // b|save c "o.npy"|', 3, 'file text.npy: not npy at 0'),
+]
+# more keys, more dependencies in all, and a larger block than there may be; no file is looked for
+LARGE = [
+    ('input a "none.npy" shape (32769) chunks (1)|save a "o.npy"|', 'keys'),
+    ('input a "none.npy" shape (3) chunks (3)|let r = ramp((600, 600), 0, 1, (1, 600))|let b = rechunk(r, (600, 1))|save b "o.npy"|', 'edges'),
+    ('let b = full((16777217), 1, (16777217))|save b "o.npy"|', 'block bytes'),
 ]
 # jobs that meet a zero divisor in a needed block, the block, and how far its file came: the block isn't written, and none before it
 DIVIDED = [
@@ -444,6 +445,14 @@ def refusals():
         say('saved o.npy sim job.txt 7', f'saved: {status} o.npy none')
 
 
+def large():
+    title('jobs whose graphs pass a limit')
+    for lines, quantity in LARGE:
+        job(lines)
+        for command in ('plain job.txt', 'run job.txt', 'sim job.txt 7'):
+            once('o.npy', command, refusal(9, f'limit {quantity}'))
+
+
 def words():
     title('words that ask for nothing')
     job(saved_jobs()[0][0])
@@ -649,6 +658,22 @@ def ill_file(chance, array):
     ])
 
 
+def with_quotient(chance, lines):
+    """A job that saves a quotient too, whose divisor is 0 at some elements of most arrays."""
+    statements = lines.split(' ; ')
+    saves = [line for line in statements if line.startswith('save ')]
+    made = [line for line in statements if line not in saves]
+    name = chance.random.choice(made).split()[1]
+    divided = f'let q = {name} {chance.random.choice(("//", "%"))} ({name} % {chance.random.choice((2, 3, 5, 7))})'
+    return ' ; '.join([*made, divided, *saves, 'save q "q.npy"'])
+
+
+def once(file, command, answer):
+    """A run over a new site."""
+    say('site 65536 0')
+    say(f'top {file} {command}', 'top:' + answer)
+
+
 def answer_job(run, names, number):
     """What the three commands answer, for the last file that is saved."""
     last, fault = names[-1], run.first_fault()
@@ -656,26 +681,28 @@ def answer_job(run, names, number):
         array = run.array(len(names) - 1)
         held = text(saved(array))
         out = ''.join(f'saved {name} {shape_text(run.array(k))}|' for k, name in enumerate(names)) + 'finished by: plain|'
-        often(last, 'plain job.txt', told(0, out, '', '0 0 0 0', last, held))
+        once(last, 'plain job.txt', told(0, out, '', '0 0 0 0', last, held))
         say(f'saved {last} run job.txt', f'saved: 0 {last} {held}')
-        often(last, f'sim job.txt {number}', told(0, sim_lines(run, names, number), '', '0 0 0 0', last, held))
+        once(last, f'sim job.txt {number}', told(0, sim_lines(run, names, number), '', '0 0 0 0', last, held))
         for k, name in enumerate(names[:-1]):
             say(f'saved {name} plain job.txt', f'saved: 0 {name} {text(saved(run.array(k)))}')
         return
     # the blocks before the first that is at fault are written
     held = text(saved(run.array_before(len(names) - 1, fault)))
-    often(last, 'plain job.txt', told(4, '', f'dask: zero division: {run.block_text(fault)}|', '0 0 0 0', last, held))
+    once(last, 'plain job.txt', told(4, '', f'dask: zero division: {run.block_text(fault)}|', '0 0 0 0', last, held))
     say(f'saved {last} run job.txt', f'saved: 4 {last} {held}')
     blamed = run.simulate(number)
-    often(last, f'sim job.txt {number}', told(4, '', f'dask: zero division: {run.block_text(blamed)}|', '0 0 0 0', last, 'none'))
+    once(last, f'sim job.txt {number}', told(4, '', f'dask: zero division: {run.block_text(blamed)}|', '0 0 0 0', last, 'none'))
 
 
 def by_chance():
     title('jobs by chance, over files by chance')
-    say('site 65536 0')
     chance = Chance(4242, longest=4)
     for place in range(200):
-        lines = re.sub(r'save (\w) "(\w).npy"', r'save \1 "out\2.npy"', chance.job((2, 6), 40))
+        lines = chance.job((2, 6), 40)
+        if place % 3 == 0:
+            lines = with_quotient(chance, lines)
+        lines = re.sub(r'save (\w) "(\w).npy"', r'save \1 "out\2.npy"', lines)
         run_of = lower(lines)
         inputs = [node for node in run_of.job.nodes if node.op == 'input']
         arrays = [chance_inputs(chance, node) for node in inputs]
@@ -692,7 +719,7 @@ def by_chance():
         if why is not None:
             line = f'dask: file {files[ill]}: {why}|'
             for command in ('plain job.txt', 'run job.txt', f'sim job.txt {place}'):
-                often(names[-1], command, told(3, '', line, '0 0 0 0', names[-1], 'none'))
+                once(names[-1], command, told(3, '', line, '0 0 0 0', names[-1], 'none'))
             continue
         answer_job(Run(run_of, arrays), names, place)
 
@@ -707,7 +734,7 @@ def main():
     shelve('short.npy', saved(A)[:-1])
     shelve('front.npy', saved(A)[:4])
     shelve('text.npy', b'nothing')
-    for part in (pieces, creations, room, alone, objects, lengths, real, heads, blocks, saves, divided, refusals, words, faults, places, reports, simulations, by_chance):
+    for part in (pieces, creations, room, alone, objects, lengths, real, heads, blocks, saves, divided, refusals, large, words, faults, places, reports, simulations, by_chance):
         part()
     here = os.path.join(os.path.dirname(os.path.abspath(__file__)), '..', 'crates', 'site_table')
     for name, lines in (('stdin', LINES), ('stdout', WANTED)):
