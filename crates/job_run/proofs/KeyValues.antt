@@ -11,6 +11,7 @@ use Rattle.cluster_msgs.specs.Dags.{IsEarlier}
 use Rattle.cluster_msgs.specs.Shape.{deps_of}
 use Rattle.cluster_msgs.specs.Values.{faulty, cone}
 use Rattle.cluster_msgs.proofs.ValueLemmas.{cone-below, faulty-none}
+use Rattle.task_graph.specs.declared.graph.Task.{Task}
 use Rattle.task_graph.specs.Graphs.{shape_of, value}
 use Rattle.lowering_laws.specs.Lowered.{lowered}
 use Rattle.lowering_laws.specs.Named.{box_of, name_of, IsName}
@@ -62,6 +63,10 @@ holds-named p named key None block laws lt h e name = tt
 holds-named p named key (Some x) block laws lt h e name = λ k there same.
     let is : IsName p.nodes (nodes_saved p) key x.0 x.1 = laws.names.each key x.0 x.1 lt name in
     holds-saved p named k x.0 (box_of p.nodes x.0 x.1) block laws.expression there same (part-of p.nodes x.0 x.1 laws.expression is.node is.block) (key-holds p named key x.0 x.1 block laws lt h e name)
+
+-- the values of all keys, of tasks that are the plan's
+pub have-all : (p : Plan) (named : Named) (tasks : List Task) (next : ℕ) → tasks ≡ tasks_of p → length (tasks_of p) ≤ next → ((k : ℕ) → k < next → IsSome (value named tasks k)) → HaveAll p named (length (tasks_of p))
+have-all p named tasks next same le h k lt = subst (λ (ts : List Task). IsSome (value named ts k)) same (h k (omega arith))
 
 -- ## No key lacks an element before the first that has no value
 

@@ -4,6 +4,7 @@ pub mod Evaluated
 pub mod FilledFiles
 pub mod Halting
 pub mod KeyValues
+pub mod Laws
 pub mod Loads
 pub mod MadeBoxes
 pub mod Naming
