@@ -89,12 +89,12 @@ boxes_made p keys k = boxes_in (layout_of p.nodes (node_at p k)) (node_at p k) (
 abbrev pub SavesAt : Plan → Option (ℕ × ℕ) → Array → ℕ → Saving → Saving → Type 0
 SavesAt p None block k old new = new ≡ old
 SavesAt p (Some x) block k old new =
-    ((node_at p k ≡ x.0) × FillsMore (shape_at p.nodes x.0) (box_of p.nodes x.0 x.1) block old new) ⊎ ((node_at p k ≢ x.0) × (new ≡ old))
+    ((node_at p k ≡ x.0) × FillsMore (box_of p.nodes x.0 x.1) block old new) ⊎ ((node_at p k ≢ x.0) × (new ≡ old))
 
 -- the block was written in part into the file of its node
 abbrev pub SavesPart : Plan → Option (ℕ × ℕ) → Array → ℕ → Saving → Saving → Type 0
 SavesPart p None block k old new = ⊥
-SavesPart p (Some x) block k old new = (node_at p k ≡ x.0) × FillsPart (shape_at p.nodes x.0) (box_of p.nodes x.0 x.1) block old new
+SavesPart p (Some x) block k old new = (node_at p k ≡ x.0) × FillsPart (box_of p.nodes x.0 x.1) block old new
 
 -- the same where one of these failed
 abbrev pub SavesPartAt : Plan → Option (ℕ × ℕ) → Array → ℕ → Saving → Saving → Type 0

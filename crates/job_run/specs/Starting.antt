@@ -16,7 +16,8 @@ use Rattle.job_run.specs.Values.{Named, tasks_of}
 
 -- the graph is a job over all files that have the heads of the inputs
 abbrev pub IsJobOver : Plan → Type 0
-IsJobOver p = (files : List Content) (heads : List Head) → AreHeads (input_shapes p.nodes) files heads → length heads ≡ length (input_shapes p.nodes) → IsJob (tasks_of p) heads
+IsJobOver p = (files : List Content) (heads : List Head)
+    → AreHeads (input_shapes p.nodes) files heads → length heads ≡ length (input_shapes p.nodes) → IsJob (tasks_of p) heads
 
 -- each saved array has its node's shape, whatever the inputs hold
 abbrev pub AreOfShapes : Plan → Type 0

@@ -3,8 +3,19 @@ use Rattle.block_lowering.specs.Jobs.{TellsFeed}
 use Rattle.job_run.specs.Jobs.{plan_of}
 use Rattle.job_run.specs.Told.{named_told}
 use Rattle.job_run.proofs.Naming.{OpenInputs, fits_told, on_named}
-use Rattle.job_run.proofs.Running.{AreNamed, HaveAccepted, done_runs, print_fault_runs, stopped_runs}
+use Rattle.job_run.proofs.Running.{AreNamed, HaveAccepted, done_runs, lowering_runs, memory_runs, print_fault_runs, reading_runs, stopped_runs}
 use Rattle.job_run.proofs.run.run_job.Goals as goal
+
+pub returns-in-Err : goal.returns-in-Err
+returns-in-Err g c = lowering_runs (plan_of c.args.job.now) (g.S.Site.view c.args.site.now) c.in-Err.end c.in-Err.ensures.cause
+
+pub returns-in_default : goal.returns-in_default
+returns-in_default g c = memory_runs (plan_of c.args.job.now) (g.S.Site.view c.args.site.now)
+
+pub returns-in-Err-open_inputs : goal.returns-in-Err-open_inputs
+returns-in-Err-open_inputs g c =
+    let e = c.in-Err-open_inputs.ensures in
+    reading_runs (plan_of c.args.job.now) (g.S.Site.view c.args.site.now) (g.S.Site.view c.open_inputs.new.site) c.in-Err-open_inputs.end c.in-Ok.ensures.made.small e.cause e.opens e.only
 
 pub evaluate-requires-clause-fits : goal.evaluate-requires-clause-fits
 evaluate-requires-clause-fits g c κs within =
