@@ -1,11 +1,11 @@
 -- Why not all blocks were made, step by step.
-use Rattle.std.proofs.Common.{◌≡◌, ℕ, ◌<◌, ◌≤◌, List, [], length, sym, subst, refl, arith}
+use Rattle.std.proofs.Common.{◌≡◌, ℕ, List, [], sym, subst, refl, arith}
 use Rattle.std.specs.Prelude.{Option, Some, None}
 use Rattle.io_edge.specs.Cause.{Rose}
-use Rattle.saved_files.specs.Saving.{Saving, saving_at}
+use Rattle.saved_files.specs.Saving.{Saving}
 use Rattle.job_run.specs.declared.blocks.Halt.{Halt}
 use Rattle.job_run.specs.declared.blocks.Halt.TheVariants.{Zero, ReadFault, WriteFault, OutOfMemory}
-use Rattle.job_run.specs.Evaluating.{HaltCause, HaltKeeps, HasFailed, HasNotFailed, IsZeroOf}
+use Rattle.job_run.specs.Evaluating.{HaltCause, HaltKeeps, HasNotFailed, IsZeroOf}
 use Rattle.job_run.specs.Plan.{Plan}
 use Rattle.job_run.specs.Values.{Named, MeetsZero, index_of}
 
