@@ -149,15 +149,9 @@ fn index_of(alloc: Global, counts: &Dims, place: u32) -> Result<Dims, AllocError
     Ok(Dims::from_vec(numbers))
 }
 
-<<<<<<< HEAD
 /// A zero divisor in the block with this name. What has no name divides nothing.
 pub fn halt_at(alloc: Global, job: &Job, blocks: &[Dims], name: Name) -> Halt
-    requires blocks { blocks.now ≡ counts_made job.now.expr }
-=======
-// A zero divisor in the block with this name. What has no name divides nothing.
-fn halt_at(alloc: Global, job: &Job, blocks: &[Dims], name: Name) -> Halt
     requires counts { blocks.now ≡ counts_made job.now.expr }
->>>>>>> aa2dc1da2da20b9eb548d5db214e9e483261a53b
     requires there { HasBlock job.now.expr name }
     ensures { IsZeroOf (plan_of job.now) name result }
 {
