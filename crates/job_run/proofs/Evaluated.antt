@@ -157,10 +157,12 @@ module _ (p : Plan) (named : Named) (old mid between new : View) (files now : Li
 -- ## Its ends
 
 pub tells_same : (heads again : List Head) (files same : List Content) → again ≡ heads → same ≡ files → TellsFeed heads files → TellsFeed again same
-tells_same heads again files same e f tells = record { each = λ j h.
-    let P : List Head → Type 0 = λ hs. j < length hs in
-    let Q : List Content → Type 0 = λ fs. IsSome (told_bytes (file_at fs j)) in
-    subst Q (sym f) (tells.each j (subst P e h)) }
+tells_same heads again files same e f tells = record {
+  each = λ j h.
+      let P : List Head → Type 0 = λ hs. j < length hs in
+      let Q : List Content → Type 0 = λ fs. IsSome (told_bytes (file_at fs j)) in
+      subst Q (sym f) (tells.each j (subst P e h));
+}
 
 pub heads_same : (j : Job) (tasks : List Task) (heads : List Head) → j ≡ record { tasks = tasks; heads = heads } → j.heads ≡ heads
 heads_same j tasks heads e = ap (λ (x : Job). x.heads) e
