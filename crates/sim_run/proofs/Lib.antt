@@ -4,3 +4,4 @@ pub mod Filling
 pub mod Reached
 pub mod Wanted
 pub mod Simulating
+pub mod Ending

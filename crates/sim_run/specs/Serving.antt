@@ -55,18 +55,25 @@ EndsAtKey p key (Zero node block) = IsBlockAt p key node block
 EndsAtKey p key OutOfMemory = Unit {0}
 EndsAtKey p key end = ⊥
 
+-- the client got all, with this report and after so many turns
+pub record GotAll (p : Plan) (s : SimWords) (named : Named) (told : Type 0) : Type 0 where
+  pub report : Report
+  pub turns : ℕ
+  pub served : told → IsServed (job_named p s named) (wanted_of p) s report turns
+  pub values : told → MeetsNone p named
+
 -- why the client's blocks weren't all saved; the two facts are the causes of faults
-abbrev pub RanStops : Plan → Named → Type 0 → Type 0 → Type 0 → Ended → Type 0
-RanStops p named told reads writes (Zero node block) = told → IsFaulty p named node block
-RanStops p named told reads writes ReadFault = reads
-RanStops p named told reads writes WriteFault = (told → MeetsNone p named) × writes
-RanStops p named told reads writes OutOfMemory = Unit {0}
-RanStops p named told reads writes end = ⊥
+abbrev pub RanStops : Plan → SimWords → Named → Type 0 → Type 0 → Type 0 → Ended → Type 0
+RanStops p s named told reads writes (Zero node block) = told → IsFaulty p named node block
+RanStops p s named told reads writes ReadFault = reads
+RanStops p s named told reads writes WriteFault = GotAll p s named told × writes
+RanStops p s named told reads writes OutOfMemory = Unit {0}
+RanStops p s named told reads writes end = ⊥
 
 abbrev pub Stops : Plan → SimWords → Named → Type 0 → Type 0 → Type 0 → SimEnded → Type 0
 Stops p s named told reads writes Events = told → IsOutOfEvents (job_named p s named) (wanted_of p) s
 Stops p s named told reads writes Turns = told → IsOutOfTurns (job_named p s named) (wanted_of p) s
-Stops p s named told reads writes (Ran end) = RanStops p named told reads writes end
+Stops p s named told reads writes (Ran end) = RanStops p s named told reads writes end
 
 -- an end at which no file was created
 abbrev pub IsBare : SimEnded → Type 0
