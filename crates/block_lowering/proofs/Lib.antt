@@ -28,3 +28,4 @@ pub mod Within
 pub mod Loading
 pub mod Fed
 pub mod Untruncated
+pub mod Made

@@ -1,5 +1,5 @@
 -- Graphs of block tasks as jobs that the cluster runs, and the feeds that they read.
-use Rattle.std.specs.Prelude.{◌≡◌, ℕ, ℤ, ◌+◌, ◌*◌, ◌<◌, ◌≤◌, ◌^◌, List, [], length, map, slice_index_or, false, Option, IsSome}
+use Rattle.std.specs.Prelude.{◌≡◌, ℕ, ℤ, ◌+◌, ◌*◌, ◌<◌, ◌≤◌, ◌^◌, List, [], length, map, slice_get, slice_index_or, true, false, Option, Some, IsSome}
 use Rattle.nd_shape.specs.Block.{Array}
 use Rattle.nd_shape.specs.Shape.{elements}
 use Rattle.nd_shape.specs.Index.{IsIn}
@@ -14,6 +14,10 @@ use Rattle.block_kernels.specs.Kernels.{result_shape}
 use Rattle.block_kernels.specs.WellFormed.{IsWellFormed}
 use Rattle.task_graph.specs.declared.graph.Task.{Task}
 use Rattle.task_graph.specs.Graphs.{task_at, shape_of, operation}
+use Rattle.array_expr.specs.declared.expr.Node.{Node}
+use Rattle.array_expr.specs.Elem.{is_input}
+use Rattle.expr_laws.specs.Formulas.{inputs_before}
+use Rattle.lowering_laws.specs.Lowered.{lowered}
 use Rattle.lowering_laws.specs.Whole.{AreFedAll}
 use Rattle.block_lowering.specs.declared.job.BlockJob.TheInside.{Inside}
 
@@ -47,6 +51,16 @@ pub record IsJob (tasks : List Task) (heads : List Head) : Type 0 where
   pub fed : AreFedAll tasks
   pub loads : (k : ℕ) → k < length tasks → IsLoad heads (task_at tasks k).spec
   pub near : (j : ℕ) → j < length heads → (head_at heads j).data_at ≤ 2 ^ 21
+
+-- the input nodes have heads of their shapes, by the numbers of inputs, and each head's data begin near
+pub record HaveHeads (nodes : List Node) (heads : List Head) : Type 0 where
+  pub head : (k : ℕ) (node : Node) → slice_get nodes k ≡ Some node → is_input node.op ≡ true → inputs_before nodes k < length heads
+  pub shape : (k : ℕ) (node : Node) → slice_get nodes k ≡ Some node → is_input node.op ≡ true → (head_at heads (inputs_before nodes k)).shape ≡ node.shape
+  pub near : (j : ℕ) → j < length heads → (head_at heads j).data_at ≤ 2 ^ 21
+
+-- the graph of an expression that is lowered is a job, over heads of its inputs
+abbrev pub LawOfJobs : List Node → List ℕ → Type 0
+LawOfJobs nodes saves = (heads : List Head) → HaveHeads nodes heads → IsJob (lowered nodes saves).tasks heads
 
 pub record IsStored (s : Inside) : Type 0 where
   pub graph : s.shape ≡ shape_of s.tasks

@@ -6,7 +6,8 @@ ghost use Rattle.block_kernels.specs.WellFormed.{IsWellFormed, IsMade};
 ghost use Rattle.block_kernels.specs.Inputs.{shapes_of};
 ghost use Rattle.task_graph.specs.Graphs.{task_at};
 ghost use Rattle.task_graph.specs.declared.graph.Task.{Task as AnyTask};
-ghost use Rattle.block_lowering.specs.Jobs.{head_at, IsJob, IsLoad, HaveData, FitsFeed, TellsFeed, graph_of, dims_of};
+ghost use Rattle.lowering_laws.specs.Each.{OfEachJob};
+ghost use Rattle.block_lowering.specs.Jobs.{head_at, IsJob, IsLoad, HaveData, FitsFeed, TellsFeed, LawOfJobs, graph_of, dims_of};
 
 use crate::reading::{load, shape_of_result};
 use block_kernels::{Spec, run as run_kernel};
@@ -230,3 +231,8 @@ impl<S: Store + Send + Sync, E: Elements + Send + Sync + Drop> JobSpec for JobGr
         }
     }
 }
+
+/// The graph that an expression is lowered to is a job, where each input has a head of its shape. No memory.
+pub fn law_of_jobs()
+    ensures { OfEachJob LawOfJobs }
+{}

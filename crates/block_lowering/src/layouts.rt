@@ -1,5 +1,5 @@
 //! Layouts of nodes.
-ghost use Rattle.std.specs.Prelude.{◌≡◌, ◌<◌, ◌≤◌, ◌*◌, ◌^◌, [], ◌∷◌, ◌++◌, cond, get_or, slice_set, IfOk, OnOk, IsTrue, MatchOption};
+ghost use Rattle.std.specs.Prelude.{◌≡◌, ◌<◌, ◌≤◌, ◌*◌, ◌^◌, [], ◌∷◌, ◌++◌, cond, get_or, slice_set, IfOk, OnOk, IsTrue, MatchOption, ◌↔◌};
 ghost use Rattle.nd_shape.specs.Chunk.{total, chunks_of};
 ghost use Rattle.chunk_layout.specs.Layouts.{blocks, lengths, normalized};
 ghost use Rattle.chunk_layout.specs.Cuts.{AllCut, AllSome, IsCut};
@@ -214,7 +214,7 @@ fn are_same_sizes(a: &[u32], b: &[u32]) -> bool
 
 /// Whether two layouts cut one shape. No memory.
 pub fn cut_one_shape(a: &Layout, b: &Layout) -> bool
-    ensures { IsTrue result → lengths a.now ≡ lengths b.now }
+    ensures { IsTrue result ↔ lengths a.now ≡ lengths b.now }
 {
     let left = a.axes();
     let right = b.axes();

@@ -33,4 +33,4 @@ pub mod uses;
 pub use error::LowerError;
 pub use expression::lower;
 pub use finish::Lowered;
-pub use job::{Elements, JobGraph};
+pub use job::{Elements, JobGraph, law_of_jobs};

@@ -4,14 +4,17 @@ use Rattle.std.specs.Prelude.{◌⊎◌, IfSome, IsSomeAnd}
 use Rattle.io_edge.specs.View.{View, Files}
 use Rattle.nd_shape.specs.Block.{Array}
 use Rattle.npy_codec.specs.declared.head.Head.{Head}
+use Rattle.plain_eval.specs.Eval.{held_in}
+use Rattle.task_graph.specs.declared.limit.Quantity.{Quantity}
+use Rattle.lowering_laws.specs.Lowered.{limit_of}
 use Rattle.job_run.specs.declared.ends.Ended.{Ended}
 use Rattle.job_run.specs.declared.ends.Ended.TheVariants as RunEnds
 use Rattle.job_run.specs.declared.ends.FileError.{FileError}
 use Rattle.job_run.specs.declared.ends.FileError.TheVariants.{Npy, Shape}
 use Rattle.job_run.specs.Inputs.{FitInputs, FirstRefusal, HoldArrays, HoldsArray, InputRefused, InputsFit, RefusesFile, told_all}
 use Rattle.job_run.specs.Plan.{Plan, input_shapes}
-use Rattle.job_run.specs.Runs.{Cause as RunCause, HasValues, HasZero}
-use Rattle.job_run.specs.Values.{MeetsNone, MeetsZero, values_of}
+use Rattle.job_run.specs.Runs.{Cause as RunCause, HasFault, HasValues, HasZero, IsSmall}
+use Rattle.job_run.specs.Values.{IsFaulty, MeetsNone, MeetsZero}
 use Rattle.job_run.proofs.OneArray.{not_refused, one_head}
 use Rattle.job_text.specs.declared.error.JobError.{JobError}
 use Rattle.job_text.specs.declared.error.JobKind.TheVariants as Kinds
@@ -20,15 +23,12 @@ use Rattle.dask_top.specs.declared.answer.End.{End}
 use Rattle.sim_words.specs.declared.sim.SimWords.{SimWords}
 use Rattle.sim_run.specs.declared.ends.SimEnded.{SimEnded}
 use Rattle.sim_run.specs.declared.ends.SimEnded.TheVariants as SimEnds
-use Rattle.sim_run.specs.Ends.{Cause as SimCause}
-use Rattle.sim_run.specs.Forms.{HasManyChunks, IsAddition, IsSimulable, IsTextJob, chunks_in, operations}
-use Rattle.sim_run.specs.Simulated.{IsOutOfEvents, SimulatesTo}
-use Rattle.sim_run.specs.declared.form.Addition.{Addition}
+use Rattle.sim_run.specs.Ends.{Cause as SimCause, WhereTold}
 use Rattle.sim_words.proofs.Saying.{one_sim}
-use Rattle.dask_top.specs.declared.answer.End.TheVariants.{Words, Job, Limit, NotBuilt, Keys, Events, Turns, Done, File, Zero, ReadFault, WriteFault, OutOfMemory}
+use Rattle.dask_top.specs.declared.answer.End.TheVariants.{Words, Job, Limit, Graph, Events, Turns, Done, File, Zero, ReadFault, WriteFault, OutOfMemory}
 use Rattle.dask_top.specs.Answers.{Answers, AskedDoes, Performs}
 use Rattle.dask_top.specs.Commands.{Command, Run, Plain, Sim, Asks, Asked, IsAsked, Known, Unread, Work, Evaluation, Simulation, sources_of, work_of}
-use Rattle.dask_top.specs.Completing.{Completes, EndsByInputs, EndsBySimulation, EndsByTexts, EndsByWork, MeetNoZero, MeetZero, NoFault}
+use Rattle.dask_top.specs.Completing.{Completes, EndsByInputs, EndsBySimulation, EndsByTexts, EndsByWork, MeetNoZero, MeetZero, NeverEnds, NoFault}
 use Rattle.dask_top.specs.Ends.{run_end, sim_end, status_of}
 use Rattle.dask_top.specs.Reading.{IsRead, Reading, Reads, RefusesText, SaysPlan, plan_said}
 use Rattle.dask_top.specs.Telling.{end_of, sim_end_of}
@@ -37,6 +37,10 @@ use Rattle.dask_top.specs.Works.{Does, Evaluates, RefusalCause, Simulates, Unrea
 told_and : {A : Type 0} (o : Option A) (P Q : A → Type 0) → IsSomeAnd o P → IfSome o Q → (x : A) × P x × Q x
 told_and None P Q both if = absurd both
 told_and (Some x) P Q both if = (x, both, if)
+
+if_then : {A : Type 0} (o : Option A) (P Q : A → Type 0) → ((x : A) → P x → Q x) → IfSome o P → IfSome o Q
+if_then None P Q f told = tt
+if_then (Some x) P Q f told = f x told
 
 -- ## A file that fits isn't refused
 
@@ -55,15 +59,23 @@ not_refused_input p files place error fit refused =
 
 -- ## No zero divisor is met, or some
 
-not_zero : (p : Plan) (files : Files) (node : ℕ) (block : List ℕ) → IsSomeAnd (told_all files.held p.inputs) (MeetNoZero p) → HasZero p files node block → ⊥
-not_zero p files node block meets has =
-    let t = told_and (told_all files.held p.inputs) (MeetNoZero p) (λ contents. (blocks : List Array) → HoldArrays (input_shapes p.nodes) contents blocks → MeetsZero p (values_of p blocks) node block) meets has.zero_at in
-    t.1.none node block (t.2 t.1.blocks t.1.hold).fault
+not_faulty : (p : Plan) (files : Files) (node : ℕ) (block : List ℕ) → IsSomeAnd (told_all files.held p.inputs) (MeetNoZero p) → HasFault p files node block → ⊥
+not_faulty p files node block meets has =
+    let t = told_and (told_all files.held p.inputs) (MeetNoZero p) (λ contents. (blocks : List Array) → HoldArrays (input_shapes p.nodes) contents blocks → IsFaulty p (held_in blocks) node block) meets has.zero_at in
+    let fault = t.2 t.1.blocks t.1.hold in
+    t.1.none fault.key (record { node = node; number = fault.number; needed = fault.needed; missing = fault.divides.missing })
+
+first_faulty : (p : Plan) (files : Files) (node : ℕ) (block : List ℕ) → HasZero p files node block → HasFault p files node block
+first_faulty p files node block has = record {
+  inputs = has.inputs;
+  zero_at = if_then (told_all files.held p.inputs) (λ contents. (blocks : List Array) → HoldArrays (input_shapes p.nodes) contents blocks → MeetsZero p (held_in blocks) node block)
+      (λ contents. (blocks : List Array) → HoldArrays (input_shapes p.nodes) contents blocks → IsFaulty p (held_in blocks) node block) (λ contents meets blocks hold. (meets blocks hold).fault) has.zero_at;
+}
 
 not_all : (p : Plan) (files : Files) → IsSomeAnd (told_all files.held p.inputs) (MeetZero p) → HasValues p files → ⊥
 not_all p files meets has =
-    let t = told_and (told_all files.held p.inputs) (MeetZero p) (λ contents. (blocks : List Array) → HoldArrays (input_shapes p.nodes) contents blocks → MeetsNone p (values_of p blocks)) meets has.values in
-    t.2 t.1.blocks t.1.hold t.1.node t.1.block t.1.fault
+    let t = told_and (told_all files.held p.inputs) (MeetZero p) (λ contents. (blocks : List Array) → HoldArrays (input_shapes p.nodes) contents blocks → MeetsNone p (held_in blocks)) meets has.values in
+    t.2 t.1.blocks t.1.hold t.1.key t.1.fault
 
 -- ## The laws of texts
 
@@ -88,16 +100,20 @@ not_fit p files unfit fit =
     let t = told_and (told_all files.held p.inputs) (λ contents. ¬ FitInputs p contents) (FitInputs p) unfit fit.fit in
     t.1 t.2
 
+no_limit : (p : Plan) (quantity : Quantity) → limit_of p.nodes ≡ Some quantity → IsSmall p → ⊥
+no_limit p quantity passes small = cc
+
 run_memory : (p : Plan) (old : View) → EndsByInputs p old 8
-run_memory p old = record { unfit = λ u. inr refl; some = λ f m. inr refl; none = λ f m. inr refl }
+run_memory p old = record { large = λ l. inr refl; unfit = λ s u. inr refl; some = λ s f m. inr refl; none = λ s f m. inr refl }
 
 sim_memory : (p : Plan) (said : SimWords) (old : View) → EndsBySimulation p said old 8
 sim_memory p said old = record {
-  other = λ o. inr refl;
-  many = λ m. inr refl;
+  large = λ l. inr refl;
   unfit = λ s u. inr refl;
-  fit = λ s f none. inr (inr refl);
-  limit = λ s f. inr (inr (inr refl));
+  some = λ s f m ends. inr (inr refl);
+  none = λ s f m ends. inr (inr refl);
+  some_limit = λ s f m. inr (inr (inr refl));
+  none_limit = λ s f m. inr (inr (inr refl));
 }
 
 memory_ends : (work : Work) (p : Plan) (old : View) → EndsByWork work p old 8
@@ -105,79 +121,91 @@ memory_ends Evaluation p old = run_memory p old
 memory_ends (Simulation said) p old = sim_memory p said old
 
 run_completes : (p : Plan) (old new : View) (end : Ended) → NoFault old new → RunCause p old new end → EndsByInputs p old (status_of (end_of end))
-run_completes p old new RunEnds.Done faults cause = record { unfit = λ u. absurd (not_fit p old.files u cause.inputs); some = λ f m. absurd (not_all p old.files m cause); none = λ f m. inl refl }
-run_completes p old new RunEnds.OutOfMemory faults cause = run_memory p old
-run_completes p old new RunEnds.ReadFault faults cause = absurd (faults.read cause)
-run_completes p old new RunEnds.WriteFault faults cause = absurd (elim cause.1 [ inl w ↦ faults.write w | inr q ↦ faults.print q ])
-run_completes p old new (RunEnds.File place error) faults cause = record {
-  unfit = λ u. inl refl;
-  some = λ f m. absurd (not_refused_input p old.files place error f cause);
-  none = λ f m. absurd (not_refused_input p old.files place error f cause);
+run_completes p old new RunEnds.Done faults cause = record {
+  large = λ l. absurd (l cause.0);
+  unfit = λ s u. absurd (not_fit p old.files u cause.1.inputs);
+  some = λ s f m. absurd (not_all p old.files m cause.1);
+  none = λ s f m. inl refl;
 }
-run_completes p old new (RunEnds.Zero node) faults cause = record { unfit = λ u. absurd (not_fit p old.files u cause.inputs); some = λ f m. inl refl; none = λ f m. absurd (not_zero p old.files node _ m cause) }
+run_completes p old new (RunEnds.Limit quantity) faults cause = record {
+  large = λ l. inl refl;
+  unfit = λ s u. absurd (no_limit p quantity cause s);
+  some = λ s f m. absurd (no_limit p quantity cause s);
+  none = λ s f m. absurd (no_limit p quantity cause s);
+}
+run_completes p old new (RunEnds.File place error) faults cause = record {
+  large = λ l. absurd (l cause.0);
+  unfit = λ s u. inl refl;
+  some = λ s f m. absurd (not_refused_input p old.files place error f cause.1);
+  none = λ s f m. absurd (not_refused_input p old.files place error f cause.1);
+}
+run_completes p old new (RunEnds.Zero node block) faults cause = record {
+  large = λ l. absurd (l cause.0);
+  unfit = λ s u. absurd (not_fit p old.files u cause.1.inputs);
+  some = λ s f m. inl refl;
+  none = λ s f m. absurd (not_faulty p old.files node block m (first_faulty p old.files node block cause.1));
+}
+run_completes p old new RunEnds.ReadFault faults cause = absurd (faults.read cause.1)
+run_completes p old new RunEnds.WriteFault faults cause = absurd (elim cause.2 [ inl w ↦ faults.write w | inr q ↦ faults.print q.1 ])
+run_completes p old new RunEnds.OutOfMemory faults cause = run_memory p old
 
 -- ## The end of a simulation
 
-one_chunks : (p : Plan) (a b : Addition) → IsAddition p a → IsAddition p b → chunks_in a ≡ chunks_in b
-one_chunks p a b is_a is_b =
-    let same : operations a ≡ operations b = sym is_a.nodes ∙ is_b.nodes in
-    let count : a.count ≡ b.count = cc in
-    let size : a.size ≡ b.size = cc in
-    rw (count, size) refl
-
-not_many : (p : Plan) → IsSimulable p → HasManyChunks p → ⊥
-not_many p can many = let same : chunks_in can.addition ≡ chunks_in many.addition = one_chunks p can.addition many.addition can.can.is many.is in omega (arith, same, can.can.few, many.many)
-
-with_limit : (status : ℕ) → (status ≡ 0) ⊎ ((status ≡ 10) ⊎ (status ≡ 8)) → (status ≡ 0) ⊎ ((status ≡ 10) ⊎ ((status ≡ 9) ⊎ (status ≡ 8)))
-with_limit status ends = elim ends [ inl well ↦ inl well | inr other ↦ elim other [ inl turns ↦ inr (inl turns) | inr memory ↦ inr (inr (inr memory)) ] ]
-
--- what has to be known of an end at which the job can be simulated, and no limit was passed
-simulable_ends : (p : Plan) (said : SimWords) (old : View) (status : ℕ) → IsSimulable p → (IsSomeAnd (told_all old.files.held p.inputs) (λ contents. ¬ FitInputs p contents) → (status ≡ 3) ⊎ (status ≡ 8)) →
-    (IsSomeAnd (told_all old.files.held p.inputs) (FitInputs p) → (status ≡ 0) ⊎ ((status ≡ 10) ⊎ (status ≡ 8))) → EndsBySimulation p said old status
-simulable_ends p said old status can unfit fit = record {
-  other = λ none. absurd (none can.addition can.can.is);
-  many = λ m. absurd (not_many p can m);
-  unfit = λ s u. unfit u;
-  fit = λ s f none. fit f;
-  limit = λ s f. with_limit status (fit f);
+-- a simulation of a small job may end with any status that an evaluation of it may
+run_ends : (p : Plan) (said : SimWords) (old : View) (status : ℕ) → EndsByInputs p old status → EndsBySimulation p said old status
+run_ends p said old status ends = record {
+  large = ends.large;
+  unfit = ends.unfit;
+  some = λ s f m going. elim (ends.some s f m) [ inl zero ↦ inl zero | inr memory ↦ inr (inr memory) ];
+  none = λ s f m going. elim (ends.none s f m) [ inl well ↦ inl well | inr memory ↦ inr (inr memory) ];
+  some_limit = λ s f m. elim (ends.some s f m) [ inl zero ↦ inl zero | inr memory ↦ inr (inr (inr memory)) ];
+  none_limit = λ s f m. elim (ends.none s f m) [ inl well ↦ inl well | inr memory ↦ inr (inr (inr memory)) ];
 }
 
 -- the limit of events was passed
-limit_ends : (p : Plan) (said : SimWords) (old : View) → SimulatesTo (IsTextJob p old.files said) said IsOutOfEvents → EndsBySimulation p said old 9
-limit_ends p said old to = record {
-  other = λ none. absurd (none to.is.addition to.is.can.is);
-  many = λ m. inl refl;
-  unfit = λ s u. absurd (not_fit p old.files u to.is.inputs);
-  fit = λ s f none. absurd (none to);
-  limit = λ s f. inr (inr (inl refl));
+limit_ends : (p : Plan) (said : SimWords) (old : View) → InputsFit p old.files → WhereTold p old.files (NeverEnds p said old) → EndsBySimulation p said old 9
+limit_ends p said old fit never = record {
+  large = λ l. inl refl;
+  unfit = λ s u. absurd (not_fit p old.files u fit);
+  some = λ s f m ends. absurd (ends (told_and (told_all old.files.held p.inputs) (FitInputs p) (λ contents. NeverEnds p said old) f never).2);
+  none = λ s f m ends. absurd (ends (told_and (told_all old.files.held p.inputs) (FitInputs p) (λ contents. NeverEnds p said old) f never).2);
+  some_limit = λ s f m. inr (inr (inl refl));
+  none_limit = λ s f m. inr (inr (inl refl));
 }
 
-sim_run_completes : (p : Plan) (said : SimWords) (old new : View) (end : Ended) → NoFault old new → SimCause p said old new (SimEnds.Ran end) → EndsBySimulation p said old (status_of (end_of end))
-sim_run_completes p said old new RunEnds.Done faults cause = simulable_ends p said old 0 cause.0 (λ u. absurd (not_fit p old.files u cause.1.inputs)) (λ f. inl refl)
-sim_run_completes p said old new (RunEnds.File place error) faults cause = simulable_ends p said old 3 cause.0 (λ u. inl refl) (λ f. absurd (not_refused_input p old.files place error f cause.1))
-sim_run_completes p said old new (RunEnds.Zero node) faults cause = absurd cause
+-- the turns came to their end
+turns_end : (p : Plan) (said : SimWords) (old : View) → IsSmall p → InputsFit p old.files → EndsBySimulation p said old 10
+turns_end p said old small fit = record {
+  large = λ l. absurd (l small);
+  unfit = λ s u. absurd (not_fit p old.files u fit);
+  some = λ s f m ends. inr (inl refl);
+  none = λ s f m ends. inr (inl refl);
+  some_limit = λ s f m. inr (inl refl);
+  none_limit = λ s f m. inr (inl refl);
+}
+
+-- some needed block met a zero divisor, not always the first
+fault_ends : (p : Plan) (old : View) (node : ℕ) (block : List ℕ) → IsSmall p → HasFault p old.files node block → EndsByInputs p old 4
+fault_ends p old node block small has = record {
+  large = λ l. absurd (l small);
+  unfit = λ s u. absurd (not_fit p old.files u has.inputs);
+  some = λ s f m. inl refl;
+  none = λ s f m. absurd (not_faulty p old.files node block m has);
+}
+
+sim_run_completes : (p : Plan) (said : SimWords) (old new : View) (end : Ended) → NoFault old new → SimCause p said old new (SimEnds.Ran end) → EndsByInputs p old (status_of (end_of end))
+sim_run_completes p said old new RunEnds.Done faults cause = run_completes p old new RunEnds.Done faults cause
+sim_run_completes p said old new (RunEnds.Limit quantity) faults cause = run_completes p old new (RunEnds.Limit quantity) faults cause
+sim_run_completes p said old new (RunEnds.File place error) faults cause = run_completes p old new (RunEnds.File place error) faults cause
+sim_run_completes p said old new (RunEnds.Zero node block) faults cause = fault_ends p old node block cause.0 cause.1
 sim_run_completes p said old new RunEnds.ReadFault faults cause = absurd (faults.read cause.1)
 sim_run_completes p said old new RunEnds.WriteFault faults cause = absurd (elim cause.2 [ inl w ↦ faults.write w | inr q ↦ faults.print q ])
-sim_run_completes p said old new RunEnds.OutOfMemory faults cause = sim_memory p said old
+sim_run_completes p said old new RunEnds.OutOfMemory faults cause = run_memory p old
 
 sim_completes : (p : Plan) (said : SimWords) (old new : View) (end : SimEnded) → NoFault old new → SimCause p said old new end → EndsBySimulation p said old (status_of (sim_end_of end))
-sim_completes p said old new SimEnds.NotBuilt faults cause = record {
-  other = λ none. inl refl;
-  many = λ m. absurd (cause m.addition m.is);
-  unfit = λ s u. absurd (cause s.addition s.can.is);
-  fit = λ s f none. absurd (cause s.addition s.can.is);
-  limit = λ s f. absurd (cause s.addition s.can.is);
-}
-sim_completes p said old new SimEnds.Keys faults cause = record {
-  other = λ none. absurd (none cause.addition cause.is);
-  many = λ m. inl refl;
-  unfit = λ s u. absurd (not_many p s cause);
-  fit = λ s f none. absurd (not_many p s cause);
-  limit = λ s f. absurd (not_many p s cause);
-}
-sim_completes p said old new SimEnds.Events faults cause = limit_ends p said old cause
-sim_completes p said old new SimEnds.Turns faults cause = simulable_ends p said old 10 (record { addition = cause.is.addition; can = cause.is.can }) (λ u. absurd (not_fit p old.files u cause.is.inputs)) (λ f. inr (inl refl))
-sim_completes p said old new (SimEnds.Ran end) faults cause = sim_run_completes p said old new end faults cause
+sim_completes p said old new SimEnds.Events faults cause = limit_ends p said old cause.1 cause.2
+sim_completes p said old new SimEnds.Turns faults cause = turns_end p said old cause.0 cause.1
+sim_completes p said old new (SimEnds.Ran end) faults cause = run_ends p said old (status_of (end_of end)) (sim_run_completes p said old new end faults cause)
 
 -- ## The end of the work on a job
 
@@ -185,27 +213,25 @@ sim_completes p said old new (SimEnds.Ran end) faults cause = sim_run_completes 
 of_run : (P : Ended → Type 0) (Q : ℕ → Type 0) → ((e : Ended) → P e → Q (status_of (end_of e))) → (end : End) → IsSomeAnd (run_end end) P → Q (status_of end)
 of_run P Q f Done holds = f RunEnds.Done holds
 of_run P Q f (File place error) holds = f (RunEnds.File place error) holds
-of_run P Q f (Zero node) holds = f (RunEnds.Zero node) holds
+of_run P Q f (Zero node block) holds = f (RunEnds.Zero node block) holds
 of_run P Q f ReadFault holds = f RunEnds.ReadFault holds
 of_run P Q f WriteFault holds = f RunEnds.WriteFault holds
 of_run P Q f OutOfMemory holds = f RunEnds.OutOfMemory holds
 of_run P Q f Words holds = absurd holds
 of_run P Q f (Job error) holds = absurd holds
 of_run P Q f (Limit quantity) holds = absurd holds
-of_run P Q f NotBuilt holds = absurd holds
-of_run P Q f Keys holds = absurd holds
+of_run P Q f (Graph quantity) holds = f (RunEnds.Limit quantity) holds
 of_run P Q f Events holds = absurd holds
 of_run P Q f Turns holds = absurd holds
 
 of_sim : (P : SimEnded → Type 0) (Q : ℕ → Type 0) → ((e : SimEnded) → P e → Q (status_of (sim_end_of e))) → (end : End) → IsSomeAnd (sim_end end) P → Q (status_of end)
 of_sim P Q f Done holds = f (SimEnds.Ran RunEnds.Done) holds
 of_sim P Q f (File place error) holds = f (SimEnds.Ran (RunEnds.File place error)) holds
-of_sim P Q f (Zero node) holds = f (SimEnds.Ran (RunEnds.Zero node)) holds
+of_sim P Q f (Zero node block) holds = f (SimEnds.Ran (RunEnds.Zero node block)) holds
 of_sim P Q f ReadFault holds = f (SimEnds.Ran RunEnds.ReadFault) holds
 of_sim P Q f WriteFault holds = f (SimEnds.Ran RunEnds.WriteFault) holds
 of_sim P Q f OutOfMemory holds = f (SimEnds.Ran RunEnds.OutOfMemory) holds
-of_sim P Q f NotBuilt holds = f SimEnds.NotBuilt holds
-of_sim P Q f Keys holds = f SimEnds.Keys holds
+of_sim P Q f (Graph quantity) holds = f (SimEnds.Ran (RunEnds.Limit quantity)) holds
 of_sim P Q f Events holds = f SimEnds.Events holds
 of_sim P Q f Turns holds = f SimEnds.Turns holds
 of_sim P Q f Words holds = absurd holds
@@ -223,13 +249,12 @@ unread_memory old new ReadFault faults cause = absurd (faults.read cause)
 unread_memory old new OutOfMemory faults cause = refl
 unread_memory old new Done faults cause = absurd cause
 unread_memory old new (File place error) faults cause = absurd cause
-unread_memory old new (Zero node) faults cause = absurd cause
+unread_memory old new (Zero node block) faults cause = absurd cause
 unread_memory old new WriteFault faults cause = absurd cause
 unread_memory old new Words faults cause = absurd cause
 unread_memory old new (Job error) faults cause = absurd cause
 unread_memory old new (Limit quantity) faults cause = absurd cause
-unread_memory old new NotBuilt faults cause = absurd cause
-unread_memory old new Keys faults cause = absurd cause
+unread_memory old new (Graph quantity) faults cause = absurd cause
 unread_memory old new Events faults cause = absurd cause
 unread_memory old new Turns faults cause = absurd cause
 
@@ -242,12 +267,11 @@ refusal_ends e (Limit quantity) cause = inr (inl refl)
 refusal_ends e OutOfMemory cause = inr (inr refl)
 refusal_ends e Done cause = absurd cause
 refusal_ends e (File place error) cause = absurd cause
-refusal_ends e (Zero node) cause = absurd cause
+refusal_ends e (Zero node block) cause = absurd cause
 refusal_ends e ReadFault cause = absurd cause
 refusal_ends e WriteFault cause = absurd cause
 refusal_ends e Words cause = absurd cause
-refusal_ends e NotBuilt cause = absurd cause
-refusal_ends e Keys cause = absurd cause
+refusal_ends e (Graph quantity) cause = absurd cause
 refusal_ends e Events cause = absurd cause
 refusal_ends e Turns cause = absurd cause
 

@@ -2,7 +2,7 @@
 use Rattle.std.proofs.Common.{◌≡◌, ℕ, ◌+◌, ◌≤◌, List, ◌++◌, ap, sym, ◌∙◌, arith}
 use Rattle.io_edge.specs.View.{Files, Opens, raised, raised_by, times}
 use Rattle.job_run.specs.Part.{RaisedAtMost}
-use Rattle.job_run.proofs.Counting.{times-append}
+use Rattle.job_run.proofs.Counting.{raised_at_most, times-append}
 
 raised-raised : (count j k : ℕ) → raised (raised count j) k ≡ raised count (j + k)
 unfolding raised
@@ -17,5 +17,8 @@ raised_more names more old mid new opens most = record {
   at_most = λ n. omega (arith, opens.at_most n, most.at_most n, times-append n names more);
 }
 
-pub raised_at_least : (names : List (List ℕ)) (old new : List ℕ → ℕ) → new ≡ raised_by names old → (n : List ℕ) → raised_by names old n ≤ new n
-raised_at_least names old new is n = let e : new n ≡ raised (old n) (times n names) = ap (λ f. f n) is in omega (arith, e)
+-- only the first names were opened
+pub raised_first : (names more : List (List ℕ)) (old new : List ℕ → ℕ) → new ≡ raised_by names old → RaisedAtMost (names ++ more) old new
+raised_first names more old new is =
+    let most : RaisedAtMost names old new = raised_at_most names old new is in
+    record { grows = most.grows; at_most = λ n. omega (arith, most.at_most n, times-append n names more) }

@@ -46,4 +46,5 @@ runnable job fit = record {
       let first : j < length job.saves = omega (arith, below, before) in
       false_from_ne_true _ (λ e. fit.saves_apart j k nothing before below
       (sym (file-saved job.saves j first) ∙ (sym ((bytes_eq-Decides (name_at (names_saved (plan_said job)) k) (name_at (names_saved (plan_said job)) j)).0 e) ∙ file-saved job.saves k below)));
+  some = omega (arith, fit.some_saved, length-map job.saves saved);
 }

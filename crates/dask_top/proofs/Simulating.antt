@@ -3,52 +3,51 @@ use Rattle.std.proofs.Common.{◌≡◌, ℕ, ◌≤◌, List, ◌++◌, refl, a
 use Rattle.std.specs.Prelude.{IsSomeAnd}
 use Rattle.io_edge.specs.Content.{followed_by}
 use Rattle.io_edge.specs.View.{View, Files, Opens, OnlyReads, OnlyErr, raised_by}
+use Rattle.job_run.specs.declared.ends.Ended.{Ended}
 use Rattle.job_run.specs.declared.ends.Ended.TheVariants as RunEnds
-use Rattle.job_run.specs.Part.{IsNoneOf, RaisedAtMost}
 use Rattle.job_run.specs.Plan.{Plan, names_saved}
-use Rattle.job_run.specs.Runs.{Created as RunCreated, Looked, PrintsFront, Valued}
+use Rattle.job_run.specs.Runs.{Looked, PrintsFront}
 use Rattle.job_run.proofs.Counting.{none_raised}
 use Rattle.sim_words.specs.declared.sim.SimWords.{SimWords}
 use Rattle.sim_run.specs.declared.ends.SimEnded.{SimEnded}
 use Rattle.sim_run.specs.declared.ends.SimEnded.TheVariants as SimEnds
-use Rattle.sim_run.specs.Ends.{Cause as SimCause, Saves as SimSaves, Opened as SimOpens, Created as SimCreated, Prints as SimPrints, SimulatesPlan}
-use Rattle.sim_run.proofs.Over.{simulates_over, prints_over}
+use Rattle.sim_run.specs.Ends.{Cause as SimCause, Saves as SimSaves, RanSaves, Opened as SimOpens, Created as SimCreated, Prints as SimPrints, SimulatesPlan}
+use Rattle.sim_run.specs.Simulated.{IsOutOfEvents, IsOutOfTurns}
 use Rattle.dask_top.specs.declared.answer.End.{End}
 use Rattle.dask_top.specs.Answers.{Performs}
 use Rattle.dask_top.specs.Commands.{Simulation}
 use Rattle.dask_top.specs.Ends.{Notes, sim_end}
 use Rattle.dask_top.specs.Opening.{TextRead, JobRead}
-use Rattle.dask_top.specs.Telling.{IsPlaced, IsRefusal, Told, sim_end_of}
+use Rattle.dask_top.specs.Telling.{IsPlaced, IsRefusal, Told, end_of, sim_end_of}
 use Rattle.dask_top.specs.Works.{SimOpened, Simulates, WorkDoes}
-use Rattle.dask_top.proofs.Evaluating.{all_before, cause_before, fit_before, front_before, front_told, looked_from, memory_saves, opened_before, rose_later, saves_before, valued_before, values_before}
+use Rattle.dask_top.proofs.Evaluating.{all_before, cause_before, fit_before, front_before, front_told, looked_before, memory_saves, opened_before, refusal_opened, right_before, saves_before, values_before}
+use Rattle.dask_top.proofs.Over.{prints_over, told_over}
 use Rattle.dask_top.proofs.Reading.{is_read}
 use Rattle.dask_top.proofs.Unread.{notes_before}
 
 -- ## After it, only standard error got its line
 
 cause_told : (p : Plan) (said : SimWords) (old mid new : View) (end : SimEnded) → OnlyErr mid new → SimCause p said old mid end → SimCause p said old new end
-cause_told p said old mid new SimEnds.NotBuilt only cause = cause
-cause_told p said old mid new SimEnds.Keys only cause = cause
 cause_told p said old mid new SimEnds.Events only cause = cause
 cause_told p said old mid new SimEnds.Turns only cause = cause
 cause_told p said old mid new (SimEnds.Ran RunEnds.Done) only cause = cause
+cause_told p said old mid new (SimEnds.Ran (RunEnds.Limit quantity)) only cause = cause
 cause_told p said old mid new (SimEnds.Ran (RunEnds.File place error)) only cause = cause
-cause_told p said old mid new (SimEnds.Ran (RunEnds.Zero node)) only cause = cause
+cause_told p said old mid new (SimEnds.Ran (RunEnds.Zero node block)) only cause = cause
 cause_told p said old mid new (SimEnds.Ran RunEnds.ReadFault) only cause = rw only.read_faults cause
 cause_told p said old mid new (SimEnds.Ran RunEnds.WriteFault) only cause = rw (only.write_faults, only.print_faults) cause
 cause_told p said old mid new (SimEnds.Ran RunEnds.OutOfMemory) only cause = tt
 
 prints_told : (p : Plan) (said : SimWords) (old mid new : View) (end : SimEnded) → OnlyErr mid new → SimPrints p said old mid end → SimPrints p said old new end
-prints_told p said old mid new SimEnds.NotBuilt only prints = only.out ∙ prints
-prints_told p said old mid new SimEnds.Keys only prints = only.out ∙ prints
 prints_told p said old mid new SimEnds.Events only prints = only.out ∙ prints
 prints_told p said old mid new SimEnds.Turns only prints = only.out ∙ prints
 prints_told p said old mid new (SimEnds.Ran RunEnds.Done) only prints =
     prints_over p said old.files old.files refl (λ fit. fit) (λ lines. mid.out ≡ followed_by old.out lines) (λ lines. new.out ≡ followed_by old.out lines) (λ lines printed. only.out ∙ printed) prints
 prints_told p said old mid new (SimEnds.Ran RunEnds.WriteFault) only prints =
     prints_over p said old.files old.files refl (λ fit. fit) (PrintsFront p old mid) (PrintsFront p old new) (λ lines printed. front_told p old mid new lines only printed) prints
+prints_told p said old mid new (SimEnds.Ran (RunEnds.Limit quantity)) only prints = only.out ∙ prints
 prints_told p said old mid new (SimEnds.Ran (RunEnds.File place error)) only prints = only.out ∙ prints
-prints_told p said old mid new (SimEnds.Ran (RunEnds.Zero node)) only prints = only.out ∙ prints
+prints_told p said old mid new (SimEnds.Ran (RunEnds.Zero node block)) only prints = only.out ∙ prints
 prints_told p said old mid new (SimEnds.Ran RunEnds.ReadFault) only prints = only.out ∙ prints
 prints_told p said old mid new (SimEnds.Ran RunEnds.OutOfMemory) only prints = only.out ∙ prints
 
@@ -56,14 +55,12 @@ simulates_told : (sources : List (List ℕ)) (p : Plan) (said : SimWords) (old m
 simulates_told sources p said old mid new end only e =
     let S : Files → Type 0 = λ x. SimSaves p old.files x end in
     let L : Files → Type 0 = λ x. Looked p (sources ++ p.inputs) old.files x in
-    let V : Files → Type 0 = λ x. Valued p (sources ++ p.inputs) old.files x in
     let O : Files → Type 0 = λ x. SimOpened sources p.inputs old.files.opened x.opened end in
     let C : Files → Type 0 = λ x. SimCreated (names_saved p) old.files.created x.created end in
     record {
       cause = cause_told p said old mid new end only e.cause;
       saves = subst S (sym only.files) e.saves;
       looked = subst L (sym only.files) e.looked;
-      valued = subst V (sym only.files) e.valued;
       others = λ n none. ap (λ (x : Files). x.held n) only.files ∙ e.others n none;
       opened = subst O (sym only.files) e.opened;
       created = subst C (sym only.files) e.created;
@@ -72,41 +69,38 @@ simulates_told sources p said old mid new end only e =
 
 -- ## Memory was wanted for a refusal's line
 
-starved : (sources : List (List ℕ)) (p : Plan) (said : SimWords) (old new : View) → new.files.held ≡ old.files.held → Looked p (sources ++ p.inputs) old.files new.files → Valued p (sources ++ p.inputs) old.files new.files →
-    ((n : List ℕ) → IsNoneOf n (names_saved p) → new.files.held n ≡ old.files.held n) → RaisedAtMost (sources ++ p.inputs) old.files.opened new.files.opened → new.files.created ≡ old.files.created → new.out ≡ old.out → Simulates sources p said old new (SimEnds.Ran RunEnds.OutOfMemory)
-starved sources p said old new held looked valued others opened created prints = record {
+starved : (sources : List (List ℕ)) (p : Plan) (said : SimWords) (old new : View) (end : Ended) → IsRefusal (end_of end) → new.files.held ≡ old.files.held → new.files.created ≡ old.files.created → new.out ≡ old.out →
+    Simulates sources p said old new (SimEnds.Ran end) → Simulates sources p said old new (SimEnds.Ran RunEnds.OutOfMemory)
+starved sources p said old new end is held created prints e = record {
   cause = tt;
   saves = memory_saves p old.files new.files held;
-  looked = looked;
-  valued = valued;
-  others = others;
-  opened = opened;
+  looked = e.looked;
+  others = e.others;
+  opened = refusal_opened sources p.inputs old.files.opened new.files.opened end is e.opened;
   created = none_raised (names_saved p) old.files.created new.files.created created;
   prints = prints;
 }
 
 simulates_starved : (sources : List (List ℕ)) (p : Plan) (said : SimWords) (old new : View) (end : SimEnded) → IsRefusal (sim_end_of end) → Simulates sources p said old new end → Simulates sources p said old new (SimEnds.Ran RunEnds.OutOfMemory)
-simulates_starved sources p said old new (SimEnds.Ran (RunEnds.File place error)) is e = starved sources p said old new e.saves e.looked e.valued e.others e.opened e.created e.prints
-simulates_starved sources p said old new (SimEnds.Ran (RunEnds.Zero node)) is e = starved sources p said old new e.saves e.looked e.valued e.others e.opened e.created e.prints
+simulates_starved sources p said old new (SimEnds.Ran (RunEnds.File place error)) is e = starved sources p said old new (RunEnds.File place error) is e.saves e.created e.prints e
+simulates_starved sources p said old new (SimEnds.Ran (RunEnds.Limit quantity)) is e = starved sources p said old new (RunEnds.Limit quantity) is e.saves e.created e.prints e
+simulates_starved sources p said old new (SimEnds.Ran (RunEnds.Zero node block)) is e = starved sources p said old new (RunEnds.Zero node block) is e.saves e.created e.prints e
 simulates_starved sources p said old new (SimEnds.Ran RunEnds.Done) is e = absurd is
 simulates_starved sources p said old new (SimEnds.Ran RunEnds.ReadFault) is e = absurd is
 simulates_starved sources p said old new (SimEnds.Ran RunEnds.WriteFault) is e = absurd is
 simulates_starved sources p said old new (SimEnds.Ran RunEnds.OutOfMemory) is e = absurd is
-simulates_starved sources p said old new SimEnds.NotBuilt is e = absurd is
-simulates_starved sources p said old new SimEnds.Keys is e = absurd is
 simulates_starved sources p said old new SimEnds.Events is e = absurd is
 simulates_starved sources p said old new SimEnds.Turns is e = absurd is
 
 -- ## Its end as an end of the program
 
 sim_is : (P : SimEnded → Type 0) (end : SimEnded) → P end → IsSomeAnd (sim_end (sim_end_of end)) P
-sim_is P SimEnds.NotBuilt holds = holds
-sim_is P SimEnds.Keys holds = holds
 sim_is P SimEnds.Events holds = holds
 sim_is P SimEnds.Turns holds = holds
 sim_is P (SimEnds.Ran RunEnds.Done) holds = holds
+sim_is P (SimEnds.Ran (RunEnds.Limit quantity)) holds = holds
 sim_is P (SimEnds.Ran (RunEnds.File place error)) holds = holds
-sim_is P (SimEnds.Ran (RunEnds.Zero node)) holds = holds
+sim_is P (SimEnds.Ran (RunEnds.Zero node block)) holds = holds
 sim_is P (SimEnds.Ran RunEnds.ReadFault) holds = holds
 sim_is P (SimEnds.Ran RunEnds.WriteFault) holds = holds
 sim_is P (SimEnds.Ran RunEnds.OutOfMemory) holds = holds
@@ -120,13 +114,12 @@ simulated sources p said old mid new end now told only e =
     ]
 
 pub placed : (p : Plan) (said : SimWords) (old new : View) (end : SimEnded) → SimCause p said old new end → IsPlaced (Some (Ok p)) (sim_end_of end)
-placed p said old new SimEnds.NotBuilt cause = tt
-placed p said old new SimEnds.Keys cause = tt
 placed p said old new SimEnds.Events cause = tt
 placed p said old new SimEnds.Turns cause = tt
 placed p said old new (SimEnds.Ran RunEnds.Done) cause = tt
+placed p said old new (SimEnds.Ran (RunEnds.Limit quantity)) cause = tt
 placed p said old new (SimEnds.Ran (RunEnds.File place error)) cause = cause.1.within
-placed p said old new (SimEnds.Ran (RunEnds.Zero node)) cause = absurd cause
+placed p said old new (SimEnds.Ran (RunEnds.Zero node block)) cause = tt
 placed p said old new (SimEnds.Ran RunEnds.ReadFault) cause = tt
 placed p said old new (SimEnds.Ran RunEnds.WriteFault) cause = tt
 placed p said old new (SimEnds.Ran RunEnds.OutOfMemory) cause = tt
@@ -135,27 +128,31 @@ placed p said old new (SimEnds.Ran RunEnds.OutOfMemory) cause = tt
 
 sim_cause_before : (p : Plan) (said : SimWords) (old mid new : View) (end : SimEnded) → mid.files.held ≡ old.files.held → mid.files.tells ≡ old.files.tells → OnlyReads old mid → old.read_faults ≤ mid.read_faults →
     SimCause p said mid new end → SimCause p said old new end
-sim_cause_before p said old mid new SimEnds.NotBuilt held tells only later cause = cause
-sim_cause_before p said old mid new SimEnds.Keys held tells only later cause = cause
-sim_cause_before p said old mid new SimEnds.Events held tells only later cause = simulates_over p said old.files mid.files held (fit_before p old.files mid.files held tells) _ cause
-sim_cause_before p said old mid new SimEnds.Turns held tells only later cause = simulates_over p said old.files mid.files held (fit_before p old.files mid.files held tells) _ cause
-sim_cause_before p said old mid new (SimEnds.Ran RunEnds.Done) held tells only later cause = (cause.0, cause_before p old mid new RunEnds.Done held tells only later cause.1)
-sim_cause_before p said old mid new (SimEnds.Ran (RunEnds.File place error)) held tells only later cause = (cause.0, cause_before p old mid new (RunEnds.File place error) held tells only later cause.1)
-sim_cause_before p said old mid new (SimEnds.Ran (RunEnds.Zero node)) held tells only later cause = absurd cause
-sim_cause_before p said old mid new (SimEnds.Ran RunEnds.ReadFault) held tells only later cause = (cause.0, rose_later old.read_faults mid.read_faults new.read_faults later cause.1)
+sim_cause_before p said old mid new SimEnds.Events held tells only later cause = (cause.0, fit_before p old.files mid.files held tells cause.1, told_over p said old.files mid.files held (fit_before p old.files mid.files held tells) IsOutOfEvents cause.2)
+sim_cause_before p said old mid new SimEnds.Turns held tells only later cause = (cause.0, fit_before p old.files mid.files held tells cause.1, told_over p said old.files mid.files held (fit_before p old.files mid.files held tells) IsOutOfTurns cause.2)
+sim_cause_before p said old mid new (SimEnds.Ran RunEnds.Done) held tells only later cause = cause_before p old mid new RunEnds.Done held tells only later cause
+sim_cause_before p said old mid new (SimEnds.Ran (RunEnds.Limit quantity)) held tells only later cause = cause
+sim_cause_before p said old mid new (SimEnds.Ran (RunEnds.File place error)) held tells only later cause = cause_before p old mid new (RunEnds.File place error) held tells only later cause
+sim_cause_before p said old mid new (SimEnds.Ran (RunEnds.Zero node block)) held tells only later cause = (cause.0, record { inputs = fit_before p old.files mid.files held tells cause.1.inputs; zero_at = rw (← held) cause.1.zero_at })
+sim_cause_before p said old mid new (SimEnds.Ran RunEnds.ReadFault) held tells only later cause = cause_before p old mid new RunEnds.ReadFault held tells only later cause
 sim_cause_before p said old mid new (SimEnds.Ran RunEnds.WriteFault) held tells only later cause = (cause.0, values_before p old.files mid.files held tells cause.1, rw (← only.write_faults, ← only.print_faults) cause.2)
 sim_cause_before p said old mid new (SimEnds.Ran RunEnds.OutOfMemory) held tells only later cause = tt
 
+ran_saves_before : (p : Plan) (old mid new : Files) (end : Ended) → mid.held ≡ old.held → mid.tells ≡ old.tells → RanSaves p mid new end → RanSaves p old new end
+ran_saves_before p old mid new (RunEnds.Zero node block) held tells saves = saves ∙ held
+ran_saves_before p old mid new (RunEnds.Limit quantity) held tells saves = saves ∙ held
+ran_saves_before p old mid new (RunEnds.File place error) held tells saves = saves ∙ held
+ran_saves_before p old mid new RunEnds.Done held tells saves = saves_before p old mid new RunEnds.Done held tells saves
+ran_saves_before p old mid new RunEnds.ReadFault held tells saves = right_before p old mid new held tells saves
+ran_saves_before p old mid new RunEnds.WriteFault held tells saves = right_before p old mid new held tells saves
+ran_saves_before p old mid new RunEnds.OutOfMemory held tells saves = right_before p old mid new held tells saves
+
 sim_saves_before : (p : Plan) (old mid new : Files) (end : SimEnded) → mid.held ≡ old.held → mid.tells ≡ old.tells → SimSaves p mid new end → SimSaves p old new end
-sim_saves_before p old mid new SimEnds.NotBuilt held tells saves = saves ∙ held
-sim_saves_before p old mid new SimEnds.Keys held tells saves = saves ∙ held
 sim_saves_before p old mid new SimEnds.Events held tells saves = saves ∙ held
 sim_saves_before p old mid new SimEnds.Turns held tells saves = saves ∙ held
-sim_saves_before p old mid new (SimEnds.Ran end) held tells saves = saves_before p old mid new end held tells saves
+sim_saves_before p old mid new (SimEnds.Ran end) held tells saves = ran_saves_before p old mid new end held tells saves
 
 sim_opened_before : (names inputs : List (List ℕ)) (old mid : Files) (new : List ℕ → ℕ) (end : SimEnded) → Opens names old mid → mid.opened ≡ raised_by names old.opened → SimOpens inputs mid.opened new end → SimOpened names inputs old.opened new end
-sim_opened_before names inputs old mid new SimEnds.NotBuilt opens first opened = opened ∙ first
-sim_opened_before names inputs old mid new SimEnds.Keys opens first opened = opened ∙ first
 sim_opened_before names inputs old mid new SimEnds.Events opens first opened = all_before names inputs old.opened mid.opened new first opened
 sim_opened_before names inputs old mid new SimEnds.Turns opens first opened = all_before names inputs old.opened mid.opened new first opened
 sim_opened_before names inputs old mid new (SimEnds.Ran end) opens first opened = opened_before names inputs old mid new end opens first opened
@@ -164,28 +161,25 @@ sim_created_before : (names : List (List ℕ)) (old mid new : List ℕ → ℕ) 
 sim_created_before names old mid new end same created = let C : (List ℕ → ℕ) → Type 0 = λ f. SimCreated names f new end in subst C same created
 
 sim_prints_before : (p : Plan) (said : SimWords) (old mid new : View) (end : SimEnded) → mid.files.held ≡ old.files.held → mid.files.tells ≡ old.files.tells → mid.files.created ≡ old.files.created → OnlyReads old mid → SimPrints p said mid new end → SimPrints p said old new end
-sim_prints_before p said old mid new SimEnds.NotBuilt held tells created only prints = prints ∙ only.out
-sim_prints_before p said old mid new SimEnds.Keys held tells created only prints = prints ∙ only.out
 sim_prints_before p said old mid new SimEnds.Events held tells created only prints = prints ∙ only.out
 sim_prints_before p said old mid new SimEnds.Turns held tells created only prints = prints ∙ only.out
 sim_prints_before p said old mid new (SimEnds.Ran RunEnds.Done) held tells created only prints =
     prints_over p said old.files mid.files held (fit_before p old.files mid.files held tells) (λ lines. new.out ≡ followed_by mid.out lines) (λ lines. new.out ≡ followed_by old.out lines) (λ lines printed. printed ∙ ap (λ o. followed_by o lines) only.out) prints
 sim_prints_before p said old mid new (SimEnds.Ran RunEnds.WriteFault) held tells created only prints =
     prints_over p said old.files mid.files held (fit_before p old.files mid.files held tells) (PrintsFront p mid new) (PrintsFront p old new) (λ lines printed. front_before p old mid new lines held tells created only printed) prints
+sim_prints_before p said old mid new (SimEnds.Ran (RunEnds.Limit quantity)) held tells created only prints = prints ∙ only.out
 sim_prints_before p said old mid new (SimEnds.Ran (RunEnds.File place error)) held tells created only prints = prints ∙ only.out
-sim_prints_before p said old mid new (SimEnds.Ran (RunEnds.Zero node)) held tells created only prints = prints ∙ only.out
+sim_prints_before p said old mid new (SimEnds.Ran (RunEnds.Zero node block)) held tells created only prints = prints ∙ only.out
 sim_prints_before p said old mid new (SimEnds.Ran RunEnds.ReadFault) held tells created only prints = prints ∙ only.out
 sim_prints_before p said old mid new (SimEnds.Ran RunEnds.OutOfMemory) held tells created only prints = prints ∙ only.out
 
 simulates : (names : List (List ℕ)) (p : Plan) (said : SimWords) (old mid new : View) (read : List ℕ) (end : SimEnded) → TextRead names old mid read → SimulatesPlan p said mid new end → Simulates names p said old new end
 simulates names p said old mid new read end t sims =
     let opens = t.opens in
-    let valued : Valued p (names ++ p.inputs) old.files new.files = valued_before names p old.files mid.files new.files opens t.opened sims.valued in
     record {
       cause = sim_cause_before p said old mid new end opens.held opens.tells t.only t.later sims.cause;
       saves = sim_saves_before p old.files mid.files new.files end opens.held opens.tells sims.saves;
-      looked = looked_from (names ++ p.inputs) p old.files new.files valued;
-      valued = valued;
+      looked = looked_before names p old.files mid.files new.files opens t.opened sims.looked;
       others = λ n none. sims.others n none ∙ ap (λ f. f n) opens.held;
       opened = sim_opened_before names p.inputs old.files mid.files new.files.opened end opens t.opened sims.opened;
       created = sim_created_before (names_saved p) old.files.created mid.files.created new.files.created end opens.created sims.created;

@@ -7,7 +7,7 @@ use Rattle.job_run.specs.Runs.{AreUntouched}
 use Rattle.job_run.proofs.Counting.{opened_most}
 use Rattle.job_text.specs.declared.error.JobError.{JobError}
 use Rattle.dask_top.specs.declared.answer.End.{End}
-use Rattle.dask_top.specs.declared.answer.End.TheVariants.{Words, Job, Limit, NotBuilt, Keys, Events, Turns, Done, File, Zero, ReadFault, WriteFault, OutOfMemory}
+use Rattle.dask_top.specs.declared.answer.End.TheVariants.{Words, Job, Limit, Graph, Events, Turns, Done, File, Zero, ReadFault, WriteFault, OutOfMemory}
 use Rattle.dask_top.specs.Answers.{Performs}
 use Rattle.dask_top.specs.Commands.{Work}
 use Rattle.dask_top.specs.Ends.{GetsLine, Notes, line_of}
@@ -26,13 +26,12 @@ gets_before line old mid new err faults gets = rw (← err, ← faults) gets
 pub notes_before : (reading : Reading) (old mid new : View) (end : End) → mid.err ≡ old.err → mid.note_faults ≡ old.note_faults → Notes reading mid new end → Notes reading old new end
 notes_before reading old mid new Done err faults notes = notes ∙ err
 notes_before reading old mid new (File place error) err faults notes = gets_before (line_of reading (File place error)) old mid new err faults notes
-notes_before reading old mid new (Zero node) err faults notes = gets_before (line_of reading (Zero node)) old mid new err faults notes
+notes_before reading old mid new (Zero node block) err faults notes = gets_before (line_of reading (Zero node block)) old mid new err faults notes
 notes_before reading old mid new ReadFault err faults notes = gets_before (line_of reading ReadFault) old mid new err faults notes
 notes_before reading old mid new WriteFault err faults notes = gets_before (line_of reading WriteFault) old mid new err faults notes
 notes_before reading old mid new OutOfMemory err faults notes = gets_before (line_of reading OutOfMemory) old mid new err faults notes
 notes_before reading old mid new Words err faults notes = gets_before (line_of reading Words) old mid new err faults notes
-notes_before reading old mid new NotBuilt err faults notes = gets_before (line_of reading NotBuilt) old mid new err faults notes
-notes_before reading old mid new Keys err faults notes = gets_before (line_of reading Keys) old mid new err faults notes
+notes_before reading old mid new (Graph quantity) err faults notes = gets_before (line_of reading (Graph quantity)) old mid new err faults notes
 notes_before reading old mid new Events err faults notes = gets_before (line_of reading Events) old mid new err faults notes
 notes_before reading old mid new Turns err faults notes = gets_before (line_of reading Turns) old mid new err faults notes
 notes_before reading old mid new (Job error) err faults notes = gets_before (line_of reading (Job error)) old mid new err faults notes
@@ -98,11 +97,10 @@ text_performs names old mid new read (Limit quantity) now t ends told only notes
 text_performs names old mid new read OutOfMemory now t ends told only notes work = memory_performs names old mid new now t.opens t.only told only notes work
 text_performs names old mid new read Done now t ends told only notes work = absurd ends
 text_performs names old mid new read (File place error) now t ends told only notes work = absurd ends
-text_performs names old mid new read (Zero node) now t ends told only notes work = absurd ends
+text_performs names old mid new read (Zero node block) now t ends told only notes work = absurd ends
 text_performs names old mid new read ReadFault now t ends told only notes work = absurd ends
 text_performs names old mid new read WriteFault now t ends told only notes work = absurd ends
 text_performs names old mid new read Words now t ends told only notes work = absurd ends
-text_performs names old mid new read NotBuilt now t ends told only notes work = absurd ends
-text_performs names old mid new read Keys now t ends told only notes work = absurd ends
+text_performs names old mid new read (Graph quantity) now t ends told only notes work = absurd ends
 text_performs names old mid new read Events now t ends told only notes work = absurd ends
 text_performs names old mid new read Turns now t ends told only notes work = absurd ends

@@ -5,10 +5,11 @@ use Rattle.io_edge.specs.View.{View}
 use Rattle.nd_shape.specs.Block.{Array}
 use Rattle.job_run.specs.Inputs.{FitInputs, HoldArrays, told_all}
 use Rattle.job_run.specs.Plan.{Plan, input_shapes}
-use Rattle.job_run.specs.Values.{MeetsNone, NeedsFault, values_of}
-use Rattle.sim_run.specs.Forms.{HasManyChunks, IsAddition, IsSimulable, IsTextJob}
+use Rattle.job_run.specs.Runs.{IsSmall}
+use Rattle.job_run.specs.Values.{MeetsNone, NeedsFault}
+use Rattle.plain_eval.specs.Eval.{held_in}
+use Rattle.sim_run.specs.Jobs.{IsTextJob}
 use Rattle.sim_run.specs.Simulated.{IsOutOfEvents, SimulatesTo}
-use Rattle.sim_run.specs.declared.form.Addition.{Addition}
 use Rattle.sim_words.specs.declared.sim.SimWords.{SimWords}
 use Rattle.dask_top.specs.Commands.{Command, Asks, Work, Evaluation, Simulation, sources_of, work_of}
 use Rattle.dask_top.specs.Reading.{Reads}
@@ -17,15 +18,14 @@ use Rattle.dask_top.specs.Reading.{Reads}
 pub record MeetNoZero (p : Plan) (contents : List (List ℕ)) : Type 0 where
   pub blocks : List Array
   pub hold : HoldArrays (input_shapes p.nodes) contents blocks
-  pub none : MeetsNone p (values_of p blocks)
+  pub none : MeetsNone p (held_in blocks)
 
 -- files of these bytes hold arrays over which some needed block meets a zero divisor
 pub record MeetZero (p : Plan) (contents : List (List ℕ)) : Type 0 where
   pub blocks : List Array
   pub hold : HoldArrays (input_shapes p.nodes) contents blocks
-  pub node : ℕ
-  pub block : List ℕ
-  pub fault : NeedsFault p (values_of p blocks) node block
+  pub key : ℕ
+  pub fault : NeedsFault p (held_in blocks) key
 
 -- no count of faults that a status rests on rose
 pub record NoFault (old new : View) : Type 0 where
@@ -33,22 +33,31 @@ pub record NoFault (old new : View) : Type 0 where
   pub write : ¬ Rose old.write_faults new.write_faults
   pub print : ¬ Rose old.print_faults new.print_faults
 
--- How a job ends whose inputs are told: at an input where they are not as declared, else at a zero divisor where some needed block meets
--- one, else well; or memory was wanted.
-pub record EndsByInputs (p : Plan) (old : View) (status : ℕ) : Type 0 where
-  pub unfit : IsSomeAnd (told_all old.files.held p.inputs) (λ contents. ¬ FitInputs p contents) → (status ≡ 3) ⊎ (status ≡ 8)
-  pub some : IsSomeAnd (told_all old.files.held p.inputs) (FitInputs p) → IsSomeAnd (told_all old.files.held p.inputs) (MeetZero p) → (status ≡ 4) ⊎ (status ≡ 8)
-  pub none : IsSomeAnd (told_all old.files.held p.inputs) (FitInputs p) → IsSomeAnd (told_all old.files.held p.inputs) (MeetNoZero p) → (status ≡ 0) ⊎ (status ≡ 8)
+-- the files of the inputs are told, and this holds of their bytes
+abbrev pub Tell : Plan → View → (List (List ℕ) → Type 0) → Type 0
+Tell p old P = IsSomeAnd (told_all old.files.held p.inputs) P
 
--- How a simulation of a job by these words ends: it isn't built where the job is of another form, passes a limit where it has too many chunks, and else
--- ends at an input where that is told and not as declared. Where it is told and as declared, and no 2^40 events are drawn without an end, all is well or
--- the turns come to their end. Whatever is drawn, only these and the limit of events can come. At each of them memory may be wanted instead.
+-- How a job ends whose inputs are told: at a limit that its graph passes, else at an input where they are not as declared, else at a zero divisor where
+-- some needed block meets one, else well; or memory was wanted.
+pub record EndsByInputs (p : Plan) (old : View) (status : ℕ) : Type 0 where
+  pub large : ¬ IsSmall p → (status ≡ 9) ⊎ (status ≡ 8)
+  pub unfit : IsSmall p → Tell p old (λ contents. ¬ FitInputs p contents) → (status ≡ 3) ⊎ (status ≡ 8)
+  pub some : IsSmall p → Tell p old (FitInputs p) → Tell p old (MeetZero p) → (status ≡ 4) ⊎ (status ≡ 8)
+  pub none : IsSmall p → Tell p old (FitInputs p) → Tell p old (MeetNoZero p) → (status ≡ 0) ⊎ (status ≡ 8)
+
+-- a simulation of a job by these words draws 2^40 events and comes to no end
+abbrev pub NeverEnds : Plan → SimWords → View → Type 0
+NeverEnds p said old = SimulatesTo (IsTextJob p old.files said) said IsOutOfEvents
+
+-- How a simulation of a job by these words ends: as an evaluation of it does, or at the end of its turns, or after 2^40 events where as many are drawn
+-- without an end. At each of these memory may be wanted instead.
 pub record EndsBySimulation (p : Plan) (said : SimWords) (old : View) (status : ℕ) : Type 0 where
-  pub other : ((a : Addition) → ¬ IsAddition p a) → (status ≡ 2) ⊎ (status ≡ 8)
-  pub many : HasManyChunks p → (status ≡ 9) ⊎ (status ≡ 8)
-  pub unfit : IsSimulable p → IsSomeAnd (told_all old.files.held p.inputs) (λ contents. ¬ FitInputs p contents) → (status ≡ 3) ⊎ (status ≡ 8)
-  pub fit : IsSimulable p → IsSomeAnd (told_all old.files.held p.inputs) (FitInputs p) → ¬ SimulatesTo (IsTextJob p old.files said) said IsOutOfEvents → (status ≡ 0) ⊎ ((status ≡ 10) ⊎ (status ≡ 8))
-  pub limit : IsSimulable p → IsSomeAnd (told_all old.files.held p.inputs) (FitInputs p) → (status ≡ 0) ⊎ ((status ≡ 10) ⊎ ((status ≡ 9) ⊎ (status ≡ 8)))
+  pub large : ¬ IsSmall p → (status ≡ 9) ⊎ (status ≡ 8)
+  pub unfit : IsSmall p → Tell p old (λ contents. ¬ FitInputs p contents) → (status ≡ 3) ⊎ (status ≡ 8)
+  pub some : IsSmall p → Tell p old (FitInputs p) → Tell p old (MeetZero p) → ¬ NeverEnds p said old → (status ≡ 4) ⊎ ((status ≡ 10) ⊎ (status ≡ 8))
+  pub none : IsSmall p → Tell p old (FitInputs p) → Tell p old (MeetNoZero p) → ¬ NeverEnds p said old → (status ≡ 0) ⊎ ((status ≡ 10) ⊎ (status ≡ 8))
+  pub some_limit : IsSmall p → Tell p old (FitInputs p) → Tell p old (MeetZero p) → (status ≡ 4) ⊎ ((status ≡ 10) ⊎ ((status ≡ 9) ⊎ (status ≡ 8)))
+  pub none_limit : IsSmall p → Tell p old (FitInputs p) → Tell p old (MeetNoZero p) → (status ≡ 0) ⊎ ((status ≡ 10) ⊎ ((status ≡ 9) ⊎ (status ≡ 8)))
 
 abbrev pub EndsByWork : Work → Plan → View → ℕ → Type 0
 EndsByWork Evaluation p old status = EndsByInputs p old status

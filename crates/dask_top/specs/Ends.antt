@@ -6,25 +6,26 @@ use Rattle.io_edge.specs.View.{View}
 use Rattle.job_run.specs.declared.ends.Ended.{Ended}
 use Rattle.job_run.specs.declared.ends.Ended.TheVariants as RunEnds
 use Rattle.job_run.specs.Inputs.{file_error_text}
-use Rattle.job_run.specs.Values.{block_of, index_text}
+use Rattle.job_run.specs.Values.{index_text}
 use Rattle.job_text.specs.Texts.{job_error_text, quantity_text}
 use Rattle.sim_run.specs.declared.ends.SimEnded.{SimEnded}
 use Rattle.sim_run.specs.declared.ends.SimEnded.TheVariants as SimEnds
+use Rattle.task_graph.specs.declared.limit.Quantity.{Quantity}
+use Rattle.task_graph.specs.declared.limit.Quantity.TheVariants as Quantities
 use Rattle.dask_top.specs.declared.answer.End.{End}
-use Rattle.dask_top.specs.declared.answer.End.TheVariants.{Words, Job, Limit, NotBuilt, Keys, Events, Turns, Done, File, Zero, ReadFault, WriteFault, OutOfMemory}
+use Rattle.dask_top.specs.declared.answer.End.TheVariants.{Words, Job, Limit, Graph, Events, Turns, Done, File, Zero, ReadFault, WriteFault, OutOfMemory}
 use Rattle.dask_top.specs.Reading.{Reading, plan_in}
 
 abbrev pub status_of : End → ℕ
 status_of Words = 1
 status_of (Job error) = 2
 status_of (Limit quantity) = 9
-status_of NotBuilt = 2
-status_of Keys = 9
+status_of (Graph quantity) = 9
 status_of Events = 9
 status_of Turns = 10
 status_of Done = 0
 status_of (File place error) = 3
-status_of (Zero node) = 4
+status_of (Zero node block) = 4
 status_of ReadFault = 5
 status_of WriteFault = 6
 status_of OutOfMemory = 8
@@ -32,8 +33,9 @@ status_of OutOfMemory = 8
 -- the end of a run that this is, if it is one
 abbrev pub run_end : End → Option Ended
 run_end Done = Some RunEnds.Done
+run_end (Graph quantity) = Some (RunEnds.Limit quantity)
 run_end (File place error) = Some (RunEnds.File place error)
-run_end (Zero node) = Some (RunEnds.Zero node)
+run_end (Zero node block) = Some (RunEnds.Zero node block)
 run_end ReadFault = Some RunEnds.ReadFault
 run_end WriteFault = Some RunEnds.WriteFault
 run_end OutOfMemory = Some RunEnds.OutOfMemory
@@ -41,13 +43,12 @@ run_end end = None
 
 -- the end of a simulation that this is, if it is one
 abbrev pub sim_end : End → Option SimEnded
-sim_end NotBuilt = Some SimEnds.NotBuilt
-sim_end Keys = Some SimEnds.Keys
 sim_end Events = Some SimEnds.Events
 sim_end Turns = Some SimEnds.Turns
 sim_end Done = Some (SimEnds.Ran RunEnds.Done)
+sim_end (Graph quantity) = Some (SimEnds.Ran (RunEnds.Limit quantity))
 sim_end (File place error) = Some (SimEnds.Ran (RunEnds.File place error))
-sim_end (Zero node) = Some (SimEnds.Ran (RunEnds.Zero node))
+sim_end (Zero node block) = Some (SimEnds.Ran (RunEnds.Zero node block))
 sim_end ReadFault = Some (SimEnds.Ran RunEnds.ReadFault)
 sim_end WriteFault = Some (SimEnds.Ran RunEnds.WriteFault)
 sim_end OutOfMemory = Some (SimEnds.Ran RunEnds.OutOfMemory)
@@ -55,18 +56,23 @@ sim_end end = None
 
 -- ## The line on standard error
 
--- The line names the block at which a divisor is zero, and the input that is refused, by what was read.
+-- a limit of graphs, as it is printed
+abbrev pub graph_text : Quantity → List ℕ
+graph_text Quantities.Keys = codes "keys"
+graph_text Quantities.Edges = codes "edges"
+graph_text Quantities.BlockBytes = codes "block bytes"
+
+-- The line names the block at which a divisor is zero, and by what was read the input that is refused.
 unfoldable pub line_of : Reading → End → List ℕ
 line_of reading Words = codes "dask: words\n"
 line_of reading (Job error) = codes "dask: job " ++ job_error_text error ++ codes "\n"
 line_of reading (Limit quantity) = codes "dask: limit " ++ quantity_text quantity ++ codes "\n"
-line_of reading NotBuilt = codes "dask: job 1:1: not built\n"
-line_of reading Keys = codes "dask: limit keys\n"
+line_of reading (Graph quantity) = codes "dask: limit " ++ graph_text quantity ++ codes "\n"
 line_of reading Events = codes "dask: limit events\n"
 line_of reading Turns = codes "dask: turns\n"
 line_of reading Done = []
 line_of reading (File place error) = codes "dask: file " ++ slice_index_or (plan_in reading).inputs place [] ++ codes ": " ++ file_error_text error ++ codes "\n"
-line_of reading (Zero node) = codes "dask: zero division: node " ++ decimal node ++ codes " block " ++ index_text (block_of (plan_in reading) node) ++ codes "\n"
+line_of reading (Zero node block) = codes "dask: zero division: node " ++ decimal node ++ codes " block " ++ index_text block ++ codes "\n"
 line_of reading ReadFault = codes "dask: read fault\n"
 line_of reading WriteFault = codes "dask: write fault\n"
 line_of reading OutOfMemory = codes "dask: out of memory\n"

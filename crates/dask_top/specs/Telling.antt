@@ -1,12 +1,12 @@
 -- How the end of a job comes to be told on standard error, for the private functions.
-use Rattle.std.specs.Prelude.{◌≡◌, ◌<◌, ◌⊎◌, ℕ, List, length, replicate}
+use Rattle.std.specs.Prelude.{◌≡◌, ◌<◌, ◌⊎◌, ◌++◌, ℕ, List, length, codes, decimal}
+use Rattle.std.specs.List.{flat_map}
 use Rattle.job_run.specs.declared.ends.Ended.{Ended}
 use Rattle.job_run.specs.declared.ends.Ended.TheVariants as RunEnds
-use Rattle.job_run.specs.Values.{index_text}
 use Rattle.dask_top.specs.declared.answer.End.{End}
 use Rattle.sim_run.specs.declared.ends.SimEnded.{SimEnded}
 use Rattle.sim_run.specs.declared.ends.SimEnded.TheVariants as SimEnds
-use Rattle.dask_top.specs.declared.answer.End.TheVariants.{Words, Job, Limit, NotBuilt, Keys, Events, Turns, Done, File, Zero, ReadFault, WriteFault, OutOfMemory}
+use Rattle.dask_top.specs.declared.answer.End.TheVariants.{Words, Job, Limit, Graph, Events, Turns, Done, File, Zero, ReadFault, WriteFault, OutOfMemory}
 use Rattle.dask_top.specs.Reading.{Reading, plan_in}
 
 -- an end whose line is made when it comes
@@ -14,42 +14,41 @@ abbrev pub IsRefusal : End → Type 0
 IsRefusal (Job error) = Unit {0}
 IsRefusal (Limit quantity) = Unit {0}
 IsRefusal (File place error) = Unit {0}
-IsRefusal (Zero node) = Unit {0}
+IsRefusal (Zero node block) = Unit {0}
+IsRefusal (Graph quantity) = Unit {0}
 IsRefusal end = ⊥
 
 -- an end that was told is that end, or memory for the line was wanted
 abbrev pub Told : End → End → Type 0
 Told before now = (now ≡ before) ⊎ (IsRefusal before × (now ≡ OutOfMemory))
 
--- the place or the node that a refusal names is there
+-- the place that a refusal names is there
 abbrev pub IsPlaced : Reading → End → Type 0
 IsPlaced reading (File place error) = place < length (plan_in reading).inputs
-IsPlaced reading (Zero node) = node < length (plan_in reading).nodes
 IsPlaced reading end = Unit {0}
 
 -- an end whose line names nothing of a job
 abbrev pub IsOfText : End → Type 0
 IsOfText (File place error) = ⊥
-IsOfText (Zero node) = ⊥
+IsOfText (Zero node block) = ⊥
 IsOfText end = Unit {0}
 
 -- the end of the program that a run's is
 abbrev pub end_of : Ended → End
 end_of RunEnds.Done = Done
+end_of (RunEnds.Limit quantity) = Graph quantity
 end_of (RunEnds.File place error) = File place error
-end_of (RunEnds.Zero node) = Zero node
+end_of (RunEnds.Zero node block) = Zero node block
 end_of RunEnds.ReadFault = ReadFault
 end_of RunEnds.WriteFault = WriteFault
 end_of RunEnds.OutOfMemory = OutOfMemory
 
 -- and the one that a simulation's is
 abbrev pub sim_end_of : SimEnded → End
-sim_end_of SimEnds.NotBuilt = NotBuilt
-sim_end_of SimEnds.Keys = Keys
 sim_end_of SimEnds.Events = Events
 sim_end_of SimEnds.Turns = Turns
 sim_end_of (SimEnds.Ran end) = end_of end
 
--- the index of the one block of an array with this many axes
-abbrev pub block_text : ℕ → List ℕ
-block_text axes = index_text (replicate axes 0)
+-- numbers as they are printed behind others
+abbrev pub rest_of : List ℕ → List ℕ
+rest_of numbers = flat_map (λ n. codes ", " ++ decimal n) numbers

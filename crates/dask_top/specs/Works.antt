@@ -3,9 +3,10 @@ use Rattle.std.specs.Prelude.{◌≡◌, ℕ, List, ◌++◌, Option, None, Some
 use Rattle.io_edge.specs.Cause.{Rose}
 use Rattle.io_edge.specs.View.{View, raised_by}
 use Rattle.job_run.specs.declared.ends.Ended.{Ended}
+use Rattle.job_run.specs.declared.ends.Ended.TheVariants as RunEnds
 use Rattle.job_run.specs.Part.{IsNoneOf, RaisedAtMost}
 use Rattle.job_run.specs.Plan.{Plan, names_saved}
-use Rattle.job_run.specs.Runs.{AreUntouched, Looked, Valued, Cause as RunCause, Saves as RunSaves, Opened as RunOpened, Created as RunCreated, Prints as RunPrints}
+use Rattle.job_run.specs.Runs.{AreUntouched, Looked, Cause as RunCause, Saves as RunSaves, Opened as RunOpened, Created as RunCreated, Prints as RunPrints}
 use Rattle.job_text.specs.declared.error.JobError.{JobError}
 use Rattle.job_text.specs.declared.error.JobKind.{JobKind}
 use Rattle.job_text.specs.declared.error.JobKind.TheVariants as Kinds
@@ -53,20 +54,23 @@ pub record RefusesSources (sources : List (List ℕ)) (refusal : JobError) (old 
 
 -- ## An evaluation
 
+-- The sources, and the inputs of a job whose graph passes no limit, were opened just so often, or at most so often.
+abbrev pub JobOpened : List (List ℕ) → List (List ℕ) → (List ℕ → ℕ) → (List ℕ → ℕ) → Ended → Type 0
+JobOpened sources inputs old new (RunEnds.Limit quantity) = new ≡ raised_by sources old
+JobOpened sources inputs old new end = RunOpened (sources ++ inputs) old new end
+
 -- An evaluation of this job, read of these sources, that ends so.
 pub record Evaluates (sources : List (List ℕ)) (p : Plan) (old new : View) (end : Ended) : Type 0 where
   -- why it ends so
   pub cause : RunCause p old new end
   -- what the saved files hold
   pub saves : RunSaves p old.files new.files end
-  -- where a file was touched, the inputs were opened and accepted
+  -- where a file was touched, the inputs were opened, no name twice for it, and accepted
   pub looked : Looked p (sources ++ p.inputs) old.files new.files
-  -- where a file was touched, all values are there, and no name was opened twice for it
-  pub valued : Valued p (sources ++ p.inputs) old.files new.files
   -- no file but the saved ones is touched
   pub others : (n : List ℕ) → IsNoneOf n (names_saved p) → new.files.held n ≡ old.files.held n
   -- each name was opened just so often, or at most so often
-  pub opened : RunOpened (sources ++ p.inputs) old.files.opened new.files.opened end
+  pub opened : JobOpened sources p.inputs old.files.opened new.files.opened end
   -- the same of creations
   pub created : RunCreated (names_saved p) old.files.created new.files.created end
   -- the lines on standard output
@@ -74,20 +78,17 @@ pub record Evaluates (sources : List (List ℕ)) (p : Plan) (old new : View) (en
 
 -- ## A simulation
 
--- The sources, and the inputs of a job that is simulated, were opened just so often, or at most so often.
+-- the same of a simulation
 abbrev pub SimOpened : List (List ℕ) → List (List ℕ) → (List ℕ → ℕ) → (List ℕ → ℕ) → SimEnded → Type 0
-SimOpened sources inputs old new SimEnds.NotBuilt = new ≡ raised_by sources old
-SimOpened sources inputs old new SimEnds.Keys = new ≡ raised_by sources old
 SimOpened sources inputs old new SimEnds.Events = new ≡ raised_by (sources ++ inputs) old
 SimOpened sources inputs old new SimEnds.Turns = new ≡ raised_by (sources ++ inputs) old
-SimOpened sources inputs old new (SimEnds.Ran end) = RunOpened (sources ++ inputs) old new end
+SimOpened sources inputs old new (SimEnds.Ran end) = JobOpened sources inputs old new end
 
 -- A simulation of a cluster by these words, on this job, read of these sources, that ends so.
 pub record Simulates (sources : List (List ℕ)) (p : Plan) (said : SimWords) (old new : View) (end : SimEnded) : Type 0 where
   pub cause : SimCause p said old new end
   pub saves : SimSaves p old.files new.files end
   pub looked : Looked p (sources ++ p.inputs) old.files new.files
-  pub valued : Valued p (sources ++ p.inputs) old.files new.files
   pub others : (n : List ℕ) → IsNoneOf n (names_saved p) → new.files.held n ≡ old.files.held n
   pub opened : SimOpened sources p.inputs old.files.opened new.files.opened end
   pub created : SimCreated (names_saved p) old.files.created new.files.created end

@@ -1,20 +1,22 @@
 // The line on standard error.
-ghost use Rattle.std.specs.Prelude.{◌≡◌, ◌≤◌, ◌<◌, ◌++◌, List, ℕ, length, map, codes, decimal, string_bytes, IfOk, None, Some, Ok};
+ghost use Rattle.std.specs.Prelude.{◌≡◌, ◌≤◌, ◌<◌, ◌++◌, ◌∷◌, List, ℕ, length, map, codes, decimal, string_bytes, IfOk, OnOk, None, Some, Ok};
 ghost use Rattle.io_edge.specs.View.{OnlyErr};
 ghost use Rattle.job_run.specs.Inputs.{file_error_text};
 ghost use Rattle.job_run.specs.Jobs.{plan_of};
-ghost use Rattle.job_run.specs.Values.{block_of, index_text};
+ghost use Rattle.job_run.specs.Values.{index_text};
 ghost use Rattle.job_text.specs.Texts.{job_error_text, quantity_text};
-ghost use Rattle.dask_top.specs.Ends.{GetsLine, Notes, line_of};
+ghost use Rattle.nd_shape.specs.Shape.{comma_list};
+ghost use Rattle.dask_top.specs.Ends.{GetsLine, Notes, graph_text, line_of};
 ghost use Rattle.dask_top.specs.Reading.{Reading};
-ghost use Rattle.dask_top.specs.Telling.{IsOfText, IsPlaced, IsRefusal, Told, block_text, end_of, sim_end_of};
+ghost use Rattle.dask_top.specs.Telling.{IsOfText, IsPlaced, IsRefusal, Told, end_of, rest_of, sim_end_of};
 
 use crate::answer::End;
 use array_expr::NodeId;
 use io_edge::{Site, note_full};
 use job_run::{Ended, FileError, Job};
-use job_text::{JobError, Quantity};
+use job_text::JobError;
 use sim_run::SimEnded;
+use task_graph::Quantity;
 use std::alloc::{AllocError, Global};
 
 // Prints a line to standard error. A failure there changes nothing more.
@@ -31,7 +33,7 @@ fn job_line(alloc: Global, error: JobError) -> Result<String, AllocError>
     format!(in alloc; "dask: job {error}\n")
 }
 
-fn limit_line(alloc: Global, quantity: Quantity) -> Result<String, AllocError>
+fn limit_line(alloc: Global, quantity: job_text::Quantity) -> Result<String, AllocError>
     ensures { IfOk result (λ t. string_bytes t ≡ codes "dask: limit " ++ quantity_text quantity ++ codes "\n") }
 {
     format!(in alloc; "dask: limit {quantity}\n")
@@ -63,46 +65,72 @@ fn file_line(alloc: Global, name: &str, error: &FileError) -> Result<String, All
     Ok(line)
 }
 
-// The index of the one block of an array with this many axes.
-fn zeros(axes: usize) -> &'static str
-    requires { axes ≤ 8 }
-    ensures { result.now ≡ block_text axes }
+// The name of a limit of graphs.
+fn graph_name(quantity: Quantity) -> &'static str
+    ensures { result.now ≡ graph_text quantity }
 {
-    if axes == 0 {
-        return "()";
+    match quantity {
+        Quantity::Keys => "keys",
+        Quantity::Edges => "edges",
+        Quantity::BlockBytes => "block bytes",
     }
-    if axes == 1 {
-        return "(0)";
-    }
-    if axes == 2 {
-        return "(0, 0)";
-    }
-    if axes == 3 {
-        return "(0, 0, 0)";
-    }
-    if axes == 4 {
-        return "(0, 0, 0, 0)";
-    }
-    if axes == 5 {
-        return "(0, 0, 0, 0, 0)";
-    }
-    if axes == 6 {
-        return "(0, 0, 0, 0, 0, 0)";
-    }
-    if axes == 7 {
-        return "(0, 0, 0, 0, 0, 0, 0)";
-    }
-    "(0, 0, 0, 0, 0, 0, 0, 0)"
 }
 
-fn zero_line(alloc: Global, job: &Job, node: NodeId) -> Result<String, AllocError>
-    requires { node < length job.now.expr }
-    ensures { IfOk result (λ t. string_bytes t ≡ codes "dask: zero division: node " ++ decimal node ++ codes " block " ++ index_text (block_of (plan_of job.now) node) ++ codes "\n") }
+fn graph_line(alloc: Global, quantity: Quantity) -> Result<String, AllocError>
+    ensures { IfOk result (λ t. string_bytes t ≡ codes "dask: limit " ++ graph_text quantity ++ codes "\n") }
+{
+    let mut line = String::from_str(alloc, "dask: limit ")?;
+    line.push_str(graph_name(quantity))?;
+    line.push_str("\n")?;
+    Ok(line)
+}
+
+// Appends numbers, each behind a comma.
+fn push_rest(alloc: Global, text: &mut String, numbers: &[u64]) -> Result<(), AllocError>
+    ensures { OnOk result (string_bytes text.new ≡ string_bytes text.old ++ rest_of numbers.now) }
+{
+    for number in numbers {
+        let part = format!(in alloc; ", {number}")?;
+        text.push_str(part.as_str())?;
+    }
+    Ok(())
+}
+
+// Appends a number and others, with commas between them.
+fn push_several(alloc: Global, text: &mut String, first: u64, rest: &[u64]) -> Result<(), AllocError>
+    ensures { OnOk result (string_bytes text.new ≡ string_bytes text.old ++ comma_list (first ∷ rest.now)) }
+{
+    let part = format!(in alloc; "{first}")?;
+    text.push_str(part.as_str())?;
+    push_rest(alloc, text, rest)?;
+    Ok(())
+}
+
+// Appends numbers, with commas between them.
+fn push_list(alloc: Global, text: &mut String, numbers: &[u64]) -> Result<(), AllocError>
+    ensures { OnOk result (string_bytes text.new ≡ string_bytes text.old ++ comma_list numbers.now) }
+{
+    match numbers {
+        [] => Ok(()),
+        [first, rest @ ..] => push_several(alloc, text, *first, rest),
+    }
+}
+
+// Appends an index.
+fn push_index(alloc: Global, text: &mut String, index: &[u64]) -> Result<(), AllocError>
+    ensures { OnOk result (string_bytes text.new ≡ string_bytes text.old ++ index_text index.now) }
+{
+    text.push_str("(")?;
+    push_list(alloc, text, index)?;
+    text.push_str(")")
+}
+
+fn zero_line(alloc: Global, node: NodeId, block: &[u64]) -> Result<String, AllocError>
+    ensures { IfOk result (λ t. string_bytes t ≡ codes "dask: zero division: node " ++ decimal node ++ codes " block " ++ index_text block.now ++ codes "\n") }
 {
     let number = node.number();
-    let block = zeros(job.expr.shape_of(node).dims().len());
     let mut line = format!(in alloc; "dask: zero division: node {number} block ")?;
-    line.push_str(block)?;
+    push_index(alloc, &mut line, block)?;
     line.push_str("\n")?;
     Ok(line)
 }
@@ -140,8 +168,7 @@ pub fn tell_text<S: Site>(alloc: Global, site: &mut S, end: End) -> End
         End::Words => note(site, b"dask: words\n"),
         End::Job(error) => return tell_refusal(site, end, job_line(alloc, error)),
         End::Limit(quantity) => return tell_refusal(site, end, limit_line(alloc, quantity)),
-        End::NotBuilt => note(site, b"dask: job 1:1: not built\n"),
-        End::Keys => note(site, b"dask: limit keys\n"),
+        End::Graph(quantity) => return tell_refusal(site, end, graph_line(alloc, quantity)),
         End::Events => note(site, b"dask: limit events\n"),
         End::Turns => note(site, b"dask: turns\n"),
         End::Done => {}
@@ -169,9 +196,13 @@ pub fn tell_run<S: Site>(alloc: Global, site: &mut S, job: &Job, end: Ended) -> 
             let line = file_line(alloc, job.inputs[input].as_str(), &error);
             tell_refusal(site, End::File { input, error }, line)
         }
-        Ended::Zero { node } => {
-            let line = zero_line(alloc, job, node);
-            tell_refusal(site, End::Zero { node }, line)
+        Ended::Limit(quantity) => {
+            let line = graph_line(alloc, quantity);
+            tell_refusal(site, End::Graph(quantity), line)
+        }
+        Ended::Zero { node, block } => {
+            let line = zero_line(alloc, node, block.as_slice());
+            tell_refusal(site, End::Zero { node, block }, line)
         }
         Ended::ReadFault => {
             note(site, b"dask: read fault\n");
@@ -197,8 +228,6 @@ pub fn tell_sim<S: Site>(alloc: Global, site: &mut S, job: &Job, end: SimEnded) 
     ensures only { OnlyErr (S.view site.old) (S.view site.new) }
 {
     match end {
-        SimEnded::NotBuilt => tell_text(alloc, site, End::NotBuilt),
-        SimEnded::Keys => tell_text(alloc, site, End::Keys),
         SimEnded::Events => tell_text(alloc, site, End::Events),
         SimEnded::Turns => tell_text(alloc, site, End::Turns),
         SimEnded::Ran(end) => tell_run(alloc, site, job, end),

@@ -1,7 +1,7 @@
 -- Files while blocks are written into them, key by key.
-use Rattle.std.proofs.Common.{◌≡◌, ℕ, ◌+◌, ◌<◌, ◌≤◌, ◌≢◌, ◌⊎◌, List, [], ◌∷◌, ◌++◌, length, ap, sym, subst, ◌∙◌, arith, inl, inr, append-nil}
-use Rattle.std.specs.Prelude.{Option, Some, None, IsSome}
-use Rattle.io_edge.specs.Content.{Content, Told, Untold, OnTold, told_bytes}
+use Rattle.std.proofs.Common.{◌≡◌, ℕ, ◌+◌, ◌<◌, List, [], ◌∷◌, ◌++◌, length, ap, sym, subst, ◌∙◌, arith, inl, inr, append-nil}
+use Rattle.std.specs.Prelude.{Option, Some, None}
+use Rattle.io_edge.specs.Content.{Content, Told, Untold, OnTold}
 use Rattle.nd_shape.specs.Block.{Array}
 use Rattle.nd_shape.specs.Region.{Box}
 use Rattle.nd_shape.specs.Shape.{elements}
@@ -10,9 +10,9 @@ use Rattle.chunk_layout.specs.Layouts.{region}
 use Rattle.lowering_laws.specs.Lowered.{lowered}
 use Rattle.lowering_laws.specs.Named.{layout_of, box_of, name_of}
 use Rattle.npy_region.specs.Writing.{Turns}
-use Rattle.saved_files.specs.Filling.{IsFilling, IsPart, HoldsBox, Cover, file_of as bytes_of}
+use Rattle.saved_files.specs.Filling.{IsFilling, IsPart, HoldsBox, Cover, FillsWhole, file_of as bytes_of}
 use Rattle.saved_files.specs.Saving.{Saving, saving_at, FillsMore, FillsPart, IsOf}
-use Rattle.job_run.specs.Evaluating.{node_at, array_at, boxes_in, boxes_made, AreOpenFor, FilesHold, FilesRight, FilesWhole, HoldsNamed, HasLaws, SavesAt, SavesPart, SavesPartAt}
+use Rattle.job_run.specs.Evaluating.{node_at, array_at, boxes_in, boxes_made, AreOpenFor, FilesHold, FilesRight, FilesWhole, HoldsNamed, HasLaws, SavesAt, SavesPartAt}
 use Rattle.job_run.specs.Plan.{Plan, IsRunnable, nodes_saved}
 use Rattle.job_run.specs.Values.{Named}
 use Rattle.job_run.proofs.MadeBoxes.{boxes-next, box-here, box-elsewhere, all-covered}
@@ -121,15 +121,11 @@ hold-right p named boxes files h k there = right-part (array_at p named k) (boxe
 
 -- ## In the end
 
--- a file whose boxes hold every index is its array's
-abbrev pub WholeLaw : Type 0
-WholeLaw = (a : Array) (boxes : List Box) (bytes : List ℕ) → length a.cells ≡ elements a.shape → IsFilling a boxes bytes → Cover a.shape boxes → bytes ≡ bytes_of a
-
-whole-file : (a : Array) (boxes : List Box) (file : Content) → WholeLaw → length a.cells ≡ elements a.shape → Cover a.shape boxes → OnTold file (IsFilling a boxes) → OnTold file (λ bytes. bytes ≡ bytes_of a)
+whole-file : (a : Array) (boxes : List Box) (file : Content) → ((a : Array) (boxes : List Box) (bytes : List ℕ) → FillsWhole a boxes bytes) → length a.cells ≡ elements a.shape → Cover a.shape boxes → OnTold file (IsFilling a boxes) → OnTold file (λ bytes. bytes ≡ bytes_of a)
 whole-file a boxes (Told bytes) law count cover h = law a boxes bytes count h cover
 whole-file a boxes (Untold size) law count cover h = tt
 
-pub hold-whole : (p : Plan) (named : Named) (files : List Saving) → WholeLaw → IsRunnable p → HasLaws p named → FilesHold p named (boxes_made p (length (lowered p.nodes (nodes_saved p)).names)) files → FilesWhole p named files
+pub hold-whole : (p : Plan) (named : Named) (files : List Saving) → ((a : Array) (boxes : List Box) (bytes : List ℕ) → FillsWhole a boxes bytes) → IsRunnable p → HasLaws p named → FilesHold p named (boxes_made p (length (lowered p.nodes (nodes_saved p)).names)) files → FilesWhole p named files
 hold-whole p named files law runs laws h k there =
     let is : IsOf (shape_at p.nodes (node_at p k)) (array_at p named k) = saved-is p named k runs laws.expression there in
     let boxes = boxes_made p (length (lowered p.nodes (nodes_saved p)).names) k in

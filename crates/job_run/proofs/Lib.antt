@@ -1,9 +1,13 @@
 pub mod Counting
 pub mod Creating
+pub mod Evaluated
 pub mod FilledFiles
+pub mod Halting
 pub mod KeyValues
+pub mod Laws
 pub mod Loads
 pub mod MadeBoxes
+pub mod Naming
 pub mod OneArray
 pub mod OneHeader
 pub mod Running
@@ -11,4 +15,5 @@ pub mod SavePlaces
 pub mod SavedArrays
 pub mod SavesList
 pub mod SavingSteps
+pub mod Starting
 pub mod Told

@@ -1,6 +1,6 @@
 -- A block that is written into the files of its node, one file after another.
 use Rattle.std.proofs.Common.{◌≡◌, ℕ, ◌+◌, ◌<◌, ◌≤◌, ◌≢◌, ◌⊎◌, List, length, ap, sym, subst, refl, ◌∙◌, arith, inl, inr}
-use Rattle.std.specs.Prelude.{Option, Some, IsSome, is_some}
+use Rattle.std.specs.Prelude.{Option, Some, IsSome}
 use Rattle.std.proofs.lemmas.Bool.{cases_lt}
 use Rattle.io_edge.specs.Content.{Content, Told, Untold, told_bytes}
 use Rattle.nd_shape.specs.Block.{Array}

@@ -162,9 +162,10 @@ EvaluationCause p named told old new WriteFault = Rose old.write_faults new.writ
 EvaluationCause p named told old new OutOfMemory = Unit {0}
 EvaluationCause p named told old new end = ⊥
 
+-- all files are whole at the end, where the site tells
 abbrev pub EvaluationSaves : Plan → Named → Type 0 → Files → Files → Ended → Type 0
 EvaluationSaves p named told old new Done = told → IsTrue old.tells → AreWhole (names_saved p) (files_of p named) new
-EvaluationSaves p named told old new end = told → AreLeft (names_saved p) (files_of p named) old new
+EvaluationSaves p named told old new end = Unit {0}
 
 abbrev pub EvaluationCreates : List (List ℕ) → (List ℕ → ℕ) → (List ℕ → ℕ) → Ended → Type 0
 EvaluationCreates names old new Done = new ≡ raised_by names old
@@ -174,6 +175,7 @@ EvaluationCreates names old new end = RaisedAtMost names old new
 pub record EvaluatesInputs (p : Plan) (named : Named) (told : Type 0) (old new : View) (end : Ended) : Type 0 where
   pub cause : EvaluationCause p named told old new end
   pub saves : EvaluationSaves p named told old.files new.files end
+  pub left : told → AreLeft (names_saved p) (files_of p named) old.files new.files
   pub others : (n : List ℕ) → IsNoneOf n (names_saved p) → new.files.held n ≡ old.files.held n
   pub tells : new.files.tells ≡ old.files.tells
   pub opened : new.files.opened ≡ old.files.opened

@@ -7,5 +7,6 @@ pub mod Lowering
 pub mod Part
 pub mod Plan
 pub mod Runs
+pub mod Starting
 pub mod Told
 pub mod Values

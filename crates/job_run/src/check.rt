@@ -69,7 +69,7 @@ fn names_apart(saves: &[Save]) -> bool
 }
 
 impl Job {
-    /// Whether the job can be run: there are as many names of inputs as input nodes, the nodes that are saved are there,
+    /// Whether the job can be run: there are as many names of inputs as input nodes, some nodes are saved, those are there,
     /// and their names differ. No memory.
     pub fn is_runnable(&self) -> bool
         ensures yes { result ≡ true → IsRunnable (plan_of self.now) }
@@ -79,6 +79,7 @@ impl Job {
         let inputs = self.inputs.len() == input_count(nodes);
         let there = nodes_there(self.saves.as_slice(), nodes.len());
         let apart = names_apart(self.saves.as_slice());
-        inputs & there & apart
+        let some = self.saves.len() > 0;
+        inputs & there & apart & some
     }
 }

@@ -1,15 +1,19 @@
 -- The files of a job are those of its nodes.
-use Rattle.std.proofs.Common.{◌≡◌, ℕ, suc, ◌+◌, ◌<◌, Bool, true, false, cond, List, [], ◌∷◌, ◌++◌, length, map, Ok, Err, refl, ap, sym, subst, ◌∙◌, arith, append_assoc}
-use Rattle.std.specs.Prelude.{Result, IfOk, All}
+use Rattle.std.proofs.Common.{◌≡◌, ℕ, zero, suc, ◌+◌, ◌<◌, Bool, true, false, cond, nat_eq, List, [], ◌∷◌, ◌++◌, length, map, Some, None, Ok, Err, refl, ap, sym, subst, ◌∙◌, arith, append_assoc}
+use Rattle.std.specs.Prelude.{Option, Result, IfOk, All}
 use Rattle.std.proofs.lemmas.List.{append-nil}
 use Rattle.array_expr.specs.declared.expr.Node.{Node}
 use Rattle.array_expr.specs.Elem.{is_input}
+use Rattle.job_steps.specs.declared.step.Ending.{Ending}
+use Rattle.job_steps.specs.declared.step.Ending.TheVariants.{Whole, Unexpected, Unfinished, NoToken}
 use Rattle.job_script.specs.declared.asked.Asked.{Asked}
 use Rattle.job_script.specs.declared.asked.Asked.TheVariants as AskedVariants
 use Rattle.job_script.specs.declared.asked.Placed.{Placed}
 use Rattle.job_script.specs.Earlier.{asks_input, inputs_from}
-use Rattle.job_script.specs.Drafts.{empty_draft}
-use Rattle.job_script.specs.Scripts.{run}
+use Rattle.job_script.specs.declared.asked.Refusal.{Refusal}
+use Rattle.job_script.specs.declared.asked.Why.TheVariants as WhyVariants
+use Rattle.job_script.specs.Drafts.{Drafted, empty_draft}
+use Rattle.job_script.specs.Scripts.{first_of, refusal_at, run}
 use Rattle.job_script.proofs.Sound.{script-sound}
 use Rattle.job_text.specs.Nodes.{op_of, Builds}
 use Rattle.job_text.specs.Jobs.{Parts, spans_of, input_nodes, IsJob, FilesFit}
@@ -71,6 +75,28 @@ files-are text job j =
     let inputs : AreFiles job.inputs d.scoped.saves = subst (λ x. AreFiles x d.scoped.saves) (sym (j.inputs_are ∙ j.is_script.inputs j.whole)) files in
     subst (λ x. AreFiles job.inputs x) (sym (j.saves_are ∙ j.is_script.saves j.whole)) inputs
 
+none-later : (first later : Option Refusal) → first_of first later ≡ None → later ≡ None
+none-later None later none = none
+none-later (Some refusal) later none = absurd (cc)
+
+some-or : (refusal : Refusal) (count : ℕ) → cond (nat_eq count 0) (Some refusal) None ≡ None → 0 < count
+some-or refusal zero none = absurd (cc)
+some-or refusal (suc count) none = omega arith
+
+-- a text that is read to its end and not refused there saves something
+saves-some : (text : List ℕ) (ending : Ending) (d : Drafted) → refusal_at text ending d ≡ None → 0 < length d.scoped.saves
+saves-some text Whole d none = some-or (record { at = length text; why = WhyVariants.Grammar }) (length d.scoped.saves) none
+saves-some text (Unexpected t) d none = absurd (cc)
+saves-some text (Unfinished at) d none = absurd (cc)
+saves-some text (NoToken at) d none = absurd (cc)
+
+some-saved : (text : List ℕ) (job : Parts) → IsJob text job → 0 < length job.saves
+some-saved text job j =
+    let stopped = run text j.is_script.found.steps empty_draft in
+    let none = none-later stopped.refusal (refusal_at text j.is_script.found.ending stopped.draft) (sym j.is_script.refusal ∙ j.whole) in
+    let saved : length job.saves ≡ length stopped.draft.scoped.saves = ap length (j.saves_are ∙ j.is_script.saves j.whole) in
+    omega (arith, saved, saves-some text j.is_script.found.ending stopped.draft none)
+
 pub files-fit : (text : List ℕ) (job : Parts) → IsJob text job → FilesFit job
 files-fit text job j =
     let s = script-sound text j.script j.is_script in
@@ -84,6 +110,7 @@ files-fit text job j =
       saves_named = f.saves_named;
       saves_apart = f.saves_apart;
       saves_new = f.saves_new;
+      some_saved = some-saved text job j;
     }
 
 pub files-if : {E : Type 0} (text : List ℕ) (r : Result Parts E) → IfOk r (IsJob text) → IfOk r FilesFit

@@ -54,8 +54,8 @@ abbrev pub input_nodes : ℕ → List Node → List ℕ
 input_nodes k [] = []
 input_nodes k (n ∷ nodes) = cond (is_input n.op) (k ∷ input_nodes (suc k) nodes) (input_nodes (suc k) nodes)
 
--- The inputs have a file each, in their order, each save has a node, and each node a place. No file is saved twice, and none that is
--- read is saved.
+-- The inputs have a file each, in their order, each save has a node, and each node a place. Something is saved, no file is saved
+-- twice, and none that is read is saved.
 pub record FilesFit (job : Parts) : Type 0 where
   pub inputs_fit : map (λ n. n.node) job.inputs ≡ input_nodes 0 job.nodes
   pub saves_fit : All (λ n. n.node < length job.nodes) job.saves
@@ -64,6 +64,7 @@ pub record FilesFit (job : Parts) : Type 0 where
   pub saves_named : All (λ n. IsFileName n.name) job.saves
   pub saves_apart : AllPairs (λ a b. a.name ≢ b.name) job.saves
   pub saves_new : All (λ s. All (λ i. i.name ≢ s.name) job.inputs) job.saves
+  pub some_saved : 0 < length job.saves
 
 -- ---- the first refusal
 

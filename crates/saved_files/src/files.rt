@@ -1,5 +1,5 @@
 //! Files that are being saved.
-ghost use Rattle.std.specs.Prelude.{◌≡◌, ◌<◌, ◌≤◌, ◌+◌, ◌∷◌, [], ℕ, length, OnOk, OnErr, None};
+ghost use Rattle.std.specs.Prelude.{◌≡◌, ◌<◌, ◌≤◌, ◌+◌, ◌∷◌, [], ℕ, length, OnOk, OnErr, IsErrOf, None};
 ghost use Rattle.io_edge.specs.Cause.{HasOpenCause};
 ghost use Rattle.io_edge.specs.View.{Creates, OnlyWrites, raised_by, updated};
 ghost use Rattle.nd_shape.specs.Region.{IsPart};
@@ -51,8 +51,8 @@ impl<S: Site> SavedFiles<S> {
     /// long as it will be, and its elements are 0.
     ///
     /// # Errors
-    /// `Failed` only where the site's count of write faults rose, and `OutOfMemory` where no memory is left. No file is added
-    /// then: one that was created is given back.
+    /// `Failed` only where the site's count of write faults rose, and `OutOfMemory` where no memory is left: the site is as before
+    /// then. No file is added; one that was created is given back.
     pub fn create(
         &mut self,
         alloc: Global,
@@ -69,6 +69,9 @@ impl<S: Site> SavedFiles<S> {
         ensures fresh { OnOk result (IsFresh (S.view site.old).files.tells name.now shape.now (saving_at self.new (length self.old))) }
         ensures kept { OnErr result (self.new ≡ self.old) }
         ensures left { OnErr result (LeavesOne name.now shape.now (S.view site.old).files (S.view site.new).files) }
+        ensures tried { IsErrOf result OpenFault.Failed → (S.view site.new).files.created ≡ raised_by (name.now ∷ []) (S.view site.old).files.created }
+        ensures memory { IsErrOf result OpenFault.OutOfMemory → S.view site.new ≡ S.view site.old }
+        ensures no_faults { OnOk result ((S.view site.new).write_faults ≡ (S.view site.old).write_faults) }
         ensures only { OnlyWrites (S.view site.old) (S.view site.new) }
         ensures cause { HasOpenCause (S.view site.old).write_faults (S.view site.new).write_faults result }
     {

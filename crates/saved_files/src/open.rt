@@ -1,5 +1,5 @@
 // Open files, one by one.
-ghost use Rattle.std.specs.Prelude.{◌≡◌, ◌<◌, ◌≤◌, ◌∷◌, [], length, map, OnOk, OnErr, IfOk, None};
+ghost use Rattle.std.specs.Prelude.{◌≡◌, ◌<◌, ◌≤◌, ◌∷◌, [], length, map, OnOk, OnErr, IfOk, IsErrOf, None};
 ghost use Rattle.io_edge.specs.Cause.{HasOpenCause};
 ghost use Rattle.io_edge.specs.View.{Creates, OnlyWrites, raised_by, updated};
 ghost use Rattle.nd_shape.specs.Region.{IsPart};
@@ -38,6 +38,9 @@ fn create_with<S: Site>(
     ensures named { IfOk result (λ f. S.Out.named f ≡ name.now) }
     ensures faults { IfOk result (λ f. S.Out.count f ≡ 0) }
     ensures left { OnErr result (LeavesOne name.now shape.now (S.view site.old).files (S.view site.new).files) }
+    ensures tried { IsErrOf result OpenFault.Failed → (S.view site.new).files.created ≡ raised_by (name.now ∷ []) (S.view site.old).files.created }
+    ensures memory { IsErrOf result OpenFault.OutOfMemory → S.view site.new ≡ S.view site.old }
+    ensures no_faults { OnOk result ((S.view site.new).write_faults ≡ (S.view site.old).write_faults) }
     ensures only { OnlyWrites (S.view site.old) (S.view site.new) }
     ensures cause { HasOpenCause (S.view site.old).write_faults (S.view site.new).write_faults result }
 {
@@ -67,6 +70,9 @@ pub fn open_file<S: Site>(
     ensures kept { IfOk result (λ f. IsKept S.Out.content f) }
     ensures fresh { IfOk result (λ f. IsFresh (S.view site.old).files.tells name.now shape.now (saving_of S.Out.named S.Out.content S.Out.count f)) }
     ensures left { OnErr result (LeavesOne name.now shape.now (S.view site.old).files (S.view site.new).files) }
+    ensures tried { IsErrOf result OpenFault.Failed → (S.view site.new).files.created ≡ raised_by (name.now ∷ []) (S.view site.old).files.created }
+    ensures memory { IsErrOf result OpenFault.OutOfMemory → S.view site.new ≡ S.view site.old }
+    ensures no_faults { OnOk result ((S.view site.new).write_faults ≡ (S.view site.old).write_faults) }
     ensures only { OnlyWrites (S.view site.old) (S.view site.new) }
     ensures cause { HasOpenCause (S.view site.old).write_faults (S.view site.new).write_faults result }
 {
@@ -83,22 +89,22 @@ pub fn open_file<S: Site>(
 /// Writes a block into a box of the file's array.
 pub fn write_block<F: OutFile>(
     alloc: Global,
-    opened: &mut OpenFile<F>,
+    out: &mut OpenFile<F>,
     region: &Region,
     block: &Block,
 ) -> Result<(), OpenFault>
-    requires kept { IsKept F.content opened.old }
-    requires inside { IsPart region.now opened.old.head.shape }
+    requires kept { IsKept F.content out.old }
+    requires inside { IsPart region.now out.old.head.shape }
     requires shape { block.now.shape ≡ region.now.lengths }
-    ensures still { IsKept F.content opened.new }
-    ensures head { opened.new.head ≡ opened.old.head }
-    ensures named { F.named opened.new.file ≡ F.named opened.old.file }
-    ensures filled { OnOk result (FillsMore region.now block.now (saving_of F.named F.content F.count opened.old) (saving_of F.named F.content F.count opened.new)) }
-    ensures part { OnErr result (FillsPart region.now block.now (saving_of F.named F.content F.count opened.old) (saving_of F.named F.content F.count opened.new)) }
-    ensures faults { OnOk result (F.count opened.new.file ≡ F.count opened.old.file) }
-    ensures cause { HasOpenCause (F.count opened.old.file) (F.count opened.new.file) result }
+    ensures still { IsKept F.content out.new }
+    ensures head { out.new.head ≡ out.old.head }
+    ensures named { F.named out.new.file ≡ F.named out.old.file }
+    ensures filled { OnOk result (FillsMore region.now block.now (saving_of F.named F.content F.count out.old) (saving_of F.named F.content F.count out.new)) }
+    ensures part { OnErr result (FillsPart region.now block.now (saving_of F.named F.content F.count out.old) (saving_of F.named F.content F.count out.new)) }
+    ensures faults { OnOk result (F.count out.new.file ≡ F.count out.old.file) }
+    ensures cause { HasOpenCause (F.count out.old.file) (F.count out.new.file) result }
 {
-    write_region(alloc, &mut opened.file, &opened.head, region, block)
+    write_region(alloc, &mut out.file, &out.head, region, block)
 }
 
 /// Gives files back, one after another.

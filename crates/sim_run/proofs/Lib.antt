@@ -5,3 +5,6 @@ pub mod Reached
 pub mod Wanted
 pub mod Simulating
 pub mod Ending
+pub mod Saves
+pub mod Got
+pub mod Stops

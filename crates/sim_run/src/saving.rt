@@ -21,7 +21,7 @@ use cluster_world::World;
 use io_edge::{OpenFault, Site};
 use job_run::{Job, create_files};
 use nd_shape::Region;
-use saved_files::SavedFiles;
+use saved_files::{SavedFiles, filled_is_whole};
 use std::alloc::Global;
 
 /// The one client of a simulation.
@@ -39,7 +39,7 @@ fn save_array<S: Site, E: Elements + Send + Sync + Drop>(
     requires going { world.now.course ≡ Going }
     requires there { place < length files.old }
     requires dims { (saving_at files.old place).dims ≡ lengths layout.now }
-    requires blocks { HasBlocks layout.now keys.now ((world_of world.now).clients 1).got (dims_of world.now.job.job) }
+    requires has { HasBlocks layout.now keys.now ((world_of world.now).clients 1).got (dims_of world.now.job.job) }
     ensures changes { ChangesAt place files.old files.new }
     ensures all { OnOk result (FillsFirst layout.now keys.now ((cluster_of world.now).blocks.got 1) (length keys.now)
         (saving_at files.old place).content (saving_at files.new place).content) }
@@ -109,6 +109,7 @@ pub fn save_all<S: Site, E: Elements + Send + Sync + Drop>(
     ensures later { (S.view site.old).write_faults ≤ (S.view site.new).write_faults }
     ensures failed { IsErrOf result OpenFault.Failed → Rose (S.view site.old).write_faults (S.view site.new).write_faults }
 {
+    filled_is_whole();
     let mut files = create_files(alloc, site, job)?;
     let done = save_arrays(alloc, world, &mut files, saved, layouts);
     files.give(site);

@@ -2,14 +2,8 @@ use Rattle.std.proofs.Common.{Some, Ok}
 use Rattle.job_run.specs.Jobs.{plan_of}
 use Rattle.dask_top.proofs.tell.tell_sim.Goals as goal
 
-pub returns-in-NotBuilt-clause-notes : goal.returns-in-NotBuilt-clause-notes
-returns-in-NotBuilt-clause-notes g c = c.tell_text.ensures.notes (Some (Ok (plan_of c.args.job.now)))
-
-pub returns-in-Keys-clause-notes : goal.returns-in-Keys-clause-notes
-returns-in-Keys-clause-notes g c = c.tell_text-in-Keys.ensures.notes (Some (Ok (plan_of c.args.job.now)))
-
 pub returns-in-Events-clause-notes : goal.returns-in-Events-clause-notes
-returns-in-Events-clause-notes g c = c.tell_text-in-Events.ensures.notes (Some (Ok (plan_of c.args.job.now)))
+returns-in-Events-clause-notes g c = c.tell_text.ensures.notes (Some (Ok (plan_of c.args.job.now)))
 
 pub returns-in-Turns-clause-notes : goal.returns-in-Turns-clause-notes
 returns-in-Turns-clause-notes g c = c.tell_text-in-Turns.ensures.notes (Some (Ok (plan_of c.args.job.now)))

@@ -3,14 +3,6 @@ use Rattle.dask_top.specs.declared.answer.End.{End}
 use Rattle.dask_top.specs.Ends.{Notes, line_of}
 use Rattle.dask_top.proofs.tell.tell_text.Goals as goal
 
-pub returns-in-NotBuilt-clause-notes : goal.returns-in-NotBuilt-clause-notes
-unfolding line_of
-returns-in-NotBuilt-clause-notes g c reading = let P : End → Type 0 = λ e. Notes reading (g.S.Site.view c.args.site.now) (g.S.Site.view c.note-in-NotBuilt.new.site) e in subst P (sym c.in-NotBuilt.is) c.note-in-NotBuilt.ensures.line
-
-pub returns-in-Keys-clause-notes : goal.returns-in-Keys-clause-notes
-unfolding line_of
-returns-in-Keys-clause-notes g c reading = let P : End → Type 0 = λ e. Notes reading (g.S.Site.view c.args.site.now) (g.S.Site.view c.note-in-Keys.new.site) e in subst P (sym c.in-Keys.is) c.note-in-Keys.ensures.line
-
 pub returns-in-Events-clause-notes : goal.returns-in-Events-clause-notes
 unfolding line_of
 returns-in-Events-clause-notes g c reading = let P : End → Type 0 = λ e. Notes reading (g.S.Site.view c.args.site.now) (g.S.Site.view c.note-in-Events.new.site) e in subst P (sym c.in-Events.is) c.note-in-Events.ensures.line

@@ -14,11 +14,11 @@ read_inputs-requires-clause-inside g c =
     omega (arith, ap length c.as_slice.ensures.value, c.in_ok-regions.ensures.needed.count, ap length c.nodes.ensures.value, c.requires.node)
 
 pub read_inputs-requires-clause-fit : goal.read_inputs-requires-clause-fit
-read_inputs-requires-clause-fit g c = λ κs b.
+read_inputs-requires-clause-fit g c =
     subst (λ (ns : List Node). AreFit ns c.as_slice.result.now) (sym c.nodes.ensures.value) (subst (λ (rs : List (Option Box)). AreFit c.args.expr.now rs) (sym c.as_slice.ensures.value) c.in_ok-regions.ensures.parts)
 
 pub read_inputs-requires-clause-files : goal.read_inputs-requires-clause-files
-read_inputs-requires-clause-files g c = λ κs b.
+read_inputs-requires-clause-files g c =
     files-turn c.nodes.result.now c.args.expr.now c.as_slice.result.now c.in_ok-regions.regions.items (c.args.node + 1) (g.S.Store.files c.args.inputs.now) c.args.heads.now c.nodes.ensures.value c.as_slice.ensures.value c.in_ok-regions.ensures.needed.count c.requires.files
 
 pub returns-clause-blocks : goal.returns-clause-blocks

@@ -15,22 +15,22 @@ read_input-requires-clause-few g c =
     omega (arith, c.loop-k.invariant.read.number, inputs-few 0 (take c.loop-k.k c.args.nodes.now), length-take-le c.loop-k.k c.args.nodes.now (omega (arith, c.loop-k-test.true, c.requires.inside)), c.loop-k-test.true, c.requires.inside, c.requires.sound.count)
 
 pub read_input-requires-clause-file : goal.read_input-requires-clause-file
-read_input-requires-clause-file g c = λ κs b i.
+read_input-requires-clause-file g c = λ i.
     let is = node-is c.args.nodes.now c.loop-k.k c.index-nodes-k.result (omega (arith, c.loop-k-test.true, c.requires.inside)) c.index-nodes-k.is in
     rw (c.loop-k.invariant.read.number, c.loop-k.invariant.same) (c.requires.files.file c.loop-k.k c.index-nodes-k.result c.loop-k-test.true is i)
 
 pub read_input-requires-clause-head : goal.read_input-requires-clause-head
-read_input-requires-clause-head g c = λ κs b i.
+read_input-requires-clause-head g c = λ i.
     let is = node-is c.args.nodes.now c.loop-k.k c.index-nodes-k.result (omega (arith, c.loop-k-test.true, c.requires.inside)) c.index-nodes-k.is in
     rw c.loop-k.invariant.read.number (c.requires.files.head c.loop-k.k c.index-nodes-k.result c.loop-k-test.true is i)
 
 pub read_input-requires-clause-near : goal.read_input-requires-clause-near
-read_input-requires-clause-near g c = λ κs b i.
+read_input-requires-clause-near g c = λ i.
     let is = node-is c.args.nodes.now c.loop-k.k c.index-nodes-k.result (omega (arith, c.loop-k-test.true, c.requires.inside)) c.index-nodes-k.is in
     rw c.loop-k.invariant.read.number (c.requires.files.near c.loop-k.k c.index-nodes-k.result c.loop-k-test.true is i)
 
 pub read_input-requires-clause-part : goal.read_input-requires-clause-part
-read_input-requires-clause-part g c = λ κs b i.
+read_input-requires-clause-part g c = λ i.
     let is = node-is c.args.nodes.now c.loop-k.k c.index-nodes-k.result (omega (arith, c.loop-k-test.true, c.requires.inside)) c.index-nodes-k.is in
     region-part c.args.nodes.now c.args.regions.now (length c.args.regions.now) (g.S.Store.files c.args.store.now) c.args.heads.now c.loop-k.k c.index-nodes-k.result (length c.loop-k.blocks.items) c.index-regions-k.result c.requires.fit c.requires.files c.loop-k-test.true is i
     c.loop-k.invariant.read.number (read-region c.args.regions.now c.loop-k.k c.index-regions-k.result c.loop-k-test.true c.index-regions-k.is)
