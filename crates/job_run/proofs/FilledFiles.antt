@@ -1,7 +1,7 @@
 -- Files while blocks are written into them, key by key.
-use Rattle.std.proofs.Common.{◌≡◌, ℕ, ◌+◌, ◌<◌, ◌≤◌, ◌≢◌, ◌⊎◌, List, [], ◌∷◌, ◌++◌, length, ap, sym, subst, ◌∙◌, arith, inl, inr, append-nil}
-use Rattle.std.specs.Prelude.{Option, Some, None, IsSome}
-use Rattle.io_edge.specs.Content.{Content, Told, Untold, OnTold, told_bytes}
+use Rattle.std.proofs.Common.{◌≡◌, ℕ, ◌+◌, ◌<◌, List, [], ◌∷◌, ◌++◌, length, ap, sym, subst, ◌∙◌, arith, inl, inr, append-nil}
+use Rattle.std.specs.Prelude.{Option, Some, None}
+use Rattle.io_edge.specs.Content.{Content, Told, Untold, OnTold}
 use Rattle.nd_shape.specs.Block.{Array}
 use Rattle.nd_shape.specs.Region.{Box}
 use Rattle.nd_shape.specs.Shape.{elements}
@@ -12,7 +12,7 @@ use Rattle.lowering_laws.specs.Named.{layout_of, box_of, name_of}
 use Rattle.npy_region.specs.Writing.{Turns}
 use Rattle.saved_files.specs.Filling.{IsFilling, IsPart, HoldsBox, Cover, FillsWhole, file_of as bytes_of}
 use Rattle.saved_files.specs.Saving.{Saving, saving_at, FillsMore, FillsPart, IsOf}
-use Rattle.job_run.specs.Evaluating.{node_at, array_at, boxes_in, boxes_made, AreOpenFor, FilesHold, FilesRight, FilesWhole, HoldsNamed, HasLaws, SavesAt, SavesPart, SavesPartAt}
+use Rattle.job_run.specs.Evaluating.{node_at, array_at, boxes_in, boxes_made, AreOpenFor, FilesHold, FilesRight, FilesWhole, HoldsNamed, HasLaws, SavesAt, SavesPartAt}
 use Rattle.job_run.specs.Plan.{Plan, IsRunnable, nodes_saved}
 use Rattle.job_run.specs.Values.{Named}
 use Rattle.job_run.proofs.MadeBoxes.{boxes-next, box-here, box-elsewhere, all-covered}

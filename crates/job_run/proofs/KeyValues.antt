@@ -1,25 +1,24 @@
 -- What the next key has, where all keys before it have values: a block that holds its node's elements, or a zero divisor.
-use Rattle.std.proofs.Common.{◌≡◌, ℕ, ℤ, zero, suc, ◌+◌, ◌<◌, ◌≤◌, Bool, true, false, ◌&&◌, List, [], ◌∷◌, length, get_or, ap, sym, subst, refl, ◌∙◌, arith, inl, inr}
+use Rattle.std.proofs.Common.{◌≡◌, ℕ, ◌+◌, ◌<◌, ◌≤◌, Bool, true, ◌&&◌, List, [], ◌∷◌, length, ap, sym, subst, refl, ◌∙◌, arith, inl, inr}
 use Rattle.std.specs.Prelude.{Option, Some, None, IsSome, is_some, is_none}
 use Rattle.std.specs.List.{AllByRecursion, list_all}
 use Rattle.std.proofs.lemmas.Bool.{cases_lt}
 use Rattle.nd_shape.specs.Block.{Array}
 use Rattle.nd_grid.specs.Grid.{Holds, grid_of}
-use Rattle.array_expr.specs.Node.{IsExpression}
 use Rattle.expr_laws.specs.Formulas.{whole}
 use Rattle.cluster_msgs.specs.Dags.{IsEarlier}
 use Rattle.cluster_msgs.specs.Shape.{deps_of}
-use Rattle.cluster_msgs.specs.Values.{faulty, cone}
+use Rattle.cluster_msgs.specs.Values.{faulty}
 use Rattle.cluster_msgs.proofs.ValueLemmas.{cone-below, faulty-none}
+use Rattle.task_graph.specs.declared.graph.Task.{Task}
 use Rattle.task_graph.specs.Graphs.{shape_of, value}
-use Rattle.lowering_laws.specs.Lowered.{lowered}
 use Rattle.lowering_laws.specs.Named.{box_of, name_of, IsName}
 use Rattle.lowering_laws.specs.Faults.{IsFault, IsZeroDivide, DividesByZero}
 use Rattle.lowering_laws.specs.Whole.{IsSound}
-use Rattle.job_run.specs.Evaluating.{node_at, array_at, HasLaws, HaveAll, HoldsNamed, IsBlockNamed}
+use Rattle.job_run.specs.Evaluating.{HasLaws, HaveAll, HoldsNamed, IsBlockNamed}
 use Rattle.job_run.specs.Lowering.{HasBlock}
 use Rattle.job_run.specs.Plan.{Plan, nodes_saved}
-use Rattle.job_run.specs.Values.{Named, IsNeeded, NeedsFault, MeetsNone, MeetsZero, tasks_of, index_of}
+use Rattle.job_run.specs.Values.{Named, NeedsFault, MeetsNone, MeetsZero, tasks_of, index_of}
 use Rattle.job_run.proofs.SavedArrays.{part-of, holds-saved}
 
 some-none : {A : Type 0} (o : Option A) → IsSome o → o ≡ None → ⊥
@@ -62,6 +61,10 @@ holds-named p named key None block laws lt h e name = tt
 holds-named p named key (Some x) block laws lt h e name = λ k there same.
     let is : IsName p.nodes (nodes_saved p) key x.0 x.1 = laws.names.each key x.0 x.1 lt name in
     holds-saved p named k x.0 (box_of p.nodes x.0 x.1) block laws.expression there same (part-of p.nodes x.0 x.1 laws.expression is.node is.block) (key-holds p named key x.0 x.1 block laws lt h e name)
+
+-- the values of all keys, of tasks that are the plan's
+pub have-all : (p : Plan) (named : Named) (tasks : List Task) (next : ℕ) → tasks ≡ tasks_of p → length (tasks_of p) ≤ next → ((k : ℕ) → k < next → IsSome (value named tasks k)) → HaveAll p named (length (tasks_of p))
+have-all p named tasks next same le h k lt = subst (λ (ts : List Task). IsSome (value named ts k)) same (h k (omega arith))
 
 -- ## No key lacks an element before the first that has no value
 

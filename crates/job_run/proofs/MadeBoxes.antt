@@ -1,11 +1,10 @@
 -- The boxes of the keys that were run: one more for each key of the node, and every index in the end.
-use Rattle.std.proofs.Common.{◌≡◌, ℕ, zero, suc, ◌+◌, ◌<◌, ◌≤◌, Bool, true, false, cond, List, [], ◌∷◌, ◌++◌, length, take, get_or, ap, sym, subst, refl, ◌∙◌, arith, eq-eqb}
-use Rattle.std.specs.Prelude.{Option, Some, None, nat_eq, slice_index_or}
+use Rattle.std.proofs.Common.{◌≡◌, ℕ, zero, suc, ◌+◌, ◌<◌, Bool, true, false, cond, List, [], ◌∷◌, ◌++◌, length, take, get_or, ap, sym, subst, refl, ◌∙◌, arith, eq-eqb}
+use Rattle.std.specs.Prelude.{Option, Some, None, nat_eq}
 use Rattle.std.proofs.lemmas.Bool.{eqb-true}
 use Rattle.std.proofs.lemmas.List.{length-map, take_more, take_all}
 use Rattle.nd_shape.specs.Index.{IsIn}
 use Rattle.nd_shape.specs.Region.{Box, moved}
-use Rattle.array_expr.specs.declared.expr.Node.{Node}
 use Rattle.array_expr.specs.Node.{shape_at, IsExpression}
 use Rattle.chunk_layout.specs.Layouts.{lengths, blocks, region, block_of}
 use Rattle.chunk_layout.proofs.Parting.{in-region}

@@ -1,5 +1,5 @@
 -- The place of a save among the files, and the layout of its node.
-use Rattle.std.proofs.Common.{◌≡◌, ℕ, ◌<◌, List, [], length, map, get_or, ap, sym, subst, ◌∙◌, arith}
+use Rattle.std.proofs.Common.{◌≡◌, ℕ, ◌<◌, List, length, map, get_or, ap, subst, ◌∙◌, arith}
 use Rattle.std.proofs.lemmas.List.{get_or-map, length-map}
 use Rattle.nd_shape.specs.Block.{Array}
 use Rattle.array_expr.specs.Node.{shape_at, IsExpression}

@@ -151,7 +151,7 @@ fn index_of(alloc: Global, counts: &Dims, place: u32) -> Result<Dims, AllocError
 
 // A zero divisor in the block with this name. What has no name divides nothing.
 fn halt_at(alloc: Global, job: &Job, blocks: &[Dims], name: Name) -> Halt
-    requires blocks { blocks.now ≡ counts_made job.now.expr }
+    requires counts { blocks.now ≡ counts_made job.now.expr }
     requires there { HasBlock job.now.expr name }
     ensures { IsZeroOf (plan_of job.now) name result }
 {

@@ -1,0 +1,63 @@
+use Rattle.std.proofs.Common.{◌≡◌, ◌≤◌, ◌+◌, length, ap, subst, ◌∙◌, rules, arith}
+use Rattle.std.proofs.lemmas.Result.{err_from_is_err_and}
+use Rattle.std.specs.Prelude.{List, Option, ℕ}
+use Rattle.io_edge.proofs.OpeningLaws.{on_err}
+use Rattle.block_lowering.specs.Jobs.{TellsFeed}
+use Rattle.lowering_laws.specs.Lowered.{lowered}
+use Rattle.job_run.specs.Evaluating.{FilesHold, boxes_made}
+use Rattle.job_run.specs.Jobs.{plan_of}
+use Rattle.job_run.specs.Plan.{nodes_saved}
+use Rattle.job_run.specs.Values.{tasks_of}
+use Rattle.job_run.proofs.FilledFiles.{hold-whole}
+use Rattle.job_run.proofs.Halting.{cause-later}
+use Rattle.job_run.proofs.KeyValues.{have-all, meets-none}
+use Rattle.job_run.proofs.blocks.make_blocks.Goals as goal
+
+pub returns-in_err-make_block-clause-right : goal.returns-in_err-make_block-clause-right
+returns-in_err-make_block-clause-right g c =
+    let right = rw c.loop-name.invariant.next at (rw c.loop-name.invariant.job at c.in_err-make_block.ensures.right) in
+    on_err c.from_residual.result (λ t. right (c.loop-name.invariant.tells.1 t) (c.loop-name.invariant.holds t))
+
+pub returns-in_err-make_block-clause-cause : goal.returns-in_err-make_block-clause-cause
+returns-in_err-make_block-clause-cause g c =
+    let heads = c.args.evaluation.now.job.job.heads in
+    let files = g.S.In.Store.files in
+    let count = g.S.In.Store.count in
+    let cause = rw c.loop-name.invariant.job at c.in_err-make_block.ensures.cause in
+    let p = err_from_is_err_and c.from_residual.result c.from_residual.ensures.1 in
+    rw (p.1, p.2)
+    (cause-later (plan_of c.args.job.now) g.E.Elements.named (TellsFeed heads (files c.loop-name.evaluation.feed)) (TellsFeed heads (files c.args.evaluation.now.feed)) c.make_block.new.files
+    (count c.loop-name.evaluation.feed) (count c.args.evaluation.now.feed) (count c.make_block.new.evaluation.feed) c.in_err-make_block.field-0.0 c.loop-name.invariant.tells.1 c.loop-name.invariant.reads cause)
+
+pub loop-name-preserved : goal.loop-name-preserved
+loop-name-preserved g c =
+    let tells = rw c.loop-name.invariant.job at c.in_ok-make_block.ensures.tells in
+    let holds = rw c.loop-name.invariant.next at (rw c.loop-name.invariant.job at c.in_ok-make_block.ensures.holds) in
+    record {
+      job = c.in_ok-make_block.ensures.job ∙ c.loop-name.invariant.job;
+      next = c.in_ok-make_block.ensures.next ∙ ap (λ n. n + 1) c.loop-name.invariant.next;
+      tells = (λ t. c.loop-name.invariant.tells.0 (tells.0 t), λ t. tells.1 (c.loop-name.invariant.tells.1 t));
+      reads = c.in_ok-make_block.ensures.reads ∙ c.loop-name.invariant.reads;
+      same = search rules;
+      sound = c.in_ok-make_block.ensures.sound c.loop-name.invariant.sound;
+      holds = λ t. holds (c.loop-name.invariant.tells.1 t) (c.loop-name.invariant.holds t);
+    }
+
+pub returns-clause-values : goal.returns-clause-values
+returns-clause-values g c told =
+    let p = plan_of c.args.job.now in
+    let named = g.E.Elements.named in
+    let laws = c.laws_hold.ensures named in
+    let values = rw c.loop-name.invariant.job at c.sound.ensures in
+    let count = ap (λ (l : List (Option (ℕ × ℕ))). length l) c.requires.names in
+    let end : length (tasks_of (plan_of c.args.job.now)) ≤ c.loop-name.evaluation.next = omega (arith, laws.names.number, count, c.loop-name-test.false, c.loop-name.invariant.next) in
+    meets-none p named laws (have-all p named c.args.evaluation.now.job.job.tasks c.loop-name.evaluation.next c.requires.tasks end (values (c.loop-name.invariant.tells.1 told)))
+
+pub returns-clause-whole : goal.returns-clause-whole
+returns-clause-whole g c told =
+    let p = plan_of c.args.job.now in
+    let named = g.E.Elements.named in
+    let count = ap (λ (l : List (Option (ℕ × ℕ))). length l) c.requires.names in
+    let all : c.loop-name.name-index ≡ length (lowered c.args.job.now.expr (nodes_saved (plan_of c.args.job.now))).names = omega (arith, count, c.loop-name-test.false, c.loop-name.auto.name-index-end) in
+    hold-whole p named c.loop-name.files c.filled_is_whole.ensures c.requires.runs (c.laws_hold.ensures named)
+    (subst (λ n. FilesHold (plan_of c.args.job.now) g.E.Elements.named (boxes_made (plan_of c.args.job.now) n) c.loop-name.files) all (c.loop-name.invariant.holds told))
