@@ -1,6 +1,6 @@
 -- A file while the blocks of its array are written, one after another, and all files of a job's saves.
 use Rattle.std.proofs.Common.{◌≡◌, ◌≢◌, ◌⊎◌, ℕ, ◌+◌, ◌<◌, ◌≤◌, List, [], ◌∷◌, ◌++◌, length, map, get_or, refl, ap, sym, ◌∙◌, subst, inl, inr, arith, Option, Some, None, Result, Ok, Err}
-use Rattle.std.specs.Prelude.{IsSome, IfSome, OnErr}
+use Rattle.std.specs.Prelude.{IsSome, IfSome, OnErr, OnOk}
 use Rattle.std.specs.List.{range_with_len}
 use Rattle.std.proofs.lemmas.List.FromFn.{get_or-map-range_with_len, length-map-range_with_len, map-range_with_len_more}
 use Rattle.io_edge.specs.Content.{Content, Told, Untold, OnTold, told_bytes}
@@ -18,6 +18,10 @@ use Rattle.sim_run.specs.Filling.{AreBlocksOf, FillsAll, FillsFirst, FillsSome, 
 pub always-err : {T E X : Type 0} (r : Result T E) → X → OnErr r X
 always-err (Ok x) h = tt
 always-err (Err e) h = h
+
+pub from-both : {T E X : Type 0} (r : Result T E) → OnOk r X → OnErr r X → X
+from-both (Ok x) a b = a
+from-both (Err e) a b = b
 
 -- ## One file
 

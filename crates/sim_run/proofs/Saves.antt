@@ -2,32 +2,18 @@
 use Rattle.std.proofs.Common.{◌≡◌, ℕ, ◌<◌, ◌≤◌, List, length, ap, sym, ◌∙◌, subst, inl, inr, arith, Option, Some, Bool, false}
 use Rattle.std.specs.Prelude.{IfSome, IsSome, bytes_eq}
 use Rattle.std.proofs.lemmas.List.{length-map}
-use Rattle.io_edge.specs.Cause.{Rose}
 use Rattle.io_edge.specs.Content.{told_bytes}
 use Rattle.io_edge.specs.View.{Files}
 use Rattle.nd_shape.specs.Block.{Array}
 use Rattle.array_expr.specs.Node.{shape_at}
 use Rattle.saved_files.specs.Filling.{IsPart, file_of}
-use Rattle.saved_files.specs.Saving.{GivesBack, Saving, TakesAll, saving_at}
-use Rattle.job_run.specs.Evaluating.{AreFresh, AreOpenFor, HasFailed, LeavesAll, node_at}
+use Rattle.saved_files.specs.Saving.{GivesBack, Saving, saving_at}
+use Rattle.job_run.specs.Evaluating.{AreFresh, AreOpenFor, node_at}
 use Rattle.job_run.specs.Part.{IsNoneOf}
 use Rattle.job_run.specs.Plan.{IsRunnable, Plan, Saved, name_at, names_saved}
-use Rattle.sim_run.specs.Filling.{FillsAll, FillsSome, FitFiles, KeepNames, keys_at, layout_at}
+use Rattle.sim_run.specs.Filling.{FillsAll, FillsSome, KeepNames, keys_at, layout_at}
 use Rattle.sim_run.specs.Saving.{HasSaves, IsGot, SavesLeft, SavesWhole}
 use Rattle.sim_run.proofs.Filling.{WholeLaw, part-file, still-told, whole-file}
-
--- open files of the saves' lengths take what the client got
-pub fit-files : (p : Plan) (files : List Saving) (saved : List (List ℕ)) (layouts : List (List (List ℕ))) (has : ℕ → Bool) (dims : ℕ → List ℕ) → AreOpenFor p files → HasSaves p saved layouts has dims → FitFiles files saved layouts has dims
-fit-files p files saved layouts has dims open h = record {
-  keys = h.keys ∙ sym open.count;
-  layouts_are = h.layouts_are ∙ sym open.count;
-  shapes = λ k lt. let l : k < length p.saves = omega (arith, lt, open.count) in open.dims k l ∙ h.shapes k l;
-  blocks_are = λ k lt. h.blocks_are k (omega (arith, lt, open.count));
-}
-
--- a creation that failed
-pub left-all : (p : Plan) (saved : List (List ℕ)) (layouts : List (List (List ℕ))) (got : ℕ → Option Array) (old new : Files) → LeavesAll p old new → SavesLeft p saved layouts got old new
-left-all p saved layouts got old new leaves k a lt is = leaves k a lt is.lengths_are
 
 -- files that were created, written, and given back
 pub record AreGiven (p : Plan) (created written : List Saving) (old mid new : Files) : Type 0 where
@@ -77,7 +63,3 @@ module _ (p : Plan) (created written : List Saving) (old mid new : Files) (r : A
   pub given-others : (n : List ℕ) → IsNoneOf n (names_saved p) → mid.held n ≡ old.held n → new.held n ≡ old.held n
   given-others n none before =
       r.gives.others n (λ k lt. let l : k < length p.saves = omega (arith, lt, count) in ap (λ m. bytes_eq m n) (name_is k l) ∙ none k (omega (arith, l, many))) ∙ before
-
--- a file has failed
-pub fault-rose : (files : List Saving) (old mid new : ℕ) → HasFailed files → old ≤ mid → TakesAll files mid new → Rose old new
-fault-rose files old mid new f later takes = let rose : Rose mid new = takes.risen f.place f.there f.failed in omega (arith, later, rose)
