@@ -74,6 +74,15 @@ rm "$name" && ln -s /dev/full "$name"
 line=$(cd "$folder" && "$root/dask" run job.txt 2>&1)
 check 'status where a full device has the name' "$?" 6
 check 'line where a full device has the name' "$line" 'dask: write fault'
+# it takes bytes in their order alone: blocks of rows come so, blocks of columns don't
+ln -sf /dev/null "$name"
+printf 'let r = ramp((2, 2), 0, 1, (1, 2))\nsave r "b.npy"\n' > "$folder/rows.txt"
+(cd "$folder" && "$root/dask" run rows.txt > /dev/null 2>&1)
+check 'status where a device has the name and rows are saved' "$?" 0
+printf 'let r = ramp((2, 2), 0, 1, (2, 1))\nsave r "b.npy"\n' > "$folder/columns.txt"
+line=$(cd "$folder" && "$root/dask" run columns.txt 2>&1)
+check 'status where a device has the name and columns are saved' "$?" 6
+check 'line where a device has the name and columns are saved' "$line" 'dask: write fault'
 # what is no regular file is no input
 rm "$folder/a.npy" && mkfifo "$folder/a.npy"
 line=$(cd "$folder" && timeout 20 "$root/dask" run job.txt 2>&1)

@@ -1,5 +1,6 @@
 #!/usr/bin/env bash
-# The first example by the simulated cluster, through the program itself: the file is that of a run, and the same words print the same.
+# Every example by the simulated cluster, through the program itself: the files are those of NumPy, and the same words print the
+# same. And jobs that end otherwise.
 cd "$(dirname "$0")/.." || exit 1
 about='simulation'
 . tools/checking.bash
@@ -21,11 +22,65 @@ edges 2'
 done
 rm -f examples/first/raised.npy
 
+# the shape that each other job saves, as the program prints it, and the keys and edges of its graph
+jobs='anomaly 14 17 (12, 6)
+column_sum 7 6 (5,)
+mask 16 16 (8, 7)
+matrix_product 7 6 (5, 3)
+transpose 16 12 (4, 6)'
+while read -r name keys edges shape; do
+  for options in '' '--workers 3 --threads 1 --script lose:1@2,join@3,suspect:2@5'; do
+    rm -f "examples/$name/saved.npy"
+    # shellcheck disable=SC2086
+    lines=$(./dask sim "examples/$name/job.txt" 7 $options 2>&1)
+    check "status of $name with options '$options'" "$?" 0
+    check "file of $name with options '$options'" "$(cmp "examples/$name/saved.npy" "examples/$name/expected.npy" && echo same)" same
+    check "first lines of $name with options '$options'" "$(head -3 <<< "$lines")" "saved examples/$name/saved.npy $shape
+keys $keys
+edges $edges"
+    check "last line of $name with options '$options'" "$(tail -1 <<< "$lines")" 'finished by: simulation'
+    rm -f "examples/$name/saved.npy"
+  done
+done <<< "$jobs"
+for folder in examples/*/; do
+  name=$(basename "$folder")
+  [ "$name" = first ] || check "$name is in the list" "$(grep -c "^$name " <<< "$jobs")" 1
+done
+
 line=$(./dask sim $job 7 --workers 1 --script lose:1@1 2>&1)
 check 'status of a script that takes the only worker' "$?" 1
 check 'line of a script that takes the only worker' "$line" 'dask: words'
-line=$(./dask sim examples/transpose/job.txt 7 2>&1)
-check 'status of a job of another form' "$?" 2
-check 'line of a job of another form' "$line" 'dask: job 1:1: not built'
+
+folder=$(mktemp -d)
+root=$PWD
+# a divisor of 0 counts in the blocks that are needed, and in no other: the quotient's first block has one, its second none
+quotient='let x = ramp((4), 1, 1, (2))\nlet d = ramp((4), -1, 1, (2))\nlet q = (x // d)'
+for command in 'run job.txt' 'plain job.txt' 'sim job.txt 7'; do
+  printf '%b[2:4]\nsave q "q.npy"\n' "$quotient" > "$folder/job.txt"
+  # the words of a command
+  # shellcheck disable=SC2086
+  (cd "$folder" && "$root/dask" $command > /dev/null 2>&1)
+  check "status of $command where the block isn't needed" "$?" 0
+  check "data of $command where the block isn't needed" "$(tail -c 16 "$folder/q.npy" | od -An -v -t d8 | tr -s ' \n' ' ')" ' 3 2 '
+  for slice in '[5:2]' '[0:1]'; do
+    echo before > "$folder/q.npy"
+    printf '%b%s\nsave q "q.npy"\n' "$quotient" "$slice" > "$folder/job.txt"
+    # shellcheck disable=SC2086
+    line=$(cd "$folder" && "$root/dask" $command 2>&1)
+    check "status of $command of a zero division in $slice" "$?" 4
+    check "line of $command of a zero division in $slice" "$line" 'dask: zero division: node 2 block (0)'
+  done
+  # the file isn't whole, so that the name keeps what it held
+  check "what the name holds after $command" "$(cat "$folder/q.npy")" before
+  # no input is looked for where a limit is passed
+  printf 'input a "none.npy" shape (32769) chunks (1)\nsave a "q.npy"\n' > "$folder/job.txt"
+  # shellcheck disable=SC2086
+  line=$(cd "$folder" && "$root/dask" $command 2>&1)
+  check "status of $command of too many keys" "$?" 9
+  check "line of $command of too many keys" "$line" 'dask: limit keys'
+  check "what is left after $command" "$(ls "$folder")" "$(printf 'job.txt\nq.npy')"
+  rm "$folder/q.npy"
+done
+rm -rf "$folder"
 
 summary

@@ -6,13 +6,18 @@ Run it with a Python that has NumPy, at the top of the repository:
     /usr/bin/python3 tools/site_table.py
 
 The files are those that NumPy writes, and the saved arrays are NumPy's. Statuses, lines, counts and places are worked out by
-hand from the tables of docs/PROGRAM.md and docs/FORMATS.md. How many turns a simulation takes was counted by a model of the
-rules that was written apart from the program. The script never runs the program.
+hand from the tables of docs/PROGRAM.md and docs/FORMATS.md. What jobs by chance answer, which block meets a zero divisor, and how
+many turns a simulation takes, is said by run_model.py, a model that was written apart from the program. The script never runs
+the program.
 """
 import io
 import os
+import re
 
 import numpy as np
+
+from job_graphs import Chance
+from run_model import Run, lower
 
 LINES = []
 WANTED = []
@@ -117,6 +122,9 @@ INPUT = {
 }
 
 
+X_AND_D = 'input x "x.npy" shape (4) chunks (2)|input d "d.npy" shape (4) chunks (2)|'
+
+
 def full(shape, value):
     return np.full(shape, value, dtype=np.int64)
 
@@ -169,13 +177,14 @@ def saved_jobs():
             saving(['m'], 'prod(m, axis=(1))', np.prod(M, axis=1)),
             saving(['m'], 'max(m, axis=(1), split_every=2) * 10 - min(m)', np.max(M, axis=1) * 10 - np.min(M)),
             saving(['m'], 'tensordot(m, m.T, (1), (0))', np.tensordot(M, M.T, ([1], [0]))),
+            # the block with the zero divisor isn't needed
+            (X_AND_D + 'let q = (x // d)[2:4]|save q "o.npy"|', X[2:4]),
             # every second element of what was read, and a quotient
             ('input a "second.npy" shape (3) chunks (2)|input b "x.npy" shape (4) chunks (3)|let c = a // b[1:]|save c "o.npy"|',
              ARRAYS['second.npy'] // X[1:]),
         ]
 
 
-X_AND_D = 'input x "x.npy" shape (4) chunks (2)|input d "d.npy" shape (4) chunks (2)|'
 # jobs that save nothing: the status and the line on standard error
 REFUSED = [
     ('', 2, 'job 1:1: grammar'),
@@ -187,9 +196,6 @@ REFUSED = [
     ('input a "front.npy" shape (3) chunks (2)|save a "o.npy"|', 3, 'file front.npy: not npy at 4'),
     ('input a "a.npy" shape (2) chunks (2)|save a "o.npy"|', 3, 'file a.npy: shape (3,) declared (2,)'),
     ('input a "none.npy" shape (2) chunks (2)|save a "o.npy"|', 5, 'read fault'),
-    # so far an array is one block, so an element that no save needs counts too
-    (X_AND_D + 'let q = (x // d)[2:4]|save q "o.npy"|', 4, 'zero division: node 2 block (0)'),
-    (X_AND_D + 'let q = (x // d)[0:1]|save q "o.npy"|', 4, 'zero division: node 2 block (0)'),
     # its shape is another one too
     ('input a "short.npy" shape (2) chunks (2)|save a "o.npy"|', 3, 'file short.npy: truncated: has 23, needs 24'),
     # all inputs are opened before the first is read
@@ -197,7 +203,20 @@ REFUSED = [
      5, 'read fault'),
     # the second input is the first that isn't as declared
     (INPUT['a'] + 'input b "text.npy" shape (3) chunks (2)|let c = a // b|save c "o.npy"|', 3, 'file text.npy: not npy at 0'),
-    (INPUT['a'] + 'input b "first.npy" shape (3) chunks (2)|let c = a // b|save c "o.npy"|', 4, 'zero division: node 2 block (0)'),
+]
+# more keys, more dependencies in all, and a larger block than there may be; no file is looked for
+LARGE = [
+    ('input a "none.npy" shape (32769) chunks (1)|save a "o.npy"|', 'keys'),
+    ('input a "none.npy" shape (3) chunks (3)|let r = ramp((600, 600), 0, 1, (1, 600))|let b = rechunk(r, (600, 1))|save b "o.npy"|', 'edges'),
+    ('let b = full((16777217), 1, (16777217))|save b "o.npy"|', 'block bytes'),
+]
+# jobs that meet a zero divisor in a needed block, the block, and how far its file came: the block isn't written, and none before it
+DIVIDED = [
+    # the element that is asked for has no zero divisor, its block has
+    (X_AND_D + 'let q = (x // d)[0:1]|save q "o.npy"|', 'node 2 block (0)', (1,)),
+    # nothing is asked for, but an empty slice takes the first block
+    (X_AND_D + 'let q = (x // d)[5:2]|save q "o.npy"|', 'node 2 block (0)', (0,)),
+    (INPUT['a'] + 'input b "first.npy" shape (3) chunks (2)|let c = a // b|save c "o.npy"|', 'node 2 block (0)', (3,)),
 ]
 
 
@@ -405,6 +424,17 @@ def saves():
     for lines, array in saved_jobs():
         job(lines)
         both('o.npy', told(0, plain_lines(('o.npy', array)), '', '0 0 0 0', 'o.npy', text(saved(array))))
+        say('saved o.npy sim job.txt 7', f'saved: 0 o.npy {text(saved(array))}')
+
+
+def divided():
+    title('jobs that meet a zero divisor in a needed block')
+    say('site 4096 0')
+    for lines, block, shape in DIVIDED:
+        job(lines)
+        line = f'dask: zero division: {block}|'
+        both('o.npy', told(4, '', line, '0 0 0 0', 'o.npy', text(saved(np.zeros(shape)))))
+        often('o.npy', 'sim job.txt 7', told(4, '', line, '0 0 0 0', 'o.npy', 'none'))
 
 
 def refusals():
@@ -412,6 +442,15 @@ def refusals():
     for lines, status, line in REFUSED:
         job(lines)
         both('o.npy', refusal(status, line))
+        say('saved o.npy sim job.txt 7', f'saved: {status} o.npy none')
+
+
+def large():
+    title('jobs whose graphs pass a limit')
+    for lines, quantity in LARGE:
+        job(lines)
+        for command in ('plain job.txt', 'run job.txt', 'sim job.txt 7'):
+            once('o.npy', command, refusal(9, f'limit {quantity}'))
 
 
 def words():
@@ -437,9 +476,12 @@ def fail(kind, file, command, *answers, count=None):
     say(f'fail {kind} {file} {command}', f'fail:{first}', *others, *([] if count is None else [f'count: {count}']))
 
 
-def read_fails(file, command, done, opened):
-    for kind in ('open', 'length', 'read'):
-        fail(kind, file, command, (5, '', 'dask: read fault|', '1 0 0 0', 'none'), done, count=opened if kind == 'open' else None)
+def read_fails(file, command, done, opened, created=True):
+    """Saved files are created once all heads were read, and before any block is."""
+    stopped = (5, '', 'dask: read fault|', '1 0 0 0')
+    fail('open', file, command, (*stopped, 'none'), done, count=opened)
+    for kind in ('length', 'read'):
+        fail(kind, file, command, (*stopped, 'none'), *([(*stopped, 'in part')] if created else []), done)
 
 
 def faults():
@@ -452,7 +494,7 @@ def faults():
     for command in ('plain job.txt', 'run job.txt'):
         # the job and each input are opened once, each saved file is created once
         read_fails('o.npy', command, done, 3)
-        fail('create', 'o.npy', command, (*write, 'none'), (*write, 'whole'), done, count=2)
+        fail('create', 'o.npy', command, (*write, 'none'), (*write, 'in part'), done, count=2)
         fail('write', 's.npy', command, (*write, 'none'), (*write, 'in part'), done)
         fail('out', 's.npy', command, (6, '', 'dask: write fault|', '0 0 1 0', 'whole'), done)
     fail('create', 's.npy', 'plain job.txt', (*write, 'none'), done, count=2)
@@ -471,7 +513,9 @@ def faults():
     for refused in ('open:0@1', 'open:1@1', 'length:0@1', 'read:0@1'):
         say(f'site 4096 0 {refused}')
         say('top o.npy plain job.txt', 'top:' + refusal(5, 'read fault'))
-    for refused, held in (('create:0@0', 'none'), ('create:0@1', text(saved(SUM))), ('write:0@1', text(saved(SUM)))):
+    # a file's header is written as it is created
+    begun = text(saved(np.zeros(3)))
+    for refused, held in (('create:0@0', 'none'), ('create:0@1', begun), ('write:0@1', begun), ('write:1@1', text(saved(SUM)))):
         say(f'site 4096 0 {refused}')
         say('top o.npy plain job.txt', 'top:' + told(*write, 'o.npy', held))
     title('standard error fails')
@@ -519,25 +563,46 @@ def places():
 
 NO_CELL = INPUT['e'] + 'let b = e + 1|save b "o.npy"|'
 ALONE = '--workers 1 --threads 1'
+SUM_OF_TEN = 'let s = sum(ramp((10), 0, 1, (1)))|save s "o.npy"|'
+FIVE = 'let b = full((1), 5, (1))|save b "o.npy"|'
+PRODUCT = ('let a = rechunk(ramp((2, 3), 1, 1, (2, 3)), (1, 2))|let b = rechunk(ramp((3, 2), 1, 1, (3, 2)), (2, 1))|'
+           'let c = tensordot(a, b, (1), (0))|save c "o.npy"|')
 
 
-def report(shape, workers, turns):
-    started = ''.join(f'worker {w + 1} started {n}|' for w, n in enumerate(workers))
-    return (f'saved o.npy {shape}|keys 2|edges 1|started 2|{started}gathers 0|steals confirmed 0|steals refused 0|losses 0|'
-            f'turns {turns}|finished by: simulation|')
+def model(lines, *inputs):
+    return Run(lower(lines.strip('|').replace('|', ' ; ')), [np.array(array, np.int64) for array in inputs])
+
+
+def sim_lines(run, names, number, **setting):
+    """The lines of a simulation that saves all."""
+    return ''.join(f'saved {name} {shape_text(run.array(k))}|' for k, name in enumerate(names)) + run.simulate(number, **setting)
+
+
+def reports():
+    title('simulations with every line')
+    say('site 4096 0')
+    four = {'workers': 4, 'threads': 2}
+    alone = {'workers': 1, 'threads': 1}
+    for lines, inputs, number, options, setting in (
+            (ONE_CELL, [ONE], 1, ALONE, alone), (ONE_CELL, [ONE], 7, ALONE, alone), (NO_CELL, [np.zeros(0)], 7, '', four),
+            (FIVE, [], 3, ALONE, alone), (SUM_OF_TEN, [], 7, '', four), (PRODUCT, [], 11, '--workers 3', {'workers': 3, 'threads': 2}),
+            (INPUT['a'] + 'let b = a + 1|save b "o.npy"|', [A], 8, '--workers 3 --threads 1 --saturation 10',
+             {'workers': 3, 'threads': 1, 'saturation': 10}),
+            (ONE_RAMP, [], 5, '--workers 2 --threads 1 --script lose:1@1', {'workers': 2, 'threads': 1, 'script': [('lose', 1, 1)]}),
+            (SUM_OF_TEN, [], 9, '--script lose:1@3,join@4,suspect:2@9',
+             {**four, 'script': [('lose', 1, 3), ('join', 4), ('suspect', 2, 9)]})):
+        job(lines)
+        run = model(lines, *inputs)
+        command = f'sim job.txt {number} {options}'.strip()
+        often('o.npy', command, told(0, sim_lines(run, ['o.npy'], number, **setting), '', '0 0 0 0', 'o.npy', text(saved(run.array(0)))))
+
+
+ONE_RAMP = 'let a = ramp((1), 0, 1, (1))|let b = a + 1|save b "o.npy"|'
 
 
 def simulations():
-    title('simulations with every line')
-    five = text(saved(ONE + 1))
-    for lines, command, shape, workers, turns, held in (
-            (ONE_CELL, f'sim job.txt 1 {ALONE}', '(1,)', [2], 13, five),
-            (ONE_CELL, f'sim job.txt 7 {ALONE}', '(1,)', [2], 14, five),
-            (NO_CELL, 'sim job.txt 7', '(0,)', [2, 0, 0, 0], 14, text(saved(ARRAYS['e.npy'])))):
-        job(lines)
-        say('site 4096 0')
-        often('o.npy', command, told(0, report(shape, workers, turns), '', '0 0 0 0', 'o.npy', held))
     title('simulations that save what a run saves')
+    say('site 4096 0')
     job(INPUT['a'] + 'let b = a + 1|save b "o.npy"|')
     for options in ('7', '8 --workers 3 --threads 1 --saturation 10', '9 --script lose:1@1,join@2'):
         say(f'saved o.npy sim job.txt {options}', f'saved: 0 o.npy {text(saved(A + 1))}')
@@ -546,46 +611,117 @@ def simulations():
     wide = np.array([4, 0, -1], dtype=np.int64)
     with np.errstate(over='ignore'):
         say(f'saved o.npy sim job.txt 1 {ALONE}', f'saved: 0 o.npy {text(saved(wide + np.int64(2**63 - 1)))}')
-    title('jobs that are not simulated to an end')
-    for lines, status, line in (
-            ('', 2, 'job 1:1: grammar'),
-            (INPUT['a'] + 'let b = a * 2|save b "o.npy"|', 2, 'job 1:1: not built'),
-            (INPUT['m'] + 'let b = m + 1|save b "o.npy"|', 2, 'job 1:1: not built'),
-            (INPUT['a'] + 'let b = a - 1|save b "o.npy"|', 2, 'job 1:1: not built'),
-            (INPUT['a'] + 'let b = a + -1|save b "o.npy"|', 2, 'job 1:1: not built'),
-            (INPUT['a'] + 'let b = 1 + a|save b "o.npy"|', 2, 'job 1:1: not built'),
-            # more elements than an array, or a chunk, may have
-            ('input a "none.npy" shape (1048577) chunks (1048576)|let b = a + 1|save b "o.npy"|', 2, 'job 1:1: not built'),
-            ('input a "none.npy" shape (1) chunks (1048577)|let b = a + 1|save b "o.npy"|', 2, 'job 1:1: not built'),
-            # one chunk too many; the file isn't there, and isn't looked for
-            ('input a "none.npy" shape (16384) chunks (1)|let b = a + 1|save b "o.npy"|', 9, 'limit keys'),
-            ('input a "short.npy" shape (3) chunks (2)|let b = a + 1|save b "o.npy"|', 3, 'file short.npy: truncated: has 23, needs 24'),
-            ('input a "one.npy" shape (2) chunks (1)|let b = a + 1|save b "o.npy"|', 3, 'file one.npy: shape (1,) declared (2,)'),
-            ('input a "none.npy" shape (3) chunks (2)|let b = a + 1|save b "o.npy"|', 5, 'read fault')):
-        job(lines)
-        often('o.npy', 'sim job.txt 7', refusal(status, line))
-    title('no input is opened of a job that is not simulated, or has too many chunks')
-    job('input a "none.npy" shape (16384) chunks (1)|let b = a + 1|save b "o.npy"|')
+    title('no input is opened of a job whose graph passes a limit')
+    job('input a "none.npy" shape (32769) chunks (1)|save a "o.npy"|')
     missing = (9, '', 'dask: limit keys|', '0 0 0 0', 'none')
-    fail('open', 'o.npy', 'sim job.txt 7', (5, '', 'dask: read fault|', '1 0 0 0', 'none'), missing, count=1)
-    fail('create', 'o.npy', 'sim job.txt 7', missing, count=0)
+    for command in ('plain job.txt', 'sim job.txt 7'):
+        fail('open', 'o.npy', command, (5, '', 'dask: read fault|', '1 0 0 0', 'none'), missing, count=1)
+        fail('create', 'o.npy', command, missing, count=0)
     title('each call of a simulation fails in turn')
     job(ONE_CELL)
     command = f'sim job.txt 7 {ALONE}'
-    done = (0, report('(1,)', [2], 14), '', '0 0 0 0', 'whole')
+    lines = sim_lines(model(ONE_CELL, ONE), ['o.npy'], 7, workers=1, threads=1)
+    done = (0, lines, '', '0 0 0 0', 'whole')
     write = (6, '', 'dask: write fault|', '0 1 0 0')
     for most in (0, 16):
         say(f'site 4096 {most}')
-        read_fails('o.npy', command, done, 2)
+        read_fails('o.npy', command, done, 2, created=False)
         fail('create', 'o.npy', command, (*write, 'none'), done, count=1)
         fail('write', 'o.npy', command, (*write, 'in part'), done)
         fail('err', 'o.npy', command, done)
     say('site 4096 0')
     fail('out', 'o.npy', command, (6, '', 'dask: write fault|', '0 0 1 0', 'whole'), done)
     say('site 4096 40')
-    lines = done[1]
     fronts = [(6, lines[:k], 'dask: write fault|', '0 0 1 0', 'whole') for k in range(0, len(lines), 40)]
     fail('out', 'o.npy', command, *fronts, done)
+
+
+# ---- jobs by chance
+
+
+def chance_inputs(chance, node):
+    """An array of a few small numbers, so that some divisors are 0, or of large ones, so that sums wrap."""
+    count = int(np.prod(node.shape, dtype=np.int64))
+    most = chance.random.choice((2, 9, 9, 2**63 - 1))
+    return np.array([chance.random.randint(-most, most) for _ in range(count)], np.int64).reshape(node.shape)
+
+
+def ill_file(chance, array):
+    """A file that isn't as declared, and how it is refused."""
+    data = saved(array)
+    needs = 8 * array.size
+    return chance.random.choice([
+        (b'nothing', 'not npy at 0'),
+        (data[:4], 'not npy at 4'),
+        (saved(np.zeros(array.shape + (2,), np.int64)), f'shape {shape_text(np.zeros(array.shape + (2,)))} declared {shape_text(array)}'),
+        *([(data[:-1], f'truncated: has {needs - 1}, needs {needs}')] if array.size else []),
+    ])
+
+
+def with_quotient(chance, lines):
+    """A job that saves a quotient too, whose divisor is 0 at some elements of most arrays."""
+    statements = lines.split(' ; ')
+    saves = [line for line in statements if line.startswith('save ')]
+    made = [line for line in statements if line not in saves]
+    name = chance.random.choice(made).split()[1]
+    divided = f'let q = {name} {chance.random.choice(("//", "%"))} ({name} % {chance.random.choice((2, 3, 5, 7))})'
+    return ' ; '.join([*made, divided, *saves, 'save q "q.npy"'])
+
+
+def once(file, command, answer):
+    """A run over a new site."""
+    say('site 65536 0')
+    say(f'top {file} {command}', 'top:' + answer)
+
+
+def answer_job(run, names, number):
+    """What the three commands answer, for the last file that is saved."""
+    last, fault = names[-1], run.first_fault()
+    if fault is None:
+        array = run.array(len(names) - 1)
+        held = text(saved(array))
+        out = ''.join(f'saved {name} {shape_text(run.array(k))}|' for k, name in enumerate(names)) + 'finished by: plain|'
+        once(last, 'plain job.txt', told(0, out, '', '0 0 0 0', last, held))
+        say(f'saved {last} run job.txt', f'saved: 0 {last} {held}')
+        once(last, f'sim job.txt {number}', told(0, sim_lines(run, names, number), '', '0 0 0 0', last, held))
+        for k, name in enumerate(names[:-1]):
+            say(f'saved {name} plain job.txt', f'saved: 0 {name} {text(saved(run.array(k)))}')
+        return
+    # the blocks before the first that is at fault are written
+    held = text(saved(run.array_before(len(names) - 1, fault)))
+    once(last, 'plain job.txt', told(4, '', f'dask: zero division: {run.block_text(fault)}|', '0 0 0 0', last, held))
+    say(f'saved {last} run job.txt', f'saved: 4 {last} {held}')
+    blamed = run.simulate(number)
+    once(last, f'sim job.txt {number}', told(4, '', f'dask: zero division: {run.block_text(blamed)}|', '0 0 0 0', last, 'none'))
+
+
+def by_chance():
+    title('jobs by chance, over files by chance')
+    chance = Chance(4242, longest=4)
+    for place in range(200):
+        lines = chance.job((2, 6), 40)
+        if place % 3 == 0:
+            lines = with_quotient(chance, lines)
+        lines = re.sub(r'save (\w) "(\w).npy"', r'save \1 "out\2.npy"', lines)
+        run_of = lower(lines)
+        inputs = [node for node in run_of.job.nodes if node.op == 'input']
+        arrays = [chance_inputs(chance, node) for node in inputs]
+        names = [line.split('"')[1] for line in lines.split(' ; ') if line.startswith('save ')]
+        files = [line.split('"')[1] for line in lines.split(' ; ') if line.startswith('input ')]
+        ill = chance.random.randrange(len(files)) if files and place % 8 == 0 else None
+        why = None
+        for k, (name, array) in enumerate(zip(files, arrays)):
+            data = saved(array)
+            if k == ill:
+                data, why = ill_file(chance, array)
+            shelve(name, data)
+        job(lines.replace(' ; ', '|') + '|')
+        if why is not None:
+            line = f'dask: file {files[ill]}: {why}|'
+            for command in ('plain job.txt', 'run job.txt', f'sim job.txt {place}'):
+                once(names[-1], command, told(3, '', line, '0 0 0 0', names[-1], 'none'))
+            continue
+        answer_job(Run(run_of, arrays), names, place)
 
 
 def main():
@@ -598,7 +734,7 @@ def main():
     shelve('short.npy', saved(A)[:-1])
     shelve('front.npy', saved(A)[:4])
     shelve('text.npy', b'nothing')
-    for part in (pieces, creations, room, alone, objects, lengths, real, heads, blocks, saves, refusals, words, faults, places, simulations):
+    for part in (pieces, creations, room, alone, objects, lengths, real, heads, blocks, saves, divided, refusals, large, words, faults, places, reports, simulations, by_chance):
         part()
     here = os.path.join(os.path.dirname(os.path.abspath(__file__)), '..', 'crates', 'site_table')
     for name, lines in (('stdin', LINES), ('stdout', WANTED)):

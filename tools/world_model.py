@@ -564,23 +564,8 @@ def play_generator(setting, events):
         print(f'{line}: ' + ' '.join(str(words.word()) for _ in range(3)))
 
 
-def play_addition(setting, events):
-    if setting[0] == '0' or not all(word.lstrip('-').isdigit() for word in setting):
-        print('ill')
-        return
-    size, addend, *cells = map(int, setting)
-    chunks = [cells[at:at + size] for at in range(0, len(cells), size)] or [[]]
-    print(f'chunks {len(chunks)}, keys {2 * len(chunks)}, edges {len(chunks)}, faults 0')
-    for place, chunk in enumerate(chunks):
-        length, size = len(chunk), 8 * len(chunk)
-        print(f'  {2 * place} on -: length {length}, bytes {size}, work {size}')
-        print(f'  {2 * place + 1} on {2 * place}: length {length}, bytes {size}, work {2 * size}')
-    print('wanted ' + keys_text(range(1, 2 * len(chunks), 2)))
-    print(''.join(['first sum:', *(f' {(cell + addend + 2**63) % 2**64 - 2**63}' for cell in chunks[0])]))
-
-
 PARTS = {'worker': play_worker, 'client': play_client, 'world': play_world, 'simulation': play_simulation,
-         'bound': play_bound, 'generator': play_generator, 'addition': play_addition}
+         'bound': play_bound, 'generator': play_generator}
 
 
 def main():
@@ -594,4 +579,5 @@ def main():
             print()
 
 
-main()
+if __name__ == "__main__":
+    main()

@@ -7,7 +7,6 @@
 //! the world: models of the rules that are no part of the program. `docs/CLUSTER.md` tells the rules.
 #![tactic(auto)]
 
-mod addition;
 mod asks;
 mod client;
 mod copies;
@@ -61,7 +60,6 @@ fn play_node<R: Print>(
         "simulation" => simulation::play(rt, alloc, setting),
         "bound" => counted::play_bounds(rt, alloc, events),
         "generator" => counted::play_words(rt, alloc, events),
-        "addition" => addition::play(rt, alloc, setting),
         _ => println!(rt; "no such story"),
     }
 }

@@ -30,7 +30,7 @@ use Rattle.dask_top.specs.Answers.{Answers, AskedDoes, Performs}
 use Rattle.dask_top.specs.Commands.{Command, Run, Plain, Sim, Asks, Asked, IsAsked, Known, Unread, Work, Evaluation, Simulation, sources_of, work_of}
 use Rattle.dask_top.specs.Completing.{Completes, EndsByInputs, EndsBySimulation, EndsByTexts, EndsByWork, MeetNoZero, MeetZero, NeverEnds, NoFault}
 use Rattle.dask_top.specs.Ends.{run_end, sim_end, status_of}
-use Rattle.dask_top.specs.Reading.{IsRead, Reading, Reads, RefusesText, SaysPlan, plan_said}
+use Rattle.dask_top.specs.Reading.{IsRead, Reading, Reads, plan_said}
 use Rattle.dask_top.specs.Telling.{end_of, sim_end_of}
 use Rattle.dask_top.specs.Works.{Does, Evaluates, RefusalCause, Simulates, UnreadCause, WorkDoes}
 

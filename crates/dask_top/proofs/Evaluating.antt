@@ -7,7 +7,7 @@ use Rattle.io_edge.specs.View.{View, Files, Opens, OnlyReads, OnlyErr, raised_by
 use Rattle.job_run.specs.declared.ends.Ended.{Ended}
 use Rattle.job_run.specs.declared.ends.Ended.TheVariants as RunEnds
 use Rattle.job_run.specs.Inputs.{HoldArrays, InputsFit, told_all}
-use Rattle.job_run.specs.Part.{AreLeft, IsNoneOf, RaisedAtMost}
+use Rattle.job_run.specs.Part.{AreLeft, RaisedAtMost}
 use Rattle.job_run.specs.Plan.{Plan, input_shapes, name_at, names_saved}
 use Rattle.job_run.specs.Runs.{AreRight, AreSaved, Cause as RunCause, Saves as RunSaves, Opened as RunOpened, Created as RunCreated, Prints as RunPrints, HasValues, Looked, PrintsFront, RunsPlan, StopsPrinting, WritesFail, lines_of}
 use Rattle.job_run.specs.Values.{files_of}
@@ -19,7 +19,7 @@ use Rattle.dask_top.specs.Answers.{Performs}
 use Rattle.dask_top.specs.Commands.{Evaluation}
 use Rattle.dask_top.specs.Ends.{Notes, run_end}
 use Rattle.dask_top.specs.Opening.{TextRead, JobRead}
-use Rattle.dask_top.specs.Telling.{IsPlaced, IsRefusal, Told, end_of}
+use Rattle.dask_top.specs.Telling.{IsRefusal, Told, end_of}
 use Rattle.dask_top.specs.Works.{Evaluates, JobOpened, WorkDoes}
 use Rattle.dask_top.proofs.Opening.{raised_by-append, raised_first, raised_more}
 use Rattle.dask_top.proofs.Reading.{is_read}
@@ -150,15 +150,6 @@ evaluated sources p old mid new end now told only e =
       | inl same ↦ subst W (sym same) (run_is (Evaluates sources p old new) end (evaluates_told sources p old mid new end only e))
       | inr refused ↦ subst W (sym refused.1) (evaluates_told sources p old mid new RunEnds.OutOfMemory only (evaluates_starved sources p old mid end refused.0 e))
     ]
-
-pub placed : (p : Plan) (old new : View) (end : Ended) → RunCause p old new end → IsPlaced (Some (Ok p)) (end_of end)
-placed p old new RunEnds.Done cause = tt
-placed p old new (RunEnds.Limit quantity) cause = tt
-placed p old new (RunEnds.File place error) cause = cause.1.within
-placed p old new (RunEnds.Zero node block) cause = tt
-placed p old new RunEnds.ReadFault cause = tt
-placed p old new RunEnds.WriteFault cause = tt
-placed p old new RunEnds.OutOfMemory cause = tt
 
 -- ## Before it, only the text was read
 

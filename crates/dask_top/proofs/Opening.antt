@@ -1,5 +1,5 @@
 -- Counts of names, where the sources were opened first.
-use Rattle.std.proofs.Common.{◌≡◌, ℕ, ◌+◌, ◌≤◌, List, ◌++◌, ap, sym, ◌∙◌, arith}
+use Rattle.std.proofs.Common.{◌≡◌, ℕ, ◌+◌, List, ◌++◌, ap, sym, ◌∙◌, arith}
 use Rattle.io_edge.specs.View.{Files, Opens, raised, raised_by, times}
 use Rattle.job_run.specs.Part.{RaisedAtMost}
 use Rattle.job_run.proofs.Counting.{raised_at_most, times-append}

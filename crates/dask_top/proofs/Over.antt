@@ -2,7 +2,6 @@
 use Rattle.std.proofs.Common.{◌≡◌, ℕ, List, Option, Some, None, subst}
 use Rattle.std.specs.Prelude.{IfSome}
 use Rattle.io_edge.specs.View.{Files}
-use Rattle.cluster_rules.specs.World.{Job}
 use Rattle.job_run.specs.Inputs.{InputsFit, told_all}
 use Rattle.job_run.specs.Plan.{Plan}
 use Rattle.sim_words.specs.declared.sim.SimWords.{SimWords}
@@ -16,23 +15,25 @@ if_told None P Q f told = tt
 if_told (Some x) P Q f told = f told
 
 module _ (p : Plan) (s : SimWords) (old mid : Files) (held : mid.held ≡ old.held) (fit : InputsFit p mid → InputsFit p old) where
-  text_job_over : (job : Job) (wanted : List ℕ) → IsTextJob p mid s job wanted → IsTextJob p old s job wanted
-  text_job_over job wanted is = record {
-    small = is.small;
-    inputs = fit is.inputs;
-    named = is.named;
-    runs = is.runs;
-    wants = is.wants;
-    told = rw (← held) is.told;
+  simulates_over : (P : _) → SimulatesTo (IsTextJob p mid s) s P → SimulatesTo (IsTextJob p old s) s P
+  simulates_over P to = record {
+    job = to.job;
+    wanted = to.wanted;
+    is = record {
+      small = to.is.small;
+      inputs = fit to.is.inputs;
+      named = to.is.named;
+      runs = to.is.runs;
+      wants = to.is.wants;
+      told = rw (← held) to.is.told;
+    };
+    ends = to.ends;
   }
 
-  simulates_over : (P : Job → List ℕ → SimWords → Type 0) → SimulatesTo (IsTextJob p mid s) s P → SimulatesTo (IsTextJob p old s) s P
-  simulates_over P to = record { job = to.job; wanted = to.wanted; is = text_job_over to.job to.wanted to.is; ends = to.ends }
-
-  pub told_over : (P : Job → List ℕ → SimWords → Type 0) → WhereTold p mid (SimulatesTo (IsTextJob p mid s) s P) → WhereTold p old (SimulatesTo (IsTextJob p old s) s P)
+  pub told_over : (P : _) → WhereTold p mid (SimulatesTo (IsTextJob p mid s) s P) → WhereTold p old (SimulatesTo (IsTextJob p old s) s P)
   told_over P told =
-      let same : WhereTold p old (SimulatesTo (IsTextJob p mid s) s P) = let T : (List ℕ → Option (List ℕ)) → Type 0 = λ f. IfSome (told_all f p.inputs) (λ contents. SimulatesTo (IsTextJob p mid s) s P) in subst T held told in
-      if_told (told_all old.held p.inputs) (SimulatesTo (IsTextJob p mid s) s P) (SimulatesTo (IsTextJob p old s) s P) (simulates_over P) same
+      let T : (List ℕ → Option (List ℕ)) → Type 0 = λ f. IfSome (told_all f p.inputs) (λ contents. SimulatesTo (IsTextJob p mid s) s P) in
+      if_told (told_all old.held p.inputs) (SimulatesTo (IsTextJob p mid s) s P) (SimulatesTo (IsTextJob p old s) s P) (simulates_over P) (subst T held told)
 
   -- and with another fact of the lines
   pub prints_over : (P Q : List ℕ → Type 0) → ((lines : List ℕ) → P lines → Q lines) → PrintsServed p s mid P → PrintsServed p s old Q

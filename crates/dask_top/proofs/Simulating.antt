@@ -18,7 +18,7 @@ use Rattle.dask_top.specs.Answers.{Performs}
 use Rattle.dask_top.specs.Commands.{Simulation}
 use Rattle.dask_top.specs.Ends.{Notes, sim_end}
 use Rattle.dask_top.specs.Opening.{TextRead, JobRead}
-use Rattle.dask_top.specs.Telling.{IsPlaced, IsRefusal, Told, end_of, sim_end_of}
+use Rattle.dask_top.specs.Telling.{IsRefusal, Told, end_of, sim_end_of}
 use Rattle.dask_top.specs.Works.{SimOpened, Simulates, WorkDoes}
 use Rattle.dask_top.proofs.Evaluating.{all_before, cause_before, fit_before, front_before, front_told, looked_before, memory_saves, opened_before, refusal_opened, right_before, saves_before, values_before}
 use Rattle.dask_top.proofs.Over.{prints_over, told_over}
@@ -112,17 +112,6 @@ simulated sources p said old mid new end now told only e =
       | inl same ↦ subst W (sym same) (sim_is (Simulates sources p said old new) end (simulates_told sources p said old mid new end only e))
       | inr refused ↦ subst W (sym refused.1) (simulates_told sources p said old mid new (SimEnds.Ran RunEnds.OutOfMemory) only (simulates_starved sources p said old mid end refused.0 e))
     ]
-
-pub placed : (p : Plan) (said : SimWords) (old new : View) (end : SimEnded) → SimCause p said old new end → IsPlaced (Some (Ok p)) (sim_end_of end)
-placed p said old new SimEnds.Events cause = tt
-placed p said old new SimEnds.Turns cause = tt
-placed p said old new (SimEnds.Ran RunEnds.Done) cause = tt
-placed p said old new (SimEnds.Ran (RunEnds.Limit quantity)) cause = tt
-placed p said old new (SimEnds.Ran (RunEnds.File place error)) cause = cause.1.within
-placed p said old new (SimEnds.Ran (RunEnds.Zero node block)) cause = tt
-placed p said old new (SimEnds.Ran RunEnds.ReadFault) cause = tt
-placed p said old new (SimEnds.Ran RunEnds.WriteFault) cause = tt
-placed p said old new (SimEnds.Ran RunEnds.OutOfMemory) cause = tt
 
 -- ## Before it, only the text was read
 

@@ -1,5 +1,5 @@
 -- The line of a refusal is what is told of it.
-use Rattle.std.proofs.Common.{◌≡◌, ◌<◌, ℕ, List, length, subst}
+use Rattle.std.proofs.Common.{◌≡◌, ℕ, List, subst}
 use Rattle.io_edge.specs.View.{View}
 use Rattle.dask_top.specs.declared.answer.End.{End}
 use Rattle.dask_top.specs.declared.answer.End.TheVariants.{Words, Job, Limit, Graph, Events, Turns, Done, File, Zero, ReadFault, WriteFault, OutOfMemory}

@@ -6,7 +6,7 @@ use Rattle.job_run.specs.declared.ends.Ended.TheVariants as RunEnds
 use Rattle.dask_top.specs.declared.answer.End.{End}
 use Rattle.sim_run.specs.declared.ends.SimEnded.{SimEnded}
 use Rattle.sim_run.specs.declared.ends.SimEnded.TheVariants as SimEnds
-use Rattle.dask_top.specs.declared.answer.End.TheVariants.{Words, Job, Limit, Graph, Events, Turns, Done, File, Zero, ReadFault, WriteFault, OutOfMemory}
+use Rattle.dask_top.specs.declared.answer.End.TheVariants.{Job, Limit, Graph, Events, Turns, Done, File, Zero, ReadFault, WriteFault, OutOfMemory}
 use Rattle.dask_top.specs.Reading.{Reading, plan_in}
 
 -- an end whose line is made when it comes

@@ -1,5 +1,5 @@
 -- What each work does at each of its ends, why it ends so, and what it leaves.
-use Rattle.std.specs.Prelude.{◌≡◌, ℕ, List, ◌++◌, Option, None, Some, IsSomeAnd, Ok, Err}
+use Rattle.std.specs.Prelude.{◌≡◌, ℕ, List, ◌++◌, None, Some, IsSomeAnd, Ok, Err}
 use Rattle.io_edge.specs.Cause.{Rose}
 use Rattle.io_edge.specs.View.{View, raised_by}
 use Rattle.job_run.specs.declared.ends.Ended.{Ended}

@@ -16,8 +16,8 @@ use io_edge::{Site, note_full};
 use job_run::{Ended, FileError, Job};
 use job_text::JobError;
 use sim_run::SimEnded;
-use task_graph::Quantity;
 use std::alloc::{AllocError, Global};
+use task_graph::Quantity;
 
 // Prints a line to standard error. A failure there changes nothing more.
 fn note<S: Site>(site: &mut S, line: &[u8])
@@ -97,7 +97,12 @@ fn push_rest(alloc: Global, text: &mut String, numbers: &[u64]) -> Result<(), Al
 }
 
 // Appends a number and others, with commas between them.
-fn push_several(alloc: Global, text: &mut String, first: u64, rest: &[u64]) -> Result<(), AllocError>
+fn push_several(
+    alloc: Global,
+    text: &mut String,
+    first: u64,
+    rest: &[u64],
+) -> Result<(), AllocError>
     ensures { OnOk result (string_bytes text.new ≡ string_bytes text.old ++ comma_list (first ∷ rest.now)) }
 {
     let part = format!(in alloc; "{first}")?;

@@ -1,5 +1,5 @@
 -- What an evaluation leaves at each of its ends.
-use Rattle.std.proofs.Common.{◌≡◌, ℕ, ◌+◌, ◌<◌, ◌≤◌, List, [], length, map, get_or, refl, ap, ap₂, sym, ◌∙◌, subst, inl, inr, arith, Some}
+use Rattle.std.proofs.Common.{◌≡◌, ℕ, ◌<◌, ◌≤◌, List, [], length, refl, ap, ap₂, sym, ◌∙◌, subst, inr, arith, Some}
 use Rattle.std.specs.Prelude.{Bool, bytes_eq, false, IfSome, IsSome, IsTrue, Option}
 use Rattle.std.proofs.lemmas.List.{get_or-map, length-map}
 use Rattle.io_edge.specs.Cause.{Rose, TakesFaults}
@@ -7,12 +7,11 @@ use Rattle.io_edge.specs.Content.{Content, Told, Untold, OnTold, file_at, told_b
 use Rattle.io_edge.specs.View.{View, Files, OnlyReads, OnlyWrites, raised_by}
 use Rattle.nd_shape.specs.Block.{Array}
 use Rattle.array_expr.specs.Node.{shape_at}
-use Rattle.array_expr.specs.Elem.{Cells}
 use Rattle.npy_codec.specs.declared.head.Head.{Head}
 use Rattle.task_graph.specs.declared.graph.Task.{Task}
 use Rattle.block_lowering.specs.Jobs.{Job, TellsFeed}
 use Rattle.saved_files.specs.Filling.{IsFilling, IsPart, file_of as bytes_of}
-use Rattle.saved_files.specs.Saving.{Saving, saving_at, GivesBack, IsFresh, IsLeft, IsOf, TakesAll, WereCreated}
+use Rattle.saved_files.specs.Saving.{Saving, saving_at, GivesBack, IsLeft, IsOf, TakesAll, WereCreated}
 use Rattle.job_run.specs.declared.blocks.Halt.{Halt}
 use Rattle.job_run.specs.declared.blocks.Halt.TheVariants as halts
 use Rattle.job_run.specs.declared.ends.Ended.{Ended}
@@ -157,10 +156,12 @@ module _ (p : Plan) (named : Named) (old mid between new : View) (files now : Li
 -- ## Its ends
 
 pub tells_same : (heads again : List Head) (files same : List Content) → again ≡ heads → same ≡ files → TellsFeed heads files → TellsFeed again same
-tells_same heads again files same e f tells = record { each = λ j h.
-    let P : List Head → Type 0 = λ hs. j < length hs in
-    let Q : List Content → Type 0 = λ fs. IsSome (told_bytes (file_at fs j)) in
-    subst Q (sym f) (tells.each j (subst P e h)) }
+tells_same heads again files same e f tells = record {
+  each = λ j h.
+      let P : List Head → Type 0 = λ hs. j < length hs in
+      let Q : List Content → Type 0 = λ fs. IsSome (told_bytes (file_at fs j)) in
+      subst Q (sym f) (tells.each j (subst P e h));
+}
 
 pub heads_same : (j : Job) (tasks : List Task) (heads : List Head) → j ≡ record { tasks = tasks; heads = heads } → j.heads ≡ heads
 heads_same j tasks heads e = ap (λ (x : Job). x.heads) e

@@ -1,11 +1,11 @@
 -- Why not all blocks were made, step by step.
-use Rattle.std.proofs.Common.{◌≡◌, ℕ, List, [], sym, subst, refl, arith}
+use Rattle.std.proofs.Common.{◌≡◌, ℕ, List, sym, subst, refl}
 use Rattle.std.specs.Prelude.{Option, Some, None}
 use Rattle.io_edge.specs.Cause.{Rose}
 use Rattle.saved_files.specs.Saving.{Saving}
 use Rattle.job_run.specs.declared.blocks.Halt.{Halt}
 use Rattle.job_run.specs.declared.blocks.Halt.TheVariants.{Zero, ReadFault, WriteFault, OutOfMemory}
-use Rattle.job_run.specs.Evaluating.{HaltCause, HaltKeeps, HasNotFailed, IsZeroOf}
+use Rattle.job_run.specs.Evaluating.{HaltCause, IsZeroOf}
 use Rattle.job_run.specs.Plan.{Plan}
 use Rattle.job_run.specs.Values.{Named, MeetsZero, index_of}
 
@@ -23,22 +23,9 @@ zero-cause p named told files before now (Some x) ReadFault is m = absurd is
 zero-cause p named told files before now (Some x) WriteFault is m = absurd is
 zero-cause p named told files before now (Some x) OutOfMemory is m = tt
 
--- a halt before a write, of any files
-pub cause-unwritten : (p : Plan) (named : Named) (told : Type 0) (files : List Saving) (before now : ℕ) (halt : Halt) → HaltCause p named told [] before now halt → HaltCause p named told files before now halt
-cause-unwritten p named told files before now (Zero node block) h = h
-cause-unwritten p named told files before now ReadFault h = h
-cause-unwritten p named told files before now WriteFault h = absurd (omega (arith, h.there))
-cause-unwritten p named told files before now OutOfMemory h = tt
-
 -- a halt of a later step
 pub cause-later : (p : Plan) (named : Named) (told first : Type 0) (files : List Saving) (before start now : ℕ) (halt : Halt) → (first → told) → before ≡ start → HaltCause p named told files before now halt → HaltCause p named first files start now halt
 cause-later p named told first files before start now (Zero node block) t e h = λ x. h (t x)
 cause-later p named told first files before start now ReadFault t e h = subst (λ n. Rose n now) e h
 cause-later p named told first files before start now WriteFault t e h = h
 cause-later p named told first files before start now OutOfMemory t e h = tt
-
-pub keeps-all : (files : List Saving) (halt : Halt) → HasNotFailed files → HaltKeeps files halt
-keeps-all files (Zero node block) h = h
-keeps-all files ReadFault h = h
-keeps-all files WriteFault h = tt
-keeps-all files OutOfMemory h = tt

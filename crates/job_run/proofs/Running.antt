@@ -1,11 +1,13 @@
 -- What a run leaves at each of its ends.
-use Rattle.std.proofs.Common.{◌≡◌, ℕ, ◌+◌, ◌≤◌, List, [], get_or, refl, ap, sym, ◌∙◌, subst, inl, inr, arith}
-use Rattle.std.specs.Prelude.{IfSome, IsTrue, Option, Some, None, Result, Ok, Err}
+use Rattle.std.proofs.Common.{◌≡◌, ℕ, ◌≤◌, List, [], get_or, refl, ap, sym, ◌∙◌, subst, inl, inr, arith}
+use Rattle.std.specs.Prelude.{IfSome, IsTrue, Option, Some, None}
 use Rattle.io_edge.specs.Cause.{Rose}
-use Rattle.io_edge.specs.Content.{followed_by, PrintsPart}
-use Rattle.io_edge.specs.View.{View, Files, Opens, OnlyReads, OnlyOut, raised_by, times}
+use Rattle.io_edge.specs.Content.{Content, followed_by, PrintsPart}
+use Rattle.io_edge.specs.View.{View, Files, Opens, OnlyReads, OnlyOut, raised_by}
 use Rattle.nd_shape.specs.Block.{Array}
+use Rattle.npy_codec.specs.declared.head.Head.{Head}
 use Rattle.plain_eval.specs.Eval.{held_in}
+use Rattle.block_lowering.specs.Jobs.{TellsFeed}
 use Rattle.saved_files.specs.Saving.{IsLeft}
 use Rattle.job_run.specs.declared.ends.Ended.{Ended}
 use Rattle.job_run.specs.declared.ends.Ended.TheVariants.{Done, Limit, File, Zero, ReadFault, WriteFault, OutOfMemory}
@@ -15,8 +17,10 @@ use Rattle.job_run.specs.Lowering.{LowerCause}
 use Rattle.job_run.specs.Part.{AreLeft, AreWhole, RaisedAtMost}
 use Rattle.job_run.specs.Plan.{Plan, input_shapes, names_saved}
 use Rattle.job_run.specs.Runs.{AreRight, AreSaved, Cause, Created, HasValues, IsSmall, Opened, Prints, ReadCause, RunsPlan, Saves, StopsPrinting, lines_of}
+use Rattle.job_run.specs.Told.{named_told}
 use Rattle.job_run.specs.Values.{MeetsNone, MeetsZero, Named, OnInputs, files_of}
 use Rattle.job_run.proofs.Counting.{none_raised, opened_most, raised_at_most}
+use Rattle.job_run.proofs.Naming.{OpenInputs, on_named}
 
 -- ## Before anything is created
 
@@ -120,9 +124,10 @@ reading_runs p old new OutOfMemory small cause opens only = early_runs p old new
 -- ## Once the inputs are accepted
 
 -- the inputs were opened, and are as declared
-pub record HaveAccepted (p : Plan) (old mid : View) : Type 0 where
+pub record HaveAccepted (p : Plan) (old mid : View) (files : List Content) (heads : List Head) : Type 0 where
   pub small : IsSmall p
   pub fit : InputsFit p old.files
+  pub inputs : OpenInputs p old.files mid.files files heads
   pub opens : Opens p.inputs old.files mid.files
   pub opened : mid.files.opened ≡ raised_by p.inputs old.files.opened
   pub only : OnlyReads old mid
@@ -140,14 +145,18 @@ left_before names files old mid new held tells left = λ k h. turn (get_or names
 most_before : (names : List (List ℕ)) (old mid new : List ℕ → ℕ) → mid ≡ old → RaisedAtMost names mid new → RaisedAtMost names old new
 most_before names old mid new same most = let P : (List ℕ → ℕ) → Type 0 = λ f. RaisedAtMost names f new in subst P same most
 
--- what holds of the elements that are named, where they are told, holds of those that the inputs hold
-abbrev pub AreNamed : Plan → Files → Named → Type 0 → Type 1
-AreNamed p files named told = (P : Named → Type 0) → (told → P named) → OnInputs p files (λ blocks. P (held_in blocks))
+-- what an evaluation does where the feed's elements are named
+abbrev pub EvaluatesFeed : Plan → List Content → List Head → View → View → Ended → Type 0
+EvaluatesFeed p files heads old new end = EvaluatesInputs p (named_told files heads) (TellsFeed heads files) old new end
 
-module _ (p : Plan) (old mid new : View) (named : Named) (told : Type 0) (end : Ended) (a : HaveAccepted p old mid) (are : AreNamed p old.files named told) (e : EvaluatesInputs p named told mid new end) where
+module _ (p : Plan) (old mid : View) (files : List Content) (heads : List Head) (a : HaveAccepted p old mid files heads) where
+  on_accepted : (P : Named → Type 0) → (TellsFeed heads files → P (named_told files heads)) → OnInputs p old.files (λ blocks. P (held_in blocks))
+  on_accepted P holds = on_named p old.files mid.files files heads P a.inputs holds
+
+module _ (p : Plan) (old mid new : View) (files : List Content) (heads : List Head) (end : Ended) (a : HaveAccepted p old mid files heads) (e : EvaluatesFeed p files heads mid new end) where
   right_after : AreRight p old.files new.files
-  right_after = are (λ n. AreLeft (names_saved p) (files_of p n) old.files new.files)
-      (λ t. left_before (names_saved p) (files_of p named) old.files mid.files new.files a.opens.held a.opens.tells (e.left t))
+  right_after = on_accepted p old mid files heads a (λ n. AreLeft (names_saved p) (files_of p n) old.files new.files)
+      (λ t. left_before (names_saved p) (files_of p (named_told files heads)) old.files mid.files new.files a.opens.held a.opens.tells (e.left t))
 
   opened_after : new.files.opened ≡ raised_by p.inputs old.files.opened
   opened_after = e.opened ∙ a.opened
@@ -167,36 +176,36 @@ module _ (p : Plan) (old mid new : View) (named : Named) (told : Type 0) (end : 
   }
 
 -- not all blocks were made and written
-pub stopped_runs : (p : Plan) (old mid new : View) (named : Named) (told : Type 0) (end : Ended) → HaveAccepted p old mid → AreNamed p old.files named told → EvaluatesInputs p named told mid new end → (end ≡ Done → ⊥) → RunsPlan p old new end
-stopped_runs p old mid new named told Done a are e not = absurd (not refl)
-stopped_runs p old mid new named told (Limit quantity) a are e not = absurd e.cause
-stopped_runs p old mid new named told (File place error) a are e not = absurd e.cause
-stopped_runs p old mid new named told (Zero node block) a are e not =
-    evaluated_runs p old mid new named told (Zero node block) a are e (a.small, record { inputs = a.fit; zero_at = are (λ n. MeetsZero p n node block) e.cause })
-    (right_after p old mid new named told (Zero node block) a are e) (opened_after p old mid new named told (Zero node block) a are e)
+pub stopped_runs : (p : Plan) (old mid new : View) (files : List Content) (heads : List Head) (end : Ended) → HaveAccepted p old mid files heads → EvaluatesFeed p files heads mid new end → (end ≡ Done → ⊥) → RunsPlan p old new end
+stopped_runs p old mid new files heads Done a e not = absurd (not refl)
+stopped_runs p old mid new files heads (Limit quantity) a e not = absurd e.cause
+stopped_runs p old mid new files heads (File place error) a e not = absurd e.cause
+stopped_runs p old mid new files heads (Zero node block) a e not =
+    evaluated_runs p old mid new files heads (Zero node block) a e (a.small, record { inputs = a.fit; zero_at = on_accepted p old mid files heads a (λ n. MeetsZero p n node block) e.cause })
+    (right_after p old mid new files heads (Zero node block) a e) (opened_after p old mid new files heads (Zero node block) a e)
     (e.created ∙ ap (raised_by (names_saved p)) a.opens.created) (e.out ∙ a.only.out)
-stopped_runs p old mid new named told ReadFault a are e not =
-    evaluated_runs p old mid new named told ReadFault a are e (a.small, rose_before old.read_faults mid.read_faults new.read_faults a.later e.cause)
-    (right_after p old mid new named told ReadFault a are e) (raised_at_most p.inputs old.files.opened new.files.opened (opened_after p old mid new named told ReadFault a are e))
+stopped_runs p old mid new files heads ReadFault a e not =
+    evaluated_runs p old mid new files heads ReadFault a e (a.small, rose_before old.read_faults mid.read_faults new.read_faults a.later e.cause)
+    (right_after p old mid new files heads ReadFault a e) (raised_at_most p.inputs old.files.opened new.files.opened (opened_after p old mid new files heads ReadFault a e))
     (most_before (names_saved p) old.files.created mid.files.created new.files.created a.opens.created e.created) (e.out ∙ a.only.out)
-stopped_runs p old mid new named told WriteFault a are e not =
-    evaluated_runs p old mid new named told WriteFault a are e (a.small, a.fit, inl (rose_before old.write_faults mid.write_faults new.write_faults (omega (arith, a.only.write_faults)) e.cause))
-    (right_after p old mid new named told WriteFault a are e) (raised_at_most p.inputs old.files.opened new.files.opened (opened_after p old mid new named told WriteFault a are e))
+stopped_runs p old mid new files heads WriteFault a e not =
+    evaluated_runs p old mid new files heads WriteFault a e (a.small, a.fit, inl (rose_before old.write_faults mid.write_faults new.write_faults (omega (arith, a.only.write_faults)) e.cause))
+    (right_after p old mid new files heads WriteFault a e) (raised_at_most p.inputs old.files.opened new.files.opened (opened_after p old mid new files heads WriteFault a e))
     (most_before (names_saved p) old.files.created mid.files.created new.files.created a.opens.created e.created) (inl (e.out ∙ a.only.out))
-stopped_runs p old mid new named told OutOfMemory a are e not =
-    evaluated_runs p old mid new named told OutOfMemory a are e tt
-    (right_after p old mid new named told OutOfMemory a are e) (raised_at_most p.inputs old.files.opened new.files.opened (opened_after p old mid new named told OutOfMemory a are e))
+stopped_runs p old mid new files heads OutOfMemory a e not =
+    evaluated_runs p old mid new files heads OutOfMemory a e tt
+    (right_after p old mid new files heads OutOfMemory a e) (raised_at_most p.inputs old.files.opened new.files.opened (opened_after p old mid new files heads OutOfMemory a e))
     (most_before (names_saved p) old.files.created mid.files.created new.files.created a.opens.created e.created) (e.out ∙ a.only.out)
 
 -- ## Once all is saved
 
-module _ (p : Plan) (old mid saved new : View) (named : Named) (told : Type 0) (a : HaveAccepted p old mid) (are : AreNamed p old.files named told) (e : EvaluatesInputs p named told mid saved Done) (prints : OnlyOut saved new) where
+module _ (p : Plan) (old mid saved new : View) (files : List Content) (heads : List Head) (a : HaveAccepted p old mid files heads) (e : EvaluatesFeed p files heads mid saved Done) (prints : OnlyOut saved new) where
   values_after : HasValues p old.files
-  values_after = record { inputs = a.fit; values = are (MeetsNone p) e.cause }
+  values_after = record { inputs = a.fit; values = on_accepted p old mid files heads a (MeetsNone p) e.cause }
 
   saved_after : AreSaved p old.files new.files
-  saved_after = are (λ n. IsTrue old.files.tells → AreWhole (names_saved p) (files_of p n) new.files) (λ t tells.
-      let P : Files → Type 0 = λ f. AreWhole (names_saved p) (files_of p named) f in
+  saved_after = on_accepted p old mid files heads a (λ n. IsTrue old.files.tells → AreWhole (names_saved p) (files_of p n) new.files) (λ t tells.
+      let P : Files → Type 0 = λ f. AreWhole (names_saved p) (files_of p (named_told files heads)) f in
       subst P (sym prints.files) (e.saves t (subst IsTrue (sym a.opens.tells) tells)))
 
   created_after : new.files.created ≡ raised_by (names_saved p) old.files.created
@@ -228,7 +237,7 @@ module _ (p : Plan) (old mid saved new : View) (named : Named) (told : Type 0) (
   pub print_fault_runs : PrintsPart saved.out new.out (lines_of p) → Rose saved.print_faults new.print_faults → RunsPlan p old new WriteFault
   print_fault_runs part rose =
       let risen : Rose old.print_faults new.print_faults = rose_before old.print_faults saved.print_faults new.print_faults (omega (arith, e.print_faults, a.only.print_faults)) rose in
-      let right : AreRight p old.files new.files = let P : Files → Type 0 = λ f. AreRight p old.files f in subst P (sym prints.files) (right_after p old mid saved named told Done a are e) in
+      let right : AreRight p old.files new.files = let P : Files → Type 0 = λ f. AreRight p old.files f in subst P (sym prints.files) (right_after p old mid saved files heads Done a e) in
       let O : Option (List ℕ) → Type 0 = λ o. PrintsPart o new.out (lines_of p) in
       let stops : StopsPrinting p old new (lines_of p) = record { saved = saved_after; created = created_after; fault = risen; front = subst O out_before part } in
       printed_runs WriteFault (a.small, a.fit, inr (values_after, risen)) right (raised_at_most p.inputs old.files.opened new.files.opened all_opened)

@@ -1,6 +1,6 @@
 -- A block that is written into the files of its node, one file after another.
-use Rattle.std.proofs.Common.{◌≡◌, ℕ, ◌+◌, ◌<◌, ◌≤◌, ◌≢◌, ◌⊎◌, List, length, ap, sym, subst, refl, ◌∙◌, arith, inl, inr}
-use Rattle.std.specs.Prelude.{Option, Some, IsSome}
+use Rattle.std.proofs.Common.{◌≡◌, ℕ, ◌+◌, ◌<◌, ◌≢◌, ◌⊎◌, List, length, ap, sym, subst, refl, ◌∙◌, arith, inl, inr}
+use Rattle.std.specs.Prelude.{Some, IsSome}
 use Rattle.std.proofs.lemmas.Bool.{cases_lt}
 use Rattle.io_edge.specs.Content.{Content, Told, Untold, told_bytes}
 use Rattle.nd_shape.specs.Block.{Array}
@@ -30,10 +30,7 @@ each-file P place old new c here k others = elim (other-or k place) [
   | inr ne ↦ subst (P k) (sym (c.others k ne)) (others ne)
 ]
 
-pub same-files : (files : List Saving) → AreSameFiles files files
-same-files files = record { count = refl; names = λ k h. refl; dims = λ k h. refl; told = λ k h t. t }
-
-pub same-then : (old mid new : List Saving) → AreSameFiles old mid → AreSameFiles mid new → AreSameFiles old new
+same-then : (old mid new : List Saving) → AreSameFiles old mid → AreSameFiles mid new → AreSameFiles old new
 same-then old mid new a b =
     let count : length mid ≡ length old = a.count in
     record {
@@ -53,14 +50,6 @@ same-write place mid new c told = record {
 }
 
 -- ## The loop's steps
-
-pub saved-first : (p : Plan) (name : Option (ℕ × ℕ)) (block : Array) (files : List Saving) → SavedBelow p name block 0 files files
-saved-first p name block files = record {
-  same = same-files files;
-  below = λ k h lt. absurd (omega (arith, h));
-  above = λ k h. refl;
-  kept = λ k h. refl;
-}
 
 below-next : (k place : ℕ) → k < place + 1 → (k < place) ⊎ (place ≡ k)
 below-next k place h = grind arith
@@ -111,8 +100,3 @@ failed-part p x block place old mid new node s c fills k lt =
       | inl a ↦ inr (inl (s.below k a lt))
       | inr b ↦ inl (s.above k b)
     ])
-
--- after all saves
-pub saved-all : (p : Plan) (name : Option (ℕ × ℕ)) (block : Array) (place : ℕ) (old new : List Saving) → length old ≤ place → SavedBelow p name block place old new
-    → (k : ℕ) → k < length old → SavesAt p name block k (saving_at old k) (saving_at new k)
-saved-all p name block place old new h s k lt = s.below k (omega arith) lt

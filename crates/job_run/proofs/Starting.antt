@@ -1,5 +1,5 @@
 -- The graph of a plan over the heads of its inputs is a job.
-use Rattle.std.proofs.Common.{◌≡◌, ℕ, zero, suc, ◌+◌, ◌<◌, List, [], ◌∷◌, length, map, take, get_or, cond, refl, ap, sym, ◌∙◌, subst, arith, Bool, true, false}
+use Rattle.std.proofs.Common.{◌≡◌, ℕ, zero, suc, ◌+◌, ◌<◌, List, [], ◌∷◌, length, take, get_or, cond, refl, sym, ◌∙◌, subst, arith, Bool, true, false}
 use Rattle.std.specs.Prelude.{All}
 use Rattle.std.proofs.lemmas.Grind.{get_or_default_zero}
 use Rattle.std.proofs.lemmas.List.{length-map}
@@ -12,14 +12,14 @@ use Rattle.array_expr.specs.Elem.{is_input}
 use Rattle.array_expr.specs.Node.{shape_at}
 use Rattle.expr_laws.specs.Formulas.{inputs_before}
 use Rattle.block_kernels.specs.declared.spec.Spec.{Spec}
-use Rattle.block_kernels.specs.declared.spec.Spec.TheVariants.{Elementwise, Where, Slice, Transpose, Assemble, Reduce, Contract, Fill, Load}
+use Rattle.block_kernels.specs.declared.spec.Spec.TheVariants.{Load}
 use Rattle.block_kernels.specs.WellFormed.{IsWellFormed}
 use Rattle.task_graph.specs.declared.graph.Task.{Task}
 use Rattle.task_graph.specs.Graphs.{task_at}
 use Rattle.lowering_laws.specs.Formed.{IsLoaded}
 use Rattle.lowering_laws.specs.Lowered.{no_node}
 use Rattle.lowering_laws.specs.Whole.{AreFedAll}
-use Rattle.block_lowering.specs.Jobs.{IsJob, IsLoad, head_at}
+use Rattle.block_lowering.specs.Jobs.{IsJob, IsLoad}
 use Rattle.job_run.specs.Loading.{AreHeads}
 use Rattle.job_run.specs.Plan.{Plan, Saved, IsRunnable, input_shapes, nodes_saved}
 

@@ -5,7 +5,7 @@ use Rattle.std.specs.Option.{option_map}
 use Rattle.std.proofs.lemmas.List.FromFn.{get_or-map-range_with_len, length-map-range_with_len}
 use Rattle.io_edge.specs.Content.{Content, Told, Untold, OnTold, file_at}
 use Rattle.io_edge.specs.View.{Files, Shows}
-use Rattle.nd_shape.specs.Index.{IsIn, index_at, place}
+use Rattle.nd_shape.specs.Index.{index_at, place}
 use Rattle.nd_shape.specs.Region.{moved}
 use Rattle.nd_shape.specs.Shape.{elements}
 use Rattle.nd_shape.proofs.Places.{IsIn-length, index_at-place, place-below}

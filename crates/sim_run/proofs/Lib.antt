@@ -1,9 +1,10 @@
-pub mod Manned
 pub mod Appending
+pub mod Ending
 pub mod Filling
-pub mod Reached
-pub mod Wanted
-pub mod Simulating
-pub mod Saves
 pub mod Got
+pub mod Manned
+pub mod Reached
+pub mod Saves
+pub mod Simulating
 pub mod Stops
+pub mod Wanted

@@ -1,7 +1,7 @@
-pub mod Simulated
-pub mod Jobs
-pub mod Texts
 pub mod Ends
 pub mod Filling
+pub mod Jobs
 pub mod Saving
 pub mod Serving
+pub mod Simulated
+pub mod Texts

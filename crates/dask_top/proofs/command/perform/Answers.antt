@@ -1,6 +1,6 @@
 use Rattle.std.proofs.Common.{map, string_bytes}
 use Rattle.job_run.specs.Jobs.{plan_of}
-use Rattle.dask_top.proofs.Evaluating.{placed, run_performs}
+use Rattle.dask_top.proofs.Evaluating.{run_performs}
 use Rattle.dask_top.proofs.command.perform.Goals as goal
 
 pub returns-in-Ok : goal.returns-in-Ok

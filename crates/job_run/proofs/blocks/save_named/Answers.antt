@@ -7,7 +7,7 @@ use Rattle.saved_files.specs.Saving.{Saving}
 use Rattle.job_run.specs.Evaluating.{SavedBelow}
 use Rattle.job_run.specs.Jobs.{plan_of}
 use Rattle.job_run.proofs.SavePlaces.{save-place, place-node, place-more, place-part}
-use Rattle.job_run.proofs.SavingSteps.{saved-skip, saved-write, failed-part}
+use Rattle.job_run.proofs.SavingSteps.{saved-skip, saved-write, failed-same, failed-part}
 use Rattle.job_run.proofs.blocks.save_named.Goals as goal
 use Rattle.job_run.proofs.blocks.save_named.Goals.{then-number-node+in_ok-save_at, else-number-node}
 
@@ -29,6 +29,14 @@ save_at-requires-clause-shape g c κs within =
     let at = save-place c.args.job.now c.deref-save-items.result.now c.args.layouts.now c.loop-place.place c.args.node c.save-item.result c.index-layouts-place.result c.requires.runs c.nodes-nodes.ensures.sound c.requires.layouts c.deref-save-items.ensures.value
     c.loop-place-test.true c.save-item.is (sym c.number.ensures ∙ c.if-number-node.true) c.index-layouts-place.is in
     c.requires.shape ∙ ap (λ l. (region l c.args.number).lengths) (sym at.layout_is)
+
+pub returns-in_err-save_at-clause-same : goal.returns-in_err-save_at-clause-same
+returns-in_err-save_at-clause-same g c =
+    let p = plan_of c.args.job.now in
+    let at = save-place c.args.job.now c.deref-save-items.result.now c.args.layouts.now c.loop-place.place c.args.node c.save-item.result c.index-layouts-place.result c.requires.runs c.nodes-nodes.ensures.sound c.requires.layouts c.deref-save-items.ensures.value
+    c.loop-place-test.true c.save-item.is (sym c.number.ensures ∙ c.if-number-node.true) c.index-layouts-place.is in
+    failed-same p (c.args.node, c.args.number) c.args.block.now c.loop-place.place c.args.files.now c.loop-place.files c.save_at.new.files c.loop-place.invariant c.save_at.ensures.changes
+    (place-part p c.loop-place.place c.args.node c.args.number c.index-layouts-place.result c.args.block.now c.loop-place.files c.save_at.new.files at c.in_err-save_at.ensures.part)
 
 pub returns-in_err-save_at-clause-part : goal.returns-in_err-save_at-clause-part
 returns-in_err-save_at-clause-part g c =

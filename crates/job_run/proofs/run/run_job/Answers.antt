@@ -1,9 +1,7 @@
-use Rattle.std.proofs.Common.{◌∙◌, ap, sym, subst, arith}
-use Rattle.block_lowering.specs.Jobs.{TellsFeed}
+use Rattle.std.proofs.Common.{arith}
 use Rattle.job_run.specs.Jobs.{plan_of}
-use Rattle.job_run.specs.Told.{named_told}
-use Rattle.job_run.proofs.Naming.{OpenInputs, fits_told, on_named}
-use Rattle.job_run.proofs.Running.{AreNamed, HaveAccepted, done_runs, lowering_runs, memory_runs, print_fault_runs, reading_runs, stopped_runs}
+use Rattle.job_run.proofs.Naming.{fits_told}
+use Rattle.job_run.proofs.Running.{HaveAccepted, done_runs, lowering_runs, memory_runs, print_fault_runs, reading_runs, stopped_runs}
 use Rattle.job_run.proofs.run.run_job.Goals as goal
 
 pub returns-in-Err : goal.returns-in-Err
@@ -19,7 +17,6 @@ returns-in-Err-open_inputs g c =
 
 pub evaluate-requires-clause-fits : goal.evaluate-requires-clause-fits
 evaluate-requires-clause-fits g c κs within =
-    let p = plan_of c.args.job.now in
     let i = c.in-Ok-open_inputs.inputs in
     let e = c.in-Ok-open_inputs.ensures in
     fits_told _ (g.S.In.Store.files i.store) i.heads.items e.heads (omega (arith, e.count, e.shows.places, c.requires.inputs))
@@ -34,11 +31,16 @@ returns-in_default-evaluate g c =
     let e = c.in-Ok-open_inputs.ensures in
     let files = g.S.In.Store.files i.store in
     let heads = i.heads.items in
-    let told : Type 0 = TellsFeed heads files in
-    let a : HaveAccepted p old mid = record { small = c.in-Ok.ensures.made.small; fit = e.fit; opens = e.opens; opened = e.opened; only = e.only; later = e.later } in
-    let o : OpenInputs p old.files mid.files files heads = record { shows = e.shows; declared = c.requires.inputs; heads_are = e.heads; count = e.count } in
-    let are : AreNamed p old.files (named_told files heads) told = λ P holds. on_named p old.files mid.files files heads P o holds in
-    stopped_runs p old mid new (named_told files heads) told c.evaluate.result a are c.evaluate.ensures c.in_default-evaluate.not-Done
+    let a : HaveAccepted p old mid files heads = record {
+      small = c.in-Ok.ensures.made.small;
+      fit = e.fit;
+      inputs = record { shows = e.shows; declared = c.requires.inputs; heads_are = e.heads; count = e.count };
+      opens = e.opens;
+      opened = e.opened;
+      only = e.only;
+      later = e.later;
+    } in
+    stopped_runs p old mid new files heads c.evaluate.result a c.evaluate.ensures c.in_default-evaluate.not-Done
 
 pub returns-in-Ok-print_full : goal.returns-in-Ok-print_full
 returns-in-Ok-print_full g c =
@@ -51,11 +53,16 @@ returns-in-Ok-print_full g c =
     let e = c.in-Ok-open_inputs.ensures in
     let files = g.S.In.Store.files i.store in
     let heads = i.heads.items in
-    let told : Type 0 = TellsFeed heads files in
-    let a : HaveAccepted p old mid = record { small = c.in-Ok.ensures.made.small; fit = e.fit; opens = e.opens; opened = e.opened; only = e.only; later = e.later } in
-    let o : OpenInputs p old.files mid.files files heads = record { shows = e.shows; declared = c.requires.inputs; heads_are = e.heads; count = e.count } in
-    let are : AreNamed p old.files (named_told files heads) told = λ P holds. on_named p old.files mid.files files heads P o holds in
-    done_runs p old mid saved new (named_told files heads) told a are c.in-Done.ensures c.print_full.ensures.only (rw (c.as_bytes.ensures.value, c.in-Ok-lines.ensures) at c.in-Ok-print_full.ensures.printed)
+    let a : HaveAccepted p old mid files heads = record {
+      small = c.in-Ok.ensures.made.small;
+      fit = e.fit;
+      inputs = record { shows = e.shows; declared = c.requires.inputs; heads_are = e.heads; count = e.count };
+      opens = e.opens;
+      opened = e.opened;
+      only = e.only;
+      later = e.later;
+    } in
+    done_runs p old mid saved new files heads a c.in-Done.ensures c.print_full.ensures.only (rw (c.as_bytes.ensures.value, c.in-Ok-lines.ensures) at c.in-Ok-print_full.ensures.printed)
 
 pub returns : goal.returns
 returns g c =
@@ -68,8 +75,13 @@ returns g c =
     let e = c.in-Ok-open_inputs.ensures in
     let files = g.S.In.Store.files i.store in
     let heads = i.heads.items in
-    let told : Type 0 = TellsFeed heads files in
-    let a : HaveAccepted p old mid = record { small = c.in-Ok.ensures.made.small; fit = e.fit; opens = e.opens; opened = e.opened; only = e.only; later = e.later } in
-    let o : OpenInputs p old.files mid.files files heads = record { shows = e.shows; declared = c.requires.inputs; heads_are = e.heads; count = e.count } in
-    let are : AreNamed p old.files (named_told files heads) told = λ P holds. on_named p old.files mid.files files heads P o holds in
-    print_fault_runs p old mid saved new (named_told files heads) told a are c.in-Done.ensures c.print_full.ensures.only (rw (c.as_bytes.ensures.value, c.in-Ok-lines.ensures) at c.in-Err-print_full.ensures.part) c.in-Err-print_full.ensures.cause.failed
+    let a : HaveAccepted p old mid files heads = record {
+      small = c.in-Ok.ensures.made.small;
+      fit = e.fit;
+      inputs = record { shows = e.shows; declared = c.requires.inputs; heads_are = e.heads; count = e.count };
+      opens = e.opens;
+      opened = e.opened;
+      only = e.only;
+      later = e.later;
+    } in
+    print_fault_runs p old mid saved new files heads a c.in-Done.ensures c.print_full.ensures.only (rw (c.as_bytes.ensures.value, c.in-Ok-lines.ensures) at c.in-Err-print_full.ensures.part) c.in-Err-print_full.ensures.cause.failed

@@ -1,0 +1,91 @@
+#!/usr/bin/env python3
+"""Times `./dask run` against NumPy on large jobs: processor time and peak memory of whole processes, the least of three runs.
+
+    /usr/bin/python3 bench/jobs.py [NAME ..]
+
+Run it with a Python that has NumPy, on a quiet machine with some 12 GiB of disk and 8 GiB of memory free. Each job's data is
+made in a temporary folder, which goes at the end. NumPy loads the file, evaluates the expression and saves the result, in a
+process of its own; the two results are compared byte for byte.
+"""
+import os
+import subprocess
+import sys
+import tempfile
+
+TOP = os.path.dirname(os.path.dirname(os.path.abspath(__file__)))
+
+# name: the shape of the input, its chunks, the expression of the job, that of NumPy
+JOBS = {
+    'chain 1 GiB': ((16384, 8192), '(512, 2048)', '(a * 3 + 7) * (a - 5) - 11', '(a * 3 + 7) * (a - 5) - 11'),
+    'column sum 1 GiB': ((131072, 1024), '(1024, 1024)', 'sum(a, axis=(0))', 'a.sum(axis=0)'),
+    'column sum 4 GiB': ((524288, 1024), '(1024, 1024)', 'sum(a, axis=(0))', None),
+    'a + a.T 512 MiB': ((8192, 8192), '(1024, 1024)', 'a + a.T', 'a + a.T'),
+    'anomaly 1 GiB': ((1024, 131072), '(1024, 1024)', 'a - sum(a, axis=(0)) // 1024', 'a - a.sum(axis=0) // 1024'),
+    'product 1024': ((1024, 1024), '(1024, 1024)', 'tensordot(a, a, (1), (0))', 'a @ a'),
+    'rechunk 512 MiB': ((8192, 8192), '(8192, 128)', 'rechunk(a, (128, 8192))', 'a'),
+}
+
+NUMPY = '''
+import sys, numpy as np
+a = np.load(sys.argv[1])
+np.save(sys.argv[2], np.ascontiguousarray({}))
+'''
+
+MAKE = '''
+import sys, numpy as np
+shape = tuple(map(int, sys.argv[2].split(',')))
+out = np.lib.format.open_memmap(sys.argv[1], 'w+', np.int64, shape)
+rows = max(1, (1 << 22) // shape[1])
+for at in range(0, shape[0], rows):
+    part = np.arange(at * shape[1], min(at + rows, shape[0]) * shape[1], dtype=np.int64) * 2654435761 % 1000003
+    out[at:at + rows] = part.reshape(-1, shape[1])
+'''
+
+
+def measured(words, folder):
+    """Processor seconds and peak MiB of a process."""
+    child = subprocess.Popen(words, cwd=folder, stdout=subprocess.DEVNULL)
+    _, status, used = os.wait4(child.pid, 0)
+    if status:
+        sys.exit(f'{words[0]} ended with {status}')
+    return used.ru_utime + used.ru_stime, used.ru_maxrss / 1024
+
+
+def least(words, folder, times=3):
+    runs = [measured(words, folder) for _ in range(times)]
+    return min(run[0] for run in runs), max(run[1] for run in runs)
+
+
+def same(one, other):
+    with open(one, 'rb') as a, open(other, 'rb') as b:
+        while True:
+            x, y = a.read(1 << 24), b.read(1 << 24)
+            if x != y:
+                return False
+            if not x:
+                return True
+
+
+def time_job(name, folder):
+    shape, chunks, expression, numpy = JOBS[name]
+    subprocess.run([sys.executable, '-c', MAKE, 'a.npy', ','.join(map(str, shape))], cwd=folder, check=True)
+    with open(os.path.join(folder, 'job.txt'), 'w', encoding='ascii') as job:
+        job.write(f'input a "a.npy" shape {shape} chunks {chunks}\nlet b = {expression}\nsave b "o.npy"\n')
+    ours, peak = least([os.path.join(TOP, 'dask'), 'run', 'job.txt'], folder)
+    if numpy is None:
+        print(f'{name}: {ours:.2f} s, {peak:.0f} MiB')
+        return
+    theirs, other = least([sys.executable, '-c', NUMPY.format(numpy), 'a.npy', 'n.npy'], folder)
+    right = same(os.path.join(folder, 'o.npy'), os.path.join(folder, 'n.npy'))
+    print(f'{name}: {ours:.2f} s, {peak:.0f} MiB; NumPy {theirs:.2f} s, {other:.0f} MiB; ratio {ours / theirs:.2f}; '
+          + ('the same bytes' if right else 'OTHER BYTES'))
+
+
+def main():
+    for name in sys.argv[1:] or JOBS:
+        with tempfile.TemporaryDirectory(dir=os.environ.get('TMPDIR', '/tmp')) as folder:
+            time_job(name, folder)
+
+
+if __name__ == '__main__':
+    main()

@@ -1,4 +1,0 @@
-mod Chunking
-mod Elementwise
-mod Graphs
-mod Values

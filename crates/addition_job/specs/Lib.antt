@@ -1,4 +1,0 @@
-pub mod Addition
-pub mod Chunks
-pub mod Stored
-pub mod Whole
