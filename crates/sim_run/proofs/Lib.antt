@@ -7,4 +7,5 @@ pub mod Reached
 pub mod Saves
 pub mod Simulating
 pub mod Stops
+pub mod Given
 pub mod Wanted
