@@ -27,7 +27,7 @@ use Rattle.job_run.proofs.SavedArrays.{array-saved}
 -- ## Files and arrays
 
 -- the file of each save is that of its array
-file_saved : (p : Plan) (named : Named) (k : ℕ) → k < length p.saves → bytes_of (array_at p named k) ≡ name_at (files_of p named) k
+pub file_saved : (p : Plan) (named : Named) (k : ℕ) → k < length p.saves → bytes_of (array_at p named k) ≡ name_at (files_of p named) k
 file_saved p named k h =
     let s : Saved = record { node = 0; file = [] } in
     ap bytes_of (array-saved p named k h)

@@ -1,17 +1,15 @@
 -- What the client of a simulated plan got: the blocks of its saves, and with them a value of each key.
-use Rattle.std.proofs.Common.{◌≡◌, ℕ, ℤ, ◌<◌, Bool, true, List, [], length, map, get_or, refl, ap, sym, ◌∙◌, subst, arith, Option, Some, None}
-use Rattle.std.specs.Prelude.{All, IsSome}
-use Rattle.std.proofs.lemmas.List.{get_or-map, length-map}
+use Rattle.std.proofs.Common.{◌≡◌, ℕ, ℤ, ◌<◌, Bool, true, List, [], length, map, get_or, refl, ap, sym, ◌∙◌, subst, arith, Option, Some, None, inl, inr}
+use Rattle.std.specs.Prelude.{IsSome}
+use Rattle.std.proofs.lemmas.Bool.{cases_lt}
+use Rattle.std.proofs.lemmas.List.{get_or-map, get_or_past, length-map}
 use Rattle.nd_shape.specs.Block.{Array}
 use Rattle.saved_files.specs.Filling.{HoldsBox}
 use Rattle.array_expr.specs.Node.{IsExpression, shape_at}
 use Rattle.chunk_layout.specs.Layouts.{blocks, lengths, region}
 use Rattle.block_kernels.specs.Kernels.{result_shape}
 use Rattle.cluster_msgs.specs.Shape.{Shape, deps_of}
-use Rattle.cluster_msgs.specs.Values.{faulty}
 use Rattle.cluster_rules.specs.Derived.{is_in}
-use Rattle.cluster_rules.specs.Sched.{Setting}
-use Rattle.cluster_laws.specs.Blocks.{setting_of}
 use Rattle.cluster_world.specs.declared.state.State.{State}
 use Rattle.cluster_world.specs.Worlds.{IsMade, cluster, setting, world}
 use Rattle.cluster_sim.specs.Openings.{AreWanted}
@@ -26,29 +24,31 @@ use Rattle.lowering_laws.proofs.NamesLaw.{names-law}
 use Rattle.lowering_laws.proofs.Order.{lowering-order}
 use Rattle.lowering_laws.proofs.Runs.{order-law}
 use Rattle.job_run.specs.Evaluating.{HasLaws, HaveAll, HoldsNamed, array_at, node_at}
+use Rattle.job_run.specs.Lowering.{HasBlock}
 use Rattle.job_run.specs.Plan.{IsRunnable, Plan, Saved, nodes_saved}
 use Rattle.job_run.specs.Runs.{IsSmall}
 use Rattle.job_run.specs.Values.{IsFaulty, MeetsNone, Named, tasks_of}
-use Rattle.job_run.proofs.KeyValues.{holds-named, lacks-none}
+use Rattle.job_run.proofs.KeyValues.{has-block, holds-named, lacks-none}
+use Rattle.job_run.proofs.Laws.{saves-there}
 use Rattle.job_run.proofs.SavedArrays.{saved-is}
-use Rattle.job_run.proofs.SavesList.{nodes_there}
-use Rattle.sim_words.specs.declared.sim.SimWords.{SimWords}
 use Rattle.sim_run.specs.Filling.{AreBlocksOf, HasBlocks, keys_at, layout_at}
 use Rattle.sim_run.specs.Jobs.{wanted_of}
 use Rattle.sim_run.specs.Saving.{HasSaves, IsGot}
 use Rattle.sim_run.specs.Serving.{IsBlockAt}
-use Rattle.sim_run.proofs.Simulating.{HasRun, got_value, have_values}
+use Rattle.sim_run.proofs.Simulating.{HasRun, got_value, have_values, values_in}
 use Rattle.sim_run.proofs.Wanted.{are-wanted, in-flat, needed-small, small-keys}
-
--- the saved nodes are there
-pub saves-there : (p : Plan) → IsRunnable p → All (λ n. n < length p.nodes) (nodes_saved p)
-saves-there p runs = nodes_there p.saves (length p.nodes) (nodes_saved p) refl runs.saves
 
 count-saves : (p : Plan) → length (nodes_saved p) ≡ length p.saves
 count-saves p = length-map p.saves (λ (s : Saved). s.node)
 
-pub wanted-there : (p : Plan) → IsRunnable p → IsExpression p.nodes → AreWanted (length (shape_of (tasks_of p)).deps) (wanted_of p)
+wanted-there : (p : Plan) → IsRunnable p → IsExpression p.nodes → AreWanted (length (shape_of (tasks_of p)).deps) (wanted_of p)
 wanted-there p runs ex = are-wanted p.nodes (nodes_saved p) ex (saves-there p runs) (omega (arith, runs.some, count-saves p))
+
+pub wanted-for : (p : Plan) (graph : Shape) (wanted : List ℕ) → IsRunnable p → IsExpression p.nodes → graph ≡ shape_of (tasks_of p) → wanted ≡ wanted_of p → AreWanted (length graph.deps) wanted
+wanted-for p graph wanted runs ex same keys =
+    let K : List ℕ → Type 0 = λ ks. AreWanted (length graph.deps) ks in
+    let G : Shape → Type 0 = λ g. AreWanted (length g.deps) (wanted_of p) in
+    subst K (sym keys) (subst G (sym same) (wanted-there p runs ex))
 
 -- ## The saves
 
@@ -83,23 +83,19 @@ has-saves p saved layouts has dims runs ex keys layouts_are all shaped =
 -- ## Values
 
 -- the world that a simulation of a plan's graph left
-pub has-run : {J F : Type 0} (p : Plan) (s : SimWords) (named : Named) (op : J → ℕ → List Array → Option Array) (old new : State J Array F) (wanted : List ℕ) → IsRunnable p → IsExpression p.nodes → IsSmall p →
-    setting old ≡ setting_of (shape_of (tasks_of p)) 1 s.settings.saturation → op old.job ≡ operation named (tasks_of p) → new.job ≡ old.job → setting new ≡ setting old → wanted ≡ wanted_of p → IsMade op new → HasAll (world new) wanted →
-    HasRun named p.nodes (nodes_saved p) op new
-has-run p s named op old new wanted runs ex small opened ops job kept same made all =
+pub has-run : {J F : Type 0} {op : J → ℕ → List Array → Option Array} (p : Plan) (named : Named) (s : State J Array F) (wanted : List ℕ) → IsMade op s → op s.job ≡ operation named (tasks_of p) → (setting s).shape ≡ shape_of (tasks_of p) → IsRunnable p →
+    IsExpression p.nodes → IsSmall p → wanted ≡ wanted_of p → HasAll (world s) wanted → HasRun named p.nodes (nodes_saved p) s
+has-run p named s wanted made ops graph runs ex small same all =
     let inside = saves-there p runs in
-    let A : List ℕ → Type 0 = λ ks. HasAll (world new) ks in
+    let A : List ℕ → Type 0 = λ ks. HasAll (world s) ks in
     record {
-      made = made;
-      ops = ap op job ∙ ops;
-      graph = ap (λ (x : Setting). x.shape) (kept ∙ opened);
-      sound = limits-law p.nodes (nodes_saved p) ex inside (order-law p.nodes (nodes_saved p) ex inside) small;
+      values = values_in s (shape_of (tasks_of p)) (operation named (tasks_of p)) made graph ops (limits-law p.nodes (nodes_saved p) ex inside (order-law p.nodes (nodes_saved p) ex inside) small);
       all = subst A same all;
     }
 
-module _ {J F : Type 0} (p : Plan) (named : Named) (op : J → ℕ → List Array → Option Array) (s : State J Array F) (runs : IsRunnable p) (laws : HasLaws p named) (r : HasRun named p.nodes (nodes_saved p) op s) where
+module _ {J F : Type 0} (p : Plan) (named : Named) (s : State J Array F) (runs : IsRunnable p) (laws : HasLaws p named) (r : HasRun named p.nodes (nodes_saved p) s) where
   have_all : HaveAll p named (length (tasks_of p))
-  have_all = have_values named p.nodes (nodes_saved p) op s r laws.expression (saves-there p runs)
+  have_all = have_values named p.nodes (nodes_saved p) s r laws.expression (saves-there p runs)
 
   pub meets-none : MeetsNone p named
   meets-none key fault = lacks-none p named (length (tasks_of p)) key laws have_all fault.needed.within fault
@@ -112,7 +108,7 @@ module _ {J F : Type 0} (p : Plan) (named : Named) (op : J → ℕ → List Arra
       let key = saved_key p.nodes (nodes_saved p) k c in
       let within : key < length (tasks_of p) = laws.order.saved k c l there in
       let holds : HoldsNamed p named (Some (node_at p k, c)) b =
-      holds-named p named key (Some (node_at p k, c)) b laws within (λ j a. have_all j (omega (arith, a, within))) (got_value named p.nodes (nodes_saved p) op s r key b e) (laws.names.saved k c l there) in
+      holds-named p named key (Some (node_at p k, c)) b laws within (λ j a. have_all j (omega (arith, a, within))) (got_value named p.nodes (nodes_saved p) s r key b e) (laws.names.saved k c l there) in
       holds k lt refl
 
   -- what it got of a save are the blocks of its array
@@ -132,6 +128,15 @@ module _ {J F : Type 0} (p : Plan) (named : Named) (op : J → ℕ → List Arra
       record { lengths_are = of_lengths; blocks_are = subst L (layout-is p layouts k layouts_are lt) (subst K (sym keys) here) }
 
 -- ## A zero divisor
+
+-- a name that is found at a key is a block's
+pub name-has : (p : Plan) (named : Named) (key : ℕ) (names : List (Option (ℕ × ℕ))) (name : Option (ℕ × ℕ)) → HasLaws p named → names ≡ (lowered p.nodes (nodes_saved p)).names → name ≡ get_or names key None → HasBlock p.nodes name
+name-has p named key names name laws all is =
+    let at : name_of p.nodes (nodes_saved p) key ≡ name = sym (is ∙ ap (λ (ns : List (Option (ℕ × ℕ))). get_or ns key None) all) in
+    elim (cases_lt key (length (tasks_of p))) [
+      | inl lt ↦ has-block p named key name laws lt at
+      | inr ge ↦ subst (HasBlock p.nodes) (sym (get_or_past (lowered p.nodes (nodes_saved p)).names key None (omega (arith, ge, laws.names.number))) ∙ at) tt
+    ]
 
 abbrev DividesAt : Plan → Named → Option (ℕ × ℕ) → Type 0
 DividesAt p named None = ⊥

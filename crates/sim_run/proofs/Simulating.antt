@@ -55,46 +55,37 @@ setting_is {J} {B} {F} s set op e = sym (setting-world s) ∙ ap (λ (c : Cluste
 pub opens : {J B F : Type 0} (op : J → ℕ → List B → Option B) (s : State J B F) (set : Setting) → setting s ≡ set → 1 ≤ set.clients → IsReady s → IsMadeBy op [] s → IsOpening op s
 opens op s set e clients ready none = record { going = ready.going; made = none; client = omega (arith, clients, ap (λ (x : Setting). x.clients) e) }
 
--- the job that it runs
-pub runs_are : {J B F : Type 0} (op : J → ℕ → List B → Option B) (s : State J B F) (set : Setting) (f : ℕ → List B → Option B) → setting s ≡ set → op s.job ≡ f → runs_of op s ≡ job_of set f
-runs_are op s set f e same = ap (λ x. job_of x (op s.job)) e ∙ ap (job_of set) same
-
 -- ## What the client got
 
--- a world that legal events made of a graph, whose client has got the keys of all saved blocks
-pub record HasRun {J F : Type 0} (named : ℕ → List ℕ → ℤ) (nodes : List Node) (saves : List ℕ) (op : J → ℕ → List Array → Option Array) (s : State J Array F) : Type 0 where
-  pub made : IsMade op s
-  pub ops : op s.job ≡ operation named (lowered nodes saves).tasks
-  pub graph : (setting s).shape ≡ shape_of (lowered nodes saves).tasks
-  pub sound : IsShape (shape_of (lowered nodes saves).tasks)
-  pub all : HasAll (world s) (flat (lowered nodes saves).saved)
+-- in a world that legal events made of a graph each block is the value of its key
+pub values_in : {J F : Type 0} {op : J → ℕ → List Array → Option Array} (s : State J Array F) (graph : Shape) (f : ℕ → List Array → Option Array) → IsMade op s → (setting s).shape ≡ graph → op s.job ≡ f → IsShape graph →
+    AreValues (deps_of graph) (val (deps_of graph) f) (cluster s)
+values_in {op = op} s graph f r same ops low =
+    let here : Cluster Array → Type 0 = λ c. AreValues (deps_of (setting s).shape) (val (deps_of (setting s).shape) (op s.job)) c in
+    let G : Shape → Type 0 = λ g. AreValues (deps_of g) (val (deps_of g) (op s.job)) (cluster s) in
+    let O : (ℕ → List Array → Option Array) → Type 0 = λ o. AreValues (deps_of graph) (val (deps_of graph) o) (cluster s) in
+    subst O ops (subst G same (subst here r.made.blocks (values_of (setting s) (op s.job) (subst IsShape (sym same) low) r.events r.made.run.legal)))
 
-values_in : {J F : Type 0} (op : J → ℕ → List Array → Option Array) (s : State J Array F) → IsShape (setting s).shape → IsMade op s → AreValues (deps_of (setting s).shape) (val (deps_of (setting s).shape) (op s.job)) (cluster s)
-values_in op s low r =
-    let P : Cluster Array → Type 0 = λ c. AreValues (deps_of (setting s).shape) (val (deps_of (setting s).shape) (op s.job)) c in
-    subst P r.made.blocks (values_of (setting s) (op s.job) low r.events r.made.run.legal)
+-- a world in which each block is its key's value, and whose client has got the keys of all saved blocks
+pub record HasRun {J F : Type 0} (named : ℕ → List ℕ → ℤ) (nodes : List Node) (saves : List ℕ) (s : State J Array F) : Type 0 where
+  pub values : AreValues (deps_of (shape_of (lowered nodes saves).tasks)) (value named (lowered nodes saves).tasks) (cluster s)
+  pub all : HasAll (world s) (flat (lowered nodes saves).saved)
 
 there : {A : Type 0} (block value : Option A) → is_some block ≡ true → ((b : A) → block ≡ Some b → value ≡ Some b) → IsSome value
 there None value some right = absurd (false≢true some)
 there (Some b) value some right = subst IsSome (sym (right b refl)) refl
 
-module _ {J F : Type 0} (named : ℕ → List ℕ → ℤ) (nodes : List Node) (saves : List ℕ) (op : J → ℕ → List Array → Option Array) (s : State J Array F) (r : HasRun named nodes saves op s) where
-  values_there : AreValues (deps_of (shape_of (lowered nodes saves).tasks)) (value named (lowered nodes saves).tasks) (cluster s)
-  values_there =
-      let G : Shape → Type 0 = λ g. AreValues (deps_of g) (val (deps_of g) (op s.job)) (cluster s) in
-      let O : (ℕ → List Array → Option Array) → Type 0 = λ f. AreValues (deps_of (shape_of (lowered nodes saves).tasks)) (val (deps_of (shape_of (lowered nodes saves).tasks)) f) (cluster s) in
-      subst O r.ops (subst G r.graph (values_in op s (subst IsShape (sym r.graph) r.sound) r.made))
-
+module _ {J F : Type 0} (named : ℕ → List ℕ → ℤ) (nodes : List Node) (saves : List ℕ) (s : State J Array F) (r : HasRun named nodes saves s) where
   -- each block that it got is the value of its key
   pub got_value : (k : ℕ) (b : Array) → (cluster s).blocks.got 1 k ≡ Some b → value named (lowered nodes saves).tasks k ≡ Some b
-  got_value k b e = (values_there.got 1 k).right b e
+  got_value k b e = (r.values.got 1 k).right b e
 
   saved_value : IsExpression nodes → All (λ n. n < length nodes) saves → (j c : ℕ) → j < length saves → c < blocks (source_at (lowering nodes).sources (get_or saves j 0)).layout → IsSome (value named (lowered nodes saves).tasks (saved_key nodes saves j c))
   saved_value ex inside j c lj lc =
       let names : LawOfNames nodes saves = names-law nodes saves ex inside in
       let key = saved_key nodes saves j c in
       let wanted = in-flat (lowered nodes saves).saved j c (omega (arith, lj, names.saves_are)) (omega (arith, lc, names.blocks_are j lj)) in
-      let place = values_there.got 1 key in
+      let place = r.values.got 1 key in
       there ((cluster s).blocks.got 1 key) (value named (lowered nodes saves).tasks key) (place.present (r.all key wanted)) place.right
 
   -- so each key has a value

@@ -1,34 +1,44 @@
 -- How a simulation over open inputs ends, and what it leaves.
-use Rattle.std.proofs.Common.{◌≡◌, ℕ, ◌+◌, ◌≤◌, List, length, refl, ap, sym, ◌∙◌, subst, inl, arith, Option, Some, None, Result, Ok, Err}
-use Rattle.std.specs.Prelude.{IfErr, IsErrAnd, IsTrue}
-use Rattle.io_edge.specs.Cause.{Rose, TakesFaults}
-use Rattle.io_edge.specs.View.{Files, OnlyReads, OnlyWrites, View, times}
-use Rattle.cluster_msgs.specs.Shape.{deps_of}
-use Rattle.cluster_msgs.specs.Jobs.{Rose as FeedRose}
+use Rattle.std.proofs.Common.{◌≡◌, ℕ, ◌+◌, ◌<◌, ◌≤◌, List, length, map, refl, ap, sym, ◌∙◌, subst, inl, arith, Option, Some, None, Result, Err}
+use Rattle.std.proofs.lemmas.List.{length-map}
+use Rattle.io_edge.specs.Cause.{Rose}
+use Rattle.io_edge.specs.View.{Files, raised_by}
+use Rattle.nd_shape.specs.Block.{Array}
+use Rattle.cluster_msgs.specs.Shape.{Shape, deps_of}
+use Rattle.cluster_msgs.specs.Values.{val}
 use Rattle.cluster_msgs.specs.declared.events.Report.{Report}
 use Rattle.cluster_rules.specs.Draw.{OutOfTurns, Served}
 use Rattle.cluster_rules.specs.Runs.{event_limit}
+use Rattle.cluster_rules.specs.Sched.{Setting}
 use Rattle.cluster_rules.specs.World.{Job, World}
+use Rattle.cluster_laws.specs.Blocks.{job_of, setting_of}
+use Rattle.cluster_world.specs.declared.state.State.{State}
+use Rattle.cluster_world.specs.Worlds.{cluster, world}
 use Rattle.cluster_sim.specs.Acts.{CountsSim}
 use Rattle.cluster_sim.specs.Drawn.{word_of}
-use Rattle.cluster_sim.specs.Simulations.{IsExhausted, IsNeededFault, IsReported, IsUnfinished}
+use Rattle.cluster_sim.specs.Simulations.{IfBlamed, IsExhausted, IsNeededFault, IsReported, IsUnfinished}
 use Rattle.cluster_sim.specs.declared.act.SimError.{SimError}
 use Rattle.cluster_sim.specs.declared.act.SimError.TheVariants as sim
-use Rattle.task_graph.specs.Graphs.{shape_of, value}
+use Rattle.task_graph.specs.Graphs.{operation, shape_of, value}
+use Rattle.lowering_laws.specs.Lowered.{lowered}
+use Rattle.lowering_laws.specs.Named.{layout_of}
+use Rattle.saved_files.specs.Saving.{IsLeft}
 use Rattle.job_run.specs.declared.ends.Ended.{Ended}
 use Rattle.job_run.specs.declared.ends.Ended.TheVariants.{Done, Limit, File, Zero, ReadFault, WriteFault, OutOfMemory}
-use Rattle.job_run.specs.Evaluating.{HasLaws}
-use Rattle.job_run.specs.Part.{AreLeft, AreWhole, IsNoneOf, RaisedAtMost}
-use Rattle.job_run.specs.Plan.{IsRunnable, Plan, names_saved}
+use Rattle.job_run.specs.Evaluating.{HasLaws, array_at}
+use Rattle.job_run.specs.Part.{AreLeft}
+use Rattle.job_run.specs.Plan.{IsRunnable, Plan, Saved, name_at, names_saved, nodes_saved}
 use Rattle.job_run.specs.Values.{MeetsNone, Named, files_of, tasks_of}
+use Rattle.job_run.proofs.Evaluated.{file_saved}
 use Rattle.sim_words.specs.declared.sim.SimWords.{SimWords}
 use Rattle.sim_run.specs.declared.ends.SimEnded.{SimEnded}
-use Rattle.sim_run.specs.declared.ends.SimEnded.TheVariants.{Events, Turns, Ran}
 use Rattle.sim_run.specs.Jobs.{wanted_of}
-use Rattle.sim_run.specs.Serving.{EndsAtKey, RanStops, SavesFiles, ServesAll, ServesFiles, ServesPart, Stops, ended_of, job_named}
+use Rattle.sim_run.specs.Saving.{SavesLeft, SavesWhole}
+use Rattle.sim_run.specs.Serving.{EndsAtKey, GotAll, RanStops, ServesAll, ServesPart, Stops, ended_of, job_named}
 use Rattle.sim_run.specs.Simulated.{IsServed, sim_plan}
-use Rattle.sim_run.proofs.Got.{is-faulty}
+use Rattle.sim_run.proofs.Got.{is-faulty, is-got, meets-none}
 use Rattle.sim_run.proofs.Manned.{manned_at_end}
+use Rattle.sim_run.proofs.Simulating.{HasRun}
 
 -- ## Why a simulation gave no result
 
@@ -62,28 +72,68 @@ zero-stops p s named told reads writes key OutOfMemory runs laws at blamed = tt
 
 -- ## What is left where nothing was saved
 
-pub raised-none : (names : List (List ℕ)) (counts : List ℕ → ℕ) → RaisedAtMost names counts counts
-raised-none names counts = record { grows = λ n. omega arith; at_most = λ n. omega arith }
-
-pub saves-nothing : (p : Plan) (v : View) → SavesFiles p v v
-saves-nothing p v = record {
-  others = λ n none. refl;
-  tells = refl;
-  opened = refl;
-  created = raised-none (names_saved p) v.files.created;
-  only = record { out = refl; err = refl; read_faults = refl; print_faults = refl; note_faults = refl };
-  write_later = omega arith;
-}
-
 pub part-bare : (p : Plan) (s : SimWords) (named : Named) (told reads writes : Type 0) (files : Files) (end : SimEnded) → Stops p s named told reads writes end → ServesPart p s named told reads writes files files end
 part-bare p s named told reads writes files end stops = record { cause = stops; left = λ t k lt. inl refl; bare = λ b. (refl, refl) }
 
 -- ## The client got all
 
-pub is-served : (p : Plan) (s : SimWords) (named : Named) (wanted : List ℕ) (job : Job) (w : World) (report : Report) (turns : ℕ) (blame : Option ℕ) → job ≡ job_named p s named → wanted ≡ wanted_of p → blame ≡ None →
-    IsReported job (word_of s.settings.number) (sim_plan s) wanted (Served turns blame) w report → IsServed (job_named p s named) (wanted_of p) s report turns
-is-served p s named wanted job w report turns blame same keys none reported =
-    let J : Job → Type 0 = λ j. IsReported j (word_of s.settings.number) (sim_plan s) wanted (Served turns blame) w report in
-    let Z : Option ℕ → Type 0 = λ z. IsReported (job_named p s named) (word_of s.settings.number) (sim_plan s) wanted (Served turns z) w report in
-    let K : List ℕ → Type 0 = λ ks. IsReported (job_named p s named) (word_of s.settings.number) (sim_plan s) ks (Served turns None) w report in
-    record { world = w; reported = subst K keys (subst Z none (subst J same reported)) }
+-- a fact of a job and what is wanted of it, where they are a plan's
+pub of-plan : (p : Plan) (s : SimWords) (named : Named) (job : Job) (wanted : List ℕ) (P : Job → List ℕ → Type 0) → job ≡ job_named p s named → wanted ≡ wanted_of p → P job wanted → P (job_named p s named) (wanted_of p)
+of-plan p s named job wanted P same keys h = let K : List ℕ → Type 0 = P (job_named p s named) in let J : Job → Type 0 = λ j. P j wanted in subst K keys (subst J same h)
+
+-- the key that the client's failure is blamed on
+pub blamed-at : (p : Plan) (named : Named) (graph : Shape) (op : ℕ → List Array → Option Array) (wanted : List ℕ) (blame : Option ℕ) (key : ℕ) → graph ≡ shape_of (tasks_of p) → op ≡ operation named (tasks_of p) → wanted ≡ wanted_of p → blame ≡ Some key →
+    IfBlamed (deps_of graph) (val (deps_of graph) op) wanted blame → IsNeededFault (deps_of (shape_of (tasks_of p))) (value named (tasks_of p)) (wanted_of p) key
+blamed-at p named graph op wanted blame key same ops keys is blamed =
+    let G : Shape → Type 0 = λ g. IfBlamed (deps_of g) (val (deps_of g) op) wanted blame in
+    let O : (ℕ → List Array → Option Array) → Type 0 = λ f. IfBlamed (deps_of (shape_of (tasks_of p))) (val (deps_of (shape_of (tasks_of p))) f) wanted blame in
+    let K : List ℕ → Type 0 = λ ks. IfBlamed (deps_of (shape_of (tasks_of p))) (value named (tasks_of p)) ks blame in
+    let Z : Option ℕ → Type 0 = λ z. IfBlamed (deps_of (shape_of (tasks_of p))) (value named (tasks_of p)) (wanted_of p) z in
+    subst Z is (subst K keys (subst O ops (subst G same blamed)))
+
+-- the job that is simulated is the plan's
+pub job-is : (p : Plan) (s : SimWords) (named : Named) (set : Setting) (op : ℕ → List Array → Option Array) → set ≡ setting_of (shape_of (tasks_of p)) 1 s.settings.saturation → op ≡ operation named (tasks_of p) → job_of set op ≡ job_named p s named
+job-is p s named set op opened ops = ap (λ x. job_of x op) opened ∙ ap (job_of (setting_of (shape_of (tasks_of p)) 1 s.settings.saturation)) ops
+
+-- a simulation of a plan's graph, whose client got all
+pub record HasServed {J F : Type 0} (p : Plan) (s : SimWords) (named : Named) (told : Type 0) (new : State J Array F) (blame : Option ℕ) (report : Report) (turns : ℕ) : Type 0 where
+  pub runs : IsRunnable p
+  pub laws : HasLaws p named
+  pub run : told → HasRun named p.nodes (nodes_saved p) new
+  pub none : blame ≡ None
+  pub reported : told → IsReported (job_named p s named) (word_of s.settings.number) (sim_plan s) (wanted_of p) (Served turns blame) (world new) report
+
+module _ {J F : Type 0} (p : Plan) (s : SimWords) (named : Named) (told : Type 0) (new : State J Array F) (blame : Option ℕ) (report : Report) (turns : ℕ) (r : HasServed p s named told new blame report turns) where
+  values : told → MeetsNone p named
+  values t = meets-none p named new r.runs r.laws (r.run t)
+
+  served : told → IsServed (job_named p s named) (wanted_of p) s report turns
+  served t =
+      let Z : Option ℕ → Type 0 = λ z. IsReported (job_named p s named) (word_of s.settings.number) (sim_plan s) (wanted_of p) (Served turns z) (world new) report in
+      record { world = world new; reported = subst Z r.none (r.reported t) }
+
+  pub got-all : GotAll p s named told
+  got-all = record { report = report; turns = turns; served = served; values = values }
+
+  module _ (saved : List (List ℕ)) (layouts : List (List (List ℕ))) (keys : saved ≡ (lowered p.nodes (nodes_saved p)).saved) (layouts_are : layouts ≡ map (layout_of p.nodes) (nodes_saved p)) (before after : Files)
+      (leaves : SavesLeft p saved layouts ((cluster new).blocks.got 1) before after) where
+    many : length (names_saved p) ≡ length p.saves
+    many = length-map p.saves (λ (x : Saved). x.file)
+
+    -- parts of the right files at least
+    pub left-right : told → AreLeft (names_saved p) (files_of p named) before after
+    left-right t k lt =
+        let l : k < length p.saves = omega (arith, lt, many) in
+        let L : List ℕ → Type 0 = λ bytes. IsLeft (name_at (names_saved p) k) bytes before after in
+        subst L (file_saved p named k l) (leaves k (array_at p named k) l (is-got p named new r.runs r.laws (r.run t) saved layouts keys layouts_are k l))
+
+    pub serves-all : SavesWhole p saved layouts ((cluster new).blocks.got 1) before after → after.created ≡ raised_by (names_saved p) before.created → ServesAll p s named told before after report turns
+    serves-all whole created = record {
+      served = served;
+      values = values;
+      whole = λ t tells k lt.
+          let l : k < length p.saves = omega (arith, lt, many) in
+          whole k (array_at p named k) l (is-got p named new r.runs r.laws (r.run t) saved layouts keys layouts_are k l) tells ∙ ap Some (file_saved p named k l);
+      left = left-right;
+      created = created;
+    }

@@ -126,6 +126,7 @@ fn simulate_world<S: Site, E: Elements + Send + Sync + Drop>(
         (Rose (S.In.count world.old.feed) (S.In.count world.new.feed)) (Rose (S.view site.old).write_faults (S.view site.new).write_faults)
         (S.view site.old).files (S.view site.new).files) }
 {
+    laws_hold(job);
     let SimWords { settings, script } = words;
     let plan = SimPlan {
         workers: settings.workers,
@@ -136,8 +137,9 @@ fn simulate_world<S: Site, E: Elements + Send + Sync + Drop>(
         Ok(end) => end,
         Err(error) => return Err(ended(error)),
     };
-    if let Some(key) = end.zero {
-        return Err(SimEnded::Ran(ended_at(alloc, job, wanted, key)));
+    match end.zero {
+        Some(key) => return Err(SimEnded::Ran(ended_at(alloc, job, wanted, key))),
+        None => {}
     }
     match save_all(alloc, site, job, world, wanted.saved.as_slice(), wanted.layouts.as_slice()) {
         Ok(()) => Ok(Served {
