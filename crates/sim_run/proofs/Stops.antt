@@ -56,8 +56,8 @@ stops-by p s named told reads writes w sim.Feed turns spent feed = feed refl
 stops-by p s named told reads writes w sim.Spent turns spent feed = λ t. spent refl t
 stops-by p s named told reads writes w sim.OutOfMemory turns spent feed = tt
 
-pub feed-rose : {A : Type 0} (error : SimError) (before now : ℕ) → CountsSim {A = A} (Err error) before now → error ≡ sim.Feed → Rose before now
-feed-rose {A} error before now counts is = let E : SimError → Type 0 = λ x. CountsSim {A = A} (Err x) before now in subst E is counts
+pub feed-rose : (A : Type 0) (error : SimError) (before now : ℕ) → CountsSim {A = A} (Err error) before now → error ≡ sim.Feed → Rose before now
+feed-rose A error before now counts is = let E : SimError → Type 0 = λ x. CountsSim {A = A} (Err x) before now in subst E is counts
 
 -- a zero divisor that the client was told of
 pub zero-stops : (p : Plan) (s : SimWords) (named : Named) (told reads writes : Type 0) (key : ℕ) (end : Ended) → IsRunnable p → HasLaws p named → EndsAtKey p key end → (told → IsNeededFault (deps_of (shape_of (tasks_of p))) (value named (tasks_of p)) (wanted_of p) key) →

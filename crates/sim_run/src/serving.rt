@@ -25,6 +25,7 @@ use cluster_sim::{SimError, SimPlan, simulate};
 use cluster_world::World;
 use io_edge::{OpenFault, Site};
 use job_run::{Ended, Halt, Inputs, Job, halt_at, laws_hold};
+use lowering_laws::laws::law_of_form;
 use nd_shape::Dims;
 use sim_words::SimWords;
 use std::alloc::{AllocError, Global};
@@ -179,6 +180,8 @@ pub fn serve<S: Site, E: Elements + Send + Sync + Drop>(
         (Rose (S.view site.old).read_faults (S.view site.new).read_faults) (Rose (S.view site.old).write_faults (S.view site.new).write_faults)
         (S.view site.old).files (S.view site.new).files) }
 {
+    laws_hold(job);
+    law_of_form();
     let Inputs { store, heads } = inputs;
     let Lowered {
         graph,

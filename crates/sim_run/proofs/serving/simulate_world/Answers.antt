@@ -28,6 +28,7 @@ use Rattle.sim_run.proofs.Got.{has-run, has-saves, wanted-for}
 use Rattle.sim_run.proofs.Stops.{HasServed, blamed-at, feed-rose, got-all, job-is, left-right, of-plan, part-bare, serves-all, stops-by, zero-stops}
 use Rattle.sim_run.proofs.serving.simulate_world.Given.{Over}
 use Rattle.sim_run.proofs.serving.simulate_world.Goals as goal
+use Rattle.sim_run.proofs.serving.simulate_world.Goals.{After-as_slice-2}
 
 pub simulate-requires-clause-wanted : goal.simulate-requires-clause-wanted
 simulate-requires-clause-wanted g c κs within =
@@ -54,7 +55,7 @@ returns-in-Err-clause-stopped g c =
     let stops : E (ended_of c.in-Err.error) = stops-by p s named told reads writes (world new) c.in-Err.error
     (λ e t. of-plan p s named job wanted (λ (j : Job) ks. IsExhausted j (word_of s.settings.number) (sim_plan s) ks (world new)) same c.requires.wanted.all_is (c.in-Err.ensures.turns (ap Err e) t))
     (λ e t. of-plan p s named job wanted (λ (j : Job) ks. IsUnfinished j (word_of s.settings.number) (sim_plan s) ks event_limit) same c.requires.wanted.all_is (c.in-Err.ensures.cut_off (ap Err e) t))
-    (λ e. feed-rose {A = SimEnd} c.in-Err.error (g.S.In.Store.count old.feed) (g.S.In.Store.count new.feed) c.in-Err.ensures.faults e) in
+    (λ e. feed-rose SimEnd c.in-Err.error (g.S.In.Store.count old.feed) (g.S.In.Store.count new.feed) c.in-Err.ensures.faults e) in
     part-bare p s named told reads writes files c.ended.result (subst E (sym c.ended.ensures) stops)
 
 pub returns-in-Some-clause-stopped : goal.returns-in-Some-clause-stopped
@@ -83,7 +84,7 @@ save_all-requires-clause-has g c κs within =
     (λ k e. c.in-Ok.ensures.all.0 c.in-None.is k (subst (λ ks. is_in k ks ≡ true) (sym c.requires.wanted.all_is) e)) (λ k. ap (λ (ts : List Task). result_shape (task_at ts k).spec) tasks)
 
 -- what the simulation came to, where the client got all
-served-at : (g : Over) (c : goal.In-None g) → HasServed (plan_of c.args.job.now) c.args.words g.E.Elements.named (TellsFeed c.args.world.now.job.job.heads (g.S.In.Store.files c.args.world.now.feed)) c.simulate.new.world c.in-Ok.end.zero c.in-Ok.end.report c.in-Ok.end.turns
+served-at : (g : Over) (c : After-as_slice-2 g) → HasServed (plan_of c.args.job.now) c.args.words g.E.Elements.named (TellsFeed c.args.world.now.job.job.heads (g.S.In.Store.files c.args.world.now.feed)) c.simulate.new.world c.in-Ok.end.zero c.in-Ok.end.report c.in-Ok.end.turns
 served-at g c =
     let p : Plan = plan_of c.args.job.now in
     let s = c.args.words in
@@ -105,10 +106,42 @@ served-at g c =
     }
 
 pub returns-in-Ok-save_all-clause-served : goal.returns-in-Ok-save_all-clause-served
-returns-in-Ok-save_all-clause-served g c = ?
+returns-in-Ok-save_all-clause-served g c =
+    let p : Plan = plan_of c.args.job.now in
+    let told : Type 0 = TellsFeed c.args.world.now.job.job.heads (g.S.In.Store.files c.args.world.now.feed) in
+    let before : Files = (g.S.Site.view c.args.site.now).files in
+    let after : Files = (g.S.Site.view c.save_all.new.site).files in
+    serves-all p c.args.words g.E.Elements.named told c.simulate.new.world c.in-Ok.end.zero c.in-Ok.end.report c.in-Ok.end.turns (served-at g (goal.at.returns-in-Ok-save_all-clause-served g c).After-as_slice-2)
+    c.as_slice.result.now c.as_slice-2.result.now (c.as_slice.ensures ∙ c.requires.wanted.saved_is) (c.as_slice-2.ensures ∙ c.requires.wanted.layouts_are) before after c.in-Ok-save_all.ensures.left c.in-Ok-save_all.ensures.whole c.in-Ok-save_all.ensures.created
 
 pub returns-in-Err-Failed-clause-stopped : goal.returns-in-Err-Failed-clause-stopped
-returns-in-Err-Failed-clause-stopped g c = ?
+returns-in-Err-Failed-clause-stopped g c =
+    let p : Plan = plan_of c.args.job.now in
+    let named : Named = g.E.Elements.named in
+    let told : Type 0 = TellsFeed c.args.world.now.job.job.heads (g.S.In.Store.files c.args.world.now.feed) in
+    let before : Files = (g.S.Site.view c.args.site.now).files in
+    let after : Files = (g.S.Site.view c.save_all.new.site).files in
+    let end = c.in-Ok.end in
+    let r = served-at g (goal.at.returns-in-Err-Failed-clause-stopped g c).After-as_slice-2 in
+    record {
+      cause = (got-all p c.args.words named told c.simulate.new.world end.zero end.report end.turns r, c.in-Err-Failed.ensures.failed (ap Err c.in-Err-Failed.field-0-is));
+      left = left-right p c.args.words named told c.simulate.new.world end.zero end.report end.turns r c.as_slice.result.now c.as_slice-2.result.now (c.as_slice.ensures ∙ c.requires.wanted.saved_is) (c.as_slice-2.ensures ∙ c.requires.wanted.layouts_are) before after
+          c.in-Err-Failed.ensures.left;
+      bare = λ b. absurd b;
+    }
 
 pub returns-clause-stopped : goal.returns-clause-stopped
-returns-clause-stopped g c = ?
+returns-clause-stopped g c =
+    let p : Plan = plan_of c.args.job.now in
+    let named : Named = g.E.Elements.named in
+    let told : Type 0 = TellsFeed c.args.world.now.job.job.heads (g.S.In.Store.files c.args.world.now.feed) in
+    let before : Files = (g.S.Site.view c.args.site.now).files in
+    let after : Files = (g.S.Site.view c.save_all.new.site).files in
+    let end = c.in-Ok.end in
+    let r = served-at g (goal.at.returns-clause-stopped g c).After-as_slice-2 in
+    record {
+      cause = tt;
+      left = left-right p c.args.words named told c.simulate.new.world end.zero end.report end.turns r c.as_slice.result.now c.as_slice-2.result.now (c.as_slice.ensures ∙ c.requires.wanted.saved_is) (c.as_slice-2.ensures ∙ c.requires.wanted.layouts_are) before after
+          c.in-Err-OutOfMemory.ensures.left;
+      bare = λ b. absurd b;
+    }
