@@ -133,16 +133,16 @@ pub record HaveAccepted (p : Plan) (old mid : View) (files : List Content) (head
   pub only : OnlyReads old mid
   pub later : old.read_faults ≤ mid.read_faults
 
-rose_before : (a b c : ℕ) → a ≤ b → Rose b c → Rose a c
+pub rose_before : (a b c : ℕ) → a ≤ b → Rose b c → Rose a c
 rose_before a b c h rose = omega (arith, h, rose)
 
-left_before : (names files : List (List ℕ)) (old mid new : Files) → mid.held ≡ old.held → mid.tells ≡ old.tells → AreLeft names files mid new → AreLeft names files old new
+pub left_before : (names files : List (List ℕ)) (old mid new : Files) → mid.held ≡ old.held → mid.tells ≡ old.tells → AreLeft names files mid new → AreLeft names files old new
 left_before names files old mid new held tells left = λ k h. turn (get_or names k []) (get_or files k []) (left k h)
   where
     turn : (name bytes : List ℕ) → IsLeft name bytes mid new → IsLeft name bytes old new
     turn name bytes l = elim l [ inl e ↦ inl (e ∙ ap (λ f. f name) held) | inr q ↦ inr (q.0, λ t. q.1 (subst IsTrue (sym tells) t)) ]
 
-most_before : (names : List (List ℕ)) (old mid new : List ℕ → ℕ) → mid ≡ old → RaisedAtMost names mid new → RaisedAtMost names old new
+pub most_before : (names : List (List ℕ)) (old mid new : List ℕ → ℕ) → mid ≡ old → RaisedAtMost names mid new → RaisedAtMost names old new
 most_before names old mid new same most = let P : (List ℕ → ℕ) → Type 0 = λ f. RaisedAtMost names f new in subst P same most
 
 -- what an evaluation does where the feed's elements are named

@@ -1,6 +1,7 @@
 pub mod Appending
 pub mod Ending
 pub mod Filling
+pub mod Given
 pub mod Got
 pub mod Manned
 pub mod Reached
