@@ -8,5 +8,4 @@ pub mod Reached
 pub mod Saves
 pub mod Simulating
 pub mod Stops
-pub mod Given
 pub mod Wanted
