@@ -16,6 +16,7 @@ import re
 
 import numpy as np
 
+import block_folds
 from job_graphs import Chance
 from run_model import Run, lower
 
@@ -636,6 +637,52 @@ def simulations():
     fail('out', 'o.npy', command, *fronts, done)
 
 
+# ---- folds and products
+
+
+def listed(numbers):
+    return '(' + ', '.join(map(str, numbers)) + ')'
+
+
+def input_line(name, array, chunks):
+    return f'input {name} "{name}.npy" shape {listed(array.shape)} chunks {listed(chunks)}|'
+
+
+def fold_lines(given, parts):
+    """Statements that fold the parts: as they are where there are several, and else whole and in pieces of 2."""
+    axes = given['axes']
+    call = f'let s = {given["fold"]}(k, axis={listed(axes)})|save s "o.npy"|'
+    whole = np.concatenate(parts, axis=axes[0]) if len(parts) > 1 else parts[0]
+    shelve('k.npy', saved(whole))
+    if len(parts) > 1:
+        chunks = [listed([part.shape[axis] for part in parts]) if axis == axes[0] else n for axis, n in enumerate(whole.shape)]
+        return [input_line('k', whole, chunks) + call]
+    return [input_line('k', whole, [max(n, 1) for n in whole.shape]) + call, input_line('k', whole, [2] * whole.ndim) + call]
+
+
+def product_lines(given, parts):
+    """Statements that multiply two parts, whole and in pieces of 2."""
+    for name, side in (('k', 'left'), ('l', 'right')):
+        shelve(f'{name}.npy', saved(parts[given[side]]))
+    call = f'let s = tensordot(k, l, {listed(given["left_axes"])}, {listed(given["right_axes"])})|save s "o.npy"|'
+    sides = [('k', parts[given['left']]), ('l', parts[given['right']])]
+    return [''.join(input_line(name, part, cut(part)) for name, part in sides) + call
+            for cut in (lambda part: [max(n, 1) for n in part.shape], lambda part: [2] * part.ndim)]
+
+
+def folds():
+    title('folds and products of blocks, with what NumPy makes of them')
+    say('site 65536 0')
+    for number, (kind, given, parts, result) in enumerate([*block_folds.reductions(), *block_folds.contractions()]):
+        if any(part.size == 0 for part in parts) and len(parts) > 1 and kind == 'reduce':
+            # no chunk is empty but that of an empty axis
+            continue
+        for lines in (fold_lines if kind == 'reduce' else product_lines)(given, parts):
+            job(lines)
+            for command in ('plain job.txt', f'sim job.txt {number}'):
+                say(f'saved o.npy {command}', f'saved: 0 o.npy {text(saved(result))}')
+
+
 # ---- jobs by chance
 
 
@@ -734,7 +781,7 @@ def main():
     shelve('short.npy', saved(A)[:-1])
     shelve('front.npy', saved(A)[:4])
     shelve('text.npy', b'nothing')
-    for part in (pieces, creations, room, alone, objects, lengths, real, heads, blocks, saves, divided, refusals, large, words, faults, places, reports, simulations, by_chance):
+    for part in (pieces, creations, room, alone, objects, lengths, real, heads, blocks, saves, divided, refusals, large, words, faults, places, reports, simulations, folds, by_chance):
         part()
     here = os.path.join(os.path.dirname(os.path.abspath(__file__)), '..', 'crates', 'site_table')
     for name, lines in (('stdin', LINES), ('stdout', WANTED)):
