@@ -13,6 +13,7 @@ import sys
 import tempfile
 
 TOP = os.path.dirname(os.path.dirname(os.path.abspath(__file__)))
+PROGRAM = os.path.abspath(os.environ.get('DASK') or os.path.join(TOP, 'dask'))
 
 # name: the shape of the input, its chunks, the expression of the job, that of NumPy
 JOBS = {
@@ -51,7 +52,7 @@ def measured(words, folder):
     return used.ru_utime + used.ru_stime, used.ru_maxrss / 1024
 
 
-def least(words, folder, times=3):
+def least(words, folder, times=int(os.environ.get('RUNS', '3'))):
     runs = [measured(words, folder) for _ in range(times)]
     return min(run[0] for run in runs), max(run[1] for run in runs)
 
@@ -71,7 +72,7 @@ def time_job(name, folder):
     subprocess.run([sys.executable, '-c', MAKE, 'a.npy', ','.join(map(str, shape))], cwd=folder, check=True)
     with open(os.path.join(folder, 'job.txt'), 'w', encoding='ascii') as job:
         job.write(f'input a "a.npy" shape {shape} chunks {chunks}\nlet b = {expression}\nsave b "o.npy"\n')
-    ours, peak = least([os.path.join(TOP, 'dask'), 'run', 'job.txt'], folder)
+    ours, peak = least([PROGRAM, 'run', 'job.txt'], folder)
     if numpy is None:
         print(f'{name}: {ours:.2f} s, {peak:.0f} MiB')
         return

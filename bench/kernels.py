@@ -13,6 +13,7 @@ import sys
 import tempfile
 
 TOP = os.path.dirname(os.path.dirname(os.path.abspath(__file__)))
+PROGRAM = os.path.abspath(os.environ.get('DASK') or os.path.join(TOP, 'dask'))
 FEW, MANY = 2, 10
 
 # name: the array's shape and its blocks' shape, one more operation over the array a and {x}, the last one made, whether
@@ -92,7 +93,7 @@ def ours(name, folder):
     for count in (FEW, MANY):
         with open(os.path.join(folder, 'job.txt'), 'w', encoding='ascii') as out:
             out.write(job(name, count))
-        times.append(min(seconds([os.path.join(TOP, 'dask'), 'run', 'job.txt'], folder) for _ in range(3)))
+        times.append(min(seconds([PROGRAM, 'run', 'job.txt'], folder) for _ in range(3)))
     return times[1] - times[0]
 
 
