@@ -1,5 +1,6 @@
 #!/usr/bin/env python3
-"""Times `./dask run` against NumPy on large jobs: processor time and peak memory of whole processes, the least of three runs.
+"""Times `./dask run`, or the program that DASK names, against NumPy on large jobs: processor time and peak memory of whole processes, the
+least of RUNS runs, or of three.
 
     /usr/bin/python3 bench/jobs.py [NAME ..]
 
@@ -58,13 +59,8 @@ def least(words, folder, times=int(os.environ.get('RUNS', '3'))):
 
 
 def same(one, other):
-    with open(one, 'rb') as a, open(other, 'rb') as b:
-        while True:
-            x, y = a.read(1 << 24), b.read(1 << 24)
-            if x != y:
-                return False
-            if not x:
-                return True
+    """By a process of its own: the peak of a process counts from this one's memory on."""
+    return subprocess.call(['cmp', '-s', one, other]) == 0
 
 
 def time_job(name, folder):
