@@ -119,7 +119,8 @@ pub fn run_under<'a>(
     requires some { 0 < len }
     requires index { index.now ≡ index_at shape.now (row * len) }
     ensures holds { HoldsItems result.cells.now result.single len }
-    ensures each { (r : ℕ) → r < len → (grid_of block.now).at (under block.now.shape (index_at shape.now (row * len + r))) ≡ Some (item result.cells.now result.single r) }
+    ensures each { (r : ℕ) → r < len → (grid_of block.now).at (under block.now.shape (index_at shape.now (row * len + r)))
+        ≡ Some (item result.cells.now result.single r) }
 {
     let dims = block.shape().dims();
     let mut room = [0; AXES];
