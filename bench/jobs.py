@@ -1,5 +1,6 @@
 #!/usr/bin/env python3
-"""Times `./dask run` against NumPy on large jobs: processor time and peak memory of whole processes, the least of three runs.
+"""Times `./dask run`, or the program that DASK names, against NumPy on large jobs: processor time and peak memory of whole processes, the
+least of RUNS runs, or of three.
 
     /usr/bin/python3 bench/jobs.py [NAME ..]
 
@@ -13,10 +14,13 @@ import sys
 import tempfile
 
 TOP = os.path.dirname(os.path.dirname(os.path.abspath(__file__)))
+RUNS = int(os.environ.get('RUNS', '3'))
+PROGRAM = os.path.abspath(os.environ.get('DASK') or os.path.join(TOP, 'dask'))
 
 # name: the shape of the input, its chunks, the expression of the job, that of NumPy
 JOBS = {
     'chain 1 GiB': ((16384, 8192), '(512, 2048)', '(a * 3 + 7) * (a - 5) - 11', '(a * 3 + 7) * (a - 5) - 11'),
+    'chain 1 GiB, blocks of 1 MiB': ((16384, 8192), '(64, 2048)', '(a * 3 + 7) * (a - 5) - 11', '(a * 3 + 7) * (a - 5) - 11'),
     'column sum 1 GiB': ((131072, 1024), '(1024, 1024)', 'sum(a, axis=(0))', 'a.sum(axis=0)'),
     'column sum 4 GiB': ((524288, 1024), '(1024, 1024)', 'sum(a, axis=(0))', None),
     'a + a.T 512 MiB': ((8192, 8192), '(1024, 1024)', 'a + a.T', 'a + a.T'),
@@ -51,19 +55,19 @@ def measured(words, folder):
     return used.ru_utime + used.ru_stime, used.ru_maxrss / 1024
 
 
-def least(words, folder, times=3):
-    runs = [measured(words, folder) for _ in range(times)]
+def least(words, folder, out):
+    """The least of the runs, each of which writes a new file."""
+    runs = []
+    for _ in range(RUNS):
+        if os.path.exists(os.path.join(folder, out)):
+            os.remove(os.path.join(folder, out))
+        runs.append(measured(words, folder))
     return min(run[0] for run in runs), max(run[1] for run in runs)
 
 
 def same(one, other):
-    with open(one, 'rb') as a, open(other, 'rb') as b:
-        while True:
-            x, y = a.read(1 << 24), b.read(1 << 24)
-            if x != y:
-                return False
-            if not x:
-                return True
+    """By a process of its own: the peak of a process counts from this one's memory on."""
+    return subprocess.call(['cmp', '-s', one, other]) == 0
 
 
 def time_job(name, folder):
@@ -71,14 +75,14 @@ def time_job(name, folder):
     subprocess.run([sys.executable, '-c', MAKE, 'a.npy', ','.join(map(str, shape))], cwd=folder, check=True)
     with open(os.path.join(folder, 'job.txt'), 'w', encoding='ascii') as job:
         job.write(f'input a "a.npy" shape {shape} chunks {chunks}\nlet b = {expression}\nsave b "o.npy"\n')
-    ours, peak = least([os.path.join(TOP, 'dask'), 'run', 'job.txt'], folder)
+    ours, peak = least([PROGRAM, 'run', 'job.txt'], folder, 'o.npy')
     if numpy is None:
-        print(f'{name}: {ours:.2f} s, {peak:.0f} MiB')
+        print(f'{name}: {ours:.2f} s, {peak:.0f} MiB', flush=True)
         return
-    theirs, other = least([sys.executable, '-c', NUMPY.format(numpy), 'a.npy', 'n.npy'], folder)
+    theirs, other = least([sys.executable, '-c', NUMPY.format(numpy), 'a.npy', 'n.npy'], folder, 'n.npy')
     right = same(os.path.join(folder, 'o.npy'), os.path.join(folder, 'n.npy'))
     print(f'{name}: {ours:.2f} s, {peak:.0f} MiB; NumPy {theirs:.2f} s, {other:.0f} MiB; ratio {ours / theirs:.2f}; '
-          + ('the same bytes' if right else 'OTHER BYTES'))
+          + ('the same bytes' if right else 'OTHER BYTES'), flush=True)
 
 
 def main():

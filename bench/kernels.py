@@ -4,16 +4,19 @@
     python3 bench/kernels.py [NAME ..]
 
 It needs gcc. For each operation there are two jobs over one array in blocks: one with two of the operation, the other with ten. What
-eight more take, by `./dask run`, the least of three runs each, is compared with eight runs of a loop in C (gcc -O3 -march=x86-64-v2)
-over blocks as large, each into a new block. Run it on a quiet machine.
+eight more take, by `./dask run` (or the program that DASK names), the least of RUNS runs each, or of three, is compared with a loop in C
+(gcc -O3 -march=x86-64-v2) over as many blocks as large, in the same order, each into a new block, with the C library's settings of ./dask.
 """
 import os
+import re
 import subprocess
 import sys
 import tempfile
 
 TOP = os.path.dirname(os.path.dirname(os.path.abspath(__file__)))
+PROGRAM = os.path.abspath(os.environ.get('DASK') or os.path.join(TOP, 'dask'))
 FEW, MANY = 2, 10
+RUNS = int(os.environ.get('RUNS', '3'))
 
 # name: the array's shape and its blocks' shape, one more operation over the array a and {x}, the last one made, whether
 # each goes on from the last one, and the loop in C over rows and columns of a block
@@ -38,18 +41,31 @@ C = '''
 #include <stdint.h>
 #include <time.h>
 typedef int64_t cell;
-enum { rows = %d, cols = %d, blocks = %d, times = %d };
+enum { rows = %d, cols = %d, blocks = %d, times = %d, goes_on = %d };
 static double now(void) { struct timespec t; clock_gettime(CLOCK_PROCESS_CPUTIME_ID, &t); return t.tv_sec + t.tv_nsec * 1e-9; }
 static cell *fresh(void) { cell *b = malloc(sizeof(cell) * rows * cols); if (!b) exit(2); return b; }
 __attribute__((noinline)) static void run(cell *restrict out, const cell *restrict x, const cell *restrict a) { %s }
 int main(void) {
-  cell *a = fresh(), seen = 0;
-  for (long i = 0; i < (long)rows * cols; i++) a[i] = i * 7 + 1;
+  cell *of[blocks], seen = 0;
+  for (int b = 0; b < blocks; b++) {
+    of[b] = fresh();
+    for (long i = 0; i < (long)rows * cols; i++) of[b][i] = ((long)b * rows * cols + i) * 7 + 1;
+  }
   double began = now();
-  for (long k = 0; k < (long)blocks * times; k++) {
+  if (goes_on) for (int b = 0; b < blocks; b++) {
+    cell *x = of[b];
+    for (int k = 0; k < times; k++) {
+      cell *out = fresh();
+      run(out, x, of[b]);
+      seen += out[k];
+      if (x != of[b]) free(x);
+      x = out;
+    }
+    if (x != of[b]) free(x);
+  } else for (int k = 0; k < times; k++) for (int b = 0; b < blocks; b++) {
     cell *out = fresh();
-    run(out, a, a);
-    seen += out[k %% rows];
+    run(out, of[b], of[b]);
+    seen += out[k];
     free(out);
   }
   printf("%%f %%d\\n", now() - began, (int)(seen & 1));
@@ -92,19 +108,21 @@ def ours(name, folder):
     for count in (FEW, MANY):
         with open(os.path.join(folder, 'job.txt'), 'w', encoding='ascii') as out:
             out.write(job(name, count))
-        times.append(min(seconds([os.path.join(TOP, 'dask'), 'run', 'job.txt'], folder) for _ in range(3)))
+        times.append(min(seconds([PROGRAM, 'run', 'job.txt'], folder) for _ in range(RUNS)))
     return times[1] - times[0]
 
 
 def in_c(name, folder):
-    shape, block, _, _, loop = JOBS[name]
+    shape, block, _, goes_on, loop = JOBS[name]
     body = LOOPS.get(name) or f'for (long i = 0; i < (long)rows * cols; i++) {loop};'
     blocks = shape[0] * shape[1] // (block[0] * block[1])
     source, program = os.path.join(folder, 'k.c'), os.path.join(folder, 'k')
     with open(source, 'w', encoding='ascii') as out:
-        out.write(C % (block[0], block[1], blocks, MANY - FEW, body))
+        out.write(C % (block[0], block[1], blocks, MANY - FEW, goes_on, body))
     subprocess.run(['gcc', '-O3', '-march=x86-64-v2', '-o', program, source], check=True)
-    return min(float(subprocess.run([program], capture_output=True, check=True, text=True).stdout.split()[0]) for _ in range(3))
+    with open(os.path.join(TOP, 'dask'), encoding='utf-8') as launcher:
+        settings = {'GLIBC_TUNABLES': re.search('GLIBC_TUNABLES-([^}]*)}', launcher.read())[1], **os.environ}
+    return min(float(subprocess.run([program], capture_output=True, check=True, text=True, env=settings).stdout.split()[0]) for _ in range(RUNS))
 
 
 def main():

@@ -42,10 +42,14 @@ row_count ns k = elements (take k ns)
 abbrev pub row_length : List ℕ → ℕ → ℕ
 row_length ns k = elements (drop k ns)
 
+-- why not all of the first n elements are there
+abbrev pub FailsWithin : Grid → ℕ → Fail → Type 0
+FailsWithin g n (ZeroDivide z) = MissesFirst g n z
+FailsWithin g n OutOfMemory = Unit {0}
+
 -- why there is no block
 abbrev pub FailsFirst : Grid → Fail → Type 0
-FailsFirst g (ZeroDivide z) = MissesFirst g (elements g.shape) z
-FailsFirst g OutOfMemory = Unit {0}
+FailsFirst g e = FailsWithin g (elements g.shape) e
 
 -- ---- rows of operands
 

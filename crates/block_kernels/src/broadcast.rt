@@ -52,14 +52,33 @@ fn all_fit(first: &[u64], second: &[u64], third: &[u64], shape: &[u64], outer: u
     a & b & c
 }
 
-/// How many axes stand before the rows of three operands that are broadcast to a shape: as few as can be. No memory.
+// The rows' least number of elements, where the shape has so many: each is written while it is in the cache, and has its own
+// place in each operand to be found.
+const ROW: u64 = 1024;
+
+// How many axes may stand before the rows: as many as leave them long enough, or none.
+fn first_axes(shape: &[u64]) -> usize
+    ensures { result ≤ length shape.now }
+{
+    let mut axes = shape.len();
+    while axes > 0 {
+        if elements_up_to_limit(&shape[axes..]) >= ROW {
+            return axes;
+        }
+        axes -= 1;
+    }
+    0
+}
+
+/// How many axes stand before the rows of three operands that are broadcast to a shape. The rows are as long as they can be,
+/// or `ROW` elements or more. No memory.
 pub fn outer_axes(first: &[u64], second: &[u64], third: &[u64], shape: &[u64]) -> usize
     ensures inside { result ≤ length shape.now }
     ensures first { FitsRun first.now shape.now result }
     ensures second { FitsRun second.now shape.now result }
     ensures third { FitsRun third.now shape.now result }
 {
-    for outer in 0..shape.len() {
+    for outer in first_axes(shape)..shape.len() {
         if all_fit(first, second, third, shape, outer) {
             return outer;
         }
@@ -100,7 +119,8 @@ pub fn run_under<'a>(
     requires some { 0 < len }
     requires index { index.now ≡ index_at shape.now (row * len) }
     ensures holds { HoldsItems result.cells.now result.single len }
-    ensures each { (r : ℕ) → r < len → (grid_of block.now).at (under block.now.shape (index_at shape.now (row * len + r))) ≡ Some (item result.cells.now result.single r) }
+    ensures each { (r : ℕ) → r < len → (grid_of block.now).at (under block.now.shape (index_at shape.now (row * len + r)))
+        ≡ Some (item result.cells.now result.single r) }
 {
     let dims = block.shape().dims();
     let mut room = [0; AXES];

@@ -33,7 +33,9 @@ fn fill_third<C: Source, A: Source>(condition: C, first: A, second: Run, out: &m
     requires second { HoldsItems second.cells.now second.single (length out.old) }
     requires some { 0 < length out.old }
     ensures len { length out.new ≡ length out.old }
-    ensures each { (i : ℕ) → i < length out.old → pick (C.value condition i) (A.value first i) (item second.entry.cells.now second.entry.single i) ≡ get_or out.new i (pos 0) }
+    ensures each { (i : ℕ) → i < length out.old
+        → pick (C.value condition i) (A.value first i) (item second.entry.cells.now second.entry.single i)
+        ≡ get_or out.new i (pos 0) }
 {
     if second.single {
         let other = One {
@@ -55,7 +57,9 @@ fn fill_second<C: Source>(condition: C, first: Run, second: Run, out: &mut [i64]
     requires second { HoldsItems second.cells.now second.single (length out.old) }
     requires some { 0 < length out.old }
     ensures len { length out.new ≡ length out.old }
-    ensures each { (i : ℕ) → i < length out.old → pick (C.value condition i) (item first.entry.cells.now first.entry.single i) (item second.entry.cells.now second.entry.single i) ≡ get_or out.new i (pos 0) }
+    ensures each { (i : ℕ) → i < length out.old
+        → pick (C.value condition i) (item first.entry.cells.now first.entry.single i) (item second.entry.cells.now second.entry.single i)
+        ≡ get_or out.new i (pos 0) }
 {
     if first.single {
         let one = One {
@@ -75,7 +79,9 @@ pub fn fill_choice(condition: Run, first: Run, second: Run, out: &mut [i64])
     requires second { HoldsItems second.cells.now second.single (length out.old) }
     requires some { 0 < length out.old }
     ensures len { length out.new ≡ length out.old }
-    ensures each { (i : ℕ) → i < length out.old → pick (item condition.entry.cells.now condition.entry.single i) (item first.entry.cells.now first.entry.single i) (item second.entry.cells.now second.entry.single i) ≡ get_or out.new i (pos 0) }
+    ensures each { (i : ℕ) → i < length out.old
+        → pick (item condition.entry.cells.now condition.entry.single i) (item first.entry.cells.now first.entry.single i) (item second.entry.cells.now second.entry.single i)
+        ≡ get_or out.new i (pos 0) }
 {
     if condition.single {
         let test = One {

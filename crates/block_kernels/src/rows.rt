@@ -1,14 +1,14 @@
 // Blocks made a row at a time.
-ghost use Rattle.std.specs.Prelude.{◌≡◌, ℕ, ◌+◌, ◌*◌, ◌<◌, ◌≤◌, ◌^◌, length, get_or, pos, IfOk, IfErr, IfSome, IfNone, Ok, Some};
+ghost use Rattle.std.specs.Prelude.{◌≡◌, ℕ, ◌+◌, ◌*◌, ◌<◌, ◌≤◌, ◌^◌, length, get_or, pos, IfOk, IfErr, IfSome, IfNone, OnOk, [], Ok, Some};
 ghost use Rattle.nd_shape.specs.Shape.{elements};
 ghost use Rattle.nd_grid.specs.Grid.{Grid, block_of};
 ghost use Rattle.nd_grid.specs.Computed.{FailsAs};
-ghost use Rattle.block_kernels.specs.Rows.{at_place, Fills, Misses, FillsAll, MissesFirst, row_count, row_length, FailsFirst};
+ghost use Rattle.block_kernels.specs.Rows.{at_place, Fills, Misses, FillsAll, row_count, row_length, FailsFirst, FailsWithin};
 
 use nd_grid::Fail;
 use nd_shape::shape::elements_up_to_limit;
 use nd_shape::{Block, Shape};
-use std::alloc::Global;
+use std::alloc::{AllocError, Global};
 
 /// What has an element, or nothing, at each index of a shape, a row at a time: a row goes along all axes but the first
 /// ones.
@@ -49,25 +49,53 @@ fn fill_at<F: Rows>(formula: &F, row: u64, run: u64, cells: &mut [i64]) -> Optio
     formula.fill(row, part)
 }
 
+// A row behind those that are there. It is filled while the zeros that it begins as are in the cache.
+fn append_row<F: Rows>(
+    formula: &F,
+    row: u64,
+    run: u64,
+    cells: &mut Vec<i64>,
+) -> Result<Option<u64>, AllocError>
+    requires valid { F.valid formula.now }
+    requires inside { row < row_count (F.grid formula.now).shape (F.outer formula.now) }
+    requires run { run ≡ row_length (F.grid formula.now).shape (F.outer formula.now) }
+    requires some { 0 < run }
+    requires room { length cells.old.items ≡ row * run }
+    requires small { row * run + run ≤ 2 ^ 31 }
+    ensures len { OnOk result (length cells.new.items ≡ row * run + run) }
+    ensures kept { OnOk result ((p : ℕ) → p < row * run → get_or cells.new.items p (pos 0) ≡ get_or cells.old.items p (pos 0)) }
+    ensures filled { IfOk result (λ missed. IfNone missed ((r : ℕ) → r < run
+        → at_place (F.grid formula.now) (row * run + r) ≡ Some (get_or cells.new.items (row * run + r) (pos 0)))) }
+    ensures missing { IfOk result (λ missed. IfSome missed (λ z. Misses (F.grid formula.now) (row * run) run z)) }
+{
+    let end = row * run + run;
+    cells.resize(end as usize, 0)?;
+    Ok(fill_at(formula, row, run, cells.as_mut_slice()))
+}
+
 // All rows, or the first place at which there is nothing.
-fn fill_rows<F: Rows>(formula: &F, rows: u64, run: u64, cells: &mut [i64]) -> Option<u64>
+fn append_rows<F: Rows>(formula: &F, rows: u64, run: u64, cells: &mut Vec<i64>) -> Result<(), Fail>
     requires valid { F.valid formula.now }
     requires rows { rows ≡ row_count (F.grid formula.now).shape (F.outer formula.now) }
     requires run { run ≡ row_length (F.grid formula.now).shape (F.outer formula.now) }
     requires some { 0 < run }
-    requires room { rows * run ≡ length cells.old }
-    requires small { length cells.old ≤ 2 ^ 31 }
-    ensures len { length cells.new ≡ length cells.old }
-    ensures filled { IfNone result (FillsAll (F.grid formula.now) (rows * run) cells.new) }
-    ensures missing { IfSome result (λ z. MissesFirst (F.grid formula.now) (rows * run) z) }
+    requires none { cells.old.items ≡ [] }
+    requires small { rows * run ≤ 2 ^ 31 }
+    ensures len { OnOk result (length cells.new.items ≡ rows * run) }
+    ensures filled { OnOk result (FillsAll (F.grid formula.now) (rows * run) cells.new.items) }
+    ensures missing { IfErr result (FailsWithin (F.grid formula.now) (rows * run)) }
 {
     for row in 0..rows {
-        match fill_at(formula, row, run, cells) {
-            Some(place) => return Some(row * run + place),
+        match append_row(formula, row, run, cells)? {
+            Some(place) => {
+                return Err(Fail::ZeroDivide {
+                    position: row * run + place,
+                });
+            }
             None => {}
         }
     }
-    None
+    Ok(())
 }
 
 // All elements.
@@ -86,17 +114,15 @@ fn cells_of<F: Rows>(
     ensures err { IfErr result (FailsFirst (F.grid formula.now)) }
 {
     let count = shape.elements();
-    let mut cells = vec![in alloc; 0; count as usize]?;
+    let mut cells = Vec::with_capacity(alloc, count as usize)?;
     if count == 0 {
         return Ok(cells);
     }
     let (front, back) = shape.dims().split_at(outer);
     let rows = elements_up_to_limit(front);
     let run = elements_up_to_limit(back);
-    match fill_rows(formula, rows, run, cells.as_mut_slice()) {
-        Some(position) => Err(Fail::ZeroDivide { position }),
-        None => Ok(cells),
-    }
+    append_rows(formula, rows, run, &mut cells)?;
+    Ok(cells)
 }
 
 /// The block of a formula, or the first place at which it has nothing. The rows go along all but the first `outer` axes.

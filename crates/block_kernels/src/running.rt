@@ -6,6 +6,8 @@ ghost use Rattle.nd_grid.specs.Grid.{grid_of, block_of, elementwise, chosen, sli
 ghost use Rattle.nd_grid.specs.Computed.{FailsAs};
 ghost use Rattle.block_kernels.specs.Kernels.{kernel, operand, nth, input_shapes, result_shape, reduced_all, assembled};
 ghost use Rattle.block_kernels.specs.Inputs.{blocks_of, grids_of, shapes_of};
+ghost use Rattle.block_kernels.specs.Pairing.{paired_at, chosen_at};
+ghost use Rattle.block_kernels.specs.Contracting.{contracted_at};
 ghost use Rattle.block_kernels.specs.WellFormed.{FitsPair, FitsWhere, FitsSlice, FitsReduce, FitsContract, FitsAssemble, IsWellFormed, IsMade};
 
 use crate::assemble::assemble;
@@ -32,9 +34,9 @@ fn run_elementwise(
     shape: &Shape,
 ) -> Result<Block, Fail>
     requires { FitsPair left right (shapes_of (blocks_of inputs.now)) shape.now }
-    ensures ok { IfOk result (λ block. block_of (elementwise op (operand left (grids_of (blocks_of inputs.now))) (operand right (grids_of (blocks_of inputs.now)))) ≡ Ok block) }
+    ensures ok { IfOk result (λ block. block_of (paired_at op left right (blocks_of inputs.now)) ≡ Ok block) }
     ensures dims { IfOk result (λ block. block.shape ≡ shape.now) }
-    ensures err { IfErr result (λ e. FailsAs e (block_of (elementwise op (operand left (grids_of (blocks_of inputs.now))) (operand right (grids_of (blocks_of inputs.now)))))) }
+    ensures err { IfErr result (λ e. FailsAs e (block_of (paired_at op left right (blocks_of inputs.now)))) }
 {
     let left_number = number_block(alloc, left)?;
     let right_number = number_block(alloc, right)?;
@@ -53,9 +55,9 @@ fn run_where(
     shape: &Shape,
 ) -> Result<Block, Fail>
     requires { FitsWhere condition first second (shapes_of (blocks_of inputs.now)) shape.now }
-    ensures ok { IfOk result (λ block. block_of (chosen (operand condition (grids_of (blocks_of inputs.now))) (operand first (grids_of (blocks_of inputs.now))) (operand second (grids_of (blocks_of inputs.now)))) ≡ Ok block) }
+    ensures ok { IfOk result (λ block. block_of (chosen_at condition first second (blocks_of inputs.now)) ≡ Ok block) }
     ensures dims { IfOk result (λ block. block.shape ≡ shape.now) }
-    ensures err { IfErr result (λ e. FailsAs e (block_of (chosen (operand condition (grids_of (blocks_of inputs.now))) (operand first (grids_of (blocks_of inputs.now))) (operand second (grids_of (blocks_of inputs.now)))))) }
+    ensures err { IfErr result (λ e. FailsAs e (block_of (chosen_at condition first second (blocks_of inputs.now)))) }
 {
     let condition_number = number_block(alloc, condition)?;
     let first_number = number_block(alloc, first)?;
@@ -142,11 +144,13 @@ fn run_contract(
     inputs: &[Arc<Block>],
 ) -> Result<Block, Fail>
     requires rules { FitsContract left right left_axes.now right_axes.now shapes.now }
-    requires limits { IsShape (kept_shape 0 (slice_index_or shapes.now left []) left_axes.now ++ kept_shape 0 (slice_index_or shapes.now right []) right_axes.now) }
+    requires limits { IsShape (kept_shape 0 (slice_index_or shapes.now left []) left_axes.now
+        ++ kept_shape 0 (slice_index_or shapes.now right []) right_axes.now) }
     requires shapes { shapes_of (blocks_of inputs.now) ≡ shapes.now }
-    ensures ok { IfOk result (λ block. block_of (contracted left_axes.now right_axes.now (nth (grids_of (blocks_of inputs.now)) left) (nth (grids_of (blocks_of inputs.now)) right)) ≡ Ok block) }
-    ensures dims { IfOk result (λ block. block.shape ≡ kept_shape 0 (slice_index_or shapes.now left []) left_axes.now ++ kept_shape 0 (slice_index_or shapes.now right []) right_axes.now) }
-    ensures err { IfErr result (λ e. FailsAs e (block_of (contracted left_axes.now right_axes.now (nth (grids_of (blocks_of inputs.now)) left) (nth (grids_of (blocks_of inputs.now)) right)))) }
+    ensures ok { IfOk result (λ block. block_of (contracted_at left_axes.now right_axes.now left right (blocks_of inputs.now)) ≡ Ok block) }
+    ensures dims { IfOk result (λ block. block.shape
+        ≡ kept_shape 0 (slice_index_or shapes.now left []) left_axes.now ++ kept_shape 0 (slice_index_or shapes.now right []) right_axes.now) }
+    ensures err { IfErr result (λ e. FailsAs e (block_of (contracted_at left_axes.now right_axes.now left right (blocks_of inputs.now)))) }
 {
     let _ = shapes.as_slice();
     let first = left_axes.as_slice();
