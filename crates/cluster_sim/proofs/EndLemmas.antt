@@ -14,7 +14,6 @@ use Rattle.cluster_rules.proofs.SchedFrame.{in_range, or_true, same_eqb}
 use Rattle.cluster_sim.specs.Seen.{IsSeen}
 use Rattle.cluster_sim.specs.Standing.{IsFor}
 use Rattle.cluster_sim.specs.declared.seen.Seen.{Seen}
-use Rattle.std.proofs.lemmas.Option.{slice_get_within}
 
 -- how a key ended, told apart
 pub erred_is : (g : Bool) (f : Option ℕ) (b : ℕ) → Some (Erred b) ≡ cond g (Some Got) (option_map (λ x. Erred x) f) → Some b ≡ f
@@ -254,27 +253,3 @@ all_here c wanted s n seen h keys none e all = sym (over_seen c wanted s n seen 
 
 pub some_missing : (c : ClientFacts) (wanted : List ℕ) (s : Seen) (n : ℕ) → IsSeen wanted c s → IsFor wanted c → ((k : ℕ) → is_in k wanted ≡ true → k < key_count c.shape) → s.failure ≡ None → n ≡ length wanted → (s.got ≡ n → ⊥) → None ≡ over c
 some_missing c wanted s n seen h keys none e some = sym (over_seen c wanted s n seen h keys none e ∙ ap (λ b. cond b (Some None) None) (differ s.got n some))
-
--- one more that passes
-pub one_more_passes : (p : ℕ → Bool) (xs : List ℕ) (n m k : ℕ) → m ≡ n + 1 → list_all p (take n xs) ≡ true → slice_get xs n ≡ Some k → p k ≡ true → list_all p (take m xs) ≡ true
-one_more_passes p xs n zero k e h g q = absurd (omega (arith, e))
-one_more_passes p [] n (suc m) k e h g q = refl
-one_more_passes p (x ∷ xs) zero (suc m) k e h g q = rw (at_zero m e) (and_from (p x) true (subst (λ y. p y ≡ true) (sym (same g)) q) refl)
-  where
-    at_zero : (m : ℕ) → suc m ≡ 0 + 1 → m ≡ 0
-    at_zero m e = omega (arith, e)
-
-    same : Some x ≡ Some k → x ≡ k
-    same h = cc
-one_more_passes p (x ∷ xs) (suc n) (suc m) k e h g q =
-    let a = and_parts (p x) (list_all p (take n xs)) h in
-    and_from (p x) (list_all p (take m xs)) a.0 (one_more_passes p xs n m k (omega (arith, e)) a.1 g q)
-
--- all pass that stand below the end of the list
-pub all_pass : (p : ℕ → Bool) (xs : List ℕ) (n : ℕ) → length xs ≤ n → list_all p (take n xs) ≡ true → list_all p (take (length xs) xs) ≡ true
-all_pass p [] n l h = refl
-all_pass p (x ∷ xs) zero l h = absurd (omega arith)
-all_pass p (x ∷ xs) (suc n) l h = let a = and_parts (p x) (list_all p (take n xs)) h in and_from (p x) (list_all p (take (length xs) xs)) a.0 (all_pass p xs n (omega arith) a.1)
-
-pub none_past : (p : ℕ → Bool) (xs : List ℕ) (k : ℕ) → slice_get xs (length xs) ≡ Some k → p k ≡ false
-none_past p xs k h = absurd (let l = slice_get_within xs (length xs) k h in omega (arith, l))

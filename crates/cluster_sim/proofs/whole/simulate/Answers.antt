@@ -1,4 +1,4 @@
-use Rattle.std.proofs.Common.{Err, ◌<◌, ◌∙◌, sym, ap, subst}
+use Rattle.std.proofs.Common.{Err, ◌<◌, ◌∙◌, refl, sym, ap, subst, arith}
 use Rattle.cluster_msgs.specs.Shape.{Shape, key_count}
 use Rattle.cluster_world.specs.Worlds.{world}
 use Rattle.cluster_sim.specs.declared.act.SimError.{SimError}
