@@ -13,7 +13,7 @@ use Rattle.cluster_rules.specs.WorldStep.{world_step}
 use Rattle.cluster_rules.specs.Draw.{Plan, Sim, next, event_of, moved}
 use Rattle.cluster_rules.specs.Enabled.{enabled, message_at, message}
 use Rattle.cluster_sim.specs.Plans.{IsPlan}
-use Rattle.cluster_sim.specs.Seen.{IsSeen, tells_failure}
+use Rattle.cluster_sim.specs.Seen.{tells_failure}
 use Rattle.cluster_sim.specs.Standing.{sim_of, made_by, IsFor, IsStanding, events_left, left}
 use Rattle.cluster_sim.specs.Passing.{IsKindOf, after, CanPass, IsLeft}
 use Rattle.cluster_sim.specs.Drawn.{IsAtTurn}

@@ -27,7 +27,8 @@ pub struct Ending {
 /// The end, once the client has failed on a key, of which the least counts, or has got all that it wants, by what was seen of
 /// the client.
 pub fn end_of(seen: &Seen, wanted: &KeyList) -> Option<Ending>
-    ensures { (c : ClientFacts) → IsSeen wanted.now c seen.now → IsFor wanted.now c → ((k : ℕ) → is_in k wanted.now ≡ true → k < key_count c.shape) → option_map (λ e. e.failure) result ≡ over c }
+    ensures { (c : ClientFacts) → IsSeen wanted.now c seen.now → IsFor wanted.now c → ((k : ℕ) → is_in k wanted.now ≡ true → k < key_count c.shape) →
+        option_map (λ e. e.failure) result ≡ over c }
 {
     match seen.failure {
         Some(blame) => Some(Ending {

@@ -1,7 +1,4 @@
-use Rattle.std.proofs.Common.{◌≡◌, ◌≤◌, ℕ, List, true, false, Some, length, take, subst}
-use Rattle.std.specs.Prelude.{slice_get}
-use Rattle.std.specs.List.{list_all}
-use Rattle.cluster_rules.specs.Client.{ClientFacts}
+use Rattle.std.proofs.Common.{ℕ, List, subst}
 use Rattle.cluster_world.specs.Worlds.{world}
 use Rattle.cluster_sim.specs.Seen.{IsSeen}
 use Rattle.cluster_sim.proofs.seen.Seen.look.Goals as goal
