@@ -11,7 +11,7 @@ use Rattle.cluster_world.specs.declared.state.Course.TheVariants.{Going, Fed, St
 use Rattle.cluster_world.specs.declared.errors.StepError.{StepError}
 use Rattle.cluster_world.specs.declared.errors.StepError.TheVariants as step
 use Rattle.cluster_world.specs.Steps.{CountsStep}
-use Rattle.cluster_world.specs.Worlds.{world, setting, running, IsReady, IsMadeBy}
+use Rattle.cluster_world.specs.Worlds.{world, running, IsReady, IsMadeBy}
 use Rattle.cluster_sim.specs.declared.act.SimError.{SimError}
 use Rattle.cluster_sim.specs.declared.act.SimError.TheVariants.{Turns, Feed, Spent, OutOfMemory}
 use Rattle.cluster_sim.specs.Acts.{CountsSim, Stays, IsAct, IsCause, cause}

@@ -1,16 +1,19 @@
 -- The end of the client's wait, by the keys that it wants.
-use Rattle.std.proofs.Common.{◌≡◌, ℕ, zero, suc, ◌+◌, ◌≤◌, ◌<◌, Bool, true, false, not, ◌&&◌, ◌||◌, cond, List, [], ◌∷◌, Option, Some, None, is_some, find, refl, sym, ap, ◌∙◌, arith, subst}
-use Rattle.std.specs.Prelude.{◌==◌, option_and_then}
+use Rattle.std.proofs.Common.{◌≡◌, ℕ, zero, suc, ◌+◌, ◌≤◌, ◌<◌, Bool, true, false, not, ◌&&◌, ◌||◌, cond, List, [], ◌∷◌, Option, Some, None, is_some, find, length, take, refl, sym, ap, ◌∙◌, arith, subst}
+use Rattle.std.specs.Prelude.{◌==◌, option_and_then, slice_get}
 use Rattle.std.specs.List.{list_all, range_with_len}
 use Rattle.std.specs.Option.{option_map}
 use Rattle.std.proofs.lemmas.Bool.{true≢false, false≢true, and_parts, and_from, eqb-true}
+use Rattle.std.proofs.lemmas.Bool.Decides.{nat_tests}
 use Rattle.cluster_msgs.specs.Shape.{key_count}
 use Rattle.cluster_msgs.specs.declared.cores.End.TheVariants.{Got, Erred}
 use Rattle.cluster_rules.specs.Derived.{is_in}
 use Rattle.cluster_rules.specs.Client.{ClientFacts, client_keys}
 use Rattle.cluster_rules.specs.Draw.{over, over_by}
 use Rattle.cluster_rules.proofs.SchedFrame.{in_range, or_true, same_eqb}
+use Rattle.cluster_sim.specs.Seen.{IsSeen}
 use Rattle.cluster_sim.specs.Standing.{IsFor}
+use Rattle.cluster_sim.specs.declared.seen.Seen.{Seen}
 
 -- how a key ended, told apart
 pub erred_is : (g : Bool) (f : Option ℕ) (b : ℕ) → Some (Erred b) ≡ cond g (Some Got) (option_map (λ x. Erred x) f) → Some b ≡ f
@@ -212,3 +215,41 @@ not_over c wanted h keys e k = pick (c.failed k) refl
 pub none_of : {A : Type 0} (o : Option A) → is_some o ≡ false → o ≡ None
 none_of None h = refl
 none_of (Some x) h = absurd (true≢false h)
+
+zero_suc : (n : ℕ) → (0 == suc n) ≡ false
+zero_suc n = grind (arith, nat_tests)
+
+suc_suc : (k n : ℕ) → (suc k == suc n) ≡ (k == n)
+suc_suc k n = grind (arith, nat_tests)
+
+-- what holds of each member holds by a weaker fact
+pub all_more : (p q : ℕ → Bool) → ((k : ℕ) → p k ≡ true → q k ≡ true) → (xs : List ℕ) → list_all p xs ≡ true → list_all q xs ≡ true
+all_more p q f [] h = refl
+all_more p q f (x ∷ xs) h = let a = and_parts (p x) (list_all p xs) h in and_from (q x) (list_all q xs) (f x a.0) (all_more p q f xs a.1)
+
+-- where a list's members pass up to one that doesn't, or up to its end, all pass exactly where that is the end
+pub all_up_to : (p : ℕ → Bool) (xs : List ℕ) (n : ℕ) → n ≤ length xs → list_all p (take n xs) ≡ true → ((k : ℕ) → slice_get xs n ≡ Some k → p k ≡ false) → (n == length xs) ≡ list_all p xs
+all_up_to p [] zero l h f = refl
+all_up_to p [] (suc n) l h f = absurd (omega arith)
+all_up_to p (x ∷ xs) zero l h f = zero_suc (length xs) ∙ ap (λ b. b && list_all p xs) (sym (f x refl))
+all_up_to p (x ∷ xs) (suc n) l h f =
+    let a = and_parts (p x) (list_all p (take n xs)) h in
+    suc_suc n (length xs) ∙ all_up_to p xs n (omega arith) a.1 f ∙ ap (λ b. b && list_all p xs) (sym a.0)
+
+differ : (m n : ℕ) → (m ≡ n → ⊥) → (m == n) ≡ false
+differ m n h = pick (m == n) refl
+  where
+    pick : (b : Bool) → (m == n) ≡ b → b ≡ false
+    pick true e = absurd (h (eqb-true m n e))
+    pick false e = refl
+
+-- by what was seen of the client: all has come, or some key hasn't
+over_seen : (c : ClientFacts) (wanted : List ℕ) (s : Seen) (n : ℕ) → IsSeen wanted c s → IsFor wanted c → ((k : ℕ) → is_in k wanted ≡ true → k < key_count c.shape) → s.failure ≡ None → n ≡ length wanted → over c ≡ cond (s.got == n) (Some None) None
+over_seen c wanted s n seen h keys none e =
+    over_all c wanted (s.got == n) h.wants keys (sym none ∙ seen.failure) (ap (λ m. s.got == m) e ∙ all_up_to c.got wanted s.got seen.few seen.before seen.there)
+
+pub all_here : (c : ClientFacts) (wanted : List ℕ) (s : Seen) (n : ℕ) → IsSeen wanted c s → IsFor wanted c → ((k : ℕ) → is_in k wanted ≡ true → k < key_count c.shape) → s.failure ≡ None → n ≡ length wanted → s.got ≡ n → Some None ≡ over c
+all_here c wanted s n seen h keys none e all = sym (over_seen c wanted s n seen h keys none e ∙ ap (λ b. cond b (Some None) None) (same_eqb s.got n all))
+
+pub some_missing : (c : ClientFacts) (wanted : List ℕ) (s : Seen) (n : ℕ) → IsSeen wanted c s → IsFor wanted c → ((k : ℕ) → is_in k wanted ≡ true → k < key_count c.shape) → s.failure ≡ None → n ≡ length wanted → (s.got ≡ n → ⊥) → None ≡ over c
+some_missing c wanted s n seen h keys none e some = sym (over_seen c wanted s n seen h keys none e ∙ ap (λ b. cond b (Some None) None) (differ s.got n some))

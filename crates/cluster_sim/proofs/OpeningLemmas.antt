@@ -65,7 +65,7 @@ open_join j w v n threads h e = subst (λ x. IsOpen [] (n + 1) x) (sym e) (recor
   fresh = λ k. none (((world_step j w (Join threads)).clients 1).failed k) (λ s. let r = quiet.failed k (h.fresh k) s in false≢true (sym (h.client.wants k) ∙ r.0));
 })
   where
-    quiet : IsQuiet (w.clients 1) ((world_step j w (Join threads)).clients 1)
+    quiet : IsQuiet false (w.clients 1) ((world_step j w (Join threads)).clients 1)
     quiet = quiet_step j w (Join threads) refl
 
     none : (o : Option ℕ) → (is_some o ≡ true → ⊥) → o ≡ None

@@ -16,6 +16,7 @@ use Rattle.quiet_bound.proofs.WorldBound.{setting-world}
 use Rattle.cluster_sim.specs.Acts.{Stays}
 use Rattle.cluster_sim.specs.Drawn.{word_of, IsAtTurn}
 use Rattle.cluster_sim.specs.Plans.{IsPlan}
+use Rattle.cluster_sim.specs.Seen.{IsSeen}
 use Rattle.cluster_sim.specs.Standing.{sim_of, IsStanding}
 use Rattle.cluster_sim.specs.Passing.{first_standing}
 use Rattle.cluster_sim.specs.Openings.{AreWanted, HasOpened}
@@ -34,11 +35,12 @@ first_sim p w b e = ap (budgeted (sim_of p w (first_standing b))) e
 
 -- a simulation that has opened stands before its first turn
 pub opened_between : {J B F : Type 0} (op : J → ℕ → List B → Option B) (tells : J → F → Type 0) (p : Plan) (wanted : List ℕ) (old new : State J B F) (r : Run) (b : ℕ) → IsPlan p → AreWanted (key_count (setting old).shape) wanted
-    → HasOpened op tells wanted p.workers (opening_events p wanted) old new r.tally → Stays tells old new → r.standing ≡ first_standing b → IsBetween p wanted new r
-opened_between {J} {B} {F} op tells p wanted old new r b plan keys h stays is = record {
+    → HasOpened op tells wanted p.workers (opening_events p wanted) old new r.tally → Stays tells old new → r.standing ≡ first_standing b → IsSeen wanted ((world new).clients 1) r.seen → IsBetween p wanted new r
+opened_between {J} {B} {F} op tells p wanted old new r b plan keys h stays is seen = record {
   going = h.going;
   standing = subst (λ (s : Standing). IsStanding p wanted (world new) s) (sym is)
       (standing_first p wanted (world new) (first_standing b) plan h.opened (λ k q. subst (λ (s : Setting). k < key_count s.shape) (sym same) (keys.keys k q)) refl refl refl);
+  seen = seen;
   turns = subst (λ (s : Standing). s.turns ≤ new.events) (sym is) (omega arith);
 }
   where

@@ -1,5 +1,6 @@
 -- What an event that comes next makes of where a simulation stands.
-use Rattle.std.proofs.Common.{◌≡◌, ℕ, ◌+◌, ◌-◌, ◌*◌, ◌^◌, ◌≤◌, ◌<◌, false, List, drop, length, Some, None, refl, sym, ap, ◌∙◌, arith, subst}
+use Rattle.std.proofs.Common.{◌≡◌, ℕ, ◌+◌, ◌-◌, ◌*◌, ◌^◌, ◌≤◌, ◌<◌, Bool, true, false, cond, List, take, drop, length, Some, None, refl, sym, ap, ◌∙◌, arith, subst}
+use Rattle.std.specs.List.{list_all}
 use Rattle.std.proofs.Math.Nat.{mul-le-mul_right}
 use Rattle.cluster_msgs.specs.Shape.{Shape, key_count}
 use Rattle.cluster_msgs.specs.declared.events.Item.{Item}
@@ -10,7 +11,9 @@ use Rattle.cluster_rules.specs.Client.{ClientFacts}
 use Rattle.cluster_rules.specs.World.{Job, World, rest, shape_of}
 use Rattle.cluster_rules.specs.WorldStep.{world_step}
 use Rattle.cluster_rules.specs.Draw.{Plan, Sim, next, event_of, moved}
+use Rattle.cluster_rules.specs.Enabled.{enabled, message_at, message}
 use Rattle.cluster_sim.specs.Plans.{IsPlan}
+use Rattle.cluster_sim.specs.Seen.{tells_failure}
 use Rattle.cluster_sim.specs.Standing.{sim_of, made_by, IsFor, IsStanding, events_left, left}
 use Rattle.cluster_sim.specs.Passing.{IsKindOf, after, CanPass, IsLeft}
 use Rattle.cluster_sim.specs.Drawn.{IsAtTurn}
@@ -21,7 +24,7 @@ use Rattle.cluster_sim.specs.declared.choice.Kind.TheVariants as kind
 use Rattle.cluster_sim.proofs.ClientKeeps.{IsQuiet}
 use Rattle.cluster_sim.proofs.WorldKeeps.{world_keeps, quiet_step}
 use Rattle.cluster_sim.proofs.NextLemmas.{MayCome, next_comes, made_comes, made_waits}
-use Rattle.cluster_sim.proofs.EndLemmas.{not_over}
+use Rattle.cluster_sim.proofs.EndLemmas.{not_over, all_more}
 
 -- the event of a choice is its own
 pub event_made : (script : List Item) (e : Event) (k : Kind) → IsKindOf k e → event_of (made_by script e k) ≡ Some e
@@ -109,8 +112,8 @@ within_after keys items s kind.Balances b h i = record { passed = i.passed; evic
 within_after keys items s kind.Drawn b h i = record { passed = i.passed; evicts = i.evicts; balances = i.balances }
 
 -- the client still waits for the same keys
-pub still_for : (wanted : List ℕ) (c d : ClientFacts) → IsFor wanted c → ((k : ℕ) → c.failed k ≡ None) → IsQuiet c d → IsFor wanted d
-still_for wanted c d h fresh q = record {
+pub still_for : (t : Bool) (wanted : List ℕ) (c d : ClientFacts) → IsFor wanted c → ((k : ℕ) → c.failed k ≡ None) → IsQuiet t c d → IsFor wanted d
+still_for t wanted c d h fresh q = record {
   wants = λ k. ap (λ f. f k) q.wants ∙ h.wants k;
   failed = λ k s. let r = q.failed k (fresh k) s in (sym (h.wants k) ∙ r.0, r.1);
 }
@@ -130,7 +133,7 @@ may_come words p wanted w s e k b plan h own is =
 pub standing_after : (words : ℕ → ℕ) (p : Plan) (wanted : List ℕ) (j : Job) (w v : World) (s : Standing) (e : Event) (k : Kind) (b : ℕ) → IsPlan p → IsStanding p wanted w s → IsKindOf k e → IsLeft (key_count (shape_of w)) (length p.script) s k
     → made_by p.script e k ≡ next words p (sim_of p w s) → v ≡ world_step j w e → IsStanding p wanted v (after s k b)
 standing_after words p wanted j w v s e k b plan h own some is to = subst (λ x. IsStanding p wanted x (after s k b)) (sym to) (record {
-  client = still_for wanted (w.clients 1) _ h.client fresh quiet;
+  client = still_for _ wanted (w.clients 1) _ h.client fresh quiet;
   shape = quiet.shape ∙ h.shape ∙ sym graph;
   keys = λ k q. subst (λ (g : Shape). k < key_count g) (sym graph) (h.keys k q);
   passed = within.passed;
@@ -142,7 +145,7 @@ standing_after words p wanted j w v s e k b plan h own some is to = subst (λ x.
     come : MayCome w e (drop s.passed p.script) (drop (after s k b).passed p.script)
     come = may_come words p wanted w s e k b plan h own is
 
-    quiet : IsQuiet (w.clients 1) ((world_step j w e).clients 1)
+    quiet : IsQuiet (tells_failure (message_at w e)) (w.clients 1) ((world_step j w e).clients 1)
     quiet = quiet_step j w e come.gentle
 
     graph : (world_step j w e).sched.setting.shape ≡ w.sched.setting.shape
@@ -153,3 +156,25 @@ standing_after words p wanted j w v s e k b plan h own some is to = subst (λ x.
 
     within : Within (key_count (shape_of w)) (length p.script) (after s k b)
     within = within_after _ _ s k b some (record { passed = h.passed; evicts = h.evicts; balances = h.balances })
+
+-- what was seen of the client is so far seen of it in that world too: what had come is there, and it failed on nothing unless it was told
+pub record IsSeenSoFar (told : Bool) (wanted : List ℕ) (c : ClientFacts) (got : ℕ) : Type 0 where
+  pub before : list_all c.got (take got wanted) ≡ true
+  pub silent : told ≡ false → (k : ℕ) → c.failed k ≡ None
+
+pub seen_after : (words : ℕ → ℕ) (p : Plan) (wanted : List ℕ) (j : Job) (w v : World) (s : Standing) (e : Event) (k : Kind) (got : ℕ) → IsPlan p → IsStanding p wanted w s → IsKindOf k e
+    → made_by p.script e k ≡ next words p (sim_of p w s) → v ≡ world_step j w e → list_all (w.clients 1).got (take got wanted) ≡ true → IsSeenSoFar (tells_failure (message w e)) wanted (v.clients 1) got
+unfolding message
+seen_after words p wanted j w v s e k got plan h own is to before = subst (λ (x : World). IsSeenSoFar (tells_failure (cond (enabled w e) (message_at w e) None)) wanted (x.clients 1) got) (sym to) (record {
+  before = all_more (w.clients 1).got ((world_step j w e).clients 1).got quiet.got (take got wanted) before;
+  silent = λ t i. quiet.silent (sym (ap (λ b. tells_failure (cond b (message_at w e) None)) come.enabled) ∙ t) i (fresh i);
+})
+  where
+    come : MayCome w e (drop s.passed p.script) (drop (after s k 0).passed p.script)
+    come = may_come words p wanted w s e k 0 plan h own is
+
+    quiet : IsQuiet (tells_failure (message_at w e)) (w.clients 1) ((world_step j w e).clients 1)
+    quiet = quiet_step j w e come.gentle
+
+    fresh : (i : ℕ) → (w.clients 1).failed i ≡ None
+    fresh = not_over (w.clients 1) wanted h.client (λ i q. subst (λ (g : Shape). i < key_count g) (sym h.shape) (h.keys i q)) (made_waits words p (sim_of p w s) e (ap event_of (sym is) ∙ event_made p.script e k own))

@@ -1,5 +1,5 @@
 -- What a turn makes, put together.
-use Rattle.std.proofs.Common.{◌≡◌, ℕ, ◌+◌, ◌-◌, ◌^◌, ◌≤◌, ◌<◌, List, [], ◌∷◌, ◌++◌, length, drop, Option, Some, None, refl, sym, ap, ◌∙◌, arith, subst}
+use Rattle.std.proofs.Common.{◌≡◌, ℕ, ◌-◌, ◌^◌, ◌≤◌, ◌<◌, List, [], ◌∷◌, ◌++◌, length, drop, Option, Some, None, refl, sym, ap, ◌∙◌, arith, subst}
 use Rattle.cluster_msgs.specs.Shape.{key_count}
 use Rattle.cluster_msgs.specs.declared.events.Event.{Event}
 use Rattle.cluster_rules.specs.Sched.{Setting}
@@ -16,6 +16,7 @@ use Rattle.quiet_bound.proofs.WorldBound.{setting-world}
 use Rattle.cluster_sim.specs.Acts.{Stays, IsAct}
 use Rattle.cluster_sim.specs.Drawn.{word_of, IsAtTurn}
 use Rattle.cluster_sim.specs.Plans.{IsPlan}
+use Rattle.cluster_sim.specs.Seen.{IsSeen, tells_failure}
 use Rattle.cluster_sim.specs.Standing.{sim_of, made_by, IsStanding, left}
 use Rattle.cluster_sim.specs.Passing.{IsKindOf, after, IsLeft}
 use Rattle.cluster_sim.specs.Turns.{IsBetween, IsDrawn, HasGone, IsFull}
@@ -25,7 +26,7 @@ use Rattle.cluster_sim.specs.declared.choice.Kind.TheVariants as kind
 use Rattle.cluster_sim.specs.declared.run.Run.{Run}
 use Rattle.cluster_sim.proofs.CourseLemmas.{course_more}
 use Rattle.cluster_sim.proofs.NextLemmas.{MayCome, made_waits}
-use Rattle.cluster_sim.proofs.TurnLemmas.{event_made, moved_after, turns_after, falls_after, may_come, standing_after}
+use Rattle.cluster_sim.proofs.TurnLemmas.{event_made, moved_after, turns_after, falls_after, may_come, standing_after, IsSeenSoFar, seen_after}
 
 -- the event that comes next is one that the choice made
 pub record IsChosen {J B F : Type 0} (p : Plan) (wanted : List ℕ) (old : State J B F) (a : Run) (e : Event) (k : Kind) (word : ℕ) : Type 0 where
@@ -56,12 +57,22 @@ pub event_drawn : {J B F : Type 0} (p : Plan) (wanted : List ℕ) (number : ℕ)
     → event_of (next (word_of number) p (sim_of p (world old) a.standing)) ≡ Some e
 event_drawn p wanted number old a e k word h at words = ap event_of (sym (next_drawn p wanted number old a e k word h at words)) ∙ event_made p.script e k h.own
 
+-- the simulation stands there, and what was seen of the client is seen so far
+pub stands_then : {J B F : Type 0} (op : J → ℕ → List B → Option B) (tells : J → F → Type 0) (p : Plan) (wanted : List ℕ) (old new : State J B F) (a : Run) (e : Event) (k : Kind) (word budget : ℕ)
+    → IsChosen p wanted old a e k word → IsAct op tells old e new → IsStanding p wanted (world new) (after a.standing k budget)
+stands_then op tells p wanted old new a e k word budget h act = standing_after (λ t. word) p wanted act.some.0 (world old) (world new) a.standing e k budget h.plan h.between.standing h.own h.some (h.next (λ t. word) refl) act.some.1
+
+pub seen_then : {J B F : Type 0} (op : J → ℕ → List B → Option B) (tells : J → F → Type 0) (p : Plan) (wanted : List ℕ) (old new : State J B F) (a : Run) (e : Event) (k : Kind) (word : ℕ)
+    → IsChosen p wanted old a e k word → IsAct op tells old e new → IsSeenSoFar (tells_failure (message (world old) e)) wanted ((world new).clients 1) a.seen.got
+seen_then op tells p wanted old new a e k word h act = seen_after (λ t. word) p wanted act.some.0 (world old) (world new) a.standing e k a.seen.got h.plan h.between.standing h.own (h.next (λ t. word) refl) act.some.1 h.between.seen.before
+
 pub has_gone : {J B F : Type 0} (op : J → ℕ → List B → Option B) (tells : J → F → Type 0) (p : Plan) (wanted : List ℕ) (old new : State J B F) (a b : Run) (e : Event) (k : Kind) (word budget : ℕ)
-    → IsChosen p wanted old a e k word → IsAct op tells old e new → budget < 2 ^ 128 → b.standing ≡ after a.standing k budget → HasGone p wanted old new a b
-has_gone op tells p wanted old new a b e k word budget h act u is = record {
+    → IsChosen p wanted old a e k word → IsAct op tells old e new → budget < 2 ^ 128 → b.standing ≡ after a.standing k budget → IsSeen wanted ((world new).clients 1) b.seen → HasGone p wanted old new a b
+has_gone op tells p wanted old new a b e k word budget h act u is seen = record {
   between = record {
     going = act.going;
-    standing = subst (λ (s : Standing). IsStanding p wanted (world new) s) (sym is) (standing_after (λ t. word) p wanted act.some.0 (world old) (world new) a.standing e k budget h.plan h.between.standing h.own h.some (h.next (λ t. word) refl) act.some.1);
+    standing = subst (λ (s : Standing). IsStanding p wanted (world new) s) (sym is) (stands_then op tells p wanted old new a e k word budget h act);
+    seen = seen;
     turns = subst (λ (s : Standing). s.turns ≤ new.events) (sym is) (let t = turns_after a.standing k budget old.events h.between.turns in let n = act.counted in omega (arith, t, n));
   };
   falls = subst (λ (s : Standing). left (key_count (setting old).shape) (length p.script) s < left (key_count (setting old).shape) (length p.script) a.standing) (sym is)

@@ -2,10 +2,12 @@
 use Rattle.std.proofs.Common.{◌≡◌, ℕ, ◌+◌, Bool, true, false, cond, List, [], ◌∷◌, Option, Some, None, refl, sym, ap, ◌∙◌, add-zero, subst}
 use Rattle.std.specs.Prelude.{◌==◌}
 use Rattle.std.proofs.lemmas.Bool.{eqb-true, false≢true}
+use Rattle.std.specs.Option.{option_map}
 use Rattle.cluster_msgs.specs.declared.messages.Down.{Down}
 use Rattle.cluster_msgs.specs.declared.messages.Up.{Up}
 use Rattle.cluster_msgs.specs.declared.messages.ToClient.{ToClient}
 use Rattle.cluster_msgs.specs.declared.messages.FromClient.{FromClient as ClientMessage}
+use Rattle.cluster_msgs.specs.declared.messages.Message.TheVariants.{ToClient as ToClientMessage}
 use Rattle.cluster_msgs.specs.declared.cores.SchedEvent.{SchedEvent}
 use Rattle.cluster_msgs.specs.declared.cores.SchedEvent.TheVariants.{Join as JoinSched, Leave, FromWorker, FromClient, Balance as BalanceSched, Evict as EvictSched}
 use Rattle.cluster_msgs.specs.declared.cores.ClientEvent.{ClientEvent}
@@ -21,7 +23,9 @@ use Rattle.cluster_rules.specs.WorkerStep.{WorkerStep}
 use Rattle.cluster_rules.specs.Client.{ClientFacts, ClientStep, client_step}
 use Rattle.cluster_rules.specs.World.{Job, World, Parcel, is_connected, open_ask, parcel_of}
 use Rattle.cluster_rules.specs.WorldStep.{scheduled, worked, client_worked, at_scheduler, at_client, take_down_first, take_up, take_up_first, take_to_client, take_from_client, gathered_at, failed_at, serve, take_answer, fail_ask, world_step}
+use Rattle.cluster_rules.specs.Enabled.{front, message_at}
 use Rattle.cluster_laws.proofs.Framed.{joins_by, step_last, step_setting}
+use Rattle.cluster_sim.specs.Seen.{is_erred, tells_failure}
 use Rattle.cluster_sim.proofs.ClientKeeps.{IsQuiet, stays, hear_step, ask_step, gathered_step, failed_step}
 
 -- how many workers an event lets join, and whether it leaves what the clients want
@@ -122,86 +126,86 @@ world_keeps j w (Spill i k) = alike w (world_step j w (Spill i k)) refl
 world_keeps j w (LoseSpilled i k) = worker_alike w i _
 
 -- of client 1
-abbrev pub Quiet : World → World → Type 0
-Quiet w v = IsQuiet (w.clients 1) (v.clients 1)
+abbrev pub Quiet : Bool → World → World → Type 0
+Quiet t w v = IsQuiet t (w.clients 1) (v.clients 1)
 
-still_sched : (w : World) (e : SchedEvent) → Quiet w (at_scheduler w e)
+still_sched : (t : Bool) (w : World) (e : SchedEvent) → Quiet t w (at_scheduler w e)
 unfolding scheduled
-still_sched w e = stays (w.clients 1)
+still_sched t w e = stays t (w.clients 1)
 
-still_worker : (w : World) (i : ℕ) (s : WorkerStep) → Quiet w (worked w i s)
+still_worker : (t : Bool) (w : World) (i : ℕ) (s : WorkerStep) → Quiet t w (worked w i s)
 unfolding worked
-still_worker w i s = stays (w.clients 1)
+still_worker t w i s = stays t (w.clients 1)
 
 -- one client took a quiet event
-quiet_client : (w : World) (c : ℕ) (e : ClientEvent) → ((d : ClientFacts) → IsQuiet d (client_step d e).facts) → Quiet w (at_client w c e)
+quiet_client : (t : Bool) (w : World) (c : ℕ) (e : ClientEvent) → ((d : ClientFacts) → IsQuiet t d (client_step d e).facts) → Quiet t w (at_client w c e)
 unfolding client_worked
-quiet_client w c e q = pick (1 == c) refl
+quiet_client t w c e q = pick (1 == c) refl
   where
-    pick : (b : Bool) → (1 == c) ≡ b → IsQuiet (w.clients 1) (cond b (client_step (w.clients c) e).facts (w.clients 1))
-    pick true h = subst (λ i. IsQuiet (w.clients 1) (client_step (w.clients i) e).facts) (eqb-true 1 c h) (q (w.clients 1))
-    pick false h = stays (w.clients 1)
+    pick : (b : Bool) → (1 == c) ≡ b → IsQuiet t (w.clients 1) (cond b (client_step (w.clients c) e).facts (w.clients 1))
+    pick true h = subst (λ i. IsQuiet t (w.clients 1) (client_step (w.clients i) e).facts) (eqb-true 1 c h) (q (w.clients 1))
+    pick false h = stays t (w.clients 1)
 
-q_down : (w : World) (i : ℕ) (ms : List Down) → Quiet w (take_down_first w i ms)
-q_down w i [] = stays (w.clients 1)
-q_down w i (m ∷ ms) = still_worker (record w { down = put w.down i ms }) i _
+q_down : (t : Bool) (w : World) (i : ℕ) (ms : List Down) → Quiet t w (take_down_first w i ms)
+q_down t w i [] = stays t (w.clients 1)
+q_down t w i (m ∷ ms) = still_worker t (record w { down = put w.down i ms }) i _
 
-q_up : (w : World) (i : ℕ) (m : Up) (b : Bool) → Quiet w (take_up w i m b)
-q_up w i m true = still_sched w (FromWorker i m)
-q_up w i m false = stays (w.clients 1)
+q_up : (t : Bool) (w : World) (i : ℕ) (m : Up) (b : Bool) → Quiet t w (take_up w i m b)
+q_up t w i m true = still_sched t w (FromWorker i m)
+q_up t w i m false = stays t (w.clients 1)
 
-q_ups : (w : World) (i : ℕ) (ms : List Up) → Quiet w (take_up_first w i ms)
-q_ups w i [] = stays (w.clients 1)
-q_ups w i (m ∷ ms) = q_up (record w { up = put w.up i ms }) i m (is_connected w i)
+q_ups : (t : Bool) (w : World) (i : ℕ) (ms : List Up) → Quiet t w (take_up_first w i ms)
+q_ups t w i [] = stays t (w.clients 1)
+q_ups t w i (m ∷ ms) = q_up t (record w { up = put w.up i ms }) i m (is_connected w i)
 
-q_to_client : (w : World) (c : ℕ) (ms : List ToClient) → Quiet w (take_to_client w c ms)
-q_to_client w c [] = stays (w.clients 1)
-q_to_client w c (m ∷ ms) = quiet_client (record w { to_client = put w.to_client c ms }) c (FromScheduler m) (λ d. hear_step d m)
+q_to_client : (w : World) (c : ℕ) (ms : List ToClient) → Quiet (tells_failure (option_map (λ m. ToClientMessage m) (front ms))) w (take_to_client w c ms)
+q_to_client w c [] = stays false (w.clients 1)
+q_to_client w c (m ∷ ms) = quiet_client (is_erred m) (record w { to_client = put w.to_client c ms }) c (FromScheduler m) (λ d. hear_step d m)
 
-q_from_client : (w : World) (c : ℕ) (ms : List ClientMessage) → Quiet w (take_from_client w c ms)
-q_from_client w c [] = stays (w.clients 1)
-q_from_client w c (m ∷ ms) = still_sched (record w { from_client = put w.from_client c ms }) (FromClient c m)
+q_from_client : (t : Bool) (w : World) (c : ℕ) (ms : List ClientMessage) → Quiet t w (take_from_client w c ms)
+q_from_client t w c [] = stays t (w.clients 1)
+q_from_client t w c (m ∷ ms) = still_sched t (record w { from_client = put w.from_client c ms }) (FromClient c m)
 
-q_gathered : (w : World) (a : Asker) (p n : ℕ) (found : List ℕ) → Quiet w (gathered_at w a p n found)
-q_gathered w (Worker i) p n found = still_worker w i _
-q_gathered w (Client c) p n found = quiet_client w c (ClientGathered p n found) (λ d. gathered_step d p n found)
+q_gathered : (t : Bool) (w : World) (a : Asker) (p n : ℕ) (found : List ℕ) → Quiet t w (gathered_at w a p n found)
+q_gathered t w (Worker i) p n found = still_worker t w i _
+q_gathered t w (Client c) p n found = quiet_client t w c (ClientGathered p n found) (λ d. gathered_step t d p n found)
 
-q_failed : (w : World) (a : Asker) (p n : ℕ) → Quiet w (failed_at w a p n)
-q_failed w (Worker i) p n = still_worker w i _
-q_failed w (Client c) p n = quiet_client w c (ClientGatherFailed p n) (λ d. failed_step d p n)
+q_failed : (t : Bool) (w : World) (a : Asker) (p n : ℕ) → Quiet t w (failed_at w a p n)
+q_failed t w (Worker i) p n = still_worker t w i _
+q_failed t w (Client c) p n = quiet_client t w c (ClientGatherFailed p n) (λ d. failed_step t d p n)
 
-q_serve : (w : World) (p : ℕ) (o : Option Parcel) → Quiet w (serve w p o)
-q_serve w p None = stays (w.clients 1)
-q_serve w p (Some q) = stays (w.clients 1)
+q_serve : (t : Bool) (w : World) (p : ℕ) (o : Option Parcel) → Quiet t w (serve w p o)
+q_serve t w p None = stays t (w.clients 1)
+q_serve t w p (Some q) = stays t (w.clients 1)
 
-q_answer : (w : World) (o : Option Parcel) → Quiet w (take_answer w o)
-q_answer w None = stays (w.clients 1)
-q_answer w (Some q) = q_gathered (record w { answers = _ }) q.asker q.peer q.ask q.keys
+q_answer : (t : Bool) (w : World) (o : Option Parcel) → Quiet t w (take_answer w o)
+q_answer t w None = stays t (w.clients 1)
+q_answer t w (Some q) = q_gathered t (record w { answers = _ }) q.asker q.peer q.ask q.keys
 
-q_fails : (w : World) (a : Asker) (p : ℕ) (o : Option Ask) → Quiet w (fail_ask w a p o)
-q_fails w a p None = stays (w.clients 1)
-q_fails w a p (Some q) = q_failed w a p q.number
+q_fails : (t : Bool) (w : World) (a : Asker) (p : ℕ) (o : Option Ask) → Quiet t w (fail_ask w a p o)
+q_fails t w a p None = stays t (w.clients 1)
+q_fails t w a p (Some q) = q_failed t w a p q.number
 
-pub quiet_step : (j : Job) (w : World) (e : Event) → is_gentle e ≡ true → Quiet w (world_step j w e)
+pub quiet_step : (j : Job) (w : World) (e : Event) → is_gentle e ≡ true → Quiet (tells_failure (message_at w e)) w (world_step j w e)
 unfolding world_step
 quiet_step j w (Want c ks) h = absurd (false≢true h)
 quiet_step j w (Release c ks) h = absurd (false≢true h)
-quiet_step j w (Join threads) h = still_sched (record w { workers = _; alive = _ }) (JoinSched threads)
-quiet_step j w (Lose i) h = stays (w.clients 1)
-quiet_step j w (SeeLoss i) h = still_sched w (Leave i)
-quiet_step j w (Suspect i) h = still_sched w (Leave i)
-quiet_step j w (DeliverDown i) h = q_down w i (w.down i)
-quiet_step j w (DeliverUp i) h = q_ups w i (w.up i)
+quiet_step j w (Join threads) h = still_sched _ (record w { workers = _; alive = _ }) (JoinSched threads)
+quiet_step j w (Lose i) h = stays _ (w.clients 1)
+quiet_step j w (SeeLoss i) h = still_sched _ w (Leave i)
+quiet_step j w (Suspect i) h = still_sched _ w (Leave i)
+quiet_step j w (DeliverDown i) h = q_down _ w i (w.down i)
+quiet_step j w (DeliverUp i) h = q_ups _ w i (w.up i)
 quiet_step j w (DeliverToClient c) h = q_to_client w c (w.to_client c)
-quiet_step j w (DeliverFromClient c) h = q_from_client w c (w.from_client c)
-quiet_step j w (Start i) h = still_worker w i _
-quiet_step j w (Finish i k) h = still_worker w i _
-quiet_step j w (SendGather (Worker i) p) h = still_worker w i _
-quiet_step j w (SendGather (Client c) p) h = quiet_client w c (ClientAsk p) (λ d. ask_step d p)
-quiet_step j w (ServeGather p a n) h = q_serve w p (parcel_of a p n w.requests)
-quiet_step j w (ArriveGather a p n) h = q_answer w (parcel_of a p n w.answers)
-quiet_step j w (FailGather a p) h = q_fails w a p (open_ask w a p)
-quiet_step j w Balance h = still_sched w BalanceSched
-quiet_step j w Evict h = still_sched w EvictSched
-quiet_step j w (Spill i k) h = stays (w.clients 1)
-quiet_step j w (LoseSpilled i k) h = still_worker w i _
+quiet_step j w (DeliverFromClient c) h = q_from_client _ w c (w.from_client c)
+quiet_step j w (Start i) h = still_worker _ w i _
+quiet_step j w (Finish i k) h = still_worker _ w i _
+quiet_step j w (SendGather (Worker i) p) h = still_worker _ w i _
+quiet_step j w (SendGather (Client c) p) h = quiet_client _ w c (ClientAsk p) (λ d. ask_step _ d p)
+quiet_step j w (ServeGather p a n) h = q_serve _ w p (parcel_of a p n w.requests)
+quiet_step j w (ArriveGather a p n) h = q_answer _ w (parcel_of a p n w.answers)
+quiet_step j w (FailGather a p) h = q_fails _ w a p (open_ask w a p)
+quiet_step j w Balance h = still_sched _ w BalanceSched
+quiet_step j w Evict h = still_sched _ w EvictSched
+quiet_step j w (Spill i k) h = stays _ (w.clients 1)
+quiet_step j w (LoseSpilled i k) h = still_worker _ w i _

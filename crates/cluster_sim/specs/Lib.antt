@@ -1,6 +1,7 @@
 pub mod Drawn
 pub mod Plans
 pub mod Standing
+pub mod Seen
 pub mod Passing
 pub mod Scripts
 pub mod Courses

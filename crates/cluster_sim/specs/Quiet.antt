@@ -1,5 +1,5 @@
 -- Lists of progress events, against the bound on them.
-use Rattle.std.specs.Prelude.{◌≡◌, ℕ, true, List, [], ◌∷◌, ◌++◌, Contains, length}
+use Rattle.std.specs.Prelude.{◌≡◌, true, List, [], ◌∷◌, ◌++◌, Contains, length}
 use Rattle.cluster_msgs.specs.declared.events.Event.{Event}
 use Rattle.cluster_rules.specs.Worker.{has_any}
 use Rattle.cluster_rules.specs.World.{Job, World, rest}

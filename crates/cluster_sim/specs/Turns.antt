@@ -7,6 +7,7 @@ use Rattle.cluster_world.specs.declared.state.Course.TheVariants.{Going}
 use Rattle.cluster_world.specs.Worlds.{world, setting, running}
 use Rattle.cluster_rules.specs.Runs.{event_limit}
 use Rattle.cluster_sim.specs.Drawn.{word_of, IsAtTurn}
+use Rattle.cluster_sim.specs.Seen.{IsSeen}
 use Rattle.cluster_sim.specs.Standing.{sim_of, IsStanding, left}
 use Rattle.cluster_sim.specs.Courses.{Course}
 use Rattle.cluster_sim.specs.Simulations.{GoesOn}
@@ -19,6 +20,7 @@ use Rattle.cluster_sim.specs.declared.act.SimError.TheVariants.{Turns, Feed, Spe
 pub record IsBetween {J B F : Type 0} (p : Plan) (wanted : List ℕ) (s : State J B F) (r : Run) : Type 0 where
   pub going : s.course ≡ Going
   pub standing : IsStanding p wanted (world s) r.standing
+  pub seen : IsSeen wanted ((world s).clients 1) r.seen
   pub turns : r.standing.turns ≤ s.events
 
 -- what it is by a feed that tells what it holds: its events so far are those that the number draws

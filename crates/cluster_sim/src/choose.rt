@@ -8,6 +8,7 @@ ghost use Rattle.cluster_rules.specs.Draw.{Plan, next, next_by as after_script, 
 ghost use Rattle.cluster_world.specs.Worlds.{world as world_of};
 ghost use Rattle.cluster_world.specs.declared.state.Course.TheVariants.{Going};
 ghost use Rattle.cluster_sim.specs.Plans.{plan_of, IsPlan};
+ghost use Rattle.cluster_sim.specs.Seen.{IsSeen};
 ghost use Rattle.cluster_sim.specs.Standing.{sim_of, next_by, IsStanding};
 ghost use Rattle.cluster_sim.specs.Passing.{IsChoice};
 
@@ -15,6 +16,7 @@ use crate::choice::{Choice, Kind};
 use crate::ended::end_of;
 use crate::plan::SimPlan;
 use crate::script::next_item;
+use crate::seen::Seen;
 use crate::standing::Standing;
 use cluster_msgs::{Event, JobSpec, KeyList};
 use cluster_world::World;
@@ -30,16 +32,18 @@ pub fn choose<J: JobSpec>(
     plan: &SimPlan,
     wanted: &KeyList,
     standing: &Standing,
+    seen: &Seen,
     word: u32,
 ) -> Choice
     requires going { world.now.course ≡ Going }
     requires plan { IsPlan (plan_of plan.now) }
     requires standing { IsStanding (plan_of plan.now) wanted.now (world_of world.now) standing.now }
+    requires seen { IsSeen wanted.now ((world_of world.now).clients 1) seen.now }
     ensures next { (words : ℕ → ℕ) → words standing.now.turns ≡ word →
         next_by plan.now.script result ≡ next words (plan_of plan.now) (sim_of (plan_of plan.now) (world_of world.now) standing.now) }
     ensures kind { IsChoice ((world_of world.now).clients 1) (key_count (shape_of (world_of world.now))) (length plan.now.script) standing.now result }
 {
-    match end_of(world, wanted) {
+    match end_of(seen, wanted) {
         Some(end) => Choice::Over {
             failure: end.failure,
         },

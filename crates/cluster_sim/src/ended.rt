@@ -2,14 +2,16 @@
 ghost use Rattle.std.specs.Prelude.{◌≡◌, ◌<◌, ℕ, true, false, is_some, find, option_and_then, Some, None};
 ghost use Rattle.std.specs.List.{list_all};
 ghost use Rattle.std.specs.Option.{option_map};
-ghost use Rattle.cluster_rules.specs.Client.{client_keys};
+ghost use Rattle.cluster_rules.specs.Client.{ClientFacts, client_keys};
 ghost use Rattle.cluster_rules.specs.Derived.{is_in};
 ghost use Rattle.cluster_rules.specs.World.{shape_of};
 ghost use Rattle.cluster_rules.specs.Draw.{over};
 ghost use Rattle.cluster_msgs.specs.Shape.{key_count};
 ghost use Rattle.cluster_world.specs.Worlds.{world as world_of};
+ghost use Rattle.cluster_sim.specs.Seen.{IsSeen};
 ghost use Rattle.cluster_sim.specs.Standing.{IsFor};
 
+use crate::seen::Seen;
 use cluster_msgs::{End, JobSpec, KeyList};
 use cluster_world::World;
 
@@ -22,19 +24,18 @@ pub struct Ending {
     pub failure: Option<u32>,
 }
 
-/// The end, once the client has failed on a key, of which the least counts, or has got all that it wants.
-pub fn end_of<J: JobSpec>(world: &World<J>, wanted: &KeyList) -> Option<Ending>
-    requires client { IsFor wanted.now ((world_of world.now).clients 1) }
-    requires shape { ((world_of world.now).clients 1).shape ≡ shape_of (world_of world.now) }
-    requires keys { (k : ℕ) → is_in k wanted.now ≡ true → k < key_count (shape_of (world_of world.now)) }
-    ensures { option_map (λ e. e.failure) result ≡ over ((world_of world.now).clients 1) }
+/// The end, once the client has failed on a key, of which the least counts, or has got all that it wants, by what was seen of
+/// the client.
+pub fn end_of(seen: &Seen, wanted: &KeyList) -> Option<Ending>
+    ensures { (c : ClientFacts) → IsSeen wanted.now c seen.now → IsFor wanted.now c → ((k : ℕ) → is_in k wanted.now ≡ true → k < key_count c.shape) →
+        option_map (λ e. e.failure) result ≡ over c }
 {
-    match least_failure(world) {
+    match seen.failure {
         Some(blame) => Some(Ending {
             failure: Some(blame),
         }),
         None => {
-            if has_all(world, wanted.as_slice()) {
+            if seen.got == wanted.as_slice().len() {
                 Some(Ending { failure: None })
             } else {
                 None
@@ -44,7 +45,7 @@ pub fn end_of<J: JobSpec>(world: &World<J>, wanted: &KeyList) -> Option<Ending>
 }
 
 /// The blame of the least key that the client has failed on.
-fn least_failure<J: JobSpec>(world: &World<J>) -> Option<u32>
+pub fn least_failure<J: JobSpec>(world: &World<J>) -> Option<u32>
     requires fresh { (k : ℕ) → is_some (((world_of world.now).clients 1).failed k) ≡ true → ((world_of world.now).clients 1).got k ≡ false }
     requires shape { ((world_of world.now).clients 1).shape ≡ shape_of (world_of world.now) }
     ensures { let c = (world_of world.now).clients 1 in result ≡ option_and_then c.failed (find (λ k. is_some (c.failed k)) (client_keys c)) }
@@ -71,19 +72,8 @@ fn failure_of<J: JobSpec>(world: &World<J>, key: u32) -> Option<u32>
     }
 }
 
-/// Whether the client has got each of these keys.
-fn has_all<J: JobSpec>(world: &World<J>, keys: &[u32]) -> bool
-    ensures { result ≡ list_all ((world_of world.now).clients 1).got keys.now }
-{
-    for key in keys {
-        if !has_got(world, *key) {
-            return false;
-        }
-    }
-    true
-}
-
-fn has_got<J: JobSpec>(world: &World<J>, key: u32) -> bool
+/// Whether the client has got a key.
+pub fn has_got<J: JobSpec>(world: &World<J>, key: u32) -> bool
     ensures { result ≡ ((world_of world.now).clients 1).got key }
 {
     match world.done(CLIENT, key) {

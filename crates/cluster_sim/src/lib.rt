@@ -14,6 +14,7 @@ mod opening;
 pub mod plan;
 pub mod run;
 pub mod script;
+pub mod seen;
 pub mod standing;
 mod turn;
 pub mod whole;

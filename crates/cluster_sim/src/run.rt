@@ -4,14 +4,16 @@ ghost use Rattle.cluster_sim.specs.Drawn.{IsAtTurn};
 ghost use Rattle.cluster_sim.specs.Passing.{after, CanPass};
 
 use crate::choice::Kind;
+use crate::seen::Seen;
 use crate::standing::Standing;
 use crate::words::Words;
 use run_report::Tally;
 
-/// Where the simulation stands, the words to come, and the counts of its events.
+/// Where the simulation stands, what was seen of the client, the words to come, and the counts of its events.
 #[derive(Drop)]
 pub struct Run {
     pub standing: Standing,
+    pub seen: Seen,
     pub words: Words,
     pub tally: Tally,
 }
@@ -23,6 +25,7 @@ impl Run {
         ensures standing { self.new.standing ≡ after self.old.standing kind budget }
         ensures words { (number : ℕ) → IsAtTurn self.old.words number self.old.standing.turns → IsAtTurn self.new.words number self.new.standing.turns }
         ensures tally { self.new.tally ≡ self.old.tally }
+        ensures seen { self.new.seen ≡ self.old.seen }
     {
         self.standing.pass(kind, budget);
         if let Kind::Drawn = kind {

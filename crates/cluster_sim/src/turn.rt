@@ -13,6 +13,7 @@ use crate::choose::choose;
 use crate::ended::Ending;
 use crate::plan::SimPlan;
 use crate::run::Run;
+use crate::seen::tells_failure;
 use cluster_msgs::{JobSpec, KeyList};
 use cluster_world::World;
 use quiet_bound::rest;
@@ -36,12 +37,14 @@ pub fn turn<J: JobSpec>(
     ensures faults { CountsSim result (J.fault_count world.old.feed) (J.fault_count world.new.feed) }
 {
     let word = run.words.word();
-    match choose(world, plan, wanted, &run.standing, word) {
+    match choose(world, plan, wanted, &run.standing, &run.seen, word) {
         Choice::Over { failure } => Ok(Some(Ending { failure })),
         Choice::Spent => Err(SimError::Turns),
         Choice::Make { event, kind } => {
+            let told = tells_failure(world.message(&event));
             act(world, &mut run.tally, &event)?;
             run.go_on(kind, turns_left(world, kind));
+            run.seen.look(world, wanted, told);
             Ok(None)
         }
     }

@@ -18,6 +18,7 @@ use crate::ended::Ending;
 use crate::opening::make_opening;
 use crate::plan::SimPlan;
 use crate::run::Run;
+use crate::seen::Seen;
 use crate::standing::Standing;
 use crate::turn::turn;
 use crate::words::Words;
@@ -84,8 +85,14 @@ pub fn simulate<J: JobSpec>(
     world.is_safe();
     let mut tally = Tally::new(alloc);
     make_opening(world, plan, wanted, &mut tally)?;
+    let mut seen = Seen {
+        got: 0,
+        failure: None,
+    };
+    seen.look(world, wanted, false);
     let mut run = Run {
         standing: Standing::new(rest(world)),
+        seen,
         words: Words::new(number),
         tally,
     };

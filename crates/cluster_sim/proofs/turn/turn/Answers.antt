@@ -1,4 +1,4 @@
-use Rattle.std.proofs.Common.{Err, ◌++◌, ◌∷◌, [], ◌∙◌, sym, ap, refl, subst, arith}
+use Rattle.std.proofs.Common.{Err, ◌≡◌, ◌≤◌, ◌++◌, ◌∷◌, [], true, length, take, ◌∙◌, sym, ap, refl, subst, arith}
 use Rattle.std.proofs.lemmas.Result.{err_from_is_err_and}
 use Rattle.cluster_rules.specs.Enabled.{message}
 use Rattle.cluster_rules.specs.Draw.{Next, verdict}
@@ -8,11 +8,14 @@ use Rattle.run_report.specs.declared.tally.Tally.{Tally}
 use Rattle.cluster_sim.specs.declared.act.SimError.{SimError}
 use Rattle.cluster_sim.specs.Drawn.{word_of}
 use Rattle.cluster_sim.specs.Plans.{plan_of}
+use Rattle.cluster_sim.specs.Seen.{tells_failure}
 use Rattle.cluster_sim.specs.Standing.{sim_of}
-use Rattle.cluster_sim.proofs.ActLemmas.{stays_none}
+use Rattle.cluster_sim.specs.declared.seen.Seen.{Seen}
+use Rattle.std.specs.List.{list_all}
+use Rattle.cluster_sim.proofs.ActLemmas.{stays_none, not_starved}
 use Rattle.cluster_sim.proofs.TurnLemmas.{can_pass}
 use Rattle.cluster_sim.proofs.NextLemmas.{spent_waits}
-use Rattle.cluster_sim.proofs.TurnRecords.{chosen_comes, full_there, event_drawn, has_gone, has_drawn}
+use Rattle.cluster_sim.proofs.TurnRecords.{chosen_comes, full_there, event_drawn, stands_then, seen_then, has_gone, has_drawn}
 use Rattle.cluster_sim.proofs.PlayLemmas.{turn_failed, drawn_failed}
 use Rattle.cluster_sim.proofs.turn.turn.Goals as goal
 
@@ -44,6 +47,9 @@ returns-in-Spent-clause-drawn g c number d =
 
 pub returns-in-Spent-clause-stays : goal.returns-in-Spent-clause-stays
 returns-in-Spent-clause-stays g c = stays_none _ _
+
+pub choose-requires-clause-seen : goal.choose-requires-clause-seen
+choose-requires-clause-seen g c = λ κs lives. c.requires.between.seen
 
 pub act-requires-clause-going : goal.act-requires-clause-going
 act-requires-clause-going g c = λ κs lives. c.requires.between.going
@@ -78,11 +84,38 @@ go_on-requires g c =
     let r = c.in_ok-act-in-Make.ensures.done.room in
     can_pass _ _ c.args.run.now.standing c.in-Make.kind c.in-Make.ensures.kind.1 (omega (arith, t, r))
 
+pub look-requires-clause-few : goal.look-requires-clause-few
+look-requires-clause-few g c = λ κs lives. subst (λ (s : Seen). s.got ≤ length c.args.wanted.now) (sym c.go_on.ensures.seen) c.requires.between.seen.few
+
+pub look-requires-clause-before : goal.look-requires-clause-before
+look-requires-clause-before g c = λ κs lives. subst (λ (s : Seen). list_all ((world c.act.new.world).clients 1).got (take s.got c.args.wanted.now) ≡ true) (sym c.go_on.ensures.seen)
+    (seen_then _ _ (plan_of c.args.plan.now) c.args.wanted.now c.args.world.now c.act.new.world c.args.run.now c.in-Make.event c.in-Make.kind c.word-word.result
+    (record { plan = c.requires.plan; between = c.requires.between; next = c.in-Make.ensures.next; own = c.in-Make.ensures.kind.0; some = c.in-Make.ensures.kind.1 })
+    c.in_ok-act-in-Make.ensures.done).before
+
+pub look-requires-clause-silent : goal.look-requires-clause-silent
+look-requires-clause-silent g c = λ κs lives t.
+    (seen_then _ _ (plan_of c.args.plan.now) c.args.wanted.now c.args.world.now c.act.new.world c.args.run.now c.in-Make.event c.in-Make.kind c.word-word.result
+    (record { plan = c.requires.plan; between = c.requires.between; next = c.in-Make.ensures.next; own = c.in-Make.ensures.kind.0; some = c.in-Make.ensures.kind.1 })
+    c.in_ok-act-in-Make.ensures.done).silent (sym (ap tells_failure (c.message.ensures.message (not_starved _ c.requires.between.going))) ∙ sym c.tells_failure-told.ensures ∙ t)
+
+pub look-requires-clause-client : goal.look-requires-clause-client
+look-requires-clause-client g c = λ κs lives.
+    (stands_then _ _ (plan_of c.args.plan.now) c.args.wanted.now c.args.world.now c.act.new.world c.args.run.now c.in-Make.event c.in-Make.kind c.word-word.result 0
+    (record { plan = c.requires.plan; between = c.requires.between; next = c.in-Make.ensures.next; own = c.in-Make.ensures.kind.0; some = c.in-Make.ensures.kind.1 })
+    c.in_ok-act-in-Make.ensures.done).client
+
+pub look-requires-clause-shape : goal.look-requires-clause-shape
+look-requires-clause-shape g c = λ κs lives.
+    (stands_then _ _ (plan_of c.args.plan.now) c.args.wanted.now c.args.world.now c.act.new.world c.args.run.now c.in-Make.event c.in-Make.kind c.word-word.result 0
+    (record { plan = c.requires.plan; between = c.requires.between; next = c.in-Make.ensures.next; own = c.in-Make.ensures.kind.0; some = c.in-Make.ensures.kind.1 })
+    c.in_ok-act-in-Make.ensures.done).shape
+
 pub returns-in_ok-act-in-Make-clause-turn : goal.returns-in_ok-act-in-Make-clause-turn
 returns-in_ok-act-in-Make-clause-turn g c =
     has_gone g.J.JobSpec.operation g.J.JobSpec.feed_tells (plan_of c.args.plan.now) c.args.wanted.now c.args.world.now c.act.new.world c.args.run.now _ c.in-Make.event c.in-Make.kind c.word-word.result c.turns_left.result
     (record { plan = c.requires.plan; between = c.requires.between; next = c.in-Make.ensures.next; own = c.in-Make.ensures.kind.0; some = c.in-Make.ensures.kind.1 })
-    c.in_ok-act-in-Make.ensures.done c.turns_left.ensures.small c.go_on.ensures.standing
+    c.in_ok-act-in-Make.ensures.done c.turns_left.ensures.small c.go_on.ensures.standing c.look.ensures
 
 pub returns-in_ok-act-in-Make-clause-drawn : goal.returns-in_ok-act-in-Make-clause-drawn
 returns-in_ok-act-in-Make-clause-drawn g c number d =

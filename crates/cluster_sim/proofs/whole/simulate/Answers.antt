@@ -1,4 +1,4 @@
-use Rattle.std.proofs.Common.{Err, ◌<◌, ◌∙◌, sym, ap, subst}
+use Rattle.std.proofs.Common.{Err, ◌<◌, ◌∙◌, refl, sym, ap, subst, arith}
 use Rattle.cluster_msgs.specs.Shape.{Shape, key_count}
 use Rattle.cluster_world.specs.Worlds.{world}
 use Rattle.cluster_sim.specs.declared.act.SimError.{SimError}
@@ -14,7 +14,22 @@ use Rattle.cluster_sim.proofs.whole.simulate.Goals as goal
 
 pub play-requires-clause-between : goal.play-requires-clause-between
 play-requires-clause-between g c = λ κs lives.
-    opened_between _ _ (plan_of c.args.plan.now) c.args.wanted.now c.args.world.now c.make_opening.new.world _ c.rest.result c.requires.plan c.requires.wanted c.in_ok-make_opening.ensures.opened c.make_opening.ensures.stays c.new.ensures
+    opened_between _ _ (plan_of c.args.plan.now) c.args.wanted.now c.args.world.now c.make_opening.new.world _ c.rest.result c.requires.plan c.requires.wanted c.in_ok-make_opening.ensures.opened c.make_opening.ensures.stays c.new.ensures c.look.ensures
+
+pub look-requires-clause-few : goal.look-requires-clause-few
+look-requires-clause-few g c = λ κs lives. omega arith
+
+pub look-requires-clause-before : goal.look-requires-clause-before
+look-requires-clause-before g c = λ κs lives. refl
+
+pub look-requires-clause-silent : goal.look-requires-clause-silent
+look-requires-clause-silent g c = λ κs lives t. c.in_ok-make_opening.ensures.opened.opened.fresh
+
+pub look-requires-clause-client : goal.look-requires-clause-client
+look-requires-clause-client g c = λ κs lives. c.in_ok-make_opening.ensures.opened.opened.client
+
+pub look-requires-clause-shape : goal.look-requires-clause-shape
+look-requires-clause-shape g c = λ κs lives. c.in_ok-make_opening.ensures.opened.opened.shape
 
 pub returns-clause-served : goal.returns-clause-served
 returns-clause-served g c told =
