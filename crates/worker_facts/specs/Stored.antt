@@ -1,5 +1,5 @@
 -- The facts of a worker as they are kept, in rows by key, and what the rows mean.
-use Rattle.std.specs.Prelude.{◌≡◌, ℕ, Bool, false, not, ◌&&◌, List, [], Option, Some, None, is_some, length, ◌==◌, cond, filter, find, min}
+use Rattle.std.specs.Prelude.{◌≡◌, ℕ, Bool, false, not, ◌&&◌, List, [], ◌∷◌, Option, Some, None, is_some, length, ◌==◌, cond, filter, find, min}
 use Rattle.cluster_msgs.specs.Shape.{Shape, key_count, deps_of, IsShape}
 use Rattle.cluster_rules.specs.Functions.{count, from_one}
 use Rattle.cluster_rules.specs.Derived.{below, is_in}
@@ -62,6 +62,11 @@ waiters g pend k = count (λ j. pend j && is_in k (deps_of g j)) (below (key_cou
 abbrev pub asked_items : Option Ask → ℕ → Option (List (ℕ × ℕ))
 asked_items None n = None
 asked_items (Some a) n = cond (a.number == n) (Some a.items) None
+
+-- without the first ask to this peer
+abbrev pub without_first : List Ask → ℕ → List Ask
+without_first [] p = []
+without_first (a ∷ bs) p = cond (a.peer == p) bs (a ∷ without_first bs p)
 
 -- a task of the worker depends on the key
 abbrev pub uses_key : WorkerFacts → ℕ → ℕ → Bool

@@ -192,7 +192,7 @@ impl WorkerTable {
     }
 
     /// How many of these items, from the first, go into one ask.
-    fn fitting_count(&self, items: &[(u32, u64)]) -> usize
+    pub fn fitting_count(&self, items: &[(u32, u64)]) -> usize
         ensures { result ≡ fitting_count (facts_of self.now).shape items.now }
     {
         let mut bytes = 0;
