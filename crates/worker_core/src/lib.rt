@@ -2,7 +2,7 @@
 //! to carry out ("Worker State Machine" of Dask.distributed,
 //! <https://distributed.dask.org/en/stable/worker-state.html>).
 //!
-//! A core touches no block, no thread and no connection. `worker_facts` stands below, with the stored facts and the
+//! A core touches no block, no thread and no connection. `worker_table` stands below, with the stored facts and the
 //! questions about them, `fact_rows` and `open_asks`, with marks of peers, and `cluster_rules`, with the table of events.
 //! The worlds of the simulator and the running nodes stand above. It carries a part of *part correctness*: on each event,
 //! also one that no honest peer sends, the facts and the instructions go exactly by the table.

@@ -13,7 +13,7 @@ ghost use Rattle.worker_core.specs.Core.{step_of, refused_keys};
 use crate::push::{push_added, push_key_where, push_where};
 use cluster_msgs::{Down, Holders, Instruction, Instructions, KeyList, Up};
 use std::alloc::{AllocError, Global};
-use worker_facts::WorkerTable;
+use worker_table::WorkerTable;
 use worker_facts::marks::named_keys;
 
 /// What a message of the scheduler does.

@@ -1,12 +1,14 @@
 -- The keys that an open ask names.
-use Rattle.std.proofs.Common.{◌≡◌, ℕ, ◌<◌, Bool, true, false, not, ◌||◌, List, [], ◌∷◌, Some, None, refl, sym, ap, ◌∙◌, subst, arith, cond, All, find, length, get_or, suc, ◌+◌}
+use Rattle.std.proofs.Common.{◌≡◌, ℕ, ◌<◌, Bool, true, false, not, ◌||◌, List, [], ◌∷◌, Option, Some, None, is_some, refl, sym, ap, ◌∙◌, subst, arith, cond, All, find, length, get_or, suc, ◌+◌}
 use Rattle.std.specs.Prelude.{◌==◌, nat_lt}
 use Rattle.std.specs.List.{list_any, insert, position_or_len}
 use Rattle.std.proofs.lemmas.Bool.{true≢false, false≢true, eq-eqb}
+use Rattle.std.proofs.lemmas.List.Sums.{prefix_len-le-length}
 use Rattle.std.proofs.lemmas.List.Elements.{All-nil, All-cons}
-use Rattle.cluster_rules.specs.Worker.{Ask, names_key, is_asked_for, ask_to, without_ask}
+use Rattle.cluster_rules.specs.Worker.{Ask, WorkerFacts, names_key, is_asked_for, ask_to, with_ask, without_ask}
 use Rattle.worker_facts.specs.Stored.{without_first}
-use Rattle.worker_facts.proofs.AskLemmas.{asked-first}
+use Rattle.worker_facts.proofs.AskLemmas.{asked-first, without_first-none, put_in}
+use Rattle.worker_facts.proofs.FactLemmas.{with_ask-insert}
 
 -- each item of a list whose keys are all named below n
 pub items_below : (n : ℕ) (is : List (ℕ × ℕ)) → ((k : ℕ) → list_any (λ (i : ℕ × ℕ). i.0 == k) is ≡ true → k < n) → All (λ (i : ℕ × ℕ). i.0 < n) is
@@ -41,10 +43,44 @@ without-none p (a ∷ bs) h = pick (a.peer == p) h (without-none p bs)
     pick true e r = cc
     pick false e r = ap (λ xs. a ∷ xs) (r e)
 
-pub first_shorter : (p : ℕ) (asks : List Ask) (a : Ask) → ask_to asks p ≡ Some a → length (without_first asks p) < length asks
-first_shorter p [] a h = cc
-first_shorter p (b ∷ bs) a h = pick (b.peer == p) h (first_shorter p bs a)
+pub first_shorter : (p : ℕ) (asks : List Ask) → is_some (ask_to asks p) ≡ true → length (without_first asks p) < length asks
+first_shorter p [] h = absurd (false≢true h)
+first_shorter p (b ∷ bs) h = pick (b.peer == p) h (first_shorter p bs)
   where
-    pick : (t : Bool) → cond t (Some b) (ask_to bs p) ≡ Some a → (ask_to bs p ≡ Some a → length (without_first bs p) < length bs) → length (cond t bs (b ∷ without_first bs p)) < suc (length bs)
+    pick : (t : Bool) → is_some (cond t (Some b) (ask_to bs p)) ≡ true → (is_some (ask_to bs p) ≡ true → length (without_first bs p) < length bs) → length (cond t bs (b ∷ without_first bs p)) < suc (length bs)
     pick true e r = omega arith
     pick false e r = let s = r e in omega (arith, s)
+
+none_of : {A : Type 0} (o : Option A) → is_some o ≡ false → o ≡ None
+none_of None e = refl
+none_of (Some x) e = absurd (true≢false e)
+
+-- one more is closed
+pub closed_one : (p : ℕ) (w v h : WorkerFacts) → v ≡ record w { asks = v.asks } → h ≡ record v { asks = without_first v.asks p } → h ≡ record w { asks = h.asks }
+closed_one p w v h same e = e ∙ ap (λ (u : WorkerFacts). record u { asks = without_first v.asks p }) same ∙ ap (λ (bs : List Ask). record w { asks = bs }) (sym (ap (λ (u : WorkerFacts). u.asks) e))
+
+pub closed_rest : (p : ℕ) (w v h : WorkerFacts) → without_ask v.asks p ≡ without_ask w.asks p → h ≡ record v { asks = without_first v.asks p } → without_ask h.asks p ≡ without_ask w.asks p
+closed_rest p w v h rest e = ap (λ (u : WorkerFacts). without_ask u.asks p) e ∙ without-first_step p v.asks ∙ rest
+
+-- none is left
+pub closed_all : (p : ℕ) (w v h : WorkerFacts) → v ≡ record w { asks = v.asks } → without_ask v.asks p ≡ without_ask w.asks p → h ≡ record v { asks = without_first v.asks p } → is_some (ask_to v.asks p) ≡ false → h ≡ record w { asks = without_ask w.asks p }
+closed_all p w v h same rest e none =
+    let n : ask_to v.asks p ≡ None = none_of (ask_to v.asks p) none in
+    e ∙ ap (λ (u : WorkerFacts). record u { asks = without_first v.asks p }) same ∙ ap (λ (bs : List Ask). record w { asks = bs }) (without_first-none p v.asks n ∙ sym (without-none p v.asks n) ∙ rest)
+
+-- an ask that was opened is at its place
+with_ask-length : (a : Ask) (bs : List Ask) → length (with_ask a bs) ≡ suc (length bs)
+with_ask-length a [] = refl
+with_ask-length a (b ∷ bs) = pick (nat_lt a.peer b.peer) (with_ask-length a bs)
+  where
+    pick : (t : Bool) → length (with_ask a bs) ≡ suc (length bs) → length (cond t (a ∷ b ∷ bs) (b ∷ with_ask a bs)) ≡ suc (suc (length bs))
+    pick true r = refl
+    pick false r = ap suc r
+
+pub place_low : (a : Ask) (bs : List Ask) (n : ℕ) → n ≡ position_or_len (λ (b : Ask). nat_lt a.peer b.peer) bs → n < length (with_ask a bs)
+place_low a bs n e = let l = prefix_len-le-length (λ (b : Ask). not (nat_lt a.peer b.peer)) bs in omega (arith, e, l, with_ask-length a bs)
+
+pub opened_at : (a d : Ask) (bs : List Ask) (n : ℕ) → n ≡ position_or_len (λ (b : Ask). nat_lt a.peer b.peer) bs → get_or (with_ask a bs) n d ≡ a
+opened_at a d bs n e =
+    let l = prefix_len-le-length (λ (b : Ask). not (nat_lt a.peer b.peer)) bs in
+    ap (λ xs. get_or xs n d) (sym (ap (λ m. insert bs m a) e ∙ with_ask-insert a bs)) ∙ put_in bs a d n (omega (arith, e, l))

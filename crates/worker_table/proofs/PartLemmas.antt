@@ -117,7 +117,7 @@ count_put f h key m n to e l was now =
     let d : n ≡ count (put f.running key to) (below (key_count f.shape)) = cancel n m _ _ _ _ now was r in
     d ∙ sym (ap running_count e)
   where
-    inner : (j : ℕ) (b : Bool) → (j == key) ≡ b → cond (cond b to (f.running j)) 1 0 ≡ cond b (cond to 1 0) (cond (f.running j) 1 0)
+    inner : (j : ℕ) (b : Bool) → (j == key) ≡ b → ◌≡◌ {A = ℕ} (cond (cond b to (f.running j)) 1 0) (cond b (cond to 1 0) (cond (f.running j) 1 0))
     inner j true q = refl
     inner j false q = refl
 

@@ -1,12 +1,15 @@
 -- Searches over the keys by the first of a set.
-use Rattle.std.proofs.Common.{◌≡◌, ℕ, zero, suc, ◌+◌, ◌-◌, ◌<◌, ◌≤◌, Bool, true, false, ◌||◌, List, [], ◌∷◌, ◌++◌, Option, Some, None, refl, sym, ap, ◌∙◌, subst, arith, cond, filter, find, ⊎_elim}
-use Rattle.std.specs.List.{list_any}
+use Rattle.std.proofs.Common.{◌≡◌, ℕ, zero, suc, ◌+◌, ◌-◌, ◌<◌, ◌≤◌, Bool, true, false, ◌||◌, List, [], ◌∷◌, ◌++◌, Option, Some, None, refl, sym, ap, ◌∙◌, subst, arith, cond, filter, find, is_some, IfSome, ⊎_elim}
+use Rattle.std.specs.Prelude.{◌==◌}
+use Rattle.std.specs.List.{list_any, filter_map, cons_option}
+use Rattle.std.specs.Option.{option_map}
 use Rattle.std.proofs.lemmas.Bool.{true≢false, cases_lt}
 use Rattle.cluster_rules.specs.Derived.{below}
+use Rattle.cluster_rules.specs.Worker.{has_any, item_at}
 use Rattle.cluster_rules.proofs.FunctionLemmas.{same_function}
 use Rattle.cluster_rules.proofs.SchedLemmas.{filter-below}
 use Rattle.key_sets.specs.Sets.{IsFirst}
-use Rattle.worker_facts.proofs.FactLemmas.{find_below, find_push}
+use Rattle.worker_facts.proofs.FactLemmas.{find_below, find_push, any_below, any_picked}
 
 pub first_same : (p q : ℕ → Bool) (a : ℕ) (o : Option ℕ) → ((k : ℕ) → p k ≡ q k) → IsFirst p a o → IsFirst q a o
 first_same p q a o e h = subst (λ (t : ℕ → Bool). IsFirst t a o) (same_function p q e) h
@@ -39,3 +42,35 @@ filter-gap p a b l h = subst (λ m. filter p (below m) ≡ filter p (below a)) (
 -- one more key that passes
 pub filter-next : (p : ℕ → Bool) (a k : ℕ) → a ≤ k → p k ≡ true → ((j : ℕ) → a ≤ j → j < k → p j ≡ false) → filter p (below (k + 1)) ≡ filter p (below a) ++ k ∷ []
 filter-next p a k l e h = filter-below p k ∙ ap (λ b. filter p (below k) ++ cond b (k ∷ []) []) e ∙ ap (λ xs. xs ++ k ∷ []) (filter-gap p a k l h)
+
+-- one more key that is looked up
+pub any-push : {A : Type 0} (h : ℕ → Option A) (xs : List ℕ) (k : ℕ) → has_any (filter_map h (xs ++ k ∷ [])) ≡ (has_any (filter_map h xs) || is_some (h k))
+any-push {A = A} h [] k = pick (h k)
+  where
+    pick : (o : Option A) → has_any (cons_option o []) ≡ (false || is_some o)
+    pick None = refl
+    pick (Some x) = refl
+any-push {A = A} h (x ∷ xs) k = pick (h x) (any-push h xs k)
+  where
+    pick : (o : Option A) → has_any (filter_map h (xs ++ k ∷ [])) ≡ (has_any (filter_map h xs) || is_some (h k)) → has_any (cons_option o (filter_map h (xs ++ k ∷ []))) ≡ (has_any (cons_option o (filter_map h xs)) || is_some (h k))
+    pick None r = r
+    pick (Some y) r = refl
+
+-- a key that passes and has something
+pub any_at : {A : Type 0} (h : ℕ → Option A) (q : ℕ → Bool) (k n : ℕ) → k < n → q k ≡ true → is_some (h k) ≡ true → has_any (filter_map h (filter q (below n))) ≡ true
+any_at h q k n l e d = any_picked h q (below n) ∙ any_below (λ j. is_some (cond (q j) (h j) None)) k n l (ap (λ b. is_some (cond b (h k) None)) e ∙ d)
+
+-- a peer that holds a key
+pub holder : (p k : ℕ) (hs : List (ℕ × ℕ)) → list_any (λ (i : ℕ × ℕ). i.0 == p) hs ≡ is_some (item_at p k hs)
+holder p k [] = refl
+holder p k (h ∷ hs) = pick (h.0 == p) (holder p k hs)
+  where
+    pick : (b : Bool) → list_any (λ (i : ℕ × ℕ). i.0 == p) hs ≡ is_some (item_at p k hs)
+        → (b || list_any (λ (i : ℕ × ℕ). i.0 == p) hs) ≡ is_some {T = ℕ × ℕ} (option_map (λ (c : ℕ). (k, c)) (option_map (λ (i : ℕ × ℕ). i.1) (cond b (Some h) (find (λ (i : ℕ × ℕ). i.0 == p) hs))))
+    pick true r = refl
+    pick false r = r
+
+-- a set without greater numbers has a first below them
+pub first_within : (p : ℕ → Bool) (n a : ℕ) (o : Option ℕ) → ((k : ℕ) → n ≤ k → p k ≡ false) → IsFirst p a o → IfSome o (λ r. r < n)
+first_within p n a None out h = tt
+first_within p n a (Some r) out h = ⊎_elim (λ l. l) (λ l. absurd (true≢false (sym h.1 ∙ out r l))) (cases_lt r n)

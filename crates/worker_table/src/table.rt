@@ -214,10 +214,11 @@ impl WorkerTable {
         ensures { facts_of self.new ≡ record (facts_of self.old) { running = put (facts_of self.old).running key to } }
     {
         self.facts.sound();
-        self.count = recounted(self.count, self.facts.is_running(key), to);
+        let count = recounted(self.count, self.facts.is_running(key), to);
         self.facts.set_running(key, to);
         self.plan.look(&self.facts, key);
         self.plan.look_all(&self.facts, self.facts.deps(key));
+        self.count = count;
     }
 
     /// The block is held, or no longer is.
@@ -289,7 +290,7 @@ impl WorkerTable {
     pub fn close_ask(&mut self, peer: u32)
         ensures { facts_of self.new ≡ record (facts_of self.old) { asks = without_ask (facts_of self.old).asks peer } }
     {
-        while self.close_first(peer) {}
+        'asks: while self.close_first(peer) {}
     }
 
     /// Closes the first ask to a peer, and says whether there was one.

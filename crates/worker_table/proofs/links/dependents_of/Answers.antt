@@ -5,7 +5,7 @@ use Rattle.worker_table.proofs.LinkLemmas.{linked_none, linked_more, deps_within
 use Rattle.worker_table.proofs.links.dependents_of.Goals as goal
 
 pub loop-key-init : goal.loop-key-init
-loop-key-init c = linked_none c.args.shape.now c.in_ok-lists.x.items (c.in_ok-lists.ensures.length ∙ c.keys.ensures) c.in_ok-lists.ensures.empty
+loop-key-init c = linked_none c.args.shape.now c.in_ok-lists.lists.items (c.in_ok-lists.ensures.length ∙ c.keys.ensures) c.in_ok-lists.ensures.empty
 
 pub name_at-requires : goal.name_at-requires
 name_at-requires c =

@@ -1,4 +1,7 @@
-use Rattle.std.proofs.Common.{ℕ, true, false, arith, get_or}
+use Rattle.std.proofs.Common.{ℕ, true, false, ap, ◌∙◌, arith, get_or}
+use Rattle.std.specs.Prelude.{◌==◌}
+use Rattle.std.specs.List.{list_any}
+use Rattle.std.proofs.lemmas.List.{take_all}
 use Rattle.std.proofs.lemmas.Bool.{false≢true}
 use Rattle.worker_facts.specs.Stored.{facts_of}
 use Rattle.worker_table.proofs.PlanLemmas.{looked_more, leaves_more}
@@ -17,3 +20,6 @@ loop-item-preserved c = record {
   others = leaves_more (λ (x : ℕ × ℕ). x.0) c.args.self.now c.loop-item.self c.look.new.self c.args.items.now c.loop-item.item-index (0, 0) (omega arith) c.loop-item.invariant.others c.look.ensures.others;
   room = λ n r. c.look.ensures.room n (c.loop-item.invariant.room n r);
 }
+
+pub returns-clause-others : goal.returns-clause-others
+returns-clause-others c = λ q k e a. c.loop-item.invariant.others q k (ap (list_any (λ (i : ℕ × ℕ). i.0 == k)) (take_all c.loop-item.item-index c.args.items.now (omega arith)) ∙ e) a

@@ -1,4 +1,5 @@
-use Rattle.std.proofs.Common.{◌≡◌, ◌<◌, ◌∙◌, ◌+◌, cond, ap, sym, refl, arith, ℕ, None, Some, Bool, true, false}
+use Rattle.std.proofs.Common.{◌≡◌, ◌<◌, ◌∙◌, ◌+◌, cond, ap, sym, refl, arith, ℕ, None, Some, Bool, true, false, [], length}
+use Rattle.std.proofs.lemmas.List.{get_or_read}
 use Rattle.cluster_msgs.specs.Shape.{key_count, deps_of}
 use Rattle.cluster_rules.specs.Functions.{put}
 use Rattle.cluster_rules.specs.Derived.{is_in}
@@ -24,7 +25,8 @@ look_all-requires-clause-keys c =
     let a = c.self.inside in
     let f = facts_of a.facts in
     let low : c.args.key < key_count f.shape = rw (← c.self.view_is) at c.requires in
-    let h = c.as_slice in let i = c.index in ?
+    let is : c.as_slice.result.now ≡ dependents a.dependents.items c.args.key = c.as_slice.ensures ∙ get_or_read a.dependents.items c.args.key c.index.result.now (omega (arith, low, c.self.invariant.linked.long)) c.index.ensures [] in
+    rw (is, c.set_in_memory.ensures) (c.self.invariant.linked.within c.args.key)
 
 pub invariant_of-self : goal.invariant_of-self
 invariant_of-self c =
@@ -33,7 +35,7 @@ invariant_of-self c =
     let h = facts_of c.set_in_memory.new.self in
     let e : h ≡ record f { mem = put f.mem c.args.key c.args.to } = c.set_in_memory.ensures in
     let low : c.args.key < key_count f.shape = rw (← c.self.view_is) at c.requires in
-    let is : c.as_slice.result.now ≡ dependents a.dependents.items c.args.key = ? in
+    let is : c.as_slice.result.now ≡ dependents a.dependents.items c.args.key = c.as_slice.ensures ∙ get_or_read a.dependents.items c.args.key c.index.result.now (omega (arith, low, c.self.invariant.linked.long)) c.index.ensures [] in
     fits_twice f h a.dependents.items a.plan c.look.new.self c.look_all.new.self a.count _ c.args.key (dependents a.dependents.items c.args.key) (ap (λ w. w.shape) e) low (c.self.invariant.linked.within c.args.key) c.self.invariant
     (λ k d x. mem_apart f c.args.key k c.args.to d (not_dependent f.shape a.dependents.items c.args.key k c.self.invariant.linked x) ∙ ap (λ w. parts w k) (sym e))
     c.look.ensures.here c.look.ensures.others c.look.ensures.room (λ k t. c.look_all.ensures.here k (ap (is_in k) is ∙ t)) (λ q k t z. c.look_all.ensures.others q k (ap (is_in k) is ∙ t) z) c.look_all.ensures.room

@@ -1,4 +1,5 @@
-use Rattle.std.proofs.Common.{◌≡◌, ◌<◌, ◌∙◌, ◌+◌, cond, ap, sym, refl, arith, ℕ, None, Some, Bool, true, false}
+use Rattle.std.proofs.Common.{◌≡◌, ◌<◌, ◌∙◌, ◌+◌, cond, ap, sym, refl, arith, ℕ, None, Some, Bool, true, false, [], length}
+use Rattle.std.proofs.lemmas.List.{get_or_read}
 use Rattle.cluster_msgs.specs.Shape.{key_count, deps_of}
 use Rattle.cluster_rules.specs.Functions.{put}
 use Rattle.cluster_rules.specs.Derived.{is_in}
@@ -26,11 +27,11 @@ look_all-requires-clause-keys c =
     let low : c.args.key < key_count f.shape = rw (← c.self.view_is) at c.requires in
     rw (c.deps.ensures, c.set_running.ensures) (deps_within f.shape c.args.key c.sound.ensures.shape low)
 
-pub recounted-requires-clause-room : goal.recounted-requires-clause-room
-recounted-requires-clause-room c = omega (arith, count_few (facts_of c.self.inside.facts) c.self.inside.count c.self.invariant.count, c.sound.ensures.shape.few)
+pub recounted-count-requires-clause-room : goal.recounted-count-requires-clause-room
+recounted-count-requires-clause-room c = omega (arith, count_few (facts_of c.self.inside.facts) c.self.inside.count c.self.invariant.count, c.sound.ensures.shape.few)
 
-pub recounted-requires-clause-there : goal.recounted-requires-clause-there
-recounted-requires-clause-there c t =
+pub recounted-count-requires-clause-there : goal.recounted-count-requires-clause-there
+recounted-count-requires-clause-there c t =
     let low : c.args.key < key_count (facts_of c.self.inside.facts).shape = rw (← c.self.view_is) at c.requires in
     count_there (facts_of c.self.inside.facts) c.args.key c.self.inside.count low c.self.invariant.count (sym c.is_running.ensures ∙ t)
 
@@ -45,4 +46,4 @@ invariant_of-self c =
     fits_twice f h a.dependents.items a.plan c.look.new.self c.look_all.new.self a.count _ c.args.key (deps_of f.shape c.args.key) (ap (λ w. w.shape) e) low (deps_within f.shape c.args.key c.sound.ensures.shape low) c.self.invariant
     (λ k d x. running_apart f c.args.key k c.args.to d x ∙ ap (λ w. parts w k) (sym e))
     c.look.ensures.here c.look.ensures.others c.look.ensures.room (λ k t. c.look_all.ensures.here k (ap (is_in k) is ∙ t)) (λ q k t z. c.look_all.ensures.others q k (ap (is_in k) is ∙ t) z) c.look_all.ensures.room
-    (count_put f h c.args.key a.count _ c.args.to e low c.self.invariant.count (ap (λ b. c.recounted.result + cond b 1 0) (sym c.is_running.ensures) ∙ c.recounted.ensures))
+    (count_put f h c.args.key a.count _ c.args.to e low c.self.invariant.count (ap (λ b. c.recounted-count.result + cond b 1 0) (sym c.is_running.ensures) ∙ c.recounted-count.ensures))
