@@ -23,3 +23,11 @@ keys-preserved c =
       long = c.mark_holders.ensures.length ∙ c.keys.invariant.long;
       low = omega (arith, c.in-Some.ensures.within);
     }
+
+pub returns-clause-marked : goal.returns-clause-marked
+unfolding client_fetchable
+returns-clause-marked c = λ p h.
+    let f = facts_of c.args.table.now in
+    c.keys.invariant.marked p h
+    ∙ sym (any-gap (λ (j : ℕ). is_some (open_item f p j)) c.keys.from (key_count f.shape) c.keys.invariant.low (λ j l m. ap is_some (unheld f p j (c.in_default.ensures.first j l))))
+    ∙ sym (any_picked (λ (k : ℕ). item_at p k (f.located k)) (is_open f) (client_keys f))

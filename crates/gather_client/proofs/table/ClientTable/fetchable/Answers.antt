@@ -19,3 +19,9 @@ keys-preserved c =
           ∙ sym (picked (λ (k : ℕ). item_at c.args.peer k (f.located k)) (is_open f) c.in-Some.key);
       low = omega (arith, c.in-Some.ensures.within);
     }
+
+pub returns : goal.returns
+unfolding client_fetchable
+returns c =
+    let f = facts_of c.args.self.now in
+    c.keys.invariant.made ∙ sym (picked-gap (λ (k : ℕ). item_at c.args.peer k (f.located k)) (is_open f) c.keys.from (key_count f.shape) c.keys.invariant.low (λ j l m. unheld f c.args.peer j (c.in_default.ensures.first j l)))

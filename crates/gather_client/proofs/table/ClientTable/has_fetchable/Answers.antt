@@ -26,3 +26,11 @@ keys-preserved c =
           (ap is_some (sym c.open_item.ensures) ∙ sym c.is_some.ensures ∙ c.if-is_some.false);
       low = omega (arith, c.in-Some.ensures.within);
     }
+
+pub returns : goal.returns
+unfolding client_fetchable
+returns c =
+    let f = facts_of c.args.self.now in
+    sym (any_picked (λ (k : ℕ). item_at c.args.peer k (f.located k)) (is_open f) (client_keys f)
+    ∙ any-gap (λ (k : ℕ). is_some (open_item f c.args.peer k)) c.keys.from (key_count f.shape) c.keys.invariant.low (λ j l m. ap is_some (unheld f c.args.peer j (c.in_default.ensures.first j l)))
+    ∙ c.keys.invariant.none)
