@@ -1,5 +1,5 @@
 //! Loops that mark keys, and count them.
-ghost use Rattle.std.specs.Prelude.{◌≡◌, ◌==◌, ◌||◌, ◌&&◌, not, ◌+◌, ◌<◌, ◌≤◌, ◌^◌, ℕ, cond, true, false, length, IfOk, All};
+ghost use Rattle.std.specs.Prelude.{◌≡◌, ◌==◌, ◌||◌, ◌&&◌, not, ◌+◌, ◌<◌, ◌≤◌, ◌^◌, ℕ, cond, true, false, length, All};
 ghost use Rattle.std.specs.List.{list_any};
 ghost use Rattle.std.specs.List.Sorted.{IsStrictlyIncreasing};
 ghost use Rattle.cluster_rules.specs.Derived.{is_in};
@@ -8,7 +8,6 @@ ghost use Rattle.fact_rows.specs.Rows.{read};
 
 use crate::asks::OpenAsk;
 use fact_rows::Row;
-use std::alloc::{AllocError, Global};
 
 /// Marks a key, where the row has it.
 fn mark_key(row: &mut Row<bool>, key: u32)
@@ -18,20 +17,6 @@ fn mark_key(row: &mut Row<bool>, key: u32)
     if (key as usize) < row.len() {
         row.set(key, true);
     }
-}
-
-/// A row of this many keys in which these are marked.
-///
-/// # Errors
-/// Where no memory is left.
-pub fn named_keys(alloc: Global, count: u32, keys: &[u32]) -> Result<Row<bool>, AllocError>
-    ensures { IfOk result (λ row. (k : ℕ) → k < count → read row false k ≡ is_in k keys.now) }
-{
-    let mut row = Row::filled(alloc, count as usize, false)?;
-    for key in keys {
-        mark_key(&mut row, *key);
-    }
-    Ok(row)
 }
 
 /// Marks the keys of these items.
