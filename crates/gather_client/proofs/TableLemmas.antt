@@ -1,8 +1,9 @@
 -- What is kept of the keys that pass, and searches over them.
-use Rattle.std.proofs.Common.{◌≡◌, ℕ, zero, suc, ◌+◌, ◌-◌, ◌<◌, ◌≤◌, Bool, true, false, ◌&&◌, ◌||◌, List, [], ◌∷◌, ◌++◌, Option, Some, None, is_some, is_none, refl, sym, ap, ◌∙◌, arith, cond, filter, subst, IfSome, ⊎_elim}
+use Rattle.std.proofs.Common.{◌≡◌, ℕ, zero, suc, ◌+◌, ◌-◌, ◌<◌, ◌≤◌, Bool, true, false, ◌&&◌, ◌||◌, List, [], ◌∷◌, ◌++◌, Option, Some, None, is_some, is_none, refl, sym, ap, ◌∙◌, arith, cond, filter, subst, IfSome, not, length, ⊎_elim}
 use Rattle.std.specs.Prelude.{◌==◌, min}
 use Rattle.std.specs.List.{list_any, filter_map, cons_option}
 use Rattle.std.proofs.lemmas.Bool.{false≢true, true≢false, cases_lt}
+use Rattle.std.proofs.lemmas.Bool.Decides.{nat_tests}
 use Rattle.std.proofs.lemmas.List.Elements.{filter_map-append}
 use Rattle.cluster_rules.specs.Derived.{below}
 use Rattle.cluster_rules.specs.Worker.{has_any, item_at}
@@ -113,3 +114,10 @@ first_same p q a o e h = subst (λ (t : ℕ → Bool). IsFirst t a o) (same_func
 pub first_within : (p : ℕ → Bool) (n a : ℕ) (o : Option ℕ) → ((k : ℕ) → n ≤ k → p k ≡ false) → IsFirst p a o → IfSome o (λ r. r < n)
 first_within p n a None out h = tt
 first_within p n a (Some r) out h = ⊎_elim (λ l. l) (λ l. absurd (true≢false (sym h.1 ∙ out r l))) (cases_lt r n)
+
+pub any_is : {A : Type 0} (xs : List A) → not (length xs == 0) ≡ has_any xs
+any_is [] = refl
+any_is (x ∷ xs) = ap not (more (length xs))
+  where
+    more : (n : ℕ) → (suc n == 0) ≡ false
+    more n = grind (arith, nat_tests)

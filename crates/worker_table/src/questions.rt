@@ -8,8 +8,8 @@ ghost use Rattle.key_sets.specs.Sets.{has, IsFirst};
 ghost use Rattle.worker_facts.specs.Stored.{facts_of, first_ready};
 
 use crate::table::WorkerTable;
-use open_asks::{item_at, push_item};
 use cluster_msgs::{KeyList, WState};
+use open_asks::{item_at, push_item};
 use std::alloc::{AllocError, Global};
 
 impl WorkerTable {

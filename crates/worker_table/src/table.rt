@@ -228,7 +228,8 @@ impl WorkerTable {
     {
         self.facts.set_in_memory(key, to);
         self.plan.look(&self.facts, key);
-        self.plan.look_all(&self.facts, self.dependents[key as usize].as_slice());
+        self.plan
+            .look_all(&self.facts, self.dependents[key as usize].as_slice());
     }
 
     /// The scheduler was asked who holds the key, or has answered.

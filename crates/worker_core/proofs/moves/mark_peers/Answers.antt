@@ -31,4 +31,4 @@ unfolding fetchable
 returns-clause-marked c = λ p h.
     let f = facts_of c.args.table.now in
     c.keys.invariant.marked p h
-    ∙ ap (λ ks. has_any (filter_map (λ (j : ℕ). item_at p j (f.holders j)) ks)) (sym (filter-gap (λ (j : ℕ). is_fetch_state (wstate f j)) c.keys.from (key_count f.shape) c.keys.invariant.low (λ j l m. ?)))
+    ∙ ap (λ ks. has_any (filter_map (λ (j : ℕ). item_at p j (f.holders j)) ks)) (sym (filter-gap (λ (j : ℕ). is_fetch_state (wstate f j)) c.keys.from (key_count f.shape) c.keys.invariant.low (λ j l m. c.in_default.ensures.first j l)))
