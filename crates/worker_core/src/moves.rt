@@ -1,7 +1,7 @@
 //! The peers that hold a key to fetch, marked anew after each event by the keys that are to be fetched.
 #![tactic(auto)]
 
-ghost use Rattle.std.specs.Prelude.{◌≡◌, ◌<◌, ℕ, length, IfOk};
+ghost use Rattle.std.specs.Prelude.{◌≡◌, ◌<◌, ℕ, false, length, IfOk};
 ghost use Rattle.cluster_rules.specs.Worker.{fetchable, has_any, would_ask};
 ghost use Rattle.fact_rows.specs.Rows.{read};
 ghost use Rattle.worker_facts.specs.Stored.{facts_of};

@@ -9,7 +9,7 @@ use Rattle.worker_core.proofs.MoveLemmas.{filter-step, in_all, and_none, and_nam
 use Rattle.worker_core.proofs.told.refused_keys.Goals as goal
 
 pub name_all-requires : goal.name_all-requires
-name_all-requires c = λ k d l. omega (arith, c.requires k d l, c.in_ok-named.ensures.room, c.keys.ensures)
+name_all-requires c = λ k d l. omega (arith, c.requires k d l, c.in_ok-named.ensures.room, c.keys-2.ensures)
 
 pub keys-preserved : goal.keys-preserved
 keys-preserved c =
