@@ -33,3 +33,21 @@ returns c =
     let ks = c.args.keys.now in
     let named : (j : ℕ) → has c.name_all.new.set j ≡ is_in j ks = λ j. c.name_all.ensures j ∙ ap (λ b. b || is_in j ks) (c.in_ok-named.ensures.keys j) in
     c.keys.invariant.made ∙ sym (filter-gap (λ (j : ℕ). is_in j ks && (f.mem j && awaited f j)) c.keys.from (key_count f.shape) c.keys.invariant.low (λ j l m. and_none (is_in j ks) (f.mem j && awaited f j) (sym (named j) ∙ c.in_default.ensures j l)))
+
+pub overflow_add-from : goal.overflow_add-from
+overflow_add-from c =
+    let f = facts_of c.args.table.now in
+    let ks = c.args.keys.now in
+    let k = c.in-Some.key in
+    let there : is_in k ks ≡ true = sym (c.name_all.ensures k ∙ ap (λ b. b || is_in k ks) (c.in_ok-named.ensures.keys k)) ∙ c.in-Some.ensures.1 in
+    let low : k < key_count f.shape = in_all (λ j. j < key_count f.shape) k ks there c.requires in
+    omega (arith, low, c.sound.ensures.shape.few)
+
+pub keys-smaller : goal.keys-smaller
+keys-smaller c =
+    let f = facts_of c.args.table.now in
+    let ks = c.args.keys.now in
+    let k = c.in-Some.key in
+    let there : is_in k ks ≡ true = sym (c.name_all.ensures k ∙ ap (λ b. b || is_in k ks) (c.in_ok-named.ensures.keys k)) ∙ c.in-Some.ensures.1 in
+    let low : k < key_count f.shape = in_all (λ j. j < key_count f.shape) k ks there c.requires in
+    omega (arith, low, c.in-Some.ensures.0)
