@@ -1,11 +1,17 @@
 -- What is kept of the keys that pass, and searches over them.
-use Rattle.std.proofs.Common.{◌≡◌, ℕ, ◌+◌, ◌<◌, Bool, true, false, ◌&&◌, ◌||◌, List, [], ◌∷◌, ◌++◌, Option, Some, None, is_some, is_none, refl, sym, ap, ◌∙◌, arith, cond, filter}
-use Rattle.std.specs.Prelude.{min}
+use Rattle.std.proofs.Common.{◌≡◌, ℕ, zero, suc, ◌+◌, ◌-◌, ◌<◌, ◌≤◌, Bool, true, false, ◌&&◌, ◌||◌, List, [], ◌∷◌, ◌++◌, Option, Some, None, is_some, is_none, refl, sym, ap, ◌∙◌, arith, cond, filter, subst, IfSome, not, length, ⊎_elim}
+use Rattle.std.specs.Prelude.{◌==◌, min}
 use Rattle.std.specs.List.{list_any, filter_map, cons_option}
-use Rattle.std.proofs.lemmas.Bool.{false≢true}
+use Rattle.std.proofs.lemmas.Bool.{false≢true, true≢false, cases_lt}
+use Rattle.std.proofs.lemmas.Bool.Decides.{nat_tests}
 use Rattle.std.proofs.lemmas.List.Elements.{filter_map-append}
 use Rattle.cluster_rules.specs.Derived.{below}
-use Rattle.cluster_rules.specs.Worker.{has_any}
+use Rattle.cluster_rules.specs.Worker.{has_any, item_at}
+use Rattle.cluster_rules.specs.Client.{ClientFacts, is_open}
+use Rattle.fact_rows.specs.Rows.{read}
+use Rattle.key_sets.specs.Sets.{has, IsFirst}
+use Rattle.gather_client.specs.Steps.{open_item}
+use Rattle.cluster_rules.proofs.FunctionLemmas.{same_function}
 use Rattle.cluster_rules.proofs.DerivedLemmas.{any_append}
 use Rattle.cluster_rules.proofs.SchedLemmas.{below-more, filter-below}
 use Rattle.cluster_rules.proofs.Members.{range_to, any_some}
@@ -49,3 +55,69 @@ ask_else (Some x) b h e z = refl
 
 pub pair_more : (t p l m : ℕ) → t ≡ min p m → min (t + l) m ≡ min (p + l) m
 pair_more t p l m h = omega (arith, h)
+
+-- nothing of the keys in between
+any-step : (p : ℕ → Bool) (a d : ℕ) → ((k : ℕ) → a ≤ k → k < a + d → p k ≡ false) → list_any p (below (a + d)) ≡ list_any p (below a)
+any-step p a zero h = ap (λ m. list_any p (below m)) (let e : a + 0 ≡ a = omega arith in e)
+any-step p a (suc d) h =
+    ap (λ m. list_any p (below m)) (let e : a + suc d ≡ a + d + 1 = omega arith in e)
+    ∙ ap (list_any p) (below-more (a + d)) ∙ any_append p (below (a + d)) ((a + d) ∷ [])
+    ∙ ap (λ b. list_any p (below (a + d)) || (b || false)) (h (a + d) (omega arith) (omega arith))
+    ∙ none (list_any p (below (a + d)))
+    ∙ any-step p a d (λ k l m. h k l (omega arith))
+  where
+    none : (b : Bool) → (b || false) ≡ b
+    none true = refl
+    none false = refl
+
+pub any-gap : (p : ℕ → Bool) (a b : ℕ) → a ≤ b → ((k : ℕ) → a ≤ k → k < b → p k ≡ false) → list_any p (below b) ≡ list_any p (below a)
+any-gap p a b l h = subst (λ m. list_any p (below m) ≡ list_any p (below a)) (let e : a + (b - a) ≡ b = omega arith in e) (any-step p a (b - a) (λ k m n. h k m (omega arith)))
+
+picked-step : {A : Type 0} (h : ℕ → Option A) (q : ℕ → Bool) (a d : ℕ) → ((k : ℕ) → a ≤ k → k < a + d → cond (q k) (h k) None ≡ None) → filter_map h (filter q (below (a + d))) ≡ filter_map h (filter q (below a))
+picked-step h q a zero n = ap (λ m. filter_map h (filter q (below m))) (let e : a + 0 ≡ a = omega arith in e)
+picked-step h q a (suc d) n =
+    ap (λ m. filter_map h (filter q (below m))) (let e : a + suc d ≡ a + d + 1 = omega arith in e)
+    ∙ picked h q (a + d)
+    ∙ ap (λ o. filter_map h (filter q (below (a + d))) ++ cons_option o []) (n (a + d) (omega arith) (omega arith))
+    ∙ append-nil (filter_map h (filter q (below (a + d))))
+    ∙ picked-step h q a d (λ k l m. n k l (omega arith))
+  where
+    append-nil : {B : Type 0} (xs : List B) → xs ++ [] ≡ xs
+    append-nil [] = refl
+    append-nil (x ∷ xs) = ap (λ ys. x ∷ ys) (append-nil xs)
+
+pub picked-gap : {A : Type 0} (h : ℕ → Option A) (q : ℕ → Bool) (a b : ℕ) → a ≤ b → ((k : ℕ) → a ≤ k → k < b → cond (q k) (h k) None ≡ None) → filter_map h (filter q (below b)) ≡ filter_map h (filter q (below a))
+picked-gap h q a b l n = subst (λ m. filter_map h (filter q (below m)) ≡ filter_map h (filter q (below a))) (let e : a + (b - a) ≡ b = omega arith in e) (picked-step h q a (b - a) (λ k m i. n k m (omega arith)))
+
+-- a key that nobody holds
+pub unheld : (c : ClientFacts) (p k : ℕ) → has_any (c.located k) ≡ false → open_item c p k ≡ None
+unheld c p k e = pick (is_open c k) (c.located k) e
+  where
+    pick : (b : Bool) (hs : List (ℕ × ℕ)) → has_any hs ≡ false → cond b (item_at p k hs) None ≡ None
+    pick true [] e = refl
+    pick false [] e = refl
+    pick b (x ∷ hs) e = absurd (true≢false e)
+
+-- the set of the keys that somebody holds, after one key's list changed
+pub held_put : (set new : List ℕ) (rows rows' : List (List (ℕ × ℕ))) (key : ℕ) (to : List (ℕ × ℕ)) (b : Bool) → b ≡ has_any to → ((k : ℕ) → has set k ≡ has_any (read rows [] k)) → ((k : ℕ) → has new k ≡ cond (k == key) b (has set k))
+    → ((k : ℕ) → read rows' [] k ≡ cond (k == key) to (read rows [] k)) → (k : ℕ) → has new k ≡ has_any (read rows' [] k)
+held_put set new rows rows' key to b e was now put k = now k ∙ pick (k == key) ∙ sym (ap has_any (put k))
+  where
+    pick : (t : Bool) → cond t b (has set k) ≡ has_any (cond t to (read rows [] k))
+    pick true = e
+    pick false = was k
+
+-- the first of a set, by what the set stands for
+pub first_same : (p q : ℕ → Bool) (a : ℕ) (o : Option ℕ) → ((k : ℕ) → p k ≡ q k) → IsFirst p a o → IsFirst q a o
+first_same p q a o e h = subst (λ (t : ℕ → Bool). IsFirst t a o) (same_function p q e) h
+
+pub first_within : (p : ℕ → Bool) (n a : ℕ) (o : Option ℕ) → ((k : ℕ) → n ≤ k → p k ≡ false) → IsFirst p a o → IfSome o (λ r. r < n)
+first_within p n a None out h = tt
+first_within p n a (Some r) out h = ⊎_elim (λ l. l) (λ l. absurd (true≢false (sym h.1 ∙ out r l))) (cases_lt r n)
+
+pub any_is : {A : Type 0} (xs : List A) → not (length xs == 0) ≡ has_any xs
+any_is [] = refl
+any_is (x ∷ xs) = ap not (more (length xs))
+  where
+    more : (n : ℕ) → (suc n == 0) ≡ false
+    more n = grind (arith, nat_tests)

@@ -40,9 +40,12 @@ fn mark_each(row: &mut Row<bool>, table: &ClientTable)
     ensures marked { (p : ℕ) → p < length row.old → read row.new false p ≡ has_any (client_fetchable (facts_of table.now) p) }
     ensures length { length row.new ≡ length row.old }
 {
+    table.sound();
     row.fill(false);
-    for key in 0..table.keys() {
+    let mut from = 0;
+    'keys: while let Some(key) = table.next_held(from) {
         mark_holders(row, table, key);
+        from = key + 1;
     }
 }
 

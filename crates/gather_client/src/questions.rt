@@ -50,10 +50,13 @@ impl ClientTable {
     fn has_fetchable(&self, peer: u32) -> bool
         ensures { result ≡ has_any (client_fetchable (facts_of self.now) peer) }
     {
-        for key in 0..self.keys() {
+        self.sound();
+        let mut from = 0;
+        'keys: while let Some(key) = self.next_held(from) {
             if self.open_item(peer, key).is_some() {
                 return true;
             }
+            from = key + 1;
         }
         false
     }
@@ -65,9 +68,12 @@ impl ClientTable {
     fn fetchable(&self, peer: u32) -> Result<Vec<(u32, u64)>, AllocError>
         ensures { IfOk result (λ items. items.items ≡ client_fetchable (facts_of self.now) peer) }
     {
+        self.sound();
         let mut items = Vec::new(self.allocator());
-        for key in 0..self.keys() {
+        let mut from = 0;
+        'keys: while let Some(key) = self.next_held(from) {
             push_item(&mut items, self.open_item(peer, key))?;
+            from = key + 1;
         }
         Ok(items)
     }

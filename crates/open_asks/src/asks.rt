@@ -5,7 +5,7 @@ ghost use Rattle.std.specs.Option.{option_copied, option_map};
 ghost use Rattle.cluster_rules.specs.Worker.{Ask, ask_to, with_ask, without_ask, is_asked_for};
 ghost use Rattle.open_asks.specs.Kept.{asked_items};
 
-use crate::marks::mark_asked;
+use crate::marks::{mark_asked, mark_items, unmark_asked};
 use fact_rows::Row;
 use std::alloc::{AllocError, Global};
 use std::marker::Model;
@@ -146,7 +146,7 @@ impl Asks {
     {
         let place = place_for(self.asks.as_slice(), peer);
         self.asks.insert(place, OpenAsk::new(peer, number, items))?;
-        mark_asked(&mut self.flying, self.asks.as_slice());
+        mark_items(&mut self.flying, self.asks[place].items());
         Ok(())
     }
 
@@ -154,6 +154,7 @@ impl Asks {
     pub fn close(&mut self, peer: u32)
         ensures { self.new ≡ record self.old { asks = without_ask self.old.asks peer } }
     {
+        unmark_asked(&mut self.flying, self.asks.as_slice(), peer);
         self.asks.retain(|ask| ask.peer() != peer);
         mark_asked(&mut self.flying, self.asks.as_slice());
     }

@@ -10,7 +10,7 @@ use Rattle.worker_core.specs.declared.worker.WorkerCore.TheInside.{Inside}
 abbrev pub seen_core : Inside → Core
 seen_core a = record { stored = a.table; stopped = a.stopped; events = a.events }
 
--- what it could do next is worked out. Until it stops, it keeps what each worker keeps, runs no more tasks than it has threads, and has
+-- which peers hold a key to fetch is worked out. Until it stops, it keeps what each worker keeps, runs no more tasks than it has threads, and has
 -- counted no more messages and asks than events
 pub record IsCore (a : Inside) : Type 0 where
   pub limit : a.events ≤ event_limit

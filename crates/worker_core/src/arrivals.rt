@@ -10,7 +10,7 @@ ghost use Rattle.worker_core.specs.Core.{step_of, arrivals_of};
 use crate::push::push_added;
 use cluster_msgs::{Holders, Instruction, Instructions, KeyList, Up};
 use std::alloc::{AllocError, Global};
-use worker_facts::WorkerTable;
+use worker_table::WorkerTable;
 
 /// A block comes: it is no longer asked for, sought or held elsewhere to be fetched.
 fn take_in(alloc: Global, table: &mut WorkerTable, key: u32)

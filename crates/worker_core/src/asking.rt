@@ -12,7 +12,7 @@ use crate::arrivals::arrive_all;
 use crate::push::keys_of;
 use cluster_msgs::{Holders, Instruction, Instructions, Up};
 use std::alloc::{AllocError, Global};
-use worker_facts::WorkerTable;
+use worker_table::WorkerTable;
 
 /// A peer is asked for the keys to fetch that it holds, as many as fit one ask.
 #[tactic(auto, unfolding(cluster_rules::specs::WorkerStep::ask_peer))]

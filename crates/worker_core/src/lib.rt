@@ -2,8 +2,9 @@
 //! to carry out ("Worker State Machine" of Dask.distributed,
 //! <https://distributed.dask.org/en/stable/worker-state.html>).
 //!
-//! A core touches no block, no thread and no connection. `worker_facts` stands below, with the stored facts and the
-//! questions about them, `fact_rows` and `open_asks`, with marks of peers, and `cluster_rules`, with the table of events.
+//! A core touches no block, no thread and no connection. `worker_table` stands below, with the facts, stored so that no
+//! event passes over all keys, and the questions about them, `fact_rows` and `open_asks`, with marks of peers, `key_sets`,
+//! with the keys that a message names, and `cluster_rules`, with the table of events.
 //! The worlds of the simulator and the running nodes stand above. It carries a part of *part correctness*: on each event,
 //! also one that no honest peer sends, the facts and the instructions go exactly by the table.
 #![tactic(auto)]

@@ -4,17 +4,16 @@
 ghost use Rattle.std.specs.Prelude.{◌≡◌, ◌∷◌, ◌<◌, ◌^◌, All, [], true, IfOk, OnOk};
 ghost use Rattle.cluster_msgs.specs.Shape.{key_count};
 ghost use Rattle.cluster_rules.specs.Worker.{would_start};
-ghost use Rattle.cluster_rules.specs.WorkerStep.{start, lose_data, unasked_keys, ask_holders, worker_row, worker_step, worker_takes};
+ghost use Rattle.cluster_rules.specs.WorkerStep.{start, lose_data, ask_holders, worker_row, worker_step, worker_takes};
 ghost use Rattle.worker_facts.specs.Stored.{facts_of};
 ghost use Rattle.worker_core.specs.Core.{step_of};
 
 use crate::arrivals::finish_run;
 use crate::asking::{ask_peer, gather};
-use crate::push::push_key_where;
 use crate::told::take_down;
-use cluster_msgs::{Instruction, Instructions, KeyList, Up, WorkerEvent};
+use cluster_msgs::{Instruction, Instructions, Up, WorkerEvent};
 use std::alloc::{AllocError, Global};
-use worker_facts::WorkerTable;
+use worker_table::WorkerTable;
 
 /// What an event does.
 #[tactic(auto, unfolding(cluster_rules::specs::WorkerStep::worker_step))]
@@ -29,7 +28,7 @@ pub fn step(
     ensures { IfOk result (λ out. step_of table.new out ≡ worker_step (facts_of table.old) event.now) }
 {
     let mut made = own_row(alloc, table, event)?;
-    let unasked = unasked_keys(alloc, table)?;
+    let unasked = table.unasked_keys(alloc)?;
     ask_holders(table, unasked.as_slice(), &mut made)?;
     Ok(made)
 }
@@ -81,17 +80,6 @@ fn lose_data(alloc: Global, table: &mut WorkerTable, key: u32) -> Result<Instruc
     made.push(Instruction::Send(Up::ReleaseWorkerData { seen, key }))?;
     table.set_in_memory(key, false);
     Ok(made)
-}
-
-/// The missing keys whose holders the scheduler wasn't asked for, ascending.
-fn unasked_keys(alloc: Global, table: &WorkerTable) -> Result<KeyList, AllocError>
-    ensures { IfOk result (λ keys. keys ≡ unasked_keys (facts_of table.now)) }
-{
-    let mut keys = KeyList::new(alloc);
-    for key in 0..table.keys() {
-        push_key_where(&mut keys, table.is_missing(key) & !table.is_asked(key), key)?;
-    }
-    Ok(keys)
 }
 
 /// The scheduler is asked who holds these keys.

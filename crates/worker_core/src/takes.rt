@@ -6,7 +6,7 @@ ghost use Rattle.cluster_rules.specs.WorkerStep.{is_key, are_keys, are_named, ta
 ghost use Rattle.worker_facts.specs.Stored.{facts_of};
 
 use cluster_msgs::{Down, Holders, WorkerEvent};
-use worker_facts::WorkerTable;
+use worker_table::WorkerTable;
 
 /// Whether the event is possible.
 #[tactic(auto, unfolding(cluster_rules::specs::WorkerStep::worker_takes))]

@@ -1,20 +1,21 @@
 //! What the scheduler's messages do.
 #![tactic(auto)]
 
-ghost use Rattle.std.specs.Prelude.{◌≡◌, ◌++◌, ◌∷◌, ◌&&◌, ◌<◌, ◌^◌, ℕ, All, [], filter, cond, false, true, IfOk, OnOk, Some};
+ghost use Rattle.std.specs.Prelude.{◌≡◌, ◌++◌, ◌∷◌, ◌||◌, ◌&&◌, ◌<◌, ◌^◌, ℕ, All, [], filter, cond, false, true, IfOk, OnOk, Some};
 ghost use Rattle.std.specs.List.{fold};
 ghost use Rattle.cluster_msgs.specs.Shape.{key_count};
 ghost use Rattle.cluster_rules.specs.Worker.{worker_keys, awaited};
 ghost use Rattle.cluster_rules.specs.Derived.{is_in};
 ghost use Rattle.cluster_rules.specs.WorkerStep.{others, set_holders, given, free_key, each_key, quiet, yields, asked_back, remove_replica, remove_replicas, acquire, refresh, take_down, taken, takes_down};
+ghost use Rattle.key_sets.specs.Sets.{has, room};
 ghost use Rattle.worker_facts.specs.Stored.{facts_of};
 ghost use Rattle.worker_core.specs.Core.{step_of, refused_keys};
 
 use crate::push::{push_added, push_key_where, push_where};
 use cluster_msgs::{Down, Holders, Instruction, Instructions, KeyList, Up};
+use key_sets::KeySet;
 use std::alloc::{AllocError, Global};
-use worker_facts::WorkerTable;
-use worker_facts::marks::named_keys;
+use worker_table::WorkerTable;
 
 /// What a message of the scheduler does.
 #[tactic(auto, unfolding(cluster_rules::specs::WorkerStep::take_down))]
@@ -196,15 +197,30 @@ fn remove_replica(
     Ok(())
 }
 
+/// Puts these keys into a set.
+fn name_all(set: &mut KeySet, keys: &[u32])
+    requires { All (λ k. k < room set.old) keys.now }
+    ensures { (k : ℕ) → has set.new k ≡ (has set.old k || is_in k keys.now) }
+{
+    for key in keys {
+        set.insert(*key);
+    }
+}
+
 /// The keys that stay though they are to go: a pending task needs each. They ascend.
 fn refused_keys(alloc: Global, table: &WorkerTable, keys: &[u32]) -> Result<KeyList, AllocError>
+    requires { All (λ k. k < key_count (facts_of table.now).shape) keys.now }
     ensures { IfOk result (λ list. list ≡ refused_keys (facts_of table.now) keys.now) }
 {
-    let named = named_keys(alloc, table.keys(), keys)?;
+    table.sound();
+    let mut named = KeySet::new(alloc, table.keys())?;
+    name_all(&mut named, keys);
     let mut list = KeyList::new(alloc);
-    for key in 0..table.keys() {
+    let mut from = 0;
+    'keys: while let Some(key) = named.first_from(from) {
         let stays = table.in_memory(key) & table.is_awaited(key);
-        push_key_where(&mut list, named.test(key as usize) & stays, key)?;
+        push_key_where(&mut list, stays, key)?;
+        from = key + 1;
     }
     Ok(list)
 }

@@ -21,7 +21,7 @@ use crate::takes::takes;
 use cluster_msgs::{GraphShape, Instructions, Stop, WState, WorkerEvent};
 use std::alloc::{AllocError, Global};
 use std::marker::Model;
-use worker_facts::WorkerTable;
+use worker_table::WorkerTable;
 
 /// A core takes at most this many events.
 const EVENT_LIMIT: u64 = 1_099_511_627_776;
@@ -169,7 +169,7 @@ impl WorkerCore {
     pub fn would_start(&self) -> Option<u32>
         ensures { result ≡ would_start (facts self.now) }
     {
-        self.moves.start
+        self.table.would_start()
     }
 
     /// Whether an ask to this peer is possible: none is open, and it holds a key to fetch.
@@ -197,7 +197,7 @@ impl WorkerCore {
     pub fn next_run(&self, from: u32) -> Option<u32>
         ensures { IsNextRun (facts self.now) from result }
     {
-        self.moves.next_run(&self.table, from)
+        self.table.next_run(from)
     }
 
     /// The number of the open ask to a peer, if one is open.

@@ -1,9 +1,9 @@
 -- The facts of a worker as they are kept, in rows by key, and what the rows mean.
-use Rattle.std.specs.Prelude.{◌≡◌, ℕ, Bool, false, not, ◌&&◌, List, [], Option, Some, None, is_some, length, ◌==◌, cond, filter, find, min}
+use Rattle.std.specs.Prelude.{◌≡◌, ℕ, Bool, false, not, ◌&&◌, List, [], ◌∷◌, Option, Some, None, is_some, length, ◌==◌, cond, filter, find, min}
 use Rattle.cluster_msgs.specs.Shape.{Shape, key_count, deps_of, IsShape}
 use Rattle.cluster_rules.specs.Functions.{count, from_one}
 use Rattle.cluster_rules.specs.Derived.{below, is_in}
-use Rattle.cluster_rules.specs.Worker.{Ask, WorkerFacts, worker_keys, flying, is_wanted, wstate, is_ready_state, is_fetch_state, item_at, first_fit}
+use Rattle.cluster_rules.specs.Worker.{Ask, WorkerFacts, worker_keys, flying, is_wanted, wstate, is_ready_state, first_fit}
 use Rattle.fact_rows.specs.Rows.{read}
 
 pub record Stored : Type 0 where
@@ -63,6 +63,11 @@ abbrev pub asked_items : Option Ask → ℕ → Option (List (ℕ × ℕ))
 asked_items None n = None
 asked_items (Some a) n = cond (a.number == n) (Some a.items) None
 
+-- without the first ask to this peer
+abbrev pub without_first : List Ask → ℕ → List Ask
+without_first [] p = []
+without_first (a ∷ bs) p = cond (a.peer == p) bs (a ∷ without_first bs p)
+
 -- a task of the worker depends on the key
 abbrev pub uses_key : WorkerFacts → ℕ → ℕ → Bool
 uses_key w k j = is_some (w.mine j) && is_in k (deps_of w.shape j)
@@ -74,10 +79,6 @@ is_lacking w k = not (w.mem k) && (not (w.running k) && (not (flying w k) && (no
 -- the least ready task
 abbrev pub first_ready : WorkerFacts → Option ℕ
 first_ready w = find (λ k. is_ready_state (wstate w k)) (worker_keys w)
-
--- the key with the copy that a peer holds, where it is to be fetched
-abbrev pub fetch_item : WorkerFacts → ℕ → ℕ → Option (ℕ × ℕ)
-fetch_item w p k = cond (is_fetch_state (wstate w k)) (item_at p k (w.holders k)) None
 
 -- how many of these items, from the first, go into one ask
 abbrev pub fitting_count : Shape → List (ℕ × ℕ) → ℕ

@@ -1,5 +1,5 @@
 //! An open ask: what a worker has asked of a peer.
-ghost use Rattle.std.specs.Prelude.{◌≡◌, ◌<◌, ◌≤◌, ℕ, nat_lt, length};
+ghost use Rattle.std.specs.Prelude.{◌≡◌, ◌==◌, ◌<◌, ◌≤◌, ℕ, nat_lt, length};
 ghost use Rattle.std.specs.List.{position, position_or_len};
 ghost use Rattle.std.specs.Option.{option_copied};
 ghost use Rattle.cluster_rules.specs.Worker.{Ask, ask_to};
@@ -79,4 +79,11 @@ pub fn place_for(asks: &[OpenAsk], peer: u32) -> usize
         Some(place) => place,
         None => asks.len(),
     }
+}
+
+/// The place of the first ask to this peer.
+pub fn place_of(asks: &[OpenAsk], peer: u32) -> Option<usize>
+    ensures { result ≡ position (λ (a : Ask). a.peer == peer) asks.now }
+{
+    asks.iter().position(|ask| ask.peer() == peer)
 }

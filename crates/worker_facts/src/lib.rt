@@ -2,14 +2,13 @@
 //! <https://distributed.dask.org/en/stable/worker-state.html>).
 //!
 //! A [`WorkerTable`] keeps what the scheduler gave the worker, what it holds, runs and asks for. Each call changes one
-//! fact, or answers one question: the state of a key, the task that a start would take, whether a peer can be asked.
-//! `fact_rows` stands below, with the rows, and `cluster_rules`, with the words of the contracts. `worker_core` stands
-//! above, and makes the events of these calls. It carries a part of *part correctness*: what a worker is said to do is
-//! read off its facts, as they are defined.
+//! fact, or answers one question, as the state of a key. `fact_rows` stands below, with the rows, and `cluster_rules`, with
+//! the words of the contracts. `worker_table` stands above, and keeps at hand what is asked after each event. It carries a
+//! part of *part correctness*: what a worker is said to do is read off its facts, as they are defined.
 #![tactic(auto)]
 
 mod asks;
-pub mod marks;
+mod marks;
 mod questions;
 pub mod table;
 

@@ -1,5 +1,5 @@
 //! Loops that mark keys, and count them.
-ghost use Rattle.std.specs.Prelude.{◌≡◌, ◌==◌, ◌||◌, ◌&&◌, ◌+◌, ◌<◌, ◌≤◌, ◌^◌, ℕ, cond, true, false, length, IfOk, All};
+ghost use Rattle.std.specs.Prelude.{◌≡◌, ◌==◌, ◌||◌, ◌&&◌, not, ◌+◌, ◌<◌, ◌≤◌, ◌^◌, ℕ, cond, true, false, length, All};
 ghost use Rattle.std.specs.List.{list_any};
 ghost use Rattle.std.specs.List.Sorted.{IsStrictlyIncreasing};
 ghost use Rattle.cluster_rules.specs.Derived.{is_in};
@@ -8,7 +8,6 @@ ghost use Rattle.fact_rows.specs.Rows.{read};
 
 use crate::asks::OpenAsk;
 use fact_rows::Row;
-use std::alloc::{AllocError, Global};
 
 /// Marks a key, where the row has it.
 fn mark_key(row: &mut Row<bool>, key: u32)
@@ -20,22 +19,8 @@ fn mark_key(row: &mut Row<bool>, key: u32)
     }
 }
 
-/// A row of this many keys in which these are marked.
-///
-/// # Errors
-/// Where no memory is left.
-pub fn named_keys(alloc: Global, count: u32, keys: &[u32]) -> Result<Row<bool>, AllocError>
-    ensures { IfOk result (λ row. (k : ℕ) → k < count → read row false k ≡ is_in k keys.now) }
-{
-    let mut row = Row::filled(alloc, count as usize, false)?;
-    for key in keys {
-        mark_key(&mut row, *key);
-    }
-    Ok(row)
-}
-
 /// Marks the keys of these items.
-fn mark_items(row: &mut Row<bool>, items: &[(u32, u64)])
+pub fn mark_items(row: &mut Row<bool>, items: &[(u32, u64)])
     ensures marked { (k : ℕ) → k < length row.old → read row.new false k ≡ (read row.old false k || list_any (λ i. i.0 == k) items.now) }
     ensures length { length row.new ≡ length row.old }
 {
@@ -44,12 +29,31 @@ fn mark_items(row: &mut Row<bool>, items: &[(u32, u64)])
     }
 }
 
-/// Marks the keys that these asks name, and no other.
-pub fn mark_asked(row: &mut Row<bool>, asks: &[OpenAsk])
-    ensures marked { (k : ℕ) → k < length row.old → read row.new false k ≡ is_asked_for asks.now k }
+/// Takes the mark of a key away, where the row has it.
+fn unmark_key(row: &mut Row<bool>, key: u32)
+    ensures marked { (k : ℕ) → k < length row.old → read row.new false k ≡ (read row.old false k && not (key == k)) }
     ensures length { length row.new ≡ length row.old }
 {
-    row.fill(false);
+    if (key as usize) < row.len() {
+        row.set(key, false);
+    }
+}
+
+/// Takes the marks of the keys of these items away.
+pub fn unmark_items(row: &mut Row<bool>, items: &[(u32, u64)])
+    ensures marked { (k : ℕ) → k < length row.old → read row.new false k ≡ (read row.old false k && not (list_any (λ i. i.0 == k) items.now)) }
+    ensures length { length row.new ≡ length row.old }
+{
+    for item in items {
+        unmark_key(row, item.0);
+    }
+}
+
+/// Marks the keys that these asks name.
+pub fn mark_asked(row: &mut Row<bool>, asks: &[OpenAsk])
+    ensures marked { (k : ℕ) → k < length row.old → read row.new false k ≡ (read row.old false k || is_asked_for asks.now k) }
+    ensures length { length row.new ≡ length row.old }
+{
     for ask in asks {
         mark_items(row, ask.items());
     }

@@ -1,17 +1,17 @@
 //! The stored facts of a worker. Each call changes one fact, or answers one.
 #![tactic(auto, unfolding(crate::specs::Stored::facts_of))]
 
-ghost use Rattle.std.specs.Prelude.{◌≡◌, ◌==◌, ◌&&◌, ◌+◌, ◌<◌, ◌≤◌, ◌^◌, ℕ, true, false, None, Some, [], is_some, length, IfOk, OnOk, OnErr};
+ghost use Rattle.std.specs.Prelude.{◌≡◌, ◌==◌, ◌&&◌, ◌+◌, ◌<◌, ◌≤◌, ◌^◌, ℕ, true, false, None, Some, [], is_some, nat_lt, length, slice_index_or, IfOk, OnOk, OnErr};
 ghost use Rattle.std.specs.Option.{option_map};
-ghost use Rattle.std.specs.List.{list_any};
+ghost use Rattle.std.specs.List.{list_any, position_or_len};
 ghost use Rattle.cluster_msgs.specs.Shape.{Shape, IsShape, key_count, deps_of, nbytes_of};
 ghost use Rattle.cluster_rules.specs.Functions.{put};
-ghost use Rattle.cluster_rules.specs.Worker.{Ask, WorkerFacts, new_worker, flying, awaited, pending, is_fed, has_any, is_asked_for, ask_to, with_ask, without_ask};
+ghost use Rattle.cluster_rules.specs.Worker.{Ask, WorkerFacts, new_worker, flying, awaited, pending, is_fed, has_any, is_asked_for, ask_to, with_ask};
 ghost use Rattle.fact_rows.specs.Rows.{read};
-ghost use Rattle.worker_facts.specs.Stored.{facts_of, asked_items};
+ghost use Rattle.worker_facts.specs.Stored.{facts_of, asked_items, without_first};
 
-use crate::asks::{OpenAsk, find_ask, place_for};
-use crate::marks::{mark_asked, recount};
+use crate::asks::{OpenAsk, find_ask, place_for, place_of};
+use crate::marks::{mark_asked, mark_items, recount, unmark_items};
 use cluster_msgs::{GraphShape, Holders};
 use fact_rows::Row;
 use std::alloc::{AllocError, Global};
@@ -381,16 +381,39 @@ impl WorkerTable {
         let ask = OpenAsk::new(peer, self.next_ask, items);
         self.asks.insert(place, ask)?;
         self.next_ask += 1;
-        mark_asked(&mut self.flying, self.asks.as_slice());
+        mark_items(&mut self.flying, self.asks[place].items());
         Ok(())
     }
 
-    /// Closes the ask to a peer.
-    pub fn close_ask(&mut self, peer: u32)
-        ensures { facts_of self.new ≡ record (facts_of self.old) { asks = without_ask (facts_of self.old).asks peer } }
+    /// Where an ask to this peer would have its place: before the first to a greater peer.
+    pub fn place_for(&self, peer: u32) -> usize
+        ensures { result ≡ position_or_len (λ (a : Ask). nat_lt peer a.peer) (facts_of self.now).asks }
     {
-        self.asks.retain(|ask| ask.peer() != peer);
-        mark_asked(&mut self.flying, self.asks.as_slice());
+        place_for(self.asks.as_slice(), peer)
+    }
+
+    /// The items of the ask at this place.
+    pub fn items_at(&self, place: usize) -> &[(u32, u64)]
+        requires { place < length (facts_of self.now).asks }
+        ensures { (d : Ask) → result.now ≡ (slice_index_or (facts_of self.now).asks place d).items }
+    {
+        self.asks[place].items()
+    }
+
+    /// Closes the first ask to a peer, if one is open, and gives it back.
+    pub fn take_ask(&mut self, peer: u32) -> Option<OpenAsk>
+        ensures ask { result ≡ ask_to (facts_of self.old).asks peer }
+        ensures facts { facts_of self.new ≡ record (facts_of self.old) { asks = without_first (facts_of self.old).asks peer } }
+    {
+        match place_of(self.asks.as_slice(), peer) {
+            Some(place) => {
+                let ask = self.asks.remove(place);
+                unmark_items(&mut self.flying, ask.items());
+                mark_asked(&mut self.flying, self.asks.as_slice());
+                Some(ask)
+            }
+            None => None,
+        }
     }
 }
 

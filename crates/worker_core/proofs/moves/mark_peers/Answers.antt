@@ -1,28 +1,34 @@
-use Rattle.std.proofs.Common.{◌≡◌, ◌∙◌, ◌||◌, ℕ, ap, sym, arith, is_some}
-use Rattle.std.specs.List.{list_any}
+use Rattle.std.proofs.Common.{◌≡◌, ◌∙◌, ◌||◌, ℕ, Option, Some, None, ap, sym, arith, is_some, filter, get_or, length}
+use Rattle.std.specs.Prelude.{◌==◌}
+use Rattle.std.specs.List.{list_any, filter_map}
 use Rattle.cluster_msgs.specs.Shape.{key_count}
 use Rattle.cluster_rules.specs.Derived.{below}
-use Rattle.cluster_rules.specs.Worker.{fetchable, is_fetch_state, item_at, worker_keys, wstate}
-use Rattle.worker_facts.specs.Stored.{facts_of, fetch_item}
-use Rattle.worker_facts.proofs.FactLemmas.{any_picked}
-use Rattle.worker_core.proofs.MoveLemmas.{any_more}
+use Rattle.cluster_rules.specs.Worker.{fetchable, has_any, is_fetch_state, item_at, wstate}
+use Rattle.worker_facts.specs.Stored.{facts_of}
+use Rattle.worker_table.proofs.SearchLemmas.{filter-next, filter-gap, any-push, holder}
 use Rattle.worker_core.proofs.moves.mark_peers.Goals as goal
 
-pub loop-key-preserved : goal.loop-key-preserved
-loop-key-preserved c =
+pub keys-preserved : goal.keys-preserved
+keys-preserved c =
     let f = facts_of c.args.table.now in
+    let k = c.in-Some.key in
+    let a = c.keys.from in
+    let first = c.in-Some.ensures.first in
     record {
       marked = λ p h.
-          c.mark_holders.ensures.marked p (omega (arith, c.loop-key.invariant.long))
-          ∙ ap (λ b. b || is_some (fetch_item f p c.loop-key.key)) (c.loop-key.invariant.marked p h)
-          ∙ sym (any_more (λ (k : ℕ). is_some (fetch_item f p k)) c.loop-key.key);
-      long = c.mark_holders.ensures.length ∙ c.loop-key.invariant.long;
+          c.mark_items.ensures.marked p (omega (arith, c.keys.invariant.long))
+          ∙ ap (λ b. b || list_any (λ (i : ℕ × ℕ). i.0 == p) c.holders.result.now) (c.keys.invariant.marked p h)
+          ∙ ap (λ hs. has_any (filter_map (λ (j : ℕ). item_at p j (f.holders j)) (filter (λ (j : ℕ). is_fetch_state (wstate f j)) (below a))) || list_any (λ (i : ℕ × ℕ). i.0 == p) hs) c.holders.ensures
+          ∙ ap (λ b. has_any (filter_map (λ (j : ℕ). item_at p j (f.holders j)) (filter (λ (j : ℕ). is_fetch_state (wstate f j)) (below a))) || b) (holder p k (f.holders k))
+          ∙ sym (any-push (λ (j : ℕ). item_at p j (f.holders j)) (filter (λ (j : ℕ). is_fetch_state (wstate f j)) (below a)) k)
+          ∙ ap (λ ks. has_any (filter_map (λ (j : ℕ). item_at p j (f.holders j)) ks)) (sym (filter-next (λ (j : ℕ). is_fetch_state (wstate f j)) a k first.0 first.1 first.2));
+      long = c.mark_items.ensures.length ∙ c.keys.invariant.long;
+      low = omega (arith, c.in-Some.ensures.within);
     }
 
 pub returns-clause-marked : goal.returns-clause-marked
 unfolding fetchable
 returns-clause-marked c = λ p h.
     let f = facts_of c.args.table.now in
-    c.loop-key.invariant.marked p h
-    ∙ ap (λ n. list_any (λ (k : ℕ). is_some (fetch_item f p k)) (below n)) (let e : c.loop-key.key ≡ key_count f.shape = omega (arith, c.keys-key-end.ensures) in e)
-    ∙ sym (any_picked (λ (k : ℕ). item_at p k (f.holders k)) (λ (k : ℕ). is_fetch_state (wstate f k)) (worker_keys f))
+    c.keys.invariant.marked p h
+    ∙ ap (λ ks. has_any (filter_map (λ (j : ℕ). item_at p j (f.holders j)) ks)) (sym (filter-gap (λ (j : ℕ). is_fetch_state (wstate f j)) c.keys.from (key_count f.shape) c.keys.invariant.low (λ j l m. c.in_default.ensures.first j l)))

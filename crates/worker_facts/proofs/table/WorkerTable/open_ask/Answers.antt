@@ -1,9 +1,10 @@
-use Rattle.std.proofs.Common.{◌≡◌, ◌<◌, ◌≤◌, ◌∙◌, ◌||◌, ap, sym, refl, arith, false, true, not}
-use Rattle.std.specs.Prelude.{nat_lt}
-use Rattle.std.specs.List.{insert, position_or_len}
+use Rattle.std.proofs.Common.{◌≡◌, ◌<◌, ◌≤◌, ◌∙◌, ◌||◌, ℕ, ap, sym, refl, arith, false, true, not, get_or, length}
+use Rattle.std.specs.Prelude.{◌==◌, nat_lt}
+use Rattle.std.specs.List.{insert, list_any, position_or_len}
 use Rattle.std.proofs.lemmas.List.{get_or_past}
 use Rattle.cluster_msgs.specs.Shape.{key_count}
 use Rattle.cluster_rules.specs.Worker.{Ask, is_asked_for, names_key, with_ask}
+use Rattle.worker_facts.proofs.AskLemmas.{put_in, or_turn}
 use Rattle.worker_facts.proofs.FactLemmas.{flying_all, asked-with, with_ask-insert, not_true}
 use Rattle.worker_facts.specs.Stored.{facts_of}
 use Rattle.worker_facts.proofs.table.WorkerTable.open_ask.Goals as goal
@@ -20,12 +21,20 @@ invariant_of-self-2 c =
     ∙ ap (λ x. insert a.asks.items (position_or_len (λ (b : Ask). nat_lt c.args.peer b.peer) a.asks.items) x) c.new-ask.ensures
     ∙ with_ask-insert ask a.asks.items in
     let named = rw (← c.self.view_is) at c.requires.keys in
+    let place = c.place_for-place.result in
+    let within : place ≤ length a.asks.items = omega (arith, c.place_for-place.ensures.within, ap length c.as_slice.ensures.value) in
+    let opened : c.index.result.now ≡ ask
+    = c.index.ensures ∙ ap (λ xs. get_or xs place c.index.result.now) c.in_ok-insert.ensures.items
+    ∙ put_in a.asks.items c.new-ask.result c.index.result.now place (omega arith) ∙ c.new-ask.ensures in
     record {
       rows = record { shape = v.rows.shape; mine = v.rows.mine; mem = v.rows.mem; running = v.rows.running; holders = v.rows.holders; asked = v.rows.asked; sought = v.rows.sought; failed = v.rows.failed };
-      flying_each = c.mark_asked.ensures.length ∙ v.flying_each;
+      flying_each = c.mark_items.ensures.length ∙ v.flying_each;
       awaiting_each = v.awaiting_each;
-      flying = flying_all c.mark_asked.new.row c.insert.new.self.items (key_count a.shape) (c.mark_asked.ensures.length ∙ v.flying_each)
-          (λ k h. c.mark_asked.ensures.marked k (omega (arith, h, v.flying_each)) ∙ ap (λ bs. is_asked_for bs k) c.as_slice-2.ensures.value)
+      flying = flying_all c.mark_items.new.row c.insert.new.self.items (key_count a.shape) (c.mark_items.ensures.length ∙ v.flying_each)
+          (λ k h. c.mark_items.ensures.marked k (omega (arith, h, v.flying_each))
+          ∙ ap (λ b. b || list_any (λ (i : ℕ × ℕ). i.0 == k) c.items.result.now) (v.flying k)
+          ∙ ap (λ is. is_asked_for a.asks.items k || list_any (λ (i : ℕ × ℕ). i.0 == k) is) (c.items.ensures ∙ ap (λ (x : Ask). x.items) opened)
+          ∙ or_turn (is_asked_for a.asks.items k) (names_key k ask) ∙ sym (asked-with ask a.asks.items k) ∙ sym (ap (λ bs. is_asked_for bs k) kept))
           (λ k h. ap (λ bs. is_asked_for bs k) kept ∙ asked-with ask a.asks.items k
           ∙ ap (λ b. b || is_asked_for a.asks.items k) (not_true (names_key k ask) (λ e. let l : k < key_count a.shape = named k e in omega (arith, l, h)))
           ∙ sym (v.flying k) ∙ get_or_past a.flying k false (omega (arith, h, v.flying_each)));

@@ -1,7 +1,0 @@
-use Rattle.std.proofs.Common.{◌≡◌, ◌<◌, ◌≤◌, ℕ, false}
-use Rattle.worker_facts.specs.Stored.{facts_of}
-use Rattle.worker_core.proofs.moves.Moves.next_run.Given as goal
-
--- none so far runs
-abbrev pub invariant-loop-key : goal.invariant-loop-key
-invariant-loop-key l = (k : ℕ) → l.fn.from ≤ k → k < l.key → (facts_of l.table).running k ≡ false

@@ -1,0 +1,124 @@
+-- Open asks of which the first to a peer is taken away.
+use Rattle.std.proofs.Common.{◌≡◌, ℕ, zero, suc, ◌+◌, ◌<◌, Bool, true, false, not, ◌&&◌, ◌||◌, List, [], ◌∷◌, ◌++◌, Some, None, refl, sym, ap, ◌∙◌, arith, cond, length, get_or, find, take, drop}
+use Rattle.std.specs.Prelude.{◌==◌, nat_lt}
+use Rattle.std.specs.List.{remove, insert, position_or_len, prefix_len}
+use Rattle.std.proofs.lemmas.Bool.Decides.{nat_tests}
+use Rattle.cluster_rules.specs.Worker.{Ask, names_key, is_asked_for, ask_to, with_ask}
+use Rattle.worker_facts.specs.Stored.{without_first}
+
+pub without_first-remove : (p : ℕ) (bs : List Ask) → remove bs (position_or_len (λ (b : Ask). b.peer == p) bs) ≡ without_first bs p
+without_first-remove p [] = refl
+without_first-remove p (b ∷ bs) = pick (b.peer == p) (without_first-remove p bs)
+  where
+    n : ℕ
+    n = position_or_len (λ (c : Ask). c.peer == p) bs
+
+    later : remove (b ∷ bs) (1 + n) ≡ b ∷ remove bs n
+    later = ap (λ m. remove (b ∷ bs) m) (let e : 1 + n ≡ suc n = omega arith in e)
+
+    pick : (t : Bool) → remove bs n ≡ without_first bs p → remove (b ∷ bs) (cond (not t) (1 + n) 0) ≡ cond t bs (b ∷ without_first bs p)
+    pick true r = refl
+    pick false r = later ∙ ap (λ xs. b ∷ xs) r
+
+pub found_at : (p : ℕ) (bs : List Ask) (d : Ask) → position_or_len (λ (b : Ask). b.peer == p) bs < length bs → ask_to bs p ≡ Some (get_or bs (position_or_len (λ (b : Ask). b.peer == p) bs) d)
+found_at p [] d h = absurd (omega arith)
+found_at p (b ∷ bs) d h = pick (b.peer == p) (found_at p bs d) h
+  where
+    n : ℕ
+    n = position_or_len (λ (c : Ask). c.peer == p) bs
+
+    next : get_or (b ∷ bs) (1 + n) d ≡ get_or bs n d
+    next = ap (λ m. get_or (b ∷ bs) m d) (let e : 1 + n ≡ suc n = omega arith in e)
+
+    pick : (t : Bool) → (n < length bs → ask_to bs p ≡ Some (get_or bs n d)) → cond (not t) (1 + n) 0 < suc (length bs) → cond t (Some b) (ask_to bs p) ≡ Some (get_or (b ∷ bs) (cond (not t) (1 + n) 0) d)
+    pick true r l = refl
+    pick false r l = r (omega arith) ∙ sym (ap Some next)
+
+pub found_none : (p : ℕ) (bs : List Ask) → nat_lt (position_or_len (λ (b : Ask). b.peer == p) bs) (length bs) ≡ false → ask_to bs p ≡ None
+found_none p [] h = refl
+found_none p (b ∷ bs) h = pick (b.peer == p) (found_none p bs) h
+  where
+    n : ℕ
+    n = position_or_len (λ (c : Ask). c.peer == p) bs
+
+    first : (m : ℕ) → nat_lt 0 (suc m) ≡ false → ⊥
+    first m e = grind (arith, nat_tests)
+
+    later : (i m : ℕ) → nat_lt (1 + i) (suc m) ≡ false → nat_lt i m ≡ false
+    later i m e = grind (arith, nat_tests)
+
+    pick : (t : Bool) → (nat_lt n (length bs) ≡ false → ask_to bs p ≡ None) → nat_lt (cond (not t) (1 + n) 0) (suc (length bs)) ≡ false → cond t (Some b) (ask_to bs p) ≡ None
+    pick true r e = absurd (first (length bs) e)
+    pick false r e = r (later n (length bs) e)
+
+pub without_first-none : (p : ℕ) (bs : List Ask) → ask_to bs p ≡ None → without_first bs p ≡ bs
+without_first-none p [] h = refl
+without_first-none p (b ∷ bs) h = pick (b.peer == p) (without_first-none p bs) h
+  where
+    pick : (t : Bool) → (ask_to bs p ≡ None → without_first bs p ≡ bs) → cond t (Some b) (ask_to bs p) ≡ None → cond t bs (b ∷ without_first bs p) ≡ b ∷ bs
+    pick true r e = cc
+    pick false r e = ap (λ xs. b ∷ xs) (r e)
+
+-- a key is named by the ask that was taken, or by those that are left
+pub asked-first : (p : ℕ) (bs : List Ask) (x : Ask) (k : ℕ) → ask_to bs p ≡ Some x → is_asked_for bs k ≡ (names_key k x || is_asked_for (without_first bs p) k)
+asked-first p [] x k h = cc
+asked-first p (b ∷ bs) x k h = pick (b.peer == p) (asked-first p bs x k) h
+  where
+    turn : (u v w : Bool) → (u || (v || w)) ≡ (v || (u || w))
+    turn true true w = refl
+    turn true false w = refl
+    turn false v w = refl
+
+    same : Some b ≡ Some x → b ≡ x
+    same e = cc
+
+    pick : (t : Bool) → (ask_to bs p ≡ Some x → is_asked_for bs k ≡ (names_key k x || is_asked_for (without_first bs p) k)) → cond t (Some b) (ask_to bs p) ≡ Some x
+        → (names_key k b || is_asked_for bs k) ≡ (names_key k x || is_asked_for (cond t bs (b ∷ without_first bs p)) k)
+    pick true r e = ap (λ y. names_key k y || is_asked_for bs k) (same e)
+    pick false r e = ap (λ t. names_key k b || t) (r e) ∙ turn (names_key k b) (names_key k x) (is_asked_for (without_first bs p) k)
+
+pub left_over : (n r : Bool) → (((n || r) && not n) || r) ≡ r
+left_over true r = refl
+left_over false true = refl
+left_over false false = refl
+
+pub second_none : (n r : Bool) → (n || r) ≡ false → r ≡ false
+second_none true r h = cc
+second_none false r h = h
+
+-- the ask that was put in is at its place
+pub put_in : (bs : List Ask) (a d : Ask) (n : ℕ) → n < suc (length bs) → get_or (insert bs n a) n d ≡ a
+put_in [] a d zero h = refl
+put_in [] a d (suc n) h = absurd (omega arith)
+put_in (b ∷ bs) a d zero h = refl
+put_in (b ∷ bs) a d (suc n) h = put_in bs a d n (omega arith)
+
+pub and_mark : (b : Bool) (k key : ℕ) → cond (k == key) false b ≡ (b && not (key == k))
+and_mark true k key = pick (k == key) (key == k) (turn k key)
+  where
+    turn : (i j : ℕ) → (i == j) ≡ (j == i)
+    turn i j = grind (arith, nat_tests)
+
+    pick : (s t : Bool) → s ≡ t → cond s false true ≡ not t
+    pick true true e = refl
+    pick true false e = cc
+    pick false true e = cc
+    pick false false e = refl
+and_mark false k key = pick (k == key)
+  where
+    pick : (s : Bool) → cond s false false ≡ false
+    pick true = refl
+    pick false = refl
+
+pub or_turn : (a b : Bool) → (a || b) ≡ (b || a)
+or_turn true true = refl
+or_turn true false = refl
+or_turn false true = refl
+or_turn false false = refl
+
+pub place_low : (b : Bool) (n i : ℕ) → Some i ≡ cond b (Some n) None → b ≡ true
+place_low true n i h = refl
+place_low false n i h = cc
+
+pub lower : (x n : ℕ) → nat_lt x n ≡ true → x < n
+lower x n e = grind (arith, nat_tests)

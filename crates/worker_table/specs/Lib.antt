@@ -1,0 +1,4 @@
+pub mod Links
+pub mod Parts
+pub mod Plan
+pub mod Table
