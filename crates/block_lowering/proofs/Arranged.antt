@@ -8,26 +8,19 @@ use Rattle.chunk_layout.specs.Layouts.{counts}
 use Rattle.task_graph.specs.declared.graph.Task.{Task}
 use Rattle.lowering_laws.specs.Sources.{Source, one_each, fitted}
 use Rattle.lowering_laws.specs.Stages.{Arg, Blocks, Point, arg_layout, arg_target, point_layout, fitted_arg, fitted_args, point_task, pointwise}
-use Rattle.lowering_laws.specs.Lowered.{limit_from}
 use Rattle.block_lowering.specs.declared.points.Given.{Given}
 use Rattle.block_lowering.specs.declared.points.Given.TheVariants.{Array}
 use Rattle.block_lowering.specs.declared.error.LowerError.{LowerError}
-use Rattle.block_lowering.specs.declared.error.LowerError.TheVariants.{Limit, OutOfMemory}
 use Rattle.block_lowering.specs.Args.{arg_of, args_of}
 use Rattle.block_lowering.specs.Growing.{Refuses, IsGrown}
 use Rattle.block_lowering.specs.Pointing.{ArgsGrown}
-use Rattle.block_lowering.proofs.Refusing.{refuses-more, refuses-behind, refuses-same}
+use Rattle.block_lowering.proofs.Refusing.{refuses-more, refuses-behind, refuses-same, refuses-moved}
 
 -- the list from a place on begins with the item there
 drop-here : {A : Type 0} (xs : List A) (k : ℕ) (x : A) → k < length xs → x ≡ get_or xs k x → drop k xs ≡ x ∷ drop (k + 1) xs
 drop-here xs k x h e = drop-cons xs k x h ∙ ap (λ y. y ∷ drop (suc k) xs) (sym e) ∙ ap (λ j. x ∷ drop j xs) (sym (add-one k))
 
 -- ---- operands
-
--- the same tasks, where some of them were taken
-pub refuses-moved : (a b c d : List Task) (e : LowerError) → a ++ b ≡ c ++ d → Refuses a b e → Refuses c d e
-refuses-moved a b c d (Limit q) same r = λ rest. ap (λ xs. limit_from 0 0 (xs ++ rest)) (sym same) ∙ r rest
-refuses-moved a b c d OutOfMemory same r = tt
 
 -- an operand wasn't brought to the layout, so that all together aren't
 pub refuses-arg : (layout : List (List ℕ)) (args : List Given) (k : ℕ) (x : Given) (now old whole : List Task) (e : LowerError) → k < length args → x ≡ get_or args k x

@@ -1,21 +1,17 @@
 -- The tasks of a block, partial results and their tree, block after block.
-use Rattle.std.proofs.Common.{◌≡◌, ℕ, zero, suc, ◌+◌, ◌-◌, ◌*◌, ◌<◌, List, ◌++◌, length, take, drop, ap, sym, subst, ◌∙◌, append_assoc, append-nil, length-append, arith}
+use Rattle.std.proofs.Common.{◌≡◌, ℕ, ◌+◌, ◌*◌, ◌<◌, List, ◌++◌, length, take, drop, ap, sym, subst, ◌∙◌, append_assoc, append-nil, length-append, arith}
 use Rattle.std.specs.List.{range_with_len, flat_map}
 use Rattle.std.proofs.lemmas.List.{take_all, take-append-le}
+use Rattle.std.proofs.lemmas.Grind.{flat_map-append}
 use Rattle.nd_shape.specs.Index.{index_at}
 use Rattle.nd_grid.specs.declared.operation.Fold.{Fold}
 use Rattle.chunk_layout.specs.Layouts.{counts, blocks, lengths_at}
 use Rattle.task_graph.specs.declared.graph.Task.{Task}
-use Rattle.lowering_laws.specs.Stages.{folded_tasks, tree_count}
+use Rattle.lowering_laws.specs.Stages.{folded_tasks, block_tasks, tree_count}
 use Rattle.lowering_laws.proofs.Reductions.{length-strides, length-folded}
 use Rattle.block_lowering.specs.Growing.{Refuses}
 use Rattle.block_lowering.specs.declared.error.LowerError.{LowerError}
-use Rattle.block_lowering.proofs.Refusing.{refuses-more, refuses-behind, refuses-same}
-
--- the tasks of block c
-abbrev pub block_tasks : Fold → ℕ → ℕ → List (List ℕ) → (List ℕ → ℕ → Task) → ℕ → ℕ → List Task
-block_tasks fold n split layout partial base c =
-    let bs = index_at (counts layout) c in folded_tasks fold n split (partial bs) (lengths_at layout bs) (base + (n + tree_count n split) * c)
+use Rattle.block_lowering.proofs.Refusing.{refuses-same, range-parts, refuses-block}
 
 -- numbers that were written over, all of them
 pub all-written : (xs ys : List ℕ) (n : ℕ) → length xs ≡ n → take n (xs ++ drop (length xs) ys) ≡ xs
@@ -27,29 +23,12 @@ pub block-same : (fold : Fold) (n split : ℕ) (partial : List ℕ → ℕ → T
 block-same fold n split partial layout bs own dims at e d =
     ap (λ ds. folded_tasks fold n split (partial own) ds at) d ∙ ap (λ xs. folded_tasks fold n split (partial xs) (lengths_at layout xs) at) e
 
-pub flat-parts : (f : ℕ → List Task) (a n m : ℕ) → flat_map f (range_with_len a (n + m)) ≡ flat_map f (range_with_len a n) ++ flat_map f (range_with_len (a + n) m)
-flat-parts f a zero m =
-    let z : 0 + m ≡ m = omega arith in
-    let w : a ≡ a + 0 = omega arith in
-    ap (λ k. flat_map f (range_with_len a k)) z ∙ ap (λ k. flat_map f (range_with_len k m)) w
-flat-parts f a (suc n) m =
-    let z : suc n + m ≡ suc (n + m) = omega arith in
-    let w : a + 1 + n ≡ a + suc n = omega arith in
-    ap (λ k. flat_map f (range_with_len a k)) z
-    ∙ ap (λ ts. f a ++ ts) (flat-parts f (a + 1) n m ∙ ap (λ k. flat_map f (range_with_len (a + 1) n) ++ flat_map f (range_with_len k m)) w)
-    ∙ sym (append_assoc (f a) (flat_map f (range_with_len (a + 1) n)) (flat_map f (range_with_len (a + suc n) m)))
-
-pub flat-more : (f : ℕ → List Task) (c : ℕ) → flat_map f (range_with_len 0 (c + 1)) ≡ flat_map f (range_with_len 0 c) ++ f c
+-- the tasks of one block more
+flat-more : (f : ℕ → List Task) (c : ℕ) → flat_map f (range_with_len 0 (c + 1)) ≡ flat_map f (range_with_len 0 c) ++ f c
 flat-more f c =
-    flat-parts f 0 c 1 ∙ ap (λ ts. flat_map f (range_with_len 0 c) ++ ts) (append-nil (f (0 + c)) ∙ ap f (omega arith))
-
--- the first c blocks were taken, and the next one wasn't
-pub refuses-block : (old : List Task) (f : ℕ → List Task) (n c : ℕ) (e : LowerError) → c < n → Refuses (old ++ flat_map f (range_with_len 0 c)) (f c) e → Refuses old (flat_map f (range_with_len 0 n)) e
-refuses-block old f n c e lt r =
-    let front : Refuses old (flat_map f (range_with_len 0 (c + 1))) e = refuses-same old _ _ e (sym (flat-more f c)) (refuses-behind old (flat_map f (range_with_len 0 c)) (f c) e r) in
-    let more = flat_map f (range_with_len (0 + (c + 1)) (n - (c + 1))) in
-    let z : c + 1 + (n - (c + 1)) ≡ n = omega arith in
-    refuses-same old _ _ e (sym (flat-parts f 0 (c + 1) (n - (c + 1))) ∙ ap (λ k. flat_map f (range_with_len 0 k)) z) (refuses-more old (flat_map f (range_with_len 0 (c + 1))) more e front)
+    let at : 0 + c ≡ c = omega arith in
+    ap (flat_map f) (range-parts 0 c 1) ∙ flat_map-append f (range_with_len 0 c) (range_with_len (0 + c) 1)
+    ∙ ap (λ ts. flat_map f (range_with_len 0 c) ++ ts) (append-nil (f (0 + c)) ∙ ap f at)
 
 -- the next block stands behind as many keys as the blocks before it have
 pub blocks-length : (old : List Task) (f : ℕ → List Task) (stride c : ℕ) → ((k : ℕ) → length (f k) ≡ stride) → length (old ++ flat_map f (range_with_len 0 c)) ≡ length old + stride * c

@@ -4,19 +4,12 @@ use Rattle.std.specs.Prelude.{slice_set}
 use Rattle.std.proofs.lemmas.List.{drop_more}
 use Rattle.task_graph.specs.declared.graph.Task.{Task}
 use Rattle.lowering_laws.specs.Sources.{Source, Made, fitted}
-use Rattle.lowering_laws.specs.Lowered.{limit_from}
 use Rattle.lowering_laws.specs.Stages.{Fitted, then_sources, fitted_along}
 use Rattle.block_lowering.specs.Args.{AreCommon}
 use Rattle.block_lowering.specs.Growing.{Refuses, IsGrown}
 use Rattle.block_lowering.specs.Joining.{sizes_along}
 use Rattle.block_lowering.specs.declared.error.LowerError.{LowerError}
-use Rattle.block_lowering.specs.declared.error.LowerError.TheVariants.{Limit, OutOfMemory}
-use Rattle.block_lowering.proofs.Refusing.{refuses-more}
-
--- the same tasks in all, parted otherwise
-refuses-along : (old a old' b : List Task) (e : LowerError) → old ++ a ≡ old' ++ b → Refuses old a e → Refuses old' b e
-refuses-along old a old' b (Limit q) same r = λ rest. ap (λ (xs : List Task). limit_from 0 0 (xs ++ rest)) (sym same) ∙ r rest
-refuses-along old a old' b OutOfMemory same r = tt
+use Rattle.block_lowering.proofs.Refusing.{refuses-more, refuses-moved}
 
 -- what is done and what is left give all
 pub record FittedTo (common : List (List ℕ)) (axis : ℕ) (sources : List Source) (old graph : List Task) (done : List Source) (k : ℕ) : Type 0 where
@@ -62,5 +55,5 @@ pub fitted-refused : (common : List (List ℕ)) (axis : ℕ) (sources : List Sou
 fitted-refused common axis sources old graph done k s e lt r f =
     let m : Made = fitted_one common axis (length graph) (get_or sources k s) in
     let rest = fitted_along common axis (drop (k + 1) sources) in
-    refuses-along graph (m.tasks ++ (rest (length graph + length m.tasks)).tasks) old (fitted_along common axis sources (length old)).tasks e
+    refuses-moved graph (m.tasks ++ (rest (length graph + length m.tasks)).tasks) old (fitted_along common axis sources (length old)).tasks e
     (ap (λ (x : Fitted). graph ++ x.tasks) (sym (next common axis sources graph k s lt)) ∙ f.tasks) (refuses-more graph m.tasks (rest (length graph + length m.tasks)).tasks e r)

@@ -1,13 +1,10 @@
 -- A node by its operation: what a slice takes, operands whose numbers come by reference, and operands element by element.
-use Rattle.std.proofs.Common.{◌≡◌, ◌≢◌, ℕ, ℤ, pos, ◌<◌, List, [], ◌∷◌, ◌++◌, length, take, get_or, ap, sym, subst, ◌∙◌, arith, Result, IfErr}
-use Rattle.std.specs.Prelude.{unsigned_abs}
+use Rattle.std.proofs.Common.{◌≡◌, ℕ, ℤ, pos, ◌<◌, List, [], ◌∷◌, ◌++◌, length, take, get_or, ap, sym, subst, ◌∙◌, arith, Result, IfErr}
 use Rattle.std.proofs.lemmas.List.{length-take-le, length-map, get_or-map}
 use Rattle.std.proofs.lemmas.Option.{slice_get_within}
 use Rattle.nd_shape.specs.declared.chunk.ChunkSpec.{ChunkSpec}
 use Rattle.nd_shape.specs.declared.slice.Part.{Part}
-use Rattle.nd_shape.specs.declared.slice.Part.TheVariants.{At, Range}
 use Rattle.nd_shape.specs.declared.slice.Steps.{Steps}
-use Rattle.nd_shape.specs.Slice.{Resolves, StepsFitAxis}
 use Rattle.nd_shape.specs.Chunk.{total}
 use Rattle.array_expr.specs.declared.op.Op.{Op}
 use Rattle.array_expr.specs.declared.op.Op.TheVariants.{Full, Ramp, Slice, Tensordot}
@@ -22,15 +19,12 @@ use Rattle.lowering_laws.proofs.Lowering.{shape-front}
 use Rattle.block_lowering.specs.Args.{args_of, arg_of as meant}
 use Rattle.block_lowering.specs.Growing.{Refuses}
 use Rattle.block_lowering.specs.Ready.{IsReady}
-use Rattle.chunk_layout.specs.Slicing.{TakesAll}
+use Rattle.chunk_layout.specs.Slicing.{TakesOf, TakesAll}
+use Rattle.chunk_layout.proofs.Taking.{takes-resolved}
 use Rattle.block_lowering.specs.declared.error.LowerError.{LowerError}
 use Rattle.block_lowering.specs.declared.points.Given.{Given}
 
 -- ---- slices
-
-goes : (n : ℕ) (part : Part) (s : Steps) → Resolves n part s → s.step ≢ pos 0
-goes n (At i) s r = λ e. let z : ◌≡◌ {A = ℕ} 1 0 = ap unsigned_abs (sym r.step_is ∙ e) in absurd (omega arith)
-goes n (Range start stop step) s r = λ e. r.0 (sym r.1.step_is ∙ e)
 
 takes-layout : (layout : List (List ℕ)) (parts : List Part) (taken : List Steps) → Takes (lengths layout) parts taken → TakesAll layout taken
 takes-layout layout parts taken t = record {
@@ -39,7 +33,7 @@ takes-layout layout parts taken t = record {
       let axes : length taken ≡ length layout = t.axes ∙ length-map layout (λ (sizes : List ℕ). total sizes) in
       let lt : k < length taken = slice_get_within taken k s is in
       let same : get_or (lengths layout) k 0 ≡ total (get_or layout k []) = get_or-map (λ (sizes : List ℕ). total sizes) layout k [] 0 (omega arith) in
-      record { fits = subst (StepsFitAxis s) same (t.first.inside k s is); goes = goes (get_or (lengths layout) k 0) (part_on parts k) s (t.first.each k s is) };
+      subst (λ n. TakesOf n s) same (takes-resolved (get_or (lengths layout) k 0) (part_on parts k) s (t.first.each k s is) (t.first.inside k s is));
 }
 
 -- what a slice takes of its operand's layout

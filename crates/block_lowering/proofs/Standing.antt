@@ -4,7 +4,7 @@ use Rattle.std.specs.Prelude.{◌⊎◌, nat_eq, nat_lt}
 use Rattle.std.specs.List.{range_with_len}
 use Rattle.std.proofs.Math.Nat.{div-le_self, div-eq_of_lt, mod-eq_of_lt, mul_comm}
 use Rattle.std.proofs.lemmas.Bool.{cases_lt}
-use Rattle.std.proofs.lemmas.List.{drop_more, length-replicate, length-map}
+use Rattle.std.proofs.lemmas.List.{drop_more, length-replicate, length-map, map-append}
 use Rattle.std.proofs.lemmas.List.FromFn.{length-map-range_with_len}
 use Rattle.std.proofs.lemmas.Nat.{le-div}
 use Rattle.std.proofs.lemmas.Result.{IfOk-weaker}
@@ -317,7 +317,7 @@ decided (t ∷ front) r s x y keys edges h = ap (λ more. limit_at keys edges t 
 parted : (old rest : List Task) (f : ℕ → Task) (n m a : ℕ) → n + suc m ≡ a
     → old ++ map f (range_with_len 0 a) ++ rest ≡ old ++ map f (range_with_len 0 n) ++ f (0 + n) ∷ (map f (range_with_len (0 + n + 1) m) ++ rest)
 parted old rest f n m a e =
-    ap (λ k. old ++ map f (range_with_len 0 k) ++ rest) (sym e) ∙ ap (λ ts. old ++ ts ++ rest) (range-parts f 0 n (suc m))
+    ap (λ k. old ++ map f (range_with_len 0 k) ++ rest) (sym e) ∙ ap (λ ts. old ++ ts ++ rest) (ap (map f) (range-parts 0 n (suc m)) ∙ map-append f (range_with_len 0 n) (range_with_len (0 + n) (suc m)))
     ∙ ap (λ ts. ts ++ rest) (sym (append_assoc old (map f (range_with_len 0 n)) (map f (range_with_len (0 + n) (suc m)))))
     ∙ append_assoc (old ++ map f (range_with_len 0 n)) (map f (range_with_len (0 + n) (suc m))) rest
 

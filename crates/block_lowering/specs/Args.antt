@@ -29,3 +29,15 @@ sizes_or_none (Some sizes) = sizes
 -- the common layout of operands, but for one axis
 pub record AreCommon (common : List (List ℕ)) (axis : ℕ) (given : List (List ℕ)) : Type 0 where
   pub others : (sizes : List ℕ) → slice_set given axis sizes ≡ slice_set common axis sizes
+
+-- what holds of each common layout of which these are the cuts, but for one axis
+abbrev pub OfCommon : ℕ → List (List ℕ) → (List (List ℕ) → Type 0) → Type 0
+OfCommon axis given P = (common : List (List ℕ)) → AreCommon common axis given → P common
+
+-- the chunks that an operand has on an axis of the result, where it has the result's length there
+abbrev pub sizes_given : List ℕ → ℕ → Given → List ℕ
+sizes_given dims axis arg = stages.sizes_on dims axis (stages.arg_layout (arg_of arg))
+
+-- cuts that may be none, of these sizes
+abbrev pub HaveSizes : List ℕ → Option (List ℕ) → Type 0
+HaveSizes sizes cuts = sizes_or_none cuts ≡ sizes

@@ -81,3 +81,7 @@ pub record FitsFeed (named : ℕ → List ℕ → ℤ) (heads : List Head) (file
 -- each file tells its bytes
 pub record TellsFeed (heads : List Head) (files : List Content) : Type 0 where
   pub each : (j : ℕ) → j < length heads → IsSome (told_bytes (file_at files j))
+
+-- what holds of all elements that files may hold which tell their bytes
+abbrev pub OfTold : List Head → List Content → ((ℕ → List ℕ → ℤ) → Type 0) → Type 0
+OfTold heads files P = (named : ℕ → List ℕ → ℤ) → FitsFeed named heads files → TellsFeed heads files → P named

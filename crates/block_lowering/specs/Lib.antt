@@ -11,5 +11,6 @@ pub mod Using
 pub mod Pointing
 pub mod Joining
 pub mod Pairing
+pub mod Folding
 pub mod Jobs
 pub mod Reading

@@ -1,6 +1,6 @@
 -- The blocks of a product.
-use Rattle.std.specs.Prelude.{◌≡◌, ℕ, List, [], ◌∷◌, ◌++◌, Result, Ok, Err}
-use Rattle.nd_grid.specs.Grid.{woven}
+use Rattle.std.specs.Prelude.{◌≡◌, ℕ, List, [], ◌∷◌, ◌++◌, slice_index_or, Result, Ok, Err}
+use Rattle.nd_grid.specs.Grid.{kept_shape, woven}
 use Rattle.chunk_layout.specs.Layouts.{counts, lengths_at}
 use Rattle.block_kernels.specs.declared.spec.Spec.TheVariants as kernels
 use Rattle.task_graph.specs.declared.graph.Task.{Task}
@@ -16,6 +16,11 @@ use_woven s axes kept rest = let own = woven 0 (counts s.layout) axes kept rest 
 abbrev pub OnGathered : {E : Type 0} → Source → List ℕ → List ℕ → List ℕ → List Use → List Use → Result ℕ E → Type 0
 OnGathered s axes kept rest old new (Ok key) = (new ≡ old ++ use_woven s axes kept rest ∷ []) × (key ≡ (use_woven s axes kept rest).key)
 OnGathered s axes kept rest old new (Err e) = Unit {0}
+
+-- the shape of the product of two inputs
+abbrev pub shape_contracted : List (List ℕ) → ℕ → ℕ → List ℕ → List ℕ → List ℕ
+shape_contracted inputs left right left_axes right_axes =
+    kept_shape 0 (slice_index_or inputs left []) left_axes ++ kept_shape 0 (slice_index_or inputs right []) right_axes
 
 abbrev pub contracting : List Use → ℕ → ℕ → List ℕ → List ℕ → Task
 contracting uses left right left_axes right_axes =

@@ -13,7 +13,12 @@ abbrev pub renamed : ℕ → List Piece → List Piece
 renamed p [] = []
 renamed p (x ∷ xs) = record { source = p; from = x.from; to = x.to } ∷ renamed (suc p) xs
 
+-- the keys and the lengths of the blocks of which they are parts
+abbrev pub keys_of_parts : Source → List Piece → List ℕ
+keys_of_parts s pieces = map (λ (p : Piece). key_of s p.source) pieces
+
+abbrev pub shapes_of_parts : Source → List Piece → List (List ℕ)
+shapes_of_parts s pieces = map (λ (p : Piece). lengths_at s.layout (index_at (counts s.layout) p.source)) pieces
+
 abbrev pub assembled : Source → List Piece → List ℕ → Task
-assembled s pieces shape =
-    task (kernels.Assemble (renamed 0 pieces) (map (λ (p : Piece). lengths_at s.layout (index_at (counts s.layout) p.source)) pieces) shape)
-    (map (λ (p : Piece). key_of s p.source) pieces)
+assembled s pieces shape = task (kernels.Assemble (renamed 0 pieces) (shapes_of_parts s pieces) shape) (keys_of_parts s pieces)

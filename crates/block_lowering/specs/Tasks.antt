@@ -1,19 +1,22 @@
 -- The tasks of a block, by the numbers of its chunks, where `lowering_laws` has no name for them.
-use Rattle.std.specs.Prelude.{ℕ, ℤ, List, [], ◌∷◌, length, drop}
+use Rattle.std.specs.Prelude.{ℕ, List, [], ◌∷◌, length, drop}
+use Rattle.nd_shape.specs.Region.{Box}
 use Rattle.nd_grid.specs.Grid.{turned, merged, woven}
 use Rattle.nd_grid.specs.declared.operation.Fold.{Fold}
 use Rattle.chunk_layout.specs.Layouts.{counts, lengths_at, box_at}
+use Rattle.block_kernels.specs.declared.spec.Spec.{Spec}
 use Rattle.block_kernels.specs.declared.spec.Spec.TheVariants as kernels
 use Rattle.task_graph.specs.declared.graph.Task.{Task}
 use Rattle.task_graph.specs.Graphs.{task}
-use Rattle.lowering_laws.specs.Sources.{Source, key_at}
+use Rattle.lowering_laws.specs.Sources.{Source, Made, key_at, one_each}
 use Rattle.lowering_laws.specs.Stages.{Use, kept_axes, place_among, inputs_among, deps_of_uses}
 
-abbrev pub fill_task : List ℕ → List (List ℕ) → ℤ → ℤ → List ℕ → Task
-fill_task dims layout start step bs = task (kernels.Fill dims (box_at layout bs) start step) []
+-- the blocks of an array that are each made of their region alone
+abbrev pub alone_task : (Box → Spec) → List (List ℕ) → List ℕ → Task
+alone_task spec_of layout bs = task (spec_of (box_at layout bs)) []
 
-abbrev pub load_task : ℕ → List (List ℕ) → List ℕ → Task
-load_task input layout bs = task (kernels.Load input (box_at layout bs)) []
+abbrev pub alone_blocks : (Box → Spec) → List (List ℕ) → ℕ → Made
+alone_blocks spec_of layout base = one_each base layout (alone_task spec_of layout)
 
 abbrev pub turn_task : List ℕ → Source → List ℕ → Task
 turn_task axes s bs = task (kernels.Transpose axes (lengths_at s.layout (turned axes bs))) (key_at s (turned axes bs) ∷ [])

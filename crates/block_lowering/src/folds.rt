@@ -4,11 +4,12 @@ ghost use Rattle.std.specs.List.{range_with_len};
 ghost use Rattle.nd_shape.specs.Shape.{elements};
 ghost use Rattle.nd_shape.specs.Chunk.{total};
 ghost use Rattle.nd_shape.specs.Index.{IsIn, index_at};
-ghost use Rattle.chunk_layout.specs.Layouts.{counts as counts_in, lengths_at};
+ghost use Rattle.chunk_layout.specs.Layouts.{counts as counts_in};
 ghost use Rattle.chunk_layout.specs.Trees.{tree as levels_of};
 ghost use Rattle.task_graph.specs.declared.graph.Task.{Task as AnyTask};
 ghost use Rattle.task_graph.specs.Graphs.{task};
-ghost use Rattle.lowering_laws.specs.Stages.{group_tasks, level_tasks, folded_tasks, folded_each};
+ghost use Rattle.lowering_laws.specs.Stages.{group_tasks, level_tasks};
+ghost use Rattle.block_lowering.specs.Folding.{folded_parts, folded_at, folded_blocks};
 ghost use Rattle.block_lowering.specs.Growing.{Refuses, IsGrown};
 
 use crate::counts::{counts_of, numbers_of, product_of};
@@ -178,8 +179,10 @@ fn push_block<P: Parted>(
 ) -> Result<(), LowerError>
     requires parts { P.parts of.now ≡ folding.now.counts.now }
     requires levels { folding.now.levels.now ≡ levels_of (elements folding.now.counts.now) folding.now.split }
-    ensures ok { OnOk result (graph.new ≡ graph.old ++ folded_tasks folding.now.fold (elements folding.now.counts.now) folding.now.split (λ p. P.part_of of.now block.now (index_at folding.now.counts.now p)) dims.now (length graph.old)) }
-    ensures err { IfErr result (Refuses graph.old (folded_tasks folding.now.fold (elements folding.now.counts.now) folding.now.split (λ p. P.part_of of.now block.now (index_at folding.now.counts.now p)) dims.now (length graph.old))) }
+    ensures ok { let f = folding.now in
+        OnOk result (graph.new ≡ graph.old ++ folded_parts f.fold f.split f.counts.now (P.part_of of.now block.now) dims.now (length graph.old)) }
+    ensures err { let f = folding.now in
+        IfErr result (Refuses graph.old (folded_parts f.fold f.split f.counts.now (P.part_of of.now block.now) dims.now (length graph.old))) }
 {
     let first = graph.keys();
     let stage = OneBlock { of, block };
@@ -201,8 +204,10 @@ fn push_block_at<P: Parted>(
     requires levels { folding.now.levels.now ≡ levels_of (elements folding.now.counts.now) folding.now.split }
     requires counts { counts.now ≡ counts_in layout.now }
     requires place { place < elements counts.now }
-    ensures ok { OnOk result (graph.new ≡ graph.old ++ folded_tasks folding.now.fold (elements folding.now.counts.now) folding.now.split (λ p. P.part_of of.now (index_at counts.now place) (index_at folding.now.counts.now p)) (lengths_at layout.now (index_at counts.now place)) (length graph.old)) }
-    ensures err { IfErr result (Refuses graph.old (folded_tasks folding.now.fold (elements folding.now.counts.now) folding.now.split (λ p. P.part_of of.now (index_at counts.now place) (index_at folding.now.counts.now p)) (lengths_at layout.now (index_at counts.now place)) (length graph.old))) }
+    ensures ok { let f = folding.now in let bs = index_at counts.now place in
+        OnOk result (graph.new ≡ graph.old ++ folded_at f.fold f.split f.counts.now (P.part_of of.now) layout.now bs (length graph.old)) }
+    ensures err { let f = folding.now in let bs = index_at counts.now place in
+        IfErr result (Refuses graph.old (folded_at f.fold f.split f.counts.now (P.part_of of.now) layout.now bs (length graph.old))) }
 {
     let mut numbers = vec![in alloc; 0u64; counts.len()]?;
     numbers_of(counts, place, numbers.as_mut_slice());
@@ -250,8 +255,8 @@ pub fn push_folded<P: Parted>(
 ) -> Result<Keyed, LowerError>
     requires parts { P.parts of.now ≡ parts.now }
     requires split { 2 ≤ split }
-    ensures ok { IfOk result (IsGrown graph.old (folded_each fold (elements parts.now) split layout (λ bs p. P.part_of of.now bs (index_at parts.now p)) (length graph.old)) graph.new) }
-    ensures err { IfErr result (Refuses graph.old (folded_each fold (elements parts.now) split layout (λ bs p. P.part_of of.now bs (index_at parts.now p)) (length graph.old)).tasks) }
+    ensures ok { IfOk result (IsGrown graph.old (folded_blocks fold split parts.now (P.part_of of.now) layout (length graph.old)) graph.new) }
+    ensures err { IfErr result (Refuses graph.old (folded_blocks fold split parts.now (P.part_of of.now) layout (length graph.old)).tasks) }
 {
     let base = graph.keys();
     let partials = product_of(parts);

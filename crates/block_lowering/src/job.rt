@@ -7,7 +7,7 @@ ghost use Rattle.block_kernels.specs.Inputs.{shapes_of};
 ghost use Rattle.task_graph.specs.Graphs.{task_at};
 ghost use Rattle.task_graph.specs.declared.graph.Task.{Task as AnyTask};
 ghost use Rattle.lowering_laws.specs.Each.{OfEachJob};
-ghost use Rattle.block_lowering.specs.Jobs.{head_at, IsJob, IsLoad, HaveData, FitsFeed, TellsFeed, LawOfJobs, graph_of, dims_of};
+ghost use Rattle.block_lowering.specs.Jobs.{head_at, IsJob, IsLoad, HaveData, OfTold, LawOfJobs, graph_of, dims_of};
 
 use crate::reading::{load, shape_of_result};
 use block_kernels::{Spec, run as run_kernel};
@@ -150,7 +150,7 @@ fn run_load<S: Store>(
     requires near { (head_at heads.now input).data_at ≤ 2 ^ 21 }
     requires feed { HaveData heads.now (S.files feed.old) }
     ensures same { S.files feed.new ≡ S.files feed.old }
-    ensures value { (named : ℕ → List ℕ → ℤ) → FitsFeed named heads.now (S.files feed.old) → TellsFeed heads.now (S.files feed.old) → IfOk result (λ o. value_of o ≡ made named (Spec.Load input region.now) []) }
+    ensures value { OfTold heads.now (S.files feed.old) (λ named. IfOk result (λ o. value_of o ≡ made named (Spec.Load input region.now) [])) }
     ensures dims { IfOk result (λ o. IfValue o (λ b. b.shape ≡ region.now.lengths)) }
     ensures faults { CountsFault result (S.count feed.old) (S.count feed.new) }
 {

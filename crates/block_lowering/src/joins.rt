@@ -1,9 +1,9 @@
 //! Concatenations: each block is one block of an operand, once the operands have the same chunks on the other axes.
 ghost use Rattle.std.specs.Prelude.{◌≡◌, ◌<◌, ◌^◌, ◌++◌, ◌∷◌, [], ℕ, List, length, map, cond, nat_eq, get_or, IfOk, IfErr, OnOk};
 ghost use Rattle.lowering_laws.specs.Stages.{Along, along_at as along_place, along_from, along_all, or_empty, joined_all, common_layout, fitted_along, whole_piece, concatenated_blocks};
-ghost use Rattle.block_lowering.specs.Args.{AreCommon};
+ghost use Rattle.block_lowering.specs.Args.{AreCommon, OfCommon};
 ghost use Rattle.block_lowering.specs.Growing.{Refuses, IsGrown};
-ghost use Rattle.block_lowering.specs.Joining.{AllGrown, sizes_along, layouts_in};
+ghost use Rattle.block_lowering.specs.Joining.{AllAlong, sizes_along, layouts_in};
 
 use crate::counts::counts_of;
 use crate::error::LowerError;
@@ -182,8 +182,8 @@ fn fit_all(
     axis: usize,
     sources: &[Keyed],
 ) -> Result<Vec<Keyed>, LowerError>
-    ensures ok { (common : List (List ℕ)) → AreCommon common axis axes.now → IfOk result (λ v. AllGrown graph.old (fitted_along common axis sources.now (length graph.old)) graph.new v.items) }
-    ensures err { (common : List (List ℕ)) → AreCommon common axis axes.now → IfErr result (Refuses graph.old (fitted_along common axis sources.now (length graph.old)).tasks) }
+    ensures ok { OfCommon axis axes.now (λ common. IfOk result (λ v. AllAlong common axis sources.now graph.old graph.new v.items)) }
+    ensures err { OfCommon axis axes.now (λ common. IfErr result (Refuses graph.old (fitted_along common axis sources.now (length graph.old)).tasks)) }
 {
     let mut fitted = Vec::with_capacity(alloc, sources.len())?;
     for source in sources {

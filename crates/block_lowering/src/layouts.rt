@@ -7,7 +7,7 @@ ghost use Rattle.lowering_laws.specs.Sources.{same_sizes, same_layout};
 ghost use Rattle.lowering_laws.specs.Stages.{kept_axes, turned_layout, joined};
 ghost use Rattle.block_lowering.specs.Standing.{StandsFor};
 ghost use Rattle.block_lowering.specs.Shortened.{IsShort, IsShortened};
-ghost use Rattle.block_lowering.specs.Args.{sizes_or_none};
+ghost use Rattle.block_lowering.specs.Args.{sizes_or_none, HaveSizes};
 
 use crate::parts::KEYS;
 use array_expr::axes::is_in_list;
@@ -252,7 +252,7 @@ pub fn joined_if(
     cuts: Option<&Cuts>,
     more: Option<Cuts>,
 ) -> Result<Option<Cuts>, AllocError>
-    ensures { MatchOption cuts.entry (IfOk result (λ o. sizes_or_none o ≡ sizes_or_none more)) (λ own. IfOk result (λ o. sizes_or_none o ≡ joined own.now (sizes_or_none more))) }
+    ensures { MatchOption cuts.entry (IfOk result (HaveSizes (sizes_or_none more))) (λ own. IfOk result (HaveSizes (joined own.now (sizes_or_none more)))) }
 {
     match cuts {
         None => Ok(more),

@@ -1,14 +1,13 @@
 //! Nodes that are lowered one after another: their graph before culling, the names of its keys, and their arrays.
-ghost use Rattle.std.specs.Prelude.{◌≡◌, ◌≤◌, ◌-◌, ◌++◌, [], length, map, slice_get, Some, IfErr, OnOk};
+ghost use Rattle.std.specs.Prelude.{◌≡◌, ◌≤◌, ◌-◌, ◌++◌, [], length, map, IfErr, OnOk};
 ghost use Rattle.std.specs.List.{range_with_len};
-ghost use Rattle.array_expr.specs.declared.expr.Node.{Node as AnyNode};
 ghost use Rattle.array_expr.specs.Node.{IsExpression};
 ghost use Rattle.expr_laws.specs.Formulas.{inputs_before};
 ghost use Rattle.cluster_msgs.specs.Shape.{IsShape};
 ghost use Rattle.task_graph.specs.Graphs.{shape_of};
-ghost use Rattle.lowering_laws.specs.Lowered.{lower_op, name_at, with_made};
+ghost use Rattle.lowering_laws.specs.Lowered.{name_at, with_node};
 ghost use Rattle.block_lowering.specs.Growing.{Refuses};
-ghost use Rattle.block_lowering.specs.Ready.{IsReady};
+ghost use Rattle.block_lowering.specs.Ready.{IsReady, OfNext, made_next};
 
 use crate::error::LowerError;
 use crate::nodes::lower_node;
@@ -90,8 +89,8 @@ impl Making {
         requires ready { IsReady nodes.now (length self.old.sources) self.old.sources }
         requires inputs { inputs ≡ inputs_before nodes.now (length self.old.sources) }
         requires names { length self.old.names ≡ length self.old.tasks }
-        ensures ok { (x : AnyNode) → slice_get nodes.now (length self.old.sources) ≡ Some x → OnOk result (self.new ≡ with_made self.old (length self.old.sources) (lower_op nodes.now self.old.sources (length self.old.sources) x.taken x.shape x.op (length self.old.tasks))) }
-        ensures err { (x : AnyNode) → slice_get nodes.now (length self.old.sources) ≡ Some x → IfErr result (Refuses self.old.tasks (lower_op nodes.now self.old.sources (length self.old.sources) x.taken x.shape x.op (length self.old.tasks)).tasks) }
+        ensures ok { OfNext nodes.now self.old (λ x. OnOk result (self.new ≡ with_node nodes.now self.old (length self.old.sources) x)) }
+        ensures err { OfNext nodes.now self.old (λ x. IfErr result (Refuses self.old.tasks (made_next nodes.now self.old.sources x self.old.tasks).tasks)) }
     {
         let number = self.sources.len();
         let node = &nodes[number];

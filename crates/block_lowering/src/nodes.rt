@@ -2,10 +2,10 @@
 ghost use Rattle.std.specs.Prelude.{◌≡◌, ◌<◌, ◌^◌, length, map, take, All, IfOk, IfErr};
 ghost use Rattle.array_expr.specs.Node.{IsNode};
 ghost use Rattle.expr_laws.specs.Formulas.{inputs_before};
-ghost use Rattle.lowering_laws.specs.Lowered.{source_at, arg_of, lower_op};
+ghost use Rattle.lowering_laws.specs.Lowered.{source_at, arg_of};
 ghost use Rattle.block_lowering.specs.Args.{arg_of as meant};
 ghost use Rattle.block_lowering.specs.Growing.{Refuses, IsGrown};
-ghost use Rattle.block_lowering.specs.Ready.{IsReady, IsOther};
+ghost use Rattle.block_lowering.specs.Ready.{IsReady, IsOther, op_made, made_next};
 
 use crate::error::LowerError;
 use crate::joins::push_joined;
@@ -81,8 +81,8 @@ fn lower_negate(
 ) -> Result<Keyed, LowerError>
     requires nodes { of < length nodes.now }
     requires sources { of < length sources.now }
-    ensures ok { IfOk result (IsGrown graph.old (lower_op nodes.now sources.now (length sources.now) node.now.taken node.now.shape (Op.Negate of) (length graph.old)) graph.new) }
-    ensures err { IfErr result (Refuses graph.old (lower_op nodes.now sources.now (length sources.now) node.now.taken node.now.shape (Op.Negate of) (length graph.old)).tasks) }
+    ensures ok { IfOk result (IsGrown graph.old (op_made nodes.now sources.now node.now (Op.Negate of) graph.old) graph.new) }
+    ensures err { IfErr result (Refuses graph.old (op_made nodes.now sources.now node.now (Op.Negate of) graph.old).tasks) }
 {
     let mut args = Vec::with_capacity(alloc, 2)?;
     args.push(Given::Value(0))?;
@@ -102,19 +102,14 @@ fn lower_pair(
 ) -> Result<Keyed, LowerError>
     requires left { (pair.0 < length nodes.now) × (pair.0 < length sources.now) }
     requires right { (pair.1 < length nodes.now) × (pair.1 < length sources.now) }
-    ensures ok { IfOk result (IsGrown graph.old (lower_op nodes.now sources.now (length sources.now) node.now.taken node.now.shape (Op.Elementwise op pair.0 pair.1) (length graph.old)) graph.new) }
-    ensures err { IfErr result (Refuses graph.old (lower_op nodes.now sources.now (length sources.now) node.now.taken node.now.shape (Op.Elementwise op pair.0 pair.1) (length graph.old)).tasks) }
+    ensures ok { IfOk result (IsGrown graph.old (op_made nodes.now sources.now node.now (Op.Elementwise op pair.0 pair.1) graph.old) graph.new) }
+    ensures err { IfErr result (Refuses graph.old (op_made nodes.now sources.now node.now (Op.Elementwise op pair.0 pair.1) graph.old).tasks) }
 {
     let mut args = Vec::with_capacity(alloc, 2)?;
     args.push(given(alloc, nodes, sources, pair.0)?)?;
     args.push(given(alloc, nodes, sources, pair.1)?)?;
-    push_pointwise(
-        alloc,
-        graph,
-        Operation::Two(op),
-        node.shape.dims(),
-        args.as_slice(),
-    )
+    let operation = Operation::Two(op);
+    push_pointwise(alloc, graph, operation, node.shape.dims(), args.as_slice())
 }
 
 fn lower_where(
@@ -128,20 +123,15 @@ fn lower_where(
     requires first { (operands.0 < length nodes.now) × (operands.0 < length sources.now) }
     requires second { (operands.1 < length nodes.now) × (operands.1 < length sources.now) }
     requires third { (operands.2 < length nodes.now) × (operands.2 < length sources.now) }
-    ensures ok { IfOk result (IsGrown graph.old (lower_op nodes.now sources.now (length sources.now) node.now.taken node.now.shape (Op.Where operands.0 operands.1 operands.2) (length graph.old)) graph.new) }
-    ensures err { IfErr result (Refuses graph.old (lower_op nodes.now sources.now (length sources.now) node.now.taken node.now.shape (Op.Where operands.0 operands.1 operands.2) (length graph.old)).tasks) }
+    ensures ok { IfOk result (IsGrown graph.old (op_made nodes.now sources.now node.now (Op.Where operands.0 operands.1 operands.2) graph.old) graph.new) }
+    ensures err { IfErr result (Refuses graph.old (op_made nodes.now sources.now node.now (Op.Where operands.0 operands.1 operands.2) graph.old).tasks) }
 {
     let mut args = Vec::with_capacity(alloc, 3)?;
     args.push(given(alloc, nodes, sources, operands.0)?)?;
     args.push(given(alloc, nodes, sources, operands.1)?)?;
     args.push(given(alloc, nodes, sources, operands.2)?)?;
-    push_pointwise(
-        alloc,
-        graph,
-        Operation::Three,
-        node.shape.dims(),
-        args.as_slice(),
-    )
+    let operation = Operation::Three;
+    push_pointwise(alloc, graph, operation, node.shape.dims(), args.as_slice())
 }
 
 // ---- nodes
@@ -159,8 +149,8 @@ fn lower_other(
     requires node { IsNode (take (length sources.now) nodes.now) node.now }
     requires inputs { inputs ≡ inputs_before nodes.now (length sources.now) }
     requires other { IsOther node.now.op }
-    ensures ok { IfOk result (IsGrown graph.old (lower_op nodes.now sources.now (length sources.now) node.now.taken node.now.shape node.now.op (length graph.old)) graph.new) }
-    ensures err { IfErr result (Refuses graph.old (lower_op nodes.now sources.now (length sources.now) node.now.taken node.now.shape node.now.op (length graph.old)).tasks) }
+    ensures ok { IfOk result (IsGrown graph.old (made_next nodes.now sources.now node.now graph.old) graph.new) }
+    ensures err { IfErr result (Refuses graph.old (made_next nodes.now sources.now node.now graph.old).tasks) }
 {
     match &node.op {
         Op::Input { chunks, .. } => {
@@ -233,8 +223,8 @@ pub fn lower_node(
     requires ready { IsReady nodes.now (length sources.now) sources.now }
     requires node { IsNode (take (length sources.now) nodes.now) node.now }
     requires inputs { inputs ≡ inputs_before nodes.now (length sources.now) }
-    ensures ok { IfOk result (IsGrown graph.old (lower_op nodes.now sources.now (length sources.now) node.now.taken node.now.shape node.now.op (length graph.old)) graph.new) }
-    ensures err { IfErr result (Refuses graph.old (lower_op nodes.now sources.now (length sources.now) node.now.taken node.now.shape node.now.op (length graph.old)).tasks) }
+    ensures ok { IfOk result (IsGrown graph.old (made_next nodes.now sources.now node.now graph.old) graph.new) }
+    ensures err { IfErr result (Refuses graph.old (made_next nodes.now sources.now node.now graph.old).tasks) }
 {
     match &node.op {
         Op::Negate { of } => lower_negate(alloc, graph, nodes, sources, node, *of),

@@ -5,7 +5,7 @@ ghost use Rattle.nd_grid.specs.Grid.{under};
 ghost use Rattle.chunk_layout.specs.Layouts.{counts};
 ghost use Rattle.block_kernels.specs.declared.spec.Operand.TheVariants.{Input as At};
 ghost use Rattle.lowering_laws.specs.Stages.{Blocks, arg_layout, sizes_on, joined_all, point_layout, arg_target, fitted_arg, fitted_args, uses_of, uses_of_arg, inputs_among, operand_of, nth_arg, point_spec, pointwise};
-ghost use Rattle.block_lowering.specs.Args.{point_of, arg_of, args_of, layouts_of};
+ghost use Rattle.block_lowering.specs.Args.{point_of, arg_of, args_of, layouts_of, sizes_given};
 ghost use Rattle.block_lowering.specs.Growing.{Refuses, IsGrown};
 ghost use Rattle.block_lowering.specs.Pointing.{ArgGrown, ArgsGrown};
 
@@ -44,7 +44,7 @@ pub enum Given {
 // The cut that an operand has on an axis of the result, where it has the result's length there.
 fn cuts_on<'a>(dims: &[u64], axis: usize, arg: &'a Given) -> Option<&'a Cuts>
     requires { axis < length dims.now }
-    ensures { MatchOption result (sizes_on dims.now axis (arg_layout (arg_of arg.now)) ≡ []) (λ cuts. sizes_on dims.now axis (arg_layout (arg_of arg.now)) ≡ cuts.now) }
+    ensures { MatchOption result (sizes_given dims.now axis arg.now ≡ []) (λ cuts. sizes_given dims.now axis arg.now ≡ cuts.now) }
 {
     match arg {
         Given::Value(_) => None,

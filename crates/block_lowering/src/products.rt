@@ -1,10 +1,11 @@
 //! Products over paired axes: a product for each pair of blocks that meet, and trees that add them.
 ghost use Rattle.std.specs.Prelude.{◌≡◌, ◌≤◌, ◌++◌, [], ℕ, List, cond, nat_eq, drop, get_or, length, map, slice_index_or, IfOk, IfErr};
 ghost use Rattle.std.specs.List.{position_or_len};
-ghost use Rattle.nd_grid.specs.Grid.{kept_shape, is_among};
+ghost use Rattle.nd_grid.specs.Grid.{is_among};
+ghost use Rattle.chunk_layout.specs.Layouts.{counts as counts_in};
 ghost use Rattle.chunk_layout.specs.Unions.{union};
 ghost use Rattle.lowering_laws.specs.Stages.{kept_axes, paired_sizes, with_sizes, product_blocks, contracted_blocks};
-ghost use Rattle.block_lowering.specs.Pairing.{OnGathered, contracting};
+ghost use Rattle.block_lowering.specs.Pairing.{OnGathered, shape_contracted, contracting};
 ghost use Rattle.block_lowering.specs.Growing.{Refuses, IsGrown};
 
 use crate::counts::counts_of;
@@ -143,7 +144,7 @@ fn product_shape(
     left_axes: &[u64],
     right_axes: &[u64],
 ) -> Result<Shape, AllocError>
-    ensures { IfOk result (λ shape. shape ≡ kept_shape 0 (slice_index_or inputs.now left []) left_axes.now ++ kept_shape 0 (slice_index_or inputs.now right []) right_axes.now) }
+    ensures { IfOk result (λ shape. shape ≡ shape_contracted inputs.now left right left_axes.now right_axes.now) }
 {
     let mut dims = Vec::new(alloc);
     push_kept(&mut dims, dims_at(inputs, left), left_axes)?;
@@ -293,8 +294,10 @@ fn push_products(
     right: &Keyed,
     cuts: &[Cuts],
 ) -> Result<Keyed, LowerError>
-    ensures ok { IfOk result (IsGrown graph.old (product_blocks left_axes.now right_axes.now (map (λ (ss : List ℕ). length ss) cuts.now) left.now right.now (length graph.old)) graph.new) }
-    ensures err { IfErr result (Refuses graph.old (product_blocks left_axes.now right_axes.now (map (λ (ss : List ℕ). length ss) cuts.now) left.now right.now (length graph.old)).tasks) }
+    ensures ok { let pairs = counts_in cuts.now in
+        IfOk result (IsGrown graph.old (product_blocks left_axes.now right_axes.now pairs left.now right.now (length graph.old)) graph.new) }
+    ensures err { let pairs = counts_in cuts.now in
+        IfErr result (Refuses graph.old (product_blocks left_axes.now right_axes.now pairs left.now right.now (length graph.old)).tasks) }
 {
     let pairs = counts_of(alloc, cuts)?;
     let (one, two) = (left_axes.as_slice(), right_axes.as_slice());

@@ -1,12 +1,11 @@
 //! Rechunking: each block is put together of the parts that blocks of another layout have of it.
-ghost use Rattle.std.specs.Prelude.{◌≡◌, ◌≤◌, length, map, IfOk, IfErr};
+ghost use Rattle.std.specs.Prelude.{◌≡◌, ◌≤◌, length, IfOk, IfErr};
 ghost use Rattle.nd_shape.specs.Index.{index_at};
-ghost use Rattle.nd_shape.specs.declared.region.Piece.{Piece as Part};
 ghost use Rattle.chunk_layout.specs.Layouts.{counts, lengths_at, normalized};
-ghost use Rattle.lowering_laws.specs.Sources.{key_of, fitted, rechunked};
+ghost use Rattle.lowering_laws.specs.Sources.{fitted, rechunked};
 ghost use Rattle.lowering_laws.specs.Stages.{rechunked_blocks};
 ghost use Rattle.block_lowering.specs.Growing.{Refuses, IsGrown};
-ghost use Rattle.block_lowering.specs.Rechunking.{renamed, assembled};
+ghost use Rattle.block_lowering.specs.Rechunking.{renamed, keys_of_parts, shapes_of_parts, assembled};
 
 use crate::counts::{counts_of, numbers_of};
 use crate::error::LowerError;
@@ -23,7 +22,7 @@ use task_graph::{Graph, Task};
 
 // The key of each piece's block.
 fn keys_of_pieces(alloc: Global, source: &Keyed, pieces: &[Piece]) -> Result<Vec<u32>, AllocError>
-    ensures { IfOk result (λ keys. keys.items ≡ map (λ (p : Part). key_of source.now p.source) pieces.now) }
+    ensures { IfOk result (λ keys. keys.items ≡ keys_of_parts source.now pieces.now) }
 {
     let mut keys = Vec::with_capacity(alloc, pieces.len())?;
     for piece in pieces {
@@ -52,7 +51,7 @@ fn shapes_of_pieces(
     source: &Keyed,
     pieces: &[Piece],
 ) -> Result<Vec<Shape>, AllocError>
-    ensures { IfOk result (λ shapes. shapes.items ≡ map (λ (p : Part). lengths_at source.now.layout (index_at (counts source.now.layout) p.source)) pieces.now) }
+    ensures { IfOk result (λ shapes. shapes.items ≡ shapes_of_parts source.now pieces.now) }
 {
     let mut shapes = Vec::with_capacity(alloc, pieces.len())?;
     for piece in pieces {

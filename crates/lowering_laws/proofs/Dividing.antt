@@ -30,7 +30,7 @@ use Rattle.lowering_laws.specs.Law.{Stand}
 use Rattle.lowering_laws.specs.Built.{AreBuilt}
 use Rattle.lowering_laws.specs.Faults.{is_division}
 use Rattle.lowering_laws.proofs.Carrying.{Fits, Holds-same}
-use Rattle.lowering_laws.proofs.Pieces.{all-join}
+use Rattle.task_graph.proofs.Rising.{all-join}
 use Rattle.lowering_laws.proofs.Pointwise.{HasOperands, fits-pair, there-pair}
 use Rattle.lowering_laws.proofs.Lowering.{IsHeld, AllHeld, node-held, shape-is, shape-front, arg-carries, lower-extends, Stand-here, drop-head, drop-none}
 use Rattle.lowering_laws.proofs.Good.{IsMade, none-good}

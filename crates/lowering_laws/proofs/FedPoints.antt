@@ -14,7 +14,7 @@ use Rattle.lowering_laws.specs.Law.{Stand}
 use Rattle.lowering_laws.proofs.Carrying.{Stand-front, Stand-back}
 use Rattle.lowering_laws.proofs.Under.{length-layout}
 use Rattle.lowering_laws.proofs.Points.{length-point}
-use Rattle.lowering_laws.proofs.Pieces.{all-join}
+use Rattle.task_graph.proofs.Rising.{all-join}
 use Rattle.lowering_laws.proofs.Joined.{AlongFits, along-fits, along-number, sizes_along, starts-axis, counts-set, axis_sizes, layouts_of}
 use Rattle.lowering_laws.proofs.GoodPoints.{ArgBelow, ArgReady, ArgsMade, all-args}
 use Rattle.lowering_laws.proofs.GoodJoined.{IsOperand, FitsAlong, AlongMade, along-made}

@@ -20,7 +20,7 @@ use Rattle.lowering_laws.specs.Lowered.{no_node, source_at, lower_op, Lowering, 
 use Rattle.lowering_laws.specs.Law.{Stand}
 use Rattle.lowering_laws.specs.Whole.{LawOfOrder}
 use Rattle.lowering_laws.specs.Formed.{LawOfForm}
-use Rattle.lowering_laws.proofs.Pieces.{all-join}
+use Rattle.task_graph.proofs.Rising.{all-join}
 use Rattle.lowering_laws.proofs.Lowering.{shape-is, drop-head, lower-extends, Stand-here}
 use Rattle.lowering_laws.proofs.Good.{none-good}
 use Rattle.lowering_laws.proofs.Order.{IsInOrder, HaveGraph, graph-of, one-node}

@@ -24,7 +24,7 @@ use Rattle.lowering_laws.specs.Sources.{Source, key_at, fitted}
 use Rattle.lowering_laws.specs.Stages.{inputs_among, place_among, kept_axes, group_tasks, level_tasks, tree_count, folded_tasks, folded_each, partial_task, reduced_blocks, product_task, product_blocks, contracted_blocks, paired_sizes, with_sizes}
 use Rattle.lowering_laws.specs.Law.{Stand, HaveChunks}
 use Rattle.lowering_laws.proofs.Carrying.{Stand-front, Stand-back}
-use Rattle.lowering_laws.proofs.Pieces.{all-join}
+use Rattle.task_graph.proofs.Rising.{all-join}
 use Rattle.lowering_laws.proofs.Plain.{lengths-on}
 use Rattle.lowering_laws.proofs.Cutting.{chunks-on, some-union}
 use Rattle.lowering_laws.proofs.Fitting.{fitted-layout}

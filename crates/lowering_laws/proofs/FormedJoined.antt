@@ -17,7 +17,7 @@ use Rattle.block_kernels.specs.WellFormed.{FitsPiece, FitsAssemble}
 use Rattle.task_graph.specs.declared.graph.Task.{Task}
 use Rattle.lowering_laws.specs.Sources.{Source, fitted}
 use Rattle.lowering_laws.specs.Stages.{Along, along_all, or_empty, no_along, along_at, whole_piece, fitted_along, no_source, common_axis, common_layout, joined_task, concatenated_blocks}
-use Rattle.lowering_laws.proofs.Pieces.{all-join}
+use Rattle.task_graph.proofs.Rising.{all-join}
 use Rattle.lowering_laws.proofs.Cutting.{chunks-on}
 use Rattle.lowering_laws.proofs.Fitting.{fitted-layout}
 use Rattle.lowering_laws.proofs.Joined.{AllSources, AreJoined, AlongFits, along-fits, along-number, sizes_along, starts-axis, lengths-set, axis_sizes, layouts_of, joined-targets, zeros-within}

@@ -21,7 +21,7 @@ use Rattle.lowering_laws.specs.Law.{Stand}
 use Rattle.lowering_laws.proofs.Carrying.{Stand-front}
 use Rattle.lowering_laws.proofs.Under.{one_or, block_under, axes-blocks, lengths-blocks, IsUnder, under-layout}
 use Rattle.lowering_laws.proofs.Points.{length-point}
-use Rattle.lowering_laws.proofs.Pieces.{all-join}
+use Rattle.task_graph.proofs.Rising.{all-join}
 use Rattle.lowering_laws.proofs.Fitting.{fitted-layout}
 use Rattle.lowering_laws.proofs.Uses.{place-below}
 use Rattle.lowering_laws.proofs.Pointwise.{AllCarry, AllAligned, target, target-is, HasUse, has-first, has-later, IsPoint, point-is, grid_shapes}

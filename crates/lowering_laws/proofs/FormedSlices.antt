@@ -24,7 +24,7 @@ use Rattle.lowering_laws.specs.Sources.{Source}
 use Rattle.lowering_laws.specs.Stages.{kept_axes, nothing_taken, pieces_at, chunks_taken, steps_taken, slice_task, sliced_blocks}
 use Rattle.lowering_laws.specs.Law.{HaveChunks}
 use Rattle.lowering_laws.proofs.Sliced.{slice-of, lists_of, some-pieces, first-one}
-use Rattle.lowering_laws.proofs.Rising.{Rising, rising-at}
+use Rattle.task_graph.proofs.Rising.{Rising, rising-at}
 use Rattle.lowering_laws.proofs.Formed.{AreFormed, formed-each, made-shape}
 
 -- ---- one piece

@@ -23,10 +23,11 @@ use Rattle.lowering_laws.specs.Stages.{after, filled_blocks, loaded_blocks, slic
 use Rattle.lowering_laws.specs.Law.{HaveChunks}
 use Rattle.task_graph.specs.Numberings.{PlacesFit}
 use Rattle.lowering_laws.proofs.Fitting.{same-layout}
-use Rattle.lowering_laws.proofs.Pieces.{parts-fit, all-mapped}
+use Rattle.lowering_laws.proofs.Pieces.{parts-fit}
 use Rattle.lowering_laws.proofs.Plain.{IsOrder, counts-turned}
 use Rattle.lowering_laws.proofs.Sliced.{slice-of, lists_of}
-use Rattle.lowering_laws.proofs.Rising.{Rises, Rising, place_in, rises-mapped, parts-in, parts-rise}
+use Rattle.task_graph.proofs.Rising.{Rises, Rising, rises-mapped, all-mapped}
+use Rattle.lowering_laws.proofs.Rising.{place_in, parts-in, parts-rise}
 
 -- a task that may stand behind `bound` others
 pub record IsGood (bound : ℕ) (t : Task) : Type 0 where

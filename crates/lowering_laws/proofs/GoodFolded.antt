@@ -26,7 +26,7 @@ use Rattle.task_graph.proofs.Keys.{ascending-has, contains-here, contains-later}
 use Rattle.lowering_laws.proofs.Trees.{AreLevels, tree-levels, length-groups}
 use Rattle.lowering_laws.proofs.Reductions.{folded_part, counts-folded, Merging, merging, length-folded, length-strides}
 use Rattle.lowering_laws.proofs.Products.{ArePaired, Weaving, weaving, AreOnce, drop-append, some-elements, length-pairs, pair-at, length-with, with-paired}
-use Rattle.lowering_laws.proofs.Rising.{ascending-rises, ascending-all, range-below, range-rises}
+use Rattle.task_graph.proofs.Rising.{ascending-rises, ascending-all, range-below, range-rises}
 use Rattle.lowering_laws.proofs.Good.{IsGood, AreGood, IsBelow, IsMade, IsFit, good-weaker, below-weaker, none-good, good-append, made-after, key-below, made-fitted}
 
 good-cons : (base : ℕ) (t : Task) (ts : List Task) → IsGood base t → AreGood (suc base) ts → AreGood base (t ∷ ts)

@@ -13,11 +13,10 @@ use Rattle.lowering_laws.specs.Sources.{key_at, one_each, fitted}
 use Rattle.lowering_laws.specs.Stages.{Use, keys_used, deps_of_uses, Arg, Literal, Blocks, Point, Pair, Choice, arg_layout, arg_target, fitted_arg, fitted_args, chunks_under, uses_of, operand_of, nth_arg, point_task, pointwise, point_layout, layout_under}
 use Rattle.task_graph.specs.Numberings.{OperandFits}
 use Rattle.lowering_laws.proofs.Under.{IsUnder, under-layout, length-layout}
-use Rattle.lowering_laws.proofs.Pieces.{all-join}
 use Rattle.lowering_laws.proofs.Points.{length-point}
 use Rattle.lowering_laws.proofs.Pointwise.{HasUse, has-first, has-later}
 use Rattle.task_graph.proofs.Keys.{ascending-has}
-use Rattle.lowering_laws.proofs.Rising.{ascending-rises, ascending-all}
+use Rattle.task_graph.proofs.Rising.{ascending-rises, ascending-all, all-join}
 use Rattle.lowering_laws.proofs.Good.{IsGood, AreGood, IsBelow, IsMade, IsFit, below-weaker, none-good, good-append, made-after, key-below, made-each, made-fitted}
 
 -- an operand of no more axes than the result, whose keys are there

@@ -24,7 +24,7 @@ use Rattle.task_graph.specs.Graphs.{task}
 use Rattle.lowering_laws.specs.Sources.{Source, Made, rechunk_task, rechunked, same_layout, fitted}
 use Rattle.lowering_laws.specs.Stages.{Arg, Literal, Blocks, Point, Pair, Choice, arg_layout, arg_target, fitted_args, point_layout, point_task, pointwise, Along, along_all, or_empty, common_layout, fitted_along, joined_task, concatenated_blocks, group_tasks, level_tasks, tree_count, folded_tasks, folded_each, partial_task, paired_sizes, with_sizes, kept_axes, product_task, contracted_blocks}
 use Rattle.lowering_laws.specs.Lowered.{source_at, arg_of, lower_op, Lowering, with_made, lower_from, lowering}
-use Rattle.lowering_laws.proofs.Pieces.{all-join}
+use Rattle.task_graph.proofs.Rising.{all-join}
 
 -- what holds of each task made so
 abbrev pub OfEach : (Task → Type 0) → Type 0

@@ -41,7 +41,7 @@ use Rattle.lowering_laws.proofs.Plain.{IsOrder}
 use Rattle.lowering_laws.proofs.Products.{AreOnce}
 use Rattle.lowering_laws.proofs.Cutting.{chunks-on, lengths-normalized, some-normalized}
 use Rattle.lowering_laws.proofs.Lowering.{IsHeld, AllHeld, node-held, shape-is, shape-front, drop-head, drop-none, order-of, once-of}
-use Rattle.lowering_laws.proofs.Rising.{rising-once, rising-increasing}
+use Rattle.task_graph.proofs.Rising.{rising-once, rising-increasing}
 use Rattle.lowering_laws.proofs.Good.{IsGood, AreGood, IsBelow, IsMade, below-weaker, none-good, good-append, made-filled, made-loaded, made-sliced, made-transposed, made-rechunked}
 use Rattle.lowering_laws.proofs.GoodPoints.{ArgBelow, made-pointwise}
 use Rattle.lowering_laws.proofs.GoodJoined.{IsOperand, made-joined}

@@ -27,7 +27,7 @@ use Rattle.lowering_laws.specs.Stages.{Arg, Literal, Point, Pair, Choice, arg_la
 use Rattle.lowering_laws.specs.Lowered.{source_at, arg_of, lower_op}
 use Rattle.lowering_laws.specs.Faults.{divides, is_division}
 use Rattle.lowering_laws.proofs.MadeTasks.{all-of, all-fitted, all-args, all-along, all-folded}
-use Rattle.lowering_laws.proofs.Pieces.{all-join}
+use Rattle.task_graph.proofs.Rising.{all-join}
 use Rattle.lowering_laws.proofs.Reductions.{length-folded, length-strides}
 
 abbrev pub IsWhole : Task → Type 0

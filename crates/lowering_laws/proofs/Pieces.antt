@@ -14,6 +14,7 @@ use Rattle.chunk_layout.specs.Layouts.{counts, lengths, starts_at, lengths_at, b
 use Rattle.chunk_layout.specs.Plans.{Overlap, with_overlap, overlaps_from, overlaps, overlaps_at, tuples, chunks_in, from_box, to_box, parts}
 use Rattle.block_kernels.specs.Kernels.{nth, counted, is_within, in_pieces, assembled}
 use Rattle.lowering_laws.specs.Sources.{placed}
+use Rattle.task_graph.proofs.Rising.{all-join, all-mapped}
 
 -- ---- the overlaps of one axis
 
@@ -116,14 +117,6 @@ TupleFits [] lows os = os ≡ []
 TupleFits (sizes ∷ from) [] os = ⊥
 TupleFits (sizes ∷ from) (low ∷ lows) [] = ⊥
 TupleFits (sizes ∷ from) (low ∷ lows) (o ∷ os) = OverlapFits sizes low o × TupleFits from lows os
-
-pub all-join : {A : Type 0} (P : A → Type 0) (xs ys : List A) → AllByRecursion P xs → AllByRecursion P ys → AllByRecursion P (xs ++ ys)
-all-join P [] ys a b = b
-all-join P (x ∷ xs) ys a b = (a.0, all-join P xs ys a.1 b)
-
-pub all-mapped : {A B : Type 0} (P : A → Type 0) (Q : B → Type 0) (f : A → B) (xs : List A) → ((x : A) → P x → Q (f x)) → AllByRecursion P xs → AllByRecursion Q (map f xs)
-all-mapped P Q f [] h a = tt
-all-mapped P Q f (x ∷ xs) h a = (h x a.0, all-mapped P Q f xs h a.1)
 
 pub all-tuples : {A : Type 0} (P : A → Type 0) (Q R : List A → Type 0) (xs : List A) (ts : List (List A)) → ((x : A) (t : List A) → P x → Q t → R (x ∷ t)) → AllByRecursion P xs → AllByRecursion Q ts
     → AllByRecursion R (flat_map (λ x. map (λ t. x ∷ t) ts) xs)

@@ -19,11 +19,10 @@ use Rattle.lowering_laws.specs.Sources.{Source, key_of}
 use Rattle.lowering_laws.specs.Lowered.{source_at, lowering, lowered, keys_of}
 use Rattle.lowering_laws.specs.Built.{AreBuilt}
 use Rattle.lowering_laws.specs.Whole.{IsSound, LawOfOrder, LawOfLowered, saved_key}
-use Rattle.lowering_laws.proofs.Pieces.{all-join}
 use Rattle.lowering_laws.proofs.Good.{IsBelow}
 use Rattle.lowering_laws.proofs.Order.{IsKnown, AllKnown, AreLowered, lowering-order, good-earlier, good-rising, good-fit}
 use Rattle.task_graph.proofs.Visits.{IsOrder, depth-first, depth-first-below, numbering, renumbered-earlier}
-use Rattle.lowering_laws.proofs.Rising.{ascending-rises, rising-increasing}
+use Rattle.task_graph.proofs.Rising.{ascending-rises, rising-increasing, all-join}
 use Rattle.block_kernels.specs.Kernels.{input_shapes}
 use Rattle.chunk_layout.specs.Layouts.{counts, region}
 use Rattle.nd_shape.specs.Index.{place, index_at}

@@ -16,7 +16,7 @@ use Rattle.chunk_layout.specs.Unions.{Parted, parted, union}
 use Rattle.chunk_layout.proofs.Slicings.{AllSome, some-runs}
 use Rattle.lowering_laws.specs.Stages.{kept_axes, turned_layout, joined, joined_all, Along, along_from, along_all, or_empty}
 use Rattle.lowering_laws.proofs.Cutting.{CanCutAll, can-cut}
-use Rattle.lowering_laws.proofs.Pieces.{all-join}
+use Rattle.task_graph.proofs.Rising.{all-join}
 use Rattle.lowering_laws.proofs.Sliced.{lists_of}
 use Rattle.lowering_laws.proofs.Joined.{sizes_along}
 

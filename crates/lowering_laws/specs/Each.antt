@@ -10,4 +10,6 @@ OfEachJob P = (nodes : List Node) (saves : List ℕ) → IsExpression nodes → 
 
 -- and for each content of its inputs, where its numbers are int64
 abbrev pub OfEachRun : ((ℕ → List ℕ → ℤ) → List Node → List ℕ → Type 0) → Type 0
-OfEachRun P = (files : ℕ → List ℕ → ℤ) (nodes : List Node) (saves : List ℕ) → IsExpression nodes → AreBuilt nodes → All (λ n. n < length nodes) saves → P files nodes saves
+OfEachRun P =
+    (files : ℕ → List ℕ → ℤ) (nodes : List Node) (saves : List ℕ) → IsExpression nodes → AreBuilt nodes
+    → All (λ n. n < length nodes) saves → P files nodes saves

@@ -86,5 +86,6 @@ pub record IsZeroDivide (files : ℕ → List ℕ → ℤ) (nodes : List Node) (
 -- A key that is faulty is a node's own block, in whose region the node divides an element by 0; a node's own block in whose
 -- region some element is nothing has no value.
 pub record LawOfFaults (files : ℕ → List ℕ → ℤ) (nodes : List Node) (saves : List ℕ) : Type 0 where
-  pub fault : (k : ℕ) → k < length (lowered nodes saves).tasks → faulty (deps_of (shape_of (lowered nodes saves).tasks)) (value files (lowered nodes saves).tasks) k ≡ true → IsZeroDivide files nodes saves k
+  pub fault : (k : ℕ) → k < length (lowered nodes saves).tasks
+      → faulty (deps_of (shape_of (lowered nodes saves).tasks)) (value files (lowered nodes saves).tasks) k ≡ true → IsZeroDivide files nodes saves k
   pub none : (k : ℕ) → k < length (lowered nodes saves).tasks → IsFault files nodes saves k → value files (lowered nodes saves).tasks k ≡ None

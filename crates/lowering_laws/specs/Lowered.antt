@@ -36,7 +36,8 @@ lower_op nodes sources n taken shape (Input dims chunks) base = loaded_blocks (i
 lower_op nodes sources n taken shape (Full dims v chunks) base = filled_blocks dims (normalized dims chunks) v (pos 0) base
 lower_op nodes sources n taken shape (Ramp dims start step chunks) base = filled_blocks dims (normalized dims chunks) start step base
 lower_op nodes sources n taken shape (Negate of) base = pointwise (Pair Sub) shape (Literal (pos 0) ∷ arg_of nodes sources of ∷ []) base
-lower_op nodes sources n taken shape (Elementwise op left right) base = pointwise (Pair op) shape (arg_of nodes sources left ∷ arg_of nodes sources right ∷ []) base
+lower_op nodes sources n taken shape (Elementwise op left right) base =
+    pointwise (Pair op) shape (arg_of nodes sources left ∷ arg_of nodes sources right ∷ []) base
 lower_op nodes sources n taken shape (Where condition first second) base =
     pointwise Choice shape (arg_of nodes sources condition ∷ arg_of nodes sources first ∷ arg_of nodes sources second ∷ []) base
 lower_op nodes sources n taken shape (Slice of parts) base = sliced_blocks (source_at sources of) taken (dropped parts) base
@@ -47,6 +48,10 @@ lower_op nodes sources n taken shape (Reduce fold of axes split) base =
     reduced_blocks fold (folded_axes axes (length (shape_at nodes of))) split (source_at sources of) base
 lower_op nodes sources n taken shape (Tensordot left right left_axes right_axes) base =
     contracted_blocks left_axes right_axes (source_at sources left) (source_at sources right) base
+
+-- the tasks of a node, as node n
+abbrev pub node_made : List Node → List Source → ℕ → Node → ℕ → Made
+node_made nodes sources n x base = lower_op nodes sources n x.taken x.shape x.op base
 
 -- node n and its block, at each key that is one's own
 abbrev pub name_at : Source → ℕ → ℕ → Option (ℕ × ℕ)
@@ -65,10 +70,14 @@ with_made l n m = record {
   sources = l.sources ++ m.source ∷ [];
 }
 
+-- a node more, as node n
+abbrev pub with_node : List Node → Lowering → ℕ → Node → Lowering
+with_node nodes l n x = with_made l n (node_made nodes l.sources n x (length l.tasks))
+
 -- the nodes from number n on
 abbrev pub lower_from : List Node → ℕ → Lowering → List Node → Lowering
 lower_from nodes n l [] = l
-lower_from nodes n l (x ∷ rest) = lower_from nodes (suc n) (with_made l n (lower_op nodes l.sources n x.taken x.shape x.op (length l.tasks))) rest
+lower_from nodes n l (x ∷ rest) = lower_from nodes (suc n) (with_node nodes l n x) rest
 
 -- all nodes, before anything is culled
 abbrev pub lowering : List Node → Lowering

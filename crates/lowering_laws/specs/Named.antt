@@ -33,10 +33,12 @@ pub record IsName (nodes : List Node) (saves : List ℕ) (k n c : ℕ) : Type 0 
 pub record LawOfNames (nodes : List Node) (saves : List ℕ) : Type 0 where
   pub number : length (lowered nodes saves).names ≡ length (lowered nodes saves).tasks
   pub each : (k n c : ℕ) → k < length (lowered nodes saves).tasks → name_of nodes saves k ≡ Some (n, c) → IsName nodes saves k n c
-  pub once : (j k n c : ℕ) → j < length (lowered nodes saves).tasks → k < length (lowered nodes saves).tasks → name_of nodes saves j ≡ Some (n, c) → name_of nodes saves k ≡ Some (n, c) → j ≡ k
+  pub once : (j k n c : ℕ) → j < length (lowered nodes saves).tasks → k < length (lowered nodes saves).tasks
+      → name_of nodes saves j ≡ Some (n, c) → name_of nodes saves k ≡ Some (n, c) → j ≡ k
   pub saves_are : length (lowered nodes saves).saved ≡ length saves
   pub blocks_are : (j : ℕ) → j < length saves → length (get_or (lowered nodes saves).saved j []) ≡ blocks (layout_of nodes (get_or saves j 0))
-  pub saved : (j c : ℕ) → j < length saves → c < blocks (layout_of nodes (get_or saves j 0)) → name_of nodes saves (saved_key nodes saves j c) ≡ Some (get_or saves j 0, c)
+  pub saved : (j c : ℕ) → j < length saves → c < blocks (layout_of nodes (get_or saves j 0))
+      → name_of nodes saves (saved_key nodes saves j c) ≡ Some (get_or saves j 0, c)
 
 -- Each key with a name, where no key of its cone is faulty, has a value, which holds the node's elements in the block's box.
 abbrev pub LawOfNamed : (ℕ → List ℕ → ℤ) → List Node → List ℕ → Type 0

@@ -134,7 +134,8 @@ abbrev pub nth_arg : List Arg → ℕ → Arg
 nth_arg args k = slice_index_or args k no_arg
 
 abbrev pub point_spec : Point → List Arg → List Use → List ℕ → List ℕ → Spec
-point_spec (Pair op) args uses bs shape = kernels.Elementwise op (operand_of uses bs (nth_arg args 0)) (operand_of uses bs (nth_arg args 1)) (inputs_among uses) shape
+point_spec (Pair op) args uses bs shape =
+    kernels.Elementwise op (operand_of uses bs (nth_arg args 0)) (operand_of uses bs (nth_arg args 1)) (inputs_among uses) shape
 point_spec Choice args uses bs shape =
     kernels.Where (operand_of uses bs (nth_arg args 0)) (operand_of uses bs (nth_arg args 1)) (operand_of uses bs (nth_arg args 2)) (inputs_among uses) shape
 
@@ -295,11 +296,16 @@ tree_count n split = total (map (λ (gs : List ℕ). length gs) (tree n split))
 abbrev pub folded_tasks : Fold → ℕ → ℕ → (ℕ → Task) → List ℕ → ℕ → List Task
 folded_tasks fold n split partial dims at = map partial (range_with_len 0 n) ++ tree_tasks fold dims at n split
 
+-- the tasks of block c, behind those of the blocks before it
+abbrev pub block_tasks : Fold → ℕ → ℕ → List (List ℕ) → (List ℕ → ℕ → Task) → ℕ → ℕ → List Task
+block_tasks fold n split layout partial base c =
+    let bs = index_at (counts layout) c in folded_tasks fold n split (partial bs) (lengths_at layout bs) (base + (n + tree_count n split) * c)
+
 abbrev pub folded_each : Fold → ℕ → ℕ → List (List ℕ) → (List ℕ → ℕ → Task) → ℕ → Made
 folded_each fold n split layout partial base =
     let stride = n + tree_count n split in
     record {
-      tasks = flat_map (λ c. let bs = index_at (counts layout) c in folded_tasks fold n split (partial bs) (lengths_at layout bs) (base + stride * c)) (range_with_len 0 (blocks layout));
+      tasks = flat_map (block_tasks fold n split layout partial base) (range_with_len 0 (blocks layout));
       source = record { layout = layout; first = base + (stride - 1); stride = stride };
     }
 

@@ -39,7 +39,8 @@ saved_key nodes saves j c = get_or (get_or (lowered nodes saves).saved j []) c 0
 -- block's box.
 abbrev pub LawOfLowered : (ℕ → List ℕ → ℤ) → List Node → List ℕ → Type 0
 LawOfLowered files nodes saves =
-    (j c : ℕ) → j < length saves → c < blocks (source_at (lowering nodes).sources (get_or saves j 0)).layout → IsSound files (lowered nodes saves).tasks (saved_key nodes saves j c)
+    (j c : ℕ) → j < length saves → c < blocks (source_at (lowering nodes).sources (get_or saves j 0)).layout
+    → IsSound files (lowered nodes saves).tasks (saved_key nodes saves j c)
     → (b : Array) × (value files (lowered nodes saves).tasks (saved_key nodes saves j c) ≡ Some b)
     × Holds (grid_of b) (whole files nodes (get_or saves j 0)) (region (source_at (lowering nodes).sources (get_or saves j 0)).layout c)
 
@@ -59,10 +60,13 @@ pub record LawOfOrder (nodes : List Node) (saves : List ℕ) : Type 0 where
   pub fit : AreFit (lowering nodes).tasks
   pub fed : AreFedAll (lowering nodes).tasks
   pub shaped : (n c : ℕ) → n < length nodes → c < blocks (source_at (lowering nodes).sources n).layout
-      → result_shape (task_at (lowering nodes).tasks (key_of (source_at (lowering nodes).sources n) c)).spec ≡ (region (source_at (lowering nodes).sources n).layout c).lengths
+      → result_shape (task_at (lowering nodes).tasks (key_of (source_at (lowering nodes).sources n) c)).spec
+      ≡ (region (source_at (lowering nodes).sources n).layout c).lengths
   pub run : AreOrdered (lowered nodes saves).tasks
   pub run_fit : AreFit (lowered nodes saves).tasks
   pub run_fed : AreFedAll (lowered nodes saves).tasks
   pub run_shaped : (j c : ℕ) → j < length saves → c < blocks (source_at (lowering nodes).sources (get_or saves j 0)).layout
-      → result_shape (task_at (lowered nodes saves).tasks (saved_key nodes saves j c)).spec ≡ (region (source_at (lowering nodes).sources (get_or saves j 0)).layout c).lengths
-  pub saved : (j c : ℕ) → j < length saves → c < blocks (source_at (lowering nodes).sources (get_or saves j 0)).layout → saved_key nodes saves j c < length (lowered nodes saves).tasks
+      → result_shape (task_at (lowered nodes saves).tasks (saved_key nodes saves j c)).spec
+      ≡ (region (source_at (lowering nodes).sources (get_or saves j 0)).layout c).lengths
+  pub saved : (j c : ℕ) → j < length saves → c < blocks (source_at (lowering nodes).sources (get_or saves j 0)).layout
+      → saved_key nodes saves j c < length (lowered nodes saves).tasks

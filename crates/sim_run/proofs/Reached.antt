@@ -21,7 +21,7 @@ use Rattle.lowering_laws.specs.Sources.{Source, key_of}
 use Rattle.lowering_laws.specs.Lowered.{source_at, lowering, lowered, keys_of}
 use Rattle.lowering_laws.specs.Whole.{LawOfOrder, saved_key}
 use Rattle.lowering_laws.proofs.Order.{AreLowered, lowering-order}
-use Rattle.lowering_laws.proofs.Pieces.{all-join}
+use Rattle.task_graph.proofs.Rising.{all-join}
 use Rattle.lowering_laws.proofs.Runs.{order-law, length-keys, wanted_keys}
 
 -- ## What a visit adds

@@ -24,7 +24,7 @@ use Rattle.lowering_laws.specs.Named.{LawOfNames, layout_of}
 use Rattle.lowering_laws.specs.Whole.{LawOfOrder, saved_key}
 use Rattle.lowering_laws.proofs.NamesLaw.{names-law}
 use Rattle.lowering_laws.proofs.Order.{lowering-order}
-use Rattle.lowering_laws.proofs.Pieces.{all-join}
+use Rattle.task_graph.proofs.Rising.{all-join}
 use Rattle.lowering_laws.proofs.Runs.{order-law}
 
 -- ## Lists of lists

@@ -1,27 +1,26 @@
 -- Keys that are needed, by marks and as a numbering.
-use Rattle.std.proofs.Common.{◌≡◌, ◌≢◌, ℕ, zero, suc, ◌+◌, ◌<◌, ◌≤◌, Bool, true, false, ◌&&◌, ◌||◌, cond, List, [], ◌∷◌, ◌++◌, length, get_or, refl, ap, sym, subst, ◌∙◌, arith, inl, inr, ◌⊎◌, eq-eqb, ne_eqb}
-use Rattle.std.specs.Prelude.{nat_eq, eqb, Contains}
-use Rattle.std.specs.List.{AllByRecursion, list_any, filter, range_with_len}
+use Rattle.std.proofs.Common.{◌≡◌, ℕ, zero, suc, ◌+◌, ◌<◌, ◌≤◌, Bool, true, false, ◌&&◌, ◌||◌, cond, List, [], ◌∷◌, ◌++◌, length, get_or, refl, ap, sym, subst, ◌∙◌, arith, inl, inr, ◌⊎◌, eq-eqb, ne_eqb}
+use Rattle.std.specs.Prelude.{nat_eq, Contains}
+use Rattle.std.specs.List.{AllByRecursion, filter, range_with_len}
 use Rattle.std.proofs.lemmas.Bool.{cases_eq, cases_lt}
 use Rattle.std.proofs.Math.ListN.{set}
 use Rattle.std.proofs.lemmas.List.{get_or-set_same, get_or-set_other, length-set}
 use Rattle.std.proofs.lemmas.List.{get_or_past, get_or_default}
 use Rattle.std.proofs.lemmas.List.Elements.{filter-append}
-use Rattle.nd_grid.proofs.Turning.{position-below, position-at}
 use Rattle.cluster_msgs.specs.Dags.{IsEarlier}
 use Rattle.cluster_msgs.specs.Shape.{deps_of}
 use Rattle.cluster_msgs.specs.Values.{cone, needed}
 use Rattle.cluster_msgs.proofs.ValueLemmas.{cone-itself, cone-closed, cone-least}
 use Rattle.cluster_msgs.proofs.Dags.{all-weaker}
 use Rattle.task_graph.specs.declared.graph.Task.{Task}
-use Rattle.task_graph.specs.Graphs.{task_at, no_task, shape_of}
-use Rattle.task_graph.specs.Orders.{is_in, position, kept}
+use Rattle.task_graph.specs.Graphs.{shape_of}
+use Rattle.task_graph.specs.Orders.{is_in, kept}
 use Rattle.task_graph.specs.Numberings.{AreBehind}
 use Rattle.task_graph.specs.Culls.{mark_at, AreMarked, IsMarked, AreNeeded, listed_if, marked_keys}
 use Rattle.task_graph.proofs.Keys.{contains-here, contains-later}
 use Rattle.task_graph.proofs.Numbered.{in-more}
 use Rattle.task_graph.proofs.Rising.{Rising, rising-at, range-rises, range-below, all-member}
-use Rattle.task_graph.proofs.Visits.{in-from, not-in, all-from}
+use Rattle.task_graph.proofs.Visits.{in-from}
 
 -- ---- tests
 

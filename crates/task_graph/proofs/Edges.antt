@@ -1,12 +1,11 @@
 -- Fronts of lists: tasks, numbers, keys with their places.
-use Rattle.std.proofs.Common.{◌≡◌, ℕ, zero, suc, ◌+◌, ◌<◌, ◌≤◌, List, [], ◌∷◌, ◌++◌, length, map, take, get_or, refl, ap, sym, ◌∙◌, arith}
+use Rattle.std.proofs.Common.{◌≡◌, ℕ, zero, suc, ◌+◌, ◌<◌, ◌≤◌, List, [], ◌∷◌, ◌++◌, length, map, take, ap, sym, ◌∙◌, arith}
 use Rattle.std.specs.Prelude.{slice_index_or}
 use Rattle.std.specs.List.{range_with_len}
 use Rattle.std.proofs.lemmas.List.{map_push, take_more}
-use Rattle.cluster_msgs.specs.Shape.{edge_count, total_length}
+use Rattle.cluster_msgs.specs.Shape.{edge_count}
 use Rattle.task_graph.specs.declared.graph.Task.{Task}
 use Rattle.task_graph.specs.Graphs.{shape_of}
-use Rattle.task_graph.specs.Moves.{ArePlaced}
 use Rattle.task_graph.proofs.Pushed.{more-edges}
 
 pub edges-next : (tasks : List Task) (k : ℕ) (t : Task) → k < length tasks → t ≡ slice_index_or tasks k t → edge_count (shape_of (take (k + 1) tasks)) ≡ edge_count (shape_of (take k tasks)) + length t.deps

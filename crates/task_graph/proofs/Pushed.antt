@@ -1,16 +1,14 @@
 -- What a graph takes as its next key keeps its bounds.
-use Rattle.std.proofs.Common.{◌≡◌, ℕ, zero, suc, ◌+◌, ◌<◌, ◌≤◌, ◌^◌, Bool, true, false, ◌||◌, cond, List, [], ◌∷◌, ◌++◌, length, map, get_or, refl, ap, sym, ◌∙◌, subst, arith, inl, inr, Some, None}
+use Rattle.std.proofs.Common.{◌≡◌, ℕ, zero, suc, ◌+◌, ◌<◌, ◌≤◌, ◌^◌, Bool, true, false, ◌||◌, cond, List, [], ◌∷◌, ◌++◌, length, map, get_or, refl, ap, sym, ◌∙◌, subst, arith, Some, None}
 use Rattle.std.specs.Prelude.{nat_lt, not, Option}
 use Rattle.std.specs.List.{AllByRecursion}
 use Rattle.std.specs.List.Sorted.{IsStrictlyIncreasing}
-use Rattle.std.proofs.lemmas.Bool.{cases_lt}
 use Rattle.std.proofs.lemmas.List.{map_push}
-use Rattle.cluster_msgs.specs.Shape.{Shape, IsShape, Follows, pushed, key_count, edge_count}
+use Rattle.cluster_msgs.specs.Shape.{IsShape, Follows, pushed, edge_count}
 use Rattle.cluster_msgs.specs.Stored.{told, IsUnfit}
 use Rattle.cluster_msgs.specs.declared.shape.GraphRow.{GraphRow}
 use Rattle.cluster_msgs.proofs.ShapeLemmas.{IsShape-pushed, total_length-append}
 use Rattle.task_graph.specs.declared.graph.Task.{Task}
-use Rattle.task_graph.specs.declared.graph.PushError.{PushError}
 use Rattle.task_graph.specs.declared.limit.Quantity.{Quantity}
 use Rattle.task_graph.specs.declared.limit.Quantity.TheVariants.{Keys, Edges, BlockBytes}
 use Rattle.task_graph.specs.Graphs.{shape_of}

@@ -1,15 +1,15 @@
 -- Steps of depth-first visits.
-use Rattle.std.proofs.Common.{◌≡◌, ℕ, zero, suc, ◌+◌, ◌<◌, ◌≤◌, Bool, true, false, ◌||◌, List, [], ◌∷◌, ◌++◌, length, map, drop, get_or, refl, ap, sym, ◌∙◌, subst, arith, inl, inr}
+use Rattle.std.proofs.Common.{◌≡◌, ℕ, zero, suc, ◌+◌, ◌<◌, Bool, true, false, ◌||◌, List, [], ◌∷◌, ◌++◌, length, map, drop, get_or, refl, ap, sym, ◌∙◌, subst, arith}
 use Rattle.std.specs.Prelude.{nat_eq}
 use Rattle.std.specs.List.{AllByRecursion}
 use Rattle.std.proofs.Math.Seq.{drop-cons}
 use Rattle.std.proofs.lemmas.List.Folds.{list_any-append}
-use Rattle.cluster_msgs.specs.Dags.{IsEarlier, dag}
+use Rattle.cluster_msgs.specs.Dags.{IsEarlier}
 use Rattle.cluster_msgs.proofs.Dags.{dag-step, all-weaker}
 use Rattle.task_graph.specs.declared.orders.Frame.{Frame}
 use Rattle.task_graph.specs.Numbers.{Numbers}
 use Rattle.task_graph.specs.Orders.{is_in, visit_all, visit_within}
-use Rattle.task_graph.specs.Walks.{with_visit, visit, visit_rest, visits_rest, costs, weight_step, weight, frame_weight, frames_weight, IsUnderWay, AreUnderWay, IsStep}
+use Rattle.task_graph.specs.Walks.{with_visit, visit, visits_rest, costs, weight_step, weight, frame_weight, AreUnderWay, IsStep}
 
 -- ---- visits
 

@@ -34,4 +34,9 @@ abbrev pub bytes : List ℕ → ℕ
 bytes dims = 8 * elements dims
 
 abbrev pub task : Spec → List ℕ → Task
-task spec deps = record { spec = spec; deps = deps; work = bytes (result_shape spec) + total (map bytes (input_shapes spec)); nbytes = bytes (result_shape spec) }
+task spec deps = record {
+  spec = spec;
+  deps = deps;
+  work = bytes (result_shape spec) + total (map bytes (input_shapes spec));
+  nbytes = bytes (result_shape spec);
+}

@@ -14,6 +14,10 @@ abbrev pub OperandFits : Operand → ℕ → Type 0
 OperandFits (Input p) n = p < n
 OperandFits (Number v) n = Unit {0}
 
+-- the first inputs are blocks of one shape, but for the axes
+abbrev pub AreLike : List (List ℕ) → List ℕ → ℕ → Type 0
+AreLike inputs axes n = (p : ℕ) → p < n → kept_shape 0 (get_or inputs p []) axes ≡ kept_shape 0 (get_or inputs 0 []) axes
+
 -- the places that an operation names are among so many inputs
 abbrev pub PlacesFit : Spec → ℕ → Type 0
 PlacesFit (Elementwise op left right inputs shape) n = OperandFits left n × OperandFits right n
@@ -21,7 +25,7 @@ PlacesFit (Where condition first second inputs shape) n = OperandFits condition 
 PlacesFit (Slice steps dropped input) n = n ≡ 1
 PlacesFit (Transpose axes input) n = n ≡ 1
 PlacesFit (Assemble pieces inputs shape) n = AllByRecursion (λ p. p.source < n) pieces
-PlacesFit (Reduce fold axes inputs) n = (length inputs ≡ n) × ((p : ℕ) → p < n → kept_shape 0 (get_or inputs p []) axes ≡ kept_shape 0 (get_or inputs 0 []) axes)
+PlacesFit (Reduce fold axes inputs) n = (length inputs ≡ n) × AreLike inputs axes n
 PlacesFit (Contract left right left_axes right_axes inputs) n = (left < n) × (right < n)
 PlacesFit (Fill dims region start step) n = Unit {0}
 PlacesFit (Load input region) n = Unit {0}

@@ -10,6 +10,10 @@ use Rattle.task_graph.specs.Orders.{is_in, visit_all, visit_within}
 abbrev pub visit : (ℕ → List ℕ) → ℕ → List ℕ → List ℕ
 visit deps k done = visit_within (suc k) deps k done
 
+-- numbers after visits of keys in their order
+abbrev pub with_visits : (ℕ → List ℕ) → List ℕ → Numbers → Numbers
+with_visits deps ks n = record { keys = n.keys; order = visit_all (visit deps) ks n.order }
+
 -- what is left of a visit: the dependencies from a place on, then the key itself
 abbrev pub visit_rest : (ℕ → List ℕ) → Frame → List ℕ → List ℕ
 visit_rest deps f done = visit_all (visit deps) (drop f.next (deps f.key)) done ++ f.key ∷ []

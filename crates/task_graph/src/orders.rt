@@ -7,10 +7,10 @@ ghost use Rattle.std.specs.List.{AllByRecursion};
 ghost use Rattle.cluster_msgs.specs.Dags.{IsEarlier};
 ghost use Rattle.cluster_msgs.specs.Shape.{deps_of};
 ghost use Rattle.task_graph.specs.Graphs.{shape_of};
-ghost use Rattle.task_graph.specs.Orders.{is_in, visit_all, depth_first};
+ghost use Rattle.task_graph.specs.Orders.{is_in, depth_first};
 ghost use Rattle.task_graph.specs.Numberings.{IsNumbering};
 ghost use Rattle.task_graph.specs.Numbers.{Numbers};
-ghost use Rattle.task_graph.specs.Walks.{visit, with_visit, AreUnderWay, IsStep};
+ghost use Rattle.task_graph.specs.Walks.{visit, with_visit, with_visits, AreUnderWay, IsStep};
 
 use crate::graph::{Graph, Task, deps_at};
 use crate::numbers::Renumber;
@@ -129,7 +129,7 @@ fn visit_each(
     requires earlier { IsEarlier (deps_of (shape_of tasks.now)) }
     requires whole { numbers.old.keys ≡ length tasks.now }
     requires there { AllByRecursion (λ k. k < length tasks.now) keys.now }
-    ensures { OnOk result (numbers.new ≡ record { keys = numbers.old.keys; order = visit_all (visit (deps_of (shape_of tasks.now))) keys.now numbers.old.order }) }
+    ensures { OnOk result (numbers.new ≡ with_visits (deps_of (shape_of tasks.now)) keys.now numbers.old) }
 {
     for key in keys {
         visit(alloc, tasks, *key, numbers)?;

@@ -2,7 +2,7 @@ use Rattle.std.proofs.Common.{◌≡◌, ◌++◌, length}
 use Rattle.std.specs.List.{range_with_len, flat_map}
 use Rattle.nd_shape.specs.Shape.{elements}
 use Rattle.nd_shape.specs.Index.{index_at}
-use Rattle.block_lowering.proofs.FoldedBlocks.{block_tasks}
+use Rattle.lowering_laws.specs.Stages.{block_tasks}
 use Rattle.block_lowering.proofs.folds.push_folded.Given as goal
 
 abbrev pub invariant-loop-place : goal.invariant-loop-place

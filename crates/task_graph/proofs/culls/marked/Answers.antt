@@ -1,4 +1,4 @@
-use Rattle.std.proofs.Common.{rules, ◌≡◌, ◌++◌, ℕ, List, length, sym, ap, ◌∙◌}
+use Rattle.std.proofs.Common.{◌++◌, ℕ, List, sym, ap, ◌∙◌}
 use Rattle.task_graph.specs.Culls.{mark_at, listed_if}
 use Rattle.task_graph.specs.Numbers.{Numbers}
 use Rattle.task_graph.specs.Orders.{is_in}

@@ -1,4 +1,4 @@
-use Rattle.std.proofs.Common.{rules, arith, ◌≡◌, ◌≤◌, ◌+◌, ◌<◌, ℕ, length, take, sym, ap, ◌∙◌}
+use Rattle.std.proofs.Common.{rules, arith, ◌≤◌, ◌+◌, ℕ, length, take, sym, ap, ◌∙◌}
 use Rattle.cluster_msgs.specs.Shape.{edge_count}
 use Rattle.task_graph.specs.Graphs.{shape_of}
 use Rattle.task_graph.proofs.Edges.{edges-next, edges-within}

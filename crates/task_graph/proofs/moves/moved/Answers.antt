@@ -1,7 +1,6 @@
 use Rattle.std.proofs.Common.{◌≡◌, ℕ, List, map, sym, ap, subst, ◌∙◌}
 use Rattle.std.specs.Prelude.{eqb}
 use Rattle.std.specs.List.{IsDistinct}
-use Rattle.block_kernels.specs.declared.spec.Spec.{Spec}
 use Rattle.task_graph.specs.Moves.{place_now, shapes_now}
 use Rattle.task_graph.specs.Orders.{ascending, position, moved_spec, inputs_of}
 use Rattle.task_graph.proofs.Moving.{positions-apart}

@@ -1,4 +1,4 @@
-use Rattle.std.proofs.Common.{◌≡◌, ◌≢◌, ◌+◌, ◌<◌, ◌≤◌, ◌∷◌, ℕ, List, length, get_or, sym, ap, subst, ◌∙◌, arith}
+use Rattle.std.proofs.Common.{◌≡◌, ◌≢◌, ◌<◌, ◌≤◌, ◌∷◌, ℕ, List, length, get_or, sym, ap, subst, ◌∙◌, arith}
 use Rattle.cluster_msgs.specs.Shape.{deps_of}
 use Rattle.task_graph.specs.declared.orders.Frame.{Frame}
 use Rattle.task_graph.specs.Graphs.{shape_of}

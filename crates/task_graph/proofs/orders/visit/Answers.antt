@@ -1,11 +1,9 @@
-use Rattle.std.proofs.Common.{rules, ◌≡◌, ◌<◌, ◌∷◌, [], ℕ, List, length, false, true, sym, ap, subst, ◌∙◌}
+use Rattle.std.proofs.Common.{◌≡◌, ◌∷◌, List, length, false, sym, ap, subst, ◌∙◌}
 use Rattle.cluster_msgs.specs.Shape.{deps_of}
 use Rattle.task_graph.specs.declared.orders.Frame.{Frame}
 use Rattle.task_graph.specs.Graphs.{shape_of}
-use Rattle.task_graph.specs.Numbers.{Numbers}
 use Rattle.task_graph.specs.Orders.{is_in}
-use Rattle.task_graph.specs.Walks.{frames_weight, visits_rest, AreUnderWay, IsStep}
-use Rattle.task_graph.proofs.Walked.{first_frame, visit-old, visit-begins, visit-steps, IsVisiting}
+use Rattle.task_graph.proofs.Walked.{first_frame, visit-begins, IsVisiting}
 use Rattle.task_graph.proofs.orders.visit.Goals as goal
 
 pub loop-frame-init : goal.loop-frame-init

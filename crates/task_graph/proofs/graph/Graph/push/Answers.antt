@@ -1,5 +1,4 @@
 use Rattle.std.proofs.Common.{◌≡◌, ℕ, List, length, sym, ap, ◌∙◌, None}
-use Rattle.std.specs.Prelude.{Option}
 use Rattle.cluster_msgs.specs.Shape.{edge_count}
 use Rattle.task_graph.specs.declared.graph.Task.{Task}
 use Rattle.task_graph.specs.Graphs.{shape_of}

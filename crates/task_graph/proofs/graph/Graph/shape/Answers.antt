@@ -1,5 +1,5 @@
 use Rattle.std.proofs.Common.{◌≡◌, List, map, ap, subst, ◌∙◌}
-use Rattle.cluster_msgs.specs.Stored.{told, IsUnfit, IsMadeOf}
+use Rattle.cluster_msgs.specs.Stored.{told, IsUnfit}
 use Rattle.cluster_msgs.specs.declared.shape.GraphRow.{GraphRow}
 use Rattle.task_graph.specs.declared.graph.Task.{Task}
 use Rattle.task_graph.specs.Graphs.{shape_of}

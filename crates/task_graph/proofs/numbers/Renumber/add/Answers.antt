@@ -1,4 +1,4 @@
-use Rattle.std.proofs.Common.{rules, ◌≡◌, ◌<◌, ◌++◌, ◌∷◌, [], ℕ, List, false, length, set, Some, sym, ap, subst, ◌∙◌}
+use Rattle.std.proofs.Common.{◌≡◌, ◌<◌, ◌++◌, ◌∷◌, [], ℕ, List, false, length, set, Some, sym, ap, subst, ◌∙◌}
 use Rattle.task_graph.specs.Numbers.{Numbers, AreNumbered}
 use Rattle.task_graph.specs.Orders.{is_in}
 use Rattle.task_graph.proofs.Numbered.{more-numbered}

@@ -1,4 +1,4 @@
-use Rattle.std.proofs.Common.{rules, ◌≡◌, ◌≤◌, length, arith}
+use Rattle.std.proofs.Common.{◌≤◌, length, arith}
 use Rattle.task_graph.proofs.Numbered.{below-count}
 use Rattle.task_graph.proofs.numbers.Renumber.count.Goals as goal
 

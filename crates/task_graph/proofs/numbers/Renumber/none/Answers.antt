@@ -1,4 +1,4 @@
-use Rattle.std.proofs.Common.{◌≡◌, ℕ, List, [], sym, subst}
+use Rattle.std.proofs.Common.{ℕ, List, [], sym, subst}
 use Rattle.std.specs.Prelude.{Option}
 use Rattle.task_graph.specs.Numbers.{AreNumbered}
 use Rattle.task_graph.proofs.Numbered.{empty-numbered}

@@ -1,5 +1,4 @@
-use Rattle.std.proofs.Common.{◌≡◌, ◌∙◌, Bool, ap, cond, Some, None}
-use Rattle.std.specs.Prelude.{Option}
+use Rattle.std.proofs.Common.{◌∙◌, Bool, ap, cond, Some, None}
 use Rattle.task_graph.specs.Orders.{position}
 use Rattle.task_graph.proofs.numbers.Renumber.number.Goals as goal
 
