@@ -1,0 +1,3 @@
+mod Stamps
+pub mod Parcels
+pub mod Recorded

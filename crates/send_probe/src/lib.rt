@@ -1,0 +1,4 @@
+//! Which types cross threads.
+#![tactic(auto)]
+
+mod probe;

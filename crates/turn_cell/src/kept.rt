@@ -1,0 +1,42 @@
+//! What a state must tell to be kept in a cell.
+ghost use Rattle.std.specs.Prelude.{◌≡◌, ℕ, List, Bool, Option, length};
+
+use cluster_msgs::Label;
+
+/// A state with its stored entries.
+pub trait Kept {
+    type Block;
+
+    type Core;
+
+    ghost use Rattle.std.specs.Prelude.{ℕ, List, Bool};
+    ghost use Rattle.cluster_msgs.specs.declared.events.Entry.{Entry};
+    ghost use Rattle.cluster_msgs.specs.Labels.{LabelFacts};
+
+    ghost entries: { Self → List Entry };
+
+    ghost core: { Self → Self.Core };
+
+    /// Whether an entry was left out for want of room. From then on nothing is said of the core.
+    ghost cut: { Self → Bool };
+
+    ghost steps: { Self.Core → Entry → Self.Core → Type 0 };
+
+    ghost fits: { LabelFacts Self.Block → Self → Type 0 };
+
+    /// The number of stored entries.
+    fn count(&self) -> u64
+        ensures { result ≡ length (entries self.now) };
+}
+
+/// What a turn does with a state: one entry and one step of its core, or neither.
+pub trait Act<S: Kept, L: Label<Block = S::Block>> {
+    type Out;
+
+    ghost use Rattle.turn_cell.specs.Turns.{Went};
+
+    fn act(self, state: &mut S) -> Self::Out
+        requires fits { S.fits L.facts state.old }
+        ensures fits { S.fits L.facts state.new }
+        ensures went { Went S.entries S.core S.cut S.steps state.old state.new };
+}
