@@ -15,8 +15,8 @@ use Rattle.cluster_msgs.specs.declared.events.Entry.{Entry}
 use Rattle.turn_cell.specs.declared.rule.View.{View}
 use Rattle.turn_cell.specs.declared.rule.Start.{Start}
 use Rattle.turn_cell.specs.Histories.{StartsWith, weigh, Ascending, Replays}
-use Rattle.turn_cell.specs.Turns.{total_of, spent, first_view, with_turn, held, IsReplay, IsLive, Knows, All, AtHome, IsOut, TurnRule, took, looked, read, grown, counted, gave}
-use Rattle.turn_cell.proofs.Sums.{total_set, all_set, weigh-append, starts_longer, starts_light, replays_snoc}
+use Rattle.turn_cell.specs.Turns.{WasTaken, total_of, spent, first_view, with_turn, held, IsReplay, IsLive, Knows, All, AtHome, IsOut, TurnRule, IsShown, took, looked, read, grown, counted, gave}
+use Rattle.turn_cell.proofs.Sums.{two_at, total_set, all_set, weigh-append, starts_longer, starts_light, replays_snoc}
 
 module _ {S C : Type 0} (entries : S → List Entry) (core : S → C) (cut : S → Bool) (steps : C → Entry → C → Type 0) where
   abbrev St : Type 0
@@ -54,7 +54,8 @@ module _ {S C : Type 0} (entries : S → List Entry) (core : S → C) (cut : S �
       let l = live start key.parts h.log me.0 pos (h.knows id me.0 at) in
       let zero_found : slice_index s.words 0 ≡ 0 = ap (λ ws. slice_index ws 0) p.words in
       let F : List Entry → Type 0 = λ es. StartsWith es me.0.seen × (cut x ≡ false → Replays steps (core start) es (core x)) × Ascending es in
-      let f : F (entries x) = subst F (sym p.replay.0) (l.seen, p.replay.1, h.ascending) in (
+      let f : F (entries x) = subst F (sym p.replay.0) (l.seen, p.replay.1, h.ascending) in
+      let shown : IsShown entries core cut steps me.0.start me.0.seen x = record { from = start; from_is = l.start_is; later = f.0; replay = f.1; ascending = f.2 } in (
         w,
         takes 0 (Some x),
         ap (λ hs. get_elem? hs 0) p.homes,
@@ -74,7 +75,7 @@ module _ {S C : Type 0} (entries : S → List Entry) (core : S → C) (cut : S �
           parts = same_sum (λ v. v.parts) s.views id me.0 w key.parts at refl h.parts;
           once = λ g. same_sum (λ v. weigh g v.mine) s.views id me.0 w (weigh g h.log) at refl (h.once g);
         },
-        ((λ _. (x, start, refl, l.start_is, f.0, f.1, f.2)), (λ n. absurd (n zero_found))),
+        ((λ _. (x, refl, shown)), (λ n. absurd (n zero_found))),
       )
 
   take_out : (key : Start S) (id : ℕ) (me : Mine) (sp : Step (Option S)) (s : St) → 0 < me.0.parts → (h : Rule key s) → IsOut entries core cut steps key.state.value h.log s → get_elem? s.views id ≡ some me.0
@@ -82,7 +83,6 @@ module _ {S C : Type 0} (entries : S → List Entry) (core : S → C) (cut : S �
   take_out key id me sp s pos h p at =
       let start : S = key.state.value in let l = live start key.parts h.log me.0 pos (h.knows id me.0 at) in
       let seen : StartsWith (entries p.state) me.0.seen = subst (λ es. StartsWith es me.0.seen) (sym p.replay.0) l.seen in
-      let replay : IsReplay entries core cut steps start (entries p.state) p.state = subst (λ es. IsReplay entries core cut steps start es p.state) (sym p.replay.0) p.replay in
       let one_found : slice_index s.words 0 ≡ 1 = ap (λ ws. slice_index ws 0) p.words in
       let same : set s.views id me.0 ≡ s.views = set_again s.views id me.0 at in
       let words : slice_set s.words 0 (once_taken (slice_index s.words 0)) ≡ s.words = ap (λ ws. slice_set ws 0 (once_taken (slice_index ws 0))) p.words ∙ sym p.words in
@@ -91,7 +91,7 @@ module _ {S C : Type 0} (entries : S → List Entry) (core : S → C) (cut : S �
         keeps,
         tt,
         subst (Rule key) (sym st) h,
-        ((λ z. absurd (let o : 1 ≡ 0 = sym one_found ∙ z in omega arith)), (λ n. (refl, (p.state, start, l.start_is, seen, replay)))),
+        ((λ z. absurd (let o : 1 ≡ 0 = sym one_found ∙ z in omega arith)), (λ n. (refl, record { key = key; id = id; moment = s; rule = h; here = at; out = p; later = seen }))),
       )
 
   pub takes_turn : (key : Start S) (slots id : ℕ) (me : Mine) (sp : Step (Option S)) → 0 < me.0.parts → Allows (Rule key) slots id me 0 once_taken (took entries core cut steps sp me)
@@ -106,6 +106,17 @@ module _ {S C : Type 0} (entries : S → List Entry) (core : S → C) (cut : S �
 
   pub not_none : (x : S) → Some x ≡ None → ⊥
   not_none x e = cc
+
+  -- a pass that was told that the turn is taken hasn't all parts: another has it
+  pub shared : (v : View S) → WasTaken entries core cut steps v → v.out ≡ None → 0 < v.parts → v.parts < v.total
+  shared v t idle pos =
+      let h = t.rule in let k = t.key in let l = live k.state.value k.parts h.log v pos (h.knows t.id v t.here) in
+      let u : View S = t.out.noted.0 in let at : get_elem? t.moment.views t.out.holder ≡ some u = t.out.noted.1 in
+      let another : ¬ (t.out.holder ≡ t.id) = λ e. not_none t.out.state (sym t.out.noted.2 ∙ ap (λ (y : View S). y.out) (some-injective u v (sym at ∙ ap (get_elem? t.moment.views) e ∙ t.here)) ∙ idle) in
+      let its = ⊎_elim (λ (e : u ≡ spent). absurd (not_none t.out.state (sym t.out.noted.2 ∙ ap (λ (y : View S). y.out) e)))
+          (λ (m : IsLive entries core cut steps k.state.value k.parts h.log u). m) (h.knows t.out.holder u at) in
+      let a = two_at (λ (y : View S). y.parts) t.moment.views t.id t.out.holder v u t.here at another in
+      let b = its.some_part in let c = h.parts in let d = l.total_is in omega arith
 
   some_or : S → Option S → S
   some_or d None = d

@@ -1,7 +1,7 @@
--- The rule of a cell, over its words, its slot and what each pass knows.
+-- The rule of a cell, over its words, its slot and what each pass knows, and what each of its steps tells.
 -- The first word is 0 while the state is at home, and the second is the number of entries in the history.
-use Rattle.std.specs.Prelude.{◌≡◌, ℕ, ◌+◌, ◌-◌, ◌<◌, ◌≤◌, ◌⊎◌, List, [], ◌∷◌, ◌++◌, length, drop, Option, Some, None, if◌then◌else◌}
-use Rattle.std.specs.Prelude.{nat_le, Bool, false}
+use Rattle.std.specs.Prelude.{◌≡◌, ℕ, ◌+◌, ◌-◌, ◌<◌, ◌≤◌, ◌⊎◌, List, [], ◌∷◌, ◌++◌, length, drop, Option, Some, None}
+use Rattle.std.specs.Prelude.{if◌then◌else◌, nat_le, Bool, true, false}
 use mathlib.Core.Option.{some, none}
 use lib.ListN.{get_elem?}
 use Rattle.atomic_table.specs.Table.{State, Me, Step, rest}
@@ -22,8 +22,12 @@ module _ {S : Type 0} where
   abbrev pub spent : View S
   spent = record { start = None; total = 0; seen = []; mine = []; parts = 0; out = None }
 
+  -- the pass that has all parts of a new cell
+  abbrev pub opening_view : S → ℕ → View S
+  opening_view x parts = record { start = Some x; total = parts; seen = []; mine = []; parts = parts; out = None }
+
   abbrev pub first_view : Start S → View S
-  first_view k = record { start = Some k.state.value; total = k.parts; seen = []; mine = []; parts = k.parts; out = None }
+  first_view k = opening_view k.state.value k.parts
 
   abbrev pub with_turn : View S → Option S → View S
   with_turn v o = record { start = v.start; total = v.total; seen = v.seen; mine = v.mine; parts = v.parts; out = o }
@@ -40,7 +44,8 @@ module _ {S : Type 0} where
   right_view v = record { start = v.start; total = v.total; seen = v.seen; mine = []; parts = 1; out = None }
 
   abbrev pub both_views : View S → View S → View S
-  both_views v w = record { start = v.start; total = v.total; seen = longer v.seen w.seen; mine = v.mine ++ w.mine; parts = v.parts + w.parts; out = v.out }
+  both_views v w =
+      record { start = v.start; total = v.total; seen = longer v.seen w.seen; mine = v.mine ++ w.mine; parts = v.parts + w.parts; out = v.out }
 
 module _ {S C : Type 0} (entries : S → List Entry) (core : S → C) (cut : S → Bool) (steps : C → Entry → C → Type 0) where
   -- the state is the replay of its history
@@ -89,14 +94,28 @@ module _ {S C : Type 0} (entries : S → List Entry) (core : S → C) (cut : S �
   abbrev pub V : Type 0
   V = Me (Option S) (View S)
 
-  -- at that step the state was out: a state whose history begins with what was seen, and which is its replay
-  abbrev pub WasTaken : View S → Type 0
-  WasTaken v = (x : S) × (start : S) × (v.start ≡ Some start) × StartsWith (entries x) v.seen × IsReplay start (entries x) x
+  -- there was a moment under the rule at which a pass with this view found the turn taken, by a state whose history begins with what it had seen
+  pub record WasTaken (v : View S) : Type 0 where
+    pub key : Start S
+    pub id : ℕ
+    pub moment : State (Option S) (View S)
+    pub rule : TurnRule key moment
+    pub here : get_elem? moment.views id ≡ some v
+    pub out : IsOut key.state.value rule.log moment
+    pub later : StartsWith (entries out.state) v.seen
 
-  -- the state that is taken has a history that begins with what was seen, and is its replay; or the turn was taken
+  -- what is known of a state that is taken by a pass that has seen these entries: its history begins with them, and it is its replay
+  pub record IsShown (start : Option S) (seen : List Entry) (x : S) : Type 0 where
+    pub from : S
+    pub from_is : start ≡ Some from
+    pub later : StartsWith (entries x) seen
+    pub replay : cut x ≡ false → Replays steps (core from) (entries x) (core x)
+    pub ascending : Ascending (entries x)
+
+  -- the state at home is taken, or the turn was taken
   abbrev pub took : Step (Option S) → V → ℕ → V → Type 0
   took s me n me' =
-      (n ≡ 0 → (x : S) × (start : S) × (me' ≡ (with_turn me.0 (Some x), (0, Some x) ∷ me.1)) × (me.0.start ≡ Some start) × StartsWith (entries x) me.0.seen × (cut x ≡ false → Replays steps (core start) (entries x) (core x)) × Ascending (entries x))
+      (n ≡ 0 → (x : S) × (me' ≡ (with_turn me.0 (Some x), (0, Some x) ∷ me.1)) × IsShown me.0.start me.0.seen x)
       × (¬ (n ≡ 0) → (me' ≡ me) × WasTaken me.0)
 
   abbrev pub looked : View S → Option S → View S
@@ -109,7 +128,8 @@ module _ {S C : Type 0} (entries : S → List Entry) (core : S → C) (cut : S �
   abbrev pub grown : View S → Option S → Option S → View S
   grown v None y = v
   grown v (Some x) None = v
-  grown v (Some x) (Some y) = record { start = v.start; total = v.total; seen = entries y; mine = v.mine ++ drop (length (entries x)) (entries y); parts = v.parts; out = Some y }
+  grown v (Some x) (Some y) =
+      record { start = v.start; total = v.total; seen = entries y; mine = v.mine ++ drop (length (entries x)) (entries y); parts = v.parts; out = Some y }
 
   abbrev pub counted : Step (Option S) → V → ℕ → V → Type 0
   counted s me n me' = me' ≡ (grown me.0 me.0.out (held me.1), me.1)
@@ -137,24 +157,37 @@ module _ {S C : Type 0} (entries : S → List Entry) (core : S → C) (cut : S �
   -- the turn was taken with the state x: its history begins with what the pass had seen, and it is its replay from the start
   pub record Entered (v : View S) (x : S) (me' : V) : Type 0 where
     pub holds : Holds x me'
-    pub start : S
-    pub start_is : v.start ≡ Some start
-    pub replay : cut x ≡ false → Replays steps (core start) (entries x) (core x)
-    pub later : StartsWith (entries x) v.seen
-    pub ascending : Ascending (entries x)
+    pub shown : IsShown v.start v.seen x
     pub view : me'.0 ≡ record { start = v.start; total = v.total; seen = entries x; mine = v.mine; parts = v.parts; out = Some x }
 
-  -- the state went from x to y by one step of the core and one entry; or core and history are as they were; or the history is full
-  abbrev pub WentBy : S → S → Entry → Type 0
-  WentBy x y e = (entries y ≡ entries x ++ e ∷ []) × (cut x ≡ false) × steps (core x) e (core y) × Ascending (entries y)
+  -- a turn went from x to y by one entry and one step of the core
+  pub record WentBy (x y : S) (e : Entry) : Type 0 where
+    pub entry : entries y ≡ entries x ++ e ∷ []
+    pub was_open : cut x ≡ false
+    pub is_open : cut y ≡ false
+    pub step : steps (core x) e (core y)
+    pub ascending : Ascending (entries y)
 
-  -- nothing is said of the core once an entry was left out
+  -- or by neither
+  pub record WentNowhere (x y : S) : Type 0 where
+    pub entries_are : entries y ≡ entries x
+    pub cut_is : cut y ≡ cut x
+    pub core_is : core y ≡ core x
+
+  -- or past the limit of its history, by one step of the core at most
+  pub record WentPast (x y : S) : Type 0 where
+    pub entries_are : entries y ≡ entries x
+    pub is_cut : cut y ≡ true
+    pub step : (core y ≡ core x) ⊎ ((e : Entry) × steps (core x) e (core y))
+
+  abbrev pub Went : S → S → Type 0
+  Went x y = WentNowhere x y ⊎ (((e : Entry) × WentBy x y e) ⊎ WentPast x y)
+
+  -- what both forms without an entry leave
   abbrev pub Stayed : S → S → Type 0
   Stayed x y = (entries y ≡ entries x) × (cut y ≡ false → (cut x ≡ false) × (core y ≡ core x))
 
-  abbrev pub Went : S → S → Type 0
-  Went x y = Stayed x y ⊎ ((e : Entry) × WentBy x y e)
-
   -- what the pass knows after the turn: it has seen the whole history, and the new entry is its own
   abbrev pub left_with : View S → S → S → View S
-  left_with v x y = record { start = v.start; total = v.total; seen = entries y; mine = v.mine ++ drop (length (entries x)) (entries y); parts = v.parts; out = None }
+  left_with v x y =
+      record { start = v.start; total = v.total; seen = entries y; mine = v.mine ++ drop (length (entries x)) (entries y); parts = v.parts; out = None }

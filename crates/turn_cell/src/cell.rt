@@ -1,7 +1,8 @@
 //! The cell, its passes and its turns.
-ghost use Rattle.std.specs.Prelude.{◌≡◌, ℕ, ◌^◌, ◌<◌, ◌≤◌, [], None, Some, IfOk, IfErr, length};
+ghost use Rattle.std.specs.Prelude.{◌≡◌, ℕ, ◌^◌, ◌<◌, ◌≤◌, [], IfOk, IfErr, length};
 ghost use Rattle.cluster_msgs.specs.declared.events.Entry.{Entry};
-ghost use Rattle.turn_cell.specs.Turns.{Rests, Holds, Entered, WasTaken, Went, WentBy, Stayed, Ended, left_with, left_view, right_view, both_views, first_view};
+ghost use Rattle.turn_cell.specs.Turns.{Rests, Holds, Entered, WasTaken, Went, WentBy, Stayed, Ended};
+ghost use Rattle.turn_cell.specs.Turns.{left_with, left_view, right_view, both_views, opening_view};
 
 use crate::kept::Kept;
 use cluster_msgs::Label;
@@ -16,17 +17,18 @@ use std::thread;
 #[derive(Drop)]
 pub struct OutOfMemory;
 
-/// The turn was taken.
+/// Another pass had the turn.
 #[derive(Drop)]
 pub struct Busy;
 
-/// A state that threads take in turns.
+/// A state that threads take in turns. Every state that is taken fits the label `L`.
 pub struct TurnCell<S: Kept, L: Label<Block = S::Block>> {
     pub table: Table<Option<Housed<S, L>>, View<S>, Start<S>, InTurns, Global>,
     ghost sized: { (table.shared.table_id.words ≡ 2) × (table.shared.table_id.slots ≡ 1) },
 }
 
-/// A caller's seat, with the number of entries that it has seen.
+/// A caller's seat at a cell. Contracts see what it knows in `seat.me.0`: the entries that it has seen, those of them that are its own, and how
+/// many parts of the cell it has. It is joined into another pass or closes the cell, and can't be dropped.
 pub struct Pass<S: Kept, L: Label<Block = S::Block>> {
     pub seat: Seat<Option<Housed<S, L>>, View<S>>,
     seen: u64,
@@ -34,19 +36,63 @@ pub struct Pass<S: Kept, L: Label<Block = S::Block>> {
     ghost seen_is: { seen ≡ length seat.me.0.seen },
 }
 
-/// The state, taken out.
+/// The state, taken out of its cell, and for contracts what it was when it was taken.
 pub struct Turn<S: Kept> {
     pub state: S,
     pub taken: Snapshot<S>,
 }
 
 impl<S: Kept, L: Label<Block = S::Block>> TurnCell<S, L> {
+    /// A cell with this state, and the pass that has all its parts.
+    ///
+    /// # Errors
+    /// The state comes back where there is no memory.
+    pub fn new(
+        state: S,
+        parts: u32,
+        alloc: Global,
+    ) -> Result<(TurnCell<S, L>, Pass<S, L>), (S, OutOfMemory)>
+        requires parts { 0 < parts }
+        requires empty { S.entries state ≡ [] }
+        requires fits { S.fits L.facts state }
+        ensures own { IfOk result (λ r. r.1.seat.table_id ≡ r.0.table.shared.table_id) }
+        ensures made { IfOk result (λ r. r.1.seat.me ≡ (opening_view state parts, [])) }
+        ensures refused { IfErr result (λ r. r.0 ≡ state) }
+    {
+        let start = Start {
+            state: Snapshot::of(&state),
+            parts: parts as u64,
+        };
+        let mut slots = match Vec::with_capacity(alloc, 1) {
+            Ok(slots) => slots,
+            Err(_) => return Err((state, OutOfMemory)),
+        };
+        slots.push_reserved(Some(Housed::new(state)));
+        match Table::new(alloc, &[0, 0], slots, &start) {
+            Ok((table, seat)) => Ok((TurnCell { table }, Pass { seat, seen: 0 })),
+            Err(Refused { mut slots }) => match slots.pop() {
+                Some(Some(housed)) => {
+                    slots.destroy_empty();
+                    Err((housed.into_state(), OutOfMemory))
+                }
+                _ => unreachable!(),
+            },
+        }
+    }
+
+    /// Takes the turn, and waits for nobody. The history of the state begins with all that the pass had seen, and the state is its replay.
+    ///
+    /// # Errors
+    /// `Busy` where another pass had the turn at the one step at which this one asked for it. The pass is as it was. So a pass with all parts is
+    /// never refused.
     pub fn try_enter(&self, pass: &mut Pass<S, L>) -> Result<Turn<S>, Busy>
         requires own { pass.old.seat.table_id ≡ self.now.table.shared.table_id }
         requires rests { Rests S.entries S.core S.cut S.steps pass.old.seat.me }
         ensures same { (pass.new.seat.table_id ≡ pass.old.seat.table_id) × (pass.new.seat.id ≡ pass.old.seat.id) }
         ensures busy { IfErr result (λ _. (pass.new.seat.me ≡ pass.old.seat.me) × WasTaken S.entries S.core S.cut S.steps pass.old.seat.me.0) }
-        ensures taken { IfOk result (λ t. (t.taken.value ≡ t.state) × Entered S.entries S.core S.cut S.steps pass.old.seat.me.0 t.state pass.new.seat.me) }
+        ensures shared { IfErr result (λ _. pass.old.seat.me.0.parts < pass.old.seat.me.0.total) }
+        ensures remembered { IfOk result (λ t. t.taken.value ≡ t.state) }
+        ensures taken { IfOk result (λ t. Entered S.entries S.core S.cut S.steps pass.old.seat.me.0 t.state pass.new.seat.me) }
         ensures fits { IfOk result (λ t. S.fits L.facts t.state) }
     {
         let shared = &self.table.shared;
@@ -63,12 +109,13 @@ impl<S: Kept, L: Label<Block = S::Block>> TurnCell<S, L> {
         Ok(Turn { state, taken })
     }
 
-    /// Waits for the turn.
+    /// Takes the turn, and waits until it is free. What it tells is what `try_enter` tells.
     pub fn enter<R: Wait>(&self, rt: &R, pass: &mut Pass<S, L>) -> Turn<S>
         requires own { pass.old.seat.table_id ≡ self.now.table.shared.table_id }
         requires rests { Rests S.entries S.core S.cut S.steps pass.old.seat.me }
         ensures same { (pass.new.seat.table_id ≡ pass.old.seat.table_id) × (pass.new.seat.id ≡ pass.old.seat.id) }
-        ensures taken { (result.taken.value ≡ result.state) × Entered S.entries S.core S.cut S.steps pass.old.seat.me.0 result.state pass.new.seat.me }
+        ensures remembered { result.taken.value ≡ result.state }
+        ensures taken { Entered S.entries S.core S.cut S.steps pass.old.seat.me.0 result.state pass.new.seat.me }
         ensures fits { S.fits L.facts result.state }
     {
         for _ in rt.forever() {
@@ -80,7 +127,8 @@ impl<S: Kept, L: Label<Block = S::Block>> TurnCell<S, L> {
         unreachable!()
     }
 
-    /// Gives the turn back.
+    /// Gives the turn back, with a state that went on by one entry and one step of its core, or by neither, or past the limit of its history by
+    /// one step at most. The pass has then seen the whole history, and a new entry is its own. It waits for nobody.
     pub fn leave(&self, pass: &mut Pass<S, L>, turn: Turn<S>)
         requires own { pass.old.seat.table_id ≡ self.now.table.shared.table_id }
         requires holds { Holds S.entries S.core S.cut S.steps turn.taken.value pass.old.seat.me }
@@ -98,7 +146,7 @@ impl<S: Kept, L: Label<Block = S::Block>> TurnCell<S, L> {
         }
     }
 
-    // One entry is counted, and the state goes home.
+    // The state goes home first, then its entry is counted, then the turn is given back.
     fn leave_after(&self, pass: &mut Pass<S, L>, _taken: &Snapshot<S>, state: S, count: u64)
         requires own { pass.old.seat.table_id ≡ self.now.table.shared.table_id }
         requires holds { Holds S.entries S.core S.cut S.steps _taken.now.value pass.old.seat.me }
@@ -131,7 +179,7 @@ impl<S: Kept, L: Label<Block = S::Block>> TurnCell<S, L> {
         shared.store::<Gives>(&mut pass.seat, 0, 0);
     }
 
-    /// Moves one part into a new pass.
+    /// Moves one part into a new pass, which has seen what this one had seen and has no entries of its own.
     pub fn split(&self, pass: &mut Pass<S, L>) -> Pass<S, L>
         requires own { pass.old.seat.table_id ≡ self.now.table.shared.table_id }
         requires parts { 2 ≤ pass.old.seat.me.0.parts }
@@ -144,9 +192,10 @@ impl<S: Kept, L: Label<Block = S::Block>> TurnCell<S, L> {
         Pass { seat, seen }
     }
 
-    /// Takes in the parts of another pass.
+    /// Takes in another pass that holds no turn: its parts and its own entries. The longer of what both had seen is what this one has seen.
     pub fn join(&self, pass: &mut Pass<S, L>, other: Pass<S, L>)
-        requires own { (pass.old.seat.table_id ≡ self.now.table.shared.table_id) × (other.seat.table_id ≡ self.now.table.shared.table_id) }
+        requires own { pass.old.seat.table_id ≡ self.now.table.shared.table_id }
+        requires other { other.seat.table_id ≡ self.now.table.shared.table_id }
         requires rests { Rests S.entries S.core S.cut S.steps other.seat.me }
         ensures same { (pass.new.seat.table_id ≡ pass.old.seat.table_id) × (pass.new.seat.id ≡ pass.old.seat.id) }
         ensures joined { pass.new.seat.me ≡ (both_views pass.old.seat.me.0 other.seat.me.0, pass.old.seat.me.1) }
@@ -158,39 +207,7 @@ impl<S: Kept, L: Label<Block = S::Block>> TurnCell<S, L> {
         }
     }
 
-    pub fn new(
-        state: S,
-        parts: u32,
-        alloc: Global,
-    ) -> Result<(TurnCell<S, L>, Pass<S, L>), (S, OutOfMemory)>
-        requires parts { 0 < parts }
-        requires empty { S.entries state ≡ [] }
-        requires fits { S.fits L.facts state }
-        ensures made { IfOk result (λ r. (r.1.seat.table_id ≡ r.0.table.shared.table_id) × (r.1.seat.me ≡ (record { start = Some state; total = parts; seen = []; mine = []; parts = parts; out = None }, []))) }
-        ensures refused { IfErr result (λ r. r.0 ≡ state) }
-    {
-        let start = Start {
-            state: Snapshot::of(&state),
-            parts: parts as u64,
-        };
-        let mut slots = match Vec::with_capacity(alloc, 1) {
-            Ok(slots) => slots,
-            Err(_) => return Err((state, OutOfMemory)),
-        };
-        slots.push_reserved(Some(Housed::new(state)));
-        match Table::new(alloc, &[0, 0], slots, &start) {
-            Ok((table, seat)) => Ok((TurnCell { table }, Pass { seat, seen: 0 })),
-            Err(Refused { mut slots }) => match slots.pop() {
-                Some(Some(housed)) => {
-                    slots.destroy_empty();
-                    Err((housed.into_state(), OutOfMemory))
-                }
-                _ => unreachable!(),
-            },
-        }
-    }
-
-    /// Gives the state back, whose history has just the entries of this pass.
+    /// Gives the state back to the pass that has all parts. Its history has just the entries of this pass, each once.
     pub fn close(self, pass: Pass<S, L>) -> S
         requires own { pass.seat.table_id ≡ self.table.shared.table_id }
         requires all { pass.seat.me.0.parts ≡ pass.seat.me.0.total }

@@ -1,6 +1,6 @@
 //! Numbers that threads draw, each once.
-ghost use Rattle.std.specs.Prelude.{◌≡◌, ℕ, ◌+◌, ◌-◌, ◌^◌, ◌<◌, ◌≤◌, [], ◌∷◌, ◌++◌, IfOk, IfSome, IfNone};
-ghost use Rattle.turn_cell.specs.Ticks.{drawn, both_drawn, IsOnce};
+ghost use Rattle.std.specs.Prelude.{◌≡◌, ℕ, ◌+◌, ◌-◌, ◌^◌, ◌<◌, ◌≤◌, [], ◌∷◌, ◌++◌, IfOk};
+ghost use Rattle.turn_cell.specs.Ticks.{drawn, both_drawn, IsOnce, Drew as Drawing};
 
 use crate::cell::OutOfMemory;
 use atomic_table::{Join, Play, Split, Table, TableRule};
@@ -76,13 +76,14 @@ impl Join<Drawn> for Pair {
     ghost spent = { drawn [] 0 };
 }
 
+/// Numbers that threads draw, each once. Every seat of it draws from the same row of numbers, from 0 on.
 #[derive(Drop)]
 pub struct Ticker {
     pub table: Table<(), Drawn, (), Draws, Global>,
     ghost sized: { table.shared.table_id.words ≡ 1 },
 }
 
-/// The right to draw so many numbers.
+/// The right to draw so many numbers. Contracts see in `seat.me.0` which it drew and how many rights are left.
 #[derive(Drop)]
 pub struct Seat {
     pub seat: atomic_table::Seat<(), Drawn>,
@@ -92,8 +93,13 @@ pub struct Seat {
 }
 
 impl Ticker {
+    /// A ticker, and the seat that has all 2^63 rights to draw.
+    ///
+    /// # Errors
+    /// Where there is no memory.
     pub fn new(alloc: Global) -> Result<(Ticker, Seat), OutOfMemory>
-        ensures { IfOk result (λ r. (r.1.seat.table_id ≡ r.0.table.shared.table_id) × (r.1.seat.me.0 ≡ drawn [] (2 ^ 63))) }
+        ensures own { IfOk result (λ r. r.1.seat.table_id ≡ r.0.table.shared.table_id) }
+        ensures rights { IfOk result (λ r. r.1.seat.me.0 ≡ drawn [] (2 ^ 63)) }
     {
         match Table::of_words(alloc, &[0], &()) {
             Ok((table, seat)) => Ok((
@@ -110,7 +116,8 @@ impl Ticker {
     fn split_by<K: Amount>(&self, seat: &mut Seat, rights: u64) -> Seat
         requires own { seat.old.seat.table_id ≡ self.now.table.shared.table_id }
         requires amount { (rights ≡ K.amount) × (rights ≤ seat.old.seat.me.0.rights) }
-        ensures same { (seat.new.seat.table_id ≡ seat.old.seat.table_id) × (seat.new.seat.me.0 ≡ drawn seat.old.seat.me.0.drawn (seat.old.seat.me.0.rights - rights)) }
+        ensures same { seat.new.seat.table_id ≡ seat.old.seat.table_id }
+        ensures kept { seat.new.seat.me.0 ≡ drawn seat.old.seat.me.0.drawn (seat.old.seat.me.0.rights - rights) }
         ensures given { (result.seat.table_id ≡ seat.old.seat.table_id) × (result.seat.me.0 ≡ drawn [] rights) }
     {
         let new = self.table.shared.split_seat::<CutBy<K>>(&mut seat.seat);
@@ -118,19 +125,21 @@ impl Ticker {
         Seat { seat: new, rights }
     }
 
-    /// Moves so many rights into a new seat.
+    /// Moves so many rights into a new seat, which has drawn nothing.
     pub fn split(&self, seat: &mut Seat, rights: u64) -> Seat
         requires own { seat.old.seat.table_id ≡ self.now.table.shared.table_id }
         requires amount { rights ≤ seat.old.seat.me.0.rights }
-        ensures same { (seat.new.seat.table_id ≡ seat.old.seat.table_id) × (seat.new.seat.me.0 ≡ drawn seat.old.seat.me.0.drawn (seat.old.seat.me.0.rights - rights)) }
+        ensures same { seat.new.seat.table_id ≡ seat.old.seat.table_id }
+        ensures kept { seat.new.seat.me.0 ≡ drawn seat.old.seat.me.0.drawn (seat.old.seat.me.0.rights - rights) }
         ensures given { (result.seat.table_id ≡ seat.old.seat.table_id) × (result.seat.me.0 ≡ drawn [] rights) }
     {
         self.split_by::<Brand>(seat, rights)
     }
 
-    /// Adds the rights of another seat. No number was drawn by both.
+    /// Takes in another seat: the numbers that it drew, and its rights. No number was drawn by both.
     pub fn join(&self, seat: &mut Seat, other: Seat)
-        requires own { (seat.old.seat.table_id ≡ self.now.table.shared.table_id) × (other.seat.table_id ≡ self.now.table.shared.table_id) }
+        requires own { seat.old.seat.table_id ≡ self.now.table.shared.table_id }
+        requires other { other.seat.table_id ≡ self.now.table.shared.table_id }
         ensures same { seat.new.seat.table_id ≡ seat.old.seat.table_id }
         ensures both { seat.new.seat.me.0 ≡ both_drawn seat.old.seat.me.0 other.seat.me.0 }
         ensures once { IsOnce seat.new.seat.me.0.drawn }
@@ -144,12 +153,11 @@ impl Ticker {
         seat.rights += rights;
     }
 
-    /// Draws a number, which no seat draws again.
+    /// Draws a number below 2^63, which no seat draws again, for one right. `None` exactly where no right is left. It waits for nobody.
     pub fn draw(&self, seat: &mut Seat) -> Option<u64>
         requires own { seat.old.seat.table_id ≡ self.now.table.shared.table_id }
         ensures same { seat.new.seat.table_id ≡ seat.old.seat.table_id }
-        ensures some { IfSome result (λ n. (0 < seat.old.seat.me.0.rights) × (n < 2 ^ 63) × (seat.new.seat.me.0 ≡ drawn (seat.old.seat.me.0.drawn ++ n ∷ []) (seat.old.seat.me.0.rights - 1))) }
-        ensures none { IfNone result ((seat.old.seat.me.0.rights ≡ 0) × (seat.new.seat.me.0 ≡ seat.old.seat.me.0)) }
+        ensures drew { Drawing seat.old.seat.me.0 result seat.new.seat.me.0 }
     {
         if seat.rights == 0 {
             return None;

@@ -1,3 +1,0 @@
-mod Stamps
-pub mod Parcels
-pub mod Recorded
