@@ -10,7 +10,7 @@ use Rattle.cluster_msgs.specs.declared.messages.Message.{Message}
 use Rattle.cluster_msgs.specs.declared.messages.Message.TheVariants as message
 use Rattle.cluster_msgs.specs.declared.messages.Peer.TheVariants.{Data}
 use Rattle.cluster_msgs.specs.declared.packets.Packet.{Packet}
-use Rattle.node_parts.specs.Fits.{ParcelFits}
+use Rattle.node_links.specs.Fits.{ParcelFits}
 
 -- a message without blocks
 pub packet_fits : {B : Type 0} (facts : LabelFacts B) (p : Packet B) → MessageFits facts p.message → found p.message ≡ [] → p.blocks ≡ [] → PacketFits facts p

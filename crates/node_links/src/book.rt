@@ -1,8 +1,8 @@
 //! A core with its history.
-ghost use Rattle.std.specs.Prelude.{◌≡◌, ℕ, Option, OnOk, OnErr, IfOk, IfSome, Err, Some, None, [], false, cond, length};
+ghost use Rattle.std.specs.Prelude.{◌≡◌, ℕ, Option, OnOk, OnErr, IfOk, IfErr, IfSome, is_some, Err, Some, None, [], false, cond, length};
 ghost use Rattle.cluster_msgs.specs.declared.events.Entry.{Entry as AnyEntry};
-ghost use Rattle.node_parts.specs.Books.{IsRecorded, AllBelow};
-ghost use Rattle.node_parts.specs.Books.{Steps};
+ghost use Rattle.node_links.specs.Books.{IsRecorded, AllBelow};
+ghost use Rattle.node_links.specs.Books.{Steps};
 
 use crate::log::Log;
 use cluster_msgs::{Entry, Event, Message, Stop};
@@ -27,13 +27,14 @@ pub trait Machine: Drop {
     /// What an event makes of the core.
     ghost by: { Self → Self.Event → Self → Type 0 };
 
+    /// Takes one event. A refused one, and one past the last that it may take, change nothing. After `Memory` nothing is known of it.
     fn take(&mut self, event: Self::Event, out: &mut Self::Out) -> Result<(), Stop>
         ensures ok { OnOk result (by self.old event self.new) }
         ensures refused { result ≡ Err Stop.Refused → self.new ≡ self.old }
         ensures spent { result ≡ Err Stop.Spent → self.new ≡ self.old };
 }
 
-/// A core with its history. A clause sees the core as it is, or where memory ran out inside it, as it was before.
+/// A core with its history. A clause sees the core as it is, or where memory ran out inside it, as it was before: it then takes no event more.
 #[derive(Drop)]
 pub struct Book<C: Machine> {
     core: C,
@@ -43,26 +44,33 @@ pub struct Book<C: Machine> {
 }
 
 impl<C: Machine> Model for Book<C> {
-    ghost use Rattle.std.specs.Prelude.{cond};
-    ghost use Rattle.node_parts.specs.Books.{BookState};
+    ghost use Rattle.std.specs.Prelude.{cond, is_some};
+    ghost use Rattle.node_links.specs.Books.{BookState};
 
     ghost Value = { BookState C };
 
-    ghost view = { λ b. record { core = cond b.failed b.before.value b.core; entries = b.log.entries; cut = b.log.cut } };
+    ghost view = { λ b. record { core = cond b.failed b.before.value b.core; entries = b.log.entries; cut = is_some b.log.cut } };
 }
 
 impl<C: Machine> Book<C> {
-    pub fn new(alloc: Global, core: C, limit: u64) -> Self
-        ensures core { result.core ≡ core }
-        ensures entries { result.entries ≡ [] }
-        ensures cut { result.cut ≡ false }
+    /// A core without entries, whose history may have so many bytes.
+    ///
+    /// # Errors
+    /// The core comes back where there is no memory for the first entries.
+    pub fn new(alloc: Global, core: C, limit: u64) -> Result<Self, C>
+        ensures core { IfOk result (λ b. b.core ≡ core) }
+        ensures entries { IfOk result (λ b. (b.entries ≡ []) × (b.cut ≡ false)) }
+        ensures err { IfErr result (λ c. c ≡ core) }
     {
-        Book {
+        let Ok(log) = Log::new(alloc, limit) else {
+            return Err(core);
+        };
+        Ok(Book {
             before: Snapshot::of(&core),
             core,
             failed: false,
-            log: Log::new(alloc, limit),
-        }
+            log,
+        })
     }
 
     /// The core, where it goes on.
@@ -75,20 +83,22 @@ impl<C: Machine> Book<C> {
         Some(&self.core)
     }
 
+    /// How many entries are stored.
     pub fn stored(&self) -> u64
         ensures { result ≡ length self.now.entries }
     {
         self.log.stored()
     }
 
-    /// How many entries were made, those past the limit too.
+    /// How many entries were made, those past the limit too; 2^64 - 1 where there are more.
     pub fn made(&self) -> u64 {
         self.log.made()
     }
 
+    /// The history without the core.
     pub fn into_log(self) -> Log
         ensures entries { result.entries ≡ self.entries }
-        ensures cut { result.cut ≡ self.cut }
+        ensures cut { is_some result.cut ≡ self.cut }
     {
         let Book {
             core: _,
@@ -119,6 +129,32 @@ impl<C: Machine> Book<C> {
             Some(said) => self.record_event(stamps, event, message, said, out),
             None => self.record_still(stamps, event, message),
         }
+    }
+
+    /// Adds the entry of the node's end, which says no event of the core. It is also added after memory ran out inside the core, which is then
+    /// known as it was before.
+    ///
+    /// # Errors
+    /// `Memory` where no memory or no right to a stamp is left. Core and history are then as before.
+    #[tactic(auto, using(crate::proofs::Recorded::recorded))]
+    pub fn record_end(
+        &mut self,
+        stamps: &mut Stamps,
+        event: Event,
+        message: Option<Message>,
+    ) -> Result<(), Stop>
+        requires says { C.says self.old.core event message None }
+        ensures recorded { IsRecorded (Steps C.says C.by) self.old self.new }
+        ensures err { OnErr result (self.new ≡ self.old) }
+    {
+        self.log.reserve_last()?;
+        let stamp = draw(stamps, &self.log)?;
+        self.log.push(Entry {
+            stamp,
+            event,
+            message,
+        });
+        Ok(())
     }
 
     #[tactic(auto, using(crate::proofs::Recorded::recorded))]

@@ -1,48 +1,54 @@
 //! The two ends of a link.
-ghost use Rattle.std.specs.Prelude.{◌≡◌, ℕ, ◌<◌, true, [], ◌∷◌, ◌++◌, IfOk, IfErr, OnOk, MatchResult, MatchOption, List, length};
+ghost use Rattle.std.specs.Prelude.{◌≡◌, ℕ, ◌<◌, true, [], ◌∷◌, ◌++◌, IfOk, IfErr, OnOk, OnErr, IfSome, IfNone, List, length};
 ghost use Rattle.std.specs.Arc.{arc_value};
 ghost use Rattle.crossbeam_queue.specs.Passes.{view, IsPassOf, ruled_capacity};
 ghost use Rattle.cluster_msgs.specs.Labels.{PacketFits};
-ghost use Rattle.link_inproc.specs.Links.{Begins};
+ghost use Rattle.node_links.specs.Links.{Begins, WasFull};
 ghost use Rattle.cluster_msgs.specs.declared.packets.Packet.{Packet};
 
 use crate::packet::Sealed;
-use crate::rule::{Got, InOrder, Log, Roles, Sent, Total};
+use crate::rule::{Got, InOrder, Known, Roles, Sent, Total};
 use crossbeam_queue::{Pass, RuledArrayQueue};
 use std::alloc::Global;
 use std::sync::{Arc, Wait};
 use cluster_msgs::{Label, Packet};
 
+/// There was no memory.
 #[derive(Drop)]
 pub struct OutOfMemory;
 
-type Line<B, L> = RuledArrayQueue<Sealed<B, L>, Log<B>, InOrder>;
+type Line<B, L> = RuledArrayQueue<Sealed<B, L>, Known<B>, InOrder>;
 
-/// The end that sends.
+/// The end that sends. Contracts see in `pass` what was sent.
 #[derive(Drop)]
 pub struct Sender<B: Drop, L: Label<Block = B>> {
-    pub line: Arc<RuledArrayQueue<Sealed<B, L>, Log<B>, InOrder>>,
-    pub pass: Pass<Sealed<B, L>, Log<B>>,
+    pub line: Arc<RuledArrayQueue<Sealed<B, L>, Known<B>, InOrder>>,
+    pub pass: Pass<Sealed<B, L>, Known<B>>,
     ghost own: { IsPassOf (arc_value line) pass },
     ghost role: { (view pass).pushes ≡ true },
 }
 
-/// The end that receives.
+/// The end that receives. Contracts see in `pass` what was received.
 #[derive(Drop)]
 pub struct Receiver<B: Drop, L: Label<Block = B>> {
-    pub line: Arc<RuledArrayQueue<Sealed<B, L>, Log<B>, InOrder>>,
-    pub pass: Pass<Sealed<B, L>, Log<B>>,
+    pub line: Arc<RuledArrayQueue<Sealed<B, L>, Known<B>, InOrder>>,
+    pub pass: Pass<Sealed<B, L>, Known<B>>,
     ghost own: { IsPassOf (arc_value line) pass },
     ghost role: { (view pass).pops ≡ true },
 }
 
-/// Makes a link for so many packets.
+/// Makes a link that holds so many packets.
+///
+/// # Errors
+/// Where there is no memory.
 pub fn link<B: Drop, L: Label<Block = B>>(
     alloc: Global,
     capacity: usize,
 ) -> Result<(Sender<B, L>, Receiver<B, L>), OutOfMemory>
     requires { 0 < capacity }
-    ensures { IfOk result (λ r. (r.0.pass.table_id ≡ r.1.pass.table_id) × ((view r.0.pass).sent ≡ []) × ((view r.1.pass).got ≡ []) × (ruled_capacity (arc_value r.0.line) ≡ capacity)) }
+    ensures pair { IfOk result (λ r. r.0.pass.table_id ≡ r.1.pass.table_id) }
+    ensures empty { IfOk result (λ r. ((view r.0.pass).sent ≡ []) × ((view r.1.pass).got ≡ [])) }
+    ensures capacity { IfOk result (λ r. ruled_capacity (arc_value r.0.line) ≡ capacity) }
 {
     let Ok((queue, mut pass)) = Line::<B, L>::ruled(alloc, capacity) else {
         return Err(OutOfMemory);
@@ -64,12 +70,17 @@ pub fn link<B: Drop, L: Label<Block = B>>(
 }
 
 impl<B: Drop, L: Label<Block = B>> Sender<B, L> {
-    /// Sends a packet, or hands it back where the link was full at some moment.
+    /// Sends a packet. It takes no memory, and may wait inside the queue.
+    ///
+    /// # Errors
+    /// The packet comes back where the link was full at some moment of the call.
     pub fn send<R: Wait>(&mut self, rt: &R, packet: Packet<B>) -> Result<(), Packet<B>>
         requires fits { PacketFits L.facts packet }
         ensures same { (self.new.pass.table_id ≡ self.old.pass.table_id) × (self.new.line ≡ self.old.line) }
-        ensures sent { MatchResult result (λ _. (view self.new.pass).sent ≡ (view self.old.pass).sent ++ packet ∷ []) (λ p. (p ≡ packet) × ((view self.new.pass).sent ≡ (view self.old.pass).sent)) }
-        ensures full { IfErr result (λ _. (items : List (Packet B)) × (got : List (Packet B)) × (length items ≡ ruled_capacity (arc_value self.old.line)) × ((view self.old.pass).sent ≡ got ++ items)) }
+        ensures sent { OnOk result ((view self.new.pass).sent ≡ (view self.old.pass).sent ++ packet ∷ []) }
+        ensures back { IfErr result (λ p. p ≡ packet) }
+        ensures err { OnErr result ((view self.new.pass).sent ≡ (view self.old.pass).sent) }
+        ensures full { OnErr result (WasFull (ruled_capacity (arc_value self.old.line)) (view self.old.pass).sent) }
     {
         match self
             .line
@@ -82,17 +93,20 @@ impl<B: Drop, L: Label<Block = B>> Sender<B, L> {
 }
 
 impl<B: Drop, L: Label<Block = B>> Receiver<B, L> {
-    /// Takes the next packet. `None` where the link was empty at some moment.
+    /// Takes the next packet, which fits the label. `None` only where the link was empty at some moment of the call. It takes no memory, and may
+    /// wait inside the queue.
     pub fn recv<R: Wait>(&mut self, rt: &R) -> Option<Packet<B>>
         ensures same { (self.new.pass.table_id ≡ self.old.pass.table_id) × (self.new.line ≡ self.old.line) }
-        ensures got { MatchOption result ((view self.new.pass).got ≡ (view self.old.pass).got) (λ p. ((view self.new.pass).got ≡ (view self.old.pass).got ++ p ∷ []) × PacketFits L.facts p) }
+        ensures got { IfSome result (λ p. (view self.new.pass).got ≡ (view self.old.pass).got ++ p ∷ []) }
+        ensures fits { IfSome result (λ p. PacketFits L.facts p) }
+        ensures none { IfNone result ((view self.new.pass).got ≡ (view self.old.pass).got) }
     {
         let sealed = self.line.pop_as::<Got, R>(rt, &mut self.pass)?;
         Some(sealed.into_packet())
     }
 }
 
-/// Ends a link: what was received is a beginning of what was sent.
+/// Ends a link, whose two ends these are: what was received is a beginning of what was sent. It takes no memory.
 pub fn close<B: Drop, L: Label<Block = B>, R: Wait>(
     _rt: &R,
     sender: Sender<B, L>,

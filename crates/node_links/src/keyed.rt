@@ -1,11 +1,13 @@
 //! Blocks that fit the label of a run.
-ghost use Rattle.std.specs.Prelude.{◌≡◌, ◌<◌, IfOk, OnOk, length};
+ghost use Rattle.std.specs.Prelude.{◌≡◌, ◌<◌, ◌∷◌, ◌++◌, [], IfOk, OnOk, OnErr, get_or, length};
+ghost use Rattle.cluster_msgs.specs.declared.messages.Message.TheVariants as message;
+ghost use Rattle.cluster_msgs.specs.declared.messages.Peer.TheVariants as peer;
 ghost use Rattle.std.specs.Arc.{arc_value};
 ghost use Rattle.cluster_msgs.specs.Labels.{BlockFits};
-ghost use Rattle.node_parts.specs.Fits.{ParcelFits};
+ghost use Rattle.node_links.specs.Fits.{ParcelFits};
 
 use cluster_msgs::{Label, Message, Packet, Peer, Sequence};
-use link_inproc::Sealed;
+use crate::packet::Sealed;
 use std::alloc::{AllocError, Global};
 use std::marker::{Model, PhantomData};
 use std::sync::Arc;
@@ -20,6 +22,7 @@ pub struct Keyed<B: Drop, L: Label<Block = B>> {
 }
 
 impl<B: Drop, L: Label<Block = B>> Keyed<B, L> {
+    /// The block of a key, which it fits.
     pub fn new(key: u32, block: Arc<B>) -> Self
         requires { BlockFits L.facts key (arc_value block) }
         ensures { (result.key ≡ key) × (result.block ≡ block) }
@@ -31,18 +34,21 @@ impl<B: Drop, L: Label<Block = B>> Keyed<B, L> {
         }
     }
 
+    /// Its key.
     pub fn key(&self) -> u32
         ensures { result ≡ self.now.key }
     {
         self.key
     }
 
+    /// The block.
     pub fn block(&self) -> &Arc<B>
         ensures { result.now ≡ self.now.block }
     {
         &self.block
     }
 
+    /// The block without its key.
     pub fn into_block(self) -> Arc<B>
         ensures same { result ≡ self.block }
         ensures fits { BlockFits L.facts self.key (arc_value result) }
@@ -55,8 +61,13 @@ impl<B: Drop, L: Label<Block = B>> Keyed<B, L> {
         block
     }
 
+    /// The same block, which both share.
+    ///
+    /// # Errors
+    /// Where the count of those who share it is full.
     pub fn share(&self) -> Result<Self, AllocError>
-        ensures { IfOk result (λ k. k.key ≡ self.now.key) }
+        ensures key { IfOk result (λ k. k.key ≡ self.now.key) }
+        ensures block { IfOk result (λ k. arc_value k.block ≡ arc_value self.now.block) }
     {
         let block = self.block.clone()?;
         Ok(Keyed {
@@ -79,7 +90,7 @@ impl<B: Drop, L: Label<Block = B>> Model for Parcel<B, L> {
     ghost use Rattle.std.specs.Prelude.{ℕ, List};
     ghost use Rattle.std.specs.declared.sync.Arc.{Arc as Shared};
     ghost use Rattle.std.specs.declared.alloc.Global.{Global as Heap};
-    ghost use Rattle.node_parts.specs.Fits.{ParcelFits};
+    ghost use Rattle.node_links.specs.Fits.{ParcelFits};
 
     ghost Value = { List ℕ × List (Shared B Heap) };
 
@@ -89,8 +100,11 @@ impl<B: Drop, L: Label<Block = B>> Model for Parcel<B, L> {
 }
 
 impl<B: Drop, L: Label<Block = B>> Parcel<B, L> {
+    /// No blocks.
     #[tactic(auto, using(crate::proofs::Parcels::no_parcel))]
-    pub fn new(alloc: Global) -> Self {
+    pub fn new(alloc: Global) -> Self
+        ensures { result ≡ ([], []) }
+    {
         Parcel {
             found: Vec::new(alloc),
             blocks: Vec::new(alloc),
@@ -98,8 +112,15 @@ impl<B: Drop, L: Label<Block = B>> Parcel<B, L> {
         }
     }
 
+    /// Adds a block with its key.
+    ///
+    /// # Errors
+    /// Where there is no memory. The parcel is as it was, and the block is dropped.
     #[tactic(auto, using(crate::proofs::Parcels::parcel_push))]
-    pub fn push(&mut self, keyed: Keyed<B, L>) -> Result<(), AllocError> {
+    pub fn push(&mut self, keyed: Keyed<B, L>) -> Result<(), AllocError>
+        ensures ok { OnOk result (self.new ≡ (self.old.0 ++ keyed.key ∷ [], self.old.1 ++ keyed.block ∷ [])) }
+        ensures err { OnErr result (self.new ≡ self.old) }
+    {
         let Keyed {
             key,
             block,
@@ -112,8 +133,12 @@ impl<B: Drop, L: Label<Block = B>> Parcel<B, L> {
         Ok(())
     }
 
+    /// The answer to an ask: its message names the keys of the blocks, in order.
     #[tactic(auto, using(crate::proofs::Parcels::packet_of_parcel))]
-    pub fn seal(self, ask: u64) -> Sealed<B, L> {
+    pub fn seal(self, ask: u64) -> Sealed<B, L>
+        ensures message { result.message ≡ message.Peer (peer.Data ask self.0) }
+        ensures blocks { result.blocks ≡ self.1 }
+    {
         let Parcel {
             found,
             blocks,
@@ -129,7 +154,10 @@ impl<B: Drop, L: Label<Block = B>> Parcel<B, L> {
     }
 }
 
-/// Keys with their blocks.
+/// The keys of an answer with their blocks, each of which fits its key, in order.
+///
+/// # Errors
+/// Where there is no memory.
 pub fn pair_up<B: Drop, L: Label<Block = B>>(
     alloc: Global,
     found: &[u32],

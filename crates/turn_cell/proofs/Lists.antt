@@ -44,12 +44,14 @@ pub all_at_set : {A B : Type 0} (R : A → B → Type 0) (xs : List A) (ys : Lis
 all_at_set {A} {B} R xs ys i a w h lt r =
     record {
       long = length-set ys i w ∙ h.long;
-      at = record { each = λ k c b less. dite (ℕ_discrete k i)
-          (λ e. let short : i < length ys = omega (arith, h.long) in
-          let here : get_or (set ys i w) k b ≡ w = get_or-set_at ys i k w b e short in
-          let same : get_or xs i a ≡ get_or xs k c = get_or_default xs i a c lt ∙ ap (λ j. get_or xs j c) (sym e) in
-          subst (λ (z : A × B). R z.0 z.1) (λ j. (same j, sym here j)) r)
-          (λ n. let short : k < length ys = omega (arith, length-set ys i w) in subst (R (get_or xs k c)) (sym (get_or-set_other ys i k w b n)) (h.at.each k c b short)); };
+      at = record {
+        each = λ k c b less. dite (ℕ_discrete k i)
+            (λ e. let short : i < length ys = omega (arith, h.long) in
+            let here : get_or (set ys i w) k b ≡ w = get_or-set_at ys i k w b e short in
+            let same : get_or xs i a ≡ get_or xs k c = get_or_default xs i a c lt ∙ ap (λ j. get_or xs j c) (sym e) in
+            subst (λ (z : A × B). R z.0 z.1) (λ j. (same j, sym here j)) r)
+            (λ n. let short : k < length ys = omega (arith, length-set ys i w) in subst (R (get_or xs k c)) (sym (get_or-set_other ys i k w b n)) (h.at.each k c b short));
+      };
     }
 
 -- what holds at one place
@@ -98,7 +100,6 @@ get_or-map_at f (y ∷ ys) (suc k) a b less = get_or-map_at f ys k a b (omega ar
 pub by_map : {A B : Type 0} (R : ℕ → A → B → Type 0) (f : B → A) (ys : List B) → ((k : ℕ) (b : B) → k < length ys → R k (f (get_or ys k b)) (get_or ys k b)) → AllBy R (map f ys) ys
 by_map R f ys h = record { long = sym (length-map ys f); each = λ k a b less. subst (λ x. R k x (get_or ys k b)) (sym (get_or-map_at f ys k a b less)) (h k b less) }
 
-
 -- some element of a list that is not empty
 pub some_of : {A : Type 0} (xs : List A) (i : ℕ) → i < length xs → A
 some_of [] i lt = absurd (omega arith)
@@ -115,10 +116,12 @@ all_at_of_by R xs ys h = record { long = h.long; at = record { each = h.each } }
 pub all_at_pushed : {A B : Type 0} (R : A → B → Type 0) (xs : List A) (ys : List B) (x : A) (y : B) → AllAt R xs ys → R x y → AllAt R (xs ++ x ∷ []) (ys ++ y ∷ [])
 all_at_pushed {A} {B} R xs ys x y h here = record {
   long = length-append ys (y ∷ []) ∙ ap (λ n. n + 1) h.long ∙ sym (length-append xs (x ∷ []));
-  at = record { each = λ k a b less. dite (ℕ_discrete k (length ys))
-      (λ e. subst (λ (z : A × B). R z.0 z.1) (λ j. (sym (get_or_push xs x a k (sym h.long ∙ sym e)) j, sym (get_or_push ys y b k (sym e)) j)) here)
-      (λ n. let short : k < length ys = omega (arith, length-append ys (y ∷ []), n) in let short' : k < length xs = omega (arith, h.long) in
-      subst (λ (z : A × B). R z.0 z.1) (λ j. (sym (get_or_append_left xs (x ∷ []) a k short') j, sym (get_or_append_left ys (y ∷ []) b k short) j)) (h.at.each k a b short)); };
+  at = record {
+    each = λ k a b less. dite (ℕ_discrete k (length ys))
+        (λ e. subst (λ (z : A × B). R z.0 z.1) (λ j. (sym (get_or_push xs x a k (sym h.long ∙ sym e)) j, sym (get_or_push ys y b k (sym e)) j)) here)
+        (λ n. let short : k < length ys = omega (arith, length-append ys (y ∷ []), n) in let short' : k < length xs = omega (arith, h.long) in
+        subst (λ (z : A × B). R z.0 z.1) (λ j. (sym (get_or_append_left xs (x ∷ []) a k short') j, sym (get_or_append_left ys (y ∷ []) b k short) j)) (h.at.each k a b short));
+  };
 }
 
 -- of a list with what is told of each member

@@ -1,17 +1,16 @@
 -- Cutting a pass in two, joining two, the first pass and the last one.
-use Rattle.std.proofs.Common.{◌≡◌, ◌≢◌, ℕ, zero, suc, ◌+◌, ◌-◌, ◌<◌, ◌≤◌, ◌⊎◌, inl, inr, Bool, true, false, List, [], ◌∷◌, ◌++◌, length, set, sym, refl, ap, ◌∙◌, subst, ⊎_elim, append_assoc, arith, Option, Some, None, nat_le, if◌then◌else◌}
-use Rattle.std.proofs.lemmas.List.{append-nil}
-use mathlib.Core.Option.{some, none, some-injective, some-ne-none}
+use Rattle.std.proofs.Common.{◌≡◌, ℕ, ◌<◌, ◌≤◌, inl, inr, Bool, true, false, List, [], ◌∷◌, ◌++◌, length, set, sym, refl, ap, ◌∙◌, subst, ⊎_elim, arith, Option, Some, None, nat_le, if◌then◌else◌}
+use mathlib.Core.Option.{some, some-injective}
 use mathlib.Core.Logic.{dite}
 use native.Mathlib.Decide.{ℕ_discrete}
 use lib.ListN.{get_elem?}
 use Rattle.atomic_table.specs.Table.{State, Splits, Joins, opening, Final, Seen}
-use Rattle.atomic_table.proofs.Lists.{at_set, at_snoc, at_longer, set_else}
+use Rattle.atomic_table.proofs.Lists.{at_snoc, at_longer, set_else}
 use Rattle.cluster_msgs.specs.declared.events.Entry.{Entry}
 use Rattle.turn_cell.specs.declared.rule.View.{View}
 use Rattle.turn_cell.specs.declared.rule.Start.{Start}
 use Rattle.turn_cell.specs.Histories.{StartsWith, weigh, Ascending, Replays}
-use Rattle.turn_cell.specs.Turns.{total_of, spent, first_view, left_view, right_view, longer, both_views, IsReplay, IsLive, Knows, All, AtHome, IsOut, TurnRule, Ended}
+use Rattle.turn_cell.specs.Turns.{total_of, spent, first_view, left_view, right_view, both_views, IsLive, Knows, All, AtHome, IsOut, TurnRule, Ended}
 use Rattle.turn_cell.proofs.Sums.{total_set, total_snoc, two_at, total_alone, all_one, all_set, weigh-append, starts_light}
 use Rattle.std.proofs.Common.{drop}
 use Rattle.std.proofs.lemmas.Bool.Decides.{nat_tests}

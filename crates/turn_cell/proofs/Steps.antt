@@ -1,5 +1,5 @@
 -- Each step of a cell keeps its rule.
-use Rattle.std.proofs.Common.{◌≡◌, ◌≢◌, ℕ, zero, suc, ◌+◌, ◌-◌, ◌%◌, ◌^◌, ◌<◌, ◌≤◌, ◌==◌, ◌⊎◌, inl, inr, List, [], ◌∷◌, ◌++◌, length, drop, set, sym, refl, ap, ◌∙◌, subst, ⊎_elim, append_assoc, arith, Option, Some, None, Bool, false, slice_index, slice_set}
+use Rattle.std.proofs.Common.{◌≡◌, ℕ, zero, suc, ◌+◌, ◌%◌, ◌^◌, ◌<◌, ◌==◌, inl, inr, List, [], ◌∷◌, ◌++◌, length, drop, set, sym, refl, ap, ◌∙◌, subst, ⊎_elim, arith, Option, Some, None, Bool, false, slice_index, slice_set}
 use mathlib.Core.Option.{some, none, some-injective, some-ne-none}
 use lib.ListN.{get_elem?}
 use prog.Atomic.{either}
@@ -15,7 +15,7 @@ use Rattle.cluster_msgs.specs.declared.events.Entry.{Entry}
 use Rattle.turn_cell.specs.declared.rule.View.{View}
 use Rattle.turn_cell.specs.declared.rule.Start.{Start}
 use Rattle.turn_cell.specs.Histories.{StartsWith, weigh, Ascending, Replays}
-use Rattle.turn_cell.specs.Turns.{WasTaken, total_of, spent, first_view, with_turn, held, IsReplay, IsLive, Knows, All, AtHome, IsOut, TurnRule, IsShown, took, looked, read, grown, counted, gave}
+use Rattle.turn_cell.specs.Turns.{WasTaken, total_of, spent, with_turn, held, IsReplay, IsLive, Knows, All, AtHome, IsOut, TurnRule, IsShown, took, looked, read, grown, counted, gave}
 use Rattle.turn_cell.proofs.Sums.{two_at, total_set, all_set, weigh-append, starts_longer, starts_light, replays_snoc}
 
 module _ {S C : Type 0} (entries : S → List Entry) (core : S → C) (cut : S → Bool) (steps : C → Entry → C → Type 0) where
@@ -114,7 +114,7 @@ module _ {S C : Type 0} (entries : S → List Entry) (core : S → C) (cut : S �
       let u : View S = t.out.noted.0 in let at : get_elem? t.moment.views t.out.holder ≡ some u = t.out.noted.1 in
       let another : ¬ (t.out.holder ≡ t.id) = λ e. not_none t.out.state (sym t.out.noted.2 ∙ ap (λ (y : View S). y.out) (some-injective u v (sym at ∙ ap (get_elem? t.moment.views) e ∙ t.here)) ∙ idle) in
       let its = ⊎_elim (λ (e : u ≡ spent). absurd (not_none t.out.state (sym t.out.noted.2 ∙ ap (λ (y : View S). y.out) e)))
-          (λ (m : IsLive entries core cut steps k.state.value k.parts h.log u). m) (h.knows t.out.holder u at) in
+      (λ (m : IsLive entries core cut steps k.state.value k.parts h.log u). m) (h.knows t.out.holder u at) in
       let a = two_at (λ (y : View S). y.parts) t.moment.views t.id t.out.holder v u t.here at another in
       let b = its.some_part in let c = h.parts in let d = l.total_is in omega arith
 

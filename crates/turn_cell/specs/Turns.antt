@@ -1,6 +1,6 @@
 -- The rule of a cell, over its words, its slot and what each pass knows, and what each of its steps tells.
 -- The first word is 0 while the state is at home, and the second is the number of entries in the history.
-use Rattle.std.specs.Prelude.{◌≡◌, ℕ, ◌+◌, ◌-◌, ◌<◌, ◌≤◌, ◌⊎◌, List, [], ◌∷◌, ◌++◌, length, drop, Option, Some, None}
+use Rattle.std.specs.Prelude.{◌≡◌, ℕ, ◌+◌, ◌-◌, ◌<◌, ◌⊎◌, List, [], ◌∷◌, ◌++◌, length, drop, Option, Some, None}
 use Rattle.std.specs.Prelude.{if◌then◌else◌, nat_le, Bool, true, false}
 use mathlib.Core.Option.{some, none}
 use lib.ListN.{get_elem?}

@@ -5,9 +5,9 @@ ghost use Rattle.turn_cell.specs.Turns.{Rests, Holds, Entered, WasTaken, Went, W
 ghost use Rattle.turn_cell.specs.Turns.{left_with, left_view, right_view, both_views, opening_view};
 
 use crate::kept::Kept;
-use cluster_msgs::Label;
 use crate::rule::{Counts, Cut, Gives, Glue, Housed, InTurns, Reads, Start, Takes, View};
 use atomic_table::{Refused, Seat, Table};
+use cluster_msgs::Label;
 use std::alloc::Global;
 use std::snapshot::Snapshot;
 use std::sync::Wait;

@@ -3,11 +3,11 @@ ghost use Rattle.std.specs.Prelude.{◌≡◌, ◌+◌, ◌<◌, ◌≤◌, ◌+
 ghost use Rattle.std.specs.Vec.{vec_capacity};
 ghost use Rattle.turn_cell.specs.Rows.{AllAt, HasParts, IsWhole, berth_of};
 
+use crate::cell::{Pass, TurnCell};
+use crate::kept::Kept;
 use crate::row::{Cells, Home, Places};
 use cluster_msgs::Label;
 use std::alloc::Global;
-use crate::cell::{Pass, TurnCell};
-use crate::kept::Kept;
 
 /// Cells with their passes, which have all parts, and room for the states when the cells are closed.
 pub struct Made<S: Kept, L: Label<Block = S::Block>> {

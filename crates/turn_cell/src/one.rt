@@ -2,10 +2,10 @@
 ghost use Rattle.std.specs.Prelude.{◌≡◌, ℕ, ◌+◌, ◌≤◌, [], None, Option, IfErr};
 ghost use Rattle.turn_cell.specs.Rows.{HasParts, IsClosed, KeepsParts, LosesPart, GivesPart, GainsPart};
 
-use cluster_msgs::Label;
-use std::sync::Wait;
 use crate::cell::{Pass, TurnCell};
 use crate::kept::{Act, Kept};
+use cluster_msgs::Label;
+use std::sync::Wait;
 
 /// One turn, if it is free; else the act comes back.
 pub fn try_turn<S: Kept, L: Label<Block = S::Block>, A: Act<S, L>>(

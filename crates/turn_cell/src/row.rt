@@ -3,13 +3,13 @@ ghost use Rattle.std.specs.Prelude.{◌≡◌, ℕ, ◌+◌, ◌-◌, ◌*◌, �
 ghost use Rattle.std.specs.Vec.{vec_capacity};
 ghost use Rattle.turn_cell.specs.Rows.{AllAt, AllBy, EachAt, HasParts, IsClosed};
 
+use crate::cell::{Pass, TurnCell};
+use crate::kept::{Act, Kept};
 use crate::one::{self, try_turn, turn};
 use cluster_msgs::Label;
 use std::alloc::Global;
 use std::marker::{Brand, PhantomData};
 use std::sync::Wait;
-use crate::cell::{Pass, TurnCell};
-use crate::kept::{Act, Kept};
 
 /// The tables of a row of cells with the states that they were made with, and how many parts each has. The call that starts
 /// the drivers picks them.
@@ -105,7 +105,11 @@ impl<K: Places<S>, S: Kept, L: Label<Block = S::Block>> Home<K, S, L> {
     ///
     /// # Errors
     /// All passes come back as they were where there is no memory for the driver's.
-    pub fn split(self, alloc: Global, cells: &Cells<K, S, L>) -> Result<(Self, Passes<K, S, L>), Self>
+    pub fn split(
+        self,
+        alloc: Global,
+        cells: &Cells<K, S, L>,
+    ) -> Result<(Self, Passes<K, S, L>), Self>
         requires { 2 ≤ self.parts }
         ensures ok { IfOk result (λ r. r.0.parts + 1 ≡ self.parts) }
         ensures err { IfErr result (λ h. h.parts ≡ self.parts) }

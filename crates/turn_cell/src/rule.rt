@@ -3,8 +3,8 @@
 ghost use Rattle.std.specs.Prelude.{◌≡◌};
 
 use crate::kept::Kept;
-use cluster_msgs::{Entry, Label};
 use atomic_table::{Join, Play, Split, TableRule};
+use cluster_msgs::{Entry, Label};
 use std::collections::LinkedList;
 use std::marker::{Model, PhantomData};
 use std::snapshot::Snapshot;

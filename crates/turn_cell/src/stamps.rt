@@ -3,9 +3,9 @@ ghost use Rattle.std.specs.Prelude.{◌≡◌, ◌≤◌, ◌-◌, ◌/◌, ◌^
 ghost use Rattle.std.specs.Arc.{arc_value};
 ghost use Rattle.turn_cell.specs.Ticks.{drawn, Drew};
 
+use crate::ticker::{Seat, Ticker};
 use std::alloc::{AllocError, Global};
 use std::sync::Arc;
-use crate::ticker::{Seat, Ticker};
 
 /// A seat of a ticker together with its ticker, which all that were split from one share.
 #[derive(Drop)]

@@ -1,8 +1,8 @@
 use Rattle.std.proofs.Common.{◌≡◌, ◌∙◌, sym, ap, subst, get_or}
 use Rattle.std.specs.Arc.{arc_value}
 use Rattle.cluster_msgs.specs.Labels.{BlockFits}
-use Rattle.node_parts.proofs.Parcels.{fits_at}
-use Rattle.node_parts.proofs.keyed.keyed_at.Goals as goal
+use Rattle.node_links.proofs.Parcels.{fits_at}
+use Rattle.node_links.proofs.keyed.keyed_at.Goals as goal
 
 pub new-requires : goal.new-requires
 new-requires g c =

@@ -1,4 +1,4 @@
-use Rattle.std.proofs.Common.{rules, Option, ◌≡◌, ℕ, ◌+◌, ◌<◌, ◌≤◌, ◌∙◌, [], ◌∷◌, ◌++◌, sym, ap, subst, arith, length, vec_len, get_or}
+use Rattle.std.proofs.Common.{rules, Option, ◌≡◌, ◌<◌, ◌≤◌, ◌∙◌, sym, subst, arith, length, vec_len, get_or}
 use Rattle.atomic_table.specs.Seated.{TableId}
 use Rattle.turn_cell.specs.Rows.{EachAt, HasParts, IsClosed}
 use Rattle.turn_cell.proofs.Lists.{each_at_popped, each_at_last, each_at_pushed, some_of}

@@ -1,14 +1,16 @@
-use Rattle.std.proofs.Common.{◌≡◌, ◌+◌, ◌<◌, ◌≤◌, ◌∙◌, [], ◌∷◌, ◌++◌, sym, ap, subst, arith, rules, vec_len, length, get_or, set}
-use Rattle.turn_cell.specs.Rows.{EachAt, AllAt, AllBy, HasParts, Mixed}
+use Rattle.std.proofs.Common.{◌≡◌, ◌+◌, ◌<◌, ◌∙◌, [], ◌∷◌, ◌++◌, sym, subst, arith, rules, vec_len, length, get_or, set}
+use Rattle.turn_cell.specs.Rows.{EachAt, AllBy, HasParts, Mixed}
 use Rattle.turn_cell.proofs.Lists.{mixed_all, none_of_mixed, mixed_down, here_down, each_at_popped, each_at_last, each_here, some_of}
 use Rattle.turn_cell.proofs.row.join_all.Goals as goal
 
 pub loop-pass-init : goal.loop-pass-init
 loop-pass-init g c =
-    let r = c.requires in
-    (omega (arith, r.has.long, r.given.long), search rules,
-        mixed_all (λ n t p. HasParts t.0 t.1 g.K.Places.total n p.seat) c.args.left g.K.Places.berths c.args.home.now.items (vec_len c.args.passes) (omega (arith, r.has.long, r.given.long)) r.has,
-        r.given.at)
+    let r = c.requires in (
+      omega (arith, r.has.long, r.given.long),
+      search rules,
+      mixed_all (λ n t p. HasParts t.0 t.1 g.K.Places.total n p.seat) c.args.left g.K.Places.berths c.args.home.now.items (vec_len c.args.passes) (omega (arith, r.has.long, r.given.long)) r.has,
+      r.given.at,
+    )
 
 pub join-requires-clause-own : goal.join-requires-clause-own
 join-requires-clause-own g c =
@@ -74,10 +76,12 @@ loop-pass-preserved g c =
     let last : HasParts (get_or ts m t).0 x total 1 p.seat = subst (λ n. HasParts (get_or ts n t).0 (get_or ts n t).1 total 1 p.seat) long (each_at_last (λ t p. HasParts t.0 t.1 total 1 p.seat) ts ys p (subst (EachAt (λ t p. HasParts t.0 t.1 total 1 p.seat) ts) items i.3) t) in
     let q = c.join.new.pass in let e = c.join.ensures in
     let has : HasParts (get_or ts m t).0 x total (left + 1) q.seat = subst (λ i. HasParts i x total (left + 1) q.seat) a
-        (e.has x total left (subst (λ i. HasParts i x total left w.seat) (sym a) h) (subst (λ i. HasParts i x total 1 p.seat) (sym a) last)) in
-    (omega (arith, i.0, longer, c.len-at.ensures), search rules,
-        subst (λ n. AllBy (Mixed (λ n t p. HasParts t.0 t.1 total n p.seat) n left) ts (set ss m q)) c.len-at.ensures (mixed_down (λ n t p. HasParts t.0 t.1 total n p.seat) left ts ss m t q mix lt has),
-        each_at_popped (λ t p. HasParts t.0 t.1 total 1 p.seat) ts ys p (subst (EachAt (λ t p. HasParts t.0 t.1 total 1 p.seat) ts) items i.3))
+    (e.has x total left (subst (λ i. HasParts i x total left w.seat) (sym a) h) (subst (λ i. HasParts i x total 1 p.seat) (sym a) last)) in (
+      omega (arith, i.0, longer, c.len-at.ensures),
+      search rules,
+      subst (λ n. AllBy (Mixed (λ n t p. HasParts t.0 t.1 total n p.seat) n left) ts (set ss m q)) c.len-at.ensures (mixed_down (λ n t p. HasParts t.0 t.1 total n p.seat) left ts ss m t q mix lt has),
+      each_at_popped (λ t p. HasParts t.0 t.1 total 1 p.seat) ts ys p (subst (EachAt (λ t p. HasParts t.0 t.1 total 1 p.seat) ts) items i.3),
+    )
 
 pub returns : goal.returns
 returns g c =

@@ -1,4 +1,4 @@
-use Rattle.std.proofs.Common.{◌≡◌, ◌+◌, ◌<◌, ◌≤◌, vec_len}
+use Rattle.std.proofs.Common.{◌≡◌, ◌≤◌, vec_len}
 use Rattle.turn_cell.specs.Rows.{EachAt, AllBy, HasParts, Mixed}
 use Rattle.turn_cell.proofs.row.join_all.Given as goal
 

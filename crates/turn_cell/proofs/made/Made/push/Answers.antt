@@ -1,5 +1,5 @@
-use Rattle.std.proofs.Common.{◌≡◌, ◌++◌, ◌∷◌, [], sym, ap, subst, ℕ, ◌<◌, length, get_or}
-use Rattle.turn_cell.specs.Rows.{AllAt, HasParts, IsWhole}
+use Rattle.std.proofs.Common.{◌≡◌, ◌++◌, ◌∷◌, [], sym, subst}
+use Rattle.turn_cell.specs.Rows.{AllAt, IsWhole}
 use Rattle.turn_cell.proofs.Lists.{all_at_pushed, all_pushed, EachOf}
 use Rattle.turn_cell.proofs.made.Made.push.Goals as goal
 

@@ -1,4 +1,4 @@
-use Rattle.std.proofs.Common.{◌≡◌, ◌+◌, ◌-◌, ◌≤◌, subst, arith}
+use Rattle.std.proofs.Common.{◌≡◌, ◌+◌, ◌-◌, subst, arith}
 use Rattle.turn_cell.specs.Rows.{AllBy, HasParts}
 use Rattle.turn_cell.proofs.row.Home.split.Goals as goal
 
