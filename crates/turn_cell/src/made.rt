@@ -1,13 +1,14 @@
 //! A row of cells while it is made, and what is left of it.
 ghost use Rattle.std.specs.Prelude.{◌≡◌, ◌+◌, ◌<◌, ◌≤◌, ◌++◌, ◌∷◌, [], All, Some, true, false, map, length, vec_len};
 ghost use Rattle.std.specs.Vec.{vec_capacity};
-ghost use Rattle.turn_cell.specs.Rows.{AllAt, HasParts, IsWhole, berth_of};
+ghost use Rattle.turn_cell.specs.Rows.{AllAt, HasParts, IsClosed, IsWhole, berth_of};
 
 use crate::cell::{Pass, TurnCell};
 use crate::kept::Kept;
 use crate::row::{Cells, Home, Places};
 use cluster_msgs::Label;
 use std::alloc::Global;
+use std::marker::Brand;
 
 /// Cells with their passes, which have all parts, and room for the states when the cells are closed.
 pub struct Made<S: Kept, L: Label<Block = S::Block>> {
@@ -52,6 +53,24 @@ impl<S: Kept, L: Label<Block = S::Block>> Made<S, L> {
             parts,
         } = self;
         (Cells::new(cells), Home::new(passes, parts), states)
+    }
+}
+
+impl<S: Kept, L: Label<Block = S::Block>> Made<S, L> {
+    fn close_at<K: Places<S>>(self) -> Vec<S>
+        requires berths { K.berths ≡ map (λ p. berth_of p.seat) self.passes.items }
+        requires total { K.total ≡ self.parts }
+        ensures { AllAt (λ t x. IsClosed S.entries S.core S.cut S.steps t.1 x × S.fits L.facts x) K.berths result.items }
+    {
+        let (cells, home, states) = self.into_row::<K>();
+        cells.close(home, states)
+    }
+
+    /// Closes the cells, to which no driver came, and gives their states back.
+    pub fn close(self) -> Vec<S>
+        ensures { AllAt (λ t x. IsClosed S.entries S.core S.cut S.steps t.1 x × S.fits L.facts x) (map (λ p. berth_of p.seat) self.passes.items) result.items }
+    {
+        self.close_at::<Brand>()
     }
 }
 
