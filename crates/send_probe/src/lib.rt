@@ -1,4 +1,0 @@
-//! Which types cross threads.
-#![tactic(auto)]
-
-mod probe;
