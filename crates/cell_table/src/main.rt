@@ -1,22 +1,19 @@
-//! The program `cell_table`: plays what lines tell of cells, tickers, ports, histories and drivers, and prints what came of it.
+//! The program `cell_table`: plays what lines tell of cells, tickers, ports and histories, and prints what came of it.
 //!
-//! It stands on `turn_cell`, `node_links` and `driver_rows`, and nothing stands above it. It carries no promise of its own. A line is a word and its
-//! numbers: `turns`; `draw RIGHTS`; `ports CAPACITY COUNT`; `limit BYTES COUNT`; `drive DRIVERS WORKERS ENTRIES ROUNDS`.
+//! It stands on `turn_cell` and `node_links`, and nothing stands above it. It carries no promise of its own. A line is a word and its
+//! numbers: `turns`; `draw RIGHTS`; `ports CAPACITY COUNT`; `limit BYTES COUNT`.
 #![tactic(auto)]
 
 mod drawn;
-mod drive;
 mod limits;
 mod node;
 mod posts;
 mod turns;
 
-use drive::Plan;
 use std::alloc::Global;
 use std::io;
 use std::str::SplitWhitespace;
 use std::sync::Wait;
-use std::thread::Threads;
 
 // The next number of a line, or 0.
 fn number(words: &mut SplitWhitespace) -> u32 {
@@ -26,28 +23,17 @@ fn number(words: &mut SplitWhitespace) -> u32 {
     }
 }
 
-fn play<R: Print + Threads + Wait + Sync>(rt: &R, alloc: Global, line: &str) -> io::Result<()> {
+fn play<R: Print + Wait>(rt: &R, alloc: Global, line: &str) -> io::Result<()> {
     println!(rt; "{line}")?;
     let mut words = line.split_whitespace();
     let word = words.next().unwrap_or("");
     let first = number(&mut words);
     let second = number(&mut words);
-    let entries = number(&mut words);
-    let rounds = number(&mut words);
     match word {
         "turns" => turns::play(rt, alloc),
         "draw" => drawn::play(rt, alloc, first),
         "ports" => posts::play(rt, alloc, first, second),
         "limit" => limits::play(rt, alloc, first, second),
-        "drive" => {
-            let plan = Plan {
-                drivers: first,
-                workers: second,
-                entries,
-                rounds,
-            };
-            drive::play(rt, alloc, plan)
-        }
         _ => println!(rt; "no such line"),
     }
 }

@@ -1,5 +1,5 @@
 //! Packets through two ports.
-ghost use Rattle.std.specs.Prelude.{◌≡◌, ◌<◌};
+ghost use Rattle.std.specs.Prelude.{◌≡◌, ◌<◌, ◌≤◌};
 
 use crate::node::Plain;
 use cluster_msgs::{FromClient, Message};
