@@ -7,8 +7,7 @@ use cluster_msgs::Label;
 use std::sync::Wait;
 use std::thread;
 use std::thread::Threads;
-use turn_cell::Stamps;
-use turn_cell::{Cells, Passes, Places};
+use turn_cell::{Cells, Passes, Places, Stamps};
 
 /// How drivers go about it.
 #[derive(Clone, Copy)]
@@ -145,11 +144,13 @@ where
                 self.over |= seen.over;
                 seen.moved
             }
-            Err(NodeTurn {
-                rt: _,
-                stamps: _,
-                dead: _,
-            }) => false,
+            Err(
+                NodeTurn {
+                    rt: _,
+                    stamps: _,
+                    dead: _,
+                },
+            ) => false,
         }
     }
 
@@ -190,11 +191,13 @@ where
                 self.served |= seen.done;
                 seen.moved
             }
-            Err(NodeTurn {
-                rt: _,
-                stamps: _,
-                dead: _,
-            }) => false,
+            Err(
+                NodeTurn {
+                    rt: _,
+                    stamps: _,
+                    dead: _,
+                },
+            ) => false,
         }
     }
 
@@ -235,12 +238,14 @@ where
         };
         let (seen, task) = match self.workers.try_turn(&cluster.workers, at, act) {
             Ok(told) => told,
-            Err(WorkerTurn {
-                rt: _,
-                stamps: _,
-                dead: _,
-                graph: _,
-            }) => return false,
+            Err(
+                WorkerTurn {
+                    rt: _,
+                    stamps: _,
+                    dead: _,
+                    graph: _,
+                },
+            ) => return false,
         };
         if seen.done && at < self.dead.len() {
             self.dead[at] = true;

@@ -6,5 +6,5 @@ mod kept;
 mod run;
 
 pub use driver::{Cluster, Driver, Manner, run_drivers};
-pub use run::{Closed, run_cells};
 pub use kept::{NodeKept, NodeTurn, Runs, Seen, TakeBack, WorkerKept, WorkerTurn};
+pub use run::{Closed, run_cells};

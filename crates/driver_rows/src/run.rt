@@ -10,8 +10,7 @@ use std::alloc::{AllocError, Global};
 use std::marker::Brand;
 use std::sync::Wait;
 use std::thread::Threads;
-use turn_cell::Stamps;
-use turn_cell::{Home, Made, Passes, Places};
+use turn_cell::{Home, Made, Passes, Places, Stamps};
 
 /// The passes of all cells from which the drivers' are split.
 pub struct Homes<KS, KW, KC, L, S, W, C>
@@ -318,13 +317,6 @@ where
     ensures clients { AllAt (λ t x. IsClosed C.entries C.core C.cut C.steps t.1 x × C.fits L.facts x) (map (λ p. berth_of p.seat) clients.passes.items) result.clients.items }
 {
     run_at::<R, Brand, Brand, Brand, L, S, W, C, J>(
-        rt,
-        alloc,
-        scheduler,
-        workers,
-        clients,
-        stamps,
-        manner,
-        job,
+        rt, alloc, scheduler, workers, clients, stamps, manner, job,
     )
 }

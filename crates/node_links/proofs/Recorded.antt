@@ -10,12 +10,14 @@ use Rattle.node_links.specs.Books.{BookState, Logged, IsPushed, IsStored, IsLeft
 pub recorded : {C E : Type 0} (says : C → Event → Option Message → Option E → Type 0) (by : C → E → C → Type 0) (x y : BookState C) (old new : Logged) (e : Entry) (o : Option E)
     → says x.core e.event e.message o → StepsBy by o x.core y.core → x.entries ≡ old.entries → x.cut ≡ is_some old.cut → y.entries ≡ new.entries → y.cut ≡ is_some new.cut → IsPushed old e new → Ascending new.entries
     → IsRecorded (Steps says by) x y
-recorded says by x y old new e o said stepped a b c d pushed ascending = record { is = ⊎_elim
-    (λ (p : IsStored old e new). inr (inl (e, c ∙ p.entries_are ∙ ap (λ es. es ++ e ∷ []) (sym a), b ∙ ap is_some p.was_open, d ∙ ap is_some p.is_open, (o, said, stepped), subst Ascending (sym c) ascending)))
-    (λ q. inr (inr (⊎_elim
-    (λ (r : IsLeftOut old e new). (c ∙ r.entries_are ∙ sym a, d ∙ ap is_some r.cut_is, (e, (o, said, stepped))))
-    (λ (r : IsLater old new). (c ∙ r.entries_are ∙ sym a, d ∙ ap is_some r.cut_is ∙ r.was_cut, (e, (o, said, stepped)))) q)))
-    pushed }
+recorded says by x y old new e o said stepped a b c d pushed ascending = record {
+  is = ⊎_elim
+      (λ (p : IsStored old e new). inr (inl (e, c ∙ p.entries_are ∙ ap (λ es. es ++ e ∷ []) (sym a), b ∙ ap is_some p.was_open, d ∙ ap is_some p.is_open, (o, said, stepped), subst Ascending (sym c) ascending)))
+      (λ q. inr (inr (⊎_elim
+      (λ (r : IsLeftOut old e new). (c ∙ r.entries_are ∙ sym a, d ∙ ap is_some r.cut_is, (e, (o, said, stepped))))
+      (λ (r : IsLater old new). (c ∙ r.entries_are ∙ sym a, d ∙ ap is_some r.cut_is ∙ r.was_cut, (e, (o, said, stepped)))) q)))
+      pushed;
+}
 
 pub unchanged : {C : Type 0} (steps : C → Entry → C → Type 0) (x y : BookState C) → y ≡ x → IsRecorded steps x y
 unchanged steps x y e = record { is = inl e }

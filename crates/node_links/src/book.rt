@@ -175,7 +175,13 @@ impl<C: Machine> Book<C> {
         }
         self.log.reserve()?;
         let stamp = draw(stamps, &self.log)?;
-        take_event(&mut self.core, &mut self.before, &mut self.failed, said, out)?;
+        take_event(
+            &mut self.core,
+            &mut self.before,
+            &mut self.failed,
+            said,
+            out,
+        )?;
         self.log.push(Entry {
             stamp,
             event,

@@ -8,10 +8,10 @@ ghost use Rattle.cluster_msgs.specs.declared.packets.Packet.{Packet};
 
 use crate::packet::Sealed;
 use crate::rule::{Got, InOrder, Known, Roles, Sent, Total};
+use cluster_msgs::{Label, Packet};
 use crossbeam_queue::{Pass, RuledArrayQueue};
 use std::alloc::Global;
 use std::sync::{Arc, Wait};
-use cluster_msgs::{Label, Packet};
 
 /// There was no memory.
 #[derive(Drop)]

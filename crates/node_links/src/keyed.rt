@@ -6,8 +6,8 @@ ghost use Rattle.std.specs.Arc.{arc_value};
 ghost use Rattle.cluster_msgs.specs.Labels.{BlockFits};
 ghost use Rattle.node_links.specs.Fits.{ParcelFits};
 
-use cluster_msgs::{Label, Message, Packet, Peer, Sequence};
 use crate::packet::Sealed;
+use cluster_msgs::{Label, Message, Packet, Peer, Sequence};
 use std::alloc::{AllocError, Global};
 use std::marker::{Model, PhantomData};
 use std::sync::Arc;

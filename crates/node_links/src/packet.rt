@@ -2,8 +2,8 @@
 ghost use Rattle.std.specs.Prelude.{◌≡◌};
 ghost use Rattle.cluster_msgs.specs.Labels.{PacketFits};
 
-use std::marker::{Model, PhantomData};
 use cluster_msgs::{Label, Packet};
+use std::marker::{Model, PhantomData};
 
 /// A packet that fits the label. In a clause it is the packet.
 #[derive(Drop)]

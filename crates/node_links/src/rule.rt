@@ -3,9 +3,9 @@ ghost use Rattle.std.specs.Prelude.{◌≡◌, [], ◌∷◌, ◌++◌, true, fa
 ghost use Rattle.node_links.specs.Links.{log};
 
 use crate::packet::Sealed;
+use cluster_msgs::{Label, Packet};
 use crossbeam_queue::protocol::{Join, Lesson, Outcome, Protocol, Split};
 use std::collections::LinkedList;
-use cluster_msgs::{Label, Packet};
 
 /// What a pass may do (push, pop), what it has pushed and what it has popped. No value of it is made.
 pub struct Known<B> {
