@@ -122,7 +122,10 @@ fn turns<R: Wait>(rt: &R, alloc: Global) -> Option<Told> {
 pub fn play<R: Print + Wait>(rt: &R, alloc: Global) -> io::Result<()> {
     match turns(rt, alloc) {
         Some(told) => {
-            println!(rt; "refused {}, then {} entries, closed with {}", told.refused, told.later, told.stored)
+            println!(rt;
+                "refused {}, then {} entries, closed with {}",
+                told.refused, told.later, told.stored
+            )
         }
         None => println!(rt; "no memory"),
     }

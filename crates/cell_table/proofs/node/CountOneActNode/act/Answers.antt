@@ -1,6 +1,0 @@
-use Rattle.node_links.proofs.Recorded.{went_of}
-use Rattle.node_links.specs.Books.{Steps}
-use Rattle.cell_table.proofs.node.CountOneActNode.act.Goals as goal
-
-pub returns-clause-went : goal.returns-clause-went
-returns-clause-went g c = went_of (λ s. s.book) _ c.args.state.now c.answer.new.self c.answer.ensures
