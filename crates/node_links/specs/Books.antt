@@ -1,0 +1,127 @@
+-- A history, and a core with its history.
+use Rattle.std.specs.Prelude.{◌≡◌, ℕ, ◌+◌, ◌*◌, ◌<◌, ◌≤◌, ◌⊎◌, Bool, true, false, List, [], ◌∷◌, ◌++◌, Option, Some, None, is_some, length}
+use Rattle.cluster_msgs.specs.declared.events.Entry.{Entry}
+use Rattle.cluster_msgs.specs.declared.events.Event.{Event}
+use Rattle.cluster_msgs.specs.declared.messages.Message.{Message}
+use Rattle.cluster_msgs.specs.declared.messages.Message.TheVariants as message
+use Rattle.cluster_msgs.specs.declared.messages.Down.{Down}
+use Rattle.cluster_msgs.specs.declared.messages.Down.TheVariants.{ComputeTask, FreeKeys, RemoveReplicas, AcquireReplicas, RefreshWhoHas}
+use Rattle.cluster_msgs.specs.declared.messages.Up.{Up}
+use Rattle.cluster_msgs.specs.declared.messages.Up.TheVariants.{AddKeys}
+use Rattle.cluster_msgs.specs.declared.messages.ToClient.{ToClient}
+use Rattle.cluster_msgs.specs.declared.messages.ToClient.TheVariants.{KeyInMemory}
+use Rattle.cluster_msgs.specs.declared.messages.FromClient.{FromClient}
+use Rattle.cluster_msgs.specs.declared.messages.FromClient.TheVariants.{Want, Release}
+use Rattle.cluster_msgs.specs.declared.messages.Peer.{Peer}
+use Rattle.cluster_msgs.specs.declared.messages.Peer.TheVariants.{GetData, Data}
+use Rattle.turn_cell.specs.Histories.{Ascending}
+
+-- how many members a message's list has
+abbrev pub down_members : Down → ℕ
+down_members (ComputeTask key attempt who_has) = length who_has
+down_members (FreeKeys keys) = length keys
+down_members (RemoveReplicas keys) = length keys
+down_members (AcquireReplicas who_has) = length who_has
+down_members (RefreshWhoHas who_has) = length who_has
+down_members _ = 0
+
+abbrev pub up_members : Up → ℕ
+up_members (AddKeys seen keys) = length keys
+up_members _ = 0
+
+abbrev pub to_client_members : ToClient → ℕ
+to_client_members (KeyInMemory key holders) = length holders
+to_client_members _ = 0
+
+abbrev pub from_client_members : FromClient → ℕ
+from_client_members (Want keys) = length keys
+from_client_members (Release keys) = length keys
+from_client_members _ = 0
+
+abbrev pub peer_members : Peer → ℕ
+peer_members (GetData ask keys) = length keys
+peer_members (Data ask found) = length found
+
+abbrev pub members : Message → ℕ
+members (message.Down m) = down_members m
+members (message.Up m) = up_members m
+members (message.ToClient m) = to_client_members m
+members (message.FromClient m) = from_client_members m
+members (message.Peer m) = peer_members m
+members _ = 0
+
+abbrev pub message_members : Option Message → ℕ
+message_members None = 0
+message_members (Some m) = members m
+
+-- what an entry counts towards the limit of a history
+abbrev pub entry_bytes : Entry → ℕ
+entry_bytes e = 48 + 16 * message_members e.message
+
+abbrev pub history_bytes : List Entry → ℕ
+history_bytes [] = 0
+history_bytes (e ∷ es) = entry_bytes e + history_bytes es
+
+-- what a history tells: its stored entries, the first that was left out, its limit in bytes, and for how many entries memory is there
+pub record Logged : Type 0 where
+  pub entries : List Entry
+  pub cut : Option Entry
+  pub limit : ℕ
+  pub capacity : ℕ
+
+-- all stamps are below this one
+abbrev pub AllBelow : ℕ → List Entry → Type 0
+AllBelow n [] = Unit {0}
+AllBelow n (e ∷ es) = (e.stamp < n) × AllBelow n es
+
+abbrev pub AllUpTo : ℕ → List Entry → Type 0
+AllUpTo n [] = Unit {0}
+AllUpTo n (e ∷ es) = (e.stamp ≤ n) × AllUpTo n es
+
+-- the entry is the last one, and the history is within its limit
+pub record IsStored (old : Logged) (e : Entry) (new : Logged) : Type 0 where
+  pub was_open : old.cut ≡ None
+  pub is_open : new.cut ≡ None
+  pub within : history_bytes old.entries + entry_bytes e ≤ old.limit
+  pub entries_are : new.entries ≡ old.entries ++ e ∷ []
+
+-- it would pass the limit, and is the first that is left out
+pub record IsLeftOut (old : Logged) (e : Entry) (new : Logged) : Type 0 where
+  pub was_open : old.cut ≡ None
+  pub cut_is : new.cut ≡ Some e
+  pub past : old.limit < history_bytes old.entries + entry_bytes e
+  pub entries_are : new.entries ≡ old.entries
+
+-- an earlier one was left out, so this one is too
+pub record IsLater (old : Logged) (new : Logged) : Type 0 where
+  pub was_cut : is_some old.cut ≡ true
+  pub cut_is : new.cut ≡ old.cut
+  pub entries_are : new.entries ≡ old.entries
+
+abbrev pub IsPushed : Logged → Entry → Logged → Type 0
+IsPushed old e new = IsStored old e new ⊎ (IsLeftOut old e new ⊎ IsLater old new)
+
+-- a core as it is known, its stored entries, and whether one was left out
+pub record BookState (C : Type 0) : Type 0 where
+  pub core : C
+  pub entries : List Entry
+  pub cut : Bool
+
+-- what an event, or none, makes of a core
+abbrev pub StepsBy : {C E : Type 0} → (C → E → C → Type 0) → Option E → C → C → Type 0
+StepsBy by None c d = d ≡ c
+StepsBy by (Some e) c d = by c e d
+
+-- what an entry makes of a core: an event that it says, or nothing
+abbrev pub Steps : {C E : Type 0} → (C → Event → Option Message → Option E → Type 0) → (C → E → C → Type 0) → C → Entry → C → Type 0
+Steps {C} {E} says by c e d = (o : Option E) × says c e.event e.message o × StepsBy by o c d
+
+-- as it was, with the entry and its step, or past its limit with one step at most
+abbrev pub OneEntry : {C : Type 0} → (C → Entry → C → Type 0) → BookState C → BookState C → Type 0
+OneEntry steps x y = (y ≡ x)
+    ⊎ (((e : Entry) × (y.entries ≡ x.entries ++ e ∷ []) × (x.cut ≡ false) × (y.cut ≡ false) × steps x.core e y.core × Ascending y.entries)
+    ⊎ ((y.entries ≡ x.entries) × (y.cut ≡ true) × ((e : Entry) × steps x.core e y.core)))
+
+-- a book after an attempt to record one entry
+pub record IsRecorded {C : Type 0} (steps : C → Entry → C → Type 0) (x y : BookState C) : Type 0 where
+  pub is : OneEntry steps x y

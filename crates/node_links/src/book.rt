@@ -1,0 +1,255 @@
+//! A core with its history.
+ghost use Rattle.std.specs.Prelude.{◌≡◌, ℕ, Option, OnOk, OnErr, IfOk, IfErr, IfSome, is_some, Err, Some, None, [], false, cond, length};
+ghost use Rattle.cluster_msgs.specs.declared.events.Entry.{Entry as AnyEntry};
+ghost use Rattle.node_links.specs.Books.{IsRecorded, AllBelow};
+ghost use Rattle.node_links.specs.Books.{Steps};
+
+use crate::log::Log;
+use cluster_msgs::{Entry, Event, Message, Stop};
+use std::alloc::Global;
+use std::marker::Model;
+use std::snapshot::Snapshot;
+use turn_cell::Stamps;
+
+/// One of the three cores.
+pub trait Machine: Drop {
+    type Event: Drop;
+
+    type Out: Drop;
+
+    ghost use Rattle.std.specs.Prelude.{Option};
+    ghost use Rattle.cluster_msgs.specs.declared.events.Event.{Event as AnyEvent};
+    ghost use Rattle.cluster_msgs.specs.declared.messages.Message.{Message as AnyMessage};
+
+    /// Which event of the core an event with its message says, or none.
+    ghost says: { Self → AnyEvent → Option AnyMessage → Option Self.Event → Type 0 };
+
+    /// What an event makes of the core.
+    ghost by: { Self → Self.Event → Self → Type 0 };
+
+    /// Takes one event. A refused one, and one past the last that it may take, change nothing. After `Memory` nothing is known of it.
+    fn take(&mut self, event: Self::Event, out: &mut Self::Out) -> Result<(), Stop>
+        ensures ok { OnOk result (by self.old event self.new) }
+        ensures refused { result ≡ Err Stop.Refused → self.new ≡ self.old }
+        ensures spent { result ≡ Err Stop.Spent → self.new ≡ self.old };
+}
+
+/// A core with its history. A clause sees the core as it is, or where memory ran out inside it, as it was before: it then takes no event more.
+#[derive(Drop)]
+pub struct Book<C: Machine> {
+    core: C,
+    before: Snapshot<C>,
+    failed: bool,
+    log: Log,
+}
+
+impl<C: Machine> Model for Book<C> {
+    ghost use Rattle.std.specs.Prelude.{cond, is_some};
+    ghost use Rattle.node_links.specs.Books.{BookState};
+
+    ghost Value = { BookState C };
+
+    ghost view = { λ b. record { core = cond b.failed b.before.value b.core; entries = b.log.entries; cut = is_some b.log.cut } };
+}
+
+impl<C: Machine> Book<C> {
+    /// A core without entries, whose history may have so many bytes.
+    ///
+    /// # Errors
+    /// The core comes back where there is no memory for the first entries.
+    pub fn new(alloc: Global, core: C, limit: u64) -> Result<Self, C>
+        ensures core { IfOk result (λ b. b.core ≡ core) }
+        ensures entries { IfOk result (λ b. (b.entries ≡ []) × (b.cut ≡ false)) }
+        ensures err { IfErr result (λ c. c ≡ core) }
+    {
+        let Ok(log) = Log::new(alloc, limit) else {
+            return Err(core);
+        };
+        Ok(Book {
+            before: Snapshot::of(&core),
+            core,
+            failed: false,
+            log,
+        })
+    }
+
+    /// The core, where it goes on.
+    pub fn core(&self) -> Option<&C>
+        ensures { IfSome result (λ c. c.now ≡ self.now.core) }
+    {
+        if self.failed {
+            return None;
+        }
+        Some(&self.core)
+    }
+
+    /// How many entries are stored.
+    pub fn stored(&self) -> u64
+        ensures { result ≡ length self.now.entries }
+    {
+        self.log.stored()
+    }
+
+    /// How many entries were made, those past the limit too; 2^64 - 1 where there are more.
+    pub fn made(&self) -> u64 {
+        self.log.made()
+    }
+
+    /// The history without the core.
+    pub fn into_log(self) -> Log
+        ensures entries { result.entries ≡ self.entries }
+        ensures cut { is_some result.cut ≡ self.cut }
+    {
+        let Book {
+            core: _,
+            before: _,
+            failed: _,
+            log,
+        } = self;
+        log
+    }
+
+    /// Draws a stamp, lets the core take the event that the entry says, if it says one, and adds the entry.
+    ///
+    /// # Errors
+    /// Those of the core, and `Memory` where no memory or no right to a stamp is left. Core and history are then as before.
+    pub fn record(
+        &mut self,
+        stamps: &mut Stamps,
+        event: Event,
+        message: Option<Message>,
+        said: Option<C::Event>,
+        out: &mut C::Out,
+    ) -> Result<(), Stop>
+        requires says { C.says self.old.core event message said }
+        ensures recorded { IsRecorded (Steps C.says C.by) self.old self.new }
+        ensures err { OnErr result (self.new ≡ self.old) }
+    {
+        match said {
+            Some(said) => self.record_event(stamps, event, message, said, out),
+            None => self.record_still(stamps, event, message),
+        }
+    }
+
+    /// Adds the entry of the node's end, which says no event of the core. It is also added after memory ran out inside the core, which is then
+    /// known as it was before.
+    ///
+    /// # Errors
+    /// `Memory` where no memory or no right to a stamp is left. Core and history are then as before.
+    #[tactic(auto, using(crate::proofs::Recorded::recorded))]
+    pub fn record_end(
+        &mut self,
+        stamps: &mut Stamps,
+        event: Event,
+        message: Option<Message>,
+    ) -> Result<(), Stop>
+        requires says { C.says self.old.core event message None }
+        ensures recorded { IsRecorded (Steps C.says C.by) self.old self.new }
+        ensures err { OnErr result (self.new ≡ self.old) }
+    {
+        self.log.reserve_last()?;
+        let stamp = draw(stamps, &self.log)?;
+        self.log.push(Entry {
+            stamp,
+            event,
+            message,
+        });
+        Ok(())
+    }
+
+    #[tactic(auto, using(crate::proofs::Recorded::recorded))]
+    fn record_event(
+        &mut self,
+        stamps: &mut Stamps,
+        event: Event,
+        message: Option<Message>,
+        said: C::Event,
+        out: &mut C::Out,
+    ) -> Result<(), Stop>
+        requires says { C.says self.old.core event message (Some said) }
+        ensures recorded { IsRecorded (Steps C.says C.by) self.old self.new }
+        ensures err { OnErr result (self.new ≡ self.old) }
+    {
+        if self.failed {
+            return Err(Stop::Memory);
+        }
+        self.log.reserve()?;
+        let stamp = draw(stamps, &self.log)?;
+        take_event(
+            &mut self.core,
+            &mut self.before,
+            &mut self.failed,
+            said,
+            out,
+        )?;
+        self.log.push(Entry {
+            stamp,
+            event,
+            message,
+        });
+        Ok(())
+    }
+
+    #[tactic(auto, using(crate::proofs::Recorded::recorded))]
+    fn record_still(
+        &mut self,
+        stamps: &mut Stamps,
+        event: Event,
+        message: Option<Message>,
+    ) -> Result<(), Stop>
+        requires says { C.says self.old.core event message None }
+        ensures recorded { IsRecorded (Steps C.says C.by) self.old self.new }
+        ensures err { OnErr result (self.new ≡ self.old) }
+    {
+        if self.failed {
+            return Err(Stop::Memory);
+        }
+        self.log.reserve()?;
+        let stamp = draw(stamps, &self.log)?;
+        self.log.push(Entry {
+            stamp,
+            event,
+            message,
+        });
+        Ok(())
+    }
+}
+
+/// The core takes an event. Where memory runs out inside it, it is known as it was.
+fn take_event<C: Machine>(
+    core: &mut C,
+    before: &mut Snapshot<C>,
+    failed: &mut bool,
+    event: C::Event,
+    out: &mut C::Out,
+) -> Result<(), Stop>
+    requires { failed.old ≡ false }
+    ensures ok { OnOk result ((failed.new ≡ false) × C.by core.old event core.new) }
+    ensures err { OnErr result (cond failed.new before.new.value core.new ≡ core.old) }
+{
+    let as_it_was = Snapshot::of(core);
+    match core.take(event, out) {
+        Ok(()) => Ok(()),
+        Err(Stop::Memory) => {
+            *before = as_it_was;
+            *failed = true;
+            Err(Stop::Memory)
+        }
+        Err(stop) => Err(stop),
+    }
+}
+
+/// A stamp above those of a history.
+fn draw(stamps: &mut Stamps, log: &Log) -> Result<u64, Stop>
+    ensures below { IfOk result (λ stamp. AllBelow stamp log.now.entries) }
+{
+    for _ in 0..1000 {
+        let Some(stamp) = stamps.draw() else {
+            return Err(Stop::Memory);
+        };
+        if log.accepts(stamp) {
+            return Ok(stamp);
+        }
+    }
+    Err(Stop::Memory)
+}

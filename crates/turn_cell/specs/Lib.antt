@@ -1,0 +1,4 @@
+pub mod Histories
+pub mod Turns
+pub mod Ticks
+pub mod Rows
