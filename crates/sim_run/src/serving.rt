@@ -142,7 +142,14 @@ fn simulate_world<S: Site, E: Elements + Send + Sync + Drop>(
         Some(key) => return Err(SimEnded::Ran(ended_at(alloc, job, wanted, key))),
         None => {}
     }
-    match save_all(alloc, site, job, world, wanted.saved.as_slice(), wanted.layouts.as_slice()) {
+    match save_all(
+        alloc,
+        site,
+        job,
+        world,
+        wanted.saved.as_slice(),
+        wanted.layouts.as_slice(),
+    ) {
         Ok(()) => Ok(Served {
             report: end.report,
             turns: end.turns,
