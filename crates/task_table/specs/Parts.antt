@@ -22,6 +22,12 @@ pub record IsRoomy (n : ℕ) (p : Parts) : Type 0 where
   pub few_roots : (k : ℕ) → n ≤ k → has p.queues.roots k ≡ false
   pub few_others : (k : ℕ) → n ≤ k → has p.queues.others k ≡ false
 
+-- no key is queued or touched
+pub record IsEmpty (p : Parts) : Type 0 where
+  pub roots : (k : ℕ) → has p.queues.roots k ≡ false
+  pub others : (k : ℕ) → has p.queues.others k ≡ false
+  pub touched : (k : ℕ) → has p.touched k ≡ false
+
 -- each part says what is derived from the facts
 pub record IsParts (f : Facts) (p : Parts) : Type 0 where
   pub standing : IsStanding f p.levels

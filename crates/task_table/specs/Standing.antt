@@ -42,6 +42,19 @@ pub record IsQuiet (l : Levels) : Type 0 where
   pub waiting : (k : ℕ) → has l.waiting.changed k ≡ false
   pub missing : (k : ℕ) → has l.missing.changed k ≡ false
 
+-- no flag is set, no key is a seed, and all gates are open
+pub record IsBlankRow (s : Spread) : Type 0 where
+  pub seeds : (k : ℕ) → seed s k ≡ false
+  pub gates : (k : ℕ) → k < size s → gate s k ≡ true
+  pub flags : (k : ℕ) → flag s k ≡ false
+  pub changed : (k : ℕ) → has s.changed k ≡ false
+
+pub record IsBlank (l : Levels) : Type 0 where
+  pub known : IsBlankRow l.known
+  pub erred : IsBlankRow l.erred
+  pub waiting : IsBlankRow l.waiting
+  pub missing : IsBlankRow l.missing
+
 -- all of this but for one key, which a change is about
 pub record IsSeededBut (f : Facts) (l : Levels) (key : ℕ) : Type 0 where
   pub over : IsOver f.setting.shape l

@@ -1,0 +1,266 @@
+//! The scheduler's facts with what is derived from them.
+ghost use Rattle.std.specs.Prelude.{◌≡◌, ℕ, ◌<◌, ◌≤◌, ◌==◌, ◌&&◌, not, cond, true, false, None, Some, IfOk, OnOk};
+ghost use Rattle.cluster_rules.specs.Sched.{sched_opening, keys, erred, known, need, ready, fed, waiters, blame};
+ghost use Rattle.key_sets.specs.Sets.{has, room, IsFirst};
+ghost use Rattle.task_table.specs.Changes.{with_change, Fits, changed_key};
+ghost use Rattle.task_table.specs.Tasks.{facts, IsTouched, IsRemembered, queued_root, queued_other};
+
+use crate::change::{Change, key_of, put};
+use crate::levels::is_ready_by;
+use crate::parts::{Parts, begin, follow};
+use cluster_msgs::GraphShape;
+use key_sets::KeySet;
+use sched_facts::FactTable;
+use standing::settle::is_needed;
+use std::alloc::{AllocError, Global};
+use std::marker::Model;
+
+/// The scheduler's facts with what is derived from them, seen as the stored facts, the touched keys, and the keys that were
+/// held and erred when touched keys were last forgotten.
+#[derive(Drop)]
+pub struct TaskTable {
+    table: FactTable,
+    parts: Parts,
+    held_before: KeySet,
+    erred_before: KeySet,
+}
+
+impl Model for TaskTable {
+    ghost use Rattle.task_table.specs.Tasks.{Tasks};
+
+    ghost Value = { Tasks };
+
+    ghost use Rattle.task_table.specs.Tables.{tasks_of, IsTable};
+
+    ghost view = { tasks_of };
+
+    ghost invariant = { IsTable };
+}
+
+impl TaskTable {
+    /// Nobody has joined and nothing is wanted. No key is touched.
+    ///
+    /// # Errors
+    /// Where no memory is left.
+    pub fn new(
+        alloc: Global,
+        shape: GraphShape,
+        clients: u32,
+        saturation: u32,
+    ) -> Result<TaskTable, AllocError>
+        requires clients { clients ≤ 16 }
+        requires saturation { (1 ≤ saturation) × (saturation ≤ 1000) }
+        ensures facts { IfOk result (λ t. facts t ≡ sched_opening (record { shape = shape; clients = clients; saturation = saturation; allowed = None })) }
+        ensures touched { IfOk result (λ t. (k : ℕ) → has t.touched k ≡ false) }
+    {
+        let mut parts = Parts::new(alloc, &shape)?;
+        let held_before = KeySet::new(alloc, shape.keys())?;
+        let erred_before = KeySet::new(alloc, shape.keys())?;
+        let table = FactTable::new(alloc, shape, clients, saturation)?;
+        begin(&table, &mut parts);
+        Ok(TaskTable {
+            table,
+            parts,
+            held_before,
+            erred_before,
+        })
+    }
+
+    /// The facts, with every question about them that is not derived.
+    pub fn table(&self) -> &FactTable
+        ensures { result.now ≡ self.now.stored }
+    {
+        &self.table
+    }
+
+    /// Touched keys are keys, and all others are held and erred as they were before.
+    pub fn remembered(&self)
+        ensures { IsRemembered (facts self.now) self.now }
+    {
+        let _table = &self.table;
+    }
+
+    /// Room for one more worker. Nothing else changes, with or without memory. No other call but `new` takes memory.
+    ///
+    /// # Errors
+    /// Where no memory is left.
+    pub fn make_room(&mut self) -> Result<(), AllocError>
+        ensures facts { facts self.new ≡ facts self.old }
+        ensures rest { self.new ≡ record self.old { stored = self.new.stored } }
+        ensures room { OnOk result ((facts self.new).last_worker < self.new.stored.room) }
+    {
+        self.table.make_room()
+    }
+
+    /// One change of one fact. All that is derived is settled at once.
+    pub fn apply(&mut self, change: Change)
+        requires { Fits (facts self.old) self.old.stored.room change }
+        ensures facts { facts self.new ≡ with_change (facts self.old) change }
+        ensures touched { IsTouched (facts self.old) (facts self.new) self.old self.new }
+        ensures named { (k : ℕ) → changed_key change ≡ Some k → has self.new.touched k ≡ true }
+    {
+        self.table.sound();
+        put(&mut self.table, change);
+        match key_of(change) {
+            Some(key) => follow(&self.table, &mut self.parts, key),
+            None => {}
+        }
+    }
+
+    /// No key is touched any more; what is held and erred now is what was so before.
+    pub fn forget(&mut self)
+        ensures stored { self.new.stored ≡ self.old.stored }
+        ensures touched { (k : ℕ) → has self.new.touched k ≡ false }
+    {
+        self.table.sound();
+        let mut from = 0;
+        while let Some(key) = self.parts.touched.first_from(from) {
+            remember(&mut self.held_before, key, self.table.is_held(key));
+            remember(
+                &mut self.erred_before,
+                key,
+                self.parts.levels.erred.is_set(key),
+            );
+            from = key + 1;
+        }
+        self.parts.touched.clear();
+    }
+
+    /// The first touched key from this one on.
+    pub fn first_touched(&self, from: u32) -> Option<u32>
+        ensures { IsFirst (has self.now.touched) from result }
+    {
+        self.parts.touched.first_from(from)
+    }
+
+    /// Whether the key was held before.
+    pub fn was_held(&self, key: u32) -> bool
+        ensures { result ≡ has self.now.held_before key }
+    {
+        self.held_before.contains(key)
+    }
+
+    /// Whether the key was erred before.
+    pub fn was_erred(&self, key: u32) -> bool
+        ensures { result ≡ has self.now.erred_before key }
+    {
+        self.erred_before.contains(key)
+    }
+
+    /// The first key from this one on that is ready, on no worker, and without dependencies.
+    pub fn first_root(&self, from: u32) -> Option<u32>
+        ensures { IsFirst (queued_root (facts self.now)) from result }
+    {
+        self.parts.queues.roots.first_from(from)
+    }
+
+    /// The first key from this one on that is ready, on no worker, and has dependencies.
+    pub fn first_other(&self, from: u32) -> Option<u32>
+        ensures { IsFirst (queued_other (facts self.now)) from result }
+    {
+        self.parts.queues.others.first_from(from)
+    }
+
+    /// Whether the key is known. Where there is no such key it is not.
+    pub fn is_known(&self, key: u32) -> bool
+        ensures { result ≡ known (facts self.now) key }
+    {
+        self.parts.levels.known.is_set(key)
+    }
+
+    /// Whether the key is ready. Where there is no such key it is not.
+    pub fn is_ready(&self, key: u32) -> bool
+        ensures { result ≡ ready (facts self.now) key }
+    {
+        (key < self.table.keys()) && is_ready_by(&self.parts.levels, key)
+    }
+
+    /// Whether the key is erred. Where there is no such key it is not.
+    pub fn is_erred(&self, key: u32) -> bool
+        ensures { result ≡ erred (facts self.now) key }
+    {
+        self.parts.levels.erred.is_set(key)
+    }
+
+    /// Whether the key is needed.
+    pub fn is_needed(&self, key: u32) -> bool
+        requires { key < keys (facts self.now) }
+        ensures { result ≡ need (facts self.now) key }
+    {
+        is_needed(&self.table, &self.parts.levels.waiting, key)
+    }
+
+    /// How many dependents of the key are needed, not held and not erred.
+    pub fn waiter_count(&self, key: u32) -> u32
+        requires { key < keys (facts self.now) }
+        ensures { result ≡ waiters (facts self.now) key }
+    {
+        self.parts.levels.waiting.leaders(key)
+    }
+
+    /// Whether each dependency of the key is held.
+    pub fn is_fed(&self, key: u32) -> bool
+        requires { key < keys (facts self.now) }
+        ensures { result ≡ fed (facts self.now) key }
+    {
+        self.parts.levels.missing.leaders(key) == 0
+    }
+
+    /// The key that an erred key is blamed on. A key that is not erred has none.
+    pub fn blame(&self, key: u32) -> Option<u32>
+        ensures { result ≡ blame (facts self.now) key }
+    {
+        let mut at = key;
+        while self.passes_blame(at) {
+            at = self.first_erred(at);
+        }
+        self.own_blame(at)
+    }
+
+    /// Whether the key is erred and has no error of its own.
+    fn passes_blame(&self, key: u32) -> bool
+        ensures { result ≡ (erred (facts self.now) key && not ((facts self.now).bad key)) }
+    {
+        let is_erred = self.parts.levels.erred.is_set(key);
+        is_erred & !self.table.is_bad(key)
+    }
+
+    /// The first erred dependency of an erred key that has no error of its own. It is blamed on the same.
+    fn first_erred(&self, key: u32) -> u32
+        requires { (erred (facts self.now) key && not ((facts self.now).bad key)) ≡ true }
+        ensures below { result < key }
+        ensures blame { blame (facts self.now) result ≡ blame (facts self.now) key }
+    {
+        for dependency in self.table.shape().deps(key) {
+            if self.parts.levels.erred.is_set(*dependency) {
+                return *dependency;
+            }
+        }
+        key
+    }
+
+    /// What a key is blamed on that has an error of its own or is not erred.
+    fn own_blame(&self, key: u32) -> Option<u32>
+        requires { (erred (facts self.now) key && not ((facts self.now).bad key)) ≡ false }
+        ensures { result ≡ blame (facts self.now) key }
+    {
+        if self.parts.levels.erred.is_set(key) {
+            Some(key)
+        } else {
+            None
+        }
+    }
+}
+
+/// The key is in the set or not.
+fn remember(set: &mut KeySet, key: u32, to: bool)
+    requires { key < room set.old }
+    ensures keys { (k : ℕ) → has set.new k ≡ cond (k == key) to (has set.old k) }
+    ensures room { room set.new ≡ room set.old }
+{
+    if to {
+        set.insert(key);
+    } else {
+        set.remove(key);
+    }
+}
