@@ -2,19 +2,24 @@
 use Rattle.std.specs.Prelude.{◌≡◌, ℕ, ◌<◌, ◌≤◌, ◌==◌, Bool, true, false, not, ◌&&◌, is_none, List}
 use Rattle.cluster_rules.specs.Sched.{Facts, keys}
 use Rattle.key_sets.specs.Sets.{has, room}
-use Rattle.task_table.specs.Tasks.{is_root, queued_root, queued_other}
-use Rattle.task_table.specs.Standing.{IsSeededBut, IsStanding, IsQuiet, SameLevels, is_ready_by}
+use Rattle.task_table.specs.Tasks.{queued_root, queued_other}
+use Rattle.task_table.specs.Standing.{IsSeededBut, IsStanding, IsQuiet, SameLevels, root_by, other_by}
 use Rattle.task_table.specs.declared.queues.Queues.{Queues}
 use Rattle.task_table.specs.declared.parts.Parts.{Parts}
 
--- a queue by the flags
-abbrev pub is_queued_by : Facts → Parts → ℕ → Bool
-is_queued_by f p k = is_ready_by p.levels k && is_none (f.on k)
+-- there is room for so many keys in both queues
+pub record HasRooms (n : ℕ) (q : Queues) : Type 0 where
+  pub roots : n ≤ room q.roots
+  pub others : n ≤ room q.others
+
+-- the rooms of both queues are the same in r as in q
+pub record SameRooms (q r : Queues) : Type 0 where
+  pub roots : room r.roots ≡ room q.roots
+  pub others : room r.others ≡ room q.others
 
 -- there is room for each key, the marks are empty, and touched keys are keys
 pub record IsRoomy (n : ℕ) (p : Parts) : Type 0 where
-  pub roots : n ≤ room p.queues.roots
-  pub others : n ≤ room p.queues.others
+  pub queues : HasRooms n p.queues
   pub marks : n ≤ room p.marks
   pub touched : n ≤ room p.touched
   pub unmarked : (k : ℕ) → has p.marks k ≡ false
@@ -41,8 +46,8 @@ pub record IsNearly (f : Facts) (p : Parts) (key : ℕ) : Type 0 where
   pub seeded : IsSeededBut f p.levels key
   pub quiet : IsQuiet p.levels
   pub roomy : IsRoomy (keys f) p
-  pub roots : (k : ℕ) → k < keys f → (k == key) ≡ false → has p.queues.roots k ≡ (is_queued_by f p k && is_root f k)
-  pub others : (k : ℕ) → k < keys f → (k == key) ≡ false → has p.queues.others k ≡ (is_queued_by f p k && not (is_root f k))
+  pub roots : (k : ℕ) → k < keys f → (k == key) ≡ false → has p.queues.roots k ≡ root_by f p.levels k
+  pub others : (k : ℕ) → k < keys f → (k == key) ≡ false → has p.queues.others k ≡ other_by f p.levels k
 
 -- what following a change of one key does: where a flag or a count differs the key is touched, and so is the key itself
 pub record IsFollowed (p q : Parts) (key : ℕ) : Type 0 where

@@ -1,11 +1,12 @@
 -- Four flags a key, and what ties them to the facts: known, erred, waiting (needed, not held, not erred) and missing (not held).
-use Rattle.std.specs.Prelude.{◌≡◌, ℕ, ◌<◌, ◌==◌, nat_lt, Bool, true, false, not, ◌&&◌, ◌||◌}
+use Rattle.std.specs.Prelude.{◌≡◌, ℕ, ◌<◌, ◌==◌, nat_lt, Bool, true, false, not, ◌&&◌, is_none}
 use Rattle.cluster_msgs.specs.Shape.{Shape, key_count}
 use Rattle.cluster_rules.specs.Derived.{is_in}
 use Rattle.cluster_rules.specs.Sched.{Facts, keys, wanted, held, known, erred, need, open_key, waiters, fed}
 use Rattle.key_sets.specs.Sets.{has}
 use Rattle.spread_flags.specs.Spread.{Spread, size, seed, gate, flag, was, leaders, targets}
 use Rattle.standing.specs.Links.{IsReverse}
+use Rattle.task_table.specs.Tasks.{is_root}
 use Rattle.task_table.specs.declared.levels.Levels.{Levels}
 
 -- links go down to the dependencies for known and waiting keys, up to the dependents for erred and missing ones
@@ -15,6 +16,10 @@ pub record IsOver (g : Shape) (l : Levels) : Type 0 where
   pub waiting : l.waiting.links ≡ g.deps
   pub missing : IsReverse g l.missing.links
 
+-- the gate that a waiting key is due, by the flag of erred keys as it is kept
+abbrev pub due_gate : Facts → Spread → ℕ → Bool
+due_gate f erred k = not (held f k) && not (flag erred k)
+
 -- the seeds and gates of one key are those of the facts, with the flag of erred keys as it is kept
 pub record IsSeeded (f : Facts) (l : Levels) (k : ℕ) : Type 0 where
   pub known_seed : seed l.known k ≡ wanted f k
@@ -22,7 +27,7 @@ pub record IsSeeded (f : Facts) (l : Levels) (k : ℕ) : Type 0 where
   pub erred_seed : seed l.erred k ≡ f.bad k
   pub erred_gate : gate l.erred k ≡ not (held f k)
   pub waiting_seed : seed l.waiting k ≡ wanted f k
-  pub waiting_gate : gate l.waiting k ≡ (not (held f k) && not (flag l.erred k))
+  pub waiting_gate : gate l.waiting k ≡ due_gate f l.erred k
   pub missing_seed : seed l.missing k ≡ true
   pub missing_gate : gate l.missing k ≡ not (held f k)
 
@@ -109,3 +114,20 @@ pub record IsUntold (l : Levels) (k : ℕ) : Type 0 where
 -- ready by the flags: it waits, and none of its dependencies is missing
 abbrev pub is_ready_by : Levels → ℕ → Bool
 is_ready_by l k = flag l.waiting k && not (nat_lt 0 (leaders l.missing k))
+
+-- ready by the flags and on no worker; the same of keys without dependencies, and of keys with some
+abbrev pub is_queued_by : Facts → Levels → ℕ → Bool
+is_queued_by f l k = is_ready_by l k && is_none (f.on k)
+
+abbrev pub root_by : Facts → Levels → ℕ → Bool
+root_by f l k = is_queued_by f l k && is_root f k
+
+abbrev pub other_by : Facts → Levels → ℕ → Bool
+other_by f l k = is_queued_by f l k && not (is_root f k)
+
+-- each row of flags has so many keys
+pub record IsWide (n : ℕ) (l : Levels) : Type 0 where
+  pub known : size l.known ≡ n
+  pub erred : size l.erred ≡ n
+  pub waiting : size l.waiting ≡ n
+  pub missing : size l.missing ≡ n

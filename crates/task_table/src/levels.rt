@@ -6,7 +6,7 @@ ghost use Rattle.sched_facts.specs.Stored.{facts_of};
 ghost use Rattle.key_sets.specs.Sets.{has};
 ghost use Rattle.spread_flags.specs.Spread.{seed, gate, flag, size};
 ghost use Rattle.standing.specs.Links.{IsReverse};
-ghost use Rattle.task_table.specs.Standing.{IsOver, IsSeeded, IsSeededBut, IsSeededWhole, IsStanding, IsQuiet, IsBlank, SameFlags, SameWas, is_ready_by};
+ghost use Rattle.task_table.specs.Standing.{IsOver, IsSeeded, IsSeededBut, IsSeededWhole, IsStanding, IsQuiet, IsBlank, SameFlags, SameWas, is_ready_by, due_gate};
 
 use cluster_msgs::GraphShape;
 use sched_facts::FactTable;
@@ -87,9 +87,10 @@ pub fn settle(table: &FactTable, levels: &mut Levels)
 
 /// The gates of the keys whose erred flag changed are those of keys neither held nor erred.
 fn open_gates(table: &FactTable, erred: &Flags, waiting: &mut Flags)
-    requires size { (size erred.now ≡ keys (facts_of table.now)) × (size waiting.old ≡ keys (facts_of table.now)) }
-    requires gates { (k : ℕ) → k < keys (facts_of table.now) → has erred.now.changed k ≡ false → gate waiting.old k ≡ (not (held (facts_of table.now) k) && not (flag erred.now k)) }
-    ensures gates { (k : ℕ) → k < keys (facts_of table.now) → gate waiting.new k ≡ (not (held (facts_of table.now) k) && not (flag erred.now k)) }
+    requires erred { size erred.now ≡ keys (facts_of table.now) }
+    requires waiting { size waiting.old ≡ keys (facts_of table.now) }
+    requires gates { (k : ℕ) → k < keys (facts_of table.now) → has erred.now.changed k ≡ false → gate waiting.old k ≡ due_gate (facts_of table.now) erred.now k }
+    ensures gates { (k : ℕ) → k < keys (facts_of table.now) → gate waiting.new k ≡ due_gate (facts_of table.now) erred.now k }
     ensures links { waiting.new.links ≡ waiting.old.links }
     ensures seeds { waiting.new.seeds ≡ waiting.old.seeds }
     ensures flags { waiting.new.flags ≡ waiting.old.flags }

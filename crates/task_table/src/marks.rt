@@ -3,7 +3,7 @@ ghost use Rattle.std.specs.Prelude.{◌≡◌, ℕ, ◌<◌, ◌≤◌, ◌||◌
 ghost use Rattle.cluster_rules.specs.Derived.{is_in};
 ghost use Rattle.key_sets.specs.Sets.{has, room};
 ghost use Rattle.spread_flags.specs.Spread.{size, targets};
-ghost use Rattle.task_table.specs.Standing.{IsUntold};
+ghost use Rattle.task_table.specs.Standing.{IsUntold, IsWide};
 
 use crate::levels::Levels;
 use key_sets::KeySet;
@@ -40,16 +40,13 @@ pub fn mark_led(flags: &Flags, marks: &mut KeySet)
     }
 }
 
-/// Marks each key whose flags or counts changed.
-pub fn mark_levels(levels: &Levels, marks: &mut KeySet)
-    requires known { size levels.now.known ≤ room marks.old }
-    requires erred { size levels.now.erred ≤ room marks.old }
-    requires waiting { size levels.now.waiting ≤ room marks.old }
-    requires missing { size levels.now.missing ≤ room marks.old }
-    requires all { (size levels.now.known ≡ size levels.now.missing) × (size levels.now.waiting ≡ size levels.now.missing) × (size levels.now.erred ≡ size levels.now.missing) }
+/// Marks each key whose flags or counts changed, of so many keys.
+pub fn mark_levels(levels: &Levels, marks: &mut KeySet, count: u32)
+    requires wide { IsWide count levels.now }
+    requires room { count ≤ room marks.old }
     ensures untold { (k : ℕ) → has marks.new k ≡ false → IsUntold levels.now k }
     ensures grows { (k : ℕ) → has marks.old k ≡ true → has marks.new k ≡ true }
-    ensures within { (k : ℕ) → size levels.now.missing ≤ k → has marks.new k ≡ has marks.old k }
+    ensures within { (k : ℕ) → count ≤ k → has marks.new k ≡ has marks.old k }
     ensures room { room marks.new ≡ room marks.old }
 {
     levels.known.sound();

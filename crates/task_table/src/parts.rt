@@ -61,7 +61,7 @@ pub fn follow(table: &FactTable, parts: &mut Parts, key: u32)
     note(table, &mut parts.levels, key);
     settle(table, &mut parts.levels);
     parts.marks.insert(key);
-    mark_levels(&parts.levels, &mut parts.marks);
+    mark_levels(&parts.levels, &mut parts.marks, table.keys());
     requeue_all(table, &parts.levels, &mut parts.queues, &parts.marks);
     add_marks(&parts.marks, &mut parts.touched);
     parts.marks.clear();

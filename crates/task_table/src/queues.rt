@@ -1,11 +1,11 @@
 //! The ready keys that are on no worker.
-ghost use Rattle.std.specs.Prelude.{◌≡◌, ℕ, ◌<◌, ◌≤◌, ◌==◌, ◌&&◌, not, true, cond, is_none, IfOk, false};
+ghost use Rattle.std.specs.Prelude.{◌≡◌, ℕ, ◌<◌, ◌≤◌, ◌==◌, true, false, cond, IfOk};
 ghost use Rattle.cluster_rules.specs.Sched.{keys};
 ghost use Rattle.sched_facts.specs.Stored.{facts_of};
 ghost use Rattle.key_sets.specs.Sets.{has, room};
 ghost use Rattle.spread_flags.specs.Spread.{size};
-ghost use Rattle.task_table.specs.Tasks.{is_root};
-ghost use Rattle.task_table.specs.Standing.{is_ready_by};
+ghost use Rattle.task_table.specs.Standing.{is_queued_by, root_by, other_by};
+ghost use Rattle.task_table.specs.Parts.{HasRooms, SameRooms};
 
 use crate::levels::{Levels, is_ready_by};
 use key_sets::KeySet;
@@ -53,7 +53,7 @@ fn place_in(set: &mut KeySet, key: u32, to: bool)
 /// Whether the key is ready by the flags, and on no worker.
 fn is_queued_by(table: &FactTable, levels: &Levels, key: u32) -> bool
     requires { key < size levels.now.missing }
-    ensures { result ≡ (is_ready_by levels.now key && is_none ((facts_of table.now).on key)) }
+    ensures { result ≡ is_queued_by (facts_of table.now) levels.now key }
 {
     let is_ready = is_ready_by(levels, key);
     is_ready & table.on(key).is_none()
@@ -63,10 +63,10 @@ fn is_queued_by(table: &FactTable, levels: &Levels, key: u32) -> bool
 fn requeue(table: &FactTable, levels: &Levels, queues: &mut Queues, key: u32)
     requires key { key < keys (facts_of table.now) }
     requires size { size levels.now.missing ≡ keys (facts_of table.now) }
-    requires rooms { (keys (facts_of table.now) ≤ room queues.old.roots) × (keys (facts_of table.now) ≤ room queues.old.others) }
-    ensures roots { (k : ℕ) → has queues.new.roots k ≡ cond (k == key) ((is_ready_by levels.now key && is_none ((facts_of table.now).on key)) && is_root (facts_of table.now) key) (has queues.old.roots k) }
-    ensures others { (k : ℕ) → has queues.new.others k ≡ cond (k == key) ((is_ready_by levels.now key && is_none ((facts_of table.now).on key)) && not (is_root (facts_of table.now) key)) (has queues.old.others k) }
-    ensures rooms { (room queues.new.roots ≡ room queues.old.roots) × (room queues.new.others ≡ room queues.old.others) }
+    requires rooms { HasRooms (keys (facts_of table.now)) queues.old }
+    ensures roots { (k : ℕ) → has queues.new.roots k ≡ cond (k == key) (root_by (facts_of table.now) levels.now k) (has queues.old.roots k) }
+    ensures others { (k : ℕ) → has queues.new.others k ≡ cond (k == key) (other_by (facts_of table.now) levels.now k) (has queues.old.others k) }
+    ensures rooms { SameRooms queues.old queues.new }
 {
     let is_queued = is_queued_by(table, levels, key);
     let is_root = table.shape().deps(key).is_empty();
@@ -78,10 +78,10 @@ fn requeue(table: &FactTable, levels: &Levels, queues: &mut Queues, key: u32)
 pub fn requeue_all(table: &FactTable, levels: &Levels, queues: &mut Queues, marks: &KeySet)
     requires marks { (k : ℕ) → has marks.now k ≡ true → k < keys (facts_of table.now) }
     requires size { size levels.now.missing ≡ keys (facts_of table.now) }
-    requires rooms { (keys (facts_of table.now) ≤ room queues.old.roots) × (keys (facts_of table.now) ≤ room queues.old.others) }
-    ensures roots { (k : ℕ) → has queues.new.roots k ≡ cond (has marks.now k) ((is_ready_by levels.now k && is_none ((facts_of table.now).on k)) && is_root (facts_of table.now) k) (has queues.old.roots k) }
-    ensures others { (k : ℕ) → has queues.new.others k ≡ cond (has marks.now k) ((is_ready_by levels.now k && is_none ((facts_of table.now).on k)) && not (is_root (facts_of table.now) k)) (has queues.old.others k) }
-    ensures rooms { (room queues.new.roots ≡ room queues.old.roots) × (room queues.new.others ≡ room queues.old.others) }
+    requires rooms { HasRooms (keys (facts_of table.now)) queues.old }
+    ensures roots { (k : ℕ) → has queues.new.roots k ≡ cond (has marks.now k) (root_by (facts_of table.now) levels.now k) (has queues.old.roots k) }
+    ensures others { (k : ℕ) → has queues.new.others k ≡ cond (has marks.now k) (other_by (facts_of table.now) levels.now k) (has queues.old.others k) }
+    ensures rooms { SameRooms queues.old queues.new }
 {
     table.sound();
     let mut from = 0;
