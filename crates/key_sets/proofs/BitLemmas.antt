@@ -1,5 +1,5 @@
 -- Bits of one word.
-use Rattle.std.proofs.Common.{◌≡◌, ℕ, zero, suc, ◌+◌, ◌-◌, ◌*◌, ◌/◌, ◌%◌, ◌^◌, ◌<◌, ◌≤◌, Bool, true, false, cond, eqb, Some, None, refl, sym, ap, ◌∙◌, arith, ⊎_elim, w64, bit_and, bit_or, one-mul, ◌⊎◌, inl, inr}
+use Rattle.std.proofs.Common.{◌≡◌, ℕ, zero, suc, ◌+◌, ◌-◌, ◌*◌, ◌/◌, ◌%◌, ◌^◌, ◌<◌, ◌≤◌, Bool, true, false, cond, eqb, Some, None, refl, sym, subst, ap, ◌∙◌, arith, ⊎_elim, w64, bit_and, bit_or, one-mul, ◌⊎◌, inl, inr}
 use Rattle.std.specs.Int.{bit_at, trailing_zeros, leading_zeros}
 use Rattle.std.proofs.lemmas.Bool.Decides.{nat_tests}
 use Rattle.std.proofs.lemmas.Bool.{cases_lt, eqb-true}
@@ -124,3 +124,11 @@ last_low n s l h m =
 -- 1 moved up within a word
 pub one_shl : (s : ℕ) → s < 64 → 1 * 2 ^ s % 2 ^ 64 ≡ 2 ^ s
 one_shl s l = ap (λ m. m % 2 ^ 64) (one-mul (2 ^ s)) ∙ mod-eq_of_lt (pow-lt l)
+
+-- the lowest bit of a whole word
+pub lowest_bit : (n : ℕ) → n < 2 ^ 64 → 0 < n → IsFirst (bit n) 0 (Some (trailing_zeros w64 n))
+lowest_bit n l p =
+    let e : n / 2 ^ 0 ≡ n = omega arith in
+    let d = ap (trailing_zeros w64) e in
+    let s : 0 + trailing_zeros w64 (n / 2 ^ 0) ≡ trailing_zeros w64 n = omega arith in
+    subst (λ (m : ℕ). IsFirst (bit n) 0 (Some m)) s (first_bit n 0 l (omega arith))

@@ -148,3 +148,11 @@ toggled p q key b e h k = h k ∙ pick (eqb k key) refl
 pub has-none : (ws : List ℕ) (n k : ℕ) → length ws ≤ n → ((w : ℕ) → w < n → ◌≡◌ {A = ℕ} (get_or ws w 0) 0) → has ws k ≡ false
 unfolding has
 has-none ws n k l h = ap (λ m. bit m (k % 64)) (⊎_elim (λ a. h (k / 64) a) (λ a. get_or_past ws (k / 64) 0 (omega arith)) (cases_lt (k / 64) n)) ∙ bit_none (k % 64)
+
+-- from a place past the last word back to its own word there is no key
+pub last_beyond : (ws : List ℕ) (key : ℕ) (o : Option ℕ) → length ws ≤ key / 64 → IsLast (has ws) (key / 64 * 64) o → IsLast (has ws) key o
+last_beyond ws key None l h = λ k a. ⊎_elim (λ b. h k b) (λ b. has-past ws k (omega arith)) (cases_lt k (key / 64 * 64))
+last_beyond ws key (Some r) l h =
+    let low : r < key / 64 * 64 = h.0 in
+    let e = its_place key in
+    (omega (arith, low, e), h.1, λ k a b. ⊎_elim (λ c. h.2 k a c) (λ c. has-past ws k (omega arith)) (cases_lt k (key / 64 * 64)))

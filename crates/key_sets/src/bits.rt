@@ -41,6 +41,15 @@ pub fn lowest_from(word: u64, place: u32) -> Option<u32>
     }
 }
 
+/// The least bit that is set, of a word with some.
+pub fn lowest(word: u64) -> u32
+    requires { 0 < word }
+    ensures first { IsFirst (bit word) 0 (Some result) }
+    ensures within { result < 64 }
+{
+    word.trailing_zeros()
+}
+
 /// The greatest bit below this place that is set.
 pub fn highest_below(word: u64, place: u32) -> Option<u32>
     requires { place < 64 }
@@ -52,6 +61,14 @@ pub fn highest_below(word: u64, place: u32) -> Option<u32>
     } else {
         Some(63 - rest.leading_zeros())
     }
+}
+
+/// The greatest bit that is set, of a word with some.
+pub fn top(word: u64) -> u32
+    requires { 0 < word }
+    ensures { IsLast (bit word) 64 (Some result) }
+{
+    63 - word.leading_zeros()
 }
 
 /// The greatest bit that is set.

@@ -1,14 +1,12 @@
-use Rattle.std.proofs.Common.{◌≡◌, ◌+◌, ◌*◌, ◌/◌, ◌%◌, ℕ, Some, None, length, get_or, ap, ◌∙◌, subst, arith}
+use Rattle.std.proofs.Common.{◌+◌, ◌*◌, ◌/◌, ◌%◌, ℕ, Some, None, length, get_or, ap, ◌∙◌, subst, arith}
 use Rattle.std.proofs.lemmas.List.{get_or_read}
 use Rattle.key_sets.specs.Sets.{bit, has, IsLast}
-use Rattle.key_sets.proofs.SetLemmas.{key_past, last_there, last_sooner, last_past, its_place, its_bit}
+use Rattle.key_sets.proofs.SetLemmas.{last_there, last_sooner, last_beyond, its_place, its_bit}
 use Rattle.key_sets.proofs.set.KeySet.last_below.Goals as goal
 
 pub returns-then-word-len : goal.returns-then-word-len
 returns-then-word-len c =
-    let n : c.len-then-word-len.result ≡ length c.args.self.now = omega (arith, c.self.inside.words.ok.0, ap length c.self.view_is) in
-    last_past c.args.self.now c.args.key c.last_in.result (key_past c.args.self.now c.args.key (omega (arith, c.self.inside.words.ok.0, ap length c.self.view_is)))
-    (subst (λ (m : ℕ). IsLast (has c.args.self.now) (m * 64) c.last_in.result) n c.last_in.ensures)
+    last_beyond c.args.self.now c.args.key c.last_in.result (omega (arith, c.self.inside.words.ok.0, ap length c.self.view_is)) c.last_in.ensures
 
 pub returns-in-Some : goal.returns-in-Some
 returns-in-Some c =

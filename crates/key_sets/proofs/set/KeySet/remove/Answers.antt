@@ -1,4 +1,4 @@
-use Rattle.std.proofs.Common.{◌/◌, ◌%◌, ◌<◌, ◌*◌, false, cond, eqb, length, ap, ◌∙◌, arith}
+use Rattle.std.proofs.Common.{◌/◌, ◌%◌, ◌<◌, ◌*◌, false, cond, eqb, length, get_or, ap, ◌∙◌, arith}
 use Rattle.std.proofs.lemmas.List.{get_or_read}
 use Rattle.std.proofs.lemmas.Nat.{div_below}
 use Rattle.key_sets.specs.Sets.{bit, has}
@@ -7,9 +7,9 @@ use Rattle.key_sets.proofs.set.KeySet.remove.Goals as goal
 
 pub returns-clause-keys : goal.returns-clause-keys
 returns-clause-keys c k =
-    let ws = c.self.inside.words.items in
+    let xs = c.self.inside.words.items in
+    let ws = c.args.self.now in
     let key = c.args.key in
-    let low : key < length ws * 64 = omega (arith, ap length c.self.view_is) in
-    let at = get_or_read ws (key / 64) c.index.result.now (div_below key 64 (length ws) (omega arith) low) c.index.ensures 0 in
-    has-set ws key c.without_bit.result k false low (λ i l. c.without_bit.ensures i l ∙ ap (λ n. cond (eqb i (key % 64)) false (bit n i)) at)
-    ∙ ap (λ xs. cond (eqb k key) false (has xs k)) c.self.view_is
+    let low : key < length xs * 64 = omega (arith, ap length c.self.view_is) in
+    let at = get_or_read xs (key / 64) c.index.result.now (div_below key 64 (length xs) (omega arith) low) c.index.ensures 0 ∙ ap (λ ys. get_or ys (key / 64) 0) c.self.view_is in
+    ap (λ ys. has ys k) c.set_word.ensures ∙ has-set ws key c.without_bit-bits.result k false c.requires (λ i l. c.without_bit-bits.ensures i l ∙ ap (λ n. cond (eqb i (key % 64)) false (bit n i)) at)
