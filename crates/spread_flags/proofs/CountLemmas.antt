@@ -193,3 +193,12 @@ any-count p (x ∷ xs) = pick (p x) (any-count p xs)
       where
         plain : (n : ℕ) → 0 + n ≡ n
         plain n = omega arith
+
+none_less : (k : ℕ) → k < 0 → ⊥
+none_less k l = omega (arith, l)
+
+-- within a row the default doesn't count
+pub any_default : {A : Type 0} (xs : List A) (k : ℕ) (d e : A) → k < length xs → get_or xs k d ≡ get_or xs k e
+any_default [] k d e l = absurd (none_less k l)
+any_default (x ∷ xs) zero d e l = refl
+any_default (x ∷ xs) (suc k) d e l = any_default xs k d e (omega (arith, l))

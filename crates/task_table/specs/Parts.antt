@@ -50,7 +50,7 @@ pub record IsNearly (f : Facts) (p : Parts) (key : ℕ) : Type 0 where
   pub others : (k : ℕ) → k < keys f → (k == key) ≡ false → has p.queues.others k ≡ other_by f p.levels k
 
 -- what following a change of one key does: where a flag or a count differs the key is touched, and so is the key itself
-pub record IsFollowed (p q : Parts) (key : ℕ) : Type 0 where
-  pub kept : (k : ℕ) → has q.touched k ≡ false → SameLevels p.levels q.levels k
+pub record IsFollowed (n : ℕ) (p q : Parts) (key : ℕ) : Type 0 where
+  pub kept : (k : ℕ) → k < n → has q.touched k ≡ false → SameLevels p.levels q.levels k
   pub grows : (k : ℕ) → has p.touched k ≡ true → has q.touched k ≡ true
   pub named : has q.touched key ≡ true

@@ -46,7 +46,7 @@ pub record SameAt (f g : Facts) (k : ℕ) : Type 0 where
 
 -- what one change leaves: each key whose derived facts may differ is touched, touched keys stay so, and what was so before is remembered
 pub record IsTouched (f g : Facts) (s t : Tasks) : Type 0 where
-  pub kept : (k : ℕ) → has t.touched k ≡ false → SameAt f g k
+  pub kept : (k : ℕ) → k < keys f → has t.touched k ≡ false → SameAt f g k
   pub grows : (k : ℕ) → has s.touched k ≡ true → has t.touched k ≡ true
   pub held : t.held_before ≡ s.held_before
   pub erred : t.erred_before ≡ s.erred_before
@@ -54,5 +54,5 @@ pub record IsTouched (f g : Facts) (s t : Tasks) : Type 0 where
 -- touched keys are keys, and the others are held and erred as they were before
 pub record IsRemembered (f : Facts) (t : Tasks) : Type 0 where
   pub within : (k : ℕ) → has t.touched k ≡ true → k < keys f
-  pub held : (k : ℕ) → has t.touched k ≡ false → has t.held_before k ≡ held f k
-  pub erred : (k : ℕ) → has t.touched k ≡ false → has t.erred_before k ≡ erred f k
+  pub held : (k : ℕ) → k < keys f → has t.touched k ≡ false → has t.held_before k ≡ held f k
+  pub erred : (k : ℕ) → k < keys f → has t.touched k ≡ false → has t.erred_before k ≡ erred f k

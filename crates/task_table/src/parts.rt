@@ -55,7 +55,7 @@ pub fn follow(table: &FactTable, parts: &mut Parts, key: u32)
     requires key { key < keys (facts_of table.now) }
     requires near { IsNearly (facts_of table.now) parts.old key }
     ensures parts { IsParts (facts_of table.now) parts.new }
-    ensures followed { IsFollowed parts.old parts.new key }
+    ensures followed { IsFollowed (keys (facts_of table.now)) parts.old parts.new key }
 {
     table.sound();
     note(table, &mut parts.levels, key);
