@@ -1,3 +1,6 @@
 mod MarkLemmas
 mod Near
 mod Alike
+mod Told
+mod Following
+mod Applied

@@ -62,14 +62,14 @@ pub fn mark_levels(levels: &Levels, marks: &mut KeySet, count: u32)
 }
 
 /// All keys of one set are added to another.
-pub fn add_marks(marks: &KeySet, all: &mut KeySet)
-    requires { (k : ℕ) → has marks.now k ≡ true → k < room all.old }
-    ensures added { (k : ℕ) → has all.new k ≡ (has all.old k || has marks.now k) }
-    ensures room { room all.new ≡ room all.old }
+pub fn add_marks(marks: &KeySet, whole: &mut KeySet)
+    requires { (k : ℕ) → has marks.now k ≡ true → k < room whole.old }
+    ensures added { (k : ℕ) → has whole.new k ≡ (has whole.old k || has marks.now k) }
+    ensures room { room whole.new ≡ room whole.old }
 {
     let mut from = 0;
     while let Some(key) = marks.first_from(from) {
-        all.insert(key);
+        whole.insert(key);
         from = key + 1;
     }
 }

@@ -7,7 +7,7 @@ ghost use Rattle.task_table.specs.Tasks.{facts, IsTouched, IsRemembered, queued_
 
 use crate::change::{Change, key_of, put};
 use crate::levels::is_ready_by;
-use crate::parts::{Parts, begin, follow};
+use crate::parts::{Parts, begin, follow_any};
 use cluster_msgs::GraphShape;
 use key_sets::KeySet;
 use sched_facts::FactTable;
@@ -101,10 +101,8 @@ impl TaskTable {
     {
         self.table.sound();
         put(&mut self.table, change);
-        match key_of(change) {
-            Some(key) => follow(&self.table, &mut self.parts, key),
-            None => {}
-        }
+        self.table.sound();
+        follow_any(&self.table, &mut self.parts, key_of(change));
     }
 
     /// No key is touched any more; what is held and erred now is what was so before.
