@@ -8,13 +8,13 @@ use Rattle.cluster_rules.specs.SchedTable.{joined}
 use Rattle.cluster_rules.proofs.DerivedLemmas.{range_more, any_append}
 use Rattle.key_sets.specs.Sets.{has}
 use Rattle.sched_facts.specs.Stored.{facts_of}
-use Rattle.task_table.specs.Changes.{with_change, changed_key}
+use Rattle.task_table.specs.Changes.{with_change, changed_key, Fits}
 use Rattle.task_table.specs.Tasks.{Tasks, facts, SameAt, IsTouched, IsRemembered}
 use Rattle.task_table.specs.Parts.{IsParts, IsNearly, IsFollowed}
 use Rattle.task_table.specs.declared.change.Change.{Change}
 use Rattle.task_table.specs.declared.change.Change.TheVariants.{Want, Unwant, Hold, Lose, Assign, Unassign, Steal, Unsteal, Fail, Forgive, Connect, Disconnect, Send, Fence, Finish}
 use Rattle.task_table.specs.declared.parts.Parts.{Parts}
-use Rattle.task_table.proofs.Near.{IsNear, near_change, wanted_same, held_same, some_key}
+use Rattle.task_table.proofs.Near.{IsNear, near_change, wanted_same, held_same, some_key, no_key, the_key}
 use Rattle.task_table.proofs.Alike.{IsAlike, same_alike, parts_alike, parts_near, same_levels}
 
 -- what derived facts rest on is the same, and so is who holds and wants what
@@ -140,3 +140,40 @@ remembered_after f g s t r u n w = record {
         pick : (y : Bool) → has s.touched k ≡ y → has s.touched k ≡ false
         pick true z = absurd (false≢true (sym e ∙ u.grows k z))
         pick false z = z
+
+-- the key of a change is there
+pub key_low : (f : Facts) (rows : ℕ) (c : Change) (k : ℕ) → Fits f rows c → changed_key c ≡ Some k → k < keys f
+key_low f rows (Want c k) q h e = subst (λ (x : ℕ). x < keys f) (the_key k q e) h.key
+key_low f rows (Unwant c k) q h e = subst (λ (x : ℕ). x < keys f) (the_key k q e) h.key
+key_low f rows (Hold w k) q h e = subst (λ (x : ℕ). x < keys f) (the_key k q e) h.key
+key_low f rows (Lose w k) q h e = subst (λ (x : ℕ). x < keys f) (the_key k q e) h.key
+key_low f rows (Assign k w) q h e = subst (λ (x : ℕ). x < keys f) (the_key k q e) h.key
+key_low f rows (Unassign k) q h e = subst (λ (x : ℕ). x < keys f) (the_key k q e) h
+key_low f rows (Steal k thief refused) q h e = no_key q e
+key_low f rows (Unsteal k) q h e = no_key q e
+key_low f rows (Fail k) q h e = subst (λ (x : ℕ). x < keys f) (the_key k q e) h
+key_low f rows (Forgive k) q h e = subst (λ (x : ℕ). x < keys f) (the_key k q e) h
+key_low f rows (Connect threads) q h e = no_key q e
+key_low f rows (Disconnect w) q h e = no_key q e
+key_low f rows (Send w) q h e = no_key q e
+key_low f rows (Fence w k) q h e = no_key q e
+key_low f rows Finish q h e = no_key q e
+
+-- no change adds a key
+pub same_keys : (f : Facts) (c : Change) → keys (with_change f c) ≡ keys f
+unfolding joined
+same_keys f (Want c k) = refl
+same_keys f (Unwant c k) = refl
+same_keys f (Hold w k) = refl
+same_keys f (Lose w k) = refl
+same_keys f (Assign k w) = refl
+same_keys f (Unassign k) = refl
+same_keys f (Steal k thief refused) = refl
+same_keys f (Unsteal k) = refl
+same_keys f (Fail k) = refl
+same_keys f (Forgive k) = refl
+same_keys f (Connect threads) = refl
+same_keys f (Disconnect w) = refl
+same_keys f (Send w) = refl
+same_keys f (Fence w k) = refl
+same_keys f Finish = refl

@@ -89,14 +89,14 @@ near_bad f key b = record {
   want = λ c k e. refl;
 }
 
-the_key : (a b : ℕ) → Some a ≡ Some b → a ≡ b
+pub the_key : (a b : ℕ) → Some a ≡ Some b → a ≡ b
 the_key a b e = ap (λ (o : Option ℕ). key_or o) e
   where
     key_or : Option ℕ → ℕ
     key_or None = a
     key_or (Some x) = x
 
-no_key : {A : Type 0} (b : ℕ) → ◌≡◌ {A = Option ℕ} None (Some b) → A
+pub no_key : {A : Type 0} (b : ℕ) → ◌≡◌ {A = Option ℕ} None (Some b) → A
 no_key {A} b e = subst (λ (o : Option ℕ). is_there o) e tt
   where
     is_there : Option ℕ → Type 0

@@ -10,7 +10,7 @@ use Rattle.task_table.specs.Tasks.{is_root}
 use Rattle.task_table.specs.Standing.{IsQuiet, SameFlags, SameWas, SameLinks, SameLevels, IsUntold, root_by, other_by}
 use Rattle.task_table.specs.declared.levels.Levels.{Levels}
 
-flag_kept : (s t u : Spread) (k : ℕ) → t.flags ≡ s.flags → has t.changed k ≡ false → was u k ≡ was t k → has u.changed k ≡ false → flag u k ≡ flag s k
+pub flag_kept : (s t u : Spread) (k : ℕ) → t.flags ≡ s.flags → has t.changed k ≡ false → was u k ≡ was t k → has u.changed k ≡ false → flag u k ≡ flag s k
 flag_kept s t u k e q w c = sym (ap (λ b. cond b (not (flag u k)) (flag u k)) c) ∙ w ∙ ap (λ b. cond b (not (flag t k)) (flag t k)) q ∙ ap (λ r. read r false k) e
 
 leaders_kept : (s t u : Spread) (k : ℕ) → IsKept s → IsKept u → u.links ≡ s.links → t.flags ≡ s.flags → ((j : ℕ) → has t.changed j ≡ false) → ((j : ℕ) → was u j ≡ was t j) → ((j : ℕ) → is_in k (targets u j) ≡ true → has u.changed j ≡ false) → leaders u k ≡ leaders s k

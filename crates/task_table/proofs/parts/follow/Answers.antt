@@ -1,3 +1,5 @@
+use Rattle.std.proofs.Common.{◌≡◌, ℕ, ◌≤◌, subst}
+use Rattle.key_sets.specs.Sets.{has}
 use Rattle.sched_facts.specs.Stored.{facts_of}
 use Rattle.task_table.specs.declared.parts.Parts.{Parts}
 use Rattle.task_table.proofs.Following.{IsStep, step_parts, step_followed}
@@ -24,7 +26,7 @@ returns-clause-parts c =
       first_room = c.insert.ensures.room;
       untold = c.mark_levels.ensures.untold;
       grows = c.mark_levels.ensures.grows;
-      within = c.mark_levels.ensures.within;
+      within = subst (λ (n : ℕ). (k : ℕ) → n ≤ k → has c.mark_levels.new.marks k ≡ has c.insert.new.self k) c.keys.ensures c.mark_levels.ensures.within;
       mark_room = c.mark_levels.ensures.room;
       roots = c.requeue_all.ensures.roots;
       others = c.requeue_all.ensures.others;
@@ -62,7 +64,7 @@ returns-clause-followed c =
       first_room = c.insert.ensures.room;
       untold = c.mark_levels.ensures.untold;
       grows = c.mark_levels.ensures.grows;
-      within = c.mark_levels.ensures.within;
+      within = subst (λ (n : ℕ). (k : ℕ) → n ≤ k → has c.mark_levels.new.marks k ≡ has c.insert.new.self k) c.keys.ensures c.mark_levels.ensures.within;
       mark_room = c.mark_levels.ensures.room;
       roots = c.requeue_all.ensures.roots;
       others = c.requeue_all.ensures.others;
