@@ -112,9 +112,9 @@ step_parts g p q n m xs ys key s =
         few_others = λ k l. queue_is ys k (has q.queues.others k) (other_by g m k) (has p.queues.others k) false (s.others k) (λ e. high_only k l e) (λ e. r.few_others k l);
       };
       roots = λ k l. queue_is ys k (has q.queues.roots k) (root_by g m k) (has p.queues.roots k) (queued_root g k) (s.roots k) (λ e. root_due g m k (s.standing.derived k l))
-      (λ e. s.near.roots k l (not_key g p q n m xs ys key s k e) ∙ sym (root_same g p.levels m k (step_same g p q n m xs ys key s k e)) ∙ root_due g m k (s.standing.derived k l));
+          (λ e. s.near.roots k l (not_key g p q n m xs ys key s k e) ∙ sym (root_same g p.levels m k (step_same g p q n m xs ys key s k e)) ∙ root_due g m k (s.standing.derived k l));
       others = λ k l. queue_is ys k (has q.queues.others k) (other_by g m k) (has p.queues.others k) (queued_other g k) (s.others k) (λ e. other_due g m k (s.standing.derived k l))
-      (λ e. s.near.others k l (not_key g p q n m xs ys key s k e) ∙ sym (other_same g p.levels m k (step_same g p q n m xs ys key s k e)) ∙ other_due g m k (s.standing.derived k l));
+          (λ e. s.near.others k l (not_key g p q n m xs ys key s k e) ∙ sym (other_same g p.levels m k (step_same g p q n m xs ys key s k e)) ∙ other_due g m k (s.standing.derived k l));
     }
   where
     high_only : {b : Bool} (k : ℕ) → keys g ≤ k → has ys k ≡ true → b ≡ false

@@ -4,3 +4,4 @@ mod Alike
 mod Told
 mod Following
 mod Applied
+mod Opening

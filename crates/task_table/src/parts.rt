@@ -67,7 +67,7 @@ pub fn follow(table: &FactTable, parts: &mut Parts, key: u32)
     parts.marks.insert(key);
     mark_levels(&parts.levels, &mut parts.marks, table.keys());
     requeue_all(table, &parts.levels, &mut parts.queues, &parts.marks);
-    add_marks(&parts.marks, &mut parts.touched);
+    add_marks(table, &parts.marks, &mut parts.touched);
     parts.marks.clear();
     forget_changes(table, &mut parts.levels);
 }

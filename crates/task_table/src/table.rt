@@ -1,12 +1,13 @@
 //! The scheduler's facts with what is derived from them.
-ghost use Rattle.std.specs.Prelude.{◌≡◌, ℕ, ◌<◌, ◌≤◌, ◌==◌, ◌&&◌, not, cond, true, false, None, Some, IfOk, OnOk};
+ghost use Rattle.std.specs.Prelude.{◌≡◌, ℕ, ◌<◌, ◌≤◌, ◌&&◌, not, true, false, None, Some, IfOk, OnOk};
 ghost use Rattle.cluster_rules.specs.Sched.{sched_opening, keys, erred, known, need, ready, fed, waiters, blame};
-ghost use Rattle.key_sets.specs.Sets.{has, room, IsFirst};
+ghost use Rattle.key_sets.specs.Sets.{has, IsFirst};
 ghost use Rattle.task_table.specs.Changes.{with_change, Fits, changed_key};
 ghost use Rattle.task_table.specs.Tasks.{facts, IsTouched, IsRemembered, queued_root, queued_other};
 
 use crate::change::{Change, key_of, put};
 use crate::levels::is_ready_by;
+use crate::marks::{recall_erred, recall_held};
 use crate::parts::{Parts, begin, follow_any};
 use cluster_msgs::GraphShape;
 use key_sets::KeySet;
@@ -111,16 +112,12 @@ impl TaskTable {
         ensures touched { (k : ℕ) → has self.new.touched k ≡ false }
     {
         self.table.sound();
-        let mut from = 0;
-        while let Some(key) = self.parts.touched.first_from(from) {
-            remember(&mut self.held_before, key, self.table.is_held(key));
-            remember(
-                &mut self.erred_before,
-                key,
-                self.parts.levels.erred.is_set(key),
-            );
-            from = key + 1;
-        }
+        recall_held(&self.table, &self.parts.touched, &mut self.held_before);
+        recall_erred(
+            &self.parts.levels.erred,
+            &self.parts.touched,
+            &mut self.erred_before,
+        );
         self.parts.touched.clear();
     }
 
@@ -149,6 +146,7 @@ impl TaskTable {
     pub fn first_root(&self, from: u32) -> Option<u32>
         ensures { IsFirst (queued_root (facts self.now)) from result }
     {
+        self.table.sound();
         self.parts.queues.roots.first_from(from)
     }
 
@@ -156,6 +154,7 @@ impl TaskTable {
     pub fn first_other(&self, from: u32) -> Option<u32>
         ensures { IsFirst (queued_other (facts self.now)) from result }
     {
+        self.table.sound();
         self.parts.queues.others.first_from(from)
     }
 
@@ -163,21 +162,30 @@ impl TaskTable {
     pub fn is_known(&self, key: u32) -> bool
         ensures { result ≡ known (facts self.now) key }
     {
-        self.parts.levels.known.is_set(key)
-    }
-
-    /// Whether the key is ready. Where there is no such key it is not.
-    pub fn is_ready(&self, key: u32) -> bool
-        ensures { result ≡ ready (facts self.now) key }
-    {
-        (key < self.table.keys()) && is_ready_by(&self.parts.levels, key)
+        self.table.sound();
+        let is_there = key < self.table.keys();
+        is_there & self.parts.levels.known.is_set(key)
     }
 
     /// Whether the key is erred. Where there is no such key it is not.
     pub fn is_erred(&self, key: u32) -> bool
         ensures { result ≡ erred (facts self.now) key }
     {
-        self.parts.levels.erred.is_set(key)
+        self.table.sound();
+        let is_there = key < self.table.keys();
+        is_there & self.parts.levels.erred.is_set(key)
+    }
+
+    /// Whether the key is ready. Where there is no such key it is not.
+    pub fn is_ready(&self, key: u32) -> bool
+        ensures { result ≡ ready (facts self.now) key }
+    {
+        self.table.sound();
+        if key < self.table.keys() {
+            is_ready_by(&self.parts.levels, key)
+        } else {
+            false
+        }
     }
 
     /// Whether the key is needed.
@@ -219,8 +227,7 @@ impl TaskTable {
     fn passes_blame(&self, key: u32) -> bool
         ensures { result ≡ (erred (facts self.now) key && not ((facts self.now).bad key)) }
     {
-        let is_erred = self.parts.levels.erred.is_set(key);
-        is_erred & !self.table.is_bad(key)
+        self.is_erred(key) & !self.table().is_bad(key)
     }
 
     /// The first erred dependency of an erred key that has no error of its own. It is blamed on the same.
@@ -229,8 +236,8 @@ impl TaskTable {
         ensures below { result < key }
         ensures blame { blame (facts self.now) result ≡ blame (facts self.now) key }
     {
-        for dependency in self.table.shape().deps(key) {
-            if self.parts.levels.erred.is_set(*dependency) {
+        for dependency in self.table().shape().deps(key) {
+            if self.is_erred(*dependency) {
                 return *dependency;
             }
         }
@@ -242,23 +249,6 @@ impl TaskTable {
         requires { (erred (facts self.now) key && not ((facts self.now).bad key)) ≡ false }
         ensures { result ≡ blame (facts self.now) key }
     {
-        if self.parts.levels.erred.is_set(key) {
-            Some(key)
-        } else {
-            None
-        }
-    }
-}
-
-/// The key is in the set or not.
-fn remember(set: &mut KeySet, key: u32, to: bool)
-    requires { key < room set.old }
-    ensures keys { (k : ℕ) → has set.new k ≡ cond (k == key) to (has set.old k) }
-    ensures room { room set.new ≡ room set.old }
-{
-    if to {
-        set.insert(key);
-    } else {
-        set.remove(key);
+        if self.is_erred(key) { Some(key) } else { None }
     }
 }
