@@ -54,23 +54,23 @@ held_more f s k =
     or_false true = refl
     or_false false = refl
 
+held_joined : (f : Facts) → IsSound f → (threads k : ℕ) → held (joined f threads) k ≡ held f k
+unfolding held joined
+held_joined f s threads k = held_more f s k
+
 equal_joined : (f : Facts) → IsSound f → (threads : ℕ) → IsEqual f (joined f threads)
 unfolding joined
 equal_joined f s threads = record {
   alike = record {
     setting = refl;
     wanted = λ i k. wanted_same f (joined f threads) refl refl k i;
-    held = λ i k. held_now k i;
+    held = λ i k. held_joined f s threads k i;
     bad = refl;
     on = refl;
   };
   has = λ v k. refl;
   want = λ c k. refl;
 }
-  where
-    held_now : (k : ℕ) → held (joined f threads) k ≡ held f k
-    unfolding held
-    held_now k = held_more f s k
 
 pub equal_change : (f : Facts) → IsSound f → (c : Change) → changed_key c ≡ None → IsEqual f (with_change f c)
 equal_change f s (Want c k) e = some_key k e

@@ -1,10 +1,11 @@
 //! The scheduler's facts with what is derived from them.
-ghost use Rattle.std.specs.Prelude.{◌≡◌, ℕ, ◌<◌, ◌≤◌, ◌&&◌, not, true, false, None, Some, IfOk, OnOk};
+ghost use Rattle.std.specs.Prelude.{◌≡◌, ℕ, ◌<◌, ◌≤◌, true, false, None, Some, IfOk, OnOk};
 ghost use Rattle.cluster_rules.specs.Sched.{sched_opening, keys, erred, known, need, ready, fed, waiters, blame};
 ghost use Rattle.key_sets.specs.Sets.{has, IsFirst};
 ghost use Rattle.task_table.specs.Changes.{with_change, Fits, changed_key};
-ghost use Rattle.task_table.specs.Tasks.{facts, IsTouched, IsRemembered, queued_root, queued_other};
+ghost use Rattle.task_table.specs.Tasks.{facts, IsTouched, IsRemembered, own_blame, queued_root, queued_other};
 
+use crate::blame::{blame_by, next_to_blame};
 use crate::change::{Change, key_of, put};
 use crate::levels::is_ready_by;
 use crate::marks::{recall_erred, recall_held};
@@ -212,43 +213,35 @@ impl TaskTable {
         self.parts.levels.missing.leaders(key) == 0
     }
 
-    /// The key that an erred key is blamed on. A key that is not erred has none.
+    /// The key that an erred key is blamed on. A key that is not erred has none. It walks down the dependencies.
     pub fn blame(&self, key: u32) -> Option<u32>
         ensures { result ≡ blame (facts self.now) key }
     {
         let mut at = key;
-        while self.passes_blame(at) {
-            at = self.first_erred(at);
+        while let Some(next) = self.blame_next(at) {
+            at = next;
         }
         self.own_blame(at)
     }
 
-    /// Whether the key is erred and has no error of its own.
-    fn passes_blame(&self, key: u32) -> bool
-        ensures { result ≡ (erred (facts self.now) key && not ((facts self.now).bad key)) }
+    /// The dependency that is blamed for the same, where the key is erred without an error of its own.
+    fn blame_next(&self, key: u32) -> Option<u32>
+        ensures below { (d : ℕ) → result ≡ Some d → d < key }
+        ensures same { (d : ℕ) → result ≡ Some d → blame (facts self.now) d ≡ blame (facts self.now) key }
+        ensures own { result ≡ None → blame (facts self.now) key ≡ own_blame (facts self.now) key }
     {
-        self.is_erred(key) & !self.table().is_bad(key)
-    }
-
-    /// The first erred dependency of an erred key that has no error of its own. It is blamed on the same.
-    fn first_erred(&self, key: u32) -> u32
-        requires { (erred (facts self.now) key && not ((facts self.now).bad key)) ≡ true }
-        ensures below { result < key }
-        ensures blame { blame (facts self.now) result ≡ blame (facts self.now) key }
-    {
-        for dependency in self.table().shape().deps(key) {
-            if self.is_erred(*dependency) {
-                return *dependency;
-            }
+        self.table.sound();
+        if key < self.table.keys() {
+            next_to_blame(&self.table, &self.parts.levels.erred, key)
+        } else {
+            None
         }
-        key
     }
 
-    /// What a key is blamed on that has an error of its own or is not erred.
+    /// What a key is blamed on by itself.
     fn own_blame(&self, key: u32) -> Option<u32>
-        requires { (erred (facts self.now) key && not ((facts self.now).bad key)) ≡ false }
-        ensures { result ≡ blame (facts self.now) key }
+        ensures { result ≡ own_blame (facts self.now) key }
     {
-        if self.is_erred(key) { Some(key) } else { None }
+        blame_by(self.is_erred(key), self.table().is_bad(key), key)
     }
 }
