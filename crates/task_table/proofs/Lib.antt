@@ -5,3 +5,4 @@ mod Told
 mod Following
 mod Applied
 mod Opening
+mod Blaming

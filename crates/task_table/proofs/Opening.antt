@@ -103,10 +103,10 @@ remembered_now f s t p r e a b n = record {
     either true x y z h i = h refl
     either false x y z h i = i refl
 
-yes_below : (a b : ℕ) → a < b → nat_lt a b ≡ true
+pub yes_below : (a b : ℕ) → a < b → nat_lt a b ≡ true
 yes_below a b l = grind (arith, nat_tests)
 
-not_below : (a b : ℕ) → b ≤ a → nat_lt a b ≡ false
+pub not_below : (a b : ℕ) → b ≤ a → nat_lt a b ≡ false
 not_below a b l = grind (arith, nat_tests)
 
 -- questions of any number

@@ -1,5 +1,5 @@
 //! What an erred key is blamed on.
-ghost use Rattle.std.specs.Prelude.{◌≡◌, ℕ, ◌<◌, ◌&&◌, not, cond, Some, None};
+ghost use Rattle.std.specs.Prelude.{◌≡◌, ℕ, ◌<◌, ◌&&◌, not, nat_lt, cond, Some, None};
 ghost use Rattle.cluster_msgs.specs.Shape.{deps_of};
 ghost use Rattle.cluster_rules.specs.Sched.{keys};
 ghost use Rattle.sched_facts.specs.Stored.{facts_of};
@@ -42,10 +42,21 @@ fn where_so(so: bool, found: Option<u32>) -> Option<u32>
 }
 
 /// The first erred dependency of an erred key that has no error of its own.
-pub fn next_to_blame(table: &FactTable, erred: &Flags, key: u32) -> Option<u32>
+fn next_to_blame(table: &FactTable, erred: &Flags, key: u32) -> Option<u32>
     requires { key < keys (facts_of table.now) }
     ensures { result ≡ next_blamed (facts_of table.now) (flag erred.now) key }
 {
     let passes = erred.is_set(key) & !table.is_bad(key);
     where_so(passes, first_flagged(erred, table.shape().deps(key)))
+}
+
+/// The same of any number: nothing where there is no such key.
+pub fn blame_through(table: &FactTable, erred: &Flags, key: u32) -> Option<u32>
+    ensures { result ≡ cond (nat_lt key (keys (facts_of table.now))) (next_blamed (facts_of table.now) (flag erred.now) key) None }
+{
+    if key < table.keys() {
+        next_to_blame(table, erred, key)
+    } else {
+        None
+    }
 }

@@ -5,7 +5,7 @@ ghost use Rattle.key_sets.specs.Sets.{has, IsFirst};
 ghost use Rattle.task_table.specs.Changes.{with_change, Fits, changed_key};
 ghost use Rattle.task_table.specs.Tasks.{facts, IsTouched, IsRemembered, own_blame, queued_root, queued_other};
 
-use crate::blame::{blame_by, next_to_blame};
+use crate::blame::{blame_by, blame_through};
 use crate::change::{Change, key_of, put};
 use crate::levels::is_ready_by;
 use crate::marks::{recall_erred, recall_held};
@@ -231,11 +231,7 @@ impl TaskTable {
         ensures own { result ≡ None → blame (facts self.now) key ≡ own_blame (facts self.now) key }
     {
         self.table.sound();
-        if key < self.table.keys() {
-            next_to_blame(&self.table, &self.parts.levels.erred, key)
-        } else {
-            None
-        }
+        blame_through(&self.table, &self.parts.levels.erred, key)
     }
 
     /// What a key is blamed on by itself.

@@ -8,17 +8,17 @@ use Rattle.task_table.specs.Tables.{tasks_of}
 use Rattle.task_table.proofs.Applied.{near_after, rest_after, kept_after, grows_after, remembered_after, key_low, same_keys}
 use Rattle.task_table.proofs.table.TaskTable.apply.Goals as goal
 
-pub follow_any-requires-low : goal.follow_any-requires-low
-follow_any-requires-low c k h =
+pub follow_any-requires-clause-low : goal.follow_any-requires-clause-low
+follow_any-requires-clause-low c k h =
     let f = facts_of c.self.inside.table in
     let fits : Fits f c.self.inside.table.room c.args.change = subst (λ (z : Tasks). Fits (facts z) z.stored.room c.args.change) (sym c.self.view_is) c.requires in
     subst (λ (n : ℕ). k < n) (sym (ap keys c.put.ensures ∙ same_keys f c.args.change)) (key_low f c.self.inside.table.room c.args.change k fits (sym c.key_of.ensures ∙ h))
 
-pub follow_any-requires-near : goal.follow_any-requires-near
-follow_any-requires-near c k h = near_after (facts_of c.self.inside.table) (facts_of c.put.new.table) c.args.change c.self.inside.parts k c.put.ensures c.self.invariant.parts (sym c.key_of.ensures ∙ h)
+pub follow_any-requires-clause-near : goal.follow_any-requires-clause-near
+follow_any-requires-clause-near c k h = near_after (facts_of c.self.inside.table) (facts_of c.put.new.table) c.args.change c.self.inside.parts k c.put.ensures c.self.invariant.parts (sym c.key_of.ensures ∙ h)
 
-pub follow_any-requires-rest : goal.follow_any-requires-rest
-follow_any-requires-rest c h = rest_after (facts_of c.self.inside.table) (facts_of c.put.new.table) c.args.change c.self.inside.parts c.put.ensures c.sound.ensures c.self.invariant.parts (sym c.key_of.ensures ∙ h)
+pub follow_any-requires-clause-rest : goal.follow_any-requires-clause-rest
+follow_any-requires-clause-rest c h = rest_after (facts_of c.self.inside.table) (facts_of c.put.new.table) c.args.change c.self.inside.parts c.put.ensures c.sound.ensures c.self.invariant.parts (sym c.key_of.ensures ∙ h)
 
 pub invariant_of-self : goal.invariant_of-self
 invariant_of-self c =
