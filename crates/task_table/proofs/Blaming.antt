@@ -12,24 +12,21 @@ use Rattle.task_table.proofs.Opening.{yes_below, not_below}
 
 find_first : (p q : ℕ → Bool) (ds : List ℕ) → AllByRecursion (λ d. p d ≡ q d) ds → find q ds ≡ first_where p ds
 find_first p q [] a = refl
-find_first p q (d ∷ ds) a = pick (p d) (q d) a.0
+find_first p q (d ∷ ds) a = pick (p d) (q d) a.0 (find_first p q ds a.1)
   where
-    rest : find q ds ≡ first_where p ds
-    rest = find_first p q ds a.1
-
-    pick : (x y : Bool) → x ≡ y → cond y (Some d) (find q ds) ≡ option_or (cond x (Some d) None) (first_where p ds)
-    pick true true e = refl
-    pick true false e = absurd (false≢true (sym e))
-    pick false true e = absurd (false≢true e)
-    pick false false e = rest
+    pick : (x y : Bool) → x ≡ y → find q ds ≡ first_where p ds → cond y (Some d) (find q ds) ≡ option_or (cond x (Some d) None) (first_where p ds)
+    pick true true e rest = refl
+    pick true false e rest = absurd (false≢true (sym e))
+    pick false true e rest = absurd (false≢true e)
+    pick false false e rest = rest
 
 first_low : (p : ℕ → Bool) (n d : ℕ) (ds : List ℕ) → AllByRecursion (λ j. j < n) ds → first_where p ds ≡ Some d → d < n
 first_low p n d [] a e = no_key d e
-first_low p n d (j ∷ ds) a e = pick (p j) e
+first_low p n d (j ∷ ds) a e = pick (p j) e (first_low p n d ds a.1)
   where
-    pick : (x : Bool) → option_or (cond x (Some j) None) (first_where p ds) ≡ Some d → d < n
-    pick true h = subst (λ (m : ℕ). m < n) (the_key j d h) a.0
-    pick false h = first_low p n d ds a.1 h
+    pick : (x : Bool) → option_or (cond x (Some j) None) (first_where p ds) ≡ Some d → (first_where p ds ≡ Some d → d < n) → d < n
+    pick true h rest = subst (λ (m : ℕ). m < n) (the_key j d h) a.0
+    pick false h rest = rest h
 
 agree : (f : Facts) (p : ℕ → Bool) (k : ℕ) → IsSound f → ((j : ℕ) → j < keys f → p j ≡ erred f j) → k < keys f → find (erred f) (deps f k) ≡ first_where p (deps f k)
 agree f p k s h l = find_first p (erred f) (deps f k) (All-weaken (λ j m. h j (omega (arith, l, m))) (deps f k) (s.shape.below k))
