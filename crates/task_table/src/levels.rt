@@ -6,7 +6,7 @@ ghost use Rattle.sched_facts.specs.Stored.{facts_of};
 ghost use Rattle.key_sets.specs.Sets.{has};
 ghost use Rattle.spread_flags.specs.Spread.{seed, gate, flag, size};
 ghost use Rattle.standing.specs.Links.{IsReverse};
-ghost use Rattle.task_table.specs.Standing.{IsOver, IsSeeded, IsSeededBut, IsSeededWhole, IsStanding, IsQuiet, IsBlank, SameFlags, SameWas, SameLinks, is_ready_by, due_gate};
+ghost use Rattle.task_table.specs.Standing.{IsOver, IsSeeded, IsSeededBut, IsSeededWhole, IsStanding, IsQuiet, IsBlank, IsBlankRow, SameFlags, SameWas, SameLinks, is_ready_by, due_gate};
 
 use cluster_msgs::GraphShape;
 use sched_facts::FactTable;
@@ -27,6 +27,55 @@ pub struct Levels {
     pub missing: Flags,
 }
 
+/// Two rows of flags whose links lead the same way.
+#[derive(Drop)]
+struct FlagPair {
+    first: Flags,
+    second: Flags,
+}
+
+/// Flags over links to dependencies, none of which is set.
+fn down_flags(alloc: Global, shape: &GraphShape) -> Result<Flags, AllocError>
+    ensures links { IfOk result (λ flags. flags.links ≡ shape.now.deps) }
+    ensures blank { IfOk result IsBlankRow }
+{
+    let links = down_links(alloc, shape)?;
+    Flags::new(alloc, links, true)
+}
+
+/// Flags over links to dependents, none of which is set.
+fn up_flags(alloc: Global, shape: &GraphShape) -> Result<Flags, AllocError>
+    ensures links { IfOk result (λ flags. IsReverse shape.now flags.links) }
+    ensures blank { IfOk result IsBlankRow }
+{
+    let links = up_links(alloc, shape)?;
+    Flags::new(alloc, links, true)
+}
+
+/// Two such rows over links to dependencies.
+fn down_pair(alloc: Global, shape: &GraphShape) -> Result<FlagPair, AllocError>
+    ensures first { IfOk result (λ pair. pair.first.links ≡ shape.now.deps) }
+    ensures second { IfOk result (λ pair. pair.second.links ≡ shape.now.deps) }
+    ensures first_blank { IfOk result (λ pair. IsBlankRow pair.first) }
+    ensures second_blank { IfOk result (λ pair. IsBlankRow pair.second) }
+{
+    let first = down_flags(alloc, shape)?;
+    let second = down_flags(alloc, shape)?;
+    Ok(FlagPair { first, second })
+}
+
+/// Two such rows over links to dependents.
+fn up_pair(alloc: Global, shape: &GraphShape) -> Result<FlagPair, AllocError>
+    ensures first { IfOk result (λ pair. IsReverse shape.now pair.first.links) }
+    ensures second { IfOk result (λ pair. IsReverse shape.now pair.second.links) }
+    ensures first_blank { IfOk result (λ pair. IsBlankRow pair.first) }
+    ensures second_blank { IfOk result (λ pair. IsBlankRow pair.second) }
+{
+    let first = up_flags(alloc, shape)?;
+    let second = up_flags(alloc, shape)?;
+    Ok(FlagPair { first, second })
+}
+
 impl Levels {
     /// The flags over this graph, none of which is set.
     ///
@@ -36,15 +85,13 @@ impl Levels {
         ensures over { IfOk result (λ levels. IsOver shape.now levels) }
         ensures blank { IfOk result IsBlank }
     {
-        let known = Flags::new(alloc, down_links(alloc, shape)?, true)?;
-        let erred = Flags::new(alloc, up_links(alloc, shape)?, true)?;
-        let waiting = Flags::new(alloc, down_links(alloc, shape)?, true)?;
-        let missing = Flags::new(alloc, up_links(alloc, shape)?, true)?;
+        let down = down_pair(alloc, shape)?;
+        let up = up_pair(alloc, shape)?;
         Ok(Levels {
-            known,
-            erred,
-            waiting,
-            missing,
+            known: down.first,
+            erred: up.first,
+            waiting: down.second,
+            missing: up.second,
         })
     }
 }

@@ -37,10 +37,10 @@ impl Parts {
         ensures empty { IfOk result IsEmpty }
     {
         shape.sound();
-        let levels = Levels::new(alloc, shape)?;
         let queues = Queues::new(alloc, shape.keys())?;
         let marks = KeySet::new(alloc, shape.keys())?;
         let touched = KeySet::new(alloc, shape.keys())?;
+        let levels = Levels::new(alloc, shape)?;
         Ok(Parts {
             levels,
             queues,

@@ -55,10 +55,11 @@ impl TaskTable {
         ensures facts { IfOk result (λ t. facts t ≡ sched_opening (record { shape = shape; clients = clients; saturation = saturation; allowed = None })) }
         ensures touched { IfOk result (λ t. (k : ℕ) → has t.touched k ≡ false) }
     {
-        let mut parts = Parts::new(alloc, &shape)?;
+        shape.sound();
         let held_before = KeySet::new(alloc, shape.keys())?;
         let erred_before = KeySet::new(alloc, shape.keys())?;
         let table = FactTable::new(alloc, shape, clients, saturation)?;
+        let mut parts = Parts::new(alloc, table.shape())?;
         begin(&table, &mut parts);
         Ok(TaskTable {
             table,
