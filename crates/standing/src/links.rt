@@ -1,10 +1,9 @@
 //! The links of keys: down to the dependencies, or up to the dependents.
-ghost use Rattle.std.specs.Prelude.{◌≡◌, ℕ, ◌<◌, ◌++◌, ◌∷◌, [], cond, length, vec_len, IfOk, OnOk, All};
+ghost use Rattle.std.specs.Prelude.{◌≡◌, ℕ, ◌<◌, [], length, vec_len, IfOk, OnOk, All};
 ghost use Rattle.std.specs.List.Sorted.{IsStrictlyIncreasing};
 ghost use Rattle.cluster_msgs.specs.Shape.{Shape, key_count, deps_of};
-ghost use Rattle.cluster_rules.specs.Derived.{is_in};
 ghost use Rattle.spread_flags.specs.Spread.{IsLinked};
-ghost use Rattle.standing.specs.Links.{IsReverse, linked_to};
+ghost use Rattle.standing.specs.Links.{IsReverse, linked_to, with_link};
 
 use cluster_msgs::{GraphShape, KeyList};
 use std::alloc::{AllocError, Global};
@@ -37,7 +36,7 @@ fn add_dependent(links: &mut Vec<KeyList>, keys: &[u32], key: u32) -> Result<(),
     requires keys { All (λ k. k < vec_len links.old) keys.now }
     requires rising { IsStrictlyIncreasing keys.now }
     ensures length { OnOk result (length links.new.items ≡ length links.old.items) }
-    ensures added { OnOk result ((j : ℕ) → linked_to links.new.items j ≡ cond (is_in j keys.now) (linked_to links.old.items j ++ key ∷ []) (linked_to links.old.items j)) }
+    ensures added { OnOk result ((j : ℕ) → linked_to links.new.items j ≡ with_link links.old.items keys.now key j) }
 {
     for other in keys {
         links[*other as usize].push(key)?;

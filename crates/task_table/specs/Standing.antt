@@ -20,6 +20,10 @@ pub record IsOver (g : Shape) (l : Levels) : Type 0 where
 abbrev pub due_gate : Facts → Spread → ℕ → Bool
 due_gate f erred k = not (held f k) && not (flag erred k)
 
+-- where the flag of erred keys has not changed, the gate of waiting keys is the one that is due
+abbrev pub AreDueGates : Facts → Spread → Spread → Type 0
+AreDueGates f erred waiting = (k : ℕ) → k < keys f → has erred.changed k ≡ false → gate waiting k ≡ due_gate f erred k
+
 -- the seeds and gates of one key are those of the facts, with the flag of erred keys as it is kept
 pub record IsSeeded (f : Facts) (l : Levels) (k : ℕ) : Type 0 where
   pub known_seed : seed l.known k ≡ wanted f k

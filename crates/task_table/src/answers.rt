@@ -89,8 +89,9 @@ impl Facts for TaskTable {
     }
 
     fn tasks(&self, worker: u32) -> u32 {
-        self.table().sound();
-        few(self.table().tasks(worker))
+        let table = self.table();
+        table.sound();
+        few(table.tasks(worker))
     }
 
     fn occupancy(&self, worker: u32) -> u64 {
@@ -102,8 +103,9 @@ impl Facts for TaskTable {
     }
 
     fn holders(&self, key: u32) -> u32 {
-        self.table().sound();
-        few(self.table().holder_count(key))
+        let table = self.table();
+        table.sound();
+        few(table.holder_count(key))
     }
 
     fn waiters(&self, key: u32) -> u32 {
@@ -115,11 +117,12 @@ impl Facts for TaskTable {
     }
 
     fn full(&self, worker: u32) -> bool {
-        self.table().sound();
+        let table = self.table();
+        table.sound();
         is_full(
-            thread_count(self.table().threads(worker)),
-            self.table().saturation(),
-            self.table().tasks(worker),
+            thread_count(table.threads(worker)),
+            table.saturation(),
+            table.tasks(worker),
         )
     }
 }

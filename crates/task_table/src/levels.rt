@@ -6,7 +6,7 @@ ghost use Rattle.sched_facts.specs.Stored.{facts_of};
 ghost use Rattle.key_sets.specs.Sets.{has};
 ghost use Rattle.spread_flags.specs.Spread.{seed, gate, flag, size};
 ghost use Rattle.standing.specs.Links.{IsReverse};
-ghost use Rattle.task_table.specs.Standing.{IsOver, IsSeeded, IsSeededBut, IsSeededWhole, IsStanding, IsQuiet, IsBlank, IsBlankRow, SameFlags, SameWas, SameLinks, is_ready_by, due_gate};
+ghost use Rattle.task_table.specs.Standing.{IsOver, IsSeeded, IsSeededBut, IsSeededWhole, IsStanding, IsQuiet, IsBlank, IsBlankRow, SameFlags, SameWas, SameLinks, is_ready_by, due_gate, AreDueGates};
 
 use cluster_msgs::GraphShape;
 use sched_facts::FactTable;
@@ -138,7 +138,7 @@ pub fn settle(table: &FactTable, levels: &mut Levels)
 fn open_gates(table: &FactTable, erred: &Flags, waiting: &mut Flags)
     requires erred { size erred.now ≡ keys (facts_of table.now) }
     requires waiting { size waiting.old ≡ keys (facts_of table.now) }
-    requires gates { (k : ℕ) → k < keys (facts_of table.now) → has erred.now.changed k ≡ false → gate waiting.old k ≡ due_gate (facts_of table.now) erred.now k }
+    requires gates { AreDueGates (facts_of table.now) erred.now waiting.old }
     ensures gates { (k : ℕ) → k < keys (facts_of table.now) → gate waiting.new k ≡ due_gate (facts_of table.now) erred.now k }
     ensures links { waiting.new.links ≡ waiting.old.links }
     ensures seeds { waiting.new.seeds ≡ waiting.old.seeds }

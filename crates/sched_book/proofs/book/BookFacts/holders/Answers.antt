@@ -1,6 +1,6 @@
 use Rattle.std.proofs.Common.{◌≤◌, ℕ, subst, sym}
 use Rattle.sched_facts.specs.Stored.{facts_of}
-use Rattle.sched_book.proofs.BookLemmas.{holders_few}
+use Rattle.sched_facts.proofs.AnswerLemmas.{holders_few}
 use Rattle.sched_book.proofs.book.BookFacts.holders.Goals as goal
 
 pub few-requires : goal.few-requires
