@@ -59,7 +59,8 @@ impl TaskTable {
         let held_before = KeySet::new(alloc, shape.keys())?;
         let erred_before = KeySet::new(alloc, shape.keys())?;
         let table = FactTable::new(alloc, shape, clients, saturation)?;
-        let mut parts = Parts::new(alloc, table.shape())?;
+        let graph = table.shape();
+        let mut parts = Parts::new(alloc, graph)?;
         begin(&table, &mut parts);
         Ok(TaskTable {
             table,

@@ -15,10 +15,10 @@ begin-requires-clause-opening c =
     e ∙ ap sched_opening (sym (ap (λ (f : Facts). f.setting) e))
 
 pub begin-requires-clause-over : goal.begin-requires-clause-over
-begin-requires-clause-over c = subst (λ (g : Shape). IsOver g c.in_ok-parts.parts.levels) c.shape.ensures c.in_ok-parts.ensures.over
+begin-requires-clause-over c = subst (λ (g : Shape). IsOver g c.in_ok-parts.parts.levels) c.shape-graph.ensures c.in_ok-parts.ensures.over
 
 pub begin-requires-clause-roomy : goal.begin-requires-clause-roomy
-begin-requires-clause-roomy c = subst (λ (g : Shape). IsRoomy (key_count g) c.in_ok-parts.parts) c.shape.ensures c.in_ok-parts.ensures.roomy
+begin-requires-clause-roomy c = subst (λ (g : Shape). IsRoomy (key_count g) c.in_ok-parts.parts) c.shape-graph.ensures c.in_ok-parts.ensures.roomy
 
 pub invariant_of-result : goal.invariant_of-result
 invariant_of-result c =
