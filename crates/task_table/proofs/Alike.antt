@@ -1,16 +1,14 @@
 -- Facts on which the same derived facts rest.
-use Rattle.std.proofs.Common.{◌≡◌, ℕ, ◌+◌, ◌<◌, ◌≤◌, Bool, true, false, ◌&&◌, ◌||◌, ◌==◌, eqb, ltb, cond, not, nat_lt, List, length, Option, Some, None, is_none, is_some, refl, sym, ap, ◌∙◌, subst}
-use Rattle.std.specs.List.{list_any, list_all}
-use Rattle.cluster_msgs.specs.Shape.{Shape, key_count, deps_of}
-use Rattle.cluster_rules.specs.Functions.{from_one, count}
+use Rattle.std.proofs.Common.{◌≡◌, ℕ, ◌<◌, Bool, true, false, ◌&&◌, ◌||◌, ◌==◌, eqb, ltb, not, nat_lt, length, Option, is_none, refl, sym, ap, ◌∙◌, subst}
+use Rattle.std.specs.List.{list_all}
+use Rattle.cluster_msgs.specs.Shape.{key_count, deps_of}
+use Rattle.cluster_rules.specs.Functions.{count}
 use Rattle.cluster_rules.specs.Derived.{err, reach, below, is_in}
-use Rattle.cluster_rules.specs.Sched.{Facts, Setting, IsSound, keys, deps, held, wanted, known, erred, need, ready, fed, open_key, waiters}
-use Rattle.key_sets.specs.Sets.{has}
+use Rattle.cluster_rules.specs.Sched.{Facts, Setting, IsSound, keys, held, wanted, known, erred, need, ready, fed, waiters}
 use Rattle.spread_flags.specs.Spread.{flag, leaders}
-use Rattle.standing.specs.Links.{IsReverse}
 use Rattle.standing.proofs.Unique.{need-waited, ready-by}
 use Rattle.task_table.specs.Tasks.{SameAt, is_root, queued_root, queued_other}
-use Rattle.task_table.specs.Standing.{IsOver, IsSeeded, IsSeededBut, IsDerivedAt, IsStanding, SameLevels, due_gate, is_ready_by, is_queued_by, root_by, other_by}
+use Rattle.task_table.specs.Standing.{IsOver, IsSeeded, IsDerivedAt, SameLevels, is_ready_by}
 use Rattle.task_table.specs.Parts.{IsParts, IsNearly, IsRoomy}
 use Rattle.task_table.specs.declared.levels.Levels.{Levels}
 use Rattle.task_table.specs.declared.parts.Parts.{Parts}

@@ -1,15 +1,14 @@
 -- One change of one fact, with all that follows.
-use Rattle.std.proofs.Common.{◌≡◌, ℕ, ◌+◌, ◌<◌, ◌≤◌, Bool, true, false, ◌&&◌, ◌||◌, eqb, cond, not, nat_lt, List, [], ◌∷◌, ◌++◌, length, Option, Some, None, is_none, is_some, refl, sym, ap, ◌∙◌, subst, arith}
+use Rattle.std.proofs.Common.{◌≡◌, ℕ, ◌+◌, ◌<◌, ◌≤◌, Bool, true, false, ◌||◌, eqb, [], ◌∷◌, Option, Some, None, refl, sym, ap, ◌∙◌, subst, arith}
 use Rattle.std.proofs.lemmas.Bool.{false≢true, eqb-true}
-use Rattle.std.specs.List.{list_any, range_with_len}
+use Rattle.std.specs.List.{list_any}
 use Rattle.cluster_rules.specs.Functions.{from_one}
-use Rattle.cluster_rules.specs.Sched.{Facts, IsSound, keys, held, erred, wanted, holds, connected}
+use Rattle.cluster_rules.specs.Sched.{Facts, IsSound, keys, held, holds}
 use Rattle.cluster_rules.specs.SchedTable.{joined}
 use Rattle.cluster_rules.proofs.DerivedLemmas.{range_more, any_append}
 use Rattle.key_sets.specs.Sets.{has}
-use Rattle.sched_facts.specs.Stored.{facts_of}
 use Rattle.task_table.specs.Changes.{with_change, changed_key, Fits}
-use Rattle.task_table.specs.Tasks.{Tasks, facts, SameAt, IsTouched, IsRemembered}
+use Rattle.task_table.specs.Tasks.{Tasks, SameAt, IsTouched, IsRemembered}
 use Rattle.task_table.specs.Parts.{IsParts, IsNearly, IsFollowed}
 use Rattle.task_table.specs.declared.change.Change.{Change}
 use Rattle.task_table.specs.declared.change.Change.TheVariants.{Want, Unwant, Hold, Lose, Assign, Unassign, Steal, Unsteal, Fail, Forgive, Connect, Disconnect, Send, Fence, Finish}

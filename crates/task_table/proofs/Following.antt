@@ -1,10 +1,10 @@
 -- What a change of one key's facts makes of flags, queues and touched keys.
-use Rattle.std.proofs.Common.{◌≡◌, ℕ, ◌<◌, ◌≤◌, Bool, true, false, ◌&&◌, ◌||◌, eqb, cond, not, nat_lt, List, length, is_none, refl, sym, ap, ◌∙◌, subst, arith, ⊎_elim}
+use Rattle.std.proofs.Common.{◌≡◌, ℕ, ◌<◌, ◌≤◌, Bool, true, false, ◌&&◌, ◌||◌, eqb, cond, not, List, is_none, refl, sym, ap, ◌∙◌, arith, ⊎_elim}
 use Rattle.std.proofs.lemmas.Bool.{false≢true, cases_lt, eqb-true}
 use Rattle.std.proofs.lemmas.Bool.Decides.{nat_tests}
 use Rattle.cluster_rules.specs.Sched.{Facts, keys}
 use Rattle.key_sets.specs.Sets.{has, room}
-use Rattle.spread_flags.specs.Spread.{Spread, IsKept}
+use Rattle.spread_flags.specs.Spread.{IsKept}
 use Rattle.task_table.specs.Tasks.{is_root, queued_root, queued_other}
 use Rattle.task_table.specs.Standing.{IsQuiet, IsStanding, IsDerivedAt, SameFlags, SameWas, SameLinks, SameLevels, IsUntold, root_by, other_by}
 use Rattle.task_table.specs.Parts.{IsParts, IsNearly, IsFollowed, SameRooms}

@@ -1,9 +1,8 @@
 -- What a change of one fact leaves as it was.
-use Rattle.std.proofs.Common.{◌≡◌, ℕ, ◌+◌, ◌<◌, ◌≤◌, Bool, true, false, ◌&&◌, ◌==◌, eqb, cond, not, nat_lt, List, length, Option, Some, None, is_none, is_some, refl, sym, ap, ◌∙◌, subst}
+use Rattle.std.proofs.Common.{◌≡◌, ℕ, ◌+◌, Bool, true, false, ◌&&◌, eqb, cond, Option, Some, None, is_some, refl, sym, ap, ◌∙◌, subst}
 use Rattle.std.specs.List.{list_any}
 use Rattle.cluster_rules.specs.Functions.{put, put_pair, from_one}
-use Rattle.cluster_rules.specs.Sched.{Facts, keys, deps, held, wanted, known, erred, need, ready, fed, open_key, waiters}
-use Rattle.cluster_rules.specs.SchedTable.{joined}
+use Rattle.cluster_rules.specs.Sched.{Facts, held, wanted}
 use Rattle.task_table.specs.Changes.{with_change, changed_key}
 use Rattle.task_table.specs.declared.change.Change.{Change}
 use Rattle.task_table.specs.declared.change.Change.TheVariants.{Want, Unwant, Hold, Lose, Assign, Unassign, Steal, Unsteal, Fail, Forgive, Connect, Disconnect, Send, Fence, Finish}

@@ -1,18 +1,18 @@
 -- The parts of a table at first, and after touched keys were forgotten.
-use Rattle.std.proofs.Common.{◌≡◌, ℕ, ◌<◌, ◌≤◌, Bool, true, false, ◌&&◌, ◌||◌, cond, not, nat_lt, ltb, List, [], ◌∷◌, length, Option, Some, None, is_none, refl, sym, ap, ◌∙◌, subst, arith, ⊎_elim}
+use Rattle.std.proofs.Common.{◌≡◌, ℕ, ◌<◌, ◌≤◌, Bool, true, false, ◌&&◌, cond, not, nat_lt, List, [], ◌∷◌, length, None, is_none, refl, sym, ap, ◌∙◌, subst, arith, ⊎_elim}
 use Rattle.std.proofs.lemmas.Bool.{false≢true, cases_lt}
 use Rattle.std.proofs.lemmas.Bool.Decides.{nat_tests}
 use Rattle.std.specs.List.{list_any}
 use Rattle.cluster_rules.specs.Functions.{from_one}
-use Rattle.cluster_rules.specs.Sched.{Facts, IsSound, keys, wanted, held, known, erred, need, ready, fed, open_key, sched_opening}
+use Rattle.cluster_rules.specs.Sched.{Facts, IsSound, keys, wanted, held, known, erred, ready, fed, open_key, sched_opening}
 use Rattle.cluster_rules.proofs.NothingLemmas.{need-nowhere, held-nowhere, erred-nowhere}
 use Rattle.cluster_rules.proofs.SchedLemmas.{known-past, erred-past, ready-past}
 use Rattle.fact_rows.specs.Rows.{read}
 use Rattle.standing.specs.Links.{IsReverse}
 use Rattle.key_sets.specs.Sets.{has, room}
-use Rattle.spread_flags.specs.Spread.{Spread, seed, gate, flag, size}
-use Rattle.task_table.specs.Tasks.{Tasks, facts, IsRemembered, is_root, queued_root, queued_other}
-use Rattle.task_table.specs.Standing.{IsOver, IsSeeded, IsSeededWhole, IsStanding, IsQuiet, IsBlank}
+use Rattle.spread_flags.specs.Spread.{Spread, seed, flag, size}
+use Rattle.task_table.specs.Tasks.{Tasks, IsRemembered, is_root, queued_root, queued_other}
+use Rattle.task_table.specs.Standing.{IsOver, IsSeededWhole, IsStanding, IsQuiet, IsBlank}
 use Rattle.task_table.specs.Parts.{IsParts, IsRoomy, IsEmpty}
 use Rattle.task_table.specs.declared.levels.Levels.{Levels}
 use Rattle.task_table.specs.declared.parts.Parts.{Parts}

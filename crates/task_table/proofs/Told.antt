@@ -1,11 +1,11 @@
 -- Flags and counts of keys of which nothing is told.
-use Rattle.std.proofs.Common.{◌≡◌, ℕ, ◌<◌, ◌≤◌, Bool, true, false, ◌&&◌, eqb, cond, not, nat_lt, List, [], length, is_none, refl, sym, ap, ◌∙◌, subst, slice_index_or}
+use Rattle.std.proofs.Common.{◌≡◌, ℕ, Bool, true, false, ◌&&◌, cond, not, nat_lt, [], length, is_none, refl, sym, ap, ◌∙◌, slice_index_or}
 use Rattle.fact_rows.specs.Rows.{read}
 use Rattle.cluster_rules.specs.Functions.{count}
 use Rattle.cluster_rules.specs.Derived.{below, is_in}
-use Rattle.cluster_rules.specs.Sched.{Facts, keys}
+use Rattle.cluster_rules.specs.Sched.{Facts}
 use Rattle.key_sets.specs.Sets.{has}
-use Rattle.spread_flags.specs.Spread.{Spread, IsKept, flag, was, leaders, targets, size}
+use Rattle.spread_flags.specs.Spread.{Spread, IsKept, flag, was, leaders, targets}
 use Rattle.task_table.specs.Tasks.{is_root}
 use Rattle.task_table.specs.Standing.{IsQuiet, SameFlags, SameWas, SameLinks, SameLevels, IsUntold, root_by, other_by}
 use Rattle.task_table.specs.declared.levels.Levels.{Levels}

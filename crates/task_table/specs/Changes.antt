@@ -1,5 +1,5 @@
 -- One change of one fact: what it makes of the facts, where it may be made, and the key whose derived facts it can turn.
-use Rattle.std.specs.Prelude.{◌≡◌, ℕ, ◌+◌, ◌<◌, ◌≤◌, ◌^◌, true, false, List, length, Option, Some, None, is_some}
+use Rattle.std.specs.Prelude.{◌≡◌, ℕ, ◌+◌, ◌<◌, ◌≤◌, ◌^◌, true, false, length, Option, Some, None, is_some}
 use Rattle.cluster_rules.specs.Functions.{put, put_pair}
 use Rattle.cluster_rules.specs.Sched.{Facts, keys, connected, workers, holds, is_on}
 use Rattle.cluster_rules.specs.SchedTable.{joined}

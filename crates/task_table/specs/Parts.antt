@@ -1,5 +1,5 @@
 -- The flags, the queues and the touched keys of a table, and what ties them to the facts.
-use Rattle.std.specs.Prelude.{◌≡◌, ℕ, ◌<◌, ◌≤◌, ◌==◌, Bool, true, false, not, ◌&&◌, is_none, List}
+use Rattle.std.specs.Prelude.{◌≡◌, ℕ, ◌<◌, ◌≤◌, ◌==◌, true, false}
 use Rattle.cluster_rules.specs.Sched.{Facts, keys}
 use Rattle.key_sets.specs.Sets.{has, room}
 use Rattle.task_table.specs.Tasks.{queued_root, queued_other}

@@ -1,6 +1,6 @@
 -- Four flags a key, and what ties them to the facts: known, erred, waiting (needed, not held, not erred) and missing (not held).
 use Rattle.std.specs.Prelude.{◌≡◌, ℕ, ◌<◌, ◌==◌, nat_lt, Bool, true, false, not, ◌&&◌, is_none}
-use Rattle.cluster_msgs.specs.Shape.{Shape, key_count}
+use Rattle.cluster_msgs.specs.Shape.{Shape}
 use Rattle.cluster_rules.specs.Derived.{is_in}
 use Rattle.cluster_rules.specs.Sched.{Facts, keys, wanted, held, known, erred, need, open_key, waiters, fed}
 use Rattle.key_sets.specs.Sets.{has}

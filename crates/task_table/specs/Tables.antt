@@ -1,8 +1,8 @@
 -- What a `TaskTable` keeps.
-use Rattle.std.specs.Prelude.{◌≡◌, ℕ, ◌<◌, ◌≤◌, false}
+use Rattle.std.specs.Prelude.{◌≤◌}
 use Rattle.cluster_rules.specs.Sched.{keys}
 use Rattle.sched_facts.specs.Stored.{facts_of}
-use Rattle.key_sets.specs.Sets.{has, room}
+use Rattle.key_sets.specs.Sets.{room}
 use Rattle.task_table.specs.Tasks.{Tasks, IsRemembered}
 use Rattle.task_table.specs.Parts.{IsParts}
 use Rattle.task_table.specs.declared.table.TaskTable.TheInside.{Inside}

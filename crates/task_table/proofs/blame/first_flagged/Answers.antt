@@ -1,5 +1,4 @@
 use Rattle.std.proofs.Common.{ℕ, Option, Some, None, cond, sym, ap, ◌∙◌, get_or, take}
-use Rattle.std.specs.Option.{option_or}
 use Rattle.std.proofs.lemmas.List.{take_more}
 use Rattle.spread_flags.specs.Spread.{flag}
 use Rattle.sched_facts.specs.Derived.{first_some}

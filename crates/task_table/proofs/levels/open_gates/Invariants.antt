@@ -1,4 +1,4 @@
-use Rattle.std.proofs.Common.{◌≡◌, ℕ, ◌-◌, ◌<◌, ◌≤◌, ◌&&◌, not, false}
+use Rattle.std.proofs.Common.{◌≡◌, ℕ, ◌-◌, ◌<◌, ◌≤◌, false}
 use Rattle.key_sets.specs.Sets.{has}
 use Rattle.spread_flags.specs.Spread.{size, gate}
 use Rattle.sched_facts.specs.Stored.{facts_of}

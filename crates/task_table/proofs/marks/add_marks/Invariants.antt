@@ -1,4 +1,4 @@
-use Rattle.std.proofs.Common.{◌≡◌, ℕ, ◌-◌, ◌<◌, ◌≤◌, ◌&&◌, ◌||◌, nat_lt, true}
+use Rattle.std.proofs.Common.{◌≡◌, ℕ, ◌-◌, ◌≤◌, ◌&&◌, ◌||◌, nat_lt}
 use Rattle.key_sets.specs.Sets.{has, room}
 use Rattle.cluster_rules.specs.Sched.{keys}
 use Rattle.sched_facts.specs.Stored.{facts_of}

@@ -1,7 +1,6 @@
-use Rattle.std.proofs.Common.{◌≡◌, ℕ, ◌-◌, ◌<◌, ◌≤◌, ◌&&◌, ◌||◌, nat_lt, true}
-use Rattle.cluster_rules.specs.Derived.{is_in}
+use Rattle.std.proofs.Common.{◌≡◌, ℕ, ◌-◌, ◌≤◌, ◌&&◌, ◌||◌, nat_lt}
 use Rattle.key_sets.specs.Sets.{has, room}
-use Rattle.spread_flags.specs.Spread.{size, targets}
+use Rattle.spread_flags.specs.Spread.{size}
 use Rattle.task_table.proofs.marks.mark_changed.Given as goal
 
 abbrev pub invariant-loop-key : goal.invariant-loop-key

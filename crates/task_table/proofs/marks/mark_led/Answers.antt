@@ -1,4 +1,4 @@
-use Rattle.std.proofs.Common.{◌≡◌, ℕ, ◌||◌, ◌<◌, ◌≤◌, false, true, arith, sym, ap, ◌∙◌, subst, List}
+use Rattle.std.proofs.Common.{◌≡◌, ℕ, ◌||◌, arith, ap, ◌∙◌}
 use Rattle.cluster_rules.specs.Derived.{is_in}
 use Rattle.cluster_rules.proofs.DerivedLemmas.{none_in}
 use Rattle.key_sets.specs.Sets.{has}

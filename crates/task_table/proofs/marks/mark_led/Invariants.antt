@@ -1,4 +1,4 @@
-use Rattle.std.proofs.Common.{◌≡◌, ℕ, ◌-◌, ◌<◌, ◌≤◌, ◌&&◌, ◌||◌, nat_lt, true}
+use Rattle.std.proofs.Common.{◌≡◌, ℕ, ◌-◌, ◌<◌, ◌≤◌, true}
 use Rattle.cluster_rules.specs.Derived.{is_in}
 use Rattle.key_sets.specs.Sets.{has, room}
 use Rattle.spread_flags.specs.Spread.{size, targets}

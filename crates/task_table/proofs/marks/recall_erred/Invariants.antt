@@ -1,7 +1,5 @@
-use Rattle.std.proofs.Common.{◌≡◌, ℕ, ◌-◌, ◌<◌, ◌≤◌, ◌&&◌, nat_lt, cond}
+use Rattle.std.proofs.Common.{◌≡◌, ℕ, ◌-◌, ◌≤◌, ◌&&◌, nat_lt, cond}
 use Rattle.key_sets.specs.Sets.{has, room}
-use Rattle.cluster_rules.specs.Sched.{keys, held}
-use Rattle.sched_facts.specs.Stored.{facts_of}
 use Rattle.spread_flags.specs.Spread.{size, flag}
 use Rattle.task_table.proofs.marks.recall_erred.Given as goal
 

@@ -2,7 +2,7 @@ use Rattle.std.proofs.Common.{◌≡◌, ℕ, ◌≤◌, subst}
 use Rattle.key_sets.specs.Sets.{has}
 use Rattle.sched_facts.specs.Stored.{facts_of}
 use Rattle.task_table.specs.declared.parts.Parts.{Parts}
-use Rattle.task_table.proofs.Following.{IsStep, step_parts, step_followed}
+use Rattle.task_table.proofs.Following.{step_parts, step_followed}
 use Rattle.task_table.proofs.parts.follow.Goals as goal
 
 pub returns-clause-parts : goal.returns-clause-parts

@@ -1,9 +1,9 @@
-use Rattle.std.proofs.Common.{◌≡◌, ℕ, ◌-◌, ◌<◌, ◌≤◌, ◌&&◌, nat_lt, cond}
+use Rattle.std.proofs.Common.{◌≡◌, ℕ, ◌-◌, ◌≤◌, ◌&&◌, nat_lt, cond}
 use Rattle.key_sets.specs.Sets.{has}
 use Rattle.cluster_rules.specs.Sched.{keys}
 use Rattle.sched_facts.specs.Stored.{facts_of}
 use Rattle.task_table.specs.Standing.{root_by, other_by}
-use Rattle.task_table.specs.Parts.{HasRooms, SameRooms}
+use Rattle.task_table.specs.Parts.{SameRooms}
 use Rattle.task_table.proofs.queues.requeue_all.Given as goal
 
 abbrev pub invariant-loop-key : goal.invariant-loop-key

@@ -1,8 +1,8 @@
-use Rattle.std.proofs.Common.{◌≡◌, ℕ, ◌<◌, ◌≤◌, None, Some, refl, sym, ap, ◌∙◌, subst}
-use Rattle.cluster_rules.specs.Sched.{Facts, keys}
-use Rattle.key_sets.specs.Sets.{has, room}
+use Rattle.std.proofs.Common.{◌≡◌, ℕ, ◌<◌, ◌≤◌, refl, sym, ap, ◌∙◌, subst}
+use Rattle.cluster_rules.specs.Sched.{keys}
+use Rattle.key_sets.specs.Sets.{room}
 use Rattle.sched_facts.specs.Stored.{facts_of}
-use Rattle.task_table.specs.Changes.{changed_key, with_change, Fits}
+use Rattle.task_table.specs.Changes.{Fits}
 use Rattle.task_table.specs.Tasks.{Tasks, facts, IsTouched}
 use Rattle.task_table.specs.Tables.{tasks_of}
 use Rattle.task_table.proofs.Applied.{near_after, rest_after, kept_after, grows_after, remembered_after, key_low, same_keys}

@@ -1,4 +1,4 @@
-use Rattle.std.proofs.Common.{ℕ, ◌<◌, sym, ap, ◌∙◌}
+use Rattle.std.proofs.Common.{sym, ap, ◌∙◌}
 use Rattle.cluster_rules.specs.Sched.{blame}
 use Rattle.sched_facts.specs.Stored.{facts_of}
 use Rattle.spread_flags.specs.Spread.{flag}

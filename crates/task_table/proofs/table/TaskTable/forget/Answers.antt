@@ -1,4 +1,4 @@
-use Rattle.std.proofs.Common.{◌≤◌, ℕ, arith}
+use Rattle.std.proofs.Common.{arith}
 use Rattle.sched_facts.specs.Stored.{facts_of}
 use Rattle.spread_flags.specs.Spread.{flag}
 use Rattle.task_table.specs.Tasks.{Tasks}

@@ -1,7 +1,6 @@
 use Rattle.std.proofs.Common.{◌&&◌, ap, ◌∙◌, ltb}
 use Rattle.cluster_rules.specs.Sched.{erred}
 use Rattle.sched_facts.specs.Stored.{facts_of}
-use Rattle.spread_flags.specs.Spread.{flag}
 use Rattle.task_table.specs.Tasks.{Tasks, facts}
 use Rattle.task_table.proofs.Opening.{erred_there}
 use Rattle.task_table.proofs.table.TaskTable.is_erred.Goals as goal

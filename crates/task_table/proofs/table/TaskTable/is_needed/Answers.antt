@@ -1,6 +1,5 @@
-use Rattle.std.proofs.Common.{ℕ, ◌<◌, sym, ap, ◌∙◌, subst}
+use Rattle.std.proofs.Common.{◌<◌, sym, ap, ◌∙◌, subst}
 use Rattle.cluster_rules.specs.Sched.{keys, need}
-use Rattle.sched_facts.specs.Stored.{facts_of}
 use Rattle.task_table.specs.Tasks.{Tasks, facts}
 use Rattle.task_table.proofs.table.TaskTable.is_needed.Goals as goal
 

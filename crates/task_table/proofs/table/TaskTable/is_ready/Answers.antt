@@ -1,4 +1,4 @@
-use Rattle.std.proofs.Common.{ℕ, ◌<◌, ◌≤◌, sym, ap, ◌∙◌, arith}
+use Rattle.std.proofs.Common.{◌<◌, ◌≤◌, sym, ap, ◌∙◌, arith}
 use Rattle.cluster_rules.specs.Sched.{keys, ready}
 use Rattle.cluster_rules.proofs.SchedLemmas.{ready-past}
 use Rattle.sched_facts.specs.Stored.{facts_of}

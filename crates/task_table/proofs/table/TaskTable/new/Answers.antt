@@ -1,6 +1,6 @@
-use Rattle.std.proofs.Common.{◌≡◌, ℕ, ◌≤◌, None, Bool, false, refl, sym, ap, ◌∙◌, subst}
+use Rattle.std.proofs.Common.{◌≡◌, ℕ, ◌≤◌, false, sym, ap, ◌∙◌, subst}
 use Rattle.cluster_msgs.specs.Shape.{Shape, key_count}
-use Rattle.cluster_rules.specs.Sched.{Facts, Setting, keys, sched_opening}
+use Rattle.cluster_rules.specs.Sched.{Facts, keys, sched_opening}
 use Rattle.key_sets.specs.Sets.{has, room}
 use Rattle.sched_facts.specs.Stored.{facts_of}
 use Rattle.task_table.specs.Tasks.{Tasks}
