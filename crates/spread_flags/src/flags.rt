@@ -1,11 +1,9 @@
 //! Flags that spread along links.
-ghost use Rattle.std.specs.Prelude.{◌≡◌, ℕ, ◌+◌, ◌<◌, ◌≤◌, ◌^◌, ◌&&◌, ◌||◌, not, true, false, cond, nat_eq, length, IfOk};
+ghost use Rattle.std.specs.Prelude.{◌≡◌, ℕ, ◌+◌, ◌<◌, false, cond, nat_eq, IfOk};
 ghost use Rattle.std.specs.List.{AllByRecursion};
-ghost use Rattle.fact_rows.specs.Rows.{read};
-ghost use Rattle.cluster_rules.specs.Functions.{put};
 ghost use Rattle.cluster_rules.specs.Derived.{is_in};
-ghost use Rattle.key_sets.specs.Sets.{has, room, IsFirst};
-ghost use Rattle.spread_flags.specs.Spread.{Spread, IsKept, IsLinked, IsSpread, size, targets, seed, gate, flag, due, was, leaders};
+ghost use Rattle.key_sets.specs.Sets.{has, IsFirst};
+ghost use Rattle.spread_flags.specs.Spread.{Spread, IsKept, IsLinked, IsSpread, size, targets, seed, gate, flag, was, leaders};
 
 use crate::turn::{count_turn, mark_all};
 use cluster_msgs::KeyList;

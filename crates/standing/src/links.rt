@@ -1,7 +1,6 @@
 //! The links of keys: down to the dependencies, or up to the dependents.
 ghost use Rattle.std.specs.Prelude.{◌≡◌, ℕ, ◌<◌, [], length, vec_len, IfOk, OnOk, All};
 ghost use Rattle.std.specs.List.Sorted.{IsStrictlyIncreasing};
-ghost use Rattle.cluster_msgs.specs.Shape.{Shape, key_count, deps_of};
 ghost use Rattle.spread_flags.specs.Spread.{IsLinked};
 ghost use Rattle.standing.specs.Links.{IsReverse, linked_to, with_link};
 

@@ -1,7 +1,6 @@
 //! The flags after the facts of some keys changed.
-ghost use Rattle.std.specs.Prelude.{◌≡◌, ℕ, ◌<◌, ◌&&◌, ◌||◌, true, false, not, length, nat_lt};
-ghost use Rattle.cluster_msgs.specs.Shape.{deps_of};
-ghost use Rattle.cluster_rules.specs.Sched.{Facts, keys, deps, held, wanted, known, need, ready, erred, open_key, waiters, fed};
+ghost use Rattle.std.specs.Prelude.{◌≡◌, ℕ, ◌<◌, ◌&&◌, true, not, nat_lt};
+ghost use Rattle.cluster_rules.specs.Sched.{keys, deps, held, wanted, known, need, ready, erred, open_key, waiters, fed};
 ghost use Rattle.sched_facts.specs.Stored.{facts_of};
 ghost use Rattle.spread_flags.specs.Spread.{seed, gate, flag, was, leaders, size};
 ghost use Rattle.standing.specs.Links.{IsReverse};

@@ -1,7 +1,7 @@
 //! The policies' questions.
-ghost use Rattle.std.specs.Prelude.{◌≡◌, ℕ, ◌*◌, ◌<◌, ◌≤◌, ◌||◌, nat_lt, nat_le, unwrap_or};
+ghost use Rattle.std.specs.Prelude.{◌≡◌, ◌*◌, ◌<◌, ◌≤◌, nat_le, unwrap_or};
 ghost use Rattle.std.specs.Option.{option_map};
-ghost use Rattle.cluster_rules.specs.Sched.{keys, need, erred, waiters};
+ghost use Rattle.cluster_rules.specs.Sched.{keys, erred, waiters};
 ghost use Rattle.task_table.specs.Tasks.{facts};
 
 use crate::table::TaskTable;

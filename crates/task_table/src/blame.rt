@@ -1,6 +1,5 @@
 //! What an erred key is blamed on.
-ghost use Rattle.std.specs.Prelude.{◌≡◌, ℕ, ◌<◌, ◌&&◌, not, nat_lt, cond, Some, None};
-ghost use Rattle.cluster_msgs.specs.Shape.{deps_of};
+ghost use Rattle.std.specs.Prelude.{◌≡◌, ◌<◌, nat_lt, cond, Some, None};
 ghost use Rattle.cluster_rules.specs.Sched.{keys};
 ghost use Rattle.sched_facts.specs.Stored.{facts_of};
 ghost use Rattle.spread_flags.specs.Spread.{flag};

@@ -1,12 +1,10 @@
 //! The four flags of each key, which follow the facts.
-ghost use Rattle.std.specs.Prelude.{◌≡◌, ℕ, ◌<◌, ◌&&◌, ◌==◌, true, false, not, cond, IfOk};
-ghost use Rattle.cluster_msgs.specs.Shape.{Shape};
-ghost use Rattle.cluster_rules.specs.Sched.{Facts, keys, held, wanted};
+ghost use Rattle.std.specs.Prelude.{◌≡◌, ℕ, ◌<◌, true, IfOk};
+ghost use Rattle.cluster_rules.specs.Sched.{keys};
 ghost use Rattle.sched_facts.specs.Stored.{facts_of};
-ghost use Rattle.key_sets.specs.Sets.{has};
-ghost use Rattle.spread_flags.specs.Spread.{seed, gate, flag, size};
+ghost use Rattle.spread_flags.specs.Spread.{seed, gate, size};
 ghost use Rattle.standing.specs.Links.{IsReverse};
-ghost use Rattle.task_table.specs.Standing.{IsOver, IsSeeded, IsSeededBut, IsSeededWhole, IsStanding, IsQuiet, IsBlank, IsBlankRow, SameFlags, SameWas, SameLinks, is_ready_by, due_gate, AreDueGates};
+ghost use Rattle.task_table.specs.Standing.{IsOver, IsSeededBut, IsSeededWhole, IsStanding, IsQuiet, IsBlank, IsBlankRow, SameFlags, SameWas, SameLinks, is_ready_by, due_gate, AreDueGates};
 
 use cluster_msgs::GraphShape;
 use sched_facts::FactTable;
