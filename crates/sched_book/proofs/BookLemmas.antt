@@ -1,21 +1,19 @@
 -- Where keys are changes nothing that is derived; a place is connected; placing key by key.
-use Rattle.std.proofs.Common.{◌≡◌, ℕ, ◌+◌, ◌*◌, ◌<◌, ◌≤◌, Bool, true, false, not, cond, ◌&&◌, ◌||◌, List, [], ◌∷◌, Option, Some, None, is_none, refl, sym, ap, ◌∙◌, subst, arith, ⊎_elim, inl, inr, ◌⊎◌, length, unwrap_or}
+use Rattle.std.proofs.Common.{◌≡◌, ℕ, ◌+◌, ◌<◌, ◌≤◌, Bool, true, false, not, cond, ◌&&◌, ◌||◌, List, [], ◌∷◌, Option, Some, None, is_none, refl, sym, ap, ◌∙◌, subst, arith, ⊎_elim, inl, inr, ◌⊎◌, length}
 use Rattle.std.proofs.lemmas.Bool.{false≢true, eqb-true}
 use Rattle.std.proofs.Math.Dec.{eqb}
-use Rattle.std.specs.Prelude.{nat_le, Result, Ok, Err, OnOk, OnErr}
+use Rattle.std.specs.Prelude.{Result, Ok, Err, OnOk, OnErr}
 use Rattle.std.specs.List.{filter, list_any, Contains}
 use Rattle.fact_rows.specs.Rows.{read}
-use Rattle.std.proofs.lemmas.List.FromFn.{length-range_with_len}
-use Rattle.cluster_rules.specs.Functions.{put, count, from_one}
+use Rattle.cluster_rules.specs.Functions.{put}
 use Rattle.cluster_rules.specs.Derived.{below}
 use Rattle.cluster_rules.specs.Choice.{IsLeastOf}
-use Rattle.cluster_rules.specs.Sched.{Setting, Facts, IsSound, keys, deps, holds, held, erred, wanted, known, need, ready, blame, waiters, workers, connected, full, tasks, holder_count, threads_of}
+use Rattle.cluster_rules.specs.Sched.{Setting, Facts, IsSound, keys, deps, holds, held, erred, wanted, known, need, ready, blame, waiters, workers, connected, full}
 use Rattle.cluster_rules.specs.Policies.{place, place_rank, candidates, candidates_by, or_else}
 use Rattle.cluster_rules.specs.SchedStep.{drop_bad, drop_has, drop_on, give, place_one, place_keys, place_all}
 use Rattle.cluster_rules.proofs.ChoiceLemmas.{least_by_least}
 use Rattle.cluster_rules.proofs.Members.{filter_from}
 use Rattle.cluster_rules.proofs.PolicyLemmas.{worker_from}
-use Rattle.cluster_rules.proofs.TotalLemmas.{total-bound}
 use Rattle.cluster_rules.proofs.SchedLemmas.{place_keys-push, below-more, counter-place_one, keys-place_one}
 use Rattle.sched_facts.specs.Derived.{IsDerived, IsSized}
 use Rattle.sched_facts.proofs.DeriveLemmas.{count_few}
@@ -160,24 +158,5 @@ pub waiters_few : (f : Facts) (k : ℕ) → waiters f k ≤ keys f
 unfolding waiters
 waiters_few f k = count_few _ (keys f)
 
-pub threads_few : (f : Facts) (w : ℕ) → IsSound f → threads_of f w ≤ 16
-threads_few f w s = pick (f.threads w) refl
-  where
-    pick : (o : Option ℕ) → f.threads w ≡ o → unwrap_or o 0 ≤ 16
-    pick None e = omega arith
-    pick (Some n) e = (s.threads w n e).1
-
-pub holders_few : (f : Facts) (k : ℕ) → IsSound f → holder_count f k ≤ 32768
-unfolding holder_count
-holders_few f k s = let l : count (λ w. holds f w k) (from_one f.last_worker) ≤ length (from_one f.last_worker) * 1 = total-bound (λ w. cond (holds f w k) 1 0) 1 (from_one f.last_worker) (λ w. one (holds f w k)) in omega (arith, l, length-range_with_len 1 f.last_worker, s.few_numbers)
-  where
-    one : (b : Bool) → cond b 1 0 ≤ 1
-    one true = omega arith
-    one false = omega arith
-
 pub waiters_fit : (f : Facts) (k : ℕ) → IsSound f → waiters f k ≤ 32768
 waiters_fit f k s = omega (arith, waiters_few f k, s.shape.few)
-
-pub full_by : (f : Facts) (w t s n : ℕ) → t ≡ threads_of f w → s ≡ f.setting.saturation → n ≡ tasks f w → nat_le (t * s) (10 * n) ≡ full f w
-unfolding full
-full_by f w t s n a b c = λ i. nat_le (a i * b i) (10 * c i)

@@ -5,3 +5,4 @@ pub mod DeriveLemmas
 pub mod Keeping
 pub mod Rooms
 pub mod Leaving
+pub mod AnswerLemmas

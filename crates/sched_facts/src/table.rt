@@ -424,7 +424,7 @@ impl FactTable {
     }
 
     /// A worker that holds nothing and was given nothing is no longer connected.
-    fn disconnect(&mut self, worker: u32)
+    pub fn disconnect(&mut self, worker: u32)
         requires worker { connected (facts_of self.old) worker ≡ true }
         requires holds { (k : ℕ) → holds (facts_of self.old) worker k ≡ false }
         requires on { (k : ℕ) → is_on (facts_of self.old) worker k ≡ false }

@@ -1,7 +1,7 @@
 use Rattle.std.proofs.Common.{◌≤◌, ℕ, Option, unwrap_or, subst, sym, ap, ◌∙◌}
 use Rattle.cluster_rules.proofs.TotalLemmas.{tasks_fit}
 use Rattle.sched_facts.specs.Stored.{facts_of}
-use Rattle.sched_book.proofs.BookLemmas.{full_by}
+use Rattle.sched_facts.proofs.AnswerLemmas.{full_by}
 use Rattle.sched_book.proofs.book.BookFacts.full.Goals as goal
 
 pub is_full-requires-clause-tasks : goal.is_full-requires-clause-tasks

@@ -1,0 +1,7 @@
+use Rattle.std.proofs.Common.{arith}
+use Rattle.sched_facts.specs.Stored.{facts_of}
+use Rattle.sched_facts.proofs.Rooms.{holders_fit}
+use Rattle.task_table.proofs.answers.TaskTableFacts.holders.Goals as goal
+
+pub few-requires : goal.few-requires
+few-requires c = omega (arith, c.holder_count.ensures, holders_fit (facts_of c.table-table.result.now) c.args.key c.sound.ensures)

@@ -1,0 +1,5 @@
+pub mod Changes
+pub mod Tasks
+pub mod Standing
+pub mod Parts
+pub mod Tables
