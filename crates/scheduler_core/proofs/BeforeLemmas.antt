@@ -14,8 +14,8 @@ use Rattle.cluster_rules.specs.Sched.{Facts, keys}
 use Rattle.cluster_rules.specs.SchedTable.{sched_takes}
 use Rattle.cluster_rules.proofs.DerivedLemmas.{eqb_comm}
 use Rattle.sched_facts.proofs.DeriveLemmas.{any_push}
-use Rattle.sched_book.specs.Effects.{asked_in}
-use Rattle.sched_book.proofs.RowLemmas.{all_there, asks}
+use Rattle.sched_changes.specs.Effects.{asked_in}
+use Rattle.sched_changes.proofs.RowLemmas.{all_there, asks}
 use Rattle.scheduler_core.specs.Before.{asked_list}
 
 -- one more key of a list is taken out

@@ -13,20 +13,20 @@ use Rattle.cluster_rules.specs.Sched.{Setting, Facts, IsSound, keys, workers, he
 use Rattle.cluster_rules.specs.SchedTable.{ask_message, change, sched_takes}
 use Rattle.cluster_rules.specs.SchedStep.{Stages, drop_bad, drop_has, drop_on, place_all, settle, lost, finish_step, sched_step, down_messages}
 use Rattle.cluster_laws.specs.Settled.{IsSettled}
-use Rattle.sched_messages.specs.declared.answer.Answer.{Answer}
-use Rattle.sched_messages.specs.declared.answer.Answer.TheVariants.{Nothing, Refresh, AskBack, Remove}
-use Rattle.sched_messages.specs.Mail.{answer_of, worker_mail}
-use Rattle.sched_messages.specs.Posted.{posted_mail, taken_keys}
-use Rattle.sched_messages.proofs.SentLemmas.{AnswersKey, sent_to_workers, taken_are_keys, few_in_all}
-use Rattle.sched_book.specs.Settling.{let_go}
-use Rattle.sched_book.specs.Effects.{answer_by, asked_in, IsMarked, IsAnswer, IsChange}
+use Rattle.sched_changes.specs.declared.answer.Answer.{Answer}
+use Rattle.sched_changes.specs.declared.answer.Answer.TheVariants.{Nothing, Refresh, AskBack, Remove}
+use Rattle.scheduler_core.specs.Mail.{answer_of, worker_mail}
+use Rattle.scheduler_core.specs.Posted.{posted_mail, taken_keys}
+use Rattle.scheduler_core.proofs.SentLemmas.{AnswersKey, sent_to_workers, taken_are_keys, few_in_all}
+use Rattle.scheduler_core.specs.Settling.{let_go}
+use Rattle.sched_changes.specs.Effects.{answer_by, asked_in, IsMarked, IsAnswer, IsChange}
 use Rattle.scheduler_core.specs.Before.{IsBefore}
 use Rattle.scheduler_core.specs.Sent.{sent_by}
 use Rattle.scheduler_core.specs.Courses.{IsCourse, IsCourseOf, told_by}
 use Rattle.scheduler_core.specs.declared.event.Course.{Course}
 use Rattle.scheduler_core.proofs.Staying.{place_stays}
 use Rattle.scheduler_core.proofs.Messages.{down_same, clients_same, replies_same, posted_same}
-use Rattle.sched_book.proofs.Counting.{IsCounted, counted_change, counted_settled}
+use Rattle.scheduler_core.proofs.Counting.{IsCounted, counted_change, counted_settled}
 
 -- the parts of an event are its course
 pub course_is : (f : Facts) (e : SchedEvent) (h p : Facts) (c : Course) → IsChange f e h c.lost c.effect → p ≡ place_all h → c.since ≡ f.counter → IsBefore f e c.before → IsCourse f e p c

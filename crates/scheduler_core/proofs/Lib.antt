@@ -5,3 +5,10 @@ pub mod CourseLemmas
 pub mod AfterLemmas
 pub mod PhaseLemmas
 pub mod FrontLemmas
+pub mod Counting
+pub mod MailLemmas
+pub mod NewsLemmas
+pub mod PostLemmas
+pub mod SentLemmas
+pub mod RootLemmas
+pub mod BookLemmas

@@ -13,11 +13,11 @@ use Rattle.cluster_rules.specs.Sched.{Setting, Facts, keys, workers, held, erred
 use Rattle.cluster_rules.specs.SchedTable.{Changed, change}
 use Rattle.cluster_rules.specs.SchedStep.{Stages, settle, lost, was_held, was_erred, down_messages, to_worker, free_message, task_messages, all_to, client_message, to_clients, reply_message, client_messages, posted, finish_step, sched_step}
 use Rattle.sched_changes.specs.Pairs.{has_pair}
-use Rattle.sched_messages.specs.declared.answer.Answer.{Answer}
-use Rattle.sched_messages.specs.declared.answer.Answer.TheVariants.{Nothing, Refresh, AskBack, Remove}
-use Rattle.sched_messages.specs.Mail.{answer_of, worker_mail}
-use Rattle.sched_messages.specs.News.{told, client_mail, reply_of}
-use Rattle.sched_messages.specs.Posted.{posted_mail}
+use Rattle.sched_changes.specs.declared.answer.Answer.{Answer}
+use Rattle.sched_changes.specs.declared.answer.Answer.TheVariants.{Nothing, Refresh, AskBack, Remove}
+use Rattle.scheduler_core.specs.Mail.{answer_of, worker_mail}
+use Rattle.scheduler_core.specs.News.{told, client_mail, reply_of}
+use Rattle.scheduler_core.specs.Posted.{posted_mail}
 
 pub down_same : (t : Stages) (ps : List (ℕ × ℕ)) (since : ℕ) (a : Answer) → ((w k : ℕ) → has_pair ps w k ≡ lost t w k) → since ≡ t.before.counter → ((w : ℕ) → answer_of a t.placed w ≡ t.changed.answer t.placed w) → t.placed.setting ≡ t.before.setting → flat_map (worker_mail t.placed ps since a) (workers t.placed) ≡ down_messages t
 unfolding down_messages to_worker worker_mail

@@ -7,7 +7,7 @@ use Rattle.cluster_rules.specs.Sched.{Facts, keys, known, wanted, need, held, er
 use Rattle.cluster_rules.specs.SchedStep.{drop_bad, drop_has, drop_on, place_all}
 use Rattle.cluster_rules.proofs.SchedFrame.{placing_keys}
 use Rattle.cluster_laws.specs.Settled.{IsSettled}
-use Rattle.sched_book.specs.Settling.{let_go}
+use Rattle.scheduler_core.specs.Settling.{let_go}
 
 kept_some : {A : Type 0} (b : Bool) (o : Option A) → (is_some o ≡ true → b ≡ true) → cond b o None ≡ o
 kept_some true o h = refl

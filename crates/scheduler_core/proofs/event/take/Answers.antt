@@ -5,9 +5,9 @@ use Rattle.cluster_msgs.specs.declared.cores.Outbox.{Outbox}
 use Rattle.cluster_rules.specs.Sched.{Facts, keys}
 use Rattle.sched_facts.specs.Stored.{Stored, facts_of}
 use Rattle.sched_facts.specs.Derived.{IsDerived}
-use Rattle.sched_messages.specs.Posted.{taken_keys}
+use Rattle.scheduler_core.specs.Posted.{taken_keys}
 use Rattle.scheduler_core.specs.Courses.{told_by}
-use Rattle.sched_book.proofs.BookLemmas.{setting_posted}
+use Rattle.scheduler_core.proofs.BookLemmas.{setting_posted}
 use Rattle.scheduler_core.proofs.CourseLemmas.{told_is, postable_by, facts_posted, sent_before}
 use Rattle.scheduler_core.proofs.event.take.Goals as goal
 
