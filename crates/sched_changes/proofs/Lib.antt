@@ -1,3 +1,4 @@
+pub mod Following
 pub mod PairLemmas
 pub mod ChangeLemmas
 pub mod Counting

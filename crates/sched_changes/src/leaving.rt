@@ -19,6 +19,7 @@ pub fn leave(table: &mut TaskTable, worker: u32)
     ensures facts { facts table.new ≡ left (facts table.old) worker }
     ensures follows { Follows table.old table.new }
 {
+    table.sound();
     bare(table, worker);
     make(table, Change::Disconnect { worker });
 }
