@@ -12,3 +12,5 @@ pub mod PostLemmas
 pub mod SentLemmas
 pub mod RootLemmas
 pub mod BookLemmas
+pub mod DropLemmas
+pub mod WalkLemmas

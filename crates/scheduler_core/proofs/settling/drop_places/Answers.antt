@@ -1,42 +1,52 @@
-use Rattle.std.proofs.Common.{◌≡◌, ◌<◌, ◌≤◌, ◌&&◌, ◌||◌, ℕ, false, not, cond, subst, sym, ap, ◌∙◌, arith}
+use Rattle.std.proofs.Common.{◌≡◌, ◌<◌, ◌≤◌, ◌+◌, ◌&&◌, ◌||◌, ℕ, Bool, true, false, not, cond, refl, subst, sym, ap, ◌∙◌, arith, is_some}
 use Rattle.std.proofs.Math.Dec.{eqb}
 use Rattle.cluster_rules.specs.Sched.{Facts, keys, ready, is_on, is_for}
-use Rattle.sched_facts.specs.Stored.{facts_of}
+use Rattle.task_table.specs.Tasks.{facts}
 use Rattle.sched_changes.specs.Pairs.{has_pair}
-use Rattle.sched_changes.specs.Dropped.{placed_nowhere}
-use Rattle.sched_changes.proofs.PairLemmas.{after_err, on_none, on_more, on_all, setting_on, same_setting_on, lost_places_more, lost_none, lost_all}
-use Rattle.sched_changes.proofs.drops.drop_places.Goals as goal
+use Rattle.sched_changes.proofs.Following.{follows_self, follows_then}
+use Rattle.scheduler_core.specs.Dropped.{on_below, placed_nowhere}
+use Rattle.scheduler_core.proofs.DropLemmas.{on_none, on_more, on_all, lost_places_more, lost_none, lost_all}
+use Rattle.scheduler_core.proofs.WalkLemmas.{passed, passed_all, on_over, lost_over, ready_on, in_setting, past_all, place_there, is_placed}
+use Rattle.scheduler_core.proofs.settling.drop_places.Goals as goal
 
 pub loop-key-init : goal.loop-key-init
-loop-key-init c = let f = facts_of c.args.table.now in record { facts = on_none (ready f) f; lost = λ w k. lost_none (has_pair c.args.lost.now w k) (is_on f w k) (ready f k) k }
-
-pub drop_place-requires : goal.drop_place-requires
-drop_place-requires c =
-    let f = facts_of c.args.table.now in
-    subst (λ (g : Facts). c.loop-key.key < keys g) (sym c.loop-key.invariant.facts) (subst (λ n. c.loop-key.key < n) (sym (setting_on (ready f) f c.loop-key.key)) (omega (arith, c.keys-key-end.ensures)))
+loop-key-init c = let f = facts c.args.table.now in record { facts = on_none (ready f) f; lost = λ w k. lost_none (has_pair c.args.lost.now w k) (is_on f w k) (ready f k) k; follows = follows_self c.args.table.now; within = omega arith }
 
 pub loop-key-preserved : goal.loop-key-preserved
 loop-key-preserved c =
-    let f = facts_of c.args.table.now in
-    let k = c.loop-key.key in
-    let p : c.test.result ≡ ready f k = c.test.ensures ∙ ap (λ r. r k) c.requires in
+    let s = c.args.table.now in
+    let t = c.loop-key.table in
+    let f = facts s in
+    let key = c.in-Some.key in
+    let n = c.loop-key.from in
+    let i = c.loop-key.invariant in
+    let l : key < keys f = in_setting s t key i.follows c.in-Some.ensures.within in
+    let stays : (k : ℕ) → n ≤ k → k < key → is_some (f.on k) ≡ true → ready f k ≡ true = λ k a b e. c.requires.places k (omega (arith, l, b)) (passed s t n key k i.follows c.in-Some.ensures.first a b) e in
+    let g = i.facts ∙ on_over (ready f) f n key c.sound.ensures c.in-Some.ensures.first.0 stays in
+    let p : ready (facts t) key ≡ ready f key = ap (λ (z : Facts). ready z key) g ∙ ap (λ (r : ℕ → Bool). r key) (ready_on (ready f) f key) in
     record {
-      facts = c.in_ok-drop_place.ensures.facts ∙ ap (λ (g : Facts). placed_nowhere c.test.result g k) c.loop-key.invariant.facts ∙ on_more (ready f) f k c.test.result p;
-      lost = lost_places_more (ready f) f k c.test.result (has_pair c.args.lost.now) (has_pair c.loop-key.lost) (has_pair c.drop_place.new.lost) p c.loop-key.invariant.lost
-          (λ w j. c.in_ok-drop_place.ensures.lost w j ∙ ap (λ (g : Facts). has_pair c.loop-key.lost w j || (is_on g w j && (eqb j k && not c.test.result))) c.loop-key.invariant.facts);
+      facts = c.in_ok-drop_place.ensures.facts ∙ ap (λ (z : Facts). placed_nowhere (ready (facts t) key) z key) g ∙ on_more (ready f) f key (ready (facts t) key) p;
+      lost = lost_places_more (ready f) f key (ready (facts t) key) (has_pair c.args.lost.now) (has_pair c.loop-key.lost) (has_pair c.drop_place.new.lost) p
+          (λ w k. i.lost w k ∙ ap (λ b. has_pair c.args.lost.now w k || b) (lost_over (is_on f w k) (ready f k) k n key c.in-Some.ensures.first.0 (λ a b e. stays k a b (is_placed f w k e))))
+          (λ w j. c.in_ok-drop_place.ensures.lost w j ∙ ap (λ (z : Facts). has_pair c.loop-key.lost w j || (is_on z w j && (eqb j key && not (ready (facts t) key)))) g);
+      follows = follows_then s t c.drop_place.new.table i.follows c.drop_place.ensures.follows;
+      within = omega (arith, l);
     }
 
 pub returns-clause-facts : goal.returns-clause-facts
 returns-clause-facts c =
-    let f = facts_of c.args.table.now in
-    c.loop-key.invariant.facts ∙ on_all f c.loop-key.key c.sound.ensures (omega (arith, c.keys-key-end.ensures))
+    let s = c.args.table.now in
+    let t = c.loop-key.table in
+    let f = facts s in
+    let n = c.loop-key.from in
+    c.loop-key.invariant.facts ∙ on_over (ready f) f n (n + keys f) c.sound.ensures (past_all n (keys f)) (λ k a b e. place_there f k c.sound.ensures e (λ l. c.requires.places k l (passed_all s t n k c.loop-key.invariant.follows c.in-None.ensures.first a) e)) ∙ on_all f (n + keys f) c.sound.ensures (omega arith)
 
 pub returns-clause-lost : goal.returns-clause-lost
 returns-clause-lost c w k =
-    let f = facts_of c.args.table.now in
-    c.loop-key.invariant.lost w k ∙ lost_all (has_pair c.args.lost.now w k) (is_on f w k) (ready f k) k c.loop-key.key (keys f) (omega (arith, c.keys-key-end.ensures)) (λ h. ap (is_for w) (c.sound.ensures.on k h))
-
-pub returns-in_err-drop_place-clause-err : goal.returns-in_err-drop_place-clause-err
-returns-in_err-drop_place-clause-err c =
-    let f = facts_of c.args.table.now in
-    after_err _ _ (c.in_err-drop_place.ensures.err ∙ ap (λ (g : Facts). g.setting) c.loop-key.invariant.facts ∙ same_setting_on (ready f) f c.loop-key.key)
+    let s = c.args.table.now in
+    let t = c.loop-key.table in
+    let f = facts s in
+    let n = c.loop-key.from in
+    c.loop-key.invariant.lost w k
+    ∙ ap (λ b. has_pair c.args.lost.now w k || b) (lost_over (is_on f w k) (ready f k) k n (n + keys f) (past_all n (keys f)) (λ a b e. place_there f k c.sound.ensures (is_placed f w k e) (λ l. c.requires.places k l (passed_all s t n k c.loop-key.invariant.follows c.in-None.ensures.first a) (is_placed f w k e))))
+    ∙ lost_all (has_pair c.args.lost.now w k) (is_on f w k) (ready f k) k (n + keys f) (keys f) (omega arith) (λ h. ap (is_for w) (c.sound.ensures.on k h))

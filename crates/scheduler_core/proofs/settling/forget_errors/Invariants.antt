@@ -1,8 +1,16 @@
-use Rattle.std.proofs.Common.{◌≡◌}
-use Rattle.cluster_rules.specs.Sched.{known}
-use Rattle.sched_facts.specs.Stored.{facts_of}
-use Rattle.sched_changes.specs.Dropped.{bad_below}
-use Rattle.sched_changes.proofs.drops.forget_errors.Given as goal
+use Rattle.std.proofs.Common.{◌≡◌, ◌-◌, ◌≤◌}
+use Rattle.cluster_rules.specs.Sched.{keys, known}
+use Rattle.task_table.specs.Tasks.{facts}
+use Rattle.sched_changes.specs.Follows.{Follows}
+use Rattle.scheduler_core.specs.Dropped.{bad_below}
+use Rattle.scheduler_core.proofs.settling.forget_errors.Given as goal
 
 abbrev pub invariant-loop-key : goal.invariant-loop-key
-invariant-loop-key l = facts_of l.table ≡ bad_below (known (facts_of l.fn.table)) (facts_of l.fn.table) l.key
+invariant-loop-key l = record {
+  facts : facts l.table ≡ bad_below (known (facts l.fn.table)) (facts l.fn.table) l.from;
+  follows : Follows l.fn.table l.table;
+  within : l.from ≤ keys (facts l.fn.table);
+}
+
+abbrev pub decreases-loop-key : goal.decreases-loop-key
+decreases-loop-key l = keys (facts l.fn.table) - l.from
