@@ -1,6 +1,6 @@
 pub mod Staying
 pub mod Messages
-pub mod BeforeLemmas
+pub mod AskedLemmas
 pub mod CourseLemmas
 pub mod AfterLemmas
 pub mod PhaseLemmas
@@ -11,6 +11,6 @@ pub mod NewsLemmas
 pub mod PostLemmas
 pub mod SentLemmas
 pub mod RootLemmas
-pub mod BookLemmas
+pub mod PlacingLemmas
 pub mod DropLemmas
 pub mod WalkLemmas

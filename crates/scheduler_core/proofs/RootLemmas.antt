@@ -10,7 +10,8 @@ use Rattle.cluster_rules.specs.SchedStep.{give, place_one}
 use Rattle.cluster_rules.proofs.SchedLemmas.{keys-place_one, ready-place_one}
 use Rattle.cluster_laws.proofs.Lists.{and_first, and_second}
 use Rattle.cluster_laws.proofs.Placed.{no_candidates, nowhere, nowhere_one, left_alone, left_in_turn}
-use Rattle.scheduler_core.specs.Roots.{is_root, RootsWait}
+use Rattle.task_table.specs.Tasks.{is_root}
+use Rattle.scheduler_core.specs.Roots.{RootsWait}
 
 no_deps : (ds : List ℕ) → (length ds == 0) ≡ true → ds ≡ []
 no_deps ds e = empty ds (is_zero (length ds) e)

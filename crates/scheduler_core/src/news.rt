@@ -38,6 +38,7 @@ pub fn all_news(
     requires { (k : ℕ) → has asked.now k ≡ true → has table.now.touched k ≡ true }
     ensures { IfOk result (λ all. all ≡ all_news (facts table.now) (was_held table.now asked.now) (was_erred table.now asked.now)) }
 {
+    table.remembered();
     let mut all = Sequence::new(alloc);
     let mut from = 0;
     while let Some(key) = next_touched(table, from) {
@@ -66,6 +67,7 @@ fn news_at(table: &TaskTable, asked: &KeySet, key: u32) -> Option<News>
     requires { key < keys (facts table.now) }
     ensures { result ≡ news_of (facts table.now) (was_held table.now asked.now) (was_erred table.now asked.now) key }
 {
+    table.sound();
     let is_asked = asked.contains(key);
     let blame = new_blame(table.blame(key), table.was_erred(key) & !is_asked);
     let other = new_state(table.held(key), table.was_held(key) & !is_asked);

@@ -1,10 +1,10 @@
 //! Ready keys are placed.
-ghost use Rattle.std.specs.Prelude.{◌≡◌, ◌+◌, ◌<◌, ◌^◌, ◌&&◌, not, true, None, Some, is_none, length};
+ghost use Rattle.std.specs.Prelude.{◌≡◌, ◌+◌, ◌<◌, ◌^◌, ◌&&◌, true, None, Some, IfSome, is_none, length};
 ghost use Rattle.cluster_rules.specs.Sched.{keys, ready, connected, workers};
 ghost use Rattle.cluster_rules.specs.Policies.{place};
 ghost use Rattle.cluster_rules.specs.SchedStep.{give, place_one, place_all};
 ghost use Rattle.key_sets.specs.Sets.{IsFirst};
-ghost use Rattle.task_table.specs.Tasks.{facts, is_root, queued_root, queued_other};
+ghost use Rattle.task_table.specs.Tasks.{facts, is_root};
 ghost use Rattle.sched_changes.specs.Follows.{Follows};
 ghost use Rattle.scheduler_core.specs.Roots.{RootsWait, is_due};
 ghost use Rattle.scheduler_core.specs.Firsts.{earlier};
@@ -51,8 +51,10 @@ fn place_queued(table: &mut TaskTable)
 
 /// The first key from this one on that waits for a worker. Keys without dependencies don't count where they wait in vain.
 fn next_due(table: &TaskTable, from: u32, roots_wait: bool) -> Option<u32>
-    ensures { IsFirst (is_due (facts table.now) roots_wait) from result }
+    ensures first { IsFirst (is_due (facts table.now) roots_wait) from result }
+    ensures within { IfSome result (λ k. k < keys (facts table.now)) }
 {
+    table.sound();
     if roots_wait {
         table.first_other(from)
     } else {

@@ -1,11 +1,16 @@
-use Rattle.std.proofs.Common.{false, ◌∙◌, arith}
+use Rattle.std.proofs.Common.{◌≡◌, ◌<◌, ℕ, List, [], false, ◌||◌, take, get_or, refl, sym, ap, ◌∙◌, arith, subst}
 use Rattle.std.proofs.Math.Dec.{eqb}
-use Rattle.fact_rows.specs.Rows.{read}
-use Rattle.scheduler_core.proofs.MailLemmas.{any_more}
+use Rattle.key_sets.specs.Sets.{has, room}
+use Rattle.scheduler_core.proofs.MailLemmas.{any_more, set_mark}
 use Rattle.scheduler_core.proofs.asked.mark_all.Goals as goal
 
+pub insert-requires : goal.insert-requires
+insert-requires c = let h = c.requires c.loop-key.key-index 0 c.loop-key-test.true in omega (arith, h, c.loop-key.invariant.room)
+
 pub loop-key-preserved : goal.loop-key-preserved
-loop-key-preserved c = record {
-  marked = λ k h. any_more (λ d. eqb d k) (read c.args.marks.now false k) (read c.loop-key.marks false k) (read c.mark.new.marks false k) c.args.own.now c.loop-key.key-index 0 c.loop-key-test.true (c.loop-key.invariant.marked k h) (c.mark.ensures.marked k (omega (arith, c.loop-key.invariant.long)));
-  long = c.mark.ensures.length ∙ c.loop-key.invariant.long;
-}
+loop-key-preserved c =
+    let key = get_or c.args.named.now c.loop-key.key-index 0 in
+    record {
+      marked = λ k. any_more (λ d. eqb d k) (has c.args.marks.now k) (has c.loop-key.marks k) (has c.insert.new.self k) c.args.named.now c.loop-key.key-index 0 c.loop-key-test.true (c.loop-key.invariant.marked k) (c.insert.ensures.keys k ∙ set_mark (has c.loop-key.marks) key k);
+      room = c.insert.ensures.room ∙ c.loop-key.invariant.room;
+    }

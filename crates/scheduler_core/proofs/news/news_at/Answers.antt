@@ -1,13 +1,14 @@
-use Rattle.std.proofs.Common.{◌≡◌, false, ap, ◌∙◌}
-use Rattle.cluster_rules.specs.Sched.{blame}
-use Rattle.fact_rows.specs.Rows.{read}
-use Rattle.sched_facts.specs.Stored.{facts_of}
-use Rattle.scheduler_core.proofs.NewsLemmas.{news_is}
+use Rattle.std.proofs.Common.{◌≡◌, ◌&&◌, ap, ◌∙◌}
+use Rattle.task_table.specs.Tasks.{facts}
+use Rattle.scheduler_core.specs.News.{was_held, was_erred}
+use Rattle.scheduler_core.proofs.NewsLemmas.{news_is, was_there}
 use Rattle.scheduler_core.proofs.news.news_at.Goals as goal
 
 pub returns : goal.returns
 returns c =
-    let f = facts_of c.args.table.now in
+    let t = c.args.table.now in
+    let f = facts t in
     let key = c.args.key in
-    let blamed : c.read.result ≡ blame f key = c.read.ensures ∙ ap (λ row. row key) c.requires.is_blamed in
-    rw (c.or.ensures, c.new_blame-blame.ensures, c.new_state-other.ensures, blamed, c.test.ensures, c.is_held.ensures, c.test-2.ensures) (news_is f c.sound.ensures (read c.args.was_held.now false) (read c.args.was_erred.now false) key)
+    let asked = c.args.asked.now in
+    rw (c.or.ensures, c.new_blame-blame.ensures, c.new_state-other.ensures, c.blame.ensures, c.held.ensures, c.was_held.ensures, c.was_erred.ensures, c.contains-is_asked.ensures, was_there t.held_before f asked key c.requires, was_there t.erred_before f asked key c.requires)
+      (news_is f c.sound.ensures (was_held t asked) (was_erred t asked) key)
