@@ -15,7 +15,8 @@ use Rattle.cluster_rules.specs.SchedStep.{Stages, drop_bad, drop_has, drop_on, p
 use Rattle.cluster_laws.specs.Settled.{IsSettled}
 use Rattle.sched_changes.specs.declared.answer.Answer.{Answer}
 use Rattle.sched_changes.specs.declared.answer.Answer.TheVariants.{Nothing, Refresh, AskBack, Remove}
-use Rattle.scheduler_core.specs.Mail.{answer_of, worker_mail}
+use Rattle.sched_changes.specs.Answers.{answer_of}
+use Rattle.scheduler_core.specs.Mail.{worker_mail}
 use Rattle.scheduler_core.specs.Posted.{posted_mail, taken_keys}
 use Rattle.scheduler_core.proofs.SentLemmas.{AnswersKey, sent_to_workers, taken_are_keys, few_in_all}
 use Rattle.scheduler_core.specs.Settling.{let_go}

@@ -1,5 +1,5 @@
 -- Lists of messages, key by key.
-use Rattle.std.proofs.Common.{◌≡◌, ℕ, zero, suc, ◌<◌, ◌≤◌, ◌+◌, Bool, true, false, ◌&&◌, ◌||◌, cond, List, [], ◌∷◌, ◌++◌, Option, Some, None, refl, sym, ap, ◌∙◌, arith, length, get_or, take, append-nil}
+use Rattle.std.proofs.Common.{◌≡◌, ℕ, zero, suc, ◌<◌, ◌≤◌, ◌+◌, Bool, true, false, ◌&&◌, ◌||◌, cond, List, [], ◌∷◌, ◌++◌, Option, Some, None, refl, sym, ap, ◌∙◌, arith, length, get_or, take, append-nil, ltb}
 use Rattle.std.proofs.Math.Dec.{eqb}
 use Rattle.std.specs.Prelude.{nat_le}
 use Rattle.std.specs.List.{filter, filter_map, flat_map, cons_option, list_any, range_with_len}
@@ -14,7 +14,8 @@ use Rattle.cluster_rules.specs.SchedStep.{task_message, task_messages, free_mess
 use Rattle.cluster_rules.proofs.DerivedLemmas.{range_more}
 use Rattle.cluster_rules.proofs.SchedLemmas.{flat_map-append}
 use Rattle.sched_changes.specs.declared.answer.Answer.{Answer}
-use Rattle.scheduler_core.specs.Mail.{has_pair, is_since, lost_by, mail_by, worker_mail, answer_of}
+use Rattle.sched_changes.specs.Answers.{answer_of}
+use Rattle.scheduler_core.specs.Mail.{has_pair, is_since, lost_by, mail_by, worker_mail}
 
 agree_from : (p q : ℕ → Bool) (a n : ℕ) → ((k : ℕ) → a ≤ k → k < a + n → p k ≡ q k) → filter p (range_with_len a n) ≡ filter q (range_with_len a n)
 agree_from p q a zero h = refl
@@ -107,3 +108,53 @@ pub mail_by_pairs : (f : Facts) (lists : List (List ℕ)) (lost : List (ℕ × �
 unfolding mail_by worker_mail
 mail_by_pairs f lists lost since a h =
     flat_map_agree_below (mail_by f (lost_by lists) since a) (worker_mail f lost since a) (connected f) 1 f.last_worker (λ w l. ap (λ (t : ℕ → Bool). free_message w (filter t (below (keys f))) ++ (task_messages f since w ++ all_to w (answer_of a f w))) (λ i k. h w k (omega arith) i))
+
+-- marks below a bound
+pub marked_none : (a l : Bool) (k : ℕ) (ks : List ℕ) → a ≡ (a || (l && is_in k (take 0 ks)))
+marked_none a l k ks = sym (ap (λ ys. a || (l && is_in k ys)) (nothing ks) ∙ flat a l)
+  where
+    nothing : (ys : List ℕ) → take 0 ys ≡ []
+    nothing [] = refl
+    nothing (y ∷ ys) = refl
+
+    flat : (a l : Bool) → (a || (l && false)) ≡ a
+    flat true l = refl
+    flat false true = refl
+    flat false false = refl
+
+pub marked_more : (a o n l p q r : Bool) → o ≡ (a || (l && p)) → n ≡ (o || (l && q)) → r ≡ (p || q) → n ≡ (a || (l && r))
+marked_more a o n l p q r x y z = y ∙ ap (λ b. b || (l && q)) x ∙ turn a l p q ∙ ap (λ b. a || (l && b)) (sym z)
+  where
+    turn : (a l p q : Bool) → ((a || (l && p)) || (l && q)) ≡ (a || (l && (p || q)))
+    turn true l p q = refl
+    turn false true true q = refl
+    turn false true false q = refl
+    turn false false p q = refl
+
+pub mark_there : (row : ℕ → Bool) (key n k : ℕ) → key < n → cond (eqb k key) true (row k) ≡ (row k || (ltb k n && eqb key k))
+mark_there row key n k l = set_mark row key k ∙ ap (λ b. row k || b) (pick (eqb key k) refl)
+  where
+    low : (key k n : ℕ) → key < n → eqb key k ≡ true → ltb k n ≡ true
+    low key k n a b = grind (arith, nat_tests)
+
+    none : (b : Bool) → false ≡ (b && false)
+    none true = refl
+    none false = refl
+
+    pick : (b : Bool) → eqb key k ≡ b → b ≡ (ltb k n && b)
+    pick true e = sym (ap (λ c. c && true) (low key k n l e))
+    pick false e = none (ltb k n)
+
+pub mark_past : (row : ℕ → Bool) (key n k : ℕ) → n ≤ key → row k ≡ (row k || (ltb k n && eqb key k))
+mark_past row key n k l = or_none (row k) ∙ ap (λ b. row k || b) (pick (eqb key k) refl)
+  where
+    high : (key k n : ℕ) → n ≤ key → eqb key k ≡ true → ltb k n ≡ false
+    high key k n a b = grind (arith, nat_tests)
+
+    none : (b : Bool) → false ≡ (b && false)
+    none true = refl
+    none false = refl
+
+    pick : (b : Bool) → eqb key k ≡ b → false ≡ (ltb k n && b)
+    pick true e = sym (ap (λ c. c && true) (high key k n l e))
+    pick false e = none (ltb k n)

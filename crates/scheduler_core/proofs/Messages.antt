@@ -15,7 +15,8 @@ use Rattle.cluster_rules.specs.SchedStep.{Stages, settle, lost, was_held, was_er
 use Rattle.sched_changes.specs.Pairs.{has_pair}
 use Rattle.sched_changes.specs.declared.answer.Answer.{Answer}
 use Rattle.sched_changes.specs.declared.answer.Answer.TheVariants.{Nothing, Refresh, AskBack, Remove}
-use Rattle.scheduler_core.specs.Mail.{answer_of, worker_mail}
+use Rattle.sched_changes.specs.Answers.{answer_of}
+use Rattle.scheduler_core.specs.Mail.{worker_mail}
 use Rattle.scheduler_core.specs.News.{told, client_mail, reply_of}
 use Rattle.scheduler_core.specs.Posted.{posted_mail}
 

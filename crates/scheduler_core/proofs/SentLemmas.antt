@@ -13,7 +13,8 @@ use Rattle.cluster_rules.proofs.InsideSched.{all_flat_map_in}
 use Rattle.cluster_rules.proofs.InsideWorker.{all_filter_in}
 use Rattle.sched_changes.specs.declared.answer.Answer.{Answer}
 use Rattle.sched_changes.specs.declared.answer.Answer.TheVariants.{Nothing, Refresh, AskBack, Remove}
-use Rattle.scheduler_core.specs.Mail.{has_pair, answer_of, worker_mail}
+use Rattle.sched_changes.specs.Answers.{answer_of}
+use Rattle.scheduler_core.specs.Mail.{has_pair, worker_mail}
 use Rattle.scheduler_core.specs.Posted.{taken_keys}
 
 -- the answer takes no key away, or one that is there

@@ -29,7 +29,6 @@ pub record IsCourseOf (s : Stages) (t : Tasks) (c : Course) : Type 0 where
 pub record IsCalm (t : Tasks) (c : Course) : Type 0 where
   pub asked : (k : ℕ) → has c.asked k ≡ true → has t.touched k ≡ true
   pub given : (k : ℕ) → k < keys (facts t) → has t.touched k ≡ false → is_since c.since ((facts t).on k) ≡ false
-  pub lost : (w k : ℕ) → has_pair c.lost w k ≡ true → k < keys (facts t)
 
 -- the event led from s to t, by this course
 pub record IsCourse (s : Tasks) (e : SchedEvent) (t : Tasks) (c : Course) : Type 0 where

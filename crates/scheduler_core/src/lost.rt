@@ -1,11 +1,10 @@
 //! The keys that a worker lost.
-ghost use Rattle.std.specs.Prelude.{◌≡◌, ◌<◌, ◌≤◌, ◌+◌, ◌++◌, ◌∷◌, ◌==◌, ◌&&◌, ◌||◌, [], ℕ, cond, true, All, filter, length, slice_index_or, IfOk, OnOk};
+ghost use Rattle.std.specs.Prelude.{◌≡◌, ◌<◌, ◌≤◌, ◌+◌, ◌++◌, ◌∷◌, ◌==◌, ◌&&◌, ◌||◌, [], ℕ, cond, true, nat_lt, filter, length, slice_index_or, IfOk, OnOk};
 ghost use Rattle.cluster_rules.specs.Derived.{below, is_in};
 ghost use Rattle.cluster_rules.specs.SchedStep.{free_message};
-ghost use Rattle.key_sets.specs.Sets.{has};
+ghost use Rattle.key_sets.specs.Sets.{has, room};
 ghost use Rattle.scheduler_core.specs.Mail.{has_pair, lost_by};
 
-use crate::asked::mark_all;
 use cluster_msgs::{Down, KeyList, Sequence};
 use key_sets::KeySet;
 use std::alloc::{AllocError, Global};
@@ -58,21 +57,41 @@ pub fn own_keys(lists: &[KeyList], worker: u32) -> &[u32]
     lists[worker as usize].as_slice()
 }
 
-/// The keys in the list of a worker's lost keys, ascending and each once. They are below `count`.
+/// The keys below `count` that stand in the list of a worker's lost keys, ascending.
 ///
 /// # Errors
 /// Where no memory is left.
 pub fn lost_keys(alloc: Global, own: &[u32], count: u32) -> Result<KeyList, AllocError>
-    requires few { count ≤ 32768 }
-    requires keys { All (λ k. k < count) own.now }
+    requires { count ≤ 32768 }
     ensures { IfOk result (λ all. all ≡ filter (λ k. is_in k own.now) (below count)) }
 {
     if own.is_empty() {
         return Ok(KeyList::new(alloc));
     }
     let mut marks = KeySet::new(alloc, count)?;
-    mark_all(own, &mut marks);
+    mark_below(own, count, &mut marks);
     marked_keys(alloc, &marks, count)
+}
+
+/// Marks those of the keys that are below `count`.
+fn mark_below(named: &[u32], count: u32, marks: &mut KeySet)
+    requires { count ≤ room marks.old }
+    ensures { (k : ℕ) → has marks.new k ≡ (has marks.old k || (nat_lt k count && is_in k named.now)) }
+{
+    for key in named {
+        mark(*key, count, marks);
+    }
+}
+
+/// Marks the key, where it is below `count`.
+fn mark(key: u32, count: u32, marks: &mut KeySet)
+    requires { count ≤ room marks.old }
+    ensures marked { (k : ℕ) → has marks.new k ≡ (has marks.old k || (nat_lt k count && (key == k))) }
+    ensures room { room marks.new ≡ room marks.old }
+{
+    if key < count {
+        marks.insert(key);
+    }
 }
 
 /// The keys of a set, ascending. They are below `count`.

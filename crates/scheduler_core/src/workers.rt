@@ -1,5 +1,5 @@
 //! What the workers are told.
-ghost use Rattle.std.specs.Prelude.{◌≡◌, ℕ, ◌<◌, ◌++◌, ◌∷◌, ◌==◌, [], true, false, cond, length, OnOk};
+ghost use Rattle.std.specs.Prelude.{◌≡◌, ℕ, ◌<◌, ◌++◌, ◌∷◌, ◌==◌, [], false, cond, length, OnOk};
 ghost use Rattle.std.specs.List.{flat_map};
 ghost use Rattle.cluster_msgs.specs.declared.messages.Down.TheVariants.{RefreshWhoHas, RemoveReplicas};
 ghost use Rattle.cluster_rules.specs.Sched.{keys, connected, workers, who_has};
@@ -9,7 +9,6 @@ ghost use Rattle.sched_facts.specs.Stored.{facts_of};
 ghost use Rattle.key_sets.specs.Sets.{has};
 ghost use Rattle.task_table.specs.Tasks.{facts};
 ghost use Rattle.sched_changes.specs.Answers.{answer_of};
-ghost use Rattle.sched_changes.specs.Pairs.{has_pair};
 ghost use Rattle.scheduler_core.specs.Mail.{is_since, worker_mail, mail_by, lost_by, given_keys};
 
 use crate::copies::who_has;
@@ -50,8 +49,7 @@ pub fn tell_workers(
     answer: Answer,
     out: &mut Sequence<(u32, Down)>,
 ) -> Result<(), AllocError>
-    requires given { (k : ℕ) → k < keys (facts table.now) → has table.now.touched k ≡ false → is_since since ((facts table.now).on k) ≡ false }
-    requires lost { (w k : ℕ) → has_pair lost.now w k ≡ true → k < keys (facts table.now) }
+    requires { (k : ℕ) → k < keys (facts table.now) → has table.now.touched k ≡ false → is_since since ((facts table.now).on k) ≡ false }
     ensures { OnOk result (out.new ≡ out.old ++ flat_map (worker_mail (facts table.now) lost.now since answer) (workers (facts table.now))) }
 {
     let errand = Errand {
@@ -72,7 +70,6 @@ fn tell_each(
 ) -> Result<(), AllocError>
     requires given { errand.now.given ≡ given_keys (facts_of table.now) errand.now.since }
     requires lost { (facts_of table.now).last_worker < length errand.now.lost.items }
-    requires keys { (w k : ℕ) → lost_by errand.now.lost.items w k ≡ true → k < keys (facts_of table.now) }
     ensures { OnOk result (out.new ≡ out.old ++ flat_map (mail_by (facts_of table.now) (lost_by errand.now.lost.items) errand.now.since errand.now.answer) (workers (facts_of table.now))) }
 {
     for before in 0..table.last_worker() {
@@ -91,7 +88,6 @@ fn tell_connected(
 ) -> Result<(), AllocError>
     requires given { errand.now.given ≡ given_keys (facts_of table.now) errand.now.since }
     requires lost { worker < length errand.now.lost.items }
-    requires keys { (w k : ℕ) → lost_by errand.now.lost.items w k ≡ true → k < keys (facts_of table.now) }
     ensures { OnOk result (out.new ≡ out.old ++ cond (connected (facts_of table.now) worker) (mail_by (facts_of table.now) (lost_by errand.now.lost.items) errand.now.since errand.now.answer worker) []) }
 {
     if table.is_connected(worker) {
@@ -110,7 +106,6 @@ fn tell_worker(
 ) -> Result<(), AllocError>
     requires given { errand.now.given ≡ given_keys (facts_of table.now) errand.now.since }
     requires lost { worker < length errand.now.lost.items }
-    requires keys { (w k : ℕ) → lost_by errand.now.lost.items w k ≡ true → k < keys (facts_of table.now) }
     ensures { OnOk result (out.new ≡ out.old ++ mail_by (facts_of table.now) (lost_by errand.now.lost.items) errand.now.since errand.now.answer worker) }
 {
     table.sound();

@@ -19,4 +19,4 @@ loop-key-preserved c =
     }
 
 pub returns : goal.returns
-returns c = c.loop-key.invariant.taken ∙ filter_gap (has c.args.marks.now) c.loop-key.from c.args.count c.loop-key.invariant.within (λ k a b. c.in-None.ensures k a)
+returns c = c.loop-key.invariant.taken ∙ filter_gap (has c.args.marks.now) c.loop-key.from c.args.count c.loop-key.invariant.within (λ k a b. c.in_default.ensures k a)

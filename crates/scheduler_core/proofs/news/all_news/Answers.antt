@@ -31,4 +31,4 @@ returns c =
     let t = c.args.table.now in
     let f = facts t in
     let one = λ (k : ℕ). option_map (λ (x : News). (k, x)) (news_of f (was_held t c.args.asked.now) (was_erred t c.args.asked.now) k) in
-    c.loop-key.invariant.news ∙ filter_map_gap one c.loop-key.from (keys f) c.loop-key.invariant.within (λ k a b. no_news t c.args.asked.now k c.remembered.ensures c.requires b (c.in-None.ensures.first k a))
+    c.loop-key.invariant.news ∙ filter_map_gap one c.loop-key.from (keys f) c.loop-key.invariant.within (λ k a b. no_news t c.args.asked.now k c.remembered.ensures c.requires b (c.in_default.ensures.first k a))

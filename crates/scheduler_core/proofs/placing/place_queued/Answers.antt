@@ -36,4 +36,4 @@ loop-key-preserved c =
 pub returns-clause-facts : goal.returns-clause-facts
 returns-clause-facts c =
     let i = c.loop-key.invariant in
-    due_no_more (facts c.args.table.now) (facts c.loop-key.table) c.loop-key.roots_wait c.loop-key.from i.placed i.within i.roots c.in-None.ensures.first
+    due_no_more (facts c.args.table.now) (facts c.loop-key.table) c.loop-key.roots_wait c.loop-key.from i.placed i.within i.roots c.in_default.ensures.first

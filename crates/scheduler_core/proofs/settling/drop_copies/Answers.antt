@@ -39,7 +39,7 @@ returns-clause-facts c =
     let t = c.loop-key.table in
     let f = facts s in
     let n = c.loop-key.from in
-    c.loop-key.invariant.facts ∙ has_over (need f) f n (n + keys f) (past_all n (keys f)) (λ w k a b e. copy_there f w k c.sound.ensures e (λ l. c.requires.copies w k l (passed_all s t n k c.loop-key.invariant.follows c.in-None.ensures.first a) e)) ∙ has_all f (n + keys f) c.sound.ensures (omega arith)
+    c.loop-key.invariant.facts ∙ has_over (need f) f n (n + keys f) (past_all n (keys f)) (λ w k a b e. copy_there f w k c.sound.ensures e (λ l. c.requires.copies w k l (passed_all s t n k c.loop-key.invariant.follows c.in_default.ensures.first a) e)) ∙ has_all f (n + keys f) c.sound.ensures (omega arith)
 
 pub returns-clause-lost : goal.returns-clause-lost
 returns-clause-lost c w k =
@@ -48,5 +48,5 @@ returns-clause-lost c w k =
     let f = facts s in
     let n = c.loop-key.from in
     c.loop-key.invariant.lost w k
-    ∙ ap (λ b. has_pair c.args.lost.now w k || b) (lost_over (holds f w k) (need f k) k n (n + keys f) (past_all n (keys f)) (λ a b e. copy_there f w k c.sound.ensures e (λ l. c.requires.copies w k l (passed_all s t n k c.loop-key.invariant.follows c.in-None.ensures.first a) e)))
+    ∙ ap (λ b. has_pair c.args.lost.now w k || b) (lost_over (holds f w k) (need f k) k n (n + keys f) (past_all n (keys f)) (λ a b e. copy_there f w k c.sound.ensures e (λ l. c.requires.copies w k l (passed_all s t n k c.loop-key.invariant.follows c.in_default.ensures.first a) e)))
     ∙ lost_all (has_pair c.args.lost.now w k) (holds f w k) (need f k) k (n + keys f) (keys f) (omega arith) (λ h. ap is_some (c.sound.ensures.has w k h))

@@ -31,4 +31,4 @@ returns-clause-facts c =
     let t = c.loop-key.table in
     let f = facts s in
     let n = c.loop-key.from in
-    c.loop-key.invariant.facts ∙ bad_over (known f) f n (n + keys f) (past_all n (keys f)) (λ k a b e. bad_there f k c.sound.ensures e (λ l. c.requires.errors k l (passed_all s t n k c.loop-key.invariant.follows c.in-None.ensures.first a) e)) ∙ bad_all f (n + keys f) c.sound.ensures (omega arith)
+    c.loop-key.invariant.facts ∙ bad_over (known f) f n (n + keys f) (past_all n (keys f)) (λ k a b e. bad_there f k c.sound.ensures e (λ l. c.requires.errors k l (passed_all s t n k c.loop-key.invariant.follows c.in_default.ensures.first a) e)) ∙ bad_all f (n + keys f) c.sound.ensures (omega arith)

@@ -6,10 +6,10 @@ use Rattle.scheduler_core.specs.Dropped.{bad_below}
 use Rattle.scheduler_core.proofs.settling.forget_errors.Given as goal
 
 abbrev pub invariant-loop-key : goal.invariant-loop-key
-invariant-loop-key l = record {
-  facts : facts l.table ≡ bad_below (known (facts l.fn.table)) (facts l.fn.table) l.from;
+invariant-loop-key l = let f = facts l.fn.table in record {
+  facts : facts l.table ≡ bad_below (known f) f l.from;
   follows : Follows l.fn.table l.table;
-  within : l.from ≤ keys (facts l.fn.table);
+  within : l.from ≤ keys f;
 }
 
 abbrev pub decreases-loop-key : goal.decreases-loop-key

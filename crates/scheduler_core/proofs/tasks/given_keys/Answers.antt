@@ -28,4 +28,4 @@ returns c =
     let f = facts c.args.table.now in
     let n = c.loop-key.from in
     let p = λ (k : ℕ). is_since c.args.since (f.on k) in
-    c.loop-key.invariant.given ∙ filter_gap p n (keys f) c.loop-key.invariant.within (λ k a b. c.requires k b (c.in-None.ensures.first k a))
+    c.loop-key.invariant.given ∙ filter_gap p n (keys f) c.loop-key.invariant.within (λ k a b. c.requires k b (c.in_default.ensures.first k a))

@@ -5,7 +5,8 @@ use Rattle.cluster_rules.specs.Derived.{below}
 use Rattle.cluster_rules.specs.Sched.{keys}
 use Rattle.cluster_rules.specs.SchedStep.{free_message, task_messages, all_to}
 use Rattle.sched_facts.specs.Stored.{facts_of}
-use Rattle.scheduler_core.specs.Mail.{mail_by, lost_by, answer_of}
+use Rattle.sched_changes.specs.Answers.{answer_of}
+use Rattle.scheduler_core.specs.Mail.{mail_by, lost_by}
 use Rattle.scheduler_core.proofs.workers.tell_worker.Goals as goal
 
 pub returns : goal.returns
