@@ -1,9 +1,7 @@
 -- Walks over touched keys: of the keys between there is nothing to take away, to place or to tell.
 use Rattle.std.proofs.Common.{◌≡◌, ℕ, zero, suc, ◌+◌, ◌-◌, ◌<◌, ◌≤◌, Bool, true, false, not, cond, ◌&&◌, ◌||◌, List, [], ◌∷◌, ◌++◌, Option, Some, None, is_some, refl, sym, ap, ◌∙◌, subst, arith, ltb, ◌⊎◌, inl, inr, ⊎_elim, append-nil, length}
-use Rattle.std.specs.List.{All, AllByRecursion, filter, filter_map, cons_option, list_any}
-use Rattle.std.proofs.lemmas.List.Elements.{recursion_from_All}
-use Rattle.std.proofs.Math.Dec.{eqb}
-use Rattle.std.proofs.lemmas.Bool.{false≢true, eqb-true, cases_lt}
+use Rattle.std.specs.List.{filter, filter_map, cons_option, list_any}
+use Rattle.std.proofs.lemmas.Bool.{false≢true, cases_lt}
 use Rattle.std.proofs.lemmas.Bool.Decides.{nat_tests}
 use Rattle.cluster_rules.specs.Derived.{below, is_in}
 use Rattle.cluster_rules.specs.Functions.{from_one}
@@ -236,18 +234,3 @@ on_is_some w (Some p) e = refl
 
 pub is_placed : (f : Facts) (w k : ℕ) → is_on f w k ≡ true → is_some (f.on k) ≡ true
 is_placed f w k e = on_is_some w (f.on k) e
-
--- a key of a list whose keys are all below n
-pub in_all : (ks : List ℕ) (n k : ℕ) → All (λ j. j < n) ks → is_in k ks ≡ true → k < n
-in_all ks n k h e = member ks (recursion_from_All (λ j. j < n) ks h) e
-  where
-    here : (j k n : ℕ) → eqb j k ≡ true → j < n → k < n
-    here j k n t l = subst (λ z. z < n) (eqb-true j k t) l
-
-    member : (xs : List ℕ) → AllByRecursion (λ j. j < n) xs → is_in k xs ≡ true → k < n
-    member [] a q = absurd (false≢true q)
-    member (x ∷ xs) a q = pick (eqb x k) refl q
-      where
-        pick : (b : Bool) → eqb x k ≡ b → (b || is_in k xs) ≡ true → k < n
-        pick true t u = here x k n t a.0
-        pick false t u = member xs a.1 u

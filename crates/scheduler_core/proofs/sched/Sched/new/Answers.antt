@@ -7,5 +7,6 @@ use Rattle.scheduler_core.proofs.sched.Sched.new.Goals as goal
 pub invariant_of-result : goal.invariant_of-result
 invariant_of-result c = record {
   limit = omega arith;
-  after = λ e. subst (λ (z : Facts). IsAfter z 0) (sym c.in_ok-book.ensures) (after_opening _);
+  after = λ e. subst (λ (z : Facts). IsAfter z 0) (sym c.in_ok-table.ensures.facts) (after_opening _);
+  untouched = λ e. c.in_ok-table.ensures.touched;
 }
