@@ -41,6 +41,7 @@ fn place_queued(table: &mut TaskTable)
     ensures facts { facts table.new ≡ place_all (facts table.old) }
     ensures follows { Follows table.old table.new }
 {
+    table.sound();
     let mut roots_wait = false;
     let mut from = 0;
     while let Some(key) = next_due(table, from, roots_wait) {

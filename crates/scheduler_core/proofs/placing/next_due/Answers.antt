@@ -15,6 +15,6 @@ returns-then-roots_wait c =
 pub returns-else-roots_wait : goal.returns-else-roots_wait
 returns-else-roots_wait c =
     let f = facts c.args.table.now in
-    let both = first_both (queued_root f) (queued_other f) (is_due f false) c.args.from c.first_root.result c.first_other.result (due_either f) c.first_root.ensures c.first_other.ensures in
+    let both = first_both (queued_root f) (queued_other f) (is_due f false) c.args.from c.first_root.result c.first_other-else-roots_wait.result (due_either f) c.first_root.ensures c.first_other-else-roots_wait.ensures in
     let h : IsFirst (is_due f c.args.roots_wait) c.args.from c.earlier.result = subst (λ (w : Bool). IsFirst (is_due f w) c.args.from c.earlier.result) (sym c.if-roots_wait.false) (subst (IsFirst (is_due f false) c.args.from) (sym c.earlier.ensures) both) in
     record { first = h; within = first_there f c.args.roots_wait c.args.from c.earlier.result c.sound.ensures h }

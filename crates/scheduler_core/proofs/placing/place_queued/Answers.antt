@@ -10,6 +10,12 @@ use Rattle.scheduler_core.proofs.placing.place_queued.Goals as goal
 pub loop-key-init : goal.loop-key-init
 loop-key-init c = record { placed = placed_none (facts c.args.table.now); roots = λ e. absurd (false≢true e); follows = follows_self c.args.table.now; within = omega arith }
 
+pub overflow_add-from : goal.overflow_add-from
+overflow_add-from c =
+    let f = facts c.args.table.now in
+    let l : c.in-Some.key < keys f = in_setting c.args.table.now c.loop-key.table c.in-Some.key c.loop-key.invariant.follows c.in-Some.ensures.within in
+    omega (arith, l, c.sound.ensures.shape.few)
+
 pub take_turn-roots_wait-requires : goal.take_turn-roots_wait-requires
 take_turn-roots_wait-requires c =
     let f = facts c.args.table.now in

@@ -8,5 +8,5 @@ use Rattle.scheduler_core.proofs.placing.place_ready.Goals as goal
 pub returns-else-has_workers : goal.returns-else-has_workers
 returns-else-has_workers c =
     let f = facts c.args.table.now in
-    let e : length (workers f) ≡ 0 = omega (arith, c.if-has_workers.false, c.worker_count.ensures) in
+    let e : length (workers f) ≡ 0 = omega (arith, c.if-has_workers.false, c.worker_count-has_workers.ensures) in
     record { facts = idle_all f e; follows = follows_self c.args.table.now }
