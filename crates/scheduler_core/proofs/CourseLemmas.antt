@@ -55,7 +55,7 @@ among n row p h past k = pick (ltb k n) refl
 
 -- what was so before the event is what the table remembers
 was_so : (s t : Tasks) (e : SchedEvent) (g : Changed) (row : List ℕ) (asked : List ℕ) (p : ℕ → Bool) → Follows s t → g.asked ≡ asked_in e → ((k : ℕ) → has asked k ≡ asked_in e k) → ((k : ℕ) → k < keys (facts s) → has row k ≡ p k) → ((k : ℕ) → keys (facts s) ≤ k → p k ≡ false)
-    → (λ (k : ℕ). (ltb k (keys (facts t)) && has row k) && not (has asked k)) ≡ (λ k. p k && not (g.asked k))
+    → ◌≡◌ {A = ℕ → Bool} (λ k. (ltb k (keys (facts t)) && has row k) && not (has asked k)) (λ k. p k && not (g.asked k))
 was_so s t e g row asked p v q a h past = λ i k. at k i
   where
     at : (k : ℕ) → ((ltb k (keys (facts t)) && has row k) && not (has asked k)) ≡ (p k && not (g.asked k))
@@ -133,7 +133,7 @@ pub sent_settled : (f : Facts) (e : SchedEvent) → sched_takes f e ≡ true →
 sent_settled f e h = (counted_settled f (change f e) (counted_change f e h)).sent
 
 -- what is told is what the step sends
-told_from : Facts → (ℕ → Bool) → (ℕ → Bool) → Course → Outbox
+abbrev told_from : Facts → (ℕ → Bool) → (ℕ → Bool) → Course → Outbox
 told_from g wh we c =
     let ms = client_mail g wh we in
     record {

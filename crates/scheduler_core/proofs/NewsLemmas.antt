@@ -120,8 +120,8 @@ plain_was b a x h l = ap (λ z. (b && x) && not z) h ∙ ap (λ z. (z && x) && t
     keep true = refl
     keep false = refl
 
-pub no_news : (t : Tasks) (asked : List ℕ) (k : ℕ) → IsRemembered (facts t) t → ((j : ℕ) → has asked j ≡ true → has t.touched j ≡ true) → k < keys (facts t) → has t.touched k ≡ false → option_map (λ (n : News). (k, n)) (news_of (facts t) (was_held t asked) (was_erred t asked) k) ≡ None
+pub no_news : (t : Tasks) (asked : List ℕ) (k : ℕ) → IsRemembered (facts t) t → ((j : ℕ) → has asked j ≡ true → has t.touched j ≡ true) → k < keys (facts t) → has t.touched k ≡ false → option_map {U = ℕ × News} (λ n. (k, n)) (news_of (facts t) (was_held t asked) (was_erred t asked) k) ≡ None
 no_news t asked k r a l e =
     let u = not_before (has asked k) (has t.touched k) (a k) e in
     let i = is_low k (keys (facts t)) l in
-    ap (option_map (λ (n : News). (k, n))) (as_it_was (facts t) (was_held t asked) (was_erred t asked) k (plain_was (ltb k (keys (facts t))) (has asked k) (has t.held_before k) u i ∙ r.held k l e) (plain_was (ltb k (keys (facts t))) (has asked k) (has t.erred_before k) u i ∙ r.erred k l e))
+    ap (option_map {U = ℕ × News} (λ n. (k, n))) (as_it_was (facts t) (was_held t asked) (was_erred t asked) k (plain_was (ltb k (keys (facts t))) (has asked k) (has t.held_before k) u i ∙ r.held k l e) (plain_was (ltb k (keys (facts t))) (has asked k) (has t.erred_before k) u i ∙ r.erred k l e))

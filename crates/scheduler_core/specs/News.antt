@@ -51,6 +51,10 @@ message_of f k Lost = LostData k
 unfoldable pub heard : Facts → ℕ → ℕ × News → Option (ℕ × ToClient)
 heard f c n = cond (f.want c n.0) (Some (c, message_of f n.0 n.1)) None
 
+-- the messages of news to all clients, and then the answer to a client
+abbrev pub mail_and_reply : Facts → List (ℕ × News) → Option (ℕ × ℕ) → List (ℕ × ToClient)
+mail_and_reply f ns r = let ms = flat_map (λ c. filter_map (heard f c) ns) (from_one f.setting.clients) in ms ++ reply_of f ms r
+
 -- held or erred when touched keys were last forgotten, but for the keys that were asked for
 abbrev pub was_held : Tasks → List ℕ → ℕ → Bool
 was_held t asked k = (nat_lt k (keys (facts t)) && has t.held_before k) && not (has asked k)

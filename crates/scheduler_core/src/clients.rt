@@ -7,7 +7,7 @@ ghost use Rattle.cluster_rules.specs.Functions.{from_one};
 ghost use Rattle.key_sets.specs.Sets.{has};
 ghost use Rattle.task_table.specs.Tasks.{facts};
 ghost use Rattle.sched_facts.specs.Stored.{facts_of};
-ghost use Rattle.scheduler_core.specs.News.{client_mail, reply_of, heard, message_of, was_held, was_erred};
+ghost use Rattle.scheduler_core.specs.News.{client_mail, reply_of, mail_and_reply, heard, message_of, was_held, was_erred};
 
 use crate::copies::holders;
 use crate::news::{News, all_news};
@@ -36,10 +36,24 @@ pub fn tell_clients(
     requires { (k : ℕ) → has asked.now k ≡ true → has table.now.touched k ≡ true }
     ensures { OnOk result (let mail = client_mail (facts table.now) (was_held table.now asked.now) (was_erred table.now asked.now) in out.new ≡ out.old ++ (mail ++ reply_of (facts table.now) mail reply)) }
 {
-    let start = out.len();
     let news = all_news(alloc, table, asked)?;
-    tell_all(alloc, table.table(), news.as_slice(), out)?;
-    tell_reply(alloc, table.table(), reply, start, out)
+    tell_both(alloc, table.table(), news.as_slice(), reply, out)
+}
+
+/// Appends the news to each client, and then the reply.
+fn tell_both(
+    alloc: Global,
+    table: &FactTable,
+    news: &[(u32, News)],
+    reply: Option<(u32, u32)>,
+    out: &mut Sequence<(u32, ToClient)>,
+) -> Result<(), AllocError>
+    requires { All (λ n. n.0 < keys (facts_of table.now)) news.now }
+    ensures { OnOk result (out.new ≡ out.old ++ mail_and_reply (facts_of table.now) news.now reply) }
+{
+    let start = out.len();
+    tell_all(alloc, table, news, out)?;
+    tell_reply(alloc, table, reply, start, out)
 }
 
 /// Appends the news to each client.

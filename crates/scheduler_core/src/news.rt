@@ -38,6 +38,7 @@ pub fn all_news(
     requires { (k : ℕ) → has asked.now k ≡ true → has table.now.touched k ≡ true }
     ensures { IfOk result (λ all. all ≡ all_news (facts table.now) (was_held table.now asked.now) (was_erred table.now asked.now)) }
 {
+    table.sound();
     table.remembered();
     let mut all = Sequence::new(alloc);
     let mut from = 0;

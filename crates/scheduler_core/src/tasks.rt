@@ -12,6 +12,7 @@ use crate::copies::who_has_deps;
 use crate::lost::push_where;
 use crate::walk::next_touched;
 use cluster_msgs::{Down, KeyList, Sequence};
+use cluster_rules::Facts;
 use sched_changes::asking::place_of;
 use sched_facts::FactTable;
 use std::alloc::{AllocError, Global};
@@ -25,6 +26,7 @@ pub fn given_keys(alloc: Global, table: &TaskTable, since: u64) -> Result<KeyLis
     requires { (k : ℕ) → k < keys (facts table.now) → has table.now.touched k ≡ false → is_since since ((facts table.now).on k) ≡ false }
     ensures { IfOk result (λ all. all ≡ given_keys (facts table.now) since) }
 {
+    table.sound();
     let mut all = KeyList::new(alloc);
     let mut from = 0;
     while let Some(key) = next_touched(table, from) {

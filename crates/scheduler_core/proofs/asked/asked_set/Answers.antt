@@ -12,8 +12,8 @@ room_for-requires c =
     let f = facts c.args.table.now in
     subst (λ (n : ℕ). All (λ k. k < n) c.asked_keys-asked.result.now) (sym c.keys.ensures) (subst (λ (ks : List ℕ). All (λ k. k < keys f) ks) (sym c.asked_keys-asked.ensures) (asked_there f c.args.event.now c.requires))
 
-pub new-set-requires : goal.new-set-requires
-new-set-requires c = omega (arith, c.room_for.ensures.few, c.keys.ensures, c.sound.ensures.shape.few)
+pub new-requires : goal.new-requires
+new-requires c = omega (arith, c.room_for.ensures.few, c.keys.ensures, c.sound.ensures.shape.few)
 
 pub mark_all-requires : goal.mark_all-requires
 mark_all-requires c i d l = let h = c.room_for.ensures.room i d l in omega (arith, h, c.in_ok-set.ensures.room)

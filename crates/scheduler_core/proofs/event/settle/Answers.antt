@@ -13,8 +13,8 @@ use Rattle.scheduler_core.proofs.event.settle.Goals as goal
 less_room : (a n : ℕ) → a + 2 * n < 2 ^ 62 → a + n < 2 ^ 62
 less_room a n h = omega arith
 
-pub apply-effect-requires-clause-room : goal.apply-effect-requires-clause-room
-apply-effect-requires-clause-room c = let f = facts c.args.table.now in less_room f.counter (keys f) c.requires.room
+pub apply-requires-clause-room : goal.apply-requires-clause-room
+apply-requires-clause-room c = let f = facts c.args.table.now in less_room f.counter (keys f) c.requires.room
 
 pub let_go-requires : goal.let_go-requires
 let_go-requires c = tidy_settled c.args.table.now c.apply.new.table c.requires.settled c.requires.untouched c.apply.ensures.follows
