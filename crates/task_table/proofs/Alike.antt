@@ -112,7 +112,7 @@ parts_alike f g p a h = record {
 }
 
 -- ready, by the flags
-ready_flags : (f : Facts) (l : Levels) (k : ℕ) → IsDerivedAt f l k → is_ready_by l k ≡ ready f k
+pub ready_flags : (f : Facts) (l : Levels) (k : ℕ) → IsDerivedAt f l k → is_ready_by l k ≡ ready f k
 ready_flags f l k d = ready-by f k (flag l.waiting k) (nat_lt 0 (leaders l.missing k)) d.waiting d.fed
 
 -- near another key the parts are those of the facts, but for the key

@@ -37,11 +37,11 @@ unfolding held
 held_by f has k e = ap (λ (p : ℕ → Bool). list_any p (from_one f.last_worker)) (λ i w. is_some (e w i))
 
 -- fields that wanted and held do not rest on
-wanted_same : (f g : Facts) → g.want ≡ f.want → g.setting ≡ f.setting → (k : ℕ) → wanted g k ≡ wanted f k
+pub wanted_same : (f g : Facts) → g.want ≡ f.want → g.setting ≡ f.setting → (k : ℕ) → wanted g k ≡ wanted f k
 unfolding wanted
 wanted_same f g e s k = λ i. list_any (λ c. e i c k) (from_one (s i).clients)
 
-held_same : (f g : Facts) → g.has ≡ f.has → g.last_worker ≡ f.last_worker → (k : ℕ) → held g k ≡ held f k
+pub held_same : (f g : Facts) → g.has ≡ f.has → g.last_worker ≡ f.last_worker → (k : ℕ) → held g k ≡ held f k
 unfolding held
 held_same f g e s k = λ i. list_any (λ w. is_some (e i w k)) (from_one (s i))
 
@@ -89,19 +89,23 @@ near_bad f key b = record {
   want = λ c k e. refl;
 }
 
-the_key : (a b : ℕ) → Some a ≡ Some b → a ≡ b
+pub the_key : (a b : ℕ) → Some a ≡ Some b → a ≡ b
 the_key a b e = ap (λ (o : Option ℕ). key_or o) e
   where
     key_or : Option ℕ → ℕ
     key_or None = a
     key_or (Some x) = x
 
-no_key : {A : Type 0} (b : ℕ) → ◌≡◌ {A = Option ℕ} None (Some b) → A
+pub no_key : {A : Type 0} (b : ℕ) → ◌≡◌ {A = Option ℕ} None (Some b) → A
 no_key {A} b e = subst (λ (o : Option ℕ). is_there o) e tt
   where
     is_there : Option ℕ → Type 0
     is_there None = Unit
     is_there (Some x) = A
+
+-- a key is not none
+pub some_key : {A : Type 0} (b : ℕ) → ◌≡◌ {A = Option ℕ} (Some b) None → A
+some_key {A} b e = no_key b (sym e)
 
 pub near_change : (f : Facts) (c : Change) (key : ℕ) → changed_key c ≡ Some key → IsNear f (with_change f c) key
 near_change f (Want c k) key e = subst (λ (q : ℕ). IsNear f (with_change f (Want c k)) q) (the_key k key e) (near_want f c k true)

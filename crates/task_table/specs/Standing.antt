@@ -86,6 +86,13 @@ pub record SameFlags (l m : Levels) : Type 0 where
   pub waiting_changed : m.waiting.changed ≡ l.waiting.changed
   pub missing_changed : m.missing.changed ≡ l.missing.changed
 
+-- the links are the same in m as in l
+pub record SameLinks (l m : Levels) : Type 0 where
+  pub known : m.known.links ≡ l.known.links
+  pub erred : m.erred.links ≡ l.erred.links
+  pub waiting : m.waiting.links ≡ l.waiting.links
+  pub missing : m.missing.links ≡ l.missing.links
+
 -- the flags that changes are told from are the same in m as in l
 pub record SameWas (l m : Levels) : Type 0 where
   pub known : (k : ℕ) → was m.known k ≡ was l.known k

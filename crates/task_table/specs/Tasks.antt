@@ -1,7 +1,8 @@
 -- What callers see of a table of tasks.
-use Rattle.std.specs.Prelude.{◌≡◌, ℕ, ◌<◌, ◌==◌, Bool, true, false, not, ◌&&◌, List, length, is_none}
+use Rattle.std.specs.Prelude.{◌≡◌, ℕ, ◌<◌, ◌==◌, Bool, true, false, not, ◌&&◌, List, length, is_none, Option, Some, None, cond}
 use Rattle.cluster_rules.specs.Sched.{Facts, keys, deps, known, erred, need, held, ready, fed, waiters}
 use Rattle.sched_facts.specs.Stored.{Stored, facts_of}
+use Rattle.sched_facts.specs.Derived.{first_some}
 use Rattle.key_sets.specs.Sets.{has}
 
 -- the stored facts; the keys that were touched, and the keys that were held and erred, when touched keys were last forgotten
@@ -56,3 +57,15 @@ pub record IsRemembered (f : Facts) (t : Tasks) : Type 0 where
   pub within : (k : ℕ) → has t.touched k ≡ true → k < keys f
   pub held : (k : ℕ) → k < keys f → has t.touched k ≡ false → has t.held_before k ≡ held f k
   pub erred : (k : ℕ) → k < keys f → has t.touched k ≡ false → has t.erred_before k ≡ erred f k
+
+-- a key that is erred and bad is blamed on itself
+abbrev pub own_blame : Facts → ℕ → Option ℕ
+own_blame f k = cond (erred f k) (cond (f.bad k) (Some k) None) None
+
+-- the first key that passes
+abbrev pub first_where : (ℕ → Bool) → List ℕ → Option ℕ
+first_where p ks = first_some (λ k. cond (p k) (Some k) None) ks
+
+-- by these erred keys, the dependency that an erred key is blamed through
+abbrev pub next_blamed : Facts → (ℕ → Bool) → ℕ → Option ℕ
+next_blamed f p k = cond (p k && not (f.bad k)) (first_where p (deps f k)) None

@@ -6,7 +6,7 @@ ghost use Rattle.sched_facts.specs.Stored.{facts_of};
 ghost use Rattle.key_sets.specs.Sets.{has};
 ghost use Rattle.spread_flags.specs.Spread.{seed, gate, flag, size};
 ghost use Rattle.standing.specs.Links.{IsReverse};
-ghost use Rattle.task_table.specs.Standing.{IsOver, IsSeeded, IsSeededBut, IsSeededWhole, IsStanding, IsQuiet, IsBlank, SameFlags, SameWas, is_ready_by, due_gate};
+ghost use Rattle.task_table.specs.Standing.{IsOver, IsSeeded, IsSeededBut, IsSeededWhole, IsStanding, IsQuiet, IsBlank, SameFlags, SameWas, SameLinks, is_ready_by, due_gate};
 
 use cluster_msgs::GraphShape;
 use sched_facts::FactTable;
@@ -55,6 +55,7 @@ pub fn note(table: &FactTable, levels: &mut Levels, key: u32)
     requires near { IsSeededBut (facts_of table.now) levels.old key }
     ensures seeded { IsSeededWhole (facts_of table.now) levels.new }
     ensures flags { SameFlags levels.old levels.new }
+    ensures links { SameLinks levels.old levels.new }
 {
     table.sound();
     let is_wanted = table.is_wanted(key);
@@ -77,6 +78,7 @@ pub fn settle(table: &FactTable, levels: &mut Levels)
     requires quiet { IsQuiet levels.old }
     ensures standing { IsStanding (facts_of table.now) levels.new }
     ensures was { SameWas levels.old levels.new }
+    ensures links { SameLinks levels.old levels.new }
 {
     settle_known(table, &mut levels.known);
     settle_erred(table, &mut levels.erred);

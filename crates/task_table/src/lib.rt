@@ -8,6 +8,7 @@
 #![tactic(auto)]
 
 mod answers;
+mod blame;
 mod change;
 mod levels;
 mod marks;

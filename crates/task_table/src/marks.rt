@@ -1,12 +1,15 @@
 //! The keys whose flags or counts changed.
-ghost use Rattle.std.specs.Prelude.{◌≡◌, ℕ, ◌<◌, ◌≤◌, ◌||◌, true, false};
+ghost use Rattle.std.specs.Prelude.{◌≡◌, ℕ, ◌<◌, ◌≤◌, ◌||◌, true, false, cond};
 ghost use Rattle.cluster_rules.specs.Derived.{is_in};
+ghost use Rattle.cluster_rules.specs.Sched.{keys, held};
+ghost use Rattle.sched_facts.specs.Stored.{facts_of};
 ghost use Rattle.key_sets.specs.Sets.{has, room};
-ghost use Rattle.spread_flags.specs.Spread.{size, targets};
+ghost use Rattle.spread_flags.specs.Spread.{size, flag, targets};
 ghost use Rattle.task_table.specs.Standing.{IsUntold, IsWide};
 
 use crate::levels::Levels;
 use key_sets::KeySet;
+use sched_facts::FactTable;
 use spread_flags::Flags;
 use spread_flags::turn::mark_all;
 
@@ -61,15 +64,47 @@ pub fn mark_levels(levels: &Levels, marks: &mut KeySet, count: u32)
     mark_led(&levels.missing, marks);
 }
 
-/// All keys of one set are added to another.
-pub fn add_marks(marks: &KeySet, all: &mut KeySet)
-    requires { (k : ℕ) → has marks.now k ≡ true → k < room all.old }
-    ensures added { (k : ℕ) → has all.new k ≡ (has all.old k || has marks.now k) }
-    ensures room { room all.new ≡ room all.old }
+/// The marked keys are added to a set.
+pub fn add_marks(table: &FactTable, marks: &KeySet, whole: &mut KeySet)
+    requires marks { (k : ℕ) → has marks.now k ≡ true → k < keys (facts_of table.now) }
+    requires room { keys (facts_of table.now) ≤ room whole.old }
+    ensures added { (k : ℕ) → has whole.new k ≡ (has whole.old k || has marks.now k) }
+    ensures room { room whole.new ≡ room whole.old }
 {
+    table.sound();
     let mut from = 0;
     while let Some(key) = marks.first_from(from) {
-        all.insert(key);
+        whole.insert(key);
+        from = key + 1;
+    }
+}
+
+/// Each touched key is in the set exactly where it is held.
+pub fn recall_held(table: &FactTable, touched: &KeySet, before: &mut KeySet)
+    requires touched { (k : ℕ) → has touched.now k ≡ true → k < keys (facts_of table.now) }
+    requires room { keys (facts_of table.now) ≤ room before.old }
+    ensures held { (k : ℕ) → has before.new k ≡ cond (has touched.now k) (held (facts_of table.now) k) (has before.old k) }
+    ensures room { room before.new ≡ room before.old }
+{
+    table.sound();
+    let mut from = 0;
+    while let Some(key) = touched.first_from(from) {
+        before.put(key, table.is_held(key));
+        from = key + 1;
+    }
+}
+
+/// Each touched key is in the set exactly where it is flagged.
+pub fn recall_erred(flags: &Flags, touched: &KeySet, before: &mut KeySet)
+    requires touched { (k : ℕ) → has touched.now k ≡ true → k < size flags.now }
+    requires room { size flags.now ≤ room before.old }
+    ensures flagged { (k : ℕ) → has before.new k ≡ cond (has touched.now k) (flag flags.now k) (has before.old k) }
+    ensures room { room before.new ≡ room before.old }
+{
+    flags.sound();
+    let mut from = 0;
+    while let Some(key) = touched.first_from(from) {
+        before.put(key, flags.is_set(key));
         from = key + 1;
     }
 }

@@ -1,5 +1,5 @@
 //! What follows the facts: flags, queues and touched keys.
-ghost use Rattle.std.specs.Prelude.{◌≡◌, ◌<◌, IfOk};
+ghost use Rattle.std.specs.Prelude.{◌≡◌, ℕ, ◌<◌, Some, None, IfOk};
 ghost use Rattle.cluster_msgs.specs.Shape.{key_count};
 ghost use Rattle.cluster_rules.specs.Sched.{keys, sched_opening};
 ghost use Rattle.sched_facts.specs.Stored.{facts_of};
@@ -58,14 +58,33 @@ pub fn follow(table: &FactTable, parts: &mut Parts, key: u32)
     ensures followed { IsFollowed (keys (facts_of table.now)) parts.old parts.new key }
 {
     table.sound();
+    parts.levels.waiting.sound();
+    parts.levels.missing.sound();
     note(table, &mut parts.levels, key);
     settle(table, &mut parts.levels);
+    parts.levels.waiting.sound();
+    parts.levels.missing.sound();
     parts.marks.insert(key);
     mark_levels(&parts.levels, &mut parts.marks, table.keys());
     requeue_all(table, &parts.levels, &mut parts.queues, &parts.marks);
-    add_marks(&parts.marks, &mut parts.touched);
+    add_marks(table, &parts.marks, &mut parts.touched);
     parts.marks.clear();
     forget_changes(table, &mut parts.levels);
+}
+
+/// The same, where the change is about a key at all.
+pub fn follow_any(table: &FactTable, parts: &mut Parts, key: Option<u32>)
+    requires low { (k : ℕ) → key ≡ Some k → k < keys (facts_of table.now) }
+    requires near { (k : ℕ) → key ≡ Some k → IsNearly (facts_of table.now) parts.old k }
+    requires rest { key ≡ None → IsParts (facts_of table.now) parts.old }
+    ensures parts { IsParts (facts_of table.now) parts.new }
+    ensures followed { (k : ℕ) → key ≡ Some k → IsFollowed (keys (facts_of table.now)) parts.old parts.new k }
+    ensures same { key ≡ None → parts.new ≡ parts.old }
+{
+    match key {
+        Some(key) => follow(table, parts, key),
+        None => {}
+    }
 }
 
 /// The parts say what is derived of the opening facts.

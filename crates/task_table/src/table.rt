@@ -1,13 +1,15 @@
 //! The scheduler's facts with what is derived from them.
-ghost use Rattle.std.specs.Prelude.{◌≡◌, ℕ, ◌<◌, ◌≤◌, ◌==◌, ◌&&◌, not, cond, true, false, None, Some, IfOk, OnOk};
+ghost use Rattle.std.specs.Prelude.{◌≡◌, ℕ, ◌<◌, ◌≤◌, true, false, None, Some, IfOk, OnOk};
 ghost use Rattle.cluster_rules.specs.Sched.{sched_opening, keys, erred, known, need, ready, fed, waiters, blame};
-ghost use Rattle.key_sets.specs.Sets.{has, room, IsFirst};
+ghost use Rattle.key_sets.specs.Sets.{has, IsFirst};
 ghost use Rattle.task_table.specs.Changes.{with_change, Fits, changed_key};
-ghost use Rattle.task_table.specs.Tasks.{facts, IsTouched, IsRemembered, queued_root, queued_other};
+ghost use Rattle.task_table.specs.Tasks.{facts, IsTouched, IsRemembered, own_blame, queued_root, queued_other};
 
+use crate::blame::{blame_by, blame_through};
 use crate::change::{Change, key_of, put};
 use crate::levels::is_ready_by;
-use crate::parts::{Parts, begin, follow};
+use crate::marks::{recall_erred, recall_held};
+use crate::parts::{Parts, begin, follow_any};
 use cluster_msgs::GraphShape;
 use key_sets::KeySet;
 use sched_facts::FactTable;
@@ -101,10 +103,8 @@ impl TaskTable {
     {
         self.table.sound();
         put(&mut self.table, change);
-        match key_of(change) {
-            Some(key) => follow(&self.table, &mut self.parts, key),
-            None => {}
-        }
+        self.table.sound();
+        follow_any(&self.table, &mut self.parts, key_of(change));
     }
 
     /// No key is touched any more; what is held and erred now is what was so before.
@@ -113,16 +113,12 @@ impl TaskTable {
         ensures touched { (k : ℕ) → has self.new.touched k ≡ false }
     {
         self.table.sound();
-        let mut from = 0;
-        while let Some(key) = self.parts.touched.first_from(from) {
-            remember(&mut self.held_before, key, self.table.is_held(key));
-            remember(
-                &mut self.erred_before,
-                key,
-                self.parts.levels.erred.is_set(key),
-            );
-            from = key + 1;
-        }
+        recall_held(&self.table, &self.parts.touched, &mut self.held_before);
+        recall_erred(
+            &self.parts.levels.erred,
+            &self.parts.touched,
+            &mut self.erred_before,
+        );
         self.parts.touched.clear();
     }
 
@@ -151,6 +147,7 @@ impl TaskTable {
     pub fn first_root(&self, from: u32) -> Option<u32>
         ensures { IsFirst (queued_root (facts self.now)) from result }
     {
+        self.table.sound();
         self.parts.queues.roots.first_from(from)
     }
 
@@ -158,6 +155,7 @@ impl TaskTable {
     pub fn first_other(&self, from: u32) -> Option<u32>
         ensures { IsFirst (queued_other (facts self.now)) from result }
     {
+        self.table.sound();
         self.parts.queues.others.first_from(from)
     }
 
@@ -165,21 +163,30 @@ impl TaskTable {
     pub fn is_known(&self, key: u32) -> bool
         ensures { result ≡ known (facts self.now) key }
     {
-        self.parts.levels.known.is_set(key)
-    }
-
-    /// Whether the key is ready. Where there is no such key it is not.
-    pub fn is_ready(&self, key: u32) -> bool
-        ensures { result ≡ ready (facts self.now) key }
-    {
-        (key < self.table.keys()) && is_ready_by(&self.parts.levels, key)
+        self.table.sound();
+        let is_there = key < self.table.keys();
+        is_there & self.parts.levels.known.is_set(key)
     }
 
     /// Whether the key is erred. Where there is no such key it is not.
     pub fn is_erred(&self, key: u32) -> bool
         ensures { result ≡ erred (facts self.now) key }
     {
-        self.parts.levels.erred.is_set(key)
+        self.table.sound();
+        let is_there = key < self.table.keys();
+        is_there & self.parts.levels.erred.is_set(key)
+    }
+
+    /// Whether the key is ready. Where there is no such key it is not.
+    pub fn is_ready(&self, key: u32) -> bool
+        ensures { result ≡ ready (facts self.now) key }
+    {
+        self.table.sound();
+        if key < self.table.keys() {
+            is_ready_by(&self.parts.levels, key)
+        } else {
+            false
+        }
     }
 
     /// Whether the key is needed.
@@ -206,61 +213,31 @@ impl TaskTable {
         self.parts.levels.missing.leaders(key) == 0
     }
 
-    /// The key that an erred key is blamed on. A key that is not erred has none.
+    /// The key that an erred key is blamed on. A key that is not erred has none. It walks down the dependencies.
     pub fn blame(&self, key: u32) -> Option<u32>
         ensures { result ≡ blame (facts self.now) key }
     {
         let mut at = key;
-        while self.passes_blame(at) {
-            at = self.first_erred(at);
+        while let Some(next) = self.blame_next(at) {
+            at = next;
         }
         self.own_blame(at)
     }
 
-    /// Whether the key is erred and has no error of its own.
-    fn passes_blame(&self, key: u32) -> bool
-        ensures { result ≡ (erred (facts self.now) key && not ((facts self.now).bad key)) }
+    /// The dependency that is blamed for the same, where the key is erred without an error of its own.
+    fn blame_next(&self, key: u32) -> Option<u32>
+        ensures below { (d : ℕ) → result ≡ Some d → d < key }
+        ensures same { (d : ℕ) → result ≡ Some d → blame (facts self.now) d ≡ blame (facts self.now) key }
+        ensures own { result ≡ None → blame (facts self.now) key ≡ own_blame (facts self.now) key }
     {
-        let is_erred = self.parts.levels.erred.is_set(key);
-        is_erred & !self.table.is_bad(key)
+        self.table.sound();
+        blame_through(&self.table, &self.parts.levels.erred, key)
     }
 
-    /// The first erred dependency of an erred key that has no error of its own. It is blamed on the same.
-    fn first_erred(&self, key: u32) -> u32
-        requires { (erred (facts self.now) key && not ((facts self.now).bad key)) ≡ true }
-        ensures below { result < key }
-        ensures blame { blame (facts self.now) result ≡ blame (facts self.now) key }
-    {
-        for dependency in self.table.shape().deps(key) {
-            if self.parts.levels.erred.is_set(*dependency) {
-                return *dependency;
-            }
-        }
-        key
-    }
-
-    /// What a key is blamed on that has an error of its own or is not erred.
+    /// What a key is blamed on by itself.
     fn own_blame(&self, key: u32) -> Option<u32>
-        requires { (erred (facts self.now) key && not ((facts self.now).bad key)) ≡ false }
-        ensures { result ≡ blame (facts self.now) key }
+        ensures { result ≡ own_blame (facts self.now) key }
     {
-        if self.parts.levels.erred.is_set(key) {
-            Some(key)
-        } else {
-            None
-        }
-    }
-}
-
-/// The key is in the set or not.
-fn remember(set: &mut KeySet, key: u32, to: bool)
-    requires { key < room set.old }
-    ensures keys { (k : ℕ) → has set.new k ≡ cond (k == key) to (has set.old k) }
-    ensures room { room set.new ≡ room set.old }
-{
-    if to {
-        set.insert(key);
-    } else {
-        set.remove(key);
+        blame_by(self.is_erred(key), self.table().is_bad(key), key)
     }
 }
