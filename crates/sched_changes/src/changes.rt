@@ -15,8 +15,8 @@ use crate::making::make;
 use cluster_msgs::Sequence;
 use cluster_rules::Facts;
 use sched_facts::table::is_on_worker;
-use task_table::{Change, TaskTable};
 use std::alloc::AllocError;
+use task_table::{Change, TaskTable};
 
 /// Pairs of a worker and a key that was taken away from it.
 pub type Pairs = Sequence<(u32, u32)>;

@@ -16,8 +16,8 @@ use crate::leaving::leave;
 use crate::making::make;
 use cluster_msgs::{FromClient, SchedEvent, Steal, Up};
 use cluster_rules::Facts;
-use task_table::{Change, TaskTable};
 use std::alloc::AllocError;
+use task_table::{Change, TaskTable};
 
 /// What an event leaves to be told, beside the keys that it frees.
 #[derive(Clone, Copy)]

@@ -17,11 +17,7 @@ use task_table::TaskTable;
 ///
 /// # Errors
 /// Where no memory is left.
-pub fn asked_set(
-    alloc: Global,
-    table: &TaskTable,
-    event: &SchedEvent,
-) -> Result<KeySet, AllocError>
+pub fn asked_set(alloc: Global, table: &TaskTable, event: &SchedEvent) -> Result<KeySet, AllocError>
     requires { sched_takes (facts table.now) event.now ≡ true }
     ensures { IfOk result (λ asked. (k : ℕ) → has asked k ≡ asked_in event.now k) }
 {

@@ -28,11 +28,7 @@ fn phase_of(table: &TaskTable, key: u32) -> Phase
     requires { key < keys (facts table.now) }
     ensures { result ≡ phase (facts table.now) key }
 {
-    let rest = waiting_phase(
-        table.is_fed(key),
-        is_placed(table, key),
-        has_workers(table),
-    );
+    let rest = waiting_phase(table.is_fed(key), is_placed(table, key), has_workers(table));
     first_phase(
         table.is_known(key),
         table.erred(key),

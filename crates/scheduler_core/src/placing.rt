@@ -11,7 +11,8 @@ ghost use Rattle.scheduler_core.specs.Firsts.{earlier};
 
 use cluster_rules::Facts;
 use placement::place;
-use sched_changes::{asking::place_of, make};
+use sched_changes::asking::place_of;
+use sched_changes::make;
 use task_table::{Change, TaskTable};
 
 /// Each ready key that is on no worker is placed, where it has a candidate, in ascending order. It visits the keys that

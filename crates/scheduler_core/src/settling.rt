@@ -131,12 +131,7 @@ fn drop_everywhere(table: &mut TaskTable, key: u32, lost: &mut Pairs) -> Result<
 }
 
 /// The worker does not hold the key.
-fn drop_at(
-    table: &mut TaskTable,
-    worker: u32,
-    key: u32,
-    lost: &mut Pairs,
-) -> Result<(), AllocError>
+fn drop_at(table: &mut TaskTable, worker: u32, key: u32, lost: &mut Pairs) -> Result<(), AllocError>
     requires { key < keys (facts table.old) }
     ensures facts { OnOk result (facts table.new ≡ record (facts table.old) { has = put_pair (facts table.old).has worker key None }) }
     ensures lost { OnOk result ((w k : ℕ) → has_pair lost.new w k ≡ (has_pair lost.old w k || (holds (facts table.old) w k && (w == worker && k == key)))) }

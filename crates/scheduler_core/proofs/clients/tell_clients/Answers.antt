@@ -13,7 +13,7 @@ pub tell_both-requires : goal.tell_both-requires
 tell_both-requires c =
     let f = facts c.args.table.now in
     subst (λ (z : Stored). All (λ (n : ℕ × News). n.0 < keys (facts_of z)) c.as_slice.result.now) (sym c.table.ensures)
-      (subst (λ (ns : List (ℕ × News)). All (λ n. n.0 < keys f) ns) (sym (c.as_slice.ensures ∙ c.in_ok-news.ensures)) (news_keys f (was_held c.args.table.now c.args.asked.now) (was_erred c.args.table.now c.args.asked.now)))
+    (subst (λ (ns : List (ℕ × News)). All (λ n. n.0 < keys f) ns) (sym (c.as_slice.ensures ∙ c.in_ok-news.ensures)) (news_keys f (was_held c.args.table.now c.args.asked.now) (was_erred c.args.table.now c.args.asked.now)))
 
 pub returns : goal.returns
 returns c =
