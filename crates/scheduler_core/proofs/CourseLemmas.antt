@@ -13,7 +13,7 @@ use Rattle.cluster_rules.specs.Derived.{below}
 use Rattle.cluster_rules.proofs.SchedFrame.{placing_keys}
 use Rattle.cluster_rules.specs.Sched.{Setting, Facts, IsSound, keys, workers, held, erred}
 use Rattle.cluster_rules.specs.SchedTable.{Changed, ask_message, change, sched_takes}
-use Rattle.cluster_rules.specs.SchedStep.{Stages, drop_bad, drop_has, drop_on, place_all, settle, lost, finish_step, sched_step, down_messages}
+use Rattle.cluster_rules.specs.SchedStep.{drop_bad, drop_has, drop_on, place_all, settle, finish_step, sched_step, down_messages}
 use Rattle.cluster_laws.specs.Settled.{IsSettled}
 use Rattle.sched_changes.specs.declared.answer.Answer.{Answer}
 use Rattle.sched_changes.specs.declared.answer.Answer.TheVariants.{Nothing, Refresh, AskBack, Remove}
@@ -22,7 +22,7 @@ use Rattle.scheduler_core.specs.Mail.{worker_mail, is_since}
 use Rattle.scheduler_core.specs.Posted.{posted_mail, taken_keys}
 use Rattle.scheduler_core.proofs.SentLemmas.{AnswersKey, sent_to_workers, taken_are_keys, few_in_all}
 use Rattle.scheduler_core.specs.Settling.{let_go, goes}
-use Rattle.sched_changes.specs.Effects.{answer_by, asked_in, asked_list, changed_by, IsMarked, IsAnswer}
+use Rattle.sched_changes.specs.Effects.{answer_by, asked_in, asked_list, changed_by, IsAnswer}
 use Rattle.sched_changes.specs.Follows.{Follows, AreTouched}
 use Rattle.sched_changes.specs.Pairs.{has_pair}
 use Rattle.sched_changes.proofs.Following.{follows_then}
@@ -37,7 +37,7 @@ use Rattle.scheduler_core.specs.Courses.{IsCourse, IsCourseOf, told_by}
 use Rattle.scheduler_core.specs.declared.event.Course.{Course}
 use Rattle.scheduler_core.proofs.Staying.{place_stays}
 use Rattle.scheduler_core.proofs.Messages.{down_same, clients_same, replies_same, posted_same}
-use Rattle.scheduler_core.proofs.Counting.{IsCounted, counted_change, counted_settled}
+use Rattle.scheduler_core.proofs.Counting.{counted_change, counted_settled}
 
 -- of keys that are not there nothing is held
 among : (n : ℕ) (row p : ℕ → Bool) → ((k : ℕ) → k < n → row k ≡ p k) → ((k : ℕ) → n ≤ k → p k ≡ false) → (k : ℕ) → (ltb k n && row k) ≡ p k

@@ -1,14 +1,12 @@
 -- Facts that go one by one.
-use Rattle.std.proofs.Common.{◌≡◌, ℕ, zero, suc, ◌+◌, ◌<◌, ◌≤◌, Bool, true, false, not, cond, ◌&&◌, ◌||◌, List, [], ◌∷◌, ◌++◌, Option, Some, None, is_some, refl, sym, ap, ◌∙◌, subst, arith, ltb, leb, ⊎_elim, ◌⊎◌, inl, inr}
+use Rattle.std.proofs.Common.{◌≡◌, ℕ, zero, suc, ◌+◌, ◌<◌, ◌≤◌, Bool, true, false, not, cond, ◌&&◌, ◌||◌, Option, Some, None, is_some, refl, sym, ap, ◌∙◌, arith, ltb, leb, ⊎_elim, ◌⊎◌, inl, inr}
 use Rattle.std.specs.List.{list_any, range_with_len}
 use Rattle.std.proofs.lemmas.Bool.Decides.{nat_tests}
 use Rattle.std.proofs.lemmas.Bool.{false≢true, eqb-true, cases_lt}
 use Rattle.std.proofs.Math.Dec.{eqb}
 use Rattle.cluster_rules.specs.Functions.{put, put_pair}
-use Rattle.cluster_rules.specs.Sched.{Facts, IsSound, keys, holds, held, is_on, is_for, connected, known, need, ready}
+use Rattle.cluster_rules.specs.Sched.{Facts, IsSound, keys, holds, held, is_on, is_for, known, need, ready}
 use Rattle.cluster_rules.specs.SchedStep.{drop_bad, drop_has, drop_on}
-use Rattle.cluster_rules.proofs.DerivedLemmas.{eqb_comm}
-use Rattle.sched_changes.specs.Pairs.{has_pair}
 use Rattle.scheduler_core.specs.Dropped.{bad_below, copies_up_to, has_below, on_below, held_nowhere, placed_nowhere}
 
 or_false : (b : Bool) → (b || false) ≡ b

@@ -1,12 +1,11 @@
 -- Walks over touched keys: of the keys between there is nothing to take away, to place or to tell.
-use Rattle.std.proofs.Common.{◌≡◌, ℕ, zero, suc, ◌+◌, ◌-◌, ◌<◌, ◌≤◌, Bool, true, false, not, cond, ◌&&◌, ◌||◌, List, [], ◌∷◌, ◌++◌, Option, Some, None, is_some, refl, sym, ap, ◌∙◌, subst, arith, ltb, ◌⊎◌, inl, inr, ⊎_elim, append-nil, length}
-use Rattle.std.specs.List.{filter, filter_map, cons_option, list_any}
+use Rattle.std.proofs.Common.{◌≡◌, ℕ, zero, suc, ◌+◌, ◌-◌, ◌<◌, ◌≤◌, Bool, true, false, not, cond, ◌&&◌, [], ◌∷◌, ◌++◌, Option, Some, None, is_some, refl, sym, ap, ◌∙◌, subst, arith, ltb, ◌⊎◌, inl, inr, ⊎_elim, append-nil, length}
+use Rattle.std.specs.List.{filter, filter_map, cons_option}
 use Rattle.std.proofs.lemmas.Bool.{false≢true, cases_lt}
 use Rattle.std.proofs.lemmas.Bool.Decides.{nat_tests}
 use Rattle.cluster_rules.specs.Derived.{below, is_in}
 use Rattle.cluster_rules.specs.Functions.{from_one}
 use Rattle.cluster_rules.specs.Sched.{Facts, Setting, IsSound, keys, deps, holds, held, erred, wanted, known, need, ready, is_on, is_for}
-use Rattle.cluster_rules.specs.SchedStep.{drop_bad, drop_has, drop_on}
 use Rattle.cluster_rules.proofs.SchedLemmas.{filter-below, filter_map-below, need-past}
 use Rattle.cluster_rules.proofs.SchedFrame.{in_range}
 use Rattle.cluster_laws.specs.Settled.{IsSettled}
@@ -15,7 +14,7 @@ use Rattle.cluster_laws.proofs.Fewer.{IsThinned, thinned-need}
 use Rattle.key_sets.specs.Sets.{has, IsFirst}
 use Rattle.task_table.specs.Tasks.{Tasks, facts, SameAt}
 use Rattle.sched_changes.specs.Follows.{Follows}
-use Rattle.sched_changes.proofs.Following.{not_before, same_keys}
+use Rattle.sched_changes.proofs.Following.{not_before}
 use Rattle.scheduler_core.specs.Tidy.{IsTidy}
 use Rattle.scheduler_core.specs.Dropped.{bad_below, has_below, on_below}
 

@@ -1,6 +1,5 @@
 -- The parts of settling that take facts away, as far as they have come.
-use Rattle.std.specs.Prelude.{ℕ, ◌==◌, nat_lt, nat_le, Bool, false, not, ◌&&◌, Option, None, cond}
-use Rattle.cluster_rules.specs.Functions.{put, put_pair}
+use Rattle.std.specs.Prelude.{ℕ, ◌==◌, nat_lt, nat_le, Bool, false, not, ◌&&◌, None, cond}
 use Rattle.cluster_rules.specs.Sched.{Facts}
 
 -- the keys below n that do not pass are no longer bad

@@ -1,6 +1,6 @@
-use Rattle.std.proofs.Common.{◌≡◌, ◌<◌, ◌≤◌, ◌^◌, ◌+◌, ◌∙◌, ℕ, Option, true, is_some, subst, sym, ap, arith, refl, get_or, take, length}
+use Rattle.std.proofs.Common.{◌<◌, ◌≤◌, ◌+◌, ◌∙◌, ℕ, Option, is_some, subst, sym, ap, arith, get_or, take, length}
 use Rattle.std.proofs.lemmas.List.{take_more}
-use Rattle.cluster_rules.specs.Sched.{Facts, Setting, keys, connected}
+use Rattle.cluster_rules.specs.Sched.{Facts, Setting, keys}
 use Rattle.cluster_rules.specs.SchedTable.{Changed, add_key, add_keys}
 use Rattle.task_table.specs.Tasks.{facts}
 use Rattle.sched_changes.specs.Pairs.{so_far}

@@ -1,4 +1,4 @@
-use Rattle.std.proofs.Common.{◌≡◌, ◌<◌, true, subst, sym, ap, ◌∙◌}
+use Rattle.std.proofs.Common.{◌<◌, true, subst, sym, ap, ◌∙◌}
 use Rattle.cluster_rules.specs.Functions.{put}
 use Rattle.cluster_rules.specs.Sched.{Facts, keys}
 use Rattle.sched_changes.proofs.Following.{follows_then}

@@ -1,4 +1,4 @@
-use Rattle.std.proofs.Common.{◌≡◌, ◌<◌, ◌≤◌, ◌∙◌, subst, sym, ap, arith, refl, get_or, take}
+use Rattle.std.proofs.Common.{◌<◌, ◌≤◌, ◌∙◌, subst, sym, ap, arith, refl, get_or}
 use Rattle.cluster_rules.specs.Functions.{put_pair}
 use Rattle.cluster_rules.specs.Sched.{Facts, keys}
 use Rattle.task_table.specs.Tasks.{facts}

@@ -1,4 +1,4 @@
-use Rattle.std.proofs.Common.{◌≡◌, ◌<◌, ℕ, true, subst, sym, ap, ◌∙◌, arith}
+use Rattle.std.proofs.Common.{◌≡◌, ◌<◌, true, subst, sym, ap, ◌∙◌, arith}
 use Rattle.cluster_rules.specs.Sched.{Facts, keys, connected}
 use Rattle.sched_facts.specs.Kept.{left_key, left_below}
 use Rattle.sched_facts.proofs.Leaving.{left_none, left_more, left_setting, left_connected}

@@ -3,7 +3,6 @@ use Rattle.cluster_rules.specs.Derived.{is_in}
 use Rattle.cluster_rules.specs.Sched.{keys}
 use Rattle.key_sets.specs.Sets.{has}
 use Rattle.task_table.specs.Tasks.{facts}
-use Rattle.sched_changes.specs.Effects.{asked_list}
 use Rattle.scheduler_core.proofs.AskedLemmas.{asked_there, asked_same}
 use Rattle.scheduler_core.proofs.asked.asked_set.Goals as goal
 

@@ -1,6 +1,6 @@
-use Rattle.std.proofs.Common.{◌≡◌, ◌<◌, ℕ, List, [], false, ◌||◌, take, get_or, refl, sym, ap, ◌∙◌, arith, subst}
+use Rattle.std.proofs.Common.{get_or, ◌∙◌, arith}
 use Rattle.std.proofs.Math.Dec.{eqb}
-use Rattle.key_sets.specs.Sets.{has, room}
+use Rattle.key_sets.specs.Sets.{has}
 use Rattle.scheduler_core.proofs.MailLemmas.{any_more, set_mark}
 use Rattle.scheduler_core.proofs.asked.mark_all.Goals as goal
 

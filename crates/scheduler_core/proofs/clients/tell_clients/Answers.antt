@@ -1,11 +1,11 @@
-use Rattle.std.proofs.Common.{◌≡◌, ℕ, ◌<◌, ◌++◌, List, sym, ap, ◌∙◌, subst, All}
+use Rattle.std.proofs.Common.{ℕ, ◌<◌, ◌++◌, List, sym, ap, ◌∙◌, subst, All}
 use Rattle.std.proofs.lemmas.Result.{on_ok_weaker}
 use Rattle.cluster_msgs.specs.declared.messages.ToClient.{ToClient}
 use Rattle.cluster_rules.specs.Sched.{keys}
 use Rattle.sched_facts.specs.Stored.{Stored, facts_of}
 use Rattle.task_table.specs.Tasks.{facts}
 use Rattle.scheduler_core.specs.declared.news.News.{News}
-use Rattle.scheduler_core.specs.News.{client_mail, reply_of, mail_and_reply, was_held, was_erred}
+use Rattle.scheduler_core.specs.News.{reply_of, mail_and_reply, was_held, was_erred}
 use Rattle.scheduler_core.proofs.NewsLemmas.{mail_is, news_keys}
 use Rattle.scheduler_core.proofs.clients.tell_clients.Goals as goal
 

@@ -1,13 +1,12 @@
-use Rattle.std.proofs.Common.{◌≡◌, ◌<◌, ◌+◌, ◌*◌, ◌^◌, ℕ, refl, sym, ap, ◌∙◌, subst, arith}
+use Rattle.std.proofs.Common.{◌<◌, ◌+◌, ◌*◌, ◌^◌, ℕ, ap, ◌∙◌, subst, arith}
 use Rattle.sched_facts.specs.Stored.{Stored, facts_of}
 use Rattle.sched_facts.specs.Kept.{IsFresh}
-use Rattle.cluster_rules.specs.Sched.{Facts, keys}
-use Rattle.cluster_rules.specs.SchedTable.{Changed, change}
+use Rattle.cluster_rules.specs.Sched.{keys}
+use Rattle.cluster_rules.specs.SchedTable.{Changed}
 use Rattle.task_table.specs.Tasks.{facts}
-use Rattle.sched_changes.proofs.Following.{follows_then}
 use Rattle.scheduler_core.specs.Settling.{let_go}
 use Rattle.scheduler_core.proofs.WalkLemmas.{tidy_settled}
-use Rattle.scheduler_core.proofs.CourseLemmas.{IsPassage, course_is, room_placed}
+use Rattle.scheduler_core.proofs.CourseLemmas.{course_is, room_placed}
 use Rattle.scheduler_core.proofs.event.settle.Goals as goal
 
 less_room : (a n : ℕ) → a + 2 * n < 2 ^ 62 → a + n < 2 ^ 62

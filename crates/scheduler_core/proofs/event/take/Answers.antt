@@ -2,7 +2,7 @@ use Rattle.std.proofs.Common.{◌≡◌, ◌<◌, ◌≤◌, ◌*◌, ◌^◌, �
 use Rattle.std.specs.List.{All}
 use Rattle.cluster_msgs.specs.declared.messages.Down.{Down}
 use Rattle.cluster_msgs.specs.declared.cores.Outbox.{Outbox}
-use Rattle.cluster_rules.specs.Sched.{Facts, keys}
+use Rattle.cluster_rules.specs.Sched.{keys}
 use Rattle.sched_facts.specs.Stored.{Stored, facts_of}
 use Rattle.task_table.specs.Tasks.{facts}
 use Rattle.scheduler_core.specs.Posted.{taken_keys}

@@ -1,4 +1,4 @@
-use Rattle.std.proofs.Common.{◌≡◌, ◌<◌, ◌≤◌, ℕ, ◌∙◌, sym, arith}
+use Rattle.std.proofs.Common.{◌∙◌, arith}
 use Rattle.key_sets.specs.Sets.{has}
 use Rattle.scheduler_core.proofs.MailLemmas.{mark_there, mark_past}
 use Rattle.scheduler_core.proofs.lost.mark.Goals as goal

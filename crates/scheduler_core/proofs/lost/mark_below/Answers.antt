@@ -1,8 +1,8 @@
-use Rattle.std.proofs.Common.{◌≡◌, ◌≤◌, ◌+◌, ℕ, Bool, true, false, ◌||◌, ◌&&◌, ltb, take, get_or, refl, sym, ap, ◌∙◌, arith, subst}
+use Rattle.std.proofs.Common.{◌+◌, ltb, take, get_or, refl, ◌∙◌, arith}
 use Rattle.std.proofs.Math.Dec.{eqb}
 use Rattle.std.proofs.lemmas.List.Folds.{list_any_more}
 use Rattle.cluster_rules.specs.Derived.{is_in}
-use Rattle.key_sets.specs.Sets.{has, room}
+use Rattle.key_sets.specs.Sets.{has}
 use Rattle.scheduler_core.proofs.MailLemmas.{marked_none, marked_more}
 use Rattle.scheduler_core.proofs.lost.mark_below.Goals as goal
 

@@ -1,4 +1,3 @@
-use Rattle.std.proofs.Common.{◌≡◌, ◌&&◌, ap, ◌∙◌}
 use Rattle.task_table.specs.Tasks.{facts}
 use Rattle.scheduler_core.specs.News.{was_held, was_erred}
 use Rattle.scheduler_core.proofs.NewsLemmas.{news_is, was_there}

@@ -1,4 +1,4 @@
-use Rattle.std.proofs.Common.{◌≡◌, ◌≤◌, arith}
+use Rattle.std.proofs.Common.{◌≤◌, arith}
 use Rattle.cluster_rules.specs.Sched.{keys}
 use Rattle.cluster_rules.proofs.SchedLemmas.{known-past}
 use Rattle.task_table.specs.Tasks.{facts}

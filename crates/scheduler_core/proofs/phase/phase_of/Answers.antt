@@ -1,4 +1,3 @@
-use Rattle.std.proofs.Common.{◌≡◌}
 use Rattle.task_table.specs.Tasks.{facts}
 use Rattle.scheduler_core.proofs.PhaseLemmas.{phase_by}
 use Rattle.scheduler_core.proofs.phase.phase_of.Goals as goal

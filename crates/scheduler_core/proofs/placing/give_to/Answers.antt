@@ -1,6 +1,5 @@
 use Rattle.std.proofs.Common.{sym, ◌∙◌}
 use Rattle.task_table.specs.Tasks.{facts}
-use Rattle.sched_changes.proofs.Following.{follows_self}
 use Rattle.scheduler_core.proofs.PlacingLemmas.{place_connected}
 use Rattle.scheduler_core.proofs.placing.give_to.Goals as goal
 

@@ -1,8 +1,7 @@
-use Rattle.std.proofs.Common.{◌≡◌, ℕ, Bool, true, false, Option, sym, subst}
+use Rattle.std.proofs.Common.{Bool, false, sym, subst}
 use Rattle.key_sets.specs.Sets.{IsFirst}
 use Rattle.task_table.specs.Tasks.{facts, queued_root, queued_other}
 use Rattle.scheduler_core.specs.Roots.{is_due}
-use Rattle.scheduler_core.specs.Firsts.{earlier}
 use Rattle.scheduler_core.proofs.PlacingLemmas.{first_both, due_either, first_there}
 use Rattle.scheduler_core.proofs.placing.next_due.Goals as goal
 

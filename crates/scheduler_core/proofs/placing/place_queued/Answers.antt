@@ -1,4 +1,4 @@
-use Rattle.std.proofs.Common.{◌≡◌, ◌<◌, ◌+◌, sym, ap, ◌∙◌, arith}
+use Rattle.std.proofs.Common.{◌<◌, arith}
 use Rattle.std.proofs.lemmas.Bool.{false≢true}
 use Rattle.cluster_rules.specs.Sched.{keys}
 use Rattle.task_table.specs.Tasks.{facts}

@@ -1,4 +1,4 @@
-use Rattle.std.proofs.Common.{◌≡◌, ℕ, length, sym, ap, ◌∙◌, arith}
+use Rattle.std.proofs.Common.{◌≡◌, length, arith}
 use Rattle.cluster_rules.specs.Sched.{workers}
 use Rattle.task_table.specs.Tasks.{facts}
 use Rattle.sched_changes.proofs.Following.{follows_self}

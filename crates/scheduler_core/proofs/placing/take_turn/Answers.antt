@@ -1,5 +1,4 @@
-use Rattle.std.proofs.Common.{◌≡◌, refl, sym, ap, ◌∙◌}
-use Rattle.cluster_rules.specs.Sched.{ready}
+use Rattle.std.proofs.Common.{refl, ◌∙◌}
 use Rattle.task_table.specs.Tasks.{facts}
 use Rattle.scheduler_core.proofs.RootLemmas.{roots_after}
 use Rattle.scheduler_core.proofs.PlacingLemmas.{due_ready, due_there, free_of, placed_yes}

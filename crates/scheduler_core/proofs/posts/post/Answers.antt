@@ -1,5 +1,4 @@
-use Rattle.std.proofs.Common.{◌≡◌, ◌+◌, ◌<◌, ◌≤◌, ℕ, List, All, subst, sym, ap, ◌∙◌, refl}
-use Rattle.cluster_rules.specs.Functions.{put}
+use Rattle.std.proofs.Common.{◌<◌, ◌≤◌, ℕ, List, All, subst, sym, ap, ◌∙◌}
 use Rattle.cluster_rules.specs.Sched.{Facts, keys}
 use Rattle.task_table.specs.Tasks.{facts}
 use Rattle.sched_changes.proofs.Following.{follows_then}

@@ -1,10 +1,10 @@
-use Rattle.std.proofs.Common.{◌≡◌, ◌<◌, ◌≤◌, ◌+◌, ◌&&◌, ◌||◌, ℕ, Bool, true, false, not, cond, refl, subst, sym, ap, ◌∙◌, arith, is_some}
+use Rattle.std.proofs.Common.{◌≡◌, ◌<◌, ◌≤◌, ◌+◌, ◌&&◌, ◌||◌, ℕ, true, not, ap, ◌∙◌, arith, is_some}
 use Rattle.std.proofs.Math.Dec.{eqb}
 use Rattle.cluster_rules.specs.Sched.{Facts, keys, need, holds}
 use Rattle.task_table.specs.Tasks.{facts}
 use Rattle.sched_changes.specs.Pairs.{has_pair}
 use Rattle.sched_changes.proofs.Following.{follows_self, follows_then}
-use Rattle.scheduler_core.specs.Dropped.{has_below, held_nowhere}
+use Rattle.scheduler_core.specs.Dropped.{held_nowhere}
 use Rattle.scheduler_core.proofs.DropLemmas.{has_none, has_more, has_all, lost_copies_more, lost_none, lost_all}
 use Rattle.scheduler_core.proofs.WalkLemmas.{passed, passed_all, has_over, lost_over, need_has, in_setting, past_all, copy_there}
 use Rattle.scheduler_core.proofs.settling.drop_copies.Goals as goal

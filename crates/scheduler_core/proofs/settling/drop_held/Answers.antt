@@ -1,4 +1,4 @@
-use Rattle.std.proofs.Common.{◌≡◌, ℕ, true, false, sym, ◌∙◌}
+use Rattle.std.proofs.Common.{true, false, sym, ◌∙◌}
 use Rattle.cluster_rules.specs.Sched.{holds}
 use Rattle.task_table.specs.Tasks.{facts}
 use Rattle.sched_changes.specs.Pairs.{has_pair}

@@ -1,10 +1,10 @@
-use Rattle.std.proofs.Common.{◌≡◌, ◌<◌, ◌≤◌, ◌+◌, ◌&&◌, ◌||◌, ℕ, Bool, true, false, not, cond, refl, subst, sym, ap, ◌∙◌, arith, is_some}
+use Rattle.std.proofs.Common.{◌≡◌, ◌<◌, ◌≤◌, ◌+◌, ◌&&◌, ◌||◌, ℕ, Bool, true, not, ap, ◌∙◌, arith, is_some}
 use Rattle.std.proofs.Math.Dec.{eqb}
 use Rattle.cluster_rules.specs.Sched.{Facts, keys, ready, is_on, is_for}
 use Rattle.task_table.specs.Tasks.{facts}
 use Rattle.sched_changes.specs.Pairs.{has_pair}
 use Rattle.sched_changes.proofs.Following.{follows_self, follows_then}
-use Rattle.scheduler_core.specs.Dropped.{on_below, placed_nowhere}
+use Rattle.scheduler_core.specs.Dropped.{placed_nowhere}
 use Rattle.scheduler_core.proofs.DropLemmas.{on_none, on_more, on_all, lost_places_more, lost_none, lost_all}
 use Rattle.scheduler_core.proofs.WalkLemmas.{passed, passed_all, on_over, lost_over, ready_on, in_setting, past_all, place_there, is_placed}
 use Rattle.scheduler_core.proofs.settling.drop_places.Goals as goal

@@ -1,6 +1,6 @@
-use Rattle.std.proofs.Common.{◌≡◌, ◌<◌, ◌≤◌, ◌+◌, ◌&&◌, ℕ, Bool, true, false, not, cond, refl, subst, sym, ap, ◌∙◌, arith}
+use Rattle.std.proofs.Common.{◌<◌, ◌+◌, ◌&&◌, ℕ, Bool, false, not, cond, ap, ◌∙◌, arith}
 use Rattle.std.proofs.Math.Dec.{eqb}
-use Rattle.cluster_rules.specs.Sched.{Facts, Setting, keys, known}
+use Rattle.cluster_rules.specs.Sched.{Facts, keys, known}
 use Rattle.task_table.specs.Tasks.{facts}
 use Rattle.sched_changes.proofs.Following.{follows_self, follows_then}
 use Rattle.scheduler_core.proofs.DropLemmas.{bad_none, bad_more, bad_all}

@@ -1,4 +1,4 @@
-use Rattle.std.proofs.Common.{◌≡◌, subst, sym, arith}
+use Rattle.std.proofs.Common.{subst, sym, arith}
 use Rattle.cluster_rules.specs.Sched.{Facts}
 use Rattle.scheduler_core.specs.Inner.{IsAfter}
 use Rattle.scheduler_core.proofs.AfterLemmas.{after_opening}

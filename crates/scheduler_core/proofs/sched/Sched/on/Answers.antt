@@ -1,4 +1,4 @@
-use Rattle.std.proofs.Common.{◌≡◌, ◌<◌, ◌+◌, true, false, subst, sym, ap, ◌∙◌, arith}
+use Rattle.std.proofs.Common.{◌≡◌, ◌<◌, ◌+◌, true, subst, sym, ◌∙◌, arith}
 use Rattle.cluster_rules.specs.Sched.{Facts, keys}
 use Rattle.cluster_rules.specs.SchedTable.{sched_takes}
 use Rattle.task_table.specs.Tasks.{facts}
