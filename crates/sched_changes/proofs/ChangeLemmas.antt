@@ -1,15 +1,13 @@
 -- What events change, step by step.
-use Rattle.std.proofs.Common.{◌≡◌, ℕ, zero, suc, ◌+◌, ◌<◌, ◌≤◌, Bool, true, false, not, cond, ◌&&◌, ◌||◌, List, [], ◌∷◌, ◌++◌, Option, Some, None, is_some, refl, sym, ap, ◌∙◌, subst, arith, ltb, leb, length, get_or, take}
-use Rattle.std.specs.List.{list_any}
+use Rattle.std.proofs.Common.{◌≡◌, ℕ, ◌+◌, ◌<◌, ◌≤◌, Bool, true, false, not, cond, ◌&&◌, ◌||◌, List, [], ◌∷◌, ◌++◌, Some, is_some, refl, sym, ap, ◌∙◌, subst, arith, length, get_or, take}
 use Rattle.std.specs.Prelude.{nat_le}
 use Rattle.std.proofs.lemmas.List.{take_more}
 use Rattle.std.proofs.lemmas.Bool.Decides.{nat_tests}
-use Rattle.std.proofs.lemmas.Bool.{false≢true, eqb-true}
 use Rattle.std.proofs.Math.Dec.{eqb}
-use Rattle.cluster_rules.specs.Functions.{put, put_pair, count}
+use Rattle.cluster_rules.specs.Functions.{put_pair, count}
 use Rattle.cluster_rules.specs.Derived.{is_in, below}
-use Rattle.cluster_rules.specs.Sched.{Setting, Facts, IsSound, keys, holds, held, is_on, is_for, connected}
-use Rattle.cluster_rules.specs.SchedTable.{Changed, plain, add_key, add_keys}
+use Rattle.cluster_rules.specs.Sched.{Facts, holds, held, is_on}
+use Rattle.cluster_rules.specs.SchedTable.{Changed, add_key, add_keys}
 use Rattle.cluster_rules.proofs.DerivedLemmas.{eqb_comm}
 use Rattle.sched_facts.proofs.SumLemmas.{line_sum}
 use Rattle.sched_facts.proofs.DeriveLemmas.{any_push, count_few}

@@ -1,10 +1,10 @@
 -- When an event counts, and when it changes nothing.
-use Rattle.std.proofs.Common.{◌≡◌, ℕ, ◌+◌, Bool, true, false, cond, ◌&&◌, List, [], ◌∷◌, ◌++◌, Option, Some, None, refl, sym, ap, ◌∙◌}
+use Rattle.std.proofs.Common.{◌≡◌, ℕ, ◌+◌, Bool, true, false, cond, ◌&&◌, [], ◌∷◌, ◌++◌, Some, None, sym, ap, ◌∙◌}
 use Rattle.std.specs.Prelude.{nat_le}
 use Rattle.cluster_rules.specs.Functions.{put, put_pair}
-use Rattle.cluster_rules.specs.Sched.{Facts, keys, holds, connected}
-use Rattle.cluster_rules.specs.SchedTable.{Changed, plain, nothing_freed, is_this, is_copy, is_asked_back, refused, finished, failed, released, lost_copy, stolen_by, stolen_to, answered}
-use Rattle.sched_changes.specs.Pairs.{has_pair, so_far}
+use Rattle.cluster_rules.specs.Sched.{Facts, connected}
+use Rattle.cluster_rules.specs.SchedTable.{plain, nothing_freed, is_this, is_copy, is_asked_back, refused, finished, failed, released, lost_copy, stolen_by, stolen_to, answered}
+use Rattle.sched_changes.specs.Pairs.{so_far}
 use Rattle.sched_changes.proofs.PairLemmas.{pair_put}
 
 pub finished_yes : (f : Facts) (w k a : ℕ) → is_this w a (f.on k) ≡ true → record f { on = put f.on k None; steal = put f.steal k None; has = put_pair f.has w k (Some f.counter); counter = f.counter + 1; finishes = f.finishes + 1 } ≡ finished f w k a

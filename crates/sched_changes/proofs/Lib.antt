@@ -1,3 +1,5 @@
+pub mod Following
 pub mod PairLemmas
 pub mod ChangeLemmas
 pub mod Counting
+pub mod RowLemmas

@@ -1,3 +1,6 @@
 pub mod Pairs
 pub mod Rows
-pub mod Dropped
+pub mod Follows
+pub mod Answers
+pub mod Choices
+pub mod Effects

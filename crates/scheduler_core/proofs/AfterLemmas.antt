@@ -6,7 +6,7 @@ use Rattle.cluster_rules.specs.SchedTable.{sched_takes}
 use Rattle.cluster_rules.specs.SchedStep.{sched_step}
 use Rattle.cluster_laws.proofs.SettledLemmas.{settled_step, settled_opening}
 use Rattle.scheduler_core.specs.Inner.{IsAfter}
-use Rattle.sched_book.proofs.Counting.{counted_step}
+use Rattle.scheduler_core.proofs.Counting.{counted_step}
 
 pub after_opening : (c : Setting) → IsAfter (sched_opening c) 0
 after_opening c = record { settled = settled_opening c; counter = omega arith; finishes = omega arith; sent = λ w. omega arith }

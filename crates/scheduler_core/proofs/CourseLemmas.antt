@@ -1,6 +1,8 @@
 -- The course of one event, put together.
-use Rattle.std.proofs.Common.{◌≡◌, ℕ, ◌+◌, ◌*◌, ◌^◌, ◌<◌, ◌≤◌, Bool, true, not, ◌&&◌, ◌||◌, List, [], ◌∷◌, ◌++◌, Option, refl, sym, ap, ◌∙◌, subst, arith, length}
-use Rattle.std.specs.List.{All, AllByRecursion, flat_map}
+use Rattle.std.proofs.Common.{◌≡◌, ℕ, ◌+◌, ◌*◌, ◌^◌, ◌<◌, ◌≤◌, Bool, true, false, not, ◌&&◌, ◌||◌, List, [], ◌∷◌, ◌++◌, Option, Some, None, ltb, refl, sym, ap, ◌∙◌, subst, arith, length}
+use Rattle.std.specs.Prelude.{nat_le}
+use Rattle.std.specs.List.{All, AllByRecursion, cons_option, flat_map}
+use Rattle.std.proofs.lemmas.Bool.Decides.{nat_tests}
 use Rattle.std.proofs.lemmas.List.Elements.{All-from_recursion}
 use Rattle.std.proofs.lemmas.Nat.{mul-le}
 use Rattle.cluster_msgs.specs.declared.messages.Down.{Down}
@@ -10,40 +12,108 @@ use Rattle.cluster_rules.specs.Functions.{put}
 use Rattle.cluster_rules.specs.Derived.{below}
 use Rattle.cluster_rules.proofs.SchedFrame.{placing_keys}
 use Rattle.cluster_rules.specs.Sched.{Setting, Facts, IsSound, keys, workers, held, erred}
-use Rattle.cluster_rules.specs.SchedTable.{ask_message, change, sched_takes}
-use Rattle.cluster_rules.specs.SchedStep.{Stages, drop_bad, drop_has, drop_on, place_all, settle, lost, finish_step, sched_step, down_messages}
+use Rattle.cluster_rules.specs.SchedTable.{Changed, ask_message, change, sched_takes}
+use Rattle.cluster_rules.specs.SchedStep.{drop_bad, drop_has, drop_on, place_all, settle, finish_step, sched_step, down_messages}
 use Rattle.cluster_laws.specs.Settled.{IsSettled}
-use Rattle.sched_messages.specs.declared.answer.Answer.{Answer}
-use Rattle.sched_messages.specs.declared.answer.Answer.TheVariants.{Nothing, Refresh, AskBack, Remove}
-use Rattle.sched_messages.specs.Mail.{answer_of, worker_mail}
-use Rattle.sched_messages.specs.Posted.{posted_mail, taken_keys}
-use Rattle.sched_messages.proofs.SentLemmas.{AnswersKey, sent_to_workers, taken_are_keys, few_in_all}
-use Rattle.sched_book.specs.Settling.{let_go}
-use Rattle.sched_book.specs.Effects.{answer_by, asked_in, IsMarked, IsAnswer, IsChange}
-use Rattle.scheduler_core.specs.Before.{IsBefore}
+use Rattle.sched_changes.specs.declared.answer.Answer.{Answer}
+use Rattle.sched_changes.specs.declared.answer.Answer.TheVariants.{Nothing, Refresh, AskBack, Remove}
+use Rattle.sched_changes.specs.Answers.{answer_of}
+use Rattle.scheduler_core.specs.Mail.{worker_mail, is_since}
+use Rattle.scheduler_core.specs.Posted.{posted_mail, taken_keys}
+use Rattle.scheduler_core.proofs.SentLemmas.{AnswersKey, sent_to_workers, taken_are_keys, few_in_all}
+use Rattle.scheduler_core.specs.Settling.{let_go, goes}
+use Rattle.sched_changes.specs.Effects.{answer_by, asked_in, asked_list, changed_by, IsAnswer}
+use Rattle.sched_changes.specs.Follows.{Follows, AreTouched}
+use Rattle.sched_changes.specs.Pairs.{has_pair}
+use Rattle.sched_changes.proofs.Following.{follows_then}
+use Rattle.cluster_rules.proofs.SchedLemmas.{held-past, erred-past}
+use Rattle.key_sets.specs.Sets.{has}
+use Rattle.sched_facts.specs.Kept.{IsFresh}
+use Rattle.task_table.specs.Tasks.{Tasks, facts, IsRemembered}
+use Rattle.scheduler_core.specs.News.{client_mail, reply_of, was_held, was_erred}
+use Rattle.scheduler_core.proofs.AskedLemmas.{asked_same}
 use Rattle.scheduler_core.specs.Sent.{sent_by}
 use Rattle.scheduler_core.specs.Courses.{IsCourse, IsCourseOf, told_by}
 use Rattle.scheduler_core.specs.declared.event.Course.{Course}
 use Rattle.scheduler_core.proofs.Staying.{place_stays}
 use Rattle.scheduler_core.proofs.Messages.{down_same, clients_same, replies_same, posted_same}
-use Rattle.sched_book.proofs.Counting.{IsCounted, counted_change, counted_settled}
+use Rattle.scheduler_core.proofs.Counting.{counted_change, counted_settled}
+
+-- of keys that are not there nothing is held
+among : (n : ℕ) (row p : ℕ → Bool) → ((k : ℕ) → k < n → row k ≡ p k) → ((k : ℕ) → n ≤ k → p k ≡ false) → (k : ℕ) → (ltb k n && row k) ≡ p k
+among n row p h past k = pick (ltb k n) refl
+  where
+    low : (k n : ℕ) → ltb k n ≡ true → k < n
+    low k n e = grind (arith, nat_tests)
+
+    high : (k n : ℕ) → ltb k n ≡ false → n ≤ k
+    high k n e = grind (arith, nat_tests)
+
+    pick : (b : Bool) → ltb k n ≡ b → (b && row k) ≡ p k
+    pick true e = h k (low k n e)
+    pick false e = sym (past k (high k n e))
+
+-- what was so before the event is what the table remembers
+was_so : (s t : Tasks) (e : SchedEvent) (g : Changed) (row : List ℕ) (asked : List ℕ) (p : ℕ → Bool) → Follows s t → g.asked ≡ asked_in e → ((k : ℕ) → has asked k ≡ asked_in e k) → ((k : ℕ) → k < keys (facts s) → has row k ≡ p k) → ((k : ℕ) → keys (facts s) ≤ k → p k ≡ false)
+    → ◌≡◌ {A = ℕ → Bool} (λ k. (ltb k (keys (facts t)) && has row k) && not (has asked k)) (λ k. p k && not (g.asked k))
+was_so s t e g row asked p v q a h past = λ i k. at k i
+  where
+    at : (k : ℕ) → ((ltb k (keys (facts t)) && has row k) && not (has asked k)) ≡ (p k && not (g.asked k))
+    at k = ap (λ (c : Setting). (ltb k (length c.shape.deps) && has row k) && not (has asked k)) v.setting
+        ∙ ap (λ b. b && not (has asked k)) (among (keys (facts s)) (has row) p h past k)
+        ∙ ap (λ b. p k && not b) (a k ∙ ap (λ (z : ℕ → Bool). z k) (sym q))
+
+not_since : (since : ℕ) (o : Option (ℕ × ℕ)) → ((w a : ℕ) → o ≡ Some (w, a) → a < since) → is_since since o ≡ false
+not_since since None h = refl
+not_since since (Some p) h = older since p.1 (h p.0 p.1 refl)
+  where
+    older : (n a : ℕ) → a < n → nat_le n a ≡ false
+    older n a l = grind (arith, nat_tests)
+
+-- the tables of one event: before it, after its own change, after what was to go went, and after ready keys were placed
+pub record IsPassage (s a b t : Tasks) (e : SchedEvent) (ps : List (ℕ × ℕ)) (c : Course) : Type 0 where
+  pub changed : changed_by (facts s) (facts a) ps c.effect (asked_in e) ≡ change (facts s) e
+  pub is_answer : IsAnswer (facts s) (facts a) c.effect.answer
+  pub named : AreTouched a (asked_list e)
+  pub first : Follows s a
+  pub went : facts b ≡ let_go (facts a)
+  pub lost : (w k : ℕ) → has_pair c.lost w k ≡ (has_pair ps w k || goes (facts a) w k)
+  pub second : Follows a b
+  pub placed : facts t ≡ place_all (facts b)
+  pub third : Follows b t
+  pub since : c.since ≡ (facts s).counter
+  pub asked : (k : ℕ) → has c.asked k ≡ asked_in e k
+
+pub all_follow : (s a b t : Tasks) (e : SchedEvent) (ps : List (ℕ × ℕ)) (c : Course) → IsPassage s a b t e ps c → Follows s t
+all_follow s a b t e ps c x = follows_then s a t x.first (follows_then a b t x.second x.third)
 
 -- the parts of an event are its course
-pub course_is : (f : Facts) (e : SchedEvent) (h p : Facts) (c : Course) → IsChange f e h c.lost c.effect → p ≡ place_all h → c.since ≡ f.counter → IsBefore f e c.before → IsCourse f e p c
+pub course_is : (s a b t : Tasks) (e : SchedEvent) (ps : List (ℕ × ℕ)) (c : Course) → IsSound (facts s) → IsFresh (facts s) → IsRemembered (facts s) s → ((k : ℕ) → has s.touched k ≡ false) → IsPassage s a b t e ps c → IsCourse s e t c
 unfolding settle let_go
-course_is f e h p c x q s b = record {
-  placed = q ∙ ap place_all x.facts;
-  course = record {
-    since = s;
-    lost = x.lost;
-    answer = x.answer;
-    is_answer = x.is_answer;
-    reply = x.reply;
-    joined = x.joined;
-    held_row = b.held_row ∙ ap {B = ℕ → Bool} (λ (a : ℕ → Bool) k. held f k && not (a k)) (sym x.asked);
-    erred_row = b.erred_row ∙ ap {B = ℕ → Bool} (λ (a : ℕ → Bool) k. erred f k && not (a k)) (sym x.asked);
-  };
-}
+course_is s a b t e ps c sound fresh r u x =
+    let f = facts s in
+    let g = change f e in
+    let v = all_follow s a b t e ps c x in
+    let q = sym (ap (λ (z : Changed). z.asked) x.changed) in
+    record {
+      placed = x.placed ∙ ap place_all x.went ∙ ap (λ (z : Changed). place_all (let_go z.facts)) x.changed;
+      course = record {
+        since = x.since;
+        lost = λ w k. x.lost w k ∙ ap (λ (z : Changed). z.freed w k || goes z.facts w k) x.changed;
+        answer = sym (ap (λ (z : Changed). z.answer) x.changed);
+        is_answer = subst (λ (z : Changed). IsAnswer f z.facts c.effect.answer) x.changed x.is_answer;
+        reply = sym (ap (λ (z : Changed). z.reply) x.changed);
+        joined = sym (ap (λ (z : Changed). z.joined) x.changed);
+        held = was_so s t e g t.held_before c.asked (held f) v q x.asked (λ k l. ap (λ (z : List ℕ). has z k) v.touched.held ∙ r.held k l (u k)) (held-past f sound);
+        erred = was_so s t e g t.erred_before c.asked (erred f) v q x.asked (λ k l. ap (λ (z : List ℕ). has z k) v.touched.erred ∙ r.erred k l (u k)) (erred-past f sound);
+      };
+      calm = record {
+        asked = λ k h. x.third.touched.grows k (x.second.touched.grows k (x.named k (asked_same e k ∙ sym (x.asked k) ∙ h)));
+        given = λ k l h.
+            let same = v.touched.kept k (subst (λ (z : Setting). k < length z.shape.deps) v.setting l) h in
+            ap (is_since c.since) same.on ∙ not_since c.since (f.on k) (λ w n o. subst (λ z. n < z) (sym x.since) (fresh.attempts k w n o));
+      };
+    }
 
 -- a key that is asked back is still where it was
 answer_at : (f : Facts) (e : SchedEvent) → IsSettled f → (a : Answer) → IsAnswer f (change f e).facts a → (w : ℕ) → answer_of a (settle f (change f e)).placed w ≡ answer_by f a (settle f (change f e)).placed w
@@ -63,22 +133,31 @@ pub sent_settled : (f : Facts) (e : SchedEvent) → sched_takes f e ≡ true →
 sent_settled f e h = (counted_settled f (change f e) (counted_change f e h)).sent
 
 -- what is told is what the step sends
-told_placed : (f : Facts) (e : SchedEvent) (c : Course) → sched_takes f e ≡ true → IsSettled f → IsCourseOf (settle f (change f e)) c → told_by (settle f (change f e)).placed c ≡ sent_by (finish_step (settle f (change f e)))
+abbrev told_from : Facts → (ℕ → Bool) → (ℕ → Bool) → Course → Outbox
+told_from g wh we c =
+    let ms = client_mail g wh we in
+    record {
+      down = flat_map (worker_mail g c.lost c.since c.effect.answer) (workers g);
+      clients = ms ++ reply_of g ms c.effect.reply;
+      joined = cons_option c.effect.joined [];
+    }
+
+told_placed : (f : Facts) (e : SchedEvent) (t : Tasks) (c : Course) → sched_takes f e ≡ true → IsSettled f → IsCourseOf (settle f (change f e)) t c → told_from (settle f (change f e)).placed (was_held t c.asked) (was_erred t c.asked) c ≡ sent_by (finish_step (settle f (change f e)))
 unfolding finish_step settle
-told_placed f e c h v x =
-    let t = settle f (change f e) in
-    let n : t.placed.setting ≡ f.setting = setting_settled f e h in
-    let a : (w : ℕ) → answer_of c.effect.answer t.placed w ≡ t.changed.answer t.placed w = λ w. answer_at f e v c.effect.answer x.is_answer w ∙ sym (ap (λ (z : Facts → ℕ → List Down). z t.placed w) x.answer) in
-    let d = down_same t c.lost c.since c.effect.answer x.lost x.since a n in
-    let m = clients_same t _ _ x.held_row x.erred_row n in
-    let r = replies_same t _ c.effect.reply m x.reply in
+told_placed f e t c h v x =
+    let z = settle f (change f e) in
+    let n : z.placed.setting ≡ f.setting = setting_settled f e h in
+    let a : (w : ℕ) → answer_of c.effect.answer z.placed w ≡ z.changed.answer z.placed w = λ w. answer_at f e v c.effect.answer x.is_answer w ∙ sym (ap (λ (y : Facts → ℕ → List Down). y z.placed w) x.answer) in
+    let d = down_same z c.lost c.since c.effect.answer x.lost x.since a n in
+    let m = clients_same z _ _ x.held x.erred n in
+    let r = replies_same z _ c.effect.reply m x.reply in
     let j = sym x.joined in
     λ i. record { down = d i; clients = r i; joined = j i }
 
--- the same by the facts as the event left them
-pub told_is : (f : Facts) (e : SchedEvent) (p : Facts) (c : Course) → sched_takes f e ≡ true → IsSettled f → IsCourse f e p c → told_by p c ≡ sent_by (sched_step f e)
+-- the same by the table as the event left it
+pub told_is : (s : Tasks) (e : SchedEvent) (t : Tasks) (c : Course) → sched_takes (facts s) e ≡ true → IsSettled (facts s) → IsCourse s e t c → told_by t c ≡ sent_by (sched_step (facts s) e)
 unfolding sched_step
-told_is f e p c h v x = ap (λ (z : Facts). told_by z c) x.placed ∙ told_placed f e c h v x.course
+told_is s e t c h v x = ap (λ (z : Facts). told_from z (was_held t c.asked) (was_erred t c.asked) c) x.placed ∙ told_placed (facts s) e t c h v x.course
 
 -- what `post_all` asks of what is told
 answers_key : (f g p : Facts) (a : Answer) → IsAnswer f g a → p.setting ≡ f.setting → AnswersKey (keys p) a
@@ -99,10 +178,11 @@ all_in_all : (n : ℕ) (ms : List (ℕ × Down)) → AllByRecursion (λ (m : ℕ
 all_in_all n [] h = tt
 all_in_all n (m ∷ ms) h = (All-from_recursion (λ k. k < n) (taken_keys m.1) h.0, all_in_all n ms h.1)
 
-pub postable : (f g p : Facts) (c : Course) → IsSound p → IsAnswer f g c.effect.answer → p.setting ≡ f.setting → IsPostable p (told_by p c).down
-postable f g p c s m e =
+pub postable : (f g : Facts) (t : Tasks) (c : Course) → IsSound (facts t) → IsAnswer f g c.effect.answer → (facts t).setting ≡ f.setting → IsPostable (facts t) (told_by t c).down
+postable f g t c s m e =
+    let p = facts t in
     let a = answers_key f g p c.effect.answer m e in
-    let ms = (told_by p c).down in
+    let ms = (told_by t c).down in
     record {
       to = All-from_recursion (λ (m : ℕ × Down). m.0 ≤ p.last_worker) ms (sent_to_workers p c.lost c.since c.effect.answer a);
       takes = All-from_recursion (λ (m : ℕ × Down). All (λ k. k < keys p) (taken_keys m.1)) ms (all_in_all (keys p) ms (taken_are_keys p c.lost c.since c.effect.answer a));
@@ -124,23 +204,23 @@ unfolding place_all
 setting_placed f = (placing_keys f (below (keys f))).setting
 
 -- the facts after what was told is posted
-pub facts_posted : (f : Facts) (e : SchedEvent) (p : Facts) (c : Course) (ms : List (ℕ × Down)) → sched_takes f e ≡ true → IsSettled f → IsCourse f e p c → ms ≡ (told_by p c).down → posted_mail p ms ≡ (sched_step f e).facts
+pub facts_posted : (s : Tasks) (e : SchedEvent) (t : Tasks) (c : Course) (ms : List (ℕ × Down)) → sched_takes (facts s) e ≡ true → IsSettled (facts s) → IsCourse s e t c → ms ≡ (told_by t c).down → posted_mail (facts t) ms ≡ (sched_step (facts s) e).facts
 unfolding sched_step finish_step
-facts_posted f e p c ms h v x m =
-    let t = settle f (change f e) in
-    ap (posted_mail p) (m ∙ ap (λ (o : Outbox). o.down) (told_is f e p c h v x))
-    ∙ ap (λ (z : Facts). posted_mail z (down_messages t)) x.placed
-    ∙ posted_same t (down_messages t)
+facts_posted s e t c ms h v x m =
+    let z = settle (facts s) (change (facts s) e) in
+    ap (posted_mail (facts t)) (m ∙ ap (λ (o : Outbox). o.down) (told_is s e t c h v x))
+    ∙ ap (λ (y : Facts). posted_mail y (down_messages z)) x.placed
+    ∙ posted_same z (down_messages z)
 
 -- there is room to post it
-pub sent_before : (f : Facts) (e : SchedEvent) (p : Facts) (c : Course) (ms : List (ℕ × Down)) (w : ℕ) → sched_takes f e ≡ true → IsCourse f e p c → ms ≡ (told_by p c).down → length (told_by p c).down ≤ 3 * 2 ^ 20 → f.sent w + 3 * 2 ^ 20 < 2 ^ 62 → p.sent w + length ms < 2 ^ 62
-sent_before f e p c ms w h x m l r =
-    sum (p.sent w) (f.sent w) (length ms) (length (told_by p c).down) (ap (λ (z : Facts). z.sent w) x.placed ∙ ap (λ (s : ℕ → ℕ). s w) (sent_settled f e h)) (ap length m) l r
+pub sent_before : (s : Tasks) (e : SchedEvent) (t : Tasks) (c : Course) (ms : List (ℕ × Down)) (w : ℕ) → sched_takes (facts s) e ≡ true → IsCourse s e t c → ms ≡ (told_by t c).down → length (told_by t c).down ≤ 3 * 2 ^ 20 → (facts s).sent w + 3 * 2 ^ 20 < 2 ^ 62 → (facts t).sent w + length ms < 2 ^ 62
+sent_before s e t c ms w h x m l r =
+    sum ((facts t).sent w) ((facts s).sent w) (length ms) (length (told_by t c).down) (ap (λ (z : Facts). z.sent w) x.placed ∙ ap (λ (y : ℕ → ℕ). y w) (sent_settled (facts s) e h)) (ap length m) l r
   where
     sum : (a b k l : ℕ) → a ≡ b → k ≡ l → l ≤ 3 * 2 ^ 20 → b + 3 * 2 ^ 20 < 2 ^ 62 → a + k < 2 ^ 62
     sum a b k l h i j q = omega arith
 
 -- what is told can be posted
-pub postable_by : (f : Facts) (e : SchedEvent) (p : Facts) (c : Course) → IsSound p → IsCourse f e p c → p.setting ≡ f.setting → IsPostable p (told_by p c).down
+pub postable_by : (s : Tasks) (e : SchedEvent) (t : Tasks) (c : Course) → IsSound (facts t) → IsCourse s e t c → (facts t).setting ≡ (facts s).setting → IsPostable (facts t) (told_by t c).down
 unfolding settle
-postable_by f e p c s x q = postable f (change f e).facts p c s x.course.is_answer q
+postable_by s e t c v x q = postable (facts s) (change (facts s) e).facts t c v x.course.is_answer q

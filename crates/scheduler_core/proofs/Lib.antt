@@ -1,7 +1,16 @@
 pub mod Staying
 pub mod Messages
-pub mod BeforeLemmas
+pub mod AskedLemmas
 pub mod CourseLemmas
 pub mod AfterLemmas
 pub mod PhaseLemmas
 pub mod FrontLemmas
+pub mod Counting
+pub mod MailLemmas
+pub mod NewsLemmas
+pub mod PostLemmas
+pub mod SentLemmas
+pub mod RootLemmas
+pub mod PlacingLemmas
+pub mod DropLemmas
+pub mod WalkLemmas

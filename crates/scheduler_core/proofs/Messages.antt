@@ -1,7 +1,6 @@
 -- What is told by the facts once they have settled is what the step sends.
-use Rattle.std.proofs.Common.{◌≡◌, ℕ, ◌+◌, ◌*◌, ◌<◌, ◌≤◌, Bool, false, not, cond, ◌&&◌, ◌||◌, List, [], ◌∷◌, ◌++◌, Option, Some, None, refl, sym, ap, ◌∙◌, length}
-use Rattle.std.specs.Prelude.{nat_le}
-use Rattle.std.specs.List.{filter, filter_map, flat_map, cons_option}
+use Rattle.std.proofs.Common.{◌≡◌, ℕ, Bool, not, cond, ◌&&◌, List, ◌++◌, Option, Some, None, refl, sym, ap, ◌∙◌}
+use Rattle.std.specs.List.{filter, filter_map, flat_map}
 use Rattle.std.specs.Option.{option_map}
 use Rattle.cluster_msgs.specs.Shape.{key_count}
 use Rattle.cluster_msgs.specs.declared.messages.Down.{Down}
@@ -9,15 +8,14 @@ use Rattle.cluster_msgs.specs.declared.messages.ToClient.{ToClient}
 use Rattle.cluster_msgs.specs.declared.messages.ToClient.TheVariants.{KeyInMemory, LostData, ClientTaskErred}
 use Rattle.cluster_rules.specs.Functions.{from_one}
 use Rattle.cluster_rules.specs.Derived.{below}
-use Rattle.cluster_rules.specs.Sched.{Setting, Facts, keys, workers, held, erred, blame, holders}
-use Rattle.cluster_rules.specs.SchedTable.{Changed, change}
-use Rattle.cluster_rules.specs.SchedStep.{Stages, settle, lost, was_held, was_erred, down_messages, to_worker, free_message, task_messages, all_to, client_message, to_clients, reply_message, client_messages, posted, finish_step, sched_step}
+use Rattle.cluster_rules.specs.Sched.{workers, held, erred, blame, holders}
+use Rattle.cluster_rules.specs.SchedStep.{Stages, lost, was_held, was_erred, down_messages, to_worker, free_message, task_messages, all_to, to_clients, reply_message, client_messages, posted}
 use Rattle.sched_changes.specs.Pairs.{has_pair}
-use Rattle.sched_messages.specs.declared.answer.Answer.{Answer}
-use Rattle.sched_messages.specs.declared.answer.Answer.TheVariants.{Nothing, Refresh, AskBack, Remove}
-use Rattle.sched_messages.specs.Mail.{answer_of, worker_mail}
-use Rattle.sched_messages.specs.News.{told, client_mail, reply_of}
-use Rattle.sched_messages.specs.Posted.{posted_mail}
+use Rattle.sched_changes.specs.declared.answer.Answer.{Answer}
+use Rattle.sched_changes.specs.Answers.{answer_of}
+use Rattle.scheduler_core.specs.Mail.{worker_mail}
+use Rattle.scheduler_core.specs.News.{told, client_mail, reply_of}
+use Rattle.scheduler_core.specs.Posted.{posted_mail}
 
 pub down_same : (t : Stages) (ps : List (ℕ × ℕ)) (since : ℕ) (a : Answer) → ((w k : ℕ) → has_pair ps w k ≡ lost t w k) → since ≡ t.before.counter → ((w : ℕ) → answer_of a t.placed w ≡ t.changed.answer t.placed w) → t.placed.setting ≡ t.before.setting → flat_map (worker_mail t.placed ps since a) (workers t.placed) ≡ down_messages t
 unfolding down_messages to_worker worker_mail

@@ -1,13 +1,12 @@
 -- A key that is asked back stays where it is while the facts settle.
-use Rattle.std.proofs.Common.{◌≡◌, ℕ, Bool, true, false, cond, Option, Some, None, is_some, refl, sym, ap, ◌∙◌}
+use Rattle.std.proofs.Common.{◌≡◌, ℕ, Bool, true, false, cond, Option, Some, None, is_some, refl, ap, ◌∙◌}
 use Rattle.std.proofs.lemmas.Bool.{false≢true}
-use Rattle.cluster_rules.specs.Functions.{put}
 use Rattle.cluster_rules.specs.Derived.{below}
 use Rattle.cluster_rules.specs.Sched.{Facts, keys, known, wanted, need, held, erred, ready}
 use Rattle.cluster_rules.specs.SchedStep.{drop_bad, drop_has, drop_on, place_all}
 use Rattle.cluster_rules.proofs.SchedFrame.{placing_keys}
 use Rattle.cluster_laws.specs.Settled.{IsSettled}
-use Rattle.sched_book.specs.Settling.{let_go}
+use Rattle.scheduler_core.specs.Settling.{let_go}
 
 kept_some : {A : Type 0} (b : Bool) (o : Option A) → (is_some o ≡ true → b ≡ true) → cond b o None ≡ o
 kept_some true o h = refl

@@ -1,4 +1,11 @@
-pub mod Before
+pub mod Tidy
+pub mod Settling
+pub mod Dropped
+pub mod Roots
+pub mod Firsts
+pub mod Mail
+pub mod News
+pub mod Posted
 pub mod Sent
 pub mod Courses
 pub mod Cores

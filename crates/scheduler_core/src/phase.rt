@@ -4,64 +4,52 @@ ghost use Rattle.std.specs.List.{list_any};
 ghost use Rattle.cluster_rules.specs.Functions.{from_one};
 ghost use Rattle.cluster_msgs.specs.declared.cores.Phase.TheVariants.{Erred, Released, Memory, Waiting, Processing, NoWorker, Queued, Forgotten};
 ghost use Rattle.cluster_rules.specs.Sched.{keys, connected, fed, phase};
-ghost use Rattle.sched_facts.specs.Stored.{facts_of};
+ghost use Rattle.task_table.specs.Tasks.{facts};
 
 use cluster_msgs::Phase;
 use cluster_rules::Facts;
-use sched_book::Book;
-use sched_facts::derived::is_fed;
+use sched_changes::asking::place_of;
+use task_table::TaskTable;
 
 /// The state of a key: the first that fits. It is `Forgotten` where there is no such key.
-pub fn phase(book: &Book, key: u32) -> Phase
-    ensures { result ≡ phase (facts_of book.now) key }
+pub fn phase(table: &TaskTable, key: u32) -> Phase
+    ensures { result ≡ phase (facts table.now) key }
 {
-    book.sound();
-    if key < book.keys() {
-        phase_of(book, key)
+    table.sound();
+    if key < table.keys() {
+        phase_of(table, key)
     } else {
         Phase::Forgotten
     }
 }
 
 /// The state of a key that is there.
-fn phase_of(book: &Book, key: u32) -> Phase
-    requires { key < keys (facts_of book.now) }
-    ensures { result ≡ phase (facts_of book.now) key }
+fn phase_of(table: &TaskTable, key: u32) -> Phase
+    requires { key < keys (facts table.now) }
+    ensures { result ≡ phase (facts table.now) key }
 {
-    let rest = waiting_phase(
-        is_fed_key(book, key),
-        is_placed(book, key),
-        has_workers(book),
-    );
+    let rest = waiting_phase(table.is_fed(key), is_placed(table, key), has_workers(table));
     first_phase(
-        book.is_known(key),
-        book.erred(key),
-        book.needed(key),
-        book.held(key),
+        table.is_known(key),
+        table.erred(key),
+        table.needed(key),
+        table.held(key),
         rest,
     )
 }
 
-/// Whether each dependency of the key is held.
-fn is_fed_key(book: &Book, key: u32) -> bool
-    requires { key < keys (facts_of book.now) }
-    ensures { result ≡ fed (facts_of book.now) key }
-{
-    is_fed(book.table(), key)
-}
-
 /// Whether the key is on a worker.
-fn is_placed(book: &Book, key: u32) -> bool
-    ensures { result ≡ is_some ((facts_of book.now).on key) }
+fn is_placed(table: &TaskTable, key: u32) -> bool
+    ensures { result ≡ is_some ((facts table.now).on key) }
 {
-    book.table().on(key).is_some()
+    place_of(table, key).is_some()
 }
 
 /// Whether a worker is connected.
-fn has_workers(book: &Book) -> bool
-    ensures { result ≡ list_any (connected (facts_of book.now)) (from_one (facts_of book.now).last_worker) }
+fn has_workers(table: &TaskTable) -> bool
+    ensures { result ≡ list_any (connected (facts table.now)) (from_one (facts table.now).last_worker) }
 {
-    0 < book.table().connected_count()
+    0 < table.table().connected_count()
 }
 
 /// The state of a needed key that is not held: whether its dependencies are held, it is on a worker, and a worker is

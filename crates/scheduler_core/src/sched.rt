@@ -13,10 +13,10 @@ use crate::event::carry_out;
 use crate::phase::phase;
 use cluster_msgs::{GraphShape, Outbox, Phase, SchedEvent, Stop};
 use cluster_rules::Facts;
-use sched_book::Book;
-use sched_book::takes::takes;
+use sched_changes::{drop_for, steal_for, takes};
 use std::alloc::{AllocError, Global};
 use std::marker::Model;
+use task_table::TaskTable;
 
 /// A core takes at most this many events.
 const EVENT_LIMIT: u64 = 1_099_511_627_776;
@@ -25,7 +25,7 @@ const EVENT_LIMIT: u64 = 1_099_511_627_776;
 #[derive(Drop)]
 pub struct Sched {
     alloc: Global,
-    book: Book,
+    table: TaskTable,
     stopped: bool,
     taken: u64,
 }
@@ -60,10 +60,10 @@ impl Sched {
         ensures runs { IfOk result (λ sched. sched.stopped ≡ false) }
         ensures taken { IfOk result (λ sched. sched.taken ≡ 0) }
     {
-        let book = Book::new(alloc, shape, clients, saturation)?;
+        let table = TaskTable::new(alloc, shape, clients, saturation)?;
         Ok(Sched {
             alloc,
-            book,
+            table,
             stopped: false,
             taken: 0,
         })
@@ -112,13 +112,13 @@ impl Sched {
         if self.taken >= EVENT_LIMIT {
             return Err(Stop::Spent);
         }
-        self.book.sound();
-        let steal = self.book.steal_for(&event);
-        let drop = self.book.drop_for(&event);
-        if !takes(self.book.table(), &event, steal, drop) {
+        self.table.sound();
+        let steal = steal_for(&self.table, &event);
+        let drop = drop_for(&self.table, &event);
+        if !takes(&self.table, &event, steal, drop) {
             return Err(Stop::Refused);
         }
-        match carry_out(self.alloc, &mut self.book, &event, steal, drop, out) {
+        match carry_out(self.alloc, &mut self.table, &event, steal, drop, out) {
             Ok(()) => {
                 self.taken += 1;
                 Ok(())
@@ -134,10 +134,10 @@ impl Sched {
     pub fn takes(&self, event: &SchedEvent) -> bool
         ensures { result ≡ sched_takes (facts self.now) event.now }
     {
-        self.book.sound();
-        let steal = self.book.steal_for(event);
-        let drop = self.book.drop_for(event);
-        takes(self.book.table(), event, steal, drop)
+        self.table.sound();
+        let steal = steal_for(&self.table, event);
+        let drop = drop_for(&self.table, event);
+        takes(&self.table, event, steal, drop)
     }
 
     /// Until it stops, after every event, honest or not: only known keys have facts, only ready keys are on workers, and a
@@ -145,21 +145,21 @@ impl Sched {
     pub fn settled(&self)
         ensures { self.now.stopped ≡ false → IsSettled (facts self.now) }
     {
-        let _book = &self.book;
+        let _table = &self.table;
     }
 
     /// The state of a key: the first that fits. It is `Forgotten` where there is no such key. Takes no memory.
     pub fn phase(&self, key: u32) -> Phase
         ensures { result ≡ phase (facts self.now) key }
     {
-        phase(&self.book, key)
+        phase(&self.table, key)
     }
 
     /// Whether the key is in the cone of a wanted key. Takes no memory.
     pub fn known(&self, key: u32) -> bool
         ensures { result ≡ known (facts self.now) key }
     {
-        self.book.is_known(key)
+        self.table.is_known(key)
     }
 
     /// The key that an erred key is blamed on, itself or one of its cone, and `None` exactly where the key is not erred.
@@ -167,21 +167,21 @@ impl Sched {
     pub fn blame(&self, key: u32) -> Option<u32>
         ensures { result ≡ blame (facts self.now) key }
     {
-        self.book.blame(key)
+        self.table.blame(key)
     }
 
     /// How many finishes counted. Takes no memory.
     pub fn finishes(&self) -> u64
         ensures { result ≡ (facts self.now).finishes }
     {
-        self.book.table().finishes()
+        self.table.table().finishes()
     }
 
     /// The graph. Takes no memory.
     pub fn shape(&self) -> &GraphShape
         ensures { result.now ≡ (facts self.now).setting.shape }
     {
-        self.book.table().shape()
+        self.table.table().shape()
     }
 }
 
@@ -191,70 +191,70 @@ impl Facts for Sched {
     ghost facts = { λ s. facts_of s.stored };
 
     fn sound(&self) {
-        self.book.sound();
+        self.table.sound();
     }
 
     fn keys(&self) -> u32 {
-        self.book.keys()
+        self.table.keys()
     }
 
     fn needed(&self, key: u32) -> bool {
-        self.book.needed(key)
+        self.table.needed(key)
     }
 
     fn held(&self, key: u32) -> bool {
-        self.book.held(key)
+        self.table.held(key)
     }
 
     fn erred(&self, key: u32) -> bool {
-        self.book.erred(key)
+        self.table.erred(key)
     }
 
     fn holds(&self, worker: u32, key: u32) -> bool {
-        self.book.holds(worker, key)
+        self.table.holds(worker, key)
     }
 
     fn on(&self, key: u32) -> Option<u32> {
-        self.book.on(key)
+        self.table.on(key)
     }
 
     fn last_worker(&self) -> u32 {
-        self.book.last_worker()
+        self.table.last_worker()
     }
 
     fn connected(&self, worker: u32) -> bool {
-        self.book.connected(worker)
+        self.table.connected(worker)
     }
 
     fn threads(&self, worker: u32) -> u32 {
-        self.book.threads(worker)
+        self.table.threads(worker)
     }
 
     fn tasks(&self, worker: u32) -> u32 {
-        self.book.tasks(worker)
+        self.table.tasks(worker)
     }
 
     fn occupancy(&self, worker: u32) -> u64 {
-        self.book.occupancy(worker)
+        self.table.occupancy(worker)
     }
 
     fn bytes_held(&self, worker: u32) -> u64 {
-        self.book.bytes_held(worker)
+        self.table.bytes_held(worker)
     }
 
     fn holders(&self, key: u32) -> u32 {
-        self.book.holders(key)
+        self.table.holders(key)
     }
 
     fn waiters(&self, key: u32) -> u32 {
-        self.book.waiters(key)
+        self.table.waiters(key)
     }
 
     fn asked_steal(&self, key: u32) -> bool {
-        self.book.asked_steal(key)
+        self.table.asked_steal(key)
     }
 
     fn full(&self, worker: u32) -> bool {
-        self.book.full(worker)
+        self.table.full(worker)
     }
 }

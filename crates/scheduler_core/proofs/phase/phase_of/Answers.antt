@@ -1,7 +1,6 @@
-use Rattle.std.proofs.Common.{◌≡◌}
-use Rattle.sched_facts.specs.Stored.{facts_of}
+use Rattle.task_table.specs.Tasks.{facts}
 use Rattle.scheduler_core.proofs.PhaseLemmas.{phase_by}
 use Rattle.scheduler_core.proofs.phase.phase_of.Goals as goal
 
 pub returns : goal.returns
-returns c = phase_by (facts_of c.args.book.now) c.args.key _ _ _ _ _ _ _ _ _ c.is_known.ensures c.erred.ensures c.needed.ensures c.held.ensures c.is_fed_key.ensures c.is_placed.ensures c.has_workers.ensures c.waiting_phase-rest.ensures c.first_phase.ensures
+returns c = phase_by (facts c.args.table.now) c.args.key _ _ _ _ _ _ _ _ _ c.is_known.ensures c.erred.ensures c.needed.ensures c.held.ensures c.is_fed.ensures c.is_placed.ensures c.has_workers.ensures c.waiting_phase-rest.ensures c.first_phase.ensures

@@ -1,7 +1,7 @@
-use Rattle.std.proofs.Common.{◌≡◌, ◌<◌, ◌+◌, true, false, subst, sym, ap, ◌∙◌, arith}
+use Rattle.std.proofs.Common.{◌≡◌, ◌<◌, ◌+◌, true, subst, sym, ◌∙◌, arith}
 use Rattle.cluster_rules.specs.Sched.{Facts, keys}
 use Rattle.cluster_rules.specs.SchedTable.{sched_takes}
-use Rattle.sched_facts.specs.Stored.{Stored, facts_of}
+use Rattle.task_table.specs.Tasks.{facts}
 use Rattle.cluster_laws.specs.Attempts.{AttemptsEndForACause}
 use Rattle.cluster_laws.proofs.Attempts.{attempts_end}
 use Rattle.scheduler_core.specs.Inner.{IsAfter}
@@ -10,28 +10,29 @@ use Rattle.scheduler_core.proofs.sched.Sched.on.Goals as goal
 
 pub carry_out-requires-clause-room : goal.carry_out-requires-clause-room
 carry_out-requires-clause-room c =
-    let f = facts_of c.self.inside.book in
+    let f = facts c.self.inside.table in
     let l : c.self.inside.taken < 1099511627776 = omega (arith, c.if-self-ge-EVENT_LIMIT.false) in
     room_left f.counter (keys f) c.self.inside.taken (c.self.invariant.after c.if-self.false).counter c.sound.ensures.shape.few l
 
 pub carry_out-requires-clause-sent : goal.carry_out-requires-clause-sent
 carry_out-requires-clause-sent c w =
-    let f = facts_of c.self.inside.book in
+    let f = facts c.self.inside.table in
     let l : c.self.inside.taken < 1099511627776 = omega (arith, c.if-self-ge-EVENT_LIMIT.false) in
     sent_left (f.sent w) c.self.inside.taken ((c.self.invariant.after c.if-self.false).sent w) l
 
 pub invariant_of-self : goal.invariant_of-self
 invariant_of-self c =
-    let f = facts_of c.self.inside.book in
+    let f = facts c.self.inside.table in
     let n = c.self.inside.taken in
-    let h : sched_takes f c.args.event ≡ true = ap (λ (z : Stored). sched_takes (facts_of z) c.args.event) (sym c.table.ensures) ∙ sym c.takes.ensures ∙ c.if-not-takes.false in
+    let h : sched_takes f c.args.event ≡ true = sym c.takes.ensures ∙ c.if-not-takes.false in
     record {
       limit = omega (arith, c.if-self-ge-EVENT_LIMIT.false);
       after = λ e. subst (λ (z : Facts). IsAfter z (n + 1)) (sym c.in-Ok.ensures.facts) (after_more f c.args.event n c.sound.ensures h c.in-Ok.ensures.few (c.self.invariant.after c.if-self.false));
+      untouched = λ e. c.in-Ok.ensures.untouched;
     }
 
 pub returns-in-Ok-clause-attempts : goal.returns-in-Ok-clause-attempts
 returns-in-Ok-clause-attempts c =
-    let f = facts_of c.self.inside.book in
-    let h : sched_takes f c.args.event ≡ true = ap (λ (z : Stored). sched_takes (facts_of z) c.args.event) (sym c.table.ensures) ∙ sym c.takes.ensures ∙ c.if-not-takes.false in
+    let f = facts c.self.inside.table in
+    let h : sched_takes f c.args.event ≡ true = sym c.takes.ensures ∙ c.if-not-takes.false in
     rw (← c.self.view_is) (subst (λ (z : Facts). AttemptsEndForACause f c.args.event z) (sym c.in-Ok.ensures.facts) (attempts_end f c.args.event c.sound.ensures h))

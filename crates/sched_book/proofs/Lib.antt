@@ -1,4 +1,0 @@
-pub mod BookLemmas
-pub mod RowLemmas
-pub mod Counting
-pub mod RootLemmas

@@ -1,4 +1,0 @@
-pub mod MailLemmas
-pub mod NewsLemmas
-pub mod PostLemmas
-pub mod SentLemmas

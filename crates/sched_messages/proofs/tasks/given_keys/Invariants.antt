@@ -1,9 +1,0 @@
-use Rattle.std.proofs.Common.{◌≡◌}
-use Rattle.std.specs.List.{filter}
-use Rattle.cluster_rules.specs.Derived.{below}
-use Rattle.sched_facts.specs.Stored.{facts_of}
-use Rattle.sched_messages.specs.Mail.{is_since}
-use Rattle.sched_messages.proofs.tasks.given_keys.Given as goal
-
-abbrev pub invariant-loop-key : goal.invariant-loop-key
-invariant-loop-key l = l.all ≡ filter (λ k. is_since l.since ((facts_of l.table).on k)) (below l.key)
