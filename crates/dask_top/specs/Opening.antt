@@ -1,5 +1,6 @@
 -- What is known once a job's text was read, for the private functions.
 use Rattle.std.specs.Prelude.{◌≡◌, ◌≤◌, ℕ, List, [], length, take, slice_index_or, IfSome, IsSome, IsTrue}
+use Rattle.io_edge.specs.Given.{Gives}
 use Rattle.io_edge.specs.View.{View, Opens, OnlyReads, raised_by}
 use Rattle.job_run.specs.Plan.{Plan}
 use Rattle.dask_top.specs.Reading.{SaysPlan}
@@ -13,6 +14,7 @@ pub record TextRead (names : List (List ℕ)) (old mid : View) (read : List ℕ)
   pub later : old.read_faults ≤ mid.read_faults
   pub there : IsTrue old.files.tells → IsSome (old.files.held (slice_index_or names 0 []))
   pub same : IfSome (old.files.held (slice_index_or names 0 [])) (λ text. read ≡ take 1048577 text)
+  pub given : Gives old.gave mid.gave (λ holds. read ≡ take 1048577 (holds (slice_index_or names 0 [])))
 
 -- the text says this job
 pub record JobRead (names : List (List ℕ)) (old mid : View) (p : Plan) : Type 0 where

@@ -23,6 +23,10 @@ more_same old new e = record { more = []; is = e ∙ sym (append-nil old) }
 pub more_then : (old mid new : List Piece) → GivesMore old mid → GivesMore mid new → GivesMore old new
 more_then old mid new a b = record { more = a.more ++ b.more; is = b.is ∙ (ap (λ x. x ++ b.more) a.is ∙ append_assoc old a.more b.more) }
 
+-- nothing was given before and after
+pub more_around : (old mid between new : List Piece) → mid ≡ old → GivesMore mid between → new ≡ between → GivesMore old new
+more_around old mid between new before more after = more_then old mid new (more_same old mid before) (more_then mid between new more (more_same between new after))
+
 -- what was known stays so
 pub given_later : (old mid new : List Piece) (P : (List ℕ → List ℕ) → Type 0) → Gives old mid P → GivesMore mid new → Gives old new P
 given_later old mid new P g m = record {
@@ -57,19 +61,20 @@ pub nothing_read : (gave : List Piece) (name : List ℕ) (offset : ℕ) (buf : L
 nothing_read gave name offset buf = λ holds agree. record { inside = omega arith; told = refl }
 
 -- one call more, whose bytes lie at the buffer's rest
-pub more_read : (names : List (List ℕ)) (place offset size a n k : ℕ) (old new : List Piece) (buf part : List ℕ) → a ≤ length buf → n ≤ length part → a + n ≤ size - offset → 0 < n →
+pub more_read : (names : List (List ℕ)) (place offset size a n m k : ℕ) (old new : List Piece) (buf part : List ℕ) → a ≤ length buf → n ≤ length part → m ≡ a + n → m ≤ size - offset →
     new ≡ old ++ piece_at names place size (offset + a) (take n part) ∷ [] →
     OnGiven old (λ holds. HasRead (holds (slice_index_or names place [])) offset buf a) →
-    OnGiven new (λ holds. HasRead (holds (slice_index_or names place [])) offset (put_mid a k buf part) (a + n))
-more_read names place offset size a n k old new buf part la ln inside some e before = λ holds agree.
+    OnGiven new (λ holds. HasRead (holds (slice_index_or names place [])) offset (put_mid a k buf part) m)
+more_read names place offset size a n m k old new buf part la ln is inside e before = λ holds agree.
     let p : Piece = piece_at names place size (offset + a) (take n part) in
     let file : List ℕ = holds (slice_index_or names place []) in
     let was : HasRead file offset buf a = before holds (agrees_before holds old new p e agree) in
     let from : IsFrom file size (offset + a) (take n part) = agrees_last holds old new p e agree in
     let l : length (take n part) ≡ n = length-take-le n part ln in
+    let T : ℕ → Type 0 = λ m. take m (put_mid a k buf part) ≡ take m (drop offset file) in
     record {
       inside = omega (arith, from.whole, inside);
-      told = read_more (Told file) offset a n k buf part la ln was.told (from.part ∙ ap (λ m. take m (drop (offset + a) file)) l);
+      told = subst T (sym is) (read_more (Told file) offset a n k buf part la ln was.told (from.part ∙ ap (λ m. take m (drop (offset + a) file)) l));
     }
 
 -- the buffer is full
@@ -77,16 +82,14 @@ pub all_read : (gave : List Piece) (name : List ℕ) (offset n : ℕ) (old buf :
 all_read gave name offset n old buf low high read = λ holds agree. let r = read holds agree in record { count = omega (arith, low, high, r.inside); told = r.told }
 
 -- a call read nothing, since the file ends there
-pub ended_read : (names : List (List ℕ)) (place offset size n : ℕ) (old new : List Piece) (bytes full buf : List ℕ) → n ≤ length full → size ≤ offset + n →
-    new ≡ old ++ piece_at names place size (offset + n) bytes ∷ [] →
-    OnGiven old (λ holds. HasRead (holds (slice_index_or names place [])) offset buf n) →
+pub ended_read : (names : List (List ℕ)) (place offset at size n : ℕ) (old new : List Piece) (bytes full buf : List ℕ) → n ≤ length full → size ≤ offset + n →
+    new ≡ old ++ piece_at names place size at bytes ∷ [] →
+    OnGiven new (λ holds. HasRead (holds (slice_index_or names place [])) offset buf n) →
     OnGiven new (λ holds. ReadsAll (Told (holds (slice_index_or names place []))) offset full buf n)
-ended_read names place offset size n old new bytes full buf low ended e before = λ holds agree.
-    let p : Piece = piece_at names place size (offset + n) bytes in
-    let file : List ℕ = holds (slice_index_or names place []) in
-    let was : HasRead file offset buf n = before holds (agrees_before holds old new p e agree) in
-    let from : IsFrom file size (offset + n) bytes = agrees_last holds old new p e agree in
-    record { count = omega (arith, was.inside, from.whole, low, ended); told = was.told }
+ended_read names place offset at size n old new bytes full buf low ended e read = λ holds agree.
+    let r : HasRead (holds (slice_index_or names place [])) offset buf n = read holds agree in
+    let from : IsFrom (holds (slice_index_or names place [])) size at bytes = agrees_last holds old new (piece_at names place size at bytes) e agree in
+    record { count = omega (arith, r.inside, from.whole, low, ended); told = r.told }
 
 pub one_more : (old mid new : List Piece) (p : Piece) → GivesMore old mid → new ≡ mid ++ p ∷ [] → GivesMore old new
 one_more old mid new p a e = more_then old mid new a (record { more = p ∷ []; is = e })
