@@ -51,7 +51,9 @@ impl Store for MemoryStore {
             self.faults = self.faults.saturating_add(1);
             return Err(Failed);
         }
-        Ok(self.files[file as usize].len() as u64)
+        let size = self.files[file as usize].len() as u64;
+        self.gave.note(&[file as u64, size, 0], &[]);
+        Ok(size)
     }
 
     fn read_at(&mut self, file: u32, offset: u64, buf: &mut [u8]) -> Result<usize, Failed> {
