@@ -1,11 +1,12 @@
 -- Transcripts that grow, and what is known of files that gave them.
 use Rattle.std.proofs.Common.{◌≡◌, ◌≤◌, ◌<◌, ◌+◌, ◌-◌, ℕ, min, List, [], ◌∷◌, ◌++◌, length, take, drop, refl, sym, ◌∙◌, ap, subst, arith, append_assoc}
-use Rattle.std.proofs.lemmas.List.{append-nil, get_or_append_left, get_or_at, length_push, length-append, length-take-le}
+use Rattle.std.proofs.lemmas.List.{append-nil, get_or_append_left, get_or_at, length_push, length-append, length-take-le, take_min}
 use Rattle.std.specs.Prelude.{slice_index_or}
 use borrow.Rule.Slice.PartMut.{put_mid}
 use Rattle.std.specs.List.{All}
 use Rattle.io_edge.specs.Content.{Reads, ReadsAll, Told}
 use Rattle.io_edge.proofs.Pieces.{read_more}
+use Rattle.io_edge.specs.View.{OnlyReads, View}
 use Rattle.io_edge.specs.Given.{Agree, Gives, GivesMore, IsFrom, OnGiven, Piece, piece_at}
 
 module _ {X : Type 0} (P : X → Type 0) where
@@ -93,3 +94,23 @@ ended_read names place offset at size n old new bytes full buf low ended e read 
 
 pub one_more : (old mid new : List Piece) (p : Piece) → GivesMore old mid → new ≡ mid ++ p ∷ [] → GivesMore old new
 one_more old mid new p a e = more_then old mid new a (record { more = p ∷ []; is = e })
+
+-- ## A site's
+
+-- the pieces of a store that was given back
+pub given_back : (old mid new store : List Piece) (P : (List ℕ → List ℕ) → Type 0) → mid ≡ old → new ≡ mid ++ store → OnGiven store P → Gives old new P
+given_back old mid new store P before is known = record { more = store; is = is ∙ ap (λ x. x ++ store) before; holds = known }
+
+pub reads_then : (old mid new : View) → OnlyReads old mid → OnlyReads mid new → OnlyReads old new
+reads_then old mid new a b = record {
+  gave = more_then old.gave mid.gave new.gave a.gave b.gave;
+  out = b.out ∙ a.out;
+  err = b.err ∙ a.err;
+  write_faults = b.write_faults ∙ a.write_faults;
+  print_faults = b.print_faults ∙ a.print_faults;
+  note_faults = b.note_faults ∙ a.note_faults;
+}
+
+-- a buffer's front, and the front of the file that it was read of
+pub front_read : (file old buf : List ℕ) (n most : ℕ) → ReadsAll (Told file) 0 old buf n → length old ≡ most → take n buf ≡ take most file
+front_read file old buf n most r l = let e : n ≡ min most (length file) = omega (arith, r.count, l) in r.told ∙ (ap (λ m. take m file) e ∙ take_min most file)
