@@ -3,6 +3,7 @@ use Rattle.std.proofs.Common.{◌≡◌, ℕ, ◌≤◌, List, ◌++◌, ap, sym
 use Rattle.std.specs.Prelude.{IfSome, IsSomeAnd}
 use Rattle.io_edge.specs.Cause.{Rose}
 use Rattle.io_edge.specs.Content.{followed_by, PrintsPart}
+use Rattle.io_edge.proofs.GivenLaws.{more_same, more_then}
 use Rattle.io_edge.specs.View.{View, Files, Opens, OnlyReads, OnlyErr, raised_by}
 use Rattle.job_run.specs.declared.ends.Ended.{Ended}
 use Rattle.job_run.specs.declared.ends.Ended.TheVariants as RunEnds
@@ -22,7 +23,7 @@ use Rattle.dask_top.specs.Opening.{TextRead, JobRead}
 use Rattle.dask_top.specs.Telling.{IsRefusal, Told, end_of}
 use Rattle.dask_top.specs.Works.{Evaluates, JobOpened, WorkDoes}
 use Rattle.dask_top.proofs.Opening.{raised_by-append, raised_first, raised_more}
-use Rattle.dask_top.proofs.Reading.{is_read}
+use Rattle.dask_top.proofs.Reading.{is_given, is_read}
 use Rattle.dask_top.proofs.Unread.{notes_before}
 
 -- ## After it, only standard error got its line
@@ -246,6 +247,7 @@ pub run_performs : (names : List (List ℕ)) (p : Plan) (old mid done new : View
 run_performs names p old mid done new end now j runs told only notes = record {
   reading = Some (Ok p);
   read = is_read names old mid j.read (Ok p) j.text j.says;
+  given = is_given names old mid new j.read (Ok p) j.text j.says (more_then mid.gave done.gave new.gave runs.gave (more_same done.gave new.gave only.gave));
   does = evaluated names p old done new end now told only (evaluates names p old mid done j.read end j.text runs);
   tells = ap (λ (x : Files). x.tells) only.files ∙ (runs.tells ∙ j.text.opens.tells);
   notes = notes_before (Some (Ok p)) old done new now (runs.err ∙ j.text.only.err) (runs.note_faults ∙ j.text.only.note_faults) notes;

@@ -1,7 +1,9 @@
 -- The first bytes of a text tell what the whole is, and the texts of one source.
-use Rattle.std.proofs.Common.{◌≡◌, ℕ, List, [], ◌∷◌, length, get_or, take, refl, sym, subst, arith, Option, Some, None, Result, Ok, Err}
+use Rattle.std.proofs.Common.{◌≡◌, ℕ, List, [], ◌∷◌, length, get_or, map, take, refl, sym, subst, arith, Option, Some, None, Result, Ok, Err}
 use Rattle.std.specs.Prelude.{IfSome, IsSome, IsTrue, option_and_then}
 use Rattle.std.specs.Option.{option_map}
+use Rattle.io_edge.specs.Given.{Gives, GivesMore}
+use Rattle.io_edge.proofs.GivenLaws.{given_as, given_later}
 use Rattle.io_edge.specs.View.{View, Files}
 use Rattle.job_run.specs.Plan.{Plan}
 use Rattle.job_text.specs.declared.error.JobError.{JobError}
@@ -50,3 +52,15 @@ pub is_read : (names : List (List ℕ)) (old mid : View) (read : List ℕ) (r : 
 is_read names old mid read r t reads =
     let P : List (List ℕ) → Type 0 = λ ns. IsRead ns old.files r in
     subst P (sym (single names t.one)) (read_alone (get_or names 0 []) read old.files r t.there t.same reads)
+
+-- the same of what the files hold that gave the text
+given_alone : (read text : List ℕ) (r : Result Plan JobError) → read ≡ take 1048577 text → Reads (read ∷ []) r → Reads (text ∷ []) r
+given_alone read text r same reads = let P : List ℕ → Type 0 = λ t. Reads (t ∷ []) r in read_whole text r (subst P same reads)
+
+pub is_given : (names : List (List ℕ)) (old mid new : View) (read : List ℕ) (r : Result Plan JobError) → TextRead names old mid read → Reads (read ∷ []) r → GivesMore mid.gave new.gave → Gives old.gave new.gave (λ holds. Reads (map holds names) r)
+is_given names old mid new read r t reads more =
+    let name = get_or names 0 [] in
+    given_later old.gave mid.gave new.gave (λ holds. Reads (map holds names) r)
+    (given_as old.gave mid.gave (λ holds. read ≡ take 1048577 (holds name)) (λ holds. Reads (map holds names) r) (λ holds same.
+        let P : List (List ℕ) → Type 0 = λ ns. Reads (map holds ns) r in
+        subst P (sym (single names t.one)) (given_alone read (holds name) r same reads)) t.given) more

@@ -2,6 +2,7 @@
 use Rattle.std.proofs.Common.{◌≡◌, ℕ, ◌≤◌, List, ◌++◌, refl, ap, sym, ◌∙◌, subst, inl, inr, Some, Ok}
 use Rattle.std.specs.Prelude.{IsSomeAnd}
 use Rattle.io_edge.specs.Content.{followed_by}
+use Rattle.io_edge.proofs.GivenLaws.{more_same, more_then}
 use Rattle.io_edge.specs.View.{View, Files, Opens, OnlyReads, OnlyErr, raised_by}
 use Rattle.job_run.specs.declared.ends.Ended.{Ended}
 use Rattle.job_run.specs.declared.ends.Ended.TheVariants as RunEnds
@@ -22,7 +23,7 @@ use Rattle.dask_top.specs.Telling.{IsRefusal, Told, end_of, sim_end_of}
 use Rattle.dask_top.specs.Works.{SimOpened, Simulates, WorkDoes}
 use Rattle.dask_top.proofs.Evaluating.{all_before, cause_before, fit_before, front_before, front_told, looked_before, memory_saves, opened_before, refusal_opened, right_before, saves_before, values_before}
 use Rattle.dask_top.proofs.Over.{prints_over, told_over}
-use Rattle.dask_top.proofs.Reading.{is_read}
+use Rattle.dask_top.proofs.Reading.{is_given, is_read}
 use Rattle.dask_top.proofs.Unread.{notes_before}
 
 -- ## After it, only standard error got its line
@@ -180,6 +181,7 @@ pub sim_performs : (names : List (List ℕ)) (p : Plan) (said : SimWords) (old m
 sim_performs names p said old mid done new end now j sims told only notes = record {
   reading = Some (Ok p);
   read = is_read names old mid j.read (Ok p) j.text j.says;
+  given = is_given names old mid new j.read (Ok p) j.text j.says (more_then mid.gave done.gave new.gave sims.gave (more_same done.gave new.gave only.gave));
   does = simulated names p said old done new end now told only (simulates names p said old mid done j.read end j.text sims);
   tells = ap (λ (x : Files). x.tells) only.files ∙ (sims.tells ∙ j.text.opens.tells);
   notes = notes_before (Some (Ok p)) old done new now (sims.err ∙ j.text.only.err) (sims.note_faults ∙ j.text.only.note_faults) notes;

@@ -1,6 +1,7 @@
 -- A call that came to no job: the sources weren't read to their end, or say none.
 use Rattle.std.proofs.Common.{◌≡◌, ℕ, List, refl, ap, sym, ◌∙◌, subst, inl, inr, None, Some, Err}
 use Rattle.io_edge.specs.Cause.{Rose}
+use Rattle.io_edge.proofs.GivenLaws.{more_same}
 use Rattle.io_edge.specs.View.{View, Files, Opens, OnlyReads, OnlyErr}
 use Rattle.job_run.specs.Part.{RaisedAtMost}
 use Rattle.job_run.specs.Runs.{AreUntouched}
@@ -16,7 +17,7 @@ use Rattle.dask_top.specs.Reading.{Reading, RefusesText}
 use Rattle.dask_top.specs.Telling.{IsRefusal, Told}
 use Rattle.dask_top.specs.TextEnds.{TextEnds}
 use Rattle.dask_top.specs.Works.{RefusalCause, StaysUnread, UnreadCause}
-use Rattle.dask_top.proofs.Reading.{is_read}
+use Rattle.dask_top.proofs.Reading.{is_given, is_read}
 
 -- ## What is told
 
@@ -54,6 +55,7 @@ unread_performs : (names : List (List ℕ)) (old mid new : View) (end : End) (wo
 unread_performs names old mid new end work opens reads only cause notes = record {
   reading = None;
   read = tt;
+  given = tt;
   does = unread names old mid new end opens reads only cause;
   tells = ap (λ (x : Files). x.tells) only.files ∙ opens.tells;
   notes = notes_before None old mid new end reads.err reads.note_faults notes;
@@ -85,6 +87,7 @@ refused_performs : (names : List (List ℕ)) (e : JobError) (old mid new : View)
 refused_performs names e old mid new read now work t refuses cause only notes = record {
   reading = Some (Err e);
   read = is_read names old mid read (Err e) t refuses;
+  given = is_given names old mid new read (Err e) t refuses (more_same mid.gave new.gave only.gave);
   does = record { cause = cause; untouched = untouched names old mid new t.opens only; opened = ap (λ (x : Files). x.opened) only.files ∙ t.opened; prints = only.out ∙ t.only.out };
   tells = ap (λ (x : Files). x.tells) only.files ∙ t.opens.tells;
   notes = notes_before (Some (Err e)) old mid new now t.only.err t.only.note_faults notes;

@@ -3,6 +3,7 @@ ghost use Rattle.std.specs.Prelude.{◌≡◌, ◌≤◌, ◌<◌, ◌+◌, leng
 ghost use Rattle.io_edge.specs.Content.{Told, overwritten, Reads};
 
 use crate::script::{Kind, Most, Script};
+use crate::transcript::Transcript;
 use crate::{Failed, OutFile, Store};
 use std::alloc::Global;
 use std::sync::Arc;
@@ -16,6 +17,7 @@ pub struct MemoryStore {
     pub(crate) place: u64,
     pub(crate) lengths: u64,
     pub(crate) reads: u64,
+    pub(crate) gave: Transcript,
     pub(crate) most: Most,
     pub(crate) script: Arc<Script, Global>,
 }
@@ -36,6 +38,10 @@ fn copy_from(bytes: &[u8], offset: u64, buf: &mut [u8], most: Most) -> usize
 impl Store for MemoryStore {
     ghost files = { λ s. map (λ v. Told v.items) s.files.items };
 
+    ghost names = { λ s. s.gave.names };
+
+    ghost gave = { λ s. s.gave.pieces };
+
     ghost count = { λ s. s.faults };
 
     fn len(&mut self, file: u32) -> Result<u64, Failed> {
@@ -45,7 +51,9 @@ impl Store for MemoryStore {
             self.faults = self.faults.saturating_add(1);
             return Err(Failed);
         }
-        Ok(self.files[file as usize].len() as u64)
+        let size = self.files[file as usize].len() as u64;
+        self.gave.note(&[file as u64, size, 0], &[]);
+        Ok(size)
     }
 
     fn read_at(&mut self, file: u32, offset: u64, buf: &mut [u8]) -> Result<usize, Failed> {
@@ -56,7 +64,10 @@ impl Store for MemoryStore {
             return Err(Failed);
         }
         let bytes = &self.files[file as usize];
-        Ok(copy_from(bytes.as_slice(), offset, buf, self.most))
+        let size = bytes.len() as u64;
+        let count = copy_from(bytes.as_slice(), offset, buf, self.most);
+        self.gave.note(&[file as u64, size, offset], &buf[..count]);
+        Ok(count)
     }
 
     fn faults(&self) -> u64 {

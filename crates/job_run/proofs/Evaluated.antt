@@ -4,6 +4,7 @@ use Rattle.std.specs.Prelude.{Bool, bytes_eq, false, IfSome, IsSome, IsTrue, Opt
 use Rattle.std.proofs.lemmas.List.{get_or-map, length-map}
 use Rattle.io_edge.specs.Cause.{Rose, TakesFaults}
 use Rattle.io_edge.specs.Content.{Content, Told, Untold, OnTold, file_at, told_bytes}
+use Rattle.io_edge.proofs.GivenLaws.{more_around, more_same}
 use Rattle.io_edge.specs.View.{View, Files, OnlyReads, OnlyWrites, raised_by}
 use Rattle.nd_shape.specs.Block.{Array}
 use Rattle.array_expr.specs.Node.{shape_at}
@@ -88,7 +89,7 @@ pub files_given : (files : List Saving) (mid new : View) → GivesBack files mid
 files_given files mid new gives writes later takes = record {
   same = record { count = refl; names = λ k h. refl; dims = λ k h. refl; told = λ k h t. t };
   files_same = refl;
-  reads = record { out = refl; err = refl; write_faults = refl; print_faults = refl; note_faults = refl };
+  reads = record { gave = more_same mid.gave mid.gave refl; out = refl; err = refl; write_faults = refl; print_faults = refl; note_faults = refl };
   faults = record { later = omega arith; risen = λ h. absurd (omega (arith, h)) };
   gives = gives;
   writes = writes;
@@ -145,6 +146,7 @@ module _ (p : Plan) (named : Named) (old mid between new : View) (files now : Li
     tells = back.gives.tells ∙ (ap (λ (f : Files). f.tells) back.files_same ∙ made.tells);
     opened = back.gives.opened ∙ (ap (λ (f : Files). f.opened) back.files_same ∙ made.opened);
     created = creates (names_saved p) old.files.created new.files.created end created_is;
+    gave = more_around old.gave mid.gave between.gave new.gave made.only.gave back.reads.gave back.writes.gave;
     out = back.writes.out ∙ (back.reads.out ∙ made.only.out);
     err = back.writes.err ∙ (back.reads.err ∙ made.only.err);
     note_faults = back.writes.note_faults ∙ (back.reads.note_faults ∙ made.only.note_faults);
@@ -241,6 +243,7 @@ refused p named old mid new told end shapes r c cause saves created = record {
   tells = ap (λ (f : Files). f.tells) c.files_same ∙ r.tells;
   opened = ap (λ (f : Files). f.opened) c.files_same ∙ r.opened;
   created = created (let P : (List ℕ → ℕ) → Type 0 = λ x. RaisedAtMost (names_saved p) old.files.created x in subst P (sym (ap (λ (f : Files). f.created) c.files_same)) r.created);
+  gave = more_around old.gave mid.gave new.gave new.gave r.only.gave c.reads.gave refl;
   out = c.reads.out ∙ r.only.out;
   err = c.reads.err ∙ r.only.err;
   note_faults = c.reads.note_faults ∙ r.only.note_faults;

@@ -3,6 +3,7 @@ use Rattle.std.proofs.Common.{◌≡◌, ℕ, ◌≤◌, List, [], get_or, refl,
 use Rattle.std.specs.Prelude.{IfSome, IsTrue, Option, Some, None}
 use Rattle.io_edge.specs.Cause.{Rose}
 use Rattle.io_edge.specs.Content.{Content, followed_by, PrintsPart}
+use Rattle.io_edge.proofs.GivenLaws.{more_same, more_then}
 use Rattle.io_edge.specs.View.{View, Files, Opens, OnlyReads, OnlyOut, raised_by}
 use Rattle.nd_shape.specs.Block.{Array}
 use Rattle.npy_codec.specs.declared.head.Head.{Head}
@@ -79,6 +80,7 @@ early_runs p old new end is cause opens only opened = record {
   opened = opened;
   created = early_created (names_saved p) old.files.created new.files.created end is opens.created;
   prints = early_prints p old new end is only.out;
+  gave = only.gave;
   err = only.err;
   note_faults = only.note_faults;
 }
@@ -95,7 +97,7 @@ opens_nothing names files = record {
 }
 
 reads_nothing : (v : View) → OnlyReads v v
-reads_nothing v = record { out = refl; err = refl; write_faults = refl; print_faults = refl; note_faults = refl }
+reads_nothing v = record { gave = more_same v.gave v.gave refl; out = refl; err = refl; write_faults = refl; print_faults = refl; note_faults = refl }
 
 -- want of memory before the inputs are opened
 pub memory_runs : (p : Plan) (v : View) → RunsPlan p v v OutOfMemory
@@ -171,6 +173,7 @@ module _ (p : Plan) (old mid new : View) (files : List Content) (heads : List He
     opened = opened;
     created = created;
     prints = prints;
+    gave = more_then old.gave mid.gave new.gave a.only.gave e.gave;
     err = e.err ∙ a.only.err;
     note_faults = e.note_faults ∙ a.only.note_faults;
   }
@@ -227,6 +230,7 @@ module _ (p : Plan) (old mid saved new : View) (files : List Content) (heads : L
     opened = opened;
     created = created;
     prints = out;
+    gave = more_then old.gave saved.gave new.gave (more_then old.gave mid.gave saved.gave a.only.gave e.gave) (more_same saved.gave new.gave prints.gave);
     err = prints.err ∙ (e.err ∙ a.only.err);
     note_faults = prints.note_faults ∙ (e.note_faults ∙ a.only.note_faults);
   }

@@ -2,6 +2,7 @@
 use Rattle.std.specs.Prelude.{◌≡◌, ◌≢◌, ◌⊎◌, ◌≤◌, ◌<◌, ℕ, List, [], ◌∷◌, cond, nat_eq, length, take, slice_index_or, Option, Some, None, Bool, IsTrue, IsSome}
 use Rattle.io_edge.specs.Cause.{Rose}
 use Rattle.io_edge.specs.Content.{OnTold, told_bytes}
+use Rattle.io_edge.specs.Given.{GivesMore}
 use Rattle.io_edge.specs.View.{View, Files, raised_by}
 use Rattle.nd_shape.specs.Block.{Array}
 use Rattle.nd_shape.specs.Region.{Box}
@@ -180,6 +181,7 @@ pub record EvaluatesInputs (p : Plan) (named : Named) (told : Type 0) (old new :
   pub tells : new.files.tells ≡ old.files.tells
   pub opened : new.files.opened ≡ old.files.opened
   pub created : EvaluationCreates (names_saved p) old.files.created new.files.created end
+  pub gave : GivesMore old.gave new.gave
   pub out : new.out ≡ old.out
   pub err : new.err ≡ old.err
   pub note_faults : new.note_faults ≡ old.note_faults

@@ -2,6 +2,7 @@
 use Rattle.std.specs.Prelude.{◌≡◌, ◌⊎◌, ℕ, List, ◌++◌, codes, IsTrue, None, Some}
 use Rattle.io_edge.specs.Cause.{Rose}
 use Rattle.io_edge.specs.Content.{followed_by, PrintsPart}
+use Rattle.io_edge.specs.Given.{GivesMore}
 use Rattle.io_edge.specs.View.{View, Files, raised_by}
 use Rattle.plain_eval.specs.Eval.{held_in}
 use Rattle.lowering_laws.specs.Lowered.{limit_of}
@@ -127,5 +128,6 @@ pub record RunsPlan (p : Plan) (old new : View) (end : Ended) : Type 0 where
   pub opened : Opened p.inputs old.files.opened new.files.opened end
   pub created : Created (names_saved p) old.files.created new.files.created end
   pub prints : Prints p old new end
+  pub gave : GivesMore old.gave new.gave
   pub err : new.err ≡ old.err
   pub note_faults : new.note_faults ≡ old.note_faults

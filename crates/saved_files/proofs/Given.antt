@@ -110,10 +110,11 @@ takes_more done s before mid now all earlier takes kept = record {
 -- ## What else stays
 
 pub only_none : (old : View) → OnlyWrites old old
-only_none old = record { out = refl; err = refl; read_faults = refl; print_faults = refl; note_faults = refl }
+only_none old = record { gave = refl; out = refl; err = refl; read_faults = refl; print_faults = refl; note_faults = refl }
 
 pub only_more : (old mid new : View) → OnlyWrites old mid → OnlyWrites mid new → OnlyWrites old new
 only_more old mid new first then = record {
+  gave = then.gave ∙ first.gave;
   out = then.out ∙ first.out;
   err = then.err ∙ first.err;
   read_faults = then.read_faults ∙ first.read_faults;

@@ -3,6 +3,8 @@ use Rattle.std.proofs.Common.{◌≡◌, ℕ, ◌≤◌, List, [], length, get_o
 use Rattle.std.specs.Prelude.{IsSome, IsTrue}
 use Rattle.io_edge.specs.Cause.{Rose}
 use Rattle.io_edge.specs.Content.{Content, Told, Untold, OnTold, PrintsPart, file_at, followed_by, told_bytes}
+use Rattle.io_edge.specs.Given.{GivesMore}
+use Rattle.io_edge.proofs.GivenLaws.{more_same, more_then}
 use Rattle.io_edge.specs.View.{View, Files, OnlyOut, OnlyReads, Opens, raised_by}
 use Rattle.npy_codec.specs.declared.head.Head.{Head}
 use Rattle.cluster_msgs.specs.declared.events.Report.{Report}
@@ -44,6 +46,7 @@ ran p s old new end r cause saves created prints = record {
   opened = r.opened;
   created = created;
   prints = prints;
+  gave = r.gave;
   err = r.err;
   note_faults = r.note_faults;
 }
@@ -92,6 +95,7 @@ record Follows (p : Plan) (old new : View) : Type 0 where
   others : (n : List ℕ) → IsNoneOf n (names_saved p) → new.files.held n ≡ old.files.held n
   tells : new.files.tells ≡ old.files.tells
   opened : new.files.opened ≡ raised_by p.inputs old.files.opened
+  gave : GivesMore old.gave new.gave
   err : new.err ≡ old.err
   note_faults : new.note_faults ≡ old.note_faults
 
@@ -103,6 +107,7 @@ follows-out p old saved new only f =
       others = λ n none. ap (λ (x : Files). x.held n) only.files ∙ f.others n none;
       tells = ap (λ (x : Files). x.tells) only.files ∙ f.tells;
       opened = ap (λ (x : Files). x.opened) only.files ∙ f.opened;
+      gave = more_then old.gave saved.gave new.gave f.gave (more_same saved.gave new.gave only.gave);
       err = only.err ∙ f.err;
       note_faults = only.note_faults ∙ f.note_faults;
     }
@@ -118,6 +123,7 @@ ends p s old new end f cause saves opened created prints = record {
   opened = opened;
   created = created;
   prints = prints;
+  gave = f.gave;
   err = f.err;
   note_faults = f.note_faults;
 }
@@ -129,6 +135,7 @@ module _ (p : Plan) (s : SimWords) (old mid : View) (files : List Content) (head
     others = λ n none. f.others n none ∙ ap (λ g. g n) a.opens.held;
     tells = f.tells ∙ a.opens.tells;
     opened = f.opened ∙ a.opened;
+    gave = more_then old.gave mid.gave new.gave a.only.gave f.gave;
     err = f.err ∙ a.only.err;
     note_faults = f.note_faults ∙ a.only.note_faults;
   }

@@ -3,6 +3,7 @@ use Rattle.std.proofs.Common.{◌≡◌, ℕ, ◌<◌, List, refl, ap, sym, ◌�
 use Rattle.std.specs.Prelude.{IsTrue}
 use Rattle.io_edge.specs.Cause.{Rose, TakesFaults}
 use Rattle.io_edge.specs.Content.{Content}
+use Rattle.io_edge.proofs.GivenLaws.{more_around}
 use Rattle.io_edge.specs.View.{Files, OnlyReads, View, raised_by}
 use Rattle.npy_codec.specs.declared.head.Head.{Head}
 use Rattle.block_lowering.specs.Jobs.{TellsFeed}
@@ -78,6 +79,7 @@ files-given p start given old mid new r =
       tells = r.saves.tells;
       opened = r.saves.opened;
       created = r.saves.created;
+      gave = more_around old.gave mid.gave new.gave new.gave r.saves.only.gave r.reads.gave refl;
       out = r.reads.out ∙ r.saves.only.out;
       err = r.reads.err ∙ r.saves.only.err;
       note_faults = r.reads.note_faults ∙ r.saves.only.note_faults;

@@ -2,6 +2,7 @@
 use Rattle.std.specs.Prelude.{◌≡◌, ◌⊎◌, ℕ, List, IfSome}
 use Rattle.io_edge.specs.Cause.{Rose}
 use Rattle.io_edge.specs.Content.{followed_by}
+use Rattle.io_edge.specs.Given.{GivesMore}
 use Rattle.io_edge.specs.View.{View, Files, raised_by}
 use Rattle.cluster_msgs.specs.declared.events.Report.{Report}
 use Rattle.cluster_rules.specs.World.{Job}
@@ -85,5 +86,6 @@ pub record SimulatesPlan (p : Plan) (s : SimWords) (old new : View) (end : SimEn
   pub opened : Opened p.inputs old.files.opened new.files.opened end
   pub created : Created (names_saved p) old.files.created new.files.created end
   pub prints : Prints p s old new end
+  pub gave : GivesMore old.gave new.gave
   pub err : new.err ≡ old.err
   pub note_faults : new.note_faults ≡ old.note_faults

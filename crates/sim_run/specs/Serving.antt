@@ -1,6 +1,7 @@
 -- What the private functions answer of a simulation over open inputs.
 use Rattle.std.specs.Prelude.{◌≡◌, ◌≤◌, ◌<◌, ℕ, List, IsTrue, map, length, Some}
 use Rattle.io_edge.specs.Cause.{Rose}
+use Rattle.io_edge.specs.Given.{GivesMore}
 use Rattle.io_edge.specs.View.{View, Files, OnlyWrites, raised_by}
 use Rattle.cluster_msgs.specs.declared.events.Report.{Report}
 use Rattle.cluster_rules.specs.World.{Job}
@@ -98,6 +99,7 @@ pub record ServesFiles (p : Plan) (old new : View) : Type 0 where
   pub tells : new.files.tells ≡ old.files.tells
   pub opened : new.files.opened ≡ old.files.opened
   pub created : RaisedAtMost (names_saved p) old.files.created new.files.created
+  pub gave : GivesMore old.gave new.gave
   pub out : new.out ≡ old.out
   pub err : new.err ≡ old.err
   pub note_faults : new.note_faults ≡ old.note_faults

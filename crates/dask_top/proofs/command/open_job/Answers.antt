@@ -13,5 +13,5 @@ returns-in-Err-OutOfMemory-clause-ends g c = memory_performs (map string_bytes c
 
 pub returns-clause-ends : goal.returns-clause-ends
 returns-clause-ends g c = text_performs (map string_bytes c.args.names.now) (g.S.Site.view c.args.site.now) (g.S.Site.view c.read_text.new.site) (g.S.Site.view c.tell_text-in-Err.new.site) c.deref.result.now c.in-Err.end c.tell_text-in-Err.result
-    (record { one = length-map _ _ ∙ c.requires.one; opens = c.read_text.ensures.opens; opened = c.in-Ok.ensures.opened; only = c.read_text.ensures.only; later = c.read_text.ensures.cause.later; there = c.in-Ok.ensures.there; same = rw c.deref.ensures.value c.in-Ok.ensures.text })
+    (record { one = length-map _ _ ∙ c.requires.one; opens = c.read_text.ensures.opens; opened = c.in-Ok.ensures.opened; only = c.read_text.ensures.only; later = c.read_text.ensures.cause.later; there = c.in-Ok.ensures.there; same = rw c.deref.ensures.value c.in-Ok.ensures.text; given = rw c.deref.ensures.value c.in-Ok.ensures.given })
     c.in-Err.ensures.ends c.tell_text-in-Err.ensures.told c.tell_text-in-Err.ensures.only c.tell_text-in-Err.ensures.notes

@@ -1,4 +1,4 @@
-use Rattle.std.proofs.Common.{map, string_bytes, length, ◌+◌, ◌∙◌, ap, arith}
+use Rattle.std.proofs.Common.{map, string_bytes, length, ◌+◌, ◌∙◌, ap, refl, arith}
 use Rattle.std.proofs.lemmas.List.{map_push, length_push, length-map}
 use Rattle.io_edge.specs.Real.{real_files}
 use Rattle.io_edge.proofs.OpeningLaws.{on_err, one_more_name, knows_item, knows_kept, opens_then, opens_no_names, opens_up_to, shows_then, shows_none}
@@ -13,6 +13,7 @@ loop-name-init g c = record {
   files_room = c.requires.files;
   sizes_room = c.requires.sizes;
   faults = c.requires.no_faults;
+  gave = refl;
 }
 
 pub open_real-requires : goal.open_real-requires
@@ -37,4 +38,5 @@ loop-name-preserved g c =
       files_room = omega (arith, c.loop-name.invariant.files_room, c.push_reserved.ensures.files_room);
       sizes_room = omega (arith, c.loop-name.invariant.sizes_room, c.push_reserved.ensures.sizes_room);
       faults = c.push_reserved.ensures.faults ∙ c.loop-name.invariant.faults;
+      gave = c.push_reserved.ensures.gave ∙ c.loop-name.invariant.gave;
     }

@@ -14,4 +14,5 @@ invariant-loop-name g l = record {
   files_room : length l.names ≤ vec_capacity l.store.files;
   sizes_room : length l.names ≤ vec_capacity l.store.sizes;
   faults : l.store.faults ≡ 0;
+  gave : l.store.gave ≡ l.initial.store.gave;
 }

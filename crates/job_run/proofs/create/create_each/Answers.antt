@@ -16,7 +16,7 @@ loop-save-init g c = record {
       let site = (g.S.Site.view c.args.site.now).files in
       let P : List Saving → Type 0 = λ files. CreatesFirst (plan_of c.args.job.now) 0 site site files in
       subst P (sym c.requires.none) (creates_none (plan_of c.args.job.now) site);
-  only = record { out = refl; err = refl; read_faults = refl; print_faults = refl; note_faults = refl };
+  only = record { gave = refl; out = refl; err = refl; read_faults = refl; print_faults = refl; note_faults = refl };
   later = omega arith;
 }
 
@@ -67,6 +67,7 @@ loop-save-preserved g c =
             fresh = c.in_ok-create.ensures.fresh;
           });
       only = record {
+        gave = c.create.ensures.only.gave ∙ c.loop-save.invariant.only.gave;
         out = c.create.ensures.only.out ∙ c.loop-save.invariant.only.out;
         err = c.create.ensures.only.err ∙ c.loop-save.invariant.only.err;
         read_faults = c.create.ensures.only.read_faults ∙ c.loop-save.invariant.only.read_faults;

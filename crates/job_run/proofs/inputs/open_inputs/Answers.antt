@@ -1,4 +1,5 @@
 use Rattle.std.proofs.Common.{◌≡◌, ◌∙◌, ap, length, arith}
+use Rattle.io_edge.proofs.GivenLaws.{reads_then}
 use Rattle.job_run.specs.Jobs.{plan_of}
 use Rattle.job_run.specs.Plan.{input_shapes}
 use Rattle.job_run.proofs.Loads.{few_shapes, load_cause, loaded_fit}
@@ -20,3 +21,6 @@ returns-clause-cause g c =
     let e : c.deref.result.now ≡ input_shapes c.args.job.now.expr = c.deref.ensures.value ∙ (c.in_ok-shapes.ensures ∙ ap input_shapes c.nodes.ensures.value) in
     load_cause (plan_of c.args.job.now) (g.S.Site.view c.args.site.now) (g.S.Site.view c.give_store.new.self) (g.S.Site.view c.store.new.self).files (g.S.In.Store.files c.in-Ok.store) (g.S.In.Store.count c.read_heads.new.store) c.in-Err.end
     (record { shows = rw c.as_slice.ensures.value at c.in-Ok.ensures.shows; declared = c.requires.runs.inputs }) (rw c.in-Ok.ensures.kept at c.give_store.ensures.cause.risen) (rw (e, c.in-Ok.ensures.fresh) at c.in-Err.ensures.cause)
+
+pub returns-clause-only : goal.returns-clause-only
+returns-clause-only g c = reads_then (g.S.Site.view c.args.site.now) (g.S.Site.view c.store.new.self) (g.S.Site.view c.give_store.new.self) c.in-Ok.ensures.only c.give_store.ensures.only
