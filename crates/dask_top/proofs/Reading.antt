@@ -62,5 +62,5 @@ is_given names old mid new read r t reads more =
     let name = get_or names 0 [] in
     given_later old.gave mid.gave new.gave (λ holds. Reads (map holds names) r)
     (given_as old.gave mid.gave (λ holds. read ≡ take 1048577 (holds name)) (λ holds. Reads (map holds names) r) (λ holds same.
-        let P : List (List ℕ) → Type 0 = λ ns. Reads (map holds ns) r in
-        subst P (sym (single names t.one)) (given_alone read (holds name) r same reads)) t.given) more
+    let P : List (List ℕ) → Type 0 = λ ns. Reads (map holds ns) r in
+    subst P (sym (single names t.one)) (given_alone read (holds name) r same reads)) t.given) more
