@@ -22,7 +22,7 @@ use Rattle.cluster_sim.specs.Plans.{IsPlan}
 use Rattle.cluster_sim.specs.Standing.{IsFor, IsStanding}
 use Rattle.cluster_sim.specs.Openings.{IsOpen}
 use Rattle.cluster_sim.specs.Simulations.{HasAll, IfBlamed}
-use Rattle.cluster_sim.specs.declared.standing.Standing.{Standing}
+use Rattle.cluster_sim.specs.declared.position.Standing.{Standing}
 use Rattle.cluster_sim.proofs.EndLemmas.{found_passes, none_is, got_all, all_to}
 
 -- the failure that ends a simulation is one that the client was told

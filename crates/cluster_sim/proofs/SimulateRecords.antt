@@ -22,7 +22,7 @@ use Rattle.cluster_sim.specs.Passing.{first_standing}
 use Rattle.cluster_sim.specs.Openings.{AreWanted, HasOpened}
 use Rattle.cluster_sim.specs.Turns.{IsBetween, IsDrawn, HasServed, HasPlayed}
 use Rattle.cluster_sim.specs.Simulations.{IsReported, IsCut, IsExhausted, GoesOn, IsUnfinished, IfBlamed}
-use Rattle.cluster_sim.specs.declared.standing.Standing.{Standing}
+use Rattle.cluster_sim.specs.declared.position.Standing.{Standing}
 use Rattle.cluster_sim.specs.declared.run.Run.{Run}
 use Rattle.cluster_sim.proofs.CourseLemmas.{course_start, course_end}
 use Rattle.cluster_sim.proofs.SimulateLemmas.{standing_first, blame_is}

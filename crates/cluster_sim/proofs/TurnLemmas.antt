@@ -18,7 +18,7 @@ use Rattle.cluster_sim.specs.Standing.{sim_of, made_by, IsFor, IsStanding, event
 use Rattle.cluster_sim.specs.Passing.{IsKindOf, after, CanPass, IsLeft}
 use Rattle.cluster_sim.specs.Drawn.{IsAtTurn}
 use Rattle.cluster_sim.specs.declared.words.Words.{Words}
-use Rattle.cluster_sim.specs.declared.standing.Standing.{Standing}
+use Rattle.cluster_sim.specs.declared.position.Standing.{Standing}
 use Rattle.cluster_sim.specs.declared.choice.Kind.{Kind}
 use Rattle.cluster_sim.specs.declared.choice.Kind.TheVariants as kind
 use Rattle.cluster_sim.proofs.ClientKeeps.{IsQuiet}

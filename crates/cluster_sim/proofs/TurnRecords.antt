@@ -20,7 +20,7 @@ use Rattle.cluster_sim.specs.Seen.{IsSeen, tells_failure}
 use Rattle.cluster_sim.specs.Standing.{sim_of, made_by, IsStanding, left}
 use Rattle.cluster_sim.specs.Passing.{IsKindOf, after, IsLeft}
 use Rattle.cluster_sim.specs.Turns.{IsBetween, IsDrawn, HasGone, IsFull}
-use Rattle.cluster_sim.specs.declared.standing.Standing.{Standing}
+use Rattle.cluster_sim.specs.declared.position.Standing.{Standing}
 use Rattle.cluster_sim.specs.declared.choice.Kind.{Kind}
 use Rattle.cluster_sim.specs.declared.choice.Kind.TheVariants as kind
 use Rattle.cluster_sim.specs.declared.run.Run.{Run}

@@ -4,7 +4,7 @@ use Rattle.cluster_msgs.specs.declared.events.Event.{Event}
 use Rattle.cluster_msgs.specs.declared.events.Event.TheVariants.{Evict, Balance}
 use Rattle.cluster_rules.specs.Client.{ClientFacts}
 use Rattle.cluster_rules.specs.Draw.{over}
-use Rattle.cluster_sim.specs.declared.standing.Standing.{Standing}
+use Rattle.cluster_sim.specs.declared.position.Standing.{Standing}
 use Rattle.cluster_sim.specs.declared.choice.Kind.{Kind}
 use Rattle.cluster_sim.specs.declared.choice.Kind.TheVariants as kind
 use Rattle.cluster_sim.specs.declared.choice.Choice.{Choice}

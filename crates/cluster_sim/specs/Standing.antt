@@ -8,7 +8,7 @@ use Rattle.cluster_rules.specs.Client.{ClientFacts}
 use Rattle.cluster_rules.specs.World.{World, shape_of}
 use Rattle.cluster_rules.specs.Draw.{Plan, Sim, Next, Over, Scripted, Evicts, Balances, Spent, Drawn}
 use Rattle.cluster_sim.specs.Plans.{joins_in}
-use Rattle.cluster_sim.specs.declared.standing.Standing.{Standing}
+use Rattle.cluster_sim.specs.declared.position.Standing.{Standing}
 use Rattle.cluster_sim.specs.declared.choice.Kind.{Kind}
 use Rattle.cluster_sim.specs.declared.choice.Kind.TheVariants as kind
 use Rattle.cluster_sim.specs.declared.choice.Choice.{Choice}

@@ -15,9 +15,9 @@ ghost use Rattle.cluster_sim.specs.Passing.{IsChoice};
 use crate::choice::{Choice, Kind};
 use crate::ended::end_of;
 use crate::plan::SimPlan;
+use crate::position::Standing;
 use crate::script::next_item;
 use crate::seen::Seen;
-use crate::standing::Standing;
 use cluster_msgs::{Event, JobSpec, KeyList};
 use cluster_world::World;
 

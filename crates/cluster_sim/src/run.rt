@@ -4,8 +4,8 @@ ghost use Rattle.cluster_sim.specs.Drawn.{IsAtTurn};
 ghost use Rattle.cluster_sim.specs.Passing.{after, CanPass};
 
 use crate::choice::Kind;
+use crate::position::Standing;
 use crate::seen::Seen;
-use crate::standing::Standing;
 use crate::words::Words;
 use run_report::Tally;
 

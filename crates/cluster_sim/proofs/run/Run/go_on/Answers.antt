@@ -1,6 +1,6 @@
 use Rattle.std.proofs.Common.{sym, subst}
 use Rattle.cluster_sim.specs.Drawn.{IsAtTurn}
-use Rattle.cluster_sim.specs.declared.standing.Standing.{Standing}
+use Rattle.cluster_sim.specs.declared.position.Standing.{Standing}
 use Rattle.cluster_sim.proofs.TurnLemmas.{words_drawn, words_same}
 use Rattle.cluster_sim.proofs.run.Run.go_on.Goals as goal
 
