@@ -1,11 +1,11 @@
 //! The open asks, ascending by peer.
-ghost use Rattle.std.specs.Prelude.{◌≡◌, ◌==◌, ◌+◌, ◌<◌, ◌≤◌, ℕ, [], true, Some, nat_lt, is_some, length, All, IfOk, IfSome, OnOk, OnErr};
+ghost use Rattle.std.specs.Prelude.{◌≡◌, ◌==◌, ◌+◌, ◌<◌, ◌≤◌, ℕ, [], true, Some, nat_lt, is_some, length, slice_index_or, All, IfOk, IfSome, OnOk, OnErr};
 ghost use Rattle.std.specs.List.{list_any, position, position_or_len};
 ghost use Rattle.std.specs.Option.{option_copied, option_map};
 ghost use Rattle.cluster_rules.specs.Worker.{Ask, ask_to, with_ask, without_ask, is_asked_for};
-ghost use Rattle.open_asks.specs.Kept.{asked_items};
+ghost use Rattle.open_asks.specs.Kept.{asked_items, without_first};
 
-use crate::marks::{mark_asked, mark_items, unmark_asked};
+use crate::marks::{mark_asked, mark_items, unmark_asked, unmark_items};
 use fact_rows::Row;
 use std::alloc::{AllocError, Global};
 use std::marker::Model;
@@ -96,6 +96,13 @@ impl Asks {
         })
     }
 
+    /// What the asks keep: they name keys below their number alone.
+    pub fn sound(&self)
+        ensures { (k : ℕ) → is_asked_for self.now.asks k ≡ true → k < self.now.wide }
+    {
+        let _flying = &self.flying;
+    }
+
     /// Whether an ask to this peer is open.
     pub fn has(&self, peer: u32) -> bool
         ensures { result ≡ is_some (ask_to self.now.asks peer) }
@@ -150,6 +157,37 @@ impl Asks {
         Ok(())
     }
 
+    /// Where an ask to this peer would have its place: before the first to a greater peer.
+    pub fn place_for(&self, peer: u32) -> usize
+        ensures { result ≡ position_or_len (λ (a : Ask). nat_lt peer a.peer) self.now.asks }
+    {
+        place_for(self.asks.as_slice(), peer)
+    }
+
+    /// The items of the ask at this place.
+    pub fn items_at(&self, place: usize) -> &[(u32, u64)]
+        requires { place < length self.now.asks }
+        ensures { (d : Ask) → result.now ≡ (slice_index_or self.now.asks place d).items }
+    {
+        self.asks[place].items()
+    }
+
+    /// Closes the first ask to a peer, if one is open, and gives it back.
+    pub fn take(&mut self, peer: u32) -> Option<OpenAsk>
+        ensures ask { result ≡ ask_to self.old.asks peer }
+        ensures rest { self.new ≡ record self.old { asks = without_first self.old.asks peer } }
+    {
+        match place_of(self.asks.as_slice(), peer) {
+            Some(place) => {
+                let ask = self.asks.remove(place);
+                unmark_items(&mut self.flying, ask.items());
+                mark_asked(&mut self.flying, self.asks.as_slice());
+                Some(ask)
+            }
+            None => None,
+        }
+    }
+
     /// Closes the ask to a peer, if one is open.
     pub fn close(&mut self, peer: u32)
         ensures { self.new ≡ record self.old { asks = without_ask self.old.asks peer } }
@@ -200,4 +238,11 @@ fn place_for(asks: &[OpenAsk], peer: u32) -> usize
         Some(place) => place,
         None => asks.len(),
     }
+}
+
+/// The place of the first ask to this peer.
+fn place_of(asks: &[OpenAsk], peer: u32) -> Option<usize>
+    ensures { result ≡ position (λ (a : Ask). a.peer == peer) asks.now }
+{
+    asks.iter().position(|ask| ask.peer() == peer)
 }

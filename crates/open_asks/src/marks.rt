@@ -49,7 +49,7 @@ fn unmark_key(row: &mut Row<bool>, key: u32)
 }
 
 /// Takes the marks of the keys of these items away.
-fn unmark_items(row: &mut Row<bool>, items: &[(u32, u64)])
+pub fn unmark_items(row: &mut Row<bool>, items: &[(u32, u64)])
     ensures marked { (k : ℕ) → k < length row.old → read row.new false k ≡ (read row.old false k && not (list_any (λ i. i.0 == k) items.now)) }
     ensures length { length row.new ≡ length row.old }
 {

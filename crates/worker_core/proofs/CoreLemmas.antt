@@ -12,7 +12,7 @@ use Rattle.cluster_rules.specs.Worker.{Ask, WorkerFacts, names_key, is_asked_for
 use Rattle.cluster_rules.specs.WorkerStep.{WorkerStep, after_out, each_key, unasked_keys, keys_of}
 use Rattle.cluster_rules.proofs.Members.{any_some}
 use Rattle.cluster_rules.proofs.InsideWorker.{found_in, keys_below}
-use Rattle.worker_facts.specs.Stored.{asked_items}
+use Rattle.open_asks.specs.Kept.{asked_items}
 
 -- a row for one more member
 each_key-push : {A : Type 0} (row : WorkerFacts → A → WorkerStep) (s : WorkerStep) (xs : List A) (x : A) → each_key row s (xs ++ x ∷ []) ≡ after_out (each_key row s xs).out (row (each_key row s xs).facts x)

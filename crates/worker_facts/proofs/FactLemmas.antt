@@ -25,32 +25,6 @@ use Rattle.cluster_rules.proofs.Members.{range_from, range_to, any_some}
 use Rattle.fact_rows.specs.Rows.{read}
 use Rattle.worker_facts.specs.Stored.{pends, waiters}
 
--- places in a list
-pub place_some : (b : Bool) (n i : ℕ) → Some i ≡ cond b (Some n) None → i ≡ n
-place_some true n i h = cc
-place_some false n i h = cc
-
-pub place_none : (b : Bool) (n : ℕ) → None ≡ cond b (Some n) None → b ≡ false
-place_none true n h = cc
-place_none false n h = refl
-
--- a mark
-pub or_mark : (b : Bool) (k key : ℕ) → cond (k == key) true b ≡ (b || (key == k))
-or_mark true k key = same (k == key)
-  where
-    same : (c : Bool) → cond c true true ≡ true
-    same true = refl
-    same false = refl
-or_mark false k key = same (k == key) ∙ eqb_comm k key
-  where
-    same : (c : Bool) → cond c true false ≡ c
-    same true = refl
-    same false = refl
-
-pub or_assoc : (a b c : Bool) → ((a || b) || c) ≡ (a || (b || c))
-or_assoc true b c = refl
-or_assoc false b c = refl
-
 or_true : (b : Bool) → (b || true) ≡ true
 or_true true = refl
 or_true false = refl
@@ -58,19 +32,6 @@ or_true false = refl
 or_false : (b : Bool) → (b || false) ≡ b
 or_false true = refl
 or_false false = refl
-
--- a truth value as a number
-pub byte_is : (b : Bool) → bool_byte b ≡ cond b 1 0
-byte_is true = refl
-byte_is false = refl
-
-pub byte_small : (b : Bool) → bool_byte b ≤ 1
-byte_small true = omega arith
-byte_small false = omega arith
-
-pub not_true : (b : Bool) → (b ≡ true → ⊥) → b ≡ false
-not_true true h = absurd (h refl)
-not_true false h = refl
 
 -- a test of some member counts more than none
 pub any_count : (p : ℕ → Bool) (xs : List ℕ) → list_any p xs ≡ nat_lt 0 (count p xs)
@@ -183,54 +144,6 @@ pends-running mine running running' key to e = same_function _ _ at_place
     at_place : (j : ℕ) → pends mine running' j ≡ put (pends mine running) key (is_some (read mine None key) && not to) j
     at_place j = ap (λ f. is_some (read mine None j) && not (f j)) e ∙ pick j (j == key) refl
 
--- open asks
-pub asked-with : (a : Ask) (bs : List Ask) (k : ℕ) → is_asked_for (with_ask a bs) k ≡ (names_key k a || is_asked_for bs k)
-asked-with a [] k = refl
-asked-with a (b ∷ bs) k = pick (nat_lt a.peer b.peer) (asked-with a bs k)
-  where
-    turn : (x y z : Bool) → (x || (y || z)) ≡ (y || (x || z))
-    turn true true z = refl
-    turn true false z = refl
-    turn false y z = refl
-
-    pick : (t : Bool) → is_asked_for (with_ask a bs) k ≡ (names_key k a || is_asked_for bs k) → is_asked_for (cond t (a ∷ b ∷ bs) (b ∷ with_ask a bs)) k ≡ (names_key k a || (names_key k b || is_asked_for bs k))
-    pick true r = refl
-    pick false r = ap (λ x. names_key k b || x) r ∙ turn (names_key k b) (names_key k a) (is_asked_for bs k)
-
-pub asked-without : (asks : List Ask) (p k : ℕ) → is_asked_for asks k ≡ false → is_asked_for (without_ask asks p) k ≡ false
-asked-without [] p k h = refl
-asked-without (a ∷ bs) p k h = pick (a.peer == p) (asked-without bs p k (second (names_key k a) (is_asked_for bs k) h))
-  where
-    first : (x y : Bool) → (x || y) ≡ false → x ≡ false
-    first true y h = h
-    first false y h = refl
-
-    second : (x y : Bool) → (x || y) ≡ false → y ≡ false
-    second true y h = absurd (true≢false h)
-    second false y h = h
-
-    pick : (t : Bool) → is_asked_for (without_ask bs p) k ≡ false → is_asked_for (cond (not t) (a ∷ without_ask bs p) (without_ask bs p)) k ≡ false
-    pick true r = r
-    pick false r = ap (λ x. x || is_asked_for (without_ask bs p) k) (first (names_key k a) (is_asked_for bs k) h) ∙ r
-
-pub with_ask-insert : (a : Ask) (bs : List Ask) → insert bs (position_or_len (λ (b : Ask). nat_lt a.peer b.peer) bs) a ≡ with_ask a bs
-with_ask-insert a [] = refl
-with_ask-insert a (b ∷ bs) = pick (nat_lt a.peer b.peer) (with_ask-insert a bs)
-  where
-    n : ℕ
-    n = position_or_len (λ (c : Ask). nat_lt a.peer c.peer) bs
-
-    later : insert (b ∷ bs) (1 + n) a ≡ b ∷ insert bs n a
-    later = ap (λ m. insert (b ∷ bs) m a) (let e : 1 + n ≡ suc n = omega arith in e)
-
-    pick : (t : Bool) → insert bs n a ≡ with_ask a bs → insert (b ∷ bs) (cond (not t) (1 + n) 0) a ≡ cond t (a ∷ b ∷ bs) (b ∷ with_ask a bs)
-    pick true r = refl
-    pick false r = later ∙ ap (λ xs. b ∷ xs) r
-
--- a row that is right at each key is right everywhere
-pub flying_all : (row : List Bool) (asks : List Ask) (n : ℕ) → length row ≡ n → ((k : ℕ) → k < n → read row false k ≡ is_asked_for asks k) → ((k : ℕ) → n ≤ k → is_asked_for asks k ≡ false) → (k : ℕ) → read row false k ≡ is_asked_for asks k
-flying_all row asks n e inside outside k = ⊎_elim (λ h. inside k h) (λ h. get_or_past row k false (omega (arith, e)) ∙ sym (outside k h)) (cases_lt k n)
-
 -- searches over the keys
 pub any_below : (p : ℕ → Bool) (j n : ℕ) → j < n → p j ≡ true → list_any p (below n) ≡ true
 any_below p j n l e = any_some p (below n) j (range_to 0 n j (omega arith) (omega arith)) e
@@ -305,9 +218,6 @@ ready-of false b c d e h = absurd (false≢true h)
 ends : (n m : ℕ) → n ≤ m → nat_lt n m ≡ false → m ≡ n
 ends n m l h = grind (arith, nat_tests)
 
-pub place_end : {A : Type 0} (p : A → Bool) (xs : List A) → nat_lt (position_or_len p xs) (length xs) ≡ false → length xs ≡ position_or_len p xs
-place_end p xs h = ends (position_or_len p xs) (length xs) (prefix_len-le-length (λ x. not (p x)) xs) h
-
 -- a member of a rising list isn't among those before it
 pub not_yet : (keys : List ℕ) (i : ℕ) → i < length keys → IsStrictlyIncreasing keys → is_in (get_or keys i 0) (take i keys) ≡ false
 not_yet keys i l r = front i (omega arith)
@@ -378,25 +288,6 @@ taken_off row row' base keys i l r old full new k =
     pick : (b : Bool) → (k == get_or keys i 0) ≡ b → cond b (read row 0 (get_or keys i 0) - 1) (read row 0 k) + cond (is_in k (take i keys) || (get_or keys i 0 == k)) 1 0 ≡ base k
     pick true e = here k (eqb-true k (get_or keys i 0) e)
     pick false e = ap (λ b. read row 0 k + cond (is_in k (take i keys) || b) 1 0) (eqb_comm (get_or keys i 0) k ∙ e) ∙ ap (λ b. read row 0 k + cond b 1 0) (or_false (is_in k (take i keys))) ∙ old k
-
--- a front that fits one ask
-pub fits_more : (p : ℕ → Bool) (n : ℕ) → length (filter p (from_one (n + 1))) ≡ length (filter p (from_one n)) + cond (p (1 + n)) 1 0
-fits_more p n =
-    ap length (filter-more p 1 n) ∙ length-append (filter p (from_one n)) (cond (p (1 + n)) ((1 + n) ∷ []) []) ∙ ap (λ m. length (filter p (from_one n)) + m) (last (p (1 + n)))
-  where
-    last : (b : Bool) → length (cond b ((1 + n) ∷ []) []) ≡ cond b 1 0
-    last true = refl
-    last false = refl
-
-pub bytes_more : (g : Shape) (is : List (ℕ × ℕ)) (n : ℕ) (d : ℕ × ℕ) → n < length is → total_bytes g (take (n + 1) is) ≡ total_bytes g (take n is) + nbytes_of g (get_or is n d).0
-bytes_more g is n d l =
-    ap (λ xs. total (nbytes_of g) (map (λ (i : ℕ × ℕ). i.0) xs)) (take_more is n d l)
-    ∙ ap (total (nbytes_of g)) (map-append (λ (i : ℕ × ℕ). i.0) (take n is) (get_or is n d ∷ []))
-    ∙ total-push (nbytes_of g) (map (λ (i : ℕ × ℕ). i.0) (take n is)) (get_or is n d).0
-
-pub first_is : (n : ℕ) → (n == 0) ≡ ((1 + n) == 1)
-first_is zero = refl
-first_is (suc n) = grind (arith, nat_tests)
 
 pub ask_then : {A : Type 0} (o : Option A) (b h : Bool) → h ≡ is_some o → h ≡ false → b ≡ (is_none o && b)
 ask_then None b h e z = refl

@@ -58,16 +58,6 @@ pends mine running j = is_some (read mine None j) && not (read running false j)
 abbrev pub waiters : Shape → (ℕ → Bool) → ℕ → ℕ
 waiters g pend k = count (λ j. pend j && is_in k (deps_of g j)) (below (key_count g))
 
--- the items of an ask, where it has this number
-abbrev pub asked_items : Option Ask → ℕ → Option (List (ℕ × ℕ))
-asked_items None n = None
-asked_items (Some a) n = cond (a.number == n) (Some a.items) None
-
--- without the first ask to this peer
-abbrev pub without_first : List Ask → ℕ → List Ask
-without_first [] p = []
-without_first (a ∷ bs) p = cond (a.peer == p) bs (a ∷ without_first bs p)
-
 -- a task of the worker depends on the key
 abbrev pub uses_key : WorkerFacts → ℕ → ℕ → Bool
 uses_key w k j = is_some (w.mine j) && is_in k (deps_of w.shape j)

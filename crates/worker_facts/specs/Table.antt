@@ -1,7 +1,6 @@
--- The rows of a `WorkerTable`, with two that are derived: which keys fly, and how many pending tasks depend on each.
-use Rattle.std.specs.Prelude.{◌≡◌, ℕ, false, length}
+-- The rows of a `WorkerTable`, with one that is derived: how many pending tasks depend on each key.
+use Rattle.std.specs.Prelude.{◌≡◌, ℕ, length}
 use Rattle.cluster_msgs.specs.Shape.{key_count}
-use Rattle.cluster_rules.specs.Worker.{is_asked_for}
 use Rattle.fact_rows.specs.Rows.{read}
 use Rattle.worker_facts.specs.Stored.{Stored, IsStored, pends, waiters}
 use Rattle.worker_facts.specs.declared.table.WorkerTable.TheInside.{Inside}
@@ -15,7 +14,7 @@ stored a = record {
   mine = a.mine;
   mem = a.mem;
   running = a.running;
-  asks = a.asks.items;
+  asks = a.asks.asks;
   holders = a.holders.items;
   asked = a.asked;
   sought = a.sought;
@@ -25,7 +24,6 @@ stored a = record {
 
 pub record IsTable (a : Inside) : Type 0 where
   pub rows : IsStored (stored a)
-  pub flying_each : length a.flying ≡ key_count a.shape
+  pub wide : a.asks.wide ≡ key_count a.shape
   pub awaiting_each : length a.awaiting ≡ key_count a.shape
-  pub flying : (k : ℕ) → read a.flying false k ≡ is_asked_for a.asks.items k
   pub awaiting : (k : ℕ) → read a.awaiting 0 k ≡ waiters a.shape (pends a.mine a.running) k

@@ -1,63 +1,10 @@
-//! Loops that mark keys, and count them.
-ghost use Rattle.std.specs.Prelude.{◌≡◌, ◌==◌, ◌||◌, ◌&&◌, not, ◌+◌, ◌<◌, ◌≤◌, ◌^◌, ℕ, cond, true, false, length, All};
-ghost use Rattle.std.specs.List.{list_any};
+//! Loops that count keys.
+ghost use Rattle.std.specs.Prelude.{◌≡◌, ◌&&◌, ◌+◌, ◌<◌, ◌^◌, ℕ, cond, true, length, All};
 ghost use Rattle.std.specs.List.Sorted.{IsStrictlyIncreasing};
 ghost use Rattle.cluster_rules.specs.Derived.{is_in};
-ghost use Rattle.cluster_rules.specs.Worker.{is_asked_for};
 ghost use Rattle.fact_rows.specs.Rows.{read};
 
-use crate::asks::OpenAsk;
 use fact_rows::Row;
-
-/// Marks a key, where the row has it.
-fn mark_key(row: &mut Row<bool>, key: u32)
-    ensures marked { (k : ℕ) → k < length row.old → read row.new false k ≡ (read row.old false k || key == k) }
-    ensures length { length row.new ≡ length row.old }
-{
-    if (key as usize) < row.len() {
-        row.set(key, true);
-    }
-}
-
-/// Marks the keys of these items.
-pub fn mark_items(row: &mut Row<bool>, items: &[(u32, u64)])
-    ensures marked { (k : ℕ) → k < length row.old → read row.new false k ≡ (read row.old false k || list_any (λ i. i.0 == k) items.now) }
-    ensures length { length row.new ≡ length row.old }
-{
-    for item in items {
-        mark_key(row, item.0);
-    }
-}
-
-/// Takes the mark of a key away, where the row has it.
-fn unmark_key(row: &mut Row<bool>, key: u32)
-    ensures marked { (k : ℕ) → k < length row.old → read row.new false k ≡ (read row.old false k && not (key == k)) }
-    ensures length { length row.new ≡ length row.old }
-{
-    if (key as usize) < row.len() {
-        row.set(key, false);
-    }
-}
-
-/// Takes the marks of the keys of these items away.
-pub fn unmark_items(row: &mut Row<bool>, items: &[(u32, u64)])
-    ensures marked { (k : ℕ) → k < length row.old → read row.new false k ≡ (read row.old false k && not (list_any (λ i. i.0 == k) items.now)) }
-    ensures length { length row.new ≡ length row.old }
-{
-    for item in items {
-        unmark_key(row, item.0);
-    }
-}
-
-/// Marks the keys that these asks name.
-pub fn mark_asked(row: &mut Row<bool>, asks: &[OpenAsk])
-    ensures marked { (k : ℕ) → k < length row.old → read row.new false k ≡ (read row.old false k || is_asked_for asks.now k) }
-    ensures length { length row.new ≡ length row.old }
-{
-    for ask in asks {
-        mark_items(row, ask.items());
-    }
-}
 
 /// Counts one more at each of these keys.
 fn add_one(row: &mut Row<u32>, keys: &[u32])

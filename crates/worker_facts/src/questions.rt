@@ -2,16 +2,10 @@
 ghost use Rattle.std.specs.Prelude.{◌≡◌, ℕ, ◌-◌, ◌<◌, ◌≤◌, ◌^◌, cond, min};
 ghost use Rattle.cluster_msgs.specs.Shape.{key_count};
 ghost use Rattle.cluster_rules.specs.Worker.{wstate, is_ready_state, is_fetch_state, is_missing_state, is_unstarted_state, is_wanted, used, pairs};
-ghost use Rattle.worker_facts.specs.Stored.{facts_of, uses_key, is_lacking, fitting_count};
+ghost use Rattle.worker_facts.specs.Stored.{facts_of, uses_key, is_lacking};
 
 use crate::table::WorkerTable;
 use cluster_msgs::WState;
-
-/// At most this many keys go into one ask.
-const ASK_KEYS: usize = 16;
-
-/// An ask of more than one key is for at most this many bytes.
-const ASK_BYTES: u64 = 67_108_864;
 
 impl WorkerTable {
     /// The state of a key. It is `Forgotten` where there is no such key.
@@ -105,19 +99,6 @@ impl WorkerTable {
         ensures { result ≡ is_missing_state (wstate (facts_of self.now) key) }
     {
         self.is_lacking(key) & !self.has_holder(key)
-    }
-
-    /// How many of these items, from the first, go into one ask.
-    pub fn fitting_count(&self, items: &[(u32, u64)]) -> usize
-        ensures { result ≡ fitting_count (facts_of self.now).shape items.now }
-    {
-        let mut bytes = 0;
-        let mut count = 0;
-        for place in 0..items.len().min(ASK_KEYS) {
-            bytes += self.nbytes(items[place].0);
-            count += usize::from((place == 0) | (bytes <= ASK_BYTES));
-        }
-        count
     }
 
     /// How many pairs the lists of holders have together, or 2^64 - 1 where it is more.

@@ -8,12 +8,13 @@ ghost use Rattle.cluster_msgs.specs.Shape.{Shape, IsShape, key_count, deps_of, n
 ghost use Rattle.cluster_rules.specs.Functions.{put};
 ghost use Rattle.cluster_rules.specs.Worker.{Ask, WorkerFacts, new_worker, flying, awaited, pending, is_fed, has_any, is_asked_for, ask_to, with_ask};
 ghost use Rattle.fact_rows.specs.Rows.{read};
-ghost use Rattle.worker_facts.specs.Stored.{facts_of, asked_items, without_first};
+ghost use Rattle.open_asks.specs.Kept.{asked_items, without_first};
+ghost use Rattle.worker_facts.specs.Stored.{facts_of, fitting_count};
 
-use crate::asks::{OpenAsk, find_ask, place_for, place_of};
-use crate::marks::{mark_asked, mark_items, recount, unmark_items};
+use crate::marks::recount;
 use cluster_msgs::{GraphShape, Holders};
 use fact_rows::Row;
+use open_asks::{Asks, OpenAsk, fitting_count};
 use std::alloc::{AllocError, Global};
 use std::marker::Model;
 
@@ -29,13 +30,12 @@ pub struct WorkerTable {
     mine: Row<Option<u64>>,
     mem: Row<bool>,
     running: Row<bool>,
-    asks: Vec<OpenAsk>,
+    asks: Asks,
     holders: Vec<Holders>,
     asked: Row<bool>,
     sought: Row<bool>,
     failed: Row<bool>,
     next_ask: u64,
-    flying: Row<bool>,
     awaiting: Row<u32>,
 }
 
@@ -73,7 +73,7 @@ impl WorkerTable {
         let asked = Row::filled(alloc, count, false)?;
         let sought = Row::filled(alloc, count, false)?;
         let failed = Row::filled(alloc, count, false)?;
-        let flying = Row::filled(alloc, count, false)?;
+        let asks = Asks::new(alloc, count)?;
         let awaiting = Row::filled(alloc, count, 0)?;
         Ok(WorkerTable {
             shape,
@@ -83,13 +83,12 @@ impl WorkerTable {
             mine,
             mem,
             running,
-            asks: Vec::new(alloc),
+            asks,
             holders,
             asked,
             sought,
             failed,
             next_ask: 1,
-            flying,
             awaiting,
         })
     }
@@ -100,6 +99,7 @@ impl WorkerTable {
         ensures named { (k : ℕ) → is_asked_for (facts_of self.now).asks k ≡ true → k < key_count (facts_of self.now).shape }
     {
         let _shape = &self.shape;
+        self.asks.sound();
     }
 
     /// A worker holds and runs keys of its graph alone.
@@ -238,7 +238,7 @@ impl WorkerTable {
     pub fn is_flying(&self, key: u32) -> bool
         ensures { result ≡ flying (facts_of self.now) key }
     {
-        self.flying.test(key as usize)
+        self.asks.names(key)
     }
 
     /// Whether the key is a task of the worker that doesn't run.
@@ -337,17 +337,14 @@ impl WorkerTable {
     pub fn has_ask(&self, peer: u32) -> bool
         ensures { result ≡ is_some (ask_to (facts_of self.now).asks peer) }
     {
-        find_ask(self.asks.as_slice(), peer).is_some()
+        self.asks.has(peer)
     }
 
     /// The number of the open ask to a peer, if one is open.
     pub fn ask_number(&self, peer: u32) -> Option<u64>
         ensures { result ≡ option_map (λ a. a.number) (ask_to (facts_of self.now).asks peer) }
     {
-        match find_ask(self.asks.as_slice(), peer) {
-            Some(ask) => Some(ask.number()),
-            None => None,
-        }
+        self.asks.number_of(peer)
     }
 
     /// The items of the open ask to a peer, where it has this number.
@@ -357,11 +354,7 @@ impl WorkerTable {
     pub fn open_items(&self, peer: u32, number: u64) -> Result<Option<Vec<(u32, u64)>>, AllocError>
         ensures { IfOk result (λ items. option_map (λ v. v.items) items ≡ asked_items (ask_to (facts_of self.now).asks peer) number) }
     {
-        let alloc = *self.asks.allocator();
-        match find_ask(self.asks.as_slice(), peer) {
-            Some(ask) => items_of(alloc, ask, number),
-            None => Ok(None),
-        }
+        self.asks.items(peer, number)
     }
 
     /// Opens an ask to a peer under the next number.
@@ -377,11 +370,8 @@ impl WorkerTable {
         }) }
         ensures err { OnErr result (facts_of self.new ≡ facts_of self.old) }
     {
-        let place = place_for(self.asks.as_slice(), peer);
-        let ask = OpenAsk::new(peer, self.next_ask, items);
-        self.asks.insert(place, ask)?;
+        self.asks.open(peer, self.next_ask, items)?;
         self.next_ask += 1;
-        mark_items(&mut self.flying, self.asks[place].items());
         Ok(())
     }
 
@@ -389,7 +379,7 @@ impl WorkerTable {
     pub fn place_for(&self, peer: u32) -> usize
         ensures { result ≡ position_or_len (λ (a : Ask). nat_lt peer a.peer) (facts_of self.now).asks }
     {
-        place_for(self.asks.as_slice(), peer)
+        self.asks.place_for(peer)
     }
 
     /// The items of the ask at this place.
@@ -397,7 +387,7 @@ impl WorkerTable {
         requires { place < length (facts_of self.now).asks }
         ensures { (d : Ask) → result.now ≡ (slice_index_or (facts_of self.now).asks place d).items }
     {
-        self.asks[place].items()
+        self.asks.items_at(place)
     }
 
     /// Closes the first ask to a peer, if one is open, and gives it back.
@@ -405,31 +395,14 @@ impl WorkerTable {
         ensures ask { result ≡ ask_to (facts_of self.old).asks peer }
         ensures facts { facts_of self.new ≡ record (facts_of self.old) { asks = without_first (facts_of self.old).asks peer } }
     {
-        match place_of(self.asks.as_slice(), peer) {
-            Some(place) => {
-                let ask = self.asks.remove(place);
-                unmark_items(&mut self.flying, ask.items());
-                mark_asked(&mut self.flying, self.asks.as_slice());
-                Some(ask)
-            }
-            None => None,
-        }
+        self.asks.take(peer)
     }
-}
 
-/// The items of an ask, where it has this number.
-fn items_of(
-    alloc: Global,
-    ask: &OpenAsk,
-    number: u64,
-) -> Result<Option<Vec<(u32, u64)>>, AllocError>
-    ensures { IfOk result (λ items. option_map (λ v. v.items) items ≡ asked_items (Some ask.now) number) }
-{
-    if ask.number() == number {
-        let items = Vec::from_slice(alloc, ask.items())?;
-        Ok(Some(items))
-    } else {
-        Ok(None)
+    /// How many of these items, from the first, go into one ask.
+    pub fn fitting_count(&self, items: &[(u32, u64)]) -> usize
+        ensures { result ≡ fitting_count (facts_of self.now).shape items.now }
+    {
+        fitting_count(&self.shape, items)
     }
 }
 

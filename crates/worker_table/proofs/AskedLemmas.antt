@@ -6,9 +6,10 @@ use Rattle.std.proofs.lemmas.Bool.{true≢false, false≢true, eq-eqb}
 use Rattle.std.proofs.lemmas.List.Sums.{prefix_len-le-length}
 use Rattle.std.proofs.lemmas.List.Elements.{All-nil, All-cons}
 use Rattle.cluster_rules.specs.Worker.{Ask, WorkerFacts, names_key, is_asked_for, ask_to, with_ask, without_ask}
-use Rattle.worker_facts.specs.Stored.{without_first}
-use Rattle.worker_facts.proofs.AskLemmas.{asked-first, without_first-none, put_in}
-use Rattle.worker_facts.proofs.FactLemmas.{with_ask-insert}
+use Rattle.open_asks.specs.Kept.{without_first}
+use Rattle.open_asks.proofs.FirstLemmas.{asked-first, without_first-none}
+use Rattle.open_asks.proofs.MarkLemmas.{put_in}
+use Rattle.open_asks.proofs.AskLemmas.{with_ask-insert}
 
 -- each item of a list whose keys are all named below n
 pub items_below : (n : ℕ) (is : List (ℕ × ℕ)) → ((k : ℕ) → list_any (λ (i : ℕ × ℕ). i.0 == k) is ≡ true → k < n) → All (λ (i : ℕ × ℕ). i.0 < n) is

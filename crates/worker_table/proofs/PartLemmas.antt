@@ -12,9 +12,10 @@ use Rattle.std.proofs.lemmas.List.FromFn.{length-range_with_len}
 use Rattle.cluster_rules.proofs.TotalLemmas.{total-bound}
 use Rattle.cluster_rules.proofs.FunctionLemmas.{same_function}
 use Rattle.cluster_rules.proofs.WorkerLemmas.{ready_state-is, fetch_state-is, missing_state-is}
-use Rattle.worker_facts.specs.Stored.{without_first}
-use Rattle.worker_facts.proofs.AskLemmas.{asked-first, without_first-none}
-use Rattle.worker_facts.proofs.FactLemmas.{asked-with, total-put}
+use Rattle.open_asks.specs.Kept.{without_first}
+use Rattle.open_asks.proofs.AskLemmas.{asked-with}
+use Rattle.open_asks.proofs.FirstLemmas.{asked-first, without_first-none}
+use Rattle.worker_facts.proofs.FactLemmas.{total-put}
 use Rattle.worker_table.specs.Parts.{Parts, parts, ready_of, fetch_of, unasked_of}
 
 -- the states of a key are read off its parts

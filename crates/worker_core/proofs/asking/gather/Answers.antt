@@ -3,7 +3,8 @@ use Rattle.std.specs.Option.{option_map}
 use Rattle.cluster_msgs.specs.Shape.{key_count}
 use Rattle.cluster_rules.specs.Worker.{ask_to}
 use Rattle.worker_core.proofs.CoreLemmas.{items_below}
-use Rattle.worker_facts.specs.Stored.{facts_of, asked_items}
+use Rattle.open_asks.specs.Kept.{asked_items}
+use Rattle.worker_facts.specs.Stored.{facts_of}
 use Rattle.worker_core.proofs.asking.gather.Goals as goal
 
 pub answer-requires : goal.answer-requires

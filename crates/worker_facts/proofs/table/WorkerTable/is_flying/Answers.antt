@@ -1,8 +1,7 @@
-use Rattle.std.proofs.Common.{◌∙◌}
 use Rattle.cluster_rules.specs.Worker.{flying}
 use Rattle.worker_facts.specs.Stored.{facts_of}
 use Rattle.worker_facts.proofs.table.WorkerTable.is_flying.Goals as goal
 
 pub returns : goal.returns
 unfolding facts_of flying
-returns c = rw (← c.self.view_is) (c.test.ensures ∙ c.self.invariant.flying c.args.key)
+returns c = rw (← c.self.view_is) c.names.ensures

@@ -1,5 +1,5 @@
 use Rattle.std.proofs.Common.{◌≡◌, ◌∙◌, ◌&&◌, ap, sym, not, is_some, false}
-use Rattle.cluster_rules.specs.Worker.{is_asked_for}
+use Rattle.open_asks.specs.Kept.{Kept}
 use Rattle.fact_rows.specs.Rows.{read}
 use Rattle.worker_facts.proofs.FactLemmas.{none_waits}
 use Rattle.worker_facts.specs.Stored.{facts_of, pends}
@@ -18,9 +18,8 @@ invariant_of-result c =
         sought = c.in_ok-sought.ensures.length ∙ c.keys-count.ensures;
         failed = c.in_ok-failed.ensures.length ∙ c.keys-count.ensures;
       };
-      flying_each = c.in_ok-flying.ensures.length ∙ c.keys-count.ensures;
+      wide = ap (λ (x : Kept). x.wide) c.in_ok-asks.ensures ∙ c.keys-count.ensures;
       awaiting_each = c.in_ok-awaiting.ensures.length ∙ c.keys-count.ensures;
-      flying = λ k. c.in_ok-flying.ensures.same k ∙ ap (λ bs. is_asked_for bs k) (sym c.new.ensures.items);
       awaiting = λ k. c.in_ok-awaiting.ensures.same k ∙ none_waits c.args.shape (pends c.in_ok-mine.mine c.in_ok-running.running) (λ j. ap (λ o. is_some o && not (read c.in_ok-running.running false j)) (c.in_ok-mine.ensures.same j)) k;
     }
 
@@ -34,7 +33,7 @@ returns c = λ i. record {
   mine = λ k. c.in_ok-mine.ensures.same k i;
   mem = λ k. c.in_ok-mem.ensures.same k i;
   running = λ k. c.in_ok-running.ensures.same k i;
-  asks = c.new.ensures.items i;
+  asks = ap (λ (x : Kept). x.asks) c.in_ok-asks.ensures i;
   holders = λ k. c.in_ok-holders.ensures.empty k i;
   asked = λ k. c.in_ok-asked.ensures.same k i;
   sought = λ k. c.in_ok-sought.ensures.same k i;

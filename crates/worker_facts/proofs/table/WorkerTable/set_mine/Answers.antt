@@ -30,9 +30,8 @@ invariant_of-self c =
     let after : c.is_some.result && not c.test.result ≡ (is_some c.args.to && not (read a.running false c.args.key)) = rw (c.is_some.ensures, c.test.ensures) refl in
     record {
       rows = record { shape = v.rows.shape; mine = c.set.ensures.length ∙ v.rows.mine; mem = v.rows.mem; running = v.rows.running; holders = v.rows.holders; asked = v.rows.asked; sought = v.rows.sought; failed = v.rows.failed };
-      flying_each = v.flying_each;
+      wide = v.wide;
       awaiting_each = c.recount.ensures.length ∙ v.awaiting_each;
-      flying = v.flying;
       awaiting = recounted a.shape (pends a.mine a.running) _ c.args.key a.awaiting c.recount.new.row c.is_pending-before.result (c.is_some.result && not c.test.result) key
           (pends-mine a.mine c.set.new.self a.running c.args.key c.args.to (c.set.ensures.meaning None) ∙ ap (λ b. put (pends a.mine a.running) c.args.key b) (sym after)) was v.awaiting
           (λ k. ap (λ ds. read c.recount.new.row 0 k + cond (c.is_pending-before.result && is_in k ds) 1 0) (sym c.deps.ensures) ∙ c.recount.ensures.counted k ∙ ap (λ ds. read a.awaiting 0 k + cond ((c.is_some.result && not c.test.result) && is_in k ds) 1 0) c.deps.ensures);

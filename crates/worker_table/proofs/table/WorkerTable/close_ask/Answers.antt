@@ -1,6 +1,7 @@
 use Rattle.std.proofs.Common.{◌<◌, ◌∙◌, List, sym, refl, ap, subst, length}
 use Rattle.cluster_rules.specs.Worker.{Ask, WorkerFacts}
-use Rattle.worker_facts.specs.Stored.{facts_of, without_first}
+use Rattle.open_asks.specs.Kept.{without_first}
+use Rattle.worker_facts.specs.Stored.{facts_of}
 use Rattle.worker_table.proofs.AskedLemmas.{closed_one, closed_rest, closed_all, first_shorter}
 use Rattle.worker_table.proofs.table.WorkerTable.close_ask.Goals as goal
 

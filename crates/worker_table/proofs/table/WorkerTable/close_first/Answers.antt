@@ -3,7 +3,8 @@ use Rattle.std.specs.Prelude.{◌==◌}
 use Rattle.std.specs.List.{list_any}
 use Rattle.cluster_msgs.specs.Shape.{key_count}
 use Rattle.cluster_rules.specs.Worker.{Ask, ask_to}
-use Rattle.worker_facts.specs.Stored.{facts_of, without_first}
+use Rattle.open_asks.specs.Kept.{without_first}
+use Rattle.worker_facts.specs.Stored.{facts_of}
 use Rattle.worker_table.specs.Parts.{parts}
 use Rattle.worker_table.proofs.PartLemmas.{closed_apart, closed_none, count_same}
 use Rattle.worker_table.proofs.TableLemmas.{fits_list, fits_same}

@@ -1,10 +1,10 @@
 -- Open asks of which the first to a peer is taken away.
-use Rattle.std.proofs.Common.{◌≡◌, ℕ, zero, suc, ◌+◌, ◌<◌, Bool, true, false, not, ◌&&◌, ◌||◌, List, [], ◌∷◌, ◌++◌, Some, None, refl, sym, ap, ◌∙◌, arith, cond, length, get_or, find, take, drop}
+use Rattle.std.proofs.Common.{◌≡◌, ℕ, suc, ◌+◌, ◌<◌, Bool, true, false, not, ◌||◌, List, [], ◌∷◌, Option, Some, None, refl, sym, ap, ◌∙◌, arith, cond, length, get_or}
 use Rattle.std.specs.Prelude.{◌==◌, nat_lt}
-use Rattle.std.specs.List.{remove, insert, position_or_len, prefix_len}
+use Rattle.std.specs.List.{remove, position_or_len}
 use Rattle.std.proofs.lemmas.Bool.Decides.{nat_tests}
-use Rattle.cluster_rules.specs.Worker.{Ask, names_key, is_asked_for, ask_to, with_ask}
-use Rattle.worker_facts.specs.Stored.{without_first}
+use Rattle.cluster_rules.specs.Worker.{Ask, names_key, is_asked_for, ask_to}
+use Rattle.open_asks.specs.Kept.{Kept, without_first}
 
 pub without_first-remove : (p : ℕ) (bs : List Ask) → remove bs (position_or_len (λ (b : Ask). b.peer == p) bs) ≡ without_first bs p
 without_first-remove p [] = refl
@@ -59,6 +59,12 @@ without_first-none p (b ∷ bs) h = pick (b.peer == p) (without_first-none p bs)
     pick true r e = cc
     pick false r e = ap (λ xs. b ∷ xs) (r e)
 
+abbrev kept : ℕ → List Ask → Kept
+kept n bs = record { wide = n; asks = bs }
+
+pub kept-none : (n p : ℕ) (bs : List Ask) → ask_to bs p ≡ None → kept n bs ≡ kept n (without_first bs p)
+kept-none n p bs h = ap (kept n) (sym (without_first-none p bs h))
+
 -- a key is named by the ask that was taken, or by those that are left
 pub asked-first : (p : ℕ) (bs : List Ask) (x : Ask) (k : ℕ) → ask_to bs p ≡ Some x → is_asked_for bs k ≡ (names_key k x || is_asked_for (without_first bs p) k)
 asked-first p [] x k h = cc
@@ -77,44 +83,9 @@ asked-first p (b ∷ bs) x k h = pick (b.peer == p) (asked-first p bs x k) h
     pick true r e = ap (λ y. names_key k y || is_asked_for bs k) (same e)
     pick false r e = ap (λ t. names_key k b || t) (r e) ∙ turn (names_key k b) (names_key k x) (is_asked_for (without_first bs p) k)
 
-pub left_over : (n r : Bool) → (((n || r) && not n) || r) ≡ r
-left_over true r = refl
-left_over false true = refl
-left_over false false = refl
-
 pub second_none : (n r : Bool) → (n || r) ≡ false → r ≡ false
 second_none true r h = cc
 second_none false r h = h
-
--- the ask that was put in is at its place
-pub put_in : (bs : List Ask) (a d : Ask) (n : ℕ) → n < suc (length bs) → get_or (insert bs n a) n d ≡ a
-put_in [] a d zero h = refl
-put_in [] a d (suc n) h = absurd (omega arith)
-put_in (b ∷ bs) a d zero h = refl
-put_in (b ∷ bs) a d (suc n) h = put_in bs a d n (omega arith)
-
-pub and_mark : (b : Bool) (k key : ℕ) → cond (k == key) false b ≡ (b && not (key == k))
-and_mark true k key = pick (k == key) (key == k) (turn k key)
-  where
-    turn : (i j : ℕ) → (i == j) ≡ (j == i)
-    turn i j = grind (arith, nat_tests)
-
-    pick : (s t : Bool) → s ≡ t → cond s false true ≡ not t
-    pick true true e = refl
-    pick true false e = cc
-    pick false true e = cc
-    pick false false e = refl
-and_mark false k key = pick (k == key)
-  where
-    pick : (s : Bool) → cond s false false ≡ false
-    pick true = refl
-    pick false = refl
-
-pub or_turn : (a b : Bool) → (a || b) ≡ (b || a)
-or_turn true true = refl
-or_turn true false = refl
-or_turn false true = refl
-or_turn false false = refl
 
 pub place_low : (b : Bool) (n i : ℕ) → Some i ≡ cond b (Some n) None → b ≡ true
 place_low true n i h = refl

@@ -1,6 +1,0 @@
-use Rattle.std.proofs.Common.{◌≡◌, ◌∙◌, ap, false}
-use Rattle.worker_facts.proofs.AskLemmas.{and_mark}
-use Rattle.worker_facts.proofs.marks.unmark_key.Goals as goal
-
-pub returns-then-key-len-clause-marked : goal.returns-then-key-len-clause-marked
-returns-then-key-len-clause-marked c k h = ap (λ f. f k) (c.set.ensures.meaning false) ∙ and_mark _ k c.args.key
