@@ -4,6 +4,7 @@ A layout has for each axis the sizes of its chunks. A block is named by its node
 """
 from bisect import bisect_right
 from itertools import accumulate, product
+from math import prod
 
 from job_text import FOLDS, Refused
 
@@ -15,20 +16,14 @@ def starts(sizes):
     return list(accumulate(sizes, initial=0))
 
 
-def cut(shape, chunks):
-    count = 1
-    for length, sizes in zip(shape, chunks):
-        count *= max(1, -(-length // sizes) if isinstance(sizes, int) and length else 1 if length == 0 else len(sizes))
-    if count > BLOCKS:
-        raise Refused(9, 'limit keys')
-    return tuple(axis_of(length, sizes) for length, sizes in zip(shape, chunks))
-
-
 def axis_of(length, sizes):
+    """An axis of a length that is cut by a number or by a list of sizes."""
     if length == 0:
         return (0,)
     if not isinstance(sizes, int):
         return sizes
+    if length > sizes * BLOCKS:
+        raise Refused(9, 'limit keys')
     return (sizes,) * (length // sizes) + ((length % sizes,) if length % sizes else ())
 
 
@@ -94,7 +89,7 @@ def product_layouts(node, layouts):
 def layout_of(node, nodes, layouts):
     op, operands = node.op, [layouts[operand] for operand in node.operands]
     if op in ('input', 'full', 'ramp', 'rechunk'):
-        return cut(node.shape, node.fields['chunks'])
+        return tuple(map(axis_of, node.shape, node.fields['chunks']))
     if op == 'slice':
         parts = node.fields['parts']
         whole = operands[0][len(parts):]
@@ -117,10 +112,7 @@ def all_layouts(job):
     layouts = []
     for node in job.nodes:
         layouts.append(layout_of(node, job.nodes, layouts))
-        count = 1
-        for sizes in layouts[-1]:
-            count *= len(sizes)
-        if count > BLOCKS:
+        if prod(map(len, layouts[-1])) > BLOCKS:
             raise Refused(9, 'limit keys')
     return layouts
 

@@ -34,8 +34,8 @@ class Node:
 @dataclass
 class Job:
     nodes: list = field(default_factory=list)
-    inputs: dict = field(default_factory=dict)  # how often a name is an input does not matter: by node, its file
-    saves: dict = field(default_factory=dict)   # by file, its node
+    inputs: dict = field(default_factory=dict)  # the file of each node that is an input
+    saves: dict = field(default_factory=dict)   # the node that each file gets
 
 
 # ---- shapes

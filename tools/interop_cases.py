@@ -80,8 +80,8 @@ class Writer:
         name, shape = self.one()
         other, second = self.fitting(shape)
         shape = np.broadcast_shapes(shape, second)
-        op = self.draw.choice('+ - * // % minimum maximum'.split())
-        if op in ('//', '%') and self.draw.random() < 0.8:
+        op = self.draw.choice('+ - * // // % % minimum maximum'.split())
+        if op in ('//', '%') and self.draw.random() < 0.5:
             other = f'({other} * 2 + 1)'
         self.define(f'{op}({name}, {other})' if op[0] == 'm' else f'{name} {op} {other}', shape)
 
