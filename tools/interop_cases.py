@@ -267,8 +267,9 @@ class Cases:
             if os.path.isdir(example):
                 here = os.path.join(folder, name)
                 shutil.copytree(example, here)
-                with open(os.path.join(here, 'job.txt'), encoding='ascii') as job:
-                    self.compare(name, job.read().replace(f'examples/{name}/', ''), here)
+                for text in sorted(it for it in os.listdir(example) if it.endswith('.txt')):
+                    with open(os.path.join(example, text), encoding='ascii') as job:
+                        self.compare(name, job.read().replace(f'examples/{name}/', ''), here)
 
     def random(self, folder, count, seed):
         for number in range(count):
