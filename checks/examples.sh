@@ -10,9 +10,18 @@ check 'status without words' "$?" 1
 
 # the shape that each job saves, as the program prints it
 shapes='anomaly (12, 6)
+co_occurrence (15, 15)
+coarse_grid (18, 36)
 column_sum (5,)
+grid_axes (6, 8, 10)
+joined_years (23, 25)
 mask (8, 7)
 matrix_product (5, 3)
+missing (20,)
+moving_mean (58, 15)
+peak_month (40,)
+per_mille (40, 18)
+quota (52, 30)
 transpose (4, 6)'
 while read -r name shape; do
   for command in run plain; do
@@ -27,7 +36,26 @@ finished by: plain"
 done <<< "$shapes"
 for folder in examples/*/; do
   name=$(basename "$folder")
-  [ "$name" = first ] || check "$name is in the list" "$(grep -c "^$name " <<< "$shapes")" 1
+  case $name in
+    first | zero_effort) ;;
+    *) check "$name is in the list" "$(grep -c "^$name " <<< "$shapes")" 1 ;;
+  esac
+done
+
+# one divides by zero on purpose; its second job does not
+example=examples/zero_effort
+for command in run plain; do
+  rm -f $example/saved.npy
+  line=$(./dask $command $example/job.txt 2>&1)
+  check "status of $command where the hours are 0" "$?" 4
+  check "line of $command where the hours are 0" "$line" 'dask: zero division: node 2 block (2, 0)'
+  check "what $command leaves then" "$(ls $example)" "$(printf 'catches.npy\nexpected.npy\nhours.npy\njob.txt\nmake.py\nmended.txt')"
+  lines=$(./dask $command $example/mended.txt 2>&1)
+  check "status of $command of the mended job" "$?" 0
+  check "lines of $command of the mended job" "$lines" "saved $example/saved.npy (9, 8)
+finished by: plain"
+  check "file of $command of the mended job" "$(cmp $example/saved.npy $example/expected.npy && echo same)" same
+  rm -f $example/saved.npy
 done
 
 # NumPy, from the distribution's packages where it isn't there yet
@@ -35,6 +63,18 @@ if ! /usr/bin/python3 -c 'import numpy' 2>/dev/null; then
   { apt-get update -q && apt-get install -y -q python3-numpy; } >/dev/null 2>&1
 fi
 if /usr/bin/python3 -c 'import numpy' 2>/dev/null; then
+  # the script of each example makes its files
+  folder=$(mktemp -d)
+  for name in examples/*/make.py; do
+    mkdir "$folder/$(basename "$(dirname "$name")")" && cp "$name" "$folder/$(basename "$(dirname "$name")")"
+  done
+  /usr/bin/python3 tools/examples.py "$folder"
+  check 'status of the scripts of the examples' "$?" 0
+  for name in "$folder"/*/*.npy; do
+    check "${name#"$folder/"} is what its script makes" "$(cmp "$name" "examples/${name#"$folder/"}" && echo same)" same
+  done
+  rm -rf "$folder"
+
   folder=$(mktemp -d)
   /usr/bin/python3 - "$folder" <<'PYTHON'
 import os
@@ -65,7 +105,7 @@ PYTHON
   done
   rm -rf "$folder"
 else
-  echo 'examples: NumPy is not here and its package could not be installed, so arrays of each number of axes are not checked'
+  echo 'examples: NumPy is not here and its package could not be installed, so neither the scripts of the examples nor arrays of each number of axes are checked'
 fi
 
 summary

@@ -24,9 +24,18 @@ rm -f examples/first/raised.npy
 
 # the shape that each other job saves, as the program prints it, and the keys and edges of its graph
 jobs='anomaly 14 17 (12, 6)
+co_occurrence 69 108 (15, 15)
+coarse_grid 63 72 (18, 36)
 column_sum 7 6 (5,)
+grid_axes 74 76 (6, 8, 10)
+joined_years 47 51 (23, 25)
 mask 16 16 (8, 7)
 matrix_product 7 6 (5, 3)
+missing 46 58 (20,)
+moving_mean 99 116 (58, 15)
+peak_month 37 48 (40,)
+per_mille 32 36 (40, 18)
+quota 27 30 (52, 30)
 transpose 16 12 (4, 6)'
 while read -r name keys edges shape; do
   for options in '' '--workers 3 --threads 1 --script lose:1@2,join@3,suspect:2@5'; do
@@ -44,8 +53,14 @@ edges $edges"
 done <<< "$jobs"
 for folder in examples/*/; do
   name=$(basename "$folder")
-  [ "$name" = first ] || check "$name is in the list" "$(grep -c "^$name " <<< "$jobs")" 1
+  case $name in
+    first | zero_effort) ;;
+    *) check "$name is in the list" "$(grep -c "^$name " <<< "$jobs")" 1 ;;
+  esac
 done
+line=$(./dask sim examples/zero_effort/job.txt 7 2>&1)
+check 'status of zero_effort' "$?" 4
+check 'line of zero_effort' "$line" 'dask: zero division: node 2 block (2, 0)'
 
 line=$(./dask sim $job 7 --workers 1 --script lose:1@1 2>&1)
 check 'status of a script that takes the only worker' "$?" 1
