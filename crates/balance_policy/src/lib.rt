@@ -14,5 +14,5 @@ mod level;
 mod offer;
 mod steal;
 
-pub use drop::next_drop;
-pub use steal::next_steal;
+pub use drop::{next_drop, next_drop_among};
+pub use steal::{next_steal, next_steal_among};

@@ -1,4 +1,5 @@
-use Rattle.std.proofs.Common.{◌≡◌}
+use Rattle.std.proofs.Common.{◌≡◌, ◌-◌, ◌≤◌}
+use Rattle.cluster_rules.specs.Sched.{keys}
 use Rattle.sched_facts.specs.Kept.{left_below}
 use Rattle.task_table.specs.Tasks.{facts}
 use Rattle.sched_changes.specs.Follows.{Follows}
@@ -6,6 +7,10 @@ use Rattle.sched_changes.proofs.leaving.bare.Given as goal
 
 abbrev pub invariant-loop-key : goal.invariant-loop-key
 invariant-loop-key l = record {
-  facts : facts l.table ≡ left_below l.worker (facts l.fn.table) l.key;
+  facts : facts l.table ≡ left_below l.worker (facts l.fn.table) l.from;
   follows : Follows l.fn.table l.table;
+  within : l.from ≤ keys (facts l.fn.table);
 }
+
+abbrev pub decreases-loop-key : goal.decreases-loop-key
+decreases-loop-key l = keys (facts l.fn.table) - l.from
