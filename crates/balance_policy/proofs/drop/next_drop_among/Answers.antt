@@ -1,4 +1,4 @@
-use Rattle.std.proofs.Common.{◌≡◌, ℕ, ◌<◌, ◌≤◌, sym, ap, ◌∙◌, arith}
+use Rattle.std.proofs.Common.{◌<◌, sym, ap, ◌∙◌, arith}
 use Rattle.std.specs.Option.{option_map}
 use Rattle.key_sets.specs.Sets.{has}
 use Rattle.cluster_rules.specs.Sched.{keys}

@@ -1,7 +1,6 @@
-use Rattle.std.proofs.Common.{◌≡◌, ◌<◌, ◌≤◌, None, is_some, sym, arith}
+use Rattle.std.proofs.Common.{◌<◌, None, is_some, sym, arith}
 use Rattle.key_sets.specs.Sets.{has}
 use Rattle.cluster_rules.specs.Sched.{keys}
-use Rattle.cluster_rules.specs.Policies.{next_steal}
 use Rattle.balance_policy.proofs.Stealing.{nobody_idle, below_none, below_more, below_over, below_last, not_among, next_steal-is, is_least}
 use Rattle.balance_policy.proofs.steal.next_steal_among.Goals as goal
 
