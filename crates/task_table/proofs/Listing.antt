@@ -80,22 +80,22 @@ count_rest f s (Send w) e j = refl
 count_rest f s (Fence w k) e j = refl
 count_rest f s Finish e j = refl
 
+moved_to : (b : Bool) (w v n : ℕ) (o : Option (ℕ × ℕ)) → eqb v w ≡ false → is_for w o ≡ false → is_for w (cond b (Some (v, n)) o) ≡ is_for w o
+moved_to true w v n o a e = a ∙ sym e
+moved_to false w v n o a e = refl
+
+moved_off : (b : Bool) (w : ℕ) (o : Option (ℕ × ℕ)) → is_for w o ≡ false → is_for w (cond b None o) ≡ is_for w o
+moved_off true w o e = sym e
+moved_off false w o e = refl
+
 -- the change's key at a worker that the change does not name and that it was not on
 at_key : (f : Facts) (c : Change) (key w : ℕ) → changed_key c ≡ Some key → names (changed_worker c) w ≡ false → is_on f w key ≡ false → is_at (with_change f c) w key ≡ is_at f w key
 at_key f (Want c k) key w e n o = refl
 at_key f (Unwant c k) key w e n o = refl
 at_key f (Hold v k) key w e n o = ap (λ t. is_some (cond (t && eqb key k) (Some f.counter) (f.has w key)) || is_on f w key) (eqb_comm w v ∙ n)
 at_key f (Lose v k) key w e n o = ap (λ t. is_some (cond (t && eqb key k) None (f.has w key)) || is_on f w key) (eqb_comm w v ∙ n)
-at_key f (Assign k v) key w e n o = ap (λ t. holds f w key || t) (moved (eqb key k))
-  where
-    moved : (b : Bool) → is_for w (cond b (Some (v, f.counter)) (f.on key)) ≡ is_for w (f.on key)
-    moved true = n ∙ sym o
-    moved false = refl
-at_key f (Unassign k) key w e n o = ap (λ t. holds f w key || t) (moved (eqb key k))
-  where
-    moved : (b : Bool) → is_for w (cond b None (f.on key)) ≡ is_for w (f.on key)
-    moved true = sym o
-    moved false = refl
+at_key f (Assign k v) key w e n o = ap (λ t. holds f w key || t) (moved_to (eqb key k) w v f.counter (f.on key) n o)
+at_key f (Unassign k) key w e n o = ap (λ t. holds f w key || t) (moved_off (eqb key k) w (f.on key) o)
 at_key f (Steal k thief refused) key w e n o = no_key key e
 at_key f (Unsteal k) key w e n o = no_key key e
 at_key f (Fail k) key w e n o = refl
@@ -111,7 +111,7 @@ near_one : (f : Facts) (c : Change) (l : Lists) (key : ℕ) (left : Option ℕ) 
 near_one f c l key left h e o = record {
   placed_room = subst (λ (x : Setting). key_count x.shape ≤ room l.placed) (sym n.setting) h.placed_room;
   shared_room = subst (λ (x : Setting). key_count x.shape ≤ room l.shared) (sym n.setting) h.shared_room;
-  rows = subst (λ (x : Setting). AreRows (key_count x.shape) l.rows) (sym n.setting) h.rows;
+  rows = subst (λ (x : Setting). AreRows (key_count x.shape) l.rows.items) (sym n.setting) h.rows;
   placed = λ k d. h.placed k ∙ sym (ap is_some (n.on k d));
   shared = λ k d. h.shared k ∙ sym (ap (ltb 1) (count_same f g k (same_last f c key e) (λ w. n.has w k d)));
   at = λ w k d. h.at w k ∙ sym (same w k (eqb k key) refl d);
@@ -141,7 +141,7 @@ rest_one : (f : Facts) (c : Change) (l : Lists) → IsSound f → IsListed f l �
 rest_one f c l s h e = record {
   placed_room = subst (λ (x : Setting). key_count x.shape ≤ room l.placed) (sym n.alike.setting) h.placed_room;
   shared_room = subst (λ (x : Setting). key_count x.shape ≤ room l.shared) (sym n.alike.setting) h.shared_room;
-  rows = subst (λ (x : Setting). AreRows (key_count x.shape) l.rows) (sym n.alike.setting) h.rows;
+  rows = subst (λ (x : Setting). AreRows (key_count x.shape) l.rows.items) (sym n.alike.setting) h.rows;
   placed = λ k. h.placed k ∙ sym (ap (λ (p : ℕ → Option (ℕ × ℕ)). is_some (p k)) n.alike.on);
   shared = λ k. h.shared k ∙ sym (ap (ltb 1) (count_rest f s c e k));
   at = λ w k. h.at w k ∙ sym (λ i. is_some (n.has w k i) || is_for w (n.alike.on i k));
@@ -162,9 +162,9 @@ pub record IsRelist (f : Facts) (l m : Lists) (mid : List (List ℕ)) (key : ℕ
   pub placed_room : room m.placed ≡ room l.placed
   pub shared : (k : ℕ) → has m.shared k ≡ cond (eqb k key) is_held_twice (has l.shared k)
   pub shared_room : room m.shared ≡ room l.shared
-  pub first : (w k : ℕ) → in_row mid w k ≡ cond (names one w && eqb key k) (is_at f w key) (in_row l.rows w k)
-  pub second : (w k : ℕ) → in_row m.rows w k ≡ cond (names other w && eqb key k) (is_at f w key) (in_row mid w k)
-  pub rows : AreRows (keys f) m.rows
+  pub first : (w k : ℕ) → in_row mid w k ≡ cond (names one w && eqb key k) (is_at f w key) (in_row l.rows.items w k)
+  pub second : (w k : ℕ) → in_row m.rows.items w k ≡ cond (names other w && eqb key k) (is_at f w key) (in_row mid w k)
+  pub rows : AreRows (keys f) m.rows.items
 
 set_is : (p : ℕ → Bool) (key k : ℕ) (b now old : Bool) → now ≡ cond (eqb k key) b old → b ≡ p key → (eqb k key ≡ false → old ≡ p k) → now ≡ p k
 set_is p key k b now old h q r = h ∙ pick (eqb k key) refl
@@ -203,7 +203,7 @@ relisted f l m mid key one other x y r = record {
   rows = r.rows;
   placed = λ k. set_is (is_placed f) key k x (has m.placed k) (has l.placed k) (r.placed k) r.on_one (r.near.placed k);
   shared = λ k. set_is (is_shared f) key k y (has m.shared k) (has l.shared k) (r.shared k) r.held_twice (r.near.shared k);
-  at = λ w k. row_is (is_at f w) key k (names one w) (names other w) (in_row m.rows w k) (in_row mid w k) (in_row l.rows w k) (r.first w k) (r.second w k) (r.near.at w k);
+  at = λ w k. row_is (is_at f w) key k (names one w) (names other w) (in_row m.rows.items w k) (in_row mid w k) (in_row l.rows.items w k) (r.first w k) (r.second w k) (r.near.at w k);
 }
 
 -- a worker that holds a key or has it is one that there is a set for
@@ -236,7 +236,7 @@ row_named f v key w k z = pick (eqb v w) refl
     pick false e = refl
 
 -- the lists at first
-pub listed_first : (f : Facts) (l : Lists) → f ≡ sched_opening f.setting → ((k : ℕ) → has l.placed k ≡ false) → ((k : ℕ) → has l.shared k ≡ false) → ((w k : ℕ) → in_row l.rows w k ≡ false) → keys f ≤ room l.placed → keys f ≤ room l.shared → AreRows (keys f) l.rows → IsListed f l
+pub listed_first : (f : Facts) (l : Lists) → f ≡ sched_opening f.setting → ((k : ℕ) → has l.placed k ≡ false) → ((k : ℕ) → has l.shared k ≡ false) → ((w k : ℕ) → in_row l.rows.items w k ≡ false) → keys f ≤ room l.placed → keys f ≤ room l.shared → AreRows (keys f) l.rows.items → IsListed f l
 listed_first f l e p s r a b c = record {
   placed_room = a;
   shared_room = b;
@@ -255,7 +255,7 @@ placed_keys f l s h = record { exact = h.placed; within = λ k e. ⊎_elim (λ a
 
 total_none : (g : ℕ → ℕ) (xs : List ℕ) → ((x : ℕ) → g x ≡ 0) → total g xs ≡ 0
 total_none g [] h = refl
-total_none g (x ∷ xs) h = ap (λ n. n + total g xs) (h x) ∙ total_none g xs h
+total_none g (x ∷ xs) h = ap (λ n. n + total g xs) (h x) ∙ ap (λ n. 0 + n) (total_none g xs h)
 
 count_past : (f : Facts) (k : ℕ) → IsSound f → keys f ≤ k → holder_count f k ≡ 0
 unfolding holder_count

@@ -1,9 +1,8 @@
 -- Sets by worker.
-use Rattle.std.proofs.Common.{◌≡◌, ℕ, ◌+◌, ◌<◌, ◌≤◌, Bool, true, false, ◌&&◌, eqb, ltb, cond, List, [], ◌∷◌, ◌++◌, length, get_or, set, Option, Some, None, refl, sym, ap, ◌∙◌, subst, arith, ⊎_elim}
+use Rattle.std.proofs.Common.{◌≡◌, ℕ, ◌+◌, ◌%◌, ◌<◌, ◌≤◌, Bool, true, false, ◌&&◌, eqb, ltb, cond, List, [], ◌∷◌, ◌++◌, length, get_or, set, Option, Some, None, refl, sym, ap, ◌∙◌, subst, arith, ⊎_elim}
 use Rattle.std.proofs.lemmas.Bool.{cases_lt, eqb-true}
 use Rattle.std.proofs.lemmas.Bool.Decides.{nat_tests}
-use Rattle.std.proofs.lemmas.Grind.{elements}
-use Rattle.std.proofs.lemmas.List.{get_or_default, get_or_past, length_push}
+use Rattle.std.proofs.lemmas.List.{get_or_default, get_or_past, get_or_at, get_or_append_left, length_push}
 use Rattle.std.proofs.lemmas.Nat.Bits.{bit_at-zero}
 use Rattle.cluster_rules.proofs.FunctionLemmas.{set_at}
 use Rattle.cluster_rules.proofs.DerivedLemmas.{eqb_comm}
@@ -12,7 +11,7 @@ use Rattle.task_table.specs.Lists.{AreRows, in_row}
 
 has_none : (k : ℕ) → has [] k ≡ false
 unfolding has
-has_none k = ap (λ b. eqb b 1) (bit_at-zero _)
+has_none k = ap (λ b. eqb b 1) (bit_at-zero (k % 64))
 
 -- a worker without a set has no key in it
 pub row_past : (rows : List (List ℕ)) (w k : ℕ) → length rows ≤ w → in_row rows w k ≡ false
@@ -71,7 +70,17 @@ rows_put n rows worker old new r l was e m = record {
 
 -- one more set at the end
 push_at : (rows : List (List ℕ)) (new : List ℕ) (w : ℕ) → get_or (rows ++ new ∷ []) w [] ≡ cond (eqb w (length rows)) new (get_or rows w [])
-push_at rows new w = grind (arith, nat_tests, elements)
+push_at rows new w = pick (eqb w (length rows)) refl
+  where
+    far : (a b n : ℕ) → b ≤ a → eqb a b ≡ false → n ≡ b + 1 → n ≤ a
+    far a b n l e h = grind (arith, nat_tests)
+
+    pick : (b : Bool) → eqb w (length rows) ≡ b → get_or (rows ++ new ∷ []) w [] ≡ cond b new (get_or rows w [])
+    pick true e = get_or_at rows new [] [] w (sym (eqb-true w (length rows) e))
+    pick false e = ⊎_elim
+        (λ l. get_or_append_left rows (new ∷ []) [] w l)
+        (λ l. get_or_past (rows ++ new ∷ []) w [] (far w (length rows) (length (rows ++ new ∷ [])) l e (length_push rows new)) ∙ sym (get_or_past rows w [] l))
+        (cases_lt w (length rows))
 
 pub row_pushed : (rows : List (List ℕ)) (new : List ℕ) → ((w k : ℕ) → in_row rows w k ≡ false) → ((k : ℕ) → has new k ≡ false) → (w k : ℕ) → in_row (rows ++ new ∷ []) w k ≡ false
 row_pushed rows new h e w k = ap (λ r. has r k) (push_at rows new w) ∙ pick (eqb w (length rows))

@@ -39,16 +39,16 @@ pub record AreRows (n : ℕ) (rows : List (List ℕ)) : Type 0 where
 pub record IsListed (f : Facts) (l : Lists) : Type 0 where
   pub placed_room : keys f ≤ room l.placed
   pub shared_room : keys f ≤ room l.shared
-  pub rows : AreRows (keys f) l.rows
+  pub rows : AreRows (keys f) l.rows.items
   pub placed : (k : ℕ) → has l.placed k ≡ is_placed f k
   pub shared : (k : ℕ) → has l.shared k ≡ is_shared f k
-  pub at : (w k : ℕ) → in_row l.rows w k ≡ is_at f w k
+  pub at : (w k : ℕ) → in_row l.rows.items w k ≡ is_at f w k
 
 -- the same but for one key, and of the workers' sets for the key at one or two workers
 pub record IsListedBut (f : Facts) (l : Lists) (key : ℕ) (one other : Option ℕ) : Type 0 where
   pub placed_room : keys f ≤ room l.placed
   pub shared_room : keys f ≤ room l.shared
-  pub rows : AreRows (keys f) l.rows
+  pub rows : AreRows (keys f) l.rows.items
   pub placed : (k : ℕ) → (k == key) ≡ false → has l.placed k ≡ is_placed f k
   pub shared : (k : ℕ) → (k == key) ≡ false → has l.shared k ≡ is_shared f k
-  pub at : (w k : ℕ) → ((names one w || names other w) && k == key) ≡ false → in_row l.rows w k ≡ is_at f w k
+  pub at : (w k : ℕ) → ((names one w || names other w) && k == key) ≡ false → in_row l.rows.items w k ≡ is_at f w k

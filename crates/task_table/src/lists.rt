@@ -34,10 +34,10 @@ impl Lists {
         requires { count ≤ 32768 }
         ensures placed { IfOk result (λ lists. (k : ℕ) → has lists.placed k ≡ false) }
         ensures shared { IfOk result (λ lists. (k : ℕ) → has lists.shared k ≡ false) }
-        ensures at { IfOk result (λ lists. (w k : ℕ) → in_row lists.rows w k ≡ false) }
+        ensures at { IfOk result (λ lists. (w k : ℕ) → in_row lists.rows.items w k ≡ false) }
         ensures placed_room { IfOk result (λ lists. count ≤ room lists.placed) }
         ensures shared_room { IfOk result (λ lists. count ≤ room lists.shared) }
-        ensures rows { IfOk result (λ lists. AreRows count lists.rows) }
+        ensures rows { IfOk result (λ lists. AreRows count lists.rows.items) }
     {
         let placed = KeySet::new(alloc, count)?;
         let shared = KeySet::new(alloc, count)?;
@@ -117,13 +117,7 @@ fn relist_any(table: &FactTable, rows: &mut Vec<KeySet>, worker: Option<u32>, ke
 }
 
 /// The key is listed as the facts say, at these two workers too.
-fn relist(
-    table: &FactTable,
-    lists: &mut Lists,
-    key: u32,
-    one: Option<u32>,
-    other: Option<u32>,
-)
+fn relist(table: &FactTable, lists: &mut Lists, key: u32, one: Option<u32>, other: Option<u32>)
     requires key { key < keys (facts_of table.now) }
     requires near { IsListedBut (facts_of table.now) lists.old key one other }
     ensures { IsListed (facts_of table.now) lists.new }

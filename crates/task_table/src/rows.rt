@@ -18,9 +18,10 @@ pub fn new_rows(alloc: Global, count: u32) -> Result<Vec<KeySet>, AllocError>
     ensures rows { IfOk result (λ rows. AreRows count rows.items) }
     ensures empty { IfOk result (λ rows. (w k : ℕ) → in_row rows.items w k ≡ false) }
 {
-    let mut rows = Vec::with_capacity(alloc, ROWS as usize)?;
+    let mut rows = Vec::new(alloc);
     for _row in 0..ROWS {
-        rows.push(KeySet::new(alloc, count)?)?;
+        let row = KeySet::new(alloc, count)?;
+        rows.push(row)?;
     }
     Ok(rows)
 }
@@ -40,8 +41,8 @@ pub fn put_in_row(rows: &mut Vec<KeySet>, count: u32, worker: u32, key: u32, to:
 }
 
 /// The first key of the worker's set from this one on.
-pub fn first_in_row(rows: &[KeySet], worker: u32, from: u32) -> Option<u32>
-    ensures { IsFirst (in_row rows.now worker) from result }
+pub fn first_in_row(rows: &Vec<KeySet>, worker: u32, from: u32) -> Option<u32>
+    ensures { IsFirst (in_row rows.now.items worker) from result }
 {
     let row = worker as usize;
     if row < rows.len() {

@@ -190,7 +190,7 @@ impl TaskTable {
     pub fn first_at(&self, worker: u32, from: u32) -> Option<u32>
         ensures { IsFirst (is_at (facts self.now) worker) from result }
     {
-        first_in_row(self.lists.rows.as_slice(), worker, from)
+        first_in_row(&self.lists.rows, worker, from)
     }
 
     /// Whether the key is known. Where there is no such key it is not.

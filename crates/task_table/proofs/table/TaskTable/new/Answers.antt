@@ -33,7 +33,7 @@ invariant_of-result c =
       parts = c.begin.ensures.parts;
       lists = let ls = c.in_ok-lists.ensures in let m = c.keys.ensures ∙ sym n in
           listed_first f c.in_ok-lists.lists (e ∙ ap sched_opening (sym (ap (λ (g : Facts). g.setting) e))) ls.placed ls.shared ls.at
-          (subst (λ (x : ℕ). x ≤ room c.in_ok-lists.lists.placed) m ls.placed_room) (subst (λ (x : ℕ). x ≤ room c.in_ok-lists.lists.shared) m ls.shared_room) (subst (λ (x : ℕ). AreRows x c.in_ok-lists.lists.rows) m ls.rows);
+          (subst (λ (x : ℕ). x ≤ room c.in_ok-lists.lists.placed) m ls.placed_room) (subst (λ (x : ℕ). x ≤ room c.in_ok-lists.lists.shared) m ls.shared_room) (subst (λ (x : ℕ). AreRows x c.in_ok-lists.lists.rows.items) m ls.rows);
       remembered = remembered_first f t (e ∙ ap sched_opening (sym (ap (λ (g : Facts). g.setting) e))) touched c.in_ok-held_before.ensures.keys c.in_ok-erred_before.ensures.keys;
       held_room = subst (λ (m : ℕ). m ≤ room c.in_ok-held_before.held_before) (c.keys-2.ensures ∙ sym n) c.in_ok-held_before.ensures.room;
       erred_room = subst (λ (m : ℕ). m ≤ room c.in_ok-erred_before.erred_before) (c.keys-3.ensures ∙ sym n) c.in_ok-erred_before.ensures.room;
