@@ -3,7 +3,7 @@ use Rattle.std.proofs.Common.{◌≡◌, ℕ, ◌+◌, ◌<◌, ◌≤◌, Bool,
 use Rattle.std.proofs.lemmas.Bool.{false≢true, cases_lt, eqb-true}
 use Rattle.std.proofs.lemmas.Bool.Decides.{nat_tests}
 use Rattle.cluster_msgs.specs.Shape.{key_count}
-use Rattle.cluster_rules.specs.Functions.{put, put_pair, from_one, count, total}
+use Rattle.cluster_rules.specs.Functions.{from_one, count, total}
 use Rattle.cluster_rules.specs.Sched.{Facts, Setting, IsSound, keys, holds, is_on, is_for, connected, holder_count, sched_opening}
 use Rattle.cluster_rules.specs.SchedTable.{joined}
 use Rattle.cluster_rules.proofs.DerivedLemmas.{eqb_comm, range_more}

@@ -1,7 +1,6 @@
-use Rattle.std.proofs.Common.{◌≡◌, ◌<◌, ◌&&◌, eqb, ltb, cond, ap, ◌∙◌, length, subst, sym}
-use Rattle.cluster_rules.specs.Sched.{keys}
+use Rattle.std.proofs.Common.{◌&&◌, eqb, ltb, cond, ap, ◌∙◌, length}
 use Rattle.sched_facts.specs.Stored.{facts_of}
-use Rattle.task_table.specs.Lists.{AreRows, in_row, is_at}
+use Rattle.task_table.specs.Lists.{in_row}
 use Rattle.task_table.proofs.Listing.{at_there}
 use Rattle.task_table.proofs.lists.relist_at.Goals as goal
 
