@@ -1,6 +1,6 @@
 use Rattle.std.proofs.Common.{◌≡◌, ◌<◌, ◌≤◌, ℕ, true, false, subst, sym, ap, ◌∙◌, arith}
 use Rattle.cluster_rules.specs.Sched.{Facts, keys, connected}
-use Rattle.sched_facts.specs.Kept.{left_key, left_below}
+use Rattle.sched_facts.specs.Kept.{left_key}
 use Rattle.sched_facts.proofs.Leaving.{left_none, left_more, left_setting, left_connected}
 use Rattle.task_table.specs.Lists.{is_at}
 use Rattle.task_table.specs.Tasks.{facts}
