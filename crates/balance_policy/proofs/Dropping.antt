@@ -1,6 +1,6 @@
 -- The first key to spare, and its most loaded holder.
 use Rattle.std.proofs.Common.{◌≡◌, ℕ, zero, suc, ◌+◌, ◌-◌, ◌<◌, ◌≤◌, Bool, true, false, cond, List, [], ◌∷◌, Option, Some, None, refl, sym, ap, ◌∙◌, subst, arith, ⊎_elim}
-use Rattle.std.proofs.lemmas.Bool.{cases_lt}
+use Rattle.std.proofs.lemmas.Bool.{false≢true, cases_lt}
 use Rattle.std.proofs.lemmas.Bool.Decides.{nat_tests}
 use Rattle.std.proofs.Math.Dec.{ltb}
 use Rattle.std.specs.List.{find, filter, filter_map, range_with_len, cons_option}
@@ -63,6 +63,25 @@ NoneBelow f n = (j : ℕ) → j < n → may_drop f j ≡ false
 
 pub none_more : (f : Facts) (n : ℕ) (b : Bool) → NoneBelow f n → b ≡ may_drop f n → b ≡ false → NoneBelow f (n + 1)
 none_more f n b h e d j l = ⊎_elim (λ i. h j i) (λ i. let q : j ≡ n = omega arith in ap (may_drop f) q ∙ sym e ∙ d) (cases_lt j n)
+
+-- a key with a replica to spare has two holders or more
+spare_shared : (f : Facts) (k : ℕ) → may_drop f k ≡ true → 1 < holder_count f k
+unfolding may_drop
+spare_shared f k e = more (waiters f k) (holder_count f k) e
+  where
+    more : (w h : ℕ) → ltb (w + 1) h ≡ true → 1 < h
+    more w h e = grind (arith, nat_tests)
+
+-- where the keys with two holders or more are in a set, others have none to spare
+pub not_spare : (f : Facts) (k : ℕ) (b : Bool) → (1 < holder_count f k → b ≡ true) → b ≡ false → may_drop f k ≡ false
+not_spare f k b h e = pick (may_drop f k) refl
+  where
+    pick : (t : Bool) → may_drop f k ≡ t → may_drop f k ≡ false
+    pick true i = absurd (false≢true (sym e ∙ h (spare_shared f k i)))
+    pick false i = i
+
+pub none_over : (f : Facts) (n m : ℕ) → NoneBelow f n → ((k : ℕ) → n ≤ k → k < m → may_drop f k ≡ false) → NoneBelow f m
+none_over f n m h none j l = ⊎_elim (λ i. h j i) (λ i. none j i l) (cases_lt j n)
 
 find_at : (p : ℕ → Bool) (a n k : ℕ) → a ≤ k → k < a + n → p k ≡ true → ((j : ℕ) → a ≤ j → j < k → p j ≡ false) → find p (range_with_len a n) ≡ Some k
 find_at p a zero k l m e h = absurd (omega arith)

@@ -220,6 +220,30 @@ below_more f n best next new h i q = subst (IsLeastOffer f (IsStealBelow f (n + 
     (λ c x. let g : c.key < n + 1 = x.key in ⊎_elim (λ u. inl (record { key = u; choice = x.choice })) (λ u. inr (record { key = omega arith; choice = x.choice })) (cases_lt c.key n))
     best next h i)
 
+-- a key that is not among those that pass does not pass
+pub not_among : (a b : Bool) → (a ≡ true → b ≡ true) → b ≡ false → a ≡ false
+not_among true b h e = absurd (false≢true (sym e ∙ h refl))
+not_among false b h e = refl
+
+stolen_on : (f : Facts) (c : Steal) → IsStealChoice f c → is_some (f.on c.key) ≡ false → ⊥
+stolen_on f c h e = false≢true (sym e ∙ there (f.on c.key) (allowed_parts f c h.allowed).on)
+  where
+    there : (o : Option (ℕ × ℕ)) → is_for c.victim o ≡ true → is_some o ≡ true
+    there None i = absurd (false≢true i)
+    there (Some p) i = refl
+
+-- keys that are on no worker are passed over
+pub below_over : (f : Facts) (n m : ℕ) (best : Option Offer) → n ≤ m → ((k : ℕ) → n ≤ k → k < m → is_some (f.on k) ≡ false) → IsLeastOffer f (IsStealBelow f n) best → IsLeastOffer f (IsStealBelow f m) best
+below_over f n m best l none h = least_of_same f (IsStealBelow f n) (IsStealBelow f m)
+    (λ c x. let g : c.key < n = x.key in record { key = omega arith; choice = x.choice })
+    (λ c x. ⊎_elim (λ u. record { key = u; choice = x.choice }) (λ u. absurd (stolen_on f c x.choice (none c.key u x.key))) (cases_lt c.key n))
+    best h
+
+pub below_last : (f : Facts) (n : ℕ) (best : Option Offer) → ((k : ℕ) → n ≤ k → is_some (f.on k) ≡ false) → IsLeastOffer f (IsStealBelow f n) best → IsLeastOffer f (IsStealChoice f) best
+below_last f n best none h = least_of_same f (IsStealBelow f n) (IsStealChoice f) (λ c x. x.choice)
+    (λ c x. ⊎_elim (λ u. record { key = u; choice = x }) (λ u. absurd (stolen_on f c x (none c.key u))) (cases_lt c.key n))
+    best h
+
 empty_from : {A : Type 0} (xs : List A) → ((y : A) → Contains xs y → ⊥) → xs ≡ []
 empty_from [] h = refl
 empty_from (x ∷ xs) h = absurd (h x (contains_head x xs))

@@ -1,12 +1,14 @@
 //! The replica that is dropped next.
-ghost use Rattle.std.specs.Prelude.{◌≡◌, ◌<◌, Some, None, cond};
+ghost use Rattle.std.specs.Prelude.{◌≡◌, ℕ, ◌<◌, true, Some, None, cond};
 ghost use Rattle.std.specs.Option.{option_map};
+ghost use Rattle.key_sets.specs.Sets.{has};
 ghost use Rattle.cluster_rules.specs.Choice.{better};
-ghost use Rattle.cluster_rules.specs.Sched.{keys, holds};
+ghost use Rattle.cluster_rules.specs.Sched.{keys, holds, holder_count};
 ghost use Rattle.cluster_rules.specs.Policies.{may_drop, most_loaded, next_drop, IsDropOf};
 ghost use Rattle.balance_policy.specs.Loads.{holds_more};
 
 use cluster_rules::Facts;
+use key_sets::KeySet;
 
 /// The worker and the key whose replica is dropped next, or `None` where no replica is to spare.
 ///
@@ -23,6 +25,24 @@ pub fn next_drop<F: Facts>(facts: &F) -> Option<(u32, u32)>
         if may_drop(facts, key) {
             return drop_at(most_loaded(facts, key), key);
         }
+    }
+    None
+}
+
+/// The same, asked by whoever knows which keys have several holders: only those in `shared` are looked at.
+pub fn next_drop_among<F: Facts>(facts: &F, shared: &KeySet) -> Option<(u32, u32)>
+    requires within { (k : ℕ) → has shared.now k ≡ true → k < keys (F.facts facts.now) }
+    requires shared { (k : ℕ) → 1 < holder_count (F.facts facts.now) k → has shared.now k ≡ true }
+    ensures is { result ≡ next_drop (F.facts facts.now) }
+    ensures least { IsDropOf (F.facts facts.now) result }
+{
+    facts.sound();
+    let mut from = 0;
+    while let Some(key) = shared.first_from(from) {
+        if may_drop(facts, key) {
+            return drop_at(most_loaded(facts, key), key);
+        }
+        from = key + 1;
     }
     None
 }

@@ -5,7 +5,8 @@
 //! The questions of `cluster_rules::Facts` and `placement::missing_bytes` stand below, so any scheduler that answers
 //! them may be asked. The scheduler's core stands above and asks at its events Balance and Evict. The promise: the answer
 //! is the least of all choices, in the order that the cluster's rules say, and there is none exactly where there is no
-//! choice. No call takes memory.
+//! choice. Whoever keeps sets of the keys on workers and of those with several holders hands them in, and no other key is
+//! looked at. No call takes memory.
 #![tactic(auto)]
 
 mod drop;
@@ -14,5 +15,5 @@ mod level;
 mod offer;
 mod steal;
 
-pub use drop::next_drop;
-pub use steal::next_steal;
+pub use drop::{next_drop, next_drop_among};
+pub use steal::{next_steal, next_steal_among};

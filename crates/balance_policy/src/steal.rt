@@ -1,6 +1,7 @@
 //! The steal that is made next.
-ghost use Rattle.std.specs.Prelude.{◌≡◌, ◌<◌, true, filter};
+ghost use Rattle.std.specs.Prelude.{◌≡◌, ℕ, ◌<◌, true, filter, is_some};
 ghost use Rattle.std.specs.Option.{option_map};
+ghost use Rattle.key_sets.specs.Sets.{has};
 ghost use Rattle.cluster_rules.specs.Choice.{IsLeastOf};
 ghost use Rattle.cluster_rules.specs.Sched.{keys, workers};
 ghost use Rattle.cluster_rules.specs.Policies.{steal_choices, steal_rank, next_steal};
@@ -11,6 +12,7 @@ use crate::level::level;
 use crate::offer::{Offer, lesser};
 use cluster_msgs::{GraphShape, Steal};
 use cluster_rules::Facts;
+use key_sets::KeySet;
 use placement::missing_bytes;
 
 /// The steal that is made next, or `None` where no key may be stolen.
@@ -37,6 +39,28 @@ pub fn next_steal<F: Facts>(facts: &F, shape: &GraphShape) -> Option<Steal>
     let mut best = None;
     for key in 0..facts.keys() {
         best = lesser(best, best_of_key(facts, shape, idle.as_slice(), key));
+    }
+    steal_of(best)
+}
+
+/// The same, asked by whoever knows which keys are on workers: only those in `placed` are looked at.
+pub fn next_steal_among<F: Facts>(facts: &F, shape: &GraphShape, placed: &KeySet) -> Option<Steal>
+    requires shape { shape.now ≡ (F.facts facts.now).setting.shape }
+    requires within { (k : ℕ) → has placed.now k ≡ true → k < keys (F.facts facts.now) }
+    requires placed { (k : ℕ) → is_some ((F.facts facts.now).on k) ≡ true → has placed.now k ≡ true }
+    ensures is { result ≡ next_steal (F.facts facts.now) }
+    ensures least { IsLeastOf (steal_rank (F.facts facts.now)) (steal_choices (F.facts facts.now)) result }
+{
+    facts.sound();
+    let idle = idle_workers(facts);
+    if idle.is_empty() {
+        return None;
+    }
+    let mut best = None;
+    let mut from = 0;
+    while let Some(key) = placed.first_from(from) {
+        best = lesser(best, best_of_key(facts, shape, idle.as_slice(), key));
+        from = key + 1;
     }
     steal_of(best)
 }

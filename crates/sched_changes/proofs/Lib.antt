@@ -3,3 +3,4 @@ pub mod PairLemmas
 pub mod ChangeLemmas
 pub mod Counting
 pub mod RowLemmas
+pub mod LeavingLemmas

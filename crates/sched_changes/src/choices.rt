@@ -3,7 +3,7 @@ ghost use Rattle.std.specs.Prelude.{◌≡◌};
 ghost use Rattle.task_table.specs.Tasks.{facts};
 ghost use Rattle.sched_changes.specs.Choices.{steal_for, drop_for};
 
-use balance_policy::{next_drop, next_steal};
+use balance_policy::{next_drop_among, next_steal_among};
 use cluster_msgs::{SchedEvent, Steal};
 use task_table::TaskTable;
 
@@ -12,7 +12,7 @@ pub fn steal_for(table: &TaskTable, event: &SchedEvent) -> Option<Steal>
     ensures { result ≡ steal_for (facts table.now) event.now }
 {
     match event {
-        SchedEvent::Balance => next_steal(table, table.table().shape()),
+        SchedEvent::Balance => next_steal_among(table, table.table().shape(), table.placed()),
         SchedEvent::Join { .. } => None,
         SchedEvent::Leave { .. } => None,
         SchedEvent::FromWorker { .. } => None,
@@ -27,7 +27,7 @@ pub fn drop_for(table: &TaskTable, event: &SchedEvent) -> Option<(u32, u32)>
     ensures { result ≡ drop_for (facts table.now) event.now }
 {
     match event {
-        SchedEvent::Evict => next_drop(table),
+        SchedEvent::Evict => next_drop_among(table, table.shared()),
         SchedEvent::Join { .. } => None,
         SchedEvent::Leave { .. } => None,
         SchedEvent::FromWorker { .. } => None,

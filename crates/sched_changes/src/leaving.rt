@@ -1,8 +1,10 @@
 //! A worker leaves.
-ghost use Rattle.std.specs.Prelude.{◌≡◌, ◌<◌, true, None};
+ghost use Rattle.std.specs.Prelude.{◌≡◌, ◌<◌, true, None, IfSome};
 ghost use Rattle.cluster_rules.specs.Functions.{put_pair};
 ghost use Rattle.cluster_rules.specs.Sched.{keys, connected};
 ghost use Rattle.cluster_rules.specs.SchedTable.{left};
+ghost use Rattle.key_sets.specs.Sets.{IsFirst};
+ghost use Rattle.task_table.specs.Lists.{is_at};
 ghost use Rattle.task_table.specs.Tasks.{facts};
 ghost use Rattle.sched_changes.specs.Follows.{Follows};
 ghost use Rattle.sched_facts.specs.Kept.{taken_back, left_key, left_below};
@@ -13,7 +15,7 @@ use cluster_rules::Facts;
 use sched_facts::table::is_on_worker;
 use task_table::{Change, TaskTable};
 
-/// Leave: the worker, what it holds, what it was given and the steals of that go. It asks all keys.
+/// Leave: the worker, what it holds, what it was given and the steals of that go. It goes over these keys alone.
 pub fn leave(table: &mut TaskTable, worker: u32)
     requires { connected (facts table.old) worker ≡ true }
     ensures facts { facts table.new ≡ left (facts table.old) worker }
@@ -30,9 +32,21 @@ fn bare(table: &mut TaskTable, worker: u32)
     ensures facts { facts table.new ≡ left_below worker (facts table.old) (keys (facts table.old)) }
     ensures follows { Follows table.old table.new }
 {
-    for key in 0..table.keys() {
+    table.sound();
+    let mut from = 0;
+    while let Some(key) = first_at(table, worker, from) {
         bare_key(table, worker, key);
+        from = key + 1;
     }
+}
+
+/// The first key from this one on that the worker holds or has. It is a key.
+fn first_at(table: &TaskTable, worker: u32, from: u32) -> Option<u32>
+    ensures first { IsFirst (is_at (facts table.now) worker) from result }
+    ensures within { IfSome result (λ k. k < keys (facts table.now)) }
+{
+    table.sound();
+    table.first_at(worker, from)
 }
 
 /// The worker does not hold the key and does not have it.

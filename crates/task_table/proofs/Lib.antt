@@ -4,5 +4,7 @@ mod Alike
 mod Told
 mod Following
 mod Applied
+mod RowLemmas
+mod Listing
 mod Opening
 mod Blaming

@@ -105,3 +105,21 @@ changed_key (Disconnect w) = None
 changed_key (Send w) = None
 changed_key (Fence w k) = None
 changed_key Finish = None
+
+-- the worker that comes to hold or to have the key, or holds it no longer
+abbrev pub changed_worker : Change → Option ℕ
+changed_worker (Want c k) = None
+changed_worker (Unwant c k) = None
+changed_worker (Hold w k) = Some w
+changed_worker (Lose w k) = Some w
+changed_worker (Assign k w) = Some w
+changed_worker (Unassign k) = None
+changed_worker (Steal k thief refused) = None
+changed_worker (Unsteal k) = None
+changed_worker (Fail k) = None
+changed_worker (Forgive k) = None
+changed_worker (Connect threads) = None
+changed_worker (Disconnect w) = None
+changed_worker (Send w) = None
+changed_worker (Fence w k) = None
+changed_worker Finish = None

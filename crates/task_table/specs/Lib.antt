@@ -2,4 +2,5 @@ pub mod Changes
 pub mod Tasks
 pub mod Standing
 pub mod Parts
+pub mod Lists
 pub mod Tables

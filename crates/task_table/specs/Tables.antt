@@ -5,6 +5,7 @@ use Rattle.sched_facts.specs.Stored.{facts_of}
 use Rattle.key_sets.specs.Sets.{room}
 use Rattle.task_table.specs.Tasks.{Tasks, IsRemembered}
 use Rattle.task_table.specs.Parts.{IsParts}
+use Rattle.task_table.specs.Lists.{IsListed}
 use Rattle.task_table.specs.declared.table.TaskTable.TheInside.{Inside}
 
 abbrev pub tasks_of : Inside → Tasks
@@ -12,6 +13,7 @@ tasks_of s = record { stored = s.table; touched = s.parts.touched; held_before =
 
 pub record IsTable (s : Inside) : Type 0 where
   pub parts : IsParts (facts_of s.table) s.parts
+  pub lists : IsListed (facts_of s.table) s.lists
   pub remembered : IsRemembered (facts_of s.table) (tasks_of s)
   pub held_room : keys (facts_of s.table) ≤ room s.held_before
   pub erred_room : keys (facts_of s.table) ≤ room s.erred_before

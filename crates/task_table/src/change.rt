@@ -1,7 +1,7 @@
 //! One change of one fact.
 ghost use Rattle.std.specs.Prelude.{◌≡◌};
 ghost use Rattle.sched_facts.specs.Stored.{facts_of};
-ghost use Rattle.task_table.specs.Changes.{with_change, Fits, changed_key};
+ghost use Rattle.task_table.specs.Changes.{with_change, Fits, changed_key, changed_worker};
 
 use sched_facts::FactTable;
 
@@ -83,6 +83,29 @@ pub fn key_of(change: Change) -> Option<u32>
         Change::Unsteal { .. } => None,
         Change::Fail { key } => Some(key),
         Change::Forgive { key } => Some(key),
+        Change::Connect { .. } => None,
+        Change::Disconnect { .. } => None,
+        Change::Send { .. } => None,
+        Change::Fence { .. } => None,
+        Change::Finish => None,
+    }
+}
+
+/// The worker that comes to hold or to have the key, or holds it no longer.
+pub fn worker_of(change: Change) -> Option<u32>
+    ensures { result ≡ changed_worker change }
+{
+    match change {
+        Change::Want { .. } => None,
+        Change::Unwant { .. } => None,
+        Change::Hold { worker, .. } => Some(worker),
+        Change::Lose { worker, .. } => Some(worker),
+        Change::Assign { worker, .. } => Some(worker),
+        Change::Unassign { .. } => None,
+        Change::Steal { .. } => None,
+        Change::Unsteal { .. } => None,
+        Change::Fail { .. } => None,
+        Change::Forgive { .. } => None,
         Change::Connect { .. } => None,
         Change::Disconnect { .. } => None,
         Change::Send { .. } => None,

@@ -11,9 +11,11 @@ mod answers;
 mod blame;
 mod change;
 mod levels;
+mod lists;
 mod marks;
 mod parts;
 mod queues;
+mod rows;
 mod table;
 
 pub use change::Change;

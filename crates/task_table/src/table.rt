@@ -3,13 +3,16 @@ ghost use Rattle.std.specs.Prelude.{◌≡◌, ℕ, ◌<◌, ◌≤◌, true, fa
 ghost use Rattle.cluster_rules.specs.Sched.{sched_opening, keys, erred, known, need, ready, fed, waiters, blame};
 ghost use Rattle.key_sets.specs.Sets.{has, IsFirst};
 ghost use Rattle.task_table.specs.Changes.{with_change, Fits, changed_key};
+ghost use Rattle.task_table.specs.Lists.{IsSetOf, is_at, is_placed, is_shared};
 ghost use Rattle.task_table.specs.Tasks.{facts, IsTouched, IsRemembered, own_blame, queued_root, queued_other};
 
 use crate::blame::{blame_by, blame_through};
-use crate::change::{Change, key_of, put};
+use crate::change::{Change, key_of, put, worker_of};
 use crate::levels::is_ready_by;
+use crate::lists::{Lists, follow_lists, worker_on};
 use crate::marks::{recall_erred, recall_held};
 use crate::parts::{Parts, begin, follow_any};
+use crate::rows::first_in_row;
 use cluster_msgs::GraphShape;
 use key_sets::KeySet;
 use sched_facts::FactTable;
@@ -23,6 +26,7 @@ use std::marker::Model;
 pub struct TaskTable {
     table: FactTable,
     parts: Parts,
+    lists: Lists,
     held_before: KeySet,
     erred_before: KeySet,
 }
@@ -56,6 +60,7 @@ impl TaskTable {
         ensures touched { IfOk result (λ t. (k : ℕ) → has t.touched k ≡ false) }
     {
         shape.sound();
+        let lists = Lists::new(alloc, shape.keys())?;
         let held_before = KeySet::new(alloc, shape.keys())?;
         let erred_before = KeySet::new(alloc, shape.keys())?;
         let table = FactTable::new(alloc, shape, clients, saturation)?;
@@ -65,6 +70,7 @@ impl TaskTable {
         Ok(TaskTable {
             table,
             parts,
+            lists,
             held_before,
             erred_before,
         })
@@ -104,9 +110,12 @@ impl TaskTable {
         ensures named { (k : ℕ) → changed_key change ≡ Some k → has self.new.touched k ≡ true }
     {
         self.table.sound();
+        let key = key_of(change);
+        let left = worker_on(&self.table, key);
         put(&mut self.table, change);
         self.table.sound();
-        follow_any(&self.table, &mut self.parts, key_of(change));
+        follow_lists(&self.table, &mut self.lists, key, worker_of(change), left);
+        follow_any(&self.table, &mut self.parts, key);
     }
 
     /// No key is touched any more; what is held and erred now is what was so before.
@@ -159,6 +168,29 @@ impl TaskTable {
     {
         self.table.sound();
         self.parts.queues.others.first_from(from)
+    }
+
+    /// The keys on a worker.
+    pub fn placed(&self) -> &KeySet
+        ensures { IsSetOf (keys (facts self.now)) (is_placed (facts self.now)) result.now }
+    {
+        self.table.sound();
+        &self.lists.placed
+    }
+
+    /// The keys that two workers or more hold.
+    pub fn shared(&self) -> &KeySet
+        ensures { IsSetOf (keys (facts self.now)) (is_shared (facts self.now)) result.now }
+    {
+        self.table.sound();
+        &self.lists.shared
+    }
+
+    /// The first key from this one on that the worker holds or has.
+    pub fn first_at(&self, worker: u32, from: u32) -> Option<u32>
+        ensures { IsFirst (is_at (facts self.now) worker) from result }
+    {
+        first_in_row(&self.lists.rows, worker, from)
     }
 
     /// Whether the key is known. Where there is no such key it is not.

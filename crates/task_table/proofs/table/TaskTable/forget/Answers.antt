@@ -14,6 +14,7 @@ invariant_of-self c =
     let t : Tasks = record { stored = c.self.inside.table; touched = c.clear.new.self; held_before = c.recall_held.new.before; erred_before = c.recall_erred.new.before } in
     record {
       parts = parts_cleared f p c.clear.new.self c.self.invariant.parts c.clear.ensures.keys c.clear.ensures.room;
+      lists = c.self.invariant.lists;
       remembered = remembered_now f s t (flag p.levels.erred) c.self.invariant.remembered (λ k l. (c.self.invariant.parts.standing.derived k l).erred) c.recall_held.ensures.held c.recall_erred.ensures.flagged c.clear.ensures.keys;
       held_room = omega (arith, c.recall_held.ensures.room, c.self.invariant.held_room);
       erred_room = omega (arith, c.recall_erred.ensures.room, c.self.invariant.erred_room);

@@ -6,7 +6,9 @@ use Rattle.sched_facts.specs.Stored.{facts_of}
 use Rattle.task_table.specs.Tasks.{Tasks}
 use Rattle.task_table.specs.Standing.{IsOver}
 use Rattle.task_table.specs.Parts.{IsRoomy}
+use Rattle.task_table.specs.Lists.{AreRows}
 use Rattle.task_table.proofs.Opening.{remembered_first}
+use Rattle.task_table.proofs.Listing.{listed_first}
 use Rattle.task_table.proofs.table.TaskTable.new.Goals as goal
 
 pub begin-requires-clause-opening : goal.begin-requires-clause-opening
@@ -29,9 +31,12 @@ invariant_of-result c =
     let t : Tasks = record { stored = c.in_ok-table.table; touched = c.begin.new.parts.touched; held_before = c.in_ok-held_before.held_before; erred_before = c.in_ok-erred_before.erred_before } in
     record {
       parts = c.begin.ensures.parts;
+      lists = let ls = c.in_ok-lists.ensures in let m = c.keys.ensures ∙ sym n in
+          listed_first f c.in_ok-lists.lists (e ∙ ap sched_opening (sym (ap (λ (g : Facts). g.setting) e))) ls.placed ls.shared ls.at
+          (subst (λ (x : ℕ). x ≤ room c.in_ok-lists.lists.placed) m ls.placed_room) (subst (λ (x : ℕ). x ≤ room c.in_ok-lists.lists.shared) m ls.shared_room) (subst (λ (x : ℕ). AreRows x c.in_ok-lists.lists.rows.items) m ls.rows);
       remembered = remembered_first f t (e ∙ ap sched_opening (sym (ap (λ (g : Facts). g.setting) e))) touched c.in_ok-held_before.ensures.keys c.in_ok-erred_before.ensures.keys;
-      held_room = subst (λ (m : ℕ). m ≤ room c.in_ok-held_before.held_before) (c.keys.ensures ∙ sym n) c.in_ok-held_before.ensures.room;
-      erred_room = subst (λ (m : ℕ). m ≤ room c.in_ok-erred_before.erred_before) (c.keys-2.ensures ∙ sym n) c.in_ok-erred_before.ensures.room;
+      held_room = subst (λ (m : ℕ). m ≤ room c.in_ok-held_before.held_before) (c.keys-2.ensures ∙ sym n) c.in_ok-held_before.ensures.room;
+      erred_room = subst (λ (m : ℕ). m ≤ room c.in_ok-erred_before.erred_before) (c.keys-3.ensures ∙ sym n) c.in_ok-erred_before.ensures.room;
     }
 
 pub returns-clause-facts : goal.returns-clause-facts
