@@ -2,7 +2,7 @@ use Rattle.std.proofs.Common.{◌≡◌, ◌∙◌, false, ◌&&◌, ap, sym, ru
 use Rattle.fact_rows.specs.Rows.{cell}
 use Rattle.worker_core.specs.Core.{facts}
 use Rattle.cluster_nodes.proofs.Places.{change_none, change_more, change_all}
-use Rattle.cluster_nodes.proofs.cores.unspill.Goals as goal
+use Rattle.cluster_nodes.proofs.cores.unspill_all.Goals as goal
 
 pub loop-key-init : goal.loop-key-init
 loop-key-init c = record {
