@@ -1,5 +1,5 @@
 -- No block stands where its key isn't counted, whatever happens.
-use Rattle.std.proofs.Common.{◌≡◌, ℕ, zero, suc, ◌<◌, Bool, true, false, not, ◌&&◌, ◌||◌, List, [], ◌∷◌, ◌++◌, Option, Some, None, refl, sym, ap, ◌∙◌, subst, arith, cond, length, get_or}
+use Rattle.std.proofs.Common.{◌≡◌, ℕ, ◌<◌, Bool, true, false, not, ◌&&◌, ◌||◌, List, [], ◌∷◌, ◌++◌, Option, None, refl, sym, ap, ◌∙◌, subst, cond, length, get_or}
 use Rattle.std.specs.Prelude.{◌==◌, slice_get}
 use Rattle.std.specs.declared.sync.Arc.{Arc}
 use Rattle.std.specs.declared.alloc.Global.{Global}
@@ -7,7 +7,7 @@ use Rattle.std.proofs.lemmas.Bool.{true≢false, eqb-true}
 use Rattle.cluster_msgs.specs.Shape.{Shape}
 use Rattle.cluster_rules.specs.Derived.{is_in}
 use Rattle.cluster_rules.specs.Functions.{put, put_pair}
-use Rattle.cluster_rules.specs.Worker.{WorkerFacts, new_worker}
+use Rattle.cluster_rules.specs.Worker.{WorkerFacts}
 use Rattle.cluster_rules.specs.Client.{ClientFacts}
 use Rattle.cluster_laws.specs.Moves.{keeps}
 use Rattle.fact_rows.specs.Rows.{read, cell}
