@@ -171,9 +171,9 @@ module _ {B : Type 0} (f : Facts) (old : Nodes B) where
   unfolding world_of blocks_in
   cut_is d u i a b = λ t. record { world = record (world_of f old) { down = a t; up = b t }; blocks = blocks_in old }
 
-  pub spilled_is : (sp : ℕ × List (List Bool)) (i k : ℕ) → cell sp false ≡ put_pair (cell old.spilled false) i k true → cluster_of f (record old { spilled = sp }) ≡ in_world (cluster_of f old) (spill (world_of f old) i k)
+  pub spilled_is : (st : Bool) (sp : ℕ × List (List Bool)) (i k : ℕ) → cell sp false ≡ put_pair (cell old.spilled false) i k true → cluster_of f (record old { strays = st; spilled = sp }) ≡ in_world (cluster_of f old) (spill (world_of f old) i k)
   unfolding world_of blocks_in
-  spilled_is sp i k e = let s : cell sp false ≡ put (cell old.spilled false) i (put (cell old.spilled false i) k true) = e ∙ pair_put (cell old.spilled false) i k true in λ t. record { world = record (world_of f old) { spilled = s t }; blocks = blocks_in old }
+  spilled_is st sp i k e = let s : cell sp false ≡ put (cell old.spilled false) i (put (cell old.spilled false i) k true) = e ∙ pair_put (cell old.spilled false) i k true in λ t. record { world = record (world_of f old) { spilled = s t }; blocks = blocks_in old }
 
   pub lost_is : (al : List Bool) (sp : ℕ × List (List Bool)) (hd : ℕ × List (List (Option (Arc B Global)))) (i : ℕ) → read al false ≡ put (read old.alive false) i false
       → cell sp false ≡ (λ w k. cond (w == i) false (cell old.spilled false w k)) → cell hd None ≡ (λ w k. cond (w == i) None (cell old.held None w k))

@@ -96,6 +96,25 @@ module _ {B : Type 0} (old : Nodes B) where
     clients = s.clients;
   }
 
+  pub sized_spilled : (st : Bool) (sp : ℕ × List (List Bool)) → height sp ≡ height old.spilled → width sp ≡ width old.spilled → IsSized old → IsSized (record old { strays = st; spilled = sp })
+  sized_spilled st sp b c s = record {
+    alive = s.alive;
+    spilled = b ∙ s.spilled;
+    down = s.down;
+    up = s.up;
+    held = s.held;
+    inputs = s.inputs;
+    to_client = s.to_client;
+    from_client = s.from_client;
+    got = s.got;
+    spilled_keys = c ∙ s.spilled_keys;
+    held_keys = s.held_keys;
+    inputs_keys = s.inputs_keys;
+    got_keys = s.got_keys;
+    workers = s.workers;
+    clients = s.clients;
+  }
+
   pub sized_moving : (r a : List (InTransit B)) → IsSized old → IsSized (record old { requests = r; answers = a })
   sized_moving r a s = record {
     alive = s.alive;
@@ -116,7 +135,7 @@ module _ {B : Type 0} (old : Nodes B) where
   }
 
   pub nodes_moving : (r a : List (InTransit B)) → AreRequests r → AreAnswers a → IsNodes old → IsNodes (record old { requests = r; answers = a })
-  nodes_moving r a x y n = record { sized = sized_moving r a n.sized; sorted = record { down = n.sorted.down; up = n.sorted.up; to_client = n.sorted.to_client; from_client = n.sorted.from_client; requests = x; answers = y } }
+  nodes_moving r a x y n = record { sized = sized_moving r a n.sized; sorted = record { down = n.sorted.down; up = n.sorted.up; to_client = n.sorted.to_client; from_client = n.sorted.from_client; requests = x; answers = y }; tidy = n.tidy }
 
   pub sized_inputs : (ins : ℕ × List (List (Option (List (Arc B Global))))) → height ins ≡ height old.inputs → width ins ≡ width old.inputs → IsSized old → IsSized (record old { inputs = ins })
   sized_inputs ins a b s = record {

@@ -1,7 +1,9 @@
 pub mod Places
+pub mod Leaving
 pub mod NodeLemmas
 pub mod Turning
 pub mod Changing
+pub mod Tidying
 pub mod Gathering
 pub mod Keeping
 pub mod Starting

@@ -1,9 +1,10 @@
 -- Places in rows, and members of lists.
-use Rattle.std.proofs.Common.{◌≡◌, ℕ, zero, suc, ◌+◌, ◌<◌, ◌≤◌, Bool, true, false, ◌&&◌, List, [], ◌∷◌, ◌++◌, Option, Some, None, refl, sym, ap, ◌∙◌, subst, arith, cond, length, get_or, set, ltb, ⊎_elim}
+use Rattle.std.proofs.Common.{◌≡◌, ℕ, zero, suc, ◌+◌, ◌<◌, ◌≤◌, Bool, true, false, ◌&&◌, ◌||◌, List, [], ◌∷◌, ◌++◌, Option, Some, None, refl, sym, ap, ◌∙◌, subst, arith, cond, length, get_or, set, ltb, ⊎_elim}
 use Rattle.std.specs.Prelude.{◌==◌, slice_get}
 use Rattle.std.specs.List.{AllByRecursion}
 use Rattle.std.proofs.lemmas.Bool.{false≢true, eqb-true, cases_lt}
 use Rattle.std.proofs.lemmas.Bool.Decides.{nat_tests}
+use Rattle.cluster_rules.specs.Derived.{is_in}
 use Rattle.cluster_rules.specs.Functions.{put, put_pair}
 use Rattle.cluster_laws.specs.Moves.{either, keeps}
 use Rattle.cluster_nodes.specs.Turns.{first_at}
@@ -71,9 +72,6 @@ eq_true a = grind (arith, nat_tests)
 less_true : (k n : ℕ) → k < n → ltb k n ≡ true
 less_true k n l = grind (arith, nat_tests)
 
-not_less : (k n : ℕ) → ltb k n ≡ false → n ≤ k
-not_less k n q = grind (arith, nat_tests)
-
 less_not : (k n : ℕ) → n ≤ k → ltb k n ≡ false
 less_not k n q = grind (arith, nat_tests)
 
@@ -118,6 +116,88 @@ module _ {A : Type 0} (change : ℕ → A → A) where
       at_place : (w k : ℕ) → cur w k ≡ cond {A = ℕ → A} (w == node) (λ q. change q (base node q)) (base w) k
       at_place w k = s w k ∙ pick w k (w == node) refl
 
+-- the keys of a list, one after another: a key may come again, which changes nothing more
+in_more : (ys : List ℕ) (x k : ℕ) → is_in k (ys ++ x ∷ []) ≡ (is_in k ys || x == k)
+in_more [] x k = last (x == k)
+  where
+    last : (b : Bool) → (b || false) ≡ b
+    last true = refl
+    last false = refl
+in_more (y ∷ ys) x k = ap (λ b. y == k || b) (in_more ys x k) ∙ moved (y == k) (is_in k ys) (x == k)
+  where
+    moved : (a b c : Bool) → (a || (b || c)) ≡ ((a || b) || c)
+    moved true b c = refl
+    moved false b c = refl
+
+module _ {A : Type 0} (change : ℕ → A → A) where
+  pub touch_none : (base : ℕ → ℕ → A) (node w k : ℕ) → base w k ≡ cond (w == node && is_in k []) (change k (base w k)) (base w k)
+  touch_none base node w k = pick (w == node)
+    where
+      pick : (b : Bool) → base w k ≡ cond (b && false) (change k (base w k)) (base w k)
+      pick true = refl
+      pick false = refl
+
+  pub touch_more : ((k : ℕ) (x : A) → change k (change k x) ≡ change k x) → (base cur next : ℕ → ℕ → A) (node key : ℕ) (ys : List ℕ) → next ≡ put_pair cur node key (change key (cur node key))
+      → ((w k : ℕ) → cur w k ≡ cond (w == node && is_in k ys) (change k (base w k)) (base w k))
+      → (w k : ℕ) → next w k ≡ cond (w == node && is_in k (ys ++ key ∷ [])) (change k (base w k)) (base w k)
+  touch_more once base cur next node key ys e s w k = ap (λ (f : ℕ → ℕ → A). f w k) e ∙ pick (w == node) refl (k == key) refl ∙ sym (ap (λ b. cond (w == node && b) (change k (base w k)) (base w k)) (in_more ys key k))
+    where
+      turned : (a b : ℕ) (c : Bool) → (a == b) ≡ c → (b == a) ≡ c
+      turned a b true e = grind (arith, nat_tests)
+      turned a b false e = grind (arith, nat_tests)
+
+      on : (b : Bool) → (b || true) ≡ true
+      on true = refl
+      on false = refl
+
+      off : (b : Bool) → (b || false) ≡ b
+      off true = refl
+      off false = refl
+
+      again : (b : Bool) → change key (cond b (change key (base node key)) (base node key)) ≡ change key (base node key)
+      again true = once key (base node key)
+      again false = refl
+
+      own : change key (cur node key) ≡ change key (base node key)
+      own = ap (change key) (s node key ∙ ap (λ b. cond (b && is_in key ys) (change key (base node key)) (base node key)) (eq_true node)) ∙ again (is_in key ys)
+
+      pick : (b : Bool) → (w == node) ≡ b → (c : Bool) → (k == key) ≡ c → cond (b && c) (change key (cur node key)) (cur w k) ≡ cond (w == node && (is_in k ys || key == k)) (change k (base w k)) (base w k)
+      pick true p true q = own
+          ∙ ap (λ v. change key (base v key)) (sym (eqb-true w node p)) ∙ ap (λ v. change v (base w v)) (sym (eqb-true k key q))
+          ∙ sym (ap (λ b. cond (b && (is_in k ys || key == k)) (change k (base w k)) (base w k)) p
+          ∙ ap (λ b. cond (is_in k ys || b) (change k (base w k)) (base w k)) (turned k key true q)
+          ∙ ap (λ b. cond b (change k (base w k)) (base w k)) (on (is_in k ys)))
+      pick true p false q = s w k ∙ ap (λ b. cond (b && is_in k ys) (change k (base w k)) (base w k)) p
+          ∙ sym (ap (λ b. cond (b && (is_in k ys || key == k)) (change k (base w k)) (base w k)) p
+          ∙ ap (λ b. cond (is_in k ys || b) (change k (base w k)) (base w k)) (turned k key false q)
+          ∙ ap (λ b. cond b (change k (base w k)) (base w k)) (off (is_in k ys)))
+      pick false p c q = s w k ∙ ap (λ b. cond (b && is_in k ys) (change k (base w k)) (base w k)) p ∙ sym (ap (λ b. cond (b && (is_in k ys || key == k)) (change k (base w k)) (base w k)) p)
+
+  -- all keys that change are in the list
+  pub touch_all : (base cur : ℕ → ℕ → A) (node : ℕ) (ys : List ℕ) → ((k : ℕ) → is_in k ys ≡ false → change k (base node k) ≡ base node k)
+      → ((w k : ℕ) → cur w k ≡ cond (w == node && is_in k ys) (change k (base w k)) (base w k)) → cur ≡ put base node (λ k. change k (base node k))
+  touch_all base cur node ys others s = λ t w k. at_place w k t
+    where
+      here : (k : ℕ) (l : Bool) → is_in k ys ≡ l → cond l (change k (base node k)) (base node k) ≡ change k (base node k)
+      here k true q = refl
+      here k false q = sym (others k q)
+
+      pick : (w k : ℕ) (b : Bool) → (w == node) ≡ b → cond (b && is_in k ys) (change k (base w k)) (base w k) ≡ cond {A = ℕ → A} b (λ q. change q (base node q)) (base w) k
+      pick w k true p = ap (λ v. cond (is_in k ys) (change k (base v k)) (base v k)) (eqb-true w node p) ∙ here k (is_in k ys) refl
+      pick w k false p = refl
+
+      at_place : (w k : ℕ) → cur w k ≡ cond {A = ℕ → A} (w == node) (λ q. change q (base node q)) (base w) k
+      at_place w k = s w k ∙ pick w k (w == node) refl
+
+-- a place that is written again as it was
+pub pair_own : {A : Type 0} (f : ℕ → ℕ → A) (i k : ℕ) (x : A) → f i k ≡ x → f ≡ put_pair f i k x
+pair_own f i k x s = λ t w q. pick w q (w == i) refl (q == k) refl t
+  where
+    pick : (w q : ℕ) (b : Bool) → (w == i) ≡ b → (c : Bool) → (q == k) ≡ c → f w q ≡ cond (b && c) x (f w q)
+    pick w q true p true e = ap (λ v. f v q) (eqb-true w i p) ∙ ap (f i) (eqb-true q k e) ∙ s
+    pick w q true p false e = refl
+    pick w q false p c e = refl
+
 -- what came, one after another
 module _ {A : Type 0} where
   either_none : (x : Option A) → either x None ≡ x
@@ -137,18 +217,18 @@ module _ {A : Type 0} where
       pick true r = refl
       pick false r = r
 
-  pub bring_none : (base : ℕ → ℕ → Option A) (node n w k : ℕ) → base w k ≡ cond (w == node && ltb k n) (either (base w k) None) (base w k)
-  bring_none base node n w k = pick (w == node && ltb k n)
+  pub bring_none : (base : ℕ → ℕ → Option A) (node : ℕ) (at : ℕ → Bool) (w k : ℕ) → base w k ≡ cond (w == node && at k) (either (base w k) None) (base w k)
+  bring_none base node at w k = pick (w == node && at k)
     where
       pick : (b : Bool) → base w k ≡ cond b (either (base w k) None) (base w k)
       pick true = sym (either_none (base w k))
       pick false = refl
 
-  pub bring_more : (base cur next : ℕ → ℕ → Option A) (node n : ℕ) (ys : List (ℕ × A)) (p : ℕ × A)
-      → ((w k : ℕ) → next w k ≡ cond ((w == node && ltb k n) && p.0 == k) (either (cur w k) (Some p.1)) (cur w k))
-      → ((w k : ℕ) → cur w k ≡ cond (w == node && ltb k n) (either (base w k) (first_at ys k)) (base w k))
-      → (w k : ℕ) → next w k ≡ cond (w == node && ltb k n) (either (base w k) (first_at (ys ++ p ∷ []) k)) (base w k)
-  bring_more base cur next node n ys p e s w k = e w k ∙ pick (w == node && ltb k n) (s w k) ∙ ap (λ x. cond (w == node && ltb k n) (either (base w k) x) (base w k)) (sym (first_more ys p k))
+  pub bring_more : (base cur next : ℕ → ℕ → Option A) (node : ℕ) (at : ℕ → Bool) (ys : List (ℕ × A)) (p : ℕ × A)
+      → ((w k : ℕ) → next w k ≡ cond ((w == node && at k) && p.0 == k) (either (cur w k) (Some p.1)) (cur w k))
+      → ((w k : ℕ) → cur w k ≡ cond (w == node && at k) (either (base w k) (first_at ys k)) (base w k))
+      → (w k : ℕ) → next w k ≡ cond (w == node && at k) (either (base w k) (first_at (ys ++ p ∷ []) k)) (base w k)
+  bring_more base cur next node at ys p e s w k = e w k ∙ pick (w == node && at k) (s w k) ∙ ap (λ x. cond (w == node && at k) (either (base w k) x) (base w k)) (sym (first_more ys p k))
     where
       pick : (b : Bool) → cur w k ≡ cond b (either (base w k) (first_at ys k)) (base w k)
           → cond (b && p.0 == k) (either (cur w k) (Some p.1)) (cur w k) ≡ cond b (either (base w k) (either (first_at ys k) (cond (p.0 == k) (Some p.1) None))) (base w k)
@@ -159,24 +239,24 @@ module _ {A : Type 0} where
           at_key false = r ∙ sym (ap (λ x. either (base w k) x) (either_none (first_at ys k)))
       pick false r = r
 
-  -- one block: its key isn't there, something stands there, or nothing does
-  pub past_keys : (old : ℕ → ℕ → Option A) (node n key : ℕ) (v : A) → n ≤ key → (w k : ℕ) → old w k ≡ cond ((w == node && ltb k n) && key == k) (either (old w k) (Some v)) (old w k)
-  past_keys old node n key v l w k = pick (w == node) (key == k) refl
+  -- one block: its key isn't marked, something stands there, or nothing does
+  pub not_marked : (old : ℕ → ℕ → Option A) (node key : ℕ) (at : ℕ → Bool) (v : A) → at key ≡ false → (w k : ℕ) → old w k ≡ cond ((w == node && at k) && key == k) (either (old w k) (Some v)) (old w k)
+  not_marked old node key at v m w k = pick (w == node) (key == k) refl
     where
-      is_false : (b c : Bool) → c ≡ false → (b && c) ≡ false
-      is_false true c e = e
-      is_false false c e = refl
+      off : (b : Bool) → (b && false) ≡ false
+      off true = refl
+      off false = refl
 
-      gone : (c : Bool) → (key == k) ≡ c → (ltb k n && c) ≡ false
-      gone true e = ap (λ x. x && true) (less_not k n (subst (λ z. n ≤ z) (eqb-true key k e) l))
-      gone false e = is_false (ltb k n) false refl
+      gone : (c : Bool) → (key == k) ≡ c → (at k && c) ≡ false
+      gone true e = ap (λ x. x && true) (subst (λ z. at z ≡ false) (eqb-true key k e) m)
+      gone false e = off (at k)
 
-      pick : (b c : Bool) → (key == k) ≡ c → old w k ≡ cond ((b && ltb k n) && c) (either (old w k) (Some v)) (old w k)
+      pick : (b c : Bool) → (key == k) ≡ c → old w k ≡ cond ((b && at k) && c) (either (old w k) (Some v)) (old w k)
       pick true c e = sym (ap (λ x. cond x (either (old w k) (Some v)) (old w k)) (gone c e))
       pick false c e = refl
 
-  pub stands_there : (old : ℕ → ℕ → Option A) (node n key : ℕ) (v a : A) → old node key ≡ Some a → (w k : ℕ) → old w k ≡ cond ((w == node && ltb k n) && key == k) (either (old w k) (Some v)) (old w k)
-  stands_there old node n key v a s w k = pick (w == node) refl (ltb k n) (key == k) refl
+  pub stands_there : (old : ℕ → ℕ → Option A) (node key : ℕ) (at : ℕ → Bool) (v a : A) → old node key ≡ Some a → (w k : ℕ) → old w k ≡ cond ((w == node && at k) && key == k) (either (old w k) (Some v)) (old w k)
+  stands_there old node key at v a s w k = pick (w == node) refl (at k) (key == k) refl
     where
       here : (w == node) ≡ true → (key == k) ≡ true → old w k ≡ Some a
       here p q = ap (λ z. old z k) (eqb-true w node p) ∙ ap (old node) (sym (eqb-true key k q)) ∙ s
@@ -190,9 +270,9 @@ module _ {A : Type 0} where
       pick true p false d q = refl
       pick false p c d q = refl
 
-  pub put_there : (old new : ℕ → ℕ → Option A) (node n key : ℕ) (v : A) → key < n → old node key ≡ None → new ≡ put_pair old node key (Some v)
-      → (w k : ℕ) → new w k ≡ cond ((w == node && ltb k n) && key == k) (either (old w k) (Some v)) (old w k)
-  put_there old new node n key v l s e w k = ap (λ (f : ℕ → ℕ → Option A). f w k) e ∙ pick (w == node) refl (k == key) refl
+  pub put_there : (old new : ℕ → ℕ → Option A) (node key : ℕ) (at : ℕ → Bool) (v : A) → at key ≡ true → old node key ≡ None → new ≡ put_pair old node key (Some v)
+      → (w k : ℕ) → new w k ≡ cond ((w == node && at k) && key == k) (either (old w k) (Some v)) (old w k)
+  put_there old new node key at v l s e w k = ap (λ (f : ℕ → ℕ → Option A). f w k) e ∙ pick (w == node) refl (k == key) refl
     where
       turned : (a b : ℕ) (c : Bool) → (a == b) ≡ c → (b == a) ≡ c
       turned a b true e = grind (arith, nat_tests)
@@ -205,27 +285,38 @@ module _ {A : Type 0} where
       off true d e = e
       off false d e = refl
 
-      pick : (b : Bool) → (w == node) ≡ b → (c : Bool) → (k == key) ≡ c → cond (b && c) (Some v) (old w k) ≡ cond ((b && ltb k n) && key == k) (either (old w k) (Some v)) (old w k)
+      pick : (b : Bool) → (w == node) ≡ b → (c : Bool) → (k == key) ≡ c → cond (b && c) (Some v) (old w k) ≡ cond ((b && at k) && key == k) (either (old w k) (Some v)) (old w k)
       pick true p true q = fresh p q ∙ sym (ap (λ x. cond x (either (old w k) (Some v)) (old w k)) (turned k key true q))
-          ∙ sym (ap (λ x. cond (x && key == k) (either (old w k) (Some v)) (old w k)) (less_true k n (subst (λ z. z < n) (sym (eqb-true k key q)) l)))
-      pick true p false q = sym (ap (λ x. cond x (either (old w k) (Some v)) (old w k)) (off (ltb k n) (key == k) (turned k key false q)))
+          ∙ sym (ap (λ x. cond (x && key == k) (either (old w k) (Some v)) (old w k)) (subst (λ z. at z ≡ true) (sym (eqb-true k key q)) l))
+      pick true p false q = sym (ap (λ x. cond x (either (old w k) (Some v)) (old w k)) (off (at k) (key == k) (turned k key false q)))
       pick false p c q = refl
 
   -- what came is put, and what isn't counted goes
-  pub shelved : (old mid new : ℕ → ℕ → Option A) (counted : ℕ → Bool) (came : ℕ → Option A) (node n : ℕ)
-      → ((w k : ℕ) → n ≤ k → old w k ≡ None) → ((k : ℕ) → n ≤ k → counted k ≡ false)
-      → ((w k : ℕ) → mid w k ≡ cond (w == node && ltb k n) (either (old w k) (came k)) (old w k))
-      → ((w k : ℕ) → new w k ≡ cond (w == node && ltb k n) (cond (counted k) (mid w k) None) (mid w k))
+  pub shelved : (old mid new : ℕ → ℕ → Option A) (counted : ℕ → Bool) (came : ℕ → Option A) (node : ℕ) (lost : List ℕ)
+      → ((k : ℕ) → counted k ≡ false → is_in k lost ≡ false → old node k ≡ None)
+      → ((w k : ℕ) → mid w k ≡ cond (w == node && counted k) (either (old w k) (came k)) (old w k))
+      → ((w k : ℕ) → new w k ≡ cond (w == node && is_in k lost) (cond (counted k) (mid w k) None) (mid w k))
       → new ≡ put old node (λ k. keeps (counted k) (old node k) (came k))
-  shelved old mid new counted came node n past inside m e = λ t w k. pick w k (w == node) refl (ltb k n) refl t
+  shelved old mid new counted came node lost tidy m e = λ t w k. pick w k (w == node) refl t
     where
-      at : (w k : ℕ) (b : Bool) → (w == node && ltb k n) ≡ b → new w k ≡ cond b (cond (counted k) (cond b (either (old w k) (came k)) (old w k)) None) (cond b (either (old w k) (came k)) (old w k))
-      at w k b s = e w k ∙ ap (λ x. cond x (cond (counted k) (mid w k) None) (mid w k)) s ∙ ap (λ x. cond b (cond (counted k) x None) x) (m w k ∙ ap (λ x. cond x (either (old w k) (came k)) (old w k)) s)
+      both : (x y : Option A) (l : Bool) → cond l (cond true x None) x ≡ x
+      both x y true = refl
+      both x y false = refl
 
-      pick : (w k : ℕ) (b : Bool) → (w == node) ≡ b → (c : Bool) → ltb k n ≡ c → new w k ≡ cond {A = ℕ → Option A} b (λ q. keeps (counted q) (old node q) (came q)) (old w) k
-      pick w k true p true q = at w k true (ap (λ x. x && ltb k n) p ∙ q) ∙ ap (λ v. cond (counted k) (either (old v k) (came k)) None) (eqb-true w node p)
-      pick w k true p false q = at w k false (ap (λ x. x && ltb k n) p ∙ q) ∙ past w k (not_less k n q) ∙ sym (ap (λ x. cond x (either (old node k) (came k)) None) (inside k (not_less k n q)))
-      pick w k false p c q = at w k false (ap (λ x. x && ltb k n) p)
+      here : (k : ℕ) (c : Bool) → counted k ≡ c → (l : Bool) → is_in k lost ≡ l → cond l (cond c (cond c (either (old node k) (came k)) (old node k)) None) (cond c (either (old node k) (came k)) (old node k)) ≡ cond c (either (old node k) (came k)) None
+      here k true p l q = both (either (old node k) (came k)) None l
+      here k false p true q = refl
+      here k false p false q = tidy k p q
+
+      at : (w k : ℕ) (b : Bool) → (w == node) ≡ b → new w k ≡ cond (b && is_in k lost) (cond (counted k) (cond (b && counted k) (either (old w k) (came k)) (old w k)) None) (cond (b && counted k) (either (old w k) (came k)) (old w k))
+      at w k b s = e w k ∙ ap (λ x. cond (x && is_in k lost) (cond (counted k) (mid w k) None) (mid w k)) s
+          ∙ ap (λ x. cond (b && is_in k lost) (cond (counted k) x None) x) (m w k ∙ ap (λ x. cond (x && counted k) (either (old w k) (came k)) (old w k)) s)
+
+      pick : (w k : ℕ) (b : Bool) → (w == node) ≡ b → new w k ≡ cond {A = ℕ → Option A} b (λ q. keeps (counted q) (old node q) (came q)) (old w) k
+      pick w k true p = at w k true p
+          ∙ ap (λ v. cond (is_in k lost) (cond (counted k) (cond (counted k) (either (old v k) (came k)) (old v k)) None) (cond (counted k) (either (old v k) (came k)) (old v k))) (eqb-true w node p)
+          ∙ here k (counted k) refl (is_in k lost) refl
+      pick w k false p = at w k false p
 
 -- one more member makes one longer
 length_more : {A : Type 0} (xs : List A) (v : A) → length (xs ++ v ∷ []) ≡ length xs + 1

@@ -20,6 +20,7 @@ use Rattle.cluster_nodes.specs.declared.nodes.Nodes.{Nodes}
 use Rattle.cluster_nodes.specs.Nodes.{as_down, as_up, as_to_client, as_from_client, block_at, blocks_at, delivery_at, workers_of, world_of, blocks_in, cluster_of}
 use Rattle.cluster_nodes.specs.Kept.{AreWorkersOver, AreClientsOver, IsNodes}
 use Rattle.cluster_nodes.proofs.Changing.{all_new, nobody}
+use Rattle.cluster_nodes.proofs.Tidying.{tidy_none}
 
 -- a grid without rows has nothing
 pub no_rows : {A : Type 0} (d : A) (w k : ℕ) → get_or (get_or [] w []) k d ≡ d
@@ -94,8 +95,9 @@ module _ {B : Type 0} (n : Nodes B) (c : Core) where
       → width n.spilled ≡ key_count n.shape → width n.held ≡ key_count n.shape → width n.inputs ≡ key_count n.shape → width n.got ≡ key_count n.shape
       → waiting n.down ≡ (λ i. []) → waiting n.up ≡ (λ i. []) → waiting n.to_client ≡ (λ i. []) → waiting n.from_client ≡ (λ i. [])
       → n.requests ≡ [] → n.answers ≡ []
+      → ((i k : ℕ) → cell n.spilled false i k ≡ false) → cell n.held None ≡ (λ i k. None) → cell n.got None ≡ (λ i k. None)
       → IsNodes n
-  started we ce cs al sp d u h i t x g ws wh wi wg dn un tn xn rn an =
+  started we ce cs al sp d u h i t x g ws wh wi wg dn un tn xn rn an sn hn gn =
       let one : ◌≡◌ {A = ℕ} 1 (length n.workers.items) = ap length (sym we) in
       record {
         sized = record {
@@ -123,4 +125,5 @@ module _ {B : Type 0} (n : Nodes B) (c : Core) where
           requests = subst (λ (ts : List (InTransit B)). AreRequests ts) (sym rn) tt;
           answers = subst (λ (ts : List (InTransit B)). AreAnswers ts) (sym an) tt;
         };
+        tidy = tidy_none n.strays n.alive n.workers.items n.clients.items n.spilled n.held n.got sn hn gn;
       }

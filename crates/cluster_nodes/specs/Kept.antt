@@ -1,16 +1,18 @@
 -- What a `Nodes` keeps.
-use Rattle.std.specs.Prelude.{◌≡◌, ◌<◌, ◌≤◌, ℕ, true, false, List, [], length}
+use Rattle.std.specs.Prelude.{◌≡◌, ◌<◌, ◌≤◌, ℕ, Bool, true, false, List, [], Option, None, length}
+use Rattle.std.specs.declared.sync.Arc.{Arc}
+use Rattle.std.specs.declared.alloc.Global.{Global}
 use Rattle.std.specs.List.{filter_map, AllByRecursion}
 use Rattle.cluster_msgs.specs.Shape.{Shape, key_count}
 use Rattle.cluster_msgs.specs.declared.events.Asker.{Asker}
 use Rattle.cluster_msgs.specs.declared.events.Asker.TheVariants.{Worker, Client}
-use Rattle.fact_rows.specs.Rows.{read, width, height}
+use Rattle.fact_rows.specs.Rows.{cell, read, width, height}
 use Rattle.message_queues.specs.Queues.{waiting}
 use Rattle.message_queues.specs.Transit.{AreRequests, AreAnswers}
 use Rattle.message_queues.specs.Posts.{downs, ups, to_clients, from_clients}
 use Rattle.worker_core.specs.Core.{Core, facts}
 use Rattle.gather_client.specs.CoreState.{CoreState, client_facts}
-use Rattle.cluster_nodes.specs.Nodes.{as_down, as_up, as_to_client, as_from_client}
+use Rattle.cluster_nodes.specs.Nodes.{as_down, as_up, as_to_client, as_from_client, workers_of, clients_of}
 use Rattle.cluster_nodes.specs.declared.nodes.Nodes.{Nodes}
 
 -- the cores are over this graph
@@ -54,9 +56,17 @@ pub record IsSorted {B : Type 0} (n : Nodes B) : Type 0 where
   pub requests : AreRequests n.requests
   pub answers : AreAnswers n.answers
 
+-- no block stands where its key isn't counted; nor is a key spilled there, unless some may be astray. It is said of the parts, so that the
+-- others may change
+pub record IsTidy {B : Type 0} (strays : Bool) (alive : List Bool) (workers : List Core) (clients : List CoreState) (marks : ℕ × List (List Bool)) (there here : ℕ × List (List (Option (Arc B Global)))) : Type 0 where
+  pub held : (g : Shape) (i k : ℕ) → (workers_of g alive workers i).mem k ≡ false → cell there None i k ≡ None
+  pub spilled : strays ≡ false → (g : Shape) (i k : ℕ) → (workers_of g alive workers i).mem k ≡ false → cell marks false i k ≡ false
+  pub got : (g : Shape) (c k : ℕ) → (clients_of g clients c).got k ≡ false → cell here None c k ≡ None
+
 pub record IsNodes {B : Type 0} (n : Nodes B) : Type 0 where
   pub sized : IsSized n
   pub sorted : IsSorted n
+  pub tidy : IsTidy n.strays n.alive n.workers.items n.clients.items n.spilled n.held n.got
 
 -- nobody is there, and nothing is under way
 pub record IsEmpty {B : Type 0} (n : Nodes B) : Type 0 where

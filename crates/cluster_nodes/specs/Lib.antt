@@ -1,4 +1,5 @@
 pub mod Nodes
 pub mod Turns
 pub mod Kept
+pub mod Gone
 pub mod Growing

@@ -1,6 +1,7 @@
 //! The cores of workers and clients, by number.
-ghost use Rattle.std.specs.Prelude.{◌≡◌, ◌&&◌, ◌<◌, ◌≤◌, ◌+◌, ◌++◌, ℕ, List, Bool, Err, length, false, true, OnOk};
+ghost use Rattle.std.specs.Prelude.{◌≡◌, ◌==◌, ◌&&◌, ◌<◌, ◌≤◌, ◌+◌, ◌++◌, ℕ, List, Bool, Err, cond, length, false, true, OnOk};
 ghost use Rattle.cluster_msgs.specs.Shape.{Shape};
+ghost use Rattle.cluster_rules.specs.Derived.{is_in};
 ghost use Rattle.cluster_rules.specs.Functions.{put, put_pair};
 ghost use Rattle.cluster_rules.specs.Client.{client_step, client_takes};
 ghost use Rattle.cluster_rules.specs.WorkerStep.{worker_step, worker_takes};
@@ -67,8 +68,59 @@ pub fn client_on(
     clients[client as usize].on(event, out)
 }
 
-/// What has left a worker's memory is spilled no longer.
-pub fn unspill(spilled: &mut Grid<bool>, worker: u32, core: &WorkerCore, keys: u32)
+/// What has left a worker's memory is spilled no longer: it is one of these keys, unless some may be astray.
+pub fn unspill(
+    spilled: &mut Grid<bool>,
+    worker: u32,
+    core: &WorkerCore,
+    keys: u32,
+    lost: &[u32],
+    strays: bool,
+)
+    requires row { worker < height spilled.old }
+    requires keys { keys ≡ width spilled.old }
+    requires tidy { strays ≡ false → (k : ℕ) → (facts core.now).mem k ≡ false → is_in k lost.now ≡ false → cell spilled.old false worker k ≡ false }
+    ensures meaning { cell spilled.new false ≡ put (cell spilled.old false) worker (λ k. cell spilled.old false worker k && (facts core.now).mem k) }
+    ensures height { height spilled.new ≡ height spilled.old }
+    ensures width { width spilled.new ≡ width spilled.old }
+{
+    if strays {
+        unspill_all(spilled, worker, core, keys);
+    } else {
+        unspill_lost(spilled, worker, core, keys, lost);
+    }
+}
+
+/// The same of these keys alone.
+fn unspill_lost(spilled: &mut Grid<bool>, worker: u32, core: &WorkerCore, keys: u32, lost: &[u32])
+    requires row { worker < height spilled.old }
+    requires keys { keys ≡ width spilled.old }
+    ensures meaning { (w k : ℕ) → cell spilled.new false w k ≡ cond (w == worker && is_in k lost.now) (cell spilled.old false w k && (facts core.now).mem k) (cell spilled.old false w k) }
+    ensures height { height spilled.new ≡ height spilled.old }
+    ensures width { width spilled.new ≡ width spilled.old }
+{
+    for key in lost {
+        unspill_one(spilled, worker, core, keys, *key);
+    }
+}
+
+/// The same of any number, which may be no key's.
+fn unspill_one(spilled: &mut Grid<bool>, worker: u32, core: &WorkerCore, keys: u32, key: u32)
+    requires row { worker < height spilled.old }
+    requires keys { keys ≡ width spilled.old }
+    ensures meaning { cell spilled.new false ≡ put_pair (cell spilled.old false) worker key (cell spilled.old false worker key && (facts core.now).mem key) }
+    ensures height { height spilled.new ≡ height spilled.old }
+    ensures width { width spilled.new ≡ width spilled.old }
+{
+    if key < keys {
+        unspill_key(spilled, worker, core, key);
+    } else {
+        spilled.sound();
+    }
+}
+
+/// The same by a look at each key.
+fn unspill_all(spilled: &mut Grid<bool>, worker: u32, core: &WorkerCore, keys: u32)
     requires row { worker < height spilled.old }
     requires keys { keys ≡ width spilled.old }
     ensures meaning { cell spilled.new false ≡ put (cell spilled.old false) worker (λ k. cell spilled.old false worker k && (facts core.now).mem k) }

@@ -1,11 +1,11 @@
 //! Workers that join, die, are cut off and spill.
 ghost use Rattle.std.specs.Prelude.{◌≡◌, ◌<◌, ◌≤◌, ◌+◌, ◌++◌, ◌∷◌, [], ℕ, true, false, None, length, IfOk, OnOk};
-ghost use Rattle.cluster_msgs.specs.Shape.{key_count};
+ghost use Rattle.cluster_msgs.specs.Shape.{Shape, key_count};
 ghost use Rattle.cluster_rules.specs.Sched.{Facts};
 ghost use Rattle.cluster_rules.specs.WorldStep.{cut_off, spill};
 ghost use Rattle.fact_rows.specs.Rows.{cell, height, read, width};
 ghost use Rattle.message_queues.specs.Queues.{waiting};
-ghost use Rattle.cluster_nodes.specs.Nodes.{world_of, cluster_of};
+ghost use Rattle.cluster_nodes.specs.Nodes.{world_of, workers_of, cluster_of};
 ghost use Rattle.cluster_nodes.specs.Growing.{HasCore};
 ghost use Rattle.cluster_nodes.specs.Turns.{in_world, joined, lost};
 ghost use Rattle.cluster_nodes.specs.Kept.{IsNodes, HasSameNodes, TookFew};
@@ -61,6 +61,18 @@ pub(crate) fn add_places<B: Drop>(
     held.add()?;
     inputs.add()?;
     Ok(())
+}
+
+/// Whether a worker is alive and has a key in its memory.
+fn in_memory(workers: &Vec<WorkerCore>, alive: &Row<bool>, worker: u32, key: u32) -> bool
+    requires { worker < length workers.now.items }
+    ensures { (g : Shape) → result ≡ (workers_of g alive.now workers.now.items worker).mem key }
+{
+    if alive.test(worker as usize) {
+        workers[worker as usize].holds(key)
+    } else {
+        false
+    }
 }
 
 impl<B: Drop> Nodes<B> {
@@ -132,6 +144,8 @@ impl<B: Drop> Nodes<B> {
         ensures same { HasSameNodes self.old self.new }
         ensures few { (n : ℕ) → TookFew n self.old → TookFew n self.new }
     {
+        let counted = in_memory(&self.workers, &self.alive, worker, key);
+        self.strays = self.strays | !counted;
         self.spilled.set(worker, key, true);
     }
 }

@@ -9,6 +9,7 @@
 mod cores;
 mod deliver;
 mod gathers;
+mod gone;
 mod grow;
 mod kinds;
 pub mod nodes;

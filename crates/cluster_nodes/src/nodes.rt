@@ -18,6 +18,8 @@ pub struct Nodes<B> {
     pub workers: Vec<WorkerCore>,
     pub alive: Row<bool>,
     pub spilled: Grid<bool>,
+    /// Whether a key may be marked as spilled that its worker doesn't count: then each turn looks at all keys.
+    pub strays: bool,
     pub down: Links<Message>,
     pub up: Links<Message>,
     pub to_client: Links<Message>,

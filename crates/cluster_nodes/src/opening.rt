@@ -83,6 +83,7 @@ impl<B: Drop> Nodes<B> {
             workers: Vec::new(alloc),
             alive: Row::empty(alloc),
             spilled: Grid::empty(alloc, keys),
+            strays: false,
             down: Links::new(alloc),
             up: Links::new(alloc),
             to_client: Links::new(alloc),

@@ -1,5 +1,6 @@
 //! Where blocks stand: what came is put where it is missing, and what isn't counted goes.
 ghost use Rattle.std.specs.Prelude.{◌≡◌, ◌<◌, ◌≤◌, ◌&&◌, ◌==◌, ℕ, Bool, false, None, Some, cond, nat_lt};
+ghost use Rattle.cluster_rules.specs.Derived.{is_in};
 ghost use Rattle.cluster_rules.specs.Functions.{put, put_pair};
 ghost use Rattle.fact_rows.specs.Rows.{cell, height, width};
 ghost use Rattle.cluster_laws.specs.Moves.{either, keeps};
@@ -39,48 +40,58 @@ impl Holder for ClientCore {
 }
 
 /// At one node each key that is counted has the block that stood there, else the first that came for it, and the others
-/// have none.
+/// have none. Where a block stands already, its key is counted or one of those that were lost.
 pub fn shelve<B: Drop, H: Holder>(
     shelf: &mut Shelf<Arc<B>>,
     node: u32,
     holder: &H,
-    keys: u32,
+    lost: &[u32],
     brought: Vec<(u32, Arc<B>)>,
 )
     requires node { node < height shelf.old }
-    requires keys { keys ≡ width shelf.old }
-    requires inside { (k : ℕ) → keys ≤ k → H.counted holder.now k ≡ false }
+    requires inside { (k : ℕ) → width shelf.old ≤ k → H.counted holder.now k ≡ false }
+    requires tidy { (k : ℕ) → H.counted holder.now k ≡ false → is_in k lost.now ≡ false → cell shelf.old None node k ≡ None }
     ensures meaning { cell shelf.new None ≡ put (cell shelf.old None) node (λ k. keeps (H.counted holder.now k) (cell shelf.old None node k) (first_at brought.items k)) }
     ensures height { height shelf.new ≡ height shelf.old }
     ensures width { width shelf.new ≡ width shelf.old }
 {
-    shelf.sound();
-    bring(shelf, node, keys, brought);
-    keep(shelf, node, holder, keys);
+    bring(shelf, node, holder, brought);
+    keep(shelf, node, holder, lost);
 }
 
-/// Puts what came where nothing stands.
-fn bring<B: Drop>(shelf: &mut Shelf<Arc<B>>, node: u32, keys: u32, brought: Vec<(u32, Arc<B>)>)
+/// Puts what came and is counted where nothing stands.
+fn bring<B: Drop, H: Holder>(
+    shelf: &mut Shelf<Arc<B>>,
+    node: u32,
+    holder: &H,
+    brought: Vec<(u32, Arc<B>)>,
+)
     requires node { node < height shelf.old }
-    requires keys { keys ≡ width shelf.old }
-    ensures meaning { (w k : ℕ) → cell shelf.new None w k ≡ cond (w == node && nat_lt k keys) (either (cell shelf.old None w k) (first_at brought.items k)) (cell shelf.old None w k) }
+    requires inside { (k : ℕ) → width shelf.old ≤ k → H.counted holder.now k ≡ false }
+    ensures meaning { (w k : ℕ) → cell shelf.new None w k ≡ cond (w == node && H.counted holder.now k) (either (cell shelf.old None w k) (first_at brought.items k)) (cell shelf.old None w k) }
     ensures height { height shelf.new ≡ height shelf.old }
     ensures width { width shelf.new ≡ width shelf.old }
 {
     for pair in brought {
-        bring_one(shelf, node, keys, pair.0, pair.1);
+        bring_one(shelf, node, holder, pair.0, pair.1);
     }
 }
 
 /// The same of one block.
-fn bring_one<B: Drop>(shelf: &mut Shelf<Arc<B>>, node: u32, keys: u32, key: u32, block: Arc<B>)
+fn bring_one<B: Drop, H: Holder>(
+    shelf: &mut Shelf<Arc<B>>,
+    node: u32,
+    holder: &H,
+    key: u32,
+    block: Arc<B>,
+)
     requires node { node < height shelf.old }
-    requires keys { keys ≡ width shelf.old }
-    ensures meaning { (w k : ℕ) → cell shelf.new None w k ≡ cond ((w == node && nat_lt k keys) && key == k) (either (cell shelf.old None w k) (Some block)) (cell shelf.old None w k) }
+    requires inside { (k : ℕ) → width shelf.old ≤ k → H.counted holder.now k ≡ false }
+    ensures meaning { (w k : ℕ) → cell shelf.new None w k ≡ cond ((w == node && H.counted holder.now k) && key == k) (either (cell shelf.old None w k) (Some block)) (cell shelf.old None w k) }
     ensures height { height shelf.new ≡ height shelf.old }
     ensures width { width shelf.new ≡ width shelf.old }
 {
-    if key >= keys {
+    if !holder.counts(key) {
         return;
     }
     if shelf.get(node, key).is_some() {
@@ -89,28 +100,30 @@ fn bring_one<B: Drop>(shelf: &mut Shelf<Arc<B>>, node: u32, keys: u32, key: u32,
     shelf.put(node, key, block);
 }
 
-/// Takes away what isn't counted.
-fn keep<B: Drop, H: Holder>(shelf: &mut Shelf<Arc<B>>, node: u32, holder: &H, keys: u32)
+/// Takes away what of these keys isn't counted.
+fn keep<B: Drop, H: Holder>(shelf: &mut Shelf<Arc<B>>, node: u32, holder: &H, lost: &[u32])
     requires node { node < height shelf.old }
-    requires keys { keys ≡ width shelf.old }
-    ensures meaning { (w k : ℕ) → cell shelf.new None w k ≡ cond (w == node && nat_lt k keys) (cond (H.counted holder.now k) (cell shelf.old None w k) None) (cell shelf.old None w k) }
+    ensures meaning { (w k : ℕ) → cell shelf.new None w k ≡ cond (w == node && is_in k lost.now) (cond (H.counted holder.now k) (cell shelf.old None w k) None) (cell shelf.old None w k) }
     ensures height { height shelf.new ≡ height shelf.old }
     ensures width { width shelf.new ≡ width shelf.old }
 {
-    for key in 0..keys {
-        keep_one(shelf, node, holder, key);
+    for key in lost {
+        keep_one(shelf, node, holder, *key);
     }
 }
 
-/// The same of one key.
+/// The same of one number, which may be no key's: nothing stands there.
 fn keep_one<B: Drop, H: Holder>(shelf: &mut Shelf<Arc<B>>, node: u32, holder: &H, key: u32)
     requires node { node < height shelf.old }
-    requires key { key < width shelf.old }
     ensures meaning { cell shelf.new None ≡ put_pair (cell shelf.old None) node key (cond (H.counted holder.now key) (cell shelf.old None node key) None) }
     ensures height { height shelf.new ≡ height shelf.old }
     ensures width { width shelf.new ≡ width shelf.old }
 {
-    if !holder.counts(key) {
+    if holder.counts(key) {
+        return;
+    }
+    if shelf.get(node, key).is_some() {
+        shelf.sound();
         let _gone = shelf.take(node, key);
     }
 }

@@ -10,6 +10,7 @@ ghost use Rattle.cluster_nodes.specs.Turns.{among, worker_turned, client_turned}
 ghost use Rattle.cluster_nodes.specs.Kept.{IsNodes, HasSameNodes, TookFew};
 
 use crate::cores::{client_on, unspill, worker_on};
+use crate::gone::{lost_by, released_by};
 use crate::nodes::Nodes;
 use crate::shelve::shelve;
 use cluster_msgs::{ClientEvent, ClientOut, Instructions, Stop, WorkerEvent};
@@ -41,12 +42,14 @@ impl<B: Drop> Nodes<B> {
         ensures spent { result ≡ Err Stop.Spent → (n : ℕ) → TookFew n self.old → event_limit ≤ n }
     {
         let mut out = Instructions::new(self.alloc);
+        let gone = lost_by(self.alloc, &event)?;
         worker_on(&mut self.workers, worker, event, &mut out)?;
         let core = &self.workers[worker as usize];
         core.inside();
         let keys = self.shape.keys();
-        unspill(&mut self.spilled, worker, core, keys);
-        shelve(&mut self.held, worker, core, keys, brought);
+        let lost = gone.as_slice();
+        unspill(&mut self.spilled, worker, core, keys, lost, self.strays);
+        shelve(&mut self.held, worker, core, lost, brought);
         post_worker(self.alloc, worker, out, &mut self.up, &mut self.requests)?;
         Ok(())
     }
@@ -74,11 +77,11 @@ impl<B: Drop> Nodes<B> {
         ensures spent { result ≡ Err Stop.Spent → (n : ℕ) → TookFew n self.old → event_limit ≤ n }
     {
         let mut out = ClientOut::new(self.alloc);
+        let gone = released_by(self.alloc, &event)?;
         client_on(&mut self.clients, client, event, &mut out)?;
         let core = &self.clients[client as usize];
         core.inside();
-        let keys = self.shape.keys();
-        shelve(&mut self.got, client, core, keys, brought);
+        shelve(&mut self.got, client, core, gone.as_slice(), brought);
         post_client(
             self.alloc,
             client,

@@ -112,6 +112,7 @@ module _ {J B F : Type 0} (old : State J B F) (core : Core) (d t : List (List Me
         requests = n.sorted.requests;
         answers = n.sorted.answers;
       };
+      tidy = n.tidy;
     };
     shape = refl;
     workers = l ∙ ap (λ (f : Facts). f.last_worker + 1) (sym fe);

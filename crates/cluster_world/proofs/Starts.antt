@@ -53,6 +53,7 @@ module _ {J B F : Type 0} (old : State J B F) (joint : IsJoint old) (i k : ℕ) 
         clients = t.nodes.sized.clients;
       };
       sorted = record { down = t.nodes.sorted.down; up = t.nodes.sorted.up; to_client = t.nodes.sorted.to_client; from_client = t.nodes.sorted.from_client; requests = t.nodes.sorted.requests; answers = t.nodes.sorted.answers };
+      tidy = t.nodes.tidy;
     };
     shape = t.shape;
     workers = t.workers;

@@ -1,24 +1,19 @@
-use Rattle.std.proofs.Common.{◌≡◌, ◌∙◌, false, ◌&&◌, ap, sym, rules, arith}
+use Rattle.std.proofs.Common.{◌≡◌, ◌∙◌, Bool, true, false, ◌&&◌, refl, sym}
 use Rattle.fact_rows.specs.Rows.{cell}
 use Rattle.worker_core.specs.Core.{facts}
-use Rattle.cluster_nodes.proofs.Places.{change_none, change_more, change_all}
+use Rattle.cluster_nodes.proofs.Places.{touch_all}
 use Rattle.cluster_nodes.proofs.cores.unspill.Goals as goal
 
-pub loop-key-init : goal.loop-key-init
-loop-key-init c = record {
-  done = λ w k. change_none (λ q x. x && (facts c.args.core.now).mem q) (cell c.args.spilled.now false) c.args.worker w k;
-  high = search rules;
-  wide = search rules;
-}
+kept : (x m : Bool) → (m ≡ false → x ≡ false) → (x && m) ≡ x
+kept x false f = off x ∙ sym (f refl)
+  where
+    off : (x : Bool) → (x && false) ≡ false
+    off true = refl
+    off false = refl
+kept true true f = refl
+kept false true f = refl
 
-pub loop-key-preserved : goal.loop-key-preserved
-loop-key-preserved c = record {
-  done = change_more (λ q x. x && (facts c.args.core.now).mem q) (cell c.args.spilled.now false) (cell c.loop-key.spilled false) (cell c.unspill_key.new.spilled false) c.args.worker c.loop-key.key c.unspill_key.ensures.meaning c.loop-key.invariant.done;
-  high = search rules;
-  wide = search rules;
-}
-
-pub returns-clause-meaning : goal.returns-clause-meaning
-returns-clause-meaning c = change_all (λ q x. x && (facts c.args.core.now).mem q) (cell c.args.spilled.now false) (cell c.loop-key.spilled false) c.args.worker c.loop-key.key
-    (λ w k h. let e : cell c.args.spilled.now false w k ≡ false = c.sound.ensures false w k (omega (arith, c.requires.keys)) in ap (λ x. x && (facts c.args.core.now).mem k) e ∙ sym e)
-    c.loop-key.invariant.done
+pub returns-else-strays-clause-meaning : goal.returns-else-strays-clause-meaning
+returns-else-strays-clause-meaning c = touch_all (λ q x. x && (facts c.args.core.now).mem q) (cell c.args.spilled.now false) (cell c.unspill_lost.new.spilled false) c.args.worker c.args.lost.now
+    (λ k o. kept (cell c.args.spilled.now false c.args.worker k) ((facts c.args.core.now).mem k) (λ m. c.requires.tidy c.if-strays.false k m o))
+    c.unspill_lost.ensures.meaning

@@ -1,4 +1,4 @@
-use Rattle.std.proofs.Common.{◌≡◌, ◌≤◌, ◌∙◌, ◌+◌, ◌++◌, ◌∷◌, [], ℕ, Bool, List, None, false, sym, ap, subst, arith, length}
+use Rattle.std.proofs.Common.{◌≡◌, ◌∙◌, ◌+◌, ◌++◌, ◌∷◌, [], ℕ, Bool, List, None, false, sym, ap, subst, arith, length}
 use Rattle.std.specs.List.{AllByRecursion}
 use Rattle.cluster_msgs.specs.Shape.{Shape, key_count}
 use Rattle.cluster_msgs.specs.declared.messages.Message.{Message}
@@ -51,6 +51,7 @@ returns-clause-nodes g c =
     let got_none : height old.got ≡ 0 = ap height c.requires.got in
     let to_long : length c.add_links.new.links ≡ length c.add_clients.new.cores.items = omega (arith, c.in_ok-add_links.ensures.length) in
     let from_long : length c.add_links-2.new.links ≡ length c.add_clients.new.cores.items = omega (arith, c.in_ok-add_links-2.ensures.length) in
+    let keys = key_count old.shape in
     let got_high : height c.add_nodes.new.shelf ≡ length c.add_clients.new.cores.items = omega (arith, c.in_ok-add_nodes.ensures.height) in
     started _ more.added
     (more.cores ∙ ap (λ (l : List Core). l ++ more.added ∷ []) c.requires.workers)
@@ -69,6 +70,9 @@ returns-clause-nodes g c =
     (c.add_links.ensures.meaning ∙ ap waiting c.requires.to_client ∙ none_waits)
     (c.add_links-2.ensures.meaning ∙ ap waiting c.requires.from_client ∙ none_waits)
     c.requires.requests c.requires.answers
+    (λ w k. ap (λ (f : ℕ → ℕ → Bool). f w k) c.in_ok-add_places.ensures.spilled ∙ ap (λ (v : ℕ × List (List Bool)). cell v false w k) c.requires.spilled ∙ no_rows false w k)
+    (c.in_ok-add_places.ensures.held ∙ ap (λ v. cell v None) c.requires.held ∙ none_stands keys)
+    (c.add_nodes.ensures.meaning ∙ ap (λ v. cell v None) c.requires.got ∙ none_stands keys)
 
 pub returns-clause-workers : goal.returns-clause-workers
 returns-clause-workers g c =

@@ -1,4 +1,4 @@
-use Rattle.std.proofs.Common.{◌≡◌, ◌∙◌, ◌<◌, ◌++◌, List, sym, ap, arith, length}
+use Rattle.std.proofs.Common.{◌≡◌, ◌∙◌, ◌<◌, ◌++◌, ℕ, List, sym, ap, arith, length}
 use Rattle.cluster_msgs.specs.Shape.{key_count}
 use Rattle.cluster_msgs.specs.declared.cores.ClientInstruction.{ClientInstruction}
 use Rattle.cluster_msgs.specs.declared.messages.Message.TheVariants as message
@@ -12,6 +12,12 @@ use Rattle.cluster_nodes.proofs.Places.{all_at}
 use Rattle.cluster_nodes.proofs.Counting.{workers_more, same_err}
 use Rattle.cluster_nodes.proofs.Keeping.{sized_client}
 use Rattle.cluster_nodes.proofs.Turning.{client_turn_is, client_now}
+use Rattle.cluster_nodes.specs.Gone.{released_by}
+use Rattle.cluster_nodes.specs.Turns.{first_at}
+use Rattle.cluster_nodes.proofs.Leaving.{client_leaves}
+use Rattle.cluster_nodes.proofs.Tidying.{was_out, tidy_client}
+use Rattle.cluster_rules.specs.Derived.{is_in}
+use Rattle.cluster_rules.specs.Client.{ClientFacts}
 use Rattle.cluster_nodes.proofs.nodes.Nodes.client_turn.Goals as goal
 
 pub shelve-requires-clause-inside : goal.shelve-requires-clause-inside
@@ -19,7 +25,18 @@ shelve-requires-clause-inside g c k h =
     let l : c.args.client < length c.client_on.new.clients.items = omega (arith, c.client_on.ensures.length, c.requires.client) in
     let e : (client_facts c.index-core.result.now).shape ≡ c.args.self.now.shape
     = all_at (λ (w : CoreState). (client_facts w).shape ≡ c.args.self.now.shape) c.client_on.new.clients.items c.args.client c.index-core.result.now l c.index-core.ensures (c.in_ok-client_on.ensures.over c.args.self.now.shape c.requires.nodes.sized.clients) in
-    c.inside.ensures k (let m = ap key_count e in omega (arith, m, h, c.keys-keys.ensures))
+    c.inside.ensures k (let m = ap key_count e in omega (arith, m, h, c.requires.nodes.sized.got_keys))
+
+-- what the client no longer has got and the event doesn't name it hadn't got before
+pub shelve-requires-clause-tidy : goal.shelve-requires-clause-tidy
+shelve-requires-clause-tidy g c k m o =
+    let old = c.args.self.now in
+    let before = clients_of old.shape old.clients.items c.args.client in
+    let l : c.args.client < length c.client_on.new.clients.items = omega (arith, c.client_on.ensures.length, c.requires.client) in
+    let now = client_now old.shape old.clients.items c.client_on.new.clients.items c.args.client c.index-core.result.now (client_step before c.args.event).facts l c.index-core.ensures (c.in_ok-client_on.ensures.facts old.shape) in
+    c.requires.nodes.tidy.got old.shape c.args.client k
+    (was_out (released_by c.args.event) before.got (client_step before c.args.event).facts.got (client_leaves before c.args.event) k
+    (sym (ap (λ (w : ClientFacts). w.got k) now) ∙ m) (ap (λ (l : List ℕ). is_in k l) (sym (c.as_slice.ensures ∙ c.in_ok-gone.ensures)) ∙ o))
 
 pub returns-clause-cluster : goal.returns-clause-cluster
 returns-clause-cluster g c f =
@@ -52,6 +69,9 @@ returns-clause-nodes g c =
         requests = c.in_ok-post_client.ensures.kind c.requires.nodes.sorted.requests;
         answers = c.requires.nodes.sorted.answers;
       };
+      tidy = tidy_client old.strays old.alive old.workers.items old.clients.items old.spilled old.held old.got c.client_on.new.clients.items c.shelve.new.shelf c.args.client c.index-core.result.now
+          (λ s. (client_step (clients_of s old.clients.items c.args.client) c.args.event).facts) (first_at c.args.brought.items)
+          (omega (arith, c.client_on.ensures.length, c.requires.client)) c.index-core.ensures c.in_ok-client_on.ensures.facts c.shelve.ensures.meaning c.requires.nodes.tidy;
     }
 
 pub returns-clause-few : goal.returns-clause-few
@@ -59,7 +79,7 @@ returns-clause-few g c n h = (workers_more n c.args.self.now.workers.items h.0, 
 
 pub returns-in_err-client_on-clause-refused : goal.returns-in_err-client_on-clause-refused
 unfolding world_of
-returns-in_err-client_on-clause-refused g c r f = c.in_err-client_on.ensures.refused (sym (same_err c.from_residual.result _ c.from_residual.ensures.1) ∙ r) f.setting.shape
+returns-in_err-client_on-clause-refused g c r f = c.in_err-client_on.ensures.refused (sym (same_err c.from_residual-in_err-client_on.result _ c.from_residual-in_err-client_on.ensures.1) ∙ r) f.setting.shape
 
 pub returns-in_err-client_on-clause-spent : goal.returns-in_err-client_on-clause-spent
-returns-in_err-client_on-clause-spent g c r n h = c.in_err-client_on.ensures.spent (sym (same_err c.from_residual.result _ c.from_residual.ensures.1) ∙ r) n h.1
+returns-in_err-client_on-clause-spent g c r n h = c.in_err-client_on.ensures.spent (sym (same_err c.from_residual-in_err-client_on.result _ c.from_residual-in_err-client_on.ensures.1) ∙ r) n h.1

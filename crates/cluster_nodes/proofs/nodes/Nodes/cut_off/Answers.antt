@@ -28,6 +28,7 @@ returns-clause-nodes g c =
         requests = s.requests;
         answers = s.answers;
       };
+      tidy = c.requires.nodes.tidy;
     }
 
 pub returns-clause-few : goal.returns-clause-few

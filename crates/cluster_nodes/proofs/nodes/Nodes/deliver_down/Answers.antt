@@ -20,6 +20,7 @@ worker_turn-requires-clause-nodes g c =
     record {
       sized = sized_links old c.pop_down.new.down old.up old.to_client old.from_client c.pop_down.ensures.length refl refl refl c.requires.nodes.sized;
       sorted = record { down = c.pop_down.ensures.sorted; up = s.up; to_client = s.to_client; from_client = s.from_client; requests = s.requests; answers = s.answers };
+      tidy = c.requires.nodes.tidy;
     }
 
 pub returns-in-Some-clause-cluster : goal.returns-in-Some-clause-cluster
@@ -43,6 +44,7 @@ returns-in-None-clause-nodes g c =
     record {
       sized = sized_links old c.pop_down.new.down old.up old.to_client old.from_client c.pop_down.ensures.length refl refl refl c.requires.nodes.sized;
       sorted = record { down = c.pop_down.ensures.sorted; up = s.up; to_client = s.to_client; from_client = s.from_client; requests = s.requests; answers = s.answers };
+      tidy = c.requires.nodes.tidy;
     }
 
 pub returns-in-Some-clause-few : goal.returns-in-Some-clause-few

@@ -20,6 +20,7 @@ client_turn-requires-clause-nodes g c =
     record {
       sized = sized_links old old.down old.up c.pop_to_client.new.to_client old.from_client refl refl c.pop_to_client.ensures.length refl c.requires.nodes.sized;
       sorted = record { down = s.down; up = s.up; to_client = c.pop_to_client.ensures.sorted; from_client = s.from_client; requests = s.requests; answers = s.answers };
+      tidy = c.requires.nodes.tidy;
     }
 
 pub returns-in-Some-clause-cluster : goal.returns-in-Some-clause-cluster
@@ -43,6 +44,7 @@ returns-in-None-clause-nodes g c =
     record {
       sized = sized_links old old.down old.up c.pop_to_client.new.to_client old.from_client refl refl c.pop_to_client.ensures.length refl c.requires.nodes.sized;
       sorted = record { down = s.down; up = s.up; to_client = c.pop_to_client.ensures.sorted; from_client = s.from_client; requests = s.requests; answers = s.answers };
+      tidy = c.requires.nodes.tidy;
     }
 
 pub returns-in-Some-clause-few : goal.returns-in-Some-clause-few

@@ -11,6 +11,7 @@ use Rattle.cluster_nodes.specs.Kept.{WorkersTookFew}
 use Rattle.cluster_nodes.proofs.Places.{all_more, one_longer}
 use Rattle.cluster_nodes.proofs.Changing.{joined_is}
 use Rattle.cluster_nodes.proofs.Keeping.{sized_joined}
+use Rattle.cluster_nodes.proofs.Tidying.{tidy_joined}
 use Rattle.cluster_nodes.proofs.nodes.Nodes.join.Goals as goal
 
 pub add_places-requires : goal.add_places-requires
@@ -47,6 +48,8 @@ returns-clause-nodes g c =
         requests = s.requests;
         answers = s.answers;
       };
+      tidy = tidy_joined old.strays old.alive old.workers.items old.clients.items old.spilled old.held old.got c.push.new.self c.add_core.new.workers.items c.add_places.new.spilled c.add_places.new.held more.added
+          c.requires.nodes.sized.alive c.in_ok-push.ensures.ok more.cores c.in_ok-add_places.ensures.spilled c.in_ok-add_places.ensures.held c.requires.nodes.tidy;
     }
 
 pub returns-clause-few : goal.returns-clause-few

@@ -19,6 +19,7 @@ returns-clause-nodes g c =
     record {
       sized = sized_links old old.down old.up old.to_client c.pop_from_client.new.from_client refl refl refl c.pop_from_client.ensures.length c.requires.nodes.sized;
       sorted = record { down = s.down; up = s.up; to_client = s.to_client; from_client = c.pop_from_client.ensures.sorted; requests = s.requests; answers = s.answers };
+      tidy = c.requires.nodes.tidy;
     }
 
 pub returns-clause-few : goal.returns-clause-few

@@ -19,6 +19,7 @@ returns-clause-nodes g c =
     record {
       sized = sized_links old old.down c.pop_up.new.up old.to_client old.from_client refl c.pop_up.ensures.length refl refl c.requires.nodes.sized;
       sorted = record { down = s.down; up = c.pop_up.ensures.sorted; to_client = s.to_client; from_client = s.from_client; requests = s.requests; answers = s.answers };
+      tidy = c.requires.nodes.tidy;
     }
 
 pub returns-clause-few : goal.returns-clause-few

@@ -1,4 +1,4 @@
-use Rattle.std.proofs.Common.{◌≡◌, ◌∙◌, ◌<◌, ◌++◌, List, sym, ap, arith, length}
+use Rattle.std.proofs.Common.{◌≡◌, ◌∙◌, ◌<◌, ◌++◌, ℕ, List, sym, ap, arith, length}
 use Rattle.cluster_msgs.specs.Shape.{key_count}
 use Rattle.cluster_msgs.specs.declared.cores.Instruction.{Instruction}
 use Rattle.cluster_msgs.specs.declared.messages.Message.TheVariants as message
@@ -12,6 +12,12 @@ use Rattle.cluster_nodes.proofs.Places.{all_at}
 use Rattle.cluster_nodes.proofs.Counting.{clients_more, same_err}
 use Rattle.cluster_nodes.proofs.Keeping.{sized_worker}
 use Rattle.cluster_nodes.proofs.Turning.{worker_turn_is, core_now}
+use Rattle.cluster_nodes.specs.Gone.{lost_by}
+use Rattle.cluster_nodes.specs.Turns.{first_at}
+use Rattle.cluster_nodes.proofs.Leaving.{step_leaves}
+use Rattle.cluster_nodes.proofs.Tidying.{was_out, tidy_worker}
+use Rattle.cluster_rules.specs.Derived.{is_in}
+use Rattle.cluster_rules.specs.Worker.{WorkerFacts}
 use Rattle.cluster_nodes.proofs.nodes.Nodes.worker_turn.Goals as goal
 
 pub shelve-requires-clause-inside : goal.shelve-requires-clause-inside
@@ -19,7 +25,28 @@ shelve-requires-clause-inside g c k h =
     let l : c.args.worker < length c.worker_on.new.workers.items = omega (arith, c.worker_on.ensures.length, c.requires.worker) in
     let e : (facts c.index-core.result.now).shape ≡ c.args.self.now.shape
     = all_at (λ (w : Core). (facts w).shape ≡ c.args.self.now.shape) c.worker_on.new.workers.items c.args.worker c.index-core.result.now l c.index-core.ensures (c.in_ok-worker_on.ensures.over c.args.self.now.shape c.requires.nodes.sized.workers) in
-    c.inside.ensures.mem k (let m = ap key_count e in omega (arith, m, h, c.keys-keys.ensures))
+    c.inside.ensures.mem k (let m = ap key_count e in omega (arith, m, h, c.requires.nodes.sized.held_keys))
+
+-- what the worker no longer has and the event doesn't name it didn't have before
+pub unspill-requires-clause-tidy : goal.unspill-requires-clause-tidy
+unspill-requires-clause-tidy g c q k m o =
+    let old = c.args.self.now in
+    let before = workers_of old.shape old.alive old.workers.items c.args.worker in
+    let l : c.args.worker < length c.worker_on.new.workers.items = omega (arith, c.worker_on.ensures.length, c.requires.worker) in
+    let now = core_now old.shape old.alive old.workers.items c.worker_on.new.workers.items c.args.worker c.index-core.result.now (worker_step before c.args.event).facts l c.requires.alive c.index-core.ensures (c.in_ok-worker_on.ensures.facts old.shape old.alive c.requires.alive) in
+    c.requires.nodes.tidy.spilled q old.shape c.args.worker k
+    (was_out (lost_by c.args.event) before.mem (worker_step before c.args.event).facts.mem (step_leaves before c.args.event) k
+    (sym (ap (λ (w : WorkerFacts). w.mem k) now) ∙ m) (ap (λ (l : List ℕ). is_in k l) (sym (c.as_slice-lost.ensures ∙ c.in_ok-gone.ensures)) ∙ o))
+
+pub shelve-requires-clause-tidy : goal.shelve-requires-clause-tidy
+shelve-requires-clause-tidy g c k m o =
+    let old = c.args.self.now in
+    let before = workers_of old.shape old.alive old.workers.items c.args.worker in
+    let l : c.args.worker < length c.worker_on.new.workers.items = omega (arith, c.worker_on.ensures.length, c.requires.worker) in
+    let now = core_now old.shape old.alive old.workers.items c.worker_on.new.workers.items c.args.worker c.index-core.result.now (worker_step before c.args.event).facts l c.requires.alive c.index-core.ensures (c.in_ok-worker_on.ensures.facts old.shape old.alive c.requires.alive) in
+    c.requires.nodes.tidy.held old.shape c.args.worker k
+    (was_out (lost_by c.args.event) before.mem (worker_step before c.args.event).facts.mem (step_leaves before c.args.event) k
+    (sym (ap (λ (w : WorkerFacts). w.mem k) now) ∙ m) (ap (λ (l : List ℕ). is_in k l) (sym (c.as_slice-lost.ensures ∙ c.in_ok-gone.ensures)) ∙ o))
 
 pub returns-clause-cluster : goal.returns-clause-cluster
 returns-clause-cluster g c f =
@@ -52,6 +79,10 @@ returns-clause-nodes g c =
         requests = c.in_ok-post_worker.ensures.kind c.requires.nodes.sorted.requests;
         answers = c.requires.nodes.sorted.answers;
       };
+      tidy = tidy_worker old.strays old.alive old.workers.items old.clients.items old.spilled old.held old.got c.worker_on.new.workers.items c.unspill.new.spilled c.shelve.new.shelf c.args.worker c.index-core.result.now
+          (λ s. (worker_step (workers_of s old.alive old.workers.items c.args.worker) c.args.event).facts) (first_at c.args.brought.items)
+          (omega (arith, c.worker_on.ensures.length, c.requires.worker)) c.requires.alive c.index-core.ensures (λ s. c.in_ok-worker_on.ensures.facts s old.alive c.requires.alive)
+          c.unspill.ensures.meaning c.shelve.ensures.meaning c.requires.nodes.tidy;
     }
 
 pub returns-clause-few : goal.returns-clause-few
@@ -59,7 +90,7 @@ returns-clause-few g c n h = (c.in_ok-worker_on.ensures.few n h.0, clients_more 
 
 pub returns-in_err-worker_on-clause-refused : goal.returns-in_err-worker_on-clause-refused
 unfolding world_of
-returns-in_err-worker_on-clause-refused g c r f = c.in_err-worker_on.ensures.refused (sym (same_err c.from_residual.result _ c.from_residual.ensures.1) ∙ r) f.setting.shape c.args.self.now.alive c.requires.alive
+returns-in_err-worker_on-clause-refused g c r f = c.in_err-worker_on.ensures.refused (sym (same_err c.from_residual-in_err-worker_on.result _ c.from_residual-in_err-worker_on.ensures.1) ∙ r) f.setting.shape c.args.self.now.alive c.requires.alive
 
 pub returns-in_err-worker_on-clause-spent : goal.returns-in_err-worker_on-clause-spent
-returns-in_err-worker_on-clause-spent g c r n h = c.in_err-worker_on.ensures.spent (sym (same_err c.from_residual.result _ c.from_residual.ensures.1) ∙ r) n h.0
+returns-in_err-worker_on-clause-spent g c r n h = c.in_err-worker_on.ensures.spent (sym (same_err c.from_residual-in_err-worker_on.result _ c.from_residual-in_err-worker_on.ensures.1) ∙ r) n h.0

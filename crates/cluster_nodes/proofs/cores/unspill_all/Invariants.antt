@@ -2,7 +2,7 @@ use Rattle.std.proofs.Common.{◌≡◌, ℕ, false, ◌&&◌, cond, ltb}
 use Rattle.std.specs.Prelude.{◌==◌}
 use Rattle.fact_rows.specs.Rows.{cell, height, width}
 use Rattle.worker_core.specs.Core.{facts}
-use Rattle.cluster_nodes.proofs.cores.unspill.Given as goal
+use Rattle.cluster_nodes.proofs.cores.unspill_all.Given as goal
 
 abbrev pub invariant-loop-key : goal.invariant-loop-key
 invariant-loop-key l = record {
