@@ -11,10 +11,9 @@ use Rattle.nd_shape.specs.Broadcast.{broadcast, Agree}
 use Rattle.nd_grid.specs.declared.operation.Binary.{Binary}
 use Rattle.nd_grid.specs.Int64.{wrap}
 use Rattle.nd_grid.specs.Operation.{apply, combine, pick, pick_all}
-use Rattle.nd_grid.specs.Grid.{Grid, grid_of, elementwise, chosen, under, ramp, part}
+use Rattle.nd_grid.specs.Grid.{grid_of, elementwise, chosen, under, ramp, part}
 use Rattle.nd_grid.proofs.Under.{under-in}
 use Rattle.block_kernels.specs.Rows.{at_place, Fills, Misses, item, Applied, Refused, row_count, row_length}
-use Rattle.block_kernels.specs.Gathers.{IsSpot}
 use Rattle.block_kernels.proofs.Slopes.{moved-row, slope-from}
 use Rattle.block_kernels.proofs.RunLemmas.{in-row, first-in}
 
@@ -73,14 +72,6 @@ slope-fills box whole shape k q n place0 a s out lw ls es hk hq hn e0 made = rec
       ap (λ ms. Some (wrap (a +ℤ (s *ℤ pos (place whole (moved box.start (index_at ms (q * n + r)))))))) es
       ∙ ap (λ p. Some (wrap (a +ℤ (s *ℤ pos p)))) m
       ∙ ap Some (sym (slope-from a s place0 r)) ∙ ap Some (sym (made r h));
-}
-
--- ---- rows of a source at equal distances
-
-pub gathered : (g : Grid) (a : Array) (f : ℕ → ℕ) (first n : ℕ) (one two : ℕ) (out : List ℤ) → ((r : ℕ) → r < n → at_place g (first + r) ≡ Some (get_or a.cells (f r) (pos 0))) → ((r : ℕ) → r < n → IsSpot one two r (f r))
-    → ((r p : ℕ) → r < n → IsSpot one two r p → get_or out r (pos 0) ≡ get_or a.cells p (pos 0)) → Fills g first n out
-gathered g a f first n one two out at even made = record {
-  each = λ r h. at r h ∙ ap Some (sym (made r (f r) h (even r h)));
 }
 
 -- ---- what a row's kernel is asked

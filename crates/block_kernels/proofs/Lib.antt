@@ -12,6 +12,7 @@ pub mod Filling
 pub mod Ready
 pub mod Takes
 pub mod Spots
+pub mod Tiles
 pub mod Divisors
 pub mod Paired
 pub mod Reducing

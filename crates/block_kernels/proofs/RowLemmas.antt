@@ -9,21 +9,25 @@ use Rattle.nd_grid.specs.Computed.{FailsAs}
 use Rattle.nd_grid.specs.declared.formula.Fail.{Fail}
 use Rattle.nd_grid.specs.declared.formula.Fail.TheVariants.{ZeroDivide, OutOfMemory}
 use Rattle.nd_grid.proofs.Cells.{cells-none, cells-more, block-missing}
-use Rattle.block_kernels.specs.Rows.{at_place, Misses, FillsAll, MissesFirst, row_count, row_length, FailsFirst}
+use Rattle.block_kernels.specs.Rows.{at_place, Misses, FillsAll, MissesFirst, row_count, row_length, AreRows, FailsFirst}
 use Rattle.block_kernels.proofs.Filled.{block-filled}
 use Rattle.block_kernels.proofs.Broadcasts.{elements-append}
 
--- ---- one row more
+-- ---- more rows
 
-pub fills-more : (g : Grid) (row run : ℕ) (old new : List ℤ) → FillsAll g (row * run) old → ((p : ℕ) → p < row * run → get_or new p (pos 0) ≡ get_or old p (pos 0))
-    → ((r : ℕ) → r < run → at_place g (row * run + r) ≡ Some (get_or new (row * run + r) (pos 0))) → FillsAll g ((row + 1) * run) new
-fills-more g row run old new f kept last = record {
-  each = λ r h. elim (cases_lt r (row * run)) [
-    | inl b ↦ f.each r b ∙ ap Some (sym (kept r b))
-    | inr b ↦ let e : row * run + (r - row * run) ≡ r = omega arith in
-        subst (λ p. at_place g p ≡ Some (get_or new p (pos 0))) e (last (r - row * run) (omega (arith, h)))
+pub fills-on : (g : Grid) (a b : ℕ) (old new : List ℤ) → FillsAll g a old → ((p : ℕ) → p < a → get_or new p (pos 0) ≡ get_or old p (pos 0))
+    → ((r : ℕ) → r < b → at_place g (a + r) ≡ Some (get_or new (a + r) (pos 0))) → FillsAll g (a + b) new
+fills-on g a b old new f kept last = record {
+  each = λ r h. elim (cases_lt r a) [
+    | inl low ↦ f.each r low ∙ ap Some (sym (kept r low))
+    | inr high ↦ let e : a + (r - a) ≡ r = omega arith in
+        subst (λ p. at_place g p ≡ Some (get_or new p (pos 0))) e (last (r - a) (omega (arith, h)))
   ];
 }
+
+pub fills-more : (g : Grid) (row many run : ℕ) (old new : List ℤ) → FillsAll g (row * run) old → ((p : ℕ) → p < row * run → get_or new p (pos 0) ≡ get_or old p (pos 0))
+    → ((r : ℕ) → r < many * run → at_place g (row * run + r) ≡ Some (get_or new (row * run + r) (pos 0))) → FillsAll g ((row + many) * run) new
+fills-more g row many run old new f kept last = let e : row * run + many * run ≡ (row + many) * run = omega arith in subst (λ n. FillsAll g n new) e (fills-on g (row * run) (many * run) old new f kept last)
 
 none-some : (x : ℤ) → Some x ≢ None
 none-some x e = cc
@@ -83,12 +87,6 @@ factor-le' : (a b : ℕ) → 0 < a * b → b ≤ a * b
 factor-le' zero b h = absurd (omega arith)
 factor-le' (suc a) b h = omega arith
 
-pub record AreRows (ns : List ℕ) (k rows run : ℕ) : Type 0 where
-  pub rows_is : rows ≡ row_count ns k
-  pub run_is : run ≡ row_length ns k
-  pub some : 0 < run
-  pub all : rows * run ≡ elements ns
-
 right-some : (a b : ℕ) → 0 < a * b → 0 < b
 right-some a zero h = absurd (omega arith)
 right-some a (suc b) h = omega arith
@@ -101,4 +99,4 @@ are-rows ns k rows run h small er eb =
     let low' : elements (drop k ns) ≤ elements (take k ns) * elements (drop k ns) = factor-le' (elements (take k ns)) (elements (drop k ns)) some in
     let e1 : rows ≡ elements (take k ns) = omega (arith, all, low, er) in
     let e2 : run ≡ elements (drop k ns) = omega (arith, all, low', eb) in
-    record { rows_is = e1; run_is = e2; some = omega (arith, right-some (elements (take k ns)) (elements (drop k ns)) some); all = rw (e1, e2) all }
+    record { rows_is = e1; run_is = e2; some = omega (arith, right-some (elements (take k ns)) (elements (drop k ns)) some); all = rw (e1, e2) all; small = rw (e1, e2) (omega (arith, all)) }

@@ -1,5 +1,5 @@
 -- Rows: what the last axes of an array hold, for one index of its first axes.
-use Rattle.std.specs.Prelude.{◌≡◌, ◌≢◌, ℕ, ◌+◌, ◌-◌, ◌<◌, ◌≤◌, ◌⊎◌, Bool, cond, List, length, take, drop, get_or, Option, Some, None, ℤ, pos}
+use Rattle.std.specs.Prelude.{◌≡◌, ◌≢◌, ℕ, ◌+◌, ◌-◌, ◌*◌, ◌^◌, ◌<◌, ◌≤◌, ◌⊎◌, Bool, cond, List, length, take, drop, get_or, Option, Some, None, ℤ, pos}
 use Rattle.nd_shape.specs.Shape.{elements}
 use Rattle.nd_shape.specs.Index.{index_at}
 use Rattle.nd_grid.specs.Grid.{Grid}
@@ -41,6 +41,14 @@ row_count ns k = elements (take k ns)
 
 abbrev pub row_length : List ℕ → ℕ → ℕ
 row_length ns k = elements (drop k ns)
+
+-- so many rows, and their length, of a shape with elements
+pub record AreRows (ns : List ℕ) (k rows run : ℕ) : Type 0 where
+  pub rows_is : rows ≡ row_count ns k
+  pub run_is : run ≡ row_length ns k
+  pub some : 0 < run
+  pub all : rows * run ≡ elements ns
+  pub small : rows * run ≤ 2 ^ 31
 
 -- why not all of the first n elements are there
 abbrev pub FailsWithin : Grid → ℕ → Fail → Type 0

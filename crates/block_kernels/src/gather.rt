@@ -37,20 +37,22 @@ fn copy_row(cells: &[i64], first: usize, out: &mut [i64])
     out.copy_from_slice(&cells[first..end]);
 }
 
-/// Writes the elements at the places of a row, which lie at equal distances: the places of the first and of the second
-/// are given. Where they lie one after another they are copied as they lie. No memory.
-pub fn gather(cells: &[i64], first: usize, second: usize, out: &mut [i64])
-    requires row { IsRow (length cells.now) first second (length out.old) }
+/// Writes the elements at the places of a row, which lie at equal distances, from one of them on: the places of the
+/// row's first and second are given. Where they lie one after another they are copied as they lie. No memory.
+pub fn gather(cells: &[i64], first: usize, second: usize, from: usize, out: &mut [i64])
+    requires row { IsRow (length cells.now) first second (from + length out.old) }
     requires few { length cells.now ≤ 2 ^ 31 }
     requires some { 0 < length out.old }
     ensures len { length out.new ≡ length out.old }
-    ensures each { (i p : ℕ) → i < length out.old → IsSpot first second i p → get_or out.new i (pos 0) ≡ get_or cells.now p (pos 0) }
+    ensures each { (i p : ℕ) → i < length out.old → IsSpot first second (from + i) p → get_or out.new i (pos 0) ≡ get_or cells.now p (pos 0) }
 {
     if second < first {
-        gather_down(cells, first, first - second, out);
+        let jump = first - second;
+        gather_down(cells, first - from * jump, jump, out);
     } else if second == first + 1 {
-        copy_row(cells, first, out);
+        copy_row(cells, first + from, out);
     } else {
-        gather_up(cells, first, second - first, out);
+        let jump = second - first;
+        gather_up(cells, first + from * jump, jump, out);
     }
 }

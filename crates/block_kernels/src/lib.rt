@@ -14,6 +14,7 @@ pub mod choices;
 pub mod contract;
 pub mod gather;
 pub mod inputs;
+pub mod lines;
 pub mod pairs;
 pub mod reduce;
 pub mod rows;

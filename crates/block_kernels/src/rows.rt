@@ -3,7 +3,7 @@ ghost use Rattle.std.specs.Prelude.{◌≡◌, ℕ, ◌+◌, ◌*◌, ◌<◌, �
 ghost use Rattle.nd_shape.specs.Shape.{elements};
 ghost use Rattle.nd_grid.specs.Grid.{Grid, block_of};
 ghost use Rattle.nd_grid.specs.Computed.{FailsAs};
-ghost use Rattle.block_kernels.specs.Rows.{at_place, Fills, Misses, FillsAll, row_count, row_length, FailsFirst, FailsWithin};
+ghost use Rattle.block_kernels.specs.Rows.{at_place, Fills, Misses, FillsAll, row_count, row_length, AreRows, FailsFirst, FailsWithin};
 
 use nd_grid::Fail;
 use nd_shape::shape::elements_up_to_limit;
@@ -98,6 +98,18 @@ fn append_rows<F: Rows>(formula: &F, rows: u64, run: u64, cells: &mut Vec<i64>) 
     Ok(())
 }
 
+/// How many rows there are, and their length. No memory.
+pub fn row_sizes(shape: &Shape, outer: usize) -> (u64, u64)
+    requires axes { outer ≤ length shape.now }
+    requires some { 0 < elements shape.now }
+    ensures { AreRows shape.now outer result.0 result.1 }
+{
+    let (front, back) = shape.dims().split_at(outer);
+    let rows = elements_up_to_limit(front);
+    let run = elements_up_to_limit(back);
+    (rows, run)
+}
+
 // All elements.
 fn cells_of<F: Rows>(
     alloc: Global,
@@ -118,9 +130,7 @@ fn cells_of<F: Rows>(
     if count == 0 {
         return Ok(cells);
     }
-    let (front, back) = shape.dims().split_at(outer);
-    let rows = elements_up_to_limit(front);
-    let run = elements_up_to_limit(back);
+    let (rows, run) = row_sizes(shape, outer);
     append_rows(formula, rows, run, &mut cells)?;
     Ok(cells)
 }

@@ -5,8 +5,7 @@ ghost use Rattle.nd_shape.specs.Index.{place, index_at};
 ghost use Rattle.nd_grid.specs.Grid.{grid_of, block_of, sliced, sliced_shape, sliced_from, SlicesFit, transposed, turned, IsTranspose};
 ghost use Rattle.nd_grid.specs.Computed.{FailsAs};
 
-use crate::gather::gather;
-use crate::rows::{Rows, tabulate_rows};
+use crate::lines::{Lines, tabulate_lines};
 use crate::shapes::{lengths_of, sliced_dims};
 use nd_grid::Fail;
 use nd_grid::element::dims_of;
@@ -52,7 +51,7 @@ fn turned_place(axes: &[u64], of: &Block, shape: &Shape, position: u64) -> u64
 }
 
 // The second place of a row, or the first of a row of one.
-fn second_of(start: u64, len: usize) -> u64
+fn second_of(start: u64, len: u64) -> u64
     requires some { 0 < len }
     requires small { start < 2 ^ 31 }
     ensures { result ≡ start + min (len - 1) 1 }
@@ -69,7 +68,7 @@ struct Taken<'a> {
     outer: usize,
 }
 
-impl<'a> Rows for Taken<'a> {
+impl<'a> Lines for Taken<'a> {
     ghost use Rattle.nd_grid.specs.Grid.{grid_of, sliced};
     ghost use Rattle.block_kernels.specs.Gathers.{CanTake};
 
@@ -77,17 +76,24 @@ impl<'a> Rows for Taken<'a> {
 
     ghost outer = { λ s. s.outer };
 
+    ghost source = { λ s. s.of.now.cells };
+
     ghost valid = { λ s. CanTake s.steps.now s.dropped.now s.of.now.shape s.shape.now s.outer };
 
-    fn fill(&self, row: u64, out: &mut [i64]) -> Option<u64> {
+    fn line(&self, row: u64, run: u64) -> (usize, usize) {
         let _ = dims_of(self.of);
         let _ = self.shape.dims();
-        let start = row * out.len() as u64;
-        let next = second_of(start, out.len());
+        let _ = self.of.cells();
+        let start = row * run;
         let first = sliced_place(self.steps, self.dropped, self.of, self.shape, start);
-        let second = sliced_place(self.steps, self.dropped, self.of, self.shape, next);
-        gather(self.of.cells(), first as usize, second as usize, out);
-        None
+        let second = sliced_place(
+            self.steps,
+            self.dropped,
+            self.of,
+            self.shape,
+            second_of(start, run),
+        );
+        (first as usize, second as usize)
     }
 }
 
@@ -99,7 +105,7 @@ struct Turned<'a> {
     outer: usize,
 }
 
-impl<'a> Rows for Turned<'a> {
+impl<'a> Lines for Turned<'a> {
     ghost use Rattle.nd_grid.specs.Grid.{grid_of, transposed};
     ghost use Rattle.block_kernels.specs.Gathers.{CanTurn};
 
@@ -107,17 +113,18 @@ impl<'a> Rows for Turned<'a> {
 
     ghost outer = { λ s. s.outer };
 
+    ghost source = { λ s. s.of.now.cells };
+
     ghost valid = { λ s. CanTurn s.axes.now s.of.now.shape s.shape.now s.outer };
 
-    fn fill(&self, row: u64, out: &mut [i64]) -> Option<u64> {
+    fn line(&self, row: u64, run: u64) -> (usize, usize) {
         let _ = dims_of(self.of);
         let _ = self.shape.dims();
-        let start = row * out.len() as u64;
-        let next = second_of(start, out.len());
+        let _ = self.of.cells();
+        let start = row * run;
         let first = turned_place(self.axes, self.of, self.shape, start);
-        let second = turned_place(self.axes, self.of, self.shape, next);
-        gather(self.of.cells(), first as usize, second as usize, out);
-        None
+        let second = turned_place(self.axes, self.of, self.shape, second_of(start, run));
+        (first as usize, second as usize)
     }
 }
 
@@ -140,7 +147,7 @@ pub fn slice(alloc: Global, steps: &[Steps], dropped: &[u64], of: &Block) -> Res
         shape: &shape,
         outer,
     };
-    tabulate_rows(alloc, &taken, outer, copy)
+    Ok(tabulate_lines(alloc, &taken, of, outer, copy)?)
 }
 
 /// The block whose axis k is the axis `axes[k]` of the operand, as NumPy's `transpose`.
@@ -160,5 +167,5 @@ pub fn transpose(alloc: Global, axes: &[u64], of: &Block) -> Result<Block, Fail>
         shape: &shape,
         outer,
     };
-    tabulate_rows(alloc, &turned, outer, copy)
+    Ok(tabulate_lines(alloc, &turned, of, outer, copy)?)
 }

@@ -21,5 +21,5 @@ loop-row-preserved g c =
     subst (λ (m : Option ℕ). IfNone m ((r : ℕ) → r < run → at_place g' (row * run + r) ≡ Some (get_or c.append_row.new.cells.items (row * run + r) (pos 0)))) c.in-None.is c.in_ok-place.ensures.filled in
     record {
       size = omega (arith, c.in_ok-place.ensures.len);
-      filled = fills-more g' row run c.loop-row.cells.items c.append_row.new.cells.items c.loop-row.invariant.filled c.in_ok-place.ensures.kept filled;
+      filled = fills-more g' row 1 run c.loop-row.cells.items c.append_row.new.cells.items c.loop-row.invariant.filled c.in_ok-place.ensures.kept (λ r h. filled r (omega (arith, h)));
     }
