@@ -1,4 +1,5 @@
 pub mod CellLemmas
 pub mod RegionLemmas
+pub mod RowLemmas
 pub mod RunLemmas
 pub mod WriteLemmas
