@@ -21,7 +21,7 @@ use Rattle.npy_codec.specs.Npy.{cell_bytes, cells_bytes}
 use Rattle.npy_codec.specs.Regions.{offset_of}
 use Rattle.npy_region.specs.declared.runs.Run.{Run}
 use Rattle.npy_region.specs.Runs.{AreRuns, StandsIn, no_run}
-use Rattle.npy_region.specs.Writing.{byte_at, run_cells, IsByteOf, IsOutside, Turns, WritesRegion, WritesSome}
+use Rattle.npy_region.specs.Writing.{byte_at, IsByteOf, IsOutside, Turns, WritesRegion, WritesSome}
 
 -- ## Elements as bytes
 
@@ -67,7 +67,7 @@ piece zs a n h =
     let b : a ≤ length zs = omega (arith, h) in
     sym (take-cells (drop a zs) n l) ∙ ap (take (8 * n)) (sym (drop-cells zs a b))
 
-pub take-take : (k n : ℕ) (xs : List ℕ) → k ≤ n → take k (take n xs) ≡ take k xs
+take-take : (k n : ℕ) (xs : List ℕ) → k ≤ n → take k (take n xs) ≡ take k xs
 take-take zero n xs h = refl
 take-take (suc k) zero xs h = absurd (omega (arith, h))
 take-take (suc k) (suc n) [] h = refl
@@ -170,8 +170,11 @@ patched old bytes at p room =
 abbrev pub IsOfRegion : Head → Box → Run → Type 0
 IsOfRegion head region run = (j : ℕ) → 8 * j + 8 ≤ run.length → (i : List ℕ) × StandsIn head region run j i
 
+abbrev pub run_cells : Array → Run → List ℤ
+run_cells block run = take (run.length / 8) (drop run.place block.cells)
+
 -- a byte of a run's elements belongs at its place of the file
-pub byte_of_run : (head : Head) (region : Box) (block : Array) (run : Run) (zs : List ℤ) (j p b : ℕ) → zs ≡ run_cells block run → IsOfRegion head region run → j < length (cells_bytes zs) → p ≡ run.offset + j → b ≡ byte_at (cells_bytes zs) j →
+byte_of_run : (head : Head) (region : Box) (block : Array) (run : Run) (zs : List ℤ) (j p b : ℕ) → zs ≡ run_cells block run → IsOfRegion head region run → j < length (cells_bytes zs) → p ≡ run.offset + j → b ≡ byte_at (cells_bytes zs) j →
     IsByteOf head region block p b
 byte_of_run head region block run zs j p b is_zs only j_in is_p is_b =
     let w = j / 8 in
@@ -278,20 +281,20 @@ all_written head region block runs k old new are h w = record {
 
 -- ## The same of an open file, whether it tells its bytes or not
 
-pub turns_pasted : (R S : List ℕ → List ℕ → Type 0) (c d e : Content) (at : ℕ) (bytes : List ℕ) → at + length bytes ≤ size_of d → Turns R c d → e ≡ overwritten d at bytes →
+turns_pasted : (R S : List ℕ → List ℕ → Type 0) (c d e : Content) (at : ℕ) (bytes : List ℕ) → at + length bytes ≤ size_of d → Turns R c d → e ≡ overwritten d at bytes →
     ((old mid : List ℕ) → at + length bytes ≤ length mid → R old mid → S old (paste mid at bytes (length bytes))) → Turns S c e
 turns_pasted R S (Told old) (Told mid) e at bytes room turns is_e step = subst (Turns S (Told old)) (sym is_e) (step old mid room turns)
 turns_pasted R S (Told old) (Untold size) e at bytes room turns is_e step = absurd turns
 turns_pasted R S (Untold size) (Told mid) e at bytes room turns is_e step = absurd turns
 turns_pasted R S (Untold size) (Untold now) e at bytes room turns is_e step = subst (Turns S (Untold size)) (sym is_e) turns
 
-pub turns_weaker : (R S : List ℕ → List ℕ → Type 0) (c d : Content) → Turns R c d → ((old new : List ℕ) → R old new → S old new) → Turns S c d
+turns_weaker : (R S : List ℕ → List ℕ → Type 0) (c d : Content) → Turns R c d → ((old new : List ℕ) → R old new → S old new) → Turns S c d
 turns_weaker R S (Told old) (Told new) turns weaker = weaker old new turns
 turns_weaker R S (Told old) (Untold size) turns weaker = absurd turns
 turns_weaker R S (Untold size) (Told new) turns weaker = absurd turns
 turns_weaker R S (Untold size) (Untold now) turns weaker = turns
 
-pub turns_same : (R : List ℕ → List ℕ → Type 0) (c : Content) → ((bytes : List ℕ) → R bytes bytes) → Turns R c c
+turns_same : (R : List ℕ → List ℕ → Type 0) (c : Content) → ((bytes : List ℕ) → R bytes bytes) → Turns R c c
 turns_same R (Told bytes) same = same bytes
 turns_same R (Untold size) same = refl
 
@@ -302,7 +305,7 @@ FirstWritten head region block runs k = Turns (WritesFirst head region block run
 pub first_none : (head : Head) (region : Box) (block : Array) (runs : List Run) (c : Content) → FirstWritten head region block runs 0 c c
 first_none head region block runs c = turns_same (WritesFirst head region block runs 0) c (writes_none head region block runs)
 
-pub size-turns : (R : List ℕ → List ℕ → Type 0) (c d : Content) → ((old new : List ℕ) → R old new → length new ≡ length old) → Turns R c d → size_of d ≡ size_of c
+size-turns : (R : List ℕ → List ℕ → Type 0) (c d : Content) → ((old new : List ℕ) → R old new → length new ≡ length old) → Turns R c d → size_of d ≡ size_of c
 size-turns R (Told old) (Told new) keeps turns = keeps old new turns
 size-turns R (Told old) (Untold size) keeps turns = absurd turns
 size-turns R (Untold size) (Told new) keeps turns = absurd turns

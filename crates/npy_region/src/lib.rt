@@ -9,11 +9,9 @@
 
 mod cells;
 mod region;
-mod rows;
 mod runs;
 mod write;
 
 pub use region::read_region;
-pub use rows::write_regions;
 pub use runs::{Run, RunList, region_runs};
 pub use write::write_region;

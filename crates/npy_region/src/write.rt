@@ -17,7 +17,7 @@ use std::alloc::{AllocError, Global};
 // The elements that are turned into bytes at once, at most.
 const PIECE: usize = 8192;
 
-pub(crate) fn bytes_of(cell: i64) -> [u8; 8]
+fn bytes_of(cell: i64) -> [u8; 8]
     ensures { result ≡ cell_bytes cell }
 {
     cell.cast_unsigned().to_le_bytes()
@@ -64,7 +64,7 @@ fn write_cells<F: OutFile>(
 }
 
 // The elements of a block that go into a run.
-pub(crate) fn cells_of<'a>(cells: &'a [i64], run: &Run) -> &'a [i64]
+fn cells_of<'a>(cells: &'a [i64], run: &Run) -> &'a [i64]
     requires { run.now.place + run.now.length / 8 ≤ length cells.now }
     ensures { result.now ≡ take (run.now.length / 8) (drop run.now.place cells.now) }
 {

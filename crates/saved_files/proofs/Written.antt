@@ -15,7 +15,8 @@ use Rattle.nd_rows.proofs.Spots.{moved-in}
 use Rattle.npy_codec.specs.declared.head.Head.{Head}
 use Rattle.npy_codec.specs.Npy.{cell_bytes, header}
 use Rattle.npy_codec.specs.Regions.{offset_of}
-use Rattle.npy_region.specs.Writing.{byte_at, block_at, IsByteOf, Turns, WritesAll, WritesRegion, WritesSome, WritesSomeOf}
+use Rattle.npy_region.specs.Writing.{byte_at, IsByteOf, Turns, WritesRegion, WritesSome}
+use Rattle.saved_files.specs.Rows.{block_at, WritesAll, WritesSomeOf}
 use Rattle.saved_files.specs.Filling.{HoldsBox, IsFilling, IsPart, box_of, file_of, spot}
 use Rattle.saved_files.specs.Saving.{FillsAll, FillsMore, FillsPart, FillsSome, HoldsBoxes, Saving}
 use Rattle.saved_files.proofs.FileBytes.{element_byte, length-file, past_both}

@@ -8,7 +8,8 @@ use Rattle.io_edge.specs.View.{Files}
 use Rattle.nd_shape.specs.Block.{Array}
 use Rattle.nd_shape.specs.Shape.{elements}
 use Rattle.nd_shape.specs.Region.{Box}
-use Rattle.npy_region.specs.Writing.{Turns, block_at}
+use Rattle.npy_region.specs.Writing.{Turns}
+use Rattle.saved_files.specs.Rows.{block_at}
 use Rattle.saved_files.specs.Filling.{IsFilling, HoldsBox, IsPart, box_of, file_of}
 
 -- an open file: its name, the lengths of its array, what it holds, and how often a call of it has failed

@@ -3,7 +3,7 @@ ghost use Rattle.std.specs.Prelude.{◌≡◌, ◌<◌, ◌≤◌, ◌+◌, ◌�
 ghost use Rattle.io_edge.specs.Cause.{HasOpenCause};
 ghost use Rattle.io_edge.specs.View.{Creates, OnlyWrites, raised_by, updated};
 ghost use Rattle.nd_shape.specs.Region.{IsPart};
-ghost use Rattle.npy_region.specs.Writing.{ArePlaced};
+ghost use Rattle.saved_files.specs.Rows.{ArePlaced};
 ghost use Rattle.saved_files.specs.Saving.{ChangesAt, FillsAll, FillsMore, FillsPart, FillsSome, GivesBack, IsFresh, LeavesOne, TakesAll, WereCreated, saving_at};
 
 use crate::open::{OpenFile, give_all, open_file, write_block, write_blocks};

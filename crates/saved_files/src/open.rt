@@ -4,14 +4,15 @@ ghost use Rattle.io_edge.specs.Cause.{HasOpenCause};
 ghost use Rattle.io_edge.specs.View.{Creates, OnlyWrites, raised_by, updated};
 ghost use Rattle.nd_shape.specs.Region.{IsPart};
 ghost use Rattle.npy_codec.specs.Npy.{header};
-ghost use Rattle.npy_region.specs.Writing.{ArePlaced};
+ghost use Rattle.saved_files.specs.Rows.{ArePlaced};
 ghost use Rattle.saved_files.specs.Kept.{IsKept, begun_with, saving_of};
 ghost use Rattle.saved_files.specs.Saving.{FillsAll, FillsMore, FillsPart, FillsSome, GivesBack, IsFresh, LeavesOne, TakesAll, WereCreated};
 
+use crate::rows::write_regions;
 use io_edge::{OpenFault, OutFile, Site, write_full};
 use nd_shape::{Block, Region, Shape};
 use npy_codec::{Head, write_head};
-use npy_region::{write_region, write_regions};
+use npy_region::write_region;
 use std::alloc::Global;
 use std::sync::Arc;
 

@@ -4,7 +4,7 @@ use Rattle.std.specs.Slice.Iter.{iter_rest}
 use Rattle.std.proofs.lemmas.Iterator.{YieldsList-from_slice, YieldsList-from_map}
 use Rattle.std.proofs.lemmas.Iterator.Adapters.{items_from_extend}
 use Rattle.npy_codec.specs.Npy.{cell_bytes}
-use Rattle.npy_region.proofs.rows.append_bytes.Goals as goal
+use Rattle.saved_files.proofs.rows.append_bytes.Goals as goal
 
 pub returns : goal.returns
 returns c =

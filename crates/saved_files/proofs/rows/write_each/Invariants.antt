@@ -1,8 +1,8 @@
 use Rattle.std.proofs.Common.{◌≡◌}
 use Rattle.io_edge.specs.Content.{size_of}
 use Rattle.npy_region.specs.Writing.{Turns}
-use Rattle.npy_region.proofs.RowLemmas.{WritesFirstOf}
-use Rattle.npy_region.proofs.rows.write_each.Given as goal
+use Rattle.saved_files.proofs.RowLemmas.{WritesFirstOf}
+use Rattle.saved_files.proofs.rows.write_each.Given as goal
 
 abbrev pub invariant-loop-k : goal.invariant-loop-k
 invariant-loop-k g l = record {

@@ -1,7 +1,7 @@
 use Rattle.std.proofs.Common.{◌≡◌}
 use Rattle.io_edge.specs.Content.{size_of}
-use Rattle.npy_region.proofs.RowLemmas.{RowsWritten}
-use Rattle.npy_region.proofs.rows.write_rows.Given as goal
+use Rattle.saved_files.proofs.RowLemmas.{RowsWritten}
+use Rattle.saved_files.proofs.rows.write_rows.Given as goal
 
 abbrev pub invariant-loop-row : goal.invariant-loop-row
 invariant-loop-row g l = record {

@@ -1,6 +1,6 @@
 use Rattle.std.proofs.Common.{◌≡◌, ◌+◌, length, ap, ◌∙◌, arith, length-append, ◌∷◌, []}
-use Rattle.npy_region.proofs.RowLemmas.{runs_push}
-use Rattle.npy_region.proofs.rows.all_runs.Goals as goal
+use Rattle.saved_files.proofs.RowLemmas.{runs_push}
+use Rattle.saved_files.proofs.rows.all_runs.Goals as goal
 
 pub loop-region-preserved : goal.loop-region-preserved
 loop-region-preserved c =

@@ -1,27 +1,74 @@
 -- Several blocks that are written into a file, row by row or one after another.
-use Rattle.std.proofs.Common.{◌≡◌, ℕ, zero, suc, ◌≤◌, ◌<◌, ◌+◌, ◌-◌, ◌*◌, ◌/◌, ◌⊎◌, inl, inr, List, [], ◌∷◌, ◌++◌, length, take, drop, get_or, pos, ℤ, refl, ap, ap₂, sym, ◌∙◌, arith, subst, length-append}
+use Rattle.std.proofs.Common.{◌≡◌, ℕ, zero, suc, ◌≤◌, ◌<◌, ◌+◌, ◌-◌, ◌*◌, ◌/◌, ◌%◌, ◌⊎◌, inl, inr, List, [], ◌∷◌, ◌++◌, length, take, drop, get_or, pos, ℤ, refl, ap, ap₂, sym, ◌∙◌, arith, subst, length-append}
 use Rattle.std.specs.Prelude.{map, replicate}
 use Rattle.std.specs.List.{flat_map}
 use Rattle.std.proofs.lemmas.List.Concat.{flat_map-append}
 use Rattle.std.specs.Arc.{arc_value}
 use Rattle.std.specs.declared.sync.Arc.{Arc}
 use Rattle.std.specs.declared.alloc.Global.{Global}
-use Rattle.std.proofs.lemmas.List.{length-take-le, length-take, length-drop, get_or-take, get_or_append_left, get_or-append_right, get_or-map, length-replicate}
+use Rattle.std.proofs.lemmas.List.{length-take-le, length-take, length-drop, get_or-take, get_or-drop, get_or_append_left, get_or-append_right, get_or-map, length-replicate}
 use Rattle.std.proofs.lemmas.List.Edits.{length-paste}
 use Rattle.std.proofs.Math.Seq.{paste}
 use Rattle.io_edge.specs.Content.{Content, Told, Untold, overwritten, size_of, WritesPart}
 use Rattle.nd_shape.specs.Shape.{elements}
 use Rattle.nd_shape.specs.Block.{Array}
-use Rattle.nd_shape.specs.Index.{IsIn}
-use Rattle.nd_shape.specs.Region.{Box, IsPart, moved}
+use Rattle.nd_shape.specs.Index.{IsIn, place}
+use Rattle.nd_shape.specs.Region.{Box, moved}
 use Rattle.nd_rows.proofs.Turns.{split}
 use Rattle.npy_codec.specs.declared.head.Head.{Head}
 use Rattle.npy_codec.specs.Npy.{cell_bytes, cells_bytes}
 use Rattle.npy_codec.specs.Regions.{offset_of}
 use Rattle.npy_region.specs.declared.runs.Run.{Run}
-use Rattle.npy_region.specs.Runs.{AreRuns, no_run}
-use Rattle.npy_region.specs.Writing.{byte_at, box_at, block_at, runs_at, row_bytes, run_cells, AreFull, ArePlaced, HasRow, AreSideBySide, IsByteOf, IsByteOfOne, IsOutside, Turns, WritesAll, WritesRegion, WritesSome, WritesSomeOf}
-use Rattle.npy_region.proofs.WriteLemmas.{byte_of_run, flat_bytes, length-cells_bytes, patched, run_fits, RunFits, turns_pasted, turns_same, turns_weaker}
+use Rattle.npy_region.specs.Runs.{AreRuns, StandsIn, no_run}
+use Rattle.npy_region.specs.Writing.{byte_at, IsByteOf, IsOutside, Turns, WritesRegion, WritesSome}
+use Rattle.saved_files.specs.Filling.{box_of}
+use Rattle.saved_files.specs.Rows.{block_at, runs_at, row_bytes, run_cells, AreFull, ArePlaced, HasRow, AreSideBySide, IsByteOfOne, WritesAll, WritesSomeOf}
+use Rattle.npy_region.proofs.WriteLemmas.{byte_of_cells, flat_bytes, length-cells_bytes, patched, run_fits, RunFits}
+
+-- ## One run, and the contents of an open file
+
+abbrev IsOfRegion : Head → Box → Run → Type 0
+IsOfRegion head region run = (j : ℕ) → 8 * j + 8 ≤ run.length → (i : List ℕ) × StandsIn head region run j i
+
+-- a byte of a run's elements belongs at its place of the file
+byte_of_run : (head : Head) (region : Box) (block : Array) (run : Run) (zs : List ℤ) (j p b : ℕ) → zs ≡ run_cells block run → IsOfRegion head region run → j < length (cells_bytes zs) → p ≡ run.offset + j → b ≡ byte_at (cells_bytes zs) j →
+    IsByteOf head region block p b
+byte_of_run head region block run zs j p b is_zs only j_in is_p is_b =
+    let w = j / 8 in
+    let e = j % 8 in
+    let j_is : j ≡ 8 * w + e = omega arith in
+    let few : e < 8 = omega arith in
+    let size : length zs ≤ run.length / 8 = omega (arith, ap length is_zs, length-take (run.length / 8) (drop run.place block.cells)) in
+    let w_in : w < length zs = omega (arith, length-cells_bytes zs) in
+    let x = only w (omega arith) in
+    let stands = x.1 in
+    let cell_is : get_or zs w (pos 0) ≡ get_or block.cells (place region.lengths x.0) (pos 0) =
+    ap (λ l. get_or l w (pos 0)) is_zs ∙ (get_or-take (run.length / 8) (drop run.place block.cells) w (pos 0) (omega arith) ∙ (get_or-drop run.place block.cells w (pos 0) ∙ ap (λ q. get_or block.cells q (pos 0)) (sym stands.target))) in
+    record {
+      index = x.0;
+      inside = stands.inside;
+      eighth = e;
+      few = few;
+      offset = omega (arith, stands.offset);
+      value = is_b ∙ (ap (byte_at (cells_bytes zs)) j_is ∙ (byte_of_cells zs w e w_in few ∙ ap (λ z. byte_at (cell_bytes z) e) cell_is));
+    }
+
+turns_pasted : (R S : List ℕ → List ℕ → Type 0) (c d e : Content) (at : ℕ) (bytes : List ℕ) → at + length bytes ≤ size_of d → Turns R c d → e ≡ overwritten d at bytes →
+    ((old mid : List ℕ) → at + length bytes ≤ length mid → R old mid → S old (paste mid at bytes (length bytes))) → Turns S c e
+turns_pasted R S (Told old) (Told mid) e at bytes room turns is_e step = subst (Turns S (Told old)) (sym is_e) (step old mid room turns)
+turns_pasted R S (Told old) (Untold size) e at bytes room turns is_e step = absurd turns
+turns_pasted R S (Untold size) (Told mid) e at bytes room turns is_e step = absurd turns
+turns_pasted R S (Untold size) (Untold now) e at bytes room turns is_e step = subst (Turns S (Untold size)) (sym is_e) turns
+
+turns_weaker : (R S : List ℕ → List ℕ → Type 0) (c d : Content) → Turns R c d → ((old new : List ℕ) → R old new → S old new) → Turns S c d
+turns_weaker R S (Told old) (Told new) turns weaker = weaker old new turns
+turns_weaker R S (Told old) (Untold size) turns weaker = absurd turns
+turns_weaker R S (Untold size) (Told new) turns weaker = absurd turns
+turns_weaker R S (Untold size) (Untold now) turns weaker = turns
+
+turns_same : (R : List ℕ → List ℕ → Type 0) (c : Content) → ((bytes : List ℕ) → R bytes bytes) → Turns R c c
+turns_same R (Told bytes) same = same bytes
+turns_same R (Untold size) same = refl
 
 -- ## Bytes that belong where they are put
 
@@ -56,7 +103,7 @@ run_at all k row = get_or (runs_at all k) row no_run
 pub record AreRows (head : Head) (regions : List Box) (blocks : List (Arc Array Global)) (all : List (List Run)) : Type 0 where
   pub some : 0 < length regions
   pub count : length all ≡ length regions
-  pub runs : (k : ℕ) → k < length regions → AreRuns head (box_at regions k) (runs_at all k)
+  pub runs : (k : ℕ) → k < length regions → AreRuns head (box_of regions k) (runs_at all k)
   pub beside : AreSideBySide all
   pub placed : ArePlaced head.shape regions blocks
 
@@ -74,7 +121,7 @@ row_there head regions blocks all row k h row_in k_in = omega (arith, same_count
 pub row_fits : (head : Head) (regions : List Box) (blocks : List (Arc Array Global)) (all : List (List Run)) (row k n : ℕ) → AreRows head regions blocks all → AreFull blocks n → k < n → row < length (runs_at all 0) → k < length regions →
     RunFits head (block_at blocks k) (run_at all k row)
 row_fits head regions blocks all row k n h full k_full row_in k_in =
-    run_fits head (box_at regions k) (block_at blocks k) (runs_at all k) row (h.runs k k_in) (h.placed.inside k k_in) (full k k_full) (h.placed.shape k k_in) (row_there head regions blocks all row k h row_in k_in)
+    run_fits head (box_of regions k) (block_at blocks k) (runs_at all k) row (h.runs k k_in) (h.placed.inside k k_in) (full k k_full) (h.placed.shape k k_in) (row_there head regions blocks all row k h row_in k_in)
 
 -- the first blocks' bytes of a row, which stand in the file from this offset on
 pub record IsRowFront (head : Head) (regions : List Box) (blocks : List (Arc Array Global)) (all : List (List Run)) (row k at : ℕ) (bytes : List ℕ) : Type 0 where
@@ -109,7 +156,7 @@ row_front head regions blocks all row (suc k) h full row_in k_in =
     let total : length (xs ++ cells_bytes zs) ≡ length xs + run.length = length-append xs (cells_bytes zs) ∙ ap (λ n. length xs + n) size in
     let within : run.offset + run.length ≤ head.data_at + 8 * elements head.shape = fits.within in
     let new : AreRight head regions blocks (at + length xs) (cells_bytes zs) = λ j j_in.
-    record { number = k; there = k_here; byte = byte_of_run head (box_at regions k) block run zs j (at + length xs + j) (byte_at (cells_bytes zs) j) refl (λ w word. (h.runs k k_here).only row w (row_there head regions blocks all row k h row_in k_here) word) j_in (omega (arith, here)) refl } in
+    record { number = k; there = k_here; byte = byte_of_run head (box_of regions k) block run zs j (at + length xs + j) (byte_at (cells_bytes zs) j) refl (λ w word. (h.runs k k_here).only row w (row_there head regions blocks all row k h row_in k_here) word) j_in (omega (arith, here)) refl } in
     record {
       right = right_more head regions blocks at xs (cells_bytes zs) before.right new;
       spans = λ i i_in. elim (split i k) [
@@ -197,13 +244,13 @@ rows_all head regions blocks all rows old new h done w = record {
   ];
 }
   where
-    outside : (p : ℕ) → ((k r : ℕ) → k < length all → r < rows → IsOff (run_at all k r) p) → (k : ℕ) → k < length regions → IsOutside head (box_at regions k) p
+    outside : (p : ℕ) → ((k r : ℕ) → k < length all → r < rows → IsOff (run_at all k r) p) → (k : ℕ) → k < length regions → IsOutside head (box_of regions k) p
     outside p first k k_in i i_in =
         let x = (h.runs k k_in).all i i_in in
         let stands = x.3 in
         let k_run : k < length all = omega (arith, k_in, h.count) in
         let word : 8 * x.1 + 8 ≤ (run_at all k x.0).length = stands.word in
-        let at : offset_of head (moved (box_at regions k).start i) ≡ (run_at all k x.0).offset + 8 * x.1 = stands.offset in
+        let at : offset_of head (moved (box_of regions k).start i) ≡ (run_at all k x.0).offset + 8 * x.1 = stands.offset in
         let row_in : x.0 < length (runs_at all k) = x.2 in
         elim (first k x.0 k_run (omega (arith, same_count all k h.beside k_run, row_in, done))) [ inl low ↦ inl (omega (arith, low, at)) | inr high ↦ inr (omega (arith, high, at, word)) ]
 
@@ -241,9 +288,9 @@ file_all head regions blocks all rows c d h done w = turns_weaker (WritesRows he
 
 pub record WritesFirstOf (head : Head) (regions : List Box) (blocks : List (Arc Array Global)) (n : ℕ) (old new : List ℕ) : Type 0 where
   pub size : length new ≡ length old
-  pub each : (p : ℕ) → p < length old → (((k : ℕ) → k < n → IsOutside head (box_at regions k) p) × (byte_at new p ≡ byte_at old p)) ⊎ IsByteOfOne head regions blocks p (byte_at new p)
+  pub each : (p : ℕ) → p < length old → (((k : ℕ) → k < n → IsOutside head (box_of regions k) p) × (byte_at new p ≡ byte_at old p)) ⊎ IsByteOfOne head regions blocks p (byte_at new p)
 
-first_next : (head : Head) (regions : List Box) (blocks : List (Arc Array Global)) (n : ℕ) (old mid new : List ℕ) → n < length regions → WritesFirstOf head regions blocks n old mid → WritesRegion head (box_at regions n) (block_at blocks n) mid new →
+first_next : (head : Head) (regions : List Box) (blocks : List (Arc Array Global)) (n : ℕ) (old mid new : List ℕ) → n < length regions → WritesFirstOf head regions blocks n old mid → WritesRegion head (box_of regions n) (block_at blocks n) mid new →
     WritesFirstOf head regions blocks (n + 1) old new
 first_next head regions blocks n old mid new n_in before wrote = record {
   size = wrote.size ∙ before.size;
@@ -251,7 +298,7 @@ first_next head regions blocks n old mid new n_in before wrote = record {
     | inl out ↦ elim (before.each p p_in) [
       | inl same ↦ inl ((λ k k_in. elim (split k n) [
         | inl low ↦ same.0 k low
-        | inr high ↦ let e : k ≡ n = omega (arith, k_in, high) in subst (λ m. IsOutside head (box_at regions m) p) (sym e) out.0
+        | inr high ↦ let e : k ≡ n = omega (arith, k_in, high) in subst (λ m. IsOutside head (box_of regions m) p) (sym e) out.0
       ]), out.1 ∙ same.1)
       | inr right ↦ inr (subst (IsByteOfOne head regions blocks p) (sym out.1) right)
     ]
@@ -259,7 +306,7 @@ first_next head regions blocks n old mid new n_in before wrote = record {
   ];
 }
 
-first_part : (head : Head) (regions : List Box) (blocks : List (Arc Array Global)) (n : ℕ) (old mid new : List ℕ) → n < length regions → WritesFirstOf head regions blocks n old mid → WritesSome head (box_at regions n) (block_at blocks n) mid new →
+first_part : (head : Head) (regions : List Box) (blocks : List (Arc Array Global)) (n : ℕ) (old mid new : List ℕ) → n < length regions → WritesFirstOf head regions blocks n old mid → WritesSome head (box_of regions n) (block_at blocks n) mid new →
     WritesSomeOf head regions blocks old new
 first_part head regions blocks n old mid new n_in before wrote = record {
   size = wrote.size ∙ before.size;
@@ -283,15 +330,15 @@ turns_then R S T (Untold n) (Untold m) (Untold k) f r s = s ∙ r
 pub each_none : (head : Head) (regions : List Box) (blocks : List (Arc Array Global)) (c : Content) → Turns (WritesFirstOf head regions blocks 0) c c
 each_none head regions blocks c = turns_same (WritesFirstOf head regions blocks 0) c (λ bytes. record { size = refl; each = λ p p_in. inl ((λ k h. absurd (omega arith)), refl) })
 
-pub each_more : (head : Head) (regions : List Box) (blocks : List (Arc Array Global)) (n : ℕ) (c d e : Content) → n < length regions → Turns (WritesFirstOf head regions blocks n) c d → Turns (WritesRegion head (box_at regions n) (block_at blocks n)) d e →
+pub each_more : (head : Head) (regions : List Box) (blocks : List (Arc Array Global)) (n : ℕ) (c d e : Content) → n < length regions → Turns (WritesFirstOf head regions blocks n) c d → Turns (WritesRegion head (box_of regions n) (block_at blocks n)) d e →
     Turns (WritesFirstOf head regions blocks (n + 1)) c e
 each_more head regions blocks n c d e n_in before wrote =
-    turns_then (WritesFirstOf head regions blocks n) (WritesRegion head (box_at regions n) (block_at blocks n)) (WritesFirstOf head regions blocks (n + 1)) c d e (λ x y z b w. first_next head regions blocks n x y z n_in b w) before wrote
+    turns_then (WritesFirstOf head regions blocks n) (WritesRegion head (box_of regions n) (block_at blocks n)) (WritesFirstOf head regions blocks (n + 1)) c d e (λ x y z b w. first_next head regions blocks n x y z n_in b w) before wrote
 
-pub each_part : (head : Head) (regions : List Box) (blocks : List (Arc Array Global)) (n : ℕ) (c d e : Content) → n < length regions → Turns (WritesFirstOf head regions blocks n) c d → Turns (WritesSome head (box_at regions n) (block_at blocks n)) d e →
+pub each_part : (head : Head) (regions : List Box) (blocks : List (Arc Array Global)) (n : ℕ) (c d e : Content) → n < length regions → Turns (WritesFirstOf head regions blocks n) c d → Turns (WritesSome head (box_of regions n) (block_at blocks n)) d e →
     Turns (WritesSomeOf head regions blocks) c e
 each_part head regions blocks n c d e n_in before wrote =
-    turns_then (WritesFirstOf head regions blocks n) (WritesSome head (box_at regions n) (block_at blocks n)) (WritesSomeOf head regions blocks) c d e (λ x y z b w. first_part head regions blocks n x y z n_in b w) before wrote
+    turns_then (WritesFirstOf head regions blocks n) (WritesSome head (box_of regions n) (block_at blocks n)) (WritesSomeOf head regions blocks) c d e (λ x y z b w. first_part head regions blocks n x y z n_in b w) before wrote
 
 pub each_all : (head : Head) (regions : List Box) (blocks : List (Arc Array Global)) (n : ℕ) (c d : Content) → length regions ≤ n → Turns (WritesFirstOf head regions blocks n) c d → Turns (WritesAll head regions blocks) c d
 each_all head regions blocks n c d done w = turns_weaker (WritesFirstOf head regions blocks n) (WritesAll head regions blocks) c d w (λ old new f. record { size = f.size; each = λ p p_in. elim (f.each p p_in) [ inl same ↦ inl ((λ k k_in. same.0 k (omega (arith, k_in, done))), same.1) | inr right ↦ inr right ] })
@@ -340,26 +387,26 @@ full_next blocks n k x block h is value size before k_in = elim (split k n) [
 ]
 
 pub runs_push : (head : Head) (regions : List Box) (all new : List (List Run)) (runs : List Run) (region : Box) (n k : ℕ) → new ≡ all ++ runs ∷ [] → length all ≡ n → n < length regions → region ≡ get_or regions n region →
-    ((i : ℕ) → i < n → AreRuns head (box_at regions i) (runs_at all i)) → AreRuns head region runs → k < n + 1 → AreRuns head (box_at regions k) (runs_at new k)
+    ((i : ℕ) → i < n → AreRuns head (box_of regions i) (runs_at all i)) → AreRuns head region runs → k < n + 1 → AreRuns head (box_of regions k) (runs_at new k)
 runs_push head regions all new runs region n k is count n_in region_is before here k_in = elim (split k n) [
-  | inl low ↦ subst (AreRuns head (box_at regions k)) (sym (ap (λ l. runs_at l k) is ∙ get_or_append_left all (runs ∷ []) [] k (omega (arith, low, count)))) (before k low)
+  | inl low ↦ subst (AreRuns head (box_of regions k)) (sym (ap (λ l. runs_at l k) is ∙ get_or_append_left all (runs ∷ []) [] k (omega (arith, low, count)))) (before k low)
   | inr high ↦
       let e : k ≡ n = omega (arith, k_in, high) in
       let z : k - length all ≡ 0 = omega (arith, e, count) in
       let r : runs_at new k ≡ runs = ap (λ l. runs_at l k) is ∙ (get_or-append_right all (runs ∷ []) (length all) k [] refl (omega (arith, e, count)) ∙ ap (runs_at (runs ∷ [])) z) in
-      let b : region ≡ box_at regions k = region_is ∙ (default_of regions n region (record { start = []; lengths = [] }) n_in ∙ ap (box_at regions) (sym e)) in
-      subst (AreRuns head (box_at regions k)) (sym r) (subst (λ (x : Box). AreRuns head x runs) b here)
+      let b : region ≡ box_of regions k = region_is ∙ (default_of regions n region (record { start = []; lengths = [] }) n_in ∙ ap (box_of regions) (sym e)) in
+      subst (AreRuns head (box_of regions k)) (sym r) (subst (λ (x : Box). AreRuns head x runs) b here)
 ]
 
 -- where each block has the elements of a row
 pub has_row : (head : Head) (regions : List Box) (blocks : List (Arc Array Global)) (all : List (List Run)) (row k : ℕ) (slice : List Run) → AreRows head regions blocks all → slice ≡ runs_at all 0 → row < length slice → k < length all → HasRow all blocks row k
 has_row head regions blocks all row k slice h is row_in k_in =
-    let lengths = (box_at regions k).lengths in
+    let lengths = (box_of regions k).lengths in
     let k_here : k < length regions = omega (arith, k_in, h.count) in
     let row_first : row < length (runs_at all 0) = omega (arith, row_in, ap length is) in
     let there = row_there head regions blocks all row k h row_first k_here in
     let size = length-replicate (elements lengths) (pos 0) in
-    let fits = run_fits head (box_at regions k) (record { shape = lengths; cells = replicate (elements lengths) (pos 0) }) (runs_at all k) row (h.runs k k_here) (h.placed.inside k k_here) size refl there in
+    let fits = run_fits head (box_of regions k) (record { shape = lengths; cells = replicate (elements lengths) (pos 0) }) (runs_at all k) row (h.runs k k_here) (h.placed.inside k k_here) size refl there in
     let inside : (run_at all k row).place + (run_at all k row).length / 8 ≤ length (replicate (elements lengths) (pos 0)) = fits.cells in
     record { there = there; inside = omega (arith, inside, size, ap elements (h.placed.shape k k_here)) }
 

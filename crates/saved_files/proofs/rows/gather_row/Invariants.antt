@@ -1,7 +1,7 @@
 use Rattle.std.proofs.Common.{◌≡◌}
 use Rattle.std.specs.List.{flat_map}
-use Rattle.npy_region.specs.Writing.{AreFull, row_bytes}
-use Rattle.npy_region.proofs.rows.gather_row.Given as goal
+use Rattle.saved_files.specs.Rows.{AreFull, row_bytes}
+use Rattle.saved_files.proofs.rows.gather_row.Given as goal
 
 abbrev pub invariant-loop-k : goal.invariant-loop-k
 invariant-loop-k l = record {

@@ -1,6 +1,6 @@
 use Rattle.std.proofs.Common.{◌<◌, length, arith}
-use Rattle.npy_region.proofs.RowLemmas.{full_next, part_is, row_next}
-use Rattle.npy_region.proofs.rows.gather_row.Goals as goal
+use Rattle.saved_files.proofs.RowLemmas.{full_next, part_is, row_next}
+use Rattle.saved_files.proofs.rows.gather_row.Goals as goal
 
 pub loop-k-preserved : goal.loop-k-preserved
 loop-k-preserved c =

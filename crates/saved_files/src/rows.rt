@@ -1,5 +1,5 @@
 // Writes blocks that stand side by side in a file's array, row by row.
-ghost use Rattle.std.specs.Prelude.{◌≡◌, ◌≤◌, ◌<◌, ◌+◌, ◌*◌, ◌/◌, ◌^◌, ◌++◌, ℕ, false, length, map, IfOk, OnOk, OnErr, IsTrue};
+ghost use Rattle.std.specs.Prelude.{◌≡◌, ◌≤◌, ◌<◌, ◌+◌, ◌*◌, ◌/◌, ◌^◌, ◌++◌, ℕ, false, length, map, take, drop, IfOk, OnOk, OnErr, IsTrue};
 ghost use Rattle.std.specs.List.{flat_map};
 ghost use Rattle.io_edge.specs.Cause.{HasOpenCause};
 ghost use Rattle.io_edge.specs.Content.{size_of};
@@ -7,22 +7,39 @@ ghost use Rattle.nd_shape.specs.Region.{IsPart};
 ghost use Rattle.nd_shape.specs.Shape.{elements};
 ghost use Rattle.npy_codec.specs.Npy.{cell_bytes};
 ghost use Rattle.npy_region.specs.Runs.{AreRuns};
-ghost use Rattle.npy_region.specs.Writing.{AreFull, ArePlaced, AreSideBySide, Follows, HasRow, Turns, WritesAll, WritesSomeOf, box_at, row_bytes, runs_at};
+ghost use Rattle.npy_region.specs.Writing.{Turns};
+ghost use Rattle.saved_files.specs.Filling.{box_of};
+ghost use Rattle.saved_files.specs.Rows.{AreFull, ArePlaced, AreSideBySide, Follows, HasRow, WritesAll, WritesSomeOf, row_bytes, runs_at};
 
-use crate::runs::{Run, RunList, region_runs};
-use crate::write::{bytes_of, cells_of, write_region};
 use io_edge::{OpenFault, OutFile, write_full};
 use nd_shape::{Block, Region};
 use npy_codec::Head;
+use npy_region::{Run, RunList, region_runs, write_region};
 use std::alloc::{AllocError, Global};
 use std::sync::Arc;
 
+fn bytes_of(cell: i64) -> [u8; 8]
+    ensures { result ≡ cell_bytes cell }
+{
+    cell.cast_unsigned().to_le_bytes()
+}
+
+// The elements of a run.
+fn cells_of<'a>(cells: &'a [i64], run: &Run) -> &'a [i64]
+    requires { run.now.place + run.now.length / 8 ≤ length cells.now }
+    ensures { result.now ≡ take (run.now.length / 8) (drop run.now.place cells.now) }
+{
+    let place = run.place as usize;
+    let count = (run.length / 8) as usize;
+    &cells[place..place + count]
+}
+
 // The runs of each region.
 fn all_runs(alloc: Global, head: &Head, regions: &[Region]) -> Result<Vec<RunList>, AllocError>
-    requires parts { (k : ℕ) → k < length regions.now → IsPart (box_at regions.now k) head.now.shape }
+    requires parts { (k : ℕ) → k < length regions.now → IsPart (box_of regions.now k) head.now.shape }
     requires near { head.now.data_at ≤ 2 ^ 21 }
     ensures count { IfOk result (λ v. length v.items ≡ length regions.now) }
-    ensures runs { IfOk result (λ v. (k : ℕ) → k < length regions.now → AreRuns head.now (box_at regions.now k) (runs_at v.items k)) }
+    ensures runs { IfOk result (λ v. (k : ℕ) → k < length regions.now → AreRuns head.now (box_of regions.now k) (runs_at v.items k)) }
 {
     let mut all = Vec::new(alloc);
     for region in regions {
@@ -105,7 +122,7 @@ fn write_rows<F: OutFile>(
 ) -> Result<(), OpenFault>
     requires some { 0 < length regions.now }
     requires count { length all.now ≡ length regions.now }
-    requires runs { (k : ℕ) → k < length regions.now → AreRuns head.now (box_at regions.now k) (runs_at all.now k) }
+    requires runs { (k : ℕ) → k < length regions.now → AreRuns head.now (box_of regions.now k) (runs_at all.now k) }
     requires beside { AreSideBySide all.now }
     requires placed { ArePlaced head.now.shape regions.now blocks.now }
     requires near { head.now.data_at ≤ 2 ^ 21 }
