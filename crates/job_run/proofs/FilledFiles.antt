@@ -21,7 +21,7 @@ use Rattle.job_run.proofs.SavedArrays.{saved-is}
 -- ## One file
 
 -- what follows of told bytes that turned into others
-turned : (R : List ℕ → List ℕ → Type 0) (P Q : List ℕ → Type 0) (old new : Content) → ((before after : List ℕ) → R before after → P before → Q after) → Turns R old new → OnTold old P → OnTold new Q
+pub turned : (R : List ℕ → List ℕ → Type 0) (P Q : List ℕ → Type 0) (old new : Content) → ((before after : List ℕ) → R before after → P before → Q after) → Turns R old new → OnTold old P → OnTold new Q
 turned R P Q (Told before) (Told after) f t h = f before after t h
 turned R P Q (Told before) (Untold size) f t h = absurd t
 turned R P Q (Untold size) (Told after) f t h = absurd t
@@ -35,7 +35,7 @@ fills-part : (a : Array) (box : Box) (boxes : List Box) (block : Array) (old new
 fills-part a box boxes block old new e f h filling = turned (λ before after. (a : Array) (boxes : List Box) → a.shape ≡ old.dims → IsFilling a boxes before → HoldsBox a box block → IsFilling a boxes after)
     (IsFilling a boxes) (IsFilling a boxes) old.content new.content (λ before after t g. t a boxes e g h) f filling
 
-right-part : (a : Array) (boxes : List Box) (file : Content) → OnTold file (IsFilling a boxes) → OnTold file (λ bytes. IsPart bytes (bytes_of a))
+pub right-part : (a : Array) (boxes : List Box) (file : Content) → OnTold file (IsFilling a boxes) → OnTold file (λ bytes. IsPart bytes (bytes_of a))
 right-part a boxes (Told bytes) h = h.part
 right-part a boxes (Untold size) h = tt
 
@@ -100,7 +100,7 @@ right-saved p named key k (Some x) block old new shape there holds saves h =
 -- ## All files
 
 -- a file is as long as the array of its save
-file-shape : (p : Plan) (named : Named) (k : ℕ) (files : List Saving) → IsRunnable p → IsExpression p.nodes → AreOpenFor p files → k < length p.saves → (array_at p named k).shape ≡ (saving_at files k).dims
+pub file-shape : (p : Plan) (named : Named) (k : ℕ) (files : List Saving) → IsRunnable p → IsExpression p.nodes → AreOpenFor p files → k < length p.saves → (array_at p named k).shape ≡ (saving_at files k).dims
 file-shape p named k files runs ex are there = (saved-is p named k runs ex there).shape ∙ sym (are.dims k there)
 
 pub hold-next : (p : Plan) (named : Named) (key : ℕ) (name : Option (ℕ × ℕ)) (block : Array) (old new : List Saving) → IsRunnable p → IsExpression p.nodes → AreOpenFor p old → key < length (lowered p.nodes (nodes_saved p)).names

@@ -12,7 +12,7 @@ use Rattle.job_run.specs.Plan.{Plan}
 
 -- ## One file
 
-turns-told : (R : List ℕ → List ℕ → Type 0) (old new : Content) → Turns R old new → IsSome (told_bytes old) → IsSome (told_bytes new)
+pub turns-told : (R : List ℕ → List ℕ → Type 0) (old new : Content) → Turns R old new → IsSome (told_bytes old) → IsSome (told_bytes new)
 turns-told R (Told before) (Told after) t h = refl
 turns-told R (Told before) (Untold size) t h = absurd t
 turns-told R (Untold size) (Told after) t h = absurd t
@@ -20,17 +20,17 @@ turns-told R (Untold size) (Untold now) t h = h
 
 -- ## The file at a place
 
-other-or : (a b : ℕ) → (a ≡ b) ⊎ (a ≢ b)
+pub other-or : (a b : ℕ) → (a ≡ b) ⊎ (a ≢ b)
 other-or a b = grind arith
 
 -- a fact of the file at a place and of all others
-each-file : (P : ℕ → Saving → Type 0) (place : ℕ) (old new : List Saving) → ChangesAt place old new → P place (saving_at new place) → (k : ℕ) → (k ≢ place → P k (saving_at old k)) → P k (saving_at new k)
+pub each-file : (P : ℕ → Saving → Type 0) (place : ℕ) (old new : List Saving) → ChangesAt place old new → P place (saving_at new place) → (k : ℕ) → (k ≢ place → P k (saving_at old k)) → P k (saving_at new k)
 each-file P place old new c here k others = elim (other-or k place) [
   | inl e ↦ subst (λ j. P j (saving_at new j)) (sym e) here
   | inr ne ↦ subst (P k) (sym (c.others k ne)) (others ne)
 ]
 
-same-then : (old mid new : List Saving) → AreSameFiles old mid → AreSameFiles mid new → AreSameFiles old new
+pub same-then : (old mid new : List Saving) → AreSameFiles old mid → AreSameFiles mid new → AreSameFiles old new
 same-then old mid new a b =
     let count : length mid ≡ length old = a.count in
     record {
@@ -40,8 +40,11 @@ same-then old mid new a b =
       told = λ k h t. b.told k (omega arith) (a.told k h t);
     }
 
+pub same-files : (files : List Saving) → AreSameFiles files files
+same-files files = record { count = refl; names = λ k h. refl; dims = λ k h. refl; told = λ k h t. t }
+
 -- one file was written into
-same-write : (place : ℕ) (mid new : List Saving) → ChangesAt place mid new → (IsSome (told_bytes (saving_at mid place).content) → IsSome (told_bytes (saving_at new place).content)) → AreSameFiles mid new
+pub same-write : (place : ℕ) (mid new : List Saving) → ChangesAt place mid new → (IsSome (told_bytes (saving_at mid place).content) → IsSome (told_bytes (saving_at new place).content)) → AreSameFiles mid new
 same-write place mid new c told = record {
   count = c.count;
   names = λ k h. each-file (λ j s. s.name ≡ (saving_at mid j).name) place mid new c c.name_is k (λ ne. refl);
