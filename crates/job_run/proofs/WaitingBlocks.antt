@@ -6,7 +6,7 @@ use Rattle.std.specs.declared.sync.Arc.{Arc}
 use Rattle.std.specs.declared.alloc.Global.{Global}
 use Rattle.std.proofs.lemmas.Bool.{cases_lt, eqb-true}
 use Rattle.std.proofs.lemmas.List.{get_or_append_left, get_or-append_right, length-map, map-append}
-use Rattle.io_edge.specs.Content.{Content, OnTold}
+use Rattle.io_edge.specs.Content.{OnTold}
 use Rattle.nd_shape.specs.Block.{Array}
 use Rattle.nd_shape.specs.Region.{Box, IsPart}
 use Rattle.array_expr.specs.Node.{shape_at, IsExpression}
@@ -14,7 +14,7 @@ use Rattle.chunk_layout.specs.Layouts.{region}
 use Rattle.lowering_laws.specs.Lowered.{lowered}
 use Rattle.lowering_laws.specs.Named.{layout_of, box_of, name_of}
 use Rattle.saved_files.specs.Filling.{IsFilling, HoldsBox, box_of as box_at}
-use Rattle.saved_files.specs.Rows.{ArePlaced, block_at}
+use Rattle.saved_files.specs.Rows.{block_at}
 use Rattle.saved_files.specs.Saving.{Saving, saving_at, ChangesAt, FillsAll, FillsSome, HoldsBoxes}
 use Rattle.job_run.specs.Evaluating.{node_at, array_at, boxes_in, boxes_made, AreOpenFor, AreSameFiles, FilesHold, FilesRight, HoldsNamed}
 use Rattle.job_run.specs.Grouping.{AddsBox, AddsNamed, FilesHeld, IsGroup, Waiting}
@@ -97,9 +97,9 @@ group-none p w none empty =
     record {
       there = λ h. absurd (omega (arith, h, n));
       placed = record {
-          count = ap (λ (l : List (Arc Array Global)). length l) empty ∙ sym n;
-          inside = λ k h. absurd (omega (arith, h, n));
-          shape = λ k h. absurd (omega (arith, h, n));
+        count = ap (λ (l : List (Arc Array Global)). length l) empty ∙ sym n;
+        inside = λ k h. absurd (omega (arith, h, n));
+        shape = λ k h. absurd (omega (arith, h, n));
       };
     }
 
@@ -142,9 +142,9 @@ group-more p w box b there inside shape g =
     record {
       there = λ h. there;
       placed = record {
-          count = length-append w.blocks (b ∷ []) ∙ (ap (λ n. n + 1) g.placed.count ∙ sym (length-append w.regions (box ∷ [])));
-          inside = each-more (λ x a. IsPart x (shape_at p.nodes (node_at p w.place))) w.regions w.blocks box b g.placed.count g.placed.inside inside;
-          shape = each-more (λ x a. a.shape ≡ x.lengths) w.regions w.blocks box b g.placed.count g.placed.shape shape;
+        count = length-append w.blocks (b ∷ []) ∙ (ap (λ n. n + 1) g.placed.count ∙ sym (length-append w.regions (box ∷ [])));
+        inside = each-more (λ x a. IsPart x (shape_at p.nodes (node_at p w.place))) w.regions w.blocks box b g.placed.count g.placed.inside inside;
+        shape = each-more (λ x a. a.shape ≡ x.lengths) w.regions w.blocks box b g.placed.count g.placed.shape shape;
       };
     }
 

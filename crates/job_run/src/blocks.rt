@@ -124,7 +124,16 @@ fn save_named<S: Site>(
     let _nodes = job.expr.nodes();
     for (place, save) in job.saves.iter().enumerate() {
         if save.node.number() == node {
-            save_at(alloc, files, group, job, place, &layouts[place], number, block)?;
+            save_at(
+                alloc,
+                files,
+                group,
+                job,
+                place,
+                &layouts[place],
+                number,
+                block,
+            )?;
         }
     }
     Ok(())
@@ -272,7 +281,7 @@ fn make_block<S: Site, E: Elements + Send + Sync + Drop>(
     }
 }
 
-/// Makes all blocks, in the order of their keys, and writes the saved ones as they come.
+/// Makes all blocks, in the order of their keys, and writes the saved ones as they come, or with those beside them.
 pub fn make_blocks<S: Site, E: Elements + Send + Sync + Drop>(
     alloc: Global,
     evaluation: &mut Evaluation<JobGraph<S::In, E>>,

@@ -12,7 +12,7 @@ use Rattle.std.proofs.Math.Seq.{paste}
 use Rattle.io_edge.specs.Content.{Content, Told, Untold, overwritten, size_of, WritesPart}
 use Rattle.nd_shape.specs.Shape.{elements}
 use Rattle.nd_shape.specs.Block.{Array}
-use Rattle.nd_shape.specs.Index.{IsIn, place}
+use Rattle.nd_shape.specs.Index.{place}
 use Rattle.nd_shape.specs.Region.{Box, moved}
 use Rattle.nd_rows.proofs.Turns.{split}
 use Rattle.npy_codec.specs.declared.head.Head.{Head}
@@ -296,10 +296,13 @@ first_next head regions blocks n old mid new n_in before wrote = record {
   size = wrote.size ∙ before.size;
   each = λ p p_in. elim (wrote.each p (subst (λ m. p < m) (sym before.size) p_in)) [
     | inl out ↦ elim (before.each p p_in) [
-      | inl same ↦ inl ((λ k k_in. elim (split k n) [
-        | inl low ↦ same.0 k low
-        | inr high ↦ let e : k ≡ n = omega (arith, k_in, high) in subst (λ m. IsOutside head (box_of regions m) p) (sym e) out.0
-      ]), out.1 ∙ same.1)
+      | inl same ↦ inl (
+        (λ k k_in. elim (split k n) [
+          | inl low ↦ same.0 k low
+          | inr high ↦ let e : k ≡ n = omega (arith, k_in, high) in subst (λ m. IsOutside head (box_of regions m) p) (sym e) out.0
+        ]),
+        out.1 ∙ same.1,
+      )
       | inr right ↦ inr (subst (IsByteOfOne head regions blocks p) (sym out.1) right)
     ]
     | inr byte ↦ inr (record { number = n; there = n_in; byte = byte })

@@ -1,21 +1,17 @@
-use Rattle.std.proofs.Common.{◌≡◌, ℕ, ◌≤◌, ◌<◌, ◌+◌, List, length, ap, sym, subst, ◌∙◌, arith}
+use Rattle.std.proofs.Common.{◌≤◌, ◌<◌, ◌+◌, List, length, ap, sym, subst, ◌∙◌, arith}
 use Rattle.std.proofs.lemmas.List.{length-map}
-use Rattle.std.specs.Prelude.{Some}
 use Rattle.std.specs.Arc.{arc_value}
 use Rattle.io_edge.proofs.OpeningLaws.{on_err}
 use Rattle.array_expr.specs.Node.{shape_at}
-use Rattle.nd_shape.specs.Region.{Box}
 use Rattle.chunk_layout.specs.Layouts.{region, blocks}
-use Rattle.saved_files.specs.Saving.{Saving, saving_at}
+use Rattle.saved_files.specs.Saving.{Saving}
 use Rattle.job_run.specs.declared.group.Group.{Group}
 use Rattle.job_run.specs.declared.job.Save.{Save}
-use Rattle.job_run.specs.Evaluating.{AreSameFiles, HoldsNamed}
-use Rattle.job_run.specs.Grouping.{FilesHeld, IsGroup, waiting_of}
+use Rattle.job_run.specs.Grouping.{waiting_of}
 use Rattle.job_run.specs.Jobs.{plan_of, saved_of}
-use Rattle.job_run.specs.Values.{Named}
 use Rattle.job_run.proofs.SavePlaces.{save-place, place-node}
 use Rattle.job_run.proofs.SavingSteps.{same-then}
-use Rattle.job_run.proofs.WaitingBlocks.{HeldBelow, NamedLoop, adds-at, below-all, below-more, below-right, below-skip, holds-at}
+use Rattle.job_run.proofs.WaitingBlocks.{NamedLoop, adds-at, below-all, below-more, below-right, below-skip, holds-at}
 use Rattle.job_run.proofs.blocks.save_named.Goals as goal
 use Rattle.job_run.proofs.blocks.save_named.Goals.{then-number-node+in_ok-save_at, else-number-node}
 

@@ -1,4 +1,3 @@
-use Rattle.job_run.specs.Grouping.{waiting_of}
 use Rattle.job_run.specs.Jobs.{plan_of}
 use Rattle.job_run.proofs.WaitingBlocks.{held-none}
 use Rattle.job_run.proofs.group.make_way.Goals as goal

@@ -1,4 +1,4 @@
-use Rattle.std.proofs.Common.{◌≡◌, ap, sym, subst, ◌∙◌}
+use Rattle.std.proofs.Common.{subst}
 use Rattle.io_edge.proofs.OpeningLaws.{on_err}
 use Rattle.job_run.specs.Grouping.{waiting_of}
 use Rattle.job_run.specs.Jobs.{plan_of}

@@ -1,4 +1,4 @@
-use Rattle.std.proofs.Common.{◌≡◌, ◌+◌, length, ap, ◌∙◌, arith, length-append, ◌∷◌, []}
+use Rattle.std.proofs.Common.{◌+◌, length, ap, ◌∙◌, length-append, ◌∷◌, []}
 use Rattle.saved_files.proofs.RowLemmas.{runs_push}
 use Rattle.saved_files.proofs.rows.all_runs.Goals as goal
 

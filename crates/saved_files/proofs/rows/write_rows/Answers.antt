@@ -1,7 +1,7 @@
-use Rattle.std.proofs.Common.{◌≡◌, ◌<◌, length, ap, ◌∙◌, arith}
+use Rattle.std.proofs.Common.{length, ap, ◌∙◌, arith}
 use Rattle.std.specs.List.{flat_map}
 use Rattle.npy_region.proofs.WriteLemmas.{always_err}
-use Rattle.saved_files.proofs.RowLemmas.{AreRows, file_all, file_more, file_none, file_some, file_stopped, has_row, ready, runs_is}
+use Rattle.saved_files.proofs.RowLemmas.{AreRows, file_all, file_more, file_some, file_stopped, has_row, ready, runs_is}
 use Rattle.saved_files.proofs.rows.write_rows.Goals as goal
 
 pub gather_row-requires-clause-rows : goal.gather_row-requires-clause-rows
