@@ -17,3 +17,4 @@ pub mod SavesList
 pub mod SavingSteps
 pub mod Starting
 pub mod Told
+pub mod WaitingBlocks

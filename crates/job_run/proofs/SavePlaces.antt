@@ -1,11 +1,9 @@
 -- The place of a save among the files, and the layout of its node.
 use Rattle.std.proofs.Common.{◌≡◌, ℕ, ◌<◌, List, length, map, get_or, ap, subst, ◌∙◌, arith}
 use Rattle.std.proofs.lemmas.List.{get_or-map, length-map}
-use Rattle.nd_shape.specs.Block.{Array}
 use Rattle.array_expr.specs.Node.{shape_at, IsExpression}
-use Rattle.chunk_layout.specs.Layouts.{lengths, region}
-use Rattle.lowering_laws.specs.Named.{layout_of, box_of}
-use Rattle.saved_files.specs.Saving.{Saving, saving_at, FillsMore, FillsPart}
+use Rattle.chunk_layout.specs.Layouts.{lengths}
+use Rattle.lowering_laws.specs.Named.{layout_of}
 use Rattle.job_run.specs.declared.job.Job.{Job}
 use Rattle.job_run.specs.declared.job.Save.{Save}
 use Rattle.job_run.specs.Evaluating.{node_at}
@@ -45,12 +43,3 @@ save-place job saves layouts place node save layout runs ex all same lt is e at 
       layout_is = layout-is;
       cut = ap lengths layout-is ∙ layout-cuts job.expr node ex (subst (λ n. n < length job.expr) node-is (runs.saves place here));
     }
-
--- the box of a block of the layout is its node's
-pub place-more : (p : Plan) (place node number : ℕ) (layout : List (List ℕ)) (block : Array) (old new : List Saving) → IsPlace p place node layout
-    → FillsMore (region layout number) block (saving_at old place) (saving_at new place) → FillsMore (box_of p.nodes node number) block (saving_at old place) (saving_at new place)
-place-more p place node number layout block old new at f = subst (λ l. FillsMore (region l number) block (saving_at old place) (saving_at new place)) at.layout_is f
-
-pub place-part : (p : Plan) (place node number : ℕ) (layout : List (List ℕ)) (block : Array) (old new : List Saving) → IsPlace p place node layout
-    → FillsPart (region layout number) block (saving_at old place) (saving_at new place) → FillsPart (box_of p.nodes node number) block (saving_at old place) (saving_at new place)
-place-part p place node number layout block old new at f = subst (λ l. FillsPart (region l number) block (saving_at old place) (saving_at new place)) at.layout_is f

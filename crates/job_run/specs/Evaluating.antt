@@ -1,5 +1,5 @@
 -- Files of a plan while its blocks are made, key by key: what the private functions answer.
-use Rattle.std.specs.Prelude.{◌≡◌, ◌≢◌, ◌⊎◌, ◌≤◌, ◌<◌, ℕ, List, [], ◌∷◌, cond, nat_eq, length, take, slice_index_or, Option, Some, None, Bool, IsTrue, IsSome}
+use Rattle.std.specs.Prelude.{◌≡◌, ◌≤◌, ◌<◌, ℕ, List, [], ◌∷◌, cond, nat_eq, length, take, slice_index_or, Option, Some, None, Bool, IsTrue, IsSome}
 use Rattle.io_edge.specs.Cause.{Rose}
 use Rattle.io_edge.specs.Content.{OnTold, told_bytes}
 use Rattle.io_edge.specs.Given.{GivesMore}
@@ -15,7 +15,7 @@ use Rattle.lowering_laws.specs.Named.{IsName as NamesBlock}
 use Rattle.lowering_laws.specs.Faults.{LawOfFaults}
 use Rattle.lowering_laws.specs.Whole.{LawOfOrder}
 use Rattle.saved_files.specs.Filling.{IsFilling, IsPart, HoldsBox, file_of as bytes_of}
-use Rattle.saved_files.specs.Saving.{Saving, saving_at, IsFresh, IsOf, IsLeft, FillsMore, FillsPart}
+use Rattle.saved_files.specs.Saving.{Saving, saving_at, IsFresh, IsOf, IsLeft}
 use Rattle.job_run.specs.declared.ends.Ended.{Ended}
 use Rattle.job_run.specs.declared.ends.Ended.TheVariants.{Done, Zero, ReadFault, WriteFault, OutOfMemory}
 use Rattle.job_run.specs.declared.blocks.Halt.{Halt}
@@ -84,36 +84,12 @@ boxes_in layout n (Some x ∷ names) = cond (nat_eq x.0 n) (region layout x.1 �
 abbrev pub boxes_made : Plan → ℕ → ℕ → List Box
 boxes_made p keys k = boxes_in (layout_of p.nodes (node_at p k)) (node_at p k) (take keys (lowered p.nodes (nodes_saved p)).names)
 
--- ## A block at its places
-
--- the block under this name was written into the files of its node, and the other files are as they were
-abbrev pub SavesAt : Plan → Option (ℕ × ℕ) → Array → ℕ → Saving → Saving → Type 0
-SavesAt p None block k old new = new ≡ old
-SavesAt p (Some x) block k old new =
-    ((node_at p k ≡ x.0) × FillsMore (box_of p.nodes x.0 x.1) block old new) ⊎ ((node_at p k ≢ x.0) × (new ≡ old))
-
--- the block was written in part into the file of its node
-abbrev pub SavesPart : Plan → Option (ℕ × ℕ) → Array → ℕ → Saving → Saving → Type 0
-SavesPart p None block k old new = ⊥
-SavesPart p (Some x) block k old new = (node_at p k ≡ x.0) × FillsPart (box_of p.nodes x.0 x.1) block old new
-
--- the same where one of these failed
-abbrev pub SavesPartAt : Plan → Option (ℕ × ℕ) → Array → ℕ → Saving → Saving → Type 0
-SavesPartAt p name block k old new = (new ≡ old) ⊎ (SavesAt p name block k old new ⊎ SavesPart p name block k old new)
+-- ## The next key
 
 -- the name is one of the plan's graph, and the block has its lengths
 abbrev pub IsBlockNamed : Plan → Option (ℕ × ℕ) → Array → Type 0
 IsBlockNamed p None block = Unit {0}
 IsBlockNamed p (Some x) block = (key : ℕ) × NamesBlock p.nodes (nodes_saved p) key x.0 x.1 × (block.shape ≡ (box_of p.nodes x.0 x.1).lengths)
-
--- the files before this place took the block, and those from it on are as they were
-pub record SavedBelow (p : Plan) (name : Option (ℕ × ℕ)) (block : Array) (place : ℕ) (old new : List Saving) : Type 0 where
-  pub same : AreSameFiles old new
-  pub below : (k : ℕ) → k < place → k < length old → SavesAt p name block k (saving_at old k) (saving_at new k)
-  pub above : (k : ℕ) → place ≤ k → saving_at new k ≡ saving_at old k
-  pub kept : (k : ℕ) → k < length old → (saving_at new k).faults ≡ (saving_at old k).faults
-
--- ## The next key
 
 -- what the laws of lowering say of a plan, where the inputs hold these elements
 pub record HasLaws (p : Plan) (named : Named) : Type 0 where

@@ -1,5 +1,6 @@
 pub mod Creating
 pub mod Evaluating
+pub mod Grouping
 pub mod Inputs
 pub mod Jobs
 pub mod Loading

@@ -1,21 +1,25 @@
 // The blocks of a job, made key by key, and written where they are saved.
-ghost use Rattle.std.specs.Prelude.{◌≡◌, ◌<◌, ◌+◌, ◌↔◌, ℕ, [], map, length, Some, IfOk, IfErr, OnOk, OnErr, IsErrOf};
+ghost use Rattle.std.specs.Prelude.{◌≡◌, ◌<◌, ◌+◌, ◌↔◌, ℕ, List, [], map, length, Some, IfOk, IfErr, OnOk, OnErr, IsErrOf};
 ghost use Rattle.std.specs.Arc.{arc_value};
-ghost use Rattle.io_edge.specs.Cause.{HasOpenCause};
+ghost use Rattle.array_expr.specs.Node.{shape_at};
 ghost use Rattle.nd_shape.specs.Index.{index_at};
+ghost use Rattle.nd_shape.specs.Region.{Box};
 ghost use Rattle.nd_shape.specs.Shape.{elements};
 ghost use Rattle.chunk_layout.specs.Layouts.{region, lengths, blocks as block_count};
 ghost use Rattle.block_lowering.specs.Jobs.{TellsFeed};
 ghost use Rattle.lowering_laws.specs.Lowered.{lowered};
 ghost use Rattle.lowering_laws.specs.Named.{layout_of, box_of, name_of};
-ghost use Rattle.saved_files.specs.Saving.{ChangesAt, FillsMore, FillsPart, saving_at};
-ghost use Rattle.job_run.specs.Evaluating.{AreOpenFor, AreSameFiles, HasFailed, HasNotFailed, HasLaws, HaltCause, HaltKeeps};
-ghost use Rattle.job_run.specs.Evaluating.{FilesHold, FilesRight, FilesWhole, HoldsNamed, IsBlockNamed, IsZeroOf, SavedBelow, SavesAt, SavesPartAt, boxes_made};
+ghost use Rattle.saved_files.specs.Filling.{HoldsBox};
+ghost use Rattle.saved_files.specs.Saving.{saving_at};
+ghost use Rattle.job_run.specs.Evaluating.{array_at, node_at, AreOpenFor, AreSameFiles, HasFailed, HasNotFailed, HasLaws, HaltCause, HaltKeeps};
+ghost use Rattle.job_run.specs.Evaluating.{FilesHold, FilesRight, FilesWhole, HoldsNamed, IsBlockNamed, IsZeroOf, boxes_made};
+ghost use Rattle.job_run.specs.Grouping.{AddsBox, AddsNamed, FilesHeld, IsGroup, waiting_of};
 ghost use Rattle.job_run.specs.Jobs.{plan_of};
 ghost use Rattle.job_run.specs.Lowering.{HasBlock, counts_made};
 ghost use Rattle.job_run.specs.Plan.{IsRunnable, nodes_saved};
 ghost use Rattle.job_run.specs.Values.{Named, MeetsNone, tasks_of};
 
+use crate::group::{Group, hold_block, write_group};
 use crate::job::Job;
 use array_expr::NodeId;
 use block_lowering::counts::numbers_of;
@@ -55,83 +59,113 @@ pub fn laws_hold(job: &Job)
 
 // ---- a block at its places
 
-// Writes a block into the file of an array with this layout.
+// Has a block wait at the file of the array of a save with this layout.
 fn save_at<S: Site>(
     alloc: Global,
     files: &mut SavedFiles<S>,
+    group: &mut Group,
+    job: &Job,
     place: usize,
     layout: &Layout,
     number: u32,
-    block: &Block,
+    block: &Arc<Block>,
 ) -> Result<(), OpenFault>
-    requires there { place < length files.old }
-    requires dims { (saving_at files.old place).dims ≡ lengths layout.now }
+    requires runs { IsRunnable (plan_of job.now) }
+    requires open { AreOpenFor (plan_of job.now) files.old }
+    requires group { IsGroup (plan_of job.now) (waiting_of group.old) }
+    requires there { place < length (plan_of job.now).saves }
+    requires dims { lengths layout.now ≡ shape_at job.now.expr (node_at (plan_of job.now) place) }
     requires number { number < block_count layout.now }
-    requires shape { block.now.shape ≡ (region layout.now number).lengths }
-    ensures changes { ChangesAt place files.old files.new }
-    ensures filled { OnOk result (FillsMore (region layout.now number) block.now (saving_at files.old place) (saving_at files.new place)) }
-    ensures part { OnErr result (FillsPart (region layout.now number) block.now (saving_at files.old place) (saving_at files.new place)) }
-    ensures kept { OnOk result ((saving_at files.new place).faults ≡ (saving_at files.old place).faults) }
-    ensures cause { HasOpenCause (saving_at files.old place).faults (saving_at files.new place).faults result }
+    requires shape { (arc_value block.now).shape ≡ (region layout.now number).lengths }
+    ensures same { AreSameFiles files.old files.new }
+    ensures group { OnOk result (IsGroup (plan_of job.now) (waiting_of group.new)) }
+    ensures held { OnOk result ((named : Named) (before after : ℕ → List Box) → AddsBox (plan_of job.now) place (region layout.now number) before after
+        → HoldsBox (array_at (plan_of job.now) named place) (region layout.now number) (arc_value block.now)
+        → FilesHeld (plan_of job.now) named before (waiting_of group.old) files.old → FilesHeld (plan_of job.now) named after (waiting_of group.new) files.new) }
+    ensures right { OnErr result ((named : Named) (boxes : ℕ → List Box)
+        → HoldsBox (array_at (plan_of job.now) named place) (region layout.now number) (arc_value block.now)
+        → FilesHeld (plan_of job.now) named boxes (waiting_of group.old) files.old → FilesRight (plan_of job.now) named files.new) }
+    ensures kept { OnOk result ((k : ℕ) → k < length files.old → (saving_at files.new k).faults ≡ (saving_at files.old k).faults) }
+    ensures failed { IsErrOf result OpenFault.Failed → HasFailed files.new }
 {
     let mut region = Region::new();
     layout.block_region(u64::from(number), &mut region);
-    files.write(alloc, place, &region, block)
+    hold_block(alloc, files, group, job, place, region, block)
 }
 
-// Writes a block of a node into the files of its saves.
+// Has a block of a node wait at the files of its saves.
 fn save_named<S: Site>(
     alloc: Global,
     files: &mut SavedFiles<S>,
+    group: &mut Group,
     job: &Job,
     layouts: &[Layout],
     node: u32,
     number: u32,
-    block: &Block,
+    block: &Arc<Block>,
 ) -> Result<(), OpenFault>
     requires runs { IsRunnable (plan_of job.now) }
     requires open { AreOpenFor (plan_of job.now) files.old }
+    requires group { IsGroup (plan_of job.now) (waiting_of group.old) }
     requires layouts { layouts.now ≡ map (layout_of job.now.expr) (nodes_saved (plan_of job.now)) }
     requires number { number < block_count (layout_of job.now.expr node) }
-    requires shape { block.now.shape ≡ (box_of job.now.expr node number).lengths }
+    requires shape { (arc_value block.now).shape ≡ (box_of job.now.expr node number).lengths }
     ensures same { AreSameFiles files.old files.new }
-    ensures saved { OnOk result (SavedBelow (plan_of job.now) (Some (node, number)) block.now (length files.old) files.old files.new) }
-    ensures part { OnErr result ((k : ℕ) → k < length files.old →
-        SavesPartAt (plan_of job.now) (Some (node, number)) block.now k (saving_at files.old k) (saving_at files.new k)) }
+    ensures group { OnOk result (IsGroup (plan_of job.now) (waiting_of group.new)) }
+    ensures held { OnOk result ((named : Named) (before after : ℕ → List Box) → AddsNamed (plan_of job.now) (Some (node, number)) before after
+        → HoldsNamed (plan_of job.now) named (Some (node, number)) (arc_value block.now)
+        → FilesHeld (plan_of job.now) named before (waiting_of group.old) files.old → FilesHeld (plan_of job.now) named after (waiting_of group.new) files.new) }
+    ensures right { OnErr result ((named : Named) (boxes : ℕ → List Box)
+        → HoldsNamed (plan_of job.now) named (Some (node, number)) (arc_value block.now)
+        → FilesHeld (plan_of job.now) named boxes (waiting_of group.old) files.old → FilesRight (plan_of job.now) named files.new) }
+    ensures kept { OnOk result ((k : ℕ) → k < length files.old → (saving_at files.new k).faults ≡ (saving_at files.old k).faults) }
     ensures failed { IsErrOf result OpenFault.Failed → HasFailed files.new }
 {
     let _nodes = job.expr.nodes();
     for (place, save) in job.saves.iter().enumerate() {
         if save.node.number() == node {
-            save_at(alloc, files, place, &layouts[place], number, block)?;
+            save_at(
+                alloc,
+                files,
+                group,
+                job,
+                place,
+                &layouts[place],
+                number,
+                block,
+            )?;
         }
     }
     Ok(())
 }
 
-// Writes a block into the files of the saves of its node, where it is a node's own.
+// Has a block wait at the files of the saves of its node, where it is a node's own.
 fn save_block<S: Site>(
     alloc: Global,
     files: &mut SavedFiles<S>,
+    group: &mut Group,
     job: &Job,
     layouts: &[Layout],
     name: Name,
-    block: &Block,
+    block: &Arc<Block>,
 ) -> Result<(), OpenFault>
     requires runs { IsRunnable (plan_of job.now) }
     requires open { AreOpenFor (plan_of job.now) files.old }
+    requires group { IsGroup (plan_of job.now) (waiting_of group.old) }
     requires layouts { layouts.now ≡ map (layout_of job.now.expr) (nodes_saved (plan_of job.now)) }
-    requires named { IsBlockNamed (plan_of job.now) name block.now }
+    requires named { IsBlockNamed (plan_of job.now) name (arc_value block.now) }
     ensures same { AreSameFiles files.old files.new }
-    ensures saved { OnOk result ((k : ℕ) → k < length files.old →
-        SavesAt (plan_of job.now) name block.now k (saving_at files.old k) (saving_at files.new k)) }
-    ensures part { OnErr result ((k : ℕ) → k < length files.old →
-        SavesPartAt (plan_of job.now) name block.now k (saving_at files.old k) (saving_at files.new k)) }
+    ensures group { OnOk result (IsGroup (plan_of job.now) (waiting_of group.new)) }
+    ensures held { OnOk result ((named : Named) (before after : ℕ → List Box) → AddsNamed (plan_of job.now) name before after
+        → HoldsNamed (plan_of job.now) named name (arc_value block.now)
+        → FilesHeld (plan_of job.now) named before (waiting_of group.old) files.old → FilesHeld (plan_of job.now) named after (waiting_of group.new) files.new) }
+    ensures right { OnErr result ((named : Named) (boxes : ℕ → List Box) → HoldsNamed (plan_of job.now) named name (arc_value block.now)
+        → FilesHeld (plan_of job.now) named boxes (waiting_of group.old) files.old → FilesRight (plan_of job.now) named files.new) }
     ensures kept { OnOk result ((k : ℕ) → k < length files.old → (saving_at files.new k).faults ≡ (saving_at files.old k).faults) }
     ensures failed { IsErrOf result OpenFault.Failed → HasFailed files.new }
 {
     match name {
-        Some((node, number)) => save_named(alloc, files, job, layouts, node, number, block),
+        Some((node, number)) => save_named(alloc, files, group, job, layouts, node, number, block),
         None => Ok(()),
     }
 }
@@ -201,11 +235,12 @@ fn next_block<S: Site, E: Elements + Send + Sync + Drop>(
     }
 }
 
-// Makes the block of the next key and writes it where it is saved.
+// Makes the block of the next key and has it wait where it is saved.
 fn make_block<S: Site, E: Elements + Send + Sync + Drop>(
     alloc: Global,
     evaluation: &mut Evaluation<JobGraph<S::In, E>>,
     files: &mut SavedFiles<S>,
+    group: &mut Group,
     job: &Job,
     name: Name,
     layouts: &[Layout],
@@ -218,17 +253,19 @@ fn make_block<S: Site, E: Elements + Send + Sync + Drop>(
     requires layouts { layouts.now ≡ map (layout_of job.now.expr) (nodes_saved (plan_of job.now)) }
     requires blocks { blocks.now ≡ counts_made job.now.expr }
     requires open { AreOpenFor (plan_of job.now) files.old }
+    requires group { IsGroup (plan_of job.now) (waiting_of group.old) }
     ensures job { evaluation.new.job ≡ evaluation.old.job }
     ensures next { OnOk result (evaluation.new.next ≡ evaluation.old.next + 1) }
     ensures tells { TellsFeed evaluation.old.job.job.heads (S.In.files evaluation.new.feed)
         ↔ TellsFeed evaluation.old.job.job.heads (S.In.files evaluation.old.feed) }
     ensures reads { OnOk result (S.In.count evaluation.new.feed ≡ S.In.count evaluation.old.feed) }
+    ensures group { OnOk result (IsGroup (plan_of job.now) (waiting_of group.new)) }
     ensures same { AreSameFiles files.old files.new }
     ensures holds { OnOk result (TellsFeed evaluation.old.job.job.heads (S.In.files evaluation.old.feed)
-        → FilesHold (plan_of job.now) E.named (boxes_made (plan_of job.now) evaluation.old.next) files.old
-        → FilesHold (plan_of job.now) E.named (boxes_made (plan_of job.now) (evaluation.old.next + 1)) files.new) }
+        → FilesHeld (plan_of job.now) E.named (boxes_made (plan_of job.now) evaluation.old.next) (waiting_of group.old) files.old
+        → FilesHeld (plan_of job.now) E.named (boxes_made (plan_of job.now) (evaluation.old.next + 1)) (waiting_of group.new) files.new) }
     ensures right { OnErr result (TellsFeed evaluation.old.job.job.heads (S.In.files evaluation.old.feed)
-        → FilesHold (plan_of job.now) E.named (boxes_made (plan_of job.now) evaluation.old.next) files.old
+        → FilesHeld (plan_of job.now) E.named (boxes_made (plan_of job.now) evaluation.old.next) (waiting_of group.old) files.old
         → FilesRight (plan_of job.now) E.named files.new) }
     ensures sound { OnOk result (HasNotFailed files.old → HasNotFailed files.new) }
     ensures keeps { IfErr result (λ halt. HasNotFailed files.old → HaltKeeps files.new halt) }
@@ -237,14 +274,14 @@ fn make_block<S: Site, E: Elements + Send + Sync + Drop>(
 {
     laws_hold(job);
     let made = next_block::<S, E>(alloc, evaluation, job, blocks, name)?;
-    match save_block(alloc, files, job, layouts, name, &made) {
+    match save_block(alloc, files, group, job, layouts, name, &made) {
         Ok(()) => Ok(()),
         Err(OpenFault::Failed) => Err(Halt::WriteFault),
         Err(OpenFault::OutOfMemory) => Err(Halt::OutOfMemory),
     }
 }
 
-/// Makes all blocks, in the order of their keys, and writes the saved ones as they come.
+/// Makes all blocks, in the order of their keys, and writes the saved ones as they come, or with those beside them.
 pub fn make_blocks<S: Site, E: Elements + Send + Sync + Drop>(
     alloc: Global,
     evaluation: &mut Evaluation<JobGraph<S::In, E>>,
@@ -277,9 +314,16 @@ pub fn make_blocks<S: Site, E: Elements + Send + Sync + Drop>(
 {
     laws_hold(job);
     filled_is_whole();
+    let mut group = Group::new(alloc);
     for name in names {
-        make_block::<S, E>(alloc, evaluation, files, job, *name, layouts, blocks)?;
+        make_block::<S, E>(
+            alloc, evaluation, files, &mut group, job, *name, layouts, blocks,
+        )?;
     }
     evaluation.sound();
-    Ok(())
+    match write_group(alloc, files, &mut group, job) {
+        Ok(()) => Ok(()),
+        Err(OpenFault::Failed) => Err(Halt::WriteFault),
+        Err(OpenFault::OutOfMemory) => Err(Halt::OutOfMemory),
+    }
 }

@@ -12,6 +12,7 @@ mod check;
 mod create;
 mod ends;
 mod evaluate;
+mod group;
 mod inputs;
 mod job;
 mod lines;

@@ -3,4 +3,5 @@ pub mod FileBytes
 pub mod Filled
 pub mod Given
 pub mod Places
+pub mod RowLemmas
 pub mod Written

@@ -1,6 +1,8 @@
 -- A file into which a block was written.
 use Rattle.std.proofs.Common.{◌≡◌, ℕ, ◌≤◌, ◌<◌, ◌+◌, ◌-◌, ◌*◌, ◌⊎◌, inl, inr, List, [], ◌∷◌, ◌++◌, length, refl, ap, sym, ◌∙◌, subst, arith, length-append}
 use Rattle.std.specs.Prelude.{false, Result, Ok, Err, OnOk, OnErr}
+use Rattle.std.specs.declared.sync.Arc.{Arc}
+use Rattle.std.specs.declared.alloc.Global.{Global}
 use Rattle.std.proofs.lemmas.Bool.{cases_lt}
 use Rattle.std.proofs.lemmas.List.{get_or_append_left, get_or-append_right}
 use Rattle.io_edge.specs.Content.{Content, Told, Untold, size_of}
@@ -14,8 +16,9 @@ use Rattle.npy_codec.specs.declared.head.Head.{Head}
 use Rattle.npy_codec.specs.Npy.{cell_bytes, header}
 use Rattle.npy_codec.specs.Regions.{offset_of}
 use Rattle.npy_region.specs.Writing.{byte_at, IsByteOf, Turns, WritesRegion, WritesSome}
+use Rattle.saved_files.specs.Rows.{block_at, WritesAll, WritesSomeOf}
 use Rattle.saved_files.specs.Filling.{HoldsBox, IsFilling, IsPart, box_of, file_of, spot}
-use Rattle.saved_files.specs.Saving.{FillsMore, FillsPart, Saving}
+use Rattle.saved_files.specs.Saving.{FillsAll, FillsMore, FillsPart, FillsSome, HoldsBoxes, Saving}
 use Rattle.saved_files.proofs.FileBytes.{element_byte, length-file, past_both}
 
 -- the array that a head stands before
@@ -137,6 +140,61 @@ filling_more head a boxes box block before after h holds wrote filling =
       ]) i inside;
     }
 
+-- ## Several blocks
+
+all_mends : (head : Head) (a : Array) (new_boxes : List Box) (blocks : List (Arc Array Global)) (before after : List ℕ) → IsHeadOf head a → HoldsBoxes a new_boxes blocks → WritesSomeOf head new_boxes blocks before after → Mends a before after
+all_mends head a new_boxes blocks before after h holds wrote = record {
+  size = wrote.size;
+  each = λ p p_in. elim (wrote.each p p_in) [
+    | inl same ↦ inl same
+    | inr one ↦ inr (right head a (box_of new_boxes one.number) (block_at blocks one.number) p (byte_at after p) h (holds one.number one.there) one.byte)
+  ];
+}
+
+all_some : (head : Head) (new_boxes : List Box) (blocks : List (Arc Array Global)) (before after : List ℕ) → WritesAll head new_boxes blocks before after → WritesSomeOf head new_boxes blocks before after
+all_some head new_boxes blocks before after wrote = record {
+  size = wrote.size;
+  each = λ p p_in. elim (wrote.each p p_in) [
+    | inl same ↦ inl same.1
+    | inr one ↦ inr one
+  ];
+}
+
+-- each byte of an element in one of the boxes is there
+boxes_there : (head : Head) (a : Array) (new_boxes : List Box) (blocks : List (Arc Array Global)) (before after : List ℕ) (k : ℕ) (i : List ℕ) (j : ℕ) → IsHeadOf head a → HoldsBoxes a new_boxes blocks → WritesAll head new_boxes blocks before after →
+    length before ≡ length (file_of a) → k < length new_boxes → IsIn (box_of new_boxes k).lengths i → j < 8
+    → byte_at after (spot a.shape (moved (box_of new_boxes k).start i) + j) ≡ byte_at (file_of a) (spot a.shape (moved (box_of new_boxes k).start i) + j)
+boxes_there head a new_boxes blocks before after k i j h holds wrote size k_in inside few =
+    let box = box_of new_boxes k in
+    let p = spot a.shape (moved box.start i) + j in
+    elim (cases_lt p (length before)) [
+      | inl low ↦ elim (wrote.each p low) [
+        | inl out ↦ absurd (within (spot a.shape (moved box.start i)) (offset_of head (moved box.start i)) j few (out.0 k k_in i inside) (sym (offset_is head a (moved box.start i) h)))
+        | inr one ↦ right head a (box_of new_boxes one.number) (block_at blocks one.number) p (byte_at after p) h (holds one.number one.there) one.byte
+      ]
+      | inr high ↦ past_both after (file_of a) p (wrote.size ∙ size) (omega (arith, wrote.size, high))
+    ]
+
+old_boxes : (boxes new_boxes : List Box) (k : ℕ) → k < length boxes → box_of boxes k ≡ box_of (boxes ++ new_boxes) k
+old_boxes boxes new_boxes k h = sym (get_or_append_left boxes new_boxes (record { start = []; lengths = [] }) k h)
+
+later_boxes : (boxes new_boxes : List Box) (k : ℕ) → length boxes ≤ k → box_of new_boxes (k - length boxes) ≡ box_of (boxes ++ new_boxes) k
+later_boxes boxes new_boxes k high = sym (get_or-append_right boxes new_boxes (length boxes) k (record { start = []; lengths = [] }) refl high)
+
+pub filling_all : (head : Head) (a : Array) (boxes new_boxes : List Box) (blocks : List (Arc Array Global)) (before after : List ℕ) → IsHeadOf head a → HoldsBoxes a new_boxes blocks → WritesAll head new_boxes blocks before after →
+    IsFilling a boxes before → IsFilling a (boxes ++ new_boxes) after
+filling_all head a boxes new_boxes blocks before after h holds wrote filling =
+    let f = filling_stays a boxes before after (all_mends head a new_boxes blocks before after h holds (all_some head new_boxes blocks before after wrote)) filling in
+    record {
+      part = f.part;
+      header_is = f.header_is;
+      there = λ k i j k_in inside few. (elim (cases_lt k (length boxes)) as (λ s. IsThere a after j (box_of (boxes ++ new_boxes) k)) [
+        | inl low ↦ subst (IsThere a after j) (old_boxes boxes new_boxes k low) (λ i inside. f.there k i j low inside few)
+        | inr high ↦ subst (IsThere a after j) (later_boxes boxes new_boxes k high)
+            (λ i inside. boxes_there head a new_boxes blocks before after (k - length boxes) i j h holds wrote filling.part.size (omega (arith, k_in, high, length-append boxes new_boxes)) inside few)
+      ]) i inside;
+    }
+
 -- ## Contents
 
 turns_weaker : (R Q : List ℕ → List ℕ → Type 0) (c d : Content) → ((x y : List ℕ) → length x ≡ size_of c → R x y → Q x y) → Turns R c d → Turns Q c d
@@ -181,6 +239,19 @@ fills_more head box block old new h t = turns_weaker (WritesRegion head box bloc
 pub fills_part : (head : Head) (box : Box) (block : Array) (old new : Saving) → Heads head old → Turns (WritesSome head box block) old.content new.content → FillsPart box block old new
 fills_part head box block old new h t = turns_weaker (WritesSome head box block) _ old.content new.content (λ before after is_size wrote. λ a boxes shape filling holds.
     filling_stays a boxes before after (some_mends head a box block before after (headed head a old before h shape is_size filling.part.size) holds wrote) filling) t
+
+pub fills_all : (head : Head) (new_boxes : List Box) (blocks : List (Arc Array Global)) (old new : Saving) → Heads head old → Turns (WritesAll head new_boxes blocks) old.content new.content → FillsAll new_boxes blocks old new
+fills_all head new_boxes blocks old new h t = turns_weaker (WritesAll head new_boxes blocks) _ old.content new.content (λ before after is_size wrote. λ a boxes shape filling holds.
+    filling_all head a boxes new_boxes blocks before after (headed head a old before h shape is_size filling.part.size) holds wrote filling) t
+
+pub fills_some : (head : Head) (new_boxes : List Box) (blocks : List (Arc Array Global)) (old new : Saving) → Heads head old → Turns (WritesSomeOf head new_boxes blocks) old.content new.content → FillsSome new_boxes blocks old new
+fills_some head new_boxes blocks old new h t = turns_weaker (WritesSomeOf head new_boxes blocks) _ old.content new.content (λ before after is_size wrote. λ a boxes shape filling holds.
+    filling_stays a boxes before after (all_mends head a new_boxes blocks before after (headed head a old before h shape is_size filling.part.size) holds wrote) filling) t
+
+pub size_kept_all : {T E : Type 0} (r : Result T E) (head : Head) (new_boxes : List Box) (blocks : List (Arc Array Global)) (c d : Content) → OnOk r (Turns (WritesAll head new_boxes blocks) c d) → OnErr r (Turns (WritesSomeOf head new_boxes blocks) c d)
+    → size_of d ≡ size_of c
+size_kept_all (Ok x) head new_boxes blocks c d whole part = turns_size (WritesAll head new_boxes blocks) c d (λ x y w. w.size) whole
+size_kept_all (Err x) head new_boxes blocks c d whole part = turns_size (WritesSomeOf head new_boxes blocks) c d (λ x y w. w.size) part
 
 -- whatever the result, the file keeps its length
 pub size_kept : {T E : Type 0} (r : Result T E) (head : Head) (box : Box) (block : Array) (c d : Content) → OnOk r (Turns (WritesRegion head box block) c d) → OnErr r (Turns (WritesSome head box block) c d) → size_of d ≡ size_of c

@@ -1,3 +1,4 @@
 pub mod Filling
 pub mod Kept
+pub mod Rows
 pub mod Saving

@@ -1,5 +1,7 @@
 -- Files that are being saved: what they hold so far, and what is left of them at a site.
 use Rattle.std.specs.Prelude.{◌≡◌, ◌≢◌, ◌⊎◌, ◌<◌, ℕ, List, [], ◌∷◌, ◌++◌, length, slice_index_or, bytes_eq, false, IfSome, IsSome, IsTrue, Bool}
+use Rattle.std.specs.declared.sync.Arc.{Arc}
+use Rattle.std.specs.declared.alloc.Global.{Global}
 use Rattle.io_edge.specs.Cause.{Rose}
 use Rattle.io_edge.specs.Content.{Content, Untold, OnTold, told_bytes}
 use Rattle.io_edge.specs.View.{Files}
@@ -7,7 +9,8 @@ use Rattle.nd_shape.specs.Block.{Array}
 use Rattle.nd_shape.specs.Shape.{elements}
 use Rattle.nd_shape.specs.Region.{Box}
 use Rattle.npy_region.specs.Writing.{Turns}
-use Rattle.saved_files.specs.Filling.{IsFilling, HoldsBox, IsPart, file_of}
+use Rattle.saved_files.specs.Rows.{block_at}
+use Rattle.saved_files.specs.Filling.{IsFilling, HoldsBox, IsPart, box_of, file_of}
 
 -- an open file: its name, the lengths of its array, what it holds, and how often a call of it has failed
 pub record Saving : Type 0 where
@@ -51,6 +54,20 @@ FillsMore box block old new = Turns (λ before after. (a : Array) (boxes : List 
 abbrev pub FillsPart : Box → Array → Saving → Saving → Type 0
 FillsPart box block old new = Turns (λ before after. (a : Array) (boxes : List Box)
     → a.shape ≡ old.dims → IsFilling a boxes before → HoldsBox a box block → IsFilling a boxes after) old.content new.content
+
+-- each block has the array's elements in its box
+abbrev pub HoldsBoxes : Array → List Box → List (Arc Array Global) → Type 0
+HoldsBoxes a boxes blocks = (k : ℕ) → k < length boxes → HoldsBox a (box_of boxes k) (block_at blocks k)
+
+-- a file before and after blocks of its array were written whole
+abbrev pub FillsAll : List Box → List (Arc Array Global) → Saving → Saving → Type 0
+FillsAll new_boxes blocks old new = Turns (λ before after. (a : Array) (boxes : List Box)
+    → a.shape ≡ old.dims → IsFilling a boxes before → HoldsBoxes a new_boxes blocks → IsFilling a (boxes ++ new_boxes) after) old.content new.content
+
+-- the same where writing them failed
+abbrev pub FillsSome : List Box → List (Arc Array Global) → Saving → Saving → Type 0
+FillsSome new_boxes blocks old new = Turns (λ before after. (a : Array) (boxes : List Box)
+    → a.shape ≡ old.dims → IsFilling a boxes before → HoldsBoxes a new_boxes blocks → IsFilling a boxes after) old.content new.content
 
 -- the file at one place may have changed in what it holds and in its count of faults, and nothing else
 pub record ChangesAt (place : ℕ) (old new : List Saving) : Type 0 where

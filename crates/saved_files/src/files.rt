@@ -3,13 +3,15 @@ ghost use Rattle.std.specs.Prelude.{◌≡◌, ◌<◌, ◌≤◌, ◌+◌, ◌�
 ghost use Rattle.io_edge.specs.Cause.{HasOpenCause};
 ghost use Rattle.io_edge.specs.View.{Creates, OnlyWrites, raised_by, updated};
 ghost use Rattle.nd_shape.specs.Region.{IsPart};
-ghost use Rattle.saved_files.specs.Saving.{ChangesAt, FillsMore, FillsPart, GivesBack, IsFresh, LeavesOne, TakesAll, WereCreated, saving_at};
+ghost use Rattle.saved_files.specs.Rows.{ArePlaced};
+ghost use Rattle.saved_files.specs.Saving.{ChangesAt, FillsAll, FillsMore, FillsPart, FillsSome, GivesBack, IsFresh, LeavesOne, TakesAll, WereCreated, saving_at};
 
-use crate::open::{OpenFile, give_all, open_file, write_block};
+use crate::open::{OpenFile, give_all, open_file, write_block, write_blocks};
 use io_edge::{OpenFault, Site};
 use nd_shape::{Block, Region, Shape};
 use std::alloc::Global;
 use std::marker::Model;
+use std::sync::Arc;
 
 /// Files of a site that are being saved, in the order of their creation. Contracts see of each its name, the lengths of its array,
 /// what it holds so far, and its count of faults.
@@ -104,6 +106,31 @@ impl<S: Site> SavedFiles<S> {
     {
         let opened = &mut self.files[place];
         write_block(alloc, opened, region, block)
+    }
+
+    /// Writes blocks into boxes of the array of the file at a place. Where they stand side by side a row of all of them is
+    /// written at once.
+    ///
+    /// # Errors
+    /// `Failed` only where that file's count of faults rose, and `OutOfMemory` where no memory is left. Some of the blocks'
+    /// bytes are written then.
+    pub fn write_all(
+        &mut self,
+        alloc: Global,
+        place: usize,
+        regions: &[Region],
+        blocks: &[Arc<Block>],
+    ) -> Result<(), OpenFault>
+        requires there { place < length self.old }
+        requires placed { ArePlaced (saving_at self.old place).dims regions.now blocks.now }
+        ensures changes { ChangesAt place self.old self.new }
+        ensures filled { OnOk result (FillsAll regions.now blocks.now (saving_at self.old place) (saving_at self.new place)) }
+        ensures part { OnErr result (FillsSome regions.now blocks.now (saving_at self.old place) (saving_at self.new place)) }
+        ensures kept { OnOk result ((saving_at self.new place).faults ≡ (saving_at self.old place).faults) }
+        ensures cause { HasOpenCause (saving_at self.old place).faults (saving_at self.new place).faults result }
+    {
+        let opened = &mut self.files[place];
+        write_blocks(alloc, opened, regions, blocks)
     }
 
     /// Gives all files back. The count of write faults rises where a file's count is above 0, and only there.

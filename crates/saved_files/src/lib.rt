@@ -8,6 +8,7 @@
 mod files;
 mod laws;
 mod open;
+mod rows;
 
 pub use files::SavedFiles;
 pub use laws::filled_is_whole;

@@ -4,14 +4,17 @@ ghost use Rattle.io_edge.specs.Cause.{HasOpenCause};
 ghost use Rattle.io_edge.specs.View.{Creates, OnlyWrites, raised_by, updated};
 ghost use Rattle.nd_shape.specs.Region.{IsPart};
 ghost use Rattle.npy_codec.specs.Npy.{header};
+ghost use Rattle.saved_files.specs.Rows.{ArePlaced};
 ghost use Rattle.saved_files.specs.Kept.{IsKept, begun_with, saving_of};
-ghost use Rattle.saved_files.specs.Saving.{FillsMore, FillsPart, GivesBack, IsFresh, LeavesOne, TakesAll, WereCreated};
+ghost use Rattle.saved_files.specs.Saving.{FillsAll, FillsMore, FillsPart, FillsSome, GivesBack, IsFresh, LeavesOne, TakesAll, WereCreated};
 
+use crate::rows::write_regions;
 use io_edge::{OpenFault, OutFile, Site, write_full};
 use nd_shape::{Block, Region, Shape};
 use npy_codec::{Head, write_head};
 use npy_region::write_region;
 use std::alloc::Global;
+use std::sync::Arc;
 
 /// A created file, and the head that was written into it.
 #[derive(Drop)]
@@ -105,6 +108,26 @@ pub fn write_block<F: OutFile>(
     ensures cause { HasOpenCause (F.count out.old.file) (F.count out.new.file) result }
 {
     write_region(alloc, &mut out.file, &out.head, region, block)
+}
+
+/// Writes blocks into boxes of the file's array.
+pub fn write_blocks<F: OutFile>(
+    alloc: Global,
+    out: &mut OpenFile<F>,
+    regions: &[Region],
+    blocks: &[Arc<Block>],
+) -> Result<(), OpenFault>
+    requires kept { IsKept F.content out.old }
+    requires placed { ArePlaced out.old.head.shape regions.now blocks.now }
+    ensures still { IsKept F.content out.new }
+    ensures head { out.new.head ≡ out.old.head }
+    ensures named { F.named out.new.file ≡ F.named out.old.file }
+    ensures filled { OnOk result (FillsAll regions.now blocks.now (saving_of F.named F.content F.count out.old) (saving_of F.named F.content F.count out.new)) }
+    ensures part { OnErr result (FillsSome regions.now blocks.now (saving_of F.named F.content F.count out.old) (saving_of F.named F.content F.count out.new)) }
+    ensures faults { OnOk result (F.count out.new.file ≡ F.count out.old.file) }
+    ensures cause { HasOpenCause (F.count out.old.file) (F.count out.new.file) result }
+{
+    write_regions(alloc, &mut out.file, &out.head, regions, blocks)
 }
 
 /// Gives files back, one after another.

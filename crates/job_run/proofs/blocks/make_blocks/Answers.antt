@@ -1,14 +1,17 @@
-use Rattle.std.proofs.Common.{◌≡◌, ◌≤◌, ◌+◌, length, ap, subst, ◌∙◌, rules, arith}
+use Rattle.std.proofs.Common.{◌≡◌, ◌≤◌, ◌+◌, length, ap, refl, subst, ◌∙◌, rules, arith}
 use Rattle.std.proofs.lemmas.Result.{err_from_is_err_and}
 use Rattle.std.specs.Prelude.{List, Option, ℕ}
 use Rattle.io_edge.proofs.OpeningLaws.{on_err}
 use Rattle.block_lowering.specs.Jobs.{TellsFeed}
 use Rattle.lowering_laws.specs.Lowered.{lowered}
-use Rattle.job_run.specs.Evaluating.{FilesHold, boxes_made}
+use Rattle.job_run.specs.Evaluating.{boxes_made}
+use Rattle.job_run.specs.Grouping.{FilesHeld, waiting_of}
 use Rattle.job_run.specs.Jobs.{plan_of}
 use Rattle.job_run.specs.Plan.{nodes_saved}
 use Rattle.job_run.specs.Values.{tasks_of}
 use Rattle.job_run.proofs.FilledFiles.{hold-whole}
+use Rattle.job_run.proofs.SavingSteps.{same-files}
+use Rattle.job_run.proofs.WaitingBlocks.{group-none, held-none}
 use Rattle.job_run.proofs.Halting.{cause-later}
 use Rattle.job_run.proofs.KeyValues.{have-all, meets-none}
 use Rattle.job_run.proofs.blocks.make_blocks.Goals as goal
@@ -39,12 +42,13 @@ loop-name-preserved g c =
       tells = (λ t. c.loop-name.invariant.tells.0 (tells.0 t), λ t. tells.1 (c.loop-name.invariant.tells.1 t));
       reads = c.in_ok-make_block.ensures.reads ∙ c.loop-name.invariant.reads;
       same = search rules;
+      group = c.in_ok-make_block.ensures.group;
       sound = c.in_ok-make_block.ensures.sound c.loop-name.invariant.sound;
       holds = λ t. holds (c.loop-name.invariant.tells.1 t) (c.loop-name.invariant.holds t);
     }
 
-pub returns-clause-values : goal.returns-clause-values
-returns-clause-values g c told =
+pub returns-in-Ok-clause-values : goal.returns-in-Ok-clause-values
+returns-in-Ok-clause-values g c told =
     let p = plan_of c.args.job.now in
     let named = g.E.Elements.named in
     let laws = c.laws_hold.ensures named in
@@ -53,11 +57,24 @@ returns-clause-values g c told =
     let end : length (tasks_of (plan_of c.args.job.now)) ≤ c.loop-name.evaluation.next = omega (arith, laws.names.number, count, c.loop-name-test.false, c.loop-name.invariant.next) in
     meets-none p named laws (have-all p named c.args.evaluation.now.job.job.tasks c.loop-name.evaluation.next c.requires.tasks end (values (c.loop-name.invariant.tells.1 told)))
 
-pub returns-clause-whole : goal.returns-clause-whole
-returns-clause-whole g c told =
+pub returns-in-Ok-clause-whole : goal.returns-in-Ok-clause-whole
+returns-in-Ok-clause-whole g c told =
     let p = plan_of c.args.job.now in
     let named = g.E.Elements.named in
     let count = ap (λ (l : List (Option (ℕ × ℕ))). length l) c.requires.names in
     let all : c.loop-name.name-index ≡ length (lowered c.args.job.now.expr (nodes_saved (plan_of c.args.job.now))).names = omega (arith, count, c.loop-name-test.false, c.loop-name.auto.name-index-end) in
-    hold-whole p named c.loop-name.files c.filled_is_whole.ensures c.requires.runs (c.laws_hold.ensures named)
-    (subst (λ n. FilesHold (plan_of c.args.job.now) g.E.Elements.named (boxes_made (plan_of c.args.job.now) n) c.loop-name.files) all (c.loop-name.invariant.holds told))
+    let held = subst (λ n. FilesHeld (plan_of c.args.job.now) g.E.Elements.named (boxes_made (plan_of c.args.job.now) n) (waiting_of c.loop-name.group) c.loop-name.files) all (c.loop-name.invariant.holds told) in
+    hold-whole p named c.write_group.new.files c.filled_is_whole.ensures c.requires.runs (c.laws_hold.ensures named)
+    (c.in-Ok.ensures.held named (boxes_made p (length (lowered c.args.job.now.expr (nodes_saved (plan_of c.args.job.now))).names)) held)
+
+pub loop-name-init : goal.loop-name-init
+loop-name-init g c = record {
+  job = refl;
+  next = c.requires.first;
+  tells = (λ t. t, λ t. t);
+  reads = refl;
+  same = same-files c.args.files.now;
+  sound = c.requires.sound;
+  group = group-none (plan_of c.args.job.now) (waiting_of c.new-group.result) c.new-group.ensures.regions c.new-group.ensures.blocks;
+  holds = λ t. held-none (plan_of c.args.job.now) g.E.Elements.named (boxes_made (plan_of c.args.job.now) 0) (waiting_of c.new-group.result) c.args.files.now c.new-group.ensures.regions c.requires.fresh;
+}

@@ -1,7 +1,8 @@
 use Rattle.std.proofs.Common.{◌≡◌}
 use Rattle.std.specs.Prelude.{◌↔◌}
 use Rattle.block_lowering.specs.Jobs.{TellsFeed}
-use Rattle.job_run.specs.Evaluating.{AreSameFiles, FilesHold, HasNotFailed, boxes_made}
+use Rattle.job_run.specs.Evaluating.{AreSameFiles, HasNotFailed, boxes_made}
+use Rattle.job_run.specs.Grouping.{FilesHeld, IsGroup, waiting_of}
 use Rattle.job_run.specs.Jobs.{plan_of}
 use Rattle.job_run.proofs.blocks.make_blocks.Given as goal
 
@@ -13,5 +14,6 @@ invariant-loop-name g l = record {
   reads : g.S.In.Store.count l.evaluation.feed ≡ g.S.In.Store.count l.initial.evaluation.feed;
   same : AreSameFiles l.initial.files l.files;
   sound : HasNotFailed l.files;
-  holds : TellsFeed l.initial.evaluation.job.job.heads (g.S.In.Store.files l.initial.evaluation.feed) → FilesHold (plan_of l.job) g.E.Elements.named (boxes_made (plan_of l.job) l.name-index) l.files;
+  group : IsGroup (plan_of l.job) (waiting_of l.group);
+  holds : TellsFeed l.initial.evaluation.job.job.heads (g.S.In.Store.files l.initial.evaluation.feed) → FilesHeld (plan_of l.job) g.E.Elements.named (boxes_made (plan_of l.job) l.name-index) (waiting_of l.group) l.files;
 }
