@@ -13,7 +13,7 @@ use Rattle.nd_shape.specs.Index.{IsIn, index_at}
 use Rattle.nd_shape.proofs.Places.{index_at-in, IsIn-length}
 use Rattle.nd_shape.proofs.Axes.{IsIn-at}
 use Rattle.nd_grid.proofs.Turning.{position-at}
-use Rattle.block_kernels.proofs.Woven.{woven-in, begins-all, among-contains, among-place}
+use Rattle.nd_grid.proofs.Woven.{woven-in, begins-all, among-contains, among-place}
 use Rattle.nd_grid.specs.Int64.{wrap}
 use Rattle.nd_grid.specs.declared.operation.Fold.TheVariants.{Sum}
 use Rattle.nd_grid.specs.declared.operation.Binary.TheVariants.{Mul}

@@ -18,5 +18,4 @@ pub mod Paired
 pub mod Reducing
 pub mod Totals
 pub mod Viewing
-pub mod Woven
 pub mod Products

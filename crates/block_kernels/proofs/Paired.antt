@@ -8,7 +8,7 @@ use Rattle.std.proofs.lemmas.Map.Steps.{length-le_from_distinct_below}
 use Rattle.nd_shape.specs.Shape.{elements, IsShape}
 use Rattle.nd_grid.specs.Grid.{is_among, kept_shape}
 use Rattle.block_kernels.specs.WellFormed.{AreAxes}
-use Rattle.block_kernels.proofs.Woven.{among-contains, equal-from}
+use Rattle.nd_grid.proofs.Woven.{among-contains, equal-from}
 use Rattle.block_kernels.proofs.Reducing.{factor-small}
 
 axes-rest : (n x : ℕ) (xs : List ℕ) → AreAxes (x ∷ xs) n → AreAxes xs n

@@ -13,8 +13,8 @@ ghost use Rattle.block_kernels.specs.Contracting.{contracted_at, contracted_dims
 
 use crate::inputs::input_at;
 use crate::reduce::kept_dims;
-use crate::weaving::index_woven;
 use nd_grid::element_at;
+use nd_grid::operand::index_woven;
 use nd_shape::shape::AXES;
 use nd_shape::{Block, Shape, unravel};
 use std::alloc::{AllocError, Global};

@@ -24,7 +24,6 @@ pub mod slope;
 pub mod source;
 pub mod spec;
 pub mod taking;
-pub mod weaving;
 
 pub use running::run;
 pub use spec::{Operand, Spec};

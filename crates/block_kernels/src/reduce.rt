@@ -3,13 +3,14 @@ ghost use Rattle.std.specs.Prelude.{◌≡◌, ◌+◌, ◌*◌, ◌<◌, ◌≤
 ghost use Rattle.nd_shape.specs.Shape.{elements, IsShape};
 ghost use Rattle.nd_grid.specs.declared.operation.Fold.{Fold};
 ghost use Rattle.nd_grid.specs.Operation.{folded_from, fold_two, neutral};
-ghost use Rattle.nd_grid.specs.Grid.{block_of, is_among, kept_shape, folded_shape};
+ghost use Rattle.nd_grid.specs.Grid.{block_of, kept_shape, folded_shape};
 ghost use Rattle.block_kernels.specs.Inputs.{blocks_of, shapes_of};
 ghost use Rattle.block_kernels.specs.WellFormed.{FitsReduce};
 ghost use Rattle.block_kernels.specs.Reducing.{TakesBlock, TakesRow, TakesRows, AreTotals, line_of, reduced_blocks, reduced_dims};
 ghost use Rattle.block_kernels.specs.Viewing.{IsView, Extends, TakesView};
 
 use crate::inputs::input_at;
+use nd_grid::operand::is_in_list;
 use nd_grid::operation::neutral;
 use nd_grid::plain::reduce;
 use nd_grid::{Fail, Fold};
@@ -80,13 +81,6 @@ impl Folding for Greatest {
     fn two(&self, a: i64, b: i64) -> i64 {
         a.max(b)
     }
-}
-
-// Whether an axis is in a list.
-fn is_in_list(axes: &[u64], axis: u64) -> bool
-    ensures { result ≡ is_among axis axes.now }
-{
-    axes.iter().any(|k| axis == *k)
 }
 
 // One more length, if it is wanted.

@@ -1,16 +1,10 @@
 // Shapes of results.
 ghost use Rattle.std.specs.Prelude.{◌≡◌, ℕ, ◌∷◌, [], ◌++◌, cond, map, slice_index, OnOk, IfOk};
-ghost use Rattle.nd_grid.specs.Grid.{is_among, sliced_shape};
+ghost use Rattle.nd_grid.specs.Grid.{sliced_shape};
 
+use nd_grid::operand::is_in_list;
 use nd_shape::Steps;
 use std::alloc::{AllocError, Global};
-
-// Whether an axis is in a list.
-fn is_in_list(axes: &[u64], axis: u64) -> bool
-    ensures { result ≡ is_among axis axes.now }
-{
-    axes.iter().any(|k| axis == *k)
-}
 
 // One more length, unless its axis is gone.
 fn push_unless(kept: &mut Vec<u64>, gone: bool, len: u64) -> Result<(), AllocError>

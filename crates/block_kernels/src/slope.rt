@@ -1,5 +1,5 @@
 // Parts of arrays whose elements rise by a step.
-ghost use Rattle.std.specs.Prelude.{◌≡◌, ℕ, ◌+◌, ◌<◌, ◌≤◌, ◌^◌, ℤ, pos, ◌+ℤ◌, ◌*ℤ◌, length, get_or, IfOk, IfErr, Ok};
+ghost use Rattle.std.specs.Prelude.{◌≡◌, ℕ, ◌<◌, ◌≤◌, ◌^◌, pos, ◌+ℤ◌, ◌*ℤ◌, length, get_or, IfOk, IfErr, Ok};
 ghost use Rattle.nd_shape.specs.Region.{IsPart};
 ghost use Rattle.nd_grid.specs.Int64.{wrap};
 ghost use Rattle.nd_grid.specs.Grid.{block_of, ramp, part};
@@ -8,23 +8,10 @@ ghost use Rattle.nd_grid.specs.Computed.{FailsAs};
 use crate::rows::{Rows, tabulate_rows};
 use nd_grid::Fail;
 use nd_grid::operand::index_moved;
+use nd_grid::operation::on_slope;
 use nd_shape::shape::AXES;
 use nd_shape::{Block, Region, Shape, ravel, unravel};
 use std::alloc::Global;
-
-fn scaled(step: i64, place: u64) -> i64
-    requires { place < 2 ^ 31 }
-    ensures { result ≡ wrap (step *ℤ pos place) }
-{
-    step.wrapping_mul(place as i64)
-}
-
-fn on_slope(start: i64, step: i64, place: u64) -> i64
-    requires { place < 2 ^ 31 }
-    ensures { result ≡ wrap (start +ℤ (step *ℤ pos place)) }
-{
-    start.wrapping_add(scaled(step, place))
-}
 
 // The value at each place of a row, from its first on.
 fn fill_slope(first: i64, step: i64, out: &mut [i64])

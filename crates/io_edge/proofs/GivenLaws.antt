@@ -1,13 +1,13 @@
 -- Transcripts that grow, and what is known of files that gave them.
-use Rattle.std.proofs.Common.{◌≡◌, ◌≤◌, ◌<◌, ◌+◌, ◌-◌, ℕ, min, List, [], ◌∷◌, ◌++◌, length, take, drop, refl, sym, ◌∙◌, ap, subst, arith, append_assoc}
+use Rattle.std.proofs.Common.{◌≡◌, ◌≤◌, ◌<◌, ◌+◌, ◌-◌, ℕ, zero, suc, min, List, [], ◌∷◌, ◌++◌, length, take, drop, refl, sym, ◌∙◌, ap, subst, arith, append_assoc}
 use Rattle.std.proofs.lemmas.List.{append-nil, get_or_append_left, get_or_at, length_push, length-append, length-take-le, take_min}
 use Rattle.std.specs.Prelude.{slice_index_or}
 use borrow.Rule.Slice.PartMut.{put_mid}
 use Rattle.std.specs.List.{All}
-use Rattle.io_edge.specs.Content.{Reads, ReadsAll, Told}
+use Rattle.io_edge.specs.Content.{ReadsAll, Told}
 use Rattle.io_edge.proofs.Pieces.{read_more}
 use Rattle.io_edge.specs.View.{OnlyReads, View}
-use Rattle.io_edge.specs.Given.{Agree, Gives, GivesMore, IsFrom, OnGiven, Piece, piece_at}
+use Rattle.io_edge.specs.Given.{Agree, Gives, GivesMore, GivesOnly, IsFrom, OnGiven, Piece, piece_at}
 
 module _ {X : Type 0} (P : X → Type 0) where
   pub all_front : (xs ys : List X) → All P (xs ++ ys) → All P xs
@@ -15,6 +15,18 @@ module _ {X : Type 0} (P : X → Type 0) where
 
   pub all_last : (xs : List X) (x : X) → All P (xs ++ x ∷ []) → P x
   all_last xs x all = subst P (get_or_at xs x [] x (length xs) refl) (all (length xs) x (omega (arith, length_push xs x)))
+
+  pub all_both : (xs ys : List X) → All P xs → All P ys → All P (xs ++ ys)
+  all_both [] ys a b = b
+  all_both (x ∷ xs) ys a b = λ k d h. at (all_both xs ys (λ k d h. a (suc k) d (omega arith)) b) k d h
+    where
+      at : All P (xs ++ ys) → (k : ℕ) (d : X) → k < length (x ∷ (xs ++ ys)) → P (slice_index_or (x ∷ (xs ++ ys)) k d)
+      at rest zero d h = a zero d (omega arith)
+      at rest (suc k) d h = rest k d (omega arith)
+
+  pub all_one : (x : X) → P x → All P (x ∷ [])
+  all_one x p zero d h = p
+  all_one x p (suc k) d h = absurd (omega arith)
 
 -- ## Transcripts that grow
 
@@ -42,6 +54,28 @@ gives_more old new P g = record { more = g.more; is = g.is }
 -- what follows is known too
 pub given_as : (old new : List Piece) (P Q : (List ℕ → List ℕ) → Type 0) → ((holds : List ℕ → List ℕ) → P holds → Q holds) → Gives old new P → Gives old new Q
 given_as old new P Q f g = record { more = g.more; is = g.is; holds = λ holds agree. f holds (g.holds holds agree) }
+
+-- ## Which offsets were read
+
+pub only_none : (P : ℕ → Type 0) (old new : List Piece) → new ≡ old → GivesOnly P old new
+only_none P old new e = record { more = []; is = e ∙ sym (append-nil old); each = λ k d h. absurd (omega arith) }
+
+pub only_one : (P : ℕ → Type 0) (old new : List Piece) (names : List (List ℕ)) (place size offset : ℕ) (bytes : List ℕ) → new ≡ old ++ piece_at names place size offset bytes ∷ [] → ((q : ℕ) → offset ≤ q → q < offset + length bytes → P q) → GivesOnly P old new
+only_one P old new names place size offset bytes e f = record {
+  more = piece_at names place size offset bytes ∷ [];
+  is = e;
+  each = all_one (λ (p : Piece). (q : ℕ) → p.2 ≤ q → q < p.2 + length p.3 → P q) (piece_at names place size offset bytes) f;
+}
+
+pub only_then : (P : ℕ → Type 0) (old mid new : List Piece) → GivesOnly P old mid → GivesOnly P mid new → GivesOnly P old new
+only_then P old mid new a b = record {
+  more = a.more ++ b.more;
+  is = b.is ∙ (ap (λ x. x ++ b.more) a.is ∙ append_assoc old a.more b.more);
+  each = all_both (λ (p : Piece). (q : ℕ) → p.2 ≤ q → q < p.2 + length p.3 → P q) a.more b.more a.each b.each;
+}
+
+pub only_as : (P Q : ℕ → Type 0) (old new : List Piece) → ((q : ℕ) → P q → Q q) → GivesOnly P old new → GivesOnly Q old new
+only_as P Q old new f a = record { more = a.more; is = a.is; each = λ k d h q low high. f q (a.each k d h q low high) }
 
 -- ## One more piece
 

@@ -1,5 +1,5 @@
 -- What reads gave: a transcript of stores and of a site, told or not.
-use Rattle.std.specs.Prelude.{◌≡◌, ℕ, List, [], ◌∷◌, ◌++◌, length, take, drop, slice_index, slice_index_or}
+use Rattle.std.specs.Prelude.{◌≡◌, ℕ, List, [], ◌∷◌, ◌++◌, ◌+◌, ◌<◌, ◌≤◌, length, take, drop, slice_index, slice_index_or}
 use Rattle.std.specs.List.{All}
 
 -- what one call gave: the name of its file, the file's length, an offset, and the bytes from there on
@@ -45,3 +45,13 @@ pub record Gives (old new : List Piece) (P : (List ℕ → List ℕ) → Type 0)
   pub more : List Piece
   pub is : new ≡ old ++ more
   pub holds : OnGiven more P
+
+-- further pieces were given, and this is true of each offset at which one has a byte
+pub record GivesOnly (P : ℕ → Type 0) (old new : List Piece) : Type 0 where
+  pub more : List Piece
+  pub is : new ≡ old ++ more
+  pub each : All (λ (p : Piece). (q : ℕ) → p.2 ≤ q → q < p.2 + length p.3 → P q) more
+
+-- one of so many offsets from one on
+abbrev pub IsWithin : ℕ → ℕ → ℕ → Type 0
+IsWithin offset count q = (offset ≤ q) × (q < offset + count)

@@ -1,5 +1,5 @@
 -- The algebra of folds: their operation is associative and commutative, so folds of lists can be taken apart and exchanged.
-use Rattle.std.proofs.Common.{◌≡◌, ℕ, zero, suc, ◌*◌, List, [], ◌∷◌, ◌++◌, map, refl, ap, sym, ◌∙◌, arith, Some, None, ℤ, pos, negsuc, ◌+ℤ◌, ◌*ℤ◌, w64, rules}
+use Rattle.std.proofs.Common.{◌≡◌, ℕ, zero, suc, List, [], ◌∷◌, ◌++◌, map, refl, ap, sym, ◌∙◌, arith, Some, None, ℤ, pos, negsuc, ◌+ℤ◌, ◌*ℤ◌, w64, rules}
 use Rattle.std.specs.Prelude.{Option}
 use Rattle.std.specs.Int.{int_min, int_max}
 use Rattle.std.proofs.lemmas.Int.{ints, int_wrap_fits, int_wrap-add_left, int_wrap-add_right, int_wrap-mul_left, int_wrap-mul_right}

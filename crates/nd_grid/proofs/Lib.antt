@@ -7,3 +7,4 @@ pub mod Turning
 pub mod Merging
 pub mod Folding
 pub mod FoldAlgebra
+pub mod Woven

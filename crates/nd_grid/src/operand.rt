@@ -1,10 +1,10 @@
-// Indexes of operands behind indexes of slices, transposes and parts.
+// Indexes of operands behind indexes of slices, transposes, parts, reductions and products.
 ghost use Rattle.std.specs.Prelude.{◌≡◌, ◌+◌, ◌<◌, ◌≤◌, ◌^◌, ℕ, false, true, length, All, cond, nat_eq, pos, ◌≤ℤ◌, slice_index, map};
 ghost use Rattle.std.specs.List.{position_or_len, range_with_len};
 ghost use Rattle.nd_shape.specs.Index.{IsIn};
 ghost use Rattle.nd_shape.specs.Slice.{position, coordinate};
 ghost use Rattle.nd_shape.specs.Region.{moved};
-ghost use Rattle.nd_grid.specs.Grid.{is_among, sliced_shape, sliced_from, SlicesFit, turned, IsTranspose, kept_shape, folded_shape, merged};
+ghost use Rattle.nd_grid.specs.Grid.{is_among, sliced_shape, sliced_from, SlicesFit, turned, IsTranspose, kept_shape, folded_shape, merged, woven};
 
 use nd_shape::Steps;
 
@@ -22,8 +22,8 @@ pub fn coordinate_of(steps: Steps, i: u64) -> u64
     }
 }
 
-// Whether an axis is in a list.
-fn is_in_list(axes: &[u64], axis: u64) -> bool
+/// Whether an axis is in a list. No memory.
+pub fn is_in_list(axes: &[u64], axis: u64) -> bool
     ensures { result ≡ is_among axis axes.now }
 {
     axes.iter().any(|k| axis == *k)
@@ -42,7 +42,8 @@ fn coordinate_or_start(steps: Steps, gone: bool, index: &[u64], used: usize) -> 
     }
 }
 
-fn next_used(gone: bool, used: usize) -> usize
+/// How many coordinates are used after an axis: one more, unless the axis is gone. No memory.
+pub fn next_used(gone: bool, used: usize) -> usize
     requires { used < 2 ^ 63 }
     ensures { result ≡ cond gone used (used + 1) }
 {
@@ -135,5 +136,23 @@ pub fn index_merged(axes: &[u64], dims: &[u64], kept: &[u64], folded: &[u64], ow
         own[axis] = one_of(gone, folded, spent, kept, used);
         used = next_used(gone, used);
         spent = next_spent(gone, spent);
+    }
+}
+
+/// Writes the index whose coordinates on the listed axes are those of `rest`, in the order of the list, and whose others
+/// are those of `kept`, in order. No memory.
+pub fn index_woven(axes: &[u64], dims: &[u64], kept: &[u64], rest: &[u64], own: &mut [u64])
+    requires few { length dims.now ≤ 8 }
+    requires kept { length (kept_shape 0 dims.now axes.now) ≤ length kept.now }
+    requires rest { length rest.now ≡ length axes.now }
+    requires room { length own.old ≡ length dims.now }
+    ensures { own.new ≡ woven 0 dims.now axes.now kept.now rest.now }
+{
+    let mut used = 0;
+    for axis in 0..dims.len() {
+        let paired = is_in_list(axes, axis as u64);
+        let place = place_in_list(axes, axis as u64);
+        own[axis] = one_of(paired, rest, place, kept, used);
+        used = next_used(paired, used);
     }
 }

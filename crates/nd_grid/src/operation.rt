@@ -1,5 +1,6 @@
 // Operations on elements. They wrap modulo 2^64.
-ghost use Rattle.std.specs.Prelude.{◌≡◌, Some};
+ghost use Rattle.std.specs.Prelude.{◌≡◌, ◌<◌, ◌^◌, pos, ◌+ℤ◌, ◌*ℤ◌, Some};
+ghost use Rattle.nd_grid.specs.Int64.{wrap};
 ghost use Rattle.nd_grid.specs.Operation.{apply, combine, pick, pick_all, negated_element, neutral, fold_two};
 
 use crate::int64::{floor_divide, floor_remainder};
@@ -103,4 +104,19 @@ pub fn fold_two(fold: Fold, a: i64, b: i64) -> i64
         Fold::Min => a.min(b),
         Fold::Max => a.max(b),
     }
+}
+
+fn scaled(step: i64, place: u64) -> i64
+    requires { place < 2 ^ 31 }
+    ensures { result ≡ wrap (step *ℤ pos place) }
+{
+    step.wrapping_mul(place as i64)
+}
+
+/// The element of a ramp at a place: `start + step * place`. No memory.
+pub fn on_slope(start: i64, step: i64, place: u64) -> i64
+    requires { place < 2 ^ 31 }
+    ensures { result ≡ wrap (start +ℤ (step *ℤ pos place)) }
+{
+    start.wrapping_add(scaled(step, place))
 }

@@ -1,17 +1,16 @@
 // Operations on blocks, one element after another by the operation's formula.
-ghost use Rattle.std.specs.Prelude.{◌≡◌, ◌<◌, ◌≤◌, ◌^◌, [], ◌∷◌, length, map, slice_index, pos, ◌+ℤ◌, ◌*ℤ◌, IfOk, IfErr, Ok, Some};
+ghost use Rattle.std.specs.Prelude.{◌≡◌, ◌<◌, ◌≤◌, ◌^◌, [], ◌∷◌, length, map, slice_index, IfOk, IfErr, Ok, Some};
 ghost use Rattle.nd_shape.specs.Broadcast.{broadcast, Agree};
 ghost use Rattle.nd_shape.specs.Shape.{elements};
 ghost use Rattle.nd_shape.specs.Index.{IsIn, index_at};
 ghost use Rattle.nd_shape.specs.Region.{IsPart};
 ghost use Rattle.nd_grid.specs.Grid.{grid_of, block_of, elementwise, chosen, negated, sliced, sliced_shape, SlicesFit, transposed, IsTranspose, ramp, part, reduced, kept_shape, folded_shape, merged};
-ghost use Rattle.nd_grid.specs.Int64.{wrap};
 ghost use Rattle.nd_grid.specs.Computed.{FailsAs};
 
 use crate::element::{dims_of, element_at, element_under};
 use crate::formula::{Fail, Formula, tabulate};
 use crate::operand::{index_merged, index_moved, index_sliced, index_transposed};
-use crate::operation::{Binary, Fold, apply, fold_two, negate_element, neutral, pick};
+use crate::operation::{Binary, Fold, apply, fold_two, negate_element, neutral, on_slope, pick};
 use nd_shape::shape::AXES;
 use nd_shape::{Block, Region, Shape, Steps, ravel, unravel};
 use std::alloc::Global;
@@ -150,20 +149,6 @@ impl<'a> Formula for Slope<'a> {
         let place = ravel(self.shape, own);
         Some(on_slope(self.start, self.step, place))
     }
-}
-
-fn scaled(step: i64, place: u64) -> i64
-    requires { place < 2 ^ 31 }
-    ensures { result ≡ wrap (step *ℤ pos place) }
-{
-    step.wrapping_mul(place as i64)
-}
-
-fn on_slope(start: i64, step: i64, place: u64) -> i64
-    requires { place < 2 ^ 31 }
-    ensures { result ≡ wrap (start +ℤ (step *ℤ pos place)) }
-{
-    start.wrapping_add(scaled(step, place))
 }
 
 #[derive(Clone, Copy)]

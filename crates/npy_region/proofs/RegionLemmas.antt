@@ -1,7 +1,7 @@
 -- Elements of a region, as they are read row by row and as a block.
-use Rattle.std.proofs.Common.{◌≡◌, ℕ, ℤ, pos, zero, suc, ◌≤◌, ◌<◌, ◌+◌, ◌-◌, ◌*◌, ◌/◌, inl, inr, List, [], ◌∷◌, ◌++◌, length, take, drop, get_or, refl, ap, ap₂, sym, ◌∙◌, arith, subst, length-append}
+use Rattle.std.proofs.Common.{◌≡◌, ℕ, ℤ, pos, zero, suc, ◌≤◌, ◌<◌, ◌+◌, ◌-◌, ◌*◌, ◌/◌, ◌%◌, inl, inr, List, [], ◌∷◌, ◌++◌, length, take, drop, get_or, refl, ap, ap₂, sym, ◌∙◌, arith, subst, length-append}
 use Rattle.std.specs.Prelude.{Bool, true, false}
-use Rattle.std.proofs.lemmas.Nat.{div-mul-add}
+use Rattle.std.proofs.lemmas.Nat.{div-mul-add, div-add-mod', div_below, mod_below}
 use Rattle.std.proofs.lemmas.List.{length-drop, length-take-le, drop-drop, drop-take, get_or_append_left, get_or-append_right}
 use Rattle.io_edge.specs.Content.{Content, Told, Untold, OnTold, size_of}
 use Rattle.nd_shape.specs.Shape.{elements}
@@ -10,11 +10,13 @@ use Rattle.nd_shape.specs.Block.{Array}
 use Rattle.nd_shape.specs.Region.{Box, IsPart, moved}
 use Rattle.nd_shape.proofs.Places.{place-below, index_at-place}
 use Rattle.nd_rows.specs.Storage.{Walk, IsRow, spot, count_of, walk_of, place_by, column_place, from_column, last_index}
-use Rattle.nd_rows.proofs.Order.{count-walk_of, IsPart-walk_of, spot-place_by, spot-last, spot-ascends}
+use Rattle.nd_rows.proofs.Order.{count-walk_of, IsPart-walk_of, spot-place_by, spot-last, spot-ascends, index_of}
 use Rattle.nd_rows.proofs.Turns.{column_place-below, split}
 use Rattle.npy_codec.specs.declared.head.Head.{Head}
 use Rattle.npy_codec.specs.Npy.{cell, cells}
-use Rattle.npy_region.specs.Cells.{cell_at, AreStored, EndsWithin, InRowMajor}
+use Rattle.io_edge.specs.Given.{GivesOnly, IsWithin, Piece, with_read}
+use Rattle.io_edge.proofs.GivenLaws.{only_one, only_then, only_as}
+use Rattle.npy_region.specs.Cells.{cell_at, AreStored, EndsWithin, InRowMajor, IsStoredByte, IsByteIn}
 use Rattle.npy_codec.specs.Regions.{HoldsRegion, needed, bytes_up_to}
 use Rattle.npy_region.proofs.CellLemmas.{length-cells, cells-get}
 
@@ -238,3 +240,47 @@ pub told_empty : (file : Content) (head : Head) (region : Box) (walk : Walk) (bl
 told_empty (Untold size) head region walk block is_walk is_shape none count = tt
 told_empty (Told bytes) head region walk block is_walk is_shape none count =
     empty_block bytes head region block is_shape none (sym (count-walk_of head.fortran head.shape region) ∙ ap count_of (sym is_walk) ∙ count)
+
+-- ---- which bytes are read
+
+-- a byte of a row is one of its elements
+pub row_byte : (data_at offset row k p : ℕ) (walk : Walk) (h : IsRow walk row) → k < h.rows → offset ≡ data_at + 8 * spot walk (k * row) → IsWithin offset (8 * row) p → IsStoredByte walk data_at p
+row_byte data_at offset row k p walk h k_in at inside =
+    let low : offset ≤ p = inside.0 in
+    let far : p - offset < row * 8 = omega (arith, inside.1) in
+    let r_in : (p - offset) / 8 < row = div_below (p - offset) 8 row (omega arith) far in
+    let rest : (p - offset) % 8 < 8 = mod_below (p - offset) 8 (omega arith) in
+    let split : (p - offset) / 8 * 8 + (p - offset) % 8 ≡ p - offset = div-add-mod' (p - offset) 8 in
+    let s : spot walk (k * row + (p - offset) / 8) ≡ spot walk (k * row) + (p - offset) / 8 = h.together k ((p - offset) / 8) k_in r_in in
+    let w : count_of walk ≡ h.rows * row = h.whole in
+    let there : k * row + (p - offset) / 8 < h.rows * row = row_inside k h.rows row ((p - offset) / 8) k_in r_in in
+    record {
+      number = k * row + (p - offset) / 8;
+      there = omega (arith, w, there);
+      low = omega (arith, s, at, split, low);
+      high = omega (arith, s, at, split, rest, low);
+    }
+  where
+    row_inside : (k rows row j : ℕ) → k < rows → j < row → k * row + j < rows * row
+    row_inside k zero row j h b = absurd (omega arith)
+    row_inside zero (suc rows) row j h b = omega arith
+    row_inside (suc k) (suc rows) row j h b = let n = row_inside k rows row j (omega arith) b in omega (arith, n)
+
+-- a byte of a walk's element is one of the region
+pub walk_byte : (head : Head) (region : Box) (walk : Walk) (p : ℕ) → IsPart region head.shape → walk ≡ walk_of head.fortran head.shape region → IsStoredByte walk head.data_at p → IsByteIn head region p
+walk_byte head region walk p part is_walk b =
+    let w : IsStoredByte (walk_of head.fortran head.shape region) head.data_at p = subst (λ (v : Walk). IsStoredByte v head.data_at p) is_walk b in
+    let i = index_of head.fortran region.lengths w.number (subst (λ n. w.number < n) (count-walk_of head.fortran head.shape region) w.there) in
+    let e : spot (walk_of head.fortran head.shape region) w.number ≡ place_by head.fortran head.shape (moved region.start i.index) =
+    ap (spot (walk_of head.fortran head.shape region)) (sym i.number) ∙ spot-place_by head.fortran head.shape region i.index part i.inside in
+    record { index = i.index; inside = i.inside; low = omega (arith, e, w.low); high = omega (arith, e, w.high) }
+
+-- the length of a file is no byte of it
+pub length_only : (head : Head) (region : Box) (old new : List Piece) (names : List (List ℕ)) (place size : ℕ) → new ≡ with_read old names place size 0 [] → GivesOnly (IsByteIn head region) old new
+length_only head region old new names place size e = only_one (IsByteIn head region) old new names place size 0 [] e (λ q low high. absurd (omega (arith, high)))
+
+pub walk_only : (head : Head) (region : Box) (walk : Walk) (old mid new : List Piece) (names : List (List ℕ)) (place size : ℕ) → IsPart region head.shape → walk ≡ walk_of head.fortran head.shape region → mid ≡ with_read old names place size 0 [] →
+    GivesOnly (IsStoredByte walk head.data_at) mid new → GivesOnly (IsByteIn head region) old new
+walk_only head region walk old mid new names place size part is_walk e g =
+    only_then (IsByteIn head region) old mid new (length_only head region old mid names place size e)
+    (only_as (IsStoredByte walk head.data_at) (IsByteIn head region) mid new (λ p h. walk_byte head region walk p part is_walk h) g)

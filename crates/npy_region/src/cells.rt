@@ -2,6 +2,7 @@
 ghost use Rattle.std.specs.Prelude.{◌≡◌, ◌≤◌, ◌<◌, ◌+◌, ◌*◌, ◌^◌, ◌++◌, length, take, drop, IfErr, OnOk, IsErrOf};
 ghost use Rattle.io_edge.specs.Cause.{Rose};
 ghost use Rattle.io_edge.specs.Content.{size_of, file_at, OnTold};
+ghost use Rattle.io_edge.specs.Given.{GivesOnly, IsWithin};
 ghost use Rattle.npy_codec.specs.Fronts.{IsFaultOrMemory};
 ghost use Rattle.npy_codec.specs.Npy.{cell, cells};
 
@@ -44,6 +45,7 @@ pub(crate) fn read_cells<S: Store>(
     requires fits { offset + 8 * count < 2 ^ 64 }
     requires buffer { 8 ≤ length buffer.old }
     ensures same { S.files store.new ≡ S.files store.old }
+    ensures only { GivesOnly (IsWithin offset (8 * count)) (S.gave store.old) (S.gave store.new) }
     ensures later { S.count store.old ≤ S.count store.new }
     ensures kept { OnOk result (S.count store.new ≡ S.count store.old) }
     ensures cells { OnOk result (OnTold (file_at (S.files store.old) file) (λ bytes. out.new.items ≡ out.old.items ++ cells (take (8 * count) (drop offset bytes)))) }

@@ -2,10 +2,11 @@
 ghost use Rattle.std.specs.Prelude.{◌≡◌, ◌≤◌, ◌<◌, ◌+◌, ◌-◌, ◌*◌, ◌^◌, [], ℕ, length, IfOk, IfErr, OnOk, IsErrOf};
 ghost use Rattle.io_edge.specs.Cause.{Rose};
 ghost use Rattle.io_edge.specs.Content.{size_of, file_at, OnTold};
+ghost use Rattle.io_edge.specs.Given.{GivesOnly};
 ghost use Rattle.nd_shape.specs.Region.{IsPart};
 ghost use Rattle.nd_shape.specs.Shape.{elements};
 ghost use Rattle.nd_rows.specs.Storage.{count_of, spot, walk_of};
-ghost use Rattle.npy_region.specs.Cells.{AreStored, EndsWithin, InRowMajor};
+ghost use Rattle.npy_region.specs.Cells.{AreStored, EndsWithin, InRowMajor, IsStoredByte, IsByteIn};
 ghost use Rattle.npy_codec.specs.Fronts.{IsFaultOrMemory};
 ghost use Rattle.npy_codec.specs.Regions.{HoldsRegion, RegionRefusedAs, needed};
 
@@ -53,6 +54,7 @@ fn read_rows<S: Store>(
     requires buffer { 8 ≤ length buffer.old }
     requires none { cells.old.items ≡ [] }
     ensures same { S.files store.new ≡ S.files store.old }
+    ensures only { GivesOnly (IsStoredByte walk.old data_at) (S.gave store.old) (S.gave store.new) }
     ensures walk { walk.new ≡ walk.old }
     ensures later { S.count store.old ≤ S.count store.new }
     ensures kept { OnOk result (S.count store.new ≡ S.count store.old) }
@@ -83,6 +85,7 @@ fn read_stored<S: Store>(
     requires some { 0 < count_of walk.old }
     requires room { EndsWithin walk.old data_at (size_of (file_at (S.files store.old) file)) }
     ensures same { S.files store.new ≡ S.files store.old }
+    ensures only { GivesOnly (IsStoredByte walk.old data_at) (S.gave store.old) (S.gave store.new) }
     ensures walk { walk.new ≡ walk.old }
     ensures later { S.count store.old ≤ S.count store.new }
     ensures kept { OnOk result (S.count store.new ≡ S.count store.old) }
@@ -130,6 +133,7 @@ fn read_walk<S: Store>(
     requires near { head.now.data_at ≤ 2 ^ 21 }
     requires walk { walk.old ≡ walk_of head.now.fortran head.now.shape region.now }
     ensures same { S.files store.new ≡ S.files store.old }
+    ensures only { GivesOnly (IsByteIn head.now region.now) (S.gave store.old) (S.gave store.new) }
     ensures later { S.count store.old ≤ S.count store.new }
     ensures kept { OnOk result (S.count store.new ≡ S.count store.old) }
     ensures shape { IfOk result (λ block. block.shape ≡ region.now.lengths) }
@@ -159,7 +163,8 @@ fn read_walk<S: Store>(
 /// Reads a region of a file's array into a block, in row-major order, whichever order the file has. It is refused as
 /// `Truncated` exactly where the region's last run ends past the file; the two counts are of data bytes.
 ///
-/// Where the store doesn't tell what the file holds, nothing is said of the elements.
+/// Where the store doesn't tell what the file holds, nothing is said of the elements. Whatever comes of it, the bytes that
+/// the store gives stand at offsets of the region's elements.
 pub fn read_region<S: Store>(
     alloc: Global,
     store: &mut S,
@@ -171,6 +176,7 @@ pub fn read_region<S: Store>(
     requires part { IsPart region.now head.now.shape }
     requires near { head.now.data_at ≤ 2 ^ 21 }
     ensures same { S.files store.new ≡ S.files store.old }
+    ensures only { GivesOnly (IsByteIn head.now region.now) (S.gave store.old) (S.gave store.new) }
     ensures later { S.count store.old ≤ S.count store.new }
     ensures kept { OnOk result (S.count store.new ≡ S.count store.old) }
     ensures shape { IfOk result (λ block. block.shape ≡ region.now.lengths) }

@@ -1,5 +1,6 @@
-use Rattle.std.proofs.Common.{◌≡◌, ◌≤◌, ◌+◌, ◌-◌, length}
+use Rattle.std.proofs.Common.{◌≡◌, ◌≤◌, ◌+◌, ◌-◌, ◌*◌, length}
 use Rattle.io_edge.specs.Content.{file_at}
+use Rattle.io_edge.specs.Given.{GivesOnly, IsWithin}
 use Rattle.npy_region.proofs.CellLemmas.{ReadTo}
 use Rattle.npy_region.proofs.cells.read_cells.Given as goal
 
@@ -7,6 +8,7 @@ abbrev pub invariant-loop-done : goal.invariant-loop-done
 invariant-loop-done g l = record {
   within : l.done ≤ l.count;
   same : g.S.Store.files l.store ≡ g.S.Store.files l.fn.store;
+  only : GivesOnly (IsWithin l.offset (8 * l.count)) (g.S.Store.gave l.fn.store) (g.S.Store.gave l.store);
   kept : g.S.Store.count l.store ≡ g.S.Store.count l.fn.store;
   read : ReadTo (file_at (g.S.Store.files l.fn.store) l.file) l.offset l.done l.initial.out.items l.out.items;
   size : length l.out.items ≡ length l.initial.out.items + l.done;

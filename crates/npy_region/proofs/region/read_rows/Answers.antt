@@ -1,8 +1,11 @@
 use Rattle.std.proofs.Common.{◌≡◌, ◌<◌, ◌+◌, ◌*◌, ◌/◌, [], List, ℕ, length, arith, ap, sym, subst, ◌∙◌, refl}
 use Rattle.io_edge.specs.Content.{Content, file_at, size_of}
+use Rattle.io_edge.specs.Given.{IsWithin}
+use Rattle.io_edge.proofs.GivenLaws.{only_none, only_then, only_as}
 use Rattle.nd_rows.specs.Storage.{Walk, count_of, spot}
+use Rattle.npy_region.specs.Cells.{IsStoredByte}
 use Rattle.nd_rows.proofs.Spots.{row_fits}
-use Rattle.npy_region.proofs.RegionLemmas.{row_starts, row_room, row_more, row_read, rows_are, rows_end, first_stored, StoredTo}
+use Rattle.npy_region.proofs.RegionLemmas.{row_starts, row_room, row_more, row_read, rows_are, rows_end, first_stored, row_byte, StoredTo}
 use Rattle.npy_region.proofs.region.read_rows.Goals as goal
 
 pub loop-k-init : goal.loop-k-init
@@ -10,6 +13,7 @@ loop-k-init g c =
     let none : c.args.cells.now.items ≡ [] = c.requires.none in
     record {
       same = refl;
+      only = only_none (IsStoredByte c.args.walk.now c.args.data_at) _ _ refl;
       kept = refl;
       walk = refl;
       cells = first_stored (file_at (g.S.Store.files c.args.store.now) c.args.file) c.args.data_at c.row_len-row.result c.args.walk.now c.args.cells.now.items none;
@@ -50,6 +54,8 @@ loop-k-preserved g c =
     (ap (λ (fs : List Content). file_at fs c.args.file) c.loop-k.invariant.same) at c.in_ok-read_cells.ensures.cells in
     record {
       same = c.read_cells.ensures.same ∙ c.loop-k.invariant.same;
+      only = only_then (IsStoredByte walk c.args.data_at) _ _ _ c.loop-k.invariant.only
+          (only_as (IsWithin (c.args.data_at + 8 * c.place.result) (8 * row)) (IsStoredByte walk c.args.data_at) _ _ (λ p h. row_byte c.args.data_at (c.args.data_at + 8 * c.place.result) row k p walk c.row_len-row.ensures k_in at h) c.read_cells.ensures.only);
       kept = c.in_ok-read_cells.ensures.kept ∙ c.loop-k.invariant.kept;
       walk = c.place.ensures.same ∙ c.loop-k.invariant.walk;
       cells = row_more file c.args.data_at row k walk c.loop-k.cells.items c.read_cells.new.out.items c.row_len-row.ensures k_in room c.loop-k.invariant.cells more;
@@ -66,3 +72,16 @@ pub returns-clause-size : goal.returns-clause-size
 returns-clause-size g c =
     let last : c.loop-k.k ≡ c.len-count.result / c.row_len-row.result = omega arith in
     c.loop-k.invariant.size ∙ rows_end c.args.walk.now c.row_len-row.result c.len-count.result c.loop-k.k c.row_len-row.ensures c.len-count.ensures.count last
+
+pub returns-in_err-read_cells-clause-only : goal.returns-in_err-read_cells-clause-only
+returns-in_err-read_cells-clause-only g c =
+    let walk = c.args.walk.now in
+    let k = c.loop-k.k in
+    let row = c.row_len-row.result in
+    let k_in = subst (λ (n : ℕ). k < n) (rows_are walk row c.len-count.result c.row_len-row.ensures c.len-count.ensures.count) c.loop-k-test.true in
+    let at : c.args.data_at + 8 * c.place.result ≡ c.args.data_at + 8 * spot walk (k * row) = ap (λ (n : ℕ). c.args.data_at + 8 * n) (c.place.ensures.place ∙ ap (λ (w : Walk). spot w (k * row)) c.loop-k.invariant.walk) in
+    only_then (IsStoredByte walk c.args.data_at) _ _ _ c.loop-k.invariant.only
+    (only_as (IsWithin (c.args.data_at + 8 * c.place.result) (8 * row)) (IsStoredByte walk c.args.data_at) _ _ (λ p h. row_byte c.args.data_at (c.args.data_at + 8 * c.place.result) row k p walk c.row_len-row.ensures k_in at h) c.read_cells.ensures.only)
+
+pub returns-clause-only : goal.returns-clause-only
+returns-clause-only g c = c.loop-k.invariant.only

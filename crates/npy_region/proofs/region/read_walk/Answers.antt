@@ -2,8 +2,9 @@ use Rattle.std.proofs.Common.{◌≡◌, ◌-◌, List, ℕ, ℤ, length, ap, ar
 use Rattle.io_edge.specs.Content.{Content, file_at, size_of}
 use Rattle.nd_shape.specs.Shape.{elements}
 use Rattle.nd_shape.specs.Block.{Array}
-use Rattle.npy_region.specs.Cells.{InRowMajor}
-use Rattle.npy_region.proofs.RegionLemmas.{told_block, told_empty, elements_are, ends_within}
+use Rattle.npy_region.specs.Cells.{InRowMajor, IsByteIn}
+use Rattle.io_edge.proofs.GivenLaws.{only_none}
+use Rattle.npy_region.proofs.RegionLemmas.{told_block, told_empty, elements_are, ends_within, length_only, walk_only}
 use Rattle.npy_region.proofs.region.read_walk.Goals as goal
 
 pub returns-then-has-needs-clause-refused : goal.returns-then-has-needs-clause-refused
@@ -41,3 +42,24 @@ returns-clause-cells g c =
     (subst (λ (ns : List ℕ). InRowMajor c.args.head.now.fortran ns c.in_ok-stored.stored.items c.in_ok-cells.cells.items) c.in_ok-shape.ensures c.in_ok-cells.ensures.cells) in
     told_block (file_at (g.S.Store.files c.args.store.now) c.args.file) c.args.head.now c.args.region.now c.bytes_needed-needs.new.walk c.new-block.result c.in_ok-stored.stored.items c.requires.part
     (c.bytes_needed-needs.ensures.same ∙ c.requires.walk) shape (ap length cells ∙ c.in_ok-cells.ensures.count ∙ ap elements c.in_ok-shape.ensures) rows (rw c.len.ensures.same at c.in_ok-stored.ensures.cells)
+
+pub returns-in_err-size-clause-only : goal.returns-in_err-size-clause-only
+returns-in_err-size-clause-only g c = only_none (IsByteIn c.args.head.now c.args.region.now) _ _ c.in_err-size.ensures.silent
+
+pub returns-then-has-needs-clause-only : goal.returns-then-has-needs-clause-only
+returns-then-has-needs-clause-only g c = length_only c.args.head.now c.args.region.now _ _ (g.S.Store.names c.args.store.now) c.args.file c.in_ok-size.size c.in_ok-size.ensures.gives
+
+pub returns-in_err-shape-clause-only : goal.returns-in_err-shape-clause-only
+returns-in_err-shape-clause-only g c = length_only c.args.head.now c.args.region.now _ _ (g.S.Store.names c.args.store.now) c.args.file c.in_ok-size.size c.in_ok-size.ensures.gives
+
+pub returns-then-count-eq0-clause-only : goal.returns-then-count-eq0-clause-only
+returns-then-count-eq0-clause-only g c = length_only c.args.head.now c.args.region.now _ _ (g.S.Store.names c.args.store.now) c.args.file c.in_ok-size.size c.in_ok-size.ensures.gives
+
+pub returns-in_err-stored-clause-only : goal.returns-in_err-stored-clause-only
+returns-in_err-stored-clause-only g c = walk_only c.args.head.now c.args.region.now c.bytes_needed-needs.new.walk _ _ _ (g.S.Store.names c.args.store.now) c.args.file c.in_ok-size.size c.requires.part (c.bytes_needed-needs.ensures.same ∙ c.requires.walk) c.in_ok-size.ensures.gives c.read_stored.ensures.only
+
+pub returns-in_err-cells-clause-only : goal.returns-in_err-cells-clause-only
+returns-in_err-cells-clause-only g c = walk_only c.args.head.now c.args.region.now c.bytes_needed-needs.new.walk _ _ _ (g.S.Store.names c.args.store.now) c.args.file c.in_ok-size.size c.requires.part (c.bytes_needed-needs.ensures.same ∙ c.requires.walk) c.in_ok-size.ensures.gives c.read_stored.ensures.only
+
+pub returns-clause-only : goal.returns-clause-only
+returns-clause-only g c = walk_only c.args.head.now c.args.region.now c.bytes_needed-needs.new.walk _ _ _ (g.S.Store.names c.args.store.now) c.args.file c.in_ok-size.size c.requires.part (c.bytes_needed-needs.ensures.same ∙ c.requires.walk) c.in_ok-size.ensures.gives c.read_stored.ensures.only

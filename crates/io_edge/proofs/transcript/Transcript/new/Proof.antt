@@ -1,6 +1,6 @@
 -- `new` makes a value of no bytes, with the names that its clause gives. Assumes `Logic`.
 use mathlib.Core.Path.{refl}
-use Rattle.std.proofs.Common.{List, [], ◌∷◌, ◌<◌, ◌^◌, length, map, string_bytes}
+use Rattle.std.proofs.Common.{[], ◌∷◌, ◌<◌, ◌^◌, length, map, string_bytes}
 use seplogic.Ra.Ura.{Ura}
 use mir.Syntax.{named}
 use mir.Val.{Val, vstruct, vnil}
@@ -20,7 +20,7 @@ use types.Part.{agg}
 use types.ByLocal.{alloc_all, pass_all, free_all, look_at, sets}
 use denote.Exit.{yes}
 use denote.RattleType.{RattleType, owns}
-use denote.Slice.{ShrSlice, slice_val, shr_slice_vals, shr_slice_Tells}
+use denote.Slice.{slice_val, shr_slice_vals, shr_slice_Tells}
 use denote.Shadow.{pure_i}
 use denote.Signature.{plain, types_at}
 use denote.Triple.Entry.{on_entry, alive, Args}

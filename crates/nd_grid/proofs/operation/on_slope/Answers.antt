@@ -1,7 +1,7 @@
 use Rattle.std.proofs.Common.{ap, w64, pos, ◌+ℤ◌, ◌*ℤ◌, ◌∙◌}
 use Rattle.std.proofs.lemmas.Int.{wrapping_add_is, int_wrap-add_right, to_z-of_z}
 use Rattle.nd_grid.specs.Int64.{wrap}
-use Rattle.nd_grid.proofs.plain.on_slope.Goals as goal
+use Rattle.nd_grid.proofs.operation.on_slope.Goals as goal
 
 pub returns : goal.returns
 returns c =

@@ -1,11 +1,11 @@
 use Rattle.std.proofs.Common.{arith, ◌<◌, ◌∙◌, length, length-set, take, sym}
 use Rattle.nd_grid.specs.Grid.{woven}
 use Rattle.nd_grid.proofs.Slicing.{next-le}
-use Rattle.block_kernels.proofs.Woven.{weave_step, weaving_written, weaving_end, among-place}
-use Rattle.block_kernels.proofs.weaving.index_woven.Goals as goal
+use Rattle.nd_grid.proofs.Woven.{weave_step, weaving_written, weaving_end, among-place}
+use Rattle.nd_grid.proofs.operand.index_woven.Goals as goal
 
-pub one_of-requires-clause-rest : goal.one_of-requires-clause-rest
-one_of-requires-clause-rest c = λ e. omega (arith, c.requires.rest, c.place_in_list-place.ensures, among-place c.args.axes.now c.loop-axis.axis (sym c.is_in_list-paired.ensures ∙ e))
+pub one_of-requires-clause-folded : goal.one_of-requires-clause-folded
+one_of-requires-clause-folded c = λ e. omega (arith, c.requires.rest, c.place_in_list-place.ensures, among-place c.args.axes.now c.loop-axis.axis (sym c.is_in_list-paired.ensures ∙ e))
 
 pub one_of-requires-clause-kept : goal.one_of-requires-clause-kept
 one_of-requires-clause-kept c = (weave_step c.args.dims.now c.args.axes.now c.args.kept.now c.args.rest.now (take c.loop-axis.axis c.loop-axis.own) (woven 0 c.args.dims.now c.args.axes.now c.args.kept.now c.args.rest.now) c.loop-axis.axis c.loop-axis.used c.is_in_list-paired.result c.loop-axis-test.true c.is_in_list-paired.ensures c.loop-axis.invariant.weaving).kept

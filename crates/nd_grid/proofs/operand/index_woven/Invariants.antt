@@ -1,7 +1,7 @@
 use Rattle.std.proofs.Common.{◌≡◌, ◌≤◌, length, take}
 use Rattle.nd_grid.specs.Grid.{woven}
-use Rattle.block_kernels.proofs.Woven.{Weaving}
-use Rattle.block_kernels.proofs.weaving.index_woven.Given as goal
+use Rattle.nd_grid.proofs.Woven.{Weaving}
+use Rattle.nd_grid.proofs.operand.index_woven.Given as goal
 
 abbrev pub invariant-loop-axis : goal.invariant-loop-axis
 invariant-loop-axis l = record {

@@ -1,7 +1,0 @@
-use Rattle.std.proofs.Common.{arith, w64, pos}
-use Rattle.std.proofs.lemmas.Int.{wrapping_mul_is}
-use mir.Val.{SFits}
-use Rattle.block_kernels.proofs.slope.scaled.Goals as goal
-
-pub returns : goal.returns
-returns c = let fits : SFits w64 (pos c.args.place) = record { sfits = omega arith } in wrapping_mul_is w64 c.args.step (pos c.args.place) c.ranges.step fits
