@@ -185,6 +185,7 @@ fn asked() -> SchedEvent {
 }
 
 /// How long the events of a kind took, in nanoseconds, and how many of them were refused.
+#[derive(Drop)]
 struct Times {
     all: Vec<u64>,
     refused: u32,
