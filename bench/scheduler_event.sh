@@ -8,11 +8,21 @@ copy=$(mktemp -d)
 trap 'rm -rf "$copy"' EXIT
 cp "$top/crates.txt" "$top/HANDLES" "$copy"
 (cd "$top" && tar cf - --exclude=out crates) | (cd "$copy" && tar xf -)
-for proved in "$top"/crates/*/out/rlib; do
-    [ -d "$proved" ] || continue
-    name=$(basename "$(dirname "$(dirname "$proved")")")
+libraries=$(awk -F: '
+    { name = $1; sub(/ .*/, "", name); below[name] = $2 }
+    END {
+        todo[1] = "cluster_msgs"; todo[2] = "scheduler_core"; last = 2
+        for (at = 1; at <= last; at++) {
+            if (todo[at] in seen || !(todo[at] in below)) continue
+            seen[todo[at]]; print todo[at]
+            count = split(below[todo[at]], names, " ")
+            for (i = 1; i <= count; i++) todo[++last] = names[i]
+        }
+    }' "$top/crates.txt")
+for name in $libraries; do
+    [ -d "$top/crates/$name/out/rlib" ] || continue
     mkdir -p "$copy/crates/$name/out"
-    cp -R "$proved" "$copy/crates/$name/out"
+    cp -R "$top/crates/$name/out/rlib" "$copy/crates/$name/out"
 done
 mkdir -p "$copy/crates/event_bench/src"
 echo 'event_bench: anyhow cluster_msgs scheduler_core' >> "$copy/crates.txt"
@@ -175,6 +185,7 @@ fn asked() -> SchedEvent {
 }
 
 /// How long the events of a kind took, in nanoseconds, and how many of them were refused.
+#[derive(Drop)]
 struct Times {
     all: Vec<u64>,
     refused: u32,
