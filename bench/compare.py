@@ -26,9 +26,9 @@ SIZES = {
     'anomaly 1 GiB': ((1024, 65536), 'anomaly', None),
     'rechunk 512 MiB': ((8192, 8192), 'rechunking', 'a.rechunk((128, 8192))'),
     'product 1024': ((1024, 1024), 'matrix product', None),
+    # of almost no data, which shows what each takes to start and to end
+    'chain of 4 by 8': ((4, 8), 'the chain of 4 by 8', None),
 }
-# the same of almost no data, which shows what each takes to start and to end
-SMALL = ((4, 8), 'the chain of 4 by 8')
 
 DASK = '''
 import os, sys
@@ -127,8 +127,8 @@ def commands(folder, shape, chunks, ours, numpy, dask):
 
 
 def compare(name, folder):
-    shape, shown, dask = SIZES.get(name) or (*SMALL, None)
-    _, chunks, ours, numpy = jobs.JOBS[name if name in SIZES else 'chain 1 GiB']
+    shape, shown, dask = SIZES[name]
+    _, chunks, ours, numpy = jobs.JOBS[name if name in jobs.JOBS else 'chain 1 GiB']
     subprocess.run([sys.executable, '-c', jobs.MAKE, 'a.npy', ','.join(map(str, shape))], cwd=folder, check=True)
     size = 8 * shape[0] * shape[1]
     if size >= 2**20:
@@ -144,8 +144,10 @@ def compare(name, folder):
 
 
 def main():
+    if set(sys.argv[1:]) - set(SIZES):
+        sys.exit('the jobs are ' + ', '.join(SIZES))
     print('| Job | Run by | Processor time | Wall time | Peak memory |\n|---|---|---|---|---|')
-    for name in sys.argv[1:] or [*SIZES, 'small']:
+    for name in sys.argv[1:] or SIZES:
         with tempfile.TemporaryDirectory(dir=os.environ.get('TMPDIR', '/tmp')) as folder:
             compare(name, folder)
 

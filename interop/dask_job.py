@@ -47,12 +47,19 @@ class Words(argparse.ArgumentParser):
         raise Refused(1, 'words')
 
 
+def positive(word):
+    number = int(word)
+    if number < 1:
+        raise ValueError(word)
+    return number
+
+
 def parse(words):
     parser = Words(allow_abbrev=False, add_help=False)
     parser.add_argument('job')
     parser.add_argument('--scheduler')
-    parser.add_argument('--workers', type=int)
-    parser.add_argument('--threads', type=int)
+    parser.add_argument('--workers', type=positive)
+    parser.add_argument('--threads', type=positive)
     options = parser.parse_args(words)
     if options.scheduler and (options.workers or options.threads):
         parser.error('a cluster that is there has its own workers')
