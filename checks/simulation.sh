@@ -68,6 +68,16 @@ check 'line of a script that takes the only worker' "$line" 'dask: words'
 
 folder=$(mktemp -d)
 root=$PWD
+# a job of 19,115 tasks: the sum of 0 to 8191 is 8192 * 8191 / 2
+printf 'let s = sum(ramp((8192), 0, 1, (1)))\nsave s "s.npy"\n' > "$folder/job.txt"
+lines=$(cd "$folder" && "$root/dask" sim job.txt 1 --workers 4)
+check 'status of a job of many tasks' "$?" 0
+check 'first lines of a job of many tasks' "$(head -3 <<< "$lines")" 'saved s.npy ()
+keys 19115
+edges 19114'
+check 'data of a job of many tasks' "$(tail -c 8 "$folder/s.npy" | od -An -v -t d8 | tr -d ' ')" 33550336
+rm -f "$folder/s.npy"
+
 # a divisor of 0 counts in the blocks that are needed, and in no other: the quotient's first block has one, its second none
 quotient='let x = ramp((4), 1, 1, (2))\nlet d = ramp((4), -1, 1, (2))\nlet q = (x // d)'
 for command in 'run job.txt' 'plain job.txt' 'sim job.txt 7'; do
