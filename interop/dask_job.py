@@ -17,6 +17,9 @@ import stat
 import sys
 from concurrent.futures import CancelledError
 
+# read when Dask is imported, here and in the workers that are started here: the answer's line is the only one of standard error
+os.environ.setdefault('DASK_LOGGING__DISTRIBUTED', 'critical')
+
 import dask
 import dask.array as da
 from dask.distributed import Client, LocalCluster, wait
