@@ -83,6 +83,19 @@ printf 'let r = ramp((2, 2), 0, 1, (2, 1))\nsave r "b.npy"\n' > "$folder/columns
 line=$(cd "$folder" && "$root/dask" run columns.txt 2>&1)
 check 'status where a device has the name and columns are saved' "$?" 6
 check 'line where a device has the name and columns are saved' "$line" 'dask: write fault'
+# saved blocks of 4,096 elements that stand side by side are written together: the elements of a ramp count on
+rm "$name"
+for chunks in '(64, 64)' '(32, 128)' '(64, (100, 128, 28))' '(64, 256)'; do
+  printf 'let r = ramp((64, 256), 0, 1, %s)\nsave r "b.npy"\n' "$chunks" > "$folder/wide.txt"
+  for command in run plain 'sim 7'; do
+    rm -f "$name"
+    # the words of a command
+    # shellcheck disable=SC2086
+    (cd "$folder" && set -- $command && "$root/dask" "$1" wide.txt ${2-} > /dev/null)
+    check "status of $command of blocks side by side, $chunks" "$?" 0
+    check "data of $command of blocks side by side, $chunks" "$(tail -c 131072 "$name" | od -An -v -t d8 -w8 | tr -d ' ' | cmp - <(seq 0 16383) && echo same)" same
+  done
+done
 # what is no regular file is no input
 rm "$folder/a.npy" && mkfifo "$folder/a.npy"
 line=$(cd "$folder" && timeout 20 "$root/dask" run job.txt 2>&1)
