@@ -1,5 +1,5 @@
 //! The cores of workers and clients, by number.
-ghost use Rattle.std.specs.Prelude.{◌≡◌, ◌&&◌, ◌<◌, ◌≤◌, ◌+◌, ◌++◌, ℕ, List, Bool, Err, length, false, true, OnOk};
+ghost use Rattle.std.specs.Prelude.{◌≡◌, ◌==◌, ◌&&◌, ◌<◌, ◌≤◌, ◌+◌, ◌++◌, ℕ, List, Bool, Err, cond, length, false, true, OnOk};
 ghost use Rattle.cluster_msgs.specs.Shape.{Shape};
 ghost use Rattle.cluster_rules.specs.Derived.{is_in};
 ghost use Rattle.cluster_rules.specs.Functions.{put, put_pair};
@@ -91,12 +91,11 @@ pub fn unspill(
     }
 }
 
-/// The same, where no key is astray.
+/// The same of these keys alone.
 fn unspill_lost(spilled: &mut Grid<bool>, worker: u32, core: &WorkerCore, keys: u32, lost: &[u32])
     requires row { worker < height spilled.old }
     requires keys { keys ≡ width spilled.old }
-    requires tidy { (k : ℕ) → (facts core.now).mem k ≡ false → is_in k lost.now ≡ false → cell spilled.old false worker k ≡ false }
-    ensures meaning { cell spilled.new false ≡ put (cell spilled.old false) worker (λ k. cell spilled.old false worker k && (facts core.now).mem k) }
+    ensures meaning { (w k : ℕ) → cell spilled.new false w k ≡ cond (w == worker && is_in k lost.now) (cell spilled.old false w k && (facts core.now).mem k) (cell spilled.old false w k) }
     ensures height { height spilled.new ≡ height spilled.old }
     ensures width { width spilled.new ≡ width spilled.old }
 {

@@ -1,22 +1,16 @@
-use Rattle.std.proofs.Common.{◌≡◌, ◌∙◌, Bool, true, false, ◌&&◌, ap, refl, sym, rules}
+use Rattle.std.proofs.Common.{◌≡◌, ◌<◌, ℕ, Bool, true, false, ◌&&◌, List, refl, sym, subst, cond, take, get_or, length, rules, arith}
+use Rattle.std.specs.Prelude.{◌==◌}
+use Rattle.std.proofs.lemmas.List.{take_more}
+use Rattle.cluster_rules.specs.Derived.{is_in}
 use Rattle.fact_rows.specs.Rows.{cell}
 use Rattle.worker_core.specs.Core.{facts}
-use Rattle.cluster_nodes.proofs.Places.{touch_none, touch_more, touch_all}
+use Rattle.cluster_nodes.proofs.Places.{touch_none, touch_more}
 use Rattle.cluster_nodes.proofs.cores.unspill_lost.Goals as goal
 
 once : (x m : Bool) → ((x && m) && m) ≡ (x && m)
 once true true = refl
 once true false = refl
 once false m = refl
-
-kept : (x m : Bool) → (m ≡ false → x ≡ false) → (x && m) ≡ x
-kept x false f = off x ∙ sym (f refl)
-  where
-    off : (x : Bool) → (x && false) ≡ false
-    off true = refl
-    off false = refl
-kept true true f = refl
-kept false true f = refl
 
 pub loop-key-init : goal.loop-key-init
 loop-key-init c = record {
@@ -26,13 +20,15 @@ loop-key-init c = record {
 }
 
 pub loop-key-preserved : goal.loop-key-preserved
-loop-key-preserved c = record {
-  done = touch_more (λ q x. x && (facts c.args.core.now).mem q) (λ q x. once x ((facts c.args.core.now).mem q)) (cell c.args.spilled.now false) (cell c.loop-key.spilled false) (cell c.unspill_one.new.spilled false) c.args.worker c.in-Some.key c.loop-key.yielded c.unspill_one.ensures.meaning c.loop-key.invariant.done;
-  high = search rules;
-  wide = search rules;
-}
-
-pub returns-clause-meaning : goal.returns-clause-meaning
-returns-clause-meaning c = touch_all (λ q x. x && (facts c.args.core.now).mem q) (cell c.args.spilled.now false) (cell c.loop-key.spilled false) c.args.worker c.loop-key.yielded
-    (λ k o. kept (cell c.args.spilled.now false c.args.worker k) ((facts c.args.core.now).mem k) (λ m. c.requires.tidy k m o))
-    c.loop-key.invariant.done
+loop-key-preserved c =
+    let ks = c.args.lost.now in
+    let i = c.loop-key.key-index in
+    let l : i < length ks = omega arith in
+    let change = λ (q : ℕ) (x : Bool). x && (facts c.args.core.now).mem q in
+    let was = cell c.args.spilled.now false in
+    record {
+      done = subst (λ (ys : List ℕ). (w k : ℕ) → cell c.unspill_one.new.spilled false w k ≡ cond (w == c.args.worker && is_in k ys) (change k (was w k)) (was w k)) (sym (take_more ks i 0 l))
+          (touch_more change (λ q x. once x ((facts c.args.core.now).mem q)) was (cell c.loop-key.spilled false) (cell c.unspill_one.new.spilled false) c.args.worker (get_or ks i 0) (take i ks) c.unspill_one.ensures.meaning c.loop-key.invariant.done);
+      high = search rules;
+      wide = search rules;
+    }
