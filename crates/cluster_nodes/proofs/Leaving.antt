@@ -14,8 +14,8 @@ use Rattle.cluster_msgs.specs.declared.cores.ClientEvent.TheVariants.{Want, Rele
 use Rattle.cluster_rules.specs.Derived.{is_in}
 use Rattle.cluster_rules.specs.Functions.{put}
 use Rattle.cluster_rules.specs.Worker.{Ask, WorkerFacts, awaited, is_wanted, wstate, is_missing_state, would_start, ask_to, without_ask}
-use Rattle.cluster_rules.specs.WorkerStep.{WorkerStep, Arrivals, quiet, after_out, each_key, taken, set_holders, into_mem, give_up, given, free_key, yields, asked_back, remove_replica, remove_replicas, acquire, refresh, take_down, start, arrive_as, arrive, arrived, stopped, erred_as, done, keys_of, ask_peer, lose_holders, report_missing, not_found, answered_ask, gathered_by, gathered, worker_row, worker_step}
-use Rattle.cluster_rules.specs.Client.{ClientFacts, hears, hear, client_gets, client_misses, client_answered, client_gathered_by, client_gathered, keeps_still, client_wants, client_releases, client_ask, client_step}
+use Rattle.cluster_rules.specs.WorkerStep.{WorkerStep, Arrivals, quiet, after_out, each_key, taken, set_holders, given, free_key, yields, asked_back, remove_replica, remove_replicas, acquire, refresh, take_down, start, arrive_as, arrive, arrived, stopped, erred_as, done, keys_of, ask_peer, lose_holders, not_found, gathered_by, gathered, worker_row, worker_step}
+use Rattle.cluster_rules.specs.Client.{ClientFacts, hear, client_gets, client_misses, client_answered, client_gathered_by, client_gathered, keeps_still, client_wants, client_releases, client_ask, client_step}
 use Rattle.cluster_nodes.specs.Gone.{freed_by, lost_by, released_by}
 
 -- what was counted still is, but for these keys

@@ -1,5 +1,5 @@
 -- No block stands where its key isn't counted, whatever happens.
-use Rattle.std.proofs.Common.{◌≡◌, ℕ, zero, suc, ◌<◌, Bool, true, false, not, ◌&&◌, ◌||◌, List, [], ◌∷◌, ◌++◌, Option, Some, None, refl, sym, ap, ◌∙◌, subst, arith, cond, length, get_or}
+use Rattle.std.proofs.Common.{◌≡◌, ℕ, ◌<◌, Bool, true, false, not, ◌&&◌, ◌||◌, List, [], ◌∷◌, ◌++◌, Option, None, refl, sym, ap, ◌∙◌, subst, cond, length, get_or}
 use Rattle.std.specs.Prelude.{◌==◌, slice_get}
 use Rattle.std.specs.declared.sync.Arc.{Arc}
 use Rattle.std.specs.declared.alloc.Global.{Global}
@@ -7,7 +7,7 @@ use Rattle.std.proofs.lemmas.Bool.{true≢false, eqb-true}
 use Rattle.cluster_msgs.specs.Shape.{Shape}
 use Rattle.cluster_rules.specs.Derived.{is_in}
 use Rattle.cluster_rules.specs.Functions.{put, put_pair}
-use Rattle.cluster_rules.specs.Worker.{WorkerFacts, new_worker}
+use Rattle.cluster_rules.specs.Worker.{WorkerFacts}
 use Rattle.cluster_rules.specs.Client.{ClientFacts}
 use Rattle.cluster_laws.specs.Moves.{keeps}
 use Rattle.fact_rows.specs.Rows.{read, cell}
@@ -49,6 +49,18 @@ still_false x b e = ap (λ c. x && c) e ∙ off x
     off : (x : Bool) → (x && false) ≡ false
     off true = refl
     off false = refl
+
+-- nobody stands past the end
+past : (xs : List Bool) → get_or xs (length xs) false ≡ false
+past [] = refl
+past (x ∷ xs) = past xs
+
+dead : (w : WorkerFacts) (k : ℕ) (b : Bool) → b ≡ false → (if_alive b w).mem k ≡ false
+dead w k b e = ap (λ c. (if_alive c w).mem k) e
+
+nobody_has : (g : Shape) (alive : List Bool) (workers : List Core) (k : ℕ) → length alive ≡ length workers → (workers_of g alive workers (length workers)).mem k ≡ false
+unfolding workers_of
+nobody_has g alive workers k l = dead (worker_of g (length workers) (slice_get workers (length workers))) k (read alive false (length workers)) (ap (read alive false) (sym l) ∙ past alive)
 
 module _ {B : Type 0} (strays : Bool) (alive : List Bool) (workers : List Core) (clients : List CoreState) (spilled : ℕ × List (List Bool)) (held got : ℕ × List (List (Option (Arc B Global)))) where
   -- a worker took an event
@@ -132,23 +144,12 @@ module _ {B : Type 0} (strays : Bool) (alive : List Bool) (workers : List Core) 
           pick true p = subst (λ z. (workers_of g alive workers z).mem k ≡ false) (sym (eqb-true j (length workers) p)) (nobody_has g alive workers k l)
           pick false p = ap (λ (w : WorkerFacts). w.mem k) (sym (ap (λ (f : ℕ → WorkerFacts). f j) (more g) ∙ at_other (workers_of g alive workers) (length workers) j (facts v) p)) ∙ q
 
-      past : (xs : List Bool) → get_or xs (length xs) false ≡ false
-      past [] = refl
-      past (x ∷ xs) = past xs
-
-      dead : (w : WorkerFacts) (k : ℕ) (b : Bool) → b ≡ false → (if_alive b w).mem k ≡ false
-      dead w k b e = ap (λ c. (if_alive c w).mem k) e
-
-      nobody_has : (g : Shape) (alive : List Bool) (workers : List Core) (k : ℕ) → length alive ≡ length workers → (workers_of g alive workers (length workers)).mem k ≡ false
-      unfolding workers_of
-      nobody_has g alive workers k l = dead (worker_of g (length workers) (slice_get workers (length workers))) k (read alive false (length workers)) (ap (read alive false) (sym l) ∙ past alive)
-
   -- a key was spilled: it is astray where its worker doesn't have it
   pub tidy_spilled : (sp : ℕ × List (List Bool)) (i k : ℕ) (has : Bool) → ((g : Shape) → has ≡ (workers_of g alive workers i).mem k) → cell sp false ≡ put_pair (cell spilled false) i k true
       → IsTidy strays alive workers clients spilled held got → IsTidy (strays || not has) alive workers clients sp held got
   tidy_spilled sp i k has e s n = record {
     held = n.held;
-    spilled = λ r g j q m. ap (λ (f : ℕ → ℕ → Bool). f j q) s ∙ pick g (j == i) refl (q == k) refl r m;
+    spilled = λ r g j q m. ap (λ (f : ℕ → ℕ → Bool). f j q) s ∙ pick g j q (j == i) refl (q == k) refl r m;
     got = n.got;
   }
     where
@@ -161,10 +162,10 @@ module _ {B : Type 0} (strays : Bool) (alive : List Bool) (workers : List Core) 
       second false true e = refl
       second false false e = absurd (true≢false e)
 
-      pick : (g : Shape) {j q : ℕ} (b : Bool) → (j == i) ≡ b → (c : Bool) → (q == k) ≡ c → (strays || not has) ≡ false → (workers_of g alive workers j).mem q ≡ false → cond (b && c) true (cell spilled false j q) ≡ false
-      pick g {j = j} {q = q} true p true o r m = absurd (true≢false (sym (second strays has r) ∙ e g ∙ ap (λ x. (workers_of g alive workers i).mem x) (sym (eqb-true q k o)) ∙ ap (λ x. (workers_of g alive workers x).mem q) (sym (eqb-true j i p)) ∙ m))
-      pick g {j = j} {q = q} true p false o r m = n.spilled (first strays has r) g j q m
-      pick g {j = j} {q = q} false p c o r m = n.spilled (first strays has r) g j q m
+      pick : (g : Shape) (j q : ℕ) (b : Bool) → (j == i) ≡ b → (c : Bool) → (q == k) ≡ c → (strays || not has) ≡ false → (workers_of g alive workers j).mem q ≡ false → cond (b && c) true (cell spilled false j q) ≡ false
+      pick g j q true p true o r m = absurd (true≢false (sym (second strays has r) ∙ e g ∙ ap (λ x. (workers_of g alive workers i).mem x) (sym (eqb-true q k o)) ∙ ap (λ x. (workers_of g alive workers x).mem q) (sym (eqb-true j i p)) ∙ m))
+      pick g j q true p false o r m = n.spilled (first strays has r) g j q m
+      pick g j q false p c o r m = n.spilled (first strays has r) g j q m
 
 -- nothing stands anywhere
 pub tidy_none : {B : Type 0} (strays : Bool) (alive : List Bool) (workers : List Core) (clients : List CoreState) (spilled : ℕ × List (List Bool)) (held got : ℕ × List (List (Option (Arc B Global))))

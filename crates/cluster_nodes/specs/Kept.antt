@@ -58,10 +58,10 @@ pub record IsSorted {B : Type 0} (n : Nodes B) : Type 0 where
 
 -- no block stands where its key isn't counted; nor is a key spilled there, unless some may be astray. It is said of the parts, so that the
 -- others may change
-pub record IsTidy {B : Type 0} (strays : Bool) (alive : List Bool) (workers : List Core) (clients : List CoreState) (spilled : ℕ × List (List Bool)) (held got : ℕ × List (List (Option (Arc B Global)))) : Type 0 where
-  pub held : (g : Shape) (i k : ℕ) → (workers_of g alive workers i).mem k ≡ false → cell held None i k ≡ None
-  pub spilled : strays ≡ false → (g : Shape) (i k : ℕ) → (workers_of g alive workers i).mem k ≡ false → cell spilled false i k ≡ false
-  pub got : (g : Shape) (c k : ℕ) → (clients_of g clients c).got k ≡ false → cell got None c k ≡ None
+pub record IsTidy {B : Type 0} (strays : Bool) (alive : List Bool) (workers : List Core) (clients : List CoreState) (marks : ℕ × List (List Bool)) (there here : ℕ × List (List (Option (Arc B Global)))) : Type 0 where
+  pub held : (g : Shape) (i k : ℕ) → (workers_of g alive workers i).mem k ≡ false → cell there None i k ≡ None
+  pub spilled : strays ≡ false → (g : Shape) (i k : ℕ) → (workers_of g alive workers i).mem k ≡ false → cell marks false i k ≡ false
+  pub got : (g : Shape) (c k : ℕ) → (clients_of g clients c).got k ≡ false → cell here None c k ≡ None
 
 pub record IsNodes {B : Type 0} (n : Nodes B) : Type 0 where
   pub sized : IsSized n

@@ -1,4 +1,4 @@
-use Rattle.std.proofs.Common.{◌≡◌, ◌∙◌, sym, ap}
+use Rattle.std.proofs.Common.{◌∙◌, sym, ap}
 use Rattle.std.specs.Prelude.{slice_get}
 use Rattle.cluster_rules.specs.Worker.{WorkerFacts}
 use Rattle.cluster_nodes.specs.Nodes.{if_alive, worker_of, workers_of}

@@ -1,4 +1,4 @@
-use Rattle.std.proofs.Common.{◌≡◌, ◌∙◌, ◌+◌, ℕ, [], length, arith}
+use Rattle.std.proofs.Common.{◌≡◌, ◌∙◌, ◌+◌, [], length, arith}
 use Rattle.cluster_nodes.proofs.Places.{one_longer}
 use Rattle.cluster_nodes.proofs.opening.add_links.Goals as goal
 

@@ -1,4 +1,4 @@
-use Rattle.std.proofs.Common.{◌≡◌, ◌∙◌, ◌+◌, ℕ, arith}
+use Rattle.std.proofs.Common.{◌≡◌, ◌∙◌, ◌+◌, arith}
 use Rattle.fact_rows.specs.Rows.{height}
 use Rattle.cluster_nodes.proofs.opening.add_nodes.Goals as goal
 

@@ -1,5 +1,5 @@
-use Rattle.std.proofs.Common.{◌≡◌, ◌≤◌, ap, None, rules, arith}
-use Rattle.fact_rows.specs.Rows.{cell, width}
+use Rattle.std.proofs.Common.{None, rules}
+use Rattle.fact_rows.specs.Rows.{cell}
 use Rattle.cluster_nodes.proofs.Places.{bring_none, bring_more}
 use Rattle.cluster_nodes.proofs.shelve.bring.Goals as goal
 

@@ -79,7 +79,7 @@ returns-clause-few g c n h = (workers_more n c.args.self.now.workers.items h.0, 
 
 pub returns-in_err-client_on-clause-refused : goal.returns-in_err-client_on-clause-refused
 unfolding world_of
-returns-in_err-client_on-clause-refused g c r f = c.in_err-client_on.ensures.refused (sym (same_err c.from_residual.result _ c.from_residual.ensures.1) ∙ r) f.setting.shape
+returns-in_err-client_on-clause-refused g c r f = c.in_err-client_on.ensures.refused (sym (same_err c.from_residual-in_err-client_on.result _ c.from_residual-in_err-client_on.ensures.1) ∙ r) f.setting.shape
 
 pub returns-in_err-client_on-clause-spent : goal.returns-in_err-client_on-clause-spent
-returns-in_err-client_on-clause-spent g c r n h = c.in_err-client_on.ensures.spent (sym (same_err c.from_residual.result _ c.from_residual.ensures.1) ∙ r) n h.1
+returns-in_err-client_on-clause-spent g c r n h = c.in_err-client_on.ensures.spent (sym (same_err c.from_residual-in_err-client_on.result _ c.from_residual-in_err-client_on.ensures.1) ∙ r) n h.1

@@ -36,7 +36,7 @@ unspill-requires-clause-tidy g c q k m o =
     let now = core_now old.shape old.alive old.workers.items c.worker_on.new.workers.items c.args.worker c.index-core.result.now (worker_step before c.args.event).facts l c.requires.alive c.index-core.ensures (c.in_ok-worker_on.ensures.facts old.shape old.alive c.requires.alive) in
     c.requires.nodes.tidy.spilled q old.shape c.args.worker k
     (was_out (lost_by c.args.event) before.mem (worker_step before c.args.event).facts.mem (step_leaves before c.args.event) k
-    (sym (ap (λ (w : WorkerFacts). w.mem k) now) ∙ m) (ap (λ (l : List ℕ). is_in k l) (sym (c.as_slice.ensures ∙ c.in_ok-gone.ensures)) ∙ o))
+    (sym (ap (λ (w : WorkerFacts). w.mem k) now) ∙ m) (ap (λ (l : List ℕ). is_in k l) (sym (c.as_slice-lost.ensures ∙ c.in_ok-gone.ensures)) ∙ o))
 
 pub shelve-requires-clause-tidy : goal.shelve-requires-clause-tidy
 shelve-requires-clause-tidy g c k m o =
@@ -46,7 +46,7 @@ shelve-requires-clause-tidy g c k m o =
     let now = core_now old.shape old.alive old.workers.items c.worker_on.new.workers.items c.args.worker c.index-core.result.now (worker_step before c.args.event).facts l c.requires.alive c.index-core.ensures (c.in_ok-worker_on.ensures.facts old.shape old.alive c.requires.alive) in
     c.requires.nodes.tidy.held old.shape c.args.worker k
     (was_out (lost_by c.args.event) before.mem (worker_step before c.args.event).facts.mem (step_leaves before c.args.event) k
-    (sym (ap (λ (w : WorkerFacts). w.mem k) now) ∙ m) (ap (λ (l : List ℕ). is_in k l) (sym (c.as_slice.ensures ∙ c.in_ok-gone.ensures)) ∙ o))
+    (sym (ap (λ (w : WorkerFacts). w.mem k) now) ∙ m) (ap (λ (l : List ℕ). is_in k l) (sym (c.as_slice-lost.ensures ∙ c.in_ok-gone.ensures)) ∙ o))
 
 pub returns-clause-cluster : goal.returns-clause-cluster
 returns-clause-cluster g c f =
@@ -90,7 +90,7 @@ returns-clause-few g c n h = (c.in_ok-worker_on.ensures.few n h.0, clients_more 
 
 pub returns-in_err-worker_on-clause-refused : goal.returns-in_err-worker_on-clause-refused
 unfolding world_of
-returns-in_err-worker_on-clause-refused g c r f = c.in_err-worker_on.ensures.refused (sym (same_err c.from_residual.result _ c.from_residual.ensures.1) ∙ r) f.setting.shape c.args.self.now.alive c.requires.alive
+returns-in_err-worker_on-clause-refused g c r f = c.in_err-worker_on.ensures.refused (sym (same_err c.from_residual-in_err-worker_on.result _ c.from_residual-in_err-worker_on.ensures.1) ∙ r) f.setting.shape c.args.self.now.alive c.requires.alive
 
 pub returns-in_err-worker_on-clause-spent : goal.returns-in_err-worker_on-clause-spent
-returns-in_err-worker_on-clause-spent g c r n h = c.in_err-worker_on.ensures.spent (sym (same_err c.from_residual.result _ c.from_residual.ensures.1) ∙ r) n h.0
+returns-in_err-worker_on-clause-spent g c r n h = c.in_err-worker_on.ensures.spent (sym (same_err c.from_residual-in_err-worker_on.result _ c.from_residual-in_err-worker_on.ensures.1) ∙ r) n h.0
