@@ -18,7 +18,7 @@ next_of w from (Some k) h = record { past = h.0; runs = h.1; before = h.2 }
 -- none is to be fetched where there is no first one
 pub none_fetched : (w : WorkerFacts) (o : Option ℕ) (b : Bool) → IsFirst (λ k. is_fetch_state (wstate w k)) 0 o → b ≡ is_some o → (b ≡ false) ↔ ((k : ℕ) → is_fetch_state (wstate w k) ≡ false)
 none_fetched w None b h e = ((λ n k. h k (omega arith)), (λ n. e))
-none_fetched w (Some r) b h e = ((λ n k. absurd (false≢true (sym n ∙ e))), (λ n. absurd (false≢true (sym (n r) ∙ h.1.0))))
+none_fetched w (Some r) b h e = ((λ n k. absurd (false≢true (sym n ∙ e))), (λ n. absurd (false≢true (sym (n r) ∙ h.1))))
 
 pub named_more : (a b : Bool) (k x : ℕ) → cond (k == x) true (a || b) ≡ (a || (b || (x == k)))
 named_more a b k x = pick a b (k == x) (x == k) (eqb_comm k x)
