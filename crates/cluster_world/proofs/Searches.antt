@@ -217,16 +217,12 @@ none_fail w a (suc n) h =
     last : flat_map (ask_events w true a) ((1 + n) ∷ []) ≡ []
     last = let v : 1 + n ≡ n + 1 = omega arith in ap (λ b. cond b [] (event.FailGather a (1 + n) ∷ []) ++ []) (ap w.alive v ∙ h n (omega arith))
 
-pub none_fails : (w : World) (as : List Asker) → ((n : ℕ) → n < w.sched.last_worker → w.alive (n + 1) ≡ true) → flat_map (asks_of w true) as ≡ []
+pub none_fails : (w : World) (askers : List Asker) → ((n : ℕ) → n < w.sched.last_worker → w.alive (n + 1) ≡ true) → flat_map (asks_of w true) askers ≡ []
 none_fails w [] h = refl
-none_fails w (a ∷ as) h = λ t. none_fail w a w.sched.last_worker h t ++ none_fails w as h t
+none_fails w (a ∷ askers) h = λ t. none_fail w a w.sched.last_worker h t ++ none_fails w askers h t
 
-pub one_more_alive : (alive : ℕ → Bool) (n : ℕ) (now : Bool) → ((k : ℕ) → k < n → alive (k + 1) ≡ true) → now ≡ alive (n + 1) → not now ≡ false → (k : ℕ) → k < n + 1 → alive (k + 1) ≡ true
-one_more_alive alive n now h e d k l = ⊎_elim (λ m. h k m) (λ m. let u : k ≡ n = omega arith in ap (λ z. alive (z + 1)) u ∙ sym e ∙ lives now d) (cases_lt k n)
-  where
-    lives : (b : Bool) → not b ≡ false → b ≡ true
-    lives true d = refl
-    lives false d = absurd (false≢true (sym d))
+pub one_more_alive : (alive : ℕ → Bool) (n : ℕ) (now : Bool) → ((k : ℕ) → k < n → alive (k + 1) ≡ true) → now ≡ alive (n + 1) → now ≡ true → (k : ℕ) → k < n + 1 → alive (k + 1) ≡ true
+one_more_alive alive n now h e d k l = ⊎_elim (λ m. h k m) (λ m. let u : k ≡ n = omega arith in ap (λ z. alive (z + 1)) u ∙ sym e ∙ d) (cases_lt k n)
 
 -- a worker without a key to fetch asks nobody
 filter_none : (p : ℕ → Bool) (xs : List ℕ) → ((k : ℕ) → p k ≡ false) → filter p xs ≡ []
