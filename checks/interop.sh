@@ -1,6 +1,7 @@
 #!/usr/bin/env bash
-# The adapter of interop/ beside the program: all examples, 100 random jobs, and texts and files that are refused, on a local
-# cluster of Dask.distributed; and the command itself. DASK names another program than the one of these sources.
+# The adapter of interop/ beside the program: all examples, 100 random jobs, and texts and files that are refused, on a cluster of
+# Dask.distributed in one process; and the command itself, which starts one of several. DASK names another program than the one of
+# these sources.
 cd "$(dirname "$0")/.." || exit 1
 about='interop'
 . tools/checking.bash

@@ -1,5 +1,5 @@
 #!/usr/bin/env python3
-"""Runs jobs by the program and by the adapter of interop/ on a local cluster, and compares status, lines and bytes.
+"""Runs jobs by the program and by the adapter of interop/ on a cluster in this process, and compares status, lines and bytes.
 
     /usr/bin/python3 tools/interop_cases.py PROGRAM [COUNT [SEED]]
 
@@ -80,10 +80,20 @@ class Writer:
         name, shape = self.one()
         other, second = self.fitting(shape)
         shape = np.broadcast_shapes(shape, second)
-        op = self.draw.choice('+ - * // // % % minimum maximum'.split())
-        if op in ('//', '%') and self.draw.random() < 0.5:
+        op = self.draw.choice('+ - * // % minimum maximum'.split())
+        if op in ('//', '%') and self.draw.random() < 0.8:
             other = f'({other} * 2 + 1)'
         self.define(f'{op}({name}, {other})' if op[0] == 'm' else f'{name} {op} {other}', shape)
+
+    def division(self):
+        """By what is there, which often has a 0, and a part of the result, which may rest on other blocks."""
+        name, shape = self.one()
+        other = self.draw.choice([it for it in self.shapes if fits(self.shapes[it], shape)])
+        shape = np.broadcast_shapes(shape, self.shapes[other])
+        quotient = f'{name} {self.draw.choice(("//", "%"))} {other}'
+        if not shape or self.draw.random() < 0.3:
+            return self.define(quotient, shape)
+        self.define(f'({quotient})[{shape[0] // 2}:]', (shape[0] - shape[0] // 2, *shape[1:]))
 
     def where(self):
         name, shape = self.one()
@@ -148,6 +158,8 @@ class Writer:
                  self.tensordot]
         for _ in range(self.draw.randint(2, 8)):
             self.draw.choice(steps)()
+        if self.draw.random() < 0.4:
+            self.division()
         names = list(self.shapes)
         saves = {names[-1], self.draw.choice(names)}
         self.lines += [f'save {name} "{name}.saved.npy"' for name in sorted(saves)]
@@ -296,9 +308,11 @@ def shown(answer):
 
 
 def main(program, count='100', seed='1'):
-    import dask_job
+    import dask_job  # before Dask, whose log it turns off
+    from dask.distributed import Client
     sys.setrecursionlimit(10000)
-    with tempfile.TemporaryDirectory() as folder, dask_job.connected(dask_job.parse(['-', '--workers', '2'])) as client:
+    cluster = {'processes': False, 'dashboard_address': '127.0.0.1:0', 'silence_logs': 50}
+    with tempfile.TemporaryDirectory() as folder, Client(n_workers=2, threads_per_worker=2, **cluster) as client:
         cases = Cases(program, client)
         cases.examples(folder)
         cases.refused(folder)

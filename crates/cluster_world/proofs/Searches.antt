@@ -1,13 +1,14 @@
 -- A search over events in their order: event by event, and over the kinds of progress events.
-use Rattle.std.proofs.Common.{◌≡◌, ℕ, zero, suc, ◌+◌, ◌-◌, ◌<◌, ◌≤◌, Bool, true, false, not, ◌&&◌, List, [], ◌∷◌, ◌++◌, Option, Some, None, refl, sym, ap, ◌∙◌, arith, cond, filter, map, length, take}
-use Rattle.std.specs.Prelude.{◌==◌, nat_lt, min, slice_get}
-use Rattle.std.specs.List.{flat_map, range_with_len}
-use Rattle.std.proofs.lemmas.Bool.{false≢true, ltb-true, ltb-false}
+use Rattle.std.proofs.Common.{◌≡◌, ℕ, zero, suc, ◌+◌, ◌-◌, ◌<◌, ◌≤◌, Bool, true, false, not, ◌&&◌, List, [], ◌∷◌, ◌++◌, Option, Some, None, refl, sym, ap, ◌∙◌, arith, cond, filter, map, length, take, ⊎_elim}
+use Rattle.std.specs.Prelude.{◌==◌, ◌↔◌, is_none, nat_lt, min, slice_get}
+use Rattle.std.specs.List.{flat_map, filter_map, range_with_len}
+use Rattle.std.proofs.lemmas.Bool.{false≢true, ltb-true, ltb-false, cases_lt}
 use Rattle.std.proofs.lemmas.Option.{slice_get_past}
 use Rattle.std.proofs.lemmas.Bool.Decides.{nat_tests}
 use Rattle.std.proofs.lemmas.List.{append-nil, take_all, length-map}
 use Rattle.std.proofs.lemmas.Grind.{flat_map-append}
 use Rattle.cluster_msgs.specs.Shape.{key_count}
+use Rattle.cluster_msgs.specs.declared.events.Asker.{Asker}
 use Rattle.cluster_msgs.specs.declared.events.Asker.TheVariants.{Worker, Client}
 use Rattle.cluster_msgs.specs.declared.events.Event.{Event}
 use Rattle.cluster_msgs.specs.declared.events.Event.TheVariants as event
@@ -15,7 +16,7 @@ use Rattle.cluster_rules.specs.Derived.{below}
 use Rattle.cluster_rules.specs.Functions.{from_one}
 use Rattle.cluster_rules.specs.World.{World, Parcel, shape_of, all_workers, all_clients, is_connected}
 use Rattle.cluster_rules.specs.Inside.{IsInsideWorker}
-use Rattle.cluster_rules.specs.Worker.{WorkerFacts}
+use Rattle.cluster_rules.specs.Worker.{WorkerFacts, wstate, is_fetch_state, worker_keys, item_at, ask_to, has_any, fetchable, would_ask}
 use Rattle.cluster_rules.specs.Enabled.{enabled, connected_workers, quiet_askers, is_quiet_asker, progress_kinds}
 use Rattle.cluster_rules.proofs.DerivedLemmas.{range_more}
 use Rattle.cluster_laws.proofs.Deliveries.{none_some, some_is}
@@ -23,7 +24,7 @@ use Rattle.worker_core.specs.Runs.{IsNextRun}
 use Rattle.cluster_world.specs.declared.search.Search.{Search}
 use Rattle.cluster_world.specs.declared.search.Search.TheVariants.{Passing, Found}
 use Rattle.cluster_world.specs.declared.progress.Kind.TheVariants as kind
-use Rattle.cluster_world.specs.Searching.{IsNextFinish, next, searched, is_found, node_events, finish_events, asks_of, worker_asks, name_of, serve_events, answer_events, found, left}
+use Rattle.cluster_world.specs.Searching.{IsNextFinish, next, searched, is_found, node_events, finish_events, ask_events, asks_of, worker_asks, name_of, serve_events, answer_events, found, left}
 
 -- events one by one
 module _ (on : Event → Bool) where
@@ -199,6 +200,45 @@ not_none n = grind (arith, nat_tests)
 pub found_stays : (on : Event → Bool) (s : Search) (es : List Event) → is_found s ≡ true → s ≡ searched on s es
 found_stays on (Passing n) es h = absurd (false≢true h)
 found_stays on (Found e) es h = sym (searched_found on e es)
+
+-- where none is enabled, none is found
+pub none_on : {A : Type 0} (on : Event → Bool) (s : Search) (f : A → Event) (xs : List A) → ((x : A) → on (f x) ≡ false) → searched on s (flat_map (λ x. f x ∷ []) xs) ≡ s
+none_on on s f [] h = refl
+none_on on s f (x ∷ xs) h = ap (λ b. searched on (next s b (f x)) (flat_map (λ x. f x ∷ []) xs)) (h x) ∙ ap (λ r. searched on r (flat_map (λ x. f x ∷ []) xs)) (kept on s (f x)) ∙ none_on on s f xs h
+
+-- no ask fails where all workers are alive
+none_fail : (w : World) (a : Asker) (n : ℕ) → ((k : ℕ) → k < n → w.alive (k + 1) ≡ true) → flat_map (ask_events w true a) (range_with_len 1 n) ≡ []
+none_fail w a zero h = refl
+none_fail w a (suc n) h =
+    let u : suc n ≡ n + 1 = omega arith in
+    ap (λ m. flat_map (ask_events w true a) (range_with_len 1 m)) u ∙ ap (flat_map (ask_events w true a)) (range_more 1 n) ∙ flat_map-append (ask_events w true a) (range_with_len 1 n) ((1 + n) ∷ [])
+    ∙ (λ t. none_fail w a n (λ k l. h k (omega arith)) t ++ last t)
+  where
+    last : flat_map (ask_events w true a) ((1 + n) ∷ []) ≡ []
+    last = let v : 1 + n ≡ n + 1 = omega arith in ap (λ b. cond b [] (event.FailGather a (1 + n) ∷ []) ++ []) (ap w.alive v ∙ h n (omega arith))
+
+pub none_fails : (w : World) (askers : List Asker) → ((n : ℕ) → n < w.sched.last_worker → w.alive (n + 1) ≡ true) → flat_map (asks_of w true) askers ≡ []
+none_fails w [] h = refl
+none_fails w (a ∷ askers) h = λ t. none_fail w a w.sched.last_worker h t ++ none_fails w askers h t
+
+pub one_more_alive : (alive : ℕ → Bool) (n : ℕ) (now : Bool) → ((k : ℕ) → k < n → alive (k + 1) ≡ true) → now ≡ alive (n + 1) → now ≡ true → (k : ℕ) → k < n + 1 → alive (k + 1) ≡ true
+one_more_alive alive n now h e d k l = ⊎_elim (λ m. h k m) (λ m. let u : k ≡ n = omega arith in ap (λ z. alive (z + 1)) u ∙ sym e ∙ d) (cases_lt k n)
+
+-- a worker without a key to fetch asks nobody
+filter_none : (p : ℕ → Bool) (xs : List ℕ) → ((k : ℕ) → p k ≡ false) → filter p xs ≡ []
+filter_none p [] h = refl
+filter_none p (x ∷ xs) h = ap (λ b. cond b (x ∷ filter p xs) (filter p xs)) (h x) ∙ filter_none p xs h
+
+pub no_questions : (w : WorkerFacts) → ((k : ℕ) → is_fetch_state (wstate w k) ≡ false) → (p : ℕ) → would_ask w p ≡ false
+unfolding would_ask fetchable
+no_questions w h p = ap (λ l. is_none (ask_to w.asks p) && has_any (filter_map (λ k. item_at p k (w.holders k)) l)) (filter_none (λ k. is_fetch_state (wstate w k)) (worker_keys w) h) ∙ off (is_none (ask_to w.asks p))
+  where
+    off : (b : Bool) → (b && false) ≡ false
+    off true = refl
+    off false = refl
+
+pub asks_none : (alive b : Bool) (w f : WorkerFacts) → alive ≡ true → w ≡ f → (b ≡ false) ↔ ((k : ℕ) → is_fetch_state (wstate f k) ≡ false) → b ≡ false → (p : ℕ) → (alive && would_ask w p) ≡ false
+asks_none alive b w f a e h n p = (λ t. a t && would_ask (e t) p) ∙ no_questions f (h.0 n) p
 
 -- up to this number
 pub up_to : (on : Event → Bool) (f : ℕ → List Event) (s r : Search) (n m : ℕ) → n ≡ m → r ≡ searched on s (flat_map f (from_one n)) → r ≡ searched on s (flat_map f (from_one m))

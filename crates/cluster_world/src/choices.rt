@@ -1,6 +1,7 @@
 //! What a search for progress events asks of a world.
-ghost use Rattle.std.specs.Prelude.{◌≡◌, ◌<◌, length, map, Some, slice_get};
+ghost use Rattle.std.specs.Prelude.{◌≡◌, ◌<◌, ℕ, false, length, map, Some, slice_get};
 ghost use Rattle.cluster_msgs.specs.Shape.{key_count};
+ghost use Rattle.cluster_msgs.specs.declared.events.Event.TheVariants.{SendGather};
 ghost use Rattle.cluster_rules.specs.Enabled.{enabled};
 ghost use Rattle.cluster_rules.specs.World.{World, shape_of, is_connected};
 ghost use Rattle.cluster_world.specs.Searching.{IsNextFinish, name_of};
@@ -50,6 +51,11 @@ pub trait Choices {
     fn next_finish(&self, worker: u32, first: u32) -> Option<u32>
         requires { is_whole self.now }
         ensures { IsNextFinish (world self.now) worker first result };
+
+    /// Whether an asker may have something to ask a peer.
+    fn has_questions(&self, asker: Asker) -> bool
+        requires { is_whole self.now }
+        ensures { result ≡ false → (p : ℕ) → enabled (world self.now) (SendGather asker p) ≡ false };
 
     /// How many requests are under way.
     fn requests(&self) -> usize
@@ -108,6 +114,10 @@ impl<J: Drop, B: Drop, F: Drop> Choices for State<J, B, F> {
 
     fn next_finish(&self, worker: u32, first: u32) -> Option<u32> {
         State::next_finish(self, worker, first)
+    }
+
+    fn has_questions(&self, asker: Asker) -> bool {
+        State::has_questions(self, asker)
     }
 
     fn requests(&self) -> usize {

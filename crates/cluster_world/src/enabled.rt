@@ -1,7 +1,8 @@
 //! Which events are enabled. No question takes memory.
-ghost use Rattle.std.specs.Prelude.{◌≡◌, ◌+◌, ◌&&◌, None, cond, length, nat_lt, not, is_some};
+ghost use Rattle.std.specs.Prelude.{◌≡◌, ◌+◌, ◌&&◌, ℕ, None, false, cond, length, nat_lt, not, is_some};
 ghost use Rattle.std.specs.List.{list_all};
 ghost use Rattle.std.specs.Option.{option_copied, option_map};
+ghost use Rattle.cluster_msgs.specs.declared.events.Event.TheVariants.{SendGather};
 ghost use Rattle.cluster_rules.specs.SchedTable.{sched_takes};
 ghost use Rattle.cluster_rules.specs.Worker.{ask_to, has_any, would_ask, would_start};
 ghost use Rattle.cluster_rules.specs.Client.{client_would_ask};
@@ -279,6 +280,28 @@ impl<J: Drop, B: Drop, F: Drop> State<J, B, F> {
     {
         match self.worker(worker) {
             Some(core) => core.would_ask(peer),
+            None => false,
+        }
+    }
+
+    /// Whether an asker may have something to ask a peer. Where it hasn't, no ask of it can be sent.
+    pub fn has_questions(&self, asker: Asker) -> bool
+        requires { IsJoint self.now }
+        ensures { result ≡ false → (p : ℕ) → enabled (world self.now) (SendGather asker p) ≡ false }
+    {
+        match asker {
+            Asker::Worker(worker) => self.worker_fetches(worker),
+            Asker::Client(_) => true,
+        }
+    }
+
+    /// Whether a worker that is alive has a key to fetch.
+    fn worker_fetches(&self, worker: u32) -> bool
+        requires { IsNodes self.now.nodes }
+        ensures { result ≡ false → (p : ℕ) → ((world self.now).alive worker && would_ask ((world self.now).workers worker) p) ≡ false }
+    {
+        match self.worker(worker) {
+            Some(core) => core.is_fetching(),
             None => false,
         }
     }

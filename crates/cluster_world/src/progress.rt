@@ -1,5 +1,5 @@
 //! The events that make progress, in their order: which one has a number, and how many are enabled.
-ghost use Rattle.std.specs.Prelude.{◌≡◌, ◌-◌, ◌^◌, length, map, min, slice_get};
+ghost use Rattle.std.specs.Prelude.{◌≡◌, ◌+◌, ◌-◌, ◌<◌, ◌^◌, ℕ, false, true, length, map, min, slice_get};
 ghost use Rattle.std.specs.List.{flat_map};
 ghost use Rattle.cluster_msgs.specs.Shape.{key_count};
 ghost use Rattle.cluster_msgs.specs.declared.events.Asker.TheVariants.{Client};
@@ -87,7 +87,7 @@ pub fn search<C: Choices>(world: &C, n: u64) -> Search
     let asks = search_asks(world, false, finishes);
     let requests = search_requests(world, asks);
     let answers = search_answers(world, requests);
-    search_asks(world, true, answers)
+    search_fails(world, answers)
 }
 
 fn search_one<C: Choices>(world: &C, e: Event, search: Search) -> Search
@@ -172,6 +172,32 @@ fn search_asks<C: Choices>(world: &C, failing: bool, search: Search) -> Search
     search_client_asks(world, failing, workers)
 }
 
+/// Gathers that fail: none, where all workers are alive.
+fn search_fails<C: Choices>(world: &C, search: Search) -> Search
+    requires { C.is_whole world.now }
+    ensures { result ≡ searched (enabled (C.world world.now)) search (flat_map (asks_of (C.world world.now) true) (quiet_askers (C.world world.now))) }
+{
+    if some_died(world) {
+        search_asks(world, true, search)
+    } else {
+        search
+    }
+}
+
+/// Whether a worker is dead.
+fn some_died<C: Choices>(world: &C) -> bool
+    requires { C.is_whole world.now }
+    ensures { result ≡ false → (n : ℕ) → n < (C.world world.now).sched.last_worker → (C.world world.now).alive (n + 1) ≡ true }
+{
+    for before in 0..world.last_worker() {
+        let dead = !world.alive(before + 1);
+        if dead {
+            return true;
+        }
+    }
+    false
+}
+
 /// Those of connected workers.
 fn search_worker_asks<C: Choices>(world: &C, failing: bool, search: Search) -> Search
     requires { C.is_whole world.now }
@@ -216,6 +242,30 @@ fn search_asks_of<C: Choices>(world: &C, asker: Asker, failing: bool, search: Se
     if search.is_found() {
         return search;
     }
+    if failing {
+        search_each(world, asker, true, search)
+    } else {
+        search_questions(world, asker, search)
+    }
+}
+
+/// The asks that one asker sends, by peer: none, where it has nothing to ask.
+fn search_questions<C: Choices>(world: &C, asker: Asker, search: Search) -> Search
+    requires { C.is_whole world.now }
+    ensures { result ≡ searched (enabled (C.world world.now)) search (asks_of (C.world world.now) false asker) }
+{
+    if world.has_questions(asker) {
+        search_each(world, asker, false, search)
+    } else {
+        search
+    }
+}
+
+/// The asks of one asker, peer by peer.
+fn search_each<C: Choices>(world: &C, asker: Asker, failing: bool, search: Search) -> Search
+    requires { C.is_whole world.now }
+    ensures { result ≡ searched (enabled (C.world world.now)) search (asks_of (C.world world.now) failing asker) }
+{
     let mut search = search;
     for before in 0..world.last_worker() {
         search = search_ask(world, asker, before + 1, failing, search);

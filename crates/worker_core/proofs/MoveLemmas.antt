@@ -1,10 +1,10 @@
 -- The least key that runs, as it is said of the core, and keys that are gone through by a set of them.
-use Rattle.std.proofs.Common.{◌≡◌, ℕ, ◌+◌, ◌<◌, ◌≤◌, Bool, true, false, ◌&&◌, ◌||◌, List, [], ◌∷◌, ◌++◌, Option, Some, None, All, filter, cond, refl, sym, ap, ◌∙◌, subst}
-use Rattle.std.specs.Prelude.{◌==◌}
+use Rattle.std.proofs.Common.{◌≡◌, ℕ, ◌+◌, ◌<◌, ◌≤◌, Bool, true, false, ◌&&◌, ◌||◌, List, [], ◌∷◌, ◌++◌, Option, Some, None, All, filter, cond, refl, sym, ap, ◌∙◌, subst, arith}
+use Rattle.std.specs.Prelude.{◌==◌, ◌↔◌, is_some}
 use Rattle.std.proofs.lemmas.Bool.{false≢true, eqb-true}
 use Rattle.std.proofs.lemmas.List.Elements.{All-head, All-tail}
 use Rattle.cluster_rules.specs.Derived.{below, is_in}
-use Rattle.cluster_rules.specs.Worker.{WorkerFacts}
+use Rattle.cluster_rules.specs.Worker.{WorkerFacts, wstate, is_fetch_state}
 use Rattle.cluster_rules.proofs.DerivedLemmas.{eqb_comm}
 use Rattle.cluster_rules.proofs.SchedLemmas.{filter-below}
 use Rattle.key_sets.specs.Sets.{IsFirst}
@@ -14,6 +14,11 @@ use Rattle.worker_core.specs.Runs.{IsNextRun}
 pub next_of : (w : WorkerFacts) (from : ℕ) (o : Option ℕ) → IsFirst w.running from o → IsNextRun w from o
 next_of w from None h = h
 next_of w from (Some k) h = record { past = h.0; runs = h.1; before = h.2 }
+
+-- none is to be fetched where there is no first one
+pub none_fetched : (w : WorkerFacts) (o : Option ℕ) (b : Bool) → IsFirst (λ k. is_fetch_state (wstate w k)) 0 o → b ≡ is_some o → (b ≡ false) ↔ ((k : ℕ) → is_fetch_state (wstate w k) ≡ false)
+none_fetched w None b h e = ((λ n k. h k (omega arith)), (λ n. e))
+none_fetched w (Some r) b h e = ((λ n k. absurd (false≢true (sym n ∙ e))), (λ n. absurd (false≢true (sym (n r) ∙ h.1))))
 
 pub named_more : (a b : Bool) (k x : ℕ) → cond (k == x) true (a || b) ≡ (a || (b || (x == k)))
 named_more a b k x = pick a b (k == x) (x == k) (eqb_comm k x)

@@ -5,7 +5,7 @@ ghost use Rattle.std.specs.Prelude.{◌≡◌, ◌↔◌, ◌++◌, ◌+◌, ◌
 ghost use Rattle.cluster_msgs.specs.Shape.{key_count};
 ghost use Rattle.cluster_msgs.specs.declared.cores.Instruction.{Instruction};
 ghost use Rattle.std.specs.Option.{option_map};
-ghost use Rattle.cluster_rules.specs.Worker.{new_worker, wstate, would_start, would_ask, ask_to, pairs};
+ghost use Rattle.cluster_rules.specs.Worker.{new_worker, wstate, is_fetch_state, would_start, would_ask, ask_to, pairs};
 ghost use Rattle.cluster_rules.specs.WorkerStep.{worker_step, worker_takes};
 ghost use Rattle.cluster_rules.specs.WorkerKept.{IsKept};
 ghost use Rattle.worker_core.specs.Core.{RunsFew, facts};
@@ -177,6 +177,13 @@ impl WorkerCore {
         ensures { result ≡ would_ask (facts self.now) peer }
     {
         self.moves.would_ask(&self.table, peer)
+    }
+
+    /// Whether some key is to be fetched. Where none is, no ask is possible.
+    pub fn is_fetching(&self) -> bool
+        ensures { (result ≡ false) ↔ ((k : ℕ) → is_fetch_state (wstate (facts self.now) k) ≡ false) }
+    {
+        self.table.next_fetch(0).is_some()
     }
 
     /// Whether the worker holds the key's block.

@@ -19,7 +19,7 @@ returns g c =
     let e = c.search_kind-news.result in
     let f = c.search_kind-wants.result in
     let h = c.search_kind-starts.result in
-    c.search_asks.ensures ∙ kinds_are w on start a b d e f h c.search_finishes-finishes.result c.search_asks-asks.result c.search_requests-requests.result c.search_answers-answers.result
+    c.search_fails.ensures ∙ kinds_are w on start a b d e f h c.search_finishes-finishes.result c.search_asks-asks.result c.search_requests-requests.result c.search_answers-answers.result
     (up_to on (node_events w kind.SeeLoss) start a workers w.sched.last_worker c.last_worker-workers.ensures c.search_kind-losses.ensures)
     (up_to on (node_events w kind.DeliverDown) a b workers w.sched.last_worker c.last_worker-workers.ensures c.search_kind-downs.ensures)
     (up_to on (node_events w kind.DeliverUp) b d workers w.sched.last_worker c.last_worker-workers.ensures c.search_kind-ups.ensures)
