@@ -1,0 +1,4 @@
+pub mod Fitting
+pub mod WorkerLaw
+pub mod ClientLaw
+pub mod SchedLaw

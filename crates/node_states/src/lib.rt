@@ -1,0 +1,14 @@
+//! The states of the nodes of a running cluster, and what one turn makes of each: it chooses one event, records it with one step of the core,
+//! and sends what the step has to send.
+#![tactic(auto)]
+
+mod client;
+mod cores;
+mod evidence;
+mod laws;
+mod links;
+
+pub use client::{ClientNode, ClientTurn};
+pub use cores::{GatheringCore, SchedulingCore, WorkingCore};
+pub use evidence::{Blame, ClientCause, Fault, SchedCause, SchedOut, WorkerCause, WorkerOut};
+pub use laws::{blames_are_faulty, clients_know_right_blames, workers_err_after_zero_divisors};
