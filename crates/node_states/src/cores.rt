@@ -6,7 +6,6 @@ ghost use Rattle.node_states.specs.Fitting.{SchedFits, ClientFits};
 
 use crate::evidence::{ClientCause, SchedCause, SchedOut, WorkerCause, WorkerOut};
 use cluster_msgs::{ClientOut, Instructions, Label, Outbox, Stop};
-use cluster_rules::Facts;
 use gather_client::ClientCore;
 use node_links::Machine;
 use scheduler_core::Sched;
@@ -63,7 +62,7 @@ impl<L: Label> Machine for SchedulingCore<L> {
         if self.torn {
             return Err(Stop::Memory);
         }
-        self.core.sound();
+        cluster_rules::Facts::sound(&self.core);
         let mut made = Outbox::new(self.alloc);
         match self.core.on(event.into_event(), &mut made) {
             Ok(()) => {

@@ -4,7 +4,7 @@ ghost use Rattle.cluster_msgs.specs.Labels.{ErrorFits, BlameFits, UpFits, ToClie
 ghost use Rattle.node_states.specs.Fitting.{SchedEventFits, ClientEventFits, WorkerEventFits, InstructionsFit, LettersFit};
 
 use cluster_msgs::{
-    ClientEvent, Instructions, Label, Outbox, SchedEvent, Sequence, WorkerEvent,
+    ClientEvent, Instruction, Instructions, Label, Outbox, SchedEvent, Sequence, WorkerEvent,
 };
 use std::alloc::Global;
 use std::marker::{Model, PhantomData};
@@ -229,6 +229,13 @@ impl<L: Label> WorkerOut<L> {
             made,
             label: PhantomData,
         }
+    }
+
+    /// The instructions.
+    pub fn instructions(&self) -> &[Instruction]
+        ensures { result.now ≡ self.now }
+    {
+        self.made.as_slice()
     }
 
     pub fn into_instructions(self) -> Instructions
