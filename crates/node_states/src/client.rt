@@ -390,7 +390,9 @@ impl<B: Drop, L: Label<Block = B>> Kept for ClientNode<B, L> {
 
     type Core = GatheringCore<L>;
 
-    ghost use Rattle.std.specs.Prelude.{◌≡◌, false};
+    ghost use Rattle.std.specs.Prelude.{◌≡◌, false, All, IfSome};
+    ghost use Rattle.std.specs.Arc.{arc_value};
+    ghost use Rattle.cluster_msgs.specs.Labels.{BlockFits};
     ghost use Rattle.gather_client.specs.CoreState.{client_facts};
     ghost use Rattle.node_links.specs.Books.{Steps};
     ghost use Rattle.node_states.specs.Fitting.{ClientFits};
@@ -403,7 +405,8 @@ impl<B: Drop, L: Label<Block = B>> Kept for ClientNode<B, L> {
 
     ghost steps = { Steps ⟦<GatheringCore<L> as Machine>⟧.says ⟦<GatheringCore<L> as Machine>⟧.by };
 
-    ghost fits = { λ f s. s.book.core.torn ≡ false → ClientFits f (client_facts s.book.core.core) };
+    ghost fits = { λ f s. (s.book.core.torn ≡ false → ClientFits f (client_facts s.book.core.core))
+        × All (λ o. IfSome o (λ x. BlockFits f x.key (arc_value x.block))) s.blocks.got.items };
 
     fn count(&self) -> u64 {
         self.book.stored()

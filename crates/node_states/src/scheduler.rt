@@ -1,11 +1,10 @@
 //! The scheduler's node.
-ghost use Rattle.std.specs.Prelude.{◌≡◌, [], true, false, IfOk, IfSome, Ok, Some, None};
+ghost use Rattle.std.specs.Prelude.{◌≡◌, ◌≢◌, [], true, false, IfOk, IfSome, Ok, Some, None};
 ghost use Rattle.cluster_msgs.specs.Labels.{PacketFits};
 ghost use Rattle.cluster_rules.specs.Sched.{Facts as SchedFacts};
 ghost use Rattle.scheduler_core.specs.Cores.{facts};
 ghost use Rattle.node_links.specs.Books.{IsRecorded, Steps};
 ghost use Rattle.node_states.specs.declared.scheduler.Course.TheVariants as course;
-ghost use Rattle.node_states.specs.Scripts.{IsDue};
 ghost use Rattle.node_states.specs.Machines.{SchedSays};
 
 use crate::cores::SchedulingCore;
@@ -18,11 +17,7 @@ use std::alloc::{AllocError, Global};
 use std::sync::Wait;
 use turn_cell::{Act, Kept, Stamps};
 
-/// At most so many workers are connected at once.
-const MOST_WORKERS: u32 = 64;
-
-/// What a turn of the scheduler says: it made an event, or had none; a worker is to be made to end first; or nobody is left to serve, and nobody is
-/// to come.
+/// What a turn of the scheduler says: it made an event, or had none; a worker is to be made to end first; or no worker is left and none is to come.
 #[derive(Clone, Copy)]
 pub enum Course {
     Moved,
@@ -39,12 +34,11 @@ struct Choice<L: Label> {
     said: Option<SchedCause<L>>,
 }
 
-/// What a look at the script finds.
+/// What goes before losses and messages: an event, or a worker that is to be made to end first, or neither.
 #[derive(Drop)]
-enum Due<L: Label> {
-    Event(Choice<L>),
-    LoseFirst(u32),
-    Nothing,
+struct Due<L: Label> {
+    choice: Option<Choice<L>>,
+    lose_first: Option<u32>,
 }
 
 /// The scheduler with its history and its links. `planned` workers join first, then the script's items come in their order, each once as many
@@ -119,10 +113,11 @@ impl<B: Drop, L: Label<Block = B>> SchedulerNode<B, L> {
         if self.stopped.is_some() {
             return Course::Over;
         }
-        let course = match self.due(dead) {
-            Due::Event(choice) => self.carry(rt, stamps, choice),
-            Due::LoseFirst(worker) => Course::LoseFirst(worker),
-            Due::Nothing => self.go_on(rt, stamps, dead),
+        let Due { choice, lose_first } = self.due(dead);
+        let course = match (choice, lose_first) {
+            (Some(choice), _) => self.carry(rt, stamps, choice),
+            (None, Some(worker)) => Course::LoseFirst(worker),
+            (None, None) => self.go_on(rt, stamps, dead),
         };
         self.links.flush(rt);
         course
@@ -131,13 +126,13 @@ impl<B: Drop, L: Label<Block = B>> SchedulerNode<B, L> {
     /// What goes before losses and messages: a worker of the plan joins, or after each 64 entries Evict, or after each 16 Balance, or the script.
     fn due(&mut self, dead: &[bool]) -> Due<L>
         ensures book { self.new.book ≡ self.old.book }
-        ensures says { IsDue (facts self.new.book.core.core) result }
+        ensures says { IfSome result.choice (λ c. SchedSays (facts self.new.book.core.core) c.event c.message c.said) }
     {
         if self.joined < self.planned {
-            return Due::Event(self.join());
+            return event(self.join());
         }
         if let Some(choice) = self.policy() {
-            return Due::Event(choice);
+            return event(choice);
         }
         self.item(dead)
     }
@@ -188,18 +183,18 @@ impl<B: Drop, L: Label<Block = B>> SchedulerNode<B, L> {
     /// connected, and all later joins with it.
     fn item(&mut self, dead: &[bool]) -> Due<L>
         ensures book { self.new.book ≡ self.old.book }
-        ensures says { IsDue (facts self.new.book.core.core) result }
+        ensures says { IfSome result.choice (λ c. SchedSays (facts self.new.book.core.core) c.event c.message c.said) }
     {
         for _ in 0..self.script.len() {
             let Some(item) = self.next_item() else {
-                return Due::Nothing;
+                return nothing();
             };
             match self.look(item, dead) {
                 Some(due) => return due,
                 None => self.next = self.next.saturating_add(1),
             }
         }
-        Due::Nothing
+        nothing()
     }
 
     /// The script's next item, where its time has come.
@@ -224,7 +219,7 @@ impl<B: Drop, L: Label<Block = B>> SchedulerNode<B, L> {
     /// What an item asks for, or none where it is passed.
     fn look(&mut self, item: Item, dead: &[bool]) -> Option<Due<L>>
         ensures book { self.new.book ≡ self.old.book }
-        ensures says { IfSome result (IsDue (facts self.new.book.core.core)) }
+        ensures says { IfSome result (λ due. IfSome due.choice (λ c. SchedSays (facts self.new.book.core.core) c.event c.message c.said)) }
     {
         match item {
             Item::Lose { w, at: _ } => {
@@ -232,22 +227,22 @@ impl<B: Drop, L: Label<Block = B>> SchedulerNode<B, L> {
                     return None;
                 }
                 if is_dead(dead, w) {
-                    return Some(Due::Event(lost(w)));
+                    return Some(event(lost(w)));
                 }
-                Some(Due::LoseFirst(w))
+                Some(lose_first(w))
             }
             Item::Suspect { w, at: _ } => {
                 if !self.is_connected(w) {
                     return None;
                 }
-                Some(Due::Event(suspect(w)))
+                Some(event(suspect(w)))
             }
             Item::Join { at: _ } => {
-                if self.connected() >= MOST_WORKERS {
-                    return Some(Due::Nothing);
+                if !self.may_join() {
+                    return Some(nothing());
                 }
                 self.next = self.next.saturating_add(1);
-                Some(Due::Event(self.join()))
+                Some(event(self.join()))
             }
         }
     }
@@ -259,15 +254,23 @@ impl<B: Drop, L: Label<Block = B>> SchedulerNode<B, L> {
         }
     }
 
-    /// How many workers are connected.
-    fn connected(&self) -> u32 {
-        let mut count = 0;
+    /// Whether the core would let one more worker join.
+    fn may_join(&self) -> bool {
+        let threads = self.threads;
+        match self.book.core() {
+            None => false,
+            Some(core) => core.core.takes(&SchedEvent::Join { threads }),
+        }
+    }
+
+    /// Whether a worker is connected.
+    fn is_any_connected(&self) -> bool {
         for at in 0..self.links.workers() {
             if self.is_connected(number(at)) {
-                count = count.saturating_add(1);
+                return true;
             }
         }
-        count
+        false
     }
 
     /// A connected worker that has ended is seen as lost; else a message is taken; else the run may be over.
@@ -290,14 +293,14 @@ impl<B: Drop, L: Label<Block = B>> SchedulerNode<B, L> {
         }
     }
 
-    /// Over where no worker is connected and no item of the script is left.
+    /// Over where no worker is connected: what of the script is due was looked at before, and no task will finish any more.
     fn rest(&self) -> Course
         ensures { result ≢ course.Moved }
     {
-        if self.connected() == 0 && self.next >= self.script.len() {
-            Course::Over
-        } else {
+        if self.is_any_connected() {
             Course::Idle
+        } else {
+            Course::Over
         }
     }
 
@@ -398,6 +401,36 @@ impl<B: Drop, L: Label<Block = B>> SchedulerNode<B, L> {
         self.book
             .record(stamps, event, message, said, &mut out)?;
         self.links.post(rt, out)
+    }
+}
+
+/// An event is due.
+fn event<L: Label>(choice: Choice<L>) -> Due<L>
+    ensures { result.choice ≡ Some choice }
+{
+    Due {
+        choice: Some(choice),
+        lose_first: None,
+    }
+}
+
+/// A worker is to be made to end first.
+fn lose_first<L: Label>(worker: u32) -> Due<L>
+    ensures { result.choice ≡ None }
+{
+    Due {
+        choice: None,
+        lose_first: Some(worker),
+    }
+}
+
+/// Nothing is due.
+fn nothing<L: Label>() -> Due<L>
+    ensures { result.choice ≡ None }
+{
+    Due {
+        choice: None,
+        lose_first: None,
     }
 }
 

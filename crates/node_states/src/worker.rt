@@ -1,7 +1,10 @@
 //! A worker's node.
-ghost use Rattle.std.specs.Prelude.{◌≡◌, ℕ, [], true, false, map, filter, IfOk, IfSome, Ok, Some, None};
+ghost use Rattle.std.specs.Prelude.{◌≡◌, ◌≢◌, ℕ, [], true, false, map, filter, IfOk, IfErr, IfSome, Ok, Some, None};
 ghost use Rattle.cluster_msgs.specs.Labels.{PacketFits};
 ghost use Rattle.cluster_msgs.specs.Shape.{deps_of};
+ghost use Rattle.cluster_msgs.specs.declared.cores.WorkerEvent.TheVariants as worker;
+ghost use Rattle.cluster_msgs.specs.declared.events.Asker.TheVariants.{Worker};
+ghost use Rattle.cluster_msgs.specs.declared.events.Event.TheVariants as event;
 ghost use Rattle.cluster_rules.specs.Worker.{WorkerFacts};
 ghost use Rattle.worker_core.specs.Core.{facts};
 ghost use Rattle.node_links.specs.Books.{IsRecorded, Steps};
@@ -538,7 +541,9 @@ impl<B: Drop, L: Label<Block = B>, F: Drop> Kept for WorkerNode<B, L, F> {
     type Core = WorkingCore<L>;
 
     ghost use Rattle.node_links.specs.Books.{Steps};
-    ghost use Rattle.node_states.specs.Holding.{HeldFit};
+    ghost use Rattle.std.specs.Prelude.{All, IfSome};
+    ghost use Rattle.std.specs.Arc.{arc_value};
+    ghost use Rattle.cluster_msgs.specs.Labels.{BlockFits};
 
     ghost entries = { λ s. s.book.entries };
 
@@ -548,7 +553,7 @@ impl<B: Drop, L: Label<Block = B>, F: Drop> Kept for WorkerNode<B, L, F> {
 
     ghost steps = { Steps ⟦<WorkingCore<L> as Machine>⟧.says ⟦<WorkingCore<L> as Machine>⟧.by };
 
-    ghost fits = { λ f s. HeldFit f s.blocks.held.items };
+    ghost fits = { λ f s. All (λ o. IfSome o (λ x. BlockFits f x.key (arc_value x.block))) s.blocks.held.items };
 
     fn count(&self) -> u64 {
         self.book.stored()
