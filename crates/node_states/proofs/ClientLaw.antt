@@ -51,7 +51,7 @@ module _ {B : Type 0} (facts : LabelFacts B) where
   fit_gathered c p n found h = pick (ask_to c.asks p)
     where
       over : (a : Ask) (b : Bool) → ClientFits facts (cond b (client_answered (record c { asks = without_ask c.asks p }) p (keys_of (filter (λ i. is_in i.0 found) a.items)) (filter (λ i. not (is_in i.0 found)) a.items)) (keeps_still c)).facts
-      over a true = fit_misses (filter (λ i. not (is_in i.0 found)) a.items) _ (fit_gets _ (record c { asks = without_ask c.asks p }) (record { failed = h.failed }))
+      over a true = fit_misses (filter (λ i. not (is_in i.0 found)) a.items) (fold client_gets (record c { asks = without_ask c.asks p }) (keys_of (filter (λ i. is_in i.0 found) a.items))) (fit_gets (keys_of (filter (λ i. is_in i.0 found) a.items)) (record c { asks = without_ask c.asks p }) (record { failed = h.failed }))
       over a false = h
 
       pick : (o : Option Ask) → ClientFits facts (client_gathered_by c p n found o).facts

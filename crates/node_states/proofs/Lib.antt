@@ -2,3 +2,4 @@ pub mod Fitting
 pub mod WorkerLaw
 pub mod ClientLaw
 pub mod SchedLaw
+pub mod Kept

@@ -14,6 +14,7 @@ use Rattle.cluster_msgs.specs.declared.events.Asker.{Asker}
 use Rattle.cluster_msgs.specs.declared.events.Asker.TheVariants.{Worker, Client}
 use Rattle.cluster_msgs.specs.declared.events.Event.{Event}
 use Rattle.cluster_msgs.specs.declared.events.Event.TheVariants as event
+use Rattle.scheduler_core.specs.Cores.{Core}
 use Rattle.cluster_rules.specs.Sched.{Facts, connected}
 use Rattle.cluster_rules.specs.SchedTable.{sched_takes}
 use Rattle.cluster_rules.specs.SchedStep.{sched_step}
@@ -36,6 +37,12 @@ SchedSays f _ _ o = ⊥
 pub record SchedBy (f : Facts) (e : SchedEvent) (g : Facts) : Type 0 where
   pub takes : sched_takes f e ≡ true
   pub facts : g ≡ (sched_step f e).facts
+  pub setting : g.setting ≡ f.setting
+
+-- the scheduler's core, and whether memory ended inside it
+pub record SchedState : Type 0 where
+  pub core : Core
+  pub torn : Bool
 
 -- worker `id`: its end, a spill and what it served leave its core as it was
 abbrev pub WorkerSays : ℕ → WorkerFacts → Event → Option Message → Option WorkerEvent → Type 0

@@ -7,6 +7,7 @@ ghost use Rattle.cluster_msgs.specs.declared.events.Event.TheVariants as event;
 ghost use Rattle.cluster_rules.specs.Client.{ClientFacts, done};
 ghost use Rattle.gather_client.specs.CoreState.{client_facts};
 ghost use Rattle.node_links.specs.Books.{IsRecorded, Steps};
+ghost use Rattle.node_states.specs.Fitting.{ClientFits};
 ghost use Rattle.node_states.specs.Machines.{ClientSays};
 
 use crate::cores::GatheringCore;
@@ -100,12 +101,10 @@ impl<B: Drop, L: Label<Block = B>> ClientNode<B, L> {
     /// The failure of a key, if it failed, with a blame that fits the label.
     #[tactic(auto, using(crate::proofs::Fitting::erred_fits))]
     pub fn failure(&self, key: u32) -> Option<Blame<L>>
+        requires fits { ClientFits L.facts (client_facts self.now.book.core.core) }
         ensures { IfSome result (λ blame. blame.key ≡ key) }
     {
         let core = self.book.core()?;
-        if core.torn() {
-            return None;
-        }
         match core.core.done(key) {
             Some(End::Erred { blame }) => Some(Blame::new(key, blame)),
             _ => None,
@@ -405,7 +404,7 @@ impl<B: Drop, L: Label<Block = B>> Kept for ClientNode<B, L> {
 
     ghost steps = { Steps ⟦<GatheringCore<L> as Machine>⟧.says ⟦<GatheringCore<L> as Machine>⟧.by };
 
-    ghost fits = { λ f s. (s.book.core.torn ≡ false → ClientFits f (client_facts s.book.core.core))
+    ghost fits = { λ f s. ClientFits f (client_facts s.book.core.core)
         × All (λ o. IfSome o (λ x. BlockFits f x.key (arc_value x.block))) s.blocks.got.items };
 
     fn count(&self) -> u64 {

@@ -1,8 +1,7 @@
 //! The three cores, as a book has them.
 ghost use Rattle.std.specs.Prelude.{◌≡◌, false, IfOk};
 ghost use Rattle.scheduler_core.specs.Cores.{facts};
-ghost use Rattle.gather_client.specs.CoreState.{client_facts};
-ghost use Rattle.node_states.specs.Fitting.{SchedFits, ClientFits};
+ghost use Rattle.node_states.specs.Fitting.{SchedFits};
 
 use crate::evidence::{ClientCause, SchedCause, SchedOut, WorkerCause, WorkerOut};
 use cluster_msgs::{ClientOut, Instructions, Label, Outbox, Stop};
@@ -10,17 +9,29 @@ use gather_client::ClientCore;
 use node_links::Machine;
 use scheduler_core::Sched;
 use std::alloc::Global;
-use std::marker::PhantomData;
+use std::marker::{Model, PhantomData};
 use worker_core::WorkerCore;
 
-/// The scheduler's core. As long as memory doesn't end inside it, it goes by the label's graph, and each key that it counts as bad is faulty.
+/// The scheduler's core. As long as memory doesn't end inside it (`torn`), it goes by the label's graph, and each key that it counts as bad is faulty.
 #[derive(Drop)]
 pub struct SchedulingCore<L: Label> {
     alloc: Global,
     pub core: Sched,
     torn: bool,
     label: PhantomData<L>,
-    ghost fits: { torn ≡ false → SchedFits L.facts (facts core) },
+}
+
+impl<L: Label> Model for SchedulingCore<L> {
+    ghost use Rattle.std.specs.Prelude.{◌≡◌, false};
+    ghost use Rattle.scheduler_core.specs.Cores.{facts};
+    ghost use Rattle.node_states.specs.Fitting.{SchedFits};
+    ghost use Rattle.node_states.specs.Machines.{SchedState};
+
+    ghost Value = { SchedState };
+
+    ghost view = { λ c. record { core = c.core; torn = c.torn } };
+
+    ghost invariant = { λ c. c.torn ≡ false → SchedFits L.facts (facts c.core) };
 }
 
 impl<L: Label> SchedulingCore<L> {
@@ -51,11 +62,12 @@ impl<L: Label> Machine for SchedulingCore<L> {
     type Out = SchedOut<L>;
 
     ghost use Rattle.scheduler_core.specs.Cores.{facts};
+    ghost use Rattle.node_states.specs.Fitting.{SchedEventFits};
     ghost use Rattle.node_states.specs.Machines.{SchedSays, SchedBy};
 
     ghost says = { λ s. SchedSays (facts s.core) };
 
-    ghost by = { λ s e t. SchedBy (facts s.core) e (facts t.core) };
+    ghost by = { λ s e t. SchedBy (facts s.core) e (facts t.core) × SchedEventFits L.facts e };
 
     #[tactic(auto, using(crate::proofs::SchedLaw::sched_fits, crate::proofs::SchedLaw::letters_fit))]
     fn take(&mut self, event: SchedCause<L>, out: &mut SchedOut<L>) -> Result<(), Stop> {
@@ -107,12 +119,12 @@ impl<L: Label> Machine for WorkingCore<L> {
     type Out = WorkerOut<L>;
 
     ghost use Rattle.std.specs.Prelude.{◌≡◌};
-    ghost use Rattle.worker_core.specs.Core.{facts};
+    ghost use Rattle.worker_core.specs.Core.{facts as worker_facts};
     ghost use Rattle.node_states.specs.Machines.{WorkerSays, WorkerBy};
 
-    ghost says = { λ s. WorkerSays s.id (facts s.core) };
+    ghost says = { λ s. WorkerSays s.id (worker_facts s.core) };
 
-    ghost by = { λ s e t. (t.id ≡ s.id) × WorkerBy (facts s.core) e (facts t.core) };
+    ghost by = { λ s e t. (t.id ≡ s.id) × WorkerBy (worker_facts s.core) e (worker_facts t.core) };
 
     #[tactic(auto, using(crate::proofs::WorkerLaw::out_fits))]
     fn take(&mut self, event: WorkerCause<L>, out: &mut WorkerOut<L>) -> Result<(), Stop> {
@@ -123,37 +135,24 @@ impl<L: Label> Machine for WorkingCore<L> {
     }
 }
 
-/// The core of client `id`. As long as memory doesn't end inside it, each failure that it was told has a blame that fits.
+/// The core of client `id`.
 #[derive(Drop)]
 pub struct GatheringCore<L: Label> {
-    alloc: Global,
     pub id: u32,
     pub core: ClientCore,
-    torn: bool,
     label: PhantomData<L>,
-    ghost fits: { torn ≡ false → ClientFits L.facts (client_facts core) },
 }
 
 impl<L: Label> GatheringCore<L> {
-    /// The core of a client that starts, with its number.
-    pub fn new(alloc: Global, id: u32, core: ClientCore) -> Self
-        requires fits { ClientFits L.facts (client_facts core) }
-        ensures { (result.id ≡ id) × (result.core ≡ core) × (result.torn ≡ false) }
+    /// The core of a client, with its number.
+    pub fn new(id: u32, core: ClientCore) -> Self
+        ensures { (result.id ≡ id) × (result.core ≡ core) }
     {
         GatheringCore {
-            alloc,
             id,
             core,
-            torn: false,
             label: PhantomData,
         }
-    }
-
-    /// Whether memory ended inside it. Nothing is known of its facts then.
-    pub fn torn(&self) -> bool
-        ensures { result ≡ self.now.torn }
-    {
-        self.torn
     }
 }
 
@@ -164,24 +163,14 @@ impl<L: Label> Machine for GatheringCore<L> {
 
     ghost use Rattle.std.specs.Prelude.{◌≡◌};
     ghost use Rattle.gather_client.specs.CoreState.{client_facts};
+    ghost use Rattle.node_states.specs.Fitting.{ClientEventFits};
     ghost use Rattle.node_states.specs.Machines.{ClientSays, ClientBy};
 
     ghost says = { λ s. ClientSays s.id (client_facts s.core) };
 
-    ghost by = { λ s e t. (t.id ≡ s.id) × ClientBy (client_facts s.core) e (client_facts t.core) };
+    ghost by = { λ s e t. (t.id ≡ s.id) × ClientBy (client_facts s.core) e (client_facts t.core) × ClientEventFits L.facts e };
 
-    #[tactic(auto, using(crate::proofs::ClientLaw::client_fits))]
     fn take(&mut self, event: ClientCause<L>, out: &mut ClientOut) -> Result<(), Stop> {
-        if self.torn {
-            return Err(Stop::Memory);
-        }
-        match self.core.on(event.into_event(), out) {
-            Ok(()) => Ok(()),
-            Err(Stop::Memory) => {
-                self.torn = true;
-                Err(Stop::Memory)
-            }
-            Err(stop) => Err(stop),
-        }
+        self.core.on(event.into_event(), out)
     }
 }

@@ -474,7 +474,7 @@ impl<B: Drop, L: Label<Block = B>> Kept for SchedulerNode<B, L> {
 
     ghost steps = { Steps ⟦<SchedulingCore<L> as Machine>⟧.says ⟦<SchedulingCore<L> as Machine>⟧.by };
 
-    ghost fits = { λ f s. s.book.core.torn ≡ false → SchedFits f (facts s.book.core.core) };
+    ghost fits = { λ f s. SchedFits f (facts s.book.core.core) };
 
     fn count(&self) -> u64 {
         self.book.stored()
