@@ -1,7 +1,7 @@
 //! A core with its history.
 ghost use Rattle.std.specs.Prelude.{◌≡◌, ℕ, Option, OnOk, OnErr, IfOk, IfErr, IfSome, is_some, Err, Some, None, [], false, cond, length};
 ghost use Rattle.cluster_msgs.specs.declared.events.Entry.{Entry as AnyEntry};
-ghost use Rattle.node_links.specs.Books.{IsRecorded, AllBelow};
+ghost use Rattle.node_links.specs.Books.{IsRecorded, IsEntryOf, AllBelow};
 ghost use Rattle.node_links.specs.Books.{Steps};
 
 use crate::log::Log;
@@ -91,7 +91,9 @@ impl<C: Machine> Book<C> {
     }
 
     /// How many entries were made, those past the limit too; 2^64 - 1 where there are more.
-    pub fn made(&self) -> u64 {
+    pub fn made(&self) -> u64
+        ensures { self.now.cut ≡ false → result ≡ length self.now.entries }
+    {
         self.log.made()
     }
 
@@ -123,6 +125,7 @@ impl<C: Machine> Book<C> {
     ) -> Result<(), Stop>
         requires says { C.says self.old.core event message said }
         ensures recorded { IsRecorded (Steps C.says C.by) self.old self.new }
+        ensures entry { IsEntryOf event message self.old.entries self.new.entries }
         ensures err { OnErr result (self.new ≡ self.old) }
     {
         match said {
@@ -136,7 +139,7 @@ impl<C: Machine> Book<C> {
     ///
     /// # Errors
     /// `Memory` where no memory or no right to a stamp is left. Core and history are then as before.
-    #[tactic(auto, using(crate::proofs::Recorded::recorded))]
+    #[tactic(auto, using(crate::proofs::Recorded::recorded, crate::proofs::Recorded::no_entry))]
     pub fn record_end(
         &mut self,
         stamps: &mut Stamps,
@@ -145,6 +148,7 @@ impl<C: Machine> Book<C> {
     ) -> Result<(), Stop>
         requires says { C.says self.old.core event message None }
         ensures recorded { IsRecorded (Steps C.says C.by) self.old self.new }
+        ensures entry { IsEntryOf event message self.old.entries self.new.entries }
         ensures err { OnErr result (self.new ≡ self.old) }
     {
         self.log.reserve_last()?;
@@ -157,7 +161,7 @@ impl<C: Machine> Book<C> {
         Ok(())
     }
 
-    #[tactic(auto, using(crate::proofs::Recorded::recorded))]
+    #[tactic(auto, using(crate::proofs::Recorded::recorded, crate::proofs::Recorded::no_entry))]
     fn record_event(
         &mut self,
         stamps: &mut Stamps,
@@ -168,6 +172,7 @@ impl<C: Machine> Book<C> {
     ) -> Result<(), Stop>
         requires says { C.says self.old.core event message (Some said) }
         ensures recorded { IsRecorded (Steps C.says C.by) self.old self.new }
+        ensures entry { IsEntryOf event message self.old.entries self.new.entries }
         ensures err { OnErr result (self.new ≡ self.old) }
     {
         if self.failed {
@@ -190,7 +195,7 @@ impl<C: Machine> Book<C> {
         Ok(())
     }
 
-    #[tactic(auto, using(crate::proofs::Recorded::recorded))]
+    #[tactic(auto, using(crate::proofs::Recorded::recorded, crate::proofs::Recorded::no_entry))]
     fn record_still(
         &mut self,
         stamps: &mut Stamps,
@@ -199,6 +204,7 @@ impl<C: Machine> Book<C> {
     ) -> Result<(), Stop>
         requires says { C.says self.old.core event message None }
         ensures recorded { IsRecorded (Steps C.says C.by) self.old self.new }
+        ensures entry { IsEntryOf event message self.old.entries self.new.entries }
         ensures err { OnErr result (self.new ≡ self.old) }
     {
         if self.failed {

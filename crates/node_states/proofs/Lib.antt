@@ -3,3 +3,4 @@ pub mod WorkerLaw
 pub mod ClientLaw
 pub mod SchedLaw
 pub mod Kept
+pub mod Course

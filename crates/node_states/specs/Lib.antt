@@ -1,2 +1,3 @@
 pub mod Machines
 pub mod Fitting
+pub mod Order
