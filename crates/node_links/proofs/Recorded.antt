@@ -5,7 +5,7 @@ use Rattle.cluster_msgs.specs.declared.events.Event.{Event}
 use Rattle.cluster_msgs.specs.declared.messages.Message.{Message}
 use Rattle.turn_cell.specs.Histories.{Ascending}
 use Rattle.turn_cell.specs.Turns.{Went}
-use Rattle.node_links.specs.Books.{BookState, Logged, IsPushed, IsStored, IsLeftOut, IsLater, OneEntry, IsRecorded, IsEntryOf, Steps, StepsBy}
+use Rattle.node_links.specs.Books.{BookState, Logged, IsPushed, IsStored, IsLeftOut, IsLater, OneEntry, IsRecorded, Steps, StepsBy}
 
 pub recorded : {C E : Type 0} (says : C → Event → Option Message → Option E → Type 0) (by : C → E → C → Type 0) (x y : BookState C) (old new : Logged) (e : Entry) (o : Option E)
     → says x.core e.event e.message o → StepsBy by o x.core y.core → x.entries ≡ old.entries → x.cut ≡ is_some old.cut → y.entries ≡ new.entries → y.cut ≡ is_some new.cut → IsPushed old e new → Ascending new.entries
@@ -31,28 +31,3 @@ went_of book steps x y h = ⊎_elim
     (λ p. inl (p.0, record { entry = p.1; was_open = p.2; is_open = p.3; step = p.4; ascending = p.5 }))
     (λ q. inr (record { entries_are = q.0; is_cut = q.1; step = inr q.2 })) k))
     h.is
-
--- the last entry of two equal lists
-last_is : (xs : List Entry) (a b : Entry) → xs ++ a ∷ [] ≡ xs ++ b ∷ [] → a ≡ b
-last_is [] a b h = cc
-last_is (x ∷ xs) a b h = last_is xs a b (cc)
-
-not_longer : (xs : List Entry) (e : Entry) → xs ≡ xs ++ e ∷ [] → ⊥
-not_longer [] e h = cc
-not_longer (x ∷ xs) e h = not_longer xs e (cc)
-
--- where the history took this entry, that is all that it took
-pub entry_of : (x y : List Entry) (old new : Logged) (e : Entry) → x ≡ old.entries → y ≡ new.entries → IsPushed old e new → IsEntryOf e.event e.message x y
-entry_of x y old new e a b pushed = record {
-  each = λ d h. ⊎_elim
-      (λ (p : IsStored old e new). same d (last_is x d e (sym h ∙ b ∙ p.entries_are ∙ ap (λ es. es ++ e ∷ []) (sym a))))
-      (λ q. absurd (not_longer x d (⊎_elim (λ (r : IsLeftOut old e new). a ∙ sym r.entries_are ∙ sym b ∙ h) (λ (r : IsLater old new). a ∙ sym r.entries_are ∙ sym b ∙ h) q)))
-      pushed;
-}
-  where
-    same : (d : Entry) → d ≡ e → (d.event ≡ e.event) × (d.message ≡ e.message)
-    same d h = (ap (λ i. i.event) h, ap (λ i. i.message) h)
-
--- where nothing changed, none was added
-pub no_entry : {C : Type 0} (event : Event) (message : Option Message) (x y : BookState C) → y ≡ x → IsEntryOf event message x.entries y.entries
-no_entry event message x y h = record { each = λ d e. absurd (not_longer x.entries d (sym (ap (λ b. b.entries) h) ∙ e)) }

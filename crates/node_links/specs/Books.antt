@@ -125,7 +125,3 @@ OneEntry steps x y = (y ≡ x)
 -- a book after an attempt to record one entry
 pub record IsRecorded {C : Type 0} (steps : C → Entry → C → Type 0) (x y : BookState C) : Type 0 where
   pub is : OneEntry steps x y
-
--- what was added to the entries, if anything was, is one entry of this event with its message
-pub record IsEntryOf (event : Event) (message : Option Message) (old new : List Entry) : Type 0 where
-  pub each : (e : Entry) → new ≡ old ++ e ∷ [] → (e.event ≡ event) × (e.message ≡ message)

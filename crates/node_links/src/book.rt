@@ -1,7 +1,7 @@
 //! A core with its history.
 ghost use Rattle.std.specs.Prelude.{◌≡◌, ℕ, Option, OnOk, OnErr, IfOk, IfErr, IfSome, is_some, Err, Some, None, [], false, cond, length};
 ghost use Rattle.cluster_msgs.specs.declared.events.Entry.{Entry as AnyEntry};
-ghost use Rattle.node_links.specs.Books.{IsRecorded, IsEntryOf, AllBelow};
+ghost use Rattle.node_links.specs.Books.{IsRecorded, AllBelow};
 ghost use Rattle.node_links.specs.Books.{Steps};
 
 use crate::log::Log;
@@ -125,7 +125,6 @@ impl<C: Machine> Book<C> {
     ) -> Result<(), Stop>
         requires says { C.says self.old.core event message said }
         ensures recorded { IsRecorded (Steps C.says C.by) self.old self.new }
-        ensures entry { IsEntryOf event message self.old.entries self.new.entries }
         ensures err { OnErr result (self.new ≡ self.old) }
     {
         match said {
@@ -139,7 +138,7 @@ impl<C: Machine> Book<C> {
     ///
     /// # Errors
     /// `Memory` where no memory or no right to a stamp is left. Core and history are then as before.
-    #[tactic(auto, using(crate::proofs::Recorded::recorded, crate::proofs::Recorded::no_entry))]
+    #[tactic(auto, using(crate::proofs::Recorded::recorded))]
     pub fn record_end(
         &mut self,
         stamps: &mut Stamps,
@@ -148,7 +147,6 @@ impl<C: Machine> Book<C> {
     ) -> Result<(), Stop>
         requires says { C.says self.old.core event message None }
         ensures recorded { IsRecorded (Steps C.says C.by) self.old self.new }
-        ensures entry { IsEntryOf event message self.old.entries self.new.entries }
         ensures err { OnErr result (self.new ≡ self.old) }
     {
         self.log.reserve_last()?;
@@ -161,7 +159,7 @@ impl<C: Machine> Book<C> {
         Ok(())
     }
 
-    #[tactic(auto, using(crate::proofs::Recorded::recorded, crate::proofs::Recorded::no_entry))]
+    #[tactic(auto, using(crate::proofs::Recorded::recorded))]
     fn record_event(
         &mut self,
         stamps: &mut Stamps,
@@ -172,7 +170,6 @@ impl<C: Machine> Book<C> {
     ) -> Result<(), Stop>
         requires says { C.says self.old.core event message (Some said) }
         ensures recorded { IsRecorded (Steps C.says C.by) self.old self.new }
-        ensures entry { IsEntryOf event message self.old.entries self.new.entries }
         ensures err { OnErr result (self.new ≡ self.old) }
     {
         if self.failed {
@@ -195,7 +192,7 @@ impl<C: Machine> Book<C> {
         Ok(())
     }
 
-    #[tactic(auto, using(crate::proofs::Recorded::recorded, crate::proofs::Recorded::no_entry))]
+    #[tactic(auto, using(crate::proofs::Recorded::recorded))]
     fn record_still(
         &mut self,
         stamps: &mut Stamps,
@@ -204,7 +201,6 @@ impl<C: Machine> Book<C> {
     ) -> Result<(), Stop>
         requires says { C.says self.old.core event message None }
         ensures recorded { IsRecorded (Steps C.says C.by) self.old self.new }
-        ensures entry { IsEntryOf event message self.old.entries self.new.entries }
         ensures err { OnErr result (self.new ≡ self.old) }
     {
         if self.failed {

@@ -1,7 +1,7 @@
 use Rattle.std.proofs.Common.{◌≡◌, ◌∙◌, sym, ap, subst, refl, Some, cond, false, is_some}
 use Rattle.std.proofs.lemmas.Bool.{cond-false}
 use Rattle.node_links.specs.Books.{BookState}
-use Rattle.node_links.proofs.Recorded.{recorded, entry_of}
+use Rattle.node_links.proofs.Recorded.{recorded}
 use Rattle.node_links.proofs.book.Book.record_event.Goals as goal
 
 pub returns-clause-recorded : goal.returns-clause-recorded
@@ -15,8 +15,3 @@ returns-clause-recorded g c =
     c.requires.says (subst (λ y. g.C.Machine.by x.core c.args.said y) (sym is) (subst (λ y. g.C.Machine.by y c.args.said t.core) (sym was) ok.1))
     (ap (λ b. b.entries) (sym c.self.view_is) ∙ sym c.reserve.ensures.entries.0) (ap (λ b. b.cut) (sym c.self.view_is) ∙ ap is_some (sym c.reserve.ensures.entries.1))
     refl refl c.push.ensures.pushed c.push.ensures.ascending
-
-pub returns-clause-entry : goal.returns-clause-entry
-returns-clause-entry g c =
-    entry_of c.args.self.now.entries c.push.new.self.entries c.reserve.new.self c.push.new.self (record { stamp = c.in_ok-stamp.stamp; event = c.args.event; message = c.args.message })
-    (ap (λ b. b.entries) (sym c.self.view_is) ∙ sym c.reserve.ensures.entries.0) refl c.push.ensures.pushed

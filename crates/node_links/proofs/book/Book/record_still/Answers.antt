@@ -1,6 +1,6 @@
 use Rattle.std.proofs.Common.{◌≡◌, ◌∙◌, sym, ap, subst, refl, None, cond, is_some}
 use Rattle.node_links.specs.Books.{BookState}
-use Rattle.node_links.proofs.Recorded.{recorded, entry_of}
+use Rattle.node_links.proofs.Recorded.{recorded}
 use Rattle.node_links.proofs.book.Book.record_still.Goals as goal
 
 pub returns-clause-recorded : goal.returns-clause-recorded
@@ -10,8 +10,3 @@ returns-clause-recorded g c =
     (record { stamp = c.in_ok-stamp.stamp; event = c.args.event; message = c.args.message }) None
     c.requires.says (sym (ap (λ b. b.core) (sym c.self.view_is))) (ap (λ b. b.entries) (sym c.self.view_is) ∙ sym c.reserve.ensures.entries.0) (ap (λ b. b.cut) (sym c.self.view_is) ∙ ap is_some (sym c.reserve.ensures.entries.1))
     refl refl c.push.ensures.pushed c.push.ensures.ascending
-
-pub returns-clause-entry : goal.returns-clause-entry
-returns-clause-entry g c =
-    entry_of c.args.self.now.entries c.push.new.self.entries c.reserve.new.self c.push.new.self (record { stamp = c.in_ok-stamp.stamp; event = c.args.event; message = c.args.message })
-    (ap (λ b. b.entries) (sym c.self.view_is) ∙ sym c.reserve.ensures.entries.0) refl c.push.ensures.pushed
