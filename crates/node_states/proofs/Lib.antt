@@ -1,0 +1,5 @@
+pub mod Fitting
+pub mod WorkerLaw
+pub mod ClientLaw
+pub mod SchedLaw
+pub mod Kept

@@ -1,0 +1,176 @@
+//! The three cores, as a book has them.
+ghost use Rattle.std.specs.Prelude.{◌≡◌, false, IfOk};
+ghost use Rattle.scheduler_core.specs.Cores.{facts};
+ghost use Rattle.node_states.specs.Fitting.{SchedFits};
+
+use crate::evidence::{ClientCause, SchedCause, SchedOut, WorkerCause, WorkerOut};
+use cluster_msgs::{ClientOut, Instructions, Label, Outbox, Stop};
+use gather_client::ClientCore;
+use node_links::Machine;
+use scheduler_core::Sched;
+use std::alloc::Global;
+use std::marker::{Model, PhantomData};
+use worker_core::WorkerCore;
+
+/// The scheduler's core. As long as memory doesn't end inside it (`torn`), it goes by the label's graph, and each key that it counts as bad is faulty.
+#[derive(Drop)]
+pub struct SchedulingCore<L: Label> {
+    alloc: Global,
+    pub core: Sched,
+    torn: bool,
+    label: PhantomData<L>,
+}
+
+impl<L: Label> Model for SchedulingCore<L> {
+    ghost use Rattle.std.specs.Prelude.{◌≡◌, false};
+    ghost use Rattle.scheduler_core.specs.Cores.{facts};
+    ghost use Rattle.node_states.specs.Fitting.{SchedFits};
+    ghost use Rattle.node_states.specs.Machines.{SchedState};
+
+    ghost Value = { SchedState };
+
+    ghost view = { λ c. record { core = c.core; torn = c.torn } };
+
+    ghost invariant = { λ c. c.torn ≡ false → SchedFits L.facts (facts c.core) };
+}
+
+impl<L: Label> SchedulingCore<L> {
+    /// The core of a scheduler that starts.
+    pub fn new(alloc: Global, core: Sched) -> Self
+        requires fits { SchedFits L.facts (facts core) }
+        ensures { (result.core ≡ core) × (result.torn ≡ false) }
+    {
+        SchedulingCore {
+            alloc,
+            core,
+            torn: false,
+            label: PhantomData,
+        }
+    }
+
+    /// Whether memory ended inside it. Nothing is known of its facts then.
+    pub fn torn(&self) -> bool
+        ensures { result ≡ self.now.torn }
+    {
+        self.torn
+    }
+}
+
+impl<L: Label> Machine for SchedulingCore<L> {
+    type Event = SchedCause<L>;
+
+    type Out = SchedOut<L>;
+
+    ghost use Rattle.scheduler_core.specs.Cores.{facts};
+    ghost use Rattle.node_states.specs.Fitting.{SchedEventFits};
+    ghost use Rattle.node_states.specs.Machines.{SchedSays, SchedBy};
+
+    ghost says = { λ s. SchedSays (facts s.core) };
+
+    ghost by = { λ s e t. SchedBy (facts s.core) e (facts t.core) × SchedEventFits L.facts e };
+
+    #[tactic(auto, using(crate::proofs::SchedLaw::sched_fits, crate::proofs::SchedLaw::letters_fit))]
+    fn take(&mut self, event: SchedCause<L>, out: &mut SchedOut<L>) -> Result<(), Stop> {
+        if self.torn {
+            return Err(Stop::Memory);
+        }
+        cluster_rules::Facts::sound(&self.core);
+        let mut made = Outbox::new(self.alloc);
+        match self.core.on(event.into_event(), &mut made) {
+            Ok(()) => {
+                *out = SchedOut::new(made);
+                Ok(())
+            }
+            Err(Stop::Memory) => {
+                self.torn = true;
+                Err(Stop::Memory)
+            }
+            Err(stop) => Err(stop),
+        }
+    }
+}
+
+/// The core of worker `id`.
+#[derive(Drop)]
+pub struct WorkingCore<L: Label> {
+    alloc: Global,
+    pub id: u32,
+    pub core: WorkerCore,
+    label: PhantomData<L>,
+}
+
+impl<L: Label> WorkingCore<L> {
+    /// The core of a worker, with its number.
+    pub fn new(alloc: Global, id: u32, core: WorkerCore) -> Self
+        ensures { (result.id ≡ id) × (result.core ≡ core) }
+    {
+        WorkingCore {
+            alloc,
+            id,
+            core,
+            label: PhantomData,
+        }
+    }
+}
+
+impl<L: Label> Machine for WorkingCore<L> {
+    type Event = WorkerCause<L>;
+
+    type Out = WorkerOut<L>;
+
+    ghost use Rattle.std.specs.Prelude.{◌≡◌};
+    ghost use Rattle.worker_core.specs.Core.{facts as worker_facts};
+    ghost use Rattle.node_states.specs.Machines.{WorkerSays, WorkerBy};
+
+    ghost says = { λ s. WorkerSays s.id (worker_facts s.core) };
+
+    ghost by = { λ s e t. (t.id ≡ s.id) × WorkerBy (worker_facts s.core) e (worker_facts t.core) };
+
+    #[tactic(auto, using(crate::proofs::WorkerLaw::out_fits))]
+    fn take(&mut self, event: WorkerCause<L>, out: &mut WorkerOut<L>) -> Result<(), Stop> {
+        let mut made = Instructions::new(self.alloc);
+        self.core.on(event.into_event(), &mut made)?;
+        *out = WorkerOut::new(made);
+        Ok(())
+    }
+}
+
+/// The core of client `id`.
+#[derive(Drop)]
+pub struct GatheringCore<L: Label> {
+    pub id: u32,
+    pub core: ClientCore,
+    label: PhantomData<L>,
+}
+
+impl<L: Label> GatheringCore<L> {
+    /// The core of a client, with its number.
+    pub fn new(id: u32, core: ClientCore) -> Self
+        ensures { (result.id ≡ id) × (result.core ≡ core) }
+    {
+        GatheringCore {
+            id,
+            core,
+            label: PhantomData,
+        }
+    }
+}
+
+impl<L: Label> Machine for GatheringCore<L> {
+    type Event = ClientCause<L>;
+
+    type Out = ClientOut;
+
+    ghost use Rattle.std.specs.Prelude.{◌≡◌};
+    ghost use Rattle.gather_client.specs.CoreState.{client_facts};
+    ghost use Rattle.node_states.specs.Fitting.{ClientEventFits};
+    ghost use Rattle.node_states.specs.Machines.{ClientSays, ClientBy};
+
+    ghost says = { λ s. ClientSays s.id (client_facts s.core) };
+
+    ghost by = { λ s e t. (t.id ≡ s.id) × ClientBy (client_facts s.core) e (client_facts t.core) × ClientEventFits L.facts e };
+
+    fn take(&mut self, event: ClientCause<L>, out: &mut ClientOut) -> Result<(), Stop> {
+        self.core.on(event.into_event(), out)
+    }
+}

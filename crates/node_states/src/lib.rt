@@ -1,0 +1,22 @@
+//! The states of the nodes of a running cluster, and what one turn makes of each: it chooses one event, records it with one step of the core,
+//! and sends what the step has to send.
+#![tactic(auto)]
+
+mod blocks;
+mod client;
+mod cores;
+mod evidence;
+mod feeds;
+mod laws;
+mod links;
+mod scheduler;
+mod worker;
+
+pub use client::{ClientNode, ClientTurn};
+pub use cores::{GatheringCore, SchedulingCore, WorkingCore};
+pub use evidence::{Blame, ClientCause, Fault, SchedCause, SchedOut, WorkerCause, WorkerOut};
+pub use feeds::Feeds;
+pub use laws::{blames_are_faulty, clients_know_right_blames, workers_err_after_zero_divisors};
+pub use links::{SchedulerLinks, WorkerLinks};
+pub use scheduler::{Course, SchedulerNode, SchedulerTurn};
+pub use worker::{Finished, Task, TaskEnd, Why, WorkerNode, WorkerTurn};
