@@ -1,7 +1,7 @@
 //! A core with its history.
 ghost use Rattle.std.specs.Prelude.{◌≡◌, ℕ, Option, OnOk, OnErr, IfOk, IfErr, IfSome, is_some, Err, Some, None, [], false, cond, length};
 ghost use Rattle.cluster_msgs.specs.declared.events.Entry.{Entry as AnyEntry};
-ghost use Rattle.node_links.specs.Books.{IsRecorded, AllBelow};
+ghost use Rattle.node_links.specs.Books.{IsRecorded, IsEntered, AllBelow};
 ghost use Rattle.node_links.specs.Books.{Steps};
 
 use crate::log::Log;
@@ -125,6 +125,7 @@ impl<C: Machine> Book<C> {
     ) -> Result<(), Stop>
         requires says { C.says self.old.core event message said }
         ensures recorded { IsRecorded (Steps C.says C.by) self.old self.new }
+        ensures entered { OnOk result (IsEntered event message self.old self.new) }
         ensures err { OnErr result (self.new ≡ self.old) }
     {
         match said {
@@ -147,6 +148,7 @@ impl<C: Machine> Book<C> {
     ) -> Result<(), Stop>
         requires says { C.says self.old.core event message None }
         ensures recorded { IsRecorded (Steps C.says C.by) self.old self.new }
+        ensures entered { OnOk result (IsEntered event message self.old self.new) }
         ensures err { OnErr result (self.new ≡ self.old) }
     {
         self.log.reserve_last()?;
@@ -170,6 +172,7 @@ impl<C: Machine> Book<C> {
     ) -> Result<(), Stop>
         requires says { C.says self.old.core event message (Some said) }
         ensures recorded { IsRecorded (Steps C.says C.by) self.old self.new }
+        ensures entered { OnOk result (IsEntered event message self.old self.new) }
         ensures err { OnErr result (self.new ≡ self.old) }
     {
         if self.failed {
@@ -201,6 +204,7 @@ impl<C: Machine> Book<C> {
     ) -> Result<(), Stop>
         requires says { C.says self.old.core event message None }
         ensures recorded { IsRecorded (Steps C.says C.by) self.old self.new }
+        ensures entered { OnOk result (IsEntered event message self.old self.new) }
         ensures err { OnErr result (self.new ≡ self.old) }
     {
         if self.failed {
