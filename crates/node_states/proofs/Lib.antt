@@ -3,4 +3,5 @@ pub mod WorkerLaw
 pub mod ClientLaw
 pub mod SchedLaw
 pub mod Kept
-pub mod Course
+pub mod CourseLemmas
+pub mod ScriptLemmas

@@ -125,7 +125,7 @@ reached s (e ∷ es) = reached (after s e) es
 
 -- an event that comes in time
 pub record IsInTime (p : Plan) (s : Progress) (e : Event) : Type 0 where
-  pub due : FitsDue p (due_after p s.made s.facts) e
+  pub fits : FitsDue p (due_after p s.made s.facts) e
   pub heard : IsHeard s.lost e
 
 -- each of these entries came in time
@@ -166,9 +166,9 @@ IsEvident dead f _ = Unit {0}
 
 -- the event of a turn, by the book as it was
 pub record IsTurnOf (dead : List Bool) (b : BookState SchedState) (e : Event) : Type 0 where
-  pub due : Due
-  pub is_due : IsDue b due
-  pub fits : FitsDue b.core.plan due e
+  pub what : Due
+  pub is_due : IsDue b what
+  pub fits : FitsDue b.core.plan what e
   pub evident : IsEvident dead (facts b.core.core) e
 
 -- an event that was chosen, with its message and what the core is told
@@ -201,6 +201,10 @@ IsQuiet dead b (course.LoseFirst w) = IsDue b (due.Lose w) × (is_dead dead w �
 IsQuiet dead b course.Over = IsOver b.core.plan (facts b.core.core)
 IsQuiet dead b course.Stopped = Unit {0}
 IsQuiet dead b course.Moved = ⊥
+
+-- what was added to the entries, if anything was, is one entry of this event
+pub record Adds (v : Event) (old new : List Entry) : Type 0 where
+  pub each : (e : Entry) → new ≡ old ++ e ∷ [] → e.event ≡ v
 
 -- a turn: it says nothing else than that it moved, or adds one entry, which comes in its order
 pub record IsTurn (dead : List Bool) (old new : BookState SchedState) (says : Course) : Type 0 where

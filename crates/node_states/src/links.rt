@@ -41,7 +41,7 @@ pub fn is_gone(gone: &[bool], worker: u32) -> bool
 }
 
 /// Notes that a worker was seen as lost.
-#[tactic(auto, using(crate::proofs::Course::stays_gone, crate::proofs::Course::goes))]
+#[tactic(auto, using(crate::proofs::ScriptLemmas::set_stays, crate::proofs::ScriptLemmas::set_goes, std::proofs::lemmas::List::get_or_past))]
 pub fn let_go(gone: &mut Vec<bool>, worker: u32)
     ensures kept { (w : ℕ) → is_gone gone.old.items w ≡ true → is_gone gone.new.items w ≡ true }
     ensures gone { is_gone gone.new.items worker ≡ true }

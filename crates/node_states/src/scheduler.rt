@@ -6,18 +6,18 @@ ghost use Rattle.cluster_msgs.specs.declared.events.Event.TheVariants as event;
 ghost use Rattle.cluster_rules.specs.Sched.{Facts as SchedFacts, sched_opening};
 ghost use Rattle.cluster_rules.specs.SchedTable.{sched_takes};
 ghost use Rattle.scheduler_core.specs.Cores.{facts};
-ghost use Rattle.node_links.specs.Books.{IsRecorded, IsEntryOf, Steps};
+ghost use Rattle.node_links.specs.Books.{IsRecorded, Steps};
 ghost use Rattle.node_states.specs.declared.choice.Course.TheVariants as course;
 ghost use Rattle.node_states.specs.declared.choice.Due.TheVariants as due;
 ghost use Rattle.node_states.specs.declared.links.Source.TheVariants as source;
 ghost use Rattle.node_states.specs.Machines.{SchedSays};
-ghost use Rattle.node_states.specs.Order.{IsCourse, IsOver, IsDue, IsChosen, IsDelivered, IsQuiet, IsTurn, NoneLost, AreInTime, start_of, is_gone};
+ghost use Rattle.node_states.specs.Order.{IsCourse, IsOver, IsDue, IsChosen, IsDelivered, IsQuiet, IsTurn, Adds, NoneLost, AreInTime, start_of, is_gone};
 
 use crate::choice::{Course, Due};
 use crate::cores::SchedulingCore;
 use crate::evidence::{SchedCause, SchedOut};
 use crate::links::{SchedulerLinks, Source, is_dead, let_go};
-use crate::script::{due_by_script, first_lost, is_any_connected, is_choice_due};
+use crate::script::{due_by_script, first_due, first_lost, is_any_connected, is_choice_due};
 use cluster_msgs::{Event, Label, Message, Packet, SchedEvent, Stop};
 use cluster_rules::Facts;
 use node_links::{Book, Machine};
@@ -56,7 +56,7 @@ impl<B: Drop, L: Label<Block = B>> SchedulerNode<B, L> {
     ///
     /// # Errors
     /// Where there is no memory.
-    #[tactic(auto, using(crate::proofs::Course::starts))]
+    #[tactic(auto, using(crate::proofs::CourseLemmas::starts))]
     pub fn new(
         alloc: Global,
         core: SchedulingCore<L>,
@@ -131,6 +131,7 @@ impl<B: Drop, L: Label<Block = B>> SchedulerNode<B, L> {
     }
 
     /// The event of this turn, or what the turn says without one.
+    #[tactic(auto, using(crate::proofs::CourseLemmas::chosen_lost, crate::proofs::CourseLemmas::chosen_suspect, crate::proofs::CourseLemmas::chosen_join, crate::proofs::CourseLemmas::chosen_evict, crate::proofs::CourseLemmas::chosen_balance))]
     fn choose<R: Wait>(&mut self, rt: &R, dead: &[bool]) -> Result<Choice<L>, Course>
         requires { self.old.over ≡ false }
         ensures book { self.new.book ≡ self.old.book }
@@ -165,7 +166,7 @@ impl<B: Drop, L: Label<Block = B>> SchedulerNode<B, L> {
     }
 
     /// What goes before losses and messages.
-    #[tactic(auto, unfolding(crate::specs::Order::due_after))]
+    #[tactic(auto, using(crate::proofs::CourseLemmas::is_due))]
     fn due(&mut self) -> Result<Due, Stop>
         ensures book { (self.new.book ≡ self.old.book) × (self.new.over ≡ self.old.over) }
         ensures due { IfOk result (λ d. IsDue self.new.book d) }
@@ -174,28 +175,23 @@ impl<B: Drop, L: Label<Block = B>> SchedulerNode<B, L> {
         let Some(core) = self.book.core() else {
             return Err(Stop::Memory);
         };
-        if core.core().last_worker() < core.plan().workers {
-            return Ok(Due::Join);
-        }
-        if is_choice_due(
+        let joins = core.core().last_worker() < core.plan().workers;
+        let evicts = is_choice_due(
             core.core(),
             &SchedEvent::Evict,
             64,
             made,
             &mut self.no_drop,
-        ) {
-            return Ok(Due::Evict);
-        }
-        if is_choice_due(
+        );
+        let balances = is_choice_due(
             core.core(),
             &SchedEvent::Balance,
             16,
             made,
             &mut self.no_steal,
-        ) {
-            return Ok(Due::Balance);
-        }
-        Ok(due_by_script(core.core(), core.plan()))
+        );
+        let script = due_by_script(core.core(), core.plan());
+        Ok(first_due(joins, evicts, balances, script))
     }
 
     /// The next worker joins.
@@ -217,6 +213,7 @@ impl<B: Drop, L: Label<Block = B>> SchedulerNode<B, L> {
     }
 
     /// A connected worker that has ended is seen as lost; else a message is taken; else the run may be over.
+    #[tactic(auto, using(crate::proofs::CourseLemmas::chosen_seen))]
     fn go_on<R: Wait>(&mut self, rt: &R, dead: &[bool]) -> Result<Choice<L>, Course>
         requires { IsDue self.old.book due.Nothing }
         ensures book { self.new.book ≡ self.old.book }
@@ -234,6 +231,7 @@ impl<B: Drop, L: Label<Block = B>> SchedulerNode<B, L> {
     }
 
     /// A message is taken; else the run may be over.
+    #[tactic(auto, using(crate::proofs::CourseLemmas::chosen_message))]
     fn hear<R: Wait>(&mut self, rt: &R, dead: &[bool]) -> Result<Choice<L>, Course>
         requires due { IsDue self.old.book due.Nothing }
         requires none { NoneLost dead.now (facts self.old.book.core.core) }
@@ -252,6 +250,7 @@ impl<B: Drop, L: Label<Block = B>> SchedulerNode<B, L> {
     }
 
     /// Over where no worker is connected: no task will finish any more, so no item of the script will come.
+    #[tactic(auto, using(crate::proofs::CourseLemmas::is_over))]
     fn rest(&mut self, dead: &[bool]) -> Course
         requires due { IsDue self.old.book due.Nothing }
         requires none { NoneLost dead.now (facts self.old.book.core.core) }
@@ -339,7 +338,7 @@ impl<B: Drop, L: Label<Block = B>> SchedulerNode<B, L> {
         requires over { self.old.over ≡ false }
         requires chosen { IsChosen dead.now self.old.gone.items self.old.book choice.event choice.message choice.said }
         ensures recorded { IsRecorded (Steps ⟦<SchedulingCore<L> as Machine>⟧.says ⟦<SchedulingCore<L> as Machine>⟧.by) self.old.book self.new.book }
-        ensures entry { IsEntryOf choice.event choice.message self.old.book.entries self.new.book.entries }
+        ensures entry { Adds choice.event self.old.book.entries self.new.book.entries }
         ensures moved { result ≡ course.Moved }
     {
         let end = self.perform(rt, stamps, choice, dead);
@@ -349,7 +348,7 @@ impl<B: Drop, L: Label<Block = B>> SchedulerNode<B, L> {
         Course::Moved
     }
 
-    #[tactic(auto, using(crate::proofs::Course::goes_on))]
+    #[tactic(auto, using(crate::proofs::CourseLemmas::goes_on, crate::proofs::CourseLemmas::adds, crate::proofs::CourseLemmas::adds_none))]
     fn perform<R: Wait>(
         &mut self,
         rt: &R,
@@ -360,7 +359,7 @@ impl<B: Drop, L: Label<Block = B>> SchedulerNode<B, L> {
         requires over { self.old.over ≡ false }
         requires chosen { IsChosen dead.now self.old.gone.items self.old.book choice.event choice.message choice.said }
         ensures recorded { IsRecorded (Steps ⟦<SchedulingCore<L> as Machine>⟧.says ⟦<SchedulingCore<L> as Machine>⟧.by) self.old.book self.new.book }
-        ensures entry { IsEntryOf choice.event choice.message self.old.book.entries self.new.book.entries }
+        ensures entry { Adds choice.event self.old.book.entries self.new.book.entries }
     {
         let Choice {
             event,
