@@ -1,6 +1,6 @@
 -- How a scheduler's history goes on in its order.
-use Rattle.std.proofs.Common.{◌≡◌, ◌⊎◌, ⊎_elim, ℕ, ◌+◌, ◌-◌, ◌<◌, Bool, true, false, not, ◌&&◌, List, [], ◌∷◌, ◌++◌, length, Option, Some, None, cond, refl, sym, ap, ◌∙◌, subst, arith}
-use Rattle.std.specs.Prelude.{◌%◌, ◌==◌, nat_lt}
+use Rattle.std.proofs.Common.{◌≡◌, ◌⊎◌, ⊎_elim, ℕ, zero, suc, ◌+◌, ◌-◌, ◌<◌, ◌≤◌, Bool, true, false, not, ◌&&◌, List, [], ◌∷◌, ◌++◌, length, Option, Some, None, cond, refl, sym, ap, ◌∙◌, subst, arith}
+use Rattle.std.specs.Prelude.{◌%◌, ◌==◌, nat_lt, slice_index_or}
 use Rattle.std.proofs.lemmas.Bool.{false≢true}
 use Rattle.std.proofs.lemmas.Bool.Decides.{nat_tests}
 use Rattle.std.proofs.Common.{length-append}
@@ -15,11 +15,14 @@ use Rattle.cluster_msgs.specs.declared.cores.SchedEvent.TheVariants as sched
 use Rattle.cluster_rules.specs.Sched.{Facts, Setting, connected, sched_opening}
 use Rattle.cluster_rules.specs.SchedTable.{sched_takes}
 use Rattle.cluster_rules.specs.SchedStep.{sched_step}
+use Rattle.cluster_laws.proofs.Framed.{step_last}
 use Rattle.scheduler_core.specs.Cores.{facts}
 use Rattle.node_links.specs.Books.{BookState, IsRecorded, IsEntered, Steps, StepsBy}
 use Rattle.node_states.specs.Fitting.{SchedEventFits}
 use Rattle.node_states.specs.Machines.{SchedState, SchedSays, SchedBy}
-use Rattle.node_states.specs.Order.{FitsDue, IsHeard, IsFree, IsMessage, IsEvident, IsDelivered, Progress, start_of, said, facts_by, lost_by, after, reached, IsInTime, AreInTime, is_gone, is_dead, IsOver, IsCourse, IsDue, NoneLost, IsTurnOf, IsChosen, Adds, due_after, due_by, open_item}
+use Rattle.node_states.specs.Order.{FitsDue, IsHeard, IsFree, IsMessage, IsEvident, IsDelivered, Progress, start_of, said, facts_by, lost_by, after, reached, IsInTime, AreInTime, is_gone, is_dead, IsOver, IsCourse, IsDue, NoneLost, IsTurnOf, IsChosen, Adds, IsQuiet, IsTurn, JoinFirst, due_after, due_by, open_item}
+use Rattle.node_states.specs.declared.choice.Course.{Course}
+use Rattle.node_states.specs.declared.choice.Course.TheVariants as course
 use Rattle.node_states.specs.declared.choice.Plan.{Plan}
 use Rattle.node_states.specs.declared.choice.Due.{Due}
 use Rattle.node_states.specs.declared.choice.Due.TheVariants as due
@@ -240,3 +243,42 @@ is_over b d none = record { none = none; joined = parts.0; script = parts.1 }
     parts : (nat_lt (facts b.core.core).last_worker b.core.plan.workers ≡ false) × (due_by b.core.plan (facts b.core.core) (open_item b.core.plan (facts b.core.core)) ≡ due.Nothing)
     parts = left (nat_lt (facts b.core.core).last_worker b.core.plan.workers) (d.made % 64 == 0 && sched_takes (facts b.core.core) sched.Evict) (d.made % 16 == 0 && sched_takes (facts b.core.core) sched.Balance)
         (due_by b.core.plan (facts b.core.core) (open_item b.core.plan (facts b.core.core))) d.is
+
+pub quiet_stopped : (dead : List Bool) (b : BookState SchedState) (v : Course) → v ≡ course.Stopped → IsQuiet dead b v
+quiet_stopped dead b v e = subst (IsQuiet dead b) (sym e) tt
+
+-- a turn without an event, and one with
+pub turn_quiet : (dead : List Bool) (x y : BookState SchedState) (v : Course) → IsQuiet dead x v → y ≡ x → IsTurn dead x y v
+turn_quiet dead x y v q e = record { quiet = λ _. q; entry = λ d is. absurd (not_longer x.entries d (sym (ap (λ (b : BookState SchedState). b.entries) e) ∙ is)) }
+
+pub turn_moved : (dead gone : List Bool) (x y : BookState SchedState) (e : Event) (m : Option Message) (o : Option SchedEvent) (v : Course)
+    → IsChosen dead gone x e m o → Adds e x.entries y.entries → v ≡ course.Moved → IsTurn dead x y v
+turn_moved dead gone x y e m o v c a is = record { quiet = λ n. absurd (n is); entry = λ d h. subst (IsTurnOf dead x) (sym (a.each d h)) c.turn }
+
+-- while fewer workers joined than the plan has, a join is due
+join_due : (p : Plan) (n : ℕ) (f : Facts) (e : Event) → f.last_worker < p.workers → FitsDue p (due_after p n f) e → e ≡ event.Join p.threads
+unfolding due_after
+join_due p n f e l h = pick (nat_lt f.last_worker p.workers) (grind (arith, nat_tests)) h
+  where
+    pick : (b : Bool) → b ≡ true → FitsDue p (cond b due.Join (cond (n % 64 == 0 && sched_takes f sched.Evict) due.Evict (cond (n % 16 == 0 && sched_takes f sched.Balance) due.Balance (due_by p f (open_item p f))))) e → e ≡ event.Join p.threads
+    pick true t h = h
+    pick false t h = absurd (false≢true t)
+
+-- a join raises the number of workers by one at most
+join_more : (f : Facts) (n : ℕ) (m : Option Message) → (facts_by f (said f (event.Join n) m)).last_worker ≤ f.last_worker + 1
+join_more f n None = let e = step_last f (sched.Join n) in omega (arith, e)
+join_more f n (Some m) = omega arith
+
+pub joins_first : (p : Plan) (st : Progress) (es : List Entry) → AreInTime p st es → (k : ℕ) (d : Entry) → st.facts.last_worker + k < p.workers → k < length es → (slice_index_or es k d).event ≡ event.Join p.threads
+joins_first p st [] h k d l m = absurd (omega arith)
+joins_first p st (e ∷ es) h zero d l m = join_due p st.made st.facts e.event (omega arith) h.0.fits
+joins_first p st (e ∷ es) h (suc k) d l m = joins_first p (after st e) es h.1 k d (omega (arith, more)) (omega arith)
+  where
+    first : e.event ≡ event.Join p.threads
+    first = join_due p st.made st.facts e.event (omega arith) h.0.fits
+
+    more : (facts_by st.facts (said st.facts e.event e.message)).last_worker ≤ st.facts.last_worker + 1
+    more = subst (λ (v : Event). (facts_by st.facts (said st.facts v e.message)).last_worker ≤ st.facts.last_worker + 1) (sym first) (join_more st.facts p.threads e.message)
+
+pub join_first : (p : Plan) (s : Setting) (es : List Entry) → AreInTime p (start_of s) es → JoinFirst p es
+join_first p s es h = record { each = λ k d l m. joins_first p (start_of s) es h k d (omega arith) m }

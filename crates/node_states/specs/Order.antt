@@ -1,5 +1,5 @@
 -- In which order the turns of a scheduler choose their events.
-use Rattle.std.specs.Prelude.{◌≡◌, ◌≢◌, ℕ, ◌+◌, ◌-◌, ◌%◌, ◌==◌, nat_lt, Bool, true, false, not, ◌&&◌, List, [], ◌∷◌, ◌++◌, length, slice_index_or, Option, Some, None, cond}
+use Rattle.std.specs.Prelude.{◌≡◌, ◌≢◌, ℕ, ◌+◌, ◌-◌, ◌%◌, ◌<◌, ◌==◌, nat_lt, Bool, true, false, not, ◌&&◌, List, [], ◌∷◌, ◌++◌, length, slice_index_or, Option, Some, None, cond}
 use Rattle.cluster_msgs.specs.declared.events.Entry.{Entry}
 use Rattle.cluster_msgs.specs.declared.events.Event.{Event}
 use Rattle.cluster_msgs.specs.declared.events.Event.TheVariants as event
@@ -132,6 +132,10 @@ pub record IsInTime (p : Plan) (s : Progress) (e : Event) : Type 0 where
 abbrev pub AreInTime : Plan → Progress → List Entry → Type 0
 AreInTime p s [] = Unit {0}
 AreInTime p s (e ∷ es) = IsInTime p s e.event × AreInTime p (after s e) es
+
+-- each of the first entries, as many as the plan has workers, is a Join with the plan's threads
+pub record JoinFirst (p : Plan) (entries : List Entry) : Type 0 where
+  pub each : (k : ℕ) (d : Entry) → k < p.workers → k < length entries → (slice_index_or entries k d).event ≡ event.Join p.threads
 
 -- by worker, from 1. A worker without a place counts as given
 abbrev pub is_gone : List Bool → ℕ → Bool

@@ -3,7 +3,7 @@ ghost use Rattle.std.specs.Prelude.{◌≡◌, ◌<◌, ℕ, true, false, length
 ghost use Rattle.cluster_msgs.specs.Labels.{PacketFits, ToClientFits};
 ghost use Rattle.node_states.specs.Fitting.{InstructionFits, InstructionsFit};
 ghost use Rattle.node_states.specs.Order.{is_dead, is_gone};
-ghost use Rattle.node_states.specs.declared.links.Source.TheVariants as source;
+ghost use Rattle.node_states.specs.declared.links.Source.TheVariants as origin;
 
 use crate::evidence::{SchedOut, WorkerOut};
 use cluster_msgs::{
@@ -352,7 +352,7 @@ impl<B: Drop, L: Label<Block = B>> SchedulerLinks<B, L> {
     /// The next packet, round robin over the links but for those of workers that are gone.
     pub fn take<R: Wait>(&mut self, rt: &R, gone: &[bool]) -> Option<(Source, Packet<B>)>
         ensures fits { IfSome result (λ p. PacketFits L.facts p.1) }
-        ensures heard { IfSome result (λ p. (w : ℕ) → p.0 ≡ source.Worker w → is_gone gone.now w ≡ false) }
+        ensures heard { IfSome result (λ p. (w : ℕ) → p.0 ≡ origin.Worker w → is_gone gone.now w ≡ false) }
     {
         let links = self.workers.len().saturating_add(self.clients.len());
         for _ in 0..links {
@@ -372,7 +372,7 @@ impl<B: Drop, L: Label<Block = B>> SchedulerLinks<B, L> {
         at: usize,
     ) -> Option<(Source, Packet<B>)>
         ensures fits { IfSome result (λ p. PacketFits L.facts p.1) }
-        ensures heard { IfSome result (λ p. (w : ℕ) → p.0 ≡ source.Worker w → is_gone gone.now w ≡ false) }
+        ensures heard { IfSome result (λ p. (w : ℕ) → p.0 ≡ origin.Worker w → is_gone gone.now w ≡ false) }
     {
         if at < self.workers.len() {
             return self.take_of_worker(rt, gone, at);
@@ -393,7 +393,7 @@ impl<B: Drop, L: Label<Block = B>> SchedulerLinks<B, L> {
     ) -> Option<(Source, Packet<B>)>
         requires { at < length self.old.workers.items }
         ensures fits { IfSome result (λ p. PacketFits L.facts p.1) }
-        ensures heard { IfSome result (λ p. (w : ℕ) → p.0 ≡ source.Worker w → is_gone gone.now w ≡ false) }
+        ensures heard { IfSome result (λ p. (w : ℕ) → p.0 ≡ origin.Worker w → is_gone gone.now w ≡ false) }
     {
         let worker = number(at);
         if is_gone(gone, worker) {

@@ -1,17 +1,17 @@
 //! The scheduler's node.
-ghost use Rattle.std.specs.Prelude.{◌≡◌, ◌≢◌, ℕ, [], true, false, IfOk, IfErr, IfSome};
+ghost use Rattle.std.specs.Prelude.{◌≡◌, ◌≢◌, ℕ, [], true, false, IfOk, IfErr, IfSome, Ok};
 ghost use Rattle.cluster_msgs.specs.Labels.{PacketFits};
 ghost use Rattle.cluster_msgs.specs.declared.cores.SchedEvent.TheVariants as sched;
-ghost use Rattle.cluster_msgs.specs.declared.events.Event.TheVariants as event;
+ghost use Rattle.cluster_msgs.specs.declared.events.Event.TheVariants as kind;
 ghost use Rattle.cluster_rules.specs.Sched.{Facts as SchedFacts, sched_opening};
 ghost use Rattle.cluster_rules.specs.SchedTable.{sched_takes};
 ghost use Rattle.scheduler_core.specs.Cores.{facts};
 ghost use Rattle.node_links.specs.Books.{IsRecorded, Steps};
 ghost use Rattle.node_states.specs.declared.choice.Course.TheVariants as course;
 ghost use Rattle.node_states.specs.declared.choice.Due.TheVariants as due;
-ghost use Rattle.node_states.specs.declared.links.Source.TheVariants as source;
+ghost use Rattle.node_states.specs.declared.links.Source.TheVariants as origin;
 ghost use Rattle.node_states.specs.Machines.{SchedSays};
-ghost use Rattle.node_states.specs.Order.{IsCourse, IsOver, IsDue, IsChosen, IsDelivered, IsQuiet, IsTurn, Adds, NoneLost, AreInTime, start_of, is_gone};
+ghost use Rattle.node_states.specs.Order.{IsCourse, IsOver, IsDue, IsChosen, IsDelivered, IsQuiet, IsTurn, Adds, NoneLost, AreInTime, JoinFirst, start_of, is_gone};
 
 use crate::choice::{Course, Due};
 use crate::cores::SchedulingCore;
@@ -104,13 +104,16 @@ impl<B: Drop, L: Label<Block = B>> SchedulerNode<B, L> {
     /// Each stored entry came in time, as far as all that was made is stored: the plan's workers join first; Evict comes after each 64 entries and
     /// Balance after each 16, where they have a choice; then the script's items in their order; and after a worker was seen as lost no message of it
     /// is delivered.
+    #[tactic(auto, using(crate::proofs::CourseLemmas::join_first))]
     pub fn in_time(&self)
-        ensures { self.now.book.cut ≡ false → AreInTime self.now.book.core.plan (start_of (facts self.now.book.core.core).setting) self.now.book.entries }
+        ensures in_time { self.now.book.cut ≡ false → AreInTime self.now.book.core.plan (start_of (facts self.now.book.core.core).setting) self.now.book.entries }
+        ensures joins { self.now.book.cut ≡ false → JoinFirst self.now.book.core.plan self.now.book.entries }
     {
         let _book = &self.book;
     }
 
     /// One turn: at most one event, and then what waits is sent.
+    #[tactic(auto, using(crate::proofs::CourseLemmas::turn_quiet, node_links::proofs::Recorded::unchanged))]
     pub fn serve<R: Wait>(&mut self, rt: &R, stamps: &mut Stamps, dead: &[bool]) -> Course
         ensures recorded { IsRecorded (Steps ⟦<SchedulingCore<L> as Machine>⟧.says ⟦<SchedulingCore<L> as Machine>⟧.by) self.old.book self.new.book }
         ensures still { result ≢ course.Moved → self.new.book ≡ self.old.book }
@@ -122,22 +125,32 @@ impl<B: Drop, L: Label<Block = B>> SchedulerNode<B, L> {
         if self.over {
             return Course::Over;
         }
-        let course = match self.choose(rt, dead) {
-            Ok(choice) => self.carry(rt, stamps, choice, dead),
-            Err(course) => course,
-        };
+        let course = self.turn(rt, stamps, dead);
         self.links.flush(rt);
         course
     }
 
+    #[tactic(auto, using(crate::proofs::CourseLemmas::turn_moved, crate::proofs::CourseLemmas::turn_quiet, node_links::proofs::Recorded::unchanged))]
+    fn turn<R: Wait>(&mut self, rt: &R, stamps: &mut Stamps, dead: &[bool]) -> Course
+        requires { self.old.over ≡ false }
+        ensures recorded { IsRecorded (Steps ⟦<SchedulingCore<L> as Machine>⟧.says ⟦<SchedulingCore<L> as Machine>⟧.by) self.old.book self.new.book }
+        ensures still { result ≢ course.Moved → self.new.book ≡ self.old.book }
+        ensures turn { IsTurn dead.now self.old.book self.new.book result }
+    {
+        match self.choose(rt, dead) {
+            Ok(choice) => self.carry(rt, stamps, choice, dead),
+            Err(course) => course,
+        }
+    }
+
     /// The event of this turn, or what the turn says without one.
-    #[tactic(auto, using(crate::proofs::CourseLemmas::chosen_lost, crate::proofs::CourseLemmas::chosen_suspect, crate::proofs::CourseLemmas::chosen_join, crate::proofs::CourseLemmas::chosen_evict, crate::proofs::CourseLemmas::chosen_balance))]
+    #[tactic(auto, using(crate::proofs::CourseLemmas::chosen_lost, crate::proofs::CourseLemmas::chosen_suspect, crate::proofs::CourseLemmas::chosen_join, crate::proofs::CourseLemmas::chosen_evict, crate::proofs::CourseLemmas::chosen_balance, crate::proofs::CourseLemmas::quiet_stopped))]
     fn choose<R: Wait>(&mut self, rt: &R, dead: &[bool]) -> Result<Choice<L>, Course>
         requires { self.old.over ≡ false }
         ensures book { self.new.book ≡ self.old.book }
         ensures over { IfOk result (λ c. self.new.over ≡ false) }
         ensures chosen { IfOk result (λ c. IsChosen dead.now self.new.gone.items self.new.book c.event c.message c.said) }
-        ensures quiet { IfErr result (λ course. IsQuiet dead.now self.new.book course) }
+        ensures quiet { IfErr result (λ v. IsQuiet dead.now self.new.book v) }
     {
         match self.due() {
             Err(stop) => Err(self.stop(stop)),
@@ -150,7 +163,10 @@ impl<B: Drop, L: Label<Block = B>> SchedulerNode<B, L> {
                 }
             }
             Ok(Due::Suspect(worker)) => Ok(suspect(worker)),
-            Ok(Due::Join) => self.join(),
+            Ok(Due::Join) => {
+                let chosen = self.join();
+                self.settle(chosen)
+            }
             Ok(Due::Evict) => Ok(evict()),
             Ok(Due::Balance) => Ok(balance()),
         }
@@ -158,7 +174,7 @@ impl<B: Drop, L: Label<Block = B>> SchedulerNode<B, L> {
 
     /// It stops.
     fn stop(&mut self, stop: Stop) -> Course
-        ensures book { self.new.book ≡ self.old.book }
+        ensures book { (self.new.book ≡ self.old.book) × (self.new.over ≡ self.old.over) × (self.new.gone ≡ self.old.gone) }
         ensures result { result ≡ course.Stopped }
     {
         self.stopped = Some(stop);
@@ -168,7 +184,7 @@ impl<B: Drop, L: Label<Block = B>> SchedulerNode<B, L> {
     /// What goes before losses and messages.
     #[tactic(auto, using(crate::proofs::CourseLemmas::is_due))]
     fn due(&mut self) -> Result<Due, Stop>
-        ensures book { (self.new.book ≡ self.old.book) × (self.new.over ≡ self.old.over) }
+        ensures book { (self.new.book ≡ self.old.book) × (self.new.over ≡ self.old.over) × (self.new.gone ≡ self.old.gone) }
         ensures due { IfOk result (λ d. IsDue self.new.book d) }
     {
         let made = self.book.made();
@@ -195,14 +211,12 @@ impl<B: Drop, L: Label<Block = B>> SchedulerNode<B, L> {
     }
 
     /// The next worker joins.
-    fn join(&mut self) -> Result<Choice<L>, Course>
-        ensures book { (self.new.book ≡ self.old.book) × (self.new.over ≡ self.old.over) }
-        ensures join { IfOk result (λ c. c.event ≡ event.Join self.new.book.core.plan.threads) }
-        ensures says { IfOk result (λ c. SchedSays (facts self.new.book.core.core) c.event c.message c.said) }
-        ensures quiet { IfErr result (λ course. course ≡ course.Stopped) }
+    fn join(&self) -> Result<Choice<L>, Stop>
+        ensures event { IfOk result (λ c. c.event ≡ kind.Join self.now.book.core.plan.threads) }
+        ensures says { IfOk result (λ c. SchedSays (facts self.now.book.core.core) c.event c.message c.said) }
     {
         let Some(core) = self.book.core() else {
-            return Err(self.stop(Stop::Memory));
+            return Err(Stop::Memory);
         };
         let threads = core.plan().threads;
         Ok(Choice {
@@ -212,14 +226,26 @@ impl<B: Drop, L: Label<Block = B>> SchedulerNode<B, L> {
         })
     }
 
+    /// The choice, or it stops where there was none for want of memory or for a message that no honest node sends.
+    fn settle(&mut self, chosen: Result<Choice<L>, Stop>) -> Result<Choice<L>, Course>
+        ensures book { (self.new.book ≡ self.old.book) × (self.new.over ≡ self.old.over) × (self.new.gone ≡ self.old.gone) }
+        ensures ok { IfOk result (λ c. chosen ≡ Ok c) }
+        ensures err { IfErr result (λ v. v ≡ course.Stopped) }
+    {
+        match chosen {
+            Ok(choice) => Ok(choice),
+            Err(stop) => Err(self.stop(stop)),
+        }
+    }
+
     /// A connected worker that has ended is seen as lost; else a message is taken; else the run may be over.
-    #[tactic(auto, using(crate::proofs::CourseLemmas::chosen_seen))]
+    #[tactic(auto, using(crate::proofs::CourseLemmas::chosen_seen, crate::proofs::CourseLemmas::quiet_stopped))]
     fn go_on<R: Wait>(&mut self, rt: &R, dead: &[bool]) -> Result<Choice<L>, Course>
         requires { IsDue self.old.book due.Nothing }
         ensures book { self.new.book ≡ self.old.book }
         ensures over { IfOk result (λ c. self.new.over ≡ self.old.over) }
         ensures chosen { IfOk result (λ c. IsChosen dead.now self.new.gone.items self.new.book c.event c.message c.said) }
-        ensures quiet { IfErr result (λ course. IsQuiet dead.now self.new.book course) }
+        ensures quiet { IfErr result (λ v. IsQuiet dead.now self.new.book v) }
     {
         let Some(core) = self.book.core() else {
             return Err(self.stop(Stop::Memory));
@@ -231,26 +257,24 @@ impl<B: Drop, L: Label<Block = B>> SchedulerNode<B, L> {
     }
 
     /// A message is taken; else the run may be over.
-    #[tactic(auto, using(crate::proofs::CourseLemmas::chosen_message))]
+    #[tactic(auto, using(crate::proofs::CourseLemmas::chosen_message, crate::proofs::CourseLemmas::quiet_stopped))]
     fn hear<R: Wait>(&mut self, rt: &R, dead: &[bool]) -> Result<Choice<L>, Course>
         requires due { IsDue self.old.book due.Nothing }
         requires none { NoneLost dead.now (facts self.old.book.core.core) }
         ensures book { self.new.book ≡ self.old.book }
         ensures over { IfOk result (λ c. self.new.over ≡ self.old.over) }
         ensures chosen { IfOk result (λ c. IsChosen dead.now self.new.gone.items self.new.book c.event c.message c.said) }
-        ensures quiet { IfErr result (λ course. IsQuiet dead.now self.new.book course) }
+        ensures quiet { IfErr result (λ v. IsQuiet dead.now self.new.book v) }
     {
         let Some((source, packet)) = self.links.take(rt, self.gone.as_slice()) else {
             return Err(self.rest(dead));
         };
-        match self.deliver(source, packet) {
-            Ok(choice) => Ok(choice),
-            Err(stop) => Err(self.stop(stop)),
-        }
+        let chosen = self.deliver(source, packet);
+        self.settle(chosen)
     }
 
     /// Over where no worker is connected: no task will finish any more, so no item of the script will come.
-    #[tactic(auto, using(crate::proofs::CourseLemmas::is_over))]
+    #[tactic(auto, using(crate::proofs::CourseLemmas::is_over, crate::proofs::CourseLemmas::quiet_stopped))]
     fn rest(&mut self, dead: &[bool]) -> Course
         requires due { IsDue self.old.book due.Nothing }
         requires none { NoneLost dead.now (facts self.old.book.core.core) }
@@ -270,7 +294,7 @@ impl<B: Drop, L: Label<Block = B>> SchedulerNode<B, L> {
     /// A message of a worker, which is dropped where the worker isn't connected, or of a client.
     fn deliver(&self, source: Source, packet: Packet<B>) -> Result<Choice<L>, Stop>
         requires fits { PacketFits L.facts packet }
-        requires heard { (w : ℕ) → source ≡ source.Worker w → is_gone self.now.gone.items w ≡ false }
+        requires heard { (w : ℕ) → source ≡ origin.Worker w → is_gone self.now.gone.items w ≡ false }
         ensures { IfOk result (λ c. IsDelivered self.now.gone.items (facts self.now.book.core.core) c.event c.message c.said) }
     {
         match source {
@@ -366,9 +390,7 @@ impl<B: Drop, L: Label<Block = B>> SchedulerNode<B, L> {
             message,
             said,
         } = choice;
-        if let Event::SeeLoss { worker } = &event {
-            let_go(&mut self.gone, *worker);
-        }
+        note_loss(&mut self.gone, &event);
         self.no_drop = false;
         self.no_steal = false;
         let mut out = SchedOut::nothing(self.alloc);
@@ -378,10 +400,20 @@ impl<B: Drop, L: Label<Block = B>> SchedulerNode<B, L> {
     }
 }
 
+/// Nothing is taken any more from a worker that is seen as lost.
+fn note_loss(gone: &mut Vec<bool>, event: &Event)
+    ensures kept { (w : ℕ) → is_gone gone.old.items w ≡ true → is_gone gone.new.items w ≡ true }
+    ensures gone { (w : ℕ) → event.now ≡ kind.SeeLoss w → is_gone gone.new.items w ≡ true }
+{
+    if let Event::SeeLoss { worker } = event {
+        let_go(gone, *worker);
+    }
+}
+
 /// A connected worker that has ended is seen as lost.
 fn lost<L: Label>(worker: u32) -> Choice<L>
     ensures says { (f : SchedFacts) → SchedSays f result.event result.message result.said }
-    ensures event { result.event ≡ event.SeeLoss worker }
+    ensures event { result.event ≡ kind.SeeLoss worker }
 {
     Choice {
         event: Event::SeeLoss { worker },
@@ -393,7 +425,7 @@ fn lost<L: Label>(worker: u32) -> Choice<L>
 /// A connected worker is taken as lost.
 fn suspect<L: Label>(worker: u32) -> Choice<L>
     ensures says { (f : SchedFacts) → SchedSays f result.event result.message result.said }
-    ensures event { result.event ≡ event.Suspect worker }
+    ensures event { result.event ≡ kind.Suspect worker }
 {
     Choice {
         event: Event::Suspect { worker },
@@ -405,7 +437,7 @@ fn suspect<L: Label>(worker: u32) -> Choice<L>
 /// A copy is dropped.
 fn evict<L: Label>() -> Choice<L>
     ensures says { (f : SchedFacts) → SchedSays f result.event result.message result.said }
-    ensures event { result.event ≡ event.Evict }
+    ensures event { result.event ≡ kind.Evict }
 {
     Choice {
         event: Event::Evict,
@@ -417,7 +449,7 @@ fn evict<L: Label>() -> Choice<L>
 /// A task is asked back for another worker.
 fn balance<L: Label>() -> Choice<L>
     ensures says { (f : SchedFacts) → SchedSays f result.event result.message result.said }
-    ensures event { result.event ≡ event.Balance }
+    ensures event { result.event ≡ kind.Balance }
 {
     Choice {
         event: Event::Balance,

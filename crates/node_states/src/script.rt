@@ -1,5 +1,5 @@
 //! What is due at the scheduler, by its core and the script.
-ghost use Rattle.std.specs.Prelude.{◌≡◌, ◌<◌, ◌==◌, ◌%◌, ◌&&◌, ℕ, true, false, cond, IfSome, IfNone};
+ghost use Rattle.std.specs.Prelude.{◌≡◌, ◌<◌, ◌==◌, ◌%◌, ◌&&◌, ℕ, true, false, cond, nat_lt, IfSome, IfNone};
 ghost use Rattle.cluster_rules.specs.Sched.{connected};
 ghost use Rattle.cluster_rules.specs.SchedTable.{sched_takes};
 ghost use Rattle.scheduler_core.specs.Cores.{facts};
@@ -68,20 +68,30 @@ pub fn due_by_script(core: &Sched, plan: &Plan) -> Due
 }
 
 /// The script's item whose turn it is.
+#[tactic(auto, using(crate::proofs::ScriptLemmas::done_item, crate::proofs::ScriptLemmas::early_item, crate::proofs::ScriptLemmas::open_here))]
 fn open_item(core: &Sched, plan: &Plan) -> Option<Item>
     ensures { result ≡ open_item plan.now (facts core.now) }
 {
     let mut joined = plan.workers as u64;
     for item in plan.script.as_slice() {
-        if (core.finishes() as u128) < time_of(item) {
+        let early = is_early(core, item);
+        if early {
             return None;
         }
-        if !is_done(core, joined, item) {
+        let done = is_done(core, joined, item);
+        if !done {
             return Some(*item);
         }
         joined += joins_of(item);
     }
     None
+}
+
+/// Whether fewer finishes counted than an item waits for.
+fn is_early(core: &Sched, item: &Item) -> bool
+    ensures { result ≡ nat_lt (facts core.now).finishes (time_of item.now) }
+{
+    (core.finishes() as u128) < time_of(item)
 }
 
 /// How many finishes an item waits for.
@@ -117,6 +127,7 @@ fn is_done(core: &Sched, joined: u64, item: &Item) -> bool
 }
 
 /// The first connected worker that has ended.
+#[tactic(auto, using(crate::proofs::ScriptLemmas::none_lost))]
 pub fn first_lost(core: &Sched, dead: &[bool]) -> Option<u32>
     ensures lost { IfSome result (λ w. is_dead dead.now w ≡ true) }
     ensures none { IfNone result (NoneLost dead.now (facts core.now)) }
@@ -139,6 +150,7 @@ fn is_lost(core: &Sched, dead: &[bool], worker: u32) -> bool
 }
 
 /// Whether a worker is connected.
+#[tactic(auto, using(crate::proofs::ScriptLemmas::none_connected))]
 pub fn is_any_connected(core: &Sched) -> bool
     ensures { result ≡ false → (w : ℕ) → connected (facts core.now) w ≡ false }
 {
