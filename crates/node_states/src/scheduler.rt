@@ -113,8 +113,19 @@ impl<B: Drop, L: Label<Block = B>> SchedulerNode<B, L> {
     }
 
     /// One turn: at most one event, and then what waits is sent.
-    #[tactic(auto, using(crate::proofs::CourseLemmas::turn_quiet, node_links::proofs::Recorded::unchanged))]
     pub fn serve<R: Wait>(&mut self, rt: &R, stamps: &mut Stamps, dead: &[bool]) -> Course
+        ensures recorded { IsRecorded (Steps ⟦<SchedulingCore<L> as Machine>⟧.says ⟦<SchedulingCore<L> as Machine>⟧.by) self.old.book self.new.book }
+        ensures still { result ≢ course.Moved → self.new.book ≡ self.old.book }
+        ensures turn { IsTurn dead.now self.old.book self.new.book result }
+    {
+        let course = self.turn(rt, stamps, dead);
+        self.links.flush(rt);
+        course
+    }
+
+    /// An event is tried, unless the node has stopped or the run is over.
+    #[tactic(auto, using(crate::proofs::CourseLemmas::turn_moved, crate::proofs::CourseLemmas::turn_quiet, node_links::proofs::Recorded::unchanged))]
+    fn turn<R: Wait>(&mut self, rt: &R, stamps: &mut Stamps, dead: &[bool]) -> Course
         ensures recorded { IsRecorded (Steps ⟦<SchedulingCore<L> as Machine>⟧.says ⟦<SchedulingCore<L> as Machine>⟧.by) self.old.book self.new.book }
         ensures still { result ≢ course.Moved → self.new.book ≡ self.old.book }
         ensures turn { IsTurn dead.now self.old.book self.new.book result }
@@ -125,18 +136,6 @@ impl<B: Drop, L: Label<Block = B>> SchedulerNode<B, L> {
         if self.over {
             return Course::Over;
         }
-        let course = self.turn(rt, stamps, dead);
-        self.links.flush(rt);
-        course
-    }
-
-    #[tactic(auto, using(crate::proofs::CourseLemmas::turn_moved, crate::proofs::CourseLemmas::turn_quiet, node_links::proofs::Recorded::unchanged))]
-    fn turn<R: Wait>(&mut self, rt: &R, stamps: &mut Stamps, dead: &[bool]) -> Course
-        requires { self.old.over ≡ false }
-        ensures recorded { IsRecorded (Steps ⟦<SchedulingCore<L> as Machine>⟧.says ⟦<SchedulingCore<L> as Machine>⟧.by) self.old.book self.new.book }
-        ensures still { result ≢ course.Moved → self.new.book ≡ self.old.book }
-        ensures turn { IsTurn dead.now self.old.book self.new.book result }
-    {
         match self.choose(rt, dead) {
             Ok(choice) => self.carry(rt, stamps, choice, dead),
             Err(course) => course,
