@@ -20,7 +20,7 @@ use Rattle.scheduler_core.specs.Cores.{facts}
 use Rattle.node_links.specs.Books.{BookState, IsRecorded, IsEntered, Steps, StepsBy}
 use Rattle.node_states.specs.Fitting.{SchedEventFits}
 use Rattle.node_states.specs.Machines.{SchedState, SchedSays, SchedBy}
-use Rattle.node_states.specs.Order.{FitsDue, IsHeard, IsFree, IsMessage, IsEvident, IsDelivered, Progress, start_of, said, facts_by, lost_by, after, reached, IsInTime, AreInTime, is_gone, is_dead, IsOver, IsCourse, IsDue, NoneLost, IsTurnOf, IsChosen, Adds, IsQuiet, IsTurn, JoinFirst, due_after, due_by, open_item}
+use Rattle.node_states.specs.Order.{FitsDue, IsHeard, IsFree, IsMessage, IsEvident, IsDelivered, Progress, start_of, said, facts_by, lost_by, after, reached, IsInTime, AreInTime, is_gone, is_dead, IsOver, IsCourse, IsDue, NoneLost, IsTurnOf, IsChosen, Adds, IsQuiet, IsTurn, JoinFirst, is_nothing, due_after, due_by, open_item}
 use Rattle.node_states.specs.declared.choice.Course.{Course}
 use Rattle.node_states.specs.declared.choice.Course.TheVariants as course
 use Rattle.node_states.specs.declared.choice.Plan.{Plan}
@@ -232,7 +232,7 @@ chosen_balance dead gone b e m o d is says = chosen dead gone b due.Balance even
 -- nothing is due, and nobody is connected
 pub is_over : (b : BookState SchedState) → IsDue b due.Nothing → ((w : ℕ) → connected (facts b.core.core) w ≡ false) → IsOver b.core.plan (facts b.core.core)
 unfolding due_after
-is_over b d none = record { none = none; joined = parts.0; script = parts.1 }
+is_over b d none = record { none = none; joined = parts.0; script = ap is_nothing parts.1 }
   where
     left : (j e v : Bool) (s : Due) → due.Nothing ≡ cond j due.Join (cond e due.Evict (cond v due.Balance s)) → (j ≡ false) × (s ≡ due.Nothing)
     left true e v s h = absurd (cc)

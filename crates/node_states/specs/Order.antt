@@ -151,6 +151,11 @@ pub record IsCourse (p : Plan) (f : Facts) (gone : List Bool) (entries : List En
   pub facts : (reached (start_of f.setting) entries).facts ≡ f
   pub lost : (w : ℕ) → (reached (start_of f.setting) entries).lost w ≡ true → is_gone gone w ≡ true
 
+-- a scheduler's core with its history, and which workers were seen as lost
+pub record SchedulerPast : Type 0 where
+  pub book : BookState SchedState
+  pub gone : List Bool
+
 -- what is due by a book. Past the limit of its history only the node knows how many entries it made
 pub record IsDue (b : BookState SchedState) (d : Due) : Type 0 where
   pub made : ℕ
@@ -192,11 +197,15 @@ pub record IsDelivered (gone : List Bool) (f : Facts) (e : Event) (m : Option Me
   pub says : SchedSays f e m o
   pub heard : IsHeard (is_gone gone) e
 
+abbrev pub is_nothing : Due → Bool
+is_nothing due.Nothing = true
+is_nothing _ = false
+
 -- no worker is connected, all of the plan have joined, and no item of the script is open
 pub record IsOver (p : Plan) (f : Facts) : Type 0 where
   pub none : (w : ℕ) → connected f w ≡ false
   pub joined : nat_lt f.last_worker p.workers ≡ false
-  pub script : due_by p f (open_item p f) ≡ due.Nothing
+  pub script : is_nothing (due_by p f (open_item p f)) ≡ true
 
 -- what a turn without an event says
 abbrev pub IsQuiet : List Bool → BookState SchedState → Course → Type 0

@@ -10,6 +10,7 @@ mod evidence;
 mod feeds;
 mod laws;
 mod links;
+mod past;
 mod scheduler;
 mod script;
 mod worker;
@@ -21,5 +22,6 @@ pub use evidence::{Blame, ClientCause, Fault, SchedCause, SchedOut, WorkerCause,
 pub use feeds::Feeds;
 pub use laws::{blames_are_faulty, clients_know_right_blames, workers_err_after_zero_divisors};
 pub use links::{SchedulerLinks, WorkerLinks};
+pub use past::SchedulerHistory;
 pub use scheduler::{SchedulerNode, SchedulerTurn};
 pub use worker::{Finished, Task, TaskEnd, Why, WorkerNode, WorkerTurn};
