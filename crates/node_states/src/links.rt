@@ -7,7 +7,8 @@ ghost use Rattle.node_states.specs.declared.links.Source.TheVariants as origin;
 
 use crate::evidence::{SchedOut, WorkerOut};
 use cluster_msgs::{
-    Asker, ClientInstruction, ClientOut, Down, Instruction, Instructions, Label, Message, Outbox, Packet, Peer, Stop, ToClient,
+    Asker, ClientInstruction, ClientOut, Down, Instruction, Instructions, Label, Message, Outbox,
+    Packet, Peer, Stop, ToClient,
 };
 use node_links::{Port, Sealed, bare_packet};
 use std::alloc::Global;
@@ -285,7 +286,9 @@ impl<B: Drop, L: Label<Block = B>> WorkerLinks<B, L> {
                 let message = Message::Peer(Peer::GetData { ask, keys });
                 self.to_peer(rt, peer, bare_packet(self.alloc, message))
             }
-            Instruction::Execute { .. } | Instruction::Keep { .. } | Instruction::Drop { .. } => Ok(()),
+            Instruction::Execute { .. } | Instruction::Keep { .. } | Instruction::Drop { .. } => Ok(
+                (),
+            ),
         }
     }
 
@@ -357,7 +360,11 @@ impl<B: Drop, L: Label<Block = B>> SchedulerLinks<B, L> {
         let links = self.workers.len().saturating_add(self.clients.len());
         for _ in 0..links {
             let at = self.next;
-            self.next = if at.saturating_add(1) < links { at.saturating_add(1) } else { 0 };
+            self.next = if at.saturating_add(1) < links {
+                at.saturating_add(1)
+            } else {
+                0
+            };
             if let Some((source, packet)) = self.take_at(rt, gone, at) {
                 return Some((source, packet));
             }
@@ -365,12 +372,7 @@ impl<B: Drop, L: Label<Block = B>> SchedulerLinks<B, L> {
         None
     }
 
-    fn take_at<R: Wait>(
-        &mut self,
-        rt: &R,
-        gone: &[bool],
-        at: usize,
-    ) -> Option<(Source, Packet<B>)>
+    fn take_at<R: Wait>(&mut self, rt: &R, gone: &[bool], at: usize) -> Option<(Source, Packet<B>)>
         ensures fits { IfSome result (λ p. PacketFits L.facts p.1) }
         ensures heard { IfSome result (λ p. (w : ℕ) → p.0 ≡ origin.Worker w → is_gone gone.now w ≡ false) }
     {

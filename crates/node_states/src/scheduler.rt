@@ -170,13 +170,7 @@ impl<B: Drop, L: Label<Block = B>> SchedulerNode<B, L> {
             return Err(Stop::Memory);
         };
         let joins = core.core().last_worker() < core.plan().workers;
-        let evicts = is_choice_due(
-            core.core(),
-            &SchedEvent::Evict,
-            64,
-            made,
-            &mut self.no_drop,
-        );
+        let evicts = is_choice_due(core.core(), &SchedEvent::Evict, 64, made, &mut self.no_drop);
         let balances = is_choice_due(
             core.core(),
             &SchedEvent::Balance,
@@ -288,10 +282,7 @@ impl<B: Drop, L: Label<Block = B>> SchedulerNode<B, L> {
         requires heard { is_gone self.now.history.gone worker ≡ false }
         ensures { IfOk result (λ c. IsDelivered self.now.history.gone (facts self.now.history.book.core.core) c.event c.message c.said) }
     {
-        let Packet {
-            message,
-            blocks: _,
-        } = packet;
+        let Packet { message, blocks: _ } = packet;
         let Message::Up(up) = message else {
             return Err(Stop::Refused);
         };
@@ -314,10 +305,7 @@ impl<B: Drop, L: Label<Block = B>> SchedulerNode<B, L> {
     fn deliver_from_client(&self, client: u32, packet: Packet<B>) -> Result<Choice<L>, Stop>
         ensures { IfOk result (λ c. IsDelivered self.now.history.gone (facts self.now.history.book.core.core) c.event c.message c.said) }
     {
-        let Packet {
-            message,
-            blocks: _,
-        } = packet;
+        let Packet { message, blocks: _ } = packet;
         let Message::FromClient(msg) = message else {
             return Err(Stop::Refused);
         };
@@ -456,7 +444,8 @@ pub struct SchedulerTurn<'a, R: Wait> {
     pub dead: &'a [bool],
 }
 
-impl<'a, R: Wait, B: Drop, L: Label<Block = B>> Act<SchedulerNode<B, L>, L> for SchedulerTurn<'a, R> {
+impl<'a, R: Wait, B: Drop, L: Label<Block = B>> Act<SchedulerNode<B, L>, L>
+    for SchedulerTurn<'a, R> {
     type Out = Course;
 
     fn act(self, state: &mut SchedulerNode<B, L>) -> Course {
