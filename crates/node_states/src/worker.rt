@@ -411,7 +411,10 @@ impl<B: Drop, L: Label<Block = B>, F: Drop> WorkerNode<B, L, F> {
     fn hear(&self, packet: Packet<B>) -> Result<Option<Choice<B, L>>, Stop>
         ensures { IfOk result (λ o. IfSome o (λ c. (w : WorkerFacts) → WorkerSays self.now.id w c.event c.message c.said)) }
     {
-        let Packet { message, blocks: _ } = packet;
+        let Packet {
+            message,
+            blocks: _,
+        } = packet;
         let Message::Down(down) = message else {
             return Err(Stop::Refused);
         };
@@ -433,11 +436,7 @@ impl<B: Drop, L: Label<Block = B>, F: Drop> WorkerNode<B, L, F> {
     {
         let Packet { message, blocks } = packet;
         match message {
-            Message::Peer(Peer::GetData { ask, keys }) => self.answer(
-                Asker::Worker(peer),
-                ask,
-                keys,
-            ),
+            Message::Peer(Peer::GetData { ask, keys }) => self.answer(Asker::Worker(peer), ask, keys),
             Message::Peer(Peer::Data { ask, found }) => {
                 let copy = found.copy()?;
                 let brought = pair_up(self.alloc, found.as_slice(), &blocks)?;
@@ -461,13 +460,12 @@ impl<B: Drop, L: Label<Block = B>, F: Drop> WorkerNode<B, L, F> {
     fn serve_client(&self, client: u32, packet: Packet<B>) -> Result<Option<Choice<B, L>>, Stop>
         ensures { IfOk result (λ o. IfSome o (λ c. (w : WorkerFacts) → WorkerSays self.now.id w c.event c.message c.said)) }
     {
-        let Packet { message, blocks: _ } = packet;
+        let Packet {
+            message,
+            blocks: _,
+        } = packet;
         match message {
-            Message::Peer(Peer::GetData { ask, keys }) => self.answer(
-                Asker::Client(client),
-                ask,
-                keys,
-            ),
+            Message::Peer(Peer::GetData { ask, keys }) => self.answer(Asker::Client(client), ask, keys),
             _ => Err(Stop::Refused),
         }
     }
@@ -529,7 +527,8 @@ impl<B: Drop, L: Label<Block = B>, F: Drop> WorkerNode<B, L, F> {
             answer,
         } = choice;
         let mut out = WorkerOut::nothing(self.alloc);
-        self.book.record(stamps, event, message, said, &mut out)?;
+        self.book
+            .record(stamps, event, message, said, &mut out)?;
         self.blocks.let_go(&out);
         self.blocks.keep(self.book.core(), brought);
         self.links.send(rt, answer, out)
@@ -570,8 +569,7 @@ pub struct WorkerTurn<'a, R: Wait> {
     pub graph: &'a GraphShape,
 }
 
-impl<'a, R: Wait, B: Drop, L: Label<Block = B>, F: Drop> Act<WorkerNode<B, L, F>, L>
-    for WorkerTurn<'a, R> {
+impl<'a, R: Wait, B: Drop, L: Label<Block = B>, F: Drop> Act<WorkerNode<B, L, F>, L> for WorkerTurn<'a, R> {
     type Out = (bool, Option<Task<B, L, F>>);
 
     fn act(self, state: &mut WorkerNode<B, L, F>) -> (bool, Option<Task<B, L, F>>) {
