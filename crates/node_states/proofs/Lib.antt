@@ -4,4 +4,7 @@ pub mod ClientLaw
 pub mod SchedLaw
 pub mod Kept
 pub mod CourseLemmas
+pub mod ChoiceLemmas
+pub mod JoinLemmas
+pub mod Entries
 pub mod ScriptLemmas
