@@ -122,7 +122,7 @@ module _ {B : Type 0} (label : LabelFacts B) where
       → ((w : ℕ) → is_gone gone w ≡ true → is_gone more w ≡ true) → ((w : ℕ) → e ≡ event.SeeLoss w → is_gone more w ≡ true)
       → y.cut ≡ false → IsCourse y.core.plan (facts y.core.core) more y.entries
   goes_on dead gone more x y e m o old chosen recorded entry wide new uncut = ⊎_elim
-      (λ s. subst (λ (b : BookState SchedState). IsCourse b.core.plan (facts b.core.core) more b.entries) (sym s) (widen (old (sym (ap (λ b. b.cut) s) ∙ open))))
+      (λ s. subst (λ (b : BookState SchedState). IsCourse b.core.plan (facts b.core.core) more b.entries) (sym s) (widen (old (sym (ap (λ b. b.cut) s) ∙ uncut))))
       (λ k. ⊎_elim
       (λ a. subst (IsCourse y.core.plan (facts y.core.core) more) (sym a.1) (added a.0 (entry.each a.0 a.1) a.2 a.4.0 a.4.1 a.4.2))
       (λ b. absurd (false≢true (sym uncut ∙ b.1))) k)
