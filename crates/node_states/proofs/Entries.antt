@@ -1,5 +1,5 @@
 -- What one more entry says of a list of entries.
-use Rattle.std.proofs.Common.{◌≡◌, ⊎_elim, List, [], ◌∷◌, ◌++◌, Option, sym, ap, ◌∙◌}
+use Rattle.std.proofs.Common.{◌≡◌, ⊎_elim, List, [], ◌∷◌, ◌++◌, Option, Result, Ok, Err, OnOk, OnErr, sym, ap, ◌∙◌}
 use Rattle.cluster_msgs.specs.declared.events.Entry.{Entry}
 use Rattle.cluster_msgs.specs.declared.events.Event.{Event}
 use Rattle.cluster_msgs.specs.declared.messages.Message.{Message}
@@ -25,3 +25,7 @@ adds v m x y h = record {
 
 pub adds_none : {C : Type 0} (v : Event) (x y : BookState C) → y ≡ x → Adds v x.entries y.entries
 adds_none {C} v x y h = record { each = λ e is. absurd (not_longer x.entries e (sym (ap (λ (b : BookState C). b.entries) h) ∙ is)) }
+
+pub adds_by : {T E C : Type 0} (v : Event) (m : Option Message) (x y : BookState C) (r : Result T E) → OnOk r (IsEntered v m x y) → OnErr r (y ≡ x) → Adds v x.entries y.entries
+adds_by v m x y (Ok t) ok err = adds v m x y ok
+adds_by v m x y (Err e) ok err = adds_none v x y err
