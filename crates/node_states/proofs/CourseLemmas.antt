@@ -11,7 +11,7 @@ use Rattle.cluster_msgs.specs.declared.events.Event.TheVariants as event
 use Rattle.cluster_msgs.specs.declared.messages.Message.{Message}
 use Rattle.cluster_msgs.specs.declared.messages.Message.TheVariants as message
 use Rattle.cluster_msgs.specs.declared.cores.SchedEvent.{SchedEvent}
-use Rattle.cluster_rules.specs.Sched.{Facts, Setting, sched_opening}
+use Rattle.cluster_rules.specs.Sched.{Facts, Setting}
 use Rattle.scheduler_core.specs.Cores.{facts}
 use Rattle.node_links.specs.Books.{BookState, IsRecorded, Steps, StepsBy}
 use Rattle.node_states.specs.Fitting.{SchedEventFits}
@@ -136,7 +136,3 @@ module _ {B : Type 0} (label : LabelFacts B) where
           (subst (λ (n : ℕ). FitsDue x.core.plan (due_after x.core.plan n (facts x.core.core)) d.event) (chosen.turn.is_due.counts c)
           (subst (λ (v : Due). FitsDue x.core.plan v d.event) chosen.turn.is_due.is (subst (λ (v : Event). FitsDue x.core.plan chosen.turn.what v) (sym is) chosen.turn.fits)))
           (subst (λ (v : Event). IsHeard (is_gone gone) v) (sym is) chosen.heard) wide (λ w h. new w (sym is ∙ h))
-
--- a scheduler that starts has no entry
-pub starts : (p : Plan) (f : Facts) (gone : List Bool) (entries : List Entry) → entries ≡ [] → f ≡ sched_opening f.setting → IsCourse p f gone entries
-starts p f gone entries e o = subst (IsCourse p f gone) (sym e) (record { in_time = tt; made = refl; facts = sym o; lost = λ w l. absurd (false≢true l) })

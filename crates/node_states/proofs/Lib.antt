@@ -7,4 +7,5 @@ pub mod CourseLemmas
 pub mod ChoiceLemmas
 pub mod JoinLemmas
 pub mod Entries
+pub mod Starting
 pub mod ScriptLemmas

@@ -13,12 +13,13 @@ use Rattle.cluster_msgs.specs.declared.messages.ToClient.TheVariants.{KeyInMemor
 use Rattle.cluster_msgs.specs.declared.cores.Outbox.{Outbox}
 use Rattle.cluster_msgs.specs.declared.cores.SchedEvent.{SchedEvent}
 use Rattle.cluster_msgs.specs.declared.cores.SchedEvent.TheVariants.{Join, Leave, FromWorker, FromClient, Balance, Evict}
-use Rattle.cluster_rules.specs.Sched.{Facts, Setting, sched_opening}
+use Rattle.cluster_rules.specs.Sched.{Facts}
 use Rattle.cluster_rules.specs.SchedStep.{sched_step}
 use Rattle.cluster_rules.specs.World.{Job}
 use Rattle.cluster_laws.specs.Truth.{faulty_key, MayErr, no_excuse, IsBlame, IsTrueNews, IsTrueSched, IsTrueSchedEvent}
 use Rattle.cluster_laws.proofs.TruthSched.{true_sched_step, true_news}
 use Rattle.scheduler_core.specs.Sent.{appended, sent_by}
+use Rattle.node_states.specs.Opening.{IsOpening}
 use Rattle.node_states.specs.Fitting.{SchedFits, SchedEventFits, LettersFit}
 
 module _ {B : Type 0} (facts : LabelFacts B) (f : Facts) where
@@ -91,8 +92,8 @@ false_true : false ≡ true → ⊥
 false_true e = cc
 
 -- a scheduler that starts counts no key as bad
-pub opening_fits : {B : Type 0} (facts : LabelFacts B) (f : Facts) → f ≡ sched_opening f.setting → facts.deps ≡ deps_of f.setting.shape → SchedFits facts f
-opening_fits facts f is graph = record { graph = graph; bad = λ k b. absurd (false_true (ap (λ (x : Facts). x.bad k) (sym is) ∙ b)) }
+pub opening_fits : {B : Type 0} (facts : LabelFacts B) (f : Facts) → IsOpening f → facts.deps ≡ deps_of f.setting.shape → SchedFits facts f
+opening_fits facts f h graph = record { graph = graph; bad = λ k b. absurd (false_true (ap (λ (x : Facts). x.bad k) (sym h.is) ∙ b)) }
 
 -- what one step left in an empty outbox
 pub made_fits : {B : Type 0} (facts : LabelFacts B) (f : Facts) (e : SchedEvent) (o made : Outbox) → IsShape f.setting.shape → SchedEventFits facts e → SchedFits facts f → o.clients ≡ [] → made ≡ appended o (sent_by (sched_step f e)) → LettersFit facts made.clients

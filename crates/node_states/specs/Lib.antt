@@ -1,3 +1,4 @@
 pub mod Machines
 pub mod Fitting
 pub mod Order
+pub mod Opening

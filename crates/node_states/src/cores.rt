@@ -1,8 +1,8 @@
 //! The three cores, as a book has them.
 ghost use Rattle.std.specs.Prelude.{◌≡◌, false};
 ghost use Rattle.cluster_msgs.specs.Shape.{deps_of};
-ghost use Rattle.cluster_rules.specs.Sched.{sched_opening};
 ghost use Rattle.scheduler_core.specs.Cores.{facts};
+ghost use Rattle.node_states.specs.Opening.{IsOpening};
 
 use crate::choice::Plan;
 use crate::evidence::{ClientCause, SchedCause, SchedOut, WorkerCause, WorkerOut};
@@ -42,7 +42,7 @@ impl<L: Label> SchedulingCore<L> {
     /// The core of a scheduler that starts, over the label's graph.
     #[tactic(auto, using(crate::proofs::SchedLaw::opening_fits))]
     pub fn new(alloc: Global, core: Sched, plan: Plan) -> Self
-        requires opening { facts core ≡ sched_opening (facts core).setting }
+        requires opening { IsOpening (facts core) }
         requires graph { L.facts.deps ≡ deps_of (facts core).setting.shape }
         ensures { result ≡ record { core = core; plan = plan; torn = false } }
     {

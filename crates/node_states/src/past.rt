@@ -1,9 +1,9 @@
 //! The scheduler's core with its history, whose entries come in their order.
 ghost use Rattle.std.specs.Prelude.{◌≡◌, ℕ, [], true, false, IfOk, IfSome, OnErr, length, is_some};
 ghost use Rattle.cluster_msgs.specs.declared.events.Event.TheVariants as kind;
-ghost use Rattle.cluster_rules.specs.Sched.{sched_opening};
 ghost use Rattle.scheduler_core.specs.Cores.{facts};
 ghost use Rattle.node_links.specs.Books.{IsRecorded, Steps};
+ghost use Rattle.node_states.specs.Opening.{IsOpening};
 ghost use Rattle.node_states.specs.Order.{IsChosen, Adds, AreInTime, JoinFirst, start_of, is_gone};
 
 use crate::cores::SchedulingCore;
@@ -39,21 +39,17 @@ impl<L: Label> SchedulerHistory<L> {
     ///
     /// # Errors
     /// Where there is no memory.
-    #[tactic(auto, using(crate::proofs::CourseLemmas::starts))]
     pub fn new(
         alloc: Global,
         core: SchedulingCore<L>,
         limit: u64,
         workers: usize,
     ) -> Result<Self, AllocError>
-        requires opening { facts core.core ≡ sched_opening (facts core.core).setting }
+        requires opening { IsOpening (facts core.core) }
         ensures core { IfOk result (λ h. h.book.core ≡ core) }
         ensures entries { IfOk result (λ h. (h.book.entries ≡ []) × (h.book.cut ≡ false)) }
     {
-        let gone = none_gone(alloc, workers)?;
-        let Ok(book) = Book::new(alloc, core, limit) else {
-            return Err(AllocError);
-        };
+        let (book, gone) = begin(alloc, core, limit, workers)?;
         Ok(SchedulerHistory { book, gone })
     }
 
@@ -128,6 +124,23 @@ impl<L: Label> SchedulerHistory<L> {
         let SchedulerHistory { book, gone: _ } = self;
         book.into_log()
     }
+}
+
+/// A book without entries, and no worker that is gone.
+fn begin<C: Machine>(
+    alloc: Global,
+    core: C,
+    limit: u64,
+    workers: usize,
+) -> Result<(Book<C>, Vec<bool>), AllocError>
+    ensures core { IfOk result (λ p. p.0.core ≡ core) }
+    ensures entries { IfOk result (λ p. (p.0.entries ≡ []) × (p.0.cut ≡ false)) }
+{
+    let gone = none_gone(alloc, workers)?;
+    let Ok(book) = Book::new(alloc, core, limit) else {
+        return Err(AllocError);
+    };
+    Ok((book, gone))
 }
 
 fn none_gone(alloc: Global, workers: usize) -> Result<Vec<bool>, AllocError> {

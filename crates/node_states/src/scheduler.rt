@@ -3,7 +3,7 @@ ghost use Rattle.std.specs.Prelude.{◌≡◌, ◌≢◌, ℕ, [], true, false, 
 ghost use Rattle.cluster_msgs.specs.Labels.{PacketFits};
 ghost use Rattle.cluster_msgs.specs.declared.cores.SchedEvent.TheVariants as sched;
 ghost use Rattle.cluster_msgs.specs.declared.events.Event.TheVariants as kind;
-ghost use Rattle.cluster_rules.specs.Sched.{Facts as SchedFacts, sched_opening};
+ghost use Rattle.cluster_rules.specs.Sched.{Facts as SchedFacts};
 ghost use Rattle.cluster_rules.specs.SchedTable.{sched_takes};
 ghost use Rattle.scheduler_core.specs.Cores.{facts};
 ghost use Rattle.node_links.specs.Books.{IsRecorded, Steps};
@@ -11,6 +11,7 @@ ghost use Rattle.node_states.specs.declared.choice.Course.TheVariants as course;
 ghost use Rattle.node_states.specs.declared.choice.Due.TheVariants as due;
 ghost use Rattle.node_states.specs.declared.links.Source.TheVariants as origin;
 ghost use Rattle.node_states.specs.Machines.{SchedSays};
+ghost use Rattle.node_states.specs.Opening.{IsOpening};
 ghost use Rattle.node_states.specs.Order.{IsOver, IsDue, IsChosen, IsDelivered, IsQuiet, IsTurn, Adds, NoneLost, is_gone};
 
 use crate::choice::{Course, Due};
@@ -60,7 +61,7 @@ impl<B: Drop, L: Label<Block = B>> SchedulerNode<B, L> {
         limit: u64,
         links: SchedulerLinks<B, L>,
     ) -> Result<Self, AllocError>
-        requires opening { facts core.core ≡ sched_opening (facts core.core).setting }
+        requires opening { IsOpening (facts core.core) }
         ensures core { IfOk result (λ node. node.history.book.core ≡ core) }
         ensures entries { IfOk result (λ node. (node.history.book.entries ≡ []) × (node.history.book.cut ≡ false)) }
     {
