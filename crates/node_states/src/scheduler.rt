@@ -161,7 +161,6 @@ impl<B: Drop, L: Label<Block = B>> SchedulerNode<B, L> {
     }
 
     /// What goes before losses and messages.
-    #[tactic(auto, using(crate::proofs::ChoiceLemmas::is_due))]
     fn due(&mut self) -> Result<Due, Stop>
         ensures history { (self.new.history ≡ self.old.history) × (self.new.over ≡ self.old.over) }
         ensures due { IfOk result (λ d. IsDue self.new.history.book d) }
@@ -247,7 +246,7 @@ impl<B: Drop, L: Label<Block = B>> SchedulerNode<B, L> {
     }
 
     /// Over where no worker is connected: no task will finish any more, so no item of the script will come.
-    #[tactic(auto, using(crate::proofs::ChoiceLemmas::is_over, crate::proofs::ChoiceLemmas::quiet_stopped))]
+    #[tactic(auto, using(crate::proofs::ChoiceLemmas::quiet_stopped))]
     fn rest(&mut self, dead: &[bool]) -> Course
         requires due { IsDue self.old.history.book due.Nothing }
         requires none { NoneLost dead.now (facts self.old.history.book.core.core) }
