@@ -3,3 +3,5 @@ pub mod WorkerLaw
 pub mod ClientLaw
 pub mod SchedLaw
 pub mod Kept
+pub mod Ends
+pub mod Causes

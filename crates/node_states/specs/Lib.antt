@@ -1,2 +1,4 @@
 pub mod Machines
 pub mod Fitting
+pub mod Workers
+pub mod Causes
