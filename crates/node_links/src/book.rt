@@ -91,7 +91,9 @@ impl<C: Machine> Book<C> {
     }
 
     /// How many entries were made, those past the limit too; 2^64 - 1 where there are more.
-    pub fn made(&self) -> u64 {
+    pub fn made(&self) -> u64
+        ensures { self.now.cut ≡ false → result ≡ length self.now.entries }
+    {
         self.log.made()
     }
 

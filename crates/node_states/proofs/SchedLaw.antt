@@ -12,7 +12,7 @@ use Rattle.cluster_msgs.specs.declared.messages.ToClient.{ToClient}
 use Rattle.cluster_msgs.specs.declared.messages.ToClient.TheVariants.{KeyInMemory, LostData, ClientTaskErred}
 use Rattle.cluster_msgs.specs.declared.cores.SchedEvent.{SchedEvent}
 use Rattle.cluster_msgs.specs.declared.cores.SchedEvent.TheVariants.{Join, Leave, FromWorker, FromClient, Balance, Evict}
-use Rattle.cluster_rules.specs.Sched.{Facts}
+use Rattle.cluster_rules.specs.Sched.{Facts, Setting, sched_opening}
 use Rattle.cluster_rules.specs.SchedStep.{sched_step}
 use Rattle.cluster_rules.specs.World.{Job}
 use Rattle.cluster_laws.specs.Truth.{faulty_key, MayErr, no_excuse, IsBlame, IsTrueNews, IsTrueSched, IsTrueSchedEvent}
@@ -84,3 +84,10 @@ letters_fit facts f e out shape fit h is = record {
 
 pub no_letters : {B : Type 0} (facts : LabelFacts B) (out : List (ℕ × ToClient)) → out ≡ [] → LettersFit facts out
 no_letters facts out is = record { each = All-from_recursion (λ (m : ℕ × ToClient). ToClientFits facts m.1) out (subst (AllByRecursion (λ (m : ℕ × ToClient). ToClientFits facts m.1)) (sym is) tt) }
+
+false_true : false ≡ true → ⊥
+false_true e = cc
+
+-- a scheduler that starts counts no key as bad
+pub opening_fits : {B : Type 0} (facts : LabelFacts B) (f : Facts) → f ≡ sched_opening f.setting → facts.deps ≡ deps_of f.setting.shape → SchedFits facts f
+opening_fits facts f is graph = record { graph = graph; bad = λ k b. absurd (false_true (ap (λ (x : Facts). x.bad k) (sym is) ∙ b)) }

@@ -2,3 +2,4 @@ pub mod Machines
 pub mod Fitting
 pub mod Workers
 pub mod Causes
+pub mod Order

@@ -21,6 +21,7 @@ use Rattle.cluster_rules.specs.SchedStep.{sched_step}
 use Rattle.cluster_rules.specs.Worker.{WorkerFacts, ask_to}
 use Rattle.cluster_rules.specs.WorkerStep.{worker_step, worker_takes}
 use Rattle.cluster_rules.specs.Client.{ClientFacts, client_step, client_takes}
+use Rattle.node_states.specs.declared.choice.Plan.{Plan}
 
 -- the scheduler: a message of a worker that isn't connected is dropped
 abbrev pub SchedSays : Facts → Event → Option Message → Option SchedEvent → Type 0
@@ -39,9 +40,10 @@ pub record SchedBy (f : Facts) (e : SchedEvent) (g : Facts) : Type 0 where
   pub facts : g ≡ (sched_step f e).facts
   pub setting : g.setting ≡ f.setting
 
--- the scheduler's core, and whether memory ended inside it
+-- the scheduler's core, what its node goes by, and whether memory ended inside it
 pub record SchedState : Type 0 where
   pub core : Core
+  pub plan : Plan
   pub torn : Bool
 
 -- worker `id`: its end, a spill and what it served leave its core as it was

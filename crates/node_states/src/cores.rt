@@ -1,8 +1,10 @@
 //! The three cores, as a book has them.
-ghost use Rattle.std.specs.Prelude.{◌≡◌, false, IfOk};
+ghost use Rattle.std.specs.Prelude.{◌≡◌, false};
+ghost use Rattle.cluster_msgs.specs.Shape.{deps_of};
+ghost use Rattle.cluster_rules.specs.Sched.{sched_opening};
 ghost use Rattle.scheduler_core.specs.Cores.{facts};
-ghost use Rattle.node_states.specs.Fitting.{SchedFits};
 
+use crate::choice::Plan;
 use crate::evidence::{ClientCause, SchedCause, SchedOut, WorkerCause, WorkerOut};
 use cluster_msgs::{ClientOut, Instructions, Label, Outbox, Stop};
 use gather_client::ClientCore;
@@ -12,11 +14,13 @@ use std::alloc::Global;
 use std::marker::{Model, PhantomData};
 use worker_core::WorkerCore;
 
-/// The scheduler's core. As long as memory doesn't end inside it (`torn`), it goes by the label's graph, and each key that it counts as bad is faulty.
+/// The scheduler's core, with what its node goes by. As long as memory doesn't end inside it (`torn`), it goes by the label's graph, and each key
+/// that it counts as bad is faulty.
 #[derive(Drop)]
 pub struct SchedulingCore<L: Label> {
     alloc: Global,
-    pub core: Sched,
+    core: Sched,
+    plan: Plan,
     torn: bool,
     label: PhantomData<L>,
 }
@@ -29,30 +33,40 @@ impl<L: Label> Model for SchedulingCore<L> {
 
     ghost Value = { SchedState };
 
-    ghost view = { λ c. record { core = c.core; torn = c.torn } };
+    ghost view = { λ c. record { core = c.core; plan = c.plan; torn = c.torn } };
 
     ghost invariant = { λ c. c.torn ≡ false → SchedFits L.facts (facts c.core) };
 }
 
 impl<L: Label> SchedulingCore<L> {
-    /// The core of a scheduler that starts.
-    pub fn new(alloc: Global, core: Sched) -> Self
-        requires fits { SchedFits L.facts (facts core) }
-        ensures { (result.core ≡ core) × (result.torn ≡ false) }
+    /// The core of a scheduler that starts, over the label's graph.
+    #[tactic(auto, using(crate::proofs::SchedLaw::opening_fits))]
+    pub fn new(alloc: Global, core: Sched, plan: Plan) -> Self
+        requires opening { facts core ≡ sched_opening (facts core).setting }
+        requires graph { L.facts.deps ≡ deps_of (facts core).setting.shape }
+        ensures { result ≡ record { core = core; plan = plan; torn = false } }
     {
         SchedulingCore {
             alloc,
             core,
+            plan,
             torn: false,
             label: PhantomData,
         }
     }
 
-    /// Whether memory ended inside it. Nothing is known of its facts then.
-    pub fn torn(&self) -> bool
-        ensures { result ≡ self.now.torn }
+    /// The core.
+    pub fn core(&self) -> &Sched
+        ensures { result.now ≡ self.now.core }
     {
-        self.torn
+        &self.core
+    }
+
+    /// What its node goes by.
+    pub fn plan(&self) -> &Plan
+        ensures { result.now ≡ self.now.plan }
+    {
+        &self.plan
     }
 }
 
@@ -61,13 +75,14 @@ impl<L: Label> Machine for SchedulingCore<L> {
 
     type Out = SchedOut<L>;
 
+    ghost use Rattle.std.specs.Prelude.{◌≡◌};
     ghost use Rattle.scheduler_core.specs.Cores.{facts};
     ghost use Rattle.node_states.specs.Fitting.{SchedEventFits};
     ghost use Rattle.node_states.specs.Machines.{SchedSays, SchedBy};
 
     ghost says = { λ s. SchedSays (facts s.core) };
 
-    ghost by = { λ s e t. SchedBy (facts s.core) e (facts t.core) × SchedEventFits L.facts e };
+    ghost by = { λ s e t. (t.plan ≡ s.plan) × SchedBy (facts s.core) e (facts t.core) × SchedEventFits L.facts e };
 
     #[tactic(auto, using(crate::proofs::SchedLaw::sched_fits, crate::proofs::SchedLaw::letters_fit))]
     fn take(&mut self, event: SchedCause<L>, out: &mut SchedOut<L>) -> Result<(), Stop> {

@@ -3,6 +3,7 @@
 #![tactic(auto)]
 
 mod blocks;
+mod choice;
 mod client;
 mod cores;
 mod evidence;
@@ -11,9 +12,11 @@ mod history;
 mod laws;
 mod links;
 mod scheduler;
+mod script;
 mod why;
 mod worker;
 
+pub use choice::{Course, Due, Plan};
 pub use client::{ClientNode, ClientTurn};
 pub use cores::{GatheringCore, SchedulingCore, WorkingCore};
 pub use evidence::{
@@ -23,6 +26,6 @@ pub use feeds::Feeds;
 pub use history::WorkerHistory;
 pub use laws::{blames_are_faulty, clients_know_right_blames, workers_err_after_zero_divisors};
 pub use links::{SchedulerLinks, WorkerLinks};
-pub use scheduler::{Course, SchedulerNode, SchedulerTurn};
+pub use scheduler::{SchedulerNode, SchedulerTurn};
 pub use why::Why;
 pub use worker::{Finished, Task, TaskEnd, WorkerNode, WorkerTurn};

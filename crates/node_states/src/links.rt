@@ -1,7 +1,9 @@
 //! The links of a node to all others.
-ghost use Rattle.std.specs.Prelude.{◌≡◌, IfSome};
+ghost use Rattle.std.specs.Prelude.{◌≡◌, ◌<◌, ℕ, true, false, length, IfSome};
 ghost use Rattle.cluster_msgs.specs.Labels.{PacketFits, ToClientFits};
 ghost use Rattle.node_states.specs.Fitting.{InstructionFits, InstructionsFit};
+ghost use Rattle.node_states.specs.Order.{is_dead, is_gone};
+ghost use Rattle.node_states.specs.declared.links.Source.TheVariants as source;
 
 use crate::evidence::{SchedOut, WorkerOut};
 use cluster_msgs::{
@@ -17,9 +19,37 @@ pub fn number(at: usize) -> u32 {
 }
 
 /// Whether a worker is known to have ended.
-pub fn is_dead(dead: &[bool], worker: u32) -> bool {
+pub fn is_dead(dead: &[bool], worker: u32) -> bool
+    ensures { result ≡ is_dead dead.now worker }
+{
     let at = (worker as usize).saturating_sub(1);
-    at < dead.len() && dead[at]
+    if at < dead.len() {
+        return dead[at];
+    }
+    false
+}
+
+/// Whether a worker was seen as lost, or has no place.
+pub fn is_gone(gone: &[bool], worker: u32) -> bool
+    ensures { result ≡ is_gone gone.now worker }
+{
+    let at = (worker as usize).saturating_sub(1);
+    if at < gone.len() {
+        return gone[at];
+    }
+    true
+}
+
+/// Notes that a worker was seen as lost.
+#[tactic(auto, using(crate::proofs::Course::stays_gone, crate::proofs::Course::goes))]
+pub fn let_go(gone: &mut Vec<bool>, worker: u32)
+    ensures kept { (w : ℕ) → is_gone gone.old.items w ≡ true → is_gone gone.new.items w ≡ true }
+    ensures gone { is_gone gone.new.items worker ≡ true }
+{
+    let at = (worker as usize).saturating_sub(1);
+    if at < gone.len() {
+        gone[at] = true;
+    }
 }
 
 /// The links of a client: to the scheduler, and to each worker by its number.
@@ -319,27 +349,33 @@ impl<B: Drop, L: Label<Block = B>> SchedulerLinks<B, L> {
         flush_all(rt, &mut self.clients);
     }
 
-    /// The next packet, round robin over the links.
-    pub fn take<R: Wait>(&mut self, rt: &R) -> Option<(Source, Packet<B>)>
-        ensures { IfSome result (λ p. PacketFits L.facts p.1) }
+    /// The next packet, round robin over the links but for those of workers that are gone.
+    pub fn take<R: Wait>(&mut self, rt: &R, gone: &[bool]) -> Option<(Source, Packet<B>)>
+        ensures fits { IfSome result (λ p. PacketFits L.facts p.1) }
+        ensures heard { IfSome result (λ p. (w : ℕ) → p.0 ≡ source.Worker w → is_gone gone.now w ≡ false) }
     {
         let links = self.workers.len().saturating_add(self.clients.len());
         for _ in 0..links {
             let at = self.next;
             self.next = if at.saturating_add(1) < links { at.saturating_add(1) } else { 0 };
-            if let Some((source, packet)) = self.take_at(rt, at) {
+            if let Some((source, packet)) = self.take_at(rt, gone, at) {
                 return Some((source, packet));
             }
         }
         None
     }
 
-    fn take_at<R: Wait>(&mut self, rt: &R, at: usize) -> Option<(Source, Packet<B>)>
-        ensures { IfSome result (λ p. PacketFits L.facts p.1) }
+    fn take_at<R: Wait>(
+        &mut self,
+        rt: &R,
+        gone: &[bool],
+        at: usize,
+    ) -> Option<(Source, Packet<B>)>
+        ensures fits { IfSome result (λ p. PacketFits L.facts p.1) }
+        ensures heard { IfSome result (λ p. (w : ℕ) → p.0 ≡ source.Worker w → is_gone gone.now w ≡ false) }
     {
         if at < self.workers.len() {
-            let packet = self.workers[at].take(rt)?;
-            return Some((Source::Worker(number(at)), packet));
+            return self.take_of_worker(rt, gone, at);
         }
         let at = at - self.workers.len();
         if at < self.clients.len() {
@@ -347,6 +383,24 @@ impl<B: Drop, L: Label<Block = B>> SchedulerLinks<B, L> {
             return Some((Source::Client(number(at)), packet));
         }
         None
+    }
+
+    fn take_of_worker<R: Wait>(
+        &mut self,
+        rt: &R,
+        gone: &[bool],
+        at: usize,
+    ) -> Option<(Source, Packet<B>)>
+        requires { at < length self.old.workers.items }
+        ensures fits { IfSome result (λ p. PacketFits L.facts p.1) }
+        ensures heard { IfSome result (λ p. (w : ℕ) → p.0 ≡ source.Worker w → is_gone gone.now w ≡ false) }
+    {
+        let worker = number(at);
+        if is_gone(gone, worker) {
+            return None;
+        }
+        let packet = self.workers[at].take(rt)?;
+        Some((Source::Worker(worker), packet))
     }
 
     /// Posts what the core has to send.

@@ -1,30 +1,29 @@
 //! The scheduler's node.
-ghost use Rattle.std.specs.Prelude.{◌≡◌, ◌≢◌, [], true, false, IfOk, IfSome, Ok, Some, None};
+ghost use Rattle.std.specs.Prelude.{◌≡◌, ◌≢◌, ℕ, [], true, false, IfOk, IfErr, IfSome};
 ghost use Rattle.cluster_msgs.specs.Labels.{PacketFits};
-ghost use Rattle.cluster_rules.specs.Sched.{Facts as SchedFacts};
+ghost use Rattle.cluster_msgs.specs.declared.cores.SchedEvent.TheVariants as sched;
+ghost use Rattle.cluster_msgs.specs.declared.events.Event.TheVariants as event;
+ghost use Rattle.cluster_rules.specs.Sched.{Facts as SchedFacts, sched_opening};
+ghost use Rattle.cluster_rules.specs.SchedTable.{sched_takes};
 ghost use Rattle.scheduler_core.specs.Cores.{facts};
-ghost use Rattle.node_links.specs.Books.{IsRecorded, Steps};
-ghost use Rattle.node_states.specs.declared.scheduler.Course.TheVariants as course;
+ghost use Rattle.node_links.specs.Books.{IsRecorded, IsEntryOf, Steps};
+ghost use Rattle.node_states.specs.declared.choice.Course.TheVariants as course;
+ghost use Rattle.node_states.specs.declared.choice.Due.TheVariants as due;
+ghost use Rattle.node_states.specs.declared.links.Source.TheVariants as source;
 ghost use Rattle.node_states.specs.Machines.{SchedSays};
+ghost use Rattle.node_states.specs.Order.{IsCourse, IsOver, IsDue, IsChosen, IsDelivered, IsQuiet, IsTurn, NoneLost, AreInTime, start_of, is_gone};
 
+use crate::choice::{Course, Due};
 use crate::cores::SchedulingCore;
 use crate::evidence::{SchedCause, SchedOut};
-use crate::links::{SchedulerLinks, Source, is_dead, number};
-use cluster_msgs::{Event, Item, Label, Message, Packet, SchedEvent, Script, Stop};
+use crate::links::{SchedulerLinks, Source, is_dead, let_go};
+use crate::script::{due_by_script, first_lost, is_any_connected, is_choice_due};
+use cluster_msgs::{Event, Label, Message, Packet, SchedEvent, Stop};
 use cluster_rules::Facts;
 use node_links::{Book, Machine};
 use std::alloc::{AllocError, Global};
 use std::sync::Wait;
 use turn_cell::{Act, Kept, Stamps};
-
-/// What a turn of the scheduler says: it made an event, or had none; a worker is to be made to end first; or no worker is left and none is to come.
-#[derive(Clone, Copy)]
-pub enum Course {
-    Moved,
-    Idle,
-    LoseFirst(u32),
-    Over,
-}
 
 /// What a turn does next: an event with its message, and what the core is told.
 #[derive(Drop)]
@@ -34,46 +33,44 @@ struct Choice<L: Label> {
     said: Option<SchedCause<L>>,
 }
 
-/// What goes before losses and messages: an event, or a worker that is to be made to end first, or neither.
-#[derive(Drop)]
-struct Due<L: Label> {
-    choice: Option<Choice<L>>,
-    lose_first: Option<u32>,
-}
-
-/// The scheduler with its history and its links. `planned` workers join first, then the script's items come in their order, each once as many
-/// finishes counted as it says.
+/// The scheduler with its history and its links. `gone` notes the workers that were seen as lost; `no_drop` and `no_steal` say that Evict and Balance
+/// are known to have no choice as the core stands.
 #[derive(Drop)]
 pub struct SchedulerNode<B: Drop, L: Label<Block = B>> {
     alloc: Global,
     pub book: Book<SchedulingCore<L>>,
     links: SchedulerLinks<B, L>,
-    planned: u32,
-    threads: u32,
-    joined: u32,
-    script: Script,
-    next: usize,
-    looked: u64,
+    gone: Vec<bool>,
+    no_drop: bool,
+    no_steal: bool,
+    over: bool,
     stopped: Option<Stop>,
+    ghost in_time: { book.cut ≡ false → IsCourse book.core.plan (facts book.core.core) gone.items book.entries },
+    ghost drops: { no_drop ≡ true → sched_takes (facts book.core.core) sched.Evict ≡ false },
+    ghost steals: { no_steal ≡ true → sched_takes (facts book.core.core) sched.Balance ≡ false },
+    ghost ends: { over ≡ true → IsOver book.core.plan (facts book.core.core) },
 }
 
 impl<B: Drop, L: Label<Block = B>> SchedulerNode<B, L> {
-    /// A scheduler that has made no entry, whose history may have so many bytes, for a plan of so many workers with so many threads each.
+    /// A scheduler that has made no entry, whose history may have so many bytes.
     ///
     /// # Errors
     /// Where there is no memory.
+    #[tactic(auto, using(crate::proofs::Course::starts))]
     pub fn new(
         alloc: Global,
         core: SchedulingCore<L>,
         limit: u64,
         links: SchedulerLinks<B, L>,
-        planned: u32,
-        threads: u32,
-        script: Script,
     ) -> Result<Self, AllocError>
+        requires opening { facts core.core ≡ sched_opening (facts core.core).setting }
         ensures core { IfOk result (λ node. node.book.core ≡ core) }
         ensures entries { IfOk result (λ node. (node.book.entries ≡ []) × (node.book.cut ≡ false)) }
     {
+        let mut gone = Vec::with_capacity(alloc, links.workers())?;
+        for _ in 0..links.workers() {
+            gone.push(false)?;
+        }
         let Ok(book) = Book::new(alloc, core, limit) else {
             return Err(AllocError);
         };
@@ -81,12 +78,10 @@ impl<B: Drop, L: Label<Block = B>> SchedulerNode<B, L> {
             alloc,
             book,
             links,
-            planned,
-            threads,
-            joined: 0,
-            script,
-            next: 0,
-            looked: 0,
+            gone,
+            no_drop: false,
+            no_steal: false,
+            over: false,
             stopped: None,
         })
     }
@@ -98,229 +93,186 @@ impl<B: Drop, L: Label<Block = B>> SchedulerNode<B, L> {
         self.stopped
     }
 
-    /// How many workers have joined.
-    pub fn joined(&self) -> u32
-        ensures { result ≡ self.now.joined }
+    /// How many workers have joined, as long as the core goes on.
+    pub fn joined(&self) -> Option<u32>
+        ensures { IfSome result (λ n. n ≡ (facts self.now.book.core.core).last_worker) }
     {
-        self.joined
+        let core = self.book.core()?;
+        Some(core.core().last_worker())
+    }
+
+    /// Each stored entry came in time, as far as all that was made is stored: the plan's workers join first; Evict comes after each 64 entries and
+    /// Balance after each 16, where they have a choice; then the script's items in their order; and after a worker was seen as lost no message of it
+    /// is delivered.
+    pub fn in_time(&self)
+        ensures { self.now.book.cut ≡ false → AreInTime self.now.book.core.plan (start_of (facts self.now.book.core.core).setting) self.now.book.entries }
+    {
+        let _book = &self.book;
     }
 
     /// One turn: at most one event, and then what waits is sent.
     pub fn serve<R: Wait>(&mut self, rt: &R, stamps: &mut Stamps, dead: &[bool]) -> Course
         ensures recorded { IsRecorded (Steps ⟦<SchedulingCore<L> as Machine>⟧.says ⟦<SchedulingCore<L> as Machine>⟧.by) self.old.book self.new.book }
         ensures still { result ≢ course.Moved → self.new.book ≡ self.old.book }
+        ensures turn { IsTurn dead.now self.old.book self.new.book result }
     {
         if self.stopped.is_some() {
+            return Course::Stopped;
+        }
+        if self.over {
             return Course::Over;
         }
-        let Due { choice, lose_first } = self.due(dead);
-        let course = match (choice, lose_first) {
-            (Some(choice), _) => self.carry(rt, stamps, choice),
-            (None, Some(worker)) => Course::LoseFirst(worker),
-            (None, None) => self.go_on(rt, stamps, dead),
+        let course = match self.choose(rt, dead) {
+            Ok(choice) => self.carry(rt, stamps, choice, dead),
+            Err(course) => course,
         };
         self.links.flush(rt);
         course
     }
 
-    /// What goes before losses and messages: a worker of the plan joins, or after each 64 entries Evict, or after each 16 Balance, or the script.
-    fn due(&mut self, dead: &[bool]) -> Due<L>
+    /// The event of this turn, or what the turn says without one.
+    fn choose<R: Wait>(&mut self, rt: &R, dead: &[bool]) -> Result<Choice<L>, Course>
+        requires { self.old.over ≡ false }
         ensures book { self.new.book ≡ self.old.book }
-        ensures says { IfSome result.choice (λ c. SchedSays (facts self.new.book.core.core) c.event c.message c.said) }
+        ensures over { IfOk result (λ c. self.new.over ≡ false) }
+        ensures chosen { IfOk result (λ c. IsChosen dead.now self.new.gone.items self.new.book c.event c.message c.said) }
+        ensures quiet { IfErr result (λ course. IsQuiet dead.now self.new.book course) }
     {
-        if self.joined < self.planned {
-            return event(self.join());
+        match self.due() {
+            Err(stop) => Err(self.stop(stop)),
+            Ok(Due::Nothing) => self.go_on(rt, dead),
+            Ok(Due::Lose(worker)) => {
+                if is_dead(dead, worker) {
+                    Ok(lost(worker))
+                } else {
+                    Err(Course::LoseFirst(worker))
+                }
+            }
+            Ok(Due::Suspect(worker)) => Ok(suspect(worker)),
+            Ok(Due::Join) => self.join(),
+            Ok(Due::Evict) => Ok(evict()),
+            Ok(Due::Balance) => Ok(balance()),
         }
-        if let Some(choice) = self.policy() {
-            return event(choice);
+    }
+
+    /// It stops.
+    fn stop(&mut self, stop: Stop) -> Course
+        ensures book { self.new.book ≡ self.old.book }
+        ensures result { result ≡ course.Stopped }
+    {
+        self.stopped = Some(stop);
+        Course::Stopped
+    }
+
+    /// What goes before losses and messages.
+    #[tactic(auto, unfolding(crate::specs::Order::due_after))]
+    fn due(&mut self) -> Result<Due, Stop>
+        ensures book { (self.new.book ≡ self.old.book) × (self.new.over ≡ self.old.over) }
+        ensures due { IfOk result (λ d. IsDue self.new.book d) }
+    {
+        let made = self.book.made();
+        let Some(core) = self.book.core() else {
+            return Err(Stop::Memory);
+        };
+        if core.core().last_worker() < core.plan().workers {
+            return Ok(Due::Join);
         }
-        self.item(dead)
+        if is_choice_due(
+            core.core(),
+            &SchedEvent::Evict,
+            64,
+            made,
+            &mut self.no_drop,
+        ) {
+            return Ok(Due::Evict);
+        }
+        if is_choice_due(
+            core.core(),
+            &SchedEvent::Balance,
+            16,
+            made,
+            &mut self.no_steal,
+        ) {
+            return Ok(Due::Balance);
+        }
+        Ok(due_by_script(core.core(), core.plan()))
     }
 
     /// The next worker joins.
-    fn join(&mut self) -> Choice<L>
-        ensures book { self.new.book ≡ self.old.book }
-        ensures says { SchedSays (facts self.new.book.core.core) result.event result.message result.said }
+    fn join(&mut self) -> Result<Choice<L>, Course>
+        ensures book { (self.new.book ≡ self.old.book) × (self.new.over ≡ self.old.over) }
+        ensures join { IfOk result (λ c. c.event ≡ event.Join self.new.book.core.plan.threads) }
+        ensures says { IfOk result (λ c. SchedSays (facts self.new.book.core.core) c.event c.message c.said) }
+        ensures quiet { IfErr result (λ course. course ≡ course.Stopped) }
     {
-        self.joined = self.joined.saturating_add(1);
-        let threads = self.threads;
-        Choice {
+        let Some(core) = self.book.core() else {
+            return Err(self.stop(Stop::Memory));
+        };
+        let threads = core.plan().threads;
+        Ok(Choice {
             event: Event::Join { threads },
             message: None,
             said: Some(SchedCause::new(SchedEvent::Join { threads })),
-        }
-    }
-
-    /// Evict after each 64 entries and Balance after each 16, where they have a choice.
-    fn policy(&mut self) -> Option<Choice<L>>
-        ensures book { self.new.book ≡ self.old.book }
-        ensures says { IfSome result (λ c. SchedSays (facts self.new.book.core.core) c.event c.message c.said) }
-    {
-        let made = self.book.made();
-        if made % 16 != 0 || self.looked == made {
-            return None;
-        }
-        self.looked = made;
-        let core = self.book.core()?;
-        if made % 64 == 0 && core.core.takes(&SchedEvent::Evict) {
-            return Some(Choice {
-                event: Event::Evict,
-                message: None,
-                said: Some(SchedCause::new(SchedEvent::Evict)),
-            });
-        }
-        if core.core.takes(&SchedEvent::Balance) {
-            return Some(Choice {
-                event: Event::Balance,
-                message: None,
-                said: Some(SchedCause::new(SchedEvent::Balance)),
-            });
-        }
-        None
-    }
-
-    /// The script's next item, where its time has come. An item of a worker that isn't connected is passed; a join waits while no more workers may be
-    /// connected, and all later joins with it.
-    fn item(&mut self, dead: &[bool]) -> Due<L>
-        ensures book { self.new.book ≡ self.old.book }
-        ensures says { IfSome result.choice (λ c. SchedSays (facts self.new.book.core.core) c.event c.message c.said) }
-    {
-        for _ in 0..self.script.len() {
-            let Some(item) = self.next_item() else {
-                return nothing();
-            };
-            match self.look(item, dead) {
-                Some(due) => return due,
-                None => self.next = self.next.saturating_add(1),
-            }
-        }
-        nothing()
-    }
-
-    /// The script's next item, where its time has come.
-    fn next_item(&self) -> Option<Item> {
-        let core = self.book.core()?;
-        let items = self.script.as_slice();
-        if self.next >= items.len() {
-            return None;
-        }
-        let item = items[self.next];
-        let at = match item {
-            Item::Lose { w: _, at } => at,
-            Item::Suspect { w: _, at } => at,
-            Item::Join { at } => at,
-        };
-        if (core.core.finishes() as u128) < at {
-            return None;
-        }
-        Some(item)
-    }
-
-    /// What an item asks for, or none where it is passed.
-    fn look(&mut self, item: Item, dead: &[bool]) -> Option<Due<L>>
-        ensures book { self.new.book ≡ self.old.book }
-        ensures says { IfSome result (λ due. IfSome due.choice (λ c. SchedSays (facts self.new.book.core.core) c.event c.message c.said)) }
-    {
-        match item {
-            Item::Lose { w, at: _ } => {
-                if !self.is_connected(w) {
-                    return None;
-                }
-                if is_dead(dead, w) {
-                    return Some(event(lost(w)));
-                }
-                Some(lose_first(w))
-            }
-            Item::Suspect { w, at: _ } => {
-                if !self.is_connected(w) {
-                    return None;
-                }
-                Some(event(suspect(w)))
-            }
-            Item::Join { at: _ } => {
-                if !self.may_join() {
-                    return Some(nothing());
-                }
-                self.next = self.next.saturating_add(1);
-                Some(event(self.join()))
-            }
-        }
-    }
-
-    fn is_connected(&self, worker: u32) -> bool {
-        match self.book.core() {
-            None => false,
-            Some(core) => core.core.connected(worker),
-        }
-    }
-
-    /// Whether the core would let one more worker join.
-    fn may_join(&self) -> bool {
-        let threads = self.threads;
-        match self.book.core() {
-            None => false,
-            Some(core) => core.core.takes(&SchedEvent::Join { threads }),
-        }
-    }
-
-    /// Whether a worker is connected.
-    fn is_any_connected(&self) -> bool {
-        for at in 0..self.links.workers() {
-            if self.is_connected(number(at)) {
-                return true;
-            }
-        }
-        false
+        })
     }
 
     /// A connected worker that has ended is seen as lost; else a message is taken; else the run may be over.
-    fn go_on<R: Wait>(&mut self, rt: &R, stamps: &mut Stamps, dead: &[bool]) -> Course
-        ensures recorded { IsRecorded (Steps ⟦<SchedulingCore<L> as Machine>⟧.says ⟦<SchedulingCore<L> as Machine>⟧.by) self.old.book self.new.book }
-        ensures still { result ≢ course.Moved → self.new.book ≡ self.old.book }
+    fn go_on<R: Wait>(&mut self, rt: &R, dead: &[bool]) -> Result<Choice<L>, Course>
+        requires { IsDue self.old.book due.Nothing }
+        ensures book { self.new.book ≡ self.old.book }
+        ensures over { IfOk result (λ c. self.new.over ≡ self.old.over) }
+        ensures chosen { IfOk result (λ c. IsChosen dead.now self.new.gone.items self.new.book c.event c.message c.said) }
+        ensures quiet { IfErr result (λ course. IsQuiet dead.now self.new.book course) }
     {
-        if let Some(choice) = self.see_loss(dead) {
-            return self.carry(rt, stamps, choice);
+        let Some(core) = self.book.core() else {
+            return Err(self.stop(Stop::Memory));
+        };
+        if let Some(worker) = first_lost(core.core(), dead) {
+            return Ok(lost(worker));
         }
-        let Some((source, packet)) = self.links.take(rt) else {
-            return self.rest();
+        self.hear(rt, dead)
+    }
+
+    /// A message is taken; else the run may be over.
+    fn hear<R: Wait>(&mut self, rt: &R, dead: &[bool]) -> Result<Choice<L>, Course>
+        requires due { IsDue self.old.book due.Nothing }
+        requires none { NoneLost dead.now (facts self.old.book.core.core) }
+        ensures book { self.new.book ≡ self.old.book }
+        ensures over { IfOk result (λ c. self.new.over ≡ self.old.over) }
+        ensures chosen { IfOk result (λ c. IsChosen dead.now self.new.gone.items self.new.book c.event c.message c.said) }
+        ensures quiet { IfErr result (λ course. IsQuiet dead.now self.new.book course) }
+    {
+        let Some((source, packet)) = self.links.take(rt, self.gone.as_slice()) else {
+            return Err(self.rest(dead));
         };
         match self.deliver(source, packet) {
-            Ok(choice) => self.carry(rt, stamps, choice),
-            Err(stop) => {
-                self.stopped = Some(stop);
-                Course::Over
-            }
+            Ok(choice) => Ok(choice),
+            Err(stop) => Err(self.stop(stop)),
         }
     }
 
-    /// Over where no worker is connected: what of the script is due was looked at before, and no task will finish any more.
-    fn rest(&self) -> Course
-        ensures { result ≢ course.Moved }
+    /// Over where no worker is connected: no task will finish any more, so no item of the script will come.
+    fn rest(&mut self, dead: &[bool]) -> Course
+        requires due { IsDue self.old.book due.Nothing }
+        requires none { NoneLost dead.now (facts self.old.book.core.core) }
+        ensures book { self.new.book ≡ self.old.book }
+        ensures quiet { IsQuiet dead.now self.new.book result }
     {
-        if self.is_any_connected() {
-            Course::Idle
-        } else {
-            Course::Over
+        let Some(core) = self.book.core() else {
+            return self.stop(Stop::Memory);
+        };
+        if is_any_connected(core.core()) {
+            return Course::Idle;
         }
-    }
-
-    /// The loss of a connected worker that is known to have ended.
-    fn see_loss(&self, dead: &[bool]) -> Option<Choice<L>>
-        ensures { IfSome result (λ c. SchedSays (facts self.now.book.core.core) c.event c.message c.said) }
-    {
-        for at in 0..dead.len() {
-            let worker = number(at);
-            if dead[at] && self.is_connected(worker) {
-                return Some(lost(worker));
-            }
-        }
-        None
+        self.over = true;
+        Course::Over
     }
 
     /// A message of a worker, which is dropped where the worker isn't connected, or of a client.
     fn deliver(&self, source: Source, packet: Packet<B>) -> Result<Choice<L>, Stop>
-        requires { PacketFits L.facts packet }
-        ensures { IfOk result (λ c. SchedSays (facts self.now.book.core.core) c.event c.message c.said) }
+        requires fits { PacketFits L.facts packet }
+        requires heard { (w : ℕ) → source ≡ source.Worker w → is_gone self.now.gone.items w ≡ false }
+        ensures { IfOk result (λ c. IsDelivered self.now.gone.items (facts self.now.book.core.core) c.event c.message c.said) }
     {
         match source {
             Source::Worker(worker) => self.deliver_up(worker, packet),
@@ -331,8 +283,9 @@ impl<B: Drop, L: Label<Block = B>> SchedulerNode<B, L> {
 
     #[tactic(auto, using(crate::proofs::Fitting::up_fits))]
     fn deliver_up(&self, worker: u32, packet: Packet<B>) -> Result<Choice<L>, Stop>
-        requires { PacketFits L.facts packet }
-        ensures { IfOk result (λ c. SchedSays (facts self.now.book.core.core) c.event c.message c.said) }
+        requires fits { PacketFits L.facts packet }
+        requires heard { is_gone self.now.gone.items worker ≡ false }
+        ensures { IfOk result (λ c. IsDelivered self.now.gone.items (facts self.now.book.core.core) c.event c.message c.said) }
     {
         let Packet {
             message,
@@ -345,7 +298,7 @@ impl<B: Drop, L: Label<Block = B>> SchedulerNode<B, L> {
             return Err(Stop::Memory);
         };
         let copy = up.copy()?;
-        let said = if core.core.connected(worker) {
+        let said = if core.core().connected(worker) {
             Some(SchedCause::new(SchedEvent::FromWorker { w: worker, up }))
         } else {
             None
@@ -358,7 +311,7 @@ impl<B: Drop, L: Label<Block = B>> SchedulerNode<B, L> {
     }
 
     fn deliver_from_client(&self, client: u32, packet: Packet<B>) -> Result<Choice<L>, Stop>
-        ensures { IfOk result (λ c. SchedSays (facts self.now.book.core.core) c.event c.message c.said) }
+        ensures { IfOk result (λ c. IsDelivered self.now.gone.items (facts self.now.book.core.core) c.event c.message c.said) }
     {
         let Packet {
             message,
@@ -376,27 +329,49 @@ impl<B: Drop, L: Label<Block = B>> SchedulerNode<B, L> {
     }
 
     /// Records the event and posts what the core has to send, or stops where that fails.
-    fn carry<R: Wait>(&mut self, rt: &R, stamps: &mut Stamps, choice: Choice<L>) -> Course
-        requires says { SchedSays (facts self.old.book.core.core) choice.event choice.message choice.said }
+    fn carry<R: Wait>(
+        &mut self,
+        rt: &R,
+        stamps: &mut Stamps,
+        choice: Choice<L>,
+        dead: &[bool],
+    ) -> Course
+        requires over { self.old.over ≡ false }
+        requires chosen { IsChosen dead.now self.old.gone.items self.old.book choice.event choice.message choice.said }
         ensures recorded { IsRecorded (Steps ⟦<SchedulingCore<L> as Machine>⟧.says ⟦<SchedulingCore<L> as Machine>⟧.by) self.old.book self.new.book }
+        ensures entry { IsEntryOf choice.event choice.message self.old.book.entries self.new.book.entries }
         ensures moved { result ≡ course.Moved }
     {
-        let end = self.perform(rt, stamps, choice);
+        let end = self.perform(rt, stamps, choice, dead);
         if let Err(stop) = end {
             self.stopped = Some(stop);
         }
         Course::Moved
     }
 
-    fn perform<R: Wait>(&mut self, rt: &R, stamps: &mut Stamps, choice: Choice<L>) -> Result<(), Stop>
-        requires says { SchedSays (facts self.old.book.core.core) choice.event choice.message choice.said }
+    #[tactic(auto, using(crate::proofs::Course::goes_on))]
+    fn perform<R: Wait>(
+        &mut self,
+        rt: &R,
+        stamps: &mut Stamps,
+        choice: Choice<L>,
+        dead: &[bool],
+    ) -> Result<(), Stop>
+        requires over { self.old.over ≡ false }
+        requires chosen { IsChosen dead.now self.old.gone.items self.old.book choice.event choice.message choice.said }
         ensures recorded { IsRecorded (Steps ⟦<SchedulingCore<L> as Machine>⟧.says ⟦<SchedulingCore<L> as Machine>⟧.by) self.old.book self.new.book }
+        ensures entry { IsEntryOf choice.event choice.message self.old.book.entries self.new.book.entries }
     {
         let Choice {
             event,
             message,
             said,
         } = choice;
+        if let Event::SeeLoss { worker } = &event {
+            let_go(&mut self.gone, *worker);
+        }
+        self.no_drop = false;
+        self.no_steal = false;
         let mut out = SchedOut::nothing(self.alloc);
         self.book
             .record(stamps, event, message, said, &mut out)?;
@@ -404,39 +379,10 @@ impl<B: Drop, L: Label<Block = B>> SchedulerNode<B, L> {
     }
 }
 
-/// An event is due.
-fn event<L: Label>(choice: Choice<L>) -> Due<L>
-    ensures { result.choice ≡ Some choice }
-{
-    Due {
-        choice: Some(choice),
-        lose_first: None,
-    }
-}
-
-/// A worker is to be made to end first.
-fn lose_first<L: Label>(worker: u32) -> Due<L>
-    ensures { result.choice ≡ None }
-{
-    Due {
-        choice: None,
-        lose_first: Some(worker),
-    }
-}
-
-/// Nothing is due.
-fn nothing<L: Label>() -> Due<L>
-    ensures { result.choice ≡ None }
-{
-    Due {
-        choice: None,
-        lose_first: None,
-    }
-}
-
 /// A connected worker that has ended is seen as lost.
 fn lost<L: Label>(worker: u32) -> Choice<L>
-    ensures { (f : SchedFacts) → SchedSays f result.event result.message result.said }
+    ensures says { (f : SchedFacts) → SchedSays f result.event result.message result.said }
+    ensures event { result.event ≡ event.SeeLoss worker }
 {
     Choice {
         event: Event::SeeLoss { worker },
@@ -447,12 +393,37 @@ fn lost<L: Label>(worker: u32) -> Choice<L>
 
 /// A connected worker is taken as lost.
 fn suspect<L: Label>(worker: u32) -> Choice<L>
-    ensures { (f : SchedFacts) → SchedSays f result.event result.message result.said }
+    ensures says { (f : SchedFacts) → SchedSays f result.event result.message result.said }
+    ensures event { result.event ≡ event.Suspect worker }
 {
     Choice {
         event: Event::Suspect { worker },
         message: None,
         said: Some(SchedCause::new(SchedEvent::Leave { w: worker })),
+    }
+}
+
+/// A copy is dropped.
+fn evict<L: Label>() -> Choice<L>
+    ensures says { (f : SchedFacts) → SchedSays f result.event result.message result.said }
+    ensures event { result.event ≡ event.Evict }
+{
+    Choice {
+        event: Event::Evict,
+        message: None,
+        said: Some(SchedCause::new(SchedEvent::Evict)),
+    }
+}
+
+/// A task is asked back for another worker.
+fn balance<L: Label>() -> Choice<L>
+    ensures says { (f : SchedFacts) → SchedSays f result.event result.message result.said }
+    ensures event { result.event ≡ event.Balance }
+{
+    Choice {
+        event: Event::Balance,
+        message: None,
+        said: Some(SchedCause::new(SchedEvent::Balance)),
     }
 }
 
