@@ -5,4 +5,4 @@ pub mod SchedLaw
 pub mod Kept
 pub mod Ends
 pub mod Causes
-pub mod Course
+pub mod CourseLemmas
