@@ -1,10 +1,10 @@
 //! A worker's core with its history.
-ghost use Rattle.std.specs.Prelude.{◌≡◌, ◌⊎◌, [], true, false, IfOk, IfErr, IfSome, OnOk, OnErr, None};
+ghost use Rattle.std.specs.Prelude.{◌≡◌, [], true, false, IfOk, IfErr, IfSome, OnOk, OnErr, None};
 ghost use Rattle.cluster_msgs.specs.declared.events.Event.TheVariants as event;
 ghost use Rattle.worker_core.specs.Core.{facts};
 ghost use Rattle.node_links.specs.Books.{IsRecorded, IsEntered, Steps};
 ghost use Rattle.node_states.specs.Machines.{WorkerSays};
-ghost use Rattle.node_states.specs.Workers.{is_end, IsAlive, EndsLast, NoEnd};
+ghost use Rattle.node_states.specs.Workers.{is_end, no_end, ends_last, IsAlive};
 
 use crate::cores::WorkingCore;
 use crate::evidence::{WorkerCause, WorkerOut};
@@ -56,8 +56,8 @@ impl<L: Label> WorkerHistory<L> {
     /// Whether its end is recorded: it is then the last entry, or past the limit of the history.
     pub fn ended(&self) -> bool
         ensures ended { result ≡ self.now.ended }
-        ensures last { result ≡ true → (self.now.book.cut ≡ true) ⊎ EndsLast self.now.id self.now.book.entries }
-        ensures none { result ≡ false → NoEnd self.now.book.entries }
+        ensures last { result ≡ true → self.now.book.cut ≡ false → ends_last self.now.id self.now.book.entries ≡ true }
+        ensures none { result ≡ false → no_end self.now.book.entries ≡ true }
     {
         self.ended
     }
@@ -73,7 +73,7 @@ impl<L: Label> WorkerHistory<L> {
     ///
     /// # Errors
     /// Those of the core, and `Memory` where no memory or no right to a stamp is left. All is then as before.
-    #[tactic(auto, using(crate::proofs::Ends::still_own, crate::proofs::Ends::still_alive))]
+    #[tactic(auto, using(crate::proofs::Ends::still_alive))]
     pub fn record(
         &mut self,
         stamps: &mut Stamps,
@@ -82,25 +82,26 @@ impl<L: Label> WorkerHistory<L> {
         said: Option<WorkerCause<L>>,
         out: &mut WorkerOut<L>,
     ) -> Result<(), Stop>
-        requires open { self.old.ended ≡ false }
+        requires live { self.old.ended ≡ false }
         requires going { is_end event ≡ false }
         requires says { WorkerSays self.old.id (facts self.old.book.core.core) event message said }
         ensures recorded { IsRecorded (Steps ⟦<WorkingCore<L> as Machine>⟧.says ⟦<WorkingCore<L> as Machine>⟧.by) self.old.book self.new.book }
         ensures entered { OnOk result (IsEntered event message self.old.book self.new.book) }
         ensures same { (self.new.id ≡ self.old.id) × (self.new.ended ≡ false) }
-        ensures err { OnErr result (self.new ≡ self.old) }
+        ensures err { OnErr result (self.new.book ≡ self.old.book) }
     {
-        self.book.record(stamps, event, message, said, out)
+        self.book.record(stamps, event, message, said, out)?;
+        Ok(())
     }
 
     /// Records the worker's end. Whether it did.
-    #[tactic(auto, using(crate::proofs::Ends::still_own, crate::proofs::Ends::ended_now))]
+    #[tactic(auto, using(crate::proofs::Ends::ended_now))]
     pub fn lose(&mut self, stamps: &mut Stamps) -> bool
         requires { self.old.ended ≡ false }
         ensures recorded { IsRecorded (Steps ⟦<WorkingCore<L> as Machine>⟧.says ⟦<WorkingCore<L> as Machine>⟧.by) self.old.book self.new.book }
         ensures entered { result ≡ true → IsEntered (event.Lose self.old.id) None self.old.book self.new.book }
         ensures ended { (self.new.id ≡ self.old.id) × (self.new.ended ≡ result) }
-        ensures same { result ≡ false → self.new ≡ self.old }
+        ensures same { result ≡ false → self.new.book ≡ self.old.book }
     {
         let event = Event::Lose { worker: self.id };
         if self.book.record_end(stamps, event, None).is_err() {

@@ -10,7 +10,7 @@ ghost use Rattle.cluster_rules.specs.Worker.{WorkerFacts, would_start};
 ghost use Rattle.worker_core.specs.Core.{facts};
 ghost use Rattle.node_links.specs.Books.{IsRecorded, IsEntered, Steps};
 ghost use Rattle.node_states.specs.Machines.{WorkerSays};
-ghost use Rattle.node_states.specs.Workers.{is_end, NoEnd, EndsLast};
+ghost use Rattle.node_states.specs.Workers.{is_end, no_end, ends_last};
 ghost use Rattle.node_states.specs.Causes.{IsTurnsCause, why_of};
 
 use crate::blocks::Blocks;
@@ -118,8 +118,8 @@ impl<B: Drop, L: Label<Block = B>, F: Drop> WorkerNode<B, L, F> {
     /// Whether its end is recorded: it is then the last entry, or past the limit of the history. Before, no entry is an end.
     pub fn ended(&self) -> bool
         ensures ended { result ≡ self.now.history.ended }
-        ensures last { result ≡ true → (self.now.history.book.cut ≡ true) ⊎ EndsLast self.now.history.id self.now.history.book.entries }
-        ensures none { result ≡ false → NoEnd self.now.history.book.entries }
+        ensures last { result ≡ true → self.now.history.book.cut ≡ false → ends_last self.now.history.id self.now.history.book.entries ≡ true }
+        ensures none { result ≡ false → no_end self.now.history.book.entries ≡ true }
     {
         self.history.ended()
     }
@@ -173,10 +173,10 @@ impl<B: Drop, L: Label<Block = B>, F: Drop> WorkerNode<B, L, F> {
         dead: &[bool],
     ) -> (bool, Option<Task<B, L, F>>)
         ensures recorded { IsRecorded (Steps ⟦<WorkingCore<L> as Machine>⟧.says ⟦<WorkingCore<L> as Machine>⟧.by) self.old.history.book self.new.history.book }
-        ensures idle { result.0 ≡ false → (self.new.history ≡ self.old.history) × (result.1 ≡ None) }
+        ensures idle { result.0 ≡ false → (self.new.history.book ≡ self.old.history.book) × (result.1 ≡ None) }
         ensures id { self.new.history.id ≡ self.old.history.id }
         ensures ended { self.old.history.ended ≡ true → self.new ≡ self.old }
-        ensures ends { self.old.ending ≢ None → (self.new.history.ended ≡ true) ⊎ (self.new.history ≡ self.old.history) }
+        ensures ends { self.old.ending ≢ None → (self.new.history.ended ≡ true) ⊎ (self.new.history.book ≡ self.old.history.book) }
         ensures why { IsTurnsCause self.old.ending self.new.ending }
         ensures started { IfSome result.1 (λ task. would_start (facts self.old.history.book.core.core) ≡ Some task.key) }
         ensures entered { IfSome result.1 (λ task. IsEntered (event.Start self.old.history.id) None self.old.history.book self.new.history.book) }
@@ -246,7 +246,7 @@ impl<B: Drop, L: Label<Block = B>, F: Drop> WorkerNode<B, L, F> {
 
     /// The worker ends for what its task met. It has joined, since it was given the task.
     fn fail(&mut self, stamps: &mut Stamps, fail: RunFail)
-        requires open { self.old.history.ended ≡ false }
+        requires live { self.old.history.ended ≡ false }
         requires going { self.old.ending ≡ None }
         ensures recorded { IsRecorded (Steps ⟦<WorkingCore<L> as Machine>⟧.says ⟦<WorkingCore<L> as Machine>⟧.by) self.old.history.book self.new.history.book }
         ensures same { (self.new.history.id ≡ self.old.history.id) × (self.new.feeds ≡ self.old.feeds) }
@@ -260,7 +260,7 @@ impl<B: Drop, L: Label<Block = B>, F: Drop> WorkerNode<B, L, F> {
     fn lose(&mut self, stamps: &mut Stamps, joined: bool) -> bool
         requires { self.old.history.ended ≡ false }
         ensures recorded { IsRecorded (Steps ⟦<WorkingCore<L> as Machine>⟧.says ⟦<WorkingCore<L> as Machine>⟧.by) self.old.history.book self.new.history.book }
-        ensures idle { result ≡ false → self.new.history ≡ self.old.history }
+        ensures idle { result ≡ false → self.new.history.book ≡ self.old.history.book }
         ensures ended { result ≡ true → self.new.history.ended ≡ true }
         ensures same { (self.new.history.id ≡ self.old.history.id) × (self.new.feeds ≡ self.old.feeds) × (self.new.ending ≡ self.old.ending) }
     {
@@ -311,7 +311,7 @@ impl<B: Drop, L: Label<Block = B>, F: Drop> WorkerNode<B, L, F> {
         stamps: &mut Stamps,
         task: Task<B, L, F>,
     ) -> Option<Task<B, L, F>>
-        requires open { self.old.history.ended ≡ false }
+        requires live { self.old.history.ended ≡ false }
         requires out { 0 < self.old.feeds.out }
         ensures recorded { IsRecorded (Steps ⟦<WorkingCore<L> as Machine>⟧.says ⟦<WorkingCore<L> as Machine>⟧.by) self.old.history.book self.new.history.book }
         ensures id { self.new.history.id ≡ self.old.history.id }
@@ -347,7 +347,7 @@ impl<B: Drop, L: Label<Block = B>, F: Drop> WorkerNode<B, L, F> {
     /// A task that the worker still runs ends.
     #[tactic(auto, using(crate::proofs::Causes::no_cause, crate::proofs::Causes::memory_cause))]
     fn end_task<R: Wait>(&mut self, rt: &R, stamps: &mut Stamps, finished: Finished<B, L>)
-        requires open { self.old.history.ended ≡ false }
+        requires live { self.old.history.ended ≡ false }
         ensures recorded { IsRecorded (Steps ⟦<WorkingCore<L> as Machine>⟧.says ⟦<WorkingCore<L> as Machine>⟧.by) self.old.history.book self.new.history.book }
         ensures same { (self.new.history.id ≡ self.old.history.id) × (self.new.feeds ≡ self.old.feeds) }
         ensures why { IsTurnsCause self.old.ending self.new.ending }
@@ -416,9 +416,9 @@ impl<B: Drop, L: Label<Block = B>, F: Drop> WorkerNode<B, L, F> {
     /// One event that isn't a start or an end, if there is one. `false` where there is none.
     #[tactic(auto, using(crate::proofs::Causes::no_cause))]
     fn serve<R: Wait>(&mut self, rt: &R, stamps: &mut Stamps, dead: &[bool]) -> bool
-        requires open { self.old.history.ended ≡ false }
+        requires live { self.old.history.ended ≡ false }
         ensures recorded { IsRecorded (Steps ⟦<WorkingCore<L> as Machine>⟧.says ⟦<WorkingCore<L> as Machine>⟧.by) self.old.history.book self.new.history.book }
-        ensures idle { result ≡ false → self.new.history ≡ self.old.history }
+        ensures idle { result ≡ false → self.new.history.book ≡ self.old.history.book }
         ensures same { (self.new.history.id ≡ self.old.history.id) × (self.new.feeds ≡ self.old.feeds) }
         ensures why { IsTurnsCause self.old.ending self.new.ending }
     {
@@ -593,7 +593,7 @@ impl<B: Drop, L: Label<Block = B>, F: Drop> WorkerNode<B, L, F> {
 
     #[tactic(auto, using(crate::proofs::Causes::no_cause))]
     fn carry<R: Wait>(&mut self, rt: &R, stamps: &mut Stamps, choice: Choice<B, L>)
-        requires open { self.old.history.ended ≡ false }
+        requires live { self.old.history.ended ≡ false }
         requires says { WorkerSays self.old.history.id (facts self.old.history.book.core.core) choice.event choice.message choice.said }
         ensures recorded { IsRecorded (Steps ⟦<WorkingCore<L> as Machine>⟧.says ⟦<WorkingCore<L> as Machine>⟧.by) self.old.history.book self.new.history.book }
         ensures same { (self.new.history.id ≡ self.old.history.id) × (self.new.feeds ≡ self.old.feeds) }
@@ -623,7 +623,7 @@ impl<B: Drop, L: Label<Block = B>, F: Drop> WorkerNode<B, L, F> {
         stamps: &mut Stamps,
         choice: Choice<B, L>,
     ) -> Result<(), Stop>
-        requires open { self.old.history.ended ≡ false }
+        requires live { self.old.history.ended ≡ false }
         requires says { WorkerSays self.old.history.id (facts self.old.history.book.core.core) choice.event choice.message choice.said }
         ensures recorded { IsRecorded (Steps ⟦<WorkingCore<L> as Machine>⟧.says ⟦<WorkingCore<L> as Machine>⟧.by) self.old.history.book self.new.history.book }
         ensures entered { OnOk result (IsEntered choice.event choice.message self.old.history.book self.new.history.book) }
