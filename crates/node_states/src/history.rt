@@ -73,7 +73,6 @@ impl<L: Label> WorkerHistory<L> {
     ///
     /// # Errors
     /// Those of the core, and `Memory` where no memory or no right to a stamp is left. All is then as before.
-    #[tactic(auto, using(crate::proofs::Ends::still_alive))]
     pub fn record(
         &mut self,
         stamps: &mut Stamps,
@@ -95,7 +94,6 @@ impl<L: Label> WorkerHistory<L> {
     }
 
     /// Records the worker's end. Whether it did.
-    #[tactic(auto, using(crate::proofs::Ends::ended_now))]
     pub fn lose(&mut self, stamps: &mut Stamps) -> bool
         requires { self.old.ended ≡ false }
         ensures recorded { IsRecorded (Steps ⟦<WorkingCore<L> as Machine>⟧.says ⟦<WorkingCore<L> as Machine>⟧.by) self.old.book self.new.book }
@@ -103,12 +101,21 @@ impl<L: Label> WorkerHistory<L> {
         ensures ended { (self.new.id ≡ self.old.id) × (self.new.ended ≡ result) }
         ensures same { result ≡ false → self.new.book ≡ self.old.book }
     {
+        self.add_end(stamps).is_ok()
+    }
+
+    fn add_end(&mut self, stamps: &mut Stamps) -> Result<(), Stop>
+        requires { self.old.ended ≡ false }
+        ensures recorded { IsRecorded (Steps ⟦<WorkingCore<L> as Machine>⟧.says ⟦<WorkingCore<L> as Machine>⟧.by) self.old.book self.new.book }
+        ensures entered { OnOk result (IsEntered (event.Lose self.old.id) None self.old.book self.new.book) }
+        ensures id { self.new.id ≡ self.old.id }
+        ensures ok { OnOk result (self.new.ended ≡ true) }
+        ensures err { OnErr result ((self.new.ended ≡ false) × (self.new.book ≡ self.old.book)) }
+    {
         let event = Event::Lose { worker: self.id };
-        if self.book.record_end(stamps, event, None).is_err() {
-            return false;
-        }
+        self.book.record_end(stamps, event, None)?;
         self.ended = true;
-        true
+        Ok(())
     }
 
     /// The history without the core.
