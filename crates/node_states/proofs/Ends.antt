@@ -1,5 +1,5 @@
 -- A worker's end stands last in its history, and its core keeps its number.
-use Rattle.std.proofs.Common.{◌≡◌, ◌⊎◌, ◌∙◌, inl, inr, ⊎_elim, ℕ, Bool, true, false, not, ◌&&◌, List, [], ◌∷◌, ◌++◌, Option, Some, None, sym, ap, subst, refl, cond, arith}
+use Rattle.std.proofs.Common.{◌≡◌, ◌⊎◌, ◌∙◌, inl, inr, ⊎_elim, ℕ, Bool, true, false, not, ◌&&◌, List, [], ◌∷◌, ◌++◌, Option, Some, None, Result, Ok, Err, OnOk, OnErr, sym, ap, subst, refl, cond, arith}
 use Rattle.std.specs.Prelude.{◌==◌}
 use Rattle.std.proofs.lemmas.Bool.{false≢true}
 use Rattle.cluster_msgs.specs.declared.events.Entry.{Entry}
@@ -47,6 +47,12 @@ still_alive id ended x y event message going h i entered = (
       entered.is),
   (λ t. absurd (false≢true (sym going ∙ t))),
 )
+
+-- an attempt to record one
+pub still_alive_after : {C T E : Type 0} (r : Result T E) (id : ℕ) (ended : Bool) (x y : BookState C) (event : Event) (message : Option Message)
+    → ended ≡ false → IsAlive id ended x → is_end event ≡ false → OnOk r (IsEntered event message x y) → OnErr r (y ≡ x) → IsAlive id ended y
+still_alive_after (Ok v) id ended x y event message going h i entered same = still_alive id ended x y event message going h i entered
+still_alive_after (Err e) id ended x y event message going h i entered same = subst (IsAlive id ended) (sym same) h
 
 -- the end itself
 pub ended_now : {C : Type 0} (id : ℕ) (ended : Bool) (x y : BookState C) → ended ≡ false → IsAlive id ended x → IsEntered (event.Lose id) None x y → IsAlive id true y
