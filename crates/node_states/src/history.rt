@@ -1,5 +1,5 @@
 //! A worker's core with its history.
-ghost use Rattle.std.specs.Prelude.{◌≡◌, [], true, false, IfOk, IfErr, IfSome, OnOk, OnErr, None};
+ghost use Rattle.std.specs.Prelude.{◌≡◌, [], true, false, IfOk, IfErr, IfSome, OnOk, OnErr, None, is_some};
 ghost use Rattle.cluster_msgs.specs.declared.events.Event.TheVariants as event;
 ghost use Rattle.worker_core.specs.Core.{facts};
 ghost use Rattle.node_links.specs.Books.{IsRecorded, IsEntered, Steps};
@@ -120,7 +120,8 @@ impl<L: Label> WorkerHistory<L> {
 
     /// The history without the core.
     pub fn into_log(self) -> Log
-        ensures { (result.entries ≡ self.book.entries) }
+        ensures entries { result.entries ≡ self.book.entries }
+        ensures cut { is_some result.cut ≡ self.book.cut }
     {
         let WorkerHistory {
             id: _,

@@ -277,6 +277,7 @@ impl<B: Drop, L: Label<Block = B>, F: Drop> WorkerNode<B, L, F> {
         ensures history { self.new.history ≡ self.old.history }
         ensures why { IsTurnsCause self.old.ending self.new.ending }
         ensures going { self.new.ending ≡ None → self.old.ending ≡ None }
+        ensures still { self.new.ending ≢ None → result ≡ None }
         ensures started { IfSome result (λ task. would_start (facts self.old.history.book.core.core) ≡ Some task.key) }
         ensures feed { IfSome result (λ task. (self.old.feeds.here ≡ self.new.feeds.here ++ task.feed ∷ []) × (self.new.feeds.out ≡ self.old.feeds.out + 1)) }
         ensures feeds { result ≡ None → self.new.feeds ≡ self.old.feeds }
