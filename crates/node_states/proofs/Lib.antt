@@ -6,3 +6,4 @@ pub mod Kept
 pub mod Ends
 pub mod Causes
 pub mod CourseLemmas
+pub mod ScriptLemmas

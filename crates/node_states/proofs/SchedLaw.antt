@@ -1,5 +1,5 @@
 -- The scheduler's bad keys stay faulty, and give only blames that are faulty and in the cone of the key that failed.
-use Rattle.std.proofs.Common.{◌≡◌, ◌⊎◌, inl, inr, ℕ, Bool, true, false, not, ◌&&◌, List, [], ◌∷◌, Option, Some, None, is_some, is_none, refl, sym, ap, ◌∙◌, subst, ⊎_elim}
+use Rattle.std.proofs.Common.{◌≡◌, ◌⊎◌, inl, inr, ℕ, Bool, true, false, not, ◌&&◌, List, [], ◌∷◌, ◌++◌, Option, Some, None, is_some, is_none, refl, sym, ap, ◌∙◌, subst, ⊎_elim}
 use Rattle.std.specs.List.{list_all, AllByRecursion}
 use Rattle.std.specs.Prelude.{IsTrue}
 use Rattle.std.proofs.lemmas.List.Elements.{All-from_recursion}
@@ -10,6 +10,7 @@ use Rattle.cluster_msgs.specs.Labels.{LabelFacts, ErrorFits, BlameFits, ToClient
 use Rattle.cluster_msgs.specs.declared.messages.Up.TheVariants.{TaskFinished, TaskErred, AddKeys, ReleaseWorkerData, MissingData, RequestRefreshWhoHas, StealResponse}
 use Rattle.cluster_msgs.specs.declared.messages.ToClient.{ToClient}
 use Rattle.cluster_msgs.specs.declared.messages.ToClient.TheVariants.{KeyInMemory, LostData, ClientTaskErred}
+use Rattle.cluster_msgs.specs.declared.cores.Outbox.{Outbox}
 use Rattle.cluster_msgs.specs.declared.cores.SchedEvent.{SchedEvent}
 use Rattle.cluster_msgs.specs.declared.cores.SchedEvent.TheVariants.{Join, Leave, FromWorker, FromClient, Balance, Evict}
 use Rattle.cluster_rules.specs.Sched.{Facts, Setting, sched_opening}
@@ -17,6 +18,7 @@ use Rattle.cluster_rules.specs.SchedStep.{sched_step}
 use Rattle.cluster_rules.specs.World.{Job}
 use Rattle.cluster_laws.specs.Truth.{faulty_key, MayErr, no_excuse, IsBlame, IsTrueNews, IsTrueSched, IsTrueSchedEvent}
 use Rattle.cluster_laws.proofs.TruthSched.{true_sched_step, true_news}
+use Rattle.scheduler_core.specs.Sent.{appended, sent_by}
 use Rattle.node_states.specs.Fitting.{SchedFits, SchedEventFits, LettersFit}
 
 module _ {B : Type 0} (facts : LabelFacts B) (f : Facts) where
@@ -91,3 +93,8 @@ false_true e = cc
 -- a scheduler that starts counts no key as bad
 pub opening_fits : {B : Type 0} (facts : LabelFacts B) (f : Facts) → f ≡ sched_opening f.setting → facts.deps ≡ deps_of f.setting.shape → SchedFits facts f
 opening_fits facts f is graph = record { graph = graph; bad = λ k b. absurd (false_true (ap (λ (x : Facts). x.bad k) (sym is) ∙ b)) }
+
+-- what one step left in an empty outbox
+pub made_fits : {B : Type 0} (facts : LabelFacts B) (f : Facts) (e : SchedEvent) (o made : Outbox) → IsShape f.setting.shape → SchedEventFits facts e → SchedFits facts f → o.clients ≡ [] → made ≡ appended o (sent_by (sched_step f e)) → LettersFit facts made.clients
+made_fits facts f e o made shape fit h none is =
+    letters_fit facts f e made.clients shape fit h (ap (λ (x : Outbox). x.clients) is ∙ ap (λ (xs : List (ℕ × ToClient)). xs ++ (sched_step f e).clients) none)

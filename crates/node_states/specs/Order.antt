@@ -1,5 +1,5 @@
 -- In which order the turns of a scheduler choose their events.
-use Rattle.std.specs.Prelude.{◌≡◌, ◌≢◌, ℕ, ◌+◌, ◌-◌, ◌%◌, ◌==◌, nat_lt, Bool, true, false, not, ◌&&◌, List, [], ◌∷◌, ◌++◌, length, slice_index_or, Option, Some, None, cond}
+use Rattle.std.specs.Prelude.{◌≡◌, ◌≢◌, ℕ, ◌+◌, ◌-◌, ◌%◌, ◌<◌, ◌==◌, nat_lt, Bool, true, false, not, ◌&&◌, List, [], ◌∷◌, ◌++◌, length, slice_index_or, Option, Some, None, cond}
 use Rattle.cluster_msgs.specs.declared.events.Entry.{Entry}
 use Rattle.cluster_msgs.specs.declared.events.Event.{Event}
 use Rattle.cluster_msgs.specs.declared.events.Event.TheVariants as event
@@ -125,13 +125,17 @@ reached s (e ∷ es) = reached (after s e) es
 
 -- an event that comes in time
 pub record IsInTime (p : Plan) (s : Progress) (e : Event) : Type 0 where
-  pub due : FitsDue p (due_after p s.made s.facts) e
+  pub fits : FitsDue p (due_after p s.made s.facts) e
   pub heard : IsHeard s.lost e
 
 -- each of these entries came in time
 abbrev pub AreInTime : Plan → Progress → List Entry → Type 0
 AreInTime p s [] = Unit {0}
 AreInTime p s (e ∷ es) = IsInTime p s e.event × AreInTime p (after s e) es
+
+-- each of the first entries, as many as the plan has workers, is a Join with the plan's threads
+pub record JoinFirst (p : Plan) (entries : List Entry) : Type 0 where
+  pub each : (k : ℕ) (d : Entry) → k < p.workers → k < length entries → (slice_index_or entries k d).event ≡ event.Join p.threads
 
 -- by worker, from 1. A worker without a place counts as given
 abbrev pub is_gone : List Bool → ℕ → Bool
@@ -146,6 +150,11 @@ pub record IsCourse (p : Plan) (f : Facts) (gone : List Bool) (entries : List En
   pub made : (reached (start_of f.setting) entries).made ≡ length entries
   pub facts : (reached (start_of f.setting) entries).facts ≡ f
   pub lost : (w : ℕ) → (reached (start_of f.setting) entries).lost w ≡ true → is_gone gone w ≡ true
+
+-- a scheduler's core with its history, and which workers were seen as lost
+pub record SchedulerPast : Type 0 where
+  pub book : BookState SchedState
+  pub gone : List Bool
 
 -- what is due by a book. Past the limit of its history only the node knows how many entries it made
 pub record IsDue (b : BookState SchedState) (d : Due) : Type 0 where
@@ -166,9 +175,9 @@ IsEvident dead f _ = Unit {0}
 
 -- the event of a turn, by the book as it was
 pub record IsTurnOf (dead : List Bool) (b : BookState SchedState) (e : Event) : Type 0 where
-  pub due : Due
-  pub is_due : IsDue b due
-  pub fits : FitsDue b.core.plan due e
+  pub what : Due
+  pub is_due : IsDue b what
+  pub fits : FitsDue b.core.plan what e
   pub evident : IsEvident dead (facts b.core.core) e
 
 -- an event that was chosen, with its message and what the core is told
@@ -188,11 +197,15 @@ pub record IsDelivered (gone : List Bool) (f : Facts) (e : Event) (m : Option Me
   pub says : SchedSays f e m o
   pub heard : IsHeard (is_gone gone) e
 
+abbrev pub is_nothing : Due → Bool
+is_nothing due.Nothing = true
+is_nothing _ = false
+
 -- no worker is connected, all of the plan have joined, and no item of the script is open
 pub record IsOver (p : Plan) (f : Facts) : Type 0 where
   pub none : (w : ℕ) → connected f w ≡ false
   pub joined : nat_lt f.last_worker p.workers ≡ false
-  pub script : due_by p f (open_item p f) ≡ due.Nothing
+  pub script : is_nothing (due_by p f (open_item p f)) ≡ true
 
 -- what a turn without an event says
 abbrev pub IsQuiet : List Bool → BookState SchedState → Course → Type 0
@@ -201,6 +214,10 @@ IsQuiet dead b (course.LoseFirst w) = IsDue b (due.Lose w) × (is_dead dead w �
 IsQuiet dead b course.Over = IsOver b.core.plan (facts b.core.core)
 IsQuiet dead b course.Stopped = Unit {0}
 IsQuiet dead b course.Moved = ⊥
+
+-- what was added to the entries, if anything was, is one entry of this event
+pub record Adds (v : Event) (old new : List Entry) : Type 0 where
+  pub each : (e : Entry) → new ≡ old ++ e ∷ [] → e.event ≡ v
 
 -- a turn: it says nothing else than that it moved, or adds one entry, which comes in its order
 pub record IsTurn (dead : List Bool) (old new : BookState SchedState) (says : Course) : Type 0 where

@@ -84,7 +84,7 @@ impl<L: Label> Machine for SchedulingCore<L> {
 
     ghost by = { λ s e t. (t.plan ≡ s.plan) × SchedBy (facts s.core) e (facts t.core) × SchedEventFits L.facts e };
 
-    #[tactic(auto, using(crate::proofs::SchedLaw::sched_fits, crate::proofs::SchedLaw::letters_fit))]
+    #[tactic(auto, using(crate::proofs::SchedLaw::sched_fits, crate::proofs::SchedLaw::made_fits))]
     fn take(&mut self, event: SchedCause<L>, out: &mut SchedOut<L>) -> Result<(), Stop> {
         if self.torn {
             return Err(Stop::Memory);

@@ -3,11 +3,12 @@ ghost use Rattle.std.specs.Prelude.{◌≡◌, ◌<◌, ℕ, true, false, length
 ghost use Rattle.cluster_msgs.specs.Labels.{PacketFits, ToClientFits};
 ghost use Rattle.node_states.specs.Fitting.{InstructionFits, InstructionsFit};
 ghost use Rattle.node_states.specs.Order.{is_dead, is_gone};
-ghost use Rattle.node_states.specs.declared.links.Source.TheVariants as source;
+ghost use Rattle.node_states.specs.declared.links.Source.TheVariants as origin;
 
 use crate::evidence::{SchedOut, WorkerOut};
 use cluster_msgs::{
-    Asker, ClientInstruction, ClientOut, Down, Instruction, Instructions, Label, Message, Outbox, Packet, Peer, Stop, ToClient,
+    Asker, ClientInstruction, ClientOut, Down, Instruction, Instructions, Label, Message, Outbox,
+    Packet, Peer, Stop, ToClient,
 };
 use node_links::{Port, Sealed, bare_packet};
 use std::alloc::Global;
@@ -41,7 +42,7 @@ pub fn is_gone(gone: &[bool], worker: u32) -> bool
 }
 
 /// Notes that a worker was seen as lost.
-#[tactic(auto, using(crate::proofs::Course::stays_gone, crate::proofs::Course::goes))]
+#[tactic(auto, using(crate::proofs::ScriptLemmas::set_stays, crate::proofs::ScriptLemmas::set_goes, std::proofs::lemmas::List::get_or_past))]
 pub fn let_go(gone: &mut Vec<bool>, worker: u32)
     ensures kept { (w : ℕ) → is_gone gone.old.items w ≡ true → is_gone gone.new.items w ≡ true }
     ensures gone { is_gone gone.new.items worker ≡ true }
@@ -285,7 +286,9 @@ impl<B: Drop, L: Label<Block = B>> WorkerLinks<B, L> {
                 let message = Message::Peer(Peer::GetData { ask, keys });
                 self.to_peer(rt, peer, bare_packet(self.alloc, message))
             }
-            Instruction::Execute { .. } | Instruction::Keep { .. } | Instruction::Drop { .. } => Ok(()),
+            Instruction::Execute { .. } | Instruction::Keep { .. } | Instruction::Drop { .. } => Ok(
+                (),
+            ),
         }
     }
 
@@ -352,12 +355,16 @@ impl<B: Drop, L: Label<Block = B>> SchedulerLinks<B, L> {
     /// The next packet, round robin over the links but for those of workers that are gone.
     pub fn take<R: Wait>(&mut self, rt: &R, gone: &[bool]) -> Option<(Source, Packet<B>)>
         ensures fits { IfSome result (λ p. PacketFits L.facts p.1) }
-        ensures heard { IfSome result (λ p. (w : ℕ) → p.0 ≡ source.Worker w → is_gone gone.now w ≡ false) }
+        ensures heard { IfSome result (λ p. (w : ℕ) → p.0 ≡ origin.Worker w → is_gone gone.now w ≡ false) }
     {
         let links = self.workers.len().saturating_add(self.clients.len());
         for _ in 0..links {
             let at = self.next;
-            self.next = if at.saturating_add(1) < links { at.saturating_add(1) } else { 0 };
+            self.next = if at.saturating_add(1) < links {
+                at.saturating_add(1)
+            } else {
+                0
+            };
             if let Some((source, packet)) = self.take_at(rt, gone, at) {
                 return Some((source, packet));
             }
@@ -365,14 +372,9 @@ impl<B: Drop, L: Label<Block = B>> SchedulerLinks<B, L> {
         None
     }
 
-    fn take_at<R: Wait>(
-        &mut self,
-        rt: &R,
-        gone: &[bool],
-        at: usize,
-    ) -> Option<(Source, Packet<B>)>
+    fn take_at<R: Wait>(&mut self, rt: &R, gone: &[bool], at: usize) -> Option<(Source, Packet<B>)>
         ensures fits { IfSome result (λ p. PacketFits L.facts p.1) }
-        ensures heard { IfSome result (λ p. (w : ℕ) → p.0 ≡ source.Worker w → is_gone gone.now w ≡ false) }
+        ensures heard { IfSome result (λ p. (w : ℕ) → p.0 ≡ origin.Worker w → is_gone gone.now w ≡ false) }
     {
         if at < self.workers.len() {
             return self.take_of_worker(rt, gone, at);
@@ -393,7 +395,7 @@ impl<B: Drop, L: Label<Block = B>> SchedulerLinks<B, L> {
     ) -> Option<(Source, Packet<B>)>
         requires { at < length self.old.workers.items }
         ensures fits { IfSome result (λ p. PacketFits L.facts p.1) }
-        ensures heard { IfSome result (λ p. (w : ℕ) → p.0 ≡ source.Worker w → is_gone gone.now w ≡ false) }
+        ensures heard { IfSome result (λ p. (w : ℕ) → p.0 ≡ origin.Worker w → is_gone gone.now w ≡ false) }
     {
         let worker = number(at);
         if is_gone(gone, worker) {

@@ -1,26 +1,27 @@
 //! The scheduler's node.
-ghost use Rattle.std.specs.Prelude.{◌≡◌, ◌≢◌, ℕ, [], true, false, IfOk, IfErr, IfSome};
+ghost use Rattle.std.specs.Prelude.{◌≡◌, ◌≢◌, ℕ, [], true, false, IfOk, IfErr, IfSome, Ok};
 ghost use Rattle.cluster_msgs.specs.Labels.{PacketFits};
 ghost use Rattle.cluster_msgs.specs.declared.cores.SchedEvent.TheVariants as sched;
-ghost use Rattle.cluster_msgs.specs.declared.events.Event.TheVariants as event;
+ghost use Rattle.cluster_msgs.specs.declared.events.Event.TheVariants as kind;
 ghost use Rattle.cluster_rules.specs.Sched.{Facts as SchedFacts, sched_opening};
 ghost use Rattle.cluster_rules.specs.SchedTable.{sched_takes};
 ghost use Rattle.scheduler_core.specs.Cores.{facts};
-ghost use Rattle.node_links.specs.Books.{IsRecorded, IsEntryOf, Steps};
+ghost use Rattle.node_links.specs.Books.{IsRecorded, Steps};
 ghost use Rattle.node_states.specs.declared.choice.Course.TheVariants as course;
 ghost use Rattle.node_states.specs.declared.choice.Due.TheVariants as due;
-ghost use Rattle.node_states.specs.declared.links.Source.TheVariants as source;
+ghost use Rattle.node_states.specs.declared.links.Source.TheVariants as origin;
 ghost use Rattle.node_states.specs.Machines.{SchedSays};
-ghost use Rattle.node_states.specs.Order.{IsCourse, IsOver, IsDue, IsChosen, IsDelivered, IsQuiet, IsTurn, NoneLost, AreInTime, start_of, is_gone};
+ghost use Rattle.node_states.specs.Order.{IsOver, IsDue, IsChosen, IsDelivered, IsQuiet, IsTurn, Adds, NoneLost, is_gone};
 
 use crate::choice::{Course, Due};
 use crate::cores::SchedulingCore;
 use crate::evidence::{SchedCause, SchedOut};
-use crate::links::{SchedulerLinks, Source, is_dead, let_go};
-use crate::script::{due_by_script, first_lost, is_any_connected, is_choice_due};
+use crate::links::{SchedulerLinks, Source, is_dead};
+use crate::past::SchedulerHistory;
+use crate::script::{due_by_script, first_due, first_lost, is_any_connected, is_choice_due};
 use cluster_msgs::{Event, Label, Message, Packet, SchedEvent, Stop};
 use cluster_rules::Facts;
-use node_links::{Book, Machine};
+use node_links::Machine;
 use std::alloc::{AllocError, Global};
 use std::sync::Wait;
 use turn_cell::{Act, Kept, Stamps};
@@ -33,22 +34,19 @@ struct Choice<L: Label> {
     said: Option<SchedCause<L>>,
 }
 
-/// The scheduler with its history and its links. `gone` notes the workers that were seen as lost; `no_drop` and `no_steal` say that Evict and Balance
-/// are known to have no choice as the core stands.
+/// The scheduler with its history and its links. `no_drop` and `no_steal` say that Evict and Balance are known to have no choice as the core stands.
 #[derive(Drop)]
 pub struct SchedulerNode<B: Drop, L: Label<Block = B>> {
     alloc: Global,
-    pub book: Book<SchedulingCore<L>>,
+    pub history: SchedulerHistory<L>,
     links: SchedulerLinks<B, L>,
-    gone: Vec<bool>,
     no_drop: bool,
     no_steal: bool,
     over: bool,
     stopped: Option<Stop>,
-    ghost in_time: { book.cut ≡ false → IsCourse book.core.plan (facts book.core.core) gone.items book.entries },
-    ghost drops: { no_drop ≡ true → sched_takes (facts book.core.core) sched.Evict ≡ false },
-    ghost steals: { no_steal ≡ true → sched_takes (facts book.core.core) sched.Balance ≡ false },
-    ghost ends: { over ≡ true → IsOver book.core.plan (facts book.core.core) },
+    ghost drops: { no_drop ≡ true → sched_takes (facts history.book.core.core) sched.Evict ≡ false },
+    ghost steals: { no_steal ≡ true → sched_takes (facts history.book.core.core) sched.Balance ≡ false },
+    ghost ends: { over ≡ true → IsOver history.book.core.plan (facts history.book.core.core) },
 }
 
 impl<B: Drop, L: Label<Block = B>> SchedulerNode<B, L> {
@@ -56,7 +54,6 @@ impl<B: Drop, L: Label<Block = B>> SchedulerNode<B, L> {
     ///
     /// # Errors
     /// Where there is no memory.
-    #[tactic(auto, using(crate::proofs::Course::starts))]
     pub fn new(
         alloc: Global,
         core: SchedulingCore<L>,
@@ -64,21 +61,14 @@ impl<B: Drop, L: Label<Block = B>> SchedulerNode<B, L> {
         links: SchedulerLinks<B, L>,
     ) -> Result<Self, AllocError>
         requires opening { facts core.core ≡ sched_opening (facts core.core).setting }
-        ensures core { IfOk result (λ node. node.book.core ≡ core) }
-        ensures entries { IfOk result (λ node. (node.book.entries ≡ []) × (node.book.cut ≡ false)) }
+        ensures core { IfOk result (λ node. node.history.book.core ≡ core) }
+        ensures entries { IfOk result (λ node. (node.history.book.entries ≡ []) × (node.history.book.cut ≡ false)) }
     {
-        let mut gone = Vec::with_capacity(alloc, links.workers())?;
-        for _ in 0..links.workers() {
-            gone.push(false)?;
-        }
-        let Ok(book) = Book::new(alloc, core, limit) else {
-            return Err(AllocError);
-        };
+        let history = SchedulerHistory::new(alloc, core, limit, links.workers())?;
         Ok(SchedulerNode {
             alloc,
-            book,
+            history,
             links,
-            gone,
             no_drop: false,
             no_steal: false,
             over: false,
@@ -95,26 +85,29 @@ impl<B: Drop, L: Label<Block = B>> SchedulerNode<B, L> {
 
     /// How many workers have joined, as long as the core goes on.
     pub fn joined(&self) -> Option<u32>
-        ensures { IfSome result (λ n. n ≡ (facts self.now.book.core.core).last_worker) }
+        ensures { IfSome result (λ n. n ≡ (facts self.now.history.book.core.core).last_worker) }
     {
-        let core = self.book.core()?;
+        let core = self.history.core()?;
         Some(core.core().last_worker())
-    }
-
-    /// Each stored entry came in time, as far as all that was made is stored: the plan's workers join first; Evict comes after each 64 entries and
-    /// Balance after each 16, where they have a choice; then the script's items in their order; and after a worker was seen as lost no message of it
-    /// is delivered.
-    pub fn in_time(&self)
-        ensures { self.now.book.cut ≡ false → AreInTime self.now.book.core.plan (start_of (facts self.now.book.core.core).setting) self.now.book.entries }
-    {
-        let _book = &self.book;
     }
 
     /// One turn: at most one event, and then what waits is sent.
     pub fn serve<R: Wait>(&mut self, rt: &R, stamps: &mut Stamps, dead: &[bool]) -> Course
-        ensures recorded { IsRecorded (Steps ⟦<SchedulingCore<L> as Machine>⟧.says ⟦<SchedulingCore<L> as Machine>⟧.by) self.old.book self.new.book }
-        ensures still { result ≢ course.Moved → self.new.book ≡ self.old.book }
-        ensures turn { IsTurn dead.now self.old.book self.new.book result }
+        ensures recorded { IsRecorded (Steps ⟦<SchedulingCore<L> as Machine>⟧.says ⟦<SchedulingCore<L> as Machine>⟧.by) self.old.history.book self.new.history.book }
+        ensures still { result ≢ course.Moved → self.new.history.book ≡ self.old.history.book }
+        ensures turn { IsTurn dead.now self.old.history.book self.new.history.book result }
+    {
+        let course = self.turn(rt, stamps, dead);
+        self.links.flush(rt);
+        course
+    }
+
+    /// An event is tried, unless the node has stopped or the run is over.
+    #[tactic(auto, using(crate::proofs::CourseLemmas::turn_moved, crate::proofs::CourseLemmas::turn_quiet, node_links::proofs::Recorded::unchanged))]
+    fn turn<R: Wait>(&mut self, rt: &R, stamps: &mut Stamps, dead: &[bool]) -> Course
+        ensures recorded { IsRecorded (Steps ⟦<SchedulingCore<L> as Machine>⟧.says ⟦<SchedulingCore<L> as Machine>⟧.by) self.old.history.book self.new.history.book }
+        ensures still { result ≢ course.Moved → self.new.history.book ≡ self.old.history.book }
+        ensures turn { IsTurn dead.now self.old.history.book self.new.history.book result }
     {
         if self.stopped.is_some() {
             return Course::Stopped;
@@ -122,21 +115,20 @@ impl<B: Drop, L: Label<Block = B>> SchedulerNode<B, L> {
         if self.over {
             return Course::Over;
         }
-        let course = match self.choose(rt, dead) {
+        match self.choose(rt, dead) {
             Ok(choice) => self.carry(rt, stamps, choice, dead),
             Err(course) => course,
-        };
-        self.links.flush(rt);
-        course
+        }
     }
 
     /// The event of this turn, or what the turn says without one.
+    #[tactic(auto, using(crate::proofs::CourseLemmas::chosen_lost, crate::proofs::CourseLemmas::chosen_suspect, crate::proofs::CourseLemmas::chosen_join, crate::proofs::CourseLemmas::chosen_evict, crate::proofs::CourseLemmas::chosen_balance, crate::proofs::CourseLemmas::quiet_stopped))]
     fn choose<R: Wait>(&mut self, rt: &R, dead: &[bool]) -> Result<Choice<L>, Course>
         requires { self.old.over ≡ false }
-        ensures book { self.new.book ≡ self.old.book }
+        ensures history { self.new.history ≡ self.old.history }
         ensures over { IfOk result (λ c. self.new.over ≡ false) }
-        ensures chosen { IfOk result (λ c. IsChosen dead.now self.new.gone.items self.new.book c.event c.message c.said) }
-        ensures quiet { IfErr result (λ course. IsQuiet dead.now self.new.book course) }
+        ensures chosen { IfOk result (λ c. IsChosen dead.now self.new.history.gone self.new.history.book c.event c.message c.said) }
+        ensures quiet { IfErr result (λ v. IsQuiet dead.now self.new.history.book v) }
     {
         match self.due() {
             Err(stop) => Err(self.stop(stop)),
@@ -149,7 +141,10 @@ impl<B: Drop, L: Label<Block = B>> SchedulerNode<B, L> {
                 }
             }
             Ok(Due::Suspect(worker)) => Ok(suspect(worker)),
-            Ok(Due::Join) => self.join(),
+            Ok(Due::Join) => {
+                let chosen = self.join();
+                self.settle(chosen)
+            }
             Ok(Due::Evict) => Ok(evict()),
             Ok(Due::Balance) => Ok(balance()),
         }
@@ -157,7 +152,7 @@ impl<B: Drop, L: Label<Block = B>> SchedulerNode<B, L> {
 
     /// It stops.
     fn stop(&mut self, stop: Stop) -> Course
-        ensures book { self.new.book ≡ self.old.book }
+        ensures history { (self.new.history ≡ self.old.history) × (self.new.over ≡ self.old.over) }
         ensures result { result ≡ course.Stopped }
     {
         self.stopped = Some(stop);
@@ -165,48 +160,35 @@ impl<B: Drop, L: Label<Block = B>> SchedulerNode<B, L> {
     }
 
     /// What goes before losses and messages.
-    #[tactic(auto, unfolding(crate::specs::Order::due_after))]
+    #[tactic(auto, using(crate::proofs::CourseLemmas::is_due))]
     fn due(&mut self) -> Result<Due, Stop>
-        ensures book { (self.new.book ≡ self.old.book) × (self.new.over ≡ self.old.over) }
-        ensures due { IfOk result (λ d. IsDue self.new.book d) }
+        ensures history { (self.new.history ≡ self.old.history) × (self.new.over ≡ self.old.over) }
+        ensures due { IfOk result (λ d. IsDue self.new.history.book d) }
     {
-        let made = self.book.made();
-        let Some(core) = self.book.core() else {
+        let made = self.history.made();
+        let Some(core) = self.history.core() else {
             return Err(Stop::Memory);
         };
-        if core.core().last_worker() < core.plan().workers {
-            return Ok(Due::Join);
-        }
-        if is_choice_due(
-            core.core(),
-            &SchedEvent::Evict,
-            64,
-            made,
-            &mut self.no_drop,
-        ) {
-            return Ok(Due::Evict);
-        }
-        if is_choice_due(
+        let joins = core.core().last_worker() < core.plan().workers;
+        let evicts = is_choice_due(core.core(), &SchedEvent::Evict, 64, made, &mut self.no_drop);
+        let balances = is_choice_due(
             core.core(),
             &SchedEvent::Balance,
             16,
             made,
             &mut self.no_steal,
-        ) {
-            return Ok(Due::Balance);
-        }
-        Ok(due_by_script(core.core(), core.plan()))
+        );
+        let script = due_by_script(core.core(), core.plan());
+        Ok(first_due(joins, evicts, balances, script))
     }
 
     /// The next worker joins.
-    fn join(&mut self) -> Result<Choice<L>, Course>
-        ensures book { (self.new.book ≡ self.old.book) × (self.new.over ≡ self.old.over) }
-        ensures join { IfOk result (λ c. c.event ≡ event.Join self.new.book.core.plan.threads) }
-        ensures says { IfOk result (λ c. SchedSays (facts self.new.book.core.core) c.event c.message c.said) }
-        ensures quiet { IfErr result (λ course. course ≡ course.Stopped) }
+    fn join(&self) -> Result<Choice<L>, Stop>
+        ensures event { IfOk result (λ c. c.event ≡ kind.Join self.now.history.book.core.plan.threads) }
+        ensures says { IfOk result (λ c. SchedSays (facts self.now.history.book.core.core) c.event c.message c.said) }
     {
-        let Some(core) = self.book.core() else {
-            return Err(self.stop(Stop::Memory));
+        let Some(core) = self.history.core() else {
+            return Err(Stop::Memory);
         };
         let threads = core.plan().threads;
         Ok(Choice {
@@ -216,15 +198,28 @@ impl<B: Drop, L: Label<Block = B>> SchedulerNode<B, L> {
         })
     }
 
-    /// A connected worker that has ended is seen as lost; else a message is taken; else the run may be over.
-    fn go_on<R: Wait>(&mut self, rt: &R, dead: &[bool]) -> Result<Choice<L>, Course>
-        requires { IsDue self.old.book due.Nothing }
-        ensures book { self.new.book ≡ self.old.book }
-        ensures over { IfOk result (λ c. self.new.over ≡ self.old.over) }
-        ensures chosen { IfOk result (λ c. IsChosen dead.now self.new.gone.items self.new.book c.event c.message c.said) }
-        ensures quiet { IfErr result (λ course. IsQuiet dead.now self.new.book course) }
+    /// The choice, or it stops where there was none for want of memory or for a message that no honest node sends.
+    fn settle(&mut self, chosen: Result<Choice<L>, Stop>) -> Result<Choice<L>, Course>
+        ensures history { (self.new.history ≡ self.old.history) × (self.new.over ≡ self.old.over) }
+        ensures ok { IfOk result (λ c. chosen ≡ Ok c) }
+        ensures err { IfErr result (λ v. v ≡ course.Stopped) }
     {
-        let Some(core) = self.book.core() else {
+        match chosen {
+            Ok(choice) => Ok(choice),
+            Err(stop) => Err(self.stop(stop)),
+        }
+    }
+
+    /// A connected worker that has ended is seen as lost; else a message is taken; else the run may be over.
+    #[tactic(auto, using(crate::proofs::CourseLemmas::chosen_seen, crate::proofs::CourseLemmas::quiet_stopped))]
+    fn go_on<R: Wait>(&mut self, rt: &R, dead: &[bool]) -> Result<Choice<L>, Course>
+        requires { IsDue self.old.history.book due.Nothing }
+        ensures history { self.new.history ≡ self.old.history }
+        ensures over { IfOk result (λ c. self.new.over ≡ self.old.over) }
+        ensures chosen { IfOk result (λ c. IsChosen dead.now self.new.history.gone self.new.history.book c.event c.message c.said) }
+        ensures quiet { IfErr result (λ v. IsQuiet dead.now self.new.history.book v) }
+    {
+        let Some(core) = self.history.core() else {
             return Err(self.stop(Stop::Memory));
         };
         if let Some(worker) = first_lost(core.core(), dead) {
@@ -234,31 +229,31 @@ impl<B: Drop, L: Label<Block = B>> SchedulerNode<B, L> {
     }
 
     /// A message is taken; else the run may be over.
+    #[tactic(auto, using(crate::proofs::CourseLemmas::chosen_message, crate::proofs::CourseLemmas::quiet_stopped))]
     fn hear<R: Wait>(&mut self, rt: &R, dead: &[bool]) -> Result<Choice<L>, Course>
-        requires due { IsDue self.old.book due.Nothing }
-        requires none { NoneLost dead.now (facts self.old.book.core.core) }
-        ensures book { self.new.book ≡ self.old.book }
+        requires due { IsDue self.old.history.book due.Nothing }
+        requires none { NoneLost dead.now (facts self.old.history.book.core.core) }
+        ensures history { self.new.history ≡ self.old.history }
         ensures over { IfOk result (λ c. self.new.over ≡ self.old.over) }
-        ensures chosen { IfOk result (λ c. IsChosen dead.now self.new.gone.items self.new.book c.event c.message c.said) }
-        ensures quiet { IfErr result (λ course. IsQuiet dead.now self.new.book course) }
+        ensures chosen { IfOk result (λ c. IsChosen dead.now self.new.history.gone self.new.history.book c.event c.message c.said) }
+        ensures quiet { IfErr result (λ v. IsQuiet dead.now self.new.history.book v) }
     {
-        let Some((source, packet)) = self.links.take(rt, self.gone.as_slice()) else {
+        let Some((source, packet)) = self.links.take(rt, self.history.gone()) else {
             return Err(self.rest(dead));
         };
-        match self.deliver(source, packet) {
-            Ok(choice) => Ok(choice),
-            Err(stop) => Err(self.stop(stop)),
-        }
+        let chosen = self.deliver(source, packet);
+        self.settle(chosen)
     }
 
     /// Over where no worker is connected: no task will finish any more, so no item of the script will come.
+    #[tactic(auto, using(crate::proofs::CourseLemmas::is_over, crate::proofs::CourseLemmas::quiet_stopped))]
     fn rest(&mut self, dead: &[bool]) -> Course
-        requires due { IsDue self.old.book due.Nothing }
-        requires none { NoneLost dead.now (facts self.old.book.core.core) }
-        ensures book { self.new.book ≡ self.old.book }
-        ensures quiet { IsQuiet dead.now self.new.book result }
+        requires due { IsDue self.old.history.book due.Nothing }
+        requires none { NoneLost dead.now (facts self.old.history.book.core.core) }
+        ensures history { self.new.history ≡ self.old.history }
+        ensures quiet { IsQuiet dead.now self.new.history.book result }
     {
-        let Some(core) = self.book.core() else {
+        let Some(core) = self.history.core() else {
             return self.stop(Stop::Memory);
         };
         if is_any_connected(core.core()) {
@@ -271,8 +266,8 @@ impl<B: Drop, L: Label<Block = B>> SchedulerNode<B, L> {
     /// A message of a worker, which is dropped where the worker isn't connected, or of a client.
     fn deliver(&self, source: Source, packet: Packet<B>) -> Result<Choice<L>, Stop>
         requires fits { PacketFits L.facts packet }
-        requires heard { (w : ℕ) → source ≡ source.Worker w → is_gone self.now.gone.items w ≡ false }
-        ensures { IfOk result (λ c. IsDelivered self.now.gone.items (facts self.now.book.core.core) c.event c.message c.said) }
+        requires heard { (w : ℕ) → source ≡ origin.Worker w → is_gone self.now.history.gone w ≡ false }
+        ensures { IfOk result (λ c. IsDelivered self.now.history.gone (facts self.now.history.book.core.core) c.event c.message c.said) }
     {
         match source {
             Source::Worker(worker) => self.deliver_up(worker, packet),
@@ -284,17 +279,14 @@ impl<B: Drop, L: Label<Block = B>> SchedulerNode<B, L> {
     #[tactic(auto, using(crate::proofs::Fitting::up_fits))]
     fn deliver_up(&self, worker: u32, packet: Packet<B>) -> Result<Choice<L>, Stop>
         requires fits { PacketFits L.facts packet }
-        requires heard { is_gone self.now.gone.items worker ≡ false }
-        ensures { IfOk result (λ c. IsDelivered self.now.gone.items (facts self.now.book.core.core) c.event c.message c.said) }
+        requires heard { is_gone self.now.history.gone worker ≡ false }
+        ensures { IfOk result (λ c. IsDelivered self.now.history.gone (facts self.now.history.book.core.core) c.event c.message c.said) }
     {
-        let Packet {
-            message,
-            blocks: _,
-        } = packet;
+        let Packet { message, blocks: _ } = packet;
         let Message::Up(up) = message else {
             return Err(Stop::Refused);
         };
-        let Some(core) = self.book.core() else {
+        let Some(core) = self.history.core() else {
             return Err(Stop::Memory);
         };
         let copy = up.copy()?;
@@ -311,12 +303,9 @@ impl<B: Drop, L: Label<Block = B>> SchedulerNode<B, L> {
     }
 
     fn deliver_from_client(&self, client: u32, packet: Packet<B>) -> Result<Choice<L>, Stop>
-        ensures { IfOk result (λ c. IsDelivered self.now.gone.items (facts self.now.book.core.core) c.event c.message c.said) }
+        ensures { IfOk result (λ c. IsDelivered self.now.history.gone (facts self.now.history.book.core.core) c.event c.message c.said) }
     {
-        let Packet {
-            message,
-            blocks: _,
-        } = packet;
+        let Packet { message, blocks: _ } = packet;
         let Message::FromClient(msg) = message else {
             return Err(Stop::Refused);
         };
@@ -337,9 +326,9 @@ impl<B: Drop, L: Label<Block = B>> SchedulerNode<B, L> {
         dead: &[bool],
     ) -> Course
         requires over { self.old.over ≡ false }
-        requires chosen { IsChosen dead.now self.old.gone.items self.old.book choice.event choice.message choice.said }
-        ensures recorded { IsRecorded (Steps ⟦<SchedulingCore<L> as Machine>⟧.says ⟦<SchedulingCore<L> as Machine>⟧.by) self.old.book self.new.book }
-        ensures entry { IsEntryOf choice.event choice.message self.old.book.entries self.new.book.entries }
+        requires chosen { IsChosen dead.now self.old.history.gone self.old.history.book choice.event choice.message choice.said }
+        ensures recorded { IsRecorded (Steps ⟦<SchedulingCore<L> as Machine>⟧.says ⟦<SchedulingCore<L> as Machine>⟧.by) self.old.history.book self.new.history.book }
+        ensures entry { Adds choice.event self.old.history.book.entries self.new.history.book.entries }
         ensures moved { result ≡ course.Moved }
     {
         let end = self.perform(rt, stamps, choice, dead);
@@ -349,7 +338,6 @@ impl<B: Drop, L: Label<Block = B>> SchedulerNode<B, L> {
         Course::Moved
     }
 
-    #[tactic(auto, using(crate::proofs::Course::goes_on))]
     fn perform<R: Wait>(
         &mut self,
         rt: &R,
@@ -358,23 +346,20 @@ impl<B: Drop, L: Label<Block = B>> SchedulerNode<B, L> {
         dead: &[bool],
     ) -> Result<(), Stop>
         requires over { self.old.over ≡ false }
-        requires chosen { IsChosen dead.now self.old.gone.items self.old.book choice.event choice.message choice.said }
-        ensures recorded { IsRecorded (Steps ⟦<SchedulingCore<L> as Machine>⟧.says ⟦<SchedulingCore<L> as Machine>⟧.by) self.old.book self.new.book }
-        ensures entry { IsEntryOf choice.event choice.message self.old.book.entries self.new.book.entries }
+        requires chosen { IsChosen dead.now self.old.history.gone self.old.history.book choice.event choice.message choice.said }
+        ensures recorded { IsRecorded (Steps ⟦<SchedulingCore<L> as Machine>⟧.says ⟦<SchedulingCore<L> as Machine>⟧.by) self.old.history.book self.new.history.book }
+        ensures entry { Adds choice.event self.old.history.book.entries self.new.history.book.entries }
     {
         let Choice {
             event,
             message,
             said,
         } = choice;
-        if let Event::SeeLoss { worker } = &event {
-            let_go(&mut self.gone, *worker);
-        }
         self.no_drop = false;
         self.no_steal = false;
         let mut out = SchedOut::nothing(self.alloc);
-        self.book
-            .record(stamps, event, message, said, &mut out)?;
+        self.history
+            .record(stamps, event, message, said, &mut out, dead)?;
         self.links.post(rt, out)
     }
 }
@@ -382,7 +367,7 @@ impl<B: Drop, L: Label<Block = B>> SchedulerNode<B, L> {
 /// A connected worker that has ended is seen as lost.
 fn lost<L: Label>(worker: u32) -> Choice<L>
     ensures says { (f : SchedFacts) → SchedSays f result.event result.message result.said }
-    ensures event { result.event ≡ event.SeeLoss worker }
+    ensures event { result.event ≡ kind.SeeLoss worker }
 {
     Choice {
         event: Event::SeeLoss { worker },
@@ -394,7 +379,7 @@ fn lost<L: Label>(worker: u32) -> Choice<L>
 /// A connected worker is taken as lost.
 fn suspect<L: Label>(worker: u32) -> Choice<L>
     ensures says { (f : SchedFacts) → SchedSays f result.event result.message result.said }
-    ensures event { result.event ≡ event.Suspect worker }
+    ensures event { result.event ≡ kind.Suspect worker }
 {
     Choice {
         event: Event::Suspect { worker },
@@ -406,7 +391,7 @@ fn suspect<L: Label>(worker: u32) -> Choice<L>
 /// A copy is dropped.
 fn evict<L: Label>() -> Choice<L>
     ensures says { (f : SchedFacts) → SchedSays f result.event result.message result.said }
-    ensures event { result.event ≡ event.Evict }
+    ensures event { result.event ≡ kind.Evict }
 {
     Choice {
         event: Event::Evict,
@@ -418,7 +403,7 @@ fn evict<L: Label>() -> Choice<L>
 /// A task is asked back for another worker.
 fn balance<L: Label>() -> Choice<L>
     ensures says { (f : SchedFacts) → SchedSays f result.event result.message result.said }
-    ensures event { result.event ≡ event.Balance }
+    ensures event { result.event ≡ kind.Balance }
 {
     Choice {
         event: Event::Balance,
@@ -437,18 +422,18 @@ impl<B: Drop, L: Label<Block = B>> Kept for SchedulerNode<B, L> {
     ghost use Rattle.node_links.specs.Books.{Steps};
     ghost use Rattle.node_states.specs.Fitting.{SchedFits};
 
-    ghost entries = { λ s. s.book.entries };
+    ghost entries = { λ s. s.history.book.entries };
 
-    ghost core = { λ s. s.book.core };
+    ghost core = { λ s. s.history.book.core };
 
-    ghost cut = { λ s. s.book.cut };
+    ghost cut = { λ s. s.history.book.cut };
 
     ghost steps = { Steps ⟦<SchedulingCore<L> as Machine>⟧.says ⟦<SchedulingCore<L> as Machine>⟧.by };
 
-    ghost fits = { λ f s. SchedFits f (facts s.book.core.core) };
+    ghost fits = { λ f s. SchedFits f (facts s.history.book.core.core) };
 
     fn count(&self) -> u64 {
-        self.book.stored()
+        self.history.stored()
     }
 }
 
@@ -459,7 +444,8 @@ pub struct SchedulerTurn<'a, R: Wait> {
     pub dead: &'a [bool],
 }
 
-impl<'a, R: Wait, B: Drop, L: Label<Block = B>> Act<SchedulerNode<B, L>, L> for SchedulerTurn<'a, R> {
+impl<'a, R: Wait, B: Drop, L: Label<Block = B>> Act<SchedulerNode<B, L>, L>
+    for SchedulerTurn<'a, R> {
     type Out = Course;
 
     fn act(self, state: &mut SchedulerNode<B, L>) -> Course {

@@ -1,8 +1,9 @@
 //! What is due at the scheduler, by its core and the script.
-ghost use Rattle.std.specs.Prelude.{◌≡◌, ◌<◌, ◌==◌, ◌%◌, ◌&&◌, ℕ, true, false, IfSome, IfNone};
+ghost use Rattle.std.specs.Prelude.{◌≡◌, ◌<◌, ◌==◌, ◌%◌, ◌&&◌, ℕ, true, false, cond, nat_lt, IfSome, IfNone};
 ghost use Rattle.cluster_rules.specs.Sched.{connected};
 ghost use Rattle.cluster_rules.specs.SchedTable.{sched_takes};
 ghost use Rattle.scheduler_core.specs.Cores.{facts};
+ghost use Rattle.node_states.specs.declared.choice.Due.TheVariants as due;
 ghost use Rattle.node_states.specs.Order.{time_of, joins_of, is_done, open_item, due_by, is_dead, NoneLost};
 
 use crate::choice::{Due, Plan};
@@ -32,6 +33,21 @@ pub fn is_choice_due(
     takes
 }
 
+/// The first that is due: a join, a dropped copy, a task that is asked back, or what the script makes due.
+pub fn first_due(joins: bool, evicts: bool, balances: bool, script: Due) -> Due
+    ensures { result ≡ cond joins due.Join (cond evicts due.Evict (cond balances due.Balance script)) }
+{
+    if joins {
+        Due::Join
+    } else if evicts {
+        Due::Evict
+    } else if balances {
+        Due::Balance
+    } else {
+        script
+    }
+}
+
 /// What the script makes due.
 pub fn due_by_script(core: &Sched, plan: &Plan) -> Due
     ensures { result ≡ due_by plan.now (facts core.now) (open_item plan.now (facts core.now)) }
@@ -52,20 +68,30 @@ pub fn due_by_script(core: &Sched, plan: &Plan) -> Due
 }
 
 /// The script's item whose turn it is.
+#[tactic(auto, using(crate::proofs::ScriptLemmas::done_item, crate::proofs::ScriptLemmas::early_item, crate::proofs::ScriptLemmas::open_here))]
 fn open_item(core: &Sched, plan: &Plan) -> Option<Item>
     ensures { result ≡ open_item plan.now (facts core.now) }
 {
     let mut joined = plan.workers as u64;
     for item in plan.script.as_slice() {
-        if (core.finishes() as u128) < time_of(item) {
+        let early = is_early(core, item);
+        if early {
             return None;
         }
-        if !is_done(core, joined, item) {
+        let done = is_done(core, joined, item);
+        if !done {
             return Some(*item);
         }
         joined += joins_of(item);
     }
     None
+}
+
+/// Whether fewer finishes counted than an item waits for.
+fn is_early(core: &Sched, item: &Item) -> bool
+    ensures { result ≡ nat_lt (facts core.now).finishes (time_of item.now) }
+{
+    (core.finishes() as u128) < time_of(item)
 }
 
 /// How many finishes an item waits for.
@@ -101,25 +127,36 @@ fn is_done(core: &Sched, joined: u64, item: &Item) -> bool
 }
 
 /// The first connected worker that has ended.
+#[tactic(auto, using(crate::proofs::ScriptLemmas::none_lost))]
 pub fn first_lost(core: &Sched, dead: &[bool]) -> Option<u32>
-    ensures lost { IfSome result (λ w. (connected (facts core.now) w ≡ true) × (is_dead dead.now w ≡ true)) }
+    ensures lost { IfSome result (λ w. is_dead dead.now w ≡ true) }
     ensures none { IfNone result (NoneLost dead.now (facts core.now)) }
 {
     core.sound();
-    for worker in 1..=core.last_worker() {
-        if is_dead(dead, worker) && core.connected(worker) {
+    for before in 0..core.last_worker() {
+        let worker = before + 1;
+        if is_lost(core, dead, worker) {
             return Some(worker);
         }
     }
     None
 }
 
+/// Whether a worker is connected and has ended.
+fn is_lost(core: &Sched, dead: &[bool], worker: u32) -> bool
+    ensures { result ≡ (is_dead dead.now worker && connected (facts core.now) worker) }
+{
+    is_dead(dead, worker) & core.connected(worker)
+}
+
 /// Whether a worker is connected.
+#[tactic(auto, using(crate::proofs::ScriptLemmas::none_connected))]
 pub fn is_any_connected(core: &Sched) -> bool
     ensures { result ≡ false → (w : ℕ) → connected (facts core.now) w ≡ false }
 {
     core.sound();
-    for worker in 1..=core.last_worker() {
+    for before in 0..core.last_worker() {
+        let worker = before + 1;
         if core.connected(worker) {
             return true;
         }
