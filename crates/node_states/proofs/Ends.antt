@@ -42,7 +42,7 @@ pub still_alive : {C : Type 0} (id : ℕ) (ended : Bool) (x y : BookState C) (ev
 still_alive id ended x y event message going h i entered = (
   (λ _. ⊎_elim
       (λ (p : (n : ℕ) × (y.entries ≡ x.entries ++ (record { stamp = n; event = event; message = message }) ∷ [])).
-          subst (λ es. no_end es ≡ true) (sym p.1) (no_end_more x.entries (record { stamp = p.0; event = event; message = message }) (h.0 going) i))
+      subst (λ es. no_end es ≡ true) (sym p.1) (no_end_more x.entries (record { stamp = p.0; event = event; message = message }) (h.0 going) i))
       (λ (q : (y.entries ≡ x.entries) × (y.cut ≡ true)). subst (λ es. no_end es ≡ true) (sym q.0) (h.0 going))
       entered.is),
   (λ t. absurd (false≢true (sym going ∙ t))),
@@ -60,7 +60,7 @@ ended_now id ended x y going h entered = (
   (λ t. absurd (false≢true (sym t))),
   (λ _ uncut. ⊎_elim
       (λ (p : (n : ℕ) × (y.entries ≡ x.entries ++ (record { stamp = n; event = event.Lose id; message = None }) ∷ [])).
-          subst (λ es. ends_last id es ≡ true) (sym p.1) (ends_more id p.0 x.entries (h.0 going)))
+      subst (λ es. ends_last id es ≡ true) (sym p.1) (ends_more id p.0 x.entries (h.0 going)))
       (λ (q : (y.entries ≡ x.entries) × (y.cut ≡ true)). absurd (false≢true (sym uncut ∙ q.1)))
       entered.is),
 )

@@ -513,7 +513,9 @@ impl<B: Drop, L: Label<Block = B>, F: Drop> WorkerNode<B, L, F> {
         };
         let copy = down.copy()?;
         Ok(Some(Choice {
-            event: Event::DeliverDown { worker: self.history.id() },
+            event: Event::DeliverDown {
+                worker: self.history.id(),
+            },
             message: Some(Message::Down(copy)),
             said: Some(WorkerCause::new(WorkerEvent::Down(down))),
             brought: Vec::new(self.alloc),
@@ -555,7 +557,11 @@ impl<B: Drop, L: Label<Block = B>, F: Drop> WorkerNode<B, L, F> {
     {
         let Packet { message, blocks: _ } = packet;
         match message {
-            Message::Peer(Peer::GetData { ask, keys }) => self.give(Asker::Client(client), ask, keys),
+            Message::Peer(Peer::GetData { ask, keys }) => self.give(
+                Asker::Client(client),
+                ask,
+                keys,
+            ),
             _ => Err(Stop::Refused),
         }
     }
