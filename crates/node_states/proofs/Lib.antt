@@ -6,4 +6,7 @@ pub mod Kept
 pub mod Ends
 pub mod Causes
 pub mod CourseLemmas
+pub mod ChoiceLemmas
+pub mod JoinLemmas
+pub mod Entries
 pub mod ScriptLemmas

@@ -88,7 +88,7 @@ impl<L: Label> SchedulerHistory<L> {
     /// Each stored entry came in time, as long as none was left out: the plan's workers join first; Evict comes after each 64 entries and Balance
     /// after each 16, where they have a choice; then the script's items in their order; and after a worker was seen as lost no message of it is
     /// delivered.
-    #[tactic(auto, using(crate::proofs::CourseLemmas::join_first))]
+    #[tactic(auto, using(crate::proofs::JoinLemmas::join_first))]
     pub fn in_time(&self)
         ensures in_time { self.now.book.cut ≡ false → AreInTime self.now.book.core.plan (start_of (facts self.now.book.core.core).setting) self.now.book.entries }
         ensures joins { self.now.book.cut ≡ false → JoinFirst self.now.book.core.plan self.now.book.entries }
@@ -100,7 +100,7 @@ impl<L: Label> SchedulerHistory<L> {
     ///
     /// # Errors
     /// Those of the core, and `Memory` where no memory or no right to a stamp is left. Core and history are then as before.
-    #[tactic(auto, using(crate::proofs::CourseLemmas::goes_on, crate::proofs::CourseLemmas::adds, crate::proofs::CourseLemmas::adds_none))]
+    #[tactic(auto, using(crate::proofs::CourseLemmas::goes_on, crate::proofs::Entries::adds, crate::proofs::Entries::adds_none))]
     pub fn record(
         &mut self,
         stamps: &mut Stamps,

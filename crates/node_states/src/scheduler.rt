@@ -103,7 +103,7 @@ impl<B: Drop, L: Label<Block = B>> SchedulerNode<B, L> {
     }
 
     /// An event is tried, unless the node has stopped or the run is over.
-    #[tactic(auto, using(crate::proofs::CourseLemmas::turn_moved, crate::proofs::CourseLemmas::turn_quiet, node_links::proofs::Recorded::unchanged))]
+    #[tactic(auto, using(crate::proofs::ChoiceLemmas::turn_moved, crate::proofs::ChoiceLemmas::turn_quiet, node_links::proofs::Recorded::unchanged))]
     fn turn<R: Wait>(&mut self, rt: &R, stamps: &mut Stamps, dead: &[bool]) -> Course
         ensures recorded { IsRecorded (Steps ⟦<SchedulingCore<L> as Machine>⟧.says ⟦<SchedulingCore<L> as Machine>⟧.by) self.old.history.book self.new.history.book }
         ensures still { result ≢ course.Moved → self.new.history.book ≡ self.old.history.book }
@@ -122,7 +122,7 @@ impl<B: Drop, L: Label<Block = B>> SchedulerNode<B, L> {
     }
 
     /// The event of this turn, or what the turn says without one.
-    #[tactic(auto, using(crate::proofs::CourseLemmas::chosen_lost, crate::proofs::CourseLemmas::chosen_suspect, crate::proofs::CourseLemmas::chosen_join, crate::proofs::CourseLemmas::chosen_evict, crate::proofs::CourseLemmas::chosen_balance, crate::proofs::CourseLemmas::quiet_stopped))]
+    #[tactic(auto, using(crate::proofs::ChoiceLemmas::chosen_lost, crate::proofs::ChoiceLemmas::chosen_suspect, crate::proofs::ChoiceLemmas::chosen_join, crate::proofs::ChoiceLemmas::chosen_evict, crate::proofs::ChoiceLemmas::chosen_balance, crate::proofs::ChoiceLemmas::quiet_stopped))]
     fn choose<R: Wait>(&mut self, rt: &R, dead: &[bool]) -> Result<Choice<L>, Course>
         requires { self.old.over ≡ false }
         ensures history { self.new.history ≡ self.old.history }
@@ -160,7 +160,7 @@ impl<B: Drop, L: Label<Block = B>> SchedulerNode<B, L> {
     }
 
     /// What goes before losses and messages.
-    #[tactic(auto, using(crate::proofs::CourseLemmas::is_due))]
+    #[tactic(auto, using(crate::proofs::ChoiceLemmas::is_due))]
     fn due(&mut self) -> Result<Due, Stop>
         ensures history { (self.new.history ≡ self.old.history) × (self.new.over ≡ self.old.over) }
         ensures due { IfOk result (λ d. IsDue self.new.history.book d) }
@@ -211,7 +211,7 @@ impl<B: Drop, L: Label<Block = B>> SchedulerNode<B, L> {
     }
 
     /// A connected worker that has ended is seen as lost; else a message is taken; else the run may be over.
-    #[tactic(auto, using(crate::proofs::CourseLemmas::chosen_seen, crate::proofs::CourseLemmas::quiet_stopped))]
+    #[tactic(auto, using(crate::proofs::ChoiceLemmas::chosen_seen, crate::proofs::ChoiceLemmas::quiet_stopped))]
     fn go_on<R: Wait>(&mut self, rt: &R, dead: &[bool]) -> Result<Choice<L>, Course>
         requires { IsDue self.old.history.book due.Nothing }
         ensures history { self.new.history ≡ self.old.history }
@@ -229,7 +229,7 @@ impl<B: Drop, L: Label<Block = B>> SchedulerNode<B, L> {
     }
 
     /// A message is taken; else the run may be over.
-    #[tactic(auto, using(crate::proofs::CourseLemmas::chosen_message, crate::proofs::CourseLemmas::quiet_stopped))]
+    #[tactic(auto, using(crate::proofs::ChoiceLemmas::chosen_message, crate::proofs::ChoiceLemmas::quiet_stopped))]
     fn hear<R: Wait>(&mut self, rt: &R, dead: &[bool]) -> Result<Choice<L>, Course>
         requires due { IsDue self.old.history.book due.Nothing }
         requires none { NoneLost dead.now (facts self.old.history.book.core.core) }
@@ -246,7 +246,7 @@ impl<B: Drop, L: Label<Block = B>> SchedulerNode<B, L> {
     }
 
     /// Over where no worker is connected: no task will finish any more, so no item of the script will come.
-    #[tactic(auto, using(crate::proofs::CourseLemmas::is_over, crate::proofs::CourseLemmas::quiet_stopped))]
+    #[tactic(auto, using(crate::proofs::ChoiceLemmas::is_over, crate::proofs::ChoiceLemmas::quiet_stopped))]
     fn rest(&mut self, dead: &[bool]) -> Course
         requires due { IsDue self.old.history.book due.Nothing }
         requires none { NoneLost dead.now (facts self.old.history.book.core.core) }
