@@ -3,6 +3,8 @@ pub mod WorkerLaw
 pub mod ClientLaw
 pub mod SchedLaw
 pub mod Kept
+pub mod Ends
+pub mod Causes
 pub mod CourseLemmas
 pub mod ChoiceLemmas
 pub mod JoinLemmas

@@ -267,10 +267,7 @@ impl<B: Drop, L: Label<Block = B>> ClientNode<B, L> {
         requires { PacketFits L.facts packet }
         ensures { IfOk result (λ o. IfSome o (λ c. (f : ClientFacts) → ClientSays id f c.event c.message c.said)) }
     {
-        let Packet {
-            message,
-            blocks: _,
-        } = packet;
+        let Packet { message, blocks: _ } = packet;
         let Message::ToClient(news) = message else {
             return Err(Stop::Refused);
         };
@@ -323,8 +320,7 @@ impl<B: Drop, L: Label<Block = B>> ClientNode<B, L> {
             brought,
         } = choice;
         let mut out = ClientOut::new(self.alloc);
-        self.book
-            .record(stamps, event, message, said, &mut out)?;
+        self.book.record(stamps, event, message, said, &mut out)?;
         self.blocks.keep(self.book.core(), brought);
         self.links.post(rt, out)
     }
@@ -365,7 +361,11 @@ impl<B: Drop, L: Label<Block = B>> GotBlocks<B, L> {
             return None;
         }
         match &self.got[at] {
-            Some(keyed) => if keyed.key() == key { Some(keyed) } else { None },
+            Some(keyed) => if keyed.key() == key {
+                Some(keyed)
+            } else {
+                None
+            },
             None => None,
         }
     }

@@ -135,11 +135,12 @@ impl<L: Label> Machine for WorkingCore<L> {
 
     ghost use Rattle.std.specs.Prelude.{◌≡◌};
     ghost use Rattle.worker_core.specs.Core.{facts as worker_facts};
+    ghost use Rattle.node_states.specs.Fitting.{WorkerEventFits};
     ghost use Rattle.node_states.specs.Machines.{WorkerSays, WorkerBy};
 
     ghost says = { λ s. WorkerSays s.id (worker_facts s.core) };
 
-    ghost by = { λ s e t. (t.id ≡ s.id) × WorkerBy (worker_facts s.core) e (worker_facts t.core) };
+    ghost by = { λ s e t. (t.id ≡ s.id) × WorkerBy (worker_facts s.core) e (worker_facts t.core) × WorkerEventFits L.facts e };
 
     #[tactic(auto, using(crate::proofs::WorkerLaw::out_fits))]
     fn take(&mut self, event: WorkerCause<L>, out: &mut WorkerOut<L>) -> Result<(), Stop> {

@@ -1,13 +1,60 @@
 //! Events, instructions and blames that fit the label of a run, by their types.
-ghost use Rattle.std.specs.Prelude.{◌≡◌, ◌∷◌, [], true, false};
+ghost use Rattle.std.specs.Prelude.{◌≡◌, ◌∷◌, ◌<◌, [], true, false};
+ghost use Rattle.cluster_msgs.specs.Shape.{deps_of, key_count};
 ghost use Rattle.cluster_msgs.specs.Labels.{ErrorFits, BlameFits, UpFits, ToClientFits};
 ghost use Rattle.node_states.specs.Fitting.{SchedEventFits, ClientEventFits, WorkerEventFits, InstructionsFit, LettersFit};
 
 use cluster_msgs::{
-    ClientEvent, Instruction, Instructions, Label, Outbox, SchedEvent, Sequence, WorkerEvent,
+    ClientEvent, GraphShape, Instruction, Instructions, Label, Outbox, SchedEvent, Sequence,
+    WorkerEvent,
 };
 use std::alloc::Global;
 use std::marker::{Model, PhantomData};
+
+/// The graph of a run, of which its label tells the same dependencies. In a clause it is the graph.
+#[derive(Drop)]
+pub struct RunGraph<L: Label> {
+    shape: GraphShape,
+    label: PhantomData<L>,
+}
+
+impl<L: Label> Model for RunGraph<L> {
+    ghost use Rattle.std.specs.Prelude.{◌≡◌};
+    ghost use Rattle.cluster_msgs.specs.Shape.{Shape, deps_of};
+
+    ghost Value = { Shape };
+
+    ghost view = { λ g. g.shape };
+
+    ghost invariant = { λ g. L.facts.deps ≡ deps_of g.shape };
+}
+
+impl<L: Label> RunGraph<L> {
+    pub fn new(shape: GraphShape) -> Self
+        requires { L.facts.deps ≡ deps_of shape }
+        ensures { result ≡ shape }
+    {
+        RunGraph {
+            shape,
+            label: PhantomData,
+        }
+    }
+
+    /// How many keys it has.
+    pub fn keys(&self) -> u32
+        ensures { result ≡ key_count self.now }
+    {
+        self.shape.keys()
+    }
+
+    /// The dependencies of a key.
+    pub fn deps(&self, key: u32) -> &[u32]
+        requires { key < key_count self.now }
+        ensures { result.now ≡ L.facts.deps key }
+    {
+        self.shape.deps(key)
+    }
+}
 
 /// A key whose own operation met a zero divisor. Whoever ran it makes this.
 #[derive(Drop)]
