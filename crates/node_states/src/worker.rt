@@ -89,7 +89,7 @@ impl<B: Drop, L: Label<Block = B>, F: Drop> WorkerNode<B, L, F> {
         ensures feeds { IfOk result (λ node. node.feeds ≡ feeds) }
         ensures back { IfErr result (λ back. back ≡ feeds) }
     {
-        let Ok(blocks) = Blocks::new(alloc, graph.keys()) else {
+        let Some((core, blocks)) = with_blocks(alloc, graph.keys(), core) else {
             return Err(feeds);
         };
         let Ok(history) = WorkerHistory::new(alloc, core, limit) else {
@@ -649,6 +649,20 @@ impl<B: Drop, L: Label<Block = B>, F: Drop> WorkerNode<B, L, F> {
         self.blocks.keep(self.history.core(), brought);
         self.links.send(rt, answer, out)
     }
+}
+
+/// A core with room for a block of each of so many keys.
+fn with_blocks<C: Drop, B: Drop, L: Label<Block = B>>(
+    alloc: Global,
+    keys: u32,
+    core: C,
+) -> Option<(C, Blocks<B, L>)>
+    ensures { IfSome result (λ p. p.0 ≡ core) }
+{
+    let Ok(blocks) = Blocks::new(alloc, keys) else {
+        return None;
+    };
+    Some((core, blocks))
 }
 
 impl<B: Drop, L: Label<Block = B>, F: Drop> Kept for WorkerNode<B, L, F> {
