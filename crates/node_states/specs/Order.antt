@@ -201,7 +201,7 @@ abbrev pub is_nothing : Due → Bool
 is_nothing due.Nothing = true
 is_nothing _ = false
 
--- no worker is connected, all of the plan have joined, and no item of the script is open
+-- no worker is connected, all of the plan have joined, and the script makes nothing due: no item is open but a join that the core takes no more
 pub record IsOver (p : Plan) (f : Facts) : Type 0 where
   pub none : (w : ℕ) → connected f w ≡ false
   pub joined : nat_lt f.last_worker p.workers ≡ false

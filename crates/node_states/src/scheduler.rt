@@ -1,5 +1,5 @@
 //! The scheduler's node.
-ghost use Rattle.std.specs.Prelude.{◌≡◌, ◌≢◌, ℕ, [], true, false, IfOk, IfErr, IfSome, Ok};
+ghost use Rattle.std.specs.Prelude.{◌≡◌, ◌≢◌, ℕ, [], true, false, IfOk, IfErr, IfSome, Ok, is_some};
 ghost use Rattle.cluster_msgs.specs.Labels.{PacketFits};
 ghost use Rattle.cluster_msgs.specs.declared.cores.SchedEvent.TheVariants as sched;
 ghost use Rattle.cluster_msgs.specs.declared.events.Event.TheVariants as kind;
@@ -97,6 +97,7 @@ impl<B: Drop, L: Label<Block = B>> SchedulerNode<B, L> {
         ensures recorded { IsRecorded (Steps ⟦<SchedulingCore<L> as Machine>⟧.says ⟦<SchedulingCore<L> as Machine>⟧.by) self.old.history.book self.new.history.book }
         ensures still { result ≢ course.Moved → self.new.history.book ≡ self.old.history.book }
         ensures turn { IsTurn dead.now self.old.history.book self.new.history.book result }
+        ensures stopped { result ≡ course.Stopped → is_some self.new.stopped ≡ true }
     {
         let course = self.turn(rt, stamps, dead);
         self.links.flush(rt);
@@ -109,6 +110,7 @@ impl<B: Drop, L: Label<Block = B>> SchedulerNode<B, L> {
         ensures recorded { IsRecorded (Steps ⟦<SchedulingCore<L> as Machine>⟧.says ⟦<SchedulingCore<L> as Machine>⟧.by) self.old.history.book self.new.history.book }
         ensures still { result ≢ course.Moved → self.new.history.book ≡ self.old.history.book }
         ensures turn { IsTurn dead.now self.old.history.book self.new.history.book result }
+        ensures stopped { result ≡ course.Stopped → is_some self.new.stopped ≡ true }
     {
         if self.stopped.is_some() {
             return Course::Stopped;
@@ -130,6 +132,7 @@ impl<B: Drop, L: Label<Block = B>> SchedulerNode<B, L> {
         ensures over { IfOk result (λ c. self.new.over ≡ false) }
         ensures chosen { IfOk result (λ c. IsChosen dead.now self.new.history.gone self.new.history.book c.event c.message c.said) }
         ensures quiet { IfErr result (λ v. IsQuiet dead.now self.new.history.book v) }
+        ensures stopped { IfErr result (λ v. v ≡ course.Stopped → is_some self.new.stopped ≡ true) }
     {
         match self.due() {
             Err(stop) => Err(self.stop(stop)),
@@ -155,6 +158,7 @@ impl<B: Drop, L: Label<Block = B>> SchedulerNode<B, L> {
     fn stop(&mut self, stop: Stop) -> Course
         ensures history { (self.new.history ≡ self.old.history) × (self.new.over ≡ self.old.over) }
         ensures result { result ≡ course.Stopped }
+        ensures stopped { is_some self.new.stopped ≡ true }
     {
         self.stopped = Some(stop);
         Course::Stopped
@@ -203,6 +207,7 @@ impl<B: Drop, L: Label<Block = B>> SchedulerNode<B, L> {
         ensures history { (self.new.history ≡ self.old.history) × (self.new.over ≡ self.old.over) }
         ensures ok { IfOk result (λ c. chosen ≡ Ok c) }
         ensures err { IfErr result (λ v. v ≡ course.Stopped) }
+        ensures stopped { IfErr result (λ v. is_some self.new.stopped ≡ true) }
     {
         match chosen {
             Ok(choice) => Ok(choice),
@@ -218,6 +223,7 @@ impl<B: Drop, L: Label<Block = B>> SchedulerNode<B, L> {
         ensures over { IfOk result (λ c. self.new.over ≡ self.old.over) }
         ensures chosen { IfOk result (λ c. IsChosen dead.now self.new.history.gone self.new.history.book c.event c.message c.said) }
         ensures quiet { IfErr result (λ v. IsQuiet dead.now self.new.history.book v) }
+        ensures stopped { IfErr result (λ v. v ≡ course.Stopped → is_some self.new.stopped ≡ true) }
     {
         let Some(core) = self.history.core() else {
             return Err(self.stop(Stop::Memory));
@@ -237,6 +243,7 @@ impl<B: Drop, L: Label<Block = B>> SchedulerNode<B, L> {
         ensures over { IfOk result (λ c. self.new.over ≡ self.old.over) }
         ensures chosen { IfOk result (λ c. IsChosen dead.now self.new.history.gone self.new.history.book c.event c.message c.said) }
         ensures quiet { IfErr result (λ v. IsQuiet dead.now self.new.history.book v) }
+        ensures stopped { IfErr result (λ v. v ≡ course.Stopped → is_some self.new.stopped ≡ true) }
     {
         let Some((source, packet)) = self.links.take(rt, self.history.gone()) else {
             return Err(self.rest(dead));
@@ -252,6 +259,7 @@ impl<B: Drop, L: Label<Block = B>> SchedulerNode<B, L> {
         requires none { NoneLost dead.now (facts self.old.history.book.core.core) }
         ensures history { self.new.history ≡ self.old.history }
         ensures quiet { IsQuiet dead.now self.new.history.book result }
+        ensures stopped { result ≡ course.Stopped → is_some self.new.stopped ≡ true }
     {
         let Some(core) = self.history.core() else {
             return self.stop(Stop::Memory);
