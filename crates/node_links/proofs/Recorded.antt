@@ -1,11 +1,11 @@
 -- A book after one entry.
-use Rattle.std.proofs.Common.{◌≡◌, ◌⊎◌, ◌∙◌, sym, ap, subst, inl, inr, ⊎_elim, Bool, true, false, refl, List, [], ◌∷◌, ◌++◌, Option, is_some}
+use Rattle.std.proofs.Common.{◌≡◌, ◌⊎◌, ◌∙◌, sym, ap, subst, inl, inr, ⊎_elim, ℕ, Bool, true, false, refl, List, [], ◌∷◌, ◌++◌, Option, is_some}
 use Rattle.cluster_msgs.specs.declared.events.Entry.{Entry}
 use Rattle.cluster_msgs.specs.declared.events.Event.{Event}
 use Rattle.cluster_msgs.specs.declared.messages.Message.{Message}
 use Rattle.turn_cell.specs.Histories.{Ascending}
 use Rattle.turn_cell.specs.Turns.{Went}
-use Rattle.node_links.specs.Books.{BookState, Logged, IsPushed, IsStored, IsLeftOut, IsLater, OneEntry, IsRecorded, Steps, StepsBy}
+use Rattle.node_links.specs.Books.{BookState, Logged, IsPushed, IsStored, IsLeftOut, IsLater, OneEntry, IsRecorded, IsEntered, Steps, StepsBy}
 
 pub recorded : {C E : Type 0} (says : C → Event → Option Message → Option E → Type 0) (by : C → E → C → Type 0) (x y : BookState C) (old new : Logged) (e : Entry) (o : Option E)
     → says x.core e.event e.message o → StepsBy by o x.core y.core → x.entries ≡ old.entries → x.cut ≡ is_some old.cut → y.entries ≡ new.entries → y.cut ≡ is_some new.cut → IsPushed old e new → Ascending new.entries
@@ -16,6 +16,18 @@ recorded says by x y old new e o said stepped a b c d pushed ascending = record 
       (λ q. inr (inr (⊎_elim
       (λ (r : IsLeftOut old e new). (c ∙ r.entries_are ∙ sym a, d ∙ ap is_some r.cut_is, (e, (o, said, stepped))))
       (λ (r : IsLater old new). (c ∙ r.entries_are ∙ sym a, d ∙ ap is_some r.cut_is ∙ r.was_cut, (e, (o, said, stepped)))) q)))
+      pushed;
+}
+
+-- the entry is the one that was to be added
+pub entered : {C : Type 0} (x y : BookState C) (old new : Logged) (n : ℕ) (event : Event) (message : Option Message)
+    → x.entries ≡ old.entries → y.entries ≡ new.entries → y.cut ≡ is_some new.cut → IsPushed old (record { stamp = n; event = event; message = message }) new → IsEntered event message x y
+entered x y old new n event message a c d pushed = record {
+  is = ⊎_elim
+      (λ (p : IsStored old (record { stamp = n; event = event; message = message }) new). inl (n, c ∙ p.entries_are ∙ ap (λ es. es ++ (record { stamp = n; event = event; message = message }) ∷ []) (sym a)))
+      (λ q. inr (⊎_elim
+      (λ (r : IsLeftOut old (record { stamp = n; event = event; message = message }) new). (c ∙ r.entries_are ∙ sym a, d ∙ ap is_some r.cut_is))
+      (λ (r : IsLater old new). (c ∙ r.entries_are ∙ sym a, d ∙ ap is_some r.cut_is ∙ r.was_cut)) q))
       pushed;
 }
 

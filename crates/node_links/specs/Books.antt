@@ -125,3 +125,8 @@ OneEntry steps x y = (y ≡ x)
 -- a book after an attempt to record one entry
 pub record IsRecorded {C : Type 0} (steps : C → Entry → C → Type 0) (x y : BookState C) : Type 0 where
   pub is : OneEntry steps x y
+
+-- what was recorded: an entry of this event and message, stored as the last one, or left out
+pub record IsEntered {C : Type 0} (event : Event) (message : Option Message) (x y : BookState C) : Type 0 where
+  pub is : ((n : ℕ) × (y.entries ≡ x.entries ++ (record { stamp = n; event = event; message = message }) ∷ []))
+      ⊎ ((y.entries ≡ x.entries) × (y.cut ≡ true))

@@ -1,7 +1,7 @@
 //! A core with its history.
 ghost use Rattle.std.specs.Prelude.{◌≡◌, ℕ, Option, OnOk, OnErr, IfOk, IfErr, IfSome, is_some, Err, Some, None, [], false, cond, length};
 ghost use Rattle.cluster_msgs.specs.declared.events.Entry.{Entry as AnyEntry};
-ghost use Rattle.node_links.specs.Books.{IsRecorded, AllBelow};
+ghost use Rattle.node_links.specs.Books.{IsRecorded, IsEntered, AllBelow};
 ghost use Rattle.node_links.specs.Books.{Steps};
 
 use crate::log::Log;
@@ -91,7 +91,9 @@ impl<C: Machine> Book<C> {
     }
 
     /// How many entries were made, those past the limit too; 2^64 - 1 where there are more.
-    pub fn made(&self) -> u64 {
+    pub fn made(&self) -> u64
+        ensures { self.now.cut ≡ false → result ≡ length self.now.entries }
+    {
         self.log.made()
     }
 
@@ -123,6 +125,7 @@ impl<C: Machine> Book<C> {
     ) -> Result<(), Stop>
         requires says { C.says self.old.core event message said }
         ensures recorded { IsRecorded (Steps C.says C.by) self.old self.new }
+        ensures entered { OnOk result (IsEntered event message self.old self.new) }
         ensures err { OnErr result (self.new ≡ self.old) }
     {
         match said {
@@ -145,6 +148,7 @@ impl<C: Machine> Book<C> {
     ) -> Result<(), Stop>
         requires says { C.says self.old.core event message None }
         ensures recorded { IsRecorded (Steps C.says C.by) self.old self.new }
+        ensures entered { OnOk result (IsEntered event message self.old self.new) }
         ensures err { OnErr result (self.new ≡ self.old) }
     {
         self.log.reserve_last()?;
@@ -168,6 +172,7 @@ impl<C: Machine> Book<C> {
     ) -> Result<(), Stop>
         requires says { C.says self.old.core event message (Some said) }
         ensures recorded { IsRecorded (Steps C.says C.by) self.old self.new }
+        ensures entered { OnOk result (IsEntered event message self.old self.new) }
         ensures err { OnErr result (self.new ≡ self.old) }
     {
         if self.failed {
@@ -199,6 +204,7 @@ impl<C: Machine> Book<C> {
     ) -> Result<(), Stop>
         requires says { C.says self.old.core event message None }
         ensures recorded { IsRecorded (Steps C.says C.by) self.old self.new }
+        ensures entered { OnOk result (IsEntered event message self.old self.new) }
         ensures err { OnErr result (self.new ≡ self.old) }
     {
         if self.failed {

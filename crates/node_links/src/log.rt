@@ -60,7 +60,12 @@ impl Log {
     }
 
     /// How many entries were made, those past the limit too; 2^64 - 1 where there are more.
-    pub fn made(&self) -> u64 {
+    pub fn made(&self) -> u64
+        ensures { self.now.cut ≡ None → result ≡ length self.now.entries }
+    {
+        if self.cut.is_none() {
+            return self.stored();
+        }
         self.made
     }
 

@@ -1,0 +1,13 @@
+pub mod Fitting
+pub mod WorkerLaw
+pub mod ClientLaw
+pub mod SchedLaw
+pub mod Kept
+pub mod Ends
+pub mod Causes
+pub mod CourseLemmas
+pub mod ChoiceLemmas
+pub mod JoinLemmas
+pub mod Entries
+pub mod Starting
+pub mod ScriptLemmas

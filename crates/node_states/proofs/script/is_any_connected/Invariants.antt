@@ -1,0 +1,7 @@
+use Rattle.std.proofs.Common.{◌≡◌, ℕ, ◌+◌, ◌<◌, false}
+use Rattle.cluster_rules.specs.Sched.{connected}
+use Rattle.scheduler_core.specs.Cores.{facts}
+use Rattle.node_states.proofs.script.is_any_connected.Given as goal
+
+abbrev pub invariant-loop-before : goal.invariant-loop-before
+invariant-loop-before l = (k : ℕ) → k < l.before → connected (facts l.core) (k + 1) ≡ false

@@ -1,0 +1,429 @@
+//! A client's node.
+ghost use Rattle.std.specs.Prelude.{◌≡◌, ℕ, ◌<◌, [], false, true, IfOk, IfSome, Ok, Some, None};
+ghost use Rattle.cluster_msgs.specs.Labels.{PacketFits};
+ghost use Rattle.cluster_msgs.specs.declared.cores.ClientEvent.TheVariants as client;
+ghost use Rattle.cluster_msgs.specs.declared.events.Asker.TheVariants.{Client};
+ghost use Rattle.cluster_msgs.specs.declared.events.Event.TheVariants as event;
+ghost use Rattle.cluster_rules.specs.Client.{ClientFacts, done};
+ghost use Rattle.gather_client.specs.CoreState.{client_facts};
+ghost use Rattle.node_links.specs.Books.{IsRecorded, Steps};
+ghost use Rattle.node_states.specs.Fitting.{ClientFits};
+ghost use Rattle.node_states.specs.Machines.{ClientSays};
+
+use crate::cores::GatheringCore;
+use crate::evidence::{Blame, ClientCause};
+use crate::links::{ClientLinks, is_dead, number};
+use cluster_msgs::{
+    Asker, ClientEvent, ClientOut, End, Event, KeyList, Label, Message, Packet, Peer, Stop,
+};
+use gather_client::ClientCore;
+use node_links::{Book, Keyed, Machine, Port, pair_up};
+use std::alloc::{AllocError, Global};
+use std::sync::Wait;
+use turn_cell::{Act, Kept, Stamps};
+
+/// What a turn does next: an event with its message, what the core is told, and the blocks that come.
+#[derive(Drop)]
+struct Choice<B: Drop, L: Label<Block = B>> {
+    event: Event,
+    message: Option<Message>,
+    said: Option<ClientCause<L>>,
+    brought: Vec<Keyed<B, L>>,
+}
+
+/// A client with its history, the blocks that it got, and its links. It wants its keys once, then takes what comes, asks workers for blocks, and
+/// gives up asks to workers that have ended.
+#[derive(Drop)]
+pub struct ClientNode<B: Drop, L: Label<Block = B>> {
+    alloc: Global,
+    pub book: Book<GatheringCore<L>>,
+    blocks: GotBlocks<B, L>,
+    wanted: KeyList,
+    asked: bool,
+    links: ClientLinks<B, L>,
+    stopped: Option<Stop>,
+}
+
+impl<B: Drop, L: Label<Block = B>> ClientNode<B, L> {
+    /// A client that has made no entry, whose history may have so many bytes. It has a port to the scheduler and one to each worker, by number.
+    ///
+    /// # Errors
+    /// Where there is no memory.
+    pub fn new(
+        alloc: Global,
+        core: GatheringCore<L>,
+        limit: u64,
+        keys: u32,
+        wanted: KeyList,
+        scheduler: Port<B, L>,
+        workers: Vec<Port<B, L>>,
+    ) -> Result<Self, AllocError>
+        ensures core { IfOk result (λ node. node.book.core ≡ core) }
+        ensures entries { IfOk result (λ node. (node.book.entries ≡ []) × (node.book.cut ≡ false)) }
+    {
+        let blocks = GotBlocks::new(alloc, keys)?;
+        let Ok(book) = Book::new(alloc, core, limit) else {
+            return Err(AllocError);
+        };
+        Ok(ClientNode {
+            alloc,
+            book,
+            blocks,
+            wanted,
+            asked: false,
+            links: ClientLinks::new(alloc, scheduler, workers),
+            stopped: None,
+        })
+    }
+
+    /// Why it stopped, if it did: for want of memory, for a message that no honest node sends, or since all events were taken.
+    pub fn stopped(&self) -> Option<Stop>
+        ensures { result ≡ self.now.stopped }
+    {
+        self.stopped
+    }
+
+    /// How a key ended, as long as the core goes on.
+    pub fn end(&self, key: u32) -> Option<End>
+        ensures { IfSome result (λ end. done (client_facts self.now.book.core.core) key ≡ Some end) }
+    {
+        let core = self.book.core()?;
+        core.core.done(key)
+    }
+
+    /// The block of a key that was got.
+    pub fn block(&self, key: u32) -> Option<&Keyed<B, L>>
+        ensures { IfSome result (λ keyed. keyed.now.key ≡ key) }
+    {
+        self.blocks.find(key)
+    }
+
+    /// The failure of a key, if it failed, with a blame that fits the label.
+    #[tactic(auto, using(crate::proofs::Fitting::erred_fits))]
+    pub fn failure(&self, key: u32) -> Option<Blame<L>>
+        requires fits { ClientFits L.facts (client_facts self.now.book.core.core) }
+        ensures { IfSome result (λ blame. blame.key ≡ key) }
+    {
+        let core = self.book.core()?;
+        match core.core.done(key) {
+            Some(End::Erred { blame }) => Some(Blame::new(key, blame)),
+            _ => None,
+        }
+    }
+
+    /// Whether each wanted key is got, or one failed.
+    pub fn is_done(&self) -> bool {
+        match self.book.core() {
+            None => false,
+            Some(core) => all_end(&core.core, self.wanted.as_slice()),
+        }
+    }
+
+    /// One turn: at most one event, and then what waits is sent. `true` where it tried one.
+    pub fn serve<R: Wait>(&mut self, rt: &R, stamps: &mut Stamps, dead: &[bool]) -> bool
+        ensures recorded { IsRecorded (Steps ⟦<GatheringCore<L> as Machine>⟧.says ⟦<GatheringCore<L> as Machine>⟧.by) self.old.book self.new.book }
+        ensures idle { result ≡ false → self.new.book ≡ self.old.book }
+    {
+        if self.stopped.is_some() {
+            return false;
+        }
+        let Some(choice) = self.choose(rt, dead) else {
+            self.links.flush(rt);
+            return false;
+        };
+        let end = self.perform(rt, stamps, choice);
+        self.note(end);
+        self.links.flush(rt);
+        true
+    }
+
+    /// Stops where an event failed.
+    fn note(&mut self, end: Result<(), Stop>)
+        ensures { self.new.book ≡ self.old.book }
+    {
+        if let Err(stop) = end {
+            self.stopped = Some(stop);
+        }
+    }
+
+    fn choose<R: Wait>(&mut self, rt: &R, dead: &[bool]) -> Option<Choice<B, L>>
+        ensures book { self.new.book ≡ self.old.book }
+        ensures says { IfSome result (λ c. ClientSays self.new.book.core.id (client_facts self.new.book.core.core) c.event c.message c.said) }
+    {
+        if !self.asked {
+            self.asked = true;
+            if !self.wanted.is_empty() {
+                let chosen = self.want();
+                return self.settle(chosen);
+            }
+        }
+        let chosen = match self.links.take(rt) {
+            Some((worker, packet)) => self.deliver(worker, packet),
+            None => Ok(self.ask(dead)),
+        };
+        self.settle(chosen)
+    }
+
+    /// The choice, or none where there was no memory or the message was refused: the client stops then.
+    fn settle(&mut self, chosen: Result<Option<Choice<B, L>>, Stop>) -> Option<Choice<B, L>>
+        ensures book { self.new.book ≡ self.old.book }
+        ensures same { IfSome result (λ c. chosen ≡ Ok (Some c)) }
+    {
+        match chosen {
+            Ok(choice) => choice,
+            Err(stop) => {
+                self.stopped = Some(stop);
+                None
+            }
+        }
+    }
+
+    /// It wants its keys.
+    fn want(&self) -> Result<Option<Choice<B, L>>, Stop>
+        ensures { IfOk result (λ o. IfSome o (λ c. ClientSays self.now.book.core.id (client_facts self.now.book.core.core) c.event c.message c.said)) }
+    {
+        let Some(core) = self.book.core() else {
+            return Err(Stop::Memory);
+        };
+        let keys = self.wanted.copy()?;
+        let again = self.wanted.copy()?;
+        Ok(Some(Choice {
+            event: Event::Want {
+                client: core.id,
+                keys,
+            },
+            message: None,
+            said: Some(ClientCause::new(ClientEvent::Want(again))),
+            brought: Vec::new(self.alloc),
+        }))
+    }
+
+    /// An ask that is possible, or the end of one to a worker that has ended.
+    fn ask(&self, dead: &[bool]) -> Option<Choice<B, L>>
+        ensures { IfSome result (λ c. ClientSays self.now.book.core.id (client_facts self.now.book.core.core) c.event c.message c.said) }
+    {
+        let core = self.book.core()?;
+        for at in 0..self.links.workers() {
+            let peer = number(at);
+            if core.core.would_ask(peer) {
+                return Some(self.ask_of(core.id, peer));
+            }
+            if is_dead(dead, peer) {
+                if let Some(ask) = core.core.ask_number(peer) {
+                    return Some(self.give_up(core.id, peer, ask));
+                }
+            }
+        }
+        None
+    }
+
+    fn ask_of(&self, id: u32, peer: u32) -> Choice<B, L>
+        ensures { (c : ClientFacts) → ClientSays id c result.event result.message result.said }
+    {
+        Choice {
+            event: Event::SendGather {
+                asker: Asker::Client(id),
+                peer,
+            },
+            message: None,
+            said: Some(ClientCause::new(ClientEvent::Ask { peer })),
+            brought: Vec::new(self.alloc),
+        }
+    }
+
+    fn give_up(&self, id: u32, peer: u32, ask: u64) -> Choice<B, L>
+        ensures event { result.event ≡ event.FailGather (Client id) peer }
+        ensures message { result.message ≡ None }
+        ensures said { result.said ≡ Some (client.GatherFailed peer ask) }
+    {
+        Choice {
+            event: Event::FailGather {
+                asker: Asker::Client(id),
+                peer,
+            },
+            message: None,
+            said: Some(ClientCause::new(ClientEvent::GatherFailed { peer, ask })),
+            brought: Vec::new(self.alloc),
+        }
+    }
+
+    /// Takes a packet of the scheduler, or of a worker by its number.
+    fn deliver(&self, worker: Option<u32>, packet: Packet<B>) -> Result<Option<Choice<B, L>>, Stop>
+        requires { PacketFits L.facts packet }
+        ensures { IfOk result (λ o. IfSome o (λ c. ClientSays self.now.book.core.id (client_facts self.now.book.core.core) c.event c.message c.said)) }
+    {
+        let Some(core) = self.book.core() else {
+            return Err(Stop::Memory);
+        };
+        match worker {
+            None => self.hear(core.id, packet),
+            Some(peer) => self.arrive(core.id, peer, packet),
+        }
+    }
+
+    /// News of the scheduler.
+    #[tactic(auto, using(crate::proofs::Fitting::news_fits))]
+    fn hear(&self, id: u32, packet: Packet<B>) -> Result<Option<Choice<B, L>>, Stop>
+        requires { PacketFits L.facts packet }
+        ensures { IfOk result (λ o. IfSome o (λ c. (f : ClientFacts) → ClientSays id f c.event c.message c.said)) }
+    {
+        let Packet { message, blocks: _ } = packet;
+        let Message::ToClient(news) = message else {
+            return Err(Stop::Refused);
+        };
+        let copy = news.copy()?;
+        Ok(Some(Choice {
+            event: Event::DeliverToClient { client: id },
+            message: Some(Message::ToClient(copy)),
+            said: Some(ClientCause::new(ClientEvent::FromScheduler(news))),
+            brought: Vec::new(self.alloc),
+        }))
+    }
+
+    /// A worker's answer, with its blocks.
+    #[tactic(auto, using(node_links::proofs::Parcels::parcel_fits))]
+    fn arrive(&self, id: u32, peer: u32, packet: Packet<B>) -> Result<Option<Choice<B, L>>, Stop>
+        requires { PacketFits L.facts packet }
+        ensures { IfOk result (λ o. IfSome o (λ c. (f : ClientFacts) → ClientSays id f c.event c.message c.said)) }
+    {
+        let Packet { message, blocks } = packet;
+        let Message::Peer(Peer::Data { ask, found }) = message else {
+            return Err(Stop::Refused);
+        };
+        let copy = found.copy()?;
+        let brought = pair_up(self.alloc, found.as_slice(), &blocks)?;
+        Ok(Some(Choice {
+            event: Event::ArriveGather {
+                asker: Asker::Client(id),
+                peer,
+                ask,
+            },
+            message: Some(Message::Peer(Peer::Data { ask, found: copy })),
+            said: Some(ClientCause::new(ClientEvent::Gathered { peer, ask, found })),
+            brought,
+        }))
+    }
+
+    fn perform<R: Wait>(
+        &mut self,
+        rt: &R,
+        stamps: &mut Stamps,
+        choice: Choice<B, L>,
+    ) -> Result<(), Stop>
+        requires says { ClientSays self.old.book.core.id (client_facts self.old.book.core.core) choice.event choice.message choice.said }
+        ensures recorded { IsRecorded (Steps ⟦<GatheringCore<L> as Machine>⟧.says ⟦<GatheringCore<L> as Machine>⟧.by) self.old.book self.new.book }
+    {
+        let Choice {
+            event,
+            message,
+            said,
+            brought,
+        } = choice;
+        let mut out = ClientOut::new(self.alloc);
+        self.book.record(stamps, event, message, said, &mut out)?;
+        self.blocks.keep(self.book.core(), brought);
+        self.links.post(rt, out)
+    }
+}
+
+/// Whether each of these keys is got, or one of them failed.
+fn all_end(core: &ClientCore, keys: &[u32]) -> bool {
+    for key in keys {
+        match core.done(*key) {
+            Some(End::Got) => {}
+            Some(End::Erred { blame: _ }) => return true,
+            None => return false,
+        }
+    }
+    true
+}
+
+/// The blocks that a client got, by key.
+#[derive(Drop)]
+struct GotBlocks<B: Drop, L: Label<Block = B>> {
+    got: Vec<Option<Keyed<B, L>>>,
+}
+
+impl<B: Drop, L: Label<Block = B>> GotBlocks<B, L> {
+    fn new(alloc: Global, keys: u32) -> Result<Self, AllocError> {
+        let mut got = Vec::with_capacity(alloc, keys as usize)?;
+        for _ in 0..keys {
+            got.push(None)?;
+        }
+        Ok(GotBlocks { got })
+    }
+
+    fn find(&self, key: u32) -> Option<&Keyed<B, L>>
+        ensures { IfSome result (λ keyed. keyed.now.key ≡ key) }
+    {
+        let at = key as usize;
+        if at >= self.got.len() {
+            return None;
+        }
+        match &self.got[at] {
+            Some(keyed) => if keyed.key() == key {
+                Some(keyed)
+            } else {
+                None
+            },
+            None => None,
+        }
+    }
+
+    /// Keeps what came of those keys that the core counts as got.
+    fn keep(&mut self, core: Option<&GatheringCore<L>>, brought: Vec<Keyed<B, L>>) {
+        let Some(core) = core else {
+            return;
+        };
+        for keyed in brought {
+            let at = keyed.key() as usize;
+            if at < self.got.len() && core.core.has_got(keyed.key()) && self.got[at].is_none() {
+                self.got[at] = Some(keyed);
+            }
+        }
+    }
+}
+
+impl<B: Drop, L: Label<Block = B>> Kept for ClientNode<B, L> {
+    type Block = B;
+
+    type Core = GatheringCore<L>;
+
+    ghost use Rattle.std.specs.Prelude.{◌≡◌, false, All, IfSome};
+    ghost use Rattle.std.specs.Arc.{arc_value};
+    ghost use Rattle.cluster_msgs.specs.Labels.{BlockFits};
+    ghost use Rattle.gather_client.specs.CoreState.{client_facts};
+    ghost use Rattle.node_links.specs.Books.{Steps};
+    ghost use Rattle.node_states.specs.Fitting.{ClientFits};
+
+    ghost entries = { λ s. s.book.entries };
+
+    ghost core = { λ s. s.book.core };
+
+    ghost cut = { λ s. s.book.cut };
+
+    ghost steps = { Steps ⟦<GatheringCore<L> as Machine>⟧.says ⟦<GatheringCore<L> as Machine>⟧.by };
+
+    ghost fits = { λ f s. ClientFits f (client_facts s.book.core.core)
+        × All (λ o. IfSome o (λ x. BlockFits f x.key (arc_value x.block))) s.blocks.got.items };
+
+    fn count(&self) -> u64 {
+        self.book.stored()
+    }
+}
+
+/// A turn of a client.
+pub struct ClientTurn<'a, R: Wait> {
+    pub rt: &'a R,
+    pub stamps: &'a mut Stamps,
+    pub dead: &'a [bool],
+}
+
+impl<'a, R: Wait, B: Drop, L: Label<Block = B>> Act<ClientNode<B, L>, L> for ClientTurn<'a, R> {
+    type Out = bool;
+
+    fn act(self, state: &mut ClientNode<B, L>) -> bool {
+        let ClientTurn { rt, stamps, dead } = self;
+        state.serve(rt, stamps, dead)
+    }
+}
