@@ -96,6 +96,16 @@ for chunks in '(64, 64)' '(32, 128)' '(64, (100, 128, 28))' '(64, 256)'; do
     check "data of $command of blocks side by side, $chunks" "$(tail -c 131072 "$name" | od -An -v -t d8 -w8 | tr -d ' ' | cmp - <(seq 0 16383) && echo same)" same
   done
 done
+# a sum over both orders of a square: element i is the sum over k of (4096 k + i) + (4096 i + k)
+printf 'let a = ramp((4096, 4096), 0, 1, (512, 512))\nlet s = sum(a + a.T, axis=(0))\nsave s "b.npy"\n' > "$folder/square.txt"
+for command in run plain 'sim 7'; do
+  rm -f "$name"
+  # shellcheck disable=SC2086
+  (cd "$folder" && set -- $command && "$root/dask" "$1" square.txt ${2-} > /dev/null)
+  check "status of $command of a square" "$?" 0
+  check "bytes of $command of a square" "$(stat -c %s "$name")" 32896
+  check "data of $command of a square" "$(tail -c 32768 "$name" | od -An -v -t d8 -w8 | tr -d ' ' | cmp - <(seq 34359736320 16781312 103079208960) && echo same)" same
+done
 # what is no regular file is no input
 rm "$folder/a.npy" && mkfifo "$folder/a.npy"
 line=$(cd "$folder" && timeout 20 "$root/dask" run job.txt 2>&1)
