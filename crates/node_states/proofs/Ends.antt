@@ -1,13 +1,13 @@
 -- A worker's end stands last in its history, and its core keeps its number.
-use Rattle.std.proofs.Common.{◌≡◌, ◌⊎◌, ◌∙◌, inl, inr, ⊎_elim, ℕ, Bool, true, false, not, ◌&&◌, List, [], ◌∷◌, ◌++◌, Option, Some, None, Result, Ok, Err, OnOk, OnErr, sym, ap, subst, refl, cond, arith}
+use Rattle.std.proofs.Common.{◌≡◌, ◌∙◌, ⊎_elim, ℕ, Bool, true, false, not, ◌&&◌, List, [], ◌∷◌, ◌++◌, Option, None, Result, Ok, Err, OnOk, OnErr, sym, subst, refl, cond, arith}
 use Rattle.std.specs.Prelude.{◌==◌}
 use Rattle.std.proofs.lemmas.Bool.{false≢true}
 use Rattle.cluster_msgs.specs.declared.events.Entry.{Entry}
 use Rattle.cluster_msgs.specs.declared.events.Event.{Event}
 use Rattle.cluster_msgs.specs.declared.events.Event.TheVariants as event
 use Rattle.cluster_msgs.specs.declared.messages.Message.{Message}
-use Rattle.node_links.specs.Books.{BookState, IsRecorded, IsEntered, Steps, StepsBy}
-use Rattle.node_states.specs.Workers.{is_end, no_end, no_entries, ends_last, IsAlive}
+use Rattle.node_links.specs.Books.{BookState, IsRecorded, IsEntered, Steps}
+use Rattle.node_states.specs.Workers.{is_end, no_end, ends_last, IsAlive}
 use Rattle.node_states.proofs.Kept.{kept_by}
 
 both : (b p q : Bool) → (p ≡ true → q ≡ true) → not b && p ≡ true → not b && q ≡ true

@@ -1,13 +1,11 @@
 -- What a packet brings, and what a failure tells.
-use Rattle.std.proofs.Common.{◌≡◌, ℕ, Bool, true, false, Option, Some, None, subst, sym, cond}
+use Rattle.std.proofs.Common.{◌≡◌, ℕ, Bool, true, false, Option, Some, None, subst, cond}
 use Rattle.std.specs.Prelude.{option_map}
 use Rattle.cluster_msgs.specs.Labels.{LabelFacts, MessageFits, ToClientFits, UpFits, BlameFits, PacketFits}
-use Rattle.cluster_msgs.specs.declared.messages.Message.{Message}
 use Rattle.cluster_msgs.specs.declared.messages.Message.TheVariants as message
 use Rattle.cluster_msgs.specs.declared.messages.ToClient.{ToClient}
 use Rattle.cluster_msgs.specs.declared.messages.Up.{Up}
 use Rattle.cluster_msgs.specs.declared.packets.Packet.{Packet}
-use Rattle.cluster_msgs.specs.declared.cores.End.{End}
 use Rattle.cluster_msgs.specs.declared.cores.End.TheVariants.{Got, Erred}
 use Rattle.cluster_rules.specs.Client.{ClientFacts, done}
 use Rattle.node_states.specs.Fitting.{ClientFits}

@@ -1,5 +1,5 @@
 -- What of a node fits the label of its run, beside the blocks that it holds and the packets that wait.
-use Rattle.std.specs.Prelude.{◌≡◌, ℕ, Bool, true, false, List, Option, Some, All}
+use Rattle.std.specs.Prelude.{◌≡◌, ℕ, true, List, Some, All}
 use Rattle.cluster_msgs.specs.Shape.{deps_of}
 use Rattle.cluster_msgs.specs.Labels.{LabelFacts, ErrorFits, BlameFits, UpFits, ToClientFits}
 use Rattle.cluster_msgs.specs.declared.messages.ToClient.{ToClient}

@@ -1,4 +1,4 @@
-use Rattle.std.proofs.Common.{◌≡◌, ℕ, ◌+◌, ◌^◌, ◌≤◌, drop}
+use Rattle.std.proofs.Common.{◌≡◌, ◌+◌, ◌^◌, ◌≤◌, drop}
 use Rattle.scheduler_core.specs.Cores.{facts}
 use Rattle.node_states.specs.Order.{open_from, open_item}
 use Rattle.node_states.proofs.script.open_item.Given as goal

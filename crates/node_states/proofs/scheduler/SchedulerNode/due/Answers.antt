@@ -1,4 +1,4 @@
-use Rattle.std.proofs.Common.{◌≡◌, ℕ, ◌&&◌, ap, ◌∙◌}
+use Rattle.std.proofs.Common.{ℕ, ◌&&◌, ap, ◌∙◌}
 use Rattle.std.specs.Prelude.{◌%◌, ◌==◌, nat_lt}
 use Rattle.cluster_msgs.specs.declared.cores.SchedEvent.TheVariants as sched
 use Rattle.cluster_rules.specs.SchedTable.{sched_takes}
