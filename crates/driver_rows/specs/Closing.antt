@@ -1,5 +1,5 @@
 -- What is known of the states of a row once its cells are closed.
-use Rattle.std.specs.Prelude.{◌≡◌, ℕ, List, Option, Bool}
+use Rattle.std.specs.Prelude.{List, Option, Bool}
 use Rattle.cluster_msgs.specs.declared.events.Entry.{Entry}
 use Rattle.atomic_table.specs.Seated.{TableId}
 use Rattle.turn_cell.specs.Rows.{AllAt, IsClosed}

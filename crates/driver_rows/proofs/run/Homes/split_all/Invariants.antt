@@ -1,4 +1,4 @@
-use Rattle.std.proofs.Common.{◌≡◌, ◌+◌, ◌<◌, ◌≤◌, vec_len}
+use Rattle.std.proofs.Common.{◌≡◌, ◌+◌, ◌≤◌, vec_len}
 use Rattle.driver_rows.proofs.run.Homes.split_all.Given as goal
 
 abbrev pub invariant-loop-homes : goal.invariant-loop-homes
