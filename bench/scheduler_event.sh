@@ -220,7 +220,7 @@ fn time(
 ) -> Result<(), Error> {
     let start = Instant::now(rt)?;
     let is_taken = core.take(event, out);
-    let nanos = start.elapsed(rt)?.as_nanos();
+    let nanos = start.elapsed(rt)?.as_nanos() % 1_000_000_000_000; // a thousand seconds
     if !is_taken {
         times.refused = times.refused.saturating_add(1);
     }
