@@ -1,0 +1,87 @@
+-- What is known of closed cells, of which it is known with which states they were made.
+use Rattle.std.proofs.Common.{◌≡◌, ◌∙◌, ℕ, ◌+◌, ◌<◌, Bool, false, List, [], ◌∷◌, length, get_or, sym, ap, subst, arith}
+use Rattle.std.specs.Prelude.{Option, Some}
+use Rattle.atomic_table.specs.Seated.{TableId}
+use Rattle.cluster_msgs.specs.Labels.{LabelFacts}
+use Rattle.cluster_msgs.specs.Shape.{Shape}
+use Rattle.cluster_msgs.specs.declared.events.Entry.{Entry}
+use Rattle.cluster_rules.specs.Sched.{Facts}
+use Rattle.cluster_rules.specs.Worker.{WorkerFacts}
+use Rattle.cluster_rules.specs.Client.{ClientFacts}
+use Rattle.scheduler_core.specs.Cores.{facts}
+use Rattle.turn_cell.specs.Histories.{Replays}
+use Rattle.node_links.specs.Books.{BookState, Steps}
+use Rattle.driver_rows.specs.Closing.{AreClosed}
+use Rattle.node_states.specs.Fitting.{SchedEventFits, WorkerEventFits, ClientEventFits, ClientFits}
+use Rattle.node_states.specs.Machines.{SchedSays, SchedBy, SchedState, WorkerSays, WorkerBy, ClientSays, ClientBy}
+use Rattle.node_runner.specs.declared.plan.RunPlan.{RunPlan}
+use Rattle.node_runner.specs.Making.{AreMade, HasClosed}
+use Rattle.node_runner.specs.Runs.{IsFirstScheduler, IsFirstWorker, IsFirstClient, IsSchedulersBook, IsWorkersBook, IsClientsBook, SchedSteps, WorkerSteps, ClientSteps, course_of, setting_of}
+use Rattle.node_runner.proofs.NodeHistories.{sched_replays, worker_replays, client_replays}
+
+some_same : {A : Type 0} (a b : A) → Some a ≡ Some b → a ≡ b
+some_same a b e = cc
+
+pub has_closed : {S C : Type 0} (entries : S → List Entry) (core : S → C) (cut : S → Bool) (steps : C → Entry → C → Type 0) (fits : S → Type 0)
+    (P : ℕ → S → Type 0) (count : ℕ) (berths : List (TableId × Option S)) (states : List S) → AreClosed entries core cut steps fits berths states → AreMade P count berths
+    → (k : ℕ) (x : S) → k < length states → HasClosed entries core cut steps fits (P k) (get_or states k x)
+has_closed entries core cut steps fits P count [] states closed made k x less = absurd (omega (arith, closed.each.long))
+has_closed entries core cut steps fits P count (b ∷ bs) states closed made k x less =
+    let here = closed.each.at.each k b x less in
+    let short : k < length (b ∷ bs) = omega (arith, closed.each.long) in
+    let first = made.each k b short in
+    let same : here.0.from ≡ first.0 = some_same here.0.from first.0 (sym here.0.from_is ∙ first.1) in
+    record {
+      first = first.0;
+      began = first.2;
+      replay = λ open_still. subst (λ s. Replays steps (core s) (entries (get_or states k x)) (core (get_or states k x))) same (here.0.replay open_still);
+      ascending = here.0.ascending;
+      fit = here.1;
+    }
+
+module _ {B : Type 0} (l : LabelFacts B) (graph : Shape) where
+  pub schedulers_book : {S : Type 0} (book : S → BookState SchedState) (p : RunPlan) (fits : S → Type 0) (x : S)
+      → HasClosed (λ s. (book s).entries) (λ s. (book s).core) (λ s. (book s).cut)
+        (Steps (λ s. SchedSays (facts s.core)) (λ s e t. (t.plan ≡ s.plan) × SchedBy (facts s.core) e (facts t.core) × SchedEventFits l e))
+        fits (λ s. IsFirstScheduler graph p (book s).core) x
+      → IsSchedulersBook l graph p (book x)
+  schedulers_book book p fits x h =
+      let setting_is : (facts (book h.first).core.core).setting ≡ setting_of graph p = ap (λ (f : Facts). f.setting) h.began.facts_are in
+      let walk : (book x).cut ≡ false → (((book x).core.plan ≡ course_of p) × ((facts (book x).core.core).setting ≡ setting_of graph p)) × Replays (SchedSteps l) (facts (book h.first).core.core) (book x).entries (facts (book x).core.core) =
+          λ open_still. sched_replays l (course_of p) (setting_of graph p) (book h.first).core (book x).core (book x).entries h.began.plan_is setting_is (h.replay open_still) in
+      record {
+        book = record {
+          replays = λ open_still. subst (λ f. Replays (SchedSteps l) f (book x).entries (facts (book x).core.core)) h.began.facts_are (walk open_still).1;
+          ascending = h.ascending;
+        };
+        plan_is = λ open_still. (walk open_still).0.0;
+        setting_is = λ open_still. (walk open_still).0.1;
+      }
+
+  pub workers_book : {S C : Type 0} (book : S → BookState C) (number : C → ℕ) (core : C → WorkerFacts) (threads id : ℕ) (fits : S → Type 0) (x : S)
+      → HasClosed (λ s. (book s).entries) (λ s. (book s).core) (λ s. (book s).cut)
+        (Steps (λ s. WorkerSays (number s) (core s)) (λ s e t. (number t ≡ number s) × WorkerBy (core s) e (core t) × WorkerEventFits l e))
+        fits (λ s. IsFirstWorker graph threads id (number (book s).core) (core (book s).core)) x
+      → IsWorkersBook l graph threads id core (book x)
+  workers_book book number core threads id fits x h = record {
+    book = record {
+      replays = λ open_still. subst (λ w. Replays (WorkerSteps l id) w (book x).entries (core (book x).core)) h.began.facts_are
+          (worker_replays number core l id (book h.first).core (book x).core (book x).entries h.began.number_is (h.replay open_still)).1;
+      ascending = h.ascending;
+    };
+  }
+
+  pub clients_book : {S C : Type 0} (book : S → BookState C) (number : C → ℕ) (core : C → ClientFacts) (fits : S → Type 0) (x : S)
+      → HasClosed (λ s. (book s).entries) (λ s. (book s).core) (λ s. (book s).cut)
+        (Steps (λ s. ClientSays (number s) (core s)) (λ s e t. (number t ≡ number s) × ClientBy (core s) e (core t) × ClientEventFits l e))
+        fits (λ s. IsFirstClient graph (number (book s).core) (core (book s).core)) x
+      → ClientFits l (core (book x).core)
+      → IsClientsBook l graph core (book x)
+  clients_book book number core fits x h fit = record {
+    book = record {
+      replays = λ open_still. subst (λ c. Replays (ClientSteps l) c (book x).entries (core (book x).core)) h.began.facts_are
+          (client_replays number core l (book h.first).core (book x).core (book x).entries h.began.number_is (h.replay open_still)).1;
+      ascending = h.ascending;
+    };
+    fits = fit;
+  }

@@ -1,0 +1,79 @@
+-- What the closed nodes tell of a run.
+use Rattle.std.proofs.Common.{◌≡◌, ◌∙◌, ◌⊎◌, ℕ, zero, suc, ◌+◌, ◌<◌, Bool, true, false, List, [], ◌∷◌, map, length, get_or, refl, sym, ap, subst, inl, inr, ⊎_elim, arith}
+use Rattle.std.specs.Prelude.{Option, Some, None, IfSome, is_some, Result, Ok, Err, Contains}
+use Rattle.std.proofs.lemmas.List.{length-map}
+use Rattle.cluster_msgs.specs.Labels.{LabelFacts, BlameFits}
+use Rattle.cluster_msgs.specs.Shape.{Shape}
+use Rattle.cluster_msgs.specs.declared.events.Entry.{Entry}
+use Rattle.cluster_msgs.specs.declared.events.History.{History}
+use Rattle.cluster_rules.specs.Sched.{Facts, Setting, connected, sched_opening}
+use Rattle.cluster_rules.specs.Worker.{WorkerFacts, new_worker}
+use Rattle.cluster_rules.specs.Client.{ClientFacts}
+use Rattle.scheduler_core.specs.Cores.{facts}
+use Rattle.turn_cell.specs.Histories.{Ascending, Replays}
+use Rattle.turn_cell.specs.Rows.{AllBy}
+use Rattle.node_links.specs.Books.{BookState}
+use Rattle.node_states.specs.Machines.{SchedState}
+use Rattle.node_states.specs.Order.{AreInTime, start_of}
+use Rattle.node_states.specs.declared.why.Why.{Why}
+use Rattle.node_runner.specs.declared.plan.RunPlan.{RunPlan}
+use Rattle.node_runner.specs.declared.ends.RunStatus.{RunStatus}
+use Rattle.node_runner.specs.declared.ends.RunStatus.TheVariants.{Zero, Read, Memory}
+use Rattle.node_runner.specs.declared.ends.Histories.{Histories}
+use Rattle.node_runner.specs.Runs.{IsBookOf, IsTakenFrom, IsHistory, IsSchedulersBook, IsWorkersBook, IsClientsBook, WorkerSteps, ClientSteps, SchedSteps}
+use Rattle.node_runner.specs.Runs.{AreHistories, LastFacts, last_facts, IsLeft, HasCause, IfStatus, IsBlamed, HasRun, course_of, setting_of}
+use Rattle.node_runner.proofs.Places.{all_by_through}
+
+-- a history that was taken from a closed node's book
+pub history_is : {C F : Type 0} (view : C → F) (steps : F → Entry → F → Type 0) (first : F) (b : BookState C) (h : History)
+    → IsBookOf view steps first b → IsTakenFrom b h → IsHistory steps first (view b.core) h
+history_is view steps first b h book taken = record {
+  replays = λ none. subst (λ es. Replays steps first es (view b.core)) (sym taken.entries) (book.replays (sym taken.cut ∙ ap is_some none));
+  ascending = subst Ascending (sym taken.entries) book.ascending;
+}
+
+mapped : {A B : Type 0} (f : B → A) (ys : List B) (k : ℕ) (a : A) (b : B) → k < length ys → get_or (map f ys) k a ≡ f (get_or ys k b)
+mapped f [] k a b less = absurd (omega arith)
+mapped f (y ∷ ys) zero a b less = refl
+mapped f (y ∷ ys) (suc k) a b less = mapped f ys k a b (omega arith)
+
+module _ {B : Type 0} (l : LabelFacts B) (graph : Shape) (p : RunPlan) where
+  -- the histories of the workers, by number
+  pub workers_are : {W C : Type 0} (book : W → BookState C) (core : C → WorkerFacts) (ws : List W) (hs : List History)
+      → ((k : ℕ) (w : W) → k < length ws → IsWorkersBook l graph p.threads (k + 1) core (book (get_or ws k w)))
+      → AllBy (λ k w h. IsTakenFrom (book w) h) ws hs
+      → AllBy (λ k w x. IsHistory (WorkerSteps l (k + 1)) (new_worker graph (k + 1) p.threads) w x) (map (λ w. core (book w).core) ws) hs
+  workers_are book core [] hs books taken = record { long = taken.long; each = λ k a b less. absurd (omega (arith, taken.long)) }
+  workers_are book core (w ∷ ws) hs books taken = record {
+    long = taken.long ∙ sym (length-map (w ∷ ws) (λ v. core (book v).core));
+    each = λ k a b less. let short : k < length (w ∷ ws) = omega (arith, taken.long) in
+        subst (λ v. IsHistory (WorkerSteps l (k + 1)) (new_worker graph (k + 1) p.threads) v (get_or hs k b)) (sym (mapped (λ v. core (book v).core) (w ∷ ws) k a w short))
+        (history_is core (WorkerSteps l (k + 1)) (new_worker graph (k + 1) p.threads) (book (get_or (w ∷ ws) k w)) (get_or hs k b) (books k w short).book (taken.each k w b less));
+  }
+
+  -- the scheduler's entries come in time
+  pub in_time_is : (b : BookState SchedState) (h : History) → IsSchedulersBook l graph p b → IsTakenFrom b h
+      → (b.cut ≡ false → AreInTime b.core.plan (start_of (facts b.core.core).setting) b.entries)
+      → h.cut ≡ None → AreInTime (course_of p) (start_of (setting_of graph p)) h.entries
+  in_time_is b h book taken timed none =
+      let open_still : b.cut ≡ false = sym taken.cut ∙ ap is_some none in
+      subst (λ es. AreInTime (course_of p) (start_of (setting_of graph p)) es) (sym taken.entries)
+      (subst (λ s. AreInTime (course_of p) (start_of s) b.entries) (book.setting_is open_still)
+      (subst (λ q. AreInTime q (start_of (facts b.core.core).setting) b.entries) (book.plan_is open_still) (timed open_still)))
+
+  -- why the workers left, by their histories
+  pub left_is : {W C : Type 0} (f : Facts) (book : W → BookState C) (ws : List W) (hs : List History) (left : List (Option Why))
+      → AllBy (λ k w o. IfSome o (IsLeft p f (k + 1) (book w).entries (book w).cut)) ws left
+      → AllBy (λ k w h. IsTakenFrom (book w) h) ws hs
+      → AllBy (λ k h o. IfSome o (IsLeft p f (k + 1) h.entries (is_some h.cut))) hs left
+  left_is f book ws hs left rows taken = all_by_through (λ k w o. IfSome o (IsLeft p f (k + 1) (book w).entries (book w).cut)) (λ w h. IsTakenFrom (book w) h)
+      (λ k h o. IfSome o (IsLeft p f (k + 1) h.entries (is_some h.cut))) ws hs left
+      (λ k w h o row from. subst (λ (z : List Entry × Bool). IfSome o (IsLeft p f (k + 1) z.0 z.1)) (λ j. (sym from.entries j, sym from.cut j)) row) rows taken
+
+-- the cause of there being no blocks
+pub cause_is : {A B : Type 0} (l : LabelFacts B) (wanted : List ℕ) (f : Facts) (left : List (Option Why)) (blame : Option ℕ) (r : Result A RunStatus)
+    → IfStatus (IsBlamed blame) r → IfSome blame (λ b. (k : ℕ) × Contains wanted k × BlameFits l k b) → IfStatus (HasCause l wanted f left ⊥) r
+cause_is l wanted f left blame (Ok x) is some = tt
+cause_is l wanted f left blame (Err (Zero key)) is some = subst (λ o. IfSome o (λ b. (k : ℕ) × Contains wanted k × BlameFits l k b)) is some
+cause_is l wanted f left blame (Err Read) is some = absurd is
+cause_is l wanted f left blame (Err Memory) is some = tt

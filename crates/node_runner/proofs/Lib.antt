@@ -1,0 +1,9 @@
+pub mod TaskLaw
+pub mod Feeds
+pub mod Replaying
+pub mod NodeHistories
+pub mod Places
+pub mod Ending
+pub mod ClosedRows
+pub mod Made
+pub mod Numbers

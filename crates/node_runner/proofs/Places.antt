@@ -1,0 +1,29 @@
+-- Relations place by place, that know the place.
+use Rattle.std.proofs.Common.{◌≡◌, ℕ, ◌+◌, ◌<◌, List, [], ◌∷◌, ◌++◌, length, get_or, sym, ap, ◌∙◌, subst, refl, arith}
+use Rattle.std.proofs.lemmas.List.{length-append, get_or_append_left, get_or_push}
+use mathlib.Core.Logic.{dite}
+use native.Mathlib.Decide.{ℕ_discrete}
+use Rattle.turn_cell.specs.Rows.{AllBy}
+
+-- one more in both lists
+pub all_by_pushed : {A B : Type 0} (R : ℕ → A → B → Type 0) (xs : List A) (ys : List B) (x : A) (y : B) → AllBy R xs ys → R (length xs) x y → AllBy R (xs ++ x ∷ []) (ys ++ y ∷ [])
+all_by_pushed {A} {B} R xs ys x y h here = record {
+  long = length-append ys (y ∷ []) ∙ ap (λ n. n + 1) h.long ∙ sym (length-append xs (x ∷ []));
+  each = λ k a b less. dite (ℕ_discrete k (length xs))
+      (λ e. subst (λ (z : ℕ × A × B). R z.0 z.1 z.2) (λ j. (sym e j, sym (get_or_push xs x a k (sym e)) j, sym (get_or_push ys y b k (h.long ∙ sym e)) j)) here)
+      (λ n. let short' : k < length xs = omega (arith, length-append ys (y ∷ []), h.long, n) in let short : k < length ys = omega (arith, h.long) in
+      subst (λ (z : A × B). R k z.0 z.1) (λ j. (sym (get_or_append_left xs (x ∷ []) a k short') j, sym (get_or_append_left ys (y ∷ []) b k short) j)) (h.each k a b short));
+}
+
+pub all_by_none : {A B : Type 0} (R : ℕ → A → B → Type 0) → AllBy R [] []
+all_by_none R = record { long = refl; each = λ k a b less. absurd (omega (arith, less)) }
+
+-- what each pair tells of a third
+pub all_by_through : {A B C : Type 0} (R : ℕ → A → C → Type 0) (S : A → B → Type 0) (Q : ℕ → B → C → Type 0) (xs : List A) (ys : List B) (zs : List C)
+    → ((k : ℕ) (a : A) (b : B) (c : C) → R k a c → S a b → Q k b c) → AllBy R xs zs → AllBy (λ _. S) xs ys → AllBy Q ys zs
+all_by_through R S Q [] ys zs f h s = record { long = h.long ∙ sym s.long; each = λ k b c less. absurd (omega (arith, h.long)) }
+all_by_through R S Q (x ∷ xs) ys zs f h s = record {
+  long = h.long ∙ sym s.long;
+  each = λ k b c less. let short : k < length ys = omega (arith, h.long, s.long) in
+      f k (get_or (x ∷ xs) k x) (get_or ys k b) (get_or zs k c) (h.each k x c less) (s.each k x b short);
+}

@@ -1,0 +1,171 @@
+-- How a run by threads ended.
+use Rattle.std.specs.Prelude.{◌≡◌, ◌≢◌, ℕ, ◌+◌, ◌<◌, ◌≤◌, ◌⊎◌, Bool, true, false, List, [], ◌++◌, length, map, sum, slice_index_or, Option, Some, None, IfSome, is_some, Result, Ok, Err, Contains}
+use Rattle.cluster_msgs.specs.Shape.{Shape}
+use Rattle.cluster_msgs.specs.Labels.{LabelFacts, BlameFits}
+use Rattle.cluster_msgs.specs.declared.events.Entry.{Entry}
+use Rattle.cluster_msgs.specs.declared.events.Item.{Item}
+use Rattle.cluster_msgs.specs.declared.events.Item.TheVariants as item
+use Rattle.cluster_msgs.specs.declared.events.History.{History}
+use Rattle.cluster_rules.specs.Sched.{Facts, Setting, connected, sched_opening}
+use Rattle.cluster_rules.specs.Worker.{WorkerFacts, new_worker}
+use Rattle.cluster_rules.specs.Client.{ClientFacts, new_client}
+use Rattle.turn_cell.specs.Histories.{Ascending, Replays}
+use Rattle.turn_cell.specs.Rows.{AllBy}
+use Rattle.node_links.specs.Books.{BookState, Steps}
+use Rattle.node_states.specs.Fitting.{SchedEventFits, WorkerEventFits, ClientEventFits, ClientFits}
+use Rattle.scheduler_core.specs.Cores.{facts}
+use Rattle.node_states.specs.Machines.{SchedState, SchedSays, SchedBy, WorkerSays, WorkerBy, ClientSays, ClientBy}
+use Rattle.node_states.specs.Order.{AreInTime, start_of, joins_of}
+use Rattle.node_states.specs.Workers.{ends_last}
+use Rattle.node_states.specs.declared.choice.Plan.{Plan}
+use Rattle.node_states.specs.declared.why.Why.{Why}
+use Rattle.node_states.specs.declared.why.Why.TheVariants as why
+use Rattle.node_runner.specs.declared.plan.RunPlan.{RunPlan}
+use Rattle.node_runner.specs.declared.ends.RunStatus.{RunStatus}
+use Rattle.node_runner.specs.declared.ends.RunStatus.TheVariants as status
+use Rattle.node_runner.specs.declared.ends.Histories.{Histories}
+
+-- how many worker numbers a run may have: those of the plan, and one for each join of the script
+abbrev pub numbers : RunPlan → ℕ
+numbers p = p.workers + sum (map joins_of p.script)
+
+-- what the scheduler's node goes by
+abbrev pub course_of : RunPlan → Plan
+course_of p = record { workers = p.workers; threads = p.threads; script = p.script }
+
+-- one client, and losses aren't bounded
+abbrev pub setting_of : Shape → RunPlan → Setting
+setting_of graph p = record { shape = graph; clients = 1; saturation = p.saturation; allowed = None }
+
+-- the cores with which the scheduler, worker `id` and the client begin
+pub record IsFirstScheduler (graph : Shape) (p : RunPlan) (c : SchedState) : Type 0 where
+  pub facts_are : facts c.core ≡ sched_opening (setting_of graph p)
+  pub plan_is : c.plan ≡ course_of p
+
+pub record IsFirstWorker (graph : Shape) (threads id number : ℕ) (w : WorkerFacts) : Type 0 where
+  pub number_is : number ≡ id
+  pub facts_are : w ≡ new_worker graph id threads
+
+pub record IsFirstClient (graph : Shape) (number : ℕ) (c : ClientFacts) : Type 0 where
+  pub number_is : number ≡ 1
+  pub facts_are : c ≡ new_client graph
+
+-- what an entry makes of the scheduler's facts, of worker `id`'s and of the client's. What it tells of errors fits the label
+abbrev pub SchedSteps : {B : Type 0} → LabelFacts B → Facts → Entry → Facts → Type 0
+SchedSteps l = Steps SchedSays (λ f e g. SchedBy f e g × SchedEventFits l e)
+
+abbrev pub WorkerSteps : {B : Type 0} → LabelFacts B → ℕ → WorkerFacts → Entry → WorkerFacts → Type 0
+WorkerSteps l id = Steps (WorkerSays id) (λ w e v. WorkerBy w e v × WorkerEventFits l e)
+
+abbrev pub ClientSteps : {B : Type 0} → LabelFacts B → ClientFacts → Entry → ClientFacts → Type 0
+ClientSteps l = Steps (ClientSays 1) (λ c e d. ClientBy c e d × ClientEventFits l e)
+
+-- a history that began with these facts: where no entry was left out it leads to the last ones, one step an entry; and its stamps ascend
+pub record IsHistory {F : Type 0} (steps : F → Entry → F → Type 0) (first last : F) (h : History) : Type 0 where
+  pub replays : h.cut ≡ None → Replays steps first h.entries last
+  pub ascending : Ascending h.entries
+
+-- a closed node's book, as its facts: where no entry was left out, the entries lead from the first facts to those of its core, and the stamps ascend
+pub record IsBookOf {C F : Type 0} (view : C → F) (steps : F → Entry → F → Type 0) (first : F) (b : BookState C) : Type 0 where
+  pub replays : b.cut ≡ false → Replays steps first b.entries (view b.core)
+  pub ascending : Ascending b.entries
+
+-- the scheduler's: what it goes by, and the setting, are as at first
+pub record IsSchedulersBook {B : Type 0} (l : LabelFacts B) (graph : Shape) (p : RunPlan) (b : BookState SchedState) : Type 0 where
+  pub book : IsBookOf (λ c. facts c.core) (SchedSteps l) (sched_opening (setting_of graph p)) b
+  pub plan_is : b.cut ≡ false → b.core.plan ≡ course_of p
+  pub setting_is : b.cut ≡ false → (facts b.core.core).setting ≡ setting_of graph p
+
+-- a worker's, by its number, and the client's
+pub record IsWorkersBook {B C : Type 0} (l : LabelFacts B) (graph : Shape) (threads id : ℕ) (core : C → WorkerFacts) (b : BookState C) : Type 0 where
+  pub book : IsBookOf core (WorkerSteps l id) (new_worker graph id threads) b
+
+pub record IsClientsBook {B C : Type 0} (l : LabelFacts B) (graph : Shape) (core : C → ClientFacts) (b : BookState C) : Type 0 where
+  pub book : IsBookOf core (ClientSteps l) (new_client graph) b
+  pub fits : ClientFits l (core b.core)
+
+-- the history as it was taken from a book
+pub record IsTakenFrom {C : Type 0} (b : BookState C) (h : History) : Type 0 where
+  pub entries : h.entries ≡ b.entries
+  pub cut : is_some h.cut ≡ b.cut
+
+-- what the nodes know at the end: the scheduler, each worker by its number, from 1, and the client
+pub record LastFacts : Type 0 where
+  pub scheduler : Facts
+  pub workers : List WorkerFacts
+  pub client : ClientFacts
+
+abbrev pub last_facts : Facts → List WorkerFacts → ClientFacts → LastFacts
+last_facts f ws c = record { scheduler = f; workers = ws; client = c }
+
+-- the histories of the scheduler, of the workers by number and of the client
+pub record AreHistories {B : Type 0} (l : LabelFacts B) (graph : Shape) (p : RunPlan) (last : LastFacts) (h : Histories) : Type 0 where
+  pub scheduler : IsHistory (SchedSteps l) (sched_opening (setting_of graph p)) last.scheduler h.scheduler
+  pub workers : AllBy (λ k w x. IsHistory (WorkerSteps l (k + 1)) (new_worker graph (k + 1) p.threads) w x) last.workers h.workers.items
+  pub client : IsHistory (ClientSteps l) (new_client graph) last.client h.client
+
+  -- the plan's workers join first, Evict comes after each 64 entries and Balance after each 16 where they have a choice, then the script's items
+  pub in_time : h.scheduler.cut ≡ None → AreInTime (course_of p) (start_of (setting_of graph p)) h.scheduler.entries
+
+-- an item of the script names the worker
+abbrev pub Names : ℕ → Item → Type 0
+Names w (item.Lose v at) = v ≡ w
+Names w (item.Suspect v at) = v ≡ w
+Names w (item.Join at) = ⊥
+
+pub record IsNamed (script : List Item) (w : ℕ) : Type 0 where
+  pub which : Item
+  pub among : Contains script which
+  pub names : Names w which
+
+-- a worker that joined left for this cause: these entries say its end, or one was left out, or it isn't connected any more. By the script only where an
+-- item names it, and by no link's end, which a run in one process doesn't have
+pub record IsLeft (p : RunPlan) (f : Facts) (w : ℕ) (entries : List Entry) (cut : Bool) (cause : Why) : Type 0 where
+  pub joined : w ≤ f.last_worker
+  pub gone : (cut ≡ false → ends_last w entries ≡ true) ⊎ (connected f w ≡ false)
+  pub script : cause ≡ why.Script → IsNamed p.script w
+  pub unlinked : cause ≢ why.Link
+
+-- which workers left, by number from 1, and why
+abbrev pub AreLeft : RunPlan → LastFacts → List History → List (Option Why) → Type 0
+AreLeft p last histories left = AllBy (λ k h o. IfSome o (IsLeft p last.scheduler (k + 1) h.entries (is_some h.cut))) histories left
+
+-- no worker is left: each that joined has a row, none for want of memory
+pub record IsGivenUp (f : Facts) (left : List (Option Why)) : Type 0 where
+  pub each : (k : ℕ) → k < f.last_worker → (cause : Why) × (slice_index_or left k None ≡ Some cause) × (cause ≢ why.Memory)
+
+-- a worker had too few feeds, or a feed that came back has failed
+abbrev pub HasFeedFault : {F : Type 0} → (F → ℕ) → ℕ → List ℕ → List F → Type 0
+HasFeedFault {F} faults threads given back = ((n : ℕ) × Contains given n × (n < threads)) ⊎ ((f : F) × Contains back f × (0 < faults f))
+
+-- the cause of there being no blocks: a wanted key failed and this one is to blame, or no worker was left and a feed had failed. Want of memory is free
+abbrev pub HasCause : {B : Type 0} → LabelFacts B → List ℕ → Facts → List (Option Why) → Type 0 → RunStatus → Type 0
+HasCause l wanted f left Failed (status.Zero blame) = (k : ℕ) × Contains wanted k × BlameFits l k blame
+HasCause l wanted f left Failed status.Read = IsGivenUp f left × Failed
+HasCause l wanted f left Failed status.Memory = Unit {0}
+
+abbrev pub IfStatus : {A : Type 0} → (RunStatus → Type 0) → Result A RunStatus → Type 0
+IfStatus P (Ok x) = Unit {0}
+IfStatus P (Err s) = P s
+
+-- the key to blame was found; or there was none, or want of memory
+abbrev pub IsBlamed : Option ℕ → RunStatus → Type 0
+IsBlamed blame (status.Zero key) = blame ≡ Some key
+IsBlamed blame status.Read = ⊥
+IsBlamed blame status.Memory = Unit {0}
+
+-- how a run ended, of whose nodes this was known at the end
+pub record HasRun {B A : Type 0} (l : LabelFacts B) (graph : Shape) (p : RunPlan) (wanted : List ℕ) (Failed : Type 0) (last : LastFacts)
+    (result : Result A RunStatus) (left : List (Option Why)) (h : Histories) : Type 0 where
+  pub histories : AreHistories l graph p last h
+  pub left_are : AreLeft p last h.workers.items left
+  pub cause : IfStatus (HasCause l wanted last.scheduler left Failed) result
+
+-- a run that couldn't be started, or not be told of, for want of memory
+pub record HasNotRun {A : Type 0} (result : Result A RunStatus) (left : List (Option Why)) : Type 0 where
+  pub memory : result ≡ Err status.Memory
+  pub nobody : left ≡ []
+
+abbrev pub HowItEnded : {B A : Type 0} → LabelFacts B → Shape → RunPlan → List ℕ → Type 0 → Result A RunStatus → List (Option Why) → Option Histories → Type 0
+HowItEnded l graph p wanted Failed result left None = HasNotRun result left
+HowItEnded l graph p wanted Failed result left (Some h) = (last : LastFacts) × HasRun l graph p wanted Failed last result left h

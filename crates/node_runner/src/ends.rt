@@ -1,0 +1,239 @@
+//! How a run ended, as the closed nodes tell.
+ghost use Rattle.std.specs.Prelude.{◌≡◌, ◌≢◌, ◌≤◌, ◌+◌, ◌<◌, ℕ, true, false, None, map, length, slice_index_or, Contains, IfOk, IfSome, Some};
+ghost use Rattle.cluster_msgs.specs.Labels.{BlameFits};
+ghost use Rattle.cluster_rules.specs.Sched.{connected};
+ghost use Rattle.gather_client.specs.CoreState.{client_facts};
+ghost use Rattle.scheduler_core.specs.Cores.{facts};
+ghost use Rattle.turn_cell.specs.Rows.{AllBy};
+ghost use Rattle.worker_core.specs.Core.{facts as worker_facts};
+ghost use Rattle.node_states.specs.Fitting.{ClientFits};
+ghost use Rattle.node_states.specs.declared.why.Why.TheVariants as why;
+ghost use Rattle.node_runner.specs.Runs.{IsGivenUp, IsLeft, IsNamed, IsTakenFrom};
+
+use crate::plan::RunPlan;
+use cluster_msgs::{History, Label};
+use cluster_rules::Facts;
+use node_links::Keyed;
+use node_states::{ClientNode, Feeds, SchedulerNode, Why, WorkerNode};
+use std::alloc::{AllocError, Global};
+
+/// Why a run gave no blocks.
+#[derive(Clone, Copy)]
+pub enum RunStatus {
+    /// A wanted key failed, and this key is to blame: it met a zero divisor.
+    Zero { key: u32 },
+    /// No worker was left, and a feed had failed.
+    Read,
+    /// There was no memory.
+    Memory,
+}
+
+/// The histories of all nodes: the scheduler's, those of the workers by number, and the client's.
+#[derive(Drop)]
+pub struct Histories {
+    pub scheduler: History,
+    pub workers: Vec<History>,
+    pub client: History,
+}
+
+/// How a run ended: with a block of each wanted key, in order, or why there are none; the histories, where it was started and could be told of; for
+/// each worker number why it left, if it did; and the feeds.
+#[derive(Drop)]
+pub struct Ends<B: Drop, L: Label<Block = B>, F: Drop> {
+    pub result: Result<Vec<Keyed<B, L>>, RunStatus>,
+    pub histories: Option<Histories>,
+    pub left: Vec<Option<Why>>,
+    pub feeds: Vec<F>,
+}
+
+/// The blocks of these keys, in order, where the client has all.
+pub fn got<B: Drop, L: Label<Block = B>>(
+    alloc: Global,
+    wanted: &[u32],
+    client: &ClientNode<B, L>,
+) -> Option<Vec<Keyed<B, L>>>
+    ensures { IfSome result (λ blocks. map (λ k. k.key) blocks.items ≡ wanted.now) }
+{
+    let mut blocks = Vec::with_capacity(alloc, wanted.len()).ok()?;
+    for key in wanted {
+        let keyed = client.block(*key)?;
+        blocks.push(keyed.share().ok()?).ok()?;
+    }
+    Some(blocks)
+}
+
+/// The key that is to blame for the first of these keys that failed.
+pub fn first_blame<B: Drop, L: Label<Block = B>>(
+    wanted: &[u32],
+    client: &ClientNode<B, L>,
+) -> Option<u32>
+    requires { ClientFits L.facts (client_facts client.now.book.core.core) }
+    ensures { IfSome result (λ blame. (k : ℕ) × Contains wanted.now k × BlameFits L.facts k blame) }
+{
+    for key in wanted {
+        if let Some(blame) = client.failure(*key) {
+            return Some(blame.blame());
+        }
+    }
+    None
+}
+
+/// For each worker why it left, if it joined and left.
+pub fn all_left<B: Drop, L: Label<Block = B>, F: Drop>(
+    alloc: Global,
+    plan: &RunPlan,
+    scheduler: &SchedulerNode<B, L>,
+    workers: &[WorkerNode<B, L, F>],
+) -> Result<Vec<Option<Why>>, AllocError>
+    ensures { IfOk result (λ left. AllBy (λ k w o. IfSome o (IsLeft plan.now (facts scheduler.now.history.book.core.core) (k + 1) w.history.book.entries w.history.book.cut))
+        workers.now left.items) }
+{
+    let joined = joined(scheduler);
+    let mut left = Vec::new(alloc);
+    for (at, worker) in workers.iter().enumerate() {
+        if at < joined as usize {
+            left.push(why_left(plan, scheduler, worker, at as u32 + 1))?;
+        } else {
+            left.push(None)?;
+        }
+    }
+    Ok(left)
+}
+
+/// How many workers joined, as far as the scheduler goes on.
+fn joined<B: Drop, L: Label<Block = B>>(scheduler: &SchedulerNode<B, L>) -> u32
+    ensures { result ≤ (facts scheduler.now.history.book.core.core).last_worker }
+{
+    match scheduler.joined() {
+        Some(joined) => joined,
+        None => 0,
+    }
+}
+
+/// Why a worker left, if it did: it ended, or isn't connected any more.
+fn why_left<B: Drop, L: Label<Block = B>, F: Drop>(
+    plan: &RunPlan,
+    scheduler: &SchedulerNode<B, L>,
+    worker: &WorkerNode<B, L, F>,
+    id: u32,
+) -> Option<Why>
+    requires joined { id ≤ (facts scheduler.now.history.book.core.core).last_worker }
+    ensures { IfSome result (IsLeft plan.now (facts scheduler.now.history.book.core.core) id worker.now.history.book.entries worker.now.history.book.cut) }
+{
+    if worker.id() == id && worker.ended() {
+        let why = match worker.why() {
+            Some(why) => why,
+            None => Why::Memory,
+        };
+        return Some(told(plan, id, why));
+    }
+    if is_gone(scheduler, id) {
+        return Some(told(plan, id, Why::Script));
+    }
+    None
+}
+
+/// Whether a worker isn't connected, as far as the scheduler goes on.
+fn is_gone<B: Drop, L: Label<Block = B>>(scheduler: &SchedulerNode<B, L>, worker: u32) -> bool
+    ensures { result ≡ true → connected (facts scheduler.now.history.book.core.core) worker ≡ false }
+{
+    match scheduler.history.core() {
+        Some(core) => !core.core().connected(worker),
+        None => false,
+    }
+}
+
+/// The cause as it is told: the script only where an item names the worker, and no link's end, which a run in one process doesn't have.
+fn told(plan: &RunPlan, worker: u32, why: Why) -> Why
+    ensures script { result ≡ why.Script → IsNamed plan.now.script worker }
+    ensures unlinked { result ≢ why.Link }
+{
+    match why {
+        Why::Script => {
+            if plan.names(worker) {
+                Why::Script
+            } else {
+                Why::Memory
+            }
+        }
+        Why::Feed => Why::Feed,
+        Why::Link | Why::Memory => Why::Memory,
+    }
+}
+
+/// Whether each worker that joined left, and none for want of memory. False where the scheduler doesn't go on.
+pub fn is_given_up<B: Drop, L: Label<Block = B>>(
+    scheduler: &SchedulerNode<B, L>,
+    left: &[Option<Why>],
+) -> bool
+    ensures { result ≡ true → IsGivenUp (facts scheduler.now.history.book.core.core) left.now }
+{
+    let Some(joined) = scheduler.joined() else {
+        return false;
+    };
+    for at in 0..joined as usize {
+        if !is_row(left, at) {
+            return false;
+        }
+    }
+    true
+}
+
+/// Whether there is a cause at a place, which isn't want of memory.
+fn is_row(left: &[Option<Why>], at: usize) -> bool
+    ensures { result ≡ true → (cause : _) × (slice_index_or left.now at None ≡ Some cause) × (cause ≢ why.Memory) }
+{
+    match left.get(at) {
+        Some(Some(why)) => match why {
+            Why::Script | Why::Feed | Why::Link => true,
+            Why::Memory => false,
+        },
+        _ => false,
+    }
+}
+
+/// The histories and the feeds of closed workers. No histories where there is no memory for all.
+pub fn take_apart<B: Drop, L: Label<Block = B>, F: Drop>(
+    alloc: Global,
+    workers: Vec<WorkerNode<B, L, F>>,
+) -> (Option<Vec<History>>, Vec<F>)
+    ensures { IfSome result.0 (λ histories. AllBy (λ k w h. IsTakenFrom w.history.book h) workers.items histories.items) }
+{
+    let mut feeds = Vec::new(alloc);
+    let Ok(mut histories) = Vec::with_capacity(alloc, workers.len()) else {
+        return (None, all_feeds(workers, feeds));
+    };
+    let mut whole = true;
+    for worker in workers {
+        let (log, own) = worker.into_parts();
+        histories.push_reserved(log.into_history());
+        whole &= give_back(own, &mut feeds);
+    }
+    if whole {
+        (Some(histories), feeds)
+    } else {
+        (None, feeds)
+    }
+}
+
+/// The feeds of workers alone, as far as there is memory.
+fn all_feeds<B: Drop, L: Label<Block = B>, F: Drop>(
+    workers: Vec<WorkerNode<B, L, F>>,
+    feeds: Vec<F>,
+) -> Vec<F> {
+    let mut feeds = feeds;
+    for worker in workers {
+        let (_, own) = worker.into_parts();
+        give_back(own, &mut feeds);
+    }
+    feeds
+}
+
+/// Adds a worker's feeds. False where there is no memory for one, which is dropped.
+fn give_back<F: Drop>(own: Feeds<F>, feeds: &mut Vec<F>) -> bool {
+    let mut whole = true;
+    for feed in own.into_vec() {
+        whole &= feeds.push(feed).is_ok();
+    }
+    whole
+}

@@ -1,0 +1,153 @@
+//! The turns of the nodes of a run.
+
+use crate::label::{Fed, RunLabel, RunName};
+use crate::tasks::{Lent, Returned, Running};
+use cluster_msgs::JobSpec;
+use driver_rows::{Attends, ClientNews, Schedules, SchedulerNews, WorkerNews, Works};
+use io_edge::Gate;
+use node_states::{
+    ClientNode, ClientTurn, Course, SchedulerNode, SchedulerTurn, TaskEnd, Why, WorkerNode,
+    WorkerTurn,
+};
+use std::sync::Wait;
+use turn_cell::{Act, Stamps};
+
+impl<'a, J: JobSpec, G: Gate, K: RunName<J>> Schedules<SchedulerNode<J::Block, RunLabel<J, K>>, RunLabel<J, K>>
+    for Running<'a, J, G, K> {
+    fn schedule<R: Wait>(
+        &self,
+        rt: &R,
+        state: &mut SchedulerNode<J::Block, RunLabel<J, K>>,
+        stamps: &mut Stamps,
+        ended: &[bool],
+    ) -> SchedulerNews {
+        let turn = SchedulerTurn {
+            rt,
+            stamps,
+            dead: ended,
+        };
+        let course = turn.act(state);
+        news(course, state.joined().unwrap_or(0))
+    }
+}
+
+/// What a scheduler's turn tells, where so many workers have joined.
+fn news(course: Course, joined: u32) -> SchedulerNews {
+    let (moved, lose_first, over) = match course {
+        Course::Moved => (true, None, false),
+        Course::Idle => (false, None, false),
+        Course::LoseFirst(worker) => (false, Some((worker as usize).saturating_sub(1)), false),
+        Course::Over | Course::Stopped => (false, None, true),
+    };
+    SchedulerNews {
+        moved,
+        lose_first,
+        over,
+        joined,
+    }
+}
+
+impl<'a, J: JobSpec, G: Gate, K: RunName<J>>
+    Works<WorkerNode<J::Block, RunLabel<J, K>, Fed<J, K>>, RunLabel<J, K>> for Running<'a, J, G, K> {
+    type Task = Lent<J::Block, RunLabel<J, K>, Fed<J, K>>;
+
+    type Done = Returned<J::Block, RunLabel<J, K>, Fed<J, K>>;
+
+    fn work<R: Wait>(
+        &self,
+        rt: &R,
+        state: &mut WorkerNode<J::Block, RunLabel<J, K>, Fed<J, K>>,
+        stamps: &mut Stamps,
+        joined: bool,
+        ended: &[bool],
+    ) -> WorkerNews<Lent<J::Block, RunLabel<J, K>, Fed<J, K>>> {
+        let worker = state.id();
+        let turn = WorkerTurn {
+            rt,
+            stamps,
+            joined,
+            dead: ended,
+        };
+        let (moved, task) = turn.act(state);
+        let task = match task {
+            Some(task) => Some(Lent { worker, task }),
+            None => None,
+        };
+        WorkerNews {
+            moved,
+            ended: state.ended(),
+            task,
+        }
+    }
+
+    fn lose<R: Wait>(
+        &self,
+        rt: &R,
+        state: &mut WorkerNode<J::Block, RunLabel<J, K>, Fed<J, K>>,
+        stamps: &mut Stamps,
+    ) -> bool {
+        state.end(Why::Script);
+        let turn = WorkerTurn {
+            rt,
+            stamps,
+            joined: true,
+            dead: &[],
+        };
+        turn.act(state);
+        state.ended()
+    }
+
+    fn run(
+        &self,
+        task: Lent<J::Block, RunLabel<J, K>, Fed<J, K>>,
+    ) -> Returned<J::Block, RunLabel<J, K>, Fed<J, K>> {
+        self.run_lent(task)
+    }
+
+    fn take_back<R: Wait>(
+        &self,
+        rt: &R,
+        state: &mut WorkerNode<J::Block, RunLabel<J, K>, Fed<J, K>>,
+        stamps: &mut Stamps,
+        done: Returned<J::Block, RunLabel<J, K>, Fed<J, K>>,
+    ) {
+        let Returned { made, feed } = done;
+        let turn = TaskEnd {
+            rt,
+            stamps,
+            made,
+            feed,
+        };
+        turn.act(state);
+    }
+}
+
+impl<'a, J: JobSpec, G: Gate, K: RunName<J>> Attends<ClientNode<J::Block, RunLabel<J, K>>, RunLabel<J, K>>
+    for Running<'a, J, G, K> {
+    fn attend<R: Wait>(
+        &self,
+        rt: &R,
+        state: &mut ClientNode<J::Block, RunLabel<J, K>>,
+        stamps: &mut Stamps,
+        ended: &[bool],
+    ) -> ClientNews {
+        if state.is_done() {
+            return ClientNews {
+                moved: false,
+                served: true,
+                over: false,
+            };
+        }
+        let turn = ClientTurn {
+            rt,
+            stamps,
+            dead: ended,
+        };
+        let moved = turn.act(state);
+        ClientNews {
+            moved,
+            served: state.is_done(),
+            over: state.stopped().is_some(),
+        }
+    }
+}
