@@ -2,6 +2,7 @@ pub mod Counting
 pub mod Creating
 pub mod Evaluated
 pub mod FilledFiles
+pub mod Filling
 pub mod Halting
 pub mod KeyValues
 pub mod Laws
@@ -13,6 +14,7 @@ pub mod OneHeader
 pub mod Running
 pub mod SavePlaces
 pub mod SavedArrays
+pub mod Saves
 pub mod SavesList
 pub mod SavingSteps
 pub mod Starting

@@ -1,5 +1,6 @@
 pub mod Creating
 pub mod Evaluating
+pub mod Filling
 pub mod Grouping
 pub mod Inputs
 pub mod Jobs
@@ -8,6 +9,7 @@ pub mod Lowering
 pub mod Part
 pub mod Plan
 pub mod Runs
+pub mod Saving
 pub mod Starting
 pub mod Told
 pub mod Values

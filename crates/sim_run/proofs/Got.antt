@@ -31,9 +31,9 @@ use Rattle.job_run.specs.Values.{IsFaulty, MeetsNone, Named, tasks_of}
 use Rattle.job_run.proofs.KeyValues.{has-block, holds-named, lacks-none}
 use Rattle.job_run.proofs.Laws.{saves-there}
 use Rattle.job_run.proofs.SavedArrays.{saved-is}
-use Rattle.sim_run.specs.Filling.{AreBlocksOf, HasBlocks, keys_at, layout_at}
+use Rattle.job_run.specs.Filling.{AreBlocksOf, HasBlocks, keys_at, layout_at}
 use Rattle.sim_run.specs.Jobs.{wanted_of}
-use Rattle.sim_run.specs.Saving.{HasSaves, IsGot}
+use Rattle.job_run.specs.Saving.{HasSaves, IsGot}
 use Rattle.sim_run.specs.Serving.{IsBlockAt}
 use Rattle.sim_run.proofs.Simulating.{HasRun, got_value, have_values, values_in}
 use Rattle.sim_run.proofs.Wanted.{are-wanted, in-flat, needed-small, small-keys}

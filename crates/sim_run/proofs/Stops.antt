@@ -33,7 +33,7 @@ use Rattle.job_run.proofs.Evaluated.{file_saved}
 use Rattle.sim_words.specs.declared.sim.SimWords.{SimWords}
 use Rattle.sim_run.specs.declared.ends.SimEnded.{SimEnded}
 use Rattle.sim_run.specs.Jobs.{wanted_of}
-use Rattle.sim_run.specs.Saving.{SavesLeft, SavesWhole}
+use Rattle.job_run.specs.Saving.{SavesLeft, SavesWhole}
 use Rattle.sim_run.specs.Serving.{EndsAtKey, GotAll, RanStops, ServesAll, ServesPart, Stops, ended_of, job_named}
 use Rattle.sim_run.specs.Simulated.{IsServed, sim_plan}
 use Rattle.sim_run.proofs.Got.{is-faulty, is-got, meets-none}

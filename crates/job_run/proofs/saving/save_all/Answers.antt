@@ -7,9 +7,9 @@ use Rattle.cluster_world.specs.Worlds.{cluster, world}
 use Rattle.saved_files.specs.Saving.{Saving}
 use Rattle.job_run.specs.Jobs.{plan_of}
 use Rattle.job_run.specs.Plan.{Plan}
-use Rattle.sim_run.proofs.Filling.{all-some, from-both}
-use Rattle.sim_run.proofs.Saves.{AreGiven, given-others, saves-left, saves-whole}
-use Rattle.sim_run.proofs.saving.save_all.Goals as goal
+use Rattle.job_run.proofs.Filling.{all-some, from-both}
+use Rattle.job_run.proofs.Saves.{AreGiven, given-others, saves-left, saves-whole}
+use Rattle.job_run.proofs.saving.save_all.Goals as goal
 
 pub returns-clause-whole : goal.returns-clause-whole
 returns-clause-whole g c =

@@ -1,55 +1,48 @@
-//! The blocks that the client got, written into the files of a job's saves.
+// The blocks that a client got, written into the files of a job's saves.
 ghost use Rattle.std.specs.Prelude.{◌≡◌, ◌<◌, ◌≤◌, ℕ, List, length, OnOk, OnErr, IsErrOf};
 ghost use Rattle.io_edge.specs.Cause.{Rose};
 ghost use Rattle.io_edge.specs.View.{OnlyWrites, raised_by};
 ghost use Rattle.chunk_layout.specs.Layouts.{lengths};
-ghost use Rattle.block_lowering.specs.Jobs.{dims_of};
-ghost use Rattle.cluster_world.specs.Worlds.{cluster as cluster_of, world as world_of};
-ghost use Rattle.cluster_world.specs.declared.state.Course.TheVariants.{Going};
 ghost use Rattle.saved_files.specs.Saving.{ChangesAt, saving_at};
 ghost use Rattle.job_run.specs.Evaluating.{HasFailed};
+ghost use Rattle.job_run.specs.Filling.{FillsAll, FillsFirst, FillsSome, FitFiles, HasBlocks, KeepNames};
 ghost use Rattle.job_run.specs.Jobs.{plan_of};
 ghost use Rattle.job_run.specs.Part.{IsNoneOf, RaisedAtMost};
 ghost use Rattle.job_run.specs.Plan.{IsRunnable, names_saved};
-ghost use Rattle.sim_run.specs.Filling.{FillsAll, FillsFirst, FillsSome, FitFiles, HasBlocks, KeepNames};
-ghost use Rattle.sim_run.specs.Saving.{HasSaves, SavesLeft, SavesWhole};
+ghost use Rattle.job_run.specs.Saving.{HasSaves, SavesLeft, SavesWhole};
 
-use block_lowering::{Elements, JobGraph};
+use crate::create::create_files;
+use crate::got::Blocks;
+use crate::job::Job;
 use chunk_layout::Layout;
 use cluster_msgs::KeyList;
-use cluster_world::World;
 use io_edge::{OpenFault, Site};
-use job_run::{Job, create_files};
 use nd_shape::Region;
 use saved_files::{SavedFiles, filled_is_whole};
 use std::alloc::Global;
 
-/// The one client of a simulation.
-pub const CLIENT: u32 = 1;
-
 // Writes the client's blocks of one array into the file at a place.
-fn save_array<S: Site, E: Elements + Send + Sync + Drop>(
+fn save_array<S: Site, B: Blocks>(
     alloc: Global,
-    world: &World<JobGraph<S::In, E>>,
+    blocks: &B,
     files: &mut SavedFiles<S>,
     place: usize,
     keys: &[u32],
     layout: &Layout,
 ) -> Result<(), OpenFault>
-    requires going { world.now.course ≡ Going }
     requires there { place < length files.old }
     requires dims { (saving_at files.old place).dims ≡ lengths layout.now }
-    requires has { HasBlocks layout.now keys.now ((world_of world.now).clients 1).got (dims_of world.now.job.job) }
+    requires has { HasBlocks layout.now keys.now (B.has blocks.now) }
     ensures changes { ChangesAt place files.old files.new }
-    ensures all { OnOk result (FillsFirst layout.now keys.now ((cluster_of world.now).blocks.got 1) (length keys.now)
+    ensures all { OnOk result (FillsFirst layout.now keys.now (B.got blocks.now) (length keys.now)
         (saving_at files.old place).content (saving_at files.new place).content) }
-    ensures part { OnErr result (FillsFirst layout.now keys.now ((cluster_of world.now).blocks.got 1) 0
+    ensures part { OnErr result (FillsFirst layout.now keys.now (B.got blocks.now) 0
         (saving_at files.old place).content (saving_at files.new place).content) }
     ensures failed { IsErrOf result OpenFault.Failed → 0 < (saving_at files.new place).faults }
 {
     let mut region = Region::new();
     for (number, key) in keys.iter().enumerate() {
-        match world.got(CLIENT, *key) {
+        match blocks.block(*key) {
             Some(block) => {
                 layout.block_region(number as u64, &mut region);
                 files.write(alloc, place, &region, block)?;
@@ -61,22 +54,21 @@ fn save_array<S: Site, E: Elements + Send + Sync + Drop>(
 }
 
 // Writes the client's blocks of all saves.
-fn save_arrays<S: Site, E: Elements + Send + Sync + Drop>(
+fn save_arrays<S: Site, B: Blocks>(
     alloc: Global,
-    world: &World<JobGraph<S::In, E>>,
+    blocks: &B,
     files: &mut SavedFiles<S>,
     saved: &[KeyList],
     layouts: &[Layout],
 ) -> Result<(), OpenFault>
-    requires going { world.now.course ≡ Going }
-    requires fit { FitFiles files.old saved.now layouts.now ((world_of world.now).clients 1).got (dims_of world.now.job.job) }
+    requires fit { FitFiles files.old saved.now layouts.now (B.has blocks.now) }
     ensures same { KeepNames files.old files.new }
-    ensures all { OnOk result (FillsAll saved.now layouts.now ((cluster_of world.now).blocks.got 1) files.old files.new) }
-    ensures part { OnErr result (FillsSome saved.now layouts.now ((cluster_of world.now).blocks.got 1) files.old files.new) }
+    ensures all { OnOk result (FillsAll saved.now layouts.now (B.got blocks.now) files.old files.new) }
+    ensures part { OnErr result (FillsSome saved.now layouts.now (B.got blocks.now) files.old files.new) }
     ensures failed { IsErrOf result OpenFault.Failed → HasFailed files.new }
 {
     for (place, keys) in saved.iter().enumerate() {
-        save_array(alloc, world, files, place, keys.as_slice(), &layouts[place])?;
+        save_array(alloc, blocks, files, place, keys.as_slice(), &layouts[place])?;
     }
     Ok(())
 }
@@ -85,20 +77,19 @@ fn save_arrays<S: Site, E: Elements + Send + Sync + Drop>(
 ///
 /// # Errors
 /// `Failed` only where the site's count of write faults rose, and `OutOfMemory` where no memory is left.
-pub fn save_all<S: Site, E: Elements + Send + Sync + Drop>(
+pub fn save_all<S: Site, B: Blocks>(
     alloc: Global,
     site: &mut S,
     job: &Job,
-    world: &World<JobGraph<S::In, E>>,
+    blocks: &B,
     saved: &[KeyList],
     layouts: &[Layout],
 ) -> Result<(), OpenFault>
     requires runs { IsRunnable (plan_of job.now) }
-    requires going { world.now.course ≡ Going }
-    requires has { HasSaves (plan_of job.now) saved.now layouts.now ((world_of world.now).clients 1).got (dims_of world.now.job.job) }
-    ensures whole { OnOk result (SavesWhole (plan_of job.now) saved.now layouts.now ((cluster_of world.now).blocks.got 1)
+    requires has { HasSaves (plan_of job.now) saved.now layouts.now (B.has blocks.now) }
+    ensures whole { OnOk result (SavesWhole (plan_of job.now) saved.now layouts.now (B.got blocks.now)
         (S.view site.old).files (S.view site.new).files) }
-    ensures left { SavesLeft (plan_of job.now) saved.now layouts.now ((cluster_of world.now).blocks.got 1)
+    ensures left { SavesLeft (plan_of job.now) saved.now layouts.now (B.got blocks.now)
         (S.view site.old).files (S.view site.new).files }
     ensures created { OnOk result ((S.view site.new).files.created ≡ raised_by (names_saved (plan_of job.now)) (S.view site.old).files.created) }
     ensures some { RaisedAtMost (names_saved (plan_of job.now)) (S.view site.old).files.created (S.view site.new).files.created }
@@ -111,7 +102,7 @@ pub fn save_all<S: Site, E: Elements + Send + Sync + Drop>(
 {
     filled_is_whole();
     let mut files = create_files(alloc, site, job)?;
-    let done = save_arrays(alloc, world, &mut files, saved, layouts);
+    let done = save_arrays(alloc, blocks, &mut files, saved, layouts);
     files.give(site);
     done
 }

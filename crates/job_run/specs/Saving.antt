@@ -1,5 +1,5 @@
--- The files of a plan's saves, written from what the client got: what the private functions answer.
-use Rattle.std.specs.Prelude.{◌≡◌, ◌<◌, ℕ, List, length, Bool, IsTrue, Option, Some}
+-- The files of a plan's saves, written from what a client got.
+use Rattle.std.specs.Prelude.{◌≡◌, ◌<◌, ℕ, List, length, IsTrue, Option, Some}
 use Rattle.io_edge.specs.View.{Files}
 use Rattle.nd_shape.specs.Block.{Array}
 use Rattle.array_expr.specs.Node.{shape_at}
@@ -8,14 +8,14 @@ use Rattle.saved_files.specs.Filling.{file_of as bytes_of}
 use Rattle.saved_files.specs.Saving.{IsLeft, IsOf}
 use Rattle.job_run.specs.Evaluating.{node_at}
 use Rattle.job_run.specs.Plan.{Plan, name_at, names_saved}
-use Rattle.sim_run.specs.Filling.{AreBlocksOf, HasBlocks, keys_at, layout_at}
+use Rattle.job_run.specs.Filling.{AreBlocksOf, HasBlocks, keys_at, layout_at}
 
 -- lists of keys and layouts, one of each for each save, and the client has all of their blocks
-pub record HasSaves (p : Plan) (saved : List (List ℕ)) (layouts : List (List (List ℕ))) (has : ℕ → Bool) (dims : ℕ → List ℕ) : Type 0 where
+pub record HasSaves (p : Plan) (saved : List (List ℕ)) (layouts : List (List (List ℕ))) (has : ℕ → List ℕ → Type 0) : Type 0 where
   pub keys : length saved ≡ length p.saves
   pub layouts_are : length layouts ≡ length p.saves
   pub shapes : (k : ℕ) → k < length p.saves → shape_at p.nodes (node_at p k) ≡ lengths (layout_at layouts k)
-  pub blocks_are : (k : ℕ) → k < length p.saves → HasBlocks (layout_at layouts k) (keys_at saved k) has dims
+  pub blocks_are : (k : ℕ) → k < length p.saves → HasBlocks (layout_at layouts k) (keys_at saved k) has
 
 -- an array of the lengths of save k, of which the client got the blocks
 pub record IsGot (p : Plan) (saved : List (List ℕ)) (layouts : List (List (List ℕ))) (got : ℕ → Option Array) (k : ℕ) (a : Array) : Type 0 where

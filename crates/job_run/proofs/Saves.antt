@@ -11,9 +11,9 @@ use Rattle.saved_files.specs.Saving.{GivesBack, Saving, saving_at}
 use Rattle.job_run.specs.Evaluating.{AreFresh, AreOpenFor, node_at}
 use Rattle.job_run.specs.Part.{IsNoneOf}
 use Rattle.job_run.specs.Plan.{IsRunnable, Plan, Saved, name_at, names_saved}
-use Rattle.sim_run.specs.Filling.{FillsAll, FillsSome, KeepNames, keys_at, layout_at}
-use Rattle.sim_run.specs.Saving.{HasSaves, IsGot, SavesLeft, SavesWhole}
-use Rattle.sim_run.proofs.Filling.{WholeLaw, part-file, still-told, whole-file}
+use Rattle.job_run.specs.Filling.{FillsAll, FillsSome, KeepNames, keys_at, layout_at}
+use Rattle.job_run.specs.Saving.{HasSaves, IsGot, SavesLeft, SavesWhole}
+use Rattle.job_run.proofs.Filling.{WholeLaw, part-file, still-told, whole-file}
 
 -- files that were created, written, and given back
 pub record AreGiven (p : Plan) (created written : List Saving) (old mid new : Files) : Type 0 where

@@ -1,5 +1,5 @@
--- What the client got of arrays, block by block, and the files that it is written into: what the private functions answer.
-use Rattle.std.specs.Prelude.{◌≡◌, ◌<◌, ◌≤◌, ℕ, List, [], map, length, slice_index, slice_index_or, Bool, true, Option, Some}
+-- What a client got of arrays, block by block, and the files that it is written into: what the private functions answer.
+use Rattle.std.specs.Prelude.{◌≡◌, ◌<◌, ◌≤◌, ℕ, List, [], map, length, slice_index, slice_index_or, Option, Some}
 use Rattle.std.specs.List.{range_with_len}
 use Rattle.io_edge.specs.Content.{Content}
 use Rattle.nd_shape.specs.Block.{Array}
@@ -19,10 +19,9 @@ layout_at layouts k = slice_index_or layouts k []
 -- ## One array
 
 -- the client has a block of each of these keys, one for each block of the layout, and with its lengths
-pub record HasBlocks (layout : List (List ℕ)) (keys : List ℕ) (has : ℕ → Bool) (dims : ℕ → List ℕ) : Type 0 where
+pub record HasBlocks (layout : List (List ℕ)) (keys : List ℕ) (has : ℕ → List ℕ → Type 0) : Type 0 where
   pub count : length keys ≡ blocks layout
-  pub there : (c : ℕ) → c < length keys → has (slice_index keys c) ≡ true
-  pub shapes : (c : ℕ) → c < length keys → dims (slice_index keys c) ≡ (region layout c).lengths
+  pub there : (c : ℕ) → c < length keys → has (slice_index keys c) (region layout c).lengths
 
 -- what the client got of these keys are an array's blocks
 pub record AreBlocksOf (a : Array) (layout : List (List ℕ)) (keys : List ℕ) (got : ℕ → Option Array) : Type 0 where
@@ -40,11 +39,11 @@ pub record FillsFirst (layout : List (List ℕ)) (keys : List ℕ) (got : ℕ �
 -- ## All arrays
 
 -- open files, one for each list of keys
-pub record FitFiles (files : List Saving) (saved : List (List ℕ)) (layouts : List (List (List ℕ))) (has : ℕ → Bool) (dims : ℕ → List ℕ) : Type 0 where
+pub record FitFiles (files : List Saving) (saved : List (List ℕ)) (layouts : List (List (List ℕ))) (has : ℕ → List ℕ → Type 0) : Type 0 where
   pub keys : length saved ≡ length files
   pub layouts_are : length layouts ≡ length files
   pub shapes : (k : ℕ) → k < length files → (saving_at files k).dims ≡ lengths (layout_at layouts k)
-  pub blocks_are : (k : ℕ) → k < length files → HasBlocks (layout_at layouts k) (keys_at saved k) has dims
+  pub blocks_are : (k : ℕ) → k < length files → HasBlocks (layout_at layouts k) (keys_at saved k) has
 
 -- the files have the names that they had
 pub record KeepNames (old new : List Saving) : Type 0 where

@@ -6,8 +6,8 @@ use Rattle.chunk_layout.specs.Layouts.{counts, lengths}
 use Rattle.lowering_laws.proofs.Formed.{box-part}
 use Rattle.cluster_world.specs.Worlds.{cluster}
 use Rattle.saved_files.specs.Saving.{Saving, saving_at}
-use Rattle.sim_run.proofs.Filling.{always-err, changes-then, fills-cut, fills-next}
-use Rattle.sim_run.proofs.saving.save_array.Goals as goal
+use Rattle.job_run.proofs.Filling.{always-err, changes-then, fills-cut, fills-next}
+use Rattle.job_run.proofs.saving.save_array.Goals as goal
 
 pub write-requires-clause-inside : goal.write-requires-clause-inside
 write-requires-clause-inside g c κs within =

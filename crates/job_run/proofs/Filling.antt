@@ -13,7 +13,7 @@ use Rattle.chunk_layout.proofs.Parting.{in-region}
 use Rattle.saved_files.specs.Filling.{Cover, HoldsBox, IsCovered, IsFilling, IsPart, box_of, file_of}
 use Rattle.npy_region.specs.Writing.{Turns}
 use Rattle.saved_files.specs.Saving.{ChangesAt, IsOf, Saving, saving_at}
-use Rattle.sim_run.specs.Filling.{AreBlocksOf, FillsAll, FillsFirst, FillsSome, FilledBelow, KeepNames, boxes_to, keys_at, layout_at}
+use Rattle.job_run.specs.Filling.{AreBlocksOf, FillsAll, FillsFirst, FillsSome, FilledBelow, KeepNames, boxes_to, keys_at, layout_at}
 
 pub always-err : {T E X : Type 0} (r : Result T E) → X → OnErr r X
 always-err (Ok x) h = tt

@@ -1,8 +1,8 @@
 use Rattle.std.proofs.Common.{◌≡◌, ◌<◌, length}
 use Rattle.cluster_world.specs.Worlds.{cluster}
 use Rattle.saved_files.specs.Saving.{ChangesAt, saving_at}
-use Rattle.sim_run.specs.Filling.{FillsFirst}
-use Rattle.sim_run.proofs.saving.save_array.Given as goal
+use Rattle.job_run.specs.Filling.{FillsFirst}
+use Rattle.job_run.proofs.saving.save_array.Given as goal
 
 abbrev pub invariant-loop-number : goal.invariant-loop-number
 invariant-loop-number g l = record {
