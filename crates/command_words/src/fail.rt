@@ -1,11 +1,11 @@
-//! Why words ask for no simulation.
+//! Why words ask for no run or simulation.
 ghost use Rattle.std.specs.Prelude.{◌≡◌};
 ghost use Rattle.command_words.specs.declared.fail.WordsFail.TheVariants.{OutOfMemory};
 
 use std::alloc::AllocError;
 use thiserror::Error;
 
-/// Why no simulation was read.
+/// Why no run or simulation was read.
 #[derive(Clone, Copy, Debug, Error, Drop)]
 pub enum WordsFail {
     #[error("words")]

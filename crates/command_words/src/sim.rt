@@ -1,15 +1,16 @@
-//! All words of the command.
+//! All words of `sim`.
 ghost use Rattle.std.specs.Prelude.{◌≡◌, ◌-◌, ◌^◌, ℕ, [], IfOk, IfErr, bytes_eq, codes, map, slice_index_or, string_bytes, MatchOption};
 ghost use Rattle.command_words.specs.Numbers.{IsNumber};
-ghost use Rattle.command_words.specs.Options.{AreOptions, HasNumber};
-ghost use Rattle.command_words.specs.Words.{IsSettings, IsSim, IsWhy, HasScript, IsNotGiven};
+ghost use Rattle.command_words.specs.Options.{AreOptions};
+ghost use Rattle.command_words.specs.Words.{IsSettings, IsSim, IsWhy};
 ghost use Rattle.command_words.specs.declared.sim.Settings.{Settings as AnySettings};
+ghost use Rattle.command_words.specs.declared.verb.Verb.TheVariants.{Sim};
 
 use crate::fail::WordsFail;
 use crate::numbers::number_in;
-use crate::options::{are_options, number_of, place_of};
-use crate::script::read_script;
-use crate::walk::is_walk;
+use crate::options::are_options;
+use crate::settings::{settings_of, walk_of};
+use crate::verb::Verb;
 use cluster_msgs::Script;
 use std::alloc::Global;
 
@@ -44,54 +45,31 @@ fn seed_of(word: &str) -> Option<u64>
     u64::try_from(number).ok()
 }
 
-// A number from 1 that an option gives, or the one that is taken without it.
-fn setting_of(words: &[String], name: &str, most: u32, default: u32) -> Option<u32>
-    requires options { AreOptions (map string_bytes words.now) }
-    ensures { MatchOption result ((n : ℕ) → ¬ HasNumber (map string_bytes words.now) name.now 1 most default n) (HasNumber (map string_bytes words.now) name.now 1 most default) }
-{
-    let number = number_of(words, name, 1, u128::from(most), u128::from(default))?;
-    u32::try_from(number).ok()
-}
-
 // All numbers.
-fn settings_of(words: &[String]) -> Option<Settings>
-    requires options { AreOptions (map string_bytes words.now) }
+fn settings_of_sim(words: &[String]) -> Option<Settings>
+    requires options { AreOptions Sim (map string_bytes words.now) }
     ensures { MatchOption result ((s : AnySettings) → ¬ IsSettings (map string_bytes words.now) s) (IsSettings (map string_bytes words.now)) }
 {
+    let number = seed_of(words[2].as_str())?;
+    let run = settings_of(words, Verb::Sim)?;
     Some(Settings {
-        number: seed_of(words[2].as_str())?,
-        workers: setting_of(words, "--workers", 64, 4)?,
-        threads: setting_of(words, "--threads", 16, 2)?,
-        saturation: setting_of(words, "--saturation", 1000, 11)?,
+        number,
+        workers: run.workers,
+        threads: run.threads,
+        saturation: run.saturation,
     })
-}
-
-// The script that an option gives, or the empty one.
-fn script_of(alloc: Global, words: &[String]) -> Result<Script, WordsFail>
-    requires options { AreOptions (map string_bytes words.now) }
-    ensures script { IfOk result (HasScript (map string_bytes words.now)) }
-    ensures refused { IfErr result (IsNotGiven (map string_bytes words.now)) }
-{
-    match place_of(words, "--script") {
-        Some(place) => read_script(alloc, words[4 + 2 * place].as_str()),
-        None => Ok(Script::new(alloc)),
-    }
 }
 
 // The script that can be followed from these settings.
 fn with_settings(alloc: Global, words: &[String], settings: Settings) -> Result<SimWords, WordsFail>
     requires command { slice_index_or (map string_bytes words.now) 0 [] ≡ codes "sim" }
-    requires options { AreOptions (map string_bytes words.now) }
+    requires options { AreOptions Sim (map string_bytes words.now) }
     requires settings { IsSettings (map string_bytes words.now) settings }
     ensures said { IfOk result (IsSim (map string_bytes words.now)) }
     ensures refused { IfErr result (IsWhy (map string_bytes words.now)) }
 {
-    let script = script_of(alloc, words)?;
-    if is_walk(alloc, settings.workers, settings.threads, &script)? {
-        Ok(SimWords { settings, script })
-    } else {
-        Err(WordsFail::Refused)
-    }
+    let script = walk_of(alloc, words, Verb::Sim, settings.workers, settings.threads)?;
+    Ok(SimWords { settings, script })
 }
 
 /// What the words `sim JOB NUMBER` with their options say.
@@ -107,10 +85,10 @@ pub fn read_sim(alloc: Global, words: &[String]) -> Result<SimWords, WordsFail>
     ensures said { IfOk result (IsSim (map string_bytes words.now)) }
     ensures refused { IfErr result (IsWhy (map string_bytes words.now)) }
 {
-    if !are_options(words) || !is_sim(words[0].as_str()) {
+    if !are_options(words, Verb::Sim) || !is_sim(words[0].as_str()) {
         return Err(WordsFail::Refused);
     }
-    match settings_of(words) {
+    match settings_of_sim(words) {
         Some(settings) => with_settings(alloc, words, settings),
         None => Err(WordsFail::Refused),
     }
