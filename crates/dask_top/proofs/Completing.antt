@@ -20,11 +20,11 @@ use Rattle.job_text.specs.declared.error.JobError.{JobError}
 use Rattle.job_text.specs.declared.error.JobKind.TheVariants as Kinds
 use Rattle.job_text.specs.Jobs.{Parts, IsJob, IsRefused}
 use Rattle.dask_top.specs.declared.answer.End.{End}
-use Rattle.sim_words.specs.declared.sim.SimWords.{SimWords}
+use Rattle.command_words.specs.declared.sim.SimWords.{SimWords}
 use Rattle.sim_run.specs.declared.ends.SimEnded.{SimEnded}
 use Rattle.sim_run.specs.declared.ends.SimEnded.TheVariants as SimEnds
 use Rattle.sim_run.specs.Ends.{Cause as SimCause, WhereTold}
-use Rattle.sim_words.proofs.Saying.{one_sim}
+use Rattle.command_words.proofs.Saying.{one_sim}
 use Rattle.dask_top.specs.declared.answer.End.TheVariants.{Words, Job, Limit, Graph, Events, Turns, Done, File, Zero, ReadFault, WriteFault, OutOfMemory}
 use Rattle.dask_top.specs.Answers.{Answers, AskedDoes, Performs}
 use Rattle.dask_top.specs.Commands.{Command, Run, Plain, Sim, Asks, Asked, IsAsked, Known, Unread, Work, Evaluation, Simulation, sources_of, work_of}

@@ -6,9 +6,9 @@ use Rattle.std.proofs.lemmas.Bool.{false≢true}
 use Rattle.std.proofs.lemmas.List.{length-map}
 use Rattle.std.proofs.lemmas.Slice.Eq.{bytes_eq-Decides}
 use Rattle.io_edge.specs.View.{View, OnlyErr}
-use Rattle.sim_words.specs.declared.sim.SimWords.{SimWords}
-use Rattle.sim_words.specs.Options.{HasNumber}
-use Rattle.sim_words.specs.Words.{IsSim}
+use Rattle.command_words.specs.declared.sim.SimWords.{SimWords}
+use Rattle.command_words.specs.Options.{HasNumber}
+use Rattle.command_words.specs.Words.{IsSim}
 use Rattle.sim_run.specs.Simulated.{AreSettings}
 use Rattle.dask_top.specs.declared.answer.End.{End}
 use Rattle.dask_top.specs.declared.answer.End.TheVariants.{Words, OutOfMemory}

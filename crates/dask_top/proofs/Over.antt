@@ -4,7 +4,7 @@ use Rattle.std.specs.Prelude.{IfSome}
 use Rattle.io_edge.specs.View.{Files}
 use Rattle.job_run.specs.Inputs.{InputsFit, told_all}
 use Rattle.job_run.specs.Plan.{Plan}
-use Rattle.sim_words.specs.declared.sim.SimWords.{SimWords}
+use Rattle.command_words.specs.declared.sim.SimWords.{SimWords}
 use Rattle.sim_run.specs.Ends.{PrintsServed, WhereTold}
 use Rattle.sim_run.specs.Jobs.{IsTextJob}
 use Rattle.sim_run.specs.Simulated.{IsServed, SimulatesTo}

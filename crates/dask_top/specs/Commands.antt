@@ -1,7 +1,7 @@
 -- The commands of the program, and the words that ask for them.
 use Rattle.std.specs.Prelude.{◌≡◌, ◌⊎◌, ℕ, List, [], ◌∷◌, codes, length, slice_index_or, Option, Some, None}
-use Rattle.sim_words.specs.declared.sim.SimWords.{SimWords}
-use Rattle.sim_words.specs.Words.{IsSim}
+use Rattle.command_words.specs.declared.sim.SimWords.{SimWords}
+use Rattle.command_words.specs.Words.{IsSim}
 
 pub data Command : Type 0 where
   -- run the job in the file of this name

@@ -10,7 +10,7 @@ use Rattle.job_run.specs.Values.{MeetsNone, NeedsFault}
 use Rattle.plain_eval.specs.Eval.{held_in}
 use Rattle.sim_run.specs.Jobs.{IsTextJob}
 use Rattle.sim_run.specs.Simulated.{IsOutOfEvents, SimulatesTo}
-use Rattle.sim_words.specs.declared.sim.SimWords.{SimWords}
+use Rattle.command_words.specs.declared.sim.SimWords.{SimWords}
 use Rattle.dask_top.specs.Commands.{Command, Asks, Work, Evaluation, Simulation, sources_of, work_of}
 use Rattle.dask_top.specs.Reading.{Reads}
 

@@ -13,7 +13,7 @@ use Rattle.job_text.specs.declared.error.JobKind.TheVariants as Kinds
 use Rattle.sim_run.specs.declared.ends.SimEnded.{SimEnded}
 use Rattle.sim_run.specs.declared.ends.SimEnded.TheVariants as SimEnds
 use Rattle.sim_run.specs.Ends.{Cause as SimCause, Saves as SimSaves, Created as SimCreated, Prints as SimPrints}
-use Rattle.sim_words.specs.declared.sim.SimWords.{SimWords}
+use Rattle.command_words.specs.declared.sim.SimWords.{SimWords}
 use Rattle.dask_top.specs.declared.answer.End.{End}
 use Rattle.dask_top.specs.declared.answer.End.TheVariants.{Job, Limit, ReadFault, OutOfMemory}
 use Rattle.dask_top.specs.Commands.{Work, Evaluation, Simulation}

@@ -1,6 +1,6 @@
 // The words of the command `sim`.
 use cluster_msgs::Item;
-use sim_words::{SimWords, read_sim};
+use command_words::{SimWords, read_sim};
 use std::alloc::{AllocError, Global};
 use std::io;
 

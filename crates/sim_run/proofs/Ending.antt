@@ -23,7 +23,7 @@ use Rattle.job_run.proofs.Counting.{raised_at_most}
 use Rattle.job_run.proofs.Naming.{OpenInputs, on_named}
 use Rattle.job_run.proofs.Running.{HaveAccepted, left_before, lowering_runs, most_before, reading_runs, rose_before}
 use Rattle.job_run.proofs.Told.{on_told, told_fact}
-use Rattle.sim_words.specs.declared.sim.SimWords.{SimWords}
+use Rattle.command_words.specs.declared.sim.SimWords.{SimWords}
 use Rattle.sim_run.specs.declared.ends.SimEnded.{SimEnded}
 use Rattle.sim_run.specs.declared.ends.SimEnded.TheVariants.{Events, Turns, Ran}
 use Rattle.sim_run.specs.Ends.{Cause, Created, Opened, PrintsServed, Prints, RanCause, RanCreated, RanPrints, RanSaves, Saves, SimulatesPlan, WhereTold}

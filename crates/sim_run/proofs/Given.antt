@@ -12,7 +12,7 @@ use Rattle.job_run.specs.declared.ends.Ended.TheVariants.{Done, Limit, File, Zer
 use Rattle.job_run.specs.Part.{AreLeft, AreWhole}
 use Rattle.job_run.specs.Plan.{Plan, names_saved}
 use Rattle.job_run.specs.Values.{Named, files_of}
-use Rattle.sim_words.specs.declared.sim.SimWords.{SimWords}
+use Rattle.command_words.specs.declared.sim.SimWords.{SimWords}
 use Rattle.sim_run.specs.declared.ends.SimEnded.{SimEnded}
 use Rattle.sim_run.specs.declared.ends.SimEnded.TheVariants.{Events, Turns, Ran}
 use Rattle.sim_run.specs.Serving.{IsBare, SavesFiles, ServesAll, ServesFiles, ServesPart, Stops}

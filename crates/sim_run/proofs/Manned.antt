@@ -20,7 +20,7 @@ use Rattle.cluster_sim.proofs.WorldKeeps.{joins, world_keeps}
 use Rattle.cluster_sim.proofs.CourseLemmas.{moved_world}
 use Rattle.cluster_sim.proofs.NextLemmas.{progress_is}
 use Rattle.cluster_sim.specs.Simulations.{IsSimulated}
-use Rattle.sim_words.specs.Walks.{Crew, without, joined, after_item, after_items, crew_of, TakesOneOf, IsItemAt, IsWalk}
+use Rattle.command_words.specs.Walks.{Crew, without, joined, after_item, after_items, crew_of, TakesOneOf, IsItemAt, IsWalk}
 
 -- ## Who is there
 

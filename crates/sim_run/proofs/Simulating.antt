@@ -30,8 +30,8 @@ use Rattle.lowering_laws.specs.Lowered.{lowered, source_at, lowering}
 use Rattle.lowering_laws.specs.Named.{LawOfNames, layout_of}
 use Rattle.lowering_laws.specs.Whole.{saved_key}
 use Rattle.lowering_laws.proofs.NamesLaw.{names-law}
-use Rattle.sim_words.specs.declared.sim.SimWords.{SimWords}
-use Rattle.sim_words.specs.Walks.{joins_in}
+use Rattle.command_words.specs.declared.sim.SimWords.{SimWords}
+use Rattle.command_words.specs.Walks.{joins_in}
 use Rattle.sim_run.specs.Simulated.{AreSettings, running, sim_plan}
 use Rattle.sim_run.proofs.Reached.{all-valued}
 use Rattle.sim_run.proofs.Wanted.{flat, in-flat}

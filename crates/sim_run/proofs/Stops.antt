@@ -30,7 +30,7 @@ use Rattle.job_run.specs.Part.{AreLeft}
 use Rattle.job_run.specs.Plan.{IsRunnable, Plan, Saved, name_at, names_saved, nodes_saved}
 use Rattle.job_run.specs.Values.{MeetsNone, Named, files_of, tasks_of}
 use Rattle.job_run.proofs.Evaluated.{file_saved}
-use Rattle.sim_words.specs.declared.sim.SimWords.{SimWords}
+use Rattle.command_words.specs.declared.sim.SimWords.{SimWords}
 use Rattle.sim_run.specs.declared.ends.SimEnded.{SimEnded}
 use Rattle.sim_run.specs.Jobs.{wanted_of}
 use Rattle.job_run.specs.Saving.{SavesLeft, SavesWhole}

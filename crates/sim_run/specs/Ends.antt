@@ -12,7 +12,7 @@ use Rattle.job_run.specs.Inputs.{InputsFit, InputRefused, told_all}
 use Rattle.job_run.specs.Part.{IsNoneOf}
 use Rattle.job_run.specs.Plan.{Plan, names_saved}
 use Rattle.job_run.specs.Runs.{HasFault, HasValues, IsSmall, Cause as RunCause, Saves as RunSaves, Opened as RunOpened, Created as RunCreated, PrintsFront, Looked}
-use Rattle.sim_words.specs.declared.sim.SimWords.{SimWords}
+use Rattle.command_words.specs.declared.sim.SimWords.{SimWords}
 use Rattle.sim_run.specs.declared.ends.SimEnded.{SimEnded}
 use Rattle.sim_run.specs.declared.ends.SimEnded.TheVariants.{Events, Turns, Ran}
 use Rattle.sim_run.specs.Jobs.{IsTextJob}

@@ -10,7 +10,7 @@ use Rattle.job_run.specs.Inputs.{InputsFit}
 use Rattle.job_run.specs.Plan.{Plan, nodes_saved}
 use Rattle.job_run.specs.Runs.{IsSmall}
 use Rattle.job_run.specs.Values.{Named, OnInputs, tasks_of}
-use Rattle.sim_words.specs.declared.sim.SimWords.{SimWords}
+use Rattle.command_words.specs.declared.sim.SimWords.{SimWords}
 use Rattle.sim_run.specs.Simulated.{running}
 
 -- the keys of all saved blocks, save by save

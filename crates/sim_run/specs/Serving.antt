@@ -17,7 +17,7 @@ use Rattle.job_run.specs.Part.{AreLeft, AreWhole, IsNoneOf, RaisedAtMost}
 use Rattle.job_run.specs.Plan.{Plan, names_saved, nodes_saved}
 use Rattle.job_run.specs.Runs.{IsSmall}
 use Rattle.job_run.specs.Values.{Named, IsFaulty, MeetsNone, files_of, index_of, tasks_of}
-use Rattle.sim_words.specs.declared.sim.SimWords.{SimWords}
+use Rattle.command_words.specs.declared.sim.SimWords.{SimWords}
 use Rattle.sim_run.specs.declared.ends.SimEnded.{SimEnded}
 use Rattle.sim_run.specs.declared.ends.SimEnded.TheVariants.{Events, Turns, Ran}
 use Rattle.sim_run.specs.declared.serving.Wanted.{Wanted}

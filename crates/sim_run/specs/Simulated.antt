@@ -9,8 +9,8 @@ use Rattle.cluster_sim.specs.Quiet.{IsPastBound}
 use Rattle.cluster_sim.specs.Simulations.{IsReported, IsExhausted, IsUnfinished}
 use Rattle.cluster_rules.specs.Runs.{event_limit}
 use Rattle.cluster_laws.specs.Blocks.{job_of, setting_of}
-use Rattle.sim_words.specs.Walks.{joins_in, IsWalk}
-use Rattle.sim_words.specs.declared.sim.SimWords.{SimWords}
+use Rattle.command_words.specs.Walks.{joins_in, IsWalk}
+use Rattle.command_words.specs.declared.sim.SimWords.{SimWords}
 
 -- settings that can be followed: with 1 to 64 workers at the start and at most 64 more by the script, of 1 to 16 threads each
 pub record AreSettings (s : SimWords) : Type 0 where

@@ -23,11 +23,11 @@ use chunk_layout::Layout;
 use cluster_msgs::{JobSpec, KeyList, Report, Sequence};
 use cluster_sim::{SimError, SimPlan, simulate};
 use cluster_world::World;
+use command_words::SimWords;
 use io_edge::{OpenFault, Site};
 use job_run::{Ended, Halt, Inputs, Job, halt_at, laws_hold};
 use lowering_laws::laws::law_of_form;
 use nd_shape::Dims;
-use sim_words::SimWords;
 use std::alloc::{AllocError, Global};
 
 /// What a simulation gave whose client got all: the report, and how many turns it took.

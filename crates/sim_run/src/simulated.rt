@@ -7,9 +7,9 @@ ghost use Rattle.sim_run.specs.Simulated.{AreSettings};
 use crate::ends::SimEnded;
 use crate::lines::lines;
 use crate::serving::serve;
+use command_words::SimWords;
 use io_edge::{Failed, Site, print_full};
 use job_run::{Ended, Job, lower_job, open_inputs};
-use sim_words::SimWords;
 use std::alloc::Global;
 use std::marker::Brand;
 

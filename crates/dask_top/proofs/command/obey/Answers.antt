@@ -1,7 +1,7 @@
 use Rattle.std.proofs.Common.{map, string_bytes, take, drop, get_or, codes, [], refl, sym, ◌∙◌, subst}
 use Rattle.std.proofs.lemmas.Slice.Eq.{bytes_eq-Decides}
-use Rattle.sim_words.specs.Words.{IsWhy}
-use Rattle.sim_words.specs.declared.fail.WordsFail.{WordsFail}
+use Rattle.command_words.specs.Words.{IsWhy}
+use Rattle.command_words.specs.declared.fail.WordsFail.{WordsFail}
 use Rattle.dask_top.proofs.Obeying.{is_long, not_sim, performed, refused_words, second, simulated, unread_words}
 use Rattle.dask_top.proofs.command.obey.Goals as goal
 

@@ -1,7 +1,0 @@
--- No option that was passed has the name.
-use Rattle.std.proofs.Common.{◌≢◌, ◌<◌, ℕ, map, string_bytes}
-use Rattle.sim_words.specs.Options.{name_at}
-use Rattle.sim_words.proofs.options.place_of.Given as goal
-
-abbrev pub invariant-loop-place : goal.invariant-loop-place
-invariant-loop-place l = (i : ℕ) → i < l.place → name_at (map string_bytes l.words) i ≢ l.name
