@@ -1,0 +1,80 @@
+-- How a run of a job by threads ends, why it ends so, and what it leaves.
+use Rattle.std.specs.Prelude.{◌≡◌, ◌⊎◌, ◌++◌, ℕ, List, codes}
+use Rattle.io_edge.specs.Cause.{Rose}
+use Rattle.io_edge.specs.Content.{followed_by}
+use Rattle.io_edge.specs.Given.{GivesMore}
+use Rattle.io_edge.specs.View.{View, Files}
+use Rattle.command_words.specs.declared.run.RunWords.{RunWords}
+use Rattle.job_run.specs.declared.ends.Ended.{Ended}
+use Rattle.job_run.specs.declared.ends.Ended.TheVariants.{Done, Limit, File, Zero, ReadFault, WriteFault, OutOfMemory}
+use Rattle.job_run.specs.Inputs.{InputsFit}
+use Rattle.job_run.specs.Part.{IsNoneOf, RaisedAtMost}
+use Rattle.job_run.specs.Plan.{Plan, names_saved}
+use Rattle.job_run.specs.Runs.{AreUntouched, HasFault, HasValues, IsSmall, Cause as RunCause, Saves as RunSaves, Created as RunCreated, PrintsFront}
+use Rattle.job_run.specs.Values.{saved_lines}
+use Rattle.thread_run.specs.Counts.{RaisedBetween, feeds, repeated}
+
+-- Why a run ends so. A zero divisor is met by some needed block: not always the first. Files are created only where all values are there.
+abbrev pub Cause : Plan → View → View → Ended → Type 0
+Cause p old new (Zero node block) = IsSmall p × HasFault p old.files node block
+Cause p old new WriteFault = IsSmall p × HasValues p old.files × (Rose old.write_faults new.write_faults ⊎ Rose old.print_faults new.print_faults)
+Cause p old new end = RunCause p old new end
+
+-- The saved files: as a run of the same job in the calling thread leaves them, and as they were where the client didn't get all.
+abbrev pub Saves : Plan → Files → Files → Ended → Type 0
+Saves p old new (Zero node block) = new.held ≡ old.held
+Saves p old new ReadFault = new.held ≡ old.held
+Saves p old new end = RunSaves p old new end
+
+-- the names that are opened to read the heads of the inputs, and all that may be opened: these, and once more each for each feed
+abbrev pub openings : Plan → RunWords → List (List ℕ)
+openings p w = p.inputs ++ repeated (feeds w) p.inputs
+
+-- How often each name was opened: at most so often as its name stands in `all`, and where the inputs were accepted at least so often as in `names`.
+-- None before the limits are known to be kept, and none for a feed where an input is refused.
+abbrev pub Opened : List (List ℕ) → List (List ℕ) → (List ℕ → ℕ) → (List ℕ → ℕ) → Ended → Type 0
+Opened names all old new Done = RaisedBetween names all old new
+Opened names all old new (Limit quantity) = new ≡ old
+Opened names all old new (File place error) = RaisedAtMost names old new
+Opened names all old new (Zero node block) = RaisedBetween names all old new
+Opened names all old new WriteFault = RaisedBetween names all old new
+Opened names all old new end = RaisedAtMost all old new
+
+-- the same of creations: none before the client got all
+abbrev pub Created : List (List ℕ) → (List ℕ → ℕ) → (List ℕ → ℕ) → Ended → Type 0
+Created names old new (Zero node block) = new ≡ old
+Created names old new ReadFault = new ≡ old
+Created names old new end = RunCreated names old new end
+
+-- the lines on standard output
+abbrev pub lines_of : Plan → List ℕ
+lines_of p = saved_lines p.nodes p.saves ++ codes "finished by: cluster\n"
+
+abbrev pub Prints : Plan → View → View → Ended → Type 0
+Prints p old new Done = new.out ≡ followed_by old.out (lines_of p)
+Prints p old new WriteFault = PrintsFront p old new (lines_of p)
+Prints p old new end = new.out ≡ old.out
+
+-- each name was opened between so often and so often, the inputs are as declared, and no limit is passed
+pub record IsAccepted (p : Plan) (names all : List (List ℕ)) (old new : Files) : Type 0 where
+  pub opened : RaisedBetween names all old.opened new.opened
+  pub inputs : InputsFit p old
+  pub small : IsSmall p
+
+-- whatever the end: where a file was touched, all of these names were opened, and the inputs are accepted
+abbrev pub Looked : Plan → List (List ℕ) → List (List ℕ) → Files → Files → Type 0
+Looked p names all old new = AreUntouched old new ⊎ IsAccepted p names all old new
+
+-- what a run of a job by threads does
+pub record RunsByThreads (p : Plan) (w : RunWords) (old new : View) (end : Ended) : Type 0 where
+  pub cause : Cause p old new end
+  pub saves : Saves p old.files new.files end
+  pub looked : Looked p p.inputs (openings p w) old.files new.files
+  pub others : (n : List ℕ) → IsNoneOf n (names_saved p) → new.files.held n ≡ old.files.held n
+  pub tells : new.files.tells ≡ old.files.tells
+  pub opened : Opened p.inputs (openings p w) old.files.opened new.files.opened end
+  pub created : Created (names_saved p) old.files.created new.files.created end
+  pub prints : Prints p old new end
+  pub gave : GivesMore old.gave new.gave
+  pub err : new.err ≡ old.err
+  pub note_faults : new.note_faults ≡ old.note_faults

@@ -1,0 +1,17 @@
+//! Runs of jobs by a cluster of threads, over any site.
+//!
+//! Below it stand `node_runner` with the cluster, `block_lowering` with the job that it runs, `job_run`, which lowers, opens, reads
+//! heads, creates and saves, and `command_words`, with what the words of the command say. The program's top call stands above. It
+//! carries its share of *value correctness*: that the saved files have exactly the bytes of the sequential evaluation's files, and
+//! for each other end its cause, whatever the threads do. No file is opened before the job's graph is known to pass no limit, and
+//! none is created before the client got all.
+#![tactic(auto)]
+
+mod feeds;
+mod lines;
+mod run;
+mod serving;
+mod table;
+mod veil;
+
+pub use run::run_by_threads;
