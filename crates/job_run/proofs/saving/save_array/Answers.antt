@@ -4,7 +4,6 @@ use Rattle.nd_shape.specs.Region.{Box, IsPart}
 use Rattle.nd_shape.proofs.Places.{index_at-in}
 use Rattle.chunk_layout.specs.Layouts.{counts, lengths}
 use Rattle.lowering_laws.proofs.Formed.{box-part}
-use Rattle.cluster_world.specs.Worlds.{cluster}
 use Rattle.saved_files.specs.Saving.{Saving, saving_at}
 use Rattle.job_run.proofs.Filling.{always-err, changes-then, fills-cut, fills-next}
 use Rattle.job_run.proofs.saving.save_array.Goals as goal
@@ -23,7 +22,7 @@ returns-in_err-write-in-Some-clause-part g c =
     let mid = saving_at c.loop-number.files c.args.place in
     let new = saving_at c.write.new.self c.args.place in
     always-err c.from_residual.result
-    (fills-cut c.args.layout.now c.args.keys.now ((cluster c.args.world.now).blocks.got 1) c.loop-number.number mid.dims c.block_region.new.out c.in-Some.block.now old.content mid.content new.content c.loop-number-test.true
+    (fills-cut c.args.layout.now c.args.keys.now (g.B.Blocks.got c.args.blocks.now) c.loop-number.number mid.dims c.block_region.new.out c.in-Some.block.now old.content mid.content new.content c.loop-number-test.true
     (sym c.in-Some.ensures.block) (c.loop-number.invariant.changes.dims_are ∙ c.requires.dims) c.block_region.ensures c.loop-number.invariant.fills c.in_err-write-in-Some.ensures.part)
 
 pub loop-number-preserved : goal.loop-number-preserved
@@ -33,6 +32,6 @@ loop-number-preserved g c =
     let new = saving_at c.write.new.self c.args.place in
     record {
       changes = changes-then c.args.place c.args.files.now c.loop-number.files c.write.new.self c.loop-number.invariant.changes c.write.ensures.changes;
-      fills = fills-next c.args.layout.now c.args.keys.now ((cluster c.args.world.now).blocks.got 1) c.loop-number.number mid.dims c.block_region.new.out c.in-Some.block.now old.content mid.content new.content c.loop-number-test.true
+      fills = fills-next c.args.layout.now c.args.keys.now (g.B.Blocks.got c.args.blocks.now) c.loop-number.number mid.dims c.block_region.new.out c.in-Some.block.now old.content mid.content new.content c.loop-number-test.true
           (sym c.in-Some.ensures.block) (c.loop-number.invariant.changes.dims_are ∙ c.requires.dims) c.block_region.ensures c.loop-number.invariant.fills c.in_ok-write-in-Some.ensures.filled;
     }
