@@ -2,7 +2,7 @@ use Rattle.std.proofs.Common.{◌≡◌, ℕ, List, Option, Some, arith, ap, sym
 use Rattle.std.proofs.lemmas.Result.{err_from_is_err_and}
 use Rattle.nd_shape.specs.Region.{Box, IsPart}
 use Rattle.nd_shape.proofs.Places.{index_at-in}
-use Rattle.chunk_layout.specs.Layouts.{counts, lengths}
+use Rattle.chunk_layout.specs.Layouts.{counts, lengths, region}
 use Rattle.lowering_laws.proofs.Formed.{box-part}
 use Rattle.saved_files.specs.Saving.{Saving, saving_at}
 use Rattle.job_run.proofs.Filling.{always-err, changes-then, fills-cut, fills-next}
@@ -15,6 +15,15 @@ write-requires-clause-inside g c κs within =
     let B : Box → Type 0 = λ b. IsPart b (lengths layout) in
     let D : List ℕ → Type 0 = λ ns. IsPart c.block_region.new.out ns in
     subst D (sym (c.loop-number.invariant.changes.dims_are ∙ c.requires.dims)) (subst B (sym c.block_region.ensures) part)
+
+pub write-requires-clause-shape : goal.write-requires-clause-shape
+write-requires-clause-shape g c κs within =
+    let layout = c.args.layout.now in
+    let S : Box → Type 0 = λ b. c.in-Some.block.now.shape ≡ b.lengths in
+    subst S (sym c.block_region.ensures) (c.in-Some.ensures.there (region layout c.loop-number.number).lengths (c.requires.has.there c.loop-number.number c.loop-number-test.true))
+
+pub unreachable-requires : goal.unreachable-requires
+unreachable-requires g c = c.in-None.ensures.there (region c.args.layout.now c.loop-number.number).lengths (c.requires.has.there c.loop-number.number c.loop-number-test.true)
 
 pub returns-in_err-write-in-Some-clause-part : goal.returns-in_err-write-in-Some-clause-part
 returns-in_err-write-in-Some-clause-part g c =
