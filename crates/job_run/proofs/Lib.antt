@@ -14,6 +14,7 @@ pub mod OneHeader
 pub mod Running
 pub mod SavePlaces
 pub mod SavedArrays
+pub mod SavedBlocks
 pub mod Saves
 pub mod SavesList
 pub mod SavingSteps

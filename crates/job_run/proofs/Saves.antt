@@ -1,4 +1,4 @@
--- The files of a plan's saves: created, written from what the client got, and given back.
+-- The files of a plan's saves: created, written from what a client got, and given back.
 use Rattle.std.proofs.Common.{◌≡◌, ℕ, ◌<◌, ◌≤◌, List, length, ap, sym, ◌∙◌, subst, inl, inr, arith, Option, Some, Bool, false}
 use Rattle.std.specs.Prelude.{IfSome, IsSome, bytes_eq}
 use Rattle.std.proofs.lemmas.List.{length-map}
@@ -42,9 +42,9 @@ module _ (p : Plan) (created written : List Saving) (old mid new : Files) (r : A
   held_at : (k : ℕ) → k < length p.saves → new.held (name_at (names_saved p) k) ≡ told_bytes (saving_at written k).content
   held_at k lt = ap new.held (sym (name_is k lt)) ∙ r.gives.held apart k (omega (arith, lt, count))
 
-  pub saves-whole : (saved : List (List ℕ)) (layouts : List (List (List ℕ))) (got : ℕ → Option Array) (has : ℕ → Bool) (dims : ℕ → List ℕ) → WholeLaw → HasSaves p saved layouts has dims → FillsAll saved layouts got created written →
+  pub saves-whole : (saved : List (List ℕ)) (layouts : List (List (List ℕ))) (got : ℕ → Option Array) (has : ℕ → List ℕ → Type 0) → WholeLaw → HasSaves p saved layouts has → FillsAll saved layouts got created written →
       SavesWhole p saved layouts got old new
-  saves-whole saved layouts got has dims law h fills k a lt is tells =
+  saves-whole saved layouts got has law h fills k a lt is tells =
       let f = r.fresh k lt in
       held_at k lt
       ∙ whole-file law (layout_at layouts k) (keys_at saved k) got (shape_at p.nodes (node_at p k)) a (saving_at created k).content (saving_at written k).content is.lengths_are is.blocks_are (h.blocks_are k lt).count f.filling

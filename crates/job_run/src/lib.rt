@@ -4,7 +4,8 @@
 //! the outside of `io_edge`, and the program's commands stand on it. It carries that a run saves exactly the sequential
 //! evaluation's files, byte for byte, and that each other end of it has its cause: the first limit that the graph would pass,
 //! the first input that isn't as declared, the first needed block that meets a zero divisor, or a count of faults that rose. It
-//! opens nothing before the limits are kept, and creates nothing before all inputs are accepted.
+//! opens nothing before the limits are kept, and creates nothing before all inputs are accepted. Runs by a cluster save by it what
+//! their client got.
 #![tactic(auto)]
 
 mod blocks;

@@ -1,11 +1,9 @@
 pub mod Appending
 pub mod Ending
-pub mod Filling
 pub mod Given
 pub mod Got
 pub mod Manned
 pub mod Reached
-pub mod Saves
 pub mod Simulating
 pub mod Stops
 pub mod Wanted

@@ -36,7 +36,7 @@ use Rattle.sim_run.specs.Jobs.{wanted_of}
 use Rattle.job_run.specs.Saving.{SavesLeft, SavesWhole}
 use Rattle.sim_run.specs.Serving.{EndsAtKey, GotAll, RanStops, ServesAll, ServesPart, Stops, ended_of, job_named}
 use Rattle.sim_run.specs.Simulated.{IsServed, sim_plan}
-use Rattle.sim_run.proofs.Got.{is-faulty, is-got, meets-none}
+use Rattle.sim_run.proofs.Got.{is-faulty, meets-none, saves-got}
 use Rattle.sim_run.proofs.Manned.{manned_at_end}
 use Rattle.sim_run.proofs.Simulating.{HasRun}
 
@@ -125,7 +125,7 @@ module _ {J F : Type 0} (p : Plan) (s : SimWords) (named : Named) (told : Type 0
     left-right t k lt =
         let l : k < length p.saves = omega (arith, lt, many) in
         let L : List ℕ → Type 0 = λ bytes. IsLeft (name_at (names_saved p) k) bytes before after in
-        subst L (file_saved p named k l) (leaves k (array_at p named k) l (is-got p named new r.runs r.laws (r.run t) saved layouts keys layouts_are k l))
+        subst L (file_saved p named k l) (leaves k (array_at p named k) l (saves-got p named new r.runs r.laws (r.run t) saved layouts keys layouts_are k l))
 
     pub serves-all : SavesWhole p saved layouts ((cluster new).blocks.got 1) before after → after.created ≡ raised_by (names_saved p) before.created → ServesAll p s named told before after report turns
     serves-all whole created = record {
@@ -133,7 +133,7 @@ module _ {J F : Type 0} (p : Plan) (s : SimWords) (named : Named) (told : Type 0
       values = values;
       whole = λ t tells k lt.
           let l : k < length p.saves = omega (arith, lt, many) in
-          whole k (array_at p named k) l (is-got p named new r.runs r.laws (r.run t) saved layouts keys layouts_are k l) tells ∙ ap Some (file_saved p named k l);
+          whole k (array_at p named k) l (saves-got p named new r.runs r.laws (r.run t) saved layouts keys layouts_are k l) tells ∙ ap Some (file_saved p named k l);
       left = left-right;
       created = created;
     }

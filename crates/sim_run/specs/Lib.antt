@@ -1,7 +1,6 @@
+pub mod Client
 pub mod Ends
-pub mod Filling
 pub mod Jobs
-pub mod Saving
 pub mod Serving
 pub mod Simulated
 pub mod Texts

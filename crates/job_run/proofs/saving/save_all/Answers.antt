@@ -2,8 +2,6 @@ use Rattle.std.proofs.Common.{ℕ, List, Option}
 use Rattle.std.proofs.lemmas.Result.{on_ok_weaker}
 use Rattle.io_edge.specs.View.{Files}
 use Rattle.nd_shape.specs.Block.{Array}
-use Rattle.block_lowering.specs.Jobs.{dims_of}
-use Rattle.cluster_world.specs.Worlds.{cluster, world}
 use Rattle.saved_files.specs.Saving.{Saving}
 use Rattle.job_run.specs.Jobs.{plan_of}
 use Rattle.job_run.specs.Plan.{Plan}
@@ -21,7 +19,7 @@ returns-clause-whole g c =
     let new : Files = (g.S.Site.view c.give.new.site).files in
     let given : AreGiven p created written old mid new = record { runs = c.requires.runs; open_is = c.in_ok-files.ensures.open; fresh = c.in_ok-files.ensures.fresh; same = c.save_arrays-done.ensures.same; gives = c.give.ensures.gives } in
     on_ok_weaker c.save_arrays-done.result
-    (saves-whole p created written old mid new given c.args.saved.now c.args.layouts.now ((cluster c.args.world.now).blocks.got 1) ((world c.args.world.now).clients 1).got (dims_of c.args.world.now.job.job) c.filled_is_whole.ensures c.requires.has)
+    (saves-whole p created written old mid new given c.args.saved.now c.args.layouts.now (g.B.Blocks.got c.args.blocks.now) (g.B.Blocks.has c.args.blocks.now) c.filled_is_whole.ensures c.requires.has)
     c.save_arrays-done.ensures.all
 
 pub returns-clause-left : goal.returns-clause-left
@@ -33,7 +31,7 @@ returns-clause-left g c =
     let mid : Files = (g.S.Site.view c.create_files.new.site).files in
     let new : Files = (g.S.Site.view c.give.new.site).files in
     let given : AreGiven p created written old mid new = record { runs = c.requires.runs; open_is = c.in_ok-files.ensures.open; fresh = c.in_ok-files.ensures.fresh; same = c.save_arrays-done.ensures.same; gives = c.give.ensures.gives } in
-    let got : ℕ → Option Array = (cluster c.args.world.now).blocks.got 1 in
+    let got : ℕ → Option Array = g.B.Blocks.got c.args.blocks.now in
     saves-left p created written old mid new given c.args.saved.now c.args.layouts.now got
     (from-both c.save_arrays-done.result (on_ok_weaker c.save_arrays-done.result (all-some c.args.saved.now c.args.layouts.now got created written) c.save_arrays-done.ensures.all) c.save_arrays-done.ensures.part)
 

@@ -24,7 +24,7 @@ use Rattle.sim_run.specs.declared.ends.SimEnded.{SimEnded}
 use Rattle.sim_run.specs.Jobs.{wanted_of}
 use Rattle.sim_run.specs.Serving.{Stops, ended_of, job_named}
 use Rattle.sim_run.specs.Simulated.{sim_plan}
-use Rattle.sim_run.proofs.Got.{has-run, has-saves, wanted-for}
+use Rattle.sim_run.proofs.Got.{has-all, has-run, wanted-for}
 use Rattle.sim_run.proofs.Stops.{HasServed, blamed-at, feed-rose, got-all, job-is, left-right, of-plan, part-bare, serves-all, stops-by, zero-stops}
 use Rattle.sim_run.proofs.serving.simulate_world.Given.{Over}
 use Rattle.sim_run.proofs.serving.simulate_world.Goals as goal
@@ -80,7 +80,7 @@ save_all-requires-clause-has g c κs within =
     let laws : HasLaws p g.E.Elements.named = c.laws_hold.ensures g.E.Elements.named in
     let new = c.simulate.new.world in
     let tasks : new.job.job.tasks ≡ tasks_of p = (λ i. (c.in-Ok.ensures.stays.job i).job.tasks) ∙ c.requires.tasks in
-    has-saves p c.as_slice.result.now c.as_slice-2.result.now ((world new).clients 1).got (dims_of new.job.job) c.requires.runs laws.expression (c.as_slice.ensures ∙ c.requires.wanted.saved_is) (c.as_slice-2.ensures ∙ c.requires.wanted.layouts_are)
+    has-all p new (dims_of new.job.job) c.as_slice.result.now c.as_slice-2.result.now c.requires.runs laws.expression (c.as_slice.ensures ∙ c.requires.wanted.saved_is) (c.as_slice-2.ensures ∙ c.requires.wanted.layouts_are) c.in-Ok.ensures.going
     (λ k e. c.in-Ok.ensures.all.0 c.in-None.is k (subst (λ ks. is_in k ks ≡ true) (sym c.requires.wanted.all_is) e)) (λ k. ap (λ (ts : List Task). result_shape (task_at ts k).spec) tasks)
 
 -- what the simulation came to, where the client got all
