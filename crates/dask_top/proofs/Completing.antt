@@ -20,19 +20,21 @@ use Rattle.job_text.specs.declared.error.JobError.{JobError}
 use Rattle.job_text.specs.declared.error.JobKind.TheVariants as Kinds
 use Rattle.job_text.specs.Jobs.{Parts, IsJob, IsRefused}
 use Rattle.dask_top.specs.declared.answer.End.{End}
+use Rattle.command_words.specs.declared.run.RunWords.{RunWords}
 use Rattle.command_words.specs.declared.sim.SimWords.{SimWords}
 use Rattle.sim_run.specs.declared.ends.SimEnded.{SimEnded}
 use Rattle.sim_run.specs.declared.ends.SimEnded.TheVariants as SimEnds
 use Rattle.sim_run.specs.Ends.{Cause as SimCause, WhereTold}
+use Rattle.thread_run.specs.Ends.{Cause as ThreadCause}
 use Rattle.command_words.proofs.Saying.{one_sim}
 use Rattle.dask_top.specs.declared.answer.End.TheVariants.{Words, Job, Limit, Graph, Events, Turns, Done, File, Zero, ReadFault, WriteFault, OutOfMemory}
 use Rattle.dask_top.specs.Answers.{Answers, AskedDoes, Performs}
-use Rattle.dask_top.specs.Commands.{Command, Run, Plain, Sim, Asks, Asked, IsAsked, Known, Unread, Work, Evaluation, Simulation, sources_of, work_of}
+use Rattle.dask_top.specs.Commands.{Command, Run, Plain, Sim, Asks, Asked, IsAsked, Known, Unread, Work, Running, Evaluation, Simulation, sources_of, work_of}
 use Rattle.dask_top.specs.Completing.{Completes, EndsByInputs, EndsBySimulation, EndsByTexts, EndsByWork, MeetNoZero, MeetZero, NeverEnds, NoFault}
 use Rattle.dask_top.specs.Ends.{run_end, sim_end, status_of}
 use Rattle.dask_top.specs.Reading.{IsRead, Reading, Reads, plan_said}
 use Rattle.dask_top.specs.Telling.{end_of, sim_end_of}
-use Rattle.dask_top.specs.Works.{Does, Evaluates, RefusalCause, Simulates, UnreadCause, WorkDoes}
+use Rattle.dask_top.specs.Works.{Does, Evaluates, RefusalCause, Runs, Simulates, UnreadCause, WorkDoes}
 
 told_and : {A : Type 0} (o : Option A) (P Q : A → Type 0) → IsSomeAnd o P → IfSome o Q → (x : A) × P x × Q x
 told_and None P Q both if = absurd both
@@ -117,6 +119,7 @@ sim_memory p said old = record {
 }
 
 memory_ends : (work : Work) (p : Plan) (old : View) → EndsByWork work p old 8
+memory_ends (Running said) p old = run_memory p old
 memory_ends Evaluation p old = run_memory p old
 memory_ends (Simulation said) p old = sim_memory p said old
 
@@ -193,6 +196,15 @@ fault_ends p old node block small has = record {
   none = λ s f m. absurd (not_faulty p old.files node block m has);
 }
 
+threads_complete : (p : Plan) (old new : View) (end : Ended) → NoFault old new → ThreadCause p old new end → EndsByInputs p old (status_of (end_of end))
+threads_complete p old new RunEnds.Done faults cause = run_completes p old new RunEnds.Done faults cause
+threads_complete p old new (RunEnds.Limit quantity) faults cause = run_completes p old new (RunEnds.Limit quantity) faults cause
+threads_complete p old new (RunEnds.File place error) faults cause = run_completes p old new (RunEnds.File place error) faults cause
+threads_complete p old new (RunEnds.Zero node block) faults cause = fault_ends p old node block cause.0 cause.1
+threads_complete p old new RunEnds.ReadFault faults cause = absurd (faults.read cause.1)
+threads_complete p old new RunEnds.WriteFault faults cause = absurd (elim cause.2 [ inl w ↦ faults.write w | inr q ↦ faults.print q ])
+threads_complete p old new RunEnds.OutOfMemory faults cause = run_memory p old
+
 sim_run_completes : (p : Plan) (said : SimWords) (old new : View) (end : Ended) → NoFault old new → SimCause p said old new (SimEnds.Ran end) → EndsByInputs p old (status_of (end_of end))
 sim_run_completes p said old new RunEnds.Done faults cause = run_completes p old new RunEnds.Done faults cause
 sim_run_completes p said old new (RunEnds.Limit quantity) faults cause = run_completes p old new (RunEnds.Limit quantity) faults cause
@@ -239,6 +251,7 @@ of_sim P Q f (Job error) holds = absurd holds
 of_sim P Q f (Limit quantity) holds = absurd holds
 
 work_completes : (work : Work) (sources : List (List ℕ)) (p : Plan) (old new : View) (end : End) → NoFault old new → WorkDoes work sources p old new end → EndsByWork work p old (status_of end)
+work_completes (Running said) sources p old new end faults does = of_run (Runs sources p said old new) (EndsByInputs p old) (λ e d. threads_complete p old new e faults d.cause) end does
 work_completes Evaluation sources p old new end faults does = of_run (Evaluates sources p old new) (EndsByInputs p old) (λ e d. run_completes p old new e faults d.cause) end does
 work_completes (Simulation said) sources p old new end faults does = of_sim (Simulates sources p said old new) (EndsBySimulation p said old) (λ e d. sim_completes p said old new e faults d.cause) end does
 
@@ -316,8 +329,8 @@ simulated job other said read old status same also ends =
     let W : SimWords → Type 0 = λ w. EndsByTexts (other ∷ []) (Simulation w) old status in
     subst W also (subst H same ends)
 
-not_both : (words : List (List ℕ)) (name job : List ℕ) → words ≡ name ∷ job ∷ [] → get_or words 0 [] ≡ codes "sim" → name ≡ codes "sim"
-not_both words name job is first = ap (λ w. get_or w 0 []) (sym is) ∙ first
+not_both : (words : List (List ℕ)) (name job other : List ℕ) → words ≡ name ∷ job ∷ [] → get_or words 0 [] ≡ other → name ≡ other
+not_both words name job other is first = ap (λ w. get_or w 0 []) (sym is) ∙ first
 
 same_evaluation : (words : List (List ℕ)) (first second job other : List ℕ) → words ≡ first ∷ job ∷ [] → words ≡ second ∷ other ∷ [] → job ≡ other
 same_evaluation words first second job other is also = let e : first ∷ job ∷ [] ≡ second ∷ other ∷ [] = sym is ∙ also in ap (λ l. get_or l 1 []) e
@@ -325,23 +338,33 @@ same_evaluation words first second job other is also = let e : first ∷ job ∷
 run_or_sim : codes "run" ≡ codes "sim" → ⊥
 run_or_sim e = omega (arith, ap (λ w. get_or w 0 0) e)
 
+plain_or_run : codes "plain" ≡ codes "run" → ⊥
+plain_or_run e = omega (arith, ap (λ w. get_or w 0 0) e)
+
 plain_or_sim : codes "plain" ≡ codes "sim" → ⊥
 plain_or_sim e = omega (arith, ap (λ w. get_or w 0 0) e)
+
+-- which workers there are, and what happens to them, doesn't decide how a run ends
+ran : (job other : List ℕ) (said read : RunWords) (old : View) (status : ℕ) → job ≡ other → EndsByTexts (job ∷ []) (Running said) old status → EndsByTexts (other ∷ []) (Running read) old status
+ran job other said read old status same ends =
+    let H : List ℕ → Type 0 = λ j. EndsByTexts (j ∷ []) (Running said) old status in
+    let there : EndsByTexts (other ∷ []) (Running said) old status = subst H same ends in
+    record { refused = there.refused; runs = there.runs }
 
 evaluated : (job other : List ℕ) (old : View) (status : ℕ) → job ≡ other → EndsByTexts (job ∷ []) Evaluation old status → EndsByTexts (other ∷ []) Evaluation old status
 evaluated job other old status same ends = let H : List ℕ → Type 0 = λ j. EndsByTexts (j ∷ []) Evaluation old status in subst H same ends
 
 -- what is said of the command that was read is said of each that the words ask for
 same_command : (words : List (List ℕ)) (d c : Command) (old : View) (status : ℕ) → Asks words d → Asks words c → EndsByTexts (sources_of d) (work_of d) old status → EndsByTexts (sources_of c) (work_of c) old status
-same_command words (Run a) (Run b) old status is also ends = evaluated a b old status (same_evaluation words (codes "run") (codes "run") a b is also) ends
+same_command words (Run a said) (Run b read) old status is also ends = ran a b said read old status (sym is.1 ∙ also.1) ends
 same_command words (Plain a) (Plain b) old status is also ends = evaluated a b old status (same_evaluation words (codes "plain") (codes "plain") a b is also) ends
-same_command words (Run a) (Plain b) old status is also ends = evaluated a b old status (same_evaluation words (codes "run") (codes "plain") a b is also) ends
-same_command words (Plain a) (Run b) old status is also ends = evaluated a b old status (same_evaluation words (codes "plain") (codes "run") a b is also) ends
+same_command words (Run a said) (Plain b) old status is also ends = absurd (plain_or_run (not_both words (codes "plain") b (codes "run") also is.0.command))
+same_command words (Plain a) (Run b read) old status is also ends = absurd (plain_or_run (not_both words (codes "plain") a (codes "run") is also.0.command))
 same_command words (Sim a said) (Sim b read) old status is also ends = simulated a b said read old status (sym is.1 ∙ also.1) (one_sim words said read is.0 also.0) ends
-same_command words (Run a) (Sim b read) old status is also ends = absurd (run_or_sim (not_both words (codes "run") a is also.0.command))
-same_command words (Plain a) (Sim b read) old status is also ends = absurd (plain_or_sim (not_both words (codes "plain") a is also.0.command))
-same_command words (Sim a said) (Run b) old status is also ends = absurd (run_or_sim (not_both words (codes "run") b also is.0.command))
-same_command words (Sim a said) (Plain b) old status is also ends = absurd (plain_or_sim (not_both words (codes "plain") b also is.0.command))
+same_command words (Run a said) (Sim b read) old status is also ends = absurd (run_or_sim (sym is.0.command ∙ also.0.command))
+same_command words (Plain a) (Sim b read) old status is also ends = absurd (plain_or_sim (not_both words (codes "plain") a (codes "sim") is also.0.command))
+same_command words (Sim a said) (Run b read) old status is also ends = absurd (run_or_sim (sym also.0.command ∙ is.0.command))
+same_command words (Sim a said) (Plain b) old status is also ends = absurd (plain_or_sim (not_both words (codes "plain") b (codes "sim") also is.0.command))
 
 asked_completes : Laws → (words : List (List ℕ)) (old new : View) (end : End) (asked : Asked) (c : Command) → IsAsked words asked → AskedDoes asked old new end → Asks words c → NoFault old new → EndsByTexts (sources_of c) (work_of c) old (status_of end)
 asked_completes laws words old new end (Known None) c none does asks faults = absurd (none c asks)

@@ -135,7 +135,7 @@ evaluates_starved sources p old new end is e = record {
 
 -- ## Its end as an end of the program
 
-run_is : (P : Ended → Type 0) (end : Ended) → P end → IsSomeAnd (run_end (end_of end)) P
+pub run_is : (P : Ended → Type 0) (end : Ended) → P end → IsSomeAnd (run_end (end_of end)) P
 run_is P RunEnds.Done holds = holds
 run_is P (RunEnds.Limit quantity) holds = holds
 run_is P (RunEnds.File place error) holds = holds

@@ -11,7 +11,7 @@ use Rattle.plain_eval.specs.Eval.{held_in}
 use Rattle.sim_run.specs.Jobs.{IsTextJob}
 use Rattle.sim_run.specs.Simulated.{IsOutOfEvents, SimulatesTo}
 use Rattle.command_words.specs.declared.sim.SimWords.{SimWords}
-use Rattle.dask_top.specs.Commands.{Command, Asks, Work, Evaluation, Simulation, sources_of, work_of}
+use Rattle.dask_top.specs.Commands.{Command, Asks, Work, Running, Evaluation, Simulation, sources_of, work_of}
 use Rattle.dask_top.specs.Reading.{Reads}
 
 -- files of these bytes hold arrays over which no needed block meets a zero divisor
@@ -60,6 +60,7 @@ pub record EndsBySimulation (p : Plan) (said : SimWords) (old : View) (status : 
   pub none_limit : IsSmall p → Tell p old (FitInputs p) → Tell p old (MeetNoZero p) → (status ≡ 0) ⊎ ((status ≡ 10) ⊎ ((status ≡ 9) ⊎ (status ≡ 8)))
 
 abbrev pub EndsByWork : Work → Plan → View → ℕ → Type 0
+EndsByWork (Running said) p old status = EndsByInputs p old status
 EndsByWork Evaluation p old status = EndsByInputs p old status
 EndsByWork (Simulation said) p old status = EndsBySimulation p said old status
 

@@ -13,10 +13,12 @@ use Rattle.job_text.specs.declared.error.JobKind.TheVariants as Kinds
 use Rattle.sim_run.specs.declared.ends.SimEnded.{SimEnded}
 use Rattle.sim_run.specs.declared.ends.SimEnded.TheVariants as SimEnds
 use Rattle.sim_run.specs.Ends.{Cause as SimCause, Saves as SimSaves, Created as SimCreated, Prints as SimPrints}
+use Rattle.command_words.specs.declared.run.RunWords.{RunWords}
 use Rattle.command_words.specs.declared.sim.SimWords.{SimWords}
+use Rattle.thread_run.specs.Ends.{Cause as ThreadCause, Saves as ThreadSaves, Looked as ThreadLooked, Opened as ThreadOpened, Created as ThreadCreated, Prints as ThreadPrints, openings}
 use Rattle.dask_top.specs.declared.answer.End.{End}
 use Rattle.dask_top.specs.declared.answer.End.TheVariants.{Job, Limit, ReadFault, OutOfMemory}
-use Rattle.dask_top.specs.Commands.{Work, Evaluation, Simulation}
+use Rattle.dask_top.specs.Commands.{Work, Running, Evaluation, Simulation}
 use Rattle.dask_top.specs.Ends.{run_end, sim_end}
 use Rattle.dask_top.specs.Reading.{Reading}
 
@@ -76,6 +78,23 @@ pub record Evaluates (sources : List (List ℕ)) (p : Plan) (old new : View) (en
   -- the lines on standard output
   pub prints : RunPrints p old new end
 
+-- ## A run by a cluster of threads
+
+-- The sources, and the inputs of a job whose graph passes no limit, were opened between so often and so often, or at most so often.
+abbrev pub RunningOpened : List (List ℕ) → Plan → RunWords → (List ℕ → ℕ) → (List ℕ → ℕ) → Ended → Type 0
+RunningOpened sources p said old new (RunEnds.Limit quantity) = new ≡ raised_by sources old
+RunningOpened sources p said old new end = ThreadOpened (sources ++ p.inputs) (sources ++ openings p said) old new end
+
+-- A run of this job, read of these sources, by a cluster of threads as these words say, that ends so.
+pub record Runs (sources : List (List ℕ)) (p : Plan) (said : RunWords) (old new : View) (end : Ended) : Type 0 where
+  pub cause : ThreadCause p old new end
+  pub saves : ThreadSaves p old.files new.files end
+  pub looked : ThreadLooked p (sources ++ p.inputs) (sources ++ openings p said) old.files new.files
+  pub others : (n : List ℕ) → IsNoneOf n (names_saved p) → new.files.held n ≡ old.files.held n
+  pub opened : RunningOpened sources p said old.files.opened new.files.opened end
+  pub created : ThreadCreated (names_saved p) old.files.created new.files.created end
+  pub prints : ThreadPrints p old new end
+
 -- ## A simulation
 
 -- the same of a simulation
@@ -98,6 +117,7 @@ pub record Simulates (sources : List (List ℕ)) (p : Plan) (said : SimWords) (o
 
 -- the work on a job
 abbrev pub WorkDoes : Work → List (List ℕ) → Plan → View → View → End → Type 0
+WorkDoes (Running said) sources p old new end = IsSomeAnd (run_end end) (Runs sources p said old new)
 WorkDoes Evaluation sources p old new end = IsSomeAnd (run_end end) (Evaluates sources p old new)
 WorkDoes (Simulation said) sources p old new end = IsSomeAnd (sim_end end) (Simulates sources p said old new)
 

@@ -1,0 +1,192 @@
+-- A run of a job by a cluster of threads, whose text was read before it and whose end was told after it.
+use Rattle.std.proofs.Common.{◌≡◌, ℕ, ◌≤◌, List, ◌++◌, ap, sym, ◌∙◌, subst, inl, inr, arith, Some, Ok}
+use Rattle.std.specs.Prelude.{IsSomeAnd}
+use Rattle.io_edge.specs.Content.{followed_by}
+use Rattle.io_edge.proofs.GivenLaws.{more_same, more_then}
+use Rattle.io_edge.specs.View.{View, Files, Opens, OnlyReads, OnlyErr, raised_by, times}
+use Rattle.command_words.specs.declared.run.RunWords.{RunWords}
+use Rattle.job_run.specs.declared.ends.Ended.{Ended}
+use Rattle.job_run.specs.declared.ends.Ended.TheVariants as RunEnds
+use Rattle.job_run.specs.Part.{RaisedAtMost}
+use Rattle.job_run.specs.Plan.{Plan, names_saved}
+use Rattle.job_run.proofs.Counting.{none_raised, times-append}
+use Rattle.thread_run.specs.Counts.{RaisedBetween, feeds, repeated}
+use Rattle.thread_run.specs.Ends.{Cause, Saves, Opened, Looked, Created, Prints, RunsByThreads, lines_of, openings}
+use Rattle.dask_top.specs.declared.answer.End.{End}
+use Rattle.dask_top.specs.Answers.{Performs}
+use Rattle.dask_top.specs.Commands.{Running}
+use Rattle.dask_top.specs.Ends.{Notes, run_end}
+use Rattle.dask_top.specs.Opening.{TextRead, JobRead}
+use Rattle.dask_top.specs.Telling.{IsRefusal, Told, end_of}
+use Rattle.dask_top.specs.Works.{RunningOpened, Runs, WorkDoes}
+use Rattle.dask_top.proofs.Evaluating.{cause_before, fit_before, front_before, front_told, memory_saves, right_before, run_is, saves_before, values_before}
+use Rattle.dask_top.proofs.Opening.{raised_by-append, raised_first, raised_more}
+use Rattle.dask_top.proofs.Reading.{is_given, is_read}
+use Rattle.dask_top.proofs.Unread.{notes_before}
+
+-- ## After it, only standard error got its line
+
+cause_told : (p : Plan) (old mid new : View) (end : Ended) → OnlyErr mid new → Cause p old mid end → Cause p old new end
+cause_told p old mid new RunEnds.Done only cause = cause
+cause_told p old mid new (RunEnds.Limit quantity) only cause = cause
+cause_told p old mid new (RunEnds.File place error) only cause = cause
+cause_told p old mid new (RunEnds.Zero node block) only cause = cause
+cause_told p old mid new RunEnds.ReadFault only cause = rw only.read_faults cause
+cause_told p old mid new RunEnds.WriteFault only cause = rw (only.write_faults, only.print_faults) cause
+cause_told p old mid new RunEnds.OutOfMemory only cause = tt
+
+prints_told : (p : Plan) (old mid new : View) (end : Ended) → OnlyErr mid new → Prints p old mid end → Prints p old new end
+prints_told p old mid new RunEnds.Done only prints = only.out ∙ prints
+prints_told p old mid new RunEnds.WriteFault only prints = front_told p old mid new (lines_of p) only prints
+prints_told p old mid new (RunEnds.Limit quantity) only prints = only.out ∙ prints
+prints_told p old mid new (RunEnds.File place error) only prints = only.out ∙ prints
+prints_told p old mid new (RunEnds.Zero node block) only prints = only.out ∙ prints
+prints_told p old mid new RunEnds.ReadFault only prints = only.out ∙ prints
+prints_told p old mid new RunEnds.OutOfMemory only prints = only.out ∙ prints
+
+runs_told : (sources : List (List ℕ)) (p : Plan) (said : RunWords) (old mid new : View) (end : Ended) → OnlyErr mid new → Runs sources p said old mid end
+    → Runs sources p said old new end
+runs_told sources p said old mid new end only e =
+    let S : Files → Type 0 = λ x. Saves p old.files x end in
+    let L : Files → Type 0 = λ x. Looked p (sources ++ p.inputs) (sources ++ openings p said) old.files x in
+    let O : Files → Type 0 = λ x. RunningOpened sources p said old.files.opened x.opened end in
+    let C : Files → Type 0 = λ x. Created (names_saved p) old.files.created x.created end in
+    record {
+      cause = cause_told p old mid new end only e.cause;
+      saves = subst S (sym only.files) e.saves;
+      looked = subst L (sym only.files) e.looked;
+      others = λ n none. ap (λ (x : Files). x.held n) only.files ∙ e.others n none;
+      opened = subst O (sym only.files) e.opened;
+      created = subst C (sym only.files) e.created;
+      prints = prints_told p old mid new end only e.prints;
+    }
+
+-- ## Memory was wanted for a refusal's line
+
+-- names that were opened at most so often were opened at most as often as more of them
+more_times : (sources inputs rest : List (List ℕ)) (old new : List ℕ → ℕ) → RaisedAtMost (sources ++ inputs) old new → RaisedAtMost (sources ++ inputs ++ rest) old new
+more_times sources inputs rest old new most = record {
+  grows = most.grows;
+  at_most = λ n. omega (arith, most.at_most n, times-append n sources inputs, times-append n sources (inputs ++ rest), times-append n inputs rest);
+}
+
+starved : (sources : List (List ℕ)) (p : Plan) (said : RunWords) (old new : View) (end : Ended) → new.files.held ≡ old.files.held → new.files.created ≡ old.files.created → new.out ≡ old.out
+    → RaisedAtMost (sources ++ openings p said) old.files.opened new.files.opened → Runs sources p said old new end → Runs sources p said old new RunEnds.OutOfMemory
+starved sources p said old new end held created prints opened e = record {
+  cause = tt;
+  saves = memory_saves p old.files new.files held;
+  looked = e.looked;
+  others = e.others;
+  opened = opened;
+  created = none_raised (names_saved p) old.files.created new.files.created created;
+  prints = prints;
+}
+
+runs_starved : (sources : List (List ℕ)) (p : Plan) (said : RunWords) (old new : View) (end : Ended) → IsRefusal (end_of end) → Runs sources p said old new end
+    → Runs sources p said old new RunEnds.OutOfMemory
+runs_starved sources p said old new (RunEnds.File place error) is e =
+    starved sources p said old new (RunEnds.File place error) e.saves e.created e.prints (more_times sources p.inputs (repeated (feeds said) p.inputs) old.files.opened new.files.opened e.opened) e
+runs_starved sources p said old new (RunEnds.Limit quantity) is e =
+    starved sources p said old new (RunEnds.Limit quantity) e.saves e.created e.prints (raised_first sources (openings p said) old.files.opened new.files.opened e.opened) e
+runs_starved sources p said old new (RunEnds.Zero node block) is e = starved sources p said old new (RunEnds.Zero node block) e.saves e.created e.prints e.opened.at_most e
+runs_starved sources p said old new RunEnds.Done is e = absurd is
+runs_starved sources p said old new RunEnds.ReadFault is e = absurd is
+runs_starved sources p said old new RunEnds.WriteFault is e = absurd is
+runs_starved sources p said old new RunEnds.OutOfMemory is e = absurd is
+
+run_told : (sources : List (List ℕ)) (p : Plan) (said : RunWords) (old mid new : View) (end : Ended) (now : End) → Told (end_of end) now → OnlyErr mid new → Runs sources p said old mid end
+    → WorkDoes (Running said) sources p old new now
+run_told sources p said old mid new end now told only e =
+    let W : End → Type 0 = λ x. WorkDoes (Running said) sources p old new x in
+    elim told [
+      | inl same ↦ subst W (sym same) (run_is (Runs sources p said old new) end (runs_told sources p said old mid new end only e))
+      | inr refused ↦ subst W (sym refused.1) (runs_told sources p said old mid new RunEnds.OutOfMemory only (runs_starved sources p said old mid end refused.0 e))
+    ]
+
+-- ## Before it, only the text was read
+
+cause_first : (p : Plan) (old mid new : View) (end : Ended) → mid.files.held ≡ old.files.held → mid.files.tells ≡ old.files.tells → OnlyReads old mid → old.read_faults ≤ mid.read_faults → Cause p mid new end
+    → Cause p old new end
+cause_first p old mid new RunEnds.Done held tells only later cause = cause_before p old mid new RunEnds.Done held tells only later cause
+cause_first p old mid new (RunEnds.Limit quantity) held tells only later cause = cause
+cause_first p old mid new (RunEnds.File place error) held tells only later cause = cause_before p old mid new (RunEnds.File place error) held tells only later cause
+cause_first p old mid new (RunEnds.Zero node block) held tells only later cause =
+    (cause.0, record { inputs = fit_before p old.files mid.files held tells cause.1.inputs; zero_at = rw (← held) cause.1.zero_at })
+cause_first p old mid new RunEnds.ReadFault held tells only later cause = cause_before p old mid new RunEnds.ReadFault held tells only later cause
+cause_first p old mid new RunEnds.WriteFault held tells only later cause =
+    (cause.0, values_before p old.files mid.files held tells cause.1, rw (← only.write_faults, ← only.print_faults) cause.2)
+cause_first p old mid new RunEnds.OutOfMemory held tells only later cause = tt
+
+saves_first : (p : Plan) (old mid new : Files) (end : Ended) → mid.held ≡ old.held → mid.tells ≡ old.tells → Saves p mid new end → Saves p old new end
+saves_first p old mid new (RunEnds.Zero node block) held tells saves = saves ∙ held
+saves_first p old mid new (RunEnds.Limit quantity) held tells saves = saves ∙ held
+saves_first p old mid new (RunEnds.File place error) held tells saves = saves ∙ held
+saves_first p old mid new RunEnds.Done held tells saves = saves_before p old mid new RunEnds.Done held tells saves
+saves_first p old mid new RunEnds.ReadFault held tells saves = saves ∙ held
+saves_first p old mid new RunEnds.WriteFault held tells saves = right_before p old mid new held tells saves
+saves_first p old mid new RunEnds.OutOfMemory held tells saves = right_before p old mid new held tells saves
+
+between_first : (names least most : List (List ℕ)) (old mid : Files) (new : List ℕ → ℕ) → Opens names old mid → mid.opened ≡ raised_by names old.opened → RaisedBetween least most mid.opened new
+    → RaisedBetween (names ++ least) (names ++ most) old.opened new
+between_first names least most old mid new opens first between = record {
+  at_least = λ n.
+      let both : raised_by least mid.opened ≡ raised_by (names ++ least) old.opened = ap (raised_by least) first ∙ raised_by-append names least old.opened in
+      subst (λ (f : List ℕ → ℕ). f n ≤ new n) both (between.at_least n);
+  at_most = raised_more names most old mid new opens between.at_most;
+}
+
+opened_first : (names : List (List ℕ)) (p : Plan) (said : RunWords) (old mid : Files) (new : List ℕ → ℕ) (end : Ended) → Opens names old mid → mid.opened ≡ raised_by names old.opened
+    → Opened p.inputs (openings p said) mid.opened new end → RunningOpened names p said old.opened new end
+opened_first names p said old mid new RunEnds.Done opens first opened = between_first names p.inputs (openings p said) old mid new opens first opened
+opened_first names p said old mid new (RunEnds.Limit quantity) opens first opened = opened ∙ first
+opened_first names p said old mid new (RunEnds.File place error) opens first opened = raised_more names p.inputs old mid new opens opened
+opened_first names p said old mid new (RunEnds.Zero node block) opens first opened = between_first names p.inputs (openings p said) old mid new opens first opened
+opened_first names p said old mid new RunEnds.ReadFault opens first opened = raised_more names (openings p said) old mid new opens opened
+opened_first names p said old mid new RunEnds.WriteFault opens first opened = between_first names p.inputs (openings p said) old mid new opens first opened
+opened_first names p said old mid new RunEnds.OutOfMemory opens first opened = raised_more names (openings p said) old mid new opens opened
+
+looked_first : (names : List (List ℕ)) (p : Plan) (said : RunWords) (old mid new : Files) → Opens names old mid → mid.opened ≡ raised_by names old.opened → Looked p p.inputs (openings p said) mid new
+    → Looked p (names ++ p.inputs) (names ++ openings p said) old new
+looked_first names p said old mid new opens first looked = elim looked [
+  | inl same ↦ inl (record { held = same.held ∙ opens.held; created = same.created ∙ opens.created })
+  | inr there ↦ inr (record {
+      opened = between_first names p.inputs (openings p said) old mid new.opened opens first there.opened;
+      inputs = fit_before p old mid opens.held opens.tells there.inputs;
+      small = there.small;
+    })
+]
+
+prints_first : (p : Plan) (old mid new : View) (end : Ended) → mid.files.held ≡ old.files.held → mid.files.tells ≡ old.files.tells → mid.files.created ≡ old.files.created → OnlyReads old mid → Prints p mid new end
+    → Prints p old new end
+prints_first p old mid new RunEnds.Done held tells created only prints = prints ∙ ap (λ o. followed_by o (lines_of p)) only.out
+prints_first p old mid new RunEnds.WriteFault held tells created only prints = front_before p old mid new (lines_of p) held tells created only prints
+prints_first p old mid new (RunEnds.Limit quantity) held tells created only prints = prints ∙ only.out
+prints_first p old mid new (RunEnds.File place error) held tells created only prints = prints ∙ only.out
+prints_first p old mid new (RunEnds.Zero node block) held tells created only prints = prints ∙ only.out
+prints_first p old mid new RunEnds.ReadFault held tells created only prints = prints ∙ only.out
+prints_first p old mid new RunEnds.OutOfMemory held tells created only prints = prints ∙ only.out
+
+runs : (names : List (List ℕ)) (p : Plan) (said : RunWords) (old mid new : View) (read : List ℕ) (end : Ended) → TextRead names old mid read → RunsByThreads p said mid new end → Runs names p said old new end
+runs names p said old mid new read end t runs =
+    let opens = t.opens in
+    let C : (List ℕ → ℕ) → Type 0 = λ f. Created (names_saved p) f new.files.created end in
+    record {
+      cause = cause_first p old mid new end opens.held opens.tells t.only t.later runs.cause;
+      saves = saves_first p old.files mid.files new.files end opens.held opens.tells runs.saves;
+      looked = looked_first names p said old.files mid.files new.files opens t.opened runs.looked;
+      others = λ n none. runs.others n none ∙ ap (λ f. f n) opens.held;
+      opened = opened_first names p said old.files mid.files new.files.opened end opens t.opened runs.opened;
+      created = subst C opens.created runs.created;
+      prints = prints_first p old mid new end opens.held opens.tells opens.created t.only runs.prints;
+    }
+
+pub threads_perform : (names : List (List ℕ)) (p : Plan) (said : RunWords) (old mid done new : View) (end : Ended) (now : End) → JobRead names old mid p → RunsByThreads p said mid done end → Told (end_of end) now
+    → OnlyErr done new → Notes (Some (Ok p)) done new now → Performs names (Running said) old new now
+threads_perform names p said old mid done new end now j by told only notes = record {
+  reading = Some (Ok p);
+  read = is_read names old mid j.read (Ok p) j.text j.says;
+  given = is_given names old mid new j.read (Ok p) j.text j.says (more_then mid.gave done.gave new.gave by.gave (more_same done.gave new.gave only.gave));
+  does = run_told names p said old done new end now told only (runs names p said old mid done j.read end j.text by);
+  tells = ap (λ (x : Files). x.tells) only.files ∙ (by.tells ∙ j.text.opens.tells);
+  notes = notes_before (Some (Ok p)) old done new now (by.err ∙ j.text.only.err) (by.note_faults ∙ j.text.only.note_faults) notes;
+}
