@@ -1,6 +1,6 @@
 -- A number that isn't there.
 use Rattle.command_words.proofs.Cuts.{none_case}
-use Rattle.command_words.proofs.sim.settings_of.Goals as goal
+use Rattle.command_words.proofs.settings.settings_of.Goals as goal
 
 pub returns-in_err-setting_of : goal.returns-in_err-setting_of
 returns-in_err-setting_of c = none_case c.from_residual-in_err-setting_of.result _ _ c.from_residual-in_err-setting_of.ensures (λ s h. c.in_err-setting_of.ensures s.workers h.workers)
