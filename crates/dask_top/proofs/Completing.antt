@@ -34,6 +34,7 @@ use Rattle.dask_top.specs.Completing.{Completes, EndsByInputs, EndsBySimulation,
 use Rattle.dask_top.specs.Ends.{run_end, sim_end, status_of}
 use Rattle.dask_top.specs.Reading.{IsRead, Reading, Reads, plan_said}
 use Rattle.dask_top.specs.Telling.{end_of, sim_end_of}
+use Rattle.dask_top.proofs.Obeying.{plain_or_run, run_or_sim}
 use Rattle.dask_top.specs.Works.{Does, Evaluates, RefusalCause, Runs, Simulates, UnreadCause, WorkDoes}
 
 told_and : {A : Type 0} (o : Option A) (P Q : A → Type 0) → IsSomeAnd o P → IfSome o Q → (x : A) × P x × Q x
@@ -334,12 +335,6 @@ not_both words name job other is first = ap (λ w. get_or w 0 []) (sym is) ∙ f
 
 same_evaluation : (words : List (List ℕ)) (first second job other : List ℕ) → words ≡ first ∷ job ∷ [] → words ≡ second ∷ other ∷ [] → job ≡ other
 same_evaluation words first second job other is also = let e : first ∷ job ∷ [] ≡ second ∷ other ∷ [] = sym is ∙ also in ap (λ l. get_or l 1 []) e
-
-run_or_sim : codes "run" ≡ codes "sim" → ⊥
-run_or_sim e = omega (arith, ap (λ w. get_or w 0 0) e)
-
-plain_or_run : codes "plain" ≡ codes "run" → ⊥
-plain_or_run e = omega (arith, ap (λ w. get_or w 0 0) e)
 
 plain_or_sim : codes "plain" ≡ codes "sim" → ⊥
 plain_or_sim e = omega (arith, ap (λ w. get_or w 0 0) e)

@@ -1,19 +1,20 @@
 -- What the words are read as, and what is done with them.
 use Rattle.std.proofs.Common.{◌≡◌, ℕ, ◌-◌, ◌≤◌, List, [], ◌∷◌, length, take, drop, get_or, map, string_bytes, String, refl, ap, sym, ◌∙◌, subst, inl, inr, arith, codes, Some, None}
-use Rattle.std.specs.Prelude.{bytes_eq, false}
+use Rattle.std.specs.Prelude.{bytes_eq, true, false, ◌⊎◌}
 use Rattle.std.specs.declared.alloc.Global.{Global}
 use Rattle.std.proofs.lemmas.Bool.{false≢true}
 use Rattle.std.proofs.lemmas.List.{length-map}
 use Rattle.std.proofs.lemmas.Slice.Eq.{bytes_eq-Decides}
 use Rattle.io_edge.specs.View.{View, OnlyErr}
+use Rattle.command_words.specs.declared.run.RunWords.{RunWords}
 use Rattle.command_words.specs.declared.sim.SimWords.{SimWords}
-use Rattle.command_words.specs.Words.{IsSim}
+use Rattle.command_words.specs.Words.{IsRun, IsSim}
 use Rattle.command_words.proofs.Saying.{in_range}
 use Rattle.sim_run.specs.Simulated.{AreSettings}
 use Rattle.dask_top.specs.declared.answer.End.{End}
 use Rattle.dask_top.specs.declared.answer.End.TheVariants.{Words, OutOfMemory}
 use Rattle.dask_top.specs.Answers.{Obeys, OnlyTells, Performs}
-use Rattle.dask_top.specs.Commands.{Command, Run, Plain, Sim, Asks, Known, Unread, Work, Evaluation, Simulation, IsJobOf}
+use Rattle.dask_top.specs.Commands.{Command, Run, Plain, Sim, Asks, Known, Unread, Work, Running, Evaluation, Simulation, IsJobOf}
 use Rattle.dask_top.specs.Ends.{Notes}
 use Rattle.dask_top.specs.Reading.{Reading}
 use Rattle.dask_top.specs.Telling.{IsRefusal, Told}
@@ -30,27 +31,53 @@ only_tells wanted old new now not told only notes =
 
 -- ## Words of no command
 
-no_command : (words : List (List ℕ)) → ((names : List (List ℕ)) → ¬ IsJobOf words names) → ((s : SimWords) → ¬ IsSim words s) → (c : Command) → ¬ Asks words c
-no_command words none no_sim (Run job) asks = none (job ∷ []) (record { asked = inl asks; one = refl })
-no_command words none no_sim (Plain job) asks = none (job ∷ []) (record { asked = inr asks; one = refl })
-no_command words none no_sim (Sim job said) asks = no_sim said asks.0
+-- the words ask for nothing that can be done
+pub record AskNothing (words : List (List ℕ)) : Type 0 where
+  pub no_run : (s : RunWords) → ¬ IsRun words s
+  pub no_job : (names : List (List ℕ)) → ¬ IsJobOf words names
+  pub no_sim : (s : SimWords) → ¬ IsSim words s
 
-pub refused_words : (words : List (List ℕ)) (old new : View) (now : End) → ((names : List (List ℕ)) → ¬ IsJobOf words names) → ((s : SimWords) → ¬ IsSim words s) → Told Words now → OnlyErr old new → ((r : Reading) → Notes r old new now) → Obeys words old new now
-refused_words words old new now none no_sim told only notes = record {
+no_command : (words : List (List ℕ)) → AskNothing words → (c : Command) → ¬ Asks words c
+no_command words nothing (Run job said) asks = nothing.no_run said asks.0
+no_command words nothing (Plain job) asks = nothing.no_job (job ∷ []) (record { asked = asks; one = refl })
+no_command words nothing (Sim job said) asks = nothing.no_sim said asks.0
+
+pub refused_words : (words : List (List ℕ)) (old new : View) (now : End) → AskNothing words → Told Words now → OnlyErr old new → ((r : Reading) → Notes r old new now) → Obeys words old new now
+refused_words words old new now nothing told only notes = record {
   asked = Known None;
-  is = no_command words none no_sim;
+  is = no_command words nothing;
   does = only_tells Words old new now (λ r. r) told only notes;
 }
 
-not_name : (word : List ℕ) → bytes_eq word (codes "sim") ≡ false → word ≡ codes "sim" → ⊥
-not_name word other is = false≢true (sym other ∙ (bytes_eq-Decides word (codes "sim")).1 is)
+not_name : (word name : List ℕ) → bytes_eq word name ≡ false → word ≡ name → ⊥
+not_name word name other is = false≢true (sym other ∙ (bytes_eq-Decides word name).1 is)
+
+pub is_name : (word name : List ℕ) → bytes_eq word name ≡ true → word ≡ name
+is_name word name same = (bytes_eq-Decides word name).0 same
+
+pub not_run : (words : List (List ℕ)) → bytes_eq (get_or words 0 []) (codes "run") ≡ false → (s : RunWords) → ¬ IsRun words s
+not_run words other s is = not_name (get_or words 0 []) (codes "run") other is.command
 
 pub not_sim : (words : List (List ℕ)) → bytes_eq (get_or words 0 []) (codes "sim") ≡ false → (s : SimWords) → ¬ IsSim words s
-not_sim words other s is = not_name (get_or words 0 []) other is.command
+not_sim words other s is = not_name (get_or words 0 []) (codes "sim") other is.command
+
+pub run_or_sim : codes "run" ≡ codes "sim" → ⊥
+run_or_sim e = omega (arith, ap (λ w. get_or w 0 0) e)
+
+pub plain_or_run : codes "plain" ≡ codes "run" → ⊥
+plain_or_run e = omega (arith, ap (λ w. get_or w 0 0) e)
+
+-- words that begin as those of a run ask for nothing else
+pub only_run : (words : List (List ℕ)) → get_or words 0 [] ≡ codes "run" → ((s : RunWords) → ¬ IsRun words s) → AskNothing words
+only_run words first none = record {
+  no_run = none;
+  no_job = λ names is. plain_or_run (sym (ap (λ ws. get_or ws 0 []) is.asked) ∙ first);
+  no_sim = λ s is. run_or_sim (sym first ∙ is.command);
+}
 
 -- ## Words that stay unread
 
-pub unread_words : (words : List (List ℕ)) (old new : View) (now : End) → get_or words 0 [] ≡ codes "sim" → Told OutOfMemory now → OnlyErr old new → ((r : Reading) → Notes r old new now) → Obeys words old new now
+pub unread_words : (words : List (List ℕ)) (old new : View) (now : End) → (get_or words 0 [] ≡ codes "run") ⊎ (get_or words 0 [] ≡ codes "sim") → Told OutOfMemory now → OnlyErr old new → ((r : Reading) → Notes r old new now) → Obeys words old new now
 unread_words words old new now first told only notes = record {
   asked = Unread;
   is = inr first;
@@ -65,10 +92,12 @@ performs_single names work old new end one performs = let P : List (List ℕ) �
 pub performed : (words names : List (List ℕ)) (old new : View) (end : End) → IsJobOf words names → Performs names Evaluation old new end → Obeys words old new end
 performed words names old new end is performs =
     let does : Performs (get_or names 0 [] ∷ []) Evaluation old new end = performs_single names Evaluation old new end is.one performs in
-    elim is.asked [
-      | inl run ↦ record { asked = Known (Some (Run (get_or names 0 []))); is = run ∙ ap (λ ns. codes "run" ∷ ns) (single names is.one); does = does }
-      | inr plain ↦ record { asked = Known (Some (Plain (get_or names 0 []))); is = plain ∙ ap (λ ns. codes "plain" ∷ ns) (single names is.one); does = does }
-    ]
+    record { asked = Known (Some (Plain (get_or names 0 []))); is = is.asked ∙ ap (λ ns. codes "plain" ∷ ns) (single names is.one); does = does }
+
+pub ran : (words names : List (List ℕ)) (said : RunWords) (old new : View) (end : End) → IsRun words said → names ≡ get_or words 1 [] ∷ [] → Performs names (Running said) old new end → Obeys words old new end
+ran words names said old new end is alone performs =
+    let P : List (List ℕ) → Type 0 = λ ns. Performs ns (Running said) old new end in
+    record { asked = Known (Some (Run (get_or words 1 []) said)); is = (is, refl); does = subst P alone performs }
 
 pub simulated : (words names : List (List ℕ)) (said : SimWords) (old new : View) (end : End) → IsSim words said → names ≡ get_or words 1 [] ∷ [] → Performs names (Simulation said) old new end → Obeys words old new end
 simulated words names said old new end is alone performs =
@@ -85,6 +114,9 @@ are_settings words said is =
     record { workers = w; threads = t; saturation = s; joins = is.walk.joins }
 
 -- ## The job's name
+
+pub run_is_long : (words : List (String Global)) (said : RunWords) → IsRun (map string_bytes words) said → 2 ≤ length words
+run_is_long words said is = let e : length (map string_bytes words) ≡ length words = length-map words string_bytes in omega (arith, is.options.pairs, e)
 
 pub is_long : (words : List (String Global)) (said : SimWords) → IsSim (map string_bytes words) said → 2 ≤ length words
 is_long words said is = let e : length (map string_bytes words) ≡ length words = length-map words string_bytes in omega (arith, is.options.pairs, e)
