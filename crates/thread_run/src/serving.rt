@@ -64,7 +64,8 @@ where
     ensures why { IfErr result (IsWhy ⟦<RunLabel<Graphed<S::In, E, V>, Named<V, P>> as Label>⟧.facts wanted.now
         (Rose (S.view site.old).read_faults (S.view site.new).read_faults)) }
 {
-    let Ok(feeds) = open_feeds::<S, E, V, P>(alloc, site, names, plan.numbers(), plan.threads) else {
+    let Ok(feeds) = open_feeds::<S, E, V, P>(alloc, site, names, plan.numbers(), plan.threads)
+    else {
         return Err(RunStatus::Memory);
     };
     let ends = run_cluster::<R, Graphed<S::In, E, V>, G, Named<V, P>>(

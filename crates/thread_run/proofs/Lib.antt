@@ -1,0 +1,7 @@
+pub mod Ending
+pub mod Fixed
+pub mod Openings
+pub mod Planning
+pub mod Saved
+pub mod Tables
+pub mod Veiled
