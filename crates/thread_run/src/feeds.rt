@@ -35,7 +35,7 @@ where
     ensures opens { OpensOften (map string_bytes names.now) threads (S.view site.old) (S.view site.new) }
     ensures short { OnOk result (vec_len own.new < threads → Rose (S.view site.old).read_faults (S.view site.new).read_faults) }
 {
-    for _ in 0..threads {
+    for _thread in 0..threads {
         match site.store(alloc, names) {
             Ok(store) => own.push_reserved(Fed::new(Veiled::new(store))),
             Err(OpenFault::Failed) => return Ok(()),
@@ -66,7 +66,7 @@ where
     ensures short { OnOk result ((n : ℕ) → Contains (map (λ v. vec_len v) all.new.items) n → n < threads
         → Rose (S.view site.old).read_faults (S.view site.new).read_faults) }
 {
-    for _ in 0..numbers {
+    for _number in 0..numbers {
         let mut own = Vec::with_capacity(alloc, threads as usize)?;
         let opened = open_own::<S, E, V, P>(alloc, site, names, threads, &mut own);
         all.push_reserved(own);

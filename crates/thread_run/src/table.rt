@@ -36,7 +36,7 @@ impl<L: Label<Block = Block>> Table<L> {
         ensures { IfOk result (λ t. length t ≡ keys) }
     {
         let mut places = Vec::with_capacity(alloc, keys as usize)?;
-        for _ in 0..keys {
+        for _key in 0..keys {
             places.push_reserved(None);
         }
         Ok(Table {
