@@ -19,7 +19,7 @@ use crate::name::{Named, Picks};
 use crate::table::table_of;
 use crate::veil::Veil;
 use block_lowering::{Elements, JobGraph, Lowered};
-use cluster_msgs::{JobSpec, KeyList};
+use cluster_msgs::{JobSpec, KeyList, Label};
 use command_words::RunWords;
 use io_edge::{Gate, OpenFault, Site};
 use job_run::{Ended, Inputs, Job, Wanted, ended_at, joined_keys, laws_hold, save_all};
