@@ -8,10 +8,10 @@ use Rattle.std.proofs.lemmas.List.FromFn.{length-range_with_len}
 use Rattle.std.proofs.lemmas.Slice.Eq.{bytes_eq-Decides}
 use Rattle.cluster_msgs.specs.declared.events.Item.{Item}
 use Rattle.command_words.specs.Numbers.{IsNumber}
-use Rattle.command_words.specs.Options.{front_of, value_at, AreOptions, HasNumber, HasValue, IsGiven, IsMissing}
+use Rattle.command_words.specs.Options.{front_of, value_at, AreOptions, HasNumber, HasValue, IsGiven}
 use Rattle.command_words.specs.Scripts.{IsScript, IsNoScript}
 use Rattle.command_words.specs.Walks.{IsCrew, IsWalk, crew_of}
-use Rattle.command_words.specs.Words.{AreRunSettings, HasNoWalk, HasScript, HasSettings, HasTransport, HasWalk, IsNoRun, IsNotGiven, IsRun, IsSettings, IsSim, IsWhy}
+use Rattle.command_words.specs.Words.{AreRunSettings, HasNoWalk, HasScript, HasSettings, HasTransport, IsNoRun, IsNotGiven, IsRun, IsSettings, IsSim, IsWhy}
 use Rattle.command_words.specs.declared.settings.RunSettings.{RunSettings}
 use Rattle.command_words.specs.declared.run.RunWords.{RunWords}
 use Rattle.command_words.specs.declared.sim.Settings.{Settings}
