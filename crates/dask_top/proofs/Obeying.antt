@@ -7,8 +7,8 @@ use Rattle.std.proofs.lemmas.List.{length-map}
 use Rattle.std.proofs.lemmas.Slice.Eq.{bytes_eq-Decides}
 use Rattle.io_edge.specs.View.{View, OnlyErr}
 use Rattle.command_words.specs.declared.sim.SimWords.{SimWords}
-use Rattle.command_words.specs.Options.{HasNumber}
 use Rattle.command_words.specs.Words.{IsSim}
+use Rattle.command_words.proofs.Saying.{in_range}
 use Rattle.sim_run.specs.Simulated.{AreSettings}
 use Rattle.dask_top.specs.declared.answer.End.{End}
 use Rattle.dask_top.specs.declared.answer.End.TheVariants.{Words, OutOfMemory}
@@ -77,17 +77,11 @@ simulated words names said old new end is alone performs =
 
 -- ## The numbers of a simulation
 
-in_range : (words : List (List ℕ)) (name : List ℕ) (least most default n : ℕ) → least ≤ default → default ≤ most → HasNumber words name least most default n → (least ≤ n) × (n ≤ most)
-in_range words name least most default n above below has = elim has [
-  | inl given ↦ (given.value.from, given.value.to)
-  | inr missing ↦ (omega (arith, missing.1), omega (arith, missing.1))
-]
-
 pub are_settings : (words : List (List ℕ)) (said : SimWords) → IsSim words said → AreSettings said
 are_settings words said is =
-    let w = in_range words (codes "--workers") 1 64 4 said.settings.workers (omega arith) (omega arith) is.settings.workers in
-    let t = in_range words (codes "--threads") 1 16 2 said.settings.threads (omega arith) (omega arith) is.settings.threads in
-    let s = in_range words (codes "--saturation") 1 1000 11 said.settings.saturation (omega arith) (omega arith) is.settings.saturation in
+    let w = in_range _ words (codes "--workers") 1 64 4 said.settings.workers (omega arith) (omega arith) is.settings.workers in
+    let t = in_range _ words (codes "--threads") 1 16 2 said.settings.threads (omega arith) (omega arith) is.settings.threads in
+    let s = in_range _ words (codes "--saturation") 1 1000 11 said.settings.saturation (omega arith) (omega arith) is.settings.saturation in
     record { workers = w; threads = t; saturation = s; joins = is.walk.joins }
 
 -- ## The job's name

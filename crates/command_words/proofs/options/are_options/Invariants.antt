@@ -4,4 +4,4 @@ use Rattle.command_words.specs.Options.{IsOption}
 use Rattle.command_words.proofs.options.are_options.Given as goal
 
 abbrev pub invariant-loop-place : goal.invariant-loop-place
-invariant-loop-place l = (i : ℕ) → i < l.place → IsOption (map string_bytes l.words) i
+invariant-loop-place l = (i : ℕ) → i < l.place → IsOption l.verb (map string_bytes l.words) i

@@ -4,4 +4,4 @@ use Rattle.command_words.specs.Options.{name_at}
 use Rattle.command_words.proofs.options.place_of.Given as goal
 
 abbrev pub invariant-loop-place : goal.invariant-loop-place
-invariant-loop-place l = (i : ℕ) → i < l.place → name_at (map string_bytes l.words) i ≢ l.name
+invariant-loop-place l = (i : ℕ) → i < l.place → name_at l.verb (map string_bytes l.words) i ≢ l.name

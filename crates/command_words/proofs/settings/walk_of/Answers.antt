@@ -2,8 +2,8 @@
 use Rattle.std.proofs.Common.{map, string_bytes}
 use Rattle.std.proofs.lemmas.Bool.{MatchBool-at_false}
 use Rattle.command_words.proofs.Saying.{not_followed}
-use Rattle.command_words.proofs.sim.with_settings.Goals as goal
+use Rattle.command_words.proofs.settings.walk_of.Goals as goal
 
 pub returns-else-branch-clause-refused : goal.returns-else-branch-clause-refused
-returns-else-branch-clause-refused c = not_followed (map string_bytes c.args.words.now) c.args.settings _ c.requires.options c.requires.settings c.in_ok-script.ensures.script
+returns-else-branch-clause-refused c = not_followed c.args.verb (map string_bytes c.args.words.now) c.args.workers c.args.threads _ c.requires.options c.in_ok-script.ensures.script
     (MatchBool-at_false _ _ c.if-branch.false c.in_ok-is_walk.ensures)
