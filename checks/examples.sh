@@ -23,13 +23,15 @@ peak_month (40,)
 per_mille (40, 18)
 quota (52, 30)
 transpose (4, 6)'
+# by what each command says that a job is finished
+declare -A ends=([run]=cluster [plain]=plain)
 while read -r name shape; do
   for command in run plain; do
     rm -f "examples/$name/saved.npy"
     lines=$(./dask $command "examples/$name/job.txt" 2>&1)
     check "status of $command $name" "$?" 0
     check "lines of $command $name" "$lines" "saved examples/$name/saved.npy $shape
-finished by: plain"
+finished by: ${ends[$command]}"
     check "file of $command $name" "$(cmp "examples/$name/saved.npy" "examples/$name/expected.npy" && echo same)" same
     rm -f "examples/$name/saved.npy"
   done
@@ -53,7 +55,7 @@ for command in run plain; do
   lines=$(./dask $command $example/mended.txt 2>&1)
   check "status of $command of the mended job" "$?" 0
   check "lines of $command of the mended job" "$lines" "saved $example/saved.npy (9, 8)
-finished by: plain"
+finished by: ${ends[$command]}"
   check "file of $command of the mended job" "$(cmp $example/saved.npy $example/expected.npy && echo same)" same
   rm -f $example/saved.npy
 done

@@ -8,7 +8,7 @@ help=$(./dask --help 2>/dev/null)
 check 'status of --help' "$?" 0
 check 'help is --help' "$(./dask help 2>/dev/null)" "$help"
 check 'nothing on standard error' "$(./dask --help 2>&1 >/dev/null)" ''
-for word in run plain sim --workers --threads --saturation --script --help --version --build; do
+for word in run plain sim --workers --threads --saturation --script --transport --help --version --build; do
   check "--help names $word" "$(grep -c "^  ${word}[ ,]" <<< "$help")" 1
 done
 # every example of a command ends well
@@ -39,7 +39,7 @@ tar cf - --exclude=out --exclude=specs --exclude=proofs --exclude=.checked dask 
 first() { (cd "$folder" && PATH="$folder/bin:$PATH" clone/dask run clone/job.txt 2>&1); }
 sed 's,examples/first/,clone/examples/first/,' examples/first/job.txt > "$folder/clone/job.txt"
 wanted='saved clone/examples/first/raised.npy (3,)
-finished by: plain'
+finished by: cluster'
 source=$folder/clone/crates/dask_prog/src/main.rt
 check 'the program of a new clone' "$(first)" "$wanted"
 check 'which program that is' "$(head -1 "$folder/clone/release/.checked")" release/dask

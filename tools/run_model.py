@@ -94,9 +94,10 @@ class Run:
         index = list(blocks(self.job.nodes[node].layout))[number]
         return f'node {node} block (' + ', '.join(map(str, index)) + ')'
 
-    def first_fault(self):
-        """The first key without a block, or nothing."""
-        return next((key for key, value in enumerate(self.values) if value is None), None)
+    def faults(self):
+        """The keys that meet a zero divisor, in their order."""
+        return [key for key, value in enumerate(self.values)
+                if value is None and all(self.values[dep] is not None for dep in self.lowered.deps[key])]
 
     def array(self, save):
         """The array that a save has, of whose blocks each is there."""

@@ -10,65 +10,18 @@ hand from the tables of docs/PROGRAM.md and docs/FORMATS.md. What jobs by chance
 many turns a simulation takes, is said by run_model.py, a model that was written apart from the program. The script never runs
 the program.
 """
-import io
 import os
 import re
 
 import numpy as np
 
 import block_folds
+import run_cases
 from job_graphs import Chance
 from run_model import Run, lower
-
-LINES = []
-WANTED = []
-
-
-def text(data):
-    """Bytes as the table writes them."""
-    out = ''
-    for byte in data:
-        if byte == 10:
-            out += '|'
-        elif 32 <= byte <= 126 and byte not in (92, 124):
-            out += chr(byte)
-        else:
-            out += '\\%02x' % byte
-    return out
-
-
-def npy(array):
-    """The file that NumPy writes of an array."""
-    out = io.BytesIO()
-    np.save(out, array)
-    return out.getvalue()
-
-
-def saved(array):
-    """The file of an array in row-major order."""
-    return npy(np.array(array, dtype='<i8', order='C'))
-
-
-def say(line, *answers):
-    LINES.append(line)
-    WANTED.extend(answers)
-
-
-def title(words):
-    say('# ' + words, '# ' + words)
-
-
-def shelve(name, data):
-    say(f'file {name} ' + text(data))
-
-
-def shape_text(array):
-    return str(tuple(np.asarray(array).shape))
-
-
-def told(status, out, err, faults, file, held):
-    """The answer of a run."""
-    return f' {status} out "{out}" err "{err}" faults {faults} {file} {held}'
+from site_lines import (ARRAYS, DIFFERENCE, ENDS, INPUT, LINES, ONE_CELL, PAIR, PAIR_SAVES, STOPPED, SUM, UNPRINTED, UNWRITTEN, WANTED,
+                        X_AND_D, fail, job, lines_of, npy, often, once, refusal, saved, saved_lines, say, shape_text, shelve, text,
+                        title, told)
 
 
 def shown(out, err, faults, file, held):
@@ -76,54 +29,20 @@ def shown(out, err, faults, file, held):
     return f'show: out "{out}" err "{err}" faults {faults} {file} {held}'
 
 
-def often(file, command, answer):
-    """A run, and the same in one thread."""
-    say(f'often {file} {command}', 'often:' + answer, 'again: the same')
-
-
 def both(file, answer):
-    """A run of `job.txt` by each of its commands."""
-    for command in ('plain', 'run'):
-        often(file, f'{command} job.txt', answer)
+    """Each of its commands runs `job.txt`, twice."""
+    for command in ENDS:
+        often(file, f'{command} job.txt', answer(command))
 
 
-def plain_lines(*saves):
-    return ''.join(f'saved {name} {shape_text(array)}|' for name, array in saves) + 'finished by: plain|'
+def both_save(file, *saves):
+    """The same of a job that saves these arrays."""
+    held = text(saved(dict(saves)[file]))
+    both(file, lambda command: told(0, lines_of(command, *saves), '', '0 0 0 0', file, held))
 
 
-ARRAYS = {
-    'a.npy': [1, 2, 3],
-    'one.npy': [4],
-    'e.npy': np.zeros((0,)),
-    'most.npy': [2**63 - 1],
-    'least.npy': [-2**63],
-    'x.npy': [1, 2, 3, 4],
-    'd.npy': [1, 0, 1, 1],
-    'r.npy': [0, 1, 2, 3, 4],
-    'p.npy': [[10], [20], [30]],
-    'q.npy': [[1, 2, 3, 4]],
-    'm.npy': [[1, 2, 3], [4, 5, 6]],
-    'first.npy': [4, 0, 6],
-    'second.npy': [7, 8, 9],
-    'rows.npy': [[10, 20, 30], [40, 50, 60]],
-}
-ARRAYS = {name: np.array(value, dtype=np.int64) for name, value in ARRAYS.items()}
 COLUMNS = np.asfortranarray(np.array([[1, 3, 5], [2, 4, 6]], dtype=np.int64))
 A, ONE, MOST, LEAST, X, D, R, P, Q, M = (ARRAYS[k + '.npy'] for k in ('a', 'one', 'most', 'least', 'x', 'd', 'r', 'p', 'q', 'm'))
-
-INPUT = {
-    'a': 'input a "a.npy" shape (3) chunks (2)|',
-    'e': 'input e "e.npy" shape (0) chunks (2)|',
-    'most': 'input m "most.npy" shape (1) chunks (1)|',
-    'least': 'input m "least.npy" shape (1) chunks (1)|',
-    'r': 'input r "r.npy" shape (5) chunks (2)|',
-    'p': 'input p "p.npy" shape (3, 1) chunks (1, 1)|',
-    'q': 'input q "q.npy" shape (1, 4) chunks (1, 2)|',
-    'm': 'input m "m.npy" shape (2, 3) chunks (1, 2)|',
-}
-
-
-X_AND_D = 'input x "x.npy" shape (4) chunks (2)|input d "d.npy" shape (4) chunks (2)|'
 
 
 def full(shape, value):
@@ -211,19 +130,19 @@ LARGE = [
     ('input a "none.npy" shape (3) chunks (3)|let r = ramp((600, 600), 0, 1, (1, 600))|let b = rechunk(r, (600, 1))|save b "o.npy"|', 'edges'),
     ('let b = full((16777217), 1, (16777217))|save b "o.npy"|', 'block bytes'),
 ]
-# jobs that meet a zero divisor in a needed block, the block, and how far its file came: the block isn't written, and none before it
+# jobs that meet a zero divisor in one needed block, the block, and how far its file came in one thread: the block isn't written, and
+# none before it
 DIVIDED = [
     # the element that is asked for has no zero divisor, its block has
     (X_AND_D + 'let q = (x // d)[0:1]|save q "o.npy"|', 'node 2 block (0)', (1,)),
     # nothing is asked for, but an empty slice takes the first block
     (X_AND_D + 'let q = (x // d)[5:2]|save q "o.npy"|', 'node 2 block (0)', (0,)),
     (INPUT['a'] + 'input b "first.npy" shape (3) chunks (2)|let c = a // b|save c "o.npy"|', 'node 2 block (0)', (3,)),
+    # the block that depends on it divides by 0 too, but has no dividend
+    (X_AND_D + 'let q = x // d|let c = q // d|save c "o.npy"|', 'node 2 block (0)', (4,)),
 ]
-
-
-def refusal(status, line):
-    faults = '1 0 0 0' if status == 5 else '0 0 0 0'
-    return told(status, '', f'dask: {line}|', faults, 'o.npy', 'none')
+# two needed blocks meet one each
+DIVIDED_TWICE = X_AND_D + 'let q = x // (d - 1)|save q "o.npy"|'
 
 
 # ---- the outside's own calls
@@ -415,16 +334,12 @@ def blocks():
 # ---- the program
 
 
-def job(lines):
-    say(f'file job.txt {lines}')
-
-
 def saves():
-    title('jobs that save, by each command and in one thread')
+    title('jobs that save, by each command twice')
     say('site 4096 0')
     for lines, array in saved_jobs():
         job(lines)
-        both('o.npy', told(0, plain_lines(('o.npy', array)), '', '0 0 0 0', 'o.npy', text(saved(array))))
+        both_save('o.npy', ('o.npy', array))
         say('saved o.npy sim job.txt 7', f'saved: 0 o.npy {text(saved(array))}')
 
 
@@ -434,15 +349,25 @@ def divided():
     for lines, block, shape in DIVIDED:
         job(lines)
         line = f'dask: zero division: {block}|'
-        both('o.npy', told(4, '', line, '0 0 0 0', 'o.npy', text(saved(np.zeros(shape)))))
-        often('o.npy', 'sim job.txt 7', told(4, '', line, '0 0 0 0', 'o.npy', 'none'))
+        often('o.npy', 'plain job.txt', told(4, '', line, '0 0 0 0', 'o.npy', text(saved(np.zeros(shape)))))
+        # no file is created before the client has all blocks
+        for command in ('run job.txt', 'sim job.txt 7'):
+            often('o.npy', command, told(4, '', line, '0 0 0 0', 'o.npy', 'none'))
+            fail('create', 'o.npy', command, (4, '', line, '0 0 0 0', 'none'), count=0)
+    say('site 4096 0')
+    say('put o.npy old')
+    say('top o.npy run job.txt', 'top:' + told(4, '', line, '0 0 0 0', 'o.npy', 'old'))
+    # which block is named is not determined
+    job(DIVIDED_TWICE)
+    for command in ('run job.txt', 'run job.txt --workers 1 --threads 1', 'sim job.txt 7'):
+        say(f'saved o.npy {command}', 'saved: 4 o.npy none')
 
 
 def refusals():
     title('jobs that save nothing')
     for lines, status, line in REFUSED:
         job(lines)
-        both('o.npy', refusal(status, line))
+        both('o.npy', lambda command, answer=refusal(status, line): answer)
         say('saved o.npy sim job.txt 7', f'saved: {status} o.npy none')
 
 
@@ -461,72 +386,57 @@ def words():
                           'sim job.txt 7 --workers', 'sim job.txt 7 --workers 1 --script lose:1@1', 'sim job.txt 7 --workers 65'):
         say('site 4096 0')
         say(f'top o.npy {list_of_words}', 'top:' + refusal(1, 'words'))
-    say('serial o.npy run', 'serial:' + told(1, '', 'dask: words|dask: words|', '0 0 0 0', 'o.npy', 'none'))
-
-
-PAIR = INPUT['a'] + 'input b "first.npy" shape (3) chunks (3)|let c = a + b|let d = a - b|save c "o.npy"|save d "s.npy"|'
-ONE_CELL = 'input a "one.npy" shape (1) chunks (1)|let b = a + 1|save b "o.npy"|'
-SUM = A + ARRAYS['first.npy']
-DIFFERENCE = A - ARRAYS['first.npy']
-PAIR_LINES = plain_lines(('o.npy', SUM), ('s.npy', DIFFERENCE))
-
-
-def fail(kind, file, command, *answers, count=None):
-    """Each call of a kind fails in turn. How many there are is promised of openings and creations alone."""
-    first, *others = [told(*answer[:4], file, answer[4]) for answer in answers]
-    say(f'fail {kind} {file} {command}', f'fail:{first}', *others, *([] if count is None else [f'count: {count}']))
+    say('serial o.npy plain', 'serial:' + told(1, '', 'dask: words|dask: words|', '0 0 0 0', 'o.npy', 'none'))
 
 
 def read_fails(file, command, done, opened, created=True):
     """Saved files are created once all heads were read, and before any block is."""
-    stopped = (5, '', 'dask: read fault|', '1 0 0 0')
-    fail('open', file, command, (*stopped, 'none'), done, count=opened)
+    fail('open', file, command, STOPPED, done, count=opened)
     for kind in ('length', 'read'):
-        fail(kind, file, command, (*stopped, 'none'), *([(*stopped, 'in part')] if created else []), done)
+        fail(kind, file, command, STOPPED, *([(*STOPPED[:4], 'in part')] if created else []), done)
 
 
 def faults():
     title('each call fails in turn, over two inputs and two saved files')
     job(PAIR)
     say('site 4096 0')
-    both('s.npy', told(0, PAIR_LINES, '', '0 0 0 0', 's.npy', text(saved(DIFFERENCE))))
-    done = (0, PAIR_LINES, '', '0 0 0 0', 'whole')
-    write = (6, '', 'dask: write fault|', '0 1 0 0')
-    for command in ('plain job.txt', 'run job.txt'):
-        # the job and each input are opened once, each saved file is created once
-        read_fails('o.npy', command, done, 3)
-        fail('create', 'o.npy', command, (*write, 'none'), (*write, 'in part'), done, count=2)
-        fail('write', 's.npy', command, (*write, 'none'), (*write, 'in part'), done)
-        fail('out', 's.npy', command, (6, '', 'dask: write fault|', '0 0 1 0', 'whole'), done)
-    fail('create', 's.npy', 'plain job.txt', (*write, 'none'), done, count=2)
-    fail('write', 'o.npy', 'plain job.txt', (*write, 'in part'), (*write, 'whole'), done)
-    fail('err', 'o.npy', 'plain job.txt', done)
+    both_save('s.npy', *PAIR_SAVES)
+    command, lines = 'plain job.txt', lines_of('plain', *PAIR_SAVES)
+    done = (0, lines, '', '0 0 0 0', 'whole')
+    # the job and each input are opened once, each saved file is created once
+    read_fails('o.npy', command, done, 3)
+    fail('create', 'o.npy', command, (*UNWRITTEN, 'none'), (*UNWRITTEN, 'in part'), done, count=2)
+    fail('write', 's.npy', command, (*UNWRITTEN, 'none'), (*UNWRITTEN, 'in part'), done)
+    fail('out', 's.npy', command, (*UNPRINTED, 'whole'), done)
+    fail('create', 's.npy', command, (*UNWRITTEN, 'none'), done, count=2)
+    fail('write', 'o.npy', command, (*UNWRITTEN, 'in part'), (*UNWRITTEN, 'whole'), done)
+    fail('err', 'o.npy', command, done)
     title('the same by sixteen bytes a call')
     say('site 4096 16')
-    read_fails('s.npy', 'plain job.txt', done, 3)
-    fail('write', 's.npy', 'plain job.txt', (*write, 'none'), (*write, 'in part'), done)
-    fronts = [(6, PAIR_LINES[:k], 'dask: write fault|', '0 0 1 0', 'whole') for k in range(0, len(PAIR_LINES), 16)]
-    fail('out', 'o.npy', 'plain job.txt', *fronts, done)
+    read_fails('s.npy', command, done, 3)
+    fail('write', 's.npy', command, (*UNWRITTEN, 'none'), (*UNWRITTEN, 'in part'), done)
+    fronts = [(6, lines[:k], 'dask: write fault|', '0 0 1 0', 'whole') for k in range(0, len(lines), 16)]
+    fail('out', 'o.npy', command, *fronts, done)
     title('a stream without room for all lines')
     say('site 20 0')
-    say('top o.npy plain job.txt', 'top:' + told(6, PAIR_LINES[:20], 'dask: write fault|', '0 0 1 0', 'o.npy', text(saved(SUM))))
+    say(f'top o.npy {command}', 'top:' + told(6, lines[:20], 'dask: write fault|', '0 0 1 0', 'o.npy', text(saved(SUM))))
     title('calls at one object')
     for refused in ('open:0@1', 'open:1@1', 'length:0@1', 'read:0@1'):
         say(f'site 4096 0 {refused}')
-        say('top o.npy plain job.txt', 'top:' + refusal(5, 'read fault'))
+        say(f'top o.npy {command}', 'top:' + refusal(5, 'read fault'))
     # a file's header is written as it is created
     begun = text(saved(np.zeros(3)))
     for refused, held in (('create:0@0', 'none'), ('create:0@1', begun), ('write:0@1', begun), ('write:1@1', text(saved(SUM)))):
         say(f'site 4096 0 {refused}')
-        say('top o.npy plain job.txt', 'top:' + told(*write, 'o.npy', held))
+        say(f'top o.npy {command}', 'top:' + told(*UNWRITTEN, 'o.npy', held))
     title('standard error fails')
     job(REFUSED[0][0])
     line = 'dask: job 1:1: grammar|'
     say('site 4096 0')
-    fail('err', 'o.npy', 'plain job.txt', (2, '', '', '0 0 0 1', 'none'), (2, '', line, '0 0 0 0', 'none'))
+    fail('err', 'o.npy', command, (2, '', '', '0 0 0 1', 'none'), (2, '', line, '0 0 0 0', 'none'))
     say('site 4096 10')
     fronts = [(2, '', line[:k], '0 0 0 1', 'none') for k in range(0, len(line), 10)]
-    fail('err', 'o.npy', 'plain job.txt', *fronts, (2, '', line, '0 0 0 0', 'none'))
+    fail('err', 'o.npy', command, *fronts, (2, '', line, '0 0 0 0', 'none'))
 
 
 def places():
@@ -535,11 +445,12 @@ def places():
     say('site 4096 0 create:0')
     say('put o.npy old')
     say('top o.npy plain job.txt', 'top:' + told(6, '', 'dask: write fault|', '0 1 0 0', 'o.npy', 'old'))
-    say('top o.npy run job.txt', 'top:' + told(0, PAIR_LINES, 'dask: write fault|', '0 1 0 0', 'o.npy', text(saved(SUM))))
+    lines = lines_of('run', *PAIR_SAVES)
+    say('top o.npy run job.txt', 'top:' + told(0, lines, 'dask: write fault|', '0 1 0 0', 'o.npy', text(saved(SUM))))
     # what was saved is an input
     say('put next.txt input o "o.npy" shape (3) chunks (1)|let n = o * o|save n "n.npy"|')
-    lines = PAIR_LINES + plain_lines(('n.npy', SUM * SUM))
-    say('serial n.npy run next.txt', 'serial:' + told(0, lines, 'dask: write fault|', '0 1 0 0', 'n.npy', text(saved(SUM * SUM))))
+    lines += lines_of('plain', ('n.npy', SUM * SUM))
+    say('serial n.npy plain next.txt', 'serial:' + told(0, lines, 'dask: write fault|', '0 1 0 0', 'n.npy', text(saved(SUM * SUM))))
     # a job of another length can't be opened
     say('put job.txt save a "o.npy"|')
     say('serial n.npy plain job.txt', 'serial:' + told(5, lines, 'dask: write fault|dask: read fault|', '1 1 0 0', 'n.npy', text(saved(SUM * SUM))))
@@ -547,17 +458,18 @@ def places():
     say('top o.npy plain none.txt', 'top:' + refusal(5, 'read fault'))
     title('one file is two inputs')
     job(INPUT['a'] + 'input b "a.npy" shape (3) chunks (3)|let c = a + b|save c "o.npy"|')
-    done = (0, plain_lines(('o.npy', A + A)), '', '0 0 0 0', 'whole')
+    save = ('o.npy', A + A)
+    done = (0, lines_of('plain', save), '', '0 0 0 0', 'whole')
     read_fails('o.npy', 'plain job.txt', done, 3)
-    fail('create', 'o.npy', 'plain job.txt', (6, '', 'dask: write fault|', '0 1 0 0', 'none'), done, count=1)
-    both('o.npy', told(0, plain_lines(('o.npy', A + A)), '', '0 0 0 0', 'o.npy', text(saved(A + A))))
+    fail('create', 'o.npy', 'plain job.txt', (*UNWRITTEN, 'none'), done, count=1)
+    both_save('o.npy', save)
     title('one array is two files')
     job(INPUT['a'] + 'save a "o.npy"|save a "n.npy"|')
-    lines = plain_lines(('o.npy', A), ('n.npy', A))
-    done = (0, lines, '', '0 0 0 0', 'whole')
+    saves = ('o.npy', A), ('n.npy', A)
+    done = (0, lines_of('plain', *saves), '', '0 0 0 0', 'whole')
     read_fails('n.npy', 'plain job.txt', done, 2)
-    fail('create', 'n.npy', 'plain job.txt', (6, '', 'dask: write fault|', '0 1 0 0', 'none'), done, count=2)
-    both('n.npy', told(0, lines, '', '0 0 0 0', 'n.npy', text(saved(A))))
+    fail('create', 'n.npy', 'plain job.txt', (*UNWRITTEN, 'none'), done, count=2)
+    both_save('n.npy', *saves)
 
 
 # ---- simulations
@@ -576,7 +488,7 @@ def model(lines, *inputs):
 
 def sim_lines(run, names, number, **setting):
     """The lines of a simulation that saves all."""
-    return ''.join(f'saved {name} {shape_text(run.array(k))}|' for k, name in enumerate(names)) + run.simulate(number, **setting)
+    return saved_lines(*[(name, run.array(k)) for k, name in enumerate(names)]) + run.simulate(number, **setting)
 
 
 def reports():
@@ -615,23 +527,22 @@ def simulations():
     title('no input is opened of a job whose graph passes a limit')
     job('input a "none.npy" shape (32769) chunks (1)|save a "o.npy"|')
     missing = (9, '', 'dask: limit keys|', '0 0 0 0', 'none')
-    for command in ('plain job.txt', 'sim job.txt 7'):
-        fail('open', 'o.npy', command, (5, '', 'dask: read fault|', '1 0 0 0', 'none'), missing, count=1)
+    for command in ('plain job.txt', 'run job.txt', 'sim job.txt 7'):
+        fail('open', 'o.npy', command, STOPPED, missing, count=1)
         fail('create', 'o.npy', command, missing, count=0)
     title('each call of a simulation fails in turn')
     job(ONE_CELL)
     command = f'sim job.txt 7 {ALONE}'
     lines = sim_lines(model(ONE_CELL, ONE), ['o.npy'], 7, workers=1, threads=1)
     done = (0, lines, '', '0 0 0 0', 'whole')
-    write = (6, '', 'dask: write fault|', '0 1 0 0')
     for most in (0, 16):
         say(f'site 4096 {most}')
         read_fails('o.npy', command, done, 2, created=False)
-        fail('create', 'o.npy', command, (*write, 'none'), done, count=1)
-        fail('write', 'o.npy', command, (*write, 'in part'), done)
+        fail('create', 'o.npy', command, (*UNWRITTEN, 'none'), done, count=1)
+        fail('write', 'o.npy', command, (*UNWRITTEN, 'in part'), done)
         fail('err', 'o.npy', command, done)
     say('site 4096 0')
-    fail('out', 'o.npy', command, (6, '', 'dask: write fault|', '0 0 1 0', 'whole'), done)
+    fail('out', 'o.npy', command, (*UNPRINTED, 'whole'), done)
     say('site 4096 40')
     fronts = [(6, lines[:k], 'dask: write fault|', '0 0 1 0', 'whole') for k in range(0, len(lines), 40)]
     fail('out', 'o.npy', command, *fronts, done)
@@ -715,29 +626,26 @@ def with_quotient(chance, lines):
     return ' ; '.join([*made, divided, *saves, 'save q "q.npy"'])
 
 
-def once(file, command, answer):
-    """A run over a new site."""
-    say('site 65536 0')
-    say(f'top {file} {command}', 'top:' + answer)
-
-
 def answer_job(run, names, number):
     """What the three commands answer, for the last file that is saved."""
-    last, fault = names[-1], run.first_fault()
-    if fault is None:
-        array = run.array(len(names) - 1)
-        held = text(saved(array))
-        out = ''.join(f'saved {name} {shape_text(run.array(k))}|' for k, name in enumerate(names)) + 'finished by: plain|'
-        once(last, 'plain job.txt', told(0, out, '', '0 0 0 0', last, held))
-        say(f'saved {last} run job.txt', f'saved: 0 {last} {held}')
+    last, faults = names[-1], run.faults()
+    if not faults:
+        saves = [(name, run.array(k)) for k, name in enumerate(names)]
+        held = text(saved(saves[-1][1]))
+        once(last, 'plain job.txt', told(0, lines_of('plain', *saves), '', '0 0 0 0', last, held))
+        once(last, f'run job.txt {run_cases.options_at(number)}', told(0, lines_of('run', *saves), '', '0 0 0 0', last, held))
         once(last, f'sim job.txt {number}', told(0, sim_lines(run, names, number), '', '0 0 0 0', last, held))
-        for k, name in enumerate(names[:-1]):
-            say(f'saved {name} plain job.txt', f'saved: 0 {name} {text(saved(run.array(k)))}')
+        for name, array in saves[:-1]:
+            say(f'saved {name} plain job.txt', f'saved: 0 {name} {text(saved(array))}')
+            say(f'saved {name} run job.txt', f'saved: 0 {name} {text(saved(array))}')
         return
     # the blocks before the first that is at fault are written
-    held = text(saved(run.array_before(len(names) - 1, fault)))
-    once(last, 'plain job.txt', told(4, '', f'dask: zero division: {run.block_text(fault)}|', '0 0 0 0', last, held))
-    say(f'saved {last} run job.txt', f'saved: 4 {last} {held}')
+    held = text(saved(run.array_before(len(names) - 1, faults[0])))
+    once(last, 'plain job.txt', told(4, '', f'dask: zero division: {run.block_text(faults[0])}|', '0 0 0 0', last, held))
+    # where there are several, it is not determined which one threads meet
+    say(f'saved {last} run job.txt', f'saved: 4 {last} none')
+    if len(faults) == 1:
+        once(last, 'run job.txt', told(4, '', f'dask: zero division: {run.block_text(faults[0])}|', '0 0 0 0', last, 'none'))
     blamed = run.simulate(number)
     once(last, f'sim job.txt {number}', told(4, '', f'dask: zero division: {run.block_text(blamed)}|', '0 0 0 0', last, 'none'))
 
@@ -781,7 +689,7 @@ def main():
     shelve('short.npy', saved(A)[:-1])
     shelve('front.npy', saved(A)[:4])
     shelve('text.npy', b'nothing')
-    for part in (pieces, creations, room, alone, objects, lengths, real, heads, blocks, saves, divided, refusals, large, words, faults, places, reports, simulations, folds, by_chance):
+    for part in (pieces, creations, room, alone, objects, lengths, real, heads, blocks, saves, divided, refusals, large, words, run_cases.words, faults, run_cases.faults, places, reports, simulations, folds, by_chance):
         part()
     here = os.path.join(os.path.dirname(os.path.abspath(__file__)), '..', 'crates', 'site_table')
     for name, lines in (('stdin', LINES), ('stdout', WANTED)):

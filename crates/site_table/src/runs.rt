@@ -3,21 +3,21 @@ use crate::calls::faults;
 use crate::desk::Desk;
 use crate::text::text_of;
 use crate::words::{Trouble, Words, split};
-use dask_top::{serial, top};
+use dask_top::{is_run, serial, top};
 use io_edge::{MemorySite, RealGate};
 use std::alloc::{AllocError, Global};
 use std::random::RandomSource;
 use std::sync::Wait;
 use std::thread::Threads;
 
-/// Runs the whole program over a site, or its one thread.
+/// Runs the whole program over a site, or its one thread, which takes all words but those of a run by threads.
 pub fn status<R: Threads + Wait + RandomSource + AllocGlobal + Sync>(
     rt: &R,
     is_serial: bool,
     words: &[String],
     site: &mut MemorySite,
 ) -> u8 {
-    if is_serial {
+    if is_serial && !is_run(words) {
         serial(rt.alloc(), words, site)
     } else {
         top(rt, words, site, &RealGate)
@@ -93,7 +93,8 @@ fn print_again<R: Print>(rt: &R, told: &str, again: &str) -> Result<(), Trouble>
     }
 }
 
-/// Runs the program over a new site, and in one thread over another: the file that is shown, and the words.
+/// Runs the program over a new site, and again over another, in one thread where the words allow that: the file that is shown, and
+/// the words.
 pub fn run_often<R: Print + Threads + Wait + RandomSource + AllocGlobal + Sync>(
     rt: &R,
     desk: &Desk,

@@ -1,0 +1,270 @@
+"""The lines of the program site_table on runs by a cluster of threads: their words, and calls that fail.
+
+What a line wants is the same whatever the threads do. site_table.py writes the lines. Import it where NumPy is.
+"""
+import numpy as np
+
+from site_lines import (ARRAYS, INPUT, ONE_CELL, PAIR, PAIR_SAVES, STOPPED, SUM, UNPRINTED, UNWRITTEN, fail, job, lines_of, often, refusal,
+                        saved, say, text, title, told)
+
+RAISED = INPUT['a'] + 'let b = a + 1|save b "o.npy"|'
+RAISED_SAVE = 'o.npy', ARRAYS['a.npy'] + 1
+NO_INPUT = 'let b = full((1), 5, (1))|save b "o.npy"|'
+ALONE = '--workers 1 --threads 1'
+
+
+def in_turn(joins):
+    """A script for one worker: so many join, and after each the one that was there before is lost."""
+    return ','.join(f'join@0,lose:{k + 1}@0' for k in range(joins))
+
+
+# options behind `run JOB`
+ACCEPTED = [
+    '--workers 1',
+    '--workers 3',
+    '--workers 64 --threads 1',
+    '--threads 1',
+    '--threads 16',
+    ALONE,
+    '--threads 3 --workers 2',
+    '--workers 007 --threads 0002',
+    '--saturation 1',
+    '--saturation 1000 --workers 2',
+    '--transport inproc',
+    '--script lose:1@1',
+    '--script suspect:2@0',
+    '--script join@0',
+    '--script join@4',
+    '--workers 3 --script lose:1@1,join@2,suspect:3@3',
+    '--script lose:1@0,suspect:2@0,lose:3@0',
+    '--workers 1 --script join@1,lose:1@1',
+    '--workers 1 --script join@0,join@0,suspect:1@1,lose:3@2',
+    '--transport inproc --script join@2 --saturation 11 --threads 3 --workers 2',
+    '--script suspect:1@2,join@2 --workers 2 --transport inproc --saturation 5',
+    '--saturation 20 --threads 1 --script join@1,lose:2@3',
+    # as many threads as there may be, after joins and after a loss
+    '--workers 1 --threads 16 --script join@1,join@1,join@1',
+    '--threads 1 --workers 64 --script lose:64@0,join@1',
+    # as many joins as there may be
+    f'{ALONE} --script {in_turn(64)}',
+    # as many finishes as an item can wait for
+    f'--script lose:1@{2**128 - 2}',
+    '--script lose:004@0000000000000000000000000000000000000000000000000000000000000001',
+]
+
+REFUSED = [
+    # no option, or no value
+    '7',
+    'x',
+    '--workers',
+    '--threads 2 --workers',
+    '--transport',
+    '--script',
+    '2 --workers',
+    '--workers 2 x',
+    '--report',
+    '--report --workers 2',
+    '--report yes',
+    '--memory 268435456',
+    '--workers=2',
+    '-workers 2',
+    '--Workers 2',
+    '--worker 2',
+    # numbers
+    '--workers 0',
+    '--workers 65',
+    '--workers 65 --threads 1',
+    '--workers -1',
+    '--workers +1',
+    '--workers 1.0',
+    '--workers one',
+    '--workers ',
+    f'--workers {2**32 + 1}',
+    f'--workers {2**128 + 1}',
+    '--threads 0',
+    '--threads 17 --workers 1',
+    '--saturation 0',
+    '--saturation 1001',
+    # more than 64 threads
+    '--workers 33',
+    '--threads 16 --workers 5',
+    '--workers 9 --threads 8',
+    '--workers 64',
+    # an option twice
+    '--workers 2 --workers 2',
+    '--script join@1 --threads 2 --script join@1',
+    '--transport inproc --transport inproc',
+    # other transports
+    '--transport tcp',
+    '--transport INPROC',
+    '--transport ',
+    # texts that are no scripts
+    *('--script ' + script for script in (
+        '', ',', 'lose', 'join', 'lose:1', 'lose@1', 'lose:@1', 'lose:1@', 'lose:one@1', 'lose:-1@1', 'lose:1@1.5', 'join:1@1', 'join@', '@1', 'joins@1',
+        'Lose:1@1', 'lose:1@1,', ',lose:1@1', 'lose:1@1,,join@2', 'lose:1@1;join@2', f'lose:{2**32}@1', f'lose:{2**32 + 1}@1', f'join@{2**128 - 1}',
+        f'join@{2**128}')),
+    # scripts that can't be followed
+    *('--script ' + script for script in (
+        'lose:5@1', 'lose:0@1', 'suspect:5@1,join@1', 'lose:1@1,lose:1@2', 'lose:1@1,suspect:1@1', 'lose:1@2,lose:2@1', 'join@1,join@0',
+        'lose:1@0,lose:2@0,lose:3@0,lose:4@0')),
+    '--workers 1 --script lose:1@1',
+    '--workers 1 --script suspect:1@0,join@0',
+    '--workers 2 --script join@0,lose:1@1,lose:2@1,suspect:3@1',
+    '--workers 64 --threads 1 --script join@1',
+    '--workers 32 --script join@1',
+    '--workers 1 --threads 16 --script join@1,join@1,join@1,join@1',
+    f'{ALONE} --script {in_turn(65)}',
+]
+
+# for jobs by chance
+OPTIONS = ['--transport inproc', ALONE, '--workers 2', '--script lose:1@1', '--threads 1 --script suspect:2@3', '--workers 1 --script join@0', '--saturation 1',
+           '--workers 3 --threads 1 --script lose:1@2,join@4,suspect:3@6', '--workers 1 --threads 4', '--workers 8 --threads 1 --saturation 100',
+           '--workers 2 --script join@1,lose:1@2,lose:2@5']
+
+
+def options_at(place):
+    return OPTIONS[place % len(OPTIONS)]
+
+
+def run_of(options):
+    return f'run job.txt {options}' if options else 'run job.txt'
+
+
+def words():
+    title('words of a run, twice by threads')
+    job(RAISED)
+    done = told(0, lines_of('run', RAISED_SAVE), '', '0 0 0 0', 'o.npy', text(saved(RAISED_SAVE[1])))
+    say('site 4096 0')
+    for options in ACCEPTED:
+        often('o.npy', run_of(options), done)
+    # a job of any name
+    say('put --workers ' + RAISED)
+    say('top o.npy run --workers', 'top:' + done)
+    for other in ('run --workers --threads 1', 'run '):
+        say('site 4096 0')
+        say(f'top o.npy {other}', 'top:' + refusal(5, 'read fault'))
+    title('words that begin as those of a run and ask for nothing')
+    for options in REFUSED:
+        say('site 4096 0')
+        say(f'top o.npy {run_of(options)}', 'top:' + refusal(1, 'words'))
+    for other in ('run --workers 2', 'run --workers 2 job.txt', 'plain job.txt --workers 2', 'sim job.txt 7 --transport inproc',
+                  'sim job.txt --workers 2'):
+        say('site 4096 0')
+        say(f'top o.npy {other}', 'top:' + refusal(1, 'words'))
+    # nothing is opened or created then
+    for kind in ('open', 'create'):
+        fail(kind, 'o.npy', run_of('--workers 0'), (1, '', 'dask: words|', '0 0 0 0', 'none'), count=0)
+
+
+def openings(inputs, numbers, threads):
+    """The job, each input for its head, and each once more for each thread of each worker number."""
+    return 1 + inputs + inputs * numbers * threads
+
+
+def at_feeds(kind, feeds):
+    """Such a call fails at the first use of each of these feeds; before them the job and the heads of the inputs have a store each."""
+    return ' '.join(f'{kind}:0@{2 + feed}' for feed in feeds)
+
+
+def reads_fail(file, command, lines, opened, others=True):
+    """A call that fails before the heads are read ends the run. One that fails for a feed ends a worker: the others do its tasks."""
+    done = (0, lines, '', '0 0 0 0', 'whole')
+    answers = [STOPPED, (0, lines, '', '1 0 0 0', 'whole'), done] if others else [STOPPED, done]
+    fail('open', file, command, *answers, count=opened)
+    for kind in ('length', 'read'):
+        fail(kind, file, command, *answers)
+
+
+def writes_fail(command, lines):
+    """Both files are created before the first block is written, the blocks of the first before those of the second."""
+    done = (0, lines, '', '0 0 0 0', 'whole')
+    for file, created, written in (('o.npy', ('none', 'in part'), ('in part', 'whole')), ('s.npy', ('none',), ('none', 'in part'))):
+        fail('create', file, command, *[(*UNWRITTEN, held) for held in created], done, count=2)
+        fail('write', file, command, *[(*UNWRITTEN, held) for held in written], done)
+
+
+def faults():
+    title('each call of a run by threads fails in turn')
+    job(PAIR)
+    say('site 4096 0')
+    lines = lines_of('run', *PAIR_SAVES)
+    done = (0, lines, '', '0 0 0 0', 'whole')
+    for options, numbers, threads in (('', 4, 2), ('--workers 2 --threads 3', 2, 3), ('--workers 1 --script join@0', 2, 2), (ALONE, 1, 1)):
+        reads_fail('o.npy', run_of(options), lines, openings(2, numbers, threads), others=numbers > 1)
+    writes_fail('run job.txt', lines)
+    fail('out', 's.npy', 'run job.txt', (*UNPRINTED, 'whole'), done)
+    fail('err', 'o.npy', 'run job.txt', done)
+    for most, command in ((16, run_of(ALONE)), (64, 'run job.txt')):
+        title(f'the same by {most} bytes a call')
+        say(f'site 4096 {most}')
+        reads_fail('s.npy', command, lines, openings(2, *((1, 1) if most == 16 else (4, 2))), others=most == 64)
+        writes_fail(command, lines)
+        fronts = [(6, lines[:k], 'dask: write fault|', '0 0 1 0', 'whole') for k in range(0, len(lines), most)]
+        fail('out', 'o.npy', command, *fronts, done)
+    objects(lines)
+    counts()
+    losses()
+
+
+def objects(lines):
+    title('a run by threads at single objects')
+    held = text(saved(SUM))
+    say('site 20 0')
+    say('top o.npy run job.txt', 'top:' + told(6, lines[:20], 'dask: write fault|', '0 0 1 0', 'o.npy', held))
+    for refused in ('open:0@1', 'open:1@1', 'length:0@1', 'length:1@1', 'read:0@0', 'read:0@1', 'read:3@1',
+                    # every read from the third on, which is the first of a head
+                    ' '.join(f'read:{k}' for k in range(2, 64))):
+        say(f'site 4096 0 {refused}')
+        say('top o.npy run job.txt', 'top:' + refusal(5, 'read fault'))
+    # a file's header is written as it is created, then its blocks, each at once: of 2 elements and of 1
+    begun, first = text(saved(np.zeros(3))), text(saved([*SUM[:2], 0]))
+    for refused, left in (('create:0@0', 'none'), ('create:0@1', begun), ('write:0@0', '\\00' * (128 + 24)), ('write:0@1', begun), ('write:1@0', begun),
+                          ('write:2@0', first), ('write:1@1', held)):
+        say(f'site 4096 0 {refused}')
+        say('top o.npy run job.txt', 'top:' + told(*UNWRITTEN, 'o.npy', left))
+    title('feeds that are not opened')
+    # feed 0 and 1 are those of worker 1
+    for options, feeds, spoilt in (('', [0], 1), ('', [7], 1), (ALONE, [0], None), ('--threads 1', [0, 1, 2], 3), ('--threads 1', [0, 1, 2, 3], None),
+                                   ('--workers 1 --script join@1', [0], None), ('--workers 1 --script join@1', [2], 1),
+                                   ('--workers 1 --script join@0', [0], 1), ('--workers 1 --script join@0', [3], 1)):
+        say('site 4096 0 ' + at_feeds('open', feeds))
+        say(f'top o.npy {run_of(options)}',
+            'top:' + (told(0, lines, '', f'{spoilt} 0 0 0', 'o.npy', held) if spoilt else
+                      told(5, '', 'dask: read fault|', f'{len(feeds)} 0 0 0', 'o.npy', 'none')))
+
+
+def counts():
+    title('how often a run by threads opens and creates')
+    done = (0, lines_of('run', RAISED_SAVE), '', '0 0 0 0', 'whole')
+    lost = (*done[:3], '1 0 0 0', 'whole')
+    job(RAISED)
+    say('site 4096 0')
+    for options, numbers, threads in (('', 4, 2), ('--workers 3 --threads 1', 3, 1), ('--workers 2 --threads 1 --script join@1,lose:1@2,join@3', 4, 1),
+                                      ('--threads 1 --script join@400', 5, 1)):
+        fail('open', 'o.npy', run_of(options), STOPPED, lost, done, count=openings(1, numbers, threads))
+    # there is no other worker
+    fail('open', 'o.npy', run_of(ALONE), STOPPED, done, count=openings(1, 1, 1))
+    fail('create', 'o.npy', 'run job.txt', (*UNWRITTEN, 'none'), done, count=1)
+    job(NO_INPUT)
+    done = (0, lines_of('run', ('o.npy', np.array([5]))), '', '0 0 0 0', 'whole')
+    fail('open', 'o.npy', 'run job.txt', STOPPED, done, count=openings(0, 4, 2))
+    for kind in ('length', 'read'):
+        # the job is read to its end, and nothing else
+        fail(kind, 'o.npy', 'run job.txt', *([STOPPED] if kind == 'read' else []), done)
+
+
+def losses():
+    title('feeds that fail')
+    job(ONE_CELL)
+    held = text(saved(ARRAYS['one.npy'] + 1))
+    # one task reads, so that each worker meets one fault, and the next one does the task, until none is left
+    for options, workers, threads in (('', 4, 2), ('--workers 3 --threads 1', 3, 1), ('--workers 1 --threads 4', 1, 4),
+                                      ('--workers 1 --script join@0', 2, 2), (ALONE, 1, 1)):
+        for kind in ('length', 'read'):
+            say('site 4096 0 ' + at_feeds(kind, range(workers * threads)))
+            say(f'top o.npy {run_of(options)}', 'top:' + told(5, '', 'dask: read fault|', f'{workers} 0 0 0', 'o.npy', 'none'))
+        # where one worker's feeds are sound it does the task, after none, some or all of the others
+        for sound in range(workers if workers > 1 else 0):
+            own = range(sound * threads, (sound + 1) * threads)
+            say('site 4096 0 ' + at_feeds('read', [feed for feed in range(workers * threads) if feed not in own]))
+            say(f'saved o.npy {run_of(options)}', f'saved: 0 o.npy {held}')
