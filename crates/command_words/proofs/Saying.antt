@@ -1,16 +1,17 @@
 -- What the words say, in one way.
-use Rattle.std.proofs.Common.{◌≡◌, ℕ, ◌<◌, ◌≤◌, ◌-◌, ◌*◌, ◌^◌, inl, inr, Bool, true, false, List, [], codes, length, get_or, refl, sym, subst, ◌∙◌, arith, MatchBool}
-use Rattle.std.specs.Prelude.{Result, Ok, Err, IfOk, IfErr, bytes_eq}
+use Rattle.std.proofs.Common.{◌≡◌, ℕ, ◌<◌, ◌≤◌, ◌-◌, ◌*◌, ◌^◌, inl, inr, Bool, true, false, List, [], codes, length, get_or, map, string_bytes, String, sym, subst, ◌∙◌, arith, MatchBool}
+use Rattle.std.specs.Prelude.{Result, Ok, Err, IfOk, IfErr, bytes_eq, slice_index_or}
+use Rattle.std.specs.declared.alloc.Global.{Global}
 use Rattle.std.proofs.lemmas.Bool.{both_ways}
+use Rattle.std.proofs.lemmas.List.{length-map}
 use Rattle.std.proofs.lemmas.List.FromFn.{length-range_with_len}
 use Rattle.std.proofs.lemmas.Slice.Eq.{bytes_eq-Decides}
 use Rattle.cluster_msgs.specs.declared.events.Item.{Item}
-use Rattle.cluster_rules.specs.Functions.{from_one}
 use Rattle.command_words.specs.Numbers.{IsNumber}
-use Rattle.command_words.specs.Options.{value_at, AreOptions, HasNumber, HasValue, IsGiven, IsMissing}
+use Rattle.command_words.specs.Options.{front_of, value_at, AreOptions, HasNumber, HasValue, IsGiven}
 use Rattle.command_words.specs.Scripts.{IsScript, IsNoScript}
 use Rattle.command_words.specs.Walks.{IsCrew, IsWalk, crew_of}
-use Rattle.command_words.specs.Words.{AreRunSettings, HasNoWalk, HasScript, HasSettings, HasTransport, HasWalk, IsNoRun, IsNotGiven, IsRun, IsSettings, IsSim, IsWhy}
+use Rattle.command_words.specs.Words.{AreRunSettings, HasNoWalk, HasScript, HasSettings, HasTransport, IsNoRun, IsNotGiven, IsRun, IsSettings, IsSim, IsWhy}
 use Rattle.command_words.specs.declared.settings.RunSettings.{RunSettings}
 use Rattle.command_words.specs.declared.run.RunWords.{RunWords}
 use Rattle.command_words.specs.declared.sim.Settings.{Settings}
@@ -19,9 +20,25 @@ use Rattle.command_words.specs.declared.fail.WordsFail.{WordsFail}
 use Rattle.command_words.specs.declared.fail.WordsFail.TheVariants.{Refused, OutOfMemory}
 use Rattle.command_words.specs.declared.verb.Verb.{Verb}
 use Rattle.command_words.specs.declared.verb.Verb.TheVariants.{Run, Sim}
-use Rattle.command_words.proofs.Places.{same_value, with_value, not_given}
+use Rattle.command_words.proofs.Places.{word_is, in_pairs, same_value, with_value, not_given}
 use Rattle.command_words.proofs.Spoken.{one_number}
 use Rattle.command_words.proofs.Readings.{one_script}
+
+-- ## The first word
+
+some_front : (verb : Verb) → 0 < front_of verb
+some_front Run = omega arith
+some_front Sim = omega arith
+
+some_words : (front len : ℕ) → 0 < front → front ≤ len → 0 < len
+some_words front len some least = omega (arith, some, least)
+
+-- words with options have a first one
+pub first_is : (verb : Verb) (words : List (String Global)) (w : String Global) (text name : List ℕ) (b : Bool) → AreOptions verb (map string_bytes words)
+    → w ≡ get_or words 0 w → text ≡ string_bytes w → b ≡ bytes_eq text name → b ≡ true → slice_index_or (map string_bytes words) 0 [] ≡ name
+first_is verb words w text name b o is t e holds =
+    let least = some_words (front_of verb) (length (map string_bytes words)) (some_front verb) (in_pairs verb (map string_bytes words) o).0 in
+    word_is words 0 w text (subst (λ n. 0 < n) (length-map _ _) least) is t ∙ (bytes_eq-Decides text name).0 (sym e ∙ holds)
 
 -- ## Results
 

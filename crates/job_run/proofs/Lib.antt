@@ -11,10 +11,12 @@ pub mod MadeBoxes
 pub mod Naming
 pub mod OneArray
 pub mod OneHeader
+pub mod Reached
 pub mod Running
 pub mod SavePlaces
 pub mod SavedArrays
 pub mod SavedBlocks
+pub mod SavedKeys
 pub mod Saves
 pub mod SavesList
 pub mod SavingSteps

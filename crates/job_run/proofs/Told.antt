@@ -53,7 +53,7 @@ cons_told (Some bytes) None contents e = absurd (none_some e)
     none_some e = cc
 cons_told (Some bytes) (Some more) contents e = record { bytes = bytes; more = more; head = refl; tail = refl; is = sym (ap (value []) e) }
 
-told_at : (held : List ℕ → Option (List ℕ)) (names contents : List (List ℕ)) → told_all held names ≡ Some contents → (k : ℕ) → k < length names → held (get_or names k []) ≡ Some (get_or contents k [])
+pub told_at : (held : List ℕ → Option (List ℕ)) (names contents : List (List ℕ)) → told_all held names ≡ Some contents → (k : ℕ) → k < length names → held (get_or names k []) ≡ Some (get_or contents k [])
 told_at held [] contents e k h = absurd (omega (arith, h))
 told_at held (name ∷ names) contents e zero h =
     let c = cons_told (held name) (told_all held names) contents e in

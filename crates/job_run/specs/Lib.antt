@@ -13,3 +13,4 @@ pub mod Saving
 pub mod Starting
 pub mod Told
 pub mod Values
+pub mod Wanted

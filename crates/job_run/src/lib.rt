@@ -22,6 +22,7 @@ mod load;
 mod lowering;
 mod run;
 mod saving;
+mod wanted;
 
 pub use blocks::{Halt, halt_at, laws_hold};
 pub use create::create_files;
@@ -33,3 +34,4 @@ pub use lines::saved_lines;
 pub use lowering::lower_job;
 pub use run::run_job;
 pub use saving::save_all;
+pub use wanted::{Wanted, ended_at, joined_keys};

@@ -68,7 +68,14 @@ fn save_arrays<S: Site, B: Blocks>(
     ensures failed { IsErrOf result OpenFault.Failed → HasFailed files.new }
 {
     for (place, keys) in saved.iter().enumerate() {
-        save_array(alloc, blocks, files, place, keys.as_slice(), &layouts[place])?;
+        save_array(
+            alloc,
+            blocks,
+            files,
+            place,
+            keys.as_slice(),
+            &layouts[place],
+        )?;
     }
     Ok(())
 }

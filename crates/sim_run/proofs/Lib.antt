@@ -3,7 +3,6 @@ pub mod Ending
 pub mod Given
 pub mod Got
 pub mod Manned
-pub mod Reached
 pub mod Simulating
 pub mod Stops
 pub mod Wanted

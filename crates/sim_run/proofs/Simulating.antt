@@ -33,7 +33,7 @@ use Rattle.lowering_laws.proofs.NamesLaw.{names-law}
 use Rattle.command_words.specs.declared.sim.SimWords.{SimWords}
 use Rattle.command_words.specs.Walks.{joins_in}
 use Rattle.sim_run.specs.Simulated.{AreSettings, running, sim_plan}
-use Rattle.sim_run.proofs.Reached.{all-valued}
+use Rattle.job_run.proofs.Reached.{all-valued}
 use Rattle.sim_run.proofs.Wanted.{flat, in-flat}
 
 -- ## The plan

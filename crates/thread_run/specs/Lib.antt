@@ -1,2 +1,6 @@
 pub mod Counts
 pub mod Ends
+pub mod Feeding
+pub mod Planning
+pub mod Serving
+pub mod Tables

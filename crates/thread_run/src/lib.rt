@@ -9,6 +9,7 @@
 
 mod feeds;
 mod lines;
+mod name;
 mod run;
 mod serving;
 mod table;

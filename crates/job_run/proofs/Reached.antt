@@ -49,19 +49,19 @@ depth-keeps tasks P closed wanted a =
 
 -- ## Values
 
-member : (P : ℕ → Type 0) (xs : List ℕ) (i : ℕ) → AllByRecursion P xs → i < length xs → P (get_or xs i 0)
+pub member : (P : ℕ → Type 0) (xs : List ℕ) (i : ℕ) → AllByRecursion P xs → i < length xs → P (get_or xs i 0)
 member P [] i a h = absurd (omega arith)
 member P (x ∷ xs) zero a h = a.0
 member P (x ∷ xs) (suc i) a h = member P xs i a.1 (omega arith)
 
-each : (P : ℕ → Type 0) (xs : List ℕ) → ((i : ℕ) → i < length xs → P (get_or xs i 0)) → AllByRecursion P xs
+pub each : (P : ℕ → Type 0) (xs : List ℕ) → ((i : ℕ) → i < length xs → P (get_or xs i 0)) → AllByRecursion P xs
 each P [] h = tt
 each P (x ∷ xs) h = (h 0 (omega arith), each P xs (λ i l. h (suc i) (omega arith)))
 
 key-number : (s : Source) (c : ℕ) → c < blocks s.layout → get_or (keys_of s) c 0 ≡ key_of s c
 key-number s c h = get_or-map-range_with_len (key_of s) 0 (blocks s.layout) c c 0 h (omega arith)
 
-all-parts : (P : ℕ → Type 0) (xs ys : List ℕ) → AllByRecursion P (xs ++ ys) → AllByRecursion P xs × AllByRecursion P ys
+pub all-parts : (P : ℕ → Type 0) (xs ys : List ℕ) → AllByRecursion P (xs ++ ys) → AllByRecursion P xs × AllByRecursion P ys
 all-parts P [] ys a = (tt, a)
 all-parts P (x ∷ xs) ys a = let r = all-parts P xs ys a.1 in ((a.0, r.0), r.1)
 

@@ -1,0 +1,226 @@
+-- What a run by threads leaves at each of its ends.
+use Rattle.std.proofs.Common.{◌≡◌, ℕ, ◌+◌, ◌≤◌, List, [], ◌++◌, refl, ap, sym, ◌∙◌, subst, inl, inr, arith, Bool, true, false, Option, Some, None, is_some}
+use Rattle.std.specs.Prelude.{IfSome, IsTrue}
+use Rattle.io_edge.specs.Cause.{Rose}
+use Rattle.io_edge.specs.Content.{Content, PrintsPart, followed_by}
+use Rattle.io_edge.specs.Given.{GivesMore}
+use Rattle.io_edge.proofs.GivenLaws.{more_same, more_then}
+use Rattle.io_edge.specs.View.{View, Files, OnlyOut, OnlyReads, Opens, raised_by}
+use Rattle.nd_shape.specs.Block.{Array}
+use Rattle.npy_codec.specs.declared.head.Head.{Head}
+use Rattle.plain_eval.specs.Eval.{held_in}
+use Rattle.command_words.specs.declared.run.RunWords.{RunWords}
+use Rattle.job_run.specs.declared.ends.Ended.{Ended}
+use Rattle.job_run.specs.declared.ends.Ended.TheVariants.{Done, Limit, File, Zero, ReadFault, WriteFault, OutOfMemory}
+use Rattle.job_run.specs.Inputs.{told_all}
+use Rattle.job_run.specs.Lowering.{LowerCause}
+use Rattle.job_run.specs.Part.{AreLeft, AreWhole, IsNoneOf, RaisedAtMost}
+use Rattle.job_run.specs.Plan.{Plan, names_saved}
+use Rattle.job_run.specs.Runs.{AreRight, AreSaved, HasValues, IsSmall, PrintsFront, ReadCause, RunsPlan, StopsPrinting}
+use Rattle.job_run.specs.Told.{named_told}
+use Rattle.job_run.specs.Values.{IsFaulty, MeetsNone, Named, OnInputs, files_of}
+use Rattle.job_run.proofs.Counting.{opened_most, raised_at_most, times-append}
+use Rattle.job_run.proofs.Naming.{on_named}
+use Rattle.job_run.proofs.Running.{HaveAccepted, left_before, lowering_runs, most_before, reading_runs, rose_before}
+use Rattle.thread_run.specs.Counts.{RaisedBetween, feeds, repeated}
+use Rattle.thread_run.specs.Ends.{Cause, Created, Looked, Opened, Prints, RunsByThreads, Saves, lines_of, openings}
+use Rattle.thread_run.specs.Serving.{ServesAll, ServesFiles, ServesPart}
+
+-- ## Counts
+
+most-front : (xs ys : List (List ℕ)) (old new : List ℕ → ℕ) → RaisedAtMost xs old new → RaisedAtMost (xs ++ ys) old new
+most-front xs ys old new m = record { grows = m.grows; at_most = λ n. omega (arith, m.at_most n, times-append n xs ys) }
+
+most-then : (xs ys : List (List ℕ)) (old mid new : List ℕ → ℕ) → RaisedAtMost xs old mid → RaisedAtMost ys mid new → RaisedAtMost (xs ++ ys) old new
+most-then xs ys old mid new a b = record {
+  grows = λ n. omega (arith, a.grows n, b.grows n);
+  at_most = λ n. omega (arith, a.at_most n, b.at_most n, times-append n xs ys);
+}
+
+between : (xs ys : List (List ℕ)) (old mid new : List ℕ → ℕ) → mid ≡ raised_by xs old → RaisedAtMost ys mid new → RaisedBetween xs (xs ++ ys) old new
+between xs ys old mid new all more = record {
+  at_least = λ n. omega (arith, ap (λ (f : List ℕ → ℕ). f n) all, more.grows n);
+  at_most = most-then xs ys old mid new (raised_at_most xs old mid all) more;
+}
+
+-- ## Before the inputs are accepted
+
+-- an end at which a run leaves what any other leaves, with the inputs opened at most once
+ran : (p : Plan) (w : RunWords) (old new : View) (end : Ended) → RunsPlan p old new end → new.files.held ≡ old.files.held → new.files.created ≡ old.files.created → Cause p old new end → Saves p old.files new.files end →
+    Opened p.inputs (openings p w) old.files.opened new.files.opened end → Created (names_saved p) old.files.created new.files.created end → Prints p old new end → RunsByThreads p w old new end
+ran p w old new end r held made cause saves opened created prints = record {
+  cause = cause;
+  saves = saves;
+  looked = inl (record { held = held; created = made });
+  others = r.others;
+  tells = r.tells;
+  opened = opened;
+  created = created;
+  prints = prints;
+  gave = r.gave;
+  err = r.err;
+  note_faults = r.note_faults;
+}
+
+-- there is no graph
+pub lowering-ends : (p : Plan) (w : RunWords) (v : View) (end : Ended) → LowerCause p end → RunsByThreads p w v v end
+lowering-ends p w v Done cause = absurd cause
+lowering-ends p w v (Limit quantity) cause = let r = lowering_runs p v (Limit quantity) cause in ran p w v v (Limit quantity) r refl refl r.cause r.saves r.opened r.created r.prints
+lowering-ends p w v (File place error) cause = absurd cause
+lowering-ends p w v (Zero node block) cause = absurd cause
+lowering-ends p w v ReadFault cause = absurd cause
+lowering-ends p w v WriteFault cause = absurd cause
+lowering-ends p w v OutOfMemory cause =
+    let r = lowering_runs p v OutOfMemory cause in
+    ran p w v v OutOfMemory r refl refl r.cause r.saves (most-front p.inputs (repeated (feeds w) p.inputs) v.files.opened v.files.opened r.opened) r.created r.prints
+
+-- the inputs weren't opened, or one of them is refused
+pub reading-ends : (p : Plan) (w : RunWords) (old new : View) (end : Ended) → IsSmall p → ReadCause p old new end → Opens p.inputs old.files new.files → OnlyReads old new → RunsByThreads p w old new end
+reading-ends p w old new Done small cause opens only = absurd cause
+reading-ends p w old new (Limit quantity) small cause opens only = absurd cause
+reading-ends p w old new (File place error) small cause opens only =
+    let r = reading_runs p old new (File place error) small cause opens only in
+    ran p w old new (File place error) r opens.held opens.created r.cause r.saves r.opened r.created r.prints
+reading-ends p w old new (Zero node block) small cause opens only = absurd cause
+reading-ends p w old new ReadFault small cause opens only =
+    let r = reading_runs p old new ReadFault small cause opens only in
+    ran p w old new ReadFault r opens.held opens.created r.cause opens.held (most-front p.inputs (repeated (feeds w) p.inputs) old.files.opened new.files.opened r.opened) opens.created r.prints
+reading-ends p w old new WriteFault small cause opens only = absurd cause
+reading-ends p w old new OutOfMemory small cause opens only =
+    let r = reading_runs p old new OutOfMemory small cause opens only in
+    ran p w old new OutOfMemory r opens.held opens.created r.cause r.saves (most-front p.inputs (repeated (feeds w) p.inputs) old.files.opened new.files.opened r.opened) r.created r.prints
+
+-- ## Once the inputs are accepted
+
+on-none : {A : Type 0} (o : Option A) (P : A → Type 0) → false ≡ is_some o → IfSome o P
+on-none None P e = tt
+on-none (Some x) P e = absurd cc
+
+-- what all later ends have
+record Follows (p : Plan) (w : RunWords) (old new : View) : Type 0 where
+  looked : Looked p p.inputs (openings p w) old.files new.files
+  others : (n : List ℕ) → IsNoneOf n (names_saved p) → new.files.held n ≡ old.files.held n
+  tells : new.files.tells ≡ old.files.tells
+  opened : RaisedBetween p.inputs (openings p w) old.files.opened new.files.opened
+  gave : GivesMore old.gave new.gave
+  err : new.err ≡ old.err
+  note_faults : new.note_faults ≡ old.note_faults
+
+follows-out : (p : Plan) (w : RunWords) (old saved new : View) → OnlyOut saved new → Follows p w old saved → Follows p w old new
+follows-out p w old saved new only f =
+    let L : Files → Type 0 = λ x. Looked p p.inputs (openings p w) old.files x in
+    let O : Files → Type 0 = λ x. RaisedBetween p.inputs (openings p w) old.files.opened x.opened in
+    record {
+      looked = subst L (sym only.files) f.looked;
+      others = λ n none. ap (λ (x : Files). x.held n) only.files ∙ f.others n none;
+      tells = ap (λ (x : Files). x.tells) only.files ∙ f.tells;
+      opened = subst O (sym only.files) f.opened;
+      gave = more_then old.gave saved.gave new.gave f.gave (more_same saved.gave new.gave only.gave);
+      err = only.err ∙ f.err;
+      note_faults = only.note_faults ∙ f.note_faults;
+    }
+
+ends : (p : Plan) (w : RunWords) (old new : View) (end : Ended) → Follows p w old new → Cause p old new end → Saves p old.files new.files end → Opened p.inputs (openings p w) old.files.opened new.files.opened end →
+    Created (names_saved p) old.files.created new.files.created end → Prints p old new end → RunsByThreads p w old new end
+ends p w old new end f cause saves opened created prints = record {
+  cause = cause;
+  saves = saves;
+  looked = f.looked;
+  others = f.others;
+  tells = f.tells;
+  opened = opened;
+  created = created;
+  prints = prints;
+  gave = f.gave;
+  err = f.err;
+  note_faults = f.note_faults;
+}
+
+module _ (p : Plan) (w : RunWords) (old mid : View) (files : List Content) (heads : List Head) (a : HaveAccepted p old mid files heads) (told : Bool) (is : told ≡ is_some (told_all old.files.held p.inputs)) where
+  -- what holds where all inputs are told holds of what they hold
+  on-inputs : (P : Named → Type 0) (t : Bool) → t ≡ is_some (told_all old.files.held p.inputs) → (IsTrue t → P (named_told files heads)) → OnInputs p old.files (λ blocks. P (held_in blocks))
+  on-inputs P true e holds = on_named p old.files mid.files files heads P a.inputs (λ t. holds refl)
+  on-inputs P false e holds = on-none (told_all old.files.held p.inputs) _ e
+
+  follows : (new : View) → ServesFiles p (feeds w) mid new → Follows p w old new
+  follows new f =
+      let opened : RaisedBetween p.inputs (openings p w) old.files.opened new.files.opened = between p.inputs (repeated (feeds w) p.inputs) old.files.opened mid.files.opened new.files.opened a.opened f.opened in
+      record {
+        looked = inr (record { opened = opened; inputs = a.fit; small = a.small });
+        others = λ n none. f.others n none ∙ ap (λ g. g n) a.opens.held;
+        tells = f.tells ∙ a.opens.tells;
+        opened = opened;
+        gave = more_then old.gave mid.gave new.gave a.only.gave f.gave;
+        err = f.err ∙ a.only.err;
+        note_faults = f.note_faults ∙ a.only.note_faults;
+      }
+
+  has-values : (IsTrue told → MeetsNone p (named_told files heads)) → HasValues p old.files
+  has-values holds = record { inputs = a.fit; values = on-inputs (λ n. MeetsNone p n) told is holds }
+
+  -- ### The saved files
+
+  are-right : (new : Files) → (IsTrue told → AreLeft (names_saved p) (files_of p (named_told files heads)) mid.files new) → AreRight p old.files new
+  are-right new left = on-inputs (λ n. AreLeft (names_saved p) (files_of p n) old.files new) told is
+      (λ t. left_before (names_saved p) (files_of p (named_told files heads)) old.files mid.files new a.opens.held a.opens.tells (left t))
+
+  are-saved : (new : Files) → (IsTrue told → IsTrue mid.files.tells → AreWhole (names_saved p) (files_of p (named_told files heads)) new) → AreSaved p old.files new
+  are-saved new whole = on-inputs (λ n. IsTrue old.files.tells → AreWhole (names_saved p) (files_of p n) new) told is (λ t tells. whole t (subst IsTrue (sym a.opens.tells) tells))
+
+  created-most : (new : View) → ServesFiles p (feeds w) mid new → RaisedAtMost (names_saved p) old.files.created new.files.created
+  created-most new f = most_before (names_saved p) old.files.created mid.files.created new.files.created a.opens.created f.created
+
+  -- ### The client didn't get all, or its blocks weren't all saved
+
+  pub stopped-ends : (new : View) (end : Ended) → ServesFiles p (feeds w) mid new →
+      ServesPart p (named_told files heads) (IsTrue told) (Rose mid.read_faults new.read_faults) (Rose mid.write_faults new.write_faults) mid.files new.files end → RunsByThreads p w old new end
+  stopped-ends new Done f part = absurd part.cause
+  stopped-ends new (Limit quantity) f part = absurd part.cause
+  stopped-ends new (File place error) f part = absurd part.cause
+  stopped-ends new (Zero node block) f part =
+      let bare = part.bare tt in
+      let g = follows new f in
+      ends p w old new (Zero node block) g (a.small, record { inputs = a.fit; zero_at = on-inputs (λ n. IsFaulty p n node block) told is part.cause }) (bare.0 ∙ a.opens.held) g.opened (bare.1 ∙ a.opens.created) (f.out ∙ a.only.out)
+  stopped-ends new ReadFault f part =
+      let bare = part.bare tt in
+      let g = follows new f in
+      ends p w old new ReadFault g (a.small, rose_before old.read_faults mid.read_faults new.read_faults a.later part.cause) (bare.0 ∙ a.opens.held) g.opened.at_most (bare.1 ∙ a.opens.created) (f.out ∙ a.only.out)
+  stopped-ends new WriteFault f part =
+      let g = follows new f in
+      ends p w old new WriteFault g (a.small, has-values part.cause.0, inl (rose_before old.write_faults mid.write_faults new.write_faults (omega (arith, a.only.write_faults)) part.cause.1)) (are-right new.files part.left) g.opened (created-most new f)
+      (inl (f.out ∙ a.only.out))
+  stopped-ends new OutOfMemory f part = let g = follows new f in ends p w old new OutOfMemory g tt (are-right new.files part.left) g.opened.at_most (created-most new f) (f.out ∙ a.only.out)
+
+  -- ### All blocks were saved
+
+  module _ (saved : View) (f : ServesFiles p (feeds w) mid saved) (all : ServesAll p (named_told files heads) (IsTrue told) mid.files saved.files) where
+    -- no memory was left for the lines
+    pub starved-ends : RunsByThreads p w old saved OutOfMemory
+    starved-ends = let g = follows saved f in ends p w old saved OutOfMemory g tt (are-right saved.files all.left) g.opened.at_most (created-most saved f) (f.out ∙ a.only.out)
+
+    created-all : saved.files.created ≡ raised_by (names_saved p) old.files.created
+    created-all = all.created ∙ ap (raised_by (names_saved p)) a.opens.created
+
+    pub done-ends : (new : View) (text : List ℕ) → OnlyOut saved new → text ≡ lines_of p → new.out ≡ followed_by saved.out text → RunsByThreads p w old new Done
+    done-ends new text only lines printed =
+        let S : Files → Type 0 = λ x. AreSaved p old.files x in
+        let g = follows-out p w old saved new only (follows saved f) in
+        ends p w old new Done g (a.small, has-values all.values) (subst S (sym only.files) (are-saved saved.files all.whole)) g.opened (ap (λ (x : Files). x.created) only.files ∙ created-all)
+        (printed ∙ (ap (λ out. followed_by out text) (f.out ∙ a.only.out) ∙ ap (followed_by old.out) lines))
+
+    pub unprinted-ends : (new : View) (text : List ℕ) → OnlyOut saved new → text ≡ lines_of p → PrintsPart saved.out new.out text → Rose saved.print_faults new.print_faults → RunsByThreads p w old new WriteFault
+    unprinted-ends new text only lines printed rose =
+        let g = follows-out p w old saved new only (follows saved f) in
+        let S : Files → Type 0 = λ x. AreSaved p old.files x in
+        let R : Files → Type 0 = λ x. AreRight p old.files x in
+        let O : Option (List ℕ) → Type 0 = λ o. PrintsPart o new.out (lines_of p) in
+        let T : List ℕ → Type 0 = λ t. PrintsPart saved.out new.out t in
+        let risen : Rose old.print_faults new.print_faults = rose_before old.print_faults saved.print_faults new.print_faults (omega (arith, f.print_faults, a.only.print_faults)) rose in
+        let created : new.files.created ≡ raised_by (names_saved p) old.files.created = ap (λ (x : Files). x.created) only.files ∙ created-all in
+        let stops : StopsPrinting p old new (lines_of p) = record {
+          saved = subst S (sym only.files) (are-saved saved.files all.whole);
+          created = created;
+          fault = risen;
+          front = subst O (f.out ∙ a.only.out) (subst T lines printed);
+        } in
+        ends p w old new WriteFault g (a.small, has-values all.values, inr risen) (subst R (sym only.files) (are-right saved.files all.left)) g.opened (raised_at_most (names_saved p) old.files.created new.files.created created) (inr stops)

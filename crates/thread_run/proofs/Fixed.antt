@@ -1,0 +1,109 @@
+-- A site that fixed what files of these names hold: each later store of them fits the same graph.
+use Rattle.std.proofs.Common.{◌≡◌, ℕ, ◌<◌, ◌≤◌, ℤ, List, [], length, get_or, refl, ap, sym, ◌∙◌, subst, arith, Bool, true, false, Option, Some, None, is_some}
+use Rattle.std.specs.Prelude.{IfSome, IsSome, IsTrue, unwrap_or}
+use Rattle.io_edge.specs.Content.{Content, Told, OnTold, file_at, size_of, told_bytes}
+use Rattle.io_edge.specs.View.{Files, Opens, Shows}
+use Rattle.nd_shape.specs.Index.{IsIn}
+use Rattle.npy_codec.specs.declared.head.Head.{Head}
+use Rattle.npy_codec.specs.Regions.{element}
+use Rattle.block_lowering.specs.Jobs.{FitsFeed, HaveData, TellsFeed, head_at}
+use Rattle.job_run.specs.Inputs.{told_all}
+use Rattle.job_run.proofs.Told.{told_at}
+use Rattle.node_runner.specs.Naming.{FitsRun}
+use Rattle.thread_run.specs.Feeding.{IsFixed, veiled}
+use Rattle.thread_run.proofs.Veiled.{count-veiled, file-hidden, size-veiled}
+
+abbrev Named : Type 0
+Named = ℕ → List ℕ → ℤ
+
+-- ## Once files of these names were opened
+
+pub first-fixed : {named : Named} (names : List (List ℕ)) (heads : List Head) (old new : Files) (files : List Content) → Opens names old new → Shows names old new files → FitsFeed named heads files →
+    IsFixed named (is_some (told_all new.held names)) names heads new
+first-fixed names heads old new files opens shows fits = record {
+  first = files;
+  places = shows.places;
+  fits = fits;
+  sizes = λ k h. (shows.each k h).size;
+  shown = λ k h.
+      let P : (List ℕ → Option (List ℕ)) → Type 0 = λ g. IfSome (g (get_or names k [])) (λ bytes. file_at files k ≡ Told bytes) in
+      subst P (sym opens.held) (shows.each k h).held;
+  told_is = refl;
+}
+
+-- ## As long as the site holds and fixes what it did
+
+pub fixed-stays : (named : Named) (told : Bool) (names : List (List ℕ)) (heads : List Head) (old new : Files) → new.held ≡ old.held → ((n : List ℕ) (s : ℕ) → old.size n ≡ Some s → new.size n ≡ Some s) →
+    IsFixed named told names heads old → IsFixed named told names heads new
+fixed-stays named told names heads old new held kept f = record {
+  first = f.first;
+  places = f.places;
+  fits = f.fits;
+  sizes = λ k h. kept (get_or names k []) (size_of (file_at f.first k)) (f.sizes k h);
+  shown = λ k h.
+      let P : (List ℕ → Option (List ℕ)) → Type 0 = λ g. IfSome (g (get_or names k [])) (λ bytes. file_at f.first k ≡ Told bytes) in
+      subst P (sym held) (f.shown k h);
+  told_is = f.told_is ∙ ap (λ g. is_some (told_all g names)) (sym held);
+}
+
+-- ## A later store
+
+some-of : {A : Type 0} (o : Option A) → true ≡ is_some o → (x : A) × (o ≡ Some x)
+some-of None e = absurd cc
+some-of (Some x) e = (x, refl)
+
+same-size : (o : Option ℕ) (a b : ℕ) → o ≡ Some a → o ≡ Some b → a ≡ b
+same-size o a b l r = ap (λ x. unwrap_or x 0) (sym l ∙ r)
+
+own-told : (file : Content) (bytes : List ℕ) → file ≡ Told bytes → IsSome (told_bytes file)
+own-told file bytes e = let P : Content → Type 0 = λ f. IsSome (told_bytes f) in subst P (sym e) refl
+
+module _ (named : Named) (names : List (List ℕ)) (heads : List Head) (old new : Files) (files : List Content) (opens : Opens names old new) (shows : Shows names old new files) where
+  few : (told : Bool) → IsFixed named told names heads old → length heads ≤ length names
+  few told f = omega (arith, f.fits.all_there.file, f.places)
+
+  sizes-same : (told : Bool) (f : IsFixed named told names heads old) (k : ℕ) → k < length names → size_of (file_at files k) ≡ size_of (file_at f.first k)
+  sizes-same told f k h =
+      same-size (new.size (get_or names k [])) (size_of (file_at files k)) (size_of (file_at f.first k)) (shows.each k h).size (opens.size_kept (get_or names k []) (size_of (file_at f.first k)) (f.sizes k h))
+
+  data-there : (told : Bool) → IsFixed named told names heads old → HaveData heads (veiled told files)
+  data-there told f = record {
+    file = omega (arith, few told f, shows.places, count-veiled told files);
+    data_is = λ j h.
+        let same = sizes-same told f j (omega (arith, h, few told f)) in
+        omega (arith, f.fits.all_there.data_is j h, size-veiled told files j, same);
+  }
+
+  -- where all are told, it tells what the first did
+  same-bytes : (f : IsFixed named true names heads old) (k : ℕ) → k < length names → (bytes : List ℕ) × (file_at files k ≡ Told bytes) × (file_at f.first k ≡ Told bytes)
+  same-bytes f k h =
+      let s = some-of (told_all old.held names) f.told_is in
+      let at : old.held (get_or names k []) ≡ Some (get_or s.0 k []) = told_at old.held names s.0 s.1 k h in
+      let P : Content → Option (List ℕ) → Type 0 = λ file o. IfSome o (λ bytes. file ≡ Told bytes) in
+      (get_or s.0 k [], subst (P (file_at files k)) at (shows.each k h).held, subst (P (file_at f.first k)) at (f.shown k h))
+
+  abbrev Elements : ℕ → Content → Type 0
+  Elements j file = OnTold file (λ bytes. (i : List ℕ) → IsIn (head_at heads j).shape i → element bytes (head_at heads j) i ≡ named j i)
+
+  pub later-fits : (told : Bool) → IsFixed named told names heads old → FitsFeed named heads (veiled told files)
+  later-fits true f = record {
+    all_there = data-there true f;
+    named_is = λ j h.
+        let b = same-bytes f j (omega (arith, h, few true f)) in
+        subst (Elements j) (b.1.1 ∙ sym b.1.0) (f.fits.named_is j h);
+  }
+  later-fits false f = record { all_there = data-there false f; named_is = λ j h. subst (Elements j) (sym (file-hidden files j)) tt }
+
+  pub later-tells : (told : Bool) → IsFixed named told names heads old → IsTrue told → TellsFeed heads (veiled told files)
+  later-tells true f t = record { each = λ j h. let b = same-bytes f j (omega (arith, h, few true f)) in own-told (file_at files j) b.0 b.1.0 }
+  later-tells false f t = absurd cc
+
+-- ## The feed of a run whose job is picked, or isn't
+
+pub if-some : {J : Type 0} (P Q : J → Type 0) (o : Option J) → ((j : J) → P j → Q j) → IfSome o P → IfSome o Q
+if-some P Q None f h = tt
+if-some P Q (Some j) f h = f j h
+
+pub fits-run : {J F : Type 0} (fits tells : J → F → Type 0) (told : Bool) (job : Option J) (feed : F) → IfSome job (λ j. fits j feed × (IsTrue told → tells j feed)) → FitsRun fits tells told job feed
+fits-run fits tells told None feed h = tt
+fits-run fits tells told (Some job) feed h = h

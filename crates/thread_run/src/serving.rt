@@ -1,0 +1,232 @@
+//! The run of a job's graph by the cluster, over its open inputs.
+ghost use Rattle.std.specs.Prelude.{◌≡◌, ◌≤◌, ◌<◌, ◌*◌, length, map, string_bytes, IfOk, IfErr, IsTrue, OnOk, Some};
+ghost use Rattle.io_edge.specs.Cause.{Rose};
+ghost use Rattle.command_words.specs.Words.{AreRunSettings};
+ghost use Rattle.job_run.specs.Jobs.{plan_of};
+ghost use Rattle.job_run.specs.Loading.{AreHeads};
+ghost use Rattle.job_run.specs.Lowering.{IsGraphOf};
+ghost use Rattle.job_run.specs.Plan.{IsRunnable, input_shapes};
+ghost use Rattle.job_run.specs.Values.{tasks_of};
+ghost use Rattle.job_run.specs.Wanted.{IsWantedOf};
+ghost use Rattle.node_runner.specs.Runs.{numbers as numbers_of};
+ghost use Rattle.thread_run.specs.Counts.{feeds as feeds_of};
+ghost use Rattle.thread_run.specs.Feeding.{IsFixed, OpensOften};
+ghost use Rattle.thread_run.specs.Planning.{IsRunPlan};
+ghost use Rattle.thread_run.specs.Serving.{IsWhy, SavesFiles, ServesAll, ServesFiles, ServesPart};
+
+use crate::feeds::{Graphed, give_feeds, open_feeds};
+use crate::name::{Named, Picks};
+use crate::table::table_of;
+use crate::veil::Veil;
+use block_lowering::{Elements, JobGraph, Lowered};
+use cluster_msgs::{JobSpec, KeyList, Label};
+use command_words::RunWords;
+use io_edge::{Gate, OpenFault, Site};
+use job_run::{Ended, Inputs, Job, Wanted, ended_at, joined_keys, laws_hold, save_all};
+use lowering_laws::laws::law_of_form;
+use nd_shape::Block;
+use node_links::Keyed;
+use node_runner::{Ends, RunLabel, RunPlan, RunStatus, run_cluster};
+use std::alloc::Global;
+use std::marker::Brand;
+use std::sync::Wait;
+use std::thread::Threads;
+
+/// How many packets a link holds.
+const CAPACITY: usize = 64;
+
+/// The label of a run over stores of this kind.
+type Marked<I, E, V, P> = RunLabel<Graphed<I, E, V>, Named<V, P>>;
+
+// Runs a graph by the cluster: opens its feeds, and gives them back.
+fn run_feeds<R, S, G, E, V, P>(
+    rt: &R,
+    alloc: Global,
+    site: &mut S,
+    gate: &G,
+    names: &[String],
+    graph: &Graphed<S::In, E, V>,
+    wanted: &KeyList,
+    plan: &RunPlan,
+) -> Result<Vec<Keyed<Block, Marked<S::In, E, V, P>>>, RunStatus>
+where
+    R: Threads + Wait + Sync,
+    S: Site,
+    G: Gate,
+    E: Elements + Send + Sync + Drop,
+    V: Veil + Send + Sync + Drop,
+    P: Picks<Graphed<S::In, E, V>> + Send + Sync + Drop,
+    requires picked { P.picked ≡ Some graph.now }
+    requires fixed { IsFixed E.named V.told (map string_bytes names.now) graph.now.job.heads (S.view site.old).files }
+    requires plan { IsRunPlan plan.now }
+    ensures opens { OpensOften (map string_bytes names.now) (numbers_of plan.now * plan.now.threads) (S.view site.old) (S.view site.new) }
+    ensures blocks { IfOk result (λ blocks. map (λ q. q.key) blocks.items ≡ wanted.now) }
+    ensures why { IfErr result (IsWhy ⟦<RunLabel<Graphed<S::In, E, V>, Named<V, P>> as Label>⟧.facts wanted.now
+        (Rose (S.view site.old).read_faults (S.view site.new).read_faults)) }
+{
+    let Ok(feeds) = open_feeds::<S, E, V, P>(alloc, site, names, plan.numbers(), plan.threads)
+    else {
+        return Err(RunStatus::Memory);
+    };
+    let ends = run_cluster::<R, Graphed<S::In, E, V>, G, Named<V, P>>(
+        rt, alloc, graph, gate, plan, wanted, feeds,
+    );
+    let Ends { result, feeds, .. } = ends;
+    give_feeds::<S, E, V, P>(site, feeds);
+    result
+}
+
+// Saves the blocks of all wanted keys.
+fn save_blocks<S, E, V, P>(
+    alloc: Global,
+    site: &mut S,
+    job: &Job,
+    graph: &Graphed<S::In, E, V>,
+    wanted: &Wanted,
+    blocks: Vec<Keyed<Block, Marked<S::In, E, V, P>>>,
+) -> Result<(), Ended>
+where
+    S: Site,
+    E: Elements + Send + Sync + Drop,
+    V: Veil + Send + Sync + Drop,
+    P: Picks<Graphed<S::In, E, V>> + Send + Sync + Drop,
+    requires runs { IsRunnable (plan_of job.now) }
+    requires wanted { IsWantedOf (plan_of job.now) wanted.now }
+    requires picked { P.picked ≡ Some graph.now }
+    requires tasks { graph.now.job.tasks ≡ tasks_of (plan_of job.now) }
+    requires all { map (λ q. q.key) blocks.items ≡ wanted.now.all }
+    ensures files { SavesFiles (plan_of job.now) (S.view site.old) (S.view site.new) }
+    ensures served { OnOk result (ServesAll (plan_of job.now) E.named (IsTrue V.told) (S.view site.old).files (S.view site.new).files) }
+    ensures stopped { IfErr result (ServesPart (plan_of job.now) E.named (IsTrue V.told) ⊥
+        (Rose (S.view site.old).write_faults (S.view site.new).write_faults) (S.view site.old).files (S.view site.new).files) }
+{
+    laws_hold(job);
+    let table = table_of(alloc, graph.shape().keys(), blocks)?;
+    table.fits();
+    match save_all(
+        alloc,
+        site,
+        job,
+        &table,
+        wanted.saved.as_slice(),
+        wanted.layouts.as_slice(),
+    ) {
+        Ok(()) => Ok(()),
+        Err(OpenFault::Failed) => Err(Ended::WriteFault),
+        Err(OpenFault::OutOfMemory) => Err(Ended::OutOfMemory),
+    }
+}
+
+// Runs a job's graph by the cluster, and saves what its client got.
+fn run_graph<R, S, G, E, V, P>(
+    rt: &R,
+    alloc: Global,
+    site: &mut S,
+    gate: &G,
+    job: &Job,
+    graph: &Graphed<S::In, E, V>,
+    wanted: &Wanted,
+    plan: &RunPlan,
+) -> Result<(), Ended>
+where
+    R: Threads + Wait + Sync,
+    S: Site,
+    G: Gate,
+    E: Elements + Send + Sync + Drop,
+    V: Veil + Send + Sync + Drop,
+    P: Picks<Graphed<S::In, E, V>> + Send + Sync + Drop,
+    requires runs { IsRunnable (plan_of job.now) }
+    requires wanted { IsWantedOf (plan_of job.now) wanted.now }
+    requires picked { P.picked ≡ Some graph.now }
+    requires tasks { graph.now.job.tasks ≡ tasks_of (plan_of job.now) }
+    requires fixed { IsFixed E.named V.told (plan_of job.now).inputs graph.now.job.heads (S.view site.old).files }
+    requires plan { IsRunPlan plan.now }
+    ensures files { ServesFiles (plan_of job.now) (numbers_of plan.now * plan.now.threads) (S.view site.old) (S.view site.new) }
+    ensures served { OnOk result (ServesAll (plan_of job.now) E.named (IsTrue V.told) (S.view site.old).files (S.view site.new).files) }
+    ensures stopped { IfErr result (ServesPart (plan_of job.now) E.named (IsTrue V.told)
+        (Rose (S.view site.old).read_faults (S.view site.new).read_faults) (Rose (S.view site.old).write_faults (S.view site.new).write_faults)
+        (S.view site.old).files (S.view site.new).files) }
+{
+    laws_hold(job);
+    let names = job.inputs.as_slice();
+    match run_feeds::<R, S, G, E, V, P>(rt, alloc, site, gate, names, graph, &wanted.all, plan) {
+        Ok(blocks) => save_blocks::<S, E, V, P>(alloc, site, job, graph, wanted, blocks),
+        Err(RunStatus::Zero { key }) => Err(ended_at(alloc, job, wanted, key)),
+        Err(RunStatus::Read) => Err(Ended::ReadFault),
+        Err(RunStatus::Memory) => Err(Ended::OutOfMemory),
+    }
+}
+
+/// Runs a job's graph by the cluster over its open inputs, and saves what the client got. Where the client didn't get all, no file
+/// is created.
+///
+/// # Errors
+/// How the run ends: a zero divisor that the client was told of, a fault, or want of memory.
+pub fn serve<R, S, G, E, V>(
+    rt: &R,
+    alloc: Global,
+    site: &mut S,
+    gate: &G,
+    job: &Job,
+    lowered: Lowered,
+    inputs: Inputs<S::In>,
+    words: RunWords,
+) -> Result<(), Ended>
+where
+    R: Threads + Wait + Sync,
+    S: Site,
+    G: Gate,
+    E: Elements + Send + Sync + Drop,
+    V: Veil + Send + Sync + Drop,
+    requires runs { IsRunnable (plan_of job.now) }
+    requires graph { IsGraphOf (plan_of job.now) lowered }
+    requires heads { AreHeads (input_shapes job.now.expr) (S.In.files inputs.store) inputs.heads.items }
+    requires count { length inputs.heads.items ≡ length (input_shapes job.now.expr) }
+    requires fixed { IsFixed E.named V.told (plan_of job.now).inputs inputs.heads.items (S.view site.old).files }
+    requires fresh { S.In.count inputs.store ≡ 0 }
+    requires words { AreRunSettings words }
+    ensures files { ServesFiles (plan_of job.now) (feeds_of words) (S.view site.old) (S.view site.new) }
+    ensures served { OnOk result (ServesAll (plan_of job.now) E.named (IsTrue V.told) (S.view site.old).files (S.view site.new).files) }
+    ensures stopped { IfErr result (ServesPart (plan_of job.now) E.named (IsTrue V.told)
+        (Rose (S.view site.old).read_faults (S.view site.new).read_faults) (Rose (S.view site.old).write_faults (S.view site.new).write_faults)
+        (S.view site.old).files (S.view site.new).files) }
+{
+    laws_hold(job);
+    law_of_form();
+    let Inputs { store, heads } = inputs;
+    site.give_store(store);
+    let Lowered {
+        graph,
+        names,
+        saved,
+        layouts,
+        blocks,
+    } = lowered;
+    let all = joined_keys(alloc, saved.as_slice())?;
+    let wanted = Wanted {
+        all,
+        saved,
+        layouts,
+        names,
+        blocks,
+    };
+    let graph = JobGraph::new(alloc, graph, heads)?;
+    let plan = plan_in(words);
+    run_graph::<R, S, G, E, V, Brand>(rt, alloc, site, gate, job, &graph, &wanted, &plan)
+}
+
+// What a run by these words is to be like.
+fn plan_in(words: RunWords) -> RunPlan
+    requires { AreRunSettings words }
+    ensures plan { IsRunPlan result }
+    ensures feeds { numbers_of result * result.threads ≡ feeds_of words }
+{
+    let RunWords { settings, script } = words;
+    RunPlan {
+        workers: settings.workers,
+        threads: settings.threads,
+        saturation: settings.saturation,
+        script,
+        capacity: CAPACITY,
+    }
+}
