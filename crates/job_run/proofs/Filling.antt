@@ -1,7 +1,6 @@
 -- A file while the blocks of its array are written, one after another, and all files of a job's saves.
-use Rattle.std.proofs.Common.{◌≡◌, ◌≢◌, ◌⊎◌, ℕ, ◌+◌, ◌<◌, ◌≤◌, List, [], ◌∷◌, ◌++◌, length, map, get_or, refl, ap, sym, ◌∙◌, subst, inl, inr, arith, Option, Some, None, Result, Ok, Err}
+use Rattle.std.proofs.Common.{◌≡◌, ◌≢◌, ◌⊎◌, ℕ, ◌+◌, ◌<◌, ◌≤◌, List, [], ◌∷◌, ◌++◌, length, get_or, refl, ap, sym, ◌∙◌, subst, inl, inr, arith, Option, Some, Result, Ok, Err}
 use Rattle.std.specs.Prelude.{IsSome, IfSome, OnErr, OnOk}
-use Rattle.std.specs.List.{range_with_len}
 use Rattle.std.proofs.lemmas.List.FromFn.{get_or-map-range_with_len, length-map-range_with_len, map-range_with_len_more}
 use Rattle.io_edge.specs.Content.{Content, Told, Untold, OnTold, told_bytes}
 use Rattle.nd_shape.specs.Block.{Array}
@@ -10,7 +9,7 @@ use Rattle.nd_shape.specs.Region.{Box, moved}
 use Rattle.nd_shape.specs.Shape.{elements}
 use Rattle.chunk_layout.specs.Layouts.{blocks, block_of, lengths, region}
 use Rattle.chunk_layout.proofs.Parting.{in-region}
-use Rattle.saved_files.specs.Filling.{Cover, HoldsBox, IsCovered, IsFilling, IsPart, box_of, file_of}
+use Rattle.saved_files.specs.Filling.{Cover, HoldsBox, IsFilling, IsPart, box_of, file_of}
 use Rattle.npy_region.specs.Writing.{Turns}
 use Rattle.saved_files.specs.Saving.{ChangesAt, IsOf, Saving, saving_at}
 use Rattle.job_run.specs.Filling.{AreBlocksOf, FillsAll, FillsFirst, FillsSome, FilledBelow, KeepNames, boxes_to, keys_at, layout_at}

@@ -21,7 +21,6 @@ use Rattle.job_run.specs.Wanted.{IsBlockAt, wanted_of}
 use Rattle.job_run.proofs.KeyValues.{has-block, lacks-none}
 use Rattle.job_run.proofs.Laws.{saves-there}
 use Rattle.job_run.proofs.Reached.{all-parts, all-valued, each, member}
-use Rattle.job_run.proofs.SavedBlocks.{count-saves}
 
 -- ## Lists of lists
 
@@ -37,7 +36,7 @@ each-joined P (xs ∷ xss) a (suc j) c lj lc = each-joined P xss (all-parts P xs
 
 -- a fact of all members, of one of them
 pub of-joined : (P : ℕ → Type 0) (xs : List ℕ) (k : ℕ) → AllByRecursion P xs → Contains xs k → P k
-of-joined P xs k a has = subst P (sym (get_or_default_zero xs has.0 k has.1.0) ∙ has.1.1) (member P xs has.0 a has.1.0)
+of-joined P xs k a has = subst P (sym (get_or_default_zero xs has.0 k has.1) ∙ has.2) (member P xs has.0 a has.1)
 
 -- ## Values
 

@@ -1,5 +1,5 @@
 -- The files of a plan's saves: created, written from what a client got, and given back.
-use Rattle.std.proofs.Common.{◌≡◌, ℕ, ◌<◌, ◌≤◌, List, length, ap, sym, ◌∙◌, subst, inl, inr, arith, Option, Some, Bool, false}
+use Rattle.std.proofs.Common.{◌≡◌, ℕ, ◌<◌, List, length, ap, sym, ◌∙◌, subst, inr, arith, Option, false}
 use Rattle.std.specs.Prelude.{IfSome, IsSome, bytes_eq}
 use Rattle.std.proofs.lemmas.List.{length-map}
 use Rattle.io_edge.specs.Content.{told_bytes}
@@ -12,7 +12,7 @@ use Rattle.job_run.specs.Evaluating.{AreFresh, AreOpenFor, node_at}
 use Rattle.job_run.specs.Part.{IsNoneOf}
 use Rattle.job_run.specs.Plan.{IsRunnable, Plan, Saved, name_at, names_saved}
 use Rattle.job_run.specs.Filling.{FillsAll, FillsSome, KeepNames, keys_at, layout_at}
-use Rattle.job_run.specs.Saving.{HasSaves, IsGot, SavesLeft, SavesWhole}
+use Rattle.job_run.specs.Saving.{HasSaves, SavesLeft, SavesWhole}
 use Rattle.job_run.proofs.Filling.{WholeLaw, part-file, still-told, whole-file}
 
 -- files that were created, written, and given back

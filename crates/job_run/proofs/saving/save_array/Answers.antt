@@ -1,10 +1,9 @@
-use Rattle.std.proofs.Common.{◌≡◌, ℕ, List, Option, Some, arith, ap, sym, ◌∙◌, subst, length}
-use Rattle.std.proofs.lemmas.Result.{err_from_is_err_and}
+use Rattle.std.proofs.Common.{◌≡◌, ℕ, List, arith, sym, ◌∙◌, subst}
 use Rattle.nd_shape.specs.Region.{Box, IsPart}
 use Rattle.nd_shape.proofs.Places.{index_at-in}
 use Rattle.chunk_layout.specs.Layouts.{counts, lengths, region}
 use Rattle.lowering_laws.proofs.Formed.{box-part}
-use Rattle.saved_files.specs.Saving.{Saving, saving_at}
+use Rattle.saved_files.specs.Saving.{saving_at}
 use Rattle.job_run.proofs.Filling.{always-err, changes-then, fills-cut, fills-next}
 use Rattle.job_run.proofs.saving.save_array.Goals as goal
 

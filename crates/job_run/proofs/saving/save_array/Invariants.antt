@@ -1,4 +1,3 @@
-use Rattle.std.proofs.Common.{◌≡◌, ◌<◌, length}
 use Rattle.saved_files.specs.Saving.{ChangesAt, saving_at}
 use Rattle.job_run.specs.Filling.{FillsFirst}
 use Rattle.job_run.proofs.saving.save_array.Given as goal
