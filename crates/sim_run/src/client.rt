@@ -1,7 +1,6 @@
 //! What the client of a simulation got.
-use block_lowering::{Elements, JobGraph};
+use cluster_msgs::JobSpec;
 use cluster_world::World;
-use io_edge::Store;
 use job_run::Blocks;
 use nd_shape::Block;
 
@@ -10,18 +9,17 @@ pub const CLIENT: u32 = 1;
 
 /// The blocks that the client of a world has got.
 #[derive(Drop)]
-pub struct Client<'a, F: Store + Send + Sync, E: Elements + Send + Sync + Drop> {
-    pub world: &'a World<JobGraph<F, E>>,
+pub struct Client<'a, J: JobSpec<Block = Block>> {
+    pub world: &'a World<J>,
 }
 
-impl<'a, F: Store + Send + Sync, E: Elements + Send + Sync + Drop> Blocks for Client<'a, F, E> {
-    ghost use Rattle.block_lowering.specs.Jobs.{dims_of};
+impl<'a, J: JobSpec<Block = Block>> Blocks for Client<'a, J> {
     ghost use Rattle.cluster_world.specs.Worlds.{cluster};
     ghost use Rattle.sim_run.specs.Client.{HasGot};
 
     ghost got = { λ c. (cluster c.world.now).blocks.got 1 };
 
-    ghost has = { λ c. HasGot c.world.now (dims_of c.world.now.job.job) };
+    ghost has = { λ c. HasGot J.block_dims c.world.now (J.key_dims c.world.now.job) };
 
     fn block(&self, key: u32) -> Option<&Block> {
         self.world.got(CLIENT, key)
