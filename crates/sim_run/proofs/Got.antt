@@ -1,5 +1,5 @@
 -- What the client of a simulated plan got: the blocks of its saves, and with them a value of each key.
-use Rattle.std.proofs.Common.{◌≡◌, ◌≢◌, ℕ, ◌<◌, List, length, map, get_or, refl, ap, sym, ◌∙◌, subst, arith, Option, Some, None, is_some, IfSome, IsSomeAnd, inl, inr}
+use Rattle.std.proofs.Common.{◌≡◌, ◌≢◌, ℕ, ◌<◌, List, length, map, get_or, ap, sym, ◌∙◌, subst, arith, Option, Some, None, is_some, IfSome, IsSomeAnd, inl, inr}
 use Rattle.std.proofs.lemmas.Bool.{cases_lt, false≢true}
 use Rattle.std.proofs.lemmas.List.{get_or_past}
 use Rattle.nd_shape.specs.Block.{Array}
@@ -44,23 +44,15 @@ wanted-for p graph wanted runs ex same keys =
     let G : Shape → Type 0 = λ g. AreWanted (length g.deps) (wanted_of p) in
     subst K (sym keys) (subst G (sym same) (wanted-there p runs ex))
 
--- ## What is there
-
--- a block that was got is there, with its key's lengths
-pub got-there : {J F X : Type 0} (value : X → Array) (measure : Array → List ℕ) (s : State J Array F) (dims : ℕ → List ℕ) (key : ℕ) (lengths : List ℕ) (r : Option X) → HasGot measure s dims key lengths → (s.course ≢ Starved → is_some r ≡ ((world s).clients 1).got key) →
-    (s.course ≢ Starved → IfSome r (λ x. measure (value x) ≡ dims key)) → IsSomeAnd r (λ x. (value x).shape ≡ lengths)
-got-there value measure s dims key lengths None h some fits = absurd (false≢true (some (λ e. going_starved (sym h.going ∙ e)) ∙ h.got))
-got-there value measure s dims key lengths (Some x) h some fits = sym (h.measured (value x)) ∙ (fits (λ e. going_starved (sym h.going ∙ e)) ∙ h.lengths_are)
-
 -- ## The saves
 
 -- where it got all that is wanted, and the world goes on
 pub has-all : {J F : Type 0} (p : Plan) (s : State J Array F) (dims : ℕ → List ℕ) (saved : List (List ℕ)) (layouts : List (List (List ℕ))) → IsRunnable p → IsExpression p.nodes → saved ≡ (lowered p.nodes (nodes_saved p)).saved →
-    layouts ≡ map (layout_of p.nodes) (nodes_saved p) → s.course ≡ Going → HasAll (world s) (wanted_of p) → ((k : ℕ) → dims k ≡ result_shape (task_at (tasks_of p) k).spec) → HasSaves p saved layouts (HasGot (λ (b : Array). b.shape) s dims)
+    layouts ≡ map (layout_of p.nodes) (nodes_saved p) → s.course ≡ Going → HasAll (world s) (wanted_of p) → ((k : ℕ) → dims k ≡ result_shape (task_at (tasks_of p) k).spec) → HasSaves p saved layouts (HasGot s dims)
 has-all p s dims saved layouts runs ex keys layouts_are going all shaped =
-    has-saves p saved layouts (HasGot (λ (b : Array). b.shape) s dims) runs ex keys layouts_are (λ j c lj lc.
+    has-saves p saved layouts (HasGot s dims) runs ex keys layouts_are (λ j c lj lc.
     let key = saved_key p.nodes (nodes_saved p) j c in
-    record { measured = λ b. refl; going = going; got = all key (in-flat (lowered p.nodes (nodes_saved p)).saved j c lj lc); lengths_are = shaped key })
+    record { going = going; got = all key (in-flat (lowered p.nodes (nodes_saved p)).saved j c lj lc); lengths_are = shaped key })
 
 -- ## Values
 

@@ -7,9 +7,9 @@
 //! job's graph is known to pass no limit, and none is created before the client got all.
 #![tactic(auto)]
 
-mod client;
 pub mod ends;
 mod lines;
+mod saving;
 mod serving;
 pub mod simulated;
 
