@@ -1,16 +1,14 @@
 -- What the client of a simulated plan got: the blocks of its saves, and with them a value of each key.
-use Rattle.std.proofs.Common.{◌≡◌, ◌≢◌, ℕ, ◌<◌, List, length, map, get_or, ap, sym, ◌∙◌, subst, arith, Option, Some, None, is_some, IfSome, IsSomeAnd, inl, inr}
-use Rattle.std.proofs.lemmas.Bool.{cases_lt, false≢true}
+use Rattle.std.proofs.Common.{◌≡◌, ℕ, ◌<◌, List, length, map, get_or, ap, sym, ◌∙◌, subst, arith, Option, Some, None, inl, inr}
+use Rattle.std.proofs.lemmas.Bool.{cases_lt}
 use Rattle.std.proofs.lemmas.List.{get_or_past}
 use Rattle.nd_shape.specs.Block.{Array}
 use Rattle.array_expr.specs.Node.{IsExpression}
-use Rattle.chunk_layout.specs.Layouts.{blocks}
 use Rattle.block_kernels.specs.Kernels.{result_shape}
 use Rattle.cluster_msgs.specs.Shape.{Shape, deps_of}
-use Rattle.cluster_world.specs.declared.state.Course.TheVariants.{Going, Starved}
+use Rattle.cluster_world.specs.declared.state.Course.TheVariants.{Going}
 use Rattle.cluster_world.specs.declared.state.State.{State}
 use Rattle.cluster_world.specs.Worlds.{IsMade, cluster, setting, world}
-use Rattle.cluster_world.proofs.Stepwise.{going_starved}
 use Rattle.cluster_sim.specs.Openings.{AreWanted}
 use Rattle.cluster_sim.specs.Simulations.{HasAll, IsNeededFault}
 use Rattle.task_graph.specs.Graphs.{operation, shape_of, task_at, value}

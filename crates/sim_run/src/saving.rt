@@ -74,14 +74,7 @@ fn save_arrays<S: Site, E: Elements + Send + Sync + Drop>(
     ensures failed { IsErrOf result OpenFault.Failed → HasFailed files.new }
 {
     for (place, keys) in saved.iter().enumerate() {
-        save_array(
-            alloc,
-            world,
-            files,
-            place,
-            keys.as_slice(),
-            &layouts[place],
-        )?;
+        save_array(alloc, world, files, place, keys.as_slice(), &layouts[place])?;
     }
     Ok(())
 }

@@ -2,7 +2,7 @@ use Rattle.std.proofs.Common.{◌≡◌, ℕ, List, arith, sym, ◌∙◌, subst
 use Rattle.std.proofs.lemmas.Bool.{false≢true}
 use Rattle.nd_shape.specs.Region.{Box, IsPart}
 use Rattle.nd_shape.proofs.Places.{index_at-in}
-use Rattle.chunk_layout.specs.Layouts.{counts, lengths, region}
+use Rattle.chunk_layout.specs.Layouts.{counts, lengths}
 use Rattle.lowering_laws.proofs.Formed.{box-part}
 use Rattle.cluster_world.specs.Worlds.{cluster}
 use Rattle.cluster_world.proofs.Stepwise.{going_starved}
