@@ -1,5 +1,5 @@
 -- What a simulated run leaves at each of its ends.
-use Rattle.std.proofs.Common.{◌≡◌, ℕ, ◌≤◌, List, [], length, get_or, refl, ap, sym, ◌∙◌, subst, inl, inr, arith, Option}
+use Rattle.std.proofs.Common.{◌≡◌, ℕ, List, refl, ap, sym, ◌∙◌, subst, inl, inr, arith, Option}
 use Rattle.std.specs.Prelude.{IsSome, IsTrue}
 use Rattle.io_edge.specs.Cause.{Rose}
 use Rattle.io_edge.specs.Content.{Content, Told, Untold, OnTold, PrintsPart, file_at, followed_by, told_bytes}

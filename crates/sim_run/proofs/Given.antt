@@ -1,21 +1,16 @@
 -- What a simulation left, once the store of its inputs was given back.
-use Rattle.std.proofs.Common.{◌≡◌, ℕ, ◌<◌, List, refl, ap, sym, ◌∙◌, subst, arith}
-use Rattle.std.specs.Prelude.{IsTrue}
+use Rattle.std.proofs.Common.{◌≡◌, ℕ, ◌<◌, refl, sym, ◌∙◌, subst, arith}
 use Rattle.io_edge.specs.Cause.{Rose, TakesFaults}
-use Rattle.io_edge.specs.Content.{Content}
 use Rattle.io_edge.proofs.GivenLaws.{more_around}
-use Rattle.io_edge.specs.View.{Files, OnlyReads, View, raised_by}
-use Rattle.npy_codec.specs.declared.head.Head.{Head}
-use Rattle.block_lowering.specs.Jobs.{TellsFeed}
+use Rattle.io_edge.specs.View.{Files, OnlyReads, View}
 use Rattle.cluster_msgs.specs.declared.events.Report.{Report}
 use Rattle.job_run.specs.declared.ends.Ended.TheVariants.{Done, Limit, File, Zero, ReadFault, WriteFault, OutOfMemory}
-use Rattle.job_run.specs.Part.{AreLeft, AreWhole}
-use Rattle.job_run.specs.Plan.{Plan, names_saved}
-use Rattle.job_run.specs.Values.{Named, files_of}
+use Rattle.job_run.specs.Plan.{Plan}
+use Rattle.job_run.specs.Values.{Named}
 use Rattle.command_words.specs.declared.sim.SimWords.{SimWords}
 use Rattle.sim_run.specs.declared.ends.SimEnded.{SimEnded}
 use Rattle.sim_run.specs.declared.ends.SimEnded.TheVariants.{Events, Turns, Ran}
-use Rattle.sim_run.specs.Serving.{IsBare, SavesFiles, ServesAll, ServesFiles, ServesPart, Stops}
+use Rattle.sim_run.specs.Serving.{SavesFiles, ServesAll, ServesFiles, ServesPart, Stops}
 
 -- the same causes, said of other facts
 stops-as : (p : Plan) (s : SimWords) (named : Named) (told again reads reads' writes writes' : Type 0) (end : SimEnded) → (told → again) → (reads' → reads) → (writes' → writes) → Stops p s named again reads' writes' end → Stops p s named told reads writes end

@@ -1,16 +1,14 @@
 -- What the client of a simulated plan got: the blocks of its saves, and with them a value of each key.
-use Rattle.std.proofs.Common.{◌≡◌, ◌≢◌, ℕ, ◌<◌, List, length, map, get_or, ap, sym, ◌∙◌, subst, arith, Option, Some, None, is_some, IfSome, IsSomeAnd, inl, inr}
-use Rattle.std.proofs.lemmas.Bool.{cases_lt, false≢true}
+use Rattle.std.proofs.Common.{◌≡◌, ℕ, ◌<◌, List, length, map, get_or, ap, sym, ◌∙◌, subst, arith, Option, Some, None, inl, inr}
+use Rattle.std.proofs.lemmas.Bool.{cases_lt}
 use Rattle.std.proofs.lemmas.List.{get_or_past}
 use Rattle.nd_shape.specs.Block.{Array}
 use Rattle.array_expr.specs.Node.{IsExpression}
-use Rattle.chunk_layout.specs.Layouts.{blocks}
 use Rattle.block_kernels.specs.Kernels.{result_shape}
 use Rattle.cluster_msgs.specs.Shape.{Shape, deps_of}
-use Rattle.cluster_world.specs.declared.state.Course.TheVariants.{Going, Starved}
+use Rattle.cluster_world.specs.declared.state.Course.TheVariants.{Going}
 use Rattle.cluster_world.specs.declared.state.State.{State}
 use Rattle.cluster_world.specs.Worlds.{IsMade, cluster, setting, world}
-use Rattle.cluster_world.proofs.Stepwise.{going_starved}
 use Rattle.cluster_sim.specs.Openings.{AreWanted}
 use Rattle.cluster_sim.specs.Simulations.{HasAll, IsNeededFault}
 use Rattle.task_graph.specs.Graphs.{operation, shape_of, task_at, value}
@@ -43,14 +41,6 @@ wanted-for p graph wanted runs ex same keys =
     let K : List ℕ → Type 0 = λ ks. AreWanted (length graph.deps) ks in
     let G : Shape → Type 0 = λ g. AreWanted (length g.deps) (wanted_of p) in
     subst K (sym keys) (subst G (sym same) (wanted-there p runs ex))
-
--- ## What is there
-
--- a block that was got is there, with its key's lengths
-pub got-there : {J B F X : Type 0} (shape : X → List ℕ) (s : State J B F) (dims : ℕ → List ℕ) (key : ℕ) (lengths : List ℕ) (r : Option X) → HasGot s dims key lengths → (s.course ≢ Starved → is_some r ≡ ((world s).clients 1).got key) →
-    (s.course ≢ Starved → IfSome r (λ x. shape x ≡ dims key)) → IsSomeAnd r (λ x. shape x ≡ lengths)
-got-there shape s dims key lengths None h some fits = absurd (false≢true (some (λ e. going_starved (sym h.going ∙ e)) ∙ h.got))
-got-there shape s dims key lengths (Some x) h some fits = fits (λ e. going_starved (sym h.going ∙ e)) ∙ h.lengths_are
 
 -- ## The saves
 

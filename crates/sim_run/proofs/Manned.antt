@@ -1,18 +1,17 @@
 -- While a script that leaves workers is followed, some worker is alive and connected.
 use Rattle.std.proofs.Common.{◌≡◌, ℕ, zero, suc, ◌+◌, ◌%◌, ◌≤◌, ◌<◌, Bool, true, false, not, ◌&&◌, cond, List, [], ◌∷◌, ◌++◌, length, filter, take, drop, replicate, Option, Some, None, refl, sym, ap, ◌∙◌, subst, arith, get_or}
-use Rattle.std.specs.Prelude.{◌==◌, Contains, slice_get, slice_index_or}
+use Rattle.std.specs.Prelude.{◌==◌, Contains, slice_get}
 use Rattle.std.specs.List.{AllByRecursion, range_with_len}
 use Rattle.std.proofs.lemmas.Bool.{true≢false}
 use Rattle.cluster_msgs.specs.declared.events.Item.{Item}
 use Rattle.cluster_msgs.specs.declared.events.Item.TheVariants.{Lose as LoseItem, Suspect as SuspectItem, Join as JoinItem}
 use Rattle.cluster_msgs.specs.declared.events.Event.{Event}
 use Rattle.cluster_msgs.specs.declared.events.Event.TheVariants.{Want, Join, Lose, SeeLoss, Suspect, Balance, Evict}
-use Rattle.cluster_rules.specs.Functions.{from_one}
 use Rattle.cluster_rules.specs.World.{Job, World, opening, is_connected}
 use Rattle.cluster_rules.specs.WorldStep.{world_step}
 use Rattle.cluster_rules.specs.Enabled.{enabled, progress}
 use Rattle.cluster_rules.specs.Runs.{run_from, reached}
-use Rattle.cluster_rules.specs.Draw.{Plan, Sim, Next, Over, Scripted, Evicts, Balances, Spent, Drawn, Verdict, DrawnFrom, Draw, over, is_reached, is_idle, is_blocked, item_event, scripted, evicts_now, balances_now, drawn, draw_one, turn, unscripted, next_by, next, event_of, moved, opening_events, sim_from}
+use Rattle.cluster_rules.specs.Draw.{Plan, Sim, Next, Over, Scripted, Evicts, Balances, Spent, Drawn, Verdict, DrawnFrom, over, is_reached, is_idle, is_blocked, item_event, scripted, evicts_now, balances_now, drawn, draw_one, turn, unscripted, next_by, next, event_of, moved, opening_events, sim_from}
 use Rattle.cluster_laws.proofs.WorldLemmas.{progress_enabled}
 use Rattle.safety_laws.proofs.Attempts.{run-append}
 use Rattle.safety_laws.proofs.Staying.{takes_away, not_same, IsUnseen, unseen, alive_stays, connected_stays, joined_alive, joined_connected}

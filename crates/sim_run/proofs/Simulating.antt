@@ -1,5 +1,5 @@
 -- The simulation of a graph: what it begins with, and what its client got.
-use Rattle.std.proofs.Common.{◌≡◌, ℕ, ℤ, ◌+◌, ◌<◌, ◌≤◌, Bool, true, false, List, [], ◌∷◌, length, get_or, refl, ap, sym, ◌∙◌, subst, arith, Option, Some, None, is_some, Result, Ok, Err}
+use Rattle.std.proofs.Common.{◌≡◌, ℕ, ℤ, ◌+◌, ◌<◌, ◌≤◌, true, List, [], ◌∷◌, length, get_or, refl, ap, sym, ◌∙◌, subst, arith, Option, Some, None, is_some}
 use Rattle.std.specs.Prelude.{All, IsSome}
 use Rattle.std.proofs.lemmas.Bool.{false≢true}
 use Rattle.nd_shape.specs.Block.{Array}
@@ -7,32 +7,27 @@ use Rattle.array_expr.specs.declared.expr.Node.{Node}
 use Rattle.array_expr.specs.Node.{IsExpression}
 use Rattle.chunk_layout.specs.Layouts.{blocks}
 use Rattle.cluster_msgs.specs.Shape.{Shape, IsShape, deps_of}
-use Rattle.cluster_msgs.specs.Values.{faulty, val}
+use Rattle.cluster_msgs.specs.Values.{val}
 use Rattle.cluster_msgs.specs.declared.events.Item.{Item}
 use Rattle.cluster_msgs.specs.declared.events.Item.TheVariants.{Lose, Suspect, Join}
-use Rattle.cluster_msgs.specs.declared.events.Report.{Report}
-use Rattle.cluster_rules.specs.Draw.{Plan as SimPlan, Served, OutOfTurns}
 use Rattle.cluster_rules.specs.Sched.{Setting}
-use Rattle.cluster_rules.specs.World.{Job, World}
-use Rattle.cluster_rules.specs.Runs.{event_limit}
 use Rattle.cluster_laws.specs.AreValues.{AreValues}
-use Rattle.cluster_laws.specs.Blocks.{Cluster, job_of, opening_cluster}
+use Rattle.cluster_laws.specs.Blocks.{Cluster, opening_cluster}
 use Rattle.cluster_laws.proofs.BlockValues.{values_of}
 use Rattle.cluster_world.specs.declared.state.State.{State}
-use Rattle.cluster_world.specs.Worlds.{IsMade, IsMadeBy, IsReady, cluster, running as runs_of, setting, world}
+use Rattle.cluster_world.specs.Worlds.{IsMade, IsMadeBy, IsReady, cluster, setting, world}
 use Rattle.quiet_bound.proofs.WorldBound.{setting-world}
 use Rattle.cluster_sim.specs.Openings.{IsOpening}
 use Rattle.cluster_sim.specs.Plans.{IsPlan, joins_in as plan_joins}
 use Rattle.cluster_sim.specs.Simulations.{HasAll}
-use Rattle.task_graph.specs.declared.graph.Task.{Task}
-use Rattle.task_graph.specs.Graphs.{operation, shape_of, value}
+use Rattle.task_graph.specs.Graphs.{shape_of, value}
 use Rattle.lowering_laws.specs.Lowered.{lowered, source_at, lowering}
-use Rattle.lowering_laws.specs.Named.{LawOfNames, layout_of}
+use Rattle.lowering_laws.specs.Named.{LawOfNames}
 use Rattle.lowering_laws.specs.Whole.{saved_key}
 use Rattle.lowering_laws.proofs.NamesLaw.{names-law}
 use Rattle.command_words.specs.declared.sim.SimWords.{SimWords}
 use Rattle.command_words.specs.Walks.{joins_in}
-use Rattle.sim_run.specs.Simulated.{AreSettings, running, sim_plan}
+use Rattle.sim_run.specs.Simulated.{AreSettings, sim_plan}
 use Rattle.job_run.proofs.Reached.{all-valued}
 use Rattle.sim_run.proofs.Wanted.{flat, in-flat}
 

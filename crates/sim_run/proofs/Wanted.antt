@@ -1,16 +1,15 @@
 -- The keys that are wanted: those of all saved blocks, each a key of the graph.
-use Rattle.std.proofs.Common.{◌≡◌, ℕ, zero, suc, ◌+◌, ◌*◌, ◌<◌, Bool, true, false, ◌||◌, List, [], ◌∷◌, ◌++◌, length, map, get_or, refl, ap, sym, ◌∙◌, subst, arith, inl, inr, ◌⊎◌, eq-eqb}
+use Rattle.std.proofs.Common.{◌≡◌, ℕ, zero, suc, ◌<◌, Bool, true, false, ◌||◌, List, [], ◌∷◌, ◌++◌, length, get_or, refl, subst, arith, inl, inr, ◌⊎◌, eq-eqb}
 use Rattle.std.specs.Prelude.{All, ◌==◌}
-use Rattle.std.specs.List.{AllByRecursion, flat_map, list_any}
+use Rattle.std.specs.List.{AllByRecursion, flat_map}
 use Rattle.std.proofs.lemmas.Bool.{eqb-true}
 use Rattle.std.proofs.lemmas.List.{length-map}
 use Rattle.std.proofs.Math.Nat.{mul-pos}
-use Rattle.nd_shape.specs.Shape.{elements}
 use Rattle.array_expr.specs.declared.expr.Node.{Node}
 use Rattle.array_expr.specs.Node.{IsExpression}
-use Rattle.chunk_layout.specs.Layouts.{blocks, counts}
+use Rattle.chunk_layout.specs.Layouts.{blocks}
 use Rattle.cluster_msgs.specs.Dags.{IsEarlier}
-use Rattle.cluster_msgs.specs.Shape.{deps_of, key_count}
+use Rattle.cluster_msgs.specs.Shape.{key_count}
 use Rattle.cluster_msgs.specs.Values.{cone, needed}
 use Rattle.cluster_msgs.proofs.ValueLemmas.{cone-below}
 use Rattle.cluster_rules.specs.Derived.{is_in}

@@ -1,6 +1,5 @@
 -- What the private functions answer of a simulation over open inputs.
-use Rattle.std.specs.Prelude.{◌≡◌, ◌≤◌, ◌<◌, ℕ, List, IsTrue, map, length, Some}
-use Rattle.io_edge.specs.Cause.{Rose}
+use Rattle.std.specs.Prelude.{◌≡◌, ◌≤◌, ℕ, List, IsTrue, map, Some}
 use Rattle.io_edge.specs.Given.{GivesMore}
 use Rattle.io_edge.specs.View.{View, Files, OnlyWrites, raised_by}
 use Rattle.cluster_msgs.specs.declared.events.Report.{Report}
@@ -11,7 +10,7 @@ use Rattle.cluster_sim.specs.declared.act.SimError.TheVariants as sim
 use Rattle.lowering_laws.specs.Lowered.{lowered}
 use Rattle.lowering_laws.specs.Named.{layout_of, name_of}
 use Rattle.job_run.specs.declared.ends.Ended.{Ended}
-use Rattle.job_run.specs.declared.ends.Ended.TheVariants.{Done, Zero, ReadFault, WriteFault, OutOfMemory}
+use Rattle.job_run.specs.declared.ends.Ended.TheVariants.{Zero, ReadFault, WriteFault, OutOfMemory}
 use Rattle.job_run.specs.Lowering.{counts_made}
 use Rattle.job_run.specs.Part.{AreLeft, AreWhole, IsNoneOf, RaisedAtMost}
 use Rattle.job_run.specs.Plan.{Plan, names_saved, nodes_saved}

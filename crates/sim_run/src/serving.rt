@@ -15,8 +15,8 @@ ghost use Rattle.job_run.specs.Values.{tasks_of};
 ghost use Rattle.sim_run.specs.Serving.{EndsAtKey, IsWantedOf, SavesFiles, ServesAll, ServesFiles, ServesPart, ended_of};
 ghost use Rattle.sim_run.specs.Simulated.{AreSettings};
 
-use crate::client::{CLIENT, Client};
 use crate::ends::SimEnded;
+use crate::saving::{CLIENT, save_all};
 use block_lowering::sources::Name;
 use block_lowering::{Elements, JobGraph, Lowered};
 use chunk_layout::Layout;
@@ -25,7 +25,7 @@ use cluster_sim::{SimError, SimPlan, simulate};
 use cluster_world::World;
 use command_words::SimWords;
 use io_edge::{OpenFault, Site};
-use job_run::{Ended, Halt, Inputs, Job, halt_at, laws_hold, save_all};
+use job_run::{Ended, Halt, Inputs, Job, halt_at, laws_hold};
 use lowering_laws::laws::law_of_form;
 use nd_shape::Dims;
 use std::alloc::{AllocError, Global};
@@ -142,12 +142,11 @@ fn simulate_world<S: Site, E: Elements + Send + Sync + Drop>(
         Some(key) => return Err(SimEnded::Ran(ended_at(alloc, job, wanted, key))),
         None => {}
     }
-    let client = Client { world };
     match save_all(
         alloc,
         site,
         job,
-        &client,
+        world,
         wanted.saved.as_slice(),
         wanted.layouts.as_slice(),
     ) {

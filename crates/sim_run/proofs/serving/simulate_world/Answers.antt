@@ -1,4 +1,4 @@
-use Rattle.std.proofs.Common.{◌≡◌, ℕ, List, Err, true, ap, sym, ◌∙◌, subst}
+use Rattle.std.proofs.Common.{◌≡◌, List, Err, true, ap, sym, ◌∙◌, subst}
 use Rattle.io_edge.specs.Cause.{Rose}
 use Rattle.io_edge.specs.View.{Files}
 use Rattle.block_kernels.specs.Kernels.{result_shape}
@@ -14,15 +14,13 @@ use Rattle.cluster_laws.specs.Blocks.{job_of}
 use Rattle.cluster_world.specs.Worlds.{setting, world}
 use Rattle.cluster_sim.specs.Drawn.{word_of}
 use Rattle.cluster_sim.specs.Simulations.{IsExhausted, IsReported, IsUnfinished}
-use Rattle.cluster_sim.specs.declared.act.SimError.{SimError}
 use Rattle.cluster_sim.specs.declared.whole.SimEnd.{SimEnd}
 use Rattle.job_run.specs.Evaluating.{HasLaws}
 use Rattle.job_run.specs.Jobs.{plan_of}
 use Rattle.job_run.specs.Plan.{Plan}
 use Rattle.job_run.specs.Values.{Named, tasks_of}
 use Rattle.sim_run.specs.declared.ends.SimEnded.{SimEnded}
-use Rattle.sim_run.specs.Jobs.{wanted_of}
-use Rattle.sim_run.specs.Serving.{Stops, ended_of, job_named}
+use Rattle.sim_run.specs.Serving.{Stops, ended_of}
 use Rattle.sim_run.specs.Simulated.{sim_plan}
 use Rattle.sim_run.proofs.Got.{has-all, has-run, wanted-for}
 use Rattle.sim_run.proofs.Stops.{HasServed, blamed-at, feed-rose, got-all, job-is, left-right, of-plan, part-bare, serves-all, stops-by, zero-stops}

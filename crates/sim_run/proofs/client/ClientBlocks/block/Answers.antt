@@ -1,8 +1,0 @@
-use Rattle.block_lowering.specs.Jobs.{dims_of}
-use Rattle.sim_run.proofs.Got.{got-there}
-use Rattle.sim_run.proofs.client.ClientBlocks.block.Goals as goal
-
-pub returns-clause-there : goal.returns-clause-there
-returns-clause-there g c = λ lengths h.
-    let s = c.args.self.now.world.now in
-    got-there (λ b. b.now.shape) s (dims_of s.job.job) c.args.key lengths c.got.result h c.got.ensures.present c.got.ensures.dims
