@@ -6,4 +6,5 @@ pub mod Places
 pub mod Ending
 pub mod ClosedRows
 pub mod Made
+pub mod Starts
 pub mod Numbers
