@@ -185,6 +185,7 @@ fn make_scheduler<B: Drop, L: Label<Block = B>>(
 }
 
 /// The scheduler's core, with what its node goes by.
+#[tactic(auto, using(crate::proofs::Starts::opening_of, crate::proofs::Starts::graph_of, crate::proofs::Starts::first_of, node_states::proofs::SchedLaw::opening_fits))]
 fn scheduling_core<L: Label>(
     alloc: Global,
     graph: &GraphShape,
@@ -196,12 +197,14 @@ fn scheduling_core<L: Label>(
     ensures opening { IfOk result (λ c. IsOpening (facts c.core)) }
     ensures fits { IfOk result (λ c. SchedFits L.facts (facts c.core)) }
 {
+    let shape = graph.copy()?;
+    let script = plan.script.copy()?;
+    let core = Sched::new(alloc, shape, CLIENT, plan.saturation)?;
     let course = Plan {
         workers: plan.workers,
         threads: plan.threads,
-        script: plan.script.copy()?,
+        script,
     };
-    let core = Sched::new(alloc, graph.copy()?, CLIENT, plan.saturation)?;
     Ok(SchedulingCore::new(alloc, core, course))
 }
 
@@ -259,6 +262,7 @@ fn make_client<B: Drop, L: Label<Block = B>>(
 }
 
 /// The client's core.
+#[tactic(auto, using(node_states::proofs::ClientLaw::new_fits))]
 fn gathering_core<L: Label>(
     alloc: Global,
     graph: &GraphShape,
