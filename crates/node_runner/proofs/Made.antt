@@ -17,9 +17,9 @@ more P n bs c s made start first = record {
   each = λ k b less. dite (ℕ_discrete k n)
       (λ e. (s, ap (λ (x : _). x.1) (get_or_push bs c b k (made.long ∙ sym e)) ∙ start, subst (λ j. P j s) (sym e) first))
       (λ ne.
-          let short : k < length bs = omega (arith, length-append bs (c ∷ []), made.long, ne) in
-          let old = made.each k b short in
-          (old.0, ap (λ (x : _). x.1) (get_or_append_left bs (c ∷ []) b k short) ∙ old.1, old.2));
+      let short : k < length bs = omega (arith, length-append bs (c ∷ []), made.long, ne) in
+      let old = made.each k b short in
+      (old.0, ap (λ (x : _). x.1) (get_or_append_left bs (c ∷ []) b k short) ∙ old.1, old.2));
 }
 
 -- one cell more

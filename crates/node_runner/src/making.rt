@@ -18,7 +18,8 @@ use cluster_msgs::{GraphShape, JobSpec, KeyList, Label};
 use gather_client::ClientCore;
 use node_links::Port;
 use node_states::{
-    ClientNode, Feeds, GatheringCore, Plan, RunGraph, SchedulerLinks, SchedulerNode, SchedulingCore, Why, WorkerLinks, WorkerNode, WorkingCore,
+    ClientNode, Feeds, GatheringCore, Plan, RunGraph, SchedulerLinks, SchedulerNode,
+    SchedulingCore, Why, WorkerLinks, WorkerNode, WorkingCore,
 };
 use scheduler_core::Sched;
 use std::alloc::{AllocError, Global};
@@ -27,6 +28,7 @@ use worker_core::WorkerCore;
 
 /// The most bytes of the scheduler's history, and of another node's.
 const SCHEDULER_BYTES: u64 = 1 << 28;
+
 const NODE_BYTES: u64 = 1 << 25;
 
 /// The number of the client.
@@ -319,9 +321,9 @@ fn add_worker<B: Drop, L: Label<Block = B>, F: Drop>(
     ensures parts { result.0.parts ≡ row.parts }
     ensures made { result.1 ≡ true
         → AreMade (λ k s. IsFirstWorker graph.now threads (k + 1) s.history.book.core.id (worker_facts s.history.book.core.core)) at
-            (map (λ p. berth_of p.seat) row.passes.items)
+        (map (λ p. berth_of p.seat) row.passes.items)
         → AreMade (λ k s. IsFirstWorker graph.now threads (k + 1) s.history.book.core.id (worker_facts s.history.book.core.core)) (at + 1)
-            (map (λ p. berth_of p.seat) result.0.passes.items) }
+        (map (λ p. berth_of p.seat) result.0.passes.items) }
 {
     let own = match own {
         Some(own) => own,

@@ -10,7 +10,7 @@ use Rattle.node_runner.proofs.Made.{made_more}
 use Rattle.node_runner.proofs.making.add_worker.Goals as goal
 
 pub add_made-requires-clause-fits : goal.add_made-requires-clause-fits
-add_made-requires-clause-fits g c = 
+add_made-requires-clause-fits g c =
     IfOk-weaker c.make_worker-made.result _ _ (λ s first. all_places (λ x. BlockFits g.L.Label.facts x.key (arc_value x.block)) (λ x. x.fits) s.blocks.held.items) c.make_worker-made.ensures.first
 
 pub returns-clause-made : goal.returns-clause-made
