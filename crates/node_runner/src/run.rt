@@ -24,7 +24,6 @@ use turn_cell::Stamps;
 
 /// How drivers go about it: some turns a visit, and some rounds in vain before one sleeps.
 const TURNS: u32 = 8;
-
 const PATIENCE: u32 = 4;
 
 /// Runs a job by a cluster of threads: a scheduler, the workers of a plan and one client, which wants these keys. Each worker number has feeds, one
@@ -88,15 +87,7 @@ where
     } = closed;
     match (scheduler.pop(), clients.pop()) {
         (Some(scheduler), Some(client)) => {
-            let (ends, given_up) = end_nodes(
-                alloc,
-                job.shape(),
-                plan,
-                wanted,
-                scheduler,
-                workers,
-                client,
-            );
+            let (ends, given_up) = end_nodes(alloc, job.shape(), plan, wanted, scheduler, workers, client);
             with_reads(job, short, given_up, ends)
         }
         _ => {
