@@ -100,3 +100,8 @@ has_run l graph p wanted b book core ws d client h left blame r scheduler worker
   left_are = left_is l graph p (facts b.core.core) book ws h.workers.items left rows of_workers;
   cause = cause_is l wanted (facts b.core.core) left blame r blamed some;
 }
+
+-- what is known of what is there
+pub if_told : {A : Type 0} (P Q : A → Type 0) (o : Option A) → IfSome o P → ((a : A) → P a → Q a) → IfSome o Q
+if_told P Q None p f = tt
+if_told P Q (Some a) p f = f a p

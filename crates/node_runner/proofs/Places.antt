@@ -1,5 +1,5 @@
 -- Relations place by place, that know the place.
-use Rattle.std.proofs.Common.{◌≡◌, ℕ, ◌+◌, ◌<◌, List, [], ◌∷◌, ◌++◌, length, get_or, take, sym, ap, ◌∙◌, subst, refl, arith}
+use Rattle.std.proofs.Common.{◌≡◌, ◌&&◌, Bool, true, false, ℕ, ◌+◌, ◌<◌, List, [], ◌∷◌, ◌++◌, length, get_or, take, sym, ap, ◌∙◌, subst, refl, arith}
 use Rattle.std.proofs.lemmas.List.{length-append, length-take, take_more, get_or_append_left, get_or_push}
 use mathlib.Core.Logic.{dite}
 use native.Mathlib.Decide.{ℕ_discrete}
@@ -35,3 +35,9 @@ all_by_through R S Q (x ∷ xs) ys zs f h s = record {
   each = λ k b c less. let short : k < length ys = omega (arith, h.long, s.long) in
       f k (get_or (x ∷ xs) k x) (get_or ys k b) (get_or zs k c) (h.each k x c less) (s.each k x b short);
 }
+
+-- three answers that are all true
+pub first_two : (a b c : Bool) → (a && b) && c ≡ true → (a ≡ true) × (b ≡ true)
+first_two true true c e = (refl, refl)
+first_two true false c e = let no : ⊥ = cc in absurd no
+first_two false b c e = let no : ⊥ = cc in absurd no

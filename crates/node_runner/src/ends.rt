@@ -1,5 +1,5 @@
 //! How a run ended, as the closed nodes tell.
-ghost use Rattle.std.specs.Prelude.{◌≡◌, ◌≢◌, ◌≤◌, ◌+◌, ◌<◌, ℕ, true, false, None, map, length, slice_index_or, Contains, IfOk, IfSome, Some};
+ghost use Rattle.std.specs.Prelude.{◌≡◌, ◌≢◌, ◌≤◌, ◌+◌, ◌<◌, ◌++◌, ◌∷◌, [], ℕ, true, false, None, map, length, slice_index_or, Contains, IfOk, IfSome, Some};
 ghost use Rattle.cluster_msgs.specs.Labels.{BlameFits};
 ghost use Rattle.cluster_rules.specs.Sched.{Facts as SchedFacts, connected};
 ghost use Rattle.gather_client.specs.CoreState.{client_facts};
@@ -158,11 +158,11 @@ fn is_gone<B: Drop, L: Label<Block = B>>(scheduler: &SchedulerNode<B, L>, worker
 }
 
 /// The cause as it is told: the script only where an item names the worker, and no link's end, which a run in one process doesn't have.
-fn told(plan: &RunPlan, worker: u32, why: Why) -> Why
+fn told(plan: &RunPlan, worker: u32, cause: Why) -> Why
     ensures script { result ≡ why.Script → IsNamed plan.now.script worker }
     ensures unlinked { result ≢ why.Link }
 {
-    match why {
+    match cause {
         Why::Script => {
             if plan.names(worker) {
                 Why::Script
@@ -215,7 +215,7 @@ pub fn take_apart<B: Drop, L: Label<Block = B>, F: Drop>(
     let mut whole = true;
     for worker in workers {
         let (history, own) = apart(worker);
-        let told = histories.push(history).is_ok();
+        let told = keep(&mut histories, history);
         let given = give_back(own, &mut feeds);
         whole = whole & told & given;
     }
@@ -234,10 +234,17 @@ fn apart<B: Drop, L: Label<Block = B>, F: Drop>(worker: WorkerNode<B, L, F>) -> 
 fn give_back<F: Drop>(own: Feeds<F>, feeds: &mut Vec<F>) -> bool {
     let mut whole = true;
     for feed in own.into_vec() {
-        let given = feeds.push(feed).is_ok();
+        let given = keep(feeds, feed);
         whole = whole & given;
     }
     whole
+}
+
+/// Adds an item. False where there is no memory for it; it is dropped.
+fn keep<T: Drop>(items: &mut Vec<T>, item: T) -> bool
+    ensures { result ≡ true → items.new.items ≡ items.old.items ++ item ∷ [] }
+{
+    items.push(item).is_ok()
 }
 
 /// What is whole.
