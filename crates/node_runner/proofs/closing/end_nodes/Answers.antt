@@ -1,4 +1,4 @@
-use Rattle.std.proofs.Common.{◌≡◌, ◌+◌, ℕ, sym, subst}
+use Rattle.std.proofs.Common.{◌≡◌, ◌+◌, ℕ, sym, subst, arith}
 use Rattle.std.specs.Prelude.{Some, Ok, IfSome, IfOk, Contains}
 use Rattle.cluster_msgs.specs.Labels.{BlameFits}
 use Rattle.gather_client.specs.CoreState.{client_facts}
@@ -19,7 +19,7 @@ returns-clause-ended g c =
           × (t.histories.client ≡ c.client_history-client.result) × (c.all_left-left.result ≡ Ok t.left))) e.0 c.all_told-told.ensures in
       has_run g.L.Label.facts c.args._graph.now p c.args.wanted.now b (λ w. w.history.book) (λ k. worker_facts k.core) c.args.workers.items
           c.args.client.book (λ k. client_facts k.core) h es.left.items c.first_blame-blame.result es.result
-          c.requires.scheduler c.requires.workers c.requires.client
+          c.requires.scheduler (λ k w less. c.requires.workers k w (omega (arith, less, c.args.workers.ok.0))) c.requires.client
           (subst (IsTakenFrom b) (sym t.0) c.scheduler_history-scheduler.ensures.taken)
           (subst (λ o. IfSome o (λ hs. AllBy (λ k w x. IsTakenFrom w.history.book x) c.args.workers.items hs.items)) t.1 c.take_apart-workers.ensures)
           (subst (IsTakenFrom c.args.client.book) (sym t.2) c.client_history-client.ensures)
