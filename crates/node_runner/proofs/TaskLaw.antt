@@ -66,4 +66,4 @@ module _ {J B : Type 0} (graph : J → Shape) (op : J → ℕ → List B → Opt
   -- a zero divisor that it met
   pub zero_fits : IsShape (graph job) → (IsTrue told → None ≡ op job key (blocks_of bs)) → ErrorFits (run_facts graph op dims block_dims told named) key
   zero_fits shape made = subst (λ n. ErrorFits (run_facts graph op dims block_dims told n) key) (sym is)
-    (λ t. faulty-values (deps_of (graph job)) (op job) (earlier (graph job) shape) key (blocks_of bs) (have_values t) (sym (made t)))
+      (λ t. faulty-values (deps_of (graph job)) (op job) (earlier (graph job) shape) key (blocks_of bs) (have_values t) (sym (made t)))
