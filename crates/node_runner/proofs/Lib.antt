@@ -7,5 +7,5 @@ pub mod Ending
 pub mod ClosedRows
 pub mod Made
 pub mod Numbers
-pub mod Reads
-pub mod Turns
+pub mod FeedFaults
+pub mod TurnLemmas

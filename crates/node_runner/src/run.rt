@@ -65,17 +65,40 @@ where
         (HasFeedFault J.fault_count plan.now.threads (map (λ v. vec_len v) feeds.items) result.feeds.items)
         result.result result.left.items result.histories }
 {
+    let (rows, stamps, short) = begin(alloc, job, plan, wanted, feeds);
+    match stamps {
+        Some(stamps) => run_made(rt, alloc, job, gate, plan, wanted, short, rows, stamps),
+        None => close_rows(alloc, rows),
+    }
+}
+
+/// The nodes, the right to draw stamps where all nodes are made and there is memory, and whether a worker has too few feeds.
+fn begin<J: JobSpec, K: RunName<J>>(
+    alloc: Global,
+    job: &J,
+    plan: &RunPlan,
+    wanted: &KeyList,
+    feeds: Vec<Vec<Fed<J, K>>>,
+) -> (Rows<RunLabel<J, K>, Scheduler<J, K>, Worker<J, K>, Client<J, K>>, Option<Stamps>, bool)
+    requires named { K.job ≡ Some job.now }
+    requires saturation { (1 ≤ plan.now.saturation) × (plan.now.saturation ≤ 1000) }
+    requires capacity { 0 < plan.now.capacity }
+    requires threads { (1 ≤ plan.now.threads) × (plan.now.workers * plan.now.threads ≤ 64) }
+    requires numbers { numbers plan.now ≤ 1024 }
+    ensures parts { (result.0.workers.parts ≡ result.0.scheduler.parts) × (result.0.clients.parts ≡ result.0.scheduler.parts) }
+    ensures scheduler { IfSome result.1 (λ _. AreMade (λ k s. IsFirstScheduler (J.graph job.now) plan.now s.history.book.core) 1
+        (map (λ p. berth_of p.seat) result.0.scheduler.passes.items)) }
+    ensures workers { IfSome result.1 (λ _. AreMade (λ k s. IsFirstWorker (J.graph job.now) plan.now.threads (k + 1) s.history.book.core.id
+        (worker_facts s.history.book.core.core)) (numbers plan.now) (map (λ p. berth_of p.seat) result.0.workers.passes.items)) }
+    ensures client { IfSome result.1 (λ _. AreMade (λ k s. IsFirstClient (J.graph job.now) s.book.core.id (client_facts s.book.core.core)) 1
+        (map (λ p. berth_of p.seat) result.0.clients.passes.items)) }
+    ensures short { result.2 ≡ true → (n : ℕ) × Contains (map (λ v. vec_len v) feeds.items) n × (n < plan.now.threads) }
+{
     let short = plan.is_short(feeds.as_slice());
     let drivers = plan.workers * plan.threads + 1;
     let (rows, whole) = make_rows(alloc, job.shape(), plan, wanted, feeds, drivers + 1);
-    match rights(alloc, whole) {
-        Some(stamps) => {
-            let closed = run_rows(rt, alloc, job, gate, plan, rows, stamps);
-            let (ends, given_up) = end_rows(alloc, job.shape(), plan, wanted, closed);
-            with_reads(job, short, given_up, ends)
-        }
-        None => close_rows(alloc, rows),
-    }
+    let stamps = rights(alloc, whole);
+    (rows, stamps, short)
 }
 
 /// The right to draw stamps, where all nodes are made and there is memory.
@@ -86,6 +109,41 @@ fn rights(alloc: Global, whole: bool) -> Option<Stamps>
         return None;
     }
     Stamps::new(alloc).ok()
+}
+
+/// Runs the nodes that were made. `short` says that a worker has too few feeds.
+fn run_made<R, J, G, K>(
+    rt: &R,
+    alloc: Global,
+    job: &J,
+    gate: &G,
+    plan: &RunPlan,
+    wanted: &KeyList,
+    short: bool,
+    rows: Rows<RunLabel<J, K>, Scheduler<J, K>, Worker<J, K>, Client<J, K>>,
+    stamps: Stamps,
+) -> Ends<J::Block, RunLabel<J, K>, Fed<J, K>>
+where
+    R: Threads + Wait + Sync,
+    J: JobSpec,
+    G: Gate,
+    K: RunName<J> + Send + Sync,
+    requires named { K.job ≡ Some job.now }
+    requires parts { (rows.workers.parts ≡ rows.scheduler.parts) × (rows.clients.parts ≡ rows.scheduler.parts) }
+    requires scheduler { AreMade (λ k s. IsFirstScheduler (J.graph job.now) plan.now s.history.book.core) 1
+        (map (λ p. berth_of p.seat) rows.scheduler.passes.items) }
+    requires workers { AreMade (λ k s. IsFirstWorker (J.graph job.now) plan.now.threads (k + 1) s.history.book.core.id (worker_facts s.history.book.core.core))
+        (numbers plan.now) (map (λ p. berth_of p.seat) rows.workers.passes.items) }
+    requires client { AreMade (λ k s. IsFirstClient (J.graph job.now) s.book.core.id (client_facts s.book.core.core)) 1
+        (map (λ p. berth_of p.seat) rows.clients.passes.items) }
+    ensures blocks { IfOk result.result (λ blocks. map (λ k. k.key) blocks.items ≡ wanted.now) }
+    ensures ended { HowItEnded (run_facts J.graph J.operation J.key_dims J.block_dims K.told K.job) (J.graph job.now) plan.now wanted.now
+        ((short ≡ true) ⊎ ((f : _) × Contains result.feeds.items f × (0 < J.fault_count f)))
+        result.result result.left.items result.histories }
+{
+    let closed = run_rows(rt, alloc, job, gate, plan, rows, stamps);
+    let (ends, given_up) = end_rows(alloc, job.shape(), plan, wanted, closed);
+    with_reads(job, short, given_up, ends)
 }
 
 /// Ends a run whose nodes couldn't all be made.

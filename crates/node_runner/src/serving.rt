@@ -1,7 +1,7 @@
 //! The turns of the nodes of a run.
 
 use crate::label::{Fed, RunLabel, RunName};
-use crate::tasks::{Lent, Returned, Running};
+use crate::tasks::{Lent, Returned, Running, run_lent};
 use cluster_msgs::JobSpec;
 use driver_rows::{Attends, ClientNews, SchedulerNews, Schedules, WorkerNews, Works};
 use io_edge::Gate;
@@ -105,7 +105,7 @@ impl<'a, J: JobSpec, G: Gate, K: RunName<J>> Works<
         &self,
         task: Lent<J::Block, RunLabel<J, K>, Fed<J, K>>,
     ) -> Returned<J::Block, RunLabel<J, K>, Fed<J, K>> {
-        self.run_lent(task)
+        run_lent(self.alloc, self, task)
     }
 
     fn take_back<R: Wait>(
