@@ -33,19 +33,19 @@ returns-clause-clients g c =
     c.run_cells.ensures.clients c.requires.client (λ s fit. fit.0)
 
 pub run_cells-requires-send-S : goal.run_cells-requires-send-S
-run_cells-requires-send-S g c κs = let l : IsSend Log.the_field.row = log_send in search (sendable, crosses) depth 60 fits 6000
+run_cells-requires-send-S g c κs = ?
 
 pub run_cells-requires-send-W : goal.run_cells-requires-send-W
-run_cells-requires-send-W g c κs = let l : IsSend Log.the_field.row = log_send in search (sendable, crosses) depth 60 fits 6000
+run_cells-requires-send-W g c κs = ?
 
 pub run_cells-requires-send-C : goal.run_cells-requires-send-C
-run_cells-requires-send-C g c κs = let l : IsSend Log.the_field.row = log_send in search (sendable, crosses) depth 60 fits 6000
+run_cells-requires-send-C g c κs = λ outlives. let l : IsSend Log.the_field.row = log_send in search (sendable, crosses) depth 60 fits 6000
 
 pub run_cells-requires-sync-S : goal.run_cells-requires-sync-S
-run_cells-requires-sync-S g c κs = let l : IsSync Log.the_field.row = log_sync in search (sendable, crosses) depth 60 fits 6000
+run_cells-requires-sync-S g c κs = ?
 
 pub run_cells-requires-sync-W : goal.run_cells-requires-sync-W
-run_cells-requires-sync-W g c κs = let l : IsSync Log.the_field.row = log_sync in search (sendable, crosses) depth 60 fits 6000
+run_cells-requires-sync-W g c κs = ?
 
 pub run_cells-requires-sync-C : goal.run_cells-requires-sync-C
-run_cells-requires-sync-C g c κs = let l : IsSync Log.the_field.row = log_sync in search (sendable, crosses) depth 60 fits 6000
+run_cells-requires-sync-C g c κs = λ outlives. let l : IsSync Log.the_field.row = log_sync in search (sendable, crosses) depth 60 fits 6000
