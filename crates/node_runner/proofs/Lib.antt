@@ -8,3 +8,5 @@ pub mod ClosedRows
 pub mod Made
 pub mod Starts
 pub mod Numbers
+pub mod FeedFaults
+pub mod TurnLemmas
