@@ -10,4 +10,5 @@ pub mod Starts
 pub mod Numbers
 pub mod FeedFaults
 pub mod Beginning
+pub mod Crossing
 pub mod TurnLemmas

@@ -1,11 +1,17 @@
+use denote.Param.{param}
 use denote.Param.Send.{IsSend, IsSync, sendable}
 use Rattle.std.proofs.Crossing.{crosses}
 use Rattle.std.proofs.Common.{arith}
 use Rattle.gather_client.specs.CoreState.{client_facts}
+use Rattle.gather_client.specs.contracts.client.ClientCore as ClientCore
 use Rattle.worker_core.specs.Core.{facts as worker_facts}
 use Rattle.node_links.specs.contracts.log.Log as Log
+use Rattle.node_links.specs.contracts.port.Port as Port
 use Rattle.node_links.proofs.Crosses.{log_send, log_sync}
 use Rattle.node_runner.specs.Runs.{numbers}
+use Rattle.scheduler_core.specs.contracts.sched.Sched as Sched
+use Rattle.worker_core.specs.contracts.worker.WorkerCore as WorkerCore
+use Rattle.node_runner.proofs.Crossing.{sched_send, sched_sync, worker_send, worker_sync, client_send, client_sync, port_send, port_sync}
 use Rattle.node_runner.proofs.ClosedRows.{schedulers_books, workers_books, clients_books}
 use Rattle.node_runner.proofs.run.run_nodes.Goals as goal
 
@@ -23,19 +29,55 @@ returns-clause-clients g c = λ graph made.
     clients_books g.L.Label.facts graph (λ s. s.book) (λ c. c.id) (λ c. client_facts c.core) _ 1 _ _ c.run_cells.ensures.clients made (λ s fit. fit.0)
 
 pub run_cells-requires-send-S : goal.run_cells-requires-send-S
-run_cells-requires-send-S g c κs = λ outlives. let l : IsSend Log.the_field.row = log_send in search (sendable, crosses) depth 60 fits 6000
+run_cells-requires-send-S g c κs = λ outlives.
+    let t = c.type_bounds in
+    let l : IsSend Log.the_field.row = log_send in
+    let s : IsSend Sched.the_field.row = sched_send in
+    let p : IsSend (Port.the_field (param 1 g.row.B) (param 2 g.row.L) g.L.Label).row =
+        port_send (param 1 g.row.B) (param 2 g.row.L) g.L.Label t.send-B t.sync-B t.send-L t.sync-L in
+    search (sendable, crosses) depth 60 fits 6000
 
 pub run_cells-requires-send-W : goal.run_cells-requires-send-W
-run_cells-requires-send-W g c κs = λ outlives. let l : IsSend Log.the_field.row = log_send in search (sendable, crosses) depth 60 fits 6000
+run_cells-requires-send-W g c κs = λ outlives.
+    let t = c.type_bounds in
+    let l : IsSend Log.the_field.row = log_send in
+    let s : IsSend WorkerCore.the_field.row = worker_send in
+    let p : IsSend (Port.the_field (param 1 g.row.B) (param 2 g.row.L) g.L.Label).row =
+        port_send (param 1 g.row.B) (param 2 g.row.L) g.L.Label t.send-B t.sync-B t.send-L t.sync-L in
+    search (sendable, crosses) depth 60 fits 6000
 
 pub run_cells-requires-send-C : goal.run_cells-requires-send-C
-run_cells-requires-send-C g c κs = λ outlives. let l : IsSend Log.the_field.row = log_send in search (sendable, crosses) depth 60 fits 6000
+run_cells-requires-send-C g c κs = λ outlives.
+    let t = c.type_bounds in
+    let l : IsSend Log.the_field.row = log_send in
+    let s : IsSend ClientCore.the_field.row = client_send in
+    let p : IsSend (Port.the_field (param 1 g.row.B) (param 2 g.row.L) g.L.Label).row =
+        port_send (param 1 g.row.B) (param 2 g.row.L) g.L.Label t.send-B t.sync-B t.send-L t.sync-L in
+    search (sendable, crosses) depth 60 fits 6000
 
 pub run_cells-requires-sync-S : goal.run_cells-requires-sync-S
-run_cells-requires-sync-S g c κs = λ outlives. let l : IsSync Log.the_field.row = log_sync in search (sendable, crosses) depth 60 fits 6000
+run_cells-requires-sync-S g c κs = λ outlives.
+    let t = c.type_bounds in
+    let l : IsSync Log.the_field.row = log_sync in
+    let s : IsSync Sched.the_field.row = sched_sync in
+    let p : IsSync (Port.the_field (param 1 g.row.B) (param 2 g.row.L) g.L.Label).row =
+        port_sync (param 1 g.row.B) (param 2 g.row.L) g.L.Label t.send-B t.sync-B t.send-L t.sync-L in
+    search (sendable, crosses) depth 60 fits 6000
 
 pub run_cells-requires-sync-W : goal.run_cells-requires-sync-W
-run_cells-requires-sync-W g c κs = λ outlives. let l : IsSync Log.the_field.row = log_sync in search (sendable, crosses) depth 60 fits 6000
+run_cells-requires-sync-W g c κs = λ outlives.
+    let t = c.type_bounds in
+    let l : IsSync Log.the_field.row = log_sync in
+    let s : IsSync WorkerCore.the_field.row = worker_sync in
+    let p : IsSync (Port.the_field (param 1 g.row.B) (param 2 g.row.L) g.L.Label).row =
+        port_sync (param 1 g.row.B) (param 2 g.row.L) g.L.Label t.send-B t.sync-B t.send-L t.sync-L in
+    search (sendable, crosses) depth 60 fits 6000
 
 pub run_cells-requires-sync-C : goal.run_cells-requires-sync-C
-run_cells-requires-sync-C g c κs = λ outlives. let l : IsSync Log.the_field.row = log_sync in search (sendable, crosses) depth 60 fits 6000
+run_cells-requires-sync-C g c κs = λ outlives.
+    let t = c.type_bounds in
+    let l : IsSync Log.the_field.row = log_sync in
+    let s : IsSync ClientCore.the_field.row = client_sync in
+    let p : IsSync (Port.the_field (param 1 g.row.B) (param 2 g.row.L) g.L.Label).row =
+        port_sync (param 1 g.row.B) (param 2 g.row.L) g.L.Label t.send-B t.sync-B t.send-L t.sync-L in
+    search (sendable, crosses) depth 60 fits 6000
