@@ -9,8 +9,13 @@ use Rattle.atomic_table.proofs.shared.Shared.TheSendSync as shared
 use Rattle.atomic_table.proofs.send_lease.SendLease.TheSendSync as lease
 use Rattle.cluster_msgs.specs.declared.labels.Label.{Ghosts}
 use Rattle.gather_client.specs.contracts.client.ClientCore as ClientCore
+use Rattle.node_links.specs.contracts.keyed.Keyed as Keyed
+use Rattle.node_links.specs.contracts.log.Log as Log
 use Rattle.node_links.specs.contracts.packet.Sealed as Sealed
 use Rattle.node_links.specs.contracts.port.Port as Port
+use Rattle.node_links.proofs.Crosses.{log_send, log_sync}
+use Rattle.node_states.specs.contracts.history.WorkerHistory as WorkerHistory
+use Rattle.node_states.specs.contracts.past.SchedulerHistory as SchedulerHistory
 use Rattle.scheduler_core.specs.contracts.sched.Sched as Sched
 use Rattle.worker_core.specs.contracts.worker.WorkerCore as WorkerCore
 
@@ -37,7 +42,7 @@ client_send = search (sendable, crosses) depth 60 fits 6000
 pub client_sync : IsSync ClientCore.the_field.row
 client_sync = search (sendable, crosses) depth 60 fits 6000
 
--- the ports
+-- ports and blocks
 module _ (B L : RattleType) (g : Ghosts L.Denot B.Denot) (sb : IsSend B) (yb : IsSync B) (sl : IsSend L) (yl : IsSync L) where
   pub port_send : IsSend (Port.the_field B L g).row
   port_send =
@@ -49,3 +54,34 @@ module _ (B L : RattleType) (g : Ghosts L.Denot B.Denot) (sb : IsSend B) (yb : I
       let s : IsSend (Sealed.the_field B L g).row = search (sendable, crosses) depth 60 fits 6000 in
       let y : IsSync (Sealed.the_field B L g).row = search (sendable, crosses) depth 60 fits 6000 in
       search (sendable, crosses, seat.the_send, seat_sync, shared.the_send, shared.the_sync, lease.the_send, lease.the_sync) depth 60 fits 6000
+
+  pub keyed_send : IsSend (Keyed.the_field B L g).row
+  keyed_send = search (sendable, crosses) depth 60 fits 6000
+
+  pub keyed_sync : IsSync (Keyed.the_field B L g).row
+  keyed_sync = search (sendable, crosses) depth 60 fits 6000
+
+  -- the histories
+  pub scheduler_history_send : IsSend (SchedulerHistory.the_field L B g).row
+  scheduler_history_send =
+      let l : IsSend Log.the_field.row = log_send in
+      let s : IsSend Sched.the_field.row = sched_send in
+      search (sendable, crosses) depth 60 fits 6000
+
+  pub scheduler_history_sync : IsSync (SchedulerHistory.the_field L B g).row
+  scheduler_history_sync =
+      let l : IsSync Log.the_field.row = log_sync in
+      let s : IsSync Sched.the_field.row = sched_sync in
+      search (sendable, crosses) depth 60 fits 6000
+
+  pub worker_history_send : IsSend (WorkerHistory.the_field L B g).row
+  worker_history_send =
+      let l : IsSend Log.the_field.row = log_send in
+      let s : IsSend WorkerCore.the_field.row = worker_send in
+      search (sendable, crosses) depth 60 fits 6000
+
+  pub worker_history_sync : IsSync (WorkerHistory.the_field L B g).row
+  worker_history_sync =
+      let l : IsSync Log.the_field.row = log_sync in
+      let s : IsSync WorkerCore.the_field.row = worker_sync in
+      search (sendable, crosses) depth 60 fits 6000
