@@ -28,3 +28,6 @@ returns-clause-ended g c =
           (subst (λ r. IfOk r (λ left. AllBy (λ k w o. IfSome o (IsLeft p (facts b.core.core) (k + 1) w.history.book.entries w.history.book.cut)) c.as_slice-3.result.now left.items)) t.3 c.all_left-left.ensures))
           (subst (IfStatus (IsBlamed c.first_blame-blame.result)) (sym e.1) c.result.ensures.cause)
           (subst (λ ks. IfSome c.first_blame-blame.result (λ blame. (k : ℕ) × Contains ks k × BlameFits g.L.Label.facts k blame)) c.as_slice-2.ensures c.first_blame-blame.ensures))
+
+pub returns-clause-given_up : goal.returns-clause-given_up
+returns-clause-given_up g c = λ e. c.is_over-given_up.ensures.given_up (facts c.args.scheduler.history.book.core.core) c.joined-joined.ensures e
