@@ -62,11 +62,14 @@ cause_of_more l wanted f left F G (Err Memory) more h = tt
 pub ended_more : {A B : Type 0} (l : LabelFacts B) (graph : Shape) (p : RunPlan) (wanted : List ℕ) (F G : Type 0) (r : Result A RunStatus) (left : List (Option Why))
     (o : Option Histories) → (F → G) → HowItEnded l graph p wanted F r left o → HowItEnded l graph p wanted G r left o
 ended_more l graph p wanted F G r left None more h = h
-ended_more l graph p wanted F G r left (Some x) more h = (h.0, record {
-  histories = h.1.histories;
-  left_are = h.1.left_are;
-  cause = cause_of_more l wanted h.0.scheduler left F G r more h.1.cause;
-})
+ended_more l graph p wanted F G r left (Some x) more h = (
+  h.0,
+  record {
+    histories = h.1.histories;
+    left_are = h.1.left_are;
+    cause = cause_of_more l wanted h.0.scheduler left F G r more h.1.cause;
+  },
+)
 
 -- a run that didn't start
 pub ended_none : {A B : Type 0} (l : LabelFacts B) (graph : Shape) (p : RunPlan) (wanted : List ℕ) (F : Type 0) (r : Result A RunStatus) (left : List (Option Why))
@@ -82,3 +85,7 @@ pub told_end : {A B V W : Type 0} (l : LabelFacts B) (graph : Shape) (p : RunPla
 told_end {A} {B} {V} {W} l graph p wanted Failed r s items v t w u o q Given run none same still changed =
     subst (λ (z : Option Histories × V × W). HowItEnded l graph p wanted (Failed z.2) s (items z.1) z.0) (λ i. (sym same.0 i, sym same.1 i, sym same.2 i))
     (run_ended l graph p wanted (Failed w) r s (items v) o Given run none still changed)
+
+-- a run without histories tells nothing of them
+pub none_told : {A : Type 0} (P : A → Type 0) (o : Option A) → o ≡ None → IfSome o P
+none_told P o none = subst (λ z. IfSome z P) (sym none) tt

@@ -9,4 +9,5 @@ pub mod Made
 pub mod Starts
 pub mod Numbers
 pub mod FeedFaults
+pub mod Beginning
 pub mod TurnLemmas

@@ -2,6 +2,7 @@
 ghost use Rattle.std.specs.Prelude.{◌≡◌, ◌+◌, ◌<◌, ◌≤◌, ◌*◌, ◌⊎◌, ℕ, Some, None, Err, All, Contains, map, true, vec_len, slice_index_or, IfOk, IfSome};
 ghost use Rattle.std.specs.Arc.{arc_value};
 ghost use Rattle.cluster_msgs.specs.Labels.{BlockFits};
+ghost use Rattle.cluster_msgs.specs.Shape.{Shape};
 ghost use Rattle.gather_client.specs.CoreState.{client_facts};
 ghost use Rattle.turn_cell.specs.Rows.{berth_of};
 ghost use Rattle.worker_core.specs.Core.{facts as worker_facts};
@@ -18,7 +19,7 @@ use crate::making::{Rows, make_rows};
 use crate::plan::RunPlan;
 use crate::tasks::Running;
 use cluster_msgs::{GraphShape, JobSpec, KeyList, Label};
-use driver_rows::{Closed, Manner, run_cells};
+use driver_rows::{Attends, Closed, Manner, Schedules, Works, run_cells};
 use io_edge::Gate;
 use node_states::{ClientNode, SchedulerNode, WorkerNode};
 use std::alloc::Global;
@@ -79,7 +80,11 @@ fn begin<J: JobSpec, K: RunName<J>>(
     plan: &RunPlan,
     wanted: &KeyList,
     feeds: Vec<Vec<Fed<J, K>>>,
-) -> (Rows<RunLabel<J, K>, Scheduler<J, K>, Worker<J, K>, Client<J, K>>, Option<Stamps>, bool)
+) -> (
+    Rows<RunLabel<J, K>, Scheduler<J, K>, Worker<J, K>, Client<J, K>>,
+    Option<Stamps>,
+    bool,
+)
     requires named { K.job ≡ Some job.now }
     requires saturation { (1 ≤ plan.now.saturation) × (plan.now.saturation ≤ 1000) }
     requires capacity { 0 < plan.now.capacity }
@@ -202,19 +207,50 @@ where
     ensures clients { All (λ c. IsClientsBook (run_facts J.graph J.operation J.key_dims J.block_dims K.told K.job) (J.graph job.now)
         (λ c. client_facts c.core) c.book) result.clients.items }
 {
+    let running = Running::<J, G, K>::new(alloc, job, gate);
+    run_nodes(rt, alloc, plan, rows, stamps, &running)
+}
+
+/// Runs nodes by threads to the end, which go by whatever gives their turns.
+fn run_nodes<R, B, L, F, X>(
+    rt: &R,
+    alloc: Global,
+    plan: &RunPlan,
+    rows: Rows<L, SchedulerNode<B, L>, WorkerNode<B, L, F>, ClientNode<B, L>>,
+    stamps: Stamps,
+    turns: &X,
+) -> Closed<SchedulerNode<B, L>, WorkerNode<B, L, F>, ClientNode<B, L>>
+where
+    R: Threads + Wait + Sync,
+    B: Drop + Send + Sync,
+    L: Label<Block = B> + Send + Sync,
+    F: Drop + Send + Sync,
+    X: Schedules<SchedulerNode<B, L>, L>
+        + Works<WorkerNode<B, L, F>, L>
+        + Attends<ClientNode<B, L>, L>
+        + Sync,
+    requires parts { (rows.workers.parts ≡ rows.scheduler.parts) × (rows.clients.parts ≡ rows.scheduler.parts) }
+    ensures scheduler { (graph : Shape) → AreMade (λ k s. IsFirstScheduler graph plan.now s.history.book.core) 1
+        (map (λ p. berth_of p.seat) rows.scheduler.passes.items) → All (λ s. IsSchedulersBook L.facts graph plan.now s.history.book) result.scheduler.items }
+    ensures workers { (graph : Shape) → AreMade (λ k s. IsFirstWorker graph plan.now.threads (k + 1) s.history.book.core.id
+        (worker_facts s.history.book.core.core)) (numbers plan.now) (map (λ p. berth_of p.seat) rows.workers.passes.items)
+        → (k : ℕ) (w : _) → k < vec_len result.workers
+        → IsWorkersBook L.facts graph plan.now.threads (k + 1) (λ c. worker_facts c.core) (slice_index_or result.workers.items k w).history.book }
+    ensures clients { (graph : Shape) → AreMade (λ k s. IsFirstClient graph s.book.core.id (client_facts s.book.core.core)) 1
+        (map (λ p. berth_of p.seat) rows.clients.passes.items) → All (λ c. IsClientsBook L.facts graph (λ c. client_facts c.core) c.book) result.clients.items }
+{
     let manner = Manner {
         turns: TURNS,
         patience: PATIENCE,
         neighbours: plan.threads,
     };
-    let running = Running::<J, G, K>::new(alloc, job, gate);
     let Rows {
         scheduler,
         workers,
         clients,
     } = rows;
     run_cells(
-        rt, alloc, scheduler, workers, clients, stamps, manner, &running,
+        rt, alloc, scheduler, workers, clients, stamps, manner, turns,
     )
 }
 
