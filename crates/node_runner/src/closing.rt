@@ -7,7 +7,9 @@ ghost use Rattle.worker_core.specs.Core.{facts as worker_facts};
 ghost use Rattle.node_states.specs.Order.{AreInTime, start_of};
 ghost use Rattle.node_runner.specs.Runs.{HasRun, HasNotRun, IsGivenUp, IsTakenFrom, IsSchedulersBook, IsWorkersBook, IsClientsBook, IfStatus, IsBlamed, last_facts};
 
-use crate::ends::{Ends, Histories, RunStatus, all_left, first_blame, got, is_given_up, take_apart};
+use crate::ends::{
+    Ends, Histories, RunStatus, all_left, first_blame, got, is_given_up, take_apart,
+};
 use crate::plan::RunPlan;
 use cluster_msgs::{GraphShape, History, KeyList, Label};
 use node_links::{Book, Keyed, Machine};

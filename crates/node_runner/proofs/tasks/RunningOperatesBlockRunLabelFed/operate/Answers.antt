@@ -25,7 +25,7 @@ returns-clause-value g c =
     ((run_facts j.graph j.operation j.key_dims j.block_dims k.told k.job).deps c.args.key) c.args.inputs.now s.named refl c.requires
     (subst IsShape c.shape-graph.ensures c.sound.ensures) c.run.result
     (if_ok (λ o. j.feed_tells s.job.now c.feed.inside.feed → value_of o ≡ made) (λ o. IsTrue k.told → value_of o ≡ made)
-      (λ o h t. h (tells_named j.feed_fits j.feed_tells k.told k.job s.job.now s.named c.feed.inside.feed c.feed.invariant t)) c.run.result c.run.ensures.value)
+    (λ o h t. h (tells_named j.feed_fits j.feed_tells k.told k.job s.job.now s.named c.feed.inside.feed c.feed.invariant t)) c.run.result c.run.ensures.value)
     c.run.ensures.dims
 
 pub returns-clause-zero : goal.returns-clause-zero
@@ -38,4 +38,4 @@ returns-clause-zero g c =
     ((run_facts j.graph j.operation j.key_dims j.block_dims k.told k.job).deps c.args.key) c.args.inputs.now s.named refl c.requires
     (subst IsShape c.shape-graph.ensures c.sound.ensures) c.run.result
     (if_ok (λ o. j.feed_tells s.job.now c.feed.inside.feed → value_of o ≡ made) (λ o. IsTrue k.told → value_of o ≡ made)
-      (λ o h t. h (tells_named j.feed_fits j.feed_tells k.told k.job s.job.now s.named c.feed.inside.feed c.feed.invariant t)) c.run.result c.run.ensures.value)
+    (λ o h t. h (tells_named j.feed_fits j.feed_tells k.told k.job s.job.now s.named c.feed.inside.feed c.feed.invariant t)) c.run.result c.run.ensures.value)
