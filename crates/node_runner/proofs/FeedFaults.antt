@@ -48,7 +48,7 @@ none_ok P r s is = subst (λ z. IfOk z P) (sym is) tt
 
 -- what holds of each value of a type holds of those in a list that a run gives
 pub all_ok : {A E X : Type 0} (items : A → List X) (P : X → Type 0) → ((x : X) → P x) → (r : Result A E) → IfOk r (λ a. All P (items a))
-all_ok items P each (Ok a) k d less = each _
+all_ok items P each (Ok a) = λ k d less. each _
 all_ok items P each (Err e) = tt
 
 -- a run that ended where this may have failed, ended where more may have

@@ -5,6 +5,7 @@ use Rattle.std.proofs.lemmas.List.Elements.{All-contains}
 use Rattle.gather_client.specs.CoreState.{client_facts}
 use Rattle.scheduler_core.specs.Cores.{facts}
 use Rattle.worker_core.specs.Core.{facts as worker_facts}
+use Rattle.node_states.specs.declared.worker.WorkerNode.{WorkerNode}
 use Rattle.node_runner.specs.Runs.{IsSchedulersBook, IsWorkersBook, IsClientsBook, last_facts}
 use Rattle.node_runner.proofs.FeedFaults.{none_ok, none_told}
 use Rattle.node_runner.proofs.run.end_rows.Goals as goal
@@ -15,7 +16,7 @@ end_nodes-requires-clause-scheduler g c = All-contains (λ s. IsSchedulersBook g
 
 pub end_nodes-requires-clause-workers : goal.end_nodes-requires-clause-workers
 end_nodes-requires-clause-workers g c =
-    subst (λ v. (k : ℕ) (w : _) → k < vec_len v → IsWorkersBook g.L.Label.facts c.args.graph.now c.args.plan.now.threads (k + 1)
+    subst (λ v. (k : ℕ) (w : WorkerNode g.row.B.Denot g.row.L.Denot g.row.F.Denot g.L.Label) → k < vec_len v → IsWorkersBook g.L.Label.facts c.args.graph.now c.args.plan.now.threads (k + 1)
     (λ c. worker_facts c.core) (slice_index_or v.items k w).history.book) (sym c.in-Ok.ensures.workers) c.requires.workers
 
 pub end_nodes-requires-clause-client : goal.end_nodes-requires-clause-client
