@@ -22,10 +22,10 @@ returns-in-Some-clause-ended g c =
     let l = run_facts j.graph j.operation j.key_dims j.block_dims k.told k.job in
     let ends = c.run_made.result in
     ended_more l (j.graph c.args.job.now) c.args.plan.now c.args.wanted.now
-    ((c.begin.result.2 ≡ true) ⊎ ((f : _) × Contains ends.feeds.items f × (0 < j.fault_count f)))
+    ((c.begin-rows.result.2 ≡ true) ⊎ ((f : _) × Contains ends.feeds.items f × (0 < j.fault_count f)))
     (HasFeedFault j.fault_count c.args.plan.now.threads (map (λ v. vec_len v) c.args.feeds.items) ends.feeds.items)
     ends.result ends.left.items ends.histories
-    (λ failed. ⊎_elim (λ short. inl (c.begin.ensures.short short)) (λ f. inr f) failed) c.run_made.ensures.ended
+    (λ failed. ⊎_elim (λ short. inl (c.begin-rows.ensures.short short)) (λ f. inr f) failed) c.run_made.ensures.ended
 
 pub returns-in-None-clause-blocks : goal.returns-in-None-clause-blocks
 returns-in-None-clause-blocks g c = none_ok (λ blocks. map (λ k. k.key) blocks.items ≡ c.args.wanted.now) c.close_rows.result.result _ c.close_rows.ensures.ended.memory
