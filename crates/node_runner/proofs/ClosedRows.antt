@@ -42,13 +42,13 @@ has_closed entries core cut steps fits P count (b ∷ bs) states closed made k x
 module _ {B : Type 0} (l : LabelFacts B) (graph : Shape) where
   pub schedulers_book : {S : Type 0} (book : S → BookState SchedState) (p : RunPlan) (fits : S → Type 0) (x : S)
       → HasClosed (λ s. (book s).entries) (λ s. (book s).core) (λ s. (book s).cut)
-        (Steps (λ s. SchedSays (facts s.core)) (λ s e t. (t.plan ≡ s.plan) × SchedBy (facts s.core) e (facts t.core) × SchedEventFits l e))
-        fits (λ s. IsFirstScheduler graph p (book s).core) x
+      (Steps (λ s. SchedSays (facts s.core)) (λ s e t. (t.plan ≡ s.plan) × SchedBy (facts s.core) e (facts t.core) × SchedEventFits l e))
+      fits (λ s. IsFirstScheduler graph p (book s).core) x
       → IsSchedulersBook l graph p (book x)
   schedulers_book book p fits x h =
       let setting_is : (facts (book h.first).core.core).setting ≡ setting_of graph p = ap (λ (f : Facts). f.setting) h.began.facts_are in
       let walk : (book x).cut ≡ false → (((book x).core.plan ≡ course_of p) × ((facts (book x).core.core).setting ≡ setting_of graph p)) × Replays (SchedSteps l) (facts (book h.first).core.core) (book x).entries (facts (book x).core.core) =
-          λ open_still. sched_replays l (course_of p) (setting_of graph p) (book h.first).core (book x).core (book x).entries h.began.plan_is setting_is (h.replay open_still) in
+      λ open_still. sched_replays l (course_of p) (setting_of graph p) (book h.first).core (book x).core (book x).entries h.began.plan_is setting_is (h.replay open_still) in
       record {
         book = record {
           replays = λ open_still. subst (λ f. Replays (SchedSteps l) f (book x).entries (facts (book x).core.core)) h.began.facts_are (walk open_still).1;
@@ -60,8 +60,8 @@ module _ {B : Type 0} (l : LabelFacts B) (graph : Shape) where
 
   pub workers_book : {S C : Type 0} (book : S → BookState C) (number : C → ℕ) (core : C → WorkerFacts) (threads id : ℕ) (fits : S → Type 0) (x : S)
       → HasClosed (λ s. (book s).entries) (λ s. (book s).core) (λ s. (book s).cut)
-        (Steps (λ s. WorkerSays (number s) (core s)) (λ s e t. (number t ≡ number s) × WorkerBy (core s) e (core t) × WorkerEventFits l e))
-        fits (λ s. IsFirstWorker graph threads id (number (book s).core) (core (book s).core)) x
+      (Steps (λ s. WorkerSays (number s) (core s)) (λ s e t. (number t ≡ number s) × WorkerBy (core s) e (core t) × WorkerEventFits l e))
+      fits (λ s. IsFirstWorker graph threads id (number (book s).core) (core (book s).core)) x
       → IsWorkersBook l graph threads id core (book x)
   workers_book book number core threads id fits x h = record {
     book = record {
@@ -73,8 +73,8 @@ module _ {B : Type 0} (l : LabelFacts B) (graph : Shape) where
 
   pub clients_book : {S C : Type 0} (book : S → BookState C) (number : C → ℕ) (core : C → ClientFacts) (fits : S → Type 0) (x : S)
       → HasClosed (λ s. (book s).entries) (λ s. (book s).core) (λ s. (book s).cut)
-        (Steps (λ s. ClientSays (number s) (core s)) (λ s e t. (number t ≡ number s) × ClientBy (core s) e (core t) × ClientEventFits l e))
-        fits (λ s. IsFirstClient graph (number (book s).core) (core (book s).core)) x
+      (Steps (λ s. ClientSays (number s) (core s)) (λ s e t. (number t ≡ number s) × ClientBy (core s) e (core t) × ClientEventFits l e))
+      fits (λ s. IsFirstClient graph (number (book s).core) (core (book s).core)) x
       → ClientFits l (core (book x).core)
       → IsClientsBook l graph core (book x)
   clients_book book number core fits x h fit = record {
@@ -85,3 +85,38 @@ module _ {B : Type 0} (l : LabelFacts B) (graph : Shape) where
     };
     fits = fit;
   }
+
+  -- the books of rows
+  pub schedulers_books : {S : Type 0} (book : S → BookState SchedState) (p : RunPlan) (fits : S → Type 0) (count : ℕ) (berths : List (TableId × Option S)) (states : List S)
+      → AreClosed (λ s. (book s).entries) (λ s. (book s).core) (λ s. (book s).cut)
+      (Steps (λ s. SchedSays (facts s.core)) (λ s e t. (t.plan ≡ s.plan) × SchedBy (facts s.core) e (facts t.core) × SchedEventFits l e)) fits berths states
+      → AreMade (λ k s. IsFirstScheduler graph p (book s).core) count berths
+      → (k : ℕ) (x : S) → k < length states → IsSchedulersBook l graph p (book (get_or states k x))
+  schedulers_books book p fits count berths states closed made k x less = schedulers_book book p fits (get_or states k x)
+      (has_closed (λ s. (book s).entries) (λ s. (book s).core) (λ s. (book s).cut)
+      (Steps (λ s. SchedSays (facts s.core)) (λ s e t. (t.plan ≡ s.plan) × SchedBy (facts s.core) e (facts t.core) × SchedEventFits l e))
+      fits (λ k s. IsFirstScheduler graph p (book s).core) count berths states closed made k x less)
+
+  pub workers_books : {S C : Type 0} (book : S → BookState C) (number : C → ℕ) (core : C → WorkerFacts) (threads : ℕ) (fits : S → Type 0) (count : ℕ)
+      (berths : List (TableId × Option S)) (states : List S)
+      → AreClosed (λ s. (book s).entries) (λ s. (book s).core) (λ s. (book s).cut)
+      (Steps (λ s. WorkerSays (number s) (core s)) (λ s e t. (number t ≡ number s) × WorkerBy (core s) e (core t) × WorkerEventFits l e)) fits berths states
+      → AreMade (λ k s. IsFirstWorker graph threads (k + 1) (number (book s).core) (core (book s).core)) count berths
+      → (k : ℕ) (x : S) → k < length states → IsWorkersBook l graph threads (k + 1) core (book (get_or states k x))
+  workers_books book number core threads fits count berths states closed made k x less = workers_book book number core threads (k + 1) fits (get_or states k x)
+      (has_closed (λ s. (book s).entries) (λ s. (book s).core) (λ s. (book s).cut)
+      (Steps (λ s. WorkerSays (number s) (core s)) (λ s e t. (number t ≡ number s) × WorkerBy (core s) e (core t) × WorkerEventFits l e))
+      fits (λ k s. IsFirstWorker graph threads (k + 1) (number (book s).core) (core (book s).core)) count berths states closed made k x less)
+
+  pub clients_books : {S C : Type 0} (book : S → BookState C) (number : C → ℕ) (core : C → ClientFacts) (fits : S → Type 0) (count : ℕ)
+      (berths : List (TableId × Option S)) (states : List S)
+      → AreClosed (λ s. (book s).entries) (λ s. (book s).core) (λ s. (book s).cut)
+      (Steps (λ s. ClientSays (number s) (core s)) (λ s e t. (number t ≡ number s) × ClientBy (core s) e (core t) × ClientEventFits l e)) fits berths states
+      → AreMade (λ k s. IsFirstClient graph (number (book s).core) (core (book s).core)) count berths
+      → ((s : S) → fits s → ClientFits l (core (book s).core))
+      → (k : ℕ) (x : S) → k < length states → IsClientsBook l graph core (book (get_or states k x))
+  clients_books book number core fits count berths states closed made fit k x less =
+      let here = has_closed (λ s. (book s).entries) (λ s. (book s).core) (λ s. (book s).cut)
+      (Steps (λ s. ClientSays (number s) (core s)) (λ s e t. (number t ≡ number s) × ClientBy (core s) e (core t) × ClientEventFits l e))
+      fits (λ k s. IsFirstClient graph (number (book s).core) (core (book s).core)) count berths states closed made k x less in
+      clients_book book number core fits (get_or states k x) here (fit (get_or states k x) here.fit)

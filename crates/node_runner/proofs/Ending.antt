@@ -8,7 +8,7 @@ use Rattle.cluster_msgs.specs.declared.events.Entry.{Entry}
 use Rattle.cluster_msgs.specs.declared.events.History.{History}
 use Rattle.cluster_rules.specs.Sched.{Facts, Setting, connected, sched_opening}
 use Rattle.cluster_rules.specs.Worker.{WorkerFacts, new_worker}
-use Rattle.cluster_rules.specs.Client.{ClientFacts}
+use Rattle.cluster_rules.specs.Client.{ClientFacts, new_client}
 use Rattle.scheduler_core.specs.Cores.{facts}
 use Rattle.turn_cell.specs.Histories.{Ascending, Replays}
 use Rattle.turn_cell.specs.Rows.{AllBy}
@@ -77,3 +77,31 @@ cause_is l wanted f left blame (Ok x) is some = tt
 cause_is l wanted f left blame (Err (Zero key)) is some = subst (λ o. IfSome o (λ b. (k : ℕ) × Contains wanted k × BlameFits l k b)) is some
 cause_is l wanted f left blame (Err Read) is some = absurd is
 cause_is l wanted f left blame (Err Memory) is some = tt
+
+-- how a run ended, by the closed nodes and what was taken from them
+pub has_run : {B W C D A : Type 0} (l : LabelFacts B) (graph : Shape) (p : RunPlan) (wanted : List ℕ) (b : BookState SchedState)
+    (book : W → BookState C) (core : C → WorkerFacts) (ws : List W) (d : BookState D) (client : D → ClientFacts) (h : Histories) (left : List (Option Why))
+    (blame : Option ℕ) (r : Result A RunStatus)
+    → IsSchedulersBook l graph p b
+    → ((k : ℕ) (w : W) → k < length ws → IsWorkersBook l graph p.threads (k + 1) core (book (get_or ws k w)))
+    → IsClientsBook l graph client d
+    → IsTakenFrom b h.scheduler → AllBy (λ k w x. IsTakenFrom (book w) x) ws h.workers.items → IsTakenFrom d h.client
+    → (b.cut ≡ false → AreInTime b.core.plan (start_of (facts b.core.core).setting) b.entries)
+    → AllBy (λ k w o. IfSome o (IsLeft p (facts b.core.core) (k + 1) (book w).entries (book w).cut)) ws left
+    → IfStatus (IsBlamed blame) r → IfSome blame (λ b. (k : ℕ) × Contains wanted k × BlameFits l k b)
+    → HasRun l graph p wanted ⊥ (last_facts (facts b.core.core) (map (λ w. core (book w).core) ws) (client d.core)) r left h
+has_run l graph p wanted b book core ws d client h left blame r scheduler workers clients of_scheduler of_workers of_client timed rows blamed some = record {
+  histories = record {
+    scheduler = history_is (λ c. facts c.core) (SchedSteps l) (sched_opening (setting_of graph p)) b h.scheduler scheduler.book of_scheduler;
+    workers = workers_are l graph p book core ws h.workers.items workers of_workers;
+    client = history_is client (ClientSteps l) (new_client graph) d h.client clients.book of_client;
+    in_time = in_time_is l graph p b h.scheduler scheduler of_scheduler timed;
+  };
+  left_are = left_is l graph p (facts b.core.core) book ws h.workers.items left rows of_workers;
+  cause = cause_is l wanted (facts b.core.core) left blame r blamed some;
+}
+
+-- what is known of what is there
+pub if_told : {A : Type 0} (P Q : A → Type 0) (o : Option A) → IfSome o P → ((a : A) → P a → Q a) → IfSome o Q
+if_told P Q None p f = tt
+if_told P Q (Some a) p f = f a p

@@ -6,4 +6,9 @@ pub mod Places
 pub mod Ending
 pub mod ClosedRows
 pub mod Made
+pub mod Starts
 pub mod Numbers
+pub mod FeedFaults
+pub mod Beginning
+pub mod Crossing
+pub mod TurnLemmas

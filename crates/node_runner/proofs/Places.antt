@@ -1,6 +1,6 @@
 -- Relations place by place, that know the place.
-use Rattle.std.proofs.Common.{◌≡◌, ℕ, ◌+◌, ◌<◌, List, [], ◌∷◌, ◌++◌, length, get_or, sym, ap, ◌∙◌, subst, refl, arith}
-use Rattle.std.proofs.lemmas.List.{length-append, get_or_append_left, get_or_push}
+use Rattle.std.proofs.Common.{◌≡◌, ◌&&◌, Bool, true, false, ℕ, ◌+◌, ◌<◌, List, [], ◌∷◌, ◌++◌, length, get_or, take, sym, ap, ◌∙◌, subst, refl, arith}
+use Rattle.std.proofs.lemmas.List.{length-append, length-take, take_more, get_or_append_left, get_or_push}
 use mathlib.Core.Logic.{dite}
 use native.Mathlib.Decide.{ℕ_discrete}
 use Rattle.turn_cell.specs.Rows.{AllBy}
@@ -15,6 +15,14 @@ all_by_pushed {A} {B} R xs ys x y h here = record {
       subst (λ (z : A × B). R k z.0 z.1) (λ j. (sym (get_or_append_left xs (x ∷ []) a k short') j, sym (get_or_append_left ys (y ∷ []) b k short) j)) (h.each k a b short));
 }
 
+-- the element at the next place of the first, and one more in the second
+pub all_by_next : {A B : Type 0} (R : ℕ → A → B → Type 0) (xs : List A) (ys : List B) (i : ℕ) (x : A) (y : B) → i < length xs → x ≡ get_or xs i x
+    → AllBy R (take i xs) ys → R i x y → AllBy R (take (i + 1) xs) (ys ++ y ∷ [])
+all_by_next R xs ys i x y less is h here =
+    let long : length (take i xs) ≡ i = omega (arith, length-take i xs) in
+    subst (λ zs. AllBy R zs (ys ++ y ∷ [])) (sym (take_more xs i x less ∙ ap (λ z. take i xs ++ z ∷ []) (sym is)))
+    (all_by_pushed R (take i xs) ys x y h (subst (λ k. R k x y) (sym long) here))
+
 pub all_by_none : {A B : Type 0} (R : ℕ → A → B → Type 0) → AllBy R [] []
 all_by_none R = record { long = refl; each = λ k a b less. absurd (omega (arith, less)) }
 
@@ -27,3 +35,9 @@ all_by_through R S Q (x ∷ xs) ys zs f h s = record {
   each = λ k b c less. let short : k < length ys = omega (arith, h.long, s.long) in
       f k (get_or (x ∷ xs) k x) (get_or ys k b) (get_or zs k c) (h.each k x c less) (s.each k x b short);
 }
+
+-- three answers that are all true
+pub first_two : (a b c : Bool) → (a && b) && c ≡ true → (a ≡ true) × (b ≡ true)
+first_two true true c e = (refl, refl)
+first_two true false c e = let no : ⊥ = cc in absurd no
+first_two false b c e = let no : ⊥ = cc in absurd no

@@ -1,12 +1,15 @@
 -- What a task makes of blocks that fit the label of its run fits it too.
 use Rattle.std.proofs.Common.{◌≡◌, ℕ, Bool, List, [], ◌∷◌, ◌++◌, map, refl, sym, ap, subst, ◌∙◌}
-use Rattle.std.specs.Prelude.{Option, Some, None, IsTrue}
+use Rattle.std.specs.Prelude.{Option, Some, None, IsTrue, Result, Ok, Err, IfOk}
 use Rattle.std.proofs.lemmas.List.{map-append}
 use Rattle.std.specs.Arc.{arc_value}
 use Rattle.std.specs.List.{AllZip}
 use Rattle.std.specs.declared.sync.Arc.{Arc}
 use Rattle.std.specs.declared.alloc.Global.{Global}
-use Rattle.cluster_msgs.specs.Jobs.{blocks_of}
+use Rattle.cluster_msgs.specs.Jobs.{blocks_of, value_of, IfValue}
+use Rattle.cluster_msgs.specs.declared.jobs.Outcome.{Outcome}
+use Rattle.cluster_msgs.specs.declared.jobs.Outcome.TheVariants.{Value, Zero}
+use Rattle.cluster_msgs.specs.declared.jobs.RunFail.{RunFail}
 use Rattle.cluster_msgs.specs.Labels.{LabelFacts, BlockFits, ErrorFits, label_of}
 use Rattle.cluster_msgs.specs.Shape.{Shape, IsShape, deps_of}
 use Rattle.cluster_msgs.specs.Values.{with_first, all_of, val}
@@ -66,4 +69,16 @@ module _ {J B : Type 0} (graph : J → Shape) (op : J → ℕ → List B → Opt
   -- a zero divisor that it met
   pub zero_fits : IsShape (graph job) → (IsTrue told → None ≡ op job key (blocks_of bs)) → ErrorFits (run_facts graph op dims block_dims told named) key
   zero_fits shape made = subst (λ n. ErrorFits (run_facts graph op dims block_dims told n) key) (sym is)
-    (λ t. faulty-values (deps_of (graph job)) (op job) (earlier (graph job) shape) key (blocks_of bs) (have_values t) (sym (made t)))
+      (λ t. faulty-values (deps_of (graph job)) (op job) (earlier (graph job) shape) key (blocks_of bs) (have_values t) (sym (made t)))
+
+  -- what the operation answered
+  pub outcome_value : IsShape (graph job) → (r : Result (Outcome B) RunFail) → IfOk r (λ o. IsTrue told → value_of o ≡ op job key (blocks_of bs))
+      → IfOk r (λ o. IfValue o (λ b. block_dims b ≡ dims job key)) → IfOk r (λ o. IfValue o (BlockFits (run_facts graph op dims block_dims told named) key))
+  outcome_value shape (Ok (Value b)) made long = value_fits shape b made long
+  outcome_value shape (Ok Zero) made long = tt
+  outcome_value shape (Err e) made long = tt
+
+  pub outcome_zero : IsShape (graph job) → (r : Result (Outcome B) RunFail) → IfOk r (λ o. IsTrue told → value_of o ≡ op job key (blocks_of bs))
+      → IfOk r (λ o. o ≡ Zero → ErrorFits (run_facts graph op dims block_dims told named) key)
+  outcome_zero shape (Ok o) made = λ zero. zero_fits shape (λ t. subst (λ z. value_of z ≡ op job key (blocks_of bs)) zero (made t))
+  outcome_zero shape (Err e) made = tt

@@ -103,7 +103,6 @@ pub record AreHistories {B : Type 0} (l : LabelFacts B) (graph : Shape) (p : Run
   pub scheduler : IsHistory (SchedSteps l) (sched_opening (setting_of graph p)) last.scheduler h.scheduler
   pub workers : AllBy (λ k w x. IsHistory (WorkerSteps l (k + 1)) (new_worker graph (k + 1) p.threads) w x) last.workers h.workers.items
   pub client : IsHistory (ClientSteps l) (new_client graph) last.client h.client
-
   -- the plan's workers join first, Evict comes after each 64 entries and Balance after each 16 where they have a choice, then the script's items
   pub in_time : h.scheduler.cut ≡ None → AreInTime (course_of p) (start_of (setting_of graph p)) h.scheduler.entries
 

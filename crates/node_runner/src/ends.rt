@@ -1,7 +1,7 @@
 //! How a run ended, as the closed nodes tell.
-ghost use Rattle.std.specs.Prelude.{◌≡◌, ◌≢◌, ◌≤◌, ◌+◌, ◌<◌, ℕ, true, false, None, map, length, slice_index_or, Contains, IfOk, IfSome, Some};
+ghost use Rattle.std.specs.Prelude.{◌≡◌, ◌≢◌, ◌≤◌, ◌+◌, ◌<◌, ◌++◌, ◌∷◌, [], ℕ, true, false, None, map, length, slice_index_or, Contains, IfOk, IfSome, Some};
 ghost use Rattle.cluster_msgs.specs.Labels.{BlameFits};
-ghost use Rattle.cluster_rules.specs.Sched.{connected};
+ghost use Rattle.cluster_rules.specs.Sched.{Facts as SchedFacts, connected};
 ghost use Rattle.gather_client.specs.CoreState.{client_facts};
 ghost use Rattle.scheduler_core.specs.Cores.{facts};
 ghost use Rattle.turn_cell.specs.Rows.{AllBy};
@@ -91,13 +91,27 @@ pub fn all_left<B: Drop, L: Label<Block = B>, F: Drop>(
     let joined = joined(scheduler);
     let mut left = Vec::new(alloc);
     for (at, worker) in workers.iter().enumerate() {
-        if at < joined as usize {
-            left.push(why_left(plan, scheduler, worker, at as u32 + 1))?;
-        } else {
-            left.push(None)?;
-        }
+        left.push(row(plan, scheduler, worker, joined, at))?;
     }
     Ok(left)
+}
+
+/// Why the worker at a place left, if it is one of those that joined and left.
+fn row<B: Drop, L: Label<Block = B>, F: Drop>(
+    plan: &RunPlan,
+    scheduler: &SchedulerNode<B, L>,
+    worker: &WorkerNode<B, L, F>,
+    joined: u32,
+    at: usize,
+) -> Option<Why>
+    requires joined { joined ≤ (facts scheduler.now.history.book.core.core).last_worker }
+    ensures { IfSome result (IsLeft plan.now (facts scheduler.now.history.book.core.core) (at + 1) worker.now.history.book.entries worker.now.history.book.cut) }
+{
+    if at < joined as usize {
+        why_left(plan, scheduler, worker, at as u32 + 1)
+    } else {
+        None
+    }
 }
 
 /// How many workers joined, as far as the scheduler goes on.
@@ -144,11 +158,11 @@ fn is_gone<B: Drop, L: Label<Block = B>>(scheduler: &SchedulerNode<B, L>, worker
 }
 
 /// The cause as it is told: the script only where an item names the worker, and no link's end, which a run in one process doesn't have.
-fn told(plan: &RunPlan, worker: u32, why: Why) -> Why
+fn told(plan: &RunPlan, worker: u32, cause: Why) -> Why
     ensures script { result ≡ why.Script → IsNamed plan.now.script worker }
     ensures unlinked { result ≢ why.Link }
 {
-    match why {
+    match cause {
         Why::Script => {
             if plan.names(worker) {
                 Why::Script
@@ -161,14 +175,11 @@ fn told(plan: &RunPlan, worker: u32, why: Why) -> Why
     }
 }
 
-/// Whether each worker that joined left, and none for want of memory. False where the scheduler doesn't go on.
-pub fn is_given_up<B: Drop, L: Label<Block = B>>(
-    scheduler: &SchedulerNode<B, L>,
-    left: &[Option<Why>],
-) -> bool
-    ensures { result ≡ true → IsGivenUp (facts scheduler.now.history.book.core.core) left.now }
+/// Whether each worker that joined left, and none for want of memory. False where it isn't known how many joined.
+pub fn is_given_up(joined: Option<u32>, left: &[Option<Why>]) -> bool
+    ensures { (f : SchedFacts) → IfSome joined (λ n. n ≡ f.last_worker) → result ≡ true → IsGivenUp f left.now }
 {
-    let Some(joined) = scheduler.joined() else {
+    let Some(joined) = joined else {
         return false;
     };
     for at in 0..joined as usize {
@@ -199,41 +210,46 @@ pub fn take_apart<B: Drop, L: Label<Block = B>, F: Drop>(
 ) -> (Option<Vec<History>>, Vec<F>)
     ensures { IfSome result.0 (λ histories. AllBy (λ k w h. IsTakenFrom w.history.book h) workers.items histories.items) }
 {
+    let mut histories = Vec::new(alloc);
     let mut feeds = Vec::new(alloc);
-    let Ok(mut histories) = Vec::with_capacity(alloc, workers.len()) else {
-        return (None, all_feeds(workers, feeds));
-    };
     let mut whole = true;
     for worker in workers {
-        let (log, own) = worker.into_parts();
-        histories.push_reserved(log.into_history());
-        whole &= give_back(own, &mut feeds);
+        let (history, own) = apart(worker);
+        let told = keep(&mut histories, history);
+        let given = give_back(own, &mut feeds);
+        whole = whole & told & given;
     }
-    if whole {
-        (Some(histories), feeds)
-    } else {
-        (None, feeds)
-    }
+    (only_whole(whole, histories), feeds)
 }
 
-/// The feeds of workers alone, as far as there is memory.
-fn all_feeds<B: Drop, L: Label<Block = B>, F: Drop>(
-    workers: Vec<WorkerNode<B, L, F>>,
-    feeds: Vec<F>,
-) -> Vec<F> {
-    let mut feeds = feeds;
-    for worker in workers {
-        let (_, own) = worker.into_parts();
-        give_back(own, &mut feeds);
-    }
-    feeds
+/// The history and the feeds of a closed worker.
+fn apart<B: Drop, L: Label<Block = B>, F: Drop>(worker: WorkerNode<B, L, F>) -> (History, Feeds<F>)
+    ensures { IsTakenFrom worker.history.book result.0 }
+{
+    let (log, own) = worker.into_parts();
+    (log.into_history(), own)
 }
 
 /// Adds a worker's feeds. False where there is no memory for one, which is dropped.
 fn give_back<F: Drop>(own: Feeds<F>, feeds: &mut Vec<F>) -> bool {
     let mut whole = true;
     for feed in own.into_vec() {
-        whole &= feeds.push(feed).is_ok();
+        let given = keep(feeds, feed);
+        whole = whole & given;
     }
     whole
+}
+
+/// Adds an item. False where there is no memory for it; it is dropped.
+fn keep<T: Drop>(items: &mut Vec<T>, item: T) -> bool
+    ensures { result ≡ true → items.new.items ≡ items.old.items ++ item ∷ [] }
+{
+    items.push(item).is_ok()
+}
+
+/// What is whole.
+fn only_whole<T: Drop>(whole: bool, value: T) -> Option<T>
+    ensures { IfSome result (λ v. (whole ≡ true) × (v ≡ value)) }
+{
+    if whole { Some(value) } else { None }
 }

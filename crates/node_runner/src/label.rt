@@ -42,7 +42,7 @@ impl<J: JobSpec, K: RunName<J>> Label for RunLabel<J, K> {
 /// A feed that fits the job of the run and, where the run is told, tells what it holds. In a clause it is the feed.
 #[derive(Drop)]
 pub struct Fed<J: JobSpec, K: RunName<J>> {
-    feed: J::Feed,
+    pub(crate) feed: J::Feed,
     of: PhantomData<K>,
 }
 

@@ -1,10 +1,12 @@
 //! The nodes of a run, each in its cell.
-ghost use Rattle.std.specs.Prelude.{◌≡◌, ◌+◌, ◌<◌, ◌≤◌, [], map, true, length, vec_len, IfOk};
+ghost use Rattle.std.specs.Prelude.{◌≡◌, ◌+◌, ◌<◌, ◌≤◌, ◌++◌, ◌∷◌, [], map, true, Ok, Some, length, vec_len, IfOk};
 ghost use Rattle.cluster_msgs.specs.Shape.{deps_of};
 ghost use Rattle.gather_client.specs.CoreState.{client_facts};
 ghost use Rattle.scheduler_core.specs.Cores.{facts};
 ghost use Rattle.worker_core.specs.Core.{facts as worker_facts};
 ghost use Rattle.turn_cell.specs.Rows.{berth_of};
+ghost use Rattle.node_states.specs.Fitting.{ClientFits, SchedFits};
+ghost use Rattle.node_states.specs.Opening.{IsOpening};
 ghost use Rattle.node_runner.specs.Making.{AreMade};
 ghost use Rattle.node_runner.specs.Naming.{run_facts};
 ghost use Rattle.node_runner.specs.Runs.{IsFirstScheduler, IsFirstWorker, IsFirstClient, numbers};
@@ -16,7 +18,8 @@ use cluster_msgs::{GraphShape, JobSpec, KeyList, Label};
 use gather_client::ClientCore;
 use node_links::Port;
 use node_states::{
-    ClientNode, Feeds, GatheringCore, Plan, RunGraph, SchedulerLinks, SchedulerNode, SchedulingCore, Why, WorkerLinks, WorkerNode, WorkingCore,
+    ClientNode, Feeds, GatheringCore, Plan, RunGraph, SchedulerLinks, SchedulerNode,
+    SchedulingCore, Why, WorkerLinks, WorkerNode, WorkingCore,
 };
 use scheduler_core::Sched;
 use std::alloc::{AllocError, Global};
@@ -25,11 +28,11 @@ use worker_core::WorkerCore;
 
 /// The most bytes of the scheduler's history, and of another node's.
 const SCHEDULER_BYTES: u64 = 1 << 28;
+
 const NODE_BYTES: u64 = 1 << 25;
 
 /// The number of the client.
 const CLIENT: u32 = 1;
-
 
 /// The cells of a run, each of which has so many parts.
 pub struct Rows<L, S, W, C>
@@ -44,11 +47,7 @@ where
     pub clients: Made<C, L>,
 }
 
-type Scheduler<J: JobSpec, K> = SchedulerNode<J::Block, RunLabel<J, K>>;
-
-type Worker<J: JobSpec, K> = WorkerNode<J::Block, RunLabel<J, K>, Fed<J, K>>;
-
-type Client<J: JobSpec, K> = ClientNode<J::Block, RunLabel<J, K>>;
+type RowsOf<B, L, F> = Rows<L, SchedulerNode<B, L>, WorkerNode<B, L, F>, ClientNode<B, L>>;
 
 /// Makes the cells of all nodes, with so many parts each. False where there is no memory for one of them.
 pub fn make_rows<J: JobSpec, K: RunName<J>>(
@@ -58,10 +57,11 @@ pub fn make_rows<J: JobSpec, K: RunName<J>>(
     wanted: &KeyList,
     feeds: Vec<Vec<Fed<J, K>>>,
     parts: u32,
-) -> (Rows<RunLabel<J, K>, Scheduler<J, K>, Worker<J, K>, Client<J, K>>, bool)
+) -> (RowsOf<J::Block, RunLabel<J, K>, Fed<J, K>>, bool)
     requires graph { (run_facts J.graph J.operation J.key_dims J.block_dims K.told K.job).deps ≡ deps_of graph.now }
     requires capacity { 0 < plan.now.capacity }
     requires saturation { (1 ≤ plan.now.saturation) × (plan.now.saturation ≤ 1000) }
+    requires numbers { numbers plan.now ≤ 1024 }
     requires parts { 0 < parts }
     ensures parts { (result.0.scheduler.parts ≡ parts) × (result.0.workers.parts ≡ parts) × (result.0.clients.parts ≡ parts) }
     ensures scheduler { result.1 ≡ true → AreMade (λ k s. IsFirstScheduler graph.now plan.now s.history.book.core) 1
@@ -71,19 +71,46 @@ pub fn make_rows<J: JobSpec, K: RunName<J>>(
     ensures client { result.1 ≡ true → AreMade (λ k s. IsFirstClient graph.now s.book.core.id (client_facts s.book.core.core)) 1
         (map (λ p. berth_of p.seat) result.0.clients.passes.items) }
 {
-    let scheduler = Made::new(alloc, parts);
-    let workers = Made::new(alloc, parts);
-    let clients = Made::new(alloc, parts);
-    let Ok(ports) = wire(alloc, plan.numbers(), plan.capacity) else {
-        return (
-            Rows {
-                scheduler,
-                workers,
-                clients,
-            },
-            false,
-        );
+    let rows = Rows {
+        scheduler: Made::new(alloc, parts),
+        workers: Made::new(alloc, parts),
+        clients: Made::new(alloc, parts),
     };
+    match wire(alloc, plan.numbers(), plan.capacity) {
+        Ok(ports) => fill(alloc, graph, plan, wanted, feeds, rows, ports),
+        Err(_) => (rows, false),
+    }
+}
+
+/// Adds the cells of all nodes, which have these ports. False where there is no memory for one of them.
+fn fill<B: Drop, L: Label<Block = B>, F: Drop>(
+    alloc: Global,
+    graph: &GraphShape,
+    plan: &RunPlan,
+    wanted: &KeyList,
+    feeds: Vec<Vec<F>>,
+    rows: RowsOf<B, L, F>,
+    ports: AllPorts<B, L>,
+) -> (RowsOf<B, L, F>, bool)
+    requires graph { L.facts.deps ≡ deps_of graph.now }
+    requires saturation { (1 ≤ plan.now.saturation) × (plan.now.saturation ≤ 1000) }
+    requires few { vec_len ports.workers ≤ 1024 }
+    requires empty { (rows.scheduler.passes.items ≡ []) × (rows.workers.passes.items ≡ []) × (rows.clients.passes.items ≡ []) }
+    ensures scheduler_parts { result.0.scheduler.parts ≡ rows.scheduler.parts }
+    ensures worker_parts { result.0.workers.parts ≡ rows.workers.parts }
+    ensures client_parts { result.0.clients.parts ≡ rows.clients.parts }
+    ensures scheduler { result.1 ≡ true → AreMade (λ k s. IsFirstScheduler graph.now plan.now s.history.book.core) 1
+        (map (λ p. berth_of p.seat) result.0.scheduler.passes.items) }
+    ensures workers { result.1 ≡ true → AreMade (λ k s. IsFirstWorker graph.now plan.now.threads (k + 1) s.history.book.core.id (worker_facts s.history.book.core.core))
+        (vec_len ports.workers) (map (λ p. berth_of p.seat) result.0.workers.passes.items) }
+    ensures client { result.1 ≡ true → AreMade (λ k s. IsFirstClient graph.now s.book.core.id (client_facts s.book.core.core)) 1
+        (map (λ p. berth_of p.seat) result.0.clients.passes.items) }
+{
+    let Rows {
+        scheduler,
+        workers,
+        clients,
+    } = rows;
     let AllPorts {
         to_workers,
         from_client,
@@ -104,28 +131,40 @@ pub fn make_rows<J: JobSpec, K: RunName<J>>(
     )
 }
 
+/// Adds a cell with this state, if it was made. False where it wasn't, or there is no memory for the cell.
+fn add_made<S: Kept + Drop, L: Label<Block = S::Block>>(
+    alloc: Global,
+    row: Made<S, L>,
+    made: Result<S, AllocError>,
+) -> (Made<S, L>, bool)
+    requires empty { IfOk made (λ s. S.entries s ≡ []) }
+    requires fits { IfOk made (λ s. S.fits L.facts s) }
+    ensures parts { result.0.parts ≡ row.parts }
+    ensures added { result.1 ≡ true → (s : _) × (made ≡ Ok s) × (p : _) × (result.0.passes.items ≡ row.passes.items ++ p ∷ []) × (p.seat.me.0.start ≡ Some s) }
+{
+    match made {
+        Ok(state) => row.add(alloc, state),
+        Err(_) => (row, false),
+    }
+}
+
 /// Adds the scheduler's cell. False where there is no memory.
-fn add_scheduler<J: JobSpec, K: RunName<J>>(
+fn add_scheduler<B: Drop, L: Label<Block = B>>(
     alloc: Global,
     graph: &GraphShape,
     plan: &RunPlan,
-    row: Made<Scheduler<J, K>, RunLabel<J, K>>,
-    workers: Vec<Port<J::Block, RunLabel<J, K>>>,
-    client: Port<J::Block, RunLabel<J, K>>,
-) -> (
-    Made<Scheduler<J, K>, RunLabel<J, K>>,
-    bool,
-)
-    requires graph { (run_facts J.graph J.operation J.key_dims J.block_dims K.told K.job).deps ≡ deps_of graph.now }
+    row: Made<SchedulerNode<B, L>, L>,
+    workers: Vec<Port<B, L>>,
+    client: Port<B, L>,
+) -> (Made<SchedulerNode<B, L>, L>, bool)
+    requires graph { L.facts.deps ≡ deps_of graph.now }
     requires saturation { (1 ≤ plan.now.saturation) × (plan.now.saturation ≤ 1000) }
     requires empty { row.passes.items ≡ [] }
     ensures parts { result.0.parts ≡ row.parts }
     ensures made { result.1 ≡ true → AreMade (λ k s. IsFirstScheduler graph.now plan.now s.history.book.core) 1 (map (λ p. berth_of p.seat) result.0.passes.items) }
 {
-    match make_scheduler(alloc, graph, plan, workers, client) {
-        Ok(node) => row.add(alloc, node),
-        Err(_) => (row, false),
-    }
+    let made = make_scheduler(alloc, graph, plan, workers, client);
+    add_made(alloc, row, made)
 }
 
 /// The scheduler's node.
@@ -139,45 +178,64 @@ fn make_scheduler<B: Drop, L: Label<Block = B>>(
     requires graph { L.facts.deps ≡ deps_of graph.now }
     requires saturation { (1 ≤ plan.now.saturation) × (plan.now.saturation ≤ 1000) }
     ensures first { IfOk result (λ s. IsFirstScheduler graph.now plan.now s.history.book.core) }
+    ensures fits { IfOk result (λ s. SchedFits L.facts (facts s.history.book.core.core)) }
     ensures empty { IfOk result (λ s. s.history.book.entries ≡ []) }
 {
-    let core = Sched::new(alloc, graph.copy()?, CLIENT, plan.saturation)?;
-    let mut clients = Vec::new(alloc);
-    clients.push(client)?;
+    let links = SchedulerLinks::new(alloc, workers, just(alloc, client)?);
+    let core = scheduling_core(alloc, graph, plan)?;
+    SchedulerNode::new(alloc, core, SCHEDULER_BYTES, links)
+}
+
+/// The scheduler's core, with what its node goes by.
+#[tactic(auto, using(crate::proofs::Starts::opening_of, crate::proofs::Starts::graph_of, crate::proofs::Starts::first_of, node_states::proofs::SchedLaw::opening_fits))]
+fn scheduling_core<L: Label>(
+    alloc: Global,
+    graph: &GraphShape,
+    plan: &RunPlan,
+) -> Result<SchedulingCore<L>, AllocError>
+    requires graph { L.facts.deps ≡ deps_of graph.now }
+    requires saturation { (1 ≤ plan.now.saturation) × (plan.now.saturation ≤ 1000) }
+    ensures first { IfOk result (λ c. IsFirstScheduler graph.now plan.now c) }
+    ensures opening { IfOk result (λ c. IsOpening (facts c.core)) }
+    ensures fits { IfOk result (λ c. SchedFits L.facts (facts c.core)) }
+{
+    let shape = graph.copy()?;
+    let script = plan.script.copy()?;
+    let core = Sched::new(alloc, shape, CLIENT, plan.saturation)?;
     let course = Plan {
         workers: plan.workers,
         threads: plan.threads,
-        script: plan.script.copy()?,
+        script,
     };
-    SchedulerNode::new(
-        alloc,
-        SchedulingCore::new(alloc, core, course),
-        SCHEDULER_BYTES,
-        SchedulerLinks::new(alloc, workers, clients),
-    )
+    Ok(SchedulingCore::new(alloc, core, course))
+}
+
+/// One port alone.
+fn just<B: Drop, L: Label<Block = B>>(
+    alloc: Global,
+    port: Port<B, L>,
+) -> Result<Vec<Port<B, L>>, AllocError> {
+    let mut ports = Vec::new(alloc);
+    ports.push(port)?;
+    Ok(ports)
 }
 
 /// Adds the client's cell. False where there is no memory.
-fn add_client<J: JobSpec, K: RunName<J>>(
+fn add_client<B: Drop, L: Label<Block = B>>(
     alloc: Global,
     graph: &GraphShape,
     wanted: &KeyList,
-    row: Made<Client<J, K>, RunLabel<J, K>>,
-    scheduler: Port<J::Block, RunLabel<J, K>>,
-    workers: Vec<Port<J::Block, RunLabel<J, K>>>,
-) -> (
-    Made<Client<J, K>, RunLabel<J, K>>,
-    bool,
-)
+    row: Made<ClientNode<B, L>, L>,
+    scheduler: Port<B, L>,
+    workers: Vec<Port<B, L>>,
+) -> (Made<ClientNode<B, L>, L>, bool)
     requires empty { row.passes.items ≡ [] }
     ensures parts { result.0.parts ≡ row.parts }
     ensures made { result.1 ≡ true → AreMade (λ k s. IsFirstClient graph.now s.book.core.id (client_facts s.book.core.core)) 1
         (map (λ p. berth_of p.seat) result.0.passes.items) }
 {
-    match make_client(alloc, graph, wanted, scheduler, workers) {
-        Ok(node) => row.add(alloc, node),
-        Err(_) => (row, false),
-    }
+    let made = make_client(alloc, graph, wanted, scheduler, workers);
+    add_made(alloc, row, made)
 }
 
 /// The client's node.
@@ -189,33 +247,46 @@ fn make_client<B: Drop, L: Label<Block = B>>(
     workers: Vec<Port<B, L>>,
 ) -> Result<ClientNode<B, L>, AllocError>
     ensures first { IfOk result (λ s. IsFirstClient graph.now s.book.core.id (client_facts s.book.core.core)) }
+    ensures fits { IfOk result (λ s. ClientFits L.facts (client_facts s.book.core.core)) }
     ensures empty { IfOk result (λ s. s.book.entries ≡ []) }
 {
-    let core = ClientCore::new(alloc, graph.copy()?)?;
+    let wanted = wanted.copy()?;
+    let core = gathering_core(alloc, graph)?;
     ClientNode::new(
         alloc,
-        GatheringCore::new(CLIENT, core),
+        core,
         NODE_BYTES,
         graph.keys(),
-        wanted.copy()?,
+        wanted,
         scheduler,
         workers,
     )
 }
 
-/// Adds a cell for each worker. A worker with fewer feeds than threads is to end. False where there is no memory.
-fn add_workers<J: JobSpec, K: RunName<J>>(
+/// The client's core.
+#[tactic(auto, using(node_states::proofs::ClientLaw::new_fits))]
+fn gathering_core<L: Label>(
+    alloc: Global,
+    graph: &GraphShape,
+) -> Result<GatheringCore<L>, AllocError>
+    ensures first { IfOk result (λ c. IsFirstClient graph.now c.id (client_facts c.core)) }
+    ensures fits { IfOk result (λ c. ClientFits L.facts (client_facts c.core)) }
+{
+    let core = ClientCore::new(alloc, graph.copy()?)?;
+    Ok(GatheringCore::new(CLIENT, core))
+}
+
+/// Adds a cell for each worker. A worker with fewer feeds than threads is to end. False where there is no memory for one.
+fn add_workers<B: Drop, L: Label<Block = B>, F: Drop>(
     alloc: Global,
     graph: &GraphShape,
     threads: u32,
-    row: Made<Worker<J, K>, RunLabel<J, K>>,
-    ports: Vec<WorkerPorts<J::Block, RunLabel<J, K>>>,
-    feeds: Vec<Vec<Fed<J, K>>>,
-) -> (
-    Made<Worker<J, K>, RunLabel<J, K>>,
-    bool,
-)
-    requires graph { (run_facts J.graph J.operation J.key_dims J.block_dims K.told K.job).deps ≡ deps_of graph.now }
+    row: Made<WorkerNode<B, L, F>, L>,
+    ports: Vec<WorkerPorts<B, L>>,
+    feeds: Vec<Vec<F>>,
+) -> (Made<WorkerNode<B, L, F>, L>, bool)
+    requires graph { L.facts.deps ≡ deps_of graph.now }
+    requires few { vec_len ports ≤ 1024 }
     requires empty { row.passes.items ≡ [] }
     ensures parts { result.0.parts ≡ row.parts }
     ensures made { result.1 ≡ true → AreMade (λ k s. IsFirstWorker graph.now threads (k + 1) s.history.book.core.id (worker_facts s.history.book.core.core))
@@ -223,26 +294,43 @@ fn add_workers<J: JobSpec, K: RunName<J>>(
 {
     let mut row = row;
     let mut feeds = feeds.into_iter();
-    let mut id: u32 = 0;
+    let mut at: u32 = 0;
+    let mut whole = true;
     for ports in ports {
-        if id == u32::MAX {
-            return (row, false);
-        }
-        id += 1;
-        let own = match feeds.next() {
-            Some(own) => own,
-            None => Vec::new(alloc),
-        };
-        let Ok(node) = make_worker(alloc, graph, id, threads, ports, own) else {
-            return (row, false);
-        };
-        let (more, added) = row.add(alloc, node);
-        if !added {
-            return (more, false);
-        }
+        let own = feeds.next();
+        let (more, added) = add_worker(alloc, graph, at, threads, row, ports, own);
         row = more;
+        whole &= added;
+        at += 1;
     }
-    (row, true)
+    (row, whole)
+}
+
+/// Adds the cell of the worker at a place. False where there is no memory.
+fn add_worker<B: Drop, L: Label<Block = B>, F: Drop>(
+    alloc: Global,
+    graph: &GraphShape,
+    at: u32,
+    threads: u32,
+    row: Made<WorkerNode<B, L, F>, L>,
+    ports: WorkerPorts<B, L>,
+    own: Option<Vec<F>>,
+) -> (Made<WorkerNode<B, L, F>, L>, bool)
+    requires graph { L.facts.deps ≡ deps_of graph.now }
+    requires few { at < 1024 }
+    ensures parts { result.0.parts ≡ row.parts }
+    ensures made { result.1 ≡ true
+        → AreMade (λ k s. IsFirstWorker graph.now threads (k + 1) s.history.book.core.id (worker_facts s.history.book.core.core)) at
+        (map (λ p. berth_of p.seat) row.passes.items)
+        → AreMade (λ k s. IsFirstWorker graph.now threads (k + 1) s.history.book.core.id (worker_facts s.history.book.core.core)) (at + 1)
+        (map (λ p. berth_of p.seat) result.0.passes.items) }
+{
+    let own = match own {
+        Some(own) => own,
+        None => Vec::new(alloc),
+    };
+    let made = make_worker(alloc, graph, at + 1, threads, ports, own);
+    add_made(alloc, row, made)
 }
 
 /// The node of a worker.
@@ -264,26 +352,41 @@ fn make_worker<B: Drop, L: Label<Block = B>, F: Drop>(
         None
     };
     let feeds = gather(alloc, own)?;
+    let links = worker_links(alloc, id, ports)?;
+    let shape = RunGraph::new(graph.copy()?);
+    let core = working_core(alloc, graph, id, threads)?;
+    match WorkerNode::new(alloc, core, NODE_BYTES, shape, feeds, links, ending) {
+        Ok(node) => Ok(node),
+        Err(_) => Err(AllocError),
+    }
+}
+
+/// The links of a worker.
+fn worker_links<B: Drop, L: Label<Block = B>>(
+    alloc: Global,
+    id: u32,
+    ports: WorkerPorts<B, L>,
+) -> Result<WorkerLinks<B, L>, AllocError> {
     let WorkerPorts {
         scheduler,
         peers,
         client,
     } = ports;
-    let mut clients = Vec::new(alloc);
-    clients.push(client)?;
+    let clients = just(alloc, client)?;
+    Ok(WorkerLinks::new(alloc, id, scheduler, peers, clients))
+}
+
+/// The core of a worker.
+fn working_core<L: Label>(
+    alloc: Global,
+    graph: &GraphShape,
+    id: u32,
+    threads: u32,
+) -> Result<WorkingCore<L>, AllocError>
+    ensures { IfOk result (λ c. IsFirstWorker graph.now threads id c.id (worker_facts c.core)) }
+{
     let core = WorkerCore::new(alloc, id, threads, graph.copy()?)?;
-    match WorkerNode::new(
-        alloc,
-        WorkingCore::new(alloc, id, core),
-        NODE_BYTES,
-        RunGraph::new(graph.copy()?),
-        feeds,
-        WorkerLinks::new(alloc, id, scheduler, peers, clients),
-        ending,
-    ) {
-        Ok(node) => Ok(node),
-        Err(_) => Err(AllocError),
-    }
+    Ok(WorkingCore::new(alloc, id, core))
 }
 
 /// These feeds, each with its place.

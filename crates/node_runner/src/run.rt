@@ -1,11 +1,16 @@
 //! A run, from its nodes to its end.
-ghost use Rattle.std.specs.Prelude.{◌≡◌, ◌+◌, ◌<◌, ◌≤◌, ◌*◌, ℕ, Some, All, map, vec_len, slice_index_or, IfOk};
+ghost use Rattle.std.specs.Prelude.{◌≡◌, ◌+◌, ◌<◌, ◌≤◌, ◌*◌, ◌⊎◌, ℕ, Some, None, Err, All, Contains, map, true, vec_len, slice_index_or, IfOk, IfSome};
 ghost use Rattle.std.specs.Arc.{arc_value};
 ghost use Rattle.cluster_msgs.specs.Labels.{BlockFits};
+ghost use Rattle.cluster_msgs.specs.Shape.{Shape};
 ghost use Rattle.gather_client.specs.CoreState.{client_facts};
+ghost use Rattle.turn_cell.specs.Rows.{berth_of};
 ghost use Rattle.worker_core.specs.Core.{facts as worker_facts};
+ghost use Rattle.node_runner.specs.declared.ends.RunStatus.TheVariants as status;
+ghost use Rattle.node_runner.specs.Making.{AreMade};
 ghost use Rattle.node_runner.specs.Naming.{run_facts};
-ghost use Rattle.node_runner.specs.Runs.{HasFeedFault, HowItEnded, IsSchedulersBook, IsWorkersBook, IsClientsBook, numbers};
+ghost use Rattle.node_runner.specs.Runs.{HasFeedFault, HasNotRun, HasRun, HowItEnded, IsGivenUp, LastFacts, numbers};
+ghost use Rattle.node_runner.specs.Runs.{IsFirstScheduler, IsFirstWorker, IsFirstClient, IsSchedulersBook, IsWorkersBook, IsClientsBook};
 
 use crate::closing::{end_nodes, not_run};
 use crate::ends::{Ends, RunStatus, take_apart};
@@ -13,18 +18,25 @@ use crate::label::{Fed, RunLabel, RunName};
 use crate::making::{Rows, make_rows};
 use crate::plan::RunPlan;
 use crate::tasks::Running;
-use cluster_msgs::{JobSpec, KeyList};
-use driver_rows::{Closed, Manner, run_cells};
+use cluster_msgs::{GraphShape, JobSpec, KeyList, Label};
+use driver_rows::{Attends, Closed, Manner, Schedules, Works, run_cells};
 use io_edge::Gate;
 use node_states::{ClientNode, SchedulerNode, WorkerNode};
 use std::alloc::Global;
 use std::sync::Wait;
 use std::thread::Threads;
-use turn_cell::Stamps;
+use turn_cell::{Kept, Stamps};
 
 /// How drivers go about it: some turns a visit, and some rounds in vain before one sleeps.
 const TURNS: u32 = 8;
+
 const PATIENCE: u32 = 4;
+
+type Scheduler<J: JobSpec, K> = SchedulerNode<J::Block, RunLabel<J, K>>;
+
+type Worker<J: JobSpec, K> = WorkerNode<J::Block, RunLabel<J, K>, Fed<J, K>>;
+
+type Client<J: JobSpec, K> = ClientNode<J::Block, RunLabel<J, K>>;
 
 /// Runs a job by a cluster of threads: a scheduler, the workers of a plan and one client, which wants these keys. Each worker number has feeds, one
 /// for each of its threads; a worker with fewer ends as soon as it has joined.
@@ -54,67 +66,304 @@ where
         (HasFeedFault J.fault_count plan.now.threads (map (λ v. vec_len v) feeds.items) result.feeds.items)
         result.result result.left.items result.histories }
 {
+    let (rows, stamps, short) = begin(alloc, job, plan, wanted, feeds);
+    match stamps {
+        Some(stamps) => run_made(rt, alloc, job, gate, plan, wanted, short, rows, stamps),
+        None => close_rows(alloc, rows),
+    }
+}
+
+/// The nodes, the right to draw stamps where all nodes are made and there is memory, and whether a worker has too few feeds.
+fn begin<J: JobSpec, K: RunName<J>>(
+    alloc: Global,
+    job: &J,
+    plan: &RunPlan,
+    wanted: &KeyList,
+    feeds: Vec<Vec<Fed<J, K>>>,
+) -> (
+    Rows<RunLabel<J, K>, Scheduler<J, K>, Worker<J, K>, Client<J, K>>,
+    Option<Stamps>,
+    bool,
+)
+    requires named { K.job ≡ Some job.now }
+    requires saturation { (1 ≤ plan.now.saturation) × (plan.now.saturation ≤ 1000) }
+    requires capacity { 0 < plan.now.capacity }
+    requires threads { (1 ≤ plan.now.threads) × (plan.now.workers * plan.now.threads ≤ 64) }
+    requires numbers { numbers plan.now ≤ 1024 }
+    ensures parts { (result.0.workers.parts ≡ result.0.scheduler.parts) × (result.0.clients.parts ≡ result.0.scheduler.parts) }
+    ensures scheduler { IfSome result.1 (λ _. AreMade (λ k s. IsFirstScheduler (J.graph job.now) plan.now s.history.book.core) 1
+        (map (λ p. berth_of p.seat) result.0.scheduler.passes.items)) }
+    ensures workers { IfSome result.1 (λ _. AreMade (λ k s. IsFirstWorker (J.graph job.now) plan.now.threads (k + 1) s.history.book.core.id
+        (worker_facts s.history.book.core.core)) (numbers plan.now) (map (λ p. berth_of p.seat) result.0.workers.passes.items)) }
+    ensures client { IfSome result.1 (λ _. AreMade (λ k s. IsFirstClient (J.graph job.now) s.book.core.id (client_facts s.book.core.core)) 1
+        (map (λ p. berth_of p.seat) result.0.clients.passes.items)) }
+    ensures short { result.2 ≡ true → (n : ℕ) × Contains (map (λ v. vec_len v) feeds.items) n × (n < plan.now.threads) }
+{
     let short = plan.is_short(feeds.as_slice());
     let drivers = plan.workers * plan.threads + 1;
     let (rows, whole) = make_rows(alloc, job.shape(), plan, wanted, feeds, drivers + 1);
+    let stamps = rights(alloc, whole);
+    (rows, stamps, short)
+}
+
+/// The right to draw stamps, where all nodes are made and there is memory.
+fn rights(alloc: Global, whole: bool) -> Option<Stamps>
+    ensures { IfSome result (λ _. whole ≡ true) }
+{
+    if !whole {
+        return None;
+    }
+    Stamps::new(alloc).ok()
+}
+
+/// Runs the nodes that were made. `short` says that a worker has too few feeds.
+fn run_made<R, J, G, K>(
+    rt: &R,
+    alloc: Global,
+    job: &J,
+    gate: &G,
+    plan: &RunPlan,
+    wanted: &KeyList,
+    short: bool,
+    rows: Rows<RunLabel<J, K>, Scheduler<J, K>, Worker<J, K>, Client<J, K>>,
+    stamps: Stamps,
+) -> Ends<J::Block, RunLabel<J, K>, Fed<J, K>>
+where
+    R: Threads + Wait + Sync,
+    J: JobSpec,
+    G: Gate,
+    K: RunName<J> + Send + Sync,
+    requires named { K.job ≡ Some job.now }
+    requires parts { (rows.workers.parts ≡ rows.scheduler.parts) × (rows.clients.parts ≡ rows.scheduler.parts) }
+    requires scheduler { AreMade (λ k s. IsFirstScheduler (J.graph job.now) plan.now s.history.book.core) 1
+        (map (λ p. berth_of p.seat) rows.scheduler.passes.items) }
+    requires workers { AreMade (λ k s. IsFirstWorker (J.graph job.now) plan.now.threads (k + 1) s.history.book.core.id (worker_facts s.history.book.core.core))
+        (numbers plan.now) (map (λ p. berth_of p.seat) rows.workers.passes.items) }
+    requires client { AreMade (λ k s. IsFirstClient (J.graph job.now) s.book.core.id (client_facts s.book.core.core)) 1
+        (map (λ p. berth_of p.seat) rows.clients.passes.items) }
+    ensures blocks { IfOk result.result (λ blocks. map (λ k. k.key) blocks.items ≡ wanted.now) }
+    ensures ended { HowItEnded (run_facts J.graph J.operation J.key_dims J.block_dims K.told K.job) (J.graph job.now) plan.now wanted.now
+        ((short ≡ true) ⊎ ((f : _) × Contains result.feeds.items f × (0 < J.fault_count f)))
+        result.result result.left.items result.histories }
+{
+    let closed = run_rows(rt, alloc, job, gate, plan, rows, stamps);
+    let (ends, given_up) = end_rows(alloc, job.shape(), plan, wanted, closed);
+    with_reads(job, short, given_up, ends)
+}
+
+/// Ends a run whose nodes couldn't all be made.
+fn close_rows<S, B, L, F, C>(
+    alloc: Global,
+    rows: Rows<L, S, WorkerNode<B, L, F>, C>,
+) -> Ends<B, L, F>
+where
+    B: Drop,
+    L: Label<Block = B>,
+    F: Drop,
+    S: Kept<Block = L::Block> + Drop,
+    C: Kept<Block = L::Block> + Drop,
+    ensures none { result.histories ≡ None }
+    ensures ended { HasNotRun result.result result.left.items }
+{
     let Rows {
         scheduler,
         workers,
         clients,
     } = rows;
-    let stamps = match Stamps::new(alloc) {
-        Ok(stamps) if whole => stamps,
-        _ => {
-            scheduler.close();
-            clients.close();
-            let (_, feeds) = take_apart(alloc, workers.close());
-            return not_run(alloc, feeds);
-        }
-    };
+    scheduler.close();
+    clients.close();
+    let (_, feeds) = take_apart(alloc, workers.close());
+    not_run(alloc, feeds)
+}
+
+/// Runs the nodes by threads to the end.
+fn run_rows<R, J, G, K>(
+    rt: &R,
+    alloc: Global,
+    job: &J,
+    gate: &G,
+    plan: &RunPlan,
+    rows: Rows<RunLabel<J, K>, Scheduler<J, K>, Worker<J, K>, Client<J, K>>,
+    stamps: Stamps,
+) -> Closed<Scheduler<J, K>, Worker<J, K>, Client<J, K>>
+where
+    R: Threads + Wait + Sync,
+    J: JobSpec,
+    G: Gate,
+    K: RunName<J> + Send + Sync,
+    requires named { K.job ≡ Some job.now }
+    requires parts { (rows.workers.parts ≡ rows.scheduler.parts) × (rows.clients.parts ≡ rows.scheduler.parts) }
+    requires scheduler { AreMade (λ k s. IsFirstScheduler (J.graph job.now) plan.now s.history.book.core) 1
+        (map (λ p. berth_of p.seat) rows.scheduler.passes.items) }
+    requires workers { AreMade (λ k s. IsFirstWorker (J.graph job.now) plan.now.threads (k + 1) s.history.book.core.id (worker_facts s.history.book.core.core))
+        (numbers plan.now) (map (λ p. berth_of p.seat) rows.workers.passes.items) }
+    requires client { AreMade (λ k s. IsFirstClient (J.graph job.now) s.book.core.id (client_facts s.book.core.core)) 1
+        (map (λ p. berth_of p.seat) rows.clients.passes.items) }
+    ensures scheduler { All (λ s. IsSchedulersBook (run_facts J.graph J.operation J.key_dims J.block_dims K.told K.job) (J.graph job.now) plan.now
+        s.history.book) result.scheduler.items }
+    ensures workers { (k : ℕ) (w : _) → k < vec_len result.workers
+        → IsWorkersBook (run_facts J.graph J.operation J.key_dims J.block_dims K.told K.job) (J.graph job.now) plan.now.threads (k + 1)
+        (λ c. worker_facts c.core) (slice_index_or result.workers.items k w).history.book }
+    ensures clients { All (λ c. IsClientsBook (run_facts J.graph J.operation J.key_dims J.block_dims K.told K.job) (J.graph job.now)
+        (λ c. client_facts c.core) c.book) result.clients.items }
+{
+    let running = Running::<J, G, K>::new(alloc, job, gate);
+    run_nodes(rt, alloc, plan, rows, stamps, &running)
+}
+
+/// Runs nodes by threads to the end, which go by whatever gives their turns.
+fn run_nodes<R, B, L, F, X>(
+    rt: &R,
+    alloc: Global,
+    plan: &RunPlan,
+    rows: Rows<L, SchedulerNode<B, L>, WorkerNode<B, L, F>, ClientNode<B, L>>,
+    stamps: Stamps,
+    turns: &X,
+) -> Closed<SchedulerNode<B, L>, WorkerNode<B, L, F>, ClientNode<B, L>>
+where
+    R: Threads + Wait + Sync,
+    B: Drop + Send + Sync,
+    L: Label<Block = B> + Send + Sync,
+    F: Drop + Send + Sync,
+    X: Schedules<SchedulerNode<B, L>, L>
+        + Works<WorkerNode<B, L, F>, L>
+        + Attends<ClientNode<B, L>, L>
+        + Sync,
+    requires parts { (rows.workers.parts ≡ rows.scheduler.parts) × (rows.clients.parts ≡ rows.scheduler.parts) }
+    ensures scheduler { (graph : Shape) → AreMade (λ k s. IsFirstScheduler graph plan.now s.history.book.core) 1
+        (map (λ p. berth_of p.seat) rows.scheduler.passes.items) → All (λ s. IsSchedulersBook L.facts graph plan.now s.history.book) result.scheduler.items }
+    ensures workers { (graph : Shape) → AreMade (λ k s. IsFirstWorker graph plan.now.threads (k + 1) s.history.book.core.id
+        (worker_facts s.history.book.core.core)) (numbers plan.now) (map (λ p. berth_of p.seat) rows.workers.passes.items)
+        → (k : ℕ) (w : _) → k < vec_len result.workers
+        → IsWorkersBook L.facts graph plan.now.threads (k + 1) (λ c. worker_facts c.core) (slice_index_or result.workers.items k w).history.book }
+    ensures clients { (graph : Shape) → AreMade (λ k s. IsFirstClient graph s.book.core.id (client_facts s.book.core.core)) 1
+        (map (λ p. berth_of p.seat) rows.clients.passes.items) → All (λ c. IsClientsBook L.facts graph (λ c. client_facts c.core) c.book) result.clients.items }
+{
     let manner = Manner {
         turns: TURNS,
         patience: PATIENCE,
         neighbours: plan.threads,
     };
-    let running = Running::<J, G, K>::new(alloc, job, gate);
-    let closed = run_cells(
-        rt, alloc, scheduler, workers, clients, stamps, manner, &running,
-    );
-    let Closed {
-        mut scheduler,
+    let Rows {
+        scheduler,
         workers,
-        mut clients,
-    } = closed;
-    match (scheduler.pop(), clients.pop()) {
-        (Some(scheduler), Some(client)) => {
-            let (ends, given_up) = end_nodes(alloc, job.shape(), plan, wanted, scheduler, workers, client);
-            with_reads(job, short, given_up, ends)
-        }
-        _ => {
+        clients,
+    } = rows;
+    run_cells(
+        rt, alloc, scheduler, workers, clients, stamps, manner, turns,
+    )
+}
+
+/// How a run ended, as its closed nodes tell, and whether no worker is left and none left for want of memory.
+fn end_rows<B: Drop, L: Label<Block = B>, F: Drop>(
+    alloc: Global,
+    graph: &GraphShape,
+    plan: &RunPlan,
+    wanted: &KeyList,
+    closed: Closed<SchedulerNode<B, L>, WorkerNode<B, L, F>, ClientNode<B, L>>,
+) -> (Ends<B, L, F>, bool)
+    requires scheduler { All (λ s. IsSchedulersBook L.facts graph.now plan.now s.history.book) closed.scheduler.items }
+    requires workers { (k : ℕ) (w : _) → k < vec_len closed.workers
+        → IsWorkersBook L.facts graph.now plan.now.threads (k + 1) (λ c. worker_facts c.core) (slice_index_or closed.workers.items k w).history.book }
+    requires clients { All (λ c. IsClientsBook L.facts graph.now (λ c. client_facts c.core) c.book) closed.clients.items }
+    ensures blocks { IfOk result.0.result (λ blocks. map (λ k. k.key) blocks.items ≡ wanted.now) }
+    ensures ended { IfSome result.0.histories (λ h. (last : LastFacts) × HasRun L.facts graph.now plan.now wanted.now ⊥ last result.0.result result.0.left.items h
+        × (result.1 ≡ true → IsGivenUp last.scheduler result.0.left.items)) }
+    ensures none { result.0.histories ≡ None → HasNotRun result.0.result result.0.left.items }
+{
+    match one_of_each(closed) {
+        Ok((scheduler, workers, client)) => end_nodes(
+            alloc, graph, plan, wanted, scheduler, workers, client,
+        ),
+        Err(workers) => {
             let (_, feeds) = take_apart(alloc, workers);
-            not_run(alloc, feeds)
+            (not_run(alloc, feeds), false)
         }
     }
 }
 
-/// The same with a read fault in the place of want of memory, where no worker is left, none left for want of memory, and a feed had failed or was missing.
+/// A scheduler, the workers and a client, or the workers alone.
+fn one_of_each<S: Drop, W: Drop, C: Drop>(closed: Closed<S, W, C>) -> Result<(S, Vec<W>, C), Vec<W>>
+    ensures scheduler { IfOk result (λ t. Contains closed.scheduler.items t.0) }
+    ensures workers { IfOk result (λ t. t.1 ≡ closed.workers) }
+    ensures client { IfOk result (λ t. Contains closed.clients.items t.2) }
+{
+    let Closed {
+        scheduler,
+        workers,
+        clients,
+    } = closed;
+    match (last_of(scheduler), last_of(clients)) {
+        (Some(scheduler), Some(client)) => Ok((scheduler, workers, client)),
+        _ => Err(workers),
+    }
+}
+
+fn last_of<T: Drop>(row: Vec<T>) -> Option<T>
+    ensures { IfSome result (Contains row.items) }
+{
+    let mut row = row;
+    row.pop()
+}
+
+/// The same with a read fault in the place of want of memory, where no worker is left, none left for want of memory, and a feed had failed or was
+/// missing.
 fn with_reads<J: JobSpec, K: RunName<J>>(
     job: &J,
     short: bool,
     given_up: bool,
     ends: Ends<J::Block, RunLabel<J, K>, Fed<J, K>>,
-) -> Ends<J::Block, RunLabel<J, K>, Fed<J, K>> {
-    let mut ends = ends;
-    if given_up && (short || has_failed(job, ends.feeds.as_slice())) {
-        if let Err(RunStatus::Memory) = &ends.result {
-            ends.result = Err(RunStatus::Read);
-        }
+) -> Ends<J::Block, RunLabel<J, K>, Fed<J, K>>
+    ensures same { (result.histories ≡ ends.histories) × (result.left ≡ ends.left) × (result.feeds ≡ ends.feeds) }
+    ensures none { ends.histories ≡ None → result.result ≡ ends.result }
+    ensures changed { (result.result ≡ ends.result)
+        ⊎ ((result.result ≡ Err status.Read) × (given_up ≡ true) × ((short ≡ true) ⊎ ((f : _) × Contains ends.feeds.items f × (0 < J.fault_count f)))) }
+{
+    let failed = given_up && (short || has_failed(job, ends.feeds.as_slice()));
+    with_read(failed, ends)
+}
+
+/// The same with a read fault in the place of want of memory, where a feed failed and the run can be told of.
+fn with_read<B: Drop, L: Label<Block = B>, F: Drop>(
+    failed: bool,
+    ends: Ends<B, L, F>,
+) -> Ends<B, L, F>
+    ensures same { (result.histories ≡ ends.histories) × (result.left ≡ ends.left) × (result.feeds ≡ ends.feeds) }
+    ensures none { ends.histories ≡ None → result.result ≡ ends.result }
+    ensures changed { (result.result ≡ ends.result) ⊎ ((result.result ≡ Err status.Read) × (failed ≡ true)) }
+{
+    let Ends {
+        result,
+        histories,
+        left,
+        feeds,
+    } = ends;
+    let failed = failed && histories.is_some();
+    Ends {
+        result: read_fault(failed, result),
+        histories,
+        left,
+        feeds,
     }
-    ends
+}
+
+fn read_fault<T: Drop>(failed: bool, ended: Result<T, RunStatus>) -> Result<T, RunStatus>
+    ensures { (result ≡ ended) ⊎ ((result ≡ Err status.Read) × (failed ≡ true)) }
+{
+    match ended {
+        Err(RunStatus::Memory) => if failed {
+            Err(RunStatus::Read)
+        } else {
+            Err(RunStatus::Memory)
+        },
+        other => other,
+    }
 }
 
 /// Whether a call of one of these feeds has failed.
-fn has_failed<J: JobSpec, K: RunName<J>>(job: &J, feeds: &[Fed<J, K>]) -> bool {
+fn has_failed<J: JobSpec, K: RunName<J>>(job: &J, feeds: &[Fed<J, K>]) -> bool
+    ensures { result ≡ true → (f : _) × Contains feeds.now f × (0 < J.fault_count f) }
+{
     for fed in feeds {
         if fed.faults(job) > 0 {
             return true;

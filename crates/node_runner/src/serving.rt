@@ -1,9 +1,9 @@
 //! The turns of the nodes of a run.
 
 use crate::label::{Fed, RunLabel, RunName};
-use crate::tasks::{Lent, Returned, Running};
+use crate::tasks::{Lent, Returned, Running, run_lent};
 use cluster_msgs::JobSpec;
-use driver_rows::{Attends, ClientNews, Schedules, SchedulerNews, WorkerNews, Works};
+use driver_rows::{Attends, ClientNews, SchedulerNews, Schedules, WorkerNews, Works};
 use io_edge::Gate;
 use node_states::{
     ClientNode, ClientTurn, Course, SchedulerNode, SchedulerTurn, TaskEnd, Why, WorkerNode,
@@ -12,8 +12,10 @@ use node_states::{
 use std::sync::Wait;
 use turn_cell::{Act, Stamps};
 
-impl<'a, J: JobSpec, G: Gate, K: RunName<J>> Schedules<SchedulerNode<J::Block, RunLabel<J, K>>, RunLabel<J, K>>
-    for Running<'a, J, G, K> {
+impl<'a, J: JobSpec, G: Gate, K: RunName<J>> Schedules<
+    SchedulerNode<J::Block, RunLabel<J, K>>,
+    RunLabel<J, K>,
+> for Running<'a, J, G, K> {
     fn schedule<R: Wait>(
         &self,
         rt: &R,
@@ -47,8 +49,10 @@ fn news(course: Course, joined: u32) -> SchedulerNews {
     }
 }
 
-impl<'a, J: JobSpec, G: Gate, K: RunName<J>>
-    Works<WorkerNode<J::Block, RunLabel<J, K>, Fed<J, K>>, RunLabel<J, K>> for Running<'a, J, G, K> {
+impl<'a, J: JobSpec, G: Gate, K: RunName<J>> Works<
+    WorkerNode<J::Block, RunLabel<J, K>, Fed<J, K>>,
+    RunLabel<J, K>,
+> for Running<'a, J, G, K> {
     type Task = Lent<J::Block, RunLabel<J, K>, Fed<J, K>>;
 
     type Done = Returned<J::Block, RunLabel<J, K>, Fed<J, K>>;
@@ -101,7 +105,7 @@ impl<'a, J: JobSpec, G: Gate, K: RunName<J>>
         &self,
         task: Lent<J::Block, RunLabel<J, K>, Fed<J, K>>,
     ) -> Returned<J::Block, RunLabel<J, K>, Fed<J, K>> {
-        self.run_lent(task)
+        run_lent(self.alloc, self, task)
     }
 
     fn take_back<R: Wait>(
@@ -122,8 +126,10 @@ impl<'a, J: JobSpec, G: Gate, K: RunName<J>>
     }
 }
 
-impl<'a, J: JobSpec, G: Gate, K: RunName<J>> Attends<ClientNode<J::Block, RunLabel<J, K>>, RunLabel<J, K>>
-    for Running<'a, J, G, K> {
+impl<'a, J: JobSpec, G: Gate, K: RunName<J>> Attends<
+    ClientNode<J::Block, RunLabel<J, K>>,
+    RunLabel<J, K>,
+> for Running<'a, J, G, K> {
     fn attend<R: Wait>(
         &self,
         rt: &R,

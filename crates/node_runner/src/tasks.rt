@@ -1,8 +1,10 @@
 //! Tasks, which are run outside the turns.
 ghost use Rattle.std.specs.Prelude.{◌≡◌, map, Some, IfOk, IfErr};
-ghost use Rattle.cluster_msgs.specs.Jobs.{Rose};
+ghost use Rattle.cluster_msgs.specs.Jobs.{Rose, IfValue};
+ghost use Rattle.cluster_msgs.specs.Labels.{BlockFits, ErrorFits};
+ghost use Rattle.cluster_msgs.specs.declared.jobs.Outcome.TheVariants as kind;
+ghost use Rattle.cluster_msgs.specs.declared.jobs.RunFail.TheVariants as fail;
 ghost use Rattle.node_links.specs.Fits.{ParcelFits};
-ghost use Rattle.node_runner.specs.Naming.{run_facts};
 
 use crate::label::{Fed, RunLabel, RunName};
 use cluster_msgs::{JobSpec, Label, Outcome, RunFail};
@@ -16,7 +18,7 @@ use std::sync::Arc;
 /// What the drivers of a run go by: the job, and who is told of each task.
 #[derive(Drop)]
 pub struct Running<'a, J: JobSpec, G: Gate, K: RunName<J>> {
-    alloc: Global,
+    pub alloc: Global,
     job: &'a J,
     gate: &'a G,
     of: PhantomData<K>,
@@ -49,20 +51,73 @@ impl<'a, J: JobSpec, G: Gate, K: RunName<J>> Running<'a, J, G, K> {
             of: PhantomData,
         }
     }
+}
 
-    /// Runs a task, and tells the gate before and after it.
-    pub fn run_lent(
-        &self,
-        lent: Lent<J::Block, RunLabel<J, K>, Fed<J, K>>,
-    ) -> Returned<J::Block, RunLabel<J, K>, Fed<J, K>> {
-        let Lent { worker, task } = lent;
-        let Task { key, inputs, feed } = task;
-        let mut feed = feed;
-        self.gate.at(Point::Started { worker, key });
-        let made = run_task(self.alloc, self.job, key, inputs, &mut feed);
-        self.gate.at(Point::Ended { worker, key });
-        Returned { made, feed }
+/// How tasks are run and told of, whatever the threads are that run them.
+pub trait Operates<B: Drop, L: Label<Block = B>, F> {
+    ghost use Rattle.std.specs.Prelude.{◌≡◌, ℕ, IfOk, IfErr};
+    ghost use Rattle.cluster_msgs.specs.Jobs.{Rose, IfValue};
+    ghost use Rattle.cluster_msgs.specs.Labels.{BlockFits, ErrorFits};
+    ghost use Rattle.cluster_msgs.specs.declared.jobs.Outcome.TheVariants as kind;
+    ghost use Rattle.cluster_msgs.specs.declared.jobs.RunFail.TheVariants as fail;
+    ghost use Rattle.node_links.specs.Fits.{ParcelFits};
+
+    /// How often a call of the feed has failed.
+    ghost faults: { F → ℕ };
+
+    /// Tells of a task.
+    fn tell(&self, point: Point);
+
+    /// Runs a key's operation on the blocks of its dependencies. What it makes fits the label: a block is the key's value where the run is told.
+    ///
+    /// # Errors
+    /// `Feed` only where the feed's count of faults rose in this call, and `OutOfMemory` where no memory is left.
+    fn operate(&self, feed: &mut F, key: u32, inputs: &[Arc<B>]) -> Result<Outcome<B>, RunFail>
+        requires { ParcelFits L.facts (L.facts.deps key) inputs.now }
+        ensures value { IfOk result (λ o. IfValue o (BlockFits L.facts key)) }
+        ensures zero { IfOk result (λ o. o ≡ kind.Zero → ErrorFits L.facts key) }
+        ensures failed { IfErr result (λ e. e ≡ fail.Feed → Rose (faults feed.old) (faults feed.new)) };
+}
+
+impl<'a, J: JobSpec, G: Gate, K: RunName<J>> Operates<J::Block, RunLabel<J, K>, Fed<J, K>>
+    for Running<'a, J, G, K> {
+    ghost faults = { J.fault_count };
+
+    fn tell(&self, point: Point) {
+        self.gate.at(point);
     }
+
+    #[tactic(auto, using(crate::proofs::Feeds::fits_named, crate::proofs::Feeds::still_fits))]
+    fn operate(
+        &self,
+        feed: &mut Fed<J, K>,
+        key: u32,
+        inputs: &[Arc<J::Block>],
+    ) -> Result<Outcome<J::Block>, RunFail> {
+        let graph = self.job.shape();
+        graph.sound();
+        if key >= graph.keys() {
+            return Err(RunFail::OutOfMemory);
+        }
+        self.job.run(&mut feed.feed, key, inputs)
+    }
+}
+
+/// Runs a task, and tells of it before and after.
+pub fn run_lent<B, L, F, T>(alloc: Global, operates: &T, lent: Lent<B, L, F>) -> Returned<B, L, F>
+where
+    B: Drop,
+    L: Label<Block = B>,
+    F: Drop,
+    T: Operates<B, L, F>,
+{
+    let Lent { worker, task } = lent;
+    let Task { key, inputs, feed } = task;
+    let mut feed = feed;
+    operates.tell(Point::Started { worker, key });
+    let made = run_task(alloc, operates, key, inputs, &mut feed);
+    operates.tell(Point::Ended { worker, key });
+    Returned { made, feed }
 }
 
 /// Runs a key's operation on the blocks of its dependencies. What it makes fits the label of the run: a block is the key's value where the feeds tell
@@ -70,25 +125,31 @@ impl<'a, J: JobSpec, G: Gate, K: RunName<J>> Running<'a, J, G, K> {
 ///
 /// # Errors
 /// `Feed` only where the feed's count of faults rose in this call, and `OutOfMemory` where no memory is left.
-#[tactic(auto, using(crate::proofs::TaskLaw::inputs_fit, crate::proofs::TaskLaw::value_fits, crate::proofs::TaskLaw::zero_fits))]
-fn run_task<J: JobSpec, K: RunName<J>>(
+fn run_task<B: Drop, L: Label<Block = B>, F, T: Operates<B, L, F>>(
     alloc: Global,
-    job: &J,
+    operates: &T,
     key: u32,
-    inputs: Vec<Keyed<J::Block, RunLabel<J, K>>>,
-    feed: &mut Fed<J, K>,
-) -> Result<Finished<J::Block, RunLabel<J, K>>, RunFail>
-    requires named { K.job ≡ Some job.now }
-    requires inputs { map (λ k. k.key) inputs.items ≡ (run_facts J.graph J.operation J.key_dims J.block_dims K.told K.job).deps key }
-    ensures failed { IfErr result (λ e. e ≡ RunFail.Feed → Rose (J.fault_count feed.old) (J.fault_count feed.new)) }
+    inputs: Vec<Keyed<B, L>>,
+    feed: &mut F,
+) -> Result<Finished<B, L>, RunFail>
+    requires inputs { map (λ k. k.key) inputs.items ≡ L.facts.deps key }
+    ensures failed { IfErr result (λ e. e ≡ fail.Feed → Rose (T.faults feed.old) (T.faults feed.new)) }
 {
-    let graph = job.shape();
-    graph.sound();
-    if key >= graph.keys() {
-        return Err(RunFail::OutOfMemory);
-    }
     let blocks = shared(alloc, inputs)?;
-    let outcome = feed.run(job, key, blocks.as_slice())?;
+    let outcome = operates.operate(feed, key, blocks.as_slice())?;
+    finished(alloc, key, outcome)
+}
+
+/// What a task made, as it goes to its worker.
+fn finished<B: Drop, L: Label<Block = B>>(
+    alloc: Global,
+    key: u32,
+    outcome: Outcome<B>,
+) -> Result<Finished<B, L>, RunFail>
+    requires value { IfValue outcome (BlockFits L.facts key) }
+    requires zero { outcome ≡ kind.Zero → ErrorFits L.facts key }
+    ensures { IfErr result (λ e. e ≡ fail.OutOfMemory) }
+{
     match outcome {
         Outcome::Value(block) => {
             let block = Arc::new(alloc, block)?;

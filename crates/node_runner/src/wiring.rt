@@ -1,5 +1,5 @@
 //! The links between the nodes of a run.
-ghost use Rattle.std.specs.Prelude.{◌≡◌, ◌<◌};
+ghost use Rattle.std.specs.Prelude.{◌≡◌, ◌<◌, ◌+◌, vec_len, IfOk, OnOk};
 
 use cluster_msgs::Label;
 use node_links::{Port, port_pair};
@@ -36,6 +36,19 @@ fn ends<B: Drop, L: Label<Block = B>>(
     }
 }
 
+/// A pair of links: its near end goes to these, and its far end is given out.
+fn link<B: Drop, L: Label<Block = B>>(
+    alloc: Global,
+    capacity: usize,
+    near: &mut Vec<Port<B, L>>,
+) -> Result<Port<B, L>, AllocError>
+    requires { 0 < capacity }
+{
+    let (left, right) = ends(alloc, capacity)?;
+    near.push(left)?;
+    Ok(right)
+}
+
 /// Links of the scheduler and of the client to so many workers and to each other, and of each two workers.
 ///
 /// # Errors
@@ -46,6 +59,7 @@ pub fn wire<B: Drop, L: Label<Block = B>>(
     capacity: usize,
 ) -> Result<AllPorts<B, L>, AllocError>
     requires { 0 < capacity }
+    ensures { IfOk result (λ all. vec_len all.workers ≡ workers) }
 {
     let (to_client, to_scheduler) = ends(alloc, capacity)?;
     let mut all = AllPorts {
@@ -55,7 +69,7 @@ pub fn wire<B: Drop, L: Label<Block = B>>(
         to_scheduler,
         workers: Vec::new(alloc),
     };
-    for _ in 0..workers {
+    for _at in 0..workers {
         add_worker(alloc, capacity, &mut all)?;
     }
     Ok(all)
@@ -68,34 +82,31 @@ fn add_worker<B: Drop, L: Label<Block = B>>(
     all: &mut AllPorts<B, L>,
 ) -> Result<(), AllocError>
     requires { 0 < capacity }
+    ensures { OnOk result (vec_len all.new.workers ≡ vec_len all.old.workers + 1) }
 {
-    let (near, scheduler) = ends(alloc, capacity)?;
-    all.to_workers.push(near)?;
-    let (near, client) = ends(alloc, capacity)?;
-    all.from_client.push(near)?;
-    let mut last = WorkerPorts {
+    let scheduler = link(alloc, capacity, &mut all.to_workers)?;
+    let client = link(alloc, capacity, &mut all.from_client)?;
+    let peers = link_peers(alloc, capacity, all.workers.as_mut_slice())?;
+    all.workers.push(WorkerPorts {
         scheduler,
-        peers: Vec::new(alloc),
+        peers,
         client,
-    };
-    link_peers(alloc, capacity, &mut all.workers, &mut last)?;
-    all.workers.push(last)?;
+    })?;
     Ok(())
 }
 
-/// Links a worker with those before it.
+/// Links to each of these workers; the far ends.
 fn link_peers<B: Drop, L: Label<Block = B>>(
     alloc: Global,
     capacity: usize,
-    before: &mut Vec<WorkerPorts<B, L>>,
-    last: &mut WorkerPorts<B, L>,
-) -> Result<(), AllocError>
+    before: &mut [WorkerPorts<B, L>],
+) -> Result<Vec<Port<B, L>>, AllocError>
     requires { 0 < capacity }
 {
+    let mut peers = Vec::new(alloc);
     for at in 0..before.len() {
-        let (left, right) = ends(alloc, capacity)?;
-        before[at].peers.push(left)?;
-        last.peers.push(right)?;
+        let far = link(alloc, capacity, &mut before[at].peers)?;
+        peers.push(far)?;
     }
-    Ok(())
+    Ok(peers)
 }

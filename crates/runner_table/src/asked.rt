@@ -1,4 +1,6 @@
 //! What a line asks for.
+ghost use Rattle.std.specs.Prelude.{◌≡◌, ◌<◌, ◌≤◌, IfSome};
+ghost use Rattle.runner_table.specs.Plans.{IsRunnable};
 
 use cluster_msgs::{Item, Script};
 use node_runner::RunPlan;
@@ -15,13 +17,33 @@ pub struct Asked {
     pub short: u32,
     pub failing: u32,
     pub meet: bool,
+    ghost runnable: { IsRunnable plan },
 }
 
+/// What is changed about a run: what the script makes happen, and what goes wrong.
+#[derive(Drop)]
+struct Changes {
+    script: Script,
+    zero: Option<u32>,
+    short: u32,
+    failing: u32,
+    meet: bool,
+}
+
+/// The number that a word says, or 0.
 fn number(word: Option<&str>) -> u32 {
     match word {
         Some(word) => word.parse::<u32>().unwrap_or(0),
         None => 0,
     }
+}
+
+/// The number that a word says, of at least 1 and at most so many.
+fn count(word: Option<&str>, most: u32) -> u32
+    requires { 1 ≤ most }
+    ensures { (1 ≤ result) × (result ≤ most) }
+{
+    number(word).max(1).min(most)
 }
 
 /// A line, where it is one.
@@ -30,52 +52,73 @@ pub fn read(alloc: Global, line: &str) -> Option<Asked> {
     if words.next()? != "sum" {
         return None;
     }
-    let leaves = number(words.next()).max(1).min(8192);
-    let workers = number(words.next()).max(1).min(8);
-    let threads = number(words.next()).max(1).min(8);
-    let capacity = number(words.next()).max(1).min(64) as usize;
-    read_rest(alloc, leaves, workers, threads, capacity, words)
+    let leaves = count(words.next(), 8192);
+    let workers = count(words.next(), 8);
+    let threads = count(words.next(), 8);
+    let capacity = count(words.next(), 64);
+    let changes = changes(alloc, words)?;
+    if changes.script.len() > 1000 {
+        return None;
+    }
+    Some(asked(leaves, workers, threads, capacity, changes))
 }
 
-fn read_rest(
-    alloc: Global,
-    leaves: u32,
-    workers: u32,
-    threads: u32,
-    capacity: usize,
-    words: SplitWhitespace,
-) -> Option<Asked> {
-    let mut script = Script::new(alloc);
-    let mut zero = None;
-    let mut short = 0;
-    let mut failing = 0;
-    let mut meet = false;
-    for word in words {
-        let mut parts = word.split(':');
-        let name = parts.next().unwrap_or("");
-        let rest = parts.next().unwrap_or("");
-        match name {
-            "zero" => zero = Some(number(Some(rest))),
-            "short" => short = number(Some(rest)),
-            "fail" => failing = number(Some(rest)),
-            "meet" => meet = true,
-            _ => script.push(item(name, rest)?).ok()?,
-        }
-    }
-    Some(Asked {
+#[tactic(auto, using(crate::proofs::Plans::few_threads, crate::proofs::Plans::few_numbers))]
+fn asked(leaves: u32, workers: u32, threads: u32, capacity: u32, changes: Changes) -> Asked
+    requires workers { workers ≤ 8 }
+    requires threads { (1 ≤ threads) × (threads ≤ 8) }
+    requires capacity { 1 ≤ capacity }
+    requires script { length changes.script ≤ 1000 }
+{
+    let Changes {
+        script,
+        zero,
+        short,
+        failing,
+        meet,
+    } = changes;
+    Asked {
         leaves,
         plan: RunPlan {
             workers,
             threads,
             saturation: 11,
             script,
-            capacity,
+            capacity: capacity as usize,
         },
         zero,
         short,
         failing,
         meet,
-    })
+    }
+}
+
+fn changes(alloc: Global, words: SplitWhitespace) -> Option<Changes> {
+    let mut changes = Changes {
+        script: Script::new(alloc),
+        zero: None,
+        short: 0,
+        failing: 0,
+        meet: false,
+    };
+    for word in words {
+        change(&mut changes, word)?;
+    }
+    Some(changes)
+}
+
+fn change(changes: &mut Changes, word: &str) -> Option<()> {
+    let mut parts = word.split(':');
+    let name = parts.next().unwrap_or("");
+    let rest = parts.next().unwrap_or("");
+    match name {
+        "zero" => changes.zero = Some(number(Some(rest))),
+        "short" => changes.short = number(Some(rest)),
+        "fail" => changes.failing = number(Some(rest)),
+        "meet" => changes.meet = true,
+        _ => changes.script.push(item(name, rest)?).ok()?,
+    }
+    Some(())
 }
 
 fn item(name: &str, rest: &str) -> Option<Item> {

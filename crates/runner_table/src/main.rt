@@ -16,7 +16,11 @@ use std::io;
 use std::sync::Wait;
 use std::thread::Threads;
 
-fn play_line<R: Print + Wait + Threads + Sync>(rt: &R, alloc: Global, line: &str) -> io::Result<()> {
+fn play_line<R: Print + Wait + Threads + Sync>(
+    rt: &R,
+    alloc: Global,
+    line: &str,
+) -> io::Result<()> {
     println!(rt; "{line}")?;
     match asked::read(alloc, line) {
         Some(asked) => play::play(rt, alloc, &asked),

@@ -1,11 +1,14 @@
 //! Runs what a line asks for, and prints how it ended.
+ghost use Rattle.std.specs.Prelude.{◌≡◌, Some, true, All, IfOk};
+ghost use Rattle.runner_table.specs.Sums.{sum_of};
 
 use crate::asked::Asked;
 use crate::meeting::Meeting;
 use crate::sums::{Reader, Sums, graph};
 use cluster_msgs::KeyList;
 use io_edge::{Gate, RealGate};
-use node_runner::{Ends, Fed, RunLabel, RunStatus, run_cluster};
+use node_links::Keyed;
+use node_runner::{Ends, Fed, RunLabel, RunName, RunStatus, run_cluster};
 use node_states::Why;
 use std::alloc::{AllocError, Global};
 use std::io;
@@ -13,38 +16,161 @@ use std::marker::Brand;
 use std::sync::Wait;
 use std::thread::Threads;
 
-fn feeds(alloc: Global, asked: &Asked) -> Result<Vec<Vec<Fed<Sums, Brand>>>, AllocError> {
-    let mut all = Vec::new(alloc);
-    for at in 0..asked.plan.numbers() {
-        let mut own = Vec::new(alloc);
-        let count = if at + 1 == asked.short { 0 } else { asked.plan.threads };
-        for _ in 0..count {
-            own.push(Fed::new(Reader {
-                fails: at + 1 == asked.failing,
-                faults: 0,
-            }))?;
-        }
-        all.push(own)?;
-    }
-    Ok(all)
+/// A key with its value.
+#[derive(Clone, Copy)]
+struct Worth {
+    key: u32,
+    value: u64,
 }
 
+/// What came of a run.
+#[derive(Drop)]
+struct Told {
+    worths: Result<Vec<Worth>, RunStatus>,
+    left: Vec<Option<Why>>,
+}
+
+/// Runs it, and prints how it ended.
+pub fn play<R: Print + Wait + Threads + Sync>(
+    rt: &R,
+    alloc: Global,
+    asked: &Asked,
+) -> io::Result<()> {
+    let Some(shape) = graph(alloc, asked.leaves) else {
+        return println!(rt; "no memory");
+    };
+    let job = Sums {
+        shape,
+        zero: asked.zero,
+    };
+    let meeting = Meeting::new();
+    let told = if asked.meet {
+        run(rt, alloc, asked, &meeting, &job)
+    } else {
+        run(rt, alloc, asked, &RealGate, &job)
+    };
+    let Ok(told) = told else {
+        return println!(rt; "no memory");
+    };
+    if asked.meet {
+        println!(rt; "two tasks at once: {}", meeting.met())?;
+    }
+    print(rt, &told)
+}
+
+/// Runs it. Each value that is told is that of its key.
 fn run<R: Wait + Threads + Sync, G: Gate>(
     rt: &R,
     alloc: Global,
     asked: &Asked,
     gate: &G,
-) -> Result<Ends<u64, RunLabel<Sums, Brand>, Fed<Sums, Brand>>, AllocError> {
-    let job = Sums {
-        shape: graph(alloc, asked.leaves)?,
-        zero: asked.zero,
-    };
+    job: &Sums,
+) -> Result<Told, AllocError>
+    ensures { IfOk result (λ t. IfOk t.worths (λ ws. All (λ w. sum_of job.now.shape job.now.zero w.key ≡ Some w.value) ws.items)) }
+{
+    run_named::<R, G, Brand>(rt, alloc, asked, gate, job)
+}
+
+fn run_named<R, G, K>(
+    rt: &R,
+    alloc: Global,
+    asked: &Asked,
+    gate: &G,
+    job: &Sums,
+) -> Result<Told, AllocError>
+where
+    R: Wait + Threads + Sync,
+    G: Gate,
+    K: RunName<Sums> + Send + Sync,
+    requires named { K.job ≡ Some job.now }
+    requires told { K.told ≡ true }
+    ensures { IfOk result (λ t. IfOk t.worths (λ ws. All (λ w. sum_of job.now.shape job.now.zero w.key ≡ Some w.value) ws.items)) }
+{
     let mut wanted = KeyList::new(alloc);
     wanted.push(job.shape.keys().saturating_sub(1))?;
-    let feeds = feeds(alloc, asked)?;
-    Ok(run_cluster::<R, Sums, G, Brand>(
-        rt, alloc, &job, gate, &asked.plan, &wanted, feeds,
-    ))
+    let feeds = feeds::<K>(alloc, asked)?;
+    let ends = run_cluster::<R, Sums, G, K>(rt, alloc, job, gate, &asked.plan, &wanted, feeds);
+    told_of(alloc, job, ends)
+}
+
+/// The feeds of each worker that may come.
+fn feeds<K: RunName<Sums>>(
+    alloc: Global,
+    asked: &Asked,
+) -> Result<Vec<Vec<Fed<Sums, K>>>, AllocError> {
+    let mut all = Vec::new(alloc);
+    for at in 0..asked.plan.numbers() {
+        let count = if at + 1 == asked.short {
+            0
+        } else {
+            asked.plan.threads
+        };
+        all.push(feeds_of(alloc, count, at + 1 == asked.failing)?)?;
+    }
+    Ok(all)
+}
+
+#[tactic(auto, using(crate::proofs::Played::fed))]
+fn feeds_of<K: RunName<Sums>>(
+    alloc: Global,
+    count: u32,
+    fails: bool,
+) -> Result<Vec<Fed<Sums, K>>, AllocError> {
+    let mut own = Vec::new(alloc);
+    for _ in 0..count {
+        own.push(Fed::new(Reader { fails, faults: 0 }))?;
+    }
+    Ok(own)
+}
+
+/// How a run ended, without its histories and its feeds.
+fn told_of<K: RunName<Sums>>(
+    alloc: Global,
+    job: &Sums,
+    ends: Ends<u64, RunLabel<Sums, K>, Fed<Sums, K>>,
+) -> Result<Told, AllocError>
+    requires named { K.job ≡ Some job.now }
+    requires told { K.told ≡ true }
+    ensures { IfOk result (λ t. IfOk t.worths (λ ws. All (λ w. sum_of job.now.shape job.now.zero w.key ≡ Some w.value) ws.items)) }
+{
+    let Ends {
+        result,
+        histories: _,
+        left,
+        feeds: _,
+    } = ends;
+    let worths = match result {
+        Ok(blocks) => Ok(worths(alloc, job, blocks.as_slice())?),
+        Err(status) => Err(status),
+    };
+    Ok(Told { worths, left })
+}
+
+fn worths<K: RunName<Sums>>(
+    alloc: Global,
+    job: &Sums,
+    blocks: &[Keyed<u64, RunLabel<Sums, K>>],
+) -> Result<Vec<Worth>, AllocError>
+    requires named { K.job ≡ Some job.now }
+    requires told { K.told ≡ true }
+    ensures { IfOk result (λ ws. All (λ w. sum_of job.now.shape job.now.zero w.key ≡ Some w.value) ws.items) }
+{
+    let mut worths = Vec::new(alloc);
+    for keyed in blocks {
+        worths.push(worth(job, keyed))?;
+    }
+    Ok(worths)
+}
+
+fn worth<K: RunName<Sums>>(_job: &Sums, keyed: &Keyed<u64, RunLabel<Sums, K>>) -> Worth
+    requires named { K.job ≡ Some _job.now }
+    requires told { K.told ≡ true }
+    ensures { sum_of _job.now.shape _job.now.zero result.key ≡ Some result.value }
+{
+    Worth {
+        key: keyed.key(),
+        value: **keyed.block(),
+    }
 }
 
 fn why(why: Why) -> &'static str {
@@ -56,31 +182,18 @@ fn why(why: Why) -> &'static str {
     }
 }
 
-/// Runs it, and prints how it ended.
-pub fn play<R: Print + Wait + Threads + Sync>(rt: &R, alloc: Global, asked: &Asked) -> io::Result<()> {
-    let meeting = Meeting::new();
-    let run = if asked.meet {
-        run(rt, alloc, asked, &meeting)
-    } else {
-        run(rt, alloc, asked, &RealGate)
-    };
-    let Ok(ends) = run else {
-        return println!(rt; "no memory");
-    };
-    if asked.meet {
-        println!(rt; "two tasks at once: {}", meeting.met())?;
-    }
-    match &ends.result {
-        Ok(blocks) => {
-            for keyed in blocks.as_slice() {
-                println!(rt; "key {} is {}", keyed.key(), **keyed.block())?;
+fn print<R: Print>(rt: &R, told: &Told) -> io::Result<()> {
+    match &told.worths {
+        Ok(worths) => {
+            for worth in worths {
+                println!(rt; "key {} is {}", worth.key, worth.value)?;
             }
         }
         Err(RunStatus::Zero { key }) => println!(rt; "zero divisor at {key}")?,
         Err(RunStatus::Read) => println!(rt; "read fault")?,
         Err(RunStatus::Memory) => println!(rt; "no memory")?,
     }
-    for (at, left) in ends.left.iter().enumerate() {
+    for (at, left) in told.left.iter().enumerate() {
         if let Some(cause) = left {
             println!(rt; "worker {} left: {}", at + 1, why(*cause))?;
         }

@@ -1,6 +1,10 @@
 //! The job that is played: leaves, one task on each, and a tree of fours over these.
+ghost use Rattle.std.specs.Prelude.{◌≡◌, ◌+◌, ◌*◌, ◌%◌, ◌<◌, ◌^◌, fold, length, IfOk};
+ghost use Rattle.cluster_msgs.specs.Jobs.{CountsFault, blocks_of};
+ghost use Rattle.cluster_msgs.specs.declared.jobs.Outcome.TheVariants.{Value};
+ghost use Rattle.runner_table.specs.Sums.{is_at, mixed_in};
 
-use cluster_msgs::{GraphShape, JobSpec, KeyList, Outcome, RunFail};
+use cluster_msgs::{GraphRow, GraphShape, JobSpec, KeyList, Outcome, RunFail};
 use std::alloc::{AllocError, Global};
 use std::sync::Arc;
 
@@ -25,7 +29,8 @@ impl JobSpec for Sums {
 
     type Feed = Reader;
 
-    ghost use Rattle.std.specs.Prelude.{◌≡◌, [], None};
+    ghost use Rattle.std.specs.Prelude.{◌≡◌, []};
+    ghost use Rattle.runner_table.specs.Sums.{worth};
 
     ghost graph = { λ j. j.shape };
 
@@ -33,7 +38,7 @@ impl JobSpec for Sums {
 
     ghost block_dims = { λ b. [] };
 
-    ghost operation = { λ j k bs. None };
+    ghost operation = { λ j. worth j.zero };
 
     ghost feed_fits = { λ j f. Unit {0} };
 
@@ -59,57 +64,101 @@ impl JobSpec for Sums {
         key: u32,
         inputs: &[Arc<u64>],
     ) -> Result<Outcome<u64>, RunFail> {
-        if self.zero == Some(key) {
+        if is_at(self.zero, key) {
             return Ok(Outcome::Zero);
         }
         if inputs.is_empty() {
-            if feed.fails {
-                feed.faults = feed.faults.saturating_add(1);
-                return Err(RunFail::Feed);
-            }
-            return Ok(Outcome::Value(key as u64));
+            return read(feed, key);
         }
-        let mut value: u64 = 0;
-        for input in inputs {
-            value = (value % MODULUS * 31 + **input % MODULUS) % MODULUS;
-        }
-        Ok(Outcome::Value(value))
+        Ok(Outcome::Value(mixed(inputs)))
     }
 }
 
-/// So many leaves, a key over each, and trees of fours over these down to one key, which is the last.
-pub fn graph(alloc: Global, leaves: u32) -> Result<GraphShape, AllocError> {
-    let mut shape = GraphShape::new(alloc);
-    for _ in 0..leaves {
-        shape.push(&KeyList::new(alloc), 8, 8)?;
+fn is_at(place: Option<u32>, key: u32) -> bool
+    ensures { result ≡ is_at place key }
+{
+    match place {
+        Some(place) => place == key,
+        None => false,
     }
-    for key in 0..leaves {
-        let mut deps = KeyList::new(alloc);
-        deps.push(key)?;
-        shape.push(&deps, 16, 8)?;
+}
+
+/// A leaf, unless its feed fails.
+fn read(feed: &mut Reader, key: u32) -> Result<Outcome<u64>, RunFail>
+    ensures value { IfOk result (λ o. o ≡ Value key) }
+    ensures faults { CountsFault result feed.old.faults feed.new.faults }
+{
+    if feed.fails {
+        feed.faults = feed.faults.saturating_add(1);
+        return Err(RunFail::Feed);
+    }
+    Ok(Outcome::Value(key as u64))
+}
+
+fn mixed(inputs: &[Arc<u64>]) -> u64
+    ensures { result ≡ fold mixed_in 0 (blocks_of inputs.now) }
+{
+    let mut value: u64 = 0;
+    for input in inputs {
+        value = (value % MODULUS * 31 + **input % MODULUS) % MODULUS;
+    }
+    value
+}
+
+/// So many leaves, a key over each, and trees of fours over these down to one key, which is the last. None where they are too many, or there is no
+/// memory.
+pub fn graph(alloc: Global, leaves: u32) -> Option<GraphShape> {
+    let rows = rows(alloc, leaves).ok()?;
+    GraphShape::from_rows(alloc, rows).ok()
+}
+
+fn rows(alloc: Global, leaves: u32) -> Result<Vec<GraphRow>, AllocError> {
+    let mut rows = Vec::new(alloc);
+    for _ in 0..leaves {
+        add(&mut rows, KeyList::new(alloc), 8)?;
+    }
+    for leaf in 0..leaves {
+        add(&mut rows, keys(alloc, leaf, leaf.saturating_add(1))?, 16)?;
     }
     let mut first = leaves;
+    let mut end = leaves.saturating_mul(2);
     for _ in 0..16 {
-        let end = shape.keys();
-        if end - first <= 1 {
-            return Ok(shape);
+        if end.saturating_sub(first) <= 1 {
+            return Ok(rows);
         }
-        level(alloc, &mut shape, first, end)?;
+        let top = level(alloc, &mut rows, first, end)?;
         first = end;
+        end = top;
     }
-    Ok(shape)
+    Ok(rows)
 }
 
-fn level(alloc: Global, shape: &mut GraphShape, first: u32, end: u32) -> Result<(), AllocError> {
+/// A key over each four of these, the first of which has number `end`. The end of the new ones.
+fn level(alloc: Global, rows: &mut Vec<GraphRow>, first: u32, end: u32) -> Result<u32, AllocError> {
+    let mut made = end;
     let mut key = first;
     while key < end {
-        let mut deps = KeyList::new(alloc);
-        let last = (key + 4).min(end);
-        for dep in key..last {
-            deps.push(dep)?;
-        }
-        shape.push(&deps, 40, 8)?;
+        let last = key.saturating_add(4).min(end);
+        add(rows, keys(alloc, key, last)?, 40)?;
+        made = made.saturating_add(1);
         key = last;
     }
+    Ok(made)
+}
+
+fn keys(alloc: Global, first: u32, end: u32) -> Result<KeyList, AllocError> {
+    let mut keys = KeyList::new(alloc);
+    for key in first..end {
+        keys.push(key)?;
+    }
+    Ok(keys)
+}
+
+fn add(rows: &mut Vec<GraphRow>, deps: KeyList, work: u64) -> Result<(), AllocError> {
+    rows.push(GraphRow {
+        deps,
+        work,
+        nbytes: 8,
+    })?;
     Ok(())
 }

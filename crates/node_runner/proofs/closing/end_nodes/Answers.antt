@@ -1,0 +1,33 @@
+use Rattle.std.proofs.Common.{◌≡◌, ◌+◌, ℕ, sym, subst, arith}
+use Rattle.std.specs.Prelude.{Some, Ok, IfSome, IfOk, Contains}
+use Rattle.cluster_msgs.specs.Labels.{BlameFits}
+use Rattle.gather_client.specs.CoreState.{client_facts}
+use Rattle.scheduler_core.specs.Cores.{facts}
+use Rattle.turn_cell.specs.Rows.{AllBy}
+use Rattle.worker_core.specs.Core.{facts as worker_facts}
+use Rattle.node_runner.specs.Runs.{IsBlamed, IfStatus, IsLeft, IsTakenFrom}
+use Rattle.node_runner.proofs.Ending.{has_run, if_told}
+use Rattle.node_runner.proofs.closing.end_nodes.Goals as goal
+
+pub returns-clause-ended : goal.returns-clause-ended
+returns-clause-ended g c =
+    let es = c.ends_of-ends.result in
+    let b = c.args.scheduler.history.book in
+    let p = c.args.plan.now in
+    if_told _ _ es.histories c.ends_of-ends.ensures.told (λ h e.
+    let t = subst (λ o. IfSome o (λ t. (t.histories.scheduler ≡ c.scheduler_history-scheduler.result) × (c.take_apart-workers.result.0 ≡ Some t.histories.workers)
+    × (t.histories.client ≡ c.client_history-client.result) × (c.all_left-left.result ≡ Ok t.left))) e.0 c.all_told-told.ensures in
+    has_run g.L.Label.facts c.args._graph.now p c.args.wanted.now b (λ w. w.history.book) (λ k. worker_facts k.core) c.args.workers.items
+    c.args.client.book (λ k. client_facts k.core) h es.left.items c.first_blame-blame.result es.result
+    c.requires.scheduler (λ k w less. c.requires.workers k w (omega (arith, less, c.args.workers.ok.0))) c.requires.client
+    (subst (IsTakenFrom b) (sym t.0) c.scheduler_history-scheduler.ensures.taken)
+    (subst (λ o. IfSome o (λ hs. AllBy (λ k w x. IsTakenFrom w.history.book x) c.args.workers.items hs.items)) t.1 c.take_apart-workers.ensures)
+    (subst (IsTakenFrom c.args.client.book) (sym t.2) c.client_history-client.ensures)
+    c.scheduler_history-scheduler.ensures.in_time
+    (subst (λ ws. AllBy (λ k w o. IfSome o (IsLeft p (facts b.core.core) (k + 1) w.history.book.entries w.history.book.cut)) ws es.left.items) c.as_slice-3.ensures.value
+    (subst (λ r. IfOk r (λ left. AllBy (λ k w o. IfSome o (IsLeft p (facts b.core.core) (k + 1) w.history.book.entries w.history.book.cut)) c.as_slice-3.result.now left.items)) t.3 c.all_left-left.ensures))
+    (subst (IfStatus (IsBlamed c.first_blame-blame.result)) (sym e.1) c.result.ensures.cause)
+    (subst (λ ks. IfSome c.first_blame-blame.result (λ blame. (k : ℕ) × Contains ks k × BlameFits g.L.Label.facts k blame)) c.as_slice-2.ensures c.first_blame-blame.ensures))
+
+pub returns-clause-given_up : goal.returns-clause-given_up
+returns-clause-given_up g c = λ e. c.is_over-given_up.ensures.given_up (facts c.args.scheduler.history.book.core.core) c.joined-joined.ensures e

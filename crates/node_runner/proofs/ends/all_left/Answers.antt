@@ -1,0 +1,15 @@
+use Rattle.std.proofs.Common.{◌+◌, ◌<◌, length, take, sym, subst, arith}
+use Rattle.std.specs.Prelude.{IfSome}
+use Rattle.scheduler_core.specs.Cores.{facts}
+use Rattle.turn_cell.specs.Rows.{AllBy}
+use Rattle.node_runner.specs.Runs.{IsLeft}
+use Rattle.node_runner.proofs.Places.{all_by_next}
+use Rattle.node_runner.proofs.ends.all_left.Goals as goal
+
+pub loop-at-preserved : goal.loop-at-preserved
+loop-at-preserved g c =
+    let ws = c.args.workers.now in let i = c.loop-at.at in let less : i < length ws = omega arith in
+    subst (AllBy (λ k w o. IfSome o (IsLeft c.args.plan.now (facts c.args.scheduler.now.history.book.core.core) (k + 1) w.history.book.entries w.history.book.cut)) (take (i + 1) ws))
+    (sym c.in_ok-push.ensures.items)
+    (all_by_next (λ k w o. IfSome o (IsLeft c.args.plan.now (facts c.args.scheduler.now.history.book.core.core) (k + 1) w.history.book.entries w.history.book.cut))
+    ws c.loop-at.left.items i c.index-workers-at.result c.row.result less c.index-workers-at.is c.loop-at.invariant c.row.ensures)

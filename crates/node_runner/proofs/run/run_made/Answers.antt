@@ -1,0 +1,47 @@
+use Rattle.std.proofs.Common.{◌≡◌, ◌+◌, ◌<◌, ◌⊎◌, ℕ, map, true, subst, sym}
+use Rattle.std.specs.Prelude.{All, Contains, IfSome, slice_index_or}
+use Rattle.gather_client.specs.CoreState.{client_facts}
+use Rattle.worker_core.specs.Core.{facts as worker_facts}
+use Rattle.node_runner.specs.Naming.{run_facts}
+use Rattle.node_runner.specs.Runs.{IsSchedulersBook, IsWorkersBook, IsClientsBook, HowItEnded}
+use Rattle.node_runner.proofs.FeedFaults.{still_ok, told_end}
+use Rattle.node_runner.proofs.run.run_made.Goals as goal
+
+pub end_rows-ends-requires-clause-scheduler : goal.end_rows-ends-requires-clause-scheduler
+end_rows-ends-requires-clause-scheduler g c =
+    let j = g.J.JobSpec in
+    let k = g.K.RunName in
+    subst (λ s. All (λ x. IsSchedulersBook (run_facts j.graph j.operation j.key_dims j.block_dims k.told k.job) s c.args.plan.now x.history.book)
+    c.run_rows-closed.result.scheduler.items) (sym c.shape.ensures) c.run_rows-closed.ensures.scheduler
+
+pub end_rows-ends-requires-clause-workers : goal.end_rows-ends-requires-clause-workers
+end_rows-ends-requires-clause-workers g c =
+    let j = g.J.JobSpec in
+    let k = g.K.RunName in
+    λ at w less. subst (λ s. IsWorkersBook (run_facts j.graph j.operation j.key_dims j.block_dims k.told k.job) s c.args.plan.now.threads (at + 1)
+    (λ x. worker_facts x.core) (slice_index_or c.run_rows-closed.result.workers.items at w).history.book) (sym c.shape.ensures)
+    (c.run_rows-closed.ensures.workers at w less)
+
+pub end_rows-ends-requires-clause-clients : goal.end_rows-ends-requires-clause-clients
+end_rows-ends-requires-clause-clients g c =
+    let j = g.J.JobSpec in
+    let k = g.K.RunName in
+    subst (λ s. All (λ x. IsClientsBook (run_facts j.graph j.operation j.key_dims j.block_dims k.told k.job) s (λ x. client_facts x.core) x.book)
+    c.run_rows-closed.result.clients.items) (sym c.shape.ensures) c.run_rows-closed.ensures.clients
+
+pub returns-clause-blocks : goal.returns-clause-blocks
+returns-clause-blocks g c = still_ok (λ blocks. map (λ k. k.key) blocks.items ≡ c.args.wanted.now) c.end_rows-ends.result.0.result c.with_reads.result.result _
+    c.with_reads.ensures.changed c.end_rows-ends.ensures.blocks
+
+pub returns-clause-ended : goal.returns-clause-ended
+returns-clause-ended g c =
+    let j = g.J.JobSpec in
+    let k = g.K.RunName in
+    let l = run_facts j.graph j.operation j.key_dims j.block_dims k.told k.job in
+    let old = c.end_rows-ends.result.0 in
+    let new = c.with_reads.result in
+    let failed = λ fs. (c.args.short ≡ true) ⊎ ((f : _) × Contains fs.items f × (0 < j.fault_count f)) in
+    subst (λ s. HowItEnded l s c.args.plan.now c.args.wanted.now (failed new.feeds) new.result new.left.items new.histories) c.shape.ensures
+    (told_end l c.shape.result.now c.args.plan.now c.args.wanted.now failed old.result new.result (λ v. v.items) old.left new.left old.feeds new.feeds
+    old.histories new.histories (c.end_rows-ends.result.1 ≡ true) c.end_rows-ends.ensures.ended c.end_rows-ends.ensures.none c.with_reads.ensures.same
+    c.with_reads.ensures.none c.with_reads.ensures.changed)

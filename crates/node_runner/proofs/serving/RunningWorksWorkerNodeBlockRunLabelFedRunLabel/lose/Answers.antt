@@ -1,0 +1,9 @@
+use Rattle.std.proofs.Common.{ap}
+use Rattle.std.specs.Arc.{arc_value}
+use Rattle.cluster_msgs.specs.Labels.{BlockFits}
+use Rattle.node_runner.proofs.TurnLemmas.{went_from}
+use Rattle.node_runner.proofs.serving.RunningWorksWorkerNodeBlockRunLabelFedRunLabel.lose.Goals as goal
+
+pub returns-clause-went : goal.returns-clause-went
+returns-clause-went g c = went_from (λ s. s.history.book.entries) (λ s. s.history.book.core) (λ s. s.history.book.cut) _ c.args.state.now c.end.new.self c.act.new.state
+    (ap (λ h. h.book.entries) c.end.ensures.history) (ap (λ h. h.book.core) c.end.ensures.history) (ap (λ h. h.book.cut) c.end.ensures.history) c.act.ensures.went
