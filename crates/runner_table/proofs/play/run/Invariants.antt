@@ -1,6 +1,0 @@
-use Rattle.std.proofs.Common.{true}
-use Rattle.std.specs.Prelude.{Some}
-use Rattle.runner_table.proofs.play.run.Given as goal
-
-abbrev pub ghosts-run_named : goal.ghosts-run_named
-ghosts-run_named g a = record { job = Some a.job.now; told = true }
