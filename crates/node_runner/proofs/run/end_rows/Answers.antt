@@ -25,5 +25,8 @@ end_nodes-requires-clause-client g c = All-contains (λ x. IsClientsBook g.L.Lab
 
 pub returns-in-Ok-clause-ended : goal.returns-in-Ok-clause-ended
 returns-in-Ok-clause-ended g c = IfSome_then c.end_nodes.result.0.histories c.end_nodes.ensures.ended (λ h run. (
-    last_facts (facts c.in-Ok.scheduler.history.book.core.core) (map (λ w. worker_facts w.history.book.core.core) c.in-Ok.workers.items)
-    (client_facts c.in-Ok.client.book.core.core), run, c.end_nodes.ensures.given_up))
+  last_facts (facts c.in-Ok.scheduler.history.book.core.core) (map (λ w. worker_facts w.history.book.core.core) c.in-Ok.workers.items)
+      (client_facts c.in-Ok.client.book.core.core),
+  run,
+  c.end_nodes.ensures.given_up,
+))
