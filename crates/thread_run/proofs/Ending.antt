@@ -1,12 +1,11 @@
 -- What a run by threads leaves at each of its ends.
-use Rattle.std.proofs.Common.{◌≡◌, ℕ, ◌+◌, ◌≤◌, List, [], ◌++◌, refl, ap, sym, ◌∙◌, subst, inl, inr, arith, Bool, true, false, Option, Some, None, is_some}
+use Rattle.std.proofs.Common.{◌≡◌, ℕ, List, ◌++◌, refl, ap, sym, ◌∙◌, subst, inl, inr, arith, Bool, true, false, Option, Some, None, is_some}
 use Rattle.std.specs.Prelude.{IfSome, IsTrue}
 use Rattle.io_edge.specs.Cause.{Rose}
 use Rattle.io_edge.specs.Content.{Content, PrintsPart, followed_by}
 use Rattle.io_edge.specs.Given.{GivesMore}
 use Rattle.io_edge.proofs.GivenLaws.{more_same, more_then}
 use Rattle.io_edge.specs.View.{View, Files, OnlyOut, OnlyReads, Opens, raised_by}
-use Rattle.nd_shape.specs.Block.{Array}
 use Rattle.npy_codec.specs.declared.head.Head.{Head}
 use Rattle.plain_eval.specs.Eval.{held_in}
 use Rattle.command_words.specs.declared.run.RunWords.{RunWords}
@@ -16,10 +15,10 @@ use Rattle.job_run.specs.Inputs.{told_all}
 use Rattle.job_run.specs.Lowering.{LowerCause}
 use Rattle.job_run.specs.Part.{AreLeft, AreWhole, IsNoneOf, RaisedAtMost}
 use Rattle.job_run.specs.Plan.{Plan, names_saved}
-use Rattle.job_run.specs.Runs.{AreRight, AreSaved, HasValues, IsSmall, PrintsFront, ReadCause, RunsPlan, StopsPrinting}
+use Rattle.job_run.specs.Runs.{AreRight, AreSaved, HasValues, IsSmall, ReadCause, RunsPlan, StopsPrinting}
 use Rattle.job_run.specs.Told.{named_told}
 use Rattle.job_run.specs.Values.{IsFaulty, MeetsNone, Named, OnInputs, files_of}
-use Rattle.job_run.proofs.Counting.{opened_most, raised_at_most, times-append}
+use Rattle.job_run.proofs.Counting.{raised_at_most, times-append}
 use Rattle.job_run.proofs.Naming.{on_named}
 use Rattle.job_run.proofs.Running.{HaveAccepted, left_before, lowering_runs, most_before, reading_runs, rose_before}
 use Rattle.thread_run.specs.Counts.{RaisedBetween, feeds, repeated}

@@ -11,7 +11,7 @@ use Rattle.job_run.specs.Inputs.{told_all}
 use Rattle.job_run.proofs.Told.{told_at}
 use Rattle.node_runner.specs.Naming.{FitsRun}
 use Rattle.thread_run.specs.Feeding.{IsFixed, veiled}
-use Rattle.thread_run.proofs.Veiled.{count-veiled, file-hidden, size-veiled}
+use Rattle.thread_run.proofs.Veiled.{count_veiled, file_hidden, size_veiled}
 
 abbrev Named : Type 0
 Named = ℕ → List ℕ → ℤ
@@ -68,10 +68,10 @@ module _ (named : Named) (names : List (List ℕ)) (heads : List Head) (old new 
 
   data-there : (told : Bool) → IsFixed named told names heads old → HaveData heads (veiled told files)
   data-there told f = record {
-    file = omega (arith, few told f, shows.places, count-veiled told files);
+    file = omega (arith, few told f, shows.places, count_veiled told files);
     data_is = λ j h.
         let same = sizes-same told f j (omega (arith, h, few told f)) in
-        omega (arith, f.fits.all_there.data_is j h, size-veiled told files j, same);
+        omega (arith, f.fits.all_there.data_is j h, size_veiled told files j, same);
   }
 
   -- where all are told, it tells what the first did
@@ -90,12 +90,12 @@ module _ (named : Named) (names : List (List ℕ)) (heads : List Head) (old new 
     all_there = data-there true f;
     named_is = λ j h.
         let b = same-bytes f j (omega (arith, h, few true f)) in
-        subst (Elements j) (b.1.1 ∙ sym b.1.0) (f.fits.named_is j h);
+        subst (Elements j) (b.2 ∙ sym b.1) (f.fits.named_is j h);
   }
-  later-fits false f = record { all_there = data-there false f; named_is = λ j h. subst (Elements j) (sym (file-hidden files j)) tt }
+  later-fits false f = record { all_there = data-there false f; named_is = λ j h. subst (Elements j) (sym (file_hidden files j)) tt }
 
   pub later-tells : (told : Bool) → IsFixed named told names heads old → IsTrue told → TellsFeed heads (veiled told files)
-  later-tells true f t = record { each = λ j h. let b = same-bytes f j (omega (arith, h, few true f)) in own-told (file_at files j) b.0 b.1.0 }
+  later-tells true f t = record { each = λ j h. let b = same-bytes f j (omega (arith, h, few true f)) in own-told (file_at files j) b.0 b.1 }
   later-tells false f t = absurd cc
 
 -- ## The feed of a run whose job is picked, or isn't

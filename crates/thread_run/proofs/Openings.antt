@@ -12,7 +12,7 @@ use Rattle.thread_run.specs.Feeding.{OpensOften, TakesBack}
 -- ## Names, so many times over
 
 pub times-more : (n : List ℕ) (names : List (List ℕ)) (j k : ℕ) → times n (repeated (j + k) names) ≡ times n (repeated j names) + times n (repeated k names)
-times-more n names zero k = omega arith
+times-more n names zero k = refl
 times-more n names (suc j) k = omega (arith, times-append n names (repeated (j + k) names), times-append n names (repeated j names), times-more n names j k)
 
 times-once : (n : List ℕ) (names : List (List ℕ)) → times n (repeated 1 names) ≡ times n names
@@ -78,18 +78,19 @@ opens-most names j k old new h a = record {
 pub opens-back : (names : List (List ℕ)) (k : ℕ) (old mid new : View) (Failed : Type 0) → OpensOften names k old mid → TakesBack Failed mid new → OpensOften names k old new
 opens-back names k old mid new Failed a b =
     let P : Files → Type 0 = λ f. OpensOften names k old (record new { files = f }) in
+    let r : OnlyReads old new = reads_then old mid new a.only b.only in
     subst P (sym b.files) (record {
       tells = a.tells;
       held = a.held;
       created = a.created;
       opened = a.opened;
       size_kept = a.size_kept;
-      only = reads_then old mid new a.only b.only;
+      only = record { gave = r.gave; out = r.out; err = r.err; write_faults = r.write_faults; print_faults = r.print_faults; note_faults = r.note_faults };
       later = omega (arith, a.later, b.later);
     })
 
 pub back-none : (Failed : Type 0) (v : View) → (Failed → ⊥) → TakesBack Failed v v
-back-none Failed v no = record { files = refl; only = reads-nothing v; later = omega arith; risen = λ f. absurd (no f) }
+back-none Failed v never = record { files = refl; only = reads-nothing v; later = omega arith; risen = λ f. absurd (never f) }
 
 pub back-as : (Failed Fewer : Type 0) (old new : View) → (Fewer → Failed) → TakesBack Failed old new → TakesBack Fewer old new
 back-as Failed Fewer old new f b = record { files = b.files; only = b.only; later = b.later; risen = λ x. b.risen (f x) }

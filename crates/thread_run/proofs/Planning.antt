@@ -1,5 +1,5 @@
 -- The plan of a run by words that can be followed.
-use Rattle.std.proofs.Common.{◌≡◌, ℕ, ◌+◌, ◌*◌, List, [], ◌∷◌, map, refl, arith}
+use Rattle.std.proofs.Common.{◌≡◌, ℕ, ◌+◌, List, [], ◌∷◌, map, refl, arith}
 use Rattle.std.specs.Prelude.{sum}
 use Rattle.std.specs.List.{fold}
 use Rattle.cluster_msgs.specs.declared.events.Item.{Item}

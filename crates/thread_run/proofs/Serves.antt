@@ -1,9 +1,10 @@
 -- What a run of a graph leaves: its feeds opened and given back, and then its client's blocks saved.
-use Rattle.std.proofs.Common.{◌≡◌, ℕ, ◌+◌, ◌<◌, ◌≤◌, Bool, List, refl, ap, sym, ◌∙◌, subst, arith, Option, Some, None, Result, Ok, Err, ◌⊎◌, inl, inr}
+use Rattle.std.proofs.Common.{◌≡◌, ℕ, ◌≤◌, Bool, List, refl, ap, sym, ◌∙◌, subst, arith, Option, Some, None, Result, Ok, Err, inl}
 use Rattle.std.specs.Prelude.{Contains, IfErr, IsTrue}
 use Rattle.io_edge.specs.Cause.{Rose}
 use Rattle.io_edge.proofs.GivenLaws.{more_same, more_then}
 use Rattle.io_edge.specs.View.{View, Files, OnlyReads, raised_by}
+use Rattle.nd_shape.specs.Block.{Array}
 use Rattle.cluster_msgs.specs.Labels.{BlameFits, LabelFacts}
 use Rattle.cluster_msgs.specs.Shape.{Shape}
 use Rattle.node_states.specs.declared.why.Why.{Why}
@@ -15,15 +16,21 @@ use Rattle.node_runner.specs.declared.plan.RunPlan.{RunPlan}
 use Rattle.job_run.specs.declared.ends.Ended.{Ended}
 use Rattle.job_run.specs.declared.ends.Ended.TheVariants.{Done, Limit, File, Zero, ReadFault, WriteFault, OutOfMemory}
 use Rattle.job_run.specs.Evaluating.{HasLaws}
-use Rattle.job_run.specs.Plan.{IsRunnable, Plan, names_saved}
+use Rattle.job_run.specs.Plan.{IsRunnable, Plan, name_at, names_saved}
 use Rattle.job_run.specs.Values.{Named, files_of, tasks_of}
 use Rattle.job_run.specs.Wanted.{EndsAtKey, wanted_of}
 use Rattle.job_run.proofs.Counting.{none_raised}
 use Rattle.job_run.proofs.Running.{left_before, most_before}
 use Rattle.job_run.proofs.SavedKeys.{is-faulty}
 use Rattle.thread_run.specs.Feeding.{OpensOften}
-use Rattle.thread_run.specs.Serving.{IsBare, IsWhy, SavesFiles, ServesAll, ServesFiles, ServesPart, Stops}
+use Rattle.thread_run.specs.Serving.{IsWhy, SavesFiles, ServesAll, ServesFiles, ServesPart, Stops}
+use Rattle.thread_run.proofs.Openings.{opens-back}
 use Rattle.thread_run.proofs.Saved.{label}
+
+-- ## Faults
+
+pub rose_after : (a b c : ℕ) → b ≤ c → Rose a b → Rose a c
+rose_after a b c h rose = omega (arith, h, rose)
 
 -- ## Why the cluster gave no blocks
 
@@ -40,10 +47,14 @@ why-of l graph p wanted Failed reads (Err status.Memory) left (Some h) f how = t
 
 -- ## The files
 
+-- stores were given back after the openings
+pub opens-kept : (names : List (List ℕ)) (k : ℕ) (old mid new : View) → OpensOften names k old mid → new.files ≡ mid.files → OnlyReads mid new → mid.read_faults ≤ new.read_faults → OpensOften names k old new
+opens-kept names k old mid new opens files only later = opens-back names k old mid new ⊥ opens (record { files = files; only = only; later = later; risen = λ f. absurd f })
+
 -- nothing was saved
 pub serves-none : (p : Plan) (most : ℕ) (old new : View) → OpensOften p.inputs most old new → ServesFiles p most old new
 serves-none p most old new o = record {
-  others = λ n none. ap (λ f. f n) o.held;
+  others = λ n none. ap (λ (f : List ℕ → Option (List ℕ)). f n) o.held;
   tells = o.tells;
   opened = o.opened;
   created = none_raised (names_saved p) old.files.created new.files.created o.created;
@@ -59,9 +70,9 @@ serves-none p most old new o = record {
 pub serves-then : (p : Plan) (most : ℕ) (old mid new : View) → OpensOften p.inputs most old mid → SavesFiles p mid new → ServesFiles p most old new
 serves-then p most old mid new o s =
     record {
-      others = λ n none. s.others n none ∙ ap (λ f. f n) o.held;
+      others = λ n none. s.others n none ∙ ap (λ (f : List ℕ → Option (List ℕ)). f n) o.held;
       tells = s.tells ∙ o.tells;
-      opened = record { grows = λ n. omega (arith, o.opened.grows n, ap (λ f. f n) s.opened); at_most = λ n. omega (arith, o.opened.at_most n, ap (λ f. f n) s.opened) };
+      opened = record { grows = λ n. omega (arith, o.opened.grows n, ap (λ (f : List ℕ → ℕ). f n) s.opened); at_most = λ n. omega (arith, o.opened.at_most n, ap (λ (f : List ℕ → ℕ). f n) s.opened) };
       created = most_before (names_saved p) old.files.created mid.files.created new.files.created o.created s.created;
       gave = more_then old.gave mid.gave new.gave o.only.gave (more_same mid.gave new.gave s.only.gave);
       out = s.only.out ∙ o.only.out;
@@ -94,7 +105,7 @@ serves-after p most old mid new same only reads f =
 
 -- an end at which nothing was saved
 pub part-none : (p : Plan) (named : Named) (told reads writes : Type 0) (old new : Files) (end : Ended) → new.held ≡ old.held → new.created ≡ old.created → Stops p named told reads writes end → ServesPart p named told reads writes old new end
-part-none p named told reads writes old new end held created stops = record { cause = stops; left = λ t k lt. inl (ap (λ f. f _) held); bare = λ b. (held, created) }
+part-none p named told reads writes old new end held created stops = record { cause = stops; left = λ t k lt. inl (ap (λ (f : List ℕ → Option (List ℕ)). f (name_at (names_saved p) k)) held); bare = λ b. (held, created) }
 
 stops-as : (p : Plan) (named : Named) (told reads reads' writes writes' : Type 0) (end : Ended) → (reads' → reads) → (writes' → writes) → Stops p named told reads' writes' end → Stops p named told reads writes end
 stops-as p named told reads reads' writes writes' Done f g h = absurd h
@@ -134,3 +145,12 @@ zero-stops p named told reads writes wanted key (Zero node block) runs laws at h
 zero-stops p named told reads writes wanted key ReadFault runs laws at has blamed = absurd at
 zero-stops p named told reads writes wanted key WriteFault runs laws at has blamed = absurd at
 zero-stops p named told reads writes wanted key OutOfMemory runs laws at has blamed = tt
+
+-- so the run is stopped
+pub told-zero : (p : Plan) (named : Named) (told : Bool) (reads writes : Type 0) (facts : LabelFacts Array) (all : List ℕ) (way : RunStatus) (key : ℕ) (end : Ended) → IsRunnable p → HasLaws p named → EndsAtKey p key end → facts ≡ label told named (tasks_of p) → all ≡ wanted_of p →
+    way ≡ status.Zero key → IsWhy facts all reads way → Stops p named (IsTrue told) reads writes end
+told-zero p named told reads writes facts all way key end runs laws at same are zero said =
+    let why = subst (IsWhy facts all reads) zero said in
+    let C : List ℕ → Type 0 = λ ks. Contains ks why.0 in
+    let B : LabelFacts Array → Type 0 = λ l. BlameFits l why.0 key in
+    zero-stops p named told reads writes why.0 key end runs laws at (subst C are why.1) (subst B same why.2)

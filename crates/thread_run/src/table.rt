@@ -13,7 +13,7 @@ use std::sync::Arc;
 
 /// A block or none for each key, each of which fits the label of the run. In a clause it is these.
 #[derive(Drop)]
-pub struct Table<L> {
+pub struct Table<L: Label<Block = Block>> {
     places: Vec<Option<Arc<Block>>>,
     of: PhantomData<L>,
 }
@@ -21,7 +21,7 @@ pub struct Table<L> {
 impl<L: Label<Block = Block>> Model for Table<L> {
     ghost use Rattle.std.specs.Prelude.{List, Option};
     ghost use Rattle.nd_shape.specs.Block.{Array};
-    ghost use Rattle.thread_run.specs.Tables.{blocks_in};
+    ghost use Rattle.thread_run.specs.Tables.{AreFit, blocks_in};
 
     ghost Value = { List (Option Array) };
 
@@ -69,7 +69,7 @@ impl<L: Label<Block = Block>> Blocks for Table<L> {
 
     fn block(&self, key: u32) -> Option<&Block> {
         match self.places.get(key as usize) {
-            Some(Some(block)) => Some(block),
+            Some(Some(block)) => Some(&**block),
             _ => None,
         }
     }

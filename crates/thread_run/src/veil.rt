@@ -56,10 +56,12 @@ impl<I: Store, V: Veil + Drop> Store for Veiled<I, V> {
 
     ghost count = { λ s. I.count s.store };
 
+    #[tactic(auto, using(crate::proofs::Veiled::count_veiled, crate::proofs::Veiled::size_veiled))]
     fn len(&mut self, file: u32) -> Result<u64, Failed> {
         self.store.len(file)
     }
 
+    #[tactic(auto, using(crate::proofs::Veiled::count_veiled, crate::proofs::Veiled::size_veiled, crate::proofs::Veiled::reads_veiled))]
     fn read_at(&mut self, file: u32, offset: u64, buf: &mut [u8]) -> Result<usize, Failed> {
         self.store.read_at(file, offset, buf)
     }

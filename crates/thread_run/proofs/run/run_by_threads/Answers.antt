@@ -1,4 +1,4 @@
-use Rattle.std.proofs.Common.{◌≡◌, ◌∙◌, ap, sym, refl, arith, is_some, Bool}
+use Rattle.std.proofs.Common.{◌≡◌, ◌∙◌, ap, arith, is_some, Bool}
 use Rattle.io_edge.specs.View.{View}
 use Rattle.job_run.specs.Inputs.{told_all}
 use Rattle.job_run.specs.Jobs.{plan_of}
