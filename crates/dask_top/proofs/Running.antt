@@ -150,10 +150,10 @@ looked_first : (names : List (List ℕ)) (p : Plan) (said : RunWords) (old mid n
 looked_first names p said old mid new opens first looked = elim looked [
   | inl same ↦ inl (record { held = same.held ∙ opens.held; created = same.created ∙ opens.created })
   | inr there ↦ inr (record {
-      opened = between_first names p.inputs (openings p said) old mid new.opened opens first there.opened;
-      inputs = fit_before p old mid opens.held opens.tells there.inputs;
-      small = there.small;
-    })
+    opened = between_first names p.inputs (openings p said) old mid new.opened opens first there.opened;
+    inputs = fit_before p old mid opens.held opens.tells there.inputs;
+    small = there.small;
+  })
 ]
 
 prints_first : (p : Plan) (old mid new : View) (end : Ended) → mid.files.held ≡ old.files.held → mid.files.tells ≡ old.files.tells → mid.files.created ≡ old.files.created → OnlyReads old mid → Prints p mid new end
