@@ -107,3 +107,17 @@ if-some P Q (Some j) f h = f j h
 pub fits-run : {J F : Type 0} (fits tells : J → F → Type 0) (told : Bool) (job : Option J) (feed : F) → IfSome job (λ j. fits j feed × (IsTrue told → tells j feed)) → FitsRun fits tells told job feed
 fits-run fits tells told None feed h = tt
 fits-run fits tells told (Some job) feed h = h
+
+pub fixed-run : {J : Type 0} (named : Named) (told : Bool) (names : List (List ℕ)) (heads : J → List Head) (job : Option J) (old new : Files) → new.held ≡ old.held → ((n : List ℕ) (s : ℕ) → old.size n ≡ Some s → new.size n ≡ Some s) →
+    IfSome job (λ j. IsFixed named told names (heads j) old) → IfSome job (λ j. IsFixed named told names (heads j) new)
+fixed-run named told names heads None old new held kept f = tt
+fixed-run named told names heads (Some j) old new held kept f = fixed-stays named told names (heads j) old new held kept f
+
+pub later-run : {J F : Type 0} (named : Named) (told : Bool) (names : List (List ℕ)) (heads : J → List Head) (feed : F) (files_of : F → List Content) (files : List Content) (job : Option J) (first old new : Files) →
+    IfSome job (λ j. IsFixed named told names (heads j) first) → old.held ≡ first.held → ((n : List ℕ) (s : ℕ) → first.size n ≡ Some s → old.size n ≡ Some s) → Opens names old new → Shows names old new files → files_of feed ≡ files →
+    FitsRun (λ j f. FitsFeed named (heads j) (veiled told (files_of f))) (λ j f. TellsFeed (heads j) (veiled told (files_of f))) told job feed
+later-run named told names heads feed files_of files None first old new fixed held kept opens shows is = tt
+later-run named told names heads feed files_of files (Some j) first old new fixed held kept opens shows is =
+    let f = fixed-stays named told names (heads j) first old held kept fixed in
+    let s : Shows names old new (files_of feed) = subst (Shows names old new) (sym is) shows in
+    (later-fits named names (heads j) old new (files_of feed) opens s told f, later-tells named names (heads j) old new (files_of feed) opens s told f)

@@ -1,11 +1,12 @@
 -- Blocks at their keys' places.
-use Rattle.std.proofs.Common.{◌≡◌, ◌≢◌, ℕ, zero, suc, ◌+◌, ◌<◌, List, [], ◌∷◌, ◌++◌, length, map, get_or, set, refl, ap, sym, ◌∙◌, subst, arith, Option, Some, None, inl, inr, ◌⊎◌}
+use Rattle.std.proofs.Common.{◌≡◌, ◌≢◌, ℕ, zero, suc, ◌<◌, List, [], ◌∷◌, ◌++◌, length, map, get_or, set, refl, ap, sym, ◌∙◌, subst, arith, Option, Some, None, inl, inr, ◌⊎◌}
 use Rattle.std.specs.Prelude.{All, IsSome}
 use Rattle.std.specs.Arc.{arc_value}
 use Rattle.std.specs.Option.{option_map}
 use Rattle.std.specs.declared.sync.Arc.{Arc}
 use Rattle.std.specs.declared.alloc.Global.{Global}
-use Rattle.std.proofs.lemmas.List.{get_or-set_other, get_or-set_same, map-set}
+use Rattle.std.proofs.lemmas.List.{get_or-map, get_or-set_other, get_or-set_same, length-map, length-set, map-set, map_push}
+use Rattle.std.proofs.lemmas.List.Elements.{All-push, All-weaker}
 use Rattle.nd_shape.specs.Block.{Array}
 use Rattle.cluster_msgs.specs.Labels.{BlockFits, LabelFacts}
 use Rattle.thread_run.specs.Tables.{AreFit, blocks_in, got_in}
@@ -74,3 +75,34 @@ put-keeps table k b lt j some = elim (same-or j k) [
 
 pub put-there : (table : List (Option Array)) (k : ℕ) (b : Array) → k < length table → IsSome (got_in (set table k (Some b)) k)
 put-there table k b lt = subst IsSome (sym (get_or-set_same table k (Some b) None lt)) refl
+
+-- the same of the table's view
+pub put-view : (places : List (Option (Arc Array Global))) (old : List (Option Array)) (k at : ℕ) (b c : Arc Array Global) → blocks_in places ≡ old → k ≡ at → b ≡ c → blocks_in (set places k (Some b)) ≡ set old at (Some (arc_value c))
+put-view places old k at b c view key block =
+    let P : ℕ → Arc Array Global → Type 0 = λ j x. blocks_in (set places k (Some b)) ≡ set old j (Some (arc_value x)) in
+    let first : P k b = put-blocks places k b ∙ ap (λ t. set t k (Some (arc_value b))) view in
+    subst (P at) block (subst (λ j. P j b) key first)
+
+pub put-stays : (facts : LabelFacts Array) (places : List (Option (Arc Array Global))) (old : List (Option Array)) (k at : ℕ) (b : Arc Array Global) → blocks_in places ≡ old → k ≡ at → at < length old → BlockFits facts at (arc_value b) → AreFit facts (blocks_in places) →
+    AreFit facts (blocks_in (set places k (Some b)))
+put-stays facts places old k at b view key lt fit fits =
+    let within : k < length (blocks_in places) = omega (arith, lt, key, ap length view) in
+    subst (AreFit facts) (sym (put-blocks places k b)) (put-fits facts (blocks_in places) k (arc_value b) within (subst (λ j. BlockFits facts j (arc_value b)) (sym key) fit) fits)
+
+-- ## Blocks that are put one after another
+
+-- what holds of all keys holds of one at its place
+pub one-of : {A : Type 0} (f : A → ℕ) (P : ℕ → Type 0) (xs : List A) (k : ℕ) (x : A) → All P (map f xs) → k < length xs → x ≡ get_or xs k x → P (f x)
+one-of f P xs k x all lt is = subst P (get_or-map f xs k x (f x) lt ∙ ap f (sym is)) (all k (f x) (omega (arith, lt, length-map xs f)))
+
+pub put-all : {A : Type 0} (f : A → ℕ) (xs : List A) (x : A) (old new : List (Option Array)) (b : Array) → f x < length old → new ≡ set old (f x) (Some b) → All (λ k. IsSome (got_in old k)) (map f xs) →
+    All (λ k. IsSome (got_in new k)) (map f (xs ++ x ∷ []))
+put-all f xs x old new b lt is all =
+    let P : List (Option Array) → ℕ → Type 0 = λ t k. IsSome (got_in t k) in
+    let put : List (Option Array) = set old (f x) (Some b) in
+    let kept : All (P put) (map f xs) = All-weaker (P old) (P put) (λ j some. put-keeps old (f x) b lt j some) (map f xs) all in
+    let more : All (P put) (map f xs ++ f x ∷ []) = All-push (P put) (map f xs) (f x) kept (put-there old (f x) b lt) in
+    subst (λ t. All (P t) (map f (xs ++ x ∷ []))) (sym is) (subst (All (P put)) (sym (map_push f xs x)) more)
+
+pub put-length : (old new : List (Option Array)) (k : ℕ) (b : Array) → new ≡ set old k (Some b) → length new ≡ length old
+put-length old new k b is = ap length is ∙ length-set old k (Some b)

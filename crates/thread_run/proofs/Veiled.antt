@@ -1,5 +1,5 @@
 -- Files as a veiled store tells them.
-use Rattle.std.proofs.Common.{◌≡◌, ℕ, zero, suc, List, [], ◌∷◌, length, map, refl, ap, sym, subst, Bool, true, false}
+use Rattle.std.proofs.Common.{◌≡◌, ℕ, zero, suc, List, [], ◌∷◌, length, refl, ap, sym, subst, Bool, true, false}
 use Rattle.std.proofs.lemmas.List.{length-map}
 use Rattle.io_edge.specs.Content.{Content, Untold, Reads, file_at, size_of}
 use Rattle.thread_run.specs.Feeding.{veiled}

@@ -6,7 +6,7 @@ use Rattle.io_edge.specs.Given.{GivesMore}
 use Rattle.io_edge.specs.View.{View, Files}
 use Rattle.command_words.specs.declared.run.RunWords.{RunWords}
 use Rattle.job_run.specs.declared.ends.Ended.{Ended}
-use Rattle.job_run.specs.declared.ends.Ended.TheVariants.{Done, Limit, File, Zero, ReadFault, WriteFault, OutOfMemory}
+use Rattle.job_run.specs.declared.ends.Ended.TheVariants.{Done, Limit, File, Zero, ReadFault, WriteFault}
 use Rattle.job_run.specs.Inputs.{InputsFit}
 use Rattle.job_run.specs.Part.{IsNoneOf, RaisedAtMost}
 use Rattle.job_run.specs.Plan.{Plan, names_saved}

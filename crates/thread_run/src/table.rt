@@ -57,7 +57,9 @@ impl<L: Label<Block = Block>> Table<L> {
     /// Each block fits its key.
     pub fn fits(&self)
         ensures { AreFit L.facts self.now }
-    {}
+    {
+        let _ = &self.places;
+    }
 }
 
 impl<L: Label<Block = Block>> Blocks for Table<L> {
