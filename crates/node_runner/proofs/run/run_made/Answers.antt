@@ -31,7 +31,7 @@ end_rows-ends-requires-clause-clients g c =
 
 pub returns-clause-blocks : goal.returns-clause-blocks
 returns-clause-blocks g c = still_ok (λ blocks. map (λ k. k.key) blocks.items ≡ c.args.wanted.now) c.end_rows-ends.result.0.result c.with_reads.result.result
-    ((c.end_rows-ends.result.1 ≡ true) × ((c.args.short ≡ true) ⊎ ((f : _) × Contains c.end_rows-ends.result.0.feeds.items f × (0 < g.J.JobSpec.fault_count f))))
+    (c.end_rows-ends.result.1 ≡ true) ((c.args.short ≡ true) ⊎ ((f : _) × Contains c.end_rows-ends.result.0.feeds.items f × (0 < g.J.JobSpec.fault_count f)))
     c.with_reads.ensures.changed c.end_rows-ends.ensures.blocks
 
 pub returns-clause-ended : goal.returns-clause-ended
