@@ -39,8 +39,8 @@ run_ended l graph p wanted Failed r s left (Some h) Given run none same changed 
 )
 
 -- what holds of what a run gives goes on to hold
-pub still_ok : {A : Type 0} (P : A → Type 0) (r s : Result A RunStatus) (X : Type 0) → (s ≡ r) ⊎ ((s ≡ Err Read) × X) → IfOk r P → IfOk s P
-still_ok P r s X changed h = ⊎_elim (λ e. subst (λ z. IfOk z P) (sym e) h) (λ read. subst (λ z. IfOk z P) (sym read.0) tt) changed
+pub still_ok : {A : Type 0} (P : A → Type 0) (r s : Result A RunStatus) (X Y : Type 0) → (s ≡ r) ⊎ ((s ≡ Err Read) × X × Y) → IfOk r P → IfOk s P
+still_ok P r s X Y changed h = ⊎_elim (λ e. subst (λ z. IfOk z P) (sym e) h) (λ read. subst (λ z. IfOk z P) (sym read.0) tt) changed
 
 -- a run that gave nothing
 pub none_ok : {A : Type 0} (P : A → Type 0) (r : Result A RunStatus) (s : RunStatus) → r ≡ Err s → IfOk r P

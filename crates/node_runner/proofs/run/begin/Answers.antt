@@ -10,7 +10,7 @@ use Rattle.node_runner.proofs.Beginning.{deps_named}
 use Rattle.node_runner.proofs.run.begin.Goals as goal
 
 pub make_rows-rows-requires-clause-graph : goal.make_rows-rows-requires-clause-graph
-make_rows-rows-requires-clause-graph g c =
+make_rows-rows-requires-clause-graph g c = λ κs within.
     let j = g.J.JobSpec in
     let k = g.K.RunName in
     deps_named j.graph j.operation j.key_dims j.block_dims k.told k.job c.args.job.now c.shape.result.now c.requires.named c.shape.ensures

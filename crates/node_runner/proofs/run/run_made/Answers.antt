@@ -30,7 +30,8 @@ end_rows-ends-requires-clause-clients g c =
     c.run_rows-closed.result.clients.items) (sym c.shape.ensures) c.run_rows-closed.ensures.clients
 
 pub returns-clause-blocks : goal.returns-clause-blocks
-returns-clause-blocks g c = still_ok (λ blocks. map (λ k. k.key) blocks.items ≡ c.args.wanted.now) c.end_rows-ends.result.0.result c.with_reads.result.result _
+returns-clause-blocks g c = still_ok (λ blocks. map (λ k. k.key) blocks.items ≡ c.args.wanted.now) c.end_rows-ends.result.0.result c.with_reads.result.result
+    (c.end_rows-ends.result.1 ≡ true) ((c.args.short ≡ true) ⊎ ((f : _) × Contains c.end_rows-ends.result.0.feeds.items f × (0 < g.J.JobSpec.fault_count f)))
     c.with_reads.ensures.changed c.end_rows-ends.ensures.blocks
 
 pub returns-clause-ended : goal.returns-clause-ended
@@ -40,8 +41,8 @@ returns-clause-ended g c =
     let l = run_facts j.graph j.operation j.key_dims j.block_dims k.told k.job in
     let old = c.end_rows-ends.result.0 in
     let new = c.with_reads.result in
-    let failed = λ fs. (c.args.short ≡ true) ⊎ ((f : _) × Contains fs.items f × (0 < j.fault_count f)) in
-    subst (λ s. HowItEnded l s c.args.plan.now c.args.wanted.now (failed new.feeds) new.result new.left.items new.histories) c.shape.ensures
-    (told_end l c.shape.result.now c.args.plan.now c.args.wanted.now failed old.result new.result (λ v. v.items) old.left new.left old.feeds new.feeds
+    subst (λ s. HowItEnded l s c.args.plan.now c.args.wanted.now ((c.args.short ≡ true) ⊎ ((f : _) × Contains new.feeds.items f × (0 < j.fault_count f))) new.result new.left.items new.histories) c.shape.ensures
+    (told_end l c.shape.result.now c.args.plan.now c.args.wanted.now
+    (λ fs. (c.args.short ≡ true) ⊎ ((f : _) × Contains fs.items f × (0 < j.fault_count f))) old.result new.result (λ v. v.items) old.left new.left old.feeds new.feeds
     old.histories new.histories (c.end_rows-ends.result.1 ≡ true) c.end_rows-ends.ensures.ended c.end_rows-ends.ensures.none c.with_reads.ensures.same
     c.with_reads.ensures.none c.with_reads.ensures.changed)
