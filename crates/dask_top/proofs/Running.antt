@@ -64,7 +64,7 @@ runs_told sources p said old mid new end only e =
 -- ## Memory was wanted for a refusal's line
 
 -- names that were opened at most so often were opened at most as often as more of them
-more_times : (sources inputs rest : List (List ℕ)) (old new : List ℕ → ℕ) → RaisedAtMost (sources ++ inputs) old new → RaisedAtMost (sources ++ inputs ++ rest) old new
+more_times : (sources inputs rest : List (List ℕ)) (old new : List ℕ → ℕ) → RaisedAtMost (sources ++ inputs) old new → RaisedAtMost (sources ++ (inputs ++ rest)) old new
 more_times sources inputs rest old new most = record {
   grows = most.grows;
   at_most = λ n. omega (arith, most.at_most n, times-append n sources inputs, times-append n sources (inputs ++ rest), times-append n inputs rest);
@@ -167,17 +167,17 @@ prints_first p old mid new RunEnds.ReadFault held tells created only prints = pr
 prints_first p old mid new RunEnds.OutOfMemory held tells created only prints = prints ∙ only.out
 
 runs : (names : List (List ℕ)) (p : Plan) (said : RunWords) (old mid new : View) (read : List ℕ) (end : Ended) → TextRead names old mid read → RunsByThreads p said mid new end → Runs names p said old new end
-runs names p said old mid new read end t runs =
+runs names p said old mid new read end t by =
     let opens = t.opens in
     let C : (List ℕ → ℕ) → Type 0 = λ f. Created (names_saved p) f new.files.created end in
     record {
-      cause = cause_first p old mid new end opens.held opens.tells t.only t.later runs.cause;
-      saves = saves_first p old.files mid.files new.files end opens.held opens.tells runs.saves;
-      looked = looked_first names p said old.files mid.files new.files opens t.opened runs.looked;
-      others = λ n none. runs.others n none ∙ ap (λ f. f n) opens.held;
-      opened = opened_first names p said old.files mid.files new.files.opened end opens t.opened runs.opened;
-      created = subst C opens.created runs.created;
-      prints = prints_first p old mid new end opens.held opens.tells opens.created t.only runs.prints;
+      cause = cause_first p old mid new end opens.held opens.tells t.only t.later by.cause;
+      saves = saves_first p old.files mid.files new.files end opens.held opens.tells by.saves;
+      looked = looked_first names p said old.files mid.files new.files opens t.opened by.looked;
+      others = λ n none. by.others n none ∙ ap (λ f. f n) opens.held;
+      opened = opened_first names p said old.files mid.files new.files.opened end opens t.opened by.opened;
+      created = subst C opens.created by.created;
+      prints = prints_first p old mid new end opens.held opens.tells opens.created t.only by.prints;
     }
 
 pub threads_perform : (names : List (List ℕ)) (p : Plan) (said : RunWords) (old mid done new : View) (end : Ended) (now : End) → JobRead names old mid p → RunsByThreads p said mid done end → Told (end_of end) now

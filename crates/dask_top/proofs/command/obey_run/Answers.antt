@@ -1,8 +1,12 @@
 use Rattle.std.proofs.Common.{map, string_bytes, take, drop, get_or, codes, [], refl, subst, inl}
 use Rattle.command_words.specs.Words.{IsNoRun}
+use Rattle.command_words.proofs.Saying.{run_settings}
 use Rattle.command_words.specs.declared.fail.WordsFail.{WordsFail}
 use Rattle.dask_top.proofs.Obeying.{is_name, only_run, ran, refused_words, run_is_long, second, unread_words}
 use Rattle.dask_top.proofs.command.obey_run.Goals as goal
+
+pub run-requires-clause-words : goal.run-requires-clause-words
+run-requires-clause-words g c κs within = run_settings (map string_bytes c.args.words.now) c.in-Ok.said c.in-Ok.ensures.said
 
 pub returns-in-Ok : goal.returns-in-Ok
 returns-in-Ok g c = ran (map string_bytes c.args.words.now) (map string_bytes (take 1 (drop 1 c.args.words.now))) c.in-Ok.said (g.S.Site.view c.args.site.now) (g.S.Site.view c.run.new.site) c.run.result
