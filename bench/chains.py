@@ -22,7 +22,7 @@ FORMS = {
 
 def run(folder):
     """The status, processor seconds and peak MiB of one run."""
-    child = subprocess.Popen([PROGRAM, 'run', 'job.txt'], cwd=folder, stdout=subprocess.DEVNULL, stderr=subprocess.PIPE, text=True)
+    child = subprocess.Popen([PROGRAM, 'plain', 'job.txt'], cwd=folder, stdout=subprocess.DEVNULL, stderr=subprocess.PIPE, text=True)
     said = child.stderr.read().strip()
     _, status, used = os.wait4(child.pid, 0)
     return said or 'done', used.ru_utime + used.ru_stime, used.ru_maxrss / 1024

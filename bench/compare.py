@@ -119,7 +119,7 @@ def commands(folder, shape, chunks, ours, numpy, dask):
         write(folder, f'by_{name}.py', DASK.format(interop=os.path.join(TOP, 'interop'), shape=shape, chunks=chunks, expression=dask,
                                                 out=name + '.npy', compute=compute))
     return {
-        'this program': ([jobs.PROGRAM, 'run', 'job.txt'], 'program.npy'),
+        'this program': ([jobs.PROGRAM, 'plain', 'job.txt'], 'program.npy'),
         'NumPy': ([sys.executable, '-c', jobs.NUMPY.format(numpy), 'a.npy', 'numpy.npy'], 'numpy.npy'),
         'Dask, threads': ([sys.executable, 'by_threads.py'], 'threads.npy'),
         'Dask.distributed': ([sys.executable, 'by_distributed.py'], 'distributed.npy'),

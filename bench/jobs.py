@@ -75,7 +75,7 @@ def time_job(name, folder):
     subprocess.run([sys.executable, '-c', MAKE, 'a.npy', ','.join(map(str, shape))], cwd=folder, check=True)
     with open(os.path.join(folder, 'job.txt'), 'w', encoding='ascii') as job:
         job.write(f'input a "a.npy" shape {shape} chunks {chunks}\nlet b = {expression}\nsave b "o.npy"\n')
-    ours, peak = least([PROGRAM, 'run', 'job.txt'], folder, 'o.npy')
+    ours, peak = least([PROGRAM, 'plain', 'job.txt'], folder, 'o.npy')
     if numpy is None:
         print(f'{name}: {ours:.2f} s, {peak:.0f} MiB', flush=True)
         return

@@ -108,7 +108,7 @@ def ours(name, folder):
     for count in (FEW, MANY):
         with open(os.path.join(folder, 'job.txt'), 'w', encoding='ascii') as out:
             out.write(job(name, count))
-        times.append(min(seconds([PROGRAM, 'run', 'job.txt'], folder) for _ in range(RUNS)))
+        times.append(min(seconds([PROGRAM, 'plain', 'job.txt'], folder) for _ in range(RUNS)))
     return times[1] - times[0]
 
 

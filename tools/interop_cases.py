@@ -228,7 +228,7 @@ FILES = [
 # ---- the comparison
 
 def by_program(program, folder):
-    done = subprocess.run([program, 'run', 'job.txt'], cwd=folder, capture_output=True, text=True, check=False)
+    done = subprocess.run([program, 'plain', 'job.txt'], cwd=folder, capture_output=True, text=True, check=False)
     return done.returncode, done.stdout, done.stderr, saved(folder)
 
 
