@@ -1,5 +1,5 @@
 #!/usr/bin/env python3
-"""Jobs of many nodes of one element: the processor time and the peak memory of the whole command `run`, the least of five runs.
+"""Jobs of many nodes of one element: the processor time and the peak memory of the whole command `plain`, the least of five runs.
 
     bench/chains.py
 

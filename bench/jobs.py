@@ -1,5 +1,5 @@
 #!/usr/bin/env python3
-"""Times `./dask run`, or the program that DASK names, against NumPy on large jobs: processor time and peak memory of whole processes, the
+"""Times `./dask plain`, or the program that DASK names, against NumPy on large jobs: processor time and peak memory of whole processes, the
 least of RUNS runs, or of three.
 
     /usr/bin/python3 bench/jobs.py [NAME ..]

@@ -4,7 +4,7 @@
     python3 bench/kernels.py [NAME ..]
 
 It needs gcc. For each operation there are two jobs over one array in blocks: one with two of the operation, the other with ten. What
-eight more take, by `./dask run` (or the program that DASK names), the least of RUNS runs each, or of three, is compared with a loop in C
+eight more take, by `./dask plain` (or the program that DASK names), the least of RUNS runs each, or of three, is compared with a loop in C
 (gcc -O3 -march=x86-64-v2) over as many blocks as large, in the same order, each into a new block, with the C library's settings of ./dask.
 """
 import os
