@@ -17,11 +17,22 @@ pub fn status<R: Threads + Wait + RandomSource + AllocGlobal + Sync>(
     words: &[String],
     site: &mut MemorySite,
 ) -> u8 {
-    if is_serial && !is_run(words) {
-        serial(rt.alloc(), words, site)
-    } else {
-        top(rt, words, site, &RealGate)
+    if is_serial {
+        return in_one_thread(rt, words, site);
     }
+    top(rt, words, site, &RealGate)
+}
+
+// Runs the one thread of the program over a site, or the whole program where the words are those of a run by threads.
+fn in_one_thread<R: Threads + Wait + RandomSource + AllocGlobal + Sync>(
+    rt: &R,
+    words: &[String],
+    site: &mut MemorySite,
+) -> u8 {
+    if !is_run(words) {
+        return serial(rt.alloc(), words, site);
+    }
+    top(rt, words, site, &RealGate)
 }
 
 /// What the file of a name holds.
