@@ -8,7 +8,7 @@ help=$(./dask --help 2>/dev/null)
 check 'status of --help' "$?" 0
 check 'help is --help' "$(./dask help 2>/dev/null)" "$help"
 check 'nothing on standard error' "$(./dask --help 2>&1 >/dev/null)" ''
-for word in run plain sim --workers --threads --saturation --script --transport --help --version --build; do
+for word in run plain sim --workers --threads --saturation --script --transport --report --help --version --build; do
   check "--help names $word" "$(grep -c "^  ${word}[ ,]" <<< "$help")" 1
 done
 # every example of a command ends well

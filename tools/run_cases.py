@@ -50,7 +50,17 @@ ACCEPTED = [
     # as many finishes as an item can wait for
     f'--script lose:1@{2**128 - 2}',
     '--script lose:004@0000000000000000000000000000000000000000000000000000000000000001',
+    # a value behind a sign of equality, and the end of the options
+    '--workers=3',
+    '--workers=007 --threads 2',
+    '--threads=1 --workers=1 --saturation=1000 --transport=inproc',
+    '--script=join@3,lose:1@3',
+    '--',
+    '--workers 2 --',
 ]
+
+# `run` with options before the job
+BEFORE = ['run --workers 2 job.txt', 'run --workers=2 job.txt --threads 2', 'run -- job.txt', 'run --script join@1 -- job.txt']
 
 REFUSED = [
     # no option, or no value
@@ -62,14 +72,23 @@ REFUSED = [
     '--script',
     '2 --workers',
     '--workers 2 x',
-    '--report',
-    '--report --workers 2',
     '--report yes',
+    '--report=yes',
+    '--report=',
+    '--Report',
     '--memory 268435456',
-    '--workers=2',
     '-workers 2',
+    '-w2',
     '--Workers 2',
     '--worker 2',
+    '--=2',
+    '-- 2',
+    '-- --workers 2',
+    # there are no flags of help
+    '--help',
+    '-h',
+    '--version',
+    '-V',
     # numbers
     '--workers 0',
     '--workers 65',
@@ -79,6 +98,8 @@ REFUSED = [
     '--workers 1.0',
     '--workers one',
     '--workers ',
+    '--workers=',
+    '--workers=-1',
     f'--workers {2**32 + 1}',
     f'--workers {2**128 + 1}',
     '--threads 0',
@@ -92,12 +113,16 @@ REFUSED = [
     '--workers 64',
     # an option twice
     '--workers 2 --workers 2',
+    '--workers 2 --workers=2',
+    '--report --report',
+    '--report --workers 2 --report',
     '--script join@1 --threads 2 --script join@1',
     '--transport inproc --transport inproc',
     # other transports
     '--transport tcp',
     '--transport INPROC',
     '--transport ',
+    '--transport=',
     # texts that are no scripts
     *('--script ' + script for script in (
         '', ',', 'lose', 'join', 'lose:1', 'lose@1', 'lose:@1', 'lose:1@', 'lose:one@1', 'lose:-1@1', 'lose:1@1.5', 'join:1@1', 'join@', '@1', 'joins@1',
@@ -107,6 +132,9 @@ REFUSED = [
     *('--script ' + script for script in (
         'lose:5@1', 'lose:0@1', 'suspect:5@1,join@1', 'lose:1@1,lose:1@2', 'lose:1@1,suspect:1@1', 'lose:1@2,lose:2@1', 'join@1,join@0',
         'lose:1@0,lose:2@0,lose:3@0,lose:4@0')),
+    '--script -1',
+    '--script=-1',
+    '--script=',
     '--workers 1 --script lose:1@1',
     '--workers 1 --script suspect:1@0,join@0',
     '--workers 2 --script join@0,lose:1@1,lose:2@1,suspect:3@1',
@@ -135,25 +163,50 @@ def words():
     job(RAISED)
     done = told(0, lines_of('run', RAISED_SAVE), '', '0 0 0 0', 'o.npy', text(saved(RAISED_SAVE[1])))
     say('site 4096 0')
-    for options in ACCEPTED:
-        often('o.npy', run_of(options), done)
+    for command in [*map(run_of, ACCEPTED), *BEFORE]:
+        often('o.npy', command, done)
     # a job of any name
     say('put --workers ' + RAISED)
-    say('top o.npy run --workers', 'top:' + done)
-    for other in ('run --workers --threads 1', 'run '):
+    say('top o.npy run -- --workers', 'top:' + done)
+    for other in ('run help', 'run -', 'run '):
         say('site 4096 0')
         say(f'top o.npy {other}', 'top:' + refusal(5, 'read fault'))
     title('words that begin as those of a run and ask for nothing')
     for options in REFUSED:
         say('site 4096 0')
         say(f'top o.npy {run_of(options)}', 'top:' + refusal(1, 'words'))
-    for other in ('run --workers 2', 'run --workers 2 job.txt', 'plain job.txt --workers 2', 'sim job.txt 7 --transport inproc',
-                  'sim job.txt --workers 2'):
+    for other in ('run --workers 2', 'run --workers', 'run --workers --threads 1', 'run --help', 'run --job.txt', 'run -job.txt', 'run help job.txt',
+                  'plain job.txt --workers 2', 'plain job.txt --report', 'plain --help', 'plain -job.txt', 'sim job.txt 7 --transport inproc',
+                  'sim job.txt 7 --report', 'sim job.txt --workers 2', 'sim --help'):
         say('site 4096 0')
         say(f'top o.npy {other}', 'top:' + refusal(1, 'words'))
     # nothing is opened or created then
     for kind in ('open', 'create'):
         fail(kind, 'o.npy', run_of('--workers 0'), (1, '', 'dask: words|', '0 0 0 0', 'none'), count=0)
+
+
+def report_of(keys, edges):
+    """The report of a run by one worker, who starts each key once."""
+    return f'keys {keys}|edges {edges}|started {keys}|worker 1 started {keys}|gathers 0|steals confirmed 0|steals refused 0|losses 0|'
+
+
+def reports():
+    title('the report of a run by one worker')
+    # one addition: two blocks are loaded and raised. One cell: one block is made
+    for text_of, save, report in ((RAISED, RAISED_SAVE, report_of(4, 2)), (NO_INPUT, ('o.npy', np.array([5])), report_of(1, 0))):
+        job(text_of)
+        say('site 4096 0')
+        first, last = lines_of('run', save).split('finished')
+        lines = f'{first}{report}finished{last}'
+        done = told(0, lines, '', '0 0 0 0', 'o.npy', text(saved(save[1])))
+        for command in ('run job.txt --workers=1 --threads 1 --report', 'run job.txt --report --workers 1', 'run --report --workers 1 job.txt',
+                        'run --workers 1 --report -- job.txt', 'run job.txt --threads=3 --report --workers=1 --saturation 1000'):
+            often('o.npy', command, done)
+        fail('out', 'o.npy', 'run job.txt --workers 1 --report', (*UNPRINTED, 'whole'), (0, lines, '', '0 0 0 0', 'whole'))
+    # nothing is printed of a run that fails
+    job(INPUT['a'] + 'let b = a // (a - 2)|save b "o.npy"|')
+    say('site 4096 0')
+    say('top o.npy run job.txt --report', 'top:' + refusal(4, 'zero division: node 3 block (0)'))
 
 
 def openings(inputs, numbers, threads):

@@ -2,7 +2,7 @@ mod Digits
 mod Cuts
 mod Spoken
 mod Readings
-mod Places
+mod Taking
 mod Crews
 mod Walking
 pub mod Saying

@@ -1,5 +1,6 @@
 pub mod Numbers
-pub mod Options
+pub mod Apps
+pub mod Given
 pub mod Scripts
 pub mod Walks
 pub mod Words

@@ -1,11 +1,11 @@
-//! Why words ask for no run or simulation.
+//! Why words ask for no command.
 ghost use Rattle.std.specs.Prelude.{◌≡◌};
 ghost use Rattle.command_words.specs.declared.fail.WordsFail.TheVariants.{OutOfMemory};
 
 use std::alloc::AllocError;
 use thiserror::Error;
 
-/// Why no run or simulation was read.
+/// Why no command was read.
 #[derive(Clone, Copy, Debug, Error, Drop)]
 pub enum WordsFail {
     #[error("words")]

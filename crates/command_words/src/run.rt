@@ -1,62 +1,77 @@
 //! All words of `run`.
-ghost use Rattle.std.specs.Prelude.{◌≡◌, [], IfOk, IfErr, bytes_eq, codes, map, slice_index_or, string_bytes, MatchBool};
-ghost use Rattle.command_words.specs.Options.{AreOptions};
-ghost use Rattle.command_words.specs.Words.{HasSettings, HasTransport, IsNoRun, IsRun};
-ghost use Rattle.command_words.specs.declared.verb.Verb.TheVariants.{Run};
+ghost use Rattle.std.specs.Prelude.{◌≡◌, IfOk, IfErr, Some, codes, map, string_bytes, MatchBool};
+ghost use Rattle.command_words.specs.Given.{HasFlag, text_in};
+ghost use Rattle.command_words.specs.Words.{HasSettings, HasTransport, IsNoRun, IsRun, SaysNoRun, SaysRun};
 
+use crate::apps::run_matches;
 use crate::fail::WordsFail;
-use crate::options::{are_options, value_of};
+use crate::given::{given_to, is_first, is_given, own_text};
 use crate::settings::{RunSettings, settings_of, walk_of};
-use crate::verb::Verb;
+use clap::ArgMatches;
 use cluster_msgs::Script;
 use std::alloc::Global;
 
-/// What the words of a run say besides the job's name.
+/// What the words of a run say.
 #[derive(Drop)]
 pub struct RunWords {
+    pub job: String,
     pub settings: RunSettings,
     pub script: Script,
-}
-
-fn is_run(word: &str) -> bool
-    ensures { result ≡ bytes_eq word.now (codes "run") }
-{
-    word == "run"
+    pub report: bool,
 }
 
 // Whether the one transport is asked for, or none.
-fn has_transport(words: &[String]) -> bool
-    requires options { AreOptions Run (map string_bytes words.now) }
-    ensures { MatchBool result (HasTransport (map string_bytes words.now)) (¬ HasTransport (map string_bytes words.now)) }
+fn has_transport(matches: &ArgMatches<'_>) -> bool
+    ensures { let given = text_in matches.now (codes "transport") in MatchBool result (HasTransport given) (¬ HasTransport given) }
 {
-    match value_of(words, Verb::Run, "--transport") {
+    match given_to(matches, "transport") {
         Some(text) => text == "inproc",
         None => true,
     }
 }
 
-// The script that can be followed from these settings.
+// The run of this job with these settings, where its script can be followed.
 fn with_settings(
     alloc: Global,
-    words: &[String],
+    matches: &ArgMatches<'_>,
     settings: RunSettings,
 ) -> Result<RunWords, WordsFail>
-    requires command { slice_index_or (map string_bytes words.now) 0 [] ≡ codes "run" }
-    requires options { AreOptions Run (map string_bytes words.now) }
-    requires settings { HasSettings Run (map string_bytes words.now) settings }
-    requires transport { HasTransport (map string_bytes words.now) }
-    ensures said { IfOk result (IsRun (map string_bytes words.now)) }
-    ensures refused { IfErr result (IsNoRun (map string_bytes words.now)) }
+    requires settings { HasSettings (text_in matches.now) settings }
+    requires transport { HasTransport (text_in matches.now (codes "transport")) }
+    ensures said { IfOk result (SaysRun (text_in matches.now)) }
+    ensures refused { IfErr result (SaysNoRun (text_in matches.now)) }
 {
-    let script = walk_of(alloc, words, Verb::Run, settings.workers, settings.threads)?;
-    Ok(RunWords { settings, script })
+    let job = own_text(alloc, matches, "job")?;
+    let script = walk_of(alloc, matches, settings.workers, settings.threads)?;
+    let report = is_given(matches, "report");
+    Ok(RunWords {
+        job,
+        settings,
+        script,
+        report,
+    })
+}
+
+// The run that the texts say.
+fn run_of(alloc: Global, matches: &ArgMatches<'_>) -> Result<RunWords, WordsFail>
+    ensures said { IfOk result (SaysRun (text_in matches.now)) }
+    ensures refused { IfErr result (SaysNoRun (text_in matches.now)) }
+{
+    if !has_transport(matches) {
+        return Err(WordsFail::Refused);
+    }
+    match settings_of(matches) {
+        Some(settings) => with_settings(alloc, matches, settings),
+        None => Err(WordsFail::Refused),
+    }
 }
 
 /// What the words `run JOB` with their options say.
 ///
 /// The options are `--workers N` (1 to 64, else 4), `--threads N` (1 to 16, else 2), `--saturation N` (1 to 1000, else 11),
-/// `--transport inproc` and `--script S`, each at most once, in any order. A script is as that of a simulation (`read_sim`).
-/// Workers times threads are at most 64.
+/// `--transport inproc`, `--script S` and the flag `--report`, each at most once, in any order. A script is as that of a
+/// simulation (`read_sim`). Workers times threads are at most 64. The words behind `run` are read with `clap`, so
+/// `--workers=N` is accepted, and behind `--` a job may begin with a hyphen.
 ///
 /// # Errors
 /// `Refused` exactly where the words say nothing of this form, and `OutOfMemory` where no memory is left.
@@ -64,11 +79,9 @@ pub fn read_run(alloc: Global, words: &[String]) -> Result<RunWords, WordsFail>
     ensures said { IfOk result (IsRun (map string_bytes words.now)) }
     ensures refused { IfErr result (IsNoRun (map string_bytes words.now)) }
 {
-    if !are_options(words, Verb::Run) || !is_run(words[0].as_str()) || !has_transport(words) {
+    if !is_first(words, "run") {
         return Err(WordsFail::Refused);
     }
-    match settings_of(words, Verb::Run) {
-        Some(settings) => with_settings(alloc, words, settings),
-        None => Err(WordsFail::Refused),
-    }
+    let matches = run_matches(alloc, words)?;
+    run_of(alloc, &matches)
 }

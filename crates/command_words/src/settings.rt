@@ -1,14 +1,14 @@
-//! The settings that both commands have, and their script.
-ghost use Rattle.std.specs.Prelude.{◌≤◌, ℕ, IfOk, IfErr, map, string_bytes, MatchOption};
-ghost use Rattle.command_words.specs.Options.{AreOptions, HasNumber};
+//! The settings that runs and simulations have, and their script.
+ghost use Rattle.std.specs.Prelude.{◌≤◌, ℕ, IfOk, IfErr, codes, MatchOption};
+ghost use Rattle.command_words.specs.Given.{HasNumber, text_in};
 ghost use Rattle.command_words.specs.Words.{HasNoWalk, HasScript, HasSettings, HasWalk, IsNotGiven};
 ghost use Rattle.command_words.specs.declared.settings.RunSettings.{RunSettings as AnySettings};
 
 use crate::fail::WordsFail;
-use crate::options::{number_of, value_of};
+use crate::given::{given_to, number_of};
 use crate::script::read_script;
-use crate::verb::Verb;
 use crate::walk::is_walk;
+use clap::ArgMatches;
 use cluster_msgs::Script;
 use std::alloc::Global;
 
@@ -20,34 +20,31 @@ pub struct RunSettings {
     pub saturation: u32,
 }
 
-// A number from 1 that an option gives, or the one that is taken without it.
-fn setting_of(words: &[String], verb: Verb, name: &str, most: u32, default: u32) -> Option<u32>
-    requires options { AreOptions verb (map string_bytes words.now) }
-    ensures { let Has = HasNumber verb (map string_bytes words.now) name.now 1 most default in MatchOption result ((n : ℕ) → ¬ Has n) Has }
+// A number from 1 that is given to a name, or the one that is taken without it.
+fn setting_of(matches: &ArgMatches<'_>, name: &str, most: u32, default: u32) -> Option<u32>
+    ensures { let Has = HasNumber (text_in matches.now name.now) 1 most default in MatchOption result ((n : ℕ) → ¬ Has n) Has }
 {
-    let number = number_of(words, verb, name, 1, u128::from(most), u128::from(default))?;
+    let number = number_of(matches, name, 1, u128::from(most), u128::from(default))?;
     u32::try_from(number).ok()
 }
 
-/// All numbers that the options give.
-pub fn settings_of(words: &[String], verb: Verb) -> Option<RunSettings>
-    requires options { AreOptions verb (map string_bytes words.now) }
-    ensures { let Has = HasSettings verb (map string_bytes words.now) in MatchOption result ((s : AnySettings) → ¬ Has s) Has }
+/// All numbers that are given.
+pub fn settings_of(matches: &ArgMatches<'_>) -> Option<RunSettings>
+    ensures { let Has = HasSettings (text_in matches.now) in MatchOption result ((s : AnySettings) → ¬ Has s) Has }
 {
     Some(RunSettings {
-        workers: setting_of(words, verb, "--workers", 64, 4)?,
-        threads: setting_of(words, verb, "--threads", 16, 2)?,
-        saturation: setting_of(words, verb, "--saturation", 1000, 11)?,
+        workers: setting_of(matches, "workers", 64, 4)?,
+        threads: setting_of(matches, "threads", 16, 2)?,
+        saturation: setting_of(matches, "saturation", 1000, 11)?,
     })
 }
 
-// The script that an option gives, or the empty one.
-fn script_of(alloc: Global, words: &[String], verb: Verb) -> Result<Script, WordsFail>
-    requires options { AreOptions verb (map string_bytes words.now) }
-    ensures script { IfOk result (HasScript verb (map string_bytes words.now)) }
-    ensures refused { IfErr result (IsNotGiven verb (map string_bytes words.now)) }
+// The script that is given, or the empty one.
+fn script_of(alloc: Global, matches: &ArgMatches<'_>) -> Result<Script, WordsFail>
+    ensures script { IfOk result (HasScript (text_in matches.now (codes "script"))) }
+    ensures refused { IfErr result (IsNotGiven (text_in matches.now (codes "script"))) }
 {
-    match value_of(words, verb, "--script") {
+    match given_to(matches, "script") {
         Some(text) => read_script(alloc, text),
         None => Ok(Script::new(alloc)),
     }
@@ -56,18 +53,16 @@ fn script_of(alloc: Global, words: &[String], verb: Verb) -> Result<Script, Word
 /// The script, where it can be followed from this many workers of this many threads each.
 pub fn walk_of(
     alloc: Global,
-    words: &[String],
-    verb: Verb,
+    matches: &ArgMatches<'_>,
     workers: u32,
     threads: u32,
 ) -> Result<Script, WordsFail>
-    requires options { AreOptions verb (map string_bytes words.now) }
     requires workers { workers ≤ 64 }
     requires threads { threads ≤ 16 }
-    ensures walk { IfOk result (HasWalk verb (map string_bytes words.now) workers threads) }
-    ensures refused { IfErr result (HasNoWalk verb (map string_bytes words.now) workers threads) }
+    ensures walk { IfOk result (HasWalk (text_in matches.now) workers threads) }
+    ensures refused { IfErr result (HasNoWalk (text_in matches.now) workers threads) }
 {
-    let script = script_of(alloc, words, verb)?;
+    let script = script_of(alloc, matches)?;
     if is_walk(alloc, workers, threads, &script)? {
         Ok(script)
     } else {

@@ -1,16 +1,16 @@
 //! All words of `sim`.
-ghost use Rattle.std.specs.Prelude.{◌≡◌, ◌-◌, ◌^◌, ℕ, [], IfOk, IfErr, bytes_eq, codes, map, slice_index_or, string_bytes, MatchOption};
+ghost use Rattle.std.specs.Prelude.{◌≡◌, ◌-◌, ◌^◌, ℕ, IfOk, IfErr, codes, map, string_bytes, MatchOption};
+ghost use Rattle.command_words.specs.Given.{text_in};
 ghost use Rattle.command_words.specs.Numbers.{IsNumber};
-ghost use Rattle.command_words.specs.Options.{AreOptions};
-ghost use Rattle.command_words.specs.Words.{IsSettings, IsSim, IsWhy};
+ghost use Rattle.command_words.specs.Words.{HasSeed, IsSettings, IsSim, IsWhy, SaysNoSim, SaysSim};
 ghost use Rattle.command_words.specs.declared.sim.Settings.{Settings as AnySettings};
-ghost use Rattle.command_words.specs.declared.verb.Verb.TheVariants.{Sim};
 
+use crate::apps::sim_matches;
 use crate::fail::WordsFail;
+use crate::given::{given_to, is_first, own_text};
 use crate::numbers::number_in;
-use crate::options::are_options;
 use crate::settings::{settings_of, walk_of};
-use crate::verb::Verb;
+use clap::ArgMatches;
 use cluster_msgs::Script;
 use std::alloc::Global;
 
@@ -24,34 +24,38 @@ pub struct Settings {
     pub saturation: u32,
 }
 
-/// What the words of a simulation say besides the job's name.
+/// What the words of a simulation say.
 #[derive(Drop)]
 pub struct SimWords {
+    pub job: String,
     pub settings: Settings,
     pub script: Script,
 }
 
-fn is_sim(word: &str) -> bool
-    ensures { result ≡ bytes_eq word.now (codes "sim") }
-{
-    word == "sim"
-}
-
-// The generator's number.
-fn seed_of(word: &str) -> Option<u64>
+// The generator's number that a word says.
+fn seed_in(word: &str) -> Option<u64>
     ensures { MatchOption result ((n : ℕ) → ¬ IsNumber 0 (2 ^ 64 - 1) word.now n) (IsNumber 0 (2 ^ 64 - 1) word.now) }
 {
     let number = number_in(word, 0, u128::from(u64::MAX))?;
     u64::try_from(number).ok()
 }
 
-// All numbers.
-fn settings_of_sim(words: &[String]) -> Option<Settings>
-    requires options { AreOptions Sim (map string_bytes words.now) }
-    ensures { MatchOption result ((s : AnySettings) → ¬ IsSettings (map string_bytes words.now) s) (IsSettings (map string_bytes words.now)) }
+// The generator's number that is given.
+fn seed_of(matches: &ArgMatches<'_>) -> Option<u64>
+    ensures { let Has = HasSeed (text_in matches.now (codes "number")) in MatchOption result ((n : ℕ) → ¬ Has n) Has }
 {
-    let number = seed_of(words[2].as_str())?;
-    let run = settings_of(words, Verb::Sim)?;
+    match given_to(matches, "number") {
+        Some(text) => seed_in(text),
+        None => None,
+    }
+}
+
+// All numbers.
+fn settings_of_sim(matches: &ArgMatches<'_>) -> Option<Settings>
+    ensures { let Has = IsSettings (text_in matches.now) in MatchOption result ((s : AnySettings) → ¬ Has s) Has }
+{
+    let number = seed_of(matches)?;
+    let run = settings_of(matches)?;
     Some(Settings {
         number,
         workers: run.workers,
@@ -60,16 +64,34 @@ fn settings_of_sim(words: &[String]) -> Option<Settings>
     })
 }
 
-// The script that can be followed from these settings.
-fn with_settings(alloc: Global, words: &[String], settings: Settings) -> Result<SimWords, WordsFail>
-    requires command { slice_index_or (map string_bytes words.now) 0 [] ≡ codes "sim" }
-    requires options { AreOptions Sim (map string_bytes words.now) }
-    requires settings { IsSettings (map string_bytes words.now) settings }
-    ensures said { IfOk result (IsSim (map string_bytes words.now)) }
-    ensures refused { IfErr result (IsWhy (map string_bytes words.now)) }
+// The simulation of this job with these settings, where its script can be followed.
+fn with_settings(
+    alloc: Global,
+    matches: &ArgMatches<'_>,
+    settings: Settings,
+) -> Result<SimWords, WordsFail>
+    requires settings { IsSettings (text_in matches.now) settings }
+    ensures said { IfOk result (SaysSim (text_in matches.now)) }
+    ensures refused { IfErr result (SaysNoSim (text_in matches.now)) }
 {
-    let script = walk_of(alloc, words, Verb::Sim, settings.workers, settings.threads)?;
-    Ok(SimWords { settings, script })
+    let job = own_text(alloc, matches, "job")?;
+    let script = walk_of(alloc, matches, settings.workers, settings.threads)?;
+    Ok(SimWords {
+        job,
+        settings,
+        script,
+    })
+}
+
+// The simulation that the texts say.
+fn sim_of(alloc: Global, matches: &ArgMatches<'_>) -> Result<SimWords, WordsFail>
+    ensures said { IfOk result (SaysSim (text_in matches.now)) }
+    ensures refused { IfErr result (SaysNoSim (text_in matches.now)) }
+{
+    match settings_of_sim(matches) {
+        Some(settings) => with_settings(alloc, matches, settings),
+        None => Err(WordsFail::Refused),
+    }
 }
 
 /// What the words `sim JOB NUMBER` with their options say.
@@ -77,7 +99,8 @@ fn with_settings(alloc: Global, words: &[String], settings: Settings) -> Result<
 /// The options are `--workers N` (1 to 64, else 4), `--threads N` (1 to 16, else 2), `--saturation N` (1 to 1000, else 11)
 /// and `--script S`, each at most once, in any order. A script is up to 1,000 items `lose:W@N`, `suspect:W@N` or `join@N` with
 /// commas between, with N not falling, that takes away only workers that are there, lets at most 64 join, and leaves always
-/// at least one worker, at most 64, and at most 64 threads.
+/// at least one worker, at most 64, and at most 64 threads. The words behind `sim` are read with `clap`, so `--workers=N` is
+/// accepted, and behind `--` a job may begin with a hyphen.
 ///
 /// # Errors
 /// `Refused` exactly where the words say nothing of this form, and `OutOfMemory` where no memory is left.
@@ -85,11 +108,9 @@ pub fn read_sim(alloc: Global, words: &[String]) -> Result<SimWords, WordsFail>
     ensures said { IfOk result (IsSim (map string_bytes words.now)) }
     ensures refused { IfErr result (IsWhy (map string_bytes words.now)) }
 {
-    if !are_options(words, Verb::Sim) || !is_sim(words[0].as_str()) {
+    if !is_first(words, "sim") {
         return Err(WordsFail::Refused);
     }
-    match settings_of_sim(words) {
-        Some(settings) => with_settings(alloc, words, settings),
-        None => Err(WordsFail::Refused),
-    }
+    let matches = sim_matches(alloc, words)?;
+    sim_of(alloc, &matches)
 }

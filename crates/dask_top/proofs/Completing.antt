@@ -1,5 +1,5 @@
 -- A job ends as its text, its inputs and its values say where nothing failed.
-use Rattle.std.proofs.Common.{◌≡◌, ℕ, List, [], ◌∷◌, get_or, refl, ap, sym, ◌∙◌, subst, inl, inr, arith, codes, Option, Some, None, Ok, Err}
+use Rattle.std.proofs.Common.{◌≡◌, ℕ, List, [], ◌∷◌, get_or, string_bytes, refl, ap, sym, ◌∙◌, subst, inl, inr, arith, codes, Option, Some, None, Ok, Err}
 use Rattle.std.specs.Prelude.{◌⊎◌, IfSome, IsSomeAnd}
 use Rattle.io_edge.specs.View.{View, Files}
 use Rattle.nd_shape.specs.Block.{Array}
@@ -14,19 +14,30 @@ use Rattle.job_run.specs.declared.ends.FileError.TheVariants.{Npy, Shape}
 use Rattle.job_run.specs.Inputs.{FitInputs, FirstRefusal, HoldArrays, HoldsArray, InputRefused, InputsFit, RefusesFile, told_all}
 use Rattle.job_run.specs.Plan.{Plan, input_shapes}
 use Rattle.job_run.specs.Runs.{Cause as RunCause, HasFault, HasValues, HasZero, IsSmall}
-use Rattle.job_run.specs.Values.{IsFaulty, MeetsNone, MeetsZero}
+use Rattle.job_run.specs.Values.{IsFaulty, MeetsNone, MeetsZero, tasks_of}
 use Rattle.job_run.proofs.OneArray.{not_refused, one_head}
 use Rattle.job_text.specs.declared.error.JobError.{JobError}
 use Rattle.job_text.specs.declared.error.JobKind.TheVariants as Kinds
 use Rattle.job_text.specs.Jobs.{Parts, IsJob, IsRefused}
 use Rattle.dask_top.specs.declared.answer.End.{End}
+use Rattle.cluster_msgs.specs.declared.events.Item.{Item}
+use Rattle.cluster_rules.specs.Runs.{event_limit}
+use Rattle.cluster_rules.specs.World.{Job as ClusterJob}
+use Rattle.cluster_laws.specs.Blocks.{job_of, setting_of}
+use Rattle.cluster_sim.specs.Drawn.{word_of}
+use Rattle.cluster_sim.specs.Simulations.{IsUnfinished}
+use Rattle.task_graph.specs.Graphs.{operation, shape_of}
+use Rattle.command_words.specs.Words.{SameRun, SameSim}
+use Rattle.command_words.specs.declared.plain.PlainWords.{PlainWords}
 use Rattle.command_words.specs.declared.run.RunWords.{RunWords}
+use Rattle.command_words.specs.declared.sim.Settings.{Settings}
 use Rattle.command_words.specs.declared.sim.SimWords.{SimWords}
+use Rattle.sim_run.specs.Jobs.{IsTextJob}
 use Rattle.sim_run.specs.declared.ends.SimEnded.{SimEnded}
 use Rattle.sim_run.specs.declared.ends.SimEnded.TheVariants as SimEnds
 use Rattle.sim_run.specs.Ends.{Cause as SimCause, WhereTold}
 use Rattle.thread_run.specs.Ends.{Cause as ThreadCause}
-use Rattle.command_words.proofs.Saying.{one_sim}
+use Rattle.command_words.proofs.Saying.{one_plain, one_run, one_sim}
 use Rattle.dask_top.specs.declared.answer.End.TheVariants.{Words, Job, Limit, Graph, Events, Turns, Done, File, Zero, ReadFault, WriteFault, OutOfMemory}
 use Rattle.dask_top.specs.Answers.{Answers, AskedDoes, Performs}
 use Rattle.dask_top.specs.Commands.{Command, Run, Plain, Sim, Asks, Asked, IsAsked, Known, Unread, Work, Running, Evaluation, Simulation, sources_of, work_of}
@@ -34,7 +45,7 @@ use Rattle.dask_top.specs.Completing.{Completes, EndsByInputs, EndsBySimulation,
 use Rattle.dask_top.specs.Ends.{run_end, sim_end, status_of}
 use Rattle.dask_top.specs.Reading.{IsRead, Reading, Reads, plan_said}
 use Rattle.dask_top.specs.Telling.{end_of, sim_end_of}
-use Rattle.dask_top.proofs.Obeying.{plain_or_run, run_or_sim}
+use Rattle.dask_top.proofs.Obeying.{plain_or_run, plain_or_sim, run_or_sim}
 use Rattle.dask_top.specs.Works.{Does, Evaluates, RefusalCause, Runs, Simulates, UnreadCause, WorkDoes}
 
 told_and : {A : Type 0} (o : Option A) (P Q : A → Type 0) → IsSomeAnd o P → IfSome o Q → (x : A) × P x × Q x
@@ -324,42 +335,64 @@ text_memory sources work old = record { refused = λ none. inr (inr refl); runs 
 
 -- ## The command that the words ask for
 
-simulated : (job other : List ℕ) (said read : SimWords) (old : View) (status : ℕ) → job ≡ other → said ≡ read → EndsByTexts (job ∷ []) (Simulation said) old status → EndsByTexts (other ∷ []) (Simulation read) old status
-simulated job other said read old status same also ends =
-    let H : List ℕ → Type 0 = λ j. EndsByTexts (j ∷ []) (Simulation said) old status in
-    let W : SimWords → Type 0 = λ w. EndsByTexts (other ∷ []) (Simulation w) old status in
-    subst W also (subst H same ends)
-
-not_both : (words : List (List ℕ)) (name job other : List ℕ) → words ≡ name ∷ job ∷ [] → get_or words 0 [] ≡ other → name ≡ other
-not_both words name job other is first = ap (λ w. get_or w 0 []) (sym is) ∙ first
-
-same_evaluation : (words : List (List ℕ)) (first second job other : List ℕ) → words ≡ first ∷ job ∷ [] → words ≡ second ∷ other ∷ [] → job ≡ other
-same_evaluation words first second job other is also = let e : first ∷ job ∷ [] ≡ second ∷ other ∷ [] = sym is ∙ also in ap (λ l. get_or l 1 []) e
-
-plain_or_sim : codes "plain" ≡ codes "sim" → ⊥
-plain_or_sim e = omega (arith, ap (λ w. get_or w 0 0) e)
+-- the same work on a job of an equal name
+same_source : (work : Work) (job other : List ℕ) (old : View) (status : ℕ) → job ≡ other → EndsByTexts (job ∷ []) work old status → EndsByTexts (other ∷ []) work old status
+same_source work job other old status same ends = let H : List ℕ → Type 0 = λ j. EndsByTexts (j ∷ []) work old status in subst H same ends
 
 -- which workers there are, and what happens to them, doesn't decide how a run ends
-ran : (job other : List ℕ) (said read : RunWords) (old : View) (status : ℕ) → job ≡ other → EndsByTexts (job ∷ []) (Running said) old status → EndsByTexts (other ∷ []) (Running read) old status
-ran job other said read old status same ends =
-    let H : List ℕ → Type 0 = λ j. EndsByTexts (j ∷ []) (Running said) old status in
-    let there : EndsByTexts (other ∷ []) (Running said) old status = subst H same ends in
+ran : (said read : RunWords) (old : View) (status : ℕ) → SameRun said read → EndsByTexts (string_bytes said.job ∷ []) (Running said) old status → EndsByTexts (string_bytes read.job ∷ []) (Running read) old status
+ran said read old status same ends =
+    let there = same_source (Running said) (string_bytes said.job) (string_bytes read.job) old status same.job ends in
     record { refused = there.refused; runs = there.runs }
 
-evaluated : (job other : List ℕ) (old : View) (status : ℕ) → job ≡ other → EndsByTexts (job ∷ []) Evaluation old status → EndsByTexts (other ∷ []) Evaluation old status
-evaluated job other old status same ends = let H : List ℕ → Type 0 = λ j. EndsByTexts (j ∷ []) Evaluation old status in subst H same ends
+-- a job of a text is one whatever the name of its file
+is_kind : (p : Plan) (files : Files) (said read : SimWords) (job : ClusterJob) (wanted : List ℕ) → said.settings ≡ read.settings → IsTextJob p files said job wanted → IsTextJob p files read job wanted
+is_kind p files said read job wanted same is = record {
+  small = is.small;
+  inputs = is.inputs;
+  named = is.named;
+  runs = is.runs ∙ ap (λ (x : Settings). job_of (setting_of (shape_of (tasks_of p)) 1 x.saturation) (operation is.named (tasks_of p))) same;
+  wants = is.wants;
+  told = is.told;
+}
+
+-- words of the same settings and script simulate the same
+never_ends : (p : Plan) (said read : SimWords) (old : View) → SameSim said read → NeverEnds p said old → NeverEnds p read old
+never_ends p said read old same never =
+    let U : Settings × List Item → Type 0 = λ x. IsUnfinished never.job (word_of x.0.number) (record { workers = x.0.workers; threads = x.0.threads; script = x.1 }) never.wanted event_limit in
+    record {
+      job = never.job;
+      wanted = never.wanted;
+      is = is_kind p old.files said read never.job never.wanted same.settings never.is;
+      ends = subst U (λ i. (same.settings i, same.script i)) never.ends;
+    }
+
+simulated : (said read : SimWords) (old : View) (status : ℕ) → SameSim said read → EndsByTexts (string_bytes said.job ∷ []) (Simulation said) old status → EndsByTexts (string_bytes read.job ∷ []) (Simulation read) old status
+simulated said read old status same ends =
+    let there = same_source (Simulation said) (string_bytes said.job) (string_bytes read.job) old status same.job ends in
+    record {
+      refused = there.refused;
+      runs = λ p says. let e = there.runs p says in record {
+        large = e.large;
+        unfit = e.unfit;
+        some = λ small fit meet going. e.some small fit meet (λ never. going (never_ends p said read old same never));
+        none = λ small fit meet going. e.none small fit meet (λ never. going (never_ends p said read old same never));
+        some_limit = e.some_limit;
+        none_limit = e.none_limit;
+      };
+    }
 
 -- what is said of the command that was read is said of each that the words ask for
 same_command : (words : List (List ℕ)) (d c : Command) (old : View) (status : ℕ) → Asks words d → Asks words c → EndsByTexts (sources_of d) (work_of d) old status → EndsByTexts (sources_of c) (work_of c) old status
-same_command words (Run a said) (Run b read) old status is also ends = ran a b said read old status (sym is.1 ∙ also.1) ends
-same_command words (Plain a) (Plain b) old status is also ends = evaluated a b old status (same_evaluation words (codes "plain") (codes "plain") a b is also) ends
-same_command words (Run a said) (Plain b) old status is also ends = absurd (plain_or_run (not_both words (codes "plain") b (codes "run") also is.0.command))
-same_command words (Plain a) (Run b read) old status is also ends = absurd (plain_or_run (not_both words (codes "plain") a (codes "run") is also.0.command))
-same_command words (Sim a said) (Sim b read) old status is also ends = simulated a b said read old status (sym is.1 ∙ also.1) (one_sim words said read is.0 also.0) ends
-same_command words (Run a said) (Sim b read) old status is also ends = absurd (run_or_sim (sym is.0.command ∙ also.0.command))
-same_command words (Plain a) (Sim b read) old status is also ends = absurd (plain_or_sim (not_both words (codes "plain") a (codes "sim") is also.0.command))
-same_command words (Sim a said) (Run b read) old status is also ends = absurd (run_or_sim (sym also.0.command ∙ is.0.command))
-same_command words (Sim a said) (Plain b) old status is also ends = absurd (plain_or_sim (not_both words (codes "plain") b (codes "sim") also is.0.command))
+same_command words (Run said) (Run read) old status is also ends = ran said read old status (one_run words said read is also) ends
+same_command words (Plain said) (Plain read) old status is also ends = same_source Evaluation (string_bytes said.job) (string_bytes read.job) old status (one_plain words said read is also) ends
+same_command words (Sim said) (Sim read) old status is also ends = simulated said read old status (one_sim words said read is also) ends
+same_command words (Run said) (Plain read) old status is also ends = absurd (plain_or_run (sym also.command ∙ is.command))
+same_command words (Plain said) (Run read) old status is also ends = absurd (plain_or_run (sym is.command ∙ also.command))
+same_command words (Run said) (Sim read) old status is also ends = absurd (run_or_sim (sym is.command ∙ also.command))
+same_command words (Plain said) (Sim read) old status is also ends = absurd (plain_or_sim (sym is.command ∙ also.command))
+same_command words (Sim said) (Run read) old status is also ends = absurd (run_or_sim (sym also.command ∙ is.command))
+same_command words (Sim said) (Plain read) old status is also ends = absurd (plain_or_sim (sym also.command ∙ is.command))
 
 asked_completes : Laws → (words : List (List ℕ)) (old new : View) (end : End) (asked : Asked) (c : Command) → IsAsked words asked → AskedDoes asked old new end → Asks words c → NoFault old new → EndsByTexts (sources_of c) (work_of c) old (status_of end)
 asked_completes laws words old new end (Known None) c none does asks faults = absurd (none c asks)

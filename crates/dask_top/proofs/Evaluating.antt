@@ -37,7 +37,7 @@ cause_told p old mid new RunEnds.ReadFault only cause = rw only.read_faults caus
 cause_told p old mid new RunEnds.WriteFault only cause = rw (only.write_faults, only.print_faults) cause
 cause_told p old mid new RunEnds.OutOfMemory only cause = tt
 
-stops_told : (p : Plan) (old mid new : View) (lines : List ℕ) → OnlyErr mid new → StopsPrinting p old mid lines → StopsPrinting p old new lines
+pub stops_told : (p : Plan) (old mid new : View) (lines : List ℕ) → OnlyErr mid new → StopsPrinting p old mid lines → StopsPrinting p old new lines
 stops_told p old mid new lines only s =
     let S : Files → Type 0 = λ x. AreSaved p old.files x in
     let O : Option (List ℕ) → Type 0 = λ o. PrintsPart old.out o lines in
@@ -208,7 +208,7 @@ looked_before names p old mid new opens first looked = elim looked [
   | inr there ↦ inr (record { opened = all_before names p.inputs old.opened mid.opened new.opened first there.opened; inputs = fit_before p old mid opens.held opens.tells there.inputs; small = there.small })
 ]
 
-stops_before : (p : Plan) (old mid new : View) (lines : List ℕ) → mid.files.held ≡ old.files.held → mid.files.tells ≡ old.files.tells → mid.files.created ≡ old.files.created → OnlyReads old mid → StopsPrinting p mid new lines → StopsPrinting p old new lines
+pub stops_before : (p : Plan) (old mid new : View) (lines : List ℕ) → mid.files.held ≡ old.files.held → mid.files.tells ≡ old.files.tells → mid.files.created ≡ old.files.created → OnlyReads old mid → StopsPrinting p mid new lines → StopsPrinting p old new lines
 stops_before p old mid new lines held tells created only s = record {
   saved = saves_before p old.files mid.files new.files RunEnds.Done held tells s.saved;
   created = s.created ∙ ap (raised_by (names_saved p)) created;

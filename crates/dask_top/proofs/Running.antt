@@ -1,6 +1,7 @@
 -- A run of a job by a cluster of threads, whose text was read before it and whose end was told after it.
-use Rattle.std.proofs.Common.{◌≡◌, ℕ, ◌≤◌, List, ◌++◌, ap, sym, ◌∙◌, subst, inl, inr, arith, Some, Ok}
-use Rattle.std.specs.Prelude.{IsSomeAnd}
+use Rattle.std.proofs.Common.{◌≡◌, ℕ, ◌≤◌, List, ◌++◌, refl, ap, sym, ◌∙◌, subst, inl, inr, arith, Option, None, Some, Ok}
+use Rattle.std.specs.Prelude.{IfSome, IsSomeAnd}
+use Rattle.cluster_msgs.specs.declared.events.Report.{Report}
 use Rattle.io_edge.specs.Content.{followed_by}
 use Rattle.io_edge.proofs.GivenLaws.{more_same, more_then}
 use Rattle.io_edge.specs.View.{View, Files, Opens, OnlyReads, OnlyErr, raised_by, times}
@@ -9,9 +10,11 @@ use Rattle.job_run.specs.declared.ends.Ended.{Ended}
 use Rattle.job_run.specs.declared.ends.Ended.TheVariants as RunEnds
 use Rattle.job_run.specs.Part.{RaisedAtMost}
 use Rattle.job_run.specs.Plan.{Plan, names_saved}
+use Rattle.job_run.specs.Runs.{StopsPrinting}
 use Rattle.job_run.proofs.Counting.{none_raised, times-append}
 use Rattle.thread_run.specs.Counts.{RaisedBetween, feeds, repeated}
-use Rattle.thread_run.specs.Ends.{Cause, Saves, Opened, Looked, Created, Prints, RunsByThreads, lines_of, openings}
+use Rattle.thread_run.specs.Ends.{Cause, Saves, Opened, Looked, Created, Prints, PrintsRun, RunsByThreads, lines_of, openings}
+use Rattle.thread_run.specs.Reports.{IsToldRun}
 use Rattle.dask_top.specs.declared.answer.End.{End}
 use Rattle.dask_top.specs.Answers.{Performs}
 use Rattle.dask_top.specs.Commands.{Running}
@@ -19,7 +22,7 @@ use Rattle.dask_top.specs.Ends.{Notes, run_end}
 use Rattle.dask_top.specs.Opening.{TextRead, JobRead}
 use Rattle.dask_top.specs.Telling.{IsRefusal, Told, end_of}
 use Rattle.dask_top.specs.Works.{RunningOpened, Runs, WorkDoes}
-use Rattle.dask_top.proofs.Evaluating.{cause_before, fit_before, front_before, front_told, memory_saves, right_before, run_is, saves_before, values_before}
+use Rattle.dask_top.proofs.Evaluating.{cause_before, fit_before, memory_saves, right_before, run_is, saves_before, stops_before, stops_told, values_before}
 use Rattle.dask_top.proofs.Opening.{raised_by-append, raised_first, raised_more}
 use Rattle.dask_top.proofs.Reading.{is_given, is_read}
 use Rattle.dask_top.proofs.Unread.{notes_before}
@@ -35,14 +38,28 @@ cause_told p old mid new RunEnds.ReadFault only cause = rw only.read_faults caus
 cause_told p old mid new RunEnds.WriteFault only cause = rw (only.write_faults, only.print_faults) cause
 cause_told p old mid new RunEnds.OutOfMemory only cause = tt
 
-prints_told : (p : Plan) (old mid new : View) (end : Ended) → OnlyErr mid new → Prints p old mid end → Prints p old new end
-prints_told p old mid new RunEnds.Done only prints = only.out ∙ prints
-prints_told p old mid new RunEnds.WriteFault only prints = front_told p old mid new (lines_of p) only prints
-prints_told p old mid new (RunEnds.Limit quantity) only prints = only.out ∙ prints
-prints_told p old mid new (RunEnds.File place error) only prints = only.out ∙ prints
-prints_told p old mid new (RunEnds.Zero node block) only prints = only.out ∙ prints
-prints_told p old mid new RunEnds.ReadFault only prints = only.out ∙ prints
-prints_told p old mid new RunEnds.OutOfMemory only prints = only.out ∙ prints
+-- what is told of a run over files is told of it over files that hold the same
+told_first : (p : Plan) (said : RunWords) (old mid : Files) → mid.held ≡ old.held → (told : Option Report) → IfSome told (IsToldRun p said mid) → IfSome told (IsToldRun p said old)
+told_first p said old mid held None t = tt
+told_first p said old mid held (Some report) t = record { named = t.named; told = t.told; told_is = rw (← held) t.told_is; held = rw (← held) t.held; run = t.run }
+
+-- lines of a run whose files hold the same, printed otherwise
+over_run : (p : Plan) (said : RunWords) (old mid : Files) → mid.held ≡ old.held → (P Q : List ℕ → Type 0) → ((lines : List ℕ) → P lines → Q lines) → PrintsRun p said mid P
+    → PrintsRun p said old Q
+over_run p said old mid held P Q f r = record { told = r.told; asked = r.asked; of_run = told_first p said old mid held r.told r.of_run; printed = f (lines_of p r.told) r.printed }
+
+prints_told : (p : Plan) (said : RunWords) (old mid new : View) (end : Ended) → OnlyErr mid new → Prints p said old mid end → Prints p said old new end
+prints_told p said old mid new RunEnds.Done only prints =
+    over_run p said old.files old.files refl (λ lines. mid.out ≡ followed_by old.out lines) (λ lines. new.out ≡ followed_by old.out lines) (λ lines printed. only.out ∙ printed) prints
+prints_told p said old mid new RunEnds.WriteFault only prints = elim prints [
+  | inl same ↦ inl (only.out ∙ same)
+  | inr run ↦ inr (over_run p said old.files old.files refl (StopsPrinting p old mid) (StopsPrinting p old new) (λ lines stops. stops_told p old mid new lines only stops) run)
+]
+prints_told p said old mid new (RunEnds.Limit quantity) only prints = only.out ∙ prints
+prints_told p said old mid new (RunEnds.File place error) only prints = only.out ∙ prints
+prints_told p said old mid new (RunEnds.Zero node block) only prints = only.out ∙ prints
+prints_told p said old mid new RunEnds.ReadFault only prints = only.out ∙ prints
+prints_told p said old mid new RunEnds.OutOfMemory only prints = only.out ∙ prints
 
 runs_told : (sources : List (List ℕ)) (p : Plan) (said : RunWords) (old mid new : View) (end : Ended) → OnlyErr mid new → Runs sources p said old mid end
     → Runs sources p said old new end
@@ -58,7 +75,7 @@ runs_told sources p said old mid new end only e =
       others = λ n none. ap (λ (x : Files). x.held n) only.files ∙ e.others n none;
       opened = subst O (sym only.files) e.opened;
       created = subst C (sym only.files) e.created;
-      prints = prints_told p old mid new end only e.prints;
+      prints = prints_told p said old mid new end only e.prints;
     }
 
 -- ## Memory was wanted for a refusal's line
@@ -156,15 +173,20 @@ looked_first names p said old mid new opens first looked = elim looked [
   })
 ]
 
-prints_first : (p : Plan) (old mid new : View) (end : Ended) → mid.files.held ≡ old.files.held → mid.files.tells ≡ old.files.tells → mid.files.created ≡ old.files.created → OnlyReads old mid → Prints p mid new end
-    → Prints p old new end
-prints_first p old mid new RunEnds.Done held tells created only prints = prints ∙ ap (λ o. followed_by o (lines_of p)) only.out
-prints_first p old mid new RunEnds.WriteFault held tells created only prints = front_before p old mid new (lines_of p) held tells created only prints
-prints_first p old mid new (RunEnds.Limit quantity) held tells created only prints = prints ∙ only.out
-prints_first p old mid new (RunEnds.File place error) held tells created only prints = prints ∙ only.out
-prints_first p old mid new (RunEnds.Zero node block) held tells created only prints = prints ∙ only.out
-prints_first p old mid new RunEnds.ReadFault held tells created only prints = prints ∙ only.out
-prints_first p old mid new RunEnds.OutOfMemory held tells created only prints = prints ∙ only.out
+prints_first : (p : Plan) (said : RunWords) (old mid new : View) (end : Ended) → mid.files.held ≡ old.files.held → mid.files.tells ≡ old.files.tells → mid.files.created ≡ old.files.created → OnlyReads old mid
+    → Prints p said mid new end → Prints p said old new end
+prints_first p said old mid new RunEnds.Done held tells created only prints =
+    over_run p said old.files mid.files held (λ lines. new.out ≡ followed_by mid.out lines) (λ lines. new.out ≡ followed_by old.out lines)
+    (λ lines printed. printed ∙ ap (λ o. followed_by o lines) only.out) prints
+prints_first p said old mid new RunEnds.WriteFault held tells created only prints = elim prints [
+  | inl same ↦ inl (same ∙ only.out)
+  | inr run ↦ inr (over_run p said old.files mid.files held (StopsPrinting p mid new) (StopsPrinting p old new) (λ lines stops. stops_before p old mid new lines held tells created only stops) run)
+]
+prints_first p said old mid new (RunEnds.Limit quantity) held tells created only prints = prints ∙ only.out
+prints_first p said old mid new (RunEnds.File place error) held tells created only prints = prints ∙ only.out
+prints_first p said old mid new (RunEnds.Zero node block) held tells created only prints = prints ∙ only.out
+prints_first p said old mid new RunEnds.ReadFault held tells created only prints = prints ∙ only.out
+prints_first p said old mid new RunEnds.OutOfMemory held tells created only prints = prints ∙ only.out
 
 runs : (names : List (List ℕ)) (p : Plan) (said : RunWords) (old mid new : View) (read : List ℕ) (end : Ended) → TextRead names old mid read → RunsByThreads p said mid new end → Runs names p said old new end
 runs names p said old mid new read end t by =
@@ -177,7 +199,7 @@ runs names p said old mid new read end t by =
       others = λ n none. by.others n none ∙ ap (λ f. f n) opens.held;
       opened = opened_first names p said old.files mid.files new.files.opened end opens t.opened by.opened;
       created = subst C opens.created by.created;
-      prints = prints_first p old mid new end opens.held opens.tells opens.created t.only by.prints;
+      prints = prints_first p said old mid new end opens.held opens.tells opens.created t.only by.prints;
     }
 
 pub threads_perform : (names : List (List ℕ)) (p : Plan) (said : RunWords) (old mid done new : View) (end : Ended) (now : End) → JobRead names old mid p → RunsByThreads p said mid done end → Told (end_of end) now

@@ -93,7 +93,7 @@ pub record Runs (sources : List (List ℕ)) (p : Plan) (said : RunWords) (old ne
   pub others : (n : List ℕ) → IsNoneOf n (names_saved p) → new.files.held n ≡ old.files.held n
   pub opened : RunningOpened sources p said old.files.opened new.files.opened end
   pub created : ThreadCreated (names_saved p) old.files.created new.files.created end
-  pub prints : ThreadPrints p old new end
+  pub prints : ThreadPrints p said old new end
 
 -- ## A simulation
 

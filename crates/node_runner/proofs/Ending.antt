@@ -1,6 +1,6 @@
 -- What the closed nodes tell of a run.
 use Rattle.std.proofs.Common.{◌≡◌, ◌∙◌, ◌⊎◌, ℕ, zero, suc, ◌+◌, ◌<◌, Bool, true, false, List, [], ◌∷◌, map, length, get_or, refl, sym, ap, subst, inl, inr, ⊎_elim, arith}
-use Rattle.std.specs.Prelude.{Option, Some, None, IfSome, is_some, Result, Ok, Err, Contains}
+use Rattle.std.specs.Prelude.{Option, Some, None, IfOk, IfSome, is_some, Result, Ok, Err, Contains}
 use Rattle.std.proofs.lemmas.List.{length-map}
 use Rattle.cluster_msgs.specs.Labels.{LabelFacts, BlameFits}
 use Rattle.cluster_msgs.specs.Shape.{Shape}
@@ -21,7 +21,7 @@ use Rattle.node_runner.specs.declared.ends.RunStatus.{RunStatus}
 use Rattle.node_runner.specs.declared.ends.RunStatus.TheVariants.{Zero, Read, Memory}
 use Rattle.node_runner.specs.declared.ends.Histories.{Histories}
 use Rattle.node_runner.specs.Runs.{IsBookOf, IsTakenFrom, IsHistory, IsSchedulersBook, IsWorkersBook, IsClientsBook, WorkerSteps, ClientSteps, SchedSteps}
-use Rattle.node_runner.specs.Runs.{AreHistories, LastFacts, last_facts, IsLeft, HasCause, IfStatus, IsBlamed, HasRun, course_of, setting_of}
+use Rattle.node_runner.specs.Runs.{AreHistories, LastFacts, last_facts, IsLeft, HasCause, HasGot, IfStatus, IsBlamed, HasRun, course_of, setting_of}
 use Rattle.node_runner.proofs.Places.{all_by_through}
 
 -- a history that was taken from a closed node's book
@@ -88,9 +88,10 @@ pub has_run : {B W C D A : Type 0} (l : LabelFacts B) (graph : Shape) (p : RunPl
     → IsTakenFrom b h.scheduler → AllBy (λ k w x. IsTakenFrom (book w) x) ws h.workers.items → IsTakenFrom d h.client
     → (b.cut ≡ false → AreInTime b.core.plan (start_of (facts b.core.core).setting) b.entries)
     → AllBy (λ k w o. IfSome o (IsLeft p (facts b.core.core) (k + 1) (book w).entries (book w).cut)) ws left
+    → IfOk r (λ x. HasGot (client d.core) wanted)
     → IfStatus (IsBlamed blame) r → IfSome blame (λ b. (k : ℕ) × Contains wanted k × BlameFits l k b)
     → HasRun l graph p wanted ⊥ (last_facts (facts b.core.core) (map (λ w. core (book w).core) ws) (client d.core)) r left h
-has_run l graph p wanted b book core ws d client h left blame r scheduler workers clients of_scheduler of_workers of_client timed rows blamed some = record {
+has_run l graph p wanted b book core ws d client h left blame r scheduler workers clients of_scheduler of_workers of_client timed rows gets blamed some = record {
   histories = record {
     scheduler = history_is (λ c. facts c.core) (SchedSteps l) (sched_opening (setting_of graph p)) b h.scheduler scheduler.book of_scheduler;
     workers = workers_are l graph p book core ws h.workers.items workers of_workers;
@@ -98,6 +99,7 @@ has_run l graph p wanted b book core ws d client h left blame r scheduler worker
     in_time = in_time_is l graph p b h.scheduler scheduler of_scheduler timed;
   };
   left_are = left_is l graph p (facts b.core.core) book ws h.workers.items left rows of_workers;
+  got = gets;
   cause = cause_is l wanted (facts b.core.core) left blame r blamed some;
 }
 
@@ -105,3 +107,8 @@ has_run l graph p wanted b book core ws d client h left blame r scheduler worker
 pub if_told : {A : Type 0} (P Q : A → Type 0) (o : Option A) → IfSome o P → ((a : A) → P a → Q a) → IfSome o Q
 if_told P Q None p f = tt
 if_told P Q (Some a) p f = f a p
+
+-- what a run gives was there
+pub given_there : {A E : Type 0} (P : Type 0) (o : Option A) (r : Result A E) → IfSome o (λ x. P) → IfOk r (λ x. o ≡ Some x) → IfOk r (λ x. P)
+given_there P o (Ok x) some is = subst (λ z. IfSome z (λ y. P)) is some
+given_there P o (Err e) some is = tt

@@ -9,7 +9,7 @@ use Rattle.node_runner.specs.declared.plan.RunPlan.{RunPlan}
 use Rattle.node_runner.specs.declared.ends.RunStatus.{RunStatus}
 use Rattle.node_runner.specs.declared.ends.RunStatus.TheVariants.{Zero, Read, Memory}
 use Rattle.node_runner.specs.declared.ends.Histories.{Histories}
-use Rattle.node_runner.specs.Runs.{LastFacts, HasCause, IfStatus, IsGivenUp, HasRun, HasNotRun, HowItEnded}
+use Rattle.node_runner.specs.Runs.{LastFacts, HasCause, HasGot, IfStatus, IsGivenUp, HasRun, HasNotRun, HowItEnded}
 
 -- a cause without a feed that failed is one with it
 cause_more : {A B : Type 0} (l : LabelFacts B) (wanted : List ℕ) (f : Facts) (left : List (Option Why)) (Failed : Type 0) (r : Result A RunStatus)
@@ -18,6 +18,10 @@ cause_more l wanted f left Failed (Ok x) h = tt
 cause_more l wanted f left Failed (Err (Zero key)) h = h
 cause_more l wanted f left Failed (Err Read) h = absurd h.1
 cause_more l wanted f left Failed (Err Memory) h = tt
+
+-- what holds of what a run gives goes on to hold
+pub still_ok : {A : Type 0} (P : A → Type 0) (r s : Result A RunStatus) (X Y : Type 0) → (s ≡ r) ⊎ ((s ≡ Err Read) × X × Y) → IfOk r P → IfOk s P
+still_ok P r s X Y changed h = ⊎_elim (λ e. subst (λ z. IfOk z P) (sym e) h) (λ read. subst (λ z. IfOk z P) (sym read.0) tt) changed
 
 -- the result, or a read fault in its place
 pub run_ended : {A B : Type 0} (l : LabelFacts B) (graph : Shape) (p : RunPlan) (wanted : List ℕ) (Failed : Type 0) (r s : Result A RunStatus) (left : List (Option Why))
@@ -31,16 +35,13 @@ run_ended l graph p wanted Failed r s left (Some h) Given run none same changed 
   record {
     histories = run.1.histories;
     left_are = run.1.left_are;
+    got = still_ok (λ x. HasGot run.0.client wanted) r s Given Failed changed run.1.got;
     cause = ⊎_elim
         (λ e. subst (IfStatus (HasCause l wanted run.0.scheduler left Failed)) (sym e) (cause_more l wanted run.0.scheduler left Failed r run.1.cause))
         (λ read. subst (IfStatus (HasCause l wanted run.0.scheduler left Failed)) (sym read.0) (run.2 read.1, read.2))
         changed;
   },
 )
-
--- what holds of what a run gives goes on to hold
-pub still_ok : {A : Type 0} (P : A → Type 0) (r s : Result A RunStatus) (X Y : Type 0) → (s ≡ r) ⊎ ((s ≡ Err Read) × X × Y) → IfOk r P → IfOk s P
-still_ok P r s X Y changed h = ⊎_elim (λ e. subst (λ z. IfOk z P) (sym e) h) (λ read. subst (λ z. IfOk z P) (sym read.0) tt) changed
 
 -- a run that gave nothing
 pub none_ok : {A : Type 0} (P : A → Type 0) (r : Result A RunStatus) (s : RunStatus) → r ≡ Err s → IfOk r P
@@ -67,6 +68,7 @@ ended_more l graph p wanted F G r left (Some x) more h = (
   record {
     histories = h.1.histories;
     left_are = h.1.left_are;
+    got = h.1.got;
     cause = cause_of_more l wanted h.0.scheduler left F G r more h.1.cause;
   },
 )

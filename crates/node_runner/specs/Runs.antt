@@ -1,5 +1,5 @@
 -- How a run by threads ended.
-use Rattle.std.specs.Prelude.{◌≡◌, ◌≢◌, ℕ, ◌+◌, ◌<◌, ◌≤◌, ◌⊎◌, Bool, true, false, List, [], ◌++◌, length, map, sum, slice_index_or, Option, Some, None, IfSome, is_some, Result, Ok, Err, Contains}
+use Rattle.std.specs.Prelude.{◌≡◌, ◌≢◌, ℕ, ◌+◌, ◌<◌, ◌≤◌, ◌⊎◌, Bool, true, false, List, [], ◌++◌, length, map, sum, slice_index_or, Option, Some, None, All, IfOk, IfSome, is_some, Result, Ok, Err, Contains}
 use Rattle.cluster_msgs.specs.Shape.{Shape}
 use Rattle.cluster_msgs.specs.Labels.{LabelFacts, BlameFits}
 use Rattle.cluster_msgs.specs.declared.events.Entry.{Entry}
@@ -8,7 +8,8 @@ use Rattle.cluster_msgs.specs.declared.events.Item.TheVariants as item
 use Rattle.cluster_msgs.specs.declared.events.History.{History}
 use Rattle.cluster_rules.specs.Sched.{Facts, Setting, connected, sched_opening}
 use Rattle.cluster_rules.specs.Worker.{WorkerFacts, new_worker}
-use Rattle.cluster_rules.specs.Client.{ClientFacts, new_client}
+use Rattle.cluster_rules.specs.Client.{ClientFacts, done, new_client}
+use Rattle.cluster_msgs.specs.declared.cores.End.TheVariants.{Got}
 use Rattle.turn_cell.specs.Histories.{Ascending, Replays}
 use Rattle.turn_cell.specs.Rows.{AllBy}
 use Rattle.node_links.specs.Books.{BookState, Steps}
@@ -147,17 +148,22 @@ abbrev pub IfStatus : {A : Type 0} → (RunStatus → Type 0) → Result A RunSt
 IfStatus P (Ok x) = Unit {0}
 IfStatus P (Err s) = P s
 
+-- the client got each of these keys
+abbrev pub HasGot : ClientFacts → List ℕ → Type 0
+HasGot c keys = All (λ k. done c k ≡ Some Got) keys
+
 -- the key to blame was found; or there was none, or want of memory
 abbrev pub IsBlamed : Option ℕ → RunStatus → Type 0
 IsBlamed blame (status.Zero key) = blame ≡ Some key
 IsBlamed blame status.Read = ⊥
 IsBlamed blame status.Memory = Unit {0}
 
--- how a run ended, of whose nodes this was known at the end
+-- how a run ended, of whose nodes this was known at the end: where it gives blocks, the client of these histories got each key that is wanted
 pub record HasRun {B A : Type 0} (l : LabelFacts B) (graph : Shape) (p : RunPlan) (wanted : List ℕ) (Failed : Type 0) (last : LastFacts)
     (result : Result A RunStatus) (left : List (Option Why)) (h : Histories) : Type 0 where
   pub histories : AreHistories l graph p last h
   pub left_are : AreLeft p last h.workers.items left
+  pub got : IfOk result (λ blocks. HasGot last.client wanted)
   pub cause : IfStatus (HasCause l wanted last.scheduler left Failed) result
 
 -- a run that couldn't be started, or not be told of, for want of memory

@@ -2,16 +2,18 @@
 ghost use Rattle.std.specs.Prelude.{◌≡◌, ◌≢◌, ◌≤◌, ◌+◌, ◌<◌, ◌++◌, ◌∷◌, [], ℕ, true, false, None, map, length, slice_index_or, Contains, IfOk, IfSome, Some};
 ghost use Rattle.cluster_msgs.specs.Labels.{BlameFits};
 ghost use Rattle.cluster_rules.specs.Sched.{Facts as SchedFacts, connected};
+ghost use Rattle.cluster_msgs.specs.declared.cores.End.TheVariants.{Got};
+ghost use Rattle.cluster_rules.specs.Client.{done};
 ghost use Rattle.gather_client.specs.CoreState.{client_facts};
 ghost use Rattle.scheduler_core.specs.Cores.{facts};
 ghost use Rattle.turn_cell.specs.Rows.{AllBy};
 ghost use Rattle.worker_core.specs.Core.{facts as worker_facts};
 ghost use Rattle.node_states.specs.Fitting.{ClientFits};
 ghost use Rattle.node_states.specs.declared.why.Why.TheVariants as why;
-ghost use Rattle.node_runner.specs.Runs.{IsGivenUp, IsLeft, IsNamed, IsTakenFrom};
+ghost use Rattle.node_runner.specs.Runs.{HasGot, IsGivenUp, IsLeft, IsNamed, IsTakenFrom};
 
 use crate::plan::RunPlan;
-use cluster_msgs::{History, Label};
+use cluster_msgs::{End, History, Label};
 use cluster_rules::Facts;
 use node_links::Keyed;
 use node_states::{ClientNode, Feeds, SchedulerNode, Why, WorkerNode};
@@ -46,14 +48,40 @@ pub struct Ends<B: Drop, L: Label<Block = B>, F: Drop> {
     pub feeds: Vec<F>,
 }
 
-/// The blocks of these keys, in order, where the client has all.
+/// Whether the client got each of these keys.
+fn has_got<B: Drop, L: Label<Block = B>>(wanted: &[u32], client: &ClientNode<B, L>) -> bool
+    ensures { result ≡ true → HasGot (client_facts client.now.book.core.core) wanted.now }
+{
+    for key in wanted {
+        if !is_got(*key, client) {
+            return false;
+        }
+    }
+    true
+}
+
+/// Whether the client got a key.
+fn is_got<B: Drop, L: Label<Block = B>>(key: u32, client: &ClientNode<B, L>) -> bool
+    ensures { result ≡ true → done (client_facts client.now.book.core.core) key ≡ Some Got }
+{
+    match client.end(key) {
+        Some(End::Got) => true,
+        Some(End::Erred { blame: _ }) | None => false,
+    }
+}
+
+/// The blocks of these keys, in order, where the client has got all.
 pub fn got<B: Drop, L: Label<Block = B>>(
     alloc: Global,
     wanted: &[u32],
     client: &ClientNode<B, L>,
 ) -> Option<Vec<Keyed<B, L>>>
-    ensures { IfSome result (λ blocks. map (λ k. k.key) blocks.items ≡ wanted.now) }
+    ensures keys { IfSome result (λ blocks. map (λ k. k.key) blocks.items ≡ wanted.now) }
+    ensures got { IfSome result (λ blocks. HasGot (client_facts client.now.book.core.core) wanted.now) }
 {
+    if !has_got(wanted, client) {
+        return None;
+    }
     let mut blocks = Vec::with_capacity(alloc, wanted.len()).ok()?;
     for key in wanted {
         let keyed = client.block(*key)?;

@@ -1,4 +1,3 @@
-pub mod Appending
 pub mod Ending
 pub mod Given
 pub mod Got

@@ -128,7 +128,11 @@ fn simulate_world<S: Site, E: Elements + Send + Sync + Drop>(
         (S.view site.old).files (S.view site.new).files) }
 {
     laws_hold(job);
-    let SimWords { settings, script } = words;
+    let SimWords {
+        job: _,
+        settings,
+        script,
+    } = words;
     let plan = SimPlan {
         workers: settings.workers,
         threads: settings.threads,

@@ -8,6 +8,7 @@ use Rattle.io_edge.proofs.GivenLaws.{more_same, more_then}
 use Rattle.io_edge.specs.View.{View, Files, OnlyOut, OnlyReads, Opens, raised_by}
 use Rattle.npy_codec.specs.declared.head.Head.{Head}
 use Rattle.plain_eval.specs.Eval.{held_in}
+use Rattle.cluster_msgs.specs.declared.events.Report.{Report}
 use Rattle.command_words.specs.declared.run.RunWords.{RunWords}
 use Rattle.job_run.specs.declared.ends.Ended.{Ended}
 use Rattle.job_run.specs.declared.ends.Ended.TheVariants.{Done, Limit, File, Zero, ReadFault, WriteFault, OutOfMemory}
@@ -17,12 +18,15 @@ use Rattle.job_run.specs.Part.{AreLeft, AreWhole, IsNoneOf, RaisedAtMost}
 use Rattle.job_run.specs.Plan.{Plan, names_saved}
 use Rattle.job_run.specs.Runs.{AreRight, AreSaved, HasValues, IsSmall, ReadCause, RunsPlan, StopsPrinting}
 use Rattle.job_run.specs.Told.{named_told}
-use Rattle.job_run.specs.Values.{IsFaulty, MeetsNone, Named, OnInputs, files_of}
+use Rattle.job_run.specs.Values.{IsFaulty, MeetsNone, Named, OnInputs, files_of, tasks_of}
+use Rattle.job_run.specs.Wanted.{wanted_of}
+use Rattle.task_graph.specs.Graphs.{shape_of}
 use Rattle.job_run.proofs.Counting.{raised_at_most, times-append}
 use Rattle.job_run.proofs.Naming.{on_named}
 use Rattle.job_run.proofs.Running.{HaveAccepted, left_before, lowering_runs, most_before, reading_runs, rose_before}
 use Rattle.thread_run.specs.Counts.{RaisedBetween, feeds, repeated}
-use Rattle.thread_run.specs.Ends.{Cause, Created, Looked, Opened, Prints, RunsByThreads, Saves, lines_of, openings}
+use Rattle.thread_run.specs.Ends.{Cause, Created, Looked, Opened, Prints, PrintsRun, RunsByThreads, Saves, lines_of, openings}
+use Rattle.thread_run.specs.Reports.{IsReportBy, IsToldRun, label}
 use Rattle.thread_run.specs.Serving.{ServesAll, ServesFiles, ServesPart}
 
 -- ## Counts
@@ -46,7 +50,7 @@ between xs ys old mid new all more = record {
 
 -- an end at which a run leaves what any other leaves, with the inputs opened at most once
 ran : (p : Plan) (w : RunWords) (old new : View) (end : Ended) → RunsPlan p old new end → new.files.held ≡ old.files.held → new.files.created ≡ old.files.created → Cause p old new end → Saves p old.files new.files end →
-    Opened p.inputs (openings p w) old.files.opened new.files.opened end → Created (names_saved p) old.files.created new.files.created end → Prints p old new end → RunsByThreads p w old new end
+    Opened p.inputs (openings p w) old.files.opened new.files.opened end → Created (names_saved p) old.files.created new.files.created end → Prints p w old new end → RunsByThreads p w old new end
 ran p w old new end r held made cause saves opened created prints = record {
   cause = cause;
   saves = saves;
@@ -120,7 +124,7 @@ follows-out p w old saved new only f =
     }
 
 ends : (p : Plan) (w : RunWords) (old new : View) (end : Ended) → Follows p w old new → Cause p old new end → Saves p old.files new.files end → Opened p.inputs (openings p w) old.files.opened new.files.opened end →
-    Created (names_saved p) old.files.created new.files.created end → Prints p old new end → RunsByThreads p w old new end
+    Created (names_saved p) old.files.created new.files.created end → Prints p w old new end → RunsByThreads p w old new end
 ends p w old new end f cause saves opened created prints = record {
   cause = cause;
   saves = saves;
@@ -200,26 +204,39 @@ module _ (p : Plan) (w : RunWords) (old mid : View) (files : List Content) (head
     created-all : saved.files.created ≡ raised_by (names_saved p) old.files.created
     created-all = all.created ∙ ap (raised_by (names_saved p)) a.opens.created
 
-    pub done-ends : (new : View) (text : List ℕ) → OnlyOut saved new → text ≡ lines_of p → new.out ≡ followed_by saved.out text → RunsByThreads p w old new Done
-    done-ends new text only lines printed =
-        let S : Files → Type 0 = λ x. AreSaved p old.files x in
-        let g = follows-out p w old saved new only (follows saved f) in
-        ends p w old new Done g (a.small, has-values all.values) (subst S (sym only.files) (are-saved saved.files all.whole)) g.opened (ap (λ (x : Files). x.created) only.files ∙ created-all)
-        (printed ∙ (ap (λ out. followed_by out text) (f.out ∙ a.only.out) ∙ ap (followed_by old.out) lines))
+    -- what is said of a report
+    abbrev Reported : Report → Type 0
+    Reported r = IsReportBy (label told (named_told files heads) (tasks_of p)) (shape_of (tasks_of p)) w (wanted_of p) r
 
-    pub unprinted-ends : (new : View) (text : List ℕ) → OnlyOut saved new → text ≡ lines_of p → PrintsPart saved.out new.out text → Rose saved.print_faults new.print_faults → RunsByThreads p w old new WriteFault
-    unprinted-ends new text only lines printed rose =
-        let g = follows-out p w old saved new only (follows saved f) in
-        let S : Files → Type 0 = λ x. AreSaved p old.files x in
-        let R : Files → Type 0 = λ x. AreRight p old.files x in
-        let O : Option (List ℕ) → Type 0 = λ o. PrintsPart o new.out (lines_of p) in
-        let T : List ℕ → Type 0 = λ t. PrintsPart saved.out new.out t in
-        let risen : Rose old.print_faults new.print_faults = rose_before old.print_faults saved.print_faults new.print_faults (omega (arith, f.print_faults, a.only.print_faults)) rose in
-        let created : new.files.created ≡ raised_by (names_saved p) old.files.created = ap (λ (x : Files). x.created) only.files ∙ created-all in
-        let stops : StopsPrinting p old new (lines_of p) = record {
-          saved = subst S (sym only.files) (are-saved saved.files all.whole);
-          created = created;
-          fault = risen;
-          front = subst O (f.out ∙ a.only.out) (subst T lines printed);
-        } in
-        ends p w old new WriteFault g (a.small, has-values all.values, inr risen) (subst R (sym only.files) (are-right saved.files all.left)) g.opened (raised_at_most (names_saved p) old.files.created new.files.created created) (inr stops)
+    -- these are its lines, with the report of the run where one is asked for
+    module _ (report : Option Report) (asked : is_some report ≡ w.report) (by : IfSome report Reported) where
+      of-run : (r : Option Report) → IfSome r Reported → IfSome r (IsToldRun p w old.files)
+      of-run None given = tt
+      of-run (Some r) given = record { named = named_told files heads; told = told; told_is = is; held = on-inputs (λ n. n ≡ named_told files heads) told is (λ t. refl); run = given }
+
+      prints-run : (Printed : List ℕ → Type 0) → Printed (lines_of p report) → PrintsRun p w old.files Printed
+      prints-run Printed printed = record { told = report; asked = asked; of_run = of-run report by; printed = printed }
+
+      pub done-ends : (new : View) (text : List ℕ) → OnlyOut saved new → text ≡ lines_of p report → new.out ≡ followed_by saved.out text → RunsByThreads p w old new Done
+      done-ends new text only lines printed =
+          let S : Files → Type 0 = λ x. AreSaved p old.files x in
+          let g = follows-out p w old saved new only (follows saved f) in
+          ends p w old new Done g (a.small, has-values all.values) (subst S (sym only.files) (are-saved saved.files all.whole)) g.opened (ap (λ (x : Files). x.created) only.files ∙ created-all)
+          (prints-run (λ shown. new.out ≡ followed_by old.out shown) (printed ∙ (ap (λ out. followed_by out text) (f.out ∙ a.only.out) ∙ ap (followed_by old.out) lines)))
+
+      pub unprinted-ends : (new : View) (text : List ℕ) → OnlyOut saved new → text ≡ lines_of p report → PrintsPart saved.out new.out text → Rose saved.print_faults new.print_faults → RunsByThreads p w old new WriteFault
+      unprinted-ends new text only lines printed rose =
+          let g = follows-out p w old saved new only (follows saved f) in
+          let S : Files → Type 0 = λ x. AreSaved p old.files x in
+          let R : Files → Type 0 = λ x. AreRight p old.files x in
+          let O : Option (List ℕ) → Type 0 = λ o. PrintsPart o new.out (lines_of p report) in
+          let T : List ℕ → Type 0 = λ t. PrintsPart saved.out new.out t in
+          let risen : Rose old.print_faults new.print_faults = rose_before old.print_faults saved.print_faults new.print_faults (omega (arith, f.print_faults, a.only.print_faults)) rose in
+          let created : new.files.created ≡ raised_by (names_saved p) old.files.created = ap (λ (x : Files). x.created) only.files ∙ created-all in
+          let stops : StopsPrinting p old new (lines_of p report) = record {
+            saved = subst S (sym only.files) (are-saved saved.files all.whole);
+            created = created;
+            fault = risen;
+            front = subst O (f.out ∙ a.only.out) (subst T lines printed);
+          } in
+          ends p w old new WriteFault g (a.small, has-values all.values, inr risen) (subst R (sym only.files) (are-right saved.files all.left)) g.opened (raised_at_most (names_saved p) old.files.created new.files.created created) (inr (prints-run (StopsPrinting p old new) stops))

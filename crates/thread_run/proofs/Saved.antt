@@ -27,14 +27,11 @@ use Rattle.job_run.proofs.Evaluated.{file_saved}
 use Rattle.job_run.proofs.Reached.{each, member}
 use Rattle.job_run.proofs.SavedBlocks.{has-saves, is-got}
 use Rattle.job_run.proofs.SavedKeys.{each-joined, meets-none, saved-small, valued}
+use Rattle.thread_run.specs.Reports.{label}
 use Rattle.thread_run.specs.Serving.{ServesAll, ServesPart}
 use Rattle.thread_run.specs.Tables.{AreFit, IsThere, got_in}
 
 -- ## The label of a run
-
--- what the label says where the inputs hold these elements
-abbrev pub label : Bool → Named → List Task → LabelFacts Array
-label told named tasks = label_of told None (shape_of tasks) (operation named tasks) (λ k. result_shape (task_at tasks k).spec) (λ b. b.shape)
 
 -- what is said of a run of blocks, whose job is picked or isn't
 abbrev pub facts_of : {J : Type 0} → Option J → (J → Job) → Named → Bool → LabelFacts Array

@@ -1,12 +1,13 @@
 -- What a run of a graph leaves: its feeds opened and given back, and then its client's blocks saved.
-use Rattle.std.proofs.Common.{◌≡◌, ℕ, ◌≤◌, Bool, List, refl, ap, sym, ◌∙◌, subst, arith, Option, Some, None, Result, Ok, Err, inl}
-use Rattle.std.specs.Prelude.{Contains, IfErr, IsTrue}
+use Rattle.std.proofs.Common.{◌≡◌, ℕ, ◌≤◌, Bool, List, refl, ap, sym, ◌∙◌, subst, arith, Option, Some, None, Result, Ok, Err, inl, inr}
+use Rattle.std.specs.Prelude.{◌⊎◌, Contains, IfErr, IfOk, IfSome, IsTrue}
 use Rattle.io_edge.specs.Cause.{Rose}
 use Rattle.io_edge.proofs.GivenLaws.{more_same, more_then}
 use Rattle.io_edge.specs.View.{View, Files, OnlyReads, raised_by}
 use Rattle.nd_shape.specs.Block.{Array}
 use Rattle.cluster_msgs.specs.Labels.{BlameFits, LabelFacts}
 use Rattle.cluster_msgs.specs.Shape.{Shape}
+use Rattle.cluster_msgs.specs.declared.events.Report.{Report}
 use Rattle.node_states.specs.declared.why.Why.{Why}
 use Rattle.node_runner.specs.Runs.{HowItEnded}
 use Rattle.node_runner.specs.declared.ends.Histories.{Histories}
@@ -25,7 +26,7 @@ use Rattle.job_run.proofs.SavedKeys.{is-faulty}
 use Rattle.thread_run.specs.Feeding.{OpensOften}
 use Rattle.thread_run.specs.Serving.{IsWhy, SavesFiles, ServesAll, ServesFiles, ServesPart, Stops}
 use Rattle.thread_run.proofs.Openings.{opens-back}
-use Rattle.thread_run.proofs.Saved.{label}
+use Rattle.thread_run.specs.Reports.{IsReportOf, IsReportOfRun, IsServedRun, entries_of, label}
 
 -- ## Faults
 
@@ -44,6 +45,36 @@ why-of l graph p wanted Failed reads (Ok blocks) left (Some h) f how = tt
 why-of l graph p wanted Failed reads (Err (status.Zero key)) left (Some h) f how = how.1.cause
 why-of l graph p wanted Failed reads (Err status.Read) left (Some h) f how = f how.1.cause.1
 why-of l graph p wanted Failed reads (Err status.Memory) left (Some h) f how = tt
+
+-- the histories of a run that gave blocks
+pub served-run : {A : Type 0} (l : LabelFacts Array) (graph : Shape) (p : RunPlan) (wanted : List ℕ) (Failed : Type 0) (result : Result A RunStatus) (left : List (Option Why)) (h : Option Histories) (blocks : A) (told : Histories) →
+    result ≡ Ok blocks → h ≡ Some told → HowItEnded l graph p wanted Failed result left h → IsServedRun l graph p wanted told
+served-run {A} l graph p wanted Failed result left h blocks told gave are how =
+    let H : Result A RunStatus × Option Histories → Type 0 = λ x. HowItEnded l graph p wanted Failed x.0 left x.1 in
+    let run = subst H (λ i. (gave i, are i)) how in
+    record { last = run.0; are = run.1.histories; got = run.1.got }
+
+-- the report of such a run, told of its plan
+pub told-of-run : (l m : LabelFacts Array) (g h : Shape) (plan : RunPlan) (keys wanted : List ℕ) (hs : Histories) (o : Option Report) → l ≡ m → g ≡ h → keys ≡ wanted → IsServedRun l g plan keys hs → IfSome o (IsReportOf g (entries_of hs)) →
+    IfSome o (IsReportOfRun m h plan wanted)
+told-of-run l m g h plan keys wanted hs None same over all run report = tt
+told-of-run l m g h plan keys wanted hs (Some r) same over all run report =
+    let R : LabelFacts Array × Shape × List ℕ → Type 0 = λ x. IsReportOfRun x.0 x.1 plan x.2 r in
+    subst R (λ i. (same i, over i, all i)) (record { histories = hs; run = run; report = report })
+
+-- where what a run gave and its histories are both there
+pub both-ok : {A H E : Type 0} (r : Result A E) (h : Option H) (s : Result (A × H) E) (P : A → Type 0) → IfOk r P → IfOk s (λ x. (r ≡ Ok x.0) × (h ≡ Some x.1)) → IfOk s (λ x. P x.0)
+both-ok r h (Ok x) P p is = subst (λ z. IfOk z P) is.0 p
+both-ok r h (Err e) P p is = tt
+
+pub both-served : {A : Type 0} (l : LabelFacts Array) (graph : Shape) (p : RunPlan) (wanted : List ℕ) (Failed : Type 0) (r : Result A RunStatus) (left : List (Option Why)) (h : Option Histories) (s : Result (A × Histories) RunStatus) →
+    HowItEnded l graph p wanted Failed r left h → IfOk s (λ x. (r ≡ Ok x.0) × (h ≡ Some x.1)) → IfOk s (λ x. IsServedRun l graph p wanted x.1)
+both-served l graph p wanted Failed r left h (Ok x) how is = served-run l graph p wanted Failed r left h x.0 x.1 is.0 is.1 how
+both-served l graph p wanted Failed r left h (Err e) how is = tt
+
+pub why-told : {A C : Type 0} (r : Result A RunStatus) (s : Result C RunStatus) (P : RunStatus → Type 0) → P status.Memory → IfErr r P → IfErr s (λ e. (r ≡ Err e) ⊎ (e ≡ status.Memory)) → IfErr s P
+why-told r (Ok x) P memory h why = tt
+why-told r (Err e) P memory h why = elim why [ inl is ↦ subst (λ z. IfErr z P) is h | inr is ↦ subst P (sym is) memory ]
 
 -- ## The files
 

@@ -1,18 +1,21 @@
 -- How a run of a job by threads ends, why it ends so, and what it leaves.
-use Rattle.std.specs.Prelude.{◌≡◌, ◌⊎◌, ◌++◌, ℕ, List, codes}
+use Rattle.std.specs.Prelude.{◌≡◌, ◌⊎◌, ◌++◌, ℕ, List, [], codes, Option, None, Some, is_some, IfSome}
 use Rattle.io_edge.specs.Cause.{Rose}
 use Rattle.io_edge.specs.Content.{followed_by}
 use Rattle.io_edge.specs.Given.{GivesMore}
 use Rattle.io_edge.specs.View.{View, Files}
+use Rattle.cluster_msgs.specs.declared.events.Report.{Report}
+use Rattle.run_report.specs.Text.{report_text}
 use Rattle.command_words.specs.declared.run.RunWords.{RunWords}
 use Rattle.job_run.specs.declared.ends.Ended.{Ended}
 use Rattle.job_run.specs.declared.ends.Ended.TheVariants.{Done, Limit, File, Zero, ReadFault, WriteFault}
 use Rattle.job_run.specs.Inputs.{InputsFit}
 use Rattle.job_run.specs.Part.{IsNoneOf, RaisedAtMost}
 use Rattle.job_run.specs.Plan.{Plan, names_saved}
-use Rattle.job_run.specs.Runs.{AreUntouched, HasFault, HasValues, IsSmall, Cause as RunCause, Saves as RunSaves, Created as RunCreated, PrintsFront}
+use Rattle.job_run.specs.Runs.{AreUntouched, HasFault, HasValues, IsSmall, Cause as RunCause, Saves as RunSaves, Created as RunCreated, StopsPrinting}
 use Rattle.job_run.specs.Values.{saved_lines}
 use Rattle.thread_run.specs.Counts.{RaisedBetween, feeds, repeated}
+use Rattle.thread_run.specs.Reports.{IsToldRun}
 
 -- Why a run ends so. A zero divisor is met by some needed block: not always the first. Files are created only where all values are there.
 abbrev pub Cause : Plan → View → View → Ended → Type 0
@@ -46,14 +49,26 @@ Created names old new (Zero node block) = new ≡ old
 Created names old new ReadFault = new ≡ old
 Created names old new end = RunCreated names old new end
 
--- the lines on standard output
-abbrev pub lines_of : Plan → List ℕ
-lines_of p = saved_lines p.nodes p.saves ++ codes "finished by: cluster\n"
+-- what is printed of a report
+abbrev pub told_text : Option Report → List ℕ
+told_text None = []
+told_text (Some r) = report_text r
 
-abbrev pub Prints : Plan → View → View → Ended → Type 0
-Prints p old new Done = new.out ≡ followed_by old.out (lines_of p)
-Prints p old new WriteFault = PrintsFront p old new (lines_of p)
-Prints p old new end = new.out ≡ old.out
+-- the lines on standard output: of each saved file, of the report where there is one, and the last
+abbrev pub lines_of : Plan → Option Report → List ℕ
+lines_of p told = saved_lines p.nodes p.saves ++ told_text told ++ codes "finished by: cluster\n"
+
+-- the lines of a run in which the client got all: with its report where the words ask for it
+pub record PrintsRun (p : Plan) (w : RunWords) (files : Files) (Printed : List ℕ → Type 0) : Type 0 where
+  pub told : Option Report
+  pub asked : is_some told ≡ w.report
+  pub of_run : IfSome told (IsToldRun p w files)
+  pub printed : Printed (lines_of p told)
+
+abbrev pub Prints : Plan → RunWords → View → View → Ended → Type 0
+Prints p w old new Done = PrintsRun p w old.files (λ lines. new.out ≡ followed_by old.out lines)
+Prints p w old new WriteFault = (new.out ≡ old.out) ⊎ PrintsRun p w old.files (StopsPrinting p old new)
+Prints p w old new end = new.out ≡ old.out
 
 -- each name was opened between so often and so often, the inputs are as declared, and no limit is passed
 pub record IsAccepted (p : Plan) (names all : List (List ℕ)) (old new : Files) : Type 0 where
@@ -74,7 +89,7 @@ pub record RunsByThreads (p : Plan) (w : RunWords) (old new : View) (end : Ended
   pub tells : new.files.tells ≡ old.files.tells
   pub opened : Opened p.inputs (openings p w) old.files.opened new.files.opened end
   pub created : Created (names_saved p) old.files.created new.files.created end
-  pub prints : Prints p old new end
+  pub prints : Prints p w old new end
   pub gave : GivesMore old.gave new.gave
   pub err : new.err ≡ old.err
   pub note_faults : new.note_faults ≡ old.note_faults

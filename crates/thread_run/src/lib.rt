@@ -13,6 +13,7 @@ mod name;
 mod run;
 mod serving;
 mod table;
+mod told;
 mod veil;
 
 pub use run::run_by_threads;

@@ -1,18 +1,31 @@
 //! The lines that are printed after a run.
-ghost use Rattle.std.specs.Prelude.{◌≡◌, IfOk, string_bytes};
+ghost use Rattle.std.specs.Prelude.{◌≡◌, ◌++◌, IfOk, OnOk, string_bytes};
 ghost use Rattle.job_run.specs.Jobs.{plan_of};
 ghost use Rattle.job_run.specs.Plan.{IsRunnable};
-ghost use Rattle.thread_run.specs.Ends.{lines_of};
+ghost use Rattle.thread_run.specs.Ends.{lines_of, told_text};
 
+use cluster_msgs::Report;
 use job_run::{Job, saved_lines};
+use run_report::push_report;
 use std::alloc::{AllocError, Global};
 
-/// The lines of a job that was run and saved.
-pub fn lines(alloc: Global, job: &Job) -> Result<String, AllocError>
+// Appends a report, where there is one.
+fn push_told(alloc: Global, text: &mut String, told: &Option<Report>) -> Result<(), AllocError>
+    ensures { OnOk result (string_bytes text.new ≡ string_bytes text.old ++ told_text told.now) }
+{
+    match told {
+        Some(report) => push_report(alloc, text, report),
+        None => Ok(()),
+    }
+}
+
+/// The lines of a job that was run and saved, with this report of the run.
+pub fn lines(alloc: Global, job: &Job, told: &Option<Report>) -> Result<String, AllocError>
     requires { IsRunnable (plan_of job.now) }
-    ensures { IfOk result (λ t. string_bytes t ≡ lines_of (plan_of job.now)) }
+    ensures { IfOk result (λ t. string_bytes t ≡ lines_of (plan_of job.now) told.now) }
 {
     let mut text = saved_lines(alloc, job)?;
+    push_told(alloc, &mut text, told)?;
     text.push_str("finished by: cluster\n")?;
     Ok(text)
 }

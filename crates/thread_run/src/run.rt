@@ -16,7 +16,7 @@ use std::thread::Threads;
 
 /// Runs a job by a cluster of threads: lowers it to a graph of block tasks, opens its inputs by one call and reads their heads,
 /// opens them again for each thread of each worker, runs the graph until the client has all saved blocks, saves these, and prints a
-/// line for each saved file and a last one.
+/// line for each saved file, the report of the run where the words ask for it, and a last one.
 ///
 /// `RunsByThreads` says for each end why it comes and what it leaves, whatever the threads do: the files, byte for byte, how often
 /// each name was opened and created, and the lines. No file is opened where the graph would pass a limit, none is touched unless the
@@ -45,11 +45,13 @@ where
         Ok(inputs) => inputs,
         Err(end) => return end,
     };
-    match serve::<R, S, G, Brand, Brand>(rt, alloc, site, gate, job, lowered, inputs, words) {
-        Ok(()) => {}
+    let told = match serve::<R, S, G, Brand, Brand>(
+        rt, alloc, site, gate, job, lowered, inputs, words,
+    ) {
+        Ok(told) => told,
         Err(end) => return end,
-    }
-    let Ok(text) = lines(alloc, job) else {
+    };
+    let Ok(text) = lines(alloc, job, &told) else {
         return Ended::OutOfMemory;
     };
     match print_full(site, text.as_bytes()) {

@@ -1,5 +1,5 @@
 //! The run of a job's graph by the cluster, over its open inputs.
-ghost use Rattle.std.specs.Prelude.{◌≡◌, ◌≤◌, ◌<◌, ◌*◌, length, map, string_bytes, IfOk, IfErr, IsTrue, OnOk, Some};
+ghost use Rattle.std.specs.Prelude.{◌≡◌, ◌≤◌, ◌<◌, ◌*◌, ◌⊎◌, Ok, Err, length, map, string_bytes, is_some, IfOk, IfErr, IfSome, IsTrue, OnOk, Some};
 ghost use Rattle.io_edge.specs.Cause.{Rose};
 ghost use Rattle.command_words.specs.Words.{AreRunSettings};
 ghost use Rattle.job_run.specs.Jobs.{plan_of};
@@ -7,26 +7,31 @@ ghost use Rattle.job_run.specs.Loading.{AreHeads};
 ghost use Rattle.job_run.specs.Lowering.{IsGraphOf};
 ghost use Rattle.job_run.specs.Plan.{IsRunnable, input_shapes};
 ghost use Rattle.job_run.specs.Values.{tasks_of};
-ghost use Rattle.job_run.specs.Wanted.{IsWantedOf};
+ghost use Rattle.job_run.specs.Wanted.{IsWantedOf, wanted_of};
+ghost use Rattle.block_lowering.specs.Jobs.{graph_of};
 ghost use Rattle.node_runner.specs.Runs.{numbers as numbers_of};
+ghost use Rattle.node_runner.specs.declared.ends.RunStatus.TheVariants as status;
+ghost use Rattle.task_graph.specs.Graphs.{shape_of};
 ghost use Rattle.thread_run.specs.Counts.{feeds as feeds_of};
 ghost use Rattle.thread_run.specs.Feeding.{IsFixed, OpensOften};
 ghost use Rattle.thread_run.specs.Planning.{IsRunPlan};
+ghost use Rattle.thread_run.specs.Reports.{IsPlanOf, IsReportBy, IsReportOfRun, IsServedRun, label};
 ghost use Rattle.thread_run.specs.Serving.{IsWhy, SavesFiles, ServesAll, ServesFiles, ServesPart};
 
 use crate::feeds::{Graphed, give_feeds, open_feeds};
 use crate::name::{Named, Picks};
 use crate::table::table_of;
+use crate::told::told;
 use crate::veil::Veil;
 use block_lowering::{Elements, JobGraph, Lowered};
-use cluster_msgs::{JobSpec, KeyList, Label};
+use cluster_msgs::{JobSpec, KeyList, Label, Report};
 use command_words::RunWords;
 use io_edge::{Gate, OpenFault, Site};
 use job_run::{Ended, Inputs, Job, Wanted, ended_at, joined_keys, laws_hold, save_all};
 use lowering_laws::laws::law_of_form;
 use nd_shape::Block;
 use node_links::Keyed;
-use node_runner::{Ends, RunLabel, RunPlan, RunStatus, run_cluster};
+use node_runner::{Ends, Histories, RunLabel, RunPlan, RunStatus, run_cluster};
 use std::alloc::Global;
 use std::marker::Brand;
 use std::sync::Wait;
@@ -48,7 +53,7 @@ fn run_feeds<R, S, G, E, V, P>(
     graph: &Graphed<S::In, E, V>,
     wanted: &KeyList,
     plan: &RunPlan,
-) -> Result<Vec<Keyed<Block, Marked<S::In, E, V, P>>>, RunStatus>
+) -> Result<(Vec<Keyed<Block, Marked<S::In, E, V, P>>>, Histories), RunStatus>
 where
     R: Threads + Wait + Sync,
     S: Site,
@@ -60,7 +65,9 @@ where
     requires fixed { IsFixed E.named V.told (map string_bytes names.now) graph.now.job.heads (S.view site.old).files }
     requires plan { IsRunPlan plan.now }
     ensures opens { OpensOften (map string_bytes names.now) (numbers_of plan.now * plan.now.threads) (S.view site.old) (S.view site.new) }
-    ensures blocks { IfOk result (λ blocks. map (λ q. q.key) blocks.items ≡ wanted.now) }
+    ensures blocks { IfOk result (λ r. map (λ q. q.key) r.0.items ≡ wanted.now) }
+    ensures histories { IfOk result (λ r. IsServedRun ⟦<RunLabel<Graphed<S::In, E, V>, Named<V, P>> as Label>⟧.facts
+        (graph_of graph.now.job) plan.now wanted.now r.1) }
     ensures why { IfErr result (IsWhy ⟦<RunLabel<Graphed<S::In, E, V>, Named<V, P>> as Label>⟧.facts wanted.now
         (Rose (S.view site.old).read_faults (S.view site.new).read_faults)) }
 {
@@ -71,9 +78,29 @@ where
     let ends = run_cluster::<R, Graphed<S::In, E, V>, G, Named<V, P>>(
         rt, alloc, graph, gate, plan, wanted, feeds,
     );
-    let Ends { result, feeds, .. } = ends;
+    let Ends {
+        result,
+        histories,
+        feeds,
+        ..
+    } = ends;
     give_feeds::<S, E, V, P>(site, feeds);
-    result
+    with_histories(result, histories)
+}
+
+// What a run gave, with its histories, where both are there.
+fn with_histories<T: Drop>(
+    given: Result<T, RunStatus>,
+    histories: Option<Histories>,
+) -> Result<(T, Histories), RunStatus>
+    ensures both { IfOk result (λ r. (given ≡ Ok r.0) × (histories ≡ Some r.1)) }
+    ensures why { IfErr result (λ s. (given ≡ Err s) ⊎ (s ≡ status.Memory)) }
+{
+    match (given, histories) {
+        (Ok(blocks), Some(histories)) => Ok((blocks, histories)),
+        (Ok(_), None) => Err(RunStatus::Memory),
+        (Err(status), _) => Err(status),
+    }
 }
 
 // Saves the blocks of all wanted keys.
@@ -127,7 +154,8 @@ fn run_graph<R, S, G, E, V, P>(
     graph: &Graphed<S::In, E, V>,
     wanted: &Wanted,
     plan: &RunPlan,
-) -> Result<(), Ended>
+    asked: bool,
+) -> Result<Option<Report>, Ended>
 where
     R: Threads + Wait + Sync,
     S: Site,
@@ -143,6 +171,9 @@ where
     requires plan { IsRunPlan plan.now }
     ensures files { ServesFiles (plan_of job.now) (numbers_of plan.now * plan.now.threads) (S.view site.old) (S.view site.new) }
     ensures served { OnOk result (ServesAll (plan_of job.now) E.named (IsTrue V.told) (S.view site.old).files (S.view site.new).files) }
+    ensures asked { IfOk result (λ told. is_some told ≡ asked) }
+    ensures told { IfOk result (λ told. IfSome told (IsReportOfRun (label V.told E.named (tasks_of (plan_of job.now)))
+        (shape_of (tasks_of (plan_of job.now))) plan.now (wanted_of (plan_of job.now)))) }
     ensures stopped { IfErr result (ServesPart (plan_of job.now) E.named (IsTrue V.told)
         (Rose (S.view site.old).read_faults (S.view site.new).read_faults) (Rose (S.view site.old).write_faults (S.view site.new).write_faults)
         (S.view site.old).files (S.view site.new).files) }
@@ -150,15 +181,23 @@ where
     laws_hold(job);
     let names = job.inputs.as_slice();
     match run_feeds::<R, S, G, E, V, P>(rt, alloc, site, gate, names, graph, &wanted.all, plan) {
-        Ok(blocks) => save_blocks::<S, E, V, P>(alloc, site, job, graph, wanted, blocks),
+        Ok((blocks, histories)) => {
+            match save_blocks::<S, E, V, P>(alloc, site, job, graph, wanted, blocks) {
+                Ok(()) => {
+                    let report = told(alloc, graph.shape(), histories, asked)?;
+                    Ok(report)
+                }
+                Err(end) => Err(end),
+            }
+        }
         Err(RunStatus::Zero { key }) => Err(ended_at(alloc, job, wanted, key)),
         Err(RunStatus::Read) => Err(Ended::ReadFault),
         Err(RunStatus::Memory) => Err(Ended::OutOfMemory),
     }
 }
 
-/// Runs a job's graph by the cluster over its open inputs, and saves what the client got. Where the client didn't get all, no file
-/// is created.
+/// Runs a job's graph by the cluster over its open inputs, saves what the client got, and makes the report of the run where the words
+/// ask for it. Where the client didn't get all, no file is created.
 ///
 /// # Errors
 /// How the run ends: a zero divisor that the client was told of, a fault, or want of memory.
@@ -171,7 +210,7 @@ pub fn serve<R, S, G, E, V>(
     lowered: Lowered,
     inputs: Inputs<S::In>,
     words: RunWords,
-) -> Result<(), Ended>
+) -> Result<Option<Report>, Ended>
 where
     R: Threads + Wait + Sync,
     S: Site,
@@ -187,6 +226,9 @@ where
     requires words { AreRunSettings words }
     ensures files { ServesFiles (plan_of job.now) (feeds_of words) (S.view site.old) (S.view site.new) }
     ensures served { OnOk result (ServesAll (plan_of job.now) E.named (IsTrue V.told) (S.view site.old).files (S.view site.new).files) }
+    ensures asked { IfOk result (λ told. is_some told ≡ words.report) }
+    ensures told { IfOk result (λ told. IfSome told (IsReportBy (label V.told E.named (tasks_of (plan_of job.now)))
+        (shape_of (tasks_of (plan_of job.now))) words (wanted_of (plan_of job.now)))) }
     ensures stopped { IfErr result (ServesPart (plan_of job.now) E.named (IsTrue V.told)
         (Rose (S.view site.old).read_faults (S.view site.new).read_faults) (Rose (S.view site.old).write_faults (S.view site.new).write_faults)
         (S.view site.old).files (S.view site.new).files) }
@@ -211,17 +253,24 @@ where
         blocks,
     };
     let graph = JobGraph::new(alloc, graph, heads)?;
+    let asked = words.report;
     let plan = plan_in(words);
-    run_graph::<R, S, G, E, V, Brand>(rt, alloc, site, gate, job, &graph, &wanted, &plan)
+    run_graph::<R, S, G, E, V, Brand>(rt, alloc, site, gate, job, &graph, &wanted, &plan, asked)
 }
 
 // What a run by these words is to be like.
 fn plan_in(words: RunWords) -> RunPlan
     requires { AreRunSettings words }
     ensures plan { IsRunPlan result }
+    ensures same { IsPlanOf words result }
     ensures feeds { numbers_of result * result.threads ≡ feeds_of words }
 {
-    let RunWords { settings, script } = words;
+    let RunWords {
+        job: _,
+        settings,
+        script,
+        report: _,
+    } = words;
     RunPlan {
         workers: settings.workers,
         threads: settings.threads,

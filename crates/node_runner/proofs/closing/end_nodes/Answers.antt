@@ -5,8 +5,8 @@ use Rattle.gather_client.specs.CoreState.{client_facts}
 use Rattle.scheduler_core.specs.Cores.{facts}
 use Rattle.turn_cell.specs.Rows.{AllBy}
 use Rattle.worker_core.specs.Core.{facts as worker_facts}
-use Rattle.node_runner.specs.Runs.{IsBlamed, IfStatus, IsLeft, IsTakenFrom}
-use Rattle.node_runner.proofs.Ending.{has_run, if_told}
+use Rattle.node_runner.specs.Runs.{HasGot, IsBlamed, IfStatus, IsLeft, IsTakenFrom}
+use Rattle.node_runner.proofs.Ending.{given_there, has_run, if_told}
 use Rattle.node_runner.proofs.closing.end_nodes.Goals as goal
 
 pub returns-clause-ended : goal.returns-clause-ended
@@ -26,6 +26,8 @@ returns-clause-ended g c =
     c.scheduler_history-scheduler.ensures.in_time
     (subst (λ ws. AllBy (λ k w o. IfSome o (IsLeft p (facts b.core.core) (k + 1) w.history.book.entries w.history.book.cut)) ws es.left.items) c.as_slice-3.ensures.value
     (subst (λ r. IfOk r (λ left. AllBy (λ k w o. IfSome o (IsLeft p (facts b.core.core) (k + 1) w.history.book.entries w.history.book.cut)) c.as_slice-3.result.now left.items)) t.3 c.all_left-left.ensures))
+    (subst (λ z. IfOk z (λ x. HasGot (client_facts c.args.client.book.core.core) c.args.wanted.now)) (sym e.1)
+    (given_there (HasGot (client_facts c.args.client.book.core.core) c.args.wanted.now) c.got-blocks.result c.result.result (rw c.as_slice.ensures at c.got-blocks.ensures.got) c.result.ensures.blocks))
     (subst (IfStatus (IsBlamed c.first_blame-blame.result)) (sym e.1) c.result.ensures.cause)
     (subst (λ ks. IfSome c.first_blame-blame.result (λ blame. (k : ℕ) × Contains ks k × BlameFits g.L.Label.facts k blame)) c.as_slice-2.ensures c.first_blame-blame.ensures))
 

@@ -90,8 +90,9 @@ returns-in-Ok-print_full g c =
     } in
     let told : Bool = is_some (told_all mid.files.held p.inputs) in
     let is : told ≡ is_some (told_all old.files.held p.inputs) = ap (λ h. is_some (told_all h p.inputs)) e.opens.held in
-    done-ends p c.args.words old mid files heads a told is (g.S.Site.view c.serve.new.site) c.serve.ensures.files c.in-Ok-serve.ensures.served (g.S.Site.view c.print_full.new.site) c.as_bytes.result.now c.print_full.ensures.only
-    (◌∙◌ {c = lines_of p} c.as_bytes.ensures.value c.in-Ok-lines.ensures) c.in-Ok-print_full.ensures.printed
+    done-ends p c.args.words old mid files heads a told is (g.S.Site.view c.serve.new.site) c.serve.ensures.files c.in-Ok-serve.ensures.served
+    c.in-Ok-serve.told c.in-Ok-serve.ensures.asked c.in-Ok-serve.ensures.told (g.S.Site.view c.print_full.new.site) c.as_bytes.result.now c.print_full.ensures.only
+    (◌∙◌ {c = lines_of p c.in-Ok-serve.told} c.as_bytes.ensures.value c.in-Ok-lines.ensures) c.in-Ok-print_full.ensures.printed
 
 pub returns : goal.returns
 returns g c =
@@ -113,5 +114,6 @@ returns g c =
     } in
     let told : Bool = is_some (told_all mid.files.held p.inputs) in
     let is : told ≡ is_some (told_all old.files.held p.inputs) = ap (λ h. is_some (told_all h p.inputs)) e.opens.held in
-    unprinted-ends p c.args.words old mid files heads a told is (g.S.Site.view c.serve.new.site) c.serve.ensures.files c.in-Ok-serve.ensures.served (g.S.Site.view c.print_full.new.site) c.as_bytes.result.now c.print_full.ensures.only
-    (◌∙◌ {c = lines_of p} c.as_bytes.ensures.value c.in-Ok-lines.ensures) c.in-Err-print_full.ensures.part c.in-Err-print_full.ensures.cause.failed
+    unprinted-ends p c.args.words old mid files heads a told is (g.S.Site.view c.serve.new.site) c.serve.ensures.files c.in-Ok-serve.ensures.served
+    c.in-Ok-serve.told c.in-Ok-serve.ensures.asked c.in-Ok-serve.ensures.told (g.S.Site.view c.print_full.new.site) c.as_bytes.result.now c.print_full.ensures.only
+    (◌∙◌ {c = lines_of p c.in-Ok-serve.told} c.as_bytes.ensures.value c.in-Ok-lines.ensures) c.in-Err-print_full.ensures.part c.in-Err-print_full.ensures.cause.failed

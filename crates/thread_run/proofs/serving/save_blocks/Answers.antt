@@ -9,7 +9,8 @@ use Rattle.job_run.specs.Plan.{Plan}
 use Rattle.job_run.specs.Values.{Named, tasks_of}
 use Rattle.job_run.specs.Wanted.{wanted_of}
 use Rattle.thread_run.specs.Tables.{AreFit, got_in}
-use Rattle.thread_run.proofs.Saved.{all-saves, all-wanted, facts-are, label, serves-all, small-keys, writes-starved, writes-stopped}
+use Rattle.thread_run.specs.Reports.{label}
+use Rattle.thread_run.proofs.Saved.{all-saves, all-wanted, facts-are, serves-all, small-keys, writes-starved, writes-stopped}
 use Rattle.thread_run.proofs.serving.save_blocks.Given.{Over}
 use Rattle.thread_run.proofs.serving.save_blocks.Goals as goal
 use Rattle.thread_run.proofs.serving.save_blocks.Goals.{After-as_slice-2}

@@ -1,0 +1,101 @@
+#!/usr/bin/env python3
+"""Runs random jobs by a cluster of threads with random words, and compares each with the evaluation in the calling thread.
+
+    tools/random_runs.py PROGRAM [COUNT [SEED]]
+
+Each job is evaluated by `plain`, and run by `run` with random workers, threads, saturation and a script of losses, suspicions
+and joins. Status, lines but the last, and saved bytes have to be equal. Where a divisor is 0, another block may be named, and a
+run leaves no file. A run that takes a minute counts as one that hangs. It prints a line for each difference, and the numbers of runs that
+are equal and that differ.
+"""
+import concurrent.futures
+import os
+import random
+import subprocess
+import sys
+import tempfile
+
+from random_jobs import write_random
+
+SECONDS = 60
+
+
+def script(draw, workers, threads):
+    """Items that can be followed: at least one worker stays, and no more than 64 threads are there."""
+    there, last, at, items = list(range(1, workers + 1)), workers, 0, []
+    for _ in range(draw.randint(0, 5)):
+        at += draw.choice((0, 0, 1, 2, 5, 20))
+        kind = draw.choice(('lose', 'suspect', 'join'))
+        if kind == 'join' and (len(there) + 1) * threads <= 64:
+            last += 1
+            there.append(last)
+            items.append(f'join@{at}')
+        elif kind != 'join' and len(there) > 1:
+            worker = draw.choice(there)
+            there.remove(worker)
+            items.append(f'{kind}:{worker}@{at}')
+    return ','.join(items)
+
+
+def words(draw):
+    workers, threads = draw.randint(1, 8), draw.randint(1, 8)
+    options = ['--workers', str(workers), '--threads', str(threads)]
+    if draw.random() < 0.3:
+        options += ['--saturation', str(draw.choice((1, 5, 20, 1000)))]
+    items = script(draw, workers, threads)
+    return options + (['--script', items] if items else [])
+
+
+def answer(program, folder, command):
+    """Status, lines on both outputs, and what was saved, which is taken away."""
+    try:
+        done = subprocess.run([program, *command], cwd=folder, capture_output=True, text=True, check=False, timeout=SECONDS)
+    except subprocess.TimeoutExpired:
+        return None
+    files = {}
+    for name in sorted(os.listdir(folder)):
+        if name.endswith('.saved.npy'):
+            with open(os.path.join(folder, name), 'rb') as it:
+                files[name] = it.read()
+            os.remove(os.path.join(folder, name))
+    return done.returncode, done.stdout.splitlines()[:-1], done.stderr, files
+
+
+def is_equal(plain, run):
+    if run is None:
+        return False
+    if plain[0] == 4:
+        return run[0] == 4 and run[2].startswith('dask: zero division: node ') and not run[3]
+    return plain == run
+
+
+def one(program, seed):
+    """What differs, if something does, and the status."""
+    draw = random.Random(seed)
+    with tempfile.TemporaryDirectory() as folder:
+        text = write_random(folder, draw)
+        with open(os.path.join(folder, 'job.txt'), 'w') as it:
+            it.write(text)
+        options = words(draw)
+        plain = answer(program, folder, ['plain', 'job.txt'])
+        run = answer(program, folder, ['run', 'job.txt', *options])
+    if is_equal(plain, run):
+        return None, plain[0]
+    return f'seed {seed}: run {" ".join(options)}: {"hangs" if run is None else run[:3]}, plain {plain[:3]}\n{text}', plain[0]
+
+
+def main(program, count='1000', seed='1'):
+    program = os.path.abspath(program)
+    first = int(seed) * 1_000_000
+    with concurrent.futures.ThreadPoolExecutor(os.cpu_count()) as pool:
+        ends = list(pool.map(lambda at: one(program, at), range(first, first + int(count))))
+    differ = [text for text, _ in ends if text]
+    for text in differ:
+        print(text)
+    zero = sum(status == 4 for _, status in ends)
+    print(f'{len(ends) - len(differ)} equal, {len(differ)} differ ({zero} with a divisor of 0)')
+    return 1 if differ else 0
+
+
+if __name__ == '__main__':
+    sys.exit(main(*sys.argv[1:]))
