@@ -20,7 +20,8 @@ use std::random::RandomSource;
 use std::sync::Wait;
 use std::thread::Threads;
 
-const JOB: &str = "let a = ramp((1024, 1024), 0, 1, (512, 512))\nlet s = sum(a + a.T, axis=(0))\nsave s \"s.npy\"\n";
+const JOB: &str =
+    "let a = ramp((1024, 1024), 0, 1, (512, 512))\nlet s = sum(a + a.T, axis=(0))\nsave s \"s.npy\"\n";
 
 /// Workers and keys that are counted.
 const WORKERS: usize = 65;
@@ -64,7 +65,10 @@ fn play<R: Print + Threads + Wait + RandomSource + AllocGlobal + Sync>(
     if let Some(keys) = count_of(printed.as_str(), "keys") {
         println!(rt; "each key was started: {}", notes.has_each(keys as usize))?;
         println!(rt; "each start has its end: {}", notes.is_even())?;
-        println!(rt; "workers started what their lines say: {}", agrees(printed.as_str(), &notes, workers))?;
+        println!(rt;
+            "workers started what their lines say: {}",
+            agrees(printed.as_str(), &notes, workers)
+        )?;
     }
     println!(rt; "the file is that of plain: {}", is_plain(rt, &site)?)
 }
