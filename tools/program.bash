@@ -120,6 +120,16 @@ find_program() {
     mv "$since.new" release/.checked && rm "$since"; } 2> /dev/null || rm -f "$since" "$since.new"
 }
 
+# Sets `driver` to what this clone has built of a driver, if it is newer than the sources of the crates that it stands on.
+find_driver() { # NAME
+  local program_crate=$1 crates folders
+  local -A lines
+  driver=crates/$1/out/$1
+  read_crates
+  folders=("${crates[@]/#/crates/}")
+  [ -x "$driver" ] && [ -z "$(find "${folders[@]/%//src}" -name '*.rt' -newer "$driver" -print -quit)" ]
+}
+
 # Notes that the program of this clone was built from the sources as they stand.
 note_built() { # KIT
   note_of "$built" "$1" > "$built_note"

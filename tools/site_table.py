@@ -246,6 +246,71 @@ def lengths():
     say('open ', 'open: faults 0')
 
 
+def spills():
+    title("a worker's disk holds what was put under a key, until it is put anew or deleted")
+    say('site 64 0')
+    say('counts 1', 'counts: asked 0 puts 0')
+    say('spill 1 put 0 7 abcdef get 0 7 8 get 0 7 4 get 0 7 0 put 0 7 xy get 0 7 8 delete 0 7 delete 0 7 put 0 4294967295  get 0 4294967295 8',
+        'spill: done abcdef 6 abcd 6  6 done xy 2 done done done  0 faults 0')
+    say('counts 1', 'counts: asked 1 puts 3')
+    say('spill 1,4294967295,1 put 0 7 a put 1 7 bc put 2 7 def get 0 7 8 get 1 7 8 get 2 7 8 delete 1 7 get 0 7 8 get 2 7 8',
+        'spill: done done done a 1 bc 2 def 3 done a 1 def 3 faults 0 faults 0 faults 0')
+    say('counts 1', 'counts: asked 3 puts 5')
+    say('counts 4294967295', 'counts: asked 1 puts 1')
+    say('counts 2', 'counts: asked 0 puts 0')
+    title("the first call for a disk and of a disk fails, and no other; a disk's faults count for nobody, and no put that failed counts")
+    calls = 'spill 1 put 0 7 ab put 0 7 cd get 0 7 8 get 0 7 8 put 0 8 e delete 0 8 delete 0 8'
+    for place in ('', '@0'):
+        for kind, answer in (('put', 'the call failed done cd 2 cd 2 done done done'), ('get', 'done done the call failed cd 2 done done done'),
+                             ('delete', 'done done cd 2 cd 2 done the call failed done')):
+            say(f'site 64 0 {kind}:0{place}')
+            say(calls, f'spill: {answer} faults 1')
+            say('faults', 'faults: 0 0 0 0')
+            say('spilled', 'spilled: faults 0')
+            say('counts 1', f'counts: asked 1 puts {2 if kind == "put" else 3}')
+            say(calls, 'spill: done done cd 2 cd 2 done done done faults 0')
+            say('counts 1', f'counts: asked 2 puts {5 if kind == "put" else 6}')
+        say(f'site 64 0 spill:0{place}')
+        say('spill 1,1,2 put 0 7 ab put 1 7 cd', 'spill: the call failed done done faults 0 faults 0')
+        say('spilled', 'spilled: faults 1')
+        say('faults', 'faults: 0 0 0 0')
+        say('counts 1', 'counts: asked 2 puts 1')
+        say('counts 2', 'counts: asked 1 puts 1')
+    title('calls of disks are counted over all of them or at one')
+    for refused, puts in (('put:2', [1, 1, 0, 1]), ('put:1@0', [1, 0, 1, 1]), ('put:1@1', [1, 1, 1, 0]), ('put:2@1', [1, 1, 1, 1])):
+        say(f'site 64 0 {refused}')
+        answers = ''.join(' done' if good else ' the call failed' for good in puts)
+        say('spill 1,2 put 0 7 a put 0 8 b put 1 7 c put 1 8 d', f'spill:{answers} faults {2 - sum(puts[:2])} faults {2 - sum(puts[2:])}')
+        say('counts 1', f'counts: asked 1 puts {sum(puts[:2])}')
+        say('counts 2', f'counts: asked 1 puts {sum(puts[2:])}')
+    say('site 64 0 spill:0@1')
+    say('spill 1,2,3 ', 'spill: the call failed faults 0 faults 0')
+    say('spilled', 'spilled: faults 1')
+    say('counts 2', 'counts: asked 1 puts 0')
+
+
+def real_spills():
+    title('real disks, each block of which is a file, in a folder that is made at the first put and goes with the last disk')
+    last = '4294967295'
+    say(f'real spill 1,{last} get 0 7 8 delete 0 7 look .dask-spill-0 put 0 7 abcdef look .dask-spill-0 look .dask-spill-0/1-7 get 0 7 8 get 0 7 4 '
+        f'put 1 {last}  get 1 {last} 8 look .dask-spill-0/{last}-{last} put 0 7 xy get 0 7 8 delete 0 7 look .dask-spill-0/1-7 get 0 7 8 delete 0 7',
+        'real: spill the call failed done none done folder 6 abcdef 6 abcd 6 done  0 0 done xy 2 done none the call failed done faults 2 faults 0')
+    say('real look .dask-spill-0', 'real: look none')
+    # what another program has is left as it is, and what it does to the files of a disk is no longer what was put
+    say('disk write .dask-spill-0 x')
+    say('real spill 1 look .dask-spill-1 put 0 7 abc look .dask-spill-1/1-7 disk write .dask-spill-1/1-7 z get 0 7 8 disk remove .dask-spill-1/1-7 get 0 7 8',
+        'real: spill none done 3 z 1 the call failed faults 1')
+    say('real look .dask-spill-1', 'real: look none')
+    say('real look .dask-spill-0', 'real: look 1')
+    # a name that is there already is passed over: where none of the sixteen is free, each put fails
+    for number in range(1, 16):
+        say(f'disk write .dask-spill-{number} x')
+    say('real spill 1 put 0 7 a get 0 7 8 delete 0 7 put 0 7 b', 'real: spill the call failed the call failed done the call failed faults 3')
+    for number in range(16):
+        say(f'disk remove .dask-spill-{number}')
+    say('real spilled', 'real: spilled faults 0')
+
+
 def real():
     title('the real site, over a real file')
     name = 'site_table.bin'
@@ -689,7 +754,7 @@ def main():
     shelve('short.npy', saved(A)[:-1])
     shelve('front.npy', saved(A)[:4])
     shelve('text.npy', b'nothing')
-    for part in (pieces, creations, room, alone, objects, lengths, real, heads, blocks, saves, divided, refusals, large, words, run_cases.words, run_cases.reports, faults, run_cases.faults, places, reports, simulations, folds, by_chance):
+    for part in (pieces, creations, room, alone, objects, lengths, spills, real, real_spills, heads, blocks, saves, divided, refusals, large, words, run_cases.words, run_cases.reports, faults, run_cases.faults, places, reports, simulations, folds, by_chance):
         part()
     here = os.path.join(os.path.dirname(os.path.abspath(__file__)), '..', 'crates', 'site_table')
     for name, lines in (('stdin', LINES), ('stdout', WANTED)):

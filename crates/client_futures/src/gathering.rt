@@ -11,9 +11,10 @@ use crate::look::{collect, least_erred, passed};
 use crate::rounds::{GatherEnd, PollEnd, Rounds};
 use cluster_msgs::KeyList;
 use futures::Future;
-use futures::executor::block_on;
-use futures::task::{Context, Poll};
+use futures::executor::block_on_queue;
+use futures::task::{Context, Doorbell, Poll, Queue};
 use std::alloc::{AllocError, AllocGlobal, Global};
+use std::io;
 use std::random::RandomSource;
 use std::sync::{Arc, Wait};
 
@@ -122,21 +123,48 @@ impl<R: Rounds> Future for GatherAll<'_, R> {
     }
 }
 
-/// The blocks of a client's keys, in their order, driven until they are there: a future over the keys is run on this thread.
+/// A place where this thread runs a future over keys, made of its own, so that a thread that only may wait can run it.
+///
+/// # Errors
+/// Where there is no memory, or the system gives no random bytes.
+pub fn waiting_room<R: RandomSource + AllocGlobal>(rt: &R) -> io::Result<Queue> {
+    Queue::new(rt, Doorbell::parking())
+}
+
+/// The blocks of a client's keys, in their order, driven until they are there: a future over the keys is run on this thread, which is alone in the room.
 ///
 /// # Errors
 /// `Ended` with the least key that failed, or where the run is over; `Memory` where there was none for the future, before any round; `Unrun` where the future
 /// couldn't be run to its end.
+pub fn gather_in<R: Wait, D: Rounds>(
+    rt: &R,
+    alloc: Global,
+    room: &Queue,
+    rounds: &mut D,
+    keys: &KeyList,
+) -> Result<Vec<Arc<D::Block>>, GatherEnd>
+    ensures { IsGathered (MayEnd D.leads D.seen rounds.old keys.now) result }
+{
+    let all = GatherAll::new(alloc, rounds, keys)?;
+    match block_on_queue(rt, room, all) {
+        Ok(Ok(blocks)) => Ok(blocks),
+        Ok(Err(end)) => Err(GatherEnd::Ended(end)),
+        Err(_) => Err(GatherEnd::Unrun),
+    }
+}
+
+/// The same in a room of its own.
+///
+/// # Errors
+/// As `gather_in`, and `Unrun` where there is no room.
 pub fn gather<R, D>(rt: &R, rounds: &mut D, keys: &KeyList) -> Result<Vec<Arc<D::Block>>, GatherEnd>
 where
     R: Wait + RandomSource + AllocGlobal,
     D: Rounds,
     ensures { IsGathered (MayEnd D.leads D.seen rounds.old keys.now) result }
 {
-    let all = GatherAll::new(rt.alloc(), rounds, keys)?;
-    match block_on(rt, all) {
-        Ok(Ok(blocks)) => Ok(blocks),
-        Ok(Err(end)) => Err(GatherEnd::Ended(end)),
+    match waiting_room(rt) {
+        Ok(room) => gather_in(rt, rt.alloc(), &room, rounds, keys),
         Err(_) => Err(GatherEnd::Unrun),
     }
 }

@@ -11,7 +11,7 @@ mod look;
 mod rounds;
 mod sight;
 
-pub use gathering::{GatherAll, gather};
+pub use gathering::{GatherAll, gather, gather_in, waiting_room};
 pub use key::KeyFuture;
 pub use rounds::{GatherEnd, PollEnd, Rounds, RunOver};
 pub use sight::Sight;

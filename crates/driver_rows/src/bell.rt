@@ -2,6 +2,8 @@
 
 use std::sync::Wait;
 use std::sync::atomic::{AtomicU64, Ordering};
+use std::thread;
+use std::time::Duration;
 
 /// How drivers go about it.
 #[derive(Clone, Copy)]
@@ -14,34 +16,54 @@ pub struct Manner {
     pub neighbours: u32,
 }
 
-/// How often something moved, and how many drivers sleep.
+/// How often something moved, how often a driver was rung for, and how many drivers go round and sleep.
+///
+/// A driver that moves something goes on itself, so nobody is woken for it: small tasks stay with one driver. Another is rung for by a driver that goes
+/// away with a long task. One of those that sleep is the watch: it looks up every now and then whether anything has moved, and gets up where nothing has,
+/// since the others may then be away with tasks that take their time.
 #[derive(Drop)]
 pub struct Bell {
     moves: AtomicU64,
-    asleep: AtomicU64,
+    rings: AtomicU64,
+    awake: AtomicU64,
+    watched: AtomicU64,
 }
 
 impl Bell {
-    /// Nothing has moved, and nobody sleeps.
+    /// Nothing has moved, and nobody goes round.
     pub fn new() -> Bell {
         Bell {
             moves: AtomicU64::new(0),
-            asleep: AtomicU64::new(0),
+            rings: AtomicU64::new(0),
+            awake: AtomicU64::new(0),
+            watched: AtomicU64::new(0),
         }
     }
 
-    /// Something moved: one that sleeps is woken.
-    pub fn ring(&self) {
-        self.moves.fetch_add(1, Ordering::SeqCst);
-        if self.asleep.load(Ordering::SeqCst) > 0 {
-            self.moves.wake_one();
-        }
+    /// A driver begins to go round.
+    pub fn begin(&self) {
+        self.awake.fetch_add(1, Ordering::SeqCst);
     }
 
-    /// The run is over: all that sleep are woken.
+    /// A driver goes round no more, since the run is over: all that sleep are woken.
     pub fn ring_out(&self) {
+        self.awake.fetch_sub(1, Ordering::SeqCst);
+        self.rings.fetch_add(1, Ordering::SeqCst);
+        self.rings.wake_all();
+    }
+
+    /// Something moved.
+    pub fn note(&self) {
         self.moves.fetch_add(1, Ordering::SeqCst);
-        self.moves.wake_all();
+    }
+
+    /// A driver goes away with a task: one that sleeps is woken, where the task is long or nobody keeps watch.
+    pub fn ring(&self, is_long: bool) {
+        self.note();
+        if is_long || self.watched.load(Ordering::SeqCst) == 0 {
+            self.rings.fetch_add(1, Ordering::SeqCst);
+            self.rings.wake_one();
+        }
     }
 
     /// How often something moved.
@@ -49,12 +71,47 @@ impl Bell {
         self.moves.load(Ordering::SeqCst)
     }
 
-    /// Sleeps until something moves, if nothing has since the count was so.
-    pub fn sleep<R: Wait>(&self, rt: &R, count: u64) {
-        self.asleep.fetch_add(1, Ordering::SeqCst);
-        if self.count() == count {
-            self.moves.park(rt, (count & 0xffff_ffff) as u32);
+    /// Sleeps, if nothing has moved since the count was so. A driver that was refused a turn sleeps only while another is awake, which had that turn.
+    pub fn sleep<R: Wait>(&self, rt: &R, count: u64, missed: bool) {
+        let rung = self.rings.load(Ordering::SeqCst);
+        let before = self.awake.fetch_sub(1, Ordering::SeqCst);
+        if self.count() == count && (before > 1 || !missed) {
+            self.lie_down(rt, count, rung);
+        } else {
+            thread::yield_now();
         }
-        self.asleep.fetch_sub(1, Ordering::SeqCst);
+        self.awake.fetch_add(1, Ordering::SeqCst);
     }
+
+    // As the watch, if nobody is, or until somebody rings.
+    fn lie_down<R: Wait>(&self, rt: &R, count: u64, rung: u64) {
+        if self.watched.swap(1, Ordering::SeqCst) == 0 {
+            self.watch(rt, count, rung);
+            self.watched.store(0, Ordering::SeqCst);
+        } else {
+            self.rings.park(rt, low(rung));
+        }
+    }
+
+    // Lies until somebody rings, or nothing has moved for a while.
+    fn watch<R: Wait>(&self, rt: &R, count: u64, rung: u64) {
+        let mut seen = count;
+        for _ in rt.forever() {
+            self.rings
+                .park_timeout(rt, low(rung), Duration::from_millis(WATCH));
+            let now = self.count();
+            if now == seen || self.rings.load(Ordering::SeqCst) != rung {
+                return;
+            }
+            seen = now;
+        }
+    }
+}
+
+// How many milliseconds the watch lies before it looks up.
+const WATCH: u64 = 1;
+
+// The part of a count that a sleeper is held against.
+fn low(count: u64) -> u32 {
+    (count & 0xffff_ffff) as u32
 }

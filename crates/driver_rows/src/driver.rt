@@ -1,10 +1,12 @@
 //! Drivers, each with a pass of every cell.
 
 ghost use Rattle.std.specs.Prelude.{◌≡◌, ℕ, ◌<◌, length};
+ghost use Rattle.std.specs.Thread.{IsSend, IsSync};
 
 use crate::bell::{Bell, Manner};
 use crate::turns::{
-    Attend, Attends, Lose, Schedule, SchedulerNews, Schedules, TakeBack, Work, WorkerNews, Works,
+    Attend, Attends, Drives, Lose, Schedule, SchedulerNews, Schedules, TakeBack, Work, WorkerNews,
+    Works,
 };
 use cluster_msgs::Label;
 use std::sync::Wait;
@@ -69,28 +71,83 @@ where
     W: Kept<Block = L::Block>,
     C: Kept<Block = L::Block>,
 {
-    /// Goes round until the client is served, or the run is over.
+    /// Waits for the client as the job tells, and goes round by itself where that was given up.
+    pub fn wait<R: Wait, J: Schedules<S, L> + Works<W, L> + Attends<C, L>>(
+        &mut self,
+        rt: &R,
+        cluster: &Cluster<KS, KW, KC, L, S, W, C>,
+        job: &J,
+    ) {
+        cluster.bell.begin();
+        let mut driving = Driving {
+            rt,
+            cluster,
+            job,
+            driver: &mut *self,
+        };
+        job.wait(rt, &mut driving);
+        let Driving {
+            rt: _,
+            cluster: _,
+            job: _,
+            driver: _,
+        } = driving;
+        self.drive_on(rt, cluster, job);
+    }
+
+    /// Goes round until the client is served, or the run is over. All that sleep are woken then.
     pub fn drive<R: Wait, J: Schedules<S, L> + Works<W, L> + Attends<C, L>>(
         &mut self,
         rt: &R,
         cluster: &Cluster<KS, KW, KC, L, S, W, C>,
         job: &J,
     ) {
+        cluster.bell.begin();
+        self.drive_on(rt, cluster, job);
+    }
+
+    fn drive_on<R: Wait, J: Schedules<S, L> + Works<W, L> + Attends<C, L>>(
+        &mut self,
+        rt: &R,
+        cluster: &Cluster<KS, KW, KC, L, S, W, C>,
+        job: &J,
+    ) {
+        let mut sight = job.blind();
         for _ in rt.forever() {
-            let before = cluster.bell.count();
-            self.missed = false;
-            let moved = self.round(rt, cluster, job);
-            if self.served || self.over {
+            if self.has_ended() || !self.go(rt, cluster, job, &mut sight) {
                 cluster.bell.ring_out();
+                job.shut(sight);
                 return;
             }
-            self.rest(rt, cluster, before, moved);
         }
         unreachable!()
     }
 
-    // After a round: goes on where something moved, and sleeps after so many rounds in vain, the last of which met no cell that was taken. Two at
-    // least, since what a round learns of the nodes they are told in the next.
+    /// Whether it goes on no more: the client is served, or the run is over.
+    fn has_ended(&self) -> bool {
+        self.served || self.over
+    }
+
+    // Goes round once, and rests where nothing moved. Whether it goes on.
+    fn go<R: Wait, J: Schedules<S, L> + Works<W, L> + Attends<C, L>>(
+        &mut self,
+        rt: &R,
+        cluster: &Cluster<KS, KW, KC, L, S, W, C>,
+        job: &J,
+        sight: &mut J::Sight,
+    ) -> bool {
+        let before = cluster.bell.count();
+        self.missed = false;
+        let moved = self.round(rt, cluster, job, sight);
+        if self.has_ended() {
+            return false;
+        }
+        self.rest(rt, cluster, before, moved);
+        true
+    }
+
+    // After a round: goes on where something moved, and lies down after so many rounds in vain. Two at least, since what a round learns of the nodes they
+    // are told in the next.
     fn rest<R: Wait>(
         &mut self,
         rt: &R,
@@ -103,19 +160,21 @@ where
             return;
         }
         self.vain = self.vain.saturating_add(1);
-        if self.missed || self.vain < cluster.manner.patience.max(2) {
+        if self.vain < cluster.manner.patience.max(2) {
             thread::yield_now();
         } else {
-            cluster.bell.sleep(rt, before);
+            cluster.bell.sleep(rt, before, self.missed);
+            self.vain = 0;
         }
     }
 
     /// Visits each node once, its own first: the workers, then the scheduler, then the clients, in a ring. Whether an event was made.
-    pub fn round<R: Wait, J: Schedules<S, L> + Works<W, L> + Attends<C, L>>(
+    fn round<R: Wait, J: Schedules<S, L> + Works<W, L> + Attends<C, L>>(
         &mut self,
         rt: &R,
         cluster: &Cluster<KS, KW, KC, L, S, W, C>,
         job: &J,
+        sight: &mut J::Sight,
     ) -> bool {
         let count = cluster
             .workers
@@ -125,31 +184,32 @@ where
         let home = self.home.min(count);
         let mut moved = false;
         for at in home..count {
-            moved |= self.visit(rt, cluster, at, job);
+            moved |= self.visit(rt, cluster, at, job, sight);
         }
         for at in 0..home {
-            moved |= self.visit(rt, cluster, at, job);
+            moved |= self.visit(rt, cluster, at, job, sight);
         }
         moved
     }
 
-    // Some turns of the node at a place of the ring. Where one made an event, another driver is woken.
+    // Some turns of the node at a place of the ring.
     fn visit<R: Wait, J: Schedules<S, L> + Works<W, L> + Attends<C, L>>(
         &mut self,
         rt: &R,
         cluster: &Cluster<KS, KW, KC, L, S, W, C>,
         at: usize,
         job: &J,
+        sight: &mut J::Sight,
     ) -> bool {
         let mut moved = false;
         for _ in 0..cluster.manner.turns {
-            if !self.turn(rt, cluster, at, job) {
+            if !self.turn(rt, cluster, at, job, sight) {
                 break;
             }
             moved = true;
         }
         if moved {
-            cluster.bell.ring();
+            cluster.bell.note();
         }
         moved
     }
@@ -161,6 +221,7 @@ where
         cluster: &Cluster<KS, KW, KC, L, S, W, C>,
         at: usize,
         job: &J,
+        sight: &mut J::Sight,
     ) -> bool {
         let workers = cluster.workers.len();
         if at < workers {
@@ -173,7 +234,7 @@ where
         }
         let at = at - schedulers;
         if at < cluster.clients.len() {
-            return self.turn_client(rt, cluster, at, job);
+            return self.turn_client(rt, cluster, at, job, sight);
         }
         false
     }
@@ -213,7 +274,8 @@ where
             ended: self.ended.as_slice(),
         };
         match self.scheduler.try_turn(&cluster.scheduler, at, act) {
-            Ok(news) => {
+            Ok(mut news) => {
+                news.moved |= self.joined < news.joined;
                 self.joined = self.joined.max(news.joined);
                 self.over |= news.over;
                 Some(news)
@@ -266,11 +328,13 @@ where
         }
     }
 
-    // Notes that the worker at a place has ended.
-    fn note_end(&mut self, at: usize, ended: bool) {
-        if ended && at < self.ended.len() {
-            self.ended[at] = true;
+    // Notes that the worker at a place has ended. Whether that is news, which the nodes are told in later turns.
+    fn note_end(&mut self, at: usize, ended: bool) -> bool {
+        if !ended || at >= self.ended.len() || self.ended[at] {
+            return false;
         }
+        self.ended[at] = true;
+        true
     }
 
     // A turn of a worker, and where it lends a task, the task and the turn after it.
@@ -287,11 +351,11 @@ where
             return false;
         };
         let WorkerNews { moved, ended, task } = news;
-        self.note_end(at, ended);
+        let is_news = self.note_end(at, ended);
         let Some(task) = task else {
-            return moved;
+            return moved || is_news;
         };
-        cluster.bell.ring();
+        cluster.bell.ring(job.is_long(&task));
         let done = job.run(task);
         let act = TakeBack {
             rt,
@@ -342,6 +406,7 @@ where
         cluster: &Cluster<KS, KW, KC, L, S, W, C>,
         at: usize,
         job: &J,
+        sight: &mut J::Sight,
     ) -> bool
         requires { at < length KC.berths }
     {
@@ -350,6 +415,7 @@ where
             job,
             stamps: &mut self.stamps,
             ended: self.ended.as_slice(),
+            sight,
         };
         match self.clients.try_turn(&cluster.clients, at, act) {
             Ok(news) => {
@@ -363,6 +429,7 @@ where
                     job: _,
                     stamps: _,
                     ended: _,
+                    sight: _,
                 },
             ) => {
                 self.missed = true;
@@ -372,8 +439,75 @@ where
     }
 }
 
-/// All drivers at once.
+/// A driver with what it goes round by.
+struct Driving<'a, R, KS, KW, KC, L, S, W, C, J>
+where
+    KS: Places<S>,
+    KW: Places<W>,
+    KC: Places<C>,
+    L: Label,
+    S: Kept<Block = L::Block>,
+    W: Kept<Block = L::Block>,
+    C: Kept<Block = L::Block>,
+{
+    rt: &'a R,
+    cluster: &'a Cluster<KS, KW, KC, L, S, W, C>,
+    job: &'a J,
+    driver: &'a mut Driver<KS, KW, KC, L, S, W, C>,
+}
+
+impl<'a, R, KS, KW, KC, L, S, W, C, J> Drives<J::Sight>
+    for Driving<'a, R, KS, KW, KC, L, S, W, C, J>
+where
+    R: Wait,
+    KS: Places<S>,
+    KW: Places<W>,
+    KC: Places<C>,
+    L: Label,
+    S: Kept<Block = L::Block>,
+    W: Kept<Block = L::Block>,
+    C: Kept<Block = L::Block>,
+    J: Schedules<S, L> + Works<W, L> + Attends<C, L>,
+{
+    fn go_round(&mut self, sight: &mut J::Sight) -> bool {
+        self.driver.go(self.rt, self.cluster, self.job, sight)
+    }
+}
+
+/// All drivers at once, each in a thread of its own as far as threads can be started. The first stays on this thread, and waits for the client.
 pub fn run_drivers<R, KS, KW, KC, L, S, W, C, J>(
+    rt: &R,
+    cluster: &Cluster<KS, KW, KC, L, S, W, C>,
+    drivers: &mut [Driver<KS, KW, KC, L, S, W, C>],
+    job: &J,
+)
+where
+    R: Threads + Wait + Sync,
+    KS: Places<S> + Send + Sync,
+    KW: Places<W> + Send + Sync,
+    KC: Places<C> + Send + Sync,
+    L: Label + Send + Sync,
+    S: Kept<Block = L::Block> + Send + Sync,
+    W: Kept<Block = L::Block> + Send + Sync,
+    C: Kept<Block = L::Block> + Send + Sync,
+    J: Schedules<S, L> + Works<W, L> + Attends<C, L> + Sync,
+    ensures { length drivers.new ≡ length drivers.old }
+{
+    let Some((first, others)) = drivers.split_first_mut() else {
+        return;
+    };
+    thread::join_mut(
+        rt,
+        &mut ||
+            requires { IsSync R.row × IsSync J.row × (IsSend KS.row × IsSync KS.row) × (IsSend KW.row × IsSync KW.row) × (IsSend KC.row × IsSync KC.row)
+                × (IsSend L.row × IsSync L.row) × (IsSend S.row × IsSync S.row) × (IsSend W.row × IsSync W.row) × (IsSend C.row × IsSync C.row) }
+        { run_others(rt, cluster, others, job) },
+        &mut || first.wait(rt, cluster, job),
+    );
+}
+
+/// Drivers that go round, each in a thread of its own as far as threads can be started.
+fn run_others<R, KS, KW, KC, L, S, W, C, J>(
     rt: &R,
     cluster: &Cluster<KS, KW, KC, L, S, W, C>,
     drivers: &mut [Driver<KS, KW, KC, L, S, W, C>],

@@ -85,6 +85,9 @@ pub trait Works<W: Kept, L: Label<Block = W::Block>> {
         ensures fits { W.fits L.facts state.new }
         ensures went { Went W.entries W.core W.cut W.steps state.old state.new };
 
+    /// Whether a task may take so long that another driver is worth waking for what else there is to do.
+    fn is_long(&self, task: &Self::Task) -> bool;
+
     /// Runs a task, outside the turns.
     fn run(&self, task: Self::Task) -> Self::Done;
 
@@ -95,9 +98,24 @@ pub trait Works<W: Kept, L: Label<Block = W::Block>> {
         ensures went { Went W.entries W.core W.cut W.steps state.old state.new };
 }
 
-/// How clients take their turns.
+/// A driver, as what waits by it drives it: the driver sees in the clients' turns what a sight keeps.
+pub trait Drives<V> {
+    /// Goes round all nodes once, and rests where nothing moved. Whether it goes on: no client has what it is there for, and no node has stopped.
+    fn go_round(&mut self, sight: &mut V) -> bool;
+}
+
+/// How clients take their turns, and how a driver waits for what a client is there for.
 pub trait Attends<C: Kept, L: Label<Block = C::Block>> {
+    /// What a driver saw of clients in its turns.
+    type Sight;
+
     ghost use Rattle.turn_cell.specs.Turns.{Went};
+
+    /// A sight that keeps nothing.
+    fn blind(&self) -> Self::Sight;
+
+    /// A sight is needed no more.
+    fn shut(&self, sight: Self::Sight);
 
     /// One turn. `ended` tells of each worker, by its place, whether its end was seen.
     fn attend<R: Wait>(
@@ -106,10 +124,14 @@ pub trait Attends<C: Kept, L: Label<Block = C::Block>> {
         state: &mut C,
         stamps: &mut Stamps,
         ended: &[bool],
+        sight: &mut Self::Sight,
     ) -> ClientNews
         requires fits { C.fits L.facts state.old }
         ensures fits { C.fits L.facts state.new }
         ensures went { Went C.entries C.core C.cut C.steps state.old state.new };
+
+    /// Waits by a driver for what a client is there for, or until the driver goes on no more. It may give up before.
+    fn wait<R: Wait, D: Drives<Self::Sight>>(&self, rt: &R, driver: &mut D);
 }
 
 /// A turn of a scheduler.
@@ -201,15 +223,16 @@ impl<'a, R: Wait, L: Label<Block = W::Block>, W: Kept, J: Works<W, L>> Act<W, L>
 }
 
 /// A turn of a client.
-pub struct Attend<'a, R: Wait, J> {
+pub struct Attend<'a, R: Wait, J, V> {
     pub rt: &'a R,
     pub job: &'a J,
     pub stamps: &'a mut Stamps,
     pub ended: &'a [bool],
+    pub sight: &'a mut V,
 }
 
 impl<'a, R: Wait, L: Label<Block = C::Block>, C: Kept, J: Attends<C, L>> Act<C, L>
-    for Attend<'a, R, J> {
+    for Attend<'a, R, J, J::Sight> {
     type Out = ClientNews;
 
     fn act(self, state: &mut C) -> ClientNews {
@@ -218,7 +241,8 @@ impl<'a, R: Wait, L: Label<Block = C::Block>, C: Kept, J: Attends<C, L>> Act<C, 
             job,
             stamps,
             ended,
+            sight,
         } = self;
-        job.attend(rt, state, stamps, ended)
+        job.attend(rt, state, stamps, ended, sight)
     }
 }

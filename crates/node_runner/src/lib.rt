@@ -13,6 +13,7 @@ mod plan;
 mod run;
 mod serving;
 mod tasks;
+mod watching;
 mod wiring;
 
 pub use ends::{Ends, Histories, RunStatus};

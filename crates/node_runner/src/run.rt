@@ -18,11 +18,13 @@ use crate::label::{Fed, RunLabel, RunName};
 use crate::making::{Rows, make_rows};
 use crate::plan::RunPlan;
 use crate::tasks::Running;
+use client_futures::waiting_room;
 use cluster_msgs::{GraphShape, JobSpec, KeyList, Label};
 use driver_rows::{Attends, Closed, Manner, Schedules, Works, run_cells};
 use io_edge::Gate;
 use node_states::{ClientNode, SchedulerNode, WorkerNode};
-use std::alloc::Global;
+use std::alloc::{AllocGlobal, Global};
+use std::random::RandomSource;
 use std::sync::Wait;
 use std::thread::Threads;
 use turn_cell::{Kept, Stamps};
@@ -50,7 +52,7 @@ pub fn run_cluster<R, J, G, K>(
     feeds: Vec<Vec<Fed<J, K>>>,
 ) -> Ends<J::Block, RunLabel<J, K>, Fed<J, K>>
 where
-    R: Threads + Wait + Sync,
+    R: Threads + Wait + RandomSource + AllocGlobal + Sync,
     J: JobSpec,
     G: Gate,
     K: RunName<J> + Send + Sync,
@@ -129,7 +131,7 @@ fn run_made<R, J, G, K>(
     stamps: Stamps,
 ) -> Ends<J::Block, RunLabel<J, K>, Fed<J, K>>
 where
-    R: Threads + Wait + Sync,
+    R: Threads + Wait + RandomSource + AllocGlobal + Sync,
     J: JobSpec,
     G: Gate,
     K: RunName<J> + Send + Sync,
@@ -146,7 +148,7 @@ where
         ((short ≡ true) ⊎ ((f : _) × Contains result.feeds.items f × (0 < J.fault_count f)))
         result.result result.left.items result.histories }
 {
-    let closed = run_rows(rt, alloc, job, gate, plan, rows, stamps);
+    let closed = run_rows(rt, alloc, job, gate, plan, wanted, rows, stamps);
     let (ends, given_up) = end_rows(alloc, job.shape(), plan, wanted, closed);
     with_reads(job, short, given_up, ends)
 }
@@ -183,11 +185,12 @@ fn run_rows<R, J, G, K>(
     job: &J,
     gate: &G,
     plan: &RunPlan,
+    wanted: &KeyList,
     rows: Rows<RunLabel<J, K>, Scheduler<J, K>, Worker<J, K>, Client<J, K>>,
     stamps: Stamps,
 ) -> Closed<Scheduler<J, K>, Worker<J, K>, Client<J, K>>
 where
-    R: Threads + Wait + Sync,
+    R: Threads + Wait + RandomSource + AllocGlobal + Sync,
     J: JobSpec,
     G: Gate,
     K: RunName<J> + Send + Sync,
@@ -207,7 +210,8 @@ where
     ensures clients { All (λ c. IsClientsBook (run_facts J.graph J.operation J.key_dims J.block_dims K.told K.job) (J.graph job.now)
         (λ c. client_facts c.core) c.book) result.clients.items }
 {
-    let running = Running::<J, G, K>::new(alloc, job, gate);
+    let room = waiting_room(rt).ok();
+    let running = Running::<J, G, K>::new(alloc, job, gate, wanted, room.as_ref());
     run_nodes(rt, alloc, plan, rows, stamps, &running)
 }
 

@@ -2,8 +2,9 @@
 
 use crate::label::{Fed, RunLabel, RunName};
 use crate::tasks::{Lent, Returned, Running, run_lent};
+use crate::watching::{Waiting, Watch};
 use cluster_msgs::JobSpec;
-use driver_rows::{Attends, ClientNews, SchedulerNews, Schedules, WorkerNews, Works};
+use driver_rows::{Attends, ClientNews, Drives, SchedulerNews, Schedules, WorkerNews, Works};
 use io_edge::Gate;
 use node_states::{
     ClientNode, ClientTurn, Course, SchedulerNode, SchedulerTurn, TaskEnd, Why, WorkerNode,
@@ -11,6 +12,9 @@ use node_states::{
 };
 use std::sync::Wait;
 use turn_cell::{Act, Stamps};
+
+/// A task of so much work in bytes, and more, is long.
+const LONG: u64 = 32_768;
 
 impl<'a, J: JobSpec, G: Gate, K: RunName<J>> Schedules<
     SchedulerNode<J::Block, RunLabel<J, K>>,
@@ -101,6 +105,12 @@ impl<'a, J: JobSpec, G: Gate, K: RunName<J>> Works<
         state.ended()
     }
 
+    fn is_long(&self, task: &Lent<J::Block, RunLabel<J, K>, Fed<J, K>>) -> bool {
+        let graph = self.job.shape();
+        graph.sound();
+        task.task.key < graph.keys() && graph.work(task.task.key) >= LONG
+    }
+
     fn run(
         &self,
         task: Lent<J::Block, RunLabel<J, K>, Fed<J, K>>,
@@ -130,14 +140,24 @@ impl<'a, J: JobSpec, G: Gate, K: RunName<J>> Attends<
     ClientNode<J::Block, RunLabel<J, K>>,
     RunLabel<J, K>,
 > for Running<'a, J, G, K> {
+    type Sight = Watch<J::Block>;
+
+    fn blind(&self) -> Watch<J::Block> {
+        Watch::blind(self.alloc)
+    }
+
+    fn shut(&self, _sight: Watch<J::Block>) {}
+
     fn attend<R: Wait>(
         &self,
         rt: &R,
         state: &mut ClientNode<J::Block, RunLabel<J, K>>,
         stamps: &mut Stamps,
         ended: &[bool],
+        sight: &mut Watch<J::Block>,
     ) -> ClientNews {
         if state.is_done() {
+            sight.look(state, self.wanted.as_slice());
             return ClientNews {
                 moved: false,
                 served: true,
@@ -150,10 +170,22 @@ impl<'a, J: JobSpec, G: Gate, K: RunName<J>> Attends<
             dead: ended,
         };
         let moved = turn.act(state);
+        sight.look(state, self.wanted.as_slice());
         ClientNews {
             moved,
             served: state.is_done(),
             over: state.stopped().is_some(),
         }
+    }
+
+    /// The driver runs a future over the wanted keys, where there is a room and memory for it.
+    fn wait<R: Wait, D: Drives<Watch<J::Block>>>(&self, rt: &R, driver: &mut D) {
+        let Some(room) = self.room else {
+            return;
+        };
+        let Ok(watch) = Watch::new(self.alloc, self.job.shape().keys()) else {
+            return;
+        };
+        Waiting::new(driver, watch).wait(rt, self.alloc, room, self.wanted);
     }
 }

@@ -7,7 +7,8 @@ ghost use Rattle.cluster_msgs.specs.declared.jobs.RunFail.TheVariants as fail;
 ghost use Rattle.node_links.specs.Fits.{ParcelFits};
 
 use crate::label::{Fed, RunLabel, RunName};
-use cluster_msgs::{JobSpec, Label, Outcome, RunFail};
+use cluster_msgs::{JobSpec, KeyList, Label, Outcome, RunFail};
+use futures::task::Queue;
 use io_edge::{Gate, Point};
 use node_links::Keyed;
 use node_states::{Fault, Finished, Task};
@@ -15,12 +16,14 @@ use std::alloc::{AllocError, Global};
 use std::marker::PhantomData;
 use std::sync::Arc;
 
-/// What the drivers of a run go by: the job, and who is told of each task.
+/// What the drivers of a run go by: the job, who is told of each task, the keys that the client wants, and the room in which a driver waits for them.
 #[derive(Drop)]
 pub struct Running<'a, J: JobSpec, G: Gate, K: RunName<J>> {
     pub alloc: Global,
-    job: &'a J,
+    pub job: &'a J,
     gate: &'a G,
+    pub wanted: &'a KeyList,
+    pub room: Option<&'a Queue>,
     of: PhantomData<K>,
     ghost named: { K.job ≡ Some job.now },
 }
@@ -41,13 +44,21 @@ pub struct Returned<B: Drop, L: Label<Block = B>, F: Drop> {
 
 impl<'a, J: JobSpec, G: Gate, K: RunName<J>> Running<'a, J, G, K> {
     /// What the drivers of a run of this job go by.
-    pub fn new(alloc: Global, job: &'a J, gate: &'a G) -> Self
+    pub fn new(
+        alloc: Global,
+        job: &'a J,
+        gate: &'a G,
+        wanted: &'a KeyList,
+        room: Option<&'a Queue>,
+    ) -> Self
         requires { K.job ≡ Some job.now }
     {
         Running {
             alloc,
             job,
             gate,
+            wanted,
+            room,
             of: PhantomData,
         }
     }

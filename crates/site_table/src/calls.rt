@@ -3,8 +3,9 @@ ghost use Rattle.std.specs.Prelude.{◌≡◌, ◌≤◌, ◌<◌, length};
 ghost use Rattle.io_edge.specs.Content.{size_of};
 
 use crate::arrays::{print_head, print_region};
-use crate::disk::disk;
+use crate::disk::{disk, look};
 use crate::say::{say, say_bytes};
+use crate::spills::spill;
 use crate::text::bytes_of;
 use crate::words::{Trouble, Words, number, place, split};
 use io_edge::{OpenFault, OutFile, Site, Store, note_full, print_full, read_full, write_full};
@@ -295,13 +296,19 @@ pub fn call<R: Print + Files, S: Site>(
     name: &str,
     words: &mut Words,
 ) -> Result<(), Trouble> {
-    match place(name, &["open", "create", "lose", "out", "err", "faults"]) {
+    let names = [
+        "open", "create", "lose", "out", "err", "faults", "spill", "spilled", "look",
+    ];
+    match place(name, &names) {
         0 => open(rt, alloc, site, words),
         1 => create(rt, alloc, site, words),
         2 => lose(rt, alloc, site, words),
         3 => print(rt, alloc, site, true, words),
         4 => print(rt, alloc, site, false, words),
         5 => print_all_faults(rt, faults(site)),
+        6 => spill(rt, alloc, site, words),
+        7 => print_faults(rt, site.spill_faults()),
+        8 => look(rt, words),
         _ => Err(Trouble::Ill),
     }
 }

@@ -21,7 +21,7 @@ pub struct Desk {
     refusals: Vec<Refusal>,
 }
 
-const KINDS: [(&str, Kind); 7] = [
+const KINDS: [(&str, Kind); 11] = [
     ("open", Kind::Open),
     ("length", Kind::Length),
     ("read", Kind::Read),
@@ -29,6 +29,10 @@ const KINDS: [(&str, Kind); 7] = [
     ("write", Kind::Write),
     ("out", Kind::Out),
     ("err", Kind::Err),
+    ("spill", Kind::Spill),
+    ("put", Kind::Put),
+    ("get", Kind::Get),
+    ("delete", Kind::Delete),
 ];
 
 /// The kind of call that a word names.

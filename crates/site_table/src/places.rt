@@ -57,6 +57,13 @@ pub fn show<R: Print>(
     Ok(print!(rt; "{told}")?)
 }
 
+/// Shows how often a disk was asked for a worker, and how many puts its disks took.
+pub fn counts<R: Print>(rt: &R, site: &MemorySite, words: &mut Words) -> Result<(), Trouble> {
+    let worker = words.below(u32::MAX as u64)? as u32;
+    let asked = site.asked(worker);
+    Ok(print!(rt; " asked {asked} puts {}", site.puts(worker))?)
+}
+
 /// Shows the texts of the faults, and passes the gate that does nothing.
 pub fn texts<R: Print>(rt: &R) -> Result<(), Trouble> {
     RealGate.at(Point::Started { worker: 1, key: 0 });

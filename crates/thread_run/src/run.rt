@@ -9,8 +9,9 @@ use crate::serving::serve;
 use command_words::RunWords;
 use io_edge::{Failed, Gate, Site, print_full};
 use job_run::{Ended, Job, lower_job, open_inputs};
-use std::alloc::Global;
+use std::alloc::{AllocGlobal, Global};
 use std::marker::Brand;
+use std::random::RandomSource;
 use std::sync::Wait;
 use std::thread::Threads;
 
@@ -30,7 +31,7 @@ pub fn run_by_threads<R, S, G>(
     words: RunWords,
 ) -> Ended
 where
-    R: Threads + Wait + Sync,
+    R: Threads + Wait + RandomSource + AllocGlobal + Sync,
     S: Site,
     G: Gate,
     requires runs { IsRunnable (plan_of job.now) }

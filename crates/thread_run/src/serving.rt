@@ -32,8 +32,9 @@ use lowering_laws::laws::law_of_form;
 use nd_shape::Block;
 use node_links::Keyed;
 use node_runner::{Ends, Histories, RunLabel, RunPlan, RunStatus, run_cluster};
-use std::alloc::Global;
+use std::alloc::{AllocGlobal, Global};
 use std::marker::Brand;
+use std::random::RandomSource;
 use std::sync::Wait;
 use std::thread::Threads;
 
@@ -55,7 +56,7 @@ fn run_feeds<R, S, G, E, V, P>(
     plan: &RunPlan,
 ) -> Result<(Vec<Keyed<Block, Marked<S::In, E, V, P>>>, Histories), RunStatus>
 where
-    R: Threads + Wait + Sync,
+    R: Threads + Wait + RandomSource + AllocGlobal + Sync,
     S: Site,
     G: Gate,
     E: Elements + Send + Sync + Drop,
@@ -157,7 +158,7 @@ fn run_graph<R, S, G, E, V, P>(
     asked: bool,
 ) -> Result<Option<Report>, Ended>
 where
-    R: Threads + Wait + Sync,
+    R: Threads + Wait + RandomSource + AllocGlobal + Sync,
     S: Site,
     G: Gate,
     E: Elements + Send + Sync + Drop,
@@ -212,7 +213,7 @@ pub fn serve<R, S, G, E, V>(
     words: RunWords,
 ) -> Result<Option<Report>, Ended>
 where
-    R: Threads + Wait + Sync,
+    R: Threads + Wait + RandomSource + AllocGlobal + Sync,
     S: Site,
     G: Gate,
     E: Elements + Send + Sync + Drop,

@@ -8,7 +8,7 @@ use crate::kept::Kept;
 use crate::rule::{Counts, Cut, Gives, Glue, Housed, InTurns, Reads, Start, Takes, View};
 use atomic_table::{Refused, Seat, Table};
 use cluster_msgs::Label;
-use std::alloc::Global;
+use std::alloc::{AllocFailed, Global};
 use std::snapshot::Snapshot;
 use std::sync::Wait;
 use std::thread;
@@ -38,7 +38,7 @@ pub struct Pass<S: Kept, L: Label<Block = S::Block>> {
 
 /// The state, taken out of its cell, and for contracts what it was when it was taken.
 pub struct Turn<S: Kept> {
-    pub state: S,
+    pub state: Box<S>,
     pub taken: Snapshot<S>,
 }
 
@@ -63,9 +63,13 @@ impl<S: Kept, L: Label<Block = S::Block>> TurnCell<S, L> {
             state: Snapshot::of(&state),
             parts: parts as u64,
         };
+        let state = match Box::new(alloc, state) {
+            Ok(state) => state,
+            Err(AllocFailed { value }) => return Err((value, OutOfMemory)),
+        };
         let mut slots = match Vec::with_capacity(alloc, 1) {
             Ok(slots) => slots,
-            Err(_) => return Err((state, OutOfMemory)),
+            Err(_) => return Err((Box::into_inner(state), OutOfMemory)),
         };
         slots.push_reserved(Some(Housed::new(state)));
         match Table::new(alloc, &[0, 0], slots, &start) {
@@ -73,7 +77,7 @@ impl<S: Kept, L: Label<Block = S::Block>> TurnCell<S, L> {
             Err(Refused { mut slots }) => match slots.pop() {
                 Some(Some(housed)) => {
                     slots.destroy_empty();
-                    Err((housed.into_state(), OutOfMemory))
+                    Err((Box::into_inner(housed.into_state()), OutOfMemory))
                 }
                 _ => unreachable!(),
             },
@@ -91,9 +95,9 @@ impl<S: Kept, L: Label<Block = S::Block>> TurnCell<S, L> {
         ensures same { (pass.new.seat.table_id ≡ pass.old.seat.table_id) × (pass.new.seat.id ≡ pass.old.seat.id) }
         ensures busy { IfErr result (λ _. (pass.new.seat.me ≡ pass.old.seat.me) × WasTaken S.entries S.core S.cut S.steps pass.old.seat.me.0) }
         ensures shared { IfErr result (λ _. pass.old.seat.me.0.parts < pass.old.seat.me.0.total) }
-        ensures remembered { IfOk result (λ t. t.taken.value ≡ t.state) }
-        ensures taken { IfOk result (λ t. Entered S.entries S.core S.cut S.steps pass.old.seat.me.0 t.state pass.new.seat.me) }
-        ensures fits { IfOk result (λ t. S.fits L.facts t.state) }
+        ensures remembered { IfOk result (λ t. t.taken.value ≡ t.state.value) }
+        ensures taken { IfOk result (λ t. Entered S.entries S.core S.cut S.steps pass.old.seat.me.0 t.state.value pass.new.seat.me) }
+        ensures fits { IfOk result (λ t. S.fits L.facts t.state.value) }
     {
         let shared = &self.table.shared;
         let found = shared.compare_exchange::<Takes>(&mut pass.seat, 0, 0, 1);
@@ -105,7 +109,7 @@ impl<S: Kept, L: Label<Block = S::Block>> TurnCell<S, L> {
             unreachable!()
         };
         let state = housed.into_state();
-        let taken = Snapshot::of(&state);
+        let taken = Snapshot::of(&*state);
         Ok(Turn { state, taken })
     }
 
@@ -114,9 +118,9 @@ impl<S: Kept, L: Label<Block = S::Block>> TurnCell<S, L> {
         requires own { pass.old.seat.table_id ≡ self.now.table.shared.table_id }
         requires rests { Rests S.entries S.core S.cut S.steps pass.old.seat.me }
         ensures same { (pass.new.seat.table_id ≡ pass.old.seat.table_id) × (pass.new.seat.id ≡ pass.old.seat.id) }
-        ensures remembered { result.taken.value ≡ result.state }
-        ensures taken { Entered S.entries S.core S.cut S.steps pass.old.seat.me.0 result.state pass.new.seat.me }
-        ensures fits { S.fits L.facts result.state }
+        ensures remembered { result.taken.value ≡ result.state.value }
+        ensures taken { Entered S.entries S.core S.cut S.steps pass.old.seat.me.0 result.state.value pass.new.seat.me }
+        ensures fits { S.fits L.facts result.state.value }
     {
         for _ in rt.forever() {
             match self.try_enter(pass) {
@@ -132,10 +136,10 @@ impl<S: Kept, L: Label<Block = S::Block>> TurnCell<S, L> {
     pub fn leave(&self, pass: &mut Pass<S, L>, turn: Turn<S>)
         requires own { pass.old.seat.table_id ≡ self.now.table.shared.table_id }
         requires holds { Holds S.entries S.core S.cut S.steps turn.taken.value pass.old.seat.me }
-        requires fits { S.fits L.facts turn.state }
-        requires went { Went S.entries S.core S.cut S.steps turn.taken.value turn.state }
+        requires fits { S.fits L.facts turn.state.value }
+        requires went { Went S.entries S.core S.cut S.steps turn.taken.value turn.state.value }
         ensures same { (pass.new.seat.table_id ≡ pass.old.seat.table_id) × (pass.new.seat.id ≡ pass.old.seat.id) }
-        ensures left { pass.new.seat.me ≡ (left_with S.entries S.core S.cut S.steps pass.old.seat.me.0 turn.taken.value turn.state, []) }
+        ensures left { pass.new.seat.me ≡ (left_with S.entries S.core S.cut S.steps pass.old.seat.me.0 turn.taken.value turn.state.value, []) }
     {
         let Turn { state, taken } = turn;
         let count = state.count();
@@ -147,14 +151,14 @@ impl<S: Kept, L: Label<Block = S::Block>> TurnCell<S, L> {
     }
 
     // The state goes home first, then its entry is counted, then the turn is given back.
-    fn leave_after(&self, pass: &mut Pass<S, L>, _taken: &Snapshot<S>, state: S, count: u64)
+    fn leave_after(&self, pass: &mut Pass<S, L>, _taken: &Snapshot<S>, state: Box<S>, count: u64)
         requires own { pass.old.seat.table_id ≡ self.now.table.shared.table_id }
         requires holds { Holds S.entries S.core S.cut S.steps _taken.now.value pass.old.seat.me }
-        requires fits { S.fits L.facts state }
-        requires went { (e : Entry) × WentBy S.entries S.core S.cut S.steps _taken.now.value state e }
-        requires count { count ≡ length (S.entries state) }
+        requires fits { S.fits L.facts state.value }
+        requires went { (e : Entry) × WentBy S.entries S.core S.cut S.steps _taken.now.value state.value e }
+        requires count { count ≡ length (S.entries state.value) }
         ensures same { (pass.new.seat.table_id ≡ pass.old.seat.table_id) × (pass.new.seat.id ≡ pass.old.seat.id) }
-        ensures left { pass.new.seat.me ≡ (left_with S.entries S.core S.cut S.steps pass.old.seat.me.0 _taken.now.value state, []) }
+        ensures left { pass.new.seat.me ≡ (left_with S.entries S.core S.cut S.steps pass.old.seat.me.0 _taken.now.value state.value, []) }
     {
         let shared = &self.table.shared;
         let gone = shared.exchange(&mut pass.seat, 0, Some(Housed::new(state)));
@@ -165,13 +169,13 @@ impl<S: Kept, L: Label<Block = S::Block>> TurnCell<S, L> {
     }
 
     // The state goes home with the history that it had.
-    fn leave_as_taken(&self, pass: &mut Pass<S, L>, _taken: &Snapshot<S>, state: S)
+    fn leave_as_taken(&self, pass: &mut Pass<S, L>, _taken: &Snapshot<S>, state: Box<S>)
         requires own { pass.old.seat.table_id ≡ self.now.table.shared.table_id }
         requires holds { Holds S.entries S.core S.cut S.steps _taken.now.value pass.old.seat.me }
-        requires fits { S.fits L.facts state }
-        requires stayed { Stayed S.entries S.core S.cut S.steps _taken.now.value state }
+        requires fits { S.fits L.facts state.value }
+        requires stayed { Stayed S.entries S.core S.cut S.steps _taken.now.value state.value }
         ensures same { (pass.new.seat.table_id ≡ pass.old.seat.table_id) × (pass.new.seat.id ≡ pass.old.seat.id) }
-        ensures left { pass.new.seat.me ≡ (left_with S.entries S.core S.cut S.steps pass.old.seat.me.0 _taken.now.value state, []) }
+        ensures left { pass.new.seat.me ≡ (left_with S.entries S.core S.cut S.steps pass.old.seat.me.0 _taken.now.value state.value, []) }
     {
         let shared = &self.table.shared;
         let gone = shared.exchange(&mut pass.seat, 0, Some(Housed::new(state)));
@@ -221,7 +225,7 @@ impl<S: Kept, L: Label<Block = S::Block>> TurnCell<S, L> {
         let housed = closed.take(0);
         closed.free();
         match housed {
-            Some(housed) => housed.into_state(),
+            Some(housed) => Box::into_inner(housed.into_state()),
             None => unreachable!(),
         }
     }

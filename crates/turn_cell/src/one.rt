@@ -21,7 +21,7 @@ pub fn try_turn<S: Kept, L: Label<Block = S::Block>, A: Act<S, L>>(
     let Ok(mut turn) = cell.try_enter(pass) else {
         return Err(act);
     };
-    let out = act.act(&mut turn.state);
+    let out = act.act(&mut *turn.state);
     cell.leave(pass, turn);
     Ok(out)
 }
@@ -38,7 +38,7 @@ pub fn turn<R: Wait, S: Kept, L: Label<Block = S::Block>, A: Act<S, L>>(
     ensures has { KeepsParts cell.now.table.shared.table_id pass.old.seat pass.new.seat }
 {
     let mut turn = cell.enter(rt, pass);
-    let out = act.act(&mut turn.state);
+    let out = act.act(&mut *turn.state);
     cell.leave(pass, turn);
     out
 }

@@ -9,24 +9,24 @@ use std::collections::LinkedList;
 use std::marker::{Model, PhantomData};
 use std::snapshot::Snapshot;
 
-/// A state that fits the label. In a clause it is the state.
+/// A state that fits the label. In a clause it is the state. It lies on the heap, so that a turn moves a pointer and not the state.
 pub struct Housed<S: Kept, L: Label<Block = S::Block>> {
-    state: S,
+    state: Box<S>,
     label: PhantomData<L>,
 }
 
 impl<S: Kept, L: Label<Block = S::Block>> Model for Housed<S, L> {
     ghost Value = { S };
 
-    ghost view = { λ h. h.state };
+    ghost view = { λ h. h.state.value };
 
-    ghost invariant = { λ h. S.fits L.facts h.state };
+    ghost invariant = { λ h. S.fits L.facts h.state.value };
 }
 
 impl<S: Kept, L: Label<Block = S::Block>> Housed<S, L> {
-    pub fn new(state: S) -> Housed<S, L>
-        requires { S.fits L.facts state }
-        ensures { result ≡ state }
+    pub fn new(state: Box<S>) -> Housed<S, L>
+        requires { S.fits L.facts state.value }
+        ensures { result ≡ state.value }
     {
         Housed {
             state,
@@ -34,9 +34,9 @@ impl<S: Kept, L: Label<Block = S::Block>> Housed<S, L> {
         }
     }
 
-    pub fn into_state(self) -> S
-        ensures same { result ≡ self }
-        ensures fits { S.fits L.facts result }
+    pub fn into_state(self) -> Box<S>
+        ensures same { result.value ≡ self }
+        ensures fits { S.fits L.facts result.value }
     {
         let Housed { state, label: _ } = self;
         state

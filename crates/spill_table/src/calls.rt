@@ -1,0 +1,113 @@
+//! The calls of a line.
+
+use crate::spoiled::SpoiledDisk;
+use crate::words::number;
+use io_edge::SpillDisk;
+use nd_shape::{Block, Shape};
+use spill_store::{Got, LostBy, SpillStore};
+use std::alloc::{AllocError, Global};
+use std::io;
+use std::sync::Arc;
+
+// A block of one axis with so many elements, from 1,000 times the key on.
+fn block(alloc: Global, key: u32, count: u32) -> Result<Arc<Block>, AllocError> {
+    let count = count.min(1000);
+    let shape = Shape::line(alloc, count as u64)?;
+    let mut cells = Vec::new(alloc);
+    for place in 0..count {
+        cells.push(key as i64 * 1000 + place as i64)?;
+    }
+    Ok(Arc::new(alloc, Block::new(shape, cells))?)
+}
+
+fn print_block<R: Print>(rt: &R, block: &Block) -> io::Result<()> {
+    let cells = block.cells();
+    match (cells.first(), cells.last()) {
+        (Some(first), Some(last)) => print!(rt; "found {} from {first} to {last}", cells.len()),
+        _ => print!(rt; "found nothing"),
+    }
+}
+
+fn print_lost<R: Print>(rt: &R, by: LostBy) -> io::Result<()> {
+    match by {
+        LostBy::Fault => print!(rt; "lost by a fault"),
+        LostBy::Length { has, needs } => print!(rt; "lost by length {has} of {needs}"),
+        LostBy::Digest { .. } => print!(rt; "lost by digest"),
+    }
+}
+
+fn print_got<R: Print>(rt: &R, got: Result<Got, AllocError>) -> io::Result<()> {
+    match got {
+        Ok(Got::Found(block)) => print_block(rt, &block),
+        Ok(Got::Absent) => print!(rt; "absent"),
+        Ok(Got::Lost(by)) => print_lost(rt, by),
+        Err(_) => print!(rt; "no memory"),
+    }
+}
+
+// Puts a block. Whether that went well.
+fn put(alloc: Global, store: &mut SpillStore<SpoiledDisk>, key: u32, count: u32) -> bool {
+    match block(alloc, key, count) {
+        Ok(block) => store.put(key, block).is_ok(),
+        Err(_) => false,
+    }
+}
+
+fn print_spilled<R: Print>(rt: &R, store: &SpillStore<SpoiledDisk>) -> io::Result<()> {
+    print!(rt; "; on the disk")?;
+    for key in 0..10 {
+        if store.spilled(key) {
+            print!(rt; " {key}")?;
+        }
+    }
+    println!(rt; "")
+}
+
+fn print_disk<R: Print>(rt: &R, disk: Option<SpoiledDisk>) -> io::Result<()> {
+    match disk {
+        Some(disk) => {
+            print!(rt; "{} faults, holds", disk.faults())?;
+            for key in 0..10 {
+                if let Some(bytes) = disk.disk.bytes(key) {
+                    print!(rt; " {key}:{}", bytes.len())?;
+                }
+            }
+            println!(rt; "")
+        }
+        None => println!(rt; "no disk"),
+    }
+}
+
+fn play_one<R: Print>(
+    rt: &R,
+    alloc: Global,
+    store: &mut SpillStore<SpoiledDisk>,
+    word: &str,
+) -> io::Result<()> {
+    let (name, count) = word.split_once(':').unwrap_or((word, ""));
+    if let Some(key) = name.strip_prefix('p') {
+        let done = put(alloc, store, number(key), number(count));
+        print!(rt; "{word}: put {done}")?;
+    } else if let Some(key) = name.strip_prefix('g') {
+        let got = store.get(number(key));
+        print!(rt; "{word}: ")?;
+        print_got(rt, got)?;
+    } else if let Some(key) = name.strip_prefix('r') {
+        store.remove(number(key));
+        print!(rt; "{word}: removed")?;
+    }
+    print_spilled(rt, store)
+}
+
+/// Plays the calls, and prints what came of each, and what the disk holds in the end.
+pub fn play<R: Print>(
+    rt: &R,
+    alloc: Global,
+    mut store: SpillStore<SpoiledDisk>,
+    text: &str,
+) -> io::Result<()> {
+    for word in text.split_whitespace() {
+        play_one(rt, alloc, &mut store, word)?;
+    }
+    print_disk(rt, store.into_disk())
+}
