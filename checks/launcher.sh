@@ -8,7 +8,7 @@ help=$(./dask --help 2>/dev/null)
 check 'status of --help' "$?" 0
 check 'help is --help' "$(./dask help 2>/dev/null)" "$help"
 check 'nothing on standard error' "$(./dask --help 2>&1 >/dev/null)" ''
-for word in run plain sim --workers --threads --saturation --script --transport --report --help --version --build; do
+for word in run plain sim gen --workers --threads --memory --saturation --script --transport --report --help --version --build; do
   check "--help names $word" "$(grep -c "^  ${word}[ ,]" <<< "$help")" 1
 done
 # every example of a command ends well
@@ -17,7 +17,7 @@ while read -r _ words; do
   # shellcheck disable=SC2086
   ./dask $words >/dev/null 2>&1
   check "status of the example $words" "$?" 0
-done < <(grep -E '^ +\./dask (run|plain|sim) ' <<< "$help")
+done < <(grep -E '^ +\./dask (run|plain|sim|gen) ' <<< "$help")
 rm -f examples/first/raised.npy
 
 version=$(./dask --version 2>/dev/null)

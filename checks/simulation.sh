@@ -106,6 +106,24 @@ for command in 'run job.txt' 'plain job.txt' 'sim job.txt 7'; do
   check "what is left after $command" "$(ls "$folder")" "$(printf 'job.txt\nq.npy')"
   rm "$folder/q.npy"
 done
+
+# the job that a number makes: the same lines twice, no file, and the digest of the file that the other commands save
+lines=$(cd "$folder" && "$root/dask" gen 7)
+check 'status of gen 7' "$?" 0
+digest=63af66b6d58021b4918e89dd87e866fd0dbbf5f4745f78bd2c28313b28b550a4
+check 'first lines of gen 7' "$(head -3 <<< "$lines")" "s (71,) sha256 $digest
+keys 315
+edges 535"
+check 'lines of gen 7 again' "$(cd "$folder" && "$root/dask" gen 7)" "$lines"
+check 'what is left after gen 7' "$(ls "$folder")" job.txt
+printf '%s\n' 'let a = ramp((71, 64), 7, 3, (15, 15))' 'let t = tensordot(a, a.T, (1), (0))' 'let s = sum(t + 7, axis=(0))' 'save s "s.npy"' > "$folder/job.txt"
+for command in 'run job.txt' 'plain job.txt' 'sim job.txt 7'; do
+  # shellcheck disable=SC2086
+  (cd "$folder" && "$root/dask" $command > "$folder/lines")
+  check "digest of the file of $command" "$(sha256sum < "$folder/s.npy" | cut -d ' ' -f 1)" "$digest"
+  rm "$folder/s.npy"
+done
+check 'the report of sim and of gen' "$(sed '1d;$d' "$folder/lines")" "$(sed 1d <<< "$lines")"
 rm -rf "$folder"
 
 summary

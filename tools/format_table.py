@@ -7,6 +7,7 @@ repository: /usr/bin/python3 tools/format_table.py
 Each module that is imported here says where its answers are from. None runs the program.
 """
 
+import gen_cases
 import header_cases
 import job_step_cases
 import job_text_cases
@@ -32,7 +33,7 @@ SUMS = [
     ("sum \\*1000000:-\\.1", "sum push" + " negate" * 7 + " and 999993 more; whole at 1000001"),
 ]
 
-MODULES = [header_cases, npy_cases, msgpack_cases, message_cases, job_step_cases, job_text_cases, sim_cases]
+MODULES = [header_cases, npy_cases, msgpack_cases, message_cases, job_step_cases, job_text_cases, sim_cases, gen_cases]
 
 
 def main():

@@ -42,6 +42,8 @@ def words(draw):
     options = ['--workers', str(workers), '--threads', str(threads)]
     if draw.random() < 0.3:
         options += ['--saturation', str(draw.choice((1, 5, 20, 1000)))]
+    if draw.random() < 0.5:
+        options += ['--memory', str(draw.choice((1, 8, 64, 100, 500, 4000)))]
     items = script(draw, workers, threads)
     return options + (['--script', items] if items else [])
 

@@ -30,6 +30,10 @@ ACCEPTED = [
     '--workers 007 --threads 0002',
     '--saturation 1',
     '--saturation 1000 --workers 2',
+    '--memory 1',
+    '--memory 268435456',
+    f'--memory {2**40}',
+    '--memory=0024 --threads 1',
     '--transport inproc',
     '--script lose:1@1',
     '--script suspect:2@0',
@@ -76,7 +80,15 @@ REFUSED = [
     '--report=yes',
     '--report=',
     '--Report',
-    '--memory 268435456',
+    '--memory',
+    '--memory=',
+    '--memory 0',
+    f'--memory {2**40 + 1}',
+    f'--memory {2**64 + 1}',
+    f'--memory {2**128 + 1}',
+    '--memory -1',
+    '--memory 1k',
+    '--memory 5 --memory 5',
     '-workers 2',
     '-w2',
     '--Workers 2',
@@ -147,7 +159,7 @@ REFUSED = [
 # for jobs by chance
 OPTIONS = ['--transport inproc', ALONE, '--workers 2', '--script lose:1@1', '--threads 1 --script suspect:2@3', '--workers 1 --script join@0', '--saturation 1',
            '--workers 3 --threads 1 --script lose:1@2,join@4,suspect:3@6', '--workers 1 --threads 4', '--workers 8 --threads 1 --saturation 100',
-           '--workers 2 --script join@1,lose:1@2,lose:2@5']
+           '--workers 2 --script join@1,lose:1@2,lose:2@5', '--memory 1', '--memory 40 --workers 2 --script lose:1@2']
 
 
 def options_at(place):
@@ -177,7 +189,7 @@ def words():
         say(f'top o.npy {run_of(options)}', 'top:' + refusal(1, 'words'))
     for other in ('run --workers 2', 'run --workers', 'run --workers --threads 1', 'run --help', 'run --job.txt', 'run -job.txt', 'run help job.txt',
                   'plain job.txt --workers 2', 'plain job.txt --report', 'plain --help', 'plain -job.txt', 'sim job.txt 7 --transport inproc',
-                  'sim job.txt 7 --report', 'sim job.txt --workers 2', 'sim --help'):
+                  'sim job.txt 7 --report', 'sim job.txt --workers 2', 'sim --help', 'plain job.txt --memory 5', 'sim job.txt 7 --memory 5'):
         say('site 4096 0')
         say(f'top o.npy {other}', 'top:' + refusal(1, 'words'))
     # nothing is opened or created then
@@ -257,6 +269,7 @@ def faults():
     objects(lines)
     counts()
     losses()
+    disks()
 
 
 def objects(lines):
@@ -321,3 +334,33 @@ def losses():
             own = range(sound * threads, (sound + 1) * threads)
             say('site 4096 0 ' + at_feeds('read', [feed for feed in range(workers * threads) if feed not in own]))
             say(f'saved o.npy {run_of(options)}', f'saved: 0 o.npy {held}')
+
+
+def disks():
+    title('runs by threads that put blocks on disks')
+    job(PAIR)
+    lines, held = lines_of('run', *PAIR_SAVES), text(saved(SUM))
+    done = told(0, lines, '', '0 0 0 0', 'o.npy', held)
+    # one worker holds two blocks at least once, and one byte is for one block alone
+    say('site 4096 0')
+    say(f'top o.npy {run_of(ALONE)} --memory 1', 'top:' + done)
+    say('putany 1', 'putany: asked 1 put true')
+    say('putany 2', 'putany: asked 0 put false')
+    say('spilled', 'spilled: faults 0')
+    # each number that a run may have gets a disk, and none takes a block without need
+    say('site 4096 0')
+    say('top o.npy run job.txt --workers 2 --script join@0', 'top:' + done)
+    for worker in range(1, 5):
+        say(f'putany {worker}', f'putany: asked {int(worker < 4)} put false')
+    title('calls of disks that fail change nothing that is told')
+    for options in ('', ALONE, '--workers 3 --threads 1 --script lose:1@2'):
+        for kind in ('spill', 'put', 'get', 'delete'):
+            # one of them, or all
+            for calls in ([0], [1], [3], range(64)):
+                say('site 4096 0 ' + ' '.join(f'{kind}:{call}' for call in calls))
+                say(f'top o.npy {run_of(options)} --memory 1'.replace('  ', ' '), 'top:' + done)
+    # a worker without a disk keeps its blocks
+    say('site 4096 0 spill:0')
+    say(f'top o.npy {run_of(ALONE)} --memory 1', 'top:' + done)
+    say('putany 1', 'putany: asked 1 put false')
+    say('spilled', 'spilled: faults 1')

@@ -1,12 +1,13 @@
 #!/usr/bin/env python3
 """What the program answers to a job: a model of its commands, written apart from the program, which it never runs.
 
-Graphs are those of graph_model.py, simulations those of world_model.py, and blocks are NumPy's. Import it where NumPy is.
+Graphs are those of graph_model.py, simulations those of world_model.py over the machines of quick_model.py, and blocks are NumPy's. Import it where NumPy is.
 """
 import numpy as np
 
 import graph_model
 from graph_model import Lowered, Limit, Refused, blocks
+from quick_model import QuickScheduler, QuickWorker
 from world_model import Simulation, World
 
 
@@ -35,6 +36,10 @@ class ShapedGraph:
         self.deps = lowered.deps
         self.work = [task.work for task in lowered.tasks]
         self.nbytes = [task.bytes for task in lowered.tasks]
+        self.above = [[] for _ in self.work]
+        for key in self.keys:
+            for dep in self.deps[key]:
+                self.above[dep].append(key)
 
     @property
     def keys(self):
@@ -45,7 +50,7 @@ class ShapedGraph:
         return sum(map(len, self.deps))
 
     def dependents(self, key):
-        return [other for other in self.keys if key in self.deps[other]]
+        return self.above[key]
 
 
 class BlockWorld(World):
@@ -53,7 +58,11 @@ class BlockWorld(World):
 
     def __init__(self, graph, saturation, values):
         super().__init__(graph, 1, saturation, 1, False)
-        self.values = values
+        self.sched, self.values = QuickScheduler(graph, 1, saturation), values
+
+    def on_join(self, threads):
+        super().on_join(threads)
+        self.workers[self.sched.last] = QuickWorker(self.graph, self.sched.last, threads)
 
     def value(self, key):
         return self.values[key]

@@ -6,10 +6,11 @@ Run it with a Python that has NumPy, at the top of the repository:
     /usr/bin/python3 tools/site_table.py
 
 The files are those that NumPy writes, and the saved arrays are NumPy's. Statuses, lines, counts and places are worked out by
-hand from the tables of docs/PROGRAM.md and docs/FORMATS.md. What jobs by chance answer, which block meets a zero divisor, and how
+hand from the tables of docs/PROGRAM.md and docs/FORMATS.md. Digests are those of hashlib. What jobs by chance answer, which block meets a zero divisor, and how
 many turns a simulation takes, is said by run_model.py, a model that was written apart from the program. The script never runs
 the program.
 """
+import hashlib
 import os
 import re
 
@@ -448,7 +449,8 @@ def words():
     title('words that ask for nothing')
     job(saved_jobs()[0][0])
     for list_of_words in ('', 'run', 'plain', 'runs job.txt', 'run job.txt x', 'Run job.txt', 'sim', 'sim job.txt', 'sim job.txt x',
-                          'sim job.txt 7 --workers', 'sim job.txt 7 --workers 1 --script lose:1@1', 'sim job.txt 7 --workers 65'):
+                          'sim job.txt 7 --workers', 'sim job.txt 7 --workers 1 --script lose:1@1', 'sim job.txt 7 --workers 65', 'gen', 'gen x', 'gen job.txt 7',
+                          'gen 7 --workers 65', 'gen 7 --saturation 11', 'gen 7 --script join@1', 'gen 18446744073709551616', 'gen --help'):
         say('site 4096 0')
         say(f'top o.npy {list_of_words}', 'top:' + refusal(1, 'words'))
     say('serial o.npy plain', 'serial:' + told(1, '', 'dask: words|dask: words|', '0 0 0 0', 'o.npy', 'none'))
@@ -613,6 +615,55 @@ def simulations():
     fail('out', 'o.npy', command, *fronts, done)
 
 
+# ---- the jobs that numbers make
+
+
+def gen_sizes(number):
+    """How many rows and columns, by which number the array begins, and how long its chunks are."""
+    return 64 + number % 64, 64 + number // 64 % 64, number % 1000, 8 + number % 9
+
+
+def gen_job(number):
+    rows, columns, first, chunk = gen_sizes(number)
+    return (f'let a = ramp(({rows}, {columns}), {first}, 3, ({chunk}, {chunk}))|let t = tensordot(a, a.T, (1), (0))|let s = sum(t + 7, axis=(0))|'
+            'save s "s.npy"|')
+
+
+def gen_lines(number, **setting):
+    """The lines of the number: the array is NumPy's, and the digest that of the file which NumPy writes."""
+    rows, columns, first, _ = gen_sizes(number)
+    array = ramp((rows, columns), first, 3)
+    file = saved(np.sum(np.tensordot(array, array.T, ([1], [0])) + 7, axis=0))
+    report = model(gen_job(number)).simulate(number, **setting)
+    return f's ({rows},) sha256 {hashlib.sha256(file).hexdigest()}|' + report[:report.index('finished')]
+
+
+# 5 by 5 chunks, by the greatest number of which the job has so few
+GREAT = 18446744073709547585
+
+
+def numbers():
+    title('the jobs that numbers make: the same lines twice, and no file')
+    say('site 4096 0')
+    for number, options, setting in ((7, '', {'workers': 4, 'threads': 2}), (32768, ALONE, {'workers': 1, 'threads': 1}),
+                                     (8, '--threads 1 --workers=3', {'workers': 3, 'threads': 1}), (GREAT, '--workers 2', {'workers': 2, 'threads': 2})):
+        often('s.npy', f'gen {number} {options}'.strip(), told(0, gen_lines(number, **setting), '', '0 0 0 0', 's.npy', 'none'))
+    command, lines = 'gen 32768', gen_lines(32768)
+    done = (0, lines, '', '0 0 0 0', 'none')
+    for kind in ('open', 'create'):
+        fail(kind, 's.npy', command, done, count=0)
+    for kind in ('length', 'read', 'write', 'err'):
+        fail(kind, 's.npy', command, done)
+    fail('out', 's.npy', command, (*UNPRINTED, 'none'), done)
+    say('put s.npy old')
+    say(f'top s.npy {command}', 'top:' + told(0, lines, '', '0 0 0 0', 's.npy', 'old'))
+    say('site 4096 40')
+    fronts = [(6, lines[:k], 'dask: write fault|', '0 0 1 0', 'none') for k in range(0, len(lines), 40)]
+    fail('out', 's.npy', command, *fronts, done)
+    say('site 20 0')
+    say(f'top s.npy {command}', 'top:' + told(6, lines[:20], 'dask: write fault|', '0 0 1 0', 's.npy', 'none'))
+
+
 # ---- folds and products
 
 
@@ -754,7 +805,7 @@ def main():
     shelve('short.npy', saved(A)[:-1])
     shelve('front.npy', saved(A)[:4])
     shelve('text.npy', b'nothing')
-    for part in (pieces, creations, room, alone, objects, lengths, spills, real, real_spills, heads, blocks, saves, divided, refusals, large, words, run_cases.words, run_cases.reports, faults, run_cases.faults, places, reports, simulations, folds, by_chance):
+    for part in (pieces, creations, room, alone, objects, lengths, spills, real, real_spills, heads, blocks, saves, divided, refusals, large, words, run_cases.words, run_cases.reports, faults, run_cases.faults, places, reports, simulations, numbers, folds, by_chance):
         part()
     here = os.path.join(os.path.dirname(os.path.abspath(__file__)), '..', 'crates', 'site_table')
     for name, lines in (('stdin', LINES), ('stdout', WANTED)):

@@ -1,19 +1,22 @@
 -- What the words say, in one way.
-use Rattle.std.proofs.Common.{◌≡◌, ℕ, ◌≤◌, ◌-◌, ◌*◌, ◌^◌, Bool, true, false, List, [], codes, string_bytes, refl, ap, sym, subst, ◌∙◌, arith, Option, Some, None, true≢false}
+use Rattle.std.proofs.Common.{◌≡◌, ℕ, ◌≤◌, ◌-◌, ◌*◌, ◌^◌, Bool, true, false, List, [], length, take, codes, string_bytes, refl, ap, sym, subst, ◌∙◌, arith, Option, Some, None, true≢false}
 use Rattle.std.specs.Prelude.{slice_index_or, unwrap_or, is_some}
 use Rattle.std.proofs.lemmas.List.FromFn.{length-range_with_len}
+use Rattle.std.proofs.Math.Seq.{take-nil}
 use Rattle.clap.specs.declared.parser.matches.ArgMatches.{ArgMatches}
 use Rattle.cluster_msgs.specs.declared.events.Item.{Item}
-use Rattle.command_words.specs.Apps.{run_app, sim_app, plain_app}
+use Rattle.cluster_rules.specs.Functions.{from_one}
+use Rattle.command_words.specs.Apps.{run_app, sim_app, plain_app, gen_app}
 use Rattle.command_words.specs.Given.{HasFlag, HasNumber, IsNoText, IsRead, IsUnread, text_in}
 use Rattle.command_words.specs.Scripts.{IsNoScript}
-use Rattle.command_words.specs.Walks.{IsCrew, IsWalk, crew_of}
-use Rattle.command_words.specs.Words.{AreRunSettings, HasNoWalk, HasScript, HasSeed, HasSettings, HasTransport, IsNoPlain, IsNoRun, IsNotGiven, IsPlain, IsRun, IsSettings, IsSim, IsWhy, SameRun, SameSim, SaysNoRun, SaysNoSim, SaysRun, SaysSim}
+use Rattle.command_words.specs.Walks.{IsCrew, IsWalk, after_items, crew_of}
+use Rattle.command_words.specs.Words.{AreGenSettings, AreRunSettings, HasGenNumbers, HasNoWalk, HasScript, HasSeed, HasSettings, HasTransport, IsGen, IsNoGen, IsNoPlain, IsNoRun, IsNotGiven, IsPlain, IsRun, IsSettings, IsSim, IsWhy, SameRun, SameSim, SaysGen, SaysNoGen, SaysNoRun, SaysNoSim, SaysRun, SaysSim}
 use Rattle.command_words.specs.declared.settings.RunSettings.{RunSettings}
 use Rattle.command_words.specs.declared.run.RunWords.{RunWords}
 use Rattle.command_words.specs.declared.sim.Settings.{Settings}
 use Rattle.command_words.specs.declared.sim.SimWords.{SimWords}
 use Rattle.command_words.specs.declared.plain.PlainWords.{PlainWords}
+use Rattle.command_words.specs.declared.generate.GenWords.{GenWords}
 use Rattle.command_words.specs.declared.fail.WordsFail.{WordsFail}
 use Rattle.command_words.specs.declared.fail.WordsFail.TheVariants.{Refused, OutOfMemory}
 use Rattle.command_words.proofs.Spoken.{one_number}
@@ -84,6 +87,7 @@ pub one_run : (words : List (List ℕ)) (a b : RunWords) → IsRun words a → I
 one_run words a b p q = record {
   job = one_text _ (string_bytes a.job) (string_bytes b.job) p.says.job q.says.job;
   settings = same_settings _ a.settings b.settings p.says.settings q.says.settings;
+  memory = one_given _ 1 (2 ^ 40) (2 ^ 28) a.memory b.memory p.says.memory q.says.memory;
   script = same_script _ a.script b.script p.says.script q.says.script;
   report = one_flag _ a.report b.report p.says.report q.says.report;
 }
@@ -115,6 +119,43 @@ one_sim words a b p q = record {
   settings = same_sim_settings _ a.settings b.settings p.says.settings q.says.settings;
   script = same_script _ a.script b.script p.says.script q.says.script;
 }
+
+-- ## A job that a number makes
+
+-- the texts say one number, and one crew, at most
+pub same_gen : (given : Given) (a b : GenWords) → HasGenNumbers given a → HasGenNumbers given b → a ≡ b
+same_gen given a b p q =
+    let number : a.number ≡ b.number = one_seed (given (codes "number")) a.number b.number p.number q.number in
+    let workers : a.workers ≡ b.workers = one_given (given (codes "workers")) 1 64 4 a.workers b.workers p.workers q.workers in
+    let threads : a.threads ≡ b.threads = one_given (given (codes "threads")) 1 16 2 a.threads b.threads p.threads q.threads in
+    λ i. record { number = number i; workers = workers i; threads = threads i }
+
+pub one_gen : (words : List (List ℕ)) (a b : GenWords) → IsGen words a → IsGen words b → a ≡ b
+one_gen words a b p q = same_gen _ a b p.says.numbers q.says.numbers
+
+-- without a script the workers stay, so they can be followed where there are some, and not too many threads
+pub stays : (workers threads : ℕ) → 1 ≤ workers → workers ≤ 64 → workers * threads ≤ 64 → IsWalk workers threads []
+stays workers threads some few served = record {
+  few = omega arith;
+  joins = omega arith;
+  rising = λ i j a b order from to. absurd (omega (arith, from.0));
+  takes = λ i item at. absurd (omega (arith, at.0));
+  crews = λ i within.
+      let count : length (from_one workers) ≡ workers = length-range_with_len 1 workers in
+      let none : [] ≡ take i [] = sym (take-nil i) in
+      let C : List Item → Type 0 = λ items. IsCrew threads (after_items (crew_of workers) items) in
+      subst C none (record { some = omega (arith, count, some); few = omega (arith, count, few); served = subst (λ n. n * threads ≤ 64) (sym count) served });
+}
+
+-- what the words say can be followed
+pub gen_settings : (words : List (List ℕ)) (s : GenWords) → IsGen words s → AreGenSettings s
+gen_settings words s is =
+    let workers : (1 ≤ s.workers) × (s.workers ≤ 64) = in_range _ 1 64 4 s.workers (omega arith) (omega arith) is.says.numbers.workers in
+    record {
+      workers = workers;
+      threads = in_range _ 1 16 2 s.threads (omega arith) (omega arith) is.says.numbers.threads;
+      walk = stays s.workers s.threads workers.0 workers.1 is.says.all_threads;
+    }
 
 -- ## A plain evaluation
 

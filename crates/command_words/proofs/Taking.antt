@@ -13,7 +13,7 @@ use Rattle.clap.specs.declared.error.Error.{Error}
 use Rattle.clap.specs.declared.parser.matches.ArgMatches.{ArgMatches}
 use Rattle.clap.proofs.OnLiterals.{clap_on_literals}
 use Rattle.clap.proofs.WalkLemmas.{first_value-rows}
-use Rattle.command_words.specs.Apps.{command_of, option, plain_app, run_app, sim_app, with_options}
+use Rattle.command_words.specs.Apps.{command_of, gen_app, option, plain_app, run_app, sim_app, with_options}
 use Rattle.command_words.specs.Given.{CameBy, IsRead, IsTaken, IsUnread, text_in, text_of}
 use Rattle.command_words.specs.declared.fail.WordsFail.{WordsFail}
 use Rattle.command_words.specs.declared.fail.WordsFail.TheVariants.{Refused, OutOfMemory}
@@ -31,6 +31,10 @@ sim_is_simple = refl
 pub plain_is_simple : is_simple_and_free plain_app ≡ true
 unfolding plain_app clap_on_literals
 plain_is_simple = refl
+
+pub gen_is_simple : is_simple_and_free gen_app ≡ true
+unfolding gen_app clap_on_literals
+gen_is_simple = refl
 
 pub simple_of : (app : App) → is_simple_and_free app ≡ true → is_simple app ≡ true
 simple_of app both = (and_parts _ _ both).0

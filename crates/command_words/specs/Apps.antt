@@ -32,11 +32,15 @@ with_options app = record app { top = record app.top { rules = app.top.rules ++ 
 
 -- `run JOB` with options
 unfoldable pub run_app : App
-run_app = command_of (codes "run") (needed (codes "job") ∷ settings ++ option (codes "transport") ∷ flag (codes "report") ∷ [])
+run_app = command_of (codes "run") (needed (codes "job") ∷ settings ++ option (codes "memory") ∷ option (codes "transport") ∷ flag (codes "report") ∷ [])
 
 -- `sim JOB NUMBER` with options
 unfoldable pub sim_app : App
 sim_app = command_of (codes "sim") (needed (codes "job") ∷ needed (codes "number") ∷ settings)
+
+-- `gen NUMBER` with options
+unfoldable pub gen_app : App
+gen_app = command_of (codes "gen") (needed (codes "number") ∷ option (codes "workers") ∷ option (codes "threads") ∷ [])
 
 -- `plain JOB`
 unfoldable pub plain_app : App

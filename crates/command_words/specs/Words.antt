@@ -1,7 +1,7 @@
--- The words of a run, of a simulation and of a plain evaluation.
+-- The words of a run, of a simulation, of a plain evaluation, and of a job that a number makes.
 use Rattle.std.specs.Prelude.{◌≡◌, ◌<◌, ◌≤◌, ◌-◌, ◌*◌, ◌^◌, ℕ, List, [], Option, Some, None, codes, length, slice_index_or, string_bytes}
 use Rattle.cluster_msgs.specs.declared.events.Item.{Item}
-use Rattle.command_words.specs.Apps.{run_app, sim_app, plain_app}
+use Rattle.command_words.specs.Apps.{run_app, sim_app, plain_app, gen_app}
 use Rattle.command_words.specs.Given.{IsTaken, HasFlag, HasNumber, text_of}
 use Rattle.command_words.specs.Numbers.{IsNumber}
 use Rattle.command_words.specs.Scripts.{IsScript}
@@ -11,6 +11,7 @@ use Rattle.command_words.specs.declared.run.RunWords.{RunWords}
 use Rattle.command_words.specs.declared.sim.Settings.{Settings}
 use Rattle.command_words.specs.declared.sim.SimWords.{SimWords}
 use Rattle.command_words.specs.declared.plain.PlainWords.{PlainWords}
+use Rattle.command_words.specs.declared.generate.GenWords.{GenWords}
 use Rattle.command_words.specs.declared.fail.WordsFail.{WordsFail}
 use Rattle.command_words.specs.declared.fail.WordsFail.TheVariants.{Refused, OutOfMemory}
 
@@ -52,6 +53,7 @@ HasTransport None = Unit {0}
 pub record SaysRun (given : List ℕ → Option (List ℕ)) (s : RunWords) : Type 0 where
   pub job : given (codes "job") ≡ Some (string_bytes s.job)
   pub settings : HasSettings given s.settings
+  pub memory : HasNumber (given (codes "memory")) 1 (2 ^ 40) (2 ^ 28) s.memory
   pub transport : HasTransport (given (codes "transport"))
   pub report : HasFlag (given (codes "report")) s.report
   pub script : HasScript (given (codes "script")) s.script
@@ -130,12 +132,47 @@ abbrev pub IsNoPlain : List (List ℕ) → WordsFail → Type 0
 IsNoPlain words Refused = (s : PlainWords) → ¬ IsPlain words s
 IsNoPlain words OutOfMemory = Unit {0}
 
+-- ## A job that a number makes
+
+-- NUMBER, `--workers` and `--threads`
+pub record HasGenNumbers (given : List ℕ → Option (List ℕ)) (s : GenWords) : Type 0 where
+  pub number : HasSeed (given (codes "number")) s.number
+  pub workers : HasNumber (given (codes "workers")) 1 64 4 s.workers
+  pub threads : HasNumber (given (codes "threads")) 1 16 2 s.threads
+
+-- the texts that are given to the names say these numbers, with not too many threads
+pub record SaysGen (given : List ℕ → Option (List ℕ)) (s : GenWords) : Type 0 where
+  pub numbers : HasGenNumbers given s
+  pub all_threads : s.workers * s.threads ≤ 64
+
+-- `gen NUMBER` and options
+pub record IsGen (words : List (List ℕ)) (s : GenWords) : Type 0 where
+  pub command : slice_index_or words 0 [] ≡ codes "gen"
+  pub takes : IsTaken gen_app words
+  pub says : SaysGen (text_of gen_app words) s
+
+-- why no number was read
+abbrev pub IsNoGen : List (List ℕ) → WordsFail → Type 0
+IsNoGen words Refused = (s : GenWords) → ¬ IsGen words s
+IsNoGen words OutOfMemory = Unit {0}
+
+abbrev pub SaysNoGen : (List ℕ → Option (List ℕ)) → WordsFail → Type 0
+SaysNoGen given Refused = (s : GenWords) → ¬ SaysGen given s
+SaysNoGen given OutOfMemory = Unit {0}
+
+-- settings of such a simulation that can be followed: 1 to 64 workers of 1 to 16 threads each, with at most 64 threads together
+pub record AreGenSettings (s : GenWords) : Type 0 where
+  pub workers : (1 ≤ s.workers) × (s.workers ≤ 64)
+  pub threads : (1 ≤ s.threads) × (s.threads ≤ 16)
+  pub walk : IsWalk s.workers s.threads []
+
 -- ## One command at most
 
--- two runs with the same job, settings, script and report
+-- two runs with the same job, settings, memory, script and report
 pub record SameRun (a b : RunWords) : Type 0 where
   pub job : string_bytes a.job ≡ string_bytes b.job
   pub settings : a.settings ≡ b.settings
+  pub memory : a.memory ≡ b.memory
   pub script : a.script ≡ b.script
   pub report : a.report ≡ b.report
 

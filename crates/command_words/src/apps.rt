@@ -3,7 +3,7 @@ ghost use Rattle.std.specs.Prelude.{◌≡◌, [], IfOk, IfErr, false, map, stri
 ghost use Rattle.clap.specs.Faults.{is_simple_and_free};
 ghost use Rattle.clap.specs.Simple.{app_of, with_rule};
 ghost use Rattle.clap.specs.Walk.{rule_of};
-ghost use Rattle.command_words.specs.Apps.{command_of, flag, needed, option, plain_app, run_app, sim_app, with_options};
+ghost use Rattle.command_words.specs.Apps.{command_of, flag, gen_app, needed, option, plain_app, run_app, sim_app, with_options};
 ghost use Rattle.command_words.specs.Given.{CameBy, IsRead, IsUnread};
 
 use crate::fail::WordsFail;
@@ -67,7 +67,8 @@ fn run_command<'a>(alloc: Global) -> Result<Command<'a>, AllocError>
 {
     let named = with_arg(bare_command(alloc, "run"), needed_arg(alloc, "job"))?;
     let set = with_settings(alloc, named)?;
-    let linked = with_arg(set, option_arg(alloc, "transport"))?;
+    let bounded = with_arg(set, option_arg(alloc, "memory"))?;
+    let linked = with_arg(bounded, option_arg(alloc, "transport"))?;
     with_arg(linked, flag_arg(alloc, "report"))
 }
 
@@ -83,6 +84,14 @@ fn plain_command<'a>(alloc: Global) -> Result<Command<'a>, AllocError>
     ensures { IfOk result (λ c. app_of c ≡ plain_app) }
 {
     with_arg(bare_command(alloc, "plain"), needed_arg(alloc, "job"))
+}
+
+fn gen_command<'a>(alloc: Global) -> Result<Command<'a>, AllocError>
+    ensures { IfOk result (λ c. app_of c ≡ gen_app) }
+{
+    let numbered = with_arg(bare_command(alloc, "gen"), needed_arg(alloc, "number"))?;
+    let manned = with_arg(numbered, option_arg(alloc, "workers"))?;
+    with_arg(manned, option_arg(alloc, "threads"))
 }
 
 // Whether words were refused, or not read for want of memory.
@@ -129,4 +138,12 @@ pub fn plain_matches<'a>(alloc: Global, words: &'a [String]) -> Result<ArgMatche
     ensures unread { IfErr result (IsUnread plain_app (map string_bytes words.entry.now)) }
 {
     read_words(plain_command(alloc)?, words)
+}
+
+/// Reads the words of a job that a number makes, of which the first is `gen`.
+pub fn gen_matches<'a>(alloc: Global, words: &'a [String]) -> Result<ArgMatches<'a>, WordsFail>
+    ensures read { IfOk result (IsRead gen_app (map string_bytes words.entry.now)) }
+    ensures unread { IfErr result (IsUnread gen_app (map string_bytes words.entry.now)) }
+{
+    read_words(gen_command(alloc)?, words)
 }

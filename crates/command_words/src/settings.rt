@@ -21,7 +21,12 @@ pub struct RunSettings {
 }
 
 // A number from 1 that is given to a name, or the one that is taken without it.
-fn setting_of(matches: &ArgMatches<'_>, name: &str, most: u32, default: u32) -> Option<u32>
+pub(crate) fn setting_of(
+    matches: &ArgMatches<'_>,
+    name: &str,
+    most: u32,
+    default: u32,
+) -> Option<u32>
     ensures { let Has = HasNumber (text_in matches.now name.now) 1 most default in MatchOption result ((n : ℕ) → ¬ Has n) Has }
 {
     let number = number_of(matches, name, 1, u128::from(most), u128::from(default))?;

@@ -41,7 +41,7 @@ fn seed_in(word: &str) -> Option<u64>
 }
 
 // The generator's number that is given.
-fn seed_of(matches: &ArgMatches<'_>) -> Option<u64>
+pub(crate) fn seed_of(matches: &ArgMatches<'_>) -> Option<u64>
     ensures { let Has = HasSeed (text_in matches.now (codes "number")) in MatchOption result ((n : ℕ) → ¬ Has n) Has }
 {
     match given_to(matches, "number") {

@@ -28,6 +28,7 @@ use Rattle.cluster_sim.specs.Drawn.{word_of}
 use Rattle.cluster_sim.specs.Simulations.{IsUnfinished}
 use Rattle.task_graph.specs.Graphs.{operation, shape_of}
 use Rattle.command_words.specs.Words.{SameRun, SameSim}
+use Rattle.command_words.specs.declared.generate.GenWords.{GenWords}
 use Rattle.command_words.specs.declared.plain.PlainWords.{PlainWords}
 use Rattle.command_words.specs.declared.run.RunWords.{RunWords}
 use Rattle.command_words.specs.declared.sim.Settings.{Settings}
@@ -36,16 +37,17 @@ use Rattle.sim_run.specs.Jobs.{IsTextJob}
 use Rattle.sim_run.specs.declared.ends.SimEnded.{SimEnded}
 use Rattle.sim_run.specs.declared.ends.SimEnded.TheVariants as SimEnds
 use Rattle.sim_run.specs.Ends.{Cause as SimCause, WhereTold}
-use Rattle.thread_run.specs.Ends.{Cause as ThreadCause}
-use Rattle.command_words.proofs.Saying.{one_plain, one_run, one_sim}
+use Rattle.thread_run.specs.Ends.{Cause as ThreadCause, HasFault as ThreadFault, HasValues as ThreadValues}
+use Rattle.command_words.proofs.Saying.{one_gen, one_plain, one_run, one_sim}
 use Rattle.dask_top.specs.declared.answer.End.TheVariants.{Words, Job, Limit, Graph, Events, Turns, Done, File, Zero, ReadFault, WriteFault, OutOfMemory}
-use Rattle.dask_top.specs.Answers.{Answers, AskedDoes, Performs}
-use Rattle.dask_top.specs.Commands.{Command, Run, Plain, Sim, Asks, Asked, IsAsked, Known, Unread, Work, Running, Evaluation, Simulation, sources_of, work_of}
-use Rattle.dask_top.specs.Completing.{Completes, EndsByInputs, EndsBySimulation, EndsByTexts, EndsByWork, MeetNoZero, MeetZero, NeverEnds, NoFault}
+use Rattle.dask_top.specs.Answers.{Answers, AskedDoes, CommandDoes, Performs}
+use Rattle.dask_top.specs.Commands.{Command, Run, Plain, Sim, Gen, Asks, Asked, IsAsked, Known, Unread, Work, Running, Evaluation, Simulation, sources_of}
+use Rattle.dask_top.specs.Completing.{CommandEnds, Completes, EndsByInputs, EndsByNumber, EndsByRun, EndsBySimulation, EndsByTexts, EndsByWork, MeetNoZero, MeetZero, NeverEnds, NoFault}
 use Rattle.dask_top.specs.Ends.{run_end, sim_end, status_of}
+use Rattle.dask_top.specs.Generating.{GenCause}
 use Rattle.dask_top.specs.Reading.{IsRead, Reading, Reads, plan_said}
 use Rattle.dask_top.specs.Telling.{end_of, sim_end_of}
-use Rattle.dask_top.proofs.Obeying.{plain_or_run, plain_or_sim, run_or_sim}
+use Rattle.dask_top.proofs.Obeying.{gen_or_plain, gen_or_run, gen_or_sim, plain_or_run, plain_or_sim, run_or_sim}
 use Rattle.dask_top.specs.Works.{Does, Evaluates, RefusalCause, Runs, Simulates, UnreadCause, WorkDoes}
 
 told_and : {A : Type 0} (o : Option A) (P Q : A → Type 0) → IsSomeAnd o P → IfSome o Q → (x : A) × P x × Q x
@@ -130,8 +132,11 @@ sim_memory p said old = record {
   none_limit = λ s f m. inr (inr (inr refl));
 }
 
+threads_memory : (p : Plan) (old : View) → EndsByRun p old 8
+threads_memory p old = record { large = λ l. inr refl; unfit = λ s u. inr refl; some = λ t s f m. inr refl; none = λ t s f m. inr refl; either = λ s f. inr (inr refl) }
+
 memory_ends : (work : Work) (p : Plan) (old : View) → EndsByWork work p old 8
-memory_ends (Running said) p old = run_memory p old
+memory_ends (Running said) p old = threads_memory p old
 memory_ends Evaluation p old = run_memory p old
 memory_ends (Simulation said) p old = sim_memory p said old
 
@@ -208,14 +213,51 @@ fault_ends p old node block small has = record {
   none = λ s f m. absurd (not_faulty p old.files node block m has);
 }
 
-threads_complete : (p : Plan) (old new : View) (end : Ended) → NoFault old new → ThreadCause p old new end → EndsByInputs p old (status_of (end_of end))
-threads_complete p old new RunEnds.Done faults cause = run_completes p old new RunEnds.Done faults cause
-threads_complete p old new (RunEnds.Limit quantity) faults cause = run_completes p old new (RunEnds.Limit quantity) faults cause
-threads_complete p old new (RunEnds.File place error) faults cause = run_completes p old new (RunEnds.File place error) faults cause
-threads_complete p old new (RunEnds.Zero node block) faults cause = fault_ends p old node block cause.0 cause.1
+-- a run of a job whose inputs are as declared, which met a zero divisor or gave all blocks: of zero divisors it tells where the site tells
+threads_zero : (p : Plan) (old : View) (node : ℕ) (block : List ℕ) → IsSmall p → ThreadFault p old.files node block → EndsByRun p old 4
+threads_zero p old node block small has = record {
+  large = λ l. absurd (l small);
+  unfit = λ s u. absurd (not_fit p old.files u has.inputs);
+  some = λ t s f m. inl refl;
+  none = λ t s f m. absurd (not_faulty p old.files node block m (record { inputs = has.inputs; zero_at = has.zero_at t }));
+  either = λ s f. inr (inl refl);
+}
+
+threads_done : (p : Plan) (old : View) → IsSmall p → ThreadValues p old.files → EndsByRun p old 0
+threads_done p old small has = record {
+  large = λ l. absurd (l small);
+  unfit = λ s u. absurd (not_fit p old.files u has.inputs);
+  some = λ t s f m. absurd (not_all p old.files m (record { inputs = has.inputs; values = has.values t }));
+  none = λ t s f m. inl refl;
+  either = λ s f. inl refl;
+}
+
+threads_limit : (p : Plan) (old : View) (quantity : Quantity) → limit_of p.nodes ≡ Some quantity → EndsByRun p old 9
+threads_limit p old quantity passes = record {
+  large = λ l. inl refl;
+  unfit = λ s u. absurd (no_limit p quantity passes s);
+  some = λ t s f m. absurd (no_limit p quantity passes s);
+  none = λ t s f m. absurd (no_limit p quantity passes s);
+  either = λ s f. absurd (no_limit p quantity passes s);
+}
+
+threads_file : (p : Plan) (old : View) (place : ℕ) (error : FileError) → IsSmall p → InputRefused p old.files place error → EndsByRun p old 3
+threads_file p old place error small refused = record {
+  large = λ l. absurd (l small);
+  unfit = λ s u. inl refl;
+  some = λ t s f m. absurd (not_refused_input p old.files place error f refused);
+  none = λ t s f m. absurd (not_refused_input p old.files place error f refused);
+  either = λ s f. absurd (not_refused_input p old.files place error f refused);
+}
+
+threads_complete : (p : Plan) (old new : View) (end : Ended) → NoFault old new → ThreadCause p old new end → EndsByRun p old (status_of (end_of end))
+threads_complete p old new RunEnds.Done faults cause = threads_done p old cause.0 cause.1
+threads_complete p old new (RunEnds.Limit quantity) faults cause = threads_limit p old quantity cause
+threads_complete p old new (RunEnds.File place error) faults cause = threads_file p old place error cause.0 cause.1
+threads_complete p old new (RunEnds.Zero node block) faults cause = threads_zero p old node block cause.0 cause.1
 threads_complete p old new RunEnds.ReadFault faults cause = absurd (faults.read cause.1)
 threads_complete p old new RunEnds.WriteFault faults cause = absurd (elim cause.2 [ inl w ↦ faults.write w | inr q ↦ faults.print q ])
-threads_complete p old new RunEnds.OutOfMemory faults cause = run_memory p old
+threads_complete p old new RunEnds.OutOfMemory faults cause = threads_memory p old
 
 sim_run_completes : (p : Plan) (said : SimWords) (old new : View) (end : Ended) → NoFault old new → SimCause p said old new (SimEnds.Ran end) → EndsByInputs p old (status_of (end_of end))
 sim_run_completes p said old new RunEnds.Done faults cause = run_completes p old new RunEnds.Done faults cause
@@ -263,7 +305,7 @@ of_sim P Q f (Job error) holds = absurd holds
 of_sim P Q f (Limit quantity) holds = absurd holds
 
 work_completes : (work : Work) (sources : List (List ℕ)) (p : Plan) (old new : View) (end : End) → NoFault old new → WorkDoes work sources p old new end → EndsByWork work p old (status_of end)
-work_completes (Running said) sources p old new end faults does = of_run (Runs sources p said old new) (EndsByInputs p old) (λ e d. threads_complete p old new e faults d.cause) end does
+work_completes (Running said) sources p old new end faults does = of_run (Runs sources p said old new) (EndsByRun p old) (λ e d. threads_complete p old new e faults d.cause) end does
 work_completes Evaluation sources p old new end faults does = of_run (Evaluates sources p old new) (EndsByInputs p old) (λ e d. run_completes p old new e faults d.cause) end does
 work_completes (Simulation said) sources p old new end faults does = of_sim (Simulates sources p said old new) (EndsBySimulation p said old) (λ e d. sim_completes p said old new e faults d.cause) end does
 
@@ -382,24 +424,64 @@ simulated said read old status same ends =
       };
     }
 
+-- ## The job that a number makes
+
+number_memory : (w : GenWords) → EndsByNumber w 8
+number_memory w = record { going = λ ends. inr (inr refl); limit = inr (inr (inr refl)) }
+
+number_completes : (w : GenWords) (old new : View) (end : End) → NoFault old new → GenCause w old new end → EndsByNumber w (status_of end)
+number_completes w old new Done faults cause = record { going = λ ends. inl refl; limit = inl refl }
+number_completes w old new Turns faults cause = record { going = λ ends. inr (inl refl); limit = inr (inl refl) }
+number_completes w old new Events faults cause = record { going = λ ends. absurd (ends cause); limit = inr (inr (inl refl)) }
+number_completes w old new WriteFault faults cause = absurd (faults.print cause)
+number_completes w old new OutOfMemory faults cause = number_memory w
+number_completes w old new Words faults cause = absurd cause
+number_completes w old new (Job error) faults cause = absurd cause
+number_completes w old new (Limit quantity) faults cause = absurd cause
+number_completes w old new (Graph quantity) faults cause = absurd cause
+number_completes w old new (File place error) faults cause = absurd cause
+number_completes w old new (Zero node block) faults cause = absurd cause
+number_completes w old new ReadFault faults cause = absurd cause
+
+-- ## One command
+
 -- what is said of the command that was read is said of each that the words ask for
-same_command : (words : List (List ℕ)) (d c : Command) (old : View) (status : ℕ) → Asks words d → Asks words c → EndsByTexts (sources_of d) (work_of d) old status → EndsByTexts (sources_of c) (work_of c) old status
+same_command : (words : List (List ℕ)) (d c : Command) (old : View) (status : ℕ) → Asks words d → Asks words c → CommandEnds d old status → CommandEnds c old status
 same_command words (Run said) (Run read) old status is also ends = ran said read old status (one_run words said read is also) ends
 same_command words (Plain said) (Plain read) old status is also ends = same_source Evaluation (string_bytes said.job) (string_bytes read.job) old status (one_plain words said read is also) ends
 same_command words (Sim said) (Sim read) old status is also ends = simulated said read old status (one_sim words said read is also) ends
+same_command words (Gen said) (Gen read) old status is also ends = let E : GenWords → Type 0 = λ w. EndsByNumber w status in subst E (one_gen words said read is also) ends
 same_command words (Run said) (Plain read) old status is also ends = absurd (plain_or_run (sym also.command ∙ is.command))
 same_command words (Plain said) (Run read) old status is also ends = absurd (plain_or_run (sym is.command ∙ also.command))
 same_command words (Run said) (Sim read) old status is also ends = absurd (run_or_sim (sym is.command ∙ also.command))
 same_command words (Plain said) (Sim read) old status is also ends = absurd (plain_or_sim (sym is.command ∙ also.command))
 same_command words (Sim said) (Run read) old status is also ends = absurd (run_or_sim (sym also.command ∙ is.command))
 same_command words (Sim said) (Plain read) old status is also ends = absurd (plain_or_sim (sym also.command ∙ is.command))
+same_command words (Gen said) (Run read) old status is also ends = absurd (gen_or_run (sym is.command ∙ also.command))
+same_command words (Gen said) (Plain read) old status is also ends = absurd (gen_or_plain (sym is.command ∙ also.command))
+same_command words (Gen said) (Sim read) old status is also ends = absurd (gen_or_sim (sym is.command ∙ also.command))
+same_command words (Run said) (Gen read) old status is also ends = absurd (gen_or_run (sym also.command ∙ is.command))
+same_command words (Plain said) (Gen read) old status is also ends = absurd (gen_or_plain (sym also.command ∙ is.command))
+same_command words (Sim said) (Gen read) old status is also ends = absurd (gen_or_sim (sym also.command ∙ is.command))
 
-asked_completes : Laws → (words : List (List ℕ)) (old new : View) (end : End) (asked : Asked) (c : Command) → IsAsked words asked → AskedDoes asked old new end → Asks words c → NoFault old new → EndsByTexts (sources_of c) (work_of c) old (status_of end)
+command_completes : Laws → (c : Command) (old new : View) (end : End) → CommandDoes c old new end → NoFault old new → CommandEnds c old (status_of end)
+command_completes laws (Run said) old new end does faults = text_completes laws (sources_of (Run said)) (Running said) old new end does faults
+command_completes laws (Plain said) old new end does faults = text_completes laws (sources_of (Plain said)) Evaluation old new end does faults
+command_completes laws (Sim said) old new end does faults = text_completes laws (sources_of (Sim said)) (Simulation said) old new end does faults
+command_completes laws (Gen said) old new end does faults = number_completes said old new end faults does.cause
+
+command_memory : (c : Command) (old : View) → CommandEnds c old 8
+command_memory (Run said) old = text_memory (sources_of (Run said)) (Running said) old
+command_memory (Plain said) old = text_memory (sources_of (Plain said)) Evaluation old
+command_memory (Sim said) old = text_memory (sources_of (Sim said)) (Simulation said) old
+command_memory (Gen said) old = number_memory said
+
+asked_completes : Laws → (words : List (List ℕ)) (old new : View) (end : End) (asked : Asked) (c : Command) → IsAsked words asked → AskedDoes asked old new end → Asks words c → NoFault old new → CommandEnds c old (status_of end)
 asked_completes laws words old new end (Known None) c none does asks faults = absurd (none c asks)
-asked_completes laws words old new end (Known (Some d)) c asked does asks faults = same_command words d c old (status_of end) asked asks (text_completes laws (sources_of d) (work_of d) old new end does faults)
-asked_completes laws words old new end Unread c first does asks faults = let E : End → Type 0 = λ e. EndsByTexts (sources_of c) (work_of c) old (status_of e) in subst E (sym does.is) (text_memory (sources_of c) (work_of c) old)
+asked_completes laws words old new end (Known (Some d)) c asked does asks faults = same_command words d c old (status_of end) asked asks (command_completes laws d old new end does faults)
+asked_completes laws words old new end Unread c first does asks faults = let E : End → Type 0 = λ e. CommandEnds c old (status_of e) in subst E (sym does.is) (command_memory c old)
 
 pub completes : Laws → (words : List (List ℕ)) (old new : View) (status : ℕ) → Answers words old new status → Completes words old new status
 completes laws words old new status answers c asks faults =
-    let E : ℕ → Type 0 = λ s. EndsByTexts (sources_of c) (work_of c) old s in
+    let E : ℕ → Type 0 = λ s. CommandEnds c old s in
     subst E (sym answers.is_status) (asked_completes laws words old new answers.end answers.obeys.asked c answers.obeys.is answers.obeys.does asks faults)

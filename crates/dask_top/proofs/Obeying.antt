@@ -4,17 +4,19 @@ use Rattle.std.specs.Prelude.{bytes_eq, true, false}
 use Rattle.std.proofs.lemmas.Bool.{false≢true}
 use Rattle.std.proofs.lemmas.Slice.Eq.{bytes_eq-Decides}
 use Rattle.io_edge.specs.View.{View, OnlyErr}
+use Rattle.command_words.specs.declared.generate.GenWords.{GenWords}
 use Rattle.command_words.specs.declared.plain.PlainWords.{PlainWords}
 use Rattle.command_words.specs.declared.run.RunWords.{RunWords}
 use Rattle.command_words.specs.declared.sim.SimWords.{SimWords}
-use Rattle.command_words.specs.Words.{IsPlain, IsRun, IsSim}
+use Rattle.command_words.specs.Words.{IsGen, IsPlain, IsRun, IsSim}
 use Rattle.command_words.proofs.Saying.{in_range}
 use Rattle.sim_run.specs.Simulated.{AreSettings}
 use Rattle.dask_top.specs.declared.answer.End.{End}
 use Rattle.dask_top.specs.declared.answer.End.TheVariants.{Words, OutOfMemory}
 use Rattle.dask_top.specs.Answers.{Obeys, OnlyTells, Performs}
-use Rattle.dask_top.specs.Commands.{Command, Run, Plain, Sim, Asks, Known, MayStayUnread, Unread, Running, Evaluation, Simulation}
+use Rattle.dask_top.specs.Commands.{Command, Run, Plain, Sim, Gen, Asks, Known, MayStayUnread, Unread, Running, Evaluation, Simulation}
 use Rattle.dask_top.specs.Ends.{Notes}
+use Rattle.dask_top.specs.Generating.{Generates}
 use Rattle.dask_top.specs.Reading.{Reading}
 use Rattle.dask_top.specs.Telling.{IsRefusal, Told}
 use Rattle.dask_top.proofs.Unread.{told_same}
@@ -44,6 +46,15 @@ run_or_sim e = omega (arith, ap (λ w. get_or w 0 0) e)
 pub plain_or_sim : codes "plain" ≡ codes "sim" → ⊥
 plain_or_sim e = omega (arith, ap (λ w. get_or w 0 0) e)
 
+pub gen_or_run : codes "gen" ≡ codes "run" → ⊥
+gen_or_run e = omega (arith, ap (λ w. get_or w 0 0) e)
+
+pub gen_or_plain : codes "gen" ≡ codes "plain" → ⊥
+gen_or_plain e = omega (arith, ap (λ w. get_or w 0 0) e)
+
+pub gen_or_sim : codes "gen" ≡ codes "sim" → ⊥
+gen_or_sim e = omega (arith, ap (λ w. get_or w 0 0) e)
+
 -- ## Words of no command
 
 -- the words ask for nothing that can be done
@@ -51,11 +62,13 @@ pub record AskNothing (words : List (List ℕ)) : Type 0 where
   pub no_run : (s : RunWords) → ¬ IsRun words s
   pub no_plain : (s : PlainWords) → ¬ IsPlain words s
   pub no_sim : (s : SimWords) → ¬ IsSim words s
+  pub no_gen : (s : GenWords) → ¬ IsGen words s
 
 no_command : (words : List (List ℕ)) → AskNothing words → (c : Command) → ¬ Asks words c
 no_command words nothing (Run said) asks = nothing.no_run said asks
 no_command words nothing (Plain said) asks = nothing.no_plain said asks
 no_command words nothing (Sim said) asks = nothing.no_sim said asks
+no_command words nothing (Gen said) asks = nothing.no_gen said asks
 
 pub refused_words : (words : List (List ℕ)) (old new : View) (now : End) → AskNothing words → Told Words now → OnlyErr old new → ((r : Reading) → Notes r old new now) → Obeys words old new now
 refused_words words old new now nothing told only notes = record {
@@ -70,6 +83,7 @@ only_run words first none = record {
   no_run = none;
   no_plain = λ s is. plain_or_run (sym is.command ∙ first);
   no_sim = λ s is. run_or_sim (sym first ∙ is.command);
+  no_gen = λ s is. gen_or_run (sym is.command ∙ first);
 }
 
 -- the same of an evaluation
@@ -78,6 +92,7 @@ only_plain words first none = record {
   no_run = λ s is. plain_or_run (sym first ∙ is.command);
   no_plain = none;
   no_sim = λ s is. plain_or_sim (sym first ∙ is.command);
+  no_gen = λ s is. gen_or_plain (sym is.command ∙ first);
 }
 
 -- and of a simulation
@@ -86,15 +101,26 @@ only_sim words first none = record {
   no_run = λ s is. run_or_sim (sym is.command ∙ first);
   no_plain = λ s is. plain_or_sim (sym is.command ∙ first);
   no_sim = none;
+  no_gen = λ s is. gen_or_sim (sym is.command ∙ first);
+}
+
+-- and of the job that a number makes
+pub only_gen : (words : List (List ℕ)) → get_or words 0 [] ≡ codes "gen" → ((s : GenWords) → ¬ IsGen words s) → AskNothing words
+only_gen words first none = record {
+  no_run = λ s is. gen_or_run (sym first ∙ is.command);
+  no_plain = λ s is. gen_or_plain (sym first ∙ is.command);
+  no_sim = λ s is. gen_or_sim (sym first ∙ is.command);
+  no_gen = none;
 }
 
 -- words that begin as those of none of them
 pub no_name : (words : List (List ℕ)) → bytes_eq (get_or words 0 []) (codes "run") ≡ false → bytes_eq (get_or words 0 []) (codes "plain") ≡ false
-    → bytes_eq (get_or words 0 []) (codes "sim") ≡ false → AskNothing words
-no_name words run plain sim = record {
+    → bytes_eq (get_or words 0 []) (codes "sim") ≡ false → bytes_eq (get_or words 0 []) (codes "gen") ≡ false → AskNothing words
+no_name words run plain sim gen = record {
   no_run = λ s is. not_name (get_or words 0 []) (codes "run") run is.command;
   no_plain = λ s is. not_name (get_or words 0 []) (codes "plain") plain is.command;
   no_sim = λ s is. not_name (get_or words 0 []) (codes "sim") sim is.command;
+  no_gen = λ s is. not_name (get_or words 0 []) (codes "gen") gen is.command;
 }
 
 -- ## Words that stay unread
@@ -128,3 +154,6 @@ evaluated words said old new end is performs = record { asked = Known (Some (Pla
 
 pub simulated : (words : List (List ℕ)) (said : SimWords) (old new : View) (end : End) → IsSim words said → Performs (string_bytes said.job ∷ []) (Simulation said) old new end → Obeys words old new end
 simulated words said old new end is performs = record { asked = Known (Some (Sim said)); is = is; does = performs }
+
+pub generated : (words : List (List ℕ)) (said : GenWords) (old new : View) (end : End) → IsGen words said → Generates said old new end → Obeys words old new end
+generated words said old new end is generates = record { asked = Known (Some (Gen said)); is = is; does = generates }

@@ -1,6 +1,6 @@
 -- A run of a job by a cluster of threads, whose text was read before it and whose end was told after it.
 use Rattle.std.proofs.Common.{◌≡◌, ℕ, ◌≤◌, List, ◌++◌, refl, ap, sym, ◌∙◌, subst, inl, inr, arith, Option, None, Some, Ok}
-use Rattle.std.specs.Prelude.{IfSome, IsSomeAnd}
+use Rattle.std.specs.Prelude.{IfSome, IsSomeAnd, IsTrue}
 use Rattle.cluster_msgs.specs.declared.events.Report.{Report}
 use Rattle.io_edge.specs.Content.{followed_by}
 use Rattle.io_edge.proofs.GivenLaws.{more_same, more_then}
@@ -13,7 +13,7 @@ use Rattle.job_run.specs.Plan.{Plan, names_saved}
 use Rattle.job_run.specs.Runs.{StopsPrinting}
 use Rattle.job_run.proofs.Counting.{none_raised, times-append}
 use Rattle.thread_run.specs.Counts.{RaisedBetween, feeds, repeated}
-use Rattle.thread_run.specs.Ends.{Cause, Saves, Opened, Looked, Created, Prints, PrintsRun, RunsByThreads, lines_of, openings}
+use Rattle.thread_run.specs.Ends.{Cause, HasValues, Saves, Opened, Looked, Created, Prints, PrintsRun, RunsByThreads, lines_of, openings}
 use Rattle.thread_run.specs.Reports.{IsToldRun}
 use Rattle.dask_top.specs.declared.answer.End.{End}
 use Rattle.dask_top.specs.Answers.{Performs}
@@ -22,7 +22,7 @@ use Rattle.dask_top.specs.Ends.{Notes, run_end}
 use Rattle.dask_top.specs.Opening.{TextRead, JobRead}
 use Rattle.dask_top.specs.Telling.{IsRefusal, Told, end_of}
 use Rattle.dask_top.specs.Works.{RunningOpened, Runs, WorkDoes}
-use Rattle.dask_top.proofs.Evaluating.{cause_before, fit_before, memory_saves, right_before, run_is, saves_before, stops_before, stops_told, values_before}
+use Rattle.dask_top.proofs.Evaluating.{cause_before, fit_before, memory_saves, right_before, run_is, saves_before, stops_before, stops_told}
 use Rattle.dask_top.proofs.Opening.{raised_by-append, raised_first, raised_more}
 use Rattle.dask_top.proofs.Reading.{is_given, is_read}
 use Rattle.dask_top.proofs.Unread.{notes_before}
@@ -39,21 +39,21 @@ cause_told p old mid new RunEnds.WriteFault only cause = rw (only.write_faults, 
 cause_told p old mid new RunEnds.OutOfMemory only cause = tt
 
 -- what is told of a run over files is told of it over files that hold the same
-told_first : (p : Plan) (said : RunWords) (old mid : Files) → mid.held ≡ old.held → (told : Option Report) → IfSome told (IsToldRun p said mid) → IfSome told (IsToldRun p said old)
-told_first p said old mid held None t = tt
-told_first p said old mid held (Some report) t = record { named = t.named; told = t.told; told_is = rw (← held) t.told_is; held = rw (← held) t.held; run = t.run }
+told_first : (p : Plan) (said : RunWords) (old mid : Files) → mid.held ≡ old.held → mid.tells ≡ old.tells → (told : Option Report) → IfSome told (IsToldRun p said mid) → IfSome told (IsToldRun p said old)
+told_first p said old mid held tells None t = tt
+told_first p said old mid held tells (Some report) t = record { named = t.named; told = t.told; told_is = rw (← held, ← tells) t.told_is; held = rw (← held) t.held; run = t.run }
 
 -- lines of a run whose files hold the same, printed otherwise
-over_run : (p : Plan) (said : RunWords) (old mid : Files) → mid.held ≡ old.held → (P Q : List ℕ → Type 0) → ((lines : List ℕ) → P lines → Q lines) → PrintsRun p said mid P
+over_run : (p : Plan) (said : RunWords) (old mid : Files) → mid.held ≡ old.held → mid.tells ≡ old.tells → (P Q : List ℕ → Type 0) → ((lines : List ℕ) → P lines → Q lines) → PrintsRun p said mid P
     → PrintsRun p said old Q
-over_run p said old mid held P Q f r = record { told = r.told; asked = r.asked; of_run = told_first p said old mid held r.told r.of_run; printed = f (lines_of p r.told) r.printed }
+over_run p said old mid held tells P Q f r = record { told = r.told; asked = r.asked; of_run = told_first p said old mid held tells r.told r.of_run; printed = f (lines_of p r.told) r.printed }
 
 prints_told : (p : Plan) (said : RunWords) (old mid new : View) (end : Ended) → OnlyErr mid new → Prints p said old mid end → Prints p said old new end
 prints_told p said old mid new RunEnds.Done only prints =
-    over_run p said old.files old.files refl (λ lines. mid.out ≡ followed_by old.out lines) (λ lines. new.out ≡ followed_by old.out lines) (λ lines printed. only.out ∙ printed) prints
+    over_run p said old.files old.files refl refl (λ lines. mid.out ≡ followed_by old.out lines) (λ lines. new.out ≡ followed_by old.out lines) (λ lines printed. only.out ∙ printed) prints
 prints_told p said old mid new RunEnds.WriteFault only prints = elim prints [
   | inl same ↦ inl (only.out ∙ same)
-  | inr run ↦ inr (over_run p said old.files old.files refl (StopsPrinting p old mid) (StopsPrinting p old new) (λ lines stops. stops_told p old mid new lines only stops) run)
+  | inr run ↦ inr (over_run p said old.files old.files refl refl (StopsPrinting p old mid) (StopsPrinting p old new) (λ lines stops. stops_told p old mid new lines only stops) run)
 ]
 prints_told p said old mid new (RunEnds.Limit quantity) only prints = only.out ∙ prints
 prints_told p said old mid new (RunEnds.File place error) only prints = only.out ∙ prints
@@ -91,7 +91,7 @@ starved : (sources : List (List ℕ)) (p : Plan) (said : RunWords) (old new : Vi
     → RaisedAtMost (sources ++ openings p said) old.files.opened new.files.opened → Runs sources p said old new end → Runs sources p said old new RunEnds.OutOfMemory
 starved sources p said old new end held created prints opened e = record {
   cause = tt;
-  saves = memory_saves p old.files new.files held;
+  saves = λ t. memory_saves p old.files new.files held;
   looked = e.looked;
   others = e.others;
   opened = opened;
@@ -122,16 +122,19 @@ run_told sources p said old mid new end now told only e =
 
 -- ## Before it, only the text was read
 
+values_first : (p : Plan) (old mid : Files) → mid.held ≡ old.held → mid.tells ≡ old.tells → HasValues p mid → HasValues p old
+values_first p old mid held tells has = record { inputs = fit_before p old mid held tells has.inputs; values = rw (← held, ← tells) has.values }
+
 cause_first : (p : Plan) (old mid new : View) (end : Ended) → mid.files.held ≡ old.files.held → mid.files.tells ≡ old.files.tells → OnlyReads old mid → old.read_faults ≤ mid.read_faults → Cause p mid new end
     → Cause p old new end
-cause_first p old mid new RunEnds.Done held tells only later cause = cause_before p old mid new RunEnds.Done held tells only later cause
+cause_first p old mid new RunEnds.Done held tells only later cause = (cause.0, values_first p old.files mid.files held tells cause.1)
 cause_first p old mid new (RunEnds.Limit quantity) held tells only later cause = cause
 cause_first p old mid new (RunEnds.File place error) held tells only later cause = cause_before p old mid new (RunEnds.File place error) held tells only later cause
 cause_first p old mid new (RunEnds.Zero node block) held tells only later cause =
-    (cause.0, record { inputs = fit_before p old.files mid.files held tells cause.1.inputs; zero_at = rw (← held) cause.1.zero_at })
+    (cause.0, record { inputs = fit_before p old.files mid.files held tells cause.1.inputs; zero_at = rw (← held, ← tells) cause.1.zero_at })
 cause_first p old mid new RunEnds.ReadFault held tells only later cause = cause_before p old mid new RunEnds.ReadFault held tells only later cause
 cause_first p old mid new RunEnds.WriteFault held tells only later cause =
-    (cause.0, values_before p old.files mid.files held tells cause.1, rw (← only.write_faults, ← only.print_faults) cause.2)
+    (cause.0, values_first p old.files mid.files held tells cause.1, rw (← only.write_faults, ← only.print_faults) cause.2)
 cause_first p old mid new RunEnds.OutOfMemory held tells only later cause = tt
 
 saves_first : (p : Plan) (old mid new : Files) (end : Ended) → mid.held ≡ old.held → mid.tells ≡ old.tells → Saves p mid new end → Saves p old new end
@@ -140,8 +143,8 @@ saves_first p old mid new (RunEnds.Limit quantity) held tells saves = saves ∙ 
 saves_first p old mid new (RunEnds.File place error) held tells saves = saves ∙ held
 saves_first p old mid new RunEnds.Done held tells saves = saves_before p old mid new RunEnds.Done held tells saves
 saves_first p old mid new RunEnds.ReadFault held tells saves = saves ∙ held
-saves_first p old mid new RunEnds.WriteFault held tells saves = right_before p old mid new held tells saves
-saves_first p old mid new RunEnds.OutOfMemory held tells saves = right_before p old mid new held tells saves
+saves_first p old mid new RunEnds.WriteFault held tells saves = λ t. right_before p old mid new held tells (saves (tells ∙ t))
+saves_first p old mid new RunEnds.OutOfMemory held tells saves = λ t. right_before p old mid new held tells (saves (tells ∙ t))
 
 between_first : (names least most : List (List ℕ)) (old mid : Files) (new : List ℕ → ℕ) → Opens names old mid → mid.opened ≡ raised_by names old.opened → RaisedBetween least most mid.opened new
     → RaisedBetween (names ++ least) (names ++ most) old.opened new
@@ -176,11 +179,11 @@ looked_first names p said old mid new opens first looked = elim looked [
 prints_first : (p : Plan) (said : RunWords) (old mid new : View) (end : Ended) → mid.files.held ≡ old.files.held → mid.files.tells ≡ old.files.tells → mid.files.created ≡ old.files.created → OnlyReads old mid
     → Prints p said mid new end → Prints p said old new end
 prints_first p said old mid new RunEnds.Done held tells created only prints =
-    over_run p said old.files mid.files held (λ lines. new.out ≡ followed_by mid.out lines) (λ lines. new.out ≡ followed_by old.out lines)
+    over_run p said old.files mid.files held tells (λ lines. new.out ≡ followed_by mid.out lines) (λ lines. new.out ≡ followed_by old.out lines)
     (λ lines printed. printed ∙ ap (λ o. followed_by o lines) only.out) prints
 prints_first p said old mid new RunEnds.WriteFault held tells created only prints = elim prints [
   | inl same ↦ inl (same ∙ only.out)
-  | inr run ↦ inr (over_run p said old.files mid.files held (StopsPrinting p mid new) (StopsPrinting p old new) (λ lines stops. stops_before p old mid new lines held tells created only stops) run)
+  | inr run ↦ inr (over_run p said old.files mid.files held tells (StopsPrinting p mid new) (StopsPrinting p old new) (λ lines stops. stops_before p old mid new lines held tells created only stops) run)
 ]
 prints_first p said old mid new (RunEnds.Limit quantity) held tells created only prints = prints ∙ only.out
 prints_first p said old mid new (RunEnds.File place error) held tells created only prints = prints ∙ only.out

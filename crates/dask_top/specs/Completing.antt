@@ -1,5 +1,5 @@
 -- How a command ends where nothing failed: as its job's text, its inputs and its values say.
-use Rattle.std.specs.Prelude.{◌≡◌, ◌⊎◌, ℕ, List, IsSomeAnd, Ok}
+use Rattle.std.specs.Prelude.{◌≡◌, ◌⊎◌, ℕ, List, IsSomeAnd, IsTrue, Ok}
 use Rattle.io_edge.specs.Cause.{Rose}
 use Rattle.io_edge.specs.View.{View}
 use Rattle.nd_shape.specs.Block.{Array}
@@ -10,8 +10,10 @@ use Rattle.job_run.specs.Values.{MeetsNone, NeedsFault}
 use Rattle.plain_eval.specs.Eval.{held_in}
 use Rattle.sim_run.specs.Jobs.{IsTextJob}
 use Rattle.sim_run.specs.Simulated.{IsOutOfEvents, SimulatesTo}
+use Rattle.command_words.specs.declared.generate.GenWords.{GenWords}
 use Rattle.command_words.specs.declared.sim.SimWords.{SimWords}
-use Rattle.dask_top.specs.Commands.{Command, Asks, Work, Running, Evaluation, Simulation, sources_of, work_of}
+use Rattle.dask_top.specs.Commands.{Command, Run, Plain, Sim, Gen, Asks, Work, Running, Evaluation, Simulation, sources_of}
+use Rattle.dask_top.specs.Generating.{NeverEndsAlone}
 use Rattle.dask_top.specs.Reading.{Reads}
 
 -- files of these bytes hold arrays over which no needed block meets a zero divisor
@@ -45,6 +47,15 @@ pub record EndsByInputs (p : Plan) (old : View) (status : ℕ) : Type 0 where
   pub some : IsSmall p → Tell p old (FitInputs p) → Tell p old (MeetZero p) → (status ≡ 4) ⊎ (status ≡ 8)
   pub none : IsSmall p → Tell p old (FitInputs p) → Tell p old (MeetNoZero p) → (status ≡ 0) ⊎ (status ≡ 8)
 
+-- How a run by threads ends: as an evaluation of its job does. Its workers' blocks lie on disks of the site, too: so zero divisors decide where it tells
+-- what it holds.
+pub record EndsByRun (p : Plan) (old : View) (status : ℕ) : Type 0 where
+  pub large : ¬ IsSmall p → (status ≡ 9) ⊎ (status ≡ 8)
+  pub unfit : IsSmall p → Tell p old (λ contents. ¬ FitInputs p contents) → (status ≡ 3) ⊎ (status ≡ 8)
+  pub some : IsTrue old.files.tells → IsSmall p → Tell p old (FitInputs p) → Tell p old (MeetZero p) → (status ≡ 4) ⊎ (status ≡ 8)
+  pub none : IsTrue old.files.tells → IsSmall p → Tell p old (FitInputs p) → Tell p old (MeetNoZero p) → (status ≡ 0) ⊎ (status ≡ 8)
+  pub either : IsSmall p → Tell p old (FitInputs p) → (status ≡ 0) ⊎ ((status ≡ 4) ⊎ (status ≡ 8))
+
 -- a simulation of a job by these words draws 2^40 events and comes to no end
 abbrev pub NeverEnds : Plan → SimWords → View → Type 0
 NeverEnds p said old = SimulatesTo (IsTextJob p old.files said) said IsOutOfEvents
@@ -60,7 +71,7 @@ pub record EndsBySimulation (p : Plan) (said : SimWords) (old : View) (status : 
   pub none_limit : IsSmall p → Tell p old (FitInputs p) → Tell p old (MeetNoZero p) → (status ≡ 0) ⊎ ((status ≡ 10) ⊎ ((status ≡ 9) ⊎ (status ≡ 8)))
 
 abbrev pub EndsByWork : Work → Plan → View → ℕ → Type 0
-EndsByWork (Running said) p old status = EndsByInputs p old status
+EndsByWork (Running said) p old status = EndsByRun p old status
 EndsByWork Evaluation p old status = EndsByInputs p old status
 EndsByWork (Simulation said) p old status = EndsBySimulation p said old status
 
@@ -69,6 +80,18 @@ pub record EndsByTexts (sources : List (List ℕ)) (work : Work) (old : View) (s
   pub refused : IsSomeAnd (told_all old.files.held sources) (λ texts. (p : Plan) → ¬ Reads texts (Ok p)) → (status ≡ 2) ⊎ ((status ≡ 9) ⊎ (status ≡ 8))
   pub runs : (p : Plan) → IsSomeAnd (told_all old.files.held sources) (λ texts. Reads texts (Ok p)) → EndsByWork work p old status
 
--- where no count rose, a command ends as the texts of its sources say
+-- How a simulation of the job that a number makes ends: well, or at the end of its turns, or after 2^40 events where as many are drawn without an end;
+-- or memory was wanted.
+pub record EndsByNumber (w : GenWords) (status : ℕ) : Type 0 where
+  pub going : ¬ NeverEndsAlone w → (status ≡ 0) ⊎ ((status ≡ 10) ⊎ (status ≡ 8))
+  pub limit : (status ≡ 0) ⊎ ((status ≡ 10) ⊎ ((status ≡ 9) ⊎ (status ≡ 8)))
+
+abbrev pub CommandEnds : Command → View → ℕ → Type 0
+CommandEnds (Run said) old status = EndsByTexts (sources_of (Run said)) (Running said) old status
+CommandEnds (Plain said) old status = EndsByTexts (sources_of (Plain said)) Evaluation old status
+CommandEnds (Sim said) old status = EndsByTexts (sources_of (Sim said)) (Simulation said) old status
+CommandEnds (Gen said) old status = EndsByNumber said status
+
+-- where no count rose, a command ends as the texts of its sources say, or as its number says
 abbrev pub Completes : List (List ℕ) → View → View → ℕ → Type 0
-Completes words old new status = (command : Command) → Asks words command → NoFault old new → EndsByTexts (sources_of command) (work_of command) old status
+Completes words old new status = (command : Command) → Asks words command → NoFault old new → CommandEnds command old status

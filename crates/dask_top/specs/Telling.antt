@@ -3,6 +3,8 @@ use Rattle.std.specs.Prelude.{◌≡◌, ◌<◌, ◌⊎◌, ◌++◌, ℕ, List
 use Rattle.std.specs.List.{flat_map}
 use Rattle.job_run.specs.declared.ends.Ended.{Ended}
 use Rattle.job_run.specs.declared.ends.Ended.TheVariants as RunEnds
+use Rattle.gen_run.specs.declared.ends.GenEnded.{GenEnded}
+use Rattle.gen_run.specs.declared.ends.GenEnded.TheVariants as GenEnds
 use Rattle.dask_top.specs.declared.answer.End.{End}
 use Rattle.sim_run.specs.declared.ends.SimEnded.{SimEnded}
 use Rattle.sim_run.specs.declared.ends.SimEnded.TheVariants as SimEnds
@@ -48,6 +50,12 @@ abbrev pub sim_end_of : SimEnded → End
 sim_end_of SimEnds.Events = Events
 sim_end_of SimEnds.Turns = Turns
 sim_end_of (SimEnds.Ran end) = end_of end
+
+-- and the one that the end of a simulation over no file is
+abbrev pub gen_end_of : GenEnded → End
+gen_end_of GenEnds.Events = Events
+gen_end_of GenEnds.Turns = Turns
+gen_end_of GenEnds.OutOfMemory = OutOfMemory
 
 -- numbers as they are printed behind others
 abbrev pub rest_of : List ℕ → List ℕ

@@ -67,6 +67,7 @@ fn answer<R: Print>(rt: &R, alloc: Global, word: &str, case: &str) -> io::Result
         "script" => jobs::print_script(rt, alloc, case),
         "job" => jobs::print_job_case(rt, alloc, case),
         "sim" => options::print_sim(rt, alloc, case),
+        "gen" => options::print_gen(rt, alloc, case),
         _ => token_answer(rt, alloc, word, case),
     }
 }

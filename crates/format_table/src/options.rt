@@ -1,6 +1,6 @@
-// The words of the command `sim`.
+// The words of the commands `sim` and `gen`.
 use cluster_msgs::Item;
-use command_words::{SimWords, read_sim};
+use command_words::{SimWords, read_gen, read_sim};
 use std::alloc::{AllocError, Global};
 use std::io;
 
@@ -37,6 +37,18 @@ pub fn print_sim<R: Print>(rt: &R, alloc: Global, case: &str) -> io::Result<()> 
     let words = words_of(alloc, case)?;
     match read_sim(alloc, &words) {
         Ok(sim) => print_said(rt, &sim),
+        Err(fail) => println!(rt; "{fail}"),
+    }
+}
+
+/// `gen WORDS`: the number that the words give, and the workers, with one blank between two words.
+pub fn print_gen<R: Print>(rt: &R, alloc: Global, case: &str) -> io::Result<()> {
+    let words = words_of(alloc, case)?;
+    match read_gen(alloc, &words) {
+        Ok(said) => println!(rt;
+            "number {}, workers {}, threads {}",
+            said.number, said.workers, said.threads
+        ),
         Err(fail) => println!(rt; "{fail}"),
     }
 }

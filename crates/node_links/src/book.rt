@@ -2,7 +2,7 @@
 ghost use Rattle.std.specs.Prelude.{◌≡◌, ℕ, Option, OnOk, OnErr, IfOk, IfErr, IfSome, is_some, Err, Some, None, [], false, cond, length};
 ghost use Rattle.cluster_msgs.specs.declared.events.Entry.{Entry as AnyEntry};
 ghost use Rattle.node_links.specs.Books.{IsRecorded, IsEntered, AllBelow};
-ghost use Rattle.node_links.specs.Books.{Steps};
+ghost use Rattle.node_links.specs.Books.{Steps, StepsBy};
 
 use crate::log::Log;
 use cluster_msgs::{Entry, Event, Message, Stop};
@@ -126,6 +126,7 @@ impl<C: Machine> Book<C> {
         requires says { C.says self.old.core event message said }
         ensures recorded { IsRecorded (Steps C.says C.by) self.old self.new }
         ensures entered { OnOk result (IsEntered event message self.old self.new) }
+        ensures step { OnOk result (StepsBy C.by said self.old.core self.new.core) }
         ensures err { OnErr result (self.new ≡ self.old) }
     {
         match said {
@@ -149,6 +150,7 @@ impl<C: Machine> Book<C> {
         requires says { C.says self.old.core event message None }
         ensures recorded { IsRecorded (Steps C.says C.by) self.old self.new }
         ensures entered { OnOk result (IsEntered event message self.old self.new) }
+        ensures core { self.new.core ≡ self.old.core }
         ensures err { OnErr result (self.new ≡ self.old) }
     {
         self.log.reserve_last()?;
@@ -173,6 +175,7 @@ impl<C: Machine> Book<C> {
         requires says { C.says self.old.core event message (Some said) }
         ensures recorded { IsRecorded (Steps C.says C.by) self.old self.new }
         ensures entered { OnOk result (IsEntered event message self.old self.new) }
+        ensures step { OnOk result (C.by self.old.core said self.new.core) }
         ensures err { OnErr result (self.new ≡ self.old) }
     {
         if self.failed {
@@ -205,6 +208,7 @@ impl<C: Machine> Book<C> {
         requires says { C.says self.old.core event message None }
         ensures recorded { IsRecorded (Steps C.says C.by) self.old self.new }
         ensures entered { OnOk result (IsEntered event message self.old self.new) }
+        ensures core { self.new.core ≡ self.old.core }
         ensures err { OnErr result (self.new ≡ self.old) }
     {
         if self.failed {

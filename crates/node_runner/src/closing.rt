@@ -13,7 +13,7 @@ use crate::ends::{
 use crate::plan::RunPlan;
 use cluster_msgs::{GraphShape, History, KeyList, Label};
 use node_links::{Book, Keyed, Machine};
-use node_states::{ClientNode, SchedulerNode, Why, WorkerNode};
+use node_states::{BlockStore, ClientNode, SchedulerNode, Why, WorkerNode};
 use std::alloc::{AllocError, Global};
 
 /// What is told of a run: the histories, and for each worker number why it left.
@@ -24,7 +24,11 @@ struct Told {
 }
 
 /// A run that couldn't be started, or not be told of, for want of memory.
-pub fn not_run<B: Drop, L: Label<Block = B>, F: Drop>(alloc: Global, feeds: Vec<F>) -> Ends<B, L, F>
+pub fn not_run<B: Drop, L: Label<Block = B>, F: Drop, S: Drop>(
+    alloc: Global,
+    feeds: Vec<F>,
+    stores: Vec<S>,
+) -> Ends<B, L, F, S>
     ensures none { result.histories ≡ None }
     ensures ended { HasNotRun result.result result.left.items }
     ensures feeds { result.feeds ≡ feeds }
@@ -34,19 +38,20 @@ pub fn not_run<B: Drop, L: Label<Block = B>, F: Drop>(alloc: Global, feeds: Vec<
         histories: None,
         left: Vec::new(alloc),
         feeds,
+        stores,
     }
 }
 
 /// How a run ended, as far as its closed nodes tell, and whether no worker is left and none left for want of memory.
-pub fn end_nodes<B: Drop, L: Label<Block = B>, F: Drop>(
+pub fn end_nodes<B: Drop, L: Label<Block = B>, F: Drop, S: BlockStore<B, L>>(
     alloc: Global,
     _graph: &GraphShape,
     plan: &RunPlan,
     wanted: &KeyList,
     scheduler: SchedulerNode<B, L>,
-    workers: Vec<WorkerNode<B, L, F>>,
+    workers: Vec<WorkerNode<B, L, F, S>>,
     client: ClientNode<B, L>,
-) -> (Ends<B, L, F>, bool)
+) -> (Ends<B, L, F, S>, bool)
     requires scheduler { IsSchedulersBook L.facts _graph.now plan.now scheduler.history.book }
     requires workers { (k : ℕ) (w : _) → k < vec_len workers
         → IsWorkersBook L.facts _graph.now plan.now.threads (k + 1) (λ c. worker_facts c.core) (slice_index_or workers.items k w).history.book }
@@ -65,9 +70,9 @@ pub fn end_nodes<B: Drop, L: Label<Block = B>, F: Drop>(
     let joined = scheduler.joined();
     let scheduler = scheduler_history(scheduler);
     let client = client_history(client);
-    let (workers, feeds) = take_apart(alloc, workers);
+    let (workers, feeds, stores) = take_apart(alloc, workers);
     let told = all_told(scheduler, workers, client, left);
-    let ends = ends_of(alloc, result(blocks, blame), told, feeds);
+    let ends = ends_of(alloc, result(blocks, blame), told, feeds, stores);
     let given_up = is_over(&ends, joined);
     (ends, given_up)
 }
@@ -119,12 +124,13 @@ fn all_told(
 }
 
 /// How a run ended of which this is told.
-fn ends_of<B: Drop, L: Label<Block = B>, F: Drop>(
+fn ends_of<B: Drop, L: Label<Block = B>, F: Drop, S: Drop>(
     alloc: Global,
     answer: Result<Vec<Keyed<B, L>>, RunStatus>,
     told: Option<Told>,
     feeds: Vec<F>,
-) -> Ends<B, L, F>
+    stores: Vec<S>,
+) -> Ends<B, L, F, S>
     ensures told { IfSome result.histories (λ h. (told ≡ Some (record { histories = h; left = result.left })) × (result.result ≡ answer)) }
     ensures none { result.histories ≡ None → HasNotRun result.result result.left.items }
     ensures answer { IfOk result.result (λ blocks. answer ≡ Ok blocks) }
@@ -137,14 +143,18 @@ fn ends_of<B: Drop, L: Label<Block = B>, F: Drop>(
                 histories: Some(histories),
                 left,
                 feeds,
+                stores,
             }
         }
-        None => not_run(alloc, feeds),
+        None => not_run(alloc, feeds, stores),
     }
 }
 
 /// Whether a run that is told of was given up, where so many workers joined.
-fn is_over<B: Drop, L: Label<Block = B>, F: Drop>(ends: &Ends<B, L, F>, joined: Option<u32>) -> bool
+fn is_over<B: Drop, L: Label<Block = B>, F: Drop, S: Drop>(
+    ends: &Ends<B, L, F, S>,
+    joined: Option<u32>,
+) -> bool
     ensures told { result ≡ true → is_some ends.now.histories ≡ true }
     ensures given_up { (f : Facts) → IfSome joined (λ n. n ≡ f.last_worker) → result ≡ true → IsGivenUp f ends.now.left.items }
 {

@@ -16,7 +16,7 @@ use crate::plan::RunPlan;
 use cluster_msgs::{End, History, Label};
 use cluster_rules::Facts;
 use node_links::Keyed;
-use node_states::{ClientNode, Feeds, SchedulerNode, Why, WorkerNode};
+use node_states::{BlockStore, ClientNode, Feeds, SchedulerNode, Why, WorkerNode};
 use std::alloc::{AllocError, Global};
 
 /// Why a run gave no blocks.
@@ -39,13 +39,14 @@ pub struct Histories {
 }
 
 /// How a run ended: with a block of each wanted key, in order, or why there are none; the histories, where it was started and could be told of; for
-/// each worker number why it left, if it did; and the feeds.
+/// each worker number why it left, if it did; the feeds, and the stores of the workers' blocks.
 #[derive(Drop)]
-pub struct Ends<B: Drop, L: Label<Block = B>, F: Drop> {
+pub struct Ends<B: Drop, L: Label<Block = B>, F: Drop, S: Drop> {
     pub result: Result<Vec<Keyed<B, L>>, RunStatus>,
     pub histories: Option<Histories>,
     pub left: Vec<Option<Why>>,
     pub feeds: Vec<F>,
+    pub stores: Vec<S>,
 }
 
 /// Whether the client got each of these keys.
@@ -107,11 +108,11 @@ pub fn first_blame<B: Drop, L: Label<Block = B>>(
 }
 
 /// For each worker why it left, if it joined and left.
-pub fn all_left<B: Drop, L: Label<Block = B>, F: Drop>(
+pub fn all_left<B: Drop, L: Label<Block = B>, F: Drop, S: BlockStore<B, L>>(
     alloc: Global,
     plan: &RunPlan,
     scheduler: &SchedulerNode<B, L>,
-    workers: &[WorkerNode<B, L, F>],
+    workers: &[WorkerNode<B, L, F, S>],
 ) -> Result<Vec<Option<Why>>, AllocError>
     ensures { IfOk result (λ left. AllBy (λ k w o. IfSome o (IsLeft plan.now (facts scheduler.now.history.book.core.core) (k + 1) w.history.book.entries w.history.book.cut))
         workers.now left.items) }
@@ -125,10 +126,10 @@ pub fn all_left<B: Drop, L: Label<Block = B>, F: Drop>(
 }
 
 /// Why the worker at a place left, if it is one of those that joined and left.
-fn row<B: Drop, L: Label<Block = B>, F: Drop>(
+fn row<B: Drop, L: Label<Block = B>, F: Drop, S: BlockStore<B, L>>(
     plan: &RunPlan,
     scheduler: &SchedulerNode<B, L>,
-    worker: &WorkerNode<B, L, F>,
+    worker: &WorkerNode<B, L, F, S>,
     joined: u32,
     at: usize,
 ) -> Option<Why>
@@ -153,10 +154,10 @@ fn joined<B: Drop, L: Label<Block = B>>(scheduler: &SchedulerNode<B, L>) -> u32
 }
 
 /// Why a worker left, if it did: it ended, or isn't connected any more.
-fn why_left<B: Drop, L: Label<Block = B>, F: Drop>(
+fn why_left<B: Drop, L: Label<Block = B>, F: Drop, S: BlockStore<B, L>>(
     plan: &RunPlan,
     scheduler: &SchedulerNode<B, L>,
-    worker: &WorkerNode<B, L, F>,
+    worker: &WorkerNode<B, L, F, S>,
     id: u32,
 ) -> Option<Why>
     requires joined { id ≤ (facts scheduler.now.history.book.core.core).last_worker }
@@ -231,31 +232,35 @@ fn is_row(left: &[Option<Why>], at: usize) -> bool
     }
 }
 
-/// The histories and the feeds of closed workers. No histories where there is no memory for all.
-pub fn take_apart<B: Drop, L: Label<Block = B>, F: Drop>(
+/// The histories, the feeds and the stores of closed workers. No histories where there is no memory for all of these but the stores.
+pub fn take_apart<B: Drop, L: Label<Block = B>, F: Drop, S: BlockStore<B, L>>(
     alloc: Global,
-    workers: Vec<WorkerNode<B, L, F>>,
-) -> (Option<Vec<History>>, Vec<F>)
+    workers: Vec<WorkerNode<B, L, F, S>>,
+) -> (Option<Vec<History>>, Vec<F>, Vec<S>)
     ensures { IfSome result.0 (λ histories. AllBy (λ k w h. IsTakenFrom w.history.book h) workers.items histories.items) }
 {
     let mut histories = Vec::new(alloc);
     let mut feeds = Vec::new(alloc);
+    let mut stores = Vec::new(alloc);
     let mut whole = true;
     for worker in workers {
-        let (history, own) = apart(worker);
+        let (history, own, store) = apart(worker);
         let told = keep(&mut histories, history);
         let given = give_back(own, &mut feeds);
+        keep(&mut stores, store);
         whole = whole & told & given;
     }
-    (only_whole(whole, histories), feeds)
+    (only_whole(whole, histories), feeds, stores)
 }
 
-/// The history and the feeds of a closed worker.
-fn apart<B: Drop, L: Label<Block = B>, F: Drop>(worker: WorkerNode<B, L, F>) -> (History, Feeds<F>)
+/// The history, the feeds and the store of a closed worker.
+fn apart<B: Drop, L: Label<Block = B>, F: Drop, S: BlockStore<B, L>>(
+    worker: WorkerNode<B, L, F, S>,
+) -> (History, Feeds<F>, S)
     ensures { IsTakenFrom worker.history.book result.0 }
 {
-    let (log, own) = worker.into_parts();
-    (log.into_history(), own)
+    let (log, own, store) = worker.into_parts();
+    (log.into_history(), own, store)
 }
 
 /// Adds a worker's feeds. False where there is no memory for one, which is dropped.

@@ -18,7 +18,7 @@ use cluster_msgs::{GraphShape, JobSpec, KeyList, Label};
 use gather_client::ClientCore;
 use node_links::Port;
 use node_states::{
-    ClientNode, Feeds, GatheringCore, Plan, RunGraph, SchedulerLinks, SchedulerNode,
+    BlockStore, ClientNode, Feeds, GatheringCore, Plan, RunGraph, SchedulerLinks, SchedulerNode,
     SchedulingCore, Why, WorkerLinks, WorkerNode, WorkingCore,
 };
 use scheduler_core::Sched;
@@ -47,17 +47,18 @@ where
     pub clients: Made<C, L>,
 }
 
-type RowsOf<B, L, F> = Rows<L, SchedulerNode<B, L>, WorkerNode<B, L, F>, ClientNode<B, L>>;
+type RowsOf<B, L, F, S> = Rows<L, SchedulerNode<B, L>, WorkerNode<B, L, F, S>, ClientNode<B, L>>;
 
 /// Makes the cells of all nodes, with so many parts each. False where there is no memory for one of them.
-pub fn make_rows<J: JobSpec, K: RunName<J>>(
+pub fn make_rows<J: JobSpec, K: RunName<J>, S: BlockStore<J::Block, RunLabel<J, K>>>(
     alloc: Global,
     graph: &GraphShape,
     plan: &RunPlan,
     wanted: &KeyList,
     feeds: Vec<Vec<Fed<J, K>>>,
+    stores: Vec<S>,
     parts: u32,
-) -> (RowsOf<J::Block, RunLabel<J, K>, Fed<J, K>>, bool)
+) -> (RowsOf<J::Block, RunLabel<J, K>, Fed<J, K>, S>, bool)
     requires graph { (run_facts J.graph J.operation J.key_dims J.block_dims K.told K.job).deps ≡ deps_of graph.now }
     requires capacity { 0 < plan.now.capacity }
     requires saturation { (1 ≤ plan.now.saturation) × (plan.now.saturation ≤ 1000) }
@@ -77,21 +78,22 @@ pub fn make_rows<J: JobSpec, K: RunName<J>>(
         clients: Made::new(alloc, parts),
     };
     match wire(alloc, plan.numbers(), plan.capacity) {
-        Ok(ports) => fill(alloc, graph, plan, wanted, feeds, rows, ports),
+        Ok(ports) => fill(alloc, graph, plan, wanted, feeds, stores, rows, ports),
         Err(_) => (rows, false),
     }
 }
 
 /// Adds the cells of all nodes, which have these ports. False where there is no memory for one of them.
-fn fill<B: Drop, L: Label<Block = B>, F: Drop>(
+fn fill<B: Drop, L: Label<Block = B>, F: Drop, S: BlockStore<B, L>>(
     alloc: Global,
     graph: &GraphShape,
     plan: &RunPlan,
     wanted: &KeyList,
     feeds: Vec<Vec<F>>,
-    rows: RowsOf<B, L, F>,
+    stores: Vec<S>,
+    rows: RowsOf<B, L, F, S>,
     ports: AllPorts<B, L>,
-) -> (RowsOf<B, L, F>, bool)
+) -> (RowsOf<B, L, F, S>, bool)
     requires graph { L.facts.deps ≡ deps_of graph.now }
     requires saturation { (1 ≤ plan.now.saturation) × (plan.now.saturation ≤ 1000) }
     requires few { vec_len ports.workers ≤ 1024 }
@@ -120,7 +122,7 @@ fn fill<B: Drop, L: Label<Block = B>, F: Drop>(
     } = ports;
     let (scheduler, one) = add_scheduler(alloc, graph, plan, scheduler, to_workers, to_client);
     let (clients, two) = add_client(alloc, graph, wanted, clients, to_scheduler, from_client);
-    let (workers, three) = add_workers(alloc, graph, plan.threads, workers, ports, feeds);
+    let (workers, three) = add_workers(alloc, graph, plan.threads, workers, ports, feeds, stores);
     (
         Rows {
             scheduler,
@@ -276,15 +278,16 @@ fn gathering_core<L: Label>(
     Ok(GatheringCore::new(CLIENT, core))
 }
 
-/// Adds a cell for each worker. A worker with fewer feeds than threads is to end. False where there is no memory for one.
-fn add_workers<B: Drop, L: Label<Block = B>, F: Drop>(
+/// Adds a cell for each worker. A worker with fewer feeds than threads is to end. False where there is no memory, or no store, for one.
+fn add_workers<B: Drop, L: Label<Block = B>, F: Drop, S: BlockStore<B, L>>(
     alloc: Global,
     graph: &GraphShape,
     threads: u32,
-    row: Made<WorkerNode<B, L, F>, L>,
+    row: Made<WorkerNode<B, L, F, S>, L>,
     ports: Vec<WorkerPorts<B, L>>,
     feeds: Vec<Vec<F>>,
-) -> (Made<WorkerNode<B, L, F>, L>, bool)
+    stores: Vec<S>,
+) -> (Made<WorkerNode<B, L, F, S>, L>, bool)
     requires graph { L.facts.deps ≡ deps_of graph.now }
     requires few { vec_len ports ≤ 1024 }
     requires empty { row.passes.items ≡ [] }
@@ -294,11 +297,13 @@ fn add_workers<B: Drop, L: Label<Block = B>, F: Drop>(
 {
     let mut row = row;
     let mut feeds = feeds.into_iter();
+    let mut stores = stores.into_iter();
     let mut at: u32 = 0;
     let mut whole = true;
     for ports in ports {
         let own = feeds.next();
-        let (more, added) = add_worker(alloc, graph, at, threads, row, ports, own);
+        let store = stores.next();
+        let (more, added) = add_worker(alloc, graph, at, threads, row, ports, own, store);
         row = more;
         whole &= added;
         at += 1;
@@ -306,16 +311,17 @@ fn add_workers<B: Drop, L: Label<Block = B>, F: Drop>(
     (row, whole)
 }
 
-/// Adds the cell of the worker at a place. False where there is no memory.
-fn add_worker<B: Drop, L: Label<Block = B>, F: Drop>(
+/// Adds the cell of the worker at a place. False where there is no memory, or no store.
+fn add_worker<B: Drop, L: Label<Block = B>, F: Drop, S: BlockStore<B, L>>(
     alloc: Global,
     graph: &GraphShape,
     at: u32,
     threads: u32,
-    row: Made<WorkerNode<B, L, F>, L>,
+    row: Made<WorkerNode<B, L, F, S>, L>,
     ports: WorkerPorts<B, L>,
     own: Option<Vec<F>>,
-) -> (Made<WorkerNode<B, L, F>, L>, bool)
+    store: Option<S>,
+) -> (Made<WorkerNode<B, L, F, S>, L>, bool)
     requires graph { L.facts.deps ≡ deps_of graph.now }
     requires few { at < 1024 }
     ensures parts { result.0.parts ≡ row.parts }
@@ -329,23 +335,28 @@ fn add_worker<B: Drop, L: Label<Block = B>, F: Drop>(
         Some(own) => own,
         None => Vec::new(alloc),
     };
-    let made = make_worker(alloc, graph, at + 1, threads, ports, own);
+    let made = make_worker(alloc, graph, at + 1, threads, ports, own, store);
     add_made(alloc, row, made)
 }
 
 /// The node of a worker.
-fn make_worker<B: Drop, L: Label<Block = B>, F: Drop>(
+fn make_worker<B: Drop, L: Label<Block = B>, F: Drop, S: BlockStore<B, L>>(
     alloc: Global,
     graph: &GraphShape,
     id: u32,
     threads: u32,
     ports: WorkerPorts<B, L>,
     own: Vec<F>,
-) -> Result<WorkerNode<B, L, F>, AllocError>
+    store: Option<S>,
+) -> Result<WorkerNode<B, L, F, S>, AllocError>
     requires graph { L.facts.deps ≡ deps_of graph.now }
     ensures first { IfOk result (λ s. IsFirstWorker graph.now threads id s.history.book.core.id (worker_facts s.history.book.core.core)) }
     ensures empty { IfOk result (λ s. s.history.book.entries ≡ []) }
+    ensures fits { IfOk result (λ s. S.fits L.facts s.store) }
 {
+    let Some(store) = store else {
+        return Err(AllocError);
+    };
     let ending = if own.len() < threads as usize {
         Some(Why::Feed)
     } else {
@@ -355,7 +366,7 @@ fn make_worker<B: Drop, L: Label<Block = B>, F: Drop>(
     let links = worker_links(alloc, id, ports)?;
     let shape = RunGraph::new(graph.copy()?);
     let core = working_core(alloc, graph, id, threads)?;
-    match WorkerNode::new(alloc, core, NODE_BYTES, shape, feeds, links, ending) {
+    match WorkerNode::new(alloc, core, NODE_BYTES, shape, store, feeds, links, ending) {
         Ok(node) => Ok(node),
         Err(_) => Err(AllocError),
     }

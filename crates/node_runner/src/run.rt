@@ -22,7 +22,7 @@ use client_futures::waiting_room;
 use cluster_msgs::{GraphShape, JobSpec, KeyList, Label};
 use driver_rows::{Attends, Closed, Manner, Schedules, Works, run_cells};
 use io_edge::Gate;
-use node_states::{ClientNode, SchedulerNode, WorkerNode};
+use node_states::{BlockStore, ClientNode, SchedulerNode, WorkerNode};
 use std::alloc::{AllocGlobal, Global};
 use std::random::RandomSource;
 use std::sync::Wait;
@@ -36,13 +36,14 @@ const PATIENCE: u32 = 4;
 
 type Scheduler<J: JobSpec, K> = SchedulerNode<J::Block, RunLabel<J, K>>;
 
-type Worker<J: JobSpec, K> = WorkerNode<J::Block, RunLabel<J, K>, Fed<J, K>>;
+type Worker<J: JobSpec, K, S> = WorkerNode<J::Block, RunLabel<J, K>, Fed<J, K>, S>;
 
 type Client<J: JobSpec, K> = ClientNode<J::Block, RunLabel<J, K>>;
 
 /// Runs a job by a cluster of threads: a scheduler, the workers of a plan and one client, which wants these keys. Each worker number has feeds, one
-/// for each of its threads; a worker with fewer ends as soon as it has joined.
-pub fn run_cluster<R, J, G, K>(
+/// for each of its threads; a worker with fewer ends as soon as it has joined. Each keeps its blocks in one of the stores; where there are fewer stores
+/// than numbers nothing is run, as for want of memory.
+pub fn run_cluster<R, J, G, K, S>(
     rt: &R,
     alloc: Global,
     job: &J,
@@ -50,12 +51,14 @@ pub fn run_cluster<R, J, G, K>(
     plan: &RunPlan,
     wanted: &KeyList,
     feeds: Vec<Vec<Fed<J, K>>>,
-) -> Ends<J::Block, RunLabel<J, K>, Fed<J, K>>
+    stores: Vec<S>,
+) -> Ends<J::Block, RunLabel<J, K>, Fed<J, K>, S>
 where
     R: Threads + Wait + RandomSource + AllocGlobal + Sync,
     J: JobSpec,
     G: Gate,
     K: RunName<J> + Send + Sync,
+    S: BlockStore<J::Block, RunLabel<J, K>> + Send + Sync,
     requires named { K.job ≡ Some job.now }
     requires saturation { (1 ≤ plan.now.saturation) × (plan.now.saturation ≤ 1000) }
     requires capacity { 0 < plan.now.capacity }
@@ -68,7 +71,7 @@ where
         (HasFeedFault J.fault_count plan.now.threads (map (λ v. vec_len v) feeds.items) result.feeds.items)
         result.result result.left.items result.histories }
 {
-    let (rows, stamps, short) = begin(alloc, job, plan, wanted, feeds);
+    let (rows, stamps, short) = begin(alloc, job, plan, wanted, feeds, stores);
     match stamps {
         Some(stamps) => run_made(rt, alloc, job, gate, plan, wanted, short, rows, stamps),
         None => close_rows(alloc, rows),
@@ -76,14 +79,15 @@ where
 }
 
 /// The nodes, the right to draw stamps where all nodes are made and there is memory, and whether a worker has too few feeds.
-fn begin<J: JobSpec, K: RunName<J>>(
+fn begin<J: JobSpec, K: RunName<J>, S: BlockStore<J::Block, RunLabel<J, K>>>(
     alloc: Global,
     job: &J,
     plan: &RunPlan,
     wanted: &KeyList,
     feeds: Vec<Vec<Fed<J, K>>>,
+    stores: Vec<S>,
 ) -> (
-    Rows<RunLabel<J, K>, Scheduler<J, K>, Worker<J, K>, Client<J, K>>,
+    Rows<RunLabel<J, K>, Scheduler<J, K>, Worker<J, K, S>, Client<J, K>>,
     Option<Stamps>,
     bool,
 )
@@ -103,7 +107,7 @@ fn begin<J: JobSpec, K: RunName<J>>(
 {
     let short = plan.is_short(feeds.as_slice());
     let drivers = plan.workers * plan.threads + 1;
-    let (rows, whole) = make_rows(alloc, job.shape(), plan, wanted, feeds, drivers + 1);
+    let (rows, whole) = make_rows(alloc, job.shape(), plan, wanted, feeds, stores, drivers + 1);
     let stamps = rights(alloc, whole);
     (rows, stamps, short)
 }
@@ -119,7 +123,7 @@ fn rights(alloc: Global, whole: bool) -> Option<Stamps>
 }
 
 /// Runs the nodes that were made. `short` says that a worker has too few feeds.
-fn run_made<R, J, G, K>(
+fn run_made<R, J, G, K, S>(
     rt: &R,
     alloc: Global,
     job: &J,
@@ -127,14 +131,15 @@ fn run_made<R, J, G, K>(
     plan: &RunPlan,
     wanted: &KeyList,
     short: bool,
-    rows: Rows<RunLabel<J, K>, Scheduler<J, K>, Worker<J, K>, Client<J, K>>,
+    rows: Rows<RunLabel<J, K>, Scheduler<J, K>, Worker<J, K, S>, Client<J, K>>,
     stamps: Stamps,
-) -> Ends<J::Block, RunLabel<J, K>, Fed<J, K>>
+) -> Ends<J::Block, RunLabel<J, K>, Fed<J, K>, S>
 where
     R: Threads + Wait + RandomSource + AllocGlobal + Sync,
     J: JobSpec,
     G: Gate,
     K: RunName<J> + Send + Sync,
+    S: BlockStore<J::Block, RunLabel<J, K>> + Send + Sync,
     requires named { K.job ≡ Some job.now }
     requires parts { (rows.workers.parts ≡ rows.scheduler.parts) × (rows.clients.parts ≡ rows.scheduler.parts) }
     requires scheduler { AreMade (λ k s. IsFirstScheduler (J.graph job.now) plan.now s.history.book.core) 1
@@ -154,15 +159,16 @@ where
 }
 
 /// Ends a run whose nodes couldn't all be made.
-fn close_rows<S, B, L, F, C>(
+fn close_rows<A, B, L, F, S, C>(
     alloc: Global,
-    rows: Rows<L, S, WorkerNode<B, L, F>, C>,
-) -> Ends<B, L, F>
+    rows: Rows<L, A, WorkerNode<B, L, F, S>, C>,
+) -> Ends<B, L, F, S>
 where
     B: Drop,
     L: Label<Block = B>,
     F: Drop,
-    S: Kept<Block = L::Block> + Drop,
+    S: BlockStore<B, L>,
+    A: Kept<Block = L::Block> + Drop,
     C: Kept<Block = L::Block> + Drop,
     ensures none { result.histories ≡ None }
     ensures ended { HasNotRun result.result result.left.items }
@@ -174,26 +180,27 @@ where
     } = rows;
     scheduler.close();
     clients.close();
-    let (_, feeds) = take_apart(alloc, workers.close());
-    not_run(alloc, feeds)
+    let (_, feeds, stores) = take_apart(alloc, workers.close());
+    not_run(alloc, feeds, stores)
 }
 
 /// Runs the nodes by threads to the end.
-fn run_rows<R, J, G, K>(
+fn run_rows<R, J, G, K, S>(
     rt: &R,
     alloc: Global,
     job: &J,
     gate: &G,
     plan: &RunPlan,
     wanted: &KeyList,
-    rows: Rows<RunLabel<J, K>, Scheduler<J, K>, Worker<J, K>, Client<J, K>>,
+    rows: Rows<RunLabel<J, K>, Scheduler<J, K>, Worker<J, K, S>, Client<J, K>>,
     stamps: Stamps,
-) -> Closed<Scheduler<J, K>, Worker<J, K>, Client<J, K>>
+) -> Closed<Scheduler<J, K>, Worker<J, K, S>, Client<J, K>>
 where
     R: Threads + Wait + RandomSource + AllocGlobal + Sync,
     J: JobSpec,
     G: Gate,
     K: RunName<J> + Send + Sync,
+    S: BlockStore<J::Block, RunLabel<J, K>> + Send + Sync,
     requires named { K.job ≡ Some job.now }
     requires parts { (rows.workers.parts ≡ rows.scheduler.parts) × (rows.clients.parts ≡ rows.scheduler.parts) }
     requires scheduler { AreMade (λ k s. IsFirstScheduler (J.graph job.now) plan.now s.history.book.core) 1
@@ -216,21 +223,22 @@ where
 }
 
 /// Runs nodes by threads to the end, which go by whatever gives their turns.
-fn run_nodes<R, B, L, F, X>(
+fn run_nodes<R, B, L, F, S, X>(
     rt: &R,
     alloc: Global,
     plan: &RunPlan,
-    rows: Rows<L, SchedulerNode<B, L>, WorkerNode<B, L, F>, ClientNode<B, L>>,
+    rows: Rows<L, SchedulerNode<B, L>, WorkerNode<B, L, F, S>, ClientNode<B, L>>,
     stamps: Stamps,
     turns: &X,
-) -> Closed<SchedulerNode<B, L>, WorkerNode<B, L, F>, ClientNode<B, L>>
+) -> Closed<SchedulerNode<B, L>, WorkerNode<B, L, F, S>, ClientNode<B, L>>
 where
     R: Threads + Wait + Sync,
     B: Drop + Send + Sync,
     L: Label<Block = B> + Send + Sync,
     F: Drop + Send + Sync,
+    S: BlockStore<B, L> + Send + Sync,
     X: Schedules<SchedulerNode<B, L>, L>
-        + Works<WorkerNode<B, L, F>, L>
+        + Works<WorkerNode<B, L, F, S>, L>
         + Attends<ClientNode<B, L>, L>
         + Sync,
     requires parts { (rows.workers.parts ≡ rows.scheduler.parts) × (rows.clients.parts ≡ rows.scheduler.parts) }
@@ -259,13 +267,13 @@ where
 }
 
 /// How a run ended, as its closed nodes tell, and whether no worker is left and none left for want of memory.
-fn end_rows<B: Drop, L: Label<Block = B>, F: Drop>(
+fn end_rows<B: Drop, L: Label<Block = B>, F: Drop, S: BlockStore<B, L>>(
     alloc: Global,
     graph: &GraphShape,
     plan: &RunPlan,
     wanted: &KeyList,
-    closed: Closed<SchedulerNode<B, L>, WorkerNode<B, L, F>, ClientNode<B, L>>,
-) -> (Ends<B, L, F>, bool)
+    closed: Closed<SchedulerNode<B, L>, WorkerNode<B, L, F, S>, ClientNode<B, L>>,
+) -> (Ends<B, L, F, S>, bool)
     requires scheduler { All (λ s. IsSchedulersBook L.facts graph.now plan.now s.history.book) closed.scheduler.items }
     requires workers { (k : ℕ) (w : _) → k < vec_len closed.workers
         → IsWorkersBook L.facts graph.now plan.now.threads (k + 1) (λ c. worker_facts c.core) (slice_index_or closed.workers.items k w).history.book }
@@ -280,8 +288,8 @@ fn end_rows<B: Drop, L: Label<Block = B>, F: Drop>(
             alloc, graph, plan, wanted, scheduler, workers, client,
         ),
         Err(workers) => {
-            let (_, feeds) = take_apart(alloc, workers);
-            (not_run(alloc, feeds), false)
+            let (_, feeds, stores) = take_apart(alloc, workers);
+            (not_run(alloc, feeds, stores), false)
         }
     }
 }
@@ -312,12 +320,12 @@ fn last_of<T: Drop>(row: Vec<T>) -> Option<T>
 
 /// The same with a read fault in the place of want of memory, where no worker is left, none left for want of memory, and a feed had failed or was
 /// missing.
-fn with_reads<J: JobSpec, K: RunName<J>>(
+fn with_reads<J: JobSpec, K: RunName<J>, S: Drop>(
     job: &J,
     short: bool,
     given_up: bool,
-    ends: Ends<J::Block, RunLabel<J, K>, Fed<J, K>>,
-) -> Ends<J::Block, RunLabel<J, K>, Fed<J, K>>
+    ends: Ends<J::Block, RunLabel<J, K>, Fed<J, K>, S>,
+) -> Ends<J::Block, RunLabel<J, K>, Fed<J, K>, S>
     ensures same { (result.histories ≡ ends.histories) × (result.left ≡ ends.left) × (result.feeds ≡ ends.feeds) }
     ensures none { ends.histories ≡ None → result.result ≡ ends.result }
     ensures changed { (result.result ≡ ends.result)
@@ -328,10 +336,10 @@ fn with_reads<J: JobSpec, K: RunName<J>>(
 }
 
 /// The same with a read fault in the place of want of memory, where a feed failed and the run can be told of.
-fn with_read<B: Drop, L: Label<Block = B>, F: Drop>(
+fn with_read<B: Drop, L: Label<Block = B>, F: Drop, S: Drop>(
     failed: bool,
-    ends: Ends<B, L, F>,
-) -> Ends<B, L, F>
+    ends: Ends<B, L, F, S>,
+) -> Ends<B, L, F, S>
     ensures same { (result.histories ≡ ends.histories) × (result.left ≡ ends.left) × (result.feeds ≡ ends.feeds) }
     ensures none { ends.histories ≡ None → result.result ≡ ends.result }
     ensures changed { (result.result ≡ ends.result) ⊎ ((result.result ≡ Err status.Read) × (failed ≡ true)) }
@@ -341,6 +349,7 @@ fn with_read<B: Drop, L: Label<Block = B>, F: Drop>(
         histories,
         left,
         feeds,
+        stores,
     } = ends;
     let failed = failed && histories.is_some();
     Ends {
@@ -348,6 +357,7 @@ fn with_read<B: Drop, L: Label<Block = B>, F: Drop>(
         histories,
         left,
         feeds,
+        stores,
     }
 }
 

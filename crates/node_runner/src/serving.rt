@@ -7,8 +7,8 @@ use cluster_msgs::JobSpec;
 use driver_rows::{Attends, ClientNews, Drives, SchedulerNews, Schedules, WorkerNews, Works};
 use io_edge::Gate;
 use node_states::{
-    ClientNode, ClientTurn, Course, SchedulerNode, SchedulerTurn, TaskEnd, Why, WorkerNode,
-    WorkerTurn,
+    BlockStore, ClientNode, ClientTurn, Course, SchedulerNode, SchedulerTurn, TaskEnd, Why,
+    WorkerNode, WorkerTurn,
 };
 use std::sync::Wait;
 use turn_cell::{Act, Stamps};
@@ -53,8 +53,8 @@ fn news(course: Course, joined: u32) -> SchedulerNews {
     }
 }
 
-impl<'a, J: JobSpec, G: Gate, K: RunName<J>> Works<
-    WorkerNode<J::Block, RunLabel<J, K>, Fed<J, K>>,
+impl<'a, J: JobSpec, G: Gate, K: RunName<J>, S: BlockStore<J::Block, RunLabel<J, K>>> Works<
+    WorkerNode<J::Block, RunLabel<J, K>, Fed<J, K>, S>,
     RunLabel<J, K>,
 > for Running<'a, J, G, K> {
     type Task = Lent<J::Block, RunLabel<J, K>, Fed<J, K>>;
@@ -64,7 +64,7 @@ impl<'a, J: JobSpec, G: Gate, K: RunName<J>> Works<
     fn work<R: Wait>(
         &self,
         rt: &R,
-        state: &mut WorkerNode<J::Block, RunLabel<J, K>, Fed<J, K>>,
+        state: &mut WorkerNode<J::Block, RunLabel<J, K>, Fed<J, K>, S>,
         stamps: &mut Stamps,
         joined: bool,
         ended: &[bool],
@@ -91,7 +91,7 @@ impl<'a, J: JobSpec, G: Gate, K: RunName<J>> Works<
     fn lose<R: Wait>(
         &self,
         rt: &R,
-        state: &mut WorkerNode<J::Block, RunLabel<J, K>, Fed<J, K>>,
+        state: &mut WorkerNode<J::Block, RunLabel<J, K>, Fed<J, K>, S>,
         stamps: &mut Stamps,
     ) -> bool {
         state.end(Why::Script);
@@ -121,7 +121,7 @@ impl<'a, J: JobSpec, G: Gate, K: RunName<J>> Works<
     fn take_back<R: Wait>(
         &self,
         rt: &R,
-        state: &mut WorkerNode<J::Block, RunLabel<J, K>, Fed<J, K>>,
+        state: &mut WorkerNode<J::Block, RunLabel<J, K>, Fed<J, K>, S>,
         stamps: &mut Stamps,
         done: Returned<J::Block, RunLabel<J, K>, Fed<J, K>>,
     ) {

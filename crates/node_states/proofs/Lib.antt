@@ -11,3 +11,6 @@ pub mod JoinLemmas
 pub mod Entries
 pub mod Starting
 pub mod ScriptLemmas
+pub mod StoreLemmas
+pub mod SpillLemmas
+pub mod RowLemmas

@@ -4,3 +4,6 @@ pub mod Workers
 pub mod Causes
 pub mod Order
 pub mod Opening
+pub mod Stores
+pub mod Reading
+pub mod Spills

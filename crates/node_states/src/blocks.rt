@@ -1,18 +1,16 @@
-//! The blocks that a worker holds.
-ghost use Rattle.std.specs.Prelude.{◌≡◌, ◌∷◌, ◌++◌, [], map, filter, IfOk, OnOk};
-ghost use Rattle.worker_core.specs.Core.{facts};
+//! A store that puts no block aside.
+ghost use Rattle.std.specs.Prelude.{◌≡◌, IfOk, IfSome, is_some};
+ghost use Rattle.node_states.specs.Stores.{KeepsNone, is_at, row_stock};
 
-use crate::cores::WorkingCore;
-use crate::evidence::WorkerOut;
-use cluster_msgs::{Instruction, Label};
-use node_links::{Keyed, Parcel};
+use crate::store::{BlockStore, Got};
+use cluster_msgs::Label;
+use node_links::Keyed;
 use std::alloc::{AllocError, Global};
-use worker_core::WorkerCore;
+use std::sync::Arc;
 
-/// The blocks that a worker holds, by key.
+/// The blocks of a worker in a row, each at the place of its key. It puts nothing aside, and loses nothing.
 #[derive(Drop)]
 pub struct Blocks<B: Drop, L: Label<Block = B>> {
-    alloc: Global,
     pub held: Vec<Option<Keyed<B, L>>>,
 }
 
@@ -21,95 +19,90 @@ impl<B: Drop, L: Label<Block = B>> Blocks<B, L> {
     ///
     /// # Errors
     /// Where there is no memory.
-    pub fn new(alloc: Global, keys: u32) -> Result<Self, AllocError> {
+    #[tactic(auto, using(crate::proofs::RowLemmas::row_none, crate::proofs::RowLemmas::row_grows))]
+    pub fn new(alloc: Global, keys: u32) -> Result<Self, AllocError>
+        ensures { IfOk result (λ s. KeepsNone (row_stock (λ k. k.key) s.held.items)) }
+    {
         let mut held = Vec::with_capacity(alloc, keys as usize)?;
         for _ in 0..keys {
             held.push(None)?;
         }
-        Ok(Blocks { alloc, held })
+        Ok(Blocks { held })
     }
 
-    /// Keeps what came of those keys that the core counts as in memory.
-    pub fn keep<L2: Label>(&mut self, core: Option<&WorkingCore<L2>>, brought: Vec<Keyed<B, L>>) {
-        let Some(core) = core else {
-            return;
-        };
-        for keyed in brought {
-            let at = keyed.key() as usize;
-            if at < self.held.len() && core.core.holds(keyed.key()) && self.held[at].is_none() {
-                self.held[at] = Some(keyed);
-            }
+    #[tactic(auto, using(crate::proofs::RowLemmas::row_past))]
+    fn find(&self, key: u32) -> Option<&Keyed<B, L>>
+        ensures key { IfSome result (λ keyed. keyed.now.key ≡ key) }
+        ensures kept { is_some result ≡ is_at (λ k. k.key) self.now.held.items key }
+    {
+        let at = key as usize;
+        if at >= self.held.len() {
+            return None;
+        }
+        match &self.held[at] {
+            Some(keyed) => if keyed.key() == key {
+                Some(keyed)
+            } else {
+                None
+            },
+            None => None,
         }
     }
+}
 
-    /// Lets go what the core dropped.
-    pub fn let_go<L2: Label>(&mut self, out: &WorkerOut<L2>) {
-        for instruction in out.instructions() {
-            if let Instruction::Drop { key } = instruction {
-                let at = *key as usize;
-                if at < self.held.len() {
-                    self.held[at] = None;
-                }
-            }
-        }
-    }
+impl<B: Drop, L: Label<Block = B>> BlockStore<B, L> for Blocks<B, L> {
+    ghost use Rattle.std.specs.Prelude.{All, IfSome, OnOk, OnErr};
+    ghost use Rattle.std.specs.Arc.{arc_value};
+    ghost use Rattle.cluster_msgs.specs.Labels.{BlockFits};
+    ghost use Rattle.node_states.specs.Stores.{Puts, IsSame, row_stock};
 
-    /// The block of a key, which both share from then on.
-    ///
-    /// # Errors
-    /// Where there is no memory, or the block isn't here.
-    fn share(&self, key: u32) -> Result<Keyed<B, L>, AllocError>
-        ensures { IfOk result (λ keyed. keyed.key ≡ key) }
+    ghost stock = { λ s. row_stock (λ k. k.key) s.held.items };
+
+    ghost fits = { λ f s. All (λ o. IfSome o (λ x. BlockFits f x.key (arc_value x.block))) s.held.items };
+
+    #[tactic(auto, using(crate::proofs::RowLemmas::row_puts, crate::proofs::RowLemmas::row_same))]
+    fn put(&mut self, key: u32, block: Arc<B>) -> Result<(), AllocError>
+        requires { BlockFits L.facts key (arc_value block) }
+        ensures ok { OnOk result (Puts key (row_stock (λ k. k.key) self.old.held.items) (row_stock (λ k. k.key) self.new.held.items)) }
+        ensures err { OnErr result (IsSame (row_stock (λ k. k.key) self.old.held.items) (row_stock (λ k. k.key) self.new.held.items)) }
     {
         let at = key as usize;
         if at >= self.held.len() {
             return Err(AllocError);
         }
-        let Some(keyed) = &self.held[at] else {
-            return Err(AllocError);
-        };
-        if keyed.key() != key {
-            return Err(AllocError);
-        }
-        keyed.share()
+        self.held[at] = Some(Keyed::new(key, block));
+        Ok(())
     }
 
-    /// The blocks of those of the keys that the core counts as in memory, in their order.
-    ///
-    /// # Errors
-    /// Where there is no memory, or such a block isn't here.
-    pub fn parcel(&self, core: &WorkerCore, keys: &[u32]) -> Result<Parcel<B, L>, AllocError>
-        ensures { IfOk result (λ parcel. parcel.0 ≡ filter (facts core.now).mem keys.now) }
-    {
-        let mut parcel = Parcel::new(self.alloc);
-        for key in keys {
-            self.add(core, *key, &mut parcel)?;
+    #[tactic(auto, using(crate::proofs::RowLemmas::row_finds, crate::proofs::RowLemmas::row_misses, crate::proofs::RowLemmas::row_same))]
+    fn get(&mut self, key: u32) -> Result<Got<Arc<B>>, AllocError> {
+        match self.find(key) {
+            Some(keyed) => {
+                let shared = keyed.share()?;
+                Ok(Got::Here(shared.into_block()))
+            }
+            None => Ok(Got::Absent),
         }
-        Ok(parcel)
     }
 
-    fn add(&self, core: &WorkerCore, key: u32, parcel: &mut Parcel<B, L>) -> Result<(), AllocError>
-        ensures { OnOk result (parcel.new.0 ≡ parcel.old.0 ++ filter (facts core.now).mem (key ∷ [])) }
-    {
-        if !core.holds(key) {
-            return Ok(());
+    #[tactic(auto, using(crate::proofs::RowLemmas::row_removes, crate::proofs::RowLemmas::row_keeps))]
+    fn remove(&mut self, key: u32) {
+        let at = key as usize;
+        if at < self.held.len() {
+            self.held[at] = None;
         }
-        let keyed = self.share(key)?;
-        parcel.push(keyed)
     }
 
-    /// The blocks of these keys, in their order.
-    ///
-    /// # Errors
-    /// Where there is no memory, or one isn't here.
-    pub fn inputs(&self, keys: &[u32]) -> Result<Vec<Keyed<B, L>>, AllocError>
-        ensures { IfOk result (λ inputs. map (λ k. k.key) inputs.items ≡ keys.now) }
-    {
-        let mut inputs = Vec::with_capacity(self.alloc, keys.len())?;
-        for key in keys {
-            let keyed = self.share(*key)?;
-            inputs.push(keyed)?;
-        }
-        Ok(inputs)
+    fn spilled(&self, _key: u32) -> bool {
+        false
+    }
+
+    fn spills(&self) -> u64 {
+        0
+    }
+
+    #[tactic(auto, using(crate::proofs::RowLemmas::row_sound, crate::proofs::Kept::all_places))]
+    fn sound(&self) {
+        let _held = &self.held;
     }
 }

@@ -1,5 +1,5 @@
 //! Events, instructions and blames that fit the label of a run, by their types.
-ghost use Rattle.std.specs.Prelude.{◌≡◌, ◌∷◌, ◌<◌, [], true, false};
+ghost use Rattle.std.specs.Prelude.{◌≡◌, ◌∷◌, ◌<◌, ◌≤◌, [], true, false};
 ghost use Rattle.cluster_msgs.specs.Shape.{deps_of, key_count};
 ghost use Rattle.cluster_msgs.specs.Labels.{ErrorFits, BlameFits, UpFits, ToClientFits};
 ghost use Rattle.node_states.specs.Fitting.{SchedEventFits, ClientEventFits, WorkerEventFits, InstructionsFit, LettersFit};
@@ -42,8 +42,10 @@ impl<L: Label> RunGraph<L> {
 
     /// How many keys it has.
     pub fn keys(&self) -> u32
-        ensures { result ≡ key_count self.now }
+        ensures count { result ≡ key_count self.now }
+        ensures few { result ≤ 32768 }
     {
+        self.shape.sound();
         self.shape.keys()
     }
 
@@ -226,6 +228,13 @@ impl<L: Label> WorkerCause<L> {
             event,
             label: PhantomData,
         }
+    }
+
+    /// The event.
+    pub fn event(&self) -> &WorkerEvent
+        ensures { result.now ≡ self.now }
+    {
+        &self.event
     }
 
     pub fn into_event(self) -> WorkerEvent

@@ -1,32 +1,33 @@
 //! A worker's node.
 ghost use Rattle.std.specs.Prelude.{◌≡◌, ◌≢◌, ◌⊎◌, ◌<◌, ◌+◌, ◌∷◌, ◌++◌, [], ℕ, true, false, map, filter, is_some, IfOk, IfErr, IfSome, OnOk, Ok, Some, None};
 ghost use Rattle.cluster_msgs.specs.Labels.{PacketFits};
-ghost use Rattle.cluster_msgs.specs.declared.cores.WorkerEvent.TheVariants as worker;
+ghost use Rattle.cluster_msgs.specs.Shape.{key_count};
 ghost use Rattle.cluster_msgs.specs.declared.messages.Message.TheVariants as message;
 ghost use Rattle.cluster_msgs.specs.declared.messages.Peer.TheVariants as peer;
-ghost use Rattle.cluster_msgs.specs.declared.events.Asker.TheVariants.{Worker};
 ghost use Rattle.cluster_msgs.specs.declared.events.Event.TheVariants as event;
 ghost use Rattle.cluster_rules.specs.Worker.{WorkerFacts, would_start};
 ghost use Rattle.worker_core.specs.Core.{facts};
 ghost use Rattle.node_links.specs.Books.{IsRecorded, IsEntered, Steps};
-ghost use Rattle.node_states.specs.Machines.{WorkerSays};
-ghost use Rattle.node_states.specs.Workers.{is_end, no_end, ends_last};
+ghost use Rattle.node_states.specs.Order.{Adds};
+ghost use Rattle.node_states.specs.Reading.{IfWhole, MatchNext};
+ghost use Rattle.node_states.specs.Spills.{AddsInOrder, IsLookedUp, IsNextDue, MayMake, Marked, NoneDue};
+ghost use Rattle.node_states.specs.Workers.{no_end, ends_last};
 ghost use Rattle.node_states.specs.Causes.{IsTurnsCause, why_of};
 
-use crate::blocks::Blocks;
 use crate::cores::WorkingCore;
-use crate::evidence::{Fault, RunGraph, WorkerCause, WorkerOut};
+use crate::evidence::{Fault, RunGraph, WorkerOut};
 use crate::feeds::Feeds;
 use crate::history::WorkerHistory;
+use crate::holding::{Sought, advance, inputs, least_due, parcel};
 use crate::links::{Source, WorkerLinks, is_dead};
+use crate::store::BlockStore;
 use crate::why::Why;
-use cluster_msgs::{
-    Asker, Event, KeyList, Label, Message, Packet, Peer, RunFail, Stop, WorkerEvent,
-};
+use crate::worker_choice::{Choice, Next, Request};
+use cluster_msgs::{Asker, Label, Message, Packet, Peer, RunFail, Stop};
 use node_links::{Keyed, Log, Machine, Sealed, pair_up};
-use std::alloc::{AllocError, Global};
+use std::alloc::Global;
 use std::sync::Wait;
-use turn_cell::{Act, Kept, Stamps};
+use turn_cell::{Kept, Stamps};
 
 /// What a task made: a block that fits its key, or evidence that the key is faulty.
 #[derive(Drop)]
@@ -44,67 +45,74 @@ pub struct Task<B: Drop, L: Label<Block = B>, F: Drop> {
     ghost inputs_are: { map (λ k. k.key) inputs.items ≡ L.facts.deps key },
 }
 
-/// What a turn does next: an event that isn't the worker's end, with its message, what the core is told, the blocks that come, and what is answered.
+/// A worker with its history, the store of its blocks, its feeds and its links. `ending` says why it is to end; once its end is recorded it makes no
+/// entry more. All blocks that were put aside are recorded as such, up to so many (`looked`). A block that was found lost (`lost`) is recorded as
+/// lost before blocks are read again, and a request that was taken (`held`) is answered before a packet is taken again.
 #[derive(Drop)]
-struct Choice<B: Drop, L: Label<Block = B>> {
-    event: Event,
-    message: Option<Message>,
-    said: Option<WorkerCause<L>>,
-    brought: Vec<Keyed<B, L>>,
-    answer: Option<(Asker, Sealed<B, L>)>,
-    ghost going: { is_end event ≡ false },
-}
-
-/// A worker with its history, its blocks, its feeds and its links. `ending` says why it is to end; once its end is recorded it makes no entry more.
-#[derive(Drop)]
-pub struct WorkerNode<B: Drop, L: Label<Block = B>, F: Drop> {
+pub struct WorkerNode<B: Drop, L: Label<Block = B>, F: Drop, S: BlockStore<B, L>> {
     alloc: Global,
     pub history: WorkerHistory<L>,
     graph: RunGraph<L>,
-    blocks: Blocks<B, L>,
+    store: S,
+    looked: u64,
+    lost: Option<u32>,
+    held: Option<Request>,
     feeds: Feeds<F>,
     links: WorkerLinks<B, L>,
     heard: bool,
     ending: Option<Why>,
+    ghost looked_up: { IsLookedUp (key_count graph) looked (S.stock store) (facts history.book.core.core) history.recorded },
 }
 
-impl<B: Drop, L: Label<Block = B>, F: Drop> WorkerNode<B, L, F> {
-    /// A worker that has made no entry, whose history may have so many bytes, with a feed for each of its threads. It may be made as one that is to
-    /// end, where a feed of it couldn't be opened.
+impl<B: Drop, L: Label<Block = B>, F: Drop, S: BlockStore<B, L>> WorkerNode<B, L, F, S> {
+    /// A worker that has made no entry and has no key in memory, whose history may have so many bytes, with a feed for each of its threads. It may be
+    /// made as one that is to end, where a feed of it couldn't be opened.
     ///
     /// # Errors
-    /// Where there is no memory. The feeds come back.
+    /// Where there is no memory. The feeds and the store come back.
+    #[tactic(auto, using(crate::proofs::StoreLemmas::nothing_due))]
     pub fn new(
         alloc: Global,
         core: WorkingCore<L>,
         limit: u64,
         graph: RunGraph<L>,
+        store: S,
         feeds: Feeds<F>,
         links: WorkerLinks<B, L>,
         ending: Option<Why>,
-    ) -> Result<Self, Feeds<F>>
+    ) -> Result<Self, (Feeds<F>, S)>
+        requires { (k : ℕ) → (facts core.core).mem k ≡ false }
         ensures core { IfOk result (λ node. (node.history.book.core ≡ core) × (node.history.id ≡ core.id)) }
         ensures entries { IfOk result (λ node. (node.history.book.entries ≡ []) × (node.history.book.cut ≡ false)) }
         ensures ending { IfOk result (λ node. (node.ending ≡ ending) × (node.history.ended ≡ false)) }
         ensures feeds { IfOk result (λ node. node.feeds ≡ feeds) }
-        ensures back { IfErr result (λ back. back ≡ feeds) }
+        ensures fits { IfOk result (λ node. S.fits L.facts node.store) }
+        ensures back { IfErr result (λ back. (back.0 ≡ feeds) × (back.1 ≡ store)) }
     {
-        let Some((core, blocks)) = with_blocks(alloc, graph.keys(), core) else {
-            return Err(feeds);
+        let Ok(history) = WorkerHistory::new(alloc, core, &graph, limit) else {
+            return Err((feeds, store));
         };
-        let Ok(history) = WorkerHistory::new(alloc, core, limit) else {
-            return Err(feeds);
-        };
+        store.sound();
         Ok(WorkerNode {
             alloc,
             history,
             graph,
-            blocks,
+            store,
+            looked: 0,
+            lost: None,
+            held: None,
             feeds,
             links,
             heard: false,
             ending,
         })
+    }
+
+    /// What its store holds in memory fits the label, whatever turns were made. It does nothing.
+    pub fn sound(&self)
+        ensures { S.fits L.facts self.now.store }
+    {
+        self.store.sound();
     }
 
     /// Its number.
@@ -135,6 +143,7 @@ impl<B: Drop, L: Label<Block = B>, F: Drop> WorkerNode<B, L, F> {
     pub fn end(&mut self, why: Why)
         ensures history { self.new.history ≡ self.old.history }
         ensures feeds { self.new.feeds ≡ self.old.feeds }
+        ensures store { self.new.store ≡ self.old.store }
         ensures first { self.old.ending ≢ None → self.new.ending ≡ self.old.ending }
         ensures ending { self.old.ending ≡ None → self.new.ending ≡ Some why }
     {
@@ -143,28 +152,33 @@ impl<B: Drop, L: Label<Block = B>, F: Drop> WorkerNode<B, L, F> {
         }
     }
 
-    /// Its history and its feeds.
-    pub fn into_parts(self) -> (Log, Feeds<F>)
+    /// Its history, its feeds and its store.
+    pub fn into_parts(self) -> (Log, Feeds<F>, S)
         ensures entries { (result.0.entries ≡ self.history.book.entries) × (is_some result.0.cut ≡ self.history.book.cut) }
         ensures feeds { result.1 ≡ self.feeds }
+        ensures store { result.2 ≡ self.store }
     {
         let WorkerNode {
             alloc: _,
             history,
             graph: _,
-            blocks: _,
+            store,
+            looked: _,
+            lost: _,
+            held: _,
             feeds,
             links: _,
             heard: _,
             ending: _,
         } = self;
-        (history.into_log(), feeds)
+        (history.into_log(), feeds, store)
     }
 
-    /// One turn: its end where it is to end and has joined, or the start of a task, or another event, or none. Then what waits is sent. Such an end
-    /// waits until a driver knows that the worker has joined, or the worker has heard of the scheduler. Second in the answer is a task that was
+    /// One turn: its end where it is to end and has joined; else the least block that was put aside and isn't recorded as such, or one that was found
+    /// lost; else an answer to a request that waits for it; else the start of a task; else another event, or none. Then what waits is sent. Such an
+    /// end waits until a driver knows that the worker has joined, or the worker has heard of the scheduler. Second in the answer is a task that was
     /// started, with a feed of the worker. First is `false` where nothing was tried.
-    #[tactic(auto, using(crate::proofs::Causes::then_cause))]
+    #[tactic(auto, using(crate::proofs::Causes::then_cause, crate::proofs::SpillLemmas::none_first, crate::proofs::SpillLemmas::nothing_first))]
     pub fn go_on<R: Wait>(
         &mut self,
         rt: &R,
@@ -178,6 +192,8 @@ impl<B: Drop, L: Label<Block = B>, F: Drop> WorkerNode<B, L, F> {
         ensures ended { self.old.history.ended ≡ true → self.new ≡ self.old }
         ensures ends { self.old.ending ≢ None → (self.new.history.ended ≡ true) ⊎ (self.new.history.book ≡ self.old.history.book) }
         ensures why { IsTurnsCause self.old.ending self.new.ending }
+        ensures order { self.old.ending ≡ None → AddsInOrder (key_count self.old.graph) (S.stock self.old.store) (facts self.old.history.book.core.core)
+            self.old.history.recorded self.old.history.book.entries self.new.history.book.entries }
         ensures started { IfSome result.1 (λ task. would_start (facts self.old.history.book.core.core) ≡ Some task.key) }
         ensures entered { IfSome result.1 (λ task. IsEntered (event.Start self.old.history.id) None self.old.history.book self.new.history.book) }
         ensures inputs { IfSome result.1 (λ task. map (λ k. k.key) task.inputs.items ≡ L.facts.deps task.key) }
@@ -187,17 +203,29 @@ impl<B: Drop, L: Label<Block = B>, F: Drop> WorkerNode<B, L, F> {
         if self.history.ended() {
             return (false, None);
         }
+        if self.ending.is_some() {
+            return (self.lose(stamps, joined), None);
+        }
+        if self.catch_up(rt, stamps) {
+            self.links.flush(rt);
+            return (true, None);
+        }
         let next = self.next_task();
         if self.ending.is_some() {
             return (self.lose(stamps, joined), None);
         }
         match next {
-            Some(task) => {
+            Next::Start(task) => {
                 let task = self.start(rt, stamps, task);
                 self.links.flush(rt);
                 (true, task)
             }
-            None => {
+            Next::Miss(key) => {
+                self.miss(rt, stamps, key);
+                self.links.flush(rt);
+                (true, None)
+            }
+            Next::Other => {
                 let moved = self.serve(rt, stamps, dead);
                 self.links.flush(rt);
                 (moved, None)
@@ -270,31 +298,156 @@ impl<B: Drop, L: Label<Block = B>, F: Drop> WorkerNode<B, L, F> {
         self.history.lose(stamps)
     }
 
-    /// The task that would start, with the blocks of its dependencies and a feed, as long as the worker isn't to end. Where a block isn't here it is
-    /// to end.
-    #[tactic(auto, using(crate::proofs::Causes::no_cause, crate::proofs::Causes::memory_cause))]
-    fn next_task(&mut self) -> Option<Task<B, L, F>>
+    /// What goes before a start and before messages, if there is something: a block that was put aside, or one that was found lost, is recorded as
+    /// such, or a request that waits is answered.
+    #[tactic(auto, using(crate::proofs::Causes::no_cause, crate::proofs::SpillLemmas::none_first, crate::proofs::SpillLemmas::least_first, crate::proofs::SpillLemmas::nothing_first))]
+    fn catch_up<R: Wait>(&mut self, rt: &R, stamps: &mut Stamps) -> bool
+        requires live { self.old.history.ended ≡ false }
+        ensures recorded { IsRecorded (Steps ⟦<WorkingCore<L> as Machine>⟧.says ⟦<WorkingCore<L> as Machine>⟧.by) self.old.history.book self.new.history.book }
+        ensures none { result ≡ false → (self.new.history ≡ self.old.history) × (self.new.ending ≡ self.old.ending) }
+        ensures due { result ≡ false →
+            NoneDue (key_count self.old.graph) (S.stock self.old.store) (facts self.old.history.book.core.core) self.old.history.recorded }
+        ensures order { AddsInOrder (key_count self.old.graph) (S.stock self.old.store) (facts self.old.history.book.core.core) self.old.history.recorded
+            self.old.history.book.entries self.new.history.book.entries }
+        ensures same { (self.new.history.id ≡ self.old.history.id) × (self.new.feeds ≡ self.old.feeds) }
+        ensures why { IsTurnsCause self.old.ending self.new.ending }
+    {
+        match self.due() {
+            Ok(Some(key)) => {
+                let choice = Choice::spill(self.alloc, self.history.id(), key);
+                self.carry(rt, stamps, choice);
+                true
+            }
+            Ok(None) => self.resume(rt, stamps),
+            Err(stop) => {
+                self.note(stop);
+                true
+            }
+        }
+    }
+
+    /// What waits, if something does: a block that was found lost is recorded as lost, or a request is answered.
+    #[tactic(auto, using(crate::proofs::Causes::no_cause))]
+    fn resume<R: Wait>(&mut self, rt: &R, stamps: &mut Stamps) -> bool
+        requires live { self.old.history.ended ≡ false }
+        ensures recorded { IsRecorded (Steps ⟦<WorkingCore<L> as Machine>⟧.says ⟦<WorkingCore<L> as Machine>⟧.by) self.old.history.book self.new.history.book }
+        ensures none { result ≡ false → (self.new.history ≡ self.old.history) × (self.new.ending ≡ self.old.ending) }
+        ensures same { (self.new.history.id ≡ self.old.history.id) × (self.new.feeds ≡ self.old.feeds) }
+        ensures why { IsTurnsCause self.old.ending self.new.ending }
+    {
+        if let Some(key) = self.lost {
+            self.miss(rt, stamps, key);
+            return true;
+        }
+        match self.held.take() {
+            Some(request) => {
+                let chosen = self.give(request);
+                self.carry_chosen(rt, stamps, chosen);
+                true
+            }
+            None => false,
+        }
+    }
+
+    /// The least key in memory whose block was put aside and isn't recorded as such. It is looked for only where blocks were put aside since all that
+    /// were are recorded.
+    ///
+    /// # Errors
+    /// `Memory` where the core goes on no more.
+    #[tactic(auto, using(crate::proofs::StoreLemmas::now_looked_up, crate::proofs::StoreLemmas::none_now))]
+    fn due(&mut self) -> Result<Option<u32>, Stop>
+        ensures due { IfOk result
+            (λ key. IsNextDue (key_count self.old.graph) (S.stock self.old.store) (facts self.old.history.book.core.core) self.old.history.recorded key) }
+        ensures same { (self.new.history ≡ self.old.history) × (self.new.feeds ≡ self.old.feeds) × (self.new.ending ≡ self.old.ending) }
+    {
+        let spills = self.store.spills();
+        if spills == self.looked && spills < u64::MAX {
+            return Ok(None);
+        }
+        let Some(core) = self.history.core() else {
+            return Err(Stop::Memory);
+        };
+        match least_due(self.graph.keys(), &self.store, &core.core, &self.history) {
+            Some(key) => Ok(Some(key)),
+            None => {
+                self.looked = spills;
+                Ok(None)
+            }
+        }
+    }
+
+    /// A block was found lost: that is recorded, where it is recorded that it was put aside. Else this is recorded first.
+    #[tactic(auto, using(crate::proofs::Causes::no_cause))]
+    fn miss<R: Wait>(&mut self, rt: &R, stamps: &mut Stamps, key: u32)
+        requires live { self.old.history.ended ≡ false }
+        ensures recorded { IsRecorded (Steps ⟦<WorkingCore<L> as Machine>⟧.says ⟦<WorkingCore<L> as Machine>⟧.by) self.old.history.book self.new.history.book }
+        ensures same { (self.new.history.id ≡ self.old.history.id) × (self.new.feeds ≡ self.old.feeds) }
+        ensures why { IsTurnsCause self.old.ending self.new.ending }
+    {
+        let chosen = self.missing(key);
+        self.carry_chosen(rt, stamps, chosen);
+    }
+
+    fn missing(&mut self, key: u32) -> Result<Choice<B, L>, Stop>
+        ensures same { (self.new.history ≡ self.old.history) × (self.new.feeds ≡ self.old.feeds) × (self.new.ending ≡ self.old.ending) }
+        ensures says { IfOk result
+            (λ c. MayMake self.old.history.id (facts self.old.history.book.core.core) self.old.history.recorded c.event c.message c.said) }
+    {
+        let id = self.history.id();
+        if !self.history.holds(key) {
+            return Err(Stop::Memory);
+        }
+        if self.history.is_recorded(key) {
+            self.lost = None;
+            return Ok(Choice::lose(self.alloc, id, key));
+        }
+        self.lost = Some(key);
+        Ok(Choice::spill(self.alloc, id, key))
+    }
+
+    /// The task that would start, with the blocks of its dependencies and a feed, as long as the worker isn't to end, or one of these blocks that is
+    /// lost. Where a block isn't here the worker is to end.
+    #[tactic(auto, using(crate::proofs::Causes::no_cause, crate::proofs::Causes::memory_cause, crate::proofs::StoreLemmas::looks_looked_up))]
+    fn next_task(&mut self) -> Next<Task<B, L, F>>
         ensures history { self.new.history ≡ self.old.history }
         ensures why { IsTurnsCause self.old.ending self.new.ending }
         ensures going { self.new.ending ≡ None → self.old.ending ≡ None }
-        ensures still { self.new.ending ≢ None → result ≡ None }
-        ensures started { IfSome result (λ task. would_start (facts self.old.history.book.core.core) ≡ Some task.key) }
-        ensures feed { IfSome result (λ task. (self.old.feeds.here ≡ self.new.feeds.here ++ task.feed ∷ []) × (self.new.feeds.out ≡ self.old.feeds.out + 1)) }
-        ensures feeds { result ≡ None → self.new.feeds ≡ self.old.feeds }
+        ensures still { self.new.ending ≢ None → self.new.feeds ≡ self.old.feeds }
+        ensures started { MatchNext result (λ task. would_start (facts self.old.history.book.core.core) ≡ Some task.key) (Unit {0}) }
+        ensures feeds { MatchNext result (λ task. (self.old.feeds.here ≡ self.new.feeds.here ++ task.feed ∷ []) × (self.new.feeds.out ≡ self.old.feeds.out + 1))
+            (self.new.feeds ≡ self.old.feeds) }
     {
         if self.ending.is_some() {
-            return None;
+            return Next::Other;
         }
-        let key = self.would_start()?;
-        if key >= self.graph.keys() {
-            return None;
-        }
-        let Ok(inputs) = self.blocks.inputs(self.graph.deps(key)) else {
-            self.end(Why::Memory);
-            return None;
+        let Some(key) = self.would_start() else {
+            return Next::Other;
         };
-        let feed = self.feeds.take()?;
-        Some(Task { key, inputs, feed })
+        if key >= self.graph.keys() {
+            return Next::Other;
+        }
+        match inputs(self.alloc, &mut self.store, self.lost, self.graph.deps(key)) {
+            Ok(Sought::Whole(inputs)) => self.with_feed(key, inputs),
+            Ok(Sought::Lost(key)) => Next::Miss(key),
+            Err(_) => {
+                self.end(Why::Memory);
+                Next::Other
+            }
+        }
+    }
+
+    /// A task with a feed, if one is here.
+    fn with_feed(&mut self, key: u32, inputs: Vec<Keyed<B, L>>) -> Next<Task<B, L, F>>
+        requires { map (λ k. k.key) inputs.items ≡ L.facts.deps key }
+        ensures same { (self.new.history ≡ self.old.history) × (self.new.ending ≡ self.old.ending) }
+        ensures key { MatchNext result (λ task. task.key ≡ key) (Unit {0}) }
+        ensures feeds { MatchNext result (λ task. (self.old.feeds.here ≡ self.new.feeds.here ++ task.feed ∷ []) × (self.new.feeds.out ≡ self.old.feeds.out + 1))
+            (self.new.feeds ≡ self.old.feeds) }
+    {
+        match self.feeds.take() {
+            Some(feed) => Next::Start(Task { key, inputs, feed }),
+            None => Next::Other,
+        }
     }
 
     fn would_start(&self) -> Option<u32>
@@ -321,15 +474,7 @@ impl<B: Drop, L: Label<Block = B>, F: Drop> WorkerNode<B, L, F> {
         ensures entered { IfSome result (λ _. IsEntered (event.Start self.old.history.id) None self.old.history.book self.new.history.book) }
         ensures back { result ≡ None → (self.new.feeds.here ≡ self.old.feeds.here ++ task.feed ∷ []) × (self.new.feeds.out + 1 ≡ self.old.feeds.out) }
     {
-        let choice = Choice {
-            event: Event::Start {
-                worker: self.history.id(),
-            },
-            message: None,
-            said: Some(WorkerCause::new(WorkerEvent::Start)),
-            brought: Vec::new(self.alloc),
-            answer: None,
-        };
+        let choice = Choice::start(self.alloc, self.history.id());
         match self.perform(rt, stamps, choice) {
             Ok(()) => Some(task),
             Err(stop) => {
@@ -346,7 +491,7 @@ impl<B: Drop, L: Label<Block = B>, F: Drop> WorkerNode<B, L, F> {
     }
 
     /// A task that the worker still runs ends.
-    #[tactic(auto, using(crate::proofs::Causes::no_cause, crate::proofs::Causes::memory_cause))]
+    #[tactic(auto, using(crate::proofs::Causes::no_cause))]
     fn end_task<R: Wait>(&mut self, rt: &R, stamps: &mut Stamps, finished: Finished<B, L>)
         requires live { self.old.history.ended ≡ false }
         ensures recorded { IsRecorded (Steps ⟦<WorkingCore<L> as Machine>⟧.says ⟦<WorkingCore<L> as Machine>⟧.by) self.old.history.book self.new.history.book }
@@ -356,13 +501,18 @@ impl<B: Drop, L: Label<Block = B>, F: Drop> WorkerNode<B, L, F> {
         if !self.runs(&finished) {
             return;
         }
-        let chosen = match finished {
-            Finished::Value(keyed) => self.value(keyed),
-            Finished::Zero(fault) => Ok(self.zero(fault)),
-        };
-        match chosen {
-            Ok(choice) => self.carry(rt, stamps, choice),
-            Err(_) => self.end(Why::Memory),
+        let chosen = self.outcome(finished);
+        self.carry_chosen(rt, stamps, chosen);
+    }
+
+    /// The end of a task.
+    fn outcome(&self, finished: Finished<B, L>) -> Result<Choice<B, L>, Stop>
+        ensures { IfOk result (λ c. MayMake self.now.history.id (facts self.now.history.book.core.core) self.now.history.recorded c.event c.message c.said) }
+    {
+        let id = self.history.id();
+        match finished {
+            Finished::Value(keyed) => Ok(Choice::value(self.alloc, id, keyed)?),
+            Finished::Zero(fault) => Ok(Choice::zero(self.alloc, id, fault)),
         }
     }
 
@@ -378,42 +528,6 @@ impl<B: Drop, L: Label<Block = B>, F: Drop> WorkerNode<B, L, F> {
         }
     }
 
-    /// A task made a block.
-    fn value(&self, keyed: Keyed<B, L>) -> Result<Choice<B, L>, AllocError>
-        ensures { IfOk result (λ c. (w : WorkerFacts) → WorkerSays self.now.history.id w c.event c.message c.said) }
-    {
-        let key = keyed.key();
-        let mut brought = Vec::new(self.alloc);
-        brought.push(keyed)?;
-        Ok(Choice {
-            event: Event::Finish {
-                worker: self.history.id(),
-                key,
-            },
-            message: None,
-            said: Some(WorkerCause::new(WorkerEvent::Done { key, zero: false })),
-            brought,
-            answer: None,
-        })
-    }
-
-    /// A task met a zero divisor.
-    fn zero(&self, fault: Fault<L>) -> Choice<B, L>
-        ensures { (w : WorkerFacts) → WorkerSays self.now.history.id w result.event result.message result.said }
-    {
-        let key = fault.key();
-        Choice {
-            event: Event::Finish {
-                worker: self.history.id(),
-                key,
-            },
-            message: None,
-            said: Some(WorkerCause::new(WorkerEvent::Done { key, zero: true })),
-            brought: Vec::new(self.alloc),
-            answer: None,
-        }
-    }
-
     /// One event that isn't a start or an end, if there is one. `false` where there is none.
     #[tactic(auto, using(crate::proofs::Causes::no_cause))]
     fn serve<R: Wait>(&mut self, rt: &R, stamps: &mut Stamps, dead: &[bool]) -> bool
@@ -423,78 +537,48 @@ impl<B: Drop, L: Label<Block = B>, F: Drop> WorkerNode<B, L, F> {
         ensures same { (self.new.history.id ≡ self.old.history.id) × (self.new.feeds ≡ self.old.feeds) }
         ensures why { IsTurnsCause self.old.ending self.new.ending }
     {
-        let chosen = match self.links.take(rt) {
-            Some((source, packet)) => self.deliver(source, packet),
-            None => Ok(self.ask(dead)),
-        };
-        match chosen {
-            Ok(Some(choice)) => {
-                self.heard = true;
-                self.carry(rt, stamps, choice);
+        match self.links.take(rt) {
+            Some((source, packet)) => {
+                let chosen = self.deliver(source, packet);
+                self.heard = self.heard | chosen.is_ok();
+                self.carry_chosen(rt, stamps, chosen);
                 true
             }
-            Ok(None) => false,
-            Err(stop) => {
-                self.note(stop);
-                true
-            }
+            None => match self.ask(dead) {
+                Some(choice) => {
+                    self.carry(rt, stamps, choice);
+                    true
+                }
+                None => false,
+            },
         }
     }
 
     /// An ask that is possible, or the end of one to a worker that has ended.
     fn ask(&self, dead: &[bool]) -> Option<Choice<B, L>>
-        ensures { IfSome result (λ c. WorkerSays self.now.history.id (facts self.now.history.book.core.core) c.event c.message c.said) }
+        ensures { IfSome result (λ c. MayMake self.now.history.id (facts self.now.history.book.core.core) self.now.history.recorded c.event c.message c.said) }
     {
+        let id = self.history.id();
         let core = self.history.core()?;
         for at in 0..self.links.peers() {
             let peer = self.links.peer_at(at);
             if core.core.would_ask(peer) {
-                return Some(self.ask_of(peer));
+                return Some(Choice::ask(self.alloc, id, peer));
             }
             if is_dead(dead, peer) {
                 if let Some(ask) = core.core.ask_number(peer) {
-                    return Some(self.give_up(peer, ask));
+                    return Some(Choice::give_up(self.alloc, id, peer, ask));
                 }
             }
         }
         None
     }
 
-    fn ask_of(&self, peer: u32) -> Choice<B, L>
-        ensures { (w : WorkerFacts) → WorkerSays self.now.history.id w result.event result.message result.said }
-    {
-        Choice {
-            event: Event::SendGather {
-                asker: Asker::Worker(self.history.id()),
-                peer,
-            },
-            message: None,
-            said: Some(WorkerCause::new(WorkerEvent::Ask { peer })),
-            brought: Vec::new(self.alloc),
-            answer: None,
-        }
-    }
-
-    fn give_up(&self, peer: u32, ask: u64) -> Choice<B, L>
-        ensures event { result.event ≡ event.FailGather (Worker self.now.history.id) peer }
-        ensures message { result.message ≡ None }
-        ensures said { result.said ≡ Some (worker.GatherFailed peer ask) }
-    {
-        Choice {
-            event: Event::FailGather {
-                asker: Asker::Worker(self.history.id()),
-                peer,
-            },
-            message: None,
-            said: Some(WorkerCause::new(WorkerEvent::GatherFailed { peer, ask })),
-            brought: Vec::new(self.alloc),
-            answer: None,
-        }
-    }
-
-    fn deliver(&self, source: Source, packet: Packet<B>) -> Result<Option<Choice<B, L>>, Stop>
+    fn deliver(&mut self, source: Source, packet: Packet<B>) -> Result<Choice<B, L>, Stop>
         requires { PacketFits L.facts packet }
-        ensures { IfOk result (λ o. IfSome o (λ c. (w : WorkerFacts) → WorkerSays self.now.history.id w c.event c.message c.said)) }
+        ensures same { (self.new.history ≡ self.old.history) × (self.new.feeds ≡ self.old.feeds) × (self.new.ending ≡ self.old.ending) }
+        ensures says { IfOk result
+            (λ c. MayMake self.old.history.id (facts self.old.history.book.core.core) self.old.history.recorded c.event c.message c.said) }
     {
         match source {
             Source::Scheduler => self.hear(packet),
@@ -504,104 +588,123 @@ impl<B: Drop, L: Label<Block = B>, F: Drop> WorkerNode<B, L, F> {
     }
 
     /// A message of the scheduler.
-    fn hear(&self, packet: Packet<B>) -> Result<Option<Choice<B, L>>, Stop>
-        ensures { IfOk result (λ o. IfSome o (λ c. (w : WorkerFacts) → WorkerSays self.now.history.id w c.event c.message c.said)) }
+    fn hear(&self, packet: Packet<B>) -> Result<Choice<B, L>, Stop>
+        ensures { IfOk result (λ c. MayMake self.now.history.id (facts self.now.history.book.core.core) self.now.history.recorded c.event c.message c.said) }
     {
         let Packet { message, blocks: _ } = packet;
         let Message::Down(down) = message else {
             return Err(Stop::Refused);
         };
-        let copy = down.copy()?;
-        Ok(Some(Choice {
-            event: Event::DeliverDown {
-                worker: self.history.id(),
-            },
-            message: Some(Message::Down(copy)),
-            said: Some(WorkerCause::new(WorkerEvent::Down(down))),
-            brought: Vec::new(self.alloc),
-            answer: None,
-        }))
+        Ok(Choice::told(self.alloc, self.history.id(), down)?)
     }
 
     /// A request or an answer of another worker.
     #[tactic(auto, using(node_links::proofs::Parcels::parcel_fits))]
-    fn meet(&self, peer: u32, packet: Packet<B>) -> Result<Option<Choice<B, L>>, Stop>
+    fn meet(&mut self, peer: u32, packet: Packet<B>) -> Result<Choice<B, L>, Stop>
         requires { PacketFits L.facts packet }
-        ensures { IfOk result (λ o. IfSome o (λ c. (w : WorkerFacts) → WorkerSays self.now.history.id w c.event c.message c.said)) }
+        ensures same { (self.new.history ≡ self.old.history) × (self.new.feeds ≡ self.old.feeds) × (self.new.ending ≡ self.old.ending) }
+        ensures says { IfOk result
+            (λ c. MayMake self.old.history.id (facts self.old.history.book.core.core) self.old.history.recorded c.event c.message c.said) }
     {
         let Packet { message, blocks } = packet;
         match message {
-            Message::Peer(Peer::GetData { ask, keys }) => self.give(Asker::Worker(peer), ask, keys),
+            Message::Peer(Peer::GetData { ask, keys }) => self.give(Request {
+                asker: Asker::Worker(peer),
+                ask,
+                keys,
+            }),
             Message::Peer(Peer::Data { ask, found }) => {
-                let copy = found.copy()?;
                 let brought = pair_up(self.alloc, found.as_slice(), &blocks)?;
-                Ok(Some(Choice {
-                    event: Event::ArriveGather {
-                        asker: Asker::Worker(self.history.id()),
-                        peer,
-                        ask,
-                    },
-                    message: Some(Message::Peer(Peer::Data { ask, found: copy })),
-                    said: Some(WorkerCause::new(WorkerEvent::Gathered { peer, ask, found })),
-                    brought,
-                    answer: None,
-                }))
+                let id = self.history.id();
+                Ok(Choice::gathered(self.alloc, id, peer, ask, found, brought)?)
             }
             _ => Err(Stop::Refused),
         }
     }
 
     /// A request of a client.
-    fn serve_client(&self, client: u32, packet: Packet<B>) -> Result<Option<Choice<B, L>>, Stop>
-        ensures { IfOk result (λ o. IfSome o (λ c. (w : WorkerFacts) → WorkerSays self.now.history.id w c.event c.message c.said)) }
+    fn serve_client(&mut self, client: u32, packet: Packet<B>) -> Result<Choice<B, L>, Stop>
+        ensures same { (self.new.history ≡ self.old.history) × (self.new.feeds ≡ self.old.feeds) × (self.new.ending ≡ self.old.ending) }
+        ensures says { IfOk result
+            (λ c. MayMake self.old.history.id (facts self.old.history.book.core.core) self.old.history.recorded c.event c.message c.said) }
     {
         let Packet { message, blocks: _ } = packet;
         match message {
-            Message::Peer(Peer::GetData { ask, keys }) => self.give(
-                Asker::Client(client),
+            Message::Peer(Peer::GetData { ask, keys }) => self.give(Request {
+                asker: Asker::Client(client),
                 ask,
                 keys,
-            ),
+            }),
             _ => Err(Stop::Refused),
         }
     }
 
-    /// What answers a request: the blocks of exactly those of its keys that the worker counts as in memory, in their order.
+    /// What answers a request: the blocks of exactly those of its keys that the worker counts as in memory, in their order; or one of these that is
+    /// lost.
     ///
     /// # Errors
-    /// Where there is no memory, or such a block isn't here.
-    pub fn answer(&self, ask: u64, keys: &[u32]) -> Result<Sealed<B, L>, Stop>
-        ensures { IfOk result (λ p. p.message ≡ message.Peer (peer.Data ask (filter (facts self.now.history.book.core.core).mem keys.now))) }
+    /// Where there is no memory, or such a block isn't here though nothing said that it is lost.
+    #[tactic(auto, using(crate::proofs::StoreLemmas::looks_looked_up))]
+    pub fn answer(&mut self, ask: u64, keys: &[u32]) -> Result<Sought<Sealed<B, L>>, Stop>
+        ensures named { IfOk result
+            (λ sought. IfWhole sought (λ p. p.message ≡ message.Peer (peer.Data ask (filter (facts self.old.history.book.core.core).mem keys.now)))) }
+        ensures same { (self.new.history ≡ self.old.history) × (self.new.feeds ≡ self.old.feeds) × (self.new.ending ≡ self.old.ending) }
     {
         let Some(core) = self.history.core() else {
             return Err(Stop::Memory);
         };
-        let parcel = self.blocks.parcel(&core.core, keys)?;
-        Ok(parcel.seal(ask))
+        match parcel(self.alloc, &core.core, &mut self.store, self.lost, keys)? {
+            Sought::Whole(parcel) => Ok(Sought::Whole(parcel.seal(ask))),
+            Sought::Lost(key) => Ok(Sought::Lost(key)),
+        }
     }
 
-    /// A request is answered.
-    fn give(&self, asker: Asker, ask: u64, keys: KeyList) -> Result<Option<Choice<B, L>>, Stop>
-        ensures { IfOk result (λ o. IfSome o (λ c. (w : WorkerFacts) → WorkerSays self.now.history.id w c.event c.message c.said)) }
+    /// A request is answered. Where a block is lost, the request waits.
+    fn give(&mut self, request: Request) -> Result<Choice<B, L>, Stop>
+        ensures same { (self.new.history ≡ self.old.history) × (self.new.feeds ≡ self.old.feeds) × (self.new.ending ≡ self.old.ending) }
+        ensures says { IfOk result
+            (λ c. MayMake self.old.history.id (facts self.old.history.book.core.core) self.old.history.recorded c.event c.message c.said) }
     {
-        let answer = self.answer(ask, keys.as_slice())?;
-        Ok(Some(Choice {
-            event: Event::ServeGather {
-                peer: self.history.id(),
-                asker,
-                ask,
-            },
-            message: Some(Message::Peer(Peer::GetData { ask, keys })),
-            said: None,
-            brought: Vec::new(self.alloc),
-            answer: Some((asker, answer)),
-        }))
+        match self.answer(request.ask, request.keys.as_slice())? {
+            Sought::Whole(answer) => Ok(Choice::serve(
+                self.alloc,
+                self.history.id(),
+                request,
+                answer,
+            )),
+            Sought::Lost(key) => {
+                self.held = Some(request);
+                self.missing(key)
+            }
+        }
+    }
+
+    /// Records an event, if it could be chosen.
+    #[tactic(auto, using(crate::proofs::Causes::no_cause))]
+    fn carry_chosen<R: Wait>(
+        &mut self,
+        rt: &R,
+        stamps: &mut Stamps,
+        chosen: Result<Choice<B, L>, Stop>,
+    )
+        requires live { self.old.history.ended ≡ false }
+        requires says { IfOk chosen
+            (λ c. MayMake self.old.history.id (facts self.old.history.book.core.core) self.old.history.recorded c.event c.message c.said) }
+        ensures recorded { IsRecorded (Steps ⟦<WorkingCore<L> as Machine>⟧.says ⟦<WorkingCore<L> as Machine>⟧.by) self.old.history.book self.new.history.book }
+        ensures same { (self.new.history.id ≡ self.old.history.id) × (self.new.feeds ≡ self.old.feeds) }
+        ensures why { IsTurnsCause self.old.ending self.new.ending }
+    {
+        match chosen {
+            Ok(choice) => self.carry(rt, stamps, choice),
+            Err(stop) => self.note(stop),
+        }
     }
 
     #[tactic(auto, using(crate::proofs::Causes::no_cause))]
     fn carry<R: Wait>(&mut self, rt: &R, stamps: &mut Stamps, choice: Choice<B, L>)
         requires live { self.old.history.ended ≡ false }
-        requires says { WorkerSays self.old.history.id (facts self.old.history.book.core.core) choice.event choice.message choice.said }
+        requires says { MayMake self.old.history.id (facts self.old.history.book.core.core) self.old.history.recorded choice.event choice.message choice.said }
+        ensures entry { Adds choice.event self.old.history.book.entries self.new.history.book.entries }
         ensures recorded { IsRecorded (Steps ⟦<WorkingCore<L> as Machine>⟧.says ⟦<WorkingCore<L> as Machine>⟧.by) self.old.history.book self.new.history.book }
         ensures same { (self.new.history.id ≡ self.old.history.id) × (self.new.feeds ≡ self.old.feeds) }
         ensures why { IsTurnsCause self.old.ending self.new.ending }
@@ -631,9 +734,10 @@ impl<B: Drop, L: Label<Block = B>, F: Drop> WorkerNode<B, L, F> {
         choice: Choice<B, L>,
     ) -> Result<(), Stop>
         requires live { self.old.history.ended ≡ false }
-        requires says { WorkerSays self.old.history.id (facts self.old.history.book.core.core) choice.event choice.message choice.said }
+        requires says { MayMake self.old.history.id (facts self.old.history.book.core.core) self.old.history.recorded choice.event choice.message choice.said }
         ensures recorded { IsRecorded (Steps ⟦<WorkingCore<L> as Machine>⟧.says ⟦<WorkingCore<L> as Machine>⟧.by) self.old.history.book self.new.history.book }
         ensures entered { OnOk result (IsEntered choice.event choice.message self.old.history.book self.new.history.book) }
+        ensures entry { Adds choice.event self.old.history.book.entries self.new.history.book.entries }
         ensures same { (self.new.history.id ≡ self.old.history.id) × (self.new.feeds ≡ self.old.feeds) × (self.new.ending ≡ self.old.ending) }
     {
         let Choice {
@@ -644,36 +748,27 @@ impl<B: Drop, L: Label<Block = B>, F: Drop> WorkerNode<B, L, F> {
             answer,
         } = choice;
         let mut out = WorkerOut::nothing(self.alloc);
-        self.history.record(stamps, event, message, said, &mut out)?;
-        self.blocks.let_go(&out);
-        self.blocks.keep(self.history.core(), brought);
+        advance(
+            self.alloc,
+            &mut self.history,
+            &mut self.store,
+            stamps,
+            event,
+            message,
+            said,
+            brought,
+            &mut out,
+        )?;
         self.links.send(rt, answer, out)
     }
 }
 
-/// A core with room for a block of each of so many keys.
-fn with_blocks<C: Drop, B: Drop, L: Label<Block = B>>(
-    alloc: Global,
-    keys: u32,
-    core: C,
-) -> Option<(C, Blocks<B, L>)>
-    ensures { IfSome result (λ p. p.0 ≡ core) }
-{
-    let Ok(blocks) = Blocks::new(alloc, keys) else {
-        return None;
-    };
-    Some((core, blocks))
-}
-
-impl<B: Drop, L: Label<Block = B>, F: Drop> Kept for WorkerNode<B, L, F> {
+impl<B: Drop, L: Label<Block = B>, F: Drop, S: BlockStore<B, L>> Kept for WorkerNode<B, L, F, S> {
     type Block = B;
 
     type Core = WorkingCore<L>;
 
     ghost use Rattle.node_links.specs.Books.{Steps};
-    ghost use Rattle.std.specs.Prelude.{All, IfSome};
-    ghost use Rattle.std.specs.Arc.{arc_value};
-    ghost use Rattle.cluster_msgs.specs.Labels.{BlockFits};
 
     ghost entries = { λ s. s.history.book.entries };
 
@@ -683,55 +778,9 @@ impl<B: Drop, L: Label<Block = B>, F: Drop> Kept for WorkerNode<B, L, F> {
 
     ghost steps = { Steps ⟦<WorkingCore<L> as Machine>⟧.says ⟦<WorkingCore<L> as Machine>⟧.by };
 
-    ghost fits = { λ f s. All (λ o. IfSome o (λ x. BlockFits f x.key (arc_value x.block))) s.blocks.held.items };
+    ghost fits = { λ f s. S.fits f s.store };
 
     fn count(&self) -> u64 {
         self.history.book.stored()
-    }
-}
-
-/// A turn of a worker: it starts a task, or else makes another event, or none.
-pub struct WorkerTurn<'a, R: Wait> {
-    pub rt: &'a R,
-    pub stamps: &'a mut Stamps,
-    pub joined: bool,
-    pub dead: &'a [bool],
-}
-
-impl<'a, R: Wait, B: Drop, L: Label<Block = B>, F: Drop> Act<WorkerNode<B, L, F>, L>
-    for WorkerTurn<'a, R> {
-    type Out = (bool, Option<Task<B, L, F>>);
-
-    fn act(self, state: &mut WorkerNode<B, L, F>) -> (bool, Option<Task<B, L, F>>) {
-        let WorkerTurn {
-            rt,
-            stamps,
-            joined,
-            dead,
-        } = self;
-        state.go_on(rt, stamps, joined, dead)
-    }
-}
-
-/// The turn after a task.
-pub struct TaskEnd<'a, R: Wait, B: Drop, L: Label<Block = B>, F: Drop> {
-    pub rt: &'a R,
-    pub stamps: &'a mut Stamps,
-    pub made: Result<Finished<B, L>, RunFail>,
-    pub feed: F,
-}
-
-impl<'a, R: Wait, B: Drop, L: Label<Block = B>, F: Drop> Act<WorkerNode<B, L, F>, L>
-    for TaskEnd<'a, R, B, L, F> {
-    type Out = Option<F>;
-
-    fn act(self, state: &mut WorkerNode<B, L, F>) -> Option<F> {
-        let TaskEnd {
-            rt,
-            stamps,
-            made,
-            feed,
-        } = self;
-        state.finish(rt, stamps, made, feed)
     }
 }

@@ -11,13 +11,16 @@ use cluster_msgs::RunFail;
 use io_edge::Gate;
 use node_links::Keyed;
 use node_runner::{Ends, Fed, Histories, RunLabel, RunName, RunStatus, run_cluster};
-use node_states::Why;
+use node_states::{Blocks, Why};
 use std::alloc::{AllocError, AllocGlobal, Global};
 use std::io;
 use std::marker::Brand;
 use std::random::RandomSource;
 use std::sync::Wait;
 use std::thread::Threads;
+
+/// The store of a worker's blocks.
+type Store<K> = Blocks<u64, RunLabel<Sums, K>>;
 
 /// A key with its value.
 #[derive(Clone, Copy)]
@@ -97,7 +100,8 @@ where
     let mut wanted = asked.wanted.copy()?;
     wanted.push(job.shape.keys().saturating_sub(1))?;
     let feeds = feeds::<Named<P>>(alloc, asked)?;
-    let ends = run_cluster::<R, Sums, G, Named<P>>(
+    let stores = stores::<Named<P>>(alloc, asked.plan.numbers(), job.shape.keys())?;
+    let ends = run_cluster::<R, Sums, G, Named<P>, Store<Named<P>>>(
         rt,
         alloc,
         job,
@@ -105,6 +109,7 @@ where
         &asked.plan,
         &wanted,
         feeds,
+        stores,
     );
     told_of(alloc, job, ends)
 }
@@ -120,6 +125,19 @@ fn feeds<K: RunName<Sums>>(
         all.push(feeds_of(alloc, feed_count(asked, worker), failure(asked, worker))?)?;
     }
     Ok(all)
+}
+
+/// A store of blocks for each worker that may come, which keeps them all in memory.
+fn stores<K: RunName<Sums>>(
+    alloc: Global,
+    numbers: u32,
+    keys: u32,
+) -> Result<Vec<Store<K>>, AllocError> {
+    let mut stores = Vec::new(alloc);
+    for _ in 0..numbers {
+        stores.push(Blocks::new(alloc, keys)?)?;
+    }
+    Ok(stores)
 }
 
 /// How many feeds a worker has.
@@ -155,11 +173,11 @@ fn feeds_of<K: RunName<Sums>>(
     Ok(own)
 }
 
-/// How a run ended, without its feeds.
+/// How a run ended, without its feeds and stores.
 fn told_of<K: RunName<Sums>>(
     alloc: Global,
     job: &Sums,
-    ends: Ends<u64, RunLabel<Sums, K>, Fed<Sums, K>>,
+    ends: Ends<u64, RunLabel<Sums, K>, Fed<Sums, K>, Store<K>>,
 ) -> Result<Told, AllocError>
     requires named { K.job ≡ Some job.now }
     requires told { K.told ≡ true }
@@ -170,6 +188,7 @@ fn told_of<K: RunName<Sums>>(
         histories,
         left,
         feeds: _,
+        stores: _,
     } = ends;
     let worths = match result {
         Ok(blocks) => Ok(worths(alloc, job, blocks.as_slice())?),

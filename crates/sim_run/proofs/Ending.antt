@@ -26,7 +26,7 @@ use Rattle.job_run.proofs.Told.{on_told, told_fact}
 use Rattle.command_words.specs.declared.sim.SimWords.{SimWords}
 use Rattle.sim_run.specs.declared.ends.SimEnded.{SimEnded}
 use Rattle.sim_run.specs.declared.ends.SimEnded.TheVariants.{Events, Turns, Ran}
-use Rattle.sim_run.specs.Ends.{Cause, Created, Opened, PrintsServed, Prints, RanCause, RanCreated, RanPrints, RanSaves, Saves, SimulatesPlan, WhereTold}
+use Rattle.sim_run.specs.Ends.{Cause, Created, Opened, PrintsServed, Prints, RanCause, RanCreated, RanPrints, RanSaves, Saves, SavesPlan, SimulatesPlan, WhereTold}
 use Rattle.sim_run.specs.Jobs.{IsTextJob, wanted_of}
 use Rattle.sim_run.specs.Serving.{ServesAll, ServesFiles, ServesPart, job_named}
 use Rattle.sim_run.specs.Simulated.{IsOutOfEvents, IsOutOfTurns, IsServed, SimulatesTo}
@@ -217,35 +217,65 @@ module _ (p : Plan) (s : SimWords) (old mid : View) (files : List Content) (head
 
   -- ### All blocks were saved
 
-  module _ (saved : View) (report : Report) (turns : ℕ) (f : ServesFiles p mid saved) (all : ServesAll p s (named_told files heads) (TellsFeed heads files) mid.files saved.files report turns) where
-    -- no memory was left for the lines
-    pub starved-ends : SimulatesPlan p s old saved (Ran OutOfMemory)
-    starved-ends = ends p s old saved (Ran OutOfMemory) (follows saved f) tt (are-right saved.files all.left) (opened-most saved (follows saved f)) (created-most saved f) (f.out ∙ a.only.out)
+  pub saves-plan : (new : View) (report : Report) (turns : ℕ) → ServesFiles p mid new →
+      ServesAll p s (named_told files heads) (TellsFeed heads files) mid.files new.files report turns → SavesPlan p s old new report turns
+  saves-plan new report turns f all =
+      let g = follows new f in
+      record {
+        small = a.small;
+        values = has-values all.values;
+        served = simulates (λ job wanted s. IsServed job wanted s report turns) all.served;
+        saved = are-saved new.files all.whole;
+        right = are-right new.files all.left;
+        looked = g.looked;
+        others = g.others;
+        tells = g.tells;
+        opened = g.opened;
+        created = all.created ∙ ap (raised_by (names_saved p)) a.opens.created;
+        gave = g.gave;
+        out = f.out ∙ a.only.out;
+        err = g.err;
+        note_faults = g.note_faults;
+        print_faults = f.print_faults ∙ a.only.print_faults;
+      }
 
-    created-all : saved.files.created ≡ raised_by (names_saved p) old.files.created
-    created-all = all.created ∙ ap (raised_by (names_saved p)) a.opens.created
+-- ## Once all blocks were saved
 
-    pub done-ends : (new : View) (text : List ℕ) → OnlyOut saved new → text ≡ lines_of p report turns → new.out ≡ followed_by saved.out text → SimulatesPlan p s old new (Ran Done)
-    done-ends new text only is printed =
-        let S : Files → Type 0 = λ x. AreSaved p old.files x in
-        let g = follows-out p old saved new only (follows saved f) in
-        ends p s old new (Ran Done) g (a.small, has-values all.values) (subst S (sym only.files) (are-saved saved.files all.whole)) g.opened (ap (λ (x : Files). x.created) only.files ∙ created-all)
-        (prints-served report turns (λ lines. new.out ≡ followed_by old.out lines) all.served (printed ∙ (ap (λ out. followed_by out text) (f.out ∙ a.only.out) ∙ ap (followed_by old.out) is)))
+module _ (p : Plan) (s : SimWords) (old saved : View) (report : Report) (turns : ℕ) (v : SavesPlan p s old saved report turns) where
+  saved-follows : Follows p old saved
+  saved-follows = record { looked = v.looked; others = v.others; tells = v.tells; opened = v.opened; gave = v.gave; err = v.err; note_faults = v.note_faults }
 
-    pub unprinted-ends : (new : View) (text : List ℕ) → OnlyOut saved new → text ≡ lines_of p report turns → PrintsPart saved.out new.out text → Rose saved.print_faults new.print_faults → SimulatesPlan p s old new (Ran WriteFault)
-    unprinted-ends new text only is printed rose =
-        let S : Files → Type 0 = λ x. AreSaved p old.files x in
-        let R : Files → Type 0 = λ x. AreRight p old.files x in
-        let C : Files → Type 0 = λ x. RaisedAtMost (names_saved p) old.files.created x.created in
-        let O : Option (List ℕ) → Type 0 = λ out. PrintsPart out new.out text in
-        let L : List ℕ → Type 0 = λ lines. PrintsPart old.out new.out lines in
-        let g = follows-out p old saved new only (follows saved f) in
-        let fault : Rose old.print_faults new.print_faults = rose_before old.print_faults saved.print_faults new.print_faults (omega (arith, f.print_faults, a.only.print_faults)) rose in
-        let stops : StopsPrinting p old new (lines_of p report turns) = record {
-          saved = subst S (sym only.files) (are-saved saved.files all.whole);
-          created = ap (λ (x : Files). x.created) only.files ∙ created-all;
-          fault = fault;
-          front = subst L is (subst O (f.out ∙ a.only.out) printed);
-        } in
-        ends p s old new (Ran WriteFault) g (a.small, has-values all.values, inr fault) (subst R (sym only.files) (are-right saved.files all.left)) (opened-most new g) (subst C (sym only.files) (created-most saved f))
-        (prints-served report turns (PrintsFront p old new) all.served (inr stops))
+  saved-created : RaisedAtMost (names_saved p) old.files.created saved.files.created
+  saved-created = raised_at_most (names_saved p) old.files.created saved.files.created v.created
+
+  served-prints : (Printed : List ℕ → Type 0) → Printed (lines_of p report turns) → PrintsServed p s old.files Printed
+  served-prints Printed printed = record { report = report; turns = turns; served = v.served; printed = printed }
+
+  -- no memory was left for the lines
+  pub starved-ends : SimulatesPlan p s old saved (Ran OutOfMemory)
+  starved-ends = ends p s old saved (Ran OutOfMemory) saved-follows tt v.right (raised_at_most p.inputs old.files.opened saved.files.opened v.opened) saved-created v.out
+
+  pub done-ends : (new : View) (text : List ℕ) → OnlyOut saved new → text ≡ lines_of p report turns → new.out ≡ followed_by saved.out text → SimulatesPlan p s old new (Ran Done)
+  done-ends new text only is printed =
+      let S : Files → Type 0 = λ x. AreSaved p old.files x in
+      let g = follows-out p old saved new only saved-follows in
+      ends p s old new (Ran Done) g (v.small, v.values) (subst S (sym only.files) v.saved) g.opened (ap (λ (x : Files). x.created) only.files ∙ v.created)
+      (served-prints (λ lines. new.out ≡ followed_by old.out lines) (printed ∙ (ap (λ out. followed_by out text) v.out ∙ ap (followed_by old.out) is)))
+
+  pub unprinted-ends : (new : View) (text : List ℕ) → OnlyOut saved new → text ≡ lines_of p report turns → PrintsPart saved.out new.out text → Rose saved.print_faults new.print_faults → SimulatesPlan p s old new (Ran WriteFault)
+  unprinted-ends new text only is printed rose =
+      let S : Files → Type 0 = λ x. AreSaved p old.files x in
+      let R : Files → Type 0 = λ x. AreRight p old.files x in
+      let C : Files → Type 0 = λ x. RaisedAtMost (names_saved p) old.files.created x.created in
+      let O : Option (List ℕ) → Type 0 = λ out. PrintsPart out new.out text in
+      let L : List ℕ → Type 0 = λ lines. PrintsPart old.out new.out lines in
+      let g = follows-out p old saved new only saved-follows in
+      let fault : Rose old.print_faults new.print_faults = rose_before old.print_faults saved.print_faults new.print_faults (omega (arith, v.print_faults)) rose in
+      let stops : StopsPrinting p old new (lines_of p report turns) = record {
+        saved = subst S (sym only.files) v.saved;
+        created = ap (λ (x : Files). x.created) only.files ∙ v.created;
+        fault = fault;
+        front = subst L is (subst O v.out printed);
+      } in
+      ends p s old new (Ran WriteFault) g (v.small, v.values, inr fault) (subst R (sym only.files) v.right) (raised_at_most p.inputs old.files.opened new.files.opened g.opened) (subst C (sym only.files) saved-created)
+      (served-prints (PrintsFront p old new) (inr stops))

@@ -10,7 +10,7 @@ use Rattle.job_run.specs.declared.ends.Ended.TheVariants.{Done, Zero, WriteFault
 use Rattle.job_run.specs.Inputs.{InputsFit, told_all}
 use Rattle.job_run.specs.Part.{IsNoneOf}
 use Rattle.job_run.specs.Plan.{Plan, names_saved}
-use Rattle.job_run.specs.Runs.{HasFault, HasValues, IsSmall, Cause as RunCause, Saves as RunSaves, Opened as RunOpened, Created as RunCreated, PrintsFront, Looked}
+use Rattle.job_run.specs.Runs.{AreRight, AreSaved, HasFault, HasValues, IsSmall, Cause as RunCause, Saves as RunSaves, Opened as RunOpened, Created as RunCreated, PrintsFront, Looked}
 use Rattle.command_words.specs.declared.sim.SimWords.{SimWords}
 use Rattle.sim_run.specs.declared.ends.SimEnded.{SimEnded}
 use Rattle.sim_run.specs.declared.ends.SimEnded.TheVariants.{Events, Turns, Ran}
@@ -58,11 +58,33 @@ abbrev pub Created : List (List ℕ) → (List ℕ → ℕ) → (List ℕ → �
 Created names old new (Ran end) = RanCreated names old new end
 Created names old new end = new ≡ old
 
--- the lines of a simulation of the text's job in which the client got all; where the inputs are told, the drawn events are so
+-- in a simulation of the text's job the client got all, with this report and after so many turns; where the inputs are told, the drawn events are so
+abbrev pub ServesPlan : Plan → SimWords → Files → Report → ℕ → Type 0
+ServesPlan p s files report turns = WhereTold p files (SimulatesTo (IsTextJob p files s) s (λ job wanted s. IsServed job wanted s report turns))
+
+-- what a simulated run of a job has done once the client got all and all files are whole, before a line is printed
+pub record SavesPlan (p : Plan) (s : SimWords) (old new : View) (report : Report) (turns : ℕ) : Type 0 where
+  pub small : IsSmall p
+  pub values : HasValues p old.files
+  pub served : ServesPlan p s old.files report turns
+  pub saved : AreSaved p old.files new.files
+  pub right : AreRight p old.files new.files
+  pub looked : Looked p p.inputs old.files new.files
+  pub others : (n : List ℕ) → IsNoneOf n (names_saved p) → new.files.held n ≡ old.files.held n
+  pub tells : new.files.tells ≡ old.files.tells
+  pub opened : new.files.opened ≡ raised_by p.inputs old.files.opened
+  pub created : new.files.created ≡ raised_by (names_saved p) old.files.created
+  pub gave : GivesMore old.gave new.gave
+  pub out : new.out ≡ old.out
+  pub err : new.err ≡ old.err
+  pub note_faults : new.note_faults ≡ old.note_faults
+  pub print_faults : new.print_faults ≡ old.print_faults
+
+-- the lines of a simulation of the text's job in which the client got all
 pub record PrintsServed (p : Plan) (s : SimWords) (files : Files) (Printed : List ℕ → Type 0) : Type 0 where
   pub report : Report
   pub turns : ℕ
-  pub served : WhereTold p files (SimulatesTo (IsTextJob p files s) s (λ job wanted s. IsServed job wanted s report turns))
+  pub served : ServesPlan p s files report turns
   pub printed : Printed (lines_of p report turns)
 
 abbrev pub RanPrints : Plan → SimWords → View → View → Ended → Type 0

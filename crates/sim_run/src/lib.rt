@@ -14,4 +14,5 @@ mod serving;
 pub mod simulated;
 
 pub use ends::SimEnded;
-pub use simulated::simulate_job;
+pub use serving::Served;
+pub use simulated::{save_simulated, simulate_job};

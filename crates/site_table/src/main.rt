@@ -24,7 +24,7 @@ use calls::call;
 use desk::Desk;
 use failing::fail_each;
 use io_edge::{MemorySite, RealSite, Site};
-use places::{change, counts, show, texts};
+use places::{change, counts, put_any, show, texts};
 use runs::{run_for_file, run_here, run_often};
 use say::say_word;
 use std::io;
@@ -72,12 +72,16 @@ fn answer_name<R: Print + Files + Threads + Wait + RandomSource + AllocGlobal + 
     name: &str,
     words: &mut Words,
 ) -> Result<(), Trouble> {
-    match place(name, &["real", "texts", "show", "block", "counts"]) {
+    match place(
+        name,
+        &["real", "texts", "show", "block", "counts", "putany"],
+    ) {
         0 => answer_really(rt, real, words),
         1 => texts(rt),
         2 => show(rt, rt.alloc(), site, words),
         3 => print_block(rt, rt.alloc(), desk, site, words),
         4 => counts(rt, site, words),
+        5 => put_any(rt, site, words),
         _ => answer_run(rt, desk, site, name, words),
     }
 }

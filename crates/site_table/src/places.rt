@@ -64,6 +64,13 @@ pub fn counts<R: Print>(rt: &R, site: &MemorySite, words: &mut Words) -> Result<
     Ok(print!(rt; " asked {asked} puts {}", site.puts(worker))?)
 }
 
+/// Shows how often a disk was asked for a worker, and whether its disks took a put.
+pub fn put_any<R: Print>(rt: &R, site: &MemorySite, words: &mut Words) -> Result<(), Trouble> {
+    let worker = words.below(u32::MAX as u64)? as u32;
+    let some = site.puts(worker) > 0;
+    Ok(print!(rt; " asked {} put {some}", site.asked(worker))?)
+}
+
 /// Shows the texts of the faults, and passes the gate that does nothing.
 pub fn texts<R: Print>(rt: &R) -> Result<(), Trouble> {
     RealGate.at(Point::Started { worker: 1, key: 0 });

@@ -1,8 +1,10 @@
 -- Blocks that go to the disk one after another.
-use Rattle.std.proofs.Common.{◌≡◌, ℕ, zero, suc, ◌≤◌, ◌<◌, Bool, true, false, cond, List, [], ◌∷◌, ◌++◌, length, take, Option, Some, None, refl, sym, ap, subst, ◌∙◌, arith, append_assoc, append-nil}
+use Rattle.std.proofs.Common.{◌≡◌, ℕ, zero, suc, ◌+◌, ◌≤◌, ◌<◌, Bool, true, false, cond, List, [], ◌∷◌, ◌++◌, length, take, Option, Some, None, refl, sym, ap, subst, ◌∙◌, arith, append_assoc, append-nil}
 use Rattle.std.specs.Prelude.{is_some, nat_eq}
 use Rattle.std.specs.Map.{lookup}
 use Rattle.io_edge.specs.Disk.{DiskView}
+use Rattle.io_edge.specs.View.{raised}
+use Rattle.io_edge.proofs.OpeningLaws.{raised_again, raised_zero}
 use Rattle.spill_store.specs.Memory.{InMemory, IsCrowded}
 use Rattle.spill_store.specs.Shelves.{Shelved}
 use Rattle.spill_store.specs.Store.{Kept, AllStay, SameDisk, Spills, Ends, TakesAnew, TakesMore, faults_of, is_among, is_spilled}
@@ -69,6 +71,7 @@ module _ {D : Type 0} (view : D → DiskView) where
     few = λ h. absurd (omega arith);
     same = refl;
     taken = takes_none s;
+    times = sym (raised_zero s.times);
   }
 
   -- one more
@@ -80,10 +83,14 @@ module _ {D : Type 0} (view : D → DiskView) where
     few = λ h. subst (λ n. n < 8) so.same step.few;
     same = step.same ∙ so.same;
     taken = takes_another e so.gone s t u so.taken step.taken;
+    times = step.times ∙ ap (λ n. raised n 1) so.times ∙ raised_again s.times (length so.gone) 1 ∙ ap (raised s.times) (one_more (length so.gone));
   }
     where
       e : ℕ × InMemory
       e = (step.key, step.held)
+
+      one_more : (n : ℕ) → n + 1 ≡ suc n
+      one_more n = omega arith
 
       each : (n : ℕ) → n < length (e ∷ so.gone) → IsCrowded u.limit (u.memory ++ take (suc n) (e ∷ so.gone))
       each zero h = subst (λ ms. IsCrowded u.limit ms) step.order (subst (λ l. IsCrowded l t.memory) limit crowded)
@@ -100,14 +107,15 @@ module _ {D : Type 0} (view : D → DiskView) where
     few = so.few;
     ends = subst (λ n. Ends view n u rest) so.same stop.ends;
     taken = takes_still so.gone s t u so.taken stop.taken;
+    times = stop.times ∙ so.times;
   }
 
   pub spills_to_room : (s t : Kept D) → SpillsSome view s t → ¬ IsCrowded t.limit t.memory → SpillsUntil view s t Room
-  spills_to_room s t so room = record { gone = so.gone; from_end = so.from_end; crowded = so.crowded; few = so.few; ends = room; taken = so.taken }
+  spills_to_room s t so room = record { gone = so.gone; from_end = so.from_end; crowded = so.crowded; few = so.few; ends = room; taken = so.taken; times = so.times }
 
   -- the rule, from the order in which a call left the blocks
-  abbrev pub spilled_from : (order : List (ℕ × InMemory)) (s t u : Kept D) (rest : Rest) → t.memory ≡ order → SameDisk view s.shelf t.shelf → SameDisk view t.shelf u.shelf → SpillsUntil view t u rest → Spills view order s u
-  spilled_from order s t u rest e f g so = record {
+  abbrev pub spilled_from : (order : List (ℕ × InMemory)) (s t u : Kept D) (rest : Rest) → t.memory ≡ order → t.times ≡ s.times → SameDisk view s.shelf t.shelf → SameDisk view t.shelf u.shelf → SpillsUntil view t u rest → Spills view order s u
+  spilled_from order s t u rest e n f g so = record {
     gone = so.gone;
     rest = rest;
     faults = faults_of view t.shelf;
@@ -117,4 +125,5 @@ module _ {D : Type 0} (view : D → DiskView) where
     sooner = later_faults t.shelf u.shelf g;
     few = so.few;
     ends = so.ends;
+    times = so.times ∙ ap (λ m. raised m (length so.gone)) n;
   }

@@ -3,6 +3,7 @@ use Rattle.std.specs.Prelude.{◌≡◌, ◌<◌, ◌⊎◌, ℕ, suc, nat_eq, L
 use Rattle.std.specs.Map.{lookup}
 use Rattle.nd_shape.specs.Block.{Array}
 use Rattle.io_edge.specs.Disk.{DiskView}
+use Rattle.io_edge.specs.View.{raised}
 use Rattle.spill_store.specs.Table.{ChangesAt, SameValues, put_first}
 use Rattle.spill_store.specs.Memory.{InMemory, IsCrowded, UsesBlock}
 use Rattle.spill_store.specs.Shelves.{Shelved, Fetches}
@@ -71,12 +72,14 @@ pub record GoesOut {D : Type 0} (view : D → DiskView) (old new : Kept D) : Typ
   pub few : faults_of view old.shelf < 8
   pub same : faults_of view new.shelf ≡ faults_of view old.shelf
   pub taken : TakesMore ((key, held) ∷ []) old new
+  pub times : new.times ≡ raised old.times 1
 
 -- none does
 pub record StaysIn {D : Type 0} (view : D → DiskView) (rest : Rest) (old new : Kept D) : Type 0 where
   pub memory : new.memory ≡ old.memory
   pub ends : Ends view (faults_of view old.shelf) new rest
   pub taken : TakesMore [] old new
+  pub times : new.times ≡ old.times
 
 abbrev pub SpillsOne : {D : Type 0} → (D → DiskView) → Kept D → Kept D → Option Rest → Type 0
 SpillsOne view old new None = GoesOut view old new
@@ -90,6 +93,7 @@ pub record SpillsSome {D : Type 0} (view : D → DiskView) (old new : Kept D) : 
   pub few : 0 < length gone → faults_of view old.shelf < 8
   pub same : faults_of view new.shelf ≡ faults_of view old.shelf
   pub taken : TakesMore gone old new
+  pub times : new.times ≡ raised old.times (length gone)
 
 -- and then no more
 pub record SpillsUntil {D : Type 0} (view : D → DiskView) (old new : Kept D) (rest : Rest) : Type 0 where
@@ -99,3 +103,4 @@ pub record SpillsUntil {D : Type 0} (view : D → DiskView) (old new : Kept D) (
   pub few : 0 < length gone → faults_of view old.shelf < 8
   pub ends : Ends view (faults_of view old.shelf) new rest
   pub taken : TakesMore gone old new
+  pub times : new.times ≡ raised old.times (length gone)

@@ -5,6 +5,7 @@ use Rattle.std.specs.Map.{lookup, remove_entry}
 use Rattle.io_edge.specs.Cause.{Rose}
 use Rattle.nd_shape.specs.Block.{Array}
 use Rattle.io_edge.specs.Disk.{DiskView}
+use Rattle.io_edge.specs.View.{raised}
 use Rattle.spill_store.specs.Table.{put_first}
 use Rattle.spill_store.specs.Memory.{InMemory, IsCrowded, UsesBlock}
 use Rattle.spill_store.specs.Shelves.{Shelved, ComesBack, LosesBy}
@@ -14,11 +15,13 @@ use Rattle.spill_store.specs.declared.lost.LostBy.{LostBy}
 use Rattle.spill_store.specs.declared.rest.Rest.{Rest}
 use Rattle.spill_store.specs.declared.rest.Rest.TheVariants.{Room, NoDisk, Worn, Refused, OutOfMemory}
 
--- a store: the blocks in memory, the most recently used first, the disk with those that are there alone, and the limit
+-- a store: the blocks in memory, the most recently used first, the disk with those that are there alone, the limit, and how
+-- often a block was put on the disk
 pub record Kept (D : Type 0) : Type 0 where
   pub memory : List (ℕ × InMemory)
   pub shelf : Option (Shelved D)
   pub limit : ℕ
+  pub times : ℕ
 
 -- ## The map
 
@@ -80,7 +83,7 @@ Ends view faults new Refused = Rose faults (faults_of view new.shelf)
 Ends view faults new OutOfMemory = Unit {0}
 
 -- Of the blocks in memory in this order of use, those used least recently went to the disk, one after another, each while
--- memory was crowded and the disk had failed less than eight times.
+-- memory was crowded and the disk had failed less than eight times. The count of such blocks rose by each.
 pub record Spills {D : Type 0} (view : D → DiskView) (order : List (ℕ × InMemory)) (old new : Kept D) : Type 0 where
   pub gone : List (ℕ × InMemory)
   pub rest : Rest
@@ -92,6 +95,7 @@ pub record Spills {D : Type 0} (view : D → DiskView) (order : List (ℕ × InM
   pub sooner : faults ≤ faults_of view new.shelf
   pub few : 0 < length gone → faults < 8
   pub ends : Ends view faults new rest
+  pub times : new.times ≡ raised old.times (length gone)
 
 -- ## The calls
 
@@ -174,12 +178,14 @@ pub record Removes {D : Type 0} (key : ℕ) (old new : Kept D) : Type 0 where
   pub others : OthersStay key old new
   pub memory : new.memory ≡ remove_entry (nat_eq key) old.memory
   pub taken : TakesAnew key [] old new
+  pub times : new.times ≡ old.times
 
 -- nothing that is kept changes
 pub record IsSame {D : Type 0} (old new : Kept D) : Type 0 where
   pub memory : new.memory ≡ old.memory
   pub away : away_in new.shelf ≡ away_in old.shelf
+  pub times : new.times ≡ old.times
 
 -- a store that keeps nothing
 abbrev pub empty_store : {D : Type 0} → Option D → ℕ → Kept D
-empty_store disk limit = record { memory = []; shelf = option_map (λ d. record { disk = d; away = [] }) disk; limit = limit }
+empty_store disk limit = record { memory = []; shelf = option_map (λ d. record { disk = d; away = [] }) disk; limit = limit; times = 0 }

@@ -5,10 +5,10 @@ ghost use Rattle.spill_store.specs.Shelves.{AreThere, Fetches, TakesBlock, Turns
 ghost use Rattle.spill_store.specs.Table.{ChangesAt};
 
 use crate::block_bytes::words_of;
+use crate::disk::Disk;
 use crate::lost::LostBy;
 use crate::spilled::{Spilled, block_of};
 use crate::table::Table;
-use io_edge::SpillDisk;
 use nd_shape::Block;
 use std::alloc::{AllocError, Global};
 use std::marker::Model;
@@ -34,12 +34,12 @@ pub(crate) enum Fetched {
 
 /// A disk, and what is kept of the blocks that are there alone.
 #[derive(Drop)]
-pub(crate) struct Shelf<D: SpillDisk> {
+pub(crate) struct Shelf<D: Disk> {
     disk: D,
     blocks: Table<Spilled>,
 }
 
-impl<D: SpillDisk> Model for Shelf<D> {
+impl<D: Disk> Model for Shelf<D> {
     ghost use Rattle.spill_store.specs.Shelves.{AreThere, Shelved};
 
     ghost Value = { Shelved D };
@@ -49,7 +49,7 @@ impl<D: SpillDisk> Model for Shelf<D> {
     ghost invariant = { λ s. AreThere (D.view s.disk) s.blocks };
 }
 
-impl<D: SpillDisk> Shelf<D> {
+impl<D: Disk> Shelf<D> {
     /// A disk of which nothing is known. Where memory is wanting, it is handed back.
     pub(crate) fn new(alloc: Global, disk: D) -> Result<Self, (D, AllocError)>
         ensures ok { IfOk result (λ s. s ≡ record { disk = disk; away = [] }) }

@@ -6,11 +6,11 @@ ghost use Rattle.spill_store.specs.Store.{AllStay, IsSame, Gives, Puts, Removes,
 ghost use Rattle.spill_store.specs.Steps.{FetchesIn, Finds, IsFound, SpillsOne, SpillsUntil};
 ghost use Rattle.spill_store.specs.Table.{ChangesAt, put_first};
 
+use crate::disk::Disk;
 use crate::lost::Got;
 use crate::memory::Memory;
 use crate::rest::Rest;
 use crate::shelf::{Fetched, Shelf, Taken};
-use io_edge::SpillDisk;
 use nd_shape::Block;
 use std::alloc::{AllocError, Global};
 use std::marker::Model;
@@ -24,23 +24,24 @@ use std::sync::Arc;
 /// eight times, where it refuses the block, and where there is no memory for what a block on the disk needs: the block stays
 /// in memory then.
 #[derive(Drop)]
-pub struct SpillStore<D: SpillDisk> {
+pub struct SpillStore<D: Disk> {
     alloc: Global,
     memory: Memory,
     shelf: Option<Shelf<D>>,
     limit: u64,
+    times: u64,
 }
 
-impl<D: SpillDisk> Model for SpillStore<D> {
+impl<D: Disk> Model for SpillStore<D> {
     ghost use Rattle.spill_store.specs.Shelves.{AreThere};
     ghost use Rattle.spill_store.specs.Store.{Kept};
 
     ghost Value = { Kept D };
 
-    ghost view = { λ s. record { memory = s.memory; shelf = s.shelf; limit = s.limit } };
+    ghost view = { λ s. record { memory = s.memory; shelf = s.shelf; limit = s.limit; times = s.times } };
 }
 
-impl<D: SpillDisk> SpillStore<D> {
+impl<D: Disk> SpillStore<D> {
     /// A store that keeps nothing. Its limit is in bytes, of the elements of the blocks in memory. Without a disk nothing
     /// goes there.
     ///
@@ -70,6 +71,7 @@ impl<D: SpillDisk> SpillStore<D> {
             memory,
             shelf,
             limit,
+            times: 0,
         })
     }
 
@@ -128,6 +130,13 @@ impl<D: SpillDisk> SpillStore<D> {
         }
     }
 
+    /// How often a block was put on the disk. It never falls, and stands still at its type's end. No memory.
+    pub fn spills(&self) -> u64
+        ensures { result ≡ self.now.times }
+    {
+        self.times
+    }
+
     /// Gives the disk back, which holds the blocks that weren't in memory. The blocks are dropped. No memory.
     pub fn into_disk(self) -> Option<D>
         ensures disk { result ≡ option_map (λ h. h.disk) self.shelf }
@@ -138,6 +147,7 @@ impl<D: SpillDisk> SpillStore<D> {
             memory: _,
             shelf,
             limit: _,
+            times: _,
         } = self;
         match shelf {
             Some(shelf) => Some(shelf.into_disk()),
@@ -149,6 +159,7 @@ impl<D: SpillDisk> SpillStore<D> {
     fn forget(&mut self, key: u32, on_disk: bool)
         ensures memory { self.new.memory ≡ self.old.memory }
         ensures limit { self.new.limit ≡ self.old.limit }
+        ensures times { self.new.times ≡ self.old.times }
         ensures disk { SameDisk D.view self.old.shelf self.new.shelf }
         ensures gone { ChangesAt key None (away_in self.old.shelf) (away_in self.new.shelf) }
     {
@@ -160,6 +171,7 @@ impl<D: SpillDisk> SpillStore<D> {
     // Puts a block under a key, in memory.
     fn place(&mut self, key: u32, block: Arc<Block>) -> Result<(), (Arc<Block>, AllocError)>
         ensures limit { self.new.limit ≡ self.old.limit }
+        ensures times { self.new.times ≡ self.old.times }
         ensures disk { SameDisk D.view self.old.shelf self.new.shelf }
         ensures memory { OnOk result (self.new.memory ≡ put_first key (fresh block.value) self.old.memory) }
         ensures changes { OnOk result (ChangesAt key (Some (fresh block.value)) self.old.memory self.new.memory) }
@@ -180,6 +192,7 @@ impl<D: SpillDisk> SpillStore<D> {
     // Looks a block up. One that the disk alone had is in memory from now on, or lost.
     fn find(&mut self, key: u32) -> Result<Got, AllocError>
         ensures limit { self.new.limit ≡ self.old.limit }
+        ensures times { self.new.times ≡ self.old.times }
         ensures disk { SameDisk D.view self.old.shelf self.new.shelf }
         ensures ok { IfOk result (Finds D.view key self.old self.new) }
         ensures err { OnErr result (IsSame self.old self.new) }
@@ -200,6 +213,7 @@ impl<D: SpillDisk> SpillStore<D> {
     // What the disk has under a key.
     fn fetch(&mut self, key: u32) -> Result<Fetched, AllocError>
         ensures limit { self.new.limit ≡ self.old.limit }
+        ensures times { self.new.times ≡ self.old.times }
         ensures same { IsSame self.old self.new }
         ensures disk { SameDisk D.view self.old.shelf self.new.shelf }
         ensures ok { IfOk result (FetchesIn D.view key self.old.shelf self.new.shelf) }
@@ -213,6 +227,7 @@ impl<D: SpillDisk> SpillStore<D> {
     // Puts a block that came from the disk in memory.
     fn bring_back(&mut self, key: u32, block: Block) -> Result<Got, AllocError>
         ensures limit { self.new.limit ≡ self.old.limit }
+        ensures times { self.new.times ≡ self.old.times }
         ensures disk { SameDisk D.view self.old.shelf self.new.shelf }
         ensures found { IfOk result (IsFound block) }
         ensures memory { OnOk result (self.new.memory ≡ put_first key (back block) self.old.memory) }
@@ -265,6 +280,7 @@ impl<D: SpillDisk> SpillStore<D> {
         match shelf.take(self.alloc, key, block) {
             Taken::Yes => {
                 self.memory.remove(key);
+                self.times = self.times.saturating_add(1);
                 None
             }
             Taken::Refused => Some(Rest::Refused),

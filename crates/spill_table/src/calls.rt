@@ -63,10 +63,10 @@ fn print_spilled<R: Print>(rt: &R, store: &SpillStore<SpoiledDisk>) -> io::Resul
     println!(rt; "")
 }
 
-fn print_disk<R: Print>(rt: &R, disk: Option<SpoiledDisk>) -> io::Result<()> {
+fn print_disk<R: Print>(rt: &R, spills: u64, disk: Option<SpoiledDisk>) -> io::Result<()> {
     match disk {
         Some(disk) => {
-            print!(rt; "{} faults, holds", disk.faults())?;
+            print!(rt; "{spills} spills, {} faults, holds", disk.faults())?;
             for key in 0..10 {
                 if let Some(bytes) = disk.disk.bytes(key) {
                     print!(rt; " {key}:{}", bytes.len())?;
@@ -99,7 +99,7 @@ fn play_one<R: Print>(
     print_spilled(rt, store)
 }
 
-/// Plays the calls, and prints what came of each, and what the disk holds in the end.
+/// Plays the calls, and prints what came of each, and in the end how often blocks were put on the disk and what it holds.
 pub fn play<R: Print>(
     rt: &R,
     alloc: Global,
@@ -109,5 +109,5 @@ pub fn play<R: Print>(
     for word in text.split_whitespace() {
         play_one(rt, alloc, &mut store, word)?;
     }
-    print_disk(rt, store.into_disk())
+    print_disk(rt, store.spills(), store.into_disk())
 }

@@ -1,6 +1,7 @@
 -- What a run by threads leaves at each of its ends.
-use Rattle.std.proofs.Common.{◌≡◌, ℕ, List, ◌++◌, refl, ap, sym, ◌∙◌, subst, inl, inr, arith, Bool, true, false, Option, Some, None, is_some}
+use Rattle.std.proofs.Common.{◌≡◌, ℕ, List, ◌++◌, refl, ap, sym, ◌∙◌, subst, inl, inr, arith, Bool, true, false, ◌&&◌, Option, Some, None, is_some}
 use Rattle.std.specs.Prelude.{IfSome, IsTrue}
+use Rattle.std.proofs.lemmas.Bool.{false≢true}
 use Rattle.io_edge.specs.Cause.{Rose}
 use Rattle.io_edge.specs.Content.{Content, PrintsPart, followed_by}
 use Rattle.io_edge.specs.Given.{GivesMore}
@@ -16,7 +17,7 @@ use Rattle.job_run.specs.Inputs.{told_all}
 use Rattle.job_run.specs.Lowering.{LowerCause}
 use Rattle.job_run.specs.Part.{AreLeft, AreWhole, IsNoneOf, RaisedAtMost}
 use Rattle.job_run.specs.Plan.{Plan, names_saved}
-use Rattle.job_run.specs.Runs.{AreRight, AreSaved, HasValues, IsSmall, ReadCause, RunsPlan, StopsPrinting}
+use Rattle.job_run.specs.Runs.{AreRight, AreSaved, IsSmall, ReadCause, RunsPlan, StopsPrinting}
 use Rattle.job_run.specs.Told.{named_told}
 use Rattle.job_run.specs.Values.{IsFaulty, MeetsNone, Named, OnInputs, files_of, tasks_of}
 use Rattle.job_run.specs.Wanted.{wanted_of}
@@ -25,9 +26,11 @@ use Rattle.job_run.proofs.Counting.{raised_at_most, times-append}
 use Rattle.job_run.proofs.Naming.{on_named}
 use Rattle.job_run.proofs.Running.{HaveAccepted, left_before, lowering_runs, most_before, reading_runs, rose_before}
 use Rattle.thread_run.specs.Counts.{RaisedBetween, feeds, repeated}
-use Rattle.thread_run.specs.Ends.{Cause, Created, Looked, Opened, Prints, PrintsRun, RunsByThreads, Saves, lines_of, openings}
+use Rattle.thread_run.specs.Ends.{Cause, Created, HasValues, Looked, Opened, Prints, PrintsRun, RunsByThreads, Saves, lines_of, openings}
+use Rattle.thread_run.specs.Feeding.{is_told}
 use Rattle.thread_run.specs.Reports.{IsReportBy, IsToldRun, label}
 use Rattle.thread_run.specs.Serving.{ServesAll, ServesFiles, ServesPart}
+use Rattle.thread_run.proofs.Fixed.{if-some}
 
 -- ## Counts
 
@@ -75,7 +78,7 @@ lowering-ends p w v ReadFault cause = absurd cause
 lowering-ends p w v WriteFault cause = absurd cause
 lowering-ends p w v OutOfMemory cause =
     let r = lowering_runs p v OutOfMemory cause in
-    ran p w v v OutOfMemory r refl refl r.cause r.saves (most-front p.inputs (repeated (feeds w) p.inputs) v.files.opened v.files.opened r.opened) r.created r.prints
+    ran p w v v OutOfMemory r refl refl r.cause (λ t. r.saves) (most-front p.inputs (repeated (feeds w) p.inputs) v.files.opened v.files.opened r.opened) r.created r.prints
 
 -- the inputs weren't opened, or one of them is refused
 pub reading-ends : (p : Plan) (w : RunWords) (old new : View) (end : Ended) → IsSmall p → ReadCause p old new end → Opens p.inputs old.files new.files → OnlyReads old new → RunsByThreads p w old new end
@@ -91,9 +94,13 @@ reading-ends p w old new ReadFault small cause opens only =
 reading-ends p w old new WriteFault small cause opens only = absurd cause
 reading-ends p w old new OutOfMemory small cause opens only =
     let r = reading_runs p old new OutOfMemory small cause opens only in
-    ran p w old new OutOfMemory r opens.held opens.created r.cause r.saves (most-front p.inputs (repeated (feeds w) p.inputs) old.files.opened new.files.opened r.opened) r.created r.prints
+    ran p w old new OutOfMemory r opens.held opens.created r.cause (λ t. r.saves) (most-front p.inputs (repeated (feeds w) p.inputs) old.files.opened new.files.opened r.opened) r.created r.prints
 
 -- ## Once the inputs are accepted
+
+all-some : {A : Type 0} (o : Option A) (P : A → Type 0) → ((x : A) → P x) → IfSome o P
+all-some None P h = tt
+all-some (Some x) P h = h x
 
 on-none : {A : Type 0} (o : Option A) (P : A → Type 0) → false ≡ is_some o → IfSome o P
 on-none None P e = tt
@@ -139,11 +146,16 @@ ends p w old new end f cause saves opened created prints = record {
   note_faults = f.note_faults;
 }
 
-module _ (p : Plan) (w : RunWords) (old mid : View) (files : List Content) (heads : List Head) (a : HaveAccepted p old mid files heads) (told : Bool) (is : told ≡ is_some (told_all old.files.held p.inputs)) where
-  -- what holds where all inputs are told holds of what they hold
-  on-inputs : (P : Named → Type 0) (t : Bool) → t ≡ is_some (told_all old.files.held p.inputs) → (IsTrue t → P (named_told files heads)) → OnInputs p old.files (λ blocks. P (held_in blocks))
-  on-inputs P true e holds = on_named p old.files mid.files files heads P a.inputs (λ t. holds refl)
-  on-inputs P false e holds = on-none (told_all old.files.held p.inputs) _ e
+module _ (p : Plan) (w : RunWords) (old mid : View) (files : List Content) (heads : List Head) (a : HaveAccepted p old mid files heads) (told : Bool) (is : told ≡ is_told old.files p.inputs) where
+  -- what holds of a run that is told holds of what the inputs hold, where the site tells
+  on-inputs : (P : Named → Type 0) (t : Bool) → t ≡ is_told old.files p.inputs → (IsTrue t → P (named_told files heads)) → IsTrue old.files.tells → OnInputs p old.files (λ blocks. P (held_in blocks))
+  on-inputs P true e holds tells = on_named p old.files mid.files files heads P a.inputs (λ t. holds refl)
+  on-inputs P false e holds tells = on-none (told_all old.files.held p.inputs) _ (e ∙ ap (λ b. b && is_some (told_all old.files.held p.inputs)) tells)
+
+  -- and what holds only where it tells, holds there
+  on-telling : (P : Named → Type 0) (b : Bool) → (IsTrue b → OnInputs p old.files (λ blocks. P (held_in blocks))) → OnInputs p old.files (λ blocks. IsTrue b → P (held_in blocks))
+  on-telling P true holds = if-some _ _ (told_all old.files.held p.inputs) (λ contents h blocks hold t. h blocks hold) (holds refl)
+  on-telling P false holds = all-some (told_all old.files.held p.inputs) _ (λ contents blocks hold t. absurd (false≢true t))
 
   follows : (new : View) → ServesFiles p (feeds w) mid new → Follows p w old new
   follows new f =
@@ -163,12 +175,13 @@ module _ (p : Plan) (w : RunWords) (old mid : View) (files : List Content) (head
 
   -- ### The saved files
 
-  are-right : (new : Files) → (IsTrue told → AreLeft (names_saved p) (files_of p (named_told files heads)) mid.files new) → AreRight p old.files new
+  are-right : (new : Files) → (IsTrue told → AreLeft (names_saved p) (files_of p (named_told files heads)) mid.files new) → IsTrue old.files.tells → AreRight p old.files new
   are-right new left = on-inputs (λ n. AreLeft (names_saved p) (files_of p n) old.files new) told is
       (λ t. left_before (names_saved p) (files_of p (named_told files heads)) old.files mid.files new a.opens.held a.opens.tells (left t))
 
   are-saved : (new : Files) → (IsTrue told → IsTrue mid.files.tells → AreWhole (names_saved p) (files_of p (named_told files heads)) new) → AreSaved p old.files new
-  are-saved new whole = on-inputs (λ n. IsTrue old.files.tells → AreWhole (names_saved p) (files_of p n) new) told is (λ t tells. whole t (subst IsTrue (sym a.opens.tells) tells))
+  are-saved new whole = on-telling (λ n. AreWhole (names_saved p) (files_of p n) new) old.files.tells
+      (λ tells. on-inputs (λ n. AreWhole (names_saved p) (files_of p n) new) told is (λ t. whole t (subst IsTrue (sym a.opens.tells) tells)) tells)
 
   created-most : (new : View) → ServesFiles p (feeds w) mid new → RaisedAtMost (names_saved p) old.files.created new.files.created
   created-most new f = most_before (names_saved p) old.files.created mid.files.created new.files.created a.opens.created f.created
@@ -212,7 +225,7 @@ module _ (p : Plan) (w : RunWords) (old mid : View) (files : List Content) (head
     module _ (report : Option Report) (asked : is_some report ≡ w.report) (by : IfSome report Reported) where
       of-run : (r : Option Report) → IfSome r Reported → IfSome r (IsToldRun p w old.files)
       of-run None given = tt
-      of-run (Some r) given = record { named = named_told files heads; told = told; told_is = is; held = on-inputs (λ n. n ≡ named_told files heads) told is (λ t. refl); run = given }
+      of-run (Some r) given = record { named = named_told files heads; told = told; told_is = is; held = on_named p old.files mid.files files heads (λ n. n ≡ named_told files heads) a.inputs (λ t. refl); run = given }
 
       prints-run : (Printed : List ℕ → Type 0) → Printed (lines_of p report) → PrintsRun p w old.files Printed
       prints-run Printed printed = record { told = report; asked = asked; of_run = of-run report by; printed = printed }
@@ -228,7 +241,7 @@ module _ (p : Plan) (w : RunWords) (old mid : View) (files : List Content) (head
       unprinted-ends new text only lines printed rose =
           let g = follows-out p w old saved new only (follows saved f) in
           let S : Files → Type 0 = λ x. AreSaved p old.files x in
-          let R : Files → Type 0 = λ x. AreRight p old.files x in
+          let R : Files → Type 0 = λ x. IsTrue old.files.tells → AreRight p old.files x in
           let O : Option (List ℕ) → Type 0 = λ o. PrintsPart o new.out (lines_of p report) in
           let T : List ℕ → Type 0 = λ t. PrintsPart saved.out new.out t in
           let risen : Rose old.print_faults new.print_faults = rose_before old.print_faults saved.print_faults new.print_faults (omega (arith, f.print_faults, a.only.print_faults)) rose in

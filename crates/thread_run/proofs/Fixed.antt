@@ -1,5 +1,6 @@
 -- A site that fixed what files of these names hold: each later store of them fits the same graph.
-use Rattle.std.proofs.Common.{◌≡◌, ℕ, ◌<◌, ◌≤◌, ℤ, List, [], length, get_or, refl, ap, sym, ◌∙◌, subst, arith, Bool, true, false, Option, Some, None, is_some}
+use Rattle.std.proofs.Common.{◌≡◌, ℕ, ◌<◌, ◌≤◌, ℤ, List, [], length, get_or, refl, ap, sym, ◌∙◌, subst, arith, Bool, true, false, ◌&&◌, Option, Some, None, is_some}
+use Rattle.std.proofs.lemmas.Bool.{and_parts}
 use Rattle.std.specs.Prelude.{IfSome, IsSome, IsTrue, unwrap_or}
 use Rattle.io_edge.specs.Content.{Content, Told, OnTold, file_at, size_of, told_bytes}
 use Rattle.io_edge.specs.View.{Files, Opens, Shows}
@@ -10,7 +11,7 @@ use Rattle.block_lowering.specs.Jobs.{FitsFeed, HaveData, TellsFeed, head_at}
 use Rattle.job_run.specs.Inputs.{told_all}
 use Rattle.job_run.proofs.Told.{told_at}
 use Rattle.node_runner.specs.Naming.{FitsRun}
-use Rattle.thread_run.specs.Feeding.{IsFixed, veiled}
+use Rattle.thread_run.specs.Feeding.{IsFixed, is_told, veiled}
 use Rattle.thread_run.proofs.Veiled.{count_veiled, file_hidden, size_veiled}
 
 abbrev Named : Type 0
@@ -19,7 +20,7 @@ Named = ℕ → List ℕ → ℤ
 -- ## Once files of these names were opened
 
 pub first-fixed : {named : Named} (names : List (List ℕ)) (heads : List Head) (old new : Files) (files : List Content) → Opens names old new → Shows names old new files → FitsFeed named heads files →
-    IsFixed named (is_some (told_all new.held names)) names heads new
+    IsFixed named (is_told new names) names heads new
 first-fixed names heads old new files opens shows fits = record {
   first = files;
   places = shows.places;
@@ -31,11 +32,19 @@ first-fixed names heads old new files opens shows fits = record {
   told_is = refl;
 }
 
+-- a run is told only where its site tells
+pub told-tells : (told : Bool) (site : Files) (names : List (List ℕ)) → told ≡ is_told site names → IsTrue told → IsTrue site.tells
+told-tells told site names is t = (and_parts site.tells (is_some (told_all site.held names)) (sym is ∙ t)).0
+
+-- files are fixed also in a site with the same files
+pub fixed-kept : (named : Named) (told : Bool) (names : List (List ℕ)) (heads : List Head) (old new : Files) → new ≡ old → IsFixed named told names heads old → IsFixed named told names heads new
+fixed-kept named told names heads old new same fixed = subst (λ f. IsFixed named told names heads f) (sym same) fixed
+
 -- ## As long as the site holds and fixes what it did
 
-pub fixed-stays : (named : Named) (told : Bool) (names : List (List ℕ)) (heads : List Head) (old new : Files) → new.held ≡ old.held → ((n : List ℕ) (s : ℕ) → old.size n ≡ Some s → new.size n ≡ Some s) →
+pub fixed-stays : (named : Named) (told : Bool) (names : List (List ℕ)) (heads : List Head) (old new : Files) → new.held ≡ old.held → new.tells ≡ old.tells → ((n : List ℕ) (s : ℕ) → old.size n ≡ Some s → new.size n ≡ Some s) →
     IsFixed named told names heads old → IsFixed named told names heads new
-fixed-stays named told names heads old new held kept f = record {
+fixed-stays named told names heads old new held tells kept f = record {
   first = f.first;
   places = f.places;
   fits = f.fits;
@@ -43,7 +52,7 @@ fixed-stays named told names heads old new held kept f = record {
   shown = λ k h.
       let P : (List ℕ → Option (List ℕ)) → Type 0 = λ g. IfSome (g (get_or names k [])) (λ bytes. file_at f.first k ≡ Told bytes) in
       subst P (sym held) (f.shown k h);
-  told_is = f.told_is ∙ ap (λ g. is_some (told_all g names)) (sym held);
+  told_is = f.told_is ∙ (λ i. sym tells i && is_some (told_all (sym held i) names));
 }
 
 -- ## A later store
@@ -77,7 +86,7 @@ module _ (named : Named) (names : List (List ℕ)) (heads : List Head) (old new 
   -- where all are told, it tells what the first did
   same-bytes : (f : IsFixed named true names heads old) (k : ℕ) → k < length names → (bytes : List ℕ) × (file_at files k ≡ Told bytes) × (file_at f.first k ≡ Told bytes)
   same-bytes f k h =
-      let s = some-of (told_all old.held names) f.told_is in
+      let s = some-of (told_all old.held names) (sym (and_parts old.tells (is_some (told_all old.held names)) (sym f.told_is)).1) in
       let at : old.held (get_or names k []) ≡ Some (get_or s.0 k []) = told_at old.held names s.0 s.1 k h in
       let P : Content → Option (List ℕ) → Type 0 = λ file o. IfSome o (λ bytes. file ≡ Told bytes) in
       (get_or s.0 k [], subst (P (file_at files k)) at (shows.each k h).held, subst (P (file_at f.first k)) at (f.shown k h))
@@ -108,16 +117,16 @@ pub fits-run : {J F : Type 0} (fits tells : J → F → Type 0) (told : Bool) (j
 fits-run fits tells told None feed h = tt
 fits-run fits tells told (Some job) feed h = h
 
-pub fixed-run : {J : Type 0} (named : Named) (told : Bool) (names : List (List ℕ)) (heads : J → List Head) (job : Option J) (old new : Files) → new.held ≡ old.held → ((n : List ℕ) (s : ℕ) → old.size n ≡ Some s → new.size n ≡ Some s) →
+pub fixed-run : {J : Type 0} (named : Named) (told : Bool) (names : List (List ℕ)) (heads : J → List Head) (job : Option J) (old new : Files) → new.held ≡ old.held → new.tells ≡ old.tells → ((n : List ℕ) (s : ℕ) → old.size n ≡ Some s → new.size n ≡ Some s) →
     IfSome job (λ j. IsFixed named told names (heads j) old) → IfSome job (λ j. IsFixed named told names (heads j) new)
-fixed-run named told names heads None old new held kept f = tt
-fixed-run named told names heads (Some j) old new held kept f = fixed-stays named told names (heads j) old new held kept f
+fixed-run named told names heads None old new held tells kept f = tt
+fixed-run named told names heads (Some j) old new held tells kept f = fixed-stays named told names (heads j) old new held tells kept f
 
 pub later-run : {J F : Type 0} (named : Named) (told : Bool) (names : List (List ℕ)) (heads : J → List Head) (feed : F) (files_of : F → List Content) (files : List Content) (job : Option J) (first old new : Files) →
-    IfSome job (λ j. IsFixed named told names (heads j) first) → old.held ≡ first.held → ((n : List ℕ) (s : ℕ) → first.size n ≡ Some s → old.size n ≡ Some s) → Opens names old new → Shows names old new files → files_of feed ≡ files →
+    IfSome job (λ j. IsFixed named told names (heads j) first) → old.held ≡ first.held → old.tells ≡ first.tells → ((n : List ℕ) (s : ℕ) → first.size n ≡ Some s → old.size n ≡ Some s) → Opens names old new → Shows names old new files → files_of feed ≡ files →
     FitsRun (λ j f. FitsFeed named (heads j) (veiled told (files_of f))) (λ j f. TellsFeed (heads j) (veiled told (files_of f))) told job feed
-later-run named told names heads feed files_of files None first old new fixed held kept opens shows is = tt
-later-run named told names heads feed files_of files (Some j) first old new fixed held kept opens shows is =
-    let f = fixed-stays named told names (heads j) first old held kept fixed in
+later-run named told names heads feed files_of files None first old new fixed held tells kept opens shows is = tt
+later-run named told names heads feed files_of files (Some j) first old new fixed held tells kept opens shows is =
+    let f = fixed-stays named told names (heads j) first old held tells kept fixed in
     let s : Shows names old new (files_of feed) = subst (Shows names old new) (sym is) shows in
     (later-fits named names (heads j) old new (files_of feed) opens s told f, later-tells named names (heads j) old new (files_of feed) opens s told f)

@@ -4,5 +4,6 @@ pub mod Openings
 pub mod Planning
 pub mod Saved
 pub mod Serves
+pub mod Disks
 pub mod Tables
 pub mod Veiled

@@ -5,7 +5,7 @@ use Rattle.std.proofs.lemmas.List.Elements.{Contains-push_cases}
 use Rattle.std.proofs.lemmas.Nat.{mul-le}
 use Rattle.std.specs.Prelude.{Contains, map}
 use Rattle.io_edge.specs.Cause.{Rose, TakesFaults}
-use Rattle.io_edge.specs.View.{View, Files, OnlyReads, Opens, times}
+use Rattle.io_edge.specs.View.{View, Files, OnlyReads, OnlySpills, Opens, times}
 use Rattle.io_edge.proofs.GivenLaws.{more_same, reads_then}
 use Rattle.job_run.proofs.Counting.{times-append}
 use Rattle.thread_run.specs.Counts.{repeated}
@@ -82,6 +82,10 @@ opens-most names j k old new h a = record {
   later = a.later;
 }
 
+-- none of so many
+pub opens-zero : (names : List (List ℕ)) (k : ℕ) (v : View) → OpensOften names k v v
+opens-zero names k v = opens-most names 0 k v v (omega arith) (opens-none names v)
+
 -- one opening more
 pub opens-more : (names : List (List ℕ)) (k : ℕ) (old mid new : View) → OpensOften names k old mid → Opens names mid.files new.files → OnlyReads mid new → mid.read_faults ≤ new.read_faults → OpensOften names (k + 1) old new
 opens-more names k old mid new a o only later = opens-then names k 1 old mid new a (opens-once names mid new o only later)
@@ -150,3 +154,26 @@ back-more xs x count given old mid new is a files only cause = record {
 
 pub back-all : {F : Type 0} (xs ys : List F) (count : F → ℕ) (old new : View) → xs ≡ ys → TakesBack ((f : F) × Contains xs f × (0 < count f)) old new → TakesBack ((f : F) × Contains ys f × (0 < count f)) old new
 back-all {F} xs ys count old new e b = subst (λ l. TakesBack ((f : F) × Contains l f × (0 < count f)) old new) e b
+
+-- ## Disks for blocks, which leave all files alone
+
+spills-read : (old new : View) → OnlySpills old new → OnlyReads old new
+spills-read old new s = record { gave = more_same old.gave new.gave s.gave; out = s.out; err = s.err; write_faults = s.write_faults; print_faults = s.print_faults; note_faults = s.note_faults }
+
+pub spills-first : (names : List (List ℕ)) (k : ℕ) (old mid new : View) → OnlySpills old mid → OpensOften names k mid new → OpensOften names k old new
+spills-first names k old mid new s a =
+    let r : OnlyReads old new = reads_then old mid new (spills-read old mid s) a.only in
+    let P : Files → Type 0 = λ f. OpensOften names k (record old { files = f }) new in
+    subst P s.files (record {
+      tells = a.tells;
+      held = a.held;
+      created = a.created;
+      opened = a.opened;
+      size_kept = a.size_kept;
+      only = record { gave = r.gave; out = r.out; err = r.err; write_faults = r.write_faults; print_faults = r.print_faults; note_faults = r.note_faults };
+      later = omega (arith, a.later, s.read_faults);
+    })
+
+pub spills-last : (names : List (List ℕ)) (k : ℕ) (old mid new : View) → OpensOften names k old mid → OnlySpills mid new → OpensOften names k old new
+spills-last names k old mid new a s =
+    opens-back names k old mid new ⊥ a (record { files = s.files; only = spills-read mid new s; later = omega (arith, s.read_faults); risen = λ f. absurd f })

@@ -46,6 +46,13 @@ why-of l graph p wanted Failed reads (Err (status.Zero key)) left (Some h) f how
 why-of l graph p wanted Failed reads (Err status.Read) left (Some h) f how = f how.1.cause.1
 why-of l graph p wanted Failed reads (Err status.Memory) left (Some h) f how = tt
 
+-- a fault is told of a longer time
+pub why-more : {B A : Type 0} (l : LabelFacts B) (wanted : List ℕ) (reads more : Type 0) (result : Result A RunStatus) → (reads → more) → IfErr result (IsWhy l wanted reads) → IfErr result (IsWhy l wanted more)
+why-more l wanted reads more (Ok blocks) f why = tt
+why-more l wanted reads more (Err (status.Zero key)) f why = why
+why-more l wanted reads more (Err status.Read) f why = f why
+why-more l wanted reads more (Err status.Memory) f why = tt
+
 -- the histories of a run that gave blocks
 pub served-run : {A : Type 0} (l : LabelFacts Array) (graph : Shape) (p : RunPlan) (wanted : List ℕ) (Failed : Type 0) (result : Result A RunStatus) (left : List (Option Why)) (h : Option Histories) (blocks : A) (told : Histories) →
     result ≡ Ok blocks → h ≡ Some told → HowItEnded l graph p wanted Failed result left h → IsServedRun l graph p wanted told

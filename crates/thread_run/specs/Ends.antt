@@ -1,32 +1,48 @@
 -- How a run of a job by threads ends, why it ends so, and what it leaves.
-use Rattle.std.specs.Prelude.{◌≡◌, ◌⊎◌, ◌++◌, ℕ, List, [], codes, Option, None, Some, is_some, IfSome}
+use Rattle.std.specs.Prelude.{◌≡◌, ◌⊎◌, ◌++◌, ℕ, List, [], codes, Option, None, Some, is_some, IfSome, IsTrue}
 use Rattle.io_edge.specs.Cause.{Rose}
 use Rattle.io_edge.specs.Content.{followed_by}
 use Rattle.io_edge.specs.Given.{GivesMore}
 use Rattle.io_edge.specs.View.{View, Files}
+use Rattle.plain_eval.specs.Eval.{held_in}
 use Rattle.cluster_msgs.specs.declared.events.Report.{Report}
 use Rattle.run_report.specs.Text.{report_text}
 use Rattle.command_words.specs.declared.run.RunWords.{RunWords}
 use Rattle.job_run.specs.declared.ends.Ended.{Ended}
-use Rattle.job_run.specs.declared.ends.Ended.TheVariants.{Done, Limit, File, Zero, ReadFault, WriteFault}
+use Rattle.job_run.specs.declared.ends.Ended.TheVariants.{Done, Limit, File, Zero, ReadFault, WriteFault, OutOfMemory}
 use Rattle.job_run.specs.Inputs.{InputsFit}
 use Rattle.job_run.specs.Part.{IsNoneOf, RaisedAtMost}
 use Rattle.job_run.specs.Plan.{Plan, names_saved}
-use Rattle.job_run.specs.Runs.{AreUntouched, HasFault, HasValues, IsSmall, Cause as RunCause, Saves as RunSaves, Created as RunCreated, StopsPrinting}
-use Rattle.job_run.specs.Values.{saved_lines}
+use Rattle.job_run.specs.Runs.{AreRight, AreUntouched, IsSmall, Cause as RunCause, Saves as RunSaves, Created as RunCreated, StopsPrinting}
+use Rattle.job_run.specs.Values.{OnInputs, IsFaulty, MeetsNone, saved_lines}
 use Rattle.thread_run.specs.Counts.{RaisedBetween, feeds, repeated}
 use Rattle.thread_run.specs.Reports.{IsToldRun}
 
+-- A worker's blocks lie on disks of the site, too. So what a run says of values it says where the site tells what it holds.
+
+-- the inputs are as declared, and there no needed block meets a zero divisor
+pub record HasValues (p : Plan) (files : Files) : Type 0 where
+  pub inputs : InputsFit p files
+  pub values : IsTrue files.tells → OnInputs p files (λ blocks. MeetsNone p (held_in blocks))
+
+-- the inputs are as declared, and there this is a needed block at which a divisor is zero
+pub record HasFault (p : Plan) (files : Files) (node : ℕ) (block : List ℕ) : Type 0 where
+  pub inputs : InputsFit p files
+  pub zero_at : IsTrue files.tells → OnInputs p files (λ blocks. IsFaulty p (held_in blocks) node block)
+
 -- Why a run ends so. A zero divisor is met by some needed block: not always the first. Files are created only where all values are there.
 abbrev pub Cause : Plan → View → View → Ended → Type 0
+Cause p old new Done = IsSmall p × HasValues p old.files
 Cause p old new (Zero node block) = IsSmall p × HasFault p old.files node block
 Cause p old new WriteFault = IsSmall p × HasValues p old.files × (Rose old.write_faults new.write_faults ⊎ Rose old.print_faults new.print_faults)
 Cause p old new end = RunCause p old new end
 
--- The saved files: as a run of the same job in the calling thread leaves them, and as they were where the client didn't get all.
+-- The saved files: as a run of the same job in the calling thread leaves them, where the site tells, and as they were where the client didn't get all.
 abbrev pub Saves : Plan → Files → Files → Ended → Type 0
 Saves p old new (Zero node block) = new.held ≡ old.held
 Saves p old new ReadFault = new.held ≡ old.held
+Saves p old new WriteFault = IsTrue old.tells → AreRight p old new
+Saves p old new OutOfMemory = IsTrue old.tells → AreRight p old new
 Saves p old new end = RunSaves p old new end
 
 -- the names that are opened to read the heads of the inputs, and all that may be opened: these, and once more each for each feed

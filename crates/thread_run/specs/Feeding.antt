@@ -1,5 +1,5 @@
 -- The feeds of a run: what they tell, and how its site is left by their openings.
-use Rattle.std.specs.Prelude.{◌≡◌, ◌<◌, ◌≤◌, ℕ, ℤ, List, [], map, length, slice_index_or, Bool, true, false, is_some, IfSome, Some}
+use Rattle.std.specs.Prelude.{◌≡◌, ◌<◌, ◌≤◌, ◌&&◌, ℕ, ℤ, List, [], map, length, slice_index_or, Bool, true, false, is_some, IfSome, Some}
 use Rattle.io_edge.specs.Cause.{Rose}
 use Rattle.io_edge.specs.Content.{Content, Told, Untold, file_at, size_of}
 use Rattle.io_edge.specs.View.{View, Files, OnlyReads}
@@ -8,6 +8,10 @@ use Rattle.block_lowering.specs.Jobs.{FitsFeed}
 use Rattle.job_run.specs.Inputs.{told_all}
 use Rattle.job_run.specs.Part.{RaisedAtMost}
 use Rattle.thread_run.specs.Counts.{repeated}
+
+-- a run is told where its site tells what it holds, its disks among it, and all inputs are told
+abbrev pub is_told : Files → List (List ℕ) → Bool
+is_told site names = site.tells && is_some (told_all site.held names)
 
 -- what files are seen to hold: their lengths alone, where the run isn't told
 abbrev pub veiled : Bool → List Content → List Content
@@ -22,7 +26,7 @@ pub record IsFixed (named : ℕ → List ℕ → ℤ) (told : Bool) (names : Lis
   pub fits : FitsFeed named heads first
   pub sizes : (k : ℕ) → k < length names → site.size (slice_index_or names k []) ≡ Some (size_of (file_at first k))
   pub shown : (k : ℕ) → k < length names → IfSome (site.held (slice_index_or names k [])) (λ bytes. file_at first k ≡ Told bytes)
-  pub told_is : told ≡ is_some (told_all site.held names)
+  pub told_is : told ≡ is_told site names
 
 -- these names were opened at most so many times over
 pub record OpensOften (names : List (List ℕ)) (most : ℕ) (old new : View) : Type 0 where

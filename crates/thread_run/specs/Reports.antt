@@ -18,10 +18,10 @@ use Rattle.node_runner.specs.Runs.{AreHistories, HasGot, LastFacts}
 use Rattle.node_runner.specs.declared.ends.Histories.{Histories}
 use Rattle.node_runner.specs.declared.plan.RunPlan.{RunPlan}
 use Rattle.command_words.specs.declared.run.RunWords.{RunWords}
-use Rattle.job_run.specs.Inputs.{told_all}
 use Rattle.job_run.specs.Plan.{Plan}
 use Rattle.job_run.specs.Values.{Named, OnInputs, tasks_of}
 use Rattle.job_run.specs.Wanted.{wanted_of}
+use Rattle.thread_run.specs.Feeding.{is_told}
 
 -- what the label of a run says where the inputs hold these elements
 abbrev pub label : Bool → Named → List Task → LabelFacts Array
@@ -67,6 +67,6 @@ pub record IsReportBy (l : LabelFacts Array) (graph : Shape) (w : RunWords) (wan
 pub record IsToldRun (p : Plan) (w : RunWords) (files : Files) (r : Report) : Type 0 where
   pub named : Named
   pub told : Bool
-  pub told_is : told ≡ is_some (told_all files.held p.inputs)
+  pub told_is : told ≡ is_told files p.inputs
   pub held : OnInputs p files (λ blocks. held_in blocks ≡ named)
   pub run : IsReportBy (label told named (tasks_of p)) (shape_of (tasks_of p)) w (wanted_of p) r

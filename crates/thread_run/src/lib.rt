@@ -12,6 +12,7 @@ mod lines;
 mod name;
 mod run;
 mod serving;
+mod stores;
 mod table;
 mod told;
 mod veil;

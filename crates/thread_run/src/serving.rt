@@ -20,6 +20,7 @@ ghost use Rattle.thread_run.specs.Serving.{IsWhy, SavesFiles, ServesAll, ServesF
 
 use crate::feeds::{Graphed, give_feeds, open_feeds};
 use crate::name::{Named, Picks};
+use crate::stores::{give_stores, open_stores};
 use crate::table::table_of;
 use crate::told::told;
 use crate::veil::Veil;
@@ -37,14 +38,17 @@ use std::marker::Brand;
 use std::random::RandomSource;
 use std::sync::Wait;
 use std::thread::Threads;
+use worker_store::SpillingBlocks;
+
+/// The label of a run over stores of this kind, and the store of a worker's blocks.
+type Marked<I, E, V, P> = RunLabel<Graphed<I, E, V>, Named<V, P>>;
+
+type Store<D, I, E, V, P> = SpillingBlocks<D, Marked<I, E, V, P>>;
 
 /// How many packets a link holds.
 const CAPACITY: usize = 64;
 
-/// The label of a run over stores of this kind.
-type Marked<I, E, V, P> = RunLabel<Graphed<I, E, V>, Named<V, P>>;
-
-// Runs a graph by the cluster: opens its feeds, and gives them back.
+// Runs a graph by the cluster: opens its feeds, and gives them back. The stores of its workers' blocks come back too.
 fn run_feeds<R, S, G, E, V, P>(
     rt: &R,
     alloc: Global,
@@ -54,6 +58,62 @@ fn run_feeds<R, S, G, E, V, P>(
     graph: &Graphed<S::In, E, V>,
     wanted: &KeyList,
     plan: &RunPlan,
+    stores: Vec<Store<S::Spill, S::In, E, V, P>>,
+) -> (
+    Result<(Vec<Keyed<Block, Marked<S::In, E, V, P>>>, Histories), RunStatus>,
+    Vec<Store<S::Spill, S::In, E, V, P>>,
+)
+where
+    R: Threads + Wait + RandomSource + AllocGlobal + Sync,
+    S: Site,
+    G: Gate,
+    E: Elements + Send + Sync + Drop,
+    V: Veil + Send + Sync + Drop,
+    P: Picks<Graphed<S::In, E, V>> + Send + Sync + Drop,
+    requires picked { P.picked ≡ Some graph.now }
+    requires fixed { IsFixed E.named V.told (map string_bytes names.now) graph.now.job.heads (S.view site.old).files }
+    requires plan { IsRunPlan plan.now }
+    ensures opens { OpensOften (map string_bytes names.now) (numbers_of plan.now * plan.now.threads) (S.view site.old) (S.view site.new) }
+    ensures blocks { IfOk result.0 (λ r. map (λ q. q.key) r.0.items ≡ wanted.now) }
+    ensures histories { IfOk result.0 (λ r. IsServedRun ⟦<RunLabel<Graphed<S::In, E, V>, Named<V, P>> as Label>⟧.facts
+        (graph_of graph.now.job) plan.now wanted.now r.1) }
+    ensures why { IfErr result.0 (IsWhy ⟦<RunLabel<Graphed<S::In, E, V>, Named<V, P>> as Label>⟧.facts wanted.now
+        (Rose (S.view site.old).read_faults (S.view site.new).read_faults)) }
+{
+    let Ok(feeds) = open_feeds::<S, E, V, P>(alloc, site, names, plan.numbers(), plan.threads)
+    else {
+        return (Err(RunStatus::Memory), stores);
+    };
+    let ends = run_cluster::<
+        R,
+        Graphed<S::In, E, V>,
+        G,
+        Named<V, P>,
+        Store<S::Spill, S::In, E, V, P>,
+    >(rt, alloc, graph, gate, plan, wanted, feeds, stores);
+    let Ends {
+        result,
+        histories,
+        feeds,
+        stores,
+        ..
+    } = ends;
+    give_feeds::<S, E, V, P>(site, feeds);
+    (with_histories(result, histories), stores)
+}
+
+// Runs a graph by the cluster: makes the stores of its workers' blocks, which may have so many bytes in memory each, and gives their
+// disks back.
+fn run_stored<R, S, G, E, V, P>(
+    rt: &R,
+    alloc: Global,
+    site: &mut S,
+    gate: &G,
+    names: &[String],
+    graph: &Graphed<S::In, E, V>,
+    wanted: &KeyList,
+    plan: &RunPlan,
+    memory: u64,
 ) -> Result<(Vec<Keyed<Block, Marked<S::In, E, V, P>>>, Histories), RunStatus>
 where
     R: Threads + Wait + RandomSource + AllocGlobal + Sync,
@@ -72,21 +132,15 @@ where
     ensures why { IfErr result (IsWhy ⟦<RunLabel<Graphed<S::In, E, V>, Named<V, P>> as Label>⟧.facts wanted.now
         (Rose (S.view site.old).read_faults (S.view site.new).read_faults)) }
 {
-    let Ok(feeds) = open_feeds::<S, E, V, P>(alloc, site, names, plan.numbers(), plan.threads)
+    let Ok(stores) = open_stores::<S, Marked<S::In, E, V, P>>(alloc, site, plan.numbers(), memory)
     else {
         return Err(RunStatus::Memory);
     };
-    let ends = run_cluster::<R, Graphed<S::In, E, V>, G, Named<V, P>>(
-        rt, alloc, graph, gate, plan, wanted, feeds,
+    let (served, stores) = run_feeds::<R, S, G, E, V, P>(
+        rt, alloc, site, gate, names, graph, wanted, plan, stores,
     );
-    let Ends {
-        result,
-        histories,
-        feeds,
-        ..
-    } = ends;
-    give_feeds::<S, E, V, P>(site, feeds);
-    with_histories(result, histories)
+    give_stores::<S, Marked<S::In, E, V, P>>(site, stores);
+    served
 }
 
 // What a run gave, with its histories, where both are there.
@@ -155,6 +209,7 @@ fn run_graph<R, S, G, E, V, P>(
     graph: &Graphed<S::In, E, V>,
     wanted: &Wanted,
     plan: &RunPlan,
+    memory: u64,
     asked: bool,
 ) -> Result<Option<Report>, Ended>
 where
@@ -181,7 +236,17 @@ where
 {
     laws_hold(job);
     let names = job.inputs.as_slice();
-    match run_feeds::<R, S, G, E, V, P>(rt, alloc, site, gate, names, graph, &wanted.all, plan) {
+    match run_stored::<R, S, G, E, V, P>(
+        rt,
+        alloc,
+        site,
+        gate,
+        names,
+        graph,
+        &wanted.all,
+        plan,
+        memory,
+    ) {
         Ok((blocks, histories)) => {
             match save_blocks::<S, E, V, P>(alloc, site, job, graph, wanted, blocks) {
                 Ok(()) => {
@@ -255,8 +320,11 @@ where
     };
     let graph = JobGraph::new(alloc, graph, heads)?;
     let asked = words.report;
+    let memory = words.memory;
     let plan = plan_in(words);
-    run_graph::<R, S, G, E, V, Brand>(rt, alloc, site, gate, job, &graph, &wanted, &plan, asked)
+    run_graph::<R, S, G, E, V, Brand>(
+        rt, alloc, site, gate, job, &graph, &wanted, &plan, memory, asked,
+    )
 }
 
 // What a run by these words is to be like.
@@ -269,6 +337,7 @@ fn plan_in(words: RunWords) -> RunPlan
     let RunWords {
         job: _,
         settings,
+        memory: _,
         script,
         report: _,
     } = words;

@@ -6,5 +6,5 @@ pub returns : goal.returns
 returns g c =
     let words = map string_bytes c.args.words.now in
     refused_words words (g.S.Site.view c.args.site.now) (g.S.Site.view c.tell_text.new.site) c.tell_text.result
-    (no_name words c.requires (sym c.begins.ensures ∙ c.if-begins.false) (sym c.begins-2.ensures ∙ c.if-begins-2.false))
+    (no_name words c.requires (sym c.begins.ensures ∙ c.if-begins.false) (sym c.begins-2.ensures ∙ c.if-begins-2.false) (sym c.begins-3.ensures ∙ c.if-begins-3.false))
     c.tell_text.ensures.told c.tell_text.ensures.only c.tell_text.ensures.notes

@@ -19,5 +19,5 @@ pub returns-in-Err-OutOfMemory : goal.returns-in-Err-OutOfMemory
 returns-in-Err-OutOfMemory g c =
     let words = map string_bytes c.args.words.now in
     unread_words words (g.S.Site.view c.args.site.now) (g.S.Site.view c.tell_text-in-Err-OutOfMemory.new.site) c.tell_text-in-Err-OutOfMemory.result
-    (inr (inr (is_name (get_or words 0 []) (codes "sim") c.requires))) c.tell_text-in-Err-OutOfMemory.ensures.told
+    (inr (inr (inl (is_name (get_or words 0 []) (codes "sim") c.requires)))) c.tell_text-in-Err-OutOfMemory.ensures.told
     c.tell_text-in-Err-OutOfMemory.ensures.only c.tell_text-in-Err-OutOfMemory.ensures.notes

@@ -1,5 +1,6 @@
 use Rattle.std.proofs.Common.{◌+◌, ◌<◌, length, take, sym, subst, arith}
 use Rattle.std.specs.Prelude.{IfSome}
+use Rattle.std.proofs.lemmas.List.{take_all}
 use Rattle.scheduler_core.specs.Cores.{facts}
 use Rattle.turn_cell.specs.Rows.{AllBy}
 use Rattle.node_runner.specs.Runs.{IsLeft}
@@ -13,3 +14,9 @@ loop-at-preserved g c =
     (sym c.in_ok-push.ensures.items)
     (all_by_next (λ k w o. IfSome o (IsLeft c.args.plan.now (facts c.args.scheduler.now.history.book.core.core) (k + 1) w.history.book.entries w.history.book.cut))
     ws c.loop-at.left.items i c.index-workers-at.result c.row.result less c.index-workers-at.is c.loop-at.invariant c.row.ensures)
+
+pub returns : goal.returns
+returns g c =
+    let ws = c.args.workers.now in
+    subst (λ xs. AllBy (λ k w o. IfSome o (IsLeft c.args.plan.now (facts c.args.scheduler.now.history.book.core.core) (k + 1) w.history.book.entries w.history.book.cut)) xs c.loop-at.left.items)
+    {x = take c.loop-at.at ws} {y = ws} (take_all c.loop-at.at ws (omega arith)) c.loop-at.invariant

@@ -1,17 +1,9 @@
 use Rattle.std.proofs.Common.{◌+◌}
-use Rattle.std.proofs.lemmas.Result.{IfOk-weaker}
-use Rattle.std.specs.Arc.{arc_value}
-use Rattle.cluster_msgs.specs.Labels.{BlockFits}
 use Rattle.worker_core.specs.Core.{facts as worker_facts}
 use Rattle.turn_cell.specs.Rows.{berth_of}
-use Rattle.node_states.proofs.Kept.{all_places}
 use Rattle.node_runner.specs.Runs.{IsFirstWorker}
 use Rattle.node_runner.proofs.Made.{made_more}
 use Rattle.node_runner.proofs.making.add_worker.Goals as goal
-
-pub add_made-requires-clause-fits : goal.add_made-requires-clause-fits
-add_made-requires-clause-fits g c =
-    IfOk-weaker c.make_worker-made.result _ _ (λ s first. all_places (λ x. BlockFits g.L.Label.facts x.key (arc_value x.block)) (λ x. x.fits) s.blocks.held.items) c.make_worker-made.ensures.first
 
 pub returns-clause-made : goal.returns-clause-made
 returns-clause-made g c = λ yes made.

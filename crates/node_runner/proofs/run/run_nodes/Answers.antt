@@ -43,6 +43,7 @@ run_cells-requires-send-W g c κs = λ outlives.
     let b : IsSend (Keyed.the_field (param 1 g.row.B) (param 2 g.row.L) g.L.Label).row = keyed_send (param 1 g.row.B) (param 2 g.row.L) g.L.Label t.send-B t.sync-B t.send-L t.sync-L in
     let h : IsSend (WorkerHistory.the_field (param 2 g.row.L) (param 1 g.row.B) g.L.Label).row = worker_history_send (param 1 g.row.B) (param 2 g.row.L) g.L.Label t.send-B t.sync-B t.send-L t.sync-L in
     let f : IsSend (param 3 g.row.F) = t.send-F in
+    let z : IsSend (param 4 g.row.S) = t.send-S in
     search (sendable, crosses) depth 60 fits 6000
 
 pub run_cells-requires-send-C : goal.run_cells-requires-send-C
@@ -68,6 +69,7 @@ run_cells-requires-sync-W g c κs = λ outlives.
     let b : IsSync (Keyed.the_field (param 1 g.row.B) (param 2 g.row.L) g.L.Label).row = keyed_sync (param 1 g.row.B) (param 2 g.row.L) g.L.Label t.send-B t.sync-B t.send-L t.sync-L in
     let h : IsSync (WorkerHistory.the_field (param 2 g.row.L) (param 1 g.row.B) g.L.Label).row = worker_history_sync (param 1 g.row.B) (param 2 g.row.L) g.L.Label t.send-B t.sync-B t.send-L t.sync-L in
     let f : IsSync (param 3 g.row.F) = t.sync-F in
+    let z : IsSync (param 4 g.row.S) = t.sync-S in
     search (sendable, crosses) depth 60 fits 6000
 
 pub run_cells-requires-sync-C : goal.run_cells-requires-sync-C

@@ -1,112 +1,25 @@
-use Rattle.std.proofs.Common.{◌∙◌, arith}
+use Rattle.std.proofs.Common.{◌∙◌}
 use Rattle.job_run.specs.Jobs.{plan_of}
-use Rattle.job_run.proofs.Naming.{fits_told}
-use Rattle.job_run.proofs.Running.{HaveAccepted}
 use Rattle.sim_run.specs.Texts.{lines_of}
-use Rattle.sim_run.proofs.Ending.{done-ends, lowering-ends, reading-ends, starved-ends, stopped-ends, unprinted-ends}
+use Rattle.sim_run.proofs.Ending.{done-ends, starved-ends, unprinted-ends}
 use Rattle.sim_run.proofs.simulated.simulate_job.Goals as goal
-
-pub returns-in-Err : goal.returns-in-Err
-returns-in-Err g c = lowering-ends (plan_of c.args.job.now) c.args.words (g.S.Site.view c.args.site.now) c.in-Err.end c.in-Err.ensures.cause
-
-pub returns-in-Err-open_inputs : goal.returns-in-Err-open_inputs
-returns-in-Err-open_inputs g c =
-    let e = c.in-Err-open_inputs.ensures in
-    reading-ends (plan_of c.args.job.now) c.args.words (g.S.Site.view c.args.site.now) (g.S.Site.view c.open_inputs.new.site) c.in-Err-open_inputs.end c.in-Ok.ensures.made.small e.cause e.opens e.only
-
-pub serve-requires-clause-fits : goal.serve-requires-clause-fits
-serve-requires-clause-fits g c κs within =
-    let i = c.in-Ok-open_inputs.inputs in
-    let e = c.in-Ok-open_inputs.ensures in
-    fits_told _ (g.S.In.Store.files i.store) i.heads.items e.heads (omega (arith, e.count, e.shows.places, c.requires.runs.inputs))
-
-pub returns-in-Err-serve : goal.returns-in-Err-serve
-returns-in-Err-serve g c =
-    let p = plan_of c.args.job.now in
-    let old = g.S.Site.view c.args.site.now in
-    let mid = g.S.Site.view c.open_inputs.new.site in
-    let new = g.S.Site.view c.serve.new.site in
-    let i = c.in-Ok-open_inputs.inputs in
-    let e = c.in-Ok-open_inputs.ensures in
-    let files = g.S.In.Store.files i.store in
-    let heads = i.heads.items in
-    let a : HaveAccepted p old mid files heads = record {
-      small = c.in-Ok.ensures.made.small;
-      fit = e.fit;
-      inputs = record { shows = e.shows; declared = c.requires.runs.inputs; heads_are = e.heads; count = e.count };
-      opens = e.opens;
-      opened = e.opened;
-      only = e.only;
-      later = e.later;
-    } in
-    stopped-ends p c.args.words old mid files heads a new c.in-Err-serve.end c.serve.ensures.files c.in-Err-serve.ensures.stopped
 
 pub returns-in_default : goal.returns-in_default
 returns-in_default g c =
-    let p = plan_of c.args.job.now in
-    let old = g.S.Site.view c.args.site.now in
-    let mid = g.S.Site.view c.open_inputs.new.site in
-    let new = g.S.Site.view c.serve.new.site in
-    let served = c.in-Ok-serve.served in
-    let i = c.in-Ok-open_inputs.inputs in
-    let e = c.in-Ok-open_inputs.ensures in
-    let files = g.S.In.Store.files i.store in
-    let heads = i.heads.items in
-    let a : HaveAccepted p old mid files heads = record {
-      small = c.in-Ok.ensures.made.small;
-      fit = e.fit;
-      inputs = record { shows = e.shows; declared = c.requires.runs.inputs; heads_are = e.heads; count = e.count };
-      opens = e.opens;
-      opened = e.opened;
-      only = e.only;
-      later = e.later;
-    } in
-    starved-ends p c.args.words old mid files heads a new served.report served.turns c.serve.ensures.files c.in-Ok-serve.ensures.served
+    let served = c.in-Ok.served in
+    starved-ends (plan_of c.args.job.now) c.args.words (g.S.Site.view c.args.site.now) (g.S.Site.view c.save_simulated.new.site) served.report served.turns c.in-Ok.ensures.saved
 
 pub returns-in-Ok-print_full : goal.returns-in-Ok-print_full
 returns-in-Ok-print_full g c =
     let p = plan_of c.args.job.now in
-    let old = g.S.Site.view c.args.site.now in
-    let mid = g.S.Site.view c.open_inputs.new.site in
-    let saved = g.S.Site.view c.serve.new.site in
-    let new = g.S.Site.view c.print_full.new.site in
-    let served = c.in-Ok-serve.served in
-    let i = c.in-Ok-open_inputs.inputs in
-    let e = c.in-Ok-open_inputs.ensures in
-    let files = g.S.In.Store.files i.store in
-    let heads = i.heads.items in
-    let a : HaveAccepted p old mid files heads = record {
-      small = c.in-Ok.ensures.made.small;
-      fit = e.fit;
-      inputs = record { shows = e.shows; declared = c.requires.runs.inputs; heads_are = e.heads; count = e.count };
-      opens = e.opens;
-      opened = e.opened;
-      only = e.only;
-      later = e.later;
-    } in
-    done-ends p c.args.words old mid files heads a saved served.report served.turns c.serve.ensures.files c.in-Ok-serve.ensures.served new c.as_bytes.result.now c.print_full.ensures.only
-    (◌∙◌ {c = lines_of p served.report served.turns} c.as_bytes.ensures.value c.in-Ok-lines.ensures) c.in-Ok-print_full.ensures.printed
+    let served = c.in-Ok.served in
+    done-ends p c.args.words (g.S.Site.view c.args.site.now) (g.S.Site.view c.save_simulated.new.site) served.report served.turns c.in-Ok.ensures.saved (g.S.Site.view c.print_full.new.site)
+    c.as_bytes.result.now c.print_full.ensures.only (◌∙◌ {c = lines_of p served.report served.turns} c.as_bytes.ensures.value c.in-Ok-lines.ensures) c.in-Ok-print_full.ensures.printed
 
 pub returns : goal.returns
 returns g c =
     let p = plan_of c.args.job.now in
-    let old = g.S.Site.view c.args.site.now in
-    let mid = g.S.Site.view c.open_inputs.new.site in
-    let saved = g.S.Site.view c.serve.new.site in
-    let new = g.S.Site.view c.print_full.new.site in
-    let served = c.in-Ok-serve.served in
-    let i = c.in-Ok-open_inputs.inputs in
-    let e = c.in-Ok-open_inputs.ensures in
-    let files = g.S.In.Store.files i.store in
-    let heads = i.heads.items in
-    let a : HaveAccepted p old mid files heads = record {
-      small = c.in-Ok.ensures.made.small;
-      fit = e.fit;
-      inputs = record { shows = e.shows; declared = c.requires.runs.inputs; heads_are = e.heads; count = e.count };
-      opens = e.opens;
-      opened = e.opened;
-      only = e.only;
-      later = e.later;
-    } in
-    unprinted-ends p c.args.words old mid files heads a saved served.report served.turns c.serve.ensures.files c.in-Ok-serve.ensures.served new c.as_bytes.result.now c.print_full.ensures.only
-    (◌∙◌ {c = lines_of p served.report served.turns} c.as_bytes.ensures.value c.in-Ok-lines.ensures) c.in-Err-print_full.ensures.part c.in-Err-print_full.ensures.cause.failed
+    let served = c.in-Ok.served in
+    unprinted-ends p c.args.words (g.S.Site.view c.args.site.now) (g.S.Site.view c.save_simulated.new.site) served.report served.turns c.in-Ok.ensures.saved (g.S.Site.view c.print_full.new.site)
+    c.as_bytes.result.now c.print_full.ensures.only (◌∙◌ {c = lines_of p served.report served.turns} c.as_bytes.ensures.value c.in-Ok-lines.ensures) c.in-Err-print_full.ensures.part
+    c.in-Err-print_full.ensures.cause.failed

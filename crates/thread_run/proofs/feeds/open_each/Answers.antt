@@ -13,7 +13,7 @@ pub open_own-opened-requires-clause-fixed : goal.open_own-opened-requires-clause
 open_own-opened-requires-clause-fixed g c κs within =
     let s = g.S.Site.view in
     let o = c.loop-number.invariant.opens in
-    fixed-run g.E.Elements.named g.V.Veil.told (map string_bytes c.args.names.now) (λ j. j.job.heads) g.P.Picks.picked (s c.args.site.now).files (s c.loop-number.site).files o.held o.size_kept c.requires.fixed
+    fixed-run g.E.Elements.named g.V.Veil.told (map string_bytes c.args.names.now) (λ j. j.job.heads) g.P.Picks.picked (s c.args.site.now).files (s c.loop-number.site).files o.held o.tells o.size_kept c.requires.fixed
 
 pub returns-in_err-opened-clause-opens : goal.returns-in_err-opened-clause-opens
 returns-in_err-opened-clause-opens g c =

@@ -10,7 +10,7 @@ new-requires-in-Ok-after_bounds g c κs within =
     let names = map string_bytes c.args.names.now in
     let o = c.loop-thread.invariant.opens in
     later-run g.E.Elements.named g.V.Veil.told names (λ j. j.job.heads) c.new.result (λ f. g.S.In.Store.files f.store) (g.S.In.Store.files c.in-Ok.store) g.P.Picks.picked (s c.args.site.now).files (s c.loop-thread.site).files (s c.store.new.self).files
-    c.requires.fixed o.held o.size_kept c.store.ensures.opens c.in-Ok.ensures.shows (ap g.S.In.Store.files c.new.ensures)
+    c.requires.fixed o.held o.tells o.size_kept c.store.ensures.opens c.in-Ok.ensures.shows (ap g.S.In.Store.files c.new.ensures)
 
 pub returns-in-Err-Failed-clause-opens : goal.returns-in-Err-Failed-clause-opens
 returns-in-Err-Failed-clause-opens g c =

@@ -1,4 +1,4 @@
-use Rattle.std.proofs.Common.{◌≡◌, ◌∙◌, ap, arith, is_some, Bool}
+use Rattle.std.proofs.Common.{◌≡◌, ◌∙◌, ◌&&◌, arith, is_some, Bool}
 use Rattle.io_edge.specs.View.{View}
 use Rattle.job_run.specs.Inputs.{told_all}
 use Rattle.job_run.specs.Jobs.{plan_of}
@@ -6,6 +6,7 @@ use Rattle.job_run.specs.Plan.{Plan}
 use Rattle.job_run.proofs.Naming.{fits_told}
 use Rattle.job_run.proofs.Running.{HaveAccepted}
 use Rattle.thread_run.specs.Ends.{lines_of}
+use Rattle.thread_run.specs.Feeding.{is_told}
 use Rattle.thread_run.proofs.Ending.{done-ends, lowering-ends, reading-ends, starved-ends, stopped-ends, unprinted-ends}
 use Rattle.thread_run.proofs.Fixed.{first-fixed}
 use Rattle.thread_run.proofs.run.run_by_threads.Goals as goal
@@ -44,8 +45,8 @@ returns-in-Err-serve g c =
       only = e.only;
       later = e.later;
     } in
-    let told : Bool = is_some (told_all mid.files.held p.inputs) in
-    let is : told ≡ is_some (told_all old.files.held p.inputs) = ap (λ h. is_some (told_all h p.inputs)) e.opens.held in
+    let told : Bool = is_told mid.files p.inputs in
+    let is : told ≡ is_told old.files p.inputs = λ i. e.opens.tells i && is_some (told_all (e.opens.held i) p.inputs) in
     stopped-ends p c.args.words old mid files heads a told is (g.S.Site.view c.serve.new.site) c.in-Err-serve.end c.serve.ensures.files c.in-Err-serve.ensures.stopped
 
 pub returns-in_default : goal.returns-in_default
@@ -66,8 +67,8 @@ returns-in_default g c =
       only = e.only;
       later = e.later;
     } in
-    let told : Bool = is_some (told_all mid.files.held p.inputs) in
-    let is : told ≡ is_some (told_all old.files.held p.inputs) = ap (λ h. is_some (told_all h p.inputs)) e.opens.held in
+    let told : Bool = is_told mid.files p.inputs in
+    let is : told ≡ is_told old.files p.inputs = λ i. e.opens.tells i && is_some (told_all (e.opens.held i) p.inputs) in
     starved-ends p c.args.words old mid files heads a told is (g.S.Site.view c.serve.new.site) c.serve.ensures.files c.in-Ok-serve.ensures.served
 
 pub returns-in-Ok-print_full : goal.returns-in-Ok-print_full
@@ -88,8 +89,8 @@ returns-in-Ok-print_full g c =
       only = e.only;
       later = e.later;
     } in
-    let told : Bool = is_some (told_all mid.files.held p.inputs) in
-    let is : told ≡ is_some (told_all old.files.held p.inputs) = ap (λ h. is_some (told_all h p.inputs)) e.opens.held in
+    let told : Bool = is_told mid.files p.inputs in
+    let is : told ≡ is_told old.files p.inputs = λ i. e.opens.tells i && is_some (told_all (e.opens.held i) p.inputs) in
     done-ends p c.args.words old mid files heads a told is (g.S.Site.view c.serve.new.site) c.serve.ensures.files c.in-Ok-serve.ensures.served
     c.in-Ok-serve.told c.in-Ok-serve.ensures.asked c.in-Ok-serve.ensures.told (g.S.Site.view c.print_full.new.site) c.as_bytes.result.now c.print_full.ensures.only
     (◌∙◌ {c = lines_of p c.in-Ok-serve.told} c.as_bytes.ensures.value c.in-Ok-lines.ensures) c.in-Ok-print_full.ensures.printed
@@ -112,8 +113,8 @@ returns g c =
       only = e.only;
       later = e.later;
     } in
-    let told : Bool = is_some (told_all mid.files.held p.inputs) in
-    let is : told ≡ is_some (told_all old.files.held p.inputs) = ap (λ h. is_some (told_all h p.inputs)) e.opens.held in
+    let told : Bool = is_told mid.files p.inputs in
+    let is : told ≡ is_told old.files p.inputs = λ i. e.opens.tells i && is_some (told_all (e.opens.held i) p.inputs) in
     unprinted-ends p c.args.words old mid files heads a told is (g.S.Site.view c.serve.new.site) c.serve.ensures.files c.in-Ok-serve.ensures.served
     c.in-Ok-serve.told c.in-Ok-serve.ensures.asked c.in-Ok-serve.ensures.told (g.S.Site.view c.print_full.new.site) c.as_bytes.result.now c.print_full.ensures.only
     (◌∙◌ {c = lines_of p c.in-Ok-serve.told} c.as_bytes.ensures.value c.in-Ok-lines.ensures) c.in-Err-print_full.ensures.part c.in-Err-print_full.ensures.cause.failed

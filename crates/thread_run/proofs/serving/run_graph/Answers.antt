@@ -31,8 +31,8 @@ returns-in-Err-Zero-clause-stopped g c =
     let p : Plan = plan_of c.args.job.now in
     let named : Named = g.E.Elements.named in
     let old : View = g.S.Site.view c.args.site.now in
-    let mid : View = g.S.Site.view c.run_feeds.new.site in
-    let o = c.run_feeds.ensures.opens in
+    let mid : View = g.S.Site.view c.run_stored.new.site in
+    let o = c.run_stored.ensures.opens in
     let reads : Type 0 = Rose old.read_faults mid.read_faults in
     let writes : Type 0 = Rose old.write_faults mid.write_faults in
     part-none p named (IsTrue g.V.Veil.told) reads writes old.files mid.files c.ended_at.result o.held o.created

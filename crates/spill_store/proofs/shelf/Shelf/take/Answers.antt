@@ -13,5 +13,5 @@ new-requires-clause-bytes g c =
 pub invariant_of-self : goal.invariant_of-self
 invariant_of-self g c =
     let bytes = c.as_flattened-bytes.ensures.value ∙ ap (flat_map (λ x. x)) (c.as_slice.ensures.value ∙ c.in-Ok.ensures.words ∙ ap (map cell_bytes) c.cells.ensures.value) ∙ flat_cells c.args.block.now.cells in
-    there_with (g.D.SpillDisk.view c.self.inside.disk) (g.D.SpillDisk.view c.put-in-Ok-put.new.self) c.args.key c.in-Ok-new.spilled c.self.inside.blocks c.put.new.self c.self.invariant c.in-Ok-put.ensures.changes c.in-Ok-put-2.ensures.tells
-    (subst (λ bs. HoldsAt (g.D.SpillDisk.view c.put-in-Ok-put.new.self) c.args.key bs) (bytes ∙ ap block_bytes (sym c.in-Ok-new.ensures)) c.in-Ok-put-2.ensures.held) c.in-Ok-put-2.ensures.others
+    there_with (g.D.Disk.view c.self.inside.disk) (g.D.Disk.view c.put-in-Ok-put.new.self) c.args.key c.in-Ok-new.spilled c.self.inside.blocks c.put.new.self c.self.invariant c.in-Ok-put.ensures.changes c.in-Ok-put-2.ensures.tells
+    (subst (λ bs. HoldsAt (g.D.Disk.view c.put-in-Ok-put.new.self) c.args.key bs) (bytes ∙ ap block_bytes (sym c.in-Ok-new.ensures)) c.in-Ok-put-2.ensures.held) c.in-Ok-put-2.ensures.others

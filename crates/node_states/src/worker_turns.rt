@@ -1,0 +1,60 @@
+//! The turns of a worker's node.
+use crate::store::BlockStore;
+use crate::worker::{Finished, Task, WorkerNode};
+use cluster_msgs::{Label, RunFail};
+use std::sync::Wait;
+use turn_cell::{Act, Stamps};
+
+/// A turn of a worker: it starts a task, or else makes another event, or none.
+pub struct WorkerTurn<'a, R: Wait> {
+    pub rt: &'a R,
+    pub stamps: &'a mut Stamps,
+    pub joined: bool,
+    pub dead: &'a [bool],
+}
+
+impl<'a, R: Wait, B: Drop, L: Label<Block = B>, F: Drop, S: BlockStore<B, L>> Act<
+    WorkerNode<B, L, F, S>,
+    L,
+> for WorkerTurn<'a, R> {
+    type Out = (bool, Option<Task<B, L, F>>);
+
+    fn act(self, state: &mut WorkerNode<B, L, F, S>) -> (bool, Option<Task<B, L, F>>) {
+        let WorkerTurn {
+            rt,
+            stamps,
+            joined,
+            dead,
+        } = self;
+        let gone_on = state.go_on(rt, stamps, joined, dead);
+        state.sound();
+        gone_on
+    }
+}
+
+/// The turn after a task.
+pub struct TaskEnd<'a, R: Wait, B: Drop, L: Label<Block = B>, F: Drop> {
+    pub rt: &'a R,
+    pub stamps: &'a mut Stamps,
+    pub made: Result<Finished<B, L>, RunFail>,
+    pub feed: F,
+}
+
+impl<'a, R: Wait, B: Drop, L: Label<Block = B>, F: Drop, S: BlockStore<B, L>> Act<
+    WorkerNode<B, L, F, S>,
+    L,
+> for TaskEnd<'a, R, B, L, F> {
+    type Out = Option<F>;
+
+    fn act(self, state: &mut WorkerNode<B, L, F, S>) -> Option<F> {
+        let TaskEnd {
+            rt,
+            stamps,
+            made,
+            feed,
+        } = self;
+        let back = state.finish(rt, stamps, made, feed);
+        state.sound();
+        back
+    }
+}
