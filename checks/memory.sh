@@ -1,6 +1,6 @@
 #!/usr/bin/env bash
-# Runs by a cluster of threads under many limits of address space, so that memory is wanted at one place after another: at the
-# making of threads, nodes and histories, at a task, and at the saving. Each run ends well with the bytes of the evaluation in
+# Runs by a cluster of threads under many limits of address space, so that memory ends at many points
+# of a run; at which ones isn't told. Each run ends well with the bytes of the evaluation in
 # the calling thread, or with the status of want of memory and no file. DASK names another program than the one of these sources.
 cd "$(dirname "$0")/.." || exit 1
 about='memory'
