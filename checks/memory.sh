@@ -13,6 +13,7 @@ if [ -z "$program" ] && ! find_program; then
   exit 1
 fi
 program=$(realpath "$program")
+root=$PWD
 folder=$(mktemp -d)
 trap 'rm -rf "$folder"' EXIT
 cd "$folder" || exit 1
@@ -41,5 +42,38 @@ run_within() {
 ends=$(for kilobytes in $(seq 3500 25 6000) $(seq 6000 2000 140000); do run_within "$kilobytes"; done | sort | uniq -c)
 check 'ends under limits of memory' "$(awk '{print $2}' <<< "$ends" | grep -v '^unstarted$' | paste -sd ' ')" 'starved well'
 [ "$failed" = 0 ] || echo "$ends"
+
+# Want of memory at the scheduler, by the driver runner_table: for each worker number that joins it makes rows over all keys. So a run
+# that ends well under a limit as long as its joins never come due finds no memory there once they do. Where no worker left for that,
+# it was the scheduler who found none, or the client, who gets one block.
+cd "$root" || exit 1
+if [ -z "${RUNNER-}" ] && ! find_driver runner_table; then
+  echo 'memory: crates/runner_table has no program of these sources (`rt run` builds it there), so want of memory at the scheduler is not tried'
+  summary
+  exit
+fi
+runner=${RUNNER-$driver}
+# a line in which thirty workers join and are lost, once so many tasks are finished
+joins() {
+  local worker
+  printf 'sum 8192 1 1 1'
+  for worker in $(seq 2 31); do
+    printf ' join@%s lose:%s@%s' "$1" "$worker" "$1"
+  done
+}
+# how a line ends under a limit, and which workers left but by the script
+ends_within() {
+  (ulimit -v "$1" && MALLOC_ARENA_MAX=1 timeout 60 "$runner" <<< "$(joins "$2")") 2>&1 | sed 1d | grep -v ' left: script$' | paste -sd ' '
+}
+there=0 starved=0
+for kilobytes in $(seq 100000 2000 180000); do
+  [ "$(ends_within "$kilobytes" 1000000)" = 'key 19114 is 699149' ] || continue
+  end=$(ends_within "$kilobytes" 1)
+  [ "$end" != 'key 19114 is 699149' ] || break
+  there=$((there + 1))
+  [ "$end" != 'no memory' ] || starved=$((starved + 1))
+done
+check 'limits under which joins find no memory' "$((there > 0))" 1
+check 'limits under which it is the scheduler that finds none' "$((starved > 0))" 1
 
 summary

@@ -54,7 +54,8 @@ done <<< "$jobs"
 for folder in examples/*/; do
   name=$(basename "$folder")
   case $name in
-    first | zero_effort) ;;
+    # the input of `large` isn't kept here: checks/examples.sh makes it
+    first | large | zero_effort) ;;
     *) check "$name is in the list" "$(grep -c "^$name " <<< "$jobs")" 1 ;;
   esac
 done

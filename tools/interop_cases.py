@@ -119,6 +119,8 @@ class Cases:
             if os.path.isdir(example):
                 here = os.path.join(folder, name)
                 shutil.copytree(example, here)
+                # the input of one is made by its script alone
+                subprocess.run([sys.executable, os.path.join(here, 'make.py')], check=True)
                 for text in sorted(it for it in os.listdir(example) if it.endswith('.txt')):
                     with open(os.path.join(example, text), encoding='ascii') as job:
                         self.compare(name, job.read().replace(f'examples/{name}/', ''), here)

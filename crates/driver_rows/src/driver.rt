@@ -337,8 +337,8 @@ where
         true
     }
 
-    // A turn of a worker, and where it lends a task, the task and the turn after it.
-    fn turn_worker<R: Wait, J: Works<W, L>>(
+    // A turn of a worker, and where it lends a task, the task and the turn after it. After a long one the schedulers are visited.
+    fn turn_worker<R: Wait, J: Schedules<S, L> + Works<W, L>>(
         &mut self,
         rt: &R,
         cluster: &Cluster<KS, KW, KC, L, S, W, C>,
@@ -355,7 +355,8 @@ where
         let Some(task) = task else {
             return moved || is_news;
         };
-        cluster.bell.ring(job.is_long(&task));
+        let is_long = job.is_long(&task);
+        cluster.bell.ring(is_long);
         let done = job.run(task);
         let act = TakeBack {
             rt,
@@ -364,7 +365,40 @@ where
             done,
         };
         self.workers.turn(rt, &cluster.workers, at, act);
+        if is_long {
+            self.pass_on(rt, cluster, job);
+        }
         true
+    }
+
+    // Some turns of each scheduler, so that what a task made is known before the next one starts.
+    fn pass_on<R: Wait, J: Schedules<S, L> + Works<W, L>>(
+        &mut self,
+        rt: &R,
+        cluster: &Cluster<KS, KW, KC, L, S, W, C>,
+        job: &J,
+    ) {
+        for at in 0..cluster.scheduler.len() {
+            self.visit_scheduler(rt, cluster, at, job);
+        }
+    }
+
+    // Some turns of a scheduler.
+    fn visit_scheduler<R: Wait, J: Schedules<S, L> + Works<W, L>>(
+        &mut self,
+        rt: &R,
+        cluster: &Cluster<KS, KW, KC, L, S, W, C>,
+        at: usize,
+        job: &J,
+    )
+        requires { at < length KS.berths }
+    {
+        for _ in 0..cluster.manner.turns {
+            if !self.turn_scheduler(rt, cluster, at, job) {
+                return;
+            }
+            cluster.bell.note();
+        }
     }
 
     fn work<R: Wait, J: Works<W, L>>(

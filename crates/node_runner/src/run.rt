@@ -106,7 +106,7 @@ fn begin<J: JobSpec, K: RunName<J>, S: BlockStore<J::Block, RunLabel<J, K>>>(
     ensures short { result.2 ≡ true → (n : ℕ) × Contains (map (λ v. vec_len v) feeds.items) n × (n < plan.now.threads) }
 {
     let short = plan.is_short(feeds.as_slice());
-    let drivers = plan.workers * plan.threads + 1;
+    let drivers = plan.workers * plan.threads + plan.workers + 1;
     let (rows, whole) = make_rows(alloc, job.shape(), plan, wanted, feeds, stores, drivers + 1);
     let stamps = rights(alloc, whole);
     (rows, stamps, short)

@@ -175,9 +175,9 @@ impl<B: Drop, L: Label<Block = B>, F: Drop, S: BlockStore<B, L>> WorkerNode<B, L
     }
 
     /// One turn: its end where it is to end and has joined; else the least block that was put aside and isn't recorded as such, or one that was found
-    /// lost; else an answer to a request that waits for it; else the start of a task; else another event, or none. Then what waits is sent. Such an
-    /// end waits until a driver knows that the worker has joined, or the worker has heard of the scheduler. Second in the answer is a task that was
-    /// started, with a feed of the worker. First is `false` where nothing was tried.
+    /// lost; else an answer to a request that waits for it; else a message that has come, which may tell of a task that goes before the others; else the
+    /// start of a task; else an ask, or none. Then what waits is sent. Such an end waits until a driver knows that the worker has joined, or the worker
+    /// has heard of the scheduler. Second in the answer is a task that was started, with a feed of the worker. First is `false` where nothing was tried.
     #[tactic(auto, using(crate::proofs::Causes::then_cause, crate::proofs::SpillLemmas::none_first, crate::proofs::SpillLemmas::nothing_first))]
     pub fn go_on<R: Wait>(
         &mut self,
@@ -226,7 +226,7 @@ impl<B: Drop, L: Label<Block = B>, F: Drop, S: BlockStore<B, L>> WorkerNode<B, L
                 (true, None)
             }
             Next::Other => {
-                let moved = self.serve(rt, stamps, dead);
+                let moved = self.ask_next(rt, stamps, dead);
                 self.links.flush(rt);
                 (moved, None)
             }
@@ -298,8 +298,8 @@ impl<B: Drop, L: Label<Block = B>, F: Drop, S: BlockStore<B, L>> WorkerNode<B, L
         self.history.lose(stamps)
     }
 
-    /// What goes before a start and before messages, if there is something: a block that was put aside, or one that was found lost, is recorded as
-    /// such, or a request that waits is answered.
+    /// What goes before a start, if there is something: a block that was put aside, or one that was found lost, is recorded as such, or a request that
+    /// waits is answered, or a message is taken.
     #[tactic(auto, using(crate::proofs::Causes::no_cause, crate::proofs::SpillLemmas::none_first, crate::proofs::SpillLemmas::least_first, crate::proofs::SpillLemmas::nothing_first))]
     fn catch_up<R: Wait>(&mut self, rt: &R, stamps: &mut Stamps) -> bool
         requires live { self.old.history.ended ≡ false }
@@ -326,7 +326,7 @@ impl<B: Drop, L: Label<Block = B>, F: Drop, S: BlockStore<B, L>> WorkerNode<B, L
         }
     }
 
-    /// What waits, if something does: a block that was found lost is recorded as lost, or a request is answered.
+    /// What waits, if something does: a block that was found lost is recorded as lost, or a request is answered; else a message.
     #[tactic(auto, using(crate::proofs::Causes::no_cause))]
     fn resume<R: Wait>(&mut self, rt: &R, stamps: &mut Stamps) -> bool
         requires live { self.old.history.ended ≡ false }
@@ -345,7 +345,7 @@ impl<B: Drop, L: Label<Block = B>, F: Drop, S: BlockStore<B, L>> WorkerNode<B, L
                 self.carry_chosen(rt, stamps, chosen);
                 true
             }
-            None => false,
+            None => self.listen(rt, stamps),
         }
     }
 
@@ -528,29 +528,39 @@ impl<B: Drop, L: Label<Block = B>, F: Drop, S: BlockStore<B, L>> WorkerNode<B, L
         }
     }
 
-    /// One event that isn't a start or an end, if there is one. `false` where there is none.
+    /// A message that has come, if there is one. `false` where there is none.
     #[tactic(auto, using(crate::proofs::Causes::no_cause))]
-    fn serve<R: Wait>(&mut self, rt: &R, stamps: &mut Stamps, dead: &[bool]) -> bool
+    fn listen<R: Wait>(&mut self, rt: &R, stamps: &mut Stamps) -> bool
+        requires live { self.old.history.ended ≡ false }
+        ensures recorded { IsRecorded (Steps ⟦<WorkingCore<L> as Machine>⟧.says ⟦<WorkingCore<L> as Machine>⟧.by) self.old.history.book self.new.history.book }
+        ensures none { result ≡ false → (self.new.history ≡ self.old.history) × (self.new.ending ≡ self.old.ending) }
+        ensures same { (self.new.history.id ≡ self.old.history.id) × (self.new.feeds ≡ self.old.feeds) }
+        ensures why { IsTurnsCause self.old.ending self.new.ending }
+    {
+        let Some((source, packet)) = self.links.take(rt) else {
+            return false;
+        };
+        let chosen = self.deliver(source, packet);
+        self.heard = self.heard | chosen.is_ok();
+        self.carry_chosen(rt, stamps, chosen);
+        true
+    }
+
+    /// An ask that is possible, or the end of one. `false` where there is none.
+    #[tactic(auto, using(crate::proofs::Causes::no_cause))]
+    fn ask_next<R: Wait>(&mut self, rt: &R, stamps: &mut Stamps, dead: &[bool]) -> bool
         requires live { self.old.history.ended ≡ false }
         ensures recorded { IsRecorded (Steps ⟦<WorkingCore<L> as Machine>⟧.says ⟦<WorkingCore<L> as Machine>⟧.by) self.old.history.book self.new.history.book }
         ensures idle { result ≡ false → self.new.history.book ≡ self.old.history.book }
         ensures same { (self.new.history.id ≡ self.old.history.id) × (self.new.feeds ≡ self.old.feeds) }
         ensures why { IsTurnsCause self.old.ending self.new.ending }
     {
-        match self.links.take(rt) {
-            Some((source, packet)) => {
-                let chosen = self.deliver(source, packet);
-                self.heard = self.heard | chosen.is_ok();
-                self.carry_chosen(rt, stamps, chosen);
+        match self.ask(dead) {
+            Some(choice) => {
+                self.carry(rt, stamps, choice);
                 true
             }
-            None => match self.ask(dead) {
-                Some(choice) => {
-                    self.carry(rt, stamps, choice);
-                    true
-                }
-                None => false,
-            },
+            None => false,
         }
     }
 

@@ -5,7 +5,7 @@ use cluster_msgs::{Label, RunFail};
 use std::sync::Wait;
 use turn_cell::{Act, Stamps};
 
-/// A turn of a worker: it starts a task, or else makes another event, or none.
+/// A turn of a worker: it makes an event, or none, and may start a task.
 pub struct WorkerTurn<'a, R: Wait> {
     pub rt: &'a R,
     pub stamps: &'a mut Stamps,

@@ -47,6 +47,9 @@ still_there v w ws there tells all = record {
 pub nothing_there : (v : DiskView) → AreThere v []
 nothing_there v = record { told = λ k. tt }
 
+pub nothing_in : (v : DiskView) (ws : List (ℕ × Array)) → ws ≡ [] → AreThere v ws
+nothing_in v ws e = subst (λ vs. AreThere v vs) (sym e) (nothing_there v)
+
 held_for : (v : DiskView) (key : ℕ) (a : Array) (ws : List (ℕ × Array)) → AreThere v ws → lookup (nat_eq key) ws ≡ Some a → HoldsAt v key (block_bytes a)
 held_for v key a ws there e = subst (λ o. IfSome o (λ b. HoldsAt v key (block_bytes b))) e (there.told key)
 
@@ -74,14 +77,15 @@ pub is_told_by : (v : DiskView) (key : ℕ) (a : Array) (ws : List (ℕ × Array
 is_told_by v key a ws old new bytes has there was r whole long kept is =
     subst (λ bs. IsToldBy v a has bs) (sym is) (is_told v key a old new has (held_for v key a ws there was) r whole long kept)
 
-equal_arrays : (a b : Array) → b.shape ≡ a.shape → b.cells ≡ a.cells → b ≡ a
+pub equal_arrays : (a b : Array) → b.shape ≡ a.shape → b.cells ≡ a.cells → b ≡ a
 equal_arrays a b e f = λ i. record { shape = e i; cells = f i }
 
-pub comes_back : (v : DiskView) (a b : Array) (has : ℕ) (bytes : List ℕ) → IsBlock a → IsOf a has bytes → b.shape ≡ a.shape → block_bytes b ≡ bytes → All (FitsSigned w64) b.cells → IsToldBy v a has bytes → ComesBack v a b
-comes_back v a b has bytes whole of shape made fits told =
+pub comes_back : (v : DiskView) (a b : Array) (has : ℕ) (bytes : List ℕ) → IsBlock a → IsOf a has bytes → b.shape ≡ a.shape → block_bytes b ≡ bytes → IsBlock b → IsToldBy v a has bytes → ComesBack v a b
+comes_back v a b has bytes whole of shape made full told =
+    let fits = full.fits in
     let same : block_bytes b ≡ block_bytes a → b ≡ a = λ e. equal_arrays a b shape (same_cells b.cells a.cells fits whole.fits e) in
     record {
-      alike = record { shape = shape; digest = ap sha256 made ∙ of.digest; same = same };
+      alike = record { shape = shape; digest = ap sha256 made ∙ of.digest; same = same; whole = full };
       told = λ t. same (made ∙ told.bytes_are t);
     }
 

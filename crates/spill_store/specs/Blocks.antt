@@ -31,6 +31,7 @@ pub record IsAlike (a b : Array) : Type 0 where
   pub shape : b.shape ≡ a.shape
   pub digest : sha256 (block_bytes b) ≡ sha256 (block_bytes a)
   pub same : block_bytes b ≡ block_bytes a → b ≡ a
+  pub whole : IsBlock b
 
 -- so many bytes are this block's, as far as their number and their digest tell
 pub record IsOf (a : Array) (has : ℕ) (bytes : List ℕ) : Type 0 where

@@ -1,12 +1,12 @@
 -- The steps of the store's calls.
-use Rattle.std.specs.Prelude.{◌≡◌, ◌<◌, ◌⊎◌, ℕ, suc, nat_eq, List, [], ◌∷◌, ◌++◌, length, take, Option, Some, None}
+use Rattle.std.specs.Prelude.{◌≡◌, ◌<◌, ◌⊎◌, ℕ, suc, nat_eq, List, [], ◌∷◌, ◌++◌, length, take, Option, Some, None, IfSome}
 use Rattle.std.specs.Map.{lookup}
 use Rattle.nd_shape.specs.Block.{Array}
 use Rattle.io_edge.specs.Disk.{DiskView}
 use Rattle.io_edge.specs.View.{raised}
 use Rattle.spill_store.specs.Table.{ChangesAt, SameValues, put_first}
 use Rattle.spill_store.specs.Memory.{InMemory, IsCrowded, UsesBlock}
-use Rattle.spill_store.specs.Shelves.{Shelved, Fetches}
+use Rattle.spill_store.specs.Shelves.{ComesBack, Shelved, Fetches}
 use Rattle.spill_store.specs.Store.{Kept, ComesFrom, Ends, IsAway, IsLost, TakesMore, away_in, back, faults_of}
 use Rattle.spill_store.specs.declared.lost.Got.{Got}
 use Rattle.spill_store.specs.declared.lost.Got.TheVariants.{Found, Absent, Lost}
@@ -22,6 +22,11 @@ FetchesIn view key None new Fetched_absent = Unit {0}
 FetchesIn view key None new (Fetched_lost by) = ⊥
 FetchesIn view key (Some g) None result = ⊥
 FetchesIn view key (Some g) (Some h) result = Fetches view key g h result
+
+-- the block came from the disk in place of the one that it alone has under the key, if it has one
+abbrev pub IsBackIn : {D : Type 0} → (D → DiskView) → ℕ → Option (Shelved D) → Array → Type 0
+IsBackIn view key None b = Unit {0}
+IsBackIn view key (Some h) b = IfSome (lookup (nat_eq key) h.away) (λ a. ComesBack (view h.disk) a b)
 
 -- the block was in memory, and is the most recently used one
 pub record Reads {D : Type 0} (key : ℕ) (a : Array) (old new : Kept D) : Type 0 where

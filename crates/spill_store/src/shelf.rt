@@ -1,7 +1,8 @@
 // A disk, and the blocks that it has taken and that are nowhere else.
-ghost use Rattle.std.specs.Prelude.{◌≡◌, ◌≤◌, ◌↔◌, nat_eq, [], is_some, IfErr, IfOk, None, IsTrue};
+ghost use Rattle.std.specs.Prelude.{◌≡◌, ◌≤◌, ◌↔◌, nat_eq, [], is_some, IfErr, IfOk, IfSome, None, Some, IsTrue, false};
 ghost use Rattle.std.specs.Map.{lookup};
-ghost use Rattle.spill_store.specs.Shelves.{AreThere, Fetches, TakesBlock, Turns};
+ghost use Rattle.io_edge.specs.Disk.{KeepsOthers};
+ghost use Rattle.spill_store.specs.Shelves.{AreThere, ComesBack, Fetches, TakesBlock, Turns};
 ghost use Rattle.spill_store.specs.Table.{ChangesAt};
 
 use crate::block_bytes::words_of;
@@ -12,6 +13,7 @@ use crate::table::Table;
 use nd_shape::Block;
 use std::alloc::{AllocError, Global};
 use std::marker::Model;
+use std::sync::Arc;
 
 /// So many faults of a disk end its use.
 const FAULTS: u64 = 8;
@@ -32,11 +34,31 @@ pub(crate) enum Fetched {
     Lost(LostBy),
 }
 
-/// A disk, and what is kept of the blocks that are there alone.
+/// A block that is in memory again, and what is kept of it as long as the disk has it still. Contracts see the block.
+#[derive(Drop)]
+struct Twice {
+    spilled: Spilled,
+    block: Arc<Block>,
+}
+
+impl Model for Twice {
+    ghost use Rattle.std.specs.Prelude.{◌≡◌};
+    ghost use Rattle.nd_shape.specs.Block.{Array};
+
+    ghost Value = { Array };
+
+    ghost view = { λ t. t.block.value };
+
+    ghost invariant = { λ t. t.spilled ≡ t.block.value };
+}
+
+/// A disk, what is kept of the blocks that are there alone, and of those that are in memory again and there still, so that
+/// they need not be written once more.
 #[derive(Drop)]
 pub(crate) struct Shelf<D: Disk> {
     disk: D,
     blocks: Table<Spilled>,
+    twice: Table<Twice>,
 }
 
 impl<D: Disk> Model for Shelf<D> {
@@ -46,19 +68,27 @@ impl<D: Disk> Model for Shelf<D> {
 
     ghost view = { λ s. record { disk = s.disk; away = s.blocks } };
 
-    ghost invariant = { λ s. AreThere (D.view s.disk) s.blocks };
+    ghost invariant = { λ s. AreThere (D.view s.disk) s.blocks × AreThere (D.view s.disk) s.twice };
 }
 
 impl<D: Disk> Shelf<D> {
     /// A disk of which nothing is known. Where memory is wanting, it is handed back.
+    #[tactic(auto, using(crate::proofs::Shelving::nothing_in))]
     pub(crate) fn new(alloc: Global, disk: D) -> Result<Self, (D, AllocError)>
         ensures ok { IfOk result (λ s. s ≡ record { disk = disk; away = [] }) }
         ensures err { IfErr result (λ e. e.0 ≡ disk) }
     {
-        match Table::new(alloc) {
-            Ok(blocks) => Ok(Shelf { disk, blocks }),
-            Err(error) => Err((disk, error)),
-        }
+        let Ok(blocks) = Table::new(alloc) else {
+            return Err((disk, AllocError));
+        };
+        let Ok(twice) = Table::new(alloc) else {
+            return Err((disk, AllocError));
+        };
+        Ok(Shelf {
+            disk,
+            blocks,
+            twice,
+        })
     }
 
     /// Gives the disk back. No memory.
@@ -66,7 +96,11 @@ impl<D: Disk> Shelf<D> {
         ensures disk { result ≡ self.disk }
         ensures there { AreThere (D.view result) self.away }
     {
-        let Shelf { disk, blocks: _ } = self;
+        let Shelf {
+            disk,
+            blocks: _,
+            twice: _,
+        } = self;
         disk
     }
 
@@ -84,28 +118,17 @@ impl<D: Disk> Shelf<D> {
         self.disk.faults() >= FAULTS
     }
 
-    /// Puts a block on the disk.
+    /// Puts a block on the disk, unless it is there still.
     pub(crate) fn take(&mut self, alloc: Global, key: u32, block: &Block) -> Taken
         ensures turns { Turns (D.view self.old.disk) (D.view self.new.disk) }
         ensures taken { TakesBlock D.view key block.now self.old self.new result }
     {
-        let Ok(words) = words_of(alloc, block.cells()) else {
-            return Taken::OutOfMemory;
-        };
-        let bytes = words.as_slice().as_flattened();
-        let Ok(spilled) = Spilled::new(alloc, block, bytes) else {
-            return Taken::OutOfMemory;
-        };
-        match self.blocks.put(key, spilled) {
-            Ok(()) => match self.disk.put(key, bytes) {
-                Ok(()) => Taken::Yes,
-                Err(_) => {
-                    self.blocks.remove(key);
-                    Taken::Refused
-                }
-            },
-            Err(_) => Taken::OutOfMemory,
+        if let Some(twice) = self.twice.remove(key) {
+            if put_again(&mut self.blocks, key, twice, block) {
+                return Taken::Yes;
+            }
         }
+        put_anew(&mut self.disk, &mut self.blocks, alloc, key, block)
     }
 
     /// Reads a block from the disk. It stays there.
@@ -129,6 +152,19 @@ impl<D: Disk> Shelf<D> {
         Ok(Fetched::Found(block))
     }
 
+    /// The block of a key is in memory again: this one. That the disk has it still is known from now on, where there is memory
+    /// for it.
+    pub(crate) fn bring_back(&mut self, key: u32, block: Arc<Block>)
+        requires comes { IfSome (lookup (nat_eq key) self.old.away) (λ a. ComesBack (D.view self.old.disk) a block.value) }
+        ensures disk { self.new.disk ≡ self.old.disk }
+        ensures gone { ChangesAt key None self.old.away self.new.away }
+    {
+        if let Some(spilled) = self.blocks.remove(key) {
+            let spilled = spilled.renewed(&block);
+            let _ = self.twice.put(key, Twice { spilled, block });
+        }
+    }
+
     /// Keeps nothing of the block of a key any more, and deletes it on the disk, where that is asked for and goes well. No
     /// memory.
     pub(crate) fn forget(&mut self, key: u32, on_disk: bool)
@@ -136,8 +172,81 @@ impl<D: Disk> Shelf<D> {
         ensures gone { ChangesAt key None self.old.away self.new.away }
     {
         self.blocks.remove(key);
+        self.twice.remove(key);
         if on_disk {
             let _ = self.disk.delete(key);
         }
+    }
+}
+
+// Whether two blocks have the same lengths.
+fn has_shape(left: &Block, right: &Block) -> bool
+    ensures { IsTrue result → right.now.shape ≡ left.now.shape }
+{
+    right.shape().dims() == left.shape().dims()
+}
+
+// Whether two blocks have the same elements.
+fn has_cells(left: &Block, right: &Block) -> bool
+    ensures { IsTrue result → right.now.cells ≡ left.now.cells }
+{
+    right.cells() == left.cells()
+}
+
+// Whether two blocks are the same.
+#[tactic(auto, using(crate::proofs::Shelving::equal_arrays))]
+fn is_same(left: &Block, right: &Block) -> bool
+    ensures { IsTrue result → right.now ≡ left.now }
+{
+    if !has_shape(left, right) {
+        return false;
+    }
+    has_cells(left, right)
+}
+
+// Keeps what is known of a block on the disk as of one that is there alone, where it is this block and there is memory for it.
+fn put_again(blocks: &mut Table<Spilled>, key: u32, twice: Twice, block: &Block) -> bool
+    ensures yes { IsTrue result → ChangesAt key (Some block.now) blocks.old blocks.new }
+    ensures same { IsTrue result → twice ≡ block.now }
+    ensures no { result ≡ false → blocks.new ≡ blocks.old }
+{
+    let Twice {
+        spilled,
+        block: held,
+    } = twice;
+    is_same(&held, block) && blocks.put(key, spilled).is_ok()
+}
+
+// Puts a block on a disk, of which these blocks are there.
+fn put_anew<D: Disk>(
+    disk: &mut D,
+    blocks: &mut Table<Spilled>,
+    alloc: Global,
+    key: u32,
+    block: &Block,
+) -> Taken
+    requires there { AreThere (D.view disk.old) blocks.old }
+    ensures there { AreThere (D.view disk.new) blocks.new }
+    ensures tells { (D.view disk.new).tells ≡ (D.view disk.old).tells }
+    ensures others { KeepsOthers key (D.view disk.old) (D.view disk.new) }
+    ensures turns { Turns (D.view disk.old) (D.view disk.new) }
+    ensures taken { TakesBlock D.view key block.now (record { disk = disk.old; away = blocks.old }) (record { disk = disk.new; away = blocks.new }) result }
+{
+    let Ok(words) = words_of(alloc, block.cells()) else {
+        return Taken::OutOfMemory;
+    };
+    let bytes = words.as_slice().as_flattened();
+    let Ok(spilled) = Spilled::new(alloc, block, bytes) else {
+        return Taken::OutOfMemory;
+    };
+    match blocks.put(key, spilled) {
+        Ok(()) => match disk.put(key, bytes) {
+            Ok(()) => Taken::Yes,
+            Err(_) => {
+                blocks.remove(key);
+                Taken::Refused
+            }
+        },
+        Err(_) => Taken::OutOfMemory,
     }
 }

@@ -2,7 +2,7 @@
 ghost use Rattle.std.specs.Prelude.{◌≡◌, ◌*◌, All, FitsSigned, length, IfOk, MatchOption};
 ghost use Rattle.std.specs.Int.{w64};
 ghost use Rattle.nd_shape.specs.Shape.{elements};
-ghost use Rattle.spill_store.specs.Blocks.{block_bytes, size_of_block, DiffersIn, IsBlock, IsOf};
+ghost use Rattle.spill_store.specs.Blocks.{block_bytes, size_of_block, DiffersIn, IsAlike, IsBlock, IsOf};
 
 use crate::block_bytes::cells_of;
 use crate::lost::LostBy;
@@ -44,6 +44,23 @@ impl Spilled {
             digest: Sha256::digest(bytes),
             was: Was::new(block.cells()),
         })
+    }
+
+    /// The same of another block with this digest. No memory.
+    pub(crate) fn renewed(self, block: &Block) -> Self
+        requires { IsAlike self block.now }
+        ensures { result ≡ block.now }
+    {
+        let Spilled {
+            shape,
+            digest,
+            was: _,
+        } = self;
+        Spilled {
+            shape,
+            digest,
+            was: Was::new(block.cells()),
+        }
     }
 
     /// The block's shape. No memory.
@@ -89,7 +106,7 @@ pub(crate) fn block_of(alloc: Global, shape: Shape, bytes: &[u8]) -> Result<Bloc
     requires { length bytes.now ≡ 8 * elements shape }
     ensures shape { IfOk result (λ b. b.shape ≡ shape) }
     ensures bytes { IfOk result (λ b. block_bytes b ≡ bytes.now) }
-    ensures fits { IfOk result (λ b. All (FitsSigned w64) b.cells) }
+    ensures whole { IfOk result (λ b. IsBlock b) }
 {
     let cells = cells_of(alloc, bytes)?;
     Ok(Block::new(shape, cells))

@@ -3,7 +3,7 @@ ghost use Rattle.std.specs.Prelude.{◌≡◌, IfErr, IfOk, IfSome, OnErr, OnOk,
 ghost use Rattle.std.specs.Option.{option_map};
 ghost use Rattle.spill_store.specs.Shelves.{AreThere};
 ghost use Rattle.spill_store.specs.Store.{AllStay, IsSame, Gives, Puts, Removes, SameDisk, away_in, back, empty_store, fresh, is_spilled};
-ghost use Rattle.spill_store.specs.Steps.{FetchesIn, Finds, IsFound, SpillsOne, SpillsUntil};
+ghost use Rattle.spill_store.specs.Steps.{FetchesIn, Finds, IsBackIn, IsFound, SpillsOne, SpillsUntil};
 ghost use Rattle.spill_store.specs.Table.{ChangesAt, put_first};
 
 use crate::disk::Disk;
@@ -130,7 +130,7 @@ impl<D: Disk> SpillStore<D> {
         }
     }
 
-    /// How often a block was put on the disk. It never falls, and stands still at its type's end. No memory.
+    /// How often a block went to the disk, written or there still. It never falls, and stands still at its type's end. No memory.
     pub fn spills(&self) -> u64
         ensures { result ≡ self.now.times }
     {
@@ -224,8 +224,26 @@ impl<D: Disk> SpillStore<D> {
         }
     }
 
+    // The block of a key, which is in memory again, counts no more as one that the disk alone has.
+    fn settle(&mut self, key: u32, block: &Arc<Block>)
+        requires comes { IsBackIn D.view key self.old.shelf block.now.value }
+        ensures memory { self.new.memory ≡ self.old.memory }
+        ensures limit { self.new.limit ≡ self.old.limit }
+        ensures times { self.new.times ≡ self.old.times }
+        ensures disk { SameDisk D.view self.old.shelf self.new.shelf }
+        ensures gone { ChangesAt key None (away_in self.old.shelf) (away_in self.new.shelf) }
+    {
+        let Ok(block) = Arc::try_clone(block) else {
+            return self.forget(key, false);
+        };
+        if let Some(shelf) = &mut self.shelf {
+            shelf.bring_back(key, block);
+        }
+    }
+
     // Puts a block that came from the disk in memory.
     fn bring_back(&mut self, key: u32, block: Block) -> Result<Got, AllocError>
+        requires comes { IsBackIn D.view key self.old.shelf block }
         ensures limit { self.new.limit ≡ self.old.limit }
         ensures times { self.new.times ≡ self.old.times }
         ensures disk { SameDisk D.view self.old.shelf self.new.shelf }
@@ -239,7 +257,7 @@ impl<D: Disk> SpillStore<D> {
         let kept = Arc::try_clone(&block)?;
         match self.memory.put(key, kept, true) {
             Ok(()) => {
-                self.forget(key, false);
+                self.settle(key, &block);
                 Ok(Got::Found(block))
             }
             Err(_) => Err(AllocError),

@@ -16,7 +16,7 @@ returns-in-Some-differs-clause-fetched g c =
     let long : length c.as_mut_slice.result.now ≡ size_of_block a = omega (arith, c.as_mut_slice.ensures.len, c.in_ok-bytes.ensures.len, c.size.ensures.size) in
     let kept : length c.get-2.new.buf ≡ length c.as_mut_slice.result.now = omega (arith, c.get-2.auto.buf) in
     let is : c.as_slice.result.now ≡ c.get-2.new.buf = c.as_slice.ensures.value ∙ take_at c.get-2.new.buf _ _ (omega (arith, kept, c.as_mut_slice.ensures.len)) in
-    let told = is_told_by v c.args.key a c.self.inside.blocks c.as_mut_slice.result.now c.get-2.new.buf c.as_slice.result.now c.in-Ok.has c.self.invariant was c.in-Ok.ensures.read c.size.ensures.whole long kept is in
+    let told = is_told_by v c.args.key a c.self.inside.blocks c.as_mut_slice.result.now c.get-2.new.buf c.as_slice.result.now c.in-Ok.has c.self.invariant.0 was c.in-Ok.ensures.read c.size.ensures.whole long kept is in
     rw (← c.self.view_is) (record {
       array = a;
       was = was;
@@ -32,10 +32,10 @@ returns-clause-fetched g c =
     let long : length c.as_mut_slice.result.now ≡ size_of_block a = omega (arith, c.as_mut_slice.ensures.len, c.in_ok-bytes.ensures.len, c.size.ensures.size) in
     let kept : length c.get-2.new.buf ≡ length c.as_mut_slice.result.now = omega (arith, c.get-2.auto.buf) in
     let is : c.as_slice.result.now ≡ c.get-2.new.buf = c.as_slice.ensures.value ∙ take_at c.get-2.new.buf _ _ (omega (arith, kept, c.as_mut_slice.ensures.len)) in
-    let told = is_told_by v c.args.key a c.self.inside.blocks c.as_mut_slice.result.now c.get-2.new.buf c.as_slice.result.now c.in-Ok.has c.self.invariant was c.in-Ok.ensures.read c.size.ensures.whole long kept is in
+    let told = is_told_by v c.args.key a c.self.inside.blocks c.as_mut_slice.result.now c.get-2.new.buf c.as_slice.result.now c.in-Ok.has c.self.invariant.0 was c.in-Ok.ensures.read c.size.ensures.whole long kept is in
     rw (← c.self.view_is) (record {
       array = a;
       was = was;
       comes = comes_back v a b c.in-Ok.has c.as_slice.result.now c.size.ensures.whole c.in_default-differs.ensures (c.in_ok-block.ensures.shape ∙ c.in_ok-shape.ensures ∙ c.shape.ensures)
-          (c.in_ok-block.ensures.bytes ∙ c.as_slice-2.ensures.value ∙ sym c.as_slice.ensures.value) c.in_ok-block.ensures.fits told;
+          (c.in_ok-block.ensures.bytes ∙ c.as_slice-2.ensures.value ∙ sym c.as_slice.ensures.value) c.in_ok-block.ensures.whole told;
     })
