@@ -33,5 +33,11 @@ check 'status of a picture' "$?" 0
 check 'who joins, who ends and whose loss is seen in a picture' \
   "$(python3 -c 'import sys, xml.dom.minidom; it = xml.dom.minidom.parse(sys.argv[1]).getElementsByTagName
 print(sum(path.getAttribute("class") == "join" for path in it("path")), sum(path.getAttribute("class") == "loss" for path in it("path")))' "$folder/run.svg")" '3 4'
+# the driver's workers keep all blocks in memory, so two entries on a disk are put behind its journal
+"$driver" <<< 'sum 3 2 1 1 journal' > "$folder/journal"
+last=$(grep -oE '^[0-9]+ ' "$folder/journal" | tail -n 1)
+awk -v last="${last% }" '{ print } $1 == last { print last + 1 " spill 1 6"; print last + 2 " lose-spilled 1 6" }' "$folder/journal" > "$folder/spilled"
+marks() { python3 tools/timeline.py < "$1" | grep -cE 'class="(disk|gone)"'; }
+check 'how many marks two entries of a disk add to a picture' "$(($(marks "$folder/spilled") - $(marks "$folder/journal")))" 2
 
 summary

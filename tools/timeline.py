@@ -1,5 +1,5 @@
 #!/usr/bin/env python3
-"""Draws a journal of `runner_table`: which worker ran which key when, and what was lost, suspected and stolen, as one SVG.
+"""Draws a journal of `runner_table`: which worker ran which key when, and what was lost, suspected, stolen and put on a disk, as one SVG.
 
     echo 'sum 12 3 2 4 lose:2@5 journal' | crates/runner_table/out/runner_table | tools/timeline.py > run.svg
 
@@ -22,7 +22,7 @@ MOST, LEAST, WIDE = 1100, 8, 20
 STYLE = """text{font:11px sans-serif;fill:#222}.h{font-size:13px;font-weight:bold}.n{fill:#555}.e{text-anchor:end}.m{text-anchor:middle}
 .live{fill:#eef1f4}.left{fill:#f7eef8}.run{fill:#3b78b5}.anew{fill:#c9771a}.thief{stroke:#00796b;stroke-width:2}.cut{fill:#fff;stroke:#b3261e;stroke-dasharray:3 2}
 .key{fill:#fff;font-size:10px}.cutkey{fill:#b3261e;font-size:10px}.loss{stroke:#b3261e;stroke-width:2;fill:none}.sus{stroke:#8e24aa;stroke-width:2;fill:#fff}
-.join{fill:#2e7d32}.steal{stroke:#00796b;stroke-width:1.5;fill:none}.tip{fill:#00796b}.no{fill:#00796b;font-weight:bold}.tick{stroke:#ccc}"""
+.join{fill:#2e7d32}.steal{stroke:#00796b;stroke-width:1.5;fill:none}.tip{fill:#00796b}.no{fill:#00796b;font-weight:bold}.tick{stroke:#ccc}.disk{fill:#5d4037}.gone{fill:#fff;stroke:#5d4037}"""
 
 
 # What there is to draw.
@@ -69,7 +69,7 @@ class Picture:
         first = text.partition("\n")[0]
         self.line, self.printed = Line(first), Printed(first, text)
         self.graph = Graph(self.line.job)
-        self.workers, self.bars, self.steals, self.seen, self.ran = {}, [], [], [], set()
+        self.workers, self.bars, self.steals, self.seen, self.disks, self.ran = {}, [], [], [], [], set()
         self.stamps, self.tasks = set(), []
         for entry in self.printed.entries:
             stamp, _, rest = entry.partition(" ")
@@ -131,6 +131,15 @@ class Picture:
     def gather(self, asker, *event):
         if asker[0] == "worker":
             self.workers[asker[1]].step(event)
+
+    def on_spill(self, stamp, _, worker, __):
+        self.disks.append((worker, stamp, False))
+        self.draw(stamp)
+
+    def on_lose_spilled(self, stamp, _, worker, key):
+        self.workers[worker].step(("data-lost", key))
+        self.disks.append((worker, stamp, True))
+        self.draw(stamp)
 
     def on_lose(self, stamp, _, worker):
         self.workers[worker].end(stamp)
@@ -248,6 +257,10 @@ class Drawing:
     def triangle(self, x, y):
         self.path("join", f"M{short(x - 4)} {short(y - 5)}l8 5l-8 5z")
 
+    def disk(self, x, y, lost):
+        """A block goes to the worker's disk, or is lost there."""
+        self.path("gone" if lost else "disk", f"M{short(x - 4)} {short(y - 4)}h8l-4 8z")
+
     def marks(self, number, core):
         y = self.strip(number)
         self.triangle(self.x(core.joined), y)
@@ -256,6 +269,9 @@ class Drawing:
         for worker, stamp, suspected in self.picture.seen:
             if worker == number:
                 (self.diamond if suspected else self.eye)(self.x(stamp), y)
+        for worker, stamp, lost in self.picture.disks:
+            if worker == number:
+                self.disk(self.x(stamp), y, lost)
 
     def arrow(self, x, y, end, below):
         middle = (y + below) / 2
@@ -298,6 +314,8 @@ class Drawing:
             (lambda x, y: self.arrow(x + 2, y - 7, x + 18, y + 7), "a key is stolen"),
             (lambda x, y: self.box("run thief", x, y - 7, 22, 14), "the thief runs it"),
             (lambda x, y: self.text(x + 11, y + 4, "no", "no m"), "a steal is refused"),
+            (lambda x, y: self.disk(x + 11, y, False), "a block goes to disk"),
+            (lambda x, y: self.disk(x + 11, y, True), "and is lost there"),
         ]
         x, y = LEFT, self.bottom + 36
         for sign, words in rows:
