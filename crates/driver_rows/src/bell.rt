@@ -27,6 +27,8 @@ pub struct Bell {
     rings: AtomicU64,
     awake: AtomicU64,
     watched: AtomicU64,
+    /// Always 0: what a driver lies at that nobody is to wake.
+    naps: AtomicU64,
 }
 
 impl Bell {
@@ -37,6 +39,7 @@ impl Bell {
             rings: AtomicU64::new(0),
             awake: AtomicU64::new(0),
             watched: AtomicU64::new(0),
+            naps: AtomicU64::new(0),
         }
     }
 
@@ -71,16 +74,36 @@ impl Bell {
         self.moves.load(Ordering::SeqCst)
     }
 
-    /// Sleeps, if nothing has moved since the count was so. A driver that was refused a turn sleeps only while another is awake, which had that turn.
-    pub fn sleep<R: Wait>(&self, rt: &R, count: u64, missed: bool) {
+    /// Sleeps, if nothing has moved since the count was so, or for a moment at most where it is to doze. A driver that was refused a turn sleeps only
+    /// while another is awake, which had that turn.
+    pub fn sleep<R: Wait>(&self, rt: &R, count: u64, missed: bool, dozes: bool) {
         let rung = self.rings.load(Ordering::SeqCst);
         let before = self.awake.fetch_sub(1, Ordering::SeqCst);
-        if self.count() == count && (before > 1 || !missed) {
-            self.lie_down(rt, count, rung);
-        } else {
+        if self.count() != count || (before <= 1 && missed) {
             thread::yield_now();
+        } else if dozes {
+            self.doze(rt, rung);
+        } else {
+            self.lie_down(rt, count, rung);
         }
         self.awake.fetch_add(1, Ordering::SeqCst);
+    }
+
+    /// Stays a moment while another driver has the turn that this one needs, and longer once it has tried some times. How often it has tried.
+    pub fn stay<R: Wait>(&self, rt: &R, tries: u32) -> u32 {
+        if tries < TRIES {
+            thread::yield_now();
+            tries + 1
+        } else {
+            self.naps.park_timeout(rt, 0, Duration::from_micros(NAP));
+            tries
+        }
+    }
+
+    // Until somebody rings, or for a moment.
+    fn doze<R: Wait>(&self, rt: &R, rung: u64) {
+        self.rings
+            .park_timeout(rt, low(rung), Duration::from_millis(WATCH));
     }
 
     // As the watch, if nobody is, or until somebody rings.
@@ -110,6 +133,11 @@ impl Bell {
 
 // How many milliseconds the watch lies before it looks up.
 const WATCH: u64 = 1;
+
+// How often a driver tries for a turn that it needs before it naps between two tries, and for how many microseconds.
+const TRIES: u32 = 16;
+
+const NAP: u64 = 100;
 
 // The part of a count that a sleeper is held against.
 fn low(count: u64) -> u32 {

@@ -5,8 +5,8 @@ ghost use Rattle.std.specs.Thread.{IsSend, IsSync};
 
 use crate::bell::{Bell, Manner};
 use crate::turns::{
-    Attend, Attends, Drives, Lose, Schedule, SchedulerNews, Schedules, TakeBack, Work, WorkerNews,
-    Works,
+    Attend, Attends, Drives, Lose, Schedule, SchedulerNews, Schedules, TakeBack, Waits, Work,
+    WorkerNews, Works,
 };
 use cluster_msgs::Label;
 use std::sync::Wait;
@@ -59,6 +59,8 @@ where
     pub missed: bool,
     /// How many rounds in a row were in vain.
     pub vain: u32,
+    /// It is the one that waits for the client: it sleeps for a moment at most, since only it takes what came.
+    pub dozes: bool,
 }
 
 impl<KS, KW, KC, L, S, W, C> Driver<KS, KW, KC, L, S, W, C>
@@ -71,21 +73,25 @@ where
     W: Kept<Block = L::Block>,
     C: Kept<Block = L::Block>,
 {
-    /// Waits for the client as the job tells, and goes round by itself where that was given up.
-    pub fn wait<R: Wait, J: Schedules<S, L> + Works<W, L> + Attends<C, L>>(
+    /// Is what the waiter waits by for the client, and goes round by itself where that was given up.
+    pub fn wait<R: Wait, J: Schedules<S, L> + Works<W, L> + Attends<C, L>, T: Waits<J::Sight>>(
         &mut self,
         rt: &R,
         cluster: &Cluster<KS, KW, KC, L, S, W, C>,
         job: &J,
-    ) {
+        waiter: &mut T,
+    )
+        ensures { T.leads waiter.old waiter.new }
+    {
         cluster.bell.begin();
+        self.dozes = true;
         let mut driving = Driving {
             rt,
             cluster,
             job,
             driver: &mut *self,
         };
-        job.wait(rt, &mut driving);
+        waiter.wait(rt, &mut driving);
         let Driving {
             rt: _,
             cluster: _,
@@ -163,7 +169,7 @@ where
         if self.vain < cluster.manner.patience.max(2) {
             thread::yield_now();
         } else {
-            cluster.bell.sleep(rt, before, self.missed);
+            cluster.bell.sleep(rt, before, self.missed, self.dozes);
             self.vain = 0;
         }
     }
@@ -358,20 +364,42 @@ where
         let is_long = job.is_long(&task);
         cluster.bell.ring(is_long);
         let done = job.run(task);
-        let act = TakeBack {
-            rt,
-            job,
-            stamps: &mut self.stamps,
-            done,
-        };
-        self.workers.turn(rt, &cluster.workers, at, act);
+        self.take_back(rt, cluster, at, job, done);
         if is_long {
             self.pass_on(rt, cluster, job);
         }
         true
     }
 
-    // Some turns of each scheduler, so that what a task made is known before the next one starts.
+    // The turn after a task. While another driver has it this one tries again, and naps between two tries once it has tried some times.
+    fn take_back<R: Wait, J: Works<W, L>>(
+        &mut self,
+        rt: &R,
+        cluster: &Cluster<KS, KW, KC, L, S, W, C>,
+        at: usize,
+        job: &J,
+        done: J::Done,
+    )
+        requires { at < length KW.berths }
+    {
+        let mut act = TakeBack {
+            rt,
+            job,
+            stamps: &mut self.stamps,
+            done,
+        };
+        let mut tries = 0;
+        for _ in rt.forever() {
+            match self.workers.try_turn(&cluster.workers, at, act) {
+                Ok(()) => return,
+                Err(again) => act = again,
+            }
+            tries = cluster.bell.stay(rt, tries);
+        }
+        unreachable!()
+    }
+
+    // Some turns of each scheduler.
     fn pass_on<R: Wait, J: Schedules<S, L> + Works<W, L>>(
         &mut self,
         rt: &R,
@@ -508,12 +536,13 @@ where
     }
 }
 
-/// All drivers at once, each in a thread of its own as far as threads can be started. The first stays on this thread, and waits for the client.
-pub fn run_drivers<R, KS, KW, KC, L, S, W, C, J>(
+/// All drivers at once, each in a thread of its own as far as threads can be started. The first stays on this thread, and is what the waiter waits by.
+pub fn run_drivers<R, KS, KW, KC, L, S, W, C, J, T>(
     rt: &R,
     cluster: &Cluster<KS, KW, KC, L, S, W, C>,
     drivers: &mut [Driver<KS, KW, KC, L, S, W, C>],
     job: &J,
+    waiter: &mut T,
 )
 where
     R: Threads + Wait + Sync,
@@ -525,7 +554,9 @@ where
     W: Kept<Block = L::Block> + Send + Sync,
     C: Kept<Block = L::Block> + Send + Sync,
     J: Schedules<S, L> + Works<W, L> + Attends<C, L> + Sync,
-    ensures { length drivers.new ≡ length drivers.old }
+    T: Waits<J::Sight>,
+    ensures count { length drivers.new ≡ length drivers.old }
+    ensures waited { T.leads waiter.old waiter.new }
 {
     let Some((first, others)) = drivers.split_first_mut() else {
         return;
@@ -536,7 +567,7 @@ where
             requires { IsSync R.row × IsSync J.row × (IsSend KS.row × IsSync KS.row) × (IsSend KW.row × IsSync KW.row) × (IsSend KC.row × IsSync KC.row)
                 × (IsSend L.row × IsSync L.row) × (IsSend S.row × IsSync S.row) × (IsSend W.row × IsSync W.row) × (IsSend C.row × IsSync C.row) }
         { run_others(rt, cluster, others, job) },
-        &mut || first.wait(rt, cluster, job),
+        &mut || first.wait(rt, cluster, job, waiter),
     );
 }
 

@@ -13,4 +13,4 @@ mod turns;
 pub use bell::{Bell, Manner};
 pub use driver::{Cluster, Driver, run_drivers};
 pub use run::{Closed, run_cells};
-pub use turns::{Attends, ClientNews, Drives, SchedulerNews, Schedules, WorkerNews, Works};
+pub use turns::{Attends, ClientNews, Drives, SchedulerNews, Schedules, Waits, WorkerNews, Works};

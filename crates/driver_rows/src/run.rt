@@ -6,7 +6,7 @@ ghost use Rattle.driver_rows.specs.Closing.{AreClosed};
 
 use crate::bell::{Bell, Manner};
 use crate::driver::{Cluster, Driver, run_drivers};
-use crate::turns::{Attends, Schedules, Works};
+use crate::turns::{Attends, Schedules, Waits, Works};
 use cluster_msgs::Label;
 use std::alloc::{AllocError, Global};
 use std::marker::Brand;
@@ -123,6 +123,7 @@ where
                 over: false,
                 missed: false,
                 vain: 0,
+                dozes: false,
             },
         ))
     }
@@ -154,6 +155,7 @@ where
             over: _,
             missed: _,
             vain: _,
+            dozes: _,
         } = driver;
         Homes {
             scheduler: scheduler.join(&cluster.scheduler, first),
@@ -259,7 +261,7 @@ pub struct Closed<S, W, C> {
 }
 
 /// Runs the cells to the end by so many drivers as they have parts, less one, and closes them.
-fn run_at<R, KS, KW, KC, L, S, W, C, J>(
+fn run_at<R, KS, KW, KC, L, S, W, C, J, T>(
     rt: &R,
     alloc: Global,
     scheduler: Made<S, L>,
@@ -268,6 +270,7 @@ fn run_at<R, KS, KW, KC, L, S, W, C, J>(
     stamps: Stamps,
     manner: Manner,
     job: &J,
+    waiter: &mut T,
 ) -> Closed<S, W, C>
 where
     R: Threads + Wait + Sync,
@@ -279,6 +282,7 @@ where
     W: Kept<Block = L::Block> + Send + Sync,
     C: Kept<Block = L::Block> + Send + Sync,
     J: Schedules<S, L> + Works<W, L> + Attends<C, L> + Sync,
+    T: Waits<J::Sight>,
     requires scheduler { (KS.berths ≡ map (λ p. berth_of p.seat) scheduler.passes.items) × (KS.total ≡ scheduler.parts) }
     requires workers { (KW.berths ≡ map (λ p. berth_of p.seat) workers.passes.items) × (KW.total ≡ workers.parts) }
     requires clients { (KC.berths ≡ map (λ p. berth_of p.seat) clients.passes.items) × (KC.total ≡ clients.parts) }
@@ -286,6 +290,7 @@ where
     ensures scheduler { AreClosed S.entries S.core S.cut S.steps (S.fits L.facts) KS.berths result.scheduler.items }
     ensures workers { AreClosed W.entries W.core W.cut W.steps (W.fits L.facts) KW.berths result.workers.items }
     ensures clients { AreClosed C.entries C.core C.cut C.steps (C.fits L.facts) KC.berths result.clients.items }
+    ensures waited { T.leads waiter.old waiter.new }
 {
     let parts = scheduler.parts;
     let shares = share_out(alloc, stamps, parts.saturating_sub(1));
@@ -307,7 +312,7 @@ where
     };
     let mut drivers = Vec::new(alloc);
     let homes = homes.split_all(alloc, &cluster, shares, &mut drivers);
-    run_drivers(rt, &cluster, drivers.as_mut_slice(), job);
+    run_drivers(rt, &cluster, drivers.as_mut_slice(), job, waiter);
     let homes = homes.join_all(&cluster, drivers);
     let Cluster {
         scheduler,
@@ -329,8 +334,9 @@ where
     }
 }
 
-/// Runs the cells to the end, and closes them: each state's history leads from the state that its cell was made with.
-pub fn run_cells<R, L, S, W, C, J>(
+/// Runs the cells to the end, by one driver of which the waiter waits for the clients, and closes them: each state's history leads from the state that
+/// its cell was made with.
+pub fn run_cells<R, L, S, W, C, J, T>(
     rt: &R,
     alloc: Global,
     scheduler: Made<S, L>,
@@ -339,6 +345,7 @@ pub fn run_cells<R, L, S, W, C, J>(
     stamps: Stamps,
     manner: Manner,
     job: &J,
+    waiter: &mut T,
 ) -> Closed<S, W, C>
 where
     R: Threads + Wait + Sync,
@@ -347,12 +354,14 @@ where
     W: Kept<Block = L::Block> + Send + Sync,
     C: Kept<Block = L::Block> + Send + Sync,
     J: Schedules<S, L> + Works<W, L> + Attends<C, L> + Sync,
+    T: Waits<J::Sight>,
     requires parts { (workers.parts ≡ scheduler.parts) × (clients.parts ≡ scheduler.parts) }
     ensures scheduler { AreClosed S.entries S.core S.cut S.steps (S.fits L.facts) (map (λ p. berth_of p.seat) scheduler.passes.items) result.scheduler.items }
     ensures workers { AreClosed W.entries W.core W.cut W.steps (W.fits L.facts) (map (λ p. berth_of p.seat) workers.passes.items) result.workers.items }
     ensures clients { AreClosed C.entries C.core C.cut C.steps (C.fits L.facts) (map (λ p. berth_of p.seat) clients.passes.items) result.clients.items }
+    ensures waited { T.leads waiter.old waiter.new }
 {
-    run_at::<R, Brand, Brand, Brand, L, S, W, C, J>(
-        rt, alloc, scheduler, workers, clients, stamps, manner, job,
+    run_at::<R, Brand, Brand, Brand, L, S, W, C, J, T>(
+        rt, alloc, scheduler, workers, clients, stamps, manner, job, waiter,
     )
 }

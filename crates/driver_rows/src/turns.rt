@@ -104,7 +104,20 @@ pub trait Drives<V> {
     fn go_round(&mut self, sight: &mut V) -> bool;
 }
 
-/// How clients take their turns, and how a driver waits for what a client is there for.
+/// What waits by a driver for what the clients are there for, on the thread that runs the cells. It needs to cross to no other, and `leads` tells what
+/// may become of it.
+pub trait Waits<V> {
+    ghost leads: { Self → Self → Type 0 };
+
+    /// Waits until the driver goes on no more. It may give up before.
+    fn wait<R: Wait, D: Drives<V>>(&mut self, rt: &R, driver: &mut D)
+        ensures { leads self.old self.new };
+
+    /// Where no driver was made nothing becomes of it.
+    ghost here: { (w : Self) → leads w w };
+}
+
+/// How clients take their turns.
 pub trait Attends<C: Kept, L: Label<Block = C::Block>> {
     /// What a driver saw of clients in its turns.
     type Sight;
@@ -129,9 +142,6 @@ pub trait Attends<C: Kept, L: Label<Block = C::Block>> {
         requires fits { C.fits L.facts state.old }
         ensures fits { C.fits L.facts state.new }
         ensures went { Went C.entries C.core C.cut C.steps state.old state.new };
-
-    /// Waits by a driver for what a client is there for, or until the driver goes on no more. It may give up before.
-    fn wait<R: Wait, D: Drives<Self::Sight>>(&self, rt: &R, driver: &mut D);
 }
 
 /// A turn of a scheduler.

@@ -108,7 +108,12 @@ pub if_told : {A : Type 0} (P Q : A → Type 0) (o : Option A) → IfSome o P �
 if_told P Q None p f = tt
 if_told P Q (Some a) p f = f a p
 
--- what a run gives was there
-pub given_there : {A E : Type 0} (P : Type 0) (o : Option A) (r : Result A E) → IfSome o (λ x. P) → IfOk r (λ x. o ≡ Some x) → IfOk r (λ x. P)
-given_there P o (Ok x) some is = subst (λ z. IfSome z (λ y. P)) is some
-given_there P o (Err e) some is = tt
+-- what a run that ended well had found true
+pub true_there : {A E : Type 0} (P : Type 0) (b : Bool) (r : Result A E) → (b ≡ true → P) → IfOk r (λ x. b ≡ true) → IfOk r (λ x. P)
+true_there P b (Ok x) f is = f is
+true_there P b (Err e) f is = tt
+
+-- a run is told to have ended well only where it did
+pub ok_told : {A E : Type 0} (P : Type 0) (r s : Result A E) → IfOk s (λ x. r ≡ Ok x) → IfOk r (λ x. P) → IfOk s (λ x. P)
+ok_told P r (Ok x) is p = subst (λ z. IfOk z (λ y. P)) is p
+ok_told P r (Err e) is p = tt

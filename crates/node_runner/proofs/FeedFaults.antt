@@ -1,6 +1,6 @@
 -- How a run ended, where a feed had failed.
 use Rattle.std.proofs.Common.{◌≡◌, ◌⊎◌, ℕ, List, refl, sym, subst, ⊎_elim}
-use Rattle.std.specs.Prelude.{Option, Some, None, IfSome, IfOk, All, Result, Ok, Err}
+use Rattle.std.specs.Prelude.{Option, Some, None, IfSome, IfOk, Result, Ok, Err}
 use Rattle.cluster_msgs.specs.Labels.{LabelFacts}
 use Rattle.cluster_msgs.specs.Shape.{Shape}
 use Rattle.cluster_rules.specs.Sched.{Facts}
@@ -46,11 +46,6 @@ run_ended l graph p wanted Failed r s left (Some h) Given run none same changed 
 -- a run that gave nothing
 pub none_ok : {A : Type 0} (P : A → Type 0) (r : Result A RunStatus) (s : RunStatus) → r ≡ Err s → IfOk r P
 none_ok P r s is = subst (λ z. IfOk z P) (sym is) tt
-
--- what holds of each value of a type holds of those in a list that a run gives
-pub all_ok : {A E X : Type 0} (items : A → List X) (P : X → Type 0) → ((x : X) → P x) → (r : Result A E) → IfOk r (λ a. All P (items a))
-all_ok items P each (Ok a) = λ k d less. each _
-all_ok items P each (Err e) = tt
 
 -- a run that ended where this may have failed, ended where more may have
 cause_of_more : {A B : Type 0} (l : LabelFacts B) (wanted : List ℕ) (f : Facts) (left : List (Option Why)) (F G : Type 0) (r : Result A RunStatus) → (F → G)

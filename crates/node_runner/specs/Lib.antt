@@ -1,3 +1,4 @@
-pub mod Naming
 pub mod Making
+pub mod Naming
 pub mod Runs
+pub mod Sinks

@@ -1,5 +1,5 @@
 //! From the closed nodes to how the run ended.
-ghost use Rattle.std.specs.Prelude.{◌≡◌, ◌+◌, ◌<◌, ℕ, true, false, None, Some, Ok, map, is_some, vec_len, slice_index_or, IfOk, IfSome};
+ghost use Rattle.std.specs.Prelude.{◌≡◌, ◌+◌, ◌<◌, ℕ, true, false, None, Some, Ok, All, map, is_some, vec_len, slice_index_or, IfOk, IfSome};
 ghost use Rattle.cluster_rules.specs.Sched.{Facts};
 ghost use Rattle.gather_client.specs.CoreState.{client_facts};
 ghost use Rattle.scheduler_core.specs.Cores.{facts};
@@ -8,11 +8,13 @@ ghost use Rattle.node_states.specs.Order.{AreInTime, start_of};
 ghost use Rattle.node_runner.specs.Runs.{HasRun, HasNotRun, IsGivenUp, IsTakenFrom, IsSchedulersBook, IsWorkersBook, IsClientsBook, IfStatus, IsBlamed, last_facts};
 
 use crate::ends::{
-    Ends, Histories, RunStatus, all_left, first_blame, got, is_given_up, take_apart,
+    Ends, Histories, RunStatus, all_left, first_blame, hand_all, has_all, has_got, is_given_up,
+    take_apart,
 };
 use crate::plan::RunPlan;
+use crate::sink::Sink;
 use cluster_msgs::{GraphShape, History, KeyList, Label};
-use node_links::{Book, Keyed, Machine};
+use node_links::{Book, Machine};
 use node_states::{BlockStore, ClientNode, SchedulerNode, Why, WorkerNode};
 use std::alloc::{AllocError, Global};
 
@@ -24,11 +26,7 @@ struct Told {
 }
 
 /// A run that couldn't be started, or not be told of, for want of memory.
-pub fn not_run<B: Drop, L: Label<Block = B>, F: Drop, S: Drop>(
-    alloc: Global,
-    feeds: Vec<F>,
-    stores: Vec<S>,
-) -> Ends<B, L, F, S>
+pub fn not_run<F: Drop, S: Drop>(alloc: Global, feeds: Vec<F>, stores: Vec<S>) -> Ends<F, S>
     ensures none { result.histories ≡ None }
     ensures ended { HasNotRun result.result result.left.items }
     ensures feeds { result.feeds ≡ feeds }
@@ -42,8 +40,9 @@ pub fn not_run<B: Drop, L: Label<Block = B>, F: Drop, S: Drop>(
     }
 }
 
-/// How a run ended, as far as its closed nodes tell, and whether no worker is left and none left for want of memory.
-pub fn end_nodes<B: Drop, L: Label<Block = B>, F: Drop, S: BlockStore<B, L>>(
+/// How a run ended, as far as its closed nodes tell, and whether no worker is left and none left for want of memory. The blocks that the client still has
+/// go to the sink.
+pub fn end_nodes<B: Drop, L: Label<Block = B>, F: Drop, S: BlockStore<B, L>, Z: Sink<B, L>>(
     alloc: Global,
     _graph: &GraphShape,
     plan: &RunPlan,
@@ -51,12 +50,14 @@ pub fn end_nodes<B: Drop, L: Label<Block = B>, F: Drop, S: BlockStore<B, L>>(
     scheduler: SchedulerNode<B, L>,
     workers: Vec<WorkerNode<B, L, F, S>>,
     client: ClientNode<B, L>,
-) -> (Ends<B, L, F, S>, bool)
+    sink: &mut Z,
+) -> (Ends<F, S>, bool)
     requires scheduler { IsSchedulersBook L.facts _graph.now plan.now scheduler.history.book }
     requires workers { (k : ℕ) (w : _) → k < vec_len workers
         → IsWorkersBook L.facts _graph.now plan.now.threads (k + 1) (λ c. worker_facts c.core) (slice_index_or workers.items k w).history.book }
     requires client { IsClientsBook L.facts _graph.now (λ c. client_facts c.core) client.book }
-    ensures blocks { IfOk result.0.result (λ blocks. map (λ k. k.key) blocks.items ≡ wanted.now) }
+    ensures had { IfOk result.0.result (λ _. All (λ k. Z.had sink.new k ≡ true) wanted.now) }
+    ensures leads { Z.leads sink.old sink.new }
     ensures ended { IfSome result.0.histories (HasRun L.facts _graph.now plan.now wanted.now ⊥
         (last_facts (facts scheduler.history.book.core.core) (map (λ w. worker_facts w.history.book.core.core) workers.items) (client_facts client.book.core.core))
         result.0.result result.0.left.items) }
@@ -64,15 +65,16 @@ pub fn end_nodes<B: Drop, L: Label<Block = B>, F: Drop, S: BlockStore<B, L>>(
     ensures told { result.1 ≡ true → is_some result.0.histories ≡ true }
     ensures given_up { result.1 ≡ true → IsGivenUp (facts scheduler.history.book.core.core) result.0.left.items }
 {
-    let blocks = got(alloc, wanted.as_slice(), &client);
+    let got = has_got(wanted.as_slice(), &client);
     let blame = first_blame(wanted.as_slice(), &client);
     let left = all_left(alloc, plan, &scheduler, workers.as_slice());
     let joined = scheduler.joined();
     let scheduler = scheduler_history(scheduler);
-    let client = client_history(client);
+    let client = client_history(client, sink);
+    let all = has_all(wanted.as_slice(), &*sink);
     let (workers, feeds, stores) = take_apart(alloc, workers);
     let told = all_told(scheduler, workers, client, left);
-    let ends = ends_of(alloc, result(blocks, blame), told, feeds, stores);
+    let ends = ends_of(alloc, result(got, all, blame), told, feeds, stores);
     let given_up = is_over(&ends, joined);
     (ends, given_up)
 }
@@ -87,11 +89,17 @@ fn scheduler_history<B: Drop, L: Label<Block = B>>(scheduler: SchedulerNode<B, L
     scheduler.history.into_log().into_history()
 }
 
-/// The history of a closed client.
-fn client_history<B: Drop, L: Label<Block = B>>(client: ClientNode<B, L>) -> History
-    ensures { IsTakenFrom client.book result }
+/// The history of a closed client, whose blocks go to the sink.
+fn client_history<B: Drop, L: Label<Block = B>, Z: Sink<B, L>>(
+    client: ClientNode<B, L>,
+    sink: &mut Z,
+) -> History
+    ensures taken { IsTakenFrom client.book result }
+    ensures leads { Z.leads sink.old sink.new }
 {
-    history_of(client.book)
+    let (book, came) = client.into_parts();
+    hand_all(came, sink);
+    history_of(book)
 }
 
 /// The history of a closed node.
@@ -124,16 +132,16 @@ fn all_told(
 }
 
 /// How a run ended of which this is told.
-fn ends_of<B: Drop, L: Label<Block = B>, F: Drop, S: Drop>(
+fn ends_of<F: Drop, S: Drop>(
     alloc: Global,
-    answer: Result<Vec<Keyed<B, L>>, RunStatus>,
+    answer: Result<(), RunStatus>,
     told: Option<Told>,
     feeds: Vec<F>,
     stores: Vec<S>,
-) -> Ends<B, L, F, S>
+) -> Ends<F, S>
     ensures told { IfSome result.histories (λ h. (told ≡ Some (record { histories = h; left = result.left })) × (result.result ≡ answer)) }
     ensures none { result.histories ≡ None → HasNotRun result.result result.left.items }
-    ensures answer { IfOk result.result (λ blocks. answer ≡ Ok blocks) }
+    ensures answer { IfOk result.result (λ x. answer ≡ Ok x) }
 {
     match told {
         Some(told) => {
@@ -151,10 +159,7 @@ fn ends_of<B: Drop, L: Label<Block = B>, F: Drop, S: Drop>(
 }
 
 /// Whether a run that is told of was given up, where so many workers joined.
-fn is_over<B: Drop, L: Label<Block = B>, F: Drop, S: Drop>(
-    ends: &Ends<B, L, F, S>,
-    joined: Option<u32>,
-) -> bool
+fn is_over<F: Drop, S: Drop>(ends: &Ends<F, S>, joined: Option<u32>) -> bool
     ensures told { result ≡ true → is_some ends.now.histories ≡ true }
     ensures given_up { (f : Facts) → IfSome joined (λ n. n ≡ f.last_worker) → result ≡ true → IsGivenUp f ends.now.left.items }
 {
@@ -164,17 +169,17 @@ fn is_over<B: Drop, L: Label<Block = B>, F: Drop, S: Drop>(
     }
 }
 
-/// What a run gives: the blocks where there are all; else the key to blame, if one failed.
-fn result<B: Drop, L: Label<Block = B>>(
-    blocks: Option<Vec<Keyed<B, L>>>,
-    blame: Option<u32>,
-) -> Result<Vec<Keyed<B, L>>, RunStatus>
-    ensures blocks { IfOk result (λ all. blocks ≡ Some all) }
+/// How a run ended: well where the client got all and the sink has all; else by the key to blame, if one failed.
+fn result(got: bool, all: bool, blame: Option<u32>) -> Result<(), RunStatus>
+    ensures got { IfOk result (λ _. got ≡ true) }
+    ensures all { IfOk result (λ _. all ≡ true) }
     ensures cause { IfStatus (IsBlamed blame) result }
 {
-    match (blocks, blame) {
-        (Some(blocks), _) => Ok(blocks),
-        (None, Some(key)) => Err(RunStatus::Zero { key }),
-        (None, None) => Err(RunStatus::Memory),
+    if got && all {
+        return Ok(());
+    }
+    match blame {
+        Some(key) => Err(RunStatus::Zero { key }),
+        None => Err(RunStatus::Memory),
     }
 }

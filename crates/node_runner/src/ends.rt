@@ -1,5 +1,5 @@
 //! How a run ended, as the closed nodes tell.
-ghost use Rattle.std.specs.Prelude.{◌≡◌, ◌≢◌, ◌≤◌, ◌+◌, ◌<◌, ◌++◌, ◌∷◌, [], ℕ, true, false, None, map, length, slice_index_or, Contains, IfOk, IfSome, Some};
+ghost use Rattle.std.specs.Prelude.{◌≡◌, ◌≢◌, ◌≤◌, ◌+◌, ◌<◌, ◌++◌, ◌∷◌, [], ℕ, true, false, None, map, length, slice_index_or, All, Contains, IfOk, IfSome, Some};
 ghost use Rattle.cluster_msgs.specs.Labels.{BlameFits};
 ghost use Rattle.cluster_rules.specs.Sched.{Facts as SchedFacts, connected};
 ghost use Rattle.cluster_msgs.specs.declared.cores.End.TheVariants.{Got};
@@ -13,6 +13,7 @@ ghost use Rattle.node_states.specs.declared.why.Why.TheVariants as why;
 ghost use Rattle.node_runner.specs.Runs.{HasGot, IsGivenUp, IsLeft, IsNamed, IsTakenFrom};
 
 use crate::plan::RunPlan;
+use crate::sink::Sink;
 use cluster_msgs::{End, History, Label};
 use cluster_rules::Facts;
 use node_links::Keyed;
@@ -38,11 +39,11 @@ pub struct Histories {
     pub client: History,
 }
 
-/// How a run ended: with a block of each wanted key, in order, or why there are none; the histories, where it was started and could be told of; for
-/// each worker number why it left, if it did; the feeds, and the stores of the workers' blocks.
+/// How a run ended: with a block of each wanted key in the sink, or why not; the histories, where it was started and could be told of; for each worker
+/// number why it left, if it did; the feeds, and the stores of the workers' blocks.
 #[derive(Drop)]
-pub struct Ends<B: Drop, L: Label<Block = B>, F: Drop, S: Drop> {
-    pub result: Result<Vec<Keyed<B, L>>, RunStatus>,
+pub struct Ends<F: Drop, S: Drop> {
+    pub result: Result<(), RunStatus>,
     pub histories: Option<Histories>,
     pub left: Vec<Option<Why>>,
     pub feeds: Vec<F>,
@@ -50,7 +51,7 @@ pub struct Ends<B: Drop, L: Label<Block = B>, F: Drop, S: Drop> {
 }
 
 /// Whether the client got each of these keys.
-fn has_got<B: Drop, L: Label<Block = B>>(wanted: &[u32], client: &ClientNode<B, L>) -> bool
+pub fn has_got<B: Drop, L: Label<Block = B>>(wanted: &[u32], client: &ClientNode<B, L>) -> bool
     ensures { result ≡ true → HasGot (client_facts client.now.book.core.core) wanted.now }
 {
     for key in wanted {
@@ -71,24 +72,25 @@ fn is_got<B: Drop, L: Label<Block = B>>(key: u32, client: &ClientNode<B, L>) -> 
     }
 }
 
-/// The blocks of these keys, in order, where the client has got all.
-pub fn got<B: Drop, L: Label<Block = B>>(
-    alloc: Global,
-    wanted: &[u32],
-    client: &ClientNode<B, L>,
-) -> Option<Vec<Keyed<B, L>>>
-    ensures keys { IfSome result (λ blocks. map (λ k. k.key) blocks.items ≡ wanted.now) }
-    ensures got { IfSome result (λ blocks. HasGot (client_facts client.now.book.core.core) wanted.now) }
+/// Whether the sink has a block of each of these keys.
+pub fn has_all<B: Drop, L: Label<Block = B>, Z: Sink<B, L>>(wanted: &[u32], sink: &Z) -> bool
+    ensures { result ≡ true → All (λ k. Z.had sink.now k ≡ true) wanted.now }
 {
-    if !has_got(wanted, client) {
-        return None;
-    }
-    let mut blocks = Vec::with_capacity(alloc, wanted.len()).ok()?;
     for key in wanted {
-        let keyed = client.block(*key)?;
-        blocks.push(keyed.share().ok()?).ok()?;
+        if !sink.has(*key) {
+            return false;
+        }
     }
-    Some(blocks)
+    true
+}
+
+/// Hands blocks on to the sink.
+pub fn hand_all<B: Drop, L: Label<Block = B>, Z: Sink<B, L>>(blocks: Vec<Keyed<B, L>>, sink: &mut Z)
+    ensures { Z.leads sink.old sink.new }
+{
+    for keyed in blocks {
+        sink.take(keyed.key(), keyed.into_block());
+    }
 }
 
 /// The key that is to blame for the first of these keys that failed.

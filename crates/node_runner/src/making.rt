@@ -254,15 +254,7 @@ fn make_client<B: Drop, L: Label<Block = B>>(
 {
     let wanted = wanted.copy()?;
     let core = gathering_core(alloc, graph)?;
-    ClientNode::new(
-        alloc,
-        core,
-        NODE_BYTES,
-        graph.keys(),
-        wanted,
-        scheduler,
-        workers,
-    )
+    ClientNode::new(alloc, core, NODE_BYTES, wanted, scheduler, workers)
 }
 
 /// The client's core.

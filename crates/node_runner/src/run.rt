@@ -1,7 +1,5 @@
 //! A run, from its nodes to its end.
 ghost use Rattle.std.specs.Prelude.{◌≡◌, ◌+◌, ◌<◌, ◌≤◌, ◌*◌, ◌⊎◌, ℕ, Some, None, Err, All, Contains, map, true, vec_len, slice_index_or, IfOk, IfSome};
-ghost use Rattle.std.specs.Arc.{arc_value};
-ghost use Rattle.cluster_msgs.specs.Labels.{BlockFits};
 ghost use Rattle.cluster_msgs.specs.Shape.{Shape};
 ghost use Rattle.gather_client.specs.CoreState.{client_facts};
 ghost use Rattle.turn_cell.specs.Rows.{berth_of};
@@ -17,10 +15,12 @@ use crate::ends::{Ends, RunStatus, take_apart};
 use crate::label::{Fed, RunLabel, RunName};
 use crate::making::{Rows, make_rows};
 use crate::plan::RunPlan;
+use crate::sink::Sink;
 use crate::tasks::Running;
-use client_futures::waiting_room;
+use crate::watching::Waiter;
 use cluster_msgs::{GraphShape, JobSpec, KeyList, Label};
-use driver_rows::{Attends, Closed, Manner, Schedules, Works, run_cells};
+use driver_rows::{Attends, Closed, Manner, Schedules, Waits, Works, run_cells};
+use futures::task::{Doorbell, Solo};
 use io_edge::Gate;
 use node_states::{BlockStore, ClientNode, SchedulerNode, WorkerNode};
 use std::alloc::{AllocGlobal, Global};
@@ -42,8 +42,8 @@ type Client<J: JobSpec, K> = ClientNode<J::Block, RunLabel<J, K>>;
 
 /// Runs a job by a cluster of threads: a scheduler, the workers of a plan and one client, which wants these keys. Each worker number has feeds, one
 /// for each of its threads; a worker with fewer ends as soon as it has joined. Each keeps its blocks in one of the stores; where there are fewer stores
-/// than numbers nothing is run, as for want of memory.
-pub fn run_cluster<R, J, G, K, S>(
+/// than numbers nothing is run, as for want of memory. The blocks of the wanted keys go to the sink as they come, on the calling thread.
+pub fn run_cluster<R, J, G, K, S, Z>(
     rt: &R,
     alloc: Global,
     job: &J,
@@ -52,29 +52,32 @@ pub fn run_cluster<R, J, G, K, S>(
     wanted: &KeyList,
     feeds: Vec<Vec<Fed<J, K>>>,
     stores: Vec<S>,
-) -> Ends<J::Block, RunLabel<J, K>, Fed<J, K>, S>
+    sink: Z,
+) -> (Ends<Fed<J, K>, S>, Z)
 where
     R: Threads + Wait + RandomSource + AllocGlobal + Sync,
     J: JobSpec,
     G: Gate,
     K: RunName<J> + Send + Sync,
     S: BlockStore<J::Block, RunLabel<J, K>> + Send + Sync,
+    Z: Sink<J::Block, RunLabel<J, K>> + Drop,
     requires named { K.job ≡ Some job.now }
     requires saturation { (1 ≤ plan.now.saturation) × (plan.now.saturation ≤ 1000) }
     requires capacity { 0 < plan.now.capacity }
     requires threads { (1 ≤ plan.now.threads) × (plan.now.workers * plan.now.threads ≤ 64) }
     requires numbers { numbers plan.now ≤ 1024 }
-    ensures blocks { IfOk result.result (λ blocks. map (λ k. k.key) blocks.items ≡ wanted.now) }
-    ensures fit { IfOk result.result (λ blocks.
-        All (λ k. BlockFits (run_facts J.graph J.operation J.key_dims J.block_dims K.told K.job) k.key (arc_value k.block)) blocks.items) }
+    ensures had { IfOk result.0.result (λ _. All (λ k. Z.had result.1 k ≡ true) wanted.now) }
+    ensures leads { Z.leads sink result.1 }
     ensures ended { HowItEnded (run_facts J.graph J.operation J.key_dims J.block_dims K.told K.job) (J.graph job.now) plan.now wanted.now
-        (HasFeedFault J.fault_count plan.now.threads (map (λ v. vec_len v) feeds.items) result.feeds.items)
-        result.result result.left.items result.histories }
+        (HasFeedFault J.fault_count plan.now.threads (map (λ v. vec_len v) feeds.items) result.0.feeds.items)
+        result.0.result result.0.left.items result.0.histories }
 {
     let (rows, stamps, short) = begin(alloc, job, plan, wanted, feeds, stores);
     match stamps {
-        Some(stamps) => run_made(rt, alloc, job, gate, plan, wanted, short, rows, stamps),
-        None => close_rows(alloc, rows),
+        Some(stamps) => run_made(
+            rt, alloc, job, gate, plan, wanted, short, rows, stamps, sink,
+        ),
+        None => (close_rows(alloc, rows), sink),
     }
 }
 
@@ -123,7 +126,7 @@ fn rights(alloc: Global, whole: bool) -> Option<Stamps>
 }
 
 /// Runs the nodes that were made. `short` says that a worker has too few feeds.
-fn run_made<R, J, G, K, S>(
+fn run_made<R, J, G, K, S, Z>(
     rt: &R,
     alloc: Global,
     job: &J,
@@ -133,13 +136,15 @@ fn run_made<R, J, G, K, S>(
     short: bool,
     rows: Rows<RunLabel<J, K>, Scheduler<J, K>, Worker<J, K, S>, Client<J, K>>,
     stamps: Stamps,
-) -> Ends<J::Block, RunLabel<J, K>, Fed<J, K>, S>
+    sink: Z,
+) -> (Ends<Fed<J, K>, S>, Z)
 where
     R: Threads + Wait + RandomSource + AllocGlobal + Sync,
     J: JobSpec,
     G: Gate,
     K: RunName<J> + Send + Sync,
     S: BlockStore<J::Block, RunLabel<J, K>> + Send + Sync,
+    Z: Sink<J::Block, RunLabel<J, K>> + Drop,
     requires named { K.job ≡ Some job.now }
     requires parts { (rows.workers.parts ≡ rows.scheduler.parts) × (rows.clients.parts ≡ rows.scheduler.parts) }
     requires scheduler { AreMade (λ k s. IsFirstScheduler (J.graph job.now) plan.now s.history.book.core) 1
@@ -148,21 +153,22 @@ where
         (numbers plan.now) (map (λ p. berth_of p.seat) rows.workers.passes.items) }
     requires client { AreMade (λ k s. IsFirstClient (J.graph job.now) s.book.core.id (client_facts s.book.core.core)) 1
         (map (λ p. berth_of p.seat) rows.clients.passes.items) }
-    ensures blocks { IfOk result.result (λ blocks. map (λ k. k.key) blocks.items ≡ wanted.now) }
+    ensures had { IfOk result.0.result (λ _. All (λ k. Z.had result.1 k ≡ true) wanted.now) }
+    ensures leads { Z.leads sink result.1 }
     ensures ended { HowItEnded (run_facts J.graph J.operation J.key_dims J.block_dims K.told K.job) (J.graph job.now) plan.now wanted.now
-        ((short ≡ true) ⊎ ((f : _) × Contains result.feeds.items f × (0 < J.fault_count f)))
-        result.result result.left.items result.histories }
+        ((short ≡ true) ⊎ ((f : _) × Contains result.0.feeds.items f × (0 < J.fault_count f)))
+        result.0.result result.0.left.items result.0.histories }
 {
-    let closed = run_rows(rt, alloc, job, gate, plan, wanted, rows, stamps);
-    let (ends, given_up) = end_rows(alloc, job.shape(), plan, wanted, closed);
-    with_reads(job, short, given_up, ends)
+    let (closed, mut sink) = run_rows(rt, alloc, job, gate, plan, wanted, rows, stamps, sink);
+    let (ends, given_up) = end_rows(alloc, job.shape(), plan, wanted, closed, &mut sink);
+    (with_reads(job, short, given_up, ends), sink)
 }
 
 /// Ends a run whose nodes couldn't all be made.
 fn close_rows<A, B, L, F, S, C>(
     alloc: Global,
     rows: Rows<L, A, WorkerNode<B, L, F, S>, C>,
-) -> Ends<B, L, F, S>
+) -> Ends<F, S>
 where
     B: Drop,
     L: Label<Block = B>,
@@ -185,7 +191,7 @@ where
 }
 
 /// Runs the nodes by threads to the end.
-fn run_rows<R, J, G, K, S>(
+fn run_rows<R, J, G, K, S, Z>(
     rt: &R,
     alloc: Global,
     job: &J,
@@ -194,13 +200,15 @@ fn run_rows<R, J, G, K, S>(
     wanted: &KeyList,
     rows: Rows<RunLabel<J, K>, Scheduler<J, K>, Worker<J, K, S>, Client<J, K>>,
     stamps: Stamps,
-) -> Closed<Scheduler<J, K>, Worker<J, K, S>, Client<J, K>>
+    sink: Z,
+) -> (Closed<Scheduler<J, K>, Worker<J, K, S>, Client<J, K>>, Z)
 where
     R: Threads + Wait + RandomSource + AllocGlobal + Sync,
     J: JobSpec,
     G: Gate,
     K: RunName<J> + Send + Sync,
     S: BlockStore<J::Block, RunLabel<J, K>> + Send + Sync,
+    Z: Sink<J::Block, RunLabel<J, K>> + Drop,
     requires named { K.job ≡ Some job.now }
     requires parts { (rows.workers.parts ≡ rows.scheduler.parts) × (rows.clients.parts ≡ rows.scheduler.parts) }
     requires scheduler { AreMade (λ k s. IsFirstScheduler (J.graph job.now) plan.now s.history.book.core) 1
@@ -210,26 +218,44 @@ where
     requires client { AreMade (λ k s. IsFirstClient (J.graph job.now) s.book.core.id (client_facts s.book.core.core)) 1
         (map (λ p. berth_of p.seat) rows.clients.passes.items) }
     ensures scheduler { All (λ s. IsSchedulersBook (run_facts J.graph J.operation J.key_dims J.block_dims K.told K.job) (J.graph job.now) plan.now
-        s.history.book) result.scheduler.items }
-    ensures workers { (k : ℕ) (w : _) → k < vec_len result.workers
+        s.history.book) result.0.scheduler.items }
+    ensures workers { (k : ℕ) (w : _) → k < vec_len result.0.workers
         → IsWorkersBook (run_facts J.graph J.operation J.key_dims J.block_dims K.told K.job) (J.graph job.now) plan.now.threads (k + 1)
-        (λ c. worker_facts c.core) (slice_index_or result.workers.items k w).history.book }
+        (λ c. worker_facts c.core) (slice_index_or result.0.workers.items k w).history.book }
     ensures clients { All (λ c. IsClientsBook (run_facts J.graph J.operation J.key_dims J.block_dims K.told K.job) (J.graph job.now)
-        (λ c. client_facts c.core) c.book) result.clients.items }
+        (λ c. client_facts c.core) c.book) result.0.clients.items }
+    ensures leads { Z.leads sink result.1 }
 {
-    let room = waiting_room(rt).ok();
-    let running = Running::<J, G, K>::new(alloc, job, gate, wanted, room.as_ref());
-    run_nodes(rt, alloc, plan, rows, stamps, &running)
+    let room = Solo::new(rt, Doorbell::parking()).ok();
+    let running = Running::<J, G, K>::new(alloc, job, gate, wanted);
+    let mut waiter = Waiter {
+        alloc,
+        keys: job.shape().keys(),
+        wanted: wanted.as_slice(),
+        room: room.as_ref(),
+        sink: Some(sink),
+    };
+    let closed = run_nodes(rt, alloc, plan, rows, stamps, &running, &mut waiter);
+    let Waiter {
+        alloc: _,
+        keys: _,
+        wanted: _,
+        room: _,
+        sink,
+    } = waiter;
+    let Some(sink) = sink else { unreachable!() };
+    (closed, sink)
 }
 
-/// Runs nodes by threads to the end, which go by whatever gives their turns.
-fn run_nodes<R, B, L, F, S, X>(
+/// Runs nodes by threads to the end, which go by whatever gives their turns, and by a waiter.
+fn run_nodes<R, B, L, F, S, X, T>(
     rt: &R,
     alloc: Global,
     plan: &RunPlan,
     rows: Rows<L, SchedulerNode<B, L>, WorkerNode<B, L, F, S>, ClientNode<B, L>>,
     stamps: Stamps,
     turns: &X,
+    waiter: &mut T,
 ) -> Closed<SchedulerNode<B, L>, WorkerNode<B, L, F, S>, ClientNode<B, L>>
 where
     R: Threads + Wait + Sync,
@@ -241,6 +267,7 @@ where
         + Works<WorkerNode<B, L, F, S>, L>
         + Attends<ClientNode<B, L>, L>
         + Sync,
+    T: Waits<X::Sight>,
     requires parts { (rows.workers.parts ≡ rows.scheduler.parts) × (rows.clients.parts ≡ rows.scheduler.parts) }
     ensures scheduler { (graph : Shape) → AreMade (λ k s. IsFirstScheduler graph plan.now s.history.book.core) 1
         (map (λ p. berth_of p.seat) rows.scheduler.passes.items) → All (λ s. IsSchedulersBook L.facts graph plan.now s.history.book) result.scheduler.items }
@@ -250,6 +277,7 @@ where
         → IsWorkersBook L.facts graph plan.now.threads (k + 1) (λ c. worker_facts c.core) (slice_index_or result.workers.items k w).history.book }
     ensures clients { (graph : Shape) → AreMade (λ k s. IsFirstClient graph s.book.core.id (client_facts s.book.core.core)) 1
         (map (λ p. berth_of p.seat) rows.clients.passes.items) → All (λ c. IsClientsBook L.facts graph (λ c. client_facts c.core) c.book) result.clients.items }
+    ensures waited { T.leads waiter.old waiter.new }
 {
     let manner = Manner {
         turns: TURNS,
@@ -262,30 +290,32 @@ where
         clients,
     } = rows;
     run_cells(
-        rt, alloc, scheduler, workers, clients, stamps, manner, turns,
+        rt, alloc, scheduler, workers, clients, stamps, manner, turns, waiter,
     )
 }
 
 /// How a run ended, as its closed nodes tell, and whether no worker is left and none left for want of memory.
-fn end_rows<B: Drop, L: Label<Block = B>, F: Drop, S: BlockStore<B, L>>(
+fn end_rows<B: Drop, L: Label<Block = B>, F: Drop, S: BlockStore<B, L>, Z: Sink<B, L>>(
     alloc: Global,
     graph: &GraphShape,
     plan: &RunPlan,
     wanted: &KeyList,
     closed: Closed<SchedulerNode<B, L>, WorkerNode<B, L, F, S>, ClientNode<B, L>>,
-) -> (Ends<B, L, F, S>, bool)
+    sink: &mut Z,
+) -> (Ends<F, S>, bool)
     requires scheduler { All (λ s. IsSchedulersBook L.facts graph.now plan.now s.history.book) closed.scheduler.items }
     requires workers { (k : ℕ) (w : _) → k < vec_len closed.workers
         → IsWorkersBook L.facts graph.now plan.now.threads (k + 1) (λ c. worker_facts c.core) (slice_index_or closed.workers.items k w).history.book }
     requires clients { All (λ c. IsClientsBook L.facts graph.now (λ c. client_facts c.core) c.book) closed.clients.items }
-    ensures blocks { IfOk result.0.result (λ blocks. map (λ k. k.key) blocks.items ≡ wanted.now) }
+    ensures had { IfOk result.0.result (λ _. All (λ k. Z.had sink.new k ≡ true) wanted.now) }
+    ensures leads { Z.leads sink.old sink.new }
     ensures ended { IfSome result.0.histories (λ h. (last : LastFacts) × HasRun L.facts graph.now plan.now wanted.now ⊥ last result.0.result result.0.left.items h
         × (result.1 ≡ true → IsGivenUp last.scheduler result.0.left.items)) }
     ensures none { result.0.histories ≡ None → HasNotRun result.0.result result.0.left.items }
 {
     match one_of_each(closed) {
         Ok((scheduler, workers, client)) => end_nodes(
-            alloc, graph, plan, wanted, scheduler, workers, client,
+            alloc, graph, plan, wanted, scheduler, workers, client, sink,
         ),
         Err(workers) => {
             let (_, feeds, stores) = take_apart(alloc, workers);
@@ -324,8 +354,8 @@ fn with_reads<J: JobSpec, K: RunName<J>, S: Drop>(
     job: &J,
     short: bool,
     given_up: bool,
-    ends: Ends<J::Block, RunLabel<J, K>, Fed<J, K>, S>,
-) -> Ends<J::Block, RunLabel<J, K>, Fed<J, K>, S>
+    ends: Ends<Fed<J, K>, S>,
+) -> Ends<Fed<J, K>, S>
     ensures same { (result.histories ≡ ends.histories) × (result.left ≡ ends.left) × (result.feeds ≡ ends.feeds) }
     ensures none { ends.histories ≡ None → result.result ≡ ends.result }
     ensures changed { (result.result ≡ ends.result)
@@ -336,10 +366,7 @@ fn with_reads<J: JobSpec, K: RunName<J>, S: Drop>(
 }
 
 /// The same with a read fault in the place of want of memory, where a feed failed and the run can be told of.
-fn with_read<B: Drop, L: Label<Block = B>, F: Drop, S: Drop>(
-    failed: bool,
-    ends: Ends<B, L, F, S>,
-) -> Ends<B, L, F, S>
+fn with_read<F: Drop, S: Drop>(failed: bool, ends: Ends<F, S>) -> Ends<F, S>
     ensures same { (result.histories ≡ ends.histories) × (result.left ≡ ends.left) × (result.feeds ≡ ends.feeds) }
     ensures none { ends.histories ≡ None → result.result ≡ ends.result }
     ensures changed { (result.result ≡ ends.result) ⊎ ((result.result ≡ Err status.Read) × (failed ≡ true)) }

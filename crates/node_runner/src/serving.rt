@@ -2,9 +2,9 @@
 
 use crate::label::{Fed, RunLabel, RunName};
 use crate::tasks::{Lent, Returned, Running, run_lent};
-use crate::watching::{Waiting, Watch};
+use crate::watching::Watch;
 use cluster_msgs::JobSpec;
-use driver_rows::{Attends, ClientNews, Drives, SchedulerNews, Schedules, WorkerNews, Works};
+use driver_rows::{Attends, ClientNews, SchedulerNews, Schedules, WorkerNews, Works};
 use io_edge::Gate;
 use node_states::{
     BlockStore, ClientNode, ClientTurn, Course, SchedulerNode, SchedulerTurn, TaskEnd, Why,
@@ -140,26 +140,27 @@ impl<'a, J: JobSpec, G: Gate, K: RunName<J>> Attends<
     ClientNode<J::Block, RunLabel<J, K>>,
     RunLabel<J, K>,
 > for Running<'a, J, G, K> {
-    type Sight = Watch<J::Block>;
+    type Sight = Watch<J::Block, RunLabel<J, K>>;
 
-    fn blind(&self) -> Watch<J::Block> {
+    fn blind(&self) -> Watch<J::Block, RunLabel<J, K>> {
         Watch::blind(self.alloc)
     }
 
-    fn shut(&self, _sight: Watch<J::Block>) {}
+    fn shut(&self, _sight: Watch<J::Block, RunLabel<J, K>>) {}
 
+    /// A look at what came in earlier turns, and then a turn.
     fn attend<R: Wait>(
         &self,
         rt: &R,
         state: &mut ClientNode<J::Block, RunLabel<J, K>>,
         stamps: &mut Stamps,
         ended: &[bool],
-        sight: &mut Watch<J::Block>,
+        sight: &mut Watch<J::Block, RunLabel<J, K>>,
     ) -> ClientNews {
+        let taken = sight.look(state, self.wanted.as_slice());
         if state.is_done() {
-            sight.look(state, self.wanted.as_slice());
             return ClientNews {
-                moved: false,
+                moved: taken,
                 served: true,
                 over: false,
             };
@@ -170,22 +171,10 @@ impl<'a, J: JobSpec, G: Gate, K: RunName<J>> Attends<
             dead: ended,
         };
         let moved = turn.act(state);
-        sight.look(state, self.wanted.as_slice());
         ClientNews {
-            moved,
-            served: state.is_done(),
+            moved: moved || taken,
+            served: false,
             over: state.stopped().is_some(),
         }
-    }
-
-    /// The driver runs a future over the wanted keys, where there is a room and memory for it.
-    fn wait<R: Wait, D: Drives<Watch<J::Block>>>(&self, rt: &R, driver: &mut D) {
-        let Some(room) = self.room else {
-            return;
-        };
-        let Ok(watch) = Watch::new(self.alloc, self.job.shape().keys()) else {
-            return;
-        };
-        Waiting::new(driver, watch).wait(rt, self.alloc, room, self.wanted);
     }
 }

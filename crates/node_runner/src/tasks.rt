@@ -8,7 +8,6 @@ ghost use Rattle.node_links.specs.Fits.{ParcelFits};
 
 use crate::label::{Fed, RunLabel, RunName};
 use cluster_msgs::{JobSpec, KeyList, Label, Outcome, RunFail};
-use futures::task::Queue;
 use io_edge::{Gate, Point};
 use node_links::Keyed;
 use node_states::{Fault, Finished, Task};
@@ -16,14 +15,13 @@ use std::alloc::{AllocError, Global};
 use std::marker::PhantomData;
 use std::sync::Arc;
 
-/// What the drivers of a run go by: the job, who is told of each task, the keys that the client wants, and the room in which a driver waits for them.
+/// What the drivers of a run go by: the job, who is told of each task, and the keys that the client wants.
 #[derive(Drop)]
 pub struct Running<'a, J: JobSpec, G: Gate, K: RunName<J>> {
     pub alloc: Global,
     pub job: &'a J,
     gate: &'a G,
     pub wanted: &'a KeyList,
-    pub room: Option<&'a Queue>,
     of: PhantomData<K>,
     ghost named: { K.job ≡ Some job.now },
 }
@@ -44,13 +42,7 @@ pub struct Returned<B: Drop, L: Label<Block = B>, F: Drop> {
 
 impl<'a, J: JobSpec, G: Gate, K: RunName<J>> Running<'a, J, G, K> {
     /// What the drivers of a run of this job go by.
-    pub fn new(
-        alloc: Global,
-        job: &'a J,
-        gate: &'a G,
-        wanted: &'a KeyList,
-        room: Option<&'a Queue>,
-    ) -> Self
+    pub fn new(alloc: Global, job: &'a J, gate: &'a G, wanted: &'a KeyList) -> Self
         requires { K.job ≡ Some job.now }
     {
         Running {
@@ -58,7 +50,6 @@ impl<'a, J: JobSpec, G: Gate, K: RunName<J>> Running<'a, J, G, K> {
             job,
             gate,
             wanted,
-            room,
             of: PhantomData,
         }
     }

@@ -31,13 +31,14 @@ struct Choice<B: Drop, L: Label<Block = B>> {
     brought: Vec<Keyed<B, L>>,
 }
 
-/// A client with its history, the blocks that it got, and its links. It wants its keys once, then takes what comes, asks workers for blocks, and
-/// gives up asks to workers that have ended.
+/// A client with its history, the blocks that came and weren't taken over yet, and its links. It wants its keys once, then takes what comes, asks
+/// workers for blocks, and gives up asks to workers that have ended. It asks for nothing while an answer is awaited or a block that came is still here,
+/// so that no more blocks than one answer has are ever under way to it.
 #[derive(Drop)]
 pub struct ClientNode<B: Drop, L: Label<Block = B>> {
     alloc: Global,
     pub book: Book<GatheringCore<L>>,
-    blocks: GotBlocks<B, L>,
+    came: Vec<Keyed<B, L>>,
     wanted: KeyList,
     asked: bool,
     links: ClientLinks<B, L>,
@@ -53,7 +54,6 @@ impl<B: Drop, L: Label<Block = B>> ClientNode<B, L> {
         alloc: Global,
         core: GatheringCore<L>,
         limit: u64,
-        keys: u32,
         wanted: KeyList,
         scheduler: Port<B, L>,
         workers: Vec<Port<B, L>>,
@@ -61,14 +61,13 @@ impl<B: Drop, L: Label<Block = B>> ClientNode<B, L> {
         ensures core { IfOk result (λ node. node.book.core ≡ core) }
         ensures entries { IfOk result (λ node. (node.book.entries ≡ []) × (node.book.cut ≡ false)) }
     {
-        let blocks = GotBlocks::new(alloc, keys)?;
         let Ok(book) = Book::new(alloc, core, limit) else {
             return Err(AllocError);
         };
         Ok(ClientNode {
             alloc,
             book,
-            blocks,
+            came: Vec::new(alloc),
             wanted,
             asked: false,
             links: ClientLinks::new(alloc, scheduler, workers),
@@ -91,11 +90,27 @@ impl<B: Drop, L: Label<Block = B>> ClientNode<B, L> {
         core.core.done(key)
     }
 
-    /// The block of a key that was got.
-    pub fn block(&self, key: u32) -> Option<&Keyed<B, L>>
-        ensures { IfSome result (λ keyed. keyed.now.key ≡ key) }
+    /// A block that came, for whoever it is there for: it isn't here any more then.
+    pub fn hand_over(&mut self) -> Option<Keyed<B, L>>
+        ensures { self.new.book ≡ self.old.book }
     {
-        self.blocks.find(key)
+        self.came.pop()
+    }
+
+    /// The history, and the blocks that came and are still here.
+    pub fn into_parts(self) -> (Book<GatheringCore<L>>, Vec<Keyed<B, L>>)
+        ensures { result.0 ≡ self.book }
+    {
+        (self.book, self.came)
+    }
+
+    /// Goes on no more, as for want of memory.
+    pub fn give_up(&mut self)
+        ensures { self.new.book ≡ self.old.book }
+    {
+        if self.stopped.is_none() {
+            self.stopped = Some(Stop::Memory);
+        }
     }
 
     /// The failure of a key, if it failed, with a blame that fits the label.
@@ -203,18 +218,29 @@ impl<B: Drop, L: Label<Block = B>> ClientNode<B, L> {
         ensures { IfSome result (λ c. ClientSays self.now.book.core.id (client_facts self.now.book.core.core) c.event c.message c.said) }
     {
         let core = self.book.core()?;
+        let may_ask = self.came.is_empty() && !self.is_asking(&core.core);
         for at in 0..self.links.workers() {
             let peer = number(at);
-            if core.core.would_ask(peer) {
+            if may_ask && core.core.would_ask(peer) {
                 return Some(self.ask_of(core.id, peer));
             }
             if is_dead(dead, peer) {
                 if let Some(ask) = core.core.ask_number(peer) {
-                    return Some(self.give_up(core.id, peer, ask));
+                    return Some(self.fail_ask(core.id, peer, ask));
                 }
             }
         }
         None
+    }
+
+    /// Whether an answer is awaited.
+    fn is_asking(&self, core: &ClientCore) -> bool {
+        for at in 0..self.links.workers() {
+            if core.ask_number(number(at)).is_some() {
+                return true;
+            }
+        }
+        false
     }
 
     fn ask_of(&self, id: u32, peer: u32) -> Choice<B, L>
@@ -231,7 +257,7 @@ impl<B: Drop, L: Label<Block = B>> ClientNode<B, L> {
         }
     }
 
-    fn give_up(&self, id: u32, peer: u32, ask: u64) -> Choice<B, L>
+    fn fail_ask(&self, id: u32, peer: u32, ask: u64) -> Choice<B, L>
         ensures event { result.event ≡ event.FailGather (Client id) peer }
         ensures message { result.message ≡ None }
         ensures said { result.said ≡ Some (client.GatherFailed peer ask) }
@@ -321,9 +347,26 @@ impl<B: Drop, L: Label<Block = B>> ClientNode<B, L> {
         } = choice;
         let mut out = ClientOut::new(self.alloc);
         self.book.record(stamps, event, message, said, &mut out)?;
-        self.blocks.keep(self.book.core(), brought);
+        keep(self.book.core(), brought, &mut self.came)?;
         self.links.post(rt, out)
     }
+}
+
+/// Keeps what came of those keys that the core counts as got.
+fn keep<B: Drop, L: Label<Block = B>>(
+    core: Option<&GatheringCore<L>>,
+    brought: Vec<Keyed<B, L>>,
+    came: &mut Vec<Keyed<B, L>>,
+) -> Result<(), AllocError> {
+    let Some(core) = core else {
+        return Ok(());
+    };
+    for keyed in brought {
+        if core.core.has_got(keyed.key()) {
+            came.push(keyed)?;
+        }
+    }
+    Ok(())
 }
 
 /// Whether each of these keys is got, or one of them failed.
@@ -338,58 +381,12 @@ fn all_end(core: &ClientCore, keys: &[u32]) -> bool {
     true
 }
 
-/// The blocks that a client got, by key.
-#[derive(Drop)]
-struct GotBlocks<B: Drop, L: Label<Block = B>> {
-    got: Vec<Option<Keyed<B, L>>>,
-}
-
-impl<B: Drop, L: Label<Block = B>> GotBlocks<B, L> {
-    fn new(alloc: Global, keys: u32) -> Result<Self, AllocError> {
-        let mut got = Vec::with_capacity(alloc, keys as usize)?;
-        for _ in 0..keys {
-            got.push(None)?;
-        }
-        Ok(GotBlocks { got })
-    }
-
-    fn find(&self, key: u32) -> Option<&Keyed<B, L>>
-        ensures { IfSome result (λ keyed. keyed.now.key ≡ key) }
-    {
-        let at = key as usize;
-        if at >= self.got.len() {
-            return None;
-        }
-        match &self.got[at] {
-            Some(keyed) => if keyed.key() == key {
-                Some(keyed)
-            } else {
-                None
-            },
-            None => None,
-        }
-    }
-
-    /// Keeps what came of those keys that the core counts as got.
-    fn keep(&mut self, core: Option<&GatheringCore<L>>, brought: Vec<Keyed<B, L>>) {
-        let Some(core) = core else {
-            return;
-        };
-        for keyed in brought {
-            let at = keyed.key() as usize;
-            if at < self.got.len() && core.core.has_got(keyed.key()) && self.got[at].is_none() {
-                self.got[at] = Some(keyed);
-            }
-        }
-    }
-}
-
 impl<B: Drop, L: Label<Block = B>> Kept for ClientNode<B, L> {
     type Block = B;
 
     type Core = GatheringCore<L>;
 
-    ghost use Rattle.std.specs.Prelude.{◌≡◌, false, All, IfSome};
+    ghost use Rattle.std.specs.Prelude.{◌≡◌, false, All};
     ghost use Rattle.std.specs.Arc.{arc_value};
     ghost use Rattle.cluster_msgs.specs.Labels.{BlockFits};
     ghost use Rattle.gather_client.specs.CoreState.{client_facts};
@@ -405,7 +402,7 @@ impl<B: Drop, L: Label<Block = B>> Kept for ClientNode<B, L> {
     ghost steps = { Steps ⟦<GatheringCore<L> as Machine>⟧.says ⟦<GatheringCore<L> as Machine>⟧.by };
 
     ghost fits = { λ f s. ClientFits f (client_facts s.book.core.core)
-        × All (λ o. IfSome o (λ x. BlockFits f x.key (arc_value x.block))) s.blocks.got.items };
+        × All (λ x. BlockFits f x.key (arc_value x.block)) s.came.items };
 
     fn count(&self) -> u64 {
         self.book.stored()

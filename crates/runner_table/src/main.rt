@@ -13,6 +13,7 @@ mod journal;
 mod messages;
 mod name;
 mod play;
+mod results;
 mod sums;
 
 use std::alloc::{AllocGlobal, Global};

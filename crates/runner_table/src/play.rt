@@ -1,15 +1,15 @@
 //! Runs what a line asks for, and prints how it ended.
-ghost use Rattle.std.specs.Prelude.{◌≡◌, Some, true, All, IfOk};
+ghost use Rattle.std.specs.Prelude.{◌≡◌, Some, true, All, IfOk, IfSome};
 ghost use Rattle.runner_table.specs.Sums.{sum_of};
 
 use crate::asked::Asked;
 use crate::gates::{Meeting, Slow};
 use crate::journal;
 use crate::name::{Named, Picks};
+use crate::results::Results;
 use crate::sums::{Reader, Sums, graph};
-use cluster_msgs::RunFail;
+use cluster_msgs::{KeyList, RunFail};
 use io_edge::Gate;
-use node_links::Keyed;
 use node_runner::{Ends, Fed, Histories, RunLabel, RunName, RunStatus, run_cluster};
 use node_states::{Blocks, Why};
 use std::alloc::{AllocError, AllocGlobal, Global};
@@ -101,7 +101,15 @@ where
     wanted.push(job.shape.keys().saturating_sub(1))?;
     let feeds = feeds::<Named<P>>(alloc, asked)?;
     let stores = stores::<Named<P>>(alloc, asked.plan.numbers(), job.shape.keys())?;
-    let ends = run_cluster::<R, Sums, G, Named<P>, Store<Named<P>>>(
+    let results = Results::<RunLabel<Sums, Named<P>>>::new(alloc, job.shape.keys())?;
+    let (ends, results) = run_cluster::<
+        R,
+        Sums,
+        G,
+        Named<P>,
+        Store<Named<P>>,
+        Results<RunLabel<Sums, Named<P>>>,
+    >(
         rt,
         alloc,
         job,
@@ -110,8 +118,9 @@ where
         &wanted,
         feeds,
         stores,
+        results,
     );
-    told_of(alloc, job, ends)
+    told_of(alloc, job, &wanted, ends, &results)
 }
 
 /// The feeds of each worker that may come.
@@ -177,7 +186,9 @@ fn feeds_of<K: RunName<Sums>>(
 fn told_of<K: RunName<Sums>>(
     alloc: Global,
     job: &Sums,
-    ends: Ends<u64, RunLabel<Sums, K>, Fed<Sums, K>, Store<K>>,
+    wanted: &KeyList,
+    ends: Ends<Fed<Sums, K>, Store<K>>,
+    results: &Results<RunLabel<Sums, K>>,
 ) -> Result<Told, AllocError>
     requires named { K.job ≡ Some job.now }
     requires told { K.told ≡ true }
@@ -191,7 +202,7 @@ fn told_of<K: RunName<Sums>>(
         stores: _,
     } = ends;
     let worths = match result {
-        Ok(blocks) => Ok(worths(alloc, job, blocks.as_slice())?),
+        Ok(()) => Ok(worths(alloc, job, wanted.as_slice(), results)?),
         Err(status) => Err(status),
     };
     Ok(Told {
@@ -204,27 +215,34 @@ fn told_of<K: RunName<Sums>>(
 fn worths<K: RunName<Sums>>(
     alloc: Global,
     job: &Sums,
-    blocks: &[Keyed<u64, RunLabel<Sums, K>>],
+    wanted: &[u32],
+    results: &Results<RunLabel<Sums, K>>,
 ) -> Result<Vec<Worth>, AllocError>
     requires named { K.job ≡ Some job.now }
     requires told { K.told ≡ true }
     ensures { IfOk result (λ ws. All (λ w. sum_of job.now.shape job.now.zero w.key ≡ Some w.value) ws.items) }
 {
     let mut worths = Vec::new(alloc);
-    for keyed in blocks {
-        worths.push(worth_of(job, keyed))?;
+    for key in wanted {
+        if let Some(worth) = worth_of(job, *key, results) {
+            worths.push(worth)?;
+        }
     }
     Ok(worths)
 }
 
-fn worth_of<K: RunName<Sums>>(_job: &Sums, keyed: &Keyed<u64, RunLabel<Sums, K>>) -> Worth
+fn worth_of<K: RunName<Sums>>(
+    _job: &Sums,
+    key: u32,
+    results: &Results<RunLabel<Sums, K>>,
+) -> Option<Worth>
     requires named { K.job ≡ Some _job.now }
     requires told { K.told ≡ true }
-    ensures { sum_of _job.now.shape _job.now.zero result.key ≡ Some result.value }
+    ensures { IfSome result (λ w. sum_of _job.now.shape _job.now.zero w.key ≡ Some w.value) }
 {
-    Worth {
-        key: keyed.key(),
-        value: **keyed.block(),
+    match results.value(key) {
+        Some(value) => Some(Worth { key, value }),
+        None => None,
     }
 }
 

@@ -4,7 +4,7 @@ use Rattle.std.specs.Prelude.{All, FitsSigned, IfSome, IsTrue, nat_eq}
 use Rattle.std.specs.Int.{w64}
 use Rattle.std.specs.Map.{lookup}
 use Rattle.std.proofs.lemmas.Bool.{eqb-true}
-use Rattle.sha2.specs.Sha256.{sha256}
+use Rattle.sha2.specs.Sha512.{sha512_256}
 use Rattle.nd_shape.specs.Block.{Array}
 use Rattle.io_edge.specs.Disk.{DiskView, Copies, HoldsAt, KeepsAll, KeepsOthers, ReadsAt}
 use Rattle.spill_store.specs.Table.{ChangesAt}
@@ -85,7 +85,7 @@ comes_back v a b has bytes whole of shape made full told =
     let fits = full.fits in
     let same : block_bytes b ≡ block_bytes a → b ≡ a = λ e. equal_arrays a b shape (same_cells b.cells a.cells fits whole.fits e) in
     record {
-      alike = record { shape = shape; digest = ap sha256 made ∙ of.digest; same = same; whole = full };
+      alike = record { shape = shape; digest = ap sha512_256 made ∙ of.digest; same = same; whole = full };
       told = λ t. same (made ∙ told.bytes_are t);
     }
 
@@ -98,4 +98,4 @@ loses_by v w a has bytes Fault long told d = absurd d
 loses_by v w a has bytes (Length given needs) long told d =
     (d.1, not_told v.tells (λ t. d.1.differ (d.0 ∙ told.count t ∙ long ∙ sym d.1.needs_are)))
 loses_by v w a has bytes (Digest kept found) long told d =
-    ((bytes, d.1), not_told v.tells (λ t. d.1.differ (d.1.kept_is ∙ ap sha256 (sym (told.bytes_are t)) ∙ sym d.1.found_is)))
+    ((bytes, d.1), not_told v.tells (λ t. d.1.differ (d.1.kept_is ∙ ap sha512_256 (sym (told.bytes_are t)) ∙ sym d.1.found_is)))

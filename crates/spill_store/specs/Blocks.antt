@@ -2,7 +2,7 @@
 use Rattle.std.specs.Prelude.{◌≡◌, ◌≢◌, ◌*◌, ℕ, ℤ, List, length, All, FitsSigned}
 use Rattle.std.specs.Int.{w64, cast_unsigned, to_le_bytes}
 use Rattle.std.specs.List.{flat_map}
-use Rattle.sha2.specs.Sha256.{sha256}
+use Rattle.sha2.specs.Sha512.{sha512_256}
 use Rattle.nd_shape.specs.Block.{Array}
 use Rattle.nd_shape.specs.Shape.{elements}
 use Rattle.spill_store.specs.declared.lost.LostBy.{LostBy}
@@ -29,14 +29,14 @@ pub record IsBlock (a : Array) : Type 0 where
 -- bytes are those of a, it is a.
 pub record IsAlike (a b : Array) : Type 0 where
   pub shape : b.shape ≡ a.shape
-  pub digest : sha256 (block_bytes b) ≡ sha256 (block_bytes a)
+  pub digest : sha512_256 (block_bytes b) ≡ sha512_256 (block_bytes a)
   pub same : block_bytes b ≡ block_bytes a → b ≡ a
   pub whole : IsBlock b
 
 -- so many bytes are this block's, as far as their number and their digest tell
 pub record IsOf (a : Array) (has : ℕ) (bytes : List ℕ) : Type 0 where
   pub count : has ≡ length bytes
-  pub digest : sha256 bytes ≡ sha256 (block_bytes a)
+  pub digest : sha512_256 bytes ≡ sha512_256 (block_bytes a)
 
 -- a disk has so many bytes, and the block needs another number
 pub record DiffersByLength (a : Array) (has needs : ℕ) : Type 0 where
@@ -46,8 +46,8 @@ pub record DiffersByLength (a : Array) (has needs : ℕ) : Type 0 where
 -- as many bytes as the block's have another digest
 pub record DiffersByDigest (a : Array) (bytes kept found : List ℕ) : Type 0 where
   pub count : length bytes ≡ size_of_block a
-  pub kept_is : kept ≡ sha256 (block_bytes a)
-  pub found_is : found ≡ sha256 bytes
+  pub kept_is : kept ≡ sha512_256 (block_bytes a)
+  pub found_is : found ≡ sha512_256 bytes
   pub differ : kept ≢ found
 
 -- Why so many bytes aren't this block's: a disk has another number of them, or their digest is another.
@@ -59,4 +59,4 @@ DiffersIn a has bytes (Digest kept found) = (has ≡ length bytes) × DiffersByD
 -- what is kept in memory of a block on the disk
 pub record IsKeptOf (digest : List ℕ) (a : Array) : Type 0 where
   pub whole : IsBlock a
-  pub digest_is : digest ≡ sha256 (block_bytes a)
+  pub digest_is : digest ≡ sha512_256 (block_bytes a)

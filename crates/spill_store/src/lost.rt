@@ -10,7 +10,7 @@ pub enum LostBy {
     Fault,
     /// The disk gave another number of bytes than the block has.
     Length { has: u64, needs: u64 },
-    /// The disk gave as many bytes, whose digest isn't the block's. The digests are those of SHA-256.
+    /// The disk gave as many bytes, whose digest isn't the block's. The digests are those of SHA-512/256.
     Digest { kept: [u8; 32], found: [u8; 32] },
 }
 

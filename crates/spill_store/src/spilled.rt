@@ -8,7 +8,7 @@ use crate::block_bytes::cells_of;
 use crate::lost::LostBy;
 use crate::was::Was;
 use nd_shape::{Block, Shape};
-use sha2::{Digest, Sha256};
+use sha2::{Digest, Sha512_256};
 use std::alloc::{AllocError, Global};
 use std::marker::Model;
 
@@ -41,7 +41,7 @@ impl Spilled {
         let shape = block.shape().copy(alloc)?;
         Ok(Spilled {
             shape,
-            digest: Sha256::digest(bytes),
+            digest: Sha512_256::digest(bytes),
             was: Was::new(block.cells()),
         })
     }
@@ -90,7 +90,7 @@ impl Spilled {
                 needs: bytes.len() as u64,
             });
         }
-        let found = Sha256::digest(bytes);
+        let found = Sha512_256::digest(bytes);
         if found.as_slice() == self.digest.as_slice() {
             return None;
         }

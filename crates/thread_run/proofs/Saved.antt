@@ -5,12 +5,11 @@ use Rattle.std.proofs.lemmas.Grind.{get_or_default_zero}
 use Rattle.std.proofs.lemmas.List.{length-map}
 use Rattle.io_edge.specs.View.{Files, raised_by}
 use Rattle.nd_shape.specs.Block.{Array}
-use Rattle.block_kernels.specs.Kernels.{result_shape}
 use Rattle.block_lowering.specs.Jobs.{Job, dims_of, graph_of, made_by}
-use Rattle.cluster_msgs.specs.Labels.{LabelFacts, label_of}
+use Rattle.cluster_msgs.specs.Labels.{LabelFacts}
 use Rattle.cluster_msgs.specs.Shape.{Shape, key_count}
 use Rattle.task_graph.specs.declared.graph.Task.{Task}
-use Rattle.task_graph.specs.Graphs.{operation, shape_of, task_at, value}
+use Rattle.task_graph.specs.Graphs.{shape_of, value}
 use Rattle.lowering_laws.specs.Lowered.{lowered}
 use Rattle.lowering_laws.specs.Whole.{saved_key}
 use Rattle.saved_files.specs.Saving.{IsLeft}

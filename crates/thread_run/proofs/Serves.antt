@@ -1,6 +1,7 @@
 -- What a run of a graph leaves: its feeds opened and given back, and then its client's blocks saved.
 use Rattle.std.proofs.Common.{◌≡◌, ℕ, ◌≤◌, Bool, List, refl, ap, sym, ◌∙◌, subst, arith, Option, Some, None, Result, Ok, Err, inl, inr}
-use Rattle.std.specs.Prelude.{◌⊎◌, Contains, IfErr, IfOk, IfSome, IsTrue}
+use Rattle.std.specs.Prelude.{◌⊎◌, Contains, IfErr, IfOk, IfSome, IsOk, IsTrue}
+use Rattle.std.proofs.lemmas.Bool.{false≢true}
 use Rattle.io_edge.specs.Cause.{Rose}
 use Rattle.io_edge.proofs.GivenLaws.{more_same, more_then}
 use Rattle.io_edge.specs.View.{View, Files, OnlyReads, raised_by}
@@ -69,14 +70,20 @@ told-of-run l m g h plan keys wanted hs (Some r) same over all run report =
     let R : LabelFacts Array × Shape × List ℕ → Type 0 = λ x. IsReportOfRun x.0 x.1 plan x.2 r in
     subst R (λ i. (same i, over i, all i)) (record { histories = hs; run = run; report = report })
 
--- where what a run gave and its histories are both there
-pub both-ok : {A H E : Type 0} (r : Result A E) (h : Option H) (s : Result (A × H) E) (P : A → Type 0) → IfOk r P → IfOk s (λ x. (r ≡ Ok x.0) × (h ≡ Some x.1)) → IfOk s (λ x. P x.0)
-both-ok r h (Ok x) P p is = subst (λ z. IfOk z P) is.0 p
-both-ok r h (Err e) P p is = tt
+-- what is given beside histories, of a run that ended well
+pub is-given : {A H E : Type 0} (s : Result (A × H) E) (P : A → Type 0) (given : A) → IfOk s (λ x. x.0 ≡ given) → P given → IfOk s (λ x. P x.0)
+is-given (Ok x) P given is p = subst P (sym is) p
+is-given (Err e) P given is p = tt
 
-pub both-served : {A : Type 0} (l : LabelFacts Array) (graph : Shape) (p : RunPlan) (wanted : List ℕ) (Failed : Type 0) (r : Result A RunStatus) (left : List (Option Why)) (h : Option Histories) (s : Result (A × Histories) RunStatus) →
-    HowItEnded l graph p wanted Failed r left h → IfOk s (λ x. (r ≡ Ok x.0) × (h ≡ Some x.1)) → IfOk s (λ x. IsServedRun l graph p wanted x.1)
-both-served l graph p wanted Failed r left h (Ok x) how is = served-run l graph p wanted Failed r left h x.0 x.1 is.0 is.1 how
+pub was-ok : {A B H E F : Type 0} (r : Result B E) (s : Result (A × H) F) (P : A → Type 0) (given : A) (h : Option H) → IfOk r (λ b. P given) → IfOk s (λ x. x.0 ≡ given) → IfOk s (λ x. IsOk r × (h ≡ Some x.1)) → IfOk s (λ x. P x.0)
+was-ok (Ok b) s P given h p is both = is-given s P given is p
+was-ok (Err e) (Ok x) P given h p is both = absurd (false≢true both.0)
+was-ok (Err e) (Err f) P given h p is both = tt
+
+pub both-served : {A B : Type 0} (l : LabelFacts Array) (graph : Shape) (p : RunPlan) (wanted : List ℕ) (Failed : Type 0) (r : Result B RunStatus) (left : List (Option Why)) (h : Option Histories) (s : Result (A × Histories) RunStatus) →
+    HowItEnded l graph p wanted Failed r left h → IfOk s (λ x. IsOk r × (h ≡ Some x.1)) → IfOk s (λ x. IsServedRun l graph p wanted x.1)
+both-served l graph p wanted Failed (Ok b) left h (Ok x) how is = served-run l graph p wanted Failed (Ok b) left h b x.1 refl is.1 how
+both-served l graph p wanted Failed (Err e) left h (Ok x) how is = absurd (false≢true is.0)
 both-served l graph p wanted Failed r left h (Err e) how is = tt
 
 pub why-told : {A C : Type 0} (r : Result A RunStatus) (s : Result C RunStatus) (P : RunStatus → Type 0) → P status.Memory → IfErr r P → IfErr s (λ e. (r ≡ Err e) ⊎ (e ≡ status.Memory)) → IfErr s P

@@ -1,15 +1,14 @@
 -- Blocks at their keys' places.
-use Rattle.std.proofs.Common.{◌≡◌, ◌≢◌, ℕ, zero, suc, ◌<◌, List, [], ◌∷◌, ◌++◌, length, map, get_or, set, refl, ap, sym, ◌∙◌, subst, arith, Option, Some, None, inl, inr, ◌⊎◌}
+use Rattle.std.proofs.Common.{◌≡◌, ◌≢◌, ℕ, zero, suc, ◌<◌, ◌≤◌, nat_le, Bool, true, false, ◌||◌, is_some, List, [], ◌∷◌, ◌++◌, length, get_or, set, refl, ap, sym, ◌∙◌, subst, arith, Option, Some, None, inl, inr, ◌⊎◌}
 use Rattle.std.specs.Prelude.{All, IsSome}
 use Rattle.std.specs.Arc.{arc_value}
 use Rattle.std.specs.Option.{option_map}
 use Rattle.std.specs.declared.sync.Arc.{Arc}
 use Rattle.std.specs.declared.alloc.Global.{Global}
-use Rattle.std.proofs.lemmas.List.{get_or-map, get_or-set_other, get_or-set_same, length-map, length-set, map-set, map_push}
-use Rattle.std.proofs.lemmas.List.Elements.{All-push, All-weaker}
+use Rattle.std.proofs.lemmas.List.{get_or-set_other, get_or-set_same, length-map, length-set, map-set}
 use Rattle.nd_shape.specs.Block.{Array}
 use Rattle.cluster_msgs.specs.Labels.{BlockFits, LabelFacts}
-use Rattle.thread_run.specs.Tables.{AreFit, blocks_in, got_in}
+use Rattle.thread_run.specs.Tables.{AreFit, blocks_in, got_in, has_at}
 
 -- ## Places
 
@@ -66,43 +65,65 @@ put-fits facts table k b lt fit fits = record {
 pub put-blocks : (places : List (Option (Arc Array Global))) (k : ℕ) (b : Arc Array Global) → blocks_in (set places k (Some b)) ≡ set (blocks_in places) k (Some (arc_value b))
 put-blocks places k b = map-set (option_map arc_value) places k (Some b)
 
--- what was there still is
-pub put-keeps : (table : List (Option Array)) (k : ℕ) (b : Array) → k < length table → (j : ℕ) → IsSome (got_in table j) → IsSome (got_in (set table k (Some b)) j)
-put-keeps table k b lt j some = elim (same-or j k) [
-  | inl is ↦ let at : got_in (set table k (Some b)) j ≡ Some b = ap (got_in (set table k (Some b))) is ∙ get_or-set_same table k (Some b) None lt in subst IsSome (sym at) refl
-  | inr not ↦ subst IsSome (sym (get_or-set_other table k j (Some b) None not)) some
-]
+long-blocks : (places : List (Option (Arc Array Global))) → length (blocks_in places) ≡ length places
+long-blocks places = length-map places (option_map arc_value)
 
-pub put-there : (table : List (Option Array)) (k : ℕ) (b : Array) → k < length table → IsSome (got_in (set table k (Some b)) k)
-put-there table k b lt = subst IsSome (sym (get_or-set_same table k (Some b) None lt)) refl
+pub put_stays : (facts : LabelFacts Array) (places : List (Option (Arc Array Global))) (k : ℕ) (b : Arc Array Global) → k < length places → BlockFits facts k (arc_value b) → AreFit facts (blocks_in places) → AreFit facts (blocks_in (set places k (Some b)))
+put_stays facts places k b lt fit fits =
+    subst (AreFit facts) (sym (put-blocks places k b)) (put-fits facts (blocks_in places) k (arc_value b) (omega (arith, lt, long-blocks places)) fit fits)
 
--- the same of the table's view
-pub put-view : (places : List (Option (Arc Array Global))) (old : List (Option Array)) (k at : ℕ) (b c : Arc Array Global) → blocks_in places ≡ old → k ≡ at → b ≡ c → blocks_in (set places k (Some b)) ≡ set old at (Some (arc_value c))
-put-view places old k at b c view key block =
-    let P : ℕ → Arc Array Global → Type 0 = λ j x. blocks_in (set places k (Some b)) ≡ set old j (Some (arc_value x)) in
-    let first : P k b = put-blocks places k b ∙ ap (λ t. set t k (Some (arc_value b))) view in
-    subst (P at) block (subst (λ j. P j b) key first)
+-- as many keys as before
+pub put_long : (places : List (Option (Arc Array Global))) (k : ℕ) (b : Arc Array Global) → length (blocks_in (set places k (Some b))) ≡ length (blocks_in places)
+put_long places k b = ap length (put-blocks places k b) ∙ length-set (blocks_in places) k (Some (arc_value b))
 
-pub put-stays : (facts : LabelFacts Array) (places : List (Option (Arc Array Global))) (old : List (Option Array)) (k at : ℕ) (b : Arc Array Global) → blocks_in places ≡ old → k ≡ at → at < length old → BlockFits facts at (arc_value b) → AreFit facts (blocks_in places) →
-    AreFit facts (blocks_in (set places k (Some b)))
-put-stays facts places old k at b view key lt fit fits =
-    let within : k < length (blocks_in places) = omega (arith, lt, key, ap length view) in
-    subst (AreFit facts) (sym (put-blocks places k b)) (put-fits facts (blocks_in places) k (arc_value b) within (subst (λ j. BlockFits facts j (arc_value b)) (sym key) fit) fits)
+-- ## What was had
 
--- ## Blocks that are put one after another
+either : (a b : Bool) → b ≡ true → a || b ≡ true
+either true b h = refl
+either false b h = h
 
--- what holds of all keys holds of one at its place
-pub one-of : {A : Type 0} (f : A → ℕ) (P : ℕ → Type 0) (xs : List A) (k : ℕ) (x : A) → All P (map f xs) → k < length xs → x ≡ get_or xs k x → P (f x)
-one-of f P xs k x all lt is = subst P (get_or-map f xs k x (f x) lt ∙ ap f (sym is)) (all k (f x) (omega (arith, lt, length-map xs f)))
+second : (a b : Bool) → a ≡ false → a || b ≡ true → b ≡ true
+second true b h g = absurd cc
+second false b h g = g
 
-pub put-all : {A : Type 0} (f : A → ℕ) (xs : List A) (x : A) (old new : List (Option Array)) (b : Array) → f x < length old → new ≡ set old (f x) (Some b) → All (λ k. IsSome (got_in old k)) (map f xs) →
-    All (λ k. IsSome (got_in new k)) (map f (xs ++ x ∷ []))
-put-all f xs x old new b lt is all =
-    let P : List (Option Array) → ℕ → Type 0 = λ t k. IsSome (got_in t k) in
-    let put : List (Option Array) = set old (f x) (Some b) in
-    let kept : All (P put) (map f xs) = All-weaker (P old) (P put) (λ j some. put-keeps old (f x) b lt j some) (map f xs) all in
-    let more : All (P put) (map f xs ++ f x ∷ []) = All-push (P put) (map f xs) (f x) kept (put-there old (f x) b lt) in
-    subst (λ t. All (P t) (map f (xs ++ x ∷ []))) (sym is) (subst (All (P put)) (sym (map_push f xs x)) more)
+first : (a b : Bool) → a ≡ true → a || b ≡ true
+first true b h = refl
+first false b h = absurd cc
 
-pub put-length : (old new : List (Option Array)) (k : ℕ) (b : Array) → new ≡ set old k (Some b) → length new ≡ length old
-put-length old new k b is = ap length is ∙ length-set old k (Some b)
+beyond : (n k : ℕ) → n ≤ k → nat_le n k ≡ true
+beyond n k h = grind arith
+
+within : (n k : ℕ) → k < n → nat_le n k ≡ false
+within n k h = grind arith
+
+-- what was put is had
+pub put_had : (places : List (Option (Arc Array Global))) (k : ℕ) (b : Arc Array Global) → k < length places → has_at (blocks_in (set places k (Some b))) k ≡ true
+put_had places k b lt =
+    let table : List (Option Array) = blocks_in places in
+    let put : List (Option Array) = set table k (Some (arc_value b)) in
+    let there : is_some (got_in put k) ≡ true = ap is_some (get_or-set_same table k (Some (arc_value b)) None (omega (arith, lt, long-blocks places))) in
+    subst (λ t. has_at t k ≡ true) (sym (put-blocks places k b)) (either (nat_le (length put) k) (is_some (got_in put k)) there)
+
+-- what is no key of the table counts as had
+pub past_had : (places : List (Option (Arc Array Global))) (k : ℕ) → length places ≤ k → has_at (blocks_in places) k ≡ true
+past_had places k h = first (nat_le (length (blocks_in places)) k) (is_some (got_in (blocks_in places) k)) (beyond (length (blocks_in places)) k (omega (arith, h, long-blocks places)))
+
+mapped-some : {A B : Type 0} (f : A → B) (o : Option A) → is_some (option_map f o) ≡ is_some o
+mapped-some f None = refl
+mapped-some f (Some x) = refl
+
+or-false : (a b : Bool) → a ≡ false → a || b ≡ b
+or-false true b h = absurd cc
+or-false false b h = refl
+
+-- what is a key is had where its place has a block
+pub has_there : (places : List (Option (Arc Array Global))) (k : ℕ) → k < length places → has_at (blocks_in places) k ≡ is_some (get_or places k None)
+has_there places k lt =
+    or-false (nat_le (length (blocks_in places)) k) (is_some (got_in (blocks_in places) k)) (within (length (blocks_in places)) k (omega (arith, lt, long-blocks places)))
+    ∙ ap is_some (got-map places k) ∙ mapped-some arc_value (get_or places k None)
+
+-- of keys that were had there are blocks
+pub had-there : (table : List (Option Array)) (many : ℕ) (keys : List ℕ) → length table ≡ many → All (λ k. k < many) keys → All (λ k. has_at table k ≡ true) keys → All (λ k. IsSome (got_in table k)) keys
+had-there table many keys long small had i d lt =
+    let k : ℕ = get_or keys i d in
+    second (nat_le (length table) k) (is_some (got_in table k)) (within (length table) k (omega (arith, long, small i d lt))) (had i d lt)

@@ -1,5 +1,5 @@
 //! The run of a job's graph by the cluster, over its open inputs.
-ghost use Rattle.std.specs.Prelude.{◌≡◌, ◌≤◌, ◌<◌, ◌*◌, ◌⊎◌, Ok, Err, length, map, string_bytes, is_some, IfOk, IfErr, IfSome, IsTrue, OnOk, Some};
+ghost use Rattle.std.specs.Prelude.{◌≡◌, ◌≤◌, ◌<◌, ◌*◌, ◌⊎◌, All, Err, length, map, string_bytes, is_some, true, IfOk, IfErr, IfSome, IsOk, IsTrue, OnOk, Some};
 ghost use Rattle.io_edge.specs.Cause.{Rose};
 ghost use Rattle.command_words.specs.Words.{AreRunSettings};
 ghost use Rattle.job_run.specs.Jobs.{plan_of};
@@ -9,6 +9,7 @@ ghost use Rattle.job_run.specs.Plan.{IsRunnable, input_shapes};
 ghost use Rattle.job_run.specs.Values.{tasks_of};
 ghost use Rattle.job_run.specs.Wanted.{IsWantedOf, wanted_of};
 ghost use Rattle.block_lowering.specs.Jobs.{graph_of};
+ghost use Rattle.cluster_msgs.specs.Shape.{key_count};
 ghost use Rattle.node_runner.specs.Runs.{numbers as numbers_of};
 ghost use Rattle.node_runner.specs.declared.ends.RunStatus.TheVariants as status;
 ghost use Rattle.task_graph.specs.Graphs.{shape_of};
@@ -16,12 +17,13 @@ ghost use Rattle.thread_run.specs.Counts.{feeds as feeds_of};
 ghost use Rattle.thread_run.specs.Feeding.{IsFixed, OpensOften};
 ghost use Rattle.thread_run.specs.Planning.{IsRunPlan};
 ghost use Rattle.thread_run.specs.Reports.{IsPlanOf, IsReportBy, IsReportOfRun, IsServedRun, label};
+ghost use Rattle.thread_run.specs.Tables.{has_at};
 ghost use Rattle.thread_run.specs.Serving.{IsWhy, SavesFiles, ServesAll, ServesFiles, ServesPart};
 
 use crate::feeds::{Graphed, give_feeds, open_feeds};
 use crate::name::{Named, Picks};
 use crate::stores::{give_stores, open_stores};
-use crate::table::table_of;
+use crate::table::Table;
 use crate::told::told;
 use crate::veil::Veil;
 use block_lowering::{Elements, JobGraph, Lowered};
@@ -30,8 +32,6 @@ use command_words::RunWords;
 use io_edge::{Gate, OpenFault, Site};
 use job_run::{Ended, Inputs, Job, Wanted, ended_at, joined_keys, laws_hold, save_all};
 use lowering_laws::laws::law_of_form;
-use nd_shape::Block;
-use node_links::Keyed;
 use node_runner::{Ends, Histories, RunLabel, RunPlan, RunStatus, run_cluster};
 use std::alloc::{AllocGlobal, Global};
 use std::marker::Brand;
@@ -48,7 +48,8 @@ type Store<D, I, E, V, P> = SpillingBlocks<D, Marked<I, E, V, P>>;
 /// How many packets a link holds.
 const CAPACITY: usize = 64;
 
-// Runs a graph by the cluster: opens its feeds, and gives them back. The stores of its workers' blocks come back too.
+// Runs a graph by the cluster: opens its feeds, and gives them back. The stores of its workers' blocks come back too, and the table into which the
+// wanted blocks go.
 fn run_feeds<R, S, G, E, V, P>(
     rt: &R,
     alloc: Global,
@@ -59,8 +60,9 @@ fn run_feeds<R, S, G, E, V, P>(
     wanted: &KeyList,
     plan: &RunPlan,
     stores: Vec<Store<S::Spill, S::In, E, V, P>>,
+    table: Table<Marked<S::In, E, V, P>>,
 ) -> (
-    Result<(Vec<Keyed<Block, Marked<S::In, E, V, P>>>, Histories), RunStatus>,
+    Result<(Table<Marked<S::In, E, V, P>>, Histories), RunStatus>,
     Vec<Store<S::Spill, S::In, E, V, P>>,
 )
 where
@@ -74,7 +76,8 @@ where
     requires fixed { IsFixed E.named V.told (map string_bytes names.now) graph.now.job.heads (S.view site.old).files }
     requires plan { IsRunPlan plan.now }
     ensures opens { OpensOften (map string_bytes names.now) (numbers_of plan.now * plan.now.threads) (S.view site.old) (S.view site.new) }
-    ensures blocks { IfOk result.0 (λ r. map (λ q. q.key) r.0.items ≡ wanted.now) }
+    ensures had { IfOk result.0 (λ r. All (λ k. has_at r.0 k ≡ true) wanted.now) }
+    ensures long { IfOk result.0 (λ r. length r.0 ≡ length table) }
     ensures histories { IfOk result.0 (λ r. IsServedRun ⟦<RunLabel<Graphed<S::In, E, V>, Named<V, P>> as Label>⟧.facts
         (graph_of graph.now.job) plan.now wanted.now r.1) }
     ensures why { IfErr result.0 (IsWhy ⟦<RunLabel<Graphed<S::In, E, V>, Named<V, P>> as Label>⟧.facts wanted.now
@@ -84,13 +87,14 @@ where
     else {
         return (Err(RunStatus::Memory), stores);
     };
-    let ends = run_cluster::<
+    let (ends, table) = run_cluster::<
         R,
         Graphed<S::In, E, V>,
         G,
         Named<V, P>,
         Store<S::Spill, S::In, E, V, P>,
-    >(rt, alloc, graph, gate, plan, wanted, feeds, stores);
+        Table<Marked<S::In, E, V, P>>,
+    >(rt, alloc, graph, gate, plan, wanted, feeds, stores, table);
     let Ends {
         result,
         histories,
@@ -99,7 +103,7 @@ where
         ..
     } = ends;
     give_feeds::<S, E, V, P>(site, feeds);
-    (with_histories(result, histories), stores)
+    (with_histories(result, table, histories), stores)
 }
 
 // Runs a graph by the cluster: makes the stores of its workers' blocks, which may have so many bytes in memory each, and gives their
@@ -114,7 +118,7 @@ fn run_stored<R, S, G, E, V, P>(
     wanted: &KeyList,
     plan: &RunPlan,
     memory: u64,
-) -> Result<(Vec<Keyed<Block, Marked<S::In, E, V, P>>>, Histories), RunStatus>
+) -> Result<(Table<Marked<S::In, E, V, P>>, Histories), RunStatus>
 where
     R: Threads + Wait + RandomSource + AllocGlobal + Sync,
     S: Site,
@@ -126,18 +130,22 @@ where
     requires fixed { IsFixed E.named V.told (map string_bytes names.now) graph.now.job.heads (S.view site.old).files }
     requires plan { IsRunPlan plan.now }
     ensures opens { OpensOften (map string_bytes names.now) (numbers_of plan.now * plan.now.threads) (S.view site.old) (S.view site.new) }
-    ensures blocks { IfOk result (λ r. map (λ q. q.key) r.0.items ≡ wanted.now) }
+    ensures had { IfOk result (λ r. All (λ k. has_at r.0 k ≡ true) wanted.now) }
+    ensures long { IfOk result (λ r. length r.0 ≡ key_count (graph_of graph.now.job)) }
     ensures histories { IfOk result (λ r. IsServedRun ⟦<RunLabel<Graphed<S::In, E, V>, Named<V, P>> as Label>⟧.facts
         (graph_of graph.now.job) plan.now wanted.now r.1) }
     ensures why { IfErr result (IsWhy ⟦<RunLabel<Graphed<S::In, E, V>, Named<V, P>> as Label>⟧.facts wanted.now
         (Rose (S.view site.old).read_faults (S.view site.new).read_faults)) }
 {
+    let Ok(table) = Table::<Marked<S::In, E, V, P>>::new(alloc, graph.shape().keys()) else {
+        return Err(RunStatus::Memory);
+    };
     let Ok(stores) = open_stores::<S, Marked<S::In, E, V, P>>(alloc, site, plan.numbers(), memory)
     else {
         return Err(RunStatus::Memory);
     };
     let (served, stores) = run_feeds::<R, S, G, E, V, P>(
-        rt, alloc, site, gate, names, graph, wanted, plan, stores,
+        rt, alloc, site, gate, names, graph, wanted, plan, stores, table,
     );
     give_stores::<S, Marked<S::In, E, V, P>>(site, stores);
     served
@@ -145,15 +153,17 @@ where
 
 // What a run gave, with its histories, where both are there.
 fn with_histories<T: Drop>(
-    given: Result<T, RunStatus>,
+    ended: Result<(), RunStatus>,
+    given: T,
     histories: Option<Histories>,
 ) -> Result<(T, Histories), RunStatus>
-    ensures both { IfOk result (λ r. (given ≡ Ok r.0) × (histories ≡ Some r.1)) }
-    ensures why { IfErr result (λ s. (given ≡ Err s) ⊎ (s ≡ status.Memory)) }
+    ensures given { IfOk result (λ r. r.0 ≡ given) }
+    ensures both { IfOk result (λ r. IsOk ended × (histories ≡ Some r.1)) }
+    ensures why { IfErr result (λ s. (ended ≡ Err s) ⊎ (s ≡ status.Memory)) }
 {
-    match (given, histories) {
-        (Ok(blocks), Some(histories)) => Ok((blocks, histories)),
-        (Ok(_), None) => Err(RunStatus::Memory),
+    match (ended, histories) {
+        (Ok(()), Some(histories)) => Ok((given, histories)),
+        (Ok(()), None) => Err(RunStatus::Memory),
         (Err(status), _) => Err(status),
     }
 }
@@ -163,9 +173,9 @@ fn save_blocks<S, E, V, P>(
     alloc: Global,
     site: &mut S,
     job: &Job,
-    graph: &Graphed<S::In, E, V>,
+    _graph: &Graphed<S::In, E, V>,
     wanted: &Wanted,
-    blocks: Vec<Keyed<Block, Marked<S::In, E, V, P>>>,
+    table: Table<Marked<S::In, E, V, P>>,
 ) -> Result<(), Ended>
 where
     S: Site,
@@ -174,16 +184,16 @@ where
     P: Picks<Graphed<S::In, E, V>> + Send + Sync + Drop,
     requires runs { IsRunnable (plan_of job.now) }
     requires wanted { IsWantedOf (plan_of job.now) wanted.now }
-    requires picked { P.picked ≡ Some graph.now }
-    requires tasks { graph.now.job.tasks ≡ tasks_of (plan_of job.now) }
-    requires all { map (λ q. q.key) blocks.items ≡ wanted.now.all }
+    requires picked { P.picked ≡ Some _graph.now }
+    requires tasks { _graph.now.job.tasks ≡ tasks_of (plan_of job.now) }
+    requires long { length table ≡ key_count (graph_of _graph.now.job) }
+    requires all { All (λ k. has_at table k ≡ true) wanted.now.all }
     ensures files { SavesFiles (plan_of job.now) (S.view site.old) (S.view site.new) }
     ensures served { OnOk result (ServesAll (plan_of job.now) E.named (IsTrue V.told) (S.view site.old).files (S.view site.new).files) }
     ensures stopped { IfErr result (ServesPart (plan_of job.now) E.named (IsTrue V.told) ⊥
         (Rose (S.view site.old).write_faults (S.view site.new).write_faults) (S.view site.old).files (S.view site.new).files) }
 {
     laws_hold(job);
-    let table = table_of(alloc, graph.shape().keys(), blocks)?;
     table.fits();
     match save_all(
         alloc,
@@ -247,8 +257,8 @@ where
         plan,
         memory,
     ) {
-        Ok((blocks, histories)) => {
-            match save_blocks::<S, E, V, P>(alloc, site, job, graph, wanted, blocks) {
+        Ok((table, histories)) => {
+            match save_blocks::<S, E, V, P>(alloc, site, job, graph, wanted, table) {
                 Ok(()) => {
                     let report = told(alloc, graph.shape(), histories, asked)?;
                     Ok(report)

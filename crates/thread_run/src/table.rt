@@ -1,12 +1,13 @@
 //! The blocks that a client got, by their keys.
-ghost use Rattle.std.specs.Prelude.{◌≡◌, ◌<◌, All, IfOk, IsSome, Some, length, map, slice_set};
+ghost use Rattle.std.specs.Prelude.{◌≡◌, IfOk, length, true};
 ghost use Rattle.std.specs.Arc.{arc_value};
-ghost use Rattle.thread_run.specs.Tables.{AreFit, got_in};
+ghost use Rattle.cluster_msgs.specs.Labels.{BlockFits};
+ghost use Rattle.thread_run.specs.Tables.{AreFit, has_at};
 
 use cluster_msgs::Label;
 use job_run::Blocks;
 use nd_shape::Block;
-use node_links::Keyed;
+use node_runner::Sink;
 use std::alloc::{AllocError, Global};
 use std::marker::{Model, PhantomData};
 use std::sync::Arc;
@@ -31,8 +32,11 @@ impl<L: Label<Block = Block>> Model for Table<L> {
 }
 
 impl<L: Label<Block = Block>> Table<L> {
-    // No blocks of so many keys.
-    fn new(alloc: Global, keys: u32) -> Result<Self, AllocError>
+    /// No blocks of so many keys.
+    ///
+    /// # Errors
+    /// Where no memory is left.
+    pub fn new(alloc: Global, keys: u32) -> Result<Self, AllocError>
         ensures { IfOk result (λ t. length t ≡ keys) }
     {
         let mut places = Vec::with_capacity(alloc, keys as usize)?;
@@ -43,15 +47,6 @@ impl<L: Label<Block = Block>> Table<L> {
             places,
             of: PhantomData,
         })
-    }
-
-    // Puts a block at its key's place.
-    fn put(&mut self, keyed: Keyed<Block, L>)
-        requires { keyed.key < length self.old }
-        ensures { self.new ≡ slice_set self.old keyed.key (Some (arc_value keyed.block)) }
-    {
-        let at = keyed.key() as usize;
-        self.places[at] = Some(keyed.into_block());
     }
 
     /// Each block fits its key.
@@ -77,21 +72,41 @@ impl<L: Label<Block = Block>> Blocks for Table<L> {
     }
 }
 
-/// These blocks, of a graph of so many keys, each at its place.
-///
-/// # Errors
-/// Where no memory is left.
-pub fn table_of<L: Label<Block = Block>>(
-    alloc: Global,
-    keys: u32,
-    blocks: Vec<Keyed<Block, L>>,
-) -> Result<Table<L>, AllocError>
-    requires { All (λ k. k < keys) (map (λ q. q.key) blocks.items) }
-    ensures { IfOk result (λ t. All (λ k. IsSome (got_in t k)) (map (λ q. q.key) blocks.items)) }
-{
-    let mut table = Table::new(alloc, keys)?;
-    for keyed in blocks {
-        table.put(keyed);
+impl<L: Label<Block = Block>> Sink<Block, L> for Table<L> {
+    ghost use Rattle.std.specs.Prelude.{◌≡◌, length};
+    ghost use Rattle.std.proofs.Common.{refl, ◌∙◌};
+    ghost use Rattle.thread_run.specs.Tables.{has_at};
+
+    ghost had = { has_at };
+
+    ghost leads = { λ s t. length t ≡ length s };
+
+    #[tactic(auto, using(crate::proofs::Tables::put_stays, crate::proofs::Tables::put_long, crate::proofs::Tables::put_had, crate::proofs::Tables::past_had))]
+    fn take(&mut self, key: u32, block: Arc<Block>)
+        requires { BlockFits L.facts key (arc_value block) }
+        ensures taken { has_at self.new key ≡ true }
+        ensures leads { length self.new ≡ length self.old }
+    {
+        let at = key as usize;
+        if at < self.places.len() {
+            self.places[at] = Some(block);
+        }
     }
-    Ok(table)
+
+    #[tactic(auto, using(crate::proofs::Tables::has_there, crate::proofs::Tables::past_had))]
+    fn has(&self, key: u32) -> bool {
+        let at = key as usize;
+        if at >= self.places.len() {
+            return true;
+        }
+        self.places[at].is_some()
+    }
+
+    fn is_full(&self) -> bool {
+        false
+    }
+
+    ghost here = { λ t. refl };
+
+    ghost on = { λ s t u f g. g ∙ f };
 }

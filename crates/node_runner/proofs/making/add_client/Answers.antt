@@ -1,16 +1,14 @@
+use Rattle.std.proofs.Common.{get_or}
 use Rattle.std.proofs.lemmas.Result.{IfOk-weaker}
-use Rattle.std.specs.Arc.{arc_value}
-use Rattle.cluster_msgs.specs.Labels.{BlockFits}
 use Rattle.gather_client.specs.CoreState.{client_facts}
 use Rattle.turn_cell.specs.Rows.{berth_of}
-use Rattle.node_states.proofs.Kept.{all_places}
 use Rattle.node_runner.specs.Runs.{IsFirstClient}
 use Rattle.node_runner.proofs.Made.{made_one}
 use Rattle.node_runner.proofs.making.add_client.Goals as goal
 
 pub add_made-requires-clause-fits : goal.add_made-requires-clause-fits
 add_made-requires-clause-fits g c =
-    IfOk-weaker c.make_client-made.result _ _ (λ s fits. (fits, all_places (λ x. BlockFits g.L.Label.facts x.key (arc_value x.block)) (λ x. x.fits) s.blocks.got.items)) c.make_client-made.ensures.fits
+    IfOk-weaker c.make_client-made.result _ _ (λ s fits. (fits, λ k d lt. (get_or s.came.items k d).fits)) c.make_client-made.ensures.fits
 
 pub returns-clause-made : goal.returns-clause-made
 returns-clause-made g c = λ yes.

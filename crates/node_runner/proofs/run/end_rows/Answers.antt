@@ -30,3 +30,6 @@ returns-in-Ok-clause-ended g c = IfSome_then c.end_nodes.result.0.histories c.en
   run,
   c.end_nodes.ensures.given_up,
 ))
+
+pub returns-in-Err-clause-leads : goal.returns-in-Err-clause-leads
+returns-in-Err-clause-leads g c = g.met.Z.Sink.here c.args.sink.now

@@ -12,14 +12,14 @@ end_rows-ends-requires-clause-scheduler g c =
     let j = g.J.JobSpec in
     let k = g.K.RunName in
     subst (λ s. All (λ x. IsSchedulersBook (run_facts j.graph j.operation j.key_dims j.block_dims k.told k.job) s c.args.plan.now x.history.book)
-    c.run_rows-closed.result.scheduler.items) (sym c.shape.ensures) c.run_rows-closed.ensures.scheduler
+    c.run_rows-closed.result.0.scheduler.items) (sym c.shape.ensures) c.run_rows-closed.ensures.scheduler
 
 pub end_rows-ends-requires-clause-workers : goal.end_rows-ends-requires-clause-workers
 end_rows-ends-requires-clause-workers g c =
     let j = g.J.JobSpec in
     let k = g.K.RunName in
     λ at w less. subst (λ s. IsWorkersBook (run_facts j.graph j.operation j.key_dims j.block_dims k.told k.job) s c.args.plan.now.threads (at + 1)
-    (λ x. worker_facts x.core) (slice_index_or c.run_rows-closed.result.workers.items at w).history.book) (sym c.shape.ensures)
+    (λ x. worker_facts x.core) (slice_index_or c.run_rows-closed.result.0.workers.items at w).history.book) (sym c.shape.ensures)
     (c.run_rows-closed.ensures.workers at w less)
 
 pub end_rows-ends-requires-clause-clients : goal.end_rows-ends-requires-clause-clients
@@ -27,12 +27,15 @@ end_rows-ends-requires-clause-clients g c =
     let j = g.J.JobSpec in
     let k = g.K.RunName in
     subst (λ s. All (λ x. IsClientsBook (run_facts j.graph j.operation j.key_dims j.block_dims k.told k.job) s (λ x. client_facts x.core) x.book)
-    c.run_rows-closed.result.clients.items) (sym c.shape.ensures) c.run_rows-closed.ensures.clients
+    c.run_rows-closed.result.0.clients.items) (sym c.shape.ensures) c.run_rows-closed.ensures.clients
 
-pub returns-clause-blocks : goal.returns-clause-blocks
-returns-clause-blocks g c = still_ok (λ blocks. map (λ k. k.key) blocks.items ≡ c.args.wanted.now) c.end_rows-ends.result.0.result c.with_reads.result.result
+pub returns-clause-had : goal.returns-clause-had
+returns-clause-had g c = still_ok (λ _. All (λ k. g.Z.Sink.had c.end_rows-ends.new.sink k ≡ true) c.args.wanted.now) c.end_rows-ends.result.0.result c.with_reads.result.result
     (c.end_rows-ends.result.1 ≡ true) ((c.args.short ≡ true) ⊎ ((f : _) × Contains c.end_rows-ends.result.0.feeds.items f × (0 < g.J.JobSpec.fault_count f)))
-    c.with_reads.ensures.changed c.end_rows-ends.ensures.blocks
+    c.with_reads.ensures.changed c.end_rows-ends.ensures.had
+
+pub returns-clause-leads : goal.returns-clause-leads
+returns-clause-leads g c = g.met.Z.Sink.on c.args.sink c.run_rows-closed.result.1 c.end_rows-ends.new.sink c.run_rows-closed.ensures.leads c.end_rows-ends.ensures.leads
 
 pub returns-clause-ended : goal.returns-clause-ended
 returns-clause-ended g c =

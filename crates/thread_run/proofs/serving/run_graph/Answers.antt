@@ -1,9 +1,7 @@
-use Rattle.std.proofs.Common.{ap, arith}
+use Rattle.std.proofs.Common.{ap}
 use Rattle.std.specs.Prelude.{IsTrue}
-use Rattle.std.proofs.lemmas.Result.{IfErr-weaker, on_ok_weaker}
 use Rattle.io_edge.specs.Cause.{Rose}
 use Rattle.io_edge.specs.View.{View}
-use Rattle.job_run.specs.declared.ends.Ended.{Ended}
 use Rattle.job_run.specs.Jobs.{plan_of}
 use Rattle.job_run.specs.Plan.{Plan}
 use Rattle.block_lowering.specs.Jobs.{graph_of}
@@ -11,8 +9,6 @@ use Rattle.task_graph.specs.Graphs.{shape_of}
 use Rattle.job_run.specs.Values.{Named, tasks_of}
 use Rattle.job_run.specs.Wanted.{wanted_of}
 use Rattle.thread_run.specs.Reports.{label}
-use Rattle.job_run.proofs.Running.{rose_before}
-use Rattle.thread_run.specs.Serving.{ServesPart}
 use Rattle.thread_run.proofs.Saved.{facts-are, facts_of}
 use Rattle.thread_run.proofs.Serves.{part-none, told-of-run, told-zero}
 use Rattle.thread_run.proofs.serving.run_graph.Goals as goal

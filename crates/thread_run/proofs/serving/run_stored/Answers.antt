@@ -1,5 +1,4 @@
-use Rattle.std.proofs.Common.{◌≡◌, ℕ, ◌*◌, ◌≤◌, map, string_bytes, arith}
-use Rattle.std.specs.Prelude.{IfErr}
+use Rattle.std.proofs.Common.{◌*◌, map, string_bytes, arith}
 use Rattle.io_edge.specs.Cause.{Rose}
 use Rattle.io_edge.specs.View.{View}
 use Rattle.job_run.proofs.Running.{rose_before}
@@ -21,9 +20,15 @@ run_feeds-served-requires-clause-fixed g c κs within =
     let s = g.S.Site.view in
     fixed-kept g.E.Elements.named g.V.Veil.told (map string_bytes c.args.names.now) c.args.graph.now.job.heads (s c.args.site.now).files (s c.open_stores.new.site).files c.open_stores.ensures.files c.requires.fixed
 
--- no memory for the stores
+-- no memory for the table
 pub returns-in_default-clause-opens : goal.returns-in_default-clause-opens
 returns-in_default-clause-opens g c =
+    let s = g.S.Site.view in
+    opens-zero (map string_bytes c.args.names.now) (numbers_of c.args.plan.now * c.args.plan.now.threads) (s c.args.site.now)
+
+-- no memory for the stores
+pub returns-in_default-open_stores-clause-opens : goal.returns-in_default-open_stores-clause-opens
+returns-in_default-open_stores-clause-opens g c =
     let s = g.S.Site.view in
     let names = map string_bytes c.args.names.now in
     let most = numbers_of c.args.plan.now * c.args.plan.now.threads in
