@@ -65,7 +65,7 @@ check 'a link that has the name' "$(readlink "$name")" aim.npy
 check 'what it leads to' "$(cmp "$folder/aim.npy" "$folder/whole.npy" && echo same)" same
 # what is no regular file is written in place
 rm "$name" && mkfifo "$name"
-(cd "$folder" && timeout 20 "$root/dask" run job.txt > /dev/null) &
+(cd "$folder" && timeout 20 "$root/dask" plain job.txt > /dev/null) &
 timeout 20 cat "$name" > "$folder/piped.npy"
 wait $!
 check 'status where a pipe has the name' "$?" 0
@@ -74,10 +74,10 @@ rm "$name" && ln -s /dev/full "$name"
 line=$(cd "$folder" && "$root/dask" run job.txt 2>&1)
 check 'status where a full device has the name' "$?" 6
 check 'line where a full device has the name' "$line" 'dask: write fault'
-# it takes bytes in their order alone: blocks of rows come so, blocks of columns don't
+# it takes bytes in their order alone: blocks of rows come so in one thread, blocks of columns don't
 ln -sf /dev/null "$name"
 printf 'let r = ramp((2, 2), 0, 1, (1, 2))\nsave r "b.npy"\n' > "$folder/rows.txt"
-(cd "$folder" && "$root/dask" run rows.txt > /dev/null 2>&1)
+(cd "$folder" && "$root/dask" plain rows.txt > /dev/null 2>&1)
 check 'status where a device has the name and rows are saved' "$?" 0
 printf 'let r = ramp((2, 2), 0, 1, (2, 1))\nsave r "b.npy"\n' > "$folder/columns.txt"
 line=$(cd "$folder" && "$root/dask" run columns.txt 2>&1)

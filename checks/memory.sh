@@ -1,7 +1,7 @@
 #!/usr/bin/env bash
 # Runs by a cluster of threads under many limits of address space, so that memory ends at many points
 # of a run; at which ones isn't told. Each run ends well with the bytes of the evaluation in
-# the calling thread, or with the status of want of memory and no file. DASK names another program than the one of these sources.
+# the calling thread, or with the status of want of memory and no file but a whole one. DASK names another program than the one of these sources.
 cd "$(dirname "$0")/.." || exit 1
 about='memory'
 . tools/checking.bash
@@ -26,14 +26,22 @@ E
 check 'status of the evaluation in the calling thread' "$?" 0
 mv s.npy wanted.npy
 
+# Runs a program under a limit. Only the program gets it: a shell that needs memory under its own limit ends with a status of its own,
+# which may be one of the program's.
+within() {
+  local kilobytes=$1
+  shift
+  prlimit --as="$((kilobytes * 1024))" "$@"
+}
+
 # Runs the job under a limit, and prints how it ended.
 run_within() {
   rm -f s.npy
-  (ulimit -v "$1" && exec timeout 20 "$program" run job.txt --script lose:1@30,join@40) > lines 2> errors
+  within "$1" timeout 20 "$program" run job.txt --script lose:1@30,join@40 > lines 2> errors
   local status=$?
   case $status in
     0) if cmp -s s.npy wanted.npy; then echo well; else echo "status 0 with other bytes at $1"; fi ;;
-    8) if [ -e s.npy ]; then echo "status 8 with a file at $1"; else echo starved; fi ;;
+    8) if [ -e s.npy ] && ! cmp -s s.npy wanted.npy; then echo "status 8 with other bytes at $1"; else echo starved; fi ;;
     127) echo unstarted ;;
     *) echo "status $status at $1" ;;
   esac
@@ -63,7 +71,7 @@ joins() {
 }
 # how a line ends under a limit, and which workers left but by the script
 ends_within() {
-  (ulimit -v "$1" && MALLOC_ARENA_MAX=1 timeout 60 "$runner" <<< "$(joins "$2")") 2>&1 | sed 1d | grep -v ' left: script$' | paste -sd ' '
+  MALLOC_ARENA_MAX=1 within "$1" timeout 60 "$runner" <<< "$(joins "$2")" 2>&1 | sed 1d | grep -v ' left: script$' | paste -sd ' '
 }
 there=0 starved=0
 for kilobytes in $(seq 100000 2000 180000); do

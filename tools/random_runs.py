@@ -4,9 +4,9 @@
     tools/random_runs.py PROGRAM [COUNT [SEED]]
 
 Each job is evaluated by `plain`, and run by `run` with random workers, threads, saturation and a script of losses, suspicions
-and joins. Status, lines but the last, and saved bytes have to be equal. Where a divisor is 0, another block may be named, and a
-run leaves no file. A run that takes a minute counts as one that hangs. It prints a line for each difference, and the numbers of runs that
-are equal and that differ.
+and joins. Status, lines but the last, and saved bytes have to be equal. Where a divisor is 0, another block may be named, and of
+the saved files, each of which is there once it is whole, others may be there. A run that takes a minute counts as one that hangs.
+It prints a line for each difference, and the numbers of runs that are equal and that differ.
 """
 import concurrent.futures
 import os
@@ -67,7 +67,8 @@ def is_equal(plain, run):
     if run is None:
         return False
     if plain[0] == 4:
-        return run[0] == 4 and run[2].startswith('dask: zero division: node ') and not run[3]
+        return (run[0] == 4 and run[2].startswith('dask: zero division: node ')
+                and all(plain[3].get(name, held) == held for name, held in run[3].items()))
     return plain == run
 
 

@@ -4,8 +4,8 @@ What a line wants is the same whatever the threads do. site_table.py writes the 
 """
 import numpy as np
 
-from site_lines import (ARRAYS, INPUT, ONE_CELL, PAIR, PAIR_SAVES, STOPPED, SUM, UNPRINTED, UNWRITTEN, fail, job, lines_of, often, refusal,
-                        saved, say, text, title, told)
+from site_lines import (ARRAYS, INPUT, ONE_CELL, PAIR, PAIR_SAVES, STOPPED, SUM, UNPRINTED, UNWRITTEN, fail, fail_any, job, lines_of, often,
+                        partly, refusal, saved, say, text, title, told)
 
 RAISED = INPUT['a'] + 'let b = a + 1|save b "o.npy"|'
 RAISED_SAVE = 'o.npy', ARRAYS['a.npy'] + 1
@@ -218,7 +218,7 @@ def reports():
     # nothing is printed of a run that fails
     job(INPUT['a'] + 'let b = a // (a - 2)|save b "o.npy"|')
     say('site 4096 0')
-    say('top o.npy run job.txt --report', 'top:' + refusal(4, 'zero division: node 3 block (0)'))
+    say('top none.npy run job.txt --report', 'top:' + told(4, '', 'dask: zero division: node 3 block (0)|', '0 0 0 0', 'none.npy', 'none'))
 
 
 def openings(inputs, numbers, threads):
@@ -232,20 +232,22 @@ def at_feeds(kind, feeds):
 
 
 def reads_fail(file, command, lines, opened, others=True):
-    """A call that fails before the heads are read ends the run. One that fails for a feed ends a worker: the others do its tasks."""
+    """A call that fails before the heads are read ends the run before a file is created. One that fails for a feed ends a worker: the
+    others do its tasks."""
     done = (0, lines, '', '0 0 0 0', 'whole')
-    answers = [STOPPED, (0, lines, '', '1 0 0 0', 'whole'), done] if others else [STOPPED, done]
+    answers = [STOPPED, (0, lines, '', '1 0 0 0', 'whole') if others else (*STOPPED[:4], 'in part'), done]
     fail('open', file, command, *answers, count=opened)
     for kind in ('length', 'read'):
         fail(kind, file, command, *answers)
 
 
 def writes_fail(command, lines):
-    """Both files are created before the first block is written, the blocks of the first before those of the second."""
+    """Both files are created before the first block is written, and their blocks are written as they come."""
     done = (0, lines, '', '0 0 0 0', 'whole')
-    for file, created, written in (('o.npy', ('none', 'in part'), ('in part', 'whole')), ('s.npy', ('none',), ('none', 'in part'))):
+    for file, created in (('o.npy', ('none', 'in part')), ('s.npy', ('none',))):
         fail('create', file, command, *[(*UNWRITTEN, held) for held in created], done, count=2)
-        fail('write', file, command, *[(*UNWRITTEN, held) for held in written], done)
+    for file, written in (('o.npy', ('in part',)), ('s.npy', ('none', 'in part'))):
+        fail_any('write', file, command, *[(*UNWRITTEN, held) for held in written], done)
 
 
 def faults():
@@ -282,12 +284,15 @@ def objects(lines):
                     ' '.join(f'read:{k}' for k in range(2, 64))):
         say(f'site 4096 0 {refused}')
         say('top o.npy run job.txt', 'top:' + refusal(5, 'read fault'))
-    # a file's header is written as it is created, then its blocks, each at once: of 2 elements and of 1
-    begun, first = text(saved(np.zeros(3))), text(saved([*SUM[:2], 0]))
-    for refused, left in (('create:0@0', 'none'), ('create:0@1', begun), ('write:0@0', '\\00' * (128 + 24)), ('write:0@1', begun), ('write:1@0', begun),
-                          ('write:2@0', first), ('write:1@1', held)):
+    # a file's header is written as it is created, then its blocks, each at once and in any order
+    begun = text(saved(np.zeros(3)))
+    for refused, left in (('create:0@0', 'none'), ('create:0@1', begun), ('write:0@0', '\\00' * (128 + 24)), ('write:0@1', begun), ('write:1@0', begun)):
         say(f'site 4096 0 {refused}')
         say('top o.npy run job.txt', 'top:' + told(*UNWRITTEN, 'o.npy', left))
+    for refused in ('write:2@0', 'write:1@1'):
+        say(f'site 4096 0 {refused}')
+        say('top none.npy run job.txt', 'top:' + told(*UNWRITTEN, 'none.npy', 'none'))
+        partly(6, 'o.npy', SUM, 'run job.txt')
     title('feeds that are not opened')
     # feed 0 and 1 are those of worker 1
     for options, feeds, spoilt in (('', [0], 1), ('', [7], 1), (ALONE, [0], None), ('--threads 1', [0, 1, 2], 3), ('--threads 1', [0, 1, 2, 3], None),
@@ -296,7 +301,7 @@ def objects(lines):
         say('site 4096 0 ' + at_feeds('open', feeds))
         say(f'top o.npy {run_of(options)}',
             'top:' + (told(0, lines, '', f'{spoilt} 0 0 0', 'o.npy', held) if spoilt else
-                      told(5, '', 'dask: read fault|', f'{len(feeds)} 0 0 0', 'o.npy', 'none')))
+                      told(5, '', 'dask: read fault|', f'{len(feeds)} 0 0 0', 'o.npy', begun)))
 
 
 def counts():
@@ -309,7 +314,7 @@ def counts():
                                       ('--threads 1 --script join@400', 5, 1)):
         fail('open', 'o.npy', run_of(options), STOPPED, lost, done, count=openings(1, numbers, threads))
     # there is no other worker
-    fail('open', 'o.npy', run_of(ALONE), STOPPED, done, count=openings(1, 1, 1))
+    fail('open', 'o.npy', run_of(ALONE), STOPPED, (*STOPPED[:4], 'in part'), done, count=openings(1, 1, 1))
     fail('create', 'o.npy', 'run job.txt', (*UNWRITTEN, 'none'), done, count=1)
     job(NO_INPUT)
     done = (0, lines_of('run', ('o.npy', np.array([5]))), '', '0 0 0 0', 'whole')
@@ -328,7 +333,7 @@ def losses():
                                       ('--workers 1 --script join@0', 2, 2), (ALONE, 1, 1)):
         for kind in ('length', 'read'):
             say('site 4096 0 ' + at_feeds(kind, range(workers * threads)))
-            say(f'top o.npy {run_of(options)}', 'top:' + told(5, '', 'dask: read fault|', f'{workers} 0 0 0', 'o.npy', 'none'))
+            say(f'top o.npy {run_of(options)}', 'top:' + told(5, '', 'dask: read fault|', f'{workers} 0 0 0', 'o.npy', text(saved([0]))))
         # where one worker's feeds are sound it does the task, after none, some or all of the others
         for sound in range(workers if workers > 1 else 0):
             own = range(sound * threads, (sound + 1) * threads)

@@ -109,11 +109,12 @@ class Run:
                 if value is None and all(self.values[dep] is not None for dep in self.lowered.deps[key])]
 
     def array(self, save):
-        """The array that a save has, of whose blocks each is there."""
+        """The array that a save has, with 0 in the blocks that aren't there."""
         node = self.job.nodes[self.job.saves[save]]
         array = np.zeros(node.shape, np.int64)
         for key, index in zip(self.lowered.saved[save], blocks(node.layout)):
-            array[graph_model.region(node.layout, index)] = self.values[key]
+            if self.values[key] is not None:
+                array[graph_model.region(node.layout, index)] = self.values[key]
         return array
 
     def array_before(self, save, fault):

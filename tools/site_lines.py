@@ -90,10 +90,21 @@ def often(file, command, answer):
     say(f'often {file} {command}', 'often:' + answer, 'again: the same')
 
 
-def fail(kind, file, command, *answers, count=None):
+def fail(kind, file, command, *answers, count=None, name='fail'):
     """Each call of a kind fails in turn. How many there are is promised of openings and creations alone."""
     first, *others = [told(*answer[:4], file, answer[4]) for answer in answers]
-    say(f'fail {kind} {file} {command}', f'fail:{first}', *others, *([] if count is None else [f'count: {count}']))
+    say(f'{name} {kind} {file} {command}', f'{name}:{first}', *others, *([] if count is None else [f'count: {count}']))
+
+
+def fail_any(kind, file, command, *answers):
+    """The same where blocks are written in any order: after another status than 0 a file is `in part` also where all of it is there."""
+    fail(kind, file, command, *answers, name='failany')
+
+
+def partly(status, file, array, command):
+    """A run after which each byte of the file is this array's file's for its place, or 0."""
+    shelve('right.npy', saved(array))
+    say(f'partly {file} right.npy {command}', f'partly: {status} {file} in part')
 
 
 # what comes of a call that fails before a file is touched, and of a creation or a write that fails

@@ -21,8 +21,8 @@ import run_cases
 from job_graphs import Chance
 from run_model import Run, lower
 from site_lines import (ARRAYS, DIFFERENCE, ENDS, INPUT, LINES, ONE_CELL, PAIR, PAIR_SAVES, STOPPED, SUM, UNPRINTED, UNWRITTEN, WANTED,
-                        X_AND_D, fail, job, lines_of, npy, often, once, refusal, saved, saved_lines, say, shape_text, shelve, text,
-                        title, told)
+                        X_AND_D, fail, job, lines_of, npy, often, once, partly, refusal, saved, saved_lines, say, shape_text, shelve,
+                        text, title, told)
 
 
 def shown(out, err, faults, file, held):
@@ -131,16 +131,17 @@ LARGE = [
     ('input a "none.npy" shape (3) chunks (3)|let r = ramp((600, 600), 0, 1, (1, 600))|let b = rechunk(r, (600, 1))|save b "o.npy"|', 'edges'),
     ('let b = full((16777217), 1, (16777217))|save b "o.npy"|', 'block bytes'),
 ]
-# jobs that meet a zero divisor in one needed block, the block, and how far its file came in one thread: the block isn't written, and
-# none before it
+# jobs that meet a zero divisor in one needed block, the block, and the array of all other blocks. In one thread none of these is
+# written, since the block is the first
 DIVIDED = [
     # the element that is asked for has no zero divisor, its block has
-    (X_AND_D + 'let q = (x // d)[0:1]|save q "o.npy"|', 'node 2 block (0)', (1,)),
+    (X_AND_D + 'let q = (x // d)[0:1]|save q "o.npy"|', 'node 2 block (0)', [0]),
     # nothing is asked for, but an empty slice takes the first block
-    (X_AND_D + 'let q = (x // d)[5:2]|save q "o.npy"|', 'node 2 block (0)', (0,)),
-    (INPUT['a'] + 'input b "first.npy" shape (3) chunks (2)|let c = a // b|save c "o.npy"|', 'node 2 block (0)', (3,)),
+    (X_AND_D + 'let q = (x // d)[5:2]|save q "o.npy"|', 'node 2 block (0)', np.zeros(0)),
     # the block that depends on it divides by 0 too, but has no dividend
-    (X_AND_D + 'let q = x // d|let c = q // d|save c "o.npy"|', 'node 2 block (0)', (4,)),
+    (X_AND_D + 'let q = x // d|let c = q // d|save c "o.npy"|', 'node 2 block (0)', [0, 0, 3, 4]),
+    # the quotient of the other block is 0
+    (INPUT['a'] + 'input b "first.npy" shape (3) chunks (2)|let c = a // b|save c "o.npy"|', 'node 2 block (0)', [0, 0, 0]),
 ]
 # two needed blocks meet one each
 DIVIDED_TWICE = X_AND_D + 'let q = x // (d - 1)|save q "o.npy"|'
@@ -412,21 +413,27 @@ def saves():
 def divided():
     title('jobs that meet a zero divisor in a needed block')
     say('site 4096 0')
-    for lines, block, shape in DIVIDED:
+    for lines, block, others in DIVIDED:
         job(lines)
         line = f'dask: zero division: {block}|'
-        often('o.npy', 'plain job.txt', told(4, '', line, '0 0 0 0', 'o.npy', text(saved(np.zeros(shape)))))
+        begun = text(saved(np.zeros_like(others)))
+        often('o.npy', 'plain job.txt', told(4, '', line, '0 0 0 0', 'o.npy', begun))
+        # the file is created before the first block is made, and whether the other block is there by then isn't determined
+        often('none.npy', 'run job.txt', told(4, '', line, '0 0 0 0', 'none.npy', 'none'))
+        fail('create', 'none.npy', 'run job.txt', (*UNWRITTEN, 'none'), (4, '', line, '0 0 0 0', 'none'), count=1)
+        partly(4, 'o.npy', others, 'run job.txt')
         # no file is created before the client has all blocks
-        for command in ('run job.txt', 'sim job.txt 7'):
-            often('o.npy', command, told(4, '', line, '0 0 0 0', 'o.npy', 'none'))
-            fail('create', 'o.npy', command, (4, '', line, '0 0 0 0', 'none'), count=0)
+        often('o.npy', 'sim job.txt 7', told(4, '', line, '0 0 0 0', 'o.npy', 'none'))
+        fail('create', 'o.npy', 'sim job.txt 7', (4, '', line, '0 0 0 0', 'none'), count=0)
+    # what was there before is replaced
     say('site 4096 0')
     say('put o.npy old')
-    say('top o.npy run job.txt', 'top:' + told(4, '', line, '0 0 0 0', 'o.npy', 'old'))
-    # which block is named is not determined
+    say('top o.npy run job.txt', 'top:' + told(4, '', line, '0 0 0 0', 'o.npy', begun))
+    # which block is named is not determined, and there is no other
     job(DIVIDED_TWICE)
-    for command in ('run job.txt', 'run job.txt --workers 1 --threads 1', 'sim job.txt 7'):
-        say(f'saved o.npy {command}', 'saved: 4 o.npy none')
+    for command in ('run job.txt', 'run job.txt --workers 1 --threads 1'):
+        say(f'saved o.npy {command}', f'saved: 4 o.npy {text(saved(np.zeros(4)))}')
+    say('saved o.npy sim job.txt 7', 'saved: 4 o.npy none')
 
 
 def refusals():
@@ -758,10 +765,10 @@ def answer_job(run, names, number):
     # the blocks before the first that is at fault are written
     held = text(saved(run.array_before(len(names) - 1, faults[0])))
     once(last, 'plain job.txt', told(4, '', f'dask: zero division: {run.block_text(faults[0])}|', '0 0 0 0', last, held))
-    # where there are several, it is not determined which one threads meet
-    say(f'saved {last} run job.txt', f'saved: 4 {last} none')
+    # where there are several, it is not determined which one threads meet, nor which blocks are written by then
+    partly(4, last, run.array(len(names) - 1), 'run job.txt')
     if len(faults) == 1:
-        once(last, 'run job.txt', told(4, '', f'dask: zero division: {run.block_text(faults[0])}|', '0 0 0 0', last, 'none'))
+        once('none.npy', 'run job.txt', told(4, '', f'dask: zero division: {run.block_text(faults[0])}|', '0 0 0 0', 'none.npy', 'none'))
     blamed = run.simulate(number)
     once(last, f'sim job.txt {number}', told(4, '', f'dask: zero division: {run.block_text(blamed)}|', '0 0 0 0', last, 'none'))
 

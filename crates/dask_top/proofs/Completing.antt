@@ -256,7 +256,7 @@ threads_complete p old new (RunEnds.Limit quantity) faults cause = threads_limit
 threads_complete p old new (RunEnds.File place error) faults cause = threads_file p old place error cause.0 cause.1
 threads_complete p old new (RunEnds.Zero node block) faults cause = threads_zero p old node block cause.0 cause.1
 threads_complete p old new RunEnds.ReadFault faults cause = absurd (faults.read cause.1)
-threads_complete p old new RunEnds.WriteFault faults cause = absurd (elim cause.2 [ inl w ↦ faults.write w | inr q ↦ faults.print q ])
+threads_complete p old new RunEnds.WriteFault faults cause = absurd (elim cause.2 [ inl w ↦ faults.write w | inr q ↦ faults.print q.1 ])
 threads_complete p old new RunEnds.OutOfMemory faults cause = threads_memory p old
 
 sim_run_completes : (p : Plan) (said : SimWords) (old new : View) (end : Ended) → NoFault old new → SimCause p said old new (SimEnds.Ran end) → EndsByInputs p old (status_of (end_of end))

@@ -50,7 +50,7 @@ stops_told p old mid new lines only s =
     }
 
 pub front_told : (p : Plan) (old mid new : View) (lines : List ℕ) → OnlyErr mid new → PrintsFront p old mid lines → PrintsFront p old new lines
-front_told p old mid new lines only prints = elim prints [ inl same ↦ inl (only.out ∙ same) | inr stops ↦ inr (stops_told p old mid new lines only stops) ]
+front_told p old mid new lines only prints = elim prints [ inl same ↦ inl (only.out ∙ same) | inr stops ↦ inr (stops.0, stops_told p old mid new lines only stops.1) ]
 
 prints_told : (p : Plan) (old mid new : View) (end : Ended) → OnlyErr mid new → RunPrints p old mid end → RunPrints p old new end
 prints_told p old mid new RunEnds.Done only prints = only.out ∙ prints
@@ -104,7 +104,7 @@ refusal_saves p old new RunEnds.ReadFault is saves = absurd is
 refusal_saves p old new RunEnds.WriteFault is saves = absurd is
 refusal_saves p old new RunEnds.OutOfMemory is saves = absurd is
 
-refusal_created : (names : List (List ℕ)) (old new : List ℕ → ℕ) (end : Ended) → IsRefusal (end_of end) → RunCreated names old new end → RaisedAtMost names old new
+pub refusal_created : (names : List (List ℕ)) (old new : List ℕ → ℕ) (end : Ended) → IsRefusal (end_of end) → RunCreated names old new end → RaisedAtMost names old new
 refusal_created names old new (RunEnds.File place error) is created = none_raised names old new created
 refusal_created names old new (RunEnds.Limit quantity) is created = none_raised names old new created
 refusal_created names old new (RunEnds.Zero node block) is created = raised_at_most names old new created
@@ -217,7 +217,10 @@ stops_before p old mid new lines held tells created only s = record {
 }
 
 pub front_before : (p : Plan) (old mid new : View) (lines : List ℕ) → mid.files.held ≡ old.files.held → mid.files.tells ≡ old.files.tells → mid.files.created ≡ old.files.created → OnlyReads old mid → PrintsFront p mid new lines → PrintsFront p old new lines
-front_before p old mid new lines held tells created only prints = elim prints [ inl same ↦ inl (same ∙ only.out) | inr stops ↦ inr (stops_before p old mid new lines held tells created only stops) ]
+front_before p old mid new lines held tells created only prints = elim prints [
+  | inl same ↦ inl (same ∙ only.out)
+  | inr stops ↦ inr (values_before p old.files mid.files held tells stops.0, stops_before p old mid new lines held tells created only stops.1)
+]
 
 prints_before : (p : Plan) (old mid new : View) (end : Ended) → mid.files.held ≡ old.files.held → mid.files.tells ≡ old.files.tells → mid.files.created ≡ old.files.created → OnlyReads old mid → RunPrints p mid new end → RunPrints p old new end
 prints_before p old mid new RunEnds.Done held tells created only prints = prints ∙ ap (λ o. followed_by o (lines_of p)) only.out

@@ -10,10 +10,10 @@ use Rattle.job_run.specs.declared.ends.Ended.{Ended}
 use Rattle.job_run.specs.declared.ends.Ended.TheVariants as RunEnds
 use Rattle.job_run.specs.Part.{RaisedAtMost}
 use Rattle.job_run.specs.Plan.{Plan, names_saved}
-use Rattle.job_run.specs.Runs.{StopsPrinting}
-use Rattle.job_run.proofs.Counting.{none_raised, times-append}
+use Rattle.job_run.specs.Runs.{AreRight, Created, StopsPrinting}
+use Rattle.job_run.proofs.Counting.{times-append}
 use Rattle.thread_run.specs.Counts.{RaisedBetween, feeds, repeated}
-use Rattle.thread_run.specs.Ends.{Cause, HasValues, Saves, Opened, Looked, Created, Prints, PrintsRun, RunsByThreads, lines_of, openings}
+use Rattle.thread_run.specs.Ends.{Cause, HasValues, Saves, Opened, Looked, Prints, PrintsRun, RunsByThreads, WritesFail, lines_of, openings}
 use Rattle.thread_run.specs.Reports.{IsToldRun}
 use Rattle.dask_top.specs.declared.answer.End.{End}
 use Rattle.dask_top.specs.Answers.{Performs}
@@ -22,7 +22,7 @@ use Rattle.dask_top.specs.Ends.{Notes, run_end}
 use Rattle.dask_top.specs.Opening.{TextRead, JobRead}
 use Rattle.dask_top.specs.Telling.{IsRefusal, Told, end_of}
 use Rattle.dask_top.specs.Works.{RunningOpened, Runs, WorkDoes}
-use Rattle.dask_top.proofs.Evaluating.{cause_before, fit_before, memory_saves, right_before, run_is, saves_before, stops_before, stops_told}
+use Rattle.dask_top.proofs.Evaluating.{cause_before, fit_before, memory_saves, refusal_created, right_before, run_is, saves_before, stops_before, stops_told}
 use Rattle.dask_top.proofs.Opening.{raised_by-append, raised_first, raised_more}
 use Rattle.dask_top.proofs.Reading.{is_given, is_read}
 use Rattle.dask_top.proofs.Unread.{notes_before}
@@ -53,7 +53,7 @@ prints_told p said old mid new RunEnds.Done only prints =
     over_run p said old.files old.files refl refl (λ lines. mid.out ≡ followed_by old.out lines) (λ lines. new.out ≡ followed_by old.out lines) (λ lines printed. only.out ∙ printed) prints
 prints_told p said old mid new RunEnds.WriteFault only prints = elim prints [
   | inl same ↦ inl (only.out ∙ same)
-  | inr run ↦ inr (over_run p said old.files old.files refl refl (StopsPrinting p old mid) (StopsPrinting p old new) (λ lines stops. stops_told p old mid new lines only stops) run)
+  | inr run ↦ inr (run.0, over_run p said old.files old.files refl refl (StopsPrinting p old mid) (StopsPrinting p old new) (λ lines stops. stops_told p old mid new lines only stops) run.1)
 ]
 prints_told p said old mid new (RunEnds.Limit quantity) only prints = only.out ∙ prints
 prints_told p said old mid new (RunEnds.File place error) only prints = only.out ∙ prints
@@ -87,25 +87,26 @@ more_times sources inputs rest old new most = record {
   at_most = λ n. omega (arith, most.at_most n, times-append n sources inputs, times-append n sources (inputs ++ rest), times-append n inputs rest);
 }
 
-starved : (sources : List (List ℕ)) (p : Plan) (said : RunWords) (old new : View) (end : Ended) → new.files.held ≡ old.files.held → new.files.created ≡ old.files.created → new.out ≡ old.out
+starved : (sources : List (List ℕ)) (p : Plan) (said : RunWords) (old new : View) (end : Ended) → IsRefusal (end_of end) → (IsTrue old.files.tells → AreRight p old.files new.files) → new.out ≡ old.out
     → RaisedAtMost (sources ++ openings p said) old.files.opened new.files.opened → Runs sources p said old new end → Runs sources p said old new RunEnds.OutOfMemory
-starved sources p said old new end held created prints opened e = record {
+starved sources p said old new end is saves prints opened e = record {
   cause = tt;
-  saves = λ t. memory_saves p old.files new.files held;
+  saves = saves;
   looked = e.looked;
   others = e.others;
   opened = opened;
-  created = none_raised (names_saved p) old.files.created new.files.created created;
+  created = refusal_created (names_saved p) old.files.created new.files.created end is e.created;
   prints = prints;
 }
 
 runs_starved : (sources : List (List ℕ)) (p : Plan) (said : RunWords) (old new : View) (end : Ended) → IsRefusal (end_of end) → Runs sources p said old new end
     → Runs sources p said old new RunEnds.OutOfMemory
 runs_starved sources p said old new (RunEnds.File place error) is e =
-    starved sources p said old new (RunEnds.File place error) e.saves e.created e.prints (more_times sources p.inputs (repeated (feeds said) p.inputs) old.files.opened new.files.opened e.opened) e
+    starved sources p said old new (RunEnds.File place error) is (λ t. memory_saves p old.files new.files e.saves) e.prints
+    (more_times sources p.inputs (repeated (feeds said) p.inputs) old.files.opened new.files.opened e.opened) e
 runs_starved sources p said old new (RunEnds.Limit quantity) is e =
-    starved sources p said old new (RunEnds.Limit quantity) e.saves e.created e.prints (raised_first sources (openings p said) old.files.opened new.files.opened e.opened) e
-runs_starved sources p said old new (RunEnds.Zero node block) is e = starved sources p said old new (RunEnds.Zero node block) e.saves e.created e.prints e.opened.at_most e
+    starved sources p said old new (RunEnds.Limit quantity) is (λ t. memory_saves p old.files new.files e.saves) e.prints (raised_first sources (openings p said) old.files.opened new.files.opened e.opened) e
+runs_starved sources p said old new (RunEnds.Zero node block) is e = starved sources p said old new (RunEnds.Zero node block) is e.saves e.prints e.opened.at_most e
 runs_starved sources p said old new RunEnds.Done is e = absurd is
 runs_starved sources p said old new RunEnds.ReadFault is e = absurd is
 runs_starved sources p said old new RunEnds.WriteFault is e = absurd is
@@ -125,6 +126,12 @@ run_told sources p said old mid new end now told only e =
 values_first : (p : Plan) (old mid : Files) → mid.held ≡ old.held → mid.tells ≡ old.tells → HasValues p mid → HasValues p old
 values_first p old mid held tells has = record { inputs = fit_before p old mid held tells has.inputs; values = rw (← held, ← tells) has.values }
 
+writes_first : (p : Plan) (old mid new : View) → mid.files.held ≡ old.files.held → mid.files.tells ≡ old.files.tells → OnlyReads old mid → WritesFail p mid new → WritesFail p old new
+writes_first p old mid new held tells only fail = elim fail [
+  | inl write ↦ inl (rw (← only.write_faults) write)
+  | inr print ↦ inr (values_first p old.files mid.files held tells print.0, rw (← only.print_faults) print.1)
+]
+
 cause_first : (p : Plan) (old mid new : View) (end : Ended) → mid.files.held ≡ old.files.held → mid.files.tells ≡ old.files.tells → OnlyReads old mid → old.read_faults ≤ mid.read_faults → Cause p mid new end
     → Cause p old new end
 cause_first p old mid new RunEnds.Done held tells only later cause = (cause.0, values_first p old.files mid.files held tells cause.1)
@@ -134,15 +141,15 @@ cause_first p old mid new (RunEnds.Zero node block) held tells only later cause 
     (cause.0, record { inputs = fit_before p old.files mid.files held tells cause.1.inputs; zero_at = rw (← held, ← tells) cause.1.zero_at })
 cause_first p old mid new RunEnds.ReadFault held tells only later cause = cause_before p old mid new RunEnds.ReadFault held tells only later cause
 cause_first p old mid new RunEnds.WriteFault held tells only later cause =
-    (cause.0, values_first p old.files mid.files held tells cause.1, rw (← only.write_faults, ← only.print_faults) cause.2)
+    (cause.0, fit_before p old.files mid.files held tells cause.1, writes_first p old mid new held tells only cause.2)
 cause_first p old mid new RunEnds.OutOfMemory held tells only later cause = tt
 
 saves_first : (p : Plan) (old mid new : Files) (end : Ended) → mid.held ≡ old.held → mid.tells ≡ old.tells → Saves p mid new end → Saves p old new end
-saves_first p old mid new (RunEnds.Zero node block) held tells saves = saves ∙ held
+saves_first p old mid new (RunEnds.Zero node block) held tells saves = λ t. right_before p old mid new held tells (saves (tells ∙ t))
 saves_first p old mid new (RunEnds.Limit quantity) held tells saves = saves ∙ held
 saves_first p old mid new (RunEnds.File place error) held tells saves = saves ∙ held
 saves_first p old mid new RunEnds.Done held tells saves = saves_before p old mid new RunEnds.Done held tells saves
-saves_first p old mid new RunEnds.ReadFault held tells saves = saves ∙ held
+saves_first p old mid new RunEnds.ReadFault held tells saves = λ t. right_before p old mid new held tells (saves (tells ∙ t))
 saves_first p old mid new RunEnds.WriteFault held tells saves = λ t. right_before p old mid new held tells (saves (tells ∙ t))
 saves_first p old mid new RunEnds.OutOfMemory held tells saves = λ t. right_before p old mid new held tells (saves (tells ∙ t))
 
@@ -183,7 +190,10 @@ prints_first p said old mid new RunEnds.Done held tells created only prints =
     (λ lines printed. printed ∙ ap (λ o. followed_by o lines) only.out) prints
 prints_first p said old mid new RunEnds.WriteFault held tells created only prints = elim prints [
   | inl same ↦ inl (same ∙ only.out)
-  | inr run ↦ inr (over_run p said old.files mid.files held tells (StopsPrinting p mid new) (StopsPrinting p old new) (λ lines stops. stops_before p old mid new lines held tells created only stops) run)
+  | inr run ↦ inr (
+    values_first p old.files mid.files held tells run.0,
+    over_run p said old.files mid.files held tells (StopsPrinting p mid new) (StopsPrinting p old new) (λ lines stops. stops_before p old mid new lines held tells created only stops) run.1,
+  )
 ]
 prints_first p said old mid new (RunEnds.Limit quantity) held tells created only prints = prints ∙ only.out
 prints_first p said old mid new (RunEnds.File place error) held tells created only prints = prints ∙ only.out

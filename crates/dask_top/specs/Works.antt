@@ -15,7 +15,7 @@ use Rattle.sim_run.specs.declared.ends.SimEnded.TheVariants as SimEnds
 use Rattle.sim_run.specs.Ends.{Cause as SimCause, Saves as SimSaves, Created as SimCreated, Prints as SimPrints}
 use Rattle.command_words.specs.declared.run.RunWords.{RunWords}
 use Rattle.command_words.specs.declared.sim.SimWords.{SimWords}
-use Rattle.thread_run.specs.Ends.{Cause as ThreadCause, Saves as ThreadSaves, Looked as ThreadLooked, Opened as ThreadOpened, Created as ThreadCreated, Prints as ThreadPrints, openings}
+use Rattle.thread_run.specs.Ends.{Cause as ThreadCause, Saves as ThreadSaves, Looked as ThreadLooked, Opened as ThreadOpened, Prints as ThreadPrints, openings}
 use Rattle.dask_top.specs.declared.answer.End.{End}
 use Rattle.dask_top.specs.declared.answer.End.TheVariants.{Job, Limit, ReadFault, OutOfMemory}
 use Rattle.dask_top.specs.Commands.{Work, Running, Evaluation, Simulation}
@@ -92,7 +92,7 @@ pub record Runs (sources : List (List ℕ)) (p : Plan) (said : RunWords) (old ne
   pub looked : ThreadLooked p (sources ++ p.inputs) (sources ++ openings p said) old.files new.files
   pub others : (n : List ℕ) → IsNoneOf n (names_saved p) → new.files.held n ≡ old.files.held n
   pub opened : RunningOpened sources p said old.files.opened new.files.opened end
-  pub created : ThreadCreated (names_saved p) old.files.created new.files.created end
+  pub created : RunCreated (names_saved p) old.files.created new.files.created end
   pub prints : ThreadPrints p said old new end
 
 -- ## A simulation

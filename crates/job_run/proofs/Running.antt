@@ -245,4 +245,4 @@ module _ (p : Plan) (old mid saved new : View) (files : List Content) (heads : L
       let O : Option (List ℕ) → Type 0 = λ o. PrintsPart o new.out (lines_of p) in
       let stops : StopsPrinting p old new (lines_of p) = record { saved = saved_after; created = created_after; fault = risen; front = subst O out_before part } in
       printed_runs WriteFault (a.small, a.fit, inr (values_after, risen)) right (raised_at_most p.inputs old.files.opened new.files.opened all_opened)
-      (raised_at_most (names_saved p) old.files.created new.files.created created_after) (inr stops)
+      (raised_at_most (names_saved p) old.files.created new.files.created created_after) (inr (values_after, stops))

@@ -94,9 +94,9 @@ pub record StopsPrinting (p : Plan) (old new : View) (lines : List ℕ) : Type 0
   pub fault : Rose old.print_faults new.print_faults
   pub front : PrintsPart old.out new.out lines
 
--- what is printed of these lines where a creation, a write or a print failed: nothing unless all files are whole
+-- what is printed of these lines where a creation, a write or a print failed: nothing unless all values are there and all files are whole
 abbrev pub PrintsFront : Plan → View → View → List ℕ → Type 0
-PrintsFront p old new lines = (new.out ≡ old.out) ⊎ StopsPrinting p old new lines
+PrintsFront p old new lines = (new.out ≡ old.out) ⊎ (HasValues p old.files × StopsPrinting p old new lines)
 
 abbrev pub Prints : Plan → View → View → Ended → Type 0
 Prints p old new Done = new.out ≡ followed_by old.out (lines_of p)

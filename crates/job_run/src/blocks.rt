@@ -28,7 +28,7 @@ use block_lowering::{Elements, JobGraph};
 use chunk_layout::Layout;
 use cluster_msgs::RunFail;
 use graph_run::{Evaluation, Step};
-use io_edge::{OpenFault, Site};
+use io_edge::{OpenFault, OutFile, Site};
 use lowering_laws::laws::{law_of_names, law_of_order};
 use lowering_laws::values::law_of_expression;
 use nd_shape::{Block, Dims, Region};
@@ -60,9 +60,9 @@ pub fn laws_hold(job: &Job)
 // ---- a block at its places
 
 // Has a block wait at the file of the array of a save with this layout.
-fn save_at<S: Site>(
+fn save_at<F: OutFile>(
     alloc: Global,
-    files: &mut SavedFiles<S>,
+    files: &mut SavedFiles<F>,
     group: &mut Group,
     job: &Job,
     place: usize,
@@ -94,9 +94,9 @@ fn save_at<S: Site>(
 }
 
 // Has a block of a node wait at the files of its saves.
-fn save_named<S: Site>(
+fn save_named<F: OutFile>(
     alloc: Global,
-    files: &mut SavedFiles<S>,
+    files: &mut SavedFiles<F>,
     group: &mut Group,
     job: &Job,
     layouts: &[Layout],
@@ -140,9 +140,9 @@ fn save_named<S: Site>(
 }
 
 // Has a block wait at the files of the saves of its node, where it is a node's own.
-fn save_block<S: Site>(
+fn save_block<F: OutFile>(
     alloc: Global,
-    files: &mut SavedFiles<S>,
+    files: &mut SavedFiles<F>,
     group: &mut Group,
     job: &Job,
     layouts: &[Layout],
@@ -239,7 +239,7 @@ fn next_block<S: Site, E: Elements + Send + Sync + Drop>(
 fn make_block<S: Site, E: Elements + Send + Sync + Drop>(
     alloc: Global,
     evaluation: &mut Evaluation<JobGraph<S::In, E>>,
-    files: &mut SavedFiles<S>,
+    files: &mut SavedFiles<S::Out>,
     group: &mut Group,
     job: &Job,
     name: Name,
@@ -285,7 +285,7 @@ fn make_block<S: Site, E: Elements + Send + Sync + Drop>(
 pub fn make_blocks<S: Site, E: Elements + Send + Sync + Drop>(
     alloc: Global,
     evaluation: &mut Evaluation<JobGraph<S::In, E>>,
-    files: &mut SavedFiles<S>,
+    files: &mut SavedFiles<S::Out>,
     job: &Job,
     names: &[Name],
     layouts: &[Layout],

@@ -19,7 +19,7 @@ fn create_each<S: Site>(
     alloc: Global,
     site: &mut S,
     job: &Job,
-    files: &mut SavedFiles<S>,
+    files: &mut SavedFiles<S::Out>,
 ) -> Result<(), OpenFault>
     requires runs { IsRunnable (plan_of job.now) }
     requires none { files.old ≡ [] }
@@ -40,7 +40,7 @@ pub fn create_files<S: Site>(
     alloc: Global,
     site: &mut S,
     job: &Job,
-) -> Result<SavedFiles<S>, OpenFault>
+) -> Result<SavedFiles<S::Out>, OpenFault>
     requires runs { IsRunnable (plan_of job.now) }
     ensures open { IfOk result (λ files. AreOpenFor (plan_of job.now) files) }
     ensures fresh { IfOk result (λ files. AreFresh (plan_of job.now) (S.view site.old).files.tells files) }

@@ -104,7 +104,7 @@ pub fn evaluate<S: Site, E: Elements + Send + Sync + Drop>(
             return Ended::OutOfMemory;
         }
     };
-    let made = make_blocks(
+    let made = make_blocks::<S, E>(
         alloc,
         &mut evaluation,
         &mut files,

@@ -12,7 +12,7 @@ ghost use Rattle.job_run.specs.Plan.{IsRunnable};
 ghost use Rattle.job_run.specs.Values.{Named};
 
 use crate::job::Job;
-use io_edge::{OpenFault, Site};
+use io_edge::{OpenFault, OutFile};
 use nd_shape::{Block, Region};
 use saved_files::SavedFiles;
 use std::alloc::{AllocError, Global};
@@ -115,9 +115,9 @@ impl Group {
 }
 
 /// Writes the blocks that wait.
-pub fn write_group<S: Site>(
+pub fn write_group<F: OutFile>(
     alloc: Global,
-    files: &mut SavedFiles<S>,
+    files: &mut SavedFiles<F>,
     group: &mut Group,
     job: &Job,
 ) -> Result<(), OpenFault>
@@ -151,9 +151,9 @@ pub fn write_group<S: Site>(
 }
 
 // Makes way for a block of the node of a save: those that wait are written, unless it stands beside them.
-fn make_way<S: Site>(
+fn make_way<F: OutFile>(
     alloc: Global,
-    files: &mut SavedFiles<S>,
+    files: &mut SavedFiles<F>,
     group: &mut Group,
     job: &Job,
     place: usize,
@@ -181,9 +181,9 @@ fn make_way<S: Site>(
 }
 
 // Writes the blocks that wait, where no more are to wait with them.
-fn write_full_group<S: Site>(
+fn write_full_group<F: OutFile>(
     alloc: Global,
-    files: &mut SavedFiles<S>,
+    files: &mut SavedFiles<F>,
     group: &mut Group,
     job: &Job,
 ) -> Result<(), OpenFault>
@@ -207,9 +207,9 @@ fn write_full_group<S: Site>(
 }
 
 /// Has a block of the node of a save wait, or writes it, with those that it stands beside.
-pub fn hold_block<S: Site>(
+pub fn hold_block<F: OutFile>(
     alloc: Global,
-    files: &mut SavedFiles<S>,
+    files: &mut SavedFiles<F>,
     group: &mut Group,
     job: &Job,
     place: usize,

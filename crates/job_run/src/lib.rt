@@ -4,8 +4,7 @@
 //! the outside of `io_edge`, and the program's commands stand on it. It carries that a run saves exactly the sequential
 //! evaluation's files, byte for byte, and that each other end of it has its cause: the first limit that the graph would pass,
 //! the first input that isn't as declared, the first needed block that meets a zero divisor, or a count of faults that rose. It
-//! opens nothing before the limits are kept, and creates nothing before all inputs are accepted. Runs by a cluster save by it what
-//! their client got.
+//! opens nothing before the limits are kept, and creates nothing before all inputs are accepted.
 #![tactic(auto)]
 
 mod blocks;
@@ -13,7 +12,6 @@ mod check;
 mod create;
 mod ends;
 mod evaluate;
-mod got;
 mod group;
 mod inputs;
 mod job;
@@ -21,17 +19,14 @@ mod lines;
 mod load;
 mod lowering;
 mod run;
-mod saving;
 mod wanted;
 
 pub use blocks::{Halt, halt_at, laws_hold};
 pub use create::create_files;
 pub use ends::{Ended, FileError};
-pub use got::Blocks;
 pub use inputs::{Inputs, open_inputs};
 pub use job::{Job, Save};
 pub use lines::saved_lines;
 pub use lowering::lower_job;
 pub use run::run_job;
-pub use saving::save_all;
 pub use wanted::{Wanted, ended_at, joined_keys};

@@ -7,34 +7,35 @@ ghost use Rattle.saved_files.specs.Rows.{ArePlaced};
 ghost use Rattle.saved_files.specs.Saving.{ChangesAt, FillsAll, FillsMore, FillsPart, FillsSome, GivesBack, IsFresh, LeavesOne, TakesAll, WereCreated, saving_at};
 
 use crate::open::{OpenFile, give_all, open_file, write_block, write_blocks};
-use io_edge::{OpenFault, Site};
+use io_edge::{OpenFault, OutFile, Site};
 use nd_shape::{Block, Region, Shape};
 use std::alloc::Global;
 use std::marker::Model;
 use std::sync::Arc;
 
 /// Files of a site that are being saved, in the order of their creation. Contracts see of each its name, the lengths of its array,
-/// what it holds so far, and its count of faults.
+/// what it holds so far, and its count of faults. They are bound to no site: code that is generic in what may go to other threads
+/// can't be called where a trait is implemented, and blocks are written there.
 #[derive(Drop)]
-pub struct SavedFiles<S: Site> {
-    files: Vec<OpenFile<S::Out>>,
+pub struct SavedFiles<F: OutFile> {
+    files: Vec<OpenFile<F>>,
 }
 
-impl<S: Site> Model for SavedFiles<S> {
+impl<F: OutFile> Model for SavedFiles<F> {
     ghost use Rattle.std.specs.Prelude.{List, map, All};
     ghost use Rattle.saved_files.specs.Kept.{IsKept, saving_of};
     ghost use Rattle.saved_files.specs.Saving.{Saving};
 
     ghost Value = { List Saving };
 
-    ghost view = { λ s. map (saving_of S.Out.named S.Out.content S.Out.count) s.files.items };
+    ghost view = { λ s. map (saving_of F.named F.content F.count) s.files.items };
 
-    ghost invariant = { λ s. All (IsKept S.Out.content) s.files.items };
+    ghost invariant = { λ s. All (IsKept F.content) s.files.items };
 }
 
-impl<S: Site> SavedFiles<S> {
+impl<F: OutFile> SavedFiles<F> {
     /// No files. No memory.
-    pub fn new(alloc: Global) -> SavedFiles<S>
+    pub fn new(alloc: Global) -> SavedFiles<F>
         ensures { result ≡ [] }
     {
         SavedFiles {
@@ -55,7 +56,7 @@ impl<S: Site> SavedFiles<S> {
     /// # Errors
     /// `Failed` only where the site's count of write faults rose, and `OutOfMemory` where no memory is left: the site is as before
     /// then. No file is added; one that was created is given back.
-    pub fn create(
+    pub fn create<S: Site<Out = F>>(
         &mut self,
         alloc: Global,
         site: &mut S,
@@ -134,7 +135,7 @@ impl<S: Site> SavedFiles<S> {
     }
 
     /// Gives all files back. The count of write faults rises where a file's count is above 0, and only there.
-    pub fn give(self, site: &mut S)
+    pub fn give<S: Site<Out = F>>(self, site: &mut S)
         requires { WereCreated self (S.view site.old).files }
         ensures gives { GivesBack self (S.view site.old).files (S.view site.new).files }
         ensures only { OnlyWrites (S.view site.old) (S.view site.new) }

@@ -278,4 +278,4 @@ module _ (p : Plan) (s : SimWords) (old saved : View) (report : Report) (turns :
         front = subst L is (subst O v.out printed);
       } in
       ends p s old new (Ran WriteFault) g (v.small, v.values, inr fault) (subst R (sym only.files) v.right) (raised_at_most p.inputs old.files.opened new.files.opened g.opened) (subst C (sym only.files) saved-created)
-      (served-prints (PrintsFront p old new) (inr stops))
+      (served-prints (PrintsFront p old new) (inr (v.values, stops)))

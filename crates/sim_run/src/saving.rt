@@ -31,7 +31,7 @@ pub const CLIENT: u32 = 1;
 fn save_array<S: Site, E: Elements + Send + Sync + Drop>(
     alloc: Global,
     world: &World<JobGraph<S::In, E>>,
-    files: &mut SavedFiles<S>,
+    files: &mut SavedFiles<S::Out>,
     place: usize,
     keys: &[u32],
     layout: &Layout,
@@ -63,7 +63,7 @@ fn save_array<S: Site, E: Elements + Send + Sync + Drop>(
 fn save_arrays<S: Site, E: Elements + Send + Sync + Drop>(
     alloc: Global,
     world: &World<JobGraph<S::In, E>>,
-    files: &mut SavedFiles<S>,
+    files: &mut SavedFiles<S::Out>,
     saved: &[KeyList],
     layouts: &[Layout],
 ) -> Result<(), OpenFault>
@@ -74,7 +74,7 @@ fn save_arrays<S: Site, E: Elements + Send + Sync + Drop>(
     ensures failed { IsErrOf result OpenFault.Failed → HasFailed files.new }
 {
     for (place, keys) in saved.iter().enumerate() {
-        save_array(alloc, world, files, place, keys.as_slice(), &layouts[place])?;
+        save_array::<S, E>(alloc, world, files, place, keys.as_slice(), &layouts[place])?;
     }
     Ok(())
 }
@@ -108,7 +108,7 @@ pub fn save_all<S: Site, E: Elements + Send + Sync + Drop>(
 {
     filled_is_whole();
     let mut files = create_files(alloc, site, job)?;
-    let done = save_arrays(alloc, world, &mut files, saved, layouts);
+    let done = save_arrays::<S, E>(alloc, world, &mut files, saved, layouts);
     files.give(site);
     done
 }

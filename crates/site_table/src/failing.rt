@@ -12,7 +12,7 @@ use std::thread::Threads;
 // The most calls of a kind that are made to fail in turn.
 const CALLS: u64 = 1000;
 
-/// What a run is to save: the name of a file, and what it holds after a run in which no call fails.
+/// What a run is to save: the name of a file, and what it holds where all of it is there.
 #[derive(Drop)]
 struct Wanted {
     file: String,
@@ -45,12 +45,12 @@ fn is_in_part(held: &[u8], wanted: &[u8]) -> bool {
     right
 }
 
-// How much of what is wanted a site has.
-fn state(site: &MemorySite, wanted: &Wanted) -> &'static str {
+// How much of what is wanted a site has. Whether all of it is told only where that is asked for.
+fn state(site: &MemorySite, wanted: &Wanted, asks_whole: bool) -> &'static str {
     match site.file(wanted.file.as_str()) {
         None => "none",
         Some(held) => {
-            if held == wanted.bytes.as_slice() {
+            if asks_whole && held == wanted.bytes.as_slice() {
                 "whole"
             } else if is_in_part(held, &wanted.bytes) {
                 "in part"
@@ -73,9 +73,10 @@ fn make_tried(
     site: &MemorySite,
     status: u8,
     wanted: &Wanted,
+    any: bool,
 ) -> Result<Tried, AllocError> {
     let streams = told_streams(alloc, site)?;
-    let state = state(site, wanted);
+    let state = state(site, wanted, !any || status == 0);
     let failed = faults(site) != [0, 0, 0, 0];
     let told = format!(in alloc; " {status}{streams} {} {state}", wanted.file)?;
     Ok(Tried { told, failed })
@@ -88,6 +89,7 @@ fn run_failing<R: Threads + Wait + RandomSource + AllocGlobal + Sync>(
     call: u64,
     words: &[String],
     wanted: &Wanted,
+    any: bool,
 ) -> Result<Tried, AllocError> {
     let refusal = Refusal {
         kind,
@@ -96,7 +98,7 @@ fn run_failing<R: Threads + Wait + RandomSource + AllocGlobal + Sync>(
     };
     let mut site = desk.site(rt.alloc(), Some(refusal))?;
     let status = status(rt, false, words, &mut site);
-    make_tried(rt.alloc(), &site, status, wanted)
+    make_tried(rt.alloc(), &site, status, wanted, any)
 }
 
 // Prints what came of a call where it isn't what came of the one before it.
@@ -119,11 +121,13 @@ fn print_count<R: Print>(rt: &R, kind: Kind, count: u64) -> Result<(), Trouble> 
 }
 
 /// Runs the program over new sites, of which each call of a kind fails in turn, until none does: the kind, the file that is
-/// shown, and the words. What comes of several calls, one after another, stands once.
+/// shown, and the words. What comes of several calls, one after another, stands once. `any` is said of runs whose blocks come in any
+/// order: of a file after another status than 0 isn't told whether all of it is there.
 pub fn fail_each<R: Print + Threads + Wait + RandomSource + AllocGlobal + Sync>(
     rt: &R,
     desk: &Desk,
     words: &mut Words,
+    any: bool,
 ) -> Result<(), Trouble> {
     let kind = kind_of(words.word())?;
     let file = words.word();
@@ -131,7 +135,7 @@ pub fn fail_each<R: Print + Threads + Wait + RandomSource + AllocGlobal + Sync>(
     let wanted = undisturbed(rt, desk, &list, file)?;
     let mut last = String::new(rt.alloc());
     for call in 0..CALLS {
-        let tried = run_failing(rt, desk, kind, call, &list, &wanted)?;
+        let tried = run_failing(rt, desk, kind, call, &list, &wanted, any)?;
         print_new(rt, last.as_str(), tried.told.as_str())?;
         if !tried.failed {
             return print_count(rt, kind, call);
@@ -139,4 +143,34 @@ pub fn fail_each<R: Print + Threads + Wait + RandomSource + AllocGlobal + Sync>(
         last = tried.told;
     }
     Err(Trouble::Ill)
+}
+
+// Runs the program over a new site, and tells the status and how a file stands to another one of the site.
+fn run_for_state<R: Threads + Wait + RandomSource + AllocGlobal + Sync>(
+    rt: &R,
+    desk: &Desk,
+    words: &[String],
+    file: &str,
+    other: &str,
+) -> Result<(u8, &'static str), AllocError> {
+    let mut site = desk.site(rt.alloc(), None)?;
+    let bytes = site.file(other).unwrap_or(&[]).to_vec(rt.alloc())?;
+    let file = String::from_str(rt.alloc(), file)?;
+    let wanted = Wanted { file, bytes };
+    let status = status(rt, false, words, &mut site);
+    Ok((status, state(&site, &wanted, false)))
+}
+
+/// Runs the program over a new site, and prints the status and whether a file has right bytes alone: the file, another one that has
+/// all of them, and the words. A byte is right that is the other file's for its place, or 0.
+pub fn run_for_part<R: Print + Threads + Wait + RandomSource + AllocGlobal + Sync>(
+    rt: &R,
+    desk: &Desk,
+    words: &mut Words,
+) -> Result<(), Trouble> {
+    let file = words.word();
+    let other = words.word();
+    let list = split(rt.alloc(), words.rest, ' ')?;
+    let (status, state) = run_for_state(rt, desk, &list, file, other)?;
+    Ok(print!(rt; " {status} {file} {state}")?)
 }

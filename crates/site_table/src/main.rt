@@ -22,7 +22,7 @@ mod words;
 use block::print_block;
 use calls::call;
 use desk::Desk;
-use failing::fail_each;
+use failing::{fail_each, run_for_part};
 use io_edge::{MemorySite, RealSite, Site};
 use places::{change, counts, put_any, show, texts};
 use runs::{run_for_file, run_here, run_often};
@@ -42,12 +42,19 @@ fn answer_run<R: Print + Files + Threads + Wait + RandomSource + AllocGlobal + S
     name: &str,
     words: &mut Words,
 ) -> Result<(), Trouble> {
-    match place(name, &["top", "serial", "often", "saved", "fail"]) {
+    match place(
+        name,
+        &[
+            "top", "serial", "often", "saved", "fail", "failany", "partly",
+        ],
+    ) {
         0 => run_here(rt, false, site, words),
         1 => run_here(rt, true, site, words),
         2 => run_often(rt, desk, words),
         3 => run_for_file(rt, desk, words),
-        4 => fail_each(rt, desk, words),
+        4 => fail_each(rt, desk, words, false),
+        5 => fail_each(rt, desk, words, true),
+        6 => run_for_part(rt, desk, words),
         _ => call(rt, rt.alloc(), site, name, words),
     }
 }

@@ -17,7 +17,7 @@ use Rattle.job_run.specs.Inputs.{told_all}
 use Rattle.job_run.specs.Lowering.{LowerCause}
 use Rattle.job_run.specs.Part.{AreLeft, AreWhole, IsNoneOf, RaisedAtMost}
 use Rattle.job_run.specs.Plan.{Plan, names_saved}
-use Rattle.job_run.specs.Runs.{AreRight, AreSaved, IsSmall, ReadCause, RunsPlan, StopsPrinting}
+use Rattle.job_run.specs.Runs.{AreRight, AreSaved, Created, IsSmall, ReadCause, RunsPlan, StopsPrinting}
 use Rattle.job_run.specs.Told.{named_told}
 use Rattle.job_run.specs.Values.{IsFaulty, MeetsNone, Named, OnInputs, files_of, tasks_of}
 use Rattle.job_run.specs.Wanted.{wanted_of}
@@ -26,7 +26,7 @@ use Rattle.job_run.proofs.Counting.{raised_at_most, times-append}
 use Rattle.job_run.proofs.Naming.{on_named}
 use Rattle.job_run.proofs.Running.{HaveAccepted, left_before, lowering_runs, most_before, reading_runs, rose_before}
 use Rattle.thread_run.specs.Counts.{RaisedBetween, feeds, repeated}
-use Rattle.thread_run.specs.Ends.{Cause, Created, HasValues, Looked, Opened, Prints, PrintsRun, RunsByThreads, Saves, lines_of, openings}
+use Rattle.thread_run.specs.Ends.{Cause, HasValues, Looked, Opened, Prints, PrintsRun, RunsByThreads, Saves, lines_of, openings}
 use Rattle.thread_run.specs.Feeding.{is_told}
 use Rattle.thread_run.specs.Reports.{IsReportBy, IsToldRun, label}
 use Rattle.thread_run.specs.Serving.{ServesAll, ServesFiles, ServesPart}
@@ -90,7 +90,7 @@ reading-ends p w old new (File place error) small cause opens only =
 reading-ends p w old new (Zero node block) small cause opens only = absurd cause
 reading-ends p w old new ReadFault small cause opens only =
     let r = reading_runs p old new ReadFault small cause opens only in
-    ran p w old new ReadFault r opens.held opens.created r.cause opens.held (most-front p.inputs (repeated (feeds w) p.inputs) old.files.opened new.files.opened r.opened) opens.created r.prints
+    ran p w old new ReadFault r opens.held opens.created r.cause (λ t. r.saves) (most-front p.inputs (repeated (feeds w) p.inputs) old.files.opened new.files.opened r.opened) r.created r.prints
 reading-ends p w old new WriteFault small cause opens only = absurd cause
 reading-ends p w old new OutOfMemory small cause opens only =
     let r = reading_runs p old new OutOfMemory small cause opens only in
@@ -186,7 +186,7 @@ module _ (p : Plan) (w : RunWords) (old mid : View) (files : List Content) (head
   created-most : (new : View) → ServesFiles p (feeds w) mid new → RaisedAtMost (names_saved p) old.files.created new.files.created
   created-most new f = most_before (names_saved p) old.files.created mid.files.created new.files.created a.opens.created f.created
 
-  -- ### The client didn't get all, or its blocks weren't all saved
+  -- ### Not all is saved
 
   pub stopped-ends : (new : View) (end : Ended) → ServesFiles p (feeds w) mid new →
       ServesPart p (named_told files heads) (IsTrue told) (Rose mid.read_faults new.read_faults) (Rose mid.write_faults new.write_faults) mid.files new.files end → RunsByThreads p w old new end
@@ -194,20 +194,19 @@ module _ (p : Plan) (w : RunWords) (old mid : View) (files : List Content) (head
   stopped-ends new (Limit quantity) f part = absurd part.cause
   stopped-ends new (File place error) f part = absurd part.cause
   stopped-ends new (Zero node block) f part =
-      let bare = part.bare tt in
       let g = follows new f in
-      ends p w old new (Zero node block) g (a.small, record { inputs = a.fit; zero_at = on-inputs (λ n. IsFaulty p n node block) told is part.cause }) (bare.0 ∙ a.opens.held) g.opened (bare.1 ∙ a.opens.created) (f.out ∙ a.only.out)
+      ends p w old new (Zero node block) g (a.small, record { inputs = a.fit; zero_at = on-inputs (λ n. IsFaulty p n node block) told is part.cause }) (are-right new.files part.left) g.opened
+      (part.created ∙ ap (raised_by (names_saved p)) a.opens.created) (f.out ∙ a.only.out)
   stopped-ends new ReadFault f part =
-      let bare = part.bare tt in
       let g = follows new f in
-      ends p w old new ReadFault g (a.small, rose_before old.read_faults mid.read_faults new.read_faults a.later part.cause) (bare.0 ∙ a.opens.held) g.opened.at_most (bare.1 ∙ a.opens.created) (f.out ∙ a.only.out)
+      ends p w old new ReadFault g (a.small, rose_before old.read_faults mid.read_faults new.read_faults a.later part.cause) (are-right new.files part.left) g.opened.at_most (created-most new f) (f.out ∙ a.only.out)
   stopped-ends new WriteFault f part =
       let g = follows new f in
-      ends p w old new WriteFault g (a.small, has-values part.cause.0, inl (rose_before old.write_faults mid.write_faults new.write_faults (omega (arith, a.only.write_faults)) part.cause.1)) (are-right new.files part.left) g.opened (created-most new f)
+      ends p w old new WriteFault g (a.small, a.fit, inl (rose_before old.write_faults mid.write_faults new.write_faults (omega (arith, a.only.write_faults)) part.cause)) (are-right new.files part.left) g.opened (created-most new f)
       (inl (f.out ∙ a.only.out))
   stopped-ends new OutOfMemory f part = let g = follows new f in ends p w old new OutOfMemory g tt (are-right new.files part.left) g.opened.at_most (created-most new f) (f.out ∙ a.only.out)
 
-  -- ### All blocks were saved
+  -- ### All is saved
 
   module _ (saved : View) (f : ServesFiles p (feeds w) mid saved) (all : ServesAll p (named_told files heads) (IsTrue told) mid.files saved.files) where
     -- no memory was left for the lines
@@ -252,4 +251,4 @@ module _ (p : Plan) (w : RunWords) (old mid : View) (files : List Content) (head
             fault = risen;
             front = subst O (f.out ∙ a.only.out) (subst T lines printed);
           } in
-          ends p w old new WriteFault g (a.small, has-values all.values, inr risen) (subst R (sym only.files) (are-right saved.files all.left)) g.opened (raised_at_most (names_saved p) old.files.created new.files.created created) (inr (prints-run (StopsPrinting p old new) stops))
+          ends p w old new WriteFault g (a.small, a.fit, inr (has-values all.values, risen)) (subst R (sym only.files) (are-right saved.files all.left)) g.opened (raised_at_most (names_saved p) old.files.created new.files.created created) (inr (has-values all.values, prints-run (StopsPrinting p old new) stops))

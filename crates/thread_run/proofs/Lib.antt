@@ -3,7 +3,9 @@ pub mod Fixed
 pub mod Openings
 pub mod Planning
 pub mod Saved
+pub mod SaverEnds
+pub mod SaverOpen
 pub mod Serves
 pub mod Disks
-pub mod Tables
 pub mod Veiled
+pub mod Writes

@@ -100,6 +100,10 @@ opens-row names n t old mid new a b = subst (λ k. OpensOften names k old new) (
 pub opens-rows : (names : List (List ℕ)) (n m t : ℕ) (old new : View) → n ≤ m → OpensOften names (n * t) old new → OpensOften names (m * t) old new
 opens-rows names n m t old new h a = opens-most names (n * t) (m * t) old new (mul-le n t m t h (omega arith)) a
 
+-- the same names and numbers, called otherwise
+pub opens-as : (names same : List (List ℕ)) (n m t : ℕ) (old new : View) → names ≡ same → n ≡ m → OpensOften names (n * t) old new → OpensOften same (m * t) old new
+opens-as names same n m t old new is are o = let P : List (List ℕ) × ℕ → Type 0 = λ x. OpensOften x.0 (x.1 * t) old new in subst P (λ i. (is i, are i)) o
+
 -- ## Counts of faults
 
 pub rose-then : (a b c : ℕ) → b ≤ c → Rose a b → Rose a c

@@ -1,34 +1,31 @@
--- What the client of a cluster of threads got of a plan, and its files.
-use Rattle.std.proofs.Common.{◌≡◌, ℕ, ◌<◌, Bool, List, length, get_or, refl, ap, sym, ◌∙◌, subst, arith, Option, Some, None}
-use Rattle.std.specs.Prelude.{All, IsSome, IsTrue}
-use Rattle.std.proofs.lemmas.Grind.{get_or_default_zero}
+-- The files of a run's saves, from their creation to the end of the run.
+use Rattle.std.proofs.Common.{◌≡◌, ℕ, ◌≤◌, ◌<◌, Bool, List, length, refl, ap, sym, ◌∙◌, subst, arith, Option, Some, true}
+use Rattle.std.specs.Prelude.{All, Err, IfErr, IsOk, IsTrue, None, OnOk, Result, bytes_eq}
 use Rattle.std.proofs.lemmas.List.{length-map}
-use Rattle.io_edge.specs.View.{Files, raised_by}
+use Rattle.std.proofs.lemmas.Result.{IfErr-weaker}
+use Rattle.io_edge.specs.declared.edge.OpenFault.{OpenFault}
+use Rattle.io_edge.specs.declared.edge.OpenFault.TheVariants as fault
+use Rattle.io_edge.specs.View.{Files, OnlyWrites, View, raised_by}
 use Rattle.nd_shape.specs.Block.{Array}
+use Rattle.block_kernels.specs.Kernels.{result_shape}
 use Rattle.block_lowering.specs.Jobs.{Job, dims_of, graph_of, made_by}
-use Rattle.cluster_msgs.specs.Labels.{LabelFacts}
+use Rattle.cluster_msgs.specs.Labels.{LabelFacts, label_of}
 use Rattle.cluster_msgs.specs.Shape.{Shape, key_count}
 use Rattle.task_graph.specs.declared.graph.Task.{Task}
-use Rattle.task_graph.specs.Graphs.{shape_of, value}
-use Rattle.lowering_laws.specs.Lowered.{lowered}
-use Rattle.lowering_laws.specs.Whole.{saved_key}
-use Rattle.saved_files.specs.Saving.{IsLeft}
+use Rattle.task_graph.specs.Graphs.{operation, shape_of, task_at}
+use Rattle.saved_files.specs.Saving.{GivesBack, saving_at}
 use Rattle.node_runner.specs.Naming.{run_facts}
-use Rattle.job_run.specs.declared.ends.Ended.TheVariants.{OutOfMemory, WriteFault}
-use Rattle.job_run.specs.Evaluating.{HasLaws, HaveAll, array_at}
-use Rattle.job_run.specs.Part.{AreLeft}
-use Rattle.job_run.specs.Plan.{IsRunnable, Plan, Saved, name_at, names_saved, nodes_saved}
-use Rattle.job_run.specs.Saving.{HasSaves, IsGot, SavesLeft, SavesWhole}
-use Rattle.job_run.specs.Values.{MeetsNone, Named, files_of, tasks_of}
-use Rattle.job_run.specs.declared.wanted.Wanted.{Wanted}
-use Rattle.job_run.specs.Wanted.{IsWantedOf, wanted_of}
-use Rattle.job_run.proofs.Evaluated.{file_saved}
-use Rattle.job_run.proofs.Reached.{each, member}
-use Rattle.job_run.proofs.SavedBlocks.{has-saves, is-got}
-use Rattle.job_run.proofs.SavedKeys.{each-joined, meets-none, saved-small, valued}
+use Rattle.node_runner.specs.declared.ends.RunStatus.{RunStatus}
+use Rattle.job_run.specs.declared.ends.Ended.{Ended}
+use Rattle.job_run.specs.Evaluating.{AreOpenFor}
+use Rattle.job_run.specs.Plan.{Plan, Saved, name_at, names_saved}
+use Rattle.job_run.specs.Values.{Named, tasks_of}
+use Rattle.job_run.specs.Wanted.{wanted_of}
 use Rattle.thread_run.specs.Reports.{label}
-use Rattle.thread_run.specs.Serving.{ServesAll, ServesPart}
-use Rattle.thread_run.specs.Tables.{AreFit, IsThere, got_in}
+use Rattle.thread_run.specs.Saver.{IsLabelOf, Saves, SavesOn, had_in}
+use Rattle.thread_run.specs.Serving.{IsWhy, ServesAll, ServesPart, StopsAt}
+use Rattle.thread_run.proofs.SaverEnds.{IsServed, served-all, served-left}
+use Rattle.thread_run.proofs.Serves.{LeavesFiles, both-ok, creates-all, ok-holds, stopped}
 
 -- ## The label of a run
 
@@ -40,78 +37,52 @@ facts_of picked inside named told = run_facts (λ j. graph_of (inside j)) (λ j 
 pub facts-are : {J : Type 0} (picked : Option J) (job : J) (inside : J → Job) (named : Named) (told : Bool) (tasks : List Task) → picked ≡ Some job → (inside job).tasks ≡ tasks → facts_of picked inside named told ≡ label told named tasks
 facts-are picked job inside named told tasks is same = ap (λ o. facts_of o inside named told) is ∙ ap (label told named) same
 
--- ## The keys that are wanted
+-- so it is a label of the plan's graph
+pub label-of : {J : Type 0} (p : Plan) (picked : Option J) (job : J) (inside : J → Job) (named : Named) (told : Bool) → picked ≡ Some job → (inside job).tasks ≡ tasks_of p → IsLabelOf p (facts_of picked inside named told)
+label-of p picked job inside named told is same = record { told = told; named = named; is = facts-are picked job inside named told (tasks_of p) is same }
 
--- each is one of the graph
-pub small-keys : (p : Plan) (named : Named) (tasks : List Task) (graph : Shape) (many : ℕ) (keys : List ℕ) → IsRunnable p → HasLaws p named → tasks ≡ tasks_of p → graph ≡ shape_of tasks → many ≡ key_count graph → (w : Wanted) → IsWantedOf p w → keys ≡ w.all → All (λ k. k < many) keys
-small-keys p named tasks graph many keys runs laws same of is w wanted keys_are k d lt =
-    let are : keys ≡ wanted_of p = keys_are ∙ wanted.all_is in
-    let h : k < length (wanted_of p) = subst (λ (ks : List ℕ). k < length ks) are lt in
-    let in_plan : get_or (wanted_of p) k d < length (tasks_of p) =
-    subst (λ i. i < length (tasks_of p)) (sym (get_or_default_zero (wanted_of p) k d h)) (member (λ i. i < length (tasks_of p)) (wanted_of p) k (saved-small p named runs laws) h) in
-    let here : get_or keys k d < length (tasks_of p) = subst (λ (ks : List ℕ). get_or ks k d < length (tasks_of p)) (sym are) in_plan in
-    omega (arith, here, is, ap (λ (g : Shape). length g.deps) of, ap (λ (ts : List Task). length ts) same, length-map tasks (λ (t : Task). t.deps))
+-- how many keys the graph has
+pub keys-are : (p : Plan) (tasks : List Task) (graph : Shape) (many : ℕ) → tasks ≡ tasks_of p → graph ≡ shape_of tasks → many ≡ key_count graph → many ≡ length (tasks_of p)
+keys-are p tasks graph many same of is = omega (arith, is, ap (λ (g : Shape). length g.deps) of, ap (λ (ts : List Task). length ts) same, length-map tasks (λ (t : Task). t.deps))
 
--- what each key has that was wanted
-pub all-wanted : (P : ℕ → Type 0) (p : Plan) (keys : List ℕ) (w : Wanted) → IsWantedOf p w → keys ≡ w.all → All P keys → All P (wanted_of p)
-all-wanted P p keys w wanted are all = subst (All P) (are ∙ wanted.all_is) all
+-- ## The files, while blocks are written
 
--- ## What is there
+-- they are given back
+module _ (p : Plan) (first last : Saves) (created_for : AreOpenFor p first.files) (on : SavesOn first last) where
+  many-still : length last.files ≡ length p.saves
+  many-still = on.same.count ∙ created_for.count
 
-some-of : {A : Type 0} (o : Option A) → IsSome o → (x : A) × (o ≡ Some x)
-some-of None some = absurd cc
-some-of (Some x) some = (x, refl)
+  names-still : (k : ℕ) → k < length p.saves → (saving_at last.files k).name ≡ name_at (names_saved p) k
+  names-still k lt = on.same.names k (omega (arith, lt, created_for.count)) ∙ created_for.names k lt
 
-module _ (p : Plan) (named : Named) (told : Bool) (table : List (Option Array)) (runs : IsRunnable p) (laws : HasLaws p named) (fits : AreFit (label told named (tasks_of p)) table) (all : All (λ k. IsSome (got_in table k)) (wanted_of p)) where
-  got-value : IsTrue told → (k : ℕ) (b : Array) → got_in table k ≡ Some b → value named (tasks_of p) k ≡ Some b
-  got-value t k b e = (fits.each k b e).value t
+  pub leaves : (old new : View) → GivesBack last.files old.files new.files → OnlyWrites old new → old.write_faults ≤ new.write_faults → LeavesFiles p old new
+  leaves old new gives only later = record {
+    others = λ n none. gives.others n (λ k lt.
+        let l : k < length p.saves = omega (arith, lt, many-still) in
+        ap (λ name. bytes_eq name n) (names-still k l) ∙ none k (omega (arith, l, length-map p.saves (λ (x : Saved). x.file))));
+    tells = gives.tells;
+    opened = gives.opened;
+    created = gives.created;
+    only = only;
+    later = later;
+  }
 
-  have-all : IsTrue told → HaveAll p named (length (tasks_of p))
-  have-all t = valued p named runs laws (each (λ k. IsSome (value named (tasks_of p) k)) (wanted_of p) (λ i l.
-      let k = get_or (wanted_of p) i 0 in
-      let s = some-of (got_in table k) (all i 0 l) in
-      subst IsSome (sym (got-value t k s.0 s.1)) refl))
+-- ## At the end of the run
 
-  none-met : IsTrue told → MeetsNone p named
-  none-met t = meets-none p named runs laws (have-all t)
+module _ (p : Plan) (named : Named) (told : Bool) (first last : Saves) (old mid new : Files) (r : IsServed p named told first last old mid new) (created : mid.created ≡ raised_by (names_saved p) old.created) where
+  -- all was given and written
+  pub all-served : {A B C E F G : Type 0} (keys : List ℕ) (end : Result A E) (given : Result B F) (written : Result C G) → keys ≡ wanted_of p → OnOk end (IsOk given) → OnOk end (IsOk written) → OnOk given (All (λ k. had_in last.had k ≡ true) keys) →
+      OnOk written (last.fault ≡ None) → OnOk end (ServesAll p named (IsTrue told) old new)
+  all-served keys end given written are gave wrote had sound =
+      let H : List ℕ → Type 0 = λ ks. All (λ k. had_in last.had k ≡ true) ks in
+      both-ok end given written (ServesAll p named (IsTrue told) old new) gave wrote (λ g s. served-all p named told first last old mid new r (subst H are (ok-holds given (H keys) g had)) (ok-holds written (last.fault ≡ None) s sound) created)
 
-  -- a block of each saved key is there, with the key's lengths
-  pub all-saves : (saved : List (List ℕ)) (layouts : List (List (List ℕ))) (w : Wanted) → IsWantedOf p w → saved ≡ w.saved → layouts ≡ w.layouts → HasSaves p saved layouts (IsThere table)
-  all-saves saved layouts w wanted keys layouts_are = has-saves p saved layouts (IsThere table) runs laws.expression (keys ∙ wanted.saved_is) (layouts_are ∙ wanted.layouts_are) (λ j c lj lc.
-      let key = saved_key p.nodes (nodes_saved p) j c in
-      let some : IsSome (got_in table key) = each-joined (λ k. IsSome (got_in table k)) (lowered p.nodes (nodes_saved p)).saved (each (λ k. IsSome (got_in table k)) (wanted_of p) (λ i l. all i 0 l)) j c lj lc in
-      let s = some-of (got_in table key) some in
-      record { block = s.0; at = s.1; lengths_are = (fits.each key s.0 s.1).dims })
-
-  module _ (saved : List (List ℕ)) (layouts : List (List (List ℕ))) (w : Wanted) (wanted : IsWantedOf p w) (keys : saved ≡ w.saved) (layouts_are : layouts ≡ w.layouts) (before after : Files)
-      (leaves : SavesLeft p saved layouts (got_in table) before after) where
-    many : length (names_saved p) ≡ length p.saves
-    many = length-map p.saves (λ (x : Saved). x.file)
-
-    right : IsTrue told → (k : ℕ) → k < length p.saves → IsGot p saved layouts (got_in table) k (array_at p named k)
-    right t k l = is-got p named (got_in table) runs laws (got-value t) (have-all t) saved layouts (keys ∙ wanted.saved_is) (layouts_are ∙ wanted.layouts_are) k l
-
-    -- parts of the right files at least
-    left-right : IsTrue told → AreLeft (names_saved p) (files_of p named) before after
-    left-right t k lt =
-        let l : k < length p.saves = omega (arith, lt, many) in
-        let L : List ℕ → Type 0 = λ bytes. IsLeft (name_at (names_saved p) k) bytes before after in
-        subst L (file_saved p named k l) (leaves k (array_at p named k) l (right t k l))
-
-    pub serves-all : SavesWhole p saved layouts (got_in table) before after → after.created ≡ raised_by (names_saved p) before.created → ServesAll p named (IsTrue told) before after
-    serves-all whole created = record {
-      values = none-met;
-      whole = λ t tells k lt.
-          let l : k < length p.saves = omega (arith, lt, many) in
-          whole k (array_at p named k) l (right t k l) tells ∙ ap Some (file_saved p named k l);
-      left = left-right;
-      created = created;
-    }
-
-    -- a file couldn't be written
-    pub writes-stopped : (writes : Type 0) → writes → ServesPart p named (IsTrue told) ⊥ writes before after WriteFault
-    writes-stopped writes cause = record { cause = (none-met, cause); left = left-right; bare = λ b. absurd b }
-
-    -- no memory was left
-    pub writes-starved : (writes : Type 0) → ServesPart p named (IsTrue told) ⊥ writes before after OutOfMemory
-    writes-starved writes = record { cause = tt; left = left-right; bare = λ b. absurd b }
+  -- it wasn't
+  pub part-served : {A B C : Type 0} (reads writes : Type 0) (facts : LabelFacts Array) (keys : List ℕ) (end : Result A Ended) (given : Result B RunStatus) (written : Result C OpenFault) → facts ≡ label told named (tasks_of p) → keys ≡ wanted_of p → IfErr given (IsWhy facts keys reads) →
+      (written ≡ Err fault.Failed → writes) → IfErr end (StopsAt p given written) → IfErr end (ServesPart p named (IsTrue told) reads writes old new)
+  part-served reads writes facts keys end given written is are why failed stops =
+      IfErr-weaker end (StopsAt p given written) (ServesPart p named (IsTrue told) reads writes old new) (λ e at. record {
+        cause = stopped p named told reads writes facts keys given written e r.runs r.laws is are why failed at;
+        left = served-left p named told first last old mid new r;
+        created = creates-all (names_saved p) old.created new.created e (r.gives.created ∙ created);
+      }) stops

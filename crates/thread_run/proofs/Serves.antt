@@ -1,10 +1,12 @@
--- What a run of a graph leaves: its feeds opened and given back, and then its client's blocks saved.
-use Rattle.std.proofs.Common.{◌≡◌, ℕ, ◌≤◌, Bool, List, refl, ap, sym, ◌∙◌, subst, arith, Option, Some, None, Result, Ok, Err, inl, inr}
-use Rattle.std.specs.Prelude.{◌⊎◌, Contains, IfErr, IfOk, IfSome, IsOk, IsTrue}
+-- What a run of a graph leaves: feeds that are opened and given back, and files that are created, written and given back.
+use Rattle.std.proofs.Common.{◌≡◌, ℕ, ◌≤◌, ◌<◌, Bool, List, [], length, refl, ap, sym, ◌∙◌, subst, arith, Option, Some, None, Result, Ok, Err, inl}
+use Rattle.std.specs.Prelude.{Contains, IfErr, IfOk, IfSome, IsOk, IsTrue, OnOk}
 use Rattle.std.proofs.lemmas.Bool.{false≢true}
 use Rattle.io_edge.specs.Cause.{Rose}
+use Rattle.io_edge.specs.declared.edge.OpenFault.{OpenFault}
+use Rattle.io_edge.specs.declared.edge.OpenFault.TheVariants as fault
 use Rattle.io_edge.proofs.GivenLaws.{more_same, more_then}
-use Rattle.io_edge.specs.View.{View, Files, OnlyReads, raised_by}
+use Rattle.io_edge.specs.View.{View, Files, OnlyReads, OnlySpills, OnlyWrites, raised_by, times}
 use Rattle.nd_shape.specs.Block.{Array}
 use Rattle.cluster_msgs.specs.Labels.{BlameFits, LabelFacts}
 use Rattle.cluster_msgs.specs.Shape.{Shape}
@@ -17,24 +19,40 @@ use Rattle.node_runner.specs.declared.ends.RunStatus.TheVariants as status
 use Rattle.node_runner.specs.declared.plan.RunPlan.{RunPlan}
 use Rattle.job_run.specs.declared.ends.Ended.{Ended}
 use Rattle.job_run.specs.declared.ends.Ended.TheVariants.{Done, Limit, File, Zero, ReadFault, WriteFault, OutOfMemory}
-use Rattle.job_run.specs.Evaluating.{HasLaws}
+use Rattle.job_run.specs.Evaluating.{EvaluationCreates, HasLaws, LeavesAll}
+use Rattle.job_run.specs.Part.{AreLeft, IsNoneOf, RaisedAtMost}
 use Rattle.job_run.specs.Plan.{IsRunnable, Plan, name_at, names_saved}
 use Rattle.job_run.specs.Values.{Named, files_of, tasks_of}
 use Rattle.job_run.specs.Wanted.{EndsAtKey, wanted_of}
-use Rattle.job_run.proofs.Counting.{none_raised}
+use Rattle.job_run.proofs.Counting.{none_raised, raised_at_most}
 use Rattle.job_run.proofs.Running.{left_before, most_before}
 use Rattle.job_run.proofs.SavedKeys.{is-faulty}
-use Rattle.thread_run.specs.Feeding.{OpensOften}
-use Rattle.thread_run.specs.Serving.{IsWhy, SavesFiles, ServesAll, ServesFiles, ServesPart, Stops}
-use Rattle.thread_run.proofs.Openings.{opens-back}
+use Rattle.thread_run.specs.Counts.{repeated}
+use Rattle.thread_run.specs.Feeding.{OpensOften, TakesBack}
+use Rattle.thread_run.specs.Serving.{IsUnsaved, IsWhy, ServesAll, ServesFiles, ServesPart, Stops, StopsAt}
+use Rattle.thread_run.proofs.SaverEnds.{open-left}
 use Rattle.thread_run.specs.Reports.{IsReportOf, IsReportOfRun, IsServedRun, entries_of, label}
+
+-- ## Results
+
+-- what holds where this one is a value, since others are values then
+pub both-ok : {A B C E F G : Type 0} (a : Result A E) (b : Result B F) (c : Result C G) (P : Type 0) → OnOk a (IsOk b) → OnOk a (IsOk c) → (IsOk b → IsOk c → P) → OnOk a P
+both-ok (Ok x) b c P left right f = f left right
+both-ok (Err e) b c P left right f = tt
+
+pub ok-holds : {A E : Type 0} (r : Result A E) (P : Type 0) → IsOk r → OnOk r P → P
+ok-holds (Ok x) P ok h = h
+ok-holds (Err e) P ok h = absurd (false≢true ok)
 
 -- ## Faults
 
 pub rose_after : (a b c : ℕ) → b ≤ c → Rose a b → Rose a c
 rose_after a b c h rose = omega (arith, h, rose)
 
--- ## Why the cluster gave no blocks
+pub rose_first : (a b c : ℕ) → a ≤ b → Rose b c → Rose a c
+rose_first a b c h rose = omega (arith, h, rose)
+
+-- ## Why the cluster didn't give all blocks
 
 why-status : {B A : Type 0} (l : LabelFacts B) (wanted : List ℕ) (reads : Type 0) (result : Result A RunStatus) → result ≡ Err status.Memory → IfErr result (IsWhy l wanted reads)
 why-status {B} {A} l wanted reads result e = let P : Result A RunStatus → Type 0 = λ r. IfErr r (IsWhy l wanted reads) in subst P (sym e) tt
@@ -47,19 +65,13 @@ why-of l graph p wanted Failed reads (Err (status.Zero key)) left (Some h) f how
 why-of l graph p wanted Failed reads (Err status.Read) left (Some h) f how = f how.1.cause.1
 why-of l graph p wanted Failed reads (Err status.Memory) left (Some h) f how = tt
 
--- a fault is told of a longer time
-pub why-more : {B A : Type 0} (l : LabelFacts B) (wanted : List ℕ) (reads more : Type 0) (result : Result A RunStatus) → (reads → more) → IfErr result (IsWhy l wanted reads) → IfErr result (IsWhy l wanted more)
-why-more l wanted reads more (Ok blocks) f why = tt
-why-more l wanted reads more (Err (status.Zero key)) f why = why
-why-more l wanted reads more (Err status.Read) f why = f why
-why-more l wanted reads more (Err status.Memory) f why = tt
-
--- the histories of a run that gave blocks
-pub served-run : {A : Type 0} (l : LabelFacts Array) (graph : Shape) (p : RunPlan) (wanted : List ℕ) (Failed : Type 0) (result : Result A RunStatus) (left : List (Option Why)) (h : Option Histories) (blocks : A) (told : Histories) →
-    result ≡ Ok blocks → h ≡ Some told → HowItEnded l graph p wanted Failed result left h → IsServedRun l graph p wanted told
-served-run {A} l graph p wanted Failed result left h blocks told gave are how =
-    let H : Result A RunStatus × Option Histories → Type 0 = λ x. HowItEnded l graph p wanted Failed x.0 left x.1 in
-    let run = subst H (λ i. (gave i, are i)) how in
+-- the histories of a run that gave all blocks
+pub served-run : {A : Type 0} (l : LabelFacts Array) (graph : Shape) (p : RunPlan) (wanted : List ℕ) (Failed : Type 0) (result : Result A RunStatus) (left : List (Option Why)) (h : Option Histories) (end : Result Histories Ended) →
+    HowItEnded l graph p wanted Failed result left h → OnOk end (IsOk result) → IfOk end (λ x. h ≡ Some x) → IfOk end (IsServedRun l graph p wanted)
+served-run l graph p wanted Failed result left h (Err e) how given are = tt
+served-run l graph p wanted Failed (Err e) left h (Ok x) how given are = absurd (false≢true given)
+served-run l graph p wanted Failed (Ok y) left h (Ok x) how given are =
+    let run = subst (HowItEnded l graph p wanted Failed (Ok y) left) are how in
     record { last = run.0; are = run.1.histories; got = run.1.got }
 
 -- the report of such a run, told of its plan
@@ -70,33 +82,56 @@ told-of-run l m g h plan keys wanted hs (Some r) same over all run report =
     let R : LabelFacts Array × Shape × List ℕ → Type 0 = λ x. IsReportOfRun x.0 x.1 plan x.2 r in
     subst R (λ i. (same i, over i, all i)) (record { histories = hs; run = run; report = report })
 
--- what is given beside histories, of a run that ended well
-pub is-given : {A H E : Type 0} (s : Result (A × H) E) (P : A → Type 0) (given : A) → IfOk s (λ x. x.0 ≡ given) → P given → IfOk s (λ x. P x.0)
-is-given (Ok x) P given is p = subst P (sym is) p
-is-given (Err e) P given is p = tt
-
-pub was-ok : {A B H E F : Type 0} (r : Result B E) (s : Result (A × H) F) (P : A → Type 0) (given : A) (h : Option H) → IfOk r (λ b. P given) → IfOk s (λ x. x.0 ≡ given) → IfOk s (λ x. IsOk r × (h ≡ Some x.1)) → IfOk s (λ x. P x.0)
-was-ok (Ok b) s P given h p is both = is-given s P given is p
-was-ok (Err e) (Ok x) P given h p is both = absurd (false≢true both.0)
-was-ok (Err e) (Err f) P given h p is both = tt
-
-pub both-served : {A B : Type 0} (l : LabelFacts Array) (graph : Shape) (p : RunPlan) (wanted : List ℕ) (Failed : Type 0) (r : Result B RunStatus) (left : List (Option Why)) (h : Option Histories) (s : Result (A × Histories) RunStatus) →
-    HowItEnded l graph p wanted Failed r left h → IfOk s (λ x. IsOk r × (h ≡ Some x.1)) → IfOk s (λ x. IsServedRun l graph p wanted x.1)
-both-served l graph p wanted Failed (Ok b) left h (Ok x) how is = served-run l graph p wanted Failed (Ok b) left h b x.1 refl is.1 how
-both-served l graph p wanted Failed (Err e) left h (Ok x) how is = absurd (false≢true is.0)
-both-served l graph p wanted Failed r left h (Err e) how is = tt
-
-pub why-told : {A C : Type 0} (r : Result A RunStatus) (s : Result C RunStatus) (P : RunStatus → Type 0) → P status.Memory → IfErr r P → IfErr s (λ e. (r ≡ Err e) ⊎ (e ≡ status.Memory)) → IfErr s P
-why-told r (Ok x) P memory h why = tt
-why-told r (Err e) P memory h why = elim why [ inl is ↦ subst (λ z. IfErr z P) is h | inr is ↦ subst P (sym is) memory ]
-
 -- ## The files
 
--- stores were given back after the openings
-pub opens-kept : (names : List (List ℕ)) (k : ℕ) (old mid new : View) → OpensOften names k old mid → new.files ≡ mid.files → OnlyReads mid new → mid.read_faults ≤ new.read_faults → OpensOften names k old new
-opens-kept names k old mid new opens files only later = opens-back names k old mid new ⊥ opens (record { files = files; only = only; later = later; risen = λ f. absurd f })
+-- nothing but creations and writes of the saved files
+pub record SavesFiles (p : Plan) (old new : View) : Type 0 where
+  pub others : (n : List ℕ) → IsNoneOf n (names_saved p) → new.files.held n ≡ old.files.held n
+  pub tells : new.files.tells ≡ old.files.tells
+  pub opened : new.files.opened ≡ old.files.opened
+  pub created : RaisedAtMost (names_saved p) old.files.created new.files.created
+  pub only : OnlyWrites old new
+  pub later : old.write_faults ≤ new.write_faults
 
--- nothing was saved
+-- the saved files were given back
+pub record LeavesFiles (p : Plan) (old new : View) : Type 0 where
+  pub others : (n : List ℕ) → IsNoneOf n (names_saved p) → new.files.held n ≡ old.files.held n
+  pub tells : new.files.tells ≡ old.files.tells
+  pub opened : new.files.opened ≡ old.files.opened
+  pub created : new.files.created ≡ old.files.created
+  pub only : OnlyWrites old new
+  pub later : old.write_faults ≤ new.write_faults
+
+pub leaves-none : (p : Plan) (v : View) → LeavesFiles p v v
+leaves-none p v = record {
+  others = λ n none. refl;
+  tells = refl;
+  opened = refl;
+  created = refl;
+  only = record { gave = refl; out = refl; err = refl; read_faults = refl; print_faults = refl; note_faults = refl };
+  later = omega arith;
+}
+
+-- files were created, feeds given back, and the files given back
+pub serves-saved : (p : Plan) (Failed : Type 0) (old made back new : View) → SavesFiles p old made → TakesBack Failed made back → LeavesFiles p back new → ServesFiles p 0 old new
+serves-saved p Failed old made back new s t l =
+    let created : back.files.created ≡ made.files.created = ap (λ (f : Files). f.created) t.files in
+    let same : (n : List ℕ) → new.files.created n ≡ made.files.created n = λ n. ap (λ (f : List ℕ → ℕ). f n) (l.created ∙ created) in
+    record {
+      others = λ n none. l.others n none ∙ (ap (λ (f : Files). f.held n) t.files ∙ s.others n none);
+      tells = l.tells ∙ (ap (λ (f : Files). f.tells) t.files ∙ s.tells);
+      opened = none_raised [] old.files.opened new.files.opened (l.opened ∙ (ap (λ (f : Files). f.opened) t.files ∙ s.opened));
+      created = record { grows = λ n. omega (arith, s.created.grows n, same n); at_most = λ n. omega (arith, s.created.at_most n, same n) };
+      gave = more_then old.gave back.gave new.gave (more_then old.gave made.gave back.gave (more_same old.gave made.gave s.only.gave) t.only.gave) (more_same back.gave new.gave l.only.gave);
+      out = l.only.out ∙ (t.only.out ∙ s.only.out);
+      err = l.only.err ∙ (t.only.err ∙ s.only.err);
+      note_faults = l.only.note_faults ∙ (t.only.note_faults ∙ s.only.note_faults);
+      print_faults = l.only.print_faults ∙ (t.only.print_faults ∙ s.only.print_faults);
+      read_later = omega (arith, s.only.read_faults, t.later, l.only.read_faults);
+      write_later = omega (arith, s.later, t.only.write_faults, l.later);
+    }
+
+-- nothing was created
 pub serves-none : (p : Plan) (most : ℕ) (old new : View) → OpensOften p.inputs most old new → ServesFiles p most old new
 serves-none p most old new o = record {
   others = λ n none. ap (λ (f : List ℕ → Option (List ℕ)). f n) o.held;
@@ -112,19 +147,21 @@ serves-none p most old new o = record {
   write_later = omega (arith, o.only.write_faults);
 }
 
-pub serves-then : (p : Plan) (most : ℕ) (old mid new : View) → OpensOften p.inputs most old mid → SavesFiles p mid new → ServesFiles p most old new
-serves-then p most old mid new o s =
+-- feeds were opened before
+pub serves-opened : (p : Plan) (most : ℕ) (old mid new : View) → OpensOften p.inputs most old mid → ServesFiles p 0 mid new → ServesFiles p most old new
+serves-opened p most old mid new o s =
+    let none : (n : List ℕ) → times n (repeated 0 p.inputs) ≡ 0 = λ n. refl in
     record {
-      others = λ n none. s.others n none ∙ ap (λ (f : List ℕ → Option (List ℕ)). f n) o.held;
+      others = λ n apart. s.others n apart ∙ ap (λ (f : List ℕ → Option (List ℕ)). f n) o.held;
       tells = s.tells ∙ o.tells;
-      opened = record { grows = λ n. omega (arith, o.opened.grows n, ap (λ (f : List ℕ → ℕ). f n) s.opened); at_most = λ n. omega (arith, o.opened.at_most n, ap (λ (f : List ℕ → ℕ). f n) s.opened) };
+      opened = record { grows = λ n. omega (arith, o.opened.grows n, s.opened.grows n); at_most = λ n. omega (arith, o.opened.at_most n, s.opened.at_most n, none n) };
       created = most_before (names_saved p) old.files.created mid.files.created new.files.created o.created s.created;
-      gave = more_then old.gave mid.gave new.gave o.only.gave (more_same mid.gave new.gave s.only.gave);
-      out = s.only.out ∙ o.only.out;
-      err = s.only.err ∙ o.only.err;
-      note_faults = s.only.note_faults ∙ o.only.note_faults;
-      print_faults = s.only.print_faults ∙ o.only.print_faults;
-      read_later = omega (arith, o.later, s.only.read_faults);
+      gave = more_then old.gave mid.gave new.gave o.only.gave s.gave;
+      out = s.out ∙ o.only.out;
+      err = s.err ∙ o.only.err;
+      note_faults = s.note_faults ∙ o.only.note_faults;
+      print_faults = s.print_faults ∙ o.only.print_faults;
+      read_later = omega (arith, o.later, s.read_later);
       write_later = omega (arith, o.only.write_faults, s.write_later);
     }
 
@@ -146,11 +183,51 @@ serves-after p most old mid new same only reads f =
       write_later = omega (arith, f.write_later, only.write_faults);
     })
 
+-- disks were made before and given back after
+spills-read : (old new : View) → OnlySpills old new → OnlyReads old new
+spills-read old new s = record { gave = more_same old.gave new.gave s.gave; out = s.out; err = s.err; write_faults = s.write_faults; print_faults = s.print_faults; note_faults = s.note_faults }
+
+pub serves-between : (p : Plan) (most : ℕ) (old mid served new : View) → OnlySpills old mid → ServesFiles p most mid served → OnlySpills served new → ServesFiles p most old new
+serves-between p most old mid served new a f b =
+    let g : ServesFiles p most old served = serves-after p most old mid served a.files (spills-read old mid a) a.read_faults f in
+    let P : Files → Type 0 = λ x. ServesFiles p most old (record new { files = x }) in
+    subst P (sym b.files) (record {
+      others = g.others;
+      tells = g.tells;
+      opened = g.opened;
+      created = g.created;
+      gave = more_then old.gave served.gave new.gave g.gave (more_same served.gave new.gave b.gave);
+      out = b.out ∙ g.out;
+      err = b.err ∙ g.err;
+      note_faults = b.note_faults ∙ g.note_faults;
+      print_faults = b.print_faults ∙ g.print_faults;
+      read_later = omega (arith, g.read_later, b.read_faults);
+      write_later = omega (arith, g.write_later, b.write_faults);
+    })
+
 -- ## The ends
 
--- an end at which nothing was saved
-pub part-none : (p : Plan) (named : Named) (told reads writes : Type 0) (old new : Files) (end : Ended) → new.held ≡ old.held → new.created ≡ old.created → Stops p named told reads writes end → ServesPart p named told reads writes old new end
-part-none p named told reads writes old new end held created stops = record { cause = stops; left = λ t k lt. inl (ap (λ (f : List ℕ → Option (List ℕ)). f (name_at (names_saved p) k)) held); bare = λ b. (held, created) }
+-- where all files were created
+pub creates-all : (names : List (List ℕ)) (old new : List ℕ → ℕ) (end : Ended) → new ≡ raised_by names old → EvaluationCreates names old new end
+creates-all names old new Done all = all
+creates-all names old new (Limit quantity) all = raised_at_most names old new all
+creates-all names old new (File place error) all = raised_at_most names old new all
+creates-all names old new (Zero node block) all = all
+creates-all names old new ReadFault all = raised_at_most names old new all
+creates-all names old new WriteFault all = raised_at_most names old new all
+creates-all names old new OutOfMemory all = raised_at_most names old new all
+
+-- nothing was touched for want of memory
+pub part_none : (p : Plan) (named : Named) (told reads writes : Type 0) (old new : Files) → new.held ≡ old.held → new.created ≡ old.created → ServesPart p named told reads writes old new OutOfMemory
+part_none p named told reads writes old new held created = record {
+  cause = tt;
+  left = λ t k lt. inl (ap (λ (f : List ℕ → Option (List ℕ)). f (name_at (names_saved p) k)) held);
+  created = none_raised (names_saved p) old.created new.created created;
+}
+
+-- all was saved, and then memory was wanted
+pub part_all : (p : Plan) (named : Named) (told reads writes : Type 0) (old new : Files) → ServesAll p named told old new → ServesPart p named told reads writes old new OutOfMemory
+part_all p named told reads writes old new all = record { cause = tt; left = all.left; created = raised_at_most (names_saved p) old.created new.created all.created }
 
 stops-as : (p : Plan) (named : Named) (told reads reads' writes writes' : Type 0) (end : Ended) → (reads' → reads) → (writes' → writes) → Stops p named told reads' writes' end → Stops p named told reads writes end
 stops-as p named told reads reads' writes writes' Done f g h = absurd h
@@ -158,17 +235,27 @@ stops-as p named told reads reads' writes writes' (Limit quantity) f g h = absur
 stops-as p named told reads reads' writes writes' (File place error) f g h = absurd h
 stops-as p named told reads reads' writes writes' (Zero node block) f g h = h
 stops-as p named told reads reads' writes writes' ReadFault f g h = f h
-stops-as p named told reads reads' writes writes' WriteFault f g h = (h.0, g h.1)
+stops-as p named told reads reads' writes writes' WriteFault f g h = g h
 stops-as p named told reads reads' writes writes' OutOfMemory f g h = tt
 
--- what was done before the blocks were saved left the files alone
+creates-before : (names : List (List ℕ)) (old mid new : List ℕ → ℕ) (end : Ended) → mid ≡ old → EvaluationCreates names mid new end → EvaluationCreates names old new end
+creates-before names old mid new end same made = subst (λ (f : List ℕ → ℕ). EvaluationCreates names f new end) same made
+
+-- what was done before left the files alone
 pub part-before : (p : Plan) (named : Named) (told reads reads' writes writes' : Type 0) (old mid new : Files) (end : Ended) → mid.held ≡ old.held → mid.created ≡ old.created → mid.tells ≡ old.tells → (reads' → reads) → (writes' → writes) →
     ServesPart p named told reads' writes' mid new end → ServesPart p named told reads writes old new end
 part-before p named told reads reads' writes writes' old mid new end held created tells f g part = record {
   cause = stops-as p named told reads reads' writes writes' end f g part.cause;
   left = λ t. left_before (names_saved p) (files_of p named) old mid new held tells (part.left t);
-  bare = λ b. let x = part.bare b in (x.0 ∙ held, x.1 ∙ created);
+  created = creates-before (names_saved p) old.created mid.created new.created end created part.created;
 }
+
+-- the same, and what was done after did too
+pub part-between : (p : Plan) (named : Named) (told reads reads' writes writes' : Type 0) (old mid served new : Files) (end : Ended) → mid ≡ old → new ≡ served → (reads' → reads) → (writes' → writes) →
+    ServesPart p named told reads' writes' mid served end → ServesPart p named told reads writes old new end
+part-between p named told reads reads' writes writes' old mid served new end before after f g part =
+    let P : Files × Files → Type 0 = λ x. ServesPart p named told reads writes x.0 x.1 end in
+    subst P (λ i. (before i, sym after i)) (record { cause = stops-as p named told reads reads' writes writes' end f g part.cause; left = part.left; created = part.created })
 
 pub all-before : (p : Plan) (named : Named) (told : Type 0) (old mid new : Files) → mid.held ≡ old.held → mid.created ≡ old.created → mid.tells ≡ old.tells → ServesAll p named told mid new → ServesAll p named told old new
 all-before p named told old mid new held created tells all = record {
@@ -177,6 +264,9 @@ all-before p named told old mid new held created tells all = record {
   left = λ t. left_before (names_saved p) (files_of p named) old mid new held tells (all.left t);
   created = all.created ∙ ap (raised_by (names_saved p)) created;
 }
+
+pub all-between : (p : Plan) (named : Named) (told : Type 0) (old mid served new : Files) → mid ≡ old → new ≡ served → ServesAll p named told mid served → ServesAll p named told old new
+all-between p named told old mid served new before after all = let P : Files × Files → Type 0 = λ x. ServesAll p named told x.0 x.1 in subst P (λ i. (before i, sym after i)) all
 
 -- ## A zero divisor
 
@@ -191,11 +281,47 @@ zero-stops p named told reads writes wanted key ReadFault runs laws at has blame
 zero-stops p named told reads writes wanted key WriteFault runs laws at has blamed = absurd at
 zero-stops p named told reads writes wanted key OutOfMemory runs laws at has blamed = tt
 
--- so the run is stopped
-pub told-zero : (p : Plan) (named : Named) (told : Bool) (reads writes : Type 0) (facts : LabelFacts Array) (all : List ℕ) (way : RunStatus) (key : ℕ) (end : Ended) → IsRunnable p → HasLaws p named → EndsAtKey p key end → facts ≡ label told named (tasks_of p) → all ≡ wanted_of p →
-    way ≡ status.Zero key → IsWhy facts all reads way → Stops p named (IsTrue told) reads writes end
-told-zero p named told reads writes facts all way key end runs laws at same are zero said =
-    let why = subst (IsWhy facts all reads) zero said in
-    let C : List ℕ → Type 0 = λ ks. Contains ks why.0 in
-    let B : LabelFacts Array → Type 0 = λ l. BlameFits l why.0 key in
-    zero-stops p named told reads writes why.0 key end runs laws at (subst C are why.1) (subst B same why.2)
+-- how the cluster ended, and what was written, say why the run is stopped
+pub stopped : {A B : Type 0} (p : Plan) (named : Named) (told : Bool) (reads writes : Type 0) (facts : LabelFacts Array) (all : List ℕ) (given : Result A RunStatus) (written : Result B OpenFault) (end : Ended) → IsRunnable p → HasLaws p named →
+    facts ≡ label told named (tasks_of p) → all ≡ wanted_of p → IfErr given (IsWhy facts all reads) → (written ≡ Err fault.Failed → writes) → StopsAt p given written end → Stops p named (IsTrue told) reads writes end
+stopped p named told reads writes facts all given written Done runs laws same are why failed at = absurd at
+stopped p named told reads writes facts all given written (Limit quantity) runs laws same are why failed at = absurd at
+stopped p named told reads writes facts all given written (File place error) runs laws same are why failed at = absurd at
+stopped {A} p named told reads writes facts all given written (Zero node block) runs laws same are why failed at =
+    let W : Result A RunStatus → Type 0 = λ r. IfErr r (IsWhy facts all reads) in
+    let said : IsWhy facts all reads (status.Zero at.0) = subst W at.1 why in
+    let C : List ℕ → Type 0 = λ ks. Contains ks said.0 in
+    let L : LabelFacts Array → Type 0 = λ l. BlameFits l said.0 at.0 in
+    zero-stops p named told reads writes said.0 at.0 (Zero node block) runs laws at.2 (subst C are said.1) (subst L same said.2)
+stopped {A} p named told reads writes facts all given written ReadFault runs laws same are why failed at = let W : Result A RunStatus → Type 0 = λ r. IfErr r (IsWhy facts all reads) in subst W at why
+stopped p named told reads writes facts all given written WriteFault runs laws same are why failed at = failed at
+stopped p named told reads writes facts all given written OutOfMemory runs laws same are why failed at = tt
+
+-- ## How a run ended
+
+pub stops_zero : {A B : Type 0} (p : Plan) (given : Result A RunStatus) (written : Result B OpenFault) (key : ℕ) (end : Ended) → given ≡ Err (status.Zero key) → EndsAtKey p key end → StopsAt p given written end
+stops_zero p given written key Done is at = absurd at
+stops_zero p given written key (Limit quantity) is at = absurd at
+stops_zero p given written key (File place error) is at = absurd at
+stops_zero p given written key (Zero node block) is at = (key, is, at)
+stops_zero p given written key ReadFault is at = absurd at
+stops_zero p given written key WriteFault is at = absurd at
+stops_zero p given written key OutOfMemory is at = tt
+
+pub stops_unsaved : {A B : Type 0} (p : Plan) (given : Result A RunStatus) (written : Result B OpenFault) (why : OpenFault) (end : Ended) → written ≡ Err why → IsUnsaved why end → StopsAt p given written end
+stops_unsaved p given written fault.Failed end is unsaved = subst (StopsAt p given written) (sym unsaved) is
+stops_unsaved p given written fault.OutOfMemory end is unsaved = subst (StopsAt p given written) (sym unsaved) tt
+
+-- ## A file couldn't be created
+
+pub uncreated : (p : Plan) (named : Named) (told reads writes : Type 0) (old made new : Files) (why : OpenFault) (end : Ended) → IsRunnable p → HasLaws p named → LeavesAll p old made → new ≡ made → RaisedAtMost (names_saved p) old.created made.created →
+    (why ≡ fault.Failed → writes) → IsUnsaved why end → ServesPart p named told reads writes old new end
+uncreated p named told reads writes old made new why end runs laws leaves same created failed unsaved =
+    let M : Files → Type 0 = λ x. AreLeft (names_saved p) (files_of p named) old x in
+    let left : AreLeft (names_saved p) (files_of p named) old new = subst M (sym same) (open-left p named old made runs laws leaves) in
+    let most : RaisedAtMost (names_saved p) old.created new.created = subst (λ (x : Files). RaisedAtMost (names_saved p) old.created x.created) (sym same) created in
+    turn why failed unsaved left most
+  where
+    turn : (f : OpenFault) → (f ≡ fault.Failed → writes) → IsUnsaved f end → AreLeft (names_saved p) (files_of p named) old new → RaisedAtMost (names_saved p) old.created new.created → ServesPart p named told reads writes old new end
+    turn fault.Failed failed is left most = subst (ServesPart p named told reads writes old new) (sym is) (record { cause = failed refl; left = λ t. left; created = most })
+    turn fault.OutOfMemory failed is left most = subst (ServesPart p named told reads writes old new) (sym is) (record { cause = tt; left = λ t. left; created = most })

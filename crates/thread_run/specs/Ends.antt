@@ -30,17 +30,21 @@ pub record HasFault (p : Plan) (files : Files) (node : ℕ) (block : List ℕ) :
   pub inputs : InputsFit p files
   pub zero_at : IsTrue files.tells → OnInputs p files (λ blocks. IsFaulty p (held_in blocks) node block)
 
--- Why a run ends so. A zero divisor is met by some needed block: not always the first. Files are created only where all values are there.
+-- a file wasn't created or written, or all values are there and a line wasn't printed
+abbrev pub WritesFail : Plan → View → View → Type 0
+WritesFail p old new = Rose old.write_faults new.write_faults ⊎ (HasValues p old.files × Rose old.print_faults new.print_faults)
+
+-- Why a run ends so. A zero divisor is met by some needed block: not always the first.
 abbrev pub Cause : Plan → View → View → Ended → Type 0
 Cause p old new Done = IsSmall p × HasValues p old.files
 Cause p old new (Zero node block) = IsSmall p × HasFault p old.files node block
-Cause p old new WriteFault = IsSmall p × HasValues p old.files × (Rose old.write_faults new.write_faults ⊎ Rose old.print_faults new.print_faults)
+Cause p old new WriteFault = IsSmall p × InputsFit p old.files × WritesFail p old new
 Cause p old new end = RunCause p old new end
 
--- The saved files: as a run of the same job in the calling thread leaves them, where the site tells, and as they were where the client didn't get all.
+-- The saved files: as a run of the same job in the calling thread leaves them, where the site tells.
 abbrev pub Saves : Plan → Files → Files → Ended → Type 0
-Saves p old new (Zero node block) = new.held ≡ old.held
-Saves p old new ReadFault = new.held ≡ old.held
+Saves p old new (Zero node block) = IsTrue old.tells → AreRight p old new
+Saves p old new ReadFault = IsTrue old.tells → AreRight p old new
 Saves p old new WriteFault = IsTrue old.tells → AreRight p old new
 Saves p old new OutOfMemory = IsTrue old.tells → AreRight p old new
 Saves p old new end = RunSaves p old new end
@@ -59,12 +63,6 @@ Opened names all old new (Zero node block) = RaisedBetween names all old new
 Opened names all old new WriteFault = RaisedBetween names all old new
 Opened names all old new end = RaisedAtMost all old new
 
--- the same of creations: none before the client got all
-abbrev pub Created : List (List ℕ) → (List ℕ → ℕ) → (List ℕ → ℕ) → Ended → Type 0
-Created names old new (Zero node block) = new ≡ old
-Created names old new ReadFault = new ≡ old
-Created names old new end = RunCreated names old new end
-
 -- what is printed of a report
 abbrev pub told_text : Option Report → List ℕ
 told_text None = []
@@ -74,7 +72,7 @@ told_text (Some r) = report_text r
 abbrev pub lines_of : Plan → Option Report → List ℕ
 lines_of p told = saved_lines p.nodes p.saves ++ told_text told ++ codes "finished by: cluster\n"
 
--- the lines of a run in which the client got all: with its report where the words ask for it
+-- the lines of a run in which all files were written: with its report where the words ask for it
 pub record PrintsRun (p : Plan) (w : RunWords) (files : Files) (Printed : List ℕ → Type 0) : Type 0 where
   pub told : Option Report
   pub asked : is_some told ≡ w.report
@@ -83,7 +81,7 @@ pub record PrintsRun (p : Plan) (w : RunWords) (files : Files) (Printed : List �
 
 abbrev pub Prints : Plan → RunWords → View → View → Ended → Type 0
 Prints p w old new Done = PrintsRun p w old.files (λ lines. new.out ≡ followed_by old.out lines)
-Prints p w old new WriteFault = (new.out ≡ old.out) ⊎ PrintsRun p w old.files (StopsPrinting p old new)
+Prints p w old new WriteFault = (new.out ≡ old.out) ⊎ (HasValues p old.files × PrintsRun p w old.files (StopsPrinting p old new))
 Prints p w old new end = new.out ≡ old.out
 
 -- each name was opened between so often and so often, the inputs are as declared, and no limit is passed
@@ -104,7 +102,7 @@ pub record RunsByThreads (p : Plan) (w : RunWords) (old new : View) (end : Ended
   pub others : (n : List ℕ) → IsNoneOf n (names_saved p) → new.files.held n ≡ old.files.held n
   pub tells : new.files.tells ≡ old.files.tells
   pub opened : Opened p.inputs (openings p w) old.files.opened new.files.opened end
-  pub created : Created (names_saved p) old.files.created new.files.created end
+  pub created : RunCreated (names_saved p) old.files.created new.files.created end
   pub prints : Prints p w old new end
   pub gave : GivesMore old.gave new.gave
   pub err : new.err ≡ old.err

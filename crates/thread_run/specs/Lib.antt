@@ -1,7 +1,9 @@
 pub mod Counts
 pub mod Ends
 pub mod Feeding
+pub mod Keeping
 pub mod Planning
 pub mod Reports
+pub mod Saver
 pub mod Serving
-pub mod Tables
+pub mod Writes

@@ -120,8 +120,8 @@ where
     }
 }
 
-// Gives the feeds of all workers back.
-fn give_all<S, E, V, P>(site: &mut S, all: Vec<Vec<Feed<S::In, E, V, P>>>)
+/// Gives the feeds of all workers back.
+pub fn give_all<S, E, V, P>(site: &mut S, all: Vec<Vec<Feed<S::In, E, V, P>>>)
 where
     S: Site,
     E: Elements + Send + Sync + Drop,

@@ -16,12 +16,13 @@ use std::sync::Wait;
 use std::thread::Threads;
 
 /// Runs a job by a cluster of threads: lowers it to a graph of block tasks, opens its inputs by one call and reads their heads,
-/// opens them again for each thread of each worker, runs the graph until the client has all saved blocks, saves these, and prints a
-/// line for each saved file, the report of the run where the words ask for it, and a last one.
+/// opens them again for each thread of each worker, creates the saved files, runs the graph until the client has all saved blocks,
+/// each of which is written as it comes, and prints a line for each saved file, the report of the run where the words ask for it, and
+/// a last one.
 ///
 /// `RunsByThreads` says for each end why it comes and what it leaves, whatever the threads do: the files, byte for byte, how often
 /// each name was opened and created, and the lines. No file is opened where the graph would pass a limit, none is touched unless the
-/// inputs were accepted and the client got all, and no line is printed unless all files are whole. It may wait.
+/// inputs were accepted, and no line is printed unless all files are whole. It may wait.
 pub fn run_by_threads<R, S, G>(
     rt: &R,
     alloc: Global,

@@ -1,5 +1,5 @@
 //! The run of a job's graph by the cluster, over its open inputs.
-ghost use Rattle.std.specs.Prelude.{◌≡◌, ◌≤◌, ◌<◌, ◌*◌, ◌⊎◌, All, Err, length, map, string_bytes, is_some, true, IfOk, IfErr, IfSome, IsOk, IsTrue, OnOk, Some};
+ghost use Rattle.std.specs.Prelude.{◌≡◌, ◌*◌, ◌⊎◌, length, map, is_some, vec_len, IfOk, IfErr, IfSome, IsOk, IsTrue, OnOk, Some};
 ghost use Rattle.io_edge.specs.Cause.{Rose};
 ghost use Rattle.command_words.specs.Words.{AreRunSettings};
 ghost use Rattle.job_run.specs.Jobs.{plan_of};
@@ -9,28 +9,26 @@ ghost use Rattle.job_run.specs.Plan.{IsRunnable, input_shapes};
 ghost use Rattle.job_run.specs.Values.{tasks_of};
 ghost use Rattle.job_run.specs.Wanted.{IsWantedOf, wanted_of};
 ghost use Rattle.block_lowering.specs.Jobs.{graph_of};
-ghost use Rattle.cluster_msgs.specs.Shape.{key_count};
 ghost use Rattle.node_runner.specs.Runs.{numbers as numbers_of};
-ghost use Rattle.node_runner.specs.declared.ends.RunStatus.TheVariants as status;
 ghost use Rattle.task_graph.specs.Graphs.{shape_of};
 ghost use Rattle.thread_run.specs.Counts.{feeds as feeds_of};
-ghost use Rattle.thread_run.specs.Feeding.{IsFixed, OpensOften};
+ghost use Rattle.thread_run.specs.Feeding.{IsFixed};
 ghost use Rattle.thread_run.specs.Planning.{IsRunPlan};
 ghost use Rattle.thread_run.specs.Reports.{IsPlanOf, IsReportBy, IsReportOfRun, IsServedRun, label};
-ghost use Rattle.thread_run.specs.Tables.{has_at};
-ghost use Rattle.thread_run.specs.Serving.{IsWhy, SavesFiles, ServesAll, ServesFiles, ServesPart};
+ghost use Rattle.thread_run.specs.Serving.{HasShort, IsUnsaved, ServesAll, ServesFiles, ServesPart, StopsAt};
 
-use crate::feeds::{Graphed, give_feeds, open_feeds};
+use crate::feeds::{Feed, Graphed, give_all, give_feeds, open_feeds};
+use crate::keeper::Keeper;
 use crate::name::{Named, Picks};
+use crate::saver::Saver;
 use crate::stores::{give_stores, open_stores};
-use crate::table::Table;
 use crate::told::told;
 use crate::veil::Veil;
 use block_lowering::{Elements, JobGraph, Lowered};
-use cluster_msgs::{JobSpec, KeyList, Label, Report};
+use cluster_msgs::{JobSpec, Label, Report};
 use command_words::RunWords;
 use io_edge::{Gate, OpenFault, Site};
-use job_run::{Ended, Inputs, Job, Wanted, ended_at, joined_keys, laws_hold, save_all};
+use job_run::{Ended, Inputs, Job, Wanted, ended_at, joined_keys, laws_hold};
 use lowering_laws::laws::law_of_form;
 use node_runner::{Ends, Histories, RunLabel, RunPlan, RunStatus, run_cluster};
 use std::alloc::{AllocGlobal, Global};
@@ -48,21 +46,63 @@ type Store<D, I, E, V, P> = SpillingBlocks<D, Marked<I, E, V, P>>;
 /// How many packets a link holds.
 const CAPACITY: usize = 64;
 
-// Runs a graph by the cluster: opens its feeds, and gives them back. The stores of its workers' blocks come back too, and the table into which the
-// wanted blocks go.
-fn run_feeds<R, S, G, E, V, P>(
+// How a run ends of which a file couldn't be created or written.
+fn unsaved(fault: OpenFault) -> Ended
+    ensures { IsUnsaved fault result }
+{
+    match fault {
+        OpenFault::Failed => Ended::WriteFault,
+        OpenFault::OutOfMemory => Ended::OutOfMemory,
+    }
+}
+
+// How a run ended, by what the cluster tells and by whether all was written: a zero divisor or a failed feed comes before what couldn't
+// be written.
+#[tactic(auto, using(crate::proofs::Serves::stops_unsaved, crate::proofs::Serves::stops_zero))]
+fn ended(
+    alloc: Global,
+    job: &Job,
+    wanted: &Wanted,
+    given: Result<(), RunStatus>,
+    histories: Option<Histories>,
+    written: Result<(), OpenFault>,
+) -> Result<Histories, Ended>
+    requires runs { IsRunnable (plan_of job.now) }
+    requires wanted { IsWantedOf (plan_of job.now) wanted.now }
+    ensures given { OnOk result (IsOk given) }
+    ensures histories { IfOk result (λ h. histories ≡ Some h) }
+    ensures written { OnOk result (IsOk written) }
+    ensures stopped { IfErr result (StopsAt (plan_of job.now) given written) }
+{
+    match given {
+        Ok(()) => match written {
+            Ok(()) => histories.ok_or(Ended::OutOfMemory),
+            Err(fault) => Err(unsaved(fault)),
+        },
+        Err(RunStatus::Zero { key }) => Err(ended_at(alloc, job, wanted, key)),
+        Err(RunStatus::Read) => Err(Ended::ReadFault),
+        Err(RunStatus::Memory) => match written {
+            Ok(()) => Err(Ended::OutOfMemory),
+            Err(fault) => Err(unsaved(fault)),
+        },
+    }
+}
+
+// Runs a graph by the cluster over open feeds: creates the files of its saves, which are written as blocks come, and gives feeds and files
+// back. The stores of its workers' blocks come back too.
+fn run_saved<R, S, G, E, V, P>(
     rt: &R,
     alloc: Global,
     site: &mut S,
     gate: &G,
-    names: &[String],
+    job: &Job,
     graph: &Graphed<S::In, E, V>,
-    wanted: &KeyList,
+    wanted: &Wanted,
     plan: &RunPlan,
+    feeds: Vec<Vec<Feed<S::In, E, V, P>>>,
     stores: Vec<Store<S::Spill, S::In, E, V, P>>,
-    table: Table<Marked<S::In, E, V, P>>,
 ) -> (
-    Result<(Table<Marked<S::In, E, V, P>>, Histories), RunStatus>,
+    Result<Histories, Ended>,
     Vec<Store<S::Spill, S::In, E, V, P>>,
 )
 where
@@ -72,29 +112,50 @@ where
     E: Elements + Send + Sync + Drop,
     V: Veil + Send + Sync + Drop,
     P: Picks<Graphed<S::In, E, V>> + Send + Sync + Drop,
+    requires runs { IsRunnable (plan_of job.now) }
+    requires wanted { IsWantedOf (plan_of job.now) wanted.now }
     requires picked { P.picked ≡ Some graph.now }
-    requires fixed { IsFixed E.named V.told (map string_bytes names.now) graph.now.job.heads (S.view site.old).files }
+    requires tasks { graph.now.job.tasks ≡ tasks_of (plan_of job.now) }
     requires plan { IsRunPlan plan.now }
-    ensures opens { OpensOften (map string_bytes names.now) (numbers_of plan.now * plan.now.threads) (S.view site.old) (S.view site.new) }
-    ensures had { IfOk result.0 (λ r. All (λ k. has_at r.0 k ≡ true) wanted.now) }
-    ensures long { IfOk result.0 (λ r. length r.0 ≡ length table) }
-    ensures histories { IfOk result.0 (λ r. IsServedRun ⟦<RunLabel<Graphed<S::In, E, V>, Named<V, P>> as Label>⟧.facts
-        (graph_of graph.now.job) plan.now wanted.now r.1) }
-    ensures why { IfErr result.0 (IsWhy ⟦<RunLabel<Graphed<S::In, E, V>, Named<V, P>> as Label>⟧.facts wanted.now
-        (Rose (S.view site.old).read_faults (S.view site.new).read_faults)) }
+    ensures files { ServesFiles (plan_of job.now) 0 (S.view site.old) (S.view site.new) }
+    ensures served { OnOk result.0 (ServesAll (plan_of job.now) E.named (IsTrue V.told) (S.view site.old).files (S.view site.new).files) }
+    ensures histories { IfOk result.0 (IsServedRun ⟦<RunLabel<Graphed<S::In, E, V>, Named<V, P>> as Label>⟧.facts
+        (graph_of graph.now.job) plan.now wanted.now.all) }
+    ensures stopped { IfErr result.0 (ServesPart (plan_of job.now) E.named (IsTrue V.told)
+        (HasShort (map (λ v. vec_len v) feeds.items) plan.now.threads ⊎ Rose (S.view site.old).read_faults (S.view site.new).read_faults)
+        (Rose (S.view site.old).write_faults (S.view site.new).write_faults)
+        (S.view site.old).files (S.view site.new).files) }
 {
-    let Ok(feeds) = open_feeds::<S, E, V, P>(alloc, site, names, plan.numbers(), plan.threads)
-    else {
-        return (Err(RunStatus::Memory), stores);
+    laws_hold(job);
+    let keys = graph.shape().keys();
+    let saver = match Saver::<S::Out, Marked<S::In, E, V, P>>::open(
+        alloc, site, job, wanted, keys,
+    ) {
+        Ok(saver) => saver,
+        Err(fault) => {
+            give_all::<S, E, V, P>(site, feeds);
+            return (Err(unsaved(fault)), stores);
+        }
     };
-    let (ends, table) = run_cluster::<
+    let keeper = Keeper { saver };
+    let (ends, keeper) = run_cluster::<
         R,
         Graphed<S::In, E, V>,
         G,
         Named<V, P>,
         Store<S::Spill, S::In, E, V, P>,
-        Table<Marked<S::In, E, V, P>>,
-    >(rt, alloc, graph, gate, plan, wanted, feeds, stores, table);
+        Keeper<'_, S::Out, Marked<S::In, E, V, P>>,
+    >(
+        rt,
+        alloc,
+        graph,
+        gate,
+        plan,
+        &wanted.all,
+        feeds,
+        stores,
+        keeper,
+    );
     let Ends {
         result,
         histories,
@@ -103,22 +164,30 @@ where
         ..
     } = ends;
     give_feeds::<S, E, V, P>(site, feeds);
-    (with_histories(result, table, histories), stores)
+    let Keeper { saver } = keeper;
+    let written = saver.give(site);
+    (
+        ended(alloc, job, wanted, result, histories, written),
+        stores,
+    )
 }
 
-// Runs a graph by the cluster: makes the stores of its workers' blocks, which may have so many bytes in memory each, and gives their
-// disks back.
-fn run_stored<R, S, G, E, V, P>(
+// The same of a graph whose feeds it opens. They are opened before a file is created, so that each has what the first opening found also
+// where a file is saved under an input's name.
+fn run_feeds<R, S, G, E, V, P>(
     rt: &R,
     alloc: Global,
     site: &mut S,
     gate: &G,
-    names: &[String],
+    job: &Job,
     graph: &Graphed<S::In, E, V>,
-    wanted: &KeyList,
+    wanted: &Wanted,
     plan: &RunPlan,
-    memory: u64,
-) -> Result<(Table<Marked<S::In, E, V, P>>, Histories), RunStatus>
+    stores: Vec<Store<S::Spill, S::In, E, V, P>>,
+) -> (
+    Result<Histories, Ended>,
+    Vec<Store<S::Spill, S::In, E, V, P>>,
+)
 where
     R: Threads + Wait + RandomSource + AllocGlobal + Sync,
     S: Site,
@@ -126,90 +195,76 @@ where
     E: Elements + Send + Sync + Drop,
     V: Veil + Send + Sync + Drop,
     P: Picks<Graphed<S::In, E, V>> + Send + Sync + Drop,
+    requires runs { IsRunnable (plan_of job.now) }
+    requires wanted { IsWantedOf (plan_of job.now) wanted.now }
     requires picked { P.picked ≡ Some graph.now }
-    requires fixed { IsFixed E.named V.told (map string_bytes names.now) graph.now.job.heads (S.view site.old).files }
+    requires tasks { graph.now.job.tasks ≡ tasks_of (plan_of job.now) }
+    requires fixed { IsFixed E.named V.told (plan_of job.now).inputs graph.now.job.heads (S.view site.old).files }
     requires plan { IsRunPlan plan.now }
-    ensures opens { OpensOften (map string_bytes names.now) (numbers_of plan.now * plan.now.threads) (S.view site.old) (S.view site.new) }
-    ensures had { IfOk result (λ r. All (λ k. has_at r.0 k ≡ true) wanted.now) }
-    ensures long { IfOk result (λ r. length r.0 ≡ key_count (graph_of graph.now.job)) }
-    ensures histories { IfOk result (λ r. IsServedRun ⟦<RunLabel<Graphed<S::In, E, V>, Named<V, P>> as Label>⟧.facts
-        (graph_of graph.now.job) plan.now wanted.now r.1) }
-    ensures why { IfErr result (IsWhy ⟦<RunLabel<Graphed<S::In, E, V>, Named<V, P>> as Label>⟧.facts wanted.now
-        (Rose (S.view site.old).read_faults (S.view site.new).read_faults)) }
+    ensures files { ServesFiles (plan_of job.now) (numbers_of plan.now * plan.now.threads) (S.view site.old) (S.view site.new) }
+    ensures served { OnOk result.0 (ServesAll (plan_of job.now) E.named (IsTrue V.told) (S.view site.old).files (S.view site.new).files) }
+    ensures histories { IfOk result.0 (IsServedRun ⟦<RunLabel<Graphed<S::In, E, V>, Named<V, P>> as Label>⟧.facts
+        (graph_of graph.now.job) plan.now wanted.now.all) }
+    ensures stopped { IfErr result.0 (ServesPart (plan_of job.now) E.named (IsTrue V.told)
+        (Rose (S.view site.old).read_faults (S.view site.new).read_faults) (Rose (S.view site.old).write_faults (S.view site.new).write_faults)
+        (S.view site.old).files (S.view site.new).files) }
 {
-    let Ok(table) = Table::<Marked<S::In, E, V, P>>::new(alloc, graph.shape().keys()) else {
-        return Err(RunStatus::Memory);
-    };
-    let Ok(stores) = open_stores::<S, Marked<S::In, E, V, P>>(alloc, site, plan.numbers(), memory)
+    let names = job.inputs.as_slice();
+    let Ok(feeds) = open_feeds::<S, E, V, P>(alloc, site, names, plan.numbers(), plan.threads)
     else {
-        return Err(RunStatus::Memory);
+        return (Err(Ended::OutOfMemory), stores);
     };
-    let (served, stores) = run_feeds::<R, S, G, E, V, P>(
-        rt, alloc, site, gate, names, graph, wanted, plan, stores, table,
-    );
-    give_stores::<S, Marked<S::In, E, V, P>>(site, stores);
-    served
+    run_saved::<R, S, G, E, V, P>(
+        rt, alloc, site, gate, job, graph, wanted, plan, feeds, stores,
+    )
 }
 
-// What a run gave, with its histories, where both are there.
-fn with_histories<T: Drop>(
-    ended: Result<(), RunStatus>,
-    given: T,
-    histories: Option<Histories>,
-) -> Result<(T, Histories), RunStatus>
-    ensures given { IfOk result (λ r. r.0 ≡ given) }
-    ensures both { IfOk result (λ r. IsOk ended × (histories ≡ Some r.1)) }
-    ensures why { IfErr result (λ s. (ended ≡ Err s) ⊎ (s ≡ status.Memory)) }
-{
-    match (ended, histories) {
-        (Ok(()), Some(histories)) => Ok((given, histories)),
-        (Ok(()), None) => Err(RunStatus::Memory),
-        (Err(status), _) => Err(status),
-    }
-}
-
-// Saves the blocks of all wanted keys.
-fn save_blocks<S, E, V, P>(
+// The same, with stores of its workers' blocks, which may have so many bytes in memory each. Their disks are given back.
+fn run_stored<R, S, G, E, V, P>(
+    rt: &R,
     alloc: Global,
     site: &mut S,
+    gate: &G,
     job: &Job,
-    _graph: &Graphed<S::In, E, V>,
+    graph: &Graphed<S::In, E, V>,
     wanted: &Wanted,
-    table: Table<Marked<S::In, E, V, P>>,
-) -> Result<(), Ended>
+    plan: &RunPlan,
+    memory: u64,
+) -> Result<Histories, Ended>
 where
+    R: Threads + Wait + RandomSource + AllocGlobal + Sync,
     S: Site,
+    G: Gate,
     E: Elements + Send + Sync + Drop,
     V: Veil + Send + Sync + Drop,
     P: Picks<Graphed<S::In, E, V>> + Send + Sync + Drop,
     requires runs { IsRunnable (plan_of job.now) }
     requires wanted { IsWantedOf (plan_of job.now) wanted.now }
-    requires picked { P.picked ≡ Some _graph.now }
-    requires tasks { _graph.now.job.tasks ≡ tasks_of (plan_of job.now) }
-    requires long { length table ≡ key_count (graph_of _graph.now.job) }
-    requires all { All (λ k. has_at table k ≡ true) wanted.now.all }
-    ensures files { SavesFiles (plan_of job.now) (S.view site.old) (S.view site.new) }
+    requires picked { P.picked ≡ Some graph.now }
+    requires tasks { graph.now.job.tasks ≡ tasks_of (plan_of job.now) }
+    requires fixed { IsFixed E.named V.told (plan_of job.now).inputs graph.now.job.heads (S.view site.old).files }
+    requires plan { IsRunPlan plan.now }
+    ensures files { ServesFiles (plan_of job.now) (numbers_of plan.now * plan.now.threads) (S.view site.old) (S.view site.new) }
     ensures served { OnOk result (ServesAll (plan_of job.now) E.named (IsTrue V.told) (S.view site.old).files (S.view site.new).files) }
-    ensures stopped { IfErr result (ServesPart (plan_of job.now) E.named (IsTrue V.told) ⊥
-        (Rose (S.view site.old).write_faults (S.view site.new).write_faults) (S.view site.old).files (S.view site.new).files) }
+    ensures histories { IfOk result (IsServedRun ⟦<RunLabel<Graphed<S::In, E, V>, Named<V, P>> as Label>⟧.facts
+        (graph_of graph.now.job) plan.now wanted.now.all) }
+    ensures stopped { IfErr result (ServesPart (plan_of job.now) E.named (IsTrue V.told)
+        (Rose (S.view site.old).read_faults (S.view site.new).read_faults) (Rose (S.view site.old).write_faults (S.view site.new).write_faults)
+        (S.view site.old).files (S.view site.new).files) }
 {
-    laws_hold(job);
-    table.fits();
-    match save_all(
-        alloc,
-        site,
-        job,
-        &table,
-        wanted.saved.as_slice(),
-        wanted.layouts.as_slice(),
-    ) {
-        Ok(()) => Ok(()),
-        Err(OpenFault::Failed) => Err(Ended::WriteFault),
-        Err(OpenFault::OutOfMemory) => Err(Ended::OutOfMemory),
-    }
+    let Ok(stores) = open_stores::<S, Marked<S::In, E, V, P>>(alloc, site, plan.numbers(), memory)
+    else {
+        return Err(Ended::OutOfMemory);
+    };
+    let (served, stores) = run_feeds::<R, S, G, E, V, P>(
+        rt, alloc, site, gate, job, graph, wanted, plan, stores,
+    );
+    give_stores::<S, Marked<S::In, E, V, P>>(site, stores);
+    served
 }
 
-// Runs a job's graph by the cluster, and saves what its client got.
+// The same, with the report of the run where it is asked for.
+#[tactic(auto, using(crate::proofs::Serves::part_all))]
 fn run_graph<R, S, G, E, V, P>(
     rt: &R,
     alloc: Global,
@@ -244,39 +299,19 @@ where
         (Rose (S.view site.old).read_faults (S.view site.new).read_faults) (Rose (S.view site.old).write_faults (S.view site.new).write_faults)
         (S.view site.old).files (S.view site.new).files) }
 {
-    laws_hold(job);
-    let names = job.inputs.as_slice();
-    match run_stored::<R, S, G, E, V, P>(
-        rt,
-        alloc,
-        site,
-        gate,
-        names,
-        graph,
-        &wanted.all,
-        plan,
-        memory,
-    ) {
-        Ok((table, histories)) => {
-            match save_blocks::<S, E, V, P>(alloc, site, job, graph, wanted, table) {
-                Ok(()) => {
-                    let report = told(alloc, graph.shape(), histories, asked)?;
-                    Ok(report)
-                }
-                Err(end) => Err(end),
-            }
-        }
-        Err(RunStatus::Zero { key }) => Err(ended_at(alloc, job, wanted, key)),
-        Err(RunStatus::Read) => Err(Ended::ReadFault),
-        Err(RunStatus::Memory) => Err(Ended::OutOfMemory),
-    }
+    let histories = run_stored::<R, S, G, E, V, P>(
+        rt, alloc, site, gate, job, graph, wanted, plan, memory,
+    )?;
+    let report = told(alloc, graph.shape(), histories, asked)?;
+    Ok(report)
 }
 
-/// Runs a job's graph by the cluster over its open inputs, saves what the client got, and makes the report of the run where the words
-/// ask for it. Where the client didn't get all, no file is created.
+/// Runs a job's graph by the cluster over its open inputs, saves each wanted block as it comes, and makes the report of the run where the
+/// words ask for it.
 ///
 /// # Errors
 /// How the run ends: a zero divisor that the client was told of, a fault, or want of memory.
+#[tactic(auto, using(crate::proofs::Serves::part_none))]
 pub fn serve<R, S, G, E, V>(
     rt: &R,
     alloc: Global,

@@ -10,7 +10,7 @@ use Rattle.job_run.proofs.SavedArrays.{region-in}
 use Rattle.job_run.proofs.blocks.save_at.Goals as goal
 
 pub hold_block-requires-clause-inside : goal.hold_block-requires-clause-inside
-hold_block-requires-clause-inside g c κs within =
+hold_block-requires-clause-inside g c =
     let layout = c.args.layout.now in
     let box : c.block_region.new.out ≡ region layout c.args.number = c.block_region.ensures ∙ ap (region layout) c.from.ensures in
     subst (IsPart c.block_region.new.out) c.requires.dims (subst (λ b. IsPart b (lengths layout)) (sym box) (region-in layout c.args.number c.requires.number))

@@ -16,19 +16,19 @@ use Rattle.job_run.proofs.blocks.save_named.Goals as goal
 use Rattle.job_run.proofs.blocks.save_named.Goals.{then-number-node+in_ok-save_at, else-number-node}
 
 pub save_at-requires-clause-dims : goal.save_at-requires-clause-dims
-save_at-requires-clause-dims g c κs within =
+save_at-requires-clause-dims g c =
     let at = save-place c.args.job.now c.deref-save-items.result.now c.args.layouts.now c.loop-place.place c.args.node c.save-item.result c.index-layouts-place.result c.requires.runs c.nodes-nodes.ensures.sound c.requires.layouts c.deref-save-items.ensures.value
     c.loop-place-test.true c.save-item.is (sym c.number.ensures ∙ c.if-number-node.true) c.index-layouts-place.is in
     at.cut ∙ ap (shape_at c.args.job.now.expr) (sym at.node_is)
 
 pub save_at-requires-clause-number : goal.save_at-requires-clause-number
-save_at-requires-clause-number g c κs within =
+save_at-requires-clause-number g c =
     let at = save-place c.args.job.now c.deref-save-items.result.now c.args.layouts.now c.loop-place.place c.args.node c.save-item.result c.index-layouts-place.result c.requires.runs c.nodes-nodes.ensures.sound c.requires.layouts c.deref-save-items.ensures.value
     c.loop-place-test.true c.save-item.is (sym c.number.ensures ∙ c.if-number-node.true) c.index-layouts-place.is in
     subst (λ l. c.args.number < blocks l) (sym at.layout_is) c.requires.number
 
 pub save_at-requires-clause-shape : goal.save_at-requires-clause-shape
-save_at-requires-clause-shape g c κs within =
+save_at-requires-clause-shape g c =
     let at = save-place c.args.job.now c.deref-save-items.result.now c.args.layouts.now c.loop-place.place c.args.node c.save-item.result c.index-layouts-place.result c.requires.runs c.nodes-nodes.ensures.sound c.requires.layouts c.deref-save-items.ensures.value
     c.loop-place-test.true c.save-item.is (sym c.number.ensures ∙ c.if-number-node.true) c.index-layouts-place.is in
     c.requires.shape ∙ ap (λ l. (region l c.args.number).lengths) (sym at.layout_is)

@@ -14,7 +14,7 @@ returns-in_err-push-clause-right g c =
     on_err c.from_residual-in_err-push.result (λ named boxes holds held. held-right (plan_of c.args.job.now) named boxes (waiting_of c.make_way.new.group) c.make_way.new.files (c.in_ok-make_way.ensures.held named boxes held))
 
 pub write_full_group-requires-clause-group : goal.write_full_group-requires-clause-group
-write_full_group-requires-clause-group g c κs within =
+write_full_group-requires-clause-group g c =
     pushed-group (plan_of c.args.job.now) (waiting_of c.make_way.new.group) (waiting_of c.push.new.self) c.args.place c.args.region (arc_value c.args.block.now) c.in_ok-shared.shared
     c.in_ok-make_way.ensures.group c.in_ok-make_way.ensures.place c.in_ok-shared.ensures c.in_ok-push.ensures.place c.in_ok-push.ensures.regions c.in_ok-push.ensures.blocks c.requires.there c.requires.inside c.requires.shape
 

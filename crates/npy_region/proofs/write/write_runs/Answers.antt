@@ -16,13 +16,13 @@ cells_of-part-requires g c =
     omega (arith, fits.cells, ap length c.cells-cells.ensures.value)
 
 pub write_cells-requires-clause-room : goal.write_cells-requires-clause-room
-write_cells-requires-clause-room g c κs within =
+write_cells-requires-clause-room g c =
     let next = next_run c.args.head.now c.args.region.now c.args.block.now c.args.runs.now c.loop-run.run-index c.cells-cells.result.now c.cells_of-part.result.now (g.F.OutFile.content c.args.file.now) (g.F.OutFile.content c.loop-run.file)
     c.requires.runs c.requires.part c.cells-cells.ensures.cells c.requires.shape c.requires.room c.loop-run-test.true c.cells-cells.ensures.value c.cells_of-part.ensures c.loop-run.invariant.size c.loop-run.invariant.written in
     next.room
 
 pub write_cells-requires-clause-fits : goal.write_cells-requires-clause-fits
-write_cells-requires-clause-fits g c κs within =
+write_cells-requires-clause-fits g c =
     let next = next_run c.args.head.now c.args.region.now c.args.block.now c.args.runs.now c.loop-run.run-index c.cells-cells.result.now c.cells_of-part.result.now (g.F.OutFile.content c.args.file.now) (g.F.OutFile.content c.loop-run.file)
     c.requires.runs c.requires.part c.cells-cells.ensures.cells c.requires.shape c.requires.room c.loop-run-test.true c.cells-cells.ensures.value c.cells_of-part.ensures c.loop-run.invariant.size c.loop-run.invariant.written in
     omega (arith, next.limit, c.requires.near, c.dims.ensures.limits.product)

@@ -16,7 +16,7 @@ returns-in_err-gather_row-clause-part g c =
     (file_some c.args.head.now c.args.regions.now c.args.blocks.now c.args.all.now c.loop-row.row (g.F.OutFile.content c.args.file.now) (g.F.OutFile.content c.loop-row.file) c.loop-row.invariant.written)
 
 pub write_full-requires-clause-room : goal.write_full-requires-clause-room
-write_full-requires-clause-room g c κs within =
+write_full-requires-clause-room g c =
     let rows : AreRows c.args.head.now c.args.regions.now c.args.blocks.now c.args.all.now = record { some = c.requires.some; count = c.requires.count; runs = c.requires.runs; beside = c.requires.beside; placed = c.requires.placed } in
     let first = c.as_slice-run-items.ensures ∙ runs_is c.args.all.now 0 c.index-all-0.result (omega (arith, c.requires.some, c.requires.count)) c.index-all-0.is in
     let bytes = c.as_flattened.ensures.value ∙ (ap (flat_map (λ x. x)) c.as_slice.ensures.value ∙ c.in_ok-gather_row.ensures.bytes) in
@@ -24,7 +24,7 @@ write_full-requires-clause-room g c κs within =
     rows c.in_ok-gather_row.ensures.full first c.loop-row-test.true bytes c.requires.room c.loop-row.invariant.size).room
 
 pub write_full-requires-clause-fits : goal.write_full-requires-clause-fits
-write_full-requires-clause-fits g c κs within =
+write_full-requires-clause-fits g c =
     let rows : AreRows c.args.head.now c.args.regions.now c.args.blocks.now c.args.all.now = record { some = c.requires.some; count = c.requires.count; runs = c.requires.runs; beside = c.requires.beside; placed = c.requires.placed } in
     let first = c.as_slice-run-items.ensures ∙ runs_is c.args.all.now 0 c.index-all-0.result (omega (arith, c.requires.some, c.requires.count)) c.index-all-0.is in
     let bytes = c.as_flattened.ensures.value ∙ (ap (flat_map (λ x. x)) c.as_slice.ensures.value ∙ c.in_ok-gather_row.ensures.bytes) in

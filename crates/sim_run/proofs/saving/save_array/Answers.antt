@@ -11,7 +11,7 @@ use Rattle.job_run.proofs.Filling.{always-err, changes-then, fills-cut, fills-ne
 use Rattle.sim_run.proofs.saving.save_array.Goals as goal
 
 pub write-requires-clause-inside : goal.write-requires-clause-inside
-write-requires-clause-inside g c κs within =
+write-requires-clause-inside g c =
     let layout = c.args.layout.now in
     let part = box-part layout _ (index_at-in (counts layout) c.loop-number.number (omega (arith, c.loop-number-test.true, c.requires.has.count))) in
     let B : Box → Type 0 = λ b. IsPart b (lengths layout) in
@@ -19,7 +19,7 @@ write-requires-clause-inside g c κs within =
     subst D (sym (c.loop-number.invariant.changes.dims_are ∙ c.requires.dims)) (subst B (sym c.block_region.ensures) part)
 
 pub write-requires-clause-shape : goal.write-requires-clause-shape
-write-requires-clause-shape g c κs within =
+write-requires-clause-shape g c =
     let h = c.requires.has.there c.loop-number.number c.loop-number-test.true in
     let S : Box → Type 0 = λ b. c.in-Some.block.now.shape ≡ b.lengths in
     subst S (sym c.block_region.ensures) (c.in-Some.ensures.dims (λ e. going_starved (sym h.going ∙ e)) ∙ h.lengths_are)

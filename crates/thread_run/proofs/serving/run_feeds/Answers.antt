@@ -1,51 +1,80 @@
-use Rattle.std.proofs.Common.{◌≡◌, ℕ, ◌*◌, length, map, string_bytes, inl, inr, subst, true}
-use Rattle.std.specs.Prelude.{All}
+use Rattle.std.proofs.Common.{◌≡◌, ℕ, ◌*◌, ap, arith, inl, inr, map, string_bytes}
+use Rattle.std.specs.Prelude.{◌⊎◌, IsTrue, vec_len}
+use Rattle.std.proofs.lemmas.Result.{IfErr-weaker, IfOk-weaker}
 use Rattle.io_edge.specs.Cause.{Rose}
 use Rattle.io_edge.specs.View.{View}
-use Rattle.block_lowering.specs.Jobs.{graph_of}
-use Rattle.job_run.proofs.Running.{rose_before}
+use Rattle.job_run.specs.Jobs.{plan_of}
+use Rattle.job_run.specs.Plan.{Plan}
+use Rattle.job_run.specs.Values.{Named}
 use Rattle.node_runner.specs.Runs.{numbers as numbers_of}
 use Rattle.thread_run.specs.Feeding.{OpensOften}
-use Rattle.thread_run.specs.Serving.{IsWhy}
-use Rattle.thread_run.specs.Tables.{has_at}
-use Rattle.thread_run.proofs.Saved.{facts_of}
-use Rattle.thread_run.proofs.Serves.{both-served, is-given, opens-kept, rose_after, was-ok, why-of, why-told}
+use Rattle.thread_run.specs.Serving.{HasShort, ServesAll, ServesPart}
+use Rattle.thread_run.proofs.Openings.{opens-as}
+use Rattle.thread_run.proofs.Serves.{all-before, part-before, part_none, rose_after, rose_first, serves-none, serves-opened}
 use Rattle.thread_run.proofs.serving.run_feeds.Goals as goal
 
-pub returns-clause-opens : goal.returns-clause-opens
-returns-clause-opens g c =
-    let old : View = g.S.Site.view c.args.site.now in
-    let mid : View = g.S.Site.view c.open_feeds.new.site in
-    let new : View = g.S.Site.view c.give_feeds.new.site in
-    let names = map string_bytes c.args.names.now in
+-- no memory for the feeds
+pub returns-in_default-clause-files : goal.returns-in_default-clause-files
+returns-in_default-clause-files g c =
+    let p : Plan = plan_of c.args.job.now in
+    let s = g.S.Site.view in
+    let old : View = s c.args.site.now in
+    let mid : View = s c.open_feeds.new.site in
     let threads = c.args.plan.now.threads in
-    let O : ℕ → Type 0 = λ n. OpensOften names (n * threads) old mid in
-    let back = c.give_feeds.ensures in
-    opens-kept names (numbers_of c.args.plan.now * threads) old mid new (subst O c.numbers.ensures c.open_feeds.ensures.opens) back.files back.only back.later
+    serves-none p (numbers_of c.args.plan.now * threads) old mid
+    (opens-as (map string_bytes c.as_slice-names.result.now) p.inputs c.numbers.result (numbers_of c.args.plan.now) threads old mid (ap (map string_bytes) c.as_slice-names.ensures.value) c.numbers.ensures c.open_feeds.ensures.opens)
 
-pub returns-clause-had : goal.returns-clause-had
-returns-clause-had g c = was-ok c.run_cluster-ends.result.0.result c.with_histories.result (λ t. All (λ k. has_at t k ≡ true) c.args.wanted.now) c.run_cluster-ends.result.1 c.run_cluster-ends.result.0.histories
-    c.run_cluster-ends.ensures.had c.with_histories.ensures.given c.with_histories.ensures.both
+pub returns-in_default-clause-stopped : goal.returns-in_default-clause-stopped
+returns-in_default-clause-stopped g c =
+    let p : Plan = plan_of c.args.job.now in
+    let s = g.S.Site.view in
+    let old : View = s c.args.site.now in
+    let mid : View = s c.open_feeds.new.site in
+    let o = c.open_feeds.ensures.opens in
+    part_none p g.E.Elements.named (IsTrue g.V.Veil.told) (Rose old.read_faults mid.read_faults) (Rose old.write_faults mid.write_faults) old.files mid.files o.held o.created
 
-pub returns-clause-long : goal.returns-clause-long
-returns-clause-long g c = is-given c.with_histories.result (λ t. length t ≡ length c.args.table) c.run_cluster-ends.result.1 c.with_histories.ensures.given c.run_cluster-ends.ensures.leads
+pub returns-clause-files : goal.returns-clause-files
+returns-clause-files g c =
+    let p : Plan = plan_of c.args.job.now in
+    let s = g.S.Site.view in
+    let old : View = s c.args.site.now in
+    let mid : View = s c.open_feeds.new.site in
+    let new : View = s c.run_saved.new.site in
+    let threads = c.args.plan.now.threads in
+    serves-opened p (numbers_of c.args.plan.now * threads) old mid new
+    (opens-as (map string_bytes c.as_slice-names.result.now) p.inputs c.numbers.result (numbers_of c.args.plan.now) threads old mid (ap (map string_bytes) c.as_slice-names.ensures.value) c.numbers.ensures c.open_feeds.ensures.opens)
+    c.run_saved.ensures.files
 
-pub returns-clause-histories : goal.returns-clause-histories
-returns-clause-histories g c =
-    let ends = c.run_cluster-ends.result.0 in
-    both-served (facts_of g.P.Picks.picked (λ j. j.job) g.E.Elements.named g.V.Veil.told) (graph_of c.args.graph.now.job) c.args.plan.now c.args.wanted.now _ ends.result ends.left.items ends.histories c.with_histories.result
-    c.run_cluster-ends.ensures.ended c.with_histories.ensures.both
+pub returns-clause-served : goal.returns-clause-served
+returns-clause-served g c =
+    let p : Plan = plan_of c.args.job.now in
+    let named : Named = g.E.Elements.named in
+    let told = IsTrue g.V.Veil.told in
+    let s = g.S.Site.view in
+    let old : View = s c.args.site.now in
+    let mid : View = s c.open_feeds.new.site in
+    let new : View = s c.run_saved.new.site in
+    let o = c.open_feeds.ensures.opens in
+    IfOk-weaker c.run_saved.result.0 (λ _. ServesAll p named told mid.files new.files) (λ _. ServesAll p named told old.files new.files) (λ _ all. all-before p named told old.files mid.files new.files o.held o.created o.tells all)
+    c.run_saved.ensures.served
 
-pub returns-clause-why : goal.returns-clause-why
-returns-clause-why g c =
-    let old : View = g.S.Site.view c.args.site.now in
-    let mid : View = g.S.Site.view c.open_feeds.new.site in
-    let new : View = g.S.Site.view c.give_feeds.new.site in
-    let ends = c.run_cluster-ends.result.0 in
-    let facts = facts_of g.P.Picks.picked (λ j. j.job) g.E.Elements.named g.V.Veil.told in
-    why-told ends.result c.with_histories.result (IsWhy facts c.args.wanted.now (Rose old.read_faults new.read_faults)) tt
-    (why-of facts (graph_of c.args.graph.now.job) c.args.plan.now c.args.wanted.now _ (Rose old.read_faults new.read_faults) ends.result ends.left.items ends.histories
-    (λ f. elim f [
-      | inl s ↦ rose_after old.read_faults mid.read_faults new.read_faults c.give_feeds.ensures.later (c.in-Ok.ensures.short s.0 s.1 s.2)
-      | inr b ↦ rose_before old.read_faults mid.read_faults new.read_faults c.open_feeds.ensures.opens.later (c.give_feeds.ensures.risen b)
-    ]) c.run_cluster-ends.ensures.ended) c.with_histories.ensures.why
+pub returns-clause-stopped : goal.returns-clause-stopped
+returns-clause-stopped g c =
+    let p : Plan = plan_of c.args.job.now in
+    let named : Named = g.E.Elements.named in
+    let told = IsTrue g.V.Veil.told in
+    let s = g.S.Site.view in
+    let old : View = s c.args.site.now in
+    let mid : View = s c.open_feeds.new.site in
+    let new : View = s c.run_saved.new.site in
+    let o = c.open_feeds.ensures.opens in
+    let reads : Type 0 = HasShort (map (λ v. vec_len v) c.in-Ok.feeds.items) c.args.plan.now.threads ⊎ Rose mid.read_faults new.read_faults in
+    let writes : Type 0 = Rose mid.write_faults new.write_faults in
+    IfErr-weaker c.run_saved.result.0 (ServesPart p named told reads writes mid.files new.files) (ServesPart p named told (Rose old.read_faults new.read_faults) (Rose old.write_faults new.write_faults) old.files new.files)
+    (λ end part. part-before p named told (Rose old.read_faults new.read_faults) reads (Rose old.write_faults new.write_faults) writes old.files mid.files new.files end o.held o.created o.tells
+    (λ why. elim why [
+      | inl short ↦ rose_after old.read_faults mid.read_faults new.read_faults c.run_saved.ensures.files.read_later (c.in-Ok.ensures.short short.0 short.1 short.2)
+      | inr rose ↦ rose_first old.read_faults mid.read_faults new.read_faults o.later rose
+    ])
+    (λ rose. rose_first old.write_faults mid.write_faults new.write_faults (omega (arith, o.only.write_faults)) rose) part)
+    c.run_saved.ensures.stopped

@@ -8,7 +8,7 @@ use Rattle.saved_files.proofs.files.SavedFiles.write.Goals as goal
 
 pub returns-clause-changes : goal.returns-clause-changes
 returns-clause-changes g c =
-    let f = saving_of g.S.Out.OutFile.named g.S.Out.OutFile.content g.S.Out.OutFile.count in
+    let f = saving_of g.F.OutFile.named g.F.OutFile.content g.F.OutFile.count in
     let r = replaces f c.self.inside.files.items c.args.place c.index_mut-opened.result.now c.write_block.new.out c.args.self.now c.self.view_is c.requires.there c.index_mut-opened.ensures.value in
     record {
       count = r.count;
@@ -19,24 +19,24 @@ returns-clause-changes g c =
 
 pub returns-clause-filled : goal.returns-clause-filled
 returns-clause-filled g c =
-    let f = saving_of g.S.Out.OutFile.named g.S.Out.OutFile.content g.S.Out.OutFile.count in
+    let f = saving_of g.F.OutFile.named g.F.OutFile.content g.F.OutFile.count in
     let r = replaces f c.self.inside.files.items c.args.place c.index_mut-opened.result.now c.write_block.new.out c.args.self.now c.self.view_is c.requires.there c.index_mut-opened.ensures.value in
     at_place (λ s t. OnOk c.write_block.result (FillsMore c.args.region.now c.args.block.now s t)) c.args.place c.args.self.now _ (f c.index_mut-opened.result.now) (f c.write_block.new.out) r c.write_block.ensures.filled
 
 pub returns-clause-part : goal.returns-clause-part
 returns-clause-part g c =
-    let f = saving_of g.S.Out.OutFile.named g.S.Out.OutFile.content g.S.Out.OutFile.count in
+    let f = saving_of g.F.OutFile.named g.F.OutFile.content g.F.OutFile.count in
     let r = replaces f c.self.inside.files.items c.args.place c.index_mut-opened.result.now c.write_block.new.out c.args.self.now c.self.view_is c.requires.there c.index_mut-opened.ensures.value in
     at_place (λ s t. OnErr c.write_block.result (FillsPart c.args.region.now c.args.block.now s t)) c.args.place c.args.self.now _ (f c.index_mut-opened.result.now) (f c.write_block.new.out) r c.write_block.ensures.part
 
 pub returns-clause-kept : goal.returns-clause-kept
 returns-clause-kept g c =
-    let f = saving_of g.S.Out.OutFile.named g.S.Out.OutFile.content g.S.Out.OutFile.count in
+    let f = saving_of g.F.OutFile.named g.F.OutFile.content g.F.OutFile.count in
     let r = replaces f c.self.inside.files.items c.args.place c.index_mut-opened.result.now c.write_block.new.out c.args.self.now c.self.view_is c.requires.there c.index_mut-opened.ensures.value in
     at_place (λ s t. OnOk c.write_block.result (t.faults ≡ s.faults)) c.args.place c.args.self.now _ (f c.index_mut-opened.result.now) (f c.write_block.new.out) r c.write_block.ensures.faults
 
 pub returns-clause-cause : goal.returns-clause-cause
 returns-clause-cause g c =
-    let f = saving_of g.S.Out.OutFile.named g.S.Out.OutFile.content g.S.Out.OutFile.count in
+    let f = saving_of g.F.OutFile.named g.F.OutFile.content g.F.OutFile.count in
     let r = replaces f c.self.inside.files.items c.args.place c.index_mut-opened.result.now c.write_block.new.out c.args.self.now c.self.view_is c.requires.there c.index_mut-opened.ensures.value in
     at_place (λ s t. HasOpenCause s.faults t.faults c.write_block.result) c.args.place c.args.self.now _ (f c.index_mut-opened.result.now) (f c.write_block.new.out) r c.write_block.ensures.cause
