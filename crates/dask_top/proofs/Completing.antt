@@ -1,5 +1,5 @@
 -- A job ends as its text, its inputs and its values say where nothing failed.
-use Rattle.std.proofs.Common.{◌≡◌, ℕ, List, [], ◌∷◌, get_or, string_bytes, refl, ap, sym, ◌∙◌, subst, inl, inr, arith, codes, Option, Some, None, Ok, Err}
+use Rattle.std.proofs.Common.{◌≡◌, ℕ, List, [], ◌∷◌, get_or, string_bytes, refl, ap, sym, ◌∙◌, subst, inl, inr, Option, Some, None, Ok, Err}
 use Rattle.std.specs.Prelude.{◌⊎◌, IfSome, IsSomeAnd}
 use Rattle.io_edge.specs.View.{View, Files}
 use Rattle.nd_shape.specs.Block.{Array}
@@ -29,7 +29,6 @@ use Rattle.cluster_sim.specs.Simulations.{IsUnfinished}
 use Rattle.task_graph.specs.Graphs.{operation, shape_of}
 use Rattle.command_words.specs.Words.{SameRun, SameSim}
 use Rattle.command_words.specs.declared.generate.GenWords.{GenWords}
-use Rattle.command_words.specs.declared.plain.PlainWords.{PlainWords}
 use Rattle.command_words.specs.declared.run.RunWords.{RunWords}
 use Rattle.command_words.specs.declared.sim.Settings.{Settings}
 use Rattle.command_words.specs.declared.sim.SimWords.{SimWords}

@@ -1,5 +1,5 @@
 -- The job that a number makes: what came of its simulation, and what was printed of that.
-use Rattle.std.proofs.Common.{◌≡◌, ℕ, List, refl, ap, sym, ◌∙◌, subst, Option, None}
+use Rattle.std.proofs.Common.{◌≡◌, ℕ, List, sym, ◌∙◌, subst, Option, None}
 use Rattle.io_edge.specs.Cause.{Rose}
 use Rattle.io_edge.specs.Content.{PrintsPart, followed_by}
 use Rattle.io_edge.specs.View.{OnlyErr, OnlyOut, View}

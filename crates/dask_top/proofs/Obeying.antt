@@ -1,5 +1,5 @@
 -- What the words are read as, and what is done with them.
-use Rattle.std.proofs.Common.{◌≡◌, ℕ, List, [], ◌∷◌, get_or, string_bytes, refl, ap, sym, ◌∙◌, subst, arith, codes, Some, None}
+use Rattle.std.proofs.Common.{◌≡◌, ℕ, List, [], ◌∷◌, get_or, string_bytes, ap, sym, ◌∙◌, subst, arith, codes, Some, None}
 use Rattle.std.specs.Prelude.{bytes_eq, true, false}
 use Rattle.std.proofs.lemmas.Bool.{false≢true}
 use Rattle.std.proofs.lemmas.Slice.Eq.{bytes_eq-Decides}

@@ -1,14 +1,15 @@
 -- A run of a job by a cluster of threads, whose text was read before it and whose end was told after it.
 use Rattle.std.proofs.Common.{◌≡◌, ℕ, ◌≤◌, List, ◌++◌, refl, ap, sym, ◌∙◌, subst, inl, inr, arith, Option, None, Some, Ok}
-use Rattle.std.specs.Prelude.{IfSome, IsSomeAnd, IsTrue}
+use Rattle.std.specs.Prelude.{IfSome, IsTrue, map}
 use Rattle.cluster_msgs.specs.declared.events.Report.{Report}
 use Rattle.io_edge.specs.Content.{followed_by}
-use Rattle.io_edge.proofs.GivenLaws.{more_same, more_then}
+use Rattle.io_edge.proofs.GivenLaws.{given_later, more_same, more_then}
 use Rattle.io_edge.specs.View.{View, Files, Opens, OnlyReads, OnlyErr, raised_by, times}
 use Rattle.command_words.specs.declared.run.RunWords.{RunWords}
 use Rattle.job_run.specs.declared.ends.Ended.{Ended}
 use Rattle.job_run.specs.declared.ends.Ended.TheVariants as RunEnds
 use Rattle.job_run.specs.Part.{RaisedAtMost}
+use Rattle.job_run.specs.Inputs.{FirstRefusal}
 use Rattle.job_run.specs.Plan.{Plan, names_saved}
 use Rattle.job_run.specs.Runs.{AreRight, Created, StopsPrinting}
 use Rattle.job_run.proofs.Counting.{times-append}
@@ -18,7 +19,7 @@ use Rattle.thread_run.specs.Reports.{IsToldRun}
 use Rattle.dask_top.specs.declared.answer.End.{End}
 use Rattle.dask_top.specs.Answers.{Performs}
 use Rattle.dask_top.specs.Commands.{Running}
-use Rattle.dask_top.specs.Ends.{Notes, run_end}
+use Rattle.dask_top.specs.Ends.{Notes}
 use Rattle.dask_top.specs.Opening.{TextRead, JobRead}
 use Rattle.dask_top.specs.Telling.{IsRefusal, Told, end_of}
 use Rattle.dask_top.specs.Works.{RunningOpened, Runs, WorkDoes}
@@ -32,7 +33,7 @@ use Rattle.dask_top.proofs.Unread.{notes_before}
 cause_told : (p : Plan) (old mid new : View) (end : Ended) → OnlyErr mid new → Cause p old mid end → Cause p old new end
 cause_told p old mid new RunEnds.Done only cause = cause
 cause_told p old mid new (RunEnds.Limit quantity) only cause = cause
-cause_told p old mid new (RunEnds.File place error) only cause = cause
+cause_told p old mid new (RunEnds.File place error) only cause = (cause.0, cause.1, given_later old.gave mid.gave new.gave (λ holds. FirstRefusal p (map holds p.inputs) place error) cause.2 (more_same mid.gave new.gave only.gave))
 cause_told p old mid new (RunEnds.Zero node block) only cause = cause
 cause_told p old mid new RunEnds.ReadFault only cause = rw only.read_faults cause
 cause_told p old mid new RunEnds.WriteFault only cause = rw (only.write_faults, only.print_faults) cause

@@ -1,11 +1,12 @@
 -- A simulation of a cluster on a job, whose text was read before it and whose end was told after it.
 use Rattle.std.proofs.Common.{◌≡◌, ℕ, ◌≤◌, List, ◌++◌, refl, ap, sym, ◌∙◌, subst, inl, inr, Some, Ok}
-use Rattle.std.specs.Prelude.{IsSomeAnd}
+use Rattle.std.specs.Prelude.{IsSomeAnd, map}
 use Rattle.io_edge.specs.Content.{followed_by}
-use Rattle.io_edge.proofs.GivenLaws.{more_same, more_then}
+use Rattle.io_edge.proofs.GivenLaws.{given_later, more_same, more_then}
 use Rattle.io_edge.specs.View.{View, Files, Opens, OnlyReads, OnlyErr, raised_by}
 use Rattle.job_run.specs.declared.ends.Ended.{Ended}
 use Rattle.job_run.specs.declared.ends.Ended.TheVariants as RunEnds
+use Rattle.job_run.specs.Inputs.{FirstRefusal}
 use Rattle.job_run.specs.Plan.{Plan, names_saved}
 use Rattle.job_run.specs.Runs.{Looked, PrintsFront}
 use Rattle.job_run.proofs.Counting.{none_raised}
@@ -33,7 +34,7 @@ cause_told p said old mid new SimEnds.Events only cause = cause
 cause_told p said old mid new SimEnds.Turns only cause = cause
 cause_told p said old mid new (SimEnds.Ran RunEnds.Done) only cause = cause
 cause_told p said old mid new (SimEnds.Ran (RunEnds.Limit quantity)) only cause = cause
-cause_told p said old mid new (SimEnds.Ran (RunEnds.File place error)) only cause = cause
+cause_told p said old mid new (SimEnds.Ran (RunEnds.File place error)) only cause = (cause.0, cause.1, given_later old.gave mid.gave new.gave (λ holds. FirstRefusal p (map holds p.inputs) place error) cause.2 (more_same mid.gave new.gave only.gave))
 cause_told p said old mid new (SimEnds.Ran (RunEnds.Zero node block)) only cause = cause
 cause_told p said old mid new (SimEnds.Ran RunEnds.ReadFault) only cause = rw only.read_faults cause
 cause_told p said old mid new (SimEnds.Ran RunEnds.WriteFault) only cause = rw (only.write_faults, only.print_faults) cause

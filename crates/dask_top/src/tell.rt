@@ -1,5 +1,5 @@
 // The line on standard error.
-ghost use Rattle.std.specs.Prelude.{◌≡◌, ◌≤◌, ◌<◌, ◌++◌, ◌∷◌, List, ℕ, length, map, codes, decimal, string_bytes, IfOk, OnOk, None, Some, Ok};
+ghost use Rattle.std.specs.Prelude.{◌≡◌, ◌<◌, ◌++◌, ◌∷◌, codes, decimal, string_bytes, IfOk, OnOk, Some, Ok};
 ghost use Rattle.io_edge.specs.View.{OnlyErr};
 ghost use Rattle.job_run.specs.Inputs.{file_error_text};
 ghost use Rattle.job_run.specs.Jobs.{plan_of};

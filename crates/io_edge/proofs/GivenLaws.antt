@@ -7,11 +7,15 @@ use Rattle.std.specs.List.{All}
 use Rattle.io_edge.specs.Content.{ReadsAll, Told}
 use Rattle.io_edge.proofs.Pieces.{read_more}
 use Rattle.io_edge.specs.View.{OnlyReads, View}
-use Rattle.io_edge.specs.Given.{Agree, Gives, GivesMore, GivesOnly, IsFrom, OnGiven, Piece, piece_at}
+use Rattle.io_edge.specs.Given.{Agree, Gives, GivesMore, GivesOf, GivesOnly, IsFrom, OnGiven, Piece, piece_at, with_read}
 
 module _ {X : Type 0} (P : X → Type 0) where
   pub all_front : (xs ys : List X) → All P (xs ++ ys) → All P xs
   all_front xs ys all k d h = subst P (get_or_append_left xs ys d k h) (all k d (omega (arith, h, length-append xs ys)))
+
+  pub all_back : (xs ys : List X) → All P (xs ++ ys) → All P ys
+  all_back [] ys all = all
+  all_back (x ∷ xs) ys all = all_back xs ys (λ k d h. all (suc k) d (omega (arith, h)))
 
   pub all_last : (xs : List X) (x : X) → All P (xs ++ x ∷ []) → P x
   all_last xs x all = subst P (get_or_at xs x [] x (length xs) refl) (all (length xs) x (omega (arith, length_push xs x)))
@@ -55,6 +59,55 @@ gives_more old new P g = record { more = g.more; is = g.is }
 pub given_as : (old new : List Piece) (P Q : (List ℕ → List ℕ) → Type 0) → ((holds : List ℕ → List ℕ) → P holds → Q holds) → Gives old new P → Gives old new Q
 given_as old new P Q f g = record { more = g.more; is = g.is; holds = λ holds agree. f holds (g.holds holds agree) }
 
+-- nothing has to be read for it
+pub given_any : (old new : List Piece) (P : (List ℕ → List ℕ) → Type 0) → ((holds : List ℕ → List ℕ) → P holds) → GivesMore old new → Gives old new P
+given_any old new P f m = record { more = m.more; is = m.is; holds = λ holds agree. f holds }
+
+-- what was given before adds nothing
+pub given_before : (old mid new : List Piece) (P : (List ℕ → List ℕ) → Type 0) → GivesMore old mid → Gives mid new P → Gives old new P
+given_before old mid new P m g = record {
+  more = m.more ++ g.more;
+  is = g.is ∙ (ap (λ x. x ++ g.more) m.is ∙ append_assoc old m.more g.more);
+  holds = λ holds agree. g.holds holds (all_back (λ (p : Piece). IsFrom (holds p.0) p.1 p.2 p.3) m.more g.more agree);
+}
+
+-- by the first pieces and by those after them
+pub given_both : (old mid new : List Piece) (P Q R : (List ℕ → List ℕ) → Type 0) → ((holds : List ℕ → List ℕ) → P holds → Q holds → R holds) → Gives old mid P → Gives mid new Q → Gives old new R
+given_both old mid new P Q R f a b = record {
+  more = a.more ++ b.more;
+  is = b.is ∙ (ap (λ x. x ++ b.more) a.is ∙ append_assoc old a.more b.more);
+  holds = λ holds agree. f holds (a.holds holds (all_front (λ (p : Piece). IsFrom (holds p.0) p.1 p.2 p.3) a.more b.more agree)) (b.holds holds (all_back (λ (p : Piece). IsFrom (holds p.0) p.1 p.2 p.3) a.more b.more agree));
+}
+
+-- and by one piece more
+pub given_with : (old mid new : List Piece) (p : Piece) (P Q : (List ℕ → List ℕ) → Type 0) → new ≡ mid ++ p ∷ [] → ((holds : List ℕ → List ℕ) → P holds → IsFrom (holds p.0) p.1 p.2 p.3 → Q holds) → Gives old mid P → Gives old new Q
+given_with old mid new p P Q e f g = record {
+  more = g.more ++ p ∷ [];
+  is = e ∙ (ap (λ x. x ++ p ∷ []) g.is ∙ append_assoc old g.more (p ∷ []));
+  holds = λ holds agree. f holds (g.holds holds (all_front (λ (p : Piece). IsFrom (holds p.0) p.1 p.2 p.3) g.more (p ∷ []) agree)) (all_last (λ (p : Piece). IsFrom (holds p.0) p.1 p.2 p.3) g.more p agree);
+}
+
+-- by the pieces of one call, so by all pieces
+pub given_on : (old new : List Piece) (P : (List ℕ → List ℕ) → Type 0) → Gives old new P → OnGiven new P
+given_on old new P g = λ holds agree. let A : List Piece → Type 0 = λ x. Agree holds x in g.holds holds (all_back (λ (p : Piece). IsFrom (holds p.0) p.1 p.2 p.3) old g.more (subst A g.is agree))
+
+-- ## The same of one file
+
+module _ (names : List (List ℕ)) (place : ℕ) where
+  pub file_as : (old new : List Piece) (P Q : List ℕ → Type 0) → ((bytes : List ℕ) → P bytes → Q bytes) → GivesOf names place old new P → GivesOf names place old new Q
+  file_as old new P Q f g = given_as old new (λ holds. P (holds (slice_index_or names place []))) (λ holds. Q (holds (slice_index_or names place []))) (λ holds p. f (holds (slice_index_or names place [])) p) g
+
+  pub file_any : (old new : List Piece) (P : List ℕ → Type 0) → ((bytes : List ℕ) → P bytes) → GivesMore old new → GivesOf names place old new P
+  file_any old new P f m = given_any old new (λ holds. P (holds (slice_index_or names place []))) (λ holds. f (holds (slice_index_or names place []))) m
+
+  pub file_both : (old mid new : List Piece) (P Q R : List ℕ → Type 0) → ((bytes : List ℕ) → P bytes → Q bytes → R bytes) → GivesOf names place old mid P → GivesOf names place mid new Q → GivesOf names place old new R
+  file_both old mid new P Q R f a b = given_both old mid new (λ holds. P (holds (slice_index_or names place []))) (λ holds. Q (holds (slice_index_or names place []))) (λ holds. R (holds (slice_index_or names place []))) (λ holds p q. f (holds (slice_index_or names place [])) p q) a b
+
+  -- the call that tells a file's length
+  pub file_long : (old new : List Piece) (size : ℕ) → new ≡ with_read old names place size 0 [] → GivesOf names place old new (λ bytes. length bytes ≡ size)
+  file_long old new size e =
+      given_with old old new (piece_at names place size 0 []) (λ holds. Unit {0}) (λ holds. length (holds (slice_index_or names place [])) ≡ size) e (λ holds u from. from.whole) (given_any old old (λ holds. Unit {0}) (λ holds. tt) (more_same old old refl))
+
 -- ## Which offsets were read
 
 pub only_none : (P : ℕ → Type 0) (old new : List Piece) → new ≡ old → GivesOnly P old new
@@ -92,19 +145,12 @@ pub record HasRead (file : List ℕ) (offset : ℕ) (buf : List ℕ) (n : ℕ) :
   pub inside : n ≤ length file - offset
   pub told : take n buf ≡ take n (drop offset file)
 
-pub nothing_read : (gave : List Piece) (name : List ℕ) (offset : ℕ) (buf : List ℕ) → OnGiven gave (λ holds. HasRead (holds name) offset buf 0)
-nothing_read gave name offset buf = λ holds agree. record { inside = omega arith; told = refl }
+pub nothing_read : (names : List (List ℕ)) (place : ℕ) (gave : List Piece) (offset : ℕ) (buf : List ℕ) → GivesOf names place gave gave (λ bytes. HasRead bytes offset buf 0)
+nothing_read names place gave offset buf = file_any names place gave gave (λ bytes. HasRead bytes offset buf 0) (λ bytes. record { inside = omega arith; told = refl }) (more_same gave gave refl)
 
--- one call more, whose bytes lie at the buffer's rest
-pub more_read : (names : List (List ℕ)) (place offset size a n m k : ℕ) (old new : List Piece) (buf part : List ℕ) → a ≤ length buf → n ≤ length part → m ≡ a + n → m ≤ size - offset →
-    new ≡ old ++ piece_at names place size (offset + a) (take n part) ∷ [] →
-    OnGiven old (λ holds. HasRead (holds (slice_index_or names place [])) offset buf a) →
-    OnGiven new (λ holds. HasRead (holds (slice_index_or names place [])) offset (put_mid a k buf part) m)
-more_read names place offset size a n m k old new buf part la ln is inside e before = λ holds agree.
-    let p : Piece = piece_at names place size (offset + a) (take n part) in
-    let file : List ℕ = holds (slice_index_or names place []) in
-    let was : HasRead file offset buf a = before holds (agrees_before holds old new p e agree) in
-    let from : IsFrom file size (offset + a) (take n part) = agrees_last holds old new p e agree in
+-- the bytes of one piece more lie at the buffer's rest
+read_further : (file : List ℕ) (offset size a n m k : ℕ) (buf part : List ℕ) → a ≤ length buf → n ≤ length part → m ≡ a + n → m ≤ size - offset → HasRead file offset buf a → IsFrom file size (offset + a) (take n part) → HasRead file offset (put_mid a k buf part) m
+read_further file offset size a n m k buf part la ln is inside was from =
     let l : length (take n part) ≡ n = length-take-le n part ln in
     let T : ℕ → Type 0 = λ m. take m (put_mid a k buf part) ≡ take m (drop offset file) in
     record {
@@ -112,19 +158,30 @@ more_read names place offset size a n m k old new buf part la ln is inside e bef
       told = subst T (sym is) (read_more (Told file) offset a n k buf part la ln was.told (from.part ∙ ap (λ m. take m (drop (offset + a) file)) l));
     }
 
+-- one call more
+pub more_read : (names : List (List ℕ)) (place offset size a n m k : ℕ) (old mid new : List Piece) (buf part : List ℕ) → a ≤ length buf → n ≤ length part → m ≡ a + n → m ≤ size - offset →
+    new ≡ mid ++ piece_at names place size (offset + a) (take n part) ∷ [] →
+    GivesOf names place old mid (λ bytes. HasRead bytes offset buf a) → GivesOf names place old new (λ bytes. HasRead bytes offset (put_mid a k buf part) m)
+more_read names place offset size a n m k old mid new buf part la ln is inside e before =
+    given_with old mid new (piece_at names place size (offset + a) (take n part)) (λ holds. HasRead (holds (slice_index_or names place [])) offset buf a) (λ holds. HasRead (holds (slice_index_or names place [])) offset (put_mid a k buf part) m) e
+    (λ holds was from. read_further (holds (slice_index_or names place [])) offset size a n m k buf part la ln is inside was from) before
+
 -- the buffer is full
-pub all_read : (gave : List Piece) (name : List ℕ) (offset n : ℕ) (old buf : List ℕ) → n ≤ length old → length old ≤ n → OnGiven gave (λ holds. HasRead (holds name) offset buf n) → OnGiven gave (λ holds. ReadsAll (Told (holds name)) offset old buf n)
-all_read gave name offset n old buf low high read = λ holds agree. let r = read holds agree in record { count = omega (arith, low, high, r.inside); told = r.told }
+pub all_read : (names : List (List ℕ)) (place : ℕ) (old_gave gave : List Piece) (offset n : ℕ) (old buf : List ℕ) → n ≤ length old → length old ≤ n →
+    GivesOf names place old_gave gave (λ bytes. HasRead bytes offset buf n) → GivesOf names place old_gave gave (λ bytes. ReadsAll (Told bytes) offset old buf n)
+all_read names place old_gave gave offset n old buf low high read =
+    file_as names place old_gave gave (λ bytes. HasRead bytes offset buf n) (λ bytes. ReadsAll (Told bytes) offset old buf n) (λ bytes r. record { count = omega (arith, low, high, r.inside); told = r.told }) read
 
 -- a call read nothing, since the file ends there
-pub ended_read : (names : List (List ℕ)) (place offset at size n : ℕ) (old new : List Piece) (bytes full buf : List ℕ) → n ≤ length full → size ≤ offset + n →
-    new ≡ old ++ piece_at names place size at bytes ∷ [] →
-    OnGiven new (λ holds. HasRead (holds (slice_index_or names place [])) offset buf n) →
-    OnGiven new (λ holds. ReadsAll (Told (holds (slice_index_or names place []))) offset full buf n)
-ended_read names place offset at size n old new bytes full buf low ended e read = λ holds agree.
-    let r : HasRead (holds (slice_index_or names place [])) offset buf n = read holds agree in
-    let from : IsFrom (holds (slice_index_or names place [])) size at bytes = agrees_last holds old new (piece_at names place size at bytes) e agree in
-    record { count = omega (arith, r.inside, from.whole, low, ended); told = r.told }
+pub ended_read : (names : List (List ℕ)) (place offset size a n k : ℕ) (old mid new : List Piece) (full buf part : List ℕ) → a ≤ length buf → n ≤ length part → n ≡ 0 → a ≤ size - offset → a ≤ length full → size ≤ offset + a →
+    new ≡ mid ++ piece_at names place size (offset + a) (take n part) ∷ [] →
+    GivesOf names place old mid (λ bytes. HasRead bytes offset buf a) → GivesOf names place old new (λ bytes. ReadsAll (Told bytes) offset full (put_mid a k buf part) a)
+ended_read names place offset size a n k old mid new full buf part la ln none inside low ended e before =
+    given_with old mid new (piece_at names place size (offset + a) (take n part)) (λ holds. HasRead (holds (slice_index_or names place [])) offset buf a) (λ holds. ReadsAll (Told (holds (slice_index_or names place []))) offset full (put_mid a k buf part) a) e
+    (λ holds was from.
+    let r : HasRead (holds (slice_index_or names place [])) offset (put_mid a k buf part) a = read_further (holds (slice_index_or names place [])) offset size a n a k buf part la ln (omega (arith, none)) inside was from in
+    record { count = omega (arith, r.inside, from.whole, low, ended); told = r.told })
+    before
 
 pub one_more : (old mid new : List Piece) (p : Piece) → GivesMore old mid → new ≡ mid ++ p ∷ [] → GivesMore old new
 one_more old mid new p a e = more_then old mid new a (record { more = p ∷ []; is = e })

@@ -46,6 +46,10 @@ pub record Gives (old new : List Piece) (P : (List ℕ → List ℕ) → Type 0)
   pub is : new ≡ old ++ more
   pub holds : OnGiven more P
 
+-- the same of the file with this place among the names
+abbrev pub GivesOf : List (List ℕ) → ℕ → List Piece → List Piece → (List ℕ → Type 0) → Type 0
+GivesOf names place old new P = Gives old new (λ holds. P (holds (slice_index_or names place [])))
+
 -- further pieces were given, and this is true of each offset at which one has a byte
 pub record GivesOnly (P : ℕ → Type 0) (old new : List Piece) : Type 0 where
   pub more : List Piece

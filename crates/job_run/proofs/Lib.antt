@@ -3,6 +3,7 @@ pub mod Creating
 pub mod Evaluated
 pub mod FilledFiles
 pub mod Filling
+pub mod GivenLoads
 pub mod Halting
 pub mod KeyValues
 pub mod Laws

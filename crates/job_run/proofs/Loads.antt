@@ -5,6 +5,7 @@ use Rattle.std.proofs.lemmas.List.{get_or_append_left, take_more}
 use Rattle.std.proofs.lemmas.Option.{get_or_from_slice_get, slice_get_read}
 use Rattle.io_edge.specs.Cause.{Rose}
 use Rattle.io_edge.specs.Content.{Content, Told, OnTold, file_at}
+use Rattle.io_edge.specs.Given.{Piece}
 use Rattle.io_edge.specs.View.{View, Files, Shows}
 use Rattle.nd_shape.specs.Block.{Array}
 use Rattle.nd_rows.proofs.Turns.{split as below_or}
@@ -15,10 +16,11 @@ use Rattle.job_run.specs.declared.ends.Ended.{Ended}
 use Rattle.job_run.specs.declared.ends.Ended.TheVariants.{Done, Limit, File, Zero, ReadFault, WriteFault, OutOfMemory}
 use Rattle.job_run.specs.declared.ends.FileError.{FileError}
 use Rattle.job_run.specs.Inputs.{FirstRefusal, FitInputs, FitsShape, HoldsArray, InputsFit, RefusesFile, told_all}
-use Rattle.job_run.specs.Loading.{AreHeads, HeadEnds, IsHeadFor, IsRefusedAt, LoadEnds}
+use Rattle.job_run.specs.Loading.{AreHeads, HeadEnds, IsHeadFor, IsRefusedAt, LoadEnds, LoadGiven}
 use Rattle.job_run.specs.Plan.{Plan, input_shapes}
 use Rattle.job_run.specs.Runs.{ReadCause}
 use Rattle.job_run.specs.Told.{array_told}
+use Rattle.job_run.proofs.GivenLoads.{refusal_given}
 use Rattle.job_run.proofs.Told.{held_array, inputs_there, on_content, on_told, told_fact}
 
 -- ## Declared shapes
@@ -122,18 +124,29 @@ refused_first p old mid files place error contents o refused e = record {
   here = told_fact p.inputs old mid files contents place (λ bytes. RefusesFile (get_or (input_shapes p.nodes) place []) bytes error) o.shows e (omega (arith, refused.within, o.declared)) refused.here;
 }
 
-pub load_cause : (p : Plan) (old new : View) (mid : Files) (files : List Content) (now : ℕ) (end : Ended) → Opened p old.files mid files → (0 < now → Rose old.read_faults new.read_faults) → LoadEnds (input_shapes p.nodes) files 0 now end → ReadCause p old new end
-load_cause p old new mid files now (File place error) o risen ends = record {
-  within = omega (arith, ends.within, o.declared);
-  there = λ t. inputs_there p.inputs old.files mid files o.shows t;
-  first = on_told (told_all old.files.held p.inputs) (λ contents. FirstRefusal p contents place error) (λ contents e. refused_first p old.files mid files place error contents o ends e);
-}
-load_cause p old new mid files now ReadFault o risen ends = risen (omega (arith, ends))
-load_cause p old new mid files now OutOfMemory o risen ends = tt
-load_cause p old new mid files now Done o risen ends = absurd ends
-load_cause p old new mid files now (Limit quantity) o risen ends = absurd ends
-load_cause p old new mid files now (Zero node block) o risen ends = absurd ends
-load_cause p old new mid files now WriteFault o risen ends = absurd ends
+-- the pieces of a store that was opened for the inputs and given back
+pub record GivenBack (p : Plan) (names : List (List ℕ)) (fresh store old mid new : List Piece) : Type 0 where
+  pub named : names ≡ p.inputs
+  pub before : mid ≡ old
+  pub is : new ≡ mid ++ store
+
+pub load_cause : (p : Plan) (old new : View) (mid : Files) (files : List Content) (now : ℕ) (names : List (List ℕ)) (fresh store between : List Piece) (end : Ended) → Opened p old.files mid files → (0 < now → Rose old.read_faults new.read_faults) → GivenBack p names fresh store old.gave between new.gave →
+    LoadGiven names (input_shapes p.nodes) fresh store end → LoadEnds (input_shapes p.nodes) files 0 now end → ReadCause p old new end
+load_cause p old new mid files now names fresh store between (File place error) o risen back given ends =
+    let within : place < length p.inputs = omega (arith, ends.within, o.declared) in (
+      record {
+        within = within;
+        there = λ t. inputs_there p.inputs old.files mid files o.shows t;
+        first = on_told (told_all old.files.held p.inputs) (λ contents. FirstRefusal p contents place error) (λ contents e. refused_first p old.files mid files place error contents o ends e);
+      },
+      refusal_given p names place error fresh store old.gave between new.gave back.named within back.before back.is given,
+    )
+load_cause p old new mid files now names fresh store between ReadFault o risen back given ends = risen (omega (arith, ends))
+load_cause p old new mid files now names fresh store between OutOfMemory o risen back given ends = tt
+load_cause p old new mid files now names fresh store between Done o risen back given ends = absurd ends
+load_cause p old new mid files now names fresh store between (Limit quantity) o risen back given ends = absurd ends
+load_cause p old new mid files now names fresh store between (Zero node block) o risen back given ends = absurd ends
+load_cause p old new mid files now names fresh store between WriteFault o risen back given ends = absurd ends
 
 fits_file : (shape : List ℕ) (file : Content) (head : Head) → IsHeadFor shape file head → OnTold file (λ bytes. (array : Array) × HoldsArray shape bytes array)
 fits_file shape file head is = on_content file _ (λ bytes. (array : Array) × HoldsArray shape bytes array) (λ bytes front. (array_told (Told bytes) head, held_array shape bytes head front is.declared)) is.front

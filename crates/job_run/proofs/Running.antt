@@ -117,7 +117,7 @@ lowering_runs p v OutOfMemory cause = memory_runs p v
 pub reading_runs : (p : Plan) (old new : View) (end : Ended) → IsSmall p → ReadCause p old new end → Opens p.inputs old.files new.files → OnlyReads old new → RunsPlan p old new end
 reading_runs p old new Done small cause opens only = absurd cause
 reading_runs p old new (Limit quantity) small cause opens only = absurd cause
-reading_runs p old new (File place error) small cause opens only = early_runs p old new (File place error) tt (small, cause) opens only (opened_most p.inputs old.files new.files opens)
+reading_runs p old new (File place error) small cause opens only = early_runs p old new (File place error) tt (small, cause.0, cause.1) opens only (opened_most p.inputs old.files new.files opens)
 reading_runs p old new (Zero node block) small cause opens only = absurd cause
 reading_runs p old new ReadFault small cause opens only = early_runs p old new ReadFault tt (small, cause) opens only (opened_most p.inputs old.files new.files opens)
 reading_runs p old new WriteFault small cause opens only = absurd cause

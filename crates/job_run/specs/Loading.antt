@@ -2,6 +2,7 @@
 use Rattle.std.specs.Prelude.{◌≡◌, ◌≤◌, ◌<◌, ◌+◌, ◌*◌, ◌^◌, ℕ, List, [], length, slice_index_or}
 use Rattle.io_edge.specs.Cause.{Rose}
 use Rattle.io_edge.specs.Content.{Content, OnTold, file_at, size_of}
+use Rattle.io_edge.specs.Given.{Gives, GivesOf, Piece}
 use Rattle.nd_shape.specs.Shape.{elements}
 use Rattle.npy_codec.specs.declared.head.Head.{Head}
 use Rattle.npy_codec.specs.Files.{HasHead}
@@ -40,3 +41,24 @@ HeadEnds shape file place before now (File at error) = (at ≡ place) × OnTold 
 HeadEnds shape file place before now ReadFault = Rose before now
 HeadEnds shape file place before now OutOfMemory = Unit {0}
 HeadEnds shape file place before now end = ⊥
+
+-- ## The same of whatever the files hold that gave what was read
+
+-- the files of the first names, so many of them, are as declared
+pub record FitNamed (names shapes : List (List ℕ)) (count : ℕ) (holds : List ℕ → List ℕ) : Type 0 where
+  pub each : (k : ℕ) → k < count → FitsShape (slice_index_or shapes k []) (holds (slice_index_or names k []))
+
+-- the file of the name at this place is refused, and those before it are as declared
+pub record IsRefusedNamed (names shapes : List (List ℕ)) (place : ℕ) (error : FileError) (holds : List ℕ → List ℕ) : Type 0 where
+  pub before : (k : ℕ) → k < place → FitsShape (slice_index_or shapes k []) (holds (slice_index_or names k []))
+  pub here : RefusesFile (slice_index_or shapes place []) (holds (slice_index_or names place [])) error
+
+-- where a file is refused, the pieces of the call tell so
+abbrev pub LoadGiven : List (List ℕ) → List (List ℕ) → List Piece → List Piece → Ended → Type 0
+LoadGiven names shapes old new (File place error) = Gives old new (IsRefusedNamed names shapes place error)
+LoadGiven names shapes old new end = Unit {0}
+
+-- the same of one file, whose place is given
+abbrev pub HeadGiven : List (List ℕ) → ℕ → List ℕ → List Piece → List Piece → Ended → Type 0
+HeadGiven names place shape old new (File at error) = GivesOf names place old new (λ bytes. RefusesFile shape bytes error)
+HeadGiven names place shape old new end = Unit {0}

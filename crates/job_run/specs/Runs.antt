@@ -1,14 +1,15 @@
 -- How a run of a job ends, why it ends so, and what it leaves.
-use Rattle.std.specs.Prelude.{◌≡◌, ◌⊎◌, ℕ, List, ◌++◌, codes, IsTrue, None, Some}
+use Rattle.std.specs.Prelude.{◌≡◌, ◌⊎◌, ℕ, List, ◌++◌, codes, map, IsTrue, None, Some}
 use Rattle.io_edge.specs.Cause.{Rose}
 use Rattle.io_edge.specs.Content.{followed_by, PrintsPart}
-use Rattle.io_edge.specs.Given.{GivesMore}
+use Rattle.io_edge.specs.Given.{Gives, GivesMore}
 use Rattle.io_edge.specs.View.{View, Files, raised_by}
 use Rattle.plain_eval.specs.Eval.{held_in}
 use Rattle.lowering_laws.specs.Lowered.{limit_of}
 use Rattle.job_run.specs.declared.ends.Ended.{Ended}
 use Rattle.job_run.specs.declared.ends.Ended.TheVariants.{Done, Limit, File, Zero, ReadFault, WriteFault, OutOfMemory}
-use Rattle.job_run.specs.Inputs.{InputsFit, InputRefused}
+use Rattle.job_run.specs.declared.ends.FileError.{FileError}
+use Rattle.job_run.specs.Inputs.{FirstRefusal, InputsFit, InputRefused}
 use Rattle.job_run.specs.Part.{AreWhole, AreLeft, IsNoneOf, RaisedAtMost}
 use Rattle.job_run.specs.Plan.{Plan, names_saved}
 use Rattle.job_run.specs.Values.{OnInputs, IsFaulty, MeetsZero, MeetsNone, files_of, saved_lines}
@@ -36,11 +37,15 @@ pub record HasFault (p : Plan) (files : Files) (node : ℕ) (block : List ℕ) :
 abbrev pub WritesFail : Plan → View → View → Type 0
 WritesFail p old new = Rose old.write_faults new.write_faults ⊎ (HasValues p old.files × Rose old.print_faults new.print_faults)
 
+-- Told or not: of whatever the files hold that gave what was read, the one at this place is the first that is not as declared, for this reason.
+abbrev pub IsRefusedGiven : Plan → View → View → ℕ → FileError → Type 0
+IsRefusedGiven p old new place error = Gives old.gave new.gave (λ holds. FirstRefusal p (map holds p.inputs) place error)
+
 -- why a run ends so
 abbrev pub Cause : Plan → View → View → Ended → Type 0
 Cause p old new Done = IsSmall p × HasValues p old.files
 Cause p old new (Limit quantity) = limit_of p.nodes ≡ Some quantity
-Cause p old new (File place error) = IsSmall p × InputRefused p old.files place error
+Cause p old new (File place error) = IsSmall p × InputRefused p old.files place error × IsRefusedGiven p old new place error
 Cause p old new (Zero node block) = IsSmall p × HasZero p old.files node block
 Cause p old new ReadFault = IsSmall p × Rose old.read_faults new.read_faults
 Cause p old new WriteFault = IsSmall p × InputsFit p old.files × WritesFail p old new
@@ -48,7 +53,7 @@ Cause p old new OutOfMemory = Unit {0}
 
 -- why the inputs weren't opened, or one of them is refused
 abbrev pub ReadCause : Plan → View → View → Ended → Type 0
-ReadCause p old new (File place error) = InputRefused p old.files place error
+ReadCause p old new (File place error) = InputRefused p old.files place error × IsRefusedGiven p old new place error
 ReadCause p old new ReadFault = Rose old.read_faults new.read_faults
 ReadCause p old new OutOfMemory = Unit {0}
 ReadCause p old new end = ⊥

@@ -1,8 +1,9 @@
 // The inputs of a job, opened, and their heads read.
 ghost use Rattle.std.specs.Prelude.{◌≡◌, ◌≤◌, ◌++◌, [], ◌∷◌, length, cond, map, IfOk, IfErr, OnOk, string_bytes};
+ghost use Rattle.io_edge.specs.Given.{OnGiven};
 ghost use Rattle.io_edge.specs.View.{Opens, OnlyReads, Shows, raised_by};
 ghost use Rattle.array_expr.specs.Elem.{is_input};
-ghost use Rattle.job_run.specs.Inputs.{InputsFit};
+ghost use Rattle.job_run.specs.Inputs.{FitInputs, InputsFit};
 ghost use Rattle.job_run.specs.Jobs.{plan_of};
 ghost use Rattle.job_run.specs.Loading.{AreHeads};
 ghost use Rattle.job_run.specs.Plan.{IsRunnable, input_shapes};
@@ -54,7 +55,7 @@ pub struct Inputs<I> {
 }
 
 /// Opens all inputs of a job by one call and reads their heads, or tells why that fails. Where it succeeds each input is as
-/// declared, and all of its data is there.
+/// declared, and all of its data is there: what the site tells of it, and whatever it holds that gave what was read.
 pub fn open_inputs<S: Site>(alloc: Global, site: &mut S, job: &Job) -> Result<Inputs<S::In>, Ended>
     requires runs { IsRunnable (plan_of job.now) }
     ensures opens { Opens (plan_of job.now).inputs (S.view site.old).files (S.view site.new).files }
@@ -64,6 +65,8 @@ pub fn open_inputs<S: Site>(alloc: Global, site: &mut S, job: &Job) -> Result<In
     ensures count { IfOk result (λ i. length i.heads.items ≡ length (input_shapes job.now.expr)) }
     ensures shows { IfOk result (λ i. Shows (plan_of job.now).inputs (S.view site.old).files (S.view site.new).files (S.In.files i.store)) }
     ensures fresh { IfOk result (λ i. S.In.count i.store ≡ 0) }
+    ensures named { IfOk result (λ i. S.In.names i.store ≡ (plan_of job.now).inputs) }
+    ensures given { IfOk result (λ i. OnGiven (S.In.gave i.store) (λ holds. FitInputs (plan_of job.now) (map holds (plan_of job.now).inputs))) }
     ensures only { OnlyReads (S.view site.old) (S.view site.new) }
     ensures later { (S.view site.old).read_faults ≤ (S.view site.new).read_faults }
     ensures cause { IfErr result (λ e. ReadCause (plan_of job.now) (S.view site.old) (S.view site.new) e) }

@@ -2,6 +2,7 @@
 ghost use Rattle.std.specs.Prelude.{◌≡◌, ◌≤◌, ◌<◌, ◌+◌, ◌-◌, ◌*◌, ◌^◌, length, take, drop, IfOk, IfErr, OnOk, IsErrOf, MatchOption};
 ghost use Rattle.io_edge.specs.Cause.{Rose};
 ghost use Rattle.io_edge.specs.Content.{size_of, file_at, OnTold};
+ghost use Rattle.io_edge.specs.Given.{GivesMore, GivesOf};
 ghost use Rattle.nd_shape.specs.Shape.{elements};
 ghost use Rattle.npy_codec.specs.Files.{magic, HasFixed, HasHead, IsNotMagic, IsRefusedAs, text_len_at};
 ghost use Rattle.npy_codec.specs.Fronts.{DeclaresHead, FieldsRefusedAs, FixedRefusedAs, HasTextLen, IsHeadOfFields, IsHeadOfText, TextRefusedAs};
@@ -99,11 +100,15 @@ fn read_fixed<S: Store>(alloc: Global, store: &mut S, file: u32, size: u64) -> R
     requires there { file < length (S.files store.old) }
     requires size { size ≡ size_of (file_at (S.files store.old) file) }
     ensures same { S.files store.new ≡ S.files store.old }
+    ensures named { S.names store.new ≡ S.names store.old }
+    ensures gave { GivesMore (S.gave store.old) (S.gave store.new) }
     ensures later { S.count store.old ≤ S.count store.new }
     ensures kept { OnOk result (S.count store.new ≡ S.count store.old) }
     ensures long { OnOk result (10 ≤ size) }
     ensures small { IfOk result (λ n. n < 2 ^ 16) }
     ensures value { IfOk result (λ n. OnTold (file_at (S.files store.old) file) (HasTextLen n)) }
+    ensures given { IfOk result (λ n. GivesOf (S.names store.old) file (S.gave store.old) (S.gave store.new) (λ bytes. length bytes ≡ size → HasTextLen n bytes)) }
+    ensures given_refusal { IfErr result (λ error. GivesOf (S.names store.old) file (S.gave store.old) (S.gave store.new) (λ bytes. length bytes ≡ size → IsRefusedAs bytes error)) }
     ensures refused { IfErr result (λ error. OnTold (file_at (S.files store.old) file) (λ bytes. IsRefusedAs bytes error)) }
     ensures fault { IsErrOf result NpyError.ReadFault → Rose (S.count store.old) (S.count store.new) }
 {
@@ -118,10 +123,14 @@ fn read_text<S: Store>(alloc: Global, store: &mut S, file: u32, len: u64) -> Res
     requires room { 10 + len ≤ size_of (file_at (S.files store.old) file) }
     requires value { OnTold (file_at (S.files store.old) file) (HasTextLen len) }
     ensures same { S.files store.new ≡ S.files store.old }
+    ensures named { S.names store.new ≡ S.names store.old }
+    ensures gave { GivesMore (S.gave store.old) (S.gave store.new) }
     ensures later { S.count store.old ≤ S.count store.new }
     ensures kept { OnOk result (S.count store.new ≡ S.count store.old) }
     ensures at { IfOk result (λ head. head.data_at ≡ 10 + len) }
     ensures declared { IfOk result (λ head. OnTold (file_at (S.files store.old) file) (λ bytes. DeclaresHead bytes head)) }
+    ensures given { IfOk result (λ head. GivesOf (S.names store.old) file (S.gave store.old) (S.gave store.new) (λ bytes. HasTextLen len bytes → 10 + len ≤ length bytes → DeclaresHead bytes head)) }
+    ensures given_refusal { IfErr result (λ error. GivesOf (S.names store.old) file (S.gave store.old) (S.gave store.new) (λ bytes. HasTextLen len bytes → 10 + len ≤ length bytes → IsRefusedAs bytes error)) }
     ensures refused { IfErr result (λ error. OnTold (file_at (S.files store.old) file) (λ bytes. IsRefusedAs bytes error)) }
     ensures fault { IsErrOf result NpyError.ReadFault → Rose (S.count store.old) (S.count store.new) }
 {
@@ -133,13 +142,18 @@ fn read_text<S: Store>(alloc: Global, store: &mut S, file: u32, len: u64) -> Res
 /// for in this order: the magic, the ten fixed bytes, the version, the header's length, the header itself, its `descr`,
 /// its shape, and the length of the data. Bytes after the data are ignored.
 ///
-/// Where the store doesn't tell what the file holds, nothing is said of what is read.
+/// Whether or not the store tells what the file holds: the head, or the refusal, is that of whatever the file holds that gave
+/// the pieces of this call.
 pub fn read_head<S: Store>(alloc: Global, store: &mut S, file: u32) -> Result<Head, NpyError>
     requires there { file < length (S.files store.old) }
     ensures same { S.files store.new ≡ S.files store.old }
+    ensures named { S.names store.new ≡ S.names store.old }
+    ensures gave { GivesMore (S.gave store.old) (S.gave store.new) }
     ensures later { S.count store.old ≤ S.count store.new }
     ensures kept { OnOk result (S.count store.new ≡ S.count store.old) }
     ensures head { IfOk result (λ head. OnTold (file_at (S.files store.old) file) (λ bytes. HasHead bytes head)) }
+    ensures given { IfOk result (λ head. GivesOf (S.names store.old) file (S.gave store.old) (S.gave store.new) (λ bytes. HasHead bytes head)) }
+    ensures given_refusal { IfErr result (λ error. GivesOf (S.names store.old) file (S.gave store.old) (S.gave store.new) (λ bytes. IsRefusedAs bytes error)) }
     ensures near { IfOk result (λ head. head.data_at < 2 ^ 17) }
     ensures room { IfOk result (λ head. head.data_at + 8 * elements head.shape ≤ size_of (file_at (S.files store.old) file)) }
     ensures refused { IfErr result (λ error. OnTold (file_at (S.files store.old) file) (λ bytes. IsRefusedAs bytes error)) }

@@ -1,4 +1,5 @@
 pub mod CellLemmas
+pub mod GivenCells
 pub mod RegionLemmas
 pub mod RunLemmas
 pub mod WriteLemmas

@@ -2,7 +2,7 @@
 ghost use Rattle.std.specs.Prelude.{◌≡◌, ◌≤◌, ◌<◌, ◌+◌, ◌*◌, ◌^◌, ◌++◌, length, take, drop, IfErr, OnOk, IsErrOf};
 ghost use Rattle.io_edge.specs.Cause.{Rose};
 ghost use Rattle.io_edge.specs.Content.{size_of, file_at, OnTold};
-ghost use Rattle.io_edge.specs.Given.{GivesOnly, IsWithin};
+ghost use Rattle.io_edge.specs.Given.{GivesOf, GivesOnly, IsWithin};
 ghost use Rattle.npy_codec.specs.Fronts.{IsFaultOrMemory};
 ghost use Rattle.npy_codec.specs.Npy.{cell, cells};
 
@@ -45,10 +45,12 @@ pub(crate) fn read_cells<S: Store>(
     requires fits { offset + 8 * count < 2 ^ 64 }
     requires buffer { 8 ≤ length buffer.old }
     ensures same { S.files store.new ≡ S.files store.old }
+    ensures named { S.names store.new ≡ S.names store.old }
     ensures only { GivesOnly (IsWithin offset (8 * count)) (S.gave store.old) (S.gave store.new) }
     ensures later { S.count store.old ≤ S.count store.new }
     ensures kept { OnOk result (S.count store.new ≡ S.count store.old) }
     ensures cells { OnOk result (OnTold (file_at (S.files store.old) file) (λ bytes. out.new.items ≡ out.old.items ++ cells (take (8 * count) (drop offset bytes)))) }
+    ensures given { OnOk result (GivesOf (S.names store.old) file (S.gave store.old) (S.gave store.new) (λ bytes. offset + 8 * count ≤ length bytes → out.new.items ≡ out.old.items ++ cells (take (8 * count) (drop offset bytes)))) }
     ensures size { OnOk result (length out.new.items ≡ length out.old.items + count) }
     ensures cause { IfErr result IsFaultOrMemory }
     ensures fault { IsErrOf result NpyError.ReadFault → Rose (S.count store.old) (S.count store.new) }

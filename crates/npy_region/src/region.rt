@@ -2,7 +2,7 @@
 ghost use Rattle.std.specs.Prelude.{◌≡◌, ◌≤◌, ◌<◌, ◌+◌, ◌-◌, ◌*◌, ◌^◌, [], ℕ, length, IfOk, IfErr, OnOk, IsErrOf};
 ghost use Rattle.io_edge.specs.Cause.{Rose};
 ghost use Rattle.io_edge.specs.Content.{size_of, file_at, OnTold};
-ghost use Rattle.io_edge.specs.Given.{GivesOnly};
+ghost use Rattle.io_edge.specs.Given.{GivesOf, GivesOnly};
 ghost use Rattle.nd_shape.specs.Region.{IsPart};
 ghost use Rattle.nd_shape.specs.Shape.{elements};
 ghost use Rattle.nd_rows.specs.Storage.{count_of, spot, walk_of};
@@ -54,11 +54,13 @@ fn read_rows<S: Store>(
     requires buffer { 8 ≤ length buffer.old }
     requires none { cells.old.items ≡ [] }
     ensures same { S.files store.new ≡ S.files store.old }
+    ensures named { S.names store.new ≡ S.names store.old }
     ensures only { GivesOnly (IsStoredByte walk.old data_at) (S.gave store.old) (S.gave store.new) }
     ensures walk { walk.new ≡ walk.old }
     ensures later { S.count store.old ≤ S.count store.new }
     ensures kept { OnOk result (S.count store.new ≡ S.count store.old) }
     ensures cells { OnOk result (OnTold (file_at (S.files store.old) file) (λ bytes. AreStored bytes data_at walk.old (count_of walk.old) cells.new.items)) }
+    ensures given { OnOk result (GivesOf (S.names store.old) file (S.gave store.old) (S.gave store.new) (λ bytes. EndsWithin walk.old data_at (length bytes) → AreStored bytes data_at walk.old (count_of walk.old) cells.new.items)) }
     ensures size { OnOk result (length cells.new.items ≡ count_of walk.old) }
     ensures cause { IfErr result IsFaultOrMemory }
     ensures fault { IsErrOf result NpyError.ReadFault → Rose (S.count store.old) (S.count store.new) }
@@ -85,11 +87,13 @@ fn read_stored<S: Store>(
     requires some { 0 < count_of walk.old }
     requires room { EndsWithin walk.old data_at (size_of (file_at (S.files store.old) file)) }
     ensures same { S.files store.new ≡ S.files store.old }
+    ensures named { S.names store.new ≡ S.names store.old }
     ensures only { GivesOnly (IsStoredByte walk.old data_at) (S.gave store.old) (S.gave store.new) }
     ensures walk { walk.new ≡ walk.old }
     ensures later { S.count store.old ≤ S.count store.new }
     ensures kept { OnOk result (S.count store.new ≡ S.count store.old) }
     ensures cells { IfOk result (λ v. OnTold (file_at (S.files store.old) file) (λ bytes. AreStored bytes data_at walk.old (count_of walk.old) v.items)) }
+    ensures given { IfOk result (λ v. GivesOf (S.names store.old) file (S.gave store.old) (S.gave store.new) (λ bytes. EndsWithin walk.old data_at (length bytes) → AreStored bytes data_at walk.old (count_of walk.old) v.items)) }
     ensures size { IfOk result (λ v. length v.items ≡ count_of walk.old) }
     ensures cause { IfErr result IsFaultOrMemory }
     ensures fault { IsErrOf result NpyError.ReadFault → Rose (S.count store.old) (S.count store.new) }
@@ -133,11 +137,13 @@ fn read_walk<S: Store>(
     requires near { head.now.data_at ≤ 2 ^ 21 }
     requires walk { walk.old ≡ walk_of head.now.fortran head.now.shape region.now }
     ensures same { S.files store.new ≡ S.files store.old }
+    ensures named { S.names store.new ≡ S.names store.old }
     ensures only { GivesOnly (IsByteIn head.now region.now) (S.gave store.old) (S.gave store.new) }
     ensures later { S.count store.old ≤ S.count store.new }
     ensures kept { OnOk result (S.count store.new ≡ S.count store.old) }
     ensures shape { IfOk result (λ block. block.shape ≡ region.now.lengths) }
     ensures cells { IfOk result (λ block. OnTold (file_at (S.files store.old) file) (λ bytes. HoldsRegion bytes head.now region.now block)) }
+    ensures given { IfOk result (λ block. GivesOf (S.names store.old) file (S.gave store.old) (S.gave store.new) (λ bytes. HoldsRegion bytes head.now region.now block)) }
     ensures room { OnOk result (needed head.now region.now ≤ size_of (file_at (S.files store.old) file) - head.now.data_at) }
     ensures refused { IfErr result (RegionRefusedAs (size_of (file_at (S.files store.old) file)) head.now region.now) }
     ensures fault { IsErrOf result NpyError.ReadFault → Rose (S.count store.old) (S.count store.new) }
@@ -163,8 +169,8 @@ fn read_walk<S: Store>(
 /// Reads a region of a file's array into a block, in row-major order, whichever order the file has. It is refused as
 /// `Truncated` exactly where the region's last run ends past the file; the two counts are of data bytes.
 ///
-/// Where the store doesn't tell what the file holds, nothing is said of the elements. Whatever comes of it, the bytes that
-/// the store gives stand at offsets of the region's elements.
+/// Whether or not the store tells what the file holds: the elements are those of whatever the file holds that gave the pieces of
+/// this call. Whatever comes of it, the bytes that the store gives stand at offsets of the region's elements.
 pub fn read_region<S: Store>(
     alloc: Global,
     store: &mut S,
@@ -176,11 +182,13 @@ pub fn read_region<S: Store>(
     requires part { IsPart region.now head.now.shape }
     requires near { head.now.data_at ≤ 2 ^ 21 }
     ensures same { S.files store.new ≡ S.files store.old }
+    ensures named { S.names store.new ≡ S.names store.old }
     ensures only { GivesOnly (IsByteIn head.now region.now) (S.gave store.old) (S.gave store.new) }
     ensures later { S.count store.old ≤ S.count store.new }
     ensures kept { OnOk result (S.count store.new ≡ S.count store.old) }
     ensures shape { IfOk result (λ block. block.shape ≡ region.now.lengths) }
     ensures cells { IfOk result (λ block. OnTold (file_at (S.files store.old) file) (λ bytes. HoldsRegion bytes head.now region.now block)) }
+    ensures given { IfOk result (λ block. GivesOf (S.names store.old) file (S.gave store.old) (S.gave store.new) (λ bytes. HoldsRegion bytes head.now region.now block)) }
     ensures room { OnOk result (needed head.now region.now ≤ size_of (file_at (S.files store.old) file) - head.now.data_at) }
     ensures refused { IfErr result (RegionRefusedAs (size_of (file_at (S.files store.old) file)) head.now region.now) }
     ensures fault { IsErrOf result NpyError.ReadFault → Rose (S.count store.old) (S.count store.new) }

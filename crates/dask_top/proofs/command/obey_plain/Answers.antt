@@ -1,4 +1,4 @@
-use Rattle.std.proofs.Common.{map, string_bytes, get_or, codes, [], ◌∷◌, refl, subst, inl, inr}
+use Rattle.std.proofs.Common.{map, string_bytes, get_or, codes, [], subst, inl, inr}
 use Rattle.command_words.specs.Words.{IsNoPlain}
 use Rattle.command_words.specs.declared.fail.WordsFail.{WordsFail}
 use Rattle.dask_top.proofs.Obeying.{is_name, only_plain, evaluated, refused_words, unread_words}

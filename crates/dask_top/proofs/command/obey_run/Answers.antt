@@ -1,4 +1,4 @@
-use Rattle.std.proofs.Common.{map, string_bytes, get_or, codes, [], ◌∷◌, refl, subst, inl, inr}
+use Rattle.std.proofs.Common.{map, string_bytes, get_or, codes, [], subst, inl}
 use Rattle.command_words.specs.Words.{IsNoRun}
 use Rattle.command_words.proofs.Saying.{run_settings}
 use Rattle.command_words.specs.declared.fail.WordsFail.{WordsFail}

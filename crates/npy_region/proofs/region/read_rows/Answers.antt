@@ -6,6 +6,7 @@ use Rattle.nd_rows.specs.Storage.{Walk, count_of, spot}
 use Rattle.npy_region.specs.Cells.{IsStoredByte}
 use Rattle.nd_rows.proofs.Spots.{row_fits}
 use Rattle.npy_region.proofs.RegionLemmas.{row_starts, row_room, row_more, row_read, rows_are, rows_end, first_stored, row_byte, StoredTo}
+use Rattle.npy_region.proofs.GivenCells.{rows_all, rows_more, rows_none}
 use Rattle.npy_region.proofs.region.read_rows.Goals as goal
 
 pub loop-k-init : goal.loop-k-init
@@ -13,10 +14,12 @@ loop-k-init g c =
     let none : c.args.cells.now.items ≡ [] = c.requires.none in
     record {
       same = refl;
+      named = refl;
       only = only_none (IsStoredByte c.args.walk.now c.args.data_at) _ _ refl;
       kept = refl;
       walk = refl;
       cells = first_stored (file_at (g.S.Store.files c.args.store.now) c.args.file) c.args.data_at c.row_len-row.result c.args.walk.now c.args.cells.now.items none;
+      given = rows_none (g.S.Store.names c.args.store.now) c.args.file (g.S.Store.gave c.args.store.now) c.args.data_at c.row_len-row.result c.args.walk.now c.args.cells.now.items none;
       size = ap length none ∙ omega arith;
     }
 
@@ -56,9 +59,12 @@ loop-k-preserved g c =
       same = c.read_cells.ensures.same ∙ c.loop-k.invariant.same;
       only = only_then (IsStoredByte walk c.args.data_at) _ _ _ c.loop-k.invariant.only
           (only_as (IsWithin (c.args.data_at + 8 * c.place.result) (8 * row)) (IsStoredByte walk c.args.data_at) _ _ (λ p h. row_byte c.args.data_at (c.args.data_at + 8 * c.place.result) row k p walk c.row_len-row.ensures k_in at h) c.read_cells.ensures.only);
+      named = c.read_cells.ensures.named ∙ c.loop-k.invariant.named;
       kept = c.in_ok-read_cells.ensures.kept ∙ c.loop-k.invariant.kept;
       walk = c.place.ensures.same ∙ c.loop-k.invariant.walk;
       cells = row_more file c.args.data_at row k walk c.loop-k.cells.items c.read_cells.new.out.items c.row_len-row.ensures k_in room c.loop-k.invariant.cells more;
+      given = rows_more (g.S.Store.names c.args.store.now) c.args.file (g.S.Store.gave c.args.store.now) (g.S.Store.gave c.loop-k.store) (g.S.Store.gave c.read_cells.new.store) c.args.data_at row k (c.args.data_at + 8 * c.place.result) walk c.loop-k.cells.items c.read_cells.new.out.items
+          c.row_len-row.ensures k_in at c.loop-k.invariant.given (rw c.loop-k.invariant.named at c.in_ok-read_cells.ensures.given);
       size = c.in_ok-read_cells.ensures.size ∙ omega (arith, c.loop-k.invariant.size);
     }
 
@@ -85,3 +91,9 @@ returns-in_err-read_cells-clause-only g c =
 
 pub returns-clause-only : goal.returns-clause-only
 returns-clause-only g c = c.loop-k.invariant.only
+
+pub returns-clause-given : goal.returns-clause-given
+returns-clause-given g c =
+    let last : c.loop-k.k ≡ c.len-count.result / c.row_len-row.result = omega arith in
+    rows_all (g.S.Store.names c.args.store.now) c.args.file (g.S.Store.gave c.args.store.now) (g.S.Store.gave c.loop-k.store) c.args.data_at (c.loop-k.k * c.row_len-row.result) c.args.walk.now c.loop-k.cells.items
+    (rows_end c.args.walk.now c.row_len-row.result c.len-count.result c.loop-k.k c.row_len-row.ensures c.len-count.ensures.count last) c.loop-k.invariant.given
