@@ -1,6 +1,7 @@
 pub mod SumLemmas
 pub mod SoundTable
 pub mod GridLemmas
+pub mod SheetLemmas
 pub mod DeriveLemmas
 pub mod Keeping
 pub mod Rooms

@@ -4,3 +4,4 @@ pub mod Kept
 pub mod Tables
 pub mod Derived
 pub mod Pairs
+pub mod Sheets

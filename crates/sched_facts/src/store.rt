@@ -8,6 +8,7 @@ ghost use Rattle.cluster_rules.specs.Functions.{put, put_pair};
 ghost use Rattle.cluster_rules.specs.Sched.{Facts, Setting, keys, holds, sched_opening};
 ghost use Rattle.sched_facts.specs.Stored.{Stored, facts_of, IsStored};
 
+use crate::sheets::Sheets;
 use cluster_msgs::GraphShape;
 use fact_rows::{Grid, Row};
 use std::alloc::{AllocError, Global};
@@ -21,13 +22,13 @@ pub struct FactStore {
     clients: u32,
     saturation: u32,
     want: Grid<bool>,
-    has: Grid<Option<u64>>,
+    has: Sheets<Option<u64>>,
     on: Row<Option<(u32, u64)>>,
     steal: Row<Option<(u32, bool)>>,
     bad: Row<bool>,
     threads: Row<Option<u32>>,
     sent: Row<u64>,
-    fence: Grid<u64>,
+    fence: Sheets<u64>,
     room: u32,
     last: u32,
     counter: u64,
@@ -269,9 +270,8 @@ impl FactStore {
         ensures least { self.old.room ≤ self.new.room }
         ensures most { self.new.room ≤ self.old.room + 1 }
     {
-        let wide = self.shape.keys();
-        add_rows(self.alloc, &mut self.has, wide, 1, None)?;
-        add_rows(self.alloc, &mut self.fence, wide, 1, 0)?;
+        self.has.add(self.alloc, None)?;
+        self.fence.add(self.alloc, 0)?;
         self.threads.push(None)?;
         self.sent.push(0)?;
         self.room += 1;
@@ -359,12 +359,12 @@ impl KeyRows {
     }
 }
 
-/// The grids of a store that begins: nobody wants or holds a key, and no key was taken from a worker.
+/// The facts by two numbers of a store that begins: nobody wants or holds a key, and no key was taken from a worker.
 #[derive(Drop)]
 struct Grids {
     want: Grid<bool>,
-    has: Grid<Option<u64>>,
-    fence: Grid<u64>,
+    has: Sheets<Option<u64>>,
+    fence: Sheets<u64>,
 }
 
 impl Grids {
@@ -379,8 +379,8 @@ impl Grids {
     {
         Ok(Grids {
             want: grid_of(alloc, wide, clients + 1, false)?,
-            has: grid_of(alloc, wide, 1, None)?,
-            fence: grid_of(alloc, wide, 1, 0)?,
+            has: Sheets::new(alloc, wide, None)?,
+            fence: Sheets::new(alloc, wide, 0)?,
         })
     }
 }

@@ -8,8 +8,8 @@ use Rattle.sched_facts.proofs.store.FactStore.make_room.Goals as goal
 pub returns-in_err-push-2-clause-facts : goal.returns-in_err-push-2-clause-facts
 unfolding facts_of
 returns-in_err-push-2-clause-facts c = rw (← c.self.view_is) (λ i. record (facts_of (stored c.self.inside)) {
-  has = c.add_rows.ensures.same i;
-  fence = c.add_rows-2.ensures.same i;
+  has = c.add.ensures.same i;
+  fence = c.add-2.ensures.same i;
   threads = (ap (λ r. read r None) c.in_ok-push.ensures.ok ∙ read-push c.self.inside.threads None) i;
   sent = (ap (λ r. read r 0) c.in_err-push-2.ensures.err) i;
 })
@@ -17,8 +17,8 @@ returns-in_err-push-2-clause-facts c = rw (← c.self.view_is) (λ i. record (fa
 pub returns-clause-facts : goal.returns-clause-facts
 unfolding facts_of
 returns-clause-facts c = rw (← c.self.view_is) (λ i. record (facts_of (stored c.self.inside)) {
-  has = c.add_rows.ensures.same i;
-  fence = c.add_rows-2.ensures.same i;
+  has = c.add.ensures.same i;
+  fence = c.add-2.ensures.same i;
   threads = (ap (λ r. read r None) c.in_ok-push.ensures.ok ∙ read-push c.self.inside.threads None) i;
   sent = (ap (λ r. read r 0) c.in_ok-push-2.ensures.ok ∙ read-push c.self.inside.sent 0) i;
 })
@@ -26,18 +26,18 @@ returns-clause-facts c = rw (← c.self.view_is) (λ i. record (facts_of (stored
 pub returns-in_err-push-clause-facts : goal.returns-in_err-push-clause-facts
 unfolding facts_of
 returns-in_err-push-clause-facts c = rw (← c.self.view_is) (λ i. record (facts_of (stored c.self.inside)) {
-  has = c.add_rows.ensures.same i;
-  fence = c.add_rows-2.ensures.same i;
+  has = c.add.ensures.same i;
+  fence = c.add-2.ensures.same i;
   threads = (ap (λ r. read r None) c.in_err-push.ensures.err) i;
 })
 
-pub returns-in_err-add_rows-2-clause-facts : goal.returns-in_err-add_rows-2-clause-facts
+pub returns-in_err-add-2-clause-facts : goal.returns-in_err-add-2-clause-facts
 unfolding facts_of
-returns-in_err-add_rows-2-clause-facts c = rw (← c.self.view_is) (λ i. record (facts_of (stored c.self.inside)) {
-  has = c.add_rows.ensures.same i;
-  fence = c.add_rows-2.ensures.same i;
+returns-in_err-add-2-clause-facts c = rw (← c.self.view_is) (λ i. record (facts_of (stored c.self.inside)) {
+  has = c.add.ensures.same i;
+  fence = c.add-2.ensures.same i;
 })
 
-pub returns-in_err-add_rows-clause-facts : goal.returns-in_err-add_rows-clause-facts
+pub returns-in_err-add-clause-facts : goal.returns-in_err-add-clause-facts
 unfolding facts_of
-returns-in_err-add_rows-clause-facts c = rw (← c.self.view_is) (λ i. record (facts_of (stored c.self.inside)) { has = c.add_rows.ensures.same i })
+returns-in_err-add-clause-facts c = rw (← c.self.view_is) (λ i. record (facts_of (stored c.self.inside)) { has = c.add.ensures.same i })
