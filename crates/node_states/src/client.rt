@@ -13,11 +13,12 @@ ghost use Rattle.node_states.specs.Machines.{ClientSays};
 use crate::cores::GatheringCore;
 use crate::evidence::{Blame, ClientCause};
 use crate::links::{ClientLinks, is_dead, number};
+use crate::worker_choice::paired;
 use cluster_msgs::{
     Asker, ClientEvent, ClientOut, End, Event, KeyList, Label, Message, Packet, Peer, Stop,
 };
 use gather_client::ClientCore;
-use node_links::{Book, Keyed, Machine, Port, pair_up};
+use node_links::{Book, Keyed, Machine, Port};
 use std::alloc::{AllocError, Global};
 use std::sync::Wait;
 use turn_cell::{Act, Kept, Stamps};
@@ -61,18 +62,24 @@ impl<B: Drop, L: Label<Block = B>> ClientNode<B, L> {
         ensures core { IfOk result (λ node. node.book.core ≡ core) }
         ensures entries { IfOk result (λ node. (node.book.entries ≡ []) × (node.book.cut ≡ false)) }
     {
-        let Ok(book) = Book::new(alloc, core, limit) else {
-            return Err(AllocError);
-        };
-        Ok(ClientNode {
-            alloc,
-            book,
-            came: Vec::new(alloc),
-            wanted,
-            asked: false,
-            links: ClientLinks::new(alloc, scheduler, workers),
-            stopped: None,
-        })
+        let links = ClientLinks::new(alloc, scheduler, workers);
+        match Book::new(alloc, core, limit) {
+            Ok(book) => Ok(ClientNode {
+                alloc,
+                book,
+                came: Vec::new(alloc),
+                wanted,
+                asked: false,
+                links,
+                stopped: None,
+            }),
+            Err(core) => {
+                drop(core);
+                drop(wanted);
+                drop(links);
+                Err(AllocError)
+            }
+        }
     }
 
     /// Why it stopped, if it did: for want of memory, for a message that no honest node sends, or since all events were taken.
@@ -101,7 +108,18 @@ impl<B: Drop, L: Label<Block = B>> ClientNode<B, L> {
     pub fn into_parts(self) -> (Book<GatheringCore<L>>, Vec<Keyed<B, L>>)
         ensures { result.0 ≡ self.book }
     {
-        (self.book, self.came)
+        let ClientNode {
+            alloc: _,
+            book,
+            came,
+            wanted,
+            asked: _,
+            links,
+            stopped: _,
+        } = self;
+        drop(wanted);
+        drop(links);
+        (book, came)
     }
 
     /// Goes on no more, as for want of memory.
@@ -142,14 +160,20 @@ impl<B: Drop, L: Label<Block = B>> ClientNode<B, L> {
         if self.stopped.is_some() {
             return false;
         }
-        let Some(choice) = self.choose(rt, dead) else {
-            self.links.flush(rt);
-            return false;
-        };
-        let end = self.perform(rt, stamps, choice);
-        self.note(end);
-        self.links.flush(rt);
-        true
+        let chosen = self.choose(rt, dead);
+        match chosen {
+            Some(choice) => {
+                let end = self.perform(rt, stamps, choice);
+                self.note(end);
+                self.links.flush(rt);
+                true
+            }
+            None => {
+                drop(chosen);
+                self.links.flush(rt);
+                false
+            }
+        }
     }
 
     /// Stops where an event failed.
@@ -172,9 +196,13 @@ impl<B: Drop, L: Label<Block = B>> ClientNode<B, L> {
                 return self.settle(chosen);
             }
         }
-        let chosen = match self.links.take(rt) {
+        let taken = self.links.take(rt);
+        let chosen = match taken {
             Some((worker, packet)) => self.deliver(worker, packet),
-            None => Ok(self.ask(dead)),
+            None => {
+                drop(taken);
+                Ok(self.ask(dead))
+            }
         };
         self.settle(chosen)
     }
@@ -187,6 +215,7 @@ impl<B: Drop, L: Label<Block = B>> ClientNode<B, L> {
         match chosen {
             Ok(choice) => choice,
             Err(stop) => {
+                drop(chosen);
                 self.stopped = Some(stop);
                 None
             }
@@ -201,7 +230,10 @@ impl<B: Drop, L: Label<Block = B>> ClientNode<B, L> {
             return Err(Stop::Memory);
         };
         let keys = self.wanted.copy()?;
-        let again = self.wanted.copy()?;
+        let Ok(again) = self.wanted.copy() else {
+            drop(keys);
+            return Err(Stop::Memory);
+        };
         Ok(Some(Choice {
             event: Event::Want {
                 client: core.id,
@@ -279,6 +311,7 @@ impl<B: Drop, L: Label<Block = B>> ClientNode<B, L> {
         ensures { IfOk result (λ o. IfSome o (λ c. ClientSays self.now.book.core.id (client_facts self.now.book.core.core) c.event c.message c.said)) }
     {
         let Some(core) = self.book.core() else {
+            drop(packet);
             return Err(Stop::Memory);
         };
         match worker {
@@ -293,11 +326,19 @@ impl<B: Drop, L: Label<Block = B>> ClientNode<B, L> {
         requires { PacketFits L.facts packet }
         ensures { IfOk result (λ o. IfSome o (λ c. (f : ClientFacts) → ClientSays id f c.event c.message c.said)) }
     {
-        let Packet { message, blocks: _ } = packet;
-        let Message::ToClient(news) = message else {
-            return Err(Stop::Refused);
+        let Packet { message, blocks } = packet;
+        drop(blocks);
+        let news = match message {
+            Message::ToClient(news) => news,
+            other => {
+                drop(other);
+                return Err(Stop::Refused);
+            }
         };
-        let copy = news.copy()?;
+        let Ok(copy) = news.copy() else {
+            drop(news);
+            return Err(Stop::Memory);
+        };
         Ok(Some(Choice {
             event: Event::DeliverToClient { client: id },
             message: Some(Message::ToClient(copy)),
@@ -313,11 +354,20 @@ impl<B: Drop, L: Label<Block = B>> ClientNode<B, L> {
         ensures { IfOk result (λ o. IfSome o (λ c. (f : ClientFacts) → ClientSays id f c.event c.message c.said)) }
     {
         let Packet { message, blocks } = packet;
-        let Message::Peer(Peer::Data { ask, found }) = message else {
-            return Err(Stop::Refused);
+        let (ask, found) = match message {
+            Message::Peer(Peer::Data { ask, found }) => (ask, found),
+            other => {
+                drop(other);
+                drop(blocks);
+                return Err(Stop::Refused);
+            }
         };
-        let copy = found.copy()?;
-        let brought = pair_up(self.alloc, found.as_slice(), &blocks)?;
+        let (found, brought) = paired(self.alloc, found, blocks)?;
+        let Ok(copy) = found.copy() else {
+            drop(found);
+            drop(brought);
+            return Err(Stop::Memory);
+        };
         Ok(Some(Choice {
             event: Event::ArriveGather {
                 asker: Asker::Client(id),
@@ -346,8 +396,16 @@ impl<B: Drop, L: Label<Block = B>> ClientNode<B, L> {
             brought,
         } = choice;
         let mut out = ClientOut::new(self.alloc);
-        self.book.record(stamps, event, message, said, &mut out)?;
-        keep(self.book.core(), brought, &mut self.came)?;
+        let end = self.book.record(stamps, event, message, said, &mut out);
+        if let Err(stop) = end {
+            drop(brought);
+            drop(out);
+            return Err(stop);
+        }
+        if keep(self.book.core(), brought, &mut self.came).is_err() {
+            drop(out);
+            return Err(Stop::Memory);
+        }
         self.links.post(rt, out)
     }
 }
@@ -359,6 +417,7 @@ fn keep<B: Drop, L: Label<Block = B>>(
     came: &mut Vec<Keyed<B, L>>,
 ) -> Result<(), AllocError> {
     let Some(core) = core else {
+        drop(brought);
         return Ok(());
     };
     for keyed in brought {

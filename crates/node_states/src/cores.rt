@@ -87,6 +87,7 @@ impl<L: Label> Machine for SchedulingCore<L> {
     #[tactic(auto, using(crate::proofs::SchedLaw::sched_fits, crate::proofs::SchedLaw::made_fits))]
     fn take(&mut self, event: SchedCause<L>, out: &mut SchedOut<L>) -> Result<(), Stop> {
         if self.torn {
+            drop(event);
             return Err(Stop::Memory);
         }
         cluster_rules::Facts::sound(&self.core);
@@ -97,10 +98,14 @@ impl<L: Label> Machine for SchedulingCore<L> {
                 Ok(())
             }
             Err(Stop::Memory) => {
+                drop(made);
                 self.torn = true;
                 Err(Stop::Memory)
             }
-            Err(stop) => Err(stop),
+            Err(stop) => {
+                drop(made);
+                Err(stop)
+            }
         }
     }
 }
@@ -145,9 +150,16 @@ impl<L: Label> Machine for WorkingCore<L> {
     #[tactic(auto, using(crate::proofs::WorkerLaw::out_fits))]
     fn take(&mut self, event: WorkerCause<L>, out: &mut WorkerOut<L>) -> Result<(), Stop> {
         let mut made = Instructions::new(self.alloc);
-        self.core.on(event.into_event(), &mut made)?;
-        *out = WorkerOut::new(made);
-        Ok(())
+        match self.core.on(event.into_event(), &mut made) {
+            Ok(()) => {
+                *out = WorkerOut::new(made);
+                Ok(())
+            }
+            Err(stop) => {
+                drop(made);
+                Err(stop)
+            }
+        }
     }
 }
 

@@ -47,7 +47,10 @@ impl<L: Label> WorkerHistory<L> {
         ensures none { IfOk result (λ h. (k : ℕ) → is_marked h.recorded k ≡ false) }
     {
         let id = core.id;
-        let recorded = Marks::new(alloc, graph.keys())?;
+        let Ok(recorded) = Marks::new(alloc, graph.keys()) else {
+            drop(core);
+            return Err(AllocError);
+        };
         match Book::new(alloc, core, limit) {
             Ok(book) => Ok(WorkerHistory {
                 id,
@@ -55,7 +58,11 @@ impl<L: Label> WorkerHistory<L> {
                 ended: false,
                 recorded,
             }),
-            Err(_) => Err(AllocError),
+            Err(core) => {
+                drop(core);
+                drop(recorded);
+                Err(AllocError)
+            }
         }
     }
 
@@ -126,10 +133,16 @@ impl<L: Label> WorkerHistory<L> {
         ensures kept { OnErr result (SpillsSame (facts self.old.book.core.core) self.old.recorded (facts self.new.book.core.core) self.new.recorded) }
     {
         let Some(core) = self.book.core() else {
+            drop(event);
+            drop(message);
+            drop(said);
             return Err(Stop::Memory);
         };
         let aside = spilled_by(&event);
         if !self.recorded.has_room(aside) {
+            drop(event);
+            drop(message);
+            drop(said);
             return Err(Stop::Memory);
         }
         forget_coming(&mut self.recorded, &core.core, &said);
@@ -174,8 +187,9 @@ impl<L: Label> WorkerHistory<L> {
             id: _,
             book,
             ended: _,
-            recorded: _,
+            recorded,
         } = self;
+        drop(recorded);
         book.into_log()
     }
 }

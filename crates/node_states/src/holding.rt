@@ -174,9 +174,18 @@ pub fn advance<B: Drop, L: Label<Block = B>, S: BlockStore<B, L>>(
         (S.stock store.new) (facts history.new.book.core.core) history.new.recorded }
 {
     let Some(core) = history.core() else {
+        drop(event);
+        drop(message);
+        drop(said);
+        drop(brought);
         return Err(Stop::Memory);
     };
-    let fresh = unheld(alloc, &core.core, brought)?;
+    let Ok(fresh) = unheld(alloc, &core.core, brought) else {
+        drop(event);
+        drop(message);
+        drop(said);
+        return Err(Stop::Memory);
+    };
     make_way(store, &core.core, &said);
     history.record(stamps, event, message, said, out)?;
     let_go(store, out);
@@ -262,6 +271,7 @@ pub fn keep<B: Drop, L: Label<Block = B>, S: BlockStore<B, L>>(
     ensures { GoesOn (S.stock store.old) (S.stock store.new) }
 {
     let Some(core) = core else {
+        drop(fresh);
         return Ok(());
     };
     for keyed in fresh {

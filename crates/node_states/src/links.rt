@@ -1,14 +1,14 @@
 //! The links of a node to all others.
-ghost use Rattle.std.specs.Prelude.{◌≡◌, ◌<◌, ℕ, true, false, length, IfSome};
+ghost use Rattle.std.specs.Prelude.{◌≡◌, ◌<◌, ℕ, true, false, length, Err, IfSome};
 ghost use Rattle.cluster_msgs.specs.Labels.{PacketFits, ToClientFits};
-ghost use Rattle.node_states.specs.Fitting.{InstructionFits, InstructionsFit};
+ghost use Rattle.node_states.specs.Fitting.{InstructionFits, InstructionsFit, LettersFit};
 ghost use Rattle.node_states.specs.Order.{is_dead, is_gone};
 ghost use Rattle.node_states.specs.declared.links.Source.TheVariants as origin;
 
 use crate::evidence::{SchedOut, WorkerOut};
 use cluster_msgs::{
     Asker, ClientInstruction, ClientOut, Down, Instruction, Instructions, Label, Message, Outbox,
-    Packet, Peer, Stop, ToClient,
+    Packet, Peer, Sequence, Stop, ToClient,
 };
 use node_links::{Port, Sealed, bare_packet};
 use std::alloc::Global;
@@ -93,12 +93,16 @@ impl<B: Drop, L: Label<Block = B>> ClientLinks<B, L> {
             let at = self.next;
             self.next = if at < self.workers.len() { at + 1 } else { 0 };
             if at == 0 {
-                if let Some(packet) = self.scheduler.take(rt) {
-                    return Some((None, packet));
+                let taken = self.scheduler.take(rt);
+                match taken {
+                    Some(packet) => return Some((None, packet)),
+                    None => drop(taken),
                 }
             } else if at <= self.workers.len() {
-                if let Some(packet) = self.workers[at - 1].take(rt) {
-                    return Some((Some(number(at - 1)), packet));
+                let taken = self.workers[at - 1].take(rt);
+                match taken {
+                    Some(packet) => return Some((Some(number(at - 1)), packet)),
+                    None => drop(taken),
                 }
             }
         }
@@ -126,6 +130,7 @@ impl<B: Drop, L: Label<Block = B>> ClientLinks<B, L> {
             ClientInstruction::Gather { peer, ask, keys } => {
                 let at = peer as usize;
                 if at == 0 || at > self.workers.len() {
+                    drop(keys);
                     return Err(Stop::Refused);
                 }
                 let message = Message::Peer(Peer::GetData { ask, keys });
@@ -211,9 +216,11 @@ impl<B: Drop, L: Label<Block = B>> WorkerLinks<B, L> {
         for _ in 0..=self.peers.len().saturating_add(self.clients.len()) {
             let at = self.next;
             self.next = self.after(at);
-            if let Some((source, packet)) = self.take_at(rt, at) {
-                return Some((source, packet));
+            let taken = self.take_at(rt, at);
+            if taken.is_some() {
+                return taken;
             }
+            drop(taken);
         }
         None
     }
@@ -258,10 +265,27 @@ impl<B: Drop, L: Label<Block = B>> WorkerLinks<B, L> {
         answer: Option<(Asker, Sealed<B, L>)>,
         out: WorkerOut<L>,
     ) -> Result<(), Stop> {
-        if let Some((asker, sealed)) = answer {
-            self.answer(rt, asker, sealed)?;
+        match self.reply(rt, answer) {
+            Ok(()) => self.post(rt, out.into_instructions()),
+            Err(stop) => {
+                drop(out);
+                Err(stop)
+            }
         }
-        self.post(rt, out.into_instructions())
+    }
+
+    fn reply<R: Wait>(
+        &mut self,
+        rt: &R,
+        answer: Option<(Asker, Sealed<B, L>)>,
+    ) -> Result<(), Stop> {
+        match answer {
+            Some((asker, sealed)) => self.answer(rt, asker, sealed),
+            None => {
+                drop(answer);
+                Ok(())
+            }
+        }
     }
 
     fn post<R: Wait>(&mut self, rt: &R, out: Instructions) -> Result<(), Stop>
@@ -286,15 +310,17 @@ impl<B: Drop, L: Label<Block = B>> WorkerLinks<B, L> {
                 let message = Message::Peer(Peer::GetData { ask, keys });
                 self.to_peer(rt, peer, bare_packet(self.alloc, message))
             }
-            Instruction::Execute { .. } | Instruction::Keep { .. } | Instruction::Drop { .. } => Ok(
-                (),
-            ),
+            other => {
+                drop(other);
+                Ok(())
+            }
         }
     }
 
     fn to_peer<R: Wait>(&mut self, rt: &R, peer: u32, packet: Sealed<B, L>) -> Result<(), Stop> {
         let at = self.place_of(peer);
         if at == 0 || at > self.peers.len() {
+            drop(packet);
             return Err(Stop::Refused);
         }
         self.peers[at - 1].post(rt, packet)?;
@@ -307,6 +333,7 @@ impl<B: Drop, L: Label<Block = B>> WorkerLinks<B, L> {
             Asker::Client(client) => {
                 let at = client as usize;
                 if at == 0 || at > self.clients.len() {
+                    drop(answer);
                     return Err(Stop::Refused);
                 }
                 self.clients[at - 1].post(rt, answer)?;
@@ -314,6 +341,19 @@ impl<B: Drop, L: Label<Block = B>> WorkerLinks<B, L> {
             }
         }
     }
+}
+
+/// What a step that failed would have sent goes.
+pub fn unsent<B: Drop, L: Label<Block = B>>(
+    answer: Option<(Asker, Sealed<B, L>)>,
+    out: WorkerOut<L>,
+    stop: Stop,
+) -> Result<(), Stop>
+    ensures { result ≡ Err stop }
+{
+    drop(answer);
+    drop(out);
+    Err(stop)
 }
 
 fn flush_all<B: Drop, L: Label<Block = B>, R: Wait>(rt: &R, ports: &mut Vec<Port<B, L>>) {
@@ -365,9 +405,11 @@ impl<B: Drop, L: Label<Block = B>> SchedulerLinks<B, L> {
             } else {
                 0
             };
-            if let Some((source, packet)) = self.take_at(rt, gone, at) {
-                return Some((source, packet));
+            let taken = self.take_at(rt, gone, at);
+            if taken.is_some() {
+                return taken;
             }
+            drop(taken);
         }
         None
     }
@@ -413,12 +455,33 @@ impl<B: Drop, L: Label<Block = B>> SchedulerLinks<B, L> {
         let Outbox {
             down,
             clients,
-            joined: _,
+            joined,
         } = out.into_outbox();
+        drop(joined);
+        match self.to_workers(rt, down) {
+            Ok(()) => self.to_clients(rt, clients),
+            Err(stop) => {
+                drop(clients);
+                Err(stop)
+            }
+        }
+    }
+
+    fn to_workers<R: Wait>(&mut self, rt: &R, down: Sequence<(u32, Down)>) -> Result<(), Stop> {
         for (worker, message) in down.into_vec() {
             self.to_worker(rt, worker, message)?;
         }
-        for (client, message) in clients.into_vec() {
+        Ok(())
+    }
+
+    fn to_clients<R: Wait>(
+        &mut self,
+        rt: &R,
+        letters: Sequence<(u32, ToClient)>,
+    ) -> Result<(), Stop>
+        requires { LettersFit L.facts letters }
+    {
+        for (client, message) in letters.into_vec() {
             self.to_client(rt, client, message)?;
         }
         Ok(())
@@ -427,6 +490,7 @@ impl<B: Drop, L: Label<Block = B>> SchedulerLinks<B, L> {
     fn to_worker<R: Wait>(&mut self, rt: &R, worker: u32, message: Down) -> Result<(), Stop> {
         let at = worker as usize;
         if at == 0 || at > self.workers.len() {
+            drop(message);
             return Err(Stop::Refused);
         }
         self.workers[at - 1].post(rt, bare_packet(self.alloc, Message::Down(message)))?;
@@ -438,6 +502,7 @@ impl<B: Drop, L: Label<Block = B>> SchedulerLinks<B, L> {
     {
         let at = client as usize;
         if at == 0 || at > self.clients.len() {
+            drop(message);
             return Err(Stop::Refused);
         }
         self.clients[at - 1].post(rt, bare_packet(self.alloc, Message::ToClient(message)))?;

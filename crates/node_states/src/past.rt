@@ -121,7 +121,8 @@ impl<L: Label> SchedulerHistory<L> {
         ensures entries { result.entries ≡ self.book.entries }
         ensures cut { is_some result.cut ≡ self.book.cut }
     {
-        let SchedulerHistory { book, gone: _ } = self;
+        let SchedulerHistory { book, gone } = self;
+        drop(gone);
         book.into_log()
     }
 }
@@ -136,11 +137,18 @@ fn begin<C: Machine>(
     ensures core { IfOk result (λ p. p.0.core ≡ core) }
     ensures entries { IfOk result (λ p. (p.0.entries ≡ []) × (p.0.cut ≡ false)) }
 {
-    let gone = none_gone(alloc, workers)?;
-    let Ok(book) = Book::new(alloc, core, limit) else {
+    let Ok(gone) = none_gone(alloc, workers) else {
+        drop(core);
         return Err(AllocError);
     };
-    Ok((book, gone))
+    match Book::new(alloc, core, limit) {
+        Ok(book) => Ok((book, gone)),
+        Err(core) => {
+            drop(core);
+            drop(gone);
+            Err(AllocError)
+        }
+    }
 }
 
 fn none_gone(alloc: Global, workers: usize) -> Result<Vec<bool>, AllocError> {

@@ -65,7 +65,12 @@ impl<B: Drop, L: Label<Block = B>> SchedulerNode<B, L> {
         ensures core { IfOk result (λ node. node.history.book.core ≡ core) }
         ensures entries { IfOk result (λ node. (node.history.book.entries ≡ []) × (node.history.book.cut ≡ false)) }
     {
-        let history = SchedulerHistory::new(alloc, core, limit, links.workers())?;
+        let made = SchedulerHistory::new(alloc, core, limit, links.workers());
+        let Ok(history) = made else {
+            drop(made);
+            drop(links);
+            return Err(AllocError);
+        };
         Ok(SchedulerNode {
             alloc,
             history,
@@ -118,9 +123,13 @@ impl<B: Drop, L: Label<Block = B>> SchedulerNode<B, L> {
         if self.over {
             return Course::Over;
         }
-        match self.choose(rt, dead) {
+        let chosen = self.choose(rt, dead);
+        match chosen {
             Ok(choice) => self.carry(rt, stamps, choice, dead),
-            Err(course) => course,
+            Err(course) => {
+                drop(chosen);
+                course
+            }
         }
     }
 
@@ -211,7 +220,10 @@ impl<B: Drop, L: Label<Block = B>> SchedulerNode<B, L> {
     {
         match chosen {
             Ok(choice) => Ok(choice),
-            Err(stop) => Err(self.stop(stop)),
+            Err(stop) => {
+                drop(chosen);
+                Err(self.stop(stop))
+            }
         }
     }
 
@@ -245,11 +257,17 @@ impl<B: Drop, L: Label<Block = B>> SchedulerNode<B, L> {
         ensures quiet { IfErr result (λ v. IsQuiet dead.now self.new.history.book v) }
         ensures stopped { IfErr result (λ v. v ≡ course.Stopped → is_some self.new.stopped ≡ true) }
     {
-        let Some((source, packet)) = self.links.take(rt, self.history.gone()) else {
-            return Err(self.rest(dead));
-        };
-        let chosen = self.deliver(source, packet);
-        self.settle(chosen)
+        let taken = self.links.take(rt, self.history.gone());
+        match taken {
+            Some((source, packet)) => {
+                let chosen = self.deliver(source, packet);
+                self.settle(chosen)
+            }
+            None => {
+                drop(taken);
+                Err(self.rest(dead))
+            }
+        }
     }
 
     /// Over where no worker is connected: no task will finish any more, so no item of the script will come.
@@ -280,7 +298,10 @@ impl<B: Drop, L: Label<Block = B>> SchedulerNode<B, L> {
         match source {
             Source::Worker(worker) => self.deliver_up(worker, packet),
             Source::Client(client) => self.deliver_from_client(client, packet),
-            Source::Scheduler => Err(Stop::Refused),
+            Source::Scheduler => {
+                drop(packet);
+                Err(Stop::Refused)
+            }
         }
     }
 
@@ -290,17 +311,27 @@ impl<B: Drop, L: Label<Block = B>> SchedulerNode<B, L> {
         requires heard { is_gone self.now.history.gone worker ≡ false }
         ensures { IfOk result (λ c. IsDelivered self.now.history.gone (facts self.now.history.book.core.core) c.event c.message c.said) }
     {
-        let Packet { message, blocks: _ } = packet;
-        let Message::Up(up) = message else {
-            return Err(Stop::Refused);
+        let Packet { message, blocks } = packet;
+        drop(blocks);
+        let up = match message {
+            Message::Up(up) => up,
+            other => {
+                drop(other);
+                return Err(Stop::Refused);
+            }
         };
         let Some(core) = self.history.core() else {
+            drop(up);
             return Err(Stop::Memory);
         };
-        let copy = up.copy()?;
+        let Ok(copy) = up.copy() else {
+            drop(up);
+            return Err(Stop::Memory);
+        };
         let said = if core.core().connected(worker) {
             Some(SchedCause::new(SchedEvent::FromWorker { w: worker, up }))
         } else {
+            drop(up);
             None
         };
         Ok(Choice {
@@ -313,11 +344,19 @@ impl<B: Drop, L: Label<Block = B>> SchedulerNode<B, L> {
     fn deliver_from_client(&self, client: u32, packet: Packet<B>) -> Result<Choice<L>, Stop>
         ensures { IfOk result (λ c. IsDelivered self.now.history.gone (facts self.now.history.book.core.core) c.event c.message c.said) }
     {
-        let Packet { message, blocks: _ } = packet;
-        let Message::FromClient(msg) = message else {
-            return Err(Stop::Refused);
+        let Packet { message, blocks } = packet;
+        drop(blocks);
+        let msg = match message {
+            Message::FromClient(msg) => msg,
+            other => {
+                drop(other);
+                return Err(Stop::Refused);
+            }
         };
-        let copy = msg.copy()?;
+        let Ok(copy) = msg.copy() else {
+            drop(msg);
+            return Err(Stop::Memory);
+        };
         Ok(Choice {
             event: Event::DeliverFromClient { client },
             message: Some(Message::FromClient(copy)),
@@ -366,9 +405,16 @@ impl<B: Drop, L: Label<Block = B>> SchedulerNode<B, L> {
         self.no_drop = false;
         self.no_steal = false;
         let mut out = SchedOut::nothing(self.alloc);
-        self.history
-            .record(stamps, event, message, said, &mut out, dead)?;
-        self.links.post(rt, out)
+        match self
+            .history
+            .record(stamps, event, message, said, &mut out, dead)
+        {
+            Ok(()) => self.links.post(rt, out),
+            Err(stop) => {
+                drop(out);
+                Err(stop)
+            }
+        }
     }
 }
 

@@ -19,12 +19,12 @@ use crate::evidence::{Fault, RunGraph, WorkerOut};
 use crate::feeds::Feeds;
 use crate::history::WorkerHistory;
 use crate::holding::{Sought, advance, inputs, least_due, parcel};
-use crate::links::{Source, WorkerLinks, is_dead};
+use crate::links::{Source, WorkerLinks, is_dead, unsent};
 use crate::store::BlockStore;
 use crate::why::Why;
-use crate::worker_choice::{Choice, Next, Request};
+use crate::worker_choice::{Choice, Next, Request, down_of, paired, request_of, runs};
 use cluster_msgs::{Asker, Label, Message, Packet, Peer, RunFail, Stop};
-use node_links::{Keyed, Log, Machine, Sealed, pair_up};
+use node_links::{Keyed, Log, Machine, Sealed};
 use std::alloc::Global;
 use std::sync::Wait;
 use turn_cell::{Kept, Stamps};
@@ -89,7 +89,11 @@ impl<B: Drop, L: Label<Block = B>, F: Drop, S: BlockStore<B, L>> WorkerNode<B, L
         ensures fits { IfOk result (λ node. S.fits L.facts node.store) }
         ensures back { IfErr result (λ back. (back.0 ≡ feeds) × (back.1 ≡ store)) }
     {
-        let Ok(history) = WorkerHistory::new(alloc, core, &graph, limit) else {
+        let made = WorkerHistory::new(alloc, core, &graph, limit);
+        let Ok(history) = made else {
+            drop(made);
+            drop(graph);
+            drop(links);
             return Err((feeds, store));
         };
         store.sound();
@@ -159,18 +163,17 @@ impl<B: Drop, L: Label<Block = B>, F: Drop, S: BlockStore<B, L>> WorkerNode<B, L
         ensures store { result.2 ≡ self.store }
     {
         let WorkerNode {
-            alloc: _,
             history,
-            graph: _,
+            graph,
             store,
-            looked: _,
-            lost: _,
-            held: _,
+            held,
             feeds,
-            links: _,
-            heard: _,
-            ending: _,
+            links,
+            ..
         } = self;
+        drop(graph);
+        drop(held);
+        drop(links);
         (history.into_log(), feeds, store)
     }
 
@@ -498,7 +501,8 @@ impl<B: Drop, L: Label<Block = B>, F: Drop, S: BlockStore<B, L>> WorkerNode<B, L
         ensures same { (self.new.history.id ≡ self.old.history.id) × (self.new.feeds ≡ self.old.feeds) }
         ensures why { IsTurnsCause self.old.ending self.new.ending }
     {
-        if !self.runs(&finished) {
+        if !runs(self.history.core(), &finished) {
+            drop(finished);
             return;
         }
         let chosen = self.outcome(finished);
@@ -516,18 +520,6 @@ impl<B: Drop, L: Label<Block = B>, F: Drop, S: BlockStore<B, L>> WorkerNode<B, L
         }
     }
 
-    /// Whether the worker runs the task.
-    fn runs(&self, finished: &Finished<B, L>) -> bool {
-        let key = match finished {
-            Finished::Value(keyed) => keyed.key(),
-            Finished::Zero(fault) => fault.key(),
-        };
-        match self.history.core() {
-            None => false,
-            Some(core) => core.core.runs(key),
-        }
-    }
-
     /// A message that has come, if there is one. `false` where there is none.
     #[tactic(auto, using(crate::proofs::Causes::no_cause))]
     fn listen<R: Wait>(&mut self, rt: &R, stamps: &mut Stamps) -> bool
@@ -537,13 +529,19 @@ impl<B: Drop, L: Label<Block = B>, F: Drop, S: BlockStore<B, L>> WorkerNode<B, L
         ensures same { (self.new.history.id ≡ self.old.history.id) × (self.new.feeds ≡ self.old.feeds) }
         ensures why { IsTurnsCause self.old.ending self.new.ending }
     {
-        let Some((source, packet)) = self.links.take(rt) else {
-            return false;
-        };
-        let chosen = self.deliver(source, packet);
-        self.heard = self.heard | chosen.is_ok();
-        self.carry_chosen(rt, stamps, chosen);
-        true
+        let taken = self.links.take(rt);
+        match taken {
+            Some((source, packet)) => {
+                let chosen = self.deliver(source, packet);
+                self.heard = self.heard | chosen.is_ok();
+                self.carry_chosen(rt, stamps, chosen);
+                true
+            }
+            None => {
+                drop(taken);
+                false
+            }
+        }
     }
 
     /// An ask that is possible, or the end of one. `false` where there is none.
@@ -555,12 +553,16 @@ impl<B: Drop, L: Label<Block = B>, F: Drop, S: BlockStore<B, L>> WorkerNode<B, L
         ensures same { (self.new.history.id ≡ self.old.history.id) × (self.new.feeds ≡ self.old.feeds) }
         ensures why { IsTurnsCause self.old.ending self.new.ending }
     {
-        match self.ask(dead) {
+        let asked = self.ask(dead);
+        match asked {
             Some(choice) => {
                 self.carry(rt, stamps, choice);
                 true
             }
-            None => false,
+            None => {
+                drop(asked);
+                false
+            }
         }
     }
 
@@ -601,10 +603,7 @@ impl<B: Drop, L: Label<Block = B>, F: Drop, S: BlockStore<B, L>> WorkerNode<B, L
     fn hear(&self, packet: Packet<B>) -> Result<Choice<B, L>, Stop>
         ensures { IfOk result (λ c. MayMake self.now.history.id (facts self.now.history.book.core.core) self.now.history.recorded c.event c.message c.said) }
     {
-        let Packet { message, blocks: _ } = packet;
-        let Message::Down(down) = message else {
-            return Err(Stop::Refused);
-        };
+        let down = down_of(packet)?;
         Ok(Choice::told(self.alloc, self.history.id(), down)?)
     }
 
@@ -618,17 +617,21 @@ impl<B: Drop, L: Label<Block = B>, F: Drop, S: BlockStore<B, L>> WorkerNode<B, L
     {
         let Packet { message, blocks } = packet;
         match message {
-            Message::Peer(Peer::GetData { ask, keys }) => self.give(Request {
-                asker: Asker::Worker(peer),
-                ask,
-                keys,
-            }),
+            Message::Peer(Peer::GetData { ask, keys }) => {
+                drop(blocks);
+                let asker = Asker::Worker(peer);
+                self.give(Request { asker, ask, keys })
+            }
             Message::Peer(Peer::Data { ask, found }) => {
-                let brought = pair_up(self.alloc, found.as_slice(), &blocks)?;
+                let (found, brought) = paired(self.alloc, found, blocks)?;
                 let id = self.history.id();
                 Ok(Choice::gathered(self.alloc, id, peer, ask, found, brought)?)
             }
-            _ => Err(Stop::Refused),
+            other => {
+                drop(other);
+                drop(blocks);
+                Err(Stop::Refused)
+            }
         }
     }
 
@@ -638,15 +641,7 @@ impl<B: Drop, L: Label<Block = B>, F: Drop, S: BlockStore<B, L>> WorkerNode<B, L
         ensures says { IfOk result
             (λ c. MayMake self.old.history.id (facts self.old.history.book.core.core) self.old.history.recorded c.event c.message c.said) }
     {
-        let Packet { message, blocks: _ } = packet;
-        match message {
-            Message::Peer(Peer::GetData { ask, keys }) => self.give(Request {
-                asker: Asker::Client(client),
-                ask,
-                keys,
-            }),
-            _ => Err(Stop::Refused),
-        }
+        self.give(request_of(Asker::Client(client), packet)?)
     }
 
     /// What answers a request: the blocks of exactly those of its keys that the worker counts as in memory, in their order; or one of these that is
@@ -706,7 +701,10 @@ impl<B: Drop, L: Label<Block = B>, F: Drop, S: BlockStore<B, L>> WorkerNode<B, L
     {
         match chosen {
             Ok(choice) => self.carry(rt, stamps, choice),
-            Err(stop) => self.note(stop),
+            Err(stop) => {
+                drop(chosen);
+                self.note(stop)
+            }
         }
     }
 
@@ -758,7 +756,7 @@ impl<B: Drop, L: Label<Block = B>, F: Drop, S: BlockStore<B, L>> WorkerNode<B, L
             answer,
         } = choice;
         let mut out = WorkerOut::nothing(self.alloc);
-        advance(
+        let end = advance(
             self.alloc,
             &mut self.history,
             &mut self.store,
@@ -768,8 +766,11 @@ impl<B: Drop, L: Label<Block = B>, F: Drop, S: BlockStore<B, L>> WorkerNode<B, L
             said,
             brought,
             &mut out,
-        )?;
-        self.links.send(rt, answer, out)
+        );
+        match end {
+            Ok(()) => self.links.send(rt, answer, out),
+            Err(stop) => unsent(answer, out, stop),
+        }
     }
 }
 

@@ -4,13 +4,19 @@ ghost use Rattle.cluster_msgs.specs.declared.cores.WorkerEvent.TheVariants as wo
 ghost use Rattle.cluster_msgs.specs.declared.events.Asker.TheVariants.{Worker};
 ghost use Rattle.cluster_msgs.specs.declared.events.Event.TheVariants as event;
 ghost use Rattle.cluster_rules.specs.Worker.{WorkerFacts};
+ghost use Rattle.node_links.specs.Fits.{ParcelFits};
 ghost use Rattle.node_states.specs.Spills.{Marked, MayMake, is_marked};
 ghost use Rattle.node_states.specs.Workers.{is_end};
 
+use crate::cores::WorkingCore;
 use crate::evidence::{Fault, WorkerCause};
-use cluster_msgs::{Asker, Down, Event, KeyList, Label, Message, Peer, WorkerEvent};
-use node_links::{Keyed, Sealed};
+use crate::worker::Finished;
+use cluster_msgs::{
+    Asker, Down, Event, KeyList, Label, Message, Packet, Peer, Sequence, Stop, WorkerEvent,
+};
+use node_links::{Keyed, Sealed, pair_up};
 use std::alloc::{AllocError, Global};
+use std::sync::Arc;
 
 /// What a turn may do next: start a task, do without a block that is lost, or else.
 #[derive(Drop)]
@@ -26,6 +32,75 @@ pub struct Request {
     pub asker: Asker,
     pub ask: u64,
     pub keys: KeyList,
+}
+
+/// Whether the worker runs a task that has come to an end.
+pub fn runs<B: Drop, L: Label<Block = B>>(
+    core: Option<&WorkingCore<L>>,
+    finished: &Finished<B, L>,
+) -> bool {
+    let key = match finished {
+        Finished::Value(keyed) => keyed.key(),
+        Finished::Zero(fault) => fault.key(),
+    };
+    match core {
+        None => false,
+        Some(core) => core.core.runs(key),
+    }
+}
+
+/// The scheduler's message that a packet brings.
+///
+/// # Errors
+/// `Refused` where it brings another.
+pub fn down_of<B: Drop>(packet: Packet<B>) -> Result<Down, Stop> {
+    let Packet { message, blocks } = packet;
+    drop(blocks);
+    match message {
+        Message::Down(down) => Ok(down),
+        other => {
+            drop(other);
+            Err(Stop::Refused)
+        }
+    }
+}
+
+/// The request that a packet brings.
+///
+/// # Errors
+/// `Refused` where it brings another message.
+pub fn request_of<B: Drop>(asker: Asker, packet: Packet<B>) -> Result<Request, Stop> {
+    let Packet { message, blocks } = packet;
+    drop(blocks);
+    match message {
+        Message::Peer(Peer::GetData { ask, keys }) => Ok(Request { asker, ask, keys }),
+        other => {
+            drop(other);
+            Err(Stop::Refused)
+        }
+    }
+}
+
+/// The keys of an answer, and its blocks, each with its key.
+///
+/// # Errors
+/// Where there is no memory.
+pub fn paired<B: Drop, L: Label<Block = B>>(
+    alloc: Global,
+    found: KeyList,
+    blocks: Sequence<Arc<B>>,
+) -> Result<(KeyList, Vec<Keyed<B, L>>), AllocError>
+    requires { ParcelFits L.facts found blocks }
+{
+    let pairs = pair_up(alloc, found.as_slice(), &blocks);
+    drop(blocks);
+    match pairs {
+        Ok(brought) => Ok((found, brought)),
+        Err(error) => {
+            drop(found);
+            Err(error)
+        }
+    }
 }
 
 /// An event that isn't the worker's end, with its message, what the core is told, the blocks that come, and what is answered.
@@ -72,7 +147,10 @@ impl<B: Drop, L: Label<Block = B>> Choice<B, L> {
     {
         let key = keyed.key();
         let mut brought = Vec::new(alloc);
-        brought.push(keyed)?;
+        if brought.push(keyed).is_err() {
+            drop(brought);
+            return Err(AllocError);
+        }
         Ok(Choice {
             event: Event::Finish { worker: id, key },
             message: None,
@@ -131,7 +209,10 @@ impl<B: Drop, L: Label<Block = B>> Choice<B, L> {
     pub fn told(alloc: Global, id: u32, down: Down) -> Result<Self, AllocError>
         ensures { IfOk result (λ c. (w : WorkerFacts) (m : Marked) → MayMake id w m c.event c.message c.said) }
     {
-        let copy = down.copy()?;
+        let Ok(copy) = down.copy() else {
+            drop(down);
+            return Err(AllocError);
+        };
         Ok(Choice {
             event: Event::DeliverDown { worker: id },
             message: Some(Message::Down(copy)),
@@ -152,7 +233,11 @@ impl<B: Drop, L: Label<Block = B>> Choice<B, L> {
     ) -> Result<Self, AllocError>
         ensures { IfOk result (λ c. (w : WorkerFacts) (m : Marked) → MayMake id w m c.event c.message c.said) }
     {
-        let copy = found.copy()?;
+        let Ok(copy) = found.copy() else {
+            drop(found);
+            drop(brought);
+            return Err(AllocError);
+        };
         Ok(Choice {
             event: Event::ArriveGather {
                 asker: Asker::Worker(id),
