@@ -1,5 +1,5 @@
 -- The files of a run's saves, from their creation to the end of the run.
-use Rattle.std.proofs.Common.{◌≡◌, ℕ, ◌≤◌, ◌<◌, Bool, List, length, refl, ap, sym, ◌∙◌, subst, arith, Option, Some, true}
+use Rattle.std.proofs.Common.{◌≡◌, ℕ, ◌≤◌, ◌<◌, Bool, List, length, ap, ◌∙◌, subst, arith, Option, Some, true}
 use Rattle.std.specs.Prelude.{All, Err, IfErr, IsOk, IsTrue, None, OnOk, Result, bytes_eq}
 use Rattle.std.proofs.lemmas.List.{length-map}
 use Rattle.std.proofs.lemmas.Result.{IfErr-weaker}
@@ -7,12 +7,11 @@ use Rattle.io_edge.specs.declared.edge.OpenFault.{OpenFault}
 use Rattle.io_edge.specs.declared.edge.OpenFault.TheVariants as fault
 use Rattle.io_edge.specs.View.{Files, OnlyWrites, View, raised_by}
 use Rattle.nd_shape.specs.Block.{Array}
-use Rattle.block_kernels.specs.Kernels.{result_shape}
 use Rattle.block_lowering.specs.Jobs.{Job, dims_of, graph_of, made_by}
-use Rattle.cluster_msgs.specs.Labels.{LabelFacts, label_of}
+use Rattle.cluster_msgs.specs.Labels.{LabelFacts}
 use Rattle.cluster_msgs.specs.Shape.{Shape, key_count}
 use Rattle.task_graph.specs.declared.graph.Task.{Task}
-use Rattle.task_graph.specs.Graphs.{operation, shape_of, task_at}
+use Rattle.task_graph.specs.Graphs.{shape_of}
 use Rattle.saved_files.specs.Saving.{GivesBack, saving_at}
 use Rattle.node_runner.specs.Naming.{run_facts}
 use Rattle.node_runner.specs.declared.ends.RunStatus.{RunStatus}

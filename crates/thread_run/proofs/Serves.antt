@@ -1,5 +1,5 @@
 -- What a run of a graph leaves: feeds that are opened and given back, and files that are created, written and given back.
-use Rattle.std.proofs.Common.{◌≡◌, ℕ, ◌≤◌, ◌<◌, Bool, List, [], length, refl, ap, sym, ◌∙◌, subst, arith, Option, Some, None, Result, Ok, Err, inl}
+use Rattle.std.proofs.Common.{◌≡◌, ℕ, ◌≤◌, Bool, List, [], refl, ap, sym, ◌∙◌, subst, arith, Option, Some, None, Result, Ok, Err, inl}
 use Rattle.std.specs.Prelude.{Contains, IfErr, IfOk, IfSome, IsOk, IsTrue, OnOk}
 use Rattle.std.proofs.lemmas.Bool.{false≢true}
 use Rattle.io_edge.specs.Cause.{Rose}

@@ -1,8 +1,6 @@
 -- What calls of a saver lead to goes on: nothing was done, and one call after another.
-use Rattle.std.proofs.Common.{◌≡◌, ℕ, ◌<◌, length, refl, ap, sym, ◌∙◌, subst, Option, Some, None, is_some, true}
+use Rattle.std.proofs.Common.{ℕ, ◌<◌, length, refl, sym, ◌∙◌, subst}
 use Rattle.std.specs.Prelude.{IsSome}
-use Rattle.job_run.specs.Evaluating.{AreSameFiles}
-use Rattle.saved_files.specs.Saving.{Saving}
 use Rattle.thread_run.specs.Saver.{Saves, SavesOn}
 
 pub saves-here : (s : Saves) → SavesOn s s

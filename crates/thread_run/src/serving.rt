@@ -56,9 +56,36 @@ fn unsaved(fault: OpenFault) -> Ended
     }
 }
 
-// How a run ended, by what the cluster tells and by whether all was written: a zero divisor or a failed feed comes before what couldn't
-// be written.
+// Whether all was given and written, or how the run is stopped: a zero divisor or a failed feed comes before what couldn't be written.
 #[tactic(auto, using(crate::proofs::Serves::stops_unsaved, crate::proofs::Serves::stops_zero))]
+fn all_done(
+    alloc: Global,
+    job: &Job,
+    wanted: &Wanted,
+    given: Result<(), RunStatus>,
+    written: Result<(), OpenFault>,
+) -> Result<(), Ended>
+    requires runs { IsRunnable (plan_of job.now) }
+    requires wanted { IsWantedOf (plan_of job.now) wanted.now }
+    ensures given { OnOk result (IsOk given) }
+    ensures written { OnOk result (IsOk written) }
+    ensures stopped { IfErr result (StopsAt (plan_of job.now) given written) }
+{
+    match given {
+        Ok(()) => match written {
+            Ok(()) => Ok(()),
+            Err(fault) => Err(unsaved(fault)),
+        },
+        Err(RunStatus::Zero { key }) => Err(ended_at(alloc, job, wanted, key)),
+        Err(RunStatus::Read) => Err(Ended::ReadFault),
+        Err(RunStatus::Memory) => match written {
+            Ok(()) => Err(Ended::OutOfMemory),
+            Err(fault) => Err(unsaved(fault)),
+        },
+    }
+}
+
+// How a run ended: with its histories, which want memory too, or why not.
 fn ended(
     alloc: Global,
     job: &Job,
@@ -74,18 +101,8 @@ fn ended(
     ensures written { OnOk result (IsOk written) }
     ensures stopped { IfErr result (StopsAt (plan_of job.now) given written) }
 {
-    match given {
-        Ok(()) => match written {
-            Ok(()) => histories.ok_or(Ended::OutOfMemory),
-            Err(fault) => Err(unsaved(fault)),
-        },
-        Err(RunStatus::Zero { key }) => Err(ended_at(alloc, job, wanted, key)),
-        Err(RunStatus::Read) => Err(Ended::ReadFault),
-        Err(RunStatus::Memory) => match written {
-            Ok(()) => Err(Ended::OutOfMemory),
-            Err(fault) => Err(unsaved(fault)),
-        },
-    }
+    all_done(alloc, job, wanted, given, written)?;
+    histories.ok_or(Ended::OutOfMemory)
 }
 
 // Runs a graph by the cluster over open feeds: creates the files of its saves, which are written as blocks come, and gives feeds and files

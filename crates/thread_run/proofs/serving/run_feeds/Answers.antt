@@ -1,4 +1,4 @@
-use Rattle.std.proofs.Common.{◌≡◌, ℕ, ◌*◌, ap, arith, inl, inr, map, string_bytes}
+use Rattle.std.proofs.Common.{◌*◌, ap, arith, inl, inr, map, string_bytes}
 use Rattle.std.specs.Prelude.{◌⊎◌, IsTrue, vec_len}
 use Rattle.std.proofs.lemmas.Result.{IfErr-weaker, IfOk-weaker}
 use Rattle.io_edge.specs.Cause.{Rose}
@@ -7,7 +7,6 @@ use Rattle.job_run.specs.Jobs.{plan_of}
 use Rattle.job_run.specs.Plan.{Plan}
 use Rattle.job_run.specs.Values.{Named}
 use Rattle.node_runner.specs.Runs.{numbers as numbers_of}
-use Rattle.thread_run.specs.Feeding.{OpensOften}
 use Rattle.thread_run.specs.Serving.{HasShort, ServesAll, ServesPart}
 use Rattle.thread_run.proofs.Openings.{opens-as}
 use Rattle.thread_run.proofs.Serves.{all-before, part-before, part_none, rose_after, rose_first, serves-none, serves-opened}

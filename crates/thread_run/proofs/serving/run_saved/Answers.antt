@@ -1,12 +1,12 @@
-use Rattle.std.proofs.Common.{◌≡◌, ℕ, ◌∙◌, ap, arith, inl, inr, map, sym, subst, length, Err, Result}
+use Rattle.std.proofs.Common.{◌≡◌, ◌∙◌, ap, arith, inl, inr, map, sym, subst, Err}
 use Rattle.std.specs.Prelude.{◌⊎◌, IsTrue, vec_len}
 use Rattle.io_edge.specs.Cause.{Rose}
-use Rattle.io_edge.specs.View.{Files, View, raised_by}
+use Rattle.io_edge.specs.View.{Files, View}
 use Rattle.nd_shape.specs.Block.{Array}
 use Rattle.cluster_msgs.specs.Labels.{LabelFacts}
 use Rattle.block_lowering.specs.Jobs.{graph_of}
 use Rattle.job_run.specs.Jobs.{plan_of}
-use Rattle.job_run.specs.Plan.{Plan, names_saved}
+use Rattle.job_run.specs.Plan.{Plan}
 use Rattle.job_run.specs.Values.{Named, tasks_of}
 use Rattle.job_run.specs.Wanted.{IsWantedOf}
 use Rattle.thread_run.specs.Reports.{label}
