@@ -160,15 +160,23 @@ pub fn turned(row: &mut Row, out: &mut Answer) {
     }
 }
 
+fn put_folded(out: &mut Answer, fold: Fold, table: &Block, folded: &Shape)
+    requires table { table.now.shape ≡ 2 ∷ 3 ∷ [] }
+    requires folded { folded.now ≡ 2 ∷ [] }
+{
+    let alloc = out.alloc();
+    match shape_of(alloc, &[3]) {
+        Some(shape) => put_made(out, reduce(alloc, fold, &[0], table, folded, shape)),
+        None => out.fail(),
+    }
+}
+
 fn put_columns(out: &mut Answer, fold: Fold, table: &Block)
     requires { table.now.shape ≡ 2 ∷ 3 ∷ [] }
 {
-    let alloc = out.alloc();
-    match (shape_of(alloc, &[2]), shape_of(alloc, &[3])) {
-        (Some(rows), Some(shape)) => {
-            put_made(out, reduce(alloc, fold, &[0], table, &rows, shape));
-        }
-        _ => out.fail(),
+    match shape_of(out.alloc(), &[2]) {
+        Some(folded) => put_folded(out, fold, table, &folded),
+        None => out.fail(),
     }
 }
 

@@ -16,74 +16,74 @@ use npy_codec::{Head, NpyError, write_head};
 use plain_block::{PlainOutcome, plain_block};
 use std::alloc::{AllocError, Global};
 
-// The bytes of a file with a block, of which some are missing at its end.
-fn bytes(alloc: Global, block: &Block, missing: u64) -> Result<Vec<u8>, AllocError> {
-    let mut bytes = write_head(alloc, block.shape())?;
-    for cell in block.cells() {
-        bytes.extend_from_slice(&cell.cast_unsigned().to_le_bytes())?;
+fn add_cells(out: &mut Answer, bytes: &mut Vec<u8>, cells: &[i64]) {
+    for cell in cells {
+        out.keep(bytes.extend_from_slice(&cell.cast_unsigned().to_le_bytes()));
     }
+}
+
+// The bytes of a file with a block, of which some are missing at its end.
+fn bytes(out: &mut Answer, block: &Block, missing: u64) -> Vec<u8> {
+    let mut bytes = Vec::new(out.alloc());
+    match write_head(out.alloc(), block.shape()) {
+        Ok(front) => out.keep(bytes.extend_from_slice(&front)),
+        Err(_) => out.fail(),
+    }
+    add_cells(out, &mut bytes, block.cells());
     let length = bytes.len().saturating_sub(missing as usize);
     bytes.truncate(length);
-    Ok(bytes)
+    bytes
 }
 
-fn head(alloc: Global, block: &Block) -> Result<Head, AllocError> {
-    Ok(Head {
-        shape: block.shape().copy(alloc)?,
-        fortran: false,
-        data_at: 128,
-    })
-}
-
-fn heads(alloc: Global, blocks: &[Block]) -> Result<Vec<Head>, AllocError> {
-    let mut heads = Vec::new(alloc);
-    for block in blocks {
-        heads.push(head(alloc, block)?)?;
+fn add_head(out: &mut Answer, heads: &mut Vec<Head>, block: &Block) {
+    match block.shape().copy(out.alloc()) {
+        Ok(shape) => {
+            let head = Head {
+                shape,
+                fortran: false,
+                data_at: 128,
+            };
+            if heads.push(head).is_err() {
+                out.fail();
+            }
+        }
+        Err(_) => out.fail(),
     }
-    Ok(heads)
+}
+
+fn heads(out: &mut Answer, blocks: &[Block]) -> Vec<Head> {
+    let mut heads = Vec::new(out.alloc());
+    for block in blocks {
+        add_head(out, &mut heads, block);
+    }
+    heads
 }
 
 // The read that is to fail.
-fn refusals(alloc: Global, failing: Option<i64>) -> Result<Vec<Refusal>, AllocError> {
-    let mut refusals = Vec::new(alloc);
+fn refusals(out: &mut Answer, failing: Option<i64>) -> Vec<Refusal> {
+    let mut refusals = Vec::new(out.alloc());
     if let Some(call) = failing {
-        refusals.push(Refusal {
+        let refusal = Refusal {
             kind: Kind::Read,
             counted: Counted::OverAll,
             call: call.unsigned_abs(),
-        })?;
+        };
+        out.keep(refusals.extend_from_slice(&[refusal]));
     }
-    Ok(refusals)
+    refusals
 }
 
 // Puts a file in place, by its block and the number of bytes that are missing.
-fn put_file(
-    alloc: Global,
-    site: &mut MemorySite,
-    name: &str,
-    block: &Block,
-    missing: u64,
-) -> Result<(), AllocError> {
-    let bytes = bytes(alloc, block, missing)?;
-    site.put(alloc, name, &bytes)
+fn put_file(out: &mut Answer, site: &mut MemorySite, name: &str, block: &Block, missing: u64) {
+    let bytes = bytes(out, block, missing);
+    out.keep(site.put(out.alloc(), name, &bytes));
 }
 
-fn put_files(
-    alloc: Global,
-    site: &mut MemorySite,
-    blocks: &[Block],
-    missing: &[u64],
-) -> Result<(), AllocError> {
+fn put_files(out: &mut Answer, site: &mut MemorySite, blocks: &[Block], missing: &[u64]) {
     if let ([first, second], [of_first, of_second]) = (blocks, missing) {
-        put_file(alloc, site, "a.npy", first, *of_first)?;
-        put_file(alloc, site, "b.npy", second, *of_second)?;
+        put_file(out, site, "a.npy", first, *of_first);
+        put_file(out, site, "b.npy", second, *of_second);
     }
-    Ok(())
-}
-
-fn site_of(alloc: Global, failing: Option<i64>) -> Result<MemorySite, AllocError> {
-    let refusals = refusals(alloc, failing)?;
-    MemorySite::new(alloc, 0, refusals)
 }
 
 fn names(alloc: Global) -> Result<[String; 2], AllocError> {
@@ -154,12 +154,28 @@ fn put_in_files(
     site: &mut MemorySite,
     blocks: &[Block],
 ) {
-    let alloc = out.alloc();
-    match heads(alloc, blocks) {
-        Ok(heads) => match names(alloc) {
-            Ok(names) => put_over(out, expr, region, site, &names, &heads),
-            Err(_) => out.fail(),
-        },
+    let heads = heads(out, blocks);
+    match names(out.alloc()) {
+        Ok(names) => put_over(out, expr, region, site, &names, &heads),
+        Err(_) => out.fail(),
+    }
+}
+
+// The same, of a new site of which a read is to fail.
+fn put_in_site(
+    out: &mut Answer,
+    expr: &Expr,
+    region: &Region,
+    failing: Option<i64>,
+    blocks: &[Block],
+    missing: &[u64],
+) {
+    let refusals = refusals(out, failing);
+    match MemorySite::new(out.alloc(), 0, refusals) {
+        Ok(mut site) => {
+            put_files(out, &mut site, blocks, missing);
+            put_in_files(out, expr, region, &mut site, blocks);
+        }
         Err(_) => out.fail(),
     }
 }
@@ -172,13 +188,5 @@ pub fn files(row: &mut Row, out: &mut Answer) {
     let blocks = row.blocks(2, out);
     let missing = row.naturals();
     let expr = expression(row, out);
-    let alloc = out.alloc();
-    match site_of(alloc, failing) {
-        Ok(mut site) => {
-            let done = put_files(alloc, &mut site, &blocks, &missing);
-            out.keep(done);
-            put_in_files(out, &expr, &region, &mut site, &blocks);
-        }
-        Err(_) => out.fail(),
-    }
+    put_in_site(out, &expr, &region, failing, &blocks, &missing);
 }

@@ -1,132 +1,153 @@
 //! What is asked of graphs: `graph WORD KEYS LISTS.. WANTED`, where the graph has so many keys with a list of
 //! dependencies for each. A key of two dependencies contracts them, the first with the second, and another folds what it
 //! depends on; the block of key k is taken to have the shape (k + 1).
-ghost use Rattle.std.specs.Prelude.{◌<◌, ◌≤◌, IfOk, length};
+ghost use Rattle.std.specs.Prelude.{◌<◌, ◌≤◌, length};
 ghost use Rattle.std.specs.List.{AllByRecursion};
 
-use crate::row::Row;
-use crate::text::{put_list, put_quantity};
+use crate::line::Line;
 use crate::why::Why;
 use block_kernels::Spec;
 use cluster_msgs::KeyList;
 use nd_grid::Fold;
 use nd_shape::{Axes, Shape, Shapes};
-use std::alloc::{AllocError, Global};
+use std::alloc::AllocError;
 use task_graph::moves::renumber;
 use task_graph::{Graph, PushError, Renumber, Task, cull, keep, order};
 
-// The shapes of the blocks of these keys.
-fn shapes_of(alloc: Global, keys: &[u64]) -> Result<Shapes, Why> {
-    let mut shapes = Vec::with_capacity(alloc, keys.len())?;
-    for key in keys {
-        let mut dims = Vec::new(alloc);
-        dims.push(key.saturating_add(1))?;
-        shapes.push(Shape::new(dims)?)?;
+fn add_shape(line: &mut Line, shapes: &mut Vec<Shape>, key: u64) {
+    let mut dims = Vec::new(line.alloc());
+    line.keep(dims.extend_from_slice(&[key.saturating_add(1)]));
+    match Shape::new(dims) {
+        Ok(shape) => {
+            if shapes.push(shape).is_err() {
+                line.fail();
+            }
+        }
+        Err(limit) => line.refuse(Why::Limit(limit)),
     }
-    Ok(Shapes::from_vec(shapes))
 }
 
-fn spec_of(alloc: Global, keys: &[u64]) -> Result<Spec, Why> {
-    let inputs = shapes_of(alloc, keys)?;
+// The shapes of the blocks of these keys.
+fn shapes_of(line: &mut Line, keys: &[u64]) -> Shapes {
+    let mut shapes = Vec::new(line.alloc());
+    for key in keys {
+        add_shape(line, &mut shapes, *key);
+    }
+    Shapes::from_vec(shapes)
+}
+
+fn spec_of(line: &mut Line, keys: &[u64]) -> Spec {
+    let alloc = line.alloc();
+    let inputs = shapes_of(line, keys);
     if keys.len() == 2 {
-        return Ok(Spec::Contract {
+        return Spec::Contract {
             left: 0,
             right: 1,
             left_axes: Axes::new(alloc),
             right_axes: Axes::new(alloc),
             inputs,
-        });
+        };
     }
-    Ok(Spec::Reduce {
+    Spec::Reduce {
         fold: Fold::Sum,
         axes: Axes::new(alloc),
         inputs,
-    })
+    }
 }
 
-fn keys_of(alloc: Global, list: &[u64]) -> Result<KeyList, Why> {
-    let mut keys = Vec::with_capacity(alloc, list.len())?;
+fn keys_of(line: &mut Line, list: &[u64]) -> KeyList {
+    let mut keys = KeyList::new(line.alloc());
     for key in list {
         match u32::try_from(*key) {
-            Ok(key) => keys.push(key)?,
-            Err(_) => return Err(Why::Ill),
+            Ok(key) => line.keep(keys.push(key)),
+            Err(_) => line.mark_ill(),
         }
     }
-    Ok(KeyList::from_vec(keys))
+    keys
 }
 
 // Keys of a graph of so many.
-fn wanted_of(alloc: Global, list: &[u64], keys: u32) -> Result<KeyList, Why>
-    ensures { IfOk result (λ wanted. AllByRecursion (λ k. k < keys) wanted) }
+fn wanted_of(line: &mut Line, list: &[u64], keys: u32) -> KeyList
+    ensures { AllByRecursion (λ k. k < keys) result }
 {
-    let mut wanted = Vec::with_capacity(alloc, list.len())?;
+    let mut wanted = Vec::new(line.alloc());
     for key in list {
-        if *key >= keys as u64 {
-            return Err(Why::Ill);
+        if *key < keys as u64 {
+            let added = wanted.push(*key as u32);
+            if added.is_err() {
+                line.fail();
+            }
+        } else {
+            line.mark_ill();
         }
-        wanted.push(*key as u32)?;
     }
-    Ok(KeyList::from_vec(wanted))
+    KeyList::from_vec(wanted)
 }
 
-// The task of a key with these dependencies, and the bytes of its block.
-fn task_of(alloc: Global, keys: &[u64], nbytes: u64) -> Result<Task, Why>
-    ensures { IfOk result (λ task. task.work ≤ 8) }
+// The task of a key with these dependencies, whose block has 8 bytes.
+fn task_of(line: &mut Line, keys: &[u64]) -> Task
+    ensures { result.work ≤ 8 }
 {
-    let spec = spec_of(alloc, keys)?;
-    let deps = keys_of(alloc, keys)?;
-    Ok(Task {
+    let spec = spec_of(line, keys);
+    let deps = keys_of(line, keys);
+    Task {
         spec,
         deps,
         work: 8,
-        nbytes,
-    })
-}
-
-fn why_of(error: PushError) -> Why {
-    match error {
-        PushError::OutOfMemory => Why::OutOfMemory,
-        PushError::BadDep { .. } | PushError::Limit { .. } => Why::Ill,
+        nbytes: 8,
     }
 }
 
-fn graph_of(row: &mut Row) -> Result<Graph, Why> {
-    let alloc = row.alloc();
-    let count = row.natural()?;
-    let mut graph = Graph::new(alloc);
-    for _ in 0..count {
-        let keys = row.naturals()?;
-        let task = task_of(alloc, &keys, 8)?;
-        graph.push(task).map_err(why_of)?;
+// Adds a key with the dependencies that the next word lists, and tells whether all went well so far.
+fn add_key(line: &mut Line, graph: &mut Graph) -> bool {
+    let keys = line.naturals();
+    let task = task_of(line, &keys);
+    match graph.push(task) {
+        Ok(_) => {}
+        Err(PushError::OutOfMemory) => line.fail(),
+        Err(_) => line.mark_ill(),
     }
-    Ok(graph)
+    line.why().is_none()
+}
+
+fn graph_of(line: &mut Line) -> Graph {
+    let mut graph = Graph::new(line.alloc());
+    for _ in 0..line.natural() {
+        if !add_key(line, &mut graph) {
+            break;
+        }
+    }
+    graph
 }
 
 // The numbers of all old keys, `-` where one isn't kept.
-fn put_numbers(out: &mut String, numbers: &Renumber) -> Result<(), AllocError> {
-    out.push_str(" order")?;
-    put_list(out, numbers.order())?;
-    out.push_str(" numbers")?;
+fn put_numbers(line: &mut Line, numbers: &Renumber) {
+    line.put(" order");
+    line.put_list(numbers.order());
+    line.put(" numbers");
     for old in 0..numbers.keys() {
         match numbers.get(old) {
-            Some(number) => write!(out, " {number}")?,
-            None => out.push_str(" -")?,
+            Some(number) => line.put_item(" ", &number),
+            None => line.put(" -"),
         }
     }
-    Ok(())
 }
 
-fn put_inputs(out: &mut String, inputs: &Shapes) -> Result<(), AllocError> {
-    out.push_str(" of")?;
+fn put_inputs(line: &mut Line, inputs: &Shapes) {
+    line.put(" of");
     for shape in inputs.as_slice() {
-        put_list(out, shape.dims())?;
+        line.put_list(shape.dims());
     }
-    Ok(())
 }
 
-fn put_task(out: &mut String, task: &Task) -> Result<(), AllocError> {
-    out.push_str(";")?;
-    put_list(out, task.deps.as_slice())?;
+fn put_sides(line: &mut Line, left: u32, right: u32) {
+    line.put_item(" left ", &left);
+    line.put_item(" right ", &right);
+}
+
+fn put_task(line: &mut Line, task: &Task) {
+    line.put(";");
+    line.put_list(task.deps.as_slice());
     match &task.spec {
         Spec::Contract {
             left,
@@ -134,87 +155,119 @@ fn put_task(out: &mut String, task: &Task) -> Result<(), AllocError> {
             inputs,
             ..
         } => {
-            write!(out, " left {left} right {right}")?;
-            put_inputs(out, inputs)
+            put_sides(line, *left, *right);
+            put_inputs(line, inputs);
         }
-        Spec::Reduce { inputs, .. } => put_inputs(out, inputs),
-        _ => Ok(()),
+        Spec::Reduce { inputs, .. } => put_inputs(line, inputs),
+        _ => {}
     }
 }
 
-fn put_graph(out: &mut String, graph: &Graph) -> Result<(), AllocError> {
+fn put_graph(line: &mut Line, graph: &Graph) {
     for task in graph.tasks() {
-        put_task(out, task)?;
+        put_task(line, task);
     }
-    Ok(())
 }
 
 // The wanted keys of a graph.
-fn wanted(row: &mut Row, graph: &Graph) -> Result<KeyList, Why>
-    ensures { IfOk result (λ wanted. AllByRecursion (λ k. k < length graph.now) wanted) }
+fn wanted(line: &mut Line, graph: &Graph) -> KeyList
+    ensures { AllByRecursion (λ k. k < length graph.now) result }
 {
-    let list = row.naturals()?;
-    wanted_of(row.alloc(), &list, graph.keys())
+    let list = line.naturals();
+    wanted_of(line, &list, graph.keys())
 }
 
 // The numbers of the depth-first order.
-fn ordered(row: &mut Row, out: &mut String) -> Result<(), Why> {
-    let graph = graph_of(row)?;
-    let wanted = wanted(row, &graph)?;
-    let numbers = order(&graph, &wanted)?;
-    Ok(put_numbers(out, &numbers)?)
+fn put_order(line: &mut Line, graph: &Graph, wanted: &KeyList)
+    requires { AllByRecursion (λ k. k < length graph.now) wanted.now }
+{
+    match order(graph, wanted) {
+        Ok(numbers) => put_numbers(line, &numbers),
+        Err(_) => line.fail(),
+    }
 }
 
 // Those of the needed keys in their old order.
-fn kept(row: &mut Row, out: &mut String) -> Result<(), Why> {
-    let graph = graph_of(row)?;
-    let wanted = wanted(row, &graph)?;
-    let numbers = keep(&graph, &wanted)?;
-    Ok(put_numbers(out, &numbers)?)
-}
-
-// The graph under the numbers of the depth-first order.
-fn renumbered(row: &mut Row, out: &mut String) -> Result<(), Why> {
-    let graph = graph_of(row)?;
-    let wanted = wanted(row, &graph)?;
-    let numbers = order(&graph, &wanted)?;
-    let graph = renumber(graph, &numbers)?;
-    Ok(put_graph(out, &graph)?)
+fn put_kept(line: &mut Line, graph: &Graph, wanted: &KeyList)
+    requires { AllByRecursion (λ k. k < length graph.now) wanted.now }
+{
+    match keep(graph, wanted) {
+        Ok(numbers) => put_numbers(line, &numbers),
+        Err(_) => line.fail(),
+    }
 }
 
 // The graph of the needed keys.
-fn culled(row: &mut Row, out: &mut String) -> Result<(), Why> {
-    let graph = graph_of(row)?;
-    let wanted = wanted(row, &graph)?;
-    let (graph, _) = cull(&graph, &wanted)?;
-    Ok(put_graph(out, &graph)?)
+fn put_culled(line: &mut Line, graph: &Graph, wanted: &KeyList)
+    requires { AllByRecursion (λ k. k < length graph.now) wanted.now }
+{
+    match cull(graph, wanted) {
+        Ok((culled, _)) => put_graph(line, &culled),
+        Err(_) => line.fail(),
+    }
 }
 
-fn put_pushed(out: &mut String, pushed: Result<u32, PushError>) -> Result<(), Why> {
+// What is asked of a graph that is kept, and of its wanted keys.
+fn of_wanted(line: &mut Line, word: &str, graph: &Graph, wanted: &KeyList)
+    requires { AllByRecursion (λ k. k < length graph.now) wanted.now }
+{
+    match word {
+        "order" => put_order(line, graph, wanted),
+        "keep" => put_kept(line, graph, wanted),
+        "cull" => put_culled(line, graph, wanted),
+        _ => line.mark_ill(),
+    }
+}
+
+// The same, where all words are well.
+fn of_graph(line: &mut Line, word: &str) {
+    let graph = graph_of(line);
+    let wanted = wanted(line, &graph);
+    if line.why().is_none() {
+        of_wanted(line, word, &graph, &wanted);
+    }
+}
+
+fn put_made(line: &mut Line, made: Result<Graph, AllocError>) {
+    match made {
+        Ok(graph) => put_graph(line, &graph),
+        Err(_) => line.fail(),
+    }
+}
+
+// The graph under the numbers of the depth-first order.
+fn renumbered(line: &mut Line) {
+    let graph = graph_of(line);
+    let wanted = wanted(line, &graph);
+    match order(&graph, &wanted) {
+        Ok(numbers) => put_made(line, renumber(graph, &numbers)),
+        Err(_) => line.fail(),
+    }
+}
+
+fn put_pushed(line: &mut Line, pushed: Result<u32, PushError>) {
     match pushed {
-        Ok(key) => Ok(write!(out, " key {key}")?),
-        Err(PushError::BadDep { dep }) => Ok(write!(out, " dependency {dep}")?),
-        Err(PushError::Limit { quantity }) => Ok(put_quantity(out, quantity)?),
-        Err(PushError::OutOfMemory) => Err(Why::OutOfMemory),
+        Ok(key) => line.put_item(" key ", &key),
+        Err(PushError::BadDep { dep }) => line.put_item(" dependency ", &dep),
+        Err(PushError::Limit { quantity }) => line.put_quantity(quantity),
+        Err(PushError::OutOfMemory) => line.fail(),
     }
 }
 
 // What a graph says of one key more, with these dependencies.
-fn pushed(row: &mut Row, out: &mut String) -> Result<(), Why> {
-    let mut graph = graph_of(row)?;
-    let keys = row.naturals()?;
-    let task = task_of(row.alloc(), &keys, 8)?;
-    put_pushed(out, graph.push(task))
+fn pushed(line: &mut Line) {
+    let mut graph = graph_of(line);
+    let keys = line.naturals();
+    let task = task_of(line, &keys);
+    put_pushed(line, graph.push(task));
 }
 
 /// Answers by the next word.
-pub fn answer(row: &mut Row, out: &mut String) -> Result<(), Why> {
-    match row.word()? {
-        "order" => ordered(row, out),
-        "keep" => kept(row, out),
-        "renumber" => renumbered(row, out),
-        "cull" => culled(row, out),
-        "push" => pushed(row, out),
-        _ => Err(Why::Ill),
+pub fn answer(line: &mut Line) {
+    let word = line.word();
+    match word {
+        "renumber" => renumbered(line),
+        "push" => pushed(line),
+        _ => of_graph(line, word),
     }
 }

@@ -1,48 +1,50 @@
 //! What is asked of jobs: `job TEXT`, where the word `;` ends a line of the text. A graph is written by its keys and edges,
 //! then each key: the node and the block that it is, `-` where it is none, what it depends on, what it does, and its work
 //! and its block's bytes; then the keys of each save. `count TEXT` asks for the keys and edges alone.
-ghost use Rattle.std.specs.Prelude.{◌<◌, All, IfOk};
+ghost use Rattle.std.specs.Prelude.{◌<◌, All};
 
-use crate::row::Row;
-use crate::text::{put_list, put_quantity};
-use crate::why::Why;
+use crate::line::Line;
 use array_expr::NodeId;
 use block_kernels::Spec;
 use block_lowering::sources::Name;
 use block_lowering::{LowerError, Lowered, lower};
 use job_text::{Job, Save, parse};
-use std::alloc::{AllocError, Global};
 use task_graph::{Graph, Task};
 
-// The words that are left, as the lines of a text.
-fn text_of(row: &mut Row) -> Result<String, Why> {
-    let mut text = String::new(row.alloc());
-    for _ in 0..row.left() {
-        match row.word()? {
-            ";" => text.push('\n')?,
-            word => write!(text, "{word} ")?,
-        }
+fn add_word(line: &mut Line, text: &mut String, word: &str) {
+    if word == ";" {
+        return line.keep(text.push_str("\n"));
     }
-    Ok(text)
+    line.keep(text.push_str(word));
+    line.keep(text.push_str(" "));
+}
+
+// The words that are left, as the lines of a text.
+fn text_of(line: &mut Line) -> String {
+    let mut text = String::new(line.alloc());
+    for word in line.words().split(' ') {
+        add_word(line, &mut text, word);
+    }
+    text
 }
 
 // The saved nodes of an expression of so many.
-fn saved_nodes(alloc: Global, saves: &[Save], count: usize) -> Result<Vec<NodeId>, Why>
-    ensures { IfOk result (λ nodes. All (λ n. n < count) nodes.items) }
+fn saved_nodes(line: &mut Line, saves: &[Save], count: usize) -> Vec<NodeId>
+    ensures { All (λ n. n < count) result.items }
 {
-    let mut nodes = Vec::with_capacity(alloc, saves.len())?;
+    let mut nodes = Vec::new(line.alloc());
     for save in saves {
-        if save.node().number() as usize >= count {
-            return Err(Why::Ill);
+        let node = save.node();
+        if (node.number() as usize) < count {
+            let added = nodes.push(node);
+            if added.is_err() {
+                line.fail();
+            }
+        } else {
+            line.mark_ill();
         }
-        nodes.push(save.node())?;
     }
-    Ok(nodes)
-}
-
-fn lowered(alloc: Global, job: &Job) -> Result<Result<Lowered, LowerError>, Why> {
-    let nodes = saved_nodes(alloc, job.saves(), job.expr().nodes().len())?;
-    Ok(lower(alloc, job.expr(), &nodes))
+    nodes
 }
 
 fn kind_of(spec: &Spec) -> &'static str {
@@ -59,51 +61,60 @@ fn kind_of(spec: &Spec) -> &'static str {
     }
 }
 
-fn put_key(out: &mut String, name: &Name, task: &Task) -> Result<(), AllocError> {
+fn put_name(line: &mut Line, name: &Name) {
     match name {
-        Some((node, block)) => write!(out, "; {node}.{block}")?,
-        None => out.push_str("; -")?,
+        Some((node, block)) => {
+            line.put_item("; ", node);
+            line.put_item(".", block);
+        }
+        None => line.put("; -"),
     }
-    put_list(out, task.deps.as_slice())?;
-    write!(
-        out,
-        " {} {} {}",
-        kind_of(&task.spec),
-        task.work,
-        task.nbytes
-    )
 }
 
-fn put_counts(out: &mut String, graph: &Graph) -> Result<(), AllocError> {
-    write!(out, " keys {} edges {}", graph.keys(), graph.edges())
+fn put_key(line: &mut Line, name: &Name, task: &Task) {
+    put_name(line, name);
+    line.put_list(task.deps.as_slice());
+    line.put_item(" ", &kind_of(&task.spec));
+    line.put_item(" ", &task.work);
+    line.put_item(" ", &task.nbytes);
 }
 
-fn put_keys(out: &mut String, lowered: &Lowered) -> Result<(), AllocError> {
+fn put_counts(line: &mut Line, graph: &Graph) {
+    line.put_item(" keys ", &graph.keys());
+    line.put_item(" edges ", &graph.edges());
+}
+
+fn put_keys(line: &mut Line, lowered: &Lowered) {
     for (name, task) in lowered.names.as_slice().iter().zip(lowered.graph.tasks()) {
-        put_key(out, name, task)?;
+        put_key(line, name, task);
     }
-    out.push_str("; saved")?;
+    line.put("; saved");
     for keys in lowered.saved.as_slice() {
-        put_list(out, keys.as_slice())?;
+        line.put_list(keys.as_slice());
     }
-    Ok(())
+}
+
+fn put_lowered(line: &mut Line, lowered: &Lowered, whole: bool) {
+    put_counts(line, &lowered.graph);
+    if whole {
+        put_keys(line, lowered);
+    }
+}
+
+fn put_job(line: &mut Line, job: &Job, whole: bool) {
+    let nodes = saved_nodes(line, job.saves(), job.expr().nodes().len());
+    match lower(line.alloc(), job.expr(), &nodes) {
+        Ok(lowered) => put_lowered(line, &lowered, whole),
+        Err(LowerError::Limit { quantity }) => line.put_quantity(quantity),
+        Err(LowerError::OutOfMemory) => line.fail(),
+    }
 }
 
 /// Puts the graph that a job is lowered to, or the limit that it passes: all of it, or how many keys and edges it has.
-pub fn answer(row: &mut Row, out: &mut String, whole: bool) -> Result<(), Why> {
-    let text = text_of(row)?;
-    let Ok(job) = parse(row.alloc(), text.as_bytes()) else {
-        return Err(Why::Ill);
-    };
-    match lowered(row.alloc(), &job)? {
-        Ok(lowered) => {
-            put_counts(out, &lowered.graph)?;
-            if whole {
-                put_keys(out, &lowered)?;
-            }
-            Ok(())
-        }
-        Err(LowerError::Limit { quantity }) => Ok(put_quantity(out, quantity)?),
-        Err(LowerError::OutOfMemory) => Err(Why::OutOfMemory),
+pub fn answer(line: &mut Line, whole: bool) {
+    let text = text_of(line);
+    match parse(line.alloc(), text.as_bytes()) {
+        Ok(job) => put_job(line, &job, whole),
+        Err(_) => line.mark_ill(),
     }
 }

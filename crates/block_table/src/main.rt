@@ -12,48 +12,39 @@
 mod graphs;
 mod jobs;
 mod layouts;
-mod row;
-mod text;
+mod line;
 mod why;
 
-use row::Row;
+use line::Line;
 use std::alloc::Global;
 use std::io;
-use why::Why;
 
 // What is asked, by the first word: a module for each area.
-fn answer(word: &str, row: &mut Row, out: &mut String) -> Result<(), Why> {
-    match word {
-        "layout" => layouts::answer(row, out),
-        "graph" => graphs::answer(row, out),
-        "job" => jobs::answer(row, out, true),
-        "count" => jobs::answer(row, out, false),
-        _ => Err(Why::Ill),
+fn answer(line: &mut Line) {
+    match line.word() {
+        "layout" => layouts::answer(line),
+        "graph" => graphs::answer(line),
+        "job" => jobs::answer(line, true),
+        "count" => jobs::answer(line, false),
+        _ => line.mark_ill(),
     }
 }
 
-// Takes all words of a line.
-fn take(row: &mut Row, out: &mut String) -> Result<(), Why> {
-    let word = row.word()?;
-    answer(word, row, out)?;
-    if row.is_empty() {
-        Ok(())
-    } else {
-        Err(Why::Ill)
+// Answers a line by all of its words.
+fn take(line: &mut Line) {
+    answer(line);
+    if !line.is_empty() {
+        line.mark_ill();
     }
-}
-
-fn put_answer(out: &mut String, line: &str) -> Result<(), Why> {
-    let mut row = Row::parse(*out.allocator(), line)?;
-    take(&mut row, out)
 }
 
 // Prints what a line asks, and the answer.
-fn print_answer<R: Print>(rt: &R, alloc: Global, line: &str) -> io::Result<()> {
-    let mut out = String::new(alloc);
-    match put_answer(&mut out, line) {
-        Ok(()) => println!(rt; "{line}:{}", out.as_str()),
-        Err(why) => println!(rt; "{line}: {why}"),
+fn print_answer<R: Print>(rt: &R, alloc: Global, text: &str) -> io::Result<()> {
+    let mut line = Line::new(alloc, text);
+    take(&mut line);
+    match line.why() {
+        None => println!(rt; "{text}:{}", line.text()),
+        Some(why) => println!(rt; "{text}: {why}"),
     }
 }
 

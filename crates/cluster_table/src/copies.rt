@@ -5,101 +5,120 @@
 //! stands for one item of each kind.
 use crate::events::{print_event, read_event};
 use crate::messages::read_taken;
-use crate::numbers::{RowError, Words};
-use crate::printed::{print_error, print_message};
+use crate::page::Page;
+use crate::printed::print_message;
+use crate::words::Words;
 use cluster_msgs::{Entry, Item, RunFail, Script, Sequence, Stop};
-use std::alloc::Global;
-use std::io;
+use std::alloc::{AllocError, Global};
 
-fn read_entry(alloc: Global, line: &str) -> Result<Entry, RowError> {
-    let (front, message) = line.split_once('|').unwrap_or((line, ""));
-    let mut words = Words::of(alloc, front);
-    let stamp = words.number()?;
-    let message = read_taken(alloc, message)?;
-    let event = read_event(&mut words)?;
-    Ok(Entry {
+// A copy of the list of an entry.
+fn copy_entry(alloc: Global, entry: Entry) -> Result<Sequence<Entry>, AllocError> {
+    let mut entries = Sequence::new(alloc);
+    entries.push(entry)?;
+    entries.copy()
+}
+
+fn print_entry(page: &mut Page, entry: &Entry) {
+    page.item("  ", entry.stamp);
+    page.put(" ");
+    print_event(page, &entry.event);
+    if let Some(message) = &entry.message {
+        page.put(" | ");
+        print_message(page, message);
+    }
+    page.put("\n");
+}
+
+fn print_entries(page: &mut Page, entries: &Result<Sequence<Entry>, AllocError>) {
+    match entries {
+        Ok(entries) => {
+            for entry in entries.as_slice() {
+                print_entry(page, entry);
+            }
+        }
+        Err(_) => page.fail(),
+    }
+}
+
+fn read_entry(words: &mut Words<'_>) -> Entry {
+    let stamp = words.number();
+    let event = read_event(words);
+    let message = read_taken(words);
+    Entry {
         stamp,
         event,
         message,
-    })
-}
-
-// A copy of the list of a line's entry.
-fn copy_entry(alloc: Global, line: &str) -> Result<Sequence<Entry>, RowError> {
-    let mut entries = Sequence::new(alloc);
-    entries.push(read_entry(alloc, line)?)?;
-    Ok(entries.copy()?)
-}
-
-fn print_entry<R: Print>(rt: &R, entry: &Entry) -> io::Result<()> {
-    print!(rt; "  {} ", entry.stamp)?;
-    print_event(rt, &entry.event)?;
-    if let Some(message) = &entry.message {
-        print!(rt; " | ")?;
-        print_message(rt, message)?;
     }
-    println!(rt; "")
 }
 
-fn print_entries<R: Print>(rt: &R, entries: &[Entry]) -> io::Result<()> {
-    for entry in entries {
-        print_entry(rt, entry)?;
-    }
-    Ok(())
-}
-
-fn play_entry<R: Print>(rt: &R, alloc: Global, line: &str) -> io::Result<()> {
-    match copy_entry(alloc, line) {
-        Ok(entries) => print_entries(rt, entries.as_slice()),
-        Err(e) => print_error(rt, e),
+fn play_entry(page: &mut Page, words: &mut Words<'_>) {
+    let entry = read_entry(words);
+    let entries = copy_entry(words.alloc(), entry);
+    match words.fault() {
+        Some(fault) => page.fault(fault),
+        None => print_entries(page, &entries),
     }
 }
 
 // A copy of a script with one item of each kind.
-fn copy_script(alloc: Global, w: u32, at: u128) -> Result<Script, RowError> {
+fn copy_script(alloc: Global, w: u32, at: u128) -> Result<Script, AllocError> {
     let items = [
         Item::Lose { w, at },
         Item::Suspect { w, at },
         Item::Join { at },
     ];
     let script = Script::from_vec(Vec::from_slice(alloc, &items)?);
-    Ok(script.copy()?)
+    script.copy()
 }
 
-fn read_script(alloc: Global, line: &str) -> Result<Script, RowError> {
-    let mut words = Words::of(alloc, line);
-    let w = words.small()?;
-    let at = words.number()?;
-    copy_script(alloc, w, u128::from(at))
-}
-
-fn print_script<R: Print>(rt: &R, items: &[Item]) -> io::Result<()> {
-    for item in items {
-        match item {
-            Item::Lose { w, at } => println!(rt; "  lose {w} at {at}")?,
-            Item::Suspect { w, at } => println!(rt; "  suspect {w} at {at}")?,
-            Item::Join { at } => println!(rt; "  join at {at}")?,
+fn print_item(page: &mut Page, item: &Item) {
+    match item {
+        Item::Lose { w, at } => {
+            page.item("  lose ", *w);
+            page.item(" at ", *at);
         }
+        Item::Suspect { w, at } => {
+            page.item("  suspect ", *w);
+            page.item(" at ", *at);
+        }
+        Item::Join { at } => page.item("  join at ", *at),
     }
-    Ok(())
+    page.put("\n");
 }
 
-fn play_script<R: Print>(rt: &R, alloc: Global, line: &str) -> io::Result<()> {
-    match read_script(alloc, line) {
-        Ok(script) => print_script(rt, script.as_slice()),
-        Err(e) => print_error(rt, e),
+fn print_script(page: &mut Page, items: &[Item]) {
+    for item in items {
+        print_item(page, item);
     }
+}
+
+fn play_script(page: &mut Page, words: &mut Words<'_>) {
+    let w = words.small();
+    let at = words.number();
+    if let Some(fault) = words.fault() {
+        return page.fault(fault);
+    }
+    match copy_script(words.alloc(), w, at as u128) {
+        Ok(script) => print_script(page, script.as_slice()),
+        Err(_) => page.fail(),
+    }
+}
+
+// The texts of why a core stopped and why a key couldn't be run.
+fn print_texts(page: &mut Page) {
+    page.item("  ", Stop::Spent);
+    page.item(", ", RunFail::Feed);
+    page.put("\n");
 }
 
 /// Plays a story of copies. The line `texts` prints why a core stopped and why a key couldn't be run.
-pub fn play<R: Print>(rt: &R, alloc: Global, events: &str) -> io::Result<()> {
+pub fn play(page: &mut Page, alloc: Global, events: &str) {
     for line in events.lines() {
-        println!(rt; "{line}")?;
+        page.line(line);
         match line.strip_prefix("script ") {
-            Some(numbers) => play_script(rt, alloc, numbers)?,
-            None if line == "texts" => println!(rt; "  {}, {}", Stop::Spent, RunFail::Feed)?,
-            None => play_entry(rt, alloc, line)?,
+            Some(numbers) => play_script(page, &mut Words::of(alloc, numbers)),
+            None if line == "texts" => print_texts(page),
+            None => play_entry(page, &mut Words::of(alloc, line)),
         }
     }
-    Ok(())
 }

@@ -1,49 +1,55 @@
 //! Stories of numbers: the quiet bound of counts, and the words of a generator.
-use crate::numbers::{RowError, Words};
-use crate::printed::print_error;
+use crate::page::Page;
+use crate::words::Words;
 use cluster_sim::words::Words as Generator;
 use quiet_bound::quiet_events;
 use std::alloc::Global;
-use std::io;
 
 // The bound for the clients, the messages under way, the workers, the keys and the edges of a line.
-fn bound_of(words: &mut Words<'_>) -> Result<u128, RowError> {
-    let clients = words.small()?;
-    let under_way = words.number()?;
-    let workers = words.number()?;
-    let keys = words.small()?;
-    Ok(quiet_events(clients, under_way, workers, keys, words.small()?))
+fn bound_of(words: &mut Words<'_>) -> u128 {
+    let clients = words.small();
+    let under_way = words.number();
+    let workers = words.number();
+    let keys = words.small();
+    quiet_events(clients, under_way, workers, keys, words.small())
 }
 
 /// Plays a story of bounds: each line has five counts.
-pub fn play_bounds<R: Print>(rt: &R, alloc: Global, events: &str) -> io::Result<()> {
+pub fn play_bounds(page: &mut Page, alloc: Global, events: &str) {
     for line in events.lines() {
-        print!(rt; "{line}: ")?;
-        match bound_of(&mut Words::of(alloc, line)) {
-            Ok(bound) => println!(rt; "{bound}")?,
-            Err(e) => print_error(rt, e)?,
+        let mut words = Words::of(alloc, line);
+        let bound = bound_of(&mut words);
+        page.item(line, ": ");
+        match words.fault() {
+            Some(fault) => page.fault(fault),
+            None => {
+                page.item("", bound);
+                page.put("\n");
+            }
         }
     }
-    Ok(())
+}
+
+// The first three words of a number.
+fn print_words(page: &mut Page, number: u64) {
+    let mut words = Generator::new(number);
+    page.item(" ", words.word());
+    words.advance();
+    page.item(" ", words.word());
+    words.advance();
+    page.item(" ", words.word());
+    page.put("\n");
 }
 
 /// Plays a story of a generator: each line has a number, of which the first three words are printed.
-pub fn play_words<R: Print>(rt: &R, alloc: Global, events: &str) -> io::Result<()> {
+pub fn play_words(page: &mut Page, alloc: Global, events: &str) {
     for line in events.lines() {
-        print!(rt; "{line}: ")?;
-        match Words::of(alloc, line).number() {
-            Ok(number) => print_words(rt, number)?,
-            Err(e) => print_error(rt, e)?,
+        let mut words = Words::of(alloc, line);
+        let number = words.number();
+        page.item(line, ":");
+        match words.fault() {
+            Some(fault) => page.fault(fault),
+            None => print_words(page, number),
         }
     }
-    Ok(())
-}
-
-fn print_words<R: Print>(rt: &R, number: u64) -> io::Result<()> {
-    let mut words = Generator::new(number);
-    print!(rt; "{}", words.word())?;
-    words.advance();
-    print!(rt; " {}", words.word())?;
-    words.advance();
-    println!(rt; " {}", words.word())
 }

@@ -1,155 +1,151 @@
 //! The events of a cluster, read from the words of a line and printed so: the event's name, and its arguments in their
 //! order. A worker that asks for blocks is `w1`, and a client `c1`.
-use crate::numbers::{RowError, Words, small};
-use crate::printed::{print_keys, print_numbers};
+use crate::page::Page;
+use crate::words::Words;
 use cluster_msgs::{Asker, Event};
-use std::io;
-
-fn read_asker(word: &str) -> Result<Asker, RowError> {
-    match word.strip_prefix('w') {
-        Some(number) => Ok(Asker::Worker(small(number)?)),
-        None => {
-            let number = word.strip_prefix('c').ok_or(RowError::Ill)?;
-            Ok(Asker::Client(small(number)?))
-        }
-    }
-}
 
 /// The event of a line.
-pub fn read_event(words: &mut Words<'_>) -> Result<Event, RowError> {
+pub fn read_event(words: &mut Words<'_>) -> Event {
     let name = words.word();
     match name {
-        "balance" => Ok(Event::Balance),
-        "evict" => Ok(Event::Evict),
-        "want" | "release" => read_wanted(name, words),
-        "send-gather" | "arrive-gather" | "fail-gather" | "serve-gather" => {
-            read_gather(name, words)
-        }
-        "finish" | "spill" | "lose-spilled" => read_of_key(name, words),
-        _ => numbered(name, words.small()?),
+        "balance" => Event::Balance,
+        "evict" => Event::Evict,
+        "want" => Event::Want {
+            client: words.small(),
+            keys: words.keys(),
+        },
+        "release" => Event::Release {
+            client: words.small(),
+            keys: words.keys(),
+        },
+        "serve-gather" => Event::ServeGather {
+            peer: words.small(),
+            asker: words.asker(),
+            ask: words.number(),
+        },
+        "send-gather" => Event::SendGather {
+            asker: words.asker(),
+            peer: words.small(),
+        },
+        "arrive-gather" => Event::ArriveGather {
+            asker: words.asker(),
+            peer: words.small(),
+            ask: words.number(),
+        },
+        "fail-gather" => Event::FailGather {
+            asker: words.asker(),
+            peer: words.small(),
+        },
+        _ => read_numbered(name, words),
     }
 }
 
-fn read_wanted(name: &str, words: &mut Words<'_>) -> Result<Event, RowError> {
-    let client = words.small()?;
-    let keys = words.keys()?;
+// An event with the number of a worker or a client, or of threads, and maybe of a key.
+fn read_numbered(name: &str, words: &mut Words<'_>) -> Event {
+    let number = words.small();
     match name {
-        "want" => Ok(Event::Want { client, keys }),
-        _ => Ok(Event::Release { client, keys }),
-    }
-}
-
-// An event of a gather. Where it is served, the peer stands before the asker.
-fn read_gather(name: &str, words: &mut Words<'_>) -> Result<Event, RowError> {
-    let (first, second) = (words.word(), words.word());
-    let is_served = name == "serve-gather";
-    let (asker, peer) = if is_served {
-        (second, first)
-    } else {
-        (first, second)
-    };
-    let asker = read_asker(asker)?;
-    let peer = small(peer)?;
-    let ask = words.number_or_0()?;
-    Ok(gather_of(name, asker, peer, ask))
-}
-
-fn gather_of(name: &str, asker: Asker, peer: u32, ask: u64) -> Event {
-    match name {
-        "send-gather" => Event::SendGather { asker, peer },
-        "serve-gather" => Event::ServeGather { peer, asker, ask },
-        "arrive-gather" => Event::ArriveGather { asker, peer, ask },
-        _ => Event::FailGather { asker, peer },
-    }
-}
-
-// An event with the number of a worker or a client, or of threads.
-fn numbered(name: &str, number: u32) -> Result<Event, RowError> {
-    match name {
-        "join" => Ok(Event::Join { threads: number }),
-        "lose" => Ok(Event::Lose { worker: number }),
-        "see-loss" => Ok(Event::SeeLoss { worker: number }),
-        "suspect" => Ok(Event::Suspect { worker: number }),
-        "deliver-down" => Ok(Event::DeliverDown { worker: number }),
-        "deliver-up" => Ok(Event::DeliverUp { worker: number }),
-        "deliver-to-client" => Ok(Event::DeliverToClient { client: number }),
-        "deliver-from-client" => Ok(Event::DeliverFromClient { client: number }),
-        "start" => Ok(Event::Start { worker: number }),
-        _ => Err(RowError::Ill),
+        "join" => Event::Join { threads: number },
+        "lose" => Event::Lose { worker: number },
+        "see-loss" => Event::SeeLoss { worker: number },
+        "suspect" => Event::Suspect { worker: number },
+        "deliver-down" => Event::DeliverDown { worker: number },
+        "deliver-up" => Event::DeliverUp { worker: number },
+        "deliver-to-client" => Event::DeliverToClient { client: number },
+        "deliver-from-client" => Event::DeliverFromClient { client: number },
+        "start" => Event::Start { worker: number },
+        _ => read_of_key(name, number, words),
     }
 }
 
 // An event of a worker's key.
-fn read_of_key(name: &str, words: &mut Words<'_>) -> Result<Event, RowError> {
-    let worker = words.small()?;
-    let key = words.small()?;
+fn read_of_key(name: &str, worker: u32, words: &mut Words<'_>) -> Event {
+    let key = words.small();
     match name {
-        "finish" => Ok(Event::Finish { worker, key }),
-        "spill" => Ok(Event::Spill { worker, key }),
-        _ => Ok(Event::LoseSpilled { worker, key }),
+        "finish" => Event::Finish { worker, key },
+        "spill" => Event::Spill { worker, key },
+        "lose-spilled" => Event::LoseSpilled { worker, key },
+        _ => {
+            words.mark_ill();
+            Event::Balance
+        }
     }
 }
 
-fn asker_mark(asker: Asker) -> (&'static str, u32) {
+fn name_of(event: &Event) -> &'static str {
+    match event {
+        Event::Want { .. } => "want",
+        Event::Release { .. } => "release",
+        Event::Join { .. } => "join",
+        Event::Lose { .. } => "lose",
+        Event::SeeLoss { .. } => "see-loss",
+        Event::Suspect { .. } => "suspect",
+        Event::DeliverDown { .. } => "deliver-down",
+        Event::DeliverUp { .. } => "deliver-up",
+        Event::DeliverToClient { .. } => "deliver-to-client",
+        Event::DeliverFromClient { .. } => "deliver-from-client",
+        Event::Start { .. } => "start",
+        Event::Finish { .. } => "finish",
+        Event::SendGather { .. } => "send-gather",
+        Event::ServeGather { .. } => "serve-gather",
+        Event::ArriveGather { .. } => "arrive-gather",
+        Event::FailGather { .. } => "fail-gather",
+        Event::Balance => "balance",
+        Event::Evict => "evict",
+        Event::Spill { .. } => "spill",
+        Event::LoseSpilled { .. } => "lose-spilled",
+    }
+}
+
+fn print_asker(page: &mut Page, asker: Asker) {
     match asker {
-        Asker::Worker(number) => ("w", number),
-        Asker::Client(number) => ("c", number),
+        Asker::Worker(number) => page.item(" w", number),
+        Asker::Client(number) => page.item(" c", number),
     }
 }
 
-fn print_wanted<R: Print>(rt: &R, name: &str, client: u32, keys: &[u32]) -> io::Result<()> {
-    print!(rt; "{name} {client} ")?;
-    print_keys(rt, keys)
-}
-
-fn print_ask<R: Print>(rt: &R, name: &str, asker: Asker, numbers: &[u64]) -> io::Result<()> {
-    let (mark, number) = asker_mark(asker);
-    print!(rt; "{name} {mark}{number}")?;
-    print_numbers(rt, "", numbers)
+// The one who asks, and numbers behind it.
+fn print_ask(page: &mut Page, asker: Asker, numbers: &[u64]) {
+    print_asker(page, asker);
+    page.numbers("", numbers);
 }
 
 // A served ask, of which the peer stands before the asker.
-fn print_served<R: Print>(rt: &R, peer: u32, asker: Asker, ask: u64) -> io::Result<()> {
-    let (mark, number) = asker_mark(asker);
-    print!(rt; "serve-gather {peer} {mark}{number} {ask}")
+fn print_served(page: &mut Page, peer: u32, asker: Asker, ask: u64) {
+    page.item(" ", peer);
+    print_ask(page, asker, &[ask]);
 }
 
-fn print_one<R: Print>(rt: &R, name: &str, number: u32) -> io::Result<()> {
-    print!(rt; "{name} {number}")
-}
-
-fn print_two<R: Print>(rt: &R, name: &str, worker: u32, key: u32) -> io::Result<()> {
-    print!(rt; "{name} {worker} {key}")
+fn print_wanted(page: &mut Page, client: u32, keys: &[u32]) {
+    page.item(" ", client);
+    page.keys("", keys);
 }
 
 /// An event.
-pub fn print_event<R: Print>(rt: &R, event: &Event) -> io::Result<()> {
+pub fn print_event(page: &mut Page, event: &Event) {
+    page.put(name_of(event));
     match event {
-        Event::Want { client, keys } => print_wanted(rt, "want", *client, keys.as_slice()),
-        Event::Release { client, keys } => print_wanted(rt, "release", *client, keys.as_slice()),
-        Event::Join { threads } => print_one(rt, "join", *threads),
-        Event::Lose { worker } => print_one(rt, "lose", *worker),
-        Event::SeeLoss { worker } => print_one(rt, "see-loss", *worker),
-        Event::Suspect { worker } => print_one(rt, "suspect", *worker),
-        Event::DeliverDown { worker } => print_one(rt, "deliver-down", *worker),
-        Event::DeliverUp { worker } => print_one(rt, "deliver-up", *worker),
-        Event::DeliverToClient { client } => print_one(rt, "deliver-to-client", *client),
-        Event::DeliverFromClient { client } => print_one(rt, "deliver-from-client", *client),
-        Event::Start { worker } => print_one(rt, "start", *worker),
-        Event::Finish { worker, key } => print_two(rt, "finish", *worker, *key),
-        Event::SendGather { asker, peer } => {
-            print_ask(rt, "send-gather", *asker, &[u64::from(*peer)])
+        Event::Want { client, keys } | Event::Release { client, keys } => {
+            print_wanted(page, *client, keys.as_slice())
         }
-        Event::ServeGather { peer, asker, ask } => print_served(rt, *peer, *asker, *ask),
+        Event::Join { threads: number }
+        | Event::Lose { worker: number }
+        | Event::SeeLoss { worker: number }
+        | Event::Suspect { worker: number }
+        | Event::DeliverDown { worker: number }
+        | Event::DeliverUp { worker: number }
+        | Event::DeliverToClient { client: number }
+        | Event::DeliverFromClient { client: number }
+        | Event::Start { worker: number } => page.item(" ", *number),
+        Event::Finish { worker, key }
+        | Event::Spill { worker, key }
+        | Event::LoseSpilled { worker, key } => { page.numbers("", &[*worker as u64, *key as u64]) }
+        Event::SendGather { asker, peer } | Event::FailGather { asker, peer } => {
+            print_ask(page, *asker, &[*peer as u64])
+        }
         Event::ArriveGather { asker, peer, ask } => {
-            print_ask(rt, "arrive-gather", *asker, &[u64::from(*peer), *ask])
+            print_ask(page, *asker, &[*peer as u64, *ask])
         }
-        Event::FailGather { asker, peer } => {
-            print_ask(rt, "fail-gather", *asker, &[u64::from(*peer)])
-        }
-        Event::Balance => print!(rt; "balance"),
-        Event::Evict => print!(rt; "evict"),
-        Event::Spill { worker, key } => print_two(rt, "spill", *worker, *key),
-        Event::LoseSpilled { worker, key } => print_two(rt, "lose-spilled", *worker, *key),
+        Event::ServeGather { peer, asker, ask } => print_served(page, *peer, *asker, *ask),
+        Event::Balance | Event::Evict => {}
     }
 }

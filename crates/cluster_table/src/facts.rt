@@ -2,113 +2,111 @@
 ghost use Rattle.std.specs.Prelude.{◌≡◌, ◌<◌, true};
 ghost use Rattle.cluster_rules.specs.Sched.{keys, connected};
 
+use crate::page::Page;
 use cluster_msgs::Phase;
 use cluster_rules::Facts;
 use scheduler_core::Sched;
-use std::io;
 
 fn phase_name(phase: Phase) -> &'static str {
     match phase {
-        Phase::Erred => "erred",
-        Phase::Released => "released",
-        Phase::Memory => "memory",
-        Phase::Waiting => "waiting",
-        Phase::Processing => "processing",
-        Phase::NoWorker => "no-worker",
-        Phase::Queued => "queued",
-        Phase::Forgotten => "forgotten",
+        Phase::Erred => " erred",
+        Phase::Released => " released",
+        Phase::Memory => " memory",
+        Phase::Waiting => " waiting",
+        Phase::Processing => " processing",
+        Phase::NoWorker => " no-worker",
+        Phase::Queued => " queued",
+        Phase::Forgotten => " forgotten",
     }
 }
 
 /// The number of finishes, and each key's state and whom it is blamed on, also of the key behind the last.
-pub fn print_phases<R: Print>(rt: &R, core: &Sched) -> io::Result<()> {
-    print!(rt; "  finishes {}:", core.finishes())?;
+pub fn print_phases(page: &mut Page, core: &Sched) {
+    page.item("  finishes ", core.finishes());
+    page.put(":");
     for key in 0..=core.shape().keys() {
-        print!(rt; " {}", phase_name(core.phase(key)))?;
-        match core.blame(key) {
-            Some(blame) => print!(rt; " by {blame}")?,
-            None => {}
+        page.put(phase_name(core.phase(key)));
+        if let Some(blame) = core.blame(key) {
+            page.item(" by ", blame);
         }
     }
-    println!(rt; "")
+    page.put("\n");
 }
 
 /// Which keys are in the cone of a wanted key.
-pub fn print_known<R: Print>(rt: &R, core: &Sched) -> io::Result<()> {
-    print!(rt; "  known")?;
+pub fn print_known(page: &mut Page, core: &Sched) {
+    page.put("  known");
     for key in 0..core.shape().keys() {
         if core.known(key) {
-            print!(rt; " {key}")?;
+            page.item(" ", key);
         }
     }
-    println!(rt; "")
+    page.put("\n");
 }
 
 // Names with their numbers.
-fn print_fields<R: Print>(rt: &R, fields: &[(&str, u64)]) -> io::Result<()> {
+fn print_fields(page: &mut Page, fields: &[(&str, u64)]) {
+    page.put(" ");
     for (name, number) in fields {
-        print!(rt; " {name} {number}")?;
+        page.item(" ", *name);
+        page.item(" ", *number);
     }
-    Ok(())
 }
 
 // What is asked about a key: 1 for yes, and 0 where it is on no worker.
-fn print_key<R: Print, F: Facts>(rt: &R, facts: &F, key: u32) -> io::Result<()>
+fn print_key<F: Facts>(page: &mut Page, facts: &F, key: u32)
     requires { key < keys (F.facts facts.now) }
 {
     let fields = [
-        ("key", u64::from(key)),
-        ("needed", u64::from(facts.needed(key))),
-        ("held", u64::from(facts.held(key))),
-        ("erred", u64::from(facts.erred(key))),
-        ("on", u64::from(facts.on(key).unwrap_or(0))),
-        ("holders", u64::from(facts.holders(key))),
-        ("waiters", u64::from(facts.waiters(key))),
-        ("asked", u64::from(facts.asked_steal(key))),
+        ("key", key as u64),
+        ("needed", facts.needed(key) as u64),
+        ("held", facts.held(key) as u64),
+        ("erred", facts.erred(key) as u64),
+        ("on", facts.on(key).unwrap_or(0) as u64),
+        ("holders", facts.holders(key) as u64),
+        ("waiters", facts.waiters(key) as u64),
+        ("asked", facts.asked_steal(key) as u64),
     ];
-    print!(rt; " ")?;
-    print_fields(rt, &fields)?;
-    println!(rt; "")
+    print_fields(page, &fields);
+    page.put("\n");
 }
 
-// What is asked about a worker that is connected.
-fn print_worker<R: Print, F: Facts>(rt: &R, facts: &F, worker: u32) -> io::Result<()>
+// What is asked about a worker that is connected, and the keys that it holds.
+fn print_worker<F: Facts>(page: &mut Page, facts: &F, worker: u32)
     requires { connected (F.facts facts.now) worker ≡ true }
 {
     let fields = [
-        ("worker", u64::from(worker)),
-        ("threads", u64::from(facts.threads(worker))),
-        ("tasks", u64::from(facts.tasks(worker))),
+        ("worker", worker as u64),
+        ("threads", facts.threads(worker) as u64),
+        ("tasks", facts.tasks(worker) as u64),
         ("occupancy", facts.occupancy(worker)),
         ("bytes", facts.bytes_held(worker)),
-        ("full", u64::from(facts.full(worker))),
+        ("full", facts.full(worker) as u64),
     ];
-    print!(rt; " ")?;
-    print_fields(rt, &fields)?;
-    print_held(rt, facts, worker)
-}
-
-fn print_held<R: Print, F: Facts>(rt: &R, facts: &F, worker: u32) -> io::Result<()> {
-    print!(rt; " holds")?;
+    print_fields(page, &fields);
+    page.put(" holds");
     for key in 0..facts.keys() {
         if facts.holds(worker, key) {
-            print!(rt; " {key}")?;
+            page.item(" ", key);
         }
     }
-    println!(rt; "")
+    page.put("\n");
+}
+
+fn print_keys<F: Facts>(page: &mut Page, facts: &F) {
+    for key in 0..facts.keys() {
+        print_key(page, facts, key);
+    }
 }
 
 /// What is asked about each key and each worker.
-pub fn print_facts<R: Print, F: Facts>(rt: &R, facts: &F) -> io::Result<()> {
+pub fn print_facts<F: Facts>(page: &mut Page, facts: &F) {
     facts.sound();
-    for key in 0..facts.keys() {
-        print_key(rt, facts, key)?;
-    }
+    print_keys(page, facts);
     for before in 0..facts.last_worker() {
         let worker = before + 1;
         if facts.connected(worker) {
-            print_worker(rt, facts, worker)?;
+            print_worker(page, facts, worker);
         }
     }
-    Ok(())
 }

@@ -15,72 +15,65 @@ mod events;
 mod facts;
 mod graph;
 mod messages;
-mod numbers;
 mod packet;
+mod page;
 mod policy;
 mod printed;
 mod report;
 mod rows;
 mod scheduler;
 mod simulation;
+mod words;
 mod worker;
 mod world;
 
-use numbers::Words;
+use page::Page;
 use std::alloc::Global;
 use std::io;
+use words::Words;
 
-// Plays a story: the line of its setting, and the lines of its events.
-fn play<R: Print>(rt: &R, alloc: Global, head: &str, events: &str) -> io::Result<()> {
-    println!(rt; "{head}")?;
-    let mut setting = Words::of(alloc, head);
-    match setting.word() {
-        "graph" => graph::play(rt, alloc, &mut setting),
-        "copies" => copies::play(rt, alloc, events),
-        "packet" => packet::play(rt, alloc, &mut setting),
-        "grid" => rows::play(rt, alloc, &mut setting, events),
-        "scheduler" => scheduler::play(rt, alloc, &mut setting, events),
-        "report" => report::play(rt, alloc, &mut setting, events),
-        part => play_node(rt, alloc, part, &mut setting, events),
-    }
-}
-
-// Plays a story of a worker, a client, the world that they make with a scheduler, or its simulation.
-fn play_node<R: Print>(
-    rt: &R,
-    alloc: Global,
-    part: &str,
-    setting: &mut Words<'_>,
-    events: &str,
-) -> io::Result<()> {
-    match part {
-        "worker" => worker::play(rt, alloc, setting, events),
-        "client" => client::play(rt, alloc, setting, events),
-        "world" => world::play(rt, alloc, setting, events),
-        "simulation" => simulation::play(rt, alloc, setting),
-        "bound" => counted::play_bounds(rt, alloc, events),
-        "generator" => counted::play_words(rt, alloc, events),
-        _ => println!(rt; "no such story"),
+// Plays a story: the words of its setting, and the lines of its events.
+fn play(page: &mut Page, words: &mut Words<'_>, events: &str) {
+    match words.word() {
+        "graph" => graph::play(page, words),
+        "copies" => copies::play(page, words.alloc(), events),
+        "packet" => packet::play(page, words),
+        "grid" => rows::play(page, words, events),
+        "scheduler" => scheduler::play(page, words, events),
+        "report" => report::play(page, words, events),
+        "worker" => worker::play(page, words, events),
+        "client" => client::play(page, words, events),
+        "world" => world::play(page, words, events),
+        "simulation" => simulation::play(page, words),
+        "bound" => counted::play_bounds(page, words.alloc(), events),
+        "generator" => counted::play_words(page, words.alloc(), events),
+        _ => page.line("no such story"),
     }
 }
 
 // Prints the note of a story, and plays the story.
-fn play_story<R: Print>(rt: &R, alloc: Global, story: &str) -> io::Result<()> {
+fn play_story(page: &mut Page, alloc: Global, story: &str) {
     let (head, events) = story.split_once('\n').unwrap_or((story, ""));
+    page.line(head);
     if head.starts_with('#') {
-        println!(rt; "{head}")?;
         let (head, events) = events.split_once('\n').unwrap_or((events, ""));
-        play(rt, alloc, head, events)
+        page.line(head);
+        play(page, &mut Words::of(alloc, head), events);
     } else {
-        play(rt, alloc, head, events)
+        play(page, &mut Words::of(alloc, head), events);
     }
+    page.put("\n");
 }
 
 fn main(rt: HostRuntime) -> io::Result<()> {
     let text = io::read_to_string(rt.alloc(), rt.reader())?;
+    let mut page = Page::new(rt.alloc());
     for story in text.as_str().split("\n\n") {
-        play_story(&rt, rt.alloc(), story)?;
-        println!(rt; "")?;
+        play_story(&mut page, rt.alloc(), story);
+    }
+    print!(rt; "{}", page.as_str())?;
+    if page.is_short() {
+        println!(rt; "out of memory")?;
     }
     Ok(())
 }

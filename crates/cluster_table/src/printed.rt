@@ -1,179 +1,104 @@
-//! Messages and lists, printed as `messages` and `numbers` read them.
-use crate::numbers::RowError;
-use cluster_msgs::{Down, FromClient, Holders, Message, Peer, Role, ToClient, Up};
-use std::io;
-
-/// Why a line is not played.
-pub fn print_error<R: Print>(rt: &R, error: RowError) -> io::Result<()> {
-    match error {
-        RowError::Ill => println!(rt; "ill"),
-        RowError::Unfit { key } => println!(rt; "no graph has row {key}"),
-        RowError::OutOfMemory => println!(rt; "out of memory"),
-    }
-}
-
-/// Keys between commas, and `-` where there is none.
-pub fn print_keys<R: Print>(rt: &R, keys: &[u32]) -> io::Result<()> {
-    if keys.is_empty() {
-        return print!(rt; "-");
-    }
-    for (i, key) in keys.iter().enumerate() {
-        let comma = if i == 0 { "" } else { "," };
-        print!(rt; "{comma}{key}")?;
-    }
-    Ok(())
-}
-
-/// Holders as `worker@copy` between plus signs, and `-` where there is none.
-pub fn print_holders<R: Print>(rt: &R, holders: &[(u32, u64)]) -> io::Result<()> {
-    if holders.is_empty() {
-        return print!(rt; "-");
-    }
-    for (i, (worker, copy)) in holders.iter().enumerate() {
-        let plus = if i == 0 { "" } else { "+" };
-        print!(rt; "{plus}{worker}@{copy}")?;
-    }
-    Ok(())
-}
-
-/// Keys with their holders as `key=holders` between commas, and `-` where there is none.
-pub fn print_who_has<R: Print>(rt: &R, who_has: &[(u32, Holders)]) -> io::Result<()> {
-    if who_has.is_empty() {
-        return print!(rt; "-");
-    }
-    for (i, (key, holders)) in who_has.iter().enumerate() {
-        let comma = if i == 0 { "" } else { "," };
-        print!(rt; "{comma}{key}=")?;
-        print_holders(rt, holders.as_slice())?;
-    }
-    Ok(())
-}
-
-/// A name, and numbers behind it.
-pub fn print_numbers<R: Print>(rt: &R, name: &str, numbers: &[u64]) -> io::Result<()> {
-    print!(rt; "{name}")?;
-    for number in numbers {
-        print!(rt; " {number}")?;
-    }
-    Ok(())
-}
-
-fn print_named_keys<R: Print>(rt: &R, name: &str, keys: &[u32]) -> io::Result<()> {
-    print!(rt; "{name} ")?;
-    print_keys(rt, keys)
-}
-
-fn print_named_holders<R: Print>(rt: &R, name: &str, who_has: &[(u32, Holders)]) -> io::Result<()> {
-    print!(rt; "{name} ")?;
-    print_who_has(rt, who_has)
-}
-
-fn print_task<R: Print>(
-    rt: &R,
-    key: u32,
-    attempt: u64,
-    who_has: &[(u32, Holders)],
-) -> io::Result<()> {
-    print!(rt; "compute-task {key} {attempt} ")?;
-    print_who_has(rt, who_has)
-}
-
-fn print_held<R: Print>(rt: &R, key: u32, holders: &[(u32, u64)]) -> io::Result<()> {
-    print!(rt; "key-in-memory {key} ")?;
-    print_holders(rt, holders)
-}
-
-fn print_asked<R: Print>(rt: &R, name: &str, number: u64, keys: &[u32]) -> io::Result<()> {
-    print!(rt; "{name} {number} ")?;
-    print_keys(rt, keys)
-}
+//! Messages, printed as `messages` reads them.
+use crate::page::Page;
+use cluster_msgs::{Down, FromClient, Message, Peer, Role, ToClient, Up};
 
 /// A message from the scheduler to a worker.
-pub fn print_down<R: Print>(rt: &R, message: &Down) -> io::Result<()> {
+pub fn print_down(page: &mut Page, message: &Down) {
     match message {
         Down::ComputeTask {
             key,
             attempt,
             who_has,
-        } => print_task(rt, *key, *attempt, who_has.as_slice()),
-        Down::FreeKeys { keys } => print_named_keys(rt, "free-keys", keys.as_slice()),
-        Down::StealRequest { key, attempt } => {
-            print_numbers(rt, "steal-request", &[u64::from(*key), *attempt])
+        } => {
+            page.numbers("compute-task", &[*key as u64, *attempt]);
+            page.who_has(who_has.as_slice());
         }
-        Down::RemoveReplicas { keys } => print_named_keys(rt, "remove-replicas", keys.as_slice()),
+        Down::FreeKeys { keys } => page.keys("free-keys", keys.as_slice()),
+        Down::StealRequest { key, attempt } => {
+            page.numbers("steal-request", &[*key as u64, *attempt])
+        }
+        Down::RemoveReplicas { keys } => page.keys("remove-replicas", keys.as_slice()),
         Down::AcquireReplicas { who_has } => {
-            print_named_holders(rt, "acquire-replicas", who_has.as_slice())
+            page.put("acquire-replicas");
+            page.who_has(who_has.as_slice());
         }
         Down::RefreshWhoHas { who_has } => {
-            print_named_holders(rt, "refresh-who-has", who_has.as_slice())
+            page.put("refresh-who-has");
+            page.who_has(who_has.as_slice());
         }
     }
 }
 
 /// A message from a worker to the scheduler.
-pub fn print_up<R: Print>(rt: &R, message: &Up) -> io::Result<()> {
+pub fn print_up(page: &mut Page, message: &Up) {
     match message {
         Up::TaskFinished { seen, key, attempt } => {
-            print_numbers(rt, "task-finished", &[*seen, u64::from(*key), *attempt])
+            page.numbers("task-finished", &[*seen, *key as u64, *attempt])
         }
         Up::TaskErred { seen, key, attempt } => {
-            print_numbers(rt, "task-erred", &[*seen, u64::from(*key), *attempt])
+            page.numbers("task-erred", &[*seen, *key as u64, *attempt])
         }
-        Up::AddKeys { seen, keys } => print_asked(rt, "add-keys", *seen, keys.as_slice()),
+        Up::AddKeys { seen, keys } => {
+            page.item("add-keys ", *seen);
+            page.keys("", keys.as_slice());
+        }
         Up::ReleaseWorkerData { seen, key } => {
-            print_numbers(rt, "release-worker-data", &[*seen, u64::from(*key)])
+            page.numbers("release-worker-data", &[*seen, *key as u64])
         }
         Up::MissingData {
             seen,
             key,
             holder,
             copy,
-        } => {
-            let (key, holder) = (u64::from(*key), u64::from(*holder));
-            print_numbers(rt, "missing-data", &[*seen, key, holder, *copy])
-        }
+        } => page.numbers("missing-data", &[*seen, *key as u64, *holder as u64, *copy]),
         Up::RequestRefreshWhoHas { seen, key } => {
-            print_numbers(rt, "request-refresh-who-has", &[*seen, u64::from(*key)])
+            page.numbers("request-refresh-who-has", &[*seen, *key as u64])
         }
         Up::StealResponse {
             seen,
             key,
             attempt,
             yes,
-        } => print!(rt; "steal-response {seen} {key} {attempt} {yes}"),
+        } => {
+            page.numbers("steal-response", &[*seen, *key as u64, *attempt]);
+            page.item(" ", *yes);
+        }
     }
 }
 
 /// A message from the scheduler to a client.
-pub fn print_to_client<R: Print>(rt: &R, message: &ToClient) -> io::Result<()> {
+pub fn print_to_client(page: &mut Page, message: &ToClient) {
     match message {
-        ToClient::KeyInMemory { key, holders } => print_held(rt, *key, holders.as_slice()),
-        ToClient::LostData { key } => print_numbers(rt, "lost-data", &[u64::from(*key)]),
+        ToClient::KeyInMemory { key, holders } => {
+            page.item("key-in-memory ", *key);
+            page.holders(" ", holders.as_slice());
+        }
+        ToClient::LostData { key } => page.item("lost-data ", *key),
         ToClient::ClientTaskErred { key, blame } => {
-            let (key, blame) = (u64::from(*key), u64::from(*blame));
-            print_numbers(rt, "client-task-erred", &[key, blame])
+            page.numbers("client-task-erred", &[*key as u64, *blame as u64])
         }
     }
 }
 
 /// A message from a client to the scheduler.
-pub fn print_from_client<R: Print>(rt: &R, message: &FromClient) -> io::Result<()> {
+pub fn print_from_client(page: &mut Page, message: &FromClient) {
     match message {
-        FromClient::Want { keys } => print_named_keys(rt, "want", keys.as_slice()),
-        FromClient::Release { keys } => print_named_keys(rt, "release", keys.as_slice()),
+        FromClient::Want { keys } => page.keys("want", keys.as_slice()),
+        FromClient::Release { keys } => page.keys("release", keys.as_slice()),
         FromClient::Missing { key, holder, copy } => {
-            let (key, holder) = (u64::from(*key), u64::from(*holder));
-            print_numbers(rt, "missing", &[key, holder, *copy])
+            page.numbers("missing", &[*key as u64, *holder as u64, *copy])
         }
     }
 }
 
-/// A message between those who ask for blocks and those who hold them.
-pub fn print_peer<R: Print>(rt: &R, message: &Peer) -> io::Result<()> {
-    match message {
-        Peer::GetData { ask, keys } => print_asked(rt, "get-data", *ask, keys.as_slice()),
-        Peer::Data { ask, found } => print_asked(rt, "data", *ask, found.as_slice()),
-    }
+// A message between those who ask for blocks and those who hold them: its name, its number and its keys.
+fn print_peer(page: &mut Page, message: &Peer) {
+    let (name, ask, keys) = match message {
+        Peer::GetData { ask, keys } => ("get-data ", *ask, keys),
+        Peer::Data { ask, found } => ("data ", *ask, found),
+    };
+    page.item(name, ask);
+    page.keys("", keys.as_slice());
 }
 
 fn kind_of(message: &Message) -> &'static str {
@@ -189,21 +114,21 @@ fn kind_of(message: &Message) -> &'static str {
 
 fn role_name(role: Role) -> &'static str {
     match role {
-        Role::Scheduler => "scheduler",
-        Role::Worker => "worker",
-        Role::Client => "client",
+        Role::Scheduler => "scheduler ",
+        Role::Worker => "worker ",
+        Role::Client => "client ",
     }
 }
 
 /// Any message, behind the name of its kind.
-pub fn print_message<R: Print>(rt: &R, message: &Message) -> io::Result<()> {
-    rt.print(kind_of(message))?;
+pub fn print_message(page: &mut Page, message: &Message) {
+    page.put(kind_of(message));
     match message {
-        Message::Down(down) => print_down(rt, down),
-        Message::Up(up) => print_up(rt, up),
-        Message::ToClient(to_client) => print_to_client(rt, to_client),
-        Message::FromClient(from_client) => print_from_client(rt, from_client),
-        Message::Peer(peer) => print_peer(rt, peer),
-        Message::Hello { role, id } => print_numbers(rt, role_name(*role), &[u64::from(*id)]),
+        Message::Down(down) => print_down(page, down),
+        Message::Up(up) => print_up(page, up),
+        Message::ToClient(to_client) => print_to_client(page, to_client),
+        Message::FromClient(from_client) => print_from_client(page, from_client),
+        Message::Peer(peer) => print_peer(page, peer),
+        Message::Hello { role, id } => page.item(role_name(*role), *id),
     }
 }

@@ -2,57 +2,57 @@
 use crate::events::read_event;
 use crate::graph::read_graph;
 use crate::messages::read_taken;
-use crate::numbers::{RowError, Words};
-use crate::printed::print_error;
+use crate::page::Page;
+use crate::words::Words;
 use cluster_msgs::Report;
 use run_report::Tally;
 use std::alloc::Global;
-use std::io;
 
 // Counts the event of a line, and the message behind it, if there is one.
-fn count(alloc: Global, tally: &mut Tally, line: &str) -> Result<(), RowError> {
-    let (event, message) = line.split_once('|').unwrap_or((line, ""));
-    let event = read_event(&mut Words::of(alloc, event))?;
-    let message = read_taken(alloc, message)?;
-    tally.count(&event, message.as_ref())?;
-    Ok(())
+fn count(tally: &mut Tally, words: &mut Words<'_>) {
+    let event = read_event(words);
+    let message = read_taken(words);
+    words.note(tally.count(&event, message.as_ref()));
+    drop(message);
+    drop(event);
 }
 
-fn count_all(alloc: Global, tally: &mut Tally, events: &str) -> Result<(), RowError> {
+// Counts the events of lines. The first that is none is told of.
+fn count_all(page: &mut Page, alloc: Global, tally: &mut Tally, events: &str) {
     for line in events.lines() {
-        count(alloc, tally, line)?;
+        let mut words = Words::of(alloc, line);
+        count(tally, &mut words);
+        if let Some(fault) = words.fault() {
+            page.fault(fault);
+        }
     }
-    Ok(())
-}
-
-fn report_of(alloc: Global, setting: &mut Words<'_>, events: &str) -> Result<Report, RowError> {
-    let mut tally = Tally::new(alloc);
-    count_all(alloc, &mut tally, events)?;
-    let shape = read_graph(alloc, setting)?;
-    Ok(tally.report(alloc, &shape)?)
 }
 
 /// A report.
-pub fn print_report<R: Print>(rt: &R, report: &Report) -> io::Result<()> {
-    let (keys, edges, started) = (report.keys, report.edges, report.started);
-    println!(rt; "keys {keys} edges {edges}\nstarted {started}")?;
+pub fn print_report(page: &mut Page, report: &Report) {
+    page.item("keys ", report.keys);
+    page.item(" edges ", report.edges);
+    page.item("\nstarted ", report.started);
     for (worker, started) in report.workers.as_slice() {
-        println!(rt; "worker {worker} started {started}")?;
+        page.item("\nworker ", *worker);
+        page.item(" started ", *started);
     }
-    let (gathers, losses) = (report.gathers, report.losses);
-    let (yes, no) = (report.confirmed, report.refused);
-    println!(rt; "gathers {gathers}\nsteals confirmed {yes} refused {no}\nlosses {losses}")
+    page.item("\ngathers ", report.gathers);
+    page.item("\nsteals confirmed ", report.confirmed);
+    page.item(" refused ", report.refused);
+    page.item("\nlosses ", report.losses);
+    page.put("\n");
 }
 
 /// Plays a story of a report.
-pub fn play<R: Print>(
-    rt: &R,
-    alloc: Global,
-    setting: &mut Words<'_>,
-    events: &str,
-) -> io::Result<()> {
-    match report_of(alloc, setting, events) {
-        Ok(report) => print_report(rt, &report),
-        Err(e) => print_error(rt, e),
+pub fn play(page: &mut Page, words: &mut Words<'_>, events: &str) {
+    let mut tally = Tally::new(words.alloc());
+    count_all(page, words.alloc(), &mut tally, events);
+    match read_graph(words) {
+        Ok(shape) => match tally.report(words.alloc(), &shape) {
+            Ok(report) => print_report(page, &report),
+            Err(_) => page.fail(),
+        },
+        Err(fault) => page.fault(fault),
     }
 }

@@ -4,11 +4,10 @@
 ghost use Rattle.std.specs.Prelude.{◌≡◌};
 ghost use Rattle.fact_rows.specs.Rows.{width};
 
-use crate::numbers::{RowError, Words};
-use crate::printed::print_error;
+use crate::page::Page;
+use crate::words::Words;
 use fact_rows::{Grid, Row};
-use std::alloc::Global;
-use std::io;
+use std::alloc::{AllocError, Global};
 
 // So many rows are printed, and so many members of each.
 const SHOWN: u32 = 4;
@@ -23,30 +22,31 @@ struct Sheet {
 
 impl Sheet {
     // One more row, a copy of one without members.
-    fn push(&mut self, alloc: Global) -> Result<(), RowError> {
+    fn push(&mut self, alloc: Global) -> Result<(), AllocError> {
         let row = Row::filled(alloc, self.wide as usize, None)?;
-        self.grid.push(row.copy(alloc)?)?;
-        Ok(())
+        self.grid.push(row.copy(alloc)?)
     }
 
-    fn set(&mut self, row: u32, key: u32, number: u64) -> Result<(), RowError> {
-        if row as usize >= self.grid.rows() || key >= self.wide {
-            return Err(RowError::Ill);
+    fn set(&mut self, words: &mut Words<'_>) {
+        let (row, key, number) = (words.small(), words.small(), words.number());
+        if (row as usize) < self.grid.rows() && key < self.wide {
+            self.grid.set(row, key, Some(number));
+        } else {
+            words.mark_ill();
         }
-        self.grid.set(row, key, Some(number));
-        Ok(())
     }
 
-    fn clear(&mut self, row: u32) -> Result<(), RowError> {
-        if row as usize >= self.grid.rows() {
-            return Err(RowError::Ill);
+    fn clear(&mut self, words: &mut Words<'_>) {
+        let row = words.small();
+        if (row as usize) < self.grid.rows() {
+            self.grid.fill_row(row, None);
+        } else {
+            words.mark_ill();
         }
-        self.grid.fill_row(row, None);
-        Ok(())
     }
 
     // Only the members of one key stay.
-    fn keep(&mut self, alloc: Global, key: u32) -> Result<(), RowError> {
+    fn keep(&mut self, alloc: Global, key: u32) -> Result<(), AllocError> {
         let mut mask = Row::filled(alloc, self.wide as usize, false)?;
         if (key as usize) < mask.len() {
             mask.set(key, true);
@@ -56,60 +56,62 @@ impl Sheet {
     }
 
     // Carries out `push`, `set ROW KEY NUMBER`, `clear ROW` or `keep KEY`.
-    fn change(&mut self, alloc: Global, words: &mut Words<'_>) -> Result<(), RowError> {
+    fn change(&mut self, words: &mut Words<'_>) {
+        let alloc = words.alloc();
         match words.word() {
-            "push" => self.push(alloc),
-            "set" => self.set(words.small()?, words.small()?, words.number()?),
-            "clear" => self.clear(words.small()?),
-            "keep" => self.keep(alloc, words.small()?),
-            _ => Err(RowError::Ill),
+            "push" => words.note(self.push(alloc)),
+            "set" => self.set(words),
+            "clear" => self.clear(words),
+            "keep" => {
+                let key = words.small();
+                words.note(self.keep(alloc, key));
+            }
+            _ => words.mark_ill(),
         }
     }
 }
 
-fn print_row<R: Print>(rt: &R, grid: &Grid<Option<u64>>, row: u32) -> io::Result<()> {
+fn print_row(page: &mut Page, grid: &Grid<Option<u64>>, row: u32) {
     for key in 0..SHOWN {
         match grid.read(row, key) {
-            Some(number) => print!(rt; " {number}")?,
-            None => print!(rt; " -")?,
+            Some(number) => page.item(" ", number),
+            None => page.put(" -"),
         }
     }
-    Ok(())
+    page.put(";");
 }
 
 // Each row, also with the places behind its end.
-fn print_grid<R: Print>(rt: &R, grid: &Grid<Option<u64>>) -> io::Result<()> {
-    print!(rt; "  {} rows:", grid.rows())?;
+fn print_grid(page: &mut Page, grid: &Grid<Option<u64>>) {
+    page.item("  ", grid.rows());
+    page.put(" rows:");
     for row in 0..SHOWN {
-        print_row(rt, grid, row)?;
-        print!(rt; ";")?;
+        print_row(page, grid, row);
     }
-    println!(rt; "")
+    page.put("\n");
 }
 
-fn play_lines<R: Print>(rt: &R, alloc: Global, sheet: &mut Sheet, events: &str) -> io::Result<()> {
-    for line in events.lines() {
-        println!(rt; "{line}")?;
-        match sheet.change(alloc, &mut Words::of(alloc, line)) {
-            Ok(()) => print_grid(rt, &sheet.grid)?,
-            Err(e) => print_error(rt, e)?,
-        }
+fn play_line(page: &mut Page, sheet: &mut Sheet, words: &mut Words<'_>) {
+    sheet.change(words);
+    match words.fault() {
+        Some(fault) => page.fault(fault),
+        None => print_grid(page, &sheet.grid),
     }
-    Ok(())
+}
+
+fn play_lines(page: &mut Page, alloc: Global, sheet: &mut Sheet, events: &str) {
+    for line in events.lines() {
+        page.line(line);
+        play_line(page, sheet, &mut Words::of(alloc, line));
+    }
 }
 
 /// Plays a story of a grid.
-pub fn play<R: Print>(
-    rt: &R,
-    alloc: Global,
-    setting: &mut Words<'_>,
-    events: &str,
-) -> io::Result<()> {
-    match setting.small() {
-        Ok(wide) => {
-            let grid = Grid::empty(alloc, wide);
-            play_lines(rt, alloc, &mut Sheet { wide, grid }, events)
-        }
-        Err(e) => print_error(rt, e),
+pub fn play(page: &mut Page, words: &mut Words<'_>, events: &str) {
+    let wide = words.small();
+    let grid = Grid::empty(words.alloc(), wide);
+    match words.fault() {
+        Some(fault) => page.fault(fault),
+        None => play_lines(page, words.alloc(), &mut Sheet { wide, grid }, events),
     }
 }

@@ -6,109 +6,121 @@
 use crate::facts::{print_facts, print_known, print_phases};
 use crate::graph::read_graph;
 use crate::messages::{read_from_client, read_up};
-use crate::numbers::{RowError, Words};
+use crate::page::Page;
 use crate::policy::print_choices;
-use crate::printed::{print_down, print_error, print_to_client};
-use cluster_msgs::{Outbox, SchedEvent};
+use crate::printed::{print_down, print_to_client};
+use crate::words::{Fault, Words};
+use cluster_msgs::{Down, Outbox, SchedEvent, ToClient};
 use scheduler_core::Sched;
 use std::alloc::Global;
-use std::io;
 
-fn read_event(words: &mut Words<'_>) -> Result<SchedEvent, RowError> {
+fn read_event(words: &mut Words<'_>) -> SchedEvent {
     match words.word() {
-        "join" => Ok(SchedEvent::Join {
-            threads: words.small()?,
-        }),
-        "leave" => Ok(SchedEvent::Leave { w: words.small()? }),
-        "worker" => Ok(SchedEvent::FromWorker {
-            w: words.small()?,
-            up: read_up(words)?,
-        }),
-        "client" => Ok(SchedEvent::FromClient {
-            c: words.small()?,
-            msg: read_from_client(words)?,
-        }),
-        "balance" => Ok(SchedEvent::Balance),
-        "evict" => Ok(SchedEvent::Evict),
-        _ => Err(RowError::Ill),
+        "join" => SchedEvent::Join {
+            threads: words.small(),
+        },
+        "leave" => SchedEvent::Leave { w: words.small() },
+        "worker" => SchedEvent::FromWorker {
+            w: words.small(),
+            up: read_up(words),
+        },
+        "client" => SchedEvent::FromClient {
+            c: words.small(),
+            msg: read_from_client(words),
+        },
+        "balance" => SchedEvent::Balance,
+        "evict" => SchedEvent::Evict,
+        _ => {
+            words.mark_ill();
+            SchedEvent::Evict
+        }
+    }
+}
+
+fn print_to_workers(page: &mut Page, messages: &[(u32, Down)]) {
+    for (worker, message) in messages {
+        page.item("  to worker ", *worker);
+        page.put(": ");
+        print_down(page, message);
+        page.put("\n");
+    }
+}
+
+fn print_to_clients(page: &mut Page, messages: &[(u32, ToClient)]) {
+    for (client, message) in messages {
+        page.item("  to client ", *client);
+        page.put(": ");
+        print_to_client(page, message);
+        page.put("\n");
     }
 }
 
 // What is to be sent, in its order.
-fn print_outbox<R: Print>(rt: &R, out: &Outbox) -> io::Result<()> {
+fn print_outbox(page: &mut Page, out: &Outbox) {
     for number in out.joined.as_slice() {
-        println!(rt; "  joined {number}")?;
+        page.item("  joined ", *number);
+        page.put("\n");
     }
-    for (worker, message) in out.down.as_slice() {
-        print!(rt; "  to worker {worker}: ")?;
-        print_down(rt, message)?;
-        println!(rt; "")?;
-    }
-    for (client, message) in out.clients.as_slice() {
-        print!(rt; "  to client {client}: ")?;
-        print_to_client(rt, message)?;
-        println!(rt; "")?;
-    }
-    Ok(())
+    print_to_workers(page, out.down.as_slice());
+    print_to_clients(page, out.clients.as_slice());
 }
 
 // Takes an event, and prints whether it would be taken, its end, and what is to be sent.
-fn take<R: Print>(rt: &R, alloc: Global, core: &mut Sched, event: SchedEvent) -> io::Result<()> {
-    let possible = core.takes(&event);
+fn take(page: &mut Page, alloc: Global, core: &mut Sched, event: SchedEvent) {
+    page.item("  takes ", core.takes(&event));
     let mut out = Outbox::new(alloc);
     match core.on(event, &mut out) {
-        Ok(()) => println!(rt; "  takes {possible}: taken")?,
-        Err(stop) => println!(rt; "  takes {possible}: {stop}")?,
+        Ok(()) => page.put(": taken\n"),
+        Err(stop) => {
+            page.item(": ", stop);
+            page.put("\n");
+        }
     }
-    print_outbox(rt, &out)?;
-    print_phases(rt, core)
+    print_outbox(page, &out);
+    print_phases(page, core);
 }
 
-fn play_line<R: Print>(rt: &R, alloc: Global, core: &mut Sched, line: &str) -> io::Result<()> {
-    println!(rt; "{line}")?;
-    if line == "facts" {
-        core.settled();
-        print_known(rt, core)?;
-        print_facts(rt, core)?;
-        return print_choices(rt, core, core.shape());
-    }
-    match read_event(&mut Words::of(alloc, line)) {
-        Ok(event) => take(rt, alloc, core, event),
-        Err(e) => print_error(rt, e),
+fn play_line(page: &mut Page, core: &mut Sched, words: &mut Words<'_>) {
+    let event = read_event(words);
+    match words.fault() {
+        Some(fault) => page.fault(fault),
+        None => take(page, words.alloc(), core, event),
     }
 }
 
-fn play_lines<R: Print>(rt: &R, alloc: Global, core: &mut Sched, events: &str) -> io::Result<()> {
+fn print_all(page: &mut Page, core: &Sched) {
+    core.settled();
+    print_known(page, core);
+    print_facts(page, core);
+    print_choices(page, core, core.shape());
+}
+
+fn play_lines(page: &mut Page, alloc: Global, core: &mut Sched, events: &str) {
     for line in events.lines() {
-        play_line(rt, alloc, core, line)?;
+        page.line(line);
+        if line == "facts" {
+            print_all(page, core);
+        } else {
+            play_line(page, core, &mut Words::of(alloc, line));
+        }
     }
-    Ok(())
-}
-
-// The scheduler of a story's first line.
-fn begin(alloc: Global, setting: &mut Words<'_>) -> Result<Box<Sched>, RowError> {
-    let clients = setting.small()?;
-    let saturation = setting.small()?;
-    if clients > 16 || saturation < 1 || saturation > 1000 {
-        return Err(RowError::Ill);
-    }
-    let shape = read_graph(alloc, setting)?;
-    let core = Sched::new(alloc, shape, clients, saturation)?;
-    Ok(Box::new(alloc, core)?)
 }
 
 /// Plays a story of the scheduler.
-pub fn play<R: Print>(
-    rt: &R,
-    alloc: Global,
-    setting: &mut Words<'_>,
-    events: &str,
-) -> io::Result<()> {
-    match begin(alloc, setting) {
-        Ok(core) => {
-            let mut core = core;
-            play_lines(rt, alloc, &mut core, events)
-        }
-        Err(e) => print_error(rt, e),
+pub fn play(page: &mut Page, words: &mut Words<'_>, events: &str) {
+    let clients = words.small();
+    let saturation = words.small();
+    if clients > 16 || saturation < 1 || saturation > 1000 {
+        return page.fault(Fault::Ill);
+    }
+    match read_graph(words) {
+        Ok(shape) => match Sched::new(words.alloc(), shape, clients, saturation) {
+            Ok(mut core) => {
+                play_lines(page, words.alloc(), &mut core, events);
+                drop(core);
+            }
+            Err(_) => page.fail(),
+        },
+        Err(fault) => page.fault(fault),
     }
 }

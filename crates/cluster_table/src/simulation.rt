@@ -8,17 +8,16 @@ ghost use Rattle.cluster_sim.specs.Plans.{plan_of, IsPlan};
 
 pub mod setup;
 
-use crate::numbers::Words;
-use crate::printed::print_error;
+use crate::page::Page;
 use crate::report::print_report;
-use crate::world::print_key;
+use crate::words::Words;
 use crate::world::quotients::Quotients;
+use crate::world::{print_faults, print_key};
 use cluster_msgs::JobSpec;
 use cluster_sim::{SimEnd, SimError, simulate};
 use cluster_world::World;
 use setup::{Setup, read_setup};
 use std::alloc::{AllocError, Global};
-use std::io;
 
 // A world with one client, in which nothing has happened.
 fn opened<J: JobSpec>(alloc: Global, job: J, feed: J::Feed) -> Result<World<J>, AllocError>
@@ -38,41 +37,33 @@ fn cause_of(error: SimError) -> &'static str {
     }
 }
 
-fn print_end<R: Print>(rt: &R, end: &Result<SimEnd, SimError>) -> io::Result<()> {
+fn print_told(page: &mut Page, end: &SimEnd) {
+    page.item("turns ", end.turns);
+    if let Some(blame) = end.zero {
+        page.item(" blame ", blame);
+    }
+    page.put("\n");
+    print_report(page, &end.report);
+}
+
+fn print_end(page: &mut Page, end: &Result<SimEnd, SimError>) {
     match end {
-        Ok(end) => {
-            print!(rt; "turns {}", end.turns)?;
-            if let Some(blame) = end.zero {
-                print!(rt; " blame {blame}")?;
-            }
-            println!(rt; "")?;
-            print_report(rt, &end.report)
-        }
-        Err(error) => println!(rt; "{}", cause_of(*error)),
+        Ok(end) => print_told(page, end),
+        Err(error) => page.line(cause_of(*error)),
     }
 }
 
 // What client 1 has of the wanted keys.
-fn print_wanted<R: Print>(rt: &R, world: &World<Quotients>, wanted: &[u32]) -> io::Result<()> {
-    print!(rt; "wanted:")?;
+fn print_wanted(page: &mut Page, world: &World<Quotients>, wanted: &[u32]) {
+    page.put("wanted:");
     for key in wanted {
-        print_key(rt, world, 1, *key)?;
+        print_key(page, world, 1, *key);
     }
-    println!(rt; "")
-}
-
-fn print_all<R: Print>(
-    rt: &R,
-    world: &World<Quotients>,
-    end: &Result<SimEnd, SimError>,
-    wanted: &[u32],
-) -> io::Result<()> {
-    print_end(rt, end)?;
-    print_wanted(rt, world, wanted)
+    page.put("\n");
 }
 
 // Simulates, and gives the feed back.
-fn run<R: Print>(rt: &R, alloc: Global, setup: Setup) -> io::Result<()>
+fn run(page: &mut Page, alloc: Global, setup: Setup)
     requires plan { IsPlan (plan_of setup.plan) }
     requires wanted { AreWanted (key_count setup.job.shape) setup.wanted }
     requires feed { setup.feed.value ≡ setup.job.content }
@@ -86,20 +77,18 @@ fn run<R: Print>(rt: &R, alloc: Global, setup: Setup) -> io::Result<()>
     } = setup;
     match opened(alloc, job, feed) {
         Ok(mut world) => {
-            let end = simulate(alloc, &mut world, number, &plan, &wanted);
-            let told = print_all(rt, &world, &end, wanted.as_slice());
-            let feed = world.into_feed();
-            told?;
-            println!(rt; "faults {}", feed.faults)
+            print_end(page, &simulate(alloc, &mut world, number, &plan, &wanted));
+            print_wanted(page, &world, wanted.as_slice());
+            print_faults(page, world);
         }
-        Err(_) => println!(rt; "out of memory"),
+        Err(_) => page.fail(),
     }
 }
 
 /// Plays a story of a simulation.
-pub fn play<R: Print>(rt: &R, alloc: Global, setting: &mut Words<'_>) -> io::Result<()> {
-    match read_setup(alloc, setting) {
-        Ok(setup) => run(rt, alloc, setup),
-        Err(e) => print_error(rt, e),
+pub fn play(page: &mut Page, words: &mut Words<'_>) {
+    match read_setup(words) {
+        Ok(setup) => run(page, words.alloc(), setup),
+        Err(fault) => page.fault(fault),
     }
 }

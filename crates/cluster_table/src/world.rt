@@ -1,20 +1,20 @@
 //! Stories of a world: its clients, its saturation, what its feed has and whether it fails, and its graph, and then an event
 //! a line. `go` takes the first event that makes progress, so many times.
-ghost use Rattle.std.specs.Prelude.{◌≡◌, IfOk};
+ghost use Rattle.std.specs.Prelude.{◌≡◌, ◌≤◌, IfOk};
 
 pub mod quotients;
 
 use crate::client::print_end;
 use crate::events::{print_event, read_event};
 use crate::graph::read_graph;
-use crate::numbers::{RowError, Words};
-use crate::printed::{print_error, print_message};
+use crate::page::Page;
+use crate::printed::print_message;
+use crate::words::{Fault, Words};
 use cluster_msgs::Event;
 use cluster_world::{StepError, World};
 use quiet_bound::rest;
 use quotients::{Number, Quotients};
 use std::alloc::Global;
-use std::io;
 
 /// So many of the events that make progress are printed.
 const SHOWN: u64 = 40;
@@ -22,123 +22,114 @@ const SHOWN: u64 = 40;
 /// How a step of a world ended.
 fn end_of(end: Result<(), StepError>) -> &'static str {
     match end {
-        Ok(()) => "taken",
-        Err(StepError::NotEnabled) => "not enabled",
-        Err(StepError::Stopped) => "stopped",
-        Err(StepError::Feed) => "the feed failed",
-        Err(StepError::Spent) => "spent",
-        Err(StepError::OutOfMemory) => "out of memory",
+        Ok(()) => ": taken\n",
+        Err(StepError::NotEnabled) => ": not enabled\n",
+        Err(StepError::Stopped) => ": stopped\n",
+        Err(StepError::Feed) => ": the feed failed\n",
+        Err(StepError::Spent) => ": spent\n",
+        Err(StepError::OutOfMemory) => ": out of memory\n",
     }
 }
 
-// The message that the event takes from a link, where it takes one.
-fn print_taken<R: Print>(rt: &R, world: &World<Quotients>, event: &Event) -> io::Result<()> {
-    match world.message(event) {
-        Some(message) => {
-            print!(rt; " takes ")?;
-            print_message(rt, message)
-        }
-        None => Ok(()),
+// Takes an event, prints the message that it takes from a link and its end, and says whether it was taken.
+fn step(page: &mut Page, world: &mut World<Quotients>, event: &Event) -> bool {
+    if let Some(message) = world.message(event) {
+        page.put(" takes ");
+        print_message(page, message);
     }
-}
-
-// Takes an event, prints its message and its end, and says whether it was taken.
-fn step<R: Print>(rt: &R, world: &mut World<Quotients>, event: &Event) -> io::Result<bool> {
-    print_taken(rt, world, event)?;
     let end = world.step(event);
-    println!(rt; ": {}", end_of(end))?;
-    Ok(end.is_ok())
+    page.put(end_of(end));
+    end.is_ok()
+}
+
+// Takes the first event that makes progress, if there is one, and says whether it was taken.
+fn go_on(page: &mut Page, world: &mut World<Quotients>) -> bool {
+    match world.progress(0) {
+        Some(event) => {
+            print_event(page, &event);
+            let is_taken = step(page, world, &event);
+            drop(event);
+            is_taken
+        }
+        None => false,
+    }
 }
 
 // Takes the first events that make progress, as many and as long as there are.
-fn go<R: Print>(rt: &R, world: &mut World<Quotients>, turns: u32) -> io::Result<()> {
-    println!(rt; "")?;
+fn go(page: &mut Page, world: &mut World<Quotients>, turns: u32) {
+    page.put("\n");
     for _ in 0..turns {
-        match world.progress(0) {
-            Some(event) => {
-                print_event(rt, &event)?;
-                if !step(rt, world, &event)? {
-                    break;
-                }
-            }
-            None => break,
+        if !go_on(page, world) {
+            break;
         }
     }
-    Ok(())
 }
 
 // Takes the event of a line.
-fn take<R: Print>(
-    rt: &R,
-    alloc: Global,
-    world: &mut World<Quotients>,
-    line: &str,
-) -> io::Result<()> {
-    print!(rt; "{line}")?;
-    if let Some(turns) = line.strip_prefix("go ") {
-        return go(rt, world, turns.parse::<u32>().unwrap_or(0));
-    }
-    match read_event(&mut Words::of(alloc, line)) {
-        Ok(event) => {
-            let _taken = step(rt, world, &event)?;
-            Ok(())
+fn take(page: &mut Page, world: &mut World<Quotients>, words: &mut Words<'_>) {
+    let event = read_event(words);
+    match words.fault() {
+        Some(fault) => page.fault(fault),
+        None => {
+            let _taken = step(page, world, &event);
         }
-        Err(e) => print_error(rt, e),
+    }
+    drop(event);
+}
+
+fn play_line(page: &mut Page, alloc: Global, world: &mut World<Quotients>, line: &str) {
+    page.put(line);
+    match line.strip_prefix("go ") {
+        Some(turns) => go(page, world, turns.parse::<u32>().unwrap_or(0)),
+        None => take(page, world, &mut Words::of(alloc, line)),
+    }
+}
+
+/// How a key ended for a client, and its block, if the client has got it.
+pub fn print_key(page: &mut Page, world: &World<Quotients>, client: u32, key: u32) {
+    print_end(page, world.done(client, key));
+    if let Some(block) = world.got(client, key) {
+        page.item(":", *block);
     }
 }
 
 // How each key ended for a client, and the block that it has got.
-fn print_client<R: Print>(rt: &R, world: &World<Quotients>, client: u32) -> io::Result<()> {
-    print!(rt; "  client {client}:")?;
+fn print_client(page: &mut Page, world: &World<Quotients>, client: u32) {
+    page.item("  client ", client);
+    page.put(":");
     for key in 0..world.shape().keys() {
-        print_key(rt, world, client, key)?;
+        print_key(page, world, client, key);
     }
-    println!(rt; "")
-}
-
-/// How a key ended for a client, and its block, if the client has got it.
-pub fn print_key<R: Print>(
-    rt: &R,
-    world: &World<Quotients>,
-    client: u32,
-    key: u32,
-) -> io::Result<()> {
-    print_end(rt, world.done(client, key))?;
-    if let Some(block) = world.got(client, key) {
-        print!(rt; ":{block}")?;
-    }
-    Ok(())
+    page.put("\n");
 }
 
 // The events that make progress, in their order.
-fn print_progress<R: Print>(rt: &R, world: &World<Quotients>) -> io::Result<()> {
-    print!(rt; "  progress {}", world.progress_count())?;
+fn print_progress(page: &mut Page, world: &World<Quotients>) {
+    page.item("  progress ", world.progress_count());
     for n in 0..SHOWN {
         match world.progress(n) {
             Some(event) => {
-                print!(rt; "; ")?;
-                print_event(rt, &event)?;
+                page.put("; ");
+                print_event(page, &event);
+                drop(event);
             }
             None => break,
         }
     }
-    println!(rt; "")
+    page.put("\n");
 }
 
 // What the world counts, what could happen, and what each client has.
-fn print_world<R: Print>(rt: &R, world: &World<Quotients>) -> io::Result<()> {
-    println!(rt;
-        "  under way {}; workers {}; finishes {}; bound {}",
-        world.under_way(),
-        world.workers(),
-        world.finishes(),
-        rest(world)
-    )?;
-    print_progress(rt, world)?;
+fn print_world(page: &mut Page, world: &World<Quotients>) {
+    page.item("  under way ", world.under_way());
+    page.item("; workers ", world.workers());
+    page.item("; finishes ", world.finishes());
+    page.item("; bound ", rest(world));
+    page.put("\n");
+    print_progress(page, world);
     for before in 0..world.clients() {
-        print_client(rt, world, before.saturating_add(1))?;
+        print_client(page, world, before.saturating_add(1));
     }
-    Ok(())
 }
 
 /// What a world begins with.
@@ -149,59 +140,69 @@ pub struct Opening {
 }
 
 /// What the words say: what the feed has, whether it fails, and the graph.
-pub fn read_opening(alloc: Global, words: &mut Words<'_>) -> Result<Opening, RowError>
+pub fn read_opening(words: &mut Words<'_>) -> Result<Opening, Fault>
     ensures { IfOk result (λ o. o.feed.value ≡ o.job.content) }
 {
-    let content = words.number()?;
-    let fails = words.truth()?;
-    let shape = read_graph(alloc, words)?;
-    Ok(Opening {
-        job: Quotients { shape, content },
-        feed: Number {
-            value: content,
-            faults: 0,
-            fails,
-        },
-    })
-}
-
-fn begin(alloc: Global, words: &mut Words<'_>) -> Result<World<Quotients>, RowError> {
-    let clients = words.small()?;
-    let saturation = words.small()?;
-    let Opening { job, feed } = read_opening(alloc, words)?;
-    if clients > 16 || saturation < 1 || saturation > 1000 {
-        return Err(RowError::Ill);
+    let content = words.number();
+    let fails = words.truth();
+    match read_graph(words) {
+        Ok(shape) => Ok(Opening {
+            job: Quotients { shape, content },
+            feed: Number {
+                value: content,
+                faults: 0,
+                fails,
+            },
+        }),
+        Err(fault) => Err(fault),
     }
-    Ok(World::new(alloc, job, feed, clients, saturation)?)
 }
 
-fn play_events<R: Print>(
-    rt: &R,
-    alloc: Global,
-    world: &mut World<Quotients>,
-    events: &str,
-) -> io::Result<()> {
+fn play_lines(page: &mut Page, alloc: Global, world: &mut World<Quotients>, events: &str) {
     for line in events.lines() {
-        take(rt, alloc, world, line)?;
-        print_world(rt, world)?;
+        play_line(page, alloc, world, line);
+        print_world(page, world);
     }
-    Ok(())
 }
 
-/// Plays a story of a world, and gives its feed back.
-pub fn play<R: Print>(
-    rt: &R,
+/// Prints how often the feed of a world failed.
+pub fn print_faults(page: &mut Page, world: World<Quotients>) {
+    page.item("faults ", world.into_feed().faults);
+    page.put("\n");
+}
+
+// Plays the events of a world, and gives its feed back.
+fn play_opened(
+    page: &mut Page,
     alloc: Global,
-    setting: &mut Words<'_>,
+    opening: Opening,
+    clients: u32,
+    saturation: u32,
     events: &str,
-) -> io::Result<()> {
-    match begin(alloc, setting) {
+)
+    requires clients { clients ≤ 16 }
+    requires saturation { (1 ≤ saturation) × (saturation ≤ 1000) }
+    requires feed { opening.feed.value ≡ opening.job.content }
+{
+    let Opening { job, feed } = opening;
+    match World::new(alloc, job, feed, clients, saturation) {
         Ok(mut world) => {
-            let end = play_events(rt, alloc, &mut world, events);
-            let feed = world.into_feed();
-            end?;
-            println!(rt; "faults {}", feed.faults)
+            play_lines(page, alloc, &mut world, events);
+            print_faults(page, world);
         }
-        Err(e) => print_error(rt, e),
+        Err(_) => page.fail(),
+    }
+}
+
+/// Plays a story of a world.
+pub fn play(page: &mut Page, words: &mut Words<'_>, events: &str) {
+    let clients = words.small();
+    let saturation = words.small();
+    if clients > 16 || saturation < 1 || saturation > 1000 {
+        return page.fault(Fault::Ill);
+    }
+    match read_opening(words) {
+        Ok(opening) => play_opened(page, words.alloc(), opening, clients, saturation, events),
+        Err(fault) => page.fault(fault),
     }
 }

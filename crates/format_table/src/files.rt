@@ -1,20 +1,20 @@
 // NumPy's files: heads, regions, and the runs of bytes that hold a region.
-ghost use Rattle.std.specs.Prelude.{◌≡◌, ◌<◌, ◌≤◌, ◌^◌, length, IfOk};
+ghost use Rattle.std.specs.Prelude.{◌≡◌, ◌<◌, ◌≤◌, ◌^◌, length};
 
+use crate::answer::Answer;
 use crate::headers::order_name;
-use crate::text::{count, next_word, number, numbers, print_numbers, unescaped};
+use crate::text::{count, next_word, number, numbers, unescaped};
 use io_edge::{Counted, Kind, MemorySite, Refusal, Site, Store};
 use nd_shape::{Block, Region, Shape};
 use npy_codec::{Head, read_head};
-use npy_region::{read_region, region_runs};
+use npy_region::{Run, read_region, region_runs};
 use std::alloc::{AllocError, Global};
-use std::io;
 
 // The call that is to fail: `length` or `read`, and its number.
-fn refusals_of(alloc: Global, fault: &str) -> Result<Vec<Refusal>, AllocError> {
-    let mut refusals = Vec::new(alloc);
+fn refusals_of(out: &mut Answer, fault: &str) -> Vec<Refusal> {
+    let mut refusals = Vec::new(out.alloc());
     if let Some((kind, call)) = fault.split_once(':') {
-        refusals.push(Refusal {
+        let refusal = Refusal {
             kind: if kind == "read" {
                 Kind::Read
             } else {
@@ -22,105 +22,106 @@ fn refusals_of(alloc: Global, fault: &str) -> Result<Vec<Refusal>, AllocError> {
             },
             counted: Counted::OverAll,
             call: number(call),
-        })?;
+        };
+        if refusals.push(refusal).is_err() {
+            out.fail();
+        }
     }
-    Ok(refusals)
+    refusals
 }
 
-// A site whose calls move at most so many bytes.
-fn site_of(alloc: Global, most: &str, fault: &str) -> Result<MemorySite, AllocError> {
-    let mut site = MemorySite::new(alloc, 0, refusals_of(alloc, fault)?)?;
-    site.set_most(count(most).max(1));
-    Ok(site)
-}
-
-// A file, and what is left of it.
-fn names(alloc: Global) -> Result<Vec<String>, AllocError>
-    ensures { IfOk result (λ v. length v.items ≡ 2) }
-{
+fn names(alloc: Global) -> Result<[String; 2], AllocError> {
     let whole = String::from_str(alloc, "whole.npy")?;
     let part = String::from_str(alloc, "part.npy")?;
-    let names = vec![in alloc; whole, part]?;
-    Ok(names)
+    Ok([whole, part])
 }
 
-fn print_head<R: Print>(rt: &R, head: &Head) -> io::Result<()> {
-    print!(rt; "{} (", order_name(head.fortran))?;
-    print_numbers(rt, head.shape.dims())?;
-    print!(rt; ") at {}", head.data_at)
+fn put_head(out: &mut Answer, head: &Head) {
+    out.put(order_name(head.fortran));
+    out.put(" (");
+    out.put_numbers(head.shape.dims());
+    out.put_item(") at ", &head.data_at);
 }
 
-fn print_block<R: Print>(rt: &R, block: &Block) -> io::Result<()> {
-    print!(rt; "; (")?;
-    print_numbers(rt, block.shape().dims())?;
-    print!(rt; ")")?;
-    for cell in block.cells() {
-        print!(rt; " {cell}")?;
-    }
-    Ok(())
+fn put_block(out: &mut Answer, block: &Block) {
+    out.put("; (");
+    out.put_numbers(block.shape().dims());
+    out.put(")");
+    out.put_each(" ", block.cells());
 }
 
-// Prints a region of the second file by the head of the first.
-fn print_region<R: Print, S: Store>(
-    rt: &R,
-    alloc: Global,
-    store: &mut S,
-    head: &Head,
-    region: &Region,
-) -> io::Result<()>
+// Puts a region of the second file by the head of the first.
+fn put_region<S: Store>(out: &mut Answer, store: &mut S, head: &Head, region: &Region)
     requires there { 1 < length (S.files store.old) }
     requires near { head.now.data_at ≤ 2 ^ 21 }
 {
     if !region.is_part(head.shape.dims()) {
-        return print!(rt; "; no part");
+        return out.put("; no part");
     }
-    match read_region(alloc, store, 1, head, region) {
-        Ok(block) => print_block(rt, &block),
-        Err(e) => print!(rt; "; {e}"),
+    match read_region(out.alloc(), store, 1, head, region) {
+        Ok(block) => put_block(out, &block),
+        Err(e) => out.put_item("; ", &e),
     }
 }
 
-fn print_files<R: Print, S: Store>(
-    rt: &R,
-    alloc: Global,
-    store: &mut S,
-    region: Option<&Region>,
-) -> io::Result<()>
+fn put_files<S: Store>(out: &mut Answer, store: &mut S, region: Option<&Region>)
     requires { 1 < length (S.files store.old) }
 {
-    match read_head(alloc, store, 0) {
+    match read_head(out.alloc(), store, 0) {
         Ok(head) => {
-            print_head(rt, &head)?;
+            put_head(out, &head);
             if let Some(region) = region {
-                print_region(rt, alloc, store, &head, region)?;
+                put_region(out, store, &head, region);
             }
         }
-        Err(e) => print!(rt; "{e}")?,
+        Err(e) => out.put_item("", &e),
     }
-    println!(rt; "")
 }
 
-fn print_site<R: Print>(
-    rt: &R,
-    alloc: Global,
-    site: &mut MemorySite,
+fn put_named(out: &mut Answer, site: &mut MemorySite, names: &[String], region: Option<&Region>)
+    requires { length names.now ≡ 2 }
+{
+    match site.store(out.alloc(), names) {
+        Ok(mut store) => put_files(out, &mut store, region),
+        Err(e) => out.put_item("", &e),
+    }
+}
+
+fn put_opened(out: &mut Answer, site: &mut MemorySite, region: Option<&Region>) {
+    match names(out.alloc()) {
+        Ok(names) => put_named(out, site, &names, region),
+        Err(_) => out.fail(),
+    }
+}
+
+// Puts what the files say of which the second is a part of the first. Calls move at most so many bytes.
+fn put_site(
+    out: &mut Answer,
+    most: &str,
+    fault: &str,
+    whole: &[u8],
+    part: &[u8],
     region: Option<&Region>,
-) -> io::Result<()> {
-    let names = names(alloc)?;
-    match site.store(alloc, &names) {
-        Ok(mut store) => print_files(rt, alloc, &mut store, region),
-        Err(e) => println!(rt; "{e}"),
+) {
+    let alloc = out.alloc();
+    let refusals = refusals_of(out, fault);
+    match MemorySite::new(alloc, 0, refusals) {
+        Ok(mut site) => {
+            site.set_most(count(most).max(1));
+            out.keep(site.put(alloc, "whole.npy", whole));
+            out.keep(site.put(alloc, "part.npy", part));
+            put_opened(out, &mut site, region);
+        }
+        Err(_) => out.fail(),
     }
 }
 
 /// `head MOST FAULT FILE`: the head of a file, of which a call reads at most so many bytes.
-pub fn print_head_case<R: Print>(rt: &R, alloc: Global, case: &str) -> io::Result<()> {
+pub fn put_head_case(out: &mut Answer, case: &str) {
     let (most, case) = next_word(case);
     let (fault, file) = next_word(case);
-    let mut site = site_of(alloc, most, fault)?;
-    site.put(alloc, "whole.npy", &unescaped(alloc, file)?)?;
-    site.put(alloc, "part.npy", &[])?;
-    print_site(rt, alloc, &mut site, None)
+    let bytes = unescaped(out, file);
+    put_site(out, most, fault, &bytes, &[], None);
 }
 
 // The first index and the length of each axis.
@@ -138,43 +139,55 @@ fn region_of(axes: &str) -> Region {
 
 /// `region MOST FAULT SIZE AXES FILE`: the region of a file whose head is read from the whole, and of which so many bytes
 /// are there for the rest.
-pub fn print_region_case<R: Print>(rt: &R, alloc: Global, case: &str) -> io::Result<()> {
+pub fn put_region_case(out: &mut Answer, case: &str) {
     let (most, case) = next_word(case);
     let (fault, case) = next_word(case);
     let (size, case) = next_word(case);
     let (axes, file) = next_word(case);
-    let bytes = unescaped(alloc, file)?;
+    let bytes = unescaped(out, file);
     let size = count(size).min(bytes.len());
-    let mut site = site_of(alloc, most, fault)?;
-    site.put(alloc, "whole.npy", &bytes)?;
-    site.put(alloc, "part.npy", &bytes[..size])?;
-    print_site(rt, alloc, &mut site, Some(&region_of(axes)))
+    put_site(
+        out,
+        most,
+        fault,
+        &bytes,
+        &bytes[..size],
+        Some(&region_of(axes)),
+    );
 }
 
-fn print_all_runs<R: Print>(rt: &R, alloc: Global, head: &Head, region: &Region) -> io::Result<()> {
+fn put_all_runs(out: &mut Answer, runs: &[Run]) {
+    out.put("runs");
+    for run in runs {
+        out.put_item(" ", &run.offset);
+        out.put_item("+", &run.length);
+        out.put_item("@", &run.place);
+    }
+}
+
+fn put_runs_of(out: &mut Answer, head: &Head, region: &Region) {
     if !region.is_part(head.shape.dims()) || head.data_at > 2097152 {
-        return println!(rt; "no part");
+        return out.put("no part");
     }
-    print!(rt; "runs")?;
-    for run in region_runs(alloc, head, region)?.as_slice() {
-        print!(rt; " {}+{}@{}", run.offset, run.length, run.place)?;
+    match region_runs(out.alloc(), head, region) {
+        Ok(runs) => put_all_runs(out, runs.as_slice()),
+        Err(_) => out.fail(),
     }
-    println!(rt; "")
 }
 
 /// `runs ORDER LENGTHS AXES`: the runs of a region of a file whose data begins at byte 80.
-pub fn print_runs<R: Print>(rt: &R, alloc: Global, case: &str) -> io::Result<()> {
+pub fn put_runs(out: &mut Answer, case: &str) {
     let (order, case) = next_word(case);
     let (lengths, axes) = next_word(case);
-    match Shape::new(numbers(alloc, lengths)?) {
+    match Shape::new(numbers(out, lengths)) {
         Ok(shape) => {
             let head = Head {
                 shape,
                 fortran: order == "column-major",
                 data_at: 80,
             };
-            print_all_runs(rt, alloc, &head, &region_of(axes))
+            put_runs_of(out, &head, &region_of(axes));
         }
-        Err(limit) => println!(rt; "{limit}"),
+        Err(limit) => out.put_item("", &limit),
     }
 }

@@ -1,38 +1,44 @@
 // The headers of NumPy's files: a text that is read, and one that is written.
-use crate::text::{numbers, print_bytes, print_numbers, unescaped};
+use crate::answer::Answer;
+use crate::text::{numbers, unescaped};
 use nd_shape::Shape;
 use npy_codec::write_head;
 use npy_header::{HeaderFields, read_header_text};
-use std::alloc::Global;
-use std::io;
 
 /// The order in which a file has its elements.
 pub fn order_name(fortran: bool) -> &'static str {
     if fortran { "column-major" } else { "row-major" }
 }
 
-fn print_fields<R: Print>(rt: &R, fields: &HeaderFields) -> io::Result<()> {
-    print!(rt; "{} (", order_name(fields.fortran()))?;
-    print_numbers(rt, fields.shape())?;
-    print!(rt; ") of '")?;
-    print_bytes(rt, fields.descr())?;
-    println!(rt; "'")
+fn put_fields(out: &mut Answer, fields: &HeaderFields) {
+    out.put(order_name(fields.fortran()));
+    out.put(" (");
+    out.put_numbers(fields.shape());
+    out.put(") of '");
+    out.put_bytes(fields.descr());
+    out.put("'");
 }
 
 /// `header TEXT`: what the text of a header says.
-pub fn print_header<R: Print>(rt: &R, alloc: Global, case: &str) -> io::Result<()> {
-    let text = unescaped(alloc, case)?;
-    match read_header_text(alloc, &text) {
-        Ok(fields) => print_fields(rt, &fields),
-        Err(e) => println!(rt; "{e}"),
+pub fn put_header(out: &mut Answer, case: &str) {
+    let text = unescaped(out, case);
+    match read_header_text(out.alloc(), &text) {
+        Ok(fields) => put_fields(out, &fields),
+        Err(e) => out.put_item("", &e),
+    }
+}
+
+fn put_front(out: &mut Answer, shape: &Shape) {
+    match write_head(out.alloc(), shape) {
+        Ok(front) => out.put_bytes(&front),
+        Err(_) => out.fail(),
     }
 }
 
 /// `written LENGTHS`: the front of a file with axes of these lengths.
-pub fn print_written<R: Print>(rt: &R, alloc: Global, case: &str) -> io::Result<()> {
-    match Shape::new(numbers(alloc, case)?) {
-        Ok(shape) => print_bytes(rt, &write_head(alloc, &shape)?)?,
-        Err(limit) => print!(rt; "{limit}")?,
+pub fn put_written(out: &mut Answer, case: &str) {
+    match Shape::new(numbers(out, case)) {
+        Ok(shape) => put_front(out, &shape),
+        Err(limit) => out.put_item("", &limit),
     }
-    println!(rt; "")
 }

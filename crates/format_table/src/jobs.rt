@@ -1,45 +1,47 @@
 // A job's text as steps, as a script and as a job.
-use crate::text::{print_bytes, unescaped};
-use crate::tokens::print_place_of;
+use crate::answer::Answer;
+use crate::text::unescaped;
+use crate::tokens::put_place_of;
 use array_expr::Op;
 use job_script::{Asked, Named, Script, Why, read_script};
-use job_steps::{Ending, Steps, read_steps};
+use job_steps::{Ending, Step, Steps, read_steps};
 use job_text::{Job, parse};
-use std::alloc::Global;
-use std::io;
 
-fn print_all_steps<R: Print>(rt: &R, steps: &Steps) -> io::Result<()> {
-    for step in steps.steps() {
-        print!(rt; " {}@{}", step.action as u16, step.token.start)?;
+fn put_all_steps(out: &mut Answer, steps: &[Step]) {
+    for step in steps {
+        out.put_item(" ", &(step.action as u16));
+        out.put_item("@", &step.token.start);
     }
-    Ok(())
 }
 
-fn print_ending<R: Print>(rt: &R, text: &[u8], ending: Ending) -> io::Result<()> {
+// The byte at which a text ends otherwise than it should, and how.
+fn stop_of(ending: Ending) -> Option<(usize, &'static str)> {
     match ending {
-        Ending::Whole => print!(rt; "whole"),
-        Ending::Unexpected(token) => {
-            print_place_of(rt, text, token.start)?;
-            print!(rt; ": unexpected")
-        }
-        Ending::Unfinished(at) => {
-            print_place_of(rt, text, at)?;
-            print!(rt; ": unfinished")
-        }
-        Ending::NoToken(at) => {
-            print_place_of(rt, text, at)?;
-            print!(rt; ": no token")
-        }
+        Ending::Whole => None,
+        Ending::Unexpected(token) => Some((token.start, ": unexpected")),
+        Ending::Unfinished(at) => Some((at, ": unfinished")),
+        Ending::NoToken(at) => Some((at, ": no token")),
     }
+}
+
+fn put_whole_steps(out: &mut Answer, text: &[u8], steps: &Steps) {
+    match stop_of(steps.ending()) {
+        Some((at, how)) => {
+            put_place_of(out, text, at);
+            out.put(how);
+        }
+        None => out.put("whole"),
+    }
+    put_all_steps(out, steps.steps());
 }
 
 /// `steps TEXT`: how the text ends, and the number of each step's action with the byte of its token.
-pub fn print_steps<R: Print>(rt: &R, alloc: Global, case: &str) -> io::Result<()> {
-    let text = unescaped(alloc, case)?;
-    let steps = read_steps(alloc, &text)?;
-    print_ending(rt, &text, steps.ending())?;
-    print_all_steps(rt, &steps)?;
-    println!(rt; "")
+pub fn put_steps(out: &mut Answer, case: &str) {
+    let text = unescaped(out, case);
+    match read_steps(out.alloc(), &text) {
+        Ok(steps) => put_whole_steps(out, &text, &steps),
+        Err(_) => out.fail(),
+    }
 }
 
 fn op_name(op: &Op) -> &'static str {
@@ -66,13 +68,12 @@ fn asked_name(asked: &Asked) -> &'static str {
     }
 }
 
-fn print_named<R: Print>(rt: &R, word: &str, list: &[Named]) -> io::Result<()> {
+fn put_named(out: &mut Answer, word: &str, list: &[Named]) {
     for named in list {
-        print!(rt; ", {word} ")?;
-        print_bytes(rt, named.name())?;
-        print!(rt; " {}", named.node().number())?;
+        out.put(word);
+        out.put_bytes(named.name());
+        out.put_item(" ", &named.node().number());
     }
-    Ok(())
 }
 
 fn why_name(why: Why) -> &'static str {
@@ -88,46 +89,51 @@ fn why_name(why: Why) -> &'static str {
     }
 }
 
-fn print_asked<R: Print>(rt: &R, script: &Script) -> io::Result<()> {
-    print!(rt; "asks")?;
+fn put_asked(out: &mut Answer, script: &Script) {
+    out.put("asks");
     for placed in script.asked() {
-        print!(rt; " {}@{}", asked_name(&placed.asked), placed.at)?;
+        out.put(" ");
+        out.put(asked_name(&placed.asked));
+        out.put_item("@", &placed.at);
     }
-    Ok(())
 }
 
-fn print_whole_script<R: Print>(rt: &R, script: &Script) -> io::Result<()> {
-    print_asked(rt, script)?;
-    print_named(rt, "input", script.inputs())?;
-    print_named(rt, "save", script.saves())?;
-    match script.refusal() {
-        Some(refusal) => println!(rt; "; {} at {}", why_name(refusal.why), refusal.at),
-        None => println!(rt; ""),
+fn put_whole_script(out: &mut Answer, script: &Script) {
+    put_asked(out, script);
+    put_named(out, ", input ", script.inputs());
+    put_named(out, ", save ", script.saves());
+    if let Some(refusal) = script.refusal() {
+        out.put("; ");
+        out.put(why_name(refusal.why));
+        out.put_item(" at ", &refusal.at);
     }
 }
 
 /// `script TEXT`: the operations with their bytes, the files, and the byte of the refusal.
-pub fn print_script<R: Print>(rt: &R, alloc: Global, case: &str) -> io::Result<()> {
-    let text = unescaped(alloc, case)?;
-    let script = read_script(alloc, &text)?;
-    print_whole_script(rt, &script)
+pub fn put_script(out: &mut Answer, case: &str) {
+    let text = unescaped(out, case);
+    match read_script(out.alloc(), &text) {
+        Ok(script) => put_whole_script(out, &script),
+        Err(_) => out.fail(),
+    }
 }
 
-fn print_job<R: Print>(rt: &R, job: &Job) -> io::Result<()> {
-    print!(rt; "{} nodes", job.expr().nodes().len())?;
+fn put_whole_job(out: &mut Answer, job: &Job) {
+    out.put_item("", &job.expr().nodes().len());
+    out.put(" nodes");
     for span in job.spans().as_slice() {
-        print!(rt; " {}:{}", span.line, span.column)?;
+        out.put_item(" ", &span.line);
+        out.put_item(":", &span.column);
     }
-    print_named(rt, "input", job.inputs())?;
-    print_named(rt, "save", job.saves())?;
-    println!(rt; "")
+    put_named(out, ", input ", job.inputs());
+    put_named(out, ", save ", job.saves());
 }
 
 /// `job TEXT`: the places of the nodes and the files of a job, or its refusal.
-pub fn print_job_case<R: Print>(rt: &R, alloc: Global, case: &str) -> io::Result<()> {
-    let text = unescaped(alloc, case)?;
-    match parse(alloc, &text) {
-        Ok(job) => print_job(rt, &job),
-        Err(e) => println!(rt; "{e}"),
+pub fn put_job(out: &mut Answer, case: &str) {
+    let text = unescaped(out, case);
+    match parse(out.alloc(), &text) {
+        Ok(job) => put_whole_job(out, &job),
+        Err(e) => out.put_item("", &e),
     }
 }

@@ -1,58 +1,64 @@
 // What the grammar of jobs does with the kinds of a text's tokens.
+use crate::answer::Answer;
 use crate::text::unescaped;
 use crate::tokens::all_tokens;
 use grammar::Reply;
 use job_grammar::{JobReader, action_of};
 use job_tokens::Next;
-use std::alloc::Global;
-use std::io;
+use std::alloc::AllocError;
 
 // The number of each action that the last call did, in the order of the crate's list.
-fn print_actions<R: Print>(rt: &R, reader: &JobReader) -> io::Result<()> {
+fn put_actions(out: &mut Answer, reader: &JobReader) {
     for number in reader.actions() {
         match action_of(*number) {
-            Some(action) => print!(rt; " {}", action as u16)?,
-            None => print!(rt; " ?")?,
+            Some(action) => out.put_item(" ", &(action as u16)),
+            None => out.put(" ?"),
         }
     }
-    Ok(())
 }
 
-fn print_reply<R: Print>(rt: &R, reply: Reply) -> io::Result<()> {
+fn put_reply(out: &mut Answer, reply: Result<Reply, AllocError>) {
     match reply {
-        Reply::Taken => print!(rt; " taken"),
-        Reply::Refused => print!(rt; " refused"),
+        Ok(Reply::Taken) => out.put(" taken"),
+        Ok(Reply::Refused) => out.put(" refused"),
+        Err(_) => out.fail(),
     }
 }
 
 // Takes a token, or does what needs no token.
-fn print_step<R: Print>(rt: &R, reader: &mut JobReader, next: Next) -> io::Result<()> {
+fn put_step(out: &mut Answer, reader: &mut JobReader, next: Next) {
     match next {
         Next::Token(token) => {
-            let reply = reader.take(token.kind)?;
-            print_actions(rt, reader)?;
-            print_reply(rt, reply)
+            let reply = reader.take(token.kind);
+            put_actions(out, reader);
+            put_reply(out, reply);
         }
         Next::Refused(_) => {
-            reader.finish()?;
-            print_actions(rt, reader)?;
-            print!(rt; " finished")
+            out.keep(reader.finish());
+            put_actions(out, reader);
+            out.put(" finished");
         }
-        Next::End(_) => Ok(()),
+        Next::End(_) => {}
     }
+}
+
+fn put_reading(out: &mut Answer, reader: &mut JobReader, tokens: &[Next]) {
+    out.put("kinds");
+    for next in tokens {
+        put_step(out, reader, *next);
+    }
+    let reply = reader.end();
+    put_actions(out, reader);
+    put_reply(out, reply);
 }
 
 /// `kinds TEXT`: for each token the actions before it and whether it is taken, and the same for the end. Where no token
 /// begins, the actions that need none are done before the end.
-pub fn print_kinds<R: Print>(rt: &R, alloc: Global, case: &str) -> io::Result<()> {
-    let text = unescaped(alloc, case)?;
-    let mut reader = JobReader::new(alloc)?;
-    print!(rt; "kinds")?;
-    for next in &all_tokens(alloc, &text)? {
-        print_step(rt, &mut reader, *next)?;
+pub fn put_kinds(out: &mut Answer, case: &str) {
+    let text = unescaped(out, case);
+    let tokens = all_tokens(out, &text);
+    match JobReader::new(out.alloc()) {
+        Ok(mut reader) => put_reading(out, &mut reader, &tokens),
+        Err(_) => out.fail(),
     }
-    let reply = reader.end()?;
-    print_actions(rt, &reader)?;
-    print_reply(rt, reply)?;
-    println!(rt; "")
 }

@@ -11,6 +11,7 @@
 //! nothing: it ends what is repeated.
 #![tactic(auto)]
 
+mod answer;
 mod files;
 mod headers;
 mod jobs;
@@ -22,61 +23,69 @@ mod text;
 mod tokens;
 mod values;
 
+use answer::Answer;
 use std::alloc::Global;
 use std::io;
 
 // NumPy's files.
-fn file_answer<R: Print>(rt: &R, alloc: Global, word: &str, case: &str) -> io::Result<()> {
+fn put_file(out: &mut Answer, word: &str, case: &str) {
     match word {
-        "header" => headers::print_header(rt, alloc, case),
-        "written" => headers::print_written(rt, alloc, case),
-        "head" => files::print_head_case(rt, alloc, case),
-        "region" => files::print_region_case(rt, alloc, case),
-        "runs" => files::print_runs(rt, alloc, case),
-        _ => println!(rt; "no such word"),
+        "header" => headers::put_header(out, case),
+        "written" => headers::put_written(out, case),
+        "head" => files::put_head_case(out, case),
+        "region" => files::put_region_case(out, case),
+        "runs" => files::put_runs(out, case),
+        _ => out.put("no such word"),
     }
 }
 
 // MessagePack's values, and what they carry.
-fn value_answer<R: Print>(rt: &R, alloc: Global, word: &str, case: &str) -> io::Result<()> {
+fn put_value(out: &mut Answer, word: &str, case: &str) {
     match word {
-        "value" => values::print_value_case(rt, alloc, case),
-        "nested" => values::print_nested(rt, alloc, case),
-        "stream" => values::print_stream(rt, alloc, case),
-        "message" => messages::print_message_case(rt, alloc, case),
-        _ => file_answer(rt, alloc, word, case),
+        "value" => values::put_value_case(out, case),
+        "nested" => values::put_nested(out, case),
+        "stream" => values::put_stream(out, case),
+        "message" => messages::put_message_case(out, case),
+        _ => put_file(out, word, case),
     }
 }
 
 // The parts of a job's text.
-fn token_answer<R: Print>(rt: &R, alloc: Global, word: &str, case: &str) -> io::Result<()> {
+fn put_token(out: &mut Answer, word: &str, case: &str) {
     match word {
-        "number" => tokens::print_number(rt, case),
-        "place" => tokens::print_place(rt, alloc, case),
-        "tokens" => tokens::print_tokens(rt, alloc, case),
-        "kinds" => kinds::print_kinds(rt, alloc, case),
-        _ => value_answer(rt, alloc, word, case),
+        "number" => tokens::put_number(out, case),
+        "place" => tokens::put_place(out, case),
+        "tokens" => tokens::put_tokens(out, case),
+        "kinds" => kinds::put_kinds(out, case),
+        _ => put_value(out, word, case),
     }
 }
 
-fn answer<R: Print>(rt: &R, alloc: Global, word: &str, case: &str) -> io::Result<()> {
+fn put_answer(out: &mut Answer, word: &str, case: &str) {
     match word {
-        "#" => println!(rt; "{case}"),
-        "sum" => sums::print_sum(rt, alloc, case),
-        "steps" => jobs::print_steps(rt, alloc, case),
-        "script" => jobs::print_script(rt, alloc, case),
-        "job" => jobs::print_job_case(rt, alloc, case),
-        "sim" => options::print_sim(rt, alloc, case),
-        "gen" => options::print_gen(rt, alloc, case),
-        _ => token_answer(rt, alloc, word, case),
+        "#" => out.put(case),
+        "sum" => sums::put_sum(out, case),
+        "steps" => jobs::put_steps(out, case),
+        "script" => jobs::put_script(out, case),
+        "job" => jobs::put_job(out, case),
+        "sim" => options::put_sim(out, case),
+        "gen" => options::put_gen(out, case),
+        _ => put_token(out, word, case),
     }
+}
+
+// Prints the answer to a line.
+fn print_answer<R: Print>(rt: &R, alloc: Global, line: &str) -> io::Result<()> {
+    let (word, case) = text::next_word(line);
+    let mut out = Answer::new(alloc);
+    put_answer(&mut out, word, case);
+    println!(rt; "{}", out.as_str())
 }
 
 fn main(rt: HostRuntime) -> io::Result<()> {
     for line in rt.lines(rt.alloc()) {
         let line = line?;
-        let (word, case) = text::next_word(line.as_str());
-        answer(&rt, rt.alloc(), word, case)?;
+        print_answer(&rt, rt.alloc(), line.as_str())?;
     }
     Ok(())
 }

@@ -1,137 +1,145 @@
 // The cluster's messages in MessagePack's values.
+use crate::answer::Answer;
 use crate::text::bytes_of;
-use crate::values::print_encoded;
+use crate::values::put_encoded;
 use cluster_msgs::{Down, FromClient, Holders, KeyList, Message, Peer, Role, ToClient, Up, WhoHas};
 use msgpack_frames::{Value, decode};
-use std::alloc::Global;
-use std::io;
 use wire_msgs::{from_value, to_value};
 
-fn print_keys<R: Print>(rt: &R, keys: &KeyList) -> io::Result<()> {
-    for key in keys.as_slice() {
-        print!(rt; " {key}")?;
-    }
-    Ok(())
+fn put_keys(out: &mut Answer, before: &str, keys: &KeyList) {
+    out.put(before);
+    out.put_each(" ", keys.as_slice());
 }
 
-fn print_holders<R: Print>(rt: &R, holders: &Holders) -> io::Result<()> {
+fn put_holders(out: &mut Answer, holders: &Holders) {
     for (holder, copy) in holders.as_slice() {
-        print!(rt; " {holder}:{copy}")?;
+        out.put_item(" ", holder);
+        out.put_item(":", copy);
     }
-    Ok(())
 }
 
-fn print_who_has<R: Print>(rt: &R, who_has: &WhoHas) -> io::Result<()> {
+fn put_who_has(out: &mut Answer, before: &str, who_has: &WhoHas) {
+    out.put(before);
+    out.put("who_has");
     for (key, holders) in who_has.as_slice() {
-        print!(rt; " key {key}")?;
-        print_holders(rt, holders)?;
+        out.put_item(" key ", key);
+        put_holders(out, holders);
     }
-    Ok(())
 }
 
-fn print_down<R: Print>(rt: &R, down: &Down) -> io::Result<()> {
+fn put_attempt(out: &mut Answer, before: &str, key: u32, attempt: u64) {
+    out.put_item(before, &key);
+    out.put_item(", attempt ", &attempt);
+}
+
+fn put_copy(out: &mut Answer, before: &str, key: u32, holder: u32, copy: u64) {
+    out.put_item(before, &key);
+    out.put_item(", holder ", &holder);
+    out.put_item(", copy ", &copy);
+}
+
+fn put_down(out: &mut Answer, down: &Down) {
     match down {
         Down::ComputeTask {
             key,
             attempt,
             who_has,
         } => {
-            print!(rt; "ComputeTask: key {key}, attempt {attempt}, who_has")?;
-            print_who_has(rt, who_has)
+            put_attempt(out, "ComputeTask: key ", *key, *attempt);
+            put_who_has(out, ", ", who_has);
         }
-        Down::FreeKeys { keys } => {
-            print!(rt; "FreeKeys: keys")?;
-            print_keys(rt, keys)
-        }
+        Down::FreeKeys { keys } => put_keys(out, "FreeKeys: keys", keys),
         Down::StealRequest { key, attempt } => {
-            print!(rt; "StealRequest: key {key}, attempt {attempt}")
+            put_attempt(out, "StealRequest: key ", *key, *attempt);
         }
-        Down::RemoveReplicas { keys } => {
-            print!(rt; "RemoveReplicas: keys")?;
-            print_keys(rt, keys)
-        }
-        Down::AcquireReplicas { who_has } => {
-            print!(rt; "AcquireReplicas: who_has")?;
-            print_who_has(rt, who_has)
-        }
-        Down::RefreshWhoHas { who_has } => {
-            print!(rt; "RefreshWhoHas: who_has")?;
-            print_who_has(rt, who_has)
-        }
+        Down::RemoveReplicas { keys } => put_keys(out, "RemoveReplicas: keys", keys),
+        Down::AcquireReplicas { who_has } => put_who_has(out, "AcquireReplicas: ", who_has),
+        Down::RefreshWhoHas { who_has } => put_who_has(out, "RefreshWhoHas: ", who_has),
     }
 }
 
-fn print_up<R: Print>(rt: &R, up: &Up) -> io::Result<()> {
+// The word of a message that a worker sends, and what it has seen.
+fn begin_up(up: &Up) -> (&'static str, u64) {
     match up {
-        Up::TaskFinished { seen, key, attempt } => {
-            print!(rt; "TaskFinished: seen {seen}, key {key}, attempt {attempt}")
+        Up::TaskFinished { seen, .. } => ("TaskFinished: seen ", *seen),
+        Up::TaskErred { seen, .. } => ("TaskErred: seen ", *seen),
+        Up::AddKeys { seen, .. } => ("AddKeys: seen ", *seen),
+        Up::ReleaseWorkerData { seen, .. } => ("ReleaseWorkerData: seen ", *seen),
+        Up::MissingData { seen, .. } => ("MissingData: seen ", *seen),
+        Up::RequestRefreshWhoHas { seen, .. } => ("RequestRefreshWhoHas: seen ", *seen),
+        Up::StealResponse { seen, .. } => ("StealResponse: seen ", *seen),
+    }
+}
+
+fn put_response(out: &mut Answer, key: u32, attempt: u64, yes: bool) {
+    put_attempt(out, ", key ", key, attempt);
+    out.put_item(", yes ", &yes);
+}
+
+fn put_up(out: &mut Answer, up: &Up) {
+    let (word, seen) = begin_up(up);
+    out.put_item(word, &seen);
+    match up {
+        Up::TaskFinished { key, attempt, .. } | Up::TaskErred { key, attempt, .. } => {
+            put_attempt(out, ", key ", *key, *attempt);
         }
-        Up::TaskErred { seen, key, attempt } => {
-            print!(rt; "TaskErred: seen {seen}, key {key}, attempt {attempt}")
-        }
-        Up::AddKeys { seen, keys } => {
-            print!(rt; "AddKeys: seen {seen}, keys")?;
-            print_keys(rt, keys)
-        }
-        Up::ReleaseWorkerData { seen, key } => {
-            print!(rt; "ReleaseWorkerData: seen {seen}, key {key}")
+        Up::AddKeys { keys, .. } => put_keys(out, ", keys", keys),
+        Up::ReleaseWorkerData { key, .. } | Up::RequestRefreshWhoHas { key, .. } => {
+            out.put_item(", key ", key);
         }
         Up::MissingData {
-            seen,
             key,
             holder,
             copy,
-        } => print!(rt; "MissingData: seen {seen}, key {key}, holder {holder}, copy {copy}"),
-        Up::RequestRefreshWhoHas { seen, key } => {
-            print!(rt; "RequestRefreshWhoHas: seen {seen}, key {key}")
-        }
+            ..
+        } => put_copy(out, ", key ", *key, *holder, *copy),
         Up::StealResponse {
-            seen,
             key,
             attempt,
             yes,
-        } => print!(rt; "StealResponse: seen {seen}, key {key}, attempt {attempt}, yes {yes}"),
+            ..
+        } => put_response(out, *key, *attempt, *yes),
     }
 }
 
-fn print_to_client<R: Print>(rt: &R, message: &ToClient) -> io::Result<()> {
+fn put_in_memory(out: &mut Answer, key: u32, holders: &Holders) {
+    out.put_item("KeyInMemory: key ", &key);
+    out.put(", holders");
+    put_holders(out, holders);
+}
+
+fn put_erred(out: &mut Answer, key: u32, blame: u32) {
+    out.put_item("ClientTaskErred: key ", &key);
+    out.put_item(", blame ", &blame);
+}
+
+fn put_to_client(out: &mut Answer, message: &ToClient) {
     match message {
-        ToClient::KeyInMemory { key, holders } => {
-            print!(rt; "KeyInMemory: key {key}, holders")?;
-            print_holders(rt, holders)
-        }
-        ToClient::LostData { key } => print!(rt; "LostData: key {key}"),
-        ToClient::ClientTaskErred { key, blame } => {
-            print!(rt; "ClientTaskErred: key {key}, blame {blame}")
-        }
+        ToClient::KeyInMemory { key, holders } => put_in_memory(out, *key, holders),
+        ToClient::LostData { key } => out.put_item("LostData: key ", key),
+        ToClient::ClientTaskErred { key, blame } => put_erred(out, *key, *blame),
     }
 }
 
-fn print_from_client<R: Print>(rt: &R, message: &FromClient) -> io::Result<()> {
+fn put_from_client(out: &mut Answer, message: &FromClient) {
     match message {
-        FromClient::Want { keys } => {
-            print!(rt; "Want: keys")?;
-            print_keys(rt, keys)
-        }
-        FromClient::Release { keys } => {
-            print!(rt; "Release: keys")?;
-            print_keys(rt, keys)
-        }
+        FromClient::Want { keys } => put_keys(out, "Want: keys", keys),
+        FromClient::Release { keys } => put_keys(out, "Release: keys", keys),
         FromClient::Missing { key, holder, copy } => {
-            print!(rt; "Missing: key {key}, holder {holder}, copy {copy}")
+            put_copy(out, "Missing: key ", *key, *holder, *copy);
         }
     }
 }
 
-fn print_peer<R: Print>(rt: &R, message: &Peer) -> io::Result<()> {
+fn put_peer(out: &mut Answer, message: &Peer) {
     match message {
         Peer::GetData { ask, keys } => {
-            print!(rt; "GetData: ask {ask}, keys")?;
-            print_keys(rt, keys)
+            out.put_item("GetData: ask ", ask);
+            put_keys(out, ", keys", keys);
         }
         Peer::Data { ask, found } => {
-            print!(rt; "Data: ask {ask}, found")?;
-            print_keys(rt, found)
+            out.put_item("Data: ask ", ask);
+            put_keys(out, ", found", found);
         }
     }
 }
@@ -144,39 +152,45 @@ fn role_name(role: Role) -> &'static str {
     }
 }
 
-fn print_message<R: Print>(rt: &R, message: &Message) -> io::Result<()> {
+fn put_hello(out: &mut Answer, role: Role, id: u32) {
+    out.put("Hello: role ");
+    out.put(role_name(role));
+    out.put_item(", id ", &id);
+}
+
+fn put_fields(out: &mut Answer, message: &Message) {
     match message {
-        Message::Down(down) => print_down(rt, down),
-        Message::Up(up) => print_up(rt, up),
-        Message::ToClient(to_client) => print_to_client(rt, to_client),
-        Message::FromClient(from_client) => print_from_client(rt, from_client),
-        Message::Peer(peer) => print_peer(rt, peer),
-        Message::Hello { role, id } => print!(rt; "Hello: role {}, id {id}", role_name(*role)),
+        Message::Down(down) => put_down(out, down),
+        Message::Up(up) => put_up(out, up),
+        Message::ToClient(to_client) => put_to_client(out, to_client),
+        Message::FromClient(from_client) => put_from_client(out, from_client),
+        Message::Peer(peer) => put_peer(out, peer),
+        Message::Hello { role, id } => put_hello(out, *role, *id),
     }
 }
 
-// The bytes that a message is written as.
-fn print_written<R: Print>(rt: &R, alloc: Global, message: &Message) -> io::Result<()> {
-    print!(rt; " = ")?;
-    print_encoded(rt, alloc, &to_value(alloc, message)?)
+// The fields of a message, and the bytes that it is written as.
+fn put_message(out: &mut Answer, message: &Message) {
+    put_fields(out, message);
+    out.put(" = ");
+    match to_value(out.alloc(), message) {
+        Ok(value) => put_encoded(out, &value),
+        Err(_) => out.fail(),
+    }
 }
 
-fn print_answer<R: Print>(rt: &R, alloc: Global, value: &Value) -> io::Result<()> {
-    match from_value(alloc, value) {
-        Ok(message) => {
-            print_message(rt, &message)?;
-            print_written(rt, alloc, &message)
-        }
-        Err(e) => print!(rt; "{e}"),
+fn put_value(out: &mut Answer, value: &Value) {
+    match from_value(out.alloc(), value) {
+        Ok(message) => put_message(out, &message),
+        Err(e) => out.put_item("", &e),
     }
 }
 
 /// `message HEX`: the message that a value is, and the bytes that it is written as.
-pub fn print_message_case<R: Print>(rt: &R, alloc: Global, case: &str) -> io::Result<()> {
-    let bytes = bytes_of(alloc, case)?;
-    match decode(alloc, &bytes) {
-        Ok((value, _)) => print_answer(rt, alloc, &value)?,
-        Err(e) => print!(rt; "{e}")?,
+pub fn put_message_case(out: &mut Answer, case: &str) {
+    let bytes = bytes_of(out, case);
+    match decode(out.alloc(), &bytes) {
+        Ok((value, _)) => put_value(out, &value),
+        Err(e) => out.put_item("", &e),
     }
-    println!(rt; "")
 }

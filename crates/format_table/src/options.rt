@@ -1,54 +1,69 @@
 // The words of the commands `sim` and `gen`.
+use crate::answer::Answer;
 use cluster_msgs::Item;
 use command_words::{SimWords, read_gen, read_sim};
-use std::alloc::{AllocError, Global};
-use std::io;
 
-fn words_of(alloc: Global, line: &str) -> Result<Vec<String>, AllocError> {
-    let mut words = Vec::new(alloc);
+fn add_word(out: &mut Answer, words: &mut Vec<String>, word: &str) {
+    match String::from_str(out.alloc(), word) {
+        Ok(word) => {
+            if words.push(word).is_err() {
+                out.fail();
+            }
+        }
+        Err(_) => out.fail(),
+    }
+}
+
+fn words_of(out: &mut Answer, line: &str) -> Vec<String> {
+    let mut words = Vec::new(out.alloc());
     for word in line.split(' ') {
-        words.push(String::from_str(alloc, word)?)?;
+        add_word(out, &mut words, word);
     }
-    Ok(words)
+    words
 }
 
-fn print_item<R: Print>(rt: &R, item: &Item) -> io::Result<()> {
+fn put_event(out: &mut Answer, what: &str, worker: u32, at: u128) {
+    out.put_item(what, &worker);
+    out.put_item(" at ", &at);
+}
+
+fn put_item(out: &mut Answer, item: &Item) {
     match item {
-        Item::Lose { w, at } => print!(rt; ", lose {w} at {at}"),
-        Item::Suspect { w, at } => print!(rt; ", suspect {w} at {at}"),
-        Item::Join { at } => print!(rt; ", join at {at}"),
+        Item::Lose { w, at } => put_event(out, ", lose ", *w, *at),
+        Item::Suspect { w, at } => put_event(out, ", suspect ", *w, *at),
+        Item::Join { at } => out.put_item(", join at ", at),
     }
 }
 
-fn print_said<R: Print>(rt: &R, sim: &SimWords) -> io::Result<()> {
+fn put_run(out: &mut Answer, number: u64, workers: u32, threads: u32) {
+    out.put_item("number ", &number);
+    out.put_item(", workers ", &workers);
+    out.put_item(", threads ", &threads);
+}
+
+fn put_simulation(out: &mut Answer, sim: &SimWords) {
     let settings = sim.settings;
-    print!(rt;
-        "number {}, workers {}, threads {}, saturation {}",
-        settings.number, settings.workers, settings.threads, settings.saturation
-    )?;
+    put_run(out, settings.number, settings.workers, settings.threads);
+    out.put_item(", saturation ", &settings.saturation);
     for item in sim.script.as_slice() {
-        print_item(rt, item)?;
+        put_item(out, item);
     }
-    println!(rt; "")
 }
 
 /// `sim WORDS`: the simulation that the words ask for, with one blank between two words.
-pub fn print_sim<R: Print>(rt: &R, alloc: Global, case: &str) -> io::Result<()> {
-    let words = words_of(alloc, case)?;
-    match read_sim(alloc, &words) {
-        Ok(sim) => print_said(rt, &sim),
-        Err(fail) => println!(rt; "{fail}"),
+pub fn put_sim(out: &mut Answer, case: &str) {
+    let words = words_of(out, case);
+    match read_sim(out.alloc(), &words) {
+        Ok(sim) => put_simulation(out, &sim),
+        Err(fail) => out.put_item("", &fail),
     }
 }
 
 /// `gen WORDS`: the number that the words give, and the workers, with one blank between two words.
-pub fn print_gen<R: Print>(rt: &R, alloc: Global, case: &str) -> io::Result<()> {
-    let words = words_of(alloc, case)?;
-    match read_gen(alloc, &words) {
-        Ok(said) => println!(rt;
-            "number {}, workers {}, threads {}",
-            said.number, said.workers, said.threads
-        ),
-        Err(fail) => println!(rt; "{fail}"),
+pub fn put_gen(out: &mut Answer, case: &str) {
+    let words = words_of(out, case);
+    match read_gen(out.alloc(), &words) {
+        Ok(said) => put_run(out, said.number, said.workers, said.threads),
+        Err(fail) => out.put_item("", &fail),
     }
 }

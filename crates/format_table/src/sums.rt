@@ -2,10 +2,10 @@
 ghost use Rattle.std.specs.Prelude.{◌≡◌, true};
 ghost use Rattle.grammar.specs.Tables.{moves_end};
 
+use crate::answer::Answer;
 use crate::text::unescaped;
 use grammar::{Reader, Reply, Row, Rule, Symbol, Table, rules_on};
-use std::alloc::Global;
-use std::io;
+use std::alloc::AllocError;
 
 const PUSH: u16 = 10;
 
@@ -93,36 +93,63 @@ fn action_name(action: u16) -> &'static str {
 }
 
 // The first actions of a call, and how many more there are.
-fn print_actions<R: Print>(rt: &R, actions: &[u16]) -> io::Result<()> {
+fn put_actions(out: &mut Answer, actions: &[u16]) {
     for action in actions.iter().take(8) {
-        print!(rt; " {}", action_name(*action))?;
+        out.put(" ");
+        out.put(action_name(*action));
     }
     if actions.len() > 8 {
-        print!(rt; " and {} more", actions.len() - 8)?;
+        out.put_item(" and ", &(actions.len() - 8));
+        out.put(" more");
     }
-    Ok(())
 }
 
-fn print_end<R: Print>(rt: &R, reply: Reply, at: usize) -> io::Result<()> {
+// Whether a token, or the end, is taken.
+fn is_taken(out: &mut Answer, reply: Result<Reply, AllocError>) -> bool {
     match reply {
-        Reply::Taken => println!(rt; "; whole at {at}"),
-        Reply::Refused => println!(rt; "; refused at {at}"),
+        Ok(Reply::Taken) => true,
+        Ok(Reply::Refused) => false,
+        Err(_) => {
+            out.fail();
+            false
+        }
+    }
+}
+
+// Puts the actions of the tokens, up to the first one that is refused, and tells how many are taken.
+fn put_tokens(out: &mut Answer, reader: &mut Reader, text: &[u8]) -> usize {
+    for (at, letter) in text.iter().enumerate() {
+        let reply = reader.step(kind_of(*letter));
+        put_actions(out, reader.actions());
+        if !is_taken(out, reply) {
+            return at;
+        }
+    }
+    text.len()
+}
+
+// Puts the actions of the end, and tells whether it is taken.
+fn put_end(out: &mut Answer, reader: &mut Reader) -> bool {
+    let reply = reader.end();
+    put_actions(out, reader.actions());
+    is_taken(out, reply)
+}
+
+fn put_reading(out: &mut Answer, reader: &mut Reader, text: &[u8]) {
+    out.put("sum");
+    let at = put_tokens(out, reader, text);
+    if at == text.len() && put_end(out, reader) {
+        out.put_item("; whole at ", &at);
+    } else {
+        out.put_item("; refused at ", &at);
     }
 }
 
 /// `sum TEXT`: the actions of a sum as they are complete, and its first token that is refused.
-pub fn print_sum<R: Print>(rt: &R, alloc: Global, case: &str) -> io::Result<()> {
-    let text = unescaped(alloc, case)?;
-    let mut reader = Reader::new(alloc, table(), SUM)?;
-    print!(rt; "sum")?;
-    for (at, letter) in text.iter().enumerate() {
-        let reply = reader.step(kind_of(*letter))?;
-        print_actions(rt, reader.actions())?;
-        if let Reply::Refused = reply {
-            return print_end(rt, reply, at);
-        }
+pub fn put_sum(out: &mut Answer, case: &str) {
+    let text = unescaped(out, case);
+    match Reader::new(out.alloc(), table(), SUM) {
+        Ok(mut reader) => put_reading(out, &mut reader, &text),
+        Err(_) => out.fail(),
     }
-    let reply = reader.end()?;
-    print_actions(rt, reader.actions())?;
-    print_end(rt, reply, text.len())
 }

@@ -1,8 +1,7 @@
 // The words, numbers and bytes of a case.
 ghost use Rattle.std.specs.Prelude.{◌<◌};
 
-use std::alloc::{AllocError, Global};
-use std::io;
+use crate::answer::Answer;
 
 /// The first word of a text, and what stands behind the blank after it.
 pub fn next_word(text: &str) -> (&str, &str) {
@@ -20,14 +19,14 @@ pub fn count(word: &str) -> usize {
 }
 
 /// The numbers between commas.
-pub fn numbers(alloc: Global, text: &str) -> Result<Vec<u64>, AllocError> {
-    let mut numbers = Vec::new(alloc);
+pub fn numbers(out: &mut Answer, text: &str) -> Vec<u64> {
+    let mut numbers = Vec::new(out.alloc());
     for word in text.split(',') {
         if let Ok(number) = word.parse::<u64>() {
-            numbers.push(number)?;
+            out.keep(numbers.extend_from_slice(&[number]));
         }
     }
-    Ok(numbers)
+    numbers
 }
 
 fn digit_of(letter: u8) -> u8
@@ -40,89 +39,61 @@ fn digit_of(letter: u8) -> u8
     }
 }
 
+// The byte that two hexadecimal digits stand for.
+fn byte_of(high: u8, low: u8) -> u8 {
+    digit_of(high) * 16 + digit_of(low)
+}
+
 /// The bytes that pairs of hexadecimal digits stand for.
-pub fn bytes_of(alloc: Global, hex: &str) -> Result<Vec<u8>, AllocError> {
-    let mut bytes = Vec::new(alloc);
+pub fn bytes_of(out: &mut Answer, hex: &str) -> Vec<u8> {
+    let mut bytes = Vec::new(out.alloc());
     for pair in hex.as_bytes().chunks(2) {
         if let [high, low] = pair {
-            bytes.push(digit_of(*high) * 16 + digit_of(*low))?;
+            out.keep(bytes.extend_from_slice(&[byte_of(*high, *low)]));
         }
     }
-    Ok(bytes)
+    bytes
 }
 
 // How often, a colon, and what is repeated.
-fn add_repeated(bytes: &mut Vec<u8>, part: &str) -> Result<(), AllocError> {
+fn add_repeated(out: &mut Answer, bytes: &mut Vec<u8>, part: &str) {
     let (times, text) = part.split_once(':').unwrap_or((part, ""));
     for _ in 0..count(times) {
-        bytes.extend_from_slice(text.as_bytes())?;
+        out.keep(bytes.extend_from_slice(text.as_bytes()));
     }
-    Ok(())
 }
 
-fn add_with(bytes: &mut Vec<u8>, first: u8, others: &[u8]) -> Result<(), AllocError> {
-    bytes.push(first)?;
-    bytes.extend_from_slice(others)
+// The byte that begins what stands behind a `\`, and the others; `\.` has none.
+fn split_escape(part: &[u8]) -> (Option<u8>, &[u8]) {
+    match part {
+        [b'n', rest @ ..] => (Some(b'\n'), rest),
+        [b't', rest @ ..] => (Some(b'\t'), rest),
+        [b'r', rest @ ..] => (Some(b'\r'), rest),
+        [b'x', high, low, rest @ ..] => (Some(byte_of(*high, *low)), rest),
+        [b'.', rest @ ..] => (None, rest),
+        _ => (None, &[]),
+    }
 }
 
 // What stands behind a `\`.
-fn add_escaped(bytes: &mut Vec<u8>, part: &str) -> Result<(), AllocError> {
-    match part.as_bytes() {
-        [b'n', rest @ ..] => add_with(bytes, b'\n', rest),
-        [b't', rest @ ..] => add_with(bytes, b'\t', rest),
-        [b'r', rest @ ..] => add_with(bytes, b'\r', rest),
-        [b'x', high, low, rest @ ..] => {
-            add_with(bytes, digit_of(*high) * 16 + digit_of(*low), rest)
-        }
-        [b'.', rest @ ..] => bytes.extend_from_slice(rest),
-        _ => add_repeated(bytes, part.strip_prefix('*').unwrap_or("")),
+fn add_escaped(out: &mut Answer, bytes: &mut Vec<u8>, part: &str) {
+    if let Some(repeated) = part.strip_prefix('*') {
+        return add_repeated(out, bytes, repeated);
     }
+    let (first, rest) = split_escape(part.as_bytes());
+    if let Some(byte) = first {
+        out.keep(bytes.extend_from_slice(&[byte]));
+    }
+    out.keep(bytes.extend_from_slice(rest));
 }
 
 /// The bytes of a case.
-pub fn unescaped(alloc: Global, text: &str) -> Result<Vec<u8>, AllocError> {
-    let mut parts = text.split('\\');
-    let mut bytes = Vec::new(alloc);
-    if let Some(front) = parts.next() {
-        bytes.extend_from_slice(front.as_bytes())?;
+pub fn unescaped(out: &mut Answer, text: &str) -> Vec<u8> {
+    let mut bytes = Vec::new(out.alloc());
+    let (front, escaped) = text.split_once('\\').unwrap_or((text, "."));
+    out.keep(bytes.extend_from_slice(front.as_bytes()));
+    for part in escaped.split('\\') {
+        add_escaped(out, &mut bytes, part);
     }
-    for part in parts {
-        add_escaped(&mut bytes, part)?;
-    }
-    Ok(bytes)
-}
-
-fn print_byte<R: Print>(rt: &R, byte: u8) -> io::Result<()> {
-    if byte < 32 || byte > 126 || byte == b'\\' {
-        print!(rt; "\\x{byte:02x}")
-    } else {
-        print!(rt; "{}", byte as char)
-    }
-}
-
-/// Prints bytes as a case has them.
-pub fn print_bytes<R: Print>(rt: &R, bytes: &[u8]) -> io::Result<()> {
-    for byte in bytes {
-        print_byte(rt, *byte)?;
-    }
-    Ok(())
-}
-
-/// Prints bytes as pairs of hexadecimal digits.
-pub fn print_hex<R: Print>(rt: &R, bytes: &[u8]) -> io::Result<()> {
-    for byte in bytes {
-        print!(rt; "{byte:02x}")?;
-    }
-    Ok(())
-}
-
-/// Prints numbers between commas.
-pub fn print_numbers<R: Print>(rt: &R, numbers: &[u64]) -> io::Result<()> {
-    for (place, number) in numbers.iter().enumerate() {
-        if 0 < place {
-            print!(rt; ",")?;
-        }
-        print!(rt; "{number}")?;
-    }
-    Ok(())
+    bytes
 }

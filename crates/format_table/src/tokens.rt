@@ -1,28 +1,28 @@
 // The tokens of a job's text.
+use crate::answer::Answer;
 use crate::text::{count, next_word, unescaped};
-use job_tokens::{Kind, Next, next_token, number, place_of};
-use std::alloc::{AllocError, Global};
-use std::io;
+use job_tokens::{Kind, Next, Token, next_token, number, place_of};
 
 /// `number DIGITS`: what digits say.
-pub fn print_number<R: Print>(rt: &R, case: &str) -> io::Result<()> {
-    println!(rt; "{}", number(case.as_bytes()))
+pub fn put_number(out: &mut Answer, case: &str) {
+    out.put_item("", &number(case.as_bytes()));
 }
 
-/// Prints the line and the column of a byte.
-pub fn print_place_of<R: Print>(rt: &R, text: &[u8], at: usize) -> io::Result<()> {
+/// Puts the line and the column of a byte.
+pub fn put_place_of(out: &mut Answer, text: &[u8], at: usize) {
     if at > text.len() || text.len() >= 2147483648 {
-        return print!(rt; "no place");
+        return out.put("no place");
     }
     let place = place_of(text, at);
-    print!(rt; "{}:{}", place.line, place.column)
+    out.put_item("", &place.line);
+    out.put_item(":", &place.column);
 }
 
 /// `place BYTE TEXT`: the line and the column of a byte.
-pub fn print_place<R: Print>(rt: &R, alloc: Global, case: &str) -> io::Result<()> {
+pub fn put_place(out: &mut Answer, case: &str) {
     let (at, text) = next_word(case);
-    print_place_of(rt, &unescaped(alloc, text)?, count(at))?;
-    println!(rt; "")
+    let text = unescaped(out, text);
+    put_place_of(out, &text, count(at));
 }
 
 // How many brackets are open behind a token.
@@ -35,8 +35,8 @@ fn open_behind(open: u32, kind: Kind) -> u32 {
 }
 
 /// The tokens up to the end or the refused byte, which is the last member.
-pub fn all_tokens(alloc: Global, text: &[u8]) -> Result<Vec<Next>, AllocError> {
-    let mut found = Vec::new(alloc);
+pub fn all_tokens(out: &mut Answer, text: &[u8]) -> Vec<Next> {
+    let mut found = Vec::new(out.alloc());
     let mut at = 0;
     let mut open = 0;
     for _ in 0..=text.len() {
@@ -44,38 +44,36 @@ pub fn all_tokens(alloc: Global, text: &[u8]) -> Result<Vec<Next>, AllocError> {
             break;
         }
         let next = next_token(text, at, 0 < open);
-        found.push(next)?;
+        out.keep(found.extend_from_slice(&[next]));
         let Next::Token(token) = next else {
             break;
         };
         open = open_behind(open, token.kind);
         at = token.end;
     }
-    Ok(found)
+    found
 }
 
-fn print_next<R: Print>(rt: &R, next: Next) -> io::Result<()> {
+fn put_token(out: &mut Answer, token: Token) {
+    out.put_item(" ", &token.kind.number());
+    out.put(token.kind.spelling());
+    out.put_item("@", &token.start);
+    out.put_item("-", &token.end);
+}
+
+fn put_next(out: &mut Answer, next: Next) {
     match next {
-        Next::Token(token) => {
-            let word = token.kind.spelling();
-            print!(rt;
-                " {}{word}@{}-{}",
-                token.kind.number(),
-                token.start,
-                token.end
-            )
-        }
-        Next::Refused(at) => print!(rt; " refused@{at}"),
-        Next::End(at) => print!(rt; " end@{at}"),
+        Next::Token(token) => put_token(out, token),
+        Next::Refused(at) => out.put_item(" refused@", &at),
+        Next::End(at) => out.put_item(" end@", &at),
     }
 }
 
 /// `tokens TEXT`: the number of each token's kind, the reserved word that it is, and its bytes.
-pub fn print_tokens<R: Print>(rt: &R, alloc: Global, case: &str) -> io::Result<()> {
-    let text = unescaped(alloc, case)?;
-    print!(rt; "tokens")?;
-    for next in &all_tokens(alloc, &text)? {
-        print_next(rt, *next)?;
+pub fn put_tokens(out: &mut Answer, case: &str) {
+    let text = unescaped(out, case);
+    out.put("tokens");
+    for next in &all_tokens(out, &text) {
+        put_next(out, *next);
     }
-    println!(rt; "")
 }

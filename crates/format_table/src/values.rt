@@ -1,86 +1,86 @@
 // MessagePack's values, and streams of frame groups.
-use crate::text::{bytes_of, count, next_word, print_bytes, print_hex};
+use crate::answer::Answer;
+use crate::text::{bytes_of, count, next_word};
 use msgpack_frames::{FrameReader, Frames, Value, decode, encode};
 use std::alloc::{AllocError, Global};
-use std::io;
 
-fn print_text<R: Print>(rt: &R, text: &str) -> io::Result<()> {
-    print!(rt; "'")?;
-    print_bytes(rt, text.as_bytes())?;
-    print!(rt; "'")
+fn put_text(out: &mut Answer, text: &str) {
+    out.put("'");
+    out.put_bytes(text.as_bytes());
+    out.put("'");
 }
 
-fn print_binary<R: Print>(rt: &R, bytes: &[u8]) -> io::Result<()> {
-    print!(rt; "<")?;
-    print_hex(rt, bytes)?;
-    print!(rt; ">")
+fn put_binary(out: &mut Answer, bytes: &[u8]) {
+    out.put("<");
+    out.put_hex(bytes);
+    out.put(">");
 }
 
 // A value that holds no others, or how many it holds.
-fn print_leaf<R: Print>(rt: &R, value: &Value) -> io::Result<()> {
+fn put_leaf(out: &mut Answer, value: &Value) {
     match value {
-        Value::Nil => print!(rt; "nil"),
-        Value::Bool(truth) => print!(rt; "{truth}"),
-        Value::Int(number) => print!(rt; "{}", number.get()),
-        Value::Str(text) => print_text(rt, text.as_str()),
-        Value::Bin(bytes) => print_binary(rt, bytes),
-        Value::Array(items) => print!(rt; "array of {}", items.len()),
-        Value::Map(pairs) => print!(rt; "map of {}", pairs.len()),
+        Value::Nil => out.put("nil"),
+        Value::Bool(truth) => out.put_item("", truth),
+        Value::Int(number) => out.put_item("", &number.get()),
+        Value::Str(text) => put_text(out, text.as_str()),
+        Value::Bin(bytes) => put_binary(out, bytes),
+        Value::Array(items) => out.put_item("array of ", &items.len()),
+        Value::Map(pairs) => out.put_item("map of ", &pairs.len()),
     }
 }
 
-fn print_items<R: Print>(rt: &R, items: &[Value]) -> io::Result<()> {
-    print!(rt; "[")?;
+fn put_items(out: &mut Answer, items: &[Value]) {
+    out.put("[");
     for item in items {
-        print!(rt; " ")?;
-        print_leaf(rt, item)?;
+        out.put(" ");
+        put_leaf(out, item);
     }
-    print!(rt; " ]")
+    out.put(" ]");
 }
 
-fn print_pairs<R: Print>(rt: &R, pairs: &[(Value, Value)]) -> io::Result<()> {
-    print!(rt; "{{")?;
+fn put_pairs(out: &mut Answer, pairs: &[(Value, Value)]) {
+    out.put("{");
     for pair in pairs {
-        print!(rt; " ")?;
-        print_leaf(rt, &pair.0)?;
-        print!(rt; " ")?;
-        print_leaf(rt, &pair.1)?;
+        out.put(" ");
+        put_leaf(out, &pair.0);
+        out.put(" ");
+        put_leaf(out, &pair.1);
     }
-    print!(rt; " }}")
+    out.put(" }");
 }
 
 // What lies deeper shows in the bytes that the value is written as.
-fn print_value<R: Print>(rt: &R, value: &Value) -> io::Result<()> {
+fn put_value(out: &mut Answer, value: &Value) {
     match value {
-        Value::Array(items) => print_items(rt, items),
-        Value::Map(pairs) => print_pairs(rt, pairs),
-        _ => print_leaf(rt, value),
+        Value::Array(items) => put_items(out, items),
+        Value::Map(pairs) => put_pairs(out, pairs),
+        _ => put_leaf(out, value),
     }
 }
 
-/// Prints the bytes that a value is written as.
-pub fn print_encoded<R: Print>(rt: &R, alloc: Global, value: &Value) -> io::Result<()> {
-    match encode(alloc, value) {
-        Ok(bytes) => print_hex(rt, &bytes),
-        Err(e) => print!(rt; "{e}"),
+/// Puts the bytes that a value is written as.
+pub fn put_encoded(out: &mut Answer, value: &Value) {
+    match encode(out.alloc(), value) {
+        Ok(bytes) => out.put_hex(&bytes),
+        Err(e) => out.put_item("", &e),
     }
 }
 
-fn print_decoded<R: Print>(rt: &R, alloc: Global, size: usize, value: &Value) -> io::Result<()> {
-    print!(rt; "{size} ")?;
-    print_value(rt, value)?;
-    print!(rt; " = ")?;
-    print_encoded(rt, alloc, value)
+fn put_decoded(out: &mut Answer, size: usize, value: &Value) {
+    out.put_item("", &size);
+    out.put(" ");
+    put_value(out, value);
+    out.put(" = ");
+    put_encoded(out, value);
 }
 
 /// `value HEX`: how many bytes a value takes, what it is, and the bytes that it is written as.
-pub fn print_value_case<R: Print>(rt: &R, alloc: Global, case: &str) -> io::Result<()> {
-    let bytes = bytes_of(alloc, case)?;
-    match decode(alloc, &bytes) {
-        Ok((value, size)) => print_decoded(rt, alloc, size, &value)?,
-        Err(e) => print!(rt; "{e}")?,
+pub fn put_value_case(out: &mut Answer, case: &str) {
+    let bytes = bytes_of(out, case);
+    match decode(out.alloc(), &bytes) {
+        Ok((value, size)) => put_decoded(out, size, &value),
+        Err(e) => out.put_item("", &e),
     }
-    println!(rt; "")
 }
 
 // An array in an array, and so on, so many altogether.
@@ -95,49 +95,54 @@ fn nested(alloc: Global, depth: u64) -> Result<Value, AllocError> {
 }
 
 /// `nested DEPTH`: the bytes of so many arrays, each in the one before.
-pub fn print_nested<R: Print>(rt: &R, alloc: Global, case: &str) -> io::Result<()> {
-    print_encoded(rt, alloc, &nested(alloc, count(case) as u64)?)?;
-    println!(rt; "")
+pub fn put_nested(out: &mut Answer, case: &str) {
+    match nested(out.alloc(), count(case) as u64) {
+        Ok(value) => put_encoded(out, &value),
+        Err(_) => out.fail(),
+    }
 }
 
-fn print_group<R: Print>(rt: &R, at: usize, group: &Frames) -> io::Result<()> {
-    print!(rt; " at {at}:")?;
+fn put_group(out: &mut Answer, at: usize, group: &Frames) {
+    out.put_item(" at ", &at);
+    out.put(":");
     for place in 0..group.len() {
-        print!(rt; " ")?;
-        print_hex(rt, group.get(place).unwrap_or(&[]))?;
+        out.put(" ");
+        out.put_hex(group.get(place).unwrap_or(&[]));
     }
-    Ok(())
 }
 
 // Takes the groups that are whole.
-fn print_groups<R: Print>(rt: &R, reader: &mut FrameReader, at: usize) -> io::Result<()> {
+fn put_groups(out: &mut Answer, reader: &mut FrameReader, at: usize) {
     for _ in 0..at {
         match reader.take() {
-            Some(group) => print_group(rt, at, &group)?,
+            Some(group) => put_group(out, at, &group),
             None => break,
         }
     }
-    Ok(())
 }
 
 // Feeds a piece of a stream, which ends at this byte.
-fn feed<R: Print>(rt: &R, reader: &mut FrameReader, at: usize, piece: &[u8]) -> io::Result<()> {
+fn feed(out: &mut Answer, reader: &mut FrameReader, at: usize, piece: &[u8]) {
     if let Err(e) = reader.feed(piece) {
-        print!(rt; " at {at}: {e}")?;
+        out.put_item(" at ", &at);
+        out.put_item(": ", &e);
     }
-    print_groups(rt, reader, at)
+    put_groups(out, reader, at);
+}
+
+fn put_pieces(out: &mut Answer, size: usize, bytes: &[u8]) {
+    let mut reader = FrameReader::new(out.alloc());
+    let mut at: usize = 0;
+    out.put("groups");
+    for piece in bytes.chunks(size.max(1)) {
+        at = at.saturating_add(piece.len());
+        feed(out, &mut reader, at, piece);
+    }
 }
 
 /// `stream SIZE HEX`: the groups in a stream that comes in pieces of so many bytes, with the byte at which each is there.
-pub fn print_stream<R: Print>(rt: &R, alloc: Global, case: &str) -> io::Result<()> {
+pub fn put_stream(out: &mut Answer, case: &str) {
     let (size, hex) = next_word(case);
-    let bytes = bytes_of(alloc, hex)?;
-    let mut reader = FrameReader::new(alloc);
-    let mut at: usize = 0;
-    print!(rt; "groups")?;
-    for piece in bytes.chunks(count(size).max(1)) {
-        at = at.saturating_add(piece.len());
-        feed(rt, &mut reader, at, piece)?;
-    }
-    println!(rt; "")
+    let bytes = bytes_of(out, hex);
+    put_pieces(out, count(size), &bytes);
 }

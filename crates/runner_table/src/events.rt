@@ -1,79 +1,95 @@
 //! Entries of a history, printed with all their parts: the stamp, the event's name, its arguments in their order and, behind a `|`, the message that
 //! it took. A worker that asks for blocks is `w1`, and a client `c1`.
-use crate::messages::{print_keys, print_message, print_numbers};
+use crate::messages::print_message;
+use crate::page::Page;
 use cluster_msgs::{Asker, Entry, Event};
-use std::io;
 
-fn asker_mark(asker: Asker) -> (&'static str, u32) {
-    match asker {
-        Asker::Worker(number) => ("w", number),
-        Asker::Client(number) => ("c", number),
+fn name_of(event: &Event) -> &'static str {
+    match event {
+        Event::Want { .. } => "want",
+        Event::Release { .. } => "release",
+        Event::Join { .. } => "join",
+        Event::Lose { .. } => "lose",
+        Event::SeeLoss { .. } => "see-loss",
+        Event::Suspect { .. } => "suspect",
+        Event::DeliverDown { .. } => "deliver-down",
+        Event::DeliverUp { .. } => "deliver-up",
+        Event::DeliverToClient { .. } => "deliver-to-client",
+        Event::DeliverFromClient { .. } => "deliver-from-client",
+        Event::Start { .. } => "start",
+        Event::Finish { .. } => "finish",
+        Event::SendGather { .. } => "send-gather",
+        Event::ServeGather { .. } => "serve-gather",
+        Event::ArriveGather { .. } => "arrive-gather",
+        Event::FailGather { .. } => "fail-gather",
+        Event::Balance => "balance",
+        Event::Evict => "evict",
+        Event::Spill { .. } => "spill",
+        Event::LoseSpilled { .. } => "lose-spilled",
     }
 }
 
-fn print_wanted<R: Print>(rt: &R, name: &str, client: u32, keys: &[u32]) -> io::Result<()> {
-    print!(rt; "{name} {client} ")?;
-    print_keys(rt, keys)
+fn print_asker(page: &mut Page, asker: Asker) {
+    match asker {
+        Asker::Worker(number) => page.item(" w", number),
+        Asker::Client(number) => page.item(" c", number),
+    }
 }
 
-fn print_ask<R: Print>(rt: &R, name: &str, asker: Asker, numbers: &[u64]) -> io::Result<()> {
-    let (mark, number) = asker_mark(asker);
-    print!(rt; "{name} {mark}{number}")?;
-    print_numbers(rt, "", numbers)
+// The one who asks, and numbers behind it.
+fn print_ask(page: &mut Page, asker: Asker, numbers: &[u64]) {
+    print_asker(page, asker);
+    page.numbers("", numbers);
 }
 
-/// A served ask, of which the peer stands before the asker.
-fn print_served<R: Print>(rt: &R, peer: u32, asker: Asker, ask: u64) -> io::Result<()> {
-    let (mark, number) = asker_mark(asker);
-    print!(rt; "serve-gather {peer} {mark}{number} {ask}")
+// A served ask, of which the peer stands before the asker.
+fn print_served(page: &mut Page, peer: u32, asker: Asker, ask: u64) {
+    page.item(" ", peer);
+    print_ask(page, asker, &[ask]);
 }
 
-fn print_one<R: Print>(rt: &R, name: &str, number: u32) -> io::Result<()> {
-    print!(rt; "{name} {number}")
+fn print_wanted(page: &mut Page, client: u32, keys: &[u32]) {
+    page.item(" ", client);
+    page.keys("", keys);
 }
 
-fn print_two<R: Print>(rt: &R, name: &str, worker: u32, key: u32) -> io::Result<()> {
-    print!(rt; "{name} {worker} {key}")
-}
-
-fn print_event<R: Print>(rt: &R, event: &Event) -> io::Result<()> {
+fn print_event(page: &mut Page, event: &Event) {
+    page.put(name_of(event));
     match event {
-        Event::Want { client, keys } => print_wanted(rt, "want", *client, keys.as_slice()),
-        Event::Release { client, keys } => print_wanted(rt, "release", *client, keys.as_slice()),
-        Event::Join { threads } => print_one(rt, "join", *threads),
-        Event::Lose { worker } => print_one(rt, "lose", *worker),
-        Event::SeeLoss { worker } => print_one(rt, "see-loss", *worker),
-        Event::Suspect { worker } => print_one(rt, "suspect", *worker),
-        Event::DeliverDown { worker } => print_one(rt, "deliver-down", *worker),
-        Event::DeliverUp { worker } => print_one(rt, "deliver-up", *worker),
-        Event::DeliverToClient { client } => print_one(rt, "deliver-to-client", *client),
-        Event::DeliverFromClient { client } => print_one(rt, "deliver-from-client", *client),
-        Event::Start { worker } => print_one(rt, "start", *worker),
-        Event::Finish { worker, key } => print_two(rt, "finish", *worker, *key),
-        Event::SendGather { asker, peer } => {
-            print_ask(rt, "send-gather", *asker, &[u64::from(*peer)])
+        Event::Want { client, keys } | Event::Release { client, keys } => {
+            print_wanted(page, *client, keys.as_slice())
         }
-        Event::ServeGather { peer, asker, ask } => print_served(rt, *peer, *asker, *ask),
+        Event::Join { threads: number }
+        | Event::Lose { worker: number }
+        | Event::SeeLoss { worker: number }
+        | Event::Suspect { worker: number }
+        | Event::DeliverDown { worker: number }
+        | Event::DeliverUp { worker: number }
+        | Event::DeliverToClient { client: number }
+        | Event::DeliverFromClient { client: number }
+        | Event::Start { worker: number } => page.item(" ", *number),
+        Event::Finish { worker, key }
+        | Event::Spill { worker, key }
+        | Event::LoseSpilled { worker, key } => { page.numbers("", &[*worker as u64, *key as u64]) }
+        Event::SendGather { asker, peer } | Event::FailGather { asker, peer } => {
+            print_ask(page, *asker, &[*peer as u64])
+        }
         Event::ArriveGather { asker, peer, ask } => {
-            print_ask(rt, "arrive-gather", *asker, &[u64::from(*peer), *ask])
+            print_ask(page, *asker, &[*peer as u64, *ask])
         }
-        Event::FailGather { asker, peer } => {
-            print_ask(rt, "fail-gather", *asker, &[u64::from(*peer)])
-        }
-        Event::Balance => print!(rt; "balance"),
-        Event::Evict => print!(rt; "evict"),
-        Event::Spill { worker, key } => print_two(rt, "spill", *worker, *key),
-        Event::LoseSpilled { worker, key } => print_two(rt, "lose-spilled", *worker, *key),
+        Event::ServeGather { peer, asker, ask } => print_served(page, *peer, *asker, *ask),
+        Event::Balance | Event::Evict => {}
     }
 }
 
 /// An entry.
-pub fn print_entry<R: Print>(rt: &R, entry: &Entry) -> io::Result<()> {
-    print!(rt; "{} ", entry.stamp)?;
-    print_event(rt, &entry.event)?;
+pub fn print_entry(page: &mut Page, entry: &Entry) {
+    page.item("", entry.stamp);
+    page.put(" ");
+    print_event(page, &entry.event);
     if let Some(message) = &entry.message {
-        print!(rt; " | ")?;
-        print_message(rt, message)?;
+        page.put(" | ");
+        print_message(page, message);
     }
-    println!(rt; "")
+    page.put("\n");
 }

@@ -1,77 +1,75 @@
 //! The entries of all nodes of a run by their stamps, printed, and the report that they tell.
 use crate::events::print_entry;
-use cluster_msgs::{GraphShape, History};
+use crate::page::Page;
+use cluster_msgs::{Entry, GraphShape, History, Sequence};
 use journal_audit::{Journal, merge, report};
 use node_runner::Histories;
-use run_report::push_report;
 use std::alloc::{AllocError, Global};
-use std::io;
 
 /// Prints the entries of all nodes, and their report.
-pub fn print<R: Print>(
-    rt: &R,
-    alloc: Global,
-    shape: &GraphShape,
-    histories: Option<Histories>,
-) -> io::Result<()> {
-    let Some(histories) = histories else {
-        return println!(rt; "no histories");
-    };
-    let Ok(all) = rows(alloc, histories) else {
-        return println!(rt; "no memory");
-    };
-    print_cuts(rt, all.as_slice())?;
-    match merge(alloc, all) {
-        Ok(journal) => print_merged(rt, alloc, shape, &journal),
-        Err(_) => println!(rt; "no memory"),
+pub fn print(page: &mut Page, alloc: Global, shape: &GraphShape, histories: Option<Histories>) {
+    match histories {
+        Some(histories) => {
+            let rows = rows(page, alloc, histories);
+            print_cuts(page, &rows);
+            print_merged(page, alloc, shape, merge(alloc, rows));
+        }
+        None => page.line("no histories"),
     }
 }
 
 /// The histories of the scheduler, of the workers by number and of the client.
-fn rows(alloc: Global, histories: Histories) -> Result<Vec<History>, AllocError> {
+fn rows(page: &mut Page, alloc: Global, histories: Histories) -> Vec<History> {
     let Histories {
         scheduler,
         workers,
         client,
     } = histories;
-    let mut all = Vec::new(alloc);
-    all.push(scheduler)?;
+    let mut all = Sequence::new(alloc);
+    page.keep(all.push(scheduler));
     for worker in workers {
-        all.push(worker)?;
+        page.keep(all.push(worker));
     }
-    all.push(client)?;
-    Ok(all)
+    page.keep(all.push(client));
+    all.into_vec()
 }
 
 /// Tells of each history that had no room for all its entries.
-fn print_cuts<R: Print>(rt: &R, histories: &[History]) -> io::Result<()> {
+fn print_cuts(page: &mut Page, histories: &[History]) {
     for history in histories {
         if let Some(entry) = &history.cut {
-            println!(rt; "cut at {}", entry.stamp)?;
+            page.item("cut at ", entry.stamp);
+            page.put("\n");
         }
     }
-    Ok(())
 }
 
-fn print_merged<R: Print>(
-    rt: &R,
+fn print_merged(
+    page: &mut Page,
     alloc: Global,
     shape: &GraphShape,
-    journal: &Journal,
-) -> io::Result<()> {
-    for entry in journal.as_slice() {
-        print_entry(rt, entry)?;
-    }
-    match told(alloc, shape, journal) {
-        Ok(text) => print!(rt; "{text}"),
-        Err(_) => println!(rt; "no memory"),
+    journal: Result<Journal, AllocError>,
+) {
+    match journal {
+        Ok(journal) => {
+            print_entries(page, journal.as_slice());
+            print_report(page, alloc, shape, &journal);
+            drop(journal);
+        }
+        Err(_) => page.fail(),
     }
 }
 
-/// The text of the report of a journal.
-fn told(alloc: Global, shape: &GraphShape, journal: &Journal) -> Result<String, AllocError> {
-    let report = report(alloc, shape, journal)?;
-    let mut text = String::new(alloc);
-    push_report(alloc, &mut text, &report)?;
-    Ok(text)
+fn print_entries(page: &mut Page, entries: &[Entry]) {
+    for entry in entries {
+        print_entry(page, entry);
+    }
+}
+
+/// The report of a journal.
+fn print_report(page: &mut Page, alloc: Global, shape: &GraphShape, journal: &Journal) {
+    match report(alloc, shape, journal) {
+        Ok(report) => page.report(alloc, &report),
+        Err(_) => page.fail(),
+    }
 }

@@ -12,32 +12,43 @@ mod gates;
 mod journal;
 mod messages;
 mod name;
+mod page;
 mod play;
 mod results;
 mod sums;
 
+use page::Page;
 use std::alloc::{AllocGlobal, Global};
 use std::io;
 use std::random::RandomSource;
 use std::sync::Wait;
 use std::thread::Threads;
 
-fn play_line<R: Print + Threads + Wait + RandomSource + AllocGlobal + Sync>(
+fn play_line<R: Threads + Wait + RandomSource + AllocGlobal + Sync>(
     rt: &R,
     alloc: Global,
+    page: &mut Page,
     line: &str,
-) -> io::Result<()> {
-    println!(rt; "{line}")?;
+) {
+    page.line(line);
     match asked::read(alloc, line) {
-        Some(asked) => play::play(rt, alloc, &asked),
-        None => println!(rt; "no such line"),
+        Some(asked) => {
+            play::play(rt, alloc, page, &asked);
+            drop(asked);
+        }
+        None => page.line("no such line"),
     }
 }
 
 fn main(rt: HostRuntime) -> io::Result<()> {
     let text = io::read_to_string(rt.alloc(), rt.reader())?;
+    let mut page = Page::new(rt.alloc());
     for line in text.as_str().lines() {
-        play_line(&rt, rt.alloc(), line)?;
+        play_line(&rt, rt.alloc(), &mut page, line);
+    }
+    print!(rt; "{}", page.as_str())?;
+    if page.is_short() {
+        println!(rt; "no memory")?;
     }
     Ok(())
 }

@@ -6,6 +6,7 @@ use crate::asked::Asked;
 use crate::gates::{Meeting, Slow};
 use crate::journal;
 use crate::name::{Named, Picks};
+use crate::page::Page;
 use crate::results::Results;
 use crate::sums::{Reader, Sums, graph};
 use cluster_msgs::{KeyList, RunFail};
@@ -13,7 +14,6 @@ use io_edge::Gate;
 use node_runner::{Ends, Fed, Histories, RunLabel, RunName, RunStatus, run_cluster};
 use node_states::{Blocks, Why};
 use std::alloc::{AllocError, AllocGlobal, Global};
-use std::io;
 use std::marker::Brand;
 use std::random::RandomSource;
 use std::sync::Wait;
@@ -38,36 +38,54 @@ struct Told {
 }
 
 /// Runs it, and prints how it ended.
-pub fn play<R: Print + Threads + Wait + RandomSource + AllocGlobal + Sync>(
+pub fn play<R: Threads + Wait + RandomSource + AllocGlobal + Sync>(
     rt: &R,
     alloc: Global,
+    page: &mut Page,
     asked: &Asked,
-) -> io::Result<()> {
-    let Some(shape) = graph(alloc, asked.leaves, asked.shared, u64::from(asked.work)) else {
-        return println!(rt; "no memory");
-    };
-    let job = Sums {
-        shape,
-        zero: asked.zero,
-    };
-    let meeting = Meeting::new(u64::from(asked.meet));
-    let slow = Slow { looks: asked.slow };
-    let told = if asked.meet > 0 {
-        run(rt, alloc, asked, &meeting, &job)
+) {
+    match graph(alloc, asked.leaves, asked.shared, asked.manner.work as u64) {
+        Some(shape) => {
+            let zero = asked.manner.zero;
+            play_job(rt, alloc, page, asked, &Sums { shape, zero });
+        }
+        None => page.line("no memory"),
+    }
+}
+
+fn play_job<R: Threads + Wait + RandomSource + AllocGlobal + Sync>(
+    rt: &R,
+    alloc: Global,
+    page: &mut Page,
+    asked: &Asked,
+    job: &Sums,
+) {
+    let told = if asked.manner.meet > 0 {
+        meet(rt, alloc, page, asked, job)
     } else {
-        run(rt, alloc, asked, &slow, &job)
+        let looks = asked.manner.slow;
+        run(rt, alloc, asked, &Slow { looks }, job)
     };
-    let Ok(told) = told else {
-        return println!(rt; "no memory");
-    };
-    if asked.meet > 0 {
-        println!(rt; "{} tasks at once: {}", asked.meet, meeting.met())?;
+    match told {
+        Ok(told) => print(page, alloc, asked, job, told),
+        Err(_) => page.line("no memory"),
     }
-    print(rt, &told)?;
-    if asked.journal {
-        return journal::print(rt, alloc, &job.shape, told.histories);
-    }
-    Ok(())
+}
+
+/// Runs it with tasks that meet, and prints whether they did.
+fn meet<R: Threads + Wait + RandomSource + AllocGlobal + Sync>(
+    rt: &R,
+    alloc: Global,
+    page: &mut Page,
+    asked: &Asked,
+    job: &Sums,
+) -> Result<Told, AllocError> {
+    let meeting = Meeting::new(asked.manner.meet as u64);
+    let told = run(rt, alloc, asked, &meeting, job);
+    page.item("", asked.manner.meet);
+    page.item(" tasks at once: ", meeting.met());
+    page.put("\n");
+    told
 }
 
 /// Runs it. Each value that is told is that of its key.
@@ -97,11 +115,15 @@ where
     requires { P.picked ≡ Some job.now }
     ensures { IfOk result (λ t. IfOk t.worths (λ ws. All (λ w. sum_of job.now.shape job.now.zero w.key ≡ Some w.value) ws.items)) }
 {
-    let mut wanted = asked.wanted.copy()?;
-    wanted.push(job.shape.keys().saturating_sub(1))?;
-    let feeds = feeds::<Named<P>>(alloc, asked)?;
-    let stores = stores::<Named<P>>(alloc, asked.plan.numbers(), job.shape.keys())?;
-    let results = Results::<RunLabel<Sums, Named<P>>>::new(alloc, job.shape.keys())?;
+    let keys = job.shape.keys();
+    let results = Results::<RunLabel<Sums, Named<P>>>::new(alloc, keys)?;
+    let mut wanted = KeyList::new(alloc);
+    let mut feeds = Vec::new(alloc);
+    let mut stores = Vec::new(alloc);
+    if begin::<Named<P>>(alloc, asked, keys, &mut wanted, &mut feeds, &mut stores).is_err() {
+        // Without stores nothing is run, as for want of memory.
+        stores.clear();
+    }
     let (ends, results) = run_cluster::<
         R,
         Sums,
@@ -120,38 +142,65 @@ where
         stores,
         results,
     );
-    told_of(alloc, job, &wanted, ends, &results)
+    let told = told_of(alloc, job, &wanted, ends, &results);
+    drop(results);
+    Ok(told)
 }
 
-/// The feeds of each worker that may come.
-fn feeds<K: RunName<Sums>>(
+/// Adds the keys that the client wants, and the feeds and the stores of the workers.
+fn begin<K: RunName<Sums>>(
     alloc: Global,
     asked: &Asked,
-) -> Result<Vec<Vec<Fed<Sums, K>>>, AllocError> {
-    let mut all = Vec::new(alloc);
-    for at in 0..asked.plan.numbers() {
-        let worker = at + 1;
-        all.push(feeds_of(alloc, feed_count(asked, worker), failure(asked, worker))?)?;
-    }
-    Ok(all)
+    keys: u32,
+    wanted: &mut KeyList,
+    feeds: &mut Vec<Vec<Fed<Sums, K>>>,
+    stores: &mut Vec<Store<K>>,
+) -> Result<(), AllocError> {
+    add_wanted(wanted, asked.wanted.as_slice())?;
+    wanted.push(keys.saturating_sub(1))?;
+    add_feeds(alloc, feeds, asked)?;
+    add_stores(alloc, stores, asked.plan.numbers(), keys)
 }
 
-/// A store of blocks for each worker that may come, which keeps them all in memory.
-fn stores<K: RunName<Sums>>(
+fn add_wanted(wanted: &mut KeyList, keys: &[u32]) -> Result<(), AllocError> {
+    for key in keys {
+        wanted.push(*key)?;
+    }
+    Ok(())
+}
+
+/// Adds the feeds of each worker that may come.
+fn add_feeds<K: RunName<Sums>>(
     alloc: Global,
+    feeds: &mut Vec<Vec<Fed<Sums, K>>>,
+    asked: &Asked,
+) -> Result<(), AllocError> {
+    for at in 0..asked.plan.numbers() {
+        let worker = at + 1;
+        let mut own = Vec::new(alloc);
+        let added = add_own(&mut own, feed_count(asked, worker), failure(asked, worker));
+        feeds.push(own)?;
+        added?;
+    }
+    Ok(())
+}
+
+/// Adds a store of blocks for each worker that may come, which keeps them all in memory.
+fn add_stores<K: RunName<Sums>>(
+    alloc: Global,
+    stores: &mut Vec<Store<K>>,
     numbers: u32,
     keys: u32,
-) -> Result<Vec<Store<K>>, AllocError> {
-    let mut stores = Vec::new(alloc);
+) -> Result<(), AllocError> {
     for _ in 0..numbers {
         stores.push(Blocks::new(alloc, keys)?)?;
     }
-    Ok(stores)
+    Ok(())
 }
 
 /// How many feeds a worker has.
 fn feed_count(asked: &Asked, worker: u32) -> u32 {
-    if worker == asked.short {
+    if worker == asked.manner.short {
         0
     } else {
         asked.plan.threads
@@ -160,9 +209,9 @@ fn feed_count(asked: &Asked, worker: u32) -> u32 {
 
 /// How a worker's feeds fail, if they do.
 fn failure(asked: &Asked, worker: u32) -> Option<RunFail> {
-    if worker == asked.failing {
+    if worker == asked.manner.failing {
         Some(RunFail::Feed)
-    } else if worker == asked.hungry {
+    } else if worker == asked.manner.hungry {
         Some(RunFail::OutOfMemory)
     } else {
         None
@@ -170,16 +219,15 @@ fn failure(asked: &Asked, worker: u32) -> Option<RunFail> {
 }
 
 #[tactic(auto, using(crate::proofs::Played::fed))]
-fn feeds_of<K: RunName<Sums>>(
-    alloc: Global,
+fn add_own<K: RunName<Sums>>(
+    own: &mut Vec<Fed<Sums, K>>,
     count: u32,
     fails: Option<RunFail>,
-) -> Result<Vec<Fed<Sums, K>>, AllocError> {
-    let mut own = Vec::new(alloc);
+) -> Result<(), AllocError> {
     for _ in 0..count {
         own.push(Fed::new(Reader { fails, faults: 0 }))?;
     }
-    Ok(own)
+    Ok(())
 }
 
 /// How a run ended, without its feeds and stores.
@@ -189,27 +237,29 @@ fn told_of<K: RunName<Sums>>(
     wanted: &KeyList,
     ends: Ends<Fed<Sums, K>, Store<K>>,
     results: &Results<RunLabel<Sums, K>>,
-) -> Result<Told, AllocError>
+) -> Told
     requires named { K.job ≡ Some job.now }
     requires told { K.told ≡ true }
-    ensures { IfOk result (λ t. IfOk t.worths (λ ws. All (λ w. sum_of job.now.shape job.now.zero w.key ≡ Some w.value) ws.items)) }
+    ensures { IfOk result.worths (λ ws. All (λ w. sum_of job.now.shape job.now.zero w.key ≡ Some w.value) ws.items) }
 {
     let Ends {
         result,
         histories,
         left,
-        feeds: _,
-        stores: _,
+        feeds,
+        stores,
     } = ends;
+    drop(feeds);
+    drop(stores);
     let worths = match result {
-        Ok(()) => Ok(worths(alloc, job, wanted.as_slice(), results)?),
+        Ok(()) => worths(alloc, job, wanted.as_slice(), results),
         Err(status) => Err(status),
     };
-    Ok(Told {
+    Told {
         worths,
         left,
         histories,
-    })
+    }
 }
 
 fn worths<K: RunName<Sums>>(
@@ -217,7 +267,7 @@ fn worths<K: RunName<Sums>>(
     job: &Sums,
     wanted: &[u32],
     results: &Results<RunLabel<Sums, K>>,
-) -> Result<Vec<Worth>, AllocError>
+) -> Result<Vec<Worth>, RunStatus>
     requires named { K.job ≡ Some job.now }
     requires told { K.told ≡ true }
     ensures { IfOk result (λ ws. All (λ w. sum_of job.now.shape job.now.zero w.key ≡ Some w.value) ws.items) }
@@ -225,7 +275,9 @@ fn worths<K: RunName<Sums>>(
     let mut worths = Vec::new(alloc);
     for key in wanted {
         if let Some(worth) = worth_of(job, *key, results) {
-            worths.push(worth)?;
+            if worths.push(worth).is_err() {
+                return Err(RunStatus::Memory);
+            }
         }
     }
     Ok(worths)
@@ -255,21 +307,43 @@ fn why(why: Why) -> &'static str {
     }
 }
 
-fn print<R: Print>(rt: &R, told: &Told) -> io::Result<()> {
-    match &told.worths {
-        Ok(worths) => {
-            for worth in worths {
-                println!(rt; "key {} is {}", worth.key, worth.value)?;
-            }
+fn print(page: &mut Page, alloc: Global, asked: &Asked, job: &Sums, told: Told) {
+    let Told {
+        worths,
+        left,
+        histories,
+    } = told;
+    match worths {
+        Ok(worths) => print_worths(page, &worths),
+        Err(RunStatus::Zero { key }) => {
+            page.item("zero divisor at ", key);
+            page.put("\n");
         }
-        Err(RunStatus::Zero { key }) => println!(rt; "zero divisor at {key}")?,
-        Err(RunStatus::Read) => println!(rt; "read fault")?,
-        Err(RunStatus::Memory) => println!(rt; "no memory")?,
+        Err(RunStatus::Read) => page.line("read fault"),
+        Err(RunStatus::Memory) => page.line("no memory"),
     }
-    for (at, left) in told.left.iter().enumerate() {
-        if let Some(cause) = left {
-            println!(rt; "worker {} left: {}", at + 1, why(*cause))?;
+    print_left(page, &left);
+    if asked.manner.journal {
+        journal::print(page, alloc, &job.shape, histories);
+    } else {
+        drop(histories);
+    }
+}
+
+fn print_worths(page: &mut Page, worths: &[Worth]) {
+    for worth in worths {
+        page.item("key ", worth.key);
+        page.item(" is ", worth.value);
+        page.put("\n");
+    }
+}
+
+fn print_left(page: &mut Page, left: &[Option<Why>]) {
+    for (at, cause) in left.iter().enumerate() {
+        if let Some(cause) = cause {
+            page.item("worker ", at + 1);
+            page.item(" left: ", why(*cause));
+            page.put("\n");
         }
     }
-    Ok(())
 }

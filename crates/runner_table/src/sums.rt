@@ -1,11 +1,11 @@
 //! The job that is played: leaves, one task on each, maybe one on each four neighbours of these, and a tree of fours.
-ghost use Rattle.std.specs.Prelude.{◌≡◌, ◌+◌, ◌*◌, ◌%◌, ◌<◌, ◌^◌, fold, length, IfOk};
+ghost use Rattle.std.specs.Prelude.{◌≡◌, fold, IfOk};
 ghost use Rattle.cluster_msgs.specs.Jobs.{CountsFault, blocks_of};
 ghost use Rattle.cluster_msgs.specs.declared.jobs.Outcome.TheVariants.{Value};
 ghost use Rattle.runner_table.specs.Sums.{is_at, mixed_in};
 
 use cluster_msgs::{GraphRow, GraphShape, JobSpec, KeyList, Outcome, RunFail};
-use std::alloc::{AllocError, Global};
+use std::alloc::Global;
 use std::sync::Arc;
 
 /// What is read from outside: it fails, or finds no memory, where that is said.
@@ -111,82 +111,98 @@ fn mixed(inputs: &[Arc<u64>]) -> u64
 /// So many leaves, a key over each, and trees of fours over these down to one key, which is the last. Where keys are shared, a key over each four
 /// neighbours stands between. A key's work is so often the bytes that it reads and makes. None where they are too many, or there is no memory.
 pub fn graph(alloc: Global, leaves: u32, shared: bool, times: u64) -> Option<GraphShape> {
-    let rows = rows(alloc, leaves, shared, times).ok()?;
-    GraphShape::from_rows(alloc, rows).ok()
-}
-
-fn rows(alloc: Global, leaves: u32, shared: bool, times: u64) -> Result<Vec<GraphRow>, AllocError> {
-    let mut rows = Vec::new(alloc);
-    for _ in 0..leaves {
-        add(&mut rows, KeyList::new(alloc), times.saturating_mul(8))?;
-    }
-    add_windows(alloc, &mut rows, 0, leaves, 1, times)?;
-    let mut first = leaves;
-    let mut end = leaves.saturating_mul(2);
+    let mut rows = Rows {
+        alloc,
+        rows: Vec::new(alloc),
+        times,
+        is_short: false,
+    };
+    rows.add_leaves(leaves);
+    rows.add_windows(0, leaves, 1);
+    let end = leaves.saturating_mul(2);
     if shared {
-        add_windows(alloc, &mut rows, first, end, 4, times)?;
-        first = end;
-        end = leaves.saturating_mul(3);
+        rows.add_windows(leaves, end, 4);
+        rows.add_tree(end, leaves.saturating_mul(3));
+    } else {
+        rows.add_tree(leaves, end);
     }
-    for _ in 0..16 {
-        if end.saturating_sub(first) <= 1 {
-            return Ok(rows);
+    rows.into_graph()
+}
+
+/// Rows of a graph, how often a key's work is the bytes that it reads and makes, and whether there was no memory for a row.
+#[derive(Drop)]
+struct Rows {
+    alloc: Global,
+    rows: Vec<GraphRow>,
+    times: u64,
+    is_short: bool,
+}
+
+impl Rows {
+    /// A key over those from the first to an end, which reads and makes so many bytes.
+    fn add(&mut self, first: u32, end: u32, bytes: u64) {
+        let mut deps = KeyList::new(self.alloc);
+        for key in first..end {
+            self.is_short |= deps.push(key).is_err();
         }
-        let top = level(alloc, &mut rows, first, end, times)?;
-        first = end;
-        end = top;
+        let row = GraphRow {
+            deps,
+            work: self.times.saturating_mul(bytes),
+            nbytes: 8,
+        };
+        self.is_short |= self.rows.push(row).is_err();
     }
-    Ok(rows)
-}
 
-/// A key over each of these and so many neighbours, as far as there are.
-fn add_windows(
-    alloc: Global,
-    rows: &mut Vec<GraphRow>,
-    first: u32,
-    end: u32,
-    count: u32,
-    times: u64,
-) -> Result<(), AllocError> {
-    for key in first..end {
-        let last = key.saturating_add(count).min(end);
-        add(rows, keys(alloc, key, last)?, times.saturating_mul(16))?;
+    fn add_leaves(&mut self, leaves: u32) {
+        for _ in 0..leaves {
+            self.add(0, 0, 8);
+        }
     }
-    Ok(())
-}
 
-/// A key over each four of these, the first of which has number `end`. The end of the new ones.
-fn level(
-    alloc: Global,
-    rows: &mut Vec<GraphRow>,
-    first: u32,
-    end: u32,
-    times: u64,
-) -> Result<u32, AllocError> {
-    let mut made = end;
-    let mut key = first;
-    while key < end {
-        let last = key.saturating_add(4).min(end);
-        add(rows, keys(alloc, key, last)?, times.saturating_mul(40))?;
-        made = made.saturating_add(1);
-        key = last;
+    /// A key over each of these and so many neighbours, as far as there are.
+    fn add_windows(&mut self, first: u32, end: u32, count: u32) {
+        for key in first..end {
+            self.add(key, key.saturating_add(count).min(end), 16);
+        }
     }
-    Ok(made)
-}
 
-fn keys(alloc: Global, first: u32, end: u32) -> Result<KeyList, AllocError> {
-    let mut keys = KeyList::new(alloc);
-    for key in first..end {
-        keys.push(key)?;
+    /// A key over each four of these, the first of which has number `end`. The end of the new ones.
+    fn level(&mut self, first: u32, end: u32) -> u32 {
+        let mut made = end;
+        let mut key = first;
+        while key < end {
+            let last = key.saturating_add(4).min(end);
+            self.add(key, last, 40);
+            made = made.saturating_add(1);
+            key = last;
+        }
+        made
     }
-    Ok(keys)
-}
 
-fn add(rows: &mut Vec<GraphRow>, deps: KeyList, work: u64) -> Result<(), AllocError> {
-    rows.push(GraphRow {
-        deps,
-        work,
-        nbytes: 8,
-    })?;
-    Ok(())
+    /// Levels over these keys down to one key.
+    fn add_tree(&mut self, first: u32, end: u32) {
+        let mut first = first;
+        let mut end = end;
+        for _ in 0..16 {
+            if end.saturating_sub(first) <= 1 {
+                break;
+            }
+            let top = self.level(first, end);
+            first = end;
+            end = top;
+        }
+    }
+
+    fn into_graph(self) -> Option<GraphShape> {
+        let Rows {
+            alloc,
+            rows,
+            is_short,
+            ..
+        } = self;
+        if is_short {
+            return None;
+        }
+        GraphShape::from_rows(alloc, rows).ok()
+    }
 }

@@ -5,12 +5,11 @@ ghost use Rattle.cluster_msgs.specs.Shape.{key_count};
 ghost use Rattle.cluster_sim.specs.Openings.{AreWanted};
 ghost use Rattle.cluster_sim.specs.Plans.{plan_of, IsPlan};
 
-use crate::numbers::{RowError, Words, keys, number, small};
+use crate::words::{Fault, Words};
 use crate::world::quotients::{Number, Quotients};
 use crate::world::{Opening, read_opening};
 use cluster_msgs::{Item, KeyList, Script};
 use cluster_sim::SimPlan;
-use std::alloc::Global;
 
 /// A script has at most this many items.
 const MOST_ITEMS: usize = 64;
@@ -26,38 +25,40 @@ pub struct Setup {
 }
 
 // An item `lose:1@2`, `suspect:1@2` or `join@2`.
-fn read_item(word: &str) -> Result<Item, RowError> {
-    let (what, at) = word.split_once('@').ok_or(RowError::Ill)?;
-    let at = u128::from(number(at)?);
+fn read_item(words: &mut Words<'_>, word: &str) -> Item {
+    let (what, at) = word.split_once('@').unwrap_or((word, ""));
+    let at = words.number_of(at) as u128;
     match what.split_once(':') {
-        Some(("lose", worker)) => Ok(Item::Lose {
-            w: small(worker)?,
+        Some(("lose", worker)) => Item::Lose {
+            w: words.small_of(worker),
             at,
-        }),
-        Some(("suspect", worker)) => Ok(Item::Suspect {
-            w: small(worker)?,
+        },
+        Some(("suspect", worker)) => Item::Suspect {
+            w: words.small_of(worker),
             at,
-        }),
-        _ => Ok(Item::Join { at }),
+        },
+        _ => Item::Join { at },
     }
 }
 
-fn read_script(alloc: Global, word: &str) -> Result<Script, RowError> {
-    let mut script = Script::new(alloc);
+fn read_script(words: &mut Words<'_>) -> Script {
+    let mut script = Script::new(words.alloc());
+    let word = words.word();
     if word != "-" {
         for item in word.split(',') {
-            script.push(read_item(item)?)?;
+            let item = read_item(words, item);
+            words.note(script.push(item));
         }
     }
-    Ok(script)
+    script
 }
 
 // The plan of so many workers and threads, and of a script.
-fn plan_with(workers: u32, threads: u32, script: Script) -> Result<SimPlan, RowError>
+fn plan_with(workers: u32, threads: u32, script: Script) -> Result<SimPlan, Fault>
     ensures { IfOk result (λ p. IsPlan (plan_of p)) }
 {
     if workers > 64 || threads < 1 || threads > 16 || script.len() > MOST_ITEMS {
-        return Err(RowError::Ill);
+        return Err(Fault::Ill);
     }
     Ok(SimPlan {
         workers,
@@ -77,31 +78,29 @@ fn are_below(keys: &[u32], count: u32) -> bool
     true
 }
 
-// Some keys, all of a graph of so many.
-fn wanted_of(alloc: Global, word: &str, count: u32) -> Result<KeyList, RowError>
+// Some keys, if all are of a graph of so many.
+fn wanted_of(keys: KeyList, count: u32) -> Result<KeyList, Fault>
     ensures { IfOk result (λ keys. AreWanted count keys) }
 {
-    let keys = keys(alloc, word)?;
     if keys.is_empty() || !are_below(keys.as_slice(), count) {
-        return Err(RowError::Ill);
+        return Err(Fault::Ill);
     }
     Ok(keys)
 }
 
 /// What the words of a story say.
-pub fn read_setup(alloc: Global, words: &mut Words<'_>) -> Result<Setup, RowError>
+pub fn read_setup(words: &mut Words<'_>) -> Result<Setup, Fault>
     ensures plan { IfOk result (λ s. IsPlan (plan_of s.plan)) }
     ensures wanted { IfOk result (λ s. AreWanted (key_count s.job.shape) s.wanted) }
     ensures feed { IfOk result (λ s. s.feed.value ≡ s.job.content) }
 {
-    let workers = words.small()?;
-    let threads = words.small()?;
-    let number = words.number()?;
-    let script = read_script(alloc, words.word())?;
-    let plan = plan_with(workers, threads, script)?;
-    let wanted = words.word();
-    let Opening { job, feed } = read_opening(alloc, words)?;
-    let wanted = wanted_of(alloc, wanted, job.shape.keys())?;
+    let workers = words.small();
+    let threads = words.small();
+    let number = words.number();
+    let plan = plan_with(workers, threads, read_script(words))?;
+    let wanted = words.keys();
+    let Opening { job, feed } = read_opening(words)?;
+    let wanted = wanted_of(wanted, job.shape.keys())?;
     Ok(Setup {
         plan,
         number,

@@ -3,4 +3,4 @@ use Rattle.cluster_table.proofs.Setups.{are_wanted}
 use Rattle.cluster_table.proofs.simulation.setup.wanted_of.Goals as goal
 
 pub returns : goal.returns
-returns c = are_wanted c.args.count c.in_ok-keys.keys (search rules) (search rules)
+returns c = are_wanted c.args.count c.args.keys (search rules) (search rules)
