@@ -8,7 +8,8 @@ use array_expr::NodeId;
 use block_kernels::Spec;
 use block_lowering::sources::Name;
 use block_lowering::{LowerError, Lowered, lower};
-use job_text::{Job, Save, parse};
+use job_plan::{Job, Save};
+use job_text::parse;
 use task_graph::{Graph, Task};
 
 fn add_word(line: &mut Line, text: &mut String, word: &str) {
@@ -34,9 +35,8 @@ fn saved_nodes(line: &mut Line, saves: &[Save], count: usize) -> Vec<NodeId>
 {
     let mut nodes = Vec::new(line.alloc());
     for save in saves {
-        let node = save.node();
-        if (node.number() as usize) < count {
-            let added = nodes.push(node);
+        if (save.node.number() as usize) < count {
+            let added = nodes.push(save.node);
             if added.is_err() {
                 line.fail();
             }
@@ -102,8 +102,8 @@ fn put_lowered(line: &mut Line, lowered: &Lowered, whole: bool) {
 }
 
 fn put_job(line: &mut Line, job: &Job, whole: bool) {
-    let nodes = saved_nodes(line, job.saves(), job.expr().nodes().len());
-    match lower(line.alloc(), job.expr(), &nodes) {
+    let nodes = saved_nodes(line, job.saves.as_slice(), job.expr.nodes().len());
+    match lower(line.alloc(), &job.expr, &nodes) {
         Ok(lowered) => put_lowered(line, &lowered, whole),
         Err(LowerError::Limit { quantity }) => line.put_quantity(quantity),
         Err(LowerError::OutOfMemory) => line.fail(),
@@ -114,7 +114,7 @@ fn put_job(line: &mut Line, job: &Job, whole: bool) {
 pub fn answer(line: &mut Line, whole: bool) {
     let text = text_of(line);
     match parse(line.alloc(), text.as_bytes()) {
-        Ok(job) => put_job(line, &job, whole),
+        Ok(said) => put_job(line, &said.job, whole),
         Err(_) => line.mark_ill(),
     }
 }

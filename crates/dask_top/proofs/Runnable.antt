@@ -1,15 +1,20 @@
--- The job of a text can be run.
-use Rattle.std.proofs.Common.{◌≡◌, ℕ, suc, ◌<◌, Bool, true, false, cond, List, [], ◌∷◌, length, map, ap, refl, sym, subst, ◌∙◌, arith}
+-- The job of a text is what the text says, and can be run.
+use Rattle.std.proofs.Common.{◌≡◌, ℕ, suc, ◌<◌, Bool, true, false, cond, List, [], ◌∷◌, length, map, ap, refl, sym, subst, string_bytes, ◌∙◌, arith}
 use Rattle.std.specs.Prelude.{slice_index_or}
 use Rattle.std.proofs.lemmas.Bool.{false_from_ne_true}
 use Rattle.std.proofs.lemmas.List.{length-map, get_or-map}
 use Rattle.std.proofs.lemmas.Slice.Eq.{bytes_eq-Decides}
 use Rattle.array_expr.specs.declared.expr.Node.{Node}
 use Rattle.array_expr.specs.Elem.{is_input}
+use Rattle.job_plan.specs.declared.job.Save.{Save}
+use Rattle.job_run.specs.Jobs.{plan_of, saved_of}
 use Rattle.job_run.specs.Plan.{IsRunnable, Saved, input_shapes, name_at, names_saved}
 use Rattle.job_script.specs.Names.{Called}
-use Rattle.job_text.specs.Jobs.{FilesFit, Parts, input_nodes}
-use Rattle.dask_top.specs.Reading.{plan_said}
+use Rattle.job_text.specs.declared.job.Parsed.{Parsed}
+use Rattle.job_text.specs.Jobs.{FilesFit, IsJob, Parts, input_nodes}
+use Rattle.job_text.specs.JobParts.{parts_of, save_called}
+use Rattle.job_text.proofs.JobParts.{called-names}
+use Rattle.dask_top.specs.Reading.{SaysPlan, plan_said}
 
 inputs-count : (k : ℕ) (nodes : List Node) → length (input_nodes k nodes) ≡ length (input_shapes nodes)
 inputs-count k [] = refl
@@ -48,3 +53,16 @@ runnable job fit = record {
       (sym (file-saved job.saves j first) ∙ (sym ((bytes_eq-Decides (name_at (names_saved (plan_said job)) k) (name_at (names_saved (plan_said job)) j)).0 e) ∙ file-saved job.saves k below)));
   some = omega (arith, fit.some_saved, length-map job.saves saved);
 }
+
+saves-said : (saves : List Save) → map saved (map save_called saves) ≡ map saved_of saves
+saves-said [] = refl
+saves-said (s ∷ saves) = ap (λ w. saved_of s ∷ w) (saves-said saves)
+
+plan-said : (p : Parsed) → plan_said (parts_of p) ≡ plan_of p.job
+plan-said p = λ i. record { nodes = p.job.expr; inputs = called-names (input_nodes 0 p.job.expr) (map string_bytes p.job.inputs.items) i; saves = saves-said p.job.saves.items i }
+
+pub says-plan : (text : List ℕ) (p : Parsed) → IsJob text (parts_of p) → SaysPlan text (plan_of p.job)
+says-plan text p is = record { parts = parts_of p; job = is; says = sym (plan-said p) }
+
+pub can-run : (p : Parsed) → FilesFit (parts_of p) → IsRunnable (plan_of p.job)
+can-run p fit = subst IsRunnable (plan-said p) (runnable (parts_of p) fit)

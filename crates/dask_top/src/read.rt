@@ -6,7 +6,6 @@ ghost use Rattle.dask_top.specs.Reading.{SaysPlan};
 ghost use Rattle.dask_top.specs.TextEnds.{EndsAs, TextEnds};
 
 use crate::answer::End;
-use crate::convert::job_of;
 use job_run::Job;
 use job_text::{JobError, JobKind, parse};
 use std::alloc::Global;
@@ -27,12 +26,8 @@ pub fn read_job(alloc: Global, text: &[u8]) -> Result<Job, End>
     ensures runs { IfOk result (λ j. IsRunnable (plan_of j)) }
     ensures ends { IfErr result (TextEnds text.now) }
 {
-    let job = match parse(alloc, text) {
-        Ok(job) => job,
-        Err(error) => return Err(text_end(error)),
-    };
-    match job_of(alloc, job) {
-        Ok(job) => Ok(job),
-        Err(_) => Err(End::OutOfMemory),
+    match parse(alloc, text) {
+        Ok(said) => Ok(said.job),
+        Err(error) => Err(text_end(error)),
     }
 }

@@ -3,9 +3,10 @@ use crate::answer::Answer;
 use crate::text::unescaped;
 use crate::tokens::put_place_of;
 use array_expr::Op;
+use job_plan::Job;
 use job_script::{Asked, Named, Script, Why, read_script};
 use job_steps::{Ending, Step, Steps, read_steps};
-use job_text::{Job, parse};
+use job_text::{Parsed, parse};
 
 fn put_all_steps(out: &mut Answer, steps: &[Step]) {
     for step in steps {
@@ -68,11 +69,15 @@ fn asked_name(asked: &Asked) -> &'static str {
     }
 }
 
+fn put_file(out: &mut Answer, word: &str, name: &[u8], node: usize) {
+    out.put(word);
+    out.put_bytes(name);
+    out.put_item(" ", &node);
+}
+
 fn put_named(out: &mut Answer, word: &str, list: &[Named]) {
     for named in list {
-        out.put(word);
-        out.put_bytes(named.name());
-        out.put_item(" ", &named.node().number());
+        put_file(out, word, named.name(), named.node().number() as usize);
     }
 }
 
@@ -118,22 +123,41 @@ pub fn put_script(out: &mut Answer, case: &str) {
     }
 }
 
-fn put_whole_job(out: &mut Answer, job: &Job) {
-    out.put_item("", &job.expr().nodes().len());
+// The files of the inputs, with the input nodes in their order.
+fn put_inputs(out: &mut Answer, job: &Job) {
+    let mut files = job.inputs.iter();
+    for (node, made) in job.expr.nodes().iter().enumerate() {
+        if matches!(&made.op, Op::Input { .. })
+            && let Some(name) = files.next()
+        {
+            put_file(out, ", input ", name.as_bytes(), node);
+        }
+    }
+}
+
+fn put_saves(out: &mut Answer, job: &Job) {
+    for save in job.saves.iter() {
+        let node = save.node.number() as usize;
+        put_file(out, ", save ", save.file.as_bytes(), node);
+    }
+}
+
+fn put_whole_job(out: &mut Answer, said: &Parsed) {
+    out.put_item("", &said.job.expr.nodes().len());
     out.put(" nodes");
-    for span in job.spans().as_slice() {
+    for span in said.spans.as_slice() {
         out.put_item(" ", &span.line);
         out.put_item(":", &span.column);
     }
-    put_named(out, ", input ", job.inputs());
-    put_named(out, ", save ", job.saves());
+    put_inputs(out, &said.job);
+    put_saves(out, &said.job);
 }
 
 /// `job TEXT`: the places of the nodes and the files of a job, or its refusal.
 pub fn put_job(out: &mut Answer, case: &str) {
     let text = unescaped(out, case);
     match parse(out.alloc(), &text) {
-        Ok(job) => put_whole_job(out, &job),
+        Ok(said) => put_whole_job(out, &said),
         Err(e) => out.put_item("", &e),
     }
 }

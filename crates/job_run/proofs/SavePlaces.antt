@@ -4,8 +4,8 @@ use Rattle.std.proofs.lemmas.List.{get_or-map, length-map}
 use Rattle.array_expr.specs.Node.{shape_at, IsExpression}
 use Rattle.chunk_layout.specs.Layouts.{lengths}
 use Rattle.lowering_laws.specs.Named.{layout_of}
-use Rattle.job_run.specs.declared.job.Job.{Job}
-use Rattle.job_run.specs.declared.job.Save.{Save}
+use Rattle.job_plan.specs.declared.job.Job.{Job}
+use Rattle.job_plan.specs.declared.job.Save.{Save}
 use Rattle.job_run.specs.Evaluating.{node_at}
 use Rattle.job_run.specs.Jobs.{plan_of, saved_of}
 use Rattle.job_run.specs.Plan.{Plan, Saved, IsRunnable, nodes_saved}

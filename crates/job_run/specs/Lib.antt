@@ -3,11 +3,11 @@ pub mod Evaluating
 pub mod Filling
 pub mod Grouping
 pub mod Inputs
-pub mod Jobs
+pub use Rattle.job_plan.specs.Jobs
 pub mod Loading
 pub mod Lowering
 pub mod Part
-pub mod Plan
+pub use Rattle.job_plan.specs.Plan
 pub mod Runs
 pub mod Saving
 pub mod Starting

@@ -20,7 +20,6 @@ ghost use Rattle.job_run.specs.Plan.{IsRunnable, nodes_saved};
 ghost use Rattle.job_run.specs.Values.{Named, MeetsNone, tasks_of};
 
 use crate::group::{Group, hold_block, write_group};
-use crate::job::Job;
 use array_expr::NodeId;
 use block_lowering::counts::numbers_of;
 use block_lowering::sources::Name;
@@ -29,6 +28,7 @@ use chunk_layout::Layout;
 use cluster_msgs::RunFail;
 use graph_run::{Evaluation, Step};
 use io_edge::{OpenFault, OutFile, Site};
+use job_plan::Job;
 use lowering_laws::laws::{law_of_names, law_of_order};
 use lowering_laws::values::law_of_expression;
 use nd_shape::{Block, Dims, Region};

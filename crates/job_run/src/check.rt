@@ -5,8 +5,8 @@ ghost use Rattle.job_run.specs.Jobs.{plan_of, saved_of};
 ghost use Rattle.job_run.specs.Plan.{AreApart, IsRunnable, input_shapes, name_at};
 
 use crate::inputs::is_input;
-use crate::job::{Job, Save};
 use array_expr::Node;
+use job_plan::{Job, Save};
 
 // One more, if the node is an input.
 fn counted(count: usize, node: &Node) -> usize
@@ -68,18 +68,16 @@ fn names_apart(saves: &[Save]) -> bool
     true
 }
 
-impl Job {
-    /// Whether the job can be run: there are as many names of inputs as input nodes, some nodes are saved, those are there,
-    /// and their names differ. No memory.
-    pub fn is_runnable(&self) -> bool
-        ensures yes { result ≡ true → IsRunnable (plan_of self.now) }
-        ensures no { result ≡ false → IsRunnable (plan_of self.now) → ⊥ }
-    {
-        let nodes = self.expr.nodes();
-        let inputs = self.inputs.len() == input_count(nodes);
-        let there = nodes_there(self.saves.as_slice(), nodes.len());
-        let apart = names_apart(self.saves.as_slice());
-        let some = self.saves.len() > 0;
-        inputs & there & apart & some
-    }
+/// Whether a job can be run: there are as many names of inputs as input nodes, some nodes are saved, those are there,
+/// and their names differ. No memory.
+pub fn is_runnable(job: &Job) -> bool
+    ensures yes { result ≡ true → IsRunnable (plan_of job.now) }
+    ensures no { result ≡ false → IsRunnable (plan_of job.now) → ⊥ }
+{
+    let nodes = job.expr.nodes();
+    let inputs = job.inputs.len() == input_count(nodes);
+    let there = nodes_there(job.saves.as_slice(), nodes.len());
+    let apart = names_apart(job.saves.as_slice());
+    let some = job.saves.len() > 0;
+    inputs & there & apart & some
 }

@@ -9,8 +9,8 @@ ghost use Rattle.job_run.specs.Jobs.{plan_of};
 ghost use Rattle.job_run.specs.Part.{IsNoneOf, RaisedAtMost};
 ghost use Rattle.job_run.specs.Plan.{IsRunnable, names_saved};
 
-use crate::job::Job;
 use io_edge::{OpenFault, Site};
+use job_plan::Job;
 use saved_files::SavedFiles;
 use std::alloc::Global;
 

@@ -11,8 +11,8 @@ ghost use Rattle.job_run.specs.Jobs.{plan_of};
 ghost use Rattle.job_run.specs.Plan.{IsRunnable};
 ghost use Rattle.job_run.specs.Values.{Named};
 
-use crate::job::Job;
 use io_edge::{OpenFault, OutFile};
+use job_plan::Job;
 use nd_shape::{Block, Region};
 use saved_files::SavedFiles;
 use std::alloc::{AllocError, Global};

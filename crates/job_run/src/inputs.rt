@@ -10,10 +10,10 @@ ghost use Rattle.job_run.specs.Plan.{IsRunnable, input_shapes};
 ghost use Rattle.job_run.specs.Runs.{ReadCause};
 
 use crate::ends::Ended;
-use crate::job::Job;
 use crate::load::read_heads;
 use array_expr::{Node, Op};
 use io_edge::{OpenFault, Site};
+use job_plan::Job;
 use nd_shape::Shape;
 use npy_codec::Head;
 use std::alloc::{AllocError, Global};

@@ -5,8 +5,8 @@ ghost use Rattle.job_run.specs.Plan.{IsRunnable};
 ghost use Rattle.job_run.specs.Runs.{lines_of};
 ghost use Rattle.job_run.specs.Values.{saved_line, saved_lines};
 
-use crate::job::{Job, Save};
 use array_expr::Expr;
+use job_plan::{Job, Save};
 use std::alloc::{AllocError, Global};
 
 // Appends the line of a save.

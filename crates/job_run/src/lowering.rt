@@ -5,9 +5,9 @@ ghost use Rattle.job_run.specs.Lowering.{IsGraphOf, LowerCause};
 ghost use Rattle.job_run.specs.Plan.{IsRunnable};
 
 use crate::ends::Ended;
-use crate::job::{Job, Save};
 use array_expr::NodeId;
 use block_lowering::{LowerError, Lowered, lower};
+use job_plan::{Job, Save};
 use std::alloc::{AllocError, Global};
 
 // The nodes that are saved.

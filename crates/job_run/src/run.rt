@@ -6,10 +6,10 @@ ghost use Rattle.job_run.specs.Runs.{RunsPlan};
 use crate::ends::Ended;
 use crate::evaluate::evaluate;
 use crate::inputs::open_inputs;
-use crate::job::Job;
 use crate::lines::lines;
 use crate::lowering::lower_job;
 use io_edge::{Failed, Site, print_full};
+use job_plan::Job;
 use std::alloc::Global;
 use std::marker::Brand;
 

@@ -7,10 +7,10 @@ ghost use Rattle.job_run.specs.Wanted.{EndsAtKey, IsWantedOf};
 
 use crate::blocks::{Halt, halt_at, laws_hold};
 use crate::ends::Ended;
-use crate::job::Job;
 use block_lowering::sources::Name;
 use chunk_layout::Layout;
 use cluster_msgs::{KeyList, Sequence};
+use job_plan::Job;
 use nd_shape::Dims;
 use std::alloc::{AllocError, Global};
 

@@ -34,8 +34,9 @@ with_file file at s = cond (is_there s.saves file) (refused at Repeated) (Ok (re
 abbrev pub defined : ℕ → Scoped → Scoped
 defined node s = record s { names = s.names ++ record { name = s.name; node = node } ∷ [] }
 
+-- an input: its node is defined, and takes the file that waits
 abbrev pub with_input : ℕ → Scoped → Scoped
-with_input node s = record (defined node s) { inputs = s.inputs ++ record { name = s.file; node = node } ∷ [] }
+with_input node s = record (defined node s) { inputs = s.inputs ++ record { name = s.file; node = node } ∷ []; file = [] }
 
 abbrev pub saved : List ℕ → ℕ → ℕ → Scoped → Result Scoped Refusal
 saved file node at s = cond (is_there s.saves file || is_there s.inputs file) (refused at Repeated) (Ok (record s { saves = s.saves ++ record { name = file; node = node } ∷ [] }))

@@ -1,10 +1,9 @@
 // Names that stand for nodes, and files of nodes.
-ghost use Rattle.std.specs.Prelude.{◌≡◌, IfOk};
+ghost use Rattle.std.specs.Prelude.{◌≡◌};
 ghost use Rattle.std.specs.Str.{bytes_eq};
 ghost use Rattle.job_script.specs.Names.{node_called};
 
 use array_expr::NodeId;
-use std::alloc::{AllocError, Global};
 use std::marker::Model;
 
 /// A name, or the name of a file, with its node.
@@ -23,13 +22,10 @@ impl Model for Named {
 }
 
 impl Named {
-    pub(crate) fn new(alloc: Global, name: &[u8], node: NodeId) -> Result<Self, AllocError>
-        ensures { IfOk result (λ n. n ≡ record { name = name.now; node = node }) }
+    pub(crate) fn new(name: Vec<u8>, node: NodeId) -> Self
+        ensures { result ≡ record { name = name.items; node = node } }
     {
-        Ok(Named {
-            name: Vec::from_slice(alloc, name)?,
-            node,
-        })
+        Named { name, node }
     }
 
     /// The name. Takes no memory.
@@ -44,6 +40,14 @@ impl Named {
         ensures { result ≡ self.now.node }
     {
         self.node
+    }
+
+    /// Gives the name back. Takes no memory.
+    pub fn into_name(self) -> Vec<u8>
+        ensures { result.items ≡ self.name }
+    {
+        let Named { name, node: _ } = self;
+        name
     }
 
     fn is_called(&self, name: &[u8]) -> bool

@@ -9,6 +9,7 @@ use crate::named::{Named, find_node};
 use array_expr::NodeId;
 use std::alloc::{AllocError, Global};
 use std::marker::Model;
+use std::mem;
 
 /// The most statements.
 const STATEMENTS: u32 = 1024;
@@ -99,8 +100,8 @@ impl Scope {
     pub(crate) fn define(&mut self, node: NodeId) -> Result<(), AllocError>
         ensures { OnOk result (self.new ≡ defined node self.old) }
     {
-        let named = Named::new(self.alloc, self.name.as_slice(), node)?;
-        self.names.push(named)?;
+        let name = Vec::from_slice(self.alloc, self.name.as_slice())?;
+        self.names.push(Named::new(name, node))?;
         Ok(())
     }
 
@@ -108,8 +109,8 @@ impl Scope {
         ensures { OnOk result (self.new ≡ with_input node self.old) }
     {
         self.define(node)?;
-        let named = Named::new(self.alloc, self.file.as_slice(), node)?;
-        self.inputs.push(named)?;
+        let file = mem::replace(&mut self.file, Vec::new(self.alloc));
+        self.inputs.push(Named::new(file, node))?;
         Ok(())
     }
 
@@ -131,8 +132,8 @@ impl Scope {
                 why: Why::Repeated,
             }));
         }
-        let named = Named::new(self.alloc, file, node)?;
-        self.saves.push(named)?;
+        let name = Vec::from_slice(self.alloc, file)?;
+        self.saves.push(Named::new(name, node))?;
         Ok(())
     }
 

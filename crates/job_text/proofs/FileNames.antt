@@ -185,7 +185,7 @@ file-fits w file inputs saves old f named new = record {
   file_waits = λ e. (named, new);
 }
 
-input-fits : (n : Called) (inputs saves : List Called) → Tidy true inputs saves n.name → Tidy false (inputs ++ n ∷ []) saves n.name
+input-fits : (n : Called) (inputs saves : List Called) → Tidy true inputs saves n.name → Tidy false (inputs ++ n ∷ []) saves []
 input-fits n inputs saves f =
     let waits = f.file_waits refl in
     record {

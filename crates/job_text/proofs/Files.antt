@@ -1,6 +1,6 @@
 -- The files of a job are those of its nodes.
-use Rattle.std.proofs.Common.{◌≡◌, ℕ, zero, suc, ◌+◌, ◌<◌, Bool, true, false, cond, nat_eq, List, [], ◌∷◌, ◌++◌, length, map, Some, None, Ok, Err, refl, ap, sym, subst, ◌∙◌, arith, append_assoc}
-use Rattle.std.specs.Prelude.{Option, Result, IfOk, All}
+use Rattle.std.proofs.Common.{◌≡◌, ℕ, zero, suc, ◌+◌, ◌<◌, Bool, true, false, cond, nat_eq, List, [], ◌∷◌, ◌++◌, length, map, Some, None, refl, ap, sym, subst, ◌∙◌, arith, append_assoc}
+use Rattle.std.specs.Prelude.{Option, All}
 use Rattle.std.proofs.lemmas.List.{append-nil}
 use Rattle.array_expr.specs.declared.expr.Node.{Node}
 use Rattle.array_expr.specs.Elem.{is_input}
@@ -112,7 +112,3 @@ files-fit text job j =
       saves_new = f.saves_new;
       some_saved = some-saved text job j;
     }
-
-pub files-if : {E : Type 0} (text : List ℕ) (r : Result Parts E) → IfOk r (IsJob text) → IfOk r FilesFit
-files-if text (Ok job) h = files-fit text job h
-files-if text (Err e) h = tt

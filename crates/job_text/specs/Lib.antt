@@ -3,3 +3,4 @@ pub mod Texts
 pub mod Nodes
 pub mod Cursors
 pub mod Jobs
+pub mod JobParts

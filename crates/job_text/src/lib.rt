@@ -4,8 +4,8 @@
 //! and whose operations fit the shapes of their operands. `IsJob` of `specs/Jobs.antt` says which job a text is, and `IsRefused` why
 //! it is none: the first refusal in the order of the text, with its line, its column and its kind.
 //!
-//! Below it stand what a text asks for (`job_script`) and the expressions (`array_expr`). Above it stand the evaluation of jobs and
-//! the program.
+//! Below it stand what a text asks for (`job_script`), the type of jobs (`job_plan`) and the expressions (`array_expr`). Above it
+//! stand the laws of texts and the program.
 #![tactic(auto)]
 
 mod builder;
@@ -16,5 +16,5 @@ mod operands;
 pub mod reader;
 
 pub use error::{JobError, JobKind, Quantity};
-pub use job::{Input, Job, Save};
+pub use job::Parsed;
 pub use reader::{JOB_BYTES, parse};

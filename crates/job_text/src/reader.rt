@@ -2,10 +2,11 @@
 ghost use Rattle.std.specs.Prelude.{◌≡◌, IfOk, IfErr};
 ghost use Rattle.job_text.specs.Texts.{kind_of_why};
 ghost use Rattle.job_text.specs.Jobs.{IsShort, StandsAt, IsJob, FilesFit, IsRefused};
+ghost use Rattle.job_text.specs.JobParts.{parts_of};
 
 use crate::builder::{build, span_at};
 use crate::error::{JobError, JobKind, Quantity, kind_of_why};
-use crate::job::Job;
+use crate::job::{Parsed, job_of};
 use job_script::{Refusal, read_script};
 use std::alloc::Global;
 
@@ -37,8 +38,8 @@ fn refused_at(text: &[u8], refusal: Refusal) -> JobError
     }
 }
 
-fn parsed(alloc: Global, text: &[u8]) -> Result<Job, JobError>
-    ensures ok { IfOk result (IsJob text.now) }
+fn parsed(alloc: Global, text: &[u8]) -> Result<Parsed, JobError>
+    ensures ok { IfOk result (λ p. IsJob text.now (parts_of p)) }
     ensures err { IfErr result (IsRefused text.now) }
 {
     if text.len() > JOB_BYTES {
@@ -49,7 +50,7 @@ fn parsed(alloc: Global, text: &[u8]) -> Result<Job, JobError>
     let (asked, inputs, saves) = script.into_parts();
     let built = build(alloc, text, asked)?;
     match refusal {
-        None => Ok(Job::new(built.expr, inputs, saves, built.spans)),
+        None => Ok(job_of(alloc, built, inputs, saves)?),
         Some(refusal) => Err(refused_at(text, refusal)),
     }
 }
@@ -58,9 +59,9 @@ fn parsed(alloc: Global, text: &[u8]) -> Result<Job, JobError>
 /// refusal in the order of the text is answered. An operation is refused at its operator, the word of its call, its literal or the
 /// word `input`; a name, a file and a number where they stand; where the text ends early, its end. The inputs of a job are its
 /// input nodes, in their order. It takes memory for the job and, while it reads, for the steps of the text.
-pub fn parse(alloc: Global, text: &[u8]) -> Result<Job, JobError>
-    ensures ok { IfOk result (IsJob text.now) }
-    ensures files { IfOk result FilesFit }
+pub fn parse(alloc: Global, text: &[u8]) -> Result<Parsed, JobError>
+    ensures ok { IfOk result (λ p. IsJob text.now (parts_of p)) }
+    ensures files { IfOk result (λ p. FilesFit (parts_of p)) }
     ensures err { IfErr result (IsRefused text.now) }
 {
     parsed(alloc, text)

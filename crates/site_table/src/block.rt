@@ -171,7 +171,16 @@ pub fn print_block<R: Print>(
     let text = bytes_of(alloc, words.rest)?;
     let heads = heads_of(alloc, &mut desk.sound_site(alloc)?, &names)?;
     match parse(alloc, &text) {
-        Ok(job) => print_node(rt, alloc, job.expr(), node, &region, site, &names, &heads),
+        Ok(said) => print_node(
+            rt,
+            alloc,
+            &said.job.expr,
+            node,
+            &region,
+            site,
+            &names,
+            &heads,
+        ),
         Err(_) => Err(Trouble::Ill),
     }
 }

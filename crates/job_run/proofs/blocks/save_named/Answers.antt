@@ -6,7 +6,7 @@ use Rattle.array_expr.specs.Node.{shape_at}
 use Rattle.chunk_layout.specs.Layouts.{region, blocks}
 use Rattle.saved_files.specs.Saving.{Saving}
 use Rattle.job_run.specs.declared.group.Group.{Group}
-use Rattle.job_run.specs.declared.job.Save.{Save}
+use Rattle.job_plan.specs.declared.job.Save.{Save}
 use Rattle.job_run.specs.Grouping.{waiting_of}
 use Rattle.job_run.specs.Jobs.{plan_of, saved_of}
 use Rattle.job_run.proofs.SavePlaces.{save-place, place-node}

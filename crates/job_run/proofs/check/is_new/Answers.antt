@@ -1,7 +1,7 @@
 use Rattle.std.proofs.Common.{◌≡◌, ℕ, ◌<◌, ◌∙◌, ap, ap₂, sym, subst, inl, inr, map, length, get_or, arith, false, [], string_bytes}
 use Rattle.std.specs.Prelude.{bytes_eq}
 use Rattle.std.proofs.lemmas.Bool.{false≢true}
-use Rattle.job_run.specs.declared.job.Save.{Save}
+use Rattle.job_plan.specs.declared.job.Save.{Save}
 use Rattle.job_run.specs.Jobs.{saved_of}
 use Rattle.nd_rows.proofs.Turns.{split as below_or}
 use Rattle.job_run.proofs.SavesList.{saved_name}

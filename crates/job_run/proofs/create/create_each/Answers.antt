@@ -3,7 +3,7 @@ use Rattle.std.proofs.lemmas.List.{length-map}
 use Rattle.io_edge.proofs.OpeningLaws.{on_err}
 use Rattle.array_expr.specs.Node.{shape_at}
 use Rattle.saved_files.specs.Saving.{Saving}
-use Rattle.job_run.specs.declared.job.Save.{Save}
+use Rattle.job_plan.specs.declared.job.Save.{Save}
 use Rattle.job_run.specs.Creating.{CreatesFirst}
 use Rattle.job_run.specs.Jobs.{plan_of, saved_of}
 use Rattle.job_run.proofs.Creating.{creates_next, creates_none, fails_next}

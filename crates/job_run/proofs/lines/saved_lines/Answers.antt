@@ -1,6 +1,6 @@
 use Rattle.std.proofs.Common.{◌≡◌, ◌≤◌, ℕ, List, ◌<◌, ◌++◌, ◌∙◌, ap, sym, subst, length, get_or, arith}
 use Rattle.std.proofs.lemmas.List.{length-map}
-use Rattle.job_run.specs.declared.job.Save.{Save}
+use Rattle.job_plan.specs.declared.job.Save.{Save}
 use Rattle.job_run.specs.Jobs.{saved_of}
 use Rattle.job_run.specs.Values.{saved_line}
 use Rattle.job_run.proofs.SavesList.{lines_more, lines_whole, saved_node}

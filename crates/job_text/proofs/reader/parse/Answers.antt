@@ -1,4 +1,4 @@
-use Rattle.job_text.proofs.Files.{files-if}
+use Rattle.job_text.proofs.JobParts.{files-if}
 use Rattle.job_text.proofs.reader.parse.Goals as goal
 
 pub returns-clause-files : goal.returns-clause-files

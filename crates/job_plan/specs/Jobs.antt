@@ -1,8 +1,8 @@
 -- What a job is, as a plan.
 use Rattle.std.specs.Prelude.{map, string_bytes}
-use Rattle.job_run.specs.declared.job.Job.{Job}
-use Rattle.job_run.specs.declared.job.Save.{Save}
-use Rattle.job_run.specs.Plan.{Plan, Saved}
+use Rattle.job_plan.specs.declared.job.Job.{Job}
+use Rattle.job_plan.specs.declared.job.Save.{Save}
+use Rattle.job_plan.specs.Plan.{Plan, Saved}
 
 abbrev pub saved_of : Save → Saved
 saved_of s = record { node = s.node; file = string_bytes s.file }
