@@ -43,11 +43,8 @@ length_on_axis-more axis (ns ∷ shapes) (suc k) h =
 
 -- ---- a sum that is held to a bound passes the limit where the sum does
 
-set-same-at : (xs : List ℕ) (k : ℕ) (v d : ℕ) → k < length xs → get_or (set xs k v) k d ≡ v
-set-same-at xs k v d h = get_or-set_same xs k v d h
-
 elements_passed : (xs : List ℕ) (axis total : ℕ) → axis < length xs → length xs ≤ 8 → 2 ^ 31 < total → PassesLimit Elements (set xs axis total)
-elements_passed xs axis total h few large = (rw (length-set xs axis total) few, inl (axis, total, omega (arith, length-set xs axis total), set-same-at xs axis total total h, large))
+elements_passed xs axis total h few large = (rw (length-set xs axis total) few, inl (axis, total, omega (arith, length-set xs axis total), get_or-set_same xs axis total total h, large))
 
 pub passes_joined : (q : Quantity) (xs lengths : List ℕ) (axis total : ℕ) → axis < length xs → lengths ≡ set xs axis (min total (2 ^ 31 + 1)) → PassesLimit q lengths → PassesLimit q (set xs axis total)
 passes_joined Nodes xs lengths axis total h e p = absurd p
@@ -59,7 +56,7 @@ passes_joined Elements xs lengths axis total h e p = elim (cases_lt (2 ^ 31) tot
 
 pub joined_exact : (xs lengths : List ℕ) (axis total : ℕ) → axis < length xs → lengths ≡ set xs axis (min total (2 ^ 31 + 1)) → IsShape lengths → lengths ≡ set xs axis total
 joined_exact xs lengths axis total h e s =
-    let at : get_or lengths axis 0 ≡ min total (2 ^ 31 + 1) = ap (λ ns. get_or ns axis 0) e ∙ set-same-at xs axis (min total (2 ^ 31 + 1)) 0 h in
+    let at : get_or lengths axis 0 ≡ min total (2 ^ 31 + 1) = ap (λ ns. get_or ns axis 0) e ∙ get_or-set_same xs axis (min total (2 ^ 31 + 1)) 0 h in
     let low : get_or lengths axis 0 ≤ 2 ^ 31 = s.lengths axis 0 (omega (arith, ap length e, length-set xs axis (min total (2 ^ 31 + 1)))) in
     let m : min total (2 ^ 31 + 1) ≡ total = omega arith in
     e ∙ ap (set xs axis) m

@@ -1,4 +1,3 @@
 pub mod Growing
-pub mod Listed
 pub mod Joined
 pub mod Parted

@@ -4,6 +4,8 @@ use Rattle.std.proofs.lemmas.Bool.{false≢true, cases_lt}
 use Rattle.std.proofs.lemmas.Bool.Decides.{nat_tests}
 use Rattle.std.proofs.Math.Dec.{ltb}
 use Rattle.std.specs.List.{find, filter, filter_map, range_with_len, cons_option}
+use Rattle.small_facts.proofs.Numbers.{below_one_way, not_below_through}
+use Rattle.small_facts.proofs.Ranges.{find_range_none}
 use Rattle.cluster_rules.specs.Functions.{from_one}
 use Rattle.cluster_rules.specs.Choice.{unbeaten, better}
 use Rattle.cluster_rules.specs.Sched.{Facts, keys, holds, bytes_held, holder_count, waiters}
@@ -22,13 +24,7 @@ may_drop-is f k w h s d e q = ap (λ x. ltb w x) q ∙ less w h ∙ ap (λ x. lt
     less a b = grind (arith, nat_tests)
 
 more_prefers : (f : Facts) → IsPreference (holds_more f)
-more_prefers f = record { asym = λ x y. one (bytes_held f x) (bytes_held f y); apart = λ x y z. two (bytes_held f x) (bytes_held f y) (bytes_held f z) }
-  where
-    one : (x y : ℕ) → ltb y x ≡ true → ltb x y ≡ false
-    one x y h = grind (arith, nat_tests)
-
-    two : (x y z : ℕ) → ltb y x ≡ false → ltb z y ≡ false → ltb z x ≡ false
-    two x y z h i = grind (arith, nat_tests)
+more_prefers f = record { asym = λ x y. below_one_way (bytes_held f x) (bytes_held f y); apart = λ x y z. not_below_through (bytes_held f x) (bytes_held f y) (bytes_held f z) }
 
 -- the worker, where it holds the key
 abbrev pub holder : Facts → ℕ → ℕ → Option ℕ
@@ -90,17 +86,13 @@ find_at p a (suc n) k l m e h = ⊎_elim
     (λ g. let q : a ≡ k = omega arith in ap (λ b. cond b (Some a) (find p (range_with_len (a + 1) n))) (ap p q ∙ e) ∙ ap (λ x. Some x) q)
     (cases_lt a k)
 
-find_nothing : (p : ℕ → Bool) (a n : ℕ) → ((j : ℕ) → a ≤ j → j < a + n → p j ≡ false) → find p (range_with_len a n) ≡ None
-find_nothing p a zero h = refl
-find_nothing p a (suc n) h = ap (λ b. cond b (Some a) (find p (range_with_len (a + 1) n))) (h a (omega arith) (omega arith)) ∙ find_nothing p (a + 1) n (λ j i o. h j (omega arith) (omega arith))
-
 pub next_drop-some : (f : Facts) (k : ℕ) (b : Bool) → k < keys f → NoneBelow f k → b ≡ may_drop f k → b ≡ true → next_drop f ≡ drop_of f (Some k)
 unfolding next_drop
 next_drop-some f k b l h e d = ap (drop_of f) (find_at (may_drop f) 0 (keys f) k (omega arith) (omega arith) (sym e ∙ d) (λ j i o. h j o))
 
 pub next_drop-none : (f : Facts) (n : ℕ) → keys f ≤ n → NoneBelow f n → next_drop f ≡ None
 unfolding next_drop
-next_drop-none f n l h = ap (drop_of f) (find_nothing (may_drop f) 0 (keys f) (λ j i o. h j (omega arith)))
+next_drop-none f n l h = ap (drop_of f) (find_range_none (may_drop f) 0 (keys f) (λ j i o. h j (omega arith)))
 
 pub is_drop : (f : Facts) (r : Option (ℕ × ℕ)) → r ≡ next_drop f → IsDropOf f r
 is_drop f r e = subst (IsDropOf f) (sym e) (next_drop_is f)

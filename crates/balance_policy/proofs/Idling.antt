@@ -2,6 +2,7 @@
 use Rattle.std.proofs.Common.{◌≡◌, ℕ, zero, suc, ◌+◌, ◌-◌, ◌<◌, ◌≤◌, Bool, true, false, cond, ◌&&◌, List, [], ◌∷◌, ◌++◌, length, refl, sym, ap, ◌∙◌, subst, arith, append-nil, length-append}
 use Rattle.std.proofs.lemmas.Bool.{and_parts}
 use Rattle.std.specs.List.{filter, range_with_len}
+use Rattle.small_facts.proofs.Lists.{filter_fewer}
 use Rattle.cluster_rules.specs.Functions.{from_one}
 use Rattle.cluster_rules.specs.Sched.{Facts, IsSound, connected, workers}
 use Rattle.cluster_rules.proofs.SchedLemmas.{filter-more}
@@ -10,14 +11,6 @@ use Rattle.balance_policy.specs.Offers.{is_idle}
 -- the idle ones of the first workers
 abbrev pub idle_of : Facts → ℕ → List ℕ
 idle_of f n = filter (is_idle f) (filter (connected f) (from_one n))
-
-few : (p : ℕ → Bool) (xs : List ℕ) → length (filter p xs) ≤ length xs
-few p [] = omega arith
-few p (x ∷ xs) = pick (p x) (few p xs)
-  where
-    pick : (b : Bool) → length (filter p xs) ≤ length xs → length (cond b (x ∷ filter p xs) (filter p xs)) ≤ suc (length xs)
-    pick true h = omega arith
-    pick false h = omega arith
 
 more : (p : ℕ → Bool) (a n : ℕ) → length (filter p (range_with_len a (n + 1))) ≡ length (filter p (range_with_len a n)) + cond (p (a + n)) 1 0
 more p a n = ap length (filter-more p a n) ∙ length-append (filter p (range_with_len a n)) (cond (p (a + n)) ((a + n) ∷ []) []) ∙ ap (λ m. length (filter p (range_with_len a n)) + m) (one (p (a + n)))
@@ -41,7 +34,7 @@ room f s n b xs l e q t =
     let all : length (filter (connected f) (from_one (n + 1))) ≤ length (filter (connected f) (from_one ((n + 1) + (f.last_worker - (n + 1))))) = longer (connected f) 1 (n + 1) (f.last_worker - (n + 1)) in
     let last : (n + 1) + (f.last_worker - (n + 1)) ≡ f.last_worker = omega arith in
     let all' : length (filter (connected f) (from_one (n + 1))) ≤ length (workers f) = subst (λ m. length (filter (connected f) (from_one (n + 1))) ≤ length (filter (connected f) (from_one m))) last all in
-    let here : length xs ≤ length (filter (connected f) (from_one n)) = subst (λ l. length l ≤ length (filter (connected f) (from_one n))) (sym e) (few (is_idle f) (filter (connected f) (from_one n))) in
+    let here : length xs ≤ length (filter (connected f) (from_one n)) = subst (λ l. length l ≤ length (filter (connected f) (from_one n))) (sym e) (filter_fewer (is_idle f) (filter (connected f) (from_one n))) in
     omega (arith, s.few_workers)
 
 joined : (f : Facts) (n : ℕ) → idle_of f (n + 1) ≡ idle_of f n ++ cond (connected f (n + 1) && is_idle f (n + 1)) ((n + 1) ∷ []) []

@@ -5,9 +5,10 @@ use Rattle.std.proofs.lemmas.Bool.Decides.{nat_tests}
 use Rattle.std.specs.List.{AllByRecursion}
 use Rattle.std.specs.List.Sorted.{IsStrictlyIncreasing}
 use Rattle.std.specs.Option.{option_map}
+use Rattle.small_facts.proofs.Numbers.{eqb_turned, unequal_over}
+use Rattle.small_facts.proofs.Options.{some_not_none}
 use Rattle.cluster_msgs.specs.Shape.{IsShape, deps_of, nbytes_of, work_of}
 use Rattle.cluster_rules.specs.Sched.{IsSound, keys, need, held, erred, holds, connected, threads_of, tasks, occupancy, bytes_held, holder_count, waiters, is_for, is_stealing, full}
-use Rattle.cluster_rules.proofs.DerivedLemmas.{eqb_comm}
 use Rattle.cluster_rules.proofs.NothingLemmas.{need-nowhere, erred-nowhere, waiters-nowhere}
 use Rattle.balance_policy.specs.Small.{small_shape, small_facts}
 
@@ -97,7 +98,7 @@ three false = refl
 
 pub tasks-small : (g a c : Bool) (w r : ℕ) → r ≡ cond (g && (w == 1)) 3 0 → r ≡ tasks (small_facts g a c) w
 unfolding tasks small_facts
-tasks-small true a c w r h = h ∙ ap (λ b. cond b 3 0) (eqb_comm w 1) ∙ three (1 == w)
+tasks-small true a c w r h = h ∙ ap (λ b. cond b 3 0) (eqb_turned w 1) ∙ three (1 == w)
 tasks-small false a c w r h = h
 
 work_sum : (b : Bool) → cond b 500 0 ≡ 0 + (cond b 100 0 + (cond b 100 0 + (cond b 300 0 + (0 + 0))))
@@ -106,7 +107,7 @@ work_sum false = refl
 
 pub occupancy-small : (g a c : Bool) (w r : ℕ) → r ≡ cond (g && (w == 1)) 500 0 → r ≡ occupancy (small_facts g a c) w
 unfolding occupancy small_facts
-occupancy-small true a c w r h = h ∙ ap (λ b. cond b 500 0) (eqb_comm w 1) ∙ work_sum (1 == w)
+occupancy-small true a c w r h = h ∙ ap (λ b. cond b 500 0) (eqb_turned w 1) ∙ work_sum (1 == w)
 occupancy-small false a c w r h = h
 
 saturated : ℕ → ℕ → Bool
@@ -172,9 +173,6 @@ has_none true q x y h i = absurd (true≢false h)
 has_none false true x y h i = absurd (true≢false i)
 has_none false false x y h i = refl
 
-far : (k n : ℕ) → n < k → (k == n) ≡ false
-far k n h = grind (arith, nat_tests)
-
 beyond : (k : ℕ) → 5 ≤ k → (nat_le 1 k && nat_le k 3) ≡ false
 beyond k h = grind (arith, nat_tests)
 
@@ -182,9 +180,6 @@ on_none : (k : ℕ) (g b : Bool) → b ≡ false → cond {A = Option (ℕ × �
 on_none k true true h = absurd (true≢false h)
 on_none k true false h = refl
 on_none k false b h = refl
-
-some_none : {A : Type 0} (x : A) → Some x ≡ None → ⊥
-some_none x h = cc
 
 steal_none : (k : ℕ) (g a : Bool) → cond {A = Option (ℕ × ℕ)} (g && (nat_le 1 k && nat_le k 3)) (Some (1, k)) None ≡ None → cond {A = Option (ℕ × Bool)} (g && (a && (k == 1))) (Some (2, false)) None ≡ None
 steal_none k false a h = refl
@@ -196,7 +191,7 @@ steal_none k true true h = pick (k == 1) (nat_le 1 k && nat_le k 3) one h
 
     pick : (b d : Bool) → (b ≡ true → d ≡ true) → cond {A = Option (ℕ × ℕ)} d (Some (1, k)) None ≡ None → cond {A = Option (ℕ × Bool)} b (Some (2, false)) None ≡ None
     pick false d i j = refl
-    pick true true i j = absurd (some_none (1, k) j)
+    pick true true i j = absurd (some_not_none (1, k) j)
     pick true false i j = absurd (false≢true (i refl))
 
 is_some_cond : {A : Type 0} (x : A) (b : Bool) → is_some (cond {A = Option A} b (Some x) None) ≡ true → b ≡ true
@@ -216,7 +211,7 @@ one_thread true n h = let e : 1 ≡ n = same n h in (omega arith, omega arith)
   where
     same : (n : ℕ) → Some 1 ≡ Some n → 1 ≡ n
     same n h = cc
-one_thread false n h = absurd (some_none n (sym h))
+one_thread false n h = absurd (some_not_none n (sym h))
 
 who_holds : (w k : ℕ) (c : Bool) → (((k == 0) && ((w == 1) || (c && (w == 3)))) || ((k == 4) && (w == 3))) ≡ true → (nat_le 1 w && nat_le w 3) ≡ true
 who_holds w k true h = grind (arith, nat_tests)
@@ -236,7 +231,7 @@ sound-small g a c = record {
   few_clients = omega arith;
   saturation = (omega arith, omega arith);
   want = λ i k l. refl;
-  has = λ w k l. has_none (k == 0) (k == 4) ((w == 1) || (c && (w == 3))) (w == 3) (far k 0 (omega arith)) (far k 4 (omega arith));
+  has = λ w k l. has_none (k == 0) (k == 4) ((w == 1) || (c && (w == 3))) (w == 3) (unequal_over k 0 (omega arith)) (unequal_over k 4 (omega arith));
   bad = λ k l. refl;
   on = λ k l. on_none k g (nat_le 1 k && nat_le k 3) (beyond k l);
   steal = λ k. steal_none k g a;

@@ -1,11 +1,12 @@
 -- The least of the offers is the next steal.
 use Rattle.std.proofs.Common.{◌≡◌, ℕ, ◌+◌, ◌*◌, ◌<◌, ◌≤◌, Bool, true, false, cond, ◌&&◌, ◌||◌, List, [], ◌∷◌, length, get_or, Option, Some, None, is_none, is_some, refl, sym, ap, ◌∙◌, subst, arith, inl, inr, ◌⊎◌, ⊎_elim}
-use Rattle.std.proofs.lemmas.Bool.{false≢true, cases_lt, and_parts, and_from, ltb-true}
+use Rattle.std.proofs.lemmas.Bool.{false≢true, cases_lt, and_parts, and_from, ltb-true, lt-ltb, eq-eqb, le-leb, lt-leb}
 use Rattle.std.proofs.lemmas.Bool.Decides.{nat_tests}
 use Rattle.std.proofs.lemmas.List.{get_or_default}
-use Rattle.std.proofs.Math.Dec.{eqb, ltb, leb}
+use Rattle.std.proofs.Math.Dec.{eqb, ltb}
 use Rattle.std.specs.List.{filter, Contains}
 use Rattle.std.specs.Option.{option_map}
+use Rattle.std.proofs.lemmas.Option.{none-some, same_Some}
 use Rattle.cluster_msgs.specs.Shape.{work_of}
 use Rattle.cluster_msgs.specs.declared.cores.Steal.{Steal}
 use Rattle.cluster_rules.specs.Choice.{is_before, better, least_by, IsLeastOf}
@@ -142,16 +143,13 @@ by_thief f k v t s l h n e = pick (gains f this) refl
           key = l;
           victim = s.places v k h.on;
           thief = n;
-          allowed = allowed_from f this (record { on = h.on; unasked = none_some (f.steal k) h.unasked; busy = lt_test (threads_of f v) (tasks f v) h.busy; idle = e; gain = g });
+          allowed = allowed_from f this (record { on = h.on; unasked = none_some (f.steal k) h.unasked; busy = lt-ltb (threads_of f v) (tasks f v) h.busy; idle = e; gain = g });
         };
       };
       level = refl;
       least = λ c x. subst (λ d. is_before (steal_rank f d) (steal_rank f this) ≡ false) (same_steal this c (sym x.key) (sym x.victim) (sym x.thief)) (never_itself f this);
     }
       where
-        lt_test : (a b : ℕ) → a < b → ltb a b ≡ true
-        lt_test a b i = grind (arith, nat_tests)
-
         never_itself : (f : Facts) (c : Steal) → is_before (steal_rank f c) (steal_rank f c) ≡ false
         never_itself f c = not_both (is_before (steal_rank f c) (steal_rank f c)) ((order f).asym c c)
           where
@@ -219,11 +217,6 @@ below_more f n best next new h i q = subst (IsLeastOffer f (IsStealBelow f (n + 
     (λ c x. let g : c.key ≡ n = x.key in record { key = omega arith; choice = x.choice })
     (λ c x. let g : c.key < n + 1 = x.key in ⊎_elim (λ u. inl (record { key = u; choice = x.choice })) (λ u. inr (record { key = omega arith; choice = x.choice })) (cases_lt c.key n))
     best next h i)
-
--- a key that is not among those that pass does not pass
-pub not_among : (a b : Bool) → (a ≡ true → b ≡ true) → b ≡ false → a ≡ false
-not_among true b h e = absurd (false≢true (sym e ∙ h refl))
-not_among false b h e = refl
 
 stolen_on : (f : Facts) (c : Steal) → IsStealChoice f c → is_some (f.on c.key) ≡ false → ⊥
 stolen_on f c h e = false≢true (sym e ∙ there (f.on c.key) (allowed_parts f c h.allowed).on)
@@ -306,34 +299,19 @@ is_least f r e = subst (IsLeastOf (steal_rank f) (steal_choices f)) (sym e) (lea
 
 -- where the key is
 pub on-is : (o : Option (ℕ × ℕ)) (r : Option ℕ) (v : ℕ) → r ≡ option_map (λ p. p.0) o → r ≡ Some v → is_for v o ≡ true
-on-is None r v h i = absurd (none_is v (sym h ∙ i))
-  where
-    none_is : (x : ℕ) → None ≡ Some x → ⊥
-    none_is x h = cc
-on-is (Some p) r v h i = same p.0 v (some_is p.0 v (sym h ∙ i))
-  where
-    some_is : (x y : ℕ) → Some x ≡ Some y → x ≡ y
-    some_is x y h = cc
-
-    same : (x y : ℕ) → x ≡ y → eqb x y ≡ true
-    same x y h = grind (arith, nat_tests)
+on-is None r v h i = absurd (none-some v (sym h ∙ i))
+on-is (Some p) r v h i = eq-eqb p.0 v (same_Some p.0 v (sym h ∙ i))
 
 -- a steal whose move gains is offered
 pub offered : (f : Facts) (c : Steal) (o b w v n : ℕ) → o ≡ occupancy f c.thief → b ≡ missing_bytes f c.thief c.key → w ≡ work_of f.setting.shape c.key → v ≡ occupancy f c.victim → 2 * (o + b + w) + w ≤ 2 * v → n ≡ level b w → Some (record { level = n; steal = c }) ≡ offer_of f c
 unfolding offer_of
 offered f c o b w v n p q r s l e =
-    let a : gains f c ≡ true = le_test (2 * (occupancy f c.thief + missing_bytes f c.thief c.key + work_of f.setting.shape c.key) + work_of f.setting.shape c.key) (2 * occupancy f c.victim) (omega (arith, p, q, r, s)) in
+    let a : gains f c ≡ true = le-leb (2 * (occupancy f c.thief + missing_bytes f c.thief c.key + work_of f.setting.shape c.key) + work_of f.setting.shape c.key) (2 * occupancy f c.victim) (omega (arith, p, q, r, s)) in
     ap (λ m. Some (record { level = m; steal = c })) (e ∙ ap (λ x. level x w) q ∙ ap (level (missing_bytes f c.thief c.key)) r)
     ∙ ap (λ t. cond t (Some (record { level = level_of f c; steal = c })) None) (sym a)
-  where
-    le_test : (x y : ℕ) → x ≤ y → leb x y ≡ true
-    le_test x y h = grind (arith, nat_tests)
 
 pub not_offered : (f : Facts) (c : Steal) (o b w v : ℕ) → o ≡ occupancy f c.thief → b ≡ missing_bytes f c.thief c.key → w ≡ work_of f.setting.shape c.key → v ≡ occupancy f c.victim → 2 * v < 2 * (o + b + w) + w → None ≡ offer_of f c
 unfolding offer_of
 not_offered f c o b w v p q r s l =
-    let a : gains f c ≡ false = le_test (2 * (occupancy f c.thief + missing_bytes f c.thief c.key + work_of f.setting.shape c.key) + work_of f.setting.shape c.key) (2 * occupancy f c.victim) (omega (arith, p, q, r, s)) in
+    let a : gains f c ≡ false = lt-leb (2 * (occupancy f c.thief + missing_bytes f c.thief c.key + work_of f.setting.shape c.key) + work_of f.setting.shape c.key) (2 * occupancy f c.victim) (omega (arith, p, q, r, s)) in
     ap (λ t. cond {A = Option Offer} t (Some (record { level = level_of f c; steal = c })) None) (sym a)
-  where
-    le_test : (x y : ℕ) → y < x → leb x y ≡ false
-    le_test x y h = grind (arith, nat_tests)

@@ -2,9 +2,10 @@
 use Rattle.std.proofs.Common.{◌≡◌, ℕ, zero, suc, ◌+◌, ◌-◌, ◌*◌, ◌/◌, ◌%◌, ◌<◌, ◌≤◌, ◌^◌, cond, not, ◌&&◌, Bool, true, false, List, [], ◌∷◌, length, take, drop, ◌++◌, get_or, refl, ap, sym, subst, ◌∙◌, arith, ℤ, pos, Some, Ok, inl, inr}
 use Rattle.std.specs.Prelude.{Option, All, nat_lt}
 use Rattle.std.proofs.Math.Nat.{mul_comm, mul_assoc}
-use Rattle.std.proofs.lemmas.Bool.{cases_lt}
+use Rattle.std.proofs.lemmas.Bool.{cases_lt, and_parts}
 use Rattle.std.proofs.lemmas.Nat.{mul-add-lt, div-mul-add, mod-mul-add, div-add-mod', mod_below, row_fits}
 use Rattle.std.proofs.lemmas.List.{get_or-map, drop_more, drop_all, length-take-le, length-drop, get_or-append-add, get_or_append_left, get_or-take, get_or-drop}
+use Rattle.small_facts.proofs.Numbers.{below_product_right, product_regroup}
 use borrow.Rule.Slice.PartMut.{put_mid}
 use Rattle.nd_shape.specs.Block.{Array}
 use Rattle.nd_shape.specs.Shape.{elements}
@@ -23,10 +24,6 @@ use Rattle.block_kernels.proofs.Viewing.{axis-bounds}
 
 -- ---- how many elements lie side by side
 
-right-positive : (m n p : ℕ) → p < m * n → 0 < n
-right-positive m zero p h = absurd (omega arith)
-right-positive m (suc n) p h = omega arith
-
 pub lies-none : Lies [] [] [] 1 true
 lies-none = record {
   runs = record { count = 1; size = refl; at = λ r t ht h. omega arith };
@@ -42,7 +39,7 @@ whole-place s a b n run q e h = ap (λ x. (s + a) * x + b) e ∙ spread s a b ru
 -- behind a whole box: the place of an element
 place-whole : (n s l : ℕ) (ns ss ls : List ℕ) (run q : ℕ) → IsWhole ns ss ls run → q < l * run → place (n ∷ ns) (moved (s ∷ ss) (index_at (l ∷ ls) q)) ≡ s * run + q
 place-whole n s l ns ss ls run q w h =
-    let p : 0 < run = right-positive l run q h in
+    let p : 0 < run = below_product_right l run q h in
     ap (λ e. (s + q / e) * elements ns + place ns (moved ss (index_at ls (q % e)))) w.size
     ∙ ap (λ x. (s + q / run) * elements ns + x) (w.at (q % run) (mod_below q run p))
     ∙ whole-place s (q / run) (q % run) (elements ns) run q w.all (div-add-mod' q run)
@@ -71,9 +68,6 @@ runs-whole n s l ns ss ls run w =
           place-whole n s l ns ss ls run (r * (l * run) + t) w low ∙ omega (arith, place-whole n s l ns ss ls run (r * (l * run)) w first);
     }
 
-runs-place : (a b count run t : ℕ) → (a * count + b) * run + t ≡ a * (count * run) + (b * run + t)
-runs-place a b count run t = omega arith
-
 count-positive : (l count run p : ℕ) → p < l * (count * run) → 0 < count
 count-positive l zero run p h = absurd (omega arith)
 count-positive l (suc count) run p h = omega arith
@@ -93,7 +87,7 @@ runs-more n s l ns ss ls run w = record {
       let low0 : (r % w.count) * run + 0 < w.count * run = omega arith in
       let here : (u : ℕ) → (r % w.count) * run + u < w.count * run → place (n ∷ ns) (moved (s ∷ ss) (index_at (l ∷ ls) (r * run + u))) ≡ (s + r / w.count) * elements ns + place ns (moved ss (index_at ls ((r % w.count) * run + u))) =
       λ u hu.
-      let at : r * run + u ≡ r / w.count * (w.count * run) + ((r % w.count) * run + u) = ap (λ x. x * run + u) (sym split) ∙ runs-place (r / w.count) (r % w.count) w.count run u in
+      let at : r * run + u ≡ r / w.count * (w.count * run) + ((r % w.count) * run + u) = ap (λ x. x * run + u) (sym split) ∙ product_regroup (r / w.count) w.count (r % w.count) run u in
       ap (λ x. (s + (r * run + u) / x) * elements ns + place ns (moved ss (index_at ls ((r * run + u) % x)))) w.size
       ∙ ap (λ x. (s + x / (w.count * run)) * elements ns + place ns (moved ss (index_at ls (x % (w.count * run))))) at
       ∙ ap (λ x. (s + x) * elements ns + place ns (moved ss (index_at ls ((r / w.count * (w.count * run) + ((r % w.count) * run + u)) % (w.count * run))))) (div-mul-add (r / w.count) (w.count * run) ((r % w.count) * run + u) hu)
@@ -146,7 +140,7 @@ lies-small ns ss ls j k run was e h small some w t = (axis-bounds ls j k run e h
 -- ---- all runs
 
 pub run-positive : (ns ss ls : List ℕ) (run : ℕ) → Runs ns ss ls run → 0 < elements ls → 0 < run
-run-positive ns ss ls run w h = right-positive w.count run 0 (subst (λ x. 0 < x) w.size h)
+run-positive ns ss ls run w h = below_product_right w.count run 0 (subst (λ x. 0 < x) w.size h)
 
 runs-count : (ns ss ls : List ℕ) (run : ℕ) → (w : Runs ns ss ls run) → 0 < elements ls → elements ls / run ≡ w.count
 runs-count ns ss ls run w h = let e : elements ls ≡ w.count * run + 0 = w.size ∙ omega arith in ap (λ x. x / run) e ∙ div-mul-add w.count run 0 (run-positive ns ss ls run w h)
@@ -180,10 +174,6 @@ pub record Counts (ss ls is : List ℕ) : Type 0 where
   pub inside : IsIn ls (counted ss is)
   pub back : moved ss (counted ss is) ≡ is
 
-both : (a b : Bool) → (a && b) ≡ true → (a ≡ true) × (b ≡ true)
-both true b e = (refl, e)
-both false b e = cc
-
 pub counts : (ns ss ls is : List ℕ) → IsIn ns is → length ss ≡ length ns → length ls ≡ length ns → is_within ss ls is ≡ true → Counts ss ls is
 counts [] [] [] [] h e f w = record { inside = tt; back = refl }
 counts [] [] [] (i ∷ is) h e f w = absurd h
@@ -193,8 +183,8 @@ counts (n ∷ ns) [] ls is h e f w = absurd (omega arith)
 counts (n ∷ ns) (s ∷ ss) [] is h e f w = absurd (omega arith)
 counts (n ∷ ns) (s ∷ ss) (l ∷ ls) [] h e f w = absurd h
 counts (n ∷ ns) (s ∷ ss) (l ∷ ls) (i ∷ is) h e f w =
-    let p = both (not (nat_lt i s) && nat_lt i (s + l)) (is_within ss ls is) w in
-    let q = both (not (nat_lt i s)) (nat_lt i (s + l)) p.0 in
+    let p = and_parts (not (nat_lt i s) && nat_lt i (s + l)) (is_within ss ls is) w in
+    let q = and_parts (not (nat_lt i s)) (nat_lt i (s + l)) p.0 in
     let r = counts ns ss ls is h.1 (omega arith) (omega arith) p.1 in
     record {
       inside = (below i s l q.0 q.1, r.inside);

@@ -5,12 +5,14 @@ use Rattle.std.specs.Prelude.{nat_eq}
 use Rattle.std.proofs.lemmas.Nat.{mul-add-lt, div-mul-add, mod-mul-add, div-add-mod', mod_below}
 use Rattle.std.proofs.lemmas.List.{drop-append-le, length-drop, length-take-le, take-append-drop}
 use Rattle.std.proofs.lemmas.Bool.{cases_lt}
+use Rattle.small_facts.proofs.Numbers.{below_product_right, product_regroup, place_under_one}
 use Rattle.nd_shape.specs.Shape.{elements}
 use Rattle.nd_shape.specs.Index.{place, index_at}
-use Rattle.nd_shape.proofs.Places.{elements-pos, index_at-in, place-index_at}
+use Rattle.nd_shape.proofs.Places.{index_at-in, place-index_at}
 use Rattle.nd_grid.specs.Grid.{under, under_along}
 use Rattle.block_kernels.specs.Rows.{tail}
 use Rattle.block_kernels.proofs.Filled.{own-along}
+use Rattle.nd_grid.proofs.Under.{length-under}
 
 pub elements-append : (xs ys : List ℕ) → elements (xs ++ ys) ≡ elements xs * elements ys
 elements-append [] ys = omega arith
@@ -18,21 +20,18 @@ elements-append (x ∷ xs) ys = ap (λ k. x * k) (elements-append xs ys) ∙ ome
 
 -- ---- places of lists put together
 
-parts : (d X m E r : ℕ) → (d * X + m) * E + r ≡ d * (X * E) + (m * E + r)
-parts d X m E r = omega arith
-
 pub index_at-append : (xs ys : List ℕ) (q r : ℕ) → q < elements xs → r < elements ys → index_at (xs ++ ys) (q * elements ys + r) ≡ index_at xs q ++ index_at ys r
 index_at-append [] ys q r b h =
     let z : q ≡ 0 = omega arith in
     let e : 0 * elements ys + r ≡ r = omega arith in
     ap (λ k. index_at ys (k * elements ys + r)) z ∙ ap (index_at ys) e
 index_at-append (x ∷ xs) ys q r b h =
-    let p : 0 < elements xs = elements-pos x (elements xs) q b in
+    let p : 0 < elements xs = below_product_right x (elements xs) q b in
     let m : q % elements xs < elements xs = mod_below q (elements xs) p in
     let low : q % elements xs * elements ys + r < elements ys * elements xs = mul-add-lt (q % elements xs) (elements ys) r (elements xs) m h in
     let low' : q % elements xs * elements ys + r < elements xs * elements ys = omega (arith, low) in
     let s : q * elements ys + r ≡ q / elements xs * (elements xs * elements ys) + (q % elements xs * elements ys + r) =
-    ap (λ k. k * elements ys + r) (sym (div-add-mod' q (elements xs))) ∙ parts (q / elements xs) (elements xs) (q % elements xs) (elements ys) r in
+    ap (λ k. k * elements ys + r) (sym (div-add-mod' q (elements xs))) ∙ product_regroup (q / elements xs) (elements xs) (q % elements xs) (elements ys) r in
     let d : (q * elements ys + r) / elements (xs ++ ys) ≡ q / elements xs =
     ap (λ k. (q * elements ys + r) / k) (elements-append xs ys) ∙ ap (λ k. k / (elements xs * elements ys)) s ∙ div-mul-add (q / elements xs) (elements xs * elements ys) (q % elements xs * elements ys + r) low' in
     let l : (q * elements ys + r) % elements (xs ++ ys) ≡ q % elements xs * elements ys + r =
@@ -48,7 +47,7 @@ place-append (x ∷ xs) ys [] js e = absurd (omega arith)
 place-append (x ∷ xs) ys (i ∷ is) js e =
     ap (λ k. i * k + place (xs ++ ys) (is ++ js)) (elements-append xs ys)
     ∙ ap (λ k. i * (elements xs * elements ys) + k) (place-append xs ys is js (omega arith))
-    ∙ sym (parts i (elements xs) (place xs is) (elements ys) (place ys js))
+    ∙ sym (product_regroup i (elements xs) (place xs is) (elements ys) (place ys js))
 
 under_along-append : (xs ys is js : List ℕ) → length is ≡ length xs → under_along (xs ++ ys) (is ++ js) ≡ under_along xs is ++ under_along ys js
 under_along-append [] ys [] js e = refl
@@ -65,14 +64,6 @@ under-append xs ys is js e h =
     ∙ ap (under_along (xs ++ ys)) (drop-append-le (length is - length xs) is js low)
     ∙ under_along-append xs ys (drop (length is - length xs) is) js same
 
-length-under_along : (ns js : List ℕ) → length js ≡ length ns → length (under_along ns js) ≡ length ns
-length-under_along [] js e = refl
-length-under_along (n ∷ ns) [] e = absurd (omega arith)
-length-under_along (n ∷ ns) (j ∷ js) e = ap suc (length-under_along ns js (omega arith))
-
-length-under : (xs is : List ℕ) → length xs ≤ length is → length (under xs is) ≡ length xs
-length-under xs is h = length-under_along xs (drop (length is - length xs) is) (omega (arith, length-drop (length is - length xs) is))
-
 pub length-index_at : (ns : List ℕ) (p : ℕ) → length (index_at ns p) ≡ length ns
 length-index_at [] p = refl
 length-index_at (n ∷ ns) p = ap suc (length-index_at ns (p % elements ns))
@@ -85,16 +76,13 @@ factor-one (suc zero) b e = refl
 factor-one (suc (suc a)) zero e = absurd (omega arith)
 factor-one (suc (suc a)) (suc b) e = absurd (omega arith)
 
-zeroed : (n i : ℕ) → n ≡ 1 → cond (nat_eq n 1) 0 i ≡ 0
-zeroed n i e = grind arith
-
 ones-under : (ts js : List ℕ) → elements ts ≡ 1 → place ts (under_along ts js) ≡ 0
 ones-under [] js e = refl
 ones-under (t ∷ ts) [] e = refl
 ones-under (t ∷ ts) (j ∷ js) e =
     let one : t ≡ 1 = factor-one t (elements ts) e in
     let rest : elements ts ≡ 1 = omega (arith, ap (λ k. k * elements ts) (sym one), e) in
-    ap (λ k. k * elements ts + place ts (under_along ts js)) (zeroed t j one) ∙ ap (λ k. 0 * elements ts + k) (ones-under ts js rest) ∙ omega arith
+    ap (λ k. k * elements ts + place ts (under_along ts js)) (place_under_one t j one) ∙ ap (λ k. 0 * elements ts + k) (ones-under ts js rest) ∙ omega arith
 
 -- ---- an operand whose axes are split as those of the result
 

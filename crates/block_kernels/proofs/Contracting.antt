@@ -1,12 +1,16 @@
 -- Products over paired axes as products of matrices.
-use Rattle.std.proofs.Common.{◌≡◌, ◌≢◌, ℕ, zero, suc, ◌+◌, ◌*◌, ◌/◌, ◌%◌, ◌<◌, ◌≤◌, cond, Bool, true, false, List, [], ◌∷◌, ◌++◌, length, set, map, drop, get_or, refl, ap, sym, subst, ◌∙◌, arith, ℤ, pos, ◌*ℤ◌, Some, Ok, inl, inr, below_more}
+use Rattle.std.proofs.Common.{◌≡◌, ◌≢◌, ℕ, suc, ◌+◌, ◌*◌, ◌/◌, ◌%◌, ◌<◌, ◌≤◌, cond, Bool, true, false, List, [], ◌∷◌, ◌++◌, length, set, map, drop, get_or, refl, ap, sym, subst, ◌∙◌, arith, ℤ, pos, ◌*ℤ◌, Some, Ok, inl, inr, below_more}
 use Rattle.std.specs.Prelude.{Option, nat_eq}
 use Rattle.std.specs.List.{range_with_len, position_or_len}
 use Rattle.std.proofs.Math.Nat.{mul_comm}
 use Rattle.std.proofs.lemmas.Nat.{mul-add-lt, div-mul-add, mod-mul-add, div-add-mod', div_below, mod_below}
 use Rattle.std.proofs.lemmas.Bool.{cases_lt}
-use Rattle.std.proofs.lemmas.List.{get_or-set_same, get_or-set_other, get_or_append_left, get_or_push, get_or_past, drop_at, get_or-map, length-map}
+use Rattle.std.proofs.lemmas.List.{get_or-set_same, get_or-set_other, get_or_append_left, get_or_push, get_or_past, drop_at, length-map}
 use Rattle.std.proofs.lemmas.List.FromFn.{map-range_with_len_more}
+use Rattle.std.proofs.Math.Arith.{digits_lt}
+use Rattle.small_facts.proofs.Lists.{map_get_at}
+use Rattle.small_facts.proofs.Numbers.{below_product_right}
+use Rattle.small_facts.proofs.Ranges.{map_range_same}
 use Rattle.nd_shape.specs.Block.{Array}
 use Rattle.nd_shape.specs.Shape.{elements}
 use Rattle.nd_shape.specs.Index.{IsIn, index_at}
@@ -21,15 +25,11 @@ use Rattle.nd_grid.specs.Operation.{combine, fold_two, combine_two, folded_from,
 use Rattle.nd_grid.specs.Grid.{Grid, grid_of, block_of, is_among, kept_shape, woven, contracted}
 use Rattle.block_kernels.specs.Contracting.{woven_at, product_of, AddsRow, AddsProducts, IsProduct}
 use Rattle.block_kernels.proofs.Filled.{block-filled}
-use Rattle.block_kernels.proofs.Reducing.{from-push}
-use Rattle.block_kernels.proofs.Viewing.{same-range}
-use Rattle.block_kernels.proofs.Totals.{row-end, next-part}
+use Rattle.block_kernels.proofs.Totals.{next-part}
+use Rattle.block_kernels.proofs.Broadcasts.{elements-append, index_at-append}
+use Rattle.nd_grid.proofs.Folding.{folded_from-push}
 
 -- ---- sums of products
-
-right-positive : (m n p : ℕ) → p < m * n → 0 < n
-right-positive m zero p h = absurd (omega arith)
-right-positive m (suc n) p h = omega arith
 
 pub add-none : (place : ℕ) (factor : ℤ) (cells : List ℤ) (from : ℕ) (old : List ℤ) → AddsRow place factor cells from 0 old old
 add-none place factor cells from old = record { at = λ i h. absurd (omega arith); before = λ j h. refl; after = λ j h. refl }
@@ -53,7 +53,7 @@ products-more place left first right p count old now new t r = record {
   at = λ j h.
       let f : ℕ → Option ℤ = λ q. Some (product_of left first right count q j) in
       ap (folded_from Sum (Some (get_or old (place + j) (pos 0)))) (map-range_with_len_more f 0 p p (omega arith))
-      ∙ from-push Sum (Some (get_or old (place + j) (pos 0))) (map f (range_with_len 0 p)) (f p)
+      ∙ folded_from-push Sum (Some (get_or old (place + j) (pos 0))) (map f (range_with_len 0 p)) (f p)
       ∙ ap (λ x. combine_two Sum x (f p)) (t.at j h)
       ∙ ap Some (r.at j h);
   before = λ j h. r.before j h ∙ t.before j h;
@@ -70,14 +70,11 @@ elements-more xs v x f n were is =
 pub all-zeros : (xs : List ℤ) (n : ℕ) → length xs ≡ n → ((j : ℕ) → j < n → get_or xs j (pos 0) ≡ pos 0) → (j : ℕ) → get_or xs j (pos 0) ≡ pos 0
 all-zeros xs n e z j = elim (cases_lt j n) [ inl b ↦ z j b | inr b ↦ get_or_past xs j (pos 0) (omega arith) ]
 
-pub some-divisor : (m w x : ℕ) → x < m * w → 0 < w
-some-divisor m w x h = right-positive m w x h
-
 pub quotient-below : (m w x : ℕ) → x < m * w → x / w < m
-quotient-below m w x h = div_below x w m (right-positive m w x h) h
+quotient-below m w x h = div_below x w m (below_product_right m w x h) h
 
 pub rest-below-divisor : (m w x : ℕ) → x < m * w → x % w < w
-rest-below-divisor m w x h = mod_below x w (right-positive m w x h)
+rest-below-divisor m w x h = mod_below x w (below_product_right m w x h)
 
 -- so many rows are done, and the others are as they were
 pub record Multiplied (left right : List ℤ) (height depth count : ℕ) (cells : List ℤ) : Type 0 where
@@ -91,7 +88,7 @@ pub multiplied-more : (left right : List ℤ) (i depth count : ℕ) (now new : L
 multiplied-more left right i depth count now new m r = record {
   done = record {
     at = λ k j hk hj. elim (cases_lt k i) [
-      | inl b ↦ m.done.at k j b hj ∙ ap Some (sym (r.before (k * count + j) (row-end k i count j b hj)))
+      | inl b ↦ m.done.at k j b hj ∙ ap Some (sym (r.before (k * count + j) (digits_lt b hj)))
       | inr b ↦ let same : i ≡ k = omega arith in
           subst (λ x. folded_from Sum (Some (pos 0)) (map (λ p. Some (product_of left (x * depth) right count p j)) (range_with_len 0 depth)) ≡ Some (get_or new (x * count + j) (pos 0))) same
           (ap (λ x. folded_from Sum (Some x) (map (λ p. Some (product_of left (i * depth) right count p j)) (range_with_len 0 depth))) (sym (m.later (i * count + j) (omega arith))) ∙ r.at j hj)
@@ -101,35 +98,6 @@ multiplied-more left right i depth count now new m r = record {
 }
 
 -- ---- indexes of two parts
-
-pub elements-append : (ns ms : List ℕ) → elements (ns ++ ms) ≡ elements ns * elements ms
-elements-append [] ms = omega arith
-elements-append (n ∷ ns) ms = ap (λ e. n * e) (elements-append ns ms) ∙ omega arith
-
-first-zero : (a e b : ℕ) → a < 1 → a * e + b ≡ b
-first-zero zero e b h = omega arith
-first-zero (suc a) e b h = absurd (omega arith)
-
-pub index_at-append : (ns ms : List ℕ) (a b : ℕ) → a < elements ns → b < elements ms → index_at (ns ++ ms) (a * elements ms + b) ≡ index_at ns a ++ index_at ms b
-index_at-append [] ms a b ha hb = ap (index_at ms) (first-zero a (elements ms) b ha)
-index_at-append (n ∷ ns) ms a b ha hb =
-    let size : elements (ns ++ ms) ≡ elements ns * elements ms = elements-append ns ms in
-    let p : 0 < elements ns = right-positive n (elements ns) a ha in
-    let hr : a % elements ns < elements ns = mod_below a (elements ns) p in
-    let split : a / elements ns * elements ns + a % elements ns ≡ a = div-add-mod' a (elements ns) in
-    let low : (a % elements ns) * elements ms + b < elements ns * elements ms = subst (λ x. (a % elements ns) * elements ms + b < x) (mul_comm (elements ms) (elements ns)) (mul-add-lt (a % elements ns) (elements ms) b (elements ns) hr hb) in
-    let at : a * elements ms + b ≡ a / elements ns * (elements ns * elements ms) + ((a % elements ns) * elements ms + b) =
-    ap (λ x. x * elements ms + b) (sym split) ∙ spread (a / elements ns) (elements ns) (a % elements ns) (elements ms) b in
-    let q : (a * elements ms + b) / elements (ns ++ ms) ≡ a / elements ns =
-    ap (λ x. (a * elements ms + b) / x) size ∙ ap (λ x. x / (elements ns * elements ms)) at ∙ div-mul-add (a / elements ns) (elements ns * elements ms) ((a % elements ns) * elements ms + b) low in
-    let r : (a * elements ms + b) % elements (ns ++ ms) ≡ (a % elements ns) * elements ms + b =
-    ap (λ x. (a * elements ms + b) % x) size ∙ ap (λ x. x % (elements ns * elements ms)) at ∙ mod-mul-add (a / elements ns) (elements ns * elements ms) ((a % elements ns) * elements ms + b) low in
-    ap (λ x. x ∷ index_at (ns ++ ms) ((a * elements ms + b) % elements (ns ++ ms))) q
-    ∙ ap (λ x. a / elements ns ∷ index_at (ns ++ ms) x) r
-    ∙ ap (λ xs. a / elements ns ∷ xs) (index_at-append ns ms (a % elements ns) b hr hb)
-  where
-    spread : (q e r m b : ℕ) → (q * e + r) * m + b ≡ q * (e * m) + (r * m + b)
-    spread q e r m b = omega arith
 
 -- coordinates past the kept ones aren't looked at
 first-of : (is : List ℕ) (m : ℕ) → length is ≡ suc m → (x : ℕ) × (ys : List ℕ) × (is ≡ x ∷ ys) × (length ys ≡ m)
@@ -152,11 +120,8 @@ woven-front k (n ∷ ns) axes is js rs e = by_case (is_among k axes) (λ xs h. w
 
 -- ---- the index of an operand lies in it
 
-paired-at : (ls axes : List ℕ) (p : ℕ) → p < length axes → get_or (map (λ a. get_or ls a 0) axes) p 0 ≡ get_or ls (get_or axes p 0) 0
-paired-at ls axes p h = get_or-map (λ a. get_or ls a 0) axes p 0 0 h
-
 rest-below : (ls axes rs : List ℕ) (p : ℕ) → p < length axes → IsIn (map (λ a. get_or ls a 0) axes) rs → get_or rs p 0 < get_or ls (get_or axes p 0) 0
-rest-below ls axes rs p h i = subst (λ n. get_or rs p 0 < n) (paired-at ls axes p h) (IsIn-at (map (λ a. get_or ls a 0) axes) rs p i (omega (arith, length-map axes (λ a. get_or ls a 0))))
+rest-below ls axes rs p h i = subst (λ n. get_or rs p 0 < n) (map_get_at ls axes p h) (IsIn-at (map (λ a. get_or ls a 0) axes) rs p i (omega (arith, length-map axes (λ a. get_or ls a 0))))
 
 rest-in : (ls axes rs : List ℕ) → IsIn (map (λ a. get_or ls a 0) axes) rs → (j : ℕ) → is_among j axes ≡ true → get_or rs (position_or_len (nat_eq j) axes) 0 < get_or ls j 0
 rest-in ls axes rs i j m =
@@ -189,7 +154,7 @@ contracted-filled left_axes right_axes a b kl kr paired left right cells el er e
     ap (λ ns. block_of (record { shape = ns; at = (contracted left_axes right_axes (grid_of a) (grid_of b)).at })) shape
     ∙ block-filled (record { shape = kl ++ kr; at = (contracted left_axes right_axes (grid_of a) (grid_of b)).at }) cells (len ∙ sym (elements-append kl kr)) (λ x h.
     let hx : x < elements kl * elements kr = subst (λ e. x < e) (elements-append kl kr) h in
-    let pr : 0 < elements kr = right-positive (elements kl) (elements kr) x hx in
+    let pr : 0 < elements kr = below_product_right (elements kl) (elements kr) x hx in
     let i : ℕ = x / elements kr in
     let j : ℕ = x % elements kr in
     let hi : x / elements kr < elements kl = div_below x (elements kr) (elements kl) pr hx in
@@ -223,7 +188,7 @@ contracted-filled left_axes right_axes a b kl kr paired left right cells el er e
         ∙ ap (combine Mul (Some (get_or left (i * elements paired + p) (pos 0)))) r in
         ap (contracted left_axes right_axes (grid_of a) (grid_of b)).at idx
         ∙ ap (λ box. folded Sum (map (λ p. combine Mul ((grid_of a).at (woven 0 a.shape left_axes (index_at kl i ++ index_at kr j) (index_at box p))) ((grid_of b).at (woven 0 b.shape right_axes (drop (length (kept_shape 0 a.shape left_axes)) (index_at kl i ++ index_at kr j)) (index_at box p)))) (range_with_len 0 (elements box)))) (sym ep)
-        ∙ ap (folded Sum) (same-range (λ p. combine Mul ((grid_of a).at (woven 0 a.shape left_axes (index_at kl i ++ index_at kr j) (index_at paired p))) ((grid_of b).at (woven 0 b.shape right_axes (drop (length (kept_shape 0 a.shape left_axes)) (index_at kl i ++ index_at kr j)) (index_at paired p)))) (λ p. Some (product_of left (i * elements paired) right (elements kr) p j)) (elements paired) term)
+        ∙ ap (folded Sum) (map_range_same (λ p. combine Mul ((grid_of a).at (woven 0 a.shape left_axes (index_at kl i ++ index_at kr j) (index_at paired p))) ((grid_of b).at (woven 0 b.shape right_axes (drop (length (kept_shape 0 a.shape left_axes)) (index_at kl i ++ index_at kr j)) (index_at paired p)))) (λ p. Some (product_of left (i * elements paired) right (elements kr) p j)) (elements paired) term)
         ∙ prod.at i j hi hj
         ∙ ap (λ u. Some (get_or cells u (pos 0))) split
 

@@ -1,12 +1,14 @@
 -- The block of a grid, from a list of cells.
 use Rattle.std.proofs.Common.{◌≡◌, ℕ, zero, suc, ◌-◌, ◌<◌, ◌≤◌, cond, List, [], ◌∷◌, length, map, take, drop, get_or, refl, ap, sym, ◌∙◌, arith, ℤ, pos, ◌+ℤ◌, Some, Ok, add-one}
-use Rattle.std.specs.Prelude.{nat_eq, nat_lt, Option}
+use Rattle.std.specs.Prelude.{nat_lt, Option}
 use Rattle.std.specs.List.{zip}
 use Rattle.std.proofs.lemmas.Slice.Zip.{length-zip, get_or-zip}
 use Rattle.std.proofs.lemmas.List.{take_more, take_all, length-map, get_or-map}
 use Rattle.nd_grid.specs.Int64.{wrap}
 use Rattle.nd_grid.specs.declared.operation.Binary.TheVariants.{Add}
 use Rattle.std.proofs.lemmas.List.FromFn.{fill_by_all}
+use Rattle.std.proofs.lemmas.Grind.{get_or_default_zero}
+use Rattle.small_facts.proofs.Numbers.{place_under, cond_below_zero}
 use Rattle.nd_shape.specs.Block.{Array}
 use Rattle.nd_shape.specs.Shape.{elements}
 use Rattle.nd_shape.specs.Index.{IsIn, place, index_at}
@@ -39,10 +41,7 @@ pub own-along : (ns is : List ℕ) → IsIn ns is → under_along ns is ≡ is
 own-along [] [] h = refl
 own-along [] (i ∷ is) h = absurd h
 own-along (n ∷ ns) [] h = absurd h
-own-along (n ∷ ns) (i ∷ is) h = ap (λ x. x ∷ under_along ns is) (kept n i h.0) ∙ ap (λ xs. i ∷ xs) (own-along ns is h.1)
-  where
-    kept : (n i : ℕ) → i < n → cond (nat_eq n 1) 0 i ≡ i
-    kept n i h = grind arith
+own-along (n ∷ ns) (i ∷ is) h = ap (λ x. x ∷ under_along ns is) (place_under n i h.0) ∙ ap (λ xs. i ∷ xs) (own-along ns is h.1)
 
 pub own-under : (ns is : List ℕ) → IsIn ns is → under ns is ≡ is
 own-under ns is h =
@@ -53,24 +52,16 @@ pub length_on-all : (ns : List ℕ) (k : ℕ) → length_on (length ns) k ns ≡
 length_on-all ns k =
     let z : length ns - length ns ≡ 0 = omega arith in
     let y : k - 0 ≡ k = omega arith in
-    ap (λ o. cond (nat_lt k o) 1 (get_or ns (k - o) 1)) z ∙ front k (get_or ns (k - 0) 1) ∙ ap (λ j. get_or ns j 1) y
-  where
-    front : (k x : ℕ) → cond (nat_lt k 0) 1 x ≡ x
-    front k x = grind arith
+    ap (λ o. cond (nat_lt k o) 1 (get_or ns (k - o) 1)) z ∙ cond_below_zero k (get_or ns (k - 0) 1) ∙ ap (λ j. get_or ns j 1) y
 
 same-common : (n : ℕ) → common (n ∷ n ∷ []) ≡ n
 same-common n = grind arith
-
-default-one : (ns : List ℕ) (k : ℕ) → k < length ns → get_or ns k 1 ≡ get_or ns k 0
-default-one [] k h = absurd (omega arith)
-default-one (n ∷ ns) zero h = refl
-default-one (n ∷ ns) (suc k) h = default-one ns k (omega arith)
 
 pub same-broadcast : (ns : List ℕ) → broadcast (ns ∷ ns ∷ []) ≡ ns
 same-broadcast ns =
     let axes : axes_of (ns ∷ ns ∷ []) ≡ length ns = omega arith in
     sym (fill_by_all (λ k. common (lengths_on (ns ∷ ns ∷ []) k)) ns (axes_of (ns ∷ ns ∷ [])) 0 (sym axes) (λ k h.
-    sym (same-common (length_on (axes_of (ns ∷ ns ∷ [])) k ns) ∙ ap (λ a. length_on a k ns) axes ∙ length_on-all ns k ∙ default-one ns k (omega arith))))
+    sym (same-common (length_on (axes_of (ns ∷ ns ∷ [])) k ns) ∙ ap (λ a. length_on a k ns) axes ∙ length_on-all ns k ∙ get_or_default_zero ns k 1 (omega arith))))
 
 -- an operation on two blocks of one shape, cell by cell
 pub pair-filled : (op : Binary) (a b : Array) (xs : List ℤ) → a.shape ≡ b.shape → length xs ≡ elements a.shape → ((p : ℕ) → p < elements a.shape → apply op (get_or a.cells p (pos 0)) (get_or b.cells p (pos 0)) ≡ Some (get_or xs p (pos 0)))

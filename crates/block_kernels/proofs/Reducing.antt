@@ -5,9 +5,11 @@ use Rattle.std.specs.List.{range_with_len}
 use Rattle.std.specs.Arc.{arc_value}
 use Rattle.std.specs.declared.sync.Arc.{Arc}
 use Rattle.std.specs.declared.alloc.Global.{Global}
-use Rattle.std.proofs.Math.Nat.{mul_assoc, mul_left_comm}
 use Rattle.std.proofs.lemmas.List.{map_more, map_push}
 use Rattle.std.proofs.lemmas.List.FromFn.{get_or-map-range_with_len, length-map-range_with_len}
+use Rattle.std.proofs.lemmas.List.Elements.{All-tail}
+use Rattle.small_facts.proofs.Lists.{length_cond_cons, all_cond_cons}
+use Rattle.small_facts.proofs.Numbers.{product_with_first, product_with_last}
 use Rattle.nd_shape.specs.Block.{Array}
 use Rattle.nd_shape.specs.Shape.{elements, IsShape}
 use Rattle.nd_shape.specs.Index.{IsIn, place, index_at}
@@ -16,24 +18,17 @@ use Rattle.nd_grid.specs.declared.operation.Fold.{Fold}
 use Rattle.nd_grid.specs.Operation.{neutral, fold_two, combine_two, folded_from, folded}
 use Rattle.nd_grid.specs.Grid.{Grid, grid_of, block_of, is_among, kept_shape, folded_shape, merged, reduced}
 use Rattle.nd_grid.proofs.Cells.{block-shape, block-at}
-use Rattle.nd_grid.proofs.FoldAlgebra.{combine-assoc, combine-comm, start-folded}
+use Rattle.nd_grid.proofs.FoldAlgebra.{combine-comm, start-folded}
 use Rattle.block_kernels.specs.Kernels.{elements_at, reduced_all}
 use Rattle.block_kernels.specs.Inputs.{blocks_of}
 use Rattle.block_kernels.specs.Reducing.{TakesBlock, TakesRow}
 use Rattle.block_kernels.proofs.Filled.{block-filled}
+use Rattle.nd_grid.proofs.Folding.{folded_from-push}
 
 -- ---- one more element
 
-pub from-push : (fold : Fold) (x : Option ℤ) (ys : List (Option ℤ)) (y : Option ℤ) → folded_from fold x (ys ++ y ∷ []) ≡ combine_two fold (folded_from fold x ys) y
-from-push fold x [] y = refl
-from-push fold x (z ∷ ys) y = from-push fold (combine_two fold x z) ys y
-
 pub fold-push : (fold : Fold) (ys : List (Option ℤ)) (y : Option ℤ) → folded fold (ys ++ y ∷ []) ≡ combine_two fold (folded fold ys) y
-fold-push fold ys y = from-push fold (Some (neutral fold)) ys y
-
-pub from-combined : (fold : Fold) (ys : List (Option ℤ)) (x y : Option ℤ) → folded_from fold (combine_two fold x y) ys ≡ combine_two fold x (folded_from fold y ys)
-from-combined fold [] x y = refl
-from-combined fold (z ∷ ys) x y = ap (λ u. folded_from fold u ys) (combine-assoc fold x y z) ∙ from-combined fold ys x (combine_two fold y z)
+fold-push fold ys y = folded_from-push fold (Some (neutral fold)) ys y
 
 -- ---- one more block
 
@@ -77,42 +72,21 @@ reduced-filled fold axes dims shape arrays xs e n f =
 
 -- ---- the folded axes make a shape
 
-split_folded : (k f n e : ℕ) → k * f ≡ e → k * (n * f) ≡ n * e
-split_folded k f n e h = mul_left_comm k n f ∙ ap (λ x. n * x) h
-
-split_kept : (k f n e : ℕ) → k * f ≡ e → (n * k) * f ≡ n * e
-split_kept k f n e h = mul_assoc n k f ∙ ap (λ x. n * x) h
-
 parts-cons : (n e : ℕ) (kept folded : List ℕ) (b : Bool) → elements kept * elements folded ≡ e → elements (cond b kept (n ∷ kept)) * elements (cond b (n ∷ folded) folded) ≡ n * e
-parts-cons n e kept folded true h = split_folded (elements kept) (elements folded) n e h
-parts-cons n e kept folded false h = split_kept (elements kept) (elements folded) n e h
+parts-cons n e kept folded true h = product_with_first (elements kept) (elements folded) n e h
+parts-cons n e kept folded false h = product_with_last (elements kept) (elements folded) n e h
 
 pub elements-parts : (k : ℕ) (ns axes : List ℕ) → elements (kept_shape k ns axes) * elements (folded_shape k ns axes) ≡ elements ns
 elements-parts k [] axes = refl
 elements-parts k (n ∷ ns) axes = parts-cons n (elements ns) (kept_shape (suc k) ns axes) (folded_shape (suc k) ns axes) (is_among k axes) (elements-parts (suc k) ns axes)
 
-length-cons : (n m : ℕ) (folded : List ℕ) (b : Bool) → length folded ≤ m → length (cond b (n ∷ folded) folded) ≤ suc m
-length-cons n m folded true h = omega arith
-length-cons n m folded false h = omega arith
-
 length-folded : (k : ℕ) (ns axes : List ℕ) → length (folded_shape k ns axes) ≤ length ns
 length-folded k [] axes = omega arith
-length-folded k (n ∷ ns) axes = length-cons n (length ns) (folded_shape (suc k) ns axes) (is_among k axes) (length-folded (suc k) ns axes)
-
-all-cons : (P : ℕ → Type 0) (n : ℕ) (ns : List ℕ) → P n → All P ns → All P (n ∷ ns)
-all-cons P n ns p a zero d h = p
-all-cons P n ns p a (suc k) d h = a k d (omega arith)
-
-all-rest : (P : ℕ → Type 0) (n : ℕ) (ns : List ℕ) → All P (n ∷ ns) → All P ns
-all-rest P n ns a = λ k d h. a (suc k) d (omega arith)
-
-all-choice : (P : ℕ → Type 0) (n : ℕ) (folded : List ℕ) (b : Bool) → P n → All P folded → All P (cond b (n ∷ folded) folded)
-all-choice P n folded true p a = all-cons P n folded p a
-all-choice P n folded false p a = a
+length-folded k (n ∷ ns) axes = length_cond_cons n (length ns) (folded_shape (suc k) ns axes) (is_among k axes) (length-folded (suc k) ns axes)
 
 all-folded : (P : ℕ → Type 0) (k : ℕ) (ns axes : List ℕ) → All P ns → All P (folded_shape k ns axes)
 all-folded P k [] axes a = a
-all-folded P k (n ∷ ns) axes a = all-choice P n (folded_shape (suc k) ns axes) (is_among k axes) (a 0 0 (omega arith)) (all-folded P (suc k) ns axes (all-rest P n ns a))
+all-folded P k (n ∷ ns) axes a = all_cond_cons P n (folded_shape (suc k) ns axes) (is_among k axes) (a 0 0 (omega arith)) (all-folded P (suc k) ns axes (All-tail P n ns a))
 
 pub factor-small : (k f m : ℕ) → 0 < k → k * f ≤ m → f ≤ m
 factor-small zero f m p h = absurd (omega arith)

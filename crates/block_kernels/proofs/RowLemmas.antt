@@ -3,6 +3,9 @@ use Rattle.std.proofs.Common.{◌≡◌, ◌≢◌, ℕ, zero, suc, ◌+◌, ◌
 use Rattle.std.specs.Prelude.{Option}
 use Rattle.std.proofs.lemmas.Bool.{cases_lt}
 use Rattle.std.proofs.lemmas.List.{take-append-drop}
+use Rattle.std.proofs.Math.Nat.{mul-le-mul_right}
+use Rattle.small_facts.proofs.Numbers.{factor_within, below_product_right}
+use Rattle.small_facts.proofs.Options.{some_not_none}
 use Rattle.nd_shape.specs.Shape.{elements}
 use Rattle.nd_grid.specs.Grid.{Grid, block_of, cells_up_to}
 use Rattle.nd_grid.specs.Computed.{FailsAs}
@@ -29,22 +32,16 @@ pub fills-more : (g : Grid) (row many run : ℕ) (old new : List ℤ) → FillsA
     → ((r : ℕ) → r < many * run → at_place g (row * run + r) ≡ Some (get_or new (row * run + r) (pos 0))) → FillsAll g ((row + many) * run) new
 fills-more g row many run old new f kept last = let e : row * run + many * run ≡ (row + many) * run = omega arith in subst (λ n. FillsAll g n new) e (fills-on g (row * run) (many * run) old new f kept last)
 
-none-some : (x : ℤ) → Some x ≢ None
-none-some x e = cc
-
 pub misses-more : (g : Grid) (row rows run z : ℕ) (old : List ℤ) → row < rows → FillsAll g (row * run) old → Misses g (row * run) run z → MissesFirst g (rows * run) (row * run + z)
 misses-more g row rows run z old h f m = record {
-  inside = let b : z < run = m.inside in let w : (row + 1) * run ≤ rows * run = times-le (row + 1) rows run (omega arith) in omega (arith, w);
+  inside = let b : z < run = m.inside in let w : (row + 1) * run ≤ rows * run = mul-le-mul_right run (omega arith) in omega (arith, w);
   here = m.here;
   before = λ r b. elim (cases_lt r (row * run)) [
-    | inl low ↦ λ n. none-some (get_or old r (pos 0)) (sym (f.each r low) ∙ n)
+    | inl low ↦ λ n. some_not_none (get_or old r (pos 0)) (sym (f.each r low) ∙ n)
     | inr high ↦ let e : row * run + (r - row * run) ≡ r = omega arith in
         subst (λ p. at_place g p ≢ None) e (m.before (r - row * run) (omega arith))
   ];
 }
-  where
-    times-le : (a b c : ℕ) → a ≤ b → a * c ≤ b * c
-    times-le a b c h = let e : a + (b - a) ≡ b = omega arith in let p : a * c ≤ (a + (b - a)) * c = omega arith in subst (λ k. a * c ≤ k * c) e p
 
 -- ---- the block
 
@@ -83,20 +80,12 @@ factor-le : (a b : ℕ) → 0 < a * b → a ≤ a * b
 factor-le a zero h = absurd (omega arith)
 factor-le a (suc b) h = omega arith
 
-factor-le' : (a b : ℕ) → 0 < a * b → b ≤ a * b
-factor-le' zero b h = absurd (omega arith)
-factor-le' (suc a) b h = omega arith
-
-right-some : (a b : ℕ) → 0 < a * b → 0 < b
-right-some a zero h = absurd (omega arith)
-right-some a (suc b) h = omega arith
-
 pub are-rows : (ns : List ℕ) (k rows run : ℕ) → 0 < elements ns → elements ns ≤ 2 ^ 31 → rows ≡ min (elements (take k ns)) (2 ^ 31 + 1) → run ≡ min (elements (drop k ns)) (2 ^ 31 + 1) → AreRows ns k rows run
 are-rows ns k rows run h small er eb =
     let all : elements (take k ns) * elements (drop k ns) ≡ elements ns = rows-all ns k in
     let some : 0 < elements (take k ns) * elements (drop k ns) = omega (arith, all) in
     let low : elements (take k ns) ≤ elements (take k ns) * elements (drop k ns) = factor-le (elements (take k ns)) (elements (drop k ns)) some in
-    let low' : elements (drop k ns) ≤ elements (take k ns) * elements (drop k ns) = factor-le' (elements (take k ns)) (elements (drop k ns)) some in
+    let low' : elements (drop k ns) ≤ elements (take k ns) * elements (drop k ns) = factor_within (elements (take k ns)) (elements (drop k ns)) some in
     let e1 : rows ≡ elements (take k ns) = omega (arith, all, low, er) in
     let e2 : run ≡ elements (drop k ns) = omega (arith, all, low', eb) in
-    record { rows_is = e1; run_is = e2; some = omega (arith, right-some (elements (take k ns)) (elements (drop k ns)) some); all = rw (e1, e2) all; small = rw (e1, e2) (omega (arith, all)) }
+    record { rows_is = e1; run_is = e2; some = omega (arith, below_product_right (elements (take k ns)) (elements (drop k ns)) 0 some); all = rw (e1, e2) all; small = rw (e1, e2) (omega (arith, all)) }

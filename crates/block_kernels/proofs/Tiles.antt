@@ -1,14 +1,11 @@
 -- Strips of rows, tile by tile.
 use Rattle.std.proofs.Common.{◌≡◌, ℕ, ◌+◌, ◌-◌, ◌*◌, ◌/◌, ◌%◌, ◌<◌, ◌≤◌, List, length, get_or, ap, sym, subst, ◌∙◌, arith, inl, inr, ℤ, pos, Some}
 use Rattle.std.proofs.lemmas.Bool.{cases_lt}
-use Rattle.std.proofs.lemmas.Nat.{mul-add-lt, div-add-mod', div_below, mod_below}
+use Rattle.std.proofs.lemmas.Nat.{div-add-mod', div_below, mod_below}
+use Rattle.std.proofs.Math.Arith.{digits_lt}
 use Rattle.nd_grid.specs.Grid.{Grid}
 use Rattle.block_kernels.specs.Rows.{at_place}
 use Rattle.block_kernels.specs.Gathers.{IsSpot, IsLine, HasTaken}
-
--- a place of a row lies before the rows behind it
-row-before : (j k run i : ℕ) → j < k → i < run → j * run + i < k * run
-row-before j k run i h b = omega (arith, mul-add-lt j run i k h b)
 
 -- the pieces of the first rows are there, and nothing before the tile is touched
 pub record Tiled (cells : List ℤ) (firsts seconds : List ℕ) (run from to k : ℕ) (old new : List ℤ) : Type 0 where
@@ -23,7 +20,7 @@ pub tile-step : (cells : List ℤ) (firsts seconds : List ℕ) (run from to k : 
 tile-step cells firsts seconds run from to k old mid new t some inside len piece before after = record {
   len = len ∙ t.len;
   made = λ j i hj low high. elim (cases_lt j k) [
-    | inl b ↦ record { at = λ p s. before (j * run + i) (let e : j * run + i < k * run = row-before j k run i b (omega arith) in omega (arith, e)) ∙ (t.made j i b low high).at p s }
+    | inl b ↦ record { at = λ p s. before (j * run + i) (let e : j * run + i < k * run = digits_lt b (omega arith) in omega (arith, e)) ∙ (t.made j i b low high).at p s }
     | inr b ↦
         let e : j ≡ k = omega arith in
         let f : from + (i - from) ≡ i = omega arith in
@@ -33,9 +30,9 @@ tile-step cells firsts seconds run from to k old mid new t some inside len piece
         })
   ];
   kept = λ j i hj low. elim (cases_lt j k) [
-    | inl b ↦ before (j * run + i) (let e : j * run + i < k * run = row-before j k run i b (omega arith) in omega (arith, e)) ∙ t.kept j i hj low
+    | inl b ↦ before (j * run + i) (let e : j * run + i < k * run = digits_lt b (omega arith) in omega (arith, e)) ∙ t.kept j i hj low
     | inr b ↦ elim (cases_lt k j) [
-      | inl a ↦ after (j * run + i) (let e : k * run + (to - 1) < j * run = row-before k j run (to - 1) a (omega arith) in omega (arith, e)) ∙ t.kept j i hj low
+      | inl a ↦ after (j * run + i) (let e : k * run + (to - 1) < j * run = digits_lt a (omega arith) in omega (arith, e)) ∙ t.kept j i hj low
       | inr a ↦ let e : j ≡ k = omega arith in before (j * run + i) (subst (λ m. m * run + i < k * run + from) (sym e) (omega arith)) ∙ t.kept j i hj low
     ]
   ];
@@ -74,7 +71,3 @@ strip-filled g cells out firsts seconds row many run some lines made r h =
     ap (λ q. at_place g q) (sym e)
     ∙ line.each (r % run) (line.row.place (r % run)) hi s
     ∙ ap Some (sym ((made (r / run) (r % run) hk hi).at (line.row.place (r % run)) s) ∙ ap (λ q. get_or out q (pos 0)) split)
-
--- so many rows of all
-pub rows-fit : (a b run : ℕ) → a ≤ b → a * run ≤ b * run
-rows-fit a b run h = let e : a + (b - a) ≡ b = omega arith in let p : a * run ≤ (a + (b - a)) * run = omega arith in subst (λ k. a * run ≤ k * run) e p

@@ -1,17 +1,18 @@
 -- Loops that fold cells into totals.
-use Rattle.std.proofs.Common.{◌≡◌, ◌≢◌, ℕ, suc, ◌+◌, ◌*◌, ◌<◌, ◌≤◌, List, [], ◌∷◌, length, set, map, get_or, refl, ap, sym, subst, ◌∙◌, arith, ℤ, pos, Some, inl, inr, below_more}
+use Rattle.std.proofs.Common.{◌≡◌, ◌≢◌, ℕ, ◌+◌, ◌*◌, ◌<◌, ◌≤◌, List, [], ◌∷◌, length, set, map, get_or, refl, ap, sym, subst, ◌∙◌, arith, ℤ, pos, Some, inl, inr, below_more}
 use Rattle.std.specs.Prelude.{Option}
 use Rattle.std.specs.List.{range_with_len}
-use Rattle.std.proofs.Math.Nat.{mul-le-mul_left, mul_comm}
+use Rattle.std.proofs.Math.Nat.{le_refl, mul_assoc}
 use Rattle.std.proofs.lemmas.Bool.{cases_lt}
 use Rattle.std.proofs.lemmas.Nat.{row_fits}
 use Rattle.std.proofs.lemmas.List.{get_or-set_same, get_or-set_other}
 use Rattle.std.proofs.lemmas.List.FromFn.{map-range_with_len_more}
+use Rattle.std.proofs.Math.Arith.{digits_lt}
 use Rattle.nd_grid.specs.declared.operation.Fold.{Fold}
 use Rattle.nd_grid.specs.Operation.{fold_two, combine_two, folded_from}
 use Rattle.block_kernels.specs.Reducing.{TakesRow, TakesRows}
 use Rattle.block_kernels.specs.Viewing.{TakesView}
-use Rattle.block_kernels.proofs.Reducing.{from-push}
+use Rattle.nd_grid.proofs.Folding.{folded_from-push}
 
 -- ---- a row
 
@@ -40,7 +41,7 @@ rows-more fold place cells from rows count old now new t r = record {
       let f : ℕ → Option ℤ = λ q. Some (get_or cells ((from + q * count) + i) (pos 0)) in
       let start : Option ℤ = Some (get_or old (place + i) (pos 0)) in
       ap (folded_from fold (Some (get_or old (place + i) (pos 0)))) (map-range_with_len_more f 0 rows rows (omega arith))
-      ∙ from-push fold (Some (get_or old (place + i) (pos 0))) (map f (range_with_len 0 rows)) (f rows)
+      ∙ folded_from-push fold (Some (get_or old (place + i) (pos 0))) (map f (range_with_len 0 rows)) (f rows)
       ∙ ap (λ x. combine_two fold x (f rows)) (t.at i h)
       ∙ ap Some (r.at i h);
   before = λ j h. r.before j h ∙ t.before j h;
@@ -51,15 +52,6 @@ rows-more fold place cells from rows count old now new t r = record {
 
 pub view-none : (fold : Fold) (cells : List ℤ) (rows inner : ℕ) (old : List ℤ) → TakesView fold cells 0 rows inner old old
 view-none fold cells rows inner old = record { at = λ o i ho hi. absurd (omega arith) }
-
-pub row-end : (o part inner i : ℕ) → o < part → i < inner → o * inner + i < part * inner
-row-end o part inner i ho hi = omega (arith, mul-le-mul_left inner (le-suc o part ho), mul_comm inner (suc o), mul_comm inner part, suc-times o inner)
-  where
-    le-suc : (o part : ℕ) → o < part → suc o ≤ part
-    le-suc o part h = omega arith
-
-    suc-times : (o inner : ℕ) → suc o * inner ≡ o * inner + inner
-    suc-times o inner = omega arith
 
 pub next-part : (part inner : ℕ) → (part + 1) * inner ≡ part * inner + inner
 next-part part inner = omega arith
@@ -78,7 +70,7 @@ parts-more fold cells part rows inner old now new t l r = record {
   taken = record {
     at = λ o i ho hi.
         elim (cases_lt o part) [
-          | inl b ↦ t.at o i b hi ∙ ap Some (sym (r.before (o * inner + i) (row-end o part inner i b hi)))
+          | inl b ↦ t.at o i b hi ∙ ap Some (sym (r.before (o * inner + i) (digits_lt b hi)))
           | inr b ↦ let same : part ≡ o = omega arith in
               subst (λ p. folded_from fold (Some (get_or old (p * inner + i) (pos 0))) (map (λ q. Some (get_or cells ((p * rows + q) * inner + i) (pos 0))) (range_with_len 0 rows)) ≡ Some (get_or new (p * inner + i) (pos 0))) same
               (ap (λ x. folded_from fold (Some x) (map (λ q. Some (get_or cells ((part * rows + q) * inner + i) (pos 0))) (range_with_len 0 rows))) (sym (l (part * inner + i) (omega arith)))
@@ -102,22 +94,13 @@ parts-more fold cells part rows inner old now new t l r = record {
 -- ---- rooms
 
 pub row-room : (from row rows count len : ℕ) → row < rows → from + rows * count ≤ len → (from + row * count) + count ≤ len
-row-room from row rows count len h e = omega (arith, row_fits row count rows count h (le-self count))
-  where
-    le-self : (n : ℕ) → n ≤ n
-    le-self n = omega arith
+row-room from row rows count len h e = omega (arith, row_fits row count rows count h (le_refl count))
 
 pub part-room : (part outer inner len : ℕ) → part < outer → outer * inner ≤ len → part * inner + inner ≤ len
-part-room part outer inner len h e = omega (arith, row_fits part inner outer inner h (le-self inner))
-  where
-    le-self : (n : ℕ) → n ≤ n
-    le-self n = omega arith
-
-regrouped : (outer rows inner : ℕ) → (outer * rows) * inner ≡ outer * (rows * inner)
-regrouped outer rows inner = omega arith
+part-room part outer inner len h e = omega (arith, row_fits part inner outer inner h (le_refl inner))
 
 pub part-cells : (part outer rows inner len : ℕ) → part < outer → (outer * rows) * inner ≤ len → part * (rows * inner) + rows * inner ≤ len
-part-cells part outer rows inner len h e = part-room part outer (rows * inner) len h (subst (λ x. x ≤ len) (regrouped outer rows inner) e)
+part-cells part outer rows inner len h e = part-room part outer (rows * inner) len h (subst (λ x. x ≤ len) (mul_assoc outer rows inner) e)
 
 -- ---- one total
 
@@ -126,7 +109,7 @@ pub line-more : (fold : Fold) (total : ℤ) (cells : List ℤ) (from q : ℕ) (a
 line-more fold total cells from q all x h e =
     let f : ℕ → Option ℤ = λ p. Some (get_or cells (from + p) (pos 0)) in
     ap (folded_from fold (Some total)) (map-range_with_len_more f 0 q q (omega arith))
-    ∙ from-push fold (Some total) (map f (range_with_len 0 q)) (f q)
+    ∙ folded_from-push fold (Some total) (map f (range_with_len 0 q)) (f q)
     ∙ ap (λ y. combine_two fold y (f q)) h
     ∙ ap Some (sym e)
 

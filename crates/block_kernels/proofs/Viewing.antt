@@ -2,10 +2,11 @@
 use Rattle.std.proofs.Common.{◌≡◌, ℕ, zero, suc, ◌+◌, ◌*◌, ◌/◌, ◌%◌, ◌<◌, ◌≤◌, ◌^◌, cond, Bool, true, false, List, [], ◌∷◌, length, map, drop, get_or, refl, ap, sym, subst, ◌∙◌, arith, ℤ, pos, Some}
 use Rattle.std.specs.Prelude.{Option}
 use Rattle.std.specs.List.{range_with_len}
-use Rattle.std.proofs.Math.Nat.{mul_comm, mul_assoc}
+use Rattle.std.proofs.Math.Nat.{mul_comm, mul_assoc, mul-pos}
 use Rattle.std.proofs.lemmas.Nat.{mul-add-lt, div-mul-add, mod-mul-add, div-add-mod', div_below, mod_below}
 use Rattle.std.proofs.lemmas.List.{drop_more, drop_all}
-use Rattle.std.proofs.lemmas.List.FromFn.{fill_by_all, get_or-map-range_with_len, length-map-range_with_len}
+use Rattle.small_facts.proofs.Numbers.{below_product_right, product_left, product_regroup}
+use Rattle.small_facts.proofs.Ranges.{map_range_same}
 use Rattle.nd_shape.specs.Block.{Array}
 use Rattle.nd_shape.specs.Shape.{elements}
 use Rattle.nd_shape.specs.Index.{place, index_at}
@@ -14,7 +15,8 @@ use Rattle.nd_grid.specs.Operation.{neutral, combine_two, folded_from, folded}
 use Rattle.nd_grid.specs.Grid.{grid_of, is_among, kept_shape, folded_shape, merged, reduced}
 use Rattle.block_kernels.specs.Viewing.{IsView, TakesView, Extends, folds, lengthens, surrounds}
 use Rattle.block_kernels.specs.Reducing.{TakesBlock}
-use Rattle.block_kernels.proofs.Reducing.{elements-parts, from-combined}
+use Rattle.block_kernels.proofs.Reducing.{elements-parts}
+use Rattle.nd_grid.proofs.FoldAlgebra.{from-combined}
 
 pub view-none : (k : ℕ) (axes : List ℕ) → IsView k [] axes 1 1 1
 view-none k axes = record { kept = refl; folded_is = refl; place_is = λ o i q ho hi hq. omega arith }
@@ -22,10 +24,6 @@ view-none k axes = record { kept = refl; folded_is = refl; place_is = λ o i q h
 -- the elements of all axes from k on
 all-elements : (k : ℕ) (ns axes : List ℕ) (o f i : ℕ) → IsView k ns axes o f i → elements ns ≡ (o * i) * f
 all-elements k ns axes o f i v = sym (elements-parts k ns axes) ∙ ap (λ x. x * elements (folded_shape k ns axes)) v.kept ∙ ap (λ x. (o * i) * x) v.folded_is
-
-right-positive : (m n p : ℕ) → p < m * n → 0 < n
-right-positive m zero p h = absurd (omega arith)
-right-positive m (suc n) p h = omega arith
 
 -- ---- one axis more, which is folded
 
@@ -48,7 +46,7 @@ view-folded k n ns axes f i e v =
       kept = ap (λ b. elements (cond b (kept_shape (suc k) ns axes) (n ∷ kept_shape (suc k) ns axes))) e ∙ v.kept;
       folded_is = ap (λ b. elements (cond b (n ∷ folded_shape (suc k) ns axes) (folded_shape (suc k) ns axes))) e ∙ ap (λ x. n * x) v.folded_is;
       place_is = λ o j q ho hj hq.
-          let pf : 0 < f = right-positive n f q hq in
+          let pf : 0 < f = below_product_right n f q hq in
           let r : q % f < f = mod_below q f pf in
           let z : o * i + j ≡ 0 * i + j = drop-part o i j ho in
           ap (λ b. place (n ∷ ns) (cond b
@@ -67,9 +65,6 @@ view-folded k n ns axes f i e v =
 outer-sum : (a b o f q i j e : ℕ) → e ≡ (o * i) * f → a * e + ((b * f + q) * i + j) ≡ ((a * o + b) * f + q) * i + j
 outer-sum a b o f q i j e h = ap (λ x. a * x + ((b * f + q) * i + j)) h ∙ omega arith
 
-outer-place : (a b o i j : ℕ) → (a * o + b) * i + j ≡ a * (o * i) + (b * i + j)
-outer-place a b o i j = omega arith
-
 pub view-outer : (k n : ℕ) (ns axes : List ℕ) (o f i : ℕ) → is_among k axes ≡ false → IsView (suc k) ns axes o f i → IsView k (n ∷ ns) axes (n * o) f i
 view-outer k n ns axes o f i e v =
     let ks = kept_shape (suc k) ns axes in
@@ -78,13 +73,13 @@ view-outer k n ns axes o f i e v =
       kept = ap (λ b. elements (cond b (kept_shape (suc k) ns axes) (n ∷ kept_shape (suc k) ns axes))) e ∙ ap (λ x. n * x) v.kept ∙ sym (mul_assoc n o i);
       folded_is = ap (λ b. elements (cond b (n ∷ folded_shape (suc k) ns axes) (folded_shape (suc k) ns axes))) e ∙ v.folded_is;
       place_is = λ o' j q ho hj hq.
-          let po : 0 < o = right-positive n o o' ho in
+          let po : 0 < o = below_product_right n o o' ho in
           let a : ℕ = o' / o in
           let b : ℕ = o' % o in
           let hb : o' % o < o = mod_below o' o po in
           let split : o' / o * o + o' % o ≡ o' = div-add-mod' o' o in
           let low : (o' % o) * i + j < o * i = subst (λ x. (o' % o) * i + j < x) (mul_comm i o) (mul-add-lt (o' % o) i j o hb hj) in
-          let at : o' * i + j ≡ o' / o * (o * i) + ((o' % o) * i + j) = ap (λ x. x * i + j) (sym split) ∙ outer-place (o' / o) (o' % o) o i j in
+          let at : o' * i + j ≡ o' / o * (o * i) + ((o' % o) * i + j) = ap (λ x. x * i + j) (sym split) ∙ product_regroup (o' / o) o (o' % o) i j in
           let p1 : (o' * i + j) / elements ks ≡ o' / o = ap (λ x. (o' * i + j) / x) v.kept ∙ ap (λ x. x / (o * i)) at ∙ div-mul-add (o' / o) (o * i) ((o' % o) * i + j) low in
           let p2 : (o' * i + j) % elements ks ≡ (o' % o) * i + j = ap (λ x. (o' * i + j) % x) v.kept ∙ ap (λ x. x % (o * i)) at ∙ mod-mul-add (o' / o) (o * i) ((o' % o) * i + j) low in
           ap (λ b. place (n ∷ ns) (cond b
@@ -105,7 +100,7 @@ inner-first zero zero m j ho hq = omega arith
 inner-first zero (suc q) m j ho hq = absurd (omega arith)
 inner-first (suc o) q m j ho hq = absurd (omega arith)
 
-first-place : (o m j : ℕ) → o < 1 → o * m + j ≡ j
+pub first-place : (o m j : ℕ) → o < 1 → o * m + j ≡ j
 first-place zero m j h = omega arith
 first-place (suc o) m j h = absurd (omega arith)
 
@@ -118,7 +113,7 @@ view-inner k n ns axes i e v =
       kept = ap (λ b. elements (cond b (kept_shape (suc k) ns axes) (n ∷ kept_shape (suc k) ns axes))) e ∙ ap (λ x. n * x) size ∙ omega arith;
       folded_is = ap (λ b. elements (cond b (n ∷ folded_shape (suc k) ns axes) (folded_shape (suc k) ns axes))) e ∙ v.folded_is;
       place_is = λ o j q ho hj hq.
-          let pi : 0 < i = right-positive n i j hj in
+          let pi : 0 < i = below_product_right n i j hj in
           let q0 : q ≡ 0 = omega arith in
           let z : o * (n * i) + j ≡ j = first-place o (n * i) j ho in
           let low : j % i < i = mod_below j i pi in
@@ -201,17 +196,13 @@ view-start ns axes = subst (λ ms. IsView (length ns) ms axes 1 1 1) (sym (drop_
 
 -- ---- the totals of a block
 
-pub same-range : (f g : ℕ → Option ℤ) (n : ℕ) → ((k : ℕ) → k < n → f k ≡ g k) → map f (range_with_len 0 n) ≡ map g (range_with_len 0 n)
-same-range f g n e =
-    fill_by_all g (map f (range_with_len 0 n)) n (Some (pos 0)) (length-map-range_with_len f 0 n) (λ k h. get_or-map-range_with_len f 0 n k k (Some (pos 0)) h (omega arith) ∙ e k h)
-
 pub view-taken : (fold : Fold) (axes shape : List ℕ) (block : Array) (o f i : ℕ) (cells old new : List ℤ) → IsView 0 block.shape axes o f i → kept_shape 0 block.shape axes ≡ shape → cells ≡ block.cells
     → TakesView fold cells o f i old new → TakesBlock fold axes shape block old new
 view-taken fold axes shape block o f i cells old new v e same t = record {
   at = λ p h unit.
       let size : elements shape ≡ o * i = ap elements (sym e) ∙ v.kept in
       let hp : p < o * i = subst (λ x. p < x) size h in
-      let pi : 0 < i = right-positive o i p hp in
+      let pi : 0 < i = below_product_right o i p hp in
       let hj : p % i < i = mod_below p i pi in
       let ho : p / i < o = div_below p i o pi hp in
       let split : p / i * i + p % i ≡ p = div-add-mod' p i in
@@ -224,7 +215,7 @@ view-taken fold axes shape block o f i cells old new v e same t = record {
       ∙ ap (λ (xs : List ℤ). Some (get_or xs ((p / i * f + q) * i + p % i) (pos 0))) (sym same) in
       let left : (reduced fold axes (grid_of block)).at (index_at shape p) ≡ folded fold (map (λ q. Some (get_or cells ((p / i * f + q) * i + p % i) (pos 0))) (range_with_len 0 f)) =
       ap (λ n. folded fold (map (λ q. (grid_of block).at (merged 0 block.shape axes (index_at shape p) (index_at fs q))) (range_with_len 0 n))) v.folded_is
-      ∙ ap (folded fold) (same-range (λ q. Some (get_or block.cells (place block.shape (merged 0 block.shape axes (index_at shape p) (index_at fs q))) (pos 0))) (λ q. Some (get_or cells ((p / i * f + q) * i + p % i) (pos 0))) f behind) in
+      ∙ ap (folded fold) (map_range_same (λ q. Some (get_or block.cells (place block.shape (merged 0 block.shape axes (index_at shape p) (index_at fs q))) (pos 0))) (λ q. Some (get_or cells ((p / i * f + q) * i + p % i) (pos 0))) f behind) in
       ap (combine_two fold (Some (get_or old p (pos 0)))) left
       ∙ sym (from-combined fold (map (λ q. Some (get_or cells ((p / i * f + q) * i + p % i) (pos 0))) (range_with_len 0 f)) (Some (get_or old p (pos 0))) (Some (neutral fold)))
       ∙ ap (λ x. folded_from fold x (map (λ q. Some (get_or cells ((p / i * f + q) * i + p % i) (pos 0))) (range_with_len 0 f))) unit
@@ -236,29 +227,16 @@ factor-le : (a b m : ℕ) → 0 < b → a * b ≤ m → a ≤ m
 factor-le a zero m h e = absurd (omega arith)
 factor-le a (suc b) m h e = omega arith
 
-some-left : (m n : ℕ) → 0 < m * n → 0 < m
-some-left zero n h = absurd (omega arith)
-some-left (suc m) n h = omega arith
-
-some-right : (m n : ℕ) → 0 < m * n → 0 < n
-some-right m zero h = absurd (omega arith)
-some-right m (suc n) h = omega arith
-
-some-both : (m n : ℕ) → 0 < m → 0 < n → 0 < m * n
-some-both zero n h p = absurd (omega arith)
-some-both (suc m) zero h p = absurd (omega arith)
-some-both (suc m) (suc n) h p = omega arith
-
 pub factors-small : (n o f i : ℕ) → n * ((o * f) * i) ≤ 2 ^ 31 → 0 < (o * f) * i → (n * o ≤ 2 ^ 31) × (n * f ≤ 2 ^ 31) × (n * i ≤ 2 ^ 31)
 factors-small n o f i h p =
-    let pi : 0 < i = some-right (o * f) i p in
-    let pof : 0 < o * f = some-left (o * f) i p in
-    let po : 0 < o = some-left o f pof in
-    let pf : 0 < f = some-right o f pof in
+    let pi : 0 < i = below_product_right (o * f) i 0 p in
+    let pof : 0 < o * f = product_left (o * f) i p in
+    let po : 0 < o = product_left o f pof in
+    let pf : 0 < f = below_product_right o f 0 pof in
     let e1 : (n * o) * (f * i) ≤ 2 ^ 31 = omega (arith, h) in
     let e2 : (n * f) * (o * i) ≤ 2 ^ 31 = omega (arith, h) in
     let e3 : (n * i) * (o * f) ≤ 2 ^ 31 = omega (arith, h) in
-    (factor-le (n * o) (f * i) (2 ^ 31) (some-both f i pf pi) e1, factor-le (n * f) (o * i) (2 ^ 31) (some-both o i po pi) e2, factor-le (n * i) (o * f) (2 ^ 31) pof e3)
+    (factor-le (n * o) (f * i) (2 ^ 31) (mul-pos pf pi) e1, factor-le (n * f) (o * i) (2 ^ 31) (mul-pos po pi) e2, factor-le (n * i) (o * f) (2 ^ 31) pof e3)
 
 -- ---- the sizes of a view
 

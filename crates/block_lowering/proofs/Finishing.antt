@@ -4,10 +4,10 @@ use Rattle.std.specs.Prelude.{nat_eq}
 use Rattle.std.specs.List.{AllByRecursion, flat_map}
 use Rattle.std.proofs.lemmas.List.{map_more}
 use Rattle.std.proofs.lemmas.List.Sums.{position_or_len_is}
+use Rattle.small_facts.proofs.Every.{all_join}
 use Rattle.task_graph.specs.Orders.{is_in, position}
 use Rattle.task_graph.specs.Numbers.{number_of}
 use Rattle.task_graph.proofs.Visits.{not-in}
-use Rattle.task_graph.proofs.Rising.{all-join}
 
 none-there : (b : Bool) (x : ℕ) → cond b (Some x) None ≡ None → b ≡ false
 none-there true x h = absurd cc
@@ -24,12 +24,9 @@ all-at P [] i d a h = absurd (omega arith)
 all-at P (x ∷ xs) zero d a h = a.0
 all-at P (x ∷ xs) (suc i) d a h = all-at P xs i d a.1 (omega arith)
 
-pub all-push : {A : Type 0} (P : A → Type 0) (xs : List A) (x : A) → AllByRecursion P xs → P x → AllByRecursion P (xs ++ x ∷ [])
-all-push P xs x a h = all-join P xs (x ∷ []) a (h, tt)
-
 pub all-flat : {A : Type 0} (P : A → Type 0) (xss : List (List A)) → AllByRecursion (AllByRecursion P) xss → AllByRecursion P (flat_map (λ xs. xs) xss)
 all-flat P [] a = tt
-all-flat P (xs ∷ xss) a = all-join P xs (flat_map (λ xs. xs) xss) a.0 (all-flat P xss a.1)
+all-flat P (xs ∷ xss) a = all_join P xs (flat_map (λ xs. xs) xss) a.0 (all-flat P xss a.1)
 
 -- one more of a list that is mapped
 pub map-push : {A B : Type 0} (f : A → B) (xs : List A) (i : ℕ) (d : A) (old new : List B) (y : B) → i < length xs → old ≡ map f (take i xs) → new ≡ old ++ y ∷ [] → y ≡ f (get_or xs i d) → new ≡ map f (take (i + 1) xs)

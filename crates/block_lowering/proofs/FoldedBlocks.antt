@@ -3,6 +3,7 @@ use Rattle.std.proofs.Common.{◌≡◌, ℕ, ◌+◌, ◌*◌, ◌<◌, List, �
 use Rattle.std.specs.List.{range_with_len, flat_map}
 use Rattle.std.proofs.lemmas.List.{take_all, take-append-le}
 use Rattle.std.proofs.lemmas.Grind.{flat_map-append}
+use Rattle.small_facts.proofs.Ranges.{range_parts}
 use Rattle.nd_shape.specs.Index.{index_at}
 use Rattle.nd_grid.specs.declared.operation.Fold.{Fold}
 use Rattle.chunk_layout.specs.Layouts.{counts, blocks, lengths_at}
@@ -11,7 +12,7 @@ use Rattle.lowering_laws.specs.Stages.{folded_tasks, block_tasks, tree_count}
 use Rattle.lowering_laws.proofs.Reductions.{length-strides, length-folded}
 use Rattle.block_lowering.specs.Growing.{Refuses}
 use Rattle.block_lowering.specs.declared.error.LowerError.{LowerError}
-use Rattle.block_lowering.proofs.Refusing.{refuses-same, range-parts, refuses-block}
+use Rattle.block_lowering.proofs.Refusing.{refuses-same, refuses-block}
 
 -- numbers that were written over, all of them
 pub all-written : (xs ys : List ℕ) (n : ℕ) → length xs ≡ n → take n (xs ++ drop (length xs) ys) ≡ xs
@@ -27,7 +28,7 @@ block-same fold n split partial layout bs own dims at e d =
 flat-more : (f : ℕ → List Task) (c : ℕ) → flat_map f (range_with_len 0 (c + 1)) ≡ flat_map f (range_with_len 0 c) ++ f c
 flat-more f c =
     let at : 0 + c ≡ c = omega arith in
-    ap (flat_map f) (range-parts 0 c 1) ∙ flat_map-append f (range_with_len 0 c) (range_with_len (0 + c) 1)
+    ap (flat_map f) (range_parts 0 c 1) ∙ flat_map-append f (range_with_len 0 c) (range_with_len (0 + c) 1)
     ∙ ap (λ ts. flat_map f (range_with_len 0 c) ++ ts) (append-nil (f (0 + c)) ∙ ap f at)
 
 -- the next block stands behind as many keys as the blocks before it have

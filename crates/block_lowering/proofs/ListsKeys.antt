@@ -1,24 +1,15 @@
 -- Lists of keys: rows of them, and one more in its place.
 use Rattle.std.proofs.Common.{◌≡◌, ℕ, zero, suc, ◌+◌, ◌<◌, ◌≤◌, List, [], ◌∷◌, ◌++◌, length, map, take, drop, get_or, refl, ap, sym, ◌∙◌, arith}
 use Rattle.std.specs.List.{range_with_len}
-use Rattle.std.proofs.lemmas.List.{map-id, drop_more}
+use Rattle.std.proofs.lemmas.List.{drop_more}
 use Rattle.std.proofs.lemmas.List.FromFn.{map-range_with_len_more}
 use Rattle.task_graph.specs.Orders.{with_key, ascending}
-
-pub range-more : (a n : ℕ) → range_with_len a (n + 1) ≡ range_with_len a n ++ (a + n) ∷ []
-range-more a n =
-    sym (map-id (range_with_len a (n + 1))) ∙ map-range_with_len_more (λ k. k) a n (a + n) refl ∙ ap (λ ks. ks ++ (a + n) ∷ []) (map-id (range_with_len a n))
+use Rattle.task_graph.proofs.Renumbered.{with-less, with-same}
 
 -- a row that is made by `push`
 pub row-more : (f : ℕ → ℕ) (own next : List ℕ) (k x : ℕ) → next ≡ own ++ x ∷ [] → own ≡ map f (range_with_len 0 k) → x ≡ f k → next ≡ map f (range_with_len 0 (k + 1))
 row-more f own next k x e o h =
     e ∙ ap (λ (xs : List ℕ). xs ++ x ∷ []) o ∙ ap (λ (y : ℕ). map f (range_with_len 0 k) ++ y ∷ []) h ∙ sym (map-range_with_len_more f 0 k k (omega arith))
-
-with-less : (k j : ℕ) (js : List ℕ) → k < j → with_key k (j ∷ js) ≡ k ∷ j ∷ js
-with-less k j js h = grind arith
-
-with-same : (k j : ℕ) (js : List ℕ) → k ≡ j → with_key k (j ∷ js) ≡ j ∷ js
-with-same k j js h = grind arith
 
 with-more : (k j : ℕ) (js : List ℕ) → j < k → with_key k (j ∷ js) ≡ j ∷ with_key k js
 with-more k j js h = grind arith

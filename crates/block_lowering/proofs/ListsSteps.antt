@@ -1,12 +1,10 @@
 -- Steps of the loops that make an operand's index axis by axis.
-use Rattle.std.proofs.Common.{◌≡◌, ℕ, suc, ◌+◌, ◌<◌, cond, Bool, true, false, List, [], ◌∷◌, ◌++◌, length, drop, get_or, ap, sym, subst, ◌∙◌, arith, append_assoc, add-one}
+use Rattle.std.proofs.Common.{◌≡◌, ℕ, suc, ◌+◌, ◌<◌, cond, Bool, true, false, List, [], ◌∷◌, ◌++◌, length, drop, get_or, ap, sym, subst, ◌∙◌, append_assoc, add-one}
 use Rattle.std.specs.Prelude.{nat_eq, not}
 use Rattle.std.specs.List.{position_or_len}
-use Rattle.std.proofs.lemmas.List.{drop_more, drop-drop, get_or-drop}
+use Rattle.std.proofs.lemmas.List.{drop_more, drop-drop}
+use Rattle.small_facts.proofs.Lists.{first_of_drop}
 use Rattle.nd_grid.specs.Grid.{is_among, merged, woven}
-
-first-drop : (xs : List ℕ) (k : ℕ) → get_or (drop k xs) 0 0 ≡ get_or xs k 0
-first-drop xs k = let z : k + 0 ≡ k = omega arith in get_or-drop k xs 0 0 ∙ ap (λ j. get_or xs j 0) z
 
 pub merge-more : (ns axes is rs own res : List ℕ) (k used spent : ℕ) (gone : Bool) → k < length ns → gone ≡ is_among k axes
     → own ++ merged k (drop k ns) axes (drop used is) (drop spent rs) ≡ res
@@ -24,13 +22,13 @@ merge-more ns axes is rs own res k used spent gone h b loop =
     by_case true value =
         subst (λ m. (own ++ get_or rs spent 0 ∷ []) ++ merged m (drop (k + 1) ns) axes (drop used is) (drop (spent + 1) rs) ≡ res) (sym (add-one k))
         (append_assoc own (get_or rs spent 0 ∷ []) _
-        ∙ ap (λ x. own ++ x ∷ merged (suc k) (drop (k + 1) ns) axes (drop used is) (drop (spent + 1) rs)) (sym (first-drop rs spent))
+        ∙ ap (λ x. own ++ x ∷ merged (suc k) (drop (k + 1) ns) axes (drop used is) (drop (spent + 1) rs)) (sym (first_of_drop rs spent))
         ∙ ap (λ xs. own ++ get_or (drop spent rs) 0 0 ∷ merged (suc k) (drop (k + 1) ns) axes (drop used is) xs) (sym (drop-drop 1 spent rs))
         ∙ value)
     by_case false value =
         subst (λ m. (own ++ get_or is used 0 ∷ []) ++ merged m (drop (k + 1) ns) axes (drop (used + 1) is) (drop spent rs) ≡ res) (sym (add-one k))
         (append_assoc own (get_or is used 0 ∷ []) _
-        ∙ ap (λ x. own ++ x ∷ merged (suc k) (drop (k + 1) ns) axes (drop (used + 1) is) (drop spent rs)) (sym (first-drop is used))
+        ∙ ap (λ x. own ++ x ∷ merged (suc k) (drop (k + 1) ns) axes (drop (used + 1) is) (drop spent rs)) (sym (first_of_drop is used))
         ∙ ap (λ xs. own ++ get_or (drop used is) 0 0 ∷ merged (suc k) (drop (k + 1) ns) axes xs (drop spent rs)) (sym (drop-drop 1 used is))
         ∙ value)
 
@@ -53,6 +51,6 @@ weave-more ns axes is rs own res k used gone h b loop =
     by_case false value =
         subst (λ m. (own ++ get_or is used 0 ∷ []) ++ woven m (drop (k + 1) ns) axes (drop (used + 1) is) rs ≡ res) (sym (add-one k))
         (append_assoc own (get_or is used 0 ∷ []) _
-        ∙ ap (λ x. own ++ x ∷ woven (suc k) (drop (k + 1) ns) axes (drop (used + 1) is) rs) (sym (first-drop is used))
+        ∙ ap (λ x. own ++ x ∷ woven (suc k) (drop (k + 1) ns) axes (drop (used + 1) is) rs) (sym (first_of_drop is used))
         ∙ ap (λ xs. own ++ get_or (drop used is) 0 0 ∷ woven (suc k) (drop (k + 1) ns) axes xs rs) (sym (drop-drop 1 used is))
         ∙ value)

@@ -1,14 +1,12 @@
 -- What a block of a slice takes, axis by axis.
 use Rattle.std.proofs.Common.{◌≡◌, ℕ, suc, ◌+◌, ◌<◌, ◌≤◌, cond, not, Bool, true, false, List, [], ◌∷◌, ◌++◌, length, drop, get_or, refl, ap, sym, ◌∙◌, arith, append_assoc, add-one}
 use Rattle.std.specs.Prelude.{slice_index_or}
-use Rattle.std.proofs.lemmas.List.{drop_more, drop-drop, get_or-drop}
+use Rattle.std.proofs.lemmas.List.{drop_more, drop-drop}
+use Rattle.small_facts.proofs.Lists.{first_of_drop}
 use Rattle.nd_shape.specs.declared.slice.Steps.{Steps}
 use Rattle.nd_grid.specs.Grid.{is_among}
 use Rattle.chunk_layout.specs.Slices.{Taken}
 use Rattle.lowering_laws.specs.Stages.{pieces_at, chunks_taken, steps_taken, nothing_taken}
-
-first-drop : (xs : List ℕ) (k : ℕ) → get_or (drop k xs) 0 0 ≡ get_or xs k 0
-first-drop xs k = let z : k + 0 ≡ k = omega arith in get_or-drop k xs 0 0 ∙ ap (λ j. get_or xs j 0) z
 
 -- the piece of axis k, and what is left of the block behind it
 abbrev pub piece_on : List (List Taken) → List ℕ → ℕ → ℕ → Bool → Taken
@@ -31,7 +29,7 @@ pieces-drop pieces dropped bs k used gone lt e =
     by_case true = ap (λ m. slice_index_or (get_or pieces k []) 0 nothing_taken ∷ pieces_at m (drop (k + 1) pieces) dropped (drop used bs)) (sym (add-one k))
     by_case false =
         ap (λ m. slice_index_or (get_or pieces k []) (get_or (drop used bs) 0 0) nothing_taken ∷ pieces_at m (drop (k + 1) pieces) dropped (drop 1 (drop used bs))) (sym (add-one k))
-        ∙ ap (λ j. slice_index_or (get_or pieces k []) j nothing_taken ∷ pieces_at (k + 1) (drop (k + 1) pieces) dropped (drop 1 (drop used bs))) (first-drop bs used)
+        ∙ ap (λ j. slice_index_or (get_or pieces k []) j nothing_taken ∷ pieces_at (k + 1) (drop (k + 1) pieces) dropped (drop 1 (drop used bs))) (first_of_drop bs used)
         ∙ ap (λ (js : List ℕ). slice_index_or (get_or pieces k []) (get_or bs used 0) nothing_taken ∷ pieces_at (k + 1) (drop (k + 1) pieces) dropped js) (drop-drop 1 used bs)
 
 -- what the loop has behind axis k

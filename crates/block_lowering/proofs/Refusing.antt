@@ -1,8 +1,9 @@
 -- Refusals go up: what a graph refuses it refuses with more tasks behind, and as a part of more.
-use Rattle.std.proofs.Common.{◌≡◌, ℕ, zero, suc, ◌+◌, ◌-◌, ◌<◌, List, [], ◌∷◌, ◌++◌, map, ap, sym, subst, ◌∙◌, append_assoc, arith}
+use Rattle.std.proofs.Common.{◌≡◌, ℕ, suc, ◌+◌, ◌-◌, ◌<◌, List, [], ◌∷◌, ◌++◌, map, ap, sym, subst, ◌∙◌, append_assoc, arith}
 use Rattle.std.specs.List.{range_with_len, flat_map}
 use Rattle.std.proofs.lemmas.Grind.{flat_map-append}
 use Rattle.std.proofs.lemmas.List.Concat.{flat_map-cons, flat_map_single}
+use Rattle.small_facts.proofs.Ranges.{range_parts}
 use Rattle.task_graph.specs.declared.graph.Task.{Task}
 use Rattle.lowering_laws.specs.Lowered.{limit_from}
 use Rattle.block_lowering.specs.Growing.{Refuses}
@@ -26,17 +27,6 @@ pub refuses-moved : (a b c d : List Task) (e : LowerError) → a ++ b ≡ c ++ d
 refuses-moved a b c d (Limit q) same r = λ rest. ap (λ (xs : List Task). limit_from 0 0 (xs ++ rest)) (sym same) ∙ r rest
 refuses-moved a b c d OutOfMemory same r = tt
 
--- so many numbers, and the others
-pub range-parts : (a n m : ℕ) → range_with_len a (n + m) ≡ range_with_len a n ++ range_with_len (a + n) m
-range-parts a zero m =
-    let z : 0 + m ≡ m = omega arith in
-    let w : a ≡ a + 0 = omega arith in
-    ap (range_with_len a) z ∙ ap (λ k. range_with_len k m) w
-range-parts a (suc n) m =
-    let z : suc n + m ≡ suc (n + m) = omega arith in
-    let w : a + 1 + n ≡ a + suc n = omega arith in
-    ap (range_with_len a) z ∙ ap (λ ks. a ∷ ks) (range-parts (a + 1) n m ∙ ap (λ k. range_with_len (a + 1) n ++ range_with_len k m) w)
-
 -- the tasks of the first c numbers were taken, and those of the next one weren't
 pub refuses-block : (old : List Task) (f : ℕ → List Task) (n c : ℕ) (e : LowerError) → c < n → Refuses (old ++ flat_map f (range_with_len 0 c)) (f c) e → Refuses old (flat_map f (range_with_len 0 n)) e
 refuses-block old f n c e lt r =
@@ -45,7 +35,7 @@ refuses-block old f n c e lt r =
     let some : c + suc (n - (c + 1)) ≡ n = omega arith in
     let at : 0 + c ≡ c = omega arith in
     let parted : range_with_len 0 n ≡ done ++ c ∷ left =
-    ap (range_with_len 0) (sym some) ∙ range-parts 0 c (suc (n - (c + 1))) ∙ ap (λ k. done ++ k ∷ range_with_len (k + 1) (n - (c + 1))) at in
+    ap (range_with_len 0) (sym some) ∙ range_parts 0 c (suc (n - (c + 1))) ∙ ap (λ k. done ++ k ∷ range_with_len (k + 1) (n - (c + 1))) at in
     let all : flat_map f (range_with_len 0 n) ≡ flat_map f done ++ (f c ++ flat_map f left) =
     ap (flat_map f) parted ∙ flat_map-append f done (c ∷ left) ∙ ap (λ ts. flat_map f done ++ ts) (flat_map-cons f c left) in
     refuses-same old _ _ e (sym all) (refuses-behind old (flat_map f done) (f c ++ flat_map f left) e (refuses-more (old ++ flat_map f done) (f c) (flat_map f left) e r))

@@ -1,13 +1,15 @@
 -- A layout that was cut short stands for the one that was asked for: a graph refuses both alike.
-use Rattle.std.proofs.Common.{◌≡◌, ℕ, zero, suc, ◌+◌, ◌-◌, ◌*◌, ◌/◌, ◌%◌, ◌<◌, ◌≤◌, ◌≢◌, cond, Bool, true, false, List, [], ◌∷◌, ◌++◌, length, map, take, drop, get_or, replicate, min, refl, ap, sym, subst, ◌∙◌, inl, inr, arith, length-append, append_assoc, append-nil, Option, Some, Result, IfOk}
+use Rattle.std.proofs.Common.{◌≡◌, ℕ, zero, suc, ◌+◌, ◌-◌, ◌*◌, ◌/◌, ◌%◌, ◌<◌, ◌≤◌, cond, Bool, true, false, List, [], ◌∷◌, ◌++◌, length, map, take, drop, get_or, replicate, min, refl, ap, sym, subst, ◌∙◌, inl, inr, arith, length-append, append_assoc, append-nil, Option, Some, Result, IfOk}
 use Rattle.std.specs.Prelude.{◌⊎◌, nat_eq, nat_lt}
 use Rattle.std.specs.List.{range_with_len}
 use Rattle.std.proofs.Math.Nat.{div-le_self, div-eq_of_lt, mod-eq_of_lt, mul_comm}
-use Rattle.std.proofs.lemmas.Bool.{cases_lt}
+use Rattle.std.proofs.lemmas.Bool.{cases_lt, lt-ltb}
 use Rattle.std.proofs.lemmas.List.{drop_more, length-replicate, length-map, map-append}
 use Rattle.std.proofs.lemmas.List.FromFn.{length-map-range_with_len}
 use Rattle.std.proofs.lemmas.Nat.{le-div}
 use Rattle.std.proofs.lemmas.Result.{IfOk-weaker}
+use Rattle.small_facts.proofs.Lists.{rest_listed}
+use Rattle.small_facts.proofs.Ranges.{range_parts}
 use Rattle.nd_shape.specs.declared.chunk.ChunkSpec.{ChunkSpec}
 use Rattle.nd_shape.specs.Chunk.{total, even_chunks, chunks_of}
 use Rattle.nd_shape.specs.Index.{index_at}
@@ -28,7 +30,6 @@ use Rattle.block_lowering.specs.Shortened.{IsShortened, IsShort}
 use Rattle.block_lowering.specs.Standing.{StandsFor}
 use Rattle.block_lowering.specs.declared.error.LowerError.{LowerError}
 use Rattle.block_lowering.specs.declared.error.LowerError.TheVariants.{Limit, OutOfMemory}
-use Rattle.block_lowering.proofs.Refusing.{range-parts}
 
 -- ---- one axis
 
@@ -63,10 +64,7 @@ front-length n x ys = length-append (replicate n x) ys ∙ ap (λ k. k + length 
 
 -- what is left is one more chunk
 rest-some : (r : ℕ) → 0 < r → length (cond (nat_eq r 0) [] (r ∷ [])) ≡ 1
-rest-some r h = ap {A = List ℕ} (λ xs. length xs) (some r (omega arith))
-  where
-    some : (r : ℕ) → r ≢ 0 → ◌≡◌ {A = List ℕ} (cond (nat_eq r 0) [] (r ∷ [])) (r ∷ [])
-    some r d = grind arith
+rest-some r h = ap {A = List ℕ} (λ xs. length xs) (rest_listed r (omega arith))
 
 even-length : (n len size : ℕ) → 0 < size → n * size < len → n < length (even_chunks len size)
 even-length n len size s more =
@@ -302,22 +300,19 @@ same-tasks : (f g : ℕ → Task) (a n : ℕ) → ((c : ℕ) → c < a + n → g
 same-tasks f g a zero h = refl
 same-tasks f g a (suc n) h = ap (λ t. t ∷ map g (range_with_len (a + 1) n)) (h a (omega arith)) ∙ ap (λ ts. f a ∷ ts) (same-tasks f g (a + 1) n (λ c lt. h c (omega arith)))
 
-above : (m n : ℕ) → m < n → nat_lt m n ≡ true
-above m n h = grind arith
-
 full : (b : Bool) (x y : Option Quantity) → b ≡ true → cond b (Some Keys) x ≡ cond b (Some Keys) y
 full true x y h = refl
 full false x y h = absurd cc
 
 -- a graph decides over as many tasks as it has keys, whatever follows
 decided : (front r s : List Task) (x y : Task) (keys edges : ℕ) → 32768 ≤ keys + length front → limit_from keys edges (front ++ x ∷ r) ≡ limit_from keys edges (front ++ y ∷ s)
-decided [] r s x y keys edges h = full (nat_lt 32767 keys) _ _ (above 32767 keys (omega arith))
+decided [] r s x y keys edges h = full (nat_lt 32767 keys) _ _ (lt-ltb 32767 keys (omega arith))
 decided (t ∷ front) r s x y keys edges h = ap (λ more. limit_at keys edges t more) (decided front r s x y (suc keys) (edges + length t.deps) (omega arith))
 
 parted : (old rest : List Task) (f : ℕ → Task) (n m a : ℕ) → n + suc m ≡ a
     → old ++ map f (range_with_len 0 a) ++ rest ≡ old ++ map f (range_with_len 0 n) ++ f (0 + n) ∷ (map f (range_with_len (0 + n + 1) m) ++ rest)
 parted old rest f n m a e =
-    ap (λ k. old ++ map f (range_with_len 0 k) ++ rest) (sym e) ∙ ap (λ ts. old ++ ts ++ rest) (ap (map f) (range-parts 0 n (suc m)) ∙ map-append f (range_with_len 0 n) (range_with_len (0 + n) (suc m)))
+    ap (λ k. old ++ map f (range_with_len 0 k) ++ rest) (sym e) ∙ ap (λ ts. old ++ ts ++ rest) (ap (map f) (range_parts 0 n (suc m)) ∙ map-append f (range_with_len 0 n) (range_with_len (0 + n) (suc m)))
     ∙ ap (λ ts. ts ++ rest) (sym (append_assoc old (map f (range_with_len 0 n)) (map f (range_with_len (0 + n) (suc m)))))
     ∙ append_assoc (old ++ map f (range_with_len 0 n)) (map f (range_with_len (0 + n) (suc m))) rest
 

@@ -1,9 +1,9 @@
 -- A region of an array is within the array's data, so that it isn't truncated where all of them are there.
 use Rattle.std.proofs.Common.{◌≡◌, ℕ, zero, suc, ◌+◌, ◌*◌, ◌<◌, ◌≤◌, List, [], ◌∷◌, length, arith}
+use Rattle.small_facts.proofs.Numbers.{below_product_right, product_left}
 use Rattle.nd_shape.specs.Shape.{elements}
 use Rattle.nd_shape.specs.Index.{IsIn}
 use Rattle.nd_shape.specs.Region.{Box, IsPart}
-use Rattle.nd_shape.proofs.Places.{elements-pos}
 use Rattle.nd_rows.specs.Storage.{last_index}
 use Rattle.nd_rows.proofs.Order.{number_of-below}
 use Rattle.npy_codec.specs.declared.head.Head.{Head}
@@ -11,10 +11,6 @@ use Rattle.npy_codec.specs.declared.error.NpyError.{NpyError}
 use Rattle.npy_codec.specs.declared.error.NpyError.TheVariants.{NotNpy, Version, Truncated, HeaderText, Descr, ShapeLimit, ReadFault, OutOfMemory}
 use Rattle.npy_codec.specs.Fronts.{IsFaultOrMemory}
 use Rattle.npy_codec.specs.Regions.{needed, bytes_up_to, data_place, RegionRefusedAs}
-
-some-first : (l e : ℕ) → 0 < l * e → 0 < l
-some-first zero e h = absurd (omega arith)
-some-first (suc l) e h = omega arith
 
 last-in : (ss ls ds : List ℕ) → IsPart (record { start = ss; lengths = ls }) ds → 0 < elements ls → IsIn ds (last_index ss ls)
 last-in [] ls [] part some = tt
@@ -25,8 +21,8 @@ last-in (s ∷ ss) (l ∷ ls) (d ∷ ds) part some =
     let a : length (s ∷ ss) ≡ length (d ∷ ds) = part.starts in
     let b : length (l ∷ ls) ≡ length (d ∷ ds) = part.lengths in
     let first : s + l ≤ d = part.ends 0 (omega arith) in
-    let one : 0 < l = some-first l (elements ls) some in
-    (omega (arith, first, one), last-in ss ls ds (record { starts = omega arith; lengths = omega arith; ends = λ k lt. part.ends (suc k) (omega arith) }) (elements-pos l (elements ls) 0 some))
+    let one : 0 < l = product_left l (elements ls) some in
+    (omega (arith, first, one), last-in ss ls ds (record { starts = omega arith; lengths = omega arith; ends = λ k lt. part.ends (suc k) (omega arith) }) (below_product_right l (elements ls) 0 some))
 
 up-to : (n at all : ℕ) → (0 < n → at < all) → bytes_up_to n at ≤ 8 * all
 up-to zero at all h = omega arith

@@ -2,6 +2,7 @@
 use Rattle.std.proofs.Common.{◌≡◌, ℕ, suc, ◌+◌, ◌≤◌, cond, Bool, true, false, List, [], ◌∷◌, length, map, get_or, refl, ap, ◌∙◌, append_assoc, arith, Option, Some, None}
 use Rattle.std.specs.Prelude.{nat_lt}
 use Rattle.std.proofs.lemmas.List.{length-map}
+use Rattle.std.proofs.lemmas.Bool.{le-ltb}
 use Rattle.cluster_msgs.specs.Shape.{IsShape, edge_count}
 use Rattle.task_graph.specs.declared.graph.Task.{Task}
 use Rattle.task_graph.specs.declared.graph.PushError.TheVariants as pushing
@@ -15,9 +16,6 @@ use Rattle.lowering_laws.proofs.Growing.{refusal-law}
 use Rattle.block_lowering.specs.Growing.{Refuses}
 use Rattle.block_lowering.specs.declared.error.LowerError.TheVariants.{Limit}
 
-not-below : (m n : ℕ) → n ≤ m → nat_lt m n ≡ false
-not-below m n h = grind arith
-
 -- none of three tests holds
 passes : (a b c : Bool) (x y z : Quantity) (more : Option Quantity) → a ≡ false → b ≡ false → c ≡ false → cond a (Some x) (cond b (Some y) (cond c (Some z) more)) ≡ more
 passes true b c x y z more h i j = absurd cc
@@ -29,7 +27,7 @@ within-from : (tasks : List Task) (keys edges : ℕ) → keys + length tasks ≤
 within-from [] keys edges few few_edges small = refl
 within-from (t ∷ ts) keys edges few few_edges small =
     passes (nat_lt 32767 keys) (nat_lt 262144 (edges + length t.deps)) (nat_lt 134217728 t.nbytes) Keys Edges BlockBytes (limit_from (suc keys) (edges + length t.deps) ts)
-    (not-below 32767 keys (omega arith)) (not-below 262144 (edges + length t.deps) (omega arith)) (not-below 134217728 t.nbytes (small 0))
+    (le-ltb 32767 keys (omega arith)) (le-ltb 262144 (edges + length t.deps) (omega arith)) (le-ltb 134217728 t.nbytes (small 0))
     ∙ within-from ts (suc keys) (edges + length t.deps) (omega arith) (omega arith) (λ k. small (suc k))
 
 pub within : (tasks : List Task) → IsShape (shape_of tasks) → limit_from 0 0 tasks ≡ None

@@ -5,6 +5,7 @@ use Rattle.std.specs.List.{flat_map}
 use Rattle.std.proofs.lemmas.Grind.{flat_map-append}
 use Rattle.std.proofs.lemmas.List.{drop_more, drop_all, take_all, length_push, map-append, length-map}
 use Rattle.std.proofs.lemmas.Bool.{cases_lt, cases_eq}
+use Rattle.std.proofs.Math.Nat.{mul-le-mul_right, mul-pos}
 use Rattle.nd_shape.specs.declared.region.Piece.{Piece}
 use Rattle.nd_shape.specs.Index.{IsIn, place}
 use Rattle.nd_shape.specs.Chunk.{total}
@@ -19,7 +20,7 @@ use Rattle.chunk_layout.proofs.Cutting.{blocks-cut}
 
 -- ---- along an axis
 
-nothing : (k at low a b : ℕ) (more : List Overlap) → b ≤ a → with_overlap k at low a b more ≡ more
+pub nothing : (k at low a b : ℕ) (more : List Overlap) → b ≤ a → with_overlap k at low a b more ≡ more
 nothing k at low a b more h = grind arith
 
 something : (k at low a b : ℕ) (more : List Overlap) → a < b → with_overlap k at low a b more ≡ record { chunk = k; from = a - at; to = a - low; len = b - a } ∷ more
@@ -47,7 +48,7 @@ behind k at low high [] h = refl
 behind k at low high (s ∷ ss) h =
     nothing k at low (max low at) (min high (at + s)) (overlaps_from (suc k) (at + s) low high ss) (omega arith) ∙ behind (suc k) (at + s) low high ss (omega arith)
 
-some-at : (xs : List ℕ) (i : ℕ) → AllSome xs → i < length xs → 0 < get_or xs i 0
+pub some-at : (xs : List ℕ) (i : ℕ) → AllSome xs → i < length xs → 0 < get_or xs i 0
 some-at [] i a h = absurd (omega arith)
 some-at (x ∷ xs) zero a h = a.0
 some-at (x ∷ xs) (suc i) a h = some-at xs i a.1 (omega arith)
@@ -204,11 +205,7 @@ open-part r n axes p o h w =
     record { from_room = omega arith; to_room = omega arith; numbers = below p.source n r o.chunk h m }
   where
     below : (s n r c : ℕ) → c < n → (s + 1) * (n * r) ≤ 2 ^ 31 → (s * n + c + 1) * r ≤ 2 ^ 31
-    below s n r c h m = let g : (s * n + c + 1) * r ≤ ((s + 1) * n) * r = times (s * n + c + 1) ((s + 1) * n) r (omega arith) in omega arith
-      where
-        times : (a b r : ℕ) → a ≤ b → a * r ≤ b * r
-        times a b zero h = omega arith
-        times a b (suc r) h = let t : a * r ≤ b * r = times a b r h in omega arith
+    below s n r c h m = let g : (s * n + c + 1) * r ≤ ((s + 1) * n) * r = mul-le-mul_right r (omega arith) in omega arith
 
 -- the chunks of the parts are chunks
 abbrev AllBelow : ℕ → List Overlap → Type 0
@@ -258,11 +255,7 @@ all_cut-drop (s ∷ layout) (suc k) a = all_cut-drop layout k a.1
 
 some-blocks : (layout : List (List ℕ)) → AllCut layout → 0 < blocks layout
 some-blocks [] a = omega arith
-some-blocks (s ∷ layout) a = let p : 0 < length s = a.0.some in both (length s) (blocks layout) p (some-blocks layout a.1)
-  where
-    both : (m n : ℕ) → 0 < m → 0 < n → 0 < m * n
-    both zero n h g = absurd (omega arith)
-    both (suc m) n h g = omega arith
+some-blocks (s ∷ layout) a = let p : 0 < length s = a.0.some in mul-pos p (some-blocks layout a.1)
 
 -- ---- one axis more
 
@@ -358,17 +351,13 @@ walked-here from starts n p low high chunk outs res s w b t =
     let u : low < total (take chunk from) + get_or from chunk 0 = w.above h in
     record { inside = h; at_is = at; next_is = s.at (chunk + 1) (omega arith); past = omega arith; grows = omega arith }
 
-both-some : (m n : ℕ) → 0 < m → 0 < n → 0 < m * n
-both-some zero n h g = absurd (omega arith)
-both-some (suc m) n h g = omega arith
-
 some-elements : (to : List (List ℕ)) (bs : List ℕ) → IsIn (counts to) bs → HasElements to bs → 0 < elements (lengths to)
 some-elements [] bs i h = omega arith
 some-elements (ys ∷ to) [] i h = absurd i
 some-elements (ys ∷ to) (b ∷ bs) i h =
     let d : get_or ys b 0 ≢ 0 = h 0 (omega arith) in
     let g : get_or ys b 0 ≤ total ys = total-ge ys b i.0 in
-    both-some (total ys) (elements (lengths to)) (some d g) (some-elements to bs i.1 (λ k lt. h (suc k) (omega arith)))
+    mul-pos (some d g) (some-elements to bs i.1 (λ k lt. h (suc k) (omega arith)))
   where
     some : get_or ys b 0 ≢ 0 → get_or ys b 0 ≤ total ys → 0 < total ys
     some d g = omega arith

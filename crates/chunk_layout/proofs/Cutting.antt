@@ -3,6 +3,7 @@ use Rattle.std.proofs.Common.{◌≡◌, ◌≢◌, ℕ, zero, suc, ◌+◌, ◌
 use Rattle.std.specs.Prelude.{nat_eq}
 use Rattle.std.proofs.lemmas.List.{get_or_append_left, get_or_push}
 use Rattle.std.proofs.lemmas.Bool.{cases_eq, cases_lt}
+use Rattle.std.proofs.lemmas.Nat.{mul-le}
 use Rattle.nd_shape.specs.declared.chunk.ChunkSpec.{ChunkSpec}
 use Rattle.nd_shape.specs.declared.chunk.ChunkSpec.TheVariants.{Even, List as Listed}
 use Rattle.nd_shape.specs.Shape.{elements}
@@ -47,17 +48,12 @@ factor-pos zero s h = absurd (omega arith)
 factor-pos (suc n) zero h = absurd (omega arith)
 factor-pos (suc n) (suc s) h = (omega arith, omega arith)
 
-product-le : (a b c d : ℕ) → a ≤ c → b ≤ d → a * b ≤ c * d
-product-le zero b c d h g = omega arith
-product-le (suc a) b zero d h g = absurd (omega arith)
-product-le (suc a) b (suc c) d h g = let r : a * b ≤ c * d = product-le a b c d (omega arith) g in omega arith
-
 -- no more blocks than elements
 pub blocks-cut : (layout : List (List ℕ)) → AllCut layout → 0 < elements (lengths layout) → blocks layout ≤ elements (lengths layout)
 blocks-cut [] c p = omega arith
 blocks-cut (sizes ∷ layout) c p =
     let f = factor-pos (total sizes) (elements (lengths layout)) p in
-    product-le (length sizes) (blocks layout) (total sizes) (elements (lengths layout)) (count-cut sizes c.0 f.0) (blocks-cut layout c.1 f.1)
+    mul-le (length sizes) (blocks layout) (total sizes) (elements (lengths layout)) (count-cut sizes c.0 f.0) (blocks-cut layout c.1 f.1)
 
 pub all_cut-push : (layout : List (List ℕ)) (sizes : List ℕ) → AllCut layout → IsCut sizes → AllCut (layout ++ sizes ∷ [])
 all_cut-push [] sizes a c = (c, tt)

@@ -1,8 +1,9 @@
 -- The union of two cuts of an axis by one walk over the ends of their chunks.
-use Rattle.std.proofs.Common.{◌≡◌, ◌≢◌, ℕ, zero, suc, ◌+◌, ◌-◌, ◌<◌, ◌≤◌, ◌^◌, min, cond, List, [], ◌∷◌, ◌++◌, append_assoc, append-nil, length, get_or, take, drop, refl, ap, sym, subst, ◌∙◌, arith, inl, inr}
+use Rattle.std.proofs.Common.{◌≡◌, ◌≢◌, ℕ, ◌+◌, ◌-◌, ◌<◌, ◌≤◌, ◌^◌, min, cond, List, [], ◌∷◌, ◌++◌, append_assoc, append-nil, length, get_or, take, drop, refl, ap, sym, subst, ◌∙◌, arith, inl, inr}
 use Rattle.std.specs.Prelude.{nat_eq, nat_lt}
 use Rattle.std.proofs.lemmas.List.{drop_more, drop_all, take_all, take_more, map_push, length-map, get_or-map}
 use Rattle.std.proofs.lemmas.Bool.{cases_lt, cases_eq}
+use Rattle.std.proofs.Math.Nat.{add-zero}
 use Rattle.nd_shape.specs.Chunk.{total}
 use Rattle.nd_shape.proofs.Totals.{total-more}
 use Rattle.chunk_layout.specs.Layouts.{lengths}
@@ -11,6 +12,7 @@ use Rattle.chunk_layout.specs.Cuts.{AllSome, IsCut, AllCut, AreStarts}
 use Rattle.chunk_layout.proofs.Parting.{total-before}
 use Rattle.chunk_layout.proofs.Unions.{total-union}
 use Rattle.chunk_layout.proofs.Cutting.{some-append, all_cut-push}
+use Rattle.chunk_layout.proofs.Crossing.{some-at}
 
 -- ---- what the union is, chunk by chunk
 
@@ -131,11 +133,6 @@ pub record IsMerged (xs ys sizes : List ℕ) (i j at : ℕ) : Type 0 where
   pub top : at ≤ total xs
   pub value : sizes ++ union (ahead xs i at) (ahead ys j at) ≡ union xs ys
 
-some-at : (xs : List ℕ) (i : ℕ) → AllSome xs → i < length xs → 0 < get_or xs i 0
-some-at [] i a h = absurd (omega arith)
-some-at (x ∷ xs) zero a h = a.0
-some-at (x ∷ xs) (suc i) a h = some-at xs i a.1 (omega arith)
-
 pub merged-first : (xs ys : List ℕ) → AllSome xs → AllSome ys → IsMerged xs ys [] 0 0 0
 merged-first xs ys a b = record {
   left = record { there = omega arith; low = omega arith; high = λ h. let p : 0 < get_or xs 0 0 = some-at xs 0 a h in omega arith };
@@ -218,7 +215,7 @@ merged-more xs ys sizes i j at end i' j' a b t m h en ei ej =
       | inl lt ↦
           let e : end ≡ x = omega arith in
           let pi : i' ≡ i + 1 = ei ∙ ap (λ (k : ℕ). i + k) (passes x end (sym e)) in
-          let pj : j' ≡ j = ej ∙ ap (λ (k : ℕ). j + k) (stays y end (λ q. absurd (omega arith))) ∙ plus-none j in
+          let pj : j' ≡ j = ej ∙ ap (λ (k : ℕ). j + k) (stays y end (λ q. absurd (omega arith))) ∙ add-zero j in
           subst (λ k. IsMerged xs ys (sizes ++ (end - at) ∷ []) k j' end) (sym pi) (subst (λ k. IsMerged xs ys (sizes ++ (end - at) ∷ []) (i + 1) k end) (sym pj) (record {
             left = pass xs i end a hi (sym e);
             right = stay ys j at end m.right hj (omega arith) (omega arith);
@@ -232,7 +229,7 @@ merged-more xs ys sizes i j at end i' j' a b t m h en ei ej =
       | inr ge ↦ elim (cases_lt y x) [
         | inl lt ↦
             let e : end ≡ y = omega arith in
-            let pi : i' ≡ i = ei ∙ ap (λ (k : ℕ). i + k) (stays x end (λ q. absurd (omega arith))) ∙ plus-none i in
+            let pi : i' ≡ i = ei ∙ ap (λ (k : ℕ). i + k) (stays x end (λ q. absurd (omega arith))) ∙ add-zero i in
             let pj : j' ≡ j + 1 = ej ∙ ap (λ (k : ℕ). j + k) (passes y end (sym e)) in
             subst (λ k. IsMerged xs ys (sizes ++ (end - at) ∷ []) k j' end) (sym pi) (subst (λ k. IsMerged xs ys (sizes ++ (end - at) ∷ []) i k end) (sym pj) (record {
               left = stay xs i at end m.left hi (omega arith) (omega arith);
@@ -267,9 +264,6 @@ merged-more xs ys sizes i j at end i' j' a b t m h en ei ej =
 
     stays : (x end : ℕ) → x ≢ end → cond {A = ℕ} (nat_eq x end) 1 0 ≡ 0
     stays x end h = grind arith
-
-    plus-none : (n : ℕ) → n + 0 ≡ n
-    plus-none n = omega arith
 
 -- ---- all axes
 
@@ -333,6 +327,3 @@ union_of_none zs xs ys e c d t z = e ∙ zero-union xs ys c d t z
 
 pub union_is_cut : (zs xs ys : List ℕ) → zs ≡ union xs ys → IsCut xs → IsCut ys → total xs ≡ total ys → IsCut zs
 union_is_cut zs xs ys e c d t = subst IsCut (sym e) (is_cut-union xs ys c d t)
-
-pub cut_of_union : (xs ys : List ℕ) → IsCut xs → IsCut ys → total xs ≡ total ys → IsCut (union xs ys)
-cut_of_union xs ys c d t = is_cut-union xs ys c d t

@@ -4,21 +4,19 @@ use Rattle.std.proofs.Math.Nat.{mul_comm}
 use Rattle.std.proofs.lemmas.List.{drop_more, take_more, drop-set, drop_all, length-map, map_push}
 use Rattle.std.proofs.lemmas.Nat.{mul-add-lt, div-mul-add, mod-mul-add, div-add-mod', div_below, mod_below}
 use Rattle.std.proofs.lemmas.Bool.{cases_lt}
+use Rattle.small_facts.proofs.Numbers.{product_regroup, below_product_right}
 use Rattle.nd_shape.specs.Shape.{elements}
 use Rattle.nd_shape.specs.Index.{IsIn, index_at}
 use Rattle.nd_shape.specs.Chunk.{total}
-use Rattle.nd_shape.proofs.Places.{along-bound, elements-pos, elements-pos_in, IsIn-length}
+use Rattle.nd_shape.proofs.Places.{along-bound, elements-pos_in, IsIn-length}
 use Rattle.nd_shape.proofs.Totals.{total-more}
 use Rattle.chunk_layout.specs.Layouts.{counts, lengths, blocks, chunk_of, block_of}
 use Rattle.chunk_layout.specs.Cuts.{AreStarts, IsLayout}
 use Rattle.chunk_layout.proofs.Parting.{in-region, chunk_of-at}
 use Rattle.chunk_layout.proofs.Cutting.{blocks-cut}
+use Rattle.nd_shape.proofs.Elements.{both_held, elements-push}
 
 -- ---- products
-
-elements-push : (ns : List ℕ) (n : ℕ) → elements (ns ++ n ∷ []) ≡ elements ns * n
-elements-push [] n = omega arith
-elements-push (m ∷ ns) n = ap (λ k. m * k) (elements-push ns n) ∙ omega arith
 
 pub blocks-push : (layout : List (List ℕ)) (sizes : List ℕ) → blocks (layout ++ sizes ∷ []) ≡ blocks layout * length sizes
 blocks-push layout sizes = ap elements (map_push (λ (ss : List ℕ). length ss) layout sizes) ∙ elements-push (counts layout) (length sizes)
@@ -28,14 +26,11 @@ pub held : (m a n : ℕ) → min (min a m * n) m ≡ min (a * n) m
 held m a zero = omega arith
 held m a (suc n) = elim (cases_lt a m) [
   | inl b ↦ let e : min a m ≡ a = omega arith in rw e refl
-  | inr b ↦ let e : min a m ≡ m = omega arith in rw e (both m (m * suc n) (a * suc n) (more m m n (omega arith)) (more m a n b))
+  | inr b ↦ let e : min a m ≡ m = omega arith in rw e (both_held m (m * suc n) (a * suc n) (more m m n (omega arith)) (more m a n b))
 ]
   where
     more : (m a n : ℕ) → m ≤ a → m ≤ a * suc n
     more m a n b = omega arith
-
-    both : (m p q : ℕ) → m ≤ p → m ≤ q → min p m ≡ min q m
-    both m p q h b = omega arith
 
 pub product-more : (m : ℕ) (layout : List (List ℕ)) (k count n sat : ℕ) → k < length layout → n ≡ length (get_or layout k [])
     → count ≡ min (blocks (take k layout)) m → sat ≡ min (count * n) m → sat ≡ min (blocks (take (k + 1) layout)) m
@@ -56,10 +51,10 @@ digit [] n q r h b =
     over-one n r = let w : (r * 1 + 0) / 1 ≡ r = div-mul-add r 1 0 (omega arith) in let e : 0 * n + r ≡ r * 1 + 0 = omega arith in ap (λ x. x / 1) e ∙ w
 digit (m ∷ ns) n q r h b =
     let s = elements ns in
-    let sp : 0 < s = elements-pos m s q b in
+    let sp : 0 < s = below_product_right m s q b in
     let ew : elements (ns ++ n ∷ []) ≡ s * n = elements-push ns n in
     let qs : q / s * s + q % s ≡ q = div-add-mod' q s in
-    let split : q * n + r ≡ q / s * (s * n) + (q % s * n + r) = ap (λ x. x * n + r) (sym qs) ∙ spread (q / s) s (q % s) n r in
+    let split : q * n + r ≡ q / s * (s * n) + (q % s * n + r) = ap (λ x. x * n + r) (sym qs) ∙ product_regroup (q / s) s (q % s) n r in
     let lt : q % s * n + r < s * n = rw (mul_comm s n) (mul-add-lt (q % s) n r s (mod_below q s sp) h) in
     let d : (q * n + r) / (s * n) ≡ q / s = ap (λ x. x / (s * n)) split ∙ div-mul-add (q / s) (s * n) (q % s * n + r) lt in
     let e : (q * n + r) % (s * n) ≡ q % s * n + r = ap (λ x. x % (s * n)) split ∙ mod-mul-add (q / s) (s * n) (q % s * n + r) lt in
@@ -67,9 +62,6 @@ digit (m ∷ ns) n q r h b =
     ∙ ap (λ (x : ℕ). x ∷ index_at (ns ++ n ∷ []) ((q * n + r) % (s * n))) d
     ∙ ap (λ (x : ℕ). q / s ∷ index_at (ns ++ n ∷ []) x) e
     ∙ ap (λ (xs : List ℕ). q / s ∷ xs) (digit ns n (q % s) r h (mod_below q s sp))
-  where
-    spread : (a s c n r : ℕ) → (a * s + c) * n + r ≡ a * (s * n) + (c * n + r)
-    spread a s c n r = omega arith
 
 pub record DigitMore (layout : List (List ℕ)) (numbers res : List ℕ) (k left : ℕ) : Type 0 where
   pub some : 0 < length (get_or layout k [])
@@ -83,7 +75,7 @@ digit-more layout numbers res k left h g b e =
     let t : take (k + 1) layout ≡ take k layout ++ get_or layout k [] ∷ [] = take_more layout k [] h in
     let p : blocks (take (k + 1) layout) ≡ blocks (take k layout) * n = ap blocks t ∙ blocks-push (take k layout) (get_or layout k []) in
     let b1 : left < blocks (take k layout) * n = omega arith in
-    let s : 0 < n = elements-pos (blocks (take k layout)) n left b1 in
+    let s : 0 < n = below_product_right (blocks (take k layout)) n left b1 in
     let c : counts (take (k + 1) layout) ≡ counts (take k layout) ++ n ∷ [] = ap counts t ∙ map_push (λ (ss : List ℕ). length ss) (take k layout) (get_or layout k []) in
     let d : index_at (counts (take (k + 1) layout)) left ≡ index_at (counts (take k layout)) (left / n) ++ left % n ∷ [] =
     ap (λ ns. index_at ns left) c ∙ ap (index_at (counts (take k layout) ++ n ∷ [])) (sym (div-add-mod' left n)) ∙ digit (counts (take k layout)) n (left / n) (left % n) (mod_below left n s) (div_below left n (blocks (take k layout)) s b1) in

@@ -1,5 +1,6 @@
 -- The boxes of a layout cover each index once, and `block_of` names the box.
 use Rattle.std.proofs.Common.{◌≡◌, ℕ, zero, suc, ◌+◌, ◌-◌, ◌<◌, ◌≤◌, cond, true, false, nat_lt, List, [], ◌∷◌, length, take, get_or, refl, ap, subst, ◌∙◌, arith}
+use Rattle.std.proofs.Math.Numerals.{one-add}
 use Rattle.nd_shape.specs.Index.{IsIn, place, index_at}
 use Rattle.nd_shape.specs.Region.{moved}
 use Rattle.nd_shape.specs.Chunk.{total}
@@ -54,13 +55,10 @@ chunk_of-at (s ∷ ss) (suc b) j h g =
     chunk-later s (s + total (take b ss) + j) _ (omega arith)
     ∙ ap (λ x. 1 + chunk_of ss x) (back s (total (take b ss)) j)
     ∙ ap (λ x. 1 + x) (chunk_of-at ss b j (omega arith) g)
-    ∙ one-more b
+    ∙ one-add b
   where
     back : (s t j : ℕ) → s + t + j - s ≡ t + j
     back s t j = omega arith
-
-    one-more : (b : ℕ) → 1 + b ≡ suc b
-    one-more b = omega arith
 
 -- the chunk of a place: it is there, and the place lies in it
 pub record InChunk (ss : List ℕ) (i b : ℕ) : Type 0 where

@@ -1,13 +1,10 @@
 -- The union of boundaries cuts the same length.
-use Rattle.std.proofs.Common.{◌≡◌, ℕ, ◌+◌, ◌-◌, ◌<◌, ◌≤◌, cond, List, [], ◌∷◌, ◌++◌, refl, ap, sym, subst, arith, inl, inr}
+use Rattle.std.proofs.Common.{◌≡◌, ℕ, ◌+◌, ◌-◌, ◌<◌, ◌≤◌, cond, List, [], ◌∷◌, refl, ap, sym, subst, arith, inl, inr}
 use Rattle.std.specs.Prelude.{nat_eq, nat_lt}
 use Rattle.std.proofs.lemmas.Bool.{cases_lt, cases_eq}
 use Rattle.nd_shape.specs.Chunk.{total}
 use Rattle.chunk_layout.specs.Unions.{Parted, part_more, parted, union}
-
-pub total-append : (xs ys : List ℕ) → total (xs ++ ys) ≡ total xs + total ys
-total-append [] ys = omega arith
-total-append (x ∷ xs) ys = omega (arith, total-append xs ys)
+use Rattle.nd_shape.proofs.Totals.{total-append}
 
 record Halves (x : ℕ) (ys : List ℕ) (p : Parted) : Type 0 where
   front : total p.front ≡ x

@@ -1,10 +1,13 @@
 -- A key keeps its attempt, unless the event ends it.
 use Rattle.std.proofs.Common.{◌≡◌, ◌⊎◌, inl, inr, ⊎_elim, ℕ, ◌+◌, ◌<◌, ◌≤◌, Bool, true, false, not, ◌&&◌, ◌||◌, cond, List, [], ◌∷◌, ◌++◌, Option, Some, None, is_some, refl, sym, ap, ◌∙◌, arith}
 use Rattle.std.specs.Prelude.{nat_le}
-use Rattle.std.proofs.lemmas.Bool.{false≢true, eqb-true, cases_lt}
+use Rattle.std.proofs.lemmas.Bool.{false≢true, eqb-true, cases_lt, eq-eqb, and_from, not_from_false, or_left, or_right}
 use Rattle.std.proofs.lemmas.List.Folds.{list_any-append}
 use Rattle.std.proofs.Math.Dec.{eqb}
 use Rattle.std.specs.List.{list_any}
+use Rattle.std.proofs.lemmas.Option.{none-some}
+use Rattle.small_facts.proofs.Numbers.{eqb_turned}
+use Rattle.small_facts.proofs.Truth.{and_first, and_second}
 use Rattle.cluster_msgs.specs.declared.cores.Steal.{Steal}
 use Rattle.cluster_msgs.specs.declared.cores.SchedEvent.{SchedEvent}
 use Rattle.cluster_msgs.specs.declared.cores.SchedEvent.TheVariants.{Join, Leave, FromWorker, FromClient, Balance, Evict}
@@ -20,12 +23,10 @@ use Rattle.cluster_rules.specs.Policies.{next_steal, next_drop}
 use Rattle.cluster_rules.specs.SchedTable.{Changed, change, change_up, change_client, plain, joined, left, is_this, finished, failed, add_key, add_keys, released, is_copy, lost_copy, is_asked_back, stolen_to, refused, answered, wants_more, wants_less, balanced, evicted, sched_takes}
 use Rattle.cluster_rules.specs.SchedStep.{Stages, drop_bad, drop_has, drop_on, place_all, settle, lost, lost_keys, free_message, to_worker, task_messages, down_messages, mail, posted, finish_step, sched_step}
 use Rattle.cluster_rules.specs.Runs.{ends_by_itself, ends_attempt, frees}
-use Rattle.cluster_rules.proofs.DerivedLemmas.{eqb_comm}
-use Rattle.cluster_rules.proofs.SchedFrame.{placing_keys, in_filter, in_range, same_eqb}
+use Rattle.cluster_rules.proofs.SchedFrame.{placing_keys, in_filter, in_range}
 use Rattle.cluster_laws.proofs.OrderLemmas.{mail-down, mail-own_part}
 use Rattle.cluster_rules.proofs.SoundStep.{sound_changed}
 use Rattle.cluster_laws.specs.Attempts.{AttemptsEndForACause}
-use Rattle.cluster_laws.proofs.Lists.{and_first, and_second, and_both, or_left, or_right, not_from}
 
 -- these places leave the key its attempt, or the event ends it by itself
 abbrev Keeps : Facts → SchedEvent → ℕ → ℕ → ℕ → (ℕ → Option (ℕ × ℕ)) → Type 0
@@ -54,7 +55,7 @@ unfolding left
 keeps_left f w k i a h = pick (is_on f w k) refl
   where
     pick : (b : Bool) → is_on f w k ≡ b → (cond b None (f.on k) ≡ Some (i, a)) ⊎ (eqb w i ≡ true)
-    pick true q = inr (eqb_comm w i ∙ sym (ap (is_for w) h) ∙ q)
+    pick true q = inr (eqb_turned w i ∙ sym (ap (is_for w) h) ∙ q)
     pick false q = inl h
 
 -- a message that counts for the attempt of key q comes from the worker that has it, and names that attempt
@@ -62,16 +63,16 @@ sender : (f : Facts) (w q b k i a : ℕ) → f.on k ≡ Some (i, a) → is_this 
 sender f w q b k i a h t e =
     let at : f.on q ≡ Some (i, a) = sym (ap f.on (eqb-true k q e)) ∙ h in
     let v : (eqb i w && eqb a b) ≡ true = sym (ap (is_this w b) at) ∙ t in
-    and_both (eqb w i) (is_this i a (f.on k)) (eqb_comm w i ∙ and_first (eqb i w) (eqb a b) v) (ap (is_this i a) h ∙ and_both (eqb i i) (eqb a a) (same_eqb i i refl) (same_eqb a a refl))
+    and_from (eqb w i) (is_this i a (f.on k)) (eqb_turned w i ∙ and_first (eqb i w) (eqb a b) v) (ap (is_this i a) h ∙ and_from (eqb i i) (eqb a a) (eq-eqb i i refl) (eq-eqb a a refl))
 
 names : (f : Facts) (w q b k i a : ℕ) → f.on k ≡ Some (i, a) → is_this w b (f.on q) ≡ true → eqb k q ≡ true → (eqb q k && eqb b a) ≡ true
 names f w q b k i a h t e =
     let at : f.on q ≡ Some (i, a) = sym (ap f.on (eqb-true k q e)) ∙ h in
     let v : (eqb i w && eqb a b) ≡ true = sym (ap (is_this w b) at) ∙ t in
-    and_both (eqb q k) (eqb b a) (eqb_comm q k ∙ e) (eqb_comm b a ∙ and_second (eqb i w) (eqb a b) v)
+    and_from (eqb q k) (eqb b a) (eqb_turned q k ∙ e) (eqb_turned b a ∙ and_second (eqb i w) (eqb a b) v)
 
 counts : (f : Facts) (w q b k i a : ℕ) → f.on k ≡ Some (i, a) → is_this w b (f.on q) ≡ true → eqb k q ≡ true → ((eqb w i && is_this i a (f.on k)) && (eqb q k && eqb b a)) ≡ true
-counts f w q b k i a h t e = and_both (eqb w i && is_this i a (f.on k)) (eqb q k && eqb b a) (sender f w q b k i a h t e) (names f w q b k i a h t e)
+counts f w q b k i a h t e = and_from (eqb w i && is_this i a (f.on k)) (eqb q k && eqb b a) (sender f w q b k i a h t e) (names f w q b k i a h t e)
 
 keeps_finished : (f : Facts) (w seen q b k i a : ℕ) → f.on k ≡ Some (i, a) → Keeps f (FromWorker w (TaskFinished seen q b)) k i a (finished f w q b).on
 unfolding finished
@@ -94,8 +95,8 @@ keeps_answered f w seen q b true k i a h =
     gives_up t s =
         let this = and_first (is_this w b (f.on q)) (is_asked_back (f.steal q)) t in
         let asked = and_second (is_this w b (f.on q)) (is_asked_back (f.steal q)) t in
-        and_both (eqb w i && is_this i a (f.on k)) ((eqb q k && eqb b a) && is_asked_back (f.steal k)) (sender f w q b k i a h this s)
-        (and_both (eqb q k && eqb b a) (is_asked_back (f.steal k)) (names f w q b k i a h this s) (ap (λ j. is_asked_back (f.steal j)) (eqb-true k q s) ∙ asked))
+        and_from (eqb w i && is_this i a (f.on k)) ((eqb q k && eqb b a) && is_asked_back (f.steal k)) (sender f w q b k i a h this s)
+        (and_from (eqb q k && eqb b a) (is_asked_back (f.steal k)) (names f w q b k i a h this s) (ap (λ j. is_asked_back (f.steal j)) (eqb-true k q s) ∙ asked))
 
     by : (is_this w b (f.on q) && is_asked_back (f.steal q)) ≡ true → (thief : ℕ) (c : Bool) → Keeps f (FromWorker w (StealResponse seen q b true)) k i a (cond c
         (record f { on = put f.on q (Some (thief, f.counter)); steal = put f.steal q None; counter = f.counter + 1 })
@@ -176,17 +177,14 @@ keeps_changed f Evict k i a h = same_places f Evict k i a (evicted f (next_drop 
 
 -- ## Settling
 
-no_place : (p : ℕ × ℕ) → None ≡ Some p → ⊥
-no_place p h = cc
-
 -- a key that has a place is there
 placed_is_there : (f : Facts) → IsSound f → (k : ℕ) (p : ℕ × ℕ) → f.on k ≡ Some p → k < keys f
-placed_is_there f s k p h = ⊎_elim (λ l. l) (λ l. absurd (no_place p (sym (s.on k l) ∙ h))) (cases_lt k (keys f))
+placed_is_there f s k p h = ⊎_elim (λ l. l) (λ l. absurd (none-some p (sym (s.on k l) ∙ h))) (cases_lt k (keys f))
 
 -- the message with what a worker lost frees each key of it
 free_message_frees : (w k : ℕ) (ks : List ℕ) → is_in k ks ≡ true → list_any (frees k) (mail w (free_message w ks)) ≡ true
 free_message_frees w k [] e = absurd (false≢true e)
-free_message_frees w k (x ∷ xs) e = ap (λ b. list_any (frees k) (cond b (FreeKeys (x ∷ xs) ∷ []) [])) (same_eqb w w refl) ∙ or_left (is_in k (x ∷ xs)) false e
+free_message_frees w k (x ∷ xs) e = ap (λ b. list_any (frees k) (cond b (FreeKeys (x ∷ xs) ∷ []) [])) (eq-eqb w w refl) ∙ or_left (is_in k (x ∷ xs)) false e
 
 -- what a worker lost is in its mail
 lost_is_freed : (t : Stages) (i k : ℕ) → is_in i (workers t.placed) ≡ true → is_in k (lost_keys t i) ≡ true → list_any (frees k) (mail i (down_messages t)) ≡ true
@@ -219,7 +217,7 @@ starved_is_lost f g k i a l h r =
     in_filter (lost t i) k (below (keys f)) (in_range 0 (keys f) k (omega arith) (omega (arith, l)))
     (or_right (t.changed.freed i k) ((holds t.known_only i k && not (need t.known_only k)) || (is_on t.needed_only i k && not (ready t.needed_only k)))
     (or_right (holds t.known_only i k && not (need t.known_only k)) (is_on t.needed_only i k && not (ready t.needed_only k))
-    (and_both (is_on t.needed_only i k) (not (ready t.needed_only k)) (ap (is_for i) h ∙ same_eqb i i refl) (not_from (ready t.needed_only k) r))))
+    (and_from (is_on t.needed_only i k) (not (ready t.needed_only k)) (ap (is_for i) h ∙ eq-eqb i i refl) (not_from_false (ready t.needed_only k) r))))
 
 -- a ready key keeps its place
 ready_stays : (f : Facts) (g : Changed) (k : ℕ) (p : ℕ × ℕ) → g.facts.on k ≡ Some p → ready (drop_has (drop_bad g.facts)) k ≡ true → (settle f g).placed.on k ≡ Some p
@@ -233,7 +231,7 @@ settling_keeps : (f : Facts) (g : Changed) (k i a : ℕ) → k < keys f → IsSo
 settling_keeps f g k i a l s h = pick (ready (drop_has (drop_bad g.facts)) k) refl
   where
     here : connected g.facts i ≡ true
-    here = s.places i k (ap (is_for i) h ∙ same_eqb i i refl)
+    here = s.places i k (ap (is_for i) h ∙ eq-eqb i i refl)
 
     pick : (b : Bool) → ready (drop_has (drop_bad g.facts)) k ≡ b → ((settle f g).placed.on k ≡ Some (i, a)) ⊎ (list_any (frees k) (mail i (down_messages (settle f g))) ≡ true)
     pick true r = inl (ready_stays f g k (i, a) h r)

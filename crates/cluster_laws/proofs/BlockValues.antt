@@ -3,7 +3,10 @@ use Rattle.std.proofs.Common.{◌≡◌, inl, inr, ℕ, Bool, true, false, not, 
 use Rattle.std.specs.Prelude.{◌==◌}
 use Rattle.std.specs.Option.{option_map}
 use Rattle.std.specs.List.{list_all, list_any, filter_map}
-use Rattle.std.proofs.lemmas.Bool.{false≢true, eqb-true, and_parts}
+use Rattle.std.proofs.lemmas.Bool.{false≢true, eqb-true, and_parts, eq-eqb, or_right, or_left, and_from}
+use Rattle.std.proofs.lemmas.Option.{none-some, same_Some}
+use Rattle.small_facts.proofs.Options.{some_from_is_none}
+use Rattle.small_facts.proofs.Truth.{or_without}
 use Rattle.cluster_msgs.specs.Shape.{Shape, IsShape, deps_of}
 use Rattle.cluster_msgs.specs.Values.{val}
 use Rattle.cluster_msgs.proofs.ValueLemmas.{val-values}
@@ -19,52 +22,32 @@ use Rattle.cluster_rules.specs.WorldStep.{at_worker, world_step}
 use Rattle.cluster_rules.specs.Enabled.{enabled}
 use Rattle.cluster_rules.specs.Runs.{LegalFrom, legal, run_from, reached}
 use Rattle.cluster_laws.specs.Truth.{no_excuse, MayErr, faulty_key, has_inputs, IsTrueWorld, IsBlame}
-use Rattle.cluster_rules.proofs.SchedFrame.{same_eqb}
 use Rattle.cluster_laws.proofs.TruthWorld.{true_world_step, true_opening}
 use Rattle.cluster_laws.specs.Blocks.{Delivery, Cluster, job_of, opening_cluster}
 use Rattle.cluster_laws.specs.Moves.{block_among, delivery_of, delivered, brought, meets_zero, world_after, either, keeps, is_it, starts, blocks_after, cluster_step, LegalWithBlocks, cluster_run}
 use Rattle.cluster_laws.specs.AreValues.{IsPlace, AreOf, AreValues, IsBlamed}
 use Rattle.cluster_laws.proofs.WithinWorld.{IsWorldWithin, PassAt, WorldBrings, within_world}
-use Rattle.cluster_laws.proofs.Deliveries.{none_some, some_is, among_right, among_present, all_present, gathered_right, parcel_found, all_found}
+use Rattle.cluster_laws.proofs.Deliveries.{among_right, among_present, all_present, gathered_right, parcel_found, all_found}
 use Rattle.cluster_laws.proofs.Moving.{answers_after, carried_right, starts_fed}
 
 -- a place that keeps its block, or takes one that was brought
-old_there : {A : Type 0} (old new : Option A) → is_some old ≡ true → is_some (either old new) ≡ true
+pub old_there : {A : Type 0} (old new : Option A) → is_some old ≡ true → is_some (either old new) ≡ true
 old_there None new e = absurd (false≢true e)
 old_there (Some b) new e = refl
 
-new_there : {A : Type 0} (old new : Option A) → is_some new ≡ true → is_some (either old new) ≡ true
+pub new_there : {A : Type 0} (old new : Option A) → is_some new ≡ true → is_some (either old new) ≡ true
 new_there None new e = e
 new_there (Some b) new e = refl
 
 place_keeps : {A : Type 0} (v : Option A) (counted : Bool) (old new : Option A) → ((b : A) → old ≡ Some b → v ≡ Some b) → ((b : A) → new ≡ Some b → v ≡ Some b)
     → (counted ≡ true → is_some (either old new) ≡ true) → IsPlace v counted (keeps counted old new)
-place_keeps v false old new o n t = record { right = λ b e. absurd (none_some b e); present = λ e. absurd (false≢true e); missing = λ e. refl }
+place_keeps v false old new o n t = record { right = λ b e. absurd (none-some b e); present = λ e. absurd (false≢true e); missing = λ e. refl }
 place_keeps v true None new o n t = record { right = n; present = λ e. t refl; missing = λ e. absurd (false≢true (sym e)) }
 place_keeps v true (Some x) new o n t = record { right = o; present = λ e. refl; missing = λ e. absurd (false≢true (sym e)) }
 
-or_right : (a b : Bool) → b ≡ true → (a || b) ≡ true
-or_right true b e = refl
-or_right false b e = e
-
-or_left : (a b : Bool) → a ≡ true → (a || b) ≡ true
-or_left true b e = refl
-or_left false b e = absurd (false≢true e)
-
-or_out : (a b : Bool) → (a || b) ≡ true → b ≡ false → a ≡ true
-or_out true b e f = refl
-or_out false b e f = absurd (false≢true (sym f ∙ e))
-
-is_there : {A : Type 0} (o : Option A) → is_none o ≡ false → is_some o ≡ true
-is_there None e = absurd (false≢true (sym e))
-is_there (Some b) e = refl
-
-both : (a b : Bool) → a ≡ true → b ≡ true → (a && b) ≡ true
-both a b p q = rw (p, q) refl
-
 parcel_there : {A : Type 0} (o : Option (Delivery A)) (q : Parcel) → option_map (λ (d : Delivery A). d.parcel) o ≡ Some q → (d : Delivery A) × (o ≡ Some d) × (d.parcel ≡ q)
-parcel_there None q e = absurd (none_some q e)
-parcel_there (Some d) q e = (d, refl, some_is d.parcel q e)
+parcel_there None q e = absurd (none-some q e)
+parcel_there (Some d) q e = (d, refl, same_Some d.parcel q e)
 
 module _ {B : Type 0} (s : Setting) (op : ℕ → List B → Option B) (g : IsShape s.shape) where
   abbrev value : ℕ → Option B
@@ -98,17 +81,17 @@ module _ {B : Type 0} (s : Setting) (op : ℕ → List B → Option B) (g : IsSh
     where
       pick : (x : Bool) → (same_asker (Worker i) a && k == q) ≡ x → cond x (op k (c.blocks.inputs i k)) None ≡ Some b → value q ≡ Some b
       pick true y e = subst (λ z. value z ≡ Some b) (eqb-true k q (and_parts (same_asker (Worker i) a) (k == q) y).1) (made c h i k (finish_runs c.world i k t) ∙ e)
-      pick false y e = absurd (none_some b e)
+      pick false y e = absurd (none-some b e)
   brought_right c (ArriveGather x p n) t h a q b e = by (delivery_of x p n c.blocks.carried) refl e
     where
       by : (o : Option (Delivery B)) → delivery_of x p n c.blocks.carried ≡ o → delivered o a q ≡ Some b → value q ≡ Some b
-      by None y e = absurd (none_some b e)
+      by None y e = absurd (none-some b e)
       by (Some d) y e = pick (same_asker d.parcel.asker a) e
         where
           pick : (z : Bool) → cond z (block_among d.parcel.keys d.blocks q) None ≡ Some b → value q ≡ Some b
           pick true e = among_right value d.parcel.keys d.blocks (all_found (λ (d : Delivery B). AreOf value d.parcel.keys d.blocks) (λ d. is_parcel x p n d.parcel) c.blocks.carried d y h.values.carried) q b e
-          pick false e = absurd (none_some b e)
-  brought_right c _ t h a q b e = absurd (none_some b e)
+          pick false e = absurd (none-some b e)
+  brought_right c _ t h a q b e = absurd (none-some b e)
 
   -- what may be held, may run and may be got after an event
   abbrev may_hold : Cluster B → Event → ℕ → ℕ → Bool
@@ -131,18 +114,18 @@ module _ {B : Type 0} (s : Setting) (op : ℕ → List B → Option B) (g : IsSh
 
   arrival : (c : Cluster B) → Holds c → (a : Asker) (p n : ℕ) (d : Delivery B) → delivery_of a p n c.blocks.carried ≡ Some d → (x : Asker) → d.parcel.asker ≡ x
       → PassAt (may_hold c (ArriveGather a p n)) (may_get c (ArriveGather a p n)) x d.parcel.keys
-  arrival c h a p n d y (Worker v) z = all_present value d.parcel.keys (may_hold c (ArriveGather a p n) v) (λ q l. new_there (c.blocks.held v q) _ (comes c h a p n d y (Worker v) z (same_eqb v v refl) q l))
-  arrival c h a p n d y (Client v) z = all_present value d.parcel.keys (may_get c (ArriveGather a p n) v) (λ q l. new_there (c.blocks.got v q) _ (comes c h a p n d y (Client v) z (same_eqb v v refl) q l))
+  arrival c h a p n d y (Worker v) z = all_present value d.parcel.keys (may_hold c (ArriveGather a p n) v) (λ q l. new_there (c.blocks.held v q) _ (comes c h a p n d y (Worker v) z (eq-eqb v v refl) q l))
+  arrival c h a p n d y (Client v) z = all_present value d.parcel.keys (may_get c (ArriveGather a p n) v) (λ q l. new_there (c.blocks.got v q) _ (comes c h a p n d y (Client v) z (eq-eqb v v refl) q l))
 
   finished : (c : Cluster B) → Holds c → (i k : ℕ) → enabled c.world (Finish i k) ≡ true → is_none (value k) ≡ false → is_some (brought op c.blocks (Finish i k) (Worker i) k) ≡ true
   unfolding brought
   finished c h i k t z =
-      ap (λ v. is_some (cond v (op k (c.blocks.inputs i k)) None)) (both (i == i) (k == k) (same_eqb i i refl) (same_eqb k k refl))
-      ∙ ap is_some (sym (made c h i k (finish_runs c.world i k t))) ∙ is_there (value k) z
+      ap (λ v. is_some (cond v (op k (c.blocks.inputs i k)) None)) (and_from (i == i) (k == k) (eq-eqb i i refl) (eq-eqb k k refl))
+      ∙ ap is_some (sym (made c h i k (finish_runs c.world i k t))) ∙ some_from_is_none (value k) z
 
   started : (w : World) (i k : ℕ) → would_start (w.workers i) ≡ Some k → starts w (Start i) i k ≡ true
   unfolding starts
-  started w i k e = both (i == i) (is_it (would_start (w.workers i)) k) (same_eqb i i refl) (ap (λ o. is_it o k) e ∙ same_eqb k k refl)
+  started w i k e = and_from (i == i) (is_it (would_start (w.workers i)) k) (eq-eqb i i refl) (ap (λ o. is_it o k) e ∙ eq-eqb k k refl)
 
   brings : (c : Cluster B) (e : Event) → enabled c.world e ≡ true → Holds c → WorldBrings j (may_hold c e) (may_run c e) (may_get c e) c.world e
   brings c e t h = record {
@@ -167,7 +150,7 @@ module _ {B : Type 0} (s : Setting) (op : ℕ → List B → Option B) (g : IsSh
       pick true y = subst (λ (x : Setting). AreOf value (deps_of s.shape k) (filter_map (c.blocks.held i) (deps_of x.shape k))) (sym h.truth.sched.setting)
           (gathered_right value (c.world.workers i).mem (c.blocks.held i) (h.values.held i) (deps_of s.shape k)
           (subst (λ (x : Shape). list_all (c.world.workers i).mem (deps_of x k) ≡ true) (h.truth.workers i).shape (starts_fed c.world e i k y)))
-      pick false y = h.values.inputs i k (or_out ((c.world.workers i).running k) (starts c.world e i k) m y)
+      pick false y = h.values.inputs i k (or_without ((c.world.workers i).running k) (starts c.world e i k) m y)
 
   values_after : (c : Cluster B) (e : Event) → enabled c.world e ≡ true → Holds c
       → AreValues (deps_of s.shape) value (record { world = world_step j c.world e; blocks = blocks_after op c.world (world_step j c.world e) c.blocks e })
@@ -190,8 +173,8 @@ module _ {B : Type 0} (s : Setting) (op : ℕ → List B → Option B) (g : IsSh
   holds_opening = record {
     truth = true_opening no_excuse j g;
     values = record {
-      held = λ i k. record { right = λ b e. absurd (none_some b e); present = λ e. absurd (false≢true e); missing = λ e. refl };
-      got = λ x k. record { right = λ b e. absurd (none_some b e); present = λ e. absurd (false≢true e); missing = λ e. refl };
+      held = λ i k. record { right = λ b e. absurd (none-some b e); present = λ e. absurd (false≢true e); missing = λ e. refl };
+      got = λ x k. record { right = λ b e. absurd (none-some b e); present = λ e. absurd (false≢true e); missing = λ e. refl };
       inputs = λ i k e. absurd (false≢true e);
       answers = refl;
       carried = tt;
@@ -229,7 +212,7 @@ module _ {B : Type 0} (s : Setting) (op : ℕ → List B → Option B) (g : IsSh
   -- blame
   all_have : (ds : List ℕ) → list_all (λ d. not (is_none (value d))) ds ≡ true → list_all (λ d. is_some (value d)) ds ≡ true
   all_have [] e = refl
-  all_have (d ∷ ds) e = let p = and_parts (not (is_none (value d))) (list_all (λ d. not (is_none (value d))) ds) e in both _ _ (has (value d) p.0) (all_have ds p.1)
+  all_have (d ∷ ds) e = let p = and_parts (not (is_none (value d))) (list_all (λ d. not (is_none (value d))) ds) e in and_from _ _ (has (value d) p.0) (all_have ds p.1)
     where
       has : (o : Option B) → not (is_none o) ≡ true → is_some o ≡ true
       has None e = e
@@ -240,4 +223,4 @@ module _ {B : Type 0} (s : Setting) (op : ℕ → List B → Option B) (g : IsSh
   unexcused k (inr z) = absurd z
 
   pub blamed : (k b : ℕ) → IsBlame no_excuse j k b → IsBlamed (deps_of s.shape) value k b
-  blamed k b h = let p = and_parts (has_inputs j b) (j.zero b) (unexcused b h.fault) in record { faulty = both _ _ (all_have (deps_of s.shape b) p.0) p.1; within = h.within }
+  blamed k b h = let p = and_parts (has_inputs j b) (j.zero b) (unexcused b h.fault) in record { faulty = and_from _ _ (all_have (deps_of s.shape b) p.0) p.1; within = h.within }

@@ -3,32 +3,26 @@ use Rattle.std.proofs.Common.{◌≡◌, ℕ, Bool, true, false, not, ◌&&◌, 
 use Rattle.std.specs.Prelude.{◌==◌}
 use Rattle.std.specs.Option.{option_map}
 use Rattle.std.specs.List.{list_any, list_all, filter_map, cons_option, AllByRecursion}
-use Rattle.std.proofs.lemmas.Bool.{false≢true, eqb-true, and_parts}
+use Rattle.std.proofs.lemmas.Bool.{false≢true, eqb-true, and_parts, or_right, eq-eqb}
+use Rattle.std.proofs.lemmas.Option.{none-some, same_Some}
 use Rattle.cluster_msgs.specs.Values.{all_of, with_first}
 use Rattle.cluster_msgs.specs.declared.events.Asker.{Asker}
 use Rattle.cluster_rules.specs.World.{Parcel, parcel_before, with_parcel, is_parcel, parcel_of, without_parcel}
-use Rattle.cluster_rules.proofs.SchedFrame.{same_eqb}
 use Rattle.cluster_laws.specs.Blocks.{Delivery}
 use Rattle.cluster_laws.specs.Moves.{block_among, delivery_of, without_delivery, with_delivery}
 use Rattle.cluster_laws.specs.AreValues.{IsPlace, AreOf}
 
-pub none_some : {A : Type 0} (b : A) → None ≡ Some b → ⊥
-none_some b e = cc
-
-pub some_is : {A : Type 0} (a b : A) → Some a ≡ Some b → a ≡ b
-some_is a b e = cc
-
 -- where all have values, the first and the rest have
 pub first_of : {B : Type 0} (o : Option B) (r : Option (List B)) (bs : List B) → with_first o r ≡ Some bs → (b : B) × (cs : List B) × (o ≡ Some b) × (r ≡ Some cs) × (bs ≡ b ∷ cs)
-first_of None r bs e = absurd (none_some bs e)
-first_of (Some b) None bs e = absurd (none_some bs e)
-first_of (Some b) (Some cs) bs e = (b, cs, refl, refl, sym (some_is (b ∷ cs) bs e))
+first_of None r bs e = absurd (none-some bs e)
+first_of (Some b) None bs e = absurd (none-some bs e)
+first_of (Some b) (Some cs) bs e = (b, cs, refl, refl, sym (same_Some (b ∷ cs) bs e))
 
 module _ {B : Type 0} (value : ℕ → Option B) where
   -- a block among those of keys is the value of its key
   pub among_right : (ks : List ℕ) (bs : List B) → AreOf value ks bs → (q : ℕ) (b : B) → block_among ks bs q ≡ Some b → value q ≡ Some b
-  among_right [] bs h q b e = absurd (none_some b e)
-  among_right (k ∷ ks) [] h q b e = absurd (none_some b e)
+  among_right [] bs h q b e = absurd (none-some b e)
+  among_right (k ∷ ks) [] h q b e = absurd (none-some b e)
   among_right (k ∷ ks) (x ∷ bs) h q b e = pick (k == q) refl e (λ i. among_right ks bs (parts.3 ∙ ap (λ z. Some z) (sym tail)) q b i)
     where
       parts : (y : B) × (cs : List B) × (value k ≡ Some y) × (all_of (map value ks) ≡ Some cs) × (x ∷ bs ≡ y ∷ cs)
@@ -66,11 +60,7 @@ module _ {B : Type 0} (value : ℕ → Option B) where
   -- so all of them have
   pub all_present : (ks : List ℕ) → (p : ℕ → Bool) → ((q : ℕ) → list_any (λ k. k == q) ks ≡ true → p q ≡ true) → AllByRecursion (λ q. p q ≡ true) ks
   all_present [] p h = tt
-  all_present (k ∷ ks) p h = (h k (ap (λ b. b || list_any (λ j. j == k) ks) (same_eqb k k refl)), all_present ks p (λ q e. h q (or_right (k == q) (list_any (λ j. j == q) ks) e)))
-    where
-      or_right : (a b : Bool) → b ≡ true → (a || b) ≡ true
-      or_right true b e = refl
-      or_right false b e = e
+  all_present (k ∷ ks) p h = (h k (ap (λ b. b || list_any (λ j. j == k) ks) (eq-eqb k k refl)), all_present ks p (λ q e. h q (or_right (k == q) (list_any (λ j. j == q) ks) e)))
 
   -- the blocks that stand at these keys are their values
   pub gathered_right : (counted : ℕ → Bool) (block : ℕ → Option B) → ((k : ℕ) → IsPlace (value k) (counted k) (block k)) → (ks : List ℕ) → list_all counted ks ≡ true → AreOf value ks (filter_map block ks)
@@ -141,9 +131,9 @@ module _ {B : Type 0} (P : Delivery B → Type 0) where
       pick false r = r
 
   pub all_found : (t : Delivery B → Bool) (ds : List (Delivery B)) (d : Delivery B) → find t ds ≡ Some d → AllByRecursion P ds → P d
-  all_found t [] d e h = absurd (none_some d e)
+  all_found t [] d e h = absurd (none-some d e)
   all_found t (x ∷ ds) d e h = pick (t x) e (λ i. all_found t ds d i h.1)
     where
       pick : (b : Bool) → cond b (Some x) (find t ds) ≡ Some d → (find t ds ≡ Some d → P d) → P d
-      pick true e r = subst (λ y. P y) (some_is x d e) h.0
+      pick true e r = subst (λ y. P y) (same_Some x d e) h.0
       pick false e r = r e

@@ -1,9 +1,12 @@
 -- No event by itself makes a key with an error of its own a held one.
 use Rattle.std.proofs.Common.{◌≡◌, ℕ, ◌+◌, Bool, true, false, not, ◌&&◌, ◌||◌, cond, List, [], ◌∷◌, Option, Some, None, refl, sym, ap, ◌∙◌, arith, is_some}
 use Rattle.std.specs.Prelude.{nat_le}
-use Rattle.std.proofs.lemmas.Bool.{false≢true, eqb-true}
+use Rattle.std.proofs.lemmas.Bool.{false≢true, eqb-true, and_from, not-true, not_from_false, or_left}
 use Rattle.std.proofs.Math.Dec.{eqb}
 use Rattle.std.specs.List.{list_any, Contains}
+use Rattle.small_facts.proofs.Options.{is_some_cond}
+use Rattle.small_facts.proofs.Ranges.{range_has}
+use Rattle.small_facts.proofs.Truth.{and_first, and_second}
 use Rattle.cluster_msgs.specs.declared.cores.Steal.{Steal}
 use Rattle.cluster_msgs.specs.declared.cores.SchedEvent.{SchedEvent}
 use Rattle.cluster_msgs.specs.declared.cores.SchedEvent.TheVariants.{Join, Leave, FromWorker, FromClient, Balance, Evict}
@@ -16,9 +19,9 @@ use Rattle.cluster_rules.specs.Sched.{Facts, IsSound, deps, holds, held, erred, 
 use Rattle.cluster_rules.specs.Policies.{next_steal, next_drop}
 use Rattle.cluster_rules.specs.SchedTable.{Changed, change, change_up, change_client, plain, joined, left, is_this, finished, failed, add_key, add_keys, released, is_copy, lost_copy, is_asked_back, stolen_to, refused, answered, wants_more, wants_less, balanced, evicted}
 use Rattle.cluster_rules.proofs.SchedLemmas.{erred-is}
-use Rattle.cluster_rules.proofs.Members.{any_some, range_to}
+use Rattle.cluster_rules.proofs.Members.{any_some}
 use Rattle.cluster_laws.specs.Settled.{IsSettled}
-use Rattle.cluster_laws.proofs.Lists.{and_first, and_second, and_both, or_left, not_false, not_from, any_member}
+use Rattle.cluster_rules.proofs.PolicyLemmas.{any_true}
 
 -- no worker holds a key with an error of its own
 abbrev pub AreApart : Facts → Type 0
@@ -29,11 +32,11 @@ pub holder_holds : (f : Facts) → IsSound f → (w k : ℕ) → holds f w k ≡
 unfolding held
 holder_holds f s w k e =
     let r = s.numbers w (s.holders w k e) in
-    any_some (λ v. holds f v k) (from_one f.last_worker) w (range_to 1 f.last_worker w r.0 (omega (arith, r.1))) e
+    any_some (λ v. holds f v k) (from_one f.last_worker) w (range_has 1 f.last_worker w r.0 (omega (arith, r.1))) e
 
 pub holder_of : (f : Facts) (k : ℕ) → held f k ≡ true → (w : ℕ) × (holds f w k ≡ true)
 unfolding held
-holder_of f k e = pick (any_member (λ v. holds f v k) (from_one f.last_worker) e)
+holder_of f k e = pick (any_true (λ v. holds f v k) (from_one f.last_worker) e)
   where
     pick : (w : ℕ) × Contains (from_one f.last_worker) w × (holds f w k ≡ true) → (w : ℕ) × (holds f w k ≡ true)
     pick (w, m, h) = (w, h)
@@ -46,21 +49,21 @@ pub ready_is_not_held : (f : Facts) (k : ℕ) → ready f k ≡ true → held f 
 unfolding ready
 ready_is_not_held f k r =
     let o = and_second (need f k) (open_key f k) (and_first (need f k && open_key f k) (fed f k) r) in
-    not_false (held f k) (and_first (not (held f k)) (not (erred f k)) o)
+    not-true (held f k) (and_first (not (held f k)) (not (erred f k)) o)
 
 ready_has_not_erred : (f : Facts) (k : ℕ) → ready f k ≡ true → erred f k ≡ false
 unfolding ready
 ready_has_not_erred f k r =
     let o = and_second (need f k) (open_key f k) (and_first (need f k && open_key f k) (fed f k) r) in
-    not_false (erred f k) (and_second (not (held f k)) (not (erred f k)) o)
+    not-true (erred f k) (and_second (not (held f k)) (not (erred f k)) o)
 
 pub ready_is_not_bad : (f : Facts) → IsSound f → (k : ℕ) → ready f k ≡ true → f.bad k ≡ true → ⊥
 ready_is_not_bad f s k r b = false≢true (sym (ready_has_not_erred f k r) ∙ erred-is f s k
-    ∙ and_both (not (held f k)) (f.bad k || list_any (erred f) (deps f k)) (not_from (held f k) (ready_is_not_held f k r)) (or_left (f.bad k) (list_any (erred f) (deps f k)) b))
+    ∙ and_from (not (held f k)) (f.bad k || list_any (erred f) (deps f k)) (not_from_false (held f k) (ready_is_not_held f k r)) (or_left (f.bad k) (list_any (erred f) (deps f k)) b))
 
 -- ## Each row of the table
 
-this_is_some : (w a : ℕ) (o : Option (ℕ × ℕ)) → is_this w a o ≡ true → is_some o ≡ true
+pub this_is_some : (w a : ℕ) (o : Option (ℕ × ℕ)) → is_this w a o ≡ true → is_some o ≡ true
 this_is_some w a None e = absurd (false≢true e)
 this_is_some w a (Some p) e = refl
 
@@ -91,12 +94,8 @@ apart_failed f s t w k a v j b h = pick (is_this w a (f.on k)) refl b h
     pick true q x y = one (placed_this f t w k a q) (eqb j k) refl x y
     pick false q x y = apart_from f s t v j x y
 
-only_some : {A : Type 0} (b : Bool) (o : Option A) → is_some (cond b None o) ≡ true → is_some o ≡ true
-only_some true o e = absurd (false≢true e)
-only_some false o e = e
-
 apart_gone : (f : Facts) → AreApart f → (w k : ℕ) → AreApart (record f { has = put_pair f.has w k None })
-apart_gone f p w k v j b h = p v j b (only_some (eqb v w && eqb j k) (f.has v j) h)
+apart_gone f p w k v j b h = p v j b (is_some_cond (eqb v w && eqb j k) (f.has v j) h)
 
 apart_add_key : (w seen : ℕ) (g : Changed) (k : ℕ) → AreApart g.facts → AreApart (add_key w seen g k).facts
 apart_add_key w seen g k p v j b h = pick (nat_le (g.facts.fence w k) seen) (holds g.facts w k) (held g.facts k) refl (is_on g.facts w k) b h
@@ -156,7 +155,7 @@ apart_answered f p w k a agreed = pick (is_this w a (f.on k) && is_asked_back (f
 
 apart_left : (f : Facts) → AreApart f → (w : ℕ) → AreApart (left f w)
 unfolding left
-apart_left f p w v j b h = p v j b (only_some (eqb v w) (f.has v j) h)
+apart_left f p w v j b h = p v j b (is_some_cond (eqb v w) (f.has v j) h)
 
 apart_balanced : (f : Facts) → AreApart f → (c : Option Steal) → AreApart (balanced f c).facts
 apart_balanced f p None = p

@@ -1,9 +1,9 @@
 -- What each row of the scheduler's table leaves, whatever it does to wants, copies, places, steals and keys that failed: the one walk over the rows
 -- for all that goes by no more than this.
 use Rattle.std.proofs.Common.{◌≡◌, ℕ, ◌+◌, ◌≤◌, Bool, true, false, cond, ◌&&◌, List, [], ◌∷◌, Option, Some, None, refl, sym, ap, ◌∙◌, arith, is_some, eqb}
-use Rattle.std.proofs.lemmas.Bool.{false≢true}
 use Rattle.std.proofs.lemmas.Bool.Decides.{nat_tests}
 use Rattle.std.specs.Prelude.{nat_le}
+use Rattle.small_facts.proofs.Options.{is_some_cond}
 use Rattle.cluster_msgs.specs.declared.cores.Steal.{Steal}
 use Rattle.cluster_msgs.specs.declared.cores.SchedEvent.{SchedEvent}
 use Rattle.cluster_msgs.specs.declared.cores.SchedEvent.TheVariants.{Join, Leave, FromWorker, FromClient, Balance, Evict}
@@ -107,11 +107,7 @@ change_framed f (Join n) = record { setting = refl; counter = omega arith; sent 
   where
     below : (i : ℕ) → i ≤ f.last_worker → eqb i (f.last_worker + 1) ≡ false
     below i l = grind (arith, nat_tests)
-change_framed f (Leave w) = record { setting = refl; counter = omega arith; sent = refl; fence = refl; last_worker = omega arith; threads = λ i e l. stays (eqb i w) (f.threads i) e }
-  where
-    stays : (b : Bool) (o : Option ℕ) → is_some (cond b None o) ≡ true → is_some o ≡ true
-    stays true o e = absurd (false≢true e)
-    stays false o e = e
+change_framed f (Leave w) = record { setting = refl; counter = omega arith; sent = refl; fence = refl; last_worker = omega arith; threads = λ i e l. is_some_cond (eqb i w) (f.threads i) e }
 change_framed f (FromWorker w m) = frame_up f w m
 change_framed f (FromClient c m) = frame_client f c m
 change_framed f Balance = frame_balanced f (next_steal f)

@@ -3,6 +3,7 @@ use Rattle.std.proofs.Common.{◌≡◌, ℕ, zero, suc, ◌+◌, Bool, true, fa
 use Rattle.std.specs.Prelude.{◌==◌, nat_lt}
 use Rattle.std.specs.List.{list_all, AllByRecursion}
 use Rattle.std.proofs.lemmas.Bool.{true≢false, false≢true, and_parts, and_from}
+use Rattle.small_facts.proofs.Every.{all_join, all_of_filter}
 use Rattle.cluster_msgs.specs.Shape.{Shape, IsShape, key_count}
 use Rattle.cluster_msgs.specs.declared.messages.Down.{Down}
 use Rattle.cluster_msgs.specs.declared.messages.Up.{Up}
@@ -32,9 +33,8 @@ use Rattle.cluster_rules.specs.Runs.{LegalFrom, run_from, legal, reached}
 use Rattle.cluster_laws.specs.Moves.{world_after}
 use Rattle.cluster_rules.specs.Inside.{IsKey, AreKeys, down_keys, news_keys, item_keys, IsInsideWorker, IsInsideClient, IsInsideWorld}
 use Rattle.cluster_rules.proofs.WorkerLemmas.{at_one}
-use Rattle.cluster_rules.proofs.AllLemmas.{all_append}
 use Rattle.cluster_laws.proofs.Framed.{change_framed, step_setting}
-use Rattle.cluster_rules.proofs.InsideWorker.{all_filter_in, IsInsideStep, IsInsideEvent, in_step, sends_in, requested_in, parcels_with}
+use Rattle.cluster_rules.proofs.InsideWorker.{IsInsideStep, IsInsideEvent, in_step, sends_in, requested_in, parcels_with}
 use Rattle.cluster_rules.proofs.InsideSched.{IsInsideSched, down_in, mail_in, news_in, letters_in, IsInsideClientEvent, IsClientStep, client_in, client_sends_in, client_requested_in, all_found}
 
 module _ (j : Job) (low : IsShape j.setting.shape) where
@@ -55,9 +55,9 @@ module _ (j : Job) (low : IsShape j.setting.shape) where
         workers = h.workers;
         clients = h.clients;
         spilled = h.spilled;
-        down = λ i. all_append (λ m. AreKeys graph (down_keys m)) (w.down i) _ (h.down i) (mail_in graph low i (sched_step w.sched e).down (down_in graph low w.sched e h.shape same v));
+        down = λ i. all_join (λ m. AreKeys graph (down_keys m)) (w.down i) _ (h.down i) (mail_in graph low i (sched_step w.sched e).down (down_in graph low w.sched e h.shape same v));
         up = h.up;
-        to_client = λ c. all_append (λ m. AreKeys graph (news_keys m)) (w.to_client c) _ (h.to_client c) (letters_in graph low c (sched_step w.sched e).clients (news_in graph low j w.sched e h.shape same v));
+        to_client = λ c. all_join (λ m. AreKeys graph (news_keys m)) (w.to_client c) _ (h.to_client c) (letters_in graph low c (sched_step w.sched e).clients (news_in graph low j w.sched e h.shape same v));
         from_client = h.from_client;
         requests = h.requests;
         answers = h.answers;
@@ -75,7 +75,7 @@ module _ (j : Job) (low : IsShape j.setting.shape) where
         spilled = at_one i (λ b x. (k : ℕ) → cond b (λ k. w.spilled i k && (worker_step (w.workers i) e).facts.mem k) (w.spilled x) k ≡ true → IsKey graph k)
             (λ k s. h.spilled i k (and_parts (w.spilled i k) _ s).0) h.spilled;
         down = h.down;
-        up = at_one i (λ b x. AllByRecursion (λ m. AreKeys graph (up_keys m)) (cond b (w.up i ++ sends (worker_step (w.workers i) e).out) (w.up x))) (all_append (λ m. AreKeys graph (up_keys m)) (w.up i) _ (h.up i) (sends_in graph _ r.out)) h.up;
+        up = at_one i (λ b x. AllByRecursion (λ m. AreKeys graph (up_keys m)) (cond b (w.up i ++ sends (worker_step (w.workers i) e).out) (w.up x))) (all_join (λ m. AreKeys graph (up_keys m)) (w.up i) _ (h.up i) (sends_in graph _ r.out)) h.up;
         to_client = h.to_client;
         from_client = h.from_client;
         requests = requested_in graph (Worker i) (worker_step (w.workers i) e).out w.requests r.out h.requests;
@@ -95,7 +95,7 @@ module _ (j : Job) (low : IsShape j.setting.shape) where
         down = h.down;
         up = h.up;
         to_client = h.to_client;
-        from_client = at_one c (λ b x. AllByRecursion (λ m. AreKeys graph (client_keys m)) (cond b (w.from_client c ++ client_sends (client_step (w.clients c) e).out) (w.from_client x))) (all_append (λ m. AreKeys graph (client_keys m)) (w.from_client c) _ (h.from_client c) (client_sends_in graph low _ r.out)) h.from_client;
+        from_client = at_one c (λ b x. AllByRecursion (λ m. AreKeys graph (client_keys m)) (cond b (w.from_client c ++ client_sends (client_step (w.clients c) e).out) (w.from_client x))) (all_join (λ m. AreKeys graph (client_keys m)) (w.from_client c) _ (h.from_client c) (client_sends_in graph low _ r.out)) h.from_client;
         requests = client_requested_in graph low (Client c) (client_step (w.clients c) e).out w.requests r.out h.requests;
         answers = h.answers;
       }
@@ -123,8 +123,8 @@ module _ (j : Job) (low : IsShape j.setting.shape) where
     up = h.up;
     to_client = h.to_client;
     from_client = h.from_client;
-    requests = all_filter_in (λ (q : Parcel). AreKeys graph q.keys) _ w.requests h.requests;
-    answers = parcels_with graph _ w.answers (all_filter_in (IsKey graph) (w.workers p).mem q.keys (all_found (λ (q : Parcel). AreKeys graph q.keys) _ w.requests q e h.requests)) h.answers;
+    requests = all_of_filter (λ (q : Parcel). AreKeys graph q.keys) _ w.requests h.requests;
+    answers = parcels_with graph _ w.answers (all_of_filter (IsKey graph) (w.workers p).mem q.keys (all_found (λ (q : Parcel). AreKeys graph q.keys) _ w.requests q e h.requests)) h.answers;
   }
 
   in_take_answer : (w : World) (o : Option Parcel) → IsInsideWorld graph w → IsInsideWorld graph (take_answer w o)
@@ -139,7 +139,7 @@ module _ (j : Job) (low : IsShape j.setting.shape) where
     to_client = h.to_client;
     from_client = h.from_client;
     requests = h.requests;
-    answers = all_filter_in (λ (q : Parcel). AreKeys graph q.keys) _ w.answers h.answers;
+    answers = all_of_filter (λ (q : Parcel). AreKeys graph q.keys) _ w.answers h.answers;
   })
 
   in_fail_ask : (w : World) (a : Asker) (p : ℕ) (o : Option Ask) → IsInsideWorld graph w → IsInsideWorld graph (fail_ask w a p o)

@@ -1,46 +1,16 @@
 -- Tests over lists, and truth of joined tests.
-use Rattle.std.proofs.Common.{◌≡◌, ℕ, ◌+◌, ◌<◌, ◌≤◌, Bool, true, false, not, ◌&&◌, ◌||◌, cond, List, [], ◌∷◌, refl, sym, ap, ◌∙◌, arith, ⊎_elim}
-use Rattle.std.proofs.lemmas.Bool.{or_cases, false≢true}
+use Rattle.std.proofs.Common.{◌≡◌, ℕ, ◌+◌, ◌<◌, ◌≤◌, Bool, true, false, not, cond, List, [], ◌∷◌, refl, sym, ap, ◌∙◌, arith, ⊎_elim}
+use Rattle.std.proofs.lemmas.Bool.{or_cases, false≢true, eq-eqb, or_left, or_right}
 use Rattle.std.proofs.Math.Dec.{eqb}
-use Rattle.std.specs.List.{list_any, AllByRecursion, filter, Contains}
+use Rattle.std.specs.List.{list_any, AllByRecursion, filter}
+use Rattle.small_facts.proofs.Lists.{cons_not_nil}
 use Rattle.cluster_rules.specs.Functions.{count}
 use Rattle.cluster_rules.specs.Derived.{is_in}
-use Rattle.cluster_rules.proofs.ChoiceLemmas.{contains_head, contains_tail}
-use Rattle.cluster_rules.proofs.SchedFrame.{same_eqb, or_true}
-
-pub and_first : (a b : Bool) → (a && b) ≡ true → a ≡ true
-and_first true b e = refl
-and_first false b e = absurd (false≢true e)
-
-pub and_second : (a b : Bool) → (a && b) ≡ true → b ≡ true
-and_second true b e = e
-and_second false b e = absurd (false≢true e)
-
-pub and_both : (a b : Bool) → a ≡ true → b ≡ true → (a && b) ≡ true
-and_both a b p q = rw (p, q) refl
 
 -- where the first holds only if the second does, the second fails only if the first does
 pub not_back : (a b : Bool) → (b ≡ true → a ≡ true) → not a ≡ true → not b ≡ true
 not_back a true h e = absurd (false≢true (sym (ap not (h refl)) ∙ e))
 not_back a false h e = refl
-
-pub not_false : (a : Bool) → not a ≡ true → a ≡ false
-not_false true e = absurd (false≢true e)
-not_false false e = refl
-
-pub not_from : (a : Bool) → a ≡ false → not a ≡ true
-not_from a e = ap not e
-
-pub same_truth : (a b : Bool) → (a ≡ true → b ≡ true) → (b ≡ true → a ≡ true) → a ≡ b
-same_truth true b h i = sym (h refl)
-same_truth false true h i = i refl
-same_truth false false h i = refl
-
-pub or_left : (a b : Bool) → a ≡ true → (a || b) ≡ true
-or_left a b e = ap (λ x. x || b) e
-
-pub or_right : (a b : Bool) → b ≡ true → (a || b) ≡ true
-or_right a b e = ap (λ x. a || x) e ∙ or_true a
 
 -- what each member passes only where it passes another test
 pub any_weaken : (p q : ℕ → Bool) (xs : List ℕ) → ((x : ℕ) → p x ≡ true → q x ≡ true) → list_any p xs ≡ true → list_any q xs ≡ true
@@ -54,17 +24,9 @@ any_weaken p q (x ∷ xs) h e = ⊎_elim
 pub any_weaken_at : (C : ℕ → Type 0) (p q : ℕ → Bool) (xs : List ℕ) (k : ℕ) → AllByRecursion (λ d. d < k) xs → ((d : ℕ) → is_in d xs ≡ true → C d) → ((d : ℕ) → d < k → C d → p d ≡ true → q d ≡ true) → list_any p xs ≡ true → list_any q xs ≡ true
 any_weaken_at C p q [] k l sub h e = e
 any_weaken_at C p q (x ∷ xs) k l sub h e = ⊎_elim
-    (λ a. or_left (q x) (list_any q xs) (h x l.0 (sub x (or_left (eqb x x) (is_in x xs) (same_eqb x x refl))) a))
+    (λ a. or_left (q x) (list_any q xs) (h x l.0 (sub x (or_left (eqb x x) (is_in x xs) (eq-eqb x x refl))) a))
     (λ a. or_right (q x) (list_any q xs) (any_weaken_at C p q xs k l.1 (λ d i. sub d (or_right (eqb x d) (is_in d xs) i)) h a))
     (or_cases (p x) (list_any p xs) e)
-
--- a member that passes
-pub any_member : {A : Type 0} (p : A → Bool) (xs : List A) → list_any p xs ≡ true → (x : A) × Contains xs x × (p x ≡ true)
-any_member p [] e = absurd (false≢true e)
-any_member {A = A} p (x ∷ xs) e = ⊎_elim (λ a. (x, contains_head x xs, a)) (λ a. later (any_member p xs a)) (or_cases (p x) (list_any p xs) e)
-  where
-    later : (y : A) × Contains xs y × (p y ≡ true) → (y : A) × Contains (x ∷ xs) y × (p y ≡ true)
-    later (y, m, q) = (y, contains_tail x xs y m, q)
 
 -- a filter that passes less
 pub filter_less : (p q : ℕ → Bool) (xs : List ℕ) → ((x : ℕ) → q x ≡ true → p x ≡ true) → filter p xs ≡ [] → filter q xs ≡ []
@@ -72,10 +34,7 @@ filter_less p q [] h e = refl
 filter_less p q (x ∷ xs) h e = pick (p x) (q x) (h x) (filter_less p q xs h) e
   where
     pick : (b c : Bool) → (c ≡ true → b ≡ true) → (filter p xs ≡ [] → filter q xs ≡ []) → cond b (x ∷ filter p xs) (filter p xs) ≡ [] → cond c (x ∷ filter q xs) (filter q xs) ≡ []
-    pick true c i rest r = absurd (some_is_none x (filter p xs) r)
-      where
-        some_is_none : (y : ℕ) (ys : List ℕ) → (y ∷ ys) ≡ [] → ⊥
-        some_is_none y ys h = cc
+    pick true c i rest r = absurd (cons_not_nil x (filter p xs) r)
     pick false true i rest r = absurd (false≢true (i refl))
     pick false false i rest r = rest r
 

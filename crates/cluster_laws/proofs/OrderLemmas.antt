@@ -1,12 +1,13 @@
 -- The order of an event's messages.
 use Rattle.std.proofs.Common.{◌≡◌, ℕ, zero, suc, ◌+◌, ◌<◌, ◌≤◌, Bool, true, false, not, cond, ◌&&◌, ◌||◌, List, [], ◌∷◌, ◌++◌, Option, Some, None, refl, sym, ap, ◌∙◌, subst, arith, inl, inr, ⊎_elim, append-nil}
 use Rattle.std.specs.Prelude.{nat_le}
-use Rattle.std.proofs.lemmas.Bool.{true≢false, eqb-true}
-use Rattle.std.proofs.lemmas.Bool.Decides.{nat_tests}
+use Rattle.std.proofs.lemmas.Bool.{true≢false, eqb-true, eq-eqb}
 use Rattle.std.proofs.lemmas.List.Elements.{Contains-append_cases}
 use Rattle.std.proofs.Math.Dec.{eqb}
 use Rattle.std.specs.List.{filter, filter_map, flat_map, cons_option, range_with_len, Contains, AllByRecursion}
 use Rattle.std.specs.Option.{option_map}
+use Rattle.std.proofs.lemmas.Option.{same_Some, none-some}
+use Rattle.small_facts.proofs.Numbers.{unequal_over}
 use Rattle.cluster_msgs.specs.declared.messages.Down.{Down}
 use Rattle.cluster_msgs.specs.declared.messages.Down.TheVariants.{ComputeTask, FreeKeys}
 use Rattle.cluster_msgs.specs.declared.messages.ToClient.{ToClient}
@@ -18,7 +19,7 @@ use Rattle.cluster_rules.specs.SchedStep.{Stages, down_messages, to_worker, free
 use Rattle.cluster_laws.specs.Order.{Ascends, IsToldBefore, task_key, client_key}
 use Rattle.cluster_rules.proofs.ChoiceLemmas.{contains_head, contains_tail, contains_cases, contains_none}
 use Rattle.cluster_rules.proofs.Members.{filter_from, flat_map_from}
-use Rattle.cluster_rules.proofs.SchedFrame.{mail-append, same_eqb}
+use Rattle.cluster_rules.proofs.SchedFrame.{mail-append}
 
 pub all_from : {A : Type 0} (P : A → Type 0) (xs : List A) → ((y : A) → Contains xs y → P y) → AllByRecursion P xs
 all_from P [] h = tt
@@ -82,23 +83,17 @@ ascends_flat_map {A = A} {B = B} R S g keeps each (x ∷ xs) h =
     across : (y v : B) → Contains (g x) y → (z : A) × Contains xs z × Contains (g z) v → S y v
     across y v m (z, n, o) = keeps x z y v (all_at (R x) xs h.0 z n) m o
 
-some_same : {A : Type 0} (x y : A) → Some x ≡ Some y → x ≡ y
-some_same x y h = cc
-
-none_some : {A : Type 0} (x : A) → None ≡ Some x → ⊥
-none_some x h = cc
-
 pub lost_ascend : (t : Stages) (w : ℕ) → Ascends (λ j k. j < k) (lost_keys t w)
 lost_ascend t w = ascends_filter (λ j k. j < k) (lost t w) (below (keys t.before)) (ascends_range 0 (keys t.before))
 
 -- a message for a key is of that key, and goes to that worker
 task_message-key : (f : Facts) (since w k : ℕ) (o : Option (ℕ × ℕ)) (m : ℕ × Down) → task_message f since w k o ≡ Some m → (m.0 ≡ w) × (task_key m.1 ≡ k)
-task_message-key f since w k None m h = absurd (none_some m h)
+task_message-key f since w k None m h = absurd (none-some m h)
 task_message-key f since w k (Some p) m h = pick (eqb p.0 w && nat_le since p.1) h
   where
     pick : (b : Bool) → cond b (Some (w, ComputeTask k p.1 (who_has f (deps f k)))) None ≡ Some m → (m.0 ≡ w) × (task_key m.1 ≡ k)
-    pick true g = let e : (w, ComputeTask k p.1 (who_has f (deps f k))) ≡ m = some_same (w, ComputeTask k p.1 (who_has f (deps f k))) m g in (sym (ap (λ (n : ℕ × Down). n.0) e), sym (ap (λ (n : ℕ × Down). task_key n.1) e))
-    pick false g = absurd (none_some m g)
+    pick true g = let e : (w, ComputeTask k p.1 (who_has f (deps f k))) ≡ m = same_Some (w, ComputeTask k p.1 (who_has f (deps f k))) m g in (sym (ap (λ (n : ℕ × Down). n.0) e), sym (ap (λ (n : ℕ × Down). task_key n.1) e))
+    pick false g = absurd (none-some m g)
 
 pub tasks_ascend : (f : Facts) (since w : ℕ) → Ascends (λ m n. task_key m.1 < task_key n.1) (task_messages f since w)
 unfolding task_messages
@@ -125,7 +120,7 @@ no_free v w e (x ∷ xs) = ap (λ b. cond b (FreeKeys (x ∷ xs) ∷ []) []) e
 
 pub mail_own : (w : ℕ) (ms : List Down) → mail w (all_to w ms) ≡ ms
 mail_own w [] = refl
-mail_own w (m ∷ ms) = ap (λ b. cond b (m ∷ mail w (all_to w ms)) (mail w (all_to w ms))) (same_eqb w w refl) ∙ ap (λ l. m ∷ l) (mail_own w ms)
+mail_own w (m ∷ ms) = ap (λ b. cond b (m ∷ mail w (all_to w ms)) (mail w (all_to w ms))) (eq-eqb w w refl) ∙ ap (λ l. m ∷ l) (mail_own w ms)
 
 mail_none : (v w : ℕ) → eqb v w ≡ false → (ms : List Down) → mail w (all_to v ms) ≡ []
 mail_none v w e [] = refl
@@ -151,10 +146,7 @@ mail-own_part t w =
 -- nobody later is the same worker
 not_among : (w : ℕ) (ws : List ℕ) → AllByRecursion (λ v. w < v) ws → is_in w ws ≡ false
 not_among w [] h = refl
-not_among w (v ∷ ws) h = ap (λ b. b || is_in w ws) (apart w v h.0) ∙ not_among w ws h.1
-  where
-    apart : (w v : ℕ) → w < v → eqb v w ≡ false
-    apart w v l = grind (arith, nat_tests)
+not_among w (v ∷ ws) h = ap (λ b. b || is_in w ws) (unequal_over v w h.0) ∙ not_among w ws h.1
 
 -- where the messages of all workers are joined, a worker's are its own
 pub mail-joined : (t : Stages) (w : ℕ) (ws : List ℕ) → Ascends (λ v u. v < u) ws → mail w (flat_map (to_worker t) ws) ≡ cond (is_in w ws) (mail w (to_worker t w)) []
@@ -215,21 +207,21 @@ recipients_ascend t = ascends_flat_map (λ v u. v < u) (λ (m n : ℕ × Down). 
 
 -- a message to a client is to that client, about that key
 is_told : (c k : ℕ) (x m : ℕ × ToClient) → x.0 ≡ c → client_key x.1 ≡ k → Some x ≡ Some m → (m.0 ≡ c) × (client_key m.1 ≡ k)
-is_told c k x m a b h = let e : x ≡ m = some_same x m h in (sym (ap (λ (n : ℕ × ToClient). n.0) e) ∙ a, sym (ap (λ (n : ℕ × ToClient). client_key n.1) e) ∙ b)
+is_told c k x m a b h = let e : x ≡ m = same_Some x m h in (sym (ap (λ (n : ℕ × ToClient). n.0) e) ∙ a, sym (ap (λ (n : ℕ × ToClient). client_key n.1) e) ∙ b)
 
 client_message-key : (t : Stages) (c k : ℕ) (m : ℕ × ToClient) → client_message t c k ≡ Some m → (m.0 ≡ c) × (client_key m.1 ≡ k)
 client_message-key t c k m h = pick (not (t.placed.want c k)) (erred t.placed k && not (was_erred t k)) (held t.placed k && not (was_held t k)) (was_held t k && not (held t.placed k)) (blame t.placed k) h
   where
     blamed : (o : Option ℕ) → option_map (λ b. (c, ClientTaskErred k b)) o ≡ Some m → (m.0 ≡ c) × (client_key m.1 ≡ k)
-    blamed None g = absurd (none_some m g)
+    blamed None g = absurd (none-some m g)
     blamed (Some b) g = is_told c k (c, ClientTaskErred k b) m refl refl g
 
     pick : (a b d e : Bool) (o : Option ℕ) → cond a None (cond b (option_map (λ x. (c, ClientTaskErred k x)) o) (cond d (Some (c, KeyInMemory k (holders t.placed k))) (cond e (Some (c, LostData k)) None))) ≡ Some m → (m.0 ≡ c) × (client_key m.1 ≡ k)
-    pick true b d e o g = absurd (none_some m g)
+    pick true b d e o g = absurd (none-some m g)
     pick false true d e o g = blamed o g
     pick false false true e o g = is_told c k (c, KeyInMemory k (holders t.placed k)) m refl refl g
     pick false false false true o g = is_told c k (c, LostData k) m refl refl g
-    pick false false false false o g = absurd (none_some m g)
+    pick false false false false o g = absurd (none-some m g)
 
 pub clients_ascend : (t : Stages) → Ascends IsToldBefore (to_clients t)
 unfolding to_clients

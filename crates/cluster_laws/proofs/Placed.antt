@@ -1,9 +1,12 @@
 -- Placing keys leaves what is derived as it is, gives only ready keys, and leaves a key only where no worker could take it.
 use Rattle.std.proofs.Common.{◌≡◌, ℕ, ◌*◌, ◌≤◌, Bool, true, false, not, ◌&&◌, cond, List, [], ◌∷◌, Option, Some, None, refl, sym, ap, ◌∙◌, subst, arith, is_some, is_none, ⊎_elim}
 use Rattle.std.specs.Prelude.{nat_le}
-use Rattle.std.proofs.lemmas.Bool.{or_cases, false≢true, eqb-true}
+use Rattle.std.proofs.lemmas.Bool.{or_cases, false≢true, eqb-true, and_from}
 use Rattle.std.proofs.lemmas.Bool.Decides.{nat_tests}
 use Rattle.std.proofs.Math.Dec.{eqb}
+use Rattle.small_facts.proofs.Numbers.{eqb_self}
+use Rattle.small_facts.proofs.Options.{some_not_none, none_from_is_none}
+use Rattle.small_facts.proofs.Truth.{and_first, and_second}
 use Rattle.cluster_rules.specs.Functions.{count}
 use Rattle.cluster_rules.specs.Derived.{below, is_in}
 use Rattle.cluster_rules.specs.Sched.{Facts, keys, deps, held, erred, wanted, known, need, ready, workers, is_on, is_for, tasks, full, threads_of}
@@ -13,7 +16,7 @@ use Rattle.cluster_rules.specs.SchedStep.{give, place_one, place_keys}
 use Rattle.cluster_rules.proofs.ChoiceLemmas.{least_by_least}
 use Rattle.cluster_rules.proofs.SchedLemmas.{ready-place_one, place_one-some}
 use Rattle.cluster_rules.proofs.SchedFrame.{placing_keys}
-use Rattle.cluster_laws.proofs.Lists.{and_both, and_first, and_second, filter_less, count_less}
+use Rattle.cluster_laws.proofs.Lists.{filter_less, count_less}
 
 -- what placing leaves as it is
 pub record IsDerivedAs (f g : Facts) : Type 0 where
@@ -80,10 +83,7 @@ ready_on_keys f (k ∷ ks) h j e = ap (λ r. r j) (sym (ready-place_one f k))
 
 none_is_least : (rank : ℕ → List ℕ) (xs : List ℕ) (o : Option ℕ) → IsLeastOf rank xs o → o ≡ None → xs ≡ []
 none_is_least rank xs None h e = h
-none_is_least rank xs (Some x) h e = absurd (some_is_none x e)
-  where
-    some_is_none : (y : ℕ) → Some y ≡ None → ⊥
-    some_is_none y q = cc
+none_is_least rank xs (Some x) h e = absurd (some_not_none x e)
 
 pub no_candidates : (f : Facts) (k : ℕ) → place f k ≡ None → candidates f k ≡ []
 unfolding place
@@ -100,15 +100,11 @@ none_other : (b : Bool) (p : ℕ × ℕ) (o : Option (ℕ × ℕ)) (w : ℕ) →
 none_other false p o w h e = e
 none_other true p o w h e = absurd (false≢true (sym (ap (is_for w) (h refl)) ∙ e))
 
-none_here : (o : Option (ℕ × ℕ)) → is_none o ≡ true → o ≡ None
-none_here None e = refl
-none_here (Some p) e = absurd (false≢true e)
-
 -- one more task makes no worker free
 full_still : (f : Facts) (k w v : ℕ) → is_none (f.on k) ≡ true → full f v ≡ true → full (give f k (Some w)) v ≡ true
 unfolding full tasks
 full_still f k w v free e = more_is_full (threads_of f v * f.setting.saturation) (count (is_on f v) (below (keys f))) (count (is_on (give f k (Some w)) v) (below (keys f)))
-    (count_less (is_on f v) (is_on (give f k (Some w)) v) (below (keys f)) (λ j x. none_other (eqb j k) (w, f.counter) (f.on j) v (λ s. ap f.on (eqb-true j k s) ∙ none_here (f.on k) free) x)) e
+    (count_less (is_on f v) (is_on (give f k (Some w)) v) (below (keys f)) (λ j x. none_other (eqb j k) (w, f.counter) (f.on j) v (λ s. ap f.on (eqb-true j k s) ∙ none_from_is_none (f.on k) free) x)) e
 
 no_more_candidates : (f : Facts) (k w j : ℕ) → is_none (f.on k) ≡ true → candidates f j ≡ [] → candidates (give f k (Some w)) j ≡ []
 unfolding candidates
@@ -141,10 +137,7 @@ left_alone f ks k e = pick (f.on k) refl
   where
     pick : (o : Option (ℕ × ℕ)) → f.on k ≡ o → o ≡ None
     pick None q = refl
-    pick (Some p) q = absurd (some_is_none p (sym ((placing_keys f ks).stays k p q) ∙ e))
-      where
-        some_is_none : (p : ℕ × ℕ) → Some p ≡ None → ⊥
-        some_is_none p q = cc
+    pick (Some p) q = absurd (some_not_none p (sym ((placing_keys f ks).stays k p q) ∙ e))
 
 -- a ready key that is on no worker after its turn had no place in its turn
 pub left_in_turn : (f : Facts) (k : ℕ) → ready f k ≡ true → f.on k ≡ None → (place_one f k).on k ≡ None → place f k ≡ None
@@ -152,17 +145,11 @@ unfolding place_one
 left_in_turn f k r n e = pick (place f k) refl
   where
     there : (ready f k && is_none (f.on k)) ≡ true
-    there = and_both (ready f k) (is_none (f.on k)) r (ap is_none n)
-
-    same : (a : ℕ) → eqb a a ≡ true
-    same a = grind (arith, nat_tests)
-
-    some_is_none : (p : ℕ × ℕ) → Some p ≡ None → ⊥
-    some_is_none p q = cc
+    there = and_from (ready f k) (is_none (f.on k)) r (ap is_none n)
 
     pick : (o : Option ℕ) → place f k ≡ o → o ≡ None
     pick None q = refl
-    pick (Some w) q = absurd (some_is_none (w, f.counter) (ap (λ b. cond b (Some (w, f.counter)) (f.on k)) (sym (same k)) ∙ ap (λ (g : Facts). g.on k) (sym (place_one-some f k w there q)) ∙ e))
+    pick (Some w) q = absurd (some_not_none (w, f.counter) (ap (λ b. cond b (Some (w, f.counter)) (f.on k)) (sym (eqb_self k)) ∙ ap (λ (g : Facts). g.on k) (sym (place_one-some f k w there q)) ∙ e))
 
 pub left_have_no_place : (f : Facts) (ks : List ℕ) (k : ℕ) → is_in k ks ≡ true → ready f k ≡ true → (place_keys f ks).on k ≡ None → place (place_keys f ks) k ≡ None
 left_have_no_place f [] k i r e = absurd (false≢true i)

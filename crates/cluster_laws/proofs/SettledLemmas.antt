@@ -1,6 +1,7 @@
 -- The facts settle after each event.
 use Rattle.std.proofs.Common.{◌≡◌, ℕ, ◌<◌, ◌≤◌, Bool, true, false, ◌&&◌, cond, List, Option, Some, None, refl, sym, ap, ◌∙◌, arith, is_some, ◌⊎◌, ⊎_elim}
 use Rattle.std.proofs.lemmas.Bool.{false≢true, cases_lt}
+use Rattle.small_facts.proofs.Truth.{and_first, cond_else_false}
 use Rattle.cluster_msgs.specs.declared.cores.SchedEvent.{SchedEvent}
 use Rattle.cluster_rules.specs.Functions.{from_one}
 use Rattle.cluster_rules.specs.Derived.{below, is_in, reach}
@@ -11,9 +12,9 @@ use Rattle.cluster_rules.specs.SchedStep.{drop_bad, drop_has, drop_on, place_key
 use Rattle.cluster_rules.proofs.SchedLemmas.{need-past}
 use Rattle.cluster_rules.proofs.SchedFrame.{in_range, placing_keys}
 use Rattle.cluster_rules.proofs.NothingLemmas.{need-nowhere}
-use Rattle.cluster_rules.proofs.SoundStep.{sound_changed}
+use Rattle.cluster_rules.proofs.SoundStep.{sound_changed, false_less, none_less}
 use Rattle.cluster_laws.specs.Settled.{IsSettled}
-use Rattle.cluster_laws.proofs.Lists.{and_first, any_weaken}
+use Rattle.cluster_laws.proofs.Lists.{any_weaken}
 use Rattle.cluster_laws.proofs.Fewer.{IsThinned, thinned-need, reach_by}
 use Rattle.cluster_laws.proofs.Placed.{IsDerivedAs, no_candidates, nowhere, derived_keys, ready_on_keys, left_have_no_place}
 use Rattle.cluster_laws.proofs.Errors.{AreApart, apart_changed, holder_of}
@@ -55,10 +56,6 @@ bad_is_known : (b : Bool) (x : Bool) → cond b x false ≡ true → b ≡ true
 bad_is_known true x e = refl
 bad_is_known false x e = absurd (false≢true e)
 
-bad_was : (b : Bool) (x : Bool) → cond b x false ≡ true → x ≡ true
-bad_was true x e = e
-bad_was false x e = absurd (false≢true e)
-
 ready_is_given : (f : Facts) (k : ℕ) → is_some ((drop_on f).on k) ≡ true → ready f k ≡ true
 unfolding drop_on
 ready_is_given f k e = kept_is_needed (ready f k) (f.on k) e
@@ -96,7 +93,7 @@ sound_drop_bad f s = record {
   saturation = s.saturation;
   want = s.want;
   has = s.has;
-  bad = λ k l. none (known f k) (f.bad k) (s.bad k l);
+  bad = λ k l. false_less (known f k) (f.bad k) (s.bad k l);
   on = s.on;
   steal = s.steal;
   numbers = s.numbers;
@@ -106,10 +103,6 @@ sound_drop_bad f s = record {
   holders = s.holders;
   places = s.places;
 }
-  where
-    none : (b x : Bool) → x ≡ false → cond b x false ≡ false
-    none true x e = e
-    none false x e = refl
 
 -- a steal that is kept is of a key that is kept
 steal_is_given : (f : Facts) → IsSound f → (k : ℕ) → is_some ((drop_on f).steal k) ≡ true → (q : ℕ × ℕ) × ((drop_on f).on k ≡ Some q)
@@ -139,7 +132,7 @@ error_is_known g k e = bad_is_known (known g k) (g.bad k) e
 
 error_stood : (g : Facts) (k : ℕ) → (drop_on (drop_has (drop_bad g))).bad k ≡ true → g.bad k ≡ true
 unfolding drop_on drop_has drop_bad
-error_stood g k e = bad_was (known g k) (g.bad k) e
+error_stood g k e = cond_else_false (known g k) (g.bad k) e
 
 -- what the facts settle to, from facts in which no held key has an error of its own
 settled_placed : (g : Facts) → IsSound g → AreApart g → IsSound (drop_has (drop_bad g)) → IsSettled (place_all (drop_on (drop_has (drop_bad g))))
@@ -230,7 +223,7 @@ sound_drop_has f s = record {
   few_clients = s.few_clients;
   saturation = s.saturation;
   want = s.want;
-  has = λ w k l. none (need f k) (f.has w k) (s.has w k l);
+  has = λ w k l. none_less (need f k) (f.has w k) (s.has w k l);
   bad = s.bad;
   on = s.on;
   steal = s.steal;
@@ -241,10 +234,6 @@ sound_drop_has f s = record {
   holders = λ w k e. s.holders w k (only_kept (need f k) (f.has w k) e);
   places = s.places;
 }
-  where
-    none : {A : Type 0} (b : Bool) (x : Option A) → x ≡ None → cond b x None ≡ None
-    none true x e = e
-    none false x e = refl
 
 pub settled_step : (f : Facts) → IsSound f → IsSettled f → (e : SchedEvent) → sched_takes f e ≡ true → IsSettled (sched_step f e).facts
 unfolding sched_step finish_step settle

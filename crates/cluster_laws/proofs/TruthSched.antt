@@ -3,6 +3,8 @@ use Rattle.std.proofs.Common.{◌≡◌, inl, ℕ, zero, suc, ◌+◌, Bool, tru
 use Rattle.std.specs.Prelude.{◌==◌, nat_le, option_map, filter_map, flat_map}
 use Rattle.std.specs.List.{list_any, cons_option, AllByRecursion}
 use Rattle.std.proofs.lemmas.Bool.{false≢true, and_parts}
+use Rattle.std.proofs.lemmas.Option.{none-some, same_Some}
+use Rattle.small_facts.proofs.Every.{all_join}
 use Rattle.cluster_msgs.specs.Dags.{IsEarlier}
 use Rattle.cluster_msgs.specs.Values.{cone}
 use Rattle.cluster_msgs.proofs.ValueLemmas.{cone-itself, cone-above}
@@ -31,14 +33,7 @@ use Rattle.cluster_rules.specs.WorldStep.{letters}
 use Rattle.cluster_rules.proofs.SchedFrame.{step_settles}
 use Rattle.cluster_laws.specs.Truth.{faulty_key, MayErr, IsBlame, AreValued, IsTrueNews, IsTrueSched, IsTrueClient, IsTrueClientEvent, IsTrueSchedEvent}
 use Rattle.cluster_rules.proofs.WorkerLemmas.{at_one}
-use Rattle.cluster_rules.proofs.AllLemmas.{all_append}
 use Rattle.cluster_laws.proofs.TruthWorker.{kept_valued}
-
-some_is : (x y : ℕ) → Some x ≡ Some y → x ≡ y
-some_is x y h = cc
-
-none_some : {A : Type 0} (x : A) → None ≡ Some x → ⊥
-none_some x h = cc
 
 module _ (excused : ℕ → Type 0) (j : Job) where
   -- rows that leave the errors alone
@@ -156,7 +151,7 @@ module _ (excused : ℕ → Type 0) (j : Job) where
 
   true_to_clients : (t : Stages) → IsShape j.setting.shape → IsTrueSched excused j t.placed → (ks cs : List ℕ) → AllTrue (flat_map (λ c. filter_map (client_message t c) ks) cs)
   true_to_clients t g h ks [] = tt
-  true_to_clients t g h ks (c ∷ cs) = all_append (λ m. IsTrueNews excused j m.1) (filter_map (client_message t c) ks) _ (true_messages t g h c ks) (true_to_clients t g h ks cs)
+  true_to_clients t g h ks (c ∷ cs) = all_join (λ m. IsTrueNews excused j m.1) (filter_map (client_message t c) ks) _ (true_messages t g h c ks) (true_to_clients t g h ks cs)
 
   true_reply : (t : Stages) (ms : List (ℕ × ToClient)) (o : Option (ℕ × ℕ)) → AllTrue (reply_message t ms o)
   true_reply t ms None = tt
@@ -171,7 +166,7 @@ module _ (excused : ℕ → Type 0) (j : Job) where
   true_news f e g t h =
       let s = true_sched_step f e t h in
       let p : IsTrueSched excused j (settle f (change f e)).placed = record { setting = s.setting; bad = s.bad } in
-      all_append (λ m. IsTrueNews excused j m.1) _ (reply_message (settle f (change f e)) (to_clients (settle f (change f e))) (settle f (change f e)).changed.reply) (true_to_clients (settle f (change f e)) g p (below (keys (settle f (change f e)).before)) (from_one (settle f (change f e)).before.setting.clients)) (true_reply (settle f (change f e)) (to_clients (settle f (change f e))) (settle f (change f e)).changed.reply)
+      all_join (λ m. IsTrueNews excused j m.1) _ (reply_message (settle f (change f e)) (to_clients (settle f (change f e))) (settle f (change f e)).changed.reply) (true_to_clients (settle f (change f e)) g p (below (keys (settle f (change f e)).before)) (from_one (settle f (change f e)).before.setting.clients)) (true_reply (settle f (change f e)) (to_clients (settle f (change f e))) (settle f (change f e)).changed.reply)
 
   pub letters_true : (c : ℕ) (ms : List (ℕ × ToClient)) → AllByRecursion (λ m. IsTrueNews excused j m.1) ms → AllByRecursion (IsTrueNews excused j) (letters c ms)
   letters_true c [] h = tt
@@ -193,7 +188,7 @@ module _ (excused : ℕ → Type 0) (j : Job) where
   unfolding hear
   true_hear c (KeyInMemory k hs) t h = true_hears c k _ (record { got = h.got; failed = h.failed }) h
   true_hear c (LostData k) t h = record { got = h.got; failed = h.failed }
-  true_hear c (ClientTaskErred k b) t h = true_hears c k _ (record { got = h.got; failed = at_one k (λ x y. (d : ℕ) → cond x (Some b) (c.failed y) ≡ Some d → IsBlame excused j y d) (λ d e. subst (λ z. IsBlame excused j k z) (some_is b d e) t) h.failed }) h
+  true_hear c (ClientTaskErred k b) t h = true_hears c k _ (record { got = h.got; failed = at_one k (λ x y. (d : ℕ) → cond x (Some b) (c.failed y) ≡ Some d → IsBlame excused j y d) (λ d e. subst (λ z. IsBlame excused j k z) (same_Some b d e) t) h.failed }) h
 
   true_gets : (ks : List ℕ) (c : ClientFacts) → AreValued j ks → IsTrueClient excused j c → IsTrueClient excused j (fold client_gets c ks)
   true_gets [] c v h = h
@@ -224,7 +219,7 @@ module _ (excused : ℕ → Type 0) (j : Job) where
   true_release c ks h = record { got = λ k e. h.got k (and_parts (c.got k) (not (is_in k ks)) e).0; failed = λ k b e. kept k b (is_in k ks) e }
     where
       kept : (k b : ℕ) (x : Bool) → cond x None (c.failed k) ≡ Some b → IsBlame excused j k b
-      kept k b true e = absurd (none_some b e)
+      kept k b true e = absurd (none-some b e)
       kept k b false e = h.failed k b e
 
   pub true_client_step : (c : ClientFacts) (e : ClientEvent) → IsTrueClientEvent excused j e → IsTrueClient excused j c → IsTrueClient excused j (client_step c e).facts

@@ -3,6 +3,7 @@ use Rattle.std.proofs.Common.{◌≡◌, ℕ, Bool, true, false, not, ◌&&◌, 
 use Rattle.std.specs.Prelude.{◌==◌}
 use Rattle.std.specs.List.{list_all, AllByRecursion}
 use Rattle.std.proofs.lemmas.Bool.{false≢true, eqb-true, and_parts, and_from}
+use Rattle.small_facts.proofs.Every.{all_join}
 use Rattle.cluster_msgs.specs.Shape.{Shape, deps_of}
 use Rattle.cluster_msgs.specs.declared.messages.Down.{Down}
 use Rattle.cluster_msgs.specs.declared.messages.Down.TheVariants.{ComputeTask, FreeKeys, StealRequest, RemoveReplicas, AcquireReplicas, RefreshWhoHas}
@@ -11,7 +12,6 @@ use Rattle.cluster_msgs.specs.declared.cores.Instruction.{Instruction}
 use Rattle.cluster_msgs.specs.declared.cores.Instruction.TheVariants.{Execute, Gather, Keep, Drop, Send}
 use Rattle.cluster_msgs.specs.declared.cores.WorkerEvent.{WorkerEvent}
 use Rattle.cluster_msgs.specs.declared.cores.WorkerEvent.TheVariants.{Down as Told, Start, Done, Ask as AskPeer, Gathered, GatherFailed, DataLost}
-use Rattle.cluster_rules.proofs.AllLemmas.{all_append}
 use Rattle.cluster_rules.specs.Functions.{put}
 use Rattle.cluster_rules.specs.Derived.{is_in}
 use Rattle.cluster_rules.specs.Worker.{worker_keys, Ask, WorkerFacts, awaited, is_wanted, is_fed, wstate, is_ready_state, is_missing_state, would_start, ask_to, without_ask}
@@ -39,7 +39,7 @@ module _ (j : Job) where
 
   true_each : {A : Type 0} (row : WorkerFacts → A → WorkerStep) → ((w : WorkerFacts) (x : A) → IsTrueWorker j w → IsTrueStep j (row w x)) → (s : WorkerStep) (xs : List A) → IsTrueStep j s → IsTrueStep j (each_key row s xs)
   true_each row step s [] h = h
-  true_each row step s (x ∷ xs) h = true_each row step (after_out s.out (row s.facts x)) xs (let r = step s.facts x h.facts in record { facts = r.facts; out = all_append (IsTrueOut j) s.out (row s.facts x).out h.out r.out })
+  true_each row step s (x ∷ xs) h = true_each row step (after_out s.out (row s.facts x)) xs (let r = step s.facts x h.facts in record { facts = r.facts; out = all_join (IsTrueOut j) s.out (row s.facts x).out h.out r.out })
 
   true_fold : {A : Type 0} (f : WorkerFacts → A → WorkerFacts) → ((w : WorkerFacts) (x : A) → IsTrueWorker j w → IsTrueWorker j (f w x)) → (w : WorkerFacts) (xs : List A) → IsTrueWorker j w → IsTrueWorker j (fold f w xs)
   true_fold f step w [] h = h
@@ -107,7 +107,7 @@ module _ (j : Job) where
   true_down w (StealRequest k a) h = true_asked_back w k a h
   true_down w (RemoveReplicas ks) h =
       let r = true_each remove_replica true_remove (quiet w) ks (quietly w h) in
-      record { facts = r.facts; out = all_append (IsTrueOut j) (each_key remove_replica (quiet w) ks).out _ r.out (true_add w.seen (filter (λ k. is_in k ks && (w.mem k && awaited w k)) (worker_keys w))) }
+      record { facts = r.facts; out = all_join (IsTrueOut j) (each_key remove_replica (quiet w) ks).out _ r.out (true_add w.seen (filter (λ k. is_in k ks && (w.mem k && awaited w k)) (worker_keys w))) }
   true_down w (AcquireReplicas who) h = quietly _ (true_fold acquire true_acquire w who h)
   true_down w (RefreshWhoHas who) h = quietly _ (true_fold refresh true_refresh w who h)
 
@@ -140,11 +140,11 @@ module _ (j : Job) where
     out : AllByRecursion (IsTrueOut j) r.out
 
   true_arrive : (r : Arrivals) (q : ℕ) (o : Option ℕ) → j.zero q ≡ false → TrueArrivals r → TrueArrivals (arrive_as r q o)
-  true_arrive r q (Some a) z h = record { facts = true_into_mem (give_up r.facts q) q z (record { shape = h.facts.shape; at = h.facts.at }); out = all_append (IsTrueOut j) r.out _ h.out (tt, (tt, tt)) }
+  true_arrive r q (Some a) z h = record { facts = true_into_mem (give_up r.facts q) q z (record { shape = h.facts.shape; at = h.facts.at }); out = all_join (IsTrueOut j) r.out _ h.out (tt, (tt, tt)) }
   true_arrive r q None z h = pick (is_wanted r.facts q)
     where
       pick : (b : Bool) → TrueArrivals (cond b (record { facts = into_mem r.facts q; out = r.out ++ Keep q ∷ []; added = r.added ++ q ∷ [] }) r)
-      pick true = record { facts = true_into_mem r.facts q z h.facts; out = all_append (IsTrueOut j) r.out _ h.out (tt, tt) }
+      pick true = record { facts = true_into_mem r.facts q z h.facts; out = all_join (IsTrueOut j) r.out _ h.out (tt, tt) }
       pick false = h
 
   true_arrivals : (ks : List ℕ) (r : Arrivals) → AreValued j ks → TrueArrivals r → TrueArrivals (fold arrive r ks)
@@ -155,7 +155,7 @@ module _ (j : Job) where
   unfolding arrived
   true_arrived w ks v h =
       let r = true_arrivals ks (record { facts = w; out = []; added = [] }) v (record { facts = h; out = tt }) in
-      record { facts = r.facts; out = all_append (IsTrueOut j) (fold arrive (record { facts = w; out = []; added = [] }) ks).out _ r.out (true_add _ _) }
+      record { facts = r.facts; out = all_join (IsTrueOut j) (fold arrive (record { facts = w; out = []; added = [] }) ks).out _ r.out (true_add _ _) }
 
   true_stopped : (w : WorkerFacts) (q : ℕ) → IsTrueWorker j w → IsTrueWorker j (stopped w q)
   true_stopped w q h = record { shape = h.shape; at = at_one q (λ b k. IsTrueKey (j.zero k) (has_inputs j k) (w.mem k) (cond b false (w.running k))) (record { valued = (h.at q).valued; fed = λ e. absurd (false≢true e) }) h.at }
@@ -229,7 +229,7 @@ module _ (j : Job) where
   unfolding worker_step
   true_step w e t f h =
       let r = true_row w e t f h in
-      record { facts = record { shape = r.facts.shape; at = r.facts.at }; out = all_append (IsTrueOut j) (worker_row w e).out _ r.out (requests_true _ (unasked_keys (worker_row w e).facts)) }
+      record { facts = record { shape = r.facts.shape; at = r.facts.at }; out = all_join (IsTrueOut j) (worker_row w e).out _ r.out (requests_true _ (unasked_keys (worker_row w e).facts)) }
 
   pub sends_true : (out : List Instruction) → AllByRecursion (IsTrueOut j) out → AllByRecursion (IsTrueUp j) (sends out)
   sends_true [] h = tt

@@ -2,6 +2,8 @@
 use Rattle.std.proofs.Common.{◌≡◌, ℕ, ◌+◌, Bool, true, false, List, [], ◌∷◌, ◌++◌, Option, Some, None, refl, ap, subst, cond, filter, find}
 use Rattle.std.specs.List.{AllByRecursion}
 use Rattle.std.proofs.lemmas.Bool.{false≢true, and_parts}
+use Rattle.std.proofs.lemmas.Option.{same_Some, none-some}
+use Rattle.small_facts.proofs.Every.{all_join}
 use Rattle.cluster_msgs.specs.Shape.{IsShape}
 use Rattle.cluster_msgs.specs.declared.messages.Down.{Down}
 use Rattle.cluster_msgs.specs.declared.messages.Up.{Up}
@@ -29,7 +31,6 @@ use Rattle.cluster_rules.specs.Enabled.{enabled}
 use Rattle.cluster_rules.specs.Runs.{LegalFrom, run_from, legal, reached}
 use Rattle.cluster_laws.specs.Truth.{IsTrueWorker, AreValued, IsTrueEvent, IsTrueUp, IsTrueNews, IsTrueClient, IsTrueWorld, IsTrueClientEvent, IsTrueSchedEvent}
 use Rattle.cluster_rules.proofs.WorkerLemmas.{at_one}
-use Rattle.cluster_rules.proofs.AllLemmas.{all_append}
 use Rattle.cluster_laws.proofs.TruthWorker.{DoneRuns, IsTrueStep, true_step, sends_true}
 use Rattle.cluster_laws.proofs.TruthSched.{true_sched_step, true_news, letters_true, true_client_step}
 
@@ -42,7 +43,7 @@ module _ (excused : ℕ → Type 0) (j : Job) (g : IsShape j.setting.shape) wher
     workers = h.workers;
     clients = h.clients;
     up = h.up;
-    to_client = λ c. all_append (IsTrueNews excused j) (w.to_client c) _ (h.to_client c) (letters_true excused j c (sched_step w.sched e).clients (true_news excused j w.sched e g t h.sched));
+    to_client = λ c. all_join (IsTrueNews excused j) (w.to_client c) _ (h.to_client c) (letters_true excused j c (sched_step w.sched e).clients (true_news excused j w.sched e g t h.sched));
     answers = h.answers;
   }
 
@@ -55,7 +56,7 @@ module _ (excused : ℕ → Type 0) (j : Job) (g : IsShape j.setting.shape) wher
         sched = h.sched;
         workers = at_one i (λ b x. IsTrueWorker j (cond b (worker_step (w.workers i) e).facts (w.workers x))) r.facts h.workers;
         clients = h.clients;
-        up = at_one i (λ b x. AllByRecursion (IsTrueUp j) (cond b (w.up i ++ sends (worker_step (w.workers i) e).out) (w.up x))) (all_append (IsTrueUp j) (w.up i) _ (h.up i) (sends_true j _ r.out)) h.up;
+        up = at_one i (λ b x. AllByRecursion (IsTrueUp j) (cond b (w.up i ++ sends (worker_step (w.workers i) e).out) (w.up x))) (all_join (IsTrueUp j) (w.up i) _ (h.up i) (sends_true j _ r.out)) h.up;
         to_client = h.to_client;
         answers = h.answers;
       }
@@ -99,11 +100,8 @@ module _ (excused : ℕ → Type 0) (j : Job) (g : IsShape j.setting.shape) wher
       none e = cc
   valued_found t (x ∷ qs) q e h = pick (t x) e (λ i. valued_found t qs q i h.1)
     where
-      same : Some x ≡ Some q → x ≡ q
-      same e = cc
-
       pick : (b : Bool) → cond b (Some x) (find t qs) ≡ Some q → (find t qs ≡ Some q → HasValued q) → HasValued q
-      pick true e r = subst (λ y. HasValued y) (same e) h.0
+      pick true e r = subst (λ y. HasValued y) (same_Some x q e) h.0
       pick false e r = r e
 
   valued_here : (m z : ℕ → Bool) → ((k : ℕ) → m k ≡ true → z k ≡ false) → (ks : List ℕ) → AllByRecursion (λ k. z k ≡ false) (filter m ks)
@@ -271,14 +269,11 @@ module _ (excused : ℕ → Type 0) (j : Job) (g : IsShape j.setting.shape) wher
   true_opening = record {
     sched = record { setting = refl; bad = λ k e. absurd (false≢true e) };
     workers = λ i. record { shape = refl; at = λ k. record { valued = λ e. absurd (false≢true e); fed = λ e. absurd (false≢true e) } };
-    clients = λ c. record { got = λ k e. absurd (false≢true e); failed = λ k b e. absurd (never b e) };
+    clients = λ c. record { got = λ k e. absurd (false≢true e); failed = λ k b e. absurd (none-some b e) };
     up = λ i. tt;
     to_client = λ c. tt;
     answers = tt;
   }
-    where
-      never : (b : ℕ) → None ≡ Some b → ⊥
-      never b e = cc
 
   true_from : (w : World) (es : List Event) → LegalFrom j w es → IsTrueWorld excused j w → IsTrueWorld excused j (run_from j w es)
   true_from w [] l h = h

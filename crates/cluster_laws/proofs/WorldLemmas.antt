@@ -3,6 +3,8 @@ use Rattle.std.proofs.Common.{◌≡◌, ℕ, zero, suc, ◌+◌, ◌<◌, ◌�
 use Rattle.std.specs.Prelude.{◌==◌, slice_get}
 use Rattle.std.specs.List.{flat_map, range_with_len, AllByRecursion}
 use Rattle.std.proofs.lemmas.Bool.{true≢false, false≢true, leb-true, and_parts, eqb-true, eqb-false}
+use Rattle.std.proofs.lemmas.Option.{same_Some}
+use Rattle.small_facts.proofs.Every.{all_of_map}
 use Rattle.cluster_msgs.specs.Shape.{key_count}
 use Rattle.cluster_msgs.specs.declared.messages.Down.{Down}
 use Rattle.cluster_msgs.specs.declared.messages.Up.{Up}
@@ -193,11 +195,8 @@ filter_get {A} t [] n x h = absurd (no n h)
     no (suc n) h = cc
 filter_get {A} t (y ∷ xs) n x h = pick (t y) refl (λ m e. filter_get t xs m x e) h
   where
-    same : Some y ≡ Some x → y ≡ x
-    same h = cc
-
     here : t y ≡ true → (m : ℕ) → ((m : ℕ) → slice_get (filter t xs) m ≡ Some x → t x ≡ true) → slice_get (y ∷ filter t xs) m ≡ Some x → t x ≡ true
-    here e zero r h = subst (λ z. t z ≡ true) (same h) e
+    here e zero r h = subst (λ z. t z ≡ true) (same_Some y x h) e
     here e (suc m) r h = r m h
 
     pick : (b : Bool) → t y ≡ b → ((m : ℕ) → slice_get (filter t xs) m ≡ Some x → t x ≡ true) → slice_get (cond b (y ∷ filter t xs) (filter t xs)) n ≡ Some x → t x ≡ true
@@ -212,10 +211,6 @@ all_left P (x ∷ xs) ys h = (h.0, all_left P xs ys h.1)
 pub all_right : {A : Type 0} (P : A → Type 0) (xs ys : List A) → AllByRecursion P (xs ++ ys) → AllByRecursion P ys
 all_right P [] ys h = h
 all_right P (x ∷ xs) ys h = all_right P xs ys h.1
-
-pub all_map : {A B : Type 0} (P : B → Type 0) (f : A → B) (xs : List A) → AllByRecursion P (map f xs) → AllByRecursion (λ x. P (f x)) xs
-all_map P f [] h = tt
-all_map P f (x ∷ xs) h = (h.0, all_map P f xs h.1)
 
 pub all_filter : {A : Type 0} (P : A → Type 0) (p : A → Bool) (xs : List A) → AllByRecursion P (filter p xs) → AllByRecursion (λ x. p x ≡ true → P x) xs
 all_filter P p [] h = tt
@@ -272,12 +267,12 @@ client_in w P c h g = let r = and_parts _ _ g in at_range P 1 w.sched.setting.cl
     bound l = omega arith
 
 asking_worker : (w : World) (P : Asker → Type 0) (i : ℕ) → AllByRecursion P (quiet_askers w) → 1 ≤ i → i ≤ w.sched.last_worker → is_connected w i ≡ true → P (Worker i)
-asking_worker w P i h l u c = connected_in w (λ x. P (Worker x)) i (all_map P (λ x. Worker x) (connected_workers w) (all_left P (map (λ x. Worker x) (connected_workers w)) (map (λ x. Client x) (all_clients w)) h)) l u c
+asking_worker w P i h l u c = connected_in w (λ x. P (Worker x)) i (all_of_map P (λ x. Worker x) (connected_workers w) (all_left P (map (λ x. Worker x) (connected_workers w)) (map (λ x. Client x) (all_clients w)) h)) l u c
 
 asking_client : (w : World) (P : Asker → Type 0) (c : ℕ) → AllByRecursion P (quiet_askers w) → is_client w c ≡ true → P (Client c)
-asking_client w P c h g = client_in w (λ x. P (Client x)) c (all_map P (λ x. Client x) (all_clients w) (all_right P (map (λ x. Worker x) (connected_workers w)) (map (λ x. Client x) (all_clients w)) h)) g
+asking_client w P c h g = client_in w (λ x. P (Client x)) c (all_of_map P (λ x. Client x) (all_clients w) (all_right P (map (λ x. Worker x) (connected_workers w)) (map (λ x. Client x) (all_clients w)) h)) g
 
-key_low : (k : ℕ) → 0 ≤ k
+pub key_low : (k : ℕ) → 0 ≤ k
 key_low k = omega arith
 
 key_high : (w : World) (k : ℕ) → k < key_count (shape_of w) → k < 0 + key_count (shape_of w)
@@ -285,23 +280,23 @@ key_high w k h = omega arith
 
 nothing_of : (w : World) → AllByRecursion (λ es. AllByRecursion (Idle w) es) (progress_kinds w) → NothingMoves w
 nothing_of w kinds = record {
-  see_loss = λ i l u. worker_in w (λ i. Idle w (SeeLoss i)) i (all_map (Idle w) (λ i. SeeLoss i) _ kinds.0) l u;
-  down = λ i l u c. connected_in w (λ i. Idle w (DeliverDown i)) i (all_map (Idle w) (λ i. DeliverDown i) _ kinds.1.0) l u c;
-  up = λ i l u c. connected_in w (λ i. Idle w (DeliverUp i)) i (all_map (Idle w) (λ i. DeliverUp i) _ kinds.1.1.0) l u c;
-  to_client = λ c g. client_in w (λ c. Idle w (DeliverToClient c)) c (all_map (Idle w) (λ c. DeliverToClient c) _ kinds.1.1.1.0) g;
-  from_client = λ c g. client_in w (λ c. Idle w (DeliverFromClient c)) c (all_map (Idle w) (λ c. DeliverFromClient c) _ kinds.1.1.1.1.0) g;
-  start = λ i l u c. connected_in w (λ i. Idle w (Start i)) i (all_map (Idle w) (λ i. Start i) _ kinds.1.1.1.1.1.0) l u c;
-  finish = λ i k l u c m. at_range (λ k. Idle w (Finish i k)) 0 (key_count (shape_of w)) k (all_map (Idle w) (λ k. Finish i k) _
+  see_loss = λ i l u. worker_in w (λ i. Idle w (SeeLoss i)) i (all_of_map (Idle w) (λ i. SeeLoss i) _ kinds.0) l u;
+  down = λ i l u c. connected_in w (λ i. Idle w (DeliverDown i)) i (all_of_map (Idle w) (λ i. DeliverDown i) _ kinds.1.0) l u c;
+  up = λ i l u c. connected_in w (λ i. Idle w (DeliverUp i)) i (all_of_map (Idle w) (λ i. DeliverUp i) _ kinds.1.1.0) l u c;
+  to_client = λ c g. client_in w (λ c. Idle w (DeliverToClient c)) c (all_of_map (Idle w) (λ c. DeliverToClient c) _ kinds.1.1.1.0) g;
+  from_client = λ c g. client_in w (λ c. Idle w (DeliverFromClient c)) c (all_of_map (Idle w) (λ c. DeliverFromClient c) _ kinds.1.1.1.1.0) g;
+  start = λ i l u c. connected_in w (λ i. Idle w (Start i)) i (all_of_map (Idle w) (λ i. Start i) _ kinds.1.1.1.1.1.0) l u c;
+  finish = λ i k l u c m. at_range (λ k. Idle w (Finish i k)) 0 (key_count (shape_of w)) k (all_of_map (Idle w) (λ k. Finish i k) _
       (connected_in w (λ i. AllByRecursion (Idle w) (map (λ k. Finish i k) (below (key_count (shape_of w))))) i (all_flat_map (Idle w) (λ i. map (λ k. Finish i k) (below (key_count (shape_of w)))) _ kinds.1.1.1.1.1.1.0) l u c)) (key_low k) (key_high w k m);
-  send = λ i p l u c m v. worker_in w (λ p. Idle w (SendGather (Worker i) p)) p (all_map (Idle w) (λ p. SendGather (Worker i) p) _
+  send = λ i p l u c m v. worker_in w (λ p. Idle w (SendGather (Worker i) p)) p (all_of_map (Idle w) (λ p. SendGather (Worker i) p) _
       (asking_worker w (λ a. AllByRecursion (Idle w) (map (λ p. SendGather a p) (all_workers w))) i (all_flat_map (Idle w) (λ a. map (λ p. SendGather a p) (all_workers w)) _ kinds.1.1.1.1.1.1.1.0) l u c)) m v;
-  client_sends = λ c p g m v. worker_in w (λ p. Idle w (SendGather (Client c) p)) p (all_map (Idle w) (λ p. SendGather (Client c) p) _
+  client_sends = λ c p g m v. worker_in w (λ p. Idle w (SendGather (Client c) p)) p (all_of_map (Idle w) (λ p. SendGather (Client c) p) _
       (asking_client w (λ a. AllByRecursion (Idle w) (map (λ p. SendGather a p) (all_workers w))) c (all_flat_map (Idle w) (λ a. map (λ p. SendGather a p) (all_workers w)) _ kinds.1.1.1.1.1.1.1.0) g)) m v;
-  serve = all_map (Idle w) (λ (q : Parcel). ServeGather q.peer q.asker q.ask) w.requests kinds.1.1.1.1.1.1.1.1.0;
-  arrive = all_filter (λ (q : Parcel). Idle w (ArriveGather q.asker q.peer q.ask)) (λ (q : Parcel). is_quiet_asker w q.asker) w.answers (all_map (Idle w) (λ (q : Parcel). ArriveGather q.asker q.peer q.ask) _ kinds.1.1.1.1.1.1.1.1.1.0);
-  fail = λ i p l u c m v d. worker_in w (λ p. not (w.alive p) ≡ true → Idle w (FailGather (Worker i) p)) p (all_filter (λ p. Idle w (FailGather (Worker i) p)) (λ p. not (w.alive p)) (all_workers w) (all_map (Idle w) (λ p. FailGather (Worker i) p) _
+  serve = all_of_map (Idle w) (λ (q : Parcel). ServeGather q.peer q.asker q.ask) w.requests kinds.1.1.1.1.1.1.1.1.0;
+  arrive = all_filter (λ (q : Parcel). Idle w (ArriveGather q.asker q.peer q.ask)) (λ (q : Parcel). is_quiet_asker w q.asker) w.answers (all_of_map (Idle w) (λ (q : Parcel). ArriveGather q.asker q.peer q.ask) _ kinds.1.1.1.1.1.1.1.1.1.0);
+  fail = λ i p l u c m v d. worker_in w (λ p. not (w.alive p) ≡ true → Idle w (FailGather (Worker i) p)) p (all_filter (λ p. Idle w (FailGather (Worker i) p)) (λ p. not (w.alive p)) (all_workers w) (all_of_map (Idle w) (λ p. FailGather (Worker i) p) _
       (asking_worker w (λ a. AllByRecursion (Idle w) (map (λ p. FailGather a p) (filter (λ p. not (w.alive p)) (all_workers w)))) i (all_flat_map (Idle w) (λ a. map (λ p. FailGather a p) (filter (λ p. not (w.alive p)) (all_workers w))) _ kinds.1.1.1.1.1.1.1.1.1.1.0) l u c))) m v (ap not d);
-  client_fails = λ c p g m v d. worker_in w (λ p. not (w.alive p) ≡ true → Idle w (FailGather (Client c) p)) p (all_filter (λ p. Idle w (FailGather (Client c) p)) (λ p. not (w.alive p)) (all_workers w) (all_map (Idle w) (λ p. FailGather (Client c) p) _
+  client_fails = λ c p g m v d. worker_in w (λ p. not (w.alive p) ≡ true → Idle w (FailGather (Client c) p)) p (all_filter (λ p. Idle w (FailGather (Client c) p)) (λ p. not (w.alive p)) (all_workers w) (all_of_map (Idle w) (λ p. FailGather (Client c) p) _
       (asking_client w (λ a. AllByRecursion (Idle w) (map (λ p. FailGather a p) (filter (λ p. not (w.alive p)) (all_workers w)))) c (all_flat_map (Idle w) (λ a. map (λ p. FailGather a p) (filter (λ p. not (w.alive p)) (all_workers w))) _ kinds.1.1.1.1.1.1.1.1.1.1.0) g))) m v (ap not d);
 }
 

@@ -1,6 +1,7 @@
 -- The equation of `dag`, its induction, and what follows where two graphs agree.
 use Rattle.std.proofs.Common.{◌≡◌, ℕ, zero, suc, ◌<◌, List, [], ◌∷◌, map, refl, ap, sym, ◌∙◌, arith}
 use Rattle.std.specs.List.{AllByRecursion}
+use Rattle.std.proofs.lemmas.Simd.{map-map}
 use Rattle.cluster_msgs.specs.Dags.{IsEarlier, dag_within, dag}
 
 -- two functions that agree on the elements of a list map it alike
@@ -32,10 +33,6 @@ within_induction deps Q e h (suc f) k p = h k (all-weaker _ _ (deps k) (λ d b. 
 -- what each node inherits from its dependencies, every node has
 pub dag-induction : (deps : ℕ → List ℕ) (Q : ℕ → Type 0) → IsEarlier deps → ((k : ℕ) → AllByRecursion Q (deps k) → Q k) → (k : ℕ) → Q k
 dag-induction deps Q e h k = within_induction deps Q e h (suc k) k (omega arith)
-
-map-map : {A B C : Type 0} (f : B → C) (g : A → B) (xs : List A) → map f (map g xs) ≡ map (λ x. f (g x)) xs
-map-map f g [] = refl
-map-map f g (x ∷ xs) = ap (λ ys. f (g x) ∷ ys) (map-map f g xs)
 
 -- A graph that holds another one's kept nodes under new numbers gives them the same values.
 pub record Embeds {A : Type 0} (deps deps' : ℕ → List ℕ) (step step' : ℕ → List A → A) (Kept : ℕ → Type 0) (r : ℕ → ℕ) : Type 0 where

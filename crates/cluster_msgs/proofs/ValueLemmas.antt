@@ -3,37 +3,14 @@ use Rattle.std.proofs.Common.{◌≡◌, ℕ, zero, suc, ◌<◌, ◌≤◌, Boo
 use Rattle.std.specs.Prelude.{◌==◌, Option, Some, None, is_some, is_none, option_and_then, slice_index_or, Contains}
 use Rattle.std.specs.List.{AllByRecursion, list_any, list_all}
 use Rattle.std.proofs.lemmas.Bool.Decides.{Decides-eqb}
+use Rattle.std.proofs.lemmas.Bool.{and_from, or_left, or_right, or_cases}
+use Rattle.small_facts.proofs.Options.{none_from_is_none}
+use Rattle.small_facts.proofs.Truth.{and_first, and_second}
 use Rattle.cluster_msgs.specs.Dags.{IsEarlier}
 use Rattle.cluster_msgs.specs.Values.{with_first, all_of, val_step, val, is_true, cone_step, cone, faulty}
 use Rattle.cluster_msgs.proofs.Dags.{dag-step, dag-induction, all-weaker, pair-all}
 
 -- ## Tests
-
-and-first : (a b : Bool) → (a && b) ≡ true → a ≡ true
-and-first true b h = refl
-and-first false b h = h
-
-and-second : (a b : Bool) → (a && b) ≡ true → b ≡ true
-and-second true b h = h
-and-second false b h = cc
-
-and-both : (a b : Bool) → a ≡ true → b ≡ true → (a && b) ≡ true
-and-both a b h k = ap (λ x. x && b) h ∙ k
-
-or-first : (a b : Bool) → a ≡ true → (a || b) ≡ true
-or-first a b h = ap (λ x. x || b) h
-
-or-second : (a b : Bool) → b ≡ true → (a || b) ≡ true
-or-second true b h = refl
-or-second false b h = h
-
-or-cases : (a b : Bool) → (a || b) ≡ true → (a ≡ true) ⊎ (b ≡ true)
-or-cases true b h = inl refl
-or-cases false b h = inr h
-
-none-is : {A : Type 0} (o : Option A) → is_none o ≡ true → o ≡ None
-none-is None h = refl
-none-is (Some x) h = cc
 
 -- ## Lists
 
@@ -44,20 +21,20 @@ any-map f (x ∷ xs) = ap (λ b. f x || b) (any-map f xs)
 -- where each element that passes has a consequence, a passing list has it
 any-gives : {A : Type 0} (f : A → Bool) (P : Type 0) (xs : List A) → AllByRecursion (λ x. f x ≡ true → P) xs → list_any f xs ≡ true → P
 any-gives f P [] h t = let no : ⊥ = cc in absurd no
-any-gives f P (x ∷ xs) h t = elim (or-cases (f x) (list_any f xs) t) [ inl a ↦ h.0 a | inr b ↦ any-gives f P xs h.1 b ]
+any-gives f P (x ∷ xs) h t = elim (or_cases (f x) (list_any f xs) t) [ inl a ↦ h.0 a | inr b ↦ any-gives f P xs h.1 b ]
 
 any-more : {A : Type 0} (f g : A → Bool) (xs : List A) → AllByRecursion (λ x. f x ≡ true → g x ≡ true) xs → list_any f xs ≡ true → list_any g xs ≡ true
 any-more f g [] h t = t
 any-more f g (x ∷ xs) h t =
-    elim (or-cases (f x) (list_any f xs) t) [
-      | inl a ↦ or-first (g x) (list_any g xs) (h.0 a)
-      | inr b ↦ or-second (g x) (list_any g xs) (any-more f g xs h.1 b)
+    elim (or_cases (f x) (list_any f xs) t) [
+      | inl a ↦ or_left (g x) (list_any g xs) (h.0 a)
+      | inr b ↦ or_right (g x) (list_any g xs) (any-more f g xs h.1 b)
     ]
 
 any-at : {A : Type 0} (f : A → Bool) (xs : List A) (x : A) (i : ℕ) → i < length xs → slice_index_or xs i x ≡ x → f x ≡ true → list_any f xs ≡ true
 any-at f [] x i lt e h = absurd (omega arith)
-any-at f (y ∷ ys) x zero lt e h = or-first (f y) (list_any f ys) (ap f e ∙ h)
-any-at f (y ∷ ys) x (suc i) lt e h = or-second (f y) (list_any f ys) (any-at f ys x i (omega arith) e h)
+any-at f (y ∷ ys) x zero lt e h = or_left (f y) (list_any f ys) (ap f e ∙ h)
+any-at f (y ∷ ys) x (suc i) lt e h = or_right (f y) (list_any f ys) (any-at f ys x i (omega arith) e h)
 
 all-at : {A : Type 0} (P : A → Type 0) (xs : List A) (x : A) (i : ℕ) → i < length xs → slice_index_or xs i x ≡ x → AllByRecursion P xs → P x
 all-at P [] x i lt e h = absurd (omega arith)
@@ -88,7 +65,7 @@ first-there (Some x) os h r = (x ∷ r.0, ap (with_first (Some x)) r.1)
 
 all-there : {X A : Type 0} (f : X → Option A) (xs : List X) → list_all (λ x. is_some (f x)) xs ≡ true → (vs : List A) × (all_of (map f xs) ≡ Some vs)
 all-there f [] h = ([], refl)
-all-there f (x ∷ xs) h = first-there (f x) (all_of (map f xs)) (and-first _ _ h) (all-there f xs (and-second _ _ h))
+all-there f (x ∷ xs) h = first-there (f x) (all_of (map f xs)) (and_first _ _ h) (all-there f xs (and_second _ _ h))
 
 first-some : {A : Type 0} (o : Option A) (os : Option (List A)) (vs : List A) → with_first o os ≡ Some vs → (is_some o ≡ true) × ((ws : List A) × (os ≡ Some ws))
 first-some None os vs h = let no : ⊥ = cc in absurd no
@@ -99,7 +76,7 @@ all-some : {X A : Type 0} (f : X → Option A) (xs : List X) (vs : List A) → a
 all-some f [] vs h = refl
 all-some f (x ∷ xs) vs h =
     let r = first-some (f x) (all_of (map f xs)) vs h in
-    and-both _ _ r.0 (all-some f xs r.1.0 r.1.1)
+    and_from _ _ r.0 (all-some f xs r.1.0 r.1.1)
 
 -- ## Values
 
@@ -114,15 +91,15 @@ pub val-values : {V : Type 0} (deps : ℕ → List ℕ) (op : ℕ → List V →
 val-values deps op e k vs h = val-step deps op e k ∙ ap (option_and_then (op k)) h
 
 pub faulty-values : {V : Type 0} (deps : ℕ → List ℕ) (op : ℕ → List V → Option V) → IsEarlier deps → (k : ℕ) (vs : List V) → all_of (map (val deps op) (deps k)) ≡ Some vs → op k vs ≡ None → faulty deps (val deps op) k ≡ true
-faulty-values deps op e k vs h n = and-both _ _ (all-some (val deps op) (deps k) vs h) (ap is_none (val-values deps op e k vs h ∙ n))
+faulty-values deps op e k vs h n = and_from _ _ (all-some (val deps op) (deps k) vs h) (ap is_none (val-values deps op e k vs h ∙ n))
 
 pub faulty-none : {V : Type 0} (deps : ℕ → List ℕ) (value : ℕ → Option V) (k : ℕ) → faulty deps value k ≡ true → value k ≡ None
-faulty-none deps value k f = none-is (value k) (and-second _ _ f)
+faulty-none deps value k f = none_from_is_none (value k) (and_second _ _ f)
 
 pub faulty-operation : {V : Type 0} (deps : ℕ → List ℕ) (op : ℕ → List V → Option V) → IsEarlier deps → (k : ℕ) → faulty deps (val deps op) k ≡ true
     → (vs : List V) × (all_of (map (val deps op) (deps k)) ≡ Some vs) × (op k vs ≡ None)
 faulty-operation deps op e k f =
-    let r = all-there (val deps op) (deps k) (and-first _ _ f) in
+    let r = all-there (val deps op) (deps k) (and_first _ _ f) in
     (r.0, r.1, sym (val-values deps op e k r.0 r.1) ∙ faulty-none deps (val deps op) k f)
 
 -- ## Cones
@@ -132,14 +109,14 @@ unfolding cone
 cone-step deps e k j = dag-step deps (cone_step j) false e k ∙ ap (λ b. (k == j) || b) (any-map (λ d. cone deps d j) (deps k))
 
 pub cone-itself : (deps : ℕ → List ℕ) → IsEarlier deps → (k : ℕ) → cone deps k k ≡ true
-cone-itself deps e k = cone-step deps e k k ∙ or-first (k == k) _ ((Decides-eqb k k).1 refl)
+cone-itself deps e k = cone-step deps e k k ∙ or_left (k == k) _ ((Decides-eqb k k).1 refl)
 
 pub cone-above : (deps : ℕ → List ℕ) → IsEarlier deps → (k j : ℕ) → list_any (λ d. cone deps d j) (deps k) ≡ true → cone deps k j ≡ true
-cone-above deps e k j h = cone-step deps e k j ∙ or-second (k == j) _ h
+cone-above deps e k j h = cone-step deps e k j ∙ or_right (k == j) _ h
 
 -- a key of a cone is its key, or in the cone of a dependency
 pub cone-cases : (deps : ℕ → List ℕ) → IsEarlier deps → (k j : ℕ) → cone deps k j ≡ true → (k ≡ j) ⊎ (list_any (λ d. cone deps d j) (deps k) ≡ true)
-cone-cases deps e k j h = elim (or-cases (k == j) _ (sym (cone-step deps e k j) ∙ h)) [ inl a ↦ inl ((Decides-eqb k j).0 a) | inr b ↦ inr b ]
+cone-cases deps e k j h = elim (or_cases (k == j) _ (sym (cone-step deps e k j) ∙ h)) [ inl a ↦ inl ((Decides-eqb k j).0 a) | inr b ↦ inr b ]
 
 -- what a key has by itself, and takes from each dependency in whose cone j is, all keys have in whose cone j is
 cone-induction : (deps : ℕ → List ℕ) → IsEarlier deps → (j : ℕ) (P : ℕ → Type 0) → P j
@@ -187,10 +164,10 @@ one-missing : {V : Type 0} (deps : ℕ → List ℕ) (op : ℕ → List V → Op
     → (val deps op x ≡ None → Fault deps op x) → (list_all (λ d. is_some (val deps op d)) xs ≡ false → AnyFault deps op xs)
     → (is_some (val deps op x) && list_all (λ d. is_some (val deps op d)) xs) ≡ false → AnyFault deps op (x ∷ xs)
 unfolding AnyFault Fault
-one-missing deps op x xs None e here later h = let r = here e in (r.0, or-first (cone deps x r.0) _ r.1, r.2)
+one-missing deps op x xs None e here later h = let r = here e in (r.0, or_left (cone deps x r.0) _ r.1, r.2)
 one-missing deps op x xs (Some v) e here later h =
     let r = later (and-rest (is_some (val deps op x)) _ (ap is_some e) h) in
-    (r.0, or-second (cone deps x r.0) _ r.1, r.2)
+    (r.0, or_right (cone deps x r.0) _ r.1, r.2)
 
 missing-fault : {V : Type 0} (deps : ℕ → List ℕ) (op : ℕ → List V → Option V) (xs : List ℕ) → AllByRecursion (λ x. val deps op x ≡ None → Fault deps op x) xs
     → list_all (λ d. is_some (val deps op d)) xs ≡ false → AnyFault deps op xs
@@ -200,7 +177,7 @@ missing-fault deps op (x ∷ xs) q h = one-missing deps op x xs (val deps op x) 
 fault-at : {V : Type 0} (deps : ℕ → List ℕ) (op : ℕ → List V → Option V) → IsEarlier deps → (k : ℕ) (b : Bool) → list_all (λ d. is_some (val deps op d)) (deps k) ≡ b
     → AllByRecursion (λ x. val deps op x ≡ None → Fault deps op x) (deps k) → val deps op k ≡ None → Fault deps op k
 unfolding AnyFault Fault
-fault-at deps op e k true h ih n = (k, cone-itself deps e k, and-both _ _ h (ap is_none n))
+fault-at deps op e k true h ih n = (k, cone-itself deps e k, and_from _ _ h (ap is_none n))
 fault-at deps op e k false h ih n = let r = missing-fault deps op (deps k) ih h in (r.0, cone-above deps e k r.0 r.1, r.2)
 
 pub bad-fault : {V : Type 0} (deps : ℕ → List ℕ) (op : ℕ → List V → Option V) → IsEarlier deps → (k : ℕ) → val deps op k ≡ None

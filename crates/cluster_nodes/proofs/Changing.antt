@@ -7,6 +7,9 @@ use Rattle.std.specs.declared.vec.Vec.{Vec}
 use Rattle.std.specs.declared.alloc.Global.{Global}
 use Rattle.std.proofs.lemmas.Bool.{eqb-true}
 use Rattle.std.proofs.lemmas.Bool.Decides.{nat_tests}
+use Rattle.std.proofs.Math.Dec.{eqb-suc-zero, eqb-zero-suc}
+use Rattle.std.proofs.lemmas.Option.{none-some, same_Some}
+use Rattle.small_facts.proofs.Lists.{get_or_push}
 use Rattle.cluster_msgs.specs.Shape.{Shape}
 use Rattle.cluster_msgs.specs.declared.messages.Down.{Down}
 use Rattle.cluster_msgs.specs.declared.messages.Up.{Up}
@@ -30,16 +33,10 @@ use Rattle.cluster_nodes.specs.declared.nodes.Nodes.{Nodes}
 use Rattle.cluster_nodes.specs.Nodes.{as_down, as_up, as_to_client, as_from_client, block_at, blocks_at, worker_of, client_of, if_alive, workers_of, clients_of, world_of, blocks_in, cluster_of}
 use Rattle.cluster_nodes.specs.Turns.{nothing, in_world, worker_turned, client_turned, down_delivered, client_told, joined, lost}
 
-none_some : {A : Type 0} (m : A) → None ≡ Some m → ⊥
-none_some m e = cc
-
-some_is : {A : Type 0} (a b : A) → Some a ≡ Some b → a ≡ b
-some_is a b e = cc
-
 -- the first of these messages came, or there was none
 pub delivered : {B : Type 0} (c : Cluster B) (i : ℕ) (ds : List Down) (m : Down) → Some m ≡ front ds → worker_turned (in_world c (record c.world { down = put c.world.down i (drop 1 ds) })) i (Told m) nothing ≡ down_delivered c i ds
-delivered c i [] m e = absurd (none_some m (sym e))
-delivered c i (x ∷ xs) m e = ap (λ y. worker_turned (in_world c (record c.world { down = put c.world.down i xs })) i (Told y) nothing) (some_is m x e)
+delivered c i [] m e = absurd (none-some m (sym e))
+delivered c i (x ∷ xs) m e = ap (λ y. worker_turned (in_world c (record c.world { down = put c.world.down i xs })) i (Told y) nothing) (same_Some m x e)
 
 put_own : {A : Type 0} (f : ℕ → A) (i : ℕ) (x : A) → f i ≡ x → put f i x ≡ f
 put_own f i x s = λ t k. pick k (k == i) refl t
@@ -50,15 +47,15 @@ put_own f i x s = λ t k. pick k (k == i) refl t
 
 pub not_delivered : {B : Type 0} (c : Cluster B) (i : ℕ) (ds : List Down) → c.world.down i ≡ ds → None ≡ front ds → in_world c (record c.world { down = put c.world.down i (drop 1 ds) }) ≡ down_delivered c i ds
 not_delivered c i [] s e = ap (λ (d : ℕ → List Down). in_world c (record c.world { down = d })) (put_own c.world.down i [] s)
-not_delivered c i (x ∷ xs) s e = absurd (none_some x e)
+not_delivered c i (x ∷ xs) s e = absurd (none-some x e)
 
 pub told : {B : Type 0} (c : Cluster B) (i : ℕ) (ds : List ToClient) (m : ToClient) → Some m ≡ front ds → client_turned (in_world c (record c.world { to_client = put c.world.to_client i (drop 1 ds) })) i (FromScheduler m) nothing ≡ client_told c i ds
-told c i [] m e = absurd (none_some m (sym e))
-told c i (x ∷ xs) m e = ap (λ y. client_turned (in_world c (record c.world { to_client = put c.world.to_client i xs })) i (FromScheduler y) nothing) (some_is m x e)
+told c i [] m e = absurd (none-some m (sym e))
+told c i (x ∷ xs) m e = ap (λ y. client_turned (in_world c (record c.world { to_client = put c.world.to_client i xs })) i (FromScheduler y) nothing) (same_Some m x e)
 
 pub not_told : {B : Type 0} (c : Cluster B) (i : ℕ) (ds : List ToClient) → c.world.to_client i ≡ ds → None ≡ front ds → in_world c (record c.world { to_client = put c.world.to_client i (drop 1 ds) }) ≡ client_told c i ds
 not_told c i [] s e = ap (λ (d : ℕ → List ToClient). in_world c (record c.world { to_client = d })) (put_own c.world.to_client i [] s)
-not_told c i (x ∷ xs) s e = absurd (none_some x e)
+not_told c i (x ∷ xs) s e = absurd (none-some x e)
 
 -- a pair of places, one after the other
 pub pair_put : {A : Type 0} (old : ℕ → ℕ → A) (i k : ℕ) (v : A) → put_pair old i k v ≡ put old i (put (old i) k v)
@@ -101,27 +98,14 @@ workers_died alive new of i e = λ t k. at_place k t
     at_place : (k : ℕ) → if_alive (new k) (of k) ≡ cond (k == i) (record (if_alive (alive i) (of i)) { mem = λ k. false }) (if_alive (alive k) (of k))
     at_place k = ap (λ (f : ℕ → Bool). if_alive (f k) (of k)) e ∙ pick k (k == i) refl
 
--- one more member
-suc_zero : (k : ℕ) → (suc k == 0) ≡ false
-suc_zero k = grind (arith, nat_tests)
-
-zero_suc : (k : ℕ) → (0 == suc k) ≡ false
-zero_suc k = grind (arith, nat_tests)
-
 suc_suc : (k n : ℕ) → (k == n) ≡ (suc k == suc n)
 suc_suc k n = grind (arith, nat_tests)
 
 get_more : {A : Type 0} (xs : List A) (v : A) (k : ℕ) → slice_get (xs ++ v ∷ []) k ≡ cond (k == length xs) (Some v) (slice_get xs k)
 get_more [] v zero = refl
-get_more [] v (suc k) = sym (ap (λ b. cond b (Some v) None) (suc_zero k))
-get_more (x ∷ xs) v zero = sym (ap (λ b. cond b (Some v) (Some x)) (zero_suc (length xs)))
+get_more [] v (suc k) = sym (ap (λ b. cond b (Some v) None) (eqb-suc-zero k))
+get_more (x ∷ xs) v zero = sym (ap (λ b. cond b (Some v) (Some x)) (eqb-zero-suc (length xs)))
 get_more (x ∷ xs) v (suc k) = get_more xs v k ∙ ap (λ b. cond b (Some v) (slice_get xs k)) (suc_suc k (length xs))
-
-pub read_more : {A : Type 0} (xs : List A) (v d : A) (k : ℕ) → get_or (xs ++ v ∷ []) k d ≡ cond (k == length xs) v (get_or xs k d)
-read_more [] v d zero = refl
-read_more [] v d (suc k) = sym (ap (λ b. cond b v d) (suc_zero k))
-read_more (x ∷ xs) v d zero = sym (ap (λ b. cond b v x) (zero_suc (length xs)))
-read_more (x ∷ xs) v d (suc k) = read_more xs v d k ∙ ap (λ b. cond b v (get_or xs k d)) (suc_suc k (length xs))
 
 row_more : {A : Type 0} (d : A) (rows : List (List A)) (new : List A) → ((k : ℕ) → get_or new k d ≡ d) → (w k : ℕ) → get_or (get_or (rows ++ new ∷ []) w []) k d ≡ get_or (get_or rows w []) k d
 row_more d [] new e zero k = e k
@@ -142,11 +126,11 @@ workers_joined g alive xs v l = λ t k. at_place k t
 
     at_place : (k : ℕ) → if_alive (read (alive ++ true ∷ []) false k) (worker_of g k (slice_get (xs ++ v ∷ []) k)) ≡ cond (k == length xs) (facts v) (if_alive (read alive false k) (worker_of g k (slice_get xs k)))
     at_place k = ap (λ o. if_alive (read (alive ++ true ∷ []) false k) (worker_of g k o)) (get_more xs v k)
-        ∙ ap (λ b. if_alive b (worker_of g k (cond (k == length xs) (Some v) (slice_get xs k)))) (read_more alive true false k ∙ ap (λ n. cond (k == n) true (read alive false k)) l)
+        ∙ ap (λ b. if_alive b (worker_of g k (cond (k == length xs) (Some v) (slice_get xs k)))) (get_or_push alive true false k ∙ ap (λ n. cond (k == n) true (read alive false k)) l)
         ∙ pick k (k == length xs)
 
 pub alive_joined : (alive : List Bool) (n : ℕ) → length alive ≡ n → read (alive ++ true ∷ []) false ≡ put (read alive false) n true
-alive_joined alive n l = λ t k. (read_more alive true false k ∙ ap (λ m. cond (k == m) true (read alive false k)) l) t
+alive_joined alive n l = λ t k. (get_or_push alive true false k ∙ ap (λ m. cond (k == m) true (read alive false k)) l) t
 
 module _ {B : Type 0} (f : Facts) (old : Nodes B) where
   -- other messages on the links

@@ -2,11 +2,12 @@
 use Rattle.std.proofs.Common.{◌≡◌, ◌∙◌, ℕ, ◌+◌, ◌<◌, ◌≤◌, List, Result, Err, ap, arith, length, get_or, set}
 use Rattle.std.proofs.lemmas.Result.{err_from_is_err_and}
 use Rattle.std.specs.Result.{IsErrAnd}
+use Rattle.small_facts.proofs.Every.{all_weaker}
 use Rattle.gather_client.specs.CoreState.{CoreState}
 use Rattle.worker_core.specs.Core.{Core}
 use Rattle.cluster_nodes.specs.declared.nodes.Nodes.{Nodes}
 use Rattle.cluster_nodes.specs.Kept.{WorkersTookFew, ClientsTookFew, TookFew}
-use Rattle.cluster_nodes.proofs.Places.{all_set, all_at, all_weaker}
+use Rattle.cluster_nodes.proofs.Places.{all_set, all_at}
 
 pub workers_more : (n : ℕ) (cores : List Core) → WorkersTookFew n cores → WorkersTookFew (n + 1) cores
 workers_more n cores h = all_weaker (λ (c : Core). c.events ≤ n) (λ (c : Core). c.events ≤ n + 1) (λ c l. omega (arith, l)) cores h

@@ -5,6 +5,8 @@ use Rattle.std.specs.List.{filter_map, zip}
 use Rattle.std.specs.Option.{option_map}
 use Rattle.std.specs.declared.sync.Arc.{Arc}
 use Rattle.std.specs.declared.alloc.Global.{Global}
+use Rattle.std.proofs.lemmas.Option.{none-some}
+use Rattle.small_facts.proofs.Every.{all_of_filter}
 use Rattle.cluster_msgs.specs.Jobs.{blocks_of}
 use Rattle.cluster_msgs.specs.declared.events.Asker.{Asker}
 use Rattle.cluster_msgs.specs.declared.events.Asker.TheVariants.{Worker, Client}
@@ -17,7 +19,7 @@ use Rattle.cluster_laws.specs.Moves.{block_among, delivery_of, with_delivery, wi
 use Rattle.cluster_nodes.specs.declared.nodes.Nodes.{Nodes}
 use Rattle.cluster_nodes.specs.Nodes.{block_at, delivery_at, world_of, blocks_in, cluster_of}
 use Rattle.cluster_nodes.specs.Turns.{IsRefusedBy, first_at, among, served_by, answer_gone, gathered_turned, answer_arrived}
-use Rattle.message_queues.proofs.QueueLemmas.{parcels-with, all_with, all_where}
+use Rattle.message_queues.proofs.QueueLemmas.{parcels-with, all_with}
 use Rattle.fact_rows.specs.Rows.{cell}
 use Rattle.message_queues.specs.Transit.{named_by}
 use Rattle.cluster_laws.specs.Blocks.{Cluster}
@@ -82,11 +84,8 @@ pub none_gone : {B : Type 0} (a : Asker) (p n : ℕ) (ts : List (InTransit B)) �
 none_gone a p n [] e = refl
 none_gone a p n (t ∷ ts) e = pick (is_transit a p n t) e (λ h. none_gone a p n ts h)
   where
-    never : None ≡ Some t → ⊥
-    never h = cc
-
     pick : (b : Bool) → None ≡ cond b (Some t) (transit_of a p n ts) → (None ≡ transit_of a p n ts → without_transit a p n ts ≡ ts) → cond (not b) (t ∷ without_transit a p n ts) (without_transit a p n ts) ≡ t ∷ ts
-    pick true h r = absurd (never h)
+    pick true h r = absurd (none-some t h)
     pick false h r = ap (λ l. t ∷ l) (r h)
 
 module _ {B : Type 0} (f : Facts) (old : Nodes B) (a : Asker) (p n : ℕ) where
@@ -172,10 +171,10 @@ refused_before f old x (Client c) p n found h = h
 
 -- what is left of what is under way, and one more answer, are of their kinds
 pub requests_left : {B : Type 0} (a : Asker) (p n : ℕ) (old new : List (InTransit B)) → new ≡ without_transit a p n old → AreRequests old → AreRequests new
-requests_left {B = B} a p n old new e h = subst (λ (ts : List (InTransit B)). AreRequests ts) (sym e) (all_where (λ (t : InTransit B). IsRequest t) (λ t. not (is_transit a p n t)) old h)
+requests_left {B = B} a p n old new e h = subst (λ (ts : List (InTransit B)). AreRequests ts) (sym e) (all_of_filter (λ (t : InTransit B). IsRequest t) (λ t. not (is_transit a p n t)) old h)
 
 pub answers_left : {B : Type 0} (a : Asker) (p n : ℕ) (old new : List (InTransit B)) → new ≡ without_transit a p n old → AreAnswers old → AreAnswers new
-answers_left {B = B} a p n old new e h = subst (λ (ts : List (InTransit B)). AreAnswers ts) (sym e) (all_where (λ (t : InTransit B). IsAnswer t) (λ t. not (is_transit a p n t)) old h)
+answers_left {B = B} a p n old new e h = subst (λ (ts : List (InTransit B)). AreAnswers ts) (sym e) (all_of_filter (λ (t : InTransit B). IsAnswer t) (λ t. not (is_transit a p n t)) old h)
 
 pub answers_more : {B : Type 0} (t : InTransit B) (old new : List (InTransit B)) → new ≡ with_transit t old → IsAnswer t → AreAnswers old → AreAnswers new
 answers_more {B = B} t old new e k h = subst (λ (ts : List (InTransit B)). AreAnswers ts) (sym e) (all_with (λ (t : InTransit B). IsAnswer t) t old k h)

@@ -1,8 +1,8 @@
 -- What an event leaves of what a node counted: all but the keys that it names.
-use Rattle.std.proofs.Common.{◌≡◌, ℕ, Bool, true, false, not, ◌&&◌, ◌||◌, cond, List, [], ◌∷◌, Option, Some, None, filter, fold, refl, sym, ap, ◌∙◌, arith}
+use Rattle.std.proofs.Common.{◌≡◌, ℕ, Bool, true, false, not, ◌&&◌, cond, List, [], ◌∷◌, Option, Some, None, filter, fold, refl, sym, ap, ◌∙◌}
 use Rattle.std.specs.Prelude.{◌==◌}
-use Rattle.std.proofs.lemmas.Bool.{true≢false}
-use Rattle.std.proofs.lemmas.Bool.Decides.{nat_tests}
+use Rattle.std.proofs.lemmas.Bool.{true≢false, or_parts}
+use Rattle.small_facts.proofs.Numbers.{unequal_turned}
 use Rattle.cluster_msgs.specs.declared.messages.Down.{Down}
 use Rattle.cluster_msgs.specs.declared.messages.Down.TheVariants.{ComputeTask, FreeKeys, StealRequest, RemoveReplicas, AcquireReplicas, RefreshWhoHas}
 use Rattle.cluster_msgs.specs.declared.messages.ToClient.{ToClient}
@@ -48,14 +48,7 @@ one_more gone old x k n h = pick (k == x)
     pick false = h
 
 one_less : (old : ℕ → Bool) (x k : ℕ) → (x == k) ≡ false → old k ≡ true → put old x false k ≡ true
-one_less old x k n h = ap (λ b. cond b false (old k)) (turned x k n) ∙ h
-  where
-    turned : (x k : ℕ) → (x == k) ≡ false → (k == x) ≡ false
-    turned x k n = grind (arith, nat_tests)
-
-apart : (a b : Bool) → (a || b) ≡ false → (a ≡ false) × (b ≡ false)
-apart true b h = absurd (true≢false h)
-apart false b h = (refl, h)
+one_less old x k n h = ap (λ b. cond b false (old k)) (unequal_turned k x n) ∙ h
 
 -- ## The scheduler's messages
 
@@ -80,7 +73,7 @@ refreshed_mem w (p ∷ who) = refreshed_mem (refresh w p) who
 
 freed : (s : WorkerStep) (ks : List ℕ) → Leaves ks s.facts.mem (each_key free_key s ks).facts.mem
 freed s [] k n h = h
-freed s (x ∷ ks) k n h = let p = apart (x == k) (is_in k ks) n in freed (after_out s.out (free_key s.facts x)) ks k p.1 (one_less s.facts.mem x k p.0 h)
+freed s (x ∷ ks) k n h = let p = or_parts (x == k) (is_in k ks) n in freed (after_out s.out (free_key s.facts x)) ks k p.1 (one_less s.facts.mem x k p.0 h)
 
 removed_one : (w : WorkerFacts) (x k : ℕ) → (x == k) ≡ false → w.mem k ≡ true → (remove_replica w x).facts.mem k ≡ true
 removed_one w x k n h = pick (w.mem x && not (awaited w x))
@@ -91,7 +84,7 @@ removed_one w x k n h = pick (w.mem x && not (awaited w x))
 
 removed : (s : WorkerStep) (ks : List ℕ) → Leaves ks s.facts.mem (each_key remove_replica s ks).facts.mem
 removed s [] k n h = h
-removed s (x ∷ ks) k n h = let p = apart (x == k) (is_in k ks) n in removed (after_out s.out (remove_replica s.facts x)) ks k p.1 (removed_one s.facts x k p.0 h)
+removed s (x ∷ ks) k n h = let p = or_parts (x == k) (is_in k ks) n in removed (after_out s.out (remove_replica s.facts x)) ks k p.1 (removed_one s.facts x k p.0 h)
 
 given_leaves : (w : WorkerFacts) (x a : ℕ) (who : List (ℕ × List (ℕ × ℕ))) → Leaves [] w.mem (given w x a who).facts.mem
 unfolding given
@@ -157,7 +150,7 @@ row_leaves w (Done x z) = done_leaves w x z
 row_leaves w (AskPeer p) = same [] w.mem w.mem refl
 row_leaves w (Gathered p n found) = gathered_leaves w p n found (ask_to w.asks p)
 row_leaves w (GatherFailed p n) = gathered_leaves w p n [] (ask_to w.asks p)
-row_leaves w (DataLost x) = λ k n h. one_less w.mem x k (apart (x == k) false n).0 h
+row_leaves w (DataLost x) = λ k n h. one_less w.mem x k (or_parts (x == k) false n).0 h
 
 -- a worker's event takes no other key from its memory
 pub step_leaves : (w : WorkerFacts) (e : WorkerEvent) → Leaves (lost_by e) w.mem (worker_step w e).facts.mem

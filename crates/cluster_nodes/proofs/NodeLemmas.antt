@@ -29,8 +29,9 @@ use Rattle.message_queues.specs.Posts.{downs, ups, to_clients, from_clients}
 use Rattle.worker_core.specs.Core.{Core, facts}
 use Rattle.worker_core.proofs.CountLemmas.{same_down, same_done, same_gathered_by}
 use Rattle.std.specs.Prelude.{not, ◌&&◌, filter}
+use Rattle.small_facts.proofs.Options.{slice_get_at}
 use Rattle.cluster_nodes.specs.Nodes.{as_down, as_up, as_to_client, as_from_client, worker_of, client_of, if_alive, workers_of, clients_of}
-use Rattle.cluster_nodes.proofs.Places.{get_was, cores_set}
+use Rattle.cluster_nodes.proofs.Places.{cores_set}
 
 -- cores, by number
 pub workers_set : (g : Shape) (alive : List Bool) (xs : List Core) (i : ℕ) (v : Core) → i < length xs → read alive false i ≡ true → workers_of g alive (set xs i v) ≡ put (workers_of g alive xs) i (facts v)
@@ -39,7 +40,7 @@ workers_set g alive xs i v h a = cores_set (λ k o. if_alive (read alive false k
 
 pub worker_was : (g : Shape) (alive : List Bool) (xs : List Core) (i : ℕ) (v : Core) → i < length xs → read alive false i ≡ true → v ≡ get_or xs i v → workers_of g alive xs i ≡ facts v
 unfolding workers_of
-worker_was g alive xs i v h a e = ap (λ b. if_alive b (worker_of g i (slice_get xs i))) a ∙ ap (worker_of g i) (get_was xs i v h e)
+worker_was g alive xs i v h a e = ap (λ b. if_alive b (worker_of g i (slice_get xs i))) a ∙ ap (worker_of g i) (slice_get_at xs i v h e)
 
 pub clients_set : (g : Shape) (xs : List CoreState) (i : ℕ) (v : CoreState) → i < length xs → clients_of g (set xs i v) ≡ put (clients_of g xs) i (client_facts v)
 unfolding clients_of
@@ -47,7 +48,7 @@ clients_set g xs i v h = cores_set (λ k. client_of g) xs i v h
 
 pub client_was : (g : Shape) (xs : List CoreState) (i : ℕ) (v : CoreState) → i < length xs → v ≡ get_or xs i v → clients_of g xs i ≡ client_facts v
 unfolding clients_of
-client_was g xs i v h e = ap (client_of g) (get_was xs i v h e)
+client_was g xs i v h e = ap (client_of g) (slice_get_at xs i v h e)
 
 -- an event leaves the graph
 start_shape : (w : WorkerFacts) (o : Option ℕ) → (start w o).facts.shape ≡ w.shape

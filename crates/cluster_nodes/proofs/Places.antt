@@ -2,8 +2,12 @@
 use Rattle.std.proofs.Common.{◌≡◌, ℕ, zero, suc, ◌+◌, ◌<◌, ◌≤◌, Bool, true, false, ◌&&◌, ◌||◌, List, [], ◌∷◌, ◌++◌, Option, Some, None, refl, sym, ap, ◌∙◌, subst, arith, cond, length, get_or, set, ltb, ⊎_elim}
 use Rattle.std.specs.Prelude.{◌==◌, slice_get}
 use Rattle.std.specs.List.{AllByRecursion}
-use Rattle.std.proofs.lemmas.Bool.{false≢true, eqb-true, cases_lt}
+use Rattle.std.proofs.lemmas.Bool.{false≢true, eqb-true, cases_lt, and_right, lt-ltb, le-ltb}
 use Rattle.std.proofs.lemmas.Bool.Decides.{nat_tests}
+use Rattle.std.proofs.Math.Bool.{or-true, or-false, and-false}
+use Rattle.std.proofs.lemmas.List.{length_push}
+use Rattle.small_facts.proofs.Numbers.{none_below_zero, not_below_self, equal_below_next, unequal_below_next, eqb_self}
+use Rattle.small_facts.proofs.Truth.{or_regroup}
 use Rattle.cluster_rules.specs.Derived.{is_in}
 use Rattle.cluster_rules.specs.Functions.{put, put_pair}
 use Rattle.cluster_laws.specs.Moves.{either, keeps}
@@ -21,11 +25,6 @@ get_other (x ∷ xs) zero zero v h = absurd (false≢true (sym h))
 get_other (x ∷ xs) zero (suc k) v h = refl
 get_other (x ∷ xs) (suc i) zero v h = refl
 get_other (x ∷ xs) (suc i) (suc k) v h = get_other xs i k v (grind (arith, nat_tests))
-
-pub get_was : {A : Type 0} (xs : List A) (i : ℕ) (v : A) → i < length xs → v ≡ get_or xs i v → slice_get xs i ≡ Some v
-get_was [] i v h e = absurd (let n : i < 0 = h in omega arith)
-get_was (x ∷ xs) zero v h e = ap (λ y. Some y) (sym e)
-get_was (x ∷ xs) (suc i) v h e = get_was xs i v (omega arith) e
 
 pub cores_set : {A X : Type 0} (of : ℕ → Option A → X) (xs : List A) (i : ℕ) (v : A) → i < length xs → (λ k. of k (slice_get (set xs i v) k)) ≡ put (λ k. of k (slice_get xs k)) i (of i (Some v))
 cores_set {A = A} of xs i v h = λ t k. at_place k t
@@ -52,29 +51,6 @@ pub all_more : {A : Type 0} (P : A → Type 0) (xs : List A) (v : A) → P v →
 all_more P [] v p h = (p, tt)
 all_more P (x ∷ xs) v p h = (h.0, all_more P xs v p h.1)
 
-pub all_weaker : {A : Type 0} (P Q : A → Type 0) → ((x : A) → P x → Q x) → (xs : List A) → AllByRecursion P xs → AllByRecursion Q xs
-all_weaker P Q f [] h = tt
-all_weaker P Q f (x ∷ xs) h = (f x h.0, all_weaker P Q f xs h.1)
-
--- numbers
-not_below : (n : ℕ) → ltb n n ≡ false
-not_below n = grind (arith, nat_tests)
-
-is_below : (a b : ℕ) → (a == b) ≡ true → ltb a (b + 1) ≡ true
-is_below a b q = grind (arith, nat_tests)
-
-same_below : (a b : ℕ) → (a == b) ≡ false → ltb a b ≡ ltb a (b + 1)
-same_below a b q = grind (arith, nat_tests)
-
-eq_true : (a : ℕ) → (a == a) ≡ true
-eq_true a = grind (arith, nat_tests)
-
-less_true : (k n : ℕ) → k < n → ltb k n ≡ true
-less_true k n l = grind (arith, nat_tests)
-
-less_not : (k n : ℕ) → n ≤ k → ltb k n ≡ false
-less_not k n q = grind (arith, nat_tests)
-
 -- the keys of one node, one after another
 module _ {A : Type 0} (change : ℕ → A → A) where
   pub change_more : (base cur next : ℕ → ℕ → A) (node key : ℕ) → next ≡ put_pair cur node key (change key (cur node key))
@@ -83,23 +59,20 @@ module _ {A : Type 0} (change : ℕ → A → A) where
   change_more base cur next node key e s w k = ap (λ (f : ℕ → ℕ → A). f w k) e ∙ pick (w == node) refl (k == key) refl
     where
       own : cur node key ≡ base node key
-      own = s node key ∙ ap (λ b. cond (b && ltb key key) (change key (base node key)) (base node key)) (eq_true node) ∙ ap (λ b. cond b (change key (base node key)) (base node key)) (not_below key)
+      own = s node key ∙ ap (λ b. cond (b && ltb key key) (change key (base node key)) (base node key)) (eqb_self node) ∙ ap (λ b. cond b (change key (base node key)) (base node key)) (not_below_self key)
 
       pick : (b : Bool) → (w == node) ≡ b → (c : Bool) → (k == key) ≡ c → cond (b && c) (change key (cur node key)) (cur w k) ≡ cond (b && ltb k (key + 1)) (change k (base w k)) (base w k)
       pick true p true q = ap (change key) own
           ∙ ap (λ v. change key (base v key)) (sym (eqb-true w node p)) ∙ ap (λ v. change v (base w v)) (sym (eqb-true k key q))
-          ∙ ap (λ b. cond b (change k (base w k)) (base w k)) (sym (is_below k key q))
-      pick true p false q = s w k ∙ ap (λ b. cond (b && ltb k key) (change k (base w k)) (base w k)) p ∙ ap (λ b. cond b (change k (base w k)) (base w k)) (same_below k key q)
+          ∙ ap (λ b. cond b (change k (base w k)) (base w k)) (sym (equal_below_next k key q))
+      pick true p false q = s w k ∙ ap (λ b. cond (b && ltb k key) (change k (base w k)) (base w k)) p ∙ ap (λ b. cond b (change k (base w k)) (base w k)) (unequal_below_next k key q)
       pick false p c q = s w k ∙ ap (λ b. cond (b && ltb k key) (change k (base w k)) (base w k)) p
 
   pub change_none : (base : ℕ → ℕ → A) (node w k : ℕ) → base w k ≡ cond (w == node && ltb k 0) (change k (base w k)) (base w k)
   change_none base node w k = pick (w == node)
     where
-      never : (k : ℕ) → ltb k 0 ≡ false
-      never k = less_not k 0 (omega arith)
-
       pick : (b : Bool) → base w k ≡ cond (b && ltb k 0) (change k (base w k)) (base w k)
-      pick true = sym (ap (λ b. cond b (change k (base w k)) (base w k)) (never k))
+      pick true = sym (ap (λ b. cond b (change k (base w k)) (base w k)) (none_below_zero k))
       pick false = refl
 
   pub change_all : (base cur : ℕ → ℕ → A) (node n : ℕ) → ((w k : ℕ) → n ≤ k → change k (base w k) ≡ base w k)
@@ -107,7 +80,7 @@ module _ {A : Type 0} (change : ℕ → A → A) where
   change_all base cur node n past s = λ t w k. at_place w k t
     where
       here : (w k : ℕ) → cond (ltb k n) (change k (base w k)) (base w k) ≡ change k (base w k)
-      here w k = ⊎_elim (λ l. ap (λ b. cond b (change k (base w k)) (base w k)) (less_true k n l)) (λ l. ap (λ b. cond b (change k (base w k)) (base w k)) (less_not k n l) ∙ sym (past w k l)) (cases_lt k n)
+      here w k = ⊎_elim (λ l. ap (λ b. cond b (change k (base w k)) (base w k)) (lt-ltb k n l)) (λ l. ap (λ b. cond b (change k (base w k)) (base w k)) (le-ltb k n l) ∙ sym (past w k l)) (cases_lt k n)
 
       pick : (w k : ℕ) (b : Bool) → (w == node) ≡ b → cond (b && ltb k n) (change k (base w k)) (base w k) ≡ cond {A = ℕ → A} b (λ q. change q (base node q)) (base w) k
       pick w k true e = here w k ∙ ap (λ v. change k (base v k)) (eqb-true w node e)
@@ -118,16 +91,8 @@ module _ {A : Type 0} (change : ℕ → A → A) where
 
 -- the keys of a list, one after another: a key may come again, which changes nothing more
 in_more : (ys : List ℕ) (x k : ℕ) → is_in k (ys ++ x ∷ []) ≡ (is_in k ys || x == k)
-in_more [] x k = last (x == k)
-  where
-    last : (b : Bool) → (b || false) ≡ b
-    last true = refl
-    last false = refl
-in_more (y ∷ ys) x k = ap (λ b. y == k || b) (in_more ys x k) ∙ moved (y == k) (is_in k ys) (x == k)
-  where
-    moved : (a b c : Bool) → (a || (b || c)) ≡ ((a || b) || c)
-    moved true b c = refl
-    moved false b c = refl
+in_more [] x k = or-false (x == k)
+in_more (y ∷ ys) x k = ap (λ b. y == k || b) (in_more ys x k) ∙ or_regroup (y == k) (is_in k ys) (x == k)
 
 module _ {A : Type 0} (change : ℕ → A → A) where
   pub touch_none : (base : ℕ → ℕ → A) (node w k : ℕ) → base w k ≡ cond (w == node && is_in k []) (change k (base w k)) (base w k)
@@ -146,31 +111,23 @@ module _ {A : Type 0} (change : ℕ → A → A) where
       turned a b true e = grind (arith, nat_tests)
       turned a b false e = grind (arith, nat_tests)
 
-      on : (b : Bool) → (b || true) ≡ true
-      on true = refl
-      on false = refl
-
-      off : (b : Bool) → (b || false) ≡ b
-      off true = refl
-      off false = refl
-
       again : (b : Bool) → change key (cond b (change key (base node key)) (base node key)) ≡ change key (base node key)
       again true = once key (base node key)
       again false = refl
 
       own : change key (cur node key) ≡ change key (base node key)
-      own = ap (change key) (s node key ∙ ap (λ b. cond (b && is_in key ys) (change key (base node key)) (base node key)) (eq_true node)) ∙ again (is_in key ys)
+      own = ap (change key) (s node key ∙ ap (λ b. cond (b && is_in key ys) (change key (base node key)) (base node key)) (eqb_self node)) ∙ again (is_in key ys)
 
       pick : (b : Bool) → (w == node) ≡ b → (c : Bool) → (k == key) ≡ c → cond (b && c) (change key (cur node key)) (cur w k) ≡ cond (w == node && (is_in k ys || key == k)) (change k (base w k)) (base w k)
       pick true p true q = own
           ∙ ap (λ v. change key (base v key)) (sym (eqb-true w node p)) ∙ ap (λ v. change v (base w v)) (sym (eqb-true k key q))
           ∙ sym (ap (λ b. cond (b && (is_in k ys || key == k)) (change k (base w k)) (base w k)) p
           ∙ ap (λ b. cond (is_in k ys || b) (change k (base w k)) (base w k)) (turned k key true q)
-          ∙ ap (λ b. cond b (change k (base w k)) (base w k)) (on (is_in k ys)))
+          ∙ ap (λ b. cond b (change k (base w k)) (base w k)) (or-true (is_in k ys)))
       pick true p false q = s w k ∙ ap (λ b. cond (b && is_in k ys) (change k (base w k)) (base w k)) p
           ∙ sym (ap (λ b. cond (b && (is_in k ys || key == k)) (change k (base w k)) (base w k)) p
           ∙ ap (λ b. cond (is_in k ys || b) (change k (base w k)) (base w k)) (turned k key false q)
-          ∙ ap (λ b. cond b (change k (base w k)) (base w k)) (off (is_in k ys)))
+          ∙ ap (λ b. cond b (change k (base w k)) (base w k)) (or-false (is_in k ys)))
       pick false p c q = s w k ∙ ap (λ b. cond (b && is_in k ys) (change k (base w k)) (base w k)) p ∙ sym (ap (λ b. cond (b && (is_in k ys || key == k)) (change k (base w k)) (base w k)) p)
 
   -- all keys that change are in the list
@@ -243,13 +200,9 @@ module _ {A : Type 0} where
   pub not_marked : (old : ℕ → ℕ → Option A) (node key : ℕ) (at : ℕ → Bool) (v : A) → at key ≡ false → (w k : ℕ) → old w k ≡ cond ((w == node && at k) && key == k) (either (old w k) (Some v)) (old w k)
   not_marked old node key at v m w k = pick (w == node) (key == k) refl
     where
-      off : (b : Bool) → (b && false) ≡ false
-      off true = refl
-      off false = refl
-
       gone : (c : Bool) → (key == k) ≡ c → (at k && c) ≡ false
       gone true e = ap (λ x. x && true) (subst (λ z. at z ≡ false) (eqb-true key k e) m)
-      gone false e = off (at k)
+      gone false e = and-false (at k)
 
       pick : (b c : Bool) → (key == k) ≡ c → old w k ≡ cond ((b && at k) && c) (either (old w k) (Some v)) (old w k)
       pick true c e = sym (ap (λ x. cond x (either (old w k) (Some v)) (old w k)) (gone c e))
@@ -281,14 +234,10 @@ module _ {A : Type 0} where
       fresh : (w == node) ≡ true → (k == key) ≡ true → Some v ≡ either (old w k) (Some v)
       fresh p q = sym (ap (λ x. either x (Some v)) (ap (λ z. old z k) (eqb-true w node p) ∙ ap (old node) (eqb-true k key q) ∙ s))
 
-      off : (c d : Bool) → d ≡ false → (c && d) ≡ false
-      off true d e = e
-      off false d e = refl
-
       pick : (b : Bool) → (w == node) ≡ b → (c : Bool) → (k == key) ≡ c → cond (b && c) (Some v) (old w k) ≡ cond ((b && at k) && key == k) (either (old w k) (Some v)) (old w k)
       pick true p true q = fresh p q ∙ sym (ap (λ x. cond x (either (old w k) (Some v)) (old w k)) (turned k key true q))
           ∙ sym (ap (λ x. cond (x && key == k) (either (old w k) (Some v)) (old w k)) (subst (λ z. at z ≡ true) (sym (eqb-true k key q)) l))
-      pick true p false q = sym (ap (λ x. cond x (either (old w k) (Some v)) (old w k)) (off (at k) (key == k) (turned k key false q)))
+      pick true p false q = sym (ap (λ x. cond x (either (old w k) (Some v)) (old w k)) (and_right (at k) (key == k) (turned k key false q)))
       pick false p c q = refl
 
   -- what came is put, and what isn't counted goes
@@ -318,10 +267,5 @@ module _ {A : Type 0} where
           ∙ here k (counted k) refl (is_in k lost) refl
       pick w k false p = at w k false p
 
--- one more member makes one longer
-length_more : {A : Type 0} (xs : List A) (v : A) → length (xs ++ v ∷ []) ≡ length xs + 1
-length_more [] v = refl
-length_more (x ∷ xs) v = let e = length_more xs v in omega (arith, e)
-
 pub one_longer : {A : Type 0} (ys xs : List A) (v : A) → ys ≡ xs ++ v ∷ [] → length ys ≡ length xs + 1
-one_longer ys xs v e = ap length e ∙ length_more xs v
+one_longer ys xs v e = ap length e ∙ length_push xs v

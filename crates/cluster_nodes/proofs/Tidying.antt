@@ -3,7 +3,7 @@ use Rattle.std.proofs.Common.{◌≡◌, ℕ, ◌<◌, Bool, true, false, not, �
 use Rattle.std.specs.Prelude.{◌==◌, slice_get}
 use Rattle.std.specs.declared.sync.Arc.{Arc}
 use Rattle.std.specs.declared.alloc.Global.{Global}
-use Rattle.std.proofs.lemmas.Bool.{true≢false, eqb-true}
+use Rattle.std.proofs.lemmas.Bool.{true≢false, eqb-true, and_right}
 use Rattle.cluster_msgs.specs.Shape.{Shape}
 use Rattle.cluster_rules.specs.Derived.{is_in}
 use Rattle.cluster_rules.specs.Functions.{put, put_pair}
@@ -43,13 +43,6 @@ module _ {X : Type 0} (d : X) (old new : ℕ → ℕ → X) (was is : ℕ → �
 kept_none : {A : Type 0} (b : Bool) (x y : Option A) → b ≡ false → keeps b x y ≡ None
 kept_none b x y e = ap (λ c. keeps c x y) e
 
-still_false : (x b : Bool) → b ≡ false → (x && b) ≡ false
-still_false x b e = ap (λ c. x && c) e ∙ off x
-  where
-    off : (x : Bool) → (x && false) ≡ false
-    off true = refl
-    off false = refl
-
 -- nobody stands past the end
 past : (xs : List Bool) → get_or xs (length xs) false ≡ false
 past [] = refl
@@ -74,7 +67,7 @@ module _ {B : Type 0} (strays : Bool) (alive : List Bool) (workers : List Core) 
     held = λ g. tidy_turned None (cell held None) (cell hd None) (λ j. (workers_of g alive workers j).mem) (λ j. (workers_of g alive new j).mem) i (λ k. keeps ((facts core).mem k) (cell held None i k) (came k)) h
         (λ k q. kept_none ((facts core).mem k) (cell held None i k) (came k) (own g k ∙ q)) (others g) (n.held g);
     spilled = λ q g. tidy_turned false (cell spilled false) (cell sp false) (λ j. (workers_of g alive workers j).mem) (λ j. (workers_of g alive new j).mem) i (λ k. cell spilled false i k && (facts core).mem k) s
-        (λ k r. still_false (cell spilled false i k) ((facts core).mem k) (own g k ∙ r)) (others g) (n.spilled q g);
+        (λ k r. and_right (cell spilled false i k) ((facts core).mem k) (own g k ∙ r)) (others g) (n.spilled q g);
     got = n.got;
   }
     where

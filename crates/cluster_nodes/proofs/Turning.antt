@@ -4,6 +4,7 @@ use Rattle.std.specs.Prelude.{◌==◌}
 use Rattle.std.specs.declared.sync.Arc.{Arc}
 use Rattle.std.specs.declared.vec.Vec.{Vec}
 use Rattle.std.specs.declared.alloc.Global.{Global}
+use Rattle.std.proofs.lemmas.Bool.{eq-eqb}
 use Rattle.cluster_msgs.specs.Shape.{Shape}
 use Rattle.cluster_msgs.specs.declared.messages.Message.{Message}
 use Rattle.cluster_msgs.specs.declared.messages.Message.TheVariants as message
@@ -30,7 +31,6 @@ use Rattle.cluster_nodes.specs.declared.nodes.Nodes.{Nodes}
 use Rattle.cluster_nodes.specs.Nodes.{as_up, as_from_client, block_at, workers_of, clients_of, world_of, blocks_in, cluster_of}
 use Rattle.cluster_nodes.specs.Turns.{first_at, among, worker_turned, client_turned}
 use Rattle.cluster_nodes.proofs.NodeLemmas.{ups_are, from_clients_are, more_at, worker_was, client_was}
-use Rattle.cluster_rules.proofs.SchedFrame.{same_eqb}
 
 -- a shelf at its blocks
 block_keeps : {A : Type 0} (c : Bool) (x y : Option (Arc A Global)) → block_at (keeps c x y) ≡ keeps c (block_at x) (block_at y)
@@ -53,7 +53,7 @@ blocks_put {A = A} old new i counted came e = λ t w k. at_place w k t
 
 -- the core that was stepped has the facts of the step
 put_same : {A : Type 0} (f : ℕ → A) (i : ℕ) (x : A) → put f i x i ≡ x
-put_same f i x = ap (λ b. cond b x (f i)) (same_eqb i i refl)
+put_same f i x = ap (λ b. cond b x (f i)) (eq-eqb i i refl)
 
 pub core_now : (g : Shape) (alive : List Bool) (ws new : List Core) (i : ℕ) (v : Core) (x : WorkerFacts) → i < length new → read alive false i ≡ true → v ≡ get_or new i v → workers_of g alive new ≡ put (workers_of g alive ws) i x → facts v ≡ x
 core_now g alive ws new i v x h a was e = sym (worker_was g alive new i v h a was) ∙ ap (λ (f : ℕ → WorkerFacts). f i) e ∙ put_same (workers_of g alive ws) i x

@@ -4,24 +4,19 @@ use Rattle.std.proofs.lemmas.Bool.{false≢true, true≢false, true_from_ne_fals
 use Rattle.std.proofs.lemmas.List.Folds.{find-append, list_any-append}
 use Rattle.std.specs.List.{find, list_any, Contains}
 use Rattle.std.specs.Option.{option_or}
+use Rattle.std.proofs.lemmas.Option.{same_Some, none-some}
 use Rattle.cluster_rules.specs.Choice.{is_before, unbeaten, least_by, better, IsBest, IsBestOf}
 use Rattle.cluster_rules.proofs.ChoiceLemmas.{IsPreference, unbeaten_best, rank_prefers, any_false, contains_head, contains_tail}
 use Rattle.cluster_rules.proofs.Members.{any_some}
 
-some_is : {A : Type 0} (x y : A) → Some x ≡ Some y → x ≡ y
-some_is x y h = cc
-
-none_is : {A : Type 0} (x : A) → None ≡ Some x → ⊥
-none_is x h = cc
-
 -- a stricter test finds the same, where that passes
 find_stricter : {A : Type 0} (p q : A → Bool) (xs : List A) (y : A) → ((x : A) → q x ≡ true → p x ≡ true) → find p xs ≡ Some y → q y ≡ true → find q xs ≡ Some y
-find_stricter p q [] y s h e = absurd (none_is y h)
+find_stricter p q [] y s h e = absurd (none-some y h)
 find_stricter {A = A} p q (x ∷ xs) y s h e = pick (p x) (q x) refl refl h (λ g. find_stricter p q xs y s g e)
   where
     pick : (a b : Bool) → p x ≡ a → q x ≡ b → cond a (Some x) (find p xs) ≡ Some y → (find p xs ≡ Some y → find q xs ≡ Some y) → cond b (Some x) (find q xs) ≡ Some y
     pick true true i j g rest = g
-    pick true false i j g rest = absurd (false≢true (sym j ∙ ap q (some_is x y g) ∙ e))
+    pick true false i j g rest = absurd (false≢true (sym j ∙ ap q (same_Some x y g) ∙ e))
     pick false true i j g rest = absurd (false≢true (sym i ∙ s x j))
     pick false false i j g rest = rest g
 

@@ -1,6 +1,6 @@
 -- The first member that none beats is a best one, and the dictionary order has one in each list.
 use Rattle.std.proofs.Common.{◌≡◌, ℕ, ◌<◌, Bool, true, false, not, cond, ◌&&◌, ◌||◌, List, [], ◌∷◌, Option, Some, None, refl, sym, ap, ◌∙◌, subst, arith, inl, inr, ◌⊎◌, ⊎_elim}
-use Rattle.std.proofs.lemmas.Bool.{false≢true, true≢false, not-true, or_parts, or_from, false_from_ne_true}
+use Rattle.std.proofs.lemmas.Bool.{false≢true, true≢false, not-true, or_parts, or_from, false_from_ne_true, not-false}
 use Rattle.std.proofs.lemmas.Bool.Decides.{nat_tests}
 use Rattle.std.proofs.lemmas.List.Elements.{Contains-append_cases, Contains-append_right}
 use Rattle.std.proofs.Math.Dec.{eqb, ltb}
@@ -85,10 +85,6 @@ some_best {A = A} beats o x (z ∷ zs) = pick (some_best beats o z zs)
           },
         )
 
-not_not : (b : Bool) → not b ≡ false → b ≡ true
-not_not true e = refl
-not_not false e = absurd (true≢false e)
-
 -- the first member that none beats is a best one, where the list has a member
 pub unbeaten_best : {A : Type 0} (beats : A → A → Bool) → IsPreference beats → (xs : List A) → IsBestOf beats xs (unbeaten beats xs)
 unbeaten_best {A = A} beats o [] = refl
@@ -98,7 +94,7 @@ unbeaten_best {A = A} beats o (x ∷ xs) = pick (unbeaten beats (x ∷ xs)) (fin
     pick None none = none_there (some_best beats o x xs)
       where
         none_there : (y : A) × IsBest beats (x ∷ xs) y → (x ∷ xs) ≡ []
-        none_there (y, b) = absurd (false≢true (sym (any_false (λ z. beats z y) (x ∷ xs) b.best) ∙ not_not (list_any (λ z. beats z y) (x ∷ xs)) (none y b.member)))
+        none_there (y, b) = absurd (false≢true (sym (any_false (λ z. beats z y) (x ∷ xs) b.best) ∙ not-false (list_any (λ z. beats z y) (x ∷ xs)) (none y b.member)))
     pick (Some y) found = record { member = found.0; best = none_passes (λ z. beats z y) (x ∷ xs) (not-true (list_any (λ z. beats z y) (x ∷ xs)) found.1) }
 
 -- a best member that beats each other member is the one that is found

@@ -3,6 +3,8 @@ use Rattle.std.proofs.Common.{◌≡◌, ℕ, zero, suc, ◌+◌, ◌<◌, ◌�
 use Rattle.std.specs.Prelude.{◌==◌, nat_lt, nat_le, option_map, filter_map, flat_map}
 use Rattle.std.specs.List.{list_any, cons_option, range_with_len, AllByRecursion}
 use Rattle.std.proofs.lemmas.Bool.{true≢false, false≢true, ltb-true, lt-ltb, and_parts}
+use Rattle.std.proofs.lemmas.Option.{same_Some}
+use Rattle.small_facts.proofs.Every.{all_join, all_weaker, all_of_filter, all_of_map}
 use Rattle.cluster_msgs.specs.Dags.{IsEarlier}
 use Rattle.cluster_msgs.proofs.ValueLemmas.{cone-below}
 use Rattle.cluster_msgs.specs.Shape.{Shape, IsShape, key_count, deps_of}
@@ -37,18 +39,13 @@ use Rattle.cluster_rules.specs.WorldStep.{letters, client_sends, client_requeste
 use Rattle.cluster_rules.specs.Frame.{IsSettling}
 use Rattle.cluster_rules.proofs.SchedFrame.{step_settles}
 use Rattle.cluster_rules.specs.Inside.{IsKey, AreKeys, named_keys, down_keys, news_keys, item_keys, IsInsideClient}
-use Rattle.cluster_rules.proofs.AllLemmas.{all_append}
 use Rattle.cluster_rules.proofs.BlameLemmas.{blame_below}
-use Rattle.cluster_rules.proofs.InsideWorker.{all_filter_in, all_take_in, all_map_in, all_map_out, keys_below, asks_with, items_of, asked_in, parcels_with}
+use Rattle.cluster_rules.proofs.InsideWorker.{all_take_in, all_map_in, keys_below, asks_with, items_of, asked_in, parcels_with}
 use Rattle.cluster_rules.specs.Worker.{ask_items}
 
 pub all_flat_map_in : {A B : Type 0} (P : B → Type 0) (f : A → List B) (xs : List A) → AllByRecursion (λ x. AllByRecursion P (f x)) xs → AllByRecursion P (flat_map f xs)
 all_flat_map_in P f [] h = tt
-all_flat_map_in P f (x ∷ xs) h = all_append P (f x) (flat_map f xs) h.0 (all_flat_map_in P f xs h.1)
-
-pub all_weaken : {A : Type 0} (P Q : A → Type 0) → ((x : A) → P x → Q x) → (xs : List A) → AllByRecursion P xs → AllByRecursion Q xs
-all_weaken P Q f [] h = tt
-all_weaken P Q f (x ∷ xs) h = (f x h.0, all_weaken P Q f xs h.1)
+all_flat_map_in P f (x ∷ xs) h = all_join P (f x) (flat_map f xs) h.0 (all_flat_map_in P f xs h.1)
 
 pub all_always : {A : Type 0} (P : A → Type 0) → ((x : A) → P x) → (xs : List A) → AllByRecursion P xs
 all_always P f [] = tt
@@ -61,11 +58,8 @@ all_found {A} P t [] x e h = absurd (none e)
     none e = cc
 all_found {A} P t (y ∷ xs) x e h = pick (t y) e (λ i. all_found P t xs x i h.1)
   where
-    same : Some y ≡ Some x → y ≡ x
-    same e = cc
-
     pick : (b : Bool) → cond b (Some y) (find t xs) ≡ Some x → (find t xs ≡ Some x → P x) → P x
-    pick true e r = subst P (same e) h.0
+    pick true e r = subst P (same_Some y x e) h.0
     pick false e r = r e
 
 module _ (g : Shape) (low : IsShape g) where
@@ -114,8 +108,8 @@ module _ (g : Shape) (low : IsShape g) where
 
   steal_in : (f : Facts) → f.setting.shape ≡ g → AllByRecursion (λ (c : Steal). IsKey g c.key) (steal_choices f)
   unfolding steal_choices
-  steal_in f s = all_filter_in (λ (c : Steal). IsKey g c.key) (may_steal f) _ (all_flat_map_in (λ (c : Steal). IsKey g c.key) (λ k. flat_map (λ v. map (λ t. record { key = k; victim = v; thief = t }) (workers f)) (workers f)) (below (keys f))
-      (all_weaken (IsKey g) (λ k. AllByRecursion (λ (c : Steal). IsKey g c.key) (flat_map (λ v. map (λ t. record { key = k; victim = v; thief = t }) (workers f)) (workers f)))
+  steal_in f s = all_of_filter (λ (c : Steal). IsKey g c.key) (may_steal f) _ (all_flat_map_in (λ (c : Steal). IsKey g c.key) (λ k. flat_map (λ v. map (λ t. record { key = k; victim = v; thief = t }) (workers f)) (workers f)) (below (keys f))
+      (all_weaker (IsKey g) (λ k. AllByRecursion (λ (c : Steal). IsKey g c.key) (flat_map (λ v. map (λ t. record { key = k; victim = v; thief = t }) (workers f)) (workers f)))
       (λ k i. all_flat_map_in (λ (c : Steal). IsKey g c.key) (λ v. map (λ t. record { key = k; victim = v; thief = t }) (workers f)) (workers f)
       (all_always (λ v. AllByRecursion (λ (c : Steal). IsKey g c.key) (map (λ t. record { key = k; victim = v; thief = t }) (workers f))) (λ v. all_map_in (λ (c : Steal). IsKey g c.key) (λ t. record { key = k; victim = v; thief = t }) (workers f) (all_always (λ t. IsKey g k) (λ t. i) (workers f))) (workers f)))
       (below (keys f)) (all_keys f s)))
@@ -152,10 +146,7 @@ module _ (g : Shape) (low : IsShape g) where
       none e = cc
 
       second : (w k : ℕ) → Some (w, k) ≡ Some p → k ≡ p.1
-      second w k e = ap (λ (q : ℕ × ℕ). q.1) (same e)
-        where
-          same : Some (w, k) ≡ Some p → (w, k) ≡ p
-          same e = cc
+      second w k e = ap (λ (q : ℕ × ℕ). q.1) (same_Some (w, k) p e)
 
       held_by : (k : ℕ) → IsKey g k → (m : Option ℕ) → option_map (λ w. (w, k)) m ≡ Some p → IsKey g p.1
       held_by k v None e = absurd (none e)
@@ -183,7 +174,7 @@ module _ (g : Shape) (low : IsShape g) where
 
   -- the messages to workers
   deps_in : (k : ℕ) → IsKey g k → AreKeys g (deps_of g k)
-  deps_in k v = all_weaken (λ d. d < k) (IsKey g) (λ d l. lt-ltb d (key_count g) (omega (arith, ltb-true k (key_count g) v))) (deps_of g k) (low.below k)
+  deps_in k v = all_weaker (λ d. d < k) (IsKey g) (λ d l. lt-ltb d (key_count g) (omega (arith, ltb-true k (key_count g) v))) (deps_of g k) (low.below k)
 
   free_in : (w : ℕ) (ks : List ℕ) → AreKeys g ks → AllByRecursion (λ (m : ℕ × Down). AreKeys g (down_keys m.1)) (free_message w ks)
   free_in w [] v = tt
@@ -212,8 +203,8 @@ module _ (g : Shape) (low : IsShape g) where
   down_in f e s c v =
       let t = settle f (change f e) in
       let placed : t.placed.setting.shape ≡ g = ap (λ (x : Setting). x.shape) ((step_settles f e).setting ∙ c) ∙ s in
-      all_flat_map_in (λ (m : ℕ × Down). AreKeys g (down_keys m.1)) _ (workers t.placed) (all_always _ (λ w. all_append (λ (m : ℕ × Down). AreKeys g (down_keys m.1)) (free_message w (lost_keys t w)) _ (free_in w (lost_keys t w) (all_filter_in (IsKey g) (lost t w) (below (keys t.before)) (all_keys f s)))
-      (all_append (λ (m : ℕ × Down). AreKeys g (down_keys m.1)) (filter_map (λ k. task_message t.placed t.before.counter w k (t.placed.on k)) (below (keys t.placed))) _ (tasks_in t.placed placed t.before.counter w (below (keys t.placed)) (all_keys t.placed placed))
+      all_flat_map_in (λ (m : ℕ × Down). AreKeys g (down_keys m.1)) _ (workers t.placed) (all_always _ (λ w. all_join (λ (m : ℕ × Down). AreKeys g (down_keys m.1)) (free_message w (lost_keys t w)) _ (free_in w (lost_keys t w) (all_of_filter (IsKey g) (lost t w) (below (keys t.before)) (all_keys f s)))
+      (all_join (λ (m : ℕ × Down). AreKeys g (down_keys m.1)) (filter_map (λ k. task_message t.placed t.before.counter w k (t.placed.on k)) (below (keys t.placed))) _ (tasks_in t.placed placed t.before.counter w (below (keys t.placed)) (all_keys t.placed placed))
       (all_map_in (λ (m : ℕ × Down). AreKeys g (down_keys m.1)) (λ m. (w, m)) (t.changed.answer t.placed w) (answer_in f e s v t.placed w)))) (workers t.placed))
 
   pub mail_in : (w : ℕ) (ms : List (ℕ × Down)) → AllByRecursion (λ (m : ℕ × Down). AreKeys g (down_keys m.1)) ms → AllByRecursion (λ m. AreKeys g (down_keys m)) (mail w ms)
@@ -293,10 +284,7 @@ module _ (g : Shape) (low : IsShape g) where
       none o n r = cc
 
       named : (c k : ℕ) → IsKey g k → Some (c, k) ≡ Some p → IsKey g p.1
-      named c k v e = subst (IsKey g) (ap (λ (q : ℕ × ℕ). q.1) (same e)) v
-        where
-          same : Some (c, k) ≡ Some p → (c, k) ≡ p
-          same e = cc
+      named c k v e = subst (IsKey g) (ap (λ (q : ℕ × ℕ). q.1) (same_Some (c, k) p e)) v
 
       by : (e : SchedEvent) → IsInsideSched e → (change f e).reply ≡ Some p → IsKey g p.1
       by (Join threads) v r = absurd (none _ refl r)
@@ -319,7 +307,7 @@ module _ (g : Shape) (low : IsShape g) where
   news_in j f e s c v =
       let t = settle f (change f e) in
       let placed : t.placed.setting.shape ≡ g = ap (λ (x : Setting). x.shape) ((step_settles f e).setting ∙ c) ∙ s in
-      all_append (λ (m : ℕ × ToClient). AreKeys g (news_keys m.1)) (flat_map (λ c. filter_map (client_message t c) (below (keys t.before))) (from_one t.before.setting.clients)) _
+      all_join (λ (m : ℕ × ToClient). AreKeys g (news_keys m.1)) (flat_map (λ c. filter_map (client_message t c) (below (keys t.before))) (from_one t.before.setting.clients)) _
       (all_flat_map_in (λ (m : ℕ × ToClient). AreKeys g (news_keys m.1)) _ (from_one t.before.setting.clients) (all_always _ (λ c. news_keys_of j t placed c (below (keys t.before)) (all_keys f s)) (from_one t.before.setting.clients)))
       (reply_in t (to_clients t) t.changed.reply (reply_key f e v))
 
@@ -367,7 +355,7 @@ module _ (g : Shape) (low : IsShape g) where
   client_ask_in : (c : ClientFacts) (p : ℕ) → IsInsideClient g c → IsClientStep (client_ask c p)
   unfolding client_ask client_fetchable ask_items
   client_ask_in c p h =
-      let items = all_take_in (λ (i : ℕ × ℕ). IsKey g i.0) _ _ (items_of g p c.located (filter (is_open c) (own_keys c)) (all_filter_in (IsKey g) _ (own_keys c) (client_keys_in c h))) in
+      let items = all_take_in (λ (i : ℕ × ℕ). IsKey g i.0) _ _ (items_of g p c.located (filter (is_open c) (own_keys c)) (all_of_filter (IsKey g) _ (own_keys c) (client_keys_in c h))) in
       let keys = all_map_in (IsKey g) (λ (i : ℕ × ℕ). i.0) _ items in
       record { facts = record { shape = h.shape; asks = asks_with g (record { peer = p; number = c.next_ask; items = _ }) c.asks keys h.asks }; out = (keys, tt) }
 
@@ -397,14 +385,14 @@ module _ (g : Shape) (low : IsShape g) where
     where
       over : (a : Ask) → AllByRecursion (λ (i : ℕ × ℕ). IsKey g i.0) a.items → (b : Bool) → IsClientStep (cond b (client_answered (record c { asks = without_ask c.asks p }) p (keys_of (filter (λ i. is_in i.0 found) a.items)) (filter (λ i. not (is_in i.0 found)) a.items)) (keeps_still c))
       over a v true = record {
-        facts = misses_in (filter (λ i. not (is_in i.0 found)) a.items) _ (gets_in (keys_of (filter (λ i. is_in i.0 found) a.items)) (record c { asks = without_ask c.asks p }) (record { shape = h.shape; asks = all_filter_in (λ (a : Ask). AreKeys g (item_keys a)) _ c.asks h.asks }));
-        out = missing_in (record c { asks = without_ask c.asks p }) p (filter (λ i. not (is_in i.0 found)) a.items) (all_filter_in (λ (i : ℕ × ℕ). IsKey g i.0) _ a.items v);
+        facts = misses_in (filter (λ i. not (is_in i.0 found)) a.items) _ (gets_in (keys_of (filter (λ i. is_in i.0 found) a.items)) (record c { asks = without_ask c.asks p }) (record { shape = h.shape; asks = all_of_filter (λ (a : Ask). AreKeys g (item_keys a)) _ c.asks h.asks }));
+        out = missing_in (record c { asks = without_ask c.asks p }) p (filter (λ i. not (is_in i.0 found)) a.items) (all_of_filter (λ (i : ℕ × ℕ). IsKey g i.0) _ a.items v);
       }
       over a v false = record { facts = h; out = tt }
 
       pick : (o : Option Ask) → ask_to c.asks p ≡ o → IsClientStep (client_gathered_by c p n found o)
       pick None e = record { facts = h; out = tt }
-      pick (Some a) e = over a (all_map_out (IsKey g) (λ (i : ℕ × ℕ). i.0) a.items (asked_in g c.asks p a e h.asks)) (a.number == n)
+      pick (Some a) e = over a (all_of_map (IsKey g) (λ (i : ℕ × ℕ). i.0) a.items (asked_in g c.asks p a e h.asks)) (a.number == n)
 
   pub client_in : (c : ClientFacts) (e : ClientEvent) → IsInsideClientEvent e → IsInsideClient g c → IsClientStep (client_step c e)
   unfolding client_step client_wants client_releases

@@ -3,6 +3,8 @@ use Rattle.std.proofs.Common.{◌≡◌, ℕ, zero, suc, ◌+◌, ◌<◌, ◌�
 use Rattle.std.specs.Prelude.{◌==◌, nat_lt, option_map}
 use Rattle.std.specs.List.{list_any, list_all, filter_map, cons_option, range_with_len, AllByRecursion}
 use Rattle.std.proofs.lemmas.Bool.{true≢false, false≢true, eqb-true, eq-eqb, and_parts, and_from, lt-ltb}
+use Rattle.std.proofs.lemmas.Option.{same_Some}
+use Rattle.small_facts.proofs.Every.{all_join, all_of_filter, all_of_map}
 use Rattle.cluster_msgs.specs.Shape.{Shape, key_count, deps_of}
 use Rattle.cluster_msgs.specs.declared.messages.Down.{Down}
 use Rattle.cluster_msgs.specs.declared.messages.Down.TheVariants.{ComputeTask, FreeKeys, StealRequest, RemoveReplicas, AcquireReplicas, RefreshWhoHas}
@@ -21,17 +23,7 @@ use Rattle.cluster_rules.specs.WorkerStep.{WorkerStep, quiet, after_out, each_ke
 use Rattle.cluster_rules.specs.World.{Parcel, parcel_before, with_parcel}
 use Rattle.cluster_rules.specs.WorldStep.{sends, requested}
 use Rattle.cluster_rules.specs.Inside.{IsKey, AreKeys, named_keys, down_keys, item_keys, IsInsideWorker}
-use Rattle.cluster_rules.proofs.WorkerLemmas.{at_one, find_passes}
-use Rattle.cluster_rules.proofs.AllLemmas.{all_append}
-
--- lists whose members are all of a kind
-pub all_filter_in : {A : Type 0} (P : A → Type 0) (t : A → Bool) (xs : List A) → AllByRecursion P xs → AllByRecursion P (filter t xs)
-all_filter_in P t [] h = tt
-all_filter_in P t (x ∷ xs) h = pick (t x) (all_filter_in P t xs h.1)
-  where
-    pick : (b : Bool) → AllByRecursion P (filter t xs) → AllByRecursion P (cond b (x ∷ filter t xs) (filter t xs))
-    pick true r = (h.0, r)
-    pick false r = r
+use Rattle.cluster_rules.proofs.WorkerLemmas.{at_one}
 
 pub all_take_in : {A : Type 0} (P : A → Type 0) (n : ℕ) (xs : List A) → AllByRecursion P xs → AllByRecursion P (take n xs)
 all_take_in P zero xs h = tt
@@ -41,10 +33,6 @@ all_take_in P (suc n) (x ∷ xs) h = (h.0, all_take_in P n xs h.1)
 pub all_map_in : {A B : Type 0} (P : B → Type 0) (f : A → B) (xs : List A) → AllByRecursion (λ x. P (f x)) xs → AllByRecursion P (map f xs)
 all_map_in P f [] h = tt
 all_map_in P f (x ∷ xs) h = (h.0, all_map_in P f xs h.1)
-
-pub all_map_out : {A B : Type 0} (P : B → Type 0) (f : A → B) (xs : List A) → AllByRecursion P (map f xs) → AllByRecursion (λ x. P (f x)) xs
-all_map_out P f [] h = tt
-all_map_out P f (x ∷ xs) h = (h.0, all_map_out P f xs h.1)
 
 pub range_below : (n a m : ℕ) → a + m ≤ n → AllByRecursion (λ k. nat_lt k n ≡ true) (range_with_len a m)
 range_below n a zero h = tt
@@ -60,11 +48,8 @@ found_in P t [] k e h = absurd (none e)
     none e = cc
 found_in P t (x ∷ ks) k e h = pick (t x) e (λ i. found_in P t ks k i h.1)
   where
-    same : Some x ≡ Some k → x ≡ k
-    same e = cc
-
     pick : (b : Bool) → cond b (Some x) (find t ks) ≡ Some k → (find t ks ≡ Some k → P k) → P k
-    pick true e r = subst P (same e) h.0
+    pick true e r = subst P (same_Some x k e) h.0
     pick false e r = r e
 
 module _ (g : Shape) where
@@ -84,7 +69,7 @@ module _ (g : Shape) where
 
   in_each : {A : Type 0} (P : A → Type 0) (row : WorkerFacts → A → WorkerStep) → ((w : WorkerFacts) (x : A) → P x → IsInsideWorker g w → IsInsideStep (row w x)) → (s : WorkerStep) (xs : List A) → AllByRecursion P xs → IsInsideStep s → IsInsideStep (each_key row s xs)
   in_each P row step s [] v h = h
-  in_each P row step s (x ∷ xs) v h = in_each P row step (after_out s.out (row s.facts x)) xs v.1 (let r = step s.facts x v.0 h.facts in record { facts = r.facts; out = all_append IsInsideOut s.out (row s.facts x).out h.out r.out })
+  in_each P row step s (x ∷ xs) v h = in_each P row step (after_out s.out (row s.facts x)) xs v.1 (let r = step s.facts x v.0 h.facts in record { facts = r.facts; out = all_join IsInsideOut s.out (row s.facts x).out h.out r.out })
 
   in_fold : {A : Type 0} (f : WorkerFacts → A → WorkerFacts) → ((w : WorkerFacts) (x : A) → IsInsideWorker g w → IsInsideWorker g (f w x)) → (w : WorkerFacts) (xs : List A) → IsInsideWorker g w → IsInsideWorker g (fold f w xs)
   in_fold f step w [] h = h
@@ -151,7 +136,7 @@ module _ (g : Shape) where
   in_down w (StealRequest k a) v h = in_asked_back w k a v.0 h
   in_down w (RemoveReplicas ks) v h =
       let r = in_each (IsKey g) remove_replica in_remove (quiet w) ks v (quietly w h) in
-      record { facts = r.facts; out = all_append IsInsideOut (each_key remove_replica (quiet w) ks).out _ r.out (in_add w.seen (filter (λ k. is_in k ks && (w.mem k && awaited w k)) (worker_keys w)) (all_filter_in (IsKey g) _ (worker_keys w) (own_keys w h))) }
+      record { facts = r.facts; out = all_join IsInsideOut (each_key remove_replica (quiet w) ks).out _ r.out (in_add w.seen (filter (λ k. is_in k ks && (w.mem k && awaited w k)) (worker_keys w)) (all_of_filter (IsKey g) _ (worker_keys w) (own_keys w h))) }
   in_down w (AcquireReplicas who) v h = quietly _ (in_fold acquire in_acquire w who h)
   in_down w (RefreshWhoHas who) v h = quietly _ (in_fold refresh in_refresh w who h)
 
@@ -179,11 +164,11 @@ module _ (g : Shape) where
     added : AreKeys g r.added
 
   in_arrive : (r : Arrivals) (q : ℕ) (o : Option ℕ) → IsKey g q → InArrivals r → InArrivals (arrive_as r q o)
-  in_arrive r q (Some a) v h = record { facts = in_into_mem (give_up r.facts q) q v (record { shape = h.facts.shape; mem = h.facts.mem; running = h.facts.running; asks = h.facts.asks }); out = all_append IsInsideOut r.out _ h.out (tt, ((v, tt), tt)); added = h.added }
+  in_arrive r q (Some a) v h = record { facts = in_into_mem (give_up r.facts q) q v (record { shape = h.facts.shape; mem = h.facts.mem; running = h.facts.running; asks = h.facts.asks }); out = all_join IsInsideOut r.out _ h.out (tt, ((v, tt), tt)); added = h.added }
   in_arrive r q None v h = pick (is_wanted r.facts q)
     where
       pick : (b : Bool) → InArrivals (cond b (record { facts = into_mem r.facts q; out = r.out ++ Keep q ∷ []; added = r.added ++ q ∷ [] }) r)
-      pick true = record { facts = in_into_mem r.facts q v h.facts; out = all_append IsInsideOut r.out _ h.out (tt, tt); added = all_append (IsKey g) r.added _ h.added (v, tt) }
+      pick true = record { facts = in_into_mem r.facts q v h.facts; out = all_join IsInsideOut r.out _ h.out (tt, tt); added = all_join (IsKey g) r.added _ h.added (v, tt) }
       pick false = h
 
   in_arrivals : (ks : List ℕ) (r : Arrivals) → AreKeys g ks → InArrivals r → InArrivals (fold arrive r ks)
@@ -194,7 +179,7 @@ module _ (g : Shape) where
   unfolding arrived
   in_arrived w ks v h =
       let r = in_arrivals ks (record { facts = w; out = []; added = [] }) v (record { facts = h; out = tt; added = tt }) in
-      record { facts = r.facts; out = all_append IsInsideOut (fold arrive (record { facts = w; out = []; added = [] }) ks).out _ r.out (in_add _ (fold arrive (record { facts = w; out = []; added = [] }) ks).added r.added) }
+      record { facts = r.facts; out = all_join IsInsideOut (fold arrive (record { facts = w; out = []; added = [] }) ks).out _ r.out (in_add _ (fold arrive (record { facts = w; out = []; added = [] }) ks).added r.added) }
 
   in_stopped : (w : WorkerFacts) (q : ℕ) → IsInsideWorker g w → IsInsideWorker g (stopped w q)
   in_stopped w q h = record { shape = h.shape; mem = h.mem; running = at_one q (λ b k. cond b false (w.running k) ≡ true → IsKey g k) (λ e. absurd (false≢true e)) h.running; asks = h.asks }
@@ -227,7 +212,7 @@ module _ (g : Shape) where
   in_ask : (w : WorkerFacts) (p : ℕ) → IsInsideWorker g w → IsInsideStep (ask_peer w p)
   unfolding ask_peer fetchable ask_items
   in_ask w p h =
-      let items = all_take_in (λ (i : ℕ × ℕ). IsKey g i.0) _ _ (items_of p w.holders (filter (λ k. is_fetch_state (wstate w k)) (worker_keys w)) (all_filter_in (IsKey g) _ (worker_keys w) (own_keys w h))) in
+      let items = all_take_in (λ (i : ℕ × ℕ). IsKey g i.0) _ _ (items_of p w.holders (filter (λ k. is_fetch_state (wstate w k)) (worker_keys w)) (all_of_filter (IsKey g) _ (worker_keys w) (own_keys w h))) in
       let keys = all_map_in (IsKey g) (λ (i : ℕ × ℕ). i.0) _ items in
       record { facts = record { shape = h.shape; mem = h.mem; running = h.running; asks = asks_with (record { peer = p; number = w.next_ask; items = _ }) w.asks keys h.asks }; out = (keys, tt) }
 
@@ -238,11 +223,8 @@ module _ (g : Shape) where
       none e = cc
   asked_in (b ∷ bs) p a e h = pick (b.peer == p) e (λ i. asked_in bs p a i h.1)
     where
-      same : Some b ≡ Some a → b ≡ a
-      same e = cc
-
       pick : (t : Bool) → cond t (Some b) (ask_to bs p) ≡ Some a → (ask_to bs p ≡ Some a → AreKeys g (item_keys a)) → AreKeys g (item_keys a)
-      pick true e r = subst (λ (x : Ask). AreKeys g (item_keys x)) (same e) h.0
+      pick true e r = subst (λ (x : Ask). AreKeys g (item_keys x)) (same_Some b a e) h.0
       pick false e r = r e
 
   in_missed : (p : ℕ) (w : WorkerFacts) (i : ℕ × ℕ) → IsKey g i.0 → IsInsideWorker g w → IsInsideStep (not_found p w i)
@@ -257,14 +239,14 @@ module _ (g : Shape) where
   in_gathered w p n found h = pick (ask_to w.asks p) refl
     where
       over : (a : Ask) → AllByRecursion (λ (i : ℕ × ℕ). IsKey g i.0) a.items → (b : Bool) → IsInsideStep (cond b (answered_ask (record w { asks = without_ask w.asks p }) p a.items found) (quiet w))
-      over a v true = in_each (λ (i : ℕ × ℕ). IsKey g i.0) (not_found p) (in_missed p) _ (filter (λ i. not (is_in i.0 found)) a.items) (all_filter_in (λ (i : ℕ × ℕ). IsKey g i.0) _ a.items v)
-          (in_arrived (record w { asks = without_ask w.asks p }) (keys_of (filter (λ i. is_in i.0 found) a.items)) (all_map_in (IsKey g) (λ (i : ℕ × ℕ). i.0) _ (all_filter_in (λ (i : ℕ × ℕ). IsKey g i.0) _ a.items v))
-          (record { shape = h.shape; mem = h.mem; running = h.running; asks = all_filter_in (λ (a : Ask). AreKeys g (item_keys a)) _ w.asks h.asks }))
+      over a v true = in_each (λ (i : ℕ × ℕ). IsKey g i.0) (not_found p) (in_missed p) _ (filter (λ i. not (is_in i.0 found)) a.items) (all_of_filter (λ (i : ℕ × ℕ). IsKey g i.0) _ a.items v)
+          (in_arrived (record w { asks = without_ask w.asks p }) (keys_of (filter (λ i. is_in i.0 found) a.items)) (all_map_in (IsKey g) (λ (i : ℕ × ℕ). i.0) _ (all_of_filter (λ (i : ℕ × ℕ). IsKey g i.0) _ a.items v))
+          (record { shape = h.shape; mem = h.mem; running = h.running; asks = all_of_filter (λ (a : Ask). AreKeys g (item_keys a)) _ w.asks h.asks }))
       over a v false = quietly w h
 
       pick : (o : Option Ask) → ask_to w.asks p ≡ o → IsInsideStep (gathered_by w p n found o)
       pick None e = quietly w h
-      pick (Some a) e = over a (all_map_out (IsKey g) (λ (i : ℕ × ℕ). i.0) a.items (asked_in w.asks p a e h.asks)) (a.number == n)
+      pick (Some a) e = over a (all_of_map (IsKey g) (λ (i : ℕ × ℕ). i.0) a.items (asked_in w.asks p a e h.asks)) (a.number == n)
 
   -- what an event has to bring with it
   abbrev pub IsInsideEvent : WorkerFacts → WorkerEvent → Type 0
@@ -294,7 +276,7 @@ module _ (g : Shape) where
   unfolding worker_step unasked_keys
   in_step w e v h =
       let r = in_row w e v h in
-      record { facts = record { shape = r.facts.shape; mem = r.facts.mem; running = r.facts.running; asks = r.facts.asks }; out = all_append IsInsideOut (worker_row w e).out _ r.out (in_requests _ _ (all_filter_in (IsKey g) _ (worker_keys (worker_row w e).facts) (own_keys (worker_row w e).facts r.facts))) }
+      record { facts = record { shape = r.facts.shape; mem = r.facts.mem; running = r.facts.running; asks = r.facts.asks }; out = all_join IsInsideOut (worker_row w e).out _ r.out (in_requests _ _ (all_of_filter (IsKey g) _ (worker_keys (worker_row w e).facts) (own_keys (worker_row w e).facts r.facts))) }
 
   pub sends_in : (out : List Instruction) → AllByRecursion IsInsideOut out → AllByRecursion (λ m. AreKeys g (up_keys m)) (sends out)
   sends_in [] h = tt

@@ -11,7 +11,6 @@ pub mod SoundStep
 pub mod NothingLemmas
 pub mod ChoiceAppend
 pub mod TotalLemmas
-pub mod AllLemmas
 pub mod BlameLemmas
 pub mod InsideWorker
 pub mod InsideSched

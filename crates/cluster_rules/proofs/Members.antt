@@ -1,8 +1,9 @@
 -- The members of lists that are filtered, mapped, joined or counted up.
 use Rattle.std.proofs.Common.{◌≡◌, ℕ, zero, suc, ◌+◌, ◌<◌, ◌≤◌, Bool, true, false, cond, ◌||◌, List, [], ◌∷◌, refl, sym, ap, ◌∙◌, subst, arith, ⊎_elim, map}
-use Rattle.std.proofs.lemmas.Bool.{false≢true, cases_lt}
+use Rattle.std.proofs.lemmas.Bool.{false≢true}
 use Rattle.std.proofs.lemmas.List.Elements.{Contains-append_cases, Contains-append_left, Contains-append_right}
 use Rattle.std.specs.List.{filter, flat_map, range_with_len, list_any, Contains}
+use Rattle.std.proofs.Math.Bool.{or-true}
 use Rattle.cluster_rules.specs.Functions.{total, count}
 use Rattle.cluster_rules.proofs.ChoiceLemmas.{contains_head, contains_tail, contains_cases, contains_none}
 
@@ -56,13 +57,6 @@ flat_map_from {A = A} g (z ∷ zs) y h = ⊎_elim (λ s. (z, contains_head z zs,
     later : (x : A) × Contains zs x × Contains (g x) y → (x : A) × Contains (z ∷ zs) x × Contains (g x) y
     later (x, m, e) = (x, contains_tail z zs x m, e)
 
-pub range_to : (a n x : ℕ) → a ≤ x → x < a + n → Contains (range_with_len a n) x
-range_to a zero x l m = absurd (omega arith)
-range_to a (suc n) x l m = ⊎_elim
-    (λ g. contains_tail a (range_with_len (a + 1) n) x (range_to (a + 1) n x (omega arith) (omega arith)))
-    (λ g. let e : a ≡ x = omega arith in subst (λ v. Contains (a ∷ range_with_len (a + 1) n) v) e (contains_head a (range_with_len (a + 1) n)))
-    (cases_lt a x)
-
 pub range_from : (a n x : ℕ) → Contains (range_with_len a n) x → (a ≤ x) × (x < a + n)
 range_from a zero x h = absurd (contains_none x h)
 range_from a (suc n) x h = ⊎_elim
@@ -75,12 +69,8 @@ pub any_some : {A : Type 0} (p : A → Bool) (xs : List A) (y : A) → Contains 
 any_some p [] y h e = absurd (contains_none y h)
 any_some p (x ∷ xs) y h e = ⊎_elim
     (λ s. ap (λ b. b || list_any p xs) (ap p s ∙ e))
-    (λ t. ap (λ b. p x || b) (any_some p xs y t e) ∙ or_true (p x))
+    (λ t. ap (λ b. p x || b) (any_some p xs y t e) ∙ or-true (p x))
     (contains_cases x xs y h)
-  where
-    or_true : (b : Bool) → (b || true) ≡ true
-    or_true true = refl
-    or_true false = refl
 
 -- where the count is not 0, some member passes
 pub counted : (p : ℕ → Bool) (xs : List ℕ) → 0 < count p xs → (x : ℕ) × Contains xs x × (p x ≡ true)

@@ -1,8 +1,9 @@
 -- Facts by which nothing is wanted, held or given to anybody.
-use Rattle.std.proofs.Common.{◌≡◌, ℕ, zero, suc, ◌+◌, ◌*◌, ◌<◌, arith, Bool, true, false, not, cond, ◌&&◌, ◌||◌, List, [], ◌∷◌, Option, Some, None, refl, sym, ap, ◌∙◌, is_some}
+use Rattle.std.proofs.Common.{◌≡◌, ℕ, zero, suc, ◌+◌, ◌*◌, ◌<◌, arith, Bool, false, not, cond, ◌&&◌, ◌||◌, List, [], ◌∷◌, Option, Some, None, refl, sym, ap, ◌∙◌, is_some}
 use Rattle.std.specs.Prelude.{nat_le}
 use Rattle.std.proofs.lemmas.Bool.Decides.{nat_tests}
 use Rattle.std.specs.List.{list_any}
+use Rattle.std.proofs.Math.Bool.{and-false}
 use Rattle.cluster_msgs.specs.Shape.{work_of, nbytes_of}
 use Rattle.cluster_rules.specs.Functions.{total, count, from_one}
 use Rattle.cluster_rules.specs.Derived.{below, is_in, err, err_in, reach, reach_in}
@@ -15,20 +16,12 @@ none_any p (x ∷ xs) h = ap (λ b. b || list_any p xs) (h x) ∙ none_any p xs 
 reach_in-nowhere : (ds : ℕ → List ℕ) (n : ℕ) (start pass : ℕ → Bool) → ((k : ℕ) → start k ≡ false) → (f k : ℕ) → reach_in ds n start pass f k ≡ false
 reach_in-nowhere ds n start pass h zero k = refl
 reach_in-nowhere ds n start pass h (suc f) k = ap (λ b. b || list_any (λ j. is_in k (ds j) && (pass j && reach_in ds n start pass f j)) (below n)) (h k)
-    ∙ none_any (λ j. is_in k (ds j) && (pass j && reach_in ds n start pass f j)) (below n) (λ j. ap (λ b. is_in k (ds j) && (pass j && b)) (reach_in-nowhere ds n start pass h f j) ∙ ap (λ b. is_in k (ds j) && b) (and_false (pass j)) ∙ and_false (is_in k (ds j)))
-  where
-    and_false : (b : Bool) → (b && false) ≡ false
-    and_false true = refl
-    and_false false = refl
+    ∙ none_any (λ j. is_in k (ds j) && (pass j && reach_in ds n start pass f j)) (below n) (λ j. ap (λ b. is_in k (ds j) && (pass j && b)) (reach_in-nowhere ds n start pass h f j) ∙ ap (λ b. is_in k (ds j) && b) (and-false (pass j)) ∙ and-false (is_in k (ds j)))
 
 err_in-nowhere : (ds : ℕ → List ℕ) (held bad : ℕ → Bool) → ((k : ℕ) → bad k ≡ false) → (f k : ℕ) → err_in ds held bad f k ≡ false
 err_in-nowhere ds held bad h zero k = refl
 err_in-nowhere ds held bad h (suc f) k = ap (λ b. not (held k) && (b || list_any (λ d. err_in ds held bad f d) (ds k))) (h k)
-    ∙ ap (λ b. not (held k) && b) (none_any (λ d. err_in ds held bad f d) (ds k) (err_in-nowhere ds held bad h f)) ∙ and_false (not (held k))
-  where
-    and_false : (b : Bool) → (b && false) ≡ false
-    and_false true = refl
-    and_false false = refl
+    ∙ ap (λ b. not (held k) && b) (none_any (λ d. err_in ds held bad f d) (ds k) (err_in-nowhere ds held bad h f)) ∙ and-false (not (held k))
 
 pub need-nowhere : (f : Facts) → ((c k : ℕ) → f.want c k ≡ false) → (k : ℕ) → need f k ≡ false
 unfolding need reach wanted
@@ -42,7 +35,7 @@ pub erred-nowhere : (f : Facts) → ((k : ℕ) → f.bad k ≡ false) → (k : �
 unfolding erred err
 erred-nowhere f h k = err_in-nowhere (deps f) (held f) f.bad h (suc k) k
 
-total-zero : (g : ℕ → ℕ) (xs : List ℕ) → ((x : ℕ) → g x ≡ 0) → total g xs ≡ 0
+pub total-zero : (g : ℕ → ℕ) (xs : List ℕ) → ((x : ℕ) → g x ≡ 0) → total g xs ≡ 0
 total-zero g [] h = refl
 total-zero g (x ∷ xs) h = ap (λ n. n + total g xs) (h x) ∙ ap (λ n. 0 + n) (total-zero g xs h)
 
@@ -64,11 +57,7 @@ holder_count-nowhere f h k = total-zero (λ w. cond (holds f w k) 1 0) (from_one
 
 pub waiters-nowhere : (f : Facts) → ((c k : ℕ) → f.want c k ≡ false) → (k : ℕ) → waiters f k ≡ 0
 unfolding waiters
-waiters-nowhere f h k = total-zero (λ j. cond (is_in k (deps f j) && (need f j && open_key f j)) 1 0) (below (keys f)) (λ j. ap (λ b. cond b 1 0) (ap (λ b. is_in k (deps f j) && (b && open_key f j)) (need-nowhere f h j) ∙ and_false (is_in k (deps f j))))
-  where
-    and_false : (b : Bool) → (b && false) ≡ false
-    and_false true = refl
-    and_false false = refl
+waiters-nowhere f h k = total-zero (λ j. cond (is_in k (deps f j) && (need f j && open_key f j)) 1 0) (below (keys f)) (λ j. ap (λ b. cond b 1 0) (ap (λ b. is_in k (deps f j) && (b && open_key f j)) (need-nowhere f h j) ∙ and-false (is_in k (deps f j))))
 
 pub full-nowhere : (f : Facts) → ((w k : ℕ) → is_on f w k ≡ false) → (w : ℕ) → 0 < threads_of f w * f.setting.saturation → full f w ≡ false
 unfolding full

@@ -1,10 +1,13 @@
 -- What may be stolen and dropped, and that the least is taken.
-use Rattle.std.proofs.Common.{◌≡◌, ℕ, zero, suc, ◌+◌, ◌*◌, ◌^◌, ◌<◌, ◌≤◌, Bool, true, false, not, cond, ◌||◌, List, [], ◌∷◌, Option, Some, None, refl, sym, ap, ◌∙◌, subst, arith, inl, inr, ◌⊎◌, ⊎_elim, map}
-use Rattle.std.proofs.lemmas.Bool.{false≢true, not-false, cases_lt, ltb-true, ltb-false}
+use Rattle.std.proofs.Common.{◌≡◌, ℕ, zero, suc, ◌+◌, ◌*◌, ◌^◌, ◌<◌, ◌≤◌, Bool, true, false, not, cond, ◌||◌, List, [], ◌∷◌, Option, Some, None, refl, sym, ap, ◌∙◌, subst, arith, ◌⊎◌, ⊎_elim, map}
+use Rattle.std.proofs.lemmas.Bool.{false≢true, not-false, ltb-true, ltb-false}
 use Rattle.std.proofs.lemmas.Bool.Decides.{nat_tests}
 use Rattle.std.proofs.Math.Dec.{ltb}
 use Rattle.std.specs.List.{find, filter, flat_map, range_with_len, list_any, Contains}
 use Rattle.std.specs.Option.{option_map, unwrap_or}
+use Rattle.std.proofs.lemmas.Option.{none-some, same_Some}
+use Rattle.small_facts.proofs.Numbers.{equal_or_above}
+use Rattle.small_facts.proofs.Ranges.{range_has}
 use Rattle.cluster_msgs.specs.declared.cores.Steal.{Steal}
 use Rattle.cluster_rules.specs.Functions.{from_one, count}
 use Rattle.cluster_rules.specs.Derived.{below}
@@ -12,14 +15,14 @@ use Rattle.cluster_rules.specs.Choice.{IsBest, IsBestOf}
 use Rattle.cluster_rules.specs.Sched.{Facts, IsSound, keys, holds, connected, workers, bytes_held, holder_count, waiters}
 use Rattle.cluster_rules.specs.Policies.{may_steal, steal_choices, IsStealChoice, may_drop, most_loaded, drop_of, next_drop, level, IsDropOf}
 use Rattle.cluster_rules.proofs.ChoiceLemmas.{IsPreference, unbeaten_best, FoundOf, find_found, contains_none, contains_head, contains_tail}
-use Rattle.cluster_rules.proofs.Members.{filter_from, filter_to, map_to, map_from, flat_map_to, flat_map_from, range_to, range_from, counted}
+use Rattle.cluster_rules.proofs.Members.{filter_from, filter_to, map_to, map_from, flat_map_to, flat_map_from, range_from, counted}
 
 -- a connected worker is a member of the connected workers, and each member is one
 pub worker_from : (f : Facts) (w : ℕ) → Contains (workers f) w → connected f w ≡ true
 worker_from f w h = (filter_from (connected f) (from_one f.last_worker) w h).1
 
 pub worker_to : (f : Facts) → IsSound f → (w : ℕ) → connected f w ≡ true → Contains (workers f) w
-worker_to f s w e = let n = s.numbers w e in filter_to (connected f) (from_one f.last_worker) w (range_to 1 f.last_worker w n.0 (omega (arith, n.1))) e
+worker_to f s w e = let n = s.numbers w e in filter_to (connected f) (from_one f.last_worker) w (range_has 1 f.last_worker w n.0 (omega (arith, n.1))) e
 
 pub steal_choice_from : (f : Facts) (c : Steal) → Contains (steal_choices f) c → IsStealChoice f c
 unfolding steal_choices
@@ -50,7 +53,7 @@ steal_choice_from f c h =
 pub steal_choice_to : (f : Facts) → IsSound f → (c : Steal) → IsStealChoice f c → Contains (steal_choices f) c
 unfolding steal_choices
 steal_choice_to f s c h = filter_to (may_steal f) (flat_map by_key (below (keys f))) c
-    (flat_map_to by_key (below (keys f)) c.key c (range_to 0 (keys f) c.key (omega arith) (omega (arith, h.key)))
+    (flat_map_to by_key (below (keys f)) c.key c (range_has 0 (keys f) c.key (omega arith) (omega (arith, h.key)))
     (flat_map_to (by_victim c.key) (workers f) c.victim c (worker_to f s c.victim h.victim)
     (map_to (λ t. record { key = c.key; victim = c.victim; thief = t }) (workers f) c.thief (worker_to f s c.thief h.thief))))
     h.allowed
@@ -61,18 +64,9 @@ steal_choice_to f s c h = filter_to (may_steal f) (flat_map by_key (below (keys 
     by_key : ℕ → List Steal
     by_key k = flat_map (by_victim k) (workers f)
 
-none_is_no_some : {A : Type 0} (x : A) → None ≡ Some x → ⊥
-none_is_no_some x h = cc
-
-same_some : {A : Type 0} (x y : A) → Some x ≡ Some y → x ≡ y
-same_some x y h = cc
-
-equal_or_more : (a y : ℕ) → a ≤ y → (a ≡ y) ⊎ (a + 1 ≤ y)
-equal_or_more a y l = ⊎_elim (λ g. inr (omega arith)) (λ g. inl (omega arith)) (cases_lt a y)
-
 -- what is found among rising numbers is the least that passes
 pub find_least : (p q : ℕ → Bool) (a n x : ℕ) → find q (filter p (range_with_len a n)) ≡ Some x → (y : ℕ) → a ≤ y → y < x → p y ≡ true → q y ≡ false
-find_least p q a zero x h y l m e = absurd (none_is_no_some x h)
+find_least p q a zero x h y l m e = absurd (none-some x h)
 find_least p q a (suc n) x h y l m e = pick (p a) (q a) refl refl h (λ i k. find_least p q (a + 1) n x i y k m e)
   where
     rest : List ℕ
@@ -82,16 +76,16 @@ find_least p q a (suc n) x h y l m e = pick (p a) (q a) refl refl h (λ i k. fin
     pick true true i j h more = at_first (ap (λ b. cond b (Some a) (find q rest)) (sym j) ∙ h)
       where
         at_first : Some a ≡ Some x → q y ≡ false
-        at_first g = let z : a ≡ x = same_some a x g in absurd (omega arith)
-    pick true false i j h more = ⊎_elim (λ g. ap q (sym g) ∙ j) (λ g. more (ap (λ b. cond b (Some a) (find q rest)) (sym j) ∙ h) g) (equal_or_more a y l)
-    pick false c i j h more = ⊎_elim (λ g. absurd (false≢true (sym i ∙ ap p g ∙ e))) (λ g. more h g) (equal_or_more a y l)
+        at_first g = let z : a ≡ x = same_Some a x g in absurd (omega arith)
+    pick true false i j h more = ⊎_elim (λ g. ap q (sym g) ∙ j) (λ g. more (ap (λ b. cond b (Some a) (find q rest)) (sym j) ∙ h) g) (equal_or_above a y l)
+    pick false c i j h more = ⊎_elim (λ g. absurd (false≢true (sym i ∙ ap p g ∙ e))) (λ g. more h g) (equal_or_above a y l)
 
 all_pass : (a n : ℕ) → filter (λ _. true) (range_with_len a n) ≡ range_with_len a n
 all_pass a zero = refl
 all_pass a (suc n) = ap (λ l. a ∷ l) (all_pass (a + 1) n)
 
 -- some member passes a test that not all fail
-any_true : {A : Type 0} (p : A → Bool) (xs : List A) → list_any p xs ≡ true → (y : A) × Contains xs y × (p y ≡ true)
+pub any_true : {A : Type 0} (p : A → Bool) (xs : List A) → list_any p xs ≡ true → (y : A) × Contains xs y × (p y ≡ true)
 any_true p [] h = absurd (false≢true h)
 any_true {A = A} p (x ∷ xs) h = pick (p x) refl h (any_true p xs)
   where
@@ -116,7 +110,7 @@ abbrev holders_of : Facts → ℕ → List ℕ
 holders_of f k = filter (λ w. holds f w k) (from_one f.last_worker)
 
 is_holder : (f : Facts) (k v : ℕ) → 1 ≤ v → v ≤ f.last_worker → holds f v k ≡ true → Contains (holders_of f k) v
-is_holder f k v l m e = filter_to (λ w. holds f w k) (from_one f.last_worker) v (range_to 1 f.last_worker v l (omega arith)) e
+is_holder f k v l m e = filter_to (λ w. holds f w k) (from_one f.last_worker) v (range_has 1 f.last_worker v l (omega arith)) e
 
 -- the most loaded holder is a best one, or there is none
 most_loaded_best : (f : Facts) (k : ℕ) → IsBestOf (λ v w. ltb (bytes_held f w) (bytes_held f v)) (holders_of f k) (most_loaded f k)
@@ -147,7 +141,7 @@ unfolding next_drop
 next_drop_is f = pick (find (may_drop f) (below (keys f))) refl (find_found (may_drop f) (below (keys f)))
   where
     pick : (o : Option ℕ) → find (may_drop f) (below (keys f)) ≡ o → FoundOf (may_drop f) (below (keys f)) o → IsDropOf f (drop_of f o)
-    pick None e g = λ k l. g k (range_to 0 (keys f) k (omega arith) (omega arith))
+    pick None e g = λ k l. g k (range_has 0 (keys f) k (omega arith) (omega arith))
     pick (Some k) e g = loaded (most_loaded f k) refl (most_loaded_best f k)
       where
         loaded : (r : Option ℕ) → most_loaded f k ≡ r → IsBestOf (λ v w. ltb (bytes_held f w) (bytes_held f v)) (holders_of f k) r → IsDropOf f (option_map (λ w. (w, k)) r)
@@ -176,7 +170,7 @@ level_enough bytes work h = pick (find (lets bytes work) (below 64)) (find_found
     enough = omega arith
 
     pick : (o : Option ℕ) → FoundOf (lets bytes work) (below 64) o → bytes < 2 ^ unwrap_or o 64 * (work + 1)
-    pick None none = omega (arith, ltb-false bytes (2 ^ 63 * (work + 1)) (none 63 (range_to 0 64 63 (omega arith) (omega arith))))
+    pick None none = omega (arith, ltb-false bytes (2 ^ 63 * (work + 1)) (none 63 (range_has 0 64 63 (omega arith) (omega arith))))
     pick (Some n) found = ltb-true bytes (2 ^ n * (work + 1)) found.1
 
 pub level_least : (bytes work n : ℕ) → n < level bytes work → 2 ^ n * (work + 1) ≤ bytes
@@ -184,5 +178,5 @@ unfolding level
 level_least bytes work n l = pick (find (lets bytes work) (below 64)) refl (find_found (lets bytes work) (below 64)) l
   where
     pick : (o : Option ℕ) → find (lets bytes work) (below 64) ≡ o → FoundOf (lets bytes work) (below 64) o → n < unwrap_or o 64 → 2 ^ n * (work + 1) ≤ bytes
-    pick None e none m = ltb-false bytes (2 ^ n * (work + 1)) (none n (range_to 0 64 n (omega arith) (omega arith)))
+    pick None e none m = ltb-false bytes (2 ^ n * (work + 1)) (none n (range_has 0 64 n (omega arith) (omega arith)))
     pick (Some x) e found m = ltb-false bytes (2 ^ n * (work + 1)) (find_least (λ _. true) (lets bytes work) 0 64 x (ap (find (lets bytes work)) (all_pass 0 64) ∙ e) n (omega arith) m refl)

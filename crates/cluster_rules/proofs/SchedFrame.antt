@@ -1,9 +1,12 @@
 -- What one event of the scheduler leaves as it is.
 use Rattle.std.proofs.Common.{◌≡◌, ℕ, zero, suc, ◌+◌, ◌<◌, ◌≤◌, Bool, true, false, cond, ◌&&◌, ◌||◌, List, [], ◌∷◌, ◌++◌, length, Option, Some, None, refl, sym, ap, ◌∙◌, arith, is_none, inl, inr, ◌⊎◌, ⊎_elim}
-use Rattle.std.proofs.lemmas.Bool.{false≢true, eqb-true, or_cases, cases_lt}
-use Rattle.std.proofs.lemmas.Bool.Decides.{nat_tests}
+use Rattle.std.proofs.lemmas.Bool.{false≢true, eqb-true, or_cases, cases_lt, eq-eqb}
 use Rattle.std.specs.List.{filter, range_with_len}
 use Rattle.std.proofs.Math.Dec.{eqb}
+use Rattle.std.proofs.Math.Bool.{or-true}
+use Rattle.std.proofs.lemmas.Option.{none-some}
+use Rattle.small_facts.proofs.Options.{same_second}
+use Rattle.small_facts.proofs.Truth.{and_second, cond_else_false}
 use Rattle.cluster_msgs.specs.declared.messages.Down.{Down}
 use Rattle.cluster_msgs.specs.declared.cores.SchedEvent.{SchedEvent}
 use Rattle.cluster_rules.specs.Derived.{below, is_in}
@@ -12,9 +15,6 @@ use Rattle.cluster_rules.specs.Policies.{place}
 use Rattle.cluster_rules.specs.SchedTable.{Changed, change}
 use Rattle.cluster_rules.specs.SchedStep.{drop_bad, drop_has, drop_on, give, place_one, place_keys, place_all, settle, posted, down_messages, finish_step, sched_step, mail, count_to, takes_away, fence_after}
 use Rattle.cluster_rules.specs.Frame.{IsSettling}
-
-none_is_no_some : {A : Type 0} (x : A) → None ≡ Some x → ⊥
-none_is_no_some x h = cc
 
 -- from f the placements lead to g: only places and the counter change, and a new place has a new attempt
 pub record IsPlacing (f g : Facts) : Type 0 where
@@ -32,21 +32,18 @@ pub record IsPlacing (f g : Facts) : Type 0 where
   pub sent : g.sent ≡ f.sent
   pub fence : g.fence ≡ f.fence
 
-pub same_some : (p q : ℕ × ℕ) → Some p ≡ Some q → p.1 ≡ q.1
-same_some p q e = let same : p ≡ q = cc in ap (λ (r : ℕ × ℕ). r.1) same
-
 placing_none : (f : Facts) → IsPlacing f f
 placing_none f = record { bad = refl; has = refl; counter = omega arith; on = λ k w a h. inl h; stays = λ k p h. h; threads = refl; last_worker = refl; setting = refl; want = refl; steal = refl; finishes = refl; sent = refl; fence = refl }
 
 none_is_not : {A : Type 0} (o : Option A) (p : A) → is_none o ≡ true → o ≡ Some p → ⊥
-none_is_not None p e h = none_is_no_some p h
+none_is_not None p e h = none-some p h
 none_is_not (Some x) p e h = false≢true e
 
 placing_give : (f : Facts) (k w : ℕ) → is_none (f.on k) ≡ true → IsPlacing f (give f k (Some w))
 placing_give f k w free = record { bad = refl; has = refl; counter = omega arith; on = λ j v a h. pick j v a (eqb j k) h; stays = λ j p h. stay j p (eqb j k) refl h; threads = refl; last_worker = refl; setting = refl; want = refl; steal = refl; finishes = refl; sent = refl; fence = refl }
   where
     pick : (j v a : ℕ) (b : Bool) → cond b (Some (w, f.counter)) (f.on j) ≡ Some (v, a) → (f.on j ≡ Some (v, a)) ⊎ ((f.counter ≤ a) × (a < f.counter + 1))
-    pick j v a true h = let e : f.counter ≡ a = same_some (w, f.counter) (v, a) h in inr (omega arith, omega arith)
+    pick j v a true h = let e : f.counter ≡ a = same_second (w, f.counter) (v, a) h in inr (omega arith, omega arith)
     pick j v a false h = inl h
 
     stay : (j : ℕ) (p : ℕ × ℕ) (b : Bool) → eqb j k ≡ b → f.on j ≡ Some p → cond b (Some (w, f.counter)) (f.on j) ≡ Some p
@@ -57,13 +54,9 @@ placing_one : (f : Facts) (k : ℕ) → IsPlacing f (place_one f k)
 unfolding place_one
 placing_one f k = pick (ready f k && is_none (f.on k)) (place f k) refl
   where
-    second : (a b : Bool) → (a && b) ≡ true → b ≡ true
-    second true b e = e
-    second false b e = absurd (false≢true e)
-
     pick : (b : Bool) (to : Option ℕ) → (ready f k && is_none (f.on k)) ≡ b → IsPlacing f (cond b (give f k to) f)
     pick true None e = placing_none f
-    pick true (Some w) e = placing_give f k w (second (ready f k) (is_none (f.on k)) e)
+    pick true (Some w) e = placing_give f k w (and_second (ready f k) (is_none (f.on k)) e)
     pick false to e = placing_none f
 
 placing_then : (f g h : Facts) → IsPlacing f g → IsPlacing g h → IsPlacing f h
@@ -90,20 +83,9 @@ pub placing_keys : (f : Facts) (ks : List ℕ) → IsPlacing f (place_keys f ks)
 placing_keys f [] = placing_none f
 placing_keys f (k ∷ ks) = placing_then f (place_one f k) (place_keys (place_one f k) ks) (placing_one f k) (placing_keys (place_one f k) ks)
 
-only_true : (b x : Bool) → cond b x false ≡ true → x ≡ true
-only_true true x e = e
-only_true false x e = absurd (false≢true e)
-
 only_some : {A : Type 0} (b : Bool) (o : Option A) (x : A) → cond b o None ≡ Some x → o ≡ Some x
 only_some true o x e = e
-only_some false o x e = absurd (none_is_no_some x e)
-
-pub same_eqb : (a b : ℕ) → a ≡ b → eqb a b ≡ true
-same_eqb a b e = grind (arith, nat_tests)
-
-pub or_true : (b : Bool) → (b || true) ≡ true
-or_true true = refl
-or_true false = refl
+only_some false o x e = absurd (none-some x e)
 
 cons_where : {A : Type 0} (b : Bool) (x : A) (xs ys zs : List A) → xs ≡ ys ++ zs → cond b (x ∷ xs) xs ≡ cond b (x ∷ ys) ys ++ zs
 cons_where true x xs ys zs e = ap (λ l. x ∷ l) e
@@ -120,14 +102,14 @@ in_filter p x (y ∷ xs) i e = pick (p y) refl
     (λ h. in_filter p x xs h e)
   where
     pick : (b : Bool) → p y ≡ b → (is_in x xs ≡ true → is_in x (filter p xs) ≡ true) → is_in x (cond b (y ∷ filter p xs) (filter p xs)) ≡ true
-    pick true q rest = ⊎_elim (λ h. ap (λ b. b || is_in x (filter p xs)) h) (λ h. ap (λ b. eqb y x || b) (rest h) ∙ or_true (eqb y x)) (or_cases (eqb y x) (is_in x xs) i)
+    pick true q rest = ⊎_elim (λ h. ap (λ b. b || is_in x (filter p xs)) h) (λ h. ap (λ b. eqb y x || b) (rest h) ∙ or-true (eqb y x)) (or_cases (eqb y x) (is_in x xs) i)
     pick false q rest = ⊎_elim (λ h. absurd (false≢true (sym q ∙ ap p (eqb-true y x h) ∙ e))) rest (or_cases (eqb y x) (is_in x xs) i)
 
 pub in_range : (a n x : ℕ) → a ≤ x → x < a + n → is_in x (range_with_len a n) ≡ true
 in_range a zero x l m = absurd (omega arith)
 in_range a (suc n) x l m = ⊎_elim
-    (λ h. ap (λ b. eqb a x || b) (in_range (a + 1) n x (omega arith) (omega arith)) ∙ or_true (eqb a x))
-    (λ h. let e : eqb a x ≡ true = same_eqb a x (omega arith) in ap (λ b. b || is_in x (range_with_len (a + 1) n)) e)
+    (λ h. ap (λ b. eqb a x || b) (in_range (a + 1) n x (omega arith) (omega arith)) ∙ or-true (eqb a x))
+    (λ h. let e : eqb a x ≡ true = eq-eqb a x (omega arith) in ap (λ b. b || is_in x (range_with_len (a + 1) n)) e)
     (cases_lt a x)
 
 -- as many messages are counted for a worker as it gets
@@ -168,7 +150,7 @@ settling f g =
       threads = p.threads;
       last_worker = p.last_worker;
       finishes = p.finishes;
-      bad = λ k e. only_true (known g.facts k) (g.facts.bad k) (ap (λ b. b k) (sym p.bad) ∙ e);
+      bad = λ k e. cond_else_false (known g.facts k) (g.facts.bad k) (ap (λ b. b k) (sym p.bad) ∙ e);
       has = λ w k c e. only_some (need (drop_bad g.facts) k) (g.facts.has w k) c (ap (λ h. h w k) (sym p.has) ∙ e);
       counter = p.counter;
       on = λ k w a e. ⊎_elim (λ i. inl (only_some (ready (drop_has (drop_bad g.facts)) k) (g.facts.on k) (w, a) i)) (λ n. inr n) (p.on k w a e);

@@ -1,25 +1,24 @@
 -- The derived facts of the scheduler, one step each, and past the last key.
-use Rattle.std.proofs.Common.{◌≡◌, ℕ, zero, suc, ◌<◌, ◌≤◌, Bool, true, false, not, ◌&&◌, ◌||◌, List, [], ◌∷◌, Option, Some, None, refl, sym, ap, ◌∙◌, arith, is_some, is_none, cond, ◌++◌, ◌+◌, zero-add, append_assoc, append-nil}
+use Rattle.std.proofs.Common.{◌≡◌, ℕ, zero, suc, ◌<◌, ◌≤◌, Bool, true, false, not, ◌&&◌, ◌||◌, List, [], ◌∷◌, Option, Some, None, refl, sym, ap, ◌∙◌, arith, is_some, is_none, cond, ◌++◌, ◌+◌, zero-add, append-nil}
 use Rattle.std.specs.List.{find, filter, filter_map, flat_map, cons_option}
 use Rattle.std.proofs.lemmas.Bool.{false≢true}
 use Rattle.std.proofs.lemmas.List.{get_or_past}
 use Rattle.std.proofs.lemmas.List.Elements.{filter_map-append, filter-append}
 use Rattle.std.specs.List.{list_any, range_with_len, AllByRecursion}
+use Rattle.std.proofs.lemmas.Grind.{flat_map-append}
+use Rattle.small_facts.proofs.Ranges.{range_push}
+use Rattle.small_facts.proofs.Truth.{and_second, cond_same}
 use Rattle.cluster_rules.specs.SchedTable.{failed, is_this}
 use Rattle.cluster_rules.specs.SchedStep.{give, place_one, place_keys}
 use Rattle.cluster_rules.specs.Functions.{from_one, put}
 use Rattle.cluster_rules.specs.Derived.{below, is_in, err_step}
 use Rattle.cluster_rules.specs.Sched.{Facts, IsSound, keys, deps, holds, held, erred, wanted, known, need, open_key, ready, fed, blame, blame_step, blame_in, blame_from}
 use Rattle.cluster_rules.specs.Policies.{place}
-use Rattle.cluster_rules.proofs.DerivedLemmas.{err-is, reach-is, All-weaken, err-past, reach-past, list_any-agree, any_none, range_more}
+use Rattle.cluster_rules.proofs.DerivedLemmas.{err-is, reach-is, All-weaken, err-past, reach-past, list_any-agree, any_none}
 
 all_of : {P : ℕ → Type 0} → ((x : ℕ) → P x) → (xs : List ℕ) → AllByRecursion P xs
 all_of h [] = tt
 all_of h (x ∷ xs) = (h x, all_of h xs)
-
-and_second : (a b : Bool) → (a && b) ≡ true → b ≡ true
-and_second true b e = e
-and_second false b e = absurd (false≢true e)
 
 pub deps-past : (f : Facts) → (k : ℕ) → keys f ≤ k → deps f k ≡ []
 deps-past f k h = get_or_past f.setting.shape.deps k [] h
@@ -137,7 +136,7 @@ place_keys-push f [] k = refl
 place_keys-push f (j ∷ ks) k = place_keys-push (place_one f j) ks k
 
 pub below-more : (n : ℕ) → below (n + 1) ≡ below n ++ n ∷ []
-below-more n = range_more 0 n ∙ ap (λ m. below n ++ m ∷ []) (zero-add n)
+below-more n = range_push 0 n ∙ ap (λ m. below n ++ m ∷ []) (zero-add n)
 
 -- one placement draws at most one number
 pub counter-place_one : (f : Facts) (k : ℕ) → (place_one f k).counter ≤ f.counter + 1
@@ -164,11 +163,7 @@ place_one-some f k w e p = rw (e, p) refl
 
 pub place_one-none : (f : Facts) (k : ℕ) → place f k ≡ None → place_one f k ≡ f
 unfolding place_one
-place_one-none f k p = rw p (either (ready f k && is_none (f.on k)))
-  where
-    either : (b : Bool) → cond b f f ≡ f
-    either true = refl
-    either false = refl
+place_one-none f k p = rw p (cond_same (ready f k && is_none (f.on k)) f)
 
 pub place_one-no : (f : Facts) (k : ℕ) → (ready f k && is_none (f.on k)) ≡ false → place_one f k ≡ f
 unfolding place_one
@@ -193,14 +188,10 @@ setting-failed f w k a = pick (is_this w a (f.on k))
 
 -- one more member of a list that is filtered, mapped, or both
 pub filter_map-more : {A : Type 0} (h : ℕ → Option A) (a n : ℕ) → filter_map h (range_with_len a (n + 1)) ≡ filter_map h (range_with_len a n) ++ cons_option (h (a + n)) []
-filter_map-more h a n = ap (filter_map h) (range_more a n) ∙ filter_map-append h (range_with_len a n) ((a + n) ∷ [])
+filter_map-more h a n = ap (filter_map h) (range_push a n) ∙ filter_map-append h (range_with_len a n) ((a + n) ∷ [])
 
 pub filter-more : (p : ℕ → Bool) (a n : ℕ) → filter p (range_with_len a (n + 1)) ≡ filter p (range_with_len a n) ++ cond (p (a + n)) ((a + n) ∷ []) []
-filter-more p a n = ap (filter p) (range_more a n) ∙ filter-append p (range_with_len a n) ((a + n) ∷ [])
-
-pub flat_map-append : {A : Type 0} (g : ℕ → List A) (xs ys : List ℕ) → flat_map g (xs ++ ys) ≡ flat_map g xs ++ flat_map g ys
-flat_map-append g [] ys = refl
-flat_map-append g (x ∷ xs) ys = ap (λ l. g x ++ l) (flat_map-append g xs ys) ∙ sym (append_assoc (g x) (flat_map g xs) (flat_map g ys))
+filter-more p a n = ap (filter p) (range_push a n) ∙ filter-append p (range_with_len a n) ((a + n) ∷ [])
 
 pub filter_map-below : {A : Type 0} (h : ℕ → Option A) (n : ℕ) → filter_map h (below (n + 1)) ≡ filter_map h (below n) ++ cons_option (h n) []
 filter_map-below h n = ap (filter_map h) (below-more n) ∙ filter_map-append h (below n) (n ∷ [])

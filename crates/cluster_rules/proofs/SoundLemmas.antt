@@ -1,11 +1,13 @@
 -- Each event that is taken keeps every fact in range.
-use Rattle.std.proofs.Common.{◌≡◌, ℕ, zero, suc, ◌+◌, ◌<◌, ◌≤◌, Bool, true, false, not, cond, ◌&&◌, ◌||◌, List, [], ◌∷◌, ◌++◌, length, Option, Some, None, refl, sym, ap, ◌∙◌, subst, arith, is_some, is_none, inl, inr, ◌⊎◌, ⊎_elim, zero-add}
+use Rattle.std.proofs.Common.{◌≡◌, ℕ, zero, suc, ◌+◌, ◌<◌, ◌≤◌, Bool, true, false, not, cond, ◌&&◌, ◌||◌, List, [], ◌∷◌, ◌++◌, length, Option, Some, None, refl, sym, ap, ◌∙◌, subst, is_some, is_none, inl, inr, ◌⊎◌, ⊎_elim, zero-add}
 use Rattle.std.specs.Prelude.{nat_le, nat_lt}
 use Rattle.std.proofs.lemmas.Bool.{false≢true, true≢false, eqb-true, ltb-true, leb-true, and_parts, or_parts, or_from}
-use Rattle.std.proofs.lemmas.Bool.Decides.{nat_tests}
 use Rattle.std.proofs.lemmas.List.Elements.{filter-append}
 use Rattle.std.proofs.Math.Dec.{eqb, ltb}
 use Rattle.std.specs.List.{filter, range_with_len, list_all, Contains}
+use Rattle.std.proofs.Math.Bool.{and-false}
+use Rattle.small_facts.proofs.Numbers.{unequal_past}
+use Rattle.small_facts.proofs.Options.{cond_none, some_not_none}
 use Rattle.cluster_msgs.specs.Shape.{IsShape}
 use Rattle.cluster_msgs.specs.declared.messages.Up.{Up}
 use Rattle.cluster_msgs.specs.declared.messages.Up.TheVariants.{TaskFinished, TaskErred, AddKeys, ReleaseWorkerData, MissingData, RequestRefreshWhoHas, StealResponse}
@@ -24,7 +26,6 @@ use Rattle.cluster_rules.specs.SchedStep.{drop_bad, drop_has, drop_on, give, pla
 use Rattle.cluster_rules.proofs.ChoiceLemmas.{least_by_least}
 use Rattle.cluster_rules.proofs.Members.{filter_from}
 use Rattle.cluster_rules.proofs.PolicyLemmas.{worker_from, steal_choice_from}
-use Rattle.cluster_rules.proofs.DerivedLemmas.{range_more}
 
 -- what a change of facts has to keep where nobody joins or leaves
 pub record IsBounded (f g : Facts) : Type 0 where
@@ -63,23 +64,11 @@ sound_bounded f g s b = record {
     same_keys : (k : ℕ) → keys g ≤ k → keys f ≤ k
     same_keys k l = subst (λ (c : Setting). length c.shape.deps ≤ k) b.setting l
 
--- one write, read at a place
-not_there : (j k n : ℕ) → k < n → n ≤ j → eqb j k ≡ false
-not_there j k n l m = grind (arith, nat_tests)
-
-and_false : (b : Bool) → (b && false) ≡ false
-and_false true = refl
-and_false false = refl
-
-pub none_kept : {A : Type 0} (b : Bool) (o : Option A) → o ≡ None → cond b None o ≡ None
-none_kept true o e = refl
-none_kept false o e = e
-
 pub put_past : {A : Type 0} (f : ℕ → Option A) (k n j : ℕ) (v : Option A) → k < n → n ≤ j → f j ≡ None → put f k v j ≡ None
-put_past f k n j v l m e = ap (λ b. cond b v (f j)) (not_there j k n l m) ∙ e
+put_past f k n j v l m e = ap (λ b. cond b v (f j)) (unequal_past j k n l m) ∙ e
 
 put_pair_past : {A : Type 0} (f : ℕ → ℕ → Option A) (w k n v j : ℕ) (x : Option A) → k < n → n ≤ j → f v j ≡ None → put_pair f w k x v j ≡ None
-put_pair_past f w k n v j x l m e = ap (λ b. cond (eqb v w && b) x (f v j)) (not_there j k n l m) ∙ ap (λ b. cond b x (f v j)) (and_false (eqb v w)) ∙ e
+put_pair_past f w k n v j x l m e = ap (λ b. cond (eqb v w && b) x (f v j)) (unequal_past j k n l m) ∙ ap (λ b. cond b x (f v j)) (and-false (eqb v w)) ∙ e
 
 -- who holds a key after a write, and who has it
 held_then : (f : Facts) (w k : ℕ) (x : Option ℕ) → IsSound f → connected f w ≡ true → (v j : ℕ) → is_some (put_pair f.has w k x v j) ≡ true → connected f v ≡ true
@@ -113,9 +102,6 @@ pub steal_less : (f : Facts) (b : Bool) → IsSound f → (j : ℕ) → cond b N
 steal_less f true s j h = refl
 steal_less f false s j h = s.steal j h
 
-none_is_no_some : {A : Type 0} (x : A) → Some x ≡ None → ⊥
-none_is_no_some x h = cc
-
 -- the rows
 pub bounded_finished : (f : Facts) → IsSound f → (w k a : ℕ) → k < keys f → connected f w ≡ true → IsBounded f (finished f w k a)
 unfolding finished
@@ -129,7 +115,7 @@ bounded_finished f s w k a l c = pick (is_this w a (f.on k))
       want = s.want;
       has = λ v j m. put_pair_past f.has w k (keys f) v j (Some f.counter) l m (s.has v j m);
       bad = s.bad;
-      on = λ j m. none_kept (eqb j k) (f.on j) (s.on j m);
+      on = λ j m. cond_none (eqb j k) (f.on j) (s.on j m);
       steal = λ j h. steal_less f (eqb j k) s j h;
       holders = held_then f w k (Some f.counter) s c;
       places = λ v j h. on_less f (eqb j k) s v j h;
@@ -150,8 +136,8 @@ bounded_failed f s w k a l = pick (is_this w a (f.on k))
       last_worker = refl;
       want = s.want;
       has = s.has;
-      bad = λ j m. false_kept (eqb j k) true (f.bad j) (not_there j k (keys f) l m) (s.bad j m);
-      on = λ j m. none_kept (eqb j k) (f.on j) (s.on j m);
+      bad = λ j m. false_kept (eqb j k) true (f.bad j) (unequal_past j k (keys f) l m) (s.bad j m);
+      on = λ j m. cond_none (eqb j k) (f.on j) (s.on j m);
       steal = λ j h. steal_less f (eqb j k) s j h;
       holders = s.holders;
       places = λ v j h. on_less f (eqb j k) s v j h;
@@ -179,7 +165,7 @@ bounded_gone f s w k = record {
   threads = refl;
   last_worker = refl;
   want = s.want;
-  has = λ v j m. none_kept (eqb v w && eqb j k) (f.has v j) (s.has v j m);
+  has = λ v j m. cond_none (eqb v w && eqb j k) (f.has v j) (s.has v j m);
   bad = s.bad;
   on = s.on;
   steal = s.steal;
@@ -245,7 +231,7 @@ bounded_lost_copy f s x k c = pick (is_copy c (f.has x k))
 -- a key that has a place
 has_place : (w a : ℕ) (o : Option (ℕ × ℕ)) → is_this w a o ≡ true → o ≡ None → ⊥
 has_place w a None h e = false≢true h
-has_place w a (Some p) h e = none_is_no_some p e
+has_place w a (Some p) h e = some_not_none p e
 
 bounded_stolen : (f : Facts) → IsSound f → (k thief : ℕ) → k < keys f → IsBounded f (stolen_by f k thief)
 bounded_stolen f s k thief l = pick (connected f thief) refl
@@ -274,7 +260,7 @@ bounded_stolen f s k thief l = pick (connected f thief) refl
       want = s.want;
       has = s.has;
       bad = s.bad;
-      on = λ j m. none_kept (eqb j k) (f.on j) (s.on j m);
+      on = λ j m. cond_none (eqb j k) (f.on j) (s.on j m);
       steal = λ j h. steal_less f (eqb j k) s j h;
       holders = s.holders;
       places = λ v j h. on_less f (eqb j k) s v j h;

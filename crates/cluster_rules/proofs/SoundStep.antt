@@ -2,10 +2,14 @@
 use Rattle.std.proofs.Common.{◌≡◌, ℕ, zero, suc, ◌+◌, ◌<◌, ◌≤◌, Bool, true, false, not, cond, ◌&&◌, ◌||◌, List, [], ◌∷◌, ◌++◌, length, Option, Some, None, refl, sym, ap, ◌∙◌, subst, arith, is_some, is_none, inl, inr, ◌⊎◌, ⊎_elim, length-append}
 use Rattle.std.specs.Prelude.{nat_le, nat_lt}
 use Rattle.std.proofs.lemmas.Bool.{false≢true, true≢false, eqb-true, ltb-true, leb-true, and_parts}
-use Rattle.std.proofs.lemmas.Bool.Decides.{nat_tests}
 use Rattle.std.proofs.lemmas.List.Elements.{filter-append}
 use Rattle.std.proofs.Math.Dec.{eqb, ltb}
 use Rattle.std.specs.List.{filter, range_with_len, list_any, list_all, Contains, AllByRecursion}
+use Rattle.std.proofs.Math.Bool.{and-false}
+use Rattle.std.proofs.lemmas.Option.{none-some}
+use Rattle.small_facts.proofs.Numbers.{unequal_between}
+use Rattle.small_facts.proofs.Options.{cond_none, some_not_none}
+use Rattle.small_facts.proofs.Ranges.{range_push}
 use Rattle.cluster_msgs.specs.Shape.{IsShape}
 use Rattle.cluster_msgs.specs.declared.messages.Up.{Up}
 use Rattle.cluster_msgs.specs.declared.messages.Up.TheVariants.{TaskFinished, TaskErred, AddKeys, ReleaseWorkerData, MissingData, RequestRefreshWhoHas, StealResponse}
@@ -24,8 +28,8 @@ use Rattle.cluster_rules.specs.SchedStep.{drop_bad, drop_has, drop_on, give, pla
 use Rattle.cluster_rules.proofs.ChoiceLemmas.{least_by_least, contains_head, contains_tail}
 use Rattle.cluster_rules.proofs.Members.{filter_from, range_from}
 use Rattle.cluster_rules.proofs.PolicyLemmas.{worker_from, steal_choice_from}
-use Rattle.cluster_rules.proofs.DerivedLemmas.{range_more, All_below}
-use Rattle.cluster_rules.proofs.SoundLemmas.{IsBounded, bounded_self, sound_bounded, bounded_then, bounded_finished, bounded_failed, bounded_add_keys, bounded_released, bounded_lost_copy, bounded_answered, bounded_marked, bounded_gone, none_kept, put_past, held_some, on_some, on_then, steal_less}
+use Rattle.cluster_rules.proofs.DerivedLemmas.{All_below}
+use Rattle.cluster_rules.proofs.SoundLemmas.{IsBounded, bounded_self, sound_bounded, bounded_then, bounded_finished, bounded_failed, bounded_add_keys, bounded_released, bounded_lost_copy, bounded_answered, bounded_marked, bounded_gone, put_past, held_some, on_some, on_then, steal_less}
 
 first_key : (f : Facts) (k : ℕ) → are_keys f (k ∷ []) ≡ true → k < keys f
 first_key f k h = ltb-true k (keys f) (and_parts (ltb k (keys f)) true h).0
@@ -44,10 +48,7 @@ not_listed : (f : Facts) (ks : List ℕ) → are_keys f ks ≡ true → (k : ℕ
 not_listed f [] h k l = refl
 not_listed f (q ∷ qs) h k l =
     let parts = and_parts (ltb q (keys f)) (are_keys f qs) h in
-    ap (λ b. b || is_in k qs) (apart q k (keys f) (ltb-true q (keys f) parts.0) l) ∙ not_listed f qs parts.1 k l
-  where
-    apart : (q k n : ℕ) → q < n → n ≤ k → eqb q k ≡ false
-    apart q k n h l = grind (arith, nat_tests)
+    ap (λ b. b || is_in k qs) (unequal_between q k (keys f) (ltb-true q (keys f) parts.0) l) ∙ not_listed f qs parts.1 k l
 
 bounded_wants_more : (f : Facts) → IsSound f → (c : ℕ) (ks : List ℕ) → are_keys f ks ≡ true → IsBounded f (wants_more f c ks)
 unfolding wants_more
@@ -55,7 +56,7 @@ bounded_wants_more f s c ks h = record {
   setting = refl;
   threads = refl;
   last_worker = refl;
-  want = λ d k l. ap (λ b. b || (eqb d c && is_in k ks)) (s.want d k l) ∙ ap (λ b. eqb d c && b) (not_listed f ks h k l) ∙ and_false (eqb d c);
+  want = λ d k l. ap (λ b. b || (eqb d c && is_in k ks)) (s.want d k l) ∙ ap (λ b. eqb d c && b) (not_listed f ks h k l) ∙ and-false (eqb d c);
   has = s.has;
   bad = s.bad;
   on = s.on;
@@ -63,10 +64,6 @@ bounded_wants_more f s c ks h = record {
   holders = s.holders;
   places = s.places;
 }
-  where
-    and_false : (b : Bool) → (b && false) ≡ false
-    and_false true = refl
-    and_false false = refl
 
 bounded_wants_less : (f : Facts) → IsSound f → (c : ℕ) (ks : List ℕ) → IsBounded f (wants_less f c ks)
 unfolding wants_less
@@ -163,7 +160,7 @@ sound_joined f s n low high few last = record {
     fewer : length (filter there (from_one (f.last_worker + 1))) ≤ 64
     fewer =
         let split : filter there (from_one (f.last_worker + 1)) ≡ filter there (from_one f.last_worker) ++ cond (there (1 + f.last_worker)) ((1 + f.last_worker) ∷ []) []
-        = ap (filter there) (range_more 1 f.last_worker) ∙ filter-append there (from_one f.last_worker) ((1 + f.last_worker) ∷ []) in
+        = ap (filter there) (range_push 1 f.last_worker) ∙ filter-append there (from_one f.last_worker) ((1 + f.last_worker) ∷ []) in
         let kept = filter_no_more there (connected f) (from_one f.last_worker) old in
         let more = one_more (there (1 + f.last_worker)) in
         let whole = ap length split ∙ length-append (filter there (from_one f.last_worker)) (cond (there (1 + f.last_worker)) ((1 + f.last_worker) ∷ []) []) in
@@ -177,9 +174,9 @@ sound_left f s w = record {
   few_clients = s.few_clients;
   saturation = s.saturation;
   want = s.want;
-  has = λ v k l. none_kept (eqb v w) (f.has v k) (s.has v k l);
+  has = λ v k l. cond_none (eqb v w) (f.has v k) (s.has v k l);
   bad = s.bad;
-  on = λ k l. none_kept (is_on f w k) (f.on k) (s.on k l);
+  on = λ k l. cond_none (is_on f w k) (f.on k) (s.on k l);
   steal = λ k h. steal_less f (is_on f w k) s k h;
   numbers = λ v e. s.numbers v (was v (eqb v w) e);
   threads = λ v n e. thread v n (eqb v w) e;
@@ -194,10 +191,7 @@ sound_left f s w = record {
     was v false h = h
 
     thread : (v n : ℕ) (b : Bool) → cond b None (f.threads v) ≡ Some n → (1 ≤ n) × (n ≤ 16)
-    thread v n true h = absurd (none_some n h)
-      where
-        none_some : (n : ℕ) → None ≡ Some n → ⊥
-        none_some n h = cc
+    thread v n true h = absurd (none-some n h)
     thread v n false h = s.threads v n h
 
     holder : (v k : ℕ) (b : Bool) → is_some (cond b None (f.has v k)) ≡ true → is_some (cond b None (f.threads v)) ≡ true
@@ -213,11 +207,11 @@ sound_left f s w = record {
         at false q = s.places v k h
 
 -- settling
-false_less : (b x : Bool) → x ≡ false → cond b x false ≡ false
+pub false_less : (b x : Bool) → x ≡ false → cond b x false ≡ false
 false_less true x e = e
 false_less false x e = refl
 
-none_less : {A : Type 0} (b : Bool) (o : Option A) → o ≡ None → cond b o None ≡ None
+pub none_less : {A : Type 0} (b : Bool) (o : Option A) → o ≡ None → cond b o None ≡ None
 none_less true o e = e
 none_less false o e = refl
 
@@ -238,11 +232,11 @@ bounded_drop_on f s = record { setting = refl; threads = refl; last_worker = ref
     steal_some k false h = refl
 
 -- a candidate is connected
-or_else_from : (xs ys : List ℕ) (w : ℕ) → Contains (or_else xs ys) w → Contains xs w ⊎ Contains ys w
+pub or_else_from : (xs ys : List ℕ) (w : ℕ) → Contains (or_else xs ys) w → Contains xs w ⊎ Contains ys w
 or_else_from [] ys w h = inr h
 or_else_from (x ∷ xs) ys w h = inl h
 
-candidate_by_connected : (f : Facts) (ds : List ℕ) (w : ℕ) → Contains (candidates_by f ds) w → connected f w ≡ true
+pub candidate_by_connected : (f : Facts) (ds : List ℕ) (w : ℕ) → Contains (candidates_by f ds) w → connected f w ≡ true
 candidate_by_connected f [] w h = worker_from f w (filter_from (λ v. not (full f v)) (workers f) w h).0
 candidate_by_connected f (d ∷ ds) w h = ⊎_elim
     (λ l. worker_from f w (filter_from (λ v. list_any (holds f v) (d ∷ ds)) (workers f) w l).0)
@@ -269,11 +263,8 @@ bounded_give f s k w l c = record {
   places = λ v j h. on_then f (eqb j k) w f.counter s c v j h;
 }
   where
-    some_none : (p : ℕ × ℕ) → Some p ≡ None → ⊥
-    some_none p h = cc
-
     steal_at : (j : ℕ) (b : Bool) → cond b (Some (w, f.counter)) (f.on j) ≡ None → f.steal j ≡ None
-    steal_at j true h = absurd (some_none (w, f.counter) h)
+    steal_at j true h = absurd (some_not_none (w, f.counter) h)
     steal_at j false h = s.steal j h
 
 bounded_place_one : (f : Facts) → IsSound f → (k : ℕ) → k < keys f → IsBounded f (place_one f k)
@@ -342,12 +333,9 @@ sound_opening c shape few saturation = record {
   on = λ k l. refl;
   steal = λ k h. refl;
   numbers = λ w e. absurd (false≢true e);
-  threads = λ w n e. absurd (none_some n e);
+  threads = λ w n e. absurd (none-some n e);
   few_workers = omega arith;
   few_numbers = omega arith;
   holders = λ w k e. absurd (false≢true e);
   places = λ w k e. absurd (false≢true e);
 }
-  where
-    none_some : (n : ℕ) → None ≡ Some n → ⊥
-    none_some n h = cc

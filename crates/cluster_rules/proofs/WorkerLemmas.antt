@@ -1,8 +1,12 @@
 -- What a worker keeps at each of its events.
-use Rattle.std.proofs.Common.{◌≡◌, ℕ, zero, suc, ◌+◌, ◌<◌, ◌≤◌, Bool, true, false, not, ◌&&◌, ◌||◌, List, [], ◌∷◌, ◌++◌, Option, Some, None, refl, sym, ap, ◌∙◌, subst, arith, cond, is_some, take, filter, find, ⊎_elim, ◌⊎◌, inl, inr, zero-add, fold}
+use Rattle.std.proofs.Common.{◌≡◌, ℕ, ◌+◌, ◌<◌, ◌≤◌, Bool, true, false, not, ◌&&◌, ◌||◌, List, [], ◌∷◌, ◌++◌, Option, Some, None, refl, sym, ap, ◌∙◌, subst, arith, cond, is_some, filter, find, ⊎_elim, ◌⊎◌, inl, inr, zero-add, fold}
 use Rattle.std.specs.Prelude.{option_map, nat_lt, ◌==◌}
-use Rattle.std.specs.List.{list_any, filter_map, cons_option, range_with_len}
-use Rattle.std.proofs.lemmas.Bool.{true≢false, false≢true, eqb-true, eqb-false, eq-eqb, or_cases, and_parts}
+use Rattle.std.specs.List.{list_any, filter_map, cons_option}
+use Rattle.std.proofs.lemmas.Bool.{true≢false, false≢true, eqb-true, eq-eqb, or_cases, and_parts, or_right, and_right, or_left}
+use Rattle.std.proofs.lemmas.Option.{same_Some}
+use Rattle.small_facts.proofs.Lists.{any_of_take}
+use Rattle.small_facts.proofs.Options.{find_passes}
+use Rattle.small_facts.proofs.Truth.{or_weaker}
 use Rattle.cluster_msgs.specs.Shape.{Shape, key_count}
 use Rattle.cluster_msgs.specs.declared.cores.WState.{WState}
 use Rattle.cluster_msgs.specs.declared.cores.WState.TheVariants.{Memory, Executing, ResumedExecuting, CancelledExecuting, ResumedFlight, Flight, CancelledFlight, Ready, Waiting, Fetch, Missing, Error, Released, Forgotten}
@@ -17,6 +21,7 @@ use Rattle.cluster_rules.specs.Derived.{is_in}
 use Rattle.cluster_rules.specs.Worker.{Ask, WorkerFacts, new_worker, worker_keys, names_key, is_asked_for, flying, awaited, used, is_wanted, is_fed, has_any, wstate, is_ready_state, is_fetch_state, is_missing_state, is_unstarted_state, running_count, would_start, fetchable, item_at, copy_at, ask_items, ask_to, without_ask, with_ask}
 use Rattle.cluster_rules.specs.WorkerStep.{WorkerStep, quiet, after_out, each_key, taken, set_holders, into_mem, give_up, given, free_key, yields, asked_back, remove_replica, remove_replicas, acquire, refresh, take_down, start, Arrivals, arrive_as, arrive, arrived, stopped, erred_as, done, keys_of, ask_with, ask_peer, lose_holders, not_found, answered_ask, gathered_by, gathered, worker_row, unasked_keys, seek_missing, worker_step, is_key, worker_takes}
 use Rattle.cluster_rules.specs.WorkerKept.{flights, KeyKept, KeptAt, KeysKept, IsKept}
+use Rattle.cluster_rules.proofs.SchedFrame.{in_range}
 
 -- the states, as tests alone
 abbrev state_by : Bool → Bool → Bool → Bool → Bool → Bool → Bool → Bool → Bool → WState
@@ -114,16 +119,13 @@ flights-gone [] p k a h n = absurd (some_none h)
     some_none h = cc
 flights-gone (b ∷ bs) p k a h n = pick (b.peer == p) (λ e. flights-gone bs p k a e n) h
   where
-    some_is : (x y : Ask) → Some x ≡ Some y → x ≡ y
-    some_is x y h = cc
-
     more : (n : ℕ) → n ≤ flights bs k → (b' : Bool) → b' ≡ true → n + 1 ≤ cond b' 1 0 + flights bs k
     more n l true e = omega arith
     more n l false e = absurd (false≢true e)
 
     pick : (t : Bool) → (ask_to bs p ≡ Some a → flights (without_ask bs p) k + 1 ≤ flights bs k) → cond t (Some b) (ask_to bs p) ≡ Some a
         → flights (cond (not t) (b ∷ without_ask bs p) (without_ask bs p)) k + 1 ≤ cond (names_key k b) 1 0 + flights bs k
-    pick true r e = more _ (flights-without bs p k) (names_key k b) (ap (λ (o : Ask). names_key k o) (some_is b a e) ∙ n)
+    pick true r e = more _ (flights-without bs p k) (names_key k b) (ap (λ (o : Ask). names_key k o) (same_Some b a e) ∙ n)
     pick false r e = omega (arith, r e)
 
 -- what holds at one key and at each other
@@ -189,11 +191,7 @@ no_task_left : (o : Option ℕ) (m r d u : Bool) (n : ℕ) → KeyKept o m r d u
 no_task_left o m r d u n h = record { no_task = λ e. refl; not_run = h.not_run; not_flying = h.not_flying; not_asked = h.not_asked; not_sought = h.not_sought; run_alone = h.run_alone; once = h.once }
 
 answered_for : (o : Option ℕ) (m r d u x : Bool) (n : ℕ) → KeyKept o m r d u n → KeyKept o m r false (x && u) n
-answered_for o m r d u x n h = record { no_task = h.no_task; not_run = h.not_run; not_flying = h.not_flying; not_asked = λ e. refl; not_sought = λ e. none x u (h.not_sought e); run_alone = h.run_alone; once = h.once }
-  where
-    none : (x y : Bool) → y ≡ false → (x && y) ≡ false
-    none true y e = e
-    none false y e = refl
+answered_for o m r d u x n h = record { no_task = h.no_task; not_run = h.not_run; not_flying = h.not_flying; not_asked = λ e. refl; not_sought = λ e. and_right x u (h.not_sought e); run_alone = h.run_alone; once = h.once }
 
 run_over : (o : Option ℕ) (m r d u : Bool) (n : ℕ) → KeyKept o m r d u n → KeyKept o m false d u n
 run_over o m r d u n h = record { no_task = h.no_task; not_run = λ e. refl; not_flying = h.not_flying; not_asked = h.not_asked; not_sought = h.not_sought; run_alone = λ e. absurd (false≢true e); once = h.once }
@@ -258,21 +256,6 @@ kept_down w (RemoveReplicas ks) h = kept_each remove_replica kept_remove (quiet 
 kept_down w (AcquireReplicas who) h = kept_fold acquire kept_acquire w who h
 kept_down w (RefreshWhoHas who) h = kept_fold refresh kept_refresh w who h
 
--- Start
-pub find_passes : (t : ℕ → Bool) (ks : List ℕ) (k : ℕ) → find t ks ≡ Some k → t k ≡ true
-find_passes t [] k h = absurd (some_none h)
-  where
-    some_none : ◌≡◌ {A = Option ℕ} None (Some k) → ⊥
-    some_none h = cc
-find_passes t (x ∷ ks) k h = pick (t x) refl (find_passes t ks k) h
-  where
-    same : Some x ≡ Some k → x ≡ k
-    same h = cc
-
-    pick : (b : Bool) → t x ≡ b → (find t ks ≡ Some k → t k ≡ true) → cond b (Some x) (find t ks) ≡ Some k → t k ≡ true
-    pick true e r h = subst (λ y. t y ≡ true) (same h) e
-    pick false e r h = r h
-
 pub start_is_ready : (w : WorkerFacts) (k : ℕ) → would_start w ≡ Some k → is_ready_state (wstate w k) ≡ true
 unfolding would_start
 start_is_ready w k h = pick (nat_lt (running_count w) w.threads) h
@@ -330,16 +313,8 @@ ClearsAll w ks = (q : ℕ) → is_in q ks ≡ true → Clears w q
 kept_arrivals : (ks : List ℕ) (r : Arrivals) → ClearsAll r.facts ks → KeysKept r.facts → KeysKept (fold arrive r ks).facts
 kept_arrivals [] r c h = h
 kept_arrivals (q ∷ ks) r c h =
-    kept_arrivals ks (arrive r q) (λ x e. clears_arrive r q (r.facts.mine q) x (c x (later (q == x) (is_in x ks) e)))
-    (kept_arrive r q (r.facts.mine q) refl (c q (first (q == q) (is_in q ks) (eq-eqb q q refl))) h)
-  where
-    later : (a b : Bool) → b ≡ true → (a || b) ≡ true
-    later true b e = refl
-    later false b e = e
-
-    first : (a b : Bool) → a ≡ true → (a || b) ≡ true
-    first true b e = refl
-    first false b e = absurd (false≢true e)
+    kept_arrivals ks (arrive r q) (λ x e. clears_arrive r q (r.facts.mine q) x (c x (or_right (q == x) (is_in x ks) e)))
+    (kept_arrive r q (r.facts.mine q) refl (c q (or_left (q == q) (is_in q ks) (eq-eqb q q refl))) h)
 
 pub kept_arrived : (w : WorkerFacts) (ks : List ℕ) → ClearsAll w ks → KeysKept w → KeysKept (arrived w ks).facts
 unfolding arrived
@@ -378,25 +353,12 @@ kept_ask_with w p is g h = record { at = λ k. subst (λ n. KeyKept (w.mine k) (
     pick k true e = absent _ _ _ _ _ _ (g k e).0 (λ r. absurd (false≢true (sym (g k e).1 ∙ r))) (omega (arith, (g k e).2))
     pick k false e = rw zero-add (h.at k)
 
-any_take : (t : ℕ × ℕ → Bool) (n : ℕ) (xs : List (ℕ × ℕ)) → list_any t (take n xs) ≡ true → list_any t xs ≡ true
-any_take t zero xs h = absurd (false≢true h)
-any_take t (suc n) [] h = h
-any_take t (suc n) (x ∷ xs) h = pick (t x) (any_take t n xs) h
-  where
-    pick : (b : Bool) → (list_any t (take n xs) ≡ true → list_any t xs ≡ true) → (b || list_any t (take n xs)) ≡ true → (b || list_any t xs) ≡ true
-    pick true r h = refl
-    pick false r h = r h
-
 -- an item that is made of a key names it
-item_key : (p k q : ℕ) (hs : List (ℕ × ℕ)) (is : List (ℕ × ℕ)) → list_any (λ i. i.0 == k) (cons_option (item_at p q hs) is) ≡ true → ((q == k) || list_any (λ i. i.0 == k) is) ≡ true
+pub item_key : (p k q : ℕ) (hs : List (ℕ × ℕ)) (is : List (ℕ × ℕ)) → list_any (λ i. i.0 == k) (cons_option (item_at p q hs) is) ≡ true → ((q == k) || list_any (λ i. i.0 == k) is) ≡ true
 item_key p k q hs is h = pick (copy_at p hs) h
   where
     pick : (o : Option ℕ) → list_any (λ i. i.0 == k) (cons_option (option_map (λ c. (q, c)) o) is) ≡ true → ((q == k) || list_any (λ i. i.0 == k) is) ≡ true
-    pick None h = later (q == k) _ h
-      where
-        later : (a b : Bool) → b ≡ true → (a || b) ≡ true
-        later true b e = refl
-        later false b e = e
+    pick None h = or_right (q == k) _ h
     pick (Some c) h = h
 
 any_items : (w : WorkerFacts) (p k : ℕ) (qs : List ℕ) → list_any (λ i. i.0 == k) (filter_map (λ q. item_at p q (w.holders q)) qs) ≡ true → is_in k qs ≡ true
@@ -420,34 +382,15 @@ pub filter_in : (t : ℕ → Bool) (ks : List ℕ) (k : ℕ) → is_in k ks ≡ 
 filter_in t [] k h e = h
 filter_in t (x ∷ ks) k h e = pick (t x) refl (λ i. filter_in t ks k i e) (or_cases (x == k) (is_in k ks) h)
   where
-    later : (a b : Bool) → b ≡ true → (a || b) ≡ true
-    later true b e = refl
-    later false b e = e
-
-    first : (a b : Bool) → a ≡ true → (a || b) ≡ true
-    first true b e = refl
-    first false b e = absurd (false≢true e)
-
     pick : (b : Bool) → t x ≡ b → (is_in k ks ≡ true → is_in k (filter t ks) ≡ true) → ((x == k) ≡ true) ⊎ (is_in k ks ≡ true) → is_in k (cond b (x ∷ filter t ks) (filter t ks)) ≡ true
-    pick true z r (inl i) = first (x == k) _ i
-    pick true z r (inr i) = later (x == k) _ (r i)
+    pick true z r (inl i) = or_left (x == k) _ i
+    pick true z r (inr i) = or_right (x == k) _ (r i)
     pick false z r (inl i) = absurd (false≢true (sym z ∙ (ap t (eqb-true x k i) ∙ e)))
     pick false z r (inr i) = r i
 
-pub range_in : (a n k : ℕ) → a ≤ k → k < a + n → is_in k (range_with_len a n) ≡ true
-range_in a zero k l h = absurd (omega arith)
-range_in a (suc n) k l h = pick (a == k) refl (λ u. range_in (a + 1) n k u (omega arith))
-  where
-    above : (a ≡ k → ⊥) → a + 1 ≤ k
-    above ne = omega (arith, ne)
-
-    pick : (b : Bool) → (a == k) ≡ b → (a + 1 ≤ k → is_in k (range_with_len (a + 1) n) ≡ true) → (b || is_in k (range_with_len (a + 1) n)) ≡ true
-    pick true e r = refl
-    pick false e r = r (above (eqb-false a k e))
-
 kept_ask : (w : WorkerFacts) (p : ℕ) → KeysKept w → KeysKept (ask_peer w p).facts
 unfolding ask_peer fetchable ask_items
-kept_ask w p h = kept_ask_with w p _ (λ k e. idle k (in_filter (λ k. is_fetch_state (wstate w k)) (worker_keys w) k (any_items w p k _ (any_take (λ i. i.0 == k) _ _ e)))) h
+kept_ask w p h = kept_ask_with w p _ (λ k e. idle k (in_filter (λ k. is_fetch_state (wstate w k)) (worker_keys w) k (any_items w p k _ (any_of_take (λ i. i.0 == k) _ _ e)))) h
   where
     idle : (k : ℕ) → is_fetch_state (wstate w k) ≡ true → (w.mem k ≡ false) × (w.running k ≡ false) × (flights w.asks k ≡ 0)
     idle k e = let i : IdleAt w k = idle_where is_fetch_state fetch_is w k e in (i.absent, i.still, grounded_is w k i.grounded)
@@ -457,17 +400,9 @@ any_kept : (t : ℕ × ℕ → Bool) (is : List (ℕ × ℕ)) (k : ℕ) → is_i
 any_kept t [] k h = h
 any_kept t (x ∷ is) k h = pick (t x) (any_kept t is k) h
   where
-    later : (a b : Bool) → b ≡ true → (a || b) ≡ true
-    later true b e = refl
-    later false b e = e
-
-    tail : (a b c : Bool) → (b ≡ true → c ≡ true) → (a || b) ≡ true → (a || c) ≡ true
-    tail true b c r h = refl
-    tail false b c r h = r h
-
     pick : (b : Bool) → (is_in k (keys_of (filter t is)) ≡ true → list_any (λ i. i.0 == k) is ≡ true) → is_in k (keys_of (cond b (x ∷ filter t is) (filter t is))) ≡ true → ((x.0 == k) || list_any (λ i. i.0 == k) is) ≡ true
-    pick true r h = tail (x.0 == k) _ _ r h
-    pick false r h = later (x.0 == k) _ (r h)
+    pick true r h = or_weaker (x.0 == k) _ _ r h
+    pick false r h = or_right (x.0 == k) _ (r h)
 
 kept_missed : (p : ℕ) (w : WorkerFacts) (i : ℕ × ℕ) → KeysKept w → KeysKept (not_found p w i).facts
 kept_missed p w i h = pick (is_missing_state (wstate (lose_holders w i.0) i.0)) refl
@@ -545,7 +480,7 @@ kept_sought s h = record {
 
     found : (k : ℕ) → k < key_count s.facts.shape → is_missing_state (wstate s.facts k) ≡ true → (b : Bool) → s.facts.asked k ≡ b → (b || is_in k (unasked_keys s.facts)) ≡ true
     found k l m true e = refl
-    found k l m false e = filter_in (λ k. is_missing_state (wstate s.facts k) && not (s.facts.asked k)) (worker_keys s.facts) k (range_in 0 (key_count s.facts.shape) k (omega arith) (omega arith)) (rw (m, e) refl)
+    found k l m false e = filter_in (λ k. is_missing_state (wstate s.facts k) && not (s.facts.asked k)) (worker_keys s.facts) k (in_range 0 (key_count s.facts.shape) k (omega arith) (omega arith)) (rw (m, e) refl)
 
 any_never : (t : ℕ → Bool) → ((j : ℕ) → t j ≡ false) → (ks : List ℕ) → list_any t ks ≡ false
 any_never t h [] = refl

@@ -1,6 +1,5 @@
 -- A step of the world as an event of a simulation.
 use Rattle.std.proofs.Common.{◌≡◌, ℕ, ◌+◌, Bool, List, [], ◌∷◌, ◌++◌, Option, Result, Ok, Err, refl, sym, ◌∙◌, subst}
-use Rattle.std.specs.Prelude.{OnOk}
 use Rattle.cluster_msgs.specs.declared.events.Event.{Event}
 use Rattle.cluster_rules.specs.WorldStep.{world_step}
 use Rattle.cluster_laws.specs.Blocks.{job_of}
@@ -15,6 +14,7 @@ use Rattle.cluster_world.specs.Worlds.{world, running, IsReady, IsMadeBy}
 use Rattle.cluster_sim.specs.declared.act.SimError.{SimError}
 use Rattle.cluster_sim.specs.declared.act.SimError.TheVariants.{Turns, Feed, Spent, OutOfMemory}
 use Rattle.cluster_sim.specs.Acts.{CountsSim, Stays, IsAct, IsCause, cause}
+use Rattle.cluster_world.proofs.Stepwise.{going_fed, going_starved}
 
 pub stays_none : {J B F : Type 0} (tells : J → F → Type 0) (s : State J B F) → Stays tells s s
 stays_none tells s = record { job = refl; setting = refl; tells = (λ h. h, λ h. h) }
@@ -43,16 +43,10 @@ act_is op tells old new e going ready goes counted some exact made = record {
 
 -- the course of a world that goes on is no other
 pub not_fed : (c : Course) → c ≡ Going → c ≡ Fed → ⊥
-not_fed c a b = no (sym a ∙ b)
-  where
-    no : Going ≡ Fed → ⊥
-    no h = cc
+not_fed c a b = going_fed (sym a ∙ b)
 
 pub not_starved : (c : Course) → c ≡ Going → c ≡ Starved → ⊥
-not_starved c a b = no (sym a ∙ b)
-  where
-    no : Going ≡ Starved → ⊥
-    no h = cc
+not_starved c a b = going_starved (sym a ∙ b)
 
 -- an error of one call as that of another
 pub counts_as : (A B : Type 0) (e : SimError) (n m : ℕ) → CountsSim {A = A} (Err e) n m → CountsSim {A = B} (Err e) n m
@@ -100,7 +94,3 @@ turns_cause step.Stopped h q = h
 turns_cause step.Feed h q = cc
 turns_cause step.Spent h q = cc
 turns_cause step.OutOfMemory h q = cc
-
-pub on_ok : {T E P : Type 0} (r : Result T E) → P → OnOk r P
-on_ok (Ok x) p = p
-on_ok (Err e) p = tt

@@ -1,12 +1,11 @@
 -- What comes next, rule by rule.
-use Rattle.std.proofs.Common.{◌≡◌, ℕ, ◌<◌, ◌%◌, Bool, true, false, ◌&&◌, cond, List, length, Option, Some, None, refl, sym, ap, ◌∙◌}
-use Rattle.std.specs.Prelude.{◌==◌, nat_lt, slice_get}
-use Rattle.std.proofs.lemmas.Bool.{and_parts, ltb-true, eqb-true}
+use Rattle.std.proofs.Common.{◌≡◌, ℕ, ◌<◌, ◌%◌, Bool, true, false, ◌&&◌, cond, List, length, Option, Some, None, sym, ap, ◌∙◌}
+use Rattle.std.specs.Prelude.{nat_lt, slice_get}
+use Rattle.std.proofs.lemmas.Bool.{and_parts, ltb-true, eq-eqb, ne_eqb}
 use Rattle.cluster_msgs.specs.declared.events.Item.{Item}
 use Rattle.cluster_msgs.specs.declared.events.Event.{Event}
 use Rattle.cluster_rules.specs.Enabled.{progress}
 use Rattle.cluster_rules.specs.Draw.{Plan, Sim, Next, Over, Scripted, Evicts, Balances, Spent, Drawn, over, scripted, evicts_now, balances_now, drawn, draw_one, turn, unscripted, next_by, next}
-use Rattle.cluster_rules.proofs.SchedFrame.{same_eqb}
 
 pub next_over : (words : ℕ → ℕ) (p : Plan) (s : Sim) (failure : Option ℕ) → Some failure ≡ over (s.world.clients 1) → Over failure ≡ next words p s
 unfolding next
@@ -34,22 +33,15 @@ unscripted_turns words s b d n e h f q t =
     t ∙ sym (ap (λ x. cond x Evicts (cond (balances_now s) Balances (turn words s))) (sym e ∙ h) ∙ ap (λ x. cond x Balances (turn words s)) (sym f ∙ q))
 
 pub turn_none : (words : ℕ → ℕ) (s : Sim) → s.budget ≡ 0 → Spent ≡ turn words s
-turn_none words s h = sym (ap (λ x. cond x Spent (draw_one (words s.turns) (progress s.world))) (same_eqb s.budget 0 h))
-
-not_zero : (n : ℕ) → (n ≡ 0 → ⊥) → (n == 0) ≡ false
-not_zero n h = pick (n == 0) refl
-  where
-    pick : (b : Bool) → (n == 0) ≡ b → b ≡ false
-    pick true e = absurd (h (eqb-true n 0 e))
-    pick false e = refl
+turn_none words s h = sym (ap (λ x. cond x Spent (draw_one (words s.turns) (progress s.world))) (eq-eqb s.budget 0 h))
 
 pub turn_drawn : (words : ℕ → ℕ) (s : Sim) (word : ℕ) (e : Event) → (s.budget ≡ 0 → ⊥) → words s.turns ≡ word → Some e ≡ slice_get (progress s.world) (word % length (progress s.world)) → Drawn e ≡ turn words s
 turn_drawn words s word e h w q =
-    ap drawn q ∙ ap (λ n. draw_one n (progress s.world)) (sym w) ∙ sym (ap (λ x. cond x Spent (draw_one (words s.turns) (progress s.world))) (not_zero s.budget h))
+    ap drawn q ∙ ap (λ n. draw_one n (progress s.world)) (sym w) ∙ sym (ap (λ x. cond x Spent (draw_one (words s.turns) (progress s.world))) (ne_eqb s.budget 0 h))
 
 pub turn_still : (words : ℕ → ℕ) (s : Sim) (word : ℕ) → (s.budget ≡ 0 → ⊥) → words s.turns ≡ word → None ≡ slice_get (progress s.world) (word % length (progress s.world)) → Spent ≡ turn words s
 turn_still words s word h w q =
-    ap drawn q ∙ ap (λ n. draw_one n (progress s.world)) (sym w) ∙ sym (ap (λ x. cond x Spent (draw_one (words s.turns) (progress s.world))) (not_zero s.budget h))
+    ap drawn q ∙ ap (λ n. draw_one n (progress s.world)) (sym w) ∙ sym (ap (λ x. cond x Spent (draw_one (words s.turns) (progress s.world))) (ne_eqb s.budget 0 h))
 
 pub due_then : (due t e r : Bool) → due ≡ t → due ≡ true → r ≡ e → r ≡ (t && e)
 due_then due t e r q h s = s ∙ ap (λ b. b && e) (sym h ∙ q)

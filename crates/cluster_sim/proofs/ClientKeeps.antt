@@ -1,7 +1,7 @@
 -- What a client's events leave, but for its own Want and Release.
 use Rattle.std.proofs.Common.{◌≡◌, ℕ, Bool, true, false, not, ◌&&◌, cond, List, [], ◌∷◌, Option, Some, None, is_some, filter, fold, refl, sym, ap, ◌∙◌}
 use Rattle.std.specs.Prelude.{◌==◌}
-use Rattle.std.proofs.lemmas.Bool.{true≢false, false≢true, and_parts, eqb-true}
+use Rattle.std.proofs.lemmas.Bool.{true≢false, false≢true, and_parts, eqb-true, not-true}
 use Rattle.cluster_msgs.specs.declared.messages.ToClient.{ToClient}
 use Rattle.cluster_msgs.specs.declared.messages.ToClient.TheVariants.{KeyInMemory, LostData, ClientTaskErred}
 use Rattle.cluster_msgs.specs.declared.cores.ClientEvent.TheVariants.{FromScheduler, Ask as AskPeer, Gathered, GatherFailed}
@@ -92,12 +92,8 @@ told : (c : ClientFacts) (k blame : ℕ) (b : Bool) → b ≡ (c.wants k && not 
 told c k blame false e = stays true c
 told c k blame true e = record { shape = refl; wants = refl; failed = λ j n h. pick j (j == k) refl n h; got = λ j h. h; silent = λ t j n. absurd (true≢false t) }
   where
-    ungot : (b : Bool) → not b ≡ true → b ≡ false
-    ungot true h = absurd (false≢true h)
-    ungot false h = refl
-
     here : (c.wants k ≡ true) × (c.got k ≡ false)
-    here = let p = and_parts (c.wants k) (not (c.got k)) (sym e) in (p.0, ungot (c.got k) p.1)
+    here = let p = and_parts (c.wants k) (not (c.got k)) (sym e) in (p.0, not-true (c.got k) p.1)
 
     pick : (j : ℕ) (b : Bool) → (j == k) ≡ b → c.failed j ≡ None → is_some (cond b (Some blame) (c.failed j)) ≡ true → (c.wants j ≡ true) × (c.got j ≡ false)
     pick j true q n h = rw (eqb-true j k q) here

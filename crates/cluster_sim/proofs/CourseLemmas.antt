@@ -1,5 +1,6 @@
 -- One more event of a course.
-use Rattle.std.proofs.Common.{◌≡◌, ℕ, suc, ◌+◌, ◌-◌, ◌^◌, ◌≤◌, ◌<◌, Bool, true, false, cond, List, [], ◌∷◌, ◌++◌, length, Option, Some, None, filter, refl, sym, ap, ◌∙◌, arith, subst, append_assoc, append-nil, add-zero}
+use Rattle.std.proofs.Common.{◌≡◌, ℕ, suc, ◌+◌, ◌-◌, ◌^◌, ◌≤◌, ◌<◌, Bool, true, false, cond, List, [], ◌∷◌, ◌++◌, length, Option, Some, filter, refl, sym, ap, ◌∙◌, arith, subst, append_assoc, append-nil, add-zero}
+use Rattle.std.proofs.lemmas.Option.{none-some, same_Some}
 use Rattle.cluster_msgs.specs.declared.messages.Message.{Message}
 use Rattle.cluster_msgs.specs.declared.events.Event.{Event}
 use Rattle.cluster_msgs.specs.declared.events.Event.TheVariants.{Join, Balance, Evict}
@@ -18,11 +19,6 @@ use Rattle.cluster_sim.specs.Courses.{IsCounted, Course}
 use Rattle.cluster_sim.specs.Simulations.{IsSimulated}
 use Rattle.cluster_sim.proofs.ActLemmas.{same_job}
 use Rattle.cluster_sim.proofs.WorldKeeps.{joins, world_keeps}
-
--- lists of events with one more at the end
-pub run_more : (j : Job) (w : World) (es : List Event) (e : Event) → run_from j w (es ++ e ∷ []) ≡ world_step j (run_from j w es) e
-run_more j w [] e = refl
-run_more j w (x ∷ xs) e = run_more j (world_step j w x) xs e
 
 taken_more : (j : Job) (w : World) (es : List Event) (e : Event) → taken j w (es ++ e ∷ []) ≡ taken j w es ++ (e, message (run_from j w es) e) ∷ []
 taken_more j w [] e = refl
@@ -78,30 +74,12 @@ counted_more op tells es old new t u e h act stays told few count = record {
 
 -- what comes next, made
 pub moved_world : (j : Job) (s : Sim) (n : Next) (e : Event) → event_of n ≡ Some e → (moved j s n).world ≡ world_step j s.world e
-moved_world j s (Over failure) e h = absurd (no h)
-  where
-    no : None ≡ Some e → ⊥
-    no h = cc
-moved_world j s (Scripted x later) e h = ap (λ y. world_step j s.world y) (same h)
-  where
-    same : Some x ≡ Some e → x ≡ e
-    same h = cc
-moved_world j s Evicts e h = ap (λ y. world_step j s.world y) (same h)
-  where
-    same : Some Evict ≡ Some e → Evict ≡ e
-    same h = cc
-moved_world j s Balances e h = ap (λ y. world_step j s.world y) (same h)
-  where
-    same : Some Balance ≡ Some e → Balance ≡ e
-    same h = cc
-moved_world j s Spent e h = absurd (no h)
-  where
-    no : None ≡ Some e → ⊥
-    no h = cc
-moved_world j s (Drawn x) e h = ap (λ y. world_step j s.world y) (same h)
-  where
-    same : Some x ≡ Some e → x ≡ e
-    same h = cc
+moved_world j s (Over failure) e h = absurd (none-some e h)
+moved_world j s (Scripted x later) e h = ap (λ y. world_step j s.world y) (same_Some x e h)
+moved_world j s Evicts e h = ap (λ y. world_step j s.world y) (same_Some Evict e h)
+moved_world j s Balances e h = ap (λ y. world_step j s.world y) (same_Some Balance e h)
+moved_world j s Spent e h = absurd (none-some e h)
+moved_world j s (Drawn x) e h = ap (λ y. world_step j s.world y) (same_Some x e h)
 
 draws_more : (j : Job) (words : ℕ → ℕ) (p : Plan) (s t : Sim) (es : List Event) (e : Event) → DrawsTo j words p s es t → event_of (next words p t) ≡ Some e → DrawsTo j words p s (es ++ e ∷ []) (moved j t (next words p t))
 draws_more j words p s t [] e d h = (ap (λ x. event_of (next words p x)) d ∙ h, ap (λ x. moved j x (next words p x)) d)

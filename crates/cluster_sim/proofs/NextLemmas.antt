@@ -2,7 +2,9 @@
 use Rattle.std.proofs.Common.{◌≡◌, ℕ, zero, suc, ◌+◌, ◌≤◌, Bool, true, false, not, ◌&&◌, cond, List, [], ◌∷◌, Option, Some, None, filter, map, refl, ap, arith, subst}
 use Rattle.std.specs.Prelude.{◌==◌, slice_get}
 use Rattle.std.specs.List.{flat_map, AllByRecursion}
-use Rattle.std.proofs.lemmas.Bool.{true≢false, and_parts, and_from, lt-ltb, le-leb}
+use Rattle.std.proofs.lemmas.Bool.{true≢false, and_parts, and_from, lt-ltb, le-leb, not-false}
+use Rattle.std.proofs.lemmas.Option.{same_Some, none-some}
+use Rattle.small_facts.proofs.Every.{all_of_filter}
 use Rattle.cluster_msgs.specs.declared.events.Item.{Item}
 use Rattle.cluster_msgs.specs.declared.events.Item.TheVariants.{Lose as LoseItem, Suspect as SuspectItem, Join as JoinItem}
 use Rattle.cluster_msgs.specs.declared.events.Event.{Event}
@@ -14,7 +16,7 @@ use Rattle.cluster_rules.specs.World.{Job, World, Parcel, all_workers, all_clien
 use Rattle.cluster_rules.specs.Enabled.{enabled, progress, progress_kinds, connected_workers, quiet_askers, is_quiet_asker}
 use Rattle.cluster_rules.specs.Draw.{Plan, Sim, Next, Over, Scripted, Evicts, Balances, Spent, Drawn, over, is_reached, is_idle, is_blocked, item_event, scripted, evicts_now, balances_now, drawn, draw_one, turn, unscripted, next_by, next, event_of, moved}
 use Rattle.cluster_laws.proofs.WorldLemmas.{progress_enabled}
-use Rattle.cluster_rules.proofs.InsideWorker.{all_filter_in, all_map_in}
+use Rattle.cluster_rules.proofs.InsideWorker.{all_map_in}
 use Rattle.cluster_rules.proofs.InsideSched.{all_flat_map_in, all_always}
 use Rattle.safety_laws.proofs.Staying.{takes_away}
 use Rattle.cluster_sim.specs.Plans.{joins_in}
@@ -78,15 +80,12 @@ all_get {A} P [] n x h e = absurd (no n e)
     no : (n : ℕ) → slice_get {X = A} [] n ≡ Some x → ⊥
     no zero e = cc
     no (suc n) e = cc
-all_get P (y ∷ ys) zero x h e = subst P (same e) h.0
-  where
-    same : Some y ≡ Some x → y ≡ x
-    same e = cc
+all_get P (y ∷ ys) zero x h e = subst P (same_Some y x e) h.0
 all_get P (y ∷ ys) (suc n) x h e = all_get P ys n x h.1 e
 
 pub progress_is : (w : World) (n : ℕ) (e : Event) → slice_get (progress w) n ≡ Some e → IsProgress e
 unfolding progress
-progress_is w n e h = all_get IsProgress _ n e (all_filter_in IsProgress (enabled w) _ (all_flat_map_in IsProgress (λ es. es) (progress_kinds w) (kinds w))) h
+progress_is w n e h = all_get IsProgress _ n e (all_of_filter IsProgress (enabled w) _ (all_flat_map_in IsProgress (λ es. es) (progress_kinds w) (kinds w))) h
 
 -- an event that may come: enabled, gentle, and of the joins of a script at most these are left
 pub record MayCome (w : World) (e : Event) (before after : List Item) : Type 0 where
@@ -123,14 +122,10 @@ item_comes threads w (SuspectItem i at) is t n idle blocked = record {
     both true false h = absurd (true≢false h)
     both false b h = absurd (true≢false h)
 item_comes threads w (JoinItem at) is t n idle blocked = record {
-  enabled = and_from _ _ (and_from _ _ (le-leb 1 threads t.0) (le-leb threads 16 t.1)) (and_from _ _ (free _ blocked) (lt-ltb w.sched.last_worker 1024 (omega arith)));
+  enabled = and_from _ _ (and_from _ _ (le-leb 1 threads t.0) (le-leb threads 16 t.1)) (and_from _ _ (not-false _ blocked) (lt-ltb w.sched.last_worker 1024 (omega arith)));
   gentle = refl;
   joins = omega arith;
 }
-  where
-    free : (b : Bool) → not b ≡ false → b ≡ true
-    free true h = refl
-    free false h = absurd (true≢false h)
 
 -- the same list with more in front has as many joins or more
 weaker : (w : World) (e : Event) (before after : List Item) (i : Item) → MayCome w e before after → MayCome w e (i ∷ before) after
@@ -151,14 +146,11 @@ scripted_comes threads w (i ∷ is) e later t n h = reached (not (is_reached w i
     no : ◌≡◌ {A = Option (Event × List Item)} None (Some (e, later)) → ⊥
     no h = cc
 
-    pair : (p q : Event × List Item) → Some p ≡ Some q → p ≡ q
-    pair p q h = cc
-
     event : ◌≡◌ {A = Option (Event × List Item)} (Some (item_event threads i, is)) (Some (e, later)) → item_event threads i ≡ e
-    event h = ap (λ (p : Event × List Item). p.0) (pair (item_event threads i, is) (e, later) h)
+    event h = ap (λ (p : Event × List Item). p.0) (same_Some (item_event threads i, is) (e, later) h)
 
     rest : ◌≡◌ {A = Option (Event × List Item)} (Some (item_event threads i, is)) (Some (e, later)) → is ≡ later
-    rest h = ap (λ (p : Event × List Item). p.1) (pair (item_event threads i, is) (e, later) h)
+    rest h = ap (λ (p : Event × List Item). p.1) (same_Some (item_event threads i, is) (e, later) h)
 
     blocked : (b : Bool) → is_blocked w i ≡ b → is_idle w i ≡ false → cond {A = Option (Event × List Item)} b None (Some (item_event threads i, is)) ≡ Some (e, later) → MayCome w e (i ∷ is) later
     blocked true q z h = absurd (no h)
@@ -220,41 +212,20 @@ next_comes words p s h = ended (over (s.world.clients 1))
 
 -- so the event of what comes next may come, and the script goes on as said
 pub made_comes : (j : Job) (s : Sim) (n : Next) (e : Event) → Comes s n → event_of n ≡ Some e → MayCome s.world e s.script (moved j s n).script
-made_comes j s (Over failure) e h q = absurd (no q)
-  where
-    no : None ≡ Some e → ⊥
-    no h = cc
-made_comes j s (Scripted x later) e h q = subst (λ y. MayCome s.world y s.script later) (same q) h
-  where
-    same : Some x ≡ Some e → x ≡ e
-    same h = cc
-made_comes j s Evicts e h q = subst (λ y. MayCome s.world y s.script s.script) (same q) h
-  where
-    same : Some Evict ≡ Some e → Evict ≡ e
-    same h = cc
-made_comes j s Balances e h q = subst (λ y. MayCome s.world y s.script s.script) (same q) h
-  where
-    same : Some Balance ≡ Some e → Balance ≡ e
-    same h = cc
-made_comes j s Spent e h q = absurd (no q)
-  where
-    no : None ≡ Some e → ⊥
-    no h = cc
-made_comes j s (Drawn x) e h q = subst (λ y. MayCome s.world y s.script s.script) (same q) h
-  where
-    same : Some x ≡ Some e → x ≡ e
-    same h = cc
+made_comes j s (Over failure) e h q = absurd (none-some e q)
+made_comes j s (Scripted x later) e h q = subst (λ y. MayCome s.world y s.script later) (same_Some x e q) h
+made_comes j s Evicts e h q = subst (λ y. MayCome s.world y s.script s.script) (same_Some Evict e q) h
+made_comes j s Balances e h q = subst (λ y. MayCome s.world y s.script s.script) (same_Some Balance e q) h
+made_comes j s Spent e h q = absurd (none-some e q)
+made_comes j s (Drawn x) e h q = subst (λ y. MayCome s.world y s.script s.script) (same_Some x e q) h
 
 -- where something comes, the client has not ended
 pub made_waits : (words : ℕ → ℕ) (p : Plan) (s : Sim) (e : Event) → event_of (next words p s) ≡ Some e → over (s.world.clients 1) ≡ None
 unfolding next
 made_waits words p s e h = ended (over (s.world.clients 1)) h
   where
-    no : None ≡ Some e → ⊥
-    no h = cc
-
     ended : (o : Option (Option ℕ)) → event_of (next_by words s o (scripted p.threads s.world s.script)) ≡ Some e → o ≡ None
-    ended (Some failure) q = absurd (no q)
+    ended (Some failure) q = absurd (none-some e q)
     ended None q = refl
 
 -- nor has it where nothing comes

@@ -1,8 +1,9 @@
 -- The opening events, one after another.
-use Rattle.std.proofs.Common.{◌≡◌, ℕ, zero, suc, ◌+◌, ◌≤◌, ◌<◌, Bool, true, false, ◌||◌, List, [], ◌∷◌, ◌++◌, length, replicate, filter, Option, Some, None, is_some, refl, sym, ap, ◌∙◌, arith, subst, add-one, cond}
+use Rattle.std.proofs.Common.{◌≡◌, ℕ, ◌+◌, ◌≤◌, ◌<◌, Bool, true, false, ◌||◌, List, [], ◌∷◌, length, Option, Some, None, is_some, refl, sym, ap, ◌∙◌, arith, subst}
 use Rattle.std.specs.Prelude.{nat_lt, ◌==◌}
-use Rattle.std.specs.List.{range_with_len}
 use Rattle.std.proofs.lemmas.Bool.{false≢true, and_from, eqb-true, lt-ltb, le-leb}
+use Rattle.std.proofs.lemmas.List.FromFn.{length-range_with_len}
+use Rattle.small_facts.proofs.Lists.{filter_fewer}
 use Rattle.cluster_msgs.specs.Shape.{key_count}
 use Rattle.cluster_msgs.specs.declared.cores.ClientEvent.TheVariants.{Want as WantKeys}
 use Rattle.cluster_msgs.specs.declared.events.Event.TheVariants.{Join, Want}
@@ -18,15 +19,7 @@ use Rattle.cluster_sim.specs.Standing.{IsFor}
 use Rattle.cluster_sim.specs.Openings.{IsOpen, AreWanted}
 use Rattle.cluster_sim.proofs.ClientKeeps.{IsQuiet}
 use Rattle.cluster_sim.proofs.WorldKeeps.{world_keeps, quiet_step}
-use Rattle.cluster_sim.proofs.EndLemmas.{all_from}
-
--- one more of the same at the end
-pub replicate-push : {A : Type 0} (n : ℕ) (x : A) → replicate (n + 1) x ≡ replicate n x ++ x ∷ []
-replicate-push {A} n x = ap (λ m. replicate m x) (add-one n) ∙ push n
-  where
-    push : (n : ℕ) → replicate (suc n) x ≡ replicate n x ++ x ∷ []
-    push zero = refl
-    push (suc n) = ap (λ xs. x ∷ xs) (push n)
+use Rattle.safety_laws.proofs.Lively.{all_from}
 
 -- an opening world
 pub open_none : (j : Job) → IsOpen [] 0 (opening j)
@@ -37,21 +30,8 @@ open_none j = record {
   fresh = λ k. refl;
 }
 
--- there are at most as many workers as numbers
-length-kept : (p : ℕ → Bool) (xs : List ℕ) → length (filter p xs) ≤ length xs
-length-kept p [] = omega arith
-length-kept p (x ∷ xs) = pick (p x) (length-kept p xs)
-  where
-    pick : (b : Bool) → length (filter p xs) ≤ length xs → length (cond b (x ∷ filter p xs) (filter p xs)) ≤ length (x ∷ xs)
-    pick true h = omega arith
-    pick false h = omega arith
-
-length-range : (a n : ℕ) → length (range_with_len a n) ≡ n
-length-range a zero = refl
-length-range a (suc n) = ap (λ m. suc m) (length-range (a + 1) n)
-
 few_workers : (f : Facts) → length (workers f) ≤ f.last_worker
-few_workers f = let k = length-kept (connected f) (from_one f.last_worker) in let r = length-range 1 f.last_worker in omega (arith, k, r)
+few_workers f = let k = filter_fewer (connected f) (from_one f.last_worker) in let r = length-range_with_len 1 f.last_worker in omega (arith, k, r)
 
 pub may_join : (w : World) (threads : ℕ) → (1 ≤ threads) × (threads ≤ 16) → w.sched.last_worker < 64 → enabled w (Join threads) ≡ true
 unfolding enabled sched_takes

@@ -1,7 +1,8 @@
 -- The opening of a simulation, put together.
 use Rattle.std.proofs.Common.{◌≡◌, ℕ, ◌+◌, ◌-◌, ◌^◌, ◌≤◌, ◌<◌, true, List, [], ◌∷◌, ◌++◌, length, replicate, Option, Result, Ok, Err, sym, ap, ◌∙◌, arith, subst}
-use Rattle.std.specs.Prelude.{OnOk, IfOk}
+use Rattle.std.specs.Prelude.{IfOk}
 use Rattle.std.proofs.lemmas.List.{length-append, length-replicate}
+use Rattle.std.proofs.lemmas.Grind.{replicate_next}
 use Rattle.cluster_msgs.specs.Shape.{Shape, key_count}
 use Rattle.cluster_msgs.specs.declared.events.Event.TheVariants.{Join, Want}
 use Rattle.cluster_rules.specs.Sched.{Setting}
@@ -20,7 +21,7 @@ use Rattle.cluster_sim.specs.Courses.{IsCounted}
 use Rattle.cluster_sim.specs.Openings.{IsOpening, AreWanted, IsOpen, HasOpened}
 use Rattle.cluster_world.proofs.Making.{made_opening}
 use Rattle.cluster_sim.proofs.CourseLemmas.{counted_none, counted_more}
-use Rattle.cluster_sim.proofs.OpeningLemmas.{replicate-push, open_none, open_join, may_want, open_want}
+use Rattle.cluster_sim.proofs.OpeningLemmas.{open_none, open_join, may_want, open_want}
 
 -- an opening world has opened with no event
 pub open_first : {J B F : Type 0} (op : J → ℕ → List B → Option B) (tells : J → F → Type 0) (s : State J B F) (t : Tally) → IsOpening op s → IsCountOf t [] → HasOpened op tells [] 0 [] s s t
@@ -43,7 +44,7 @@ join_on op tells n threads old mid new t u h few act before stays count = record
   going = act.going;
   opened = open_join act.some.0 (world mid) (world new) n threads h.opened act.some.1;
   count = let a = act.counted in let b = h.count in let c = length-replicate n (Join threads) in let d = length-replicate (n + 1) (Join threads) in omega (arith, a, b, c, d);
-  all = λ told. subst (λ es. IsCounted op es new u) (sym (replicate-push n (Join threads)))
+  all = λ told. subst (λ es. IsCounted op es new u) (sym (replicate_next n (Join threads)))
       (counted_more op tells (replicate n (Join threads)) mid new t u (Join threads) (h.all told) act stays (before.tells.1 told) (let l = h.opened.last in omega (arith, l, few)) count);
 }
 
@@ -67,11 +68,6 @@ want_on op tells n threads wanted keys old mid new t u h few same act before sta
       count = let a = act.counted in let b = h.count in let l = length-append (replicate n (Join threads)) (Want 1 keys ∷ []) in omega (arith, a, b, l);
       all = λ told. counted_more op tells (replicate n (Join threads)) mid new t u (Want 1 keys) (h.all told) act stays (before.tells.1 told) (let l = h.opened.last in omega (arith, l, few)) count;
     })
-
--- of two calls' promises
-pub on_both : {T E P Q R : Type 0} (r : Result T E) → (P → Q → R) → OnOk r P → OnOk r Q → OnOk r R
-on_both (Ok x) f p q = f p q
-on_both (Err e) f p q = tt
 
 -- no event of an opening comes once all were taken
 pub opening_goes : {J B F : Type 0} (op : J → ℕ → List B → Option B) (tells : J → F → Type 0) (n threads : ℕ) (old mid : State J B F) (t : Tally) → HasOpened op tells [] n (replicate n (Join threads)) old mid t → n ≤ 64 → mid.events ≡ event_limit → ⊥

@@ -2,11 +2,12 @@
 use Rattle.std.proofs.Common.{◌≡◌, ◌⊎◌, inl, inr, ℕ, zero, suc, ◌+◌, ◌-◌, ◌%◌, ◌≤◌, Bool, true, false, not, ◌&&◌, cond, List, [], ◌∷◌, ◌++◌, length, Option, Some, None, is_some, find, refl, sym, ap, ◌∙◌, subst, arith, append_assoc, append-nil}
 use Rattle.std.specs.Prelude.{◌==◌, Contains, slice_get}
 use Rattle.std.specs.List.{list_all}
-use Rattle.std.proofs.Math.Nat.{mod-lt}
+use Rattle.std.proofs.Math.Nat.{mod-lt, zero-add}
 use Rattle.std.proofs.lemmas.Bool.{true≢false, and_from, eqb-true, le-leb}
 use Rattle.std.proofs.lemmas.List.{length-append}
 use Rattle.std.proofs.lemmas.List.Elements.{Contains-get_or}
-use Rattle.std.proofs.lemmas.Option.{slice_get_within, get_or_from_slice_get, slice_get-get_or}
+use Rattle.std.proofs.lemmas.Option.{slice_get_within, get_or_from_slice_get, slice_get-get_or, none-some, same_Some}
+use Rattle.small_facts.proofs.Options.{some_not_none}
 use Rattle.cluster_msgs.specs.declared.events.Event.{Event}
 use Rattle.cluster_rules.specs.Sched.{Setting}
 use Rattle.cluster_rules.specs.Worker.{has_any}
@@ -18,8 +19,10 @@ use Rattle.cluster_rules.specs.Runs.{run_from, reached, Safe}
 use Rattle.cluster_rules.specs.Draw.{Plan, Sim, Next, Over, Scripted, Evicts, Balances, Spent, Drawn, OutOfTurns, over, over_by, opening_events, sim_from, scripted, evicts_now, balances_now, drawn, draw_one, turn, unscripted, next_by, next, event_of, moved, verdict, DrawsTo}
 use Rattle.cluster_sim.specs.Quiet.{QuietFrom, IsPastBound}
 use Rattle.cluster_sim.proofs.WorldKeeps.{world_keeps}
-use Rattle.cluster_sim.proofs.CourseLemmas.{run_more, moved_world}
+use Rattle.cluster_sim.proofs.CourseLemmas.{moved_world}
 use Rattle.cluster_sim.proofs.NextLemmas.{spent_waits}
+use Rattle.cluster_world.proofs.Making.{world_more}
+use Rattle.safety_laws.proofs.Attempts.{run-append}
 
 -- ## What a drawn event is
 
@@ -85,10 +88,6 @@ quiet_more : (j : Job) (w : World) (es : List Event) (e : Event) → QuietFrom j
 quiet_more j w [] e q h = (h, tt)
 quiet_more j w (x ∷ xs) e q h = (q.0, quiet_more j (world_step j w x) xs e q.1 h)
 
-run_both : (j : Job) (w : World) (xs ys : List Event) → run_from j w (xs ++ ys) ≡ run_from j (run_from j w xs) ys
-run_both j w [] ys = refl
-run_both j w (x ∷ xs) ys = run_both j (world_step j w x) xs ys
-
 tail_start : (j : Job) (p : Plan) (w : World) → Tail j w [] (sim_from p w)
 tail_start j p w = record { before = []; quiet = []; whole = refl; moves = tt; count = omega arith; here = refl }
 
@@ -99,15 +98,12 @@ tail_anew j w done s t e h to b = record {
   quiet = [];
   whole = sym (append-nil (done ++ e ∷ []));
   moves = tt;
-  count = zero_more t.budget ∙ b ∙ ap rest there;
+  count = zero-add t.budget ∙ b ∙ ap rest there;
   here = there;
 }
   where
     there : t.world ≡ run_from j w (done ++ e ∷ [])
-    there = to ∙ ap (λ x. world_step j x e) h.here ∙ sym (run_more j w done e)
-
-    zero_more : (n : ℕ) → 0 + n ≡ n
-    zero_more n = omega arith
+    there = to ∙ ap (λ x. world_step j x e) h.here ∙ sym (world_more j w done e)
 
 -- a drawn one takes a turn
 tail_drawn : (j : Job) (w : World) (done : List Event) (s t : Sim) (e : Event) → Tail j w done s → 1 ≤ s.budget → Contains (progress s.world) e → t.world ≡ world_step j s.world e → t.budget ≡ s.budget - 1 → Tail j w (done ++ e ∷ []) t
@@ -117,28 +113,19 @@ tail_drawn j w done s t e h some is to b = record {
   whole = ap (λ l. l ++ e ∷ []) h.whole ∙ append_assoc h.before h.quiet (e ∷ []);
   moves = quiet_more j (run_from j w h.before) h.quiet e h.moves (subst (λ x. Contains (progress x) e) at is);
   count = let l = length-append h.quiet (e ∷ []) in let c = h.count in omega (arith, l, c, b, some);
-  here = to ∙ ap (λ x. world_step j x e) h.here ∙ sym (run_more j w done e);
+  here = to ∙ ap (λ x. world_step j x e) h.here ∙ sym (world_more j w done e);
 }
   where
     at : s.world ≡ run_from j (run_from j w h.before) h.quiet
-    at = h.here ∙ ap (run_from j w) h.whole ∙ run_both j w h.before h.quiet
+    at = h.here ∙ ap (run_from j w) h.whole ∙ run-append j w h.before h.quiet
 
 tail_more : (j : Job) (w : World) (done : List Event) (s : Sim) (n : Next) (e : Event) → Tail j w done s → IsTurn s n → event_of n ≡ Some e → Tail j w (done ++ e ∷ []) (moved j s n)
-tail_more j w done s (Over failure) e h i q = absurd (no q)
-  where
-    no : None ≡ Some e → ⊥
-    no q = cc
-tail_more j w done s Spent e h i q = absurd (no q)
-  where
-    no : None ≡ Some e → ⊥
-    no q = cc
+tail_more j w done s (Over failure) e h i q = absurd (none-some e q)
+tail_more j w done s Spent e h i q = absurd (none-some e q)
 tail_more j w done s (Scripted x later) e h i q = tail_anew j w done s (moved j s (Scripted x later)) e h (moved_world j s (Scripted x later) e q) refl
 tail_more j w done s Evicts e h i q = tail_anew j w done s (moved j s Evicts) e h (moved_world j s Evicts e q) refl
 tail_more j w done s Balances e h i q = tail_anew j w done s (moved j s Balances) e h (moved_world j s Balances e q) refl
-tail_more j w done s (Drawn x) e h i q = tail_drawn j w done s (moved j s (Drawn x)) e h i.0 (subst (λ y. Contains (progress s.world) y) (same q) i.1) (moved_world j s (Drawn x) e q) refl
-  where
-    same : Some x ≡ Some e → x ≡ e
-    same q = cc
+tail_more j w done s (Drawn x) e h i q = tail_drawn j w done s (moved j s (Drawn x)) e h i.0 (subst (λ y. Contains (progress s.world) y) (same_Some x e q) i.1) (moved_world j s (Drawn x) e q) refl
 
 tail_end : (j : Job) (words : ℕ → ℕ) (p : Plan) (w : World) (es done : List Event) (s t : Sim) → Tail j w done s → DrawsTo j words p s es t → Tail j w (done ++ es) t
 tail_end j words p w [] done s t h d = subst (λ l. Tail j w l t) (sym (append-nil done)) (subst (Tail j w done) d h)
@@ -223,9 +210,6 @@ waits_in : (c : ClientFacts) (ks : List ℕ) → WaitsAmong c ks
 waits_in c [] f a = absurd (true≢false a)
 waits_in c (k ∷ ks) f a = by_failed (λ g r. waits_in c ks g r) (c.failed k) refl f
   where
-    found : (x : ℕ) → Some x ≡ None → ⊥
-    found x q = cc
-
     is : (w g : Bool) → not (w && not g) ≡ false → (w ≡ true) × (g ≡ false)
     is true true q = absurd (true≢false q)
     is true false q = (refl, refl)
@@ -240,21 +224,18 @@ waits_in c (k ∷ ks) f a = by_failed (λ g r. waits_in c ks g r) (c.failed k) r
 
     by_failed : WaitsAmong c ks → (o : Option ℕ) → c.failed k ≡ o → cond (is_some o) (Some k) (find (λ k. is_some (c.failed k)) ks) ≡ None → (k : ℕ) × (is_unfinished c k ≡ true)
     by_failed later None n g = by_got later (not (c.wants k && not (c.got k))) refl n g a
-    by_failed later (Some x) n g = absurd (found k g)
+    by_failed later (Some x) n g = absurd (some_not_none k g)
 
 waits : (c : ClientFacts) → over c ≡ None → (k : ℕ) × (is_unfinished c k ≡ true)
 waits c h = by_found (find (λ k. is_some (c.failed k)) (client_keys c)) refl h
   where
-    no : (x : Option ℕ) → Some x ≡ None → ⊥
-    no x q = cc
-
     all : (b : Bool) → cond {A = Option (Option ℕ)} b (Some None) None ≡ None → b ≡ false
-    all true q = absurd (no None q)
+    all true q = absurd (some_not_none None q)
     all false q = refl
 
     by_found : (o : Option ℕ) → find (λ k. is_some (c.failed k)) (client_keys c) ≡ o → over_by c o ≡ None → (k : ℕ) × (is_unfinished c k ≡ true)
     by_found None f q = waits_in c (client_keys c) f (all _ q)
-    by_found (Some k) f q = absurd (no (c.failed k) q)
+    by_found (Some k) f q = absurd (some_not_none (c.failed k) q)
 
 settings_stay : (j : Job) (w : World) (es : List Event) → (run_from j w es).sched.setting ≡ w.sched.setting
 settings_stay j w [] = refl
@@ -295,8 +276,8 @@ past_bound j words p wanted s later draws led safe some v i alive linked = by_ca
       before = opening_events p wanted ++ tail.before;
       quiet = tail.quiet;
       whole = ap (λ l. opening_events p wanted ++ l) tail.whole ∙ sym (append_assoc (opening_events p wanted) tail.before tail.quiet);
-      moves = subst (λ w. QuietFrom j w tail.quiet) (sym (run_both j (opening j) (opening_events p wanted) tail.before)) tail.moves;
-      count = none_left (length tail.quiet) s.budget (rest (run_from j start tail.before)) spent tail.count ∙ ap rest (sym (run_both j (opening j) (opening_events p wanted) tail.before));
+      moves = subst (λ w. QuietFrom j w tail.quiet) (sym (run-append j (opening j) (opening_events p wanted) tail.before)) tail.moves;
+      count = none_left (length tail.quiet) s.budget (rest (run_from j start tail.before)) spent tail.count ∙ ap rest (sym (run-append j (opening j) (opening_events p wanted) tail.before));
       more = moving;
     }
       where

@@ -6,6 +6,7 @@ use Rattle.cluster_msgs.specs.declared.events.Item.{Item}
 use Rattle.cluster_msgs.specs.declared.events.Event.{Event}
 use Rattle.std.specs.Prelude.{nat_lt}
 use Rattle.std.proofs.lemmas.Bool.{and_from, le-leb, lt-ltb}
+use Rattle.std.proofs.Math.Bool.{and-true}
 use Rattle.cluster_msgs.specs.declared.events.Event.TheVariants.{Join, Lose, Suspect}
 use Rattle.cluster_rules.specs.Sched.{workers}
 use Rattle.cluster_rules.specs.SchedTable.{sched_takes}
@@ -56,11 +57,7 @@ unfolding enabled sched_takes
 join_free w threads t n =
     ap (λ b. b && (nat_lt (length (workers w.sched)) 64 && nat_lt w.sched.last_worker 1024)) (and_from _ _ (le-leb 1 threads t.0) (le-leb threads 16 t.1))
     ∙ ap (λ b. nat_lt (length (workers w.sched)) 64 && b) (lt-ltb w.sched.last_worker 1024 n)
-    ∙ and_true (nat_lt (length (workers w.sched)) 64)
-  where
-    and_true : (b : Bool) → (b && true) ≡ b
-    and_true true = refl
-    and_true false = refl
+    ∙ and-true (nat_lt (length (workers w.sched)) 64)
 
 pub lose_is : (w : World) (i : ℕ) → enabled w (Lose i) ≡ w.alive i
 unfolding enabled

@@ -4,6 +4,8 @@ use Rattle.std.proofs.Common.{◌≡◌, ℕ, ◌<◌, Bool, true, false, not, �
 use Rattle.std.specs.Prelude.{◌==◌, ◌↔◌}
 use Rattle.std.specs.List.{list_all, list_any}
 use Rattle.std.proofs.lemmas.Bool.{true≢false, false≢true, eqb-true}
+use Rattle.std.proofs.Math.Bool.{or-true}
+use Rattle.small_facts.proofs.Options.{some_not_none, find_passes}
 use Rattle.cluster_msgs.specs.Shape.{IsShape, key_count, deps_of}
 use Rattle.cluster_msgs.specs.Values.{val, cone}
 use Rattle.cluster_msgs.specs.declared.events.Event.{Event}
@@ -13,7 +15,6 @@ use Rattle.cluster_rules.specs.Client.{ClientFacts, client_keys}
 use Rattle.cluster_rules.specs.World.{World, shape_of}
 use Rattle.cluster_rules.specs.Runs.{legal, reached}
 use Rattle.cluster_rules.specs.Draw.{Plan, over, over_by}
-use Rattle.cluster_rules.proofs.SchedFrame.{or_true}
 use Rattle.cluster_laws.proofs.TruthWorld.{true_after}
 use Rattle.cluster_laws.specs.Blocks.{job_of}
 use Rattle.cluster_laws.specs.AreValues.{IsBlamed}
@@ -23,7 +24,7 @@ use Rattle.cluster_sim.specs.Standing.{IsFor, IsStanding}
 use Rattle.cluster_sim.specs.Openings.{IsOpen}
 use Rattle.cluster_sim.specs.Simulations.{HasAll, IfBlamed}
 use Rattle.cluster_sim.specs.declared.position.Standing.{Standing}
-use Rattle.cluster_sim.proofs.EndLemmas.{found_passes, none_is, got_all, all_to}
+use Rattle.cluster_sim.proofs.EndLemmas.{got_all, all_to}
 
 -- the failure that ends a simulation is one that the client was told
 over_blame : (c : ClientFacts) (b : ℕ) → over c ≡ Some (Some b) → (k : ℕ) × (c.failed k ≡ Some b)
@@ -56,11 +57,11 @@ over_served c h = pick (find (λ k. is_some (c.failed k)) (client_keys c)) refl 
 
     none_some : (o : Option ℕ) → o ≡ None → is_some o ≡ true → ⊥
     none_some None e h = false≢true h
-    none_some (Some x) e h = none_is x e
+    none_some (Some x) e h = some_not_none x e
 
     pick : (o : Option ℕ) → find (λ k. is_some (c.failed k)) (client_keys c) ≡ o → over_by c o ≡ Some None → list_all (λ k. not (c.wants k && not (c.got k))) (client_keys c) ≡ true
     pick None q h = all (list_all (λ k. not (c.wants k && not (c.got k))) (client_keys c)) h
-    pick (Some k) q h = absurd (none_some (c.failed k) (same (c.failed k) h) (found_passes (λ k. is_some (c.failed k)) (client_keys c) k q))
+    pick (Some k) q h = absurd (none_some (c.failed k) (same (c.failed k) h) (find_passes (λ k. is_some (c.failed k)) (client_keys c) k q))
 
 -- no failure is told exactly where the client has got all
 pub served_is : (w : World) (wanted : List ℕ) (failure : Option ℕ) → IsFor wanted (w.clients 1) → ((k : ℕ) → is_in k wanted ≡ true → k < key_count (w.clients 1).shape) → over (w.clients 1) ≡ Some failure → (failure ≡ None) ↔ HasAll w wanted
@@ -82,7 +83,7 @@ any_from p (x ∷ xs) k h q = pick (x == k) refl (λ i. any_from p xs k i q) h
   where
     pick : (b : Bool) → (x == k) ≡ b → (is_in k xs ≡ true → list_any p xs ≡ true) → (b || is_in k xs) ≡ true → (p x || list_any p xs) ≡ true
     pick true e r h = ap (λ b. b || list_any p xs) (ap p (eqb-true x k e) ∙ q)
-    pick false e r h = ap (λ b. p x || b) (r h) ∙ or_true (p x)
+    pick false e r h = ap (λ b. p x || b) (r h) ∙ or-true (p x)
 
 -- the failure is blamed on a faulty key that is needed
 pub blame_is : {B : Type 0} (s : Setting) (op : ℕ → List B → Option B) (wanted : List ℕ) (es : List Event) (w : World) (failure : Option ℕ) → IsShape s.shape → legal (job_of s op) es → reached (job_of s op) es ≡ w → IsFor wanted (w.clients 1) → over (w.clients 1) ≡ Some failure

@@ -6,7 +6,7 @@ use Rattle.std.proofs.lemmas.Bool.{false≢true, and_parts, ltb-true, ltb-false}
 use Rattle.std.proofs.lemmas.List.{get_or_past}
 use Rattle.std.proofs.lemmas.Result.{err_from_is_err_and}
 use Rattle.std.specs.Result.{IsErrAnd}
-use Rattle.std.proofs.lemmas.Option.{slice_get_past}
+use Rattle.std.proofs.lemmas.Option.{slice_get_past, none-some, same_Some}
 use Rattle.worker_core.specs.Core.{Core as WorkerState}
 use Rattle.cluster_msgs.specs.declared.messages.Message.{Message}
 use Rattle.cluster_msgs.specs.declared.cores.SchedEvent.{SchedEvent}
@@ -22,7 +22,6 @@ use Rattle.cluster_rules.specs.Derived.{below}
 use Rattle.cluster_rules.specs.Inside.{IsKey}
 use Rattle.cluster_rules.specs.Worker.{Ask, has_any, would_start, running_count, wstate, is_ready_state, worker_keys}
 use Rattle.cluster_rules.proofs.InsideWorker.{found_in, keys_below}
-use Rattle.cluster_laws.proofs.Deliveries.{none_some, some_is}
 use Rattle.cluster_rules.specs.World.{World, shape_of, is_client, is_asker, is_connected, open_ask}
 use Rattle.cluster_rules.specs.Enabled.{are_named, enabled, front}
 use Rattle.fact_rows.specs.Rows.{read}
@@ -38,10 +37,6 @@ use Rattle.cluster_world.specs.Kept.{CoresTookFew, IsJoint, IsSame, IsKept}
 use Rattle.cluster_world.specs.Outcomes.{IsTurned}
 use Rattle.cluster_laws.proofs.Framed.{joins_by, step_last}
 use Rattle.cluster_world.proofs.Telling.{alive_there, alive_is, client_number}
-
-pub on_ok2 : {A E P Q R : Type 0} (r : Result A E) → (P → Q → R) → OnOk r P → OnOk r Q → OnOk r R
-on_ok2 (Ok a) f p q = f p q
-on_ok2 (Err e) f p q = tt
 
 pub on_ok3 : {A E P Q R S : Type 0} (r : Result A E) → (P → Q → R → S) → OnOk r P → OnOk r Q → OnOk r R → OnOk r S
 on_ok3 (Ok a) f p q s = f p q s
@@ -238,12 +233,12 @@ module _ {J B F : Type 0} (s : State J B F) (j : IsJoint s) where
 
       in_range : (b : Bool) → cond b (find (λ q. is_ready_state (wstate (w.workers i) q)) (worker_keys (w.workers i))) None ≡ Some k → IsKey (shape_of w) k
       in_range true e = found_in (IsKey (shape_of w)) (λ q. is_ready_state (wstate (w.workers i) q)) (worker_keys (w.workers i)) k e keys
-      in_range false e = absurd (none_some k e)
+      in_range false e = absurd (none-some k e)
 
 -- an open ask by its number
 pub open_there : (o : Option Ask) (n : ℕ) → option_map (λ (a : Ask). a.number) o ≡ Some n → (a : Ask) × (o ≡ Some a) × (a.number ≡ n)
-open_there None n e = absurd (none_some n e)
-open_there (Some a) n e = (a, refl, some_is a.number n e)
+open_there None n e = absurd (none-some n e)
+open_there (Some a) n e = (a, refl, same_Some a.number n e)
 
 -- what is under a condition that holds
 pub under : {A : Type 0} (b : Bool) (o : Option A) (r : Option A) → r ≡ cond b o None → b ≡ true → o ≡ r
@@ -252,16 +247,16 @@ under false o r e h = absurd (false≢true h)
 
 pub none_under : (o : Option Ask) → option_map (λ (a : Ask). a.number) o ≡ None → o ≡ None
 none_under None e = refl
-none_under (Some a) e = absurd (none_some a.number (sym e))
+none_under (Some a) e = absurd (none-some a.number (sym e))
 
 pub is_none_there : {A Q : Type 0} (o : Option A) → o ≡ None → is_some o ≡ true → Q
 is_none_there o e h = absurd (false≢true (sym (ap (λ x. is_some x) e) ∙ h))
 
 -- the front of a list, and the rest
 pub front_is : {A : Type 0} (m : A) (ms : List A) → Some m ≡ front ms → ms ≡ m ∷ drop 1 ms
-front_is m [] e = absurd (none_some m (sym e))
-front_is m (x ∷ ms) e = ap (λ y. y ∷ ms) (sym (some_is m x e))
+front_is m [] e = absurd (none-some m (sym e))
+front_is m (x ∷ ms) e = ap (λ y. y ∷ ms) (sym (same_Some m x e))
 
 pub no_front : {A Q : Type 0} (ms : List A) → None ≡ front ms → has_any ms ≡ true → Q
 no_front [] e h = absurd (false≢true h)
-no_front (x ∷ ms) e h = absurd (none_some x e)
+no_front (x ∷ ms) e h = absurd (none-some x e)

@@ -1,20 +1,17 @@
 -- Sums over workers and clients, number by number.
-use Rattle.std.proofs.Common.{◌≡◌, ℕ, ◌+◌, ◌≤◌, Bool, true, false, List, [], ◌∷◌, ◌++◌, refl, sym, ap, ◌∙◌, arith, cond, filter, map, length}
+use Rattle.std.proofs.Common.{◌≡◌, ℕ, ◌+◌, ◌≤◌, Bool, true, false, List, [], ◌∷◌, refl, sym, ap, ◌∙◌, arith, cond, filter, map, length}
 use Rattle.std.specs.Prelude.{min}
 use Rattle.std.specs.Option.{option_map}
 use Rattle.std.specs.List.{range_with_len}
 use Rattle.std.proofs.lemmas.List.{length-map}
+use Rattle.small_facts.proofs.Ranges.{range_push}
 use Rattle.cluster_msgs.specs.declared.messages.Message.{Message}
 use Rattle.cluster_rules.specs.Enabled.{front}
 use Rattle.cluster_rules.specs.Functions.{total}
-use Rattle.cluster_rules.proofs.DerivedLemmas.{range_more}
-
-total_end : (f : ℕ → ℕ) (xs : List ℕ) (x : ℕ) → total f (xs ++ x ∷ []) ≡ total f xs + f x
-total_end f [] x = omega arith
-total_end f (y ∷ xs) x = let h = total_end f xs x in omega (arith, h)
+use Rattle.cluster_rules.proofs.TotalLemmas.{total-push}
 
 pub total_more : (f : ℕ → ℕ) (n : ℕ) → total f (range_with_len 1 (n + 1)) ≡ total f (range_with_len 1 n) + f (n + 1)
-total_more f n = let e : 1 + n ≡ n + 1 = omega arith in ap (total f) (range_more 1 n) ∙ total_end f (range_with_len 1 n) (1 + n) ∙ ap (λ k. total f (range_with_len 1 n) + f k) e
+total_more f n = let e : 1 + n ≡ n + 1 = omega arith in ap (total f) (range_push 1 n) ∙ total-push f (range_with_len 1 n) (1 + n) ∙ ap (λ k. total f (range_with_len 1 n) + f k) e
 
 -- a sum that stands at its greatest
 pub more : (f : ℕ → ℕ) (n sum part next : ℕ) → sum ≡ min (total f (range_with_len 1 n)) 18446744073709551615 → part ≡ min (f (n + 1)) 18446744073709551615 → next ≡ min (sum + part) 18446744073709551615
@@ -35,10 +32,6 @@ ended n m h k = omega arith
 -- sums that stop at a greatest number
 pub capped : (a b m x y r : ℕ) → x ≡ min a m → y ≡ min b m → r ≡ min (x + y) m → r ≡ min (a + b) m
 capped a b m x y r h k e = omega (arith, h, k, e)
-
-pub one_or_none : (b : Bool) → cond b 1 0 ≤ 1
-one_or_none true = omega arith
-one_or_none false = omega arith
 
 -- messages of one kind
 pub kind_length : {M : Type 0} (wrap : M → Message) (ms : List M) (xs : List Message) → map wrap ms ≡ xs → length xs ≡ length ms

@@ -4,6 +4,7 @@ use Rattle.std.specs.Prelude.{nat_lt}
 use Rattle.std.proofs.lemmas.Bool.{and_parts, ltb-true}
 use Rattle.std.proofs.lemmas.Result.{err_from_is_err_and}
 use Rattle.std.specs.Result.{IsErrAnd}
+use Rattle.std.proofs.lemmas.Option.{none-some, same_Some}
 use Rattle.cluster_msgs.specs.Jobs.{value_of, IfValue, CountsFault}
 use Rattle.cluster_msgs.specs.Shape.{Shape, key_count, deps_of}
 use Rattle.cluster_msgs.specs.declared.jobs.Outcome.{Outcome}
@@ -15,7 +16,6 @@ use Rattle.cluster_msgs.specs.declared.events.Event.TheVariants.{Finish}
 use Rattle.cluster_rules.specs.World.{shape_of}
 use Rattle.cluster_rules.specs.Enabled.{enabled}
 use Rattle.fact_rows.specs.Rows.{cell}
-use Rattle.cluster_laws.proofs.Deliveries.{none_some, some_is}
 use Rattle.cluster_nodes.specs.Nodes.{blocks_at, world_of, blocks_in}
 use Rattle.cluster_world.specs.declared.state.State.{State}
 use Rattle.cluster_world.specs.declared.state.Course.TheVariants.{Fed}
@@ -48,8 +48,8 @@ module _ {J B F : Type 0} (graph : J → Shape) (key_dims : J → ℕ → List �
   finish_inputs = lengths (key_dims s.job) block_dims (deps_of (graph s.job) k) (blocks_at (cell s.nodes.inputs None i k)) (w.stocked.inputs i k (can_finish s i k e).1)
 
 value_fits : {B : Type 0} (o : Outcome B) (P : B → Type 0) → IfValue o P → (b : B) → value_of o ≡ Some b → P b
-value_fits (Value x) P h b e = subst P (some_is x b e) h
-value_fits Zero P h b e = absurd (none_some b e)
+value_fits (Value x) P h b e = subst P (same_Some x b e) h
+value_fits Zero P h b e = absurd (none-some b e)
 
 finish_worker : (i k j q : ℕ) → Finish i k ≡ Finish j q → i ≡ j
 finish_worker i k j q e = cc

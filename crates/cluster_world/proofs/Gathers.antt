@@ -1,8 +1,10 @@
 -- Requests that are served and answers that arrive, as steps of a cluster.
-use Rattle.std.proofs.Common.{◌≡◌, ℕ, Bool, true, false, ◌&&◌, List, [], ◌∷◌, Option, Some, None, refl, sym, ap, ◌∙◌, subst, cond, find, map}
+use Rattle.std.proofs.Common.{◌≡◌, ℕ, true, ◌&&◌, List, Option, Some, None, refl, sym, ap, ◌∙◌, cond, map}
 use Rattle.std.specs.Prelude.{◌==◌}
 use Rattle.std.specs.Option.{option_map}
-use Rattle.std.proofs.lemmas.Bool.{false≢true, eqb-true, and_parts}
+use Rattle.std.proofs.lemmas.Bool.{eqb-true, and_parts, eq-eqb}
+use Rattle.small_facts.proofs.Numbers.{eqb_turned}
+use Rattle.small_facts.proofs.Options.{find_passes}
 use Rattle.cluster_msgs.specs.declared.cores.WorkerEvent.TheVariants.{Gathered}
 use Rattle.cluster_msgs.specs.declared.cores.ClientEvent.TheVariants.{Gathered as ClientGathered}
 use Rattle.cluster_msgs.specs.declared.events.Asker.{Asker}
@@ -10,30 +12,14 @@ use Rattle.cluster_msgs.specs.declared.events.Asker.TheVariants.{Worker, Client}
 use Rattle.cluster_msgs.specs.declared.events.Event.TheVariants.{ServeGather, ArriveGather}
 use Rattle.cluster_rules.specs.World.{World, Parcel, same_asker, is_parcel, parcel_of, without_parcel}
 use Rattle.cluster_rules.specs.WorldStep.{at_worker, at_client, gathered_at, serve, take_answer, world_step}
-use Rattle.cluster_rules.proofs.DerivedLemmas.{eqb_comm}
 use Rattle.cluster_laws.specs.Blocks.{Delivery, Blocks, Cluster}
-use Rattle.cluster_rules.proofs.SchedFrame.{same_eqb}
 use Rattle.cluster_laws.specs.Moves.{block_among, delivery_of, delivered, without_delivery, served, taken, brought, starts, carried_after, blocks_after}
-use Rattle.cluster_laws.proofs.Deliveries.{some_is, none_some, parcel_found}
+use Rattle.cluster_laws.proofs.Deliveries.{parcel_found}
 use Rattle.cluster_nodes.specs.Turns.{served_by, answer_arrived}
 use Rattle.cluster_world.specs.Outcomes.{stepped}
 use Rattle.cluster_world.specs.Kept.{IsTidy}
 use Rattle.cluster_world.proofs.Stepping.{held_still, got_still, held_worked, got_worked, worker_clients, client_workers}
-
--- what is found is of the ask
-pub found_is : {A : Type 0} (t : A → Bool) (xs : List A) (x : A) → find t xs ≡ Some x → t x ≡ true
-found_is t [] x e = absurd (none_some x e)
-found_is t (y ∷ ys) x e = pick (t y) refl e (λ h. found_is t ys x h)
-  where
-    pick : (b : Bool) → t y ≡ b → cond b (Some y) (find t ys) ≡ Some x → (find t ys ≡ Some x → t x ≡ true) → t x ≡ true
-    pick true s h r = subst (λ z. t z ≡ true) (some_is y x h) s
-    pick false s h r = r h
-
-asker_is : (a b : Asker) → same_asker a b ≡ true → a ≡ b
-asker_is (Worker v) (Worker w) e = ap (λ z. Worker z) (eqb-true v w e)
-asker_is (Client v) (Client w) e = ap (λ z. Client z) (eqb-true v w e)
-asker_is (Worker v) (Client w) e = absurd (false≢true e)
-asker_is (Client v) (Worker w) e = absurd (false≢true e)
+use Rattle.safety_laws.proofs.Lively.{same_asker_is}
 
 pub record IsOf (a : Asker) (p n : ℕ) (q : Parcel) : Type 0 where
   pub asker : q.asker ≡ a
@@ -44,7 +30,7 @@ pub is_of : (a : Asker) (p n : ℕ) (q : Parcel) → is_parcel a p n q ≡ true 
 is_of a p n q e =
     let s = and_parts (same_asker q.asker a) (q.peer == p && q.ask == n) e in
     let r = and_parts (q.peer == p) (q.ask == n) s.1 in
-    record { asker = asker_is q.asker a s.0; peer = eqb-true q.peer p r.0; ask = eqb-true q.ask n r.1 }
+    record { asker = same_asker_is q.asker a s.0; peer = eqb-true q.peer p r.0; ask = eqb-true q.ask n r.1 }
 
 module _ {B : Type 0} (o : Option B) (c : Cluster B) (tidy : IsTidy c.world c.blocks) where
   abbrev op : ℕ → List B → Option B
@@ -80,7 +66,7 @@ module _ {B : Type 0} (o : Option B) (c : Cluster B) (tidy : IsTidy c.world c.bl
       let s = parcel_of a p n w.requests in
       let h = held_still op w b (ServeGather p a n) tidy w refl refl (serve w p s) (serve_workers p s) (λ x k. refl) in
       let g = got_still op w b (ServeGather p a n) tidy w refl refl (serve w p s) (serve_clients p s) (λ x k. refl) in
-      served_with a p n s (λ q e. is_of a p n q (found_is (is_parcel a p n) w.requests q e))
+      served_with a p n s (λ q e. is_of a p n q (find_passes (is_parcel a p n) w.requests q e))
       ∙ (λ t. record { world = serve w p s; blocks = record { held = sym h t; inputs = b.inputs; carried = served w b p s; got = sym g t } })
 
   -- an answer arrives at the asker that asked
@@ -118,8 +104,8 @@ module _ {B : Type 0} (o : Option B) (c : Cluster B) (tidy : IsTidy c.world c.bl
       let new = λ (k : ℕ). block_among d.parcel.keys d.blocks k in
       let come = comes (Worker i) p n d e of in
       let h = held_worked op w b E tidy v refl refl i (Gathered p n d.parcel.keys) new
-      (λ k. come (Worker i) k ∙ ap (λ z. cond z (block_among d.parcel.keys d.blocks k) None) (same_eqb i i refl))
-      (λ x k s. come (Worker x) k ∙ ap (λ z. cond z (block_among d.parcel.keys d.blocks k) None) (eqb_comm i x ∙ s)) in
+      (λ k. come (Worker i) k ∙ ap (λ z. cond z (block_among d.parcel.keys d.blocks k) None) (eq-eqb i i refl))
+      (λ x k s. come (Worker x) k ∙ ap (λ z. cond z (block_among d.parcel.keys d.blocks k) None) (eqb_turned i x ∙ s)) in
       let g = got_still op w b E tidy v refl refl (at_worker v i (Gathered p n d.parcel.keys)) (worker_clients op w b E tidy v refl refl i (Gathered p n d.parcel.keys)) (λ x k. come (Client x) k) in
       let q = arrived_carried (Worker i) p n d of in
       (λ t. record { world = at_worker v i (Gathered p n d.parcel.keys); blocks = record { held = sym h t; inputs = b.inputs; carried = q t; got = sym g t } })
@@ -130,8 +116,8 @@ module _ {B : Type 0} (o : Option B) (c : Cluster B) (tidy : IsTidy c.world c.bl
       let new = λ (k : ℕ). block_among d.parcel.keys d.blocks k in
       let come = comes (Client x) p n d e of in
       let g = got_worked op w b E tidy v refl refl x (ClientGathered p n d.parcel.keys) new
-      (λ k. come (Client x) k ∙ ap (λ z. cond z (block_among d.parcel.keys d.blocks k) None) (same_eqb x x refl))
-      (λ y k s. come (Client y) k ∙ ap (λ z. cond z (block_among d.parcel.keys d.blocks k) None) (eqb_comm x y ∙ s)) in
+      (λ k. come (Client x) k ∙ ap (λ z. cond z (block_among d.parcel.keys d.blocks k) None) (eq-eqb x x refl))
+      (λ y k s. come (Client y) k ∙ ap (λ z. cond z (block_among d.parcel.keys d.blocks k) None) (eqb_turned x y ∙ s)) in
       let h = held_still op w b E tidy v refl refl (at_client v x (ClientGathered p n d.parcel.keys)) (client_workers op w b E tidy v refl refl x (ClientGathered p n d.parcel.keys)) (λ y k. come (Worker y) k) in
       let q = arrived_carried (Client x) p n d of in
       (λ t. record { world = at_client v x (ClientGathered p n d.parcel.keys); blocks = record { held = sym h t; inputs = b.inputs; carried = q t; got = sym g t } })
@@ -158,7 +144,7 @@ module _ {B : Type 0} (o : Option B) (c : Cluster B) (tidy : IsTidy c.world c.bl
           λ t. record { world = w; blocks = record { held = sym h t; inputs = b.inputs; carried = b.carried; got = sym g t } }
 
       arrived : (d : Delivery B) → delivery_of a p n b.carried ≡ Some d → answer_arrived c a p n (Some d) ≡ at (Some d)
-      arrived d e = by_asker a p n d e (is_of a p n d.parcel (found_is (λ (d : Delivery B). is_parcel a p n d.parcel) b.carried d e))
+      arrived d e = by_asker a p n d e (is_of a p n d.parcel (find_passes (λ (d : Delivery B). is_parcel a p n d.parcel) b.carried d e))
 
       by : (s : Option (Delivery B)) → delivery_of a p n b.carried ≡ s → answer_arrived c a p n (delivery_of a p n b.carried) ≡ stepped o c (ArriveGather a p n)
       by None e = ap (answer_arrived c a p n) e ∙ none e ∙ ap at (sym e) ∙ at_is

@@ -3,6 +3,8 @@ use Rattle.std.proofs.Common.{◌≡◌, ℕ, zero, suc, ◌+◌, ◌≤◌, Boo
 use Rattle.std.specs.Prelude.{◌==◌, nat_le}
 use Rattle.std.specs.List.{AllByRecursion, range_with_len}
 use Rattle.std.proofs.lemmas.Bool.{false≢true, eqb-true, leb-true, le-leb, and_parts, and_from}
+use Rattle.std.proofs.lemmas.Option.{none-some, same_Some}
+use Rattle.small_facts.proofs.Options.{find_passes}
 use Rattle.cluster_msgs.specs.declared.messages.Down.{Down}
 use Rattle.cluster_msgs.specs.declared.messages.Up.{Up}
 use Rattle.cluster_msgs.specs.declared.messages.Up.TheVariants.{TaskFinished, TaskErred, AddKeys, ReleaseWorkerData, MissingData, RequestRefreshWhoHas, StealResponse}
@@ -32,10 +34,9 @@ use Rattle.cluster_rules.specs.WorldStep.{letters, scheduled, worked, client_wor
 use Rattle.cluster_rules.specs.Enabled.{are_named, enabled}
 use Rattle.cluster_rules.proofs.WorkerLemmas.{at_one}
 use Rattle.cluster_laws.specs.Moves.{world_after}
-use Rattle.cluster_laws.proofs.Deliveries.{none_some, some_is}
 use Rattle.cluster_laws.proofs.Framed.{step_setting}
 use Rattle.cluster_world.proofs.Numbers.{news_go}
-use Rattle.cluster_world.proofs.Gathers.{is_of, found_is}
+use Rattle.cluster_world.proofs.Gathers.{is_of}
 
 -- only a client's message is answered, and to that client
 added_reply : (w seen : ℕ) (g : Changed) (ks : List ℕ) → (add_keys w seen g ks).reply ≡ g.reply
@@ -75,14 +76,14 @@ evicted_reply f None = refl
 evicted_reply f (Some p) = refl
 
 pub reply_goes : (P : ℕ → Type 0) (f : Facts) (e : SchedEvent) → ((c : ℕ) (m : ClientMessage) → e ≡ FromClient c m → P c) → (p : ℕ × ℕ) → (change f e).reply ≡ Some p → P p.0
-reply_goes P f (JoinSched threads) h p r = absurd (none_some p r)
-reply_goes P f (Leave w) h p r = absurd (none_some p r)
-reply_goes P f (FromWorker w u) h p r = absurd (none_some p (sym (up_reply f w u) ∙ r))
-reply_goes P f (FromClient c (WantMessage ks)) h p r = absurd (none_some p r)
-reply_goes P f (FromClient c (ReleaseMessage ks)) h p r = absurd (none_some p r)
-reply_goes P f (FromClient c (MissingMessage k x copy)) h p r = subst (λ (q : ℕ × ℕ). P q.0) (some_is (c, k) p r) (h c (MissingMessage k x copy) refl)
-reply_goes P f BalanceSched h p r = absurd (none_some p (sym (balanced_reply f (next_steal f)) ∙ r))
-reply_goes P f EvictSched h p r = absurd (none_some p (sym (evicted_reply f (next_drop f)) ∙ r))
+reply_goes P f (JoinSched threads) h p r = absurd (none-some p r)
+reply_goes P f (Leave w) h p r = absurd (none-some p r)
+reply_goes P f (FromWorker w u) h p r = absurd (none-some p (sym (up_reply f w u) ∙ r))
+reply_goes P f (FromClient c (WantMessage ks)) h p r = absurd (none-some p r)
+reply_goes P f (FromClient c (ReleaseMessage ks)) h p r = absurd (none-some p r)
+reply_goes P f (FromClient c (MissingMessage k x copy)) h p r = subst (λ (q : ℕ × ℕ). P q.0) (same_Some (c, k) p r) (h c (MissingMessage k x copy) refl)
+reply_goes P f BalanceSched h p r = absurd (none-some p (sym (balanced_reply f (next_steal f)) ∙ r))
+reply_goes P f EvictSched h p r = absurd (none-some p (sym (evicted_reply f (next_drop f)) ∙ r))
 
 -- the scheduler takes messages only of clients that are there
 pub reply_there : (f : Facts) (e : SchedEvent) → sched_takes f e ≡ true → (p : ℕ × ℕ) → (change f e).reply ≡ Some p → p.0 ≤ f.setting.clients
@@ -236,7 +237,7 @@ go_step j w (Finish i k) t h = go_worker w i (Done k (j.zero k)) h
 go_step j w (SendGather a p) t h = go_ask_by w a p (and_parts (is_asker w a) _ t).0 h
 go_step j w (ServeGather p a n) t h = go_serve w p (parcel_of a p n w.requests) h
 go_step j w (ArriveGather a p n) t h = go_take_answer w (parcel_of a p n w.answers)
-    (λ q e. subst (λ x. is_asker w x ≡ true) (sym (is_of a p n q (found_is (is_parcel a p n) w.answers q e)).asker) (and_parts (is_asker w a) _ t).0) h
+    (λ q e. subst (λ x. is_asker w x ≡ true) (sym (is_of a p n q (find_passes (is_parcel a p n) w.answers q e)).asker) (and_parts (is_asker w a) _ t).0) h
 go_step j w (FailGather a p) t h = go_fail_ask w a p (open_ask w a p) (and_parts (is_asker w a) _ t).0 h
 go_step j w Balance t h = go_alone w BalanceSched no_balance h
 go_step j w Evict t h = go_alone w EvictSched no_evict h

@@ -24,7 +24,7 @@ run_more : {B : Type 0} (op : ℕ → List B → Option B) (c : Cluster B) (es :
 run_more op c [] e = refl
 run_more op c (d ∷ es) e = run_more op (cluster_step op c d) es e
 
-world_more : (j : Job) (w : World) (es : List Event) (e : Event) → run_from j w (es ++ e ∷ []) ≡ world_step j (run_from j w es) e
+pub world_more : (j : Job) (w : World) (es : List Event) (e : Event) → run_from j w (es ++ e ∷ []) ≡ world_step j (run_from j w es) e
 world_more j w [] e = refl
 world_more j w (d ∷ es) e = world_more j (world_step j w d) es e
 

@@ -1,8 +1,9 @@
 -- To whom the scheduler writes: to workers that it counts, and to clients that are there.
-use Rattle.std.proofs.Common.{◌≡◌, ℕ, zero, suc, ◌+◌, ◌<◌, ◌≤◌, Bool, true, false, not, ◌&&◌, List, [], ◌∷◌, ◌++◌, Option, Some, None, refl, arith, cond, All}
+use Rattle.std.proofs.Common.{◌≡◌, ℕ, zero, suc, ◌+◌, ◌≤◌, Bool, true, false, not, ◌&&◌, List, [], ◌∷◌, Option, Some, None, refl, arith, cond}
 use Rattle.std.specs.Prelude.{◌==◌, nat_le}
 use Rattle.std.specs.List.{filter_map, cons_option, list_any, AllByRecursion, range_with_len}
 use Rattle.std.specs.Option.{option_map}
+use Rattle.small_facts.proofs.Every.{all_weaker, all_of_filter, all_join}
 use Rattle.cluster_msgs.specs.declared.messages.Down.{Down}
 use Rattle.cluster_msgs.specs.declared.messages.Down.TheVariants.{ComputeTask}
 use Rattle.cluster_msgs.specs.declared.messages.ToClient.{ToClient}
@@ -13,21 +14,11 @@ use Rattle.cluster_rules.specs.Functions.{from_one}
 use Rattle.cluster_rules.specs.Sched.{Facts, workers, connected, keys, deps, held, erred, blame, holders, who_has}
 use Rattle.cluster_rules.specs.SchedTable.{change}
 use Rattle.cluster_rules.specs.SchedStep.{Stages, settle, free_message, lost_keys, task_message, task_messages, all_to, to_worker, down_messages, was_held, was_erred, client_message, to_clients, tells_held, reply_message, client_messages, finish_step, posted, sched_step}
-use Rattle.cluster_rules.proofs.InsideSched.{all_flat_map_in, all_weaken}
-use Rattle.cluster_rules.proofs.InsideWorker.{all_filter_in}
+use Rattle.cluster_rules.proofs.InsideSched.{all_flat_map_in}
 
 range_most : (n a m : ℕ) → a + m ≤ n + 1 → AllByRecursion (λ k. k ≤ n) (range_with_len a m)
 range_most n a zero h = tt
 range_most n a (suc m) h = (omega arith, range_most n (a + 1) m (omega arith))
-
-appended : {A : Type 0} (P : A → Type 0) (xs ys : List A) → AllByRecursion P xs → AllByRecursion P ys → AllByRecursion P (xs ++ ys)
-appended P [] ys h k = k
-appended P (x ∷ xs) ys h k = (h.0, appended P xs ys h.1 k)
-
-pub all_index : {A : Type 0} (P : A → Type 0) (xs : List A) → AllByRecursion P xs → All P xs
-all_index P [] h k d l = absurd (let n : k < 0 = l in omega arith)
-all_index P (x ∷ xs) h zero d l = h.0
-all_index P (x ∷ xs) h (suc k) d l = all_index P xs h.1 k d (omega arith)
 
 module _ (P : ℕ → Type 0) where
   abbrev To : ℕ × Down → Type 0
@@ -55,7 +46,7 @@ module _ (P : ℕ → Type 0) where
 
   one_worker : (t : Stages) (w : ℕ) → P w → AllByRecursion To (to_worker t w)
   unfolding to_worker task_messages
-  one_worker t w l = appended To _ _ (freed w (lost_keys t w) l) (appended To _ _ (tasks t.placed t.before.counter w l (below (keys t.placed))) (answered w (t.changed.answer t.placed w) l))
+  one_worker t w l = all_join To _ _ (freed w (lost_keys t w) l) (all_join To _ _ (tasks t.placed t.before.counter w l (below (keys t.placed))) (answered w (t.changed.answer t.placed w) l))
 
   abbrev For : ℕ × ToClient → Type 0
   For m = P m.0
@@ -90,8 +81,8 @@ downs_reach f e =
     let t = settle f (change f e) in
     let most = λ (w : ℕ). w ≤ t.placed.last_worker in
     all_flat_map_in (To most) (to_worker t) (workers t.placed)
-    (all_weaken most (λ w. AllByRecursion (To most) (to_worker t w)) (one_worker most t) (workers t.placed)
-    (all_filter_in most (connected t.placed) (from_one t.placed.last_worker) (range_most t.placed.last_worker 1 t.placed.last_worker (omega arith))))
+    (all_weaker most (λ w. AllByRecursion (To most) (to_worker t w)) (one_worker most t) (workers t.placed)
+    (all_of_filter most (connected t.placed) (from_one t.placed.last_worker) (range_most t.placed.last_worker 1 t.placed.last_worker (omega arith))))
 
 -- to clients that are there, where the one that is answered is
 pub news_go : (P : ℕ → Type 0) (f : Facts) (e : SchedEvent) → AllByRecursion P (from_one f.setting.clients) → ((p : ℕ × ℕ) → (change f e).reply ≡ Some p → P p.0)
@@ -100,9 +91,9 @@ unfolding sched_step finish_step posted client_messages to_clients settle
 news_go P f e all h =
     let t = settle f (change f e) in
     let n = f.setting.clients in
-    appended (For P) (to_clients t) (reply_message t (to_clients t) t.changed.reply)
+    all_join (For P) (to_clients t) (reply_message t (to_clients t) t.changed.reply)
     (all_flat_map_in (For P) (λ c. filter_map (client_message t c) (below (keys t.before))) (from_one n)
-    (all_weaken P (λ c. AllByRecursion (For P) (filter_map (client_message t c) (below (keys t.before)))) (λ c l. all_news P t c l (below (keys t.before))) (from_one n) all))
+    (all_weaker P (λ c. AllByRecursion (For P) (filter_map (client_message t c) (below (keys t.before)))) (λ c l. all_news P t c l (below (keys t.before))) (from_one n) all))
     (replied P t (to_clients t) t.changed.reply h)
 
 pub news_reach : (f : Facts) (e : SchedEvent) → ((p : ℕ × ℕ) → (change f e).reply ≡ Some p → p.0 ≤ f.setting.clients) → AllByRecursion (λ (m : ℕ × ToClient). m.0 ≤ f.setting.clients) (sched_step f e).clients

@@ -5,7 +5,6 @@ use Rattle.std.specs.List.{list_all, AllByRecursion}
 use Rattle.std.proofs.lemmas.Bool.{false≢true, and_from, and_parts}
 use Rattle.cluster_msgs.specs.Shape.{Shape, IsShape, key_count}
 use Rattle.cluster_msgs.specs.declared.messages.Down.{Down}
-use Rattle.cluster_msgs.specs.declared.messages.Down.TheVariants.{ComputeTask, FreeKeys, StealRequest, RemoveReplicas, AcquireReplicas, RefreshWhoHas}
 use Rattle.cluster_msgs.specs.declared.messages.Up.{Up}
 use Rattle.cluster_msgs.specs.declared.messages.ToClient.{ToClient}
 use Rattle.cluster_msgs.specs.declared.messages.ToClient.TheVariants.{KeyInMemory, LostData, ClientTaskErred}
@@ -17,19 +16,20 @@ use Rattle.cluster_msgs.specs.declared.events.Asker.{Asker}
 use Rattle.cluster_msgs.specs.declared.events.Event.{Event}
 use Rattle.cluster_rules.specs.Sched.{Setting, connected}
 use Rattle.cluster_rules.specs.SchedTable.{up_keys, client_keys, sched_takes}
-use Rattle.cluster_rules.specs.Worker.{WorkerFacts, has_any}
-use Rattle.cluster_rules.specs.WorkerStep.{takes_down, worker_takes}
+use Rattle.cluster_rules.specs.Worker.{has_any}
+use Rattle.cluster_rules.specs.WorkerStep.{worker_takes}
 use Rattle.cluster_rules.specs.Client.{ClientFacts, are_client_keys, can_hear, client_takes}
 use Rattle.cluster_rules.specs.World.{Job, World, Parcel, opening, shape_of, is_parcel, parcel_of}
 use Rattle.cluster_rules.specs.Enabled.{are_named, enabled}
-use Rattle.cluster_rules.specs.Inside.{IsKey, AreKeys, named_keys, down_keys, news_keys, IsInsideWorld}
+use Rattle.cluster_rules.specs.Inside.{AreKeys, named_keys, down_keys, news_keys, IsInsideWorld}
 use Rattle.cluster_rules.proofs.InsideSched.{all_found}
 use Rattle.cluster_laws.specs.Moves.{world_after}
 use Rattle.cluster_world.specs.Orderly.{IsOrderly}
-use Rattle.cluster_world.proofs.Settings.{same_setting}
 use Rattle.cluster_laws.proofs.InsideWorld.{inside_after}
 use Rattle.cluster_world.proofs.Spills.{held_after}
 use Rattle.cluster_world.proofs.Letters.{addressed_after}
+use Rattle.safety_laws.proofs.Answered.{clients_same}
+use Rattle.safety_laws.proofs.Turns.{keys_there, key_there, down_there}
 
 pub orderly_opening : (j : Job) → IsOrderly (opening j)
 orderly_opening j = record {
@@ -53,7 +53,7 @@ orderly_opening j = record {
 -- where nothing is spilled at the number that joins next
 pub orderly_after : (met : Bool) (w : World) (e : Event) → IsShape (shape_of w) → enabled w e ≡ true → ((k : ℕ) → w.spilled (w.sched.last_worker + 1) k ≡ false) → IsOrderly w → IsOrderly (world_after met w e)
 orderly_after met w e low t bare h =
-    let same = same_setting (record { setting = w.sched.setting; zero = λ k. met }) w e in
+    let same = clients_same (record { setting = w.sched.setting; zero = λ k. met }) w e in
     let go = addressed_after met w e t h.to_client h.from_client in
     record {
       inside = subst (λ (s : Setting). IsInsideWorld s.shape (world_after met w e)) (sym same) (inside_after met w e low t h.inside);
@@ -62,25 +62,9 @@ orderly_after met w e low t bare h =
       from_client = go.1;
     }
 
--- keys of the graph are keys of whoever has that graph
-keys_there : (g s : Shape) → s ≡ g → (ks : List ℕ) → AreKeys g ks → list_all (λ k. nat_lt k (key_count s)) ks ≡ true
-keys_there g s e [] h = refl
-keys_there g s e (k ∷ ks) h = and_from _ _ (subst (λ (x : Shape). nat_lt k (key_count x) ≡ true) (sym e) h.0) (keys_there g s e ks h.1)
-
 named_there : (g s : Shape) → s ≡ g → (who : List (ℕ × List (ℕ × ℕ))) → AreKeys g (named_keys who) → list_all (λ (p : ℕ × List (ℕ × ℕ)). nat_lt p.0 (key_count s)) who ≡ true
 named_there g s e [] h = refl
 named_there g s e (p ∷ ps) h = and_from _ _ (subst (λ (x : Shape). nat_lt p.0 (key_count x) ≡ true) (sym e) h.0) (named_there g s e ps h.1)
-
-key_there : (g s : Shape) → s ≡ g → (k : ℕ) → IsKey g k → nat_lt k (key_count s) ≡ true
-key_there g s e k h = subst (λ (x : Shape). nat_lt k (key_count x) ≡ true) (sym e) h
-
-down_there : (g : Shape) (w : WorkerFacts) → w.shape ≡ g → (m : Down) → AreKeys g (down_keys m) → takes_down w m ≡ true
-down_there g w e (ComputeTask k a who) h = and_from _ _ (key_there g w.shape e k h.0) (named_there g w.shape e who h.1)
-down_there g w e (FreeKeys ks) h = keys_there g w.shape e ks h
-down_there g w e (StealRequest k a) h = key_there g w.shape e k h.0
-down_there g w e (RemoveReplicas ks) h = keys_there g w.shape e ks h
-down_there g w e (AcquireReplicas who) h = named_there g w.shape e who h
-down_there g w e (RefreshWhoHas who) h = named_there g w.shape e who h
 
 hear_there : (g : Shape) (c : ClientFacts) → c.shape ≡ g → (m : ToClient) → AreKeys g (news_keys m) → can_hear c m ≡ true
 hear_there g c e (KeyInMemory k holders) h = keys_there g c.shape e (k ∷ []) h

@@ -2,7 +2,8 @@
 use Rattle.std.proofs.Common.{◌≡◌, ℕ, ◌+◌, Bool, true, false, ◌&&◌, List, [], ◌∷◌, Option, Some, None, refl, sym, ap, ◌∙◌, cond, drop, is_none}
 use Rattle.std.specs.Prelude.{◌==◌}
 use Rattle.std.specs.List.{filter_map}
-use Rattle.std.proofs.lemmas.Bool.{false≢true, eqb-true}
+use Rattle.std.proofs.lemmas.Bool.{false≢true, eqb-true, eq-eqb}
+use Rattle.small_facts.proofs.Numbers.{eqb_turned}
 use Rattle.cluster_msgs.specs.Shape.{deps_of}
 use Rattle.cluster_msgs.specs.declared.messages.Down.{Down}
 use Rattle.cluster_msgs.specs.declared.messages.Up.{Up}
@@ -17,8 +18,6 @@ use Rattle.cluster_rules.specs.Functions.{put}
 use Rattle.cluster_rules.specs.Worker.{Ask, has_any, new_worker, would_start}
 use Rattle.cluster_rules.specs.World.{World, shape_of, is_connected, open_ask}
 use Rattle.cluster_rules.specs.WorldStep.{scheduled, at_scheduler, at_worker, at_client, new_at, died, cut_off, take_down_first, take_up, take_up_first, take_to_client, take_from_client, fail_ask, spill, world_step}
-use Rattle.cluster_rules.proofs.DerivedLemmas.{eqb_comm}
-use Rattle.cluster_rules.proofs.SchedFrame.{same_eqb}
 use Rattle.cluster_laws.specs.Blocks.{Blocks, Cluster}
 use Rattle.cluster_laws.specs.Moves.{brought, meets_zero, keeps, is_it, starts, carried_after, blocks_after}
 use Rattle.cluster_nodes.specs.Turns.{nothing, in_world, worker_turned, client_turned, down_delivered, client_told, lost}
@@ -164,8 +163,8 @@ module _ {B : Type 0} (o : Option B) (c : Cluster B) (tidy : IsTidy c.world c.bl
 
       at_place : (x q : ℕ) → cond (x == i && q == k) (filter_map (b.held i) (deps_of (shape_of w) k)) (b.inputs x q) ≡ cond (i == x && is_it (would_start (w.workers i)) q) (filter_map (b.held x) (deps_of (shape_of w) q)) (b.inputs x q)
       at_place x q = pick x q (x == i) refl (q == k) refl
-          ∙ ap (λ d. cond (d && q == k) (filter_map (b.held x) (deps_of (shape_of w) q)) (b.inputs x q)) (eqb_comm x i)
-          ∙ ap (λ d. cond (i == x && d) (filter_map (b.held x) (deps_of (shape_of w) q)) (b.inputs x q)) (eqb_comm q k ∙ sym (ap (λ s. is_it s q) e))
+          ∙ ap (λ d. cond (d && q == k) (filter_map (b.held x) (deps_of (shape_of w) q)) (b.inputs x q)) (eqb_turned x i)
+          ∙ ap (λ d. cond (i == x && d) (filter_map (b.held x) (deps_of (shape_of w) q)) (b.inputs x q)) (eqb_turned q k ∙ sym (ap (λ s. is_it s q) e))
 
   nobody_starts : (i x q : ℕ) → starts w (Suspect i) x q ≡ false
   unfolding starts
@@ -185,7 +184,7 @@ module _ {B : Type 0} (o : Option B) (c : Cluster B) (tidy : IsTidy c.world c.bl
   finish_is i k new e = λ t. record {
     world = at_worker w i (Done k (is_none o));
     blocks = worker_blocks op w b (Finish i k) tidy w refl refl i (Done k (is_none o)) new
-        (λ q. ap (λ d. cond (d && k == q) o None) (same_eqb i i refl) ∙ sym (e q)) (λ x q s. ap (λ d. cond (d && k == q) o None) (eqb_comm i x ∙ s)) (λ x q. refl) (λ x q. refl) refl t;
+        (λ q. ap (λ d. cond (d && k == q) o None) (eq-eqb i i refl) ∙ sym (e q)) (λ x q s. ap (λ d. cond (d && k == q) o None) (eqb_turned i x ∙ s)) (λ x q. refl) (λ x q. refl) refl t;
   }
 
   -- a worker that dies, and one that joins

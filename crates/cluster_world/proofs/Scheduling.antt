@@ -2,7 +2,7 @@
 use Rattle.std.proofs.Common.{◌≡◌, true, false, ℕ, ◌+◌, ◌<◌, ◌≤◌, List, [], ◌∷◌, ◌++◌, refl, sym, ap, ◌∙◌, subst, arith, length, All}
 use Rattle.std.specs.List.{filter_map, AllByRecursion}
 use Rattle.std.proofs.lemmas.List.{map-append}
-use Rattle.std.proofs.lemmas.List.Elements.{filter_map-append}
+use Rattle.std.proofs.lemmas.List.Elements.{filter_map-append, All-from_recursion}
 use Rattle.cluster_msgs.specs.declared.messages.Down.{Down}
 use Rattle.cluster_msgs.specs.declared.messages.ToClient.{ToClient}
 use Rattle.cluster_msgs.specs.declared.messages.Message.{Message}
@@ -24,7 +24,7 @@ use Rattle.cluster_nodes.proofs.NodeLemmas.{downs_are, to_clients_are}
 use Rattle.cluster_world.specs.declared.state.State.{State}
 use Rattle.cluster_world.specs.Worlds.{cluster, world, setting}
 use Rattle.cluster_world.specs.Outcomes.{IsTurned}
-use Rattle.cluster_world.proofs.Numbers.{all_index, downs_reach, news_reach}
+use Rattle.cluster_world.proofs.Numbers.{downs_reach, news_reach}
 use Rattle.cluster_world.proofs.Letters.{reply_there}
 
 -- messages of one kind behind those that wait
@@ -43,7 +43,7 @@ sorted_news xs ms h = ap to_clients (sent_news xs ms) ∙ map-append _ (filter_m
 -- each message has its link
 pub downs_there : (f : Facts) (e : SchedEvent) (sent : List (ℕ × Down)) (n : ℕ) → sent ≡ (sched_step f e).down → n ≡ (sched_step f e).facts.last_worker + 1 → All (λ (m : ℕ × Down). m.0 < n) sent
 downs_there f e sent n s l = subst (λ (k : ℕ). All (λ (m : ℕ × Down). m.0 < k) sent) (sym l)
-    (all_index (λ (m : ℕ × Down). m.0 < (sched_step f e).facts.last_worker + 1) sent
+    (All-from_recursion (λ (m : ℕ × Down). m.0 < (sched_step f e).facts.last_worker + 1) sent
     (weaken sent (subst (λ ms. AllByRecursion (λ (m : ℕ × Down). m.0 ≤ (sched_step f e).facts.last_worker) ms) (sym s) (downs_reach f e))))
   where
     weaken : (ms : List (ℕ × Down)) → AllByRecursion (λ (m : ℕ × Down). m.0 ≤ (sched_step f e).facts.last_worker) ms → AllByRecursion (λ (m : ℕ × Down). m.0 < (sched_step f e).facts.last_worker + 1) ms
@@ -52,7 +52,7 @@ downs_there f e sent n s l = subst (λ (k : ℕ). All (λ (m : ℕ × Down). m.0
 
 pub news_there : (f : Facts) (e : SchedEvent) (sent : List (ℕ × ToClient)) (n : ℕ) → sched_takes f e ≡ true → sent ≡ (sched_step f e).clients → n ≡ f.setting.clients + 1 → All (λ (m : ℕ × ToClient). m.0 < n) sent
 news_there f e sent n t s l = subst (λ (k : ℕ). All (λ (m : ℕ × ToClient). m.0 < k) sent) (sym l)
-    (all_index (λ (m : ℕ × ToClient). m.0 < f.setting.clients + 1) sent
+    (All-from_recursion (λ (m : ℕ × ToClient). m.0 < f.setting.clients + 1) sent
     (weaken sent (subst (λ ms. AllByRecursion (λ (m : ℕ × ToClient). m.0 ≤ f.setting.clients) ms) (sym s) (news_reach f e (reply_there f e t)))))
   where
     weaken : (ms : List (ℕ × ToClient)) → AllByRecursion (λ (m : ℕ × ToClient). m.0 ≤ f.setting.clients) ms → AllByRecursion (λ (m : ℕ × ToClient). m.0 < f.setting.clients + 1) ms

@@ -1,12 +1,15 @@
 -- A search over events in their order: event by event, and over the kinds of progress events.
 use Rattle.std.proofs.Common.{◌≡◌, ℕ, zero, suc, ◌+◌, ◌-◌, ◌<◌, ◌≤◌, Bool, true, false, not, ◌&&◌, List, [], ◌∷◌, ◌++◌, Option, Some, None, refl, sym, ap, ◌∙◌, arith, cond, filter, map, length, take, ⊎_elim}
-use Rattle.std.specs.Prelude.{◌==◌, ◌↔◌, is_none, nat_lt, min, slice_get}
+use Rattle.std.specs.Prelude.{◌↔◌, is_none, nat_lt, min, slice_get}
 use Rattle.std.specs.List.{flat_map, filter_map, range_with_len}
 use Rattle.std.proofs.lemmas.Bool.{false≢true, ltb-true, ltb-false, cases_lt}
-use Rattle.std.proofs.lemmas.Option.{slice_get_past}
-use Rattle.std.proofs.lemmas.Bool.Decides.{nat_tests}
-use Rattle.std.proofs.lemmas.List.{append-nil, take_all, length-map}
+use Rattle.std.proofs.lemmas.Option.{slice_get_past, none-some, same_Some}
+use Rattle.std.proofs.lemmas.List.{append-nil, take_all, length-map, map_push}
 use Rattle.std.proofs.lemmas.Grind.{flat_map-append}
+use Rattle.std.proofs.Math.Bool.{and-false}
+use Rattle.std.proofs.Math.Dec.{eqb-suc-zero}
+use Rattle.small_facts.proofs.Lists.{filter_nothing}
+use Rattle.small_facts.proofs.Ranges.{range_push}
 use Rattle.cluster_msgs.specs.Shape.{key_count}
 use Rattle.cluster_msgs.specs.declared.events.Asker.{Asker}
 use Rattle.cluster_msgs.specs.declared.events.Asker.TheVariants.{Worker, Client}
@@ -18,8 +21,6 @@ use Rattle.cluster_rules.specs.World.{World, Parcel, shape_of, all_workers, all_
 use Rattle.cluster_rules.specs.Inside.{IsInsideWorker}
 use Rattle.cluster_rules.specs.Worker.{WorkerFacts, wstate, is_fetch_state, worker_keys, item_at, ask_to, has_any, fetchable, would_ask}
 use Rattle.cluster_rules.specs.Enabled.{enabled, connected_workers, quiet_askers, is_quiet_asker, progress_kinds}
-use Rattle.cluster_rules.proofs.DerivedLemmas.{range_more}
-use Rattle.cluster_laws.proofs.Deliveries.{none_some, some_is}
 use Rattle.worker_core.specs.Runs.{IsNextRun}
 use Rattle.cluster_world.specs.declared.search.Search.{Search}
 use Rattle.cluster_world.specs.declared.search.Search.TheVariants.{Passing, Found}
@@ -45,17 +46,13 @@ module _ (on : Event → Bool) where
   pub searched_more : (s : Search) (f : ℕ → List Event) (n : ℕ) → searched on s (flat_map f (range_with_len 1 (n + 1))) ≡ searched on (searched on s (flat_map f (range_with_len 1 n))) (f (n + 1))
   searched_more s f n =
       let e : 1 + n ≡ n + 1 = omega arith in
-      ap (λ l. searched on s (flat_map f l)) (range_more 1 n) ∙ searched_last s f (range_with_len 1 n) (1 + n) ∙ ap (λ k. searched on (searched on s (flat_map f (range_with_len 1 n))) (f k)) e
+      ap (λ l. searched on s (flat_map f l)) (range_push 1 n) ∙ searched_last s f (range_with_len 1 n) (1 + n) ∙ ap (λ k. searched on (searched on s (flat_map f (range_with_len 1 n))) (f k)) e
 
   -- a loop over keys
   pub searched_key : (s : Search) (f : ℕ → Event) (n : ℕ) → searched on s (map f (range_with_len 0 (n + 1))) ≡ next (searched on s (map f (range_with_len 0 n))) (on (f n)) (f n)
   searched_key s f n =
       let e : 0 + n ≡ n = omega arith in
-      ap (λ l. searched on s (map f l)) (range_more 0 n ∙ ap (λ k. range_with_len 0 n ++ k ∷ []) e) ∙ ap (λ es. searched on s es) (map_last (range_with_len 0 n) n) ∙ searched_append s (map f (range_with_len 0 n)) (f n ∷ [])
-    where
-      map_last : (xs : List ℕ) (x : ℕ) → map f (xs ++ x ∷ []) ≡ map f xs ++ f x ∷ []
-      map_last [] x = refl
-      map_last (y ∷ xs) x = ap (λ l. f y ∷ l) (map_last xs x)
+      ap (λ l. searched on s (map f l)) (range_push 0 n ∙ ap (λ k. range_with_len 0 n ++ k ∷ []) e) ∙ ap (λ es. searched on s es) (map_push f (range_with_len 0 n) n) ∙ searched_append s (map f (range_with_len 0 n)) (f n ∷ [])
 
   -- what isn't enabled is passed over
   kept : (s : Search) (e : Event) → next s false e ≡ s
@@ -90,8 +87,8 @@ module _ (on : Event → Bool) where
   searched_place s f xs n x e = let u : n + 1 ≡ suc n = omega arith in ap (λ l. searched on s (flat_map f l)) (ap (λ k. take k xs) u ∙ take_more xs n x e) ∙ searched_last s f (take n xs) x
     where
       take_more : {A : Type 0} (xs : List A) (n : ℕ) (x : A) → Some x ≡ slice_get xs n → take (suc n) xs ≡ take n xs ++ x ∷ []
-      take_more [] n x e = absurd (none_some x (sym e))
-      take_more (y ∷ xs) zero x e = ap (λ z. z ∷ []) (sym (some_is x y e))
+      take_more [] n x e = absurd (none-some x (sym e))
+      take_more (y ∷ xs) zero x e = ap (λ z. z ∷ []) (sym (same_Some x y e))
       take_more (y ∷ xs) (suc n) x e = ap (λ l. y ∷ l) (take_more xs n x e)
 
 pub searched_places : {A B : Type 0} (on : Event → Bool) (s : Search) (h : B → A) (f : A → List Event) (xs : List B) (n : ℕ) → n ≡ length xs → searched on s (flat_map f (take n (map h xs))) ≡ searched on s (flat_map f (map h xs))
@@ -193,9 +190,6 @@ module _ (w : World) where
       let qj = pj ∙ (λ t. go (qi t) (arrives_are t)) in
       (λ t. go (qj t) (fails_are t)) ∙ sym (listed on s (progress_kinds w))
 
-not_none : (n : ℕ) → (suc n == 0) ≡ false
-not_none n = grind (arith, nat_tests)
-
 -- what is found stays
 pub found_stays : (on : Event → Bool) (s : Search) (es : List Event) → is_found s ≡ true → s ≡ searched on s es
 found_stays on (Passing n) es h = absurd (false≢true h)
@@ -211,7 +205,7 @@ none_fail : (w : World) (a : Asker) (n : ℕ) → ((k : ℕ) → k < n → w.ali
 none_fail w a zero h = refl
 none_fail w a (suc n) h =
     let u : suc n ≡ n + 1 = omega arith in
-    ap (λ m. flat_map (ask_events w true a) (range_with_len 1 m)) u ∙ ap (flat_map (ask_events w true a)) (range_more 1 n) ∙ flat_map-append (ask_events w true a) (range_with_len 1 n) ((1 + n) ∷ [])
+    ap (λ m. flat_map (ask_events w true a) (range_with_len 1 m)) u ∙ ap (flat_map (ask_events w true a)) (range_push 1 n) ∙ flat_map-append (ask_events w true a) (range_with_len 1 n) ((1 + n) ∷ [])
     ∙ (λ t. none_fail w a n (λ k l. h k (omega arith)) t ++ last t)
   where
     last : flat_map (ask_events w true a) ((1 + n) ∷ []) ≡ []
@@ -224,18 +218,9 @@ none_fails w (a ∷ askers) h = λ t. none_fail w a w.sched.last_worker h t ++ n
 pub one_more_alive : (alive : ℕ → Bool) (n : ℕ) (now : Bool) → ((k : ℕ) → k < n → alive (k + 1) ≡ true) → now ≡ alive (n + 1) → now ≡ true → (k : ℕ) → k < n + 1 → alive (k + 1) ≡ true
 one_more_alive alive n now h e d k l = ⊎_elim (λ m. h k m) (λ m. let u : k ≡ n = omega arith in ap (λ z. alive (z + 1)) u ∙ sym e ∙ d) (cases_lt k n)
 
--- a worker without a key to fetch asks nobody
-filter_none : (p : ℕ → Bool) (xs : List ℕ) → ((k : ℕ) → p k ≡ false) → filter p xs ≡ []
-filter_none p [] h = refl
-filter_none p (x ∷ xs) h = ap (λ b. cond b (x ∷ filter p xs) (filter p xs)) (h x) ∙ filter_none p xs h
-
 pub no_questions : (w : WorkerFacts) → ((k : ℕ) → is_fetch_state (wstate w k) ≡ false) → (p : ℕ) → would_ask w p ≡ false
 unfolding would_ask fetchable
-no_questions w h p = ap (λ l. is_none (ask_to w.asks p) && has_any (filter_map (λ k. item_at p k (w.holders k)) l)) (filter_none (λ k. is_fetch_state (wstate w k)) (worker_keys w) h) ∙ off (is_none (ask_to w.asks p))
-  where
-    off : (b : Bool) → (b && false) ≡ false
-    off true = refl
-    off false = refl
+no_questions w h p = ap (λ l. is_none (ask_to w.asks p) && has_any (filter_map (λ k. item_at p k (w.holders k)) l)) (filter_nothing (λ k. is_fetch_state (wstate w k)) (worker_keys w) h) ∙ and-false (is_none (ask_to w.asks p))
 
 pub asks_none : (alive b : Bool) (w f : WorkerFacts) → alive ≡ true → w ≡ f → (b ≡ false) ↔ ((k : ℕ) → is_fetch_state (wstate f k) ≡ false) → b ≡ false → (p : ℕ) → (alive && would_ask w p) ≡ false
 asks_none alive b w f a e h n p = (λ t. a t && would_ask (e t) p) ∙ no_questions f (h.0 n) p
@@ -252,7 +237,7 @@ found_is_at on (e ∷ es) n = pick (on e) n (λ k. found_is_at on es k)
     pick : (b : Bool) (n : ℕ) → ((k : ℕ) → found (searched on (Passing k) es) ≡ slice_get (filter on es) k) → found (searched on (next (Passing n) b e) es) ≡ slice_get (cond b (e ∷ filter on es) (filter on es)) n
     pick false n r = r n
     pick true zero r = ap found (searched_found on e es)
-    pick true (suc n) r = let u : suc n - 1 ≡ n = omega arith in ap (λ z. found (searched on (cond z (Found e) (Passing (suc n - 1))) es)) (not_none n) ∙ ap (λ m. found (searched on (Passing m) es)) u ∙ r n
+    pick true (suc n) r = let u : suc n - 1 ≡ n = omega arith in ap (λ z. found (searched on (cond z (Found e) (Passing (suc n - 1))) es)) (eqb-suc-zero n) ∙ ap (λ m. found (searched on (Passing m) es)) u ∙ r n
 
 -- what is left to be passed
 left_is : (on : Event → Bool) (es : List Event) (n m : ℕ) → searched on (Passing n) es ≡ Passing m → m + length (filter on es) ≡ n
@@ -268,7 +253,7 @@ left_is on (e ∷ es) n m h = pick (on e) n h (λ k. left_is on es k m)
     pick : (b : Bool) (n : ℕ) → searched on (next (Passing n) b e) es ≡ Passing m → ((k : ℕ) → searched on (Passing k) es ≡ Passing m → m + length (filter on es) ≡ k) → m + length (cond b (e ∷ filter on es) (filter on es)) ≡ n
     pick false n h r = r n h
     pick true zero h r = absurd (not_found e m (sym (searched_found on e es) ∙ h))
-    pick true (suc n) h r = let u : suc n - 1 ≡ n = omega arith in let i = r n (ap (λ k. searched on (Passing k) es) (sym u) ∙ sym (ap (λ z. searched on (cond z (Found e) (Passing (suc n - 1))) es) (not_none n)) ∙ h) in omega (arith, i)
+    pick true (suc n) h r = let u : suc n - 1 ≡ n = omega arith in let i = r n (ap (λ k. searched on (Passing k) es) (sym u) ∙ sym (ap (λ z. searched on (cond z (Found e) (Passing (suc n - 1))) es) (eqb-suc-zero n)) ∙ h) in omega (arith, i)
 
 -- what is found stands past so many
 many_left : (on : Event → Bool) (es : List Event) (n : ℕ) (x : Event) → searched on (Passing n) es ≡ Found x → n < length (filter on es)
@@ -279,7 +264,7 @@ many_left on es n x h = pick (nat_lt n (length (filter on es))) refl
 
     pick : (b : Bool) → nat_lt n (length (filter on es)) ≡ b → n < length (filter on es)
     pick true e = ltb-true n (length (filter on es)) e
-    pick false e = absurd (none_some x (sym (slice_get_past (filter on es) n (ltb-false n (length (filter on es)) e)) ∙ there))
+    pick false e = absurd (none-some x (sym (slice_get_past (filter on es) n (ltb-false n (length (filter on es)) e)) ∙ there))
 
 -- how many events a search has passed
 pub passed_is : (on : Event → Bool) (es : List Event) (n : ℕ) (s : Search) → s ≡ searched on (Passing n) es → left s + min (length (filter on es)) n ≡ n

@@ -1,20 +1,18 @@
 -- No event changes the setting.
-use Rattle.std.proofs.Common.{◌≡◌, ℕ, ◌+◌, Bool, true, false, List, [], ◌∷◌, Option, Some, None, refl, ◌∙◌}
+use Rattle.std.proofs.Common.{◌≡◌, ℕ, Bool, true, false, List, [], ◌∷◌, Option, Some, None, refl, ◌∙◌}
 use Rattle.cluster_msgs.specs.declared.messages.Down.{Down}
 use Rattle.cluster_msgs.specs.declared.messages.Up.{Up}
 use Rattle.cluster_msgs.specs.declared.messages.ToClient.{ToClient}
 use Rattle.cluster_msgs.specs.declared.messages.FromClient.{FromClient as ClientMessage}
 use Rattle.cluster_msgs.specs.declared.cores.SchedEvent.{SchedEvent}
-use Rattle.cluster_msgs.specs.declared.cores.SchedEvent.TheVariants.{Join as JoinSched, Leave, FromWorker, FromClient, Balance as BalanceSched, Evict as EvictSched}
+use Rattle.cluster_msgs.specs.declared.cores.SchedEvent.TheVariants.{FromWorker, FromClient}
 use Rattle.cluster_msgs.specs.declared.events.Asker.{Asker}
 use Rattle.cluster_msgs.specs.declared.events.Asker.TheVariants.{Worker, Client}
-use Rattle.cluster_msgs.specs.declared.events.Event.{Event}
-use Rattle.cluster_msgs.specs.declared.events.Event.TheVariants.{Want, Release, Join, Lose, SeeLoss, Suspect, DeliverDown, DeliverUp, DeliverToClient, DeliverFromClient, Start, Finish, SendGather, ServeGather, ArriveGather, FailGather, Balance, Evict, Spill, LoseSpilled}
 use Rattle.cluster_rules.specs.Functions.{put}
 use Rattle.cluster_rules.specs.Sched.{Setting}
 use Rattle.cluster_rules.specs.Worker.{Ask}
-use Rattle.cluster_rules.specs.World.{Job, World, Parcel, is_connected, open_ask, parcel_of}
-use Rattle.cluster_rules.specs.WorldStep.{scheduled, worked, client_worked, at_scheduler, new_at, take_down_first, take_up, take_up_first, take_to_client, take_from_client, ask_by, gathered_at, serve, take_answer, fail_ask, world_step}
+use Rattle.cluster_rules.specs.World.{World, Parcel, is_connected}
+use Rattle.cluster_rules.specs.WorldStep.{scheduled, worked, client_worked, at_scheduler, take_down_first, take_up, take_up_first, take_to_client, take_from_client, ask_by, gathered_at, serve, take_answer, fail_ask}
 use Rattle.cluster_laws.proofs.Framed.{step_setting}
 
 abbrev set_in : World → Setting
@@ -69,26 +67,3 @@ same_serve w p (Some q) = refl
 same_answer : (w : World) (o : Option Parcel) → set_in (take_answer w o) ≡ set_in w
 same_answer w None = refl
 same_answer w (Some q) = same_gathered _ q.asker q.peer q.ask q.keys
-
-pub same_setting : (j : Job) (w : World) (e : Event) → (world_step j w e).sched.setting ≡ w.sched.setting
-unfolding world_step worked client_worked
-same_setting j w (Want c ks) = refl
-same_setting j w (Release c ks) = refl
-same_setting j w (Join threads) = same_scheduler (new_at w (w.sched.last_worker + 1) threads) (JoinSched threads)
-same_setting j w (Lose i) = refl
-same_setting j w (SeeLoss i) = same_scheduler w (Leave i)
-same_setting j w (Suspect i) = same_scheduler w (Leave i)
-same_setting j w (DeliverDown i) = same_down w i (w.down i)
-same_setting j w (DeliverUp i) = same_up w i (w.up i)
-same_setting j w (DeliverToClient c) = same_to_client w c (w.to_client c)
-same_setting j w (DeliverFromClient c) = same_from_client w c (w.from_client c)
-same_setting j w (Start i) = refl
-same_setting j w (Finish i k) = refl
-same_setting j w (SendGather a p) = same_ask w a p
-same_setting j w (ServeGather p a n) = same_serve w p (parcel_of a p n w.requests)
-same_setting j w (ArriveGather a p n) = same_answer w (parcel_of a p n w.answers)
-same_setting j w (FailGather a p) = same_fail w a p (open_ask w a p)
-same_setting j w Balance = same_scheduler w BalanceSched
-same_setting j w Evict = same_scheduler w EvictSched
-same_setting j w (Spill i k) = refl
-same_setting j w (LoseSpilled i k) = refl

@@ -2,6 +2,7 @@
 use Rattle.std.proofs.Common.{◌≡◌, ℕ, Bool, true, false, List, Option, Result, Ok, Err, OnOk, refl, sym, ◌∙◌, subst, arith}
 use Rattle.std.specs.Prelude.{◌↔◌}
 use Rattle.std.proofs.lemmas.Bool.{true≢false}
+use Rattle.small_facts.proofs.Results.{on_ok_from}
 use Rattle.cluster_msgs.specs.Shape.{IsShape}
 use Rattle.cluster_msgs.specs.declared.events.Event.{Event}
 use Rattle.cluster_rules.specs.Sched.{IsSound}
@@ -31,7 +32,7 @@ other_error P x y n h = absurd (n (same x y h))
     same : (x y : StepError) → ◌≡◌ {A = Result (Unit {0}) StepError} (Err x) (Err y) → x ≡ y
     same x y h = cc
 
-going_fed : Going ≡ Fed → ⊥
+pub going_fed : Going ≡ Fed → ⊥
 going_fed h = cc
 
 pub going_starved : Going ≡ Starved → ⊥
@@ -227,8 +228,8 @@ pub step_taken : {J B F : Type 0} (operation : J → ℕ → List B → Option B
     → IsReady old → enabled (world old) e ≡ true → IsShape (setting old).shape → ((j : Job) → AttemptsEnd (world old) e (world_step j (world old) e)) → Advances (Fits old.job) (feed_tells old.job old.feed) (operation old.job) e r old new
     → (feed_tells old.job old.feed → IsMade operation old) → new.job ≡ old.job → setting new ≡ setting old → (feed_tells old.job new.feed ↔ feed_tells old.job old.feed) → CountsStep r (fault_count old.feed) (fault_count new.feed) → IsStep operation feed_tells fault_count e r old new
 step_taken {J} {B} {F} operation feed_tells fault_count Fits e r old new ready possible low ends a made job set tells faults = record {
-  ready = by r ready;
-  possible = by r possible;
+  ready = on_ok_from r ready;
+  possible = on_ok_from r possible;
   world = world_taken (Fits old.job) (feed_tells old.job old.feed) (operation old.job) e old new r a;
   cluster = cluster_taken (Fits old.job) (feed_tells old.job old.feed) (operation old.job) e old new r a;
   goes = goes_on (Fits old.job) (feed_tells old.job old.feed) (operation old.job) e old new r a;
@@ -253,10 +254,6 @@ step_taken {J} {B} {F} operation feed_tells fault_count Fits e r old new ready p
   starved = λ h. absurd (going_starved (sym ready.going ∙ h));
 }
   where
-    by : {P : Type 0} (q : Result (Unit {0}) StepError) → P → OnOk q P
-    by (Ok x) p = p
-    by (Err x) p = tt
-
     ended : (q : Result (Unit {0}) StepError) → OnOk q ((met : Bool) × (world new ≡ world_after met (world old) e)) → OnOk q (AttemptsEnd (world old) e (world new))
     ended (Ok x) h = subst (λ (v : World). AttemptsEnd (world old) e v) (sym h.1) (ends (record { setting = (world old).sched.setting; zero = λ k. h.0 }))
     ended (Err x) h = tt

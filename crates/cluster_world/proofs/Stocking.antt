@@ -3,7 +3,10 @@ use Rattle.std.proofs.Common.{◌≡◌, ℕ, Bool, true, false, ◌&&◌, ◌||
 use Rattle.std.specs.Prelude.{◌==◌}
 use Rattle.std.specs.Option.{option_map}
 use Rattle.std.specs.List.{list_all, list_any, filter_map, cons_option, AllByRecursion}
-use Rattle.std.proofs.lemmas.Bool.{false≢true, eqb-true, and_parts}
+use Rattle.std.proofs.lemmas.Bool.{false≢true, eqb-true, and_parts, eq-eqb, or_right, or_left, and_from}
+use Rattle.std.proofs.lemmas.Option.{none-some, same_Some}
+use Rattle.small_facts.proofs.Options.{some_from_is_none}
+use Rattle.small_facts.proofs.Truth.{or_without}
 use Rattle.cluster_msgs.specs.Shape.{Shape, deps_of}
 use Rattle.cluster_msgs.specs.declared.events.Asker.{Asker}
 use Rattle.cluster_msgs.specs.declared.events.Asker.TheVariants.{Worker, Client}
@@ -12,59 +15,32 @@ use Rattle.cluster_msgs.specs.declared.events.Event.TheVariants.{Start, Finish, 
 use Rattle.cluster_rules.specs.Worker.{would_start}
 use Rattle.cluster_rules.specs.World.{Job, World, Parcel, shape_of, same_asker, is_parcel, parcel_of}
 use Rattle.cluster_rules.specs.WorldStep.{world_step}
-use Rattle.cluster_rules.proofs.SchedFrame.{same_eqb}
 use Rattle.cluster_laws.specs.Blocks.{Delivery, Blocks, Cluster}
 use Rattle.cluster_laws.specs.Moves.{block_among, delivery_of, delivered, brought, meets_zero, either, keeps, is_it, starts, served, taken, carried_after}
 use Rattle.cluster_laws.proofs.WithinWorld.{IsWorldWithin, PassAt, WorldBrings, within_world}
-use Rattle.cluster_laws.proofs.Deliveries.{none_some, some_is, all_present, parcel_found, all_with, all_filter, all_found}
+use Rattle.cluster_laws.proofs.Deliveries.{all_present, parcel_found, all_with, all_filter, all_found}
 use Rattle.cluster_laws.proofs.Moving.{answers_after, starts_fed}
 use Rattle.cluster_world.specs.Kept.{IsFilled, AreFor, IsStocked}
 use Rattle.cluster_world.specs.Outcomes.{stepped}
-
-old_there : {A : Type 0} (old new : Option A) → is_some old ≡ true → is_some (either old new) ≡ true
-old_there None new e = absurd (false≢true e)
-old_there (Some b) new e = refl
-
-new_there : {A : Type 0} (old new : Option A) → is_some new ≡ true → is_some (either old new) ≡ true
-new_there None new e = e
-new_there (Some b) new e = refl
-
-or_right : (a b : Bool) → b ≡ true → (a || b) ≡ true
-or_right true b e = refl
-or_right false b e = e
-
-or_left : (a b : Bool) → a ≡ true → (a || b) ≡ true
-or_left true b e = refl
-or_left false b e = absurd (false≢true e)
-
-or_out : (a b : Bool) → (a || b) ≡ true → b ≡ false → a ≡ true
-or_out true b e f = refl
-or_out false b e f = absurd (false≢true (sym f ∙ e))
-
-both : (a b : Bool) → a ≡ true → b ≡ true → (a && b) ≡ true
-both a b p q = rw (p, q) refl
-
-is_there : {A : Type 0} (o : Option A) → is_none o ≡ false → is_some o ≡ true
-is_there None e = absurd (false≢true (sym e))
-is_there (Some b) e = refl
+use Rattle.cluster_laws.proofs.BlockValues.{old_there, new_there}
 
 parcel_there : {A : Type 0} (o : Option (Delivery A)) (q : Parcel) → option_map (λ (d : Delivery A). d.parcel) o ≡ Some q → (d : Delivery A) × (o ≡ Some d) × (d.parcel ≡ q)
-parcel_there None q e = absurd (none_some q e)
-parcel_there (Some d) q e = (d, refl, some_is d.parcel q e)
+parcel_there None q e = absurd (none-some q e)
+parcel_there (Some d) q e = (d, refl, same_Some d.parcel q e)
 
 module _ {B : Type 0} (Fits : ℕ → B → Type 0) where
   filled_keeps : (k : ℕ) (counted : Bool) (old new : Option B) → ((b : B) → old ≡ Some b → Fits k b) → ((b : B) → new ≡ Some b → Fits k b) → (counted ≡ true → is_some (either old new) ≡ true) → IsFilled (Fits k) counted (keeps counted old new)
-  filled_keeps k false old new o n t = record { fits = λ b e. absurd (none_some b e); present = λ e. absurd (false≢true e); missing = λ e. refl }
+  filled_keeps k false old new o n t = record { fits = λ b e. absurd (none-some b e); present = λ e. absurd (false≢true e); missing = λ e. refl }
   filled_keeps k true None new o n t = record { fits = n; present = λ e. t refl; missing = λ e. absurd (false≢true (sym e)) }
   filled_keeps k true (Some x) new o n t = record { fits = o; present = λ e. refl; missing = λ e. absurd (false≢true (sym e)) }
 
   among_fits : (ks : List ℕ) (bs : List B) → AreFor Fits ks bs → (q : ℕ) (b : B) → block_among ks bs q ≡ Some b → Fits q b
-  among_fits [] bs h q b e = absurd (none_some b e)
+  among_fits [] bs h q b e = absurd (none-some b e)
   among_fits (k ∷ ks) [] h q b e = absurd h
   among_fits (k ∷ ks) (x ∷ bs) h q b e = pick (k == q) refl e (λ i. among_fits ks bs h.1 q b i)
     where
       pick : (c : Bool) → (k == q) ≡ c → cond c (Some x) (block_among ks bs q) ≡ Some b → (block_among ks bs q ≡ Some b → Fits q b) → Fits q b
-      pick true i e r = subst (λ z. Fits z b) (eqb-true k q i) (subst (λ y. Fits k y) (some_is x b e) h.0)
+      pick true i e r = subst (λ z. Fits z b) (eqb-true k q i) (subst (λ y. Fits k y) (same_Some x b e) h.0)
       pick false i e r = r e
 
   among_there : (ks : List ℕ) (bs : List B) → AreFor Fits ks bs → (q : ℕ) → list_any (λ k. k == q) ks ≡ true → is_some (block_among ks bs q) ≡ true
@@ -128,17 +104,17 @@ module _ {B : Type 0} (Fits : ℕ → B → Type 0) where
       where
         pick : (x : Bool) → (same_asker (Worker i) a && k == q) ≡ x → cond x o None ≡ Some b → Fits q b
         pick true y e = subst (λ z. Fits z b) (eqb-true k q (and_parts (same_asker (Worker i) a) (k == q) y).1) (f i k b refl e)
-        pick false y e = absurd (none_some b e)
+        pick false y e = absurd (none-some b e)
     brought_fits c (ArriveGather x p n) h f a q b e = by (delivery_of x p n c.blocks.carried) refl e
       where
         by : (d : Option (Delivery B)) → delivery_of x p n c.blocks.carried ≡ d → delivered d a q ≡ Some b → Fits q b
-        by None y e = absurd (none_some b e)
+        by None y e = absurd (none-some b e)
         by (Some d) y e = pick (same_asker d.parcel.asker a) e
           where
             pick : (z : Bool) → cond z (block_among d.parcel.keys d.blocks q) None ≡ Some b → Fits q b
             pick true e = among_fits d.parcel.keys d.blocks (all_found IsFor (λ d. is_parcel x p n d.parcel) c.blocks.carried d y h.carried) q b e
-            pick false e = absurd (none_some b e)
-    brought_fits c _ h f a q b e = absurd (none_some b e)
+            pick false e = absurd (none-some b e)
+    brought_fits c _ h f a q b e = absurd (none-some b e)
 
     abbrev may_hold : Cluster B → Event → ℕ → ℕ → Bool
     may_hold c e i q = is_some (either (c.blocks.held i q) (brought op c.blocks e (Worker i) q))
@@ -159,12 +135,12 @@ module _ {B : Type 0} (Fits : ℕ → B → Type 0) where
 
     arrival : (c : Cluster B) → IsStocked Fits deps c → (a : Asker) (p n : ℕ) (d : Delivery B) → delivery_of a p n c.blocks.carried ≡ Some d → (x : Asker) → d.parcel.asker ≡ x
         → PassAt (may_hold c (ArriveGather a p n)) (may_get c (ArriveGather a p n)) x d.parcel.keys
-    arrival c h a p n d y (Worker v) z = all_present {B = B} (λ q. None) d.parcel.keys (may_hold c (ArriveGather a p n) v) (λ q l. new_there (c.blocks.held v q) _ (comes c h a p n d y (Worker v) z (same_eqb v v refl) q l))
-    arrival c h a p n d y (Client v) z = all_present {B = B} (λ q. None) d.parcel.keys (may_get c (ArriveGather a p n) v) (λ q l. new_there (c.blocks.got v q) _ (comes c h a p n d y (Client v) z (same_eqb v v refl) q l))
+    arrival c h a p n d y (Worker v) z = all_present {B = B} (λ q. None) d.parcel.keys (may_hold c (ArriveGather a p n) v) (λ q l. new_there (c.blocks.held v q) _ (comes c h a p n d y (Worker v) z (eq-eqb v v refl) q l))
+    arrival c h a p n d y (Client v) z = all_present {B = B} (λ q. None) d.parcel.keys (may_get c (ArriveGather a p n) v) (λ q l. new_there (c.blocks.got v q) _ (comes c h a p n d y (Client v) z (eq-eqb v v refl) q l))
 
     finished : (c : Cluster B) (i k : ℕ) → is_none o ≡ false → is_some (brought op c.blocks (Finish i k) (Worker i) k) ≡ true
     unfolding brought
-    finished c i k z = ap (λ v. is_some (cond v o None)) (both (i == i) (k == k) (same_eqb i i refl) (same_eqb k k refl)) ∙ is_there o z
+    finished c i k z = ap (λ v. is_some (cond v o None)) (and_from (i == i) (k == k) (eq-eqb i i refl) (eq-eqb k k refl)) ∙ some_from_is_none o z
 
     zero_is : (c : Cluster B) (i k : ℕ) → meets_zero op c.blocks (Finish i k) ≡ is_none o
     unfolding meets_zero
@@ -172,7 +148,7 @@ module _ {B : Type 0} (Fits : ℕ → B → Type 0) where
 
     started : (w : World) (i k : ℕ) → would_start (w.workers i) ≡ Some k → starts w (Start i) i k ≡ true
     unfolding starts
-    started w i k e = both (i == i) (is_it (would_start (w.workers i)) k) (same_eqb i i refl) (ap (λ s. is_it s k) e ∙ same_eqb k k refl)
+    started w i k e = and_from (i == i) (is_it (would_start (w.workers i)) k) (eq-eqb i i refl) (ap (λ s. is_it s k) e ∙ eq-eqb k k refl)
 
     brings : (c : Cluster B) (e : Event) → IsStocked Fits deps c → WorldBrings (finish_zero c e) (may_hold c e) (may_run c e) (may_get c e) c.world e
     unfolding finish_zero
@@ -198,7 +174,7 @@ module _ {B : Type 0} (Fits : ℕ → B → Type 0) where
         pick true y = subst (λ (f : ℕ → List ℕ). AreFor Fits (f k) (filter_map (c.blocks.held i) (deps_of (shape_of c.world) k))) (sym g)
             (gathered_for (c.world.workers i).mem (c.blocks.held i) (h.held i) (deps_of (shape_of c.world) k)
             (subst (λ (x : Shape). list_all (c.world.workers i).mem (deps_of x k) ≡ true) (s i) (starts_fed c.world e i k y)))
-        pick false y = h.inputs i k (or_out ((c.world.workers i).running k) (starts c.world e i k) m y)
+        pick false y = h.inputs i k (or_without ((c.world.workers i).running k) (starts c.world e i k) m y)
 
     pub stocked_after : (c : Cluster B) (e : Event) → IsStocked Fits deps c → deps ≡ deps_of (shape_of c.world) → ((i : ℕ) → (c.world.workers i).shape ≡ shape_of c.world)
         → ((i k : ℕ) (b : B) → e ≡ Finish i k → o ≡ Some b → Fits k b) → IsStocked Fits deps (stepped o c e)

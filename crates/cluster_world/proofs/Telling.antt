@@ -1,9 +1,8 @@
 -- What the stored nodes tell of the world.
-use Rattle.std.proofs.Common.{◌≡◌, ℕ, ◌+◌, ◌<◌, ◌≤◌, Bool, true, false, List, [], ◌∷◌, Option, Some, None, refl, sym, ap, ◌∙◌, arith, cond, map, length, get_or, is_some, zero, suc, not, Bor}
-use Rattle.std.specs.Prelude.{◌==◌, nat_lt, nat_le, slice_get}
+use Rattle.std.proofs.Common.{◌≡◌, ℕ, ◌+◌, ◌<◌, ◌≤◌, Bool, true, false, List, [], ◌∷◌, Option, Some, None, refl, sym, ap, ◌∙◌, arith, cond, map, length, get_or, is_some, zero, suc, Bor}
+use Rattle.std.specs.Prelude.{nat_lt, nat_le, slice_get}
 use Rattle.std.specs.Option.{option_copied, option_map}
 use Rattle.std.proofs.lemmas.Bool.{false≢true, lt-ltb, ltb-true, ltb-false, leb-true, and_parts}
-use Rattle.std.proofs.lemmas.Bool.Decides.{nat_tests}
 use Rattle.std.proofs.lemmas.List.{get_or_past, length-map}
 use Rattle.cluster_msgs.specs.declared.messages.Message.{Message}
 use Rattle.cluster_msgs.specs.declared.messages.Message.TheVariants.{Peer as PeerMessage}
@@ -36,22 +35,10 @@ set_there xs i e = pick (nat_lt i (length xs)) refl
     pick true h = ltb-true i (length xs) h
     pick false h = absurd (false≢true (sym (get_or_past xs i false (omega (arith, ltb-false i (length xs) h))) ∙ e))
 
--- a test of an option that was mapped
-pub some_mapped : {A C : Type 0} (f : A → C) (o : Option A) → is_some (option_map f o) ≡ is_some o
-some_mapped f None = refl
-some_mapped f (Some x) = refl
-
 -- or copied
 pub copied_some : {A : Type 0} (o : Option (Bor A)) → is_some o ≡ is_some (option_copied o)
 copied_some None = refl
 copied_some (Some x) = refl
-
-pub not_empty : {A : Type 0} (xs : List A) → not (length xs == 0) ≡ has_any xs
-not_empty [] = refl
-not_empty (x ∷ xs) = ap not (some_length (length xs))
-  where
-    some_length : (n : ℕ) → (suc n == 0) ≡ false
-    some_length n = grind (arith, nat_tests)
 
 pub parcel_there : {C : Type 0} (a : Asker) (p n : ℕ) (ts : List (InTransit C)) → is_some (transit_of a p n ts) ≡ is_some (parcel_of a p n (parcels ts))
 parcel_there a p n [] = refl

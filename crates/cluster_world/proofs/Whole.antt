@@ -2,6 +2,7 @@
 use Rattle.std.proofs.Common.{◌≡◌, ℕ, ◌+◌, ◌≤◌, Bool, true, false, List, [], Option, None, refl, sym, ap, ◌∙◌, subst, arith, length, get_or}
 use Rattle.std.proofs.lemmas.Bool.{false≢true}
 use Rattle.std.proofs.lemmas.List.{get_or_past}
+use Rattle.std.proofs.lemmas.Option.{none-some}
 use Rattle.cluster_msgs.specs.Shape.{Shape, IsShape, deps_of}
 use Rattle.cluster_msgs.specs.declared.events.Event.{Event}
 use Rattle.cluster_rules.specs.Sched.{Setting}
@@ -10,7 +11,6 @@ use Rattle.cluster_rules.specs.Enabled.{enabled}
 use Rattle.fact_rows.specs.Rows.{cell, height}
 use Rattle.cluster_laws.specs.Blocks.{Cluster, job_of, opening_cluster}
 use Rattle.cluster_laws.specs.Moves.{meets_zero}
-use Rattle.cluster_laws.proofs.Deliveries.{none_some}
 use Rattle.scheduler_core.specs.Cores.{facts}
 use Rattle.cluster_nodes.specs.Kept.{IsNodes}
 use Rattle.cluster_nodes.specs.Nodes.{world_of}
@@ -43,7 +43,7 @@ stocked_opening {B} Fits deps s op = record {
 }
   where
     nothing_there : {P : B → Type 0} → IsFilled P false None
-    nothing_there = record { fits = λ b e. absurd (none_some b e); present = λ e. absurd (false≢true e); missing = λ e. refl }
+    nothing_there = record { fits = λ b e. absurd (none-some b e); present = λ e. absurd (false≢true e); missing = λ e. refl }
 
 -- the same job, clients and setting
 pub record IsLike {J B F : Type 0} (old new : State J B F) : Type 0 where

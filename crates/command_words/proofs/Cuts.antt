@@ -1,27 +1,25 @@
 -- A text is cut at the first of a byte in one way.
-use Rattle.std.proofs.Common.{◌≡◌, ℕ, zero, suc, ◌<◌, ◌==◌, true, not, List, [], ◌∷◌, ◌++◌, length, drop, get_or, refl, ap, sym, subst, ◌∙◌, arith, Option, Some, None, MatchOption, Bor}
+use Rattle.std.proofs.Common.{◌≡◌, ℕ, zero, suc, ◌<◌, ◌==◌, true, not, List, [], ◌∷◌, ◌++◌, length, get_or, refl, ap, sym, subst, ◌∙◌, arith, Option, Some, None, MatchOption, Bor}
 use Rattle.std.specs.List.{list_all}
 use Rattle.std.proofs.lemmas.Bool.{and_parts, eq-eqb, not-true, both_ways}
 use Rattle.std.proofs.lemmas.List.{length-append}
 use Rattle.std.proofs.Math.Seq.{get_or-append_seam}
 use Rattle.std.proofs.lemmas.Str.Pattern.{split_parts, IsSplitOnceResult}
+use Rattle.small_facts.proofs.Lists.{same_tail}
 use Rattle.command_words.specs.Scripts.{IsClear, IsCut}
 
 heads : (x y : ℕ) (xs ys : List ℕ) → x ∷ xs ≡ y ∷ ys → x ≡ y
 heads x y xs ys e = ap (λ l. get_or l 0 x) e
 
-tails : (x y : ℕ) (xs ys : List ℕ) → x ∷ xs ≡ y ∷ ys → xs ≡ ys
-tails x y xs ys e = ap (drop 1) e
-
 behind : (b x : ℕ) (xs : List ℕ) → IsClear b (x ∷ xs) → IsClear b xs
 behind b x xs h = λ i small. h (suc i) (omega (arith, small))
 
 pub same_parts : (b : ℕ) (xs us ys vs : List ℕ) → IsClear b xs → IsClear b us → xs ++ b ∷ ys ≡ us ++ b ∷ vs → (xs ≡ us) × (ys ≡ vs)
-same_parts b [] [] ys vs p q e = (refl, tails b b ys vs e)
+same_parts b [] [] ys vs p q e = (refl, same_tail b b ys vs e)
 same_parts b [] (u ∷ us) ys vs p q e = absurd (q 0 (omega arith) (sym (heads b u ys (us ++ b ∷ vs) e)))
 same_parts b (x ∷ xs) [] ys vs p q e = absurd (p 0 (omega arith) (heads x b (xs ++ b ∷ ys) vs e))
 same_parts b (x ∷ xs) (u ∷ us) ys vs p q e =
-    let rest = same_parts b xs us ys vs (behind b x xs p) (behind b u us q) (tails x u (xs ++ b ∷ ys) (us ++ b ∷ vs) e) in
+    let rest = same_parts b xs us ys vs (behind b x xs p) (behind b u us q) (same_tail x u (xs ++ b ∷ ys) (us ++ b ∷ vs) e) in
     ((λ j. heads x u (xs ++ b ∷ ys) (us ++ b ∷ vs) e j ∷ rest.0 j), rest.1)
 
 pub same_cut : (b : ℕ) (text f k g l : List ℕ) → IsCut b text f k → IsCut b text g l → (f ≡ g) × (k ≡ l)

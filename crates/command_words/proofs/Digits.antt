@@ -1,11 +1,8 @@
 -- One digit more.
-use Rattle.std.proofs.Common.{◌≡◌, ℕ, ◌+◌, ◌-◌, ◌*◌, ◌^◌, ◌<◌, min, List, [], ◌∷◌, ◌++◌, length, take, get_or, refl, ap, sym, ◌∙◌, arith}
+use Rattle.std.proofs.Common.{◌≡◌, ℕ, ◌+◌, ◌-◌, ◌*◌, ◌^◌, ◌<◌, min, List, length, take, get_or, ap, sym, ◌∙◌, arith}
 use Rattle.std.proofs.lemmas.List.{take_more}
-use Rattle.job_tokens.specs.Bytes.{decimal_from, decimal}
-
-decimal-more : (s b : ℕ) (w : List ℕ) → decimal_from s (w ++ b ∷ []) ≡ 10 * decimal_from s w + (b - 48)
-decimal-more s b [] = refl
-decimal-more s b (x ∷ w) = decimal-more (10 * s + (x - 48)) b w
+use Rattle.job_tokens.specs.Bytes.{decimal}
+use Rattle.job_tokens.proofs.Numbers.{decimal-more}
 
 capped-digit : (n d : ℕ) → min (10 * min n (2 ^ 128 - 1) + d) (2 ^ 128 - 1) ≡ min (10 * n + d) (2 ^ 128 - 1)
 capped-digit n d = grind arith

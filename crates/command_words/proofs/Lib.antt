@@ -4,5 +4,5 @@ mod Spoken
 mod Readings
 mod Taking
 mod Crews
-mod Walking
+pub mod Walking
 pub mod Saying

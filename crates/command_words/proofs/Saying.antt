@@ -1,8 +1,9 @@
 -- What the words say, in one way.
-use Rattle.std.proofs.Common.{◌≡◌, ℕ, ◌≤◌, ◌-◌, ◌*◌, ◌^◌, Bool, true, false, List, [], length, take, codes, string_bytes, refl, ap, sym, subst, ◌∙◌, arith, Option, Some, None, true≢false}
-use Rattle.std.specs.Prelude.{slice_index_or, unwrap_or, is_some}
+use Rattle.std.proofs.Common.{◌≡◌, ℕ, ◌≤◌, ◌-◌, ◌*◌, ◌^◌, Bool, true, false, List, [], length, take, codes, string_bytes, refl, sym, subst, ◌∙◌, arith, Option, Some, None, true≢false}
+use Rattle.std.specs.Prelude.{slice_index_or, is_some}
 use Rattle.std.proofs.lemmas.List.FromFn.{length-range_with_len}
 use Rattle.std.proofs.Math.Seq.{take-nil}
+use Rattle.small_facts.proofs.Options.{same_in_some}
 use Rattle.clap.specs.declared.parser.matches.ArgMatches.{ArgMatches}
 use Rattle.cluster_msgs.specs.declared.events.Item.{Item}
 use Rattle.cluster_rules.specs.Functions.{from_one}
@@ -26,9 +27,6 @@ use Rattle.command_words.proofs.Readings.{one_script}
 
 abbrev Given : Type 0
 Given = List ℕ → Option (List ℕ)
-
-one_text : (given : Option (List ℕ)) (a b : List ℕ) → given ≡ Some a → given ≡ Some b → a ≡ b
-one_text given a b p q = ap (λ o. unwrap_or o a) (sym p ∙ q)
 
 one_given : (given : Option (List ℕ)) (least most default m n : ℕ) → HasNumber given least most default m → HasNumber given least most default n → m ≡ n
 one_given (Some text) least most default m n p q = one_number least most text m n p q
@@ -85,7 +83,7 @@ not_followed given workers threads items script bad = λ others h. bad (subst (I
 -- one run at most
 pub one_run : (words : List (List ℕ)) (a b : RunWords) → IsRun words a → IsRun words b → SameRun a b
 one_run words a b p q = record {
-  job = one_text _ (string_bytes a.job) (string_bytes b.job) p.says.job q.says.job;
+  job = same_in_some _ (string_bytes a.job) (string_bytes b.job) p.says.job q.says.job;
   settings = same_settings _ a.settings b.settings p.says.settings q.says.settings;
   memory = one_given _ 1 (2 ^ 40) (2 ^ 28) a.memory b.memory p.says.memory q.says.memory;
   script = same_script _ a.script b.script p.says.script q.says.script;
@@ -115,7 +113,7 @@ no_sim_numbers given bad = λ s h. bad (record { workers = s.workers; threads = 
 -- one simulation at most
 pub one_sim : (words : List (List ℕ)) (a b : SimWords) → IsSim words a → IsSim words b → SameSim a b
 one_sim words a b p q = record {
-  job = one_text _ (string_bytes a.job) (string_bytes b.job) p.says.job q.says.job;
+  job = same_in_some _ (string_bytes a.job) (string_bytes b.job) p.says.job q.says.job;
   settings = same_sim_settings _ a.settings b.settings p.says.settings q.says.settings;
   script = same_script _ a.script b.script p.says.script q.says.script;
 }
@@ -161,4 +159,4 @@ gen_settings words s is =
 
 -- one plain evaluation at most
 pub one_plain : (words : List (List ℕ)) (a b : PlainWords) → IsPlain words a → IsPlain words b → string_bytes a.job ≡ string_bytes b.job
-one_plain words a b p q = one_text _ (string_bytes a.job) (string_bytes b.job) p.job q.job
+one_plain words a b p q = same_in_some _ (string_bytes a.job) (string_bytes b.job) p.job q.job

@@ -7,7 +7,7 @@ use Rattle.cluster_msgs.specs.declared.events.Item.TheVariants.{Lose, Suspect, J
 use Rattle.command_words.specs.Walks.{Crew, crew, crew_of, after_item, after_items, joins_in, count_of, TakesOneOf, IsItemAt, IsCrew, IsWalk, IsSmall, IsStep, IsNoStep}
 use Rattle.command_words.specs.declared.walk.Walk.{Walk}
 
-after_more : (c : Crew) (items : List Item) (item : Item) → after_items c (items ++ item ∷ []) ≡ after_item (after_items c items) item
+pub after_more : (c : Crew) (items : List Item) (item : Item) → after_items c (items ++ item ∷ []) ≡ after_item (after_items c items) item
 after_more c [] item = refl
 after_more c (other ∷ items) item = after_more (after_item c other) items item
 

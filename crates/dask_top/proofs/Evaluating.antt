@@ -1,20 +1,17 @@
 -- An evaluation of a job, whose text was read before it and whose end was told after it.
-use Rattle.std.proofs.Common.{◌≡◌, ℕ, ◌≤◌, List, ◌++◌, ap, sym, ◌∙◌, subst, inl, inr, arith, Option, Some, None, Ok}
-use Rattle.std.specs.Prelude.{IfSome, IsSomeAnd, map}
+use Rattle.std.proofs.Common.{◌≡◌, ℕ, ◌≤◌, List, ◌++◌, ap, sym, ◌∙◌, subst, inl, inr, arith, Option, Some, Ok}
+use Rattle.std.specs.Prelude.{IsSomeAnd, map}
 use Rattle.io_edge.specs.Cause.{Rose}
 use Rattle.io_edge.specs.Content.{followed_by, PrintsPart}
 use Rattle.io_edge.proofs.GivenLaws.{given_before, given_later, more_same, more_then}
 use Rattle.io_edge.specs.View.{View, Files, Opens, OnlyReads, OnlyErr, raised_by}
 use Rattle.job_run.specs.declared.ends.Ended.{Ended}
 use Rattle.job_run.specs.declared.ends.Ended.TheVariants as RunEnds
-use Rattle.job_run.specs.Inputs.{FirstRefusal, HoldArrays, InputsFit, told_all}
-use Rattle.job_run.specs.Part.{AreLeft, RaisedAtMost}
-use Rattle.job_run.specs.Plan.{Plan, input_shapes, name_at, names_saved}
+use Rattle.job_run.specs.Inputs.{FirstRefusal, InputsFit}
+use Rattle.job_run.specs.Part.{RaisedAtMost}
+use Rattle.job_run.specs.Plan.{Plan, names_saved}
 use Rattle.job_run.specs.Runs.{AreRight, AreSaved, Cause as RunCause, Saves as RunSaves, Opened as RunOpened, Created as RunCreated, Prints as RunPrints, HasValues, Looked, PrintsFront, RunsPlan, StopsPrinting, WritesFail, lines_of}
-use Rattle.job_run.specs.Values.{files_of}
 use Rattle.job_run.proofs.Counting.{none_raised, raised_at_most}
-use Rattle.nd_shape.specs.Block.{Array}
-use Rattle.plain_eval.specs.Eval.{held_in}
 use Rattle.dask_top.specs.declared.answer.End.{End}
 use Rattle.dask_top.specs.Answers.{Performs}
 use Rattle.dask_top.specs.Commands.{Evaluation}
@@ -25,6 +22,7 @@ use Rattle.dask_top.specs.Works.{Evaluates, JobOpened, WorkDoes}
 use Rattle.dask_top.proofs.Opening.{raised_by-append, raised_first, raised_more}
 use Rattle.dask_top.proofs.Reading.{is_given, is_read}
 use Rattle.dask_top.proofs.Unread.{notes_before}
+use Rattle.job_run.proofs.Running.{left_alone}
 
 -- ## After it, only standard error got its line
 
@@ -79,13 +77,6 @@ evaluates_told sources p old mid new end only e =
 
 -- ## Memory was wanted for a refusal's line
 
-pub memory_saves : (p : Plan) (old new : Files) → new.held ≡ old.held → AreRight p old new
-memory_saves p old new same = turn (told_all old.held p.inputs)
-  where
-    turn : (o : Option (List (List ℕ))) → IfSome o (λ contents. (blocks : List Array) → HoldArrays (input_shapes p.nodes) contents blocks → AreLeft (names_saved p) (files_of p (held_in blocks)) old new)
-    turn None = tt
-    turn (Some contents) = λ blocks hold k h. inl (ap (λ f. f (name_at (names_saved p) k)) same)
-
 pub refusal_opened : (sources inputs : List (List ℕ)) (old new : List ℕ → ℕ) (end : Ended) → IsRefusal (end_of end) → JobOpened sources inputs old new end → RaisedAtMost (sources ++ inputs) old new
 refusal_opened sources inputs old new (RunEnds.File place error) is opened = opened
 refusal_opened sources inputs old new (RunEnds.Limit quantity) is opened = raised_first sources inputs old new opened
@@ -96,8 +87,8 @@ refusal_opened sources inputs old new RunEnds.WriteFault is opened = absurd is
 refusal_opened sources inputs old new RunEnds.OutOfMemory is opened = absurd is
 
 refusal_saves : (p : Plan) (old new : Files) (end : Ended) → IsRefusal (end_of end) → RunSaves p old new end → AreRight p old new
-refusal_saves p old new (RunEnds.File place error) is saves = memory_saves p old new saves
-refusal_saves p old new (RunEnds.Limit quantity) is saves = memory_saves p old new saves
+refusal_saves p old new (RunEnds.File place error) is saves = left_alone p old new saves
+refusal_saves p old new (RunEnds.Limit quantity) is saves = left_alone p old new saves
 refusal_saves p old new (RunEnds.Zero node block) is saves = saves
 refusal_saves p old new RunEnds.Done is saves = absurd is
 refusal_saves p old new RunEnds.ReadFault is saves = absurd is

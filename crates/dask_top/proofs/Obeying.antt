@@ -1,6 +1,6 @@
 -- What the words are read as, and what is done with them.
 use Rattle.std.proofs.Common.{◌≡◌, ℕ, List, [], ◌∷◌, get_or, string_bytes, ap, sym, ◌∙◌, subst, arith, codes, Some, None}
-use Rattle.std.specs.Prelude.{bytes_eq, true, false}
+use Rattle.std.specs.Prelude.{bytes_eq, false}
 use Rattle.std.proofs.lemmas.Bool.{false≢true}
 use Rattle.std.proofs.lemmas.Slice.Eq.{bytes_eq-Decides}
 use Rattle.io_edge.specs.View.{View, OnlyErr}
@@ -30,9 +30,6 @@ only_tells wanted old new now not told only notes =
     record { is = same; only = only; notes = subst N same (notes None) }
 
 -- ## Names
-
-pub is_name : (word name : List ℕ) → bytes_eq word name ≡ true → word ≡ name
-is_name word name same = (bytes_eq-Decides word name).0 same
 
 not_name : (word name : List ℕ) → bytes_eq word name ≡ false → word ≡ name → ⊥
 not_name word name other is = false≢true (sym other ∙ (bytes_eq-Decides word name).1 is)

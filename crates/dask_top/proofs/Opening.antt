@@ -3,13 +3,10 @@ use Rattle.std.proofs.Common.{◌≡◌, ℕ, ◌+◌, List, ◌++◌, ap, sym, 
 use Rattle.io_edge.specs.View.{Files, Opens, raised, raised_by, times}
 use Rattle.job_run.specs.Part.{RaisedAtMost}
 use Rattle.job_run.proofs.Counting.{raised_at_most, times-append}
-
-raised-raised : (count j k : ℕ) → raised (raised count j) k ≡ raised count (j + k)
-unfolding raised
-raised-raised count j k = omega arith
+use Rattle.io_edge.proofs.OpeningLaws.{raised_again}
 
 pub raised_by-append : (names more : List (List ℕ)) (counts : List ℕ → ℕ) → raised_by more (raised_by names counts) ≡ raised_by (names ++ more) counts
-raised_by-append names more counts = λ i. λ n. (raised-raised (counts n) (times n names) (times n more) ∙ ap (raised (counts n)) (sym (times-append n names more))) i
+raised_by-append names more counts = λ i. λ n. (raised_again (counts n) (times n names) (times n more) ∙ ap (raised (counts n)) (sym (times-append n names more))) i
 
 pub raised_more : (names more : List (List ℕ)) (old mid : Files) (new : List ℕ → ℕ) → Opens names old mid → RaisedAtMost more mid.opened new → RaisedAtMost (names ++ more) old.opened new
 raised_more names more old mid new opens most = record {

@@ -23,10 +23,11 @@ use Rattle.dask_top.specs.Ends.{Notes}
 use Rattle.dask_top.specs.Opening.{TextRead, JobRead}
 use Rattle.dask_top.specs.Telling.{IsRefusal, Told, end_of}
 use Rattle.dask_top.specs.Works.{RunningOpened, Runs, WorkDoes}
-use Rattle.dask_top.proofs.Evaluating.{cause_before, fit_before, memory_saves, refusal_created, right_before, run_is, saves_before, stops_before, stops_told}
+use Rattle.dask_top.proofs.Evaluating.{cause_before, fit_before, refusal_created, right_before, run_is, saves_before, stops_before, stops_told}
 use Rattle.dask_top.proofs.Opening.{raised_by-append, raised_first, raised_more}
 use Rattle.dask_top.proofs.Reading.{is_given, is_read}
 use Rattle.dask_top.proofs.Unread.{notes_before}
+use Rattle.job_run.proofs.Running.{left_alone}
 
 -- ## After it, only standard error got its line
 
@@ -103,10 +104,10 @@ starved sources p said old new end is saves prints opened e = record {
 runs_starved : (sources : List (List ℕ)) (p : Plan) (said : RunWords) (old new : View) (end : Ended) → IsRefusal (end_of end) → Runs sources p said old new end
     → Runs sources p said old new RunEnds.OutOfMemory
 runs_starved sources p said old new (RunEnds.File place error) is e =
-    starved sources p said old new (RunEnds.File place error) is (λ t. memory_saves p old.files new.files e.saves) e.prints
+    starved sources p said old new (RunEnds.File place error) is (λ t. left_alone p old.files new.files e.saves) e.prints
     (more_times sources p.inputs (repeated (feeds said) p.inputs) old.files.opened new.files.opened e.opened) e
 runs_starved sources p said old new (RunEnds.Limit quantity) is e =
-    starved sources p said old new (RunEnds.Limit quantity) is (λ t. memory_saves p old.files new.files e.saves) e.prints (raised_first sources (openings p said) old.files.opened new.files.opened e.opened) e
+    starved sources p said old new (RunEnds.Limit quantity) is (λ t. left_alone p old.files new.files e.saves) e.prints (raised_first sources (openings p said) old.files.opened new.files.opened e.opened) e
 runs_starved sources p said old new (RunEnds.Zero node block) is e = starved sources p said old new (RunEnds.Zero node block) is e.saves e.prints e.opened.at_most e
 runs_starved sources p said old new RunEnds.Done is e = absurd is
 runs_starved sources p said old new RunEnds.ReadFault is e = absurd is

@@ -22,10 +22,11 @@ use Rattle.dask_top.specs.Ends.{Notes, sim_end}
 use Rattle.dask_top.specs.Opening.{TextRead, JobRead}
 use Rattle.dask_top.specs.Telling.{IsRefusal, Told, end_of, sim_end_of}
 use Rattle.dask_top.specs.Works.{SimOpened, Simulates, WorkDoes}
-use Rattle.dask_top.proofs.Evaluating.{all_before, cause_before, fit_before, front_before, front_told, looked_before, memory_saves, opened_before, refusal_opened, right_before, saves_before, values_before}
+use Rattle.dask_top.proofs.Evaluating.{all_before, cause_before, fit_before, front_before, front_told, looked_before, opened_before, refusal_opened, right_before, saves_before, values_before}
 use Rattle.dask_top.proofs.Over.{prints_over, told_over}
 use Rattle.dask_top.proofs.Reading.{is_given, is_read}
 use Rattle.dask_top.proofs.Unread.{notes_before}
+use Rattle.job_run.proofs.Running.{left_alone}
 
 -- ## After it, only standard error got its line
 
@@ -75,7 +76,7 @@ starved : (sources : List (List ℕ)) (p : Plan) (said : SimWords) (old new : Vi
     Simulates sources p said old new (SimEnds.Ran end) → Simulates sources p said old new (SimEnds.Ran RunEnds.OutOfMemory)
 starved sources p said old new end is held created prints e = record {
   cause = tt;
-  saves = memory_saves p old.files new.files held;
+  saves = left_alone p old.files new.files held;
   looked = e.looked;
   others = e.others;
   opened = refusal_opened sources p.inputs old.files.opened new.files.opened end is e.opened;

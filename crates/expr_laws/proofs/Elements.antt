@@ -184,7 +184,7 @@ array-earlier inputs done rest k h =
 array-whole : (inputs : ℕ → List ℕ → ℤ) (nodes : List Node) → IsExpression nodes → (k : ℕ) → array_at (arrays inputs nodes) k ≡ whole inputs nodes k
 array-whole inputs nodes e k = ap (λ s. record { shape = s; at = elem inputs nodes k }) (shape-known (arrays inputs nodes) nodes (shapes-all inputs nodes e) k)
 
-front-expression : (done rest : List Node) → IsExpression (done ++ rest) → IsExpression done
+pub front-expression : (done rest : List Node) → IsExpression (done ++ rest) → IsExpression done
 front-expression done rest e = record {
   count = omega (arith, e.count, length-append done rest);
   each = λ k x is.

@@ -137,7 +137,7 @@ parts-excluded dims parts taken TooLarge t r = bad-part dims parts taken TooLarg
 parts-excluded dims parts taken NoMemory t r = bad-part dims parts taken NoMemory t r
 
 -- what a part takes is as much, however it is written
-range-count : (first end step : ℤ) (s t : Steps) → IsRange first end step s → IsRange first end step t → s.count ≡ t.count
+pub range-count : (first end step : ℤ) (s t : Steps) → IsRange first end step s → IsRange first end step t → s.count ≡ t.count
 range-count first end step s t a b = by_order (cases_lt s.count t.count) (cases_lt t.count s.count)
   where
     by_order : (s.count < t.count) ⊎ (t.count ≤ s.count) → (t.count < s.count) ⊎ (s.count ≤ t.count) → s.count ≡ t.count

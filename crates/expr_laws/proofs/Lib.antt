@@ -1,3 +1,3 @@
-mod Excluded
+pub mod Excluded
 mod OneCause
 pub mod Elements

@@ -2,8 +2,9 @@
 use Rattle.std.proofs.Common.{◌≡◌, ℕ, ◌<◌, Bool, true, false, cond, ◌&&◌, List, [], refl, sym, ap, ◌∙◌, arith, length, get_or, set, ⊎_elim, All, ◌≤◌, ◌+◌, ltb}
 use Rattle.std.proofs.lemmas.Bool.Decides.{nat_tests}
 use Rattle.std.proofs.Math.Dec.{eqb}
-use Rattle.std.proofs.lemmas.Bool.{eqb-true, cases_lt}
+use Rattle.std.proofs.lemmas.Bool.{eqb-true, cases_lt, lt-ltb}
 use Rattle.std.proofs.lemmas.List.{get_or_default, get_or_past}
+use Rattle.small_facts.proofs.Numbers.{unequal_below_next}
 use Rattle.cluster_rules.specs.Functions.{put, put_pair}
 use Rattle.cluster_rules.proofs.FunctionLemmas.{set_at}
 use Rattle.fact_rows.specs.Rows.{read, cell}
@@ -54,9 +55,6 @@ pub kept_more : {A : Type 0} (base : ℕ → ℕ → A) (mask : ℕ → Bool) (o
 kept_more base mask other rows i old new l was now done w k =
     ap (λ r. get_or r k other) (set_at rows i new [] l w) ∙ pick (eqb w i) refl
   where
-    below_next : (a b : ℕ) → eqb a b ≡ false → ltb a b ≡ ltb a (b + 1)
-    below_next a b e = grind (arith, nat_tests)
-
     not_below : (a b : ℕ) → eqb a b ≡ true → ltb b b ≡ false
     not_below a b e = grind (arith, nat_tests)
 
@@ -68,22 +66,19 @@ kept_more base mask other rows i old new l was now done w k =
 
     pick : (b : Bool) → eqb w i ≡ b → get_or (cond b new (get_or rows w [])) k other ≡ cond (ltb w (i + 1)) (cond (mask k) (base w k) other) (base w k)
     pick true e = ap (λ f. f k) now ∙ ap (λ x. cond (mask k) x other) (here e) ∙ ap (λ b. cond b (cond (mask k) (base w k) other) (base w k)) (below_it w i e)
-    pick false e = done w k ∙ ap (λ b. cond b (cond (mask k) (base w k) other) (base w k)) (below_next w i e)
+    pick false e = done w k ∙ ap (λ b. cond b (cond (mask k) (base w k) other) (base w k)) (unequal_below_next w i e)
 
 pub kept_all : {A : Type 0} (base rows : List (List A)) (mask : ℕ → Bool) (other : A) (i : ℕ) → length rows ≡ length base → length rows ≤ i
     → ((w k : ℕ) → get_or (get_or rows w []) k other ≡ cond (ltb w i) (cond (mask k) (get_or (get_or base w []) k other) other) (get_or (get_or base w []) k other))
     → (w k : ℕ) → get_or (get_or rows w []) k other ≡ cond (mask k) (get_or (get_or base w []) k other) other
 kept_all base rows mask other i same l done w k = ⊎_elim (λ h. inside h) (λ h. outside h) (cases_lt w i)
   where
-    is_below : (a b : ℕ) → a < b → ltb a b ≡ true
-    is_below a b h = grind (arith, nat_tests)
-
     either : (b : Bool) → other ≡ cond b other other
     either true = refl
     either false = refl
 
     inside : w < i → get_or (get_or rows w []) k other ≡ cond (mask k) (get_or (get_or base w []) k other) other
-    inside h = done w k ∙ ap (λ b. cond b (cond (mask k) (get_or (get_or base w []) k other) other) (get_or (get_or base w []) k other)) (is_below w i h)
+    inside h = done w k ∙ ap (λ b. cond b (cond (mask k) (get_or (get_or base w []) k other) other) (get_or (get_or base w []) k other)) (lt-ltb w i h)
 
     outside : i ≤ w → get_or (get_or rows w []) k other ≡ cond (mask k) (get_or (get_or base w []) k other) other
     outside h =

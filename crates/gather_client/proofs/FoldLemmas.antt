@@ -1,11 +1,16 @@
 -- Events that go key by key.
 use Rattle.std.proofs.Common.{◌≡◌, ℕ, zero, suc, ◌+◌, ◌<◌, Bool, true, false, not, ◌&&◌, ◌||◌, List, [], ◌∷◌, ◌++◌, Option, Some, None, refl, sym, ap, ◌∙◌, subst, arith, cond, filter, take, length, get_or, append-nil}
-use Rattle.std.specs.Prelude.{◌==◌, nat_lt, fold, All, Result, Ok, Err, OnOk}
+use Rattle.std.specs.Prelude.{◌==◌, nat_lt, fold, All}
 use Rattle.std.specs.List.{list_all, filter_map, cons_option}
 use Rattle.std.proofs.lemmas.Bool.{and_parts, ltb-true}
 use Rattle.std.proofs.lemmas.List.{take_more, map-append}
 use Rattle.std.proofs.lemmas.List.Sums.{fold-append}
 use Rattle.std.proofs.lemmas.List.Elements.{filter-append, filter_map-append}
+use Rattle.std.proofs.Math.Bool.{or-false}
+use Rattle.std.proofs.lemmas.Option.{none-some, same_Some}
+use Rattle.small_facts.proofs.Numbers.{eqb_turned}
+use Rattle.small_facts.proofs.Options.{some_not_none}
+use Rattle.small_facts.proofs.Truth.{with_and_true}
 use Rattle.cluster_msgs.specs.Shape.{key_count}
 use Rattle.cluster_msgs.specs.declared.cores.ClientInstruction.{ClientInstruction}
 use Rattle.cluster_msgs.specs.declared.cores.ClientInstruction.TheVariants.{Send}
@@ -15,7 +20,6 @@ use Rattle.cluster_rules.specs.Derived.{is_in}
 use Rattle.cluster_rules.specs.Worker.{Ask, ask_to, without_ask}
 use Rattle.cluster_rules.specs.WorkerStep.{keys_of}
 use Rattle.cluster_rules.specs.Client.{ClientFacts, ClientStep, client_wants, client_releases, client_gets, client_misses, missing_message, client_gathered, client_gathered_by, client_answered, keeps_still, hears, are_client_keys}
-use Rattle.cluster_rules.proofs.DerivedLemmas.{eqb_comm}
 use Rattle.cluster_rules.proofs.FunctionLemmas.{same_function}
 use Rattle.open_asks.specs.Kept.{asked_items}
 use Rattle.gather_client.specs.Inner.{IsGrown}
@@ -23,12 +27,8 @@ use Rattle.gather_client.specs.Steps.{wanted, released, is_found, take_step, mis
 
 -- wanting keys
 pub wanted-fold : (c : ClientFacts) (ks : List ℕ) → fold wanted c ks ≡ record c { wants = λ k. c.wants k || is_in k ks }
-wanted-fold c [] = ap (λ (w : ℕ → Bool). record c { wants = w }) (same_function _ _ (λ k. sym (or_none (c.wants k))))
-  where
-    or_none : (b : Bool) → (b || false) ≡ b
-    or_none true = refl
-    or_none false = refl
-wanted-fold c (x ∷ ks) = wanted-fold (wanted c x) ks ∙ ap (λ (w : ℕ → Bool). record c { wants = w }) (same_function _ _ (λ k. one (k == x) (x == k) (c.wants k) (is_in k ks) (eqb_comm k x)))
+wanted-fold c [] = ap (λ (w : ℕ → Bool). record c { wants = w }) (same_function _ _ (λ k. sym (or-false (c.wants k))))
+wanted-fold c (x ∷ ks) = wanted-fold (wanted c x) ks ∙ ap (λ (w : ℕ → Bool). record c { wants = w }) (same_function _ _ (λ k. one (k == x) (x == k) (c.wants k) (is_in k ks) (eqb_turned k x)))
   where
     one : (a b w y : Bool) → a ≡ b → (cond a true w || y) ≡ (w || (b || y))
     one true b true y e = refl
@@ -43,16 +43,12 @@ wants-all c ks = wanted-fold c ks
 -- letting keys go
 pub releases-all : (c : ClientFacts) (ks : List ℕ) → fold released c ks ≡ (client_releases c ks).facts
 unfolding client_releases
-releases-all c [] = λ i. record c { wants = same_function _ _ (λ k. kept (c.wants k)) i; got = same_function _ _ (λ k. kept (c.got k)) i }
-  where
-    kept : (b : Bool) → b ≡ (b && true)
-    kept true = refl
-    kept false = refl
+releases-all c [] = λ i. record c { wants = same_function _ _ (λ k. with_and_true (c.wants k)) i; got = same_function _ _ (λ k. with_and_true (c.got k)) i }
 releases-all c (x ∷ ks) = releases-all (released c x) ks ∙ (λ i. record c {
-  wants = same_function _ _ (λ k. gone (k == x) (x == k) (c.wants k) (is_in k ks) (eqb_comm k x)) i;
-  located = same_function _ _ (λ k. empty [] (k == x) (x == k) (is_in k ks) (c.located k) (eqb_comm k x)) i;
-  got = same_function _ _ (λ k. gone (k == x) (x == k) (c.got k) (is_in k ks) (eqb_comm k x)) i;
-  failed = same_function _ _ (λ k. empty None (k == x) (x == k) (is_in k ks) (c.failed k) (eqb_comm k x)) i;
+  wants = same_function _ _ (λ k. gone (k == x) (x == k) (c.wants k) (is_in k ks) (eqb_turned k x)) i;
+  located = same_function _ _ (λ k. empty [] (k == x) (x == k) (is_in k ks) (c.located k) (eqb_turned k x)) i;
+  got = same_function _ _ (λ k. gone (k == x) (x == k) (c.got k) (is_in k ks) (eqb_turned k x)) i;
+  failed = same_function _ _ (λ k. empty None (k == x) (x == k) (is_in k ks) (c.failed k) (eqb_turned k x)) i;
 })
   where
     gone : (a b w y : Bool) → a ≡ b → (cond a false w && not y) ≡ (w && not (b || y))
@@ -178,16 +174,6 @@ messages-all found c p (i ∷ is) = pick (is_found found i) (messages-all found 
     pick true e = e
     pick false e = ap (cons_option (missing_message c p i)) e
 
--- an answer to no open ask
-none_some : {A : Type 0} (x : A) → Some x ≡ None → ⊥
-none_some x h = cc
-
-some_none : {A : Type 0} (x : A) → None ≡ Some x → ⊥
-some_none x h = cc
-
-some_same : {A : Type 0} (x y : A) → Some x ≡ Some y → x ≡ y
-some_same x y h = cc
-
 pub gathered-none : (c : ClientFacts) (p n : ℕ) (found : List ℕ) → None ≡ asked_items (ask_to c.asks p) n → client_gathered c p n found ≡ keeps_still c
 unfolding client_gathered
 gathered-none c p n found = by (ask_to c.asks p)
@@ -197,7 +183,7 @@ gathered-none c p n found = by (ask_to c.asks p)
     by (Some a) h = pick (a.number == n) _ h
       where
         pick : (b : Bool) (x : ClientStep) → None ≡ cond {A = Option (List (ℕ × ℕ))} b (Some a.items) None → cond b x (keeps_still c) ≡ keeps_still c
-        pick true x e = absurd (some_none a.items e)
+        pick true x e = absurd (none-some a.items e)
         pick false x e = refl
 
 -- an answer to an open ask of these items
@@ -209,12 +195,12 @@ unfolding client_gathered
 gathered-over c p n found is = by (ask_to c.asks p)
   where
     by : (o : Option Ask) → Some is ≡ asked_items o n → client_gathered_by c p n found o ≡ over c p found is
-    by None h = absurd (none_some is h)
+    by None h = absurd (some_not_none is h)
     by (Some a) h = pick (a.number == n) h
       where
         pick : (b : Bool) → Some is ≡ cond {A = Option (List (ℕ × ℕ))} b (Some a.items) None → cond b (over c p found a.items) (keeps_still c) ≡ over c p found is
-        pick true e = ap (over c p found) (sym (some_same is a.items e))
-        pick false e = absurd (none_some is e)
+        pick true e = ap (over c p found) (sym (same_Some is a.items e))
+        pick false e = absurd (some_not_none is e)
 
 pub gathered-facts : (c : ClientFacts) (p n : ℕ) (found : List ℕ) (is : List (ℕ × ℕ)) → Some is ≡ asked_items (ask_to c.asks p) n → after_missed (after_found (record c { asks = without_ask c.asks p }) found is) found is ≡ (client_gathered c p n found).facts
 gathered-facts c p n found is h = ap (λ (s : ClientStep). s.facts) (sym (gathered-over c p n found is h))
@@ -262,11 +248,3 @@ grown_more xs ys zs vs e h = record { rest = zs; is = h ∙ e }
 
 pub grown_same : {A : Type 0} (xs ys : List A) → ys ≡ xs → IsGrown xs ys
 grown_same xs ys e = record { rest = []; is = e ∙ sym (append-nil xs) }
-
-pub on_ok : {T E P : Type 0} (r : Result T E) → P → OnOk r P
-on_ok (Ok x) p = p
-on_ok (Err e) p = tt
-
-pub on_map : {T E P Q : Type 0} (r : Result T E) → (P → Q) → OnOk r P → OnOk r Q
-on_map (Ok x) f p = f p
-on_map (Err e) f p = tt

@@ -1,9 +1,11 @@
 -- What a client keeps is kept by each event.
-use Rattle.std.proofs.Common.{◌≡◌, ℕ, zero, suc, ◌+◌, ◌<◌, ◌≤◌, Bool, true, false, not, ◌&&◌, ◌||◌, List, [], ◌∷◌, Option, Some, None, is_some, refl, sym, ◌∙◌, subst, arith, cond, filter, take, zero-add}
+use Rattle.std.proofs.Common.{◌≡◌, ℕ, zero, suc, ◌+◌, ◌<◌, ◌≤◌, Bool, true, false, not, ◌&&◌, ◌||◌, List, [], ◌∷◌, Option, Some, None, is_some, refl, sym, ◌∙◌, subst, arith, cond, filter, zero-add}
 use Rattle.std.specs.Prelude.{◌==◌, fold}
-use Rattle.std.specs.List.{list_any, filter_map, cons_option, range_with_len}
-use Rattle.std.specs.Option.{option_map}
-use Rattle.std.proofs.lemmas.Bool.{false≢true, true≢false, and_parts, eqb-true}
+use Rattle.std.specs.List.{list_any, filter_map, range_with_len}
+use Rattle.std.proofs.lemmas.Bool.{false≢true, true≢false, and_parts, eqb-true, not-true, or_left, or_right}
+use Rattle.small_facts.proofs.Lists.{any_of_take}
+use Rattle.small_facts.proofs.Numbers.{equal_below_or_next}
+use Rattle.small_facts.proofs.Truth.{or_weaker}
 use Rattle.cluster_msgs.specs.Shape.{Shape, key_count}
 use Rattle.cluster_msgs.specs.declared.messages.ToClient.{ToClient}
 use Rattle.cluster_msgs.specs.declared.messages.ToClient.TheVariants.{KeyInMemory, LostData, ClientTaskErred}
@@ -11,11 +13,11 @@ use Rattle.cluster_msgs.specs.declared.cores.ClientEvent.{ClientEvent}
 use Rattle.cluster_msgs.specs.declared.cores.ClientEvent.TheVariants.{Want, Release, FromScheduler, Ask as AskPeer, Gathered, GatherFailed}
 use Rattle.cluster_rules.specs.Functions.{put}
 use Rattle.cluster_rules.specs.Derived.{is_in}
-use Rattle.cluster_rules.specs.Worker.{Ask, names_key, is_asked_for, has_any, item_at, copy_at, ask_items, ask_to, without_ask}
+use Rattle.cluster_rules.specs.Worker.{Ask, names_key, is_asked_for, has_any, item_at, ask_items, ask_to, without_ask}
 use Rattle.cluster_rules.specs.WorkerStep.{keys_of}
 use Rattle.cluster_rules.specs.WorkerKept.{flights}
 use Rattle.cluster_rules.specs.Client.{ClientFacts, new_client, client_keys, is_open, client_fetchable, client_wants, client_releases, hears, hear, client_ask, client_gets, client_misses, client_gathered, client_gathered_by, client_answered, client_step, keeps_still}
-use Rattle.cluster_rules.proofs.WorkerLemmas.{no_flight, flights-with, flights-without, in_filter}
+use Rattle.cluster_rules.proofs.WorkerLemmas.{no_flight, flights-with, flights-without, in_filter, item_key}
 use Rattle.cluster_rules.specs.Runs.{event_limit}
 use Rattle.gather_client.specs.Stored.{Stored, facts_of}
 use Rattle.gather_client.specs.Kept.{KeyKept, KeysKept, IsCore}
@@ -47,15 +49,11 @@ kept_want : (c : ClientFacts) (ks : List ℕ) → KeysKept c → KeysKept (clien
 unfolding client_wants
 kept_want c ks h = record { at = λ k. one (c.wants k) (c.got k) (is_some (c.failed k)) (has_any (c.located k)) (is_in k ks) (flights c.asks k) (h.at k) }
   where
-    more : (a b : Bool) → a ≡ true → (a || b) ≡ true
-    more true b e = refl
-    more false b e = no e
-
     one : (w g f l b : Bool) (n : ℕ) → KeyKept w g f l n → KeyKept (w || b) g f l n
     one w g f l b n k = record {
-      got_wanted = λ e. more w b (k.got_wanted e);
-      failed_wanted = λ e. more w b (k.failed_wanted e);
-      located_wanted = λ e. more w b (k.located_wanted e);
+      got_wanted = λ e. or_left w b (k.got_wanted e);
+      failed_wanted = λ e. or_left w b (k.failed_wanted e);
+      located_wanted = λ e. or_left w b (k.located_wanted e);
       located_not_got = k.located_not_got;
       asked_once = k.asked_once;
     }
@@ -104,27 +102,6 @@ kept_hear c (KeyInMemory q hs) h = kept_hears c q _ (λ e i. record { at = at_on
 kept_hear c (LostData q) h = kept_lost c q h
 kept_hear c (ClientTaskErred q x) h = kept_hears c q _ (λ e i. record { at = at_one q (λ b k. KeyKept (c.wants k) (c.got k) (is_some (cond b (Some x) (c.failed k))) (has_any (cond b [] (c.located k))) (flights c.asks k)) (failed_now _ _ _ _ _ e (h.at q)) (λ k. h.at k) }) h
 
--- the items of an ask are to be fetched
-any_take : (t : ℕ × ℕ → Bool) (n : ℕ) (xs : List (ℕ × ℕ)) → list_any t (take n xs) ≡ true → list_any t xs ≡ true
-any_take t zero xs h = no h
-any_take t (suc n) [] h = h
-any_take t (suc n) (x ∷ xs) h = pick (t x) (any_take t n xs) h
-  where
-    pick : (b : Bool) → (list_any t (take n xs) ≡ true → list_any t xs ≡ true) → (b || list_any t (take n xs)) ≡ true → (b || list_any t xs) ≡ true
-    pick true r h = refl
-    pick false r h = r h
-
-item_key : (p k q : ℕ) (hs : List (ℕ × ℕ)) (is : List (ℕ × ℕ)) → list_any (λ i. i.0 == k) (cons_option (item_at p q hs) is) ≡ true → ((q == k) || list_any (λ i. i.0 == k) is) ≡ true
-item_key p k q hs is h = pick (copy_at p hs) h
-  where
-    later : (a b : Bool) → b ≡ true → (a || b) ≡ true
-    later true b e = refl
-    later false b e = e
-
-    pick : (o : Option ℕ) → list_any (λ i. i.0 == k) (cons_option (option_map (λ c. (q, c)) o) is) ≡ true → ((q == k) || list_any (λ i. i.0 == k) is) ≡ true
-    pick None h = later (q == k) _ h
-    pick (Some c) h = h
-
 any_items : (c : ClientFacts) (p k : ℕ) (qs : List ℕ) → list_any (λ i. i.0 == k) (filter_map (λ q. item_at p q (c.located q)) qs) ≡ true → is_in k qs ≡ true
 any_items c p k [] h = h
 any_items c p k (q ∷ qs) h = pick (q == k) (any_items c p k qs) (item_key p k q (c.located q) _ h)
@@ -146,22 +123,14 @@ filtered_in : (t : ℕ → Bool) (ks : List ℕ) (k : ℕ) → is_in k (filter t
 filtered_in t [] k h = h
 filtered_in t (x ∷ ks) k h = pick (t x) (filtered_in t ks k) h
   where
-    later : (a b : Bool) → b ≡ true → (a || b) ≡ true
-    later true b e = refl
-    later false b e = e
-
-    both : (a b d : Bool) → (b ≡ true → d ≡ true) → (a || b) ≡ true → (a || d) ≡ true
-    both true b d r e = refl
-    both false b d r e = r e
-
     pick : (b : Bool) → (is_in k (filter t ks) ≡ true → is_in k ks ≡ true) → is_in k (cond b (x ∷ filter t ks) (filter t ks)) ≡ true → ((x == k) || is_in k ks) ≡ true
-    pick true r h = both (x == k) _ _ r h
-    pick false r h = later (x == k) _ (r h)
+    pick true r h = or_weaker (x == k) _ _ r h
+    pick false r h = or_right (x == k) _ (r h)
 
 pub ask_keys : (c : ClientFacts) (p k : ℕ) → list_any (λ i. i.0 == k) (ask_items c.shape (client_fetchable c p)) ≡ true → (k < key_count c.shape) × (is_open c k ≡ true)
 unfolding client_fetchable ask_items
 ask_keys c p k h =
-    let there : is_in k (filter (is_open c) (client_keys c)) ≡ true = any_items c p k (filter (is_open c) (client_keys c)) (any_take (λ i. i.0 == k) _ _ h) in
+    let there : is_in k (filter (is_open c) (client_keys c)) ≡ true = any_items c p k (filter (is_open c) (client_keys c)) (any_of_take (λ i. i.0 == k) _ _ h) in
     let low : k < 0 + key_count c.shape = in_range 0 (key_count c.shape) k (filtered_in (is_open c) (client_keys c) k there) in
     (omega arith, in_filter (is_open c) (client_keys c) k there)
 
@@ -174,11 +143,7 @@ kept_ask c p h = record { at = λ k. subst (λ n. KeyKept (c.wants k) (c.got k) 
     this = record { peer = p; number = c.next_ask; items = ask_items c.shape (client_fetchable c p) }
 
     grounded : (k : ℕ) → is_open c k ≡ true → flights c.asks k ≡ 0
-    grounded k e = no_flight c.asks k (not_not (is_asked_for c.asks k) (and_parts (c.wants k && not (c.got k)) (not (is_asked_for c.asks k)) e).1)
-      where
-        not_not : (b : Bool) → not b ≡ true → b ≡ false
-        not_not true e = no e
-        not_not false e = refl
+    grounded k e = no_flight c.asks k (not-true (is_asked_for c.asks k) (and_parts (c.wants k && not (c.got k)) (not (is_asked_for c.asks k)) e).1)
 
     more : (w g f l : Bool) (n : ℕ) → n ≡ 0 → KeyKept w g f l n → KeyKept w g f l (1 + n)
     more w g f l n e k = record { got_wanted = k.got_wanted; failed_wanted = k.failed_wanted; located_wanted = k.located_wanted; located_not_got = k.located_not_got; asked_once = omega arith }
@@ -225,10 +190,6 @@ kept_step c (AskPeer p) h = kept_ask c p h
 kept_step c (Gathered p n found) h = kept_gathered c p n found h
 kept_step c (GatherFailed p n) h = kept_gathered c p n [] h
 
--- one event gives out one number of an ask at most
-same_number : (m n : ℕ) → m ≡ n → m ≤ n + 1
-same_number m n e = omega arith
-
 number_hears : (c : ClientFacts) (k : ℕ) (d : ClientFacts) → d.next_ask ≡ c.next_ask → (hears c k d).next_ask ≤ c.next_ask + 1
 number_hears c k d e = pick (c.wants k && not (c.got k))
   where
@@ -239,7 +200,7 @@ number_hears c k d e = pick (c.wants k && not (c.got k))
 number_hear : (c : ClientFacts) (m : ToClient) → (hear c m).next_ask ≤ c.next_ask + 1
 unfolding hear
 number_hear c (KeyInMemory k hs) = number_hears c k _ refl
-number_hear c (LostData k) = same_number c.next_ask c.next_ask refl
+number_hear c (LostData k) = equal_below_or_next c.next_ask c.next_ask refl
 number_hear c (ClientTaskErred k b) = number_hears c k _ refl
 
 number_gathered : (c : ClientFacts) (p n : ℕ) (found : List ℕ) → (client_gathered c p n found).facts.next_ask ≤ c.next_ask + 1
@@ -247,17 +208,17 @@ unfolding client_gathered
 number_gathered c p n found = by (ask_to c.asks p)
   where
     pick : (b : Bool) (ks : List ℕ) (is : List (ℕ × ℕ)) → (cond b (client_answered (record c { asks = without_ask c.asks p }) p ks is) (keeps_still c)).facts.next_ask ≤ c.next_ask + 1
-    pick true ks is = same_number _ _ (misses-next is (fold client_gets (record c { asks = without_ask c.asks p }) ks) ∙ gets-next ks (record c { asks = without_ask c.asks p }))
-    pick false ks is = same_number c.next_ask c.next_ask refl
+    pick true ks is = equal_below_or_next _ _ (misses-next is (fold client_gets (record c { asks = without_ask c.asks p }) ks) ∙ gets-next ks (record c { asks = without_ask c.asks p }))
+    pick false ks is = equal_below_or_next c.next_ask c.next_ask refl
 
     by : (o : Option Ask) → (client_gathered_by c p n found o).facts.next_ask ≤ c.next_ask + 1
-    by None = same_number c.next_ask c.next_ask refl
+    by None = equal_below_or_next c.next_ask c.next_ask refl
     by (Some a) = pick (a.number == n) (keys_of (filter (λ i. is_in i.0 found) a.items)) (filter (λ i. not (is_in i.0 found)) a.items)
 
 pub number_step : (c : ClientFacts) (e : ClientEvent) → (client_step c e).facts.next_ask ≤ c.next_ask + 1
 unfolding client_step client_wants client_releases client_ask
-number_step c (Want ks) = same_number c.next_ask c.next_ask refl
-number_step c (Release ks) = same_number c.next_ask c.next_ask refl
+number_step c (Want ks) = equal_below_or_next c.next_ask c.next_ask refl
+number_step c (Release ks) = equal_below_or_next c.next_ask c.next_ask refl
 number_step c (FromScheduler m) = number_hear c m
 number_step c (AskPeer p) = omega arith
 number_step c (Gathered p n found) = number_gathered c p n found

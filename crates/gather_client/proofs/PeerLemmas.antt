@@ -1,24 +1,17 @@
 -- The peers that hold keys to fetch.
-use Rattle.std.proofs.Common.{◌≡◌, ℕ, ◌+◌, Bool, true, false, not, ◌||◌, List, [], ◌∷◌, Option, Some, None, refl, sym, ap, ◌∙◌, cond, is_some, is_none, find}
+use Rattle.std.proofs.Common.{◌≡◌, ℕ, ◌+◌, Bool, true, false, ◌||◌, List, [], ◌∷◌, Some, None, refl, sym, ap, ◌∙◌, cond, is_some, find}
 use Rattle.std.specs.Prelude.{◌==◌}
 use Rattle.std.specs.List.{list_any}
 use Rattle.std.specs.Option.{option_map}
+use Rattle.std.proofs.Math.Bool.{or-false}
+use Rattle.std.proofs.lemmas.List.Folds.{list_any-append}
 use Rattle.cluster_rules.specs.Derived.{below}
 use Rattle.cluster_rules.specs.Worker.{item_at}
-use Rattle.cluster_rules.proofs.DerivedLemmas.{any_append}
 use Rattle.cluster_rules.proofs.SchedLemmas.{below-more}
-
-pub or_false : (b : Bool) → (b || false) ≡ b
-or_false true = refl
-or_false false = refl
-
-pub none_is : {A : Type 0} (o : Option A) → is_none o ≡ not (is_some o)
-none_is None = refl
-none_is (Some x) = refl
 
 -- one more key
 pub any_more : (p : ℕ → Bool) (n : ℕ) → list_any p (below (n + 1)) ≡ (list_any p (below n) || p n)
-any_more p n = ap (list_any p) (below-more n) ∙ any_append p (below n) (n ∷ []) ∙ ap (λ b. list_any p (below n) || b) (or_false (p n))
+any_more p n = ap (list_any p) (below-more n) ∙ list_any-append p (below n) (n ∷ []) ∙ ap (λ b. list_any p (below n) || b) (or-false (p n))
 
 -- a peer that holds a key
 holder : (p k : ℕ) (hs : List (ℕ × ℕ)) → list_any (λ (i : ℕ × ℕ). i.0 == p) hs ≡ is_some (item_at p k hs)

@@ -1,10 +1,14 @@
 -- What is kept of the keys that pass, and searches over them.
-use Rattle.std.proofs.Common.{◌≡◌, ℕ, zero, suc, ◌+◌, ◌-◌, ◌<◌, ◌≤◌, Bool, true, false, ◌&&◌, ◌||◌, List, [], ◌∷◌, ◌++◌, Option, Some, None, is_some, is_none, refl, sym, ap, ◌∙◌, arith, cond, filter, subst, IfSome, not, length, ⊎_elim}
-use Rattle.std.specs.Prelude.{◌==◌, min}
+use Rattle.std.proofs.Common.{◌≡◌, ℕ, zero, suc, ◌+◌, ◌-◌, ◌<◌, ◌≤◌, Bool, true, false, ◌||◌, List, [], ◌∷◌, ◌++◌, Option, Some, None, is_some, refl, sym, ap, ◌∙◌, arith, cond, filter, subst, IfSome, not, length, ⊎_elim}
+use Rattle.std.specs.Prelude.{◌==◌}
 use Rattle.std.specs.List.{list_any, filter_map, cons_option}
-use Rattle.std.proofs.lemmas.Bool.{false≢true, true≢false, cases_lt}
-use Rattle.std.proofs.lemmas.Bool.Decides.{nat_tests}
+use Rattle.std.proofs.lemmas.Bool.{true≢false, cases_lt}
 use Rattle.std.proofs.lemmas.List.Elements.{filter_map-append}
+use Rattle.std.proofs.Math.Bool.{or-false}
+use Rattle.std.proofs.Math.Dec.{eqb-suc-zero}
+use Rattle.std.proofs.lemmas.List.{append-nil}
+use Rattle.std.proofs.lemmas.List.Folds.{list_any-append}
+use Rattle.small_facts.proofs.Ranges.{range_has}
 use Rattle.cluster_rules.specs.Derived.{below}
 use Rattle.cluster_rules.specs.Worker.{has_any, item_at}
 use Rattle.cluster_rules.specs.Client.{ClientFacts, is_open}
@@ -12,15 +16,14 @@ use Rattle.fact_rows.specs.Rows.{read}
 use Rattle.key_sets.specs.Sets.{has, IsFirst}
 use Rattle.gather_client.specs.Steps.{open_item}
 use Rattle.cluster_rules.proofs.FunctionLemmas.{same_function}
-use Rattle.cluster_rules.proofs.DerivedLemmas.{any_append}
 use Rattle.cluster_rules.proofs.SchedLemmas.{below-more, filter-below}
-use Rattle.cluster_rules.proofs.Members.{range_to, any_some}
+use Rattle.cluster_rules.proofs.Members.{any_some}
 
 pub any_below : (p : ℕ → Bool) (j n : ℕ) → j < n → p j ≡ true → list_any p (below n) ≡ true
-any_below p j n l e = any_some p (below n) j (range_to 0 n j (omega arith) (omega arith)) e
+any_below p j n l e = any_some p (below n) j (range_has 0 n j (omega arith) (omega arith)) e
 
 pub any_push : (p : ℕ → Bool) (n : ℕ) → list_any p (below n) ≡ false → p n ≡ false → list_any p (below (n + 1)) ≡ false
-any_push p n h e = ap (list_any p) (below-more n) ∙ any_append p (below n) (n ∷ []) ∙ ap (λ b. b || (p n || false)) h ∙ ap (λ b. b || false) e
+any_push p n h e = ap (list_any p) (below-more n) ∙ list_any-append p (below n) (n ∷ []) ∙ ap (λ b. b || (p n || false)) h ∙ ap (λ b. b || false) e
 
 pub picked : {A : Type 0} (h : ℕ → Option A) (q : ℕ → Bool) (n : ℕ) → filter_map h (filter q (below (n + 1))) ≡ filter_map h (filter q (below n)) ++ cons_option (cond (q n) (h n) None) []
 picked h q n =
@@ -45,30 +48,15 @@ any_picked {A = A} h q (k ∷ ks) = pick (q k) (h k) (any_picked h q ks)
     pick true v r = inner (h k) r
     pick false v r = r
 
-pub ask_then : {A : Type 0} (o : Option A) (b h : Bool) → h ≡ is_some o → h ≡ false → b ≡ (is_none o && b)
-ask_then None b h e z = refl
-ask_then (Some x) b h e z = absurd (false≢true (sym z ∙ e))
-
-pub ask_else : {A : Type 0} (o : Option A) (b h : Bool) → h ≡ is_some o → h ≡ true → false ≡ (is_none o && b)
-ask_else None b h e z = absurd (false≢true (sym e ∙ z))
-ask_else (Some x) b h e z = refl
-
-pub pair_more : (t p l m : ℕ) → t ≡ min p m → min (t + l) m ≡ min (p + l) m
-pair_more t p l m h = omega (arith, h)
-
 -- nothing of the keys in between
 any-step : (p : ℕ → Bool) (a d : ℕ) → ((k : ℕ) → a ≤ k → k < a + d → p k ≡ false) → list_any p (below (a + d)) ≡ list_any p (below a)
 any-step p a zero h = ap (λ m. list_any p (below m)) (let e : a + 0 ≡ a = omega arith in e)
 any-step p a (suc d) h =
     ap (λ m. list_any p (below m)) (let e : a + suc d ≡ a + d + 1 = omega arith in e)
-    ∙ ap (list_any p) (below-more (a + d)) ∙ any_append p (below (a + d)) ((a + d) ∷ [])
+    ∙ ap (list_any p) (below-more (a + d)) ∙ list_any-append p (below (a + d)) ((a + d) ∷ [])
     ∙ ap (λ b. list_any p (below (a + d)) || (b || false)) (h (a + d) (omega arith) (omega arith))
-    ∙ none (list_any p (below (a + d)))
+    ∙ or-false (list_any p (below (a + d)))
     ∙ any-step p a d (λ k l m. h k l (omega arith))
-  where
-    none : (b : Bool) → (b || false) ≡ b
-    none true = refl
-    none false = refl
 
 pub any-gap : (p : ℕ → Bool) (a b : ℕ) → a ≤ b → ((k : ℕ) → a ≤ k → k < b → p k ≡ false) → list_any p (below b) ≡ list_any p (below a)
 any-gap p a b l h = subst (λ m. list_any p (below m) ≡ list_any p (below a)) (let e : a + (b - a) ≡ b = omega arith in e) (any-step p a (b - a) (λ k m n. h k m (omega arith)))
@@ -81,10 +69,6 @@ picked-step h q a (suc d) n =
     ∙ ap (λ o. filter_map h (filter q (below (a + d))) ++ cons_option o []) (n (a + d) (omega arith) (omega arith))
     ∙ append-nil (filter_map h (filter q (below (a + d))))
     ∙ picked-step h q a d (λ k l m. n k l (omega arith))
-  where
-    append-nil : {B : Type 0} (xs : List B) → xs ++ [] ≡ xs
-    append-nil [] = refl
-    append-nil (x ∷ xs) = ap (λ ys. x ∷ ys) (append-nil xs)
 
 pub picked-gap : {A : Type 0} (h : ℕ → Option A) (q : ℕ → Bool) (a b : ℕ) → a ≤ b → ((k : ℕ) → a ≤ k → k < b → cond (q k) (h k) None ≡ None) → filter_map h (filter q (below b)) ≡ filter_map h (filter q (below a))
 picked-gap h q a b l n = subst (λ m. filter_map h (filter q (below m)) ≡ filter_map h (filter q (below a))) (let e : a + (b - a) ≡ b = omega arith in e) (picked-step h q a (b - a) (λ k m i. n k m (omega arith)))
@@ -117,7 +101,4 @@ first_within p n a (Some r) out h = ⊎_elim (λ l. l) (λ l. absurd (true≢fal
 
 pub any_is : {A : Type 0} (xs : List A) → not (length xs == 0) ≡ has_any xs
 any_is [] = refl
-any_is (x ∷ xs) = ap not (more (length xs))
-  where
-    more : (n : ℕ) → (suc n == 0) ≡ false
-    more n = grind (arith, nat_tests)
+any_is (x ∷ xs) = ap not (eqb-suc-zero (length xs))

@@ -1,6 +1,8 @@
 -- What each move means for what is derived.
 use Rattle.std.proofs.Common.{◌≡◌, ℕ, zero, suc, ◌<◌, ◌≤◌, ◌+◌, Bool, true, false, nat_eq, List, [], ◌∷◌, ◌++◌, ◌⊎◌, inl, inr, Some, None, refl, ap, sym, subst, ◌∙◌, arith}
 use Rattle.std.specs.Prelude.{Option}
+use Rattle.std.proofs.lemmas.Bool.{eqb-true, eqb-false}
+use Rattle.small_facts.proofs.Options.{same_in_some}
 use Rattle.grammar.specs.declared.symbol.Symbol.{Symbol}
 use Rattle.grammar.specs.declared.symbol.Symbol.TheVariants.{Token, Part, Action}
 use Rattle.grammar.specs.Follow.{Tables, Followed, nothing}
@@ -56,14 +58,11 @@ turned-ends s None None e = cc
 
 -- ---- what is derived after a move is derived before it
 
-same-kind : (j k : ℕ) → nat_eq j k ≡ true → j ≡ k
-same-kind j k h = grind arith
-
 pub takes-onward : (g : Grammar) (kind : ℕ → ℕ) (s s' : List Symbol) (k t : ℕ) (es : List Event) → move g s (Some k) ≡ takes s' → kind t ≡ k → Derives g kind s' es → Derives g kind s (took t ∷ es)
 takes-onward g kind [] s' k t es e h d = cc
 takes-onward g kind (Token j ∷ s) s' k t es e h d =
     let x = taken_if-takes (nat_eq j k) s s' e in
-    let q : kind t ≡ j = h ∙ sym (same-kind j k x.0) in
+    let q : kind t ≡ j = h ∙ sym (eqb-true j k x.0) in
     (suc d.0, (t, es, refl, q, subst (λ y. DerivesIn g kind d.0 y es) (sym x.1) d.1))
 takes-onward g kind (Action a ∷ s) s' k t es e h d = cc
 takes-onward g kind (Part p ∷ s) s' k t es e h d =
@@ -169,14 +168,8 @@ turns-back g kind m (Action a ∷ s) s' next es e b d = cc
 turns-back g kind m (Part p ∷ s) s' next es e b d =
     let x = turned-turns s s' (on_next g p next) (g.other p) e in
     let r = part-other g kind m p s next es x.1 b d in
-    let same : r.0 ≡ x.0 = same-some (g.other p) r.0 x.0 r.1 x.2 in
+    let same : r.0 ≡ x.0 = same_in_some (g.other p) r.0 x.0 r.1 x.2 in
     subst (λ y. Derives g kind y es) (ap (λ y. y ++ s) same ∙ x.3) r.2
-  where
-    same-some : (o : Option (List Symbol)) (r r' : List Symbol) → o ≡ Some r → o ≡ Some r' → r ≡ r'
-    same-some o r r' a b = cc
-
-test-false : (j k : ℕ) → nat_eq j k ≡ false → j ≡ k → ⊥
-test-false j k h e = grind arith
 
 pub stops-back : (g : Grammar) (kind : ℕ → ℕ) (m : ℕ) (s : List Symbol) (next : Option ℕ) (es : List Event) → move g s next ≡ stops → Begins kind (tokens es) next → DerivesIn g kind m s es → ⊥
 stops-back g kind m [] None es e b d = cc
@@ -189,7 +182,7 @@ stops-back g kind m (Token j ∷ s) (Some k) es e b d =
     let d1 = steps g kind m (Token j) s es d in
     let q : tokens es ≡ d1.1.0 ∷ tokens d1.1.1 = ap tokens d1.1.2 in
     let x : kind d1.1.0 ≡ k = subst (λ y. Begins kind y (Some k)) q b in
-    test-false j k (taken_if-stops (nat_eq j k) s e) (sym d1.1.3 ∙ x)
+    eqb-false j k (taken_if-stops (nat_eq j k) s e) (sym d1.1.3 ∙ x)
 stops-back g kind m (Action a ∷ s) next es e b d = cc
 stops-back g kind m (Part p ∷ s) next es e b d =
     let x = turned-stops s (on_next g p next) (g.other p) e in

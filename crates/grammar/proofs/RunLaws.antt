@@ -1,6 +1,7 @@
 -- The laws of steps and runs, for a table that passes its tests.
-use Rattle.std.proofs.Common.{◌≡◌, ℕ, zero, suc, ◌<◌, ◌≤◌, ◌+◌, Bool, true, false, nat_lt, List, [], ◌∷◌, ◌++◌, length, Some, None, refl, ap, sym, subst, ◌∙◌, arith, append_assoc}
+use Rattle.std.proofs.Common.{◌≡◌, ℕ, zero, suc, ◌<◌, ◌≤◌, ◌+◌, Bool, true, false, List, [], ◌∷◌, ◌++◌, length, Some, None, refl, ap, sym, subst, ◌∙◌, arith, append_assoc}
 use Rattle.std.specs.Prelude.{Option}
+use Rattle.std.proofs.lemmas.Bool.{lt-ltb}
 use Rattle.grammar.specs.declared.symbol.Symbol.{Symbol}
 use Rattle.grammar.specs.declared.symbol.Symbol.TheVariants.{Token, Part, Action}
 use Rattle.grammar.specs.Grammars.{Grammar, Event, took, did, did_all, tokens, Begins, Derives, Step, taken, refused, step_in, step, effort}
@@ -18,11 +19,8 @@ use Rattle.grammar.proofs.Texts.{named-append, named-rest, HasText, left-text}
 pub ready-start : (r : Rows) (c : Certificate) (p : ℕ) → p < length r.on → IsReady r c (Part p ∷ [])
 ready-start r c p h = record { followed = (λ k b. let x : false ≡ true = b in absurd (cc), tt); names = below p (length r.on) h }
   where
-    test : (p n : ℕ) → p < n → nat_lt p n ≡ true
-    test p n h = grind arith
-
     below : (p n : ℕ) → p < n → named c.kinds n (Part p ∷ []) ≡ true
-    below p n h = rw (test p n h) refl
+    below p n h = rw (lt-ltb p n h) refl
 
 rest-followed : (tb : Tables) (y : Symbol) (s : List Symbol) → Followed tb (y ∷ s) nothing → Followed tb s nothing
 rest-followed tb (Token k) s f = f

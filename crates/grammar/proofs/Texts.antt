@@ -1,25 +1,26 @@
 -- In a table that the test passes, whatever is left stands for some text.
 use Rattle.std.proofs.Common.{◌≡◌, ℕ, zero, suc, ◌<◌, ◌≤◌, ◌+◌, Bool, true, false, ◌||◌, ◌&&◌, nat_lt, List, [], ◌∷◌, ◌++◌, ◌⊎◌, inl, inr, length, Some, None, refl, ap, sym, subst, ◌∙◌, arith, append-nil}
 use Rattle.std.specs.Prelude.{Option, slice_get}
+use Rattle.std.proofs.lemmas.Bool.{and_parts, or_cases, ltb-true}
 use Rattle.grammar.specs.declared.symbol.Symbol.{Symbol}
 use Rattle.grammar.specs.declared.symbol.Symbol.TheVariants.{Token, Part, Action}
 use Rattle.grammar.specs.Grammars.{Grammar, Event, took, did, Derives}
 use Rattle.grammar.specs.Tables.{Rows, rule_maybe, entry_rule, on_row, grammar_of}
 use Rattle.grammar.specs.Tests.{Certificate, mask_at, named, ranked, lower_rule, lower_on, is_ll1}
 use Rattle.grammar.specs.Runs.{HasKinds}
-use Rattle.grammar.proofs.Checked.{both, either, less-number, row-ok, on-ok, other-ok, other-found}
+use Rattle.grammar.proofs.Checked.{row-ok, on-ok, other-ok, other-found}
 use Rattle.grammar.proofs.Derivations.{derives-nothing, derives-token, derives-action, derives-on, derives-other, derives-append}
 
 pub named-append : (kinds parts : ℕ) (r s : List Symbol) → named kinds parts r ≡ true → named kinds parts s ≡ true → named kinds parts (r ++ s) ≡ true
 named-append kinds parts [] s a b = b
-named-append kinds parts (Token k ∷ r) s a b = let e = both (nat_lt k kinds) (named kinds parts r) a in rw (e.0, named-append kinds parts r s e.1 b) refl
+named-append kinds parts (Token k ∷ r) s a b = let e = and_parts (nat_lt k kinds) (named kinds parts r) a in rw (e.0, named-append kinds parts r s e.1 b) refl
 named-append kinds parts (Action k ∷ r) s a b = named-append kinds parts r s a b
-named-append kinds parts (Part p ∷ r) s a b = let e = both (nat_lt p parts) (named kinds parts r) a in rw (e.0, named-append kinds parts r s e.1 b) refl
+named-append kinds parts (Part p ∷ r) s a b = let e = and_parts (nat_lt p parts) (named kinds parts r) a in rw (e.0, named-append kinds parts r s e.1 b) refl
 
 pub named-rest : (kinds parts : ℕ) (y : Symbol) (s : List Symbol) → named kinds parts (y ∷ s) ≡ true → named kinds parts s ≡ true
-named-rest kinds parts (Token k) s a = (both (nat_lt k kinds) (named kinds parts s) a).1
+named-rest kinds parts (Token k) s a = (and_parts (nat_lt k kinds) (named kinds parts s) a).1
 named-rest kinds parts (Action k) s a = a
-named-rest kinds parts (Part p) s a = (both (nat_lt p parts) (named kinds parts s) a).1
+named-rest kinds parts (Part p) s a = (and_parts (nat_lt p parts) (named kinds parts s) a).1
 
 abbrev pub HasText : Grammar → (ℕ → ℕ) → List Symbol → Type 0
 HasText g kind s = (es : List Event) × Derives g kind s es
@@ -44,12 +45,12 @@ lower-texts : (g : Grammar) (kind : ℕ → ℕ) (c : Certificate) (parts n rank
     → (s : List Symbol) → named c.kinds parts s ≡ true → ranked c rank s ≡ true → HaveTexts g kind c.kinds s
 lower-texts g kind c parts n rank le ih [] a b = tt
 lower-texts g kind c parts n rank le ih (Token k ∷ s) a b =
-    let e = both (nat_lt k c.kinds) (named c.kinds parts s) a in (less-number k c.kinds e.0, lower-texts g kind c parts n rank le ih s e.1 b)
+    let e = and_parts (nat_lt k c.kinds) (named c.kinds parts s) a in (ltb-true k c.kinds e.0, lower-texts g kind c parts n rank le ih s e.1 b)
 lower-texts g kind c parts n rank le ih (Action k ∷ s) a b = lower-texts g kind c parts n rank le ih s a b
 lower-texts g kind c parts n rank le ih (Part p ∷ s) a b =
-    let e = both (nat_lt p parts) (named c.kinds parts s) a in
-    let f = both (nat_lt (mask_at c.ranks p) rank) (ranked c rank s) b in
-    (ih p (less-number p parts e.0) (omega (arith, less-number (mask_at c.ranks p) rank f.0)), lower-texts g kind c parts n rank le ih s e.1 f.1)
+    let e = and_parts (nat_lt p parts) (named c.kinds parts s) a in
+    let f = and_parts (nat_lt (mask_at c.ranks p) rank) (ranked c rank s) b in
+    (ih p (ltb-true p parts e.0) (omega (arith, ltb-true (mask_at c.ranks p) rank f.0)), lower-texts g kind c parts n rank le ih s e.1 f.1)
 
 get-some : {X : Type 0} (xs : List X) (i : ℕ) → i < length xs → (x : X) × (slice_get xs i ≡ Some x)
 get-some [] i h = absurd (omega arith)
@@ -66,7 +67,7 @@ record Lower (r : Rows) (c : Certificate) (rank : ℕ) (os : List (Option ℕ)) 
 
 lower-found : (r : Rows) (c : Certificate) (rank : ℕ) (os : List (Option ℕ)) → lower_on r c rank os ≡ true → Lower r c rank os
 lower-found r c rank [] h = cc
-lower-found r c rank (o ∷ os) h = elim (either (lower_rule c rank (rule_maybe r o)) (lower_on r c rank os) h) [
+lower-found r c rank (o ∷ os) h = elim (or_cases (lower_rule c rank (rule_maybe r o)) (lower_on r c rank os) h) [
   | inl a ↦ here (rule_maybe r o) refl a
   | inr b ↦ let x = lower-found r c rank os b in record { k = suc x.k; entry = x.entry; rule = x.rule; entry_is = x.entry_is; rule_is = x.rule_is; is_ranked = x.is_ranked }
 ]
@@ -82,7 +83,7 @@ part-text r c kind token_of h ks (suc n) p b l =
     let ok = row-ok r c p row.0 h row.1 in
     let text : (s : List Symbol) → named c.kinds (length r.on) s ≡ true → ranked c (mask_at c.ranks p) s ≡ true → HasText (grammar_of r) kind s = λ s x y. join-texts (grammar_of r) kind token_of c ks s
     (lower-texts (grammar_of r) kind c (length r.on) n (mask_at c.ranks p) (omega arith) (λ q u v. part-text r c kind token_of h ks n q u v) s x y) in
-    elim (either (lower_rule c (mask_at c.ranks p) (entry_rule r (slice_get r.other p))) (lower_on r c (mask_at c.ranks p) row.0) ok.lower_ok) [
+    elim (or_cases (lower_rule c (mask_at c.ranks p) (entry_rule r (slice_get r.other p))) (lower_on r c (mask_at c.ranks p) row.0) ok.lower_ok) [
       | inl a ↦ by-other text (entry_rule r (slice_get r.other p)) refl a
       | inr a ↦ by-on text row.0 row.1 (lower-found r c (mask_at c.ranks p) row.0 a)
     ]
@@ -99,18 +100,18 @@ part-text r c kind token_of h ks (suc n) p b l =
         let is : (grammar_of r).on p f.k ≡ Some f.rule = ap (on_row r f.k) at ∙ (ap (entry_rule r) f.entry_is ∙ f.rule_is) in
         let o = on-ok r c p f.k f.rule h is in
         let x = text f.rule o.named_ok f.is_ranked in
-        let kd : kind (token_of f.k) ≡ f.k = ks f.k (less-number f.k c.kinds o.kind_ok) in
+        let kd : kind (token_of f.k) ≡ f.k = ks f.k (ltb-true f.k c.kinds o.kind_ok) in
         let is' : (grammar_of r).on p (kind (token_of f.k)) ≡ Some f.rule = ap (λ k. (grammar_of r).on p k) kd ∙ is in
         (took (token_of f.k) ∷ x.0, derives-on (grammar_of r) kind p (token_of f.k) f.rule [] x.0 is' (subst (λ y. Derives (grammar_of r) kind y x.0) (sym (append-nil f.rule)) x.1))
 
 named-texts : (r : Rows) (c : Certificate) (kind token_of : ℕ → ℕ) → is_ll1 r c ≡ true → HasKinds c kind token_of → (s : List Symbol) → named c.kinds (length r.on) s ≡ true → HaveTexts (grammar_of r) kind c.kinds s
 named-texts r c kind token_of h ks [] a = tt
 named-texts r c kind token_of h ks (Token k ∷ s) a =
-    let e = both (nat_lt k c.kinds) (named c.kinds (length r.on) s) a in (less-number k c.kinds e.0, named-texts r c kind token_of h ks s e.1)
+    let e = and_parts (nat_lt k c.kinds) (named c.kinds (length r.on) s) a in (ltb-true k c.kinds e.0, named-texts r c kind token_of h ks s e.1)
 named-texts r c kind token_of h ks (Action k ∷ s) a = named-texts r c kind token_of h ks s a
 named-texts r c kind token_of h ks (Part p ∷ s) a =
-    let e = both (nat_lt p (length r.on)) (named c.kinds (length r.on) s) a in
-    (part-text r c kind token_of h ks (suc (mask_at c.ranks p)) p (less-number p (length r.on) e.0) (omega arith), named-texts r c kind token_of h ks s e.1)
+    let e = and_parts (nat_lt p (length r.on)) (named c.kinds (length r.on) s) a in
+    (part-text r c kind token_of h ks (suc (mask_at c.ranks p)) p (ltb-true p (length r.on) e.0) (omega arith), named-texts r c kind token_of h ks s e.1)
 
 pub left-text : (r : Rows) (c : Certificate) (kind token_of : ℕ → ℕ) → is_ll1 r c ≡ true → HasKinds c kind token_of → (s : List Symbol) → named c.kinds (length r.on) s ≡ true → HasText (grammar_of r) kind s
 left-text r c kind token_of h ks s a = join-texts (grammar_of r) kind token_of c ks s (named-texts r c kind token_of h ks s a)

@@ -1,22 +1,18 @@
 -- A block is held exactly while a later key uses it.
-use Rattle.std.proofs.Common.{◌≡◌, ℕ, ◌<◌, ◌≤◌, Bool, List, [], length, get_or, refl, sym, ap, ◌∙◌, inl, inr, arith}
-use Rattle.std.specs.Prelude.{Option, Some, None, IsSome, is_some, Contains, ◌↔◌, IsTrue}
-use Rattle.std.specs.Option.{option_map}
+use Rattle.std.proofs.Common.{◌≡◌, ℕ, ◌<◌, ◌≤◌, Bool, List, [], length, get_or, sym, ap, ◌∙◌, inl, inr, arith}
+use Rattle.std.specs.Prelude.{Option, None, IsSome, is_some, Contains, ◌↔◌, IsTrue}
 use Rattle.std.specs.Arc.{arc_value}
 use Rattle.std.specs.declared.sync.Arc.{Arc}
 use Rattle.std.specs.declared.alloc.Global.{Global}
 use Rattle.std.proofs.lemmas.Bool.{cases_lt}
 use Rattle.std.proofs.lemmas.List.{get_or_past, get_or_read}
+use Rattle.small_facts.proofs.Options.{is_some_of_map}
 use Rattle.cluster_msgs.specs.Shape.{Shape, key_count, deps_of}
 use Rattle.graph_run.specs.Slots.{block_at, AreKept}
 use Rattle.graph_run.specs.Uses.{AreLastUses, IsUsedFrom}
 
 none-some : {B : Type 0} (o : Option B) (P : Type 0) → o ≡ None → IsSome o → P
 none-some o P e h = let no : ⊥ = cc in absurd no
-
-is_some-map : {A B : Type 0} (f : A → B) (o : Option A) → is_some (option_map f o) ≡ is_some o
-is_some-map f None = refl
-is_some-map f (Some x) = refl
 
 -- only a key of the graph has dependencies
 user-within : (g : Shape) (user k : ℕ) → Contains (deps_of g user) k → user < key_count g
@@ -55,5 +51,5 @@ module _ {B : Type 0} (g : Shape) (last : List ℕ) (next : ℕ) (slots : List (
   -- as the slot of the key tells
   pub held-at : (slot : Option (Arc B Global)) (there : Bool) → slot ≡ get_or slots k slot → k < length slots → there ≡ is_some slot → IsTrue there ↔ ((k < next) × IsUsedFrom (deps_of g) next k)
   held-at slot there at lt is =
-      let same : there ≡ is_some (block_at slots k) = is ∙ ap is_some (get_or_read slots k slot lt at None) ∙ sym (is_some-map arc_value (get_or slots k None)) in
+      let same : there ≡ is_some (block_at slots k) = is ∙ ap is_some (get_or_read slots k slot lt at None) ∙ sym (is_some_of_map arc_value (get_or slots k None)) in
       (λ h. held-used (sym same ∙ h), λ u. same ∙ used-held u)

@@ -4,6 +4,8 @@ use Rattle.std.specs.Prelude.{slice_get}
 use Rattle.std.proofs.lemmas.List.{get_or_past, same_lists, get_or_default, length-take-le, get_or_append_left, get_or_push, length_push}
 use Rattle.std.proofs.lemmas.Bool.{cases_eq, cases_lt}
 use Rattle.std.proofs.lemmas.Option.{same_Some, slice_get_within, slice_get-get_or}
+use Rattle.std.proofs.Math.Nat.{pos_of_ne-zero}
+use Rattle.std.proofs.lemmas.Grind.{get_or_default_zero}
 use Rattle.nd_shape.specs.declared.slice.Steps.{Steps}
 use Rattle.nd_shape.specs.Region.{Box, IsPart}
 use Rattle.array_expr.specs.declared.op.Op.{Op}
@@ -44,15 +46,12 @@ least-one P (Some a) (Some b) l m = ap Some (box-same a b starts lengths)
         let y = m.last k (omega (arith, number)) in
         omega (arith, first k h, x.2, y.2, (m.has x.0 x.1).high k (omega (arith, number)), (l.has y.0 y.1).high k h)
 
-    at : (xs : List ℕ) (k d : ℕ) → k < length xs → get_or xs k d ≡ get_or xs k 0
-    at xs k d h = get_or_default xs k d 0 h
-
     starts : a.start ≡ b.start
-    starts = same_lists a.start b.start number (λ k d h. at a.start k d h ∙ first k h ∙ sym (at b.start k d (omega (arith, number))))
+    starts = same_lists a.start b.start number (λ k d h. get_or_default_zero a.start k d h ∙ first k h ∙ sym (get_or_default_zero b.start k d (omega (arith, number))))
 
     lengths : a.lengths ≡ b.lengths
     lengths = same_lists a.lengths b.lengths (l.sides ∙ number ∙ sym m.sides)
-        (λ k d h. at a.lengths k d h ∙ last k (omega (arith, l.sides)) ∙ sym (at b.lengths k d (omega (arith, l.sides, number, m.sides))))
+        (λ k d h. get_or_default_zero a.lengths k d h ∙ last k (omega (arith, l.sides)) ∙ sym (get_or_default_zero b.lengths k d (omega (arith, l.sides, number, m.sides))))
 
 -- ---- a node uses earlier ones
 
@@ -133,13 +132,9 @@ region-past regions k j h b = subst (λ r. IsInRegion r j) (get_or_past regions 
 part-full : (box : Box) (dims : List ℕ) → IsPart box dims → ((a : ℕ) → a < length dims → get_or dims a 0 ≤ 2 ^ 31) → ((a : ℕ) → a < length box.lengths → get_or box.lengths a 0 ≡ 0 → ⊥) → IsFull box
 part-full box dims p small f = record {
   sides = p.lengths ∙ sym p.starts;
-  filled = λ a h. positive (get_or box.lengths a 0) (f a (omega (arith, p.lengths, p.starts)));
+  filled = λ a h. pos_of_ne-zero (f a (omega (arith, p.lengths, p.starts)));
   ends = λ a h. omega (arith, p.ends a (omega (arith, p.starts)), small a (omega (arith, p.starts)));
 }
-  where
-    positive : (x : ℕ) → (x ≡ 0 → ⊥) → 0 < x
-    positive zero f = absurd (f refl)
-    positive (suc x) f = omega arith
 
 asked-one : (nodes : List Node) (n : ℕ) (box : Box) (regions : List (Option Box)) → IsPart box (shape_at nodes n) → IsExpression nodes → n < length nodes → length regions ≡ n + 1 → IsAskedOf box (region_at regions n)
     → IsLeast (λ j. IsAsked n box n j ⊎ IsUsedFrom nodes regions (n + 1) n j) (region_at regions n)
@@ -174,25 +169,21 @@ first-asked nodes n box regions p s h w = record { count = w.number; each = λ k
         none j (inl q) = ne q.0
         none j (inr u) = region-past regions u.user u.index (omega (arith, w.number, u.later)) u.inside
 
-some-only : (a b : Box) → ◌≡◌ {A = Option Box} (Some a) (Some b) → a ≡ b
+pub some-only : (a b : Box) → ◌≡◌ {A = Option Box} (Some a) (Some b) → a ≡ b
 some-only a b e = same_Some a b e
 
-some-none : (a : Box) → ◌≡◌ {A = Option Box} None (Some a) → ⊥
+pub some-none : (a : Box) → ◌≡◌ {A = Option Box} None (Some a) → ⊥
 some-none a e = cc
 
 pub first-fit : (nodes : List Node) (n : ℕ) (box : Box) (regions : List (Option Box)) → IsPart box (shape_at nodes n) → IsWhatIsAsked (n + 1) box regions → AreFit nodes regions
 first-fit nodes n box regions p w = record { each = λ k b e. each k b e (cases_eq k n) }
   where
-    positive : (x : ℕ) → (x ≡ 0 → ⊥) → 0 < x
-    positive zero f = absurd (f refl)
-    positive (suc x) f = omega arith
-
     here : (b : Box) → region_at regions n ≡ Some b → IsFilledPart (shape_at nodes n) b
     here b e = by (zero-cases box.lengths)
       where
         by : ((a : ℕ) × (a < length box.lengths) × (get_or box.lengths a 0 ≡ 0)) ⊎ ((a : ℕ) → a < length box.lengths → get_or box.lengths a 0 ≡ 0 → ⊥) → IsFilledPart (shape_at nodes n) b
         by (inl x) = absurd (some-none b (sym ((w.last n refl).empty x.0 x.1 x.2) ∙ e))
-        by (inr f) = subst (IsFilledPart (shape_at nodes n)) (some-only box b (sym ((w.last n refl).filled f) ∙ e)) (record { part = p; filled = λ a h. positive (get_or box.lengths a 0) (f a (omega (arith, p.lengths))) })
+        by (inr f) = subst (IsFilledPart (shape_at nodes n)) (some-only box b (sym ((w.last n refl).filled f) ∙ e)) (record { part = p; filled = λ a h. pos_of_ne-zero (f a (omega (arith, p.lengths))) })
 
     each : (k : ℕ) (b : Box) → region_at regions k ≡ Some b → (k ≡ n) ⊎ (k ≢ n) → IsFilledPart (shape_at nodes k) b
     each k b e (inl is) = subst (λ m. IsFilledPart (shape_at nodes m) b) (sym is) (here b (ap (region_at regions) (sym is) ∙ e))

@@ -1,9 +1,11 @@
 -- What a formula makes at an index is the same over arrays that agree on what the element uses.
-use Rattle.std.proofs.Common.{◌≡◌, ℕ, zero, suc, ◌+◌, ◌-◌, ◌<◌, ◌≤◌, List, [], ◌∷◌, ◌++◌, length, get_or, set, take, drop, map, cond, Bool, true, false, refl, ap, sym, ◌∙◌, arith, inl, inr, ◌⊎◌, Option, ℤ, add-one}
+use Rattle.std.proofs.Common.{◌≡◌, ℕ, suc, ◌+◌, ◌-◌, ◌<◌, ◌≤◌, List, [], ◌∷◌, ◌++◌, length, get_or, set, take, drop, map, cond, Bool, true, false, refl, ap, sym, ◌∙◌, arith, inl, inr, ◌⊎◌, Option, ℤ}
 use Rattle.std.specs.Prelude.{nat_lt, nat_eq}
 use Rattle.std.specs.List.{range_with_len, position_or_len}
 use Rattle.std.proofs.lemmas.List.{get_or-set_same, set-set, set-get_or, length-set}
-use Rattle.std.proofs.lemmas.List.FromFn.{map-range_with_len_more}
+use Rattle.std.proofs.Math.Nat.{sub-zero}
+use Rattle.std.proofs.lemmas.Bool.{ltb-true, ltb-false}
+use Rattle.small_facts.proofs.Ranges.{map_range_same}
 use Rattle.nd_shape.specs.Shape.{elements}
 use Rattle.nd_shape.specs.Index.{IsIn, index_at}
 use Rattle.nd_shape.proofs.Places.{index_at-in}
@@ -17,14 +19,7 @@ use Rattle.nd_grid.proofs.Merging.{merged-in}
 use Rattle.array_expr.specs.Node.{CanContract, folded_axes}
 use Rattle.plain_eval.proofs.Contracting.{left-in, right-in, left-kept, right-kept}
 use Rattle.input_regions.specs.Uses.{IsAlong, IsInBranch, before_operand, kept_number}
-
-pub range-same : (f g : ℕ → Option ℤ) (n : ℕ) → ((p : ℕ) → p < n → f p ≡ g p) → map f (range_with_len 0 n) ≡ map g (range_with_len 0 n)
-range-same f g zero same = refl
-range-same f g (suc n) same =
-    ap (λ m. map f (range_with_len 0 m)) (sym (add-one n)) ∙ map-range_with_len_more f 0 n n (omega arith)
-    ∙ ap (λ xs. xs ++ f n ∷ []) (range-same f g n (λ p h. same p (omega (arith, h))))
-    ∙ ap (λ x. map g (range_with_len 0 n) ++ x ∷ []) (same n (omega arith))
-    ∙ sym (map-range_with_len_more g 0 n n (omega arith)) ∙ ap (λ m. map g (range_with_len 0 m)) (add-one n)
+use Rattle.nd_grid.proofs.Woven.{in-rest}
 
 -- ---- broadcasting
 
@@ -66,7 +61,7 @@ unfolding fold_of
 fold-same fold of ax a b dims i sa sb inside h =
     let axes = folded_axes ax (length dims) in
     ap (λ ns. fold_of fold ns (folded_axes ax (length ns)) a i) sa
-    ∙ ap (folded fold) (range-same (λ p. a.at (merged 0 dims axes i (index_at (folded_shape 0 dims axes) p))) (λ p. b.at (merged 0 dims axes i (index_at (folded_shape 0 dims axes) p))) (elements (folded_shape 0 dims axes)) (λ p c.
+    ∙ ap (folded fold) (map_range_same (λ p. a.at (merged 0 dims axes i (index_at (folded_shape 0 dims axes) p))) (λ p. b.at (merged 0 dims axes i (index_at (folded_shape 0 dims axes) p))) (elements (folded_shape 0 dims axes)) (λ p c.
     h (merged 0 dims axes i (index_at (folded_shape 0 dims axes) p)) (record {
       operand = refl;
       inside = merged-in 0 dims axes i (index_at (folded_shape 0 dims axes) p) inside (index_at-in (folded_shape 0 dims axes) p c);
@@ -109,11 +104,6 @@ rest-taken [] (i ∷ is) h = absurd h
 rest-taken (n ∷ ns) [] h = absurd h
 rest-taken (n ∷ ns) (i ∷ is) h = ap (λ js. i ∷ js) (rest-taken ns is h.1)
 
-back-in : (ns ms is : List ℕ) → IsIn (ns ++ ms) is → IsIn ms (drop (length ns) is)
-back-in [] ms is h = h
-back-in (n ∷ ns) ms [] h = absurd h
-back-in (n ∷ ns) ms (i ∷ is) h = back-in ns ms is h.1
-
 pub product-same : (left right : ℕ) (left_axes right_axes : List ℕ) (a b c d : Grid) (ls ms i : List ℕ) → a.shape ≡ ls → b.shape ≡ ls → c.shape ≡ ms → d.shape ≡ ms → CanContract ls ms left_axes right_axes
     → IsIn (kept_shape 0 ls left_axes ++ kept_shape 0 ms right_axes) i
     → ((j : List ℕ) → IsAlong left ls left_axes (take (kept_number ls left_axes) i) left j → a.at j ≡ b.at j) → ((j : List ℕ) → IsAlong right ms right_axes (drop (kept_number ls left_axes) i) right j → c.at j ≡ d.at j)
@@ -123,12 +113,12 @@ product-same left right left_axes right_axes a b c d ls ms i sa sb sc sd can ins
     let box = map (λ x. get_or ls x 0) left_axes in
     let rest = drop (kept_number ls left_axes) i in
     ap (λ ns. product_of ns c.shape left_axes right_axes a c i) sa ∙ ap (λ ns. product_of ls ns left_axes right_axes a c i) sc
-    ∙ ap (folded Sum) (range-same
+    ∙ ap (folded Sum) (map_range_same
     (λ p. combine Mul (a.at (woven 0 ls left_axes i (index_at box p))) (c.at (woven 0 ms right_axes rest (index_at box p))))
     (λ p. combine Mul (b.at (woven 0 ls left_axes i (index_at box p))) (d.at (woven 0 ms right_axes rest (index_at box p)))) (elements box) (λ p e.
     let rs = index_at box p in
     let r : IsIn (map (λ x. get_or ls x 0) left_axes) (index_at (map (λ x. get_or ls x 0) left_axes) p) = index_at-in (map (λ x. get_or ls x 0) left_axes) p e in
-    let back : IsIn (kept_shape 0 ms right_axes) (drop (kept_number ls left_axes) i) = back-in (kept_shape 0 ls left_axes) (kept_shape 0 ms right_axes) i inside in
+    let back : IsIn (kept_shape 0 ms right_axes) (drop (kept_number ls left_axes) i) = in-rest (kept_shape 0 ls left_axes) (kept_shape 0 ms right_axes) i inside in
     pair-same Mul (a.at (woven 0 ls left_axes i rs)) (c.at (woven 0 ms right_axes rest rs)) (b.at (woven 0 ls left_axes i rs)) (d.at (woven 0 ms right_axes rest rs))
     (h (woven 0 ls left_axes i rs) (record {
       operand = refl;
@@ -147,15 +137,9 @@ product-same left right left_axes right_axes a b c d ls ms i sa sb sc sd can ins
 lt-cases : (m n : ℕ) → ((nat_lt m n ≡ true) × (m < n)) ⊎ ((nat_lt m n ≡ false) × (n ≤ m))
 lt-cases m n = by (nat_lt m n) refl
   where
-    below : (m n : ℕ) → nat_lt m n ≡ true → m < n
-    below m n e = grind arith
-
-    above : (m n : ℕ) → nat_lt m n ≡ false → n ≤ m
-    above m n e = grind arith
-
     by : (b : Bool) → nat_lt m n ≡ b → ((nat_lt m n ≡ true) × (m < n)) ⊎ ((nat_lt m n ≡ false) × (n ≤ m))
-    by true e = inl (e, below m n e)
-    by false e = inr (e, above m n e)
+    by true e = inl (e, ltb-true m n e)
+    by false e = inr (e, ltb-false m n e)
 
 pub joined-same : (axis : ℕ) (shape : ℕ → List ℕ) (a b : ℕ → Grid) (of i : List ℕ) → ((k : ℕ) → (a k).shape ≡ shape k) → ((k : ℕ) → (b k).shape ≡ shape k) → axis < length i
     → ((branch k : ℕ) (j : List ℕ) → branch < length of → IsInBranch shape axis of branch i k j → (a k).at j ≡ (b k).at j) → at_along axis (map a of) i ≡ at_along axis (map b of) i
@@ -165,15 +149,12 @@ joined-same axis shape a b (n ∷ of) i sa sb there h =
     ∙ by_case (joined-same axis shape a b of (set i axis (get_or i axis 0 - get_or (shape n) axis 0)) sa sb (omega (arith, there, length-set i axis (get_or i axis 0 - get_or (shape n) axis 0)))) (lt-cases (get_or i axis 0) (get_or (shape n) axis 0))
     ∙ sym (ap (λ ns. cond (nat_lt (get_or i axis 0) (get_or ns axis 0)) ((b n).at i) (at_along axis (map b of) (set i axis (get_or i axis 0 - get_or ns axis 0)))) (sb n))
   where
-    less_zero : (x : ℕ) → x - 0 ≡ x
-    less_zero x = omega arith
-
     here : get_or i axis 0 < get_or (shape n) axis 0 → (a n).at i ≡ (b n).at i
     here l = h 0 n i (omega arith) (record {
       operand = refl;
       low = omega arith;
       high = omega (arith, l);
-      same = sym (ap (set i axis) (less_zero (get_or i axis 0)) ∙ set-get_or i axis 0);
+      same = sym (ap (set i axis) (sub-zero (get_or i axis 0)) ∙ set-get_or i axis 0);
     })
 
     less_both : (x y z : ℕ) → x - y - z ≡ x - (y + z)

@@ -1,7 +1,8 @@
 -- Regions that are widened by what elements use of one operand.
 use Rattle.std.proofs.Common.{◌≡◌, ◌≢◌, ℕ, zero, suc, ◌+◌, ◌-◌, ◌<◌, ◌≤◌, List, [], ◌∷◌, ◌++◌, length, get_or, take, drop, cond, Bool, true, false, refl, ap, sym, subst, ◌∙◌, arith, inl, inr, ◌⊎◌, Option, add-one, append_assoc}
 use Rattle.std.specs.Prelude.{Contains, IsTrue}
-use Rattle.std.proofs.lemmas.List.{take_at, drop_at, length-take-le, drop_more, drop-drop, get_or-drop}
+use Rattle.std.proofs.lemmas.List.{take_at, drop_at, length-take-le, drop_more, drop-drop}
+use Rattle.small_facts.proofs.Lists.{first_of_drop}
 use Rattle.nd_shape.specs.Region.{Box}
 use Rattle.nd_shape.specs.Index.{IsIn}
 use Rattle.nd_shape.proofs.Axes.{IsIn-at}
@@ -14,6 +15,8 @@ use Rattle.input_regions.specs.Uses.{IsAt, IsAlong, kept_number}
 use Rattle.input_regions.specs.Widening.{Widens, AreFull, AreFit, CanAsk, CanHave, IsEither, IsFromTo, IsUsed, end_along}
 use Rattle.input_regions.proofs.Between.{AreBetween, IsBetween, front-in, from-between, from-to-first, from-to-front, from-to-back, from-to-lengths, from-to-with-front, from-to-with-back}
 use Rattle.input_regions.proofs.Widened.{widens-between, widens-same, widens-two, widens-none, widens-fit, fit-full, can-have, shape-limits}
+use Rattle.nd_grid.proofs.Woven.{in-rest}
+use Rattle.plain_eval.proofs.Contracting.{left-kept}
 
 -- ---- one element each
 
@@ -178,9 +181,6 @@ pub record AlongStep (ns axes kept own res : List ℕ) (k used : ℕ) (e gone : 
   pub inside : IsIn (kept_shape (k + 1) (drop (k + 1) ns) axes) (drop (cond gone used (used + 1)) kept)
   pub value : (own ++ cond gone (cond e (get_or ns k 0 - 1) 0) (get_or kept used 0) ∷ []) ++ end_along (k + 1) (drop (k + 1) ns) axes (drop (cond gone used (used + 1)) kept) e ≡ res
 
-first-drop : (xs : List ℕ) (k : ℕ) → get_or (drop k xs) 0 0 ≡ get_or xs k 0
-first-drop xs k = let z : k + 0 ≡ k = omega arith in get_or-drop k xs 0 0 ∙ ap (λ j. get_or xs j 0) z
-
 pub along-step : (ns axes kept own res : List ℕ) (k used : ℕ) (e gone : Bool) → k < length ns → gone ≡ is_among k axes → IsIn (kept_shape k (drop k ns) axes) (drop used kept) → own ++ end_along k (drop k ns) axes (drop used kept) e ≡ res → AlongStep ns axes kept own res k used e gone
 along-step ns axes kept own res k used e gone h b inside value =
     let dn : drop k ns ≡ get_or ns k 0 ∷ drop (k + 1) ns = drop_more ns k 0 h in
@@ -206,7 +206,7 @@ along-step ns axes kept own res k used e gone h b inside value =
           inside = subst (λ m. IsIn (kept_shape m (drop (k + 1) ns) axes) (drop (used + 1) kept)) (sym (add-one k)) (subst (IsIn (kept_shape (suc k) (drop (k + 1) ns) axes)) (sym (next-drop kept used i.0 i.1 i.2)) i.4);
           value = subst (λ m. (own ++ get_or kept used 0 ∷ []) ++ end_along m (drop (k + 1) ns) axes (drop (used + 1) kept) e ≡ res) (sym (add-one k))
               (append_assoc own (get_or kept used 0 ∷ []) _
-              ∙ ap (λ x. own ++ x ∷ end_along (suc k) (drop (k + 1) ns) axes (drop (used + 1) kept) e) (sym (first-drop kept used))
+              ∙ ap (λ x. own ++ x ∷ end_along (suc k) (drop (k + 1) ns) axes (drop (used + 1) kept) e) (sym (first_of_drop kept used))
               ∙ ap (λ xs. own ++ get_or (drop used kept) 0 0 ∷ end_along (suc k) (drop (k + 1) ns) axes xs e) (sym (drop-drop 1 used kept))
               ∙ whole);
         }
@@ -244,23 +244,13 @@ front-of-both [] ms (i ∷ is) rest e h = absurd (omega (arith, e))
 front-of-both (n ∷ ns) ms [] rest e h = absurd (omega (arith, e))
 front-of-both (n ∷ ns) ms (i ∷ is) rest e h = (h.0, front-of-both ns ms is rest (omega (arith, e)) h.1)
 
-back-of-both : (ns ms is : List ℕ) → IsIn (ns ++ ms) is → IsIn ms (drop (length ns) is)
-back-of-both [] ms is h = h
-back-of-both (n ∷ ns) ms [] h = absurd h
-back-of-both (n ∷ ns) ms (i ∷ is) h = back-of-both ns ms is h.1
-
 pub front-inside : (ns ms first last : List ℕ) (n : ℕ) → n ≡ length ns → n ≤ length first → IsFromTo first last last → ((i : List ℕ) → IsFromTo first last i → IsIn (ns ++ ms) i) → (i : List ℕ) → IsFromTo (take n first) (take n last) i → IsIn ns i
 front-inside ns ms first last n e h o inside i f =
     front-of-both ns ms i (drop n first) ((from-to-lengths (take n first) (take n last) i f).1 ∙ length-take-le n first h ∙ e) (inside (i ++ drop n first) (from-to-with-front n first last i h o f))
 
 pub back-inside : (ns ms first last : List ℕ) (n : ℕ) → n ≡ length ns → n ≤ length first → IsFromTo first last last → ((i : List ℕ) → IsFromTo first last i → IsIn (ns ++ ms) i) → (i : List ℕ) → IsFromTo (drop n first) (drop n last) i → IsIn ms i
 back-inside ns ms first last n e h o inside i f =
-    subst (IsIn ms) (ap (λ m. drop m (take n first ++ i)) (sym e) ∙ drop_at (take n first) i n (length-take-le n first h)) (back-of-both ns ms (take n first ++ i) (inside (take n first ++ i) (from-to-with-back n first last i h o f)))
+    subst (IsIn ms) (ap (λ m. drop m (take n first ++ i)) (sym e) ∙ drop_at (take n first) i n (length-take-le n first h)) (in-rest ns ms (take n first ++ i) (inside (take n first ++ i) (from-to-with-back n first last i h o f)))
 
 pub both-number : (ns ms first last : List ℕ) → IsFromTo first last last → ((i : List ℕ) → IsFromTo first last i → IsIn (ns ++ ms) i) → (length ns ≤ length first) × (length ns ≤ length last)
-both-number ns ms first last o inside = (enough ns ms first (inside first (from-to-first first last last o)), enough ns ms last (inside last o))
-  where
-    enough : (ns ms is : List ℕ) → IsIn (ns ++ ms) is → length ns ≤ length is
-    enough [] ms is h = omega arith
-    enough (n ∷ ns) ms [] h = absurd h
-    enough (n ∷ ns) ms (i ∷ is) h = let r : length ns ≤ length is = enough ns ms is h.1 in omega (arith, r)
+both-number ns ms first last o inside = (left-kept ns ms first (inside first (from-to-first first last last o)), left-kept ns ms last (inside last o))

@@ -1,5 +1,5 @@
 -- Regions that are widened: by one index, by two sets, and by all that lies between two indexes.
-use Rattle.std.proofs.Common.{◌≡◌, ◌≢◌, ℕ, suc, ◌+◌, ◌<◌, ◌≤◌, ◌^◌, List, [], ◌∷◌, length, get_or, set, refl, ap, sym, subst, ◌∙◌, arith, inl, inr, ◌⊎◌, Option, Some, None}
+use Rattle.std.proofs.Common.{◌≡◌, ◌≢◌, ℕ, ◌+◌, ◌<◌, ◌≤◌, ◌^◌, List, [], ◌∷◌, length, get_or, set, refl, ap, sym, subst, ◌∙◌, arith, inl, inr, ◌⊎◌, Option, Some, None}
 use Rattle.std.proofs.lemmas.List.{get_or-set_same, get_or-set_other, get_or_past, get_or_default, length-set, get_or-map, length-map}
 use Rattle.std.proofs.lemmas.Bool.{cases_eq, cases_lt}
 use Rattle.std.proofs.lemmas.Option.{slice_get-get_or}
@@ -7,7 +7,7 @@ use Rattle.nd_shape.specs.Region.{Box, IsPart}
 use Rattle.nd_shape.specs.Shape.{IsShape}
 use Rattle.nd_shape.specs.Index.{IsIn}
 use Rattle.nd_shape.proofs.Places.{IsIn-length}
-use Rattle.nd_shape.proofs.Axes.{IsIn-at}
+use Rattle.nd_shape.proofs.Axes.{IsIn-at, IsIn-from}
 use Rattle.array_expr.specs.declared.expr.Node.{Node}
 use Rattle.array_expr.specs.Node.{IsExpression, shape_at, shapes_of}
 use Rattle.input_regions.specs.Boxes.{IsInBox, IsInRegion, IsLeastBox, IsLeast}
@@ -174,13 +174,7 @@ least-part P dims box inside l =
     }
 
 pub filled-in : (dims : List ℕ) (box : Box) (j : List ℕ) → IsPart box dims → IsInBox box j → IsIn dims j
-filled-in dims box j p b = inside dims j (b.axes ∙ p.starts) (λ a h. omega (arith, b.high a (omega (arith, p.starts)), p.ends a h))
-  where
-    inside : (ns is : List ℕ) → length is ≡ length ns → ((k : ℕ) → k < length ns → get_or is k 0 < get_or ns k 0) → IsIn ns is
-    inside [] [] e h = tt
-    inside [] (i ∷ is) e h = absurd (omega (arith, e))
-    inside (n ∷ ns) [] e h = absurd (omega (arith, e))
-    inside (n ∷ ns) (i ∷ is) e h = (h 0 (omega arith), inside ns is (omega (arith, e)) (λ k b. h (suc k) (omega (arith, b))))
+filled-in dims box j p b = IsIn-from dims j (b.axes ∙ p.starts) (λ a h. omega (arith, b.high a (omega (arith, p.starts)), p.ends a h))
 
 pub region-in : (dims : List ℕ) (r : Option Box) (j : List ℕ) → ((box : Box) → r ≡ Some box → IsFilledPart dims box) → IsInRegion r j → IsIn dims j
 region-in dims None j f h = absurd h

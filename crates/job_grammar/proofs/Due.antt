@@ -1,6 +1,9 @@
 -- Where a token is refused, the actions before it are all that can be done.
 use Rattle.std.proofs.Common.{◌≡◌, ℕ, zero, suc, ◌<◌, ◌≤◌, ◌+◌, Bool, true, false, nat_eq, List, [], ◌∷◌, ◌++◌, inl, inr, length, Some, None, refl, sym, subst, ◌∙◌, arith}
 use Rattle.std.specs.Prelude.{Option}
+use Rattle.std.proofs.lemmas.Option.{same_Some}
+use Rattle.small_facts.proofs.Lists.{cons_not_nil, same_tail}
+use Rattle.small_facts.proofs.Options.{some_not_none}
 use Rattle.grammar.specs.declared.symbol.Symbol.{Symbol}
 use Rattle.grammar.specs.declared.symbol.Symbol.TheVariants.{Token, Part, Action}
 use Rattle.grammar.specs.Grammars.{Grammar, Event, took, did, did_all, Derives, on_next, turned, taken_if, effort, Step, taken, refused, doing, after_move, step_in, step}
@@ -17,7 +20,7 @@ pub record Due (r : Rows) (c : Certificate) (kind : ℕ → ℕ) (s : List Symbo
   pub onward : (es : List Event) → Derives (grammar_of r) kind left es → Derives (grammar_of r) kind s (did_all actions ++ es)
   pub stuck : (a : ℕ) (es : List Event) → Derives (grammar_of r) kind s (did_all actions ++ did a ∷ es) → ⊥
 
-effort-some : (g : Grammar) (s : List Symbol) → 0 < effort g s
+pub effort-some : (g : Grammar) (s : List Symbol) → 0 < effort g s
 effort-some g [] = omega arith
 effort-some g (Token k ∷ s) = omega arith
 effort-some g (Action a ∷ s) = omega arith
@@ -26,7 +29,7 @@ effort-some g (Part p ∷ s) = omega (arith, effort-some g s)
 refused-actions : (actions : List ℕ) → refused [] ≡ refused actions → actions ≡ []
 refused-actions actions e = cc
 
-doing-refused : (a : ℕ) (x : Step) (actions : List ℕ) → doing a x ≡ refused actions → (more : List ℕ) × (x ≡ refused more) × (actions ≡ a ∷ more)
+pub doing-refused : (a : ℕ) (x : Step) (actions : List ℕ) → doing a x ≡ refused actions → (more : List ℕ) × (x ≡ refused more) × (actions ≡ a ∷ more)
 doing-refused a (taken more left) actions e = cc
 doing-refused a (refused more) actions e = let q : actions ≡ a ∷ more = cc in (more, refl, q)
 
@@ -35,38 +38,23 @@ first-did : (actions : List ℕ) (a : ℕ) (es : List Event) → (b : ℕ) × (f
 first-did [] a es = (a, es, refl)
 first-did (b ∷ actions) a es = (b, did_all actions ++ did a ∷ es, refl)
 
-nothing-first : (g : Grammar) (kind : ℕ → ℕ) (a : ℕ) (es : List Event) → Derives g kind [] (did a ∷ es) → ⊥
-nothing-first g kind a es (zero, d) = no d.1
-  where
-    no : did a ∷ es ≡ [] → ⊥
-    no e = cc
+pub nothing-first : (g : Grammar) (kind : ℕ → ℕ) (a : ℕ) (es : List Event) → Derives g kind [] (did a ∷ es) → ⊥
+nothing-first g kind a es (zero, d) = cons_not_nil (did a) es d.1
 nothing-first g kind a es (suc n, d) = d
 
-token-first : (g : Grammar) (kind : ℕ → ℕ) (k a : ℕ) (s : List Symbol) (es : List Event) → Derives g kind (Token k ∷ s) (did a ∷ es) → ⊥
-token-first g kind k a s es (zero, d) = no d.1
-  where
-    no : did a ∷ es ≡ [] → ⊥
-    no e = cc
+pub token-first : (g : Grammar) (kind : ℕ → ℕ) (k a : ℕ) (s : List Symbol) (es : List Event) → Derives g kind (Token k ∷ s) (did a ∷ es) → ⊥
+token-first g kind k a s es (zero, d) = cons_not_nil (did a) es d.1
 token-first g kind k a s es (suc n, d) = no d.0 d.1 d.2
   where
     no : (t : ℕ) (more : List Event) → did a ∷ es ≡ took t ∷ more → ⊥
     no t more e = cc
 
 action-first : (g : Grammar) (kind : ℕ → ℕ) (b a : ℕ) (s : List Symbol) (es : List Event) → Derives g kind (Action b ∷ s) (did a ∷ es) → Derives g kind s es
-action-first g kind b a s es (zero, d) = absurd (no d.1)
-  where
-    no : did a ∷ es ≡ [] → ⊥
-    no e = cc
-action-first g kind b a s es (suc n, d) = subst (λ x. Derives g kind s x) (sym (same d.0 d.1)) (n, d.2)
-  where
-    same : (more : List Event) → did a ∷ es ≡ did b ∷ more → es ≡ more
-    same more e = cc
+action-first g kind b a s es (zero, d) = absurd (cons_not_nil (did a) es d.1)
+action-first g kind b a s es (suc n, d) = subst (λ x. Derives g kind s x) (sym (same_tail (did a) (did b) es d.0 d.1)) (n, d.2)
 
 part-first : (g : Grammar) (kind : ℕ → ℕ) (p a : ℕ) (s : List Symbol) (es : List Event) → Derives g kind (Part p ∷ s) (did a ∷ es) → (rule : List Symbol) × (g.other p ≡ Some rule) × Derives g kind (rule ++ s) (did a ∷ es)
-part-first g kind p a s es (zero, d) = absurd (no d.1)
-  where
-    no : did a ∷ es ≡ [] → ⊥
-    no e = cc
+part-first g kind p a s es (zero, d) = absurd (cons_not_nil (did a) es d.1)
 part-first g kind p a s es (suc n, d) = elim d [
   | inl x ↦ absurd (no x.0 x.1 x.3)
   | inr x ↦ (x.0, x.1, (n, x.2))
@@ -132,12 +120,9 @@ due-in r c l m kind (suc n) (Part p ∷ s) next actions names h e = by-rules (on
           stuck = λ a es d.
               let f = first-did actions a es in
               let x = part-first (grammar_of r) kind p f.0 s f.1 (subst (λ z. Derives (grammar_of r) kind (Part p ∷ s) z) f.2 d) in
-              let same : x.0 ≡ rule = some-is x.0 rule (sym x.1 ∙ is) in
+              let same : x.0 ≡ rule = same_Some x.0 rule (sym x.1 ∙ is) in
               y.stuck a es (subst (λ z. Derives (grammar_of r) kind (z ++ s) (did_all actions ++ did a ∷ es)) same (subst (λ z. Derives (grammar_of r) kind (x.0 ++ s) z) (sym f.2) x.2));
         }
-      where
-        some-is : (a b : List Symbol) → Some a ≡ Some b → a ≡ b
-        some-is a b e = cc
     by-rules None None again is q =
         let q' = refused-actions actions q in
         record {
@@ -146,11 +131,8 @@ due-in r c l m kind (suc n) (Part p ∷ s) next actions names h e = by-rules (on
           onward = λ es d. subst (λ x. Derives (grammar_of r) kind (Part p ∷ s) (did_all x ++ es)) (sym q') d;
           stuck = λ a es d.
               let x = part-first (grammar_of r) kind p a s es (subst (λ y. Derives (grammar_of r) kind (Part p ∷ s) (did_all y ++ did a ∷ es)) q' d) in
-              no x.0 (sym x.1 ∙ is);
+              some_not_none x.0 (sym x.1 ∙ is);
         }
-      where
-        no : (a : List Symbol) → Some a ≡ None → ⊥
-        no a e = cc
 
 pub due : (r : Rows) (c : Certificate) → is_ll1 r c ≡ true → moves_end r ≡ true → (kind : ℕ → ℕ) (s : List Symbol) (next : Option ℕ) (actions : List ℕ) → named c.kinds (length r.on) s ≡ true → step (grammar_of r) s next ≡ refused actions → Due r c kind s actions
 unfolding step

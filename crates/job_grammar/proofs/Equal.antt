@@ -1,12 +1,15 @@
 -- Rows that pass the test `rows_same` derive what the grammar derives.
-use Rattle.std.proofs.Common.{◌≡◌, ℕ, zero, suc, ◌<◌, ◌≤◌, ◌+◌, Bool, true, false, cond, nat_eq, is_some, List, [], ◌∷◌, ◌++◌, ◌⊎◌, inl, inr, length, Some, None, refl, ap, sym, subst, ◌∙◌, arith, append_assoc}
+use Rattle.std.proofs.Common.{◌≡◌, ℕ, zero, suc, ◌<◌, ◌≤◌, ◌+◌, Bool, true, false, cond, is_some, List, [], ◌∷◌, ◌++◌, ◌⊎◌, inl, inr, length, Some, None, refl, ap, sym, subst, ◌∙◌, arith, append_assoc}
 use Rattle.std.specs.Prelude.{Option, slice_get, nat_lt}
+use Rattle.std.proofs.lemmas.Bool.{and_parts, eqb-true}
+use Rattle.std.proofs.lemmas.Option.{same_Some}
+use Rattle.small_facts.proofs.Numbers.{eqb_self}
 use Rattle.grammar.specs.declared.symbol.Symbol.{Symbol}
 use Rattle.grammar.specs.declared.symbol.Symbol.TheVariants.{Token, Part, Action}
 use Rattle.grammar.specs.Grammars.{Grammar, Event, took, did, DerivesIn, Derives, cost}
 use Rattle.grammar.specs.Tables.{Rows, rule_maybe, entry_rule, on_row, grammar_of, all_at, moves_end}
 use Rattle.grammar.specs.Tests.{Certificate, named, is_ll1}
-use Rattle.grammar.proofs.Checked.{both, all_at-first, on-ok, other-ok, other-found, rows-bounded}
+use Rattle.grammar.proofs.Checked.{all_at-first, on-ok, other-ok, other-found, rows-bounded}
 use Rattle.grammar.proofs.Texts.{named-append, named-rest}
 use Rattle.grammar.proofs.Derivations.{derives-nothing, derives-token, derives-action, derives-on, derives-other}
 use Rattle.job_grammar.specs.Phrases.{Phrase, token, action, Has}
@@ -16,21 +19,15 @@ use Rattle.job_grammar.proofs.Ways.{has-token, has-action, token-has, action-has
 
 -- ---- the lists of the test
 
-same-number : (j k : ℕ) → nat_eq j k ≡ true → j ≡ k
-same-number j k h = grind arith
-
-number-same : (k : ℕ) → nat_eq k k ≡ true
-number-same k = grind arith
-
 begins-token : (w : List Phrase) (k : ℕ) → is_kind (begins_with w) k ≡ true → w ≡ token k ∷ rest w
 begins-token [] k h = cc
-begins-token (token j ∷ s) k h = ap (λ i. token i ∷ s) (same-number j k h)
+begins-token (token j ∷ s) k h = ap (λ i. token i ∷ s) (eqb-true j k h)
 begins-token (_ ∷ s) k h = cc
 
 pub behind-in : (k : ℕ) (ways : List (List Phrase)) (t : List Phrase) → In (token k ∷ t) ways → In t (behind_token k ways)
 behind-in k [] t m = absurd m
 behind-in k (w ∷ ways) t m = elim m [
-  | inl e ↦ first (is_kind (begins_with w) k) (subst (λ x. is_kind (begins_with x) k ≡ true) e (number-same k)) (ap rest e)
+  | inl e ↦ first (is_kind (begins_with w) k) (subst (λ x. is_kind (begins_with x) k ≡ true) e (eqb_self k)) (ap rest e)
   | inr n ↦ later (is_kind (begins_with w) k) (behind-in k ways t n)
 ]
   where
@@ -121,7 +118,7 @@ part-same rule n meaning r p row h g = by-ways (heads rule n (meaning p)) refl (
     by-ways : (o : Option (List (List Phrase))) → heads rule n (meaning p) ≡ o → row_same rule n meaning r p row o ≡ true → PartSame rule n meaning r p row
     by-ways None e h = cc
     by-ways (Some ways) e h =
-        let b = both (all_at (λ k o. same_on rule n meaning ways k (rule_maybe r o)) 0 row) (same_other rule n meaning (not_taken r row ways) (entry_rule r (slice_get r.other p))) h in
+        let b = and_parts (all_at (λ k o. same_on rule n meaning ways k (rule_maybe r o)) 0 row) (same_other rule n meaning (not_taken r row ways) (entry_rule r (slice_get r.other p))) h in
         record {
           ways = ways;
           are = e;
@@ -129,14 +126,11 @@ part-same rule n meaning r p row h g = by-ways (heads rule n (meaning p)) refl (
           other = λ s is. are-same (Some (not_taken r row ways)) (heads rule n (phrases meaning s)) (subst (λ o. same_other rule n meaning (not_taken r row ways) o ≡ true) is b.1);
           no_other = λ is w m.
               let x = are-same (Some (not_taken r row ways)) (Some []) (subst (λ o. same_other rule n meaning (not_taken r row ways) o ≡ true) is b.1) in
-              let l : not_taken r row ways ≡ x.left = some-is (not_taken r row ways) x.left x.left_is in
-              let q : [] ≡ x.right = some-is [] x.right x.right_is in
+              let l : not_taken r row ways ≡ x.left = same_Some (not_taken r row ways) x.left x.left_is in
+              let q : [] ≡ x.right = same_Some [] x.right x.right_is in
               subst (λ z. In w z) (sym q) (x.onward w (subst (λ z. In w z) l m));
         }
       where
-        some-is : (a b : List (List Phrase)) → Some a ≡ Some b → a ≡ b
-        some-is a b e = cc
-
         by-entry : (k : ℕ) (s : List Symbol) (o : Option (Option ℕ)) → slice_get row k ≡ o → entry_rule r (slice_get row k) ≡ Some s → all_at (λ k o. same_on rule n meaning ways k (rule_maybe r o)) 0 row ≡ true → AreSame (all_heads rule n (behind_token k ways)) (heads rule n (phrases meaning s))
         by-entry k s None e is t =
             let x : entry_rule r None ≡ Some s = subst (λ z. entry_rule r z ≡ Some s) e is in absurd (none x)
@@ -149,9 +143,6 @@ part-same rule n meaning r p row h g = by-ways (heads rule n (meaning p)) refl (
             are-same (all_heads rule n (behind_token k ways)) (heads rule n (phrases meaning s)) (subst (λ z. same_on rule n meaning ways k z ≡ true) x y)
 
 -- ---- each part derives what it stands for
-
-some-of : (a b : List (List Phrase)) → Some a ≡ Some b → a ≡ b
-some-of a b e = cc
 
 -- the row of a part that has a rule
 row-found : (r : Rows) (p k : ℕ) (s : List Symbol) → (grammar_of r).on p k ≡ Some s → (row : List (Option ℕ)) × (slice_get r.on p ≡ Some row) × (entry_rule r (slice_get row k) ≡ Some s)
@@ -178,7 +169,7 @@ other-has rule n meaning r h p row s t es g is d =
     let ps = part-same rule n meaning r p row h g in
     let a = ps.other s is in
     let x = has-way rule n (phrases meaning s) (phrases meaning t) a.right es a.right_is (subst (λ z. Has rule z es) (phrases-append meaning s t) d) in
-    let l : a.left ≡ not_taken r row ps.ways = sym (some-of (not_taken r row ps.ways) a.left a.left_is) in
+    let l : a.left ≡ not_taken r row ps.ways = sym (same_Some (not_taken r row ps.ways) a.left a.left_is) in
     let m : In x.way ps.ways = not-taken-in r row ps.ways x.way (subst (λ z. In x.way z) l (a.back x.way x.among)) in
     way-has rule n (meaning p) (phrases meaning t) x.way ps.ways ps.are m es x.has
 
@@ -195,7 +186,7 @@ row-below (x ∷ xs) (suc q) h = row-below xs q (less q (length xs) h)
     less q m h = grind arith
 
 row-of : (r : Rows) (c : Certificate) (p : ℕ) (s : List Symbol) → named c.kinds (length r.on) (Part p ∷ s) ≡ true → (row : List (Option ℕ)) × (slice_get r.on p ≡ Some row)
-row-of r c p s h = row-below r.on p (both (nat_lt p (length r.on)) (named c.kinds (length r.on) s) h).0
+row-of r c p s h = row-below r.on p (and_parts (nat_lt p (length r.on)) (named c.kinds (length r.on) s) h).0
 
 abbrev K : ℕ → ℕ
 K k = k
@@ -302,7 +293,7 @@ has-at rule n meaning r c h l e a shorts (suc b) (Part p ∷ s) es names short l
     by-other row g ps x m again None is = absurd (ps.no_other is x.way m)
     by-other row g ps x m again (Some q) is =
         let same = ps.other q is in
-        let left : not_taken r row ps.ways ≡ same.left = some-of (not_taken r row ps.ways) same.left same.left_is in
+        let left : not_taken r row ps.ways ≡ same.left = same_Some (not_taken r row ps.ways) same.left same.left_is in
         let done : Has rule (phrases meaning q ++ phrases meaning s) es = way-has rule n (phrases meaning q) (phrases meaning s) x.way same.right same.right_is (same.onward x.way (subst (λ z. In x.way z) left m)) es x.has in
         let names' = named-append c.kinds (length r.on) q s (other-ok r c p q (other-found r p q is) l).named_ok (named-rest c.kinds (length r.on) (Part p) s names) in
         let less : cost (grammar_of r) (q ++ s) < b = omega (arith, cost-append (grammar_of r) q s, (rows-bounded r e).below p q is) in

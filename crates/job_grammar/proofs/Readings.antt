@@ -1,6 +1,7 @@
 -- What a reader's steps mean for the texts of the grammar.
 use Rattle.std.proofs.Common.{◌≡◌, ℕ, ◌<◌, ◌≤◌, ◌+◌, true, List, [], ◌∷◌, ◌++◌, length, Some, None, Ok, Result, refl, ap, sym, subst, ◌∙◌, arith, append_assoc}
 use Rattle.std.specs.Prelude.{Option, IfOk}
+use Rattle.std.proofs.lemmas.List.{append_cancel_left}
 use Rattle.grammar.specs.declared.symbol.Symbol.{Symbol}
 use Rattle.grammar.specs.declared.symbol.Symbol.TheVariants.{Part}
 use Rattle.grammar.specs.declared.reply.Reply.{Reply}
@@ -85,15 +86,8 @@ due-actions past left next actions r e =
       no_other = λ a es j.
           let whole : List Event = did_all actions ++ did a ∷ es in
           let x = r.leaves.back (past ++ whole) (tokens whole) (of-job (past ++ whole) j) (tokens-append past whole) in
-          d.stuck a es (subst (λ y. Derives (grammar_of job_rows) itself left y) (cut past x.0 whole (sym x.1)) x.3);
+          d.stuck a es (subst (λ y. Derives (grammar_of job_rows) itself left y) (append_cancel_left past x.0 whole (sym x.1)) x.3);
     }
-  where
-    cut : (p v w : List Event) → p ++ v ≡ p ++ w → v ≡ w
-    cut [] v w e = e
-    cut (x ∷ p) v w e = cut p v w (tail x (p ++ v) (p ++ w) e)
-      where
-        tail : (x : Event) (a b : List Event) → x ∷ a ≡ x ∷ b → a ≡ b
-        tail x a b e = cc
 
 pub whole-job : (past : List Event) (left after : List Symbol) (actions : List ℕ) → IsReading past left → step (grammar_of job_rows) left None ≡ taken actions after → IsWhole (past ++ did_all actions)
 whole-job past left after actions r e =

@@ -1,23 +1,20 @@
 -- Phrases that pass the test `same` are the same, and so are sets of lists of them.
-use Rattle.std.proofs.Common.{◌≡◌, ℕ, ◌+◌, Bool, true, false, cond, nat_eq, List, [], ◌∷◌, ◌++◌, ◌⊎◌, inl, inr, map, Some, None, refl, ap, sym, subst, ◌∙◌, arith}
+use Rattle.std.proofs.Common.{◌≡◌, ◌+◌, Bool, true, false, cond, List, [], ◌∷◌, ◌++◌, ◌⊎◌, inl, inr, map, Some, None, refl, ap, sym, subst, ◌∙◌}
 use Rattle.std.specs.Prelude.{Option}
-use Rattle.grammar.proofs.Checked.{both}
+use Rattle.std.proofs.lemmas.Bool.{and_parts, eqb-true}
 use Rattle.job_grammar.specs.Phrases.{Phrase, token, action, named, nothing, then, or, many}
 use Rattle.job_grammar.specs.Heads.{same, same_all, is_among, are_among, same_ways, joined, each_behind}
 
-same-number : (j k : ℕ) → nat_eq j k ≡ true → j ≡ k
-same-number j k h = grind arith
-
 pub same-is : (x y : Phrase) → same x y ≡ true → x ≡ y
-same-is (token j) (token k) h = ap token (same-number j k h)
-same-is (action a) (action b) h = ap action (same-number a b h)
-same-is (named p) (named q) h = ap named (same-number p q h)
+same-is (token j) (token k) h = ap token (eqb-true j k h)
+same-is (action a) (action b) h = ap action (eqb-true a b h)
+same-is (named p) (named q) h = ap named (eqb-true p q h)
 same-is nothing nothing h = refl
 same-is (then a b) (then c d) h =
-    let e = both (same a c) (same b d) h in
+    let e = and_parts (same a c) (same b d) h in
     ap (λ x. then x b) (same-is a c e.0) ∙ ap (λ x. then c x) (same-is b d e.1)
 same-is (or a b) (or c d) h =
-    let e = both (same a c) (same b d) h in
+    let e = and_parts (same a c) (same b d) h in
     ap (λ x. or x b) (same-is a c e.0) ∙ ap (λ x. or c x) (same-is b d e.1)
 same-is (many a) (many b) h = ap many (same-is a b h)
 same-is _ _ h = cc
@@ -27,7 +24,7 @@ same_all-is [] [] h = refl
 same_all-is [] (y ∷ ys) h = cc
 same_all-is (x ∷ xs) [] h = cc
 same_all-is (x ∷ xs) (y ∷ ys) h =
-    let e = both (same x y) (same_all xs ys) h in
+    let e = and_parts (same x y) (same_all xs ys) h in
     ap (λ z. z ∷ xs) (same-is x y e.0) ∙ ap (λ zs. y ∷ zs) (same_all-is xs ys e.1)
 
 -- x is one of these
@@ -66,7 +63,7 @@ among x (y ∷ ys) h = by-test (same_all x y) refl (among x ys) h
 pub all-among : (xs ys : List (List Phrase)) → are_among xs ys ≡ true → (x : List Phrase) → In x xs → In x ys
 all-among [] ys h x m = absurd m
 all-among (z ∷ xs) ys h x m =
-    let e = both (is_among z ys) (are_among xs ys) h in
+    let e = and_parts (is_among z ys) (are_among xs ys) h in
     elim m [ inl q ↦ subst (λ w. In w ys) (sym q) (among z ys e.0) | inr n ↦ all-among xs ys e.1 x n ]
 
 -- two lists of ways, with the same elements
@@ -82,7 +79,7 @@ pub are-same : (a b : Option (List (List Phrase))) → same_ways a b ≡ true �
 are-same None b h = cc
 are-same (Some xs) None h = cc
 are-same (Some xs) (Some ys) h =
-    let e = both (are_among xs ys) (are_among ys xs) h in
+    let e = and_parts (are_among xs ys) (are_among ys xs) h in
     record { left = xs; right = ys; left_is = refl; right_is = refl; onward = all-among xs ys e.0; back = all-among ys xs e.1 }
 
 pub record AreJoined (a b : Option (List (List Phrase))) (all : List (List Phrase)) : Type 0 where

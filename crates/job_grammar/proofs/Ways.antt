@@ -1,6 +1,7 @@
 -- What begins in one of the ways of some phrases is what they derive.
 use Rattle.std.proofs.Common.{◌≡◌, ℕ, zero, suc, ◌+◌, List, [], ◌∷◌, ◌++◌, inl, inr, Some, None, refl, ap, sym, subst, ◌∙◌}
 use Rattle.std.specs.Prelude.{Option}
+use Rattle.small_facts.proofs.Lists.{cons_not_nil}
 use Rattle.grammar.specs.Grammars.{Event, took, did}
 use Rattle.job_grammar.specs.Phrases.{Phrase, token, action, named, nothing, then, or, many, HasIn, Has}
 use Rattle.job_grammar.specs.Heads.{flat_before, flat, heads}
@@ -15,17 +16,11 @@ pub has-action : (rule : ℕ → Phrase) (a : ℕ) (s : List Phrase) (es : List 
 has-action rule a s es d = (suc d.0, (es, refl, d.1))
 
 pub token-has : (rule : ℕ → Phrase) (k : ℕ) (s : List Phrase) (es : List Event) → Has rule (token k ∷ s) es → (more : List Event) × (es ≡ took k ∷ more) × Has rule s more
-token-has rule k s es (zero, d) = absurd (no-cons (d.0))
-  where
-    no-cons : token k ∷ s ≡ [] → ⊥
-    no-cons e = cc
+token-has rule k s es (zero, d) = absurd (cons_not_nil (token k) s (d.0))
 token-has rule k s es (suc n, d) = (d.0, d.1, (n, d.2))
 
 pub action-has : (rule : ℕ → Phrase) (a : ℕ) (s : List Phrase) (es : List Event) → Has rule (action a ∷ s) es → (more : List Event) × (es ≡ did a ∷ more) × Has rule s more
-action-has rule a s es (zero, d) = absurd (no-cons (d.0))
-  where
-    no-cons : action a ∷ s ≡ [] → ⊥
-    no-cons e = cc
+action-has rule a s es (zero, d) = absurd (cons_not_nil (action a) s (d.0))
 action-has rule a s es (suc n, d) = (d.0, d.1, (n, d.2))
 
 has-named : (rule : ℕ → Phrase) (p : ℕ) (s : List Phrase) (es : List Event) → Has rule (rule p ∷ s) es → Has rule (named p ∷ s) es
@@ -57,10 +52,7 @@ Onto rule s s' = (es : List Event) → Has rule s es → Has rule s' es
 
 behind-in : (rule : ℕ → Phrase) (n : ℕ) (q s s' : List Phrase) → Onto rule s s' → (es : List Event) → HasIn rule n (q ++ s) es → Has rule (q ++ s') es
 behind-in rule n [] s s' f es d = f es (n, d)
-behind-in rule zero (x ∷ q) s s' f es d = absurd (no-cons d.0)
-  where
-    no-cons : x ∷ (q ++ s) ≡ [] → ⊥
-    no-cons e = cc
+behind-in rule zero (x ∷ q) s s' f es d = absurd (cons_not_nil x (q ++ s) d.0)
 behind-in rule (suc n) (token k ∷ q) s s' f es d = subst (λ x. Has rule (token k ∷ (q ++ s')) x) (sym d.1) (has-token rule k (q ++ s') d.0 (behind-in rule n q s s' f d.0 d.2))
 behind-in rule (suc n) (action a ∷ q) s s' f es d = subst (λ x. Has rule (action a ∷ (q ++ s')) x) (sym d.1) (has-action rule a (q ++ s') d.0 (behind-in rule n q s s' f d.0 d.2))
 behind-in rule (suc n) (named p ∷ q) s s' f es d = has-named rule p (q ++ s') es (behind-in rule n (rule p ∷ q) s s' f es d)
@@ -79,17 +71,11 @@ pub behind : (rule : ℕ → Phrase) (q s s' : List Phrase) → Onto rule s s' �
 behind rule q s s' f es d = behind-in rule d.0 q s s' f es d.1
 
 nothing-has : (rule : ℕ → Phrase) (s : List Phrase) → Onto rule (nothing ∷ s) s
-nothing-has rule s es (zero, d) = absurd (no-cons d.0)
-  where
-    no-cons : nothing ∷ s ≡ [] → ⊥
-    no-cons e = cc
+nothing-has rule s es (zero, d) = absurd (cons_not_nil nothing s d.0)
 nothing-has rule s es (suc n, d) = (n, d)
 
 then-has : (rule : ℕ → Phrase) (a b : Phrase) (s : List Phrase) → Onto rule (then a b ∷ s) (a ∷ b ∷ s)
-then-has rule a b s es (zero, d) = absurd (no-cons d.0)
-  where
-    no-cons : then a b ∷ s ≡ [] → ⊥
-    no-cons e = cc
+then-has rule a b s es (zero, d) = absurd (cons_not_nil (then a b) s d.0)
 then-has rule a b s es (suc n, d) = (n, d)
 
 flat_before-onto : (rule : ℕ → Phrase) (x : Phrase) (s : List Phrase) → Onto rule (x ∷ s) (flat_before x s)
@@ -194,17 +180,11 @@ has-way rule (suc n) (action a ∷ s) t ways es e d =
       among = subst (λ z. In (action a ∷ y.way) z) (sym b.2) (in-map (λ (z : List Phrase). action a ∷ z) y.way b.0 y.among);
       has = subst (λ z. Has rule (action a ∷ (y.way ++ t)) z) (sym x.1) (has-action rule a (y.way ++ t) x.0 y.has);
     }
-has-way rule (suc n) (named p ∷ s) t ways es e (zero, d) = absurd (no-cons d.0)
-  where
-    no-cons : named p ∷ (s ++ t) ≡ [] → ⊥
-    no-cons e = cc
+has-way rule (suc n) (named p ∷ s) t ways es e (zero, d) = absurd (cons_not_nil (named p) (s ++ t) d.0)
 has-way rule (suc n) (named p ∷ s) t ways es e (suc m, d) = has-way rule n (rule p ∷ s) t ways es e (m, d)
 has-way rule (suc n) (nothing ∷ s) t ways es e d = has-way rule n s t ways es e (nothing-has rule (s ++ t) es d)
 has-way rule (suc n) (then a b ∷ s) t ways es e d = has-way rule n (a ∷ b ∷ s) t ways es e (then-has rule a b (s ++ t) es d)
-has-way rule (suc n) (or a b ∷ s) t ways es e (zero, d) = absurd (no-cons d.0)
-  where
-    no-cons : or a b ∷ (s ++ t) ≡ [] → ⊥
-    no-cons e = cc
+has-way rule (suc n) (or a b ∷ s) t ways es e (zero, d) = absurd (cons_not_nil (or a b) (s ++ t) d.0)
 has-way rule (suc n) (or a b ∷ s) t ways es e (suc m, d) =
     let j = are-joined (heads rule n (a ∷ s)) (heads rule n (b ∷ s)) ways e in
     elim d [
@@ -213,10 +193,7 @@ has-way rule (suc n) (or a b ∷ s) t ways es e (suc m, d) =
       | inr h ↦ let x = has-way rule n (b ∷ s) t j.right es j.right_is (m, h) in
           record { way = x.way; among = subst (λ z. In x.way z) (sym j.all_is) (in-right x.way j.left j.right x.among); has = x.has }
     ]
-has-way rule (suc n) (many a ∷ s) t ways es e (zero, d) = absurd (no-cons d.0)
-  where
-    no-cons : many a ∷ (s ++ t) ≡ [] → ⊥
-    no-cons e = cc
+has-way rule (suc n) (many a ∷ s) t ways es e (zero, d) = absurd (cons_not_nil (many a) (s ++ t) d.0)
 has-way rule (suc n) (many a ∷ s) t ways es e (suc m, d) =
     let j = are-joined (heads rule n s) (heads rule n (a ∷ many a ∷ s)) ways e in
     elim d [

@@ -1,9 +1,9 @@
 -- A text is one job, and is not refused then.
-use Rattle.std.proofs.Common.{◌≡◌, ℕ, zero, suc, ◌<◌, ◌≤◌, ℤ, pos, List, [], ◌∷◌, ◌++◌, length, inl, inr, Some, None, refl, ap, sym, subst, ◌∙◌, arith, append_assoc, length-append}
-use Rattle.std.specs.Prelude.{◌⊎◌, slice_get, unwrap_or}
-use Rattle.std.proofs.lemmas.Option.{slice_get_within}
-use Rattle.std.proofs.lemmas.List.{take-append-le}
-use Rattle.std.proofs.lemmas.Bool.{cases_lt}
+use Rattle.std.proofs.Common.{◌≡◌, ℕ, zero, suc, ℤ, pos, List, [], ◌∷◌, ◌++◌, length, Some, refl, ap, sym, subst, ◌∙◌, arith, append_assoc}
+use Rattle.std.specs.Prelude.{slice_get, unwrap_or}
+use Rattle.std.proofs.lemmas.Option.{none-some}
+use Rattle.std.proofs.lemmas.List.{append-nil}
+use Rattle.small_facts.proofs.Numbers.{same_pos}
 use Rattle.nd_shape.specs.declared.slice.Part.{Part}
 use Rattle.nd_shape.specs.declared.slice.Part.TheVariants.{At, Range}
 use Rattle.nd_shape.specs.declared.slice.Steps.{Steps}
@@ -15,12 +15,10 @@ use Rattle.array_expr.specs.declared.expr.Node.{Node}
 use Rattle.array_expr.specs.declared.error.NodeError.{NodeError}
 use Rattle.array_expr.specs.declared.error.NodeError.TheVariants as NodeErrors
 use Rattle.array_expr.specs.declared.error.Quantity.TheVariants as NodeQuantities
-use Rattle.array_expr.specs.Node.{shape_at, part_on, Takes, dropped, Makes, IsNode, IsExpression, Adds}
+use Rattle.array_expr.specs.Node.{shape_at, part_on, Takes, dropped, Makes, IsExpression, Adds}
 use Rattle.array_expr.specs.Refusal.{Refuses}
-use Rattle.array_expr.proofs.Growing.{slice_get-front}
 use Rattle.job_steps.specs.Found.{Found}
 use Rattle.job_script.specs.declared.asked.Placed.{Placed}
-use Rattle.job_script.specs.declared.asked.Refusal.{Refusal}
 use Rattle.job_script.specs.Drafts.{empty_draft}
 use Rattle.job_script.specs.Scripts.{Scripted, run, refusal_at, first_of, IsScript}
 use Rattle.job_text.specs.declared.error.JobError.{JobError}
@@ -30,6 +28,8 @@ use Rattle.job_text.specs.declared.error.Quantity.TheVariants as Quantities
 use Rattle.job_text.specs.Nodes.{op_of, Builds, RefusesAsked}
 use Rattle.job_text.specs.Jobs.{Parts, spans_of, IsJob, IsNodeRefused, IsTextRefused, IsRefused, too_long, node, behind, no_memory}
 use Rattle.job_laws.proofs.OneReading.{one-reading}
+use Rattle.expr_laws.proofs.Elements.{front-expression}
+use Rattle.expr_laws.proofs.Excluded.{range-count}
 
 -- ---- what a slice takes
 
@@ -37,17 +37,6 @@ steps-same : (s t : Steps) → s.start ≡ t.start → s.step ≡ t.step → s.c
 steps-same s t a b c =
     ap (λ x. record { start = x; step = s.step; count = s.count }) a
     ∙ (ap (λ x. record { start = t.start; step = x; count = s.count }) b ∙ ap (λ x. record { start = t.start; step = t.step; count = x }) c)
-
-pos-same : (j k : ℕ) → pos j ≡ pos k → j ≡ k
-pos-same j k e = cc
-
-range-count : (first end step : ℤ) (s t : Steps) → IsRange first end step s → IsRange first end step t → s.count ≡ t.count
-range-count first end step s t a b = by-order (cases_lt s.count t.count) (cases_lt t.count s.count)
-  where
-    by-order : (s.count < t.count) ⊎ (t.count ≤ s.count) → (t.count < s.count) ⊎ (s.count ≤ t.count) → s.count ≡ t.count
-    by-order (inl less) o = absurd (a.ended (b.taken s.count less))
-    by-order (inr m) (inl less) = absurd (b.ended (a.taken t.count less))
-    by-order (inr m) (inr l) = omega (arith, m, l)
 
 range-same : (first end step : ℤ) (s t : Steps) → IsRange first end step s → IsRange first end step t → s ≡ t
 range-same first end step s t a b = steps-same s t (by-count s.count refl) (a.step_is ∙ sym b.step_is) count
@@ -57,10 +46,10 @@ range-same first end step s t a b = steps-same s t (by-count s.count refl) (a.st
 
     by-count : (c : ℕ) → s.count ≡ c → s.start ≡ t.start
     by-count zero e = a.empty e ∙ sym (b.empty (sym count ∙ e))
-    by-count (suc c) e = pos-same s.start t.start (a.start_is (omega (arith, e)) ∙ sym (b.start_is (omega (arith, e, count))))
+    by-count (suc c) e = same_pos s.start t.start (a.start_is (omega (arith, e)) ∙ sym (b.start_is (omega (arith, e, count))))
 
 resolves-same : (n : ℕ) (part : Part) (s t : Steps) → Resolves n part s → Resolves n part t → s ≡ t
-resolves-same n (At i) s t a b = steps-same s t (pos-same s.start t.start (a.start_is ∙ sym b.start_is)) (a.step_is ∙ sym b.step_is) (a.count_is ∙ sym b.count_is)
+resolves-same n (At i) s t a b = steps-same s t (same_pos s.start t.start (a.start_is ∙ sym b.start_is)) (a.step_is ∙ sym b.step_is) (a.count_is ∙ sym b.count_is)
 resolves-same n (Range start stop step) s t a b = range-same (first_index n (unwrap_or step (pos 1)) start) (end_index n (unwrap_or step (pos 1)) stop) (unwrap_or step (pos 1)) s t a.1 b.1
 
 list-same : (ts us : List Steps) → length ts ≡ length us → ((k : ℕ) (s t : Steps) → slice_get ts k ≡ Some s → slice_get us k ≡ Some t → s ≡ t) → ts ≡ us
@@ -125,22 +114,10 @@ cut-at before here later all b =
     record { nodes = x.0; builds = x.1; more = x.2.0; adds = x.2.1; rest = x.2.2 }
 
 pub builds-front : (nodes : List Node) (ps : List Placed) (all : List Node) → Builds nodes ps all → (rest : List Node) × (all ≡ nodes ++ rest)
-builds-front nodes [] all b = ([], b ∙ sym (nothing-more nodes))
-  where
-    nothing-more : (xs : List Node) → xs ++ [] ≡ xs
-    nothing-more [] = refl
-    nothing-more (x ∷ xs) = ap (λ w. x ∷ w) (nothing-more xs)
+builds-front nodes [] all b = ([], b ∙ sym (append-nil nodes))
 builds-front nodes (p ∷ ps) all b =
     let x = builds-front b.0 ps all b.2 in
     (b.1.node ∷ x.0, x.1 ∙ (ap (λ w. w ++ x.0) b.1.more_is ∙ append_assoc nodes (b.1.node ∷ []) x.0))
-
-pub expression-front : (nodes rest : List Node) → IsExpression (nodes ++ rest) → IsExpression nodes
-expression-front nodes rest e = record {
-  count = omega (arith, e.count, length-append nodes rest);
-  each = λ k x is.
-      let inside : k < length nodes = slice_get_within nodes k x is in
-      subst (λ y. IsNode y x) (take-append-le k nodes rest (omega arith)) (e.each k x (slice_get-front nodes rest k inside ∙ is));
-}
 
 -- ---- refusals
 
@@ -194,14 +171,11 @@ node-excluded law text job e j x n =
     let c = cut-at o.before o.here o.later job.nodes (subst (λ w. Builds [] w job.nodes) asked j.built.builds) in
     let same : o.nodes ≡ c.nodes = builds-same [] o.before o.nodes c.nodes o.builds c.builds in
     let front = builds-front c.more o.later job.nodes c.rest in
-    let expression : IsExpression c.more = expression-front c.more front.0 (subst IsExpression front.1 x) in
+    let expression : IsExpression c.more = front-expression c.more front.0 (subst IsExpression front.1 x) in
     asked-excluded law c.nodes c.more (op_of c.nodes o.here.asked) e.kind expression c.adds (subst (λ w. RefusesAsked w (op_of w o.here.asked) e.kind) same o.refused.cause)
 
 text-excluded : (text : List ℕ) (job : Parts) (e : JobError) → IsJob text job → IsTextRefused text e → ⊥
-text-excluded text job e j n = no n.refusal (sym j.whole ∙ ((one-script text j.script n.script j.is_script n.is_script).1 ∙ n.is_refused))
-  where
-    no : (r : Refusal) → None ≡ Some r → ⊥
-    no r q = cc
+text-excluded text job e j n = none-some n.refusal (sym j.whole ∙ ((one-script text j.script n.script j.is_script n.is_script).1 ∙ n.is_refused))
 
 pub job-excluded : Fitting → (text : List ℕ) (job : Parts) (e : JobError) → IsJob text job → IsExpression job.nodes → IsRefused text e → e.kind ≡ Kinds.OutOfMemory
 job-excluded law text job e j x (too_long t) = absurd (omega (arith, t.long, j.short))

@@ -1,7 +1,8 @@
 -- A text has one reading.
 use Rattle.std.proofs.Common.{◌≡◌, ℕ, nat_lt, List, [], ◌∷◌, ◌++◌, inl, inr, length, Some, None, refl, ap, sym, subst, ◌∙◌, arith, append_assoc}
 use Rattle.std.specs.Prelude.{◌⊎◌}
-use Rattle.std.proofs.lemmas.List.{append-nil}
+use Rattle.std.proofs.lemmas.List.{append-nil, append_cancel_left}
+use Rattle.small_facts.proofs.Lists.{same_tail, cons_not_nil}
 use Rattle.grammar.specs.declared.symbol.Symbol.{Symbol}
 use Rattle.grammar.specs.declared.symbol.Symbol.TheVariants.{Part}
 use Rattle.grammar.specs.Grammars.{Event, took, did, did_all, tokens, Derives, Step, taken, refused, step}
@@ -53,10 +54,7 @@ read-tokens es more j = run-on (tokens es) [] (Part 0 ∷ []) (tokens more) (es 
 
 only-dids : (es : List Event) → tokens es ≡ [] → (ds : List ℕ) × (es ≡ did_all ds)
 only-dids [] e = ([], refl)
-only-dids (took t ∷ es) e = absurd (no e)
-  where
-    no : t ∷ tokens es ≡ [] → ⊥
-    no e = cc
+only-dids (took t ∷ es) e = absurd (cons_not_nil t (tokens es) e)
 only-dids (did a ∷ es) e = let x = only-dids es e in (a ∷ x.0, ap (λ w. did a ∷ w) x.1)
 
 abbrev Comes : List Event → List Event → Type 0
@@ -70,28 +68,19 @@ comes-behind x xs ys c = elim c [
 
 comes : (xs ys us vs : List Event) → xs ++ us ≡ ys ++ vs → tokens xs ≡ tokens ys → Comes xs ys
 comes [] ys us vs e q = inl (only-dids ys (sym q))
-comes (took t ∷ xs) [] us vs e q = absurd (no q)
-  where
-    no : t ∷ tokens xs ≡ [] → ⊥
-    no q = cc
+comes (took t ∷ xs) [] us vs e q = absurd (cons_not_nil t (tokens xs) q)
 comes (did a ∷ xs) [] us vs e q = inr (a, xs, refl)
 comes (x ∷ xs) (y ∷ ys) us vs e q =
     let same : x ≡ y = head x y (xs ++ us) (ys ++ vs) e in
-    let rest : xs ++ us ≡ ys ++ vs = tail x y (xs ++ us) (ys ++ vs) e in
+    let rest : xs ++ us ≡ ys ++ vs = same_tail x y (xs ++ us) (ys ++ vs) e in
     let toks : tokens xs ≡ tokens ys = fewer y xs ys (subst (λ z. tokens (z ∷ xs) ≡ tokens (y ∷ ys)) same q) in
     subst (λ z. Comes (z ∷ xs) (y ∷ ys)) (sym same) (comes-behind y xs ys (comes xs ys us vs rest toks))
   where
     head : (x y : Event) (v w : List Event) → x ∷ v ≡ y ∷ w → x ≡ y
     head x y v w e = cc
 
-    tail : (x y : Event) (v w : List Event) → x ∷ v ≡ y ∷ w → v ≡ w
-    tail x y v w e = cc
-
     fewer : (y : Event) (xs ys : List Event) → tokens (y ∷ xs) ≡ tokens (y ∷ ys) → tokens xs ≡ tokens ys
-    fewer (took t) xs ys q = numbers t t (tokens xs) (tokens ys) q
-      where
-        numbers : (j k : ℕ) (v w : List ℕ) → j ∷ v ≡ k ∷ w → v ≡ w
-        numbers j k v w e = cc
+    fewer (took t) xs ys q = same_tail t t (tokens xs) (tokens ys) q
     fewer (did a) xs ys q = q
 
 -- ---- what is done as far as it can be
@@ -113,13 +102,6 @@ did_all-append : (ds bs : List ℕ) → did_all (ds ++ bs) ≡ did_all ds ++ did
 did_all-append [] bs = refl
 did_all-append (a ∷ ds) bs = ap (λ w. did a ∷ w) (did_all-append ds bs)
 
-cut : (p v w : List Event) → p ++ v ≡ p ++ w → v ≡ w
-cut [] v w e = e
-cut (x ∷ p) v w e = cut p v w (tail x (p ++ v) (p ++ w) e)
-  where
-    tail : (x : Event) (a b : List Event) → x ∷ a ≡ x ∷ b → a ≡ b
-    tail x a b e = cc
-
 -- the actions from where a token of no kind is refused
 record Refusing (left : List Symbol) : Type 0 where
   acts : List ℕ
@@ -138,7 +120,7 @@ is-settled h left r q es s t =
     let b = r.leaves.back (es ++ s.more) (tokens s.more) (of-job (es ++ s.more) s.goes_on) ts in
     elim (comes h es b.0 s.more (sym b.1) t) [
       | inl x ↦
-          let begins : did_all x.0 ++ s.more ≡ b.0 = cut h (did_all x.0 ++ s.more) b.0 (sym (append_assoc h (did_all x.0) s.more) ∙ (ap (λ w. w ++ s.more) (sym x.1) ∙ b.1)) in
+          let begins : did_all x.0 ++ s.more ≡ b.0 = append_cancel_left h (did_all x.0 ++ s.more) b.0 (sym (append_assoc h (did_all x.0) s.more) ∙ (ap (λ w. w ++ s.more) (sym x.1) ∙ b.1)) in
           let p = path left (Some 37) q.acts x.0 s.more q.is (subst (λ w. Derives (grammar_of job_rows) itself left w) (sym begins) b.3) in
           no-more x.0 x.1 p.0 p.1
       | inr x ↦ absurd (s.stuck x.0 (x.1 ++ r.begun.more) (subst IsJob (ap (λ w. w ++ r.begun.more) x.2 ∙ append_assoc es (did x.0 ∷ x.1) r.begun.more) r.begun.goes_on))

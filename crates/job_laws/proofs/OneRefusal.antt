@@ -1,6 +1,8 @@
 -- A text has one refusal.
-use Rattle.std.proofs.Common.{◌≡◌, ◌≢◌, ℕ, ◌+◌, ◌≤◌, List, [], ◌∷◌, ◌++◌, length, inl, inr, Some, None, ap, sym, subst, refl, ◌∙◌, arith, length-append}
+use Rattle.std.proofs.Common.{◌≡◌, ◌≢◌, ℕ, ◌+◌, ◌≤◌, List, [], ◌∷◌, ◌++◌, length, inl, inr, ap, sym, subst, refl, ◌∙◌, arith, length-append}
 use Rattle.std.specs.Prelude.{◌⊎◌}
+use Rattle.std.proofs.lemmas.Option.{none-some, same_Some}
+use Rattle.small_facts.proofs.Lists.{same_tail}
 use Rattle.array_expr.specs.declared.op.Op.{Op}
 use Rattle.array_expr.specs.declared.expr.Node.{Node}
 use Rattle.array_expr.specs.declared.error.NodeError.{NodeError}
@@ -21,15 +23,13 @@ use Rattle.job_text.specs.Nodes.{op_of, Builds, RefusesAsked}
 use Rattle.job_text.specs.Jobs.{Parts, StandsAt, IsJob, RefusesOne, IsNodeRefused, IsTextRefused, IsRefused, too_long, node, behind, no_memory}
 use Rattle.job_text.proofs.Building.{builds-count}
 use Rattle.job_laws.proofs.Counts.{few-asked}
-use Rattle.job_laws.proofs.OneJob.{Fitting, builds-same, cut-at, builds-front, expression-front, asked-excluded, one-script}
+use Rattle.job_laws.proofs.OneJob.{Fitting, builds-same, cut-at, builds-front, asked-excluded, one-script}
+use Rattle.expr_laws.proofs.Elements.{front-expression}
 
 -- ---- what operations make is an expression
 
 no-nodes : IsExpression []
-no-nodes = record { count = omega arith; each = λ k x is. absurd (never x is) }
-  where
-    never : (x : Node) → None ≡ Some x → ⊥
-    never x q = cc
+no-nodes = record { count = omega arith; each = λ k x is. absurd (none-some x is) }
 
 expression-of : (ps : List Placed) (nodes all : List Node) → Builds nodes ps all → length all ≤ 65536 → IsExpression nodes → IsExpression all
 expression-of [] nodes all b h e = subst IsExpression (sym b) e
@@ -48,7 +48,7 @@ added-excluded law text s i e o later all b x =
     let c = cut-at o.before o.here later all b in
     let same : o.nodes ≡ c.nodes = builds-same [] o.before o.nodes c.nodes o.builds c.builds in
     let front = builds-front c.more later all c.rest in
-    asked-excluded law c.nodes c.more (op_of c.nodes o.here.asked) e.kind (expression-front c.more front.0 (subst IsExpression front.1 x)) c.adds (subst (λ w. RefusesAsked w (op_of w o.here.asked) e.kind) same o.refused.cause)
+    asked-excluded law c.nodes c.more (op_of c.nodes o.here.asked) e.kind (front-expression c.more front.0 (subst IsExpression front.1 x)) c.adds (subst (λ w. RefusesAsked w (op_of w o.here.asked) e.kind) same o.refused.cause)
 
 -- ---- two places in a list
 
@@ -59,14 +59,11 @@ Order xs x ys y = ((xs ≡ ys) × (x ≡ y)) ⊎ (((zs : List Placed) × (ys ≡
 heads-same : (x y : Placed) (v w : List Placed) → x ∷ v ≡ y ∷ w → x ≡ y
 heads-same x y v w e = cc
 
-tails-same : (x y : Placed) (v w : List Placed) → x ∷ v ≡ y ∷ w → v ≡ w
-tails-same x y v w e = cc
-
 order : (xs : List Placed) (x : Placed) (us ys : List Placed) (y : Placed) (vs : List Placed) → xs ++ x ∷ us ≡ ys ++ y ∷ vs → Order xs x ys y
 order [] x us [] y vs e = inl (refl, heads-same x y us vs e)
 order [] x us (z ∷ ys) y vs e = inr (inl (ys, ap (λ w. w ∷ ys) (sym (heads-same x z us (ys ++ y ∷ vs) e))))
 order (z ∷ xs) x us [] y vs e = inr (inr (xs, ap (λ w. w ∷ xs) (heads-same z y (xs ++ x ∷ us) vs e)))
-order (z ∷ xs) x us (q ∷ ys) y vs e = elim (order xs x us ys y vs (tails-same z q (xs ++ x ∷ us) (ys ++ y ∷ vs) e)) [
+order (z ∷ xs) x us (q ∷ ys) y vs e = elim (order xs x us ys y vs (same_tail z q (xs ++ x ∷ us) (ys ++ y ∷ vs) e)) [
   | inl s ↦ inl (ap (λ w. w ∷ xs) (heads-same z q (xs ++ x ∷ us) (ys ++ y ∷ vs) e) ∙ ap (λ w. q ∷ w) s.0, s.1)
   | inr s ↦ elim s [
     | inl m ↦ inr (inl (m.0, ap (λ w. w ∷ ys) (sym (heads-same z q (xs ++ x ∷ us) (ys ++ y ∷ vs) e)) ∙ ap (λ w. z ∷ w) m.1))
@@ -147,12 +144,9 @@ node-behind law text a b n t =
 
 behind-same : (text : List ℕ) (a b : JobError) → IsTextRefused text a → IsTextRefused text b → a ≡ b
 behind-same text a b p q =
-    let r : p.refusal ≡ q.refusal = some-same p.refusal q.refusal (sym p.is_refused ∙ ((one-script text p.script q.script p.is_script q.is_script).1 ∙ q.is_refused)) in
+    let r : p.refusal ≡ q.refusal = same_Some p.refusal q.refusal (sym p.is_refused ∙ ((one-script text p.script q.script p.is_script q.is_script).1 ∙ q.is_refused)) in
     let kind : a.kind ≡ b.kind = p.kind_is ∙ (ap (λ (x : Refusal). kind_of_why x.why) r ∙ sym q.kind_is) in
     same-at text q.refusal.at a b (subst (λ (x : Refusal). StandsAt text x.at a) r p.place) q.place kind
-  where
-    some-same : (r s : Refusal) → Some r ≡ Some s → r ≡ s
-    some-same r s e = cc
 
 nodes-same : Fitting → OneRefusal → (text : List ℕ) (a b : JobError) → IsNodeRefused text a → IsNodeRefused text b → a.kind ≢ Kinds.OutOfMemory → b.kind ≢ Kinds.OutOfMemory → a ≡ b
 nodes-same law one text a b p q m n =

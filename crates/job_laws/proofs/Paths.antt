@@ -1,64 +1,29 @@
 -- Which actions can come before the next token, the rows decide alone.
-use Rattle.std.proofs.Common.{◌≡◌, ℕ, zero, suc, ◌<◌, ◌≤◌, true, List, [], ◌∷◌, ◌++◌, inl, inr, Some, None, refl, ap, sym, subst, ◌∙◌, arith}
+use Rattle.std.proofs.Common.{◌≡◌, ℕ, zero, suc, ◌≤◌, true, List, [], ◌∷◌, ◌++◌, inl, inr, Some, None, refl, ap, sym, subst, ◌∙◌, arith}
 use Rattle.std.specs.Prelude.{Option}
+use Rattle.std.proofs.lemmas.Option.{same_Some}
+use Rattle.small_facts.proofs.Lists.{cons_not_nil, same_tail}
+use Rattle.small_facts.proofs.Options.{some_not_none}
 use Rattle.grammar.specs.declared.symbol.Symbol.{Symbol}
 use Rattle.grammar.specs.declared.symbol.Symbol.TheVariants.{Token, Part, Action}
-use Rattle.grammar.specs.Grammars.{Grammar, Event, took, did, did_all, Derives, on_next, turned, effort, Step, taken, refused, doing, after_move, step_in, step}
+use Rattle.grammar.specs.Grammars.{Grammar, Event, took, did, did_all, Derives, on_next, turned, effort, taken, refused, after_move, step_in, step}
 use Rattle.grammar.specs.Tables.{Rows, grammar_of, moves_end}
 use Rattle.grammar.proofs.Clean.{effort-append}
 use Rattle.grammar.proofs.Checked.{rows-bounded}
 use Rattle.job_grammar.specs.JobRows.{job_rows}
 use Rattle.job_grammar.specs.Texts.{itself}
 use Rattle.job_grammar.proofs.Table.{job_moves}
-
-effort-some : (g : Grammar) (s : List Symbol) → 0 < effort g s
-effort-some g [] = omega arith
-effort-some g (Token k ∷ s) = omega arith
-effort-some g (Action a ∷ s) = omega arith
-effort-some g (Part p ∷ s) = omega (arith, effort-some g s)
-
-doing-refused : (a : ℕ) (x : Step) (acts : List ℕ) → doing a x ≡ refused acts → (more : List ℕ) × (x ≡ refused more) × (acts ≡ a ∷ more)
-doing-refused a (taken more left) acts e = absurd (no e)
-  where
-    no : doing a (taken more left) ≡ refused acts → ⊥
-    no e = cc
-doing-refused a (refused more) acts e = let q : acts ≡ a ∷ more = cc in (more, refl, q)
-
-nothing-first : (g : Grammar) (kind : ℕ → ℕ) (a : ℕ) (es : List Event) → Derives g kind [] (did a ∷ es) → ⊥
-nothing-first g kind a es (zero, d) = no d.1
-  where
-    no : did a ∷ es ≡ [] → ⊥
-    no e = cc
-nothing-first g kind a es (suc n, d) = d
-
-token-first : (g : Grammar) (kind : ℕ → ℕ) (k a : ℕ) (s : List Symbol) (es : List Event) → Derives g kind (Token k ∷ s) (did a ∷ es) → ⊥
-token-first g kind k a s es (zero, d) = no d.1
-  where
-    no : did a ∷ es ≡ [] → ⊥
-    no e = cc
-token-first g kind k a s es (suc n, d) = no d.0 d.1 d.2
-  where
-    no : (t : ℕ) (more : List Event) → did a ∷ es ≡ took t ∷ more → ⊥
-    no t more e = cc
+use Rattle.job_grammar.proofs.Due.{effort-some, doing-refused, nothing-first, token-first}
 
 action-first : (g : Grammar) (kind : ℕ → ℕ) (b a : ℕ) (s : List Symbol) (es : List Event) → Derives g kind (Action b ∷ s) (did a ∷ es) → (a ≡ b) × Derives g kind s es
-action-first g kind b a s es (zero, d) = absurd (no d.1)
-  where
-    no : did a ∷ es ≡ [] → ⊥
-    no e = cc
-action-first g kind b a s es (suc n, d) = (this d.0 d.1, subst (λ x. Derives g kind s x) (sym (same d.0 d.1)) (n, d.2))
+action-first g kind b a s es (zero, d) = absurd (cons_not_nil (did a) es d.1)
+action-first g kind b a s es (suc n, d) = (this d.0 d.1, subst (λ x. Derives g kind s x) (sym (same_tail (did a) (did b) es d.0 d.1)) (n, d.2))
   where
     this : (more : List Event) → did a ∷ es ≡ did b ∷ more → a ≡ b
     this more e = cc
 
-    same : (more : List Event) → did a ∷ es ≡ did b ∷ more → es ≡ more
-    same more e = cc
-
 part-first : (g : Grammar) (kind : ℕ → ℕ) (p a : ℕ) (s : List Symbol) (es : List Event) → Derives g kind (Part p ∷ s) (did a ∷ es) → (rule : List Symbol) × (g.other p ≡ Some rule) × Derives g kind (rule ++ s) (did a ∷ es)
-part-first g kind p a s es (zero, d) = absurd (no d.1)
-  where
-    no : did a ∷ es ≡ [] → ⊥
-    no e = cc
+part-first g kind p a s es (zero, d) = absurd (cons_not_nil (did a) es d.1)
 part-first g kind p a s es (suc n, d) = elim d [
   | inl x ↦ absurd (no x.0 x.1 x.3)
   | inr x ↦ (x.0, x.1, (n, x.2))
@@ -91,17 +56,11 @@ path-in r m kind (suc n) (Part p ∷ s) next acts (a ∷ ds) es h e d =
         no rule q = cc
     by-rules None (Some rule) again is q =
         let x = part-first (grammar_of r) kind p a s (did_all ds ++ es) d in
-        let same : x.0 ≡ rule = some-is x.0 rule (sym x.1 ∙ is) in
+        let same : x.0 ≡ rule = same_Some x.0 rule (sym x.1 ∙ is) in
         again (rule ++ s) (omega (arith, effort-append (grammar_of r) rule s, (rows-bounded r m).below p rule is)) q (subst (λ z. Derives (grammar_of r) kind (z ++ s) (did a ∷ (did_all ds ++ es))) same x.2)
-      where
-        some-is : (a b : List Symbol) → Some a ≡ Some b → a ≡ b
-        some-is a b e = cc
     by-rules None None again is q =
         let x = part-first (grammar_of r) kind p a s (did_all ds ++ es) d in
-        absurd (no x.0 (sym x.1 ∙ is))
-      where
-        no : (a : List Symbol) → Some a ≡ None → ⊥
-        no a e = cc
+        absurd (some_not_none x.0 (sym x.1 ∙ is))
 
 pub path : (s : List Symbol) (next : Option ℕ) (acts ds : List ℕ) (es : List Event) → step (grammar_of job_rows) s next ≡ refused acts → Derives (grammar_of job_rows) itself s (did_all ds ++ es) → (rest : List ℕ) × (acts ≡ ds ++ rest)
 unfolding step

@@ -5,6 +5,7 @@ use Rattle.std.proofs.lemmas.List.{take_more, take-append-drop}
 use Rattle.std.proofs.lemmas.List.Sums.{sum_by-cons}
 use Rattle.io_edge.specs.View.{Files, Creates, Opens, raised, raised_by, times}
 use Rattle.job_run.specs.Part.{RaisedAtMost}
+use Rattle.io_edge.proofs.OpeningLaws.{raised_zero, raised_again, raised_bounds}
 
 pub times_cons : (n name : List ℕ) (more : List (List ℕ)) → times n (name ∷ more) ≡ times n (name ∷ []) + times n more
 times_cons n name more = sum_by-cons (λ x. cond (bytes_eq n x) 1 0) name more ∙ ap (λ x. x + times n more) (sym (sum_by-cons (λ x. cond (bytes_eq n x) 1 0) name [] ∙ add-zero (cond (bytes_eq n name) 1 0)))
@@ -13,23 +14,11 @@ pub times-append : (n : List ℕ) (names more : List (List ℕ)) → times n (na
 times-append n [] more = omega arith
 times-append n (name ∷ names) more = omega (arith, times_cons n name (names ++ more), times_cons n name names, times-append n names more)
 
-raised-raised : (count j k : ℕ) → raised (raised count j) k ≡ raised count (j + k)
-unfolding raised
-raised-raised count j k = omega arith
-
-raised-none : (count : ℕ) → raised count 0 ≡ count
-unfolding raised
-raised-none count = omega arith
-
-raised-bounds : (count k : ℕ) → (count ≤ raised count k) × (raised count k ≤ count + k)
-unfolding raised
-raised-bounds count k = (omega arith, omega arith)
-
 pub raised_by-none : (counts : List ℕ → ℕ) → counts ≡ raised_by [] counts
-raised_by-none counts = λ i. λ n. sym (raised-none (counts n)) i
+raised_by-none counts = λ i. λ n. sym (raised_zero (counts n)) i
 
 pub raised_by-snoc : (names : List (List ℕ)) (name : List ℕ) (counts : List ℕ → ℕ) → raised_by (name ∷ []) (raised_by names counts) ≡ raised_by (names ++ name ∷ []) counts
-raised_by-snoc names name counts = λ i. λ n. (raised-raised (counts n) (times n names) (times n (name ∷ [])) ∙ ap (raised (counts n)) (sym (times-append n names (name ∷ [])))) i
+raised_by-snoc names name counts = λ i. λ n. (raised_again (counts n) (times n names) (times n (name ∷ [])) ∙ ap (raised (counts n)) (sym (times-append n names (name ∷ [])))) i
 
 -- one name more was counted
 pub raised_next : (names : List (List ℕ)) (k : ℕ) (old mid new : List ℕ → ℕ) → k < length names → mid ≡ raised_by (take k names) old → new ≡ raised_by (get_or names k [] ∷ []) mid → new ≡ raised_by (take (k + 1) names) old
@@ -45,8 +34,8 @@ times-take n k names h =
 
 pub raised_at_most : (names : List (List ℕ)) (old new : List ℕ → ℕ) → new ≡ raised_by names old → RaisedAtMost names old new
 raised_at_most names old new is = record {
-  grows = λ n. let e : new n ≡ raised (old n) (times n names) = ap (λ f. f n) is in omega (arith, e, (raised-bounds (old n) (times n names)).0);
-  at_most = λ n. let e : new n ≡ raised (old n) (times n names) = ap (λ f. f n) is in omega (arith, e, (raised-bounds (old n) (times n names)).1);
+  grows = λ n. let e : new n ≡ raised (old n) (times n names) = ap (λ f. f n) is in omega (arith, e, (raised_bounds (old n) (times n names)).0);
+  at_most = λ n. let e : new n ≡ raised (old n) (times n names) = ap (λ f. f n) is in omega (arith, e, (raised_bounds (old n) (times n names)).1);
 }
 
 pub none_raised : (names : List (List ℕ)) (old new : List ℕ → ℕ) → new ≡ old → RaisedAtMost names old new
@@ -57,8 +46,8 @@ pub raised_try : (names : List (List ℕ)) (k : ℕ) (old mid new : Files) → k
 raised_try names k old mid new h before creates =
     let at : (n : List ℕ) → mid.created n ≡ raised (old.created n) (times n (take k names)) = λ n. ap (λ f. f n) before in
     record {
-      grows = λ n. omega (arith, at n, (raised-bounds (old.created n) (times n (take k names))).0, creates.grows n);
-      at_most = λ n. omega (arith, at n, (raised-bounds (old.created n) (times n (take k names))).1, creates.at_most n, times-take n k names h);
+      grows = λ n. omega (arith, at n, (raised_bounds (old.created n) (times n (take k names))).0, creates.grows n);
+      at_most = λ n. omega (arith, at n, (raised_bounds (old.created n) (times n (take k names))).1, creates.at_most n, times-take n k names h);
     }
 
 pub opened_most : (names : List (List ℕ)) (old new : Files) → Opens names old new → RaisedAtMost names old.opened new.opened

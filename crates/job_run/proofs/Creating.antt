@@ -25,7 +25,7 @@ apart_back a b e = elim (cases_Bool (bytes_eq b a)) [
   | inr other ↦ other
 ]
 
-count_names : (p : Plan) → length (names_saved p) ≡ length p.saves
+pub count_names : (p : Plan) → length (names_saved p) ≡ length p.saves
 count_names p = length-map p.saves (λ (s : Saved). s.file)
 
 -- the names at two places of a plan differ

@@ -47,11 +47,11 @@ right_part : (a : Array) (c : Content) → OnTold c (IsFilling a []) → OnTold 
 right_part a (Told bytes) filling = filling.part
 right_part a (Untold size) filling = tt
 
-whole_told : (c : Content) (bytes : List ℕ) → IsSome (told_bytes c) → OnTold c (λ b. b ≡ bytes) → told_bytes c ≡ Some bytes
+pub whole_told : (c : Content) (bytes : List ℕ) → IsSome (told_bytes c) → OnTold c (λ b. b ≡ bytes) → told_bytes c ≡ Some bytes
 whole_told (Told b) bytes some e = ap Some e
 whole_told (Untold size) bytes some e = cc
 
-part_told : (c : Content) (final : List ℕ) → OnTold c (λ b. IsPart b final) → IfSome (told_bytes c) (λ b. IsPart b final)
+pub part_told : (c : Content) (final : List ℕ) → OnTold c (λ b. IsPart b final) → IfSome (told_bytes c) (λ b. IsPart b final)
 part_told (Told b) final part = part
 part_told (Untold size) final part = tt
 

@@ -1,7 +1,9 @@
 -- A file while the blocks of its array are written, one after another, and all files of a job's saves.
-use Rattle.std.proofs.Common.{◌≡◌, ◌≢◌, ◌⊎◌, ℕ, ◌+◌, ◌<◌, ◌≤◌, List, [], ◌∷◌, ◌++◌, length, get_or, refl, ap, sym, ◌∙◌, subst, inl, inr, arith, Option, Some, Result, Ok, Err}
+use Rattle.std.proofs.Common.{◌≡◌, ℕ, ◌+◌, ◌<◌, ◌≤◌, List, [], ◌∷◌, ◌++◌, length, get_or, refl, ap, sym, ◌∙◌, subst, inl, inr, arith, Option, Some, Result, Ok, Err}
 use Rattle.std.specs.Prelude.{IsSome, IfSome, OnErr, OnOk}
 use Rattle.std.proofs.lemmas.List.FromFn.{get_or-map-range_with_len, length-map-range_with_len, map-range_with_len_more}
+use Rattle.std.proofs.lemmas.Bool.{cases_eq, cases_lt}
+use Rattle.small_facts.proofs.Numbers.{below_or_equal}
 use Rattle.io_edge.specs.Content.{Content, Told, Untold, OnTold, told_bytes}
 use Rattle.nd_shape.specs.Block.{Array}
 use Rattle.nd_shape.specs.Index.{IsIn}
@@ -13,10 +15,6 @@ use Rattle.saved_files.specs.Filling.{Cover, HoldsBox, IsFilling, IsPart, box_of
 use Rattle.npy_region.specs.Writing.{Turns}
 use Rattle.saved_files.specs.Saving.{ChangesAt, IsOf, Saving, saving_at}
 use Rattle.job_run.specs.Filling.{AreBlocksOf, FillsAll, FillsFirst, FillsSome, FilledBelow, KeepNames, boxes_to, keys_at, layout_at}
-
-pub always-err : {T E X : Type 0} (r : Result T E) → X → OnErr r X
-always-err (Ok x) h = tt
-always-err (Err e) h = h
 
 pub from-both : {T E X : Type 0} (r : Result T E) → OnOk r X → OnErr r X → X
 from-both (Ok x) a b = a
@@ -90,19 +88,10 @@ changes-then place old mid new a b = record {
 
 -- ## All files
 
-other-or : (a b : ℕ) → (a ≡ b) ⊎ (a ≢ b)
-other-or a b = grind arith
-
-below-next : (k place : ℕ) → k < place + 1 → (k < place) ⊎ (place ≡ k)
-below-next k place h = grind arith
-
-before-or : (k place : ℕ) → (k < place) ⊎ (place ≤ k)
-before-or k place = grind arith
-
 names-then : (place : ℕ) (old mid new : List Saving) → KeepNames old mid → ChangesAt place mid new → KeepNames old new
 names-then place old mid new a c = record {
   count = c.count ∙ a.count;
-  names = λ k h. elim (other-or k place) [
+  names = λ k h. elim (cases_eq k place) [
     | inl e ↦ let P : ℕ → Type 0 = λ j. (saving_at new j).name ≡ (saving_at old j).name in subst P (sym e) (c.name_is ∙ subst (λ j. (saving_at mid j).name ≡ (saving_at old j).name) e (a.names k h))
     | inr ne ↦ ap (λ (s : Saving). s.name) (c.others k ne) ∙ a.names k h
   ];
@@ -116,7 +105,7 @@ module _ (saved : List (List ℕ)) (layouts : List (List (List ℕ))) (got : ℕ
       FillsFirst (layout_at layouts place) (keys_at saved place) got (length (keys_at saved place)) (saving_at mid place).content (saving_at new place).content → FilledBelow saved layouts got (place + 1) old new
   filled-next place old mid new f c fills = record {
     same = names-then place old mid new f.same c;
-    below = λ k h lt. elim (below-next k place h) [
+    below = λ k h lt. elim (below_or_equal k place h) [
       | inl a ↦ let same : saving_at new k ≡ saving_at mid k = c.others k (λ e. absurd (omega (arith, a, e))) in
           subst (λ (s : Saving). FillsFirst (layout_at layouts k) (keys_at saved k) got (length (keys_at saved k)) (saving_at old k).content s.content) (sym same) (f.below k a lt)
       | inr e ↦ subst (λ j. FillsFirst (layout_at layouts j) (keys_at saved j) got (length (keys_at saved j)) (saving_at old j).content (saving_at new j).content) e
@@ -137,10 +126,10 @@ module _ (saved : List (List ℕ)) (layouts : List (List (List ℕ))) (got : ℕ
       FillsFirst (layout_at layouts place) (keys_at saved place) got 0 (saving_at mid place).content (saving_at new place).content → FillsSome saved layouts got old new
   filled-some place old mid new f c fills k lt =
       let P : ℕ → Saving → Type 0 = λ j s. FillsFirst (layout_at layouts j) (keys_at saved j) got 0 (saving_at old j).content s.content in
-      elim (other-or k place) [
+      elim (cases_eq k place) [
         | inl e ↦ subst (λ j. P j (saving_at new j)) (sym e)
             (subst (λ (s : Saving). FillsFirst (layout_at layouts place) (keys_at saved place) got 0 s.content (saving_at new place).content) (f.above place (omega arith)) fills)
-        | inr ne ↦ subst (P k) (sym (c.others k ne)) (elim (before-or k place) [
+        | inr ne ↦ subst (P k) (sym (c.others k ne)) (elim (cases_lt k place) [
           | inl a ↦ fills-some (layout_at layouts k) (keys_at saved k) got (length (keys_at saved k)) (saving_at old k).content (saving_at mid k).content (f.below k a lt)
           | inr b ↦ subst (P k) (sym (f.above k b)) (fills-none (layout_at layouts k) (keys_at saved k) got (saving_at old k).content)
         ])

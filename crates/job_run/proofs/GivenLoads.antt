@@ -38,7 +38,7 @@ shape_given names place old new shape has declared head is_has is_declared other
 pub none_given : (names shapes : List (List ℕ)) (gave : List Piece) → Gives gave gave (FitNamed names shapes 0)
 none_given names shapes gave = given_any gave gave (FitNamed names shapes 0) (λ holds. record { each = λ k h. absurd (omega (arith, h)) }) (more_same gave gave refl)
 
-shape_at : (shapes : List (List ℕ)) (k : ℕ) (shape : List ℕ) → k < length shapes → shape ≡ get_or shapes k shape → get_or shapes k [] ≡ shape
+pub shape_at : (shapes : List (List ℕ)) (k : ℕ) (shape : List ℕ) → k < length shapes → shape ≡ get_or shapes k shape → get_or shapes k [] ≡ shape
 shape_at shapes k shape h is = get_or_from_slice_get shapes k shape [] (slice_get_read shapes (length shapes) k shape refl h is)
 
 fit_next : (names shapes : List (List ℕ)) (k : ℕ) (shape : List ℕ) (holds : List ℕ → List ℕ) → get_or shapes k [] ≡ shape → FitNamed names shapes k holds → FitsShape shape (holds (get_or names k [])) → FitNamed names shapes (k + 1) holds

@@ -1,8 +1,9 @@
 -- What the next key has, where all keys before it have values: a block that holds its node's elements, or a zero divisor.
-use Rattle.std.proofs.Common.{◌≡◌, ℕ, ◌+◌, ◌<◌, ◌≤◌, Bool, true, ◌&&◌, List, [], ◌∷◌, length, ap, sym, subst, refl, ◌∙◌, arith, inl, inr}
+use Rattle.std.proofs.Common.{◌≡◌, ℕ, ◌+◌, ◌<◌, ◌≤◌, true, List, [], ◌∷◌, length, ap, sym, subst, refl, ◌∙◌, arith, inl, inr}
 use Rattle.std.specs.Prelude.{Option, Some, None, IsSome, is_some, is_none}
 use Rattle.std.specs.List.{AllByRecursion, list_all}
-use Rattle.std.proofs.lemmas.Bool.{cases_lt}
+use Rattle.std.proofs.lemmas.Bool.{cases_lt, and_from}
+use Rattle.std.proofs.lemmas.Option.{same_Some}
 use Rattle.nd_shape.specs.Block.{Array}
 use Rattle.nd_grid.specs.Grid.{Holds, grid_of}
 use Rattle.expr_laws.specs.Formulas.{whole}
@@ -43,11 +44,8 @@ sound-key p named key earlier h j in-cone f =
 same-block : (named : Named) (p : Plan) (key n c : ℕ) (block : Array) → value named (tasks_of p) key ≡ Some block
     → (b : Array) × (value named (tasks_of p) key ≡ Some b) × Holds (grid_of b) (whole named p.nodes n) (box_of p.nodes n c) → Holds (grid_of block) (whole named p.nodes n) (box_of p.nodes n c)
 same-block named p key n c block e h =
-    let same : h.0 ≡ block = one-of h.0 block (sym h.1 ∙ e) in
+    let same : h.0 ≡ block = same_Some h.0 block (sym h.1 ∙ e) in
     subst (λ (b : Array). Holds (grid_of b) (whole named p.nodes n) (box_of p.nodes n c)) same h.2
-  where
-    one-of : (a b : Array) → Some a ≡ Some b → a ≡ b
-    one-of a b e = cc
 
 -- the block of a key with a name holds its node's elements
 key-holds : (p : Plan) (named : Named) (key n c : ℕ) (block : Array) → HasLaws p named → key < length (tasks_of p) → HaveAll p named key → value named (tasks_of p) key ≡ Some block → name_of p.nodes (nodes_saved p) key ≡ Some (n, c)
@@ -78,16 +76,13 @@ meets-none p named laws h key fault = lacks-none p named (length (tasks_of p)) k
 
 -- ## The first key that has no value
 
-both-true : (a b : Bool) → a ≡ true → b ≡ true → (a && b) ≡ true
-both-true a b h k = ap (λ x. x && b) h ∙ k
-
 all-some : {A : Type 0} (f : ℕ → Option A) (n : ℕ) (ks : List ℕ) → ((k : ℕ) → k < n → IsSome (f k)) → AllByRecursion (λ k. k < n) ks → list_all (λ k. is_some (f k)) ks ≡ true
 all-some f n [] h a = refl
-all-some f n (k ∷ ks) h a = both-true _ _ (h k a.0) (all-some f n ks h a.1)
+all-some f n (k ∷ ks) h a = and_from _ _ (h k a.0) (all-some f n ks h a.1)
 
 faulty-here : (p : Plan) (named : Named) (key : ℕ) → IsEarlier (deps_in p) → HaveAll p named key → value named (tasks_of p) key ≡ None → faulty (deps_in p) (value named (tasks_of p)) key ≡ true
 faulty-here p named key earlier h e =
-    both-true _ _ (all-some (value named (tasks_of p)) key (deps_in p key) h (earlier.below key)) (ap is_none e)
+    and_from _ _ (all-some (value named (tasks_of p)) key (deps_in p key) h (earlier.below key)) (ap is_none e)
 
 zero-at : (p : Plan) (named : Named) (key n c : ℕ) → HasLaws p named → key < length (tasks_of p) → HaveAll p named key → faulty (deps_in p) (value named (tasks_of p)) key ≡ true → name_of p.nodes (nodes_saved p) key ≡ Some (n, c)
     → DividesByZero named p.nodes n c → MeetsZero p named n (index_of p n c)

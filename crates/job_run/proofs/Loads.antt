@@ -2,7 +2,6 @@
 use Rattle.std.proofs.Common.{◌≡◌, ℕ, suc, ◌+◌, ◌<◌, ◌≤◌, List, [], ◌∷◌, ◌++◌, length, take, get_or, cond, refl, ap, sym, ◌∙◌, subst, inl, inr, arith, length-append, Bool, true, false, Some}
 use Rattle.std.proofs.Math.Seq.{get_or-append_seam}
 use Rattle.std.proofs.lemmas.List.{get_or_append_left, take_more}
-use Rattle.std.proofs.lemmas.Option.{get_or_from_slice_get, slice_get_read}
 use Rattle.io_edge.specs.Cause.{Rose}
 use Rattle.io_edge.specs.Content.{Content, Told, OnTold, file_at}
 use Rattle.io_edge.specs.Given.{Piece}
@@ -20,7 +19,7 @@ use Rattle.job_run.specs.Loading.{AreHeads, HeadEnds, IsHeadFor, IsRefusedAt, Lo
 use Rattle.job_run.specs.Plan.{Plan, input_shapes}
 use Rattle.job_run.specs.Runs.{ReadCause}
 use Rattle.job_run.specs.Told.{array_told}
-use Rattle.job_run.proofs.GivenLoads.{refusal_given}
+use Rattle.job_run.proofs.GivenLoads.{refusal_given, shape_at}
 use Rattle.job_run.proofs.Told.{held_array, inputs_there, on_content, on_told, told_fact}
 
 -- ## Declared shapes
@@ -37,9 +36,6 @@ pub shapes_more : (nodes : List Node) (i : ℕ) (node : Node) → i < length nod
 shapes_more nodes i node h is = ap input_shapes (take_more nodes i node h ∙ ap (λ n. take i nodes ++ n ∷ []) (sym is)) ∙ shapes_append (take i nodes) (node ∷ [])
 
 -- ## One more of a list
-
-read_shape : (shapes : List (List ℕ)) (k : ℕ) (shape : List ℕ) → k < length shapes → shape ≡ get_or shapes k shape → get_or shapes k [] ≡ shape
-read_shape shapes k shape h is = get_or_from_slice_get shapes k shape [] (slice_get_read shapes (length shapes) k shape refl h is)
 
 pushed : {X : Type 0} (P : ℕ → X → Type 0) (xs : List X) (x d : X) → ((k : ℕ) → k < length xs → P k (get_or xs k d)) → P (length xs) x → (k : ℕ) → k < length (xs ++ x ∷ []) → P k (get_or (xs ++ x ∷ []) k d)
 pushed {X} P xs x d each next k h = elim (below_or k (length xs)) [
@@ -59,7 +55,7 @@ pub record Next (shapes : List (List ℕ)) (files now : List Content) (count k :
   pub shape_is : shape ≡ get_or shapes k shape
 
 shape_next : (shapes : List (List ℕ)) (files now : List Content) (count k : ℕ) (shape : List ℕ) → Next shapes files now count k shape → shape ≡ get_or shapes count []
-shape_next shapes files now count k shape n = sym (read_shape shapes k shape n.within n.shape_is) ∙ ap (λ i. get_or shapes i []) (sym n.place)
+shape_next shapes files now count k shape n = sym (shape_at shapes k shape n.within n.shape_is) ∙ ap (λ i. get_or shapes i []) (sym n.place)
 
 file_next : (shapes : List (List ℕ)) (files now : List Content) (count k : ℕ) (shape : List ℕ) → Next shapes files now count k shape → file_at now k ≡ file_at files count
 file_next shapes files now count k shape n = ap (λ fs. file_at fs k) n.same ∙ ap (file_at files) (sym n.place)

@@ -1,8 +1,9 @@
 -- The boxes of the keys that were run: one more for each key of the node, and every index in the end.
 use Rattle.std.proofs.Common.{◌≡◌, ℕ, zero, suc, ◌+◌, ◌<◌, Bool, true, false, cond, List, [], ◌∷◌, ◌++◌, length, take, get_or, ap, sym, subst, refl, ◌∙◌, arith, eq-eqb}
 use Rattle.std.specs.Prelude.{Option, Some, None, nat_eq}
-use Rattle.std.proofs.lemmas.Bool.{eqb-true}
+use Rattle.std.proofs.lemmas.Bool.{eqb-true, false_from_ne_true}
 use Rattle.std.proofs.lemmas.List.{length-map, take_more, take_all}
+use Rattle.small_facts.proofs.Lists.{cond_cons_append}
 use Rattle.nd_shape.specs.Index.{IsIn}
 use Rattle.nd_shape.specs.Region.{Box, moved}
 use Rattle.array_expr.specs.Node.{shape_at, IsExpression}
@@ -19,16 +20,12 @@ use Rattle.job_run.proofs.SavedArrays.{layout-cuts}
 abbrev Names : Type 0
 Names = List (Option (ℕ × ℕ))
 
-box-before : (b : Bool) (box : Box) (xs ys : List Box) → cond b (box ∷ (xs ++ ys)) (xs ++ ys) ≡ cond b (box ∷ xs) xs ++ ys
-box-before true box xs ys = refl
-box-before false box xs ys = refl
-
 boxes-append : (layout : List (List ℕ)) (n : ℕ) (xs ys : Names) → boxes_in layout n (xs ++ ys) ≡ boxes_in layout n xs ++ boxes_in layout n ys
 boxes-append layout n [] ys = refl
 boxes-append layout n (None ∷ xs) ys = boxes-append layout n xs ys
 boxes-append layout n (Some x ∷ xs) ys =
     ap (λ bs. cond (nat_eq x.0 n) (region layout x.1 ∷ bs) bs) (boxes-append layout n xs ys)
-    ∙ box-before (nat_eq x.0 n) (region layout x.1) (boxes_in layout n xs) (boxes_in layout n ys)
+    ∙ cond_cons_append (nat_eq x.0 n) (region layout x.1) (boxes_in layout n xs) (boxes_in layout n ys)
 
 -- one key more
 pub boxes-next : (p : Plan) (key k : ℕ) → key < length (lowered p.nodes (nodes_saved p)).names
@@ -45,12 +42,8 @@ box-here layout n c m e = ap (λ b. cond b (region layout c ∷ []) []) (eq-eqb 
 no-box : (b : Bool) (box : Box) → b ≡ false → cond b (box ∷ []) [] ≡ []
 no-box b box e = ap (λ d. cond d (box ∷ []) []) e
 
-other-node : (b : Bool) → (b ≡ true → ⊥) → b ≡ false
-other-node true h = absurd (h refl)
-other-node false h = refl
-
 pub box-elsewhere : (layout : List (List ℕ)) (n c m : ℕ) → (m ≡ n → ⊥) → boxes_in layout n (Some (m, c) ∷ []) ≡ []
-box-elsewhere layout n c m other = no-box (nat_eq m n) (region layout c) (other-node (nat_eq m n) (λ t. other (eqb-true m n t)))
+box-elsewhere layout n c m other = no-box (nat_eq m n) (region layout c) (false_from_ne_true (nat_eq m n) (λ t. other (eqb-true m n t)))
 
 -- ## Every index
 

@@ -1,12 +1,11 @@
 -- What open inputs tell is what is named, and what holds of that holds of the inputs' arrays.
-use Rattle.std.proofs.Common.{◌≡◌, ℕ, zero, suc, pos, ◌<◌, ◌≤◌, List, [], ◌∷◌, length, get_or, refl, ap, ap₂, sym, ◌∙◌, subst, arith, false}
-use Rattle.std.specs.Prelude.{IsSome, replicate}
+use Rattle.std.proofs.Common.{◌≡◌, ℕ, zero, suc, pos, ◌<◌, ◌≤◌, List, [], ◌∷◌, length, get_or, refl, ap, sym, ◌∙◌, subst, arith, false}
+use Rattle.std.specs.Prelude.{IsSome}
 use Rattle.std.proofs.lemmas.List.FromFn.{get_or-map-range_with_len, length-map-range_with_len}
 use Rattle.io_edge.specs.Content.{Content, Told, Untold, OnTold, file_at, told_bytes}
 use Rattle.io_edge.specs.View.{Files, Shows}
 use Rattle.nd_shape.specs.Block.{Array}
 use Rattle.nd_shape.specs.Index.{IsIn, place, index_at}
-use Rattle.nd_shape.specs.Region.{moved}
 use Rattle.nd_shape.specs.Shape.{elements}
 use Rattle.nd_shape.proofs.Places.{place-below, index_at-place, IsIn-length}
 use Rattle.npy_codec.specs.declared.head.Head.{Head}
@@ -20,6 +19,7 @@ use Rattle.job_run.specs.Told.{array_told, arrays_told, named_told}
 use Rattle.job_run.specs.Values.{Named, OnInputs}
 use Rattle.job_run.proofs.OneArray.{one_list}
 use Rattle.job_run.proofs.Told.{on_told, told_fact}
+use Rattle.npy_codec.proofs.WrittenFiles.{moved_by_nothing}
 
 -- ## The array that a file tells
 
@@ -56,12 +56,6 @@ fits_told shapes files heads are count = record {
 
 -- ## The inputs
 
-moved_by_nothing : (dims i : List ℕ) → length i ≡ length dims → moved (replicate (length dims) 0) i ≡ i
-moved_by_nothing [] [] e = refl
-moved_by_nothing [] (k ∷ i) e = absurd (omega arith)
-moved_by_nothing (d ∷ dims) [] e = absurd (omega arith)
-moved_by_nothing (d ∷ dims) (k ∷ i) e = ap₂ (λ a b. a ∷ b) (omega arith) (moved_by_nothing dims i (omega arith))
-
 told_whole : (shape bytes : List ℕ) (head : Head) → IsHeadFor shape (Told bytes) head → HoldsArray shape bytes (array_told (Told bytes) head)
 told_whole shape bytes head is = record {
   is = record {
@@ -86,7 +80,7 @@ own_bytes : (file : Content) → OnTold file (λ bytes. file ≡ Told bytes)
 own_bytes (Told bytes) = refl
 own_bytes (Untold size) = tt
 
-some_told : (file : Content) (bytes : List ℕ) → file ≡ Told bytes → IsSome (told_bytes file)
+pub some_told : (file : Content) (bytes : List ℕ) → file ≡ Told bytes → IsSome (told_bytes file)
 some_told file bytes e = let P : Content → Type 0 = λ f. IsSome (told_bytes f) in subst P (sym e) refl
 
 -- the inputs of a plan, opened, and their heads

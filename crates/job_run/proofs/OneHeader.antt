@@ -1,6 +1,5 @@
 -- The bytes of a header say one thing.
 use Rattle.std.proofs.Common.{◌≡◌, ℕ, List, [], ◌∷◌, ◌++◌, Some, None, refl, ap, sym, subst, ◌∙◌}
-use Rattle.std.specs.Prelude.{slice_get}
 use Rattle.grammar.specs.declared.symbol.Symbol.{Symbol}
 use Rattle.grammar.specs.declared.symbol.Symbol.TheVariants.{Part}
 use Rattle.grammar.specs.Grammars.{Event, Step, took, did_all, tokens, Begins, Derives, taken, refused, step}
@@ -11,11 +10,10 @@ use Rattle.npy_header.specs.Headers.{Fields, IsHeader}
 use Rattle.npy_header.specs.Kinds.{kind_of}
 use Rattle.npy_header.specs.HeaderRows.{header_rows, certificate}
 use Rattle.npy_header.specs.Scans.{fresh, fields_of, after_events}
-use Rattle.npy_header.specs.Typed.{start, parts}
 use Rattle.npy_header.proofs.Table.{header_ll1, header_moves}
 use Rattle.npy_header.proofs.Meaning.{G}
 use Rattle.npy_header.proofs.Complete.{built-header}
-use Rattle.npy_header.proofs.Readings.{reading-start}
+use Rattle.npy_header.proofs.Readings.{reading-start, part_0}
 
 -- events that read the same tokens from what is left are the same
 abbrev OneReading : List Symbol → List ℕ → Type 0
@@ -39,13 +37,9 @@ one_reading : (w : List ℕ) (left : List Symbol) → IsReady header_rows certif
 one_reading [] left ready = one_end left (step G left None) refl
 one_reading (b ∷ w) left ready = one_token b w left (step G left (Some (kind_of b))) ready refl (λ after r. one_reading w after r)
 
-first_part : slice_get parts 0 ≡ Some start
-unfolding parts
-first_part = refl
-
 pub one_header : (w : List ℕ) (f g : Fields) → IsHeader w f → IsHeader w g → f ≡ g
 one_header w f g x y =
     let a = built-header w f x in
     let b = built-header w g y in
-    let same : a.events ≡ b.events = one_reading w (Part 0 ∷ []) reading-start.ready a.events b.events (a.derives 0 first_part) (b.derives 0 first_part) a.words b.words in
+    let same : a.events ≡ b.events = one_reading w (Part 0 ∷ []) reading-start.ready a.events b.events (a.derives 0 part_0) (b.derives 0 part_0) a.words b.words in
     sym a.fields ∙ (ap (λ es. fields_of (after_events es fresh)) same ∙ b.fields)

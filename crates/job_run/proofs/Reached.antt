@@ -4,6 +4,7 @@ use Rattle.std.specs.Prelude.{All, Contains, IsSome}
 use Rattle.std.specs.List.{AllByRecursion, flat_map}
 use Rattle.std.proofs.lemmas.List.{get_or-map, length-map}
 use Rattle.std.proofs.lemmas.List.FromFn.{get_or-map-range_with_len}
+use Rattle.small_facts.proofs.Every.{all_join, all_from_members}
 use Rattle.array_expr.specs.declared.expr.Node.{Node}
 use Rattle.array_expr.specs.Node.{IsExpression}
 use Rattle.nd_grid.proofs.Turning.{position-below, position-at}
@@ -16,12 +17,11 @@ use Rattle.task_graph.specs.Graphs.{operation, shape_of, task_at, value}
 use Rattle.task_graph.specs.Numberings.{IsNumbering}
 use Rattle.task_graph.specs.Orders.{is_in, moved_task, position, visit_all, visit_within, depth_first, renumbered}
 use Rattle.task_graph.proofs.Renumbered.{renumbered-value}
-use Rattle.task_graph.proofs.Visits.{IsOrder, all-from, depth-first, numbering}
+use Rattle.task_graph.proofs.Visits.{IsOrder, depth-first, numbering}
 use Rattle.lowering_laws.specs.Sources.{Source, key_of}
 use Rattle.lowering_laws.specs.Lowered.{source_at, lowering, lowered, keys_of}
 use Rattle.lowering_laws.specs.Whole.{LawOfOrder, saved_key}
 use Rattle.lowering_laws.proofs.Order.{AreLowered, lowering-order}
-use Rattle.task_graph.proofs.Rising.{all-join}
 use Rattle.lowering_laws.proofs.Runs.{order-law, length-keys, wanted_keys}
 
 -- ## What a visit adds
@@ -38,8 +38,8 @@ module _ (deps : ℕ → List ℕ) (P : ℕ → Type 0) (closed : (k d : ℕ) �
   visit-keeps (suc f) k done p a =
       elim (is_in done k) as (λ b. AllByRecursion P (elim b [ true ↦ done | false ↦ visit_all (visit_within f deps) (deps k) done ++ k ∷ [] ])) [
         | true ↦ a
-        | false ↦ all-join P (visit_all (visit_within f deps) (deps k) done) (k ∷ [])
-            (visits-keep (visit_within f deps) (visit-keeps f) (deps k) done (all-from P (deps k) (λ d c. closed k d p c)) a) (p, tt)
+        | false ↦ all_join P (visit_all (visit_within f deps) (deps k) done) (k ∷ [])
+            (visits-keep (visit_within f deps) (visit-keeps f) (deps k) done (all_from_members P (deps k) (λ d c. closed k d p c)) a) (p, tt)
       ]
 
 depth-keeps : (tasks : List Task) (P : ℕ → Type 0) → ((k d : ℕ) → P k → Contains (deps_of (shape_of tasks) k) d → P d) → (wanted : List ℕ) → AllByRecursion P wanted → AllByRecursion P (depth_first tasks wanted)
@@ -71,7 +71,7 @@ all-wanted : (P : ℕ → Type 0) (sources : List Source) (saves : List ℕ) →
 all-wanted P sources [] h = tt
 all-wanted P sources (n ∷ saves) h =
     let s = source_at sources n in
-    all-join P (keys_of s) (flat_map (λ ks. ks) (wanted_keys sources saves))
+    all_join P (keys_of s) (flat_map (λ ks. ks) (wanted_keys sources saves))
     (each P (keys_of s) (λ i l. let lt : i < blocks s.layout = omega (arith, length-keys s) in subst P (sym (key-number s i lt)) (h 0 i (omega arith) lt)))
     (all-wanted P sources saves (λ j c lj lc. h (suc j) c (omega arith) lc))
 
@@ -122,7 +122,7 @@ all-valued files nodes saves ex inside has k h =
     let P : ℕ → Type 0 = λ i. IsSome (value files tasks i) in
     let old : (j c : ℕ) → j < length saves → c < blocks (source_at sources (get_or saves j 0)).layout → P (key_of (source_at sources (get_or saves j 0)) c) = λ j c lj lc.
     let key = key_of (source_at sources (get_or saves j 0)) c in
-    let in_order : Contains order key = each-wanted (Contains order) sources saves (all-from (Contains order) wanted o.has) j c lj lc in
+    let in_order : Contains order key = each-wanted (Contains order) sources saves (all_from_members (Contains order) wanted o.has) j c lj lc in
     let at : value files (renumbered tasks order) (saved_key nodes saves j c) ≡ value files tasks key =
     ap (value files (renumbered tasks order)) (saved-at nodes saves order j c refl lj lc) ∙ (same (position order key) (position-below order key in_order) ∙ ap (value files tasks) (position-at order key in_order)) in
     subst IsSome at (has j c lj lc) in

@@ -40,7 +40,7 @@ IsEarly (Zero node block) = ⊥
 IsEarly WriteFault = ⊥
 IsEarly end = Unit {0}
 
-left_alone : (p : Plan) (old new : Files) → new.held ≡ old.held → AreRight p old new
+pub left_alone : (p : Plan) (old new : Files) → new.held ≡ old.held → AreRight p old new
 left_alone p old new same = always p old (λ blocks. AreLeft (names_saved p) (files_of p (held_in blocks)) old new) (λ blocks k h. inl (ap (λ f. f (get_or (names_saved p) k [])) same))
 
 early_saves : (p : Plan) (old new : Files) (end : Ended) → IsEarly end → new.held ≡ old.held → Saves p old new end

@@ -5,11 +5,11 @@ use Rattle.std.specs.List.{AllByRecursion, flat_map}
 use Rattle.std.proofs.lemmas.Bool.{cases_lt}
 use Rattle.std.proofs.lemmas.Grind.{get_or_default_zero}
 use Rattle.std.proofs.lemmas.List.{get_or_past}
+use Rattle.small_facts.proofs.Every.{all_join}
 use Rattle.cluster_msgs.specs.Shape.{deps_of}
 use Rattle.cluster_msgs.specs.Values.{cone, faulty}
 use Rattle.cluster_msgs.proofs.ValueLemmas.{cone-below}
 use Rattle.task_graph.specs.Graphs.{shape_of, value}
-use Rattle.task_graph.proofs.Rising.{all-join}
 use Rattle.lowering_laws.specs.Lowered.{lowered}
 use Rattle.lowering_laws.specs.Named.{name_of}
 use Rattle.lowering_laws.specs.Faults.{DividesByZero, IsZeroDivide}
@@ -27,7 +27,7 @@ use Rattle.job_run.proofs.Reached.{all-parts, all-valued, each, member}
 -- a fact of each member of each list is one of each member of the joined list
 pub all-joined : (P : ℕ → Type 0) (xss : List (List ℕ)) → ((j c : ℕ) → j < length xss → c < length (get_or xss j []) → P (get_or (get_or xss j []) c 0)) → AllByRecursion P (flat_map (λ ks. ks) xss)
 all-joined P [] h = tt
-all-joined P (xs ∷ xss) h = all-join P xs (flat_map (λ ks. ks) xss) (each P xs (λ c l. h 0 c (omega arith) l)) (all-joined P xss (λ j c lj lc. h (suc j) c (omega arith) lc))
+all-joined P (xs ∷ xss) h = all_join P xs (flat_map (λ ks. ks) xss) (each P xs (λ c l. h 0 c (omega arith) l)) (all-joined P xss (λ j c lj lc. h (suc j) c (omega arith) lc))
 
 pub each-joined : (P : ℕ → Type 0) (xss : List (List ℕ)) → AllByRecursion P (flat_map (λ ks. ks) xss) → (j c : ℕ) → j < length xss → c < length (get_or xss j []) → P (get_or (get_or xss j []) c 0)
 each-joined P [] a j c lj lc = absurd (omega (arith, lj))

@@ -1,10 +1,7 @@
 -- Files that stay the same but for what they hold.
-use Rattle.std.proofs.Common.{◌≡◌, ℕ, ◌≢◌, ◌⊎◌, List, length, refl, ◌∙◌, arith}
+use Rattle.std.proofs.Common.{◌≡◌, List, length, refl, ◌∙◌, arith}
 use Rattle.saved_files.specs.Saving.{Saving}
 use Rattle.job_run.specs.Evaluating.{AreSameFiles}
-
-pub other-or : (a b : ℕ) → (a ≡ b) ⊎ (a ≢ b)
-other-or a b = grind arith
 
 pub same-then : (old mid new : List Saving) → AreSameFiles old mid → AreSameFiles mid new → AreSameFiles old new
 same-then old mid new a b =

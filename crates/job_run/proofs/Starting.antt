@@ -1,8 +1,5 @@
 -- The graph of a plan over the heads of its inputs is a job.
 use Rattle.std.proofs.Common.{◌≡◌, ℕ, zero, suc, ◌+◌, ◌<◌, List, [], ◌∷◌, length, take, get_or, cond, refl, sym, ◌∙◌, subst, arith, Bool, true, false}
-use Rattle.std.specs.Prelude.{All}
-use Rattle.std.proofs.lemmas.Grind.{get_or_default_zero}
-use Rattle.std.proofs.lemmas.List.{length-map}
 use Rattle.std.proofs.lemmas.List.Sums.{sum_by-cons}
 use Rattle.io_edge.specs.Content.{Content}
 use Rattle.nd_shape.specs.Region.{IsPart}
@@ -21,7 +18,7 @@ use Rattle.lowering_laws.specs.Lowered.{no_node}
 use Rattle.lowering_laws.specs.Whole.{AreFedAll}
 use Rattle.block_lowering.specs.Jobs.{IsJob, IsLoad}
 use Rattle.job_run.specs.Loading.{AreHeads}
-use Rattle.job_run.specs.Plan.{Plan, Saved, IsRunnable, input_shapes, nodes_saved}
+use Rattle.job_run.specs.Plan.{input_shapes}
 
 -- ## Inputs by their numbers
 
@@ -72,9 +69,3 @@ is_job nodes tasks files heads formed loaded fed are count = record {
 }
 
 -- ## The nodes that are saved
-
--- they are there
-pub saves_there : (p : Plan) → IsRunnable p → All (λ n. n < length p.nodes) (nodes_saved p)
-saves_there p runs k d h =
-    let P : ℕ → Type 0 = λ n. n < length p.nodes in
-    subst P (sym (get_or_default_zero (nodes_saved p) k d h)) (runs.saves k (omega (arith, h, length-map p.saves (λ (s : Saved). s.node))))

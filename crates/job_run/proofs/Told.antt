@@ -1,12 +1,11 @@
 -- What inputs hold, as a list, and the array of each.
-use Rattle.std.proofs.Common.{◌≡◌, ℕ, zero, suc, ◌<◌, pos, List, [], ◌∷◌, length, get_or, refl, ap, ap₂, sym, ◌∙◌, subst, arith, Option, Some, None}
-use Rattle.std.specs.Prelude.{IfSome, IsSome, IsTrue, option_and_then, replicate}
+use Rattle.std.proofs.Common.{◌≡◌, ℕ, zero, suc, ◌<◌, pos, List, [], ◌∷◌, length, get_or, refl, ap, sym, ◌∙◌, subst, arith, Option, Some, None}
+use Rattle.std.specs.Prelude.{IfSome, IsSome, IsTrue, option_and_then}
 use Rattle.std.specs.Option.{option_map}
 use Rattle.std.proofs.lemmas.List.FromFn.{get_or-map-range_with_len, length-map-range_with_len}
 use Rattle.io_edge.specs.Content.{Content, Told, Untold, OnTold, file_at}
 use Rattle.io_edge.specs.View.{Files, Shows}
 use Rattle.nd_shape.specs.Index.{index_at, place}
-use Rattle.nd_shape.specs.Region.{moved}
 use Rattle.nd_shape.specs.Shape.{elements}
 use Rattle.nd_shape.proofs.Places.{IsIn-length, index_at-place, place-below}
 use Rattle.npy_codec.specs.declared.head.Head.{Head}
@@ -14,6 +13,7 @@ use Rattle.npy_codec.specs.Files.{HasHead}
 use Rattle.npy_codec.specs.Regions.{HoldsRegion, element, whole}
 use Rattle.job_run.specs.Inputs.{HoldsArray, told_all}
 use Rattle.job_run.specs.Told.{array_told}
+use Rattle.npy_codec.proofs.WrittenFiles.{moved_by_nothing}
 
 abbrev value : {A : Type 0} → A → Option A → A
 value d None = d
@@ -84,12 +84,6 @@ pub on_content : (c : Content) (P Q : List ℕ → Type 0) → ((b : List ℕ) �
 on_content (Told bytes) P Q f on = f bytes on
 on_content (Untold s) P Q f on = tt
 
-moved_whole : (dims i : List ℕ) → length i ≡ length dims → moved (replicate (length dims) 0) i ≡ i
-moved_whole [] [] e = refl
-moved_whole [] (k ∷ i) e = absurd (omega arith)
-moved_whole (d ∷ dims) [] e = absurd (omega arith)
-moved_whole (d ∷ dims) (k ∷ i) e = ap₂ (λ a b. a ∷ b) (omega arith) (moved_whole dims i (omega arith))
-
 told_region : (bytes : List ℕ) (head : Head) → HoldsRegion bytes head (whole head.shape) (array_told (Told bytes) head)
 told_region bytes head = record {
   shape = refl;
@@ -97,7 +91,7 @@ told_region bytes head = record {
   each = λ i inside.
       let at = place head.shape i in
       get_or-map-range_with_len (λ p. element bytes head (index_at head.shape p)) 0 (elements head.shape) at at (pos 0) (place-below head.shape i inside) (omega arith)
-      ∙ ap (element bytes head) (index_at-place head.shape i inside ∙ sym (moved_whole head.shape i (IsIn-length head.shape i inside)));
+      ∙ ap (element bytes head) (index_at-place head.shape i inside ∙ sym (moved_by_nothing head.shape i (IsIn-length head.shape i inside)));
 }
 
 -- a file with this head is that of the array that it tells

@@ -1,10 +1,10 @@
 -- Blocks that wait to be written, and are.
-use Rattle.std.proofs.Common.{◌≡◌, ◌≢◌, ℕ, ◌+◌, ◌-◌, ◌<◌, ◌≤◌, ◌⊎◌, inl, inr, List, [], ◌∷◌, ◌++◌, length, Bool, true, false, cond, ap, sym, subst, refl, ◌∙◌, arith, append-nil, append_assoc, length-append, eq-eqb, get_or}
+use Rattle.std.proofs.Common.{◌≡◌, ◌≢◌, ℕ, ◌+◌, ◌-◌, ◌<◌, ◌≤◌, ◌⊎◌, inl, inr, List, [], ◌∷◌, ◌++◌, length, cond, ap, sym, subst, refl, ◌∙◌, arith, append-nil, append_assoc, length-append, eq-eqb, get_or}
 use Rattle.std.specs.Prelude.{Option, Some, None, nat_eq, map}
 use Rattle.std.specs.Arc.{arc_value}
 use Rattle.std.specs.declared.sync.Arc.{Arc}
 use Rattle.std.specs.declared.alloc.Global.{Global}
-use Rattle.std.proofs.lemmas.Bool.{cases_lt, eqb-true}
+use Rattle.std.proofs.lemmas.Bool.{cases_lt, eqb-true, false_from_ne_true, cases_eq, cond-true, cond-false}
 use Rattle.std.proofs.lemmas.List.{get_or_append_left, get_or-append_right, length-map, map-append}
 use Rattle.io_edge.specs.Content.{OnTold}
 use Rattle.nd_shape.specs.Block.{Array}
@@ -23,7 +23,7 @@ use Rattle.job_run.specs.Values.{Named}
 use Rattle.job_run.proofs.FilledFiles.{file-shape, right-part, turned}
 use Rattle.job_run.proofs.MadeBoxes.{box-here, box-elsewhere, boxes-next}
 use Rattle.job_run.proofs.SavePlaces.{IsPlace}
-use Rattle.job_run.proofs.SavingSteps.{other-or}
+use Rattle.saved_files.proofs.Written.{old_box}
 
 -- ## One file
 
@@ -58,7 +58,7 @@ held-written p named boxes w old new runs ex are c fills h k there = elim (h.spl
 -- writing it failed
 pub held-failed : (p : Plan) (named : Named) (boxes : ℕ → List Box) (w : Waiting) (old new : List Saving) → IsRunnable p → IsExpression p.nodes → AreOpenFor p old → ChangesAt w.place old new
     → FillsSome w.regions w.blocks (saving_at old w.place) (saving_at new w.place) → FilesHeld p named boxes w old → FilesRight p named new
-held-failed p named boxes w old new runs ex are c fills h k there = elim (other-or k w.place) [
+held-failed p named boxes w old new runs ex are c fills h k there = elim (cases_eq k w.place) [
   | inl e ↦
       let here : w.place < length p.saves = subst (λ j. j < length p.saves) e there in
       let f : OnTold (saving_at new w.place).content (IsFilling (array_at p named w.place) (h.written w.place)) =
@@ -84,7 +84,7 @@ pub held-none : (p : Plan) (named : Named) (boxes : ℕ → List Box) (w : Waiti
 held-none p named boxes w files none h = record {
   written = boxes;
   there = h;
-  split = λ k there. elim (other-or k w.place) [
+  split = λ k there. elim (cases_eq k w.place) [
     | inl e ↦ inl (e, sym (ap (λ bs. boxes k ++ bs) none ∙ append-nil (boxes k)))
     | inr ne ↦ inr (ne, refl)
   ];
@@ -104,9 +104,6 @@ group-none p w none empty =
     }
 
 -- ## One block more
-
-box-old : (boxes : List Box) (box : Box) (k : ℕ) → k < length boxes → box_at boxes k ≡ box_at (boxes ++ box ∷ []) k
-box-old boxes box k h = sym (get_or_append_left boxes (box ∷ []) (record { start = []; lengths = [] }) k h)
 
 box-new : (boxes : List Box) (box : Box) (k : ℕ) → k ≡ length boxes → box ≡ box_at (boxes ++ box ∷ []) k
 box-new boxes box k e =
@@ -128,7 +125,7 @@ block-new blocks b k e =
 pub each-more : (P : Box → Array → Type 0) (regions : List Box) (blocks : List (Arc Array Global)) (box : Box) (b : Arc Array Global) → length blocks ≡ length regions → ((k : ℕ) → k < length regions → P (box_at regions k) (block_at blocks k)) → P box (arc_value b)
     → (k : ℕ) → k < length (regions ++ box ∷ []) → P (box_at (regions ++ box ∷ []) k) (block_at (blocks ++ b ∷ []) k)
 each-more P regions blocks box b count old new k h = elim (cases_lt k (length regions)) [
-  | inl low ↦ subst (λ x. P x (block_at (blocks ++ b ∷ []) k)) (box-old regions box k low) (subst (P (box_at regions k)) (block-old blocks b k (omega (arith, low, count))) (old k low))
+  | inl low ↦ subst (λ x. P x (block_at (blocks ++ b ∷ []) k)) (old_box regions box k low) (subst (P (box_at regions k)) (block-old blocks b k (omega (arith, low, count))) (old k low))
   | inr high ↦
       let e : k ≡ length regions = omega (arith, h, high, length-append regions (box ∷ [])) in
       subst (λ x. P x (block_at (blocks ++ b ∷ []) k)) (box-new regions box k e) (subst (P box) (block-new blocks b k (e ∙ sym count)) new)
@@ -170,21 +167,11 @@ held-more p named before after w box b files count adds holds h = record {
 abbrev pub put_box : ℕ → Box → (ℕ → List Box) → ℕ → List Box
 put_box place box boxes k = cond (nat_eq k place) (boxes k ++ box ∷ []) (boxes k)
 
-cond-true : {A : Type 0} (b : Bool) (x y : A) → b ≡ true → cond b x y ≡ x
-cond-true b x y e = ap (λ c. cond c x y) e
-
-cond-false : {A : Type 0} (b : Bool) (x y : A) → b ≡ false → cond b x y ≡ y
-cond-false b x y e = ap (λ c. cond c x y) e
-
 pub adds-put : (p : Plan) (place : ℕ) (box : Box) (boxes : ℕ → List Box) → AddsBox p place box boxes (put_box place box boxes)
-adds-put p place box boxes k there = elim (other-or k place) [
+adds-put p place box boxes k there = elim (cases_eq k place) [
   | inl e ↦ inl (e, cond-true (nat_eq k place) (boxes k ++ box ∷ []) (boxes k) (eq-eqb k place e))
-  | inr ne ↦ inr (ne, cond-false (nat_eq k place) (boxes k ++ box ∷ []) (boxes k) (other-test (nat_eq k place) (λ t. ne (eqb-true k place t))))
+  | inr ne ↦ inr (ne, cond-false (nat_eq k place) (boxes k ++ box ∷ []) (boxes k) (false_from_ne_true (nat_eq k place) (λ t. ne (eqb-true k place t))))
 ]
-  where
-    other-test : (b : Bool) → (b ≡ true → ⊥) → b ≡ false
-    other-test true h = absurd (h refl)
-    other-test false h = refl
 
 -- other boxes that are the same
 pub held-same : (p : Plan) (named : Named) (boxes now : ℕ → List Box) (w : Waiting) (files : List Saving) → ((k : ℕ) → k < length p.saves → now k ≡ boxes k) → FilesHeld p named boxes w files → FilesHeld p named now w files
@@ -221,7 +208,7 @@ below-skip p named x place boxes w files other h = record {
   after = h.after;
   adds = λ k there. elim (h.adds k there) [
     | inl a ↦ inl (omega (arith, a.0), a.1, a.2)
-    | inr b ↦ inr ((λ lt. elim (other-or k place) [ inl e ↦ subst (λ j. node_at p j ≢ x.0) (sym e) other | inr ne ↦ b.0 (omega (arith, lt, ne)) ]), b.1)
+    | inr b ↦ inr ((λ lt. elim (cases_eq k place) [ inl e ↦ subst (λ j. node_at p j ≢ x.0) (sym e) other | inr ne ↦ b.0 (omega (arith, lt, ne)) ]), b.1)
   ];
   held = h.held;
 }

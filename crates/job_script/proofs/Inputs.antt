@@ -1,6 +1,8 @@
 -- The files that are read are those of the inputs that a text asks for, in their order.
 use Rattle.std.proofs.Common.{◌≡◌, ℕ, suc, ◌+◌, ◌-◌, ◌^◌, Bool, true, false, cond, ◌||◌, nat_lt, nat_le, List, [], ◌∷◌, ◌++◌, length, map, Some, None, Ok, Err, refl, ap, sym, subst, ◌∙◌, arith, length-append}
 use Rattle.std.specs.Prelude.{Option, Result, slice_index_or, pos}
+use Rattle.std.proofs.Math.Nat.{zero-add}
+use Rattle.small_facts.proofs.Lists.{cond_cons_append}
 use Rattle.array_expr.specs.declared.op.Op.{Op}
 use Rattle.array_expr.specs.declared.op.Op.TheVariants as OpVariants
 use Rattle.array_expr.specs.Elem.{is_input}
@@ -24,7 +26,7 @@ use Rattle.job_script.specs.Earlier.{asks_input, inputs_from}
 
 -- ---- lists
 
-last-end : (us : List ℕ) (x e : ℕ) → slice_index_or (us ++ x ∷ []) (length us) e ≡ x
+pub last-end : (us : List ℕ) (x e : ℕ) → slice_index_or (us ++ x ∷ []) (length us) e ≡ x
 last-end [] x e = refl
 last-end (u ∷ us) x e = last-end us x e
 
@@ -41,10 +43,6 @@ none-more : (k : ℕ) (asked : List Placed) (p : Placed) → asks_input p.asked 
 none-more k [] p e = ap (λ b. cond b (k ∷ []) []) e
 none-more k (q ∷ asked) p e = ap (λ x. cond (asks_input q.asked) (k ∷ x) x) (none-more (suc k) asked p e)
 
-behind-if : (b : Bool) (k : ℕ) (w v : List ℕ) → cond b (k ∷ (w ++ v)) (w ++ v) ≡ cond b (k ∷ w) w ++ v
-behind-if true k w v = refl
-behind-if false k w v = refl
-
 one-more : (k : ℕ) (asked : List Placed) (p : Placed) → asks_input p.asked ≡ true → inputs_from k (asked ++ p ∷ []) ≡ inputs_from k asked ++ (k + length asked) ∷ []
 one-more k [] p e =
     let here : k ≡ k + 0 = omega arith in
@@ -52,7 +50,7 @@ one-more k [] p e =
 one-more k (q ∷ asked) p e =
     let at : suc k + length asked ≡ k + suc (length asked) = omega arith in
     ap (λ x. cond (asks_input q.asked) (k ∷ x) x) (one-more (suc k) asked p e)
-    ∙ (behind-if (asks_input q.asked) k (inputs_from (suc k) asked) ((suc k + length asked) ∷ [])
+    ∙ (cond_cons_append (asks_input q.asked) k (inputs_from (suc k) asked) ((suc k + length asked) ∷ [])
     ∙ ap (λ j. cond (asks_input q.asked) (k ∷ inputs_from (suc k) asked) (inputs_from (suc k) asked) ++ j ∷ []) at)
 
 -- ---- what is kept, and what steps leave
@@ -107,11 +105,8 @@ input-leaves op at d i f =
     let fit : Fit (named_input x) =
     nodes-pushed d.scoped.inputs (record { name = d.scoped.file; node = top_node x.waiting })
     ∙ (ap (λ k. map (λ n. n.node) d.scoped.inputs ++ k ∷ []) (top-pushed d.waiting.nodes (length d.asked))
-    ∙ (ap (λ w. w ++ length d.asked ∷ []) f ∙ sym (one-more 0 d.asked p i ∙ ap (λ k. inputs_from 0 d.asked ++ k ∷ []) (zero-plus (length d.asked))))) in
+    ∙ (ap (λ w. w ++ length d.asked ∷ []) f ∙ sym (one-more 0 d.asked p i ∙ ap (λ k. inputs_from 0 d.asked ++ k ∷ []) (zero-add (length d.asked))))) in
     number-leaves (nat_lt (length d.asked) 65536) x (record { at = at; why = Nodes }) (λ e. Ok (named_input e)) (ok-leaves (named_input x) fit)
-  where
-    zero-plus : (n : ℕ) → 0 + n ≡ n
-    zero-plus n = omega arith
 
 -- ---- each step
 

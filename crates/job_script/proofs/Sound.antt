@@ -5,7 +5,7 @@ use Rattle.std.specs.Str.{bytes_eq}
 use Rattle.std.proofs.lemmas.Bool.{cases_lt}
 use Rattle.std.proofs.lemmas.List.{length-take-le, length-drop}
 use Rattle.std.proofs.lemmas.List.Elements.{All-nil, All-head, All-tail, All-push, All-take, All-drop, All-weaker}
-use Rattle.std.proofs.lemmas.Option.{slice_get_within}
+use Rattle.std.proofs.lemmas.Option.{slice_get_within, none-some, same_Some}
 use Rattle.std.proofs.Math.Seq.{take-append_seam}
 use Rattle.array_expr.specs.declared.op.Op.{Op}
 use Rattle.array_expr.specs.declared.op.Op.TheVariants as OpVariants
@@ -31,7 +31,7 @@ use Rattle.job_script.specs.Scripts.{Scripted, going_on, run, IsScript}
 use Rattle.job_script.specs.Earlier.{NamesEarlier, AreEarlier, AreAsked, inputs_from, IsSound}
 use Rattle.job_script.proofs.Balance.{keeps, makes, takes_one, takes_two, takes_three, drops, opens, closes, effect_of, moved, AtLeast}
 use Rattle.job_script.proofs.Steps.{AreStepsServed, read-served}
-use Rattle.job_script.proofs.Inputs.{inputs-fit}
+use Rattle.job_script.proofs.Inputs.{inputs-fit, last-end}
 
 -- ---- how many operands wait
 
@@ -187,17 +187,11 @@ asking-leaves a at c hs d h s =
     (refused-leaves _ (suc c ∷ hs))
 
 called-there : (names : List Called) (w : List ℕ) (m k : ℕ) → AreAsked names m → node_called names w ≡ Some k → k < m
-called-there [] w m k a e = absurd (never e)
-  where
-    never : None ≡ Some k → ⊥
-    never e = cc
+called-there [] w m k a e = absurd (none-some k e)
 called-there (n ∷ ns) w m k a e = by-test (bytes_eq n.name w) (λ q. called-there ns w m k (All-tail (λ x. x.node < m) n ns a) q) e
   where
-    same : Some n.node ≡ Some k → n.node ≡ k
-    same e = cc
-
     by-test : (b : Bool) → (node_called ns w ≡ Some k → k < m) → cond b (Some n.node) (node_called ns w) ≡ Some k → k < m
-    by-test true later e = subst (λ j. j < m) (same e) (All-head (λ x. x.node < m) n ns a)
+    by-test true later e = subst (λ j. j < m) (same_Some n.node k e) (All-head (λ x. x.node < m) n ns a)
     by-test false later e = later e
 
 refer-leaves : (o : Option ℕ) (at c : ℕ) (hs : List ℕ) (d : Drafted) → ((k : ℕ) → o ≡ Some k → k < length d.asked) → Sound (c ∷ hs) d → Leaves (refer o at d) (suc c ∷ hs)
@@ -214,9 +208,6 @@ record Moves (d : Drafted) (fs before behind : List ℕ) : Type 0 where
 same-list : (gs fs : List ℕ) → Some gs ≡ Some fs → fs ≡ gs
 same-list gs fs e = cc
 
-no-list : (fs : List ℕ) → None ≡ Some fs → ⊥
-no-list fs e = cc
-
 to-kept : (gs fs : List ℕ) (d : Drafted) → Sound gs d → moved keeps gs ≡ Some fs → Sound fs d
 to-kept gs fs d s m = subst (λ x. Sound x d) (sym (same-list gs fs m)) s
 
@@ -226,25 +217,25 @@ to-made (c ∷ hs) fs d s m = (c, hs, record { sound = s; is = same-list (suc c 
 
 to-one : (gs fs : List ℕ) (d : Drafted) → Sound gs d → moved takes_one gs ≡ Some fs → (c : ℕ) × (hs : List ℕ) × Moves d fs (suc c ∷ hs) (suc c ∷ hs)
 to-one [] fs d s m = absurd s.heights
-to-one (zero ∷ hs) fs d s m = absurd (no-list fs m)
+to-one (zero ∷ hs) fs d s m = absurd (none-some fs m)
 to-one (suc c ∷ hs) fs d s m = (c, hs, record { sound = s; is = same-list (suc c ∷ hs) fs m })
 
 to-two : (gs fs : List ℕ) (d : Drafted) → Sound gs d → moved takes_two gs ≡ Some fs → (c : ℕ) × (hs : List ℕ) × Moves d fs (suc (suc c) ∷ hs) (suc c ∷ hs)
 to-two [] fs d s m = absurd s.heights
-to-two (zero ∷ hs) fs d s m = absurd (no-list fs m)
-to-two (suc zero ∷ hs) fs d s m = absurd (no-list fs m)
+to-two (zero ∷ hs) fs d s m = absurd (none-some fs m)
+to-two (suc zero ∷ hs) fs d s m = absurd (none-some fs m)
 to-two (suc (suc c) ∷ hs) fs d s m = (c, hs, record { sound = s; is = same-list (suc c ∷ hs) fs m })
 
 to-three : (gs fs : List ℕ) (d : Drafted) → Sound gs d → moved takes_three gs ≡ Some fs → (c : ℕ) × (hs : List ℕ) × Moves d fs (suc (suc (suc c)) ∷ hs) (suc c ∷ hs)
 to-three [] fs d s m = absurd s.heights
-to-three (zero ∷ hs) fs d s m = absurd (no-list fs m)
-to-three (suc zero ∷ hs) fs d s m = absurd (no-list fs m)
-to-three (suc (suc zero) ∷ hs) fs d s m = absurd (no-list fs m)
+to-three (zero ∷ hs) fs d s m = absurd (none-some fs m)
+to-three (suc zero ∷ hs) fs d s m = absurd (none-some fs m)
+to-three (suc (suc zero) ∷ hs) fs d s m = absurd (none-some fs m)
 to-three (suc (suc (suc c)) ∷ hs) fs d s m = (c, hs, record { sound = s; is = same-list (suc c ∷ hs) fs m })
 
 to-dropped : (gs fs : List ℕ) (d : Drafted) → Sound gs d → moved drops gs ≡ Some fs → (c : ℕ) × (hs : List ℕ) × Moves d fs (suc c ∷ hs) (c ∷ hs)
 to-dropped [] fs d s m = absurd s.heights
-to-dropped (zero ∷ hs) fs d s m = absurd (no-list fs m)
+to-dropped (zero ∷ hs) fs d s m = absurd (none-some fs m)
 to-dropped (suc c ∷ hs) fs d s m = (c, hs, record { sound = s; is = same-list (c ∷ hs) fs m })
 
 to-opened : (gs fs : List ℕ) (d : Drafted) → Sound gs d → moved opens gs ≡ Some fs → (c : ℕ) × (hs : List ℕ) × Moves d fs (c ∷ hs) (zero ∷ c ∷ hs)
@@ -253,8 +244,8 @@ to-opened (c ∷ hs) fs d s m = (c, hs, record { sound = s; is = same-list (zero
 
 to-closed : (gs fs : List ℕ) (d : Drafted) → Sound gs d → moved closes gs ≡ Some fs → (b c : ℕ) × (hs : List ℕ) × Moves d fs (suc b ∷ c ∷ hs) (suc c ∷ hs)
 to-closed [] fs d s m = absurd s.heights
-to-closed (zero ∷ hs) fs d s m = absurd (no-list fs m)
-to-closed (suc b ∷ []) fs d s m = absurd (no-list fs m)
+to-closed (zero ∷ hs) fs d s m = absurd (none-some fs m)
+to-closed (suc b ∷ []) fs d s m = absurd (none-some fs m)
 to-closed (suc b ∷ c ∷ hs) fs d s m = (b, c, hs, record { sound = s; is = same-list (suc c ∷ hs) fs m })
 
 leaves-so : (r : Result Drafted Refusal) (fs gs : List ℕ) → fs ≡ gs → Leaves r gs → Leaves r fs
@@ -301,10 +292,6 @@ name-leaves text t gs fs d s m =
     leaves-so (refer o t.start d) fs (suc v.0 ∷ v.1) v.2.is (refer-leaves o t.start v.0 v.1 d (λ k q. called-there d.scoped.names (bytes_of text t) (length d.asked) k s.names_are q) v.2.sound)
 
 -- ---- a list of operands
-
-last-end : (us : List ℕ) (x e : ℕ) → slice_index_or (us ++ x ∷ []) (length us) e ≡ x
-last-end [] x e = refl
-last-end (u ∷ us) x e = last-end us x e
 
 last-is : (ls us : List ℕ) (b : ℕ) → ls ≡ us ++ b ∷ [] → last_or 0 ls ≡ b
 last-is ls us b e =
@@ -447,11 +434,8 @@ none-asked = record {
   nodes_are = All-nil (λ k. k < 0);
   names_are = All-nil (λ n. n.node < 0);
   saves_are = All-nil (λ n. n.node < 0);
-  asked_are = λ k p e. absurd (never p e);
+  asked_are = λ k p e. absurd (none-some p e);
 }
-  where
-    never : (p : Placed) → None ≡ Some p → ⊥
-    never p e = cc
 
 pub script-sound : (text : List ℕ) (s : Scripted) → IsScript text s → IsSound s
 script-sound text s i =

@@ -35,7 +35,7 @@ steps-served last (did a ∷ es) ts hs s = by-action (slice_get actions a) s.3 (
     by-action None e r = steps-more (steps_of last es ts) hs s.0 s.2 (subst (λ x. AreStepsServed (steps_of last es ts) x) (same e) r)
     by-action (Some b) e r = (s.0, s.1, s.2, e, r)
 
-ended : (text : List ℕ) (at depth : ℕ) (past : List Event) (due : List ℕ) (ending : Ending) → Ends text at depth past due ending → (more : List Event) × IsJob ((past ++ did_all due) ++ more)
+pub ended : (text : List ℕ) (at depth : ℕ) (past : List Event) (due : List ℕ) (ending : Ending) → Ends text at depth past due ending → (more : List Event) × IsJob ((past ++ did_all due) ++ more)
 ended text at depth past due Whole e = ([], subst IsJob (sym (append-nil (past ++ did_all due))) e.1.is_job)
 ended text at depth past due (Unexpected t) e = (e.1.more, subst IsJob (sym (append_assoc past (did_all due) e.1.more)) e.1.goes_on)
 ended text at depth past due (Unfinished end) e = (e.1.more, subst IsJob (sym (append_assoc past (did_all due) e.1.more)) e.1.goes_on)

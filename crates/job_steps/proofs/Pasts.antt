@@ -2,6 +2,7 @@
 use Rattle.std.proofs.Common.{◌≡◌, ℕ, ◌+◌, nat_lt, List, [], ◌∷◌, ◌++◌, Some, None, refl, ap, sym, subst, ◌∙◌, ◌<◌, length, take, get_or, append_assoc}
 use Rattle.std.proofs.lemmas.List.{take_more}
 use Rattle.std.specs.Prelude.{Option, slice_get}
+use Rattle.small_facts.proofs.Lists.{same_tail}
 use Rattle.grammar.specs.declared.symbol.Symbol.{Symbol}
 use Rattle.grammar.specs.Grammars.{Event, took, did, did_all, tokens}
 use Rattle.grammar.proofs.Derivations.{tokens-append, tokens-did_all}
@@ -57,10 +58,7 @@ pub steps-due : (last : Token) (past : List Event) (ts : List Token) (acts : Lis
 steps-due last [] [] acts e = only-actions last acts []
 steps-due last [] (t ∷ ts) acts e = cc
 steps-due last (took k ∷ past) [] acts e = cc
-steps-due last (took k ∷ past) (t ∷ ts) acts e = steps-due t past ts acts (rest k (kind_number t.kind) (tokens past) (kinds_of ts) e)
-  where
-    rest : (j k : ℕ) (v w : List ℕ) → j ∷ v ≡ k ∷ w → v ≡ w
-    rest j k v w e = cc
+steps-due last (took k ∷ past) (t ∷ ts) acts e = steps-due t past ts acts (same_tail k (kind_number t.kind) (tokens past) (kinds_of ts) e)
 steps-due last (did a ∷ past) ts acts e =
     ap (with_step (slice_get actions a) last) (steps-due last past ts acts e) ∙ with_step-append (slice_get actions a) last (steps_of last past ts) (steps_at (last_token last ts) acts)
 
@@ -69,10 +67,7 @@ pub steps-taken : (last : Token) (past : List Event) (ts : List Token) (acts : L
 steps-taken last [] [] acts k t e = then-token last acts k t
 steps-taken last [] (u ∷ ts) acts k t e = cc
 steps-taken last (took j ∷ past) [] acts k t e = cc
-steps-taken last (took j ∷ past) (u ∷ ts) acts k t e = steps-taken u past ts acts k t (rest j (kind_number u.kind) (tokens past) (kinds_of ts) e)
-  where
-    rest : (j k : ℕ) (v w : List ℕ) → j ∷ v ≡ k ∷ w → v ≡ w
-    rest j k v w e = cc
+steps-taken last (took j ∷ past) (u ∷ ts) acts k t e = steps-taken u past ts acts k t (same_tail j (kind_number u.kind) (tokens past) (kinds_of ts) e)
 steps-taken last (did a ∷ past) ts acts k t e =
     ap (with_step (slice_get actions a) last) (steps-taken last past ts acts k t e) ∙ with_step-append (slice_get actions a) last (steps_of last past ts) (steps_at (last_token last ts) acts)
 

@@ -1,7 +1,7 @@
 -- One operation more, and the operation at which a list of them stops.
-use Rattle.std.proofs.Common.{◌≡◌, ℕ, zero, suc, ◌+◌, ◌<◌, List, [], ◌∷◌, ◌++◌, length, take, drop, get_or, Some, refl, ap, sym, subst, ◌∙◌, arith, length-append, append_assoc, add-one, drop-cons, ◌-◌}
-use Rattle.std.specs.Prelude.{slice_get}
+use Rattle.std.proofs.Common.{◌≡◌, ℕ, suc, ◌+◌, ◌<◌, List, [], ◌∷◌, ◌++◌, length, take, drop, get_or, refl, ap, sym, subst, ◌∙◌, arith, length-append, append_assoc, add-one, drop-cons, ◌-◌}
 use Rattle.std.proofs.lemmas.List.{take-append-drop}
+use Rattle.small_facts.proofs.Options.{slice_get_at}
 use Rattle.array_expr.specs.declared.expr.Node.{Node}
 use Rattle.array_expr.specs.Node.{Adds}
 use Rattle.job_script.specs.declared.asked.Placed.{Placed}
@@ -25,16 +25,11 @@ pub spans-more : (text : List ℕ) (ps : List Placed) (p : Placed) → spans_of 
 spans-more text [] p = refl
 spans-more text (q ∷ ps) p = ap (λ w. span_at text q.at ∷ w) (spans-more text ps p)
 
-get-at : (asked : List Placed) (k : ℕ) (p : Placed) → k < length asked → p ≡ get_or asked k p → slice_get asked k ≡ Some p
-get-at [] k p h e = absurd (omega arith)
-get-at (q ∷ asked) zero p h e = ap Some (sym e)
-get-at (q ∷ asked) (suc k) p h e = get-at asked k p (omega arith) e
-
 -- the operation behind those that were added names nodes of theirs
 pub names-here : (asked done : List Placed) (p : Placed) (nodes : List Node) → AreEarlier asked → Builds [] done nodes → length done < length asked → p ≡ get_or asked (length done) p → NamesEarlier p.asked (length nodes)
 names-here asked done p nodes e b h at =
     let count : length nodes ≡ length done = omega (arith, builds-count [] done nodes b) in
-    subst (λ k. NamesEarlier p.asked k) (sym count) (e (length done) p (get-at asked (length done) p h at))
+    subst (λ k. NamesEarlier p.asked k) (sym count) (e (length done) p (slice_get_at asked (length done) p h at))
 
 pub refuses-here : (text : List ℕ) (asked done : List Placed) (p : Placed) (nodes : List Node) (e : JobError) → Builds [] done nodes → done ≡ take (length done) asked → length done < length asked → p ≡ get_or asked (length done) p
     → RefusesPlaced text nodes p e → RefusesOne text asked e

@@ -1,5 +1,5 @@
 -- The names of a job's files are names of files, and apart.
-use Rattle.std.proofs.Common.{◌≡◌, ◌≢◌, ℕ, ◌+◌, ◌^◌, ◌<◌, ◌≤◌, Bool, true, false, cond, ◌&&◌, ◌||◌, nat_eq, nat_lt, nat_le, not, is_some, IsUtf8, List, [], ◌∷◌, ◌++◌, length, Some, None, Ok, Err, refl, ap, sym, subst, ◌∙◌, append_assoc, append-nil, arith}
+use Rattle.std.proofs.Common.{◌≡◌, ◌≢◌, ℕ, ◌+◌, ◌^◌, ◌<◌, ◌≤◌, Bool, true, false, cond, ◌&&◌, ◌||◌, nat_eq, nat_lt, nat_le, not, is_some, IsUtf8, List, [], ◌∷◌, ◌++◌, length, Some, None, Ok, Err, refl, ap, sym, subst, ◌∙◌, append-nil, arith}
 use Rattle.std.specs.Prelude.{Option, Result, slice_get, slice_index_or, pos, All, AllPairs}
 use Rattle.std.specs.Str.{bytes_eq}
 use Rattle.std.proofs.lemmas.Bool.{false≢true, and_parts, or_parts, leb-true}
@@ -8,6 +8,7 @@ use Rattle.std.proofs.lemmas.List.Quantifiers.{all_pairs_push}
 use Rattle.std.proofs.lemmas.Slice.Eq.{bytes_eq-Decides}
 use Rattle.std.proofs.lemmas.Str.{IsUtf8-from_ascii}
 use Rattle.std.proofs.lemmas.Str.Ascii.{IsAscii-from_all}
+use Rattle.small_facts.proofs.Lists.{cons_not_nil, same_tail}
 use Rattle.grammar.specs.Grammars.{Event, took, did, did_all, tokens}
 use Rattle.grammar.proofs.Derivations.{tokens-append, tokens-did_all}
 use Rattle.array_expr.specs.declared.op.Op.{Op}
@@ -18,12 +19,9 @@ use Rattle.job_tokens.specs.Words.{kind_number}
 use Rattle.job_grammar.specs.declared.action.Action.{Action}
 use Rattle.job_grammar.specs.declared.action.Action.TheVariants.{Begin, Declare, InputFile, AddInput, Define, SavedName, SaveFile, OpenDims, Dim, OpenChunks, Even, OpenSizes, Size, Sizes, Mark, Combine, Negate, Literal, NegativeLiteral, Refer, Enter, Leave, OpenParts, AddSlice, ReverseAxes, OpenPart, Positive, Negative, Index, Bound, Range, PlainFold, FoldAxes, FoldSplit, Reduce, Choose, AddTranspose, AddRechunk, OpenList, ListAxis, AddConcatenate, LeftAxes, AddTensordot, Value, Step, AddFull, AddRamp}
 use Rattle.job_grammar.specs.Actions.{actions}
-use Rattle.job_grammar.specs.Texts.{IsJob}
 use Rattle.job_steps.specs.declared.step.Step.{Step as OneStep}
-use Rattle.job_steps.specs.declared.step.Ending.{Ending}
-use Rattle.job_steps.specs.declared.step.Ending.TheVariants.{Whole, Unexpected, Unfinished, NoToken}
 use Rattle.job_steps.specs.Found.{Found}
-use Rattle.job_steps.specs.Steps.{opened, AreTokens, kinds_of, nothing_yet, with_step, steps_of, Ends, IsRead}
+use Rattle.job_steps.specs.Steps.{opened, AreTokens, kinds_of, nothing_yet, with_step, steps_of, IsRead}
 use Rattle.job_script.specs.declared.asked.Asked.{Asked}
 use Rattle.job_script.specs.declared.asked.Refusal.{Refusal}
 use Rattle.job_script.specs.declared.asked.Why.TheVariants.{Nodes, Number, UnknownName, Repeated, Statements}
@@ -37,6 +35,7 @@ use Rattle.job_script.specs.Scripts.{going_on, run}
 use Rattle.job_text.specs.Names.{IsFileName}
 use Rattle.job_text.proofs.FileOrder.{needs, needs_at, waits_after, waits_at, is_file, are_ordered, job-ordered}
 use Rattle.job_text.proofs.FileTokens.{file-token}
+use Rattle.job_script.proofs.Steps.{ended}
 
 -- ---- what the steps of a text have
 
@@ -71,18 +70,12 @@ has-from text _ t b w named h = tt
 
 steps-have : (text : List ℕ) (last : Token) (es : List Event) (ts : List Token) (b w : Bool) → are_ordered b w es ≡ true → (b ≡ true → IsFileName (file_at text last)) → tokens es ≡ kinds_of ts → AreNamed text ts → HaveFiles text w (steps_of last es ts)
 steps-have text last [] ts b w h named same all = tt
-steps-have text last (took k ∷ es) [] b w h named same all = absurd (never same)
-  where
-    never : k ∷ tokens es ≡ [] → ⊥
-    never e = cc
+steps-have text last (took k ∷ es) [] b w h named same all = absurd (cons_not_nil k (tokens es) same)
 steps-have text last (took k ∷ es) (t ∷ ts) b w h named same all =
-    steps-have text t es ts (is_file k) w h (λ two. all.0 (subst (λ j. is_file j ≡ true) (head same) two)) (tail same) all.1
+    steps-have text t es ts (is_file k) w h (λ two. all.0 (subst (λ j. is_file j ≡ true) (head same) two)) (same_tail k (kind_number t.kind) (tokens es) (kinds_of ts) same) all.1
   where
     head : k ∷ tokens es ≡ kind_number t.kind ∷ kinds_of ts → k ≡ kind_number t.kind
     head e = cc
-
-    tail : k ∷ tokens es ≡ kind_number t.kind ∷ kinds_of ts → tokens es ≡ kinds_of ts
-    tail e = cc
 steps-have text last (did a ∷ es) ts b w h named same all = by-action (slice_get actions a) h (λ v k. steps-have text last es ts b v k named same all)
   where
     by-action : (o : Option Action) → (needs_at o b w && are_ordered b (waits_at o w) es) ≡ true → ((v : Bool) → are_ordered b v es ≡ true → HaveFiles text v (steps_of last es ts)) → HaveFiles text w (with_step o last (steps_of last es ts))
@@ -91,15 +84,9 @@ steps-have text last (did a ∷ es) ts b w h named same all = by-action (slice_g
         let p = and_parts (needs x b w) (are_ordered b (waits_after x w) es) h in
         (has-from text x last b w named p.0, more (waits_after x w) p.1)
 
-goes-on : (text : List ℕ) (at depth : ℕ) (past : List Event) (due : List ℕ) (ending : Ending) → Ends text at depth past due ending → (more : List Event) × IsJob ((past ++ did_all due) ++ more)
-goes-on text at depth past due Whole e = ([], subst IsJob (sym (append-nil (past ++ did_all due))) e.1.is_job)
-goes-on text at depth past due (Unexpected t) e = (e.1.more, subst IsJob (sym (append_assoc past (did_all due) e.1.more)) e.1.goes_on)
-goes-on text at depth past due (Unfinished end) e = (e.1.more, subst IsJob (sym (append_assoc past (did_all due) e.1.more)) e.1.goes_on)
-goes-on text at depth past due (NoToken byte) e = (e.1.more, subst IsJob (sym (append_assoc past (did_all due) e.1.more)) e.1.goes_on)
-
 read-has : (text : List ℕ) (found : Found) → length text ≤ 2 ^ 20 → IsRead text found → HaveFiles text false found.steps
 read-has text found short r =
-    let j = goes-on text r.at r.depth_now r.past r.due found.ending r.ends in
+    let j = ended text r.at r.depth_now r.past r.due found.ending r.ends in
     let same : tokens (r.past ++ did_all r.due) ≡ kinds_of r.toks = tokens-append r.past (did_all r.due) ∙ (ap (λ x. tokens r.past ++ x) (tokens-did_all r.due) ∙ (append-nil (tokens r.past) ∙ r.kinds)) in
     subst (λ x. HaveFiles text false x) (sym r.steps_are)
     (steps-have text nothing_yet (r.past ++ did_all r.due) r.toks false false (job-ordered (r.past ++ did_all r.due) j.0 j.1) (λ e. absurd (false≢true e)) same (tokens-named text 0 0 r.toks r.at r.depth_now short r.are_tokens))

@@ -2,6 +2,8 @@
 use Rattle.std.proofs.Common.{◌≡◌, ℕ, zero, suc, ◌+◌, ◌<◌, Bool, true, false, cond, nat_eq, List, [], ◌∷◌, ◌++◌, length, map, Some, None, refl, ap, sym, subst, ◌∙◌, arith, append_assoc}
 use Rattle.std.specs.Prelude.{Option, All}
 use Rattle.std.proofs.lemmas.List.{append-nil}
+use Rattle.std.proofs.Math.Nat.{zero-add}
+use Rattle.small_facts.proofs.Lists.{cond_cons_append}
 use Rattle.array_expr.specs.declared.expr.Node.{Node}
 use Rattle.array_expr.specs.Elem.{is_input}
 use Rattle.job_steps.specs.declared.step.Ending.{Ending}
@@ -20,10 +22,6 @@ use Rattle.job_text.specs.Jobs.{Parts, spans_of, input_nodes, IsJob, FilesFit}
 use Rattle.job_text.proofs.Building.{builds-count}
 use Rattle.job_text.proofs.FileNames.{AreFiles, read-files}
 
-behind-if : (b : Bool) (k : ℕ) (w v : List ℕ) → cond b (k ∷ (w ++ v)) (w ++ v) ≡ cond b (k ∷ w) w ++ v
-behind-if true k w v = refl
-behind-if false k w v = refl
-
 before-if : (b : Bool) (k : ℕ) (w : List ℕ) → cond b (k ∷ []) [] ++ w ≡ cond b (k ∷ w) w
 before-if true k w = refl
 before-if false k w = refl
@@ -35,7 +33,7 @@ inputs-more k [] n =
 inputs-more k (q ∷ nodes) n =
     let at : suc k + length nodes ≡ k + suc (length nodes) = omega arith in
     ap (λ x. cond (is_input q.op) (k ∷ x) x) (inputs-more (suc k) nodes n)
-    ∙ (behind-if (is_input q.op) k (input_nodes (suc k) nodes) (cond (is_input n.op) ((suc k + length nodes) ∷ []) [])
+    ∙ (cond_cons_append (is_input q.op) k (input_nodes (suc k) nodes) (cond (is_input n.op) ((suc k + length nodes) ∷ []) [])
     ∙ ap (λ j. cond (is_input q.op) (k ∷ input_nodes (suc k) nodes) (input_nodes (suc k) nodes) ++ cond (is_input n.op) (j ∷ []) []) at)
 
 input-of : (nodes : List Node) (a : Asked) → is_input (op_of nodes a) ≡ asks_input a
@@ -52,7 +50,7 @@ builds-inputs nodes (p ∷ ps) all b =
     builds-inputs b.0 ps all b.2
     ∙ (ap (λ x. x ++ inputs_from (length b.0) ps) (ap (input_nodes 0) more ∙ inputs-more 0 nodes n)
     ∙ (append_assoc (input_nodes 0 nodes) (cond (is_input n.op) ((0 + length nodes) ∷ []) []) (inputs_from (length b.0) ps)
-    ∙ (ap (λ k. input_nodes 0 nodes ++ (cond (is_input n.op) (k ∷ []) [] ++ inputs_from (length b.0) ps)) (zero-plus (length nodes))
+    ∙ (ap (λ k. input_nodes 0 nodes ++ (cond (is_input n.op) (k ∷ []) [] ++ inputs_from (length b.0) ps)) (zero-add (length nodes))
     ∙ (ap (λ k. input_nodes 0 nodes ++ (cond (is_input n.op) (length nodes ∷ []) [] ++ inputs_from k ps)) size
     ∙ (ap (λ x. input_nodes 0 nodes ++ x) (before-if (is_input n.op) (length nodes) (inputs_from (suc (length nodes)) ps))
     ∙ ap (λ t. input_nodes 0 nodes ++ cond t (length nodes ∷ inputs_from (suc (length nodes)) ps) (inputs_from (suc (length nodes)) ps)) is)))))
@@ -60,9 +58,6 @@ builds-inputs nodes (p ∷ ps) all b =
     count : (nodes : List Node) (n : Node) → length (nodes ++ n ∷ []) ≡ suc (length nodes)
     count [] n = refl
     count (m ∷ nodes) n = ap suc (count nodes n)
-
-    zero-plus : (n : ℕ) → 0 + n ≡ n
-    zero-plus n = omega arith
 
 spans-count : (text : List ℕ) (ps : List Placed) → length (spans_of text ps) ≡ length ps
 spans-count text [] = refl

@@ -3,7 +3,7 @@ use Rattle.std.proofs.Common.{◌≡◌, ℕ, ◌+◌, ◌-◌, ◌*◌, ◌<◌
 use Rattle.std.proofs.lemmas.List.{take_more}
 use Rattle.job_tokens.specs.Bytes.{decimal_from, decimal, capped}
 
-decimal-more : (s b : ℕ) (w : List ℕ) → decimal_from s (w ++ b ∷ []) ≡ 10 * decimal_from s w + (b - 48)
+pub decimal-more : (s b : ℕ) (w : List ℕ) → decimal_from s (w ++ b ∷ []) ≡ 10 * decimal_from s w + (b - 48)
 decimal-more s b [] = refl
 decimal-more s b (x ∷ w) = decimal-more (10 * s + (x - 48)) b w
 

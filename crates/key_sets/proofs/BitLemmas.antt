@@ -4,7 +4,7 @@ use Rattle.std.specs.Int.{bit_at, trailing_zeros, leading_zeros}
 use Rattle.std.proofs.lemmas.Bool.Decides.{nat_tests}
 use Rattle.std.proofs.lemmas.Bool.{cases_lt, eqb-true}
 use Rattle.std.proofs.lemmas.Nat.{leading_top, le-div, div_below, pow-add, div-add-mod', pow_pos, mod_below}
-use Rattle.std.proofs.Math.Nat.{div-div-eq-div-mul, div-le_self, mod-eq_of_lt}
+use Rattle.std.proofs.Math.Nat.{div-div-eq-div-mul, div-le_self, mod-eq_of_lt, add-sub_of_le}
 use Rattle.std.proofs.Math.Pow.{pow-lt}
 use Rattle.std.proofs.lemmas.Nat.Bits.{bit_at-trailing_zeros, bit_at_above, bit_at-zero, bit_at_cat_low, bit_at_set_same, bit_at_set_other, bit_at_clear_same, bit_at_clear_other}
 use Rattle.key_sets.specs.Sets.{bit, IsFirst, IsLast}
@@ -64,12 +64,8 @@ is_one b e = rw e refl
 is_none : (b : ℕ) → b ≡ 0 → eqb b 1 ≡ false
 is_none b e = rw e refl
 
--- the place of a bit from s on, seen from s
-from : (s k : ℕ) → s ≤ k → s + (k - s) ≡ k
-from s k l = omega arith
-
 shr_none : (n s k : ℕ) → n / 2 ^ s ≡ 0 → s ≤ k → bit_at n k ≡ 0
-shr_none n s k e l = ap (bit_at n) (sym (from s k l)) ∙ sym (bit_at-shr n s (k - s)) ∙ ap (λ m. bit_at m (k - s)) e ∙ bit_at-zero (k - s)
+shr_none n s k e l = ap (bit_at n) (sym (add-sub_of_le l)) ∙ sym (bit_at-shr n s (k - s)) ∙ ap (λ m. bit_at m (k - s)) e ∙ bit_at-zero (k - s)
 
 pub no_first : (n s : ℕ) → n / 2 ^ s ≡ 0 → IsFirst (bit n) s None
 no_first n s e k l = is_none (bit_at n k) (shr_none n s k e l)
@@ -82,7 +78,7 @@ first_bit n s l h =
     let t = bit_at-trailing_zeros w64 (n / 2 ^ s) h (small_part n s l) in (
       omega arith,
       is_one (bit_at n (s + trailing_zeros w64 (n / 2 ^ s))) (sym (bit_at-shr n s (trailing_zeros w64 (n / 2 ^ s))) ∙ t.1),
-      λ k a b. is_none (bit_at n k) (ap (bit_at n) (sym (from s k a)) ∙ sym (bit_at-shr n s (k - s)) ∙ t.2 (k - s) (omega arith)),
+      λ k a b. is_none (bit_at n k) (ap (bit_at n) (sym (add-sub_of_le a)) ∙ sym (bit_at-shr n s (k - s)) ∙ t.2 (k - s) (omega arith)),
     )
 
 pub first_within : (n s : ℕ) → n < 2 ^ 64 → 0 < n / 2 ^ s → s + trailing_zeros w64 (n / 2 ^ s) < 64

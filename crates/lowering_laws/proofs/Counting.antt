@@ -3,6 +3,7 @@ use Rattle.std.proofs.Common.{◌≡◌, ◌≢◌, ℕ, zero, suc, ◌+◌, ◌
 use Rattle.std.specs.Prelude.{nat_eq}
 use Rattle.std.specs.List.{AllByRecursion}
 use Rattle.std.proofs.lemmas.Bool.{cases_eq}
+use Rattle.std.proofs.Math.Nat.{add_assoc}
 use Rattle.nd_shape.specs.Chunk.{total}
 use Rattle.cluster_msgs.specs.Shape.{total_length}
 
@@ -93,20 +94,12 @@ below-shift : (n : ℕ) (f : ℕ → ℕ) → sum_below (suc n) f ≡ f 0 + sum_
 below-shift zero f = omega arith
 below-shift (suc n) f =
     let r : sum_below (suc n) f ≡ f 0 + sum_below n (λ k. f (suc k)) = below-shift n f in
-    ap (λ s. s + f (suc n)) r ∙ regroup (f 0) (sum_below n (λ k. f (suc k))) (f (suc n))
-  where
-    regroup : (a b c : ℕ) → a + b + c ≡ a + (b + c)
-    regroup a b c = omega arith
+    ap (λ s. s + f (suc n)) r ∙ add_assoc (f 0) (sum_below n (λ k. f (suc k))) (f (suc n))
 
 -- the members of a list of lists
 pub total-below : (xss : List (List ℕ)) → sum_below (length xss) (λ k. length (get_or xss k [])) ≡ total_length xss
 total-below [] = refl
 total-below (xs ∷ xss) = below-shift (length xss) (λ k. length (get_or (xs ∷ xss) k [])) ∙ ap (λ s. length xs + s) (total-below xss)
-
-pub member-length : (xss : List (List ℕ)) (k : ℕ) → length (get_or xss k []) ≤ total_length xss
-member-length [] k = omega arith
-member-length (xs ∷ xss) zero = omega arith
-member-length (xs ∷ xss) (suc k) = let r = member-length xss k in omega arith
 
 -- so many numbers of which none passes a bound
 pub total-bounded : (xs : List ℕ) (f : ℕ → ℕ) (bound : ℕ) → ((x : ℕ) → f x ≤ bound) → total (map f xs) ≤ length xs * bound

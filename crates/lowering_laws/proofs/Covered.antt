@@ -1,6 +1,7 @@
 -- Each index of a block that is put together of parts lies in one of them.
 use Rattle.std.proofs.Common.{◌≡◌, ℕ, zero, suc, ◌+◌, ◌<◌, ◌≤◌, ◌||◌, cond, Bool, true, false, List, [], ◌∷◌, ◌++◌, length, map, take, get_or, set, refl, ap, sym, subst, ◌∙◌, arith, ℤ, pos}
 use Rattle.std.specs.List.{AllByRecursion, list_any, range_with_len}
+use Rattle.small_facts.proofs.Every.{all_join}
 use Rattle.nd_shape.specs.declared.slice.Steps.{Steps}
 use Rattle.nd_shape.specs.declared.region.Piece.{Piece}
 use Rattle.nd_shape.specs.Index.{IsIn, index_at}
@@ -24,7 +25,6 @@ use Rattle.lowering_laws.specs.Sources.{Source, Made, one_each, placed, rechunk_
 use Rattle.lowering_laws.specs.Stages.{Arg, Literal, Blocks, Point, Pair, Choice, arg_layout, arg_target, fitted_args, point_layout, point_task, pointwise, Along, along_all, or_empty, common_layout, fitted_along, joined_task, concatenated_blocks, no_source, paired_sizes, with_sizes, kept_axes, partial_task, product_task, contracted_blocks}
 use Rattle.lowering_laws.specs.Lowered.{source_at, arg_of, lower_op}
 use Rattle.lowering_laws.specs.Faults.{IsCovered}
-use Rattle.task_graph.proofs.Rising.{all-join}
 use Rattle.lowering_laws.proofs.Pieces.{parts-any}
 use Rattle.lowering_laws.proofs.Cutting.{lengths-normalized}
 use Rattle.lowering_laws.proofs.MadeTasks.{all-of, all-folded}
@@ -71,7 +71,7 @@ whole-args files tasks layout (x ∷ args) [] base c a = absurd c
 whole-args files tasks layout (Literal v ∷ args) (g ∷ gs) base c a = whole-args files tasks layout args gs (base + 0) c.1 a.1
 whole-args files tasks layout (Blocks s ∷ args) (g ∷ gs) base c a =
     let same : arg_target layout (Blocks s) ≡ target g.shape layout = target-is s g layout c.0.shape in
-    all-join IsWhole (fitted base s (arg_target layout (Blocks s))).tasks _
+    all_join IsWhole (fitted base s (arg_target layout (Blocks s))).tasks _
     (whole-fitted s (arg_target layout (Blocks s)) base (c.0.shape ∙ sym (ap (λ (l : List (List ℕ)). lengths l) same ∙ a.0.lengths_are)))
     (whole-args files tasks layout args gs (base + length (fitted base s (arg_target layout (Blocks s))).tasks) c.1 a.1)
 
@@ -85,7 +85,7 @@ whole-point files tasks point dims args gs base c a e =
     let layout = point_layout dims (map arg_layout args) in
     let is : IsPoint dims (point_layout dims (map arg_layout args)) gs = point-is files tasks dims args gs c a e in
     let fit = fitted_args layout args base in
-    all-join IsWhole fit.tasks _ (whole-args files tasks layout args gs base c is.aligned) (whole-each (base + length fit.tasks) layout (point_task point layout fit.args) (λ bs h. point-whole point layout fit.args bs))
+    all_join IsWhole fit.tasks _ (whole-args files tasks layout args gs base c is.aligned) (whole-each (base + length fit.tasks) layout (point_task point layout fit.args) (λ bs h. point-whole point layout fit.args bs))
 
 -- ---- one after another
 
@@ -95,7 +95,7 @@ whole-along files tasks common axis [] gs base a cut = tt
 whole-along files tasks common axis (s ∷ ss) [] base a cut = absurd a
 whole-along files tasks common axis (s ∷ ss) (g ∷ gs) base a cut =
     let to = set common axis (get_or s.layout axis []) in
-    all-join IsWhole (fitted base s (set common axis (get_or s.layout axis []))).tasks _ (whole-fitted s (set common axis (get_or s.layout axis [])) base (a.0.shape ∙ sym (cut 0 (omega arith))))
+    all_join IsWhole (fitted base s (set common axis (get_or s.layout axis []))).tasks _ (whole-fitted s (set common axis (get_or s.layout axis [])) base (a.0.shape ∙ sym (cut 0 (omega arith))))
     (whole-along files tasks common axis ss gs (base + length (fitted base s (set common axis (get_or s.layout axis []))).tasks) a.2 (λ p h. cut (suc p) (omega arith)))
 
 or-none : (b : Bool) → b ≡ true → (b || false) ≡ true
@@ -107,7 +107,7 @@ whole-joined files tasks axis s ss g gs base a j =
     let fit = fitted_along common axis (s ∷ ss) base in
     let as' = or_empty (along_all 0 (map (λ (s : Source). get_or s.layout axis []) (s ∷ ss))) in
     let layout = set common axis (map (λ (a : Along). a.size) as') in
-    all-join IsWhole fit.tasks _ (whole-along files tasks common axis (s ∷ ss) (g ∷ gs) base a (joined-targets files tasks axis s ss g gs a j))
+    all_join IsWhole fit.tasks _ (whole-along files tasks common axis (s ∷ ss) (g ∷ gs) base a (joined-targets files tasks axis s ss g gs a j))
     (whole-each (base + length fit.tasks) layout (joined_task layout as' axis fit.sources) (λ bs h i inside. or-none _ (zeros-within (lengths_at layout bs) i inside)))
 
 -- ---- products
@@ -120,8 +120,8 @@ whole-contracted la ra l r base n same =
     let rl : lengths (with_sizes r.layout ra pairs) ≡ lengths r.layout = with-lengths r.layout ra pairs (λ j b. (totals j (omega arith)).1) in
     let fit_l = fitted base l (with_sizes l.layout la pairs) in
     let fit_r = fitted (base + length fit_l.tasks) r (with_sizes r.layout ra pairs) in
-    all-join IsWhole (fit_l.tasks ++ fit_r.tasks) _
-    (all-join IsWhole fit_l.tasks fit_r.tasks (whole-fitted l (with_sizes l.layout la pairs) base (sym ll)) (whole-fitted r (with_sizes r.layout ra pairs) (base + length fit_l.tasks) (sym rl)))
+    all_join IsWhole (fit_l.tasks ++ fit_r.tasks) _
+    (all_join IsWhole fit_l.tasks fit_r.tasks (whole-fitted l (with_sizes l.layout la pairs) base (sym ll)) (whole-fitted r (with_sizes r.layout ra pairs) (base + length fit_l.tasks) (sym rl)))
     (all-folded IsWhole Sum (elements (map (λ (ss : List ℕ). length ss) pairs)) 4 (kept_axes 0 fit_l.source.layout la ++ kept_axes 0 fit_r.source.layout ra) (product_task la ra (map (λ (ss : List ℕ). length ss) pairs) fit_l.source fit_r.source) (base + length (fit_l.tasks ++ fit_r.tasks)) (λ g axes inputs deps. tt) (λ bs p. tt))
 
 -- ---- each operation

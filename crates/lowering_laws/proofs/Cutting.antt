@@ -1,32 +1,18 @@
 -- Each axis of a layout has a chunk, and layouts cut the shapes of their nodes.
-use Rattle.std.proofs.Common.{◌≡◌, ◌≢◌, ℕ, zero, suc, ◌+◌, ◌-◌, ◌*◌, ◌/◌, ◌%◌, ◌<◌, cond, Bool, true, false, List, [], ◌∷◌, ◌++◌, length, get_or, refl, ap, sym, ◌∙◌, arith, inl, inr, Some, replicate, length-append}
+use Rattle.std.proofs.Common.{◌≡◌, ◌≢◌, ℕ, zero, suc, ◌+◌, ◌-◌, ◌*◌, ◌/◌, ◌%◌, ◌<◌, cond, Bool, true, false, List, [], ◌∷◌, ◌++◌, length, get_or, refl, ap, ◌∙◌, arith, Some, replicate, length-append}
 use Rattle.std.specs.Prelude.{nat_eq, nat_lt, slice_get}
-use Rattle.std.proofs.lemmas.Bool.{cases_eq}
 use Rattle.nd_shape.specs.Chunk.{total, even_chunks, chunks_of, CanCut}
 use Rattle.nd_grid.specs.Grid.{is_among}
 use Rattle.nd_shape.specs.declared.chunk.ChunkSpec.{ChunkSpec}
-use Rattle.nd_shape.specs.declared.chunk.ChunkSpec.TheVariants.{Even, List as Listed}
 use Rattle.array_expr.specs.Axes.{AreCut}
 use Rattle.chunk_layout.specs.Layouts.{lengths, normalized}
 use Rattle.chunk_layout.specs.Unions.{Parted, parted, union}
-use Rattle.chunk_layout.proofs.Unions.{total-append}
 use Rattle.lowering_laws.specs.Stages.{kept_axes, turned_layout, joined, joined_all}
 use Rattle.lowering_laws.specs.Law.{HaveChunks}
+use Rattle.chunk_layout.proofs.Merging.{has-some}
+use Rattle.nd_shape.proofs.Totals.{total-append, total-replicate, rest-total, total-chunks_of}
 
 -- ---- chunks that are given
-
-total-replicate : (n k : ℕ) → total (replicate n k) ≡ n * k
-total-replicate zero k = omega arith
-total-replicate (suc n) k = omega (arith, total-replicate n k)
-
-rest-total : (r : ℕ) → total (cond (nat_eq r 0) [] (r ∷ [])) ≡ r
-rest-total r = elim (cases_eq r 0) [ inl e ↦ ap total (none r e) ∙ sym e | inr d ↦ ap total (some r d) ∙ omega arith ]
-  where
-    none : (r : ℕ) → r ≡ 0 → ◌≡◌ {A = List ℕ} (cond (nat_eq r 0) [] (r ∷ [])) []
-    none r e = grind arith
-
-    some : (r : ℕ) → r ≢ 0 → ◌≡◌ {A = List ℕ} (cond (nat_eq r 0) [] (r ∷ [])) (r ∷ [])
-    some r d = grind arith
 
 pub total-even : (n size : ℕ) → size ≢ 0 → total (even_chunks n size) ≡ n
 total-even n size h =
@@ -38,18 +24,9 @@ total-even n size h =
     whole : (n size : ℕ) → 0 < size → n / size * size + n % size ≡ n
     whole n size h = omega arith
 
-total-chunks : (n : ℕ) (spec : ChunkSpec) → CanCut n spec → total (chunks_of n spec) ≡ n
-total-chunks zero spec h = omega arith
-total-chunks (suc n) (Even size) h = total-even (suc n) size h
-total-chunks (suc n) (Listed sizes) h = h.1
-
-pub some-total : (xs : List ℕ) → 0 < total xs → 0 < length xs
-some-total [] h = absurd (omega arith)
-some-total (x ∷ xs) h = omega arith
-
 some-chunks : (n : ℕ) (spec : ChunkSpec) → CanCut n spec → 0 < length (chunks_of n spec)
 some-chunks zero spec h = omega arith
-some-chunks (suc n) spec h = some-total (chunks_of (suc n) spec) (omega (arith, total-chunks (suc n) spec h))
+some-chunks (suc n) spec h = has-some (chunks_of (suc n) spec) (omega (arith, total-chunks_of (suc n) spec h))
 
 -- each axis can be cut
 abbrev pub CanCutAll : List ℕ → List ChunkSpec → Type 0
@@ -65,7 +42,7 @@ can-cut (n ∷ ns) (s ∷ specs) e h = (h 0 s refl, can-cut ns specs (omega arit
 lengths-cut : (ns : List ℕ) (specs : List ChunkSpec) → CanCutAll ns specs → lengths (normalized ns specs) ≡ ns
 lengths-cut [] specs c = refl
 lengths-cut (n ∷ ns) [] c = absurd c
-lengths-cut (n ∷ ns) (s ∷ specs) c = ap (λ m. m ∷ lengths (normalized ns specs)) (total-chunks n s c.0) ∙ ap (λ ms. n ∷ ms) (lengths-cut ns specs c.1)
+lengths-cut (n ∷ ns) (s ∷ specs) c = ap (λ m. m ∷ lengths (normalized ns specs)) (total-chunks_of n s c.0) ∙ ap (λ ms. n ∷ ms) (lengths-cut ns specs c.1)
 
 some-cut : (ns : List ℕ) (specs : List ChunkSpec) → CanCutAll ns specs → HaveChunks (normalized ns specs)
 some-cut [] specs c = tt

@@ -1,9 +1,11 @@
 -- Each task that divides makes what its node has in the block's box, and all parts are covered.
-use Rattle.std.proofs.Common.{◌≡◌, ℕ, suc, ◌+◌, ◌-◌, ◌<◌, ◌≤◌, Bool, true, false, List, [], ◌∷◌, ◌++◌, length, drop, take, refl, ap, sym, subst, ◌∙◌, arith, inl, inr, ℤ}
+use Rattle.std.proofs.Common.{◌≡◌, ℕ, suc, ◌+◌, ◌-◌, ◌<◌, ◌≤◌, true, false, List, [], ◌∷◌, ◌++◌, length, drop, take, refl, ap, sym, subst, ◌∙◌, arith, inl, inr, ℤ}
 use Rattle.std.specs.Prelude.{slice_index_or}
 use Rattle.std.proofs.lemmas.Bool.{cases_lt}
 use Rattle.std.proofs.lemmas.List.{length-take-le, get_or_append_left, get_or_push}
 use Rattle.std.proofs.lemmas.Option.{slice_get_within, get_or_from_slice_get}
+use Rattle.small_facts.proofs.Every.{all_join}
+use Rattle.small_facts.proofs.Truth.{not_both_truths}
 use Rattle.nd_shape.specs.declared.slice.Steps.{Steps}
 use Rattle.nd_shape.specs.Index.{IsIn, index_at}
 use Rattle.nd_shape.specs.Broadcast.{broadcast, Agree}
@@ -30,7 +32,6 @@ use Rattle.lowering_laws.specs.Law.{Stand}
 use Rattle.lowering_laws.specs.Built.{AreBuilt}
 use Rattle.lowering_laws.specs.Faults.{is_division}
 use Rattle.lowering_laws.proofs.Carrying.{Fits, Holds-same}
-use Rattle.task_graph.proofs.Rising.{all-join}
 use Rattle.lowering_laws.proofs.Pointwise.{HasOperands, fits-pair, there-pair}
 use Rattle.lowering_laws.proofs.Lowering.{IsHeld, AllHeld, node-held, shape-is, shape-front, arg-carries, lower-extends, Stand-here, drop-head, drop-none}
 use Rattle.lowering_laws.proofs.Good.{IsMade, none-good}
@@ -39,9 +40,6 @@ use Rattle.lowering_laws.proofs.Own.{NoneDivides, IsOwn, at-place, op-own, op-wh
 use Rattle.lowering_laws.proofs.Covered.{IsWhole, AreWhole, op-covered}
 
 -- ---- one node
-
-not-both : (b : Bool) → b ≡ true → b ≡ false → ⊥
-not-both b h e = cc
 
 -- none of a node's own blocks divides
 no-division : (tasks : List Task) (base : ℕ) (m : Made) (c : ℕ) → IsMade base m → IsOwn base m → Stand tasks base m.tasks → NoneDivides m.tasks → c < blocks m.source.layout → is_division (task_at tasks (key_of m.source c)).spec ≡ true → ⊥
@@ -52,7 +50,7 @@ no-division tasks base m c made own stand none lt d =
     let lj : key_of m.source c - base < length m.tasks = omega arith in
     let key : base + (key_of m.source c - base) ≡ key_of m.source c = omega arith in
     let is : task_at tasks (key_of m.source c) ≡ task_at m.tasks (key_of m.source c - base) = ap (task_at tasks) (sym key) ∙ stand.at (key_of m.source c - base) lj in
-    not-both (is_division (task_at tasks (key_of m.source c)).spec) d (ap (λ (t : Task). is_division t.spec) is ∙ at-place (λ (t : Task). is_division t.spec ≡ false) m.tasks (key_of m.source c - base) none lj)
+    not_both_truths (is_division (task_at tasks (key_of m.source c)).spec) d (ap (λ (t : Task). is_division t.spec) is ∙ at-place (λ (t : Task). is_division t.spec ≡ false) m.tasks (key_of m.source c - base) none lj)
 
 -- what a task that divides makes, where the node's operation is this
 record OpDivides (files : ℕ → List ℕ → ℤ) (tasks : List Task) (nodes : List Node) (node : Op) (taken : List Steps) (input : List ℕ → ℤ) (t : Task) (box : Box) : Type 0 where
@@ -130,7 +128,7 @@ dividing-from files tasks e nodes ex built n l (x ∷ rest) at few o is a =
     let shape : shape_at nodes n ≡ x.shape = shape-is nodes n ∙ ap (λ (y : Node). y.shape) (get_or_from_slice_get nodes n x no_node d.0) in
     let oc = o.count in
     dividing-from files tasks e nodes ex built (suc n) (with_made l n m) rest d.1 (omega arith) (one-node nodes n l x ex d.0 o) is (record {
-      covered = all-join IsWhole l.tasks m.tasks a.covered (op-covered files tasks nodes l.sources n x.op x.taken x.shape (length l.tasks) ex (omega arith) names node.makes a.held);
+      covered = all_join IsWhole l.tasks m.tasks a.covered (op-covered files tasks nodes l.sources n x.op x.taken x.shape (length l.tasks) ex (omega arith) names node.makes a.held);
       held = λ k h. elim (cases_lt k n) [
         | inl lt ↦ subst (λ (s : Source). IsHeld files tasks s (whole files nodes k)) (sym (get_or_append_left l.sources (m.source ∷ []) no_source k (omega arith))) (a.held k lt)
         | inr ge ↦ let same : n ≡ k = omega arith in

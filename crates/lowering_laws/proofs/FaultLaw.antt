@@ -2,6 +2,7 @@
 use Rattle.std.proofs.Common.{◌≡◌, ℕ, suc, ◌<◌, true, List, [], ◌∷◌, length, map, get_or, refl, ap, sym, subst, ◌∙◌, arith, Some, None, ℤ}
 use Rattle.std.specs.Prelude.{All, Contains, Option, option_and_then, slice_index_or}
 use Rattle.std.proofs.lemmas.List.{length-map, get_or-map}
+use Rattle.small_facts.proofs.Every.{all_below_at}
 use Rattle.nd_shape.specs.Block.{Array}
 use Rattle.nd_shape.specs.Index.{IsIn}
 use Rattle.nd_shape.specs.Region.{Box, moved}
@@ -33,16 +34,15 @@ use Rattle.lowering_laws.specs.Faults.{is_division, IsCovered, IsMissing, IsFaul
 use Rattle.task_graph.specs.Numberings.{AreFit, IsNumbering, PlacesFit}
 use Rattle.task_graph.proofs.Keys.{ascending-has}
 use Rattle.task_graph.proofs.Visits.{numbering}
-use Rattle.task_graph.proofs.Moved.{contains-at}
-use Rattle.task_graph.proofs.Renumbered.{task-moved, renumbered-value}
+use Rattle.task_graph.proofs.Renumbered.{task-moved, renumbered-value, contains-at}
 use Rattle.lowering_laws.proofs.Lowering.{IsHeld}
-use Rattle.lowering_laws.proofs.Totals.{IsHole, hole-of, zero-divisor, no-block-divides}
+use Rattle.lowering_laws.proofs.Totals.{IsHole, hole-of, zero-divisor, no-block-divides, some-none}
 use Rattle.lowering_laws.proofs.Pointwise.{AreThere}
 use Rattle.lowering_laws.proofs.Own.{at-place}
 use Rattle.lowering_laws.proofs.NamedKeys.{AreNamed, IsOwned, IsDivided, lowering-named}
 use Rattle.lowering_laws.proofs.Dividing.{IsDividing, AreDividing, lowering-dividing}
 use Rattle.lowering_laws.proofs.Runs.{Ordering, run-order, order-law}
-use Rattle.lowering_laws.proofs.NamesLaw.{small-at, run-length, run-name, old-key}
+use Rattle.lowering_laws.proofs.NamesLaw.{run-length, run-name, old-key}
 
 -- ---- under new numbers
 
@@ -126,7 +126,7 @@ faults-law files nodes saves ex built inside =
           let lt : k < length order = omega arith in
           let f' : faulty (deps_of (shape_of (renumbered tasks order))) (value files (renumbered tasks order)) k ≡ true = subst (λ (ts : List Task). faulty (deps_of (shape_of ts)) (value files ts) k ≡ true) (sym o.run_is) f in
           let s : IsStopped files tasks (task_at tasks (get_or order k 0)) = stopped-old files tasks order k e e' law.fit number lt f' in
-          let low : get_or order k 0 < length tasks = small-at order (length tasks) k o.small lt in
+          let low : get_or order k 0 < length tasks = all_below_at order (length tasks) k o.small lt in
           let places : PlacesFit (task_at tasks (get_or order k 0)).spec (length s.inputs) =
           subst (PlacesFit (task_at tasks (get_or order k 0)).spec) (sym (all-length (value files tasks) (task_at tasks (get_or order k 0)).deps s.inputs s.values)) (law.fit.places (get_or order k 0)) in
           let covered : IsCovered (task_at tasks (get_or order k 0)).spec = at-place (λ (t : Task). IsCovered t.spec) tasks (get_or order k 0) d.covered low in
@@ -166,9 +166,6 @@ faults-law files nodes saves ex built inside =
         → (k : ℕ) → k < length o.order → IsFault files nodes saves k → value files (lowered nodes saves).tasks k ≡ None
     without-value files nodes saves o a d e e' fit number k lt f = in-case (value files (lowered nodes saves).tasks k) refl
       where
-        some-none : (v : ℤ) → ◌≡◌ {A = Option ℤ} (Some v) None → ⊥
-        some-none v h = cc
-
         in-case : (v : Option Array) → value files (lowered nodes saves).tasks k ≡ v → value files (lowered nodes saves).tasks k ≡ None
         in-case None h = h
         in-case (Some b) h =

@@ -5,6 +5,7 @@ use Rattle.std.specs.List.{AllByRecursion, range_with_len}
 use Rattle.std.proofs.lemmas.Bool.{cases_lt}
 use Rattle.std.proofs.lemmas.List.{length-map, get_or_append_left, get_or-append_right}
 use Rattle.std.proofs.lemmas.List.FromFn.{length-map-range_with_len, get_or-map-range_with_len}
+use Rattle.small_facts.proofs.Every.{all_from_members}
 use Rattle.nd_shape.specs.declared.slice.Steps.{Steps}
 use Rattle.nd_shape.specs.Index.{IsIn, place, index_at}
 use Rattle.nd_shape.proofs.Places.{index_at-in, place-below, index_at-place}
@@ -141,11 +142,7 @@ pub use-shape : (all : List Task) (uses : List Use) (k : ℕ) → AllByRecursion
 use-shape all uses k a c =
     ap (dims_at all) (sym (position-at (keys_used uses) k c)) ∙ shape-of-use all uses (position (keys_used uses) k) a (position-below (keys_used uses) k c)
 
-each-listed : (P : ℕ → Type 0) (ks : List ℕ) → ((k : ℕ) → Contains ks k → P k) → AllByRecursion P ks
-each-listed P [] h = tt
-each-listed P (k ∷ ks) h = (h k (0, omega arith, refl), each-listed P ks (λ j c. h j (suc c.0, omega (arith, c.1), c.2)))
-
 pub uses-fed : (all : List Task) (uses : List Use) → AllByRecursion (UseFits all) uses → map (dims_at all) (deps_of_uses uses) ≡ inputs_among uses
 uses-fed all uses a =
     map-same (dims_at all) (λ k. get_or (shapes_used uses) (position (keys_used uses) k) []) (deps_of_uses uses)
-    (each-listed (λ k. dims_at all k ≡ get_or (shapes_used uses) (position (keys_used uses) k) []) (deps_of_uses uses) (λ k c. use-shape all uses k a (ascending-from (keys_used uses) k c)))
+    (all_from_members (λ k. dims_at all k ≡ get_or (shapes_used uses) (position (keys_used uses) k) []) (deps_of_uses uses) (λ k c. use-shape all uses k a (ascending-from (keys_used uses) k c)))

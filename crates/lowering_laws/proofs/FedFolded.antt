@@ -21,7 +21,7 @@ use Rattle.std.specs.Prelude.{Contains}
 use Rattle.lowering_laws.specs.Stages.{kept_axes, group_tasks, level_tasks, tree_tasks, tree_count, folded_tasks, folded_each, partial_task, reduced_blocks, Use, keys_used, deps_of_uses, inputs_among, place_among, product_task, product_blocks, contracted_blocks, paired_sizes, with_sizes}
 use Rattle.lowering_laws.specs.Law.{Stand, HaveChunks}
 use Rattle.lowering_laws.proofs.Carrying.{Stand-front, Stand-back}
-use Rattle.lowering_laws.proofs.Trees.{AreLevels, level_count, tree-levels, length-groups, group-at, all-kept}
+use Rattle.lowering_laws.proofs.Trees.{AreLevels, level_count, tree-levels, length-groups, group-at}
 use Rattle.lowering_laws.proofs.Reductions.{folded_part, counts-folded, Merging, merging, length-folded, stand-stride}
 use Rattle.nd_grid.proofs.Turning.{position-below, position-at}
 use Rattle.lowering_laws.proofs.Under.{drop-counts, IsIn-drop}
@@ -32,6 +32,7 @@ use Rattle.lowering_laws.proofs.Products.{ArePaired, Weaving, weaving, AreOnce, 
 use Rattle.lowering_laws.proofs.GoodFolded.{some-blocks}
 use Rattle.lowering_laws.proofs.FedPoints.{cut-after}
 use Rattle.lowering_laws.proofs.Fed.{dims_at, IsFed, AreFed, IsShaped, IsCut, UseFits, none-fed, fed-append, cut-fitted, uses-fed}
+use Rattle.plain_eval.proofs.Paired.{kept-none}
 
 fed-cons : (all : List Task) (t : Task) (ts : List Task) → IsFed all t → AreFed all ts → AreFed all (t ∷ ts)
 fed-cons all t ts g h = record { at = at }
@@ -59,7 +60,7 @@ groups-fed all fold dims at (g ∷ gs) h =
 
 pub group-shape : (fold : Fold) (dims : List ℕ) (g : ℕ) → 0 < g → kept_shape 0 (get_or (replicate g dims) 0 []) [] ≡ dims
 group-shape fold dims zero h = absurd (omega arith)
-group-shape fold dims (suc g) h = all-kept 0 dims
+group-shape fold dims (suc g) h = kept-none 0 dims
 
 record LevelsCut (all : List Task) (dims : List ℕ) (tasks : List Task) (last : ℕ) : Type 0 where
   fed : AreFed all tasks

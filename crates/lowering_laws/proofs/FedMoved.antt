@@ -1,9 +1,9 @@
 -- Under new numbers the inputs of each task still have the shapes that its dependencies make.
-use Rattle.std.proofs.Common.{◌≡◌, ℕ, suc, ◌<◌, List, [], ◌∷◌, ◌++◌, length, map, get_or, refl, ap, sym, subst, ◌∙◌, arith, eq-eqb}
+use Rattle.std.proofs.Common.{◌≡◌, ℕ, ◌<◌, List, [], ◌∷◌, ◌++◌, length, map, get_or, refl, ap, sym, subst, ◌∙◌, arith, eq-eqb}
 use Rattle.std.specs.Prelude.{nat_eq, Contains}
-use Rattle.std.specs.List.{AllByRecursion}
 use Rattle.std.proofs.lemmas.List.Sums.{position_or_len_is}
 use Rattle.std.proofs.lemmas.List.{length-map, get_or-map}
+use Rattle.small_facts.proofs.Every.{all_from_members}
 use Rattle.nd_grid.specs.Grid.{kept_shape}
 use Rattle.nd_grid.proofs.Turning.{position-below, position-at}
 use Rattle.cluster_msgs.proofs.Dags.{map-same}
@@ -15,8 +15,8 @@ use Rattle.task_graph.specs.Graphs.{task_at}
 use Rattle.task_graph.specs.Orders.{position, ascending, moved_spec, inputs_of, renumbered}
 use Rattle.task_graph.specs.Numberings.{PlacesFit, AreFit, IsNumbering}
 use Rattle.task_graph.proofs.Keys.{ascending-has}
-use Rattle.task_graph.proofs.Renumbered.{AreOnce, ascending-from, keys-once, task-moved}
-use Rattle.task_graph.proofs.Moved.{place_now, shapes_now, contains-at, place-below, shape-now}
+use Rattle.task_graph.proofs.Renumbered.{AreOnce, ascending-from, keys-once, task-moved, contains-at}
+use Rattle.task_graph.proofs.Moved.{place_now, shapes_now, place-below, shape-now}
 use Rattle.lowering_laws.proofs.Fed.{dims_at}
 
 -- the shape of the input that stood at a place
@@ -81,10 +81,6 @@ dims-moved tasks order j f n lt =
     ap (λ (t : Task). result_shape t.spec) (task-moved tasks order j lt)
     ∙ result-moved keys (task_at tasks (get_or order j 0)).spec (keys-once tasks order j f n lt) (subst (PlacesFit (task_at tasks (get_or order j 0)).spec) (number-of-keys tasks order (get_or order j 0)) (f.places (get_or order j 0)))
 
-each-listed : (P : ℕ → Type 0) (ks : List ℕ) → ((k : ℕ) → Contains ks k → P k) → AllByRecursion P ks
-each-listed P [] h = tt
-each-listed P (k ∷ ks) h = (h k (0, omega arith, refl), each-listed P ks (λ j c. h j (suc c.0, omega (arith, c.1), c.2)))
-
 pub fed-moved : (tasks : List Task) (order : List ℕ) (j : ℕ) → AreFit tasks → IsNumbering tasks order → ((k : ℕ) → map (dims_at tasks) (task_at tasks k).deps ≡ input_shapes (task_at tasks k).spec) → j < length order
     → map (dims_at (renumbered tasks order)) (task_at (renumbered tasks order) j).deps ≡ input_shapes (task_at (renumbered tasks order) j).spec
 fed-moved tasks order j f n fed lt =
@@ -97,7 +93,7 @@ fed-moved tasks order j f n fed lt =
     let fits : PlacesFit t.spec (length keys) = subst (PlacesFit (task_at tasks (get_or order j 0)).spec) number (f.places (get_or order j 0)) in
     let count : length keys ≡ length (input_shapes t.spec) = sym number ∙ sym (length-map deps (dims_at tasks)) ∙ ap (λ (nss : List (List ℕ)). length nss) (fed (get_or order j 0)) in
     let each : map (dims_at new) (ascending keys) ≡ shapes_now keys (input_shapes t.spec) =
-    map-same (dims_at new) (λ k. get_or (input_shapes t.spec) (position keys k) []) (ascending keys) (each-listed (λ k. dims_at new k ≡ get_or (input_shapes t.spec) (position keys k) []) (ascending keys) (λ k c.
+    map-same (dims_at new) (λ k. get_or (input_shapes t.spec) (position keys k) []) (ascending keys) (all_from_members (λ k. dims_at new k ≡ get_or (input_shapes t.spec) (position keys k) []) (ascending keys) (λ k c.
     let has : Contains keys k = ascending-from keys k c in
     let p = position keys k in
     let below : position keys k < length keys = position-below keys k has in

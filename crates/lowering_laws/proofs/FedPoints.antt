@@ -3,6 +3,7 @@ use Rattle.std.proofs.Common.{◌≡◌, ℕ, zero, suc, ◌+◌, ◌-◌, ◌<�
 use Rattle.std.specs.List.{AllByRecursion}
 use Rattle.std.proofs.lemmas.List.{length-map, length-drop, length-set, get_or-map}
 use Rattle.std.proofs.lemmas.List.FromFn.{length-map-range_with_len}
+use Rattle.small_facts.proofs.Every.{all_join}
 use Rattle.nd_shape.specs.Index.{IsIn}
 use Rattle.nd_shape.specs.Chunk.{total}
 use Rattle.chunk_layout.specs.Layouts.{counts, lengths, lengths_at}
@@ -14,7 +15,6 @@ use Rattle.lowering_laws.specs.Law.{Stand}
 use Rattle.lowering_laws.proofs.Carrying.{Stand-front, Stand-back}
 use Rattle.lowering_laws.proofs.Under.{length-layout}
 use Rattle.lowering_laws.proofs.Points.{length-point}
-use Rattle.task_graph.proofs.Rising.{all-join}
 use Rattle.lowering_laws.proofs.Joined.{AlongFits, along-fits, along-number, sizes_along, starts-axis, counts-set, axis_sizes, layouts_of}
 use Rattle.lowering_laws.proofs.GoodPoints.{ArgBelow, ArgReady, ArgsMade, all-args}
 use Rattle.lowering_laws.proofs.GoodJoined.{IsOperand, FitsAlong, AlongMade, along-made}
@@ -48,7 +48,7 @@ all-cut all layout bound (a ∷ args) base h sh stand =
     let rest = fitted_args layout args (base + length first.tasks) in
     let one : ArgsCut all first.tasks first.args = one-cut all layout bound a base h.0 sh.0 (Stand-front all base first.tasks rest.tasks stand) in
     let more : ArgsCut all rest.tasks rest.args = all-cut all layout bound args (base + length first.tasks) h.1 sh.1 (Stand-back all base first.tasks rest.tasks stand) in
-    record { fed = fed-append all first.tasks rest.tasks one.fed more.fed; shaped = all-join (ArgShaped all) first.args rest.args one.shaped more.shaped }
+    record { fed = fed-append all first.tasks rest.tasks one.fed more.fed; shaped = all_join (ArgShaped all) first.args rest.args one.shaped more.shaped }
 
 pub uses-fit : (all : List Task) (bound : ℕ) (layout : List (List ℕ)) (args : List Arg) (bs : List ℕ) → IsIn (counts layout) bs → AllByRecursion (ArgReady bound layout) args → AllByRecursion (ArgShaped all) args → AllByRecursion (UseFits all) (uses_of args bs)
 uses-fit all bound layout [] bs i r sh = tt

@@ -1,7 +1,8 @@
 -- Arrays in another layout.
-use Rattle.std.proofs.Common.{◌≡◌, ℕ, cond, Bool, true, false, ◌&&◌, List, [], ◌∷◌, map, get_or, refl, ap, sym, ◌∙◌, arith, ℤ}
+use Rattle.std.proofs.Common.{◌≡◌, ℕ, cond, Bool, true, false, List, [], ◌∷◌, map, get_or, refl, ap, sym, ◌∙◌, arith, ℤ}
 use Rattle.std.specs.Prelude.{nat_eq}
 use Rattle.std.proofs.lemmas.List.{length-map, get_or-map}
+use Rattle.std.proofs.lemmas.Bool.{and_parts, eqb-true}
 use Rattle.nd_grid.specs.Grid.{Grid}
 use Rattle.chunk_layout.specs.Layouts.{lengths}
 use Rattle.chunk_layout.specs.Plans.{Overlap, chunks_in, parts}
@@ -30,27 +31,20 @@ carries-rechunked files tasks e s g layout base c shape stand =
 
 -- ---- where the layouts are the same
 
-and-both : (a b : Bool) → (a && b) ≡ true → (a ≡ true) × (b ≡ true)
-and-both true b h = (refl, h)
-and-both false b h = cc
-
-equal_true : (a b : ℕ) → nat_eq a b ≡ true → a ≡ b
-equal_true a b h = grind arith
-
 same-sizes : (as' bs : List ℕ) → same_sizes as' bs ≡ true → as' ≡ bs
 same-sizes [] [] h = refl
 same-sizes [] (b ∷ bs) h = cc
 same-sizes (a ∷ as') [] h = cc
 same-sizes (a ∷ as') (b ∷ bs) h =
-    let p = and-both (nat_eq a b) (same_sizes as' bs) h in
-    ap (λ x. x ∷ as') (equal_true a b p.0) ∙ ap (λ xs. b ∷ xs) (same-sizes as' bs p.1)
+    let p = and_parts (nat_eq a b) (same_sizes as' bs) h in
+    ap (λ x. x ∷ as') (eqb-true a b p.0) ∙ ap (λ xs. b ∷ xs) (same-sizes as' bs p.1)
 
 pub same-layout : (as' bs : List (List ℕ)) → same_layout as' bs ≡ true → as' ≡ bs
 same-layout [] [] h = refl
 same-layout [] (b ∷ bs) h = cc
 same-layout (a ∷ as') [] h = cc
 same-layout (a ∷ as') (b ∷ bs) h =
-    let p = and-both (same_sizes a b) (same_layout as' bs) h in
+    let p = and_parts (same_sizes a b) (same_layout as' bs) h in
     ap (λ x. x ∷ as') (same-sizes a b p.0) ∙ ap (λ xs. b ∷ xs) (same-layout as' bs p.1)
 
 -- an array is in the layout that it is fitted to

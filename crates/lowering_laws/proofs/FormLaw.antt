@@ -4,6 +4,7 @@ use Rattle.std.specs.Prelude.{All, slice_get, Some}
 use Rattle.std.proofs.lemmas.Bool.{cases_lt}
 use Rattle.std.proofs.lemmas.List.{length-map, length-take-le, get_or_append_left, get_or_push}
 use Rattle.std.proofs.lemmas.Option.{slice_get_within, get_or_from_slice_get}
+use Rattle.small_facts.proofs.Every.{all_join, all_below_at}
 use Rattle.nd_shape.specs.Shape.{IsShape}
 use Rattle.array_expr.specs.Elem.{is_input}
 use Rattle.array_expr.specs.declared.expr.Node.{Node}
@@ -13,14 +14,13 @@ use Rattle.cluster_msgs.specs.Shape.{deps_of}
 use Rattle.task_graph.specs.declared.graph.Task.{Task}
 use Rattle.task_graph.specs.Graphs.{task_at, shape_of}
 use Rattle.task_graph.specs.Orders.{position, moved_task, renumbered}
-use Rattle.task_graph.proofs.Visits.{numbering, member-small}
+use Rattle.task_graph.proofs.Visits.{numbering}
 use Rattle.lowering_laws.specs.Sources.{Source}
 use Rattle.lowering_laws.specs.Stages.{no_source}
 use Rattle.lowering_laws.specs.Lowered.{no_node, source_at, lower_op, Lowering, with_made, lower_from, lowering, lowered}
 use Rattle.lowering_laws.specs.Law.{Stand}
 use Rattle.lowering_laws.specs.Whole.{LawOfOrder}
 use Rattle.lowering_laws.specs.Formed.{LawOfForm}
-use Rattle.task_graph.proofs.Rising.{all-join}
 use Rattle.lowering_laws.proofs.Lowering.{shape-is, drop-head, lower-extends, Stand-here}
 use Rattle.lowering_laws.proofs.Good.{none-good}
 use Rattle.lowering_laws.proofs.Order.{IsInOrder, HaveGraph, graph-of, one-node}
@@ -70,7 +70,7 @@ one-more all nodes n l x ex is o stand =
       order = next;
       shaped = all-pushed (IsShaped all) l.sources m.source n o.order.count o.shaped cut.shaped;
       tight = all-pushed (λ (s : Source). IsTight s.layout) l.sources m.source n o.order.count o.tight (op-tight files graph.tasks nodes l.sources n x.op x.taken x.shape base ex (omega arith) names node.makes graph.held o.tight);
-      formed = all-join (IsFormed nodes) l.tasks m.tasks o.formed
+      formed = all_join (IsFormed nodes) l.tasks m.tasks o.formed
           (op-formed files graph.tasks all nodes l.sources n x.op x.taken x.shape base at graph.held (ap (λ (y : Node). is_input y.op) (sym own)) shape names node.makes (subst IsShape (sym new) (node-shape nodes n ex le)) stand);
     }
 
@@ -100,5 +100,5 @@ form-law nodes saves ex inside =
     let count : length (renumbered (lowering nodes).tasks o.order) ≡ length o.order = length-map o.order (λ old. moved_task (map (position o.order) (deps_of (shape_of tasks) old)) (task_at tasks old)) in
     let run : (k : ℕ) → k < length (lowered nodes saves).tasks → IsFormed nodes (task_at (lowered nodes saves).tasks k) = subst (λ (ts : List Task). (k : ℕ) → k < length ts → IsFormed nodes (task_at ts k)) o.run_is (λ k h.
     let lt : k < length o.order = omega arith in
-    formed-moved nodes tasks o.order k law.fit (numbering tasks o.order o.behind) law.fed.each lt (made (get_or o.order k 0) (member-small o.order (length tasks) k o.small lt))) in
+    formed-moved nodes tasks o.order k law.fit (numbering tasks o.order o.behind) law.fed.each lt (made (get_or o.order k 0) (all_below_at o.order (length tasks) k o.small lt))) in
     record { made = λ k h. (made k h).made; loads = λ k h. (made k h).loads; run = λ k h. (run k h).made; run_loads = λ k h. (run k h).loads }

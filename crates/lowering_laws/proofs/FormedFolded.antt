@@ -2,8 +2,9 @@
 use Rattle.std.proofs.Common.{◌≡◌, ◌≢◌, ℕ, zero, suc, ◌+◌, ◌*◌, ◌<◌, ◌≤◌, List, [], ◌∷◌, ◌++◌, length, map, get_or, replicate, refl, ap, sym, subst, ◌∙◌, arith}
 use Rattle.std.specs.Prelude.{All}
 use Rattle.std.specs.List.{AllByRecursion, range_with_len, flat_map}
-use Rattle.std.proofs.lemmas.List.{length-map, length-replicate}
+use Rattle.std.proofs.lemmas.List.{length-map, length-replicate, get_or-replicate}
 use Rattle.std.proofs.lemmas.List.Elements.{All-from_recursion, All-from_get_or, All-replicate}
+use Rattle.small_facts.proofs.Every.{all_join}
 use Rattle.nd_shape.specs.Shape.{IsShape, elements}
 use Rattle.nd_shape.specs.Index.{IsIn, index_at}
 use Rattle.nd_shape.specs.Chunk.{total}
@@ -24,7 +25,6 @@ use Rattle.lowering_laws.specs.Sources.{Source, key_at, fitted}
 use Rattle.lowering_laws.specs.Stages.{inputs_among, place_among, kept_axes, group_tasks, level_tasks, tree_count, folded_tasks, folded_each, partial_task, reduced_blocks, product_task, product_blocks, contracted_blocks, paired_sizes, with_sizes}
 use Rattle.lowering_laws.specs.Law.{Stand, HaveChunks}
 use Rattle.lowering_laws.proofs.Carrying.{Stand-front, Stand-back}
-use Rattle.task_graph.proofs.Rising.{all-join}
 use Rattle.lowering_laws.proofs.Plain.{lengths-on}
 use Rattle.lowering_laws.proofs.Cutting.{chunks-on, some-union}
 use Rattle.lowering_laws.proofs.Fitting.{fitted-layout}
@@ -55,15 +55,11 @@ none-folded Prod dims = tt
 none-folded Min dims = λ k d h. absurd (omega arith)
 none-folded Max dims = λ k d h. absurd (omega arith)
 
-first-replicate : (g : ℕ) (dims : List ℕ) → 0 < g → get_or (replicate g dims) 0 [] ≡ dims
-first-replicate zero dims h = absurd (omega arith)
-first-replicate (suc g) dims h = refl
-
 group-folds : (fold : Fold) (dims : List ℕ) (g : ℕ) → 0 < g → FitsReduce fold [] (replicate g dims)
 group-folds fold dims g h = record {
   some = omega (arith, length-replicate g dims);
   axes_in = All-replicate (λ (ns : List ℕ). AreAxes [] (length ns)) g dims (no-axes (length dims));
-  same = All-replicate (λ (ns : List ℕ). kept_shape 0 ns [] ≡ kept_shape 0 (get_or (replicate g dims) 0 []) []) g dims (ap (λ ns. kept_shape 0 ns []) (sym (first-replicate g dims h)));
+  same = All-replicate (λ (ns : List ℕ). kept_shape 0 ns [] ≡ kept_shape 0 (get_or (replicate g dims) 0 []) []) g dims (ap (λ ns. kept_shape 0 ns []) (sym (get_or-replicate g 0 dims [] h)));
   foldable = All-replicate (IsFoldable fold []) g dims (none-folded fold dims);
 }
 
@@ -77,11 +73,11 @@ groups-formed nodes fold dims at (g ∷ gs) sh h = (
 levels-formed : (nodes : List Node) (fold : Fold) (dims : List ℕ) (at n : ℕ) (levels : List (List ℕ)) → IsShape dims → AreLevels n levels → AreFormed nodes (level_tasks fold dims at levels)
 levels-formed nodes fold dims at n [] sh a = tt
 levels-formed nodes fold dims at n (gs ∷ levels) sh a =
-    all-join (IsFormed nodes) (group_tasks fold dims at gs) (level_tasks fold dims (at + total gs) levels) (groups-formed nodes fold dims at gs sh a.1) (levels-formed nodes fold dims (at + total gs) (length gs) levels sh a.2)
+    all_join (IsFormed nodes) (group_tasks fold dims at gs) (level_tasks fold dims (at + total gs) levels) (groups-formed nodes fold dims at gs sh a.1) (levels-formed nodes fold dims (at + total gs) (length gs) levels sh a.2)
 
 flat-below : (P : Task → Type 0) (f : ℕ → List Task) (a n : ℕ) → ((c : ℕ) → c < a + n → AllByRecursion P (f c)) → AllByRecursion P (flat_map f (range_with_len a n))
 flat-below P f a zero h = tt
-flat-below P f a (suc n) h = all-join P (f a) (flat_map f (range_with_len (a + 1) n)) (h a (omega arith)) (flat-below P f (a + 1) n (λ c l. h c (omega arith)))
+flat-below P f a (suc n) h = all_join P (f a) (flat_map f (range_with_len (a + 1) n)) (h a (omega arith)) (flat-below P f (a + 1) n (λ c l. h c (omega arith)))
 
 -- partial results and the trees over them
 pub formed-folded : (nodes : List Node) (fold : Fold) (n split : ℕ) (layout : List (List ℕ)) (partial : List ℕ → ℕ → Task) (base : ℕ) → 1 ≤ n → 2 ≤ split → IsShape (lengths layout)
@@ -92,7 +88,7 @@ formed-folded nodes fold n split layout partial base some two sh h =
     let bs = index_at (counts layout) c in
     let at = base + (n + tree_count n split) * c in
     let inside : IsIn (counts layout) (index_at (counts layout) c) = index_at-in (counts layout) c (omega arith) in
-    all-join (IsFormed nodes) (map (partial bs) (range_with_len 0 n)) (level_tasks fold (lengths_at layout bs) at (tree n split)) (all-below (IsFormed nodes) (partial bs) 0 n (λ p b. h bs p inside (omega arith)))
+    all_join (IsFormed nodes) (map (partial bs) (range_with_len 0 n)) (level_tasks fold (lengths_at layout bs) at (tree n split)) (all-below (IsFormed nodes) (partial bs) 0 n (λ p b. h bs p inside (omega arith)))
     (levels-formed nodes fold (lengths_at layout bs) at n (tree n split) (box-shape layout bs sh inside) (tree-levels n split some two)))
 
 -- ---- reductions
@@ -206,6 +202,6 @@ formed-contracted nodes all la ra l r base sl ol or al ar n same il ir shl shr s
       right_number = sym n ∙ sym np;
       some = some-pairs;
     } in
-    all-join (IsFormed nodes) (fit_l.tasks ++ fit_r.tasks) _
-    (all-join (IsFormed nodes) fit_l.tasks fit_r.tasks (formed-fitted nodes l lt base (sym ll) (subst IsShape (sym ll) il)) (formed-fitted nodes r rt (base + length fit_l.tasks) (sym rl) (subst IsShape (sym rl) ir)))
+    all_join (IsFormed nodes) (fit_l.tasks ++ fit_r.tasks) _
+    (all_join (IsFormed nodes) fit_l.tasks fit_r.tasks (formed-fitted nodes l lt base (sym ll) (subst IsShape (sym ll) il)) (formed-fitted nodes r rt (base + length fit_l.tasks) (sym rl) (subst IsShape (sym rl) ir)))
     (formed-product nodes all la ra pairs fit_l.source fit_r.source (base + length (fit_l.tasks ++ fit_r.tasks)) o f.shaped k.shaped sh)

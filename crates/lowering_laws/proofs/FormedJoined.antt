@@ -4,6 +4,7 @@ use Rattle.std.specs.List.{AllByRecursion}
 use Rattle.std.proofs.lemmas.List.{length-map, length-set, get_or-map}
 use Rattle.std.proofs.lemmas.List.FromFn.{length-map-range_with_len}
 use Rattle.std.proofs.lemmas.List.Elements.{All-from_recursion}
+use Rattle.small_facts.proofs.Every.{all_join}
 use Rattle.nd_shape.specs.Shape.{IsShape}
 use Rattle.nd_shape.specs.Region.{IsPart}
 use Rattle.nd_shape.specs.Chunk.{total}
@@ -17,7 +18,6 @@ use Rattle.block_kernels.specs.WellFormed.{FitsPiece, FitsAssemble}
 use Rattle.task_graph.specs.declared.graph.Task.{Task}
 use Rattle.lowering_laws.specs.Sources.{Source, fitted}
 use Rattle.lowering_laws.specs.Stages.{Along, along_all, or_empty, no_along, along_at, whole_piece, fitted_along, no_source, common_axis, common_layout, joined_task, concatenated_blocks}
-use Rattle.task_graph.proofs.Rising.{all-join}
 use Rattle.lowering_laws.proofs.Cutting.{chunks-on}
 use Rattle.lowering_laws.proofs.Fitting.{fitted-layout}
 use Rattle.lowering_laws.proofs.Joined.{AllSources, AreJoined, AlongFits, along-fits, along-number, sizes_along, starts-axis, lengths-set, axis_sizes, layouts_of, joined-targets, zeros-within}
@@ -55,7 +55,7 @@ along-formed nodes files tasks common axis (s ∷ ss) [] base a cut sh = absurd 
 along-formed nodes files tasks common axis (s ∷ ss) (g ∷ gs) base a cut sh =
     let to = set common axis (get_or s.layout axis []) in
     let same : lengths (set common axis (get_or s.layout axis [])) ≡ g.shape = cut 0 (omega arith) in
-    all-join (IsFormed nodes) (fitted base s to).tasks _ (formed-fitted nodes s to base (a.0.shape ∙ sym same) (subst IsShape (sym same) sh.0))
+    all_join (IsFormed nodes) (fitted base s to).tasks _ (formed-fitted nodes s to base (a.0.shape ∙ sym same) (subst IsShape (sym same) sh.0))
     (along-formed nodes files tasks common axis ss gs (base + length (fitted base s to).tasks) a.2 (λ p h. cut (suc p) (omega arith)) sh.1)
 
 -- ---- the stage
@@ -72,7 +72,7 @@ formed-joined nodes files tasks axis s ss g gs base a j sh is =
     let as' = or_empty (along_all 0 zs) in
     let along = along-fits (get_or s.layout axis []) (axis_sizes ss axis) (chunks-on s.layout axis a.1 (omega arith)) in
     let layout = set common axis (sizes_along as') in
-    all-join (IsFormed nodes) fit.tasks _ (along-formed nodes files tasks common axis (s ∷ ss) (g ∷ gs) base a (joined-targets files tasks axis s ss g gs a j) sh)
+    all_join (IsFormed nodes) fit.tasks _ (along-formed nodes files tasks common axis (s ∷ ss) (g ∷ gs) base a (joined-targets files tasks axis s ss g gs a j) sh)
     (formed-each nodes (base + length fit.tasks) layout (joined_task layout as' axis fit.sources) (λ bs inside.
     let it = along_at as' (get_or bs axis 0) in
     let ax = starts-axis common axis (sizes_along as') bs inside-axis inside in

@@ -2,6 +2,7 @@
 use Rattle.std.proofs.Common.{◌≡◌, ◌≢◌, ℕ, suc, ◌<◌, ◌≤◌, List, [], ◌∷◌, length, map, take, get_or, refl, ap, sym, subst, ◌∙◌, arith, ℤ, pos}
 use Rattle.std.specs.Prelude.{All}
 use Rattle.std.specs.List.{AllByRecursion}
+use Rattle.std.proofs.lemmas.Option.{slice_get-get_or}
 use Rattle.nd_shape.specs.declared.slice.Steps.{Steps}
 use Rattle.nd_shape.specs.Shape.{IsShape}
 use Rattle.nd_shape.specs.Region.{IsPart}
@@ -26,7 +27,7 @@ use Rattle.lowering_laws.specs.Law.{Stand}
 use Rattle.lowering_laws.proofs.Plain.{IsOrder}
 use Rattle.lowering_laws.proofs.Products.{AreOnce}
 use Rattle.lowering_laws.proofs.Cutting.{lengths-normalized}
-use Rattle.lowering_laws.proofs.Lowering.{AllHeld, slice-at, shape-is, shape-front, order-of, once-of, arg-carries, all-sources, joined-of, number-agrees, number-broadcast}
+use Rattle.lowering_laws.proofs.Lowering.{AllHeld, shape-is, shape-front, order-of, once-of, arg-carries, all-sources, joined-of, number-agrees, number-broadcast}
 use Rattle.lowering_laws.proofs.Order.{IsKnown, AllKnown, axes-known, arg-below, point-arg}
 use Rattle.lowering_laws.proofs.Shapes.{AllShaped, arg-at}
 use Rattle.lowering_laws.proofs.TightNodes.{AllTight}
@@ -36,14 +37,11 @@ use Rattle.lowering_laws.proofs.FormedPieces.{formed-rechunked}
 use Rattle.lowering_laws.proofs.FormedPoints.{formed-pair, formed-choice}
 use Rattle.lowering_laws.proofs.FormedJoined.{formed-joined}
 use Rattle.lowering_laws.proofs.FormedFolded.{axes-of, formed-reduced, formed-contracted}
+use Rattle.nd_shape.proofs.Broadcasts.{no_axes}
 
 -- each node's array has a shape
 pub node-shape : (nodes : List Node) (k : ℕ) → IsExpression nodes → k < length nodes → IsShape (shape_at nodes k)
-node-shape nodes k ex h = subst IsShape (sym (shape-is nodes k)) (ex.each k (get_or nodes k no_node) (slice-at nodes k no_node h)).limits
-
--- a number has one
-number-shape : IsShape []
-number-shape = record { axes = omega arith; lengths = λ k d h. absurd (omega arith); product = omega arith }
+node-shape nodes k ex h = subst IsShape (sym (shape-is nodes k)) (ex.each k (get_or nodes k no_node) (slice_get-get_or nodes k no_node h)).limits
 
 all-shapes : (files : ℕ → List ℕ → ℤ) (nodes : List Node) (n : ℕ) (of : List ℕ) → IsExpression nodes → n ≤ length nodes → All (λ k. k < n) of → AllByRecursion (λ (g : Grid). IsShape g.shape) (map (whole files nodes) of)
 all-shapes files nodes n [] ex le a = tt
@@ -79,7 +77,7 @@ op-formed files tasks all nodes sources n (Negate of) taken shape base at held i
     (record { shape = refl; at = refl }, (arg-carries files tasks nodes sources of at.expression (omega (arith, names)) (held of names).carries, tt))
     (number-agrees (shape_at nodes of)) (makes.0 ∙ shape-front nodes n of names ∙ sym (number-broadcast (shape_at nodes of)))
     (tt, (arg-below base (length shape) (get_or nodes of no_node).op (source_at sources of) it.below (omega arith), tt))
-    (tt, (arg-at all nodes sources n of names at.shaped, tt)) (number-shape, (node-shape nodes of at.expression (omega (arith, names)), tt)) (subst IsShape (sym is) (node-shape nodes n at.expression at.there)) stand
+    (tt, (arg-at all nodes sources n of names at.shaped, tt)) (no_axes, (node-shape nodes of at.expression (omega (arith, names)), tt)) (subst IsShape (sym is) (node-shape nodes n at.expression at.there)) stand
 op-formed files tasks all nodes sources n (Elementwise op left right) taken shape base at held input is names makes sh stand =
     let there = at.there in
     let shapes = shape_at (take n nodes) left ∷ shape_at (take n nodes) right ∷ [] in

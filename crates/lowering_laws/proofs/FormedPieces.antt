@@ -17,8 +17,9 @@ use Rattle.chunk_layout.proofs.Parting.{total-before}
 use Rattle.block_kernels.specs.Kernels.{is_within}
 use Rattle.block_kernels.specs.WellFormed.{FitsPiece, FitsAssemble, covered}
 use Rattle.lowering_laws.specs.Sources.{Source, Made, placed, rechunk_task, rechunked, same_layout, fitted}
-use Rattle.lowering_laws.proofs.Pieces.{covers, TupleFits, some-overlap, no-overlap, all-tuples, parts-fit}
+use Rattle.lowering_laws.proofs.Pieces.{covers, TupleFits, some-overlap, all-tuples, parts-fit}
 use Rattle.lowering_laws.proofs.Formed.{AreFormed, formed-each, box-shape}
+use Rattle.chunk_layout.proofs.Crossing.{nothing}
 
 -- ---- each part lies in both blocks
 
@@ -58,7 +59,7 @@ ends-from k at low n (s ∷ rest) =
     let r = ends-from (suc k) (at + s) low n rest in
     elim (cases_lt (max low at) (min (low + n) (at + s))) [
       | inl lt ↦ subst (AllByRecursion (λ (o : Overlap). o.to + o.len ≤ n)) (sym (some-overlap k at low (max low at) (min (low + n) (at + s)) _ lt)) (omega arith, r)
-      | inr ge ↦ subst (AllByRecursion (λ (o : Overlap). o.to + o.len ≤ n)) (sym (no-overlap k at low (max low at) (min (low + n) (at + s)) _ ge)) r
+      | inr ge ↦ subst (AllByRecursion (λ (o : Overlap). o.to + o.len ≤ n)) (sym (nothing k at low (max low at) (min (low + n) (at + s)) _ ge)) r
     ]
 
 parts-end : (from to : List (List ℕ)) (bs : List ℕ) → length from ≡ length to → IsIn (counts to) bs → AllByRecursion (TupleEnds (lengths_at to bs)) (parts from to bs)
@@ -111,7 +112,7 @@ none-before k at low high i (s ∷ rest) h =
     elim (cases_lt (max low at) (min high (at + s))) [
       | inl o ↦ let c : one_if (not (nat_lt i (max low at - low)) && nat_lt i (max low at - low + (min high (at + s) - max low at))) ≡ 0 = outside i (max low at - low) (min high (at + s) - max low at) (omega arith) in
           ap (covering i) (some-overlap k at low (max low at) (min high (at + s)) (overlaps_from (suc k) (at + s) low high rest) o) ∙ both _ _ c r
-      | inr o ↦ ap (covering i) (no-overlap k at low (max low at) (min high (at + s)) (overlaps_from (suc k) (at + s) low high rest) o) ∙ r
+      | inr o ↦ ap (covering i) (nothing k at low (max low at) (min high (at + s)) (overlaps_from (suc k) (at + s) low high rest) o) ∙ r
     ]
   where
     both : (a b : ℕ) → a ≡ 0 → b ≡ 0 → a + b ≡ 0
@@ -127,7 +128,7 @@ one-from k at low high i (s ∷ rest) a b c = elim (cases_lt (low + i) (at + s))
       elim (cases_lt (max low at) (min high (at + s))) [
         | inl o ↦ ap (covering i) (some-overlap k at low (max low at) (min high (at + s)) (overlaps_from (suc k) (at + s) low high rest) o)
             ∙ sum _ 0 _ 1 (passed i (max low at - low) (min high (at + s) - max low at) (omega arith)) r
-        | inr o ↦ ap (covering i) (no-overlap k at low (max low at) (min high (at + s)) (overlaps_from (suc k) (at + s) low high rest) o) ∙ r
+        | inr o ↦ ap (covering i) (nothing k at low (max low at) (min high (at + s)) (overlaps_from (suc k) (at + s) low high rest) o) ∙ r
       ]
 ]
   where

@@ -2,6 +2,7 @@
 use Rattle.std.proofs.Common.{◌≡◌, ℕ, ◌+◌, ◌≤◌, cond, Bool, true, false, ◌||◌, List, [], ◌∷◌, length, map, get_or, refl, ap, sym, subst, ◌∙◌, arith, ℤ, Some, None}
 use Rattle.std.specs.Prelude.{nat_eq, Option}
 use Rattle.std.specs.List.{AllByRecursion}
+use Rattle.small_facts.proofs.Every.{all_join}
 use Rattle.nd_shape.specs.Shape.{IsShape}
 use Rattle.nd_shape.specs.Index.{IsIn}
 use Rattle.nd_shape.specs.Region.{Box}
@@ -21,7 +22,6 @@ use Rattle.lowering_laws.specs.Law.{Stand}
 use Rattle.lowering_laws.proofs.Carrying.{Stand-front}
 use Rattle.lowering_laws.proofs.Under.{one_or, block_under, axes-blocks, lengths-blocks, IsUnder, under-layout}
 use Rattle.lowering_laws.proofs.Points.{length-point}
-use Rattle.task_graph.proofs.Rising.{all-join}
 use Rattle.lowering_laws.proofs.Fitting.{fitted-layout}
 use Rattle.lowering_laws.proofs.Uses.{place-below}
 use Rattle.lowering_laws.proofs.Pointwise.{AllCarry, AllAligned, target, target-is, HasUse, has-first, has-later, IsPoint, point-is, grid_shapes}
@@ -101,7 +101,7 @@ args-formed nodes files tasks layout (x ∷ args) [] base c a sh = absurd c
 args-formed nodes files tasks layout (Literal v ∷ args) (g ∷ gs) base c a sh = args-formed nodes files tasks layout args gs (base + 0) c.1 a.1 sh.1
 args-formed nodes files tasks layout (Blocks s ∷ args) (g ∷ gs) base c a sh =
     let same : lengths (arg_target layout (Blocks s)) ≡ g.shape = ap (λ (l : List (List ℕ)). lengths l) (target-is s g layout c.0.shape) ∙ a.0.lengths_are in
-    all-join (IsFormed nodes) (fitted base s (arg_target layout (Blocks s))).tasks _
+    all_join (IsFormed nodes) (fitted base s (arg_target layout (Blocks s))).tasks _
     (formed-fitted nodes s (arg_target layout (Blocks s)) base (c.0.shape ∙ sym same) (subst IsShape (sym same) sh.0))
     (args-formed nodes files tasks layout args gs (base + length (fitted base s (arg_target layout (Blocks s))).tasks) c.1 a.1 sh.1)
 
@@ -192,7 +192,7 @@ formed-pair nodes files tasks all op dims a b g h base c agree e below sh shapes
     let layout = point_layout dims (arg_layout a ∷ arg_layout b ∷ []) in
     let fit = fitted_args layout (a ∷ b ∷ []) base in
     let s : IsStage all dims (a ∷ b ∷ []) (g ∷ h ∷ []) base = stage-is files tasks all dims (a ∷ b ∷ []) (g ∷ h ∷ []) base c agree e below sh (Stand-front all base fit.tasks _ stand) in
-    all-join (IsFormed nodes) fit.tasks _ (args-formed nodes files tasks layout (a ∷ b ∷ []) (g ∷ h ∷ []) base c s.point.aligned shapes)
+    all_join (IsFormed nodes) fit.tasks _ (args-formed nodes files tasks layout (a ∷ b ∷ []) (g ∷ h ∷ []) base c s.point.aligned shapes)
     (formed-each nodes (base + length fit.tasks) layout (point_task (Pair op) layout fit.args) (λ bs i.
     pair-formed nodes all op layout fit.args g.shape h.shape bs i s.laid s.shaped (s.uses bs i) s.point.aligned.0.small s.point.aligned.1.0.small (s.agree bs i) (s.point.result bs i)
     (box-shape layout bs (subst IsShape (sym s.point.cuts) is) i)))
@@ -204,7 +204,7 @@ formed-choice nodes files tasks all dims a b c f g h base carry agree e below sh
     let layout = point_layout dims (arg_layout a ∷ arg_layout b ∷ arg_layout c ∷ []) in
     let fit = fitted_args layout (a ∷ b ∷ c ∷ []) base in
     let s : IsStage all dims (a ∷ b ∷ c ∷ []) (f ∷ g ∷ h ∷ []) base = stage-is files tasks all dims (a ∷ b ∷ c ∷ []) (f ∷ g ∷ h ∷ []) base carry agree e below sh (Stand-front all base fit.tasks _ stand) in
-    all-join (IsFormed nodes) fit.tasks _ (args-formed nodes files tasks layout (a ∷ b ∷ c ∷ []) (f ∷ g ∷ h ∷ []) base carry s.point.aligned shapes)
+    all_join (IsFormed nodes) fit.tasks _ (args-formed nodes files tasks layout (a ∷ b ∷ c ∷ []) (f ∷ g ∷ h ∷ []) base carry s.point.aligned shapes)
     (formed-each nodes (base + length fit.tasks) layout (point_task Choice layout fit.args) (λ bs i.
     choice-formed nodes all layout fit.args f.shape g.shape h.shape bs i s.laid s.shaped (s.uses bs i) s.point.aligned.0.small s.point.aligned.1.0.small s.point.aligned.1.1.0.small (s.agree bs i) (s.point.result bs i)
     (box-shape layout bs (subst IsShape (sym s.point.cuts) is) i)))

@@ -4,6 +4,7 @@ use Rattle.std.specs.List.{range_with_len, flat_map}
 use Rattle.std.proofs.Math.Nat.{mul-le-mul_left}
 use Rattle.std.proofs.lemmas.List.{length-replicate}
 use Rattle.std.proofs.lemmas.List.FromFn.{length-range_with_len, length-map-range_with_len, get_or-map-range_with_len}
+use Rattle.small_facts.proofs.Ranges.{range_all_below}
 use Rattle.nd_shape.specs.Index.{IsIn, index_at}
 use Rattle.nd_shape.specs.Shape.{elements}
 use Rattle.nd_shape.specs.Chunk.{total}
@@ -26,7 +27,7 @@ use Rattle.task_graph.proofs.Keys.{ascending-has, contains-here, contains-later}
 use Rattle.lowering_laws.proofs.Trees.{AreLevels, tree-levels, length-groups}
 use Rattle.lowering_laws.proofs.Reductions.{folded_part, counts-folded, Merging, merging, length-folded, length-strides}
 use Rattle.lowering_laws.proofs.Products.{ArePaired, Weaving, weaving, AreOnce, drop-append, some-elements, length-pairs, pair-at, length-with, with-paired}
-use Rattle.task_graph.proofs.Rising.{ascending-rises, ascending-all, range-below, range-rises}
+use Rattle.task_graph.proofs.Rising.{ascending-rises, ascending-all, range-rises}
 use Rattle.lowering_laws.proofs.Good.{IsGood, AreGood, IsBelow, IsMade, IsFit, good-weaker, below-weaker, none-good, good-append, made-after, key-below, made-fitted}
 
 good-cons : (base : ℕ) (t : Task) (ts : List Task) → IsGood base t → AreGood (suc base) ts → AreGood base (t ∷ ts)
@@ -47,7 +48,7 @@ group-good : (fold : Fold) (dims : List ℕ) (at g pos : ℕ) → at + g ≤ pos
 group-good fold dims at g pos h =
     let n : length (range_with_len at g) ≡ g = length-range_with_len at g in
     record {
-      below = range-below at g pos h;
+      below = range_all_below at g pos h;
       rising = range-rises at g;
       places = (length-replicate g dims ∙ sym n, (λ p l. ap (λ ns. kept_shape 0 ns []) (same-at g dims p (omega arith) ∙ sym (same-at g dims 0 (omega arith)))));
     }

@@ -2,6 +2,7 @@
 use Rattle.std.proofs.Common.{◌≡◌, ℕ, zero, suc, ◌+◌, ◌-◌, ◌<◌, ◌≤◌, List, [], ◌∷◌, ◌++◌, length, map, drop, ap, sym, subst, ◌∙◌, arith, length-append}
 use Rattle.std.specs.List.{AllByRecursion}
 use Rattle.std.proofs.lemmas.List.{length-map, length-drop}
+use Rattle.small_facts.proofs.Every.{all_join}
 use Rattle.nd_shape.specs.Index.{IsIn}
 use Rattle.nd_shape.specs.Chunk.{total}
 use Rattle.nd_grid.specs.Grid.{under}
@@ -16,7 +17,7 @@ use Rattle.lowering_laws.proofs.Under.{IsUnder, under-layout, length-layout}
 use Rattle.lowering_laws.proofs.Points.{length-point}
 use Rattle.lowering_laws.proofs.Pointwise.{HasUse, has-first, has-later}
 use Rattle.task_graph.proofs.Keys.{ascending-has}
-use Rattle.task_graph.proofs.Rising.{ascending-rises, ascending-all, all-join}
+use Rattle.task_graph.proofs.Rising.{ascending-rises, ascending-all}
 use Rattle.lowering_laws.proofs.Good.{IsGood, AreGood, IsBelow, IsMade, IsFit, below-weaker, none-good, good-append, made-after, key-below, made-each, made-fitted}
 
 -- an operand of no more axes than the result, whose keys are there
@@ -68,7 +69,7 @@ one-arg layout (Blocks s) base h =
 both-args : (base : ℕ) (layout : List (List ℕ)) (ts us : List Task) (as' bs : List Arg) → ArgsMade base layout ts as' → ArgsMade (base + length ts) layout us bs → ArgsMade base layout (ts ++ us) (as' ++ bs)
 both-args base layout ts us as' bs a b = record {
   good = good-append base ts us a.good b.good;
-  ready = all-join (ArgReady (base + length (ts ++ us)) layout) as' bs
+  ready = all_join (ArgReady (base + length (ts ++ us)) layout) as' bs
       (all-weaker (ArgReady (base + length ts) layout) (ArgReady (base + length (ts ++ us)) layout) as' (λ x r. ready-weaker (base + length ts) (base + length (ts ++ us)) layout x (omega (arith, length-append ts us)) r) a.ready)
       (all-weaker (ArgReady (base + length ts + length us) layout) (ArgReady (base + length (ts ++ us)) layout) bs (λ x r. ready-weaker (base + length ts + length us) (base + length (ts ++ us)) layout x (omega (arith, length-append ts us)) r) b.ready);
 }

@@ -4,6 +4,7 @@ use Rattle.std.specs.Prelude.{nat_lt, not, Option}
 use Rattle.std.proofs.lemmas.Bool.{cases_eq}
 use Rattle.std.proofs.lemmas.List.{length-map, get_or-map, get_or-set_same, get_or-set_other, length-set, set-set, set-get_or}
 use Rattle.std.proofs.lemmas.List.FromFn.{length-map-range_with_len, get_or-map-range_with_len}
+use Rattle.std.proofs.lemmas.Grind.{same_number_lists}
 use Rattle.nd_shape.specs.Block.{Array}
 use Rattle.nd_shape.specs.Index.{IsIn}
 use Rattle.nd_shape.specs.Region.{Box, moved}
@@ -13,8 +14,7 @@ use Rattle.nd_shape.proofs.Axes.{IsIn-at}
 use Rattle.nd_grid.specs.Grid.{Grid, Holds, grid_of, concatenated, at_along, length_along}
 use Rattle.nd_grid.proofs.Turning.{length-moved, moved-at}
 use Rattle.chunk_layout.specs.Layouts.{counts, lengths, starts_at, lengths_at, box_at}
-use Rattle.chunk_layout.proofs.Parting.{length-starts, length-lengths}
-use Rattle.chunk_layout.proofs.Unions.{total-append}
+use Rattle.chunk_layout.proofs.Parting.{length-starts, length-lengths, total-before}
 use Rattle.cluster_msgs.specs.Dags.{IsEarlier}
 use Rattle.cluster_msgs.specs.Shape.{deps_of}
 use Rattle.block_kernels.specs.Kernels.{nth, no_grid, counted, is_within, assembled}
@@ -26,9 +26,10 @@ use Rattle.lowering_laws.specs.Law.{Carries, Stand, HaveChunks}
 use Rattle.lowering_laws.proofs.Carrying.{Stand-front, Stand-back, carries-each, one-input}
 use Rattle.lowering_laws.proofs.Cutting.{chunks-on, some-each, some-joined_all}
 use Rattle.lowering_laws.proofs.Points.{joined_all-total}
-use Rattle.lowering_laws.proofs.Plain.{same-lists}
 use Rattle.lowering_laws.proofs.Reductions.{one-block}
 use Rattle.lowering_laws.proofs.Fitting.{IsFitted, carries-fitted}
+use Rattle.lowering_laws.proofs.Products.{total-on}
+use Rattle.nd_shape.proofs.Totals.{total-push, total-append}
 
 -- ---- one whole piece
 
@@ -84,9 +85,6 @@ take-here : (front rest : List ℕ) → take (length front) (front ++ rest) ≡ 
 take-here [] rest = refl
 take-here (y ∷ front) rest = ap (λ xs. y ∷ xs) (take-here front rest)
 
-push-total : (xs : List ℕ) (x : ℕ) → total (xs ++ x ∷ []) ≡ total xs + x
-push-total xs x = total-append xs (x ∷ []) ∙ omega arith
-
 -- from number k on
 along-from : (zs : List (List ℕ)) (p : ℕ) (front rest : List ℕ) → p < length zs → get_or zs p [] ≡ front ++ rest
     → AllAlong zs (before zs p + total front) (along_from p (length front) rest) × (total (sizes_along (along_from p (length front) rest)) ≡ total rest)
@@ -94,7 +92,7 @@ along-from zs p front [] h e = (tt, refl)
 along-from zs p front (s ∷ rest) h e =
     let next = along-from zs p (front ++ s ∷ []) rest h (e ∙ sym (append_assoc front (s ∷ []) rest)) in
     let count : length (front ++ s ∷ []) ≡ suc (length front) = length-append front (s ∷ []) ∙ omega arith in
-    let low : before zs p + total (front ++ s ∷ []) ≡ before zs p + total front + s = omega (arith, push-total front s) in
+    let low : before zs p + total (front ++ s ∷ []) ≡ before zs p + total front + s = omega (arith, total-push front s) in
     let all : AllAlong zs (before zs p + total front + s) (along_from p (suc (length front)) rest) = subst (λ k. AllAlong zs k (along_from p (suc (length front)) rest)) low (subst (λ k. AllAlong zs (before zs p + total (front ++ s ∷ [])) (along_from p k rest)) count next.0) in
     let sum : total (sizes_along (along_from p (suc (length front)) rest)) ≡ total rest = ap (λ k. total (sizes_along (along_from p k rest))) (sym count) ∙ next.1 in
     elim (cases_eq s 0) [
@@ -253,7 +251,7 @@ joined-local axis common zs gs d as' bs a rest h count lens low all inside ha =
           let below : get_or i axis 0 < get_or (lengths_at layout bs) axis 0 = IsIn-at (lengths_at layout bs) i axis inb (omega arith) in
           let x = total (take (along_at as' (get_or bs axis 0)).chunk z) + get_or i axis 0 in
           let m : get_or (moved (starts_at layout bs) i) axis 0 ≡ get_or (starts_at layout bs) axis 0 + get_or i axis 0 = moved-at (starts_at layout bs) i axis (omega arith) (omega arith) in
-          let into : total (take (along_at as' (get_or bs axis 0)).chunk z) + get_or z (along_at as' (get_or bs axis 0)).chunk 0 ≤ total z = total-through z (along_at as' (get_or bs axis 0)).chunk fits.chunk in
+          let into : total (take (along_at as' (get_or bs axis 0)).chunk z) + get_or z (along_at as' (get_or bs axis 0)).chunk 0 ≤ total z = total-before z (along_at as' (get_or bs axis 0)).chunk fits.chunk in
           let there : (along_at as' (get_or bs axis 0)).operand < length gs = omega (arith, fits.there) in
           whole-local a g (lengths_at layout bs) (box_at layout bs) (box_at (set common axis z) (set bs axis (along_at as' (get_or bs axis 0)).chunk)) ha lengths-same refl (λ i h. refl) rest i inb
           ∙ ap (λ ss. g.at (moved ss i)) starts-same
@@ -262,11 +260,6 @@ joined-local axis common zs gs d as' bs a rest h count lens low all inside ha =
           (omega (arith, m, ax.0, fits.low_is, low (along_at as' (get_or bs axis 0)).operand (omega arith)))
           (omega (arith, lens (along_at as' (get_or bs axis 0)).operand there, ax.2)));
     }
-  where
-    total-through : (ss : List ℕ) (b : ℕ) → b < length ss → total (take b ss) + get_or ss b 0 ≤ total ss
-    total-through [] b h = absurd (omega arith)
-    total-through (s ∷ ss) zero h = omega arith
-    total-through (s ∷ ss) (suc b) h = let r : total (take b ss) + get_or ss b 0 ≤ total ss = total-through ss b (omega arith) in omega arith
 
 -- ---- the stage
 
@@ -304,11 +297,6 @@ pub record AreJoined (axis : ℕ) (g : Grid) (gs : List Grid) : Type 0 where
   pub there : axis < length g.shape
   pub axes : (p : ℕ) → p < length (g ∷ gs) → length (get_or (g ∷ gs) p no_grid).shape ≡ length g.shape
   pub others : (k p : ℕ) → k ≢ axis → p < length (g ∷ gs) → get_or (get_or (g ∷ gs) p no_grid).shape k 0 ≡ get_or g.shape k 0
-
-total-on : (layout : List (List ℕ)) (k : ℕ) → total (get_or layout k []) ≡ get_or (lengths layout) k 0
-total-on [] k = refl
-total-on (sizes ∷ layout) zero = refl
-total-on (sizes ∷ layout) (suc k) = total-on layout k
 
 abbrev pub layouts_of : List Source → List (List (List ℕ))
 layouts_of ss = map (λ (s : Source). s.layout) ss
@@ -356,7 +344,7 @@ joined-cut files tasks axis s ss g gs a j z shape n t o =
     ∙ joined_all-total (get_or g.shape k 0) (map (λ (layout : List (List ℕ)). get_or layout k []) (layouts_of (s ∷ ss))) 0 (sizes-or files tasks (s ∷ ss) (g ∷ gs) k (get_or g.shape k 0) a (λ p b. j.others k p d b)) (omega arith)
     (total-on s.layout k ∙ ap (λ ns. get_or ns k 0) a.0.shape) in
     let ls : length (lengths (set common axis z)) ≡ length g.shape = length-map (set common axis z) (λ (sizes : List ℕ). total sizes) ∙ length-set common axis z ∙ lc in
-    same-lists (lengths (set common axis z)) shape (ls ∙ sym n) (λ k h.
+    same_number_lists (lengths (set common axis z)) shape (ls ∙ sym n) (λ k h.
     sym (total-on (set common axis z) k) ∙ elim (cases_eq k axis) [
       | inl q ↦ ap (λ i. total (get_or (set common axis z) i [])) q ∙ ap total (get_or-set_same common axis z [] (omega (arith, j.there))) ∙ t ∙ ap (λ i. get_or shape i 0) (sym q)
       | inr q ↦ ap total (get_or-set_other common axis k z [] q) ∙ common-total k q (omega arith) ∙ sym (o k q)

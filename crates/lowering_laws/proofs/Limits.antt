@@ -1,9 +1,9 @@
 -- Where no limit is passed, the graph that is run has a shape that the cluster takes.
 use Rattle.std.proofs.Common.{◌≡◌, ℕ, zero, suc, ◌+◌, ◌*◌, ◌^◌, ◌<◌, ◌≤◌, cond, Bool, true, false, List, [], ◌∷◌, length, map, get_or, refl, ap, sym, subst, ◌∙◌, arith, inl, inr, Some, None}
-use Rattle.std.specs.Prelude.{nat_eq, nat_lt, All, Option}
+use Rattle.std.specs.Prelude.{nat_lt, All, Option}
 use Rattle.std.specs.List.{AllByRecursion}
 use Rattle.std.proofs.Math.ListN.{get_or-map}
-use Rattle.std.proofs.lemmas.Bool.{cases_lt}
+use Rattle.std.proofs.lemmas.Bool.{cases_lt, ltb-false}
 use Rattle.std.proofs.lemmas.List.{length-map, get_or_past}
 use Rattle.std.specs.List.Sorted.{IsStrictlyIncreasing}
 use Rattle.nd_shape.specs.Chunk.{total}
@@ -13,17 +13,19 @@ use Rattle.cluster_msgs.specs.Shape.{IsShape, deps_of, total_length}
 use Rattle.block_kernels.specs.Kernels.{input_shapes, result_shape}
 use Rattle.task_graph.specs.declared.graph.Task.{Task}
 use Rattle.task_graph.specs.Graphs.{task_at, no_task, shape_of, bytes}
-use Rattle.task_graph.specs.Orders.{with_key, ascending, position, moved_task, renumbered}
+use Rattle.task_graph.specs.Orders.{position, moved_task, renumbered}
 use Rattle.task_graph.proofs.Making.{deps-at}
 use Rattle.task_graph.specs.declared.limit.Quantity.{Quantity}
 use Rattle.task_graph.specs.declared.limit.Quantity.TheVariants.{Keys, Edges, BlockBytes}
 use Rattle.lowering_laws.specs.Lowered.{lowering, lowered, limit_from, limit_of}
 use Rattle.lowering_laws.specs.Whole.{LawOfOrder}
-use Rattle.lowering_laws.proofs.Counting.{sum_below, sum_over, AreDistinct, distinct-sum, distinct-from, sum-ones, below-ones, total-below, member-length, total-bounded}
+use Rattle.lowering_laws.proofs.Counting.{sum_below, sum_over, AreDistinct, distinct-sum, distinct-from, sum-ones, below-ones, total-below, total-bounded}
 use Rattle.lowering_laws.proofs.MadeTasks.{all-lowered}
 use Rattle.lowering_laws.proofs.Fed.{dims_at}
 use Rattle.task_graph.proofs.Renumbered.{task-moved}
 use Rattle.lowering_laws.proofs.Runs.{Ordering, run-order}
+use Rattle.task_graph.proofs.Bounds.{ascending-length}
+use Rattle.task_graph.proofs.Moving.{member-edges}
 
 -- ---- what the limits leave
 
@@ -31,9 +33,6 @@ record IsWithin (keys edges : ℕ) (tasks : List Task) : Type 0 where
   few : keys + length tasks ≤ 32768
   few_edges : edges + total_length (map (λ (t : Task). t.deps) tasks) ≤ 262144
   small : AllByRecursion (λ (t : Task). t.nbytes ≤ 134217728) tasks
-
-not-above : (m n : ℕ) → nat_lt m n ≡ false → n ≤ m
-not-above m n h = grind arith
 
 -- none of three tests holds, where nothing is answered
 record NoneOf (a b c : Bool) (more : Option Quantity) : Type 0 where
@@ -52,9 +51,9 @@ within-from : (tasks : List Task) (keys edges : ℕ) → keys ≤ 32768 → edge
 within-from [] keys edges a b h = record { few = omega arith; few_edges = omega arith; small = tt }
 within-from (t ∷ ts) keys edges a b h =
     let n : NoneOf (nat_lt 32767 keys) (nat_lt 262144 (edges + length t.deps)) (nat_lt 134217728 t.nbytes) (limit_from (suc keys) (edges + length t.deps) ts) = none-of _ _ _ Keys Edges BlockBytes _ h in
-    let lk : keys ≤ 32767 = not-above 32767 keys n.first in
-    let le : edges + length t.deps ≤ 262144 = not-above 262144 (edges + length t.deps) n.second in
-    let lb : t.nbytes ≤ 134217728 = not-above 134217728 t.nbytes n.third in
+    let lk : keys ≤ 32767 = ltb-false 32767 keys n.first in
+    let le : edges + length t.deps ≤ 262144 = ltb-false 262144 (edges + length t.deps) n.second in
+    let lb : t.nbytes ≤ 134217728 = ltb-false 134217728 t.nbytes n.third in
     let r : IsWithin (suc keys) (edges + length t.deps) ts = within-from ts (suc keys) (edges + length t.deps) (omega arith) le n.rest in
     let rf = r.few in
     let re = r.few_edges in
@@ -84,16 +83,6 @@ map-after f g h (x ∷ xs) = ap (λ ys. h (f x) ∷ ys) (map-after f g h xs)
 if-length : (b : Bool) (xs ys : List ℕ) (m : ℕ) → length xs ≤ m → length ys ≤ m → length (cond b xs ys) ≤ m
 if-length true xs ys m a b = a
 if-length false xs ys m a b = b
-
-with-length : (k : ℕ) (ks : List ℕ) → length (with_key k ks) ≤ suc (length ks)
-with-length k [] = omega arith
-with-length k (j ∷ js) =
-    let r = with-length k js in
-    if-length (nat_lt k j) (k ∷ j ∷ js) _ (suc (length (j ∷ js))) (omega arith) (if-length (nat_eq k j) (j ∷ js) (j ∷ with_key k js) (suc (length (j ∷ js))) (omega arith) (omega arith))
-
-ascending-length : (ks : List ℕ) → length (ascending ks) ≤ length ks
-ascending-length [] = omega arith
-ascending-length (k ∷ ks) = let r = ascending-length ks in let w = with-length k (ascending ks) in omega arith
 
 moved-edges : (tasks : List Task) (all order : List ℕ) → total_length (map (λ (t : Task). t.deps) (map (λ old. moved_task (map (position all) (deps_of (shape_of tasks) old)) (task_at tasks old)) order)) ≤ sum_over order (λ k. length (deps_of (shape_of tasks) k))
 moved-edges tasks all [] = omega arith
@@ -179,7 +168,7 @@ limits-law nodes saves ex inside law h =
           let own : bytes (result_shape t.spec) ≤ 134217728 = dims-small tasks k w c in
           let inputs : total (map bytes (input_shapes t.spec)) ≡ total (map (λ d. bytes (dims_at tasks d)) t.deps) = ap (λ nss. total (map bytes nss)) (sym (fed k)) ∙ ap total (map-after (dims_at tasks) (dims_at tasks) bytes t.deps) in
           let sum : total (map (λ d. bytes (dims_at tasks d)) t.deps) ≤ length t.deps * 134217728 = total-bounded t.deps (λ d. bytes (dims_at tasks d)) 134217728 (λ d. dims-small tasks d w c) in
-          let deps : length t.deps ≤ total_length (map (λ (t : Task). t.deps) tasks) = subst (λ ds. length ds ≤ total_length (map (λ (t : Task). t.deps) tasks)) (deps-at tasks k) (member-length (map (λ (t : Task). t.deps) tasks) k) in
+          let deps : length t.deps ≤ total_length (map (λ (t : Task). t.deps) tasks) = subst (λ ds. length ds ≤ total_length (map (λ (t : Task). t.deps) tasks)) (deps-at tasks k) (member-edges (map (λ (t : Task). t.deps) tasks) k) in
           let we = w.few_edges in
           let wi = i.work_is in
           enough t.work (bytes (result_shape t.spec)) (total (map bytes (input_shapes t.spec))) (total (map (λ d. bytes (dims_at tasks d)) t.deps)) (length t.deps) (total_length (map (λ (t : Task). t.deps) tasks)) wi own inputs sum deps we

@@ -6,16 +6,15 @@ use Rattle.std.proofs.lemmas.Int.{ints, int_wrap_fits}
 use Rattle.std.proofs.lemmas.List.FromFn.{fill_by_all}
 use Rattle.std.proofs.lemmas.List.Sums.{position_or_len_is}
 use Rattle.std.proofs.lemmas.List.{length-map, get_or-map, get_or-take, length-take-le, get_or_append_left, get_or_push, length_push}
-use Rattle.std.proofs.lemmas.Option.{get_or_from_slice_get, slice_get_within}
+use Rattle.std.proofs.lemmas.Option.{get_or_from_slice_get, slice_get_within, slice_get-get_or}
 use Rattle.std.proofs.Math.ListN.{get_or-map as get_or-map-all}
 use Rattle.nd_shape.specs.declared.slice.Steps.{Steps}
 use Rattle.nd_shape.specs.Index.{IsIn, place}
 use Rattle.nd_shape.specs.Broadcast.{broadcast, axes_of, common, lengths_on, length_on, Agree, first_misfit}
-use Rattle.nd_shape.proofs.Places.{IsIn-length}
 use Rattle.nd_grid.specs.Int64.{wrap, IsInt64}
 use Rattle.nd_grid.specs.declared.operation.Binary.TheVariants.{Sub}
 use Rattle.nd_grid.specs.Operation.{combine, negated_element}
-use Rattle.nd_grid.specs.Grid.{Grid, filled, ramp, negated, elementwise, chosen, concatenated, under, under_along, SlicesFit}
+use Rattle.nd_grid.specs.Grid.{Grid, filled, ramp, negated, elementwise, chosen, concatenated, under, SlicesFit}
 use Rattle.array_expr.specs.declared.op.Op.{Op}
 use Rattle.array_expr.specs.declared.op.Op.TheVariants.{Input, Full, Ramp, Negate, Elementwise, Where, Slice, Transpose, Rechunk, Concatenate, Reduce, Tensordot}
 use Rattle.array_expr.specs.declared.expr.Node.{Node}
@@ -46,8 +45,10 @@ use Rattle.lowering_laws.proofs.Cutting.{lengths-normalized, some-normalized, so
 use Rattle.lowering_laws.proofs.Reductions.{carries-reduced}
 use Rattle.lowering_laws.proofs.Products.{AreOnce, carries-contracted}
 use Rattle.std.proofs.lemmas.List.Folds.{list_any_at}
+use Rattle.std.proofs.lemmas.Grind.{get_or_default_zero}
 use Rattle.lowering_laws.proofs.Joined.{AllSources, AreJoined, carries-joined}
 use Rattle.block_kernels.specs.Kernels.{no_grid}
+use Rattle.block_kernels.proofs.Filled.{own-under, length_on-all}
 
 -- an array of the graph carries a grid, and each of its axes has a chunk
 pub record IsHeld (files : ℕ → List ℕ → ℤ) (tasks : List Task) (s : Source) (g : Grid) : Type 0 where
@@ -55,7 +56,6 @@ pub record IsHeld (files : ℕ → List ℕ → ℤ) (tasks : List Task) (s : So
   pub some : HaveChunks s.layout
 
 -- ---- one value everywhere
-
 full-cell : (v : ℤ) (p : ℕ) → IsInt64 v → wrap (v +ℤ (pos 0 *ℤ pos p)) ≡ v
 full-cell v p h = let z : v +ℤ (pos 0 *ℤ pos p) ≡ v = omega (arith, ints) in ap wrap z ∙ int_wrap_fits w64 v h
 
@@ -69,15 +69,6 @@ length_on-none axes k h = let z : axes - 0 ≡ axes = omega arith in ap (λ o. c
   where
     front : (k o x : ℕ) → k < o → cond (nat_lt k o) 1 x ≡ 1
     front k o x h = grind arith
-
-length_on-all : (ns : List ℕ) (k : ℕ) → length_on (length ns) k ns ≡ get_or ns k 1
-length_on-all ns k =
-    let z : length ns - length ns ≡ 0 = omega arith in
-    let y : k - 0 ≡ k = omega arith in
-    ap (λ o. cond (nat_lt k o) 1 (get_or ns (k - o) 1)) z ∙ front k (get_or ns (k - 0) 1) ∙ ap (λ j. get_or ns j 1) y
-  where
-    front : (k x : ℕ) → cond (nat_lt k 0) 1 x ≡ x
-    front k x = grind arith
 
 own-axes : (ns : List ℕ) → axes_of ([] ∷ ns ∷ []) ≡ length ns
 own-axes ns = omega arith
@@ -98,27 +89,8 @@ number-broadcast ns =
     ∙ one-common (length_on (axes_of ([] ∷ ns ∷ [])) k ns)
     ∙ ap (λ a. length_on a k ns) (own-axes ns)
     ∙ length_on-all ns k
-    ∙ default-one ns k (omega (arith, own-axes ns))
+    ∙ get_or_default_zero ns k 1 (omega (arith, own-axes ns))
     )))
-  where
-    default-one : (ns : List ℕ) (k : ℕ) → k < length ns → get_or ns k 1 ≡ get_or ns k 0
-    default-one [] k h = absurd (omega arith)
-    default-one (n ∷ ns) zero h = refl
-    default-one (n ∷ ns) (suc k) h = default-one ns k (omega arith)
-
-own-along : (ns is : List ℕ) → IsIn ns is → under_along ns is ≡ is
-own-along [] [] h = refl
-own-along [] (i ∷ is) h = absurd h
-own-along (n ∷ ns) [] h = absurd h
-own-along (n ∷ ns) (i ∷ is) h = ap (λ x. x ∷ under_along ns is) (kept n i h.0) ∙ ap (λ xs. i ∷ xs) (own-along ns is h.1)
-  where
-    kept : (n i : ℕ) → i < n → cond (nat_eq n 1) 0 i ≡ i
-    kept n i h = grind arith
-
-own-under : (ns is : List ℕ) → IsIn ns is → under ns is ≡ is
-own-under ns is h =
-    let z : length is - length ns ≡ 0 = omega (arith, IsIn-length ns is h) in
-    ap (λ k. under_along ns (drop k is)) z ∙ own-along ns is h
 
 less-number : (x : Option ℤ) → combine Sub (Some (pos 0)) x ≡ negated_element x
 less-number None = refl
@@ -143,11 +115,6 @@ once-of axes n a = record {
 }
 
 -- ---- what is known of a node
-
-pub slice-at : {A : Type 0} (xs : List A) (k : ℕ) (d : A) → k < length xs → slice_get xs k ≡ Some (get_or xs k d)
-slice-at [] k d h = absurd (omega arith)
-slice-at (x ∷ xs) zero d h = refl
-slice-at (x ∷ xs) (suc k) d h = slice-at xs k d (omega arith)
 
 pub shape-is : (nodes : List Node) (k : ℕ) → shape_at nodes k ≡ (get_or nodes k no_node).shape
 shape-is nodes k = get_or-map-all (λ (n : Node). n.shape) nodes k no_node
@@ -182,7 +149,7 @@ arg-case files tasks (Tensordot left right left_axes right_axes) s g n c = c
 
 pub arg-carries : (files : ℕ → List ℕ → ℤ) (tasks : List Task) (nodes : List Node) (sources : List Source) (k : ℕ) → IsExpression nodes → k < length nodes → Carries files tasks (source_at sources k) (whole files nodes k) → ArgCarries files tasks (arg_of nodes sources k) (whole files nodes k)
 arg-carries files tasks nodes sources k e h c =
-    arg-case files tasks (get_or nodes k no_node).op (source_at sources k) (whole files nodes k) (λ v chunks op. number-of files nodes k (get_or nodes k no_node) v chunks e (slice-at nodes k no_node h) op) c
+    arg-case files tasks (get_or nodes k no_node).op (source_at sources k) (whole files nodes k) (λ v chunks op. number-of files nodes k (get_or nodes k no_node) v chunks e (slice_get-get_or nodes k no_node h) op) c
 
 -- the layout of an operand has a chunk on each axis
 arg-some : (op : Op) (s : Source) → HaveChunks s.layout → HaveChunks (arg_layout (arg_of_op op s))

@@ -3,7 +3,7 @@ use Rattle.std.proofs.Common.{◌≡◌, ℕ, suc, ◌+◌, ◌-◌, ◌*◌, �
 use Rattle.std.specs.Prelude.{nat_eq, nat_lt}
 use Rattle.std.specs.List.{range_with_len}
 use Rattle.std.proofs.Math.Nat.{mul-le-mul_left}
-use Rattle.std.proofs.lemmas.Bool.{cases_lt}
+use Rattle.std.proofs.lemmas.Bool.{cases_lt, ltb-false, eqb-true}
 use Rattle.std.proofs.lemmas.Nat.{div-mul-add, mod-mul-add}
 use Rattle.std.proofs.lemmas.List.{length-take-le, get_or_append_left, get_or-append_right, get_or_push}
 use Rattle.std.proofs.lemmas.List.FromFn.{length-map-range_with_len, get_or-map-range_with_len}
@@ -34,19 +34,13 @@ from-cond true b x y h = absurd cc
 from-cond false true x y h = (refl, refl, cc)
 from-cond false false x y h = absurd cc
 
-not-below : (i n : ℕ) → nat_lt i n ≡ false → n ≤ i
-not-below i n h = grind arith
-
-is-none : (r : ℕ) → nat_eq r 0 ≡ true → r ≡ 0
-is-none r h = grind arith
-
 exact : (k f d : ℕ) → 0 < d → f ≤ k → (k - f) % d ≡ 0 → k ≡ f + d * ((k - f) / d)
 exact k f d h l e = let q : d * ((k - f) / d) + (k - f) % d ≡ k - f = omega arith in omega (arith, q)
 
 pub name-sound : (s : Source) (n k m c : ℕ) → 0 < s.stride → name_at s n k ≡ Some (m, c) → IsNamed s n k m c
 name-sound s n k m c h e =
     let r = from-cond (nat_lt k s.first) (nat_eq ((k - s.first) % s.stride) 0) (n, (k - s.first) / s.stride) (m, c) e in
-    let x : k ≡ s.first + s.stride * ((k - s.first) / s.stride) = exact k s.first s.stride h (not-below k s.first r.0) (is-none ((k - s.first) % s.stride) r.1) in
+    let x : k ≡ s.first + s.stride * ((k - s.first) / s.stride) = exact k s.first s.stride h (ltb-false k s.first r.0) (eqb-true ((k - s.first) % s.stride) 0 r.1) in
     record {
       node = sym (ap (λ (p : ℕ × ℕ). p.0) r.2);
       key = x ∙ ap (λ (p : ℕ × ℕ). s.first + s.stride * p.1) r.2;

@@ -1,8 +1,8 @@
 -- The names of the keys that are run.
-use Rattle.std.proofs.Common.{◌≡◌, ℕ, zero, suc, ◌<◌, List, [], ◌∷◌, length, map, get_or, ap, sym, subst, ◌∙◌, arith, Some, None, ℤ}
+use Rattle.std.proofs.Common.{◌≡◌, ℕ, ◌<◌, List, [], length, map, get_or, ap, sym, subst, ◌∙◌, arith, Some, None, ℤ}
 use Rattle.std.specs.Prelude.{All, Contains, Option, slice_index_or}
-use Rattle.std.specs.List.{AllByRecursion}
 use Rattle.std.proofs.lemmas.List.{length-map, get_or-map, get_or_default}
+use Rattle.small_facts.proofs.Every.{all_below_at}
 use Rattle.array_expr.specs.declared.expr.Node.{Node}
 use Rattle.array_expr.specs.Node.{IsExpression}
 use Rattle.nd_grid.proofs.Turning.{position-below, position-at}
@@ -24,11 +24,6 @@ use Rattle.lowering_laws.proofs.NamedKeys.{AreNamed, IsOwned, lowering-named}
 use Rattle.lowering_laws.proofs.Runs.{Ordering, run-order, order-law, length-keys}
 use Rattle.lowering_laws.proofs.Saved.{culled-law}
 
-pub small-at : (ks : List ℕ) (n j : ℕ) → AllByRecursion (λ k. k < n) ks → j < length ks → get_or ks j 0 < n
-small-at [] n j a h = absurd (omega arith)
-small-at (k ∷ ks) n zero a h = a.0
-small-at (k ∷ ks) n (suc j) a h = small-at ks n j a.1 (omega arith)
-
 -- ---- the keys that are run
 
 pub run-length : (nodes : List Node) (saves : List ℕ) (o : Ordering nodes saves) → length (lowered nodes saves).tasks ≡ length o.order
@@ -41,7 +36,7 @@ run-name nodes saves o j h =
 
 -- the old key of a key with a name
 pub old-key : (nodes : List Node) (saves : List ℕ) (o : Ordering nodes saves) → AreNamed (length nodes) (lowering nodes) → (j n c : ℕ) → j < length o.order → name_of nodes saves j ≡ Some (n, c) → IsOwned (lowering nodes).sources (length nodes) (get_or o.order j 0) n c
-old-key nodes saves o a j n c h e = a.sound (get_or o.order j 0) n c (small-at o.order (length (lowering nodes).tasks) j o.small h) (sym (run-name nodes saves o j h) ∙ e)
+old-key nodes saves o a j n c h e = a.sound (get_or o.order j 0) n c (all_below_at o.order (length (lowering nodes).tasks) j o.small h) (sym (run-name nodes saves o j h) ∙ e)
 
 pub names-law : (nodes : List Node) (saves : List ℕ) → IsExpression nodes → All (λ n. n < length nodes) saves → LawOfNames nodes saves
 names-law nodes saves ex inside =

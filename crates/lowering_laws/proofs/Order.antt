@@ -1,7 +1,7 @@
 -- What is lowered is in order: the dependencies of each task rise and lie below its own key, and its operation names places
 -- among them.
-use Rattle.std.proofs.Common.{◌≡◌, ℕ, zero, suc, ◌+◌, ◌-◌, ◌<◌, ◌≤◌, List, [], ◌∷◌, ◌++◌, length, map, drop, take, get_or, refl, ap, sym, subst, ◌∙◌, arith, inl, inr, Some, None, ℤ, pos, replicate, length-append}
-use Rattle.std.specs.Prelude.{slice_get, All, Option}
+use Rattle.std.proofs.Common.{◌≡◌, ℕ, zero, suc, ◌+◌, ◌-◌, ◌<◌, ◌≤◌, List, [], ◌∷◌, ◌++◌, length, map, drop, take, get_or, refl, ap, sym, subst, ◌∙◌, arith, inl, inr, Some, ℤ, pos, replicate, length-append}
+use Rattle.std.specs.Prelude.{slice_get, All}
 use Rattle.std.specs.List.{AllByRecursion}
 use Rattle.std.specs.List.Sorted.{IsStrictlyIncreasing}
 use Rattle.std.proofs.lemmas.Bool.{cases_lt}
@@ -46,6 +46,7 @@ use Rattle.lowering_laws.proofs.Good.{IsGood, AreGood, IsBelow, IsMade, below-we
 use Rattle.lowering_laws.proofs.GoodPoints.{ArgBelow, made-pointwise}
 use Rattle.lowering_laws.proofs.GoodJoined.{IsOperand, made-joined}
 use Rattle.lowering_laws.proofs.GoodFolded.{made-reduced, made-contracted}
+use Rattle.lowering_laws.proofs.Totals.{some-none}
 
 -- an array of this shape in a graph of `bound` keys
 pub record IsKnown (bound : ℕ) (s : Source) (ns : List ℕ) : Type 0 where
@@ -207,10 +208,7 @@ faults-good n = record { at = λ j h. subst (IsGood (0 + j)) (sym (fault-at n j 
 no-value : (files : ℕ → List ℕ → ℤ) (tasks : List Task) (k : ℕ) (b : Array) → IsEarlier (deps_of (shape_of tasks)) → task_at tasks k ≡ fault → value files tasks k ≡ Some b → ⊥
 no-value files tasks k b e is h =
     let m : Made files tasks fault b = subst (λ (t : Task). Made files tasks t b) is (value-made files tasks e k b h) in
-    not-none (get_or b.cells (place b.shape []) (pos 0)) (block-at (assembled [] [] (map grid_of m.blocks)) b [] m.block tt)
-  where
-    not-none : (v : ℤ) → ◌≡◌ {A = Option ℤ} (Some v) None → ⊥
-    not-none v h = cc
+    some-none (get_or b.cells (place b.shape []) (pos 0)) (block-at (assembled [] [] (map grid_of m.blocks)) b [] m.block tt)
 
 -- in a graph of faults older arrays hold what they are to, since no key has a value
 known-held : (files : ℕ → List ℕ → ℤ) (all : List Task) (nodes : List Node) (sources : List Source) (n base : ℕ) → IsEarlier (deps_of (shape_of all)) → ((j : ℕ) → j < base → task_at all j ≡ fault) → AllKnown base nodes sources n → AllHeld files all nodes sources n

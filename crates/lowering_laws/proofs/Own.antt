@@ -5,6 +5,8 @@ use Rattle.std.specs.List.{AllByRecursion, range_with_len}
 use Rattle.std.proofs.lemmas.Bool.{cases_lt}
 use Rattle.std.proofs.lemmas.List.{get_or_append_left, get_or-append_right}
 use Rattle.std.proofs.lemmas.List.FromFn.{length-map-range_with_len}
+use Rattle.small_facts.proofs.Every.{all_join}
+use Rattle.small_facts.proofs.Truth.{not_both_truths}
 use Rattle.nd_shape.specs.declared.slice.Steps.{Steps}
 use Rattle.nd_shape.specs.Index.{index_at}
 use Rattle.nd_shape.specs.Shape.{elements}
@@ -27,7 +29,6 @@ use Rattle.lowering_laws.specs.Stages.{Arg, Literal, Point, Pair, Choice, arg_la
 use Rattle.lowering_laws.specs.Lowered.{source_at, arg_of, lower_op}
 use Rattle.lowering_laws.specs.Faults.{divides, is_division}
 use Rattle.lowering_laws.proofs.MadeTasks.{all-of, all-fitted, all-args, all-along, all-folded}
-use Rattle.task_graph.proofs.Rising.{all-join}
 use Rattle.lowering_laws.proofs.Reductions.{length-folded, length-strides}
 
 abbrev pub IsWhole : Task → Type 0
@@ -55,9 +56,6 @@ pub record IsOwn (base : ℕ) (m : Made) : Type 0 where
   pub room : base + length m.tasks ≤ m.source.first + m.source.stride * blocks m.source.layout
   pub divisions : (j : ℕ) → j < length m.tasks → is_division (task_at m.tasks j).spec ≡ true → IsBlock m.source (base + j)
 
-not-both : (b : Bool) → b ≡ true → b ≡ false → ⊥
-not-both b h e = cc
-
 pub own-each : (base : ℕ) (layout : List (List ℕ)) (task_of : List ℕ → Task) → IsOwn base (one_each base layout task_of)
 own-each base layout task_of =
     let count : length (map (λ c. task_of (index_at (counts layout) c)) (range_with_len 0 (blocks layout))) ≡ blocks layout = length-map-range_with_len (λ c. task_of (index_at (counts layout) c)) 0 (blocks layout) in
@@ -76,7 +74,7 @@ own-after base tasks more none own =
       first = omega arith;
       room = ends base (length tasks) (length (more (base + length tasks)).tasks) (length (tasks ++ (more (base + length tasks)).tasks)) _ n r;
       divisions = λ j h d. elim (cases_lt j (length tasks)) [
-        | inl lt ↦ absurd (not-both (is_division (task_at tasks j).spec) (ap (λ (t : Task). is_division t.spec) (sym (get_or_append_left tasks (more (base + length tasks)).tasks no_task j lt)) ∙ d) (at-place IsWhole tasks j none lt))
+        | inl lt ↦ absurd (not_both_truths (is_division (task_at tasks j).spec) (ap (λ (t : Task). is_division t.spec) (sym (get_or_append_left tasks (more (base + length tasks)).tasks no_task j lt)) ∙ d) (at-place IsWhole tasks j none lt))
         | inr ge ↦
             let back : base + length tasks + (j - length tasks) ≡ base + j = omega arith in
             subst (IsBlock (more (base + length tasks)).source) back (own.divisions (j - length tasks) (omega arith)
@@ -96,7 +94,7 @@ own-folded fold n split layout partial base h =
     record {
       first = omega arith;
       room = ends base (n + tree_count n split) ((n + tree_count n split) * blocks layout) (length (folded_each fold n split layout partial base).tasks) all;
-      divisions = λ j lt d. absurd (not-both (is_division (task_at (folded_each fold n split layout partial base).tasks j).spec) d
+      divisions = λ j lt d. absurd (not_both_truths (is_division (task_at (folded_each fold n split layout partial base).tasks j).spec) d
           (at-place IsWhole (folded_each fold n split layout partial base).tasks j (all-folded IsWhole fold n split layout partial base (λ g axes inputs deps. refl) h) lt));
     }
   where
@@ -123,7 +121,7 @@ own-contracted left_axes right_axes l r base =
     let fit_l = fitted base l (with_sizes l.layout left_axes sizes) in
     let fit_r = fitted (base + length fit_l.tasks) r (with_sizes r.layout right_axes sizes) in
     own-after base (fit_l.tasks ++ fit_r.tasks) (product_blocks left_axes right_axes (map (λ (ss : List ℕ). length ss) sizes) fit_l.source fit_r.source)
-    (all-join IsWhole fit_l.tasks fit_r.tasks (all-fitted IsWhole l (with_sizes l.layout left_axes sizes) base (λ p i s d. refl)) (all-fitted IsWhole r (with_sizes r.layout right_axes sizes) (base + length fit_l.tasks) (λ p i s d. refl)))
+    (all_join IsWhole fit_l.tasks fit_r.tasks (all-fitted IsWhole l (with_sizes l.layout left_axes sizes) base (λ p i s d. refl)) (all-fitted IsWhole r (with_sizes r.layout right_axes sizes) (base + length fit_l.tasks) (λ p i s d. refl)))
     (own-folded Sum (elements (map (λ (ss : List ℕ). length ss) sizes)) 4 (kept_axes 0 fit_l.source.layout left_axes ++ kept_axes 0 fit_r.source.layout right_axes) (product_task left_axes right_axes (map (λ (ss : List ℕ). length ss) sizes) fit_l.source fit_r.source) (base + length (fit_l.tasks ++ fit_r.tasks)) (λ bs p. refl))
 
 -- ---- each operation
@@ -150,7 +148,7 @@ point-whole : (point : Point) (dims : List ℕ) (args : List Arg) (base : ℕ) �
 point-whole point dims args base h =
     let layout = point_layout dims (map arg_layout args) in
     let fit = fitted_args layout args base in
-    all-join IsWhole fit.tasks _ (all-args IsWhole layout args base (λ p i s d. refl)) (all-of IsWhole (λ c. point_task point layout fit.args (index_at (counts layout) c)) (range_with_len 0 (blocks layout)) (λ c. h layout fit.args (index_at (counts layout) c)))
+    all_join IsWhole fit.tasks _ (all-args IsWhole layout args base (λ p i s d. refl)) (all-of IsWhole (λ c. point_task point layout fit.args (index_at (counts layout) c)) (range_with_len 0 (blocks layout)) (λ c. h layout fit.args (index_at (counts layout) c)))
 
 joined-whole : (sources : List Source) (axis base : ℕ) → NoneDivides (concatenated_blocks sources axis base).tasks
 joined-whole sources axis base =
@@ -158,15 +156,15 @@ joined-whole sources axis base =
     let fit = fitted_along common axis sources base in
     let as' = or_empty (along_all 0 (map (λ (s : Source). get_or s.layout axis []) sources)) in
     let layout = slice_set common axis (map (λ (a : Along). a.size) as') in
-    all-join IsWhole fit.tasks _ (all-along IsWhole common axis sources base (λ p i s d. refl)) (all-of IsWhole (λ c. joined_task layout as' axis fit.sources (index_at (counts layout) c)) (range_with_len 0 (blocks layout)) (λ c. refl))
+    all_join IsWhole fit.tasks _ (all-along IsWhole common axis sources base (λ p i s d. refl)) (all-of IsWhole (λ c. joined_task layout as' axis fit.sources (index_at (counts layout) c)) (range_with_len 0 (blocks layout)) (λ c. refl))
 
 contracted-whole : (left_axes right_axes : List ℕ) (l r : Source) (base : ℕ) → NoneDivides (contracted_blocks left_axes right_axes l r base).tasks
 contracted-whole left_axes right_axes l r base =
     let sizes = paired_sizes l.layout r.layout left_axes right_axes in
     let fit_l = fitted base l (with_sizes l.layout left_axes sizes) in
     let fit_r = fitted (base + length fit_l.tasks) r (with_sizes r.layout right_axes sizes) in
-    all-join IsWhole (fit_l.tasks ++ fit_r.tasks) _
-    (all-join IsWhole fit_l.tasks fit_r.tasks (all-fitted IsWhole l (with_sizes l.layout left_axes sizes) base (λ p i s d. refl)) (all-fitted IsWhole r (with_sizes r.layout right_axes sizes) (base + length fit_l.tasks) (λ p i s d. refl)))
+    all_join IsWhole (fit_l.tasks ++ fit_r.tasks) _
+    (all_join IsWhole fit_l.tasks fit_r.tasks (all-fitted IsWhole l (with_sizes l.layout left_axes sizes) base (λ p i s d. refl)) (all-fitted IsWhole r (with_sizes r.layout right_axes sizes) (base + length fit_l.tasks) (λ p i s d. refl)))
     (all-folded IsWhole Sum (elements (map (λ (ss : List ℕ). length ss) sizes)) 4 (kept_axes 0 fit_l.source.layout left_axes ++ kept_axes 0 fit_r.source.layout right_axes) (product_task left_axes right_axes (map (λ (ss : List ℕ). length ss) sizes) fit_l.source fit_r.source) (base + length (fit_l.tasks ++ fit_r.tasks)) (λ g axes inputs deps. refl) (λ bs p. refl))
 
 -- only a node that divides has tasks that do

@@ -2,19 +2,23 @@
 use Rattle.std.proofs.Common.{◌≡◌, ℕ, suc, ◌+◌, ◌-◌, ◌<◌, ◌≤◌, cond, Bool, true, false, ◌&&◌, ◌||◌, min, max, List, [], ◌∷◌, ◌++◌, length, map, take, get_or, refl, ap, sym, subst, ◌∙◌, arith, inl, inr}
 use Rattle.std.specs.Prelude.{nat_lt, not}
 use Rattle.std.specs.List.{list_any, flat_map, AllByRecursion}
-use Rattle.std.proofs.lemmas.Bool.{cases_lt}
+use Rattle.std.proofs.lemmas.Bool.{cases_lt, or_right, or_left, ltb-true}
 use Rattle.nd_shape.specs.Index.{IsIn}
 use Rattle.nd_shape.specs.Region.{moved}
 use Rattle.nd_shape.specs.Chunk.{total}
 use Rattle.nd_shape.proofs.Places.{IsIn-length}
 use Rattle.std.proofs.lemmas.List.{length-map}
+use Rattle.std.proofs.Math.Nat.{add-zero}
+use Rattle.small_facts.proofs.Every.{all_join}
+use Rattle.small_facts.proofs.Truth.{and_first, and_second}
 use Rattle.chunk_layout.proofs.Parting.{total-before, length-lengths, length-starts}
 use Rattle.nd_grid.specs.Grid.{Grid, Holds}
 use Rattle.chunk_layout.specs.Layouts.{counts, lengths, starts_at, lengths_at, box_at}
 use Rattle.chunk_layout.specs.Plans.{Overlap, with_overlap, overlaps_from, overlaps, overlaps_at, tuples, chunks_in, from_box, to_box, parts}
 use Rattle.block_kernels.specs.Kernels.{nth, counted, is_within, in_pieces, assembled}
 use Rattle.lowering_laws.specs.Sources.{placed}
-use Rattle.task_graph.proofs.Rising.{all-join, all-mapped}
+use Rattle.task_graph.proofs.Rising.{all-mapped}
+use Rattle.chunk_layout.proofs.Crossing.{nothing}
 
 -- ---- the overlaps of one axis
 
@@ -47,9 +51,6 @@ passed-next all k at s rest p =
 pub some-overlap : (k at low a b : ℕ) (more : List Overlap) → a < b → with_overlap k at low a b more ≡ record { chunk = k; from = a - at; to = a - low; len = b - a } ∷ more
 some-overlap k at low a b more h = grind arith
 
-pub no-overlap : (k at low a b : ℕ) (more : List Overlap) → b ≤ a → with_overlap k at low a b more ≡ more
-no-overlap k at low a b more h = grind arith
-
 fits-from : (all : List ℕ) (k at low high : ℕ) (rest : List ℕ) → Passed all k at rest → low ≤ high → AllByRecursion (OverlapFits all low) (overlaps_from k at low high rest)
 fits-from all k at low high [] p h = tt
 fits-from all k at low high (s ∷ rest) p h =
@@ -60,7 +61,7 @@ fits-from all k at low high (s ∷ rest) p h =
           let e : s ≡ get_or all k 0 = p.each 0 ∙ ap (λ i. get_or all i 0) z in
           let m = p.sum in
           (record { there = omega arith; inside = omega (arith, e); same = omega arith }, r))
-      | inr ge ↦ subst (AllByRecursion (OverlapFits all low)) (sym (no-overlap k at low (max low at) (min high (at + s)) _ ge)) r
+      | inr ge ↦ subst (AllByRecursion (OverlapFits all low)) (sym (nothing k at low (max low at) (min high (at + s)) _ ge)) r
     ]
 
 passed-none : (all : List ℕ) → Passed all 0 0 all
@@ -68,11 +69,8 @@ passed-none all = record {
   before = omega arith;
   sum = refl;
   each = λ j. let e : 0 + j ≡ j = omega arith in ap (λ i. get_or all i 0) (sym e);
-  more = λ j. let e : 0 + j ≡ j = omega arith in plus-none (total (take j all)) ∙ ap (λ i. total (take i all)) (sym e);
+  more = λ j. let e : 0 + j ≡ j = omega arith in add-zero (total (take j all)) ∙ ap (λ i. total (take i all)) (sym e);
 }
-  where
-    plus-none : (n : ℕ) → n + 0 ≡ n
-    plus-none n = omega arith
 
 pub overlaps-fit : (from to : List ℕ) (b : ℕ) → AllByRecursion (OverlapFits from (total (take b to))) (overlaps from to b)
 overlaps-fit from to b = fits-from from 0 0 (total (take b to)) (total (take b to) + get_or to b 0) from (passed-none from) (omega arith)
@@ -85,24 +83,16 @@ covers i o = not (nat_lt i o.to) && nat_lt i (o.to + o.len)
 covered : (i to len : ℕ) → to ≤ i → i < to + len → (not (nat_lt i to) && nat_lt i (to + len)) ≡ true
 covered i to len a b = grind arith
 
-or-later : (a b : Bool) → b ≡ true → (a || b) ≡ true
-or-later true b h = refl
-or-later false b h = h
-
-or-now : (a b : Bool) → a ≡ true → (a || b) ≡ true
-or-now true b h = refl
-or-now false b h = cc
-
 any-from : (k at low high i : ℕ) (rest : List ℕ) → at ≤ low + i → low + i < at + total rest → low + i < high → list_any (covers i) (overlaps_from k at low high rest) ≡ true
 any-from k at low high i [] a b c = absurd (omega arith)
 any-from k at low high i (s ∷ rest) a b c = elim (cases_lt (low + i) (at + s)) [
   | inl lt ↦ let o : max low at < min high (at + s) = omega arith in
       ap (list_any (covers i)) (some-overlap k at low (max low at) (min high (at + s)) (overlaps_from (suc k) (at + s) low high rest) o)
-      ∙ or-now (covers i (record { chunk = k; from = max low at - at; to = max low at - low; len = min high (at + s) - max low at })) _ (covered i (max low at - low) (min high (at + s) - max low at) (omega arith) (omega arith))
+      ∙ or_left (covers i (record { chunk = k; from = max low at - at; to = max low at - low; len = min high (at + s) - max low at })) _ (covered i (max low at - low) (min high (at + s) - max low at) (omega arith) (omega arith))
   | inr ge ↦ let r = any-from (suc k) (at + s) low high i rest ge (omega arith) c in
       elim (cases_lt (max low at) (min high (at + s))) [
-        | inl o ↦ ap (list_any (covers i)) (some-overlap k at low (max low at) (min high (at + s)) (overlaps_from (suc k) (at + s) low high rest) o) ∙ or-later _ _ r
-        | inr o ↦ ap (list_any (covers i)) (no-overlap k at low (max low at) (min high (at + s)) (overlaps_from (suc k) (at + s) low high rest) o) ∙ r
+        | inl o ↦ ap (list_any (covers i)) (some-overlap k at low (max low at) (min high (at + s)) (overlaps_from (suc k) (at + s) low high rest) o) ∙ or_right _ _ r
+        | inr o ↦ ap (list_any (covers i)) (nothing k at low (max low at) (min high (at + s)) (overlaps_from (suc k) (at + s) low high rest) o) ∙ r
       ]
 ]
 
@@ -122,7 +112,7 @@ pub all-tuples : {A : Type 0} (P : A → Type 0) (Q R : List A → Type 0) (xs :
     → AllByRecursion R (flat_map (λ x. map (λ t. x ∷ t) ts) xs)
 all-tuples P Q R [] ts h a b = tt
 all-tuples P Q R (x ∷ xs) ts h a b =
-    all-join R (map (λ t. x ∷ t) ts) (flat_map (λ x. map (λ t. x ∷ t) ts) xs) (all-mapped Q R (λ t. x ∷ t) ts (λ t q. h x t a.0 q) b) (all-tuples P Q R xs ts h a.1 b)
+    all_join R (map (λ t. x ∷ t) ts) (flat_map (λ x. map (λ t. x ∷ t) ts) xs) (all-mapped Q R (λ t. x ∷ t) ts (λ t q. h x t a.0 q) b) (all-tuples P Q R xs ts h a.1 b)
 
 pub parts-fit : (from to : List (List ℕ)) (bs : List ℕ) → length from ≡ length to → IsIn (counts to) bs → AllByRecursion (TupleFits from (starts_at to bs)) (parts from to bs)
 parts-fit [] to bs e h = (refl, tt)
@@ -137,7 +127,7 @@ within is os = is_within (to_box os).start (to_box os).lengths is
 
 any-append : {A : Type 0} (p : A → Bool) (xs ys : List A) → list_any p ys ≡ true → list_any p (xs ++ ys) ≡ true
 any-append p [] ys h = h
-any-append p (x ∷ xs) ys h = or-later (p x) (list_any p (xs ++ ys)) (any-append p xs ys h)
+any-append p (x ∷ xs) ys h = or_right (p x) (list_any p (xs ++ ys)) (any-append p xs ys h)
 
 any-front : {A : Type 0} (p : A → Bool) (xs ys : List A) → list_any p xs ≡ true → list_any p (xs ++ ys) ≡ true
 any-front p [] ys h = cc
@@ -182,19 +172,8 @@ record PartAt (from : List (List ℕ)) (lows is : List ℕ) (os : List Overlap) 
   inside : IsIn (lengths_at from (chunks_in os)) (moved (from_box os).start (counted (to_box os).start is))
   same : moved (starts_at from (chunks_in os)) (moved (from_box os).start (counted (to_box os).start is)) ≡ moved lows is
 
-and-left : (a b : Bool) → (a && b) ≡ true → a ≡ true
-and-left true b h = refl
-and-left false b h = h
-
-and-right : (a b : Bool) → (a && b) ≡ true → b ≡ true
-and-right true b h = h
-and-right false b h = cc
-
 not-below : (i n : ℕ) → not (nat_lt i n) ≡ true → n ≤ i
 not-below i n h = grind arith
-
-is-below : (i n : ℕ) → nat_lt i n ≡ true → i < n
-is-below i n h = grind arith
 
 part-at : (from : List (List ℕ)) (lows is : List ℕ) (os : List Overlap) → length is ≡ length from → TupleFits from lows os → length lows ≡ length from → within is os ≡ true → PartAt from lows is os
 part-at [] [] [] os e f l w = record {
@@ -208,10 +187,10 @@ part-at (sizes ∷ from) [] is os e f l w = absurd (omega arith)
 part-at (sizes ∷ from) (low ∷ lows) [] os e f l w = absurd (omega arith)
 part-at (sizes ∷ from) (low ∷ lows) (i ∷ is) [] e f l w = absurd f
 part-at (sizes ∷ from) (low ∷ lows) (i ∷ is) (o ∷ os) e f l w =
-    let head : covers i o ≡ true = and-left (covers i o) (within is os) w in
-    let r : PartAt from lows is os = part-at from lows is os (omega arith) f.1 (omega arith) (and-right (covers i o) (within is os) w) in
-    let a : o.to ≤ i = not-below i o.to (and-left _ _ head) in
-    let b : i < o.to + o.len = is-below i (o.to + o.len) (and-right (not (nat_lt i o.to)) _ head) in
+    let head : covers i o ≡ true = and_first (covers i o) (within is os) w in
+    let r : PartAt from lows is os = part-at from lows is os (omega arith) f.1 (omega arith) (and_second (covers i o) (within is os) w) in
+    let a : o.to ≤ i = not-below i o.to (and_first _ _ head) in
+    let b : i < o.to + o.len = ltb-true i (o.to + o.len) (and_second (not (nat_lt i o.to)) _ head) in
     let fit : OverlapFits sizes low o = f.0 in
     let fi = fit.inside in
     let fs = fit.same in

@@ -3,6 +3,7 @@ use Rattle.std.proofs.Common.{◌≡◌, ℕ, zero, suc, ◌+◌, ◌<◌, List,
 use Rattle.std.specs.Prelude.{nat_eq, Contains}
 use Rattle.std.specs.List.{position_or_len}
 use Rattle.std.proofs.lemmas.List.{length-map, get_or-map}
+use Rattle.std.proofs.lemmas.Grind.{same_number_lists}
 use Rattle.nd_shape.specs.Index.{IsIn}
 use Rattle.nd_shape.specs.Region.{moved}
 use Rattle.nd_shape.specs.Chunk.{total}
@@ -58,13 +59,6 @@ lengths-on (sizes ∷ layout) [] k h lt = absurd h
 lengths-on (sizes ∷ layout) (b ∷ bs) zero h lt = refl
 lengths-on (sizes ∷ layout) (b ∷ bs) (suc k) h lt = lengths-on layout bs k h.1 (omega arith)
 
--- lists of one length that agree at each place
-pub same-lists : (xs ys : List ℕ) → length xs ≡ length ys → ((k : ℕ) → k < length xs → get_or xs k 0 ≡ get_or ys k 0) → xs ≡ ys
-same-lists [] [] e h = refl
-same-lists [] (y ∷ ys) e h = absurd (omega arith)
-same-lists (x ∷ xs) [] e h = absurd (omega arith)
-same-lists (x ∷ xs) (y ∷ ys) e h = ap (λ z. z ∷ xs) (h 0 (omega arith)) ∙ ap (λ zs. y ∷ zs) (same-lists xs ys (omega arith) (λ k lt. h (suc k) (omega arith)))
-
 pub counts-turned : (axes : List ℕ) (layout : List (List ℕ)) → counts (turned_layout axes layout) ≡ map (λ a. get_or (counts layout) a 0) axes
 counts-turned [] layout = refl
 counts-turned (a ∷ axes) layout = ap (λ n. n ∷ counts (turned_layout axes layout)) (count-on layout a) ∙ ap (λ ns. get_or (counts layout) a 0 ∷ ns) (counts-turned axes layout)
@@ -94,7 +88,7 @@ turned-holds axes layout bs a g o h ha =
     let inside : IsIn (counts layout) (turned axes bs) =
     turned-in axes (counts layout) bs (subst (IsTranspose axes) (sym lc) o.each) (subst (λ ns. IsIn ns bs) (counts-turned axes layout) h) in
     let lens : map (λ a. get_or (lengths_at layout (turned axes bs)) a 0) axes ≡ lengths_at to bs =
-    same-lists _ _ (omega (arith, length-map axes (λ a. get_or (lengths_at layout (turned axes bs)) a 0), length-lengths to bs h)) (λ j b.
+    same_number_lists _ _ (omega (arith, length-map axes (λ a. get_or (lengths_at layout (turned axes bs)) a 0), length-lengths to bs h)) (λ j b.
     let ja : j < length axes = omega (arith, length-map axes (λ a. get_or (lengths_at layout (turned axes bs)) a 0)) in
     let below : get_or axes j 0 < length layout = o.below j ja in
     get_or-map (λ a. get_or (lengths_at layout (turned axes bs)) a 0) axes j 0 0 ja
@@ -113,7 +107,7 @@ turned-holds axes layout bs a g o h ha =
           let inl' : IsIn (lengths_at layout (turned axes bs)) (turned axes i) =
           turned-in axes (lengths_at layout (turned axes bs)) i (subst (IsTranspose axes) (sym (length-lengths layout (turned axes bs) inside)) o.each) (subst (λ ns. IsIn ns i) (sym lens) g') in
           let same : moved (starts_at layout (turned axes bs)) (turned axes i) ≡ turned axes (moved (starts_at to bs) i) =
-          same-lists _ _ (omega (arith, length-moved (starts_at layout (turned axes bs)) (turned axes i) (omega arith), length-turned axes (moved (starts_at to bs) i))) (λ a b.
+          same_number_lists _ _ (omega (arith, length-moved (starts_at layout (turned axes bs)) (turned axes i) (omega arith), length-turned axes (moved (starts_at to bs) i))) (λ a b.
           let ab : a < length axes = omega (arith, length-moved (starts_at layout (turned axes bs)) (turned axes i) (omega arith)) in
           let p = position_or_len (nat_eq a) axes in
           let there : Contains axes a = o.each.each a (omega arith) in

@@ -1,9 +1,10 @@
 -- Elementwise operations on blocks.
 use Rattle.std.proofs.Common.{◌≡◌, ◌≢◌, ℕ, zero, suc, ◌-◌, ◌<◌, ◌≤◌, cond, Bool, true, false, List, [], ◌∷◌, length, map, get_or, refl, ap, sym, subst, ◌∙◌, arith, ◌⊎◌, inl, inr, Some, ℤ}
 use Rattle.std.specs.Prelude.{nat_eq, nat_lt}
-use Rattle.std.proofs.lemmas.Bool.{cases_lt, cases_eq}
+use Rattle.std.proofs.lemmas.Bool.{cases_lt, cases_eq, eqb-true}
 use Rattle.std.proofs.lemmas.List.{length-map, get_or-map, get_or_default}
 use Rattle.std.proofs.lemmas.List.FromFn.{length-map-range_with_len, get_or-map-range_with_len}
+use Rattle.std.proofs.lemmas.Grind.{same_number_lists}
 use Rattle.nd_shape.specs.Index.{IsIn}
 use Rattle.nd_shape.specs.Region.{Box, moved}
 use Rattle.nd_shape.specs.Chunk.{total}
@@ -11,15 +12,15 @@ use Rattle.nd_shape.specs.Broadcast.{broadcast, axes_of, common, lengths_on, len
 use Rattle.nd_grid.specs.declared.operation.Binary.{Binary}
 use Rattle.nd_grid.specs.Operation.{combine, pick_all}
 use Rattle.nd_grid.specs.Grid.{Grid, Holds, under, elementwise, chosen, filled}
-use Rattle.nd_grid.proofs.Under.{length-broadcast, broadcast-at}
+use Rattle.nd_grid.proofs.Under.{length-broadcast, broadcast-at, taken, passed}
 use Rattle.chunk_layout.specs.Layouts.{counts, lengths, lengths_at}
 use Rattle.chunk_layout.proofs.Unions.{total-union}
 use Rattle.chunk_layout.specs.Unions.{union}
 use Rattle.lowering_laws.specs.Stages.{sizes_on, joined, joined_all, point_layout}
 use Rattle.lowering_laws.proofs.Under.{box_under, block_under, under-box, under-moved}
 use Rattle.lowering_laws.specs.Law.{HaveChunks}
-use Rattle.lowering_laws.proofs.Plain.{same-lists}
 use Rattle.lowering_laws.proofs.Cutting.{some-each, some-joined_all, chunks-on}
+use Rattle.lowering_laws.proofs.Products.{total-on}
 
 -- ---- the formulas on blocks
 
@@ -106,13 +107,10 @@ or-none true c n xs h = inl refl
 or-none false true n xs h = inr (h refl)
 or-none false false n xs h = inl refl
 
-equal_true : (a b : ℕ) → nat_eq a b ≡ true → a ≡ b
-equal_true a b h = grind arith
-
 sizes-or : (dims : List ℕ) (k : ℕ) (layout : List (List ℕ)) → OrNone (get_or dims k 0) (sizes_on dims k layout)
 sizes-or dims k layout =
     let before = length dims - length layout in
-    or-none (nat_lt k before) (nat_eq (total (get_or layout (k - before) [])) (get_or dims k 0)) (get_or dims k 0) (get_or layout (k - before) []) (equal_true (total (get_or layout (k - before) [])) (get_or dims k 0))
+    or-none (nat_lt k before) (nat_eq (total (get_or layout (k - before) [])) (get_or dims k 0)) (get_or dims k 0) (get_or layout (k - before) []) (eqb-true (total (get_or layout (k - before) [])) (get_or dims k 0))
 
 all-sizes-or : (dims : List ℕ) (k : ℕ) (layouts : List (List (List ℕ))) (j : ℕ) → OrNone (get_or dims k 0) (get_or (map (sizes_on dims k) layouts) j [])
 all-sizes-or dims k [] j = inl refl
@@ -123,22 +121,11 @@ all-sizes-or dims k (layout ∷ layouts) (suc j) = all-sizes-or dims k layouts j
 common-from : (ls : List ℕ) → common ls ≢ 1 → (j : ℕ) × (j < length ls) × (get_or ls j 1 ≡ common ls)
 common-from [] h = absurd (h refl)
 common-from (n ∷ ns) h = elim (cases_eq n 1) [
-  | inl e ↦ let t : cond (nat_eq n 1) (common ns) n ≡ common ns = one n (common ns) e in
+  | inl e ↦ let t : cond (nat_eq n 1) (common ns) n ≡ common ns = passed n (common ns) e in
       let r = common-from ns (λ z. h (t ∙ z)) in
       (suc r.0, omega (arith, r.1), r.2 ∙ sym t)
-  | inr d ↦ (0, omega arith, sym (other n (common ns) d))
+  | inr d ↦ (0, omega arith, sym (taken n (common ns) d))
 ]
-  where
-    one : (n c : ℕ) → n ≡ 1 → cond (nat_eq n 1) c n ≡ c
-    one n c e = grind arith
-
-    other : (n c : ℕ) → n ≢ 1 → cond (nat_eq n 1) c n ≡ n
-    other n c e = grind arith
-
-total-on : (layout : List (List ℕ)) (k : ℕ) → total (get_or layout k []) ≡ get_or (lengths layout) k 0
-total-on [] k = refl
-total-on (sizes ∷ layout) zero = refl
-total-on (sizes ∷ layout) (suc k) = total-on layout k
 
 -- where an operand has the result's length, which isn't 1, its chunks are taken
 length_on-there : (axes k n : ℕ) (ns : List ℕ) → n ≢ 1 → length_on axes k ns ≡ n → (axes - length ns ≤ k) × (k - (axes - length ns) < length ns) × (get_or ns (k - (axes - length ns)) 0 ≡ n)
@@ -180,7 +167,7 @@ sizes-there dims k axes layout e d h =
         same : (m n : ℕ) (xs : List ℕ) → m ≡ n → cond (nat_eq m n) xs [] ≡ xs
         same m n xs h = grind arith
 
-point-axis : (n : ℕ) (xs : List ℕ) → (n ≢ 1 → total xs ≡ n) → total (cond (nat_eq n 1) (1 ∷ []) xs) ≡ n
+pub point-axis : (n : ℕ) (xs : List ℕ) → (n ≢ 1 → total xs ≡ n) → total (cond (nat_eq n 1) (1 ∷ []) xs) ≡ n
 point-axis n xs h = elim (cases_eq n 1) [ inl e ↦ ap total (one n xs e) ∙ sym e | inr d ↦ ap total (other n xs d) ∙ h d ]
   where
     one : (n : ℕ) (xs : List ℕ) → n ≡ 1 → cond (nat_eq n 1) (1 ∷ []) xs ≡ 1 ∷ []
@@ -217,7 +204,7 @@ pub lengths-point : (dims : List ℕ) (layouts : List (List (List ℕ))) → dim
 lengths-point dims layouts e =
     let axes = axes_of (shapes_of layouts) in
     let number : length dims ≡ axes = ap length e ∙ length-broadcast (shapes_of layouts) in
-    same-lists _ _ (length-map (point_layout dims layouts) (λ (sizes : List ℕ). total sizes) ∙ length-point dims layouts) (λ k h.
+    same_number_lists _ _ (length-map (point_layout dims layouts) (λ (sizes : List ℕ). total sizes) ∙ length-point dims layouts) (λ k h.
     let b : k < length dims = omega (arith, length-map (point_layout dims layouts) (λ (sizes : List ℕ). total sizes), length-point dims layouts) in
     let dims-at : get_or dims k 0 ≡ common (lengths_on (shapes_of layouts) k) = ap (λ ns. get_or ns k 0) e ∙ broadcast-at (shapes_of layouts) k (omega arith) in
     sym (total-on (point_layout dims layouts) k)

@@ -1,7 +1,6 @@
 -- Elementwise operations carry their formulas.
-use Rattle.std.proofs.Common.{◌≡◌, ◌≢◌, ℕ, zero, suc, ◌+◌, ◌-◌, ◌<◌, ◌≤◌, cond, List, [], ◌∷◌, length, map, drop, get_or, refl, ap, sym, subst, ◌∙◌, arith, inl, inr, Some, ℤ, pos, ◌*◌}
+use Rattle.std.proofs.Common.{◌≡◌, ◌≢◌, ℕ, suc, ◌+◌, ◌-◌, ◌<◌, ◌≤◌, cond, List, [], ◌∷◌, length, map, drop, get_or, refl, ap, sym, subst, ◌∙◌, arith, Some, ℤ, pos, ◌*◌}
 use Rattle.std.specs.Prelude.{nat_eq, Contains, Option}
-use Rattle.std.proofs.lemmas.Bool.{cases_eq}
 use Rattle.std.proofs.lemmas.List.{length-map, get_or-map, get_or-drop, length-drop}
 use Rattle.nd_shape.specs.Block.{Array}
 use Rattle.nd_shape.specs.Index.{IsIn, place, index_at}
@@ -25,12 +24,13 @@ use Rattle.lowering_laws.specs.Sources.{Source, key_of, key_at, fitted}
 use Rattle.lowering_laws.specs.Stages.{Use, keys_used, deps_of_uses, Arg, Literal, Blocks, Pair, Choice, arg_layout, arg_target, fitted_arg, fitted_args, chunks_under, place_among, uses_of, operand_of, point_task, pointwise, point_layout, layout_under}
 use Rattle.lowering_laws.specs.Law.{Carries, Stand}
 use Rattle.lowering_laws.proofs.Under.{box_under, block_under, broadcast-blocks, IsUnder, under-layout}
-use Rattle.lowering_laws.proofs.Points.{IsNumber, under-holds, pair-local, choice-local, number-holds, lengths-point, length-point, point-one}
+use Rattle.lowering_laws.proofs.Points.{IsNumber, under-holds, pair-local, choice-local, number-holds, lengths-point, length-point, point-one, point-axis}
 use Rattle.lowering_laws.proofs.Carrying.{Fits, task-each, fits-each, carries-each, input-holds, Stand-front, Stand-back}
 use Rattle.lowering_laws.proofs.Fitting.{IsFitted, carries-fitted}
 use Rattle.lowering_laws.proofs.Totals.{IsThere}
 use Rattle.task_graph.proofs.Keys.{contains-here, contains-later}
 use Rattle.lowering_laws.proofs.Uses.{use-at}
+use Rattle.lowering_laws.proofs.Products.{total-on}
 
 -- ---- operands
 
@@ -195,26 +195,18 @@ broadcast-member shapes ns k m a h ne =
     let hl : m.0 < length (lengths_on shapes at) = omega (arith, length-map shapes (length_on axes at), m.1) in
     broadcast-at shapes at inside ∙ common-member (lengths_on shapes at) m.0 (a.each at inside) hl (λ z. ne (sym own ∙ z)) ∙ own
 
-total-on : (layout : List (List ℕ)) (k : ℕ) → total (get_or layout k []) ≡ get_or (lengths layout) k 0
-total-on [] k = refl
-total-on (sizes ∷ layout) zero = refl
-total-on (sizes ∷ layout) (suc k) = total-on layout k
-
 aligned-along : (ns : List ℕ) (layout : List (List ℕ)) → length ns ≡ length layout → ((k : ℕ) → k < length ns → get_or ns k 0 ≢ 1 → total (get_or layout k []) ≡ get_or ns k 0) → lengths (layout_under ns layout) ≡ ns
 aligned-along [] [] e h = refl
 aligned-along [] (sizes ∷ layout) e h = absurd (omega arith)
 aligned-along (n ∷ ns) [] e h = absurd (omega arith)
 aligned-along (n ∷ ns) (sizes ∷ layout) e h =
-    ap (λ m. m ∷ lengths (layout_under ns layout)) (axis n sizes (λ d. h 0 (omega arith) d)) ∙ ap (λ ms. n ∷ ms) (aligned-along ns layout (omega arith) (λ k lt d. h (suc k) (omega arith) d))
+    ap (λ m. m ∷ lengths (layout_under ns layout)) (point-axis n sizes (λ d. h 0 (omega arith) d)) ∙ ap (λ ms. n ∷ ms) (aligned-along ns layout (omega arith) (λ k lt d. h (suc k) (omega arith) d))
   where
     one : (n : ℕ) (xs : List ℕ) → n ≡ 1 → cond (nat_eq n 1) (1 ∷ []) xs ≡ 1 ∷ []
     one n xs e = grind arith
 
     other : (n : ℕ) (xs : List ℕ) → n ≢ 1 → cond (nat_eq n 1) (1 ∷ []) xs ≡ xs
     other n xs e = grind arith
-
-    axis : (n : ℕ) (xs : List ℕ) → (n ≢ 1 → total xs ≡ n) → total (cond (nat_eq n 1) (1 ∷ []) xs) ≡ n
-    axis n xs h = elim (cases_eq n 1) [ inl e ↦ ap total (one n xs e) ∙ sym e | inr d ↦ ap total (other n xs d) ∙ h d ]
 
 aligned : (shapes : List (List ℕ)) (layout : List (List ℕ)) (ns : List ℕ) → Contains shapes ns → Agree shapes → lengths layout ≡ broadcast shapes → IsAligned layout ns
 aligned shapes layout ns m a e =

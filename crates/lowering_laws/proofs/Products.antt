@@ -4,6 +4,7 @@ use Rattle.std.specs.Prelude.{nat_eq, Option}
 use Rattle.std.specs.List.{position_or_len}
 use Rattle.std.proofs.lemmas.List.{length-map, get_or-map}
 use Rattle.std.proofs.lemmas.List.FromFn.{get_or-map-range_with_len, length-map-range_with_len}
+use Rattle.std.proofs.lemmas.Grind.{same_number_lists}
 use Rattle.nd_shape.specs.Block.{Array}
 use Rattle.nd_shape.specs.Index.{IsIn, index_at}
 use Rattle.nd_shape.specs.Region.{moved}
@@ -17,7 +18,6 @@ use Rattle.nd_grid.specs.Operation.{combine}
 use Rattle.nd_grid.specs.Grid.{Grid, Holds, grid_of, is_among, kept_shape, woven, contracted}
 use Rattle.nd_grid.proofs.Cells.{block-at, block-shape}
 use Rattle.nd_grid.proofs.Turning.{position-below, position-at, moved-at}
-use Rattle.plain_eval.proofs.Woven.{among-contains}
 use Rattle.chunk_layout.specs.Layouts.{counts, lengths, starts_at, lengths_at, box_at}
 use Rattle.chunk_layout.specs.Unions.{union}
 use Rattle.chunk_layout.proofs.Unions.{total-union}
@@ -34,7 +34,7 @@ use Rattle.lowering_laws.specs.Stages.{Use, deps_of_uses, place_among, inputs_am
 use Rattle.lowering_laws.specs.Boxes.{fold_box}
 use Rattle.lowering_laws.specs.Law.{Carries, Stand, HaveChunks}
 use Rattle.lowering_laws.proofs.Under.{drop-moved, drop-starts, drop-lengths, drop-counts, IsIn-drop}
-use Rattle.lowering_laws.proofs.Plain.{same-lists, starts-on, lengths-on}
+use Rattle.lowering_laws.proofs.Plain.{starts-on, lengths-on}
 use Rattle.lowering_laws.proofs.Carrying.{Stand-front, Stand-back, input-holds}
 use Rattle.lowering_laws.proofs.Cutting.{some-union, some-each, some-kept, chunks-on}
 use Rattle.lowering_laws.proofs.Fitting.{IsFitted, carries-fitted}
@@ -43,6 +43,7 @@ use Rattle.lowering_laws.proofs.Reductions.{lengths-kept, carries-folded}
 use Rattle.lowering_laws.proofs.Trees.{KeyHas}
 use Rattle.task_graph.proofs.Keys.{contains-here, contains-later}
 use Rattle.lowering_laws.proofs.Uses.{use-at}
+use Rattle.nd_grid.proofs.Woven.{among-contains}
 
 -- ---- an index woven of one of the result and one of the paired axes
 
@@ -184,7 +185,7 @@ pub paired-lens : (axes : List ℕ) (layout pairs : List (List ℕ)) (bs ts : Li
     → map (λ a. get_or (lengths_at layout (woven 0 (counts layout) axes bs ts)) a 0) axes ≡ lengths_at pairs ts
 paired-lens axes layout pairs bs ts o n p t inside =
     let own = woven 0 (counts layout) axes bs ts in
-    same-lists _ _ (length-map axes (λ a. get_or (lengths_at layout own) a 0) ∙ n ∙ sym (length-lengths pairs ts t)) (λ j h.
+    same_number_lists _ _ (length-map axes (λ a. get_or (lengths_at layout own) a 0) ∙ n ∙ sym (length-lengths pairs ts t)) (λ j h.
     let ja : j < length axes = omega (arith, length-map axes (λ a. get_or (lengths_at layout own) a 0)) in
     let a = get_or axes j 0 in
     let below : get_or axes j 0 < length layout = o.below j ja in
@@ -372,7 +373,7 @@ with-paired layout axes pairs n = record {
 
 pub with-lengths : (layout : List (List ℕ)) (axes : List ℕ) (pairs : List (List ℕ)) → ((j : ℕ) → j < length axes → total (get_or pairs j []) ≡ get_or (lengths layout) (get_or axes j 0) 0) → lengths (with_sizes layout axes pairs) ≡ lengths layout
 with-lengths layout axes pairs t =
-    same-lists _ _ (length-map (with_sizes layout axes pairs) (λ (ss : List ℕ). total ss) ∙ length-with layout axes pairs ∙ sym (length-map layout (λ (ss : List ℕ). total ss))) (λ k h.
+    same_number_lists _ _ (length-map (with_sizes layout axes pairs) (λ (ss : List ℕ). total ss) ∙ length-with layout axes pairs ∙ sym (length-map layout (λ (ss : List ℕ). total ss))) (λ k h.
     let lt : k < length layout = omega (arith, length-map (with_sizes layout axes pairs) (λ (ss : List ℕ). total ss), length-with layout axes pairs) in
     sym (total-on (with_sizes layout axes pairs) k) ∙ ap total (with-at layout axes pairs k lt) ∙ axis k (is_among k axes) refl)
   where
@@ -441,7 +442,7 @@ carries-contracted files tasks e la ra l r g h base cl cr sl sr ol or n same sta
       right_number = sym n ∙ sym np;
       left_paired = subst (λ (xs : List (List ℕ)). ArePaired 0 la xs pairs) (sym f.layout_is) (with-paired l.layout la pairs (sym np));
       right_paired = subst (λ (xs : List (List ℕ)). ArePaired 0 ra xs pairs) (sym k.layout_is) (with-paired r.layout ra pairs (sym n ∙ sym np));
-      left_lengths = same-lists _ _ (length-map la (λ a. get_or g.shape a 0) ∙ sym np ∙ sym (length-map pairs (λ (ss : List ℕ). total ss))) (λ j b.
+      left_lengths = same_number_lists _ _ (length-map la (λ a. get_or g.shape a 0) ∙ sym np ∙ sym (length-map pairs (λ (ss : List ℕ). total ss))) (λ j b.
           let jl : j < length la = omega (arith, length-map la (λ a. get_or g.shape a 0)) in
           get_or-map (λ a. get_or g.shape a 0) la j 0 0 jl ∙ ap (λ ns. get_or ns (get_or la j 0) 0) (sym cl.shape) ∙ sym (totals j jl).0 ∙ total-on pairs j);
       some = some-pairs;

@@ -1,8 +1,9 @@
 -- The parts of a block stand in the order of the blocks that they lie in.
-use Rattle.std.proofs.Common.{◌≡◌, ℕ, zero, suc, ◌+◌, ◌*◌, ◌<◌, ◌≤◌, List, [], ◌∷◌, length, map, get_or, sym, subst, arith, inl, inr}
+use Rattle.std.proofs.Common.{◌≡◌, ℕ, suc, ◌+◌, ◌*◌, ◌<◌, ◌≤◌, List, [], ◌∷◌, length, map, get_or, sym, subst, arith, inl, inr}
 use Rattle.std.specs.Prelude.{min, max, take}
 use Rattle.std.specs.List.{AllByRecursion, flat_map}
 use Rattle.std.proofs.lemmas.Bool.{cases_lt}
+use Rattle.std.proofs.Math.Nat.{le-add_right, mul-le-mul_right}
 use Rattle.nd_shape.specs.Index.{IsIn, place}
 use Rattle.nd_shape.specs.Shape.{elements}
 use Rattle.nd_shape.specs.Chunk.{total}
@@ -11,7 +12,8 @@ use Rattle.cluster_msgs.proofs.Dags.{all-weaker}
 use Rattle.chunk_layout.specs.Layouts.{counts, starts_at}
 use Rattle.chunk_layout.specs.Plans.{Overlap, overlaps_from, overlaps, overlaps_at, tuples, chunks_in, parts}
 use Rattle.task_graph.proofs.Rising.{Rises, all-mapped, rises-join}
-use Rattle.lowering_laws.proofs.Pieces.{some-overlap, no-overlap, all-tuples, parts-fit, OverlapFits, TupleFits}
+use Rattle.lowering_laws.proofs.Pieces.{some-overlap, all-tuples, parts-fit, OverlapFits, TupleFits}
+use Rattle.chunk_layout.proofs.Crossing.{nothing}
 
 abbrev chunk_number : Overlap → ℕ
 chunk_number o = o.chunk
@@ -24,7 +26,7 @@ overlaps-from k at low high (s ∷ ss) =
     elim (cases_lt (max low at) (min high (at + s))) [
       | inl lt ↦ subst (λ (os : List Overlap). Rises chunk_number os × AllByRecursion (λ o. k ≤ o.chunk) os) (sym (some-overlap k at low (max low at) (min high (at + s)) more lt))
           ((all-weaker (λ o. suc k ≤ o.chunk) (λ o. k < o.chunk) more (λ o h. omega arith) r.1, r.0), (omega arith, all-weaker (λ o. suc k ≤ o.chunk) (λ o. k ≤ o.chunk) more (λ o h. omega arith) r.1))
-      | inr ge ↦ subst (λ (os : List Overlap). Rises chunk_number os × AllByRecursion (λ o. k ≤ o.chunk) os) (sym (no-overlap k at low (max low at) (min high (at + s)) more ge))
+      | inr ge ↦ subst (λ (os : List Overlap). Rises chunk_number os × AllByRecursion (λ o. k ≤ o.chunk) os) (sym (nothing k at low (max low at) (min high (at + s)) more ge))
           (r.0, all-weaker (λ o. suc k ≤ o.chunk) (λ o. k ≤ o.chunk) more (λ o h. omega arith) r.1)
     ]
 
@@ -43,7 +45,7 @@ one-first n ns x (t ∷ ts) a r =
     let b : place_in ns t < elements ns = place-below ns (chunks_in t) a.0 in (
       (all-mapped (λ u. place_in ns t < place_in ns u) (λ u. place_in (n ∷ ns) (x ∷ t) < place_in (n ∷ ns) u) (λ u. x ∷ u) ts (λ u h. shifted (x.chunk * elements ns) (place_in ns t) (place_in ns u) h) r.0, m.0),
       (below x.chunk (elements ns) (place_in ns t) b, m.1),
-      (from (x.chunk * elements ns) (place_in ns t), m.2),
+      (le-add_right (x.chunk * elements ns) (place_in ns t), m.2),
     )
   where
     shifted : (a b c : ℕ) → b < c → a + b < a + c
@@ -52,20 +54,12 @@ one-first n ns x (t ∷ ts) a r =
     below : (c e p : ℕ) → p < e → c * e + p < suc c * e
     below c e p h = omega arith
 
-    from : (a b : ℕ) → a ≤ a + b
-    from a b = omega arith
-
 all-low : (n : ℕ) (ns : List ℕ) (low : ℕ) (xs : List Overlap) (ts : List (List Overlap)) → AllByRecursion (λ o. low ≤ o.chunk) xs → AllByRecursion (λ t. low * elements ns ≤ place_in (n ∷ ns) t) (flat_map (λ x. map (λ t. x ∷ t) ts) xs)
 all-low n ns low xs ts a =
     all-tuples (λ o. low ≤ o.chunk) (λ t. Unit {0}) (λ t. low * elements ns ≤ place_in (n ∷ ns) t) xs ts (λ x t h u. at low x.chunk (elements ns) (place_in ns t) h) a (all-unit ts)
   where
     at : (l c e p : ℕ) → l ≤ c → l * e ≤ c * e + p
-    at l c e p h = let m : l * e ≤ c * e = mul-mono l c e h in omega arith
-      where
-        mul-mono : (l c e : ℕ) → l ≤ c → l * e ≤ c * e
-        mul-mono zero c e h = omega arith
-        mul-mono (suc l) zero e h = absurd (omega arith)
-        mul-mono (suc l) (suc c) e h = let m : l * e ≤ c * e = mul-mono l c e (omega arith) in omega arith
+    at l c e p h = let m : l * e ≤ c * e = mul-le-mul_right e h in omega arith
 
     all-unit : (ts : List (List Overlap)) → AllByRecursion (λ t. Unit {0}) ts
     all-unit [] = tt

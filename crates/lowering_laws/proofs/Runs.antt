@@ -1,8 +1,8 @@
 -- What the keys of saved blocks hold in the graph that is run.
-use Rattle.std.proofs.Common.{◌≡◌, ℕ, zero, suc, ◌+◌, ◌-◌, ◌<◌, List, [], ◌∷◌, ◌++◌, length, map, get_or, refl, ap, sym, subst, ◌∙◌, arith, inl, inr, ℤ, length-append}
+use Rattle.std.proofs.Common.{◌≡◌, ℕ, zero, suc, ◌-◌, ◌<◌, List, [], ◌∷◌, length, map, get_or, refl, ap, sym, subst, ◌∙◌, arith, inl, inr, ℤ}
 use Rattle.std.specs.Prelude.{All, Contains, None, slice_index_or}
 use Rattle.std.specs.List.{AllByRecursion, flat_map}
-use Rattle.std.proofs.lemmas.List.{length-map, get_or-map, get_or_append_left, get_or-append_right, get_or_past}
+use Rattle.std.proofs.lemmas.List.{length-map, get_or-map, get_or_past}
 use Rattle.std.proofs.lemmas.List.FromFn.{length-map-range_with_len, get_or-map-range_with_len}
 use Rattle.array_expr.specs.declared.expr.Node.{Node}
 use Rattle.array_expr.specs.Node.{IsExpression, shape_at}
@@ -14,6 +14,8 @@ use Rattle.task_graph.proofs.Making.{deps-at}
 use Rattle.nd_grid.proofs.Turning.{position-below, position-at}
 use Rattle.std.specs.List.Sorted.{IsStrictlyIncreasing}
 use Rattle.std.proofs.lemmas.Bool.{cases_lt}
+use Rattle.std.proofs.lemmas.List.Elements.{Contains-append_left, Contains-append_right}
+use Rattle.small_facts.proofs.Every.{all_join, all_from_places}
 use Rattle.task_graph.specs.Orders.{position, ascending, depth_first, moved_task, renumbered}
 use Rattle.lowering_laws.specs.Sources.{Source, key_of}
 use Rattle.lowering_laws.specs.Lowered.{source_at, lowering, lowered, keys_of}
@@ -22,7 +24,7 @@ use Rattle.lowering_laws.specs.Whole.{IsSound, LawOfOrder, LawOfLowered, saved_k
 use Rattle.lowering_laws.proofs.Good.{IsBelow}
 use Rattle.lowering_laws.proofs.Order.{IsKnown, AllKnown, AreLowered, lowering-order, good-earlier, good-rising, good-fit}
 use Rattle.task_graph.proofs.Visits.{IsOrder, depth-first, depth-first-below, numbering, renumbered-earlier}
-use Rattle.task_graph.proofs.Rising.{ascending-rises, rising-increasing, all-join}
+use Rattle.task_graph.proofs.Rising.{ascending-rises, rising-increasing}
 use Rattle.block_kernels.specs.Kernels.{input_shapes}
 use Rattle.chunk_layout.specs.Layouts.{counts, region}
 use Rattle.nd_shape.specs.Index.{place, index_at}
@@ -34,26 +36,14 @@ use Rattle.lowering_laws.proofs.Shapes.{IsShapely, lowering-shapes}
 use Rattle.task_graph.proofs.Moved.{renumbered-fit}
 use Rattle.lowering_laws.proofs.Saved.{culled-law}
 
-contains-left : (xs ys : List ℕ) (k : ℕ) → Contains xs k → Contains (xs ++ ys) k
-contains-left xs ys k c = (c.0, omega (arith, c.1, length-append xs ys), get_or_append_left xs ys k c.0 c.1 ∙ c.2)
-
-contains-right : (xs ys : List ℕ) (k : ℕ) → Contains ys k → Contains (xs ++ ys) k
-contains-right xs ys k c =
-    let back : length xs + c.0 - length xs ≡ c.0 = omega arith in
-    (length xs + c.0, omega (arith, c.1, length-append xs ys), get_or-append_right xs ys (length xs) (length xs + c.0) k refl (omega arith) ∙ ap (λ i. get_or ys i k) back ∙ c.2)
-
 pub length-keys : (s : Source) → length (keys_of s) ≡ blocks s.layout
 length-keys s = length-map-range_with_len (key_of s) 0 (blocks s.layout)
 
 key-number : (s : Source) (c d : ℕ) → c < blocks s.layout → get_or (keys_of s) c d ≡ key_of s c
 key-number s c d h = get_or-map-range_with_len (key_of s) 0 (blocks s.layout) c c d h (omega arith)
 
-all-at : (P : ℕ → Type 0) (xs : List ℕ) → ((i : ℕ) → i < length xs → P (get_or xs i 0)) → AllByRecursion P xs
-all-at P [] h = tt
-all-at P (x ∷ xs) h = (h 0 (omega arith), all-at P xs (λ i l. h (suc i) (omega arith)))
-
 keys-below : (bound : ℕ) (s : Source) → IsBelow bound s → AllByRecursion (λ k. k < bound) (keys_of s)
-keys-below bound s b = all-at (λ k. k < bound) (keys_of s) (λ i l. let lt : i < blocks s.layout = omega (arith, length-keys s) in subst (λ k. k < bound) (sym (key-number s i 0 lt)) (b.keys i lt))
+keys-below bound s b = all_from_places (λ k. k < bound) (keys_of s) (λ i l. let lt : i < blocks s.layout = omega (arith, length-keys s) in subst (λ k. k < bound) (sym (key-number s i 0 lt)) (b.keys i lt))
 
 abbrev pub wanted_keys : List Source → List ℕ → List (List ℕ)
 wanted_keys sources saves = map (λ n. keys_of (source_at sources n)) saves
@@ -62,16 +52,16 @@ all-wanted : (bound : ℕ) (nodes : List Node) (sources : List Source) (saves : 
 all-wanted bound nodes sources [] a known = tt
 all-wanted bound nodes sources (n ∷ saves) a known =
     let it : IsKnown bound (source_at sources n) (shape_at nodes n) = known n (a 0 0 (omega arith)) in
-    all-join (λ k. k < bound) (keys_of (source_at sources n)) (flat_map (λ ks. ks) (wanted_keys sources saves)) (keys-below bound (source_at sources n) it.below)
+    all_join (λ k. k < bound) (keys_of (source_at sources n)) (flat_map (λ ks. ks) (wanted_keys sources saves)) (keys-below bound (source_at sources n) it.below)
     (all-wanted bound nodes sources saves (λ j d lt. a (suc j) d (omega (arith, lt))) known)
 
 has-wanted : (sources : List Source) (saves : List ℕ) (j c : ℕ) → j < length saves → c < blocks (source_at sources (get_or saves j 0)).layout → Contains (flat_map (λ ks. ks) (wanted_keys sources saves)) (key_of (source_at sources (get_or saves j 0)) c)
 has-wanted sources [] j c lj lc = absurd (omega arith)
 has-wanted sources (n ∷ saves) zero c lj lc =
-    contains-left (keys_of (source_at sources n)) (flat_map (λ ks. ks) (wanted_keys sources saves)) (key_of (source_at sources n) c)
+    Contains-append_left (keys_of (source_at sources n)) (flat_map (λ ks. ks) (wanted_keys sources saves)) (key_of (source_at sources n) c)
     (c, omega (arith, lc, length-keys (source_at sources n)), key-number (source_at sources n) c (key_of (source_at sources n) c) lc)
 has-wanted sources (n ∷ saves) (suc j) c lj lc =
-    contains-right (keys_of (source_at sources n)) (flat_map (λ ks. ks) (wanted_keys sources saves)) (key_of (source_at sources (get_or saves j 0)) c) (has-wanted sources saves j c (omega arith) lc)
+    Contains-append_right (keys_of (source_at sources n)) (flat_map (λ ks. ks) (wanted_keys sources saves)) (key_of (source_at sources (get_or saves j 0)) c) (has-wanted sources saves j c (omega arith) lc)
 
 -- the new number of a saved block's key
 saved-at : (nodes : List Node) (saves : List ℕ) (j c : ℕ) → j < length saves → c < blocks (source_at (lowering nodes).sources (get_or saves j 0)).layout

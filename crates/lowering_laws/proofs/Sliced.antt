@@ -22,6 +22,7 @@ use Rattle.lowering_laws.specs.Sources.{Source}
 use Rattle.lowering_laws.specs.Stages.{kept_axes, nothing_taken, pieces_at, chunks_taken, steps_taken, slice_task, sliced_blocks}
 use Rattle.lowering_laws.specs.Law.{Carries, Stand, HaveChunks}
 use Rattle.lowering_laws.proofs.Carrying.{carries-each, one-input}
+use Rattle.nd_grid.proofs.Slicing.{SlicesFit-length}
 
 -- what own steps take of a block, against what the steps take of the whole
 pub record IsSlice (k : ℕ) (dropped : List ℕ) (layout : List (List ℕ)) (own steps : List Steps) (chunks starts lens : List ℕ) : Type 0 where
@@ -159,16 +160,10 @@ lengths-sliced k dropped (sizes ∷ layout) (s ∷ steps) e =
     axis true cs n rest ns a r = r
     axis false cs n rest ns a r = ap (λ m. m ∷ lengths rest) a ∙ ap (λ ms. n ∷ ms) r
 
-pub fits-length : (k : ℕ) (steps : List Steps) (ns dropped : List ℕ) → SlicesFit k steps ns dropped → length steps ≡ length ns
-fits-length k [] [] dropped f = refl
-fits-length k [] (n ∷ ns) dropped f = absurd f
-fits-length k (s ∷ steps) [] dropped f = absurd f
-fits-length k (s ∷ steps) (n ∷ ns) dropped f = ap suc (fits-length (suc k) steps ns dropped f.2)
-
 pub carries-sliced : (files : ℕ → List ℕ → ℤ) (tasks : List Task) → IsEarlier (deps_of (shape_of tasks)) → (s : Source) (g : Grid) (steps : List Steps) (dropped : List ℕ) (base : ℕ) → HaveChunks s.layout → SlicesFit 0 steps (lengths s.layout) dropped → Carries files tasks s g
     → Stand tasks base (sliced_blocks s steps dropped base).tasks → Carries files tasks (sliced_blocks s steps dropped base).source (sliced steps dropped g)
 carries-sliced files tasks e s g steps dropped base some fits c stand =
-    let number : length steps ≡ length s.layout = fits-length 0 steps (lengths s.layout) dropped fits ∙ length-map s.layout (λ (sizes : List ℕ). total sizes) in
+    let number : length steps ≡ length s.layout = SlicesFit-length 0 steps (lengths s.layout) dropped fits ∙ length-map s.layout (λ (sizes : List ℕ). total sizes) in
     carries-each files tasks e base (kept_axes 0 (lists_of s.layout steps) dropped) (slice_task s (pieces_of s.layout steps) dropped) (sliced steps dropped g) (lengths-sliced 0 dropped s.layout steps number) stand
     (λ bs h. record {
       holds = λ blocks v.

@@ -3,6 +3,8 @@ use Rattle.std.proofs.Common.{◌≡◌, ◌≢◌, ℕ, zero, suc, ◌+◌, ◌
 use Rattle.std.specs.Prelude.{nat_eq, nat_lt, All}
 use Rattle.std.specs.List.{AllByRecursion, range_with_len}
 use Rattle.std.proofs.lemmas.Bool.{cases_eq, cases_lt}
+use Rattle.small_facts.proofs.Every.{all_join}
+use Rattle.small_facts.proofs.Lists.{rest_listed}
 use Rattle.nd_shape.specs.declared.slice.Steps.{Steps}
 use Rattle.nd_shape.specs.declared.chunk.ChunkSpec.{ChunkSpec}
 use Rattle.nd_shape.specs.declared.chunk.ChunkSpec.TheVariants.{Even, List as Listed}
@@ -16,9 +18,9 @@ use Rattle.chunk_layout.specs.Unions.{Parted, parted, union}
 use Rattle.chunk_layout.proofs.Slicings.{AllSome, some-runs}
 use Rattle.lowering_laws.specs.Stages.{kept_axes, turned_layout, joined, joined_all, Along, along_from, along_all, or_empty}
 use Rattle.lowering_laws.proofs.Cutting.{CanCutAll, can-cut}
-use Rattle.task_graph.proofs.Rising.{all-join}
 use Rattle.lowering_laws.proofs.Sliced.{lists_of}
 use Rattle.lowering_laws.proofs.Joined.{sizes_along}
+use Rattle.lowering_laws.proofs.Trees.{rest-none}
 
 -- no chunk is empty
 abbrev pub AreFull : List ℕ → Type 0
@@ -52,13 +54,7 @@ full-replicate zero size h = tt
 full-replicate (suc n) size h = (h, full-replicate n size h)
 
 full-rest : (r : ℕ) → AreFull (cond (nat_eq r 0) [] (r ∷ []))
-full-rest r = elim (cases_eq r 0) [ inl e ↦ subst AreFull (sym (none r e)) tt | inr d ↦ subst AreFull (sym (some r d)) (d, tt) ]
-  where
-    none : (r : ℕ) → r ≡ 0 → ◌≡◌ {A = List ℕ} (cond (nat_eq r 0) [] (r ∷ [])) []
-    none r e = grind arith
-
-    some : (r : ℕ) → r ≢ 0 → ◌≡◌ {A = List ℕ} (cond (nat_eq r 0) [] (r ∷ [])) (r ∷ [])
-    some r d = grind arith
+full-rest r = elim (cases_eq r 0) [ inl e ↦ subst AreFull (sym (rest-none r e)) tt | inr d ↦ subst AreFull (sym (rest_listed r d)) (d, tt) ]
 
 full-listed : (sizes : List ℕ) → All (λ size. size ≢ 0) sizes → AreFull sizes
 full-listed [] a = tt
@@ -66,7 +62,7 @@ full-listed (n ∷ sizes) a = (a 0 0 (omega arith), full-listed sizes (λ j d h.
 
 tight-chunks : (n : ℕ) (spec : ChunkSpec) → CanCut n spec → AreTight (chunks_of n spec)
 tight-chunks zero spec c h = absurd (h (omega arith))
-tight-chunks (suc n) (Even size) c h = all-join (λ m. m ≢ 0) (replicate (suc n / size) size) (cond (nat_eq (suc n % size) 0) [] (suc n % size ∷ [])) (full-replicate (suc n / size) size c) (full-rest (suc n % size))
+tight-chunks (suc n) (Even size) c h = all_join (λ m. m ≢ 0) (replicate (suc n / size) size) (cond (nat_eq (suc n % size) 0) [] (suc n % size ∷ [])) (full-replicate (suc n / size) size c) (full-rest (suc n % size))
 tight-chunks (suc n) (Listed sizes) c h = full-listed sizes c.0
 
 tight-cut : (ns : List ℕ) (specs : List ChunkSpec) → CanCutAll ns specs → IsTight (normalized ns specs)
@@ -92,7 +88,7 @@ tight-turned [] layout t = tt
 tight-turned (a ∷ axes) layout t = (tight-at layout a t, tight-turned axes layout t)
 
 pub tight-append : (xs ys : List (List ℕ)) → IsTight xs → IsTight ys → IsTight (xs ++ ys)
-tight-append xs ys a b = all-join AreTight xs ys a b
+tight-append xs ys a b = all_join AreTight xs ys a b
 
 -- ---- slices
 
@@ -153,7 +149,7 @@ pub full-union : (xs ys : List ℕ) → AreFull xs → AreFull ys → AreFull (u
 full-union [] ys a b = tt
 full-union (x ∷ xs) ys a b =
     let p : ArePartsFull (parted x ys) = full-parted x ys a.0 b in
-    all-join (λ n. n ≢ 0) (parted x ys).front (union xs (parted x ys).rest) p.front (full-union xs (parted x ys).rest a.1 p.rest)
+    all_join (λ n. n ≢ 0) (parted x ys).front (union xs (parted x ys).rest) p.front (full-union xs (parted x ys).rest a.1 p.rest)
 
 full-joined : (xs ys : List ℕ) → AreFull xs → AreFull ys → AreFull (joined xs ys)
 full-joined [] ys a b = b

@@ -2,7 +2,7 @@
 use Rattle.std.proofs.Common.{◌≡◌, ◌≢◌, ℕ, zero, suc, ◌+◌, ◌-◌, ◌<◌, ◌≤◌, cond, Bool, true, false, List, [], ◌∷◌, length, map, take, get_or, set, refl, ap, sym, subst, ◌∙◌, arith, inl, inr, ℤ, pos}
 use Rattle.std.specs.Prelude.{nat_eq, nat_lt, All}
 use Rattle.std.specs.List.{AllByRecursion, position_or_len}
-use Rattle.std.proofs.lemmas.Bool.{cases_eq}
+use Rattle.std.proofs.lemmas.Bool.{cases_eq, eqb-true}
 use Rattle.std.proofs.lemmas.List.{length-set, get_or-set_same, get_or-set_other}
 use Rattle.std.proofs.lemmas.List.FromFn.{length-map-range_with_len, get_or-map-range_with_len}
 use Rattle.nd_shape.specs.declared.slice.Steps.{Steps}
@@ -10,7 +10,6 @@ use Rattle.nd_shape.specs.Chunk.{total}
 use Rattle.nd_shape.specs.Broadcast.{broadcast}
 use Rattle.nd_grid.specs.Grid.{Grid, is_among, filled}
 use Rattle.nd_grid.proofs.Turning.{position-below}
-use Rattle.plain_eval.proofs.Woven.{among-contains}
 use Rattle.array_expr.specs.declared.op.Op.{Op}
 use Rattle.array_expr.specs.declared.op.Op.TheVariants.{Input, Full, Ramp, Negate, Elementwise, Where, Slice, Transpose, Rechunk, Concatenate, Reduce, Tensordot}
 use Rattle.array_expr.specs.declared.expr.Node.{Node}
@@ -30,6 +29,7 @@ use Rattle.lowering_laws.proofs.Joined.{AllSources, AreJoined, sizes_along, axis
 use Rattle.lowering_laws.proofs.Products.{total-on, pair-at, with-at, length-with, paired-totals}
 use Rattle.lowering_laws.proofs.Lowering.{AllHeld, shape-front, arg-carries, all-sources, joined-of, number-broadcast}
 use Rattle.lowering_laws.proofs.Tight.{AreFull, AreTight, IsTight, tight-at, tight-each, tight-normalized, tight-kept, tight-turned, tight-append, tight-pieces, full-union, full-joined_all, tight-along}
+use Rattle.nd_grid.proofs.Woven.{among-contains}
 
 -- ---- element by element
 
@@ -37,11 +37,8 @@ full-sizes : (dims : List ℕ) (k : ℕ) (layout : List (List ℕ)) → get_or d
 full-sizes dims k layout d t =
     let before = length dims - length layout in
     let sizes = get_or layout (k - (length dims - length layout)) [] in
-    chosen (nat_lt k before) (nat_eq (total sizes) (get_or dims k 0)) sizes (λ e. tight-at layout (k - before) t (λ z. d (sym (equal_true (total sizes) (get_or dims k 0) e) ∙ z)))
+    chosen (nat_lt k before) (nat_eq (total sizes) (get_or dims k 0)) sizes (λ e. tight-at layout (k - before) t (λ z. d (sym (eqb-true (total sizes) (get_or dims k 0) e) ∙ z)))
   where
-    equal_true : (a b : ℕ) → nat_eq a b ≡ true → a ≡ b
-    equal_true a b h = grind arith
-
     chosen : (b c : Bool) (xs : List ℕ) → (c ≡ true → AreFull xs) → AreFull (cond b [] (cond c xs []))
     chosen true c xs h = tt
     chosen false true xs h = h refl

@@ -65,7 +65,7 @@ pub record IsThere (o : Option ℤ) : Type 0 where
 there-as : (o q : Option ℤ) → o ≡ q → IsThere q → IsThere o
 there-as o q e t = record { value = t.value; is = e ∙ t.is }
 
-some-none : (v : ℤ) → ◌≡◌ {A = Option ℤ} (Some v) None → ⊥
+pub some-none : (v : ℤ) → ◌≡◌ {A = Option ℤ} (Some v) None → ⊥
 some-none v h = cc
 
 pub not-nothing : (o : Option ℤ) → IsThere o → o ≡ None → ⊥

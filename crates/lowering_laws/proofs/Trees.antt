@@ -1,11 +1,11 @@
 -- The value of a tree over partial results is the fold of them all.
-use Rattle.std.proofs.Common.{◌≡◌, ◌≢◌, ℕ, zero, suc, ◌+◌, ◌-◌, ◌*◌, ◌/◌, ◌%◌, ◌<◌, ◌≤◌, cond, List, [], ◌∷◌, length, map, take, get_or, refl, ap, sym, subst, ◌∙◌, arith, inl, inr, Some, None, ℤ, replicate, length-append}
+use Rattle.std.proofs.Common.{◌≡◌, ◌≢◌, ℕ, zero, suc, ◌+◌, ◌-◌, ◌/◌, ◌%◌, ◌<◌, ◌≤◌, cond, List, [], ◌∷◌, length, map, take, get_or, refl, ap, sym, subst, ◌∙◌, arith, inl, inr, Some, None, ℤ, replicate, length-append}
 use Rattle.std.specs.Prelude.{nat_eq, nat_lt, Option}
 use Rattle.std.specs.List.{range_with_len}
 use Rattle.std.proofs.lemmas.Bool.{cases_eq, cases_lt}
-use Rattle.std.proofs.Math.Nat.{mul-le-mul_left}
-use Rattle.std.proofs.lemmas.List.{length-map, length-replicate, get_or-map, get_or_append_left, get_or-append_right}
+use Rattle.std.proofs.lemmas.List.{length-map, length-replicate, get_or-map, get_or_append_left, get_or-append_right, get_or-replicate}
 use Rattle.std.proofs.lemmas.List.FromFn.{fill_by_all, length-range_with_len, get_or-range_with_len}
+use Rattle.small_facts.proofs.Lists.{rest_listed}
 use Rattle.nd_shape.specs.Block.{Array}
 use Rattle.nd_shape.specs.Index.{IsIn, index_at}
 use Rattle.nd_shape.specs.Shape.{elements}
@@ -26,9 +26,13 @@ use Rattle.lowering_laws.specs.Stages.{group_tasks, level_tasks}
 use Rattle.lowering_laws.specs.Boxes.{fold_below}
 use Rattle.lowering_laws.specs.Law.{Stand}
 use Rattle.lowering_laws.proofs.Carrying.{Stand-front, Stand-back}
-use Rattle.lowering_laws.proofs.Cutting.{total-even, some-total}
+use Rattle.lowering_laws.proofs.Cutting.{total-even}
 use Rattle.nd_grid.proofs.FoldAlgebra.{start-folded}
 use Rattle.lowering_laws.proofs.Folds.{below-chunks}
+use Rattle.chunk_layout.proofs.Folding.{fewer-groups}
+use Rattle.chunk_layout.proofs.Merging.{has-some}
+use Rattle.chunk_layout.proofs.Parting.{total-before}
+use Rattle.plain_eval.proofs.Paired.{kept-none}
 
 -- where the key has a value, that has these lengths and elements
 pub record KeyHas (files : ℕ → List ℕ → ℤ) (tasks : List Task) (key : ℕ) (dims : List ℕ) (at : List ℕ → Option ℤ) : Type 0 where
@@ -60,38 +64,16 @@ replicate-at (suc n) s zero h = refl
 replicate-at (suc n) s (suc j) h = replicate-at n s j (omega arith)
 
 rest-length : (r : ℕ) → length (cond (nat_eq r 0) [] (r ∷ [])) ≤ 1
-rest-length r = elim (cases_eq r 0) [ inl e ↦ subst (λ (xs : List ℕ). length xs ≤ 1) (sym (none r e)) (omega arith) | inr d ↦ subst (λ (xs : List ℕ). length xs ≤ 1) (sym (some r d)) (omega arith) ]
+rest-length r = elim (cases_eq r 0) [ inl e ↦ subst (λ (xs : List ℕ). length xs ≤ 1) (sym (none r e)) (omega arith) | inr d ↦ subst (λ (xs : List ℕ). length xs ≤ 1) (sym (rest_listed r d)) (omega arith) ]
   where
     none : (r : ℕ) → r ≡ 0 → ◌≡◌ {A = List ℕ} (cond (nat_eq r 0) [] (r ∷ [])) []
     none r e = grind arith
 
-    some : (r : ℕ) → r ≢ 0 → ◌≡◌ {A = List ℕ} (cond (nat_eq r 0) [] (r ∷ [])) (r ∷ [])
-    some r d = grind arith
-
-rest-none : (r : ℕ) → r ≡ 0 → ◌≡◌ {A = List ℕ} (cond (nat_eq r 0) [] (r ∷ [])) []
+pub rest-none : (r : ℕ) → r ≡ 0 → ◌≡◌ {A = List ℕ} (cond (nat_eq r 0) [] (r ∷ [])) []
 rest-none r e = grind arith
-
-rest-some : (r : ℕ) → r ≢ 0 → ◌≡◌ {A = List ℕ} (cond (nat_eq r 0) [] (r ∷ [])) (r ∷ [])
-rest-some r d = grind arith
 
 length-even : (n split : ℕ) → length (even_chunks n split) ≡ n / split + length (cond (nat_eq (n % split) 0) [] (n % split ∷ []))
 length-even n split = length-append (replicate (n / split) split) (cond (nat_eq (n % split) 0) [] (n % split ∷ [])) ∙ ap (λ k. k + length (cond (nat_eq (n % split) 0) [] (n % split ∷ []))) (length-replicate (n / split) split)
-
-even-fewer : (n split : ℕ) → 2 ≤ n → 2 ≤ split → length (even_chunks n split) < n
-even-fewer n split h s =
-    let whole : n / split * split + n % split ≡ n = parts-of n split (omega arith) in
-    let twice : n / split * 2 ≤ n / split * split = mul-le-mul_left (n / split) s in
-    elim (cases_eq (n % split) 0) [
-      | inl e ↦ let l : length (cond (nat_eq (n % split) 0) [] (n % split ∷ [])) ≡ 0 = ap length (rest-none (n % split) e) in omega (arith, length-even n split, l, whole, twice)
-      | inr d ↦ let l : length (cond (nat_eq (n % split) 0) [] (n % split ∷ [])) ≡ 1 = ap length (rest-some (n % split) d) in few (n / split) (n % split) n (length (even_chunks n split)) (length-even n split ∙ ap (λ k. n / split + k) l) (omega (arith, whole, twice)) d h
-    ]
-  where
-    parts-of : (n split : ℕ) → 0 < split → n / split * split + n % split ≡ n
-    parts-of n split h = omega arith
-
-    few : (q r n m : ℕ) → m ≡ q + 1 → q * 2 + r ≤ n → r ≢ 0 → 2 ≤ n → m < n
-    few zero r n m e h d l = omega arith
-    few (suc q) r n m e h d l = omega arith
 
 even-some : (n split j : ℕ) → split ≢ 0 → j < length (even_chunks n split) → 0 < get_or (even_chunks n split) j 0
 even-some n split j s h = elim (cases_lt j (n / split)) [
@@ -102,9 +84,9 @@ even-some n split j s h = elim (cases_lt j (n / split)) [
       get_or-append_right (replicate (n / split) split) (cond (nat_eq (n % split) 0) [] (n % split ∷ [])) (n / split) j 0 (length-replicate (n / split) split) ge in
       elim (cases_eq (n % split) 0) [
         | inl z ↦ let l : length (cond (nat_eq (n % split) 0) [] (n % split ∷ [])) ≡ 0 = ap length (rest-none (n % split) z) in absurd (omega (arith, length-even n split))
-        | inr d ↦ let l : length (cond (nat_eq (n % split) 0) [] (n % split ∷ [])) ≡ 1 = ap length (rest-some (n % split) d) in
+        | inr d ↦ let l : length (cond (nat_eq (n % split) 0) [] (n % split ∷ [])) ≡ 1 = ap length (rest_listed (n % split) d) in
             let z : j - n / split ≡ 0 = omega (arith, length-even n split) in
-            let f : get_or (cond (nat_eq (n % split) 0) [] (n % split ∷ [])) (j - n / split) 0 ≡ n % split = ap (λ (xs : List ℕ). get_or xs (j - n / split) 0) (rest-some (n % split) d) ∙ ap (λ k. get_or (n % split ∷ []) k 0) z in
+            let f : get_or (cond (nat_eq (n % split) 0) [] (n % split ∷ [])) (j - n / split) 0 ≡ n % split = ap (λ (xs : List ℕ). get_or xs (j - n / split) 0) (rest_listed (n % split) d) ∙ ap (λ k. get_or (n % split ∷ []) k 0) z in
             omega arith
       ]
 ]
@@ -114,7 +96,7 @@ levels-are zero n split h g s = absurd (omega arith)
 levels-are (suc f) n split h g s = elim (cases_lt n 2) [
   | inl lt ↦ subst (AreLevels n) (sym (stops n lt (even_chunks n split ∷ levels_within f (length (even_chunks n split)) split))) (omega arith)
   | inr ge ↦ subst (AreLevels n) (sym (goes n ge (even_chunks n split ∷ levels_within f (length (even_chunks n split)) split)))
-      (total-even n split (omega arith), (λ j lt. even-some n split j (omega arith) lt), levels-are f (length (even_chunks n split)) split (some-total (even_chunks n split) (omega (arith, total-even n split (omega arith)))) (omega (arith, even-fewer n split ge s)) s)
+      (total-even n split (omega arith), (λ j lt. even-some n split j (omega arith) lt), levels-are f (length (even_chunks n split)) split (has-some (even_chunks n split) (omega (arith, total-even n split (omega arith)))) (omega (arith, fewer-groups n split ge s)) s)
 ]
   where
     stops : (n : ℕ) → n < 2 → (xs : List (List ℕ)) → cond (nat_lt n 2) [] xs ≡ []
@@ -131,10 +113,6 @@ tree-levels n split h s = levels-are n n split h (omega arith) s
 no-folded : (k : ℕ) (ns : List ℕ) → folded_shape k ns [] ≡ []
 no-folded k [] = refl
 no-folded k (n ∷ ns) = no-folded (suc k) ns
-
-pub all-kept : (k : ℕ) (ns : List ℕ) → kept_shape k ns [] ≡ ns
-all-kept k [] = refl
-all-kept k (n ∷ ns) = ap (λ ms. n ∷ ms) (all-kept (suc k) ns)
 
 merged-none : (k : ℕ) (ns is rs : List ℕ) → IsIn ns is → merged k ns [] is rs ≡ is
 merged-none k [] [] rs h = refl
@@ -157,14 +135,14 @@ group-has : (files : ℕ → List ℕ → ℤ) (tasks : List Task) → IsEarlier
 group-has files tasks e fold dims first g key part some parts is =
     let t = task (kernels.Reduce fold [] (replicate g dims)) (range_with_len first g) in
     let made : (b : Array) → value files tasks key ≡ Some b → Made files tasks t b = λ b h. subst (λ (u : Task). Made files tasks u b) is (value-made files tasks e key b h) in
-    let head : get_or (replicate g dims) 0 [] ≡ dims = first-of g dims some in
+    let head : get_or (replicate g dims) 0 [] ≡ dims = get_or-replicate g 0 dims [] some in
     record {
       shape = λ b h. let m = made b h in
-          block-shape (reduced_all fold [] (get_or (replicate g dims) 0 []) (map grid_of m.blocks)) b m.block ∙ ap (λ ns. kept_shape 0 ns []) head ∙ all-kept 0 dims;
+          block-shape (reduced_all fold [] (get_or (replicate g dims) 0 []) (map grid_of m.blocks)) b m.block ∙ ap (λ ns. kept_shape 0 ns []) head ∙ kept-none 0 dims;
       cells = λ b h i inside.
           let m = made b h in
           let k = reduced_all fold [] (get_or (replicate g dims) 0 []) (map grid_of m.blocks) in
-          let shape : k.shape ≡ dims = ap (λ ns. kept_shape 0 ns []) head ∙ all-kept 0 dims in
+          let shape : k.shape ≡ dims = ap (λ ns. kept_shape 0 ns []) head ∙ kept-none 0 dims in
           let number : length m.blocks ≡ g = all-length (value files tasks) (range_with_len first g) m.blocks m.values ∙ length-range_with_len first g in
           block-at k b i m.block (subst (λ ns. IsIn ns i) (sym shape) inside)
           ∙ ap (folded fold) (
@@ -180,10 +158,6 @@ group-has files tasks e fold dims first g key part some parts is =
           ∙ (parts.folded_each r i).same)
           );
     }
-  where
-    first-of : (g : ℕ) (dims : List ℕ) → 0 < g → get_or (replicate g dims) 0 [] ≡ dims
-    first-of zero dims h = absurd (omega arith)
-    first-of (suc g) dims h = refl
 
 -- ---- one level
 
@@ -199,16 +173,11 @@ group-at fold dims at (g ∷ gs) (suc j) h =
     let z : at + g + total (take j gs) ≡ at + (g + total (take j gs)) = omega arith in
     group-at fold dims (at + g) gs j (omega arith) ∙ ap (λ k. task (kernels.Reduce fold [] (replicate (get_or gs j 0) dims)) (range_with_len k (get_or gs j 0))) z
 
-pub total-through : (ss : List ℕ) (b : ℕ) → b < length ss → total (take b ss) + get_or ss b 0 ≤ total ss
-total-through [] b h = absurd (omega arith)
-total-through (s ∷ ss) zero h = omega arith
-total-through (s ∷ ss) (suc b) h = let r : total (take b ss) + get_or ss b 0 ≤ total ss = total-through ss b (omega arith) in omega arith
-
 level-parts : (files : ℕ → List ℕ → ℤ) (tasks : List Task) → IsEarlier (deps_of (shape_of tasks)) → (fold : Fold) (dims : List ℕ) (at n : ℕ) (gs : List ℕ) (part : ℕ → List ℕ → Option ℤ) → total gs ≡ n → ((j : ℕ) → j < length gs → 0 < get_or gs j 0)
     → AreParts files tasks fold dims at n part → Stand tasks (at + n) (group_tasks fold dims at gs) → AreParts files tasks fold dims (at + n) (length gs) (λ j i. fold_below fold (get_or gs j 0) (λ r. part (total (take j gs) + r) i))
 level-parts files tasks e fold dims at n gs part whole some parts stand = record {
   has = λ j lt.
-      let into : total (take j gs) + get_or gs j 0 ≤ total gs = total-through gs j lt in
+      let into : total (take j gs) + get_or gs j 0 ≤ total gs = total-before gs j lt in
       group-has files tasks e fold dims (at + total (take j gs)) (get_or gs j 0) (at + n + j) (λ r. part (total (take j gs) + r)) (some j lt)
       (record {
         has = λ r h. let z : at + (total (take j gs) + r) ≡ at + total (take j gs) + r = omega arith in subst (λ k. KeyHas files tasks k dims (part (total (take j gs) + r))) z (parts.has (total (take j gs) + r) (omega arith));

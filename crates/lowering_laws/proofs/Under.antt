@@ -4,6 +4,7 @@ use Rattle.std.specs.Prelude.{nat_eq, nat_lt}
 use Rattle.std.proofs.lemmas.Bool.{cases_eq, cases_lt}
 use Rattle.std.proofs.lemmas.List.{length-drop, length-map, get_or-drop}
 use Rattle.std.proofs.lemmas.List.FromFn.{fill_by_all}
+use Rattle.small_facts.proofs.Numbers.{place_under}
 use Rattle.nd_shape.specs.Index.{IsIn}
 use Rattle.nd_shape.specs.Region.{Box, moved}
 use Rattle.nd_shape.specs.Chunk.{total}
@@ -192,18 +193,15 @@ broadcast-blocks lens shapes axes one =
 
 -- ---- the blocks of an operand in the result's layout
 
-kept_chunk : (m b : ℕ) → b < m → cond (nat_eq m 1) 0 b ≡ b
-kept_chunk m b h = grind arith
-
 start_axis : (c : Bool) (sizes : List ℕ) (b : ℕ) → b < length sizes
     → total (take (cond (nat_eq (length (cond c (1 ∷ []) sizes)) 1) 0 b) (cond c (1 ∷ []) sizes)) ≡ cond c 0 (total (take b sizes))
 start_axis true sizes b h = refl
-start_axis false sizes b h = ap (λ k. total (take k sizes)) (kept_chunk (length sizes) b h)
+start_axis false sizes b h = ap (λ k. total (take k sizes)) (place_under (length sizes) b h)
 
 length_axis : (c : Bool) (sizes : List ℕ) (b : ℕ) → b < length sizes
     → get_or (cond c (1 ∷ []) sizes) (cond (nat_eq (length (cond c (1 ∷ []) sizes)) 1) 0 b) 0 ≡ cond c 1 (get_or sizes b 0)
 length_axis true sizes b h = refl
-length_axis false sizes b h = ap (λ k. get_or sizes k 0) (kept_chunk (length sizes) b h)
+length_axis false sizes b h = ap (λ k. get_or sizes k 0) (place_under (length sizes) b h)
 
 starts-along : (ns : List ℕ) (layout : List (List ℕ)) (bs : List ℕ) → length ns ≡ length layout → IsIn (counts layout) bs
     → starts_at (layout_under ns layout) (under_along (counts (layout_under ns layout)) bs) ≡ under_along ns (starts_at layout bs)
@@ -228,7 +226,7 @@ lengths-along (n ∷ ns) (sizes ∷ layout) (b ∷ bs) e h =
 -- the chunks under those of a block are there
 chunk_below : (c : Bool) (sizes : List ℕ) (b : ℕ) → b < length sizes → cond (nat_eq (length (cond c (1 ∷ []) sizes)) 1) 0 b < length (cond c (1 ∷ []) sizes)
 chunk_below true sizes b h = omega arith
-chunk_below false sizes b h = let e : cond (nat_eq (length sizes) 1) 0 b ≡ b = kept_chunk (length sizes) b h in omega arith
+chunk_below false sizes b h = let e : cond (nat_eq (length sizes) 1) 0 b ≡ b = place_under (length sizes) b h in omega arith
 
 in-along : (ns : List ℕ) (layout : List (List ℕ)) (bs : List ℕ) → length ns ≡ length layout → IsIn (counts layout) bs → IsIn (counts (layout_under ns layout)) (under_along (counts (layout_under ns layout)) bs)
 in-along [] [] bs e h = tt

@@ -1,13 +1,14 @@
 -- Places in lists: of queues by node, and of what is under way.
-use Rattle.std.proofs.Common.{◌≡◌, ℕ, zero, suc, ◌+◌, ◌<◌, ◌≤◌, ◌-◌, ◌^◌, Bool, true, false, not, ◌&&◌, List, [], ◌∷◌, ◌++◌, Option, Some, None, refl, sym, ap, ◌∙◌, subst, arith, cond, take, drop, filter, find, length, get_or}
-use Rattle.std.specs.Prelude.{nat_lt, min}
+use Rattle.std.proofs.Common.{◌≡◌, ℕ, zero, suc, ◌+◌, ◌<◌, ◌-◌, ◌^◌, Bool, true, false, not, ◌&&◌, List, [], ◌∷◌, ◌++◌, Option, Some, None, refl, sym, ap, ◌∙◌, subst, arith, cond, take, drop, filter, find, length, get_or}
+use Rattle.std.specs.Prelude.{nat_lt}
 use Rattle.std.specs.List.{position_or_len, insert, remove, AllByRecursion}
 use Rattle.std.proofs.lemmas.Bool.{true≢false, false≢true}
 use Rattle.std.proofs.lemmas.Bool.Decides.{nat_tests}
-use Rattle.std.proofs.lemmas.List.Sums.{prefix_len-le-length}
-use Rattle.std.specs.Prelude.{map, ◌==◌, Result, Ok, Err, OnOk}
+use Rattle.std.specs.Prelude.{map, ◌==◌}
 use Rattle.std.proofs.lemmas.Bool.{eqb-true}
-use Rattle.std.proofs.lemmas.List.{map-append}
+use Rattle.std.proofs.lemmas.List.{map-append, append_assoc}
+use Rattle.small_facts.proofs.Numbers.{eqb_turned}
+use Rattle.small_facts.proofs.Options.{some_not_none}
 use Rattle.cluster_msgs.specs.declared.messages.Message.{Message}
 use Rattle.cluster_msgs.specs.declared.messages.Message.TheVariants as message
 use Rattle.cluster_msgs.specs.declared.messages.Peer.TheVariants.{GetData, Data}
@@ -19,7 +20,6 @@ use Rattle.cluster_msgs.specs.declared.events.Asker.{Asker}
 use Rattle.cluster_rules.specs.Functions.{put}
 use Rattle.cluster_rules.specs.World.{Parcel, parcel_before, with_parcel}
 use Rattle.cluster_rules.specs.WorldStep.{sends, requested, client_sends, client_requested}
-use Rattle.cluster_rules.proofs.DerivedLemmas.{eqb_comm}
 use Rattle.fact_rows.specs.Rows.{cell}
 use Rattle.message_queues.specs.declared.transit.InTransit.{InTransit}
 use Rattle.message_queues.specs.Queues.{waiting}
@@ -45,30 +45,10 @@ row_more (x ∷ rows) new e (suc w) k = row_more rows new e w k
 pub cell-more : {A : Type 0} (n : ℕ) (rows : List (List (Option A))) (new : List (Option A)) → ((k : ℕ) → get_or new k None ≡ None) → cell (n, rows ++ new ∷ []) None ≡ cell (n, rows) None
 cell-more n rows new e = λ i w k. row_more rows new e w k i
 
--- a sum that stops at a greatest number
-pub sum_more : (t s n m : ℕ) → t ≡ min s m → min (t + n) m ≡ min (s + n) m
-sum_more t s n m e = omega (arith, e)
-
 -- what a search answers
 pub place_some : (b : Bool) (n i : ℕ) → Some i ≡ cond b (Some n) None → (i ≡ n) × (b ≡ true)
 place_some true n i h = (let e : i ≡ n = cc in e, refl)
-place_some false n i h = absurd (never h)
-  where
-    never : Some i ≡ None → ⊥
-    never h = cc
-
-pub place_none : (b : Bool) (n : ℕ) → None ≡ cond b (Some n) None → b ≡ false
-place_none true n h = absurd (never h)
-  where
-    never : None ≡ Some n → ⊥
-    never h = cc
-place_none false n h = refl
-
-ends : (n m : ℕ) → n ≤ m → nat_lt n m ≡ false → m ≡ n
-ends n m l h = grind (arith, nat_tests)
-
-pub place_end : {A : Type 0} (p : A → Bool) (xs : List A) → nat_lt (position_or_len p xs) (length xs) ≡ false → length xs ≡ position_or_len p xs
-place_end p xs h = ends (position_or_len p xs) (length xs) (prefix_len-le-length (λ x. not (p x)) xs) h
+place_some false n i h = absurd (some_not_none i h)
 
 pub with_transit-insert : {B : Type 0} (t : InTransit B) (xs : List (InTransit B)) → insert xs (position_or_len (λ x. parcel_before (parcel_of_transit t) (parcel_of_transit x)) xs) t ≡ with_transit t xs
 with_transit-insert t [] = refl
@@ -173,10 +153,6 @@ parcels-with t (x ∷ xs) = pick (parcel_before (parcel_of_transit t) (parcel_of
     pick true r = refl
     pick false r = ap (λ l. parcel_of_transit x ∷ l) r
 
-assoc : {A : Type 0} (xs ys zs : List A) → (xs ++ ys) ++ zs ≡ xs ++ (ys ++ zs)
-assoc [] ys zs = refl
-assoc (x ∷ xs) ys zs = ap (λ l. x ∷ l) (assoc xs ys zs)
-
 pub none_more : {A : Type 0} (xs : List A) → xs ≡ xs ++ []
 none_more [] = refl
 none_more (x ∷ xs) = ap (λ l. x ∷ l) (none_more xs)
@@ -199,7 +175,7 @@ module _ {M : Type 0} (wrap : M → Message) (of : ℕ → List (ℕ × M) → L
     where
       -- at its own node, and at the others
       here : (c : ℕ) → m.0 ≡ c → now m.0 ++ wrap m.1 ∷ [] ≡ before c ++ map wrap (of c xs ++ m.1 ∷ [])
-      here c e = ap (λ k. now k ++ wrap m.1 ∷ []) e ∙ ap (λ f. f c ++ wrap m.1 ∷ []) h ∙ assoc (before c) (map wrap (of c xs)) (wrap m.1 ∷ []) ∙ ap (λ l. before c ++ l) (sym (map-append wrap (of c xs) (m.1 ∷ [])))
+      here c e = ap (λ k. now k ++ wrap m.1 ∷ []) e ∙ ap (λ f. f c ++ wrap m.1 ∷ []) h ∙ append_assoc (before c) (map wrap (of c xs)) (wrap m.1 ∷ []) ∙ ap (λ l. before c ++ l) (sym (map-append wrap (of c xs) (m.1 ∷ [])))
 
       there : (c : ℕ) → now c ≡ before c ++ map wrap (of c xs ++ [])
       there c = ap (λ f. f c) h ∙ ap (λ l. before c ++ map wrap l) (none_more (of c xs))
@@ -209,12 +185,7 @@ module _ {M : Type 0} (wrap : M → Message) (of : ℕ → List (ℕ × M) → L
       pick c false e = there c
 
       at_place : (c : ℕ) → after c ≡ before c ++ map wrap (of c (xs ++ m ∷ []))
-      at_place c = ap (λ f. f c) g ∙ ap (λ b. cond b (now m.0 ++ wrap m.1 ∷ []) (now c)) (eqb_comm c m.0) ∙ pick c (m.0 == c) refl ∙ ap (λ l. before c ++ map wrap l) (sym (grown c m xs))
-
--- where a call went well, what follows
-pub on_ok : {A E P Q : Type 0} (r : Result A E) → (P → Q) → OnOk r P → OnOk r Q
-on_ok (Ok a) f h = f h
-on_ok (Err e) f h = tt
+      at_place c = ap (λ f. f c) g ∙ ap (λ b. cond b (now m.0 ++ wrap m.1 ∷ []) (now c)) (eqb_turned c m.0) ∙ pick c (m.0 == c) refl ∙ ap (λ l. before c ++ map wrap l) (sym (grown c m xs))
 
 -- what holds of each thing under way
 pub all_with : {B : Type 0} (P : InTransit B → Type 0) (t : InTransit B) (xs : List (InTransit B)) → P t → AllByRecursion P xs → AllByRecursion P (with_transit t xs)
@@ -224,14 +195,6 @@ all_with P t (x ∷ xs) p h = pick (parcel_before (parcel_of_transit t) (parcel_
     pick : (b : Bool) → AllByRecursion P (with_transit t xs) → AllByRecursion P (cond b (t ∷ x ∷ xs) (x ∷ with_transit t xs))
     pick true r = (p, h)
     pick false r = (h.0, r)
-
-pub all_where : {A : Type 0} (P : A → Type 0) (q : A → Bool) (xs : List A) → AllByRecursion P xs → AllByRecursion P (filter q xs)
-all_where P q [] h = tt
-all_where P q (x ∷ xs) h = pick (q x) (all_where P q xs h.1)
-  where
-    pick : (b : Bool) → AllByRecursion P (filter q xs) → AllByRecursion P (cond b (x ∷ filter q xs) (filter q xs))
-    pick true r = (h.0, r)
-    pick false r = r
 
 -- what a new request and a new answer carry
 pub request_kind : {B : Type 0} (t : InTransit B) (a : Asker) (p n : ℕ) (ks : List ℕ) → parcel_of_transit t ≡ record { asker = a; peer = p; ask = n; keys = ks } → t.message ≡ message.Peer (GetData n ks) → IsRequest t

@@ -1,6 +1,7 @@
 -- Reading, a level at a time.
-use Rattle.std.proofs.Common.{◌≡◌, ℕ, zero, suc, ◌-◌, ◌<◌, List, [], ◌∷◌, length, get_or, take, drop, Some, None, Result, Ok, Err, false, eqb, refl, sym, ap, arith, rules, tests}
+use Rattle.std.proofs.Common.{◌≡◌, ℕ, zero, suc, ◌-◌, ◌<◌, List, [], ◌∷◌, length, get_or, take, drop, Some, None, Result, Ok, Err, eqb, refl, sym, ap, arith}
 use Rattle.std.proofs.lemmas.List.{take_rest}
+use Rattle.std.proofs.Math.Dec.{eqb-suc-zero}
 use Rattle.msgpack_frames.specs.declared.error.MpError.{MpError}
 use Rattle.msgpack_frames.specs.declared.error.MpError.TheVariants as errors
 use Rattle.msgpack_frames.specs.declared.form.Kind.TheVariants.{Array, Map}
@@ -18,18 +19,15 @@ unfolding inner value_at
 inner-some total zero lt = absurd (omega arith)
 inner-some total (suc d) lt = let e : suc d - 1 ≡ d = omega arith in rw e refl
 
-suc_is_not : (d : ℕ) → eqb (suc d) 0 ≡ false
-suc_is_not d = search (rules, tests)
-
 pub array_beyond : (total d : ℕ) → eqb d 0 ≡ is_too_deep (inner total d) Array
 unfolding inner
 array_beyond total zero = refl
-array_beyond total (suc d) = suc_is_not d
+array_beyond total (suc d) = eqb-suc-zero d
 
 pub map_beyond : (total d : ℕ) → eqb d 0 ≡ is_too_deep (inner total d) Map
 unfolding inner
 map_beyond total zero = refl
-map_beyond total (suc d) = suc_is_not d
+map_beyond total (suc d) = eqb-suc-zero d
 
 pub value_at-nil : (total d : ℕ) → value_at total d [] ≡ Err errors.Short
 unfolding value_at first_at

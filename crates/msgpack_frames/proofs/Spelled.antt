@@ -4,6 +4,7 @@ use Rattle.std.specs.Int.{byte_len, to_be_bytes, cast_unsigned, cast_signed}
 use Rattle.std.proofs.lemmas.Bool.{cond_both, ltb-true, ltb-false, lt-ltb, le-ltb}
 use Rattle.std.proofs.lemmas.Int.{ints, to_z-of_z}
 use Rattle.std.proofs.lemmas.List.{length-append}
+use Rattle.small_facts.proofs.Numbers.{same_pos}
 use Rattle.msgpack_frames.specs.declared.form.Size.{Size}
 use Rattle.msgpack_frames.specs.declared.form.Size.TheVariants.{One, Two, Four, Eight}
 use Rattle.msgpack_frames.specs.declared.form.Kind.{Kind}
@@ -235,9 +236,6 @@ two_behind b One m = omega arith
 two_behind b Two m = omega arith
 two_behind b Four m = omega arith
 two_behind b Eight m = omega arith
-
-same_pos : (n m : ℕ) → pos n ≡ pos m → n ≡ m
-same_pos n m e = cc
 
 pos_not_negsuc : (n m : ℕ) → negsuc n ≡ pos m → ⊥
 pos_not_negsuc n m e = cc

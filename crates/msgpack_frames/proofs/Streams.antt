@@ -1,7 +1,7 @@
 -- A stream is these groups and no others, in whatever pieces it comes.
 use Rattle.std.proofs.Common.{◌≡◌, ℕ, ◌-◌, ◌≤◌, List, [], ◌∷◌, ◌++◌, length, drop, Option, Some, None, Result, Ok, Err, refl, sym, ap, subst, ◌∙◌, append_assoc, arith}
-use Rattle.std.specs.List.{AllByRecursion}
 use Rattle.std.proofs.lemmas.List.{append-nil, drop_at, length-append}
+use Rattle.small_facts.proofs.Every.{all_join}
 use Rattle.msgpack_frames.specs.declared.error.FrameError.{FrameError}
 use Rattle.msgpack_frames.specs.Groups.{Group, IsGroup, group_bytes, groups_bytes, group_at, count_at, Reads, Found, Advances, Progress, IsReading}
 use Rattle.msgpack_frames.proofs.Numbers.{ok_is}
@@ -10,10 +10,6 @@ use Rattle.msgpack_frames.proofs.GroupLaws.{group_again, group_stays}
 groups-append : (gs hs : List Group) → groups_bytes (gs ++ hs) ≡ groups_bytes gs ++ groups_bytes hs
 groups-append [] hs = refl
 groups-append (g ∷ gs) hs = ap (λ (t : List ℕ). group_bytes g ++ t) (groups-append gs hs) ∙ sym (append_assoc (group_bytes g) (groups_bytes gs) (groups_bytes hs))
-
-each-append : (gs hs : List Group) → AllByRecursion IsGroup gs → AllByRecursion IsGroup hs → AllByRecursion IsGroup (gs ++ hs)
-each-append [] hs p q = q
-each-append (g ∷ gs) hs p q = (p.0, each-append gs hs p.1 q)
 
 -- ---- one reading
 
@@ -76,7 +72,7 @@ goes_on stream piece taken groups old new a none ready reads =
     ∙ sym (append_assoc (groups_bytes front) (groups_bytes groups) new.rest) ∙ ap (λ (t : List ℕ). t ++ new.rest) (sym (groups-append front groups)) in
     record {
       tail = new.rest;
-      reads = subst (λ (gs : List Group). Reads (stream ++ piece) gs new.rest new.fault) (sym all) (record { each = each-append front groups a.reads.each reads.each; whole = whole; stopped = reads.stopped });
+      reads = subst (λ (gs : List Group). Reads (stream ++ piece) gs new.rest new.fault) (sym all) (record { each = all_join IsGroup front groups a.reads.each reads.each; whole = whole; stopped = reads.stopped });
       kept = λ none. refl;
     }
 
@@ -111,7 +107,7 @@ pub found_more : (bytes : List ℕ) (old new : List Group) (rest : List ℕ) (g 
 found_more bytes old new rest g after f is parts = record {
   groups = f.groups ++ g ∷ [];
   ready = ap (λ (gs : List Group). gs ++ g ∷ []) f.ready ∙ append_assoc old f.groups (g ∷ []);
-  each = each-append f.groups (g ∷ []) f.each (is, tt);
+  each = all_join IsGroup f.groups (g ∷ []) f.each (is, tt);
   whole = f.whole ∙ ap (λ (t : List ℕ). groups_bytes f.groups ++ t) (parts ∙ ap (λ (t : List ℕ). t ++ after) (sym (append-nil (group_bytes g))))
       ∙ sym (append_assoc (groups_bytes f.groups) (groups_bytes (g ∷ [])) after) ∙ ap (λ (t : List ℕ). t ++ after) (sym (groups-append f.groups (g ∷ [])));
 }

@@ -4,6 +4,7 @@ use Rattle.std.specs.Int.{int_div_euclid, int_rem_euclid, int_wrapping_neg}
 use Rattle.std.proofs.lemmas.Nat.{div-mul-add, mod-mul-add, div-add-mod', mod_below}
 use Rattle.std.proofs.lemmas.Int.{ints, to_z-of_z, int_wrap_fits, wrapping_neg_is}
 use Rattle.std.proofs.lemmas.Bool.{cases_lt}
+use Rattle.std.proofs.Math.Nat.{zero-lt-suc}
 use mir.Val.{SFits}
 use lib.Signed.{lt_z}
 use Rattle.nd_grid.specs.Int64.{floor_div, floor_rem, wrap}
@@ -31,39 +32,36 @@ rows_of m s p =
 zero-div : (s : ℕ) → 0 < s → 0 / s ≡ 0
 zero-div s p = ap (λ k. k / s) (omega arith) ∙ div-mul-add 0 s 0 p
 
-positive : (d : ℕ) → 0 < suc d
-positive d = omega arith
-
 -- below a divisor less than 0: the same quotient where nothing is left
 pub floor_div-whole : (a : ℤ) (d : ℕ) → int_rem_euclid a (negsuc d) ≡ pos 0 → floor_div a (negsuc d) ≡ int_div_euclid a (negsuc d)
-floor_div-whole (pos zero) d h = let z : 0 / suc d ≡ 0 = zero-div (suc d) (positive d) in rw z refl
+floor_div-whole (pos zero) d h = let z : 0 / suc d ≡ 0 = zero-div (suc d) (zero-lt-suc d) in rw z refl
 floor_div-whole (pos (suc m)) d h =
-    elim (rows_of m (suc d) (positive d)) [
+    elim (rows_of m (suc d) (zero-lt-suc d)) [
       | inl w ↦ let e : (suc m / suc d ≡ m / suc d) × (suc m % suc d ≡ m % suc d + 1) = next_within m (suc d) w in
           absurd (omega (arith, ints, e.1, h))
-      | inr w ↦ let e : (suc m / suc d ≡ m / suc d + 1) × (suc m % suc d ≡ 0) = next_row m (suc d) (positive d) w in
+      | inr w ↦ let e : (suc m / suc d ≡ m / suc d + 1) × (suc m % suc d ≡ 0) = next_row m (suc d) (zero-lt-suc d) w in
           rw (e.0, add-one) refl
     ]
 floor_div-whole (negsuc m) d h =
-    elim (rows_of m (suc d) (positive d)) [
+    elim (rows_of m (suc d) (zero-lt-suc d)) [
       | inl w ↦ absurd (omega (arith, ints, h))
-      | inr w ↦ let e : (suc m / suc d ≡ m / suc d + 1) × (suc m % suc d ≡ 0) = next_row m (suc d) (positive d) w in
+      | inr w ↦ let e : (suc m / suc d ≡ m / suc d + 1) × (suc m % suc d ≡ 0) = next_row m (suc d) (zero-lt-suc d) w in
           rw (e.0, add-one) refl
     ]
 
 -- and one less where something is
 pub floor_div-left : (a : ℤ) (d : ℕ) → int_rem_euclid a (negsuc d) ≢ pos 0 → floor_div a (negsuc d) ≡ int_div_euclid a (negsuc d) -ℤ pos 1
 floor_div-left (pos zero) d h =
-    absurd (h (ap pos (ap (λ k. k % suc d) (omega arith) ∙ mod-mul-add 0 (suc d) 0 (positive d))))
+    absurd (h (ap pos (ap (λ k. k % suc d) (omega arith) ∙ mod-mul-add 0 (suc d) 0 (zero-lt-suc d))))
 floor_div-left (pos (suc m)) d h =
-    elim (rows_of m (suc d) (positive d)) [
+    elim (rows_of m (suc d) (zero-lt-suc d)) [
       | inl w ↦ let e : (suc m / suc d ≡ m / suc d) × (suc m % suc d ≡ m % suc d + 1) = next_within m (suc d) w in
           rw e.0 (omega (arith, ints))
-      | inr w ↦ let e : (suc m / suc d ≡ m / suc d + 1) × (suc m % suc d ≡ 0) = next_row m (suc d) (positive d) w in
+      | inr w ↦ let e : (suc m / suc d ≡ m / suc d + 1) × (suc m % suc d ≡ 0) = next_row m (suc d) (zero-lt-suc d) w in
           absurd (h (ap pos e.1))
     ]
 floor_div-left (negsuc m) d h =
-    elim (rows_of m (suc d) (positive d)) [
+    elim (rows_of m (suc d) (zero-lt-suc d)) [
       | inl w ↦ let e : (suc m / suc d ≡ m / suc d) × (suc m % suc d ≡ m % suc d + 1) = next_within m (suc d) w in
           rw e.0 (omega (arith, ints))
       | inr w ↦ absurd (h (ap pos (omega arith)))
@@ -121,32 +119,32 @@ floor_rem-pos (negsuc m) (pos d) h = let b : m % d < d = mod_below m d (omega (a
 floor_rem-pos a (negsuc d) h = absurd (omega (arith, ints))
 
 floor_rem-whole : (a : ℤ) (d : ℕ) → int_rem_euclid a (negsuc d) ≡ pos 0 → floor_rem a (negsuc d) ≡ pos 0
-floor_rem-whole (pos zero) d h = let z : 0 / suc d ≡ 0 = zero-div (suc d) (positive d) in rw z (omega (arith, ints))
+floor_rem-whole (pos zero) d h = let z : 0 / suc d ≡ 0 = zero-div (suc d) (zero-lt-suc d) in rw z (omega (arith, ints))
 floor_rem-whole (pos (suc m)) d h =
-    elim (rows_of m (suc d) (positive d)) [
+    elim (rows_of m (suc d) (zero-lt-suc d)) [
       | inl w ↦ let e : (suc m / suc d ≡ m / suc d) × (suc m % suc d ≡ m % suc d + 1) = next_within m (suc d) w in
           absurd (omega (arith, ints, e.1, h))
       | inr w ↦ omega (arith, ints, div-add-mod' m (suc d), w)
     ]
 floor_rem-whole (negsuc m) d h =
-    elim (rows_of m (suc d) (positive d)) [
+    elim (rows_of m (suc d) (zero-lt-suc d)) [
       | inl w ↦ absurd (omega (arith, ints, h))
-      | inr w ↦ let e : (suc m / suc d ≡ m / suc d + 1) × (suc m % suc d ≡ 0) = next_row m (suc d) (positive d) w in
+      | inr w ↦ let e : (suc m / suc d ≡ m / suc d + 1) × (suc m % suc d ≡ 0) = next_row m (suc d) (zero-lt-suc d) w in
           omega (arith, ints, div-add-mod' (suc m) (suc d), e.1)
     ]
 
 floor_rem-left : (a : ℤ) (d : ℕ) → int_rem_euclid a (negsuc d) ≢ pos 0 → floor_rem a (negsuc d) ≡ int_rem_euclid a (negsuc d) +ℤ negsuc d
 floor_rem-left (pos zero) d h =
-    absurd (h (ap pos (ap (λ k. k % suc d) (omega arith) ∙ mod-mul-add 0 (suc d) 0 (positive d))))
+    absurd (h (ap pos (ap (λ k. k % suc d) (omega arith) ∙ mod-mul-add 0 (suc d) 0 (zero-lt-suc d))))
 floor_rem-left (pos (suc m)) d h =
-    elim (rows_of m (suc d) (positive d)) [
+    elim (rows_of m (suc d) (zero-lt-suc d)) [
       | inl w ↦ let e : (suc m / suc d ≡ m / suc d) × (suc m % suc d ≡ m % suc d + 1) = next_within m (suc d) w in
           omega (arith, ints, div-add-mod' m (suc d), e.1)
-      | inr w ↦ let e : (suc m / suc d ≡ m / suc d + 1) × (suc m % suc d ≡ 0) = next_row m (suc d) (positive d) w in
+      | inr w ↦ let e : (suc m / suc d ≡ m / suc d + 1) × (suc m % suc d ≡ 0) = next_row m (suc d) (zero-lt-suc d) w in
           absurd (h (ap pos e.1))
     ]
 floor_rem-left (negsuc m) d h =
-    elim (rows_of m (suc d) (positive d)) [
+    elim (rows_of m (suc d) (zero-lt-suc d)) [
       | inl w ↦ let e : (suc m / suc d ≡ m / suc d) × (suc m % suc d ≡ m % suc d + 1) = next_within m (suc d) w in
           omega (arith, ints, div-add-mod' (suc m) (suc d), e.1, w)
       | inr w ↦ absurd (h (ap pos (omega arith)))

@@ -90,7 +90,7 @@ start-twice fold = ap Some (two_neutral fold)
 
 -- ---- folds of lists
 
-from-combined : (fold : Fold) (ys : List (Option ℤ)) (x y : Option ℤ) → folded_from fold (combine_two fold x y) ys ≡ combine_two fold x (folded_from fold y ys)
+pub from-combined : (fold : Fold) (ys : List (Option ℤ)) (x y : Option ℤ) → folded_from fold (combine_two fold x y) ys ≡ combine_two fold x (folded_from fold y ys)
 from-combined fold [] x y = refl
 from-combined fold (z ∷ ys) x y = ap (λ u. folded_from fold u ys) (combine-assoc fold x y z) ∙ from-combined fold ys x (combine_two fold y z)
 

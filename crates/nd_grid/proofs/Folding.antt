@@ -6,7 +6,7 @@ use Rattle.std.proofs.lemmas.List.FromFn.{map-range_with_len_more}
 use Rattle.nd_grid.specs.declared.operation.Fold.{Fold}
 use Rattle.nd_grid.specs.Operation.{combine_two, folded_from, folded, fold_two, neutral}
 
-folded_from-push : (fold : Fold) (x : Option ℤ) (ys : List (Option ℤ)) (y : Option ℤ) → folded_from fold x (ys ++ y ∷ []) ≡ combine_two fold (folded_from fold x ys) y
+pub folded_from-push : (fold : Fold) (x : Option ℤ) (ys : List (Option ℤ)) (y : Option ℤ) → folded_from fold x (ys ++ y ∷ []) ≡ combine_two fold (folded_from fold x ys) y
 folded_from-push fold x [] y = refl
 folded_from-push fold x (z ∷ ys) y = folded_from-push fold (combine_two fold x z) ys y
 

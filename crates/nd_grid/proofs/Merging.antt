@@ -1,6 +1,7 @@
 -- The loop over the axes of a reduction, and that the index made of both parts lies in the operand.
 use Rattle.std.proofs.Common.{◌≡◌, ℕ, suc, ◌+◌, ◌<◌, ◌≤◌, cond, Bool, true, false, List, [], ◌∷◌, ◌++◌, length, drop, take, set, get_or, ap, sym, subst, ◌∙◌, arith, append_assoc, append-nil, add-one}
-use Rattle.std.proofs.lemmas.List.{drop_more, drop_all, drop-drop, get_or-drop, take_all, take_more_set}
+use Rattle.std.proofs.lemmas.List.{drop_more, drop_all, drop-drop, take_all, take_more_set}
+use Rattle.small_facts.proofs.Lists.{first_of_drop}
 use Rattle.nd_shape.specs.Index.{IsIn}
 use Rattle.nd_grid.specs.Grid.{is_among, kept_shape, folded_shape, merged}
 use Rattle.nd_grid.proofs.Slicing.{in-cons, next-drop, there}
@@ -16,9 +17,6 @@ pub record Merged (ns axes is rs own res : List ℕ) (k used spent : ℕ) (gone 
   pub folded : gone ≡ true → spent < length rs
   pub kept : gone ≡ false → used < length is
   pub next : Merging ns axes is rs (own ++ cond gone (get_or rs spent 0) (get_or is used 0) ∷ []) res (k + 1) (cond gone used (used + 1)) (cond gone (spent + 1) spent)
-
-first-drop : (xs : List ℕ) (k : ℕ) → get_or (drop k xs) 0 0 ≡ get_or xs k 0
-first-drop xs k = let z : k + 0 ≡ k = omega arith in get_or-drop k xs 0 0 ∙ ap (λ j. get_or xs j 0) z
 
 pub merge_step : (ns axes is rs own res : List ℕ) (k used spent : ℕ) (gone : Bool) → k < length ns → gone ≡ is_among k axes → Merging ns axes is rs own res k used spent → Merged ns axes is rs own res k used spent gone
 merge_step ns axes is rs own res k used spent gone h b loop =
@@ -48,7 +46,7 @@ merge_step ns axes is rs own res k used spent gone h b loop =
             folded = subst (λ m. IsIn (folded_shape m (drop (k + 1) ns) axes) (drop (spent + 1) rs)) (sym (add-one k)) (subst (IsIn (folded_shape (suc k) (drop (k + 1) ns) axes)) (sym (next-drop rs spent i.0 i.1 i.2)) i.4);
             value = subst (λ m. (own ++ get_or rs spent 0 ∷ []) ++ merged m (drop (k + 1) ns) axes (drop used is) (drop (spent + 1) rs) ≡ res) (sym (add-one k))
                 (append_assoc own (get_or rs spent 0 ∷ []) _
-                ∙ ap (λ x. own ++ x ∷ merged (suc k) (drop (k + 1) ns) axes (drop used is) (drop (spent + 1) rs)) (sym (first-drop rs spent))
+                ∙ ap (λ x. own ++ x ∷ merged (suc k) (drop (k + 1) ns) axes (drop used is) (drop (spent + 1) rs)) (sym (first_of_drop rs spent))
                 ∙ ap (λ xs. own ++ get_or (drop spent rs) 0 0 ∷ merged (suc k) (drop (k + 1) ns) axes (drop used is) xs) (sym (drop-drop 1 spent rs))
                 ∙ value);
           };
@@ -63,7 +61,7 @@ merge_step ns axes is rs own res k used spent gone h b loop =
             folded = subst (λ m. IsIn (folded_shape m (drop (k + 1) ns) axes) (drop spent rs)) (sym (add-one k)) folded;
             value = subst (λ m. (own ++ get_or is used 0 ∷ []) ++ merged m (drop (k + 1) ns) axes (drop (used + 1) is) (drop spent rs) ≡ res) (sym (add-one k))
                 (append_assoc own (get_or is used 0 ∷ []) _
-                ∙ ap (λ x. own ++ x ∷ merged (suc k) (drop (k + 1) ns) axes (drop (used + 1) is) (drop spent rs)) (sym (first-drop is used))
+                ∙ ap (λ x. own ++ x ∷ merged (suc k) (drop (k + 1) ns) axes (drop (used + 1) is) (drop spent rs)) (sym (first_of_drop is used))
                 ∙ ap (λ xs. own ++ get_or (drop used is) 0 0 ∷ merged (suc k) (drop (k + 1) ns) axes xs (drop spent rs)) (sym (drop-drop 1 used is))
                 ∙ value);
           };

@@ -4,6 +4,7 @@ use Rattle.std.specs.Prelude.{nat_eq, nat_lt, Contains, Option}
 use Rattle.std.proofs.lemmas.List.FromFn.{length-map-range_with_len, get_or-map-range_with_len}
 use Rattle.std.proofs.lemmas.List.{get_or-drop, get_or-map, length-drop, length-map, get_or_default}
 use Rattle.std.proofs.lemmas.Bool.{cases_eq}
+use Rattle.small_facts.proofs.Numbers.{place_under_one}
 use Rattle.nd_shape.specs.Index.{IsIn}
 use Rattle.nd_shape.specs.Broadcast.{axes_of, length_on, lengths_on, agrees, common, misfit_with, first_misfit, or_else, broadcast, Agree}
 use Rattle.nd_shape.proofs.Places.{IsIn-length}
@@ -39,10 +40,10 @@ agrees-all m (n ∷ ns) (suc j) h b = agrees-all m ns j (misfit_with-none m n ns
 agreed : (m n : ℕ) → agrees m n ≡ true → m ≢ 1 → n ≢ 1 → m ≡ n
 agreed m n h a b = grind arith
 
-taken : (n c : ℕ) → n ≢ 1 → cond (nat_eq n 1) c n ≡ n
+pub taken : (n c : ℕ) → n ≢ 1 → cond (nat_eq n 1) c n ≡ n
 taken n c h = grind arith
 
-passed : (n c : ℕ) → n ≡ 1 → cond (nat_eq n 1) c n ≡ c
+pub passed : (n c : ℕ) → n ≡ 1 → cond (nat_eq n 1) c n ≡ c
 passed n c h = grind arith
 
 pub common-member : (ls : List ℕ) (j : ℕ) → first_misfit ls ≡ None → j < length ls → get_or ls j 1 ≢ 1 → common ls ≡ get_or ls j 1
@@ -76,11 +77,8 @@ length_on-own axes k ns h b =
     not_front a b c h = grind arith
 
 clipped-in : (n i : ℕ) → (n ≢ 1 → i < n) → cond (nat_eq n 1) 0 i < n
-clipped-in n i h = elim (cases_eq n 1) [ inl e ↦ let z : cond (nat_eq n 1) 0 i ≡ 0 = zeroed n i e in omega arith | inr d ↦ let z : cond (nat_eq n 1) 0 i ≡ i = kept n i d in let b : i < n = h d in omega arith ]
+clipped-in n i h = elim (cases_eq n 1) [ inl e ↦ let z : cond (nat_eq n 1) 0 i ≡ 0 = place_under_one n i e in omega arith | inr d ↦ let z : cond (nat_eq n 1) 0 i ≡ i = kept n i d in let b : i < n = h d in omega arith ]
   where
-    zeroed : (n i : ℕ) → n ≡ 1 → cond (nat_eq n 1) 0 i ≡ 0
-    zeroed n i e = grind arith
-
     kept : (n i : ℕ) → n ≢ 1 → cond (nat_eq n 1) 0 i ≡ i
     kept n i e = grind arith
 

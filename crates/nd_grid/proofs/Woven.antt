@@ -2,7 +2,9 @@
 use Rattle.std.proofs.Common.{◌≡◌, ℕ, suc, ◌+◌, ◌<◌, ◌≤◌, cond, Bool, true, false, List, [], ◌∷◌, ◌++◌, length, drop, take, set, get_or, ap, sym, subst, refl, ◌∙◌, arith, append_assoc, append-nil, add-one}
 use Rattle.std.specs.Prelude.{nat_eq, Contains, ◌||◌}
 use Rattle.std.specs.List.{position_or_len}
-use Rattle.std.proofs.lemmas.List.{drop_more, drop_all, drop-drop, get_or-drop, take_all, take_more_set}
+use Rattle.std.proofs.lemmas.List.{drop_more, drop_all, drop-drop, take_all, take_more_set}
+use Rattle.std.proofs.lemmas.Bool.{eqb-true}
+use Rattle.small_facts.proofs.Lists.{first_of_drop}
 use Rattle.nd_shape.specs.Index.{IsIn}
 use Rattle.nd_grid.specs.Grid.{is_among, kept_shape, woven}
 use Rattle.nd_grid.proofs.Turning.{position-below}
@@ -16,9 +18,6 @@ pub record Weaving (ns axes is rs own res : List ℕ) (k used : ℕ) : Type 0 wh
 pub record Woven (ns axes is rs own res : List ℕ) (k used : ℕ) (gone : Bool) : Type 0 where
   pub kept : gone ≡ false → used < length is
   pub next : Weaving ns axes is rs (own ++ cond gone (get_or rs (position_or_len (nat_eq k) axes) 0) (get_or is used 0) ∷ []) res (k + 1) (cond gone used (used + 1))
-
-first-drop : (xs : List ℕ) (k : ℕ) → get_or (drop k xs) 0 0 ≡ get_or xs k 0
-first-drop xs k = let z : k + 0 ≡ k = omega arith in get_or-drop k xs 0 0 ∙ ap (λ j. get_or xs j 0) z
 
 pub weave_step : (ns axes is rs own res : List ℕ) (k used : ℕ) (gone : Bool) → k < length ns → gone ≡ is_among k axes → Weaving ns axes is rs own res k used → Woven ns axes is rs own res k used gone
 weave_step ns axes is rs own res k used gone h b loop =
@@ -47,7 +46,7 @@ weave_step ns axes is rs own res k used gone h b loop =
         kept = subst (λ m. length (kept_shape m (drop (k + 1) ns) axes) + (used + 1) ≤ length is) (sym (add-one k)) (omega arith);
         value = subst (λ m. (own ++ get_or is used 0 ∷ []) ++ woven m (drop (k + 1) ns) axes (drop (used + 1) is) rs ≡ res) (sym (add-one k))
             (append_assoc own (get_or is used 0 ∷ []) _
-            ∙ ap (λ x. own ++ x ∷ woven (suc k) (drop (k + 1) ns) axes (drop (used + 1) is) rs) (sym (first-drop is used))
+            ∙ ap (λ x. own ++ x ∷ woven (suc k) (drop (k + 1) ns) axes (drop (used + 1) is) rs) (sym (first_of_drop is used))
             ∙ ap (λ xs. own ++ get_or (drop used is) 0 0 ∷ woven (suc k) (drop (k + 1) ns) axes xs rs) (sym (drop-drop 1 used is))
             ∙ value);
       };
@@ -112,16 +111,13 @@ woven-in k (n ∷ ns) axes is rs h f =
     by_case true here rest g = (here refl, rest is g)
     by_case false here rest g = let p = begins-cons n (kept_shape (suc k) ns axes) is g in (p.0, rest (drop 1 is) p.1)
 
-pub equal-from : (m n : ℕ) → nat_eq m n ≡ true → m ≡ n
-equal-from m n h = grind arith
-
 -- an axis that is among a list has a place there
 pub among-contains : (axes : List ℕ) (a : ℕ) → is_among a axes ≡ true → Contains axes a
 among-contains [] a e = cc
 among-contains (x ∷ axes) a e = by_case (nat_eq a x) refl e (among-contains axes a)
   where
     by_case : (b : Bool) → nat_eq a x ≡ b → (b || is_among a axes) ≡ true → (is_among a axes ≡ true → Contains axes a) → Contains (x ∷ axes) a
-    by_case true same e rest = (0, omega arith, sym (equal-from a x same))
+    by_case true same e rest = (0, omega arith, sym (eqb-true a x same))
     by_case false same e rest = let c = rest e in (suc c.0, omega (arith, c.1), c.2)
 
 pub among-place : (axes : List ℕ) (a : ℕ) → is_among a axes ≡ true → position_or_len (nat_eq a) axes < length axes

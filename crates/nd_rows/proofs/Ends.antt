@@ -5,16 +5,13 @@ use Rattle.nd_shape.specs.Index.{IsIn, place, index_at}
 use Rattle.nd_shape.specs.Region.{moved}
 use Rattle.nd_shape.proofs.Places.{index_at-place, place-index_at, index_at-in, IsIn-length}
 use Rattle.nd_rows.specs.Storage.{column_place, last_index}
-
-pub elements-snoc : (ns : List ℕ) (n : ℕ) → elements (ns ++ n ∷ []) ≡ elements ns * n
-elements-snoc [] n = omega arith
-elements-snoc (m ∷ ns) n = rw (elements-snoc ns n) (omega arith)
+use Rattle.nd_shape.proofs.Elements.{elements-push}
 
 pub place-snoc : (ns is : List ℕ) (n i : ℕ) → length is ≡ length ns → place (ns ++ n ∷ []) (is ++ i ∷ []) ≡ place ns is * n + i
 place-snoc [] [] n i e = omega arith
 place-snoc [] (j ∷ is) n i e = absurd (omega arith)
 place-snoc (m ∷ ns) [] n i e = absurd (omega arith)
-place-snoc (m ∷ ns) (j ∷ is) n i e = rw (elements-snoc ns n, place-snoc ns is n i (omega arith)) (omega arith)
+place-snoc (m ∷ ns) (j ∷ is) n i e = rw (elements-push ns n, place-snoc ns is n i (omega arith)) (omega arith)
 
 pub moved-snoc : (ss is : List ℕ) (s i : ℕ) → length is ≡ length ss → moved (ss ++ s ∷ []) (is ++ i ∷ []) ≡ moved ss is ++ (s + i) ∷ []
 moved-snoc [] [] s i e = refl

@@ -3,10 +3,12 @@ use Rattle.std.proofs.Common.{◌≡◌, ℕ, zero, suc, ◌+◌, ◌-◌, ◌*�
 use Rattle.std.specs.Prelude.{reverse, Bool, true, false}
 use Rattle.std.proofs.lemmas.Nat.{div-add-mod', mod_below, div-mul-add, mod-mul-add}
 use Rattle.std.proofs.lemmas.List.{length-reverse, reverse-reverse}
+use Rattle.std.proofs.Math.Nat.{mul-le-mul_right}
+use Rattle.small_facts.proofs.Numbers.{product_left, below_product_right}
 use Rattle.nd_shape.specs.Shape.{elements}
 use Rattle.nd_shape.specs.Index.{IsIn, place, index_at}
 use Rattle.nd_shape.specs.Region.{Box, IsPart, moved}
-use Rattle.nd_shape.proofs.Places.{place-below, index_at-in, index_at-place, place-index_at, IsIn-length, elements-pos}
+use Rattle.nd_shape.proofs.Places.{place-below, index_at-in, index_at-place, place-index_at, IsIn-length}
 use Rattle.nd_rows.specs.Storage.{Walk, spot, count_of, walk_of, stored, place_by, column_place, last_index, target}
 use Rattle.nd_rows.proofs.Spots.{walk, moved-in}
 use Rattle.nd_rows.proofs.Ends.{length-moved}
@@ -29,13 +31,8 @@ tail_part s l d ss ls ds part =
 
 further : (s x y E a b : ℕ) → x < y → a < E → (s + x) * E + a < (s + y) * E + b
 further s x y E a b h h' =
-    let r : (s + x + 1) * E ≤ (s + y) * E = times (s + x + 1) (s + y) E (omega arith) in
+    let r : (s + x + 1) * E ≤ (s + y) * E = mul-le-mul_right E (omega arith) in
     omega (arith, r)
-  where
-    times : (m n c : ℕ) → m ≤ n → m * c ≤ n * c
-    times zero n c h = omega arith
-    times (suc m) zero c h = absurd (omega arith)
-    times (suc m) (suc n) c h = let k = times m n c (omega arith) in omega (arith, k)
 
 ascends : (dims start lengths : List ℕ) (q q' : ℕ) → IsPart (record { start = start; lengths = lengths }) dims → q < q' → q' < elements lengths →
     spot (walk dims start lengths) q < spot (walk dims start lengths) q'
@@ -46,7 +43,7 @@ ascends (d ∷ ds) [] (l ∷ ls) q q' part h b = let e : 0 ≡ length (d ∷ ds)
 ascends (d ∷ ds) (s ∷ ss) (l ∷ ls) q q' part h b =
     let e = elements ls in
     let rest = tail_part s l d ss ls ds part in
-    let p : 0 < e = elements-pos l e q' b in
+    let p : 0 < e = below_product_right l e q' b in
     let r : q % e < e = mod_below q e p in
     let r' : q' % e < e = mod_below q' e p in
     let i : q / e * e + q % e ≡ q = div-add-mod' q e in
@@ -71,8 +68,8 @@ last_at [] some (s ∷ ss) e = absurd (omega arith)
 last_at (l ∷ ls) some [] e = absurd (omega arith)
 last_at (l ∷ ls) some (s ∷ ss) e =
     let n = elements ls in
-    let p : 0 < n = elements-pos l n (l * n - 1) (omega arith) in
-    let m : 0 < l = left-positive l n some in
+    let p : 0 < n = below_product_right l n (l * n - 1) (omega arith) in
+    let m : 0 < l = product_left l n some in
     let x : l * n - 1 ≡ (l - 1) * n + (n - 1) = arranged l n m p in
     let b : n - 1 < n = omega arith in
     let q : (l * n - 1) / n ≡ l - 1 = ap (λ y. y / n) x ∙ div-mul-add (l - 1) n (n - 1) b in
@@ -80,10 +77,6 @@ last_at (l ∷ ls) some (s ∷ ss) e =
     let t : s + (l - 1) ≡ s + l - 1 = omega arith in
     ap₂ (λ a c. (s + a) ∷ moved ss (index_at ls c)) q r ∙ ap₂ (λ a c. a ∷ c) t (last_at ls p ss (omega arith))
   where
-    left-positive : (m n : ℕ) → 0 < m * n → 0 < m
-    left-positive zero n h = absurd (omega arith)
-    left-positive (suc m) n h = omega arith
-
     arranged : (l n : ℕ) → 0 < l → 0 < n → l * n - 1 ≡ (l - 1) * n + (n - 1)
     arranged zero n h h' = absurd (omega arith)
     arranged (suc l) n h h' = let e : suc l - 1 ≡ l = omega arith in rw e (omega arith)

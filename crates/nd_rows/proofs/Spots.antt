@@ -3,12 +3,16 @@ use Rattle.std.proofs.Common.{◌≡◌, ◌≢◌, ℕ, zero, suc, ◌+◌, ◌
 use Rattle.std.proofs.lemmas.Nat.{div-add-mod', div_below, mod_below}
 use Rattle.std.proofs.lemmas.List.{take_more, take_more_set, take_all, drop_more, drop-set-lt, length-take-le}
 use Rattle.std.proofs.Common.{append_assoc}
+use Rattle.std.proofs.Math.Nat.{mul-pos}
+use Rattle.small_facts.proofs.Numbers.{product_left, factor_within, below_product_right}
 use Rattle.nd_shape.specs.Shape.{elements, IsShape}
 use Rattle.nd_shape.specs.Index.{IsIn, place, index_at}
 use Rattle.nd_shape.specs.Region.{Box, IsPart, moved}
 use Rattle.nd_shape.proofs.Places.{index_at-in, IsIn-length, elements-zero}
 use Rattle.nd_rows.specs.Storage.{Walk, IsRow, spot, count_of}
-use Rattle.nd_rows.proofs.Ends.{elements-snoc, place-snoc, moved-snoc, index_at-snoc, length-moved}
+use Rattle.nd_rows.proofs.Ends.{place-snoc, moved-snoc, index_at-snoc, length-moved}
+use Rattle.nd_shape.proofs.Axes.{IsIn-at}
+use Rattle.nd_shape.proofs.Elements.{elements-push}
 
 abbrev pub walk : List ℕ → List ℕ → List ℕ → Walk
 walk dims start lengths = record { dims = dims; region = record { start = start; lengths = lengths } }
@@ -35,9 +39,9 @@ row_full : (D S L : List ℕ) (d row : ℕ) → length S ≡ length D → length
 row_full D S L d row sl ll some h =
     let w : elements L ≡ h.rows * row = h.whole in
     record {
-      some = product-positive row d h.some some;
+      some = mul-pos h.some some;
       rows = h.rows;
-      whole = elements-snoc L d ∙ ap (λ x. x * d) w ∙ omega arith;
+      whole = elements-push L d ∙ ap (λ x. x * d) w ∙ omega arith;
       together = λ k r k_in r_in.
           let rd : r / d < row = div_below r d row some r_in in
           let rm : r % d < d = mod_below r d some in
@@ -53,7 +57,7 @@ row_full D S L d row sl ll some h =
           ap f x ∙ a ∙ ap (λ v. v * d + (0 + r % d)) e ∙ spread (spot (walk D S L) (k * row)) (r / d) d (r % d) r re ∙ ap (λ v. v + r) (sym b ∙ ap f (sym y));
       longest = λ inside same.
           let f = spot (walk (D ++ d ∷ []) (S ++ 0 ∷ []) (L ++ d ∷ [])) in
-          let few : row * d < elements L * d = subst (λ x. row * d < x) (elements-snoc L d) inside in
+          let few : row * d < elements L * d = subst (λ x. row * d < x) (elements-push L d) inside in
           let row_in : row < elements L = fewer row (elements L) d few in
           let a : f (row * d + 0) ≡ spot (walk D S L) row * d + (0 + 0) = spot-snoc D S L d 0 d row 0 sl ll row_in some in
           let b : f (0 * d + 0) ≡ spot (walk D S L) 0 * d + (0 + 0) = spot-snoc D S L d 0 d 0 0 sl ll (omega arith) some in
@@ -82,10 +86,6 @@ row_full D S L d row sl ll some h =
     one_factor : (a b r d : ℕ) → 0 < d → a * d + (0 + 0) ≡ b * d + (0 + 0) + r * d → a ≡ b + r
     one_factor a b r d p e = let s = sum_factor b r d in cancelled a (b + r) d p (omega (arith, e, s))
 
-    product-positive : (m n : ℕ) → 0 < m → 0 < n → 0 < m * n
-    product-positive zero n h p = absurd (omega arith)
-    product-positive (suc m) n h p = omega arith
-
     spread : (v q d t r : ℕ) → q * d + t ≡ r → (v + q) * d + (0 + t) ≡ v * d + (0 + 0) + r
     spread v q d t r e = omega (arith, e)
 
@@ -95,7 +95,7 @@ row_other : (D S L : List ℕ) (d s l : ℕ) → length S ≡ length D → lengt
 row_other D S L d s l sl ll some part = record {
   some = some;
   rows = elements L;
-  whole = elements-snoc L l;
+  whole = elements-push L l;
   together = λ k r k_in r_in.
       let f = spot (walk (D ++ d ∷ []) (S ++ s ∷ []) (L ++ l ∷ [])) in
       let a = spot-snoc D S L d s l k r sl ll k_in r_in in
@@ -104,7 +104,7 @@ row_other D S L d s l sl ll some part = record {
       a ∙ arranged (spot (walk D S L) k * d) s r ∙ ap (λ v. v + r) (sym b ∙ ap f (sym y));
   longest = λ inside same.
       let f = spot (walk (D ++ d ∷ []) (S ++ s ∷ []) (L ++ l ∷ [])) in
-      let few : l < elements L * l = subst (λ x. l < x) (elements-snoc L l) inside in
+      let few : l < elements L * l = subst (λ x. l < x) (elements-push L l) inside in
       let more : 1 < elements L = several (elements L) l few in
       let a : f (1 * l + 0) ≡ spot (walk D S L) 1 * d + (s + 0) = spot-snoc D S L d s l 1 0 sl ll more some in
       let b : f (0 * l + 0) ≡ spot (walk D S L) 0 * d + (s + 0) = spot-snoc D S L d s l 0 0 sl ll (omega (arith, more)) some in
@@ -140,13 +140,9 @@ pub elements-take : (ns : List ℕ) (k : ℕ) → 0 < elements ns → elements (
 elements-take ns zero some = omega arith
 elements-take [] (suc k) some = omega arith
 elements-take (n ∷ ns) (suc k) some =
-    let p : 0 < elements ns = right-positive n (elements ns) some in
+    let p : 0 < elements ns = below_product_right n (elements ns) 0 some in
     times n (elements (take k ns)) (elements ns) (elements-take ns k p)
   where
-    right-positive : (m n : ℕ) → 0 < m * n → 0 < n
-    right-positive m zero h = absurd (omega arith)
-    right-positive m (suc n) h = omega arith
-
     times : (n a b : ℕ) → a ≤ b → n * a ≤ n * b
     times zero a b h = omega arith
     times (suc n) a b h = let r = times n a b h in omega (arith, r)
@@ -182,20 +178,9 @@ new_row D S L k part h some other =
     rw (take_more D k 0 h, take_more S k 0 k_start, take_more L k 0 k_lengths) r
 
 pub row_fits : (w : Walk) (row : ℕ) → 0 < count_of w → IsRow w row → row ≤ count_of w
-row_fits w row some h = let e : count_of w ≡ h.rows * row = h.whole in subst (λ x. row ≤ x) (sym e) (below h.rows row (subst (λ x. 0 < x) e some))
-  where
-    below : (a b : ℕ) → 0 < a * b → b ≤ a * b
-    below zero b p = absurd (omega arith)
-    below (suc a) b p = omega arith
+row_fits w row some h = let e : count_of w ≡ h.rows * row = h.whole in subst (λ x. row ≤ x) (sym e) (factor_within h.rows row (subst (λ x. 0 < x) e some))
 
 -- ---- bounds
-
-pub IsIn-at : (ns is : List ℕ) (k : ℕ) → IsIn ns is → k < length ns → get_or is k 0 < get_or ns k 0
-IsIn-at [] [] k h b = absurd (omega arith)
-IsIn-at [] (i ∷ is) k h b = absurd h
-IsIn-at (n ∷ ns) [] k h b = absurd h
-IsIn-at (n ∷ ns) (i ∷ is) zero h b = h.0
-IsIn-at (n ∷ ns) (i ∷ is) (suc k) h b = IsIn-at ns is k h.1 (omega arith)
 
 pub moved_small : (box : Box) (dims is : List ℕ) → IsPart box dims → IsShape dims → IsIn box.lengths is → (k : ℕ) → k < length box.start → get_or box.start k 0 + get_or is k 0 < 2 ^ 64
 moved_small box dims is part shape inside k h =
@@ -247,16 +232,8 @@ longer_fits D S L k row part h some full is_row =
     positive_take : (ns : List ℕ) (k : ℕ) → 0 < elements ns → 0 < elements (take k ns)
     positive_take ns zero some = omega arith
     positive_take [] (suc k) some = omega arith
-    positive_take (n ∷ ns) (suc k) some = times n (elements (take k ns)) (left n (elements ns) some) (positive_take ns k (right n (elements ns) some))
+    positive_take (n ∷ ns) (suc k) some = times n (elements (take k ns)) (product_left n (elements ns) some) (positive_take ns k (below_product_right n (elements ns) 0 some))
       where
-        left : (m n : ℕ) → 0 < m * n → 0 < m
-        left zero n h = absurd (omega arith)
-        left (suc m) n h = omega arith
-
-        right : (m n : ℕ) → 0 < m * n → 0 < n
-        right m zero h = absurd (omega arith)
-        right m (suc n) h = omega arith
-
         times : (m n : ℕ) → 0 < m → 0 < n → 0 < m * n
         times zero n h p = absurd (omega arith)
         times (suc m) n h p = omega arith

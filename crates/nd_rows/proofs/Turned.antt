@@ -6,14 +6,15 @@ use Rattle.nd_shape.specs.Shape.{elements, IsShape}
 use Rattle.nd_shape.specs.Index.{IsIn, place}
 use Rattle.nd_shape.specs.Region.{IsPart, moved}
 use Rattle.nd_rows.specs.Storage.{column_place, last_index}
-use Rattle.nd_rows.proofs.Ends.{elements-snoc, place-snoc, moved-snoc, IsIn-snoc, last_index-snoc}
+use Rattle.nd_rows.proofs.Ends.{place-snoc, moved-snoc, IsIn-snoc, last_index-snoc}
+use Rattle.nd_shape.proofs.Elements.{elements-push}
 
 pub reverse-cons : (x : ℕ) (xs : List ℕ) → reverse (x ∷ xs) ≡ reverse xs ++ x ∷ []
 reverse-cons x xs = reverse-append (x ∷ []) xs
 
 pub elements-reverse : (ns : List ℕ) → elements (reverse ns) ≡ elements ns
 elements-reverse [] = refl
-elements-reverse (n ∷ ns) = ap elements (reverse-cons n ns) ∙ elements-snoc (reverse ns) n ∙ ap (λ x. x * n) (elements-reverse ns) ∙ omega arith
+elements-reverse (n ∷ ns) = ap elements (reverse-cons n ns) ∙ elements-push (reverse ns) n ∙ ap (λ x. x * n) (elements-reverse ns) ∙ omega arith
 
 pub place-reverse : (ns is : List ℕ) → length is ≡ length ns → place (reverse ns) (reverse is) ≡ column_place ns is
 place-reverse [] [] e = refl

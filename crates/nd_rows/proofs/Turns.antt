@@ -3,13 +3,16 @@ use Rattle.std.proofs.Common.{◌≡◌, ℕ, ℤ, pos, zero, suc, ◌+◌, ◌-
 use Rattle.std.specs.Prelude.{reverse}
 use Rattle.std.proofs.lemmas.Nat.{div-mul-add}
 use Rattle.std.proofs.lemmas.List.{take_more, take_all, length-take-le, get_or-take, get_or_append_left, get_or-append_right}
+use Rattle.std.proofs.Math.Nat.{mul-le-mul_right}
+use Rattle.small_facts.proofs.Numbers.{below_product_right}
 use Rattle.nd_shape.specs.Shape.{elements}
 use Rattle.nd_shape.specs.Index.{IsIn, index_at}
 use Rattle.nd_shape.proofs.Places.{index_at-in, IsIn-length, place-below}
 use Rattle.nd_rows.specs.Storage.{column_place, from_column}
-use Rattle.nd_rows.proofs.Ends.{elements-snoc, index_at-snoc, column_place-snoc}
+use Rattle.nd_rows.proofs.Ends.{index_at-snoc, column_place-snoc}
 use Rattle.nd_rows.proofs.Turned.{place-reverse, elements-reverse, IsIn-reverse}
 use borrow.Rule.Slice.PartMut.{put_mid, post_of}
+use Rattle.nd_shape.proofs.Elements.{elements-push}
 
 pub column_place-below : (ns is : List ℕ) → IsIn ns is → column_place ns is < elements ns
 column_place-below ns is h =
@@ -25,7 +28,7 @@ pub record HasRows (dims : List ℕ) (row_len rows : ℕ) : Type 0 where
 rows-snoc : (front : List ℕ) (m : ℕ) → 0 < m → HasRows (front ++ m ∷ []) m (elements front)
 rows-snoc front m some = record {
   some = some;
-  exact = elements-snoc front m;
+  exact = elements-push front m;
   apart = λ r j r_in j_in.
       let inside : IsIn front (index_at front r) = index_at-in front r r_in in
       let n : length (index_at front r) ≡ length front = IsIn-length front (index_at front r) inside in
@@ -50,23 +53,14 @@ rows_of (n ∷ ns) row_len rows is_len some is_rows =
     let inside : length ns < length (n ∷ ns) = omega arith in
     let parts : n ∷ ns ≡ front ++ last ∷ [] = sym (take_all (length ns + 1) (n ∷ ns) (omega arith)) ∙ take_more (n ∷ ns) (length ns) 1 inside in
     let l : row_len ≡ last = is_len ∙ ap (λ k. get_or (n ∷ ns) k 1) (omega arith) in
-    let e : elements (n ∷ ns) ≡ elements front * last = ap elements parts ∙ elements-snoc front last in
-    let p : 0 < last = right-positive (elements front) last (subst (λ x. 0 < x) e some) in
+    let e : elements (n ∷ ns) ≡ elements front * last = ap elements parts ∙ elements-push front last in
+    let p : 0 < last = below_product_right (elements front) last 0 (subst (λ x. 0 < x) e some) in
     let c : elements front * last ≡ elements front * last + 0 = omega arith in
     let q : rows ≡ elements front = is_rows ∙ ap₂ (λ x y. x / y) (e ∙ c) l ∙ div-mul-add (elements front) last 0 p in
     rw (q, l) (subst (λ d. HasRows d last (elements front)) (sym parts) (rows-snoc front last p))
-  where
-    right-positive : (m n : ℕ) → 0 < m * n → 0 < n
-    right-positive m zero h = absurd (omega arith)
-    right-positive m (suc n) h = omega arith
 
 pub row_ends : (rows row_len r : ℕ) → r < rows → (r + 1) * row_len ≤ rows * row_len
-row_ends rows row_len r h = times (r + 1) rows row_len (omega arith)
-  where
-    times : (a b c : ℕ) → a ≤ b → a * c ≤ b * c
-    times zero b c h = omega arith
-    times (suc a) zero c h = absurd (omega arith)
-    times (suc a) (suc b) c h = let k = times a b c (omega arith) in omega (arith, k)
+row_ends rows row_len r h = mul-le-mul_right row_len (omega arith)
 
 pub gathered_inside : (dims : List ℕ) (row_len rows r at k : ℕ) → HasRows dims row_len rows → r < rows → at ≡ column_place dims (index_at dims (r * row_len)) → k < row_len → at + k * rows < elements dims
 gathered_inside dims row_len rows r at k h r_in is_at k_in =

@@ -4,7 +4,7 @@ use Rattle.std.proofs.lemmas.List.{take_more}
 use Rattle.std.proofs.lemmas.Bool.{cases_lt}
 use Rattle.nd_shape.specs.Shape.{elements}
 
-elements-push : (xs : List ℕ) (x : ℕ) → elements (xs ++ x ∷ []) ≡ elements xs * x
+pub elements-push : (xs : List ℕ) (x : ℕ) → elements (xs ++ x ∷ []) ≡ elements xs * x
 elements-push [] x = omega arith
 elements-push (n ∷ xs) x = ap (λ k. n * k) (elements-push xs x) ∙ omega arith
 
@@ -12,7 +12,7 @@ times-ge : (m p k : ℕ) → 1 ≤ k → m ≤ p → m ≤ p * k
 times-ge m p zero h b = absurd (omega arith)
 times-ge m p (suc k) h b = omega arith
 
-both_held : (m p q : ℕ) → m ≤ p → m ≤ q → min p m ≡ min q m
+pub both_held : (m p q : ℕ) → m ≤ p → m ≤ q → min p m ≡ min q m
 both_held m p q h b = omega arith
 
 -- the right factor is held

@@ -1,9 +1,9 @@
 -- `place` and `index_at` are inverse on a shape.
-use Rattle.std.proofs.Common.{◌≡◌, ℕ, zero, suc, ◌+◌, ◌*◌, ◌/◌, ◌%◌, ◌<◌, ◌≤◌, ◌^◌, List, [], ◌∷◌, ◌≢◌, true, false, length, drop, take, set, get_or, ◌++◌, append_assoc, refl, ap, sym, ◌∙◌, arith}
+use Rattle.std.proofs.Common.{◌≡◌, ℕ, zero, suc, ◌+◌, ◌*◌, ◌/◌, ◌%◌, ◌<◌, ◌≤◌, ◌^◌, List, [], ◌∷◌, ◌≢◌, length, drop, take, set, get_or, ◌++◌, append_assoc, refl, ap, sym, ◌∙◌, arith}
 use Rattle.std.proofs.lemmas.Nat.{mul-add-lt, div-mul-add, mod-mul-add, div-add-mod', div_below, mod_below}
 use Rattle.std.proofs.Math.Nat.{mul_comm}
 use Rattle.std.proofs.lemmas.List.{drop_more, take_more_set}
-use Rattle.std.specs.Prelude.{eqb}
+use Rattle.small_facts.proofs.Numbers.{below_product_right}
 use Rattle.nd_shape.specs.Shape.{elements}
 use Rattle.nd_shape.specs.Index.{IsIn, place, index_at}
 
@@ -21,21 +21,16 @@ index_at-place (n ∷ ns) (i ∷ is) h =
     rw (div-mul-add i (elements ns) (place ns is) (place-below ns is h.1), mod-mul-add i (elements ns) (place ns is) (place-below ns is h.1))
     (ap (λ ks. i ∷ ks) (index_at-place ns is h.1))
 
--- where there is a place, no length is 0
-pub elements-pos : (n s p : ℕ) → p < n * s → 0 < s
-elements-pos n zero p h = absurd (omega arith)
-elements-pos n (suc s) p h = omega arith
-
 pub place-index_at : (ns : List ℕ) (p : ℕ) → p < elements ns → place ns (index_at ns p) ≡ p
 place-index_at [] p h = omega arith
 place-index_at (n ∷ ns) p h =
-    ap (λ k. p / elements ns * elements ns + k) (place-index_at ns (p % elements ns) (mod_below p (elements ns) (elements-pos n (elements ns) p h)))
+    ap (λ k. p / elements ns * elements ns + k) (place-index_at ns (p % elements ns) (mod_below p (elements ns) (below_product_right n (elements ns) p h)))
     ∙ div-add-mod' p (elements ns)
 
 pub index_at-in : (ns : List ℕ) (p : ℕ) → p < elements ns → IsIn ns (index_at ns p)
 index_at-in [] p h = tt
 index_at-in (n ∷ ns) p h =
-    (div_below p (elements ns) n (elements-pos n (elements ns) p h) h, index_at-in ns (p % elements ns) (mod_below p (elements ns) (elements-pos n (elements ns) p h)))
+    (div_below p (elements ns) n (below_product_right n (elements ns) p h) h, index_at-in ns (p % elements ns) (mod_below p (elements ns) (below_product_right n (elements ns) p h)))
 
 -- ---- along the axes, for loops
 
@@ -114,7 +109,7 @@ unfolded ns ix res k left row h hx r b e =
     let rs : row ≡ s * n + 0 = omega (arith, ap elements dn) in
     let bs : left < n * s = omega arith in
     let np : 0 < n = factor-pos n s left bs in
-    let sp : 0 < s = elements-pos n s left bs in
+    let sp : 0 < s = below_product_right n s left bs in
     let q : row / n ≡ s = ap (λ x. x / n) rs ∙ div-mul-add s n 0 np in
     let e1 : take k ix ++ (left / s ∷ index_at (drop (k + 1) ns) (left % s)) ≡ res = ap (λ xs. take k ix ++ index_at xs left) (sym dn) ∙ e in
     record {
@@ -139,21 +134,11 @@ elements-positive (n ∷ ns) h =
     product-positive zero n h p = absurd (h refl)
     product-positive (suc m) n h p = omega arith
 
-pub test-zero : (n : ℕ) → eqb n 0 ≡ true → n ≡ 0
-test-zero n h = grind arith
-
-pub test-nonzero : (n : ℕ) → eqb n 0 ≡ false → n ≢ 0
-test-nonzero n h = grind arith
-
 -- a running product stays small
 pub product-fits : (ns : List ℕ) (k a : ℕ) → elements ns ≤ 2 ^ 31 → 0 < elements ns → k < length ns → a * elements (drop k ns) ≡ elements ns → a * get_or ns k 0 ≤ 2 ^ 31
 product-fits ns k a small p h e =
     let d : elements (drop k ns) ≡ get_or ns k 0 * elements (drop (k + 1) ns) = ap elements (drop_more ns k 0 h) in
     let e1 : a * (get_or ns k 0 * elements (drop (k + 1) ns)) ≡ elements ns = rw d at e in
     let e2 : (a * get_or ns k 0) * elements (drop (k + 1) ns) + 0 ≡ elements ns = omega (arith, e1) in
-    let s : 0 < elements (drop (k + 1) ns) = right-positive (a * get_or ns k 0) (elements (drop (k + 1) ns)) (omega arith) in
+    let s : 0 < elements (drop (k + 1) ns) = below_product_right (a * get_or ns k 0) (elements (drop (k + 1) ns)) 0 (omega arith) in
     omega (arith, along-bound (a * get_or ns k 0) (elements (drop (k + 1) ns)) 0 (elements ns) s e2)
-  where
-    right-positive : (m n : ℕ) → 0 < m * n → 0 < n
-    right-positive m zero h = absurd (omega arith)
-    right-positive m (suc n) h = omega arith

@@ -1,8 +1,8 @@
 -- Sums of sizes, and even chunks.
-use Rattle.std.proofs.Common.{◌≡◌, ◌≢◌, ℕ, zero, suc, ◌+◌, ◌*◌, ◌/◌, ◌%◌, ◌<◌, ◌≤◌, ◌^◌, min, cond, Bool, true, false, List, [], ◌∷◌, ◌++◌, length, get_or, take, replicate, append-nil, refl, ap, sym, ◌∙◌, arith, inl, inr}
+use Rattle.std.proofs.Common.{◌≡◌, ◌≢◌, ℕ, zero, suc, ◌+◌, ◌*◌, ◌/◌, ◌%◌, ◌<◌, ◌≤◌, ◌^◌, min, cond, Bool, true, List, [], ◌∷◌, ◌++◌, length, get_or, take, replicate, append-nil, refl, ap, sym, ◌∙◌, arith, inl, inr}
 use Rattle.std.specs.Prelude.{nat_eq}
 use Rattle.std.proofs.lemmas.List.{take_more}
-use Rattle.std.proofs.lemmas.Bool.{cases_lt}
+use Rattle.std.proofs.lemmas.Bool.{cases_lt, ne_eqb}
 use Rattle.std.proofs.lemmas.Nat.{div-mul-add, div-add-mod'}
 use Rattle.nd_shape.specs.declared.chunk.ChunkSpec.{ChunkSpec}
 use Rattle.nd_shape.specs.declared.chunk.ChunkSpec.TheVariants.{Even, List as Listed}
@@ -50,21 +50,18 @@ exit_whole len size whole items h cut hw hi z =
 pub exit_rest : (len size whole : ℕ) (items : List ℕ) → len ≢ 0 → CanCut len (Even size) → whole ≡ min size len → items ≡ replicate (len / size) whole → len % size ≢ 0 → items ++ len % size ∷ [] ≡ chunks_of len (Even size)
 exit_rest len size whole items h cut hw hi z =
     ap (λ xs. xs ++ len % size ∷ []) (hi ∙ ap (replicate (len / size)) hw ∙ whole_chunks len size (can_cut-even len size h cut))
-    ∙ ap (λ b. replicate (len / size) size ++ cond b [] (len % size ∷ [])) (sym (isnt-zero (len % size) z)) ∙ sym (chunks_of-even len size h)
-  where
-    isnt-zero : (n : ℕ) → n ≢ 0 → nat_eq n 0 ≡ false
-    isnt-zero n e = grind arith
+    ∙ ap (λ b. replicate (len / size) size ++ cond b [] (len % size ∷ [])) (sym (ne_eqb (len % size) 0 z)) ∙ sym (chunks_of-even len size h)
 
 -- the sizes make up the length
-total-append : (xs ys : List ℕ) → total (xs ++ ys) ≡ total xs + total ys
+pub total-append : (xs ys : List ℕ) → total (xs ++ ys) ≡ total xs + total ys
 total-append [] ys = omega arith
 total-append (x ∷ xs) ys = ap (λ k. x + k) (total-append xs ys) ∙ omega arith
 
-total-replicate : (n x : ℕ) → total (replicate n x) ≡ n * x
+pub total-replicate : (n x : ℕ) → total (replicate n x) ≡ n * x
 total-replicate zero x = omega arith
 total-replicate (suc n) x = ap (λ k. x + k) (total-replicate n x) ∙ omega arith
 
-rest-total : (n : ℕ) → total (cond (nat_eq n 0) [] (n ∷ [])) ≡ n
+pub rest-total : (n : ℕ) → total (cond (nat_eq n 0) [] (n ∷ [])) ≡ n
 rest-total zero = refl
 rest-total (suc n) = grind arith
 

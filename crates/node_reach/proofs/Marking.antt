@@ -1,13 +1,15 @@
 -- Marks, one after another.
-use Rattle.std.proofs.Common.{◌≡◌, ◌≢◌, ℕ, zero, suc, ◌+◌, ◌-◌, ◌<◌, ◌≤◌, List, [], ◌∷◌, length, get_or, set, take, refl, ap, sym, ◌∙◌, subst, inl, inr, arith, Option, Some, None, Bool, true, false, eqb}
+use Rattle.std.proofs.Common.{◌≡◌, ◌≢◌, ℕ, zero, suc, ◌+◌, ◌-◌, ◌<◌, ◌≤◌, List, length, get_or, set, take, refl, ap, sym, ◌∙◌, subst, inl, inr, arith, Option, Some, None, Bool, true, false, eqb}
 use Rattle.std.specs.Prelude.{◌||◌, ◌&&◌, ◌⊎◌, slice_get, All, Any, replicate}
 use Rattle.std.specs.List.{list_any}
-use Rattle.std.proofs.Math.Bool.{or-false, or-true}
+use Rattle.std.proofs.Math.Bool.{or-false, or-true, or_assoc}
 use Rattle.std.proofs.lemmas.Bool.{eqb-true, eq-eqb, or_cases, cases_order, false≢true}
 use Rattle.std.proofs.lemmas.Bool.Decides.{eqb_tells}
 use Rattle.std.proofs.lemmas.List.{get_or-set_other}
 use Rattle.std.proofs.lemmas.Grind.{get_or-set_at, get_or_default_zero}
 use Rattle.std.proofs.lemmas.List.Folds.{Any-from_list_any, list_any_at}
+use Rattle.std.proofs.lemmas.Option.{slice_get_within}
+use Rattle.small_facts.proofs.Truth.{and_first, and_second}
 use Rattle.array_expr.specs.declared.expr.Node.{Node}
 use Rattle.array_expr.specs.declared.op.Op.{Op}
 use Rattle.array_expr.specs.declared.op.Op.TheVariants.{Input, Full, Ramp, Negate, Elementwise, Where, Slice, Transpose, Rechunk, Concatenate, Reduce, Tensordot}
@@ -32,14 +34,10 @@ marks-one marks new n at is_at is_new count h = record {
 pub marks-none : (named : ℕ → Bool) (marks : List Bool) → ((k : ℕ) → named k ≡ false) → Marks named marks marks
 marks-none named marks none = record { count = refl; each = λ k. sym (ap (λ b. marked marks k || b) (none k) ∙ or-false (marked marks k)) }
 
-or-or : (a b c : Bool) → ((a || b) || c) ≡ (a || (b || c))
-or-or true b c = refl
-or-or false b c = refl
-
 pub marks-two : (a b : ℕ → Bool) (old mid new : List Bool) → Marks a old mid → Marks b mid new → Marks (λ k. a k || b k) old new
 marks-two a b old mid new first second = record {
   count = second.count ∙ first.count;
-  each = λ k. second.each k ∙ (ap (λ x. x || b k) (first.each k) ∙ or-or (marked old k) (a k) (b k));
+  each = λ k. second.each k ∙ (ap (λ x. x || b k) (first.each k) ∙ or_assoc (marked old k) (a k) (b k));
 }
 
 pub marks-same : (a b : ℕ → Bool) (old new : List Bool) → ((k : ℕ) → a k ≡ b k) → Marks a old new → Marks b old new
@@ -92,14 +90,6 @@ names-more (Tensordot left right left_axes right_axes) a b h names = (omega (ari
 
 -- ## One node's operands
 
-and-left : (a b : Bool) → (a && b) ≡ true → a ≡ true
-and-left true b e = refl
-and-left false b e = e
-
-and-right : (a b : Bool) → (a && b) ≡ true → b ≡ true
-and-right true b e = e
-and-right false b e = absurd (false≢true e)
-
 some-same : (a b : Node) → ◌≡◌ {A = Option Node} (Some a) (Some b) → a ≡ b
 some-same a b e = ap (value a) e
   where
@@ -116,13 +106,13 @@ operands-step nodes j node old new at names m has n k other from is in_new opera
   | inl same ↦
       let is_node : node ≡ other = some-same node other (sym at ∙ (ap (slice_get nodes) same ∙ is)) in
       let in_j : marked new j ≡ true = ap (marked new) same ∙ in_new in
-      let was : marked old j ≡ true = elim (or_cases (marked old j) (marked old j && is_operand node.op j) (sym (m.each j) ∙ in_j)) [ inl e ↦ e | inr e ↦ and-left (marked old j) (is_operand node.op j) e ] in
+      let was : marked old j ≡ true = elim (or_cases (marked old j) (marked old j && is_operand node.op j) (sym (m.each j) ∙ in_j)) [ inl e ↦ e | inr e ↦ and_first (marked old j) (is_operand node.op j) e ] in
       let named : is_operand node.op k ≡ true = ap (λ (x : Node). is_operand x.op k) is_node ∙ operand in
       m.each k ∙ (ap (λ b. marked old k || (b && is_operand node.op k)) was ∙ (ap (λ b. marked old k || b) named ∙ or-true (marked old k)))
   | inr either ↦ elim either [
     | inl below ↦ elim (or_cases (marked old n) (marked old j && is_operand node.op n) (sym (m.each n) ∙ in_new)) [
       | inl e ↦ mark-kept (λ i. marked old j && is_operand node.op i) old new k m (has n k other (omega (arith, below)) is e operand)
-      | inr e ↦ absurd (omega (arith, below, operand-below node.op j n names (and-right (marked old j) (is_operand node.op n) e)))
+      | inr e ↦ absurd (omega (arith, below, operand-below node.op j n names (and_second (marked old j) (is_operand node.op n) e)))
     ]
     | inr above ↦ absurd (omega (arith, above, from))
   ]
@@ -135,7 +125,7 @@ grows-step nodes j node first old new at m grows = record {
   grown = λ k e. mark-kept (λ i. marked old j && is_operand node.op i) old new k m (grows.grown k e);
   least = λ set has in_set k e. elim (or_cases (marked old k) (marked old j && is_operand node.op k) (sym (m.each k) ∙ e)) [
     | inl was ↦ grows.least set has in_set k was
-    | inr both ↦ has j k node (omega arith) at (grows.least set has in_set j (and-left (marked old j) (is_operand node.op k) both)) (and-right (marked old j) (is_operand node.op k) both)
+    | inr both ↦ has j k node (omega arith) at (grows.least set has in_set j (and_first (marked old j) (is_operand node.op k) both)) (and_second (marked old j) (is_operand node.op k) both)
   ];
 }
 
@@ -144,12 +134,7 @@ grows-none nodes marks = record { count = refl; grown = λ k e. e; least = λ se
 
 -- behind the last node there is nothing
 pub operands-none : (nodes : List Node) (from : ℕ) (set : ℕ → Bool) → length nodes ≤ from → HasOperands nodes from set
-operands-none nodes from set h n k node le is in_set operand = absurd (omega (arith, h, le, some-within nodes n node is))
-  where
-    some-within : (xs : List Node) (i : ℕ) (x : Node) → slice_get xs i ≡ Some x → i < length xs
-    some-within [] i x e = cc
-    some-within (y ∷ xs) zero x e = omega arith
-    some-within (y ∷ xs) (suc i) x e = omega (arith, some-within xs i x e)
+operands-none nodes from set h n k node le is in_set operand = absurd (omega (arith, h, le, slice_get_within nodes n node is))
 
 -- ## The roots and all that they reach
 

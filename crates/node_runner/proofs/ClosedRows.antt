@@ -1,6 +1,7 @@
 -- What is known of closed cells, of which it is known with which states they were made.
 use Rattle.std.proofs.Common.{◌≡◌, ◌∙◌, ℕ, ◌+◌, ◌<◌, Bool, false, List, [], ◌∷◌, length, get_or, sym, ap, subst, arith}
-use Rattle.std.specs.Prelude.{Option, Some}
+use Rattle.std.specs.Prelude.{Option}
+use Rattle.std.proofs.lemmas.Option.{same_Some}
 use Rattle.atomic_table.specs.Seated.{TableId}
 use Rattle.cluster_msgs.specs.Labels.{LabelFacts}
 use Rattle.cluster_msgs.specs.Shape.{Shape}
@@ -19,9 +20,6 @@ use Rattle.node_runner.specs.Making.{AreMade, HasClosed}
 use Rattle.node_runner.specs.Runs.{IsFirstScheduler, IsFirstWorker, IsFirstClient, IsSchedulersBook, IsWorkersBook, IsClientsBook, SchedSteps, WorkerSteps, ClientSteps, course_of, setting_of}
 use Rattle.node_runner.proofs.NodeHistories.{sched_replays, worker_replays, client_replays}
 
-some_same : {A : Type 0} (a b : A) → Some a ≡ Some b → a ≡ b
-some_same a b e = cc
-
 pub has_closed : {S C : Type 0} (entries : S → List Entry) (core : S → C) (cut : S → Bool) (steps : C → Entry → C → Type 0) (fits : S → Type 0)
     (P : ℕ → S → Type 0) (count : ℕ) (berths : List (TableId × Option S)) (states : List S) → AreClosed entries core cut steps fits berths states → AreMade P count berths
     → (k : ℕ) (x : S) → k < length states → HasClosed entries core cut steps fits (P k) (get_or states k x)
@@ -30,7 +28,7 @@ has_closed entries core cut steps fits P count (b ∷ bs) states closed made k x
     let here = closed.each.at.each k b x less in
     let short : k < length (b ∷ bs) = omega (arith, closed.each.long) in
     let first = made.each k b short in
-    let same : here.0.from ≡ first.0 = some_same here.0.from first.0 (sym here.0.from_is ∙ first.1) in
+    let same : here.0.from ≡ first.0 = same_Some here.0.from first.0 (sym here.0.from_is ∙ first.1) in
     record {
       first = first.0;
       began = first.2;

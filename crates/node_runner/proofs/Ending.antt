@@ -1,7 +1,7 @@
 -- What the closed nodes tell of a run.
-use Rattle.std.proofs.Common.{◌≡◌, ◌∙◌, ◌⊎◌, ℕ, zero, suc, ◌+◌, ◌<◌, Bool, true, false, List, [], ◌∷◌, map, length, get_or, refl, sym, ap, subst, inl, inr, ⊎_elim, arith}
+use Rattle.std.proofs.Common.{◌≡◌, ◌∙◌, ◌⊎◌, ℕ, ◌+◌, ◌<◌, Bool, true, false, List, [], ◌∷◌, map, length, get_or, sym, ap, subst, inl, inr, ⊎_elim, arith}
 use Rattle.std.specs.Prelude.{Option, Some, None, IfOk, IfSome, is_some, Result, Ok, Err, Contains}
-use Rattle.std.proofs.lemmas.List.{length-map}
+use Rattle.std.proofs.lemmas.List.{length-map, get_or-map}
 use Rattle.cluster_msgs.specs.Labels.{LabelFacts, BlameFits}
 use Rattle.cluster_msgs.specs.Shape.{Shape}
 use Rattle.cluster_msgs.specs.declared.events.Entry.{Entry}
@@ -32,11 +32,6 @@ history_is view steps first b h book taken = record {
   ascending = subst Ascending (sym taken.entries) book.ascending;
 }
 
-mapped : {A B : Type 0} (f : B → A) (ys : List B) (k : ℕ) (a : A) (b : B) → k < length ys → get_or (map f ys) k a ≡ f (get_or ys k b)
-mapped f [] k a b less = absurd (omega arith)
-mapped f (y ∷ ys) zero a b less = refl
-mapped f (y ∷ ys) (suc k) a b less = mapped f ys k a b (omega arith)
-
 module _ {B : Type 0} (l : LabelFacts B) (graph : Shape) (p : RunPlan) where
   -- the histories of the workers, by number
   pub workers_are : {W C : Type 0} (book : W → BookState C) (core : C → WorkerFacts) (ws : List W) (hs : List History)
@@ -47,7 +42,7 @@ module _ {B : Type 0} (l : LabelFacts B) (graph : Shape) (p : RunPlan) where
   workers_are book core (w ∷ ws) hs books taken = record {
     long = taken.long ∙ sym (length-map (w ∷ ws) (λ v. core (book v).core));
     each = λ k a b less. let short : k < length (w ∷ ws) = omega (arith, taken.long) in
-        subst (λ v. IsHistory (WorkerSteps l (k + 1)) (new_worker graph (k + 1) p.threads) v (get_or hs k b)) (sym (mapped (λ v. core (book v).core) (w ∷ ws) k a w short))
+        subst (λ v. IsHistory (WorkerSteps l (k + 1)) (new_worker graph (k + 1) p.threads) v (get_or hs k b)) (sym (get_or-map (λ v. core (book v).core) (w ∷ ws) k w a short))
         (history_is core (WorkerSteps l (k + 1)) (new_worker graph (k + 1) p.threads) (book (get_or (w ∷ ws) k w)) (get_or hs k b) (books k w short).book (taken.each k w b less));
   }
 

@@ -1,6 +1,7 @@
 -- A client's failures have blames that fit, as long as what it is told does.
 use Rattle.std.proofs.Common.{◌≡◌, ℕ, Bool, true, false, not, ◌&&◌, List, [], ◌∷◌, Option, Some, None, cond, filter, fold, subst, sym}
 use Rattle.std.specs.Prelude.{◌==◌}
+use Rattle.std.proofs.lemmas.Option.{same_Some, none-some}
 use Rattle.cluster_msgs.specs.Labels.{LabelFacts, BlameFits, ToClientFits}
 use Rattle.cluster_msgs.specs.declared.messages.ToClient.{ToClient}
 use Rattle.cluster_msgs.specs.declared.messages.ToClient.TheVariants.{KeyInMemory, LostData, ClientTaskErred}
@@ -14,12 +15,6 @@ use Rattle.cluster_rules.specs.Client.{ClientFacts, new_client, client_wants, cl
 use Rattle.cluster_rules.proofs.WorkerLemmas.{at_one}
 use Rattle.node_states.specs.Fitting.{ClientFits, ClientEventFits}
 
-some_is : (x y : ℕ) → Some x ≡ Some y → x ≡ y
-some_is x y h = cc
-
-none_some : (x : ℕ) → None ≡ Some x → ⊥
-none_some x h = cc
-
 module _ {B : Type 0} (facts : LabelFacts B) where
   fit_hears : (c : ClientFacts) (k : ℕ) (d : ClientFacts) → ClientFits facts d → ClientFits facts c → ClientFits facts (hears c k d)
   fit_hears c k d r h = pick (c.wants k && not (c.got k))
@@ -32,7 +27,7 @@ module _ {B : Type 0} (facts : LabelFacts B) where
   unfolding hear
   fit_hear c (KeyInMemory k hs) t h = fit_hears c k _ (record { failed = h.failed }) h
   fit_hear c (LostData k) t h = record { failed = h.failed }
-  fit_hear c (ClientTaskErred k b) t h = fit_hears c k _ (record { failed = at_one k (λ x y. (d : ℕ) → cond x (Some b) (c.failed y) ≡ Some d → BlameFits facts y d) (λ d e. subst (λ z. BlameFits facts k z) (some_is b d e) t) h.failed }) h
+  fit_hear c (ClientTaskErred k b) t h = fit_hears c k _ (record { failed = at_one k (λ x y. (d : ℕ) → cond x (Some b) (c.failed y) ≡ Some d → BlameFits facts y d) (λ d e. subst (λ z. BlameFits facts k z) (same_Some b d e) t) h.failed }) h
 
   fit_gets : (ks : List ℕ) (c : ClientFacts) → ClientFits facts c → ClientFits facts (fold client_gets c ks)
   fit_gets [] c h = h
@@ -63,7 +58,7 @@ module _ {B : Type 0} (facts : LabelFacts B) where
   fit_release c ks h = record { failed = λ k b e. kept k b (is_in k ks) e }
     where
       kept : (k b : ℕ) (x : Bool) → cond x None (c.failed k) ≡ Some b → BlameFits facts k b
-      kept k b true e = absurd (none_some b e)
+      kept k b true e = absurd (none-some b e)
       kept k b false e = h.failed k b e
 
   fit_step : (c : ClientFacts) (e : ClientEvent) → ClientEventFits facts e → ClientFits facts c → ClientFits facts (client_step c e).facts
@@ -81,4 +76,4 @@ client_fits facts c d e t h is = subst (ClientFits facts) (sym is) (fit_step fac
 
 -- a client that starts was told no failure
 pub new_fits : {B : Type 0} (facts : LabelFacts B) (c : ClientFacts) (g : _) → c ≡ new_client g → ClientFits facts c
-new_fits facts c g is = subst (ClientFits facts) (sym is) (record { failed = λ k b e. absurd (none_some b e) })
+new_fits facts c g is = subst (ClientFits facts) (sym is) (record { failed = λ k b e. absurd (none-some b e) })

@@ -5,6 +5,7 @@ use Rattle.std.specs.Option.{option_map_or}
 use Rattle.std.proofs.lemmas.Bool.{false≢true, eqb-true}
 use Rattle.std.proofs.lemmas.Bool.Decides.{nat_tests}
 use Rattle.std.proofs.lemmas.List.{get_or-set_same, get_or-set_other, get_or_past}
+use Rattle.small_facts.proofs.Truth.{cond_same}
 use Rattle.cluster_rules.specs.Functions.{put}
 use Rattle.node_states.specs.Stores.{PutsAside, Puts, Finds, Misses, Removes, IsSame, IsStock, KeepsNone, is_at, row_stock}
 
@@ -27,11 +28,7 @@ module _ {K : Type 0} (f : K → ℕ) where
       pick false = refl
 
   nowhere : (at q : ℕ) → put (λ k. false) at false q ≡ false
-  nowhere at q = pick (q == at)
-    where
-      pick : (b : Bool) → cond b false false ≡ false
-      pick true = refl
-      pick false = refl
+  nowhere at q = cond_same (q == at) false
 
   no_one_aside : (at : ℕ) (xs ys : List (Option K)) → PutsAside (put (λ k. false) at false) (row_stock f xs) (row_stock f ys)
   no_one_aside at xs ys = record {

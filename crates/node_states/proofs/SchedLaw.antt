@@ -1,8 +1,9 @@
 -- The scheduler's bad keys stay faulty, and give only blames that are faulty and in the cone of the key that failed.
-use Rattle.std.proofs.Common.{◌≡◌, inl, ℕ, Bool, true, false, not, ◌&&◌, List, [], ◌∷◌, ◌++◌, Option, Some, None, is_some, is_none, refl, sym, ap, ◌∙◌, subst, ⊎_elim}
+use Rattle.std.proofs.Common.{◌≡◌, inl, ℕ, Bool, true, not, ◌&&◌, List, [], ◌∷◌, ◌++◌, Option, Some, None, is_some, is_none, refl, sym, ap, ◌∙◌, subst, ⊎_elim}
 use Rattle.std.specs.List.{list_all, AllByRecursion}
 use Rattle.std.specs.Prelude.{IsTrue}
 use Rattle.std.proofs.lemmas.List.Elements.{All-from_recursion}
+use Rattle.std.proofs.lemmas.Bool.{false≢true}
 use Rattle.cluster_msgs.specs.Shape.{IsShape, deps_of}
 use Rattle.cluster_msgs.specs.Values.{cone, faulty}
 use Rattle.cluster_msgs.specs.Labels.{LabelFacts, ErrorFits, BlameFits, ToClientFits}
@@ -87,12 +88,9 @@ letters_fit facts f e out shape fit h is = record {
 pub no_letters : {B : Type 0} (facts : LabelFacts B) (out : List (ℕ × ToClient)) → out ≡ [] → LettersFit facts out
 no_letters facts out is = record { each = All-from_recursion (λ (m : ℕ × ToClient). ToClientFits facts m.1) out (subst (AllByRecursion (λ (m : ℕ × ToClient). ToClientFits facts m.1)) (sym is) tt) }
 
-false_true : false ≡ true → ⊥
-false_true e = cc
-
 -- a scheduler that starts counts no key as bad
 pub opening_fits : {B : Type 0} (facts : LabelFacts B) (f : Facts) → IsOpening f → facts.deps ≡ deps_of f.setting.shape → SchedFits facts f
-opening_fits facts f h graph = record { graph = graph; bad = λ k b. absurd (false_true (ap (λ (x : Facts). x.bad k) (sym h.is) ∙ b)) }
+opening_fits facts f h graph = record { graph = graph; bad = λ k b. absurd (false≢true (ap (λ (x : Facts). x.bad k) (sym h.is) ∙ b)) }
 
 -- what one step left in an empty outbox
 pub made_fits : {B : Type 0} (facts : LabelFacts B) (f : Facts) (e : SchedEvent) (o made : Outbox) → IsShape f.setting.shape → SchedEventFits facts e → SchedFits facts f → o.clients ≡ [] → made ≡ appended o (sent_by (sched_step f e)) → LettersFit facts made.clients

@@ -1,7 +1,9 @@
 -- What an event makes of what is spilled.
-use Rattle.std.proofs.Common.{◌≡◌, inl, inr, ℕ, Bool, true, false, ◌&&◌, ◌||◌, cond, List, [], ◌∷◌, Option, Some, None, refl, sym, ap, ◌∙◌, subst, arith}
+use Rattle.std.proofs.Common.{◌≡◌, inl, inr, ℕ, Bool, true, false, ◌&&◌, ◌||◌, cond, List, [], ◌∷◌, Option, Some, None, refl, sym, ap, ◌∙◌, subst}
 use Rattle.std.specs.Prelude.{◌==◌}
-use Rattle.std.proofs.lemmas.Bool.{false≢true}
+use Rattle.std.proofs.lemmas.Bool.{false≢true, or_right, or_left}
+use Rattle.small_facts.proofs.Numbers.{eqb_self}
+use Rattle.small_facts.proofs.Truth.{or_without, with_and_false, with_and_true}
 use Rattle.cluster_msgs.specs.declared.cores.WorkerEvent.{WorkerEvent}
 use Rattle.cluster_msgs.specs.declared.cores.WorkerEvent.TheVariants as worker
 use Rattle.cluster_msgs.specs.declared.events.Entry.{Entry}
@@ -22,37 +24,22 @@ use Rattle.node_states.proofs.Entries.{not_longer}
 abbrev among : WorkerFacts → WorkerEvent → ℕ → Bool
 among w e k = w.mem k || is_in k (coming (Some e))
 
-same_key : (k : ℕ) → (k == k) ≡ true
-same_key k = grind arith
-
-right : (a b : Bool) → b ≡ true → (a || b) ≡ true
-right true b h = refl
-right false b h = h
-
-left : (a b : Bool) → a ≡ true → (a || b) ≡ true
-left true b h = refl
-left false b h = absurd (false≢true h)
-
 all_pass : (p : ℕ → Bool) (ks : List ℕ) → ((k : ℕ) → is_in k ks ≡ true → p k ≡ true) → AllPass p ks
 all_pass p [] h = tt
-all_pass p (x ∷ xs) h = (h x (left (x == x) (is_in x xs) (same_key x)), all_pass p xs (λ k i. h k (right (x == k) (is_in k xs) i)))
+all_pass p (x ∷ xs) h = (h x (or_left (x == x) (is_in x xs) (eqb_self x)), all_pass p xs (λ k i. h k (or_right (x == k) (is_in k xs) i)))
 
 brings : (w : WorkerFacts) (e : WorkerEvent) → BringsWithin (among w e) (λ k. true) w e
-brings w (worker.Done k z) = λ _. right (w.mem k) (is_in k (k ∷ [])) (left (k == k) false (same_key k))
-brings w (worker.Gathered p n found) = all_pass _ found (λ k i. right (w.mem k) (is_in k found) i)
+brings w (worker.Done k z) = λ _. or_right (w.mem k) (is_in k (k ∷ [])) (or_left (k == k) false (eqb_self k))
+brings w (worker.Gathered p n found) = all_pass _ found (λ k i. or_right (w.mem k) (is_in k found) i)
 brings w worker.Start = λ k _. refl
 brings w (worker.Down x) = tt
 brings w (worker.Ask p) = tt
 brings w (worker.GatherFailed p n) = tt
 brings w (worker.DataLost k) = tt
 
-was : (a b : Bool) → (a || b) ≡ true → b ≡ false → a ≡ true
-was true b h i = refl
-was false b h i = absurd (false≢true (sym i ∙ h))
-
 comes_by : (w : WorkerFacts) (e : WorkerEvent) → ComesAmong (coming (Some e)) w.mem (worker_step w e).facts.mem
 comes_by w e = record {
-  each = λ k m i. was (w.mem k) (is_in k (coming (Some e))) ((within_step (among w e) (λ k. true) w e (brings w e) (record { mem = λ k h. left (w.mem k) (is_in k (coming (Some e))) h; running = λ k h. refl })).mem k m) i;
+  each = λ k m i. or_without (w.mem k) (is_in k (coming (Some e))) ((within_step (among w e) (λ k. true) w e (brings w e) (record { mem = λ k h. or_left (w.mem k) (is_in k (coming (Some e))) h; running = λ k h. refl })).mem k m) i;
 }
 
 -- each key that comes into memory is one that the core is told of
@@ -67,14 +54,6 @@ and_false true false = refl
 and_false false true = refl
 and_false false false = refl
 
-and_none : (a : Bool) → false ≡ (a && false)
-and_none true = refl
-and_none false = refl
-
-and_true : (a : Bool) → a ≡ (a && true)
-and_true true = refl
-and_true false = refl
-
 with_same : (f g : ℕ → Bool) (o : Option ℕ) (k : ℕ) → f k ≡ g k → with_key f o k ≡ with_key g o k
 with_same f g None k h = h
 with_same f g (Some j) k h = ap (λ b. cond (k == j) true b) h
@@ -86,11 +65,11 @@ pub spills_by : (w : WorkerFacts) (m m1 : Marked) (o : Option WorkerEvent) (e : 
 spills_by w m m1 o e v n kept gone marks comes = record { each = λ k. pick k (v.mem k) refl }
   where
     before : (k : ℕ) → v.mem k ≡ true → (b : Bool) → b ≡ w.mem k → is_marked m1 k ≡ spilled m w.mem k
-    before k i true t = kept k (sym t) ∙ and_true (is_marked m k) ∙ ap (λ b. is_marked m k && b) t
+    before k i true t = kept k (sym t) ∙ with_and_true (is_marked m k) ∙ ap (λ b. is_marked m k && b) t
     before k i false t = in_list (is_in k (coming o)) refl
       where
         in_list : (b : Bool) → b ≡ is_in k (coming o) → is_marked m1 k ≡ spilled m w.mem k
-        in_list true y = gone k (sym t) (sym y) ∙ and_none (is_marked m k) ∙ ap (λ b. is_marked m k && b) t
+        in_list true y = gone k (sym t) (sym y) ∙ with_and_false (is_marked m k) ∙ ap (λ b. is_marked m k && b) t
         in_list false y = absurd (false≢true (t ∙ comes.each k i (sym y)))
 
     pick : (k : ℕ) (b : Bool) → b ≡ v.mem k → (is_marked n k && v.mem k) ≡ (with_key (spilled m w.mem) (spilled_key e) k && v.mem k)

@@ -2,6 +2,8 @@
 use Rattle.std.proofs.Common.{◌≡◌, ℕ, ◌-◌, ◌^◌, ◌<◌, Bool, true, false, ◌&&◌, cond, Option, Some, None, refl, sym, ap, ◌∙◌, arith}
 use Rattle.std.specs.Prelude.{◌==◌}
 use Rattle.std.proofs.lemmas.Bool.{false≢true}
+use Rattle.small_facts.proofs.Numbers.{eqb_self}
+use Rattle.small_facts.proofs.Truth.{and_first}
 use Rattle.cluster_msgs.specs.declared.cores.WorkerEvent.{WorkerEvent}
 use Rattle.cluster_msgs.specs.declared.events.Event.{Event}
 use Rattle.cluster_rules.specs.Derived.{is_in}
@@ -53,11 +55,8 @@ goes_on_same old new h = record { later = let e = h.times in omega arith; calm =
 pub gone_aside : (key : ℕ) (old new : Stock) → Removes key old new → new.aside key ≡ false
 gone_aside key old new h = h.aside key ∙ pick (key == key)
   where
-    same : (key == key) ≡ true
-    same = grind arith
-
     pick : (b : Bool) → cond (key == key) false (old.aside key) ≡ false
-    pick b = ap (λ b. cond b false (old.aside key)) same
+    pick b = ap (λ b. cond b false (old.aside key)) (eqb_self key)
 
 pub still_gone : (key q : ℕ) (old new : Stock) → Removes key old new → old.aside q ≡ false → new.aside q ≡ false
 still_gone key q old new h n = h.aside q ∙ pick (q == key)
@@ -67,10 +66,6 @@ still_gone key q old new h n = h.aside q ∙ pick (q == key)
     pick false = n
 
 -- ## What is to be recorded
-
-both_true : (a b : Bool) → (a && b) ≡ true → a ≡ true
-both_true true b h = refl
-both_true false b h = absurd (false≢true h)
 
 more : (f : ℕ → Bool) (o : Option ℕ) (k : ℕ) → f k ≡ true → with_key f o k ≡ true
 more f None k h = h
@@ -99,7 +94,7 @@ still_looked_up s0 s1 s2 w m o e v n f gone spills comes g keys looked h = recor
         both x y = ap (λ b. b && w.mem k) x ∙ y
 
         marked : with_key (spilled m w.mem) (spilled_key e) k ≡ true → is_marked n k ≡ true
-        marked x = both_true (is_marked n k) (v.mem k) (spills.each k ∙ ap (λ b. b && v.mem k) x ∙ i)
+        marked x = and_first (is_marked n k) (v.mem k) (spills.each k ∙ ap (λ b. b && v.mem k) x ∙ i)
     held k l a i c0 c1 false t = pick (is_in k (coming o)) refl
       where
         pick : (b : Bool) → b ≡ is_in k (coming o) → is_marked n k ≡ true
@@ -113,7 +108,7 @@ same_looked_up s0 s1 w m v n f e spills keys looked h = record {
   calm = λ (c : IsCalm looked s1.times). let x = f.later in let z = h.later in let p = c.same in let r = c.below in
       let c0 : IsCalm looked s0.times = record { same = omega arith; below = omega arith } in
       let c1 : IsCalm s0.times s1.times = record { same = omega arith; below = omega arith } in
-      record { each = λ k l a i. both_true (is_marked n k) (v.mem k) (spills.each k ∙ both k ((h.calm c0).each k l (f.calm c1 k a) (ap (λ (u : WorkerFacts). u.mem k) (sym e) ∙ i)) (ap (λ (u : WorkerFacts). u.mem k) (sym e) ∙ i)) };
+      record { each = λ k l a i. and_first (is_marked n k) (v.mem k) (spills.each k ∙ both k ((h.calm c0).each k l (f.calm c1 k a) (ap (λ (u : WorkerFacts). u.mem k) (sym e) ∙ i)) (ap (λ (u : WorkerFacts). u.mem k) (sym e) ∙ i)) };
 }
   where
     both : (k : ℕ) → is_marked m k ≡ true → w.mem k ≡ true → spilled m w.mem k ≡ true

@@ -3,6 +3,7 @@ use Rattle.std.proofs.Common.{◌≡◌, ℕ, Bool, true, false, not, ◌&&◌, 
 use Rattle.std.specs.Prelude.{◌==◌}
 use Rattle.std.specs.List.{AllByRecursion}
 use Rattle.std.proofs.lemmas.List.Elements.{All-from_recursion}
+use Rattle.small_facts.proofs.Every.{all_join}
 use Rattle.cluster_msgs.specs.Labels.{LabelFacts, ErrorFits}
 use Rattle.cluster_msgs.specs.declared.messages.Down.{Down}
 use Rattle.cluster_msgs.specs.declared.messages.Down.TheVariants.{ComputeTask, FreeKeys, StealRequest, RemoveReplicas, AcquireReplicas, RefreshWhoHas}
@@ -11,7 +12,6 @@ use Rattle.cluster_msgs.specs.declared.cores.Instruction.{Instruction}
 use Rattle.cluster_msgs.specs.declared.cores.Instruction.TheVariants.{Keep, Drop, Send}
 use Rattle.cluster_msgs.specs.declared.cores.WorkerEvent.{WorkerEvent}
 use Rattle.cluster_msgs.specs.declared.cores.WorkerEvent.TheVariants.{Down as Told, Start, Done, Ask as AskPeer, Gathered, GatherFailed, DataLost}
-use Rattle.cluster_rules.proofs.AllLemmas.{all_append}
 use Rattle.cluster_rules.specs.Functions.{put}
 use Rattle.cluster_rules.specs.Derived.{is_in}
 use Rattle.cluster_rules.specs.Worker.{worker_keys, Ask, WorkerFacts, awaited, is_wanted, wstate, is_missing_state, would_start, ask_to, without_ask}
@@ -24,7 +24,7 @@ module _ {B : Type 0} (facts : LabelFacts B) where
 
   fit_each : {A : Type 0} (row : WorkerFacts → A → WorkerStep) → ((w : WorkerFacts) (x : A) → Fit (row w x).out) → (s : WorkerStep) (xs : List A) → Fit s.out → Fit (each_key row s xs).out
   fit_each row step s [] h = h
-  fit_each row step s (x ∷ xs) h = fit_each row step (after_out s.out (row s.facts x)) xs (all_append (InstructionFits facts) s.out (row s.facts x).out h (step s.facts x))
+  fit_each row step s (x ∷ xs) h = fit_each row step (after_out s.out (row s.facts x)) xs (all_join (InstructionFits facts) s.out (row s.facts x).out h (step s.facts x))
 
   fit_drop : (q : ℕ) (b : Bool) → Fit (cond b (Drop q ∷ []) [])
   fit_drop q true = (tt, tt)
@@ -67,7 +67,7 @@ module _ {B : Type 0} (facts : LabelFacts B) where
   fit_down w (FreeKeys ks) = fit_each free_key fit_free (quiet w) ks tt
   fit_down w (StealRequest k a) = fit_asked_back w k a
   fit_down w (RemoveReplicas ks) =
-      all_append (InstructionFits facts) (each_key remove_replica (quiet w) ks).out _ (fit_each remove_replica fit_remove (quiet w) ks tt) (fit_add w.seen (filter (λ k. is_in k ks && (w.mem k && awaited w k)) (worker_keys w)))
+      all_join (InstructionFits facts) (each_key remove_replica (quiet w) ks).out _ (fit_each remove_replica fit_remove (quiet w) ks tt) (fit_add w.seen (filter (λ k. is_in k ks && (w.mem k && awaited w k)) (worker_keys w)))
   fit_down w (AcquireReplicas who) = tt
   fit_down w (RefreshWhoHas who) = tt
 
@@ -76,11 +76,11 @@ module _ {B : Type 0} (facts : LabelFacts B) where
   fit_start w (Some q) = (tt, tt)
 
   fit_arrive : (r : Arrivals) (q : ℕ) (o : Option ℕ) → Fit r.out → Fit (arrive_as r q o).out
-  fit_arrive r q (Some a) h = all_append (InstructionFits facts) r.out _ h (tt, (tt, tt))
+  fit_arrive r q (Some a) h = all_join (InstructionFits facts) r.out _ h (tt, (tt, tt))
   fit_arrive r q None h = pick (is_wanted r.facts q)
     where
       pick : (b : Bool) → Fit (cond {A = Arrivals} b (record { facts = into_mem r.facts q; out = r.out ++ Keep q ∷ []; added = r.added ++ q ∷ [] }) r).out
-      pick true = all_append (InstructionFits facts) r.out _ h (tt, tt)
+      pick true = all_join (InstructionFits facts) r.out _ h (tt, tt)
       pick false = h
 
   fit_arrivals : (ks : List ℕ) (r : Arrivals) → Fit r.out → Fit (fold arrive r ks).out
@@ -89,7 +89,7 @@ module _ {B : Type 0} (facts : LabelFacts B) where
 
   fit_arrived : (w : WorkerFacts) (ks : List ℕ) → Fit (arrived w ks).out
   unfolding arrived
-  fit_arrived w ks = all_append (InstructionFits facts) (fold arrive (record { facts = w; out = []; added = [] }) ks).out _ (fit_arrivals ks (record { facts = w; out = []; added = [] }) tt) (fit_add _ _)
+  fit_arrived w ks = all_join (InstructionFits facts) (fold arrive (record { facts = w; out = []; added = [] }) ks).out _ (fit_arrivals ks (record { facts = w; out = []; added = [] }) tt) (fit_add _ _)
 
   fit_erred : (w : WorkerFacts) (q : ℕ) (o : Option ℕ) → ErrorFits facts q → Fit (erred_as w q o).out
   fit_erred w q None f = tt
@@ -134,7 +134,7 @@ module _ {B : Type 0} (facts : LabelFacts B) where
 
   fit_step : (w : WorkerFacts) (e : WorkerEvent) → WorkerEventFits facts e → Fit (worker_step w e).out
   unfolding worker_step
-  fit_step w e f = all_append (InstructionFits facts) (worker_row w e).out _ (fit_row w e f) (fit_requests _ (unasked_keys (worker_row w e).facts))
+  fit_step w e f = all_join (InstructionFits facts) (worker_row w e).out _ (fit_row w e f) (fit_requests _ (unasked_keys (worker_row w e).facts))
 
 -- the law: an event that fits makes instructions that fit
 pub out_fits : {B : Type 0} (facts : LabelFacts B) (w : WorkerFacts) (e : WorkerEvent) (out : List Instruction) → WorkerEventFits facts e → out ≡ (worker_step w e).out → InstructionsFit facts out

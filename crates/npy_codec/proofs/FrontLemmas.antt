@@ -1,7 +1,8 @@
 -- What the first bytes of a file, and its header, say of the whole file.
-use Rattle.std.proofs.Common.{◌≡◌, ◌≢◌, ℕ, zero, suc, ◌+◌, ◌-◌, ◌*◌, ◌≤◌, ◌<◌, ◌^◌, ◌⊎◌, inl, inr, List, [], ◌∷◌, length, take, drop, get_or, refl, ap, sym, ◌∙◌, arith, subst, min}
+use Rattle.std.proofs.Common.{◌≡◌, ◌≢◌, ℕ, suc, ◌+◌, ◌-◌, ◌*◌, ◌≤◌, ◌<◌, ◌^◌, ◌⊎◌, inl, inr, List, [], ◌∷◌, length, take, drop, get_or, refl, ap, sym, ◌∙◌, arith, subst, min}
 use Rattle.std.specs.Prelude.{slice_index, map, All, Any, Result, Ok, Err, IfOk, IfErr, OnOk}
-use Rattle.std.proofs.lemmas.List.{length-take, length-take-le, length-drop, get_or-take, take_min, length-map, get_or-map}
+use Rattle.std.proofs.lemmas.List.{length-take, length-take-le, length-drop, get_or-take, take_min, length-map, get_or-map, take-take}
+use Rattle.std.proofs.Math.Nat.{min_comm}
 use Rattle.nd_shape.specs.Shape.{elements, IsShape}
 use Rattle.nd_shape.specs.Limits.{IsPassed}
 use Rattle.nd_shape.specs.declared.shape.ShapeLimit.{ShapeLimit as Limit}
@@ -15,30 +16,18 @@ use Rattle.npy_codec.specs.declared.error.NpyError.TheVariants.{NotNpy, Version,
 use Rattle.npy_codec.specs.Files.{magic, HasFixed, HasText, HasHead, Declares, IsNotMagic, IsOtherVersion, IsShortFixed, IsShortText, IsShortData, IsRefusedAs, text_len_at, text_of, int64_descr}
 use Rattle.npy_codec.specs.Fronts.{HasTextLen, DeclaresHead, FixedRefusedAs, IsHeadOfFields, FieldsRefusedAs, IsHeadOfText, TextRefusedAs}
 
-take-take : (k n : ℕ) (xs : List ℕ) → k ≤ n → take k (take n xs) ≡ take k xs
-take-take zero n xs h = refl
-take-take (suc k) zero xs h = absurd (omega arith)
-take-take (suc k) (suc n) [] h = refl
-take-take (suc k) (suc n) (x ∷ xs) h = ap (λ ys. x ∷ ys) (take-take k n xs (omega arith))
-
 -- ---- the first ten bytes
 
 pub first_ten : (bytes front : List ℕ) → front ≡ take (min (length bytes) 10) (drop 0 bytes) → front ≡ take 10 bytes
-first_ten bytes front e = e ∙ ap (λ n. take n bytes) (min_turned (length bytes) 10) ∙ take_min 10 bytes
-  where
-    min_turned : (a b : ℕ) → min a b ≡ min b a
-    min_turned a b = omega arith
+first_ten bytes front e = e ∙ ap (λ n. take n bytes) (min_comm (length bytes) 10) ∙ take_min 10 bytes
 
 at_front : (bytes : List ℕ) (k : ℕ) → k < 10 → slice_index (take 10 bytes) k ≡ slice_index bytes k
 at_front bytes k h = get_or-take 10 bytes k 0 h
 
-front_len : (bytes : List ℕ) → length (take 10 bytes) ≡ min 10 (length bytes)
-front_len bytes = length-take 10 bytes
-
 fixed_in_front : (bytes : List ℕ) → HasFixed (take 10 bytes) → HasFixed bytes
 fixed_in_front bytes h = record {
   begin = sym (take-take 6 10 bytes (omega arith)) ∙ h.begin;
-  long = let n : 10 ≤ length (take 10 bytes) = h.long in omega (arith, front_len bytes);
+  long = let n : 10 ≤ length (take 10 bytes) = h.long in omega (arith, length-take 10 bytes);
   major = sym (at_front bytes 6 (omega arith)) ∙ h.major;
   minor = sym (at_front bytes 7 (omega arith)) ∙ h.minor;
 }
@@ -56,15 +45,15 @@ not_magic_in_front bytes at h =
       within = h.within;
       same = sym (take-take at 10 bytes (omega arith)) ∙ h.same;
       here = elim h.here [
-        | inl e ↦ inl (omega (arith, e, front_len bytes))
-        | inr p ↦ inr (omega (arith, p.0, front_len bytes), λ e. p.1 (at_front bytes at (omega arith) ∙ e))
+        | inl e ↦ inl (omega (arith, e, length-take 10 bytes))
+        | inr p ↦ inr (omega (arith, p.0, length-take 10 bytes), λ e. p.1 (at_front bytes at (omega arith) ∙ e))
       ];
     }
 
 other_version_in_front : (bytes : List ℕ) (major minor : ℕ) → IsOtherVersion (take 10 bytes) major minor → IsOtherVersion bytes major minor
 other_version_in_front bytes major minor h = record {
   begin = sym (take-take 6 10 bytes (omega arith)) ∙ h.begin;
-  long = let n : 10 ≤ length (take 10 bytes) = h.long in omega (arith, front_len bytes);
+  long = let n : 10 ≤ length (take 10 bytes) = h.long in omega (arith, length-take 10 bytes);
   major_is = h.major_is ∙ at_front bytes 6 (omega arith);
   minor_is = h.minor_is ∙ at_front bytes 7 (omega arith);
   other = h.other;
@@ -77,7 +66,7 @@ short_in_front bytes has needs h =
     let c : has < needs = h.short in
     record {
       begin = sym (take-take 6 10 bytes (omega arith)) ∙ h.begin;
-      has_is = omega (arith, front_len bytes);
+      has_is = omega (arith, length-take 10 bytes);
       needs_is = h.needs_is;
       short = h.short;
     }

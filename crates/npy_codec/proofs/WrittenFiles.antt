@@ -25,7 +25,7 @@ cell-cell_bytes z fits =
     let b : cast_unsigned w64 z < 2 ^ 64 = omega (arith, Fits-of_z {w = w64} {z = z} fits) in
     ap (cast_signed w64) (from_le_bytes-to_le_bytes_8 (cast_unsigned w64 z) b) ∙ to_z-of_z w64 z fits
 
-length-cells_bytes : (zs : List ℤ) → length (cells_bytes zs) ≡ 8 * length zs
+pub length-cells_bytes : (zs : List ℤ) → length (cells_bytes zs) ≡ 8 * length zs
 length-cells_bytes [] = refl
 length-cells_bytes (z ∷ zs) = let r = length-cells_bytes zs in let e : length (cell_bytes z) ≡ 8 = refl in omega (arith, r, length-append (cell_bytes z) (cells_bytes zs), e)
 
@@ -97,7 +97,7 @@ has_written_head dims zs shape small size =
       room = omega (arith, total, header_len dims);
     }
 
-moved_by_nothing : (dims i : List ℕ) → length i ≡ length dims → moved (replicate (length dims) 0) i ≡ i
+pub moved_by_nothing : (dims i : List ℕ) → length i ≡ length dims → moved (replicate (length dims) 0) i ≡ i
 moved_by_nothing [] [] e = refl
 moved_by_nothing [] (k ∷ i) e = absurd (omega arith)
 moved_by_nothing (d ∷ dims) [] e = absurd (omega arith)

@@ -1,6 +1,7 @@
 -- Each header is derived by the rows, with events that leave its fields.
-use Rattle.std.proofs.Common.{◌≡◌, ◌≢◌, ℕ, zero, suc, ◌<◌, ◌≤◌, ◌+◌, ◌-◌, ◌*◌, Bool, true, false, ◌||◌, ◌&&◌, not, cond, nat_eq, List, [], ◌∷◌, ◌++◌, ◌⊎◌, inl, inr, Some, None, refl, ap, sym, subst, ◌∙◌, arith, append_assoc, append-nil}
+use Rattle.std.proofs.Common.{◌≡◌, ℕ, zero, suc, ◌<◌, ◌≤◌, ◌+◌, ◌-◌, ◌*◌, Bool, true, false, ◌||◌, ◌&&◌, not, cond, nat_eq, List, [], ◌∷◌, ◌++◌, ◌⊎◌, inl, inr, Some, None, refl, ap, sym, subst, ◌∙◌, arith, append_assoc, append-nil}
 use Rattle.std.specs.Prelude.{Option}
+use Rattle.std.proofs.lemmas.Bool.{eqb-true, eqb-false}
 use Rattle.grammar.specs.Grammars.{Event, took, did, tokens}
 use Rattle.npy_header.specs.Headers.{Fields, blank, Quote, single, double, quote_byte, AllBytes, AreSpaces, IsInside, IsDigit, decimal, IsNumber, Entry, descr, fortran, shape, key_text, bool_text, AreAxes, IsTuple, IsValue, IsItem, AreMore, Keys, has, without, EachOnce, with_entry, with_entries, IsHeader}
 use Rattle.npy_header.specs.Kinds.{kind_of}
@@ -10,7 +11,7 @@ use Rattle.npy_header.proofs.KindLaws.{kind-quote, digit-kind, inside-kind}
 use Rattle.npy_header.proofs.Meaning.{MeansAs, DerivesPart, derives-on-part, derives-other-part}
 use Rattle.npy_header.proofs.Effects.{Does, does-nothing, does-took, does-append, does-same, does-all, does-descr, does-number, text-all, digits-all, pushes, taken_all}
 use Rattle.npy_header.proofs.Meanings.{same, keys}
-use Rattle.npy_header.proofs.Sound.{does-bool, push-none, does-close, does-other, item-assoc}
+use Rattle.npy_header.proofs.Sound.{does-bool, push-none, does-close, does-other, item-assoc, push-more}
 
 -- events that a part derives, with these bytes and this effect
 record Built (p : HPart) (w : List ℕ) (f : Fields → Fields) : Type 0 where
@@ -131,18 +132,12 @@ built-string q (b ∷ w) h =
     let is : cond (may_stand_in q (kind_of b)) (Some (sub (string q) ∷ [])) None ≡ Some (sub (string q) ∷ []) = ap (λ c. cond c (Some (sub (string q) ∷ [])) None) (inside-kind q b h.0) in
     derives-on-part (string q) b (sub (string q) ∷ []) (taken_all w) is (just (string q) (taken_all w) (built-string q w h.1))
 
-equal : (k j : ℕ) → nat_eq k j ≡ true → k ≡ j
-equal k j e = grind arith
-
-apart : (k j : ℕ) → nat_eq k j ≡ false → k ≢ j
-apart k j e x = grind arith
-
 digit-rule : (b : ℕ) → IsDigit b → on_part digits (kind_of b) ≡ Some (sub digits ∷ [])
 digit-rule b d = by (nat_eq b 48) refl
   where
     by : (c : Bool) → nat_eq b 48 ≡ c → on_part digits (kind_of b) ≡ Some (sub digits ∷ [])
-    by true e = let k : kind_of b ≡ 27 = ap kind_of (equal b 48 e) ∙ zero-kind in ap (on_part digits) k
-    by false e = ap (on_part digits) (digit-kind b d (apart b 48 e))
+    by true e = let k : kind_of b ≡ 27 = ap kind_of (eqb-true b 48 e) ∙ zero-kind in ap (on_part digits) k
+    by false e = ap (on_part digits) (digit-kind b d (eqb-false b 48 e))
 
 built-digits : (w : List ℕ) → AllBytes IsDigit w → DerivesPart digits (taken_all w)
 built-digits [] h = derives-other-part digits [] [] refl refl
@@ -181,9 +176,6 @@ built-number n (b ∷ w) (inr d) =
           ((taken_all w ++ did 6 ∷ []) ++ es, refl, (taken_all w, did 6 ∷ es, append_assoc (taken_all w) (did 6 ∷ []) es, built-digits w d.2, (es, refl, m)));
     }
 
-pushed : (n : ℕ) (ns : List ℕ) (f : Fields) → pushes ns (pushes (n ∷ []) f) ≡ pushes (n ∷ ns) f
-pushed n ns f = ap (λ x. record f { shape = x }) (append_assoc f.shape (n ∷ []) ns)
-
 built-close : (p : HPart) → on_part p 5 ≡ Some [] → Built p (41 ∷ []) (pushes [])
 built-close p h = record { events = took 41 ∷ []; derives = derives-on-part p 41 [] [] (ap (on_part p) end-kind ∙ h) refl; does = does-close 41 [] refl refl }
 
@@ -209,7 +201,7 @@ built-axes (n ∷ ns) w h =
     let b : Built axes (h.0 ++ (h.1 ++ h.2)) (pushes (n ∷ ns)) = record {
       events = x.events ++ (taken_all h.1 ++ a.events);
       derives = x.later (taken_all h.1 ++ a.events) (taken_all h.1, a.events, refl, built-spaces h.1 h.4, just axis a.events a.derives);
-      does = does-other (x.events ++ (taken_all h.1 ++ a.events)) (h.0 ++ (h.1 ++ h.2)) (λ f. pushes ns (pushes (n ∷ []) f)) (pushes (n ∷ ns)) (pushed n ns)
+      does = does-other (x.events ++ (taken_all h.1 ++ a.events)) (h.0 ++ (h.1 ++ h.2)) (λ f. pushes ns (pushes (n ∷ []) f)) (pushes (n ∷ ns)) (push-more n ns)
           (does-append x.events (taken_all h.1 ++ a.events) h.0 (h.1 ++ h.2) (pushes (n ∷ [])) (pushes ns) x.does da);
     } in
     subst (λ y. Built axes y (pushes (n ∷ ns))) (sym h.5) b
@@ -266,7 +258,7 @@ built-shape (n ∷ ns) w (s, d, s', s'', r, sp0, num, sp1, sp2, ax, e) =
     let b : Built tuple (d ++ (s' ++ 44 ∷ (s'' ++ r))) (pushes (n ∷ ns)) = record {
       events = x.events ++ (taken_all s' ++ took 44 ∷ tailev);
       derives = x.first (taken_all s' ++ took 44 ∷ tailev) (taken_all s', took 44 ∷ tailev, refl, built-spaces s' sp1, (44, tailev, refl, comma-kind, (taken_all s'', a.events, refl, built-spaces s'' sp2, just axes a.events a.derives)));
-      does = does-other (x.events ++ (taken_all s' ++ took 44 ∷ tailev)) (d ++ (s' ++ 44 ∷ (s'' ++ r))) (λ f. pushes ns (pushes (n ∷ []) f)) (pushes (n ∷ ns)) (pushed n ns)
+      does = does-other (x.events ++ (taken_all s' ++ took 44 ∷ tailev)) (d ++ (s' ++ 44 ∷ (s'' ++ r))) (λ f. pushes ns (pushes (n ∷ []) f)) (pushes (n ∷ ns)) (push-more n ns)
           (does-append x.events (taken_all s' ++ took 44 ∷ tailev) d (s' ++ 44 ∷ (s'' ++ r)) (pushes (n ∷ [])) (pushes ns) x.does d1);
     } in
     subst (λ y. Built shape_value y (with_entry (shape (n ∷ ns)))) (sym e) (open-tuple (n ∷ ns) s (d ++ (s' ++ 44 ∷ (s'' ++ r))) sp0 b)

@@ -1,36 +1,16 @@
 -- Which bytes have a kind.
-use Rattle.std.proofs.Common.{◌≡◌, ◌≢◌, ℕ, zero, suc, ◌<◌, ◌≤◌, ◌+◌, Bool, true, false, ◌||◌, ◌&&◌, not, cond, nat_eq, nat_le, nat_lt, List, [], ◌∷◌, ◌++◌, ◌⊎◌, inl, inr, length, get_or, Some, None, refl, ap, sym, subst, ◌∙◌, arith}
-use Rattle.std.specs.Prelude.{Option, slice_get}
+use Rattle.std.proofs.Common.{◌≡◌, ◌≢◌, ℕ, suc, ◌<◌, ◌≤◌, ◌+◌, Bool, true, false, ◌||◌, ◌&&◌, not, cond, nat_eq, nat_le, nat_lt, List, [], ◌∷◌, ◌++◌, ◌⊎◌, inl, inr, length, get_or, Some, None, refl, ap, sym, subst, ◌∙◌, arith}
+use Rattle.std.specs.Prelude.{slice_get}
 use Rattle.std.specs.List.{list_all}
-use Rattle.std.proofs.lemmas.Option.{slice_get-get_or}
+use Rattle.std.proofs.lemmas.Option.{slice_get-get_or, slice_get_within}
+use Rattle.std.proofs.lemmas.Bool.{lt-ltb, and_parts, eqb-true, eqb-false, ne_eqb, leb-true, le-leb, ltb-true}
+use Rattle.small_facts.proofs.Options.{same_in_some}
 use Rattle.grammar.specs.Tables.{all_at}
 use Rattle.grammar.proofs.Checked.{all_at-first}
 use Rattle.npy_header.specs.declared.rows.TheConstants.{KIND_OF_BYTE}
 use Rattle.npy_header.specs.Headers.{Quote, single, double, quote_byte, IsDigit, IsInside}
 use Rattle.npy_header.specs.Kinds.{singles, kind_of_rest, kind_from, kind_of}
 use Rattle.npy_header.specs.Typed.{quote_kind, may_stand_in}
-
-both : (a b : Bool) → (a && b) ≡ true → (a ≡ true) × (b ≡ true)
-both true b h = (refl, h)
-both false b h = cc
-
-same-number : (j k : ℕ) → nat_eq j k ≡ true → j ≡ k
-same-number j k h = grind arith
-
-not-same : (j k : ℕ) → nat_eq j k ≡ false → j ≢ k
-not-same j k h e = grind arith
-
-test-apart : (j k : ℕ) → j ≢ k → nat_eq j k ≡ false
-test-apart j k h = grind arith
-
-le-test : (j k : ℕ) → nat_le j k ≡ true → j ≤ k
-le-test j k h = grind arith
-
-test-le : (j k : ℕ) → j ≤ k → nat_le j k ≡ true
-test-le j k h = grind arith
-
-lt-test : (j k : ℕ) → nat_lt j k ≡ true → j < k
-lt-test j k h = grind arith
 
 -- what the test of a byte without a kind of its own says
 record Rest (b k : ℕ) : Type 0 where
@@ -44,20 +24,20 @@ rest-is b = by (nat_le 49 b && nat_le b 57) ((nat_le 32 b && nat_le b 126) && no
   where
     not-92 : (c : Bool) → nat_eq b 92 ≡ c → not c ≡ true → b ≢ 92
     not-92 true e h = cc
-    not-92 false e h = not-same b 92 e
+    not-92 false e h = eqb-false b 92 e
 
     by : (x y : Bool) → (nat_le 49 b && nat_le b 57) ≡ x → ((nat_le 32 b && nat_le b 126) && not (nat_eq b 92)) ≡ y → Rest b (cond x 28 (cond y 29 30))
     by true y e f = record {
       least = omega arith;
       most = omega arith;
-      digit = λ _. let q = both (nat_le 49 b) (nat_le b 57) e in (le-test 49 b q.0, le-test b 57 q.1);
+      digit = λ _. let q = and_parts (nat_le 49 b) (nat_le b 57) e in (leb-true 49 b q.0, leb-true b 57 q.1);
       text = λ h. absurd (omega arith);
     }
     by false true e f = record {
       least = omega arith;
       most = omega arith;
       digit = λ h. absurd (omega arith);
-      text = λ _. let q = both (nat_le 32 b && nat_le b 126) (not (nat_eq b 92)) f in let r = both (nat_le 32 b) (nat_le b 126) q.0 in (le-test 32 b r.0, le-test b 126 r.1, not-92 (nat_eq b 92) refl q.1);
+      text = λ _. let q = and_parts (nat_le 32 b && nat_le b 126) (not (nat_eq b 92)) f in let r = and_parts (nat_le 32 b) (nat_le b 126) q.0 in (leb-true 32 b r.0, leb-true b 126 r.1, not-92 (nat_eq b 92) refl q.1);
     }
     by false false e f = record { least = omega arith; most = omega arith; digit = λ h. absurd (omega arith); text = λ h. absurd (omega arith) }
 
@@ -74,13 +54,8 @@ found b (x ∷ xs) i = by (nat_eq b x) refl (found b xs (i + 1))
     next (inr e) = inr e
 
     by : (c : Bool) → nat_eq b x ≡ c → Found b xs (i + 1) (kind_from b xs (i + 1)) → Found b (x ∷ xs) i (cond c i (kind_from b xs (i + 1)))
-    by true e f = inl (0, omega arith, ap Some (sym (same-number b x e)))
+    by true e f = inl (0, omega arith, ap Some (sym (eqb-true b x e)))
     by false e f = next f
-
-got-below : (xs : List ℕ) (j b : ℕ) → slice_get xs j ≡ Some b → j < length xs
-got-below [] j b h = cc
-got-below (x ∷ xs) zero b h = omega arith
-got-below (x ∷ xs) (suc j) b h = omega (arith, got-below xs j b h)
 
 -- a byte and its kind
 pub record Kind (b k : ℕ) : Type 0 where
@@ -99,7 +74,7 @@ kind-is b = by (kind_from b singles 0) (found b singles 0)
     by : (k : ℕ) → Found b singles 0 k → Kind b k
     by k (inl a) =
         let at : a.0 ≡ k = omega (arith, a.1) in
-        let lt = got-below singles a.0 b a.2 in
+        let lt = slice_get_within singles a.0 b a.2 in
         record {
           single_byte = λ _. subst (λ j. slice_get singles j ≡ Some b) at a.2;
           another_digit = λ h. absurd (omega (arith, lt, count));
@@ -123,10 +98,7 @@ pub one-byte : (t k b : ℕ) → kind_of t ≡ k → k < 28 → slice_get single
 one-byte t k b e h g =
     let x : slice_get singles (kind_of t) ≡ Some t = (kind-is t).single_byte (omega (arith, e)) in
     let y : slice_get singles k ≡ Some t = subst (λ j. slice_get singles j ≡ Some t) e x in
-    same (slice_get singles k) t b y g
-  where
-    same : (o : Option ℕ) (a b : ℕ) → o ≡ Some a → o ≡ Some b → a ≡ b
-    same o a b x y = cc
+    same_in_some (slice_get singles k) t b y g
 
 pub quote-byte : (q : Quote) (t : ℕ) → kind_of t ≡ quote_kind q → t ≡ quote_byte q
 quote-byte single t e = one-byte t 8 39 e (omega arith) refl
@@ -155,8 +127,8 @@ outside-apart lo hi x b h l u e = grind arith
 kind-apart : (lo hi b : ℕ) (xs : List ℕ) (i : ℕ) → list_all (outside lo hi) xs ≡ true → lo ≤ b → b ≤ hi → kind_from b xs i ≡ kind_of_rest b
 kind-apart lo hi b [] i h l u = refl
 kind-apart lo hi b (x ∷ xs) i h l u =
-    let e = both (outside lo hi x) (list_all (outside lo hi) xs) h in
-    let a : nat_eq b x ≡ false = test-apart b x (outside-apart lo hi x b e.0 l u) in
+    let e = and_parts (outside lo hi x) (list_all (outside lo hi) xs) h in
+    let a : nat_eq b x ≡ false = ne_eqb b x (outside-apart lo hi x b e.0 l u) in
     rw a (kind-apart lo hi b xs (i + 1) e.1 l u)
 
 pub digit-kind : (b : ℕ) → IsDigit b → b ≢ 48 → kind_of b ≡ 28
@@ -164,12 +136,12 @@ unfolding kind_of outside
 digit-kind b d z =
     let lo : 49 ≤ b = omega (arith, d.low, z) in
     let a : kind_from b singles 0 ≡ kind_of_rest b = kind-apart 49 57 b singles 0 refl lo d.high in
-    let t : (nat_le 49 b && nat_le b 57) ≡ true = rw (test-le 49 b lo, test-le b 57 d.high) refl in
+    let t : (nat_le 49 b && nat_le b 57) ≡ true = rw (le-leb 49 b lo, le-leb b 57 d.high) refl in
     a ∙ ap (λ c. cond c 28 (cond ((nat_le 32 b && nat_le b 126) && not (nat_eq b 92)) 29 30)) t
 
 rest-inside : (b : ℕ) → 32 ≤ b → b ≤ 126 → b ≢ 92 → kind_of_rest b < 30
 rest-inside b l u n =
-    let t : ((nat_le 32 b && nat_le b 126) && not (nat_eq b 92)) ≡ true = rw (test-le 32 b l, test-le b 126 u, test-apart b 92 n) refl in
+    let t : ((nat_le 32 b && nat_le b 126) && not (nat_eq b 92)) ≡ true = rw (le-leb 32 b l, le-leb b 126 u, ne_eqb b 92 n) refl in
     by (nat_le 49 b && nat_le b 57) ((nat_le 32 b && nat_le b 126) && not (nat_eq b 92)) t
   where
     by : (x y : Bool) → y ≡ true → cond x 28 (cond y 29 30) < 30
@@ -185,7 +157,7 @@ inside-kind q b i = tests (kind_of b) below no-newline no-quote
     below = by (kind_of b) (found b singles 0)
       where
         by : (k : ℕ) → Found b singles 0 k → k < 30
-        by k (inl a) = let c : length singles ≡ 28 = refl in omega (arith, a.1, got-below singles a.0 b a.2, c)
+        by k (inl a) = let c : length singles ≡ 28 = refl in omega (arith, a.1, slice_get_within singles a.0 b a.2, c)
         by k (inr e) = omega (arith, e, rest-inside b i.low i.high i.no_backslash)
 
     no-newline : kind_of b ≢ 1
@@ -194,17 +166,14 @@ inside-kind q b i = tests (kind_of b) below no-newline no-quote
     no-quote : kind_of b ≢ quote_kind q
     no-quote e = i.no_quote (quote-byte q b e)
 
-    less : (k n : ℕ) → k < n → nat_lt k n ≡ true
-    less k n h = grind arith
-
     tests : (k : ℕ) → k < 30 → k ≢ 1 → k ≢ quote_kind q → may_stand_in q k ≡ true
-    tests k h n m = rw (less k 30 h, test-apart k 1 n, test-apart k (quote_kind q) m) refl
+    tests k h n m = rw (lt-ltb k 30 h, ne_eqb k 1 n, ne_eqb k (quote_kind q) m) refl
 
 pub kind-inside : (q : Quote) (b : ℕ) → may_stand_in q (kind_of b) ≡ true → IsInside q b
 kind-inside q b h =
-    let e = both (nat_lt (kind_of b) 30) (not (nat_eq (kind_of b) 1) && not (nat_eq (kind_of b) (quote_kind q))) h in
-    let f = both (not (nat_eq (kind_of b) 1)) (not (nat_eq (kind_of b) (quote_kind q))) e.1 in
-    let r = range (kind_of b) (kind-is b) (lt-test (kind_of b) 30 e.0) (differ (kind_of b) 1 (nat_eq (kind_of b) 1) refl f.0) in
+    let e = and_parts (nat_lt (kind_of b) 30) (not (nat_eq (kind_of b) 1) && not (nat_eq (kind_of b) (quote_kind q))) h in
+    let f = and_parts (not (nat_eq (kind_of b) 1)) (not (nat_eq (kind_of b) (quote_kind q))) e.1 in
+    let r = range (kind_of b) (kind-is b) (ltb-true (kind_of b) 30 e.0) (differ (kind_of b) 1 (nat_eq (kind_of b) 1) refl f.0) in
     record {
       low = r.0;
       high = r.1;
@@ -214,15 +183,15 @@ kind-inside q b h =
   where
     differ : (j k : ℕ) (c : Bool) → nat_eq j k ≡ c → not c ≡ true → j ≢ k
     differ j k true e h = cc
-    differ j k false e h = not-same j k e
+    differ j k false e h = eqb-false j k e
 
     by-test : (k : ℕ) → k ≢ 1 → (nat_eq k 1 || ((nat_le 32 b && nat_le b 126) && not (nat_eq b 92))) ≡ true → (32 ≤ b) × (b ≤ 126) × (b ≢ 92)
     by-test k ne h =
-        let z : nat_eq k 1 ≡ false = test-apart k 1 ne in
+        let z : nat_eq k 1 ≡ false = ne_eqb k 1 ne in
         let t : ((nat_le 32 b && nat_le b 126) && not (nat_eq b 92)) ≡ true = subst (λ c. (c || ((nat_le 32 b && nat_le b 126) && not (nat_eq b 92))) ≡ true) z h in
-        let x = both (nat_le 32 b && nat_le b 126) (not (nat_eq b 92)) t in
-        let y = both (nat_le 32 b) (nat_le b 126) x.0 in
-        (le-test 32 b y.0, le-test b 126 y.1, differ b 92 (nat_eq b 92) refl x.1)
+        let x = and_parts (nat_le 32 b && nat_le b 126) (not (nat_eq b 92)) t in
+        let y = and_parts (nat_le 32 b) (nat_le b 126) x.0 in
+        (leb-true 32 b y.0, leb-true b 126 y.1, differ b 92 (nat_eq b 92) refl x.1)
 
     all-inside : all_at (λ i x. nat_eq i 1 || ((nat_le 32 x && nat_le x 126) && not (nat_eq x 92))) 0 singles ≡ true
     all-inside = refl
@@ -230,9 +199,9 @@ kind-inside q b h =
     range : (k : ℕ) → Kind b k → k < 30 → k ≢ 1 → (32 ≤ b) × (b ≤ 126) × (b ≢ 92)
     range k i lt ne =
         elim (nat_lt k 28) as (λ c. nat_lt k 28 ≡ c → (32 ≤ b) × (b ≤ 126) × (b ≢ 92)) [
-          | true ↦ λ e. by-test k ne (all_at-first (λ i x. nat_eq i 1 || ((nat_le 32 x && nat_le x 126) && not (nat_eq x 92))) singles k b all-inside (i.single_byte (lt-test k 28 e)))
+          | true ↦ λ e. by-test k ne (all_at-first (λ i x. nat_eq i 1 || ((nat_le 32 x && nat_le x 126) && not (nat_eq x 92))) singles k b all-inside (i.single_byte (ltb-true k 28 e)))
           | false ↦ λ e. elim (nat_eq k 28) as (λ c. nat_eq k 28 ≡ c → (32 ≤ b) × (b ≤ 126) × (b ≢ 92)) [
-            | true ↦ λ f. let d = i.another_digit (same-number k 28 f) in (omega (arith, d.0), omega (arith, d.1), λ x. omega (arith, d.1, x))
+            | true ↦ λ f. let d = i.another_digit (eqb-true k 28 f) in (omega (arith, d.0), omega (arith, d.1), λ x. omega (arith, d.1, x))
             | false ↦ λ f. i.other_text (last k e f lt)
           ] refl
         ] refl
@@ -250,4 +219,4 @@ kinds_count : length KIND_OF_BYTE ≡ 256
 kinds_count = refl
 
 pub kind-table : (b : ℕ) → b < 256 → get_or KIND_OF_BYTE b 0 ≡ kind_of b
-kind-table b h = same-number (get_or KIND_OF_BYTE b 0) (kind_of b) (all_at-first (λ b k. nat_eq k (kind_of b)) KIND_OF_BYTE b (get_or KIND_OF_BYTE b 0) kinds-checked (slice_get-get_or KIND_OF_BYTE b 0 (omega (arith, kinds_count))))
+kind-table b h = eqb-true (get_or KIND_OF_BYTE b 0) (kind_of b) (all_at-first (λ b k. nat_eq k (kind_of b)) KIND_OF_BYTE b (get_or KIND_OF_BYTE b 0) kinds-checked (slice_get-get_or KIND_OF_BYTE b 0 (omega (arith, kinds_count))))

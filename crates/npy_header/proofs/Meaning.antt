@@ -1,13 +1,15 @@
 -- What the rows derive, by the named parts: any meaning of the parts that their rules keep holds of what is derived; and what
 -- is put together by the rules is derived.
 use Rattle.std.proofs.Common.{◌≡◌, ℕ, zero, suc, ◌<◌, ◌≤◌, ◌+◌, Bool, true, false, ◌&&◌, nat_lt, List, [], ◌∷◌, ◌++◌, ◌⊎◌, inl, inr, map, length, Some, None, refl, ap, sym, subst, ◌∙◌, arith, append_assoc, append-nil}
-use Rattle.std.specs.Prelude.{Option, slice_get, slice_index_or}
+use Rattle.std.specs.Prelude.{Option, slice_get}
+use Rattle.std.proofs.lemmas.Bool.{and_parts, ltb-true}
+use Rattle.std.proofs.lemmas.Option.{get_or_from_slice_get, slice_get-get_or}
 use Rattle.grammar.specs.declared.symbol.Symbol.{Symbol}
 use Rattle.grammar.specs.declared.symbol.Symbol.TheVariants.{Token, Part, Action}
 use Rattle.grammar.specs.Grammars.{Grammar, Event, took, did, DerivesIn, Derives}
 use Rattle.grammar.specs.Tables.{Rows, rule_maybe, entry_rule, on_row, grammar_of}
 use Rattle.grammar.specs.Tests.{named}
-use Rattle.grammar.proofs.Checked.{on-found, other-found, on-ok, other-ok, less-number, both}
+use Rattle.grammar.proofs.Checked.{on-found, other-found, on-ok, other-ok}
 use Rattle.grammar.proofs.Derivations.{derives-nothing, derives-token, derives-action, derives-on, derives-other, derives-append}
 use Rattle.npy_header.specs.declared.rows.TheConstants.{ON, OTHER}
 use Rattle.npy_header.specs.HeaderRows.{header_rows, certificate}
@@ -38,19 +40,6 @@ at-numbers zero i k h = absurd (omega arith)
 at-numbers (suc n) i zero h = let e : i ≡ i + 0 = omega arith in ap Some e
 at-numbers (suc n) i (suc k) h = let e : (i + 1) + k ≡ i + suc k = omega arith in at-numbers n (i + 1) k (omega arith) ∙ ap Some e
 
-pub index-at : {X : Type 0} (xs : List X) (i : ℕ) (x d : X) → slice_get xs i ≡ Some x → slice_index_or xs i d ≡ x
-index-at [] i x d h = cc
-index-at (y ∷ xs) zero x d h = cc
-index-at (y ∷ xs) (suc i) x d h = index-at xs i x d h
-
-at-index : {X : Type 0} (xs : List X) (i : ℕ) (d : X) → i < length xs → slice_get xs i ≡ Some (slice_index_or xs i d)
-at-index [] i d h = absurd (omega arith)
-at-index (x ∷ xs) zero d h = refl
-at-index (x ∷ xs) (suc i) d h = at-index xs i d (omega arith)
-
-some-some : {X : Type 0} (o : Option X) (x y : X) → o ≡ Some x → o ≡ Some y → x ≡ y
-some-some o x y a b = cc
-
 -- ---- the rows and the rules of the named parts
 
 abbrev pub G : Grammar
@@ -65,7 +54,7 @@ rows-on p k rule h =
     let c = get-map (λ o. typed_maybe (rule_maybe header_rows o)) f.row k f.entry f.entry_is in
     let d = get-map-back (λ j. on_part b.0 j) (numbers 48 0) k (typed_maybe (rule_maybe header_rows f.entry)) (ap (λ l. slice_get l k) b.2 ∙ c) in
     let e : d.0 ≡ k = omega (arith, numbers-at 48 0 k d.0 d.1) in
-    let q : part_at p ≡ b.0 = index-at parts p b.0 start b.1 in
+    let q : part_at p ≡ b.0 = get_or_from_slice_get parts p b.0 start b.1 in
     ap (λ x. on_part x k) q ∙ (ap (on_part b.0) (sym e) ∙ (d.2 ∙ ap typed_maybe f.rule_is))
 
 pub rows-other : (p : ℕ) (rule : List Symbol) → G.other p ≡ Some rule → other_part (part_at p) ≡ Some (typed rule)
@@ -74,7 +63,7 @@ rows-other p rule h =
     let f = other-found header_rows p rule h in
     let a = get-map (λ o. typed_maybe (rule_maybe header_rows o)) OTHER p f.entry f.entry_is in
     let b = get-map-back other_part parts p (typed_maybe (rule_maybe header_rows f.entry)) (sym (ap (λ l. slice_get l p) same_other) ∙ a) in
-    let q : part_at p ≡ b.0 = index-at parts p b.0 start b.1 in
+    let q : part_at p ≡ b.0 = get_or_from_slice_get parts p b.0 start b.1 in
     ap other_part q ∙ (b.2 ∙ ap typed_maybe f.rule_is)
 
 typed-some : (o : Option (List Symbol)) (rule : List HSym) → typed_maybe o ≡ Some rule → (r : List Symbol) × (o ≡ Some r) × (typed r ≡ rule)
@@ -169,12 +158,12 @@ parts_count = refl
 build : (s : List Symbol) (es : List Event) → named 31 40 s ≡ true → MeansAs DerivesPart (typed s) es → Derives G kind_of s es
 build [] es n h = subst (λ x. Derives G kind_of [] x) (sym h) (derives-nothing G kind_of)
 build (Token k ∷ s) es n h =
-    let e = both (nat_lt k 31) (named 31 40 s) n in
+    let e = and_parts (nat_lt k 31) (named 31 40 s) n in
     subst (λ x. Derives G kind_of (Token k ∷ s) x) (sym h.2) (derives-token G kind_of k h.0 s h.1 h.3 (build s h.1 e.1 h.4))
 build (Action a ∷ s) es n h = subst (λ x. Derives G kind_of (Action a ∷ s) x) (sym h.1) (derives-action G kind_of a s h.0 (build s h.0 n h.2))
 build (Part p ∷ s) es n h =
-    let e = both (nat_lt p 40) (named 31 40 s) n in
-    let at = at-index parts p start (omega (arith, less-number p 40 e.0, parts_count)) in
+    let e = and_parts (nat_lt p 40) (named 31 40 s) n in
+    let at = slice_get-get_or parts p start (omega (arith, ltb-true p 40 e.0, parts_count)) in
     subst (λ x. Derives G kind_of (Part p ∷ s) x) (sym h.2) (derives-append G kind_of (Part p ∷ []) s h.0 h.1 (h.3 p at) (build s h.1 e.1 h.4))
 
 -- the tests name the kinds and parts of each rule

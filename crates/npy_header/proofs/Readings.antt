@@ -3,6 +3,7 @@ use Rattle.std.proofs.Common.{◌≡◌, ◌≢◌, ℕ, zero, suc, ◌<◌, ◌
 use Rattle.std.specs.Prelude.{Option, slice_get, slice_index_or}
 use Rattle.std.proofs.lemmas.List.{map-append, take-append-drop, take_all}
 use Rattle.std.proofs.Math.Seq.{take-suc}
+use Rattle.std.proofs.lemmas.Option.{get_or_from_slice_get}
 use Rattle.grammar.specs.declared.symbol.Symbol.{Symbol}
 use Rattle.grammar.specs.declared.symbol.Symbol.TheVariants.{Part}
 use Rattle.grammar.specs.Grammars.{Grammar, Event, took, did, did_all, tokens, Begins, Derives, taken, refused, step}
@@ -20,7 +21,7 @@ use Rattle.npy_header.specs.Typed.{start, parts}
 use Rattle.npy_header.specs.Scans.{Scan, fresh, fields_of, after_byte, after_action, after_event, after_events}
 use Rattle.npy_header.specs.Reading.{cap, capped, capped_scan, after_byte_capped, after_actions, IsReading, IsRefused, Says}
 use Rattle.npy_header.proofs.Table.{numbers, header_ll1, header_moves}
-use Rattle.npy_header.proofs.Meaning.{G, MeansAs, means, get-map, get-map-back, at-numbers, index-at}
+use Rattle.npy_header.proofs.Meaning.{G, MeansAs, means, get-map, get-map-back, at-numbers}
 use Rattle.npy_header.proofs.Effects.{events-append}
 use Rattle.npy_header.proofs.Sound.{closed}
 use Rattle.npy_header.proofs.Meanings.{M}
@@ -92,7 +93,7 @@ reading-taken w left after scan b actions small r e =
 
 -- ---- derivations and headers
 
-part_0 : slice_get parts 0 ≡ Some start
+pub part_0 : slice_get parts 0 ≡ Some start
 unfolding parts
 part_0 = refl
 
@@ -120,7 +121,7 @@ has-kinds = λ k h.
     let a : slice_get (map kind_of byte_of) k ≡ Some (0 + k) = ap (λ l. slice_get l k) kinds-of ∙ at-numbers 31 0 k h in
     let b = get-map-back kind_of byte_of k (0 + k) a in
     let e : 0 + k ≡ k = omega arith in
-    ap kind_of (index-at byte_of k b.0 0 b.1) ∙ (b.2 ∙ e)
+    ap kind_of (get_or_from_slice_get byte_of k b.0 0 b.1) ∙ (b.2 ∙ e)
 
 -- ---- refusals
 

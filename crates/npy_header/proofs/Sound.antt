@@ -1,6 +1,8 @@
 -- What the rows derive is a header, with the fields that its events leave.
 use Rattle.std.proofs.Common.{◌≡◌, ◌≢◌, ℕ, zero, suc, ◌<◌, ◌≤◌, ◌+◌, ◌-◌, ◌*◌, Bool, true, false, ◌||◌, ◌&&◌, not, cond, nat_eq, List, [], ◌∷◌, ◌++◌, ◌⊎◌, inl, inr, Some, None, refl, ap, sym, subst, ◌∙◌, arith, append_assoc, append-nil}
 use Rattle.std.specs.Prelude.{Option, slice_get}
+use Rattle.std.proofs.lemmas.Bool.{eqb-true, and_parts, or_cases}
+use Rattle.std.proofs.lemmas.Option.{none-some}
 use Rattle.grammar.specs.Grammars.{Event, took, did, tokens, DerivesIn, Derives}
 use Rattle.npy_header.specs.Headers.{Fields, Quote, single, double, quote_byte, AllBytes, AreSpaces, IsInside, IsDigit, decimal, IsNumber, Entry, descr, fortran, shape, key_text, bool_text, AreAxes, IsTuple, IsValue, IsItem, AreMore, Keys, has, without, EachOnce, with_entry, with_entries, IsHeader}
 use Rattle.npy_header.specs.Kinds.{singles, kind_of}
@@ -16,23 +18,13 @@ use Rattle.npy_header.proofs.Meanings.{same, keys, TailMeans, SpacesMean, String
 if-kind : (j k : ℕ) (r rule : List HSym) (others : Option (List HSym)) → if_kind j k r others ≡ Some rule → ((k ≡ j) × (r ≡ rule)) ⊎ (others ≡ Some rule)
 if-kind j k r rule others h = by (nat_eq k j) refl h
   where
-    equal : (k j : ℕ) → nat_eq k j ≡ true → k ≡ j
-    equal k j e = grind arith
-
     by : (c : Bool) → nat_eq k j ≡ c → cond c (Some r) others ≡ Some rule → ((k ≡ j) × (r ≡ rule)) ⊎ (others ≡ Some rule)
-    by true e h = inl (equal k j e, cc)
+    by true e h = inl (eqb-true k j e, cc)
     by false e h = inr h
 
 if-true : (c : Bool) (r rule : List HSym) (others : Option (List HSym)) → cond c (Some r) others ≡ Some rule → ((c ≡ true) × (r ≡ rule)) ⊎ (others ≡ Some rule)
 if-true true r rule others h = inl (refl, cc)
 if-true false r rule others h = inr h
-
-both : (a b : Bool) → (a && b) ≡ true → (a ≡ true) × (b ≡ true)
-both true b h = (refl, h)
-both false b h = cc
-
-none-some : (rule : List HSym) → None ≡ Some rule → ⊥
-none-some rule h = cc
 
 -- ---- pieces
 
@@ -98,23 +90,16 @@ on-string q t rule es h m = elim (if-true (may_stand_in q (kind_of t)) (sub (str
 string-none : (q : Quote) (es : List Event) → es ≡ [] → M (string q) es
 string-none q es e = record { words = []; ok = tt; does = subst (λ x. DoesText x []) (sym e) text-nothing }
 
-either : (a b : Bool) → (a || b) ≡ true → (a ≡ true) ⊎ (b ≡ true)
-either true b h = inl refl
-either false b h = inr h
-
-equal : (k j : ℕ) → nat_eq k j ≡ true → k ≡ j
-equal k j e = grind arith
-
 on-digits : (t : ℕ) (rule : List HSym) (es : List Event) → on_part digits (kind_of t) ≡ Some rule → MeansAs M rule es → M digits (took t ∷ es)
 on-digits t rule es h m = elim (if-true (nat_eq (kind_of t) 27 || nat_eq (kind_of t) 28) (sub digits ∷ []) rule None h) [
   | inl a ↦ let r = last digits es (subst (λ x. MeansAs M x es) (sym a.1) m) in
-      record { words = t ∷ r.words; ok = (is-digit (either (nat_eq (kind_of t) 27) (nat_eq (kind_of t) 28) a.0), r.ok); does = digits-took t es r.words r.does }
+      record { words = t ∷ r.words; ok = (is-digit (or_cases (nat_eq (kind_of t) 27) (nat_eq (kind_of t) 28) a.0), r.ok); does = digits-took t es r.words r.does }
   | inr n ↦ absurd (none-some rule n)
 ]
   where
     is-digit : (nat_eq (kind_of t) 27 ≡ true) ⊎ (nat_eq (kind_of t) 28 ≡ true) → IsDigit t
-    is-digit (inl z) = let e : t ≡ 48 = zero-digit t (equal (kind_of t) 27 z) in record { low = omega (arith, e); high = omega (arith, e) }
-    is-digit (inr d) = (digit-from t (equal (kind_of t) 28 d)).0
+    is-digit (inl z) = let e : t ≡ 48 = zero-digit t (eqb-true (kind_of t) 27 z) in record { low = omega (arith, e); high = omega (arith, e) }
+    is-digit (inr d) = (digit-from t (eqb-true (kind_of t) 28 d)).0
 
 digits-none : (es : List Event) → es ≡ [] → M digits es
 digits-none es e = record { words = []; ok = tt; does = subst (λ x. DoesDigits x []) (sym e) digits-nothing }
@@ -133,7 +118,7 @@ digits-number t es e d =
     record { n = decimal (t - 48) d.words; words = t ∷ d.words; ok = inr (g.0, g.1, d.ok, ap (λ x. decimal x d.words) v); does = does-number t es d.words d.does }
 
 -- a number and what stands behind it
-push-more : (n : ℕ) (ns : List ℕ) (f : Fields) → pushes ns (pushes (n ∷ []) f) ≡ pushes (n ∷ ns) f
+pub push-more : (n : ℕ) (ns : List ℕ) (f : Fields) → pushes ns (pushes (n ∷ []) f) ≡ pushes (n ∷ ns) f
 push-more n ns f = ap (λ x. record f { shape = x }) (append_assoc f.shape (n ∷ []) ns)
 
 pub after-number : (num es : List Event) (x : NumberMeans num) (w ns : List ℕ) → Does es w (pushes ns) → Does (num ++ es) (x.words ++ w) (pushes (x.n ∷ ns))
@@ -360,20 +345,20 @@ key-means q k b rest ks value then t es e sp get h =
 
 on-key : (d f s : Bool) (q : Quote) (t : ℕ) (rule : List HSym) (es : List Event) → on_part (key d f s q) (kind_of t) ≡ Some rule → MeansAs M rule es → M (key d f s q) (took t ∷ es)
 on-key d f s q t rule es h m = elim (if-true (d && nat_eq (kind_of t) 10) (item_rest descr_rest q descr_value (more false f s)) rule _ h) [
-  | inl a ↦ let c = both d (nat_eq (kind_of t) 10) a.0 in
-      key-means q (keys d f s) 100 (101 ∷ 115 ∷ 99 ∷ 114 ∷ []) descr_rest descr_value (more false f s) t es (one-byte t 10 100 (equal (kind_of t) 10 c.1) (omega arith) refl)
+  | inl a ↦ let c = and_parts d (nat_eq (kind_of t) 10) a.0 in
+      key-means q (keys d f s) 100 (101 ∷ 115 ∷ 99 ∷ 114 ∷ []) descr_rest descr_value (more false f s) t es (one-byte t 10 100 (eqb-true (kind_of t) 10 c.1) (omega arith) refl)
       (omega arith, refl, (omega arith, refl, (omega arith, refl, (omega arith, refl, tt))))
       (λ x v. record { entry = descr v.value; words = v.words; key_is = refl; has_it = c.0; ok = v.ok; does = v.does; then_is = λ y z. z })
       (subst (λ x. MeansAs M x es) (sym a.1) m)
   | inr n ↦ elim (if-true (f && nat_eq (kind_of t) 15) (item_rest fortran_rest q fortran_value (more d false s)) rule _ n) [
-    | inl a ↦ let c = both f (nat_eq (kind_of t) 15) a.0 in
-        key-means q (keys d f s) 102 (111 ∷ 114 ∷ 116 ∷ 114 ∷ 97 ∷ 110 ∷ 95 ∷ 111 ∷ 114 ∷ 100 ∷ 101 ∷ 114 ∷ []) fortran_rest fortran_value (more d false s) t es (one-byte t 15 102 (equal (kind_of t) 15 c.1) (omega arith) refl)
+    | inl a ↦ let c = and_parts f (nat_eq (kind_of t) 15) a.0 in
+        key-means q (keys d f s) 102 (111 ∷ 114 ∷ 116 ∷ 114 ∷ 97 ∷ 110 ∷ 95 ∷ 111 ∷ 114 ∷ 100 ∷ 101 ∷ 114 ∷ []) fortran_rest fortran_value (more d false s) t es (one-byte t 15 102 (eqb-true (kind_of t) 15 c.1) (omega arith) refl)
         (omega arith, refl, (omega arith, refl, (omega arith, refl, (omega arith, refl, (omega arith, refl, (omega arith, refl, (omega arith, refl, (omega arith, refl, (omega arith, refl, (omega arith, refl, (omega arith, refl, (omega arith, refl, tt))))))))))))
         (λ x v. record { entry = fortran v.value; words = v.words; key_is = refl; has_it = c.0; ok = v.ok; does = v.does; then_is = λ y z. z })
         (subst (λ x. MeansAs M x es) (sym a.1) m)
     | inr o ↦ elim (if-true (s && nat_eq (kind_of t) 12) (item_rest shape_rest q shape_value (more d f false)) rule None o) [
-      | inl a ↦ let c = both s (nat_eq (kind_of t) 12) a.0 in
-          key-means q (keys d f s) 115 (104 ∷ 97 ∷ 112 ∷ 101 ∷ []) shape_rest shape_value (more d f false) t es (one-byte t 12 115 (equal (kind_of t) 12 c.1) (omega arith) refl)
+      | inl a ↦ let c = and_parts s (nat_eq (kind_of t) 12) a.0 in
+          key-means q (keys d f s) 115 (104 ∷ 97 ∷ 112 ∷ 101 ∷ []) shape_rest shape_value (more d f false) t es (one-byte t 12 115 (eqb-true (kind_of t) 12 c.1) (omega arith) refl)
           (omega arith, refl, (omega arith, refl, (omega arith, refl, (omega arith, refl, tt))))
           (λ x v. record { entry = shape v.value; words = v.words; key_is = refl; has_it = c.0; ok = v.ok; does = v.does; then_is = λ y z. z })
           (subst (λ x. MeansAs M x es) (sym a.1) m)

@@ -2,7 +2,7 @@
 use Rattle.std.proofs.Common.{◌≡◌, ℕ, ℤ, pos, zero, suc, ◌≤◌, ◌<◌, ◌+◌, ◌-◌, ◌*◌, ◌/◌, List, [], ◌∷◌, ◌++◌, length, take, drop, get_or, refl, ap, ap₂, sym, ◌∙◌, arith, append_assoc}
 use Rattle.std.specs.Prelude.{map, Result, Ok, Err, OnOk}
 use Rattle.std.specs.Simd.{first_chunks}
-use Rattle.std.proofs.lemmas.List.{length-drop, length-take-le, drop-drop, take-append-drop}
+use Rattle.std.proofs.lemmas.List.{length-drop, length-take-le, drop-drop, take-append-drop, append-nil}
 use Rattle.std.proofs.Math.Seq.{take-add}
 use Rattle.io_edge.specs.Content.{Content, Told, Untold, OnTold, size_of, ReadsAll}
 use Rattle.npy_codec.specs.Npy.{cell, cells}
@@ -93,10 +93,6 @@ ReadTo file offset done before now = OnTold file (λ bytes. now ≡ before ++ ce
 pub read_none : (file : Content) (offset : ℕ) (before : List ℤ) → ReadTo file offset 0 before before
 read_none (Untold size) offset before = tt
 read_none (Told bytes) offset before = sym (append-nil before)
-  where
-    append-nil : (l : List ℤ) → l ++ [] ≡ l
-    append-nil [] = refl
-    append-nil (x ∷ l) = ap (λ m. x ∷ m) (append-nil l)
 
 -- one more piece
 pub read_step : (file : Content) (old new : List ℕ) (offset done step n : ℕ) (before out more : List ℤ) → ReadsAll file (offset + 8 * done) old new n → length old ≡ 8 * step → length new ≡ length old →

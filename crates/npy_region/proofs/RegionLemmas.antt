@@ -1,8 +1,10 @@
 -- Elements of a region, as they are read row by row and as a block.
-use Rattle.std.proofs.Common.{◌≡◌, ℕ, ℤ, pos, zero, suc, ◌≤◌, ◌<◌, ◌+◌, ◌-◌, ◌*◌, ◌/◌, ◌%◌, inl, inr, List, [], ◌∷◌, ◌++◌, length, take, drop, get_or, refl, ap, ap₂, sym, ◌∙◌, arith, subst, length-append}
+use Rattle.std.proofs.Common.{◌≡◌, ℕ, ℤ, pos, zero, suc, ◌≤◌, ◌<◌, ◌+◌, ◌-◌, ◌*◌, ◌/◌, ◌%◌, inl, inr, List, [], ◌++◌, length, take, drop, get_or, refl, ap, ap₂, sym, ◌∙◌, arith, subst, length-append}
 use Rattle.std.specs.Prelude.{Bool, true, false}
 use Rattle.std.proofs.lemmas.Nat.{div-mul-add, div-add-mod', div_below, mod_below}
-use Rattle.std.proofs.lemmas.List.{length-drop, length-take-le, drop-drop, drop-take, get_or_append_left, get_or-append_right}
+use Rattle.std.proofs.lemmas.List.{length-drop, length-take-le, drop-drop, drop-take, get_or_append_left, get_or-append_right, take-take}
+use Rattle.std.proofs.Math.Arith.{digits_lt}
+use Rattle.std.proofs.Math.Nat.{mul-le-mul_right}
 use Rattle.io_edge.specs.Content.{Content, Told, Untold, OnTold, size_of}
 use Rattle.nd_shape.specs.Shape.{elements}
 use Rattle.nd_shape.specs.Index.{place}
@@ -19,12 +21,6 @@ use Rattle.io_edge.proofs.GivenLaws.{only_one, only_then, only_as}
 use Rattle.npy_region.specs.Cells.{cell_at, AreStored, EndsWithin, InRowMajor, IsStoredByte, IsByteIn}
 use Rattle.npy_codec.specs.Regions.{HoldsRegion, needed, bytes_up_to}
 use Rattle.npy_region.proofs.CellLemmas.{length-cells, cells-get}
-
-take-take : (k n : ℕ) (xs : List ℕ) → k ≤ n → take k (take n xs) ≡ take k xs
-take-take zero n xs h = refl
-take-take (suc k) zero xs h = absurd (omega arith)
-take-take (suc k) (suc n) [] h = refl
-take-take (suc k) (suc n) (x ∷ xs) h = ap (λ ys. x ∷ ys) (take-take k n xs (omega arith))
 
 -- ---- rows
 
@@ -94,16 +90,11 @@ pub row_room : (size data_at row k : ℕ) (walk : Walk) (h : IsRow walk row) →
 row_room size data_at row k walk h k_in room =
     let some : 0 < row = h.some in
     let w : count_of walk ≡ h.rows * row = h.whole in
-    let e : (k + 1) * row ≤ h.rows * row = times (k + 1) h.rows row (omega arith) in
+    let e : (k + 1) * row ≤ h.rows * row = mul-le-mul_right row (omega arith) in
     let q_in : k * row + (row - 1) < count_of walk = omega arith in
     let s : spot walk (k * row + (row - 1)) ≡ spot walk (k * row) + (row - 1) = h.together k (row - 1) k_in (omega arith) in
     let r : data_at + 8 * (spot walk (k * row + (row - 1)) + 1) ≤ size = room.each (k * row + (row - 1)) q_in in
     omega (arith, s, r)
-  where
-    times : (a b c : ℕ) → a ≤ b → a * c ≤ b * c
-    times zero b c h = omega arith
-    times (suc a) zero c h = absurd (omega arith)
-    times (suc a) (suc b) c h = let k = times a b c (omega arith) in omega (arith, k)
 
 -- ---- how many bytes a region needs
 
@@ -209,13 +200,8 @@ row_starts walk row count k h is_count k_in =
     let some : 0 < row = h.some in
     let r : count / row ≡ h.rows = rows_are walk row count h is_count in
     let w : count ≡ h.rows * row = is_count ∙ h.whole in
-    let b : (k + 1) * row ≤ h.rows * row = times (k + 1) h.rows row (omega arith) in
+    let b : (k + 1) * row ≤ h.rows * row = mul-le-mul_right row (omega arith) in
     omega (arith, b)
-  where
-    times : (a b c : ℕ) → a ≤ b → a * c ≤ b * c
-    times zero b c h = omega arith
-    times (suc a) zero c h = absurd (omega arith)
-    times (suc a) (suc b) c h = let k = times a b c (omega arith) in omega (arith, k)
 
 pub rows_end : (walk : Walk) (row count k : ℕ) (h : IsRow walk row) → count ≡ count_of walk → k ≡ count / row → k * row ≡ count_of walk
 rows_end walk row count k h is_count is_k = ap (λ n. n * row) (is_k ∙ rows_are walk row count h is_count) ∙ sym h.whole
@@ -253,18 +239,13 @@ row_byte data_at offset row k p walk h k_in at inside =
     let split : (p - offset) / 8 * 8 + (p - offset) % 8 ≡ p - offset = div-add-mod' (p - offset) 8 in
     let s : spot walk (k * row + (p - offset) / 8) ≡ spot walk (k * row) + (p - offset) / 8 = h.together k ((p - offset) / 8) k_in r_in in
     let w : count_of walk ≡ h.rows * row = h.whole in
-    let there : k * row + (p - offset) / 8 < h.rows * row = row_inside k h.rows row ((p - offset) / 8) k_in r_in in
+    let there : k * row + (p - offset) / 8 < h.rows * row = digits_lt k_in r_in in
     record {
       number = k * row + (p - offset) / 8;
       there = omega (arith, w, there);
       low = omega (arith, s, at, split, low);
       high = omega (arith, s, at, split, rest, low);
     }
-  where
-    row_inside : (k rows row j : ℕ) → k < rows → j < row → k * row + j < rows * row
-    row_inside k zero row j h b = absurd (omega arith)
-    row_inside zero (suc rows) row j h b = omega arith
-    row_inside (suc k) (suc rows) row j h b = let n = row_inside k rows row j (omega arith) b in omega (arith, n)
 
 -- a byte of a walk's element is one of the region
 pub walk_byte : (head : Head) (region : Box) (walk : Walk) (p : ℕ) → IsPart region head.shape → walk ≡ walk_of head.fortran head.shape region → IsStoredByte walk head.data_at p → IsByteIn head region p

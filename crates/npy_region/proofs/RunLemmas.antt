@@ -1,8 +1,10 @@
 -- Runs that are put together element by element hold all elements of a region, in as few runs as there can be.
-use Rattle.std.proofs.Common.{◌≡◌, ℕ, zero, suc, ◌≤◌, ◌<◌, ◌+◌, ◌-◌, ◌*◌, ◌/◌, inl, inr, List, [], ◌∷◌, ◌++◌, length, get_or, refl, ap, ap₂, sym, ◌∙◌, arith, subst, length-append}
+use Rattle.std.proofs.Common.{◌≡◌, ℕ, ◌≤◌, ◌<◌, ◌+◌, ◌-◌, ◌*◌, ◌/◌, inl, inr, List, [], ◌∷◌, ◌++◌, length, get_or, refl, ap, ap₂, sym, ◌∙◌, arith, subst, length-append}
 use Rattle.std.specs.Prelude.{Bool, false}
 use Rattle.std.proofs.lemmas.Nat.{div-mul-add}
 use Rattle.std.proofs.lemmas.List.{get_or_append_left, get_or-append_right}
+use Rattle.std.proofs.Math.Nat.{mul-le-mul_right}
+use Rattle.small_facts.proofs.Numbers.{product_left}
 use Rattle.nd_shape.specs.Shape.{elements}
 use Rattle.nd_shape.specs.Index.{IsIn}
 use Rattle.nd_shape.specs.Region.{Box, IsPart}
@@ -274,11 +276,7 @@ unit_here head region walk targets block unit k count run is_walk is_targets is_
     unit_is head region unit k run s' (subst (λ m. k < m) n k_in) (run_here head region walk targets block unit (k * unit) run is_walk is_targets is_block e)
 
 pub units_some : (b : Bool) (walk : Walk) (unit count : ℕ) → Splits b walk unit → count ≡ count_of walk → 0 < count → 0 < count / unit
-units_some b walk unit count s is_count some = subst (λ n. 0 < n) (sym (ap (λ c. c / unit) is_count ∙ units_are b walk unit s)) (positive s.units unit (subst (λ n. 0 < n) (is_count ∙ s.whole) some))
-  where
-    positive : (a b : ℕ) → 0 < a * b → 0 < a
-    positive zero b h = absurd (omega arith)
-    positive (suc a) b h = omega arith
+units_some b walk unit count s is_count some = subst (λ n. 0 < n) (sym (ap (λ c. c / unit) is_count ∙ units_are b walk unit s)) (product_left s.units unit (subst (λ n. 0 < n) (is_count ∙ s.whole) some))
 
 pub first_here : (head : Head) (region : Box) (walk : Walk) (targets : Targets) (block : List ℕ) (unit count : ℕ) (run : Run) → walk ≡ walk_of head.fortran head.shape region → targets ≡ record { by_column = head.fortran; lengths = stored head.fortran block } → block ≡ region.lengths →
     Splits head.fortran walk unit → count ≡ count_of walk → 0 < count → run ≡ record { offset = head.data_at + 8 * spot walk 0; length = 8 * unit; place = target targets.by_column targets.lengths 0 } →
@@ -293,12 +291,7 @@ first_here head region walk targets block unit count run is_walk is_targets is_b
 unit_end : (b : Bool) (walk : Walk) (unit count k : ℕ) → Splits b walk unit → count ≡ count_of walk → k ≤ count / unit → k * unit ≤ count_of walk
 unit_end b walk unit count k s is_count k_in =
     let n : count / unit ≡ s.units = ap (λ c. c / unit) is_count ∙ units_are b walk unit s in
-    subst (λ m. k * unit ≤ m) (sym s.whole) (times k s.units unit (omega (arith, n)))
-  where
-    times : (a b c : ℕ) → a ≤ b → a * c ≤ b * c
-    times zero b c h = omega arith
-    times (suc a) zero c h = absurd (omega arith)
-    times (suc a) (suc b) c h = let k = times a b c (omega arith) in omega (arith, k)
+    subst (λ m. k * unit ≤ m) (sym s.whole) (mul-le-mul_right unit (omega (arith, n)))
 
 pub unit_starts : (b : Bool) (walk : Walk) (unit count k : ℕ) → Splits b walk unit → count ≡ count_of walk → k < count / unit → k * unit < count_of walk
 unit_starts b walk unit count k s is_count k_in =

@@ -1,8 +1,8 @@
 -- Elements that are written piece by piece, and runs of a region that are written one after the other.
 use Rattle.std.proofs.Common.{◌≡◌, ℕ, ℤ, pos, zero, suc, ◌≤◌, ◌<◌, ◌+◌, ◌-◌, ◌*◌, ◌/◌, ◌%◌, ◌⊎◌, inl, inr, List, [], ◌∷◌, ◌++◌, length, take, drop, get_or, refl, ap, ap₂, sym, ◌∙◌, arith, subst, append_assoc, length-append}
-use Rattle.std.specs.Prelude.{Bool, true, false, map, Result, Ok, Err, OnOk, OnErr}
+use Rattle.std.specs.Prelude.{Bool, true, false, map, Result, Ok, Err, OnOk}
 use Rattle.std.specs.List.{flat_map}
-use Rattle.std.proofs.lemmas.List.{take-append-drop, take_all, length-take, length-take-le, length-drop, get_or-take, get_or-drop, get_or_append_left, get_or-append_right}
+use Rattle.std.proofs.lemmas.List.{take-append-drop, take_all, length-take, length-take-le, length-drop, get_or-take, get_or-drop, get_or_append_left, get_or-append_right, take-take}
 use Rattle.std.proofs.lemmas.List.Concat.{flat_map-cons}
 use Rattle.std.proofs.lemmas.List.Edits.{length-paste}
 use Rattle.std.proofs.Math.Seq.{take-append_seam, drop-append_seam, paste}
@@ -22,12 +22,9 @@ use Rattle.npy_codec.specs.Regions.{offset_of}
 use Rattle.npy_region.specs.declared.runs.Run.{Run}
 use Rattle.npy_region.specs.Runs.{AreRuns, StandsIn, no_run}
 use Rattle.npy_region.specs.Writing.{byte_at, IsByteOf, IsOutside, Turns, WritesRegion, WritesSome}
+use Rattle.npy_codec.proofs.WrittenFiles.{length-cells_bytes}
 
 -- ## Elements as bytes
-
-pub length-cells_bytes : (zs : List ℤ) → length (cells_bytes zs) ≡ 8 * length zs
-length-cells_bytes [] = refl
-length-cells_bytes (z ∷ zs) = let r = length-cells_bytes zs in let e : length (cell_bytes z) ≡ 8 = refl in omega (arith, r, length-append (cell_bytes z) (cells_bytes zs), e)
 
 pub cells_bytes-append : (xs ys : List ℤ) → cells_bytes (xs ++ ys) ≡ cells_bytes xs ++ cells_bytes ys
 cells_bytes-append [] ys = refl
@@ -66,16 +63,6 @@ piece zs a n h =
     let l : n ≤ length (drop a zs) = omega (arith, h, length-drop a zs) in
     let b : a ≤ length zs = omega (arith, h) in
     sym (take-cells (drop a zs) n l) ∙ ap (take (8 * n)) (sym (drop-cells zs a b))
-
-take-take : (k n : ℕ) (xs : List ℕ) → k ≤ n → take k (take n xs) ≡ take k xs
-take-take zero n xs h = refl
-take-take (suc k) zero xs h = absurd (omega (arith, h))
-take-take (suc k) (suc n) [] h = refl
-take-take (suc k) (suc n) (x ∷ xs) h = ap (λ l. x ∷ l) (take-take k n xs (omega (arith, h)))
-
-pub always_err : {T E : Type 0} {P : Type 0} (r : Result T E) → P → OnErr r P
-always_err (Ok x) p = tt
-always_err (Err e) p = p
 
 -- what a chain over the elements put into an empty buffer
 pub filled : {E : Type 0} {A : Type 0} (P Q : Type 0) (r : Result (Unit {0}) E) (cleared all new : List A) → cleared ≡ [] → OnOk r ((new ≡ cleared ++ all) × P × Q) → OnOk r (new ≡ all)
@@ -305,7 +292,7 @@ FirstWritten head region block runs k = Turns (WritesFirst head region block run
 pub first_none : (head : Head) (region : Box) (block : Array) (runs : List Run) (c : Content) → FirstWritten head region block runs 0 c c
 first_none head region block runs c = turns_same (WritesFirst head region block runs 0) c (writes_none head region block runs)
 
-size-turns : (R : List ℕ → List ℕ → Type 0) (c d : Content) → ((old new : List ℕ) → R old new → length new ≡ length old) → Turns R c d → size_of d ≡ size_of c
+pub size-turns : (R : List ℕ → List ℕ → Type 0) (c d : Content) → ((old new : List ℕ) → R old new → length new ≡ length old) → Turns R c d → size_of d ≡ size_of c
 size-turns R (Told old) (Told new) keeps turns = keeps old new turns
 size-turns R (Told old) (Untold size) keeps turns = absurd turns
 size-turns R (Untold size) (Told new) keeps turns = absurd turns

@@ -2,17 +2,18 @@
 use Rattle.std.proofs.Common.{◌≡◌, ℕ, zero, suc, ◌+◌, ◌<◌, ◌≤◌, Bool, true, false, not, ◌||◌, List, [], ◌∷◌, Option, Some, None, refl, sym, ap, ◌∙◌, subst, arith, cond, take, filter, map, length, get_or, ⊎_elim, length-append}
 use Rattle.std.specs.Prelude.{◌==◌, nat_lt}
 use Rattle.std.specs.List.{position_or_len, insert}
-use Rattle.std.proofs.lemmas.Bool.{true≢false, false≢true, cases_lt, eq-eqb}
+use Rattle.std.proofs.lemmas.Bool.{false≢true, cases_lt, eq-eqb, or_left, or_right}
 use Rattle.std.proofs.lemmas.Bool.Decides.{nat_tests}
-use Rattle.std.proofs.lemmas.List.Sums.{prefix_len-le-length}
 use Rattle.std.proofs.lemmas.List.{get_or_past, take_more, map-append}
 use Rattle.std.proofs.lemmas.List.Elements.{Contains-get_or}
 use Rattle.std.specs.Prelude.{All, Result, Ok, Err, IfOk, IfSome}
+use Rattle.std.proofs.lemmas.Option.{none-some, same_Some}
+use Rattle.small_facts.proofs.Numbers.{eqb_turned}
+use Rattle.small_facts.proofs.Truth.{or_swap, or_first_false, or_second_false, cond_same}
 use mir.Val.{bool_byte}
 use Rattle.cluster_msgs.specs.Shape.{Shape, nbytes_of}
 use Rattle.cluster_rules.specs.Functions.{total, from_one}
 use Rattle.cluster_rules.specs.Worker.{Ask, names_key, is_asked_for, ask_to, with_ask, without_ask, total_bytes}
-use Rattle.cluster_rules.proofs.DerivedLemmas.{eqb_comm}
 use Rattle.cluster_rules.proofs.Members.{any_some}
 use Rattle.cluster_rules.proofs.SchedLemmas.{filter-more}
 use Rattle.cluster_rules.proofs.TotalLemmas.{total-push}
@@ -23,40 +24,14 @@ pub place_some : (b : Bool) (n i : ℕ) → Some i ≡ cond b (Some n) None → 
 place_some true n i h = cc
 place_some false n i h = cc
 
-pub place_none : (b : Bool) (n : ℕ) → None ≡ cond b (Some n) None → b ≡ false
-place_none true n h = cc
-place_none false n h = refl
-
-ends : (n m : ℕ) → n ≤ m → nat_lt n m ≡ false → m ≡ n
-ends n m l h = grind (arith, nat_tests)
-
-pub place_end : {A : Type 0} (p : A → Bool) (xs : List A) → nat_lt (position_or_len p xs) (length xs) ≡ false → length xs ≡ position_or_len p xs
-place_end p xs h = ends (position_or_len p xs) (length xs) (prefix_len-le-length (λ x. not (p x)) xs) h
-
 -- a mark
 pub or_mark : (b : Bool) (k key : ℕ) → cond (k == key) true b ≡ (b || (key == k))
-or_mark true k key = same (k == key)
-  where
-    same : (c : Bool) → cond c true true ≡ true
-    same true = refl
-    same false = refl
-or_mark false k key = same (k == key) ∙ eqb_comm k key
+or_mark true k key = cond_same (k == key) true
+or_mark false k key = same (k == key) ∙ eqb_turned k key
   where
     same : (c : Bool) → cond c true false ≡ c
     same true = refl
     same false = refl
-
-or_true : (b : Bool) → (b || true) ≡ true
-or_true true = refl
-or_true false = refl
-
-or_false : (b : Bool) → (b || false) ≡ b
-or_false true = refl
-or_false false = refl
-
-pub or_assoc : (a b c : Bool) → ((a || b) || c) ≡ (a || (b || c))
-or_assoc true b c = refl
-or_assoc false b c = refl
 
 -- a truth value as a number
 pub byte_is : (b : Bool) → bool_byte b ≡ cond b 1 0
@@ -67,39 +42,22 @@ pub byte_small : (b : Bool) → bool_byte b ≤ 1
 byte_small true = omega arith
 byte_small false = omega arith
 
-pub not_true : (b : Bool) → (b ≡ true → ⊥) → b ≡ false
-not_true true h = absurd (h refl)
-not_true false h = refl
-
 -- open asks
 pub asked-with : (a : Ask) (bs : List Ask) (k : ℕ) → is_asked_for (with_ask a bs) k ≡ (names_key k a || is_asked_for bs k)
 asked-with a [] k = refl
 asked-with a (b ∷ bs) k = pick (nat_lt a.peer b.peer) (asked-with a bs k)
   where
-    turn : (x y z : Bool) → (x || (y || z)) ≡ (y || (x || z))
-    turn true true z = refl
-    turn true false z = refl
-    turn false y z = refl
-
     pick : (t : Bool) → is_asked_for (with_ask a bs) k ≡ (names_key k a || is_asked_for bs k) → is_asked_for (cond t (a ∷ b ∷ bs) (b ∷ with_ask a bs)) k ≡ (names_key k a || (names_key k b || is_asked_for bs k))
     pick true r = refl
-    pick false r = ap (λ x. names_key k b || x) r ∙ turn (names_key k b) (names_key k a) (is_asked_for bs k)
+    pick false r = ap (λ x. names_key k b || x) r ∙ or_swap (names_key k b) (names_key k a) (is_asked_for bs k)
 
 pub asked-without : (asks : List Ask) (p k : ℕ) → is_asked_for asks k ≡ false → is_asked_for (without_ask asks p) k ≡ false
 asked-without [] p k h = refl
-asked-without (a ∷ bs) p k h = pick (a.peer == p) (asked-without bs p k (second (names_key k a) (is_asked_for bs k) h))
+asked-without (a ∷ bs) p k h = pick (a.peer == p) (asked-without bs p k (or_second_false (names_key k a) (is_asked_for bs k) h))
   where
-    first : (x y : Bool) → (x || y) ≡ false → x ≡ false
-    first true y h = h
-    first false y h = refl
-
-    second : (x y : Bool) → (x || y) ≡ false → y ≡ false
-    second true y h = absurd (true≢false h)
-    second false y h = h
-
     pick : (t : Bool) → is_asked_for (without_ask bs p) k ≡ false → is_asked_for (cond (not t) (a ∷ without_ask bs p) (without_ask bs p)) k ≡ false
     pick true r = r
-    pick false r = ap (λ x. x || is_asked_for (without_ask bs p) k) (first (names_key k a) (is_asked_for bs k) h) ∙ r
+    pick false r = ap (λ x. x || is_asked_for (without_ask bs p) k) (or_first_false (names_key k a) (is_asked_for bs k) h) ∙ r
 
 pub with_ask-insert : (a : Ask) (bs : List Ask) → insert bs (position_or_len (λ (b : Ask). nat_lt a.peer b.peer) bs) a ≡ with_ask a bs
 with_ask-insert a [] = refl
@@ -139,27 +97,13 @@ first_is zero = refl
 first_is (suc n) = grind (arith, nat_tests)
 
 -- what an open ask names is asked for
-named_asked : (asks : List Ask) (p : ℕ) (a : Ask) (k : ℕ) → ask_to asks p ≡ Some a → names_key k a ≡ true → is_asked_for asks k ≡ true
-named_asked [] p a k h e = absurd (none_some a h)
-  where
-    none_some : (x : Ask) → None ≡ Some x → ⊥
-    none_some x h = cc
+pub named_asked : (asks : List Ask) (p : ℕ) (a : Ask) (k : ℕ) → ask_to asks p ≡ Some a → names_key k a ≡ true → is_asked_for asks k ≡ true
+named_asked [] p a k h e = absurd (none-some a h)
 named_asked (b ∷ bs) p a k h e = pick (b.peer == p) h (λ i. named_asked bs p a k i e)
   where
-    some_same : (x y : Ask) → Some x ≡ Some y → x ≡ y
-    some_same x y h = cc
-
-    first : (x y : Bool) → x ≡ true → (x || y) ≡ true
-    first true y e = refl
-    first false y e = absurd (false≢true e)
-
-    later : (x y : Bool) → y ≡ true → (x || y) ≡ true
-    later true y e = refl
-    later false y e = e
-
     pick : (t : Bool) → cond t (Some b) (ask_to bs p) ≡ Some a → (ask_to bs p ≡ Some a → is_asked_for bs k ≡ true) → (names_key k b || is_asked_for bs k) ≡ true
-    pick true i r = first (names_key k b) (is_asked_for bs k) (ap (names_key k) (some_same b a i) ∙ e)
-    pick false i r = later (names_key k b) (is_asked_for bs k) (r i)
+    pick true i r = or_left (names_key k b) (is_asked_for bs k) (ap (names_key k) (same_Some b a i) ∙ e)
+    pick false i r = or_right (names_key k b) (is_asked_for bs k) (r i)
 
 pub within : (asks : List Ask) (p : ℕ) (a : Ask) (n : ℕ) → ask_to asks p ≡ Some a → ((k : ℕ) → is_asked_for asks k ≡ true → k < n) → All (λ i. i.0 < n) a.items
 within asks p a n h low = λ k d l. low (get_or a.items k d).0 (named_asked asks p a (get_or a.items k d).0 h (any_some (λ i. i.0 == (get_or a.items k d).0) a.items (get_or a.items k d) (Contains-get_or a.items k d l) (eq-eqb (get_or a.items k d).0 (get_or a.items k d).0 refl)))

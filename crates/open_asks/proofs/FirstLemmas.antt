@@ -3,6 +3,8 @@ use Rattle.std.proofs.Common.{◌≡◌, ℕ, suc, ◌+◌, ◌<◌, Bool, true,
 use Rattle.std.specs.Prelude.{◌==◌, nat_lt}
 use Rattle.std.specs.List.{remove, position_or_len}
 use Rattle.std.proofs.lemmas.Bool.Decides.{nat_tests}
+use Rattle.std.proofs.lemmas.Option.{same_Some}
+use Rattle.small_facts.proofs.Truth.{or_swap}
 use Rattle.cluster_rules.specs.Worker.{Ask, names_key, is_asked_for, ask_to}
 use Rattle.open_asks.specs.Kept.{Kept, without_first}
 
@@ -70,26 +72,11 @@ pub asked-first : (p : ℕ) (bs : List Ask) (x : Ask) (k : ℕ) → ask_to bs p 
 asked-first p [] x k h = cc
 asked-first p (b ∷ bs) x k h = pick (b.peer == p) (asked-first p bs x k) h
   where
-    turn : (u v w : Bool) → (u || (v || w)) ≡ (v || (u || w))
-    turn true true w = refl
-    turn true false w = refl
-    turn false v w = refl
-
-    same : Some b ≡ Some x → b ≡ x
-    same e = cc
-
     pick : (t : Bool) → (ask_to bs p ≡ Some x → is_asked_for bs k ≡ (names_key k x || is_asked_for (without_first bs p) k)) → cond t (Some b) (ask_to bs p) ≡ Some x
         → (names_key k b || is_asked_for bs k) ≡ (names_key k x || is_asked_for (cond t bs (b ∷ without_first bs p)) k)
-    pick true r e = ap (λ y. names_key k y || is_asked_for bs k) (same e)
-    pick false r e = ap (λ t. names_key k b || t) (r e) ∙ turn (names_key k b) (names_key k x) (is_asked_for (without_first bs p) k)
-
-pub second_none : (n r : Bool) → (n || r) ≡ false → r ≡ false
-second_none true r h = cc
-second_none false r h = h
+    pick true r e = ap (λ y. names_key k y || is_asked_for bs k) (same_Some b x e)
+    pick false r e = ap (λ t. names_key k b || t) (r e) ∙ or_swap (names_key k b) (names_key k x) (is_asked_for (without_first bs p) k)
 
 pub place_low : (b : Bool) (n i : ℕ) → Some i ≡ cond b (Some n) None → b ≡ true
 place_low true n i h = refl
 place_low false n i h = cc
-
-pub lower : (x n : ℕ) → nat_lt x n ≡ true → x < n
-lower x n e = grind (arith, nat_tests)

@@ -2,37 +2,25 @@
 use Rattle.std.proofs.Common.{◌≡◌, ℕ, zero, suc, ◌+◌, ◌<◌, Bool, true, false, not, ◌&&◌, ◌||◌, List, [], ◌∷◌, refl, sym, ap, ◌∙◌, arith, cond, length, get_or}
 use Rattle.std.specs.Prelude.{◌==◌}
 use Rattle.std.specs.List.{list_any, insert}
-use Rattle.std.proofs.lemmas.Bool.Decides.{nat_tests}
+use Rattle.small_facts.proofs.Numbers.{eqb_turned}
+use Rattle.small_facts.proofs.Truth.{or_regroup, or_swap, cond_same}
 use Rattle.cluster_rules.specs.Worker.{Ask, names_key, is_asked_for, without_ask}
 use Rattle.open_asks.specs.Flying.{names_to}
 
 pub and_mark : (b : Bool) (k key : ℕ) → cond (k == key) false b ≡ (b && not (key == k))
-and_mark true k key = pick (k == key) (key == k) (turn k key)
+and_mark true k key = pick (k == key) (key == k) (eqb_turned k key)
   where
-    turn : (i j : ℕ) → (i == j) ≡ (j == i)
-    turn i j = grind (arith, nat_tests)
-
     pick : (s t : Bool) → s ≡ t → cond s false true ≡ not t
     pick true true e = refl
     pick true false e = cc
     pick false true e = cc
     pick false false e = refl
-and_mark false k key = pick (k == key)
-  where
-    pick : (s : Bool) → cond s false false ≡ false
-    pick true = refl
-    pick false = refl
+and_mark false k key = cond_same (k == key) false
 
 pub left_over : (n r : Bool) → (((n || r) && not n) || r) ≡ r
 left_over true r = refl
 left_over false true = refl
 left_over false false = refl
-
-pub or_turn : (a b : Bool) → (a || b) ≡ (b || a)
-or_turn true true = refl
-or_turn true false = refl
-or_turn false true = refl
-or_turn false false = refl
 
 -- the ask that was put in is at its place
 pub put_in : (bs : List Ask) (a d : Ask) (n : ℕ) → n < suc (length bs) → get_or (insert bs n a) n d ≡ a
@@ -46,16 +34,7 @@ pub asked-split : (asks : List Ask) (p k : ℕ) → is_asked_for asks k ≡ (lis
 asked-split [] p k = refl
 asked-split (a ∷ bs) p k = pick (a.peer == p) (asked-split bs p k)
   where
-    there : (u n w : Bool) → (u || (n || w)) ≡ ((u || n) || w)
-    there true n w = refl
-    there false n w = refl
-
-    past : (u n w : Bool) → (u || (n || w)) ≡ (n || (u || w))
-    past true true w = refl
-    past true false w = refl
-    past false n w = refl
-
     pick : (t : Bool) → is_asked_for bs k ≡ (list_any (names_to p k) bs || is_asked_for (without_ask bs p) k)
         → (names_key k a || is_asked_for bs k) ≡ (((t && names_key k a) || list_any (names_to p k) bs) || is_asked_for (cond (not t) (a ∷ without_ask bs p) (without_ask bs p)) k)
-    pick true r = ap (λ b. names_key k a || b) r ∙ there (names_key k a) (list_any (names_to p k) bs) (is_asked_for (without_ask bs p) k)
-    pick false r = ap (λ b. names_key k a || b) r ∙ past (names_key k a) (list_any (names_to p k) bs) (is_asked_for (without_ask bs p) k)
+    pick true r = ap (λ b. names_key k a || b) r ∙ or_regroup (names_key k a) (list_any (names_to p k) bs) (is_asked_for (without_ask bs p) k)
+    pick false r = ap (λ b. names_key k a || b) r ∙ or_swap (names_key k a) (list_any (names_to p k) bs) (is_asked_for (without_ask bs p) k)

@@ -1,9 +1,14 @@
 -- The rows of Balance and Evict, for each worker and key.
 use Rattle.std.proofs.Common.{◌≡◌, ℕ, zero, suc, ◌+◌, ◌<◌, ◌≤◌, Bool, true, false, not, cond, ◌&&◌, ◌||◌, List, [], ◌∷◌, ◌++◌, Option, Some, None, refl, sym, ap, ◌∙◌, subst, arith, is_some, is_none, inl, inr, ◌⊎◌, ⊎_elim, length}
 use Rattle.std.specs.List.{list_any, list_all, range_with_len}
-use Rattle.std.proofs.lemmas.Bool.{true≢false, false≢true, eqb-true, ltb-true}
+use Rattle.std.proofs.lemmas.Bool.{true≢false, false≢true, eqb-true, ltb-true, not-true, eq-eqb}
 use Rattle.std.proofs.lemmas.Bool.Decides.{nat_tests}
 use Rattle.std.proofs.Math.Dec.{eqb}
+use Rattle.std.proofs.Math.Bool.{and-false}
+use Rattle.std.proofs.lemmas.Option.{none-some}
+use Rattle.small_facts.proofs.Numbers.{eqb_turned}
+use Rattle.small_facts.proofs.Options.{none_from_is_none, is_some_cond}
+use Rattle.small_facts.proofs.Truth.{and_first, and_second}
 use Rattle.cluster_msgs.specs.declared.cores.Steal.{Steal}
 use Rattle.cluster_msgs.specs.declared.messages.Down.TheVariants.{StealRequest, RemoveReplicas}
 use Rattle.cluster_rules.specs.Functions.{put, put_pair, from_one, count}
@@ -13,27 +18,22 @@ use Rattle.cluster_rules.specs.Sched.{Facts, IsSound, keys, deps, holds, held, e
 use Rattle.cluster_rules.specs.Policies.{may_steal, IsStealChoice, steal_rank, steal_choices, may_drop, IsDrop, IsDropOf}
 use Rattle.cluster_rules.specs.SchedTable.{Changed, plain, is_asked_back, ask_message, balanced, evicted}
 use Rattle.cluster_rules.specs.SchedStep.{Stages, settle, finish_step, mail, place_all, place_keys, drop_bad, drop_has, drop_on, lost}
-use Rattle.cluster_rules.proofs.DerivedLemmas.{eqb_comm}
 use Rattle.cluster_rules.proofs.PolicyLemmas.{steal_choice_from}
-use Rattle.cluster_rules.proofs.SchedFrame.{IsPlacing, placing_keys, same_eqb}
+use Rattle.cluster_rules.proofs.SchedFrame.{IsPlacing, placing_keys}
 use Rattle.cluster_laws.specs.Settled.{IsSettled}
 use Rattle.cluster_laws.proofs.Errors.{holder_holds, ready_is_not_held}
-use Rattle.cluster_laws.proofs.Lists.{and_first, and_second, any_weaken}
+use Rattle.cluster_laws.proofs.Lists.{any_weaken}
 use Rattle.pair_machine.specs.Pair.{Ask, Remove, Other, Quiet, IsPair, fence_notes}
 use Rattle.pair_machine.specs.Moves.{step, Evict, ask_back}
 use Rattle.pair_machine.proofs.PairKept.{kept_evict, kept_ask}
 use Rattle.pair_moves.specs.Projection.{notes, reports, at_worker, Side, pair_of, IsNumbered}
 use Rattle.pair_moves.proofs.PairTold.{AreOther}
-use Rattle.pair_moves.proofs.Settling.{none_not_some, new_at, placed_ready}
+use Rattle.pair_moves.proofs.Settling.{new_at, placed_ready}
 use Rattle.pair_moves.proofs.SettleKeeps.{asked_or, Closes}
 use Rattle.cluster_laws.proofs.Framed.{IsFramed}
 use Rattle.pair_moves.proofs.Rows.{Moved, Stays, IsRow, IsPlain, row_keeps, plain_keeps, calm_row, quiet_calm, same_moved, old_is, held_none, placed_apart, on_some}
 use Rattle.pair_moves.proofs.TaskRows.{other_pair}
 use Rattle.pair_moves.proofs.Still.{IsResting, still_settled}
-
-and_false : (b : Bool) → (b && false) ≡ false
-and_false true = refl
-and_false false = refl
 
 nothing_asked : (o : Option ℕ) (b : Bool) → asked_or o (cond b false false) ≡ false
 nothing_asked None true = refl
@@ -66,11 +66,7 @@ is_placed f c h = and_first (is_on f c.victim c.key) (is_none (f.steal c.key)) (
 
 unmarked : (f : Facts) (c : Steal) → IsStealChoice f c → f.steal c.key ≡ None
 unfolding may_steal
-unmarked f c h = none (f.steal c.key) (and_second (is_on f c.victim c.key) (is_none (f.steal c.key)) (and_first (is_on f c.victim c.key && is_none (f.steal c.key)) _ h.allowed))
-  where
-    none : (o : Option (ℕ × Bool)) → is_none o ≡ true → o ≡ None
-    none None e = refl
-    none (Some p) e = absurd (false≢true e)
+unmarked f c h = none_from_is_none (f.steal c.key) (and_second (is_on f c.victim c.key) (is_none (f.steal c.key)) (and_first (is_on f c.victim c.key && is_none (f.steal c.key)) _ h.allowed))
 
 moved_marked : (f : Facts) → IsSettled f → (c : Steal) → IsStealChoice f c → (k : ℕ) → Moved f (marked f c) k
 moved_marked f t c h k = pick (eqb k c.key) refl
@@ -104,7 +100,7 @@ balanced_own f c w k a s sound t n h key on = record {
   newly = λ b e. empty (lost u w k);
   has = λ _. refl;
   on = λ _. old_is f n w k;
-  asked = λ _. ap (λ m. is_some (at_worker w (f.on k)) && is_asked_back m) (ap f.steal (sym key) ∙ unmarked f c h) ∙ and_false (is_some (at_worker w (f.on k)));
+  asked = λ _. ap (λ m. is_some (at_worker w (f.on k)) && is_asked_back m) (ap f.steal (sym key) ∙ unmarked f c h) ∙ and-false (is_some (at_worker w (f.on k)));
   closes = ask_closes u (holds f w k) w k a says (ap (at_worker w) stays ∙ at) stolen (empty (lost u w k) ∙ sym (ap (λ (x : ℕ → ℕ → Option ℕ). is_some (x w k)) (p0.has ∙ ap (λ (x : Facts). x.has) rest) ∙ none));
 }
   where
@@ -134,13 +130,13 @@ balanced_own f c w k a s sound t n h key on = record {
     stays = p0.stays k (w, a) (ap (λ (x : Facts). x.on k) rest ∙ on)
 
     at : at_worker w (Some (w, a)) ≡ Some a
-    at = ap (λ b. cond b (Some a) None) (same_eqb w w refl)
+    at = ap (λ b. cond b (Some a) None) (eq-eqb w w refl)
 
     stolen : is_asked_back ((place_keys o (below (keys o))).steal k) ≡ true
-    stolen = ap (λ (x : ℕ → Option (ℕ × Bool)). is_asked_back (x k)) (p0.steal ∙ ap (λ (x : Facts). x.steal) rest) ∙ ap (λ b. is_asked_back (cond b (Some (c.thief, false)) (f.steal k))) (same_eqb k c.key (sym key))
+    stolen = ap (λ (x : ℕ → Option (ℕ × Bool)). is_asked_back (x k)) (p0.steal ∙ ap (λ (x : Facts). x.steal) rest) ∙ ap (λ b. is_asked_back (cond b (Some (c.thief, false)) (f.steal k))) (eq-eqb k c.key (sym key))
 
     says : notes k (ask_message c.key (f.on c.key) w) ≡ Ask a ∷ []
-    says = ap (λ x. notes k (ask_message x (f.on x) w)) key ∙ ap (λ x. notes k (ask_message k x w)) on ∙ ap (λ b. notes k (cond b (StealRequest k a ∷ []) [])) (same_eqb w w refl) ∙ ap (λ b. cond b (Ask a) Other ∷ []) (same_eqb k k refl)
+    says = ap (λ x. notes k (ask_message x (f.on x) w)) key ∙ ap (λ x. notes k (ask_message k x w)) on ∙ ap (λ b. notes k (cond b (StealRequest k a ∷ []) [])) (eq-eqb w w refl) ∙ ap (λ b. cond b (Ask a) Other ∷ []) (eq-eqb k k refl)
 
 -- every other pair
 balanced_other : (f : Facts) (c : Steal) (w k : ℕ) (s : Side) → IsSound f → IsSettled f → IsNumbered f → IsStealChoice f c → (eqb c.victim w ≡ false) ⊎ (eqb c.key k ≡ false) → IsPlain f (balanced f (Some c)) w k Quiet s
@@ -151,7 +147,7 @@ balanced_other f c w k s sound t n h other = calm_row f (balanced f (Some c)) w 
     on_only (Some p) e i = ap (λ x. cond (eqb x w) (Some p.1) None) (eqb-true p.0 c.victim e) ∙ ap (λ b. cond b (Some p.1) None) i
 
     place : (b : Bool) → eqb c.key k ≡ b → (eqb c.victim w ≡ false) ⊎ (b ≡ false) → (((marked f c).on k ≡ f.on k) × ((marked f c).steal k ≡ f.steal k)) ⊎ (at_worker w (f.on k) ≡ None)
-    place false e o = inl (refl, ap (λ b. cond b (Some (c.thief, false)) (f.steal k)) (eqb_comm k c.key ∙ e))
+    place false e o = inl (refl, ap (λ b. cond b (Some (c.thief, false)) (f.steal k)) (eqb_turned k c.key ∙ e))
     place true e (inl i) = inr (on_only (f.on k) (ap (λ x. is_for c.victim (f.on x)) (sym (eqb-true c.key k e)) ∙ is_placed f c h) i)
     place true e (inr i) = absurd (true≢false i)
 
@@ -239,18 +235,14 @@ held_elsewhere f v q d =
     let m = count_but (λ w. holds f w q) v (from_one f.last_worker) in let o = count_self v 1 f.last_worker in omega (arith, m, o)))
   where
     there : (w : ℕ) → (holds f w q && not (eqb w v)) ≡ true → is_some (cond (eqb w v && eqb q q) None (f.has w q)) ≡ true
-    there w e = ap (λ b. is_some (cond (b && eqb q q) None (f.has w q))) (not_it (eqb w v) (and_second (holds f w q) (not (eqb w v)) e)) ∙ and_first (holds f w q) (not (eqb w v)) e
-      where
-        not_it : (b : Bool) → not b ≡ true → b ≡ false
-        not_it true e = absurd (false≢true e)
-        not_it false e = refl
+    there w e = ap (λ b. is_some (cond (b && eqb q q) None (f.has w q))) (not-true (eqb w v) (and_second (holds f w q) (not (eqb w v)) e)) ∙ and_first (holds f w q) (not (eqb w v)) e
 
 held_dropped : (f : Facts) → IsSound f → (v q : ℕ) → IsDrop f v q → (j : ℕ) → held (dropped f v q) j ≡ held f j
 unfolding held
 held_dropped f sound v q d j = pick (eqb j q) refl
   where
     other : eqb j q ≡ false → (w : ℕ) → holds (dropped f v q) w j ≡ holds f w j
-    other e w = ap (λ b. is_some (cond (eqb w v && b) None (f.has w j))) e ∙ ap (λ b. is_some (cond b None (f.has w j))) (and_false (eqb w v))
+    other e w = ap (λ b. is_some (cond (eqb w v && b) None (f.has w j))) e ∙ ap (λ b. is_some (cond b None (f.has w j))) (and-false (eqb w v))
 
     pick : (b : Bool) → eqb j q ≡ b → list_any (λ w. holds (dropped f v q) w j) (from_one f.last_worker) ≡ list_any (λ w. holds f w j) (from_one f.last_worker)
     pick true e = ap (λ x. held (dropped f v q) x) (eqb-true j q e) ∙ held_elsewhere f v q d ∙ sym (holder_holds f sound v q d.holder) ∙ ap (held f) (sym (eqb-true j q e))
@@ -270,20 +262,16 @@ resting_dropped : (f : Facts) → IsSound f → IsSettled f → (v q : ℕ) → 
 unfolding known wanted
 resting_dropped f sound t v q d = record {
   bad = t.errors_are_known;
-  has = λ w k e. ap (λ (p : ℕ → Bool). p k) (same_derived f sound v q d).0 ∙ t.held_are_needed w k (less (eqb w v && eqb k q) (f.has w k) e);
+  has = λ w k e. ap (λ (p : ℕ → Bool). p k) (same_derived f sound v q d).0 ∙ t.held_are_needed w k (is_some_cond (eqb w v && eqb k q) (f.has w k) e);
   on = λ k e. ap (λ (p : ℕ → Bool). p k) (same_derived f sound v q d).1 ∙ t.placed_are_ready k e;
   steal = λ k e. ap (λ (p : ℕ → Bool). p k) (same_derived f sound v q d).1 ∙ t.placed_are_ready k (t.stolen_are_placed k e);
 }
-  where
-    less : (b : Bool) (o : Option ℕ) → is_some (cond b None o) ≡ true → is_some o ≡ true
-    less true o e = absurd (false≢true e)
-    less false o e = e
 
 evicted_own : (f : Facts) (w k : ℕ) (s : Side) → IsSound f → IsSettled f → IsNumbered f → IsDrop f w k → IsRow f (evicted f (Some (w, k))) (holds f w k) false w k Quiet s
 unfolding settle place_all
 evicted_own f w k s sound t n d = record {
   fair = record { freed = λ _. refl; apart = λ _. gone; gone = λ i. absurd (false≢true i); below = λ b e. n.below k w b e };
-  newly = λ b e. absurd (none_not_some b (sym (ap (new_at f.counter w) unplaced) ∙ e));
+  newly = λ b e. absurd (none-some b (sym (ap (new_at f.counter w) unplaced) ∙ e));
   has = λ _. refl;
   on = λ _. old_is f n w k;
   asked = λ _. ap (λ o. is_some (at_worker w o) && is_asked_back (f.steal k)) nowhere;
@@ -306,7 +294,7 @@ evicted_own f w k s sound t n d = record {
     rest = still_settled g (resting_dropped f sound t w k d)
 
     gone : holds g w k ≡ false
-    gone = ap (λ b. is_some (cond (b && eqb k k) None (f.has w k))) (same_eqb w w refl) ∙ ap (λ b. is_some (cond b None (f.has w k))) (same_eqb k k refl)
+    gone = ap (λ b. is_some (cond (b && eqb k k) None (f.has w k))) (eq-eqb w w refl) ∙ ap (λ b. is_some (cond b None (f.has w k))) (eq-eqb k k refl)
 
     held_still : held g k ≡ true
     held_still = held_dropped f sound w k d k ∙ holder_holds f sound w k d.holder
@@ -321,7 +309,7 @@ evicted_own f w k s sound t n d = record {
     left : (x : Option (ℕ × ℕ)) → (place_keys o (below (keys o))).on k ≡ x → x ≡ None
     left None e = refl
     left (Some p) e = absurd (⊎_elim
-        (λ i. none_not_some p (sym nowhere ∙ ap (λ (x : Facts). x.on k) (sym rest) ∙ i))
+        (λ i. none-some p (sym nowhere ∙ ap (λ (x : Facts). x.on k) (sym rest) ∙ i))
         (λ r. false≢true (sym (ready_is_not_held g k (ap (λ (x : Facts). ready x k) (sym rest) ∙ r)) ∙ held_still))
         (placed_ready o (below (keys o)) k p e))
 
@@ -329,13 +317,13 @@ evicted_own f w k s sound t n d = record {
     unplaced = left ((place_keys o (below (keys o))).on k) refl
 
     says : notes k (cond (eqb w w) (RemoveReplicas (k ∷ []) ∷ []) []) ≡ Remove ∷ []
-    says = ap (λ b. notes k (cond b (RemoveReplicas (k ∷ []) ∷ []) [])) (same_eqb w w refl) ∙ ap (λ b. cond (b || false) Remove Other ∷ []) (same_eqb k k refl)
+    says = ap (λ b. notes k (cond b (RemoveReplicas (k ∷ []) ∷ []) [])) (eq-eqb w w refl) ∙ ap (λ b. cond (b || false) Remove Other ∷ []) (eq-eqb k k refl)
 
 evicted_other : (f : Facts) (v q w k : ℕ) (s : Side) → IsSound f → IsSettled f → IsNumbered f → (eqb v w ≡ false) ⊎ (eqb q k ≡ false) → IsPlain f (evicted f (Some (v, q))) w k Quiet s
 evicted_other f v q w k s sound t n other = calm_row f _ w k Quiet s sound t n (quiet_calm f (evicted f (Some (v, q))) w k s (same_moved f (dropped f v q) t k refl refl) (inl (refl, refl)) (ap (λ b. is_some (cond b None (f.has w k))) (other_pair v q w k other)) refl (λ x. silent other))
   where
     silent : (eqb v w ≡ false) ⊎ (eqb q k ≡ false) → AreOther (notes k (cond (eqb w v) (RemoveReplicas (q ∷ []) ∷ []) []))
-    silent (inl e) = subst (λ b. AreOther (notes k (cond b (RemoveReplicas (q ∷ []) ∷ []) []))) (sym (eqb_comm w v ∙ e)) tt
+    silent (inl e) = subst (λ b. AreOther (notes k (cond b (RemoveReplicas (q ∷ []) ∷ []) []))) (sym (eqb_turned w v ∙ e)) tt
     silent (inr e) = pick (eqb w v)
       where
         pick : (b : Bool) → AreOther (notes k (cond b (RemoveReplicas (q ∷ []) ∷ []) []))

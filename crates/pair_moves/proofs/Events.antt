@@ -3,6 +3,7 @@ use Rattle.std.proofs.Common.{◌≡◌, ℕ, ◌<◌, Bool, true, false, cond, 
 use Rattle.std.specs.Prelude.{nat_le}
 use Rattle.std.proofs.lemmas.Bool.{and_parts}
 use Rattle.std.proofs.Math.Dec.{eqb}
+use Rattle.std.proofs.lemmas.Option.{none-some}
 use Rattle.cluster_msgs.specs.declared.cores.SchedEvent.{SchedEvent}
 use Rattle.cluster_msgs.specs.declared.cores.SchedEvent.TheVariants.{Join, Leave, FromWorker, FromClient, Balance, Evict}
 use Rattle.cluster_msgs.specs.declared.messages.Up.{Up}
@@ -21,7 +22,6 @@ use Rattle.cluster_rules.proofs.SoundStep.{sound_changed}
 use Rattle.cluster_laws.specs.Settled.{IsSettled}
 use Rattle.pair_machine.specs.Pair.{Quiet}
 use Rattle.pair_moves.specs.Projection.{report_of, report_in, Side, IsNumbered, EventKeeps}
-use Rattle.pair_moves.proofs.Settling.{none_not_some}
 use Rattle.pair_moves.proofs.Rows.{Moved, moved_below, IsPlain, plain_keeps, calm_row, quiet_calm, same_moved, refreshed_plain}
 use Rattle.cluster_laws.proofs.Framed.{change_framed}
 use Rattle.pair_moves.proofs.TaskRows.{moved_where, moved_finished, moved_failed, moved_answered, finished_row, failed_row, answered_row}
@@ -138,4 +138,4 @@ numbered_step f e t n = record {
 }
 
 pub numbered_opening : (c : Setting) → IsNumbered (sched_opening c)
-numbered_opening c = record { below = λ k w a e. absurd (none_not_some (w, a) e) }
+numbered_opening c = record { below = λ k w a e. absurd (none-some (w, a) e) }

@@ -2,18 +2,19 @@
 use Rattle.std.proofs.Common.{◌≡◌, ℕ, ◌+◌, ◌≤◌, Bool, true, false, not, cond, ◌&&◌, ◌||◌, List, [], ◌∷◌, Option, Some, None, refl, sym, ap, ◌∙◌, subst, arith, is_some, is_none, inl, inr, ◌⊎◌}
 use Rattle.std.specs.Prelude.{nat_le}
 use Rattle.std.specs.List.{list_any}
-use Rattle.std.proofs.lemmas.Bool.{true≢false, false≢true, eqb-true}
+use Rattle.std.proofs.lemmas.Bool.{true≢false, false≢true, eqb-true, eq-eqb}
 use Rattle.std.proofs.Math.Dec.{eqb}
+use Rattle.std.proofs.Math.Bool.{and-true, or_assoc, and-false, or-false, or-true}
+use Rattle.small_facts.proofs.Numbers.{eqb_turned}
+use Rattle.small_facts.proofs.Truth.{and_second}
 use Rattle.cluster_msgs.specs.declared.messages.Down.{Down}
 use Rattle.cluster_rules.specs.Functions.{put_pair, from_one}
 use Rattle.cluster_rules.specs.Derived.{is_in}
 use Rattle.cluster_rules.specs.Sched.{Facts, IsSound, holds, held, connected, is_on, is_for}
 use Rattle.cluster_rules.specs.SchedTable.{Changed, plain, is_asked_back, no_answer, released, is_copy, lost_copy, add_key, add_keys}
-use Rattle.cluster_rules.proofs.DerivedLemmas.{eqb_comm}
-use Rattle.cluster_rules.proofs.SchedFrame.{same_eqb, in_range}
+use Rattle.cluster_rules.proofs.SchedFrame.{in_range}
 use Rattle.cluster_laws.specs.Settled.{IsSettled}
 use Rattle.cluster_laws.proofs.Errors.{holder_holds}
-use Rattle.cluster_laws.proofs.Lists.{and_second}
 use Rattle.pair_machine.specs.Pair.{Report, Added, Released, Quiet}
 use Rattle.pair_machine.specs.Moves.{counted, still_asked}
 use Rattle.pair_moves.specs.Projection.{notes, at_worker, Side, pair_of, IsNumbered}
@@ -21,18 +22,6 @@ use Rattle.pair_moves.proofs.PairTold.{AreOther}
 use Rattle.pair_moves.proofs.Rows.{IsPlain, calm_row, quiet_calm, same_moved, old_is, held_none, placed_apart, on_some}
 use Rattle.pair_moves.proofs.SettleKeeps.{old_at}
 use Rattle.pair_moves.proofs.TaskRows.{by_own, other_pair}
-
-and_false : (b : Bool) → (b && false) ≡ false
-and_false true = refl
-and_false false = refl
-
-or_false : (c : Bool) → (c || false) ≡ c
-or_false true = refl
-or_false false = refl
-
-or_true : (c : Bool) → (c || true) ≡ true
-or_true true = refl
-or_true false = refl
 
 -- where neither place nor steal of the key changed
 kept_places : (f : Facts) (g : Changed) (w k : ℕ) (r : Report) (s : Side) → IsSound f → IsSettled f → IsNumbered f → g.facts.on ≡ f.on → g.facts.steal ≡ f.steal
@@ -62,17 +51,13 @@ released_own : (f : Facts) (w k seen : ℕ) (s : Side) → IsSound f → IsSettl
 released_own f w k seen s sound t n = pick (nat_le (f.fence w k) seen) refl
   where
     gone : is_some (put_pair f.has w k None w k) ≡ false
-    gone = ap (λ b. is_some (cond (b && eqb k k) None (f.has w k))) (same_eqb w w refl) ∙ ap (λ b. is_some (cond b None (f.has w k))) (same_eqb k k refl)
-
-    and_true : (b : Bool) → (b && true) ≡ b
-    and_true true = refl
-    and_true false = refl
+    gone = ap (λ b. is_some (cond (b && eqb k k) None (f.has w k))) (eq-eqb w w refl) ∙ ap (λ b. is_some (cond b None (f.has w k))) (eq-eqb k k refl)
 
     pick : (b : Bool) → nat_le (f.fence w k) seen ≡ b → IsPlain f (plain (cond b (record f { has = put_pair f.has w k None }) f)) w k (Released seen) s
     pick true e = kept_places f (plain (record f { has = put_pair f.has w k None })) w k (Released seen) s sound t n refl refl refl refl (λ _. refl) (λ i. absurd (false≢true i)) (λ _. gone)
-        (λ _. ap (λ b. holds f w k && not b) e ∙ and_false (holds f w k) ∙ sym gone) (λ x. tt)
+        (λ _. ap (λ b. holds f w k && not b) e ∙ and-false (holds f w k) ∙ sym gone) (λ x. tt)
     pick false e = kept_places f (plain f) w k (Released seen) s sound t n refl refl refl refl (λ _. refl) (λ i. absurd (false≢true i)) (λ h. held_none f sound w k (placed_apart f t k h))
-        (λ _. ap (λ b. holds f w k && not b) e ∙ and_true (holds f w k)) (λ x. tt)
+        (λ _. ap (λ b. holds f w k && not b) e ∙ and-true (holds f w k)) (λ x. tt)
 
 pub released_row : (f : Facts) (v seen q w k : ℕ) (s : Side) → IsSound f → IsSettled f → IsNumbered f → IsPlain f (plain (released f v seen q)) w k (cond (eqb v w) (cond (eqb q k) (Released seen) Quiet) Quiet) s
 unfolding released
@@ -114,13 +99,13 @@ lost_row f v q c w k s sound t n = pick (is_copy c (f.has v q)) refl
 
 -- ## Added keys
 
-any_where : (p : ℕ → Bool) (x : ℕ) (xs : List ℕ) → is_in x xs ≡ true → p x ≡ true → list_any p xs ≡ true
+pub any_where : (p : ℕ → Bool) (x : ℕ) (xs : List ℕ) → is_in x xs ≡ true → p x ≡ true → list_any p xs ≡ true
 any_where p x [] i h = absurd (false≢true i)
 any_where p x (y ∷ ys) i h = pick (eqb y x) refl (λ m. any_where p x ys m h) i
   where
     pick : (b : Bool) → eqb y x ≡ b → (is_in x ys ≡ true → list_any p ys ≡ true) → (b || is_in x ys) ≡ true → list_any p (y ∷ ys) ≡ true
     pick true j rest m = ap (λ b. b || list_any p ys) (ap p (eqb-true y x j) ∙ h)
-    pick false j rest m = ap (λ b. p y || b) (rest m) ∙ or_true (p y)
+    pick false j rest m = ap (λ b. p y || b) (rest m) ∙ or-true (p y)
 
 held_where : (f : Facts) (w k : ℕ) → 1 ≤ w → w ≤ f.last_worker → holds f w k ≡ true → held f k ≡ true
 unfolding held
@@ -135,10 +120,10 @@ copied_other f v q w k e = ap (λ b. is_some (cond b (Some f.counter) (f.has w k
 
 copied_held : (f : Facts) (v q k : ℕ) → eqb k q ≡ false → held (copied f v q) k ≡ held f k
 unfolding held
-copied_held f v q k e = ap (λ (p : ℕ → Bool). list_any p (from_one f.last_worker)) (λ i w. copied_other f v q w k (ap (λ b. eqb w v && b) e ∙ and_false (eqb w v)) i)
+copied_held f v q k e = ap (λ (p : ℕ → Bool). list_any p (from_one f.last_worker)) (λ i w. copied_other f v q w k (ap (λ b. eqb w v && b) e ∙ and-false (eqb w v)) i)
 
 copied_same : (f : Facts) (w k : ℕ) → holds (copied f w k) w k ≡ true
-copied_same f w k = ap (λ b. is_some (cond (b && eqb k k) (Some f.counter) (f.has w k))) (same_eqb w w refl) ∙ ap (λ b. is_some (cond b (Some f.counter) (f.has w k))) (same_eqb k k refl)
+copied_same f w k = ap (λ b. is_some (cond (b && eqb k k) (Some f.counter) (f.has w k))) (eq-eqb w w refl) ∙ ap (λ b. is_some (cond b (Some f.counter) (f.has w k))) (eq-eqb k k refl)
 
 -- what added keys leave alone
 pub record IsLeft (f : Facts) (g : Changed) : Type 0 where
@@ -195,7 +180,7 @@ add_other : (f : Facts) (w seen k q : ℕ) (b : Bool) (g : Changed) → eqb k q 
 add_other f w seen k q b g e s t u v x = record { left = left_add f w q g s.left t u v x; held_is = (pick t u v x).0 ∙ s.held_is; has_is = (pick t u v x).1 ∙ s.has_is; freed_is = (pick t u v x).2 ∙ s.freed_is }
   where
     no : (eqb w w && eqb k q) ≡ false
-    no = ap (λ c. eqb w w && c) e ∙ and_false (eqb w w)
+    no = ap (λ c. eqb w w && c) e ∙ and-false (eqb w w)
 
     pick : (t u v x : Bool) → (held (add_to w q g t u v x).facts k ≡ held g.facts k) × (holds (add_to w q g t u v x).facts w k ≡ holds g.facts w k) × ((add_to w q g t u v x).freed w k ≡ g.freed w k)
     pick true false true x = (copied_held g.facts w q k e, copied_other g.facts w q w k no, refl)
@@ -232,7 +217,7 @@ add_same f w seen k b g from upto s t u v x et eu ev ex = pick t u v x et eu ev 
       left = s.left;
       held_is = s.held_is;
       has_is = has h;
-      freed_is = s.freed_is ∙ freed_at b t v x et ev ex ∙ ap (λ y. b && y) z ∙ and_false b ∙ sym (freed_at true t v x et ev ex ∙ z);
+      freed_is = s.freed_is ∙ freed_at b t v x et ev ex ∙ ap (λ y. b && y) z ∙ and-false b ∙ sym (freed_at true t v x et ev ex ∙ z);
     }
       where
         still : (h c y : Bool) → (h || (c && y)) ≡ true → (h || y) ≡ true
@@ -241,7 +226,7 @@ add_same f w seen k b g from upto s t u v x et eu ev ex = pick t u v x et eu ev 
         still false false y q = absurd (false≢true q)
 
         has : ((t && v) ≡ false) ⊎ (holds g.facts w k ≡ true) → holds g.facts w k ≡ has_after (holds f w k) true (nat_le (f.fence w k) seen) (held f k)
-        has (inl z) = s.has_is ∙ has_at (holds f w k) b t v x et ev ex ∙ ap (λ y. holds f w k || (b && y)) z ∙ ap (λ y. holds f w k || y) (and_false b) ∙ sym (has_at (holds f w k) true t v x et ev ex ∙ ap (λ y. holds f w k || y) z)
+        has (inl z) = s.has_is ∙ has_at (holds f w k) b t v x et ev ex ∙ ap (λ y. holds f w k || (b && y)) z ∙ ap (λ y. holds f w k || y) (and-false b) ∙ sym (has_at (holds f w k) true t v x et ev ex ∙ ap (λ y. holds f w k || y) z)
         has (inr e) = e ∙ sym (still (holds f w k) b (nat_le (f.fence w k) seen && held f k) (sym s.has_is ∙ e))
 
     holder : holds g.facts w k ≡ true → held f k ≡ true
@@ -254,28 +239,24 @@ add_same f w seen k b g from upto s t u v x et eu ev ex = pick t u v x et eu ev 
     pick true false true x et eu ev ex = record {
       left = left_add f w k g s.left true false true x;
       held_is = held_where (copied g.facts w k) w k from (omega (arith, s.left.last_worker)) (copied_same g.facts w k) ∙ sym (held_was true ev);
-      has_is = copied_same g.facts w k ∙ sym (has_at (holds f w k) true true true x (le_is true et) (held_was true ev) (on_was x ex) ∙ or_true (holds f w k));
-      freed_is = s.freed_is ∙ freed_at b true true x (le_is true et) (held_was true ev) (on_was x ex) ∙ and_false b ∙ sym (freed_at true true true x (le_is true et) (held_was true ev) (on_was x ex));
+      has_is = copied_same g.facts w k ∙ sym (has_at (holds f w k) true true true x (le_is true et) (held_was true ev) (on_was x ex) ∙ or-true (holds f w k));
+      freed_is = s.freed_is ∙ freed_at b true true x (le_is true et) (held_was true ev) (on_was x ex) ∙ and-false b ∙ sym (freed_at true true true x (le_is true et) (held_was true ev) (on_was x ex));
     }
     pick true false false false et eu ev ex = record {
       left = left_add f w k g s.left true false false false;
       held_is = s.held_is;
-      has_is = s.has_is ∙ has_at (holds f w k) b true false false (le_is true et) (held_was false ev) (on_was false ex) ∙ ap (λ y. holds f w k || y) (and_false b) ∙ sym (has_at (holds f w k) true true false false (le_is true et) (held_was false ev) (on_was false ex));
-      freed_is = ap (λ y. cond (y && eqb k k) true (g.freed w k)) (same_eqb w w refl) ∙ ap (λ y. cond y true (g.freed w k)) (same_eqb k k refl) ∙ sym (freed_at true true false false (le_is true et) (held_was false ev) (on_was false ex));
+      has_is = s.has_is ∙ has_at (holds f w k) b true false false (le_is true et) (held_was false ev) (on_was false ex) ∙ ap (λ y. holds f w k || y) (and-false b) ∙ sym (has_at (holds f w k) true true false false (le_is true et) (held_was false ev) (on_was false ex));
+      freed_is = ap (λ y. cond (y && eqb k k) true (g.freed w k)) (eq-eqb w w refl) ∙ ap (λ y. cond y true (g.freed w k)) (eq-eqb k k refl) ∙ sym (freed_at true true false false (le_is true et) (held_was false ev) (on_was false ex));
     }
 
 adding : (f : Facts) (w seen k : ℕ) → 1 ≤ w → w ≤ f.last_worker → (ks : List ℕ) (b : Bool) (g : Changed) → IsAdding f w seen k b g → IsAdding f w seen k (b || is_in k ks) (add_keys w seen g ks)
-adding f w seen k from upto [] b g s = subst (λ c. IsAdding f w seen k c g) (sym (or_false b)) s
-adding f w seen k from upto (q ∷ ks) b g s = subst (λ c. IsAdding f w seen k c (add_keys w seen (add_key w seen g q) ks)) (again b (eqb q k) (is_in k ks)) (adding f w seen k from upto ks (b || eqb q k) (add_key w seen g q) (one (eqb q k) refl))
+adding f w seen k from upto [] b g s = subst (λ c. IsAdding f w seen k c g) (sym (or-false b)) s
+adding f w seen k from upto (q ∷ ks) b g s = subst (λ c. IsAdding f w seen k c (add_keys w seen (add_key w seen g q) ks)) (or_assoc b (eqb q k) (is_in k ks)) (adding f w seen k from upto ks (b || eqb q k) (add_key w seen g q) (one (eqb q k) refl))
   where
-    again : (x y z : Bool) → ((x || y) || z) ≡ (x || (y || z))
-    again true y z = refl
-    again false y z = refl
-
     one : (c : Bool) → eqb q k ≡ c → IsAdding f w seen k (b || c) (add_key w seen g q)
-    one true e = subst (λ c. IsAdding f w seen k c (add_key w seen g q)) (sym (or_true b)) (subst (λ n. IsAdding f w seen k true (add_key w seen g n)) (sym (eqb-true q k e))
+    one true e = subst (λ c. IsAdding f w seen k c (add_key w seen g q)) (sym (or-true b)) (subst (λ n. IsAdding f w seen k true (add_key w seen g n)) (sym (eqb-true q k e))
         (add_same f w seen k b g from upto s (nat_le (g.facts.fence w k) seen) (holds g.facts w k) (held g.facts k) (is_on g.facts w k) refl refl refl refl))
-    one false e = subst (λ c. IsAdding f w seen k c (add_key w seen g q)) (sym (or_false b)) (add_other f w seen k q b g (eqb_comm k q ∙ e) s (nat_le (g.facts.fence w q) seen) (holds g.facts w q) (held g.facts q) (is_on g.facts w q))
+    one false e = subst (λ c. IsAdding f w seen k c (add_key w seen g q)) (sym (or-false b)) (add_other f w seen k q b g (eqb_turned k q ∙ e) s (nat_le (g.facts.fence w q) seen) (holds g.facts w q) (held g.facts q) (is_on g.facts w q))
 
 none_at : (w : ℕ) (o : Option (ℕ × ℕ)) → is_none (at_worker w o) ≡ not (is_for w o)
 none_at w None = refl
@@ -335,7 +316,7 @@ add_own f w k seen ks s from upto sound t n = record {
     g = add_keys w seen (plain f) ks
 
     a : IsAdding f w seen k (is_in k ks) (add_keys w seen (plain f) ks)
-    a = adding f w seen k from upto ks false (plain f) (record { left = record { on = refl; steal = refl; fence = refl; last_worker = refl; answer = refl }; held_is = refl; has_is = sym (or_false (holds f w k)); freed_is = refl })
+    a = adding f w seen k from upto ks false (plain f) (record { left = record { on = refl; steal = refl; fence = refl; last_worker = refl; answer = refl }; held_is = refl; has_is = sym (or-false (holds f w k)); freed_is = refl })
 
     silent : (x : Facts) → g.answer ≡ no_answer → AreOther (notes k (g.answer x w))
     silent x e = subst (λ (h : Facts → ℕ → List Down). AreOther (notes k (h x w))) (sym e) tt

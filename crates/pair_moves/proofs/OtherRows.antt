@@ -2,6 +2,7 @@
 use Rattle.std.proofs.Common.{◌≡◌, ℕ, Bool, true, false, cond, Option, Some, None, refl, sym, ap, ◌∙◌, is_some, inl, inr, ◌⊎◌}
 use Rattle.std.proofs.lemmas.Bool.{false≢true, eqb-true}
 use Rattle.std.proofs.Math.Dec.{eqb}
+use Rattle.small_facts.proofs.Numbers.{eqb_self}
 use Rattle.cluster_rules.specs.Sched.{Facts, IsSound, connected, is_on, is_for}
 use Rattle.cluster_rules.specs.SchedTable.{plain, joined, left}
 use Rattle.cluster_laws.specs.Settled.{IsSettled}
@@ -37,10 +38,7 @@ left_row f v w k s there sound t n = calm_row f _ w k Quiet s sound t n (quiet_c
     not_there (Some p) e = ap (λ x. cond (eqb x w) (Some p.1) None) (eqb-true p.0 v e) ∙ ap (λ b. cond b (Some p.1) None) (swap (eqb v w) refl)
       where
         swap : (b : Bool) → eqb v w ≡ b → b ≡ false
-        swap true i = absurd (false≢true (sym apart ∙ ap (λ x. eqb x v) (sym (eqb-true v w i)) ∙ same))
-          where
-            same : eqb v v ≡ true
-            same = ap (λ x. eqb v x) (eqb-true v w i) ∙ i
+        swap true i = absurd (false≢true (sym apart ∙ ap (λ x. eqb x v) (sym (eqb-true v w i)) ∙ eqb_self v))
         swap false i = refl
 
     place : (b : Bool) → is_on f v k ≡ b → (((left f v).on k ≡ f.on k) × ((left f v).steal k ≡ f.steal k)) ⊎ (at_worker w (f.on k) ≡ None)

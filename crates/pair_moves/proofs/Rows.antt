@@ -1,23 +1,24 @@
 -- What is to be shown of each row of the scheduler's table, for one worker and one key, and what follows of the pair.
-use Rattle.std.proofs.Common.{◌≡◌, ℕ, ◌+◌, ◌<◌, ◌≤◌, Bool, true, false, not, cond, ◌&&◌, ◌||◌, List, [], ◌∷◌, ◌++◌, Option, Some, None, refl, sym, ap, ◌∙◌, subst, arith, is_some, inl, inr, ◌⊎◌}
-use Rattle.std.proofs.lemmas.Bool.{false≢true, eqb-true}
+use Rattle.std.proofs.Common.{◌≡◌, ℕ, ◌+◌, ◌<◌, ◌≤◌, Bool, true, false, not, cond, ◌&&◌, List, [], ◌∷◌, ◌++◌, Option, Some, None, refl, sym, ap, ◌∙◌, subst, arith, is_some, inl, inr, ◌⊎◌}
+use Rattle.std.proofs.lemmas.Bool.{false≢true, eqb-true, lt-leb, le-leb}
 use Rattle.std.proofs.Math.Dec.{eqb}
+use Rattle.std.proofs.Math.Bool.{and-false}
+use Rattle.std.proofs.lemmas.Option.{none-some}
+use Rattle.small_facts.proofs.Options.{same_second}
+use Rattle.small_facts.proofs.Truth.{with_and_true, or_first_false, and_first}
 use Rattle.cluster_msgs.specs.declared.messages.Down.TheVariants.{RefreshWhoHas}
 use Rattle.cluster_rules.specs.Sched.{Facts, IsSound, keys, holds, held, connected, is_on, is_for}
 use Rattle.cluster_rules.specs.SchedTable.{is_this, is_asked_back, Changed, refreshed}
 use Rattle.cluster_rules.specs.SchedStep.{settle, finish_step, lost, mail}
-use Rattle.cluster_rules.proofs.SchedFrame.{same_some}
 use Rattle.cluster_laws.specs.Settled.{IsSettled}
 use Rattle.cluster_laws.proofs.Framed.{IsFramed}
 use Rattle.cluster_laws.proofs.Errors.{holder_holds, ready_is_not_held}
-use Rattle.cluster_laws.proofs.Lists.{and_first}
 use Rattle.pair_machine.specs.Pair.{Report, Quiet, is_at, Pair, IsPair}
 use Rattle.pair_machine.specs.Moves.{withdrawn, counted, still_asked}
-use Rattle.pair_machine.proofs.PairLemmas.{not_le, is_le}
 use Rattle.pair_machine.proofs.PairKept.{kept_withdrawn, kept_counted}
 use Rattle.pair_moves.specs.Projection.{notes, reports, at_worker, Side, pair_of, IsNumbered}
 use Rattle.pair_moves.proofs.PairTold.{AreOther}
-use Rattle.pair_moves.proofs.Settling.{none_not_some, new_at}
+use Rattle.pair_moves.proofs.Settling.{new_at}
 use Rattle.pair_moves.proofs.SettleKeeps.{IsFair, old_at, changed_pair, Closes, settle_keeps, plain_closes, plain_newly}
 
 -- ## What a row makes of a key's place and of its steal
@@ -30,19 +31,11 @@ pub data Moved (f g : Facts) (k : ℕ) : Type 0 where
 -- a place that was there before the event is old
 pub old_place : (since w : ℕ) (o : Option (ℕ × ℕ)) → ((v a : ℕ) → o ≡ Some (v, a) → a < since) → at_worker w o ≡ old_at since w o
 old_place since w None h = refl
-old_place since w (Some p) h = ap (λ b. cond b (Some p.1) None) (and_is (eqb p.0 w)) ∙ ap (λ c. cond (eqb p.0 w && not c) (Some p.1) None) (sym (not_le since p.1 (h p.0 p.1 refl)))
-  where
-    and_is : (b : Bool) → b ≡ (b && true)
-    and_is true = refl
-    and_is false = refl
+old_place since w (Some p) h = ap (λ b. cond b (Some p.1) None) (with_and_true (eqb p.0 w)) ∙ ap (λ c. cond (eqb p.0 w && not c) (Some p.1) None) (sym (lt-leb since p.1 (h p.0 p.1 refl)))
 
 -- and one that is new isn't
 pub old_none : (since w v : ℕ) → old_at since w (Some (v, since)) ≡ None
-old_none since w v = ap (λ c. cond (eqb v w && not c) (Some since) None) (is_le since since (omega arith)) ∙ ap (λ c. cond c (Some since) None) (and_false (eqb v w))
-  where
-    and_false : (b : Bool) → (b && false) ≡ false
-    and_false true = refl
-    and_false false = refl
+old_none since w v = ap (λ c. cond (eqb v w && not c) (Some since) None) (le-leb since since (omega arith)) ∙ ap (λ c. cond c (Some since) None) (and-false (eqb v w))
 
 pub old_is : (f : Facts) → IsNumbered f → (w k : ℕ) → at_worker w (f.on k) ≡ old_at f.counter w (f.on k)
 old_is f n w k = old_place f.counter w (f.on k) (λ v a e. n.below k v a e)
@@ -79,16 +72,16 @@ moved_apart f g t w k (Stolen v was on c steal) e = placed_apart f t k was
 
 pub moved_below : (f g : Facts) → IsNumbered f → f.counter ≤ g.counter → (w k a : ℕ) → Moved f g k → g.on k ≡ Some (w, a) → a < g.counter
 moved_below f g n l w k a (Stays on steal) e = let m : a < f.counter = n.below k w a (sym on ∙ e) in omega arith
-moved_below f g n l w k a (Ended on steal) e = absurd (none_not_some (w, a) (sym on ∙ e))
-moved_below f g n l w k a (Stolen v was on c steal) e = let m : f.counter ≡ a = same_some (v, f.counter) (w, a) (sym on ∙ e) in omega arith
+moved_below f g n l w k a (Ended on steal) e = absurd (none-some (w, a) (sym on ∙ e))
+moved_below f g n l w k a (Stolen v was on c steal) e = let m : f.counter ≡ a = same_second (v, f.counter) (w, a) (sym on ∙ e) in omega arith
 
 moved_inside : (f g : Facts) → IsNumbered f → (k : ℕ) → Moved f g k → (p : ℕ × Bool) → g.steal k ≡ Some p → (q : ℕ × ℕ) × ((g.on k ≡ Some q) × (q.1 < f.counter))
 moved_inside f g n k (Stays on steal) p e = there (some_place (f.on k) (steal (ap is_some e)))
   where
     there : (q : ℕ × ℕ) × (f.on k ≡ Some q) → (q : ℕ × ℕ) × ((g.on k ≡ Some q) × (q.1 < f.counter))
     there (q, h) = (q, (on ∙ h, n.below k q.0 q.1 h))
-moved_inside f g n k (Ended on steal) p e = absurd (none_not_some p (sym steal ∙ e))
-moved_inside f g n k (Stolen v was on c steal) p e = absurd (none_not_some p (sym steal ∙ e))
+moved_inside f g n k (Ended on steal) p e = absurd (none-some p (sym steal ∙ e))
+moved_inside f g n k (Stolen v was on c steal) p e = absurd (none-some p (sym steal ∙ e))
 
 -- ## A row
 
@@ -106,12 +99,8 @@ pub row_keeps : {joining : ℕ} (f : Facts) (g : Changed) (has was : Bool) (w k 
 unfolding settle
 row_keeps f g has was w k r s frame sound low there row p =
     settle_keeps f g has was w k s low frame.setting frame.counter (sound.numbers w there).0 (sound.numbers w there).1 there row.fair row.newly
-    (λ l. stays (first (g.freed w k) _ l)) (λ _. goes) row.closes
+    (λ l. stays (or_first_false (g.freed w k) _ l)) (λ _. goes) row.closes
   where
-    first : (x y : Bool) → (x || y) ≡ false → x ≡ false
-    first true y e = e
-    first false y e = refl
-
     goes : IsPair (withdrawn (changed_pair f g has was w k s))
     goes = subst (λ n. IsPair (record (withdrawn (changed_pair f g has was w k s)) { fence = n + 1; sent = n + 1 })) (ap (λ t. t w) (sym frame.sent))
         (kept_withdrawn (record (pair_of f w k s) { up = r ∷ reports k s.up }) (reports k s.up) p p.heard_of.1 (λ a. omega arith) (λ a. omega arith))
@@ -214,10 +203,6 @@ this_is w a (Some p) = pick (eqb p.0 w)
     pick : (b : Bool) → (b && eqb p.1 a) ≡ is_at a (cond b (Some p.1) None)
     pick true = refl
     pick false = refl
-
-pub this_some : (w a : ℕ) (o : Option (ℕ × ℕ)) → is_this w a o ≡ true → is_some o ≡ true
-this_some w a None e = e
-this_some w a (Some p) e = refl
 
 -- the same, in place of a message
 pub quiet_calm : (f : Facts) (g : Changed) (w k : ℕ) (s : Side) → Moved f g.facts k → ((g.facts.on k ≡ f.on k) × (g.facts.steal k ≡ f.steal k)) ⊎ (at_worker w (f.on k) ≡ None) → holds g.facts w k ≡ holds f w k → g.freed w k ≡ false → ((x : Facts) → AreOther (notes k (g.answer x w))) → IsCalm f g w k Quiet s

@@ -2,24 +2,28 @@
 use Rattle.std.proofs.Common.{◌≡◌, ℕ, ◌+◌, ◌<◌, ◌≤◌, Bool, true, false, not, cond, ◌&&◌, ◌||◌, List, [], ◌∷◌, ◌++◌, Option, Some, None, refl, sym, ap, ◌∙◌, subst, arith, is_some, inl, inr, ◌⊎◌, ⊎_elim, length, append_assoc}
 use Rattle.std.specs.Prelude.{nat_le}
 use Rattle.std.specs.List.{list_any}
-use Rattle.std.proofs.lemmas.Bool.{true≢false, false≢true, eqb-true, or_cases}
-use Rattle.std.proofs.lemmas.Bool.Decides.{nat_tests}
+use Rattle.std.proofs.lemmas.Bool.{true≢false, false≢true, eqb-true, or_cases, leb-false, leb-true, eq-eqb}
 use Rattle.std.proofs.Math.Dec.{eqb}
+use Rattle.std.proofs.Math.Bool.{and-false}
+use Rattle.std.proofs.lemmas.List.{length-append}
+use Rattle.std.proofs.lemmas.Option.{none-some, same_Some}
+use Rattle.small_facts.proofs.Options.{same_second}
+use Rattle.small_facts.proofs.Truth.{or_first_false, or_second_false}
 use Rattle.cluster_msgs.specs.Shape.{key_count}
 use Rattle.cluster_msgs.specs.declared.messages.Down.{Down}
 use Rattle.cluster_rules.specs.Functions.{from_one}
 use Rattle.cluster_rules.specs.Derived.{below, is_in}
-use Rattle.cluster_rules.specs.Sched.{Facts, keys, workers, connected, holds, held, erred, need, ready, fed, is_on, is_for}
+use Rattle.cluster_rules.specs.Sched.{Facts, keys, workers, connected, holds, held, need, ready, is_on, is_for}
 use Rattle.cluster_rules.specs.SchedTable.{is_asked_back, Changed}
 use Rattle.cluster_rules.specs.SchedStep.{fence_after, Stages, settle, finish_step, posted, place_all, place_keys, drop_bad, drop_has, drop_on, down_messages, lost, lost_keys, mail, count_to}
 use Rattle.cluster_rules.proofs.SchedFrame.{IsPlacing, placing_keys, in_filter, in_range, count_to-mail}
 use Rattle.pair_machine.specs.Pair.{Note, Free, Other, fence_notes, Pair, IsPair}
 use Rattle.pair_machine.specs.Moves.{withdrawn}
 use Rattle.pair_machine.proofs.PairKept.{kept_tell}
-use Rattle.pair_machine.proofs.PairLemmas.{length-more}
 use Rattle.pair_moves.specs.Projection.{notes, reports, at_worker, Side, pair_of}
 use Rattle.pair_moves.proofs.PairTold.{AreOther, fence_other, told_others, task_notes, sent_on, sent_none, kept_more, told_nothing, told_given}
-use Rattle.pair_moves.proofs.Settling.{none_not_some, same_eqb, notes-append, notes_long, free_notes, fence_noted, fence-append, fence_free, fence_tasks, new_at, in_filter_is, distinct_range, event_notes, placed_ready}
+use Rattle.pair_moves.proofs.Settling.{notes-append, notes_long, free_notes, fence_noted, fence-append, fence_free, fence_tasks, new_at, in_filter_is, distinct_range, event_notes, placed_ready}
+use Rattle.cluster_laws.proofs.Errors.{ready_is_not_held}
 
 -- the change of an event itself: a key with a place is neither freed nor held, and a key that is freed isn't held there
 pub record IsFair (g : Changed) (w k : ℕ) : Type 0 where
@@ -61,52 +65,29 @@ old_at since w (Some p) = cond (eqb p.0 w && not (nat_le since p.1)) (Some p.1) 
 
 -- a place that is new and the worker's
 pub new_some : (since w a : ℕ) (x : Option (ℕ × ℕ)) → new_at since w x ≡ Some a → (x ≡ Some (w, a)) × (since ≤ a)
-new_some since w a None e = absurd (none_not_some a e)
+new_some since w a None e = absurd (none-some a e)
 new_some since w a (Some p) e = pick (eqb p.0 w) refl (nat_le since p.1) refl e
   where
-    le_from : (m n : ℕ) → nat_le m n ≡ true → m ≤ n
-    le_from m n h = grind (arith, nat_tests)
-
-    same : (x y : ℕ) → Some x ≡ Some y → x ≡ y
-    same x y f = cc
-
     pick : (b : Bool) → eqb p.0 w ≡ b → (c : Bool) → nat_le since p.1 ≡ c → cond (b && c) (Some p.1) None ≡ Some a → (Some p ≡ Some (w, a)) × (since ≤ a)
-    pick true x true y h = let q : p.1 ≡ a = same p.1 a h in (ap Some (λ i. (eqb-true p.0 w x i, q i)), subst (λ n. since ≤ n) q (le_from since p.1 y))
-    pick true x false y h = absurd (none_not_some a h)
-    pick false x c y h = absurd (none_not_some a h)
+    pick true x true y h = let q : p.1 ≡ a = same_Some p.1 a h in (ap Some (λ i. (eqb-true p.0 w x i, q i)), subst (λ n. since ≤ n) q (leb-true since p.1 y))
+    pick true x false y h = absurd (none-some a h)
+    pick false x c y h = absurd (none-some a h)
 
 only_place : {A : Type 0} (b : Bool) (o : Option A) (x : A) → cond b o None ≡ Some x → (b ≡ true) × (o ≡ Some x)
 only_place true o x e = (refl, e)
-only_place false o x e = absurd (none_not_some x e)
+only_place false o x e = absurd (none-some x e)
 
 -- no worker holds a ready key
 none_of : (p : ℕ → Bool) (x : ℕ) (xs : List ℕ) → list_any p xs ≡ false → is_in x xs ≡ true → p x ≡ false
 none_of p x [] e i = absurd (false≢true i)
-none_of p x (y ∷ ys) e i = ⊎_elim (λ h. ap p (sym (eqb-true y x h)) ∙ first (p y) (list_any p ys) e) (λ h. none_of p x ys (second (p y) (list_any p ys) e) h) (or_cases (eqb y x) (is_in x ys) i)
-  where
-    first : (a b : Bool) → (a || b) ≡ false → a ≡ false
-    first true b n = n
-    first false b n = refl
-
-    second : (a b : Bool) → (a || b) ≡ false → b ≡ false
-    second true b n = absurd (true≢false n)
-    second false b n = n
-
-ready_open : (f : Facts) (k : ℕ) → ready f k ≡ true → held f k ≡ false
-unfolding ready
-ready_open f k r = not_held (need f k) (held f k) (erred f k) (fed f k) r
-  where
-    not_held : (n h e d : Bool) → ((n && (not h && not e)) && d) ≡ true → h ≡ false
-    not_held true true e d q = absurd (false≢true q)
-    not_held true false e d q = refl
-    not_held false h e d q = absurd (false≢true q)
+none_of p x (y ∷ ys) e i = ⊎_elim (λ h. ap p (sym (eqb-true y x h)) ∙ or_first_false (p y) (list_any p ys) e) (λ h. none_of p x ys (or_second_false (p y) (list_any p ys) e) h) (or_cases (eqb y x) (is_in x ys) i)
 
 pub held_none : (f : Facts) (w k : ℕ) → 1 ≤ w → w ≤ f.last_worker → held f k ≡ false → holds f w k ≡ false
 unfolding held
 held_none f w k from upto h = none_of (λ v. holds f v k) w (from_one f.last_worker) h (in_range 1 f.last_worker w from (omega arith))
 
 ready_apart : (f : Facts) (w k : ℕ) → 1 ≤ w → w ≤ f.last_worker → ready f k ≡ true → holds f w k ≡ false
-ready_apart f w k from upto r = held_none f w k from upto (ready_open f k r)
+ready_apart f w k from upto r = held_none f w k from upto (ready_is_not_held f k r)
 
 -- the pair once the event's own change is made: what is given anew is not yet told
 abbrev pub changed_pair : Facts → Changed → Bool → Bool → ℕ → ℕ → Side → Pair
@@ -218,7 +199,7 @@ settle_keeps f g has was w k s low same more from upto there fair newly stays go
         (newly a e, n.1, c)
 
     on_it : (a : ℕ) → g.facts.on k ≡ Some (w, a) → is_on g.facts w k ≡ true
-    on_it a on = ap (is_for w) on ∙ same_eqb w w refl
+    on_it a on = ap (is_for w) on ∙ eq-eqb w w refl
 
     -- a place that the event's own change leaves stays where nothing is lost
     stay : (a : ℕ) → g.facts.on k ≡ Some (w, a) → lost t w k ≡ false → place ≡ Some (w, a)
@@ -240,14 +221,10 @@ settle_keeps f g has was w k s low same more from upto there fair newly stays go
         too_new : (a : ℕ) → a < f.counter → g.facts.counter ≤ a → ⊥
         too_new a l m = omega arith
 
-        and_false : (d : Bool) → (d && false) ≡ false
-        and_false true = refl
-        and_false false = refl
-
         not_lost : is_on g.facts w k ≡ true → ready a0 k ≡ true → lost t w k ≡ false
         not_lost it r = ap (λ x. x || ((holds g.facts w k && not (need (drop_bad g.facts) k)) || (is_on g.facts w k && not (ready a0 k)))) (fair.freed it)
             ∙ ap (λ x. (x && not (need (drop_bad g.facts) k)) || (is_on g.facts w k && not (ready a0 k))) (fair.apart it)
-            ∙ ap (λ x. is_on g.facts w k && not x) r ∙ and_false (is_on g.facts w k)
+            ∙ ap (λ x. is_on g.facts w k && not x) r ∙ and-false (is_on g.facts w k)
 
         only : (ready a0 k ≡ true) × (g.facts.on k ≡ Some (w, a)) → (g.facts.on k ≡ Some (w, a)) × (lost t w k ≡ false)
         only i = (i.1, not_lost (on_it a i.1) i.0)
@@ -272,18 +249,15 @@ settle_keeps f g has was w k s low same more from upto there fair newly stays go
         same_pair : (x y : ℕ × ℕ) → Some x ≡ Some y → x.0 ≡ y.0
         same_pair x y e = let same : x ≡ y = cc in ap (λ (z : ℕ × ℕ). z.0) same
 
-        not_le : (m n : ℕ) → nat_le m n ≡ false → n < m
-        not_le m n e = grind (arith, nat_tests)
-
         pick : (x : Option (ℕ × ℕ)) → place ≡ x → or_else (new_at f.counter w x) (cond (lost t w k) None (old_at f.counter w (g.facts.on k))) ≡ at_worker w x
-        pick None e = none_left (λ a q. none_not_some (w, a) (sym e ∙ q))
+        pick None e = none_left (λ a q. none-some (w, a) (sym e ∙ q))
         pick (Some r) e = here (eqb r.0 w) refl (nat_le f.counter r.1) refl
           where
             here : (b : Bool) → eqb r.0 w ≡ b → (c : Bool) → nat_le f.counter r.1 ≡ c → or_else (cond (b && c) (Some r.1) None) (cond (lost t w k) None (old_at f.counter w (g.facts.on k))) ≡ cond b (Some r.1) None
             here true i true j = refl
-            here true i false j = let old = old_stays r.1 (e ∙ ap (λ v. Some (v, r.1)) (eqb-true r.0 w i)) (not_le f.counter r.1 j) in
-                ap (λ b. cond b None (old_at f.counter w (g.facts.on k))) old.1 ∙ ap (old_at f.counter w) old.0 ∙ ap (λ b. cond (b && not (nat_le f.counter r.1)) (Some r.1) None) (same_eqb w w refl) ∙ ap (λ b. cond (not b) (Some r.1) None) j
-            here false i c j = none_left (λ a q. true≢false (sym (same_eqb r.0 w (same_pair r (w, a) (sym e ∙ q))) ∙ i))
+            here true i false j = let old = old_stays r.1 (e ∙ ap (λ v. Some (v, r.1)) (eqb-true r.0 w i)) (leb-false f.counter r.1 j) in
+                ap (λ b. cond b None (old_at f.counter w (g.facts.on k))) old.1 ∙ ap (old_at f.counter w) old.0 ∙ ap (λ b. cond (b && not (nat_le f.counter r.1)) (Some r.1) None) (eq-eqb w w refl) ∙ ap (λ b. cond (not b) (Some r.1) None) j
+            here false i c j = none_left (λ a q. true≢false (sym (eq-eqb r.0 w (same_pair r (w, a) (sym e ∙ q))) ∙ i))
 
     fence_is : fence_notes ((g.facts.sent w + length free) + length tasks) answers (cond (lost t w k) (g.facts.sent w + 1) (g.facts.fence w k)) ≡ fence_after k (t.placed.sent w) (mail w ms) (t.placed.fence w k)
     fence_is = ap (λ n. fence_notes ((g.facts.sent w + length free) + length tasks) answers n) (ap (λ b. cond b (g.facts.sent w + 1) (g.facts.fence w k)) (sym lost_is) ∙ sym (fence_free (g.facts.sent w) k (lost_keys t w) (g.facts.fence w k)) ∙ sym (fence_tasks k h (below (keys t.placed)) (g.facts.sent w + length free) (fence_notes (g.facts.sent w) free (g.facts.fence w k))))
@@ -297,7 +271,7 @@ settle_keeps f g has was w k s low same more from upto there fair newly stays go
     down_is = append_assoc (notes k s.down ++ free) tasks answers ∙ append_assoc (notes k s.down) free (tasks ++ answers) ∙ ap (λ l. notes k s.down ++ l) (sym told) ∙ sym (notes-append k s.down (mail w ms))
 
     sent_is : ((g.facts.sent w + length free) + length tasks) + length answers ≡ t.placed.sent w + count_to w ms
-    sent_is = let l = length-more free (tasks ++ answers) in let m = length-more tasks answers in let d = ap length told in let n = notes_long k (mail w ms) in let c = count_to-mail w ms in let e : t.placed.sent w ≡ g.facts.sent w = ap (λ x. x w) p0.sent in omega arith
+    sent_is = let l = length-append free (tasks ++ answers) in let m = length-append tasks answers in let d = ap length told in let n = notes_long k (mail w ms) in let c = count_to-mail w ms in let e : t.placed.sent w ≡ g.facts.sent w = ap (λ x. x w) p0.sent in omega arith
 
     equal : given_pair (h k) t.placed.counter tasks (freed_pair (lost t w k) free p) ≡ record {
       has = cond (lost t w k) false has;
@@ -404,9 +378,6 @@ plain_closes f g w k fair silent inside more x has on old asked counter s =
         too_old : (m : ℕ) → m < f.counter → f.counter ≤ m → ⊥
         too_old m x y = omega arith
 
-        same : (y z : ℕ × ℕ) → Some y ≡ Some z → y.1 ≡ z.1
-        same y z e = let q : y ≡ z = cc in ap (λ (r : ℕ × ℕ). r.1) q
-
         pick : (b : Bool) → ready a0 k ≡ b → (y : Option (ℕ × Bool)) → g.facts.steal k ≡ y → is_asked_back (cond b y None) ≡ false
         pick false r y z = refl
         pick true r None z = refl
@@ -414,51 +385,38 @@ plain_closes f g w k fair silent inside more x has on old asked counter s =
             let i = inside p z in
             let n = new_some f.counter w a place e in
             let at : place ≡ Some i.0 = p0.stays k i.0 (ap (λ c. cond c (g.facts.on k) None) r ∙ i.1.0) in
-            absurd (too_old a (subst (λ m. m < f.counter) (same i.0 (w, a) (sym at ∙ n.0)) i.1.1) n.1)
+            absurd (too_old a (subst (λ m. m < f.counter) (same_second i.0 (w, a) (sym at ∙ n.0)) i.1.1) n.1)
 
     -- an old place that stays is of a ready key
     still_ready : (a : ℕ) → old_at f.counter w (g.facts.on k) ≡ Some a → at_worker w place ≡ Some a → ready a0 k ≡ true
     still_ready a e i = pick place refl i
       where
         below_it : (a : ℕ) (y : Option (ℕ × ℕ)) → old_at f.counter w y ≡ Some a → a < f.counter
-        below_it a None e = absurd (none_not_some a e)
+        below_it a None e = absurd (none-some a e)
         below_it a (Some r) e = here (eqb r.0 w) (nat_le f.counter r.1) refl e
           where
-            not_le : (m n : ℕ) → nat_le m n ≡ false → n < m
-            not_le m n e = grind (arith, nat_tests)
-
-            same_number : (y z : ℕ) → Some y ≡ Some z → y ≡ z
-            same_number y z e = cc
-
             here : (b c : Bool) → nat_le f.counter r.1 ≡ c → cond (b && not c) (Some r.1) None ≡ Some a → a < f.counter
-            here true false j h = subst (λ m. m < f.counter) (same_number r.1 a h) (not_le f.counter r.1 j)
-            here true true j h = absurd (none_not_some a h)
-            here false c j h = absurd (none_not_some a h)
+            here true false j h = subst (λ m. m < f.counter) (same_Some r.1 a h) (leb-false f.counter r.1 j)
+            here true true j h = absurd (none-some a h)
+            here false c j h = absurd (none-some a h)
 
         too_new : g.facts.counter ≤ a → a < f.counter → ⊥
         too_new l m = omega arith
 
         pick : (y : Option (ℕ × ℕ)) → place ≡ y → at_worker w y ≡ Some a → ready a0 k ≡ true
-        pick None z h = absurd (none_not_some a h)
+        pick None z h = absurd (none-some a h)
         pick (Some r) z h = here (eqb r.0 w) refl h
           where
-            same_number : (y z : ℕ) → Some y ≡ Some z → y ≡ z
-            same_number y z e = cc
-
             here : (b : Bool) → eqb r.0 w ≡ b → cond b (Some r.1) None ≡ Some a → ready a0 k ≡ true
-            here true j q = ⊎_elim (λ i. (only_place (ready a0 k) (g.facts.on k) r i).0) (λ n. absurd (too_new (subst (λ m. g.facts.counter ≤ m) (same_number r.1 a q) n.0) (below_it a (g.facts.on k) e))) (p0.on k r.0 r.1 z)
-            here false j q = absurd (none_not_some a q)
+            here true j q = ⊎_elim (λ i. (only_place (ready a0 k) (g.facts.on k) r i).0) (λ n. absurd (too_new (subst (λ m. g.facts.counter ≤ m) (same_Some r.1 a q) n.0) (below_it a (g.facts.on k) e))) (p0.on k r.0 r.1 z)
+            here false j q = absurd (none-some a q)
 
     asked_is : asked_or (new_at f.counter w place) (cond (lost t w k) false was) ≡ (is_some (at_worker w place) && is_asked_back (t.placed.steal k))
     asked_is = pick (new_at f.counter w place) refl (lost t w k) refl (old_at f.counter w (g.facts.on k)) refl (sym on ∙ old) ∙ ap (λ y. is_some (at_worker w place) && is_asked_back y) (sym steal_is)
       where
-        and_false : (b : Bool) → (b && false) ≡ false
-        and_false true = refl
-        and_false false = refl
-
         pick : (n : Option ℕ) → new_at f.counter w place ≡ n → (l : Bool) → lost t w k ≡ l → (d : Option ℕ) → old_at f.counter w (g.facts.on k) ≡ d → at_worker w place ≡ or_else (new_at f.counter w place) (cond (lost t w k) None (old_at f.counter w (g.facts.on k)))
             → asked_or n (cond l false (is_some d && is_asked_back (g.facts.steal k))) ≡ (is_some (at_worker w place) && is_asked_back (cond (ready a0 k) (g.facts.steal k) None))
-        pick (Some a) en l el d ed h = sym (ap (λ y. is_some (at_worker w place) && y) (new_apart a en) ∙ and_false (is_some (at_worker w place)))
+        pick (Some a) en l el d ed h = sym (ap (λ y. is_some (at_worker w place) && y) (new_apart a en) ∙ and-false (is_some (at_worker w place)))
         pick None en true el d ed h = sym (ap (λ y. is_some y && is_asked_back (cond (ready a0 k) (g.facts.steal k) None)) (h ∙ ap (λ n. or_else n (cond (lost t w k) None (old_at f.counter w (g.facts.on k)))) en ∙ ap (λ c. cond c None (old_at f.counter w (g.facts.on k))) el))
         pick None en false el d ed h =
             let here : at_worker w place ≡ d = h ∙ ap (λ n. or_else n (cond (lost t w k) None (old_at f.counter w (g.facts.on k)))) en ∙ ap (λ c. cond c None (old_at f.counter w (g.facts.on k))) el ∙ ed in

@@ -2,9 +2,11 @@
 use Rattle.std.proofs.Common.{◌≡◌, ℕ, zero, suc, ◌+◌, ◌<◌, Bool, true, false, cond, ◌&&◌, ◌||◌, List, [], ◌∷◌, ◌++◌, Option, Some, None, refl, sym, ap, ◌∙◌, arith, is_none, inl, inr, ◌⊎◌, ⊎_elim, length}
 use Rattle.std.specs.Prelude.{nat_le}
 use Rattle.std.specs.List.{filter, filter_map, cons_option, range_with_len}
-use Rattle.std.proofs.lemmas.Bool.{eqb-true}
-use Rattle.std.proofs.lemmas.Bool.Decides.{nat_tests}
+use Rattle.std.proofs.lemmas.Bool.{eqb-true, eq-eqb}
 use Rattle.std.proofs.Math.Dec.{eqb}
+use Rattle.std.proofs.Math.Bool.{and-false}
+use Rattle.small_facts.proofs.Numbers.{unequal_over}
+use Rattle.small_facts.proofs.Truth.{and_first}
 use Rattle.cluster_msgs.specs.Shape.{deps_of}
 use Rattle.cluster_msgs.specs.declared.messages.Down.{Down}
 use Rattle.cluster_msgs.specs.declared.messages.Down.TheVariants.{ComputeTask, FreeKeys, StealRequest, RemoveReplicas, AcquireReplicas, RefreshWhoHas}
@@ -17,12 +19,6 @@ use Rattle.cluster_rules.proofs.SchedLemmas.{ready-place_one}
 use Rattle.pair_machine.specs.Pair.{Note, Task, Free, Remove, Ask, Other, is_fence, fence_notes}
 use Rattle.pair_moves.specs.Projection.{note_of, notes}
 use Rattle.pair_moves.proofs.PairTold.{task_note, task_notes, Distinct}
-
-pub none_not_some : {A : Type 0} (x : A) → None ≡ Some x → ⊥
-none_not_some x e = cc
-
-pub same_eqb : (a b : ℕ) → a ≡ b → eqb a b ≡ true
-same_eqb a b e = grind (arith, nat_tests)
 
 -- the messages of an event to one worker, for one key
 pub notes-append : (k : ℕ) (xs ys : List Down) → notes k (xs ++ ys) ≡ notes k xs ++ notes k ys
@@ -39,7 +35,7 @@ free_notes k (x ∷ xs) = cond (is_in k (x ∷ xs)) Free Other ∷ []
 
 notes_free : (k w : ℕ) (ks : List ℕ) → notes k (mail w (free_message w ks)) ≡ free_notes k ks
 notes_free k w [] = refl
-notes_free k w (x ∷ xs) = ap (λ b. notes k (cond b (FreeKeys (x ∷ xs) ∷ []) [])) (same_eqb w w refl)
+notes_free k w (x ∷ xs) = ap (λ b. notes k (cond b (FreeKeys (x ∷ xs) ∷ []) [])) (eq-eqb w w refl)
 
 -- the attempt of a place that is the worker's and new since then
 abbrev pub new_at : ℕ → ℕ → Option (ℕ × ℕ) → Option ℕ
@@ -58,29 +54,22 @@ notes_tasks f since w k (q ∷ qs) = one (f.on q) ∙ ap (cons_option (task_note
     one (Some p) = pick (eqb p.0 w && nat_le since p.1)
       where
         pick : (c : Bool) → notes k (mail w (cons_option (cond c (Some (w, ComputeTask q p.1 (who_has f (deps_of f.setting.shape q)))) None) (filter_map (λ n. task_message f since w n (f.on n)) qs))) ≡ cons_option (task_note k q (cond c (Some p.1) None)) (notes k (mail w (filter_map (λ n. task_message f since w n (f.on n)) qs)))
-        pick true = ap (λ b. notes k (cond b (ComputeTask q p.1 (who_has f (deps_of f.setting.shape q)) ∷ mail w (filter_map (λ n. task_message f since w n (f.on n)) qs)) (mail w (filter_map (λ n. task_message f since w n (f.on n)) qs)))) (same_eqb w w refl)
+        pick true = ap (λ b. notes k (cond b (ComputeTask q p.1 (who_has f (deps_of f.setting.shape q)) ∷ mail w (filter_map (λ n. task_message f since w n (f.on n)) qs)) (mail w (filter_map (λ n. task_message f since w n (f.on n)) qs)))) (eq-eqb w w refl)
         pick false = refl
 
 pub in_filter_is : (p : ℕ → Bool) (x : ℕ) (xs : List ℕ) → is_in x (filter p xs) ≡ (is_in x xs && p x)
 in_filter_is p x [] = refl
 in_filter_is p x (y ∷ ys) = pick (p y) refl (eqb y x) refl (in_filter_is p x ys)
   where
-    and_false : (d : Bool) → (d && false) ≡ false
-    and_false true = refl
-    and_false false = refl
-
     pick : (b : Bool) → p y ≡ b → (c : Bool) → eqb y x ≡ c → is_in x (filter p ys) ≡ (is_in x ys && p x) → is_in x (cond b (y ∷ filter p ys) (filter p ys)) ≡ ((c || is_in x ys) && p x)
     pick true q true e h = ap (λ d. d || is_in x (filter p ys)) e ∙ sym (sym (ap p (eqb-true y x e)) ∙ q)
     pick true q false e h = ap (λ d. d || is_in x (filter p ys)) e ∙ h
-    pick false q true e h = h ∙ ap (λ d. is_in x ys && d) (sym (ap p (eqb-true y x e)) ∙ q) ∙ and_false (is_in x ys) ∙ sym (sym (ap p (eqb-true y x e)) ∙ q)
+    pick false q true e h = h ∙ ap (λ d. is_in x ys && d) (sym (ap p (eqb-true y x e)) ∙ q) ∙ and-false (is_in x ys) ∙ sym (sym (ap p (eqb-true y x e)) ∙ q)
     pick false q false e h = h
 
 not_in_range : (b n x : ℕ) → x < b → is_in x (range_with_len b n) ≡ false
 not_in_range b zero x l = refl
-not_in_range b (suc n) x l = ap (λ c. c || is_in x (range_with_len (b + 1) n)) (apart b x l) ∙ not_in_range (b + 1) n x (omega arith)
-  where
-    apart : (b x : ℕ) → x < b → eqb b x ≡ false
-    apart b x l = grind (arith, nat_tests)
+not_in_range b (suc n) x l = ap (λ c. c || is_in x (range_with_len (b + 1) n)) (unequal_over b x l) ∙ not_in_range (b + 1) n x (omega arith)
 
 pub distinct_range : (b n : ℕ) → Distinct (range_with_len b n)
 distinct_range b zero = tt
@@ -113,16 +102,12 @@ placed_ready f (q ∷ qs) k p e = ⊎_elim (λ h. one h) (λ h. inr (ap (λ r. r
     one : (place_one f q).on k ≡ Some p → (f.on k ≡ Some p) ⊎ (ready f k ≡ true)
     one = pick (ready f q && is_none (f.on q)) refl (place f q)
       where
-        first : (x y : Bool) → (x && y) ≡ true → x ≡ true
-        first true y e = refl
-        first false y e = e
-
         pick : (b : Bool) → (ready f q && is_none (f.on q)) ≡ b → (to : Option ℕ) → (cond b (give f q to) f).on k ≡ Some p → (f.on k ≡ Some p) ⊎ (ready f k ≡ true)
         pick true i None h = inl h
         pick true i (Some w) h = at (eqb k q) refl h
           where
             at : (c : Bool) → eqb k q ≡ c → cond c (Some (w, f.counter)) (f.on k) ≡ Some p → (f.on k ≡ Some p) ⊎ (ready f k ≡ true)
-            at true j x = inr (ap (ready f) (eqb-true k q j) ∙ first (ready f q) (is_none (f.on q)) i)
+            at true j x = inr (ap (ready f) (eqb-true k q j) ∙ and_first (ready f q) (is_none (f.on q)) i)
             at false j x = inl x
         pick false i to h = inl h
 

@@ -1,18 +1,9 @@
 -- Facts that have settled settle to themselves, but for new places.
-use Rattle.std.proofs.Common.{◌≡◌, ℕ, Bool, true, false, cond, Option, Some, None, refl, ap, ◌∙◌, is_some}
-use Rattle.std.proofs.lemmas.Bool.{false≢true}
+use Rattle.std.proofs.Common.{◌≡◌, ℕ, true, ap, ◌∙◌, is_some}
+use Rattle.small_facts.proofs.Options.{cond_where_some}
+use Rattle.small_facts.proofs.Truth.{cond_where_true}
 use Rattle.cluster_rules.specs.Sched.{Facts, holds, known, need, ready}
 use Rattle.cluster_rules.specs.SchedStep.{drop_bad, drop_has, drop_on}
-
-only_known : (b x : Bool) → (x ≡ true → b ≡ true) → cond b x false ≡ x
-only_known true x h = refl
-only_known false true h = h refl
-only_known false false h = refl
-
-only_some : {A : Type 0} (b : Bool) (o : Option A) → (is_some o ≡ true → b ≡ true) → cond b o None ≡ o
-only_some true o h = refl
-only_some false None h = refl
-only_some false (Some x) h = absurd (false≢true (h refl))
 
 -- what each stage of settling asks for stands already
 pub record IsResting (f : Facts) : Type 0 where
@@ -23,15 +14,15 @@ pub record IsResting (f : Facts) : Type 0 where
 
 still_bad : (f : Facts) → IsResting f → drop_bad f ≡ f
 unfolding drop_bad
-still_bad f t = λ i. record f { bad = λ k. only_known (known f k) (f.bad k) (t.bad k) i }
+still_bad f t = λ i. record f { bad = λ k. cond_where_true (known f k) (f.bad k) (t.bad k) i }
 
 still_has : (f : Facts) → IsResting f → drop_has f ≡ f
 unfolding drop_has
-still_has f t = λ i. record f { has = λ w k. only_some (need f k) (f.has w k) (t.has w k) i }
+still_has f t = λ i. record f { has = λ w k. cond_where_some (need f k) (f.has w k) (t.has w k) i }
 
 still_on : (f : Facts) → IsResting f → drop_on f ≡ f
 unfolding drop_on
-still_on f t = λ i. record f { on = λ k. only_some (ready f k) (f.on k) (t.on k) i; steal = λ k. only_some (ready f k) (f.steal k) (t.steal k) i }
+still_on f t = λ i. record f { on = λ k. cond_where_some (ready f k) (f.on k) (t.on k) i; steal = λ k. cond_where_some (ready f k) (f.steal k) (t.steal k) i }
 
 pub still_settled : (f : Facts) → IsResting f → drop_on (drop_has (drop_bad f)) ≡ f
 still_settled f t = ap (λ g. drop_on (drop_has g)) (still_bad f t) ∙ ap drop_on (still_has f t) ∙ still_on f t

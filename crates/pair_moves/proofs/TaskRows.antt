@@ -1,27 +1,20 @@
 -- The rows of a task's end and of the answer to a steal, for each worker and key.
 use Rattle.std.proofs.Common.{◌≡◌, ℕ, ◌+◌, Bool, true, false, not, cond, ◌&&◌, Option, Some, None, refl, sym, ap, ◌∙◌, subst, arith, is_some, inl, inr, ◌⊎◌}
-use Rattle.std.proofs.lemmas.Bool.{true≢false, false≢true, eqb-true}
+use Rattle.std.proofs.lemmas.Bool.{true≢false, false≢true, eqb-true, eq-eqb}
 use Rattle.std.proofs.Math.Dec.{eqb}
+use Rattle.std.proofs.Math.Bool.{and-false, and-true}
+use Rattle.small_facts.proofs.Numbers.{eqb_turned}
+use Rattle.small_facts.proofs.Truth.{and_first, and_second}
 use Rattle.cluster_rules.specs.Functions.{put, put_pair}
 use Rattle.cluster_rules.specs.Sched.{Facts, IsSound, holds, connected, is_for}
 use Rattle.cluster_rules.specs.SchedTable.{plain, is_this, is_asked_back, finished, failed, stolen_to, refused, answered}
-use Rattle.cluster_rules.proofs.DerivedLemmas.{eqb_comm}
-use Rattle.cluster_rules.proofs.SchedFrame.{same_eqb}
 use Rattle.cluster_laws.specs.Settled.{IsSettled}
-use Rattle.cluster_laws.proofs.Lists.{and_first, and_second}
 use Rattle.pair_machine.specs.Pair.{Report, Finished, Erred, Gave, Declined, Quiet, is_at}
 use Rattle.pair_machine.specs.Moves.{counted, still_asked}
 use Rattle.pair_moves.specs.Projection.{at_worker, Side, pair_of, IsNumbered}
-use Rattle.pair_moves.proofs.Rows.{Moved, Stays, Ended, Stolen, IsPlain, calm_row, quiet_calm, same_moved, not_at, this_is, this_some, old_is, old_none, held_none, placed_apart}
+use Rattle.pair_moves.proofs.Rows.{Moved, Stays, Ended, Stolen, IsPlain, calm_row, quiet_calm, same_moved, not_at, this_is, old_is, old_none, held_none, placed_apart}
 use Rattle.pair_moves.proofs.SettleKeeps.{old_at}
-
-and_false : (b : Bool) → (b && false) ≡ false
-and_false true = refl
-and_false false = refl
-
-and_true : (b : Bool) → (b && true) ≡ b
-and_true true = refl
-and_true false = refl
+use Rattle.cluster_laws.proofs.Errors.{this_is_some}
 
 -- ## A key's place and steal, by row
 
@@ -69,7 +62,7 @@ moved_failed f t v q a k = moved_where f _ k (is_this v a (f.on q)) t (λ _. mov
 
 pub moved_answered : (f : Facts) → IsSettled f → (v q a : ℕ) (agreed : Bool) (k : ℕ) → Moved f (answered f v q a agreed) k
 unfolding answered
-moved_answered f t v q a true k = moved_where f _ k (is_this v a (f.on q) && is_asked_back (f.steal q)) t (λ e. moved_stolen f t k q (this_some v a (f.on q) (and_first (is_this v a (f.on q)) (is_asked_back (f.steal q)) e)) (f.steal q))
+moved_answered f t v q a true k = moved_where f _ k (is_this v a (f.on q) && is_asked_back (f.steal q)) t (λ e. moved_stolen f t k q (this_is_some v a (f.on q) (and_first (is_this v a (f.on q)) (is_asked_back (f.steal q)) e)) (f.steal q))
 moved_answered f t v q a false k = moved_where f _ k (is_this v a (f.on q) && is_asked_back (f.steal q)) t (λ e. moved_refused f t k q)
 
 -- ## A task's end
@@ -82,16 +75,16 @@ ending_own : (f h : Facts) (w k a : ℕ) (s : Side) (r : Report) (after : Bool) 
 ending_own f h w k a s r after sound t n on steal has counts asked = pick (is_this w a (f.on k)) (this_is w a (f.on k))
   where
     gone : h.on k ≡ None
-    gone = ap (λ (o : ℕ → Option (ℕ × ℕ)). o k) on ∙ ap (λ b. cond b None (f.on k)) (same_eqb k k refl)
+    gone = ap (λ (o : ℕ → Option (ℕ × ℕ)). o k) on ∙ ap (λ b. cond b None (f.on k)) (eq-eqb k k refl)
 
     dropped : h.steal k ≡ None
-    dropped = ap (λ (o : ℕ → Option (ℕ × Bool)). o k) steal ∙ ap (λ b. cond b None (f.steal k)) (same_eqb k k refl)
+    dropped = ap (λ (o : ℕ → Option (ℕ × Bool)). o k) steal ∙ ap (λ b. cond b None (f.steal k)) (eq-eqb k k refl)
 
     pick : (b : Bool) → b ≡ is_at a (at_worker w (f.on k)) → IsPlain f (plain (cond b h f)) w k r s
     pick true e = record {
       moved = Ended gone dropped;
       on = ap (λ (v : Bool × Option ℕ). v.1) (counts ∙ ap (λ b. cond {A = Bool × Option ℕ} b (after, None) (holds f w k, at_worker w (f.on k))) (sym e)) ∙ sym (ap (λ (o : Option (ℕ × ℕ)). at_worker w o) gone) ∙ none gone;
-      asked = asked ∙ ap (λ b. (is_some (at_worker w (f.on k)) && is_asked_back (f.steal k)) && not b) (sym e) ∙ and_false (is_some (at_worker w (f.on k)) && is_asked_back (f.steal k)) ∙ sym (unasked gone);
+      asked = asked ∙ ap (λ b. (is_some (at_worker w (f.on k)) && is_asked_back (f.steal k)) && not b) (sym e) ∙ and-false (is_some (at_worker w (f.on k)) && is_asked_back (f.steal k)) ∙ sym (unasked gone);
       freed = λ _. refl;
       gone = λ i. absurd (false≢true i);
       alone = λ i. absurd (false≢true (sym (ap (is_for w) gone) ∙ i));
@@ -108,7 +101,7 @@ ending_own f h w k a s r after sound t n on steal has counts asked = pick (is_th
       moved = same_moved f f t k refl refl;
       place = inl (refl, refl);
       counts = counts ∙ ap (λ b. cond {A = Bool × Option ℕ} b (after, None) (holds f w k, at_worker w (f.on k))) (sym e);
-      asked = asked ∙ ap (λ b. (is_some (at_worker w (f.on k)) && is_asked_back (f.steal k)) && not b) (sym e) ∙ and_true (is_some (at_worker w (f.on k)) && is_asked_back (f.steal k));
+      asked = asked ∙ ap (λ b. (is_some (at_worker w (f.on k)) && is_asked_back (f.steal k)) && not b) (sym e) ∙ and-true (is_some (at_worker w (f.on k)) && is_asked_back (f.steal k));
       has = refl;
       freed = refl;
       silent = λ x. tt;
@@ -120,7 +113,7 @@ ending_other : (f h : Facts) (v q a w k : ℕ) (s : Side) → IsSound f → IsSe
 ending_other f h v q a w k s sound t n on steal has other = pick (is_this v a (f.on q)) refl
   where
     same : eqb q k ≡ false → (h.on k ≡ f.on k) × (h.steal k ≡ f.steal k)
-    same e = (ap (λ (o : ℕ → Option (ℕ × ℕ)). o k) on ∙ ap (λ b. cond b None (f.on k)) (eqb_comm k q ∙ e), ap (λ (o : ℕ → Option (ℕ × Bool)). o k) steal ∙ ap (λ b. cond b None (f.steal k)) (eqb_comm k q ∙ e))
+    same e = (ap (λ (o : ℕ → Option (ℕ × ℕ)). o k) on ∙ ap (λ b. cond b None (f.on k)) (eqb_turned k q ∙ e), ap (λ (o : ℕ → Option (ℕ × Bool)). o k) steal ∙ ap (λ b. cond b None (f.steal k)) (eqb_turned k q ∙ e))
 
     place : is_this v a (f.on q) ≡ true → (c : Bool) → eqb q k ≡ c → (eqb v w ≡ false) ⊎ (c ≡ false) → ((h.on k ≡ f.on k) × (h.steal k ≡ f.steal k)) ⊎ (at_worker w (f.on k) ≡ None)
     place i false e o = inl (same e)
@@ -142,14 +135,14 @@ by_own P v q w k r own other = pick (eqb v w) refl (eqb q k) refl
 
 -- a copy at another pair
 pub other_pair : (v q w k : ℕ) → (eqb v w ≡ false) ⊎ (eqb q k ≡ false) → (eqb w v && eqb k q) ≡ false
-other_pair v q w k (inl e) = ap (λ b. b && eqb k q) (eqb_comm w v ∙ e)
-other_pair v q w k (inr e) = ap (λ b. eqb w v && b) (eqb_comm k q ∙ e) ∙ and_false (eqb w v)
+other_pair v q w k (inl e) = ap (λ b. b && eqb k q) (eqb_turned w v ∙ e)
+other_pair v q w k (inr e) = ap (λ b. eqb w v && b) (eqb_turned k q ∙ e) ∙ and-false (eqb w v)
 
 pub finished_row : (f : Facts) (v q a w k : ℕ) (s : Side) → IsSound f → IsSettled f → IsNumbered f → IsPlain f (plain (finished f v q a)) w k (cond (eqb v w) (cond (eqb q k) (Finished a) Quiet) Quiet) s
 unfolding finished
 finished_row f v q a w k s sound t n = by_own (λ r. IsPlain f (plain (cond (is_this v a (f.on q)) (h v q) f)) w k r s) v q w k (Finished a)
     (λ i j. subst (λ x. IsPlain f (plain (cond (is_this x a (f.on q)) (h x q) f)) w k (Finished a) s) (sym i) (subst (λ x. IsPlain f (plain (cond (is_this w a (f.on x)) (h w x) f)) w k (Finished a) s) (sym j)
-    (ending_own f (h w k) w k a s (Finished a) true sound t n refl refl (ap (λ b. is_some (cond (b && eqb k k) (Some f.counter) (f.has w k))) (same_eqb w w refl) ∙ ap (λ b. is_some (cond b (Some f.counter) (f.has w k))) (same_eqb k k refl)) refl refl)))
+    (ending_own f (h w k) w k a s (Finished a) true sound t n refl refl (ap (λ b. is_some (cond (b && eqb k k) (Some f.counter) (f.has w k))) (eq-eqb w w refl) ∙ ap (λ b. is_some (cond b (Some f.counter) (f.has w k))) (eq-eqb k k refl)) refl refl)))
     (λ o. ending_other f (h v q) v q a w k s sound t n refl refl (ap (λ b. is_some (cond b (Some f.counter) (f.has w k))) (other_pair v q w k o)) o)
   where
     h : ℕ → ℕ → Facts
@@ -195,8 +188,8 @@ gone_by f w k None e = absurd (false≢true e)
 gone_by f w k (Some p) e = pick (connected f p.0)
   where
     pick : (c : Bool) → old_at f.counter w ((cond c (record f { on = put f.on k (Some (p.0, f.counter)); steal = put f.steal k None; counter = f.counter + 1 }) (record f { on = put f.on k None; steal = put f.steal k None })).on k) ≡ None
-    pick true = ap (λ b. old_at f.counter w (cond b (Some (p.0, f.counter)) (f.on k))) (same_eqb k k refl) ∙ old_none f.counter w p.0
-    pick false = ap (λ b. old_at f.counter w (cond b None (f.on k))) (same_eqb k k refl)
+    pick true = ap (λ b. old_at f.counter w (cond b (Some (p.0, f.counter)) (f.on k))) (eq-eqb k k refl) ∙ old_none f.counter w p.0
+    pick false = ap (λ b. old_at f.counter w (cond b None (f.on k))) (eq-eqb k k refl)
 
 stolen_has : (f : Facts) (q : ℕ) (o : Option (ℕ × Bool)) → (stolen_to f q o).has ≡ f.has
 stolen_has f q None = refl
@@ -244,10 +237,7 @@ answered_own f w k a agreed s sound t n = pick (is_this w a (f.on k) && is_asked
     same r c i = calm_row f (plain f) w k r s sound t n (record { moved = same_moved f f t k refl refl; place = inl (refl, refl); counts = c; asked = i; has = refl; freed = refl; silent = λ x. tt })
 
     was : (is_this w a (f.on k) && is_asked_back (f.steal k)) ≡ true → is_some (f.on k) ≡ true
-    was e = this_some w a (f.on k) (and_first (is_this w a (f.on k)) (is_asked_back (f.steal k)) e)
-
-    back : (is_this w a (f.on k) && is_asked_back (f.steal k)) ≡ true → is_asked_back (f.steal k) ≡ true
-    back e = and_second (is_this w a (f.on k)) (is_asked_back (f.steal k)) e
+    was e = this_is_some w a (f.on k) (and_first (is_this w a (f.on k)) (is_asked_back (f.steal k)) e)
 
     unasked : (is_this w a (f.on k) && is_asked_back (f.steal k)) ≡ true → (pair_asked && not (is_at a (at_worker w (f.on k)))) ≡ false
     unasked e = and_not (is_at a (at_worker w (f.on k))) pair_asked (and_first (is_at a (at_worker w (f.on k))) (is_some (at_worker w (f.on k)) && is_asked_back (f.steal k)) (test true e))
@@ -260,8 +250,8 @@ answered_own f w k a agreed s sound t n = pick (is_this w a (f.on k) && is_asked
     pick false e false = same (Declined a) refl (not_both (is_at a (at_worker w (f.on k))) pair_asked (test false e))
     pick true e true = record {
       moved = moved_stolen f t k k (was e) (f.steal k);
-      on = ap (λ c. (cond {A = Bool × Option ℕ} c (holds f w k, None) (holds f w k, at_worker w (f.on k))).1) (test true e) ∙ sym (gone_by f w k (f.steal k) (back e));
-      asked = unasked e ∙ sym (ap (λ o. is_some o && is_asked_back ((stolen_to f k (f.steal k)).steal k)) (gone_by f w k (f.steal k) (back e)));
+      on = ap (λ c. (cond {A = Bool × Option ℕ} c (holds f w k, None) (holds f w k, at_worker w (f.on k))).1) (test true e) ∙ sym (gone_by f w k (f.steal k) (and_second (is_this w a (f.on k)) (is_asked_back (f.steal k)) e));
+      asked = unasked e ∙ sym (ap (λ o. is_some o && is_asked_back ((stolen_to f k (f.steal k)).steal k)) (gone_by f w k (f.steal k) (and_second (is_this w a (f.on k)) (is_asked_back (f.steal k)) e)));
       freed = λ _. refl;
       gone = λ i. absurd (false≢true i);
       alone = λ i. alone_yes e ∙ held_apart (was e);
@@ -274,7 +264,7 @@ answered_own f w k a agreed s sound t n = pick (is_this w a (f.on k) && is_asked
     pick true e false = record {
       moved = moved_refused f t k k;
       on = old_is f n w k;
-      asked = unasked e ∙ sym (ap (λ m. is_some (old_at f.counter w (f.on k)) && is_asked_back m) (ap (λ b. cond b (refused (f.steal k)) (f.steal k)) (same_eqb k k refl)) ∙ ap (λ c. is_some (old_at f.counter w (f.on k)) && c) (refused_not (f.steal k)) ∙ and_false (is_some (old_at f.counter w (f.on k))));
+      asked = unasked e ∙ sym (ap (λ m. is_some (old_at f.counter w (f.on k)) && is_asked_back m) (ap (λ b. cond b (refused (f.steal k)) (f.steal k)) (eq-eqb k k refl)) ∙ ap (λ c. is_some (old_at f.counter w (f.on k)) && c) (refused_not (f.steal k)) ∙ and-false (is_some (old_at f.counter w (f.on k))));
       freed = λ _. refl;
       gone = λ i. absurd (false≢true i);
       alone = λ i. held_none f sound w k (placed_apart f t k (was e));
@@ -286,13 +276,13 @@ answered_other : (f : Facts) (v q a w k : ℕ) (agreed : Bool) (s : Side) → Is
 answered_other f v q a w k agreed s sound t n other = pick (is_this v a (f.on q) && is_asked_back (f.steal q)) refl
   where
     place : is_this v a (f.on q) ≡ true → (c : Bool) → eqb q k ≡ c → (eqb v w ≡ false) ⊎ (c ≡ false) → (((to f q agreed).on k ≡ f.on k) × ((to f q agreed).steal k ≡ f.steal k)) ⊎ (at_worker w (f.on k) ≡ None)
-    place i false e o = inl (other_to f k q agreed (eqb_comm k q ∙ e))
+    place i false e o = inl (other_to f k q agreed (eqb_turned k q ∙ e))
     place i true e (inl o) = inr (not_at w v a (f.on k) o (ap (λ n. is_this v a (f.on n)) (sym (eqb-true q k e)) ∙ i))
     place i true e (inr o) = absurd (true≢false o)
 
     pick : (b : Bool) → (is_this v a (f.on q) && is_asked_back (f.steal q)) ≡ b → IsPlain f (plain (cond b (to f q agreed) f)) w k Quiet s
     pick true i = calm_row f (plain (to f q agreed)) w k Quiet s sound t n (quiet_calm f (plain (to f q agreed)) w k s
-        (moved_to f t k q agreed (this_some v a (f.on q) (and_first (is_this v a (f.on q)) (is_asked_back (f.steal q)) i)))
+        (moved_to f t k q agreed (this_is_some v a (f.on q) (and_first (is_this v a (f.on q)) (is_asked_back (f.steal q)) i)))
         (place (and_first (is_this v a (f.on q)) (is_asked_back (f.steal q)) i) (eqb q k) refl other)
         (ap (λ (h : ℕ → ℕ → Option ℕ). is_some (h w k)) (has_to f q agreed)) refl (λ x. tt))
     pick false i = calm_row f (plain f) w k Quiet s sound t n (quiet_calm f (plain f) w k s (same_moved f f t k refl refl) (inl (refl, refl)) refl refl (λ x. tt))

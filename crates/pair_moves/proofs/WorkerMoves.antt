@@ -4,6 +4,9 @@ use Rattle.std.proofs.lemmas.Bool.{true≢false, false≢true, eqb-true, ltb-tru
 use Rattle.std.specs.List.{list_all}
 use Rattle.std.proofs.lemmas.List.Folds.{list_any-append}
 use Rattle.std.proofs.Math.Dec.{eqb}
+use Rattle.std.proofs.Math.Bool.{and-true, or-false, or-true}
+use Rattle.std.proofs.lemmas.Option.{none-some}
+use Rattle.small_facts.proofs.Numbers.{eqb_turned}
 use Rattle.cluster_msgs.specs.Shape.{key_count}
 use Rattle.cluster_msgs.specs.declared.messages.Down.{Down}
 use Rattle.cluster_msgs.specs.declared.messages.Down.TheVariants.{ComputeTask, FreeKeys, StealRequest, RemoveReplicas, AcquireReplicas, RefreshWhoHas}
@@ -18,13 +21,12 @@ use Rattle.cluster_rules.specs.Derived.{is_in}
 use Rattle.cluster_rules.specs.Worker.{Ask as OpenAsk, WorkerFacts, worker_keys, awaited, is_wanted, wstate, is_missing_state, is_unstarted_state, would_start, ask_to, without_ask}
 use Rattle.cluster_rules.specs.WorkerStep.{WorkerStep, quiet, after_out, each_key, taken, set_holders, into_mem, give_up, given, free_key, is_attempt, yields, asked_back, remove_replica, remove_replicas, add_message, acquire, refresh, take_down, start, Arrivals, arrive_as, arrive, counted, arrived, stopped, erred_as, done, keys_of, ask_peer, lose_holders, not_found, answered_ask, gathered_by, gathered, lose_data, worker_row, unasked_keys, seek_missing, worker_step, is_key, takes_down, worker_takes}
 use Rattle.cluster_rules.specs.WorldStep.{sends}
-use Rattle.cluster_rules.proofs.DerivedLemmas.{eqb_comm}
-use Rattle.cluster_rules.proofs.WorkerLemmas.{in_filter, filter_in, range_in}
+use Rattle.cluster_rules.proofs.WorkerLemmas.{in_filter, filter_in}
 use Rattle.pair_machine.specs.Pair.{Note, Task, Free, Remove, Ask, Other, Report, Finished, Erred, Gave, Declined, Added, Released, Quiet, is_at, Pair, IsPair}
 use Rattle.pair_machine.specs.Moves.{Done as Made, take_note, take_task, take_ask, take_remove, take, finish, fail, Finish, Fail, Store, Lose, Say, Take}
 use Rattle.pair_machine.proofs.PairKept.{kept}
 use Rattle.pair_moves.specs.Projection.{note_of, report_of, reports}
-use Rattle.pair_moves.proofs.Settling.{none_not_some}
+use Rattle.cluster_rules.proofs.SchedFrame.{in_range}
 
 -- ## What a property of pairs must keep
 
@@ -144,36 +146,28 @@ module _ (I : Pair → Type 0) (Idle : Option ℕ → Type 0) (cl : IsClosed I I
   arriving_other w r f more added s m o e q (Here i here none g) = Here (e ∙ i) (m ∙ here) (o ∙ none) (λ p x. more_out w (record (at_side p f) { mem = false }) p r.out more q (subst (λ (y : Pair). I y) (λ j. record (said (record (at_side p r.facts) { mem = false }) (reports k (sends r.out))) { seen = sym s j; mine = sym o j }) (g p x)))
 
   not_in_more : (xs : List ℕ) (q : ℕ) → eqb q k ≡ false → is_in k (xs ++ q ∷ []) ≡ is_in k xs
-  not_in_more xs q e = list_any-append (λ d. eqb d k) xs (q ∷ []) ∙ ap (λ b. is_in k xs || (b || false)) e ∙ or_false (is_in k xs)
-    where
-      or_false : (b : Bool) → (b || false) ≡ b
-      or_false true = refl
-      or_false false = refl
+  not_in_more xs q e = list_any-append (λ d. eqb d k) xs (q ∷ []) ∙ ap (λ b. is_in k xs || (b || false)) e ∙ or-false (is_in k xs)
 
   in_more : (xs : List ℕ) (q : ℕ) → eqb q k ≡ true → is_in k (xs ++ q ∷ []) ≡ true
-  in_more xs q e = list_any-append (λ d. eqb d k) xs (q ∷ []) ∙ ap (λ b. is_in k xs || (b || false)) e ∙ or_true (is_in k xs)
-    where
-      or_true : (b : Bool) → (b || true) ≡ true
-      or_true true = refl
-      or_true false = refl
+  in_more xs q e = list_any-append (λ d. eqb d k) xs (q ∷ []) ∙ ap (λ b. is_in k xs || (b || false)) e ∙ or-true (is_in k xs)
 
   -- the key's own block: a task is finished so
   arriving_task : (w : WorkerFacts) (r : Arrivals) (q a : ℕ) → eqb q k ≡ true → r.facts.mine q ≡ Some a → Arriving w r → Arriving w (arrive_as r q (Some a))
-  arriving_task w r q a e m (Here i here none g) = absurd (none_not_some a (sym none ∙ ap r.facts.mine (sym (eqb-true q k e)) ∙ m))
+  arriving_task w r q a e m (Here i here none g) = absurd (none-some a (sym none ∙ ap r.facts.mine (sym (eqb-true q k e)) ∙ m))
   arriving_task w r q a e m (Apart i g) = Apart i (λ p x. subst (λ rs. I (said (at_side p (into_mem (give_up r.facts q) q)) rs)) (sym (said-append k r.out (Keep q ∷ Send (TaskFinished r.facts.seen q a) ∷ []) ∙ ap (λ b. reports k (sends r.out) ++ cond b (Finished a) Quiet ∷ []) e))
       (subst (λ (y : Pair). I y) (λ j. record p { seen = r.facts.seen; mem = sym there j; mine = sym gone j; up = append_assoc p.up (reports k (sends r.out)) (Finished a ∷ []) j })
       (cl.finish (said (at_side p r.facts) (reports k (sends r.out))) a (ap r.facts.mine (sym (eqb-true q k e)) ∙ m) (g p x))))
     where
       there : put r.facts.mem q true k ≡ true
-      there = ap (λ b. cond b true (r.facts.mem k)) (eqb_comm k q ∙ e)
+      there = ap (λ b. cond b true (r.facts.mem k)) (eqb_turned k q ∙ e)
 
       gone : put r.facts.mine q None k ≡ None
-      gone = ap (λ b. cond b None (r.facts.mine k)) (eqb_comm k q ∙ e)
+      gone = ap (λ b. cond b None (r.facts.mine k)) (eqb_turned k q ∙ e)
 
   -- or it is to be counted
   arriving_wanted : (w : WorkerFacts) (r : Arrivals) (q : ℕ) → eqb q k ≡ true → r.facts.mine q ≡ None → r.facts.mem q ≡ false → Arriving w r → Arriving w (record { facts = into_mem r.facts q; out = r.out ++ Keep q ∷ []; added = r.added ++ q ∷ [] })
   arriving_wanted w r q e m n (Here i here none g) = absurd (true≢false (sym here ∙ ap r.facts.mem (sym (eqb-true q k e)) ∙ n))
-  arriving_wanted w r q e m n (Apart i g) = Here (in_more r.added q e) (ap (λ b. cond b true (r.facts.mem k)) (eqb_comm k q ∙ e)) (ap r.facts.mine (sym (eqb-true q k e)) ∙ m)
+  arriving_wanted w r q e m n (Apart i g) = Here (in_more r.added q e) (ap (λ b. cond b true (r.facts.mem k)) (eqb_turned k q ∙ e)) (ap r.facts.mine (sym (eqb-true q k e)) ∙ m)
       (λ p x. more_out w (record (at_side p (into_mem r.facts q)) { mem = false }) p r.out (Keep q ∷ []) tt (subst (λ b. I (said (record (at_side p r.facts) { mem = b }) (reports k (sends r.out)))) (ap r.facts.mem (sym (eqb-true q k e)) ∙ n) (g p x)))
 
   arriving_one : (w : WorkerFacts) (r : Arrivals) (q : ℕ) → Arriving w r → Arriving w (arrive r q)
@@ -186,12 +180,12 @@ module _ (I : Pair → Type 0) (Idle : Option ℕ → Type 0) (cl : IsClosed I I
       wanted : r.facts.mine q ≡ None → (c : Bool) → eqb q k ≡ c → (b : Bool) → is_wanted r.facts q ≡ b → Arriving w (cond b (record { facts = into_mem r.facts q; out = r.out ++ Keep q ∷ []; added = r.added ++ q ∷ [] }) r)
       wanted m c e false i = h
       wanted m true e true i = arriving_wanted w r q e m (not_mem (r.facts.mem q) (r.facts.sought q || awaited r.facts q) i) h
-      wanted m false e true i = arriving_other w r (into_mem r.facts q) (Keep q ∷ []) (r.added ++ q ∷ []) refl (ap (λ b. cond b true (r.facts.mem k)) (eqb_comm k q ∙ e)) refl (not_in_more r.added q e) tt h
+      wanted m false e true i = arriving_other w r (into_mem r.facts q) (Keep q ∷ []) (r.added ++ q ∷ []) refl (ap (λ b. cond b true (r.facts.mem k)) (eqb_turned k q ∙ e)) refl (not_in_more r.added q e) tt h
 
       by_mine : (o : Option ℕ) → r.facts.mine q ≡ o → (c : Bool) → eqb q k ≡ c → Arriving w (arrive_as r q o)
       by_mine None m c e = wanted m c e (is_wanted r.facts q) refl
       by_mine (Some a) m true e = arriving_task w r q a e m h
-      by_mine (Some a) m false e = arriving_other w r (into_mem (give_up r.facts q) q) (Keep q ∷ Send (TaskFinished r.facts.seen q a) ∷ []) r.added refl (ap (λ b. cond b true (r.facts.mem k)) (eqb_comm k q ∙ e)) (ap (λ b. cond b None (r.facts.mine k)) (eqb_comm k q ∙ e)) refl (ap (λ b. cond b (Finished a) Quiet) e, tt) h
+      by_mine (Some a) m false e = arriving_other w r (into_mem (give_up r.facts q) q) (Keep q ∷ Send (TaskFinished r.facts.seen q a) ∷ []) r.added refl (ap (λ b. cond b true (r.facts.mem k)) (eqb_turned k q ∙ e)) (ap (λ b. cond b None (r.facts.mine k)) (eqb_turned k q ∙ e)) refl (ap (λ b. cond b (Finished a) Quiet) e, tt) h
 
   arriving_all : (w : WorkerFacts) (qs : List ℕ) (r : Arrivals) → Arriving w r → Arriving w (fold arrive r qs)
   arriving_all w [] r h = h
@@ -227,12 +221,12 @@ module _ (I : Pair → Type 0) (Idle : Option ℕ → Type 0) (cl : IsClosed I I
   reaches_done w q true x i = by_mine (w.mine q) refl x i
     where
       own : (a : ℕ) → w.mine q ≡ Some a → eqb q k ≡ true → Reaches w (erred_as (stopped w q) q (Some a))
-      own a m e p z = subst (λ (y : Pair). I y) (λ j. record p { seen = w.seen; mem = w.mem k; mine = sym (ap (λ b. cond b None (w.mine k)) (eqb_comm k q ∙ e)) j; up = p.up ++ sym (ap (λ b. cond b (Erred a) Quiet) e) j ∷ [] })
+      own a m e p z = subst (λ (y : Pair). I y) (λ j. record p { seen = w.seen; mem = w.mem k; mine = sym (ap (λ b. cond b None (w.mine k)) (eqb_turned k q ∙ e)) j; up = p.up ++ sym (ap (λ b. cond b (Erred a) Quiet) e) j ∷ [] })
           (cl.fail (at_side p w) a (ap w.mine (sym (eqb-true q k e)) ∙ m) z)
 
       pick : (a : ℕ) → w.mine q ≡ Some a → (b : Bool) → eqb q k ≡ b → Reaches w (erred_as (stopped w q) q (Some a))
       pick a m true e = own a m e
-      pick a m false e = goes_calm w (erred_as (stopped w q) q (Some a)).facts (reports k (Send2 a)) refl refl (ap (λ b. cond b None (w.mine k)) (eqb_comm k q ∙ e)) (ap (λ b. cond b (Erred a) Quiet) e, tt)
+      pick a m false e = goes_calm w (erred_as (stopped w q) q (Some a)).facts (reports k (Send2 a)) refl refl (ap (λ b. cond b None (w.mine k)) (eqb_turned k q ∙ e)) (ap (λ b. cond b (Erred a) Quiet) e, tt)
         where
           Send2 : ℕ → List Up
           Send2 a = TaskErred w.seen q a ∷ []
@@ -264,9 +258,9 @@ module _ (I : Pair → Type 0) (Idle : Option ℕ → Type 0) (cl : IsClosed I I
   reaches_lost w q m = pick (eqb q k) refl
     where
       pick : (b : Bool) → eqb q k ≡ b → Reaches w (lose_data w q)
-      pick true e p i = subst (λ (y : Pair). I y) (λ j. record p { seen = w.seen; mem = sym (ap (λ b. cond b false (w.mem k)) (eqb_comm k q ∙ e)) j; mine = w.mine k; up = p.up ++ sym (ap (λ b. cond b (Released w.seen) Quiet) e) j ∷ [] })
+      pick true e p i = subst (λ (y : Pair). I y) (λ j. record p { seen = w.seen; mem = sym (ap (λ b. cond b false (w.mem k)) (eqb_turned k q ∙ e)) j; mine = w.mine k; up = p.up ++ sym (ap (λ b. cond b (Released w.seen) Quiet) e) j ∷ [] })
           (cl.lose (at_side p w) (ap w.mem (sym (eqb-true q k e)) ∙ m) i)
-      pick false e p i = goes_calm w (record w { mem = put w.mem q false }) (reports k (ReleaseWorkerData w.seen q ∷ [])) refl (ap (λ b. cond b false (w.mem k)) (eqb_comm k q ∙ e)) refl (ap (λ b. cond b (Released w.seen) Quiet) e, tt) p i
+      pick false e p i = goes_calm w (record w { mem = put w.mem q false }) (reports k (ReleaseWorkerData w.seen q ∷ [])) refl (ap (λ b. cond b false (w.mem k)) (eqb_turned k q ∙ e)) refl (ap (λ b. cond b (Released w.seen) Quiet) e, tt) p i
 
   reaches_ask : (w : WorkerFacts) (x : ℕ) → Reaches w (ask_peer w x)
   unfolding ask_peer
@@ -364,13 +358,13 @@ module _ (I : Pair → Type 0) (Idle : Option ℕ → Type 0) (cl : IsClosed I I
         seen = (same_set g who).seen;
         told = [];
         is = ap (λ b. take_note false (w.seen + 1) (w.mem k) (w.mine k) (cond b (Task a) Other)) e ∙ ap (λ b. take_task b (w.mine k) a) (ap w.mem (sym (eqb-true q k e)) ∙ m)
-            ∙ (λ j. record { mem = sym (s.0 ∙ (ap w.mem (sym (eqb-true q k e)) ∙ m)) j; mine = sym (s.1 ∙ ap (λ b. cond b (Some a) (w.mine k)) (eqb_comm k q ∙ e)) j; said = [] });
+            ∙ (λ j. record { mem = sym (s.0 ∙ (ap w.mem (sym (eqb-true q k e)) ∙ m)) j; mine = sym (s.1 ∙ ap (λ b. cond b (Some a) (w.mine k)) (eqb_turned k q ∙ e)) j; said = [] });
         rest = [];
         quiet = tt;
         whole = refl;
       }
       pick false m false e = let s = at_key g (fold set_holders g who) (same_set g who) in
-          told_other w (ComputeTask q a who) (fold set_holders g who) [] (ap (λ b. cond b (Task a) Other) e) (same_set g who).seen s.0 (s.1 ∙ ap (λ b. cond b (Some a) (w.mine k)) (eqb_comm k q ∙ e)) tt
+          told_other w (ComputeTask q a who) (fold set_holders g who) [] (ap (λ b. cond b (Task a) Other) e) (same_set g who).seen s.0 (s.1 ∙ ap (λ b. cond b (Some a) (w.mine k)) (eqb_turned k q ∙ e)) tt
 
   -- keys that are freed
   record IsFreed (s t : WorkerStep) (there : Bool) : Type 0 where
@@ -383,8 +377,8 @@ module _ (I : Pair → Type 0) (Idle : Option ℕ → Type 0) (cl : IsClosed I I
   freeing [] s = record { seen = refl; mem = refl; mine = refl; out = refl }
   freeing (x ∷ xs) s = let r = freeing xs (after_out s.out (free_key s.facts x)) in record {
     seen = r.seen;
-    mem = r.mem ∙ ap (λ b. cond (is_in k xs) false (cond b false (s.facts.mem k))) (eqb_comm k x) ∙ twice false (s.facts.mem k) (is_in k xs) (eqb x k);
-    mine = r.mine ∙ ap (λ b. cond (is_in k xs) None (cond b None (s.facts.mine k))) (eqb_comm k x) ∙ twice None (s.facts.mine k) (is_in k xs) (eqb x k);
+    mem = r.mem ∙ ap (λ b. cond (is_in k xs) false (cond b false (s.facts.mem k))) (eqb_turned k x) ∙ twice false (s.facts.mem k) (is_in k xs) (eqb x k);
+    mine = r.mine ∙ ap (λ b. cond (is_in k xs) None (cond b None (s.facts.mine k))) (eqb_turned k x) ∙ twice None (s.facts.mine k) (is_in k xs) (eqb x k);
     out = r.out ∙ sends-append s.out (free_key s.facts x).out ∙ ap (λ l. sends s.out ++ l) (drops (s.facts.mem x)) ∙ append-nil (sends s.out);
   }
     where
@@ -429,7 +423,7 @@ module _ (I : Pair → Type 0) (Idle : Option ℕ → Type 0) (cl : IsClosed I I
       pick : (c : Bool) → eqb q k ≡ c → (b : Bool) → yields (taken w) q a ≡ b
           → let s = cond {A = WorkerStep} b (record { facts = give_up (taken w) q; out = Send (StealResponse (w.seen + 1) q a true) ∷ [] }) (record { facts = taken w; out = Send (StealResponse (w.seen + 1) q a false) ∷ [] }) in
           IsTold w (StealRequest q a) s.facts (reports k (sends s.out))
-      pick false e true i = told_other w (StealRequest q a) _ _ (ap (λ b. cond b (Ask a) Other) e) refl refl (ap (λ b. cond b None (w.mine k)) (eqb_comm k q ∙ e)) (ap (λ b. cond b (Gave a) Quiet) e, tt)
+      pick false e true i = told_other w (StealRequest q a) _ _ (ap (λ b. cond b (Ask a) Other) e) refl refl (ap (λ b. cond b None (w.mine k)) (eqb_turned k q ∙ e)) (ap (λ b. cond b (Gave a) Quiet) e, tt)
       pick false e false i = told_other w (StealRequest q a) _ _ (ap (λ b. cond b (Ask a) Other) e) refl refl refl (ap (λ b. cond b (Declined a) Quiet) e, tt)
       pick true e b i = by b (ap (λ c. c && is_unstarted_state (wstate (taken w) k)) (sym (attempt_is a (w.mine k))) ∙ ap (λ n. yields (taken w) n a) (sym (eqb-true q k e)) ∙ i)
         where
@@ -442,7 +436,7 @@ module _ (I : Pair → Type 0) (Idle : Option ℕ → Type 0) (cl : IsClosed I I
             seen = refl;
             told = Gave a ∷ [];
             is = ap (λ b. take_note (is_unstarted_state (wstate (taken w) k)) (w.seen + 1) (w.mem k) (w.mine k) (cond b (Ask a) Other)) e ∙ ap (take_ask (w.mem k) (w.mine k) a) y
-                ∙ (λ j. record { mem = w.mem k; mine = sym (ap (λ b. cond b None (w.mine k)) (eqb_comm k q ∙ e)) j; said = Gave a ∷ [] });
+                ∙ (λ j. record { mem = w.mem k; mine = sym (ap (λ b. cond b None (w.mine k)) (eqb_turned k q ∙ e)) j; said = Gave a ∷ [] });
             rest = [];
             quiet = tt;
             whole = ap (λ b. cond b (Gave a) Quiet ∷ []) e;
@@ -472,17 +466,13 @@ module _ (I : Pair → Type 0) (Idle : Option ℕ → Type 0) (cl : IsClosed I I
     where
       pick : (b : Bool) → s.facts.mem x ≡ b → (d : Bool) → awaited s.facts x ≡ d → (c : Bool) → eqb x k ≡ c
           → IsRemoved s (after_out s.out (cond (b && not d) (record { facts = record s.facts { mem = put s.facts.mem x false }; out = Drop x ∷ [] }) (quiet s.facts))) c
-      pick true m false a true e = record { seen = refl; mine = refl; awaits = refl; mem = ap (λ b. cond b false (s.facts.mem k)) (eqb_comm k x ∙ e) ∙ sym (gone (awaited s.facts k) (s.facts.mem k) (ap (awaited s.facts) (sym (eqb-true x k e)) ∙ a)); out = sends-append s.out (Drop x ∷ []) ∙ append-nil (sends s.out) }
+      pick true m false a true e = record { seen = refl; mine = refl; awaits = refl; mem = ap (λ b. cond b false (s.facts.mem k)) (eqb_turned k x ∙ e) ∙ sym (gone (awaited s.facts k) (s.facts.mem k) (ap (awaited s.facts) (sym (eqb-true x k e)) ∙ a)); out = sends-append s.out (Drop x ∷ []) ∙ append-nil (sends s.out) }
         where
           gone : (d b : Bool) → d ≡ false → (b && not (true && not d)) ≡ false
           gone true b z = absurd (true≢false z)
           gone false true z = refl
           gone false false z = refl
-      pick true m false a false e = record { seen = refl; mine = refl; awaits = refl; mem = ap (λ b. cond b false (s.facts.mem k)) (eqb_comm k x ∙ e) ∙ sym (and_true (s.facts.mem k)); out = sends-append s.out (Drop x ∷ []) ∙ append-nil (sends s.out) }
-        where
-          and_true : (b : Bool) → (b && true) ≡ b
-          and_true true = refl
-          and_true false = refl
+      pick true m false a false e = record { seen = refl; mine = refl; awaits = refl; mem = ap (λ b. cond b false (s.facts.mem k)) (eqb_turned k x ∙ e) ∙ sym (and-true (s.facts.mem k)); out = sends-append s.out (Drop x ∷ []) ∙ append-nil (sends s.out) }
       pick true m true a c e = record { seen = refl; mine = refl; awaits = refl; mem = sym (stays c (awaited s.facts k) (s.facts.mem k) (λ i. ap (awaited s.facts) (sym (eqb-true x k (e ∙ i))) ∙ a)); out = sends-append s.out [] ∙ append-nil (sends s.out) }
         where
           stays : (c d b : Bool) → (c ≡ true → d ≡ true) → (b && not (c && not d)) ≡ b
@@ -503,11 +493,7 @@ module _ (I : Pair → Type 0) (Idle : Option ℕ → Type 0) (cl : IsClosed I I
           none false false b h i = absurd (false≢true (i refl))
 
   removing : (ks : List ℕ) (s : WorkerStep) → IsRemoved s (each_key remove_replica s ks) (is_in k ks)
-  removing [] s = record { seen = refl; mine = refl; awaits = refl; mem = sym (and_true (s.facts.mem k)); out = refl }
-    where
-      and_true : (b : Bool) → (b && true) ≡ b
-      and_true true = refl
-      and_true false = refl
+  removing [] s = record { seen = refl; mine = refl; awaits = refl; mem = sym (and-true (s.facts.mem k)); out = refl }
   removing (x ∷ xs) s = let o = removing_one s x in let r = removing xs (after_out s.out (remove_replica s.facts x)) in record {
     seen = r.seen ∙ o.seen;
     mine = r.mine ∙ o.mine;
@@ -556,7 +542,7 @@ module _ (I : Pair → Type 0) (Idle : Option ℕ → Type 0) (cl : IsClosed I I
           none false h = refl
 
       is_refused : (is_in k ks && (w.mem k && awaited v k)) ≡ true → is_in k refused ≡ true
-      is_refused e = filter_in (λ j. is_in j ks && (w.mem j && awaited v j)) (worker_keys w) k (range_in 0 (key_count w.shape) k (omega arith) (omega (arith, low (and_parts (is_in k ks) (w.mem k && awaited v k) e).0))) e
+      is_refused e = filter_in (λ j. is_in j ks && (w.mem j && awaited v j)) (worker_keys w) k (in_range 0 (key_count w.shape) k (omega arith) (omega (arith, low (and_parts (is_in k ks) (w.mem k && awaited v k) e).0))) e
 
       test : (c b d : Bool) → is_in k ks ≡ c → w.mem k ≡ b → awaited v k ≡ d → (is_in k ks && (w.mem k && awaited v k)) ≡ (c && (b && d))
       test c b d ec eb ed = ap (λ x. x && (w.mem k && awaited v k)) ec ∙ ap (λ x. c && (x && awaited v k)) eb ∙ ap (λ x. c && (b && x)) ed
@@ -587,11 +573,7 @@ module _ (I : Pair → Type 0) (Idle : Option ℕ → Type 0) (cl : IsClosed I I
           removed false = refl
 
       by : (c : Bool) → is_in k ks ≡ c → (b : Bool) → w.mem k ≡ b → (d : Bool) → awaited v k ≡ d → IsRemoved (quiet v) t (is_in k ks) → IsTold w (RemoveReplicas ks) t.facts (reports k (sends (t.out ++ add_message (w.seen + 1) refused)))
-      by false ec b eb d ed r = told_other w (RemoveReplicas ks) t.facts _ (ap (λ c. cond c Remove Other) ec) r.seen (mem_is false b d ec eb ed r ∙ same b ∙ sym eb) (ap (λ (f : ℕ → Option ℕ). f k) r.mine) (subst AreQuiet (sym (said_is r.out)) (silent refused (not_refused (test false b d ec eb ed))))
-        where
-          same : (b : Bool) → (b && true) ≡ b
-          same true = refl
-          same false = refl
+      by false ec b eb d ed r = told_other w (RemoveReplicas ks) t.facts _ (ap (λ c. cond c Remove Other) ec) r.seen (mem_is false b d ec eb ed r ∙ and-true b ∙ sym eb) (ap (λ (f : ℕ → Option ℕ). f k) r.mine) (subst AreQuiet (sym (said_is r.out)) (silent refused (not_refused (test false b d ec eb ed))))
       by true ec true eb true ed r = record {
         agrees = false;
         yields = subst (λ c. Yields Idle (cond c Remove Other) (w.mine k) false) (sym ec) tt;

@@ -1,10 +1,12 @@
 -- The least of the offers is the place.
 use Rattle.std.proofs.Common.{◌≡◌, ℕ, ◌+◌, ◌<◌, ◌≤◌, ◌^◌, ◌*◌, ◌/◌, ◌%◌, Bool, true, false, cond, ◌&&◌, ◌==◌, List, [], ◌∷◌, length, Option, Some, None, is_some, unwrap_or, refl, sym, ap, ◌∙◌, subst, arith, map}
-use Rattle.std.proofs.lemmas.Bool.{false≢true}
-use Rattle.std.proofs.lemmas.Bool.Decides.{nat_tests}
+use Rattle.std.proofs.lemmas.Bool.{false≢true, eqb-true, eqb-false}
 use Rattle.std.proofs.Math.Nat.{div-add-mod, mul-le-mul_left}
 use Rattle.std.specs.List.{filter, filter_map, list_any, cons_option}
 use Rattle.std.specs.Option.{option_map, option_or}
+use Rattle.std.proofs.Math.Bool.{and-false}
+use Rattle.std.proofs.lemmas.List.{nil_from_length}
+use Rattle.small_facts.proofs.Lists.{cons_not_nil}
 use Rattle.cluster_rules.specs.Functions.{from_one}
 use Rattle.cluster_rules.specs.Choice.{unbeaten, least_by, better, IsLeastOf}
 use Rattle.cluster_rules.specs.Sched.{Facts, IsSound, deps, holds, connected, workers, occupancy, threads_of}
@@ -60,14 +62,10 @@ offered-is f k p n best r e d q =
     ∙ ap (option_map (λ c. c.worker)) (best-map (candidate_of f k) comes_before (filter (admits f k p) (workers f)))
     ∙ worker_again f k (least_by (place_rank f k) (filter (admits f k p) (workers f)))
 
-empty : (xs : List ℕ) → length xs ≡ 0 → xs ≡ []
-empty [] e = refl
-empty (x ∷ xs) e = absurd (omega arith)
-
 -- a key without dependencies
 pub place-alone : (f : Facts) (k : ℕ) → length (deps f k) ≡ 0 → place f k ≡ offered f k NotFull
 unfolding place candidates offered
-place-alone f k e = ap (λ ds. least_by (place_rank f k) (candidates_by f ds)) (empty (deps f k) e)
+place-alone f k e = ap (λ ds. least_by (place_rank f k) (candidates_by f ds)) (nil_from_length (deps f k) e)
 
 all_kept : (xs : List ℕ) → filter (λ _. true) xs ≡ xs
 all_kept [] = refl
@@ -78,10 +76,7 @@ either rank [] ys = refl
 either rank (x ∷ xs) ys = pick (least_by rank (x ∷ xs)) (least_by_least rank (x ∷ xs))
   where
     pick : (o : Option ℕ) → IsLeastOf rank (x ∷ xs) o → o ≡ option_or o (least_by rank ys)
-    pick None e = absurd (none e)
-      where
-        none : (x ∷ xs) ≡ [] → ⊥
-        none h = let z : length (x ∷ xs) ≡ 0 = ap length h in omega arith
+    pick None e = absurd (cons_not_nil x xs e)
     pick (Some z) e = refl
 
 -- a key with dependencies
@@ -117,11 +112,7 @@ offer-away f k p w a = sym (ap (λ t. cond (t && admits f k p w) (Some (candidat
 
 pub offer-out : (f : Facts) (k : ℕ) (p : Pool) (w : ℕ) → admits f k p w ≡ false → None ≡ offer f k p w
 unfolding offer
-offer-out f k p w a = sym (ap (λ t. cond (connected f w && t) (Some (candidate_of f k w)) None) a ∙ ap (λ t. cond t (Some (candidate_of f k w)) None) (and_false (connected f w)))
-  where
-    and_false : (b : Bool) → (b && false) ≡ false
-    and_false true = refl
-    and_false false = refl
+offer-out f k p w a = sym (ap (λ t. cond (connected f w && t) (Some (candidate_of f k w)) None) a ∙ ap (λ t. cond t (Some (candidate_of f k w)) None) (and-false (connected f w)))
 
 -- the first pool that offers someone
 pub first_pool : (f : Facts) (k : ℕ) (w : ℕ) → (length (deps f k) ≡ 0 → ⊥) → Some w ≡ offered f k Holders → Some w ≡ place f k
@@ -132,16 +123,10 @@ second_pool f k n e = sym (place-fed f k n ∙ ap (λ o. option_or o (offered f 
 
 -- a test for no dependencies
 pub none_left : (f : Facts) (k : ℕ) (ds : List ℕ) (b : Bool) → ds ≡ deps f k → b ≡ (length ds == 0) → b ≡ true → length (deps f k) ≡ 0
-none_left f k ds b e t h = ap length (sym e) ∙ is_zero (length ds) (sym t ∙ h)
-  where
-    is_zero : (n : ℕ) → (n == 0) ≡ true → n ≡ 0
-    is_zero n h = grind (arith, nat_tests)
+none_left f k ds b e t h = ap length (sym e) ∙ eqb-true (length ds) 0 (sym t ∙ h)
 
 pub some_left : (f : Facts) (k : ℕ) (ds : List ℕ) (b : Bool) → ds ≡ deps f k → b ≡ (length ds == 0) → b ≡ false → length (deps f k) ≡ 0 → ⊥
-some_left f k ds b e t h z = not_zero (length ds) (sym t ∙ h) (ap length e ∙ z)
-  where
-    not_zero : (n : ℕ) → (n == 0) ≡ false → n ≡ 0 → ⊥
-    not_zero n h z = grind (arith, nat_tests)
+some_left f k ds b e t h z = eqb-false (length ds) 0 (sym t ∙ h) (ap length e ∙ z)
 
 -- the time until the worker could start fits with the bytes to fetch
 pub cost_fits : (f : Facts) → IsSound f → (w m o t : ℕ) → connected f w ≡ true → m ≤ 2 ^ 45 → o ≡ occupancy f w → t ≡ threads_of f w → o / t + m < 2 ^ 64

@@ -1,9 +1,10 @@
 -- Sums and tests over the dependencies of a key, as far as a loop has come.
-use Rattle.std.proofs.Common.{◌≡◌, ℕ, zero, suc, ◌+◌, ◌*◌, ◌<◌, ◌≤◌, ◌^◌, Bool, true, false, cond, ◌||◌, List, [], ◌∷◌, ◌++◌, length, get_or, take, refl, sym, ap, ◌∙◌, subst, arith, length-take}
+use Rattle.std.proofs.Common.{◌≡◌, ℕ, zero, suc, ◌+◌, ◌*◌, ◌<◌, ◌≤◌, ◌^◌, Bool, true, false, cond, ◌||◌, List, [], ◌∷◌, ◌++◌, length, get_or, take, sym, ap, ◌∙◌, subst, arith, length-take}
 use Rattle.std.proofs.Math.Seq.{take-suc}
 use Rattle.std.proofs.lemmas.List.{take_all}
 use Rattle.std.proofs.lemmas.List.Folds.{list_any-append}
 use Rattle.std.specs.List.{list_any, AllByRecursion, slice_index_or}
+use Rattle.std.proofs.Math.Bool.{or-false}
 use Rattle.cluster_msgs.specs.Shape.{nbytes_of, total_length}
 use Rattle.cluster_rules.specs.Functions.{total}
 use Rattle.cluster_rules.specs.Sched.{Facts, IsSound, keys, deps, holds}
@@ -17,15 +18,11 @@ take-more xs i l = let e : i + 1 ≡ suc i = omega arith in ap (λ n. take n xs)
 pub total-take : (g : ℕ → ℕ) (xs : List ℕ) (i : ℕ) → i < length xs → total g (take (i + 1) xs) ≡ total g (take i xs) + g (get_or xs i 0)
 total-take g xs i l = ap (total g) (take-more xs i l) ∙ total-push g (take i xs) (get_or xs i 0)
 
-or_false : (b : Bool) → (b || false) ≡ b
-or_false true = refl
-or_false false = refl
-
 pub any-take : (p : ℕ → Bool) (xs : List ℕ) (i : ℕ) → i < length xs → list_any p (take (i + 1) xs) ≡ (list_any p (take i xs) || p (get_or xs i 0))
 any-take p xs i l =
     ap (list_any p) (take-more xs i l)
     ∙ list_any-append p (take i xs) (get_or xs i 0 ∷ [])
-    ∙ ap (λ b. list_any p (take i xs) || b) (or_false (p (get_or xs i 0)))
+    ∙ ap (λ b. list_any p (take i xs) || b) (or-false (p (get_or xs i 0)))
 
 -- a member of a list whose members are bounded
 at_index : (k : ℕ) (xs : List ℕ) (i : ℕ) → AllByRecursion (λ d. d < k) xs → i < length xs → get_or xs i 0 < k

@@ -2,7 +2,6 @@
 use Rattle.std.proofs.Common.{◌≡◌, ◌≢◌, ℕ, zero, suc, ◌+◌, ◌-◌, ◌<◌, ◌≤◌, List, [], ◌∷◌, length, get_or, set, refl, ap, sym, subst, ◌∙◌, arith, inl, inr, ◌⊎◌, ℤ, pos, Option, Some, None}
 use Rattle.std.proofs.lemmas.List.{get_or-set_same, get_or-set_other}
 use Rattle.std.proofs.lemmas.Bool.{cases_eq}
-use Rattle.std.proofs.lemmas.Option.{same_Some}
 use Rattle.io_edge.specs.Content.{Content, Told, Untold, OnTold, size_of}
 use Rattle.nd_shape.specs.Block.{Array}
 use Rattle.nd_shape.specs.Shape.{elements}
@@ -16,6 +15,7 @@ use Rattle.npy_codec.specs.Regions.{element, needed, HoldsRegion}
 use Rattle.input_regions.specs.Boxes.{IsInBox}
 use Rattle.plain_block.specs.Files.{IsRead}
 use Rattle.plain_block.specs.Placing.{ArePlaced, place_in}
+use Rattle.input_regions.proofs.Asked.{some-only, some-none}
 
 -- ---- an index of the whole, counted from a box's first index
 
@@ -109,24 +109,18 @@ all-told (Untold size) P f = tt
 pub read-nothing : (file : Content) (head : Head) (region : Option Box) (block : Array) → region ≡ None → block.shape ≡ head.shape → IsRead file head region block
 read-nothing file head region block e s = subst (λ (r : Option Box). IsRead file head r block) (sym e) (record {
   shape = s;
-  room = λ box is. absurd (none-some box is);
+  room = λ box is. absurd (some-none box is);
   cells = all-told file (λ bytes. (i : List ℕ) → ⊥ → get_or block.cells (place block.shape i) (pos 0) ≡ element bytes head i) (λ bytes i h. absurd h);
 })
-  where
-    none-some : (box : Box) → ◌≡◌ {A = Option Box} None (Some box) → ⊥
-    none-some box e = cc
 
 pub read-placed : (file : Content) (head : Head) (region : Option Box) (box : Box) (part block : Array) → region ≡ Some box → IsPart box head.shape → block.shape ≡ head.shape → ArePlaced head.shape box part.cells block.cells (elements box.lengths)
     → OnTold file (λ bytes. HoldsRegion bytes head box part) → needed head box ≤ size_of file - head.data_at → IsRead file head region block
 read-placed file head region box part block e is s placed holds room = subst (λ (r : Option Box). IsRead file head r block) (sym e) (record {
   shape = s;
-  room = λ other same. subst (λ (b : Box). needed head b ≤ size_of file - head.data_at) (one box other same) room;
+  room = λ other same. subst (λ (b : Box). needed head b ≤ size_of file - head.data_at) (some-only box other same) room;
   cells = on-told file (λ bytes. HoldsRegion bytes head box part) (λ bytes. (i : List ℕ) → IsInBox box i → get_or block.cells (place block.shape i) (pos 0) ≡ element bytes head i) (λ bytes h i b. at bytes h i b) holds;
 })
   where
-    one : (a b : Box) → ◌≡◌ {A = Option Box} (Some a) (Some b) → a ≡ b
-    one a b e = same_Some a b e
-
     at : (bytes : List ℕ) → HoldsRegion bytes head box part → (i : List ℕ) → IsInBox box i → get_or block.cells (place block.shape i) (pos 0) ≡ element bytes head i
     at bytes h i b =
         let j = away box.start i in

@@ -153,14 +153,6 @@ pub refused-of : {A : Type 0} (r : Result A NpyError) (file : Content) (head : H
 refused-of (Ok x) file head region box e r = tt
 refused-of (Err err) file head region box e r = subst (λ (o : Option Box). IsRefusedRegion file head o err) (sym e) (refused-some file head box err r)
 
-pub if-ok : {A E : Type 0} (r : Result A E) (P Q : A → Type 0) → ((x : A) → P x → Q x) → IfOk r P → IfOk r Q
-if-ok (Ok x) P Q f p = f x p
-if-ok (Err e) P Q f p = tt
-
-pub if-err : {A E : Type 0} (r : Result A E) (P Q : E → Type 0) → ((e : E) → P e → Q e) → IfErr r P → IfErr r Q
-if-err (Ok x) P Q f p = tt
-if-err (Err e) P Q f p = f e p
-
 pub ok-if : {A E : Type 0} (r : Result A E) (P : A → Type 0) (Q : Type 0) → ((x : A) → P x → Q) → IfOk r P → OnOk r Q
 ok-if (Ok x) P Q f p = f x p
 ok-if (Err e) P Q f p = tt

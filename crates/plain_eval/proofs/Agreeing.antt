@@ -1,8 +1,7 @@
 -- Arrays are the same over inputs that agree inside the inputs' shapes.
-use Rattle.std.proofs.Common.{◌≡◌, ℕ, zero, suc, ◌+◌, ◌<◌, Some, Option, List, [], ◌∷◌, ◌++◌, length, map, take, drop, ap, sym, subst, refl, ◌∙◌, arith, add-one, ℤ, slice_get, length-append, take-append-drop}
-use Rattle.std.specs.List.{range_with_len}
-use Rattle.std.proofs.lemmas.List.FromFn.{map-range_with_len_more}
+use Rattle.std.proofs.Common.{◌≡◌, ℕ, suc, ◌+◌, ◌<◌, Some, List, [], ◌∷◌, ◌++◌, length, take, drop, ap, sym, subst, refl, ◌∙◌, arith, ℤ, slice_get, length-append, take-append-drop}
 use Rattle.std.proofs.lemmas.List.{length-take-le}
+use Rattle.small_facts.proofs.Ranges.{map_range_same}
 use Rattle.nd_shape.specs.declared.slice.Steps.{Steps}
 use Rattle.nd_shape.specs.declared.chunk.ChunkSpec.{ChunkSpec}
 use Rattle.nd_shape.specs.Shape.{elements}
@@ -22,18 +21,10 @@ use Rattle.plain_eval.proofs.Arrays.{arrays-front}
 pub record AgreeInside (f g : ℕ → List ℕ → ℤ) (j : ℕ) (nodes : List Node) : Type 0 where
   pub each : (k : ℕ) (node : Node) (dims : List ℕ) (chunks : List ChunkSpec) → slice_get nodes k ≡ Some node → node.op ≡ Input dims chunks → (i : List ℕ) → IsIn dims i → f (inputs_in j (take k nodes)) i ≡ g (inputs_in j (take k nodes)) i
 
-range-same : (f g : ℕ → Option ℤ) (n : ℕ) → ((p : ℕ) → p < n → f p ≡ g p) → map f (range_with_len 0 n) ≡ map g (range_with_len 0 n)
-range-same f g zero same = refl
-range-same f g (suc n) same =
-    ap (λ m. map f (range_with_len 0 m)) (sym (add-one n)) ∙ map-range_with_len_more f 0 n n (omega arith)
-    ∙ ap (λ xs. xs ++ f n ∷ []) (range-same f g n (λ p h. same p (omega (arith, h))))
-    ∙ ap (λ x. map g (range_with_len 0 n) ++ x ∷ []) (same n (omega arith))
-    ∙ sym (map-range_with_len_more g 0 n n (omega arith)) ∙ ap (λ m. map g (range_with_len 0 m)) (add-one n)
-
 same-formula : (op : Op) (taken : List Steps) (f g : List ℕ → ℤ) (array : ℕ → Grid) → ((dims : List ℕ) (chunks : List ChunkSpec) → op ≡ Input dims chunks → (i : List ℕ) → IsIn dims i → f i ≡ g i)
     → cells_of (formula op taken f array) ≡ cells_of (formula op taken g array)
 same-formula (Input dims chunks) taken f g array same =
-    ap (λ cs. record { shape = dims; cells = cs }) (range-same (λ p. Some (f (index_at dims p))) (λ p. Some (g (index_at dims p))) (elements dims) (λ p h. ap Some (same dims chunks refl (index_at dims p) (index_at-in dims p h))))
+    ap (λ cs. record { shape = dims; cells = cs }) (map_range_same (λ p. Some (f (index_at dims p))) (λ p. Some (g (index_at dims p))) (elements dims) (λ p h. ap Some (same dims chunks refl (index_at dims p) (index_at-in dims p h))))
 same-formula (Full dims value chunks) taken f g array same = refl
 same-formula (Ramp dims start step chunks) taken f g array same = refl
 same-formula (Negate of) taken f g array same = refl

@@ -1,8 +1,8 @@
 -- The loop over the operands of a concatenation.
-use Rattle.std.proofs.Common.{◌≡◌, ◌≢◌, ℕ, ◌+◌, ◌-◌, ◌<◌, ◌≤◌, cond, true, false, List, [], ◌∷◌, length, drop, map, set, get_or, ap, sym, subst, refl, ◌∙◌, arith, inl, inr, get_or-set_other, length-set}
+use Rattle.std.proofs.Common.{◌≡◌, ◌≢◌, ℕ, ◌+◌, ◌-◌, ◌<◌, ◌≤◌, cond, List, [], ◌∷◌, length, drop, map, set, get_or, ap, sym, subst, refl, ◌∙◌, arith, inl, inr, get_or-set_other, length-set}
 use Rattle.std.specs.Prelude.{nat_lt, ◌⊎◌}
 use Rattle.std.proofs.lemmas.List.{drop_more, get_or-map, length-map}
-use Rattle.std.proofs.lemmas.Bool.{cases_lt}
+use Rattle.std.proofs.lemmas.Bool.{cases_eq, lt-ltb, le-ltb}
 use Rattle.nd_shape.specs.Index.{IsIn}
 use Rattle.nd_shape.proofs.Places.{IsIn-length}
 use Rattle.nd_shape.proofs.Axes.{IsIn-at, IsIn-from}
@@ -50,14 +50,8 @@ pub operand-in : (known : List Cells) (of : List ℕ) (axis : ℕ) (index own : 
 operand-in known of axis index own k n h is v i l low =
     let axes = operand-axes known of axis k n h is v in
     let same = index-axes known of axis index i in
-    IsIn-from (array_at known n).shape own (l.room ∙ same ∙ sym axes) (λ j b. at_axis j b (eq_cases j axis))
+    IsIn-from (array_at known n).shape own (l.room ∙ same ∙ sym axes) (λ j b. at_axis j b (cases_eq j axis))
   where
-    eq_cases : (j a : ℕ) → (j ≡ a) ⊎ (j ≢ a)
-    eq_cases j a = elim (cases_lt j a) [
-      | inl x ↦ inr (λ e. absurd (omega arith))
-      | inr x ↦ elim (cases_lt a j) [ inl y ↦ inr (λ e. absurd (omega arith)) | inr y ↦ inl (omega arith) ]
-    ]
-
     at_axis : (j : ℕ) → j < length (array_at known n).shape → (j ≡ axis) ⊎ (j ≢ axis) → get_or own j 0 < get_or (array_at known n).shape j 0
     at_axis j b (inl e) = subst (λ m. get_or own m 0 < get_or (array_at known n).shape m 0) (sym e) low
     at_axis j b (inr ne) =
@@ -81,21 +75,15 @@ value-cons known of axis index own k n h is l =
     let dn : drop k of ≡ n ∷ drop (k + 1) of = drop_more of k n h ∙ ap (λ x. x ∷ drop (k + 1) of) (sym is) in
     ap (λ ns. at_along axis (map (array_at known) ns) own) (sym dn) ∙ l.value
 
-lt-true : (m n : ℕ) → m < n → nat_lt m n ≡ true
-lt-true m n h = grind arith
-
-lt-false : (m n : ℕ) → n ≤ m → nat_lt m n ≡ false
-lt-false m n h = grind arith
-
 pub joining-found : (known : List Cells) (of : List ℕ) (axis : ℕ) (index own : List ℕ) (k n : ℕ) → k < length of → n ≡ get_or of k n → Joining known of axis index own k → get_or own axis 0 < get_or (array_at known n).shape axis 0
     → (array_at known n).at own ≡ at_along axis (map (array_at known) of) index
 joining-found known of axis index own k n h is l low =
-    ap (λ b. cond b ((array_at known n).at own) (at_along axis (map (array_at known) (drop (k + 1) of)) (set own axis (get_or own axis 0 - get_or (array_at known n).shape axis 0)))) (sym (lt-true _ _ low)) ∙ value-cons known of axis index own k n h is l
+    ap (λ b. cond b ((array_at known n).at own) (at_along axis (map (array_at known) (drop (k + 1) of)) (set own axis (get_or own axis 0 - get_or (array_at known n).shape axis 0)))) (sym (lt-ltb _ _ low)) ∙ value-cons known of axis index own k n h is l
 
 pub joining-next : (known : List Cells) (of : List ℕ) (axis : ℕ) (index own : List ℕ) (k n : ℕ) → k < length of → n ≡ get_or of k n → Joining known of axis index own k → get_or (array_at known n).shape axis 0 ≤ get_or own axis 0
     → Joining known of axis index (set own axis (get_or own axis 0 - get_or (array_at known n).shape axis 0)) (k + 1)
 joining-next known of axis index own k n h is l high = record {
   room = length-set own axis (get_or own axis 0 - get_or (array_at known n).shape axis 0) ∙ l.room;
   others = λ j ne. get_or-set_other own axis j (get_or own axis 0 - get_or (array_at known n).shape axis 0) 0 ne ∙ l.others j ne;
-  value = ap (λ b. cond b ((array_at known n).at own) (at_along axis (map (array_at known) (drop (k + 1) of)) (set own axis (get_or own axis 0 - get_or (array_at known n).shape axis 0)))) (sym (lt-false _ _ high)) ∙ value-cons known of axis index own k n h is l;
+  value = ap (λ b. cond b ((array_at known n).at own) (at_along axis (map (array_at known) (drop (k + 1) of)) (set own axis (get_or own axis 0 - get_or (array_at known n).shape axis 0)))) (sym (le-ltb _ _ high)) ∙ value-cons known of axis index own k n h is l;
 }

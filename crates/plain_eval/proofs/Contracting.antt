@@ -2,20 +2,19 @@
 use Rattle.std.proofs.Common.{◌≡◌, ℕ, ◌+◌, ◌<◌, ◌≤◌, true, List, ◌++◌, length, drop, map, get_or, ap, sym, subst, ◌∙◌, arith}
 use Rattle.std.specs.Prelude.{nat_eq}
 use Rattle.std.specs.List.{position_or_len}
-use Rattle.std.proofs.lemmas.List.{get_or-map, length-map}
+use Rattle.std.proofs.lemmas.List.{length-map}
+use Rattle.small_facts.proofs.Lists.{map_get_at}
 use Rattle.nd_shape.specs.Index.{IsIn}
 use Rattle.nd_shape.proofs.Places.{IsIn-length}
 use Rattle.nd_shape.proofs.Axes.{IsIn-at}
 use Rattle.nd_grid.specs.Grid.{is_among, kept_shape, woven}
 use Rattle.nd_grid.proofs.Turning.{position-at}
 use Rattle.array_expr.specs.Node.{CanContract}
-use Rattle.plain_eval.proofs.Woven.{begins-front, begins-all, begins-length, in-rest, woven-in, among-contains, among-place}
-
-paired-at : (ls axes : List ℕ) (p : ℕ) → p < length axes → get_or (map (λ a. get_or ls a 0) axes) p 0 ≡ get_or ls (get_or axes p 0) 0
-paired-at ls axes p h = get_or-map (λ a. get_or ls a 0) axes p 0 0 h
+use Rattle.plain_eval.proofs.Woven.{begins-front, begins-all, begins-length, woven-in}
+use Rattle.nd_grid.proofs.Woven.{in-rest, among-contains, among-place}
 
 rest-below : (ls axes rs : List ℕ) (p : ℕ) → p < length axes → IsIn (map (λ a. get_or ls a 0) axes) rs → get_or rs p 0 < get_or ls (get_or axes p 0) 0
-rest-below ls axes rs p h i = subst (λ n. get_or rs p 0 < n) (paired-at ls axes p h) (IsIn-at (map (λ a. get_or ls a 0) axes) rs p i (omega (arith, length-map axes (λ a. get_or ls a 0))))
+rest-below ls axes rs p h i = subst (λ n. get_or rs p 0 < n) (map_get_at ls axes p h) (IsIn-at (map (λ a. get_or ls a 0) axes) rs p i (omega (arith, length-map axes (λ a. get_or ls a 0))))
 
 left-rest : (ls axes rs : List ℕ) → IsIn (map (λ a. get_or ls a 0) axes) rs → (j : ℕ) → is_among j axes ≡ true → get_or rs (position_or_len (nat_eq j) axes) 0 < get_or ls j 0
 left-rest ls axes rs i j m =

@@ -1,9 +1,12 @@
 -- What the nodes of an expression promise is what the formulas ask.
 use Rattle.std.proofs.Common.{◌≡◌, ℕ, zero, suc, ◌+◌, ◌<◌, ◌≤◌, cond, Bool, true, false, List, [], ◌∷◌, length, get_or, Some, ap, sym, refl, ◌∙◌, arith}
 use Rattle.std.specs.Prelude.{nat_eq, ◌||◌, Contains, slice_get}
-use Rattle.std.specs.List.{AllByRecursion, IsDistinct, list_any}
+use Rattle.std.specs.List.{IsDistinct, list_any}
 use Rattle.std.proofs.lemmas.Map.Steps.{length-le_from_distinct_below}
 use Rattle.std.proofs.lemmas.List.{get_or_default}
+use Rattle.std.proofs.lemmas.Bool.{eqb-false, eqb-true}
+use Rattle.small_facts.proofs.Every.{unequal_to_each}
+use Rattle.small_facts.proofs.Truth.{or_first_false, or_second_false}
 use Rattle.nd_shape.specs.declared.slice.Steps.{Steps}
 use Rattle.nd_shape.specs.declared.slice.Part.{Part}
 use Rattle.nd_shape.specs.declared.slice.Part.TheVariants.{At, Range}
@@ -11,7 +14,7 @@ use Rattle.nd_shape.specs.Slice.{StepsFitAxis, Resolves}
 use Rattle.nd_grid.specs.Grid.{is_among, IsTranspose, SlicesFit}
 use Rattle.array_expr.specs.Axes.{AreAxes}
 use Rattle.array_expr.specs.Node.{Takes, dropped, dropped_from, is_index, part_on}
-use Rattle.plain_eval.proofs.Woven.{among-contains, equal-from}
+use Rattle.nd_grid.proofs.Woven.{among-contains}
 
 -- ---- a list of all axes has each
 
@@ -21,44 +24,25 @@ axes-rest n x xs a = record {
   distinct = λ j k less h. a.distinct (suc j) (suc k) (omega arith) (omega arith);
 }
 
-not-there : (a : ℕ) (xs : List ℕ) → (Contains xs a → ⊥) → AllByRecursion (λ y. nat_eq a y ≡ false) xs
-not-there a [] f = tt
-not-there a (x ∷ xs) f = (differs (nat_eq a x) refl, not-there a xs (λ c. f (suc c.0, omega (arith, c.1), c.2)))
-  where
-    differs : (b : Bool) → nat_eq a x ≡ b → nat_eq a x ≡ false
-    differs false e = e
-    differs true e = absurd (f (0, omega arith, sym (equal-from a x e)))
-
 pub distinct-axes : (n : ℕ) (xs : List ℕ) → AreAxes n xs → IsDistinct nat_eq xs
 unfolding IsDistinct
 distinct-axes n [] a = tt
-distinct-axes n (x ∷ xs) a = (not-there x xs (λ c. a.distinct 0 (suc c.0) (omega arith) (omega (arith, c.1)) (sym (get_or_default xs c.0 0 x c.1 ∙ c.2))), distinct-axes n xs (axes-rest n x xs a))
+distinct-axes n (x ∷ xs) a = (unequal_to_each x xs (λ c. a.distinct 0 (suc c.0) (omega arith) (omega (arith, c.1)) (sym (get_or_default xs c.0 0 x c.1 ∙ c.2))), distinct-axes n xs (axes-rest n x xs a))
 
 distinct-more : (a : ℕ) (xs : List ℕ) → (Contains xs a → ⊥) → IsDistinct nat_eq xs → IsDistinct nat_eq (a ∷ xs)
 unfolding IsDistinct
-distinct-more a xs f d = (not-there a xs f, d)
+distinct-more a xs f d = (unequal_to_each a xs f, d)
 
 pub below-all : (n : ℕ) (xs : List ℕ) → AreAxes n xs → (q : ℕ) → list_any (nat_eq q) xs ≡ true → q < n
 below-all n xs a q h = let c = among-contains xs q h in omega (arith, a.inside c.0 c.1, get_or_default xs c.0 0 q c.1, c.2)
 
-unequal-from : (p q : ℕ) → nat_eq p q ≡ false → p ≡ q → ⊥
-unequal-from p q h e = grind arith
-
-or_left : (t u : Bool) → (t || u) ≡ false → t ≡ false
-or_left true u f = cc
-or_left false u f = refl
-
-or_right : (t u : Bool) → (t || u) ≡ false → u ≡ false
-or_right true u f = cc
-or_right false u f = f
-
 among-at : (xs : List ℕ) (k j : ℕ) → j < length xs → get_or xs j k ≡ k → is_among k xs ≡ false → ⊥
 among-at [] k j h is e = absurd (omega arith)
-among-at (x ∷ xs) k zero h is e = unequal-from k x (or_left (nat_eq k x) (is_among k xs) e) (sym is)
-among-at (x ∷ xs) k (suc j) h is e = among-at xs k j (omega arith) is (or_right (nat_eq k x) (is_among k xs) e)
+among-at (x ∷ xs) k zero h is e = eqb-false k x (or_first_false (nat_eq k x) (is_among k xs) e) (sym is)
+among-at (x ∷ xs) k (suc j) h is e = among-at xs k j (omega arith) is (or_second_false (nat_eq k x) (is_among k xs) e)
 
 below-or : (n q k : ℕ) (axes : List ℕ) → AreAxes n axes → k < n → (t : Bool) → nat_eq q k ≡ t → (t || list_any (nat_eq q) axes) ≡ true → q < n
-below-or n q k axes a b true e h = omega (arith, equal-from q k e)
+below-or n q k axes a b true e h = omega (arith, eqb-true q k e)
 below-or n q k axes a b false e h = below-all n axes a q h
 
 has-axis : (n : ℕ) (axes : List ℕ) → AreAxes n axes → length axes ≡ n → (k : ℕ) → k < n → (t : Bool) → is_among k axes ≡ t → Contains axes k
@@ -84,7 +68,7 @@ slices-from k (s ∷ ss) (n ∷ ns) gone e f g =
     (f 0 s refl, (λ m. g 0 s refl (let z : k + 0 ≡ k = omega arith in ap (λ i. is_among i gone) z ∙ m)), slices-from (suc k) ss ns gone (omega arith) (λ j t is. f (suc j) t is) (λ j t is m. g (suc j) t is (let z : k + suc j ≡ suc k + j = omega arith in ap (λ i. is_among i gone) z ∙ m)))
 
 above-or : (k j : ℕ) (rest : List ℕ) → (is_among j rest ≡ true → suc k ≤ j) → (t : Bool) → nat_eq j k ≡ t → (t || is_among j rest) ≡ true → k ≤ j
-above-or k j rest f true e m = omega (arith, equal-from j k e)
+above-or k j rest f true e m = omega (arith, eqb-true j k e)
 above-or k j rest f false e m = omega (arith, f m)
 
 dropped-above : (k j : ℕ) (parts : List Part) → is_among j (dropped_from k parts) ≡ true → k ≤ j
@@ -96,7 +80,7 @@ dropped-above k j (p ∷ parts) h = by_case (is_index p) h (dropped-above (suc k
     by_case false m f = omega (arith, f m)
 
 later-or : (k j : ℕ) (rest : List ℕ) (P : Type 0) → (is_among (k + suc j) rest ≡ true → P) → (t : Bool) → nat_eq (k + suc j) k ≡ t → (t || is_among (k + suc j) rest) ≡ true → P
-later-or k j rest P f true e m = absurd (omega (arith, equal-from (k + suc j) k e))
+later-or k j rest P f true e m = absurd (omega (arith, eqb-true (k + suc j) k e))
 later-or k j rest P f false e m = f m
 
 first-index : (k : ℕ) (rest : List ℕ) → (is_among (k + 0) rest ≡ true → suc k ≤ k + 0) → (b : Bool) → is_among (k + 0) (cond b (k ∷ rest) rest) ≡ true → b ≡ true

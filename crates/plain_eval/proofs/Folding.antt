@@ -1,14 +1,11 @@
 -- A fold that goes on by one more element, or by nothing.
-use Rattle.std.proofs.Common.{◌≡◌, ℕ, ◌+◌, List, [], ◌∷◌, ◌++◌, map, refl, ap, sym, ◌∙◌, arith, ℤ, Some}
+use Rattle.std.proofs.Common.{◌≡◌, ℕ, ◌+◌, map, ap, sym, ◌∙◌, arith, ℤ, Some}
 use Rattle.std.specs.Prelude.{Option}
 use Rattle.std.specs.List.{range_with_len}
 use Rattle.std.proofs.lemmas.List.FromFn.{map-range_with_len_more}
 use Rattle.nd_grid.specs.declared.operation.Fold.{Fold}
-use Rattle.nd_grid.specs.Operation.{combine_two, folded_from, folded, neutral}
-
-folded_from-push : (fold : Fold) (x : Option ℤ) (ys : List (Option ℤ)) (y : Option ℤ) → folded_from fold x (ys ++ y ∷ []) ≡ combine_two fold (folded_from fold x ys) y
-folded_from-push fold x [] y = refl
-folded_from-push fold x (z ∷ ys) y = folded_from-push fold (combine_two fold x z) ys y
+use Rattle.nd_grid.specs.Operation.{combine_two, folded, neutral}
+use Rattle.nd_grid.proofs.Folding.{folded_from-push}
 
 pub folded-next : (fold : Fold) (f : ℕ → Option ℤ) (k : ℕ) (total next : Option ℤ) → folded fold (map f (range_with_len 0 k)) ≡ total → next ≡ f k → folded fold (map f (range_with_len 0 (k + 1))) ≡ combine_two fold total next
 folded-next fold f k total next h e =

@@ -1,8 +1,9 @@
 -- A node of an expression fits the arrays that are known, operation by operation.
 use Rattle.std.proofs.Common.{◌≡◌, ℕ, ◌+◌, ◌<◌, List, [], ◌∷◌, ◌++◌, length, map, set, get_or, ap, sym, subst, refl, ◌∙◌, arith, length-set, ℤ, pos, true, take, Some, slice_get}
 use Rattle.std.specs.Prelude.{Option, Result, Ok, Err, IfOk}
-use Rattle.std.proofs.lemmas.Option.{slice_get-get_or, same_Some}
+use Rattle.std.proofs.lemmas.Option.{same_Some}
 use Rattle.std.proofs.lemmas.List.{get_or_default}
+use Rattle.small_facts.proofs.Options.{slice_get_at}
 use Rattle.nd_shape.specs.Block.{Array}
 use Rattle.nd_shape.specs.Index.{place}
 use Rattle.nd_shape.specs.Broadcast.{broadcast, Agree}
@@ -143,11 +144,8 @@ dot-fits nodes known node left right left_axes right_axes h n is =
 
 -- ---- what a node's array is
 
-pub node-is : (nodes : List Node) (k : ℕ) (node : Node) → k < length nodes → node ≡ get_or nodes k node → slice_get nodes k ≡ Some node
-node-is nodes k node h is = slice_get-get_or nodes k node h ∙ ap Some (sym is)
-
 pub node-fits : (nodes : List Node) (k : ℕ) (node : Node) → IsExpression nodes → k < length nodes → node ≡ get_or nodes k node → IsNode (take k nodes) node
-node-fits nodes k node s h is = s.each k node (node-is nodes k node h is)
+node-fits nodes k node s h is = s.each k node (slice_get_at nodes k node h is)
 
 made : (nodes : List Node) (k : ℕ) (known : List Cells) (input : List ℕ → ℤ) (node : Node) (g : Grid) (held : Cells) → slice_get nodes k ≡ Some node → g ≡ formula node.op node.taken input (array_at known) → g.shape ≡ node.shape → held ≡ cells_of g → MadeOf nodes k known input held
 made nodes k known input node g held is e s h = record {
@@ -157,7 +155,7 @@ made nodes k known input node g held is e s h = record {
 
 pub made-by : {E : Type 0} (nodes : List Node) (k : ℕ) (known : List Cells) (input : List ℕ → ℤ) (node : Node) (g : Grid) (r : Result Cells E) → k < length nodes → node ≡ get_or nodes k node → g ≡ formula node.op node.taken input (array_at known) → g.shape ≡ node.shape
     → IfOk r (λ held. held ≡ cells_of g) → IfOk r (λ held. MadeOf nodes k known input held)
-made-by nodes k known input node g (Ok held) h is e s made_is = made nodes k known input node g held (node-is nodes k node h is) e s made_is
+made-by nodes k known input node g (Ok held) h is e s made_is = made nodes k known input node g held (slice_get_at nodes k node h is) e s made_is
 made-by nodes k known input node g (Err x) h is e s made_is = tt
 
 -- an input's block is its formula
@@ -166,9 +164,9 @@ pub input-grid : (nodes : List Node) (k : ℕ) (blocks : List Array) (j : ℕ) (
     → (grid_of block ≡ formula node.op node.taken (held_in blocks j) (array_at known)) × (block.shape ≡ node.shape)
 input-grid nodes k blocks j block node dims chunks known n b h is at here op =
     let input : is_input node.op ≡ true = ap is_input op in
-    let there : inputs_before nodes k < length blocks = b.there k node (omega arith) (node-is nodes k node h is) input in
+    let there : inputs_before nodes k < length blocks = b.there k node (omega arith) (slice_get_at nodes k node h is) input in
     let same : block ≡ block_at blocks j = here ∙ get_or_default blocks j block (record { shape = []; cells = [] }) (omega (arith, at, there)) in
-    let shape : block.shape ≡ node.shape = ap (λ (a : Array). a.shape) same ∙ ap (λ i. (block_at blocks i).shape) at ∙ b.shapes k node (omega arith) (node-is nodes k node h is) input in
+    let shape : block.shape ≡ node.shape = ap (λ (a : Array). a.shape) same ∙ ap (λ i. (block_at blocks i).shape) at ∙ b.shapes k node (omega arith) (slice_get_at nodes k node h is) input in
     let made_is : node.shape ≡ dims = (makes (take k nodes) node (Input dims chunks) n op).1 in
     let value : grid_of block ≡ formula (Input dims chunks) node.taken (held_in blocks j) (array_at known) =
     ap (λ ns. record { shape = ns; at = λ i. Some (get_or block.cells (place block.shape i) (pos 0)) }) (shape ∙ made_is)

@@ -1,38 +1,24 @@
 -- How many elements are kept and paired.
 use Rattle.std.proofs.Common.{◌≡◌, ℕ, zero, suc, ◌+◌, ◌*◌, ◌^◌, ◌<◌, ◌≤◌, cond, Bool, true, false, List, [], ◌∷◌, ◌++◌, length, map, get_or, ap, sym, subst, refl, ◌∙◌, arith}
-use Rattle.std.specs.Prelude.{nat_eq, ◌||◌}
-use Rattle.std.proofs.Math.Nat.{mul_comm, mul_assoc, mul_left_comm}
+use Rattle.std.specs.Prelude.{◌||◌}
+use Rattle.std.proofs.Math.Nat.{mul_assoc, mul_left_comm}
 use Rattle.std.proofs.lemmas.List.{get_or-map, length-map, get_or_default}
 use Rattle.std.proofs.lemmas.Map.Steps.{length-le_from_distinct_below}
+use Rattle.small_facts.proofs.Numbers.{product_turned, unequal_over, unequal_above, equal_plus_none}
 use Rattle.nd_shape.specs.declared.shape.ShapeLimit.{ShapeLimit}
 use Rattle.nd_shape.specs.Shape.{elements, IsShape}
 use Rattle.nd_shape.specs.Limits.{IsPassed}
 use Rattle.nd_grid.specs.Grid.{is_among, kept_shape}
 use Rattle.array_expr.specs.Axes.{AreAxes}
-use Rattle.plain_eval.proofs.Woven.{among-contains}
 use Rattle.plain_eval.proofs.Fitting.{axes-rest, distinct-axes, below-all}
 use Rattle.plain_eval.proofs.Products.{passed_none}
-
-unequal : (m a : ℕ) → a < m → nat_eq m a ≡ false
-unequal m a h = grind arith
-
-unequal_above : (k a : ℕ) → nat_eq k (k + suc a) ≡ false
-unequal_above k a = unequal_less k (k + suc a) (omega arith)
-  where
-    unequal_less : (m n : ℕ) → m < n → nat_eq m n ≡ false
-    unequal_less m n h = grind arith
-
-equal_here : (k : ℕ) → nat_eq k (k + 0) ≡ true
-equal_here k = equal k (k + 0) (omega arith)
-  where
-    equal : (m n : ℕ) → m ≡ n → nat_eq m n ≡ true
-    equal m n h = grind arith
+use Rattle.nd_grid.proofs.Woven.{among-contains}
 
 -- an axis before the first is none of these
 kept-above : (m a : ℕ) (ns axes : List ℕ) → a < m → kept_shape m ns (a ∷ axes) ≡ kept_shape m ns axes
 kept-above m a [] axes h = refl
 kept-above m a (n ∷ ns) axes h =
-    ap (λ b. cond (b || is_among m axes) (kept_shape (suc m) ns (a ∷ axes)) (n ∷ kept_shape (suc m) ns (a ∷ axes))) (unequal m a h)
+    ap (λ b. cond (b || is_among m axes) (kept_shape (suc m) ns (a ∷ axes)) (n ∷ kept_shape (suc m) ns (a ∷ axes))) (unequal_over m a h)
     ∙ ap (λ xs. cond (is_among m axes) xs (n ∷ xs)) (kept-above (suc m) a ns axes (omega arith))
 
 -- one more axis takes its length out of what is kept
@@ -41,7 +27,7 @@ kept-one k a [] axes h f = absurd (omega arith)
 kept-one k zero (n ∷ ns) axes h f =
     let z : k + 0 ≡ k = omega arith in
     let gone : is_among k axes ≡ false = ap (λ m. is_among m axes) (sym z) ∙ f in
-    ap (λ b. n * elements (cond (b || is_among k axes) (kept_shape (suc k) ns ((k + 0) ∷ axes)) (n ∷ kept_shape (suc k) ns ((k + 0) ∷ axes)))) (equal_here k)
+    ap (λ b. n * elements (cond (b || is_among k axes) (kept_shape (suc k) ns ((k + 0) ∷ axes)) (n ∷ kept_shape (suc k) ns ((k + 0) ∷ axes)))) (equal_plus_none k)
     ∙ ap (λ xs. n * elements xs) (kept-above (suc k) (k + 0) ns axes (omega arith))
     ∙ ap (λ b. elements (cond b (kept_shape (suc k) ns axes) (n ∷ kept_shape (suc k) ns axes))) (sym gone)
 kept-one k (suc a) (n ∷ ns) axes h f =
@@ -56,7 +42,7 @@ kept-one k (suc a) (n ∷ ns) axes h f =
     by_case true e = e
     by_case false e = mul_left_comm (get_or ns a 0) n (elements (kept_shape (suc k) ns ((k + suc a) ∷ axes))) ∙ ap (λ x. n * x) e
 
-kept-none : (k : ℕ) (ns : List ℕ) → kept_shape k ns [] ≡ ns
+pub kept-none : (k : ℕ) (ns : List ℕ) → kept_shape k ns [] ≡ ns
 kept-none k [] = refl
 kept-none k (n ∷ ns) = ap (λ xs. n ∷ xs) (kept-none (suc k) ns)
 
@@ -75,10 +61,7 @@ paired-parts ns (a ∷ axes) h =
     let one : get_or ns a 0 * elements (kept_shape 0 ns (a ∷ axes)) ≡ elements (kept_shape 0 ns axes) =
     subst (λ m. get_or ns a 0 * elements (kept_shape 0 ns (m ∷ axes)) ≡ elements (kept_shape 0 ns axes)) z
     (kept-one 0 a ns axes (h.inside 0 (omega arith)) (ap (λ m. is_among m axes) z ∙ fresh (length ns) a axes h)) in
-    turned (elements (kept_shape 0 ns (a ∷ axes))) (get_or ns a 0) (elements (map (λ m. get_or ns m 0) axes)) (elements (kept_shape 0 ns axes)) one ∙ paired-parts ns axes (axes-rest (length ns) a axes h)
-  where
-    turned : (k g b r : ℕ) → g * k ≡ r → k * (g * b) ≡ r * b
-    turned k g b r e = sym (mul_assoc k g b) ∙ ap (λ x. x * b) (mul_comm k g ∙ e)
+    product_turned (elements (kept_shape 0 ns (a ∷ axes))) (get_or ns a 0) (elements (map (λ m. get_or ns m 0) axes)) (elements (kept_shape 0 ns axes)) one ∙ paired-parts ns axes (axes-rest (length ns) a axes h)
 
 pub paired_passed : (ns axes : List ℕ) (limit : ShapeLimit) → IsShape ns → AreAxes (length ns) axes → IsPassed limit (map (λ a. get_or ns a 0) axes) → elements (kept_shape 0 ns axes) ≡ 0
 paired_passed ns axes limit s h p =

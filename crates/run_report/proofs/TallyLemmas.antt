@@ -1,6 +1,6 @@
 -- Counts of a list with one more member.
 use Rattle.std.proofs.Common.{◌≡◌, ℕ, zero, suc, ◌+◌, ◌-◌, ◌^◌, ◌≤◌, ◌<◌, min, Bool, true, false, cond, List, [], ◌∷◌, ◌++◌, length, filter, map, get_or, Option, refl, sym, ap, ◌∙◌, arith, add-one, add-zero}
-use Rattle.std.specs.Prelude.{◌==◌, Result, Ok, Err, OnErr}
+use Rattle.std.specs.Prelude.{◌==◌}
 use Rattle.std.specs.List.{range_with_len}
 use Rattle.std.proofs.Math.Nat.{min-eq_left}
 use Rattle.std.proofs.lemmas.List.{length-append, map-append}
@@ -12,8 +12,9 @@ use Rattle.cluster_msgs.specs.declared.events.Event.TheVariants.{Start}
 use Rattle.cluster_msgs.specs.declared.events.Report.{Report}
 use Rattle.cluster_rules.specs.Functions.{from_one, put}
 use Rattle.cluster_rules.specs.Report.{Taken, is_join, is_start, starts_at, is_gather, is_loss, is_answer, how_many, report}
-use Rattle.cluster_rules.proofs.DerivedLemmas.{eqb_comm}
 use Rattle.std.proofs.lemmas.Bool.{eqb-true}
+use Rattle.small_facts.proofs.Numbers.{eqb_turned}
+use Rattle.small_facts.proofs.Ranges.{range_suc}
 use Rattle.run_report.specs.Counts.{IsCountOf, starts_of, starter, starts_by}
 use Rattle.run_report.specs.declared.tally.Tally.{Tally}
 
@@ -109,24 +110,17 @@ zero-push (x ∷ xs) (suc k) = zero-push xs k
 
 -- a count that is written
 pub add_is : (f g : ℕ → ℕ) (worker more i : ℕ) → ((k : ℕ) → g k ≡ f k) → more ≡ min (g worker + 1) (2 ^ 64 - 1) → put g worker more i ≡ cond (worker == i) (min (f i + 1) (2 ^ 64 - 1)) (f i)
-add_is f g worker more i same e = pick (i == worker) refl ∙ ap (λ b. cond b (min (f i + 1) (2 ^ 64 - 1)) (f i)) (eqb_comm i worker)
+add_is f g worker more i same e = pick (i == worker) refl ∙ ap (λ b. cond b (min (f i + 1) (2 ^ 64 - 1)) (f i)) (eqb_turned i worker)
   where
     pick : (b : Bool) → (i == worker) ≡ b → cond b more (g i) ≡ cond b (min (f i + 1) (2 ^ 64 - 1)) (f i)
     pick true q = e ∙ ap (λ n. min (n + 1) (2 ^ 64 - 1)) (ap g (sym (eqb-true i worker q)) ∙ same i)
     pick false q = same i
 
--- the workers that joined
-range_more : (a n : ℕ) → range_with_len a (suc n) ≡ range_with_len a n ++ (a + n) ∷ []
-range_more a zero = ap (λ k. k ∷ []) (sym (add-zero a))
-range_more a (suc n) =
-    let q : (a + 1) + n ≡ a + suc n = omega arith in
-    ap (λ xs. a ∷ xs) (range_more (a + 1) n ∙ ap (λ k. range_with_len (a + 1) n ++ k ∷ []) q)
-
 mapped_more : {B : Type 0} (g : ℕ → B) (n : ℕ) → map g (from_one (n + 1)) ≡ map g (from_one n) ++ g (n + 1) ∷ []
 mapped_more g n =
     let q : 1 + n ≡ n + 1 = omega arith in
     ap (λ k. map g (from_one k)) (add-one n)
-    ∙ ap (map g) (range_more 1 n)
+    ∙ ap (map g) (range_suc 1 n)
     ∙ map-append g (range_with_len 1 n) ((1 + n) ∷ [])
     ∙ ap (λ k. map g (range_with_len 1 n) ++ g k ∷ []) q
 
@@ -150,7 +144,3 @@ report_is t g es workers keys edges e k d h = λ i. record {
   where
     starts : starts_of t ≡ map (λ k. (k, how_many (starts_at k) es)) (from_one (how_many is_join es))
     starts = λ j. map (λ k. (k, h.starts k j)) (from_one (h.joins j))
-
-pub on_err : {T E P : Type 0} (r : Result T E) → P → OnErr r P
-on_err (Ok x) p = tt
-on_err (Err e) p = p

@@ -1,28 +1,21 @@
 -- A value that is put at its key's place.
-use Rattle.std.proofs.Common.{◌≡◌, ◌≢◌, ℕ, ◌<◌, List, [], replicate, length, get_or, set, sym, ◌∙◌, ap, subst, arith, Option, Some, None, inl, inr, ◌⊎◌, zero, suc, refl, Bool, true, is_some}
+use Rattle.std.proofs.Common.{◌≡◌, ℕ, ◌<◌, List, [], replicate, length, get_or, set, sym, ◌∙◌, ap, subst, Option, Some, None, inl, inr, zero, suc, refl, Bool, true, is_some}
 use Rattle.std.proofs.lemmas.List.{get_or-set_other, get_or-set_same}
 use Rattle.std.specs.Prelude.{IfSome}
+use Rattle.std.proofs.lemmas.Bool.{cases_eq}
+use Rattle.std.proofs.lemmas.Option.{same_Some}
 use Rattle.cluster_msgs.specs.Labels.{BlockFits, LabelFacts}
 use Rattle.runner_table.specs.Results.{AreValues, has_value}
-
-same_or : (a b : ℕ) → (a ≡ b) ⊎ (a ≢ b)
-same_or zero zero = inl refl
-same_or zero (suc b) = inr (λ e. omega (arith, e))
-same_or (suc a) zero = inr (λ e. omega (arith, e))
-same_or (suc a) (suc b) = elim (same_or a b) [ inl e ↦ inl (ap suc e) | inr n ↦ inr (λ e. n (omega (arith, e))) ]
-
-own : (x y : ℕ) → Some x ≡ Some y → x ≡ y
-own x y e = let f : Option ℕ → ℕ = elim [ Some z ↦ z | None ↦ x ] in ap f e
 
 -- each value still fits
 pub put_fits : (facts : LabelFacts ℕ) (values : List (Option ℕ)) (k v : ℕ) → k < length values → BlockFits facts k v → AreValues facts values → AreValues facts (set values k (Some v))
 put_fits facts values k v lt fit fits = record {
   each = λ j x e.
-      elim (same_or j k) [
+      elim (cases_eq j k) [
         | inl is ↦
             let at : get_or (set values k (Some v)) j None ≡ Some v = ap (λ i. get_or (set values k (Some v)) i None) is ∙ get_or-set_same values k (Some v) None lt in
             let P : ℕ → ℕ → Type 0 = λ i y. BlockFits facts i y in
-            subst (P j) (own v x (sym at ∙ e)) (subst (λ i. P i v) (sym is) fit)
+            subst (P j) (same_Some v x (sym at ∙ e)) (subst (λ i. P i v) (sym is) fit)
         | inr not ↦ fits.each j x (sym (get_or-set_other values k j (Some v) None not) ∙ e)
       ];
 }

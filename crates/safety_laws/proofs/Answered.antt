@@ -1,6 +1,6 @@
 -- Each open ask has its request or its answer under way.
 use Rattle.std.proofs.Common.{◌≡◌, ℕ, ◌+◌, Bool, true, false, cond, not, ◌&&◌, List, [], ◌∷◌, ◌++◌, Option, Some, None, refl, sym, ap, ◌∙◌, subst, is_some, map, filter, fold, inl, inr, ◌⊎◌, ⊎_elim}
-use Rattle.std.proofs.lemmas.Bool.{true≢false, false≢true, eqb-true}
+use Rattle.std.proofs.lemmas.Bool.{true≢false, false≢true, eqb-true, eq-eqb}
 use Rattle.std.proofs.Math.Dec.{eqb}
 use Rattle.cluster_msgs.specs.declared.messages.Down.{Down}
 use Rattle.cluster_msgs.specs.declared.messages.Down.TheVariants.{ComputeTask, FreeKeys, StealRequest, RemoveReplicas, AcquireReplicas, RefreshWhoHas}
@@ -12,7 +12,6 @@ use Rattle.cluster_rules.specs.Functions.{put}
 use Rattle.cluster_rules.specs.Derived.{is_in}
 use Rattle.cluster_rules.specs.Worker.{Ask as OpenAsk, WorkerFacts, awaited, is_wanted, wstate, is_missing_state, would_start, ask_to, without_ask}
 use Rattle.cluster_rules.specs.WorkerStep.{WorkerStep, quiet, after_out, each_key, taken, set_holders, into_mem, give_up, given, free_key, yields, asked_back, remove_replica, remove_replicas, acquire, refresh, take_down, start, Arrivals, arrive_as, arrive, arrived, stopped, erred_as, done, keys_of, ask_peer, lose_holders, not_found, answered_ask, gathered_by, gathered, worker_row, worker_step}
-use Rattle.cluster_rules.proofs.SchedFrame.{same_eqb}
 use Rattle.cluster_msgs.specs.declared.messages.Up.{Up}
 use Rattle.cluster_msgs.specs.declared.messages.ToClient.{ToClient}
 use Rattle.cluster_msgs.specs.declared.messages.FromClient.{FromClient as ClientMessage}
@@ -45,8 +44,11 @@ use Rattle.cluster_rules.proofs.SchedFrame.{step_settles}
 use Rattle.cluster_laws.proofs.Framed.{change_framed}
 use Rattle.safety_laws.proofs.Turns.{sched_after, sched_is}
 use Rattle.safety_laws.proofs.Lively.{same_asker_is}
-use Rattle.safety_laws.proofs.Homes.{find_passes_any}
 use Rattle.std.proofs.lemmas.Bool.{and_parts, and_from}
+use Rattle.std.proofs.Math.Bool.{and-false}
+use Rattle.std.proofs.lemmas.Option.{same_Some, none-some}
+use Rattle.small_facts.proofs.Options.{find_passes}
+use Rattle.safety_laws.proofs.Staying.{alive_answer, alive_fails, alive_asks, alive_serves, alive_down, alive_ups, alive_to_client, alive_from_client}
 
 -- ## The rows
 
@@ -137,14 +139,11 @@ fewer_same xs ys e p q h = ap (λ l. ask_to l p) (sym e) ∙ h
 
 -- an ask that is left
 left_ask : (x p : ℕ) (q : OpenAsk) (qs : List OpenAsk) → ask_to (without_ask qs x) p ≡ Some q → (ask_to qs p ≡ Some q) × (eqb p x ≡ false)
-left_ask x p q [] e = absurd (none_ask q e)
-  where
-    none_ask : (q : OpenAsk) → None ≡ Some q → ⊥
-    none_ask q e = cc
+left_ask x p q [] e = absurd (none-some q e)
 left_ask x p q (y ∷ ys) e = pick (eqb y.peer x) refl (eqb y.peer p) refl (λ r. left_ask x p q ys r) e
   where
     pick : (b : Bool) → eqb y.peer x ≡ b → (c : Bool) → eqb y.peer p ≡ c → (ask_to (without_ask ys x) p ≡ Some q → (ask_to ys p ≡ Some q) × (eqb p x ≡ false)) → ask_to (cond (not b) (y ∷ without_ask ys x) (without_ask ys x)) p ≡ Some q → (cond c (Some y) (ask_to ys p) ≡ Some q) × (eqb p x ≡ false)
-    pick true i true m rest r = let z = (rest r).1 in absurd (true≢false (sym (same_eqb p x (sym (eqb-true y.peer p m) ∙ eqb-true y.peer x i)) ∙ z))
+    pick true i true m rest r = let z = (rest r).1 in absurd (true≢false (sym (eq-eqb p x (sym (eqb-true y.peer p m) ∙ eqb-true y.peer x i)) ∙ z))
     pick true i false m rest r = rest r
     pick false i true m rest r = (sym (ap (λ b. cond b (Some y) (ask_to (without_ask ys x) p)) m) ∙ r, ap (λ n. eqb n x) (sym (eqb-true y.peer p m)) ∙ i)
     pick false i false m rest r = rest (sym (ap (λ b. cond b (Some y) (ask_to (without_ask ys x) p)) m) ∙ r)
@@ -159,21 +158,15 @@ asks_gathered w x n found p q = by_ask (ask_to w.asks x) refl
         ∙ asks_arrived (record w { asks = without_ask w.asks x }) (keys_of (filter (λ k. is_in k.0 found) a.items)))) ∙ h) in (l.0, ap (λ b. b && eqb q.number n) l.1)
     over a e false i h = (h, by (eqb p x) refl)
       where
-        same : (u v : OpenAsk) → Some u ≡ Some v → u ≡ v
-        same u v z = cc
-
         by : (b : Bool) → eqb p x ≡ b → (b && eqb q.number n) ≡ false
-        by true m = ap (λ (y : OpenAsk). eqb y.number n) (same q a (sym h ∙ ap (ask_to w.asks) (eqb-true p x m) ∙ e)) ∙ i
+        by true m = ap (λ (y : OpenAsk). eqb y.number n) (same_Some q a (sym h ∙ ap (ask_to w.asks) (eqb-true p x m) ∙ e)) ∙ i
         by false m = refl
 
     by_ask : (o : Option OpenAsk) → ask_to w.asks x ≡ o → ask_to (gathered_by w x n found o).facts.asks p ≡ Some q → (ask_to w.asks p ≡ Some q) × ((eqb p x && eqb q.number n) ≡ false)
     by_ask None e h = (h, by (eqb p x) refl)
       where
-        none_ask : (q : OpenAsk) → None ≡ Some q → ⊥
-        none_ask q e = cc
-
         by : (b : Bool) → eqb p x ≡ b → (b && eqb q.number n) ≡ false
-        by true m = absurd (none_ask q (sym e ∙ ap (ask_to w.asks) (sym (eqb-true p x m)) ∙ h))
+        by true m = absurd (none-some q (sym e ∙ ap (ask_to w.asks) (sym (eqb-true p x m)) ∙ h))
         by false m = refl
     by_ask (Some a) e h = over a e (eqb a.number n) refl h
 
@@ -272,11 +265,11 @@ some_client_requested a p n b (ClientGather x m ks ∷ is) qs h = some_client_re
 some_client_requested a p n b (ClientSend m ∷ is) qs h = some_client_requested a p n b is qs h
 
 self_asker : (a : Asker) → same_asker a a ≡ true
-self_asker (Worker i) = same_eqb i i refl
-self_asker (Client c) = same_eqb c c refl
+self_asker (Worker i) = eq-eqb i i refl
+self_asker (Client c) = eq-eqb c c refl
 
 self_parcel : (a : Asker) (p n : ℕ) (ks : List ℕ) → is_parcel a p n (record { asker = a; peer = p; ask = n; keys = ks }) ≡ true
-self_parcel a p n ks = and_from (same_asker a a) (eqb p p && eqb n n) (self_asker a) (and_from (eqb p p) (eqb n n) (same_eqb p p refl) (same_eqb n n refl))
+self_parcel a p n ks = and_from (same_asker a a) (eqb p p && eqb n n) (self_asker a) (and_from (eqb p p) (eqb n n) (eq-eqb p p refl) (eq-eqb n n refl))
 
 -- an ask that is opened
 with_one : (a : OpenAsk) (qs : List OpenAsk) (p : ℕ) (q : OpenAsk) → ask_to (with_ask a qs) p ≡ Some q → ((q ≡ a) × (p ≡ a.peer)) ⊎ (ask_to qs p ≡ Some q)
@@ -284,9 +277,6 @@ with_one a [] p q h = pick (eqb a.peer p) refl h
   where
     same : (u v : OpenAsk) → Some u ≡ Some v → v ≡ u
     same u v z = cc
-
-    none_ask : (q : OpenAsk) → None ≡ Some q → ⊥
-    none_ask q e = cc
 
     pick : (b : Bool) → eqb a.peer p ≡ b → cond b (Some a) None ≡ Some q → ((q ≡ a) × (p ≡ a.peer)) ⊎ (None ≡ Some q)
     pick true e z = inl (same a q z, sym (eqb-true a.peer p e))
@@ -332,11 +322,7 @@ worker_gathers : (w : World) (i x n : ℕ) (found : List ℕ) → AsksAnswered (
     → AsksAnswered (ask_to (worker_step (w.workers i) (Gathered x n found)).facts.asks) (Worker i) (requested (Worker i) w.requests (worker_step (w.workers i) (Gathered x n found)).out) (without_parcel (Worker i) x n w.answers)
 worker_gathers w i x n found h p q k = let g = gathered_closes (w.workers i) x n found p q k in
     ⊎_elim (λ r. inl (some_requested (Worker i) p q.number (Worker i) (worker_step (w.workers i) (Gathered x n found)).out w.requests r))
-    (λ r. inr (some_without (Worker i) p q.number (Worker i) x n w.answers (ap (λ b. same_asker (Worker i) (Worker i) && b) g.1 ∙ and_false (eqb i i)) r)) (h p q g.0)
-  where
-    and_false : (b : Bool) → (b && false) ≡ false
-    and_false true = refl
-    and_false false = refl
+    (λ r. inr (some_without (Worker i) p q.number (Worker i) x n w.answers (ap (λ b. same_asker (Worker i) (Worker i) && b) g.1 ∙ and-false (eqb i i)) r)) (h p q g.0)
 
 -- a client
 pub gets_asks : (ks : List ℕ) (c : ClientFacts) → (fold client_gets c ks).asks ≡ c.asks
@@ -374,21 +360,15 @@ client_closes c x n found p q = by_ask (ask_to c.asks x) refl
         ∙ gets_asks (keys_of (filter (λ i. is_in i.0 found) a.items)) (record c { asks = without_ask c.asks x }))) ∙ h) in (l.0, ap (λ b. b && eqb q.number n) l.1)
     over a e false i h = (h, by (eqb p x) refl)
       where
-        same : (u v : OpenAsk) → Some u ≡ Some v → u ≡ v
-        same u v z = cc
-
         by : (b : Bool) → eqb p x ≡ b → (b && eqb q.number n) ≡ false
-        by true m = ap (λ (y : OpenAsk). eqb y.number n) (same q a (sym h ∙ ap (ask_to c.asks) (eqb-true p x m) ∙ e)) ∙ i
+        by true m = ap (λ (y : OpenAsk). eqb y.number n) (same_Some q a (sym h ∙ ap (ask_to c.asks) (eqb-true p x m) ∙ e)) ∙ i
         by false m = refl
 
     by_ask : (o : Option OpenAsk) → ask_to c.asks x ≡ o → ask_to (client_gathered_by c x n found o).facts.asks p ≡ Some q → (ask_to c.asks p ≡ Some q) × ((eqb p x && eqb q.number n) ≡ false)
     by_ask None e h = (h, by (eqb p x) refl)
       where
-        none_ask : (q : OpenAsk) → None ≡ Some q → ⊥
-        none_ask q e = cc
-
         by : (b : Bool) → eqb p x ≡ b → (b && eqb q.number n) ≡ false
-        by true m = absurd (none_ask q (sym e ∙ ap (ask_to c.asks) (sym (eqb-true p x m)) ∙ h))
+        by true m = absurd (none-some q (sym e ∙ ap (ask_to c.asks) (sym (eqb-true p x m)) ∙ h))
         by false m = refl
     by_ask (Some a) e h = over a e (eqb a.number n) refl h
 
@@ -425,11 +405,7 @@ client_gathers : (w : World) (c x n : ℕ) (found : List ℕ) → AsksAnswered (
 unfolding client_step
 client_gathers w c x n found h p q k = let g = client_closes (w.clients c) x n found p q k in
     ⊎_elim (λ r. inl (some_client_requested (Client c) p q.number (Client c) (client_gathered (w.clients c) x n found).out w.requests r))
-    (λ r. inr (some_without (Client c) p q.number (Client c) x n w.answers (ap (λ b. same_asker (Client c) (Client c) && b) g.1 ∙ and_false (eqb c c)) r)) (h p q g.0)
-  where
-    and_false : (b : Bool) → (b && false) ≡ false
-    and_false true = refl
-    and_false false = refl
+    (λ r. inr (some_without (Client c) p q.number (Client c) x n w.answers (ap (λ b. same_asker (Client c) (Client c) && b) g.1 ∙ and-false (eqb c c)) r)) (h p q g.0)
 
 -- ## The world
 
@@ -462,54 +438,6 @@ alive_after w (Join threads) = put w.alive (w.sched.last_worker + 1) true
 alive_after w (Lose i) = put w.alive i false
 alive_after w _ = w.alive
 
-alive_gathered : (w : World) (a : Asker) (p n : ℕ) (found : List ℕ) → (gathered_at w a p n found).alive ≡ w.alive
-unfolding worked client_worked
-alive_gathered w (Worker i) p n found = refl
-alive_gathered w (Client c) p n found = refl
-
-alive_answer : (w : World) (o : Option Parcel) → (take_answer w o).alive ≡ w.alive
-alive_answer w None = refl
-alive_answer w (Some q) = alive_gathered (record w { answers = without_parcel q.asker q.peer q.ask w.answers }) q.asker q.peer q.ask q.keys
-
-alive_failed : (w : World) (a : Asker) (p : ℕ) (o : Option OpenAsk) → (fail_ask w a p o).alive ≡ w.alive
-unfolding worked client_worked
-alive_failed w a p None = refl
-alive_failed w (Worker i) p (Some q) = refl
-alive_failed w (Client c) p (Some q) = refl
-
-alive_asks : (w : World) (a : Asker) (p : ℕ) → (ask_by w a p).alive ≡ w.alive
-unfolding worked client_worked
-alive_asks w (Worker i) p = refl
-alive_asks w (Client c) p = refl
-
-alive_serves : (w : World) (p : ℕ) (o : Option Parcel) → (serve w p o).alive ≡ w.alive
-alive_serves w p None = refl
-alive_serves w p (Some q) = refl
-
-alive_down : (w : World) (i : ℕ) (ms : List Down) → (take_down_first w i ms).alive ≡ w.alive
-unfolding worked
-alive_down w i [] = refl
-alive_down w i (m ∷ ms) = refl
-
-alive_up : (w : World) (i : ℕ) (ms : List Up) → (take_up_first w i ms).alive ≡ w.alive
-unfolding scheduled
-alive_up w i [] = refl
-alive_up w i (m ∷ ms) = pick (is_connected w i)
-  where
-    pick : (b : Bool) → (take_up (record w { up = put w.up i ms }) i m b).alive ≡ w.alive
-    pick true = refl
-    pick false = refl
-
-alive_news : (w : World) (c : ℕ) (ms : List ToClient) → (take_to_client w c ms).alive ≡ w.alive
-unfolding client_worked
-alive_news w c [] = refl
-alive_news w c (m ∷ ms) = refl
-
-alive_letter : (w : World) (c : ℕ) (ms : List ClientMessage) → (take_from_client w c ms).alive ≡ w.alive
-unfolding scheduled
-alive_letter w c [] = refl
-alive_letter w c (m ∷ ms) = refl
-
 pub alive_is : (j : Job) (w : World) (e : Event) → (world_step j w e).alive ≡ alive_after w e
 unfolding world_step scheduled worked client_worked
 alive_is j w (Want c ks) = refl
@@ -519,15 +447,15 @@ alive_is j w (Lose i) = refl
 alive_is j w (SeeLoss i) = refl
 alive_is j w (Suspect i) = refl
 alive_is j w (DeliverDown i) = alive_down w i (w.down i)
-alive_is j w (DeliverUp i) = alive_up w i (w.up i)
-alive_is j w (DeliverToClient c) = alive_news w c (w.to_client c)
-alive_is j w (DeliverFromClient c) = alive_letter w c (w.from_client c)
+alive_is j w (DeliverUp i) = alive_ups w i (w.up i)
+alive_is j w (DeliverToClient c) = alive_to_client w c (w.to_client c)
+alive_is j w (DeliverFromClient c) = alive_from_client w c (w.from_client c)
 alive_is j w (Start i) = refl
 alive_is j w (Finish i k) = refl
 alive_is j w (SendGather a p) = alive_asks w a p
 alive_is j w (ServeGather p a n) = alive_serves w p (parcel_of a p n w.requests)
 alive_is j w (ArriveGather a p n) = alive_answer w (parcel_of a p n w.answers)
-alive_is j w (FailGather a p) = alive_failed w a p (open_ask w a p)
+alive_is j w (FailGather a p) = alive_fails w a p (open_ask w a p)
 alive_is j w Balance = refl
 alive_is j w Evict = refl
 alive_is j w (Spill i k) = refl
@@ -577,14 +505,14 @@ module _ (w : World) (h : (a : Asker) → is_asker w a ≡ true → Answers w a)
       moved b p2 n (inl e) = pick (IsSame b p2 n r.asker r.peer r.ask) refl
         where
           turn : (x y : Asker) → same_asker x y ≡ true → same_asker y x ≡ true
-          turn (Worker x) (Worker y) s = same_eqb y x (sym (eqb-true x y s))
-          turn (Client x) (Client y) s = same_eqb y x (sym (eqb-true x y s))
+          turn (Worker x) (Worker y) s = eq-eqb y x (sym (eqb-true x y s))
+          turn (Client x) (Client y) s = eq-eqb y x (sym (eqb-true x y s))
           turn (Worker x) (Client y) s = absurd (false≢true s)
           turn (Client x) (Worker y) s = absurd (false≢true s)
 
           pick : (c : Bool) → IsSame b p2 n r.asker r.peer r.ask ≡ c → UnderWay b p2 n (without_parcel r.asker r.peer r.ask w.requests) (with_parcel (record r { keys = filter (w.workers p).mem r.keys }) w.answers)
           pick true s = let t = and_parts (same_asker b r.asker) (eqb p2 r.peer && eqb n r.ask) s in let v = and_parts (eqb p2 r.peer) (eqb n r.ask) t.1 in
-              inr (some_with b p2 n (record r { keys = filter (w.workers p).mem r.keys }) w.answers (inl (and_from (same_asker r.asker b) (eqb r.peer p2 && eqb r.ask n) (turn b r.asker t.0) (and_from (eqb r.peer p2) (eqb r.ask n) (same_eqb r.peer p2 (sym (eqb-true p2 r.peer v.0))) (same_eqb r.ask n (sym (eqb-true n r.ask v.1)))))))
+              inr (some_with b p2 n (record r { keys = filter (w.workers p).mem r.keys }) w.answers (inl (and_from (same_asker r.asker b) (eqb r.peer p2 && eqb r.ask n) (turn b r.asker t.0) (and_from (eqb r.peer p2) (eqb r.ask n) (eq-eqb r.peer p2 (sym (eqb-true p2 r.peer v.0))) (eq-eqb r.ask n (sym (eqb-true n r.ask v.1)))))))
           pick false s = inl (some_without b p2 n r.asker r.peer r.ask w.requests s e)
 
       kept : (b : Asker) → is_asker w b ≡ true → AsksAnswered (open_ask w b) b (without_parcel r.asker r.peer r.ask w.requests) (with_parcel (record r { keys = filter (w.workers p).mem r.keys }) w.answers)
@@ -597,7 +525,7 @@ module _ (w : World) (h : (a : Asker) → is_asker w a ≡ true → Answers w a)
   an_answer : (a : Asker) (p n : ℕ) (o : Option Parcel) → parcel_of a p n w.answers ≡ o → is_asker w a ≡ true → (b : Asker) → is_asker w b ≡ true → Answers (take_answer w o) b
   unfolding worked client_worked
   an_answer a p n None e t b u = h b u
-  an_answer a p n (Some q) e t b u = by q.asker (asker_of (and_parts (same_asker q.asker a) _ (find_passes_any (is_parcel a p n) w.answers q e)).0)
+  an_answer a p n (Some q) e t b u = by q.asker (asker_of (and_parts (same_asker q.asker a) _ (find_passes (is_parcel a p n) w.answers q e)).0)
     where
       asker_of : same_asker q.asker a ≡ true → is_asker w q.asker ≡ true
       asker_of s = ap (is_asker w) (same_asker_is q.asker a s) ∙ t
@@ -639,11 +567,8 @@ module _ (w : World) (h : (a : Asker) → is_asker w a ≡ true → Answers w a)
   an_joined i threads (Client c) u = h (Client c) u
   an_joined i threads (Worker x) u = pick (eqb x i) u
     where
-      none_ask : (q : OpenAsk) → None ≡ Some q → ⊥
-      none_ask q e = cc
-
       pick : (d : Bool) → cond d true (w.alive x) ≡ true → AsksAnswered (ask_to (cond d (new_worker (shape_of w) i threads) (w.workers x)).asks) (Worker x) w.requests w.answers
-      pick true u p q k = absurd (none_ask q k)
+      pick true u p q k = absurd (none-some q k)
       pick false u p q k = h (Worker x) u p q k
 
   an_died : (i : ℕ) (b : Asker) → is_asker (died w i) b ≡ true → Answers (died w i) b

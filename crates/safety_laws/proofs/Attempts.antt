@@ -1,5 +1,6 @@
 -- A key gets another attempt only once the earlier one has ended.
 use Rattle.std.proofs.Common.{◌≡◌, ℕ, ◌<◌, ◌≤◌, true, List, [], ◌∷◌, ◌++◌, Option, Some, None, refl, sym, ap, ◌∙◌, subst, arith, inl, inr, ◌⊎◌, ⊎_elim, append_assoc}
+use Rattle.small_facts.proofs.Options.{same_second}
 use Rattle.cluster_msgs.specs.Shape.{Shape}
 use Rattle.cluster_msgs.specs.declared.cores.SchedEvent.{SchedEvent}
 use Rattle.cluster_msgs.specs.declared.events.Event.{Event}
@@ -75,9 +76,6 @@ module _ (j : Job) (job : IsJob j) (i k a : ℕ) where
           later (inr r) = inr (ends_later j w e es i k a r)
       pick (inr s) rest = inr (record { before = []; ending = e; later = es; whole = refl; ends = s })
 
-same_place : (p q : ℕ × ℕ) → Some p ≡ Some q → p.1 ≡ q.1
-same_place p q e = let z : p ≡ q = cc in ap (λ (r : ℕ × ℕ). r.1) z
-
 -- where another attempt is given, the first has ended by then
 pub attempt_ended : (j : Job) → IsJob j → (before between later : List Event) (d e : Event) (v w k a b : ℕ) → legal j (before ++ d ∷ (between ++ e ∷ later))
     → Gives j (reached j before) d v k a → Gives j (reached j (before ++ d ∷ between)) e w k b → Ended j (before ++ d ∷ (between ++ e ∷ [])) v k a
@@ -123,5 +121,5 @@ attempt_ended j job before between later d e v w k a b l first second =
             let c : (run_from j w0 between).sched.counter ≤ b = subst (λ (x : World). x.sched.counter ≤ b) same second.fresh in
             let g : (world_step j (run_from j w0 between) e).sched.on k ≡ Some (w, b) = subst (λ (x : World). (world_step j x e).sched.on k ≡ Some (w, b)) same second.given in
             let z : (world_step j (run_from j w0 between) e).sched.on k ≡ Some (v, a) = ap (λ (x : World). x.sched.on k) (sym (run-append j w0 between (e ∷ []))) ∙ s in
-            let y : a ≡ b = same_place (v, a) (w, b) (sym z ∙ g) in
+            let y : a ≡ b = same_second (v, a) (w, b) (sym z ∙ g) in
             absurd (omega (arith, n, c, y))

@@ -1,12 +1,11 @@
 -- What each client waits for is known to it or on its way, after every event of the world.
 use Rattle.std.proofs.Common.{◌≡◌, ℕ, ◌+◌, Bool, true, false, cond, not, ◌&&◌, ◌||◌, List, [], ◌∷◌, Option, Some, None, refl, sym, ap, ◌∙◌, subst, inl, inr, ⊎_elim}
-use Rattle.std.proofs.lemmas.Bool.{false≢true, eqb-true}
+use Rattle.std.proofs.lemmas.Bool.{false≢true, eqb-true, eq-eqb}
 use Rattle.std.proofs.Math.Dec.{eqb}
 use Rattle.cluster_msgs.specs.declared.messages.Up.TheVariants.{TaskFinished, MissingData, StealResponse}
 use Rattle.cluster_rules.specs.Functions.{put}
 use Rattle.cluster_rules.specs.Derived.{is_in}
 use Rattle.cluster_rules.specs.Worker.{Ask as OpenAsk, ask_to, without_ask}
-use Rattle.cluster_rules.proofs.SchedFrame.{same_eqb}
 use Rattle.cluster_msgs.specs.declared.messages.Up.{Up}
 use Rattle.cluster_msgs.specs.declared.messages.FromClient.{FromClient as ClientMessage}
 use Rattle.cluster_msgs.specs.declared.cores.SchedEvent.{SchedEvent}
@@ -27,9 +26,12 @@ use Rattle.cluster_rules.specs.SchedStep.{sched_step, settle}
 use Rattle.cluster_rules.specs.Worker.{with_ask}
 use Rattle.cluster_rules.proofs.SchedFrame.{step_settles}
 use Rattle.std.proofs.lemmas.Bool.{or_cases}
+use Rattle.std.proofs.Math.Bool.{or-false, and-true}
+use Rattle.small_facts.proofs.Numbers.{eqb_turned}
+use Rattle.small_facts.proofs.Options.{some_not_none}
+use Rattle.small_facts.proofs.Truth.{or_without}
 use Rattle.cluster_rules.specs.Sched.{holds, connected, is_on}
 use Rattle.cluster_rules.specs.SchedTable.{wants_more, wants_less}
-use Rattle.cluster_rules.proofs.DerivedLemmas.{eqb_comm}
 use Rattle.safety_laws.specs.Lively.{wants_then, wants_at_last, names_want, misses}
 use Rattle.safety_laws.proofs.Served.{IsTurn}
 use Rattle.safety_laws.proofs.Waiting.{AreDistinct}
@@ -41,36 +43,30 @@ pub distinct_with : (a : OpenAsk) (qs : List OpenAsk) → ask_to qs a.peer ≡ N
 distinct_with a [] n d = (refl, tt)
 distinct_with a (q ∷ qs) n d = pick (nat_lt a.peer q.peer) (eqb q.peer a.peer) refl n (λ m. distinct_with a qs m d.1)
   where
-    some_none : (y : OpenAsk) → Some y ≡ None → ⊥
-    some_none y z = cc
-
     other : (p : ℕ) (xs : List OpenAsk) → eqb a.peer p ≡ false → ask_to xs p ≡ None → ask_to (with_ask a xs) p ≡ None
     other p [] e m = ap (λ b. cond b (Some a) None) e
     other p (x ∷ xs) e m = by (nat_lt a.peer x.peer) (eqb x.peer p) refl m (λ r. other p xs e r)
       where
         by : (b c : Bool) → eqb x.peer p ≡ c → cond c (Some x) (ask_to xs p) ≡ None → (ask_to xs p ≡ None → ask_to (with_ask a xs) p ≡ None) → ask_to (cond b (a ∷ x ∷ xs) (x ∷ with_ask a xs)) p ≡ None
-        by b true i m rest = absurd (some_none x m)
+        by b true i m rest = absurd (some_not_none x m)
         by true false i m rest = ap (λ u. cond u (Some a) (cond (eqb x.peer p) (Some x) (ask_to xs p))) e ∙ ap (λ u. cond u (Some x) (ask_to xs p)) i ∙ m
         by false false i m rest = ap (λ u. cond u (Some x) (ask_to (with_ask a xs) p)) i ∙ rest m
 
     pick : (b c : Bool) → eqb q.peer a.peer ≡ c → cond c (Some q) (ask_to qs a.peer) ≡ None → (ask_to qs a.peer ≡ None → AreDistinct (with_ask a qs)) → AreDistinct (cond b (a ∷ q ∷ qs) (q ∷ with_ask a qs))
-    pick b true e m rest = absurd (some_none q m)
+    pick b true e m rest = absurd (some_not_none q m)
     pick true false e m rest = (ap (λ u. cond u (Some q) (ask_to qs a.peer)) e ∙ m, d)
-    pick false false e m rest = (other q.peer qs (eqb_comm a.peer q.peer ∙ e) d.0, rest m)
+    pick false false e m rest = (other q.peer qs (eqb_turned a.peer q.peer ∙ e) d.0, rest m)
 
 pub distinct_without : (p : ℕ) (qs : List OpenAsk) → AreDistinct qs → AreDistinct (without_ask qs p)
 distinct_without p [] d = tt
 distinct_without p (q ∷ qs) d = pick (eqb q.peer p) (distinct_without p qs d.1)
   where
-    some_none : (y : OpenAsk) → Some y ≡ None → ⊥
-    some_none y z = cc
-
     still : (n : ℕ) (xs : List OpenAsk) → ask_to xs n ≡ None → ask_to (without_ask xs p) n ≡ None
     still n [] e = refl
     still n (x ∷ xs) e = by (eqb x.peer p) (eqb x.peer n) refl e (λ r. still n xs r)
       where
         by : (b c : Bool) → eqb x.peer n ≡ c → cond c (Some x) (ask_to xs n) ≡ None → (ask_to xs n ≡ None → ask_to (without_ask xs p) n ≡ None) → ask_to (cond (not b) (x ∷ without_ask xs p) (without_ask xs p)) n ≡ None
-        by b true i m rest = absurd (some_none x m)
+        by b true i m rest = absurd (some_not_none x m)
         by true false i m rest = rest m
         by false false i m rest = ap (λ u. cond u (Some x) (ask_to (without_ask xs p) n)) i ∙ rest m
 
@@ -163,22 +159,14 @@ turn_quiet w v s c k o from = record {
 -- a client's message
 letter_want : (f : Facts) (x : ℕ) (m : ClientMessage) (k : ℕ) → (change_client f x m).facts.want x k ≡ wants_then k m (f.want x k)
 unfolding wants_more wants_less
-letter_want f x (WantMessage ks) k = ap (λ b. f.want x k || (b && is_in k ks)) (same_eqb x x refl)
-letter_want f x (ReleaseMessage ks) k = ap (λ b. f.want x k && not (b && is_in k ks)) (same_eqb x x refl)
+letter_want f x (WantMessage ks) k = ap (λ b. f.want x k || (b && is_in k ks)) (eq-eqb x x refl)
+letter_want f x (ReleaseMessage ks) k = ap (λ b. f.want x k && not (b && is_in k ks)) (eq-eqb x x refl)
 letter_want f x (MissingMessage q p n) k = ap (λ (y : ℕ → ℕ → Bool). y x k) (want_lost f p q n)
 
 other_want : (f : Facts) (x : ℕ) (m : ClientMessage) (c k : ℕ) → eqb c x ≡ false → (change_client f x m).facts.want c k ≡ f.want c k
 unfolding wants_more wants_less
-other_want f x (WantMessage ks) c k e = ap (λ b. f.want c k || (b && is_in k ks)) e ∙ or_false (f.want c k)
-  where
-    or_false : (b : Bool) → (b || false) ≡ b
-    or_false true = refl
-    or_false false = refl
-other_want f x (ReleaseMessage ks) c k e = ap (λ b. f.want c k && not (b && is_in k ks)) e ∙ and_true (f.want c k)
-  where
-    and_true : (b : Bool) → (b && true) ≡ b
-    and_true true = refl
-    and_true false = refl
+other_want f x (WantMessage ks) c k e = ap (λ b. f.want c k || (b && is_in k ks)) e ∙ or-false (f.want c k)
+other_want f x (ReleaseMessage ks) c k e = ap (λ b. f.want c k && not (b && is_in k ks)) e ∙ and-true (f.want c k)
 other_want f x (MissingMessage q p n) c k e = ap (λ (y : ℕ → ℕ → Bool). y c k) (want_lost f p q n)
 
 asked_names : (f : Facts) (x : ℕ) (m : ClientMessage) (k : ℕ) → (change_client f x m).asked k ≡ false → names_want k m ≡ false
@@ -187,11 +175,7 @@ asked_names f x (ReleaseMessage ks) k e = refl
 asked_names f x (MissingMessage q p n) k e = refl
 
 then_grown : (k : ℕ) (m : ClientMessage) (b : Bool) → wants_then k m b ≡ true → names_want k m ≡ false → b ≡ true
-then_grown k (WantMessage ks) b e n = by b (is_in k ks) e n
-  where
-    by : (b i : Bool) → (b || i) ≡ true → i ≡ false → b ≡ true
-    by true i e n = refl
-    by false i e n = absurd (false≢true (sym n ∙ e))
+then_grown k (WantMessage ks) b e n = or_without b (is_in k ks) e n
 then_grown k (ReleaseMessage ks) b e n = (and_parts b (not (is_in k ks)) e).0
 then_grown k (MissingMessage q p c) b e n = e
 
@@ -219,7 +203,7 @@ turn_letter w x m ms c k e = pick (eqb c x) refl
         from = ap w.from_client s ∙ e
 
         popped : put w.from_client x ms c ≡ ms
-        popped = ap (λ b. cond b ms (w.from_client c)) (same_eqb c x s)
+        popped = ap (λ b. cond b ms (w.from_client c)) (eq-eqb c x s)
 
         now : (sched_step w.sched (FromClient x m)).facts.want c k ≡ wants_then k m (w.sched.want c k)
         now = step_want ∙ subst (λ y. (change_client w.sched x m).facts.want y k ≡ wants_then k m (w.sched.want y k)) (sym s) (letter_want w.sched x m k)

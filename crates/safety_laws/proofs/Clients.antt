@@ -1,6 +1,6 @@
 -- What each client waits for is known to it or on its way, after every event of the world.
 use Rattle.std.proofs.Common.{◌≡◌, ℕ, Bool, true, false, cond, not, ◌&&◌, ◌||◌, List, [], ◌∷◌, ◌++◌, Some, refl, sym, ap, ◌∙◌, subst, is_some, inl, inr, ◌⊎◌}
-use Rattle.std.proofs.lemmas.Bool.{true≢false, false≢true, eqb-true}
+use Rattle.std.proofs.lemmas.Bool.{false≢true, eqb-true, or_parts}
 use Rattle.cluster_rules.specs.Functions.{put}
 use Rattle.cluster_msgs.specs.declared.messages.ToClient.{ToClient}
 use Rattle.cluster_msgs.specs.declared.messages.FromClient.{FromClient as ClientMessage}
@@ -12,21 +12,14 @@ use Rattle.cluster_rules.specs.Worker.{has_any}
 use Rattle.cluster_rules.specs.Client.{ClientFacts, hear}
 use Rattle.std.proofs.lemmas.Bool.{or_cases}
 use Rattle.std.proofs.lemmas.List.Folds.{list_any-append}
-use Rattle.cluster_rules.proofs.DerivedLemmas.{eqb_comm}
-use Rattle.cluster_rules.proofs.SchedFrame.{or_true}
+use Rattle.std.proofs.Math.Bool.{or-true}
+use Rattle.small_facts.proofs.Numbers.{eqb_turned}
 use Rattle.safety_laws.specs.Lively.{is_news, last_news, tells_memory, tells_error}
 use Rattle.cluster_rules.specs.Worker.{is_asked_for}
 use Rattle.safety_laws.specs.Lively.{IsServed, wants_at_last, names_want, misses}
 use Rattle.safety_laws.proofs.Waiting.{IsOwnTurn, wants-append}
 
 -- ## A client's own event
-
-any-append : {A : Type 0} (t : A → Bool) (xs ys : List A) → list_any t (xs ++ ys) ≡ (list_any t xs || list_any t ys)
-any-append t xs ys = list_any-append t xs ys
-
-parts : (a b : Bool) → (a || b) ≡ false → (a ≡ false) × (b ≡ false)
-parts true b e = absurd (true≢false e)
-parts false b e = (refl, e)
 
 pub served_own : (w : World) (c k : ℕ) (d : ClientFacts) (ms : List ClientMessage) (v : World) → v.sched ≡ w.sched → v.to_client c ≡ w.to_client c → v.clients c ≡ d → v.from_client c ≡ w.from_client c ++ ms → IsOwnTurn k (w.clients c) d ms → IsServed w c k → IsServed v c k
 served_own w c k d ms v sched to cl from t h = record {
@@ -35,7 +28,7 @@ served_own w c k d ms v sched to cl from t h = record {
   erred_told = λ e n er. ap (λ l. last_news tells_error k l false) to ∙ h.erred_told (same_want e) (ap (list_any (is_news k)) (sym to) ∙ n) (ap (λ (f : Facts). erred f k) (sym sched) ∙ er);
   erred_known = λ e u er n m. let p = names n in let x = mine u in ap (λ (y : ClientFacts). y.got k || is_some (y.failed k)) cl ∙ t.ended x (h.erred_known (same_want e) (t.wanted x p.1) (ap (λ (f : Facts). erred f k) (sym sched) ∙ er) p.0 (ap (list_any (is_news k)) (sym to) ∙ m));
   held_known = λ e u hd n m. let p = names n in let x = mine u in ap (λ (y : ClientFacts). y.got k || (has_any (y.located k) || (is_asked_for y.asks k || list_any (misses k) (v.from_client c)))) cl
-      ∙ ap (λ l. d.got k || (has_any (d.located k) || (is_asked_for d.asks k || list_any (misses k) l))) from ∙ ap (λ b. d.got k || (has_any (d.located k) || (is_asked_for d.asks k || b))) (any-append (misses k) (w.from_client c) ms)
+      ∙ ap (λ l. d.got k || (has_any (d.located k) || (is_asked_for d.asks k || list_any (misses k) l))) from ∙ ap (λ b. d.got k || (has_any (d.located k) || (is_asked_for d.asks k || b))) (list_any-append (misses k) (w.from_client c) ms)
       ∙ known ((w.clients c).got k) (has_any ((w.clients c).located k)) (is_asked_for (w.clients c).asks k) (list_any (misses k) (w.from_client c)) (t.known x)
       (h.held_known (same_want e) (t.wanted x p.1) (ap (λ (f : Facts). held f k) (sym sched) ∙ hd) p.0 (ap (list_any (is_news k)) (sym to) ∙ m));
 }
@@ -47,7 +40,7 @@ served_own w c k d ms v sched to cl from t h = record {
     mine u = ap (λ (x : ClientFacts). x.wants k) (sym cl) ∙ u
 
     names : list_any (names_want k) (v.from_client c) ≡ false → (list_any (names_want k) (w.from_client c) ≡ false) × (list_any (names_want k) ms ≡ false)
-    names n = parts (list_any (names_want k) (w.from_client c)) (list_any (names_want k) ms) (sym (any-append (names_want k) (w.from_client c) ms) ∙ ap (list_any (names_want k)) (sym from) ∙ n)
+    names n = or_parts (list_any (names_want k) (w.from_client c)) (list_any (names_want k) ms) (sym (list_any-append (names_want k) (w.from_client c) ms) ∙ ap (list_any (names_want k)) (sym from) ∙ n)
 
     known : (a b x y : Bool) → ((a || (b || x)) ≡ true → (d.got k || (has_any (d.located k) || (is_asked_for d.asks k || list_any (misses k) ms))) ≡ true) → (a || (b || (x || y))) ≡ true → (d.got k || (has_any (d.located k) || (is_asked_for d.asks k || (y || list_any (misses k) ms)))) ≡ true
     known a b x true f e = all_true (d.got k) (has_any (d.located k)) (is_asked_for d.asks k)
@@ -72,13 +65,13 @@ unfolding hear
 hears_known c k (KeyInMemory q hs) e = pick (c.wants q && not (c.got q))
   where
     pick : (b : Bool) → let d = cond b (record c { located = put c.located q hs }) c in (d.located k ≡ c.located k) × ((d.failed k ≡ c.failed k) × (d.got ≡ c.got))
-    pick true = (ap (λ b. cond b hs (c.located k)) (eqb_comm k q ∙ e), (refl, refl))
+    pick true = (ap (λ b. cond b hs (c.located k)) (eqb_turned k q ∙ e), (refl, refl))
     pick false = (refl, (refl, refl))
-hears_known c k (LostData q) e = (ap (λ b. cond b [] (c.located k)) (eqb_comm k q ∙ e), (refl, refl))
+hears_known c k (LostData q) e = (ap (λ b. cond b [] (c.located k)) (eqb_turned k q ∙ e), (refl, refl))
 hears_known c k (ClientTaskErred q x) e = pick (c.wants q && not (c.got q))
   where
     pick : (b : Bool) → let d = cond b (record c { failed = put c.failed q (Some x); located = put c.located q [] }) c in (d.located k ≡ c.located k) × ((d.failed k ≡ c.failed k) × (d.got ≡ c.got))
-    pick true = (ap (λ b. cond b [] (c.located k)) (eqb_comm k q ∙ e), (ap (λ b. cond b (Some x) (c.failed k)) (eqb_comm k q ∙ e), refl))
+    pick true = (ap (λ b. cond b [] (c.located k)) (eqb_turned k q ∙ e), (ap (λ b. cond b (Some x) (c.failed k)) (eqb_turned k q ∙ e), refl))
     pick false = (refl, (refl, refl))
 
 pub hears_same : (c : ClientFacts) (m : ToClient) → ((hear c m).wants ≡ c.wants) × ((hear c m).asks ≡ c.asks)
@@ -102,7 +95,7 @@ hears_error c k (ClientTaskErred q x) e t w = pick (c.got k) refl
   where
     at : (b : Bool) → c.got k ≡ b → let d = cond (not b) (record c { failed = put c.failed q (Some x); located = put c.located q [] }) c in (d.got k || is_some (d.failed k)) ≡ true
     at true g = ap (λ u. u || is_some (c.failed k)) g
-    at false g = ap (λ u. c.got k || is_some (cond u (Some x) (c.failed k))) (eqb_comm k q ∙ e) ∙ or_true (c.got k)
+    at false g = ap (λ u. c.got k || is_some (cond u (Some x) (c.failed k))) (eqb_turned k q ∙ e) ∙ or-true (c.got k)
 
     pick : (b : Bool) → c.got k ≡ b → let d = cond (c.wants q && not (c.got q)) (record c { failed = put c.failed q (Some x); located = put c.located q [] }) c in (d.got k || is_some (d.failed k)) ≡ true
     pick b g = subst (λ u. let d = cond u (record c { failed = put c.failed q (Some x); located = put c.located q [] }) c in (d.got k || is_some (d.failed k)) ≡ true) (sym (ap (λ y. c.wants y && not (c.got y)) (eqb-true q k e) ∙ ap (λ u. u && not (c.got k)) w ∙ ap not g)) (at b g)
@@ -115,7 +108,7 @@ hears_memory c k (KeyInMemory q hs) e t w = pick (c.got k) refl
   where
     at : (b : Bool) → c.got k ≡ b → let d = cond (not b) (record c { located = put c.located q hs }) c in (d.got k || has_any (d.located k)) ≡ true
     at true g = ap (λ u. u || has_any (c.located k)) g
-    at false g = ap (λ u. c.got k || has_any (cond u hs (c.located k))) (eqb_comm k q ∙ e) ∙ ap (λ u. c.got k || u) t ∙ or_true (c.got k)
+    at false g = ap (λ u. c.got k || has_any (cond u hs (c.located k))) (eqb_turned k q ∙ e) ∙ ap (λ u. c.got k || u) t ∙ or-true (c.got k)
 
     pick : (b : Bool) → c.got k ≡ b → let d = cond (c.wants q && not (c.got q)) (record c { located = put c.located q hs }) c in (d.got k || has_any (d.located k)) ≡ true
     pick b g = subst (λ u. let d = cond u (record c { located = put c.located q hs }) c in (d.got k || has_any (d.located k)) ≡ true) (sym (ap (λ y. c.wants y && not (c.got y)) (eqb-true q k e) ∙ ap (λ u. u && not (c.got k)) w ∙ ap not g)) (at b g)
@@ -134,7 +127,7 @@ last_rest t k (m ∷ ms) a b e = pick (is_news k m) refl (or_cases (is_news k m)
 
 none_last : (t : ToClient → Bool) (k : ℕ) (ms : List ToClient) (a : Bool) → list_any (is_news k) ms ≡ false → last_news t k ms a ≡ a
 none_last t k [] a e = refl
-none_last t k (m ∷ ms) a e = let p = parts (is_news k m) (list_any (is_news k) ms) e in ap (λ d. last_news t k ms (cond d (t m) a)) p.0 ∙ none_last t k ms a p.1
+none_last t k (m ∷ ms) a e = let p = or_parts (is_news k m) (list_any (is_news k) ms) e in ap (λ d. last_news t k ms (cond d (t m) a)) p.0 ∙ none_last t k ms a p.1
 
 pub served_hear : (w : World) (c k : ℕ) (m : ToClient) (ms : List ToClient) (v : World) → w.to_client c ≡ m ∷ ms → v.sched ≡ w.sched → v.to_client c ≡ ms → v.clients c ≡ hear (w.clients c) m → v.from_client c ≡ w.from_client c → IsServed w c k → IsServed v c k
 served_hear w c k m ms v e sched to cl from h = record {
@@ -160,7 +153,7 @@ served_hear w c k m ms v e sched to cl from h = record {
     none z = ap (list_any (is_news k)) (sym to) ∙ z
 
     told : (t : ToClient → Bool) → (list_any (is_news k) (w.to_client c) ≡ true → last_news t k (w.to_client c) false ≡ true) → list_any (is_news k) (v.to_client c) ≡ true → last_news t k (v.to_client c) false ≡ true
-    told t f n = let r = ap (list_any (is_news k)) (sym to) ∙ n in ap (λ l. last_news t k l false) to ∙ last_rest t k ms false (cond (is_news k m) (t m) false) r ∙ ap (λ l. last_news t k l false) (sym e) ∙ f (ap (list_any (is_news k)) e ∙ ap (λ b. is_news k m || b) r ∙ or_true (is_news k m))
+    told t f n = let r = ap (list_any (is_news k)) (sym to) ∙ n in ap (λ l. last_news t k l false) to ∙ last_rest t k ms false (cond (is_news k m) (t m) false) r ∙ ap (λ l. last_news t k l false) (sym e) ∙ f (ap (list_any (is_news k)) e ∙ ap (λ b. is_news k m || b) r ∙ or-true (is_news k m))
 
     -- the news was the last
     this_is : (t : ToClient → Bool) → is_news k m ≡ true → list_any (is_news k) ms ≡ false → (list_any (is_news k) (w.to_client c) ≡ true → last_news t k (w.to_client c) false ≡ true) → t m ≡ true

@@ -1,10 +1,12 @@
 -- Who is there, and what each worker keeps, after every event of the world.
-use Rattle.std.proofs.Common.{◌≡◌, ℕ, ◌+◌, ◌<◌, ◌≤◌, Bool, true, false, cond, not, ◌&&◌, find, List, [], ◌∷◌, ◌++◌, Option, Some, None, refl, sym, ap, ◌∙◌, subst, arith, is_some, inl, inr, ◌⊎◌}
+use Rattle.std.proofs.Common.{◌≡◌, ℕ, ◌+◌, ◌<◌, ◌≤◌, Bool, true, false, cond, not, ◌&&◌, List, [], ◌∷◌, ◌++◌, Option, Some, None, refl, sym, ap, ◌∙◌, subst, arith, is_some, inl, inr, ◌⊎◌}
 use Rattle.std.specs.Prelude.{nat_le}
 use Rattle.std.specs.List.{AllByRecursion}
 use Rattle.std.proofs.lemmas.Bool.{true≢false, false≢true, eqb-true, and_parts, and_from}
 use Rattle.std.proofs.lemmas.Bool.Decides.{nat_tests}
 use Rattle.std.proofs.Math.Dec.{eqb}
+use Rattle.small_facts.proofs.Lists.{cons_not_nil}
+use Rattle.small_facts.proofs.Options.{find_passes}
 use Rattle.cluster_msgs.specs.Shape.{Shape, key_count}
 use Rattle.cluster_msgs.specs.declared.messages.Down.{Down}
 use Rattle.cluster_msgs.specs.declared.messages.Up.{Up}
@@ -161,26 +163,20 @@ module _ (g : Shape) (clients last : ℕ) where
   h_down_less : (w : World) (i : ℕ) (m : Down) (ms : List Down) → w.down i ≡ m ∷ ms → H w → H (record w { down = put w.down i ms })
   h_down_less w i m ms e h = record {
     kept = h.kept;
-    bare = λ x l. let b = h.bare x l in record { alive = b.alive; down = at_one i (λ c y. w.down y ≡ [] → cond c ms (w.down y) ≡ []) (λ n. absurd (cons_nil m ms (sym e ∙ n))) (λ y n. n) x b.down; up = b.up; spilled = b.spilled };
+    bare = λ x l. let b = h.bare x l in record { alive = b.alive; down = at_one i (λ c y. w.down y ≡ [] → cond c ms (w.down y) ≡ []) (λ n. absurd (cons_not_nil m ms (sym e ∙ n))) (λ y n. n) x b.down; up = b.up; spilled = b.spilled };
     letters = h.letters;
     spilled = h.spilled;
     mine = h.mine;
   }
-    where
-      cons_nil : (m : Down) (ms : List Down) → m ∷ ms ≡ [] → ⊥
-      cons_nil m ms e = cc
 
   h_up_less : (w : World) (i : ℕ) (m : Up) (ms : List Up) → w.up i ≡ m ∷ ms → H w → H (record w { up = put w.up i ms })
   h_up_less w i m ms e h = record {
     kept = h.kept;
-    bare = λ x l. let b = h.bare x l in record { alive = b.alive; down = b.down; up = at_one i (λ c y. w.up y ≡ [] → cond c ms (w.up y) ≡ []) (λ n. absurd (cons_nil m ms (sym e ∙ n))) (λ y n. n) x b.up; spilled = b.spilled };
+    bare = λ x l. let b = h.bare x l in record { alive = b.alive; down = b.down; up = at_one i (λ c y. w.up y ≡ [] → cond c ms (w.up y) ≡ []) (λ n. absurd (cons_not_nil m ms (sym e ∙ n))) (λ y n. n) x b.up; spilled = b.spilled };
     letters = h.letters;
     spilled = h.spilled;
     mine = h.mine;
   }
-    where
-      cons_nil : (m : Up) (ms : List Up) → m ∷ ms ≡ [] → ⊥
-      cons_nil m ms e = cc
 
   h_letter_less : (w : World) (c : ℕ) (m : ClientMessage) (ms : List ClientMessage) → w.from_client c ≡ m ∷ ms → H w → H (record w { from_client = put w.from_client c ms })
   h_letter_less w c m ms e h = record {
@@ -216,20 +212,6 @@ last_more f s = let e : (sched_step f s).facts.last_worker ≡ (change f s).fact
 last_joined : (f : Facts) (threads : ℕ) → f.last_worker + 1 ≤ (sched_step f (JoinSched threads)).facts.last_worker
 unfolding joined
 last_joined f threads = let e : (sched_step f (JoinSched threads)).facts.last_worker ≡ f.last_worker + 1 = (step_settles f (JoinSched threads)).last_worker in omega arith
-
-pub find_passes_any : {A : Type 0} (t : A → Bool) (xs : List A) (x : A) → find t xs ≡ Some x → t x ≡ true
-find_passes_any {A} t [] x e = absurd (none e)
-  where
-    none : ◌≡◌ {A = Option A} None (Some x) → ⊥
-    none e = cc
-find_passes_any {A} t (y ∷ xs) x e = pick (t y) refl e (find_passes_any t xs x)
-  where
-    same : Some y ≡ Some x → y ≡ x
-    same i = cc
-
-    pick : (b : Bool) → t y ≡ b → cond b (Some y) (find t xs) ≡ Some x → (find t xs ≡ Some x → t x ≡ true) → t x ≡ true
-    pick true i m r = subst (λ z. t z ≡ true) (same m) i
-    pick false i m r = r m
 
 module _ (j : Job) where
   abbrev Home : World → Type 0
@@ -305,7 +287,7 @@ module _ (j : Job) where
     step_serves p (Some q) = h_same j.setting.shape j.setting.clients w.sched.last_worker w (serve w p (Some q)) refl refl refl refl refl refl h
 
     pub found_asker : (a : Asker) (p n : ℕ) (qs : List Parcel) (q : Parcel) → parcel_of a p n qs ≡ Some q → is_asker w a ≡ true → is_asker w q.asker ≡ true
-    found_asker a p n qs q e t = same a q.asker (and_parts (same_asker q.asker a) _ (find_passes_any (is_parcel a p n) qs q e)).0 t
+    found_asker a p n qs q e t = same a q.asker (and_parts (same_asker q.asker a) _ (find_passes (is_parcel a p n) qs q e)).0 t
       where
         same : (a b : Asker) → same_asker b a ≡ true → is_asker w a ≡ true → is_asker w b ≡ true
         same (Worker i) (Worker x) s t = ap w.alive (eqb-true x i s) ∙ t

@@ -1,8 +1,10 @@
 -- What holds of the world after every legal list of events.
 use Rattle.std.proofs.Common.{◌≡◌, ℕ, ◌<◌, ◌≤◌, Bool, true, false, cond, ◌&&◌, List, [], ◌∷◌, Option, Some, None, refl, sym, ap, ◌∙◌, subst, arith, is_some, ⊎_elim}
 use Rattle.std.specs.Prelude.{◌↔◌}
-use Rattle.std.proofs.lemmas.Bool.{true≢false, false≢true, eqb-true, ltb-true, cases_lt}
+use Rattle.std.proofs.lemmas.Bool.{true≢false, false≢true, eqb-true, ltb-true, cases_lt, eq-eqb}
 use Rattle.std.proofs.Math.Dec.{eqb}
+use Rattle.std.proofs.lemmas.Option.{none-some, same_Some}
+use Rattle.small_facts.proofs.Truth.{and_first}
 use Rattle.cluster_msgs.specs.Shape.{Shape, key_count}
 use Rattle.cluster_msgs.specs.declared.cores.SchedEvent.{SchedEvent}
 use Rattle.cluster_msgs.specs.declared.events.Event.{Event}
@@ -16,12 +18,10 @@ use Rattle.cluster_laws.specs.Truth.{no_excuse, IsTrueWorld}
 use Rattle.cluster_rules.specs.Runs.{LegalFrom, legal, run_from, reached, sched_event, OnlyKnown, Agrees}
 use Rattle.cluster_laws.proofs.TruthWorld.{true_world_step, true_opening}
 use Rattle.cluster_laws.proofs.InsideWorld.{in_world_step, in_after}
-use Rattle.cluster_rules.proofs.SchedFrame.{same_eqb}
 use Rattle.cluster_rules.proofs.SoundStep.{sound_step, sound_opening}
 use Rattle.cluster_laws.specs.Settled.{IsSettled}
 use Rattle.cluster_laws.proofs.SettledLemmas.{settled_step, settled_opening}
 use Rattle.cluster_laws.proofs.Errors.{holder_of}
-use Rattle.cluster_laws.proofs.Lists.{and_first}
 use Rattle.pair_machine.proofs.PairKept.{at_rest}
 use Rattle.pair_moves.specs.Projection.{notes, reports, at_worker, IsNumbered}
 use Rattle.pair_moves.proofs.Events.{numbered_step, numbered_opening}
@@ -118,32 +118,20 @@ drained_agrees j w h i d = record { mem = λ k. (at k).0; mine = λ k a. (at k).
   where
     -- the attempt of a place at a worker
     place_is : (o : Option (ℕ × ℕ)) (m : Option ℕ) → at_worker i o ≡ m → (a : ℕ) → (m ≡ Some a) ↔ (o ≡ Some (i, a))
-    place_is None m e a = (λ q. absurd (none_some a (e ∙ q)), λ q. absurd (none_pair (i, a) q))
-      where
-        none_some : (x : ℕ) → None ≡ Some x → ⊥
-        none_some x y = cc
-
-        none_pair : (x : ℕ × ℕ) → None ≡ Some x → ⊥
-        none_pair x y = cc
+    place_is None m e a = (λ q. absurd (none-some a (e ∙ q)), λ q. absurd (none-some (i, a) q))
     place_is (Some p) m e a = by (eqb p.0 i) refl
       where
-        none_some : (x : ℕ) → None ≡ Some x → ⊥
-        none_some x y = cc
-
-        same : (x y : ℕ) → Some x ≡ Some y → x ≡ y
-        same x y q = cc
-
         parts : (x y : ℕ × ℕ) → Some x ≡ Some y → (x.0 ≡ y.0) × (x.1 ≡ y.1)
         parts x y q = let z : x ≡ y = cc in (ap (λ (r : ℕ × ℕ). r.0) z, ap (λ (r : ℕ × ℕ). r.1) z)
 
         by : (b : Bool) → eqb p.0 i ≡ b → (m ≡ Some a) ↔ (Some p ≡ Some (i, a))
         by true c = (
-          λ q. ap Some (λ y. (eqb-true p.0 i c y, same p.1 a (sym (ap (λ b. cond b (Some p.1) None) c) ∙ e ∙ q) y)),
+          λ q. ap Some (λ y. (eqb-true p.0 i c y, same_Some p.1 a (sym (ap (λ b. cond b (Some p.1) None) c) ∙ e ∙ q) y)),
           λ q. sym e ∙ ap (λ b. cond b (Some p.1) None) c ∙ ap Some (parts p (i, a) q).1,
         )
         by false c = (
-          λ q. absurd (none_some a (sym (ap (λ b. cond b (Some p.1) None) c) ∙ e ∙ q)),
-          λ q. absurd (true≢false (sym (same_eqb p.0 i (parts p (i, a) q).0) ∙ c)),
+          λ q. absurd (none-some a (sym (ap (λ b. cond b (Some p.1) None) c) ∙ e ∙ q)),
+          λ q. absurd (true≢false (sym (eq-eqb p.0 i (parts p (i, a) q).0) ∙ c)),
         )
 
     at : (k : ℕ) → ((w.workers i).mem k ≡ holds w.sched i k) × ((a : ℕ) → ((w.workers i).mine k ≡ Some a) ↔ (w.sched.on k ≡ Some (i, a)))
@@ -157,17 +145,11 @@ drained_agrees j w h i d = record { mem = λ k. (at k).0; mine = λ k a. (at k).
         past l = (
           no_block ((w.workers i).mem k) refl ∙ sym (ap is_some (h.sound.has i k l)),
           λ a. (
-            λ q. absurd (none_some a (sym (h.home.mine i k (subst (λ (g : Shape). key_count g ≤ k) h.inside.shape l)) ∙ q)),
-            λ q. absurd (none_pair (i, a) (sym (h.sound.on k l) ∙ q)),
+            λ q. absurd (none-some a (sym (h.home.mine i k (subst (λ (g : Shape). key_count g ≤ k) h.inside.shape l)) ∙ q)),
+            λ q. absurd (none-some (i, a) (sym (h.sound.on k l) ∙ q)),
           ),
         )
           where
-            none_some : (x : ℕ) → None ≡ Some x → ⊥
-            none_some x y = cc
-
-            none_pair : (x : ℕ × ℕ) → None ≡ Some x → ⊥
-            none_pair x y = cc
-
             no_block : (b : Bool) → (w.workers i).mem k ≡ b → b ≡ false
             no_block true e = let m : k < key_count j.setting.shape = ltb-true k (key_count j.setting.shape) ((h.inside.workers i).mem k e) in
                 absurd (omega (arith, m, subst (λ (g : Shape). key_count g ≤ k) h.inside.shape l))

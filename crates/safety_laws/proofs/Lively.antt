@@ -3,8 +3,11 @@ use Rattle.std.proofs.Common.{◌≡◌, ℕ, zero, suc, ◌+◌, ◌*◌, ◌<�
 use Rattle.std.specs.Prelude.{nat_lt, nat_le, unwrap_or}
 use Rattle.std.specs.List.{list_any, list_all, filter_map, cons_option, AllByRecursion}
 use Rattle.std.specs.Option.{option_map}
-use Rattle.std.proofs.lemmas.Bool.{true≢false, false≢true, eqb-true, and_parts, and_from, or_cases, ltb-true, lt-ltb, leb-true, cases_lt}
+use Rattle.std.proofs.lemmas.Bool.{true≢false, false≢true, eqb-true, and_parts, and_from, or_cases, ltb-true, lt-ltb, leb-true, cases_lt, not-true, eq-eqb, false_from_ne_true, not_from_false}
 use Rattle.std.proofs.Math.Dec.{eqb}
+use Rattle.std.proofs.Math.Bool.{or-true}
+use Rattle.small_facts.proofs.Lists.{cons_not_nil}
+use Rattle.small_facts.proofs.Options.{find_passes, none_from_is_some, some_not_none}
 use Rattle.cluster_msgs.specs.Shape.{Shape, key_count, deps_of}
 use Rattle.cluster_msgs.specs.declared.events.Asker.{Asker}
 use Rattle.cluster_msgs.specs.declared.events.Asker.TheVariants.{Worker, Client}
@@ -22,16 +25,16 @@ use Rattle.cluster_rules.specs.Runs.{IsLively}
 use Rattle.cluster_msgs.specs.declared.messages.FromClient.{FromClient as ClientMessage}
 use Rattle.cluster_rules.proofs.DerivedLemmas.{reach-is}
 use Rattle.cluster_rules.proofs.SchedLemmas.{erred-is, need-past}
-use Rattle.cluster_rules.proofs.SchedFrame.{same_eqb, or_true}
+use Rattle.cluster_rules.proofs.SchedFrame.{in_range}
 use Rattle.cluster_rules.proofs.NothingLemmas.{full-nowhere}
 use Rattle.cluster_rules.proofs.InsideSched.{all_found}
 use Rattle.cluster_laws.proofs.WorldLemmas.{nothing_moves}
-use Rattle.cluster_rules.proofs.WorkerLemmas.{filter_in, range_in, ready_state-is, fetch_state-is, missing_state-is}
+use Rattle.cluster_rules.proofs.WorkerLemmas.{filter_in, ready_state-is, fetch_state-is, missing_state-is}
 use Rattle.cluster_laws.proofs.Placed.{no_candidates}
 use Rattle.cluster_laws.proofs.Fewer.{reach_next}
 use Rattle.safety_laws.specs.Lively.{IsAnswered, IsRefreshing, questions, refreshes, IsNumber, AreNumbers, AreNamed, AreServed, IsServed, HaveThreads, wants_at_last, names_want, misses, is_news}
 use Rattle.safety_laws.proofs.Joint.{IsJoint, drained_agrees}
-use Rattle.safety_laws.proofs.Homes.{find_passes_any}
+use Rattle.pair_moves.proofs.HoldRows.{any_where}
 
 -- ## Lists
 
@@ -48,11 +51,8 @@ found_some : (p : ℕ → Bool) (x : ℕ) (xs : List ℕ) → is_in x xs ≡ tru
 found_some p x [] i e n = false≢true i
 found_some p x (y ∷ ys) i e n = pick (p y) refl (or_cases (eqb y x) (is_in x ys) i) n (λ j m. found_some p x ys j e m)
   where
-    some_none : (z : ℕ) → Some z ≡ None → ⊥
-    some_none z q = cc
-
     pick : (b : Bool) → p y ≡ b → (eqb y x ≡ true) ⊎ (is_in x ys ≡ true) → cond b (Some y) (find p ys) ≡ None → (is_in x ys ≡ true → find p ys ≡ None → ⊥) → ⊥
-    pick true q o m rest = some_none y m
+    pick true q o m rest = some_not_none y m
     pick false q (inl o) m rest = true≢false (sym e ∙ ap p (sym (eqb-true y x o)) ∙ q)
     pick false q (inr o) m rest = rest o m
 
@@ -73,17 +73,6 @@ some_of : {A : Type 0} (o : Option A) → is_some o ≡ true → (x : A) × (o �
 some_of None e = absurd (false≢true e)
 some_of (Some x) e = (x, refl)
 
-none_of : {A : Type 0} (o : Option A) → is_some o ≡ false → o ≡ None
-none_of None e = refl
-none_of (Some x) e = absurd (true≢false e)
-
-not_true : (b : Bool) → (b ≡ true → ⊥) → b ≡ false
-not_true true n = absurd (n refl)
-not_true false n = refl
-
-not_of : (b : Bool) → b ≡ false → not b ≡ true
-not_of b e = ap not e
-
 -- what some member gives
 any_filter_map : {B : Type 0} (g : ℕ → Option B) (k : ℕ) (ks : List ℕ) → is_in k ks ≡ true → is_some (g k) ≡ true → has_any (filter_map g ks) ≡ true
 any_filter_map g k [] i e = absurd (false≢true i)
@@ -98,17 +87,13 @@ none_counted : (p : ℕ → Bool) → ((x : ℕ) → p x ≡ false) → (xs : Li
 none_counted p n [] = refl
 none_counted p n (x ∷ xs) = ap (λ b. cond b 1 0 + count p xs) (n x) ∙ ap (λ m. 0 + m) (none_counted p n xs)
 
-all_from : (p : ℕ → Bool) (xs : List ℕ) → ((x : ℕ) → is_in x xs ≡ true → p x ≡ true) → list_all p xs ≡ true
+pub all_from : (p : ℕ → Bool) (xs : List ℕ) → ((x : ℕ) → is_in x xs ≡ true → p x ≡ true) → list_all p xs ≡ true
 all_from p [] h = refl
-all_from p (x ∷ xs) h = and_from (p x) (list_all p xs) (h x (ap (λ b. b || is_in x xs) (same_eqb x x refl))) (all_from p xs (λ y i. h y (ap (λ b. eqb x y || b) i ∙ or_true (eqb x y))))
+all_from p (x ∷ xs) h = and_from (p x) (list_all p xs) (h x (ap (λ b. b || is_in x xs) (eq-eqb x x refl))) (all_from p xs (λ y i. h y (ap (λ b. eqb x y || b) i ∙ or-true (eqb x y))))
 
 under : (k d : ℕ) (ds : List ℕ) → AllByRecursion (λ x. x < k) ds → is_in d ds ≡ true → d < k
 under k d [] l i = absurd (false≢true i)
 under k d (x ∷ xs) l i = ⊎_elim (λ e. subst (λ y. y < k) (eqb-true x d e) l.0) (λ m. under k d xs l.1 m) (or_cases (eqb x d) (is_in d xs) i)
-
-any_of : (p : ℕ → Bool) (x : ℕ) (xs : List ℕ) → is_in x xs ≡ true → p x ≡ true → list_any p xs ≡ true
-any_of p x [] i e = absurd (false≢true i)
-any_of p x (y ∷ ys) i e = ⊎_elim (λ h. ap (λ b. b || list_any p ys) (ap p (eqb-true y x h) ∙ e)) (λ h. ap (λ b. p y || b) (any_of p x ys h e) ∙ or_true (p y)) (or_cases (eqb y x) (is_in x ys) i)
 
 pub same_asker_is : (a b : Asker) → same_asker a b ≡ true → a ≡ b
 same_asker_is (Worker v) (Worker u) e = ap Worker (eqb-true v u e)
@@ -118,7 +103,7 @@ same_asker_is (Client c) (Worker u) e = absurd (false≢true e)
 
 -- a holder that is named can be asked
 item_there : (k : ℕ) (x : ℕ × ℕ) (xs : List (ℕ × ℕ)) → is_some (item_at x.0 k (x ∷ xs)) ≡ true
-item_there k x xs = ap (λ b. is_some {T = ℕ × ℕ} (option_map (λ c. (k, c)) (option_map (λ (y : ℕ × ℕ). y.1) (cond b (Some x) (find (λ y. eqb y.0 x.0) xs))))) (same_eqb x.0 x.0 refl)
+item_there k x xs = ap (λ b. is_some {T = ℕ × ℕ} (option_map (λ c. (k, c)) (option_map (λ (y : ℕ × ℕ). y.1) (cond b (Some x) (find (λ y. eqb y.0 x.0) xs))))) (eq-eqb x.0 x.0 refl)
 
 -- ## Nothing moves
 
@@ -129,7 +114,7 @@ module _ (j : Job) (w : World) (h : IsJoint j w) (answered : IsAnswered w) (refr
     where
       by : (b : Bool) → w.alive i ≡ b → b ≡ true
       by true e = refl
-      by false e = absurd (false≢true (sym (still.see_loss i (h.sound.numbers i c).0 (h.sound.numbers i c).1) ∙ and_from (not (w.alive i)) (is_connected w i) (not_of (w.alive i) e) c))
+      by false e = absurd (false≢true (sym (still.see_loss i (h.sound.numbers i c).0 (h.sound.numbers i c).1) ∙ and_from (not (w.alive i)) (is_connected w i) (not_from_false (w.alive i) e) c))
 
   drained : (i : ℕ) → is_connected w i ≡ true → Drained w i
   unfolding enabled
@@ -149,11 +134,11 @@ module _ (j : Job) (w : World) (h : IsJoint j w) (answered : IsAnswered w) (refr
       failing d = false≢true (sym (fails d) ∙ and_from (is_asker w a) (is_some (open_ask w a p)) asker (ap is_some opened))
 
       names : (r : Parcel) (rs : List Parcel) → parcel_of a p q.number rs ≡ Some r → (r.asker ≡ a) × ((r.peer ≡ p) × (r.ask ≡ q.number))
-      names r rs e = let t = and_parts (same_asker r.asker a) (eqb r.peer p && eqb r.ask q.number) (find_passes_any (is_parcel a p q.number) rs r e) in let u = and_parts (eqb r.peer p) (eqb r.ask q.number) t.1 in
+      names r rs e = let t = and_parts (same_asker r.asker a) (eqb r.peer p && eqb r.ask q.number) (find_passes (is_parcel a p q.number) rs r e) in let u = and_parts (eqb r.peer p) (eqb r.ask q.number) t.1 in
           (same_asker_is r.asker a t.0, (eqb-true r.peer p u.0, eqb-true r.ask q.number u.1))
 
       requested : (r : Parcel) × (parcel_of a p q.number w.requests ≡ Some r) → ⊥
-      requested (r, e) = failing (not_true (w.alive p) (λ l.
+      requested (r, e) = failing (false_from_ne_true (w.alive p) (λ l.
           let n = names r w.requests e in
           let z = all_found (λ (x : Parcel). enabled w (ServeGather x.peer x.asker x.ask) ≡ false) (is_parcel a p q.number) w.requests r e still.serve in
           false≢true (sym z ∙ and_from (w.alive r.peer) (is_some (parcel_of r.asker r.peer r.ask w.requests)) (ap w.alive n.1.0 ∙ l)
@@ -167,7 +152,7 @@ module _ (j : Job) (w : World) (h : IsJoint j w) (answered : IsAnswered w) (refr
           (ap (λ x. is_some (parcel_of x r.peer r.ask w.answers)) n.0 ∙ ap (λ x. is_some (parcel_of a x r.ask w.answers)) n.1.0 ∙ ap (λ x. is_some (parcel_of a p x w.answers)) n.1.1 ∙ ap is_some e))
 
   first_ask : (q : Ask) (qs : List Ask) → ask_to (q ∷ qs) q.peer ≡ Some q
-  first_ask q qs = ap (λ b. cond b (Some q) (find (λ (x : Ask). eqb x.peer q.peer) qs)) (same_eqb q.peer q.peer refl)
+  first_ask q qs = ap (λ b. cond b (Some q) (find (λ (x : Ask). eqb x.peer q.peer) qs)) (eq-eqb q.peer q.peer refl)
 
   no_asks : (i : ℕ) → is_connected w i ≡ true → (w.workers i).asks ≡ []
   no_asks i c = by (w.workers i).asks refl
@@ -196,7 +181,7 @@ module _ (j : Job) (w : World) (h : IsJoint j w) (answered : IsAnswered w) (refr
 
     stopped : (k : ℕ) → W.running k ≡ false
     unfolding enabled
-    stopped k = not_true (W.running k) (λ r. let l : k < key_count j.setting.shape = ltb-true k (key_count j.setting.shape) ((h.inside.workers i).running k r) in
+    stopped k = false_from_ne_true (W.running k) (λ r. let l : k < key_count j.setting.shape = ltb-true k (key_count j.setting.shape) ((h.inside.workers i).running k r) in
         false≢true (sym (still.finish i k (h.sound.numbers i c).0 (h.sound.numbers i c).1 c (subst (λ (g : Shape). k < key_count g) (sym h.inside.shape) l)) ∙ and_from (w.alive i) (W.running k) (alive_of i c) r))
 
     grounded : (k : ℕ) → flying W k ≡ false
@@ -204,19 +189,19 @@ module _ (j : Job) (w : World) (h : IsJoint j w) (answered : IsAnswered w) (refr
     grounded k = ap (λ l. is_asked_for l k) (no_asks i c)
 
     in_keys : (k : ℕ) → k < key_count W.shape → is_in k (worker_keys W) ≡ true
-    in_keys k l = range_in 0 (key_count W.shape) k (omega arith) (omega (arith, l))
+    in_keys k l = in_range 0 (key_count W.shape) k (omega arith) (omega (arith, l))
 
     not_ready : (k : ℕ) → k < key_count W.shape → is_ready_state (wstate W k) ≡ false
     unfolding enabled would_start running_count
-    not_ready k l = not_true (is_ready_state (wstate W k)) (λ r. found_some (λ x. is_ready_state (wstate W x)) k (worker_keys W) (in_keys k l) r
-        (sym (ap (λ b. cond b (find (λ x. is_ready_state (wstate W x)) (worker_keys W)) None) free) ∙ none_of (would_start W) (and_fails (w.alive i) (is_some (would_start W)) (still.start i (h.sound.numbers i c).0 (h.sound.numbers i c).1 c) (alive_of i c))))
+    not_ready k l = false_from_ne_true (is_ready_state (wstate W k)) (λ r. found_some (λ x. is_ready_state (wstate W x)) k (worker_keys W) (in_keys k l) r
+        (sym (ap (λ b. cond b (find (λ x. is_ready_state (wstate W x)) (worker_keys W)) None) free) ∙ none_from_is_some (would_start W) (and_fails (w.alive i) (is_some (would_start W)) (still.start i (h.sound.numbers i c).0 (h.sound.numbers i c).1 c) (alive_of i c))))
       where
         free : nat_lt (count W.running (worker_keys W)) W.threads ≡ true
         free = lt-ltb (count W.running (worker_keys W)) W.threads (let z : count W.running (worker_keys W) ≡ 0 = none_counted W.running stopped (worker_keys W) in let t : 1 ≤ W.threads = threads i (alive_of i c) in omega arith)
 
     not_fetch : (k : ℕ) → k < key_count W.shape → is_fetch_state (wstate W k) ≡ false
     unfolding enabled would_ask fetchable
-    not_fetch k l = not_true (is_fetch_state (wstate W k)) (λ r. by r (W.holders k) refl (holding r))
+    not_fetch k l = false_from_ne_true (is_fetch_state (wstate W k)) (λ r. by r (W.holders k) refl (holding r))
       where
         holding : is_fetch_state (wstate W k) ≡ true → has_any (W.holders k) ≡ true
         holding r = (and_parts (is_wanted W k) (has_any (W.holders k)) (and_parts (not (is_some (W.mine k))) _ (and_parts (not (flying W k)) _ (and_parts (not (W.running k)) _ (and_parts (not (W.mem k)) _ (sym (fetch_state-is W k) ∙ r)).1).1).1).1).1
@@ -231,7 +216,7 @@ module _ (j : Job) (w : World) (h : IsJoint j w) (answered : IsAnswered w) (refr
             (ap (λ l. is_some (item_at x.0 k l)) e ∙ item_there k x xs))))
 
     not_missing : (k : ℕ) → k < key_count W.shape → is_missing_state (wstate W k) ≡ false
-    not_missing k l = not_true (is_missing_state (wstate W k)) (λ r. let d = drained i c in
+    not_missing k l = false_from_ne_true (is_missing_state (wstate W k)) (λ r. let d = drained i c in
         false≢true (sym (ap (λ ms. list_any (questions k) ms || list_any (refreshes k) (w.down i)) d.up ∙ ap (λ ms. list_any (refreshes k) ms) d.down) ∙ refreshing i k (alive_of i c) c ((h.home.kept i (alive_of i c)).missing k l r)))
 
     -- a wanted key is fetched or missing
@@ -239,11 +224,11 @@ module _ (j : Job) (w : World) (h : IsJoint j w) (answered : IsAnswered w) (refr
     not_wanted k l m o u = by (has_any (W.holders k)) refl
       where
         rest : (b : Bool) → b ≡ true → (not (W.mem k) && (not (W.running k) && (not (flying W k) && (not (is_some (W.mine k)) && (is_wanted W k && b))))) ≡ true
-        rest b e = and_from _ _ (not_of (W.mem k) m) (and_from _ _ (not_of (W.running k) (stopped k)) (and_from _ _ (not_of (flying W k) (grounded k)) (and_from _ _ (ap (λ x. not (is_some x)) o) (and_from _ _ u e))))
+        rest b e = and_from _ _ (not_from_false (W.mem k) m) (and_from _ _ (not_from_false (W.running k) (stopped k)) (and_from _ _ (not_from_false (flying W k) (grounded k)) (and_from _ _ (ap (λ x. not (is_some x)) o) (and_from _ _ u e))))
 
         by : (b : Bool) → has_any (W.holders k) ≡ b → ⊥
         by true e = false≢true (sym (not_fetch k l) ∙ fetch_state-is W k ∙ rest (has_any (W.holders k)) e)
-        by false e = false≢true (sym (not_missing k l) ∙ missing_state-is W k ∙ rest (not (has_any (W.holders k))) (not_of (has_any (W.holders k)) e))
+        by false e = false≢true (sym (not_missing k l) ∙ missing_state-is W k ∙ rest (not (has_any (W.holders k))) (not_from_false (has_any (W.holders k)) e))
 
     no_task : (k : ℕ) → W.mine k ≡ None
     unfolding awaited
@@ -253,14 +238,11 @@ module _ (j : Job) (w : World) (h : IsJoint j w) (answered : IsAnswered w) (refr
         there k before l None e = refl
         there k before l (Some a) e = absurd (false≢true (sym (not_ready k l) ∙ ready_state-is W k ∙ ready))
           where
-            some_none : (x : ℕ) → Some x ≡ None → ⊥
-            some_none x q = cc
-
             absent : W.mem k ≡ false
-            absent = not_true (W.mem k) (λ m. some_none a (sym e ∙ ((h.home.kept i (alive_of i c)).keys.at k).no_task m))
+            absent = false_from_ne_true (W.mem k) (λ m. some_not_none a (sym e ∙ ((h.home.kept i (alive_of i c)).keys.at k).no_task m))
 
             pends : pending W k ≡ true
-            pends = and_from (is_some (W.mine k)) (not (W.running k)) (ap is_some e) (not_of (W.running k) (stopped k))
+            pends = and_from (is_some (W.mine k)) (not (W.running k)) (ap is_some e) (not_from_false (W.running k) (stopped k))
 
             low : (d : ℕ) → is_in d (deps_of W.shape k) ≡ true → d < k
             low d m = under k d (deps_of W.shape k) (subst (λ (g : Shape). AllByRecursion (λ x. x < k) (deps_of g k)) (sym graph) (h.sound.shape.below k)) m
@@ -271,11 +253,11 @@ module _ (j : Job) (w : World) (h : IsJoint j w) (answered : IsAnswered w) (refr
                 by : (b : Bool) → W.mem d ≡ b → b ≡ true
                 by true q = refl
                 by false q = absurd (not_wanted d (omega (arith, low d m, l)) q (before d (low d m))
-                    (and_from (not (W.mem d)) (W.sought d || awaited W d) (not_of (W.mem d) q)
-                    (ap (λ b. W.sought d || b) (any_of (λ x. pending W x && is_in d (deps_of W.shape x)) k (worker_keys W) (in_keys k l) (and_from (pending W k) (is_in d (deps_of W.shape k)) pends m)) ∙ or_true (W.sought d))))
+                    (and_from (not (W.mem d)) (W.sought d || awaited W d) (not_from_false (W.mem d) q)
+                    (ap (λ b. W.sought d || b) (any_where (λ x. pending W x && is_in d (deps_of W.shape x)) k (worker_keys W) (in_keys k l) (and_from (pending W k) (is_in d (deps_of W.shape k)) pends m)) ∙ or-true (W.sought d))))
 
             ready : (not (W.mem k) && (not (W.running k) && (not (flying W k) && (is_some (W.mine k) && is_fed W k)))) ≡ true
-            ready = and_from _ _ (not_of (W.mem k) absent) (and_from _ _ (not_of (W.running k) (stopped k)) (and_from _ _ (not_of (flying W k) (grounded k)) (and_from _ _ (ap is_some e) (all_from W.mem (deps_of W.shape k) here))))
+            ready = and_from _ _ (not_from_false (W.mem k) absent) (and_from _ _ (not_from_false (W.running k) (stopped k)) (and_from _ _ (not_from_false (flying W k) (grounded k)) (and_from _ _ (ap is_some e) (all_from W.mem (deps_of W.shape k) here))))
 
   -- ## The scheduler
 
@@ -285,18 +267,15 @@ module _ (j : Job) (w : World) (h : IsJoint j w) (answered : IsAnswered w) (refr
   no_place : (k : ℕ) → F.on k ≡ None
   no_place k = by (F.on k) refl
     where
-      some_none : (x : ℕ) → Some x ≡ None → ⊥
-      some_none x q = cc
-
       by : (o : Option (ℕ × ℕ)) → F.on k ≡ o → o ≡ None
       by None e = refl
-      by (Some p) e = let c = h.sound.places p.0 k (ap (is_for p.0) e ∙ same_eqb p.0 p.0 refl) in
-          absurd (some_none p.1 (sym (((drained_agrees j w h p.0 (drained p.0 c)).mine k p.1).1 e) ∙ no_task p.0 c k))
+      by (Some p) e = let c = h.sound.places p.0 k (ap (is_for p.0) e ∙ eq-eqb p.0 p.0 refl) in
+          absurd (some_not_none p.1 (sym (((drained_agrees j w h p.0 (drained p.0 c)).mine k p.1).1 e) ∙ no_task p.0 c k))
 
   -- with a connected worker each ready key has a candidate
   module _ (v : ℕ) (c : is_connected w v ≡ true) where
     in_workers : is_in v (workers F) ≡ true
-    in_workers = filter_in (connected F) (from_one F.last_worker) v (range_in 1 F.last_worker v (h.sound.numbers v c).0 (let n = (h.sound.numbers v c).1 in omega (arith, n))) c
+    in_workers = filter_in (connected F) (from_one F.last_worker) v (in_range 1 F.last_worker v (h.sound.numbers v c).0 (let n = (h.sound.numbers v c).1 in omega (arith, n))) c
 
     no_member : (xs : List ℕ) → xs ≡ [] → is_in v xs ≡ true → ⊥
     no_member xs e i = false≢true (sym (ap (is_in v) e) ∙ i)
@@ -312,15 +291,12 @@ module _ (j : Job) (w : World) (h : IsJoint j w) (answered : IsAnswered w) (refr
             product x y a b = grind arith
 
     candidate : (ds : List ℕ) → candidates_by F ds ≡ [] → ⊥
-    candidate [] e = no_member (filter (λ u. not (full F u)) (workers F)) e (filter_in (λ u. not (full F u)) (workers F) v in_workers (not_of (full F v) not_full))
+    candidate [] e = no_member (filter (λ u. not (full F u)) (workers F)) e (filter_in (λ u. not (full F u)) (workers F) v in_workers (not_from_false (full F v) not_full))
     candidate (d ∷ ds) e = by (filter (λ u. list_any (holds F u) (d ∷ ds)) (workers F)) e
       where
         by : (xs : List ℕ) → or_else xs (workers F) ≡ [] → ⊥
         by [] q = no_member (workers F) q in_workers
-        by (x ∷ xs) q = cons_nil x xs q
-          where
-            cons_nil : (x : ℕ) (xs : List ℕ) → x ∷ xs ≡ [] → ⊥
-            cons_nil x xs q = cc
+        by (x ∷ xs) q = cons_not_nil x xs q
 
     no_ready : (k : ℕ) → ready F k ≡ true → ⊥
     unfolding candidates
@@ -333,17 +309,13 @@ module _ (j : Job) (w : World) (h : IsJoint j w) (answered : IsAnswered w) (refr
         (and_from (need F k && open_key F k) (fed F k) (and_from (need F k) (open_key F k) n o) (all_from (held F) (deps F k) (λ d m. fed_by k before n o d m))))
       where
         erring : (k : ℕ) → open_key F k ≡ true → (F.bad k || list_any (erred F) (deps F k)) ≡ false
-        erring k o = let p = and_parts (not (held F k)) (not (erred F k)) o in and_fails (not (held F k)) (F.bad k || list_any (erred F) (deps F k)) (sym (erred-is F h.sound k) ∙ not_back (erred F k) p.1) p.0
-          where
-            not_back : (b : Bool) → not b ≡ true → b ≡ false
-            not_back true e = absurd (false≢true e)
-            not_back false e = refl
+        erring k o = let p = and_parts (not (held F k)) (not (erred F k)) o in and_fails (not (held F k)) (F.bad k || list_any (erred F) (deps F k)) (sym (erred-is F h.sound k) ∙ not-true (erred F k) p.1) p.0
 
         none_erred : (k d : ℕ) → open_key F k ≡ true → is_in d (deps F k) ≡ true → erred F d ≡ false
-        none_erred k d o m = not_true (erred F d) (λ e. false≢true (sym (erring k o) ∙ ap (λ b. F.bad k || b) (any_of (erred F) d (deps F k) m e) ∙ or_true (F.bad k)))
+        none_erred k d o m = false_from_ne_true (erred F d) (λ e. false≢true (sym (erring k o) ∙ ap (λ b. F.bad k || b) (any_where (erred F) d (deps F k) m e) ∙ or-true (F.bad k)))
 
         inside_keys : (k d : ℕ) → is_in d (deps F k) ≡ true → need F k ≡ true → is_in k (below (keys F)) ≡ true
-        inside_keys k d m n = ⊎_elim (λ l. range_in 0 (keys F) k (omega arith) (omega (arith, l))) (λ l. absurd (false≢true (sym (need-past F h.sound k l) ∙ n))) (cases_lt k (keys F))
+        inside_keys k d m n = ⊎_elim (λ l. in_range 0 (keys F) k (omega arith) (omega (arith, l))) (λ l. absurd (false≢true (sym (need-past F h.sound k l) ∙ n))) (cases_lt k (keys F))
 
         fed_by : (k : ℕ) → ((d : ℕ) → d < k → need F d ≡ true → open_key F d ≡ true → ⊥) → need F k ≡ true → open_key F k ≡ true → (d : ℕ) → is_in d (deps F k) ≡ true → held F d ≡ true
         fed_by k before n o d m = by (held F d) refl
@@ -352,7 +324,7 @@ module _ (j : Job) (w : World) (h : IsJoint j w) (answered : IsAnswered w) (refr
             by true e = refl
             by false e = absurd (before d (under k d (deps F k) (h.sound.shape.below k) m)
                 (reach_next (deps F) (keys F) (wanted F) (open_key F) h.sound.shape.below k d (inside_keys k d m n) n o m)
-                (and_from (not (held F d)) (not (erred F d)) (not_of (held F d) e) (not_of (erred F d) (none_erred k d o m))))
+                (and_from (not (held F d)) (not (erred F d)) (not_from_false (held F d) e) (not_from_false (erred F d) (none_erred k d o m))))
 
     -- ## The client
 
@@ -373,12 +345,8 @@ module _ (j : Job) (w : World) (h : IsJoint j w) (answered : IsAnswered w) (refr
         wants = (and_parts (C.wants k) (not (C.got k) && is_none (C.failed k)) mine).0
 
         lacks : (C.got k ≡ false) × (is_some (C.failed k) ≡ false)
-        lacks = let p = and_parts (not (C.got k)) (is_none (C.failed k)) (and_parts (C.wants k) (not (C.got k) && is_none (C.failed k)) mine).1 in (back (C.got k) p.0, none (C.failed k) p.1)
+        lacks = let p = and_parts (not (C.got k)) (is_none (C.failed k)) (and_parts (C.wants k) (not (C.got k) && is_none (C.failed k)) mine).1 in (not-true (C.got k) p.0, none (C.failed k) p.1)
           where
-            back : (b : Bool) → not b ≡ true → b ≡ false
-            back true e = absurd (false≢true e)
-            back false e = refl
-
             none : (o : Option ℕ) → is_none o ≡ true → is_some o ≡ false
             none None e = refl
             none (Some x) e = absurd (false≢true e)
@@ -405,7 +373,7 @@ module _ (j : Job) (w : World) (h : IsJoint j w) (answered : IsAnswered w) (refr
         inside_graph = ⊎_elim (λ l. subst (λ (g : Shape). k < key_count g) (h.inside.shape ∙ sym (h.inside.clients cl).shape) l) (λ l. absurd (false≢true (sym (h.sound.want cl k l) ∙ counted))) (cases_lt k (keys F))
 
         opens : is_open C k ≡ true
-        opens = and_from (C.wants k && not (C.got k)) (not (is_asked_for C.asks k)) (and_from (C.wants k) (not (C.got k)) wants (not_of (C.got k) lacks.0)) (ap (λ l. not (is_asked_for l k)) (no_client_asks cl there))
+        opens = and_from (C.wants k && not (C.got k)) (not (is_asked_for C.asks k)) (and_from (C.wants k) (not (C.got k)) wants (not_from_false (C.got k) lacks.0)) (ap (λ l. not (is_asked_for l k)) (no_client_asks cl there))
 
         asks : (hs : List (ℕ × ℕ)) → C.located k ≡ hs → has_any (C.located k) ≡ true → ⊥
         asks [] e a = false≢true (sym (ap has_any e) ∙ a)
@@ -413,7 +381,7 @@ module _ (j : Job) (w : World) (h : IsJoint j w) (answered : IsAnswered w) (refr
             let n = (subst (AreNumbers w.sched.last_worker) e (named.located cl k)).0 in
             false≢true (sym (still.client_sends cl x.0 there n.0 n.1) ∙ and_from (is_client w cl) (client_would_ask C x.0) there
             (and_from (is_none (ask_to C.asks x.0)) (has_any (client_fetchable C x.0)) (ap (λ l. is_none (ask_to l x.0)) (no_client_asks cl there))
-            (any_filter_map (λ q. item_at x.0 q (C.located q)) k (filter (is_open C) (client_keys C)) (filter_in (is_open C) (client_keys C) k (range_in 0 (key_count C.shape) k (omega arith) (omega (arith, inside_graph))) opens)
+            (any_filter_map (λ q. item_at x.0 q (C.located q)) k (filter (is_open C) (client_keys C)) (filter_in (is_open C) (client_keys C) k (in_range 0 (key_count C.shape) k (omega arith) (omega (arith, inside_graph))) opens)
             (ap (λ l. is_some (item_at x.0 k l)) e ∙ item_there k x xs))))
 
         located : held F k ≡ true → ⊥
@@ -429,12 +397,12 @@ module _ (j : Job) (w : World) (h : IsJoint j w) (answered : IsAnswered w) (refr
         needed = reach-is (deps F) (keys F) (wanted F) (open_key F) h.sound.shape.below k ∙ ap (λ b. b || list_any (λ x. is_in k (deps F x) && (open_key F x && reach (deps F) (keys F) (wanted F) (open_key F) x)) (below (keys F))) start
           where
             start : wanted F k ≡ true
-            start = let p = and_parts (nat_le 1 cl) (nat_le cl F.setting.clients) there in any_of (λ x. F.want x k) cl (from_one F.setting.clients) (range_in 1 F.setting.clients cl (leb-true 1 cl p.0) (let n = leb-true cl F.setting.clients p.1 in omega (arith, n))) counted
+            start = let p = and_parts (nat_le 1 cl) (nat_le cl F.setting.clients) there in any_where (λ x. F.want x k) cl (from_one F.setting.clients) (in_range 1 F.setting.clients cl (leb-true 1 cl p.0) (let n = leb-true cl F.setting.clients p.1 in omega (arith, n))) counted
 
         by : (b : Bool) → erred F k ≡ b → (d : Bool) → held F k ≡ d → ⊥
         by true e d q = blamed e
         by false e true q = located q
-        by false e false q = all_closed k needed (and_from (not (held F k)) (not (erred F k)) (not_of (held F k) q) (not_of (erred F k) e))
+        by false e false q = all_closed k needed (and_from (not (held F k)) (not (erred F k)) (not_from_false (held F k) q) (not_from_false (erred F k) e))
 
 pub lively : (j : Job) (w : World) → IsJoint j w → IsAnswered w → IsRefreshing w → AreNamed w → HaveThreads w → AreServed w → IsLively w
 lively j w h answered refreshing named threads served c k i u a con = by (has_any (progress w)) refl

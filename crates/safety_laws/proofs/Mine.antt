@@ -1,8 +1,8 @@
 -- A worker has no task of a key that isn't there.
 use Rattle.std.proofs.Common.{◌≡◌, ℕ, ◌+◌, ◌<◌, ◌≤◌, Bool, true, false, cond, ◌&&◌, List, [], ◌∷◌, Option, None, refl, arith}
 use Rattle.std.proofs.lemmas.Bool.{true≢false, ltb-true, and_parts}
-use Rattle.std.proofs.lemmas.Bool.Decides.{nat_tests}
 use Rattle.std.proofs.Math.Dec.{eqb}
+use Rattle.small_facts.proofs.Numbers.{unequal_below}
 use Rattle.cluster_msgs.specs.Shape.{key_count}
 use Rattle.cluster_msgs.specs.declared.messages.Down.{Down}
 use Rattle.cluster_msgs.specs.declared.messages.Down.TheVariants.{ComputeTask, FreeKeys, StealRequest, RemoveReplicas, AcquireReplicas, RefreshWhoHas}
@@ -57,11 +57,8 @@ closed = record {
 }
 
 no_task : (w : WorkerFacts) (m : Down) (k : ℕ) → takes_down w m ≡ true → key_count w.shape ≤ k → NoTask (note_of k m)
-no_task w (ComputeTask q a who) k t l = let m : q < key_count w.shape = ltb-true q (key_count w.shape) (and_parts (is_key w q) (are_named w who) t).0 in pick (eqb q k) (other q k (omega (arith, m, l)))
+no_task w (ComputeTask q a who) k t l = let m : q < key_count w.shape = ltb-true q (key_count w.shape) (and_parts (is_key w q) (are_named w who) t).0 in pick (eqb q k) (unequal_below q k (omega (arith, m, l)))
   where
-    other : (x y : ℕ) → x < y → eqb x y ≡ false
-    other x y z = grind (arith, nat_tests)
-
     pick : (b : Bool) → b ≡ false → NoTask (cond b (Task a) Other)
     pick true e = absurd (true≢false e)
     pick false e = tt

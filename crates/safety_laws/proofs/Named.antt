@@ -33,6 +33,9 @@ use Rattle.std.proofs.lemmas.Bool.{and_parts}
 use Rattle.std.specs.List.{list_any, filter_map, flat_map, cons_option, range_with_len, AllByRecursion}
 use Rattle.std.specs.Option.{option_map}
 use Rattle.std.specs.Prelude.{nat_lt}
+use Rattle.std.proofs.Math.Nat.{le_refl}
+use Rattle.small_facts.proofs.Every.{all_join, all_weaker, all_of_filter}
+use Rattle.small_facts.proofs.Options.{find_passes}
 use Rattle.cluster_msgs.specs.declared.cores.Steal.{Steal}
 use Rattle.cluster_msgs.specs.declared.messages.ToClient.TheVariants.{KeyInMemory, LostData, ClientTaskErred}
 use Rattle.cluster_msgs.specs.declared.messages.FromClient.TheVariants.{Want as WantMessage, Release as ReleaseMessage, Missing as MissingMessage}
@@ -47,12 +50,11 @@ use Rattle.cluster_rules.specs.Worker.{with_ask, has_any, fetchable, item_at, wo
 use Rattle.cluster_rules.specs.WorkerStep.{others}
 use Rattle.cluster_rules.specs.WorldStep.{letters}
 use Rattle.cluster_rules.specs.Client.{ClientFacts, hear, client_gets, client_misses, client_answered, client_gathered_by, client_gathered, keeps_still, client_wants, client_releases, client_fetchable, client_ask, client_would_ask, client_step}
-use Rattle.cluster_rules.proofs.AllLemmas.{all_append}
-use Rattle.cluster_rules.proofs.InsideWorker.{all_filter_in, all_map_in}
-use Rattle.cluster_rules.proofs.InsideSched.{all_flat_map_in, all_always, all_weaken, all_found}
+use Rattle.cluster_rules.proofs.InsideWorker.{all_map_in}
+use Rattle.cluster_rules.proofs.InsideSched.{all_flat_map_in, all_always, all_found}
 use Rattle.pair_moves.proofs.HoldRows.{left_plain}
 use Rattle.safety_laws.specs.Lively.{IsNumber, AreNumbers, AreHolders, AreNumbersDown, AreNumbersNews, AreNamed}
-use Rattle.safety_laws.proofs.Homes.{find_passes_any, last_more}
+use Rattle.safety_laws.proofs.Homes.{last_more}
 
 module _ (N : ℕ) where
   -- ## The scheduler
@@ -148,8 +150,8 @@ module _ (N : ℕ) where
   unfolding sched_step finish_step posted down_messages to_worker task_messages settle
   down_named f s l =
       let t = settle f (change f s) in
-      all_flat_map_in (λ (m : ℕ × Down). AreNumbersDown N m.1) _ (workers t.placed) (all_always _ (λ w. all_append (λ (m : ℕ × Down). AreNumbersDown N m.1) (free_message w (lost_keys t w)) _ (free_named w (lost_keys t w))
-      (all_append (λ (m : ℕ × Down). AreNumbersDown N m.1) (filter_map (λ k. task_message t.placed t.before.counter w k (t.placed.on k)) (below (keys t.placed))) _ (tasks_named t.placed l t.before.counter w (below (keys t.placed)))
+      all_flat_map_in (λ (m : ℕ × Down). AreNumbersDown N m.1) _ (workers t.placed) (all_always _ (λ w. all_join (λ (m : ℕ × Down). AreNumbersDown N m.1) (free_message w (lost_keys t w)) _ (free_named w (lost_keys t w))
+      (all_join (λ (m : ℕ × Down). AreNumbersDown N m.1) (filter_map (λ k. task_message t.placed t.before.counter w k (t.placed.on k)) (below (keys t.placed))) _ (tasks_named t.placed l t.before.counter w (below (keys t.placed)))
       (all_map_in (λ (m : ℕ × Down). AreNumbersDown N m.1) (λ m. (w, m)) (t.changed.answer t.placed w) (answers_named f s t.placed l w)))) (workers t.placed))
 
   mail_named : (w : ℕ) (ms : List (ℕ × Down)) → DownNamed ms → AllByRecursion (AreNumbersDown N) (mail w ms)
@@ -190,7 +192,7 @@ module _ (N : ℕ) where
   unfolding sched_step finish_step posted client_messages to_clients settle
   news_named f s l =
       let t = settle f (change f s) in
-      all_append (λ (m : ℕ × ToClient). AreNumbersNews N m.1) (flat_map (λ c. filter_map (client_message t c) (below (keys t.before))) (from_one t.before.setting.clients)) _
+      all_join (λ (m : ℕ × ToClient). AreNumbersNews N m.1) (flat_map (λ c. filter_map (client_message t c) (below (keys t.before))) (from_one t.before.setting.clients)) _
       (all_flat_map_in (λ (m : ℕ × ToClient). AreNumbersNews N m.1) _ (from_one t.before.setting.clients) (all_always _ (λ c. news_named_keys t l c (below (keys t.before))) (from_one t.before.setting.clients)))
       (reply_named t l (to_clients t) t.changed.reply)
 
@@ -223,7 +225,7 @@ module _ (N : ℕ) where
   same_named v u e a h = record { holders = λ k. subst (λ (f : ℕ → List (ℕ × ℕ)). AreNumbers N (f k)) (sym e) (h.holders k); asks = subst (λ l. AllByRecursion (λ (x : OpenAsk). IsNumber N x.peer) l) (sym a) h.asks }
 
   nw_holders : (v : WorkerFacts) (p : ℕ × List (ℕ × ℕ)) → AreNumbers N p.1 → IsNamedWorker v → IsNamedWorker (set_holders v p)
-  nw_holders v p n h = put_named v (set_holders v p) p.0 (others v.id p.1) (all_filter_in (λ (x : ℕ × ℕ). IsNumber N x.0) (λ x. not (eqb x.0 v.id)) p.1 n) refl refl h
+  nw_holders v p n h = put_named v (set_holders v p) p.0 (others v.id p.1) (all_of_filter (λ (x : ℕ × ℕ). IsNumber N x.0) (λ x. not (eqb x.0 v.id)) p.1 n) refl refl h
 
   nw_set : (who : List (ℕ × List (ℕ × ℕ))) (v : WorkerFacts) → AreHolders N who → IsNamedWorker v → IsNamedWorker (fold set_holders v who)
   nw_set [] v n h = h
@@ -317,7 +319,7 @@ module _ (N : ℕ) where
   nw_gathered v p n found h = by_ask (ask_to v.asks p)
     where
       left : IsNamedWorker (record v { asks = without_ask v.asks p })
-      left = record { holders = h.holders; asks = all_filter_in (λ (q : OpenAsk). IsNumber N q.peer) (λ q. not (eqb q.peer p)) v.asks h.asks }
+      left = record { holders = h.holders; asks = all_of_filter (λ (q : OpenAsk). IsNumber N q.peer) (λ q. not (eqb q.peer p)) v.asks h.asks }
 
       over : (a : OpenAsk) (b : Bool) → IsNamedWorker (cond {A = WorkerStep} b (answered_ask (record v { asks = without_ask v.asks p }) p a.items found) (quiet v)).facts
       over a true = nw_each (not_found p) (filter (λ i. not (is_in i.0 found)) a.items) (arrived (record v { asks = without_ask v.asks p }) (keys_of (filter (λ i. is_in i.0 found) a.items))) (nw_not_found p)
@@ -342,7 +344,7 @@ module _ (N : ℕ) where
     where
       by : (o : Option (ℕ × ℕ)) → find (λ x. eqb x.0 p) hs ≡ o → is_some {T = ℕ × ℕ} (option_map (λ c. (k, c)) (option_map (λ (x : ℕ × ℕ). x.1) o)) ≡ true → IsNumber N p
       by None q e = absurd (false≢true e)
-      by (Some x) q e = subst (IsNumber N) (eqb-true x.0 p (find_passes_any (λ x. eqb x.0 p) hs x q)) (all_found (λ (x : ℕ × ℕ). IsNumber N x.0) (λ x. eqb x.0 p) hs x q n)
+      by (Some x) q e = subst (IsNumber N) (eqb-true x.0 p (find_passes (λ x. eqb x.0 p) hs x q)) (all_found (λ (x : ℕ × ℕ). IsNumber N x.0) (λ x. eqb x.0 p) hs x q n)
 
   some_item : (p : ℕ) (hs : ℕ → List (ℕ × ℕ)) → ((k : ℕ) → AreNumbers N (hs k)) → (ks : List ℕ) → has_any (filter_map (λ k. item_at p k (hs k)) ks) ≡ true → IsNumber N p
   some_item p hs n [] e = absurd (false≢true e)
@@ -439,7 +441,7 @@ module _ (N : ℕ) where
     where
       over : (a : OpenAsk) (b : Bool) → IsNamedClient (cond b (client_answered (record c { asks = without_ask c.asks p }) p (keys_of (filter (λ i. is_in i.0 found) a.items)) (filter (λ i. not (is_in i.0 found)) a.items)) (keeps_still c)).facts
       over a true = nc_misses (filter (λ i. not (is_in i.0 found)) a.items) (fold client_gets (record c { asks = without_ask c.asks p }) (keys_of (filter (λ i. is_in i.0 found) a.items))) (nc_gets (keys_of (filter (λ i. is_in i.0 found) a.items)) (record c { asks = without_ask c.asks p })
-          (record { located = h.located; asks = all_filter_in (λ (q : OpenAsk). IsNumber N q.peer) (λ q. not (eqb q.peer p)) c.asks h.asks }))
+          (record { located = h.located; asks = all_of_filter (λ (q : OpenAsk). IsNumber N q.peer) (λ q. not (eqb q.peer p)) c.asks h.asks }))
       over a false = h
 
       by_ask : (o : Option OpenAsk) → IsNamedClient (client_gathered_by c p n found o).facts
@@ -488,8 +490,8 @@ module _ (N : ℕ) where
   nt_scheduler w s l h = record {
     workers = h.workers;
     clients = h.clients;
-    down = λ i. all_append (AreNumbersDown N) (w.down i) (mail i (sched_step w.sched s).down) (h.down i) (mail_named i (sched_step w.sched s).down (down_named w.sched s l));
-    news = λ c. all_append (AreNumbersNews N) (w.to_client c) (letters c (sched_step w.sched s).clients) (h.news c) (letters_named c (sched_step w.sched s).clients (news_named w.sched s l));
+    down = λ i. all_join (AreNumbersDown N) (w.down i) (mail i (sched_step w.sched s).down) (h.down i) (mail_named i (sched_step w.sched s).down (down_named w.sched s l));
+    news = λ c. all_join (AreNumbersNews N) (w.to_client c) (letters c (sched_step w.sched s).clients) (h.news c) (letters_named c (sched_step w.sched s).clients (news_named w.sched s l));
   }
 
   nt_worker : (w : World) (i : ℕ) (e : WorkerEvent) → BringsNumbers (w.workers i) e → AreNamedTo w → AreNamedTo (at_worker w i e)
@@ -573,13 +575,13 @@ module _ (N : ℕ) where
   nt_cut w i h = record { workers = h.workers; clients = h.clients; down = at_one i (λ b x. AllByRecursion (AreNumbersDown N) (cond b [] (w.down x))) tt h.down; news = h.news }
 
 more_numbers : (last more : ℕ) → last ≤ more → (hs : List (ℕ × ℕ)) → AreNumbers last hs → AreNumbers more hs
-more_numbers last more l hs h = all_weaken (λ (x : ℕ × ℕ). IsNumber last x.0) (λ (x : ℕ × ℕ). IsNumber more x.0) (λ x n. (n.0, omega (arith, n.1, l))) hs h
+more_numbers last more l hs h = all_weaker (λ (x : ℕ × ℕ). IsNumber last x.0) (λ (x : ℕ × ℕ). IsNumber more x.0) (λ x n. (n.0, omega (arith, n.1, l))) hs h
 
 more_asks : (last more : ℕ) → last ≤ more → (qs : List OpenAsk) → AllByRecursion (λ (q : OpenAsk). IsNumber last q.peer) qs → AllByRecursion (λ (q : OpenAsk). IsNumber more q.peer) qs
-more_asks last more l qs h = all_weaken (λ (q : OpenAsk). IsNumber last q.peer) (λ (q : OpenAsk). IsNumber more q.peer) (λ q n. (n.0, omega (arith, n.1, l))) qs h
+more_asks last more l qs h = all_weaker (λ (q : OpenAsk). IsNumber last q.peer) (λ (q : OpenAsk). IsNumber more q.peer) (λ q n. (n.0, omega (arith, n.1, l))) qs h
 
 more_holders : (last more : ℕ) → last ≤ more → (who : List (ℕ × List (ℕ × ℕ))) → AreHolders last who → AreHolders more who
-more_holders last more l who h = all_weaken (λ (p : ℕ × List (ℕ × ℕ)). AreNumbers last p.1) (λ (p : ℕ × List (ℕ × ℕ)). AreNumbers more p.1) (λ p n. more_numbers last more l p.1 n) who h
+more_holders last more l who h = all_weaker (λ (p : ℕ × List (ℕ × ℕ)). AreNumbers last p.1) (λ (p : ℕ × List (ℕ × ℕ)). AreNumbers more p.1) (λ p n. more_numbers last more l p.1 n) who h
 
 more_down : (last more : ℕ) → last ≤ more → (m : Down) → AreNumbersDown last m → AreNumbersDown more m
 more_down last more l (ComputeTask q a who) h = more_holders last more l who h
@@ -598,8 +600,8 @@ named_to : (w : World) (N : ℕ) → w.sched.last_worker ≤ N → AreNamed w �
 named_to w N l h = record {
   workers = λ i. record { holders = λ k. more_numbers w.sched.last_worker N l ((w.workers i).holders k) (h.holders i k); asks = more_asks w.sched.last_worker N l (w.workers i).asks (h.asks i) };
   clients = λ c. record { located = λ k. more_numbers w.sched.last_worker N l ((w.clients c).located k) (h.located c k); asks = more_asks w.sched.last_worker N l (w.clients c).asks (h.client_asks c) };
-  down = λ i. all_weaken (AreNumbersDown w.sched.last_worker) (AreNumbersDown N) (more_down w.sched.last_worker N l) (w.down i) (h.down i);
-  news = λ c. all_weaken (AreNumbersNews w.sched.last_worker) (AreNumbersNews N) (more_news w.sched.last_worker N l) (w.to_client c) (h.news c);
+  down = λ i. all_weaker (AreNumbersDown w.sched.last_worker) (AreNumbersDown N) (more_down w.sched.last_worker N l) (w.down i) (h.down i);
+  news = λ c. all_weaker (AreNumbersNews w.sched.last_worker) (AreNumbersNews N) (more_news w.sched.last_worker N l) (w.to_client c) (h.news c);
 }
 
 named_at : (w : World) → AreNamedTo w.sched.last_worker w → AreNamed w
@@ -607,15 +609,12 @@ named_at w h = record { holders = λ i. (h.workers i).holders; asks = λ i. (h.w
 
 -- ## Every event
 
-le_self : (n : ℕ) → n ≤ n
-le_self n = omega arith
-
 to_self : (w : World) → AreNamed w → AreNamedTo w.sched.last_worker w
-to_self w h = named_to w w.sched.last_worker (le_self w.sched.last_worker) h
+to_self w h = named_to w w.sched.last_worker (le_refl w.sched.last_worker) h
 
 by_scheduler : (w : World) (s : SchedEvent) → AreNamed w → AreNamed (at_scheduler w s)
 unfolding scheduled
-by_scheduler w s h = named_at (at_scheduler w s) (nt_scheduler (sched_step w.sched s).facts.last_worker w s (le_self (sched_step w.sched s).facts.last_worker) (named_to w (sched_step w.sched s).facts.last_worker (last_more w.sched s) h))
+by_scheduler w s h = named_at (at_scheduler w s) (nt_scheduler (sched_step w.sched s).facts.last_worker w s (le_refl (sched_step w.sched s).facts.last_worker) (named_to w (sched_step w.sched s).facts.last_worker (last_more w.sched s) h))
 
 by_worker : (w : World) (i : ℕ) (e : WorkerEvent) → BringsNumbers w.sched.last_worker (w.workers i) e → AreNamed w → AreNamed (at_worker w i e)
 unfolding worked

@@ -1,12 +1,12 @@
 -- What a client hears of a key from one event of the scheduler.
 use Rattle.std.proofs.Common.{◌≡◌, ℕ, ◌<◌, ◌≤◌, Bool, true, false, cond, not, ◌&&◌, ◌||◌, List, [], ◌∷◌, ◌++◌, Option, Some, None, refl, sym, ap, ◌∙◌, arith, is_some}
-use Rattle.std.proofs.lemmas.Bool.{true≢false, eqb-true}
+use Rattle.std.proofs.lemmas.Bool.{true≢false, eqb-true, eq-eqb}
 use Rattle.std.proofs.Math.Dec.{eqb}
 use Rattle.cluster_rules.specs.Derived.{is_in}
-use Rattle.cluster_rules.proofs.SchedFrame.{same_eqb}
 use Rattle.cluster_msgs.specs.declared.messages.ToClient.{ToClient}
 use Rattle.std.specs.List.{list_any, filter_map, flat_map, cons_option}
 use Rattle.std.specs.Option.{option_map}
+use Rattle.std.proofs.lemmas.List.{append-nil}
 use Rattle.cluster_msgs.specs.declared.messages.ToClient.TheVariants.{KeyInMemory, LostData, ClientTaskErred}
 use Rattle.cluster_rules.specs.Functions.{from_one}
 use Rattle.cluster_rules.specs.Derived.{below}
@@ -88,7 +88,7 @@ module _ (t : Stages) (c : ℕ) where
       right (Some x) b = refl
 
       some : (m : ToClient) → is_news k m ≡ eqb q k → late k (letters c (cons_option (Some (c, m)) ms)) ≡ either (late k (letters c ms)) (cond (eqb q k) (Told (Some (c, m))) None)
-      some m e = ap (λ b. late k (cond b (m ∷ letters c ms) (letters c ms))) (same_eqb c c refl) ∙ ap (λ b. either (late k (letters c ms)) (cond b (Some m) None)) e
+      some m e = ap (λ b. late k (cond b (m ∷ letters c ms) (letters c ms))) (eq-eqb c c refl) ∙ ap (λ b. either (late k (letters c ms)) (cond b (Some m) None)) e
 
       by : (p u v x : Bool) (o : Option ℕ) → let s = cond {A = Option (ℕ × ToClient)} (not p) None (cond u (option_map (λ b. (c, ClientTaskErred q b)) o) (cond v (Some (c, KeyInMemory q (holders t.placed q))) (cond x (Some (c, LostData q)) None))) in
           late k (letters c (cons_option s ms)) ≡ either (late k (letters c ms)) (cond (eqb q k) (Told s) None)
@@ -136,13 +136,9 @@ module _ (t : Stages) (c : ℕ) where
   all_letters n (x ∷ xs) d = letters-append c (filter_map (client_message t x) (below n)) (flat_map (λ y. filter_map (client_message t y) (below n)) xs)
       ∙ ap (λ l. letters c (filter_map (client_message t x) (below n)) ++ l) (all_letters n xs d.1) ∙ pick (eqb x c) refl (is_in c xs) refl
     where
-      nil : (l : List ToClient) → l ++ [] ≡ l
-      nil [] = refl
-      nil (y ∷ ys) = ap (λ l. y ∷ l) (nil ys)
-
       pick : (b : Bool) → eqb x c ≡ b → (i : Bool) → is_in c xs ≡ i → letters c (filter_map (client_message t x) (below n)) ++ cond i (letters c (filter_map (client_message t c) (below n))) [] ≡ cond (b || i) (letters c (filter_map (client_message t c) (below n))) []
       pick true e true m = absurd (true≢false (sym m ∙ ap (λ y. is_in y xs) (sym (eqb-true x c e)) ∙ d.0))
-      pick true e false m = nil (letters c (filter_map (client_message t x) (below n))) ∙ ap (λ y. letters c (filter_map (client_message t y) (below n))) (eqb-true x c e)
+      pick true e false m = append-nil (letters c (filter_map (client_message t x) (below n))) ∙ ap (λ y. letters c (filter_map (client_message t y) (below n))) (eqb-true x c e)
       pick false e true m = ap (λ l. l ++ letters c (filter_map (client_message t c) (below n))) (no_letters x e (below n))
       pick false e false m = ap (λ l. l ++ []) (no_letters x e (below n))
 

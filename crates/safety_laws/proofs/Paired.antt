@@ -1,8 +1,10 @@
 -- What holds of each pair of a worker and a key holds after every event of the world.
 use Rattle.std.proofs.Common.{◌≡◌, ℕ, ◌+◌, ◌<◌, ◌≤◌, Bool, true, false, cond, not, ◌&&◌, List, [], ◌∷◌, ◌++◌, Option, Some, None, refl, sym, ap, ◌∙◌, subst, arith, is_some, ⊎_elim}
 use Rattle.std.specs.List.{AllByRecursion}
-use Rattle.std.proofs.lemmas.Bool.{true≢false, false≢true, eqb-true, and_parts, and_from, cases_lt}
+use Rattle.std.proofs.lemmas.Bool.{true≢false, false≢true, eqb-true, and_parts, and_from, cases_lt, eq-eqb}
 use Rattle.std.proofs.Math.Dec.{eqb}
+use Rattle.std.proofs.lemmas.Option.{none-some}
+use Rattle.small_facts.proofs.Numbers.{eqb_turned}
 use Rattle.cluster_msgs.specs.Shape.{key_count}
 use Rattle.cluster_msgs.specs.declared.messages.Down.{Down}
 use Rattle.cluster_msgs.specs.declared.messages.Up.{Up}
@@ -29,8 +31,7 @@ use Rattle.cluster_rules.specs.WorldStep.{sends, scheduled, worked, client_worke
 use Rattle.cluster_rules.specs.Enabled.{enabled, may_ask}
 use Rattle.cluster_rules.specs.Inside.{AreKeys, down_keys, IsInsideWorld}
 use Rattle.cluster_rules.proofs.InsideSched.{all_found}
-use Rattle.cluster_rules.proofs.DerivedLemmas.{eqb_comm}
-use Rattle.cluster_rules.proofs.SchedFrame.{same_eqb, step_settles}
+use Rattle.cluster_rules.proofs.SchedFrame.{step_settles}
 use Rattle.cluster_rules.proofs.SoundStep.{sound_step}
 use Rattle.cluster_laws.specs.Settled.{IsSettled}
 use Rattle.pair_machine.specs.Pair.{Quiet, Pair, IsPair}
@@ -70,13 +71,10 @@ pair_born c = record {
   once = λ a. omega arith;
   fresh = λ a l. refl;
   unasked = λ a l. refl;
-  older = λ a e. absurd (none_some a e);
-  stolen = λ a e. absurd (none_some a e);
+  older = λ a e. absurd (none-some a e);
+  stolen = λ a e. absurd (none-some a e);
   clean = tt;
 }
-  where
-    none_some : (a : ℕ) → None ≡ Some a → ⊥
-    none_some a e = cc
 
 module _ (f : Facts) (sound : IsSound f) (settled : IsSettled f) (numbered : IsNumbered f) where
   -- a worker that is connected after an event was so before, or has just joined
@@ -151,8 +149,8 @@ module _ (j : Job) (w : World) (inside : IsInsideWorld j.setting.shape w) (sound
       (pick (eqb i x) refl (h i k low a (was_connected w.sched sound settled numbered (FromWorker x m) i (given a) c)))
     where
       pick : (b : Bool) → eqb i x ≡ b → IsPair (pair_at w i k) → IsPair (record (pair_at w i k) { up = cond (eqb x i) (report_of k m) Quiet ∷ reports k (cond b ms (w.up i)) })
-      pick true q p = subst (λ b. IsPair (record (pair_at w i k) { up = cond b (report_of k m) Quiet ∷ reports k ms })) (sym (same_eqb x i (sym (eqb-true i x q)))) (subst (λ l. IsPair (record (pair_at w i k) { up = reports k l })) (ap w.up (eqb-true i x q) ∙ e) p)
-      pick false q p = subst (λ b. IsPair (record (pair_at w i k) { up = cond b (report_of k m) Quiet ∷ reports k (w.up i) })) (sym (eqb_comm x i ∙ q)) (quiet_front (pair_at w i k) p)
+      pick true q p = subst (λ b. IsPair (record (pair_at w i k) { up = cond b (report_of k m) Quiet ∷ reports k ms })) (sym (eq-eqb x i (sym (eqb-true i x q)))) (subst (λ l. IsPair (record (pair_at w i k) { up = reports k l })) (ap w.up (eqb-true i x q) ∙ e) p)
+      pick false q p = subst (λ b. IsPair (record (pair_at w i k) { up = cond b (report_of k m) Quiet ∷ reports k (w.up i) })) (sym (eqb_turned x i ∙ q)) (quiet_front (pair_at w i k) p)
 
   p_dropped : (x : ℕ) (m : Up) (ms : List Up) → is_connected w x ≡ false → PairAfter w (record w { up = put w.up x ms }) i k
   p_dropped x m ms gone a c = pick (eqb i x) refl

@@ -1,8 +1,12 @@
 -- What was started and what was given back, after every event of the world.
 use Rattle.std.proofs.Common.{◌≡◌, ℕ, ◌+◌, Bool, true, false, cond, not, ◌&&◌, ◌||◌, List, [], ◌∷◌, ◌++◌, Option, Some, None, refl, sym, ap, ◌∙◌, subst, arith, is_some, ⊎_elim}
 use Rattle.std.specs.List.{AllByRecursion}
-use Rattle.std.proofs.lemmas.Bool.{false≢true, eqb-true, and_parts, and_from, or_cases}
+use Rattle.std.proofs.lemmas.Bool.{false≢true, eqb-true, and_parts, and_from, or_cases, eq-eqb}
 use Rattle.std.proofs.Math.Dec.{eqb}
+use Rattle.std.proofs.Math.Bool.{or-false}
+use Rattle.std.proofs.lemmas.Option.{none-some}
+use Rattle.small_facts.proofs.Numbers.{eqb_turned}
+use Rattle.small_facts.proofs.Truth.{and_first, and_second}
 use Rattle.cluster_msgs.specs.declared.messages.Down.{Down}
 use Rattle.cluster_msgs.specs.declared.messages.Up.{Up}
 use Rattle.cluster_msgs.specs.declared.messages.ToClient.{ToClient}
@@ -27,8 +31,6 @@ use Rattle.cluster_rules.specs.WorldStep.{sends, scheduled, worked, client_worke
 use Rattle.cluster_rules.specs.Enabled.{enabled, may_ask}
 use Rattle.cluster_rules.specs.Inside.{AreKeys, down_keys, IsInsideWorld}
 use Rattle.cluster_rules.proofs.InsideSched.{all_found}
-use Rattle.cluster_rules.proofs.DerivedLemmas.{eqb_comm}
-use Rattle.cluster_rules.proofs.SchedFrame.{same_eqb}
 use Rattle.cluster_laws.specs.Settled.{IsSettled}
 use Rattle.pair_machine.specs.Pair.{is_at}
 use Rattle.pair_moves.specs.Projection.{report_of, notes, reports, pair_of, IsNumbered}
@@ -38,10 +40,9 @@ use Rattle.safety_laws.specs.Past.{Past, is_it, past_after, no_past}
 use Rattle.safety_laws.proofs.Tale.{IsTale, less_tale, NotStarted, tale_closed, start_tale, pop_tale, post_tale}
 use Rattle.safety_laws.proofs.Posts.{posts_fresh}
 use Rattle.safety_laws.proofs.Running.{IsFrom, from_closed, told_from, told_runs, own_runs, start_runs}
-use Rattle.cluster_laws.proofs.Lists.{and_first, and_second}
 use Rattle.cluster_rules.proofs.WorkerLemmas.{unstarted_state-is}
 use Rattle.pair_machine.specs.Story.{hears_yes}
-use Rattle.pair_moves.proofs.Settling.{none_not_some, notes-append}
+use Rattle.pair_moves.proofs.Settling.{notes-append}
 use Rattle.safety_laws.proofs.Turns.{down_there, key_there, keys_there}
 use Rattle.safety_laws.proofs.Homes.{IsHome}
 
@@ -143,19 +144,19 @@ module _ (j : Job) (w : World) (inside : IsInsideWorld j.setting.shape w) (settl
 
       pick : (b : Bool) → eqb i x ≡ b → IsTale st (λ a. yi a || (eqb x i && hears_yes (reports k (w.up i)) a)) (record (pair_at w i k) { up = reports k (cond b ms (w.up i)) }) × RunsIn st w i k
       pick true q = (
-        subst (λ c. IsTale st (λ a. yi a || (c && hears_yes (reports k (w.up i)) a)) (record (pair_at w i k) { up = reports k ms })) (sym (same_eqb x i (sym (eqb-true i x q))))
+        subst (λ c. IsTale st (λ a. yi a || (c && hears_yes (reports k (w.up i)) a)) (record (pair_at w i k) { up = reports k ms })) (sym (eq-eqb x i (sym (eqb-true i x q))))
             (subst (λ l. IsTale st (λ a. yi a || hears_yes (reports k l) a) (record (pair_at w i k) { up = reports k ms })) (sym (ap w.up (eqb-true i x q) ∙ e))
             (pop_tale st yi (pair_at w i k) (report_of k m) (reports k ms) (subst (λ l. IsTale st yi (record (pair_at w i k) { up = reports k l })) (ap w.up (eqb-true i x q) ∙ e) h.0))),
         h.1,
       )
-      pick false q = (subst (λ (f : ℕ → Bool). IsTale st f (pair_at w i k)) (λ y a. sym (ap (λ c. yi a || (c && hears_yes (reports k (w.up i)) a)) (eqb_comm x i ∙ q) ∙ or_false (yi a)) y) h.0, h.1)
+      pick false q = (subst (λ (f : ℕ → Bool). IsTale st f (pair_at w i k)) (λ y a. sym (ap (λ c. yi a || (c && hears_yes (reports k (w.up i)) a)) (eqb_turned x i ∙ q) ∙ or_false (yi a)) y) h.0, h.1)
 
   t_new : (n threads : ℕ) → Both st yi w i k → Both st yi (new_at w n threads) i k
   t_new n threads h = pick (eqb i n)
     where
       pick : (b : Bool) → IsTale st yi (pair_of w.sched i k (record { down = w.down i; seen = (cond b (new_worker (shape_of w) n threads) (w.workers i)).seen; mine = (cond b (new_worker (shape_of w) n threads) (w.workers i)).mine k; mem = (cond b (new_worker (shape_of w) n threads) (w.workers i)).mem k; up = w.up i }))
           × ((a : ℕ) → st a ≡ true → (cond b (new_worker (shape_of w) n threads) (w.workers i)).mine k ≡ Some a → (cond b (new_worker (shape_of w) n threads) (w.workers i)).running k ≡ true)
-      pick true = (less_tale st yi (pair_at w i k) _ (record { tallies = λ a. omega arith; given = λ a. omega arith; yield = λ a e z. z; counter = refl }) h.0, λ a z m. absurd (none_not_some a m))
+      pick true = (less_tale st yi (pair_at w i k) _ (record { tallies = λ a. omega arith; given = λ a. omega arith; yield = λ a e z. z; counter = refl }) h.0, λ a z m. absurd (none-some a m))
       pick false = h
 
   t_died : (x : ℕ) → Both st yi w i k → Both st yi (died w x) i k
@@ -223,13 +224,9 @@ t_up : (j : Job) (w : World) (inside : IsInsideWorld j.setting.shape w) (settled
     → Both st yi w i k → Both st (λ a. yi a || (eqb x i && hears_yes (reports k (w.up i)) a)) (take_up_first w x ms) i k
 t_up j w inside settled numbered home st yi i k x [] e h = (subst (λ (f : ℕ → Bool). IsTale st f (pair_at w i k)) (λ y a. sym (none a (eqb x i) refl) y) h.0, h.1)
   where
-    or_false : (b : Bool) → (b || false) ≡ b
-    or_false true = refl
-    or_false false = refl
-
     none : (a : ℕ) (b : Bool) → eqb x i ≡ b → (yi a || (b && hears_yes (reports k (w.up i)) a)) ≡ yi a
-    none a true q = ap (λ l. yi a || hears_yes (reports k l) a) (ap w.up (sym (eqb-true x i q)) ∙ e) ∙ or_false (yi a)
-    none a false q = or_false (yi a)
+    none a true q = ap (λ l. yi a || hears_yes (reports k l) a) (ap w.up (sym (eqb-true x i q)) ∙ e) ∙ or-false (yi a)
+    none a false q = or-false (yi a)
 t_up j w inside settled numbered home st yi i k x (m ∷ ms) e h = pick (is_connected w x)
   where
     yi2 : ℕ → Bool
@@ -259,7 +256,7 @@ t_start j w inside settled numbered home st yi i k x t h = (t_tale j w inside se
     now e s q = ap (λ (y : WorkerFacts). y.running k) q ∙ start_runs (w.workers x) k (ap (λ y. would_start (w.workers y)) (eqb-true x i e) ∙ it_is (would_start (w.workers i)) s)
 
     here : eqb x i ≡ true → (at_worker w x StartTask).workers i ≡ (worker_step (w.workers x) StartTask).facts
-    here e = ap (λ b. cond b (worker_step (w.workers x) StartTask).facts (w.workers i)) (eqb_comm i x ∙ e)
+    here e = ap (λ b. cond b (worker_step (w.workers x) StartTask).facts (w.workers i)) (eqb_turned i x ∙ e)
 
     runs : (a : ℕ) → st2 a ≡ true → ((at_worker w x StartTask).workers i).mine k ≡ Some a → ((at_worker w x StartTask).workers i).running k ≡ true
     runs a z m = ⊎_elim (λ y. t_runs j w inside settled numbered home st yi i k w x StartTask (λ b. tt) t h.1 a y m)

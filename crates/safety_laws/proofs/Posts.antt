@@ -3,6 +3,7 @@ use Rattle.std.proofs.Common.{◌≡◌, ℕ, ◌≤◌, Bool, true, false, cond
 use Rattle.std.specs.List.{cons_option}
 use Rattle.std.proofs.lemmas.Bool.{true≢false, eqb-true}
 use Rattle.std.proofs.Math.Dec.{eqb}
+use Rattle.small_facts.proofs.Truth.{one_at_most}
 use Rattle.cluster_msgs.specs.declared.cores.Steal.{Steal}
 use Rattle.cluster_msgs.specs.declared.cores.SchedEvent.{SchedEvent}
 use Rattle.cluster_msgs.specs.declared.cores.SchedEvent.TheVariants.{Join, Leave, FromWorker, FromClient, Balance, Evict}
@@ -150,11 +151,7 @@ posts_given f s i k a = pick (is_in i (workers t.placed)) refl
 
 at_one_most : (a : ℕ) (o : Option ℕ) → at_count a o ≤ 1
 at_one_most a None = omega arith
-at_one_most a (Some b) = pick (eqb b a)
-  where
-    pick : (c : Bool) → cond c 1 0 ≤ 1
-    pick true = omega arith
-    pick false = omega arith
+at_one_most a (Some b) = one_at_most (eqb b a)
 
 at_none : (a : ℕ) (o : Option ℕ) → ((b : ℕ) → o ≡ Some b → b ≡ a → ⊥) → at_count a o ≡ 0
 at_none a None h = refl

@@ -1,6 +1,6 @@
 -- What a connected worker has asked the scheduler for, and hasn't heard of, is under way.
 use Rattle.std.proofs.Common.{◌≡◌, ℕ, ◌+◌, ◌≤◌, Bool, true, false, cond, not, ◌&&◌, ◌||◌, List, [], ◌∷◌, ◌++◌, Option, Some, None, refl, sym, ap, ◌∙◌, subst, arith, is_some, map, filter, fold, inl, inr, ◌⊎◌, ⊎_elim}
-use Rattle.std.proofs.lemmas.Bool.{true≢false, false≢true, eqb-true}
+use Rattle.std.proofs.lemmas.Bool.{true≢false, false≢true, eqb-true, eq-eqb}
 use Rattle.std.proofs.Math.Dec.{eqb}
 use Rattle.cluster_msgs.specs.declared.messages.Down.{Down}
 use Rattle.cluster_msgs.specs.declared.messages.Down.TheVariants.{ComputeTask, FreeKeys, StealRequest, RemoveReplicas, AcquireReplicas, RefreshWhoHas}
@@ -12,7 +12,7 @@ use Rattle.cluster_rules.specs.Functions.{put}
 use Rattle.cluster_rules.specs.Derived.{is_in}
 use Rattle.cluster_rules.specs.Worker.{Ask as OpenAsk, WorkerFacts, awaited, is_wanted, wstate, is_missing_state, would_start, ask_to, without_ask}
 use Rattle.cluster_rules.specs.WorkerStep.{WorkerStep, quiet, after_out, each_key, taken, set_holders, into_mem, give_up, given, free_key, yields, asked_back, remove_replica, remove_replicas, acquire, refresh, take_down, start, Arrivals, arrive_as, arrive, arrived, stopped, erred_as, done, keys_of, ask_peer, lose_holders, not_found, answered_ask, gathered_by, gathered, lose_data, worker_row, seek_missing, worker_step}
-use Rattle.cluster_rules.proofs.SchedFrame.{same_eqb}
+use Rattle.cluster_rules.proofs.SchedFrame.{in_range}
 use Rattle.cluster_msgs.specs.declared.messages.Up.{Up}
 use Rattle.cluster_msgs.specs.declared.messages.ToClient.{ToClient}
 use Rattle.cluster_msgs.specs.declared.messages.FromClient.{FromClient as ClientMessage}
@@ -32,6 +32,8 @@ use Rattle.std.proofs.lemmas.Bool.{and_parts}
 use Rattle.std.specs.List.{list_any}
 use Rattle.std.proofs.lemmas.List.Folds.{list_any-append}
 use Rattle.std.proofs.lemmas.Bool.{or_cases, cases_lt}
+use Rattle.std.proofs.Math.Bool.{or-true}
+use Rattle.small_facts.proofs.Numbers.{eqb_turned}
 use Rattle.cluster_msgs.specs.declared.cores.Instruction.{Instruction}
 use Rattle.cluster_msgs.specs.declared.messages.Up.TheVariants.{TaskErred, AddKeys, ReleaseWorkerData, RequestRefreshWhoHas}
 use Rattle.cluster_rules.specs.Functions.{from_one}
@@ -40,10 +42,8 @@ use Rattle.cluster_rules.specs.SchedTable.{change, change_up}
 use Rattle.cluster_rules.specs.SchedStep.{Stages, sched_step, settle, finish_step, posted, place_all, mail, to_worker, free_message, lost_keys, task_messages}
 use Rattle.cluster_rules.specs.WorkerStep.{unasked_keys}
 use Rattle.cluster_rules.specs.WorldStep.{sends}
-use Rattle.cluster_rules.proofs.DerivedLemmas.{eqb_comm}
 use Rattle.cluster_laws.proofs.OrderLemmas.{mail-down, mail-own_part}
-use Rattle.cluster_rules.proofs.SchedFrame.{or_true}
-use Rattle.cluster_rules.proofs.WorkerLemmas.{filter_in, range_in}
+use Rattle.cluster_rules.proofs.WorkerLemmas.{filter_in}
 use Rattle.pair_moves.proofs.WorkerMoves.{sends-append}
 use Rattle.cluster_rules.specs.Inside.{IsInsideWorld}
 use Rattle.cluster_rules.proofs.SchedFrame.{step_settles}
@@ -66,7 +66,7 @@ module _ (k : ℕ) where
   any_sends xs ys = ap (list_any (questions k)) (sends-append xs ys) ∙ list_any-append (questions k) (sends xs) (sends ys)
 
   af_then : (w v u : WorkerFacts) (xs ys : List Instruction) → AskedFrom k w v xs → AskedFrom k v u ys → AskedFrom k w u (xs ++ ys)
-  af_then w v u xs ys f g h = ⊎_elim (λ a. ⊎_elim (λ b. inl b) (λ b. inr (any_sends xs ys ∙ ap (λ c. c || list_any (questions k) (sends ys)) b)) (f a)) (λ b. inr (any_sends xs ys ∙ ap (λ c. list_any (questions k) (sends xs) || c) b ∙ or_true (list_any (questions k) (sends xs)))) (g h)
+  af_then w v u xs ys f g h = ⊎_elim (λ a. ⊎_elim (λ b. inl b) (λ b. inr (any_sends xs ys ∙ ap (λ c. c || list_any (questions k) (sends ys)) b)) (f a)) (λ b. inr (any_sends xs ys ∙ ap (λ c. list_any (questions k) (sends xs) || c) b ∙ or-true (list_any (questions k) (sends xs)))) (g h)
 
   af_more : (w v : WorkerFacts) (xs ys : List Instruction) → AskedFrom k w v xs → AskedFrom k w v (xs ++ ys)
   af_more w v xs ys f h = ⊎_elim (λ a. inl a) (λ b. inr (any_sends xs ys ∙ ap (λ c. c || list_any (questions k) (sends ys)) b)) (f h)
@@ -98,7 +98,7 @@ module _ (k : ℕ) where
     where
       pick : (b : Bool) → eqb k x.0 ≡ b → cond b false (w.asked k) ≡ true → list_any (λ (p : ℕ × List (ℕ × ℕ)). eqb p.0 k) xs ≡ false → (w.asked k ≡ true) × ((eqb x.0 k || list_any (λ (p : ℕ × List (ℕ × ℕ)). eqb p.0 k) xs) ≡ false)
       pick true e a n = absurd (false≢true a)
-      pick false e a n = (a, ap (λ c. c || list_any (λ (p : ℕ × List (ℕ × ℕ)). eqb p.0 k) xs) (eqb_comm x.0 k ∙ e) ∙ n)
+      pick false e a n = (a, ap (λ c. c || list_any (λ (p : ℕ × List (ℕ × ℕ)). eqb p.0 k) xs) (eqb_turned x.0 k ∙ e) ∙ n)
 
   af_given : (w : WorkerFacts) (q a : ℕ) (who : List (ℕ × List (ℕ × ℕ))) → (given w q a who).facts.asked ≡ w.asked
   unfolding given
@@ -159,7 +159,7 @@ module _ (k : ℕ) where
   af_not_found p v x = pick (is_missing_state (wstate (lose_holders v x.0) x.0))
     where
       asked : (b : Bool) → eqb k x.0 ≡ b → cond b true (v.asked k) ≡ true → (v.asked k ≡ true) ⊎ ((eqb x.0 k || false) ≡ true)
-      asked true e h = inr (ap (λ c. c || false) (eqb_comm x.0 k ∙ e))
+      asked true e h = inr (ap (λ c. c || false) (eqb_turned x.0 k ∙ e))
       asked false e h = inl h
 
       pick : (b : Bool) → let s = cond {A = WorkerStep} b (record { facts = record (lose_holders v x.0) { asked = put v.asked x.0 true }; out = Send (MissingData v.seen x.0 p x.1) ∷ [] }) (quiet (lose_holders v x.0)) in AskedFrom k v s.facts s.out
@@ -194,13 +194,13 @@ module _ (k : ℕ) where
   -- what is asked for in the end has its message
   all_asked : (seen : ℕ) (qs : List ℕ) → is_in k qs ≡ true → list_any (questions k) (sends (map (λ q. Send (RequestRefreshWhoHas seen q)) qs)) ≡ true
   all_asked seen [] h = absurd (false≢true h)
-  all_asked seen (q ∷ qs) h = ⊎_elim (λ e. ap (λ c. c || list_any (questions k) (sends (map (λ x. Send (RequestRefreshWhoHas seen x)) qs))) e) (λ e. ap (λ c. eqb q k || c) (all_asked seen qs e) ∙ or_true (eqb q k)) (or_cases (eqb q k) (is_in k qs) h)
+  all_asked seen (q ∷ qs) h = ⊎_elim (λ e. ap (λ c. c || list_any (questions k) (sends (map (λ x. Send (RequestRefreshWhoHas seen x)) qs))) e) (λ e. ap (λ c. eqb q k || c) (all_asked seen qs e) ∙ or-true (eqb q k)) (or_cases (eqb q k) (is_in k qs) h)
 
   af_seek : (s : WorkerStep) → (seek_missing s).facts.asked k ≡ true → (s.facts.asked k ≡ true) ⊎ (list_any (questions k) (sends (map (λ q. Send (RequestRefreshWhoHas s.facts.seen q)) (unasked_keys s.facts))) ≡ true)
   af_seek s h = ⊎_elim (λ a. inl a) (λ b. inr (all_asked s.facts.seen (unasked_keys s.facts) b)) (or_cases (s.facts.asked k) (is_in k (unasked_keys s.facts)) h)
 
   af_sought : (w : WorkerFacts) (s : WorkerStep) → AskedFrom k w s.facts s.out → AskedFrom k w (seek_missing s).facts (seek_missing s).out
-  af_sought w s f h = ⊎_elim (λ a. af_more w s.facts s.out _ f a) (λ b. inr (any_sends s.out _ ∙ ap (λ c. list_any (questions k) (sends s.out) || c) b ∙ or_true (list_any (questions k) (sends s.out)))) (af_seek s h)
+  af_sought w s f h = ⊎_elim (λ a. af_more w s.facts s.out _ f a) (λ b. inr (any_sends s.out _ ∙ ap (λ c. list_any (questions k) (sends s.out) || c) b ∙ or-true (list_any (questions k) (sends s.out)))) (af_seek s h)
 
   abbrev IsMessage : WorkerEvent → Type 0
   IsMessage (Told m) = ⊥
@@ -219,7 +219,7 @@ module _ (k : ℕ) where
   pub told_asked : (w : WorkerFacts) (m : Down) → (worker_step w (Told m)).facts.asked k ≡ true → ((w.asked k ≡ true) × (refreshes k m ≡ false)) ⊎ (list_any (questions k) (sends (worker_step w (Told m)).out) ≡ true)
   unfolding worker_step worker_row
   told_asked w m h = let s = take_down (taken w) m in ⊎_elim (λ a. ⊎_elim (λ b. inl b) (λ b. inr (any_sends s.out _ ∙ ap (λ c. c || list_any (questions k) (sends (map (λ q. Send (RequestRefreshWhoHas s.facts.seen q)) (unasked_keys s.facts)))) b)) (af_told (taken w) m a))
-      (λ b. inr (any_sends s.out _ ∙ ap (λ c. list_any (questions k) (sends s.out) || c) b ∙ or_true (list_any (questions k) (sends s.out)))) (af_seek s h)
+      (λ b. inr (any_sends s.out _ ∙ ap (λ c. list_any (questions k) (sends s.out) || c) b ∙ or-true (list_any (questions k) (sends s.out)))) (af_seek s h)
 
 -- ## The scheduler answers
 
@@ -233,7 +233,7 @@ unfolding sched_step finish_step settle posted place_all
 question_answered f i k m q c s = ap (list_any (refreshes k)) (mail-down t i ∙ ap (λ b. cond b (mail i (to_worker t i)) []) there ∙ mail-own_part t i)
     ∙ list_any-append (refreshes k) (mail i (free_message i (lost_keys t i))) (mail i (task_messages t.placed t.before.counter i) ++ t.changed.answer t.placed i)
     ∙ ap (λ b. list_any (refreshes k) (mail i (free_message i (lost_keys t i))) || b) (list_any-append (refreshes k) (mail i (task_messages t.placed t.before.counter i)) (t.changed.answer t.placed i)
-    ∙ ap (λ b. list_any (refreshes k) (mail i (task_messages t.placed t.before.counter i)) || b) (answered m q) ∙ or_true (list_any (refreshes k) (mail i (task_messages t.placed t.before.counter i)))) ∙ or_true (list_any (refreshes k) (mail i (free_message i (lost_keys t i))))
+    ∙ ap (λ b. list_any (refreshes k) (mail i (task_messages t.placed t.before.counter i)) || b) (answered m q) ∙ or-true (list_any (refreshes k) (mail i (task_messages t.placed t.before.counter i)))) ∙ or-true (list_any (refreshes k) (mail i (free_message i (lost_keys t i))))
   where
     t : Stages
     t = settle f (change f (FromWorker i m))
@@ -242,10 +242,10 @@ question_answered f i k m q c s = ap (list_any (refreshes k)) (mail-down t i ∙
     n = s.numbers i c
 
     there : is_in i (workers t.placed) ≡ true
-    there = filter_in (connected t.placed) (from_one t.placed.last_worker) i (range_in 1 t.placed.last_worker i n.0 (let l = n.1 in omega (arith, l))) c
+    there = filter_in (connected t.placed) (from_one t.placed.last_worker) i (in_range 1 t.placed.last_worker i n.0 (let l = n.1 in omega (arith, l))) c
 
     says : (q : ℕ) → eqb q k ≡ true → list_any (refreshes k) (cond (eqb i i) (RefreshWhoHas (who_has t.placed (q ∷ [])) ∷ []) []) ≡ true
-    says q e = ap (λ b. list_any (refreshes k) (cond b (RefreshWhoHas (who_has t.placed (q ∷ [])) ∷ []) [])) (same_eqb i i refl) ∙ ap (λ b. b || false) (named q e)
+    says q e = ap (λ b. list_any (refreshes k) (cond b (RefreshWhoHas (who_has t.placed (q ∷ [])) ∷ []) [])) (eq-eqb i i refl) ∙ ap (λ b. b || false) (named q e)
       where
         named : (q : ℕ) → eqb q k ≡ true → refreshes k (RefreshWhoHas (who_has t.placed (q ∷ []))) ≡ true
         named q e = names_it t.placed q k e
@@ -295,7 +295,7 @@ module _ (j : Job) (w : World) (inside : IsInsideWorld j.setting.shape w) (sound
       own : i ≡ x → (worker_step (v.workers x) e).facts.asked k ≡ true → (list_any (questions k) (v.up x ++ sends (worker_step (v.workers x) e).out) || list_any (refreshes k) (v.down i)) ≡ true
       own s q = subst (λ y. (list_any (questions k) (v.up y ++ sends (worker_step (v.workers x) e).out) || list_any (refreshes k) (v.down i)) ≡ true) s
           (⊎_elim (λ z. more_up (list_any (refreshes k) (v.down i)) (v.up i) (sends (worker_step (v.workers x) e).out) (p a c (ap (λ y. (v.workers y).asked k) s ∙ z)))
-          (λ z. ap (λ b. b || list_any (refreshes k) (v.down i)) (list_any-append (questions k) (v.up i) (sends (worker_step (v.workers x) e).out) ∙ ap (λ b. list_any (questions k) (v.up i) || b) z ∙ or_true (list_any (questions k) (v.up i))))
+          (λ z. ap (λ b. b || list_any (refreshes k) (v.down i)) (list_any-append (questions k) (v.up i) (sends (worker_step (v.workers x) e).out) ∙ ap (λ b. list_any (questions k) (v.up i) || b) z ∙ or-true (list_any (questions k) (v.up i))))
           (own_asked k (v.workers x) e o q))
 
       pick : (b : Bool) → eqb i x ≡ b → (cond b (worker_step (v.workers x) e).facts (v.workers i)).asked k ≡ true → (list_any (questions k) (cond b (v.up x ++ sends (worker_step (v.workers x) e).out) (v.up i)) || list_any (refreshes k) (v.down i)) ≡ true
@@ -313,7 +313,7 @@ module _ (j : Job) (w : World) (inside : IsInsideWorld j.setting.shape w) (sound
       own s q = subst (λ y. (list_any (questions k) (w.up y ++ out) || list_any (refreshes k) ms) ≡ true) s
           (⊎_elim (λ z. more_up (list_any (refreshes k) ms) (w.up i) out (ap (λ b. list_any (questions k) (w.up i) || (b || list_any (refreshes k) ms)) (sym z.1)
           ∙ ap (λ l. list_any (questions k) (w.up i) || list_any (refreshes k) l) (sym (ap w.down s ∙ e)) ∙ h i k a c (ap (λ y. (w.workers y).asked k) s ∙ z.0)))
-          (λ z. ap (λ b. b || list_any (refreshes k) ms) (list_any-append (questions k) (w.up i) out ∙ ap (λ b. list_any (questions k) (w.up i) || b) z ∙ or_true (list_any (questions k) (w.up i))))
+          (λ z. ap (λ b. b || list_any (refreshes k) ms) (list_any-append (questions k) (w.up i) out ∙ ap (λ b. list_any (questions k) (w.up i) || b) z ∙ or-true (list_any (questions k) (w.up i))))
           (told_asked k (w.workers x) m q))
 
       pick : (b : Bool) → eqb i x ≡ b → (cond b (worker_step (w.workers x) (Told m)).facts (w.workers i)).asked k ≡ true → (list_any (questions k) (cond b (w.up x ++ out) (w.up i)) || list_any (refreshes k) (cond b ms (w.down i))) ≡ true
@@ -336,7 +336,7 @@ module _ (j : Job) (w : World) (inside : IsInsideWorld j.setting.shape w) (sound
       pick true s p = by (questions k m) refl (ap (λ l. list_any (questions k) l || list_any (refreshes k) (w.down i)) (sym (ap w.up (eqb-true i x s) ∙ e)) ∙ p)
         where
           by : (d : Bool) → questions k m ≡ d → ((questions k m || list_any (questions k) ms) || list_any (refreshes k) (w.down i)) ≡ true → (list_any (questions k) ms || list_any (refreshes k) (w.down i ++ sent)) ≡ true
-          by true z r = ap (λ b. list_any (questions k) ms || b) (list_any-append (refreshes k) (w.down i) sent ∙ ap (λ b. list_any (refreshes k) (w.down i) || b) (asks (eqb-true i x s) z) ∙ or_true (list_any (refreshes k) (w.down i))) ∙ or_true (list_any (questions k) ms)
+          by true z r = ap (λ b. list_any (questions k) ms || b) (list_any-append (refreshes k) (w.down i) sent ∙ ap (λ b. list_any (refreshes k) (w.down i) || b) (asks (eqb-true i x s) z) ∙ or-true (list_any (refreshes k) (w.down i))) ∙ or-true (list_any (questions k) ms)
           by false z r = more_down (list_any (questions k) ms) (w.down i) sent (ap (λ b. (b || list_any (questions k) ms) || list_any (refreshes k) (w.down i)) (sym z) ∙ r)
 
   r_dropped : (x : ℕ) (m : Up) (ms : List Up) → is_connected w x ≡ false → Told2 (record w { up = put w.up x ms })

@@ -1,7 +1,8 @@
 -- What runs goes on: an event of a worker leaves a task of it running, unless it is the task that ends.
 use Rattle.std.proofs.Common.{◌≡◌, ℕ, ◌+◌, ◌≤◌, Bool, true, false, cond, not, ◌&&◌, List, [], ◌∷◌, ◌++◌, Option, Some, None, refl, sym, ap, ◌∙◌, subst, arith, filter, fold, inl, inr, ◌⊎◌}
-use Rattle.std.proofs.lemmas.Bool.{false≢true, eqb-true}
+use Rattle.std.proofs.lemmas.Bool.{false≢true, eqb-true, eq-eqb}
 use Rattle.std.proofs.Math.Dec.{eqb}
+use Rattle.std.proofs.lemmas.Option.{none-some, same_Some}
 use Rattle.cluster_msgs.specs.declared.messages.Down.{Down}
 use Rattle.cluster_msgs.specs.declared.messages.Down.TheVariants.{ComputeTask, FreeKeys, StealRequest, RemoveReplicas, AcquireReplicas, RefreshWhoHas}
 use Rattle.cluster_msgs.specs.declared.messages.Up.TheVariants.{TaskFinished, MissingData, StealResponse}
@@ -12,11 +13,9 @@ use Rattle.cluster_rules.specs.Functions.{put}
 use Rattle.cluster_rules.specs.Derived.{is_in}
 use Rattle.cluster_rules.specs.Worker.{Ask as OpenAsk, WorkerFacts, awaited, is_wanted, wstate, is_missing_state, would_start, ask_to, without_ask}
 use Rattle.cluster_rules.specs.WorkerStep.{WorkerStep, quiet, after_out, each_key, taken, set_holders, into_mem, give_up, given, free_key, yields, asked_back, remove_replica, remove_replicas, acquire, refresh, take_down, start, Arrivals, arrive_as, arrive, arrived, stopped, erred_as, done, keys_of, ask_peer, lose_holders, not_found, answered_ask, gathered_by, gathered, worker_row, worker_step, worker_takes}
-use Rattle.cluster_rules.proofs.SchedFrame.{same_eqb}
 use Rattle.pair_machine.specs.Pair.{Note, Task, Free, Remove, Ask, Other, is_at, given_count, Pair}
 use Rattle.pair_machine.specs.Moves.{take_note, take_remove, take_ask, opening}
 use Rattle.pair_moves.specs.Projection.{note_of}
-use Rattle.pair_moves.proofs.Settling.{none_not_some}
 use Rattle.pair_moves.proofs.WorkerMoves.{IsClosed, own_keeps, told_keeps, IsOwn}
 
 -- ## The rows that leave what runs
@@ -126,12 +125,12 @@ done_mine w q false = pick (w.mine q) refl
 
     pick : (o : Option ℕ) → w.mine q ≡ o → (arrive_as r q o).facts.mine q ≡ None
     pick None e = kept (is_wanted r.facts q) e
-    pick (Some a) e = ap (λ b. cond b None (w.mine q)) (same_eqb q q refl)
+    pick (Some a) e = ap (λ b. cond b None (w.mine q)) (eq-eqb q q refl)
 done_mine w q true = pick (w.mine q) refl
   where
     pick : (o : Option ℕ) → w.mine q ≡ o → (erred_as (stopped w q) q o).facts.mine q ≡ None
     pick None e = e
-    pick (Some a) e = ap (λ b. cond b None (w.mine q)) (same_eqb q q refl)
+    pick (Some a) e = ap (λ b. cond b None (w.mine q)) (eq-eqb q q refl)
 
 -- ## Where a task comes from
 
@@ -152,11 +151,8 @@ module _ (a : ℕ) (P : Type 0) where
 
   from_take : (agrees : Bool) (seen : ℕ) (mem : Bool) (mine : Option ℕ) (n : Note) → IsGiven n → (mine ≡ Some a → P) → (take_note agrees seen mem mine n).mine ≡ Some a → P
   from_take agrees seen true mine (Task b) g h e = h e
-  from_take agrees seen false mine (Task b) g h e = g (same b a e)
-    where
-      same : (x y : ℕ) → Some x ≡ Some y → x ≡ y
-      same x y q = cc
-  from_take agrees seen mem mine Free g h e = absurd (none_not_some a e)
+  from_take agrees seen false mine (Task b) g h e = g (same_Some b a e)
+  from_take agrees seen mem mine Free g h e = absurd (none-some a e)
   from_take agrees seen true mine Remove g h e = pick agrees e
     where
       pick : (b : Bool) → (take_remove seen true mine b).mine ≡ Some a → P
@@ -166,14 +162,14 @@ module _ (a : ℕ) (P : Type 0) where
   from_take agrees seen mem mine (Ask b) g h e = pick (is_at b mine && agrees) e
     where
       pick : (c : Bool) → (take_ask mem mine b c).mine ≡ Some a → P
-      pick true e = absurd (none_not_some a e)
+      pick true e = absurd (none-some a e)
       pick false e = h e
   from_take agrees seen mem mine Other g h e = h e
 
   pub from_closed : IsClosed IsFrom (λ _. Unit {0})
   from_closed = record {
-    finish = λ p b e x. (λ q. absurd (none_not_some a q), x.1);
-    fail = λ p b e x. (λ q. absurd (none_not_some a q), x.1);
+    finish = λ p b e x. (λ q. absurd (none-some a q), x.1);
+    fail = λ p b e x. (λ q. absurd (none-some a q), x.1);
     store = λ p m e x. x;
     lose = λ p m x. x;
     say = λ p x. x;
@@ -188,7 +184,7 @@ told_from w m k a t e = (told_keeps (IsFrom a P) (λ _. Unit {0}) (from_closed a
     P = (w.mine k ≡ Some a) ⊎ (1 ≤ given_count a (note_of k m ∷ []))
 
     first : (n : Note) → (1 ≤ given_count a (n ∷ []) → P) → IsGiven a P n
-    first (Task b) h = λ i. h (one (eqb b a) (same_eqb b a i))
+    first (Task b) h = λ i. h (one (eqb b a) (eq-eqb b a i))
       where
         one : (c : Bool) → c ≡ true → 1 ≤ cond c 1 0 + 0
         one true e = omega arith
@@ -232,7 +228,7 @@ runs_on w Start k a q r = run_start w (would_start w) k r
 runs_on w (Done x z) k a q r = pick (eqb k x) refl
   where
     pick : (b : Bool) → eqb k x ≡ b → (done w x z).facts.running k ≡ true
-    pick true e = absurd (none_not_some a (sym (done_mine w x z) ∙ ap (done w x z).facts.mine (sym (eqb-true k x e)) ∙ q))
+    pick true e = absurd (none-some a (sym (done_mine w x z) ∙ ap (done w x z).facts.mine (sym (eqb-true k x e)) ∙ q))
     pick false e = ap (λ (f : ℕ → Bool). f k) (run_done w x z) ∙ ap (λ b. cond b false (w.running k)) e ∙ r
 runs_on w (AskPeer p) k a q r = r
 runs_on w (Gathered p n found) k a q r = ap (λ (f : ℕ → Bool). f k) (run_gathered w p n found) ∙ r
@@ -245,4 +241,4 @@ own_runs w e k a o t q = (own_from w e k a o t q, λ r. runs_on w e k a q r)
 -- a start makes its key run
 pub start_runs : (w : WorkerFacts) (k : ℕ) → would_start w ≡ Some k → (worker_step w Start).facts.running k ≡ true
 unfolding worker_step worker_row
-start_runs w k e = subst (λ o. (start w o).facts.running k ≡ true) (sym e) (ap (λ b. cond b true (w.running k)) (same_eqb k k refl))
+start_runs w k e = subst (λ o. (start w o).facts.running k ≡ true) (sym e) (ap (λ b. cond b true (w.running k)) (eq-eqb k k refl))

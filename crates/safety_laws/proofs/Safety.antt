@@ -2,7 +2,7 @@
 use Rattle.cluster_msgs.specs.Shape.{IsShape}
 use Rattle.cluster_rules.specs.Sched.{Setting, Facts, IsSound, erred, held, known, need, phase}
 use Rattle.std.proofs.Common.{◌≤◌, ◌≡◌, ◌⊎◌, inl, inr, ℕ, Bool, true, false, List, ◌++◌, Option, Some, None, is_some, refl, sym, ◌∙◌, subst}
-use Rattle.std.proofs.lemmas.Bool.{true≢false}
+use Rattle.std.proofs.lemmas.Bool.{true≢false, false_from_ne_true}
 use Rattle.cluster_msgs.specs.declared.cores.Phase.TheVariants.{Erred, Released}
 use Rattle.cluster_msgs.specs.declared.events.Event.{Event}
 use Rattle.cluster_rules.specs.World.{Job, IsJob, opening, Drained}
@@ -25,15 +25,11 @@ let_go f h = record { forgotten = forgotten; let_go = released }
     none_of None n = refl
     none_of (Some x) n = absurd (n refl)
 
-    false_of : (b : Bool) → (b ≡ true → ⊥) → b ≡ false
-    false_of true n = absurd (n refl)
-    false_of false n = refl
-
     not_known : (k : ℕ) → known f k ≡ false → known f k ≡ true → ⊥
     not_known k e t = true≢false (sym t ∙ e)
 
     not_held : (k : ℕ) → need f k ≡ false → held f k ≡ false
-    not_held k n = false_of (held f k) (λ e. true≢false (sym (h.held k e) ∙ n))
+    not_held k n = false_from_ne_true (held f k) (λ e. true≢false (sym (h.held k e) ∙ n))
 
     forgotten : (k : ℕ) → known f k ≡ false → IsForgotten f k
     forgotten k e = record {
@@ -41,7 +37,7 @@ let_go f h = record { forgotten = forgotten; let_go = released }
       has = λ i. none_of (f.has i k) (λ t. not_known k e (h.has i k t));
       on = none_of (f.on k) (λ t. not_known k e (h.on k t));
       steal = none_of (f.steal k) (λ t. not_known k e (h.steal k t));
-      bad = false_of (f.bad k) (λ t. not_known k e (h.bad k t));
+      bad = false_from_ne_true (f.bad k) (λ t. not_known k e (h.bad k t));
     }
 
     released : (k : ℕ) → known f k ≡ true → need f k ≡ false → IsLetGo f k

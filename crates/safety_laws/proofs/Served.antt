@@ -1,8 +1,7 @@
 -- What each client waits for is known to it or on its way: what the scheduler's events keep of it.
 use Rattle.std.proofs.Common.{◌≡◌, ℕ, ◌<◌, ◌≤◌, Bool, true, false, cond, not, ◌&&◌, ◌||◌, List, [], ◌∷◌, ◌++◌, Option, Some, None, refl, sym, ap, ◌∙◌, subst, arith, is_some, ◌⊎◌, ⊎_elim}
-use Rattle.std.proofs.lemmas.Bool.{true≢false, false≢true, eqb-true}
+use Rattle.std.proofs.lemmas.Bool.{true≢false, false≢true, eqb-true, eq-eqb}
 use Rattle.std.proofs.Math.Dec.{eqb}
-use Rattle.cluster_rules.proofs.SchedFrame.{same_eqb}
 use Rattle.cluster_msgs.specs.declared.messages.ToClient.{ToClient}
 use Rattle.cluster_msgs.specs.declared.cores.SchedEvent.{SchedEvent}
 use Rattle.cluster_rules.specs.World.{World}
@@ -150,7 +149,7 @@ module _ (t : Stages) (c k : ℕ) where
       pick false e = keeps (late k (letters c (reply_message t (to_clients t) t.changed.reply))) (late k (letters c (to_clients t)))
           (subst (λ o. is_some (late k (letters c (reply_message t (to_clients t) o))) ≡ true) (sym r)
           (ap (λ b. is_some (late k (letters c (cond {A = List (ℕ × ToClient)} b ((c, KeyInMemory k (holders t.placed k)) ∷ []) [])))) (ap (λ b. held t.placed k && not b) e ∙ ap (λ b. b && true) h)
-          ∙ ap (λ b. is_some (late k (cond {A = List ToClient} b (KeyInMemory k (holders t.placed k) ∷ []) []))) (same_eqb c c refl) ∙ ap (λ b. is_some {T = ToClient} (cond b (Some (KeyInMemory k (holders t.placed k))) None)) (same_eqb k k refl)))
+          ∙ ap (λ b. is_some (late k (cond {A = List ToClient} b (KeyInMemory k (holders t.placed k) ∷ []) []))) (eq-eqb c c refl) ∙ ap (λ b. is_some {T = ToClient} (cond b (Some (KeyInMemory k (holders t.placed k))) None)) (eq-eqb k k refl)))
 
 -- ## The scheduler's events
 
@@ -184,10 +183,6 @@ erred_apart f s k e = by (held f k) refl
     by : (b : Bool) → held f k ≡ b → b ≡ false
     by true h = absurd (false≢true (sym (ap (λ b. not b && (f.bad k || list_any (erred f) (deps f k))) h) ∙ sym (erred-is f s k) ∙ e))
     by false h = refl
-
-none_any : (o : Option ToClient) → is_some o ≡ false → o ≡ None
-none_any None e = refl
-none_any (Some m) e = absurd (true≢false e)
 
 -- what the event leaves of one client and one key
 pub record IsTurn (w v : World) (s : SchedEvent) (c k : ℕ) : Type 0 where

@@ -2,7 +2,9 @@
 use Rattle.std.proofs.Common.{◌≡◌, ℕ, ◌+◌, Bool, true, false, not, ◌&&◌, cond, List, [], ◌∷◌, Option, Some, None, is_some, refl, sym, ap, ◌∙◌, subst}
 use Rattle.std.specs.Prelude.{◌==◌, nat_le}
 use Rattle.std.specs.Option.{option_map}
-use Rattle.std.proofs.lemmas.Bool.{true≢false, false≢true, and_parts, eqb-true}
+use Rattle.std.proofs.lemmas.Bool.{true≢false, false≢true, and_parts, eqb-true, eq-eqb}
+use Rattle.std.proofs.lemmas.Option.{none-some, same_Some}
+use Rattle.small_facts.proofs.Numbers.{unequal_turned}
 use Rattle.cluster_msgs.specs.declared.messages.Down.{Down}
 use Rattle.cluster_msgs.specs.declared.messages.Up.{Up}
 use Rattle.cluster_msgs.specs.declared.messages.Up.TheVariants.{TaskFinished, TaskErred, AddKeys, ReleaseWorkerData, MissingData, RequestRefreshWhoHas, StealResponse}
@@ -26,7 +28,7 @@ use Rattle.cluster_rules.specs.World.{Job, World, Parcel, is_connected, open_ask
 use Rattle.cluster_rules.specs.WorldStep.{scheduled, worked, client_worked, take_down_first, take_up, take_up_first, take_to_client, take_from_client, ask_by, gathered_at, failed_at, serve, take_answer, fail_ask, world_step}
 use Rattle.cluster_rules.specs.Enabled.{enabled, front}
 use Rattle.cluster_rules.specs.Runs.{sched_event}
-use Rattle.cluster_rules.proofs.SchedFrame.{step_settles, same_eqb}
+use Rattle.cluster_rules.proofs.SchedFrame.{step_settles}
 use Rattle.safety_laws.proofs.Turns.{sched_after, sched_is}
 
 -- ## Who is connected
@@ -108,13 +110,6 @@ leaves (FromClient c m) i = false
 leaves BalanceSched i = false
 leaves EvictSched i = false
 
-pub not_same : (i w : ℕ) → (w == i) ≡ false → (i == w) ≡ false
-not_same i w h = by (i == w) refl
-  where
-    by : (b : Bool) → (i == w) ≡ b → b ≡ false
-    by true e = absurd (true≢false (sym (same_eqb w i (sym (eqb-true i w e))) ∙ h))
-    by false e = refl
-
 connected_change : (f : Facts) (s : SchedEvent) (i : ℕ) → leaves s i ≡ false → connected f i ≡ true → connected (change f s).facts i ≡ true
 unfolding joined left
 connected_change f (JoinSched threads) i l c = by (i == f.last_worker + 1)
@@ -122,7 +117,7 @@ connected_change f (JoinSched threads) i l c = by (i == f.last_worker + 1)
     by : (b : Bool) → is_some (cond b (Some threads) (f.threads i)) ≡ true
     by true = refl
     by false = c
-connected_change f (Leave w) i l c = ap (λ b. is_some (cond b None (f.threads i))) (not_same i w l) ∙ c
+connected_change f (Leave w) i l c = ap (λ b. is_some (cond b None (f.threads i))) (unequal_turned i w l) ∙ c
 connected_change f (FromWorker w m) i l c = ap (λ (t : ℕ → Option ℕ). is_some (t i)) (up_alike f w m) ∙ c
 connected_change f (FromClient x m) i l c = ap (λ (t : ℕ → Option ℕ). is_some (t i)) (client_alike f x m) ∙ c
 connected_change f BalanceSched i l c = ap (λ (t : ℕ → Option ℕ). is_some (t i)) (balanced_alike f (next_steal f)) ∙ c
@@ -133,7 +128,7 @@ connected_step f s i l c = ap (λ (t : ℕ → Option ℕ). is_some (t i)) (step
 
 connected_joined : (f : Facts) (threads : ℕ) → connected (sched_step f (JoinSched threads)).facts (f.last_worker + 1) ≡ true
 unfolding joined
-connected_joined f threads = ap (λ (t : ℕ → Option ℕ). is_some (t (f.last_worker + 1))) (step_settles f (JoinSched threads)).threads ∙ ap (λ b. is_some (cond b (Some threads) (f.threads (f.last_worker + 1)))) (same_eqb (f.last_worker + 1) (f.last_worker + 1) refl)
+connected_joined f threads = ap (λ (t : ℕ → Option ℕ). is_some (t (f.last_worker + 1))) (step_settles f (JoinSched threads)).threads ∙ ap (λ b. is_some (cond b (Some threads) (f.threads (f.last_worker + 1)))) (eq-eqb (f.last_worker + 1) (f.last_worker + 1) refl)
 
 -- ## Who is alive
 
@@ -143,7 +138,7 @@ takes_away (Lose v) i = v == i
 takes_away (Suspect v) i = v == i
 takes_away _ i = false
 
-alive_gathered : (w : World) (a : Asker) (p n : ℕ) (found : List ℕ) → (gathered_at w a p n found).alive ≡ w.alive
+pub alive_gathered : (w : World) (a : Asker) (p n : ℕ) (found : List ℕ) → (gathered_at w a p n found).alive ≡ w.alive
 unfolding worked client_worked
 alive_gathered w (Worker i) p n found = refl
 alive_gathered w (Client c) p n found = refl
@@ -153,24 +148,24 @@ unfolding worked client_worked
 alive_failed w (Worker i) p n = refl
 alive_failed w (Client c) p n = refl
 
-alive_asks : (w : World) (a : Asker) (p : ℕ) → (ask_by w a p).alive ≡ w.alive
+pub alive_asks : (w : World) (a : Asker) (p : ℕ) → (ask_by w a p).alive ≡ w.alive
 unfolding worked client_worked
 alive_asks w (Worker i) p = refl
 alive_asks w (Client c) p = refl
 
-alive_serves : (w : World) (p : ℕ) (o : Option Parcel) → (serve w p o).alive ≡ w.alive
+pub alive_serves : (w : World) (p : ℕ) (o : Option Parcel) → (serve w p o).alive ≡ w.alive
 alive_serves w p None = refl
 alive_serves w p (Some q) = refl
 
-alive_answer : (w : World) (o : Option Parcel) → (take_answer w o).alive ≡ w.alive
+pub alive_answer : (w : World) (o : Option Parcel) → (take_answer w o).alive ≡ w.alive
 alive_answer w None = refl
 alive_answer w (Some q) = alive_gathered _ q.asker q.peer q.ask q.keys
 
-alive_fails : (w : World) (a : Asker) (p : ℕ) (o : Option Ask) → (fail_ask w a p o).alive ≡ w.alive
+pub alive_fails : (w : World) (a : Asker) (p : ℕ) (o : Option Ask) → (fail_ask w a p o).alive ≡ w.alive
 alive_fails w a p None = refl
 alive_fails w a p (Some q) = alive_failed w a p q.number
 
-alive_down : (w : World) (i : ℕ) (ms : List Down) → (take_down_first w i ms).alive ≡ w.alive
+pub alive_down : (w : World) (i : ℕ) (ms : List Down) → (take_down_first w i ms).alive ≡ w.alive
 unfolding worked
 alive_down w i [] = refl
 alive_down w i (m ∷ ms) = refl
@@ -180,16 +175,16 @@ unfolding scheduled
 alive_up w i m true = refl
 alive_up w i m false = refl
 
-alive_ups : (w : World) (i : ℕ) (ms : List Up) → (take_up_first w i ms).alive ≡ w.alive
+pub alive_ups : (w : World) (i : ℕ) (ms : List Up) → (take_up_first w i ms).alive ≡ w.alive
 alive_ups w i [] = refl
 alive_ups w i (m ∷ ms) = alive_up (record w { up = put w.up i ms }) i m (is_connected w i)
 
-alive_to_client : (w : World) (c : ℕ) (ms : List ToClient) → (take_to_client w c ms).alive ≡ w.alive
+pub alive_to_client : (w : World) (c : ℕ) (ms : List ToClient) → (take_to_client w c ms).alive ≡ w.alive
 unfolding client_worked
 alive_to_client w c [] = refl
 alive_to_client w c (m ∷ ms) = refl
 
-alive_from_client : (w : World) (c : ℕ) (ms : List ClientMessage) → (take_from_client w c ms).alive ≡ w.alive
+pub alive_from_client : (w : World) (c : ℕ) (ms : List ClientMessage) → (take_from_client w c ms).alive ≡ w.alive
 unfolding scheduled
 alive_from_client w c [] = refl
 alive_from_client w c (m ∷ ms) = refl
@@ -204,7 +199,7 @@ alive_stays j w (Join threads) i t a = by (i == w.sched.last_worker + 1)
     by : (b : Bool) → cond b true (w.alive i) ≡ true
     by true = refl
     by false = a
-alive_stays j w (Lose v) i t a = ap (λ b. cond b false (w.alive i)) (not_same i v t) ∙ a
+alive_stays j w (Lose v) i t a = ap (λ b. cond b false (w.alive i)) (unequal_turned i v t) ∙ a
 alive_stays j w (SeeLoss v) i t a = a
 alive_stays j w (Suspect v) i t a = a
 alive_stays j w (DeliverDown v) i t a = ap (λ (x : ℕ → Bool). x i) (alive_down w v (w.down v)) ∙ a
@@ -224,50 +219,44 @@ alive_stays j w (LoseSpilled v k) i t a = a
 
 -- ## Both
 
-no_event : (s : SchedEvent) → None ≡ Some s → ⊥
-no_event s e = cc
-
-same_event : (x y : SchedEvent) → Some x ≡ Some y → x ≡ y
-same_event x y e = cc
-
 up_leaves : (i v : ℕ) (ms : List Up) (b : Bool) (s : SchedEvent) → cond b (option_map (λ m. FromWorker v m) (front ms)) None ≡ Some s → leaves s i ≡ false
-up_leaves i v [] true s e = absurd (no_event s e)
-up_leaves i v (m ∷ ms) true s e = sym (ap (λ x. leaves x i) (same_event (FromWorker v m) s e))
-up_leaves i v ms false s e = absurd (no_event s e)
+up_leaves i v [] true s e = absurd (none-some s e)
+up_leaves i v (m ∷ ms) true s e = sym (ap (λ x. leaves x i) (same_Some (FromWorker v m) s e))
+up_leaves i v ms false s e = absurd (none-some s e)
 
 letter_leaves : (i c : ℕ) (ms : List ClientMessage) (s : SchedEvent) → option_map (λ m. FromClient c m) (front ms) ≡ Some s → leaves s i ≡ false
-letter_leaves i c [] s e = absurd (no_event s e)
-letter_leaves i c (m ∷ ms) s e = sym (ap (λ x. leaves x i) (same_event (FromClient c m) s e))
+letter_leaves i c [] s e = absurd (none-some s e)
+letter_leaves i c (m ∷ ms) s e = sym (ap (λ x. leaves x i) (same_Some (FromClient c m) s e))
 
 -- the worker isn't one whose loss is seen
 abbrev pub IsUnseen : World → Event → Type 0
 IsUnseen w e = (v : ℕ) → e ≡ SeeLoss v → w.alive v ≡ false
 
 nobody_leaves : (w : World) (e : Event) (i : ℕ) → IsUnseen w e → takes_away e i ≡ false → w.alive i ≡ true → (s : SchedEvent) → sched_event w e ≡ Some s → leaves s i ≡ false
-nobody_leaves w (Join threads) i t h a s e = sym (ap (λ x. leaves x i) (same_event (JoinSched threads) s e))
-nobody_leaves w (SeeLoss v) i t h a s e = sym (ap (λ x. leaves x i) (same_event (Leave v) s e)) ∙ by (v == i) refl
+nobody_leaves w (Join threads) i t h a s e = sym (ap (λ x. leaves x i) (same_Some (JoinSched threads) s e))
+nobody_leaves w (SeeLoss v) i t h a s e = sym (ap (λ x. leaves x i) (same_Some (Leave v) s e)) ∙ by (v == i) refl
   where
     by : (b : Bool) → (v == i) ≡ b → b ≡ false
     by true q = absurd (true≢false (sym a ∙ ap w.alive (sym (eqb-true v i q)) ∙ t v refl))
     by false q = refl
-nobody_leaves w (Suspect v) i t h a s e = sym (ap (λ x. leaves x i) (same_event (Leave v) s e)) ∙ h
+nobody_leaves w (Suspect v) i t h a s e = sym (ap (λ x. leaves x i) (same_Some (Leave v) s e)) ∙ h
 nobody_leaves w (DeliverUp v) i t h a s e = up_leaves i v (w.up v) (is_connected w v) s e
 nobody_leaves w (DeliverFromClient c) i t h a s e = letter_leaves i c (w.from_client c) s e
-nobody_leaves w Balance i t h a s e = sym (ap (λ x. leaves x i) (same_event BalanceSched s e))
-nobody_leaves w Evict i t h a s e = sym (ap (λ x. leaves x i) (same_event EvictSched s e))
-nobody_leaves w (Want c ks) i t h a s e = absurd (no_event s e)
-nobody_leaves w (Release c ks) i t h a s e = absurd (no_event s e)
-nobody_leaves w (Lose v) i t h a s e = absurd (no_event s e)
-nobody_leaves w (DeliverDown v) i t h a s e = absurd (no_event s e)
-nobody_leaves w (DeliverToClient c) i t h a s e = absurd (no_event s e)
-nobody_leaves w (Start v) i t h a s e = absurd (no_event s e)
-nobody_leaves w (Finish v k) i t h a s e = absurd (no_event s e)
-nobody_leaves w (SendGather x p) i t h a s e = absurd (no_event s e)
-nobody_leaves w (ServeGather p x n) i t h a s e = absurd (no_event s e)
-nobody_leaves w (ArriveGather x p n) i t h a s e = absurd (no_event s e)
-nobody_leaves w (FailGather x p) i t h a s e = absurd (no_event s e)
-nobody_leaves w (Spill v k) i t h a s e = absurd (no_event s e)
-nobody_leaves w (LoseSpilled v k) i t h a s e = absurd (no_event s e)
+nobody_leaves w Balance i t h a s e = sym (ap (λ x. leaves x i) (same_Some BalanceSched s e))
+nobody_leaves w Evict i t h a s e = sym (ap (λ x. leaves x i) (same_Some EvictSched s e))
+nobody_leaves w (Want c ks) i t h a s e = absurd (none-some s e)
+nobody_leaves w (Release c ks) i t h a s e = absurd (none-some s e)
+nobody_leaves w (Lose v) i t h a s e = absurd (none-some s e)
+nobody_leaves w (DeliverDown v) i t h a s e = absurd (none-some s e)
+nobody_leaves w (DeliverToClient c) i t h a s e = absurd (none-some s e)
+nobody_leaves w (Start v) i t h a s e = absurd (none-some s e)
+nobody_leaves w (Finish v k) i t h a s e = absurd (none-some s e)
+nobody_leaves w (SendGather x p) i t h a s e = absurd (none-some s e)
+nobody_leaves w (ServeGather p x n) i t h a s e = absurd (none-some s e)
+nobody_leaves w (ArriveGather x p n) i t h a s e = absurd (none-some s e)
+nobody_leaves w (FailGather x p) i t h a s e = absurd (none-some s e)
+nobody_leaves w (Spill v k) i t h a s e = absurd (none-some s e)
+nobody_leaves w (LoseSpilled v k) i t h a s e = absurd (none-some s e)
 
 pub connected_stays : (j : Job) (w : World) (e : Event) (i : ℕ) → IsUnseen w e → takes_away e i ≡ false → w.alive i ≡ true → is_connected w i ≡ true → is_connected (world_step j w e) i ≡ true
 connected_stays j w e i t h a c = ap (λ (f : Facts). connected f i) (sched_is j w e) ∙ after (sched_event w e) (nobody_leaves w e i t h a)
@@ -288,7 +277,7 @@ unseen w e t v q = dead (w.alive v) refl (and_parts (not (w.alive v)) (is_connec
 -- who joins is there
 pub joined_alive : (j : Job) (w : World) (threads : ℕ) → (world_step j w (Join threads)).alive (w.sched.last_worker + 1) ≡ true
 unfolding world_step scheduled
-joined_alive j w threads = ap (λ b. cond b true (w.alive (w.sched.last_worker + 1))) (same_eqb (w.sched.last_worker + 1) (w.sched.last_worker + 1) refl)
+joined_alive j w threads = ap (λ b. cond b true (w.alive (w.sched.last_worker + 1))) (eq-eqb (w.sched.last_worker + 1) (w.sched.last_worker + 1) refl)
 
 pub joined_connected : (j : Job) (w : World) (threads : ℕ) → is_connected (world_step j w (Join threads)) (w.sched.last_worker + 1) ≡ true
 joined_connected j w threads = ap (λ (f : Facts). connected f (w.sched.last_worker + 1)) (sched_is j w (Join threads)) ∙ connected_joined w.sched threads

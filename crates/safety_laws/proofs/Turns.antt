@@ -1,9 +1,11 @@
 -- Each event of the world is one event of the scheduler, or leaves the scheduler alone.
-use Rattle.std.proofs.Common.{◌≡◌, ℕ, ◌+◌, arith, length, Bool, true, false, cond, not, List, [], ◌∷◌, Option, Some, None, refl, sym, ap, ◌∙◌, subst}
+use Rattle.std.proofs.Common.{◌≡◌, ℕ, ◌+◌, length, Bool, true, false, cond, not, List, [], ◌∷◌, Option, Some, None, refl, sym, ap, ◌∙◌, subst}
 use Rattle.std.specs.Prelude.{nat_lt}
 use Rattle.std.specs.List.{list_all, AllByRecursion}
 use Rattle.std.specs.Option.{option_map}
 use Rattle.std.proofs.lemmas.Bool.{and_parts, and_from}
+use Rattle.std.proofs.Math.Nat.{add-zero}
+use Rattle.std.proofs.lemmas.Option.{none-some, same_Some}
 use Rattle.cluster_msgs.specs.Shape.{Shape, key_count}
 use Rattle.cluster_msgs.specs.declared.messages.Down.{Down}
 use Rattle.cluster_msgs.specs.declared.messages.Down.TheVariants.{ComputeTask, FreeKeys, StealRequest, RemoveReplicas, AcquireReplicas, RefreshWhoHas}
@@ -33,9 +35,6 @@ use Rattle.cluster_rules.specs.Inside.{IsKey, AreKeys, named_keys, down_keys, Is
 use Rattle.cluster_rules.specs.Runs.{sched_event}
 use Rattle.cluster_laws.proofs.OrderLemmas.{mail-down}
 use Rattle.cluster_rules.proofs.WorkerLemmas.{in_filter}
-
-none_event : (s : SchedEvent) → None ≡ Some s → ⊥
-none_event s e = cc
 
 -- ## The scheduler's part
 
@@ -147,66 +146,36 @@ module _ (g : Shape) (w : World) (h : IsInsideWorld g w) where
   letter_taken c m ms e l = and_from _ _ l (keys_there g (shape_of w) h.shape (client_keys m) (subst (λ l. AllByRecursion (λ m. AreKeys g (client_keys m)) l) e (h.from_client c)).0)
 
   up_event : (i : ℕ) (s : SchedEvent) (ms : List Up) (b : Bool) → w.up i ≡ ms → is_connected w i ≡ b → cond b (option_map (λ m. FromWorker i m) (front ms)) None ≡ Some s → sched_takes w.sched s ≡ true
-  up_event i s [] true u c e = absurd (none_some s e)
-    where
-      none_some : (s : SchedEvent) → None ≡ Some s → ⊥
-      none_some s e = cc
-  up_event i s (m ∷ ms) true u c e = subst (λ x. sched_takes w.sched x ≡ true) (same (FromWorker i m) s e) (up_taken i m ms u c)
-    where
-      same : (x y : SchedEvent) → Some x ≡ Some y → x ≡ y
-      same x y e = cc
-  up_event i s ms false u c e = absurd (none_some s e)
-    where
-      none_some : (s : SchedEvent) → None ≡ Some s → ⊥
-      none_some s e = cc
+  up_event i s [] true u c e = absurd (none-some s e)
+  up_event i s (m ∷ ms) true u c e = subst (λ x. sched_takes w.sched x ≡ true) (same_Some (FromWorker i m) s e) (up_taken i m ms u c)
+  up_event i s ms false u c e = absurd (none-some s e)
 
   letter_event : (c : ℕ) (s : SchedEvent) (ms : List ClientMessage) → w.from_client c ≡ ms → ((m : ClientMessage) (ns : List ClientMessage) → ms ≡ m ∷ ns → is_client w c ≡ true) → option_map (λ m. FromClient c m) (front ms) ≡ Some s → sched_takes w.sched s ≡ true
-  letter_event c s [] u l e = absurd (none_some s e)
-    where
-      none_some : (s : SchedEvent) → None ≡ Some s → ⊥
-      none_some s e = cc
-  letter_event c s (m ∷ ms) u l e = subst (λ x. sched_takes w.sched x ≡ true) (same (FromClient c m) s e) (letter_taken c m ms u (l m ms refl))
-    where
-      same : (x y : SchedEvent) → Some x ≡ Some y → x ≡ y
-      same x y e = cc
+  letter_event c s [] u l e = absurd (none-some s e)
+  letter_event c s (m ∷ ms) u l e = subst (λ x. sched_takes w.sched x ≡ true) (same_Some (FromClient c m) s e) (letter_taken c m ms u (l m ms refl))
 
   pub event_taken : ((c : ℕ) → has_any (w.from_client c) ≡ true → is_client w c ≡ true) → (e : Event) (s : SchedEvent) → enabled w e ≡ true → sched_event w e ≡ Some s → sched_takes w.sched s ≡ true
   unfolding enabled sched_takes
-  event_taken l (Join threads) s t e = subst (λ x. sched_takes w.sched x ≡ true) (same (JoinSched threads) s e) t
-    where
-      same : (x y : SchedEvent) → Some x ≡ Some y → x ≡ y
-      same x y e = cc
-  event_taken l (SeeLoss i) s t e = subst (λ x. sched_takes w.sched x ≡ true) (same (Leave i) s e) (and_parts (not (w.alive i)) (is_connected w i) t).1
-    where
-      same : (x y : SchedEvent) → Some x ≡ Some y → x ≡ y
-      same x y e = cc
-  event_taken l (Suspect i) s t e = subst (λ x. sched_takes w.sched x ≡ true) (same (Leave i) s e) t
-    where
-      same : (x y : SchedEvent) → Some x ≡ Some y → x ≡ y
-      same x y e = cc
+  event_taken l (Join threads) s t e = subst (λ x. sched_takes w.sched x ≡ true) (same_Some (JoinSched threads) s e) t
+  event_taken l (SeeLoss i) s t e = subst (λ x. sched_takes w.sched x ≡ true) (same_Some (Leave i) s e) (and_parts (not (w.alive i)) (is_connected w i) t).1
+  event_taken l (Suspect i) s t e = subst (λ x. sched_takes w.sched x ≡ true) (same_Some (Leave i) s e) t
   event_taken l (DeliverUp i) s t e = up_event i s (w.up i) (is_connected w i) refl refl e
   event_taken l (DeliverFromClient c) s t e = letter_event c s (w.from_client c) refl (λ m ms q. l c t) e
-  event_taken l Balance s t e = subst (λ x. sched_takes w.sched x ≡ true) (same BalanceSched s e) t
-    where
-      same : (x y : SchedEvent) → Some x ≡ Some y → x ≡ y
-      same x y e = cc
-  event_taken l Evict s t e = subst (λ x. sched_takes w.sched x ≡ true) (same EvictSched s e) t
-    where
-      same : (x y : SchedEvent) → Some x ≡ Some y → x ≡ y
-      same x y e = cc
-  event_taken l (Want c ks) s t e = absurd (none_event s e)
-  event_taken l (Release c ks) s t e = absurd (none_event s e)
-  event_taken l (Lose i) s t e = absurd (none_event s e)
-  event_taken l (DeliverDown i) s t e = absurd (none_event s e)
-  event_taken l (DeliverToClient c) s t e = absurd (none_event s e)
-  event_taken l (Start i) s t e = absurd (none_event s e)
-  event_taken l (Finish i k) s t e = absurd (none_event s e)
-  event_taken l (SendGather a p) s t e = absurd (none_event s e)
-  event_taken l (ServeGather p a n) s t e = absurd (none_event s e)
-  event_taken l (ArriveGather a p n) s t e = absurd (none_event s e)
-  event_taken l (FailGather a p) s t e = absurd (none_event s e)
-  event_taken l (Spill i k) s t e = absurd (none_event s e)
-  event_taken l (LoseSpilled i k) s t e = absurd (none_event s e)
+  event_taken l Balance s t e = subst (λ x. sched_takes w.sched x ≡ true) (same_Some BalanceSched s e) t
+  event_taken l Evict s t e = subst (λ x. sched_takes w.sched x ≡ true) (same_Some EvictSched s e) t
+  event_taken l (Want c ks) s t e = absurd (none-some s e)
+  event_taken l (Release c ks) s t e = absurd (none-some s e)
+  event_taken l (Lose i) s t e = absurd (none-some s e)
+  event_taken l (DeliverDown i) s t e = absurd (none-some s e)
+  event_taken l (DeliverToClient c) s t e = absurd (none-some s e)
+  event_taken l (Start i) s t e = absurd (none-some s e)
+  event_taken l (Finish i k) s t e = absurd (none-some s e)
+  event_taken l (SendGather a p) s t e = absurd (none-some s e)
+  event_taken l (ServeGather p a n) s t e = absurd (none-some s e)
+  event_taken l (ArriveGather a p n) s t e = absurd (none-some s e)
+  event_taken l (FailGather a p) s t e = absurd (none-some s e)
+  event_taken l (Spill i k) s t e = absurd (none-some s e)
+  event_taken l (LoseSpilled i k) s t e = absurd (none-some s e)
 
 -- ## A worker that isn't connected gets no message
 
@@ -224,7 +193,7 @@ nothing_posted f s i e = mail-down t i ∙ ap (λ b. cond b (mail i (to_worker t
 pub nothing_sent : (f : Facts) (s : SchedEvent) (i : ℕ) → connected (sched_step f s).facts i ≡ false → ((sched_step f s).facts.sent i ≡ f.sent i) × ((k : ℕ) → (sched_step f s).facts.fence i k ≡ f.fence i k)
 unfolding sched_step finish_step settle posted place_all drop_bad drop_has drop_on
 nothing_sent f s i e = (
-  ap (λ n. t.placed.sent i + n) (count_to-mail i (down_messages t) ∙ ap length none) ∙ zero_more (t.placed.sent i) ∙ ap (λ (x : ℕ → ℕ). x i) sent,
+  ap (λ n. t.placed.sent i + n) (count_to-mail i (down_messages t) ∙ ap length none) ∙ add-zero (t.placed.sent i) ∙ ap (λ (x : ℕ → ℕ). x i) sent,
   λ k. ap (λ ms. fence_after k (t.placed.sent i) ms (t.placed.fence i k)) none ∙ ap (λ (x : ℕ → ℕ → ℕ). x i k) fence,
 )
   where
@@ -245,6 +214,3 @@ nothing_sent f s i e = (
 
     none : mail i (down_messages t) ≡ []
     none = nothing_posted f s i e
-
-    zero_more : (n : ℕ) → n + 0 ≡ n
-    zero_more n = omega arith

@@ -1,6 +1,7 @@
 -- An attempt that was given up is never started, neither before nor after.
 use Rattle.std.proofs.Common.{◌≡◌, ℕ, true, cond, ◌&&◌, ◌||◌, List, [], ◌∷◌, ◌++◌, refl, sym, ap, ◌∙◌, subst}
-use Rattle.std.proofs.lemmas.Bool.{true≢false}
+use Rattle.std.proofs.lemmas.Bool.{true≢false, eq-eqb, or_left}
+use Rattle.std.proofs.Math.Bool.{or-true}
 use Rattle.cluster_msgs.specs.declared.messages.Up.{Up}
 use Rattle.cluster_msgs.specs.declared.events.Event.{Event}
 use Rattle.cluster_msgs.specs.declared.events.Event.TheVariants.{Start, DeliverUp}
@@ -8,8 +9,6 @@ use Rattle.cluster_rules.specs.Worker.{would_start}
 use Rattle.cluster_rules.specs.World.{Job, IsJob, World, opening}
 use Rattle.cluster_rules.specs.WorldStep.{world_step}
 use Rattle.cluster_rules.specs.Runs.{LegalFrom, legal, run_from, reached, Yielded, Started, OneAttempt}
-use Rattle.cluster_rules.proofs.SchedFrame.{same_eqb, or_true}
-use Rattle.cluster_laws.proofs.Lists.{or_left}
 use Rattle.pair_machine.specs.Pair.{is_at, Gave, Quiet}
 use Rattle.pair_machine.specs.Story.{hears_yes}
 use Rattle.pair_moves.specs.Projection.{reports}
@@ -53,9 +52,9 @@ was_started j es i k a s = subst (λ l. (past_from j (opening j) l no_past).star
     p = past_from j (opening j) s.before no_past
 
     now : (past_after (reached j s.before) (Start i) p).started i k a ≡ true
-    now = ap (λ b. p.started i k a || b) (ap (λ b. (b && is_it (would_start ((reached j s.before).workers i)) k) && is_at a (((reached j s.before).workers i).mine k)) (same_eqb i i refl)
-        ∙ ap (λ o. is_it o k && is_at a (((reached j s.before).workers i).mine k)) s.key ∙ ap (λ b. b && is_at a (((reached j s.before).workers i).mine k)) (same_eqb k k refl)
-        ∙ ap (λ o. is_at a o) s.attempt ∙ same_eqb a a refl) ∙ or_true (p.started i k a)
+    now = ap (λ b. p.started i k a || b) (ap (λ b. (b && is_it (would_start ((reached j s.before).workers i)) k) && is_at a (((reached j s.before).workers i).mine k)) (eq-eqb i i refl)
+        ∙ ap (λ o. is_it o k && is_at a (((reached j s.before).workers i).mine k)) s.key ∙ ap (λ b. b && is_at a (((reached j s.before).workers i).mine k)) (eq-eqb k k refl)
+        ∙ ap (λ o. is_at a o) s.attempt ∙ eq-eqb a a refl) ∙ or-true (p.started i k a)
 
 was_yielded : (j : Job) (es : List Event) (i k a : ℕ) → Yielded j es i k a → (past_from j (opening j) es no_past).yielded i k a ≡ true
 was_yielded j es i k a s = subst (λ l. (past_from j (opening j) l no_past).yielded i k a ≡ true) (sym s.whole)
@@ -66,8 +65,8 @@ was_yielded j es i k a s = subst (λ l. (past_from j (opening j) l no_past).yiel
     p = past_from j (opening j) s.before no_past
 
     now : (past_after (reached j s.before) (DeliverUp i) p).yielded i k a ≡ true
-    now = ap (λ b. p.yielded i k a || b) (ap (λ b. b && hears_yes (reports k ((reached j s.before).up i)) a) (same_eqb i i refl)
-        ∙ ap (λ (l : List Up). hears_yes (reports k l) a) s.message ∙ ap (λ b. hears_yes (cond b (Gave a) Quiet ∷ reports k s.rest) a) (same_eqb k k refl) ∙ same_eqb a a refl) ∙ or_true (p.yielded i k a)
+    now = ap (λ b. p.yielded i k a || b) (ap (λ b. b && hears_yes (reports k ((reached j s.before).up i)) a) (eq-eqb i i refl)
+        ∙ ap (λ (l : List Up). hears_yes (reports k l) a) s.message ∙ ap (λ b. hears_yes (cond b (Gave a) Quiet ∷ reports k s.rest) a) (eq-eqb k k refl) ∙ eq-eqb a a refl) ∙ or-true (p.yielded i k a)
 
 pub never_started : (j : Job) → IsJob j → (es : List Event) → legal j es → (i k a : ℕ) → Yielded j es i k a → Started j es i k a → ⊥
 never_started j job es l i k a y s =

@@ -1,6 +1,6 @@
 -- What each client waits for is known to it or on its way: what the client's own events keep of it.
 use Rattle.std.proofs.Common.{◌≡◌, ℕ, Bool, true, false, cond, not, ◌&&◌, ◌||◌, List, [], ◌∷◌, ◌++◌, Option, Some, None, refl, sym, ap, ◌∙◌, is_some, filter, fold, inl, inr, ◌⊎◌, ⊎_elim}
-use Rattle.std.proofs.lemmas.Bool.{true≢false, false≢true, eqb-true}
+use Rattle.std.proofs.lemmas.Bool.{true≢false, false≢true, eqb-true, or_parts, or_left}
 use Rattle.std.proofs.Math.Dec.{eqb}
 use Rattle.cluster_rules.specs.Functions.{put}
 use Rattle.cluster_rules.specs.Derived.{is_in}
@@ -14,8 +14,10 @@ use Rattle.cluster_msgs.specs.declared.messages.FromClient.TheVariants.{Want as 
 use Rattle.cluster_rules.specs.Worker.{with_ask, has_any, ask_items}
 use Rattle.cluster_rules.specs.Client.{ClientFacts, client_gets, client_misses, client_answered, client_gathered_by, client_gathered, keeps_still, client_wants, client_releases, client_fetchable, client_ask}
 use Rattle.std.proofs.lemmas.Bool.{or_cases}
-use Rattle.cluster_rules.proofs.DerivedLemmas.{eqb_comm}
-use Rattle.cluster_rules.proofs.SchedFrame.{or_true}
+use Rattle.std.proofs.Math.Bool.{or-false, or-true}
+use Rattle.std.proofs.lemmas.Option.{same_Some}
+use Rattle.small_facts.proofs.Numbers.{eqb_turned}
+use Rattle.small_facts.proofs.Options.{some_not_none}
 use Rattle.cluster_rules.specs.Worker.{is_asked_for}
 use Rattle.safety_laws.specs.Lively.{wants_then, wants_at_last, names_want, misses}
 use Rattle.cluster_rules.specs.Worker.{names_key}
@@ -34,26 +36,20 @@ asked_split : (k p : ℕ) (qs : List OpenAsk) (a : OpenAsk) → AreDistinct qs �
 asked_split k p [] a d e h = absurd (false≢true h)
 asked_split k p (q ∷ qs) a d e h = pick (eqb q.peer p) refl (or_cases (names_key k q) (is_asked_for qs k) h) (λ x y. asked_split k p qs a d.1 x y)
   where
-    same : (u v : OpenAsk) → Some u ≡ Some v → u ≡ v
-    same u v z = cc
-
     none_left : (xs : List OpenAsk) → ask_to xs p ≡ None → is_asked_for xs k ≡ true → is_asked_for (without_ask xs p) k ≡ true
     none_left [] n i = i
     none_left (x ∷ xs) n i = by (eqb x.peer p) refl n (or_cases (names_key k x) (is_asked_for xs k) i) (λ r. none_left xs r)
       where
-        some_none : (y : OpenAsk) → Some y ≡ None → ⊥
-        some_none y z = cc
-
         by : (b : Bool) → eqb x.peer p ≡ b → cond b (Some x) (ask_to xs p) ≡ None → (names_key k x ≡ true) ⊎ (is_asked_for xs k ≡ true) → (ask_to xs p ≡ None → is_asked_for xs k ≡ true → is_asked_for (without_ask xs p) k ≡ true) → is_asked_for (cond (not b) (x ∷ without_ask xs p) (without_ask xs p)) k ≡ true
-        by true z r s rest = absurd (some_none x r)
+        by true z r s rest = absurd (some_not_none x r)
         by false z r (inl s) rest = ap (λ u. u || is_asked_for (without_ask xs p) k) s
-        by false z r (inr s) rest = ap (λ u. names_key k x || u) (rest r s) ∙ or_true (names_key k x)
+        by false z r (inr s) rest = ap (λ u. names_key k x || u) (rest r s) ∙ or-true (names_key k x)
 
     pick : (b : Bool) → eqb q.peer p ≡ b → (names_key k q ≡ true) ⊎ (is_asked_for qs k ≡ true) → (ask_to qs p ≡ Some a → is_asked_for qs k ≡ true → (names_key k a ≡ true) ⊎ (is_asked_for (without_ask qs p) k ≡ true)) → (names_key k a ≡ true) ⊎ (is_asked_for (cond (not b) (q ∷ without_ask qs p) (without_ask qs p)) k ≡ true)
-    pick true z (inl s) rest = inl (ap (names_key k) (sym (same q a (sym (ap (λ b. cond b (Some q) (ask_to qs p)) z) ∙ e))) ∙ s)
+    pick true z (inl s) rest = inl (ap (names_key k) (sym (same_Some q a (sym (ap (λ b. cond b (Some q) (ask_to qs p)) z) ∙ e))) ∙ s)
     pick true z (inr s) rest = inr (none_left qs (ap (ask_to qs) (sym (eqb-true q.peer p z)) ∙ d.0) s)
     pick false z (inl s) rest = inr (ap (λ u. u || is_asked_for (without_ask qs p) k) s)
-    pick false z (inr s) rest = ⊎_elim (λ n. inl n) (λ m. inr (ap (λ u. names_key k q || u) m ∙ or_true (names_key k q))) (rest (sym (ap (λ b. cond b (Some q) (ask_to qs p)) z) ∙ e) s)
+    pick false z (inr s) rest = ⊎_elim (λ n. inl n) (λ m. inr (ap (λ u. names_key k q || u) m ∙ or-true (names_key k q))) (rest (sym (ap (λ b. cond b (Some q) (ask_to qs p)) z) ∙ e) s)
 
 -- more asks name no fewer keys
 asked_more : (k : ℕ) (a : OpenAsk) (qs : List OpenAsk) → is_asked_for qs k ≡ true → is_asked_for (with_ask a qs) k ≡ true
@@ -61,9 +57,9 @@ asked_more k a [] h = absurd (false≢true h)
 asked_more k a (q ∷ qs) h = pick (nat_lt a.peer q.peer) (or_cases (names_key k q) (is_asked_for qs k) h) (λ r. asked_more k a qs r)
   where
     pick : (b : Bool) → (names_key k q ≡ true) ⊎ (is_asked_for qs k ≡ true) → (is_asked_for qs k ≡ true → is_asked_for (with_ask a qs) k ≡ true) → is_asked_for (cond b (a ∷ q ∷ qs) (q ∷ with_ask a qs)) k ≡ true
-    pick true s rest = ap (λ u. names_key k a || u) h ∙ or_true (names_key k a)
+    pick true s rest = ap (λ u. names_key k a || u) h ∙ or-true (names_key k a)
     pick false (inl s) rest = ap (λ u. u || is_asked_for (with_ask a qs) k) s
-    pick false (inr s) rest = ap (λ u. names_key k q || u) (rest s) ∙ or_true (names_key k q)
+    pick false (inr s) rest = ap (λ u. names_key k q || u) (rest s) ∙ or-true (names_key k q)
 
 -- ## What an answer makes of a key
 
@@ -75,30 +71,14 @@ record IsGot (k : ℕ) (c d : ClientFacts) (there : Bool) : Type 0 where
   located : (there && c.wants k) ≡ false → d.located k ≡ c.located k
 
 getting : (k : ℕ) (ks : List ℕ) (c : ClientFacts) → IsGot k c (fold client_gets c ks) (is_in k ks)
-getting k [] c = record { wants = refl; failed = refl; asks = refl; got = sym (or_false (c.got k)); located = λ _. refl }
-  where
-    or_false : (b : Bool) → (b || false) ≡ b
-    or_false true = refl
-    or_false false = refl
+getting k [] c = record { wants = refl; failed = refl; asks = refl; got = sym (or-false (c.got k)); located = λ _. refl }
 getting k (x ∷ xs) c = then (one (c.wants x) refl (eqb x k) refl) (getting k xs (client_gets c x))
   where
     one : (b : Bool) → c.wants x ≡ b → (e : Bool) → eqb x k ≡ e → IsGot k c (cond b (record c { got = put c.got x true; located = put c.located x [] }) c) e
-    one true w true e = record { wants = refl; failed = refl; asks = refl; got = ap (λ u. cond u true (c.got k)) (eqb_comm k x ∙ e) ∙ sym (ap (λ u. c.got k || u) (ap c.wants (sym (eqb-true x k e)) ∙ w) ∙ or_true (c.got k)); located = λ z. absurd (true≢false (sym (ap c.wants (sym (eqb-true x k e)) ∙ w) ∙ z)) }
-    one true w false e = record { wants = refl; failed = refl; asks = refl; got = ap (λ u. cond u true (c.got k)) (eqb_comm k x ∙ e) ∙ sym (or_false (c.got k)); located = λ z. ap (λ u. cond u [] (c.located k)) (eqb_comm k x ∙ e) }
-      where
-        or_false : (b : Bool) → (b || false) ≡ b
-        or_false true = refl
-        or_false false = refl
-    one false w true e = record { wants = refl; failed = refl; asks = refl; got = sym (ap (λ u. c.got k || u) (ap c.wants (sym (eqb-true x k e)) ∙ w) ∙ or_false (c.got k)); located = λ z. refl }
-      where
-        or_false : (b : Bool) → (b || false) ≡ b
-        or_false true = refl
-        or_false false = refl
-    one false w false e = record { wants = refl; failed = refl; asks = refl; got = sym (or_false (c.got k)); located = λ z. refl }
-      where
-        or_false : (b : Bool) → (b || false) ≡ b
-        or_false true = refl
-        or_false false = refl
+    one true w true e = record { wants = refl; failed = refl; asks = refl; got = ap (λ u. cond u true (c.got k)) (eqb_turned k x ∙ e) ∙ sym (ap (λ u. c.got k || u) (ap c.wants (sym (eqb-true x k e)) ∙ w) ∙ or-true (c.got k)); located = λ z. absurd (true≢false (sym (ap c.wants (sym (eqb-true x k e)) ∙ w) ∙ z)) }
+    one true w false e = record { wants = refl; failed = refl; asks = refl; got = ap (λ u. cond u true (c.got k)) (eqb_turned k x ∙ e) ∙ sym (or-false (c.got k)); located = λ z. ap (λ u. cond u [] (c.located k)) (eqb_turned k x ∙ e) }
+    one false w true e = record { wants = refl; failed = refl; asks = refl; got = sym (ap (λ u. c.got k || u) (ap c.wants (sym (eqb-true x k e)) ∙ w) ∙ or-false (c.got k)); located = λ z. refl }
+    one false w false e = record { wants = refl; failed = refl; asks = refl; got = sym (or-false (c.got k)); located = λ z. refl }
 
     then : IsGot k c (client_gets c x) (eqb x k) → IsGot k (client_gets c x) (fold client_gets (client_gets c x) xs) (is_in k xs) → IsGot k c (fold client_gets (client_gets c x) xs) (eqb x k || is_in k xs)
     then f g = record {
@@ -136,12 +116,8 @@ losing k (x ∷ xs) c = let r = losing k xs (client_misses c x) in record {
   failed = r.failed;
   asks = r.asks;
   got = r.got;
-  located = λ z. let y = split (eqb x.0 k) (list_any (λ (i : ℕ × ℕ). eqb i.0 k) xs) z in r.located y.1 ∙ ap (λ u. cond u [] (c.located k)) (eqb_comm k x.0 ∙ y.0);
+  located = λ z. let y = or_parts (eqb x.0 k) (list_any (λ (i : ℕ × ℕ). eqb i.0 k) xs) z in r.located y.1 ∙ ap (λ u. cond u [] (c.located k)) (eqb_turned k x.0 ∙ y.0);
 }
-  where
-    split : (a b : Bool) → (a || b) ≡ false → (a ≡ false) × (b ≡ false)
-    split true b z = absurd (true≢false z)
-    split false b z = (refl, z)
 
 -- the scheduler is told of a wanted key that wasn't found
 tells_missing : (k p : ℕ) (c : ClientFacts) (is : List (ℕ × ℕ)) → c.wants k ≡ true → list_any (λ (i : ℕ × ℕ). eqb i.0 k) is ≡ true → list_any (misses k) (client_sends (filter_map (missing_message c p) is)) ≡ true
@@ -151,7 +127,7 @@ tells_missing k p c (x ∷ xs) w e = pick (c.wants x.0) refl (or_cases (eqb x.0 
     pick : (b : Bool) → c.wants x.0 ≡ b → (eqb x.0 k ≡ true) ⊎ (list_any (λ (i : ℕ × ℕ). eqb i.0 k) xs ≡ true) → (list_any (λ (i : ℕ × ℕ). eqb i.0 k) xs ≡ true → list_any (misses k) (client_sends (filter_map (missing_message c p) xs)) ≡ true)
         → list_any (misses k) (client_sends (cons_option (cond b (Some (ClientSend (MissingMessage x.0 p x.1))) None) (filter_map (missing_message c p) xs))) ≡ true
     pick true z (inl s) rest = ap (λ u. u || list_any (misses k) (client_sends (filter_map (missing_message c p) xs))) s
-    pick true z (inr s) rest = ap (λ u. eqb x.0 k || u) (rest s) ∙ or_true (eqb x.0 k)
+    pick true z (inr s) rest = ap (λ u. eqb x.0 k || u) (rest s) ∙ or-true (eqb x.0 k)
     pick false z (inl s) rest = absurd (false≢true (sym z ∙ ap c.wants (eqb-true x.0 k s) ∙ w))
     pick false z (inr s) rest = rest s
 
@@ -190,8 +166,8 @@ item_split k found (x ∷ xs) e = pick (is_in x.0 found) (or_cases (eqb x.0 k) (
         → (is_in k (keys_of (cond b (x ∷ filter (λ i. is_in i.0 found) xs) (filter (λ i. is_in i.0 found) xs))) ≡ true) ⊎ (list_any (λ (i : ℕ × ℕ). eqb i.0 k) (cond (not b) (x ∷ filter (λ i. not (is_in i.0 found)) xs) (filter (λ i. not (is_in i.0 found)) xs)) ≡ true)
     pick true (inl s) rest = inl (ap (λ u. u || is_in k (keys_of (filter (λ i. is_in i.0 found) xs))) s)
     pick false (inl s) rest = inr (ap (λ u. u || list_any (λ (i : ℕ × ℕ). eqb i.0 k) (filter (λ i. not (is_in i.0 found)) xs)) s)
-    pick true (inr s) rest = ⊎_elim (λ a. inl (ap (λ u. eqb x.0 k || u) a ∙ or_true (eqb x.0 k))) (λ a. inr a) (rest s)
-    pick false (inr s) rest = ⊎_elim (λ a. inl a) (λ a. inr (ap (λ u. eqb x.0 k || u) a ∙ or_true (eqb x.0 k))) (rest s)
+    pick true (inr s) rest = ⊎_elim (λ a. inl (ap (λ u. eqb x.0 k || u) a ∙ or-true (eqb x.0 k))) (λ a. inr a) (rest s)
+    pick false (inr s) rest = ⊎_elim (λ a. inl a) (λ a. inr (ap (λ u. eqb x.0 k || u) a ∙ or-true (eqb x.0 k))) (rest s)
 
 -- ## One event of the client
 
@@ -293,7 +269,7 @@ turn_gathered k c p n found distinct = by_ask (ask_to c.asks p) refl
 
         ended : (b : Bool) → (b || is_some (c.failed k)) ≡ true → (fold client_misses c1 ms).got k ≡ (b || (is_in k ks && c.wants k)) → ((fold client_misses c1 ms).got k || is_some ((fold client_misses c1 ms).failed k)) ≡ true
         ended true z q = ap (λ u. u || is_some ((fold client_misses c1 ms).failed k)) q
-        ended false z q = ap (λ (f : ℕ → Option ℕ). (fold client_misses c1 ms).got k || is_some (f k)) (l.failed ∙ g.failed) ∙ ap (λ u. (fold client_misses c1 ms).got k || u) z ∙ or_true ((fold client_misses c1 ms).got k)
+        ended false z q = ap (λ (f : ℕ → Option ℕ). (fold client_misses c1 ms).got k || is_some (f k)) (l.failed ∙ g.failed) ∙ ap (λ u. (fold client_misses c1 ms).got k || u) z ∙ or-true ((fold client_misses c1 ms).got k)
 
         known : c.wants k ≡ true → (b : Bool) → c.got k ≡ b → (b || (has_any (c.located k) || is_asked_for c.asks k)) ≡ true
             → ((fold client_misses c1 ms).got k || (has_any ((fold client_misses c1 ms).located k) || (is_asked_for (fold client_misses c1 ms).asks k || list_any (misses k) (client_sends (filter_map (missing_message c0 p) ms))))) ≡ true
@@ -302,26 +278,23 @@ turn_gathered k c p n found distinct = by_ask (ask_to c.asks p) refl
             got_is : (fold client_misses c1 ms).got k ≡ (c.got k || (is_in k ks && c.wants k))
             got_is = ap (λ (x : ℕ → Bool). x k) l.got ∙ g.got
 
-            first : (rest : Bool) → (fold client_misses c1 ms).got k ≡ true → ((fold client_misses c1 ms).got k || rest) ≡ true
-            first rest e = ap (λ u. u || rest) e
-
             last : (x y u : Bool) → list_any (misses k) (client_sends (filter_map (missing_message c0 p) ms)) ≡ true → (x || (y || (u || list_any (misses k) (client_sends (filter_map (missing_message c0 p) ms))))) ≡ true
-            last x y u e = ap (λ v. x || (y || (u || v))) e ∙ ap (λ v. x || (y || v)) (or_true u) ∙ ap (λ v. x || v) (or_true y) ∙ or_true x
+            last x y u e = ap (λ v. x || (y || (u || v))) e ∙ ap (λ v. x || (y || v)) (or-true u) ∙ ap (λ v. x || v) (or-true y) ∙ or-true x
 
             pick : (i : Bool) → is_in k ks ≡ i → (m : Bool) → list_any (λ (i : ℕ × ℕ). eqb i.0 k) ms ≡ m
                 → ((fold client_misses c1 ms).got k || (has_any ((fold client_misses c1 ms).located k) || (is_asked_for (fold client_misses c1 ms).asks k || list_any (misses k) (client_sends (filter_map (missing_message c0 p) ms))))) ≡ true
-            pick true i m u = first (has_any ((fold client_misses c1 ms).located k) || (is_asked_for (fold client_misses c1 ms).asks k || list_any (misses k) (client_sends (filter_map (missing_message c0 p) ms)))) (got_is ∙ ap (λ v. c.got k || (v && c.wants k)) i ∙ ap (λ v. c.got k || v) w ∙ or_true (c.got k))
+            pick true i m u = or_left ((fold client_misses c1 ms).got k) (has_any ((fold client_misses c1 ms).located k) || (is_asked_for (fold client_misses c1 ms).asks k || list_any (misses k) (client_sends (filter_map (missing_message c0 p) ms)))) (got_is ∙ ap (λ v. c.got k || (v && c.wants k)) i ∙ ap (λ v. c.got k || v) w ∙ or-true (c.got k))
             pick false i true u = last ((fold client_misses c1 ms).got k) (has_any ((fold client_misses c1 ms).located k)) (is_asked_for (fold client_misses c1 ms).asks k) (tells_missing k p c0 ms w u)
-            pick false i false u = ⊎_elim (λ s. first (has_any ((fold client_misses c1 ms).located k) || (is_asked_for (fold client_misses c1 ms).asks k || list_any (misses k) (client_sends (filter_map (missing_message c0 p) ms)))) (got_is ∙ ap (λ v. v || (is_in k ks && c.wants k)) (q ∙ s)))
+            pick false i false u = ⊎_elim (λ s. or_left ((fold client_misses c1 ms).got k) (has_any ((fold client_misses c1 ms).located k) || (is_asked_for (fold client_misses c1 ms).asks k || list_any (misses k) (client_sends (filter_map (missing_message c0 p) ms)))) (got_is ∙ ap (λ v. v || (is_in k ks && c.wants k)) (q ∙ s)))
                 (λ r. ⊎_elim (λ s. there s) (λ s. flying s) (or_cases (has_any (c.located k)) (is_asked_for c.asks k) r)) (or_cases b (has_any (c.located k) || is_asked_for c.asks k) z)
               where
                 there : has_any (c.located k) ≡ true → ((fold client_misses c1 ms).got k || (has_any ((fold client_misses c1 ms).located k) || (is_asked_for (fold client_misses c1 ms).asks k || list_any (misses k) (client_sends (filter_map (missing_message c0 p) ms))))) ≡ true
                 there s = ap (λ v. (fold client_misses c1 ms).got k || (has_any v || (is_asked_for (fold client_misses c1 ms).asks k || list_any (misses k) (client_sends (filter_map (missing_message c0 p) ms))))) (l.located u ∙ g.located (ap (λ v. v && c.wants k) i))
-                    ∙ ap (λ v. (fold client_misses c1 ms).got k || (v || (is_asked_for (fold client_misses c1 ms).asks k || list_any (misses k) (client_sends (filter_map (missing_message c0 p) ms))))) s ∙ or_true ((fold client_misses c1 ms).got k)
+                    ∙ ap (λ v. (fold client_misses c1 ms).got k || (v || (is_asked_for (fold client_misses c1 ms).asks k || list_any (misses k) (client_sends (filter_map (missing_message c0 p) ms))))) s ∙ or-true ((fold client_misses c1 ms).got k)
 
                 stays : is_asked_for (without_ask c.asks p) k ≡ true → ((fold client_misses c1 ms).got k || (has_any ((fold client_misses c1 ms).located k) || (is_asked_for (fold client_misses c1 ms).asks k || list_any (misses k) (client_sends (filter_map (missing_message c0 p) ms))))) ≡ true
                 stays s = ap (λ v. (fold client_misses c1 ms).got k || (has_any ((fold client_misses c1 ms).located k) || (v || list_any (misses k) (client_sends (filter_map (missing_message c0 p) ms))))) (ap (λ x. is_asked_for x k) (l.asks ∙ g.asks) ∙ s)
-                    ∙ ap (λ v. (fold client_misses c1 ms).got k || v) (or_true (has_any ((fold client_misses c1 ms).located k))) ∙ or_true ((fold client_misses c1 ms).got k)
+                    ∙ ap (λ v. (fold client_misses c1 ms).got k || v) (or-true (has_any ((fold client_misses c1 ms).located k))) ∙ or-true ((fold client_misses c1 ms).got k)
 
                 flying : is_asked_for c.asks k ≡ true → ((fold client_misses c1 ms).got k || (has_any ((fold client_misses c1 ms).located k) || (is_asked_for (fold client_misses c1 ms).asks k || list_any (misses k) (client_sends (filter_map (missing_message c0 p) ms))))) ≡ true
                 flying s = ⊎_elim (λ n. ⊎_elim (λ f. absurd (true≢false (sym f ∙ i))) (λ f. absurd (true≢false (sym f ∙ u))) (item_split k found a.items n)) stays (asked_split k p c.asks a distinct e s)

@@ -1,6 +1,6 @@
 -- What each client waits for stays known to it or on its way, over the world's events.
 use Rattle.std.proofs.Common.{◌≡◌, ℕ, ◌+◌, ◌≤◌, Bool, true, false, cond, not, List, [], ◌∷◌, ◌++◌, Option, Some, None, refl, sym, ap, ◌∙◌, subst, is_none, filter, fold}
-use Rattle.std.proofs.lemmas.Bool.{false≢true, eqb-true}
+use Rattle.std.proofs.lemmas.Bool.{eqb-true, eq-eqb}
 use Rattle.std.proofs.Math.Dec.{eqb}
 use Rattle.cluster_msgs.specs.declared.messages.Down.{Down}
 use Rattle.cluster_msgs.specs.declared.cores.WorkerEvent.{WorkerEvent}
@@ -9,7 +9,6 @@ use Rattle.cluster_rules.specs.Functions.{put}
 use Rattle.cluster_rules.specs.Derived.{is_in}
 use Rattle.cluster_rules.specs.Worker.{Ask as OpenAsk, ask_to, without_ask}
 use Rattle.cluster_rules.specs.WorkerStep.{keys_of}
-use Rattle.cluster_rules.proofs.SchedFrame.{same_eqb}
 use Rattle.cluster_msgs.specs.declared.messages.Up.{Up}
 use Rattle.cluster_msgs.specs.declared.messages.ToClient.{ToClient}
 use Rattle.cluster_msgs.specs.declared.messages.FromClient.{FromClient as ClientMessage}
@@ -38,6 +37,7 @@ use Rattle.cluster_rules.specs.Client.{ClientStep}
 use Rattle.cluster_rules.specs.WorldStep.{client_sends}
 use Rattle.safety_laws.proofs.Answered.{gets_asks, misses_asks}
 use Rattle.std.proofs.Common.{append-nil}
+use Rattle.small_facts.proofs.Options.{none_from_is_none}
 use Rattle.cluster_rules.specs.WorldStep.{take_up}
 use Rattle.cluster_rules.specs.Runs.{sched_event}
 use Rattle.cluster_rules.proofs.SoundStep.{sound_step}
@@ -99,14 +99,10 @@ ds_failed w a p None h = h
 ds_failed w (Worker i) p (Some q) h = ds_worker w i (GatherFailed p q.number) h
 ds_failed w (Client c) p (Some q) h = ds_client w c (ClientGatherFailed p q.number) tt h
 
-none_is : (o : Option OpenAsk) → is_none o ≡ true → o ≡ None
-none_is None e = refl
-none_is (Some q) e = absurd (false≢true e)
-
 ds_asks : (w : World) (a : Asker) (p : ℕ) → may_ask w a p ≡ true → AsksDiffer w → AsksDiffer (ask_by w a p)
 unfolding client_would_ask
 ds_asks w (Worker i) p t h = ds_worker w i (AskPeer p) h
-ds_asks w (Client c) p t h = ds_client w c (ClientAsk p) (none_is (ask_to (w.clients c).asks p) (and_parts (is_none (ask_to (w.clients c).asks p)) _ t).0) h
+ds_asks w (Client c) p t h = ds_client w c (ClientAsk p) (none_from_is_none (ask_to (w.clients c).asks p) (and_parts (is_none (ask_to (w.clients c).asks p)) _ t).0) h
 
 ds_serves : (w : World) (p : ℕ) (o : Option Parcel) → AsksDiffer w → AsksDiffer (serve w p o)
 ds_serves w p None h = h
@@ -184,8 +180,8 @@ module _ (w : World) (sound : IsSound w.sched) (differ : AsksDiffer w) (c k : �
       ms = client_sends (client_step (v.clients x) e).out
 
       own : c ≡ x → IsServed (at_client v x e) c k
-      own q = served_own w c k D ms (at_client v x e) s (ap (λ (y : ℕ → List ToClient). y c) t) (ap (λ b. cond b D (v.clients c)) (same_eqb c x q))
-          (ap (λ b. cond b (v.from_client x ++ ms) (v.from_client c)) (same_eqb c x q) ∙ ap (λ y. v.from_client y ++ ms) (sym q) ∙ ap (λ (y : ℕ → List ClientMessage). y c ++ ms) f)
+      own q = served_own w c k D ms (at_client v x e) s (ap (λ (y : ℕ → List ToClient). y c) t) (ap (λ b. cond b D (v.clients c)) (eq-eqb c x q))
+          (ap (λ b. cond b (v.from_client x ++ ms) (v.from_client c)) (eq-eqb c x q) ∙ ap (λ y. v.from_client y ++ ms) (sym q) ∙ ap (λ (y : ℕ → List ClientMessage). y c ++ ms) f)
           (subst (λ y. IsOwnTurn k y D ms) (ap (λ (y : ℕ → ClientFacts). y x) cl ∙ ap w.clients (sym q)) (turn (v.clients x) (ap (λ (y : ℕ → ClientFacts). y x) cl))) h
 
       pick : (b : Bool) → eqb c x ≡ b → IsServed (at_client v x e) c k
@@ -232,9 +228,9 @@ module _ (w : World) (sound : IsSound w.sched) (differ : AsksDiffer w) (c k : �
       v = take_to_client w x (m ∷ ms)
 
       own : c ≡ x → IsServed v c k
-      own q = served_hear w c k m ms v (ap w.to_client q ∙ e) refl (ap (λ b. cond b ms (w.to_client c)) (same_eqb c x q))
-          (ap (λ b. cond b (hear (w.clients x) m) (w.clients c)) (same_eqb c x q) ∙ ap (λ y. hear (w.clients y) m) (sym q))
-          (ap (λ b. cond b (w.from_client x ++ []) (w.from_client c)) (same_eqb c x q) ∙ append-nil (w.from_client x) ∙ ap w.from_client (sym q)) h
+      own q = served_hear w c k m ms v (ap w.to_client q ∙ e) refl (ap (λ b. cond b ms (w.to_client c)) (eq-eqb c x q))
+          (ap (λ b. cond b (hear (w.clients x) m) (w.clients c)) (eq-eqb c x q) ∙ ap (λ y. hear (w.clients y) m) (sym q))
+          (ap (λ b. cond b (w.from_client x ++ []) (w.from_client c)) (eq-eqb c x q) ∙ append-nil (w.from_client x) ∙ ap w.from_client (sym q)) h
 
       pick : (b : Bool) → eqb c x ≡ b → IsServed v c k
       pick true q = own (eqb-true c x q)

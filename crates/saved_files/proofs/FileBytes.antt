@@ -7,8 +7,9 @@ use Rattle.nd_shape.specs.Shape.{elements}
 use Rattle.nd_shape.proofs.Places.{place-below}
 use Rattle.npy_codec.specs.Npy.{cell_bytes, cells_bytes, header}
 use Rattle.npy_region.specs.Writing.{byte_at}
-use Rattle.npy_region.proofs.WriteLemmas.{byte_of_cells, length-cells_bytes}
+use Rattle.npy_region.proofs.WriteLemmas.{byte_of_cells}
 use Rattle.saved_files.specs.Filling.{file_of, spot}
+use Rattle.npy_codec.proofs.WrittenFiles.{length-cells_bytes}
 
 length-front : (front : List ℕ) (zs : List ℤ) → length (front ++ cells_bytes zs) ≡ length front + 8 * length zs
 length-front front zs = omega (arith, length-append front (cells_bytes zs), length-cells_bytes zs)

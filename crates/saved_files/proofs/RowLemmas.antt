@@ -6,7 +6,7 @@ use Rattle.std.proofs.lemmas.List.Concat.{flat_map-append}
 use Rattle.std.specs.Arc.{arc_value}
 use Rattle.std.specs.declared.sync.Arc.{Arc}
 use Rattle.std.specs.declared.alloc.Global.{Global}
-use Rattle.std.proofs.lemmas.List.{length-take-le, length-take, length-drop, get_or-take, get_or-drop, get_or_append_left, get_or-append_right, get_or-map, length-replicate}
+use Rattle.std.proofs.lemmas.List.{length-take-le, length-take, length-drop, get_or-take, get_or-drop, get_or_append_left, get_or-append_right, get_or-map, length-replicate, get_or_default}
 use Rattle.std.proofs.lemmas.List.Edits.{length-paste}
 use Rattle.std.proofs.Math.Seq.{paste}
 use Rattle.io_edge.specs.Content.{Content, Told, Untold, overwritten, size_of, WritesPart}
@@ -23,7 +23,8 @@ use Rattle.npy_region.specs.Runs.{AreRuns, StandsIn, no_run}
 use Rattle.npy_region.specs.Writing.{byte_at, IsByteOf, IsOutside, Turns, WritesRegion, WritesSome}
 use Rattle.saved_files.specs.Filling.{box_of}
 use Rattle.saved_files.specs.Rows.{block_at, runs_at, row_bytes, run_cells, AreFull, ArePlaced, HasRow, AreSideBySide, IsByteOfOne, WritesAll, WritesSomeOf}
-use Rattle.npy_region.proofs.WriteLemmas.{byte_of_cells, flat_bytes, length-cells_bytes, patched, run_fits, RunFits}
+use Rattle.npy_region.proofs.WriteLemmas.{byte_of_cells, flat_bytes, patched, run_fits, RunFits}
+use Rattle.npy_codec.proofs.WrittenFiles.{length-cells_bytes}
 
 -- ## One run, and the contents of an open file
 
@@ -352,13 +353,8 @@ some_none head regions blocks c = turns_same (WritesSomeOf head regions blocks) 
 
 -- ## What the calls say
 
-default_of : {A : Type 0} (xs : List A) (k : ℕ) (a b : A) → k < length xs → get_or xs k a ≡ get_or xs k b
-default_of [] k a b h = absurd (omega (arith, h))
-default_of (x ∷ xs) zero a b h = refl
-default_of (x ∷ xs) (suc k) a b h = default_of xs k a b (omega (arith, h))
-
 pub runs_is : (all : List (List Run)) (k : ℕ) (runs : List Run) → k < length all → runs ≡ get_or all k runs → runs ≡ runs_at all k
-runs_is all k runs h is = is ∙ default_of all k runs [] h
+runs_is all k runs h is = is ∙ get_or_default all k runs [] h
 
 block_is : (blocks : List (Arc Array Global)) (k : ℕ) (x : Arc Array Global) (block : Array) → k < length blocks → x ≡ get_or blocks k x → block ≡ arc_value x → block ≡ block_at blocks k
 block_is blocks k x block h is value = value ∙ (ap arc_value is ∙ sym (get_or-map arc_value blocks k x (record { shape = []; cells = [] }) h))
@@ -397,7 +393,7 @@ runs_push head regions all new runs region n k is count n_in region_is before he
       let e : k ≡ n = omega (arith, k_in, high) in
       let z : k - length all ≡ 0 = omega (arith, e, count) in
       let r : runs_at new k ≡ runs = ap (λ l. runs_at l k) is ∙ (get_or-append_right all (runs ∷ []) (length all) k [] refl (omega (arith, e, count)) ∙ ap (runs_at (runs ∷ [])) z) in
-      let b : region ≡ box_of regions k = region_is ∙ (default_of regions n region (record { start = []; lengths = [] }) n_in ∙ ap (box_of regions) (sym e)) in
+      let b : region ≡ box_of regions k = region_is ∙ (get_or_default regions n region (record { start = []; lengths = [] }) n_in ∙ ap (box_of regions) (sym e)) in
       subst (AreRuns head (box_of regions k)) (sym r) (subst (λ (x : Box). AreRuns head x runs) b here)
 ]
 

@@ -20,6 +20,7 @@ use Rattle.saved_files.specs.Rows.{block_at, WritesAll, WritesSomeOf}
 use Rattle.saved_files.specs.Filling.{HoldsBox, IsFilling, IsPart, box_of, file_of, spot}
 use Rattle.saved_files.specs.Saving.{FillsAll, FillsMore, FillsPart, FillsSome, HoldsBoxes, Saving}
 use Rattle.saved_files.proofs.FileBytes.{element_byte, length-file, past_both}
+use Rattle.npy_region.proofs.WriteLemmas.{size-turns}
 
 -- the array that a head stands before
 pub record IsHeadOf (head : Head) (a : Array) : Type 0 where
@@ -116,7 +117,7 @@ box_there head a box block before after i j h holds wrote size inside few =
       | inr high ↦ past_both after (file_of a) p (wrote.size ∙ size) (omega (arith, wrote.size, high))
     ]
 
-old_box : (boxes : List Box) (box : Box) (k : ℕ) → k < length boxes → box_of boxes k ≡ box_of (boxes ++ box ∷ []) k
+pub old_box : (boxes : List Box) (box : Box) (k : ℕ) → k < length boxes → box_of boxes k ≡ box_of (boxes ++ box ∷ []) k
 old_box boxes box k h = sym (get_or_append_left boxes (box ∷ []) (record { start = []; lengths = [] }) k h)
 
 new_box : (boxes : List Box) (box : Box) (k : ℕ) → k < length (boxes ++ box ∷ []) → length boxes ≤ k → box ≡ box_of (boxes ++ box ∷ []) k
@@ -203,12 +204,6 @@ turns_weaker R Q (Told x) (Untold n) f t = t
 turns_weaker R Q (Untold n) (Told y) f t = t
 turns_weaker R Q (Untold n) (Untold m) f t = t
 
-turns_size : (R : List ℕ → List ℕ → Type 0) (c d : Content) → ((x y : List ℕ) → R x y → length y ≡ length x) → Turns R c d → size_of d ≡ size_of c
-turns_size R (Told x) (Told y) f t = f x y t
-turns_size R (Told x) (Untold n) f t = absurd t
-turns_size R (Untold n) (Told y) f t = absurd t
-turns_size R (Untold n) (Untold m) f t = t
-
 head_of : (head : Head) (a : Array) (size : ℕ) (bytes : List ℕ) → head.fortran ≡ false → head.data_at ≡ length (header head.shape) → size ≡ length (header head.shape) + 8 * elements head.shape → a.shape ≡ head.shape →
     length bytes ≡ size → length bytes ≡ length (file_of a) → IsHeadOf head a
 head_of head a size bytes rows begins room shape is_size is_file =
@@ -250,10 +245,10 @@ fills_some head new_boxes blocks old new h t = turns_weaker (WritesSomeOf head n
 
 pub size_kept_all : {T E : Type 0} (r : Result T E) (head : Head) (new_boxes : List Box) (blocks : List (Arc Array Global)) (c d : Content) → OnOk r (Turns (WritesAll head new_boxes blocks) c d) → OnErr r (Turns (WritesSomeOf head new_boxes blocks) c d)
     → size_of d ≡ size_of c
-size_kept_all (Ok x) head new_boxes blocks c d whole part = turns_size (WritesAll head new_boxes blocks) c d (λ x y w. w.size) whole
-size_kept_all (Err x) head new_boxes blocks c d whole part = turns_size (WritesSomeOf head new_boxes blocks) c d (λ x y w. w.size) part
+size_kept_all (Ok x) head new_boxes blocks c d whole part = size-turns (WritesAll head new_boxes blocks) c d (λ x y w. w.size) whole
+size_kept_all (Err x) head new_boxes blocks c d whole part = size-turns (WritesSomeOf head new_boxes blocks) c d (λ x y w. w.size) part
 
 -- whatever the result, the file keeps its length
 pub size_kept : {T E : Type 0} (r : Result T E) (head : Head) (box : Box) (block : Array) (c d : Content) → OnOk r (Turns (WritesRegion head box block) c d) → OnErr r (Turns (WritesSome head box block) c d) → size_of d ≡ size_of c
-size_kept (Ok x) head box block c d whole part = turns_size (WritesRegion head box block) c d (λ x y w. w.size) whole
-size_kept (Err x) head box block c d whole part = turns_size (WritesSome head box block) c d (λ x y w. w.size) part
+size_kept (Ok x) head box block c d whole part = size-turns (WritesRegion head box block) c d (λ x y w. w.size) whole
+size_kept (Err x) head box block c d whole part = size-turns (WritesSome head box block) c d (λ x y w. w.size) part

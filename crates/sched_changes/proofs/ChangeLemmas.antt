@@ -2,23 +2,21 @@
 use Rattle.std.proofs.Common.{◌≡◌, ℕ, ◌+◌, ◌<◌, ◌≤◌, Bool, true, false, not, cond, ◌&&◌, ◌||◌, List, [], ◌∷◌, ◌++◌, Some, is_some, refl, sym, ap, ◌∙◌, subst, arith, length, get_or, take}
 use Rattle.std.specs.Prelude.{nat_le}
 use Rattle.std.proofs.lemmas.List.{take_more}
-use Rattle.std.proofs.lemmas.Bool.Decides.{nat_tests}
 use Rattle.std.proofs.Math.Dec.{eqb}
+use Rattle.std.proofs.Math.Bool.{and-false}
+use Rattle.small_facts.proofs.Lists.{take_zero, any_push}
+use Rattle.small_facts.proofs.Numbers.{eqb_turned, eqb_self}
 use Rattle.cluster_rules.specs.Functions.{put_pair, count}
 use Rattle.cluster_rules.specs.Derived.{is_in, below}
 use Rattle.cluster_rules.specs.Sched.{Facts, holds, held, is_on}
 use Rattle.cluster_rules.specs.SchedTable.{Changed, add_key, add_keys}
-use Rattle.cluster_rules.proofs.DerivedLemmas.{eqb_comm}
 use Rattle.sched_facts.proofs.SumLemmas.{line_sum}
-use Rattle.sched_facts.proofs.DeriveLemmas.{any_push, count_few}
+use Rattle.sched_facts.proofs.DeriveLemmas.{count_few}
 use Rattle.sched_changes.specs.Pairs.{has_pair, so_far}
 use Rattle.sched_changes.specs.Rows.{news_of}
 use Rattle.sched_changes.specs.declared.changes.News.{News}
 use Rattle.sched_changes.specs.declared.changes.News.TheVariants.{Nothing, Copy, Stray}
 use Rattle.sched_changes.proofs.PairLemmas.{pair_put}
-
-self : (x : ℕ) → eqb x x ≡ true
-self x = grind (arith, nat_tests)
 
 -- one more key is wanted or not
 abbrev pub wanting : Facts → ℕ → Bool → List ℕ → Facts
@@ -27,16 +25,8 @@ wanting f c to xs = record f { want = λ d k. cond (eqb d c && is_in k xs) to (f
 pub want_none : (f : Facts) (c : ℕ) (to : Bool) (xs : List ℕ) → f ≡ wanting f c to (take 0 xs)
 want_none f c to xs = λ i. record f { want = λ d k. at d k i }
   where
-    and_false : (b : Bool) → (b && false) ≡ false
-    and_false true = refl
-    and_false false = refl
-
-    nothing : (ys : List ℕ) → take 0 ys ≡ []
-    nothing [] = refl
-    nothing (y ∷ ys) = refl
-
     at : (d k : ℕ) → f.want d k ≡ cond (eqb d c && is_in k (take 0 xs)) to (f.want d k)
-    at d k = sym (ap (λ ys. cond (eqb d c && is_in k ys) to (f.want d k)) (nothing xs) ∙ ap (λ b. cond b to (f.want d k)) (and_false (eqb d c)))
+    at d k = sym (ap (λ ys. cond (eqb d c && is_in k ys) to (f.want d k)) (take_zero xs) ∙ ap (λ b. cond b to (f.want d k)) (and-false (eqb d c)))
 
 pub want_next : (f : Facts) (c : ℕ) (to : Bool) (xs : List ℕ) (i x : ℕ) → i < length xs → x ≡ get_or xs i 0 → record (wanting f c to (take i xs)) { want = put_pair (wanting f c to (take i xs)).want c x to } ≡ wanting f c to (take (i + 1) xs)
 want_next f c to xs i x l at_i = λ j. record f { want = λ d k. at d k j }
@@ -49,7 +39,7 @@ want_next f c to xs i x l at_i = λ j. record f { want = λ d k. at d k j }
     turn false b e w = refl
 
     taken : (k : ℕ) → (is_in k (take i xs) || eqb k x) ≡ is_in k (take (i + 1) xs)
-    taken k = sym (ap (is_in k) (take_more xs i 0 l) ∙ any_push (λ d. eqb d k) (take i xs) (get_or xs i 0) ∙ ap (λ y. is_in k (take i xs) || eqb y k) (sym at_i) ∙ ap (λ b. is_in k (take i xs) || b) (eqb_comm x k))
+    taken k = sym (ap (is_in k) (take_more xs i 0 l) ∙ any_push (λ d. eqb d k) (take i xs) (get_or xs i 0) ∙ ap (λ y. is_in k (take i xs) || eqb y k) (sym at_i) ∙ ap (λ b. is_in k (take i xs) || b) (eqb_turned x k))
 
     at : (d k : ℕ) → cond (eqb d c && eqb k x) to (cond (eqb d c && is_in k (take i xs)) to (f.want d k)) ≡ cond (eqb d c && is_in k (take (i + 1) xs)) to (f.want d k)
     at d k = turn (eqb d c) (eqb k x) (is_in k (take i xs)) (f.want d k) ∙ ap (λ b. cond (eqb d c && b) to (f.want d k)) (taken k)
@@ -120,7 +110,7 @@ added_one f ps w seen k n l = pick (nat_le (f.fence w k) seen) (holds f w k) (he
     one : holds f w k ≡ false → (f.counter + 1) + count (holds f w) (below n) ≡ f.counter + count (λ j. is_some (put_pair f.has w k (Some f.counter) w j)) (below n)
     one e =
         let sum : count (λ j. is_some (put_pair f.has w k (Some f.counter) w j)) (below n) + cond (eqb w w) (cond (holds f w k) 1 0) 0 ≡ count (holds f w) (below n) + cond (eqb w w) 1 0 = line_sum (λ j o. cond (is_some o) 1 0) f.has n w k (Some f.counter) l w in
-        let plain : count (λ j. is_some (put_pair f.has w k (Some f.counter) w j)) (below n) + 0 ≡ count (holds f w) (below n) + 1 = subst (λ (b : Bool). count (λ j. is_some (put_pair f.has w k (Some f.counter) w j)) (below n) + cond b 1 0 ≡ count (holds f w) (below n) + 1) e (subst (λ (b : Bool). count (λ j. is_some (put_pair f.has w k (Some f.counter) w j)) (below n) + cond b (cond (holds f w k) 1 0) 0 ≡ count (holds f w) (below n) + cond b 1 0) (self w) sum) in
+        let plain : count (λ j. is_some (put_pair f.has w k (Some f.counter) w j)) (below n) + 0 ≡ count (holds f w) (below n) + 1 = subst (λ (b : Bool). count (λ j. is_some (put_pair f.has w k (Some f.counter) w j)) (below n) + cond b 1 0 ≡ count (holds f w) (below n) + 1) e (subst (λ (b : Bool). count (λ j. is_some (put_pair f.has w k (Some f.counter) w j)) (below n) + cond b (cond (holds f w k) 1 0) 0 ≡ count (holds f w) (below n) + cond b 1 0) (eqb_self w) sum) in
         omega arith
 
     pick : (a b c d : Bool) → holds f w k ≡ b → IsAdded f (cond a (cond b g (cond c (so_far (record f { has = put_pair f.has w k (Some f.counter); counter = f.counter + 1 }) ps) (cond d g (record g { freed = put_pair (has_pair ps) w k true })))) g).facts w n

@@ -1,9 +1,10 @@
 -- Changes one after another.
-use Rattle.std.proofs.Common.{◌≡◌, ℕ, ◌+◌, ◌<◌, Bool, true, false, ◌||◌, refl, sym, ap, ◌∙◌, subst, length, List, [], ◌∷◌, get_or, take}
+use Rattle.std.proofs.Common.{◌≡◌, ℕ, ◌+◌, ◌<◌, Bool, true, false, ◌||◌, refl, sym, ap, ◌∙◌, subst, length, List, get_or, take}
 use Rattle.std.proofs.lemmas.Bool.{false≢true, eqb-true}
 use Rattle.std.proofs.lemmas.List.{take_more}
 use Rattle.std.proofs.Math.Dec.{eqb}
-use Rattle.sched_facts.proofs.DeriveLemmas.{any_push}
+use Rattle.small_facts.proofs.Lists.{any_push, take_zero}
+use Rattle.small_facts.proofs.Truth.{false_before}
 use Rattle.cluster_rules.specs.Derived.{is_in}
 use Rattle.cluster_rules.specs.Sched.{Facts, Setting, keys}
 use Rattle.cluster_rules.specs.SchedTable.{joined}
@@ -36,11 +37,6 @@ same_then f g h k a b = record {
 pub follows_self : (s : Tasks) → Follows s s
 follows_self s = record { setting = refl; touched = record { kept = λ k l e. same_here (facts s) k; grows = λ k e. e; held = refl; erred = refl } }
 
--- what is not touched later was not touched before
-pub not_before : (a b : Bool) → (a ≡ true → b ≡ true) → b ≡ false → a ≡ false
-not_before true b h e = absurd (false≢true (sym e ∙ h refl))
-not_before false b h e = refl
-
 pub same_keys : (s t : Tasks) (k : ℕ) → Follows s t → k < keys (facts s) → k < keys (facts t)
 same_keys s t k a l = subst (λ (c : Setting). k < length c.shape.deps) (sym a.setting) l
 
@@ -48,7 +44,7 @@ pub follows_then : (s t u : Tasks) → Follows s t → Follows t u → Follows s
 follows_then s t u a b = record {
   setting = b.setting ∙ a.setting;
   touched = record {
-    kept = λ k l e. same_then (facts s) (facts t) (facts u) k (a.touched.kept k l (not_before (has t.touched k) (has u.touched k) (b.touched.grows k) e)) (b.touched.kept k (same_keys s t k a l) e);
+    kept = λ k l e. same_then (facts s) (facts t) (facts u) k (a.touched.kept k l (false_before (has t.touched k) (has u.touched k) (b.touched.grows k) e)) (b.touched.kept k (same_keys s t k a l) e);
     grows = λ k e. b.touched.grows k (a.touched.grows k e);
     held = b.touched.held ∙ a.touched.held;
     erred = b.touched.erred ∙ a.touched.erred;
@@ -81,12 +77,8 @@ follows_one s t c e h = record { setting = ap (λ (g : Facts). g.setting) e ∙ 
 pub still_touched : (s t : Tasks) (ks : List ℕ) → Follows s t → AreTouched s ks → AreTouched t ks
 still_touched s t ks a h k e = a.touched.grows k (h k e)
 
-nothing_taken : (ks : List ℕ) → take 0 ks ≡ []
-nothing_taken [] = refl
-nothing_taken (k ∷ ks) = refl
-
 pub touched_none : (t : Tasks) (ks : List ℕ) → AreTouched t (take 0 ks)
-touched_none t ks k e = absurd (false≢true (sym (ap (is_in k) (nothing_taken ks)) ∙ e))
+touched_none t ks k e = absurd (false≢true (sym (ap (is_in k) (take_zero ks)) ∙ e))
 
 -- one more of them
 pub touched_next : (s t : Tasks) (ks : List ℕ) (i x : ℕ) → i < length ks → x ≡ get_or ks i 0 → Follows s t → has t.touched x ≡ true → AreTouched s (take i ks) → AreTouched t (take (i + 1) ks)

@@ -6,15 +6,20 @@ use Rattle.std.proofs.lemmas.List.{get_or_past, take_more}
 use Rattle.std.proofs.lemmas.List.FromFn.{length-range_with_len}
 use Rattle.std.proofs.lemmas.List.Kept.{AllPairs-from_increasing}
 use Rattle.std.specs.List.Sorted.{IsStrictlyIncreasing}
-use Rattle.std.proofs.lemmas.Bool.{cases_lt, false≢true}
+use Rattle.std.proofs.lemmas.Bool.{cases_lt, false≢true, eqb-true}
 use Rattle.std.proofs.lemmas.Bool.Decides.{nat_tests}
 use Rattle.std.proofs.Math.Dec.{eqb}
+use Rattle.std.proofs.Math.Bool.{or-false, or-true}
+use Rattle.std.proofs.lemmas.List.Folds.{list_any-append}
+use Rattle.small_facts.proofs.Lists.{take_zero, any_push}
+use Rattle.small_facts.proofs.Numbers.{equal_turned, unequal_below, plus_none_one, eqb_turned}
+use Rattle.small_facts.proofs.Truth.{one_at_most}
 use Rattle.fact_rows.specs.Rows.{read}
 use Rattle.cluster_rules.specs.Functions.{put, total, count}
 use Rattle.cluster_rules.specs.Derived.{IsBelow, below, is_in, reach}
 use Rattle.cluster_rules.specs.Sched.{Facts, IsSound, keys, deps, held, erred, need, open_key, blame, blame_step, blame_from, waiters}
 use Rattle.cluster_rules.proofs.FunctionLemmas.{same_function}
-use Rattle.cluster_rules.proofs.DerivedLemmas.{reach-is, any_none, All_below, none_in, below_split, any_append, eqb_comm, range_more}
+use Rattle.cluster_rules.proofs.DerivedLemmas.{reach-is, any_none, All_below, none_in, below_split}
 use Rattle.cluster_rules.proofs.SchedLemmas.{erred-is, is_some-blame, blame-is, deps-past}
 use Rattle.cluster_rules.proofs.TotalLemmas.{count-below, total-bound}
 use Rattle.sched_facts.specs.Derived.{first_some}
@@ -30,37 +35,22 @@ filled_none p d row n e = record { long = e; each = λ k h. absurd (omega arith)
 pub filled_more : {A : Type 0} (p : ℕ → A) (d : A) (row new : List A) (n i : ℕ) (v : A) → IsFilled p d row n i → length new ≡ length row → read new d ≡ put (read row d) i v → v ≡ p i → IsFilled p d new n (i + 1)
 filled_more p d row new n i v g e w q = record { long = e ∙ g.long; each = λ k h. ap (λ f. f k) w ∙ pick k (eqb k i) refl h }
   where
-    same : (k i : ℕ) → eqb k i ≡ true → i ≡ k
-    same k i t = grind (arith, nat_tests)
-
     lower : (k i : ℕ) → eqb k i ≡ false → k < i + 1 → k < i
     lower k i t h = grind (arith, nat_tests)
 
     pick : (k : ℕ) (b : Bool) → eqb k i ≡ b → k < i + 1 → cond b v (get_or row k d) ≡ p k
-    pick k true t h = q ∙ ap p (same k i t)
+    pick k true t h = q ∙ ap p (equal_turned k i t)
     pick k false t h = g.each k (lower k i t h)
 
 -- a whole row is the fact
 pub filled_all : {A : Type 0} (p : ℕ → A) (d : A) (row : List A) (n i : ℕ) → IsFilled p d row n i → n ≤ i → ((k : ℕ) → n ≤ k → p k ≡ d) → read row d ≡ p
 filled_all p d row n i g m past = same_function (read row d) p (λ k. ⊎_elim (λ l. g.each k (omega arith)) (λ l. get_or_past row k d (omega (arith, g.long)) ∙ sym (past k l)) (cases_lt k n))
 
-pub any_push : (p : ℕ → Bool) (xs : List ℕ) (x : ℕ) → list_any p (xs ++ x ∷ []) ≡ (list_any p xs || p x)
-any_push p [] x = or_false (p x)
-  where
-    or_false : (b : Bool) → (b || false) ≡ b
-    or_false true = refl
-    or_false false = refl
-any_push p (y ∷ xs) x = ap (λ b. p y || b) (any_push p xs x) ∙ or_again (p y) (list_any p xs) (p x)
-  where
-    or_again : (a b c : Bool) → (a || (b || c)) ≡ ((a || b) || c)
-    or_again true b c = refl
-    or_again false b c = refl
-
 -- one more key of a list is marked
 pub marked_more : (before old new : ℕ → Bool) (xs : List ℕ) (i key : ℕ) → i < length xs → key ≡ get_or xs i 0 → ((k : ℕ) → old k ≡ (before k || is_in k (take i xs))) → new ≡ put old key true → (k : ℕ) → new k ≡ (before k || is_in k (take (i + 1) xs))
 marked_more before old new xs i key l at_i was now k =
     ap (λ f. f k) now ∙ ap (cond (eqb k key) true) (was k) ∙ turn (eqb k key) (before k) (is_in k (take i xs))
-    ∙ ap (λ b. before k || b) (ap (λ b. is_in k (take i xs) || b) (eqb_comm k key ∙ ap (λ y. eqb y k) at_i) ∙ sym (any_push (λ d. eqb d k) (take i xs) (get_or xs i 0)) ∙ ap (list_any (λ d. eqb d k)) (sym (take_more xs i 0 l)))
+    ∙ ap (λ b. before k || b) (ap (λ b. is_in k (take i xs) || b) (eqb_turned k key ∙ ap (λ y. eqb y k) at_i) ∙ sym (any_push (λ d. eqb d k) (take i xs) (get_or xs i 0)) ∙ ap (list_any (λ d. eqb d k)) (sym (take_more xs i 0 l)))
   where
     turn : (a b c : Bool) → cond a true (b || c) ≡ (b || (c || a))
     turn true true c = refl
@@ -73,7 +63,7 @@ marked_more before old new xs i key l at_i was now k =
 -- the dependents of a key, from the next key on, are all that count
 pub reached_from_row : (deps : ℕ → List ℕ) (n : ℕ) (start pass : ℕ → Bool) → IsBelow deps → (key done : ℕ) → (key + 1) + done ≡ n → (b : Bool) → b ≡ (start key || list_any (λ j. is_in key (deps j) && (pass j && reach deps n start pass j)) (range_with_len (key + 1) done)) → b ≡ reach deps n start pass key
 reached_from_row deps n start pass low key done e b was =
-    was ∙ sym (reach-is deps n start pass low key ∙ ap (λ c. start key || c) (ap (list_any leads) (ap below (sym e) ∙ below_split (key + 1) done) ∙ any_append leads (below (key + 1)) (range_with_len (key + 1) done)
+    was ∙ sym (reach-is deps n start pass low key ∙ ap (λ c. start key || c) (ap (list_any leads) (ap below (sym e) ∙ below_split (key + 1) done) ∙ list_any-append leads (below (key + 1)) (range_with_len (key + 1) done)
     ∙ ap (λ c. c || list_any leads (range_with_len (key + 1) done)) (any_none leads (below (key + 1)) (All_below 0 (key + 1) (λ j l m. ap (λ c. c && (pass j && reach deps n start pass j)) (none_in key j (deps j) (low j) (omega arith)))))))
   where
     leads : ℕ → Bool
@@ -160,19 +150,12 @@ pub waits_more : (f : Facts) (i : ℕ) (old new : ℕ → ℕ) (leads : Bool) �
 waits_more f i old new leads e was now k = now k ∙ ap (λ b. old k + cond (is_in k (deps f i) && b) 1 0) e ∙ ap (λ n. n + cond (is_in k (deps f i) && (need f i && open_key f i)) 1 0) (was k) ∙ sym (count-below (λ j. is_in k (deps f j) && (need f j && open_key f j)) i)
 
 none_before : (xs : List ℕ) (x n : ℕ) → ((j : ℕ) → j < n → get_or xs j 0 < x) → n ≤ length xs → is_in x (take n xs) ≡ false
-none_before xs x zero h l = ap (is_in x) (take_none xs)
-  where
-    take_none : (ys : List ℕ) → take 0 ys ≡ []
-    take_none [] = refl
-    take_none (y ∷ ys) = refl
+none_before xs x zero h l = ap (is_in x) (take_zero xs)
 none_before xs x (suc n) h l =
     ap (is_in x) (ap (λ m. take m xs) (sym (add-one n)) ∙ take_more xs n 0 (omega arith))
     ∙ any_push (λ d. eqb d x) (take n xs) (get_or xs n 0)
     ∙ ap (λ b. b || eqb (get_or xs n 0) x) (none_before xs x n (λ j m. h j (omega arith)) (omega arith))
-    ∙ apart (get_or xs n 0) x (h n (omega arith))
-  where
-    apart : (a b : ℕ) → a < b → eqb a b ≡ false
-    apart a b m = grind (arith, nat_tests)
+    ∙ unequal_below (get_or xs n 0) x (h n (omega arith))
 
 -- one more key is counted. Keys rise, so none comes twice
 pub counted_more : (before old new : ℕ → ℕ) (xs : List ℕ) (i x : ℕ) → IsStrictlyIncreasing xs → i < length xs → x ≡ get_or xs i 0 → ((k : ℕ) → old k ≡ before k + cond (is_in k (take i xs)) 1 0) → new ≡ put old x (old x + 1) → (k : ℕ) → new k ≡ before k + cond (is_in k (take (i + 1) xs)) 1 0
@@ -180,32 +163,14 @@ counted_more before old new xs i x up l at was now k =
     ap (λ f. f k) now ∙ pick (eqb k x) refl ∙ ap (λ b. before k + cond b 1 0) (sym taken)
   where
     taken : is_in k (take (i + 1) xs) ≡ (is_in k (take i xs) || eqb k x)
-    taken = ap (is_in k) (take_more xs i 0 l) ∙ any_push (λ d. eqb d k) (take i xs) (get_or xs i 0) ∙ ap (λ y. is_in k (take i xs) || eqb y k) (sym at) ∙ ap (λ b. is_in k (take i xs) || b) (eqb_comm x k)
+    taken = ap (is_in k) (take_more xs i 0 l) ∙ any_push (λ d. eqb d k) (take i xs) (get_or xs i 0) ∙ ap (λ y. is_in k (take i xs) || eqb y k) (sym at) ∙ ap (λ b. is_in k (take i xs) || b) (eqb_turned x k)
 
     fresh : is_in x (take i xs) ≡ false
     fresh = ap (λ y. is_in y (take i xs)) at ∙ none_before xs (get_or xs i 0) i (λ j m. AllPairs-from_increasing xs up j i 0 m l) (omega arith)
 
-    same : (k x : ℕ) → eqb k x ≡ true → k ≡ x
-    same k x e = grind (arith, nat_tests)
-
-    or_true : (b : Bool) → (b || true) ≡ true
-    or_true true = refl
-    or_true false = refl
-
-    or_false : (b : Bool) → (b || false) ≡ b
-    or_false true = refl
-    or_false false = refl
-
-    plain : (n : ℕ) → n + 0 + 1 ≡ n + 1
-    plain n = omega arith
-
     pick : (b : Bool) → eqb k x ≡ b → cond b (old x + 1) (old k) ≡ before k + cond (is_in k (take i xs) || b) 1 0
-    pick true e = ap (λ y. y + 1) (was x ∙ ap (λ b. before x + cond b 1 0) fresh) ∙ plain (before x) ∙ ap (λ y. before y + 1) (sym (same k x e)) ∙ ap (λ b. before k + cond b 1 0) (sym (or_true (is_in k (take i xs))))
-    pick false e = was k ∙ ap (λ b. before k + cond b 1 0) (sym (or_false (is_in k (take i xs))))
+    pick true e = ap (λ y. y + 1) (was x ∙ ap (λ b. before x + cond b 1 0) fresh) ∙ plus_none_one (before x) ∙ ap (λ y. before y + 1) (sym (eqb-true k x e)) ∙ ap (λ b. before k + cond b 1 0) (sym (or-true (is_in k (take i xs))))
+    pick false e = was k ∙ ap (λ b. before k + cond b 1 0) (sym (or-false (is_in k (take i xs))))
 
 pub count_few : (p : ℕ → Bool) (n : ℕ) → count p (below n) ≤ n
-count_few p n = let b : count p (below n) ≤ length (below n) * 1 = total-bound (λ x. cond (p x) 1 0) 1 (below n) (λ x. one (p x)) in let l : length (below n) ≡ n = length-range_with_len 0 n in omega arith
-  where
-    one : (b : Bool) → cond b 1 0 ≤ 1
-    one true = omega arith
-    one false = omega arith
+count_few p n = let b : count p (below n) ≤ length (below n) * 1 = total-bound (λ x. cond (p x) 1 0) 1 (below n) (λ x. one_at_most (p x)) in let l : length (below n) ≡ n = length-range_with_len 0 n in omega arith

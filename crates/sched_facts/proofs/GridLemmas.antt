@@ -3,12 +3,9 @@ use Rattle.std.proofs.Common.{◌≡◌, ◌≤◌, ℕ, Bool, true, false, cond
 use Rattle.std.proofs.lemmas.Bool.Decides.{nat_tests}
 use Rattle.std.proofs.lemmas.Bool.{eqb-true}
 use Rattle.std.proofs.lemmas.List.{get_or_past}
-use Rattle.std.proofs.lemmas.Grind.{common_steps, elements}
 use Rattle.std.proofs.Math.Dec.{eqb}
+use Rattle.small_facts.proofs.Lists.{get_or_push}
 use Rattle.fact_rows.specs.Rows.{read, cell}
-
-pub push_at : {A : Type 0} (xs : List A) (x d : A) (i : ℕ) → get_or (xs ++ x ∷ []) i d ≡ cond (eqb i (length xs)) x (get_or xs i d)
-push_at xs x d i = grind (arith, nat_tests, elements, common_steps)
 
 -- a row that says nothing new at the end
 pub cell-push : {A : Type 0} (n : ℕ) (rows : List (List A)) (row : List A) (d : A) → ((k : ℕ) → get_or row k d ≡ d) → cell (n, rows ++ row ∷ []) d ≡ cell (n, rows) d
@@ -25,7 +22,7 @@ cell-push n rows row d same = λ i w k. at w k i
     pick w k false e = refl
 
     at : (w k : ℕ) → get_or (get_or (rows ++ row ∷ []) w []) k d ≡ get_or (get_or rows w []) k d
-    at w k = ap (λ r. get_or r k d) (push_at rows row [] w) ∙ pick w k (eqb w (length rows)) refl
+    at w k = ap (λ r. get_or r k d) (get_or_push rows row [] w) ∙ pick w k (eqb w (length rows)) refl
 
 -- the same of a row
 pub read-push : {A : Type 0} (xs : List A) (d : A) → read (xs ++ d ∷ []) d ≡ read xs d
@@ -42,4 +39,4 @@ read-push xs d = λ i k. at k i
     pick k false e = refl
 
     at : (k : ℕ) → get_or (xs ++ d ∷ []) k d ≡ get_or xs k d
-    at k = push_at xs d d k ∙ pick k (eqb k (length xs)) refl
+    at k = get_or_push xs d d k ∙ pick k (eqb k (length xs)) refl

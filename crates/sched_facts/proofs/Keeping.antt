@@ -1,8 +1,8 @@
 -- What a `FactTable` keeps, after each of its changes.
 use Rattle.std.proofs.Common.{◌≡◌, ℕ, ◌+◌, ◌-◌, ◌<◌, ◌≤◌, ◌^◌, Bool, true, false, cond, ◌&&◌, List, length, get_or, Option, Some, None, is_some, refl, sym, ap, ◌∙◌, subst, arith}
-use Rattle.std.proofs.lemmas.Bool.Decides.{nat_tests}
 use Rattle.std.proofs.lemmas.Bool.{false≢true, eqb-true}
 use Rattle.std.proofs.Math.Dec.{eqb}
+use Rattle.small_facts.proofs.Numbers.{eqb_self}
 use Rattle.fact_rows.specs.Rows.{read}
 use Rattle.cluster_msgs.specs.Shape.{work_of, nbytes_of}
 use Rattle.cluster_rules.specs.Functions.{put, put_pair}
@@ -90,10 +90,7 @@ pub has_row : (f : Facts) (m : ℕ) (t w b h c : List ℕ) → IsKeeping f m t w
 has_row f m t w b h c s v e = let n : v ≤ f.last_worker = (s.sound.numbers v e).1 in let l : f.last_worker ≤ m = s.last in omega arith
 
 self_for : (w a : ℕ) → is_for w (Some (w, a)) ≡ true
-self_for w a = self w
-  where
-    self : (x : ℕ) → eqb x x ≡ true
-    self x = grind (arith, nat_tests)
+self_for w a = eqb_self w
 
 -- the worker of a key that has a place
 pub placed_at : (f : Facts) (k w a : ℕ) → f.on k ≡ Some (w, a) → is_on f w k ≡ true
@@ -146,11 +143,8 @@ keep-placed f g m n t w b h c k y from to tr tn wr wn size e d at l low ra la lt
 at_place : (old raised new now : ℕ → ℕ) (p more less : ℕ) → raised ≡ put old p (old p + more) → new ≡ put raised p (raised p - less) → ((v : ℕ) → now v + cond (eqb v p) less 0 ≡ old v + cond (eqb v p) more 0) → (v : ℕ) → new v ≡ now v
 at_place old raised new now p more less a b c v = ap (λ f. f v) b ∙ pick (eqb v p) refl (c v)
   where
-    self : (x : ℕ) → eqb x x ≡ true
-    self x = grind (arith, nat_tests)
-
     here : raised p ≡ old p + more
-    here = ap (λ f. f p) a ∙ ap (λ t. cond t (old p + more) (old p)) (self p)
+    here = ap (λ f. f p) a ∙ ap (λ t. cond t (old p + more) (old p)) (eqb_self p)
 
     there : (t : Bool) → eqb v p ≡ t → t ≡ false → raised v ≡ old v
     there t e z = ap (λ f. f v) a ∙ ap (λ u. cond u (old p + more) (old v)) (e ∙ z)

@@ -1,11 +1,16 @@
 -- What the sums need before they change, and what they stand for.
-use Rattle.std.proofs.Common.{◌≡◌, ℕ, zero, suc, ◌+◌, ◌-◌, ◌*◌, ◌<◌, ◌≤◌, ◌^◌, Bool, true, false, cond, ◌&&◌, List, [], ◌∷◌, ◌++◌, length, get_or, Option, Some, None, is_some, refl, sym, ap, ◌∙◌, subst, arith, ltb, length-append}
-use Rattle.std.proofs.lemmas.Bool.Decides.{nat_tests}
-use Rattle.std.proofs.lemmas.Bool.{false≢true, eqb-true}
+use Rattle.std.proofs.Common.{◌≡◌, ℕ, zero, suc, ◌+◌, ◌-◌, ◌*◌, ◌<◌, ◌≤◌, ◌^◌, Bool, true, false, cond, ◌&&◌, List, [], ◌∷◌, ◌++◌, length, get_or, Option, Some, None, refl, sym, ap, ◌∙◌, subst, arith, ltb, length-append}
+use Rattle.std.proofs.lemmas.Bool.{eqb-true, le-leb, lt-ltb}
 use Rattle.std.proofs.Math.Dec.{eqb}
 use Rattle.std.specs.Prelude.{nat_lt, nat_le}
 use Rattle.std.specs.List.{filter, range_with_len}
 use Rattle.std.proofs.lemmas.List.FromFn.{length-range_with_len}
+use Rattle.std.proofs.Math.Nat.{add-zero}
+use Rattle.std.proofs.lemmas.Option.{none-some}
+use Rattle.small_facts.proofs.Numbers.{eqb_self}
+use Rattle.small_facts.proofs.Options.{none_is_it}
+use Rattle.small_facts.proofs.Ranges.{range_push}
+use Rattle.small_facts.proofs.Truth.{one_at_most}
 use Rattle.fact_rows.specs.Rows.{read}
 use Rattle.cluster_msgs.specs.Shape.{IsShape, key_count, work_of, nbytes_of}
 use Rattle.cluster_msgs.specs.declared.cores.SchedEvent.TheVariants.{Join, Leave}
@@ -14,26 +19,18 @@ use Rattle.cluster_rules.specs.Sched.{Setting, Facts, IsSound, sched_opening, ke
 use Rattle.cluster_rules.specs.SchedTable.{joined, left, sched_takes, change}
 use Rattle.cluster_rules.proofs.TotalLemmas.{tasks_fit, occupancy_fits, bytes_held_fit, total-bound, total-push}
 use Rattle.cluster_rules.proofs.SoundStep.{sound_changed, sound_opening}
-use Rattle.cluster_rules.proofs.DerivedLemmas.{range_more}
 use Rattle.cluster_rules.proofs.SchedLemmas.{filter-more}
 use Rattle.cluster_rules.proofs.NothingLemmas.{tasks-nowhere, occupancy-nowhere, bytes_held-nowhere, holder_count-nowhere}
 use Rattle.sched_facts.specs.Kept.{IsFresh, IsSummed, IsKeeping, want_count, left_key, left_below, taken_back}
 use Rattle.sched_facts.proofs.SumLemmas.{any-count, wanters-put, holders-copied, bytes-copied}
 use Rattle.sched_facts.proofs.Keeping.{has_row, placed_at, task_counted, work_counted}
 
-one_at_most : (b : Bool) → cond b 1 0 ≤ 1
-one_at_most true = omega arith
-one_at_most false = omega arith
-
 amount_at_most : (b : Bool) (n : ℕ) → cond b n 0 ≤ n
 amount_at_most true n = omega arith
 amount_at_most false n = omega arith
 
-self : (x : ℕ) → eqb x x ≡ true
-self x = grind (arith, nat_tests)
-
 pub put_there : (f : ℕ → ℕ) (k x : ℕ) → put f k x k ≡ x
-put_there f k x = ap (λ b. cond b x (f k)) (self k)
+put_there f k x = ap (λ b. cond b x (f k)) (eqb_self k)
 
 count_bound : (p : ℕ → Bool) (xs : List ℕ) → count p xs ≤ length xs * 1
 count_bound p xs = total-bound (λ x. cond (p x) 1 0) 1 xs (λ x. one_at_most (p x))
@@ -63,7 +60,7 @@ lower_want f m t w b h c d k x y cr s lo hi l e r n =
     let now : read cr 0 k ≡ read c 0 k + x = ap (λ g. g k) r ∙ put_there (read c 0) k (read c 0 k + x) in
     let was : read c 0 k ≡ want_count f k = s.sums.wanters k in
     let one : want_count (record f { want = put_pair f.want d k false }) k + cond (eqb k k) (cond (f.want d k) 1 0) 0 ≡ want_count f k + cond (eqb k k) 0 0 = wanters-put f d k false lo hi k in
-    let two : want_count (record f { want = put_pair f.want d k false }) k + cond (f.want d k) 1 0 ≡ want_count f k + 0 = subst (λ (u : Bool). want_count (record f { want = put_pair f.want d k false }) k + cond u (cond (f.want d k) 1 0) 0 ≡ want_count f k + cond u 0 0) (self k) one in
+    let two : want_count (record f { want = put_pair f.want d k false }) k + cond (f.want d k) 1 0 ≡ want_count f k + 0 = subst (λ (u : Bool). want_count (record f { want = put_pair f.want d k false }) k + cond u (cond (f.want d k) 1 0) 0 ≡ want_count f k + cond u 0 0) (eqb_self k) one in
     (omega (arith, s.want_rows, n), omega (arith, now, was, two, e))
 
 -- copies
@@ -79,7 +76,7 @@ lower_bytes f m t w b h c v k x y br s l on e r n =
     let now : read br 0 v ≡ read b 0 v + x = ap (λ g. g v) r ∙ put_there (read b 0) v (read b 0 v + x) in
     let was : read b 0 v ≡ bytes_held f v = s.sums.bytes v in
     let one : bytes_held (record f { has = put_pair f.has v k None }) v + cond (eqb v v) (cond (holds f v k) (nbytes_of f.setting.shape k) 0) 0 ≡ bytes_held f v + cond (eqb v v) 0 0 = bytes-copied f v k None l v in
-    let two : bytes_held (record f { has = put_pair f.has v k None }) v + cond (holds f v k) (nbytes_of f.setting.shape k) 0 ≡ bytes_held f v + 0 = subst (λ (u : Bool). bytes_held (record f { has = put_pair f.has v k None }) v + cond u (cond (holds f v k) (nbytes_of f.setting.shape k) 0) 0 ≡ bytes_held f v + cond u 0 0) (self v) one in
+    let two : bytes_held (record f { has = put_pair f.has v k None }) v + cond (holds f v k) (nbytes_of f.setting.shape k) 0 ≡ bytes_held f v + 0 = subst (λ (u : Bool). bytes_held (record f { has = put_pair f.has v k None }) v + cond u (cond (holds f v k) (nbytes_of f.setting.shape k) 0) 0 ≡ bytes_held f v + cond u 0 0) (eqb_self v) one in
     (omega (arith, row, s.byte_rows, n), omega (arith, now, was, two, e))
 
 pub raise_holders : (f : Facts) (m : ℕ) (t w b h c : List ℕ) (k x : ℕ) (has : Bool) → IsKeeping f m t w b h c → k < keys f → x ≡ cond has 1 0 → (k < length h) × (read h 0 k + x < 2 ^ 64)
@@ -91,7 +88,7 @@ lower_holders f m t w b h c v k x y hr s l on e r n =
     let now : read hr 0 k ≡ read h 0 k + x = ap (λ g. g k) r ∙ put_there (read h 0) k (read h 0 k + x) in
     let was : read h 0 k ≡ holder_count f k = s.sums.holders k in
     let one : holder_count (record f { has = put_pair f.has v k None }) k + cond (eqb k k) (cond (holds f v k) 1 0) 0 ≡ holder_count f k + cond (eqb k k) 0 0 = holders-copied f v k None num.0 num.1 k in
-    let two : holder_count (record f { has = put_pair f.has v k None }) k + cond (holds f v k) 1 0 ≡ holder_count f k + 0 = subst (λ (u : Bool). holder_count (record f { has = put_pair f.has v k None }) k + cond u (cond (holds f v k) 1 0) 0 ≡ holder_count f k + cond u 0 0) (self k) one in
+    let two : holder_count (record f { has = put_pair f.has v k None }) k + cond (holds f v k) 1 0 ≡ holder_count f k + 0 = subst (λ (u : Bool). holder_count (record f { has = put_pair f.has v k None }) k + cond u (cond (holds f v k) 1 0) 0 ≡ holder_count f k + cond u 0 0) (eqb_self k) one in
     (omega (arith, s.holder_rows, n), omega (arith, now, was, two, e))
 
 -- places
@@ -127,7 +124,7 @@ pub keep-opening : (z : Setting) (f : Facts) (m : ℕ) (t w b h c : List ℕ) �
 unfolding want_count
 keep-opening z f m t w b h c e shape few sat rt rw_ rb rh rc lt lw lb lh lc = subst (λ (g : Facts). IsKeeping g m t w b h c) (sym e) (record {
   sound = sound_opening z shape few sat;
-  fresh = record { copies = λ v k x q. absurd (no_some x q); attempts = λ k v a q. absurd (no_place (v, a) q) };
+  fresh = record { copies = λ v k x q. absurd (none-some x q); attempts = λ k v a q. absurd (none-some (v, a) q) };
   sums = record {
     tasks = λ v. rt v ∙ sym (tasks-nowhere (sched_opening z) (λ u k. refl) v);
     work = λ v. rw_ v ∙ sym (occupancy-nowhere (sched_opening z) (λ u k. refl) v);
@@ -145,12 +142,6 @@ keep-opening z f m t w b h c e shape few sat rt rw_ rb rh rc lt lw lb lh lc = su
   where
     zero_le : (n : ℕ) → 0 ≤ n
     zero_le n = omega arith
-
-    no_some : (x : ℕ) → None ≡ Some x → ⊥
-    no_some x q = cc
-
-    no_place : (p : ℕ × ℕ) → None ≡ Some p → ⊥
-    no_place p q = cc
 
 -- more room
 pub keep-room : (f g : Facts) (m n : ℕ) (t w b h c tn wn bn : List ℕ) → g ≡ f → read tn 0 ≡ read t 0 → read wn 0 ≡ read w 0 → read bn 0 ≡ read b 0 → m ≤ n → n < length tn → n < length wn → n < length bn → IsKeeping f m t w b h c → IsKeeping g n tn wn bn h c
@@ -174,33 +165,24 @@ join_taken true false c d p q r s = q
 join_taken true true false d p q r s = r
 join_taken true true true false p q r s = s
 
-is_le : (a b : ℕ) → a ≤ b → nat_le a b ≡ true
-is_le a b l = grind (arith, nat_tests)
-
-is_lt : (a b : ℕ) → a < b → nat_lt a b ≡ true
-is_lt a b l = grind (arith, nat_tests)
-
 sound-joined : (f : Facts) (n : ℕ) → IsSound f → 1 ≤ n → n ≤ 16 → length (workers f) < 64 → f.last_worker < 1024 → IsSound (joined f n)
 unfolding sched_takes
-sound-joined f n s a b c d = sound_changed f s (Join n) (join_taken (nat_le 1 n) (nat_le n 16) (nat_lt (length (workers f)) 64) (nat_lt f.last_worker 1024) (is_le 1 n a) (is_le n 16 b) (is_lt (length (workers f)) 64 c) (is_lt f.last_worker 1024 d))
+sound-joined f n s a b c d = sound_changed f s (Join n) (join_taken (nat_le 1 n) (nat_le n 16) (nat_lt (length (workers f)) 64) (nat_lt f.last_worker 1024) (le-leb 1 n a) (le-leb n 16 b) (lt-ltb (length (workers f)) 64 c) (lt-ltb f.last_worker 1024 d))
 
-nobody_next : (f : Facts) (k : ℕ) → IsSound f → holds f (1 + f.last_worker) k ≡ false
+pub nobody_next : (f : Facts) (k : ℕ) → IsSound f → holds f (1 + f.last_worker) k ≡ false
 nobody_next f k s = pick (holds f (1 + f.last_worker) k) refl
   where
     pick : (b : Bool) → holds f (1 + f.last_worker) k ≡ b → b ≡ false
     pick false e = refl
     pick true e = absurd (let n : 1 + f.last_worker ≤ f.last_worker = (s.numbers (1 + f.last_worker) (s.holders (1 + f.last_worker) k e)).1 in omega arith)
 
-holders_joined : (f : Facts) (n k : ℕ) → IsSound f → holder_count (joined f n) k ≡ holder_count f k
+pub holders_joined : (f : Facts) (n k : ℕ) → IsSound f → holder_count (joined f n) k ≡ holder_count f k
 unfolding holder_count joined
 holders_joined f n k s =
-    ap (count (λ w. holds f w k)) (range_more 1 f.last_worker)
+    ap (count (λ w. holds f w k)) (range_push 1 f.last_worker)
     ∙ total-push (λ w. cond (holds f w k) 1 0) (from_one f.last_worker) (1 + f.last_worker)
     ∙ ap (λ b. count (λ w. holds f w k) (from_one f.last_worker) + cond b 1 0) (nobody_next f k s)
-    ∙ plain (count (λ w. holds f w k) (from_one f.last_worker))
-  where
-    plain : (x : ℕ) → x + 0 ≡ x
-    plain x = omega arith
+    ∙ add-zero (count (λ w. holds f w k) (from_one f.last_worker))
 
 pub keep-joined : (f g : Facts) (m n : ℕ) (t w b h c : List ℕ) (threads : ℕ) → g ≡ joined f threads → n ≡ m → 1 ≤ threads → threads ≤ 16 → length (workers f) < 64 → f.last_worker < 1024 → f.last_worker < m → IsKeeping f m t w b h c → IsKeeping g n t w b h c
 unfolding tasks occupancy bytes_held want_count joined
@@ -216,17 +198,12 @@ keep-joined f g m n t w b h c threads e d x y u v r s = subst (λ (z : Facts). I
   want_rows = s.want_rows;
 }))
 
--- one worker less
-no_copy : (o : Option ℕ) → is_some o ≡ false → None ≡ o
-no_copy None e = refl
-no_copy (Some x) e = absurd (false≢true (sym e))
-
 left_nothing : (f : Facts) (w : ℕ) → ((k : ℕ) → holds f w k ≡ false) → ((k : ℕ) → is_on f w k ≡ false) → left f w ≡ record f { threads = put f.threads w None }
 unfolding left
 left_nothing f w h o = λ i. record f { threads = put f.threads w None; has = λ v k. has_at v k (eqb v w) refl i; on = λ k. on_at k i; steal = λ k. steal_at k i }
   where
     has_at : (v k : ℕ) (b : Bool) → eqb v w ≡ b → cond b None (f.has v k) ≡ f.has v k
-    has_at v k true e = no_copy (f.has v k) (ap (λ u. holds f u k) (eqb-true v w e) ∙ h k)
+    has_at v k true e = none_is_it (f.has v k) (ap (λ u. holds f u k) (eqb-true v w e) ∙ h k)
     has_at v k false e = refl
 
     on_at : (k : ℕ) → cond (is_on f w k) None (f.on k) ≡ f.on k

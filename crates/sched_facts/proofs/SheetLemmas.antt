@@ -1,11 +1,11 @@
 -- Rows in pages, after a page more and after a write.
 use Rattle.std.proofs.Common.{◌≡◌, ◌≢◌, ℕ, zero, suc, ◌+◌, ◌*◌, ◌/◌, ◌%◌, ◌<◌, ◌≤◌, min, Bool, true, false, cond, List, [], ◌∷◌, refl, sym, ap, ◌∙◌, subst, arith, length, get_or, set, map, replicate, ⊎_elim, length-set, get_or-set_other}
 use Rattle.std.proofs.lemmas.Bool.{cases_lt, eqb-true, false≢true}
-use Rattle.std.proofs.lemmas.Bool.Decides.{nat_tests}
 use Rattle.std.proofs.lemmas.List.{get_or_past, get_or_read, get_or-replicate, length-replicate}
 use Rattle.std.proofs.lemmas.List.FromFn.{get_or-map-range_with_len, length-map-range_with_len}
 use Rattle.std.proofs.Math.Dec.{eqb}
 use Rattle.std.specs.List.{range_with_len}
+use Rattle.small_facts.proofs.Numbers.{eqb_self, unequal_past}
 use Rattle.cluster_rules.specs.Functions.{put}
 use Rattle.cluster_rules.proofs.FunctionLemmas.{set_at}
 use Rattle.fact_rows.specs.Rows.{read}
@@ -119,14 +119,11 @@ unfolding member
 member_set rest places items key value h m k =
     set_at items (spot_of places key) value rest (spot-lt rest places items key h) (spot_of places k) ∙ ap (λ b. cond b value (get_or items (spot_of places k) rest)) (pick (eqb (spot_of places k) (spot_of places key)) (eqb k key) refl refl)
   where
-    itself : (n : ℕ) → eqb n n ≡ true
-    itself n = grind (arith, nat_tests)
-
     pick : (b c : Bool) → eqb (spot_of places k) (spot_of places key) ≡ b → eqb k key ≡ c → b ≡ c
     pick true true p q = refl
     pick false false p q = refl
-    pick true false p q = absurd (false≢true (sym q ∙ ap (λ n. eqb n key) (spot-same rest places items key k h m (eqb-true _ _ p)) ∙ itself key))
-    pick false true p q = absurd (false≢true (sym p ∙ ap (λ n. eqb (spot_of places n) (spot_of places key)) (eqb-true k key q) ∙ itself (spot_of places key)))
+    pick true false p q = absurd (false≢true (sym q ∙ ap (λ n. eqb n key) (spot-same rest places items key k h m (eqb-true _ _ p)) ∙ eqb_self key))
+    pick false true p q = absurd (false≢true (sym p ∙ ap (λ n. eqb (spot_of places n) (spot_of places key)) (eqb-true k key q) ∙ eqb_self (spot_of places key)))
 
 -- a list by a function, read
 pub read_inside : {A : Type 0} (f : ℕ → A) (n k : ℕ) (d : A) → k < n → read (map f (range_with_len 0 n)) d k ≡ f k
@@ -139,14 +136,11 @@ read_past f n k d l = get_or_past (map f (range_with_len 0 n)) k d (let e : leng
 pub members-put : {A : Type 0} (f g : ℕ → A) (n key : ℕ) (value d : A) → key < n → ((k : ℕ) → g k ≡ put f key value k) → read (map g (range_with_len 0 n)) d ≡ put (read (map f (range_with_len 0 n)) d) key value
 members-put f g n key value d l e = λ i k. ⊎_elim (inside k) (past k) (cases_lt k n) i
   where
-    other : (k key n : ℕ) → key < n → n ≤ k → eqb k key ≡ false
-    other k key n l m = grind (arith, nat_tests)
-
     inside : (k : ℕ) → k < n → read (map g (range_with_len 0 n)) d k ≡ put (read (map f (range_with_len 0 n)) d) key value k
     inside k m = read_inside g n k d m ∙ e k ∙ ap (cond (eqb k key) value) (sym (read_inside f n k d m))
 
     past : (k : ℕ) → n ≤ k → read (map g (range_with_len 0 n)) d k ≡ put (read (map f (range_with_len 0 n)) d) key value k
-    past k m = read_past g n k d m ∙ sym (ap (λ b. cond b value (read (map f (range_with_len 0 n)) d k)) (other k key n l m) ∙ read_past f n k d m)
+    past k m = read_past g n k d m ∙ sym (ap (λ b. cond b value (read (map f (range_with_len 0 n)) d k)) (unequal_past k key n l m) ∙ read_past f n k d m)
 
 -- the list of members has one for each key
 pub key-lt : {A : Type 0} (rest : A) (places : List ℕ) (items : List A) (n key : ℕ) → key < length (members rest places items n) → key < n

@@ -1,26 +1,17 @@
 -- Each change of one fact keeps all facts in range, and copies and attempts below the next.
 use Rattle.std.proofs.Common.{◌≡◌, ℕ, ◌+◌, ◌<◌, ◌≤◌, Bool, true, false, cond, ◌&&◌, Option, Some, None, is_some, refl, sym, ap, ◌∙◌, subst, arith}
-use Rattle.std.proofs.lemmas.Bool.Decides.{nat_tests}
 use Rattle.std.proofs.lemmas.Bool.{false≢true, eqb-true}
 use Rattle.std.proofs.Math.Dec.{eqb}
+use Rattle.std.proofs.Math.Bool.{and-false}
+use Rattle.small_facts.proofs.Numbers.{unequal_past}
+use Rattle.small_facts.proofs.Truth.{and_first}
 use Rattle.cluster_rules.specs.Functions.{put, put_pair}
 use Rattle.cluster_rules.specs.Sched.{Facts, IsSound, keys, holds, is_on, is_for, connected}
-use Rattle.cluster_rules.proofs.SoundLemmas.{IsBounded, sound_bounded, bounded_marked, none_kept, put_past}
+use Rattle.cluster_rules.proofs.SoundLemmas.{IsBounded, sound_bounded, bounded_marked, put_past}
 use Rattle.sched_facts.specs.Kept.{IsFresh}
 
-not_there : (j k n : ℕ) → k < n → n ≤ j → eqb j k ≡ false
-not_there j k n l m = grind (arith, nat_tests)
-
-and_false : (b : Bool) → (b && false) ≡ false
-and_false true = refl
-and_false false = refl
-
 pair_past : {A : Type 0} (f : ℕ → ℕ → A) (w k n v j : ℕ) (x d : A) → k < n → n ≤ j → f v j ≡ d → put_pair f w k x v j ≡ d
-pair_past f w k n v j x d l m e = ap (λ b. cond (eqb v w && b) x (f v j)) (not_there j k n l m) ∙ ap (λ b. cond b x (f v j)) (and_false (eqb v w)) ∙ e
-
-and_left : (b c : Bool) → (b && c) ≡ true → b ≡ true
-and_left true c e = refl
-and_left false c e = absurd (false≢true e)
+pair_past f w k n v j x d l m e = ap (λ b. cond (eqb v w && b) x (f v j)) (unequal_past j k n l m) ∙ ap (λ b. cond b x (f v j)) (and-false (eqb v w)) ∙ e
 
 -- other numbers
 pub sound-counted : (f : Facts) (n m : ℕ) → IsSound f → IsSound (record f { counter = n; finishes = m })
@@ -33,13 +24,13 @@ pub sound-want : (f : Facts) (c k : ℕ) (to : Bool) → k < keys f → IsSound 
 sound-want f c k to l s = sound_bounded f (record f { want = put_pair f.want c k to }) s (record { setting = refl; threads = refl; last_worker = refl; want = λ d j m. pair_past f.want c k (keys f) d j to false l m (s.want d j m); has = s.has; bad = s.bad; on = s.on; steal = s.steal; holders = s.holders; places = s.places })
 
 pub sound-bad : (f : Facts) (k : ℕ) (to : Bool) → k < keys f → IsSound f → IsSound (record f { bad = put f.bad k to })
-sound-bad f k to l s = sound_bounded f (record f { bad = put f.bad k to }) s (record { setting = refl; threads = refl; last_worker = refl; want = s.want; has = s.has; bad = λ j m. ap (λ b. cond b to (f.bad j)) (not_there j k (keys f) l m) ∙ s.bad j m; on = s.on; steal = s.steal; holders = s.holders; places = s.places })
+sound-bad f k to l s = sound_bounded f (record f { bad = put f.bad k to }) s (record { setting = refl; threads = refl; last_worker = refl; want = s.want; has = s.has; bad = λ j m. ap (λ b. cond b to (f.bad j)) (unequal_past j k (keys f) l m) ∙ s.bad j m; on = s.on; steal = s.steal; holders = s.holders; places = s.places })
 
 pub sound-copied : (f : Facts) (w k : ℕ) (to : Option ℕ) → k < keys f → connected f w ≡ true → IsSound f → IsSound (record f { has = put_pair f.has w k to })
 sound-copied f w k to l c s = sound_bounded f (record f { has = put_pair f.has w k to }) s (record { setting = refl; threads = refl; last_worker = refl; want = s.want; has = λ v j m. pair_past f.has w k (keys f) v j to None l m (s.has v j m); bad = s.bad; on = s.on; steal = s.steal; holders = λ v j h. pick v j (eqb v w && eqb j k) refl h; places = s.places })
   where
     pick : (v j : ℕ) (b : Bool) → (eqb v w && eqb j k) ≡ b → is_some (cond b to (f.has v j)) ≡ true → connected f v ≡ true
-    pick v j true e h = subst (λ u. connected f u ≡ true) (sym (eqb-true v w (and_left (eqb v w) (eqb j k) e))) c
+    pick v j true e h = subst (λ u. connected f u ≡ true) (sym (eqb-true v w (and_first (eqb v w) (eqb j k) e))) c
     pick v j false e h = s.holders v j h
 
 pub sound-placed : (f : Facts) (k : ℕ) (to : Option (ℕ × ℕ)) → k < keys f → ((w a : ℕ) → to ≡ Some (w, a) → (connected f w ≡ true) × (a < f.counter)) → IsSound f → IsSound (record f { on = put f.on k to; steal = put f.steal k None })

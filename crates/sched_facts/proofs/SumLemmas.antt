@@ -1,37 +1,29 @@
 -- Sums after one write.
-use Rattle.std.proofs.Common.{◌≡◌, ℕ, zero, suc, ◌+◌, ◌-◌, ◌<◌, ◌≤◌, Bool, true, false, cond, ◌&&◌, ◌||◌, List, [], ◌∷◌, Option, Some, None, is_some, refl, sym, ap, ◌∙◌, arith, ⊎_elim, inl, inr, ◌⊎◌, ltb}
-use Rattle.std.proofs.lemmas.Bool.Decides.{nat_tests}
+use Rattle.std.proofs.Common.{◌≡◌, ℕ, zero, suc, ◌+◌, ◌-◌, ◌<◌, ◌≤◌, Bool, true, false, cond, ◌&&◌, ◌||◌, List, [], ◌∷◌, Option, Some, None, is_some, refl, sym, ap, ◌∙◌, arith, ⊎_elim, ◌⊎◌, ltb}
 use Rattle.std.proofs.Math.Dec.{eqb}
-use Rattle.std.proofs.lemmas.Bool.{eqb-true, cases_lt}
+use Rattle.std.proofs.lemmas.Bool.{eqb-true}
 use Rattle.std.specs.List.{range_with_len, list_any}
+use Rattle.std.proofs.Math.Bool.{and-false}
+use Rattle.std.proofs.Math.Nat.{zero-add}
+use Rattle.small_facts.proofs.Numbers.{next_positive, unequal_next, none_plus, eqb_turned, unequal_over, equal_or_above, eqb_self}
 use Rattle.cluster_msgs.specs.Shape.{work_of, nbytes_of}
 use Rattle.cluster_rules.specs.Functions.{put, put_pair, from_one, total, count}
 use Rattle.cluster_rules.specs.Derived.{below}
-use Rattle.cluster_rules.proofs.DerivedLemmas.{eqb_comm}
 use Rattle.cluster_rules.specs.Sched.{Facts, keys, holds, held, wanted, is_on, is_for, tasks, occupancy, bytes_held, holder_count}
 use Rattle.sched_facts.specs.Kept.{want_count}
-
-not_same : (a k : ℕ) → k < a → eqb a k ≡ false
-not_same a k l = grind (arith, nat_tests)
 
 -- above the changed place
 total_away : (g h : ℕ → ℕ) (k x : ℕ) → ((j : ℕ) → h j ≡ cond (eqb j k) x (g j)) → (a n : ℕ) → k < a → total h (range_with_len a n) ≡ total g (range_with_len a n)
 total_away g h k x e a zero l = refl
 total_away g h k x e a (suc n) l =
-    let first : h a ≡ g a = e a ∙ ap (λ b. cond b x (g a)) (not_same a k l) in
+    let first : h a ≡ g a = e a ∙ ap (λ b. cond b x (g a)) (unequal_over a k l) in
     let rest : total h (range_with_len (a + 1) n) ≡ total g (range_with_len (a + 1) n) = total_away g h k x e (a + 1) n (omega arith) in
     omega arith
-
-same_or_above : (a k : ℕ) → a ≤ k → (a ≡ k) ⊎ (a + 1 ≤ k)
-same_or_above a k l = ⊎_elim (λ h. inr (omega arith)) (λ h. inl (omega arith)) (cases_lt a k)
-
-eqb_self : (a : ℕ) → eqb a a ≡ true
-eqb_self a = grind (arith, nat_tests)
 
 -- the sum after one number changed
 pub total_put : (g h : ℕ → ℕ) (k x : ℕ) → ((j : ℕ) → h j ≡ cond (eqb j k) x (g j)) → (a n : ℕ) → a ≤ k → k < a + n → total h (range_with_len a n) + g k ≡ total g (range_with_len a n) + x
 total_put g h k x e a zero l m = absurd (omega arith)
-total_put g h k x e a (suc n) l m = ⊎_elim here (λ i. above i (total_put g h k x e (a + 1) n i (omega arith))) (same_or_above a k l)
+total_put g h k x e a (suc n) l m = ⊎_elim here (λ i. above i (total_put g h k x e (a + 1) n i (omega arith))) (equal_or_above a k l)
   where
     here : a ≡ k → h a + total h (range_with_len (a + 1) n) + g k ≡ g a + total g (range_with_len (a + 1) n) + x
     here i =
@@ -40,12 +32,9 @@ total_put g h k x e a (suc n) l m = ⊎_elim here (λ i. above i (total_put g h 
         let rest : total h (range_with_len (a + 1) n) ≡ total g (range_with_len (a + 1) n) = total_away g h k x e (a + 1) n (omega arith) in
         omega arith
 
-    other : (a k : ℕ) → a + 1 ≤ k → eqb a k ≡ false
-    other a k l = grind (arith, nat_tests)
-
     above : a + 1 ≤ k → total h (range_with_len (a + 1) n) + g k ≡ total g (range_with_len (a + 1) n) + x → h a + total h (range_with_len (a + 1) n) + g k ≡ g a + total g (range_with_len (a + 1) n) + x
     above i rest =
-        let first : h a ≡ g a = e a ∙ ap (λ b. cond b x (g a)) (other a k i) in
+        let first : h a ≡ g a = e a ∙ ap (λ b. cond b x (g a)) (unequal_next a k i) in
         omega arith
 
 -- functions with the same values have one sum
@@ -72,17 +61,13 @@ line_sum p t n w k to l v = pick (eqb v w) refl
 pub column_sum : {A : Type 0} (p : A → ℕ) (t : ℕ → ℕ → A) (n w k : ℕ) (to : A) → 1 ≤ w → w ≤ n → (j : ℕ) → total (λ v. p (put_pair t w k to v j)) (from_one n) + cond (eqb j k) (p (t w k)) 0 ≡ total (λ v. p (t v j)) (from_one n) + cond (eqb j k) (p to) 0
 column_sum p t n w k to l m j = pick (eqb j k) refl
   where
-    and_false : (b : Bool) → (b && false) ≡ false
-    and_false true = refl
-    and_false false = refl
-
     at : (v : ℕ) (c : Bool) → p (cond (c && true) to (t v j)) ≡ cond c (p to) (p (t v j))
     at v true = refl
     at v false = refl
 
     pick : (b : Bool) → eqb j k ≡ b → total (λ v. p (cond (eqb v w && b) to (t v j))) (from_one n) + cond b (p (t w k)) 0 ≡ total (λ v. p (t v j)) (from_one n) + cond b (p to) 0
     pick true e = ap (λ i. total (λ v. p (cond (eqb v w && true) to (t v j))) (from_one n) + p (t w i)) (sym (eqb-true j k e)) ∙ total_put (λ v. p (t v j)) (λ v. p (cond (eqb v w && true) to (t v j))) w (p to) (λ v. at v (eqb v w)) 1 n l (omega arith)
-    pick false e = ap (λ s. s + 0) (total_same (λ v. p (cond (eqb v w && false) to (t v j))) (λ v. p (t v j)) (λ v. ap (λ b. p (cond b to (t v j))) (and_false (eqb v w))) (from_one n))
+    pick false e = ap (λ s. s + 0) (total_same (λ v. p (cond (eqb v w && false) to (t v j))) (λ v. p (t v j)) (λ v. ap (λ b. p (cond b to (t v j))) (and-false (eqb v w))) (from_one n))
 
 -- the sums of the facts
 pub tasks-placed : (f : Facts) (k : ℕ) (to : Option (ℕ × ℕ)) (st : ℕ → Option (ℕ × Bool)) → k < keys f → (w : ℕ) → tasks (record f { on = put f.on k to; steal = st }) w + cond (is_for w (f.on k)) 1 0 ≡ tasks f w + cond (is_for w to) 1 0
@@ -111,28 +96,19 @@ any-count p [] = refl
 any-count p (x ∷ xs) = pick (p x) (any-count p xs)
   where
     pick : (b : Bool) → list_any p xs ≡ ltb 0 (count p xs) → (b || list_any p xs) ≡ ltb 0 (cond b 1 0 + count p xs)
-    pick true e = sym (positive (count p xs))
-      where
-        positive : (n : ℕ) → ltb 0 (1 + n) ≡ true
-        positive n = grind (arith, nat_tests)
-    pick false e = e ∙ ap (ltb 0) (sym (plain (count p xs)))
-      where
-        plain : (n : ℕ) → 0 + n ≡ n
-        plain n = omega arith
+    pick true e = sym (next_positive (count p xs))
+    pick false e = e ∙ ap (ltb 0) (sym (zero-add (count p xs)))
 
 -- a sum that was raised or lowered at one place
 pub raised_there : (old : ℕ → ℕ) (w by_ v : ℕ) → put old w (old w + by_) v ≡ old v + cond (eqb w v) by_ 0
-raised_there old w by_ v = ap (λ b. cond b (old w + by_) (old v)) (eqb_comm v w) ∙ pick (eqb w v) refl
+raised_there old w by_ v = ap (λ b. cond b (old w + by_) (old v)) (eqb_turned v w) ∙ pick (eqb w v) refl
   where
-    plain : (n : ℕ) → n ≡ n + 0
-    plain n = omega arith
-
     pick : (b : Bool) → eqb w v ≡ b → cond b (old w + by_) (old v) ≡ old v + cond b by_ 0
     pick true e = ap (λ u. old u + by_) (eqb-true w v e)
-    pick false e = plain (old v)
+    pick false e = none_plus (old v)
 
 pub lowered_there : (old : ℕ → ℕ) (w by_ v : ℕ) → put old w (old w - by_) v ≡ old v - cond (eqb w v) by_ 0
-lowered_there old w by_ v = ap (λ b. cond b (old w - by_) (old v)) (eqb_comm v w) ∙ pick (eqb w v) refl
+lowered_there old w by_ v = ap (λ b. cond b (old w - by_) (old v)) (eqb_turned v w) ∙ pick (eqb w v) refl
   where
     plain : (n : ℕ) → n ≡ n - 0
     plain n = omega arith

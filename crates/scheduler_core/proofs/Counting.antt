@@ -2,10 +2,10 @@
 use Rattle.std.proofs.Common.{◌≡◌, ℕ, ◌+◌, ◌<◌, ◌≤◌, Bool, true, false, cond, ◌&&◌, List, [], ◌∷◌, Option, Some, None, refl, sym, ap, ◌∙◌, subst, arith, length}
 use Rattle.std.specs.Prelude.{nat_le, nat_lt}
 use Rattle.std.specs.List.{AllByRecursion, list_all}
-use Rattle.std.proofs.Math.Dec.{eqb}
-use Rattle.std.proofs.lemmas.Bool.{false≢true}
 use Rattle.std.proofs.lemmas.List.FromFn.{length-range_with_len}
-use Rattle.cluster_msgs.specs.declared.messages.Down.{Down}
+use Rattle.std.proofs.Math.Nat.{le-add_right, le_refl}
+use Rattle.small_facts.proofs.Numbers.{equal_below_or_next}
+use Rattle.small_facts.proofs.Truth.{and_second}
 use Rattle.cluster_msgs.specs.declared.messages.Up.{Up}
 use Rattle.cluster_msgs.specs.declared.messages.Up.TheVariants.{TaskFinished, TaskErred, AddKeys, ReleaseWorkerData, MissingData, RequestRefreshWhoHas, StealResponse}
 use Rattle.cluster_msgs.specs.declared.messages.FromClient.{FromClient as FromClientMessage}
@@ -24,6 +24,7 @@ use Rattle.cluster_rules.proofs.SchedFrame.{placing_keys}
 use Rattle.sched_changes.specs.Pairs.{so_far}
 use Rattle.sched_changes.proofs.ChangeLemmas.{IsAdded, added_self, added_then, added_one, added_room}
 use Rattle.sched_changes.proofs.RowLemmas.{all_less}
+use Rattle.scheduler_core.proofs.PostLemmas.{count_to-few}
 
 -- from f to g at most n numbers were drawn and one finish counted, and nothing was sent. The setting stays
 pub record IsCounted (f g : Facts) (n : ℕ) : Type 0 where
@@ -33,23 +34,10 @@ pub record IsCounted (f g : Facts) (n : ℕ) : Type 0 where
   pub setting : g.setting ≡ f.setting
 
 none : (f : Facts) (n : ℕ) → IsCounted f f n
-none f n = record { counter = at f.counter n; finishes = at f.finishes 1; sent = refl; setting = refl }
-  where
-    at : (m n : ℕ) → m ≤ m + n
-    at m n = omega arith
+none f n = record { counter = le-add_right f.counter n; finishes = le-add_right f.finishes 1; sent = refl; setting = refl }
 
 one : (m n : ℕ) → 0 < n → m + 1 ≤ m + n
 one m n h = omega arith
-
-same : (m : ℕ) → m ≤ m
-same m = omega arith
-
-more : (m n : ℕ) → m ≤ m + n
-more m n = omega arith
-
-both_second : (a b : Bool) → (a && b) ≡ true → b ≡ true
-both_second true b e = e
-both_second false b e = absurd (false≢true e)
 
 some_key : (n k : ℕ) → list_all (λ k. nat_lt k n) (k ∷ []) ≡ true → 0 < n
 some_key n k e = let l : k < n = (all_less n (k ∷ []) e).0 in omega arith
@@ -59,7 +47,7 @@ unfolding finished
 counted_finished f w k a n h = pick (is_this w a (f.on k))
   where
     pick : (b : Bool) → IsCounted f (cond b (record f { on = put f.on k None; steal = put f.steal k None; has = put_pair f.has w k (Some f.counter); counter = f.counter + 1; finishes = f.finishes + 1 }) f) n
-    pick true = record { counter = one f.counter n h; finishes = same (f.finishes + 1); sent = refl; setting = refl }
+    pick true = record { counter = one f.counter n h; finishes = le_refl (f.finishes + 1); sent = refl; setting = refl }
     pick false = none f n
 
 counted_failed : (f : Facts) (w k a n : ℕ) → IsCounted f (failed f w k a) n
@@ -67,7 +55,7 @@ unfolding failed
 counted_failed f w k a n = pick (is_this w a (f.on k))
   where
     pick : (b : Bool) → IsCounted f (cond b (record f { on = put f.on k None; steal = put f.steal k None; bad = put f.bad k true }) f) n
-    pick true = record { counter = more f.counter n; finishes = more f.finishes 1; sent = refl; setting = refl }
+    pick true = record { counter = le-add_right f.counter n; finishes = le-add_right f.finishes 1; sent = refl; setting = refl }
     pick false = none f n
 
 counted_released : (f : Facts) (w seen k n : ℕ) → IsCounted f (released f w seen k) n
@@ -75,7 +63,7 @@ unfolding released
 counted_released f w seen k n = pick (nat_le (f.fence w k) seen)
   where
     pick : (b : Bool) → IsCounted f (cond b (record f { has = put_pair f.has w k None }) f) n
-    pick true = record { counter = more f.counter n; finishes = more f.finishes 1; sent = refl; setting = refl }
+    pick true = record { counter = le-add_right f.counter n; finishes = le-add_right f.finishes 1; sent = refl; setting = refl }
     pick false = none f n
 
 counted_lost : (f : Facts) (x k c n : ℕ) → IsCounted f (lost_copy f x k c).facts n
@@ -86,7 +74,7 @@ counted_lost f x k c n = pick (is_copy c (f.has x k))
     yes = record (plain (record f { has = put_pair f.has x k None })) { freed = put_pair (λ w j. false) x k true }
 
     pick : (b : Bool) → IsCounted f (cond b yes (plain f)).facts n
-    pick true = record { counter = more f.counter n; finishes = more f.finishes 1; sent = refl; setting = refl }
+    pick true = record { counter = le-add_right f.counter n; finishes = le-add_right f.finishes 1; sent = refl; setting = refl }
     pick false = none f n
 
 counted_stolen : (f : Facts) (k n : ℕ) (s : Option (ℕ × Bool)) → 0 < n → IsCounted f (stolen_to f k s) n
@@ -94,8 +82,8 @@ counted_stolen f k n None h = none f n
 counted_stolen f k n (Some p) h = pick (connected f p.0)
   where
     pick : (b : Bool) → IsCounted f (cond b (record f { on = put f.on k (Some (p.0, f.counter)); steal = put f.steal k None; counter = f.counter + 1 }) (record f { on = put f.on k None; steal = put f.steal k None })) n
-    pick true = record { counter = one f.counter n h; finishes = more f.finishes 1; sent = refl; setting = refl }
-    pick false = record { counter = more f.counter n; finishes = more f.finishes 1; sent = refl; setting = refl }
+    pick true = record { counter = one f.counter n h; finishes = le-add_right f.finishes 1; sent = refl; setting = refl }
+    pick false = record { counter = le-add_right f.counter n; finishes = le-add_right f.finishes 1; sent = refl; setting = refl }
 
 counted_answered : (f : Facts) (w k a : ℕ) (agreed : Bool) (n : ℕ) → 0 < n → IsCounted f (answered f w k a agreed) n
 unfolding answered
@@ -103,7 +91,7 @@ counted_answered f w k a agreed n h = pick (is_this w a (f.on k) && is_asked_bac
   where
     pick : (b c : Bool) → IsCounted f (cond b (cond c (stolen_to f k (f.steal k)) (record f { steal = put f.steal k (refused (f.steal k)) })) f) n
     pick true true = counted_stolen f k n (f.steal k) h
-    pick true false = record { counter = more f.counter n; finishes = more f.finishes 1; sent = refl; setting = refl }
+    pick true false = record { counter = le-add_right f.counter n; finishes = le-add_right f.finishes 1; sent = refl; setting = refl }
     pick false c = none f n
 
 -- what one key of add-keys changes does not depend on what was freed
@@ -133,10 +121,7 @@ counted_added : (f : Facts) (w seen n : ℕ) (ks : List ℕ) → AllByRecursion 
 counted_added f w seen n ks h =
     let g = (add_keys w seen (plain f) ks).facts in
     let a : IsAdded f g w n = added_keys w seen n (plain f) ks h in
-    record { counter = added_room f g w n (f.counter + n) a (same (f.counter + n)); finishes = at g.finishes f.finishes a.finishes; sent = a.sent; setting = a.setting }
-  where
-    at : (a b : ℕ) → a ≡ b → a ≤ b + 1
-    at a b e = omega arith
+    record { counter = added_room f g w n (f.counter + n) a (le_refl (f.counter + n)); finishes = equal_below_or_next g.finishes f.finishes a.finishes; sent = a.sent; setting = a.setting }
 
 counted_up : (f : Facts) (w : ℕ) (up : Up) → are_keys f (up_keys up) ≡ true → IsCounted f (change_up f w up).facts (keys f)
 counted_up f w (TaskFinished seen k a) h = counted_finished f w k a (keys f) (some_key (keys f) k h)
@@ -149,29 +134,29 @@ counted_up f w (StealResponse seen k a agreed) h = counted_answered f w k a agre
 
 counted_client : (f : Facts) (c : ℕ) (msg : FromClientMessage) → IsCounted f (change_client f c msg).facts (keys f)
 unfolding wants_more wants_less
-counted_client f c (Want ks) = record { counter = more f.counter (keys f); finishes = more f.finishes 1; sent = refl; setting = refl }
-counted_client f c (Release ks) = record { counter = more f.counter (keys f); finishes = more f.finishes 1; sent = refl; setting = refl }
+counted_client f c (Want ks) = record { counter = le-add_right f.counter (keys f); finishes = le-add_right f.finishes 1; sent = refl; setting = refl }
+counted_client f c (Release ks) = record { counter = le-add_right f.counter (keys f); finishes = le-add_right f.finishes 1; sent = refl; setting = refl }
 counted_client f c (Missing k x copy) = counted_lost f x k copy (keys f)
 
 counted_balanced : (f : Facts) (n : ℕ) (o : Option Steal) → IsCounted f (balanced f o).facts n
 counted_balanced f n None = none f n
-counted_balanced f n (Some c) = record { counter = more f.counter n; finishes = more f.finishes 1; sent = refl; setting = refl }
+counted_balanced f n (Some c) = record { counter = le-add_right f.counter n; finishes = le-add_right f.finishes 1; sent = refl; setting = refl }
 
 counted_evicted : (f : Facts) (n : ℕ) (o : Option (ℕ × ℕ)) → IsCounted f (evicted f o).facts n
 counted_evicted f n None = none f n
-counted_evicted f n (Some p) = record { counter = more f.counter n; finishes = more f.finishes 1; sent = refl; setting = refl }
+counted_evicted f n (Some p) = record { counter = le-add_right f.counter n; finishes = le-add_right f.finishes 1; sent = refl; setting = refl }
 
 pub counted_change : (f : Facts) (e : SchedEvent) → sched_takes f e ≡ true → IsCounted f (change f e).facts (keys f)
 unfolding sched_takes joined left
-counted_change f (Join threads) h = record { counter = more f.counter (keys f); finishes = more f.finishes 1; sent = refl; setting = refl }
-counted_change f (Leave w) h = record { counter = more f.counter (keys f); finishes = more f.finishes 1; sent = refl; setting = refl }
-counted_change f (FromWorker w up) h = counted_up f w up (both_second (connected f w) (are_keys f (up_keys up)) h)
+counted_change f (Join threads) h = record { counter = le-add_right f.counter (keys f); finishes = le-add_right f.finishes 1; sent = refl; setting = refl }
+counted_change f (Leave w) h = record { counter = le-add_right f.counter (keys f); finishes = le-add_right f.finishes 1; sent = refl; setting = refl }
+counted_change f (FromWorker w up) h = counted_up f w up (and_second (connected f w) (are_keys f (up_keys up)) h)
 counted_change f (FromClient c msg) h = counted_client f c msg
 counted_change f Balance h = counted_balanced f (keys f) (next_steal f)
 counted_change f Evict h = counted_evicted f (keys f) (next_drop f)
 
 place_counter : (f : Facts) (ks : List ℕ) → (place_keys f ks).counter ≤ f.counter + length ks
-place_counter f [] = more f.counter 0
+place_counter f [] = le-add_right f.counter 0
 place_counter f (k ∷ ks) = omega (arith, place_counter (place_one f k) ks, counter-place_one f k)
 
 -- the same once the facts have settled: each ready key draws one number more
@@ -190,14 +175,6 @@ counted_settled f g c =
     sum : (a b d l m n : ℕ) → a ≤ b + l → l ≡ m → m ≡ n → b ≤ d + n → a ≤ d + (n + n)
     sum a b d l m n h i j k = omega arith
 
-count_few : (w : ℕ) (ms : List (ℕ × Down)) → count_to w ms ≤ length ms
-count_few w [] = omega arith
-count_few w (m ∷ ms) = pick (eqb m.0 w) (count_few w ms)
-  where
-    pick : (b : Bool) → count_to w ms ≤ length ms → cond b 1 0 + count_to w ms ≤ length (m ∷ ms)
-    pick true h = omega arith
-    pick false h = omega arith
-
 -- what one whole event counts
 pub record IsStepCounted (f g : Facts) (posts : ℕ) : Type 0 where
   pub counter : g.counter ≤ f.counter + (keys f + keys f)
@@ -212,7 +189,7 @@ counted_step f e h =
     record {
       counter = c.counter;
       finishes = c.finishes;
-      sent = λ w. sum (t.placed.sent w) (f.sent w) (count_to w (down_messages t)) (length (down_messages t)) (ap (λ (s : ℕ → ℕ). s w) c.sent) (count_few w (down_messages t));
+      sent = λ w. sum (t.placed.sent w) (f.sent w) (count_to w (down_messages t)) (length (down_messages t)) (ap (λ (s : ℕ → ℕ). s w) c.sent) (count_to-few w (down_messages t));
     }
   where
     sum : (a b c d : ℕ) → a ≡ b → c ≤ d → a + c ≤ b + d

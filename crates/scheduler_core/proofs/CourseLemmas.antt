@@ -1,10 +1,9 @@
 -- The course of one event, put together.
 use Rattle.std.proofs.Common.{◌≡◌, ℕ, ◌+◌, ◌*◌, ◌^◌, ◌<◌, ◌≤◌, Bool, true, false, not, ◌&&◌, ◌||◌, List, [], ◌∷◌, ◌++◌, Option, Some, None, ltb, refl, sym, ap, ◌∙◌, subst, arith, length}
-use Rattle.std.specs.Prelude.{nat_le}
 use Rattle.std.specs.List.{All, AllByRecursion, cons_option, flat_map}
-use Rattle.std.proofs.lemmas.Bool.Decides.{nat_tests}
 use Rattle.std.proofs.lemmas.List.Elements.{All-from_recursion}
 use Rattle.std.proofs.lemmas.Nat.{mul-le}
+use Rattle.std.proofs.lemmas.Bool.{ltb-true, ltb-false, lt-leb}
 use Rattle.cluster_msgs.specs.declared.messages.Down.{Down}
 use Rattle.cluster_msgs.specs.declared.cores.SchedEvent.{SchedEvent}
 use Rattle.cluster_msgs.specs.declared.cores.Outbox.{Outbox}
@@ -43,15 +42,9 @@ use Rattle.scheduler_core.proofs.Counting.{counted_change, counted_settled}
 among : (n : ℕ) (row p : ℕ → Bool) → ((k : ℕ) → k < n → row k ≡ p k) → ((k : ℕ) → n ≤ k → p k ≡ false) → (k : ℕ) → (ltb k n && row k) ≡ p k
 among n row p h past k = pick (ltb k n) refl
   where
-    low : (k n : ℕ) → ltb k n ≡ true → k < n
-    low k n e = grind (arith, nat_tests)
-
-    high : (k n : ℕ) → ltb k n ≡ false → n ≤ k
-    high k n e = grind (arith, nat_tests)
-
     pick : (b : Bool) → ltb k n ≡ b → (b && row k) ≡ p k
-    pick true e = h k (low k n e)
-    pick false e = sym (past k (high k n e))
+    pick true e = h k (ltb-true k n e)
+    pick false e = sym (past k (ltb-false k n e))
 
 -- what was so before the event is what the table remembers
 was_so : (s t : Tasks) (e : SchedEvent) (g : Changed) (row : List ℕ) (asked : List ℕ) (p : ℕ → Bool) → Follows s t → g.asked ≡ asked_in e → ((k : ℕ) → has asked k ≡ asked_in e k) → ((k : ℕ) → k < keys (facts s) → has row k ≡ p k) → ((k : ℕ) → keys (facts s) ≤ k → p k ≡ false)
@@ -65,10 +58,7 @@ was_so s t e g row asked p v q a h past = λ i k. at k i
 
 not_since : (since : ℕ) (o : Option (ℕ × ℕ)) → ((w a : ℕ) → o ≡ Some (w, a) → a < since) → is_since since o ≡ false
 not_since since None h = refl
-not_since since (Some p) h = older since p.1 (h p.0 p.1 refl)
-  where
-    older : (n a : ℕ) → a < n → nat_le n a ≡ false
-    older n a l = grind (arith, nat_tests)
+not_since since (Some p) h = lt-leb since p.1 (h p.0 p.1 refl)
 
 -- the tables of one event: before it, after its own change, after what was to go went, and after ready keys were placed
 pub record IsPassage (s a b t : Tasks) (e : SchedEvent) (ps : List (ℕ × ℕ)) (c : Course) : Type 0 where

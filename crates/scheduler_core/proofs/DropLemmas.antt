@@ -1,60 +1,36 @@
 -- Facts that go one by one.
-use Rattle.std.proofs.Common.{◌≡◌, ℕ, zero, suc, ◌+◌, ◌<◌, ◌≤◌, Bool, true, false, not, cond, ◌&&◌, ◌||◌, Option, Some, None, is_some, refl, sym, ap, ◌∙◌, arith, ltb, leb, ⊎_elim, ◌⊎◌, inl, inr}
+use Rattle.std.proofs.Common.{◌≡◌, ℕ, zero, suc, ◌+◌, ◌<◌, ◌≤◌, Bool, true, false, not, cond, ◌&&◌, ◌||◌, Option, Some, None, is_some, refl, sym, ap, ◌∙◌, arith, ltb, leb, ⊎_elim, ◌⊎◌}
 use Rattle.std.specs.List.{list_any, range_with_len}
 use Rattle.std.proofs.lemmas.Bool.Decides.{nat_tests}
-use Rattle.std.proofs.lemmas.Bool.{false≢true, eqb-true, cases_lt}
+use Rattle.std.proofs.lemmas.Bool.{false≢true, eqb-true, cases_lt, lt-ltb}
 use Rattle.std.proofs.Math.Dec.{eqb}
+use Rattle.std.proofs.Math.Bool.{and-true, or-true, or-false, and-false}
+use Rattle.small_facts.proofs.Numbers.{equal_below_next, below_below_next, past_next, equal_or_above, none_below_zero}
+use Rattle.small_facts.proofs.Options.{none_is_it}
 use Rattle.cluster_rules.specs.Functions.{put, put_pair}
 use Rattle.cluster_rules.specs.Sched.{Facts, IsSound, keys, holds, held, is_on, is_for, known, need, ready}
 use Rattle.cluster_rules.specs.SchedStep.{drop_bad, drop_has, drop_on}
 use Rattle.scheduler_core.specs.Dropped.{bad_below, copies_up_to, has_below, on_below, held_nowhere, placed_nowhere}
-
-or_false : (b : Bool) → (b || false) ≡ b
-or_false true = refl
-or_false false = refl
-
-and_false : (b : Bool) → (b && false) ≡ false
-and_false true = refl
-and_false false = refl
-
-no_copy : (o : Option ℕ) → is_some o ≡ false → None ≡ o
-no_copy None e = refl
-no_copy (Some x) e = absurd (false≢true (sym e))
 
 -- a copy that is not there goes
 pub copy_gone : (f : Facts) (w k : ℕ) → holds f w k ≡ false → f ≡ record f { has = put_pair f.has w k None }
 copy_gone f w k e = λ i. record f { has = λ v j. sym (at v j (eqb v w) (eqb j k) refl refl) i }
   where
     at : (v j : ℕ) (a b : Bool) → eqb v w ≡ a → eqb j k ≡ b → cond (a && b) None (f.has v j) ≡ f.has v j
-    at v j true true p q = no_copy (f.has w k) e ∙ ap (λ u. f.has u k) (sym (eqb-true v w p)) ∙ ap (f.has v) (sym (eqb-true j k q))
+    at v j true true p q = none_is_it (f.has w k) e ∙ ap (λ u. f.has u k) (sym (eqb-true v w p)) ∙ ap (f.has v) (sym (eqb-true j k q))
     at v j true false p q = refl
     at v j false b p q = refl
 
 next : (j i : ℕ) → ltb j (i + 1) ≡ (ltb j i || eqb j i)
 next j i = pick (ltb j i) (eqb j i) refl refl
   where
-    low : (j i : ℕ) → eqb j i ≡ true → ltb j (i + 1) ≡ true
-    low j i e = grind (arith, nat_tests)
-
-    below_it : (j i : ℕ) → ltb j i ≡ true → ltb j (i + 1) ≡ true
-    below_it j i e = grind (arith, nat_tests)
-
-    past : (j i : ℕ) → eqb j i ≡ false → ltb j i ≡ false → ltb j (i + 1) ≡ false
-    past j i e d = grind (arith, nat_tests)
-
     pick : (c b : Bool) → ltb j i ≡ c → eqb j i ≡ b → ltb j (i + 1) ≡ (c || b)
-    pick true b d e = below_it j i d
-    pick false true d e = low j i e
-    pick false false d e = past j i e d
+    pick true b d e = below_below_next j i d
+    pick false true d e = equal_below_next j i e
+    pick false false d e = past_next j i e d
 
 not_below : (j i : ℕ) → eqb j i ≡ true → ltb j i ≡ false
 not_below j i e = grind (arith, nat_tests)
-
-none_below : (i : ℕ) → ltb i 0 ≡ false
-none_below i = grind (arith, nat_tests)
-
-is_below : (k n : ℕ) → k < n → ltb k n ≡ true
-is_below k n l = grind (arith, nat_tests)
 
 -- one more key that does not pass goes
 gone_more : {A : Type 0} (l t p q : Bool) (d x : A) → (t ≡ true → p ≡ q) → cond (t && not p) d (cond (l && not q) d x) ≡ cond ((l || t) && not q) d x
@@ -66,7 +42,7 @@ gone_more false false p q d x h = refl
 
 pub bad_none : (passes : ℕ → Bool) (f : Facts) → f ≡ bad_below passes f 0
 unfolding bad_below
-bad_none passes f = λ i. record f { bad = λ k. sym (ap (λ b. cond (b && not (passes k)) false (f.bad k)) (none_below k)) i }
+bad_none passes f = λ i. record f { bad = λ k. sym (ap (λ b. cond (b && not (passes k)) false (f.bad k)) (none_below_zero k)) i }
 
 pub bad_more : (passes : ℕ → Bool) (f : Facts) (n : ℕ) (p : Bool) → p ≡ passes n → record (bad_below passes f n) { bad = λ j. cond (eqb j n && not p) false ((bad_below passes f n).bad j) } ≡ bad_below passes f (n + 1)
 unfolding bad_below
@@ -74,7 +50,7 @@ bad_more passes f n p e = λ i. record f { bad = λ k. (gone_more (ltb k n) (eqb
 
 -- all keys
 all_gone : {A : Type 0} (passes : Bool) (d x : A) (k n m : ℕ) → m ≤ n → (m ≤ k → x ≡ d) → cond (ltb k n && not passes) d x ≡ cond passes x d
-all_gone passes d x k n m l past = ⊎_elim (λ h. ap (λ b. cond (b && not passes) d x) (is_below k n h) ∙ turn passes) (λ h. flat (ltb k n && not passes) (past (omega arith)) ∙ sym (flat_too passes (past (omega arith)))) (cases_lt k n)
+all_gone passes d x k n m l past = ⊎_elim (λ h. ap (λ b. cond (b && not passes) d x) (lt-ltb k n h) ∙ turn passes) (λ h. flat (ltb k n && not passes) (past (omega arith)) ∙ sym (flat_too passes (past (omega arith)))) (cases_lt k n)
   where
     turn : (b : Bool) → cond (not b) d x ≡ cond b x d
     turn true = refl
@@ -94,7 +70,7 @@ bad_all f n s l = λ i. record f { bad = λ k. all_gone (known f k) false (f.bad
 
 pub has_none : (passes : ℕ → Bool) (f : Facts) → f ≡ has_below passes f 0
 unfolding has_below
-has_none passes f = λ i. record f { has = λ w k. sym (ap (λ b. cond (b && not (passes k)) None (f.has w k)) (none_below k)) i }
+has_none passes f = λ i. record f { has = λ w k. sym (ap (λ b. cond (b && not (passes k)) None (f.has w k)) (none_below_zero k)) i }
 
 pub has_more : (passes : ℕ → Bool) (f : Facts) (n : ℕ) (p : Bool) → p ≡ passes n → held_nowhere p (has_below passes f n) n ≡ has_below passes f (n + 1)
 unfolding has_below
@@ -106,7 +82,7 @@ has_all f n s l = λ i. record f { has = λ w k. all_gone (need f k) None (f.has
 
 pub on_none : (passes : ℕ → Bool) (f : Facts) → f ≡ on_below passes f 0
 unfolding on_below
-on_none passes f = λ i. record f { on = λ k. sym (ap (λ b. cond (b && not (passes k)) None (f.on k)) (none_below k)) i; steal = λ k. sym (ap (λ b. cond (b && not (passes k)) None (f.steal k)) (none_below k)) i }
+on_none passes f = λ i. record f { on = λ k. sym (ap (λ b. cond (b && not (passes k)) None (f.on k)) (none_below_zero k)) i; steal = λ k. sym (ap (λ b. cond (b && not (passes k)) None (f.steal k)) (none_below_zero k)) i }
 
 pub on_more : (passes : ℕ → Bool) (f : Facts) (n : ℕ) (p : Bool) → p ≡ passes n → placed_nowhere p (on_below passes f n) n ≡ on_below passes f (n + 1)
 unfolding on_below
@@ -148,9 +124,9 @@ setting_on passes f n = refl
 pub lost_more : (a h : Bool) (l t p q : Bool) (o : Bool) → (t ≡ true → p ≡ q) → (t ≡ true → l ≡ false) → (l ≡ false → h ≡ o) → ((a || (o && (l && not q))) || (h && (t && not p))) ≡ (a || (o && ((l || t) && not q)))
 lost_more true h l t p q o e f g = refl
 lost_more false h true true p q o e f g = absurd (false≢true (sym (f refl)))
-lost_more false h true false p q o e f g = ap (λ b. (o && not q) || b) (and_false h) ∙ or_false (o && not q)
-lost_more false h false true p q o e f g = ap (λ b. b || (h && not p)) (and_false o) ∙ ap (λ b. b && not p) (g refl) ∙ ap (λ b. o && not b) (e refl)
-lost_more false h false false p q o e f g = ap (λ b. b || (h && false)) (and_false o) ∙ and_false h ∙ sym (and_false o)
+lost_more false h true false p q o e f g = ap (λ b. (o && not q) || b) (and-false h) ∙ or-false (o && not q)
+lost_more false h false true p q o e f g = ap (λ b. b || (h && not p)) (and-false o) ∙ ap (λ b. b && not p) (g refl) ∙ ap (λ b. o && not b) (e refl)
+lost_more false h false false p q o e f g = ap (λ b. b || (h && false)) (and-false o) ∙ and-false h ∙ sym (and-false o)
 
 -- what a key that is left of the others was
 kept_at : (passes : ℕ → Bool) (f : Facts) (n w k : ℕ) → ltb k n ≡ false → holds (has_below passes f n) w k ≡ holds f w k
@@ -180,10 +156,10 @@ lost_places_more passes f n p before old new e was now w k =
     ∙ ap (λ b. before w k || (is_on f w k && (b && not (passes k)))) (sym (next k n))
 
 pub lost_none : (a o q : Bool) (k : ℕ) → a ≡ (a || (o && (ltb k 0 && not q)))
-lost_none a o q k = sym (ap (λ b. a || (o && (b && not q))) (none_below k) ∙ ap (λ b. a || b) (and_false o) ∙ or_false a)
+lost_none a o q k = sym (ap (λ b. a || (o && (b && not q))) (none_below_zero k) ∙ ap (λ b. a || b) (and-false o) ∙ or-false a)
 
 pub lost_all : (a o q : Bool) (k n m : ℕ) → m ≤ n → (m ≤ k → o ≡ false) → (a || (o && (ltb k n && not q))) ≡ (a || (o && not q))
-lost_all a o q k n m l past = ⊎_elim (λ h. ap (λ b. a || (o && (b && not q))) (is_below k n h)) (λ h. ap (λ b. a || (b && (ltb k n && not q))) (past (omega arith)) ∙ sym (ap (λ b. a || (b && not q)) (past (omega arith)))) (cases_lt k n)
+lost_all a o q k n m l past = ⊎_elim (λ h. ap (λ b. a || (o && (b && not q))) (lt-ltb k n h)) (λ h. ap (λ b. a || (b && (ltb k n && not q))) (past (omega arith)) ∙ sym (ap (λ b. a || (b && not q)) (past (omega arith)))) (cases_lt k n)
 
 -- one key, worker by worker
 up_next : (w m : ℕ) → (leb 1 w && leb w (m + 1)) ≡ ((leb 1 w && leb w m) || eqb w (m + 1))
@@ -223,7 +199,7 @@ none_up w = grind (arith, nat_tests)
 
 pub copies_none : (k : ℕ) (f : Facts) → f ≡ copies_up_to k f 0
 unfolding copies_up_to
-copies_none k f = λ i. record f { has = λ w j. sym (ap (λ b. cond (eqb j k && b) None (f.has w j)) (none_up w) ∙ ap (λ b. cond b None (f.has w j)) (and_false (eqb j k))) i }
+copies_none k f = λ i. record f { has = λ w j. sym (ap (λ b. cond (eqb j k && b) None (f.has w j)) (none_up w) ∙ ap (λ b. cond b None (f.has w j)) (and-false (eqb j k))) i }
 
 pub copies_more : (k : ℕ) (f : Facts) (m : ℕ) → record (copies_up_to k f m) { has = put_pair (copies_up_to k f m).has (m + 1) k None } ≡ copies_up_to k f (m + 1)
 unfolding copies_up_to
@@ -288,7 +264,7 @@ lost_workers_more k f m before old new was now w j =
     turn false false r false (Some c) h = refl
 
 pub lost_workers_none : (k : ℕ) (f : Facts) (before : ℕ → ℕ → Bool) (w j : ℕ) → before w j ≡ (before w j || (holds f w j && (eqb j k && (leb 1 w && leb w 0))))
-lost_workers_none k f before w j = sym (ap (λ b. before w j || (holds f w j && (eqb j k && b))) (none_up w) ∙ ap (λ b. before w j || (holds f w j && b)) (and_false (eqb j k)) ∙ ap (λ b. before w j || b) (and_false (holds f w j)) ∙ or_false (before w j))
+lost_workers_none k f before w j = sym (ap (λ b. before w j || (holds f w j && (eqb j k && b))) (none_up w) ∙ ap (λ b. before w j || (holds f w j && b)) (and-false (eqb j k)) ∙ ap (λ b. before w j || b) (and-false (holds f w j)) ∙ or-false (before w j))
 
 pub lost_workers_all : (k : ℕ) (f : Facts) (m : ℕ) (before : ℕ → ℕ → Bool) → IsSound f → m ≡ f.last_worker → (w j : ℕ) → (before w j || (holds f w j && (eqb j k && (leb 1 w && leb w m)))) ≡ (before w j || (holds f w j && (eqb j k && not false)))
 lost_workers_all k f m before s e w j = pick (leb 1 w && leb w m) refl
@@ -313,35 +289,31 @@ pub key_gone : (f : Facts) (k : ℕ) → ((w : ℕ) → holds f w k ≡ false) �
 key_gone f k none b = λ i. record f { has = λ w j. at w j (eqb j k) refl i }
   where
     at : (w j : ℕ) (t : Bool) → eqb j k ≡ t → f.has w j ≡ cond (t && not b) None (f.has w j)
-    at w j true p = none_at (true && not b) (f.has w j) (sym (no_copy (f.has w j) (ap (holds f w) (eqb-true j k p) ∙ none w)))
+    at w j true p = none_at (true && not b) (f.has w j) (sym (none_is_it (f.has w j) (ap (holds f w) (eqb-true j k p) ∙ none w)))
     at w j false p = refl
 
 pub key_stays : (f : Facts) (k : ℕ) → f ≡ held_nowhere true f k
-key_stays f k = λ i. record f { has = λ w j. sym (ap (λ b. cond b None (f.has w j)) (and_false (eqb j k))) i }
+key_stays f k = λ i. record f { has = λ w j. sym (ap (λ b. cond b None (f.has w j)) (and-false (eqb j k))) i }
 
 pub place_stays : (f : Facts) (k : ℕ) → f ≡ placed_nowhere true f k
-place_stays f k = λ i. record f { on = λ j. sym (ap (λ b. cond b None (f.on j)) (and_false (eqb j k))) i; steal = λ j. sym (ap (λ b. cond b None (f.steal j)) (and_false (eqb j k))) i }
+place_stays f k = λ i. record f { on = λ j. sym (ap (λ b. cond b None (f.on j)) (and-false (eqb j k))) i; steal = λ j. sym (ap (λ b. cond b None (f.steal j)) (and-false (eqb j k))) i }
 
 pub lost_stays : (a o e : Bool) → a ≡ (a || (o && (e && not true)))
-lost_stays a o e = sym (ap (λ b. a || (o && b)) (and_false e) ∙ ap (λ b. a || b) (and_false o) ∙ or_false a)
+lost_stays a o e = sym (ap (λ b. a || (o && b)) (and-false e) ∙ ap (λ b. a || b) (and-false o) ∙ or-false a)
 
 pub lost_nothing : (a : Bool) (h : ℕ → Bool) (j k : ℕ) (b : Bool) → h k ≡ false → a ≡ (a || (h j && (eqb j k && b)))
 lost_nothing a h j k b e = sym (pick (eqb j k) refl)
   where
     pick : (t : Bool) → eqb j k ≡ t → (a || (h j && (t && b))) ≡ a
-    pick true p = ap (λ c. a || (c && b)) (ap h (eqb-true j k p) ∙ e) ∙ or_false a
-    pick false p = ap (λ c. a || c) (and_false (h j)) ∙ or_false a
+    pick true p = ap (λ c. a || (c && b)) (ap h (eqb-true j k p) ∙ e) ∙ or-false a
+    pick false p = ap (λ c. a || c) (and-false (h j)) ∙ or-false a
 
 pub bad_one : (f : Facts) (k : ℕ) (p : Bool) → record f { bad = put f.bad k (f.bad k && p) } ≡ record f { bad = λ j. cond (eqb j k && not p) false (f.bad j) }
 bad_one f k p = λ i. record f { bad = λ j. at j (eqb j k) refl p i }
   where
-    keep : (b : Bool) → (b && true) ≡ b
-    keep true = refl
-    keep false = refl
-
     at : (j : ℕ) (t : Bool) → eqb j k ≡ t → (p : Bool) → cond t (f.bad k && p) (f.bad j) ≡ cond (t && not p) false (f.bad j)
-    at j true e true = keep (f.bad k) ∙ ap f.bad (sym (eqb-true j k e))
-    at j true e false = and_false (f.bad k)
+    at j true e true = and-true (f.bad k) ∙ ap f.bad (sym (eqb-true j k e))
+    at j true e false = and-false (f.bad k)
     at j false e p = refl
 
 -- a key that is not held has no holder
@@ -349,15 +321,8 @@ any_here : (p : ℕ → Bool) (a n x : ℕ) → a ≤ x → x < a + n → p x �
 any_here p a zero x l m e = absurd (omega arith)
 any_here p a (suc n) x l m e = ⊎_elim
     (λ i. ap (λ b. b || list_any p (range_with_len (a + 1) n)) (ap p i ∙ e))
-    (λ i. ap (λ b. p a || b) (any_here p (a + 1) n x i (omega arith) e) ∙ or_true (p a))
-    (same_or_above a x l)
-  where
-    or_true : (b : Bool) → (b || true) ≡ true
-    or_true true = refl
-    or_true false = refl
-
-    same_or_above : (a x : ℕ) → a ≤ x → (a ≡ x) ⊎ (a + 1 ≤ x)
-    same_or_above a x l = ⊎_elim (λ h. inr (omega arith)) (λ h. inl (omega arith)) (cases_lt a x)
+    (λ i. ap (λ b. p a || b) (any_here p (a + 1) n x i (omega arith) e) ∙ or-true (p a))
+    (equal_or_above a x l)
 
 pub none_holds : (f : Facts) (k : ℕ) → IsSound f → held f k ≡ false → (w : ℕ) → holds f w k ≡ false
 unfolding held

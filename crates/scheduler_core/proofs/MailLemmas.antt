@@ -8,11 +8,15 @@ use Rattle.std.proofs.lemmas.Bool.Decides.{nat_tests}
 use Rattle.std.proofs.lemmas.List.{take_more}
 use Rattle.std.proofs.lemmas.List.Elements.{filter_map-append}
 use Rattle.std.proofs.lemmas.List.Folds.{list_any_more}
+use Rattle.std.proofs.Math.Bool.{or_assoc}
+use Rattle.std.proofs.lemmas.Grind.{flat_map-append}
+use Rattle.small_facts.proofs.Lists.{take_zero}
+use Rattle.small_facts.proofs.Numbers.{unequal_turned}
+use Rattle.small_facts.proofs.Ranges.{range_push}
+use Rattle.small_facts.proofs.Truth.{with_and_false, with_or_false}
 use Rattle.cluster_rules.specs.Derived.{below, is_in}
 use Rattle.cluster_rules.specs.Sched.{Facts, keys, connected, workers}
 use Rattle.cluster_rules.specs.SchedStep.{task_message, task_messages, free_message, all_to}
-use Rattle.cluster_rules.proofs.DerivedLemmas.{range_more}
-use Rattle.cluster_rules.proofs.SchedLemmas.{flat_map-append}
 use Rattle.sched_changes.specs.declared.answer.Answer.{Answer}
 use Rattle.sched_changes.specs.Answers.{answer_of}
 use Rattle.scheduler_core.specs.Mail.{has_pair, is_since, lost_by, mail_by, worker_mail}
@@ -27,18 +31,10 @@ agree_from p q a (suc n) h =
 pub filter_agree_below : (p q : ℕ → Bool) (n : ℕ) → ((k : ℕ) → k < n → p k ≡ q k) → filter p (below n) ≡ filter q (below n)
 filter_agree_below p q n h = agree_from p q 0 n (λ k l m. h k (omega arith))
 
-pub filter_none : (p : ℕ → Bool) (xs : List ℕ) → ((k : ℕ) → p k ≡ false) → filter p xs ≡ []
-filter_none p [] h = refl
-filter_none p (x ∷ xs) h = ap (λ b. cond b (x ∷ filter p xs) (filter p xs)) (h x) ∙ filter_none p xs h
-
 -- an empty list has no key
 pub none_in : (ks : List ℕ) → length ks ≡ 0 → (k : ℕ) → is_in k ks ≡ false
 none_in [] e k = refl
 none_in (j ∷ ks) e k = grind arith
-
-or_assoc : (a b c : Bool) → ((a || b) || c) ≡ (a || (b || c))
-or_assoc true b c = refl
-or_assoc false b c = refl
 
 -- one more member is seen
 pub any_more : {A : Type 0} (p : A → Bool) (base old new : Bool) (xs : List A) (i : ℕ) (d : A) → i < length xs → old ≡ (base || list_any p (take i xs)) → new ≡ (old || p (get_or xs i d)) → new ≡ (base || list_any p (take (i + 1) xs))
@@ -65,7 +61,7 @@ no_task f since w k (Some p) h = cond-false (eqb p.0 w && nat_le since p.1) _ No
 
 -- one more number of a list that is joined
 pub flat_map_more : {A : Type 0} (g : ℕ → List A) (a n : ℕ) → flat_map g (range_with_len a (n + 1)) ≡ flat_map g (range_with_len a n) ++ g (a + n)
-flat_map_more g a n = ap (flat_map g) (range_more a n) ∙ flat_map-append g (range_with_len a n) ((a + n) ∷ []) ∙ ap (λ l. flat_map g (range_with_len a n) ++ l) (append-nil (g (a + n)))
+flat_map_more g a n = ap (flat_map g) (range_push a n) ∙ flat_map-append g (range_with_len a n) ((a + n) ∷ []) ∙ ap (λ l. flat_map g (range_with_len a n) ++ l) (append-nil (g (a + n)))
 
 pub flat_map_agree : {A : Type 0} (g h : ℕ → List A) → ((x : ℕ) → g x ≡ h x) → (xs : List ℕ) → flat_map g xs ≡ flat_map h xs
 flat_map_agree g h e [] = refl
@@ -81,10 +77,6 @@ flat_map_agree_below {A} g h p a (suc n) e = pick (p a) (e a (omega arith)) (fla
     pick true here later = ap (λ l. l ++ flat_map g (filter p (range_with_len (a + 1) n))) here ∙ ap (λ l. h a ++ l) later
     pick false here later = later
 
-or_none : (b : Bool) → b ≡ (b || false)
-or_none true = refl
-or_none false = refl
-
 -- a mark that is set, and the others
 pub set_mark : (row : ℕ → Bool) (key k : ℕ) → cond (eqb k key) true (row k) ≡ (row k || eqb key k)
 set_mark row key k = pick (eqb k key) (row k) refl
@@ -92,16 +84,13 @@ set_mark row key k = pick (eqb k key) (row k) refl
     alike : (a b : ℕ) → eqb a b ≡ true → eqb b a ≡ true
     alike a b e = grind (arith, nat_tests)
 
-    apart : (a b : ℕ) → eqb a b ≡ false → eqb b a ≡ false
-    apart a b e = grind (arith, nat_tests)
-
     one : (b : Bool) → true ≡ (b || true)
     one true = refl
     one false = refl
 
     pick : (e b : Bool) → eqb k key ≡ e → cond e true b ≡ (b || eqb key k)
     pick true b h = one b ∙ ap (λ t. b || t) (sym (alike k key h))
-    pick false b h = or_none b ∙ ap (λ t. b || t) (sym (apart k key h))
+    pick false b h = with_or_false b ∙ ap (λ t. b || t) (sym (unequal_turned key k h))
 
 -- what the lists say is what the pairs say
 pub mail_by_pairs : (f : Facts) (lists : List (List ℕ)) (lost : List (ℕ × ℕ)) (since : ℕ) (a : Answer) → ((w k : ℕ) → w ≤ f.last_worker → lost_by lists w k ≡ has_pair lost w k) → flat_map (mail_by f (lost_by lists) since a) (workers f) ≡ flat_map (worker_mail f lost since a) (workers f)
@@ -111,12 +100,8 @@ mail_by_pairs f lists lost since a h =
 
 -- marks below a bound
 pub marked_none : (a l : Bool) (k : ℕ) (ks : List ℕ) → a ≡ (a || (l && is_in k (take 0 ks)))
-marked_none a l k ks = sym (ap (λ ys. a || (l && is_in k ys)) (nothing ks) ∙ flat a l)
+marked_none a l k ks = sym (ap (λ ys. a || (l && is_in k ys)) (take_zero ks) ∙ flat a l)
   where
-    nothing : (ys : List ℕ) → take 0 ys ≡ []
-    nothing [] = refl
-    nothing (y ∷ ys) = refl
-
     flat : (a l : Bool) → (a || (l && false)) ≡ a
     flat true l = refl
     flat false true = refl
@@ -137,24 +122,16 @@ mark_there row key n k l = set_mark row key k ∙ ap (λ b. row k || b) (pick (e
     low : (key k n : ℕ) → key < n → eqb key k ≡ true → ltb k n ≡ true
     low key k n a b = grind (arith, nat_tests)
 
-    none : (b : Bool) → false ≡ (b && false)
-    none true = refl
-    none false = refl
-
     pick : (b : Bool) → eqb key k ≡ b → b ≡ (ltb k n && b)
     pick true e = sym (ap (λ c. c && true) (low key k n l e))
-    pick false e = none (ltb k n)
+    pick false e = with_and_false (ltb k n)
 
 pub mark_past : (row : ℕ → Bool) (key n k : ℕ) → n ≤ key → row k ≡ (row k || (ltb k n && eqb key k))
-mark_past row key n k l = or_none (row k) ∙ ap (λ b. row k || b) (pick (eqb key k) refl)
+mark_past row key n k l = with_or_false (row k) ∙ ap (λ b. row k || b) (pick (eqb key k) refl)
   where
     high : (key k n : ℕ) → n ≤ key → eqb key k ≡ true → ltb k n ≡ false
     high key k n a b = grind (arith, nat_tests)
 
-    none : (b : Bool) → false ≡ (b && false)
-    none true = refl
-    none false = refl
-
     pick : (b : Bool) → eqb key k ≡ b → false ≡ (ltb k n && b)
     pick true e = sym (ap (λ c. c && true) (high key k n l e))
-    pick false e = none (ltb k n)
+    pick false e = with_and_false (ltb k n)

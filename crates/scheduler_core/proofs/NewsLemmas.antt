@@ -14,8 +14,9 @@ use Rattle.scheduler_core.specs.declared.news.News.TheVariants.{Erred, Held, Los
 use Rattle.scheduler_core.specs.News.{told, client_mail, news_of, all_news, message_of, heard, was_held, was_erred}
 use Rattle.key_sets.specs.Sets.{has}
 use Rattle.task_table.specs.Tasks.{Tasks, facts, IsRemembered}
-use Rattle.sched_changes.proofs.Following.{not_before}
-use Rattle.std.proofs.lemmas.Bool.Decides.{nat_tests}
+use Rattle.std.proofs.Math.Bool.{and-true}
+use Rattle.std.proofs.lemmas.Bool.{lt-ltb}
+use Rattle.small_facts.proofs.Truth.{false_before}
 use Rattle.scheduler_core.proofs.MailLemmas.{flat_map_agree}
 
 -- the news of one key, by what it is blamed on and what it was
@@ -95,12 +96,9 @@ pub news_keys : (f : Facts) (was_held was_erred : ℕ → Bool) → All (λ (n :
 unfolding all_news
 news_keys f was_held was_erred = All-from_recursion (λ (n : ℕ × News). n.0 < keys f) _ (news_from (news_of f was_held was_erred) (keys f) 0 (keys f) (omega arith))
 
-is_low : (k n : ℕ) → k < n → ltb k n ≡ true
-is_low k n l = grind (arith, nat_tests)
-
 -- of a key that is there the set alone says what it was
 pub was_there : (s : List ℕ) (f : Facts) (asked : List ℕ) (k : ℕ) → k < keys f → (has s k && not (has asked k)) ≡ ((ltb k (keys f) && has s k) && not (has asked k))
-was_there s f asked k l = sym (ap (λ b. (b && has s k) && not (has asked k)) (is_low k (keys f) l))
+was_there s f asked k l = sym (ap (λ b. (b && has s k) && not (has asked k)) (lt-ltb k (keys f) l))
 
 -- a key that is as it was has no news
 as_it_was : (f : Facts) (was_held was_erred : ℕ → Bool) (k : ℕ) → was_held k ≡ held f k → was_erred k ≡ erred f k → news_of f was_held was_erred k ≡ None
@@ -114,14 +112,10 @@ as_it_was f was_held was_erred k h e = (λ i. cond (erred f k && not (e i)) (opt
     pick false false = refl
 
 plain_was : (b a : Bool) (x : Bool) → a ≡ false → b ≡ true → ((b && x) && not a) ≡ x
-plain_was b a x h l = ap (λ z. (b && x) && not z) h ∙ ap (λ z. (z && x) && true) l ∙ keep x
-  where
-    keep : (x : Bool) → (x && true) ≡ x
-    keep true = refl
-    keep false = refl
+plain_was b a x h l = ap (λ z. (b && x) && not z) h ∙ ap (λ z. (z && x) && true) l ∙ and-true x
 
 pub no_news : (t : Tasks) (asked : List ℕ) (k : ℕ) → IsRemembered (facts t) t → ((j : ℕ) → has asked j ≡ true → has t.touched j ≡ true) → k < keys (facts t) → has t.touched k ≡ false → option_map {U = ℕ × News} (λ n. (k, n)) (news_of (facts t) (was_held t asked) (was_erred t asked) k) ≡ None
 no_news t asked k r a l e =
-    let u = not_before (has asked k) (has t.touched k) (a k) e in
-    let i = is_low k (keys (facts t)) l in
+    let u = false_before (has asked k) (has t.touched k) (a k) e in
+    let i = lt-ltb k (keys (facts t)) l in
     ap (option_map {U = ℕ × News} (λ n. (k, n))) (as_it_was (facts t) (was_held t asked) (was_erred t asked) k (plain_was (ltb k (keys (facts t))) (has asked k) (has t.held_before k) u i ∙ r.held k l e) (plain_was (ltb k (keys (facts t))) (has asked k) (has t.erred_before k) u i ∙ r.erred k l e))

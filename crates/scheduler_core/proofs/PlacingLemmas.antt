@@ -1,10 +1,14 @@
 -- A place is connected; placing key by key; what lies between two keys that wait for a worker.
-use Rattle.std.proofs.Common.{◌≡◌, ℕ, ◌+◌, ◌<◌, ◌≤◌, Bool, true, false, not, cond, ◌&&◌, ◌||◌, List, [], ◌∷◌, Option, Some, None, is_none, refl, sym, ap, ◌∙◌, subst, arith, ⊎_elim, inl, inr, ◌⊎◌, length, ltb}
-use Rattle.std.proofs.lemmas.Bool.{false≢true, eqb-true, cases_lt}
+use Rattle.std.proofs.Common.{◌≡◌, ℕ, ◌+◌, ◌<◌, ◌≤◌, Bool, true, false, not, cond, ◌&&◌, ◌||◌, List, [], ◌∷◌, Option, Some, None, is_none, refl, sym, ap, ◌∙◌, subst, arith, ⊎_elim, ◌⊎◌, length, ltb}
+use Rattle.std.proofs.lemmas.Bool.{false≢true, eqb-true, cases_lt, or_from, or_left, or_right}
 use Rattle.std.proofs.lemmas.Bool.Decides.{nat_tests}
 use Rattle.std.proofs.Math.Dec.{eqb}
 use Rattle.std.specs.Prelude.{Result, Ok, Err, OnOk, IfSome}
-use Rattle.std.specs.List.{filter, list_any, Contains}
+use Rattle.std.specs.List.{filter, list_any}
+use Rattle.std.proofs.Math.Bool.{or_assoc}
+use Rattle.std.proofs.lemmas.List.{nil_from_length}
+use Rattle.small_facts.proofs.Options.{none_from_is_none}
+use Rattle.small_facts.proofs.Truth.{and_first, and_second}
 use Rattle.cluster_rules.specs.Functions.{put}
 use Rattle.cluster_rules.specs.Derived.{below}
 use Rattle.cluster_rules.specs.Choice.{IsLeastOf}
@@ -12,11 +16,8 @@ use Rattle.cluster_rules.specs.Sched.{Setting, Facts, IsSound, keys, deps, holds
 use Rattle.cluster_rules.specs.Policies.{place, place_rank, candidates, candidates_by, or_else}
 use Rattle.cluster_rules.specs.SchedStep.{drop_bad, drop_has, drop_on, give, place_one, place_keys, place_all}
 use Rattle.cluster_rules.proofs.ChoiceLemmas.{least_by_least}
-use Rattle.cluster_rules.proofs.Members.{filter_from}
-use Rattle.cluster_rules.proofs.PolicyLemmas.{worker_from}
 use Rattle.cluster_rules.proofs.SchedLemmas.{place_keys-push, below-more, counter-place_one, keys-place_one, place_one-none, place_one-no, ready-past}
 use Rattle.cluster_laws.proofs.Placed.{nowhere}
-use Rattle.cluster_laws.proofs.Lists.{and_first}
 use Rattle.cluster_msgs.specs.declared.messages.Down.{Down}
 use Rattle.key_sets.specs.Sets.{IsFirst}
 use Rattle.task_table.specs.Tasks.{is_root, is_queued, queued_root, queued_other}
@@ -25,6 +26,7 @@ use Rattle.scheduler_core.specs.Firsts.{earlier}
 use Rattle.scheduler_core.proofs.WalkLemmas.{gap_to}
 use Rattle.scheduler_core.specs.Posted.{posted_mail}
 use Rattle.scheduler_core.specs.Settling.{let_go, copy_goes, place_goes, goes}
+use Rattle.cluster_rules.proofs.SoundStep.{candidate_by_connected}
 
 -- what follows from success
 pub then_ok : {A E : Type 0} (r : Result A E) (P Q : Type 0) → OnOk r P → (P → Q) → OnOk r Q
@@ -38,13 +40,9 @@ let_go_is f = refl
 -- pairs that go in two steps
 pub goes_both : (f g h : Facts) (before mid after : ℕ → ℕ → Bool) → g ≡ drop_bad f → h ≡ drop_has g → ((w k : ℕ) → mid w k ≡ (before w k || copy_goes g w k)) → ((w k : ℕ) → after w k ≡ (mid w k || place_goes h w k)) → (w k : ℕ) → after w k ≡ (before w k || goes f w k)
 goes_both f g h before mid after p q m n w k =
-    n w k ∙ ap (λ b. b || place_goes h w k) (m w k) ∙ again (before w k) (copy_goes g w k) (place_goes h w k)
+    n w k ∙ ap (λ b. b || place_goes h w k) (m w k) ∙ or_assoc (before w k) (copy_goes g w k) (place_goes h w k)
     ∙ ap (λ (z : Facts). before w k || (copy_goes g w k || place_goes z w k)) q
     ∙ ap (λ (z : Facts). before w k || (copy_goes z w k || place_goes (drop_has z) w k)) p
-  where
-    again : (a b c : Bool) → ((a || b) || c) ≡ (a || (b || c))
-    again true b c = refl
-    again false b c = refl
 
 pub setting_drop_bad : (f : Facts) → (drop_bad f).setting ≡ f.setting
 unfolding drop_bad
@@ -62,22 +60,11 @@ pub setting_posted : (f : Facts) (ms : List (ℕ × Down)) → (posted_mail f ms
 unfolding posted_mail
 setting_posted f ms = refl
 
-or_else_from : (xs ys : List ℕ) (w : ℕ) → Contains (or_else xs ys) w → Contains xs w ⊎ Contains ys w
-or_else_from [] ys w h = inr h
-or_else_from (x ∷ xs) ys w h = inl h
-
-candidate_connected : (f : Facts) (ds : List ℕ) (w : ℕ) → Contains (candidates_by f ds) w → connected f w ≡ true
-candidate_connected f [] w h = worker_from f w (filter_from (λ v. not (full f v)) (workers f) w h).0
-candidate_connected f (d ∷ ds) w h = ⊎_elim
-    (λ l. worker_from f w (filter_from (λ v. list_any (holds f v) (d ∷ ds)) (workers f) w l).0)
-    (λ r. worker_from f w r)
-    (or_else_from (filter (λ v. list_any (holds f v) (d ∷ ds)) (workers f)) (workers f) w h)
-
 pub place_connected : (f : Facts) (k w : ℕ) → Some w ≡ place f k → connected f w ≡ true
 unfolding place candidates
 place_connected f k w e =
     let b : IsLeastOf (place_rank f k) (candidates f k) (Some w) = subst (IsLeastOf (place_rank f k) (candidates f k)) (sym e) (least_by_least (place_rank f k) (candidates f k)) in
-    candidate_connected f (deps f k) w b.member
+    candidate_by_connected f (deps f k) w b.member
 
 -- a key that is on no worker is not to be stolen
 pub given_free : (f : Facts) (k w : ℕ) → IsSound f → f.on k ≡ None → record f { on = put f.on k (Some (w, f.counter)); steal = put f.steal k None; counter = f.counter + 1 } ≡ give f k (Some w)
@@ -95,16 +82,8 @@ pub placed_no : (f : Facts) (k : ℕ) → (ready f k && is_none (f.on k)) ≡ fa
 unfolding place_one
 placed_no f k e = sym (ap (λ b. cond b (give f k (place f k)) f) e)
 
-none_is : (o : Option (ℕ × ℕ)) → is_none o ≡ true → o ≡ None
-none_is None e = refl
-none_is (Some p) e = absurd (false≢true e)
-
-and_second : (a b : Bool) → (a && b) ≡ true → b ≡ true
-and_second true b e = e
-and_second false b e = absurd (false≢true e)
-
 pub free_of : (f : Facts) (k : ℕ) (b : Bool) → b ≡ (ready f k && is_none (f.on k)) → b ≡ true → f.on k ≡ None
-free_of f k b e t = none_is (f.on k) (and_second (ready f k) (is_none (f.on k)) (sym e ∙ t))
+free_of f k b e t = none_from_is_none (f.on k) (and_second (ready f k) (is_none (f.on k)) (sym e ∙ t))
 
 -- the first keys are placed
 pub record IsPlaced (f g : Facts) (n : ℕ) : Type 0 where
@@ -177,20 +156,10 @@ first_there f wait n (Some k) s h = due_there f wait k s h.1
 
 -- ## The first of two sets
 
-none_true : (a b : Bool) → a ≡ false → b ≡ false → (a || b) ≡ false
-none_true a b h i = ap (λ c. c || b) h ∙ i
-
-left_true : (a b : Bool) → a ≡ true → (a || b) ≡ true
-left_true a b h = ap (λ c. c || b) h
-
-right_true : (a b : Bool) → b ≡ true → (a || b) ≡ true
-right_true true b h = refl
-right_true false b h = h
-
 pub first_both : (p q r : ℕ → Bool) (n : ℕ) (a b : Option ℕ) → ((k : ℕ) → r k ≡ (p k || q k)) → IsFirst p n a → IsFirst q n b → IsFirst r n (earlier a b)
-first_both p q r n None None e h i = λ k l. e k ∙ none_true (p k) (q k) (h k l) (i k l)
-first_both p q r n None (Some y) e h i = (i.0, e y ∙ right_true (p y) (q y) i.1, λ k l m. e k ∙ none_true (p k) (q k) (h k l) (i.2 k l m))
-first_both p q r n (Some x) None e h i = (h.0, e x ∙ left_true (p x) (q x) h.1, λ k l m. e k ∙ none_true (p k) (q k) (h.2 k l m) (i k l))
+first_both p q r n None None e h i = λ k l. e k ∙ or_from (p k) (q k) (h k l) (i k l)
+first_both p q r n None (Some y) e h i = (i.0, e y ∙ or_right (p y) (q y) i.1, λ k l m. e k ∙ or_from (p k) (q k) (h k l) (i.2 k l m))
+first_both p q r n (Some x) None e h i = (h.0, e x ∙ or_left (p x) (q x) h.1, λ k l m. e k ∙ or_from (p k) (q k) (h.2 k l m) (i k l))
 first_both p q r n (Some x) (Some y) e h i = pick (ltb y x) refl
   where
     less : (y x : ℕ) → ltb y x ≡ true → (k : ℕ) → k < y → k < x
@@ -200,8 +169,8 @@ first_both p q r n (Some x) (Some y) e h i = pick (ltb y x) refl
     more y x t k l = let u : x ≤ y = grind (arith, nat_tests) in omega (arith, u, l)
 
     pick : (t : Bool) → ltb y x ≡ t → IsFirst r n (Some (cond t y x))
-    pick true t = (i.0, e y ∙ right_true (p y) (q y) i.1, λ k l m. e k ∙ none_true (p k) (q k) (h.2 k l (less y x t k m)) (i.2 k l m))
-    pick false t = (h.0, e x ∙ left_true (p x) (q x) h.1, λ k l m. e k ∙ none_true (p k) (q k) (h.2 k l m) (i.2 k l (more y x t k m)))
+    pick true t = (i.0, e y ∙ or_right (p y) (q y) i.1, λ k l m. e k ∙ or_from (p k) (q k) (h.2 k l (less y x t k m)) (i.2 k l m))
+    pick false t = (h.0, e x ∙ or_left (p x) (q x) h.1, λ k l m. e k ∙ or_from (p k) (q k) (h.2 k l m) (i.2 k l (more y x t k m)))
 
 -- while keys without dependencies don't wait in vain, both sets count
 pub due_either : (f : Facts) (k : ℕ) → is_due f false k ≡ (queued_root f k || queued_other f k)
@@ -215,11 +184,7 @@ due_either f k = turn (is_queued f k) (is_root f k)
 -- ## No worker
 
 no_one : (f : Facts) → length (workers f) ≡ 0 → workers f ≡ []
-no_one f e = empty (workers f) e
-  where
-    empty : (xs : List ℕ) → length xs ≡ 0 → xs ≡ []
-    empty [] q = refl
-    empty (x ∷ xs) q = absurd (omega arith)
+no_one f e = nil_from_length (workers f) e
 
 no_place : (f : Facts) → length (workers f) ≡ 0 → (k : ℕ) → place f k ≡ None
 unfolding candidates

@@ -4,6 +4,8 @@ use Rattle.std.proofs.Math.Dec.{eqb}
 use Rattle.std.proofs.lemmas.Bool.{eqb-true}
 use Rattle.std.proofs.lemmas.List.Folds.{list_any-append}
 use Rattle.std.proofs.lemmas.Bool.Decides.{nat_tests}
+use Rattle.std.proofs.Math.Nat.{add-zero}
+use Rattle.small_facts.proofs.Numbers.{unequal_turned, eqb_self, eqb_turned}
 use Rattle.cluster_msgs.specs.declared.messages.Down.{Down}
 use Rattle.cluster_msgs.specs.declared.messages.Down.TheVariants.{ComputeTask, FreeKeys, StealRequest, RemoveReplicas, AcquireReplicas, RefreshWhoHas}
 use Rattle.cluster_rules.specs.Functions.{put, put_pair}
@@ -57,22 +59,16 @@ takes-away k (RefreshWhoHas who) = refl
 sent_more : (f : Facts) (ms : List (ℕ × Down)) (m : ℕ × Down) (w : ℕ) → f.sent w + count_to w (ms ++ m ∷ []) ≡ cond (eqb w m.0) (f.sent m.0 + count_to m.0 ms + 1) (f.sent w + count_to w ms)
 sent_more f ms m w = ap (λ n. f.sent w + n) (count_to-push w ms m) ∙ pick (eqb w m.0) refl
   where
-    turned : (a b : ℕ) → eqb b a ≡ false → eqb a b ≡ false
-    turned a b e = grind (arith, nat_tests)
-
     same : (a b : ℕ) → eqb b a ≡ true → eqb a b ≡ true
     same a b e = grind (arith, nat_tests)
 
     pick : (b : Bool) → eqb w m.0 ≡ b → f.sent w + (count_to w ms + cond (eqb m.0 w) 1 0) ≡ cond b (f.sent m.0 + count_to m.0 ms + 1) (f.sent w + count_to w ms)
     pick true e = ap (λ b. f.sent w + (count_to w ms + cond b 1 0)) (same m.0 w e) ∙ omega arith ∙ ap (λ v. f.sent v + count_to v ms + 1) (eqb-true w m.0 e)
-    pick false e = ap (λ b. f.sent w + (count_to w ms + cond b 1 0)) (turned m.0 w e) ∙ omega arith
+    pick false e = ap (λ b. f.sent w + (count_to w ms + cond b 1 0)) (unequal_turned m.0 w e) ∙ omega arith
 
 fence_more : (f : Facts) (ms : List (ℕ × Down)) (m : ℕ × Down) (w k : ℕ) → fence_after k (f.sent w) (mail w (ms ++ m ∷ [])) (f.fence w k) ≡ cond (eqb w m.0 && is_in k (taken_keys m.1)) (f.sent m.0 + count_to m.0 ms + 1) (fence_after k (f.sent w) (mail w ms) (f.fence w k))
 fence_more f ms m w k = ap (λ l. fence_after k (f.sent w) l (f.fence w k)) (mail-push w ms m) ∙ pick (eqb w m.0) refl
   where
-    turned : (a b : ℕ) → eqb b a ≡ false → eqb a b ≡ false
-    turned a b e = grind (arith, nat_tests)
-
     same : (a b : ℕ) → eqb b a ≡ true → eqb a b ≡ true
     same a b e = grind (arith, nat_tests)
 
@@ -86,16 +82,13 @@ fence_more f ms m w k = ap (λ l. fence_after k (f.sent w) l (f.fence w k)) (mai
         ∙ ap (λ b. cond b (f.sent w + length (mail w ms) + 1) (fence_after k (f.sent w) (mail w ms) (f.fence w k))) (takes-away k m.1)
         ∙ ap (λ n. cond (is_in k (taken_keys m.1)) (f.sent w + n + 1) (fence_after k (f.sent w) (mail w ms) (f.fence w k))) (sym (count_to-mail w ms))
         ∙ ap (λ v. cond (is_in k (taken_keys m.1)) (f.sent v + count_to v ms + 1) (fence_after k (f.sent w) (mail w ms) (f.fence w k))) (eqb-true w m.0 e)
-    pick false e = ap (λ b. fence_after k (f.sent w) (mail w ms ++ cond b (m.1 ∷ []) []) (f.fence w k)) (turned m.0 w e) ∙ none (mail w ms)
+    pick false e = ap (λ b. fence_after k (f.sent w) (mail w ms ++ cond b (m.1 ∷ []) []) (f.fence w k)) (unequal_turned m.0 w e) ∙ none (mail w ms)
 
 own_place : (b : Bool) (w v : ℕ) (sent : ℕ → ℕ) (n z : ℕ) → n ≡ put sent w (sent w + 1) w → cond b n z ≡ cond b (put sent w (sent w + 1) w) z
 own_place b w v sent n z e = ap (λ x. cond b x z) e
 
 put_own : (sent : ℕ → ℕ) (w : ℕ) → put sent w (sent w + 1) w ≡ sent w + 1
-put_own sent w = ap (λ b. cond b (sent w + 1) (sent w)) (is_same w)
-  where
-    is_same : (a : ℕ) → eqb a a ≡ true
-    is_same a = grind (arith, nat_tests)
+put_own sent w = ap (λ b. cond b (sent w + 1) (sent w)) (eqb_self w)
 
 -- one more message
 pub posted-push : (f : Facts) (ms : List (ℕ × Down)) (m : ℕ × Down) → posted_mail f (ms ++ m ∷ []) ≡ posted_one (posted_mail f ms) m
@@ -108,10 +101,7 @@ posted-push f ms m = λ i. record f {
 -- nothing was sent
 pub posted-nil : (f : Facts) → posted_mail f [] ≡ f
 unfolding posted_mail
-posted-nil f = λ i. record f { sent = λ w. same (f.sent w) i }
-  where
-    same : (n : ℕ) → n + 0 ≡ n
-    same n = omega arith
+posted-nil f = λ i. record f { sent = λ w. add-zero (f.sent w) i }
 
 pub last-posted : (f : Facts) (ms : List (ℕ × Down)) → (posted_mail f ms).last_worker ≡ f.last_worker
 unfolding posted_mail
@@ -146,9 +136,6 @@ keys-fenced f w ks = refl
 fenced_key : (w k v j z : ℕ) (ks : List ℕ) (s : ℕ) → cond (eqb v w && is_in j (ks ++ k ∷ [])) s z ≡ cond (eqb v w && eqb j k) s (cond (eqb v w && is_in j ks) s z)
 fenced_key w k v j z ks s = pick (eqb v w)
   where
-    turned : (a b : ℕ) → eqb a b ≡ eqb b a
-    turned a b = grind (arith, nat_tests)
-
     last : (x b : Bool) → cond (x || (b || false)) s z ≡ cond b s (cond x s z)
     last true true = refl
     last true false = refl
@@ -157,7 +144,7 @@ fenced_key w k v j z ks s = pick (eqb v w)
 
     pick : (b : Bool) → cond (b && is_in j (ks ++ k ∷ [])) s z ≡ cond (b && eqb j k) s (cond (b && is_in j ks) s z)
     pick false = refl
-    pick true = ap (λ b. cond b s z) (list_any-append (λ d. eqb d j) ks (k ∷ [])) ∙ last (is_in j ks) (eqb k j) ∙ ap (λ b. cond b s (cond (is_in j ks) s z)) (turned k j)
+    pick true = ap (λ b. cond b s z) (list_any-append (λ d. eqb d j) ks (k ∷ [])) ∙ last (is_in j ks) (eqb k j) ∙ ap (λ b. cond b s (cond (is_in j ks) s z)) (eqb_turned k j)
 
 pub fenced-push : (f : Facts) (w : ℕ) (ks : List ℕ) (k : ℕ) → fenced f w (ks ++ k ∷ []) ≡ record (fenced f w ks) { fence = put_pair (fenced f w ks).fence w k ((fenced f w ks).sent w) }
 unfolding fenced

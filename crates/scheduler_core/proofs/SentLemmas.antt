@@ -1,7 +1,10 @@
 -- What holds of each message to the workers, as `post_all` asks it.
-use Rattle.std.proofs.Common.{◌≡◌, ℕ, zero, suc, ◌<◌, ◌≤◌, ◌+◌, ◌*◌, Bool, true, false, cond, List, [], ◌∷◌, ◌++◌, Option, Some, None, refl, arith, length, length-append}
+use Rattle.std.proofs.Common.{◌≡◌, ℕ, suc, ◌<◌, ◌≤◌, ◌+◌, ◌*◌, Bool, true, false, cond, List, [], ◌∷◌, ◌++◌, Option, Some, None, refl, arith, length, length-append}
 use Rattle.std.specs.Prelude.{◌==◌, nat_le, ◌&&◌, filter}
-use Rattle.std.specs.List.{filter_map, flat_map, cons_option, range_with_len, AllByRecursion}
+use Rattle.std.specs.List.{filter_map, flat_map, cons_option, AllByRecursion}
+use Rattle.std.proofs.lemmas.List.FromFn.{length-range_with_len}
+use Rattle.small_facts.proofs.Every.{all_of_filter, all_join, all_weaker}
+use Rattle.small_facts.proofs.Ranges.{range_all_below}
 use Rattle.cluster_msgs.specs.declared.messages.Down.{Down}
 use Rattle.cluster_msgs.specs.declared.messages.Down.TheVariants.{StealRequest, RemoveReplicas, RefreshWhoHas, ComputeTask}
 use Rattle.cluster_rules.specs.Functions.{from_one}
@@ -10,7 +13,6 @@ use Rattle.cluster_rules.specs.Sched.{Facts, keys, deps, workers, connected, who
 use Rattle.cluster_rules.specs.SchedTable.{ask_message}
 use Rattle.cluster_rules.specs.SchedStep.{free_message, task_message, task_messages, all_to}
 use Rattle.cluster_rules.proofs.InsideSched.{all_flat_map_in}
-use Rattle.cluster_rules.proofs.InsideWorker.{all_filter_in}
 use Rattle.sched_changes.specs.declared.answer.Answer.{Answer}
 use Rattle.sched_changes.specs.declared.answer.Answer.TheVariants.{Nothing, Refresh, AskBack, Remove}
 use Rattle.sched_changes.specs.Answers.{answer_of}
@@ -28,18 +30,6 @@ AnswersKey n (Remove w k) = k < n
 record IsSent (n w : ℕ) (m : ℕ × Down) : Type 0 where
   pub to : m.0 ≡ w
   pub taken : AllByRecursion (λ k. k < n) (taken_keys m.1)
-
-join_all : {A : Type 0} (P : A → Type 0) (xs ys : List A) → AllByRecursion P xs → AllByRecursion P ys → AllByRecursion P (xs ++ ys)
-join_all P [] ys h g = g
-join_all P (x ∷ xs) ys h g = (h.0, join_all P xs ys h.1 g)
-
-weaken_all : {A : Type 0} (P Q : A → Type 0) → ((x : A) → P x → Q x) → (xs : List A) → AllByRecursion P xs → AllByRecursion Q xs
-weaken_all P Q f [] h = tt
-weaken_all P Q f (x ∷ xs) h = (f x h.0, weaken_all P Q f xs h.1)
-
-range_all : (a n m : ℕ) → a + n ≤ m → AllByRecursion (λ k. k < m) (range_with_len a n)
-range_all a zero m h = tt
-range_all a (suc n) m h = (omega arith, range_all (a + 1) n m (omega arith))
 
 free_sent : (n w : ℕ) (ks : List ℕ) → AllByRecursion (λ k. k < n) ks → AllByRecursion (IsSent n w) (free_message w ks)
 free_sent n w [] h = tt
@@ -85,15 +75,15 @@ answer_sent f n w (Remove v k) h = pick (w == v)
 mail_sent : (f : Facts) (lost : List (ℕ × ℕ)) (since w : ℕ) (a : Answer) → AnswersKey (keys f) a → AllByRecursion (IsSent (keys f) w) (worker_mail f lost since a w)
 unfolding worker_mail task_messages
 mail_sent f lost since w a h =
-    join_all (IsSent (keys f) w) (free_message w (filter (has_pair lost w) (below (keys f)))) _ (free_sent (keys f) w _ (all_filter_in (λ k. k < keys f) (has_pair lost w) (below (keys f)) (range_all 0 (keys f) (keys f) (omega arith))))
-    (join_all (IsSent (keys f) w) (filter_map (λ k. task_message f since w k (f.on k)) (below (keys f))) _ (tasks_sent f since w (keys f) (below (keys f))) (answer_sent f (keys f) w a h))
+    all_join (IsSent (keys f) w) (free_message w (filter (has_pair lost w) (below (keys f)))) _ (free_sent (keys f) w _ (all_of_filter (λ k. k < keys f) (has_pair lost w) (below (keys f)) (range_all_below 0 (keys f) (keys f) (omega arith))))
+    (all_join (IsSent (keys f) w) (filter_map (λ k. task_message f since w k (f.on k)) (below (keys f))) _ (tasks_sent f since w (keys f) (below (keys f))) (answer_sent f (keys f) w a h))
 
 -- each message goes to a worker that has joined
 pub sent_to_workers : (f : Facts) (lost : List (ℕ × ℕ)) (since : ℕ) (a : Answer) → AnswersKey (keys f) a → AllByRecursion (λ (m : ℕ × Down). m.0 ≤ f.last_worker) (flat_map (worker_mail f lost since a) (workers f))
 sent_to_workers f lost since a h =
     all_flat_map_in (λ (m : ℕ × Down). m.0 ≤ f.last_worker) (worker_mail f lost since a) (workers f)
-    (weaken_all (λ w. w < f.last_worker + 1) (λ w. AllByRecursion (λ (m : ℕ × Down). m.0 ≤ f.last_worker) (worker_mail f lost since a w)) (λ w l. weaken_all (IsSent (keys f) w) (λ m. m.0 ≤ f.last_worker) (λ m s. omega (arith, s.to)) (worker_mail f lost since a w) (mail_sent f lost since w a h)) (workers f)
-    (all_filter_in (λ w. w < f.last_worker + 1) (connected f) (from_one f.last_worker) (range_all 1 f.last_worker (f.last_worker + 1) (omega arith))))
+    (all_weaker (λ w. w < f.last_worker + 1) (λ w. AllByRecursion (λ (m : ℕ × Down). m.0 ≤ f.last_worker) (worker_mail f lost since a w)) (λ w l. all_weaker (IsSent (keys f) w) (λ m. m.0 ≤ f.last_worker) (λ m s. omega (arith, s.to)) (worker_mail f lost since a w) (mail_sent f lost since w a h)) (workers f)
+    (all_of_filter (λ w. w < f.last_worker + 1) (connected f) (from_one f.last_worker) (range_all_below 1 f.last_worker (f.last_worker + 1) (omega arith))))
 
 -- each message takes away only keys that are there
 pub taken_are_keys : (f : Facts) (lost : List (ℕ × ℕ)) (since : ℕ) (a : Answer) → AnswersKey (keys f) a → AllByRecursion (λ (m : ℕ × Down). AllByRecursion (λ k. k < keys f) (taken_keys m.1)) (flat_map (worker_mail f lost since a) (workers f))
@@ -101,7 +91,7 @@ taken_are_keys f lost since a h = all_flat_map_in (λ (m : ℕ × Down). AllByRe
   where
     each : (ws : List ℕ) → AllByRecursion (λ w. AllByRecursion (λ (m : ℕ × Down). AllByRecursion (λ k. k < keys f) (taken_keys m.1)) (worker_mail f lost since a w)) ws
     each [] = tt
-    each (w ∷ ws) = (weaken_all (IsSent (keys f) w) (λ m. AllByRecursion (λ k. k < keys f) (taken_keys m.1)) (λ m s. s.taken) (worker_mail f lost since a w) (mail_sent f lost since w a h), each ws)
+    each (w ∷ ws) = (all_weaker (IsSent (keys f) w) (λ m. AllByRecursion (λ k. k < keys f) (taken_keys m.1)) (λ m s. s.taken) (worker_mail f lost since a w) (mail_sent f lost since w a h), each ws)
 
 few_free : (w : ℕ) (ks : List ℕ) → length (free_message w ks) ≤ 1
 few_free w [] = omega arith
@@ -137,10 +127,6 @@ few_mapped {B} h (x ∷ xs) = pick (h x) (few_mapped h xs)
     pick None l = omega (arith, l)
     pick (Some y) l = omega (arith, l)
 
-range_length : (a n : ℕ) → length (range_with_len a n) ≡ n
-range_length a zero = refl
-range_length a (suc n) = omega (arith, range_length (a + 1) n)
-
 -- one worker gets at most one message for each key, and two
 pub few_mail : (f : Facts) (lost : List (ℕ × ℕ)) (since w : ℕ) (a : Answer) → length (worker_mail f lost since a w) ≤ keys f + 2
 unfolding worker_mail task_messages
@@ -148,7 +134,7 @@ few_mail f lost since w a =
     let free = free_message w (filter (has_pair lost w) (below (keys f))) in
     let tasks = filter_map (λ k. task_message f since w k (f.on k)) (below (keys f)) in
     let answers = all_to w (answer_of a f w) in
-    omega (arith, length-append free (tasks ++ answers), length-append tasks answers, few_free w (filter (has_pair lost w) (below (keys f))), few_mapped (λ k. task_message f since w k (f.on k)) (below (keys f)), range_length 0 (keys f), few_answers f w a)
+    omega (arith, length-append free (tasks ++ answers), length-append tasks answers, few_free w (filter (has_pair lost w) (below (keys f))), few_mapped (λ k. task_message f since w k (f.on k)) (below (keys f)), length-range_with_len 0 (keys f), few_answers f w a)
 
 few_joined : (g : ℕ → List (ℕ × Down)) (n : ℕ) → ((w : ℕ) → length (g w) ≤ n) → (ws : List ℕ) → length (flat_map g ws) ≤ length ws * n
 few_joined g n h [] = omega arith

@@ -1,6 +1,8 @@
 -- A key that is asked back stays where it is while the facts settle.
-use Rattle.std.proofs.Common.{◌≡◌, ℕ, Bool, true, false, cond, Option, Some, None, is_some, refl, ap, ◌∙◌}
+use Rattle.std.proofs.Common.{◌≡◌, ℕ, Bool, true, Option, Some, None, is_some, ap, ◌∙◌}
 use Rattle.std.proofs.lemmas.Bool.{false≢true}
+use Rattle.small_facts.proofs.Options.{cond_where_some}
+use Rattle.small_facts.proofs.Truth.{cond_where_true}
 use Rattle.cluster_rules.specs.Derived.{below}
 use Rattle.cluster_rules.specs.Sched.{Facts, keys, known, wanted, need, held, erred, ready}
 use Rattle.cluster_rules.specs.SchedStep.{drop_bad, drop_has, drop_on, place_all}
@@ -8,28 +10,18 @@ use Rattle.cluster_rules.proofs.SchedFrame.{placing_keys}
 use Rattle.cluster_laws.specs.Settled.{IsSettled}
 use Rattle.scheduler_core.specs.Settling.{let_go}
 
-kept_some : {A : Type 0} (b : Bool) (o : Option A) → (is_some o ≡ true → b ≡ true) → cond b o None ≡ o
-kept_some true o h = refl
-kept_some false None h = refl
-kept_some false (Some x) h = absurd (false≢true (h refl))
-
-kept_true : (b x : Bool) → (x ≡ true → b ≡ true) → cond b x false ≡ x
-kept_true true x h = refl
-kept_true false true h = absurd (false≢true (h refl))
-kept_true false false h = refl
-
 -- facts that have settled, with other steals
 no_bad : (f : Facts) (s : ℕ → Option (ℕ × Bool)) → IsSettled f → drop_bad (record f { steal = s }) ≡ record f { steal = s }
 unfolding drop_bad known wanted
-no_bad f s v = λ i. record f { steal = s; bad = λ k. kept_true (known f k) (f.bad k) (v.errors_are_known k) i }
+no_bad f s v = λ i. record f { steal = s; bad = λ k. cond_where_true (known f k) (f.bad k) (v.errors_are_known k) i }
 
 no_has : (f : Facts) (s : ℕ → Option (ℕ × Bool)) → IsSettled f → drop_has (record f { steal = s }) ≡ record f { steal = s }
 unfolding drop_has need wanted held erred
-no_has f s v = λ i. record f { steal = s; has = λ w k. kept_some (need f k) (f.has w k) (v.held_are_needed w k) i }
+no_has f s v = λ i. record f { steal = s; has = λ w k. cond_where_some (need f k) (f.has w k) (v.held_are_needed w k) i }
 
 no_on : (f : Facts) (s : ℕ → Option (ℕ × Bool)) → IsSettled f → (drop_on (record f { steal = s })).on ≡ f.on
 unfolding drop_on ready need wanted held erred
-no_on f s v = λ i k. kept_some (ready f k) (f.on k) (v.placed_are_ready k) i
+no_on f s v = λ i k. cond_where_some (ready f k) (f.on k) (v.placed_are_ready k) i
 
 places_stay : (f : Facts) (s : ℕ → Option (ℕ × Bool)) → IsSettled f → (let_go (record f { steal = s })).on ≡ f.on
 unfolding let_go

@@ -1,11 +1,14 @@
 -- Walks over touched keys: of the keys between there is nothing to take away, to place or to tell.
 use Rattle.std.proofs.Common.{◌≡◌, ℕ, zero, suc, ◌+◌, ◌-◌, ◌<◌, ◌≤◌, Bool, true, false, not, cond, ◌&&◌, [], ◌∷◌, ◌++◌, Option, Some, None, is_some, refl, sym, ap, ◌∙◌, subst, arith, ltb, ◌⊎◌, inl, inr, ⊎_elim, append-nil, length}
 use Rattle.std.specs.List.{filter, filter_map, cons_option}
-use Rattle.std.proofs.lemmas.Bool.{false≢true, cases_lt}
-use Rattle.std.proofs.lemmas.Bool.Decides.{nat_tests}
+use Rattle.std.proofs.lemmas.Bool.{false≢true, cases_lt, lt-ltb, ltb-true, ltb-false}
+use Rattle.std.proofs.Math.Nat.{add-zero, le-add_right}
+use Rattle.small_facts.proofs.Numbers.{whole_of_rest}
+use Rattle.small_facts.proofs.Options.{is_some_cond}
+use Rattle.small_facts.proofs.Truth.{false_before}
 use Rattle.cluster_rules.specs.Derived.{below, is_in}
 use Rattle.cluster_rules.specs.Functions.{from_one}
-use Rattle.cluster_rules.specs.Sched.{Facts, Setting, IsSound, keys, deps, holds, held, erred, wanted, known, need, ready, is_on, is_for}
+use Rattle.cluster_rules.specs.Sched.{Facts, Setting, IsSound, keys, deps, holds, held, erred, wanted, known, need, ready, is_on}
 use Rattle.cluster_rules.proofs.SchedLemmas.{filter-below, filter_map-below, need-past}
 use Rattle.cluster_rules.proofs.SchedFrame.{in_range}
 use Rattle.cluster_laws.specs.Settled.{IsSettled}
@@ -14,23 +17,18 @@ use Rattle.cluster_laws.proofs.Fewer.{IsThinned, thinned-need}
 use Rattle.key_sets.specs.Sets.{has, IsFirst}
 use Rattle.task_table.specs.Tasks.{Tasks, facts, SameAt}
 use Rattle.sched_changes.specs.Follows.{Follows}
-use Rattle.sched_changes.proofs.Following.{not_before}
 use Rattle.scheduler_core.specs.Tidy.{IsTidy}
 use Rattle.scheduler_core.specs.Dropped.{bad_below, has_below, on_below}
+use Rattle.cluster_laws.proofs.WorldLemmas.{key_low}
+use Rattle.sched_changes.proofs.RowLemmas.{on_some}
 
 -- what each key of a stretch leaves as it is is the same at its end
 pub gap : {A : Type 0} (G : ℕ → A) (n d : ℕ) → ((k : ℕ) → n ≤ k → k < n + d → G k ≡ G n → G (k + 1) ≡ G n) → G (n + d) ≡ G n
-gap G n zero h = ap G (none n)
-  where
-    none : (n : ℕ) → n + 0 ≡ n
-    none n = omega arith
-gap G n (suc d) h = ap G (next n d) ∙ h (n + d) (low n d) (high n d) (gap G n d (λ k l m e. h k l (further k n d m) e))
+gap G n zero h = ap G (add-zero n)
+gap G n (suc d) h = ap G (next n d) ∙ h (n + d) (le-add_right n d) (high n d) (gap G n d (λ k l m e. h k l (further k n d m) e))
   where
     next : (n d : ℕ) → n + suc d ≡ (n + d) + 1
     next n d = omega arith
-
-    low : (n d : ℕ) → n ≤ n + d
-    low n d = omega arith
 
     high : (n d : ℕ) → n + d < n + suc d
     high n d = omega arith
@@ -39,10 +37,7 @@ gap G n (suc d) h = ap G (next n d) ∙ h (n + d) (low n d) (high n d) (gap G n 
     further k n d l = omega arith
 
 pub gap_to : {A : Type 0} (G : ℕ → A) (n m : ℕ) → n ≤ m → ((k : ℕ) → n ≤ k → k < m → G k ≡ G n → G (k + 1) ≡ G n) → G n ≡ G m
-gap_to G n m l h = sym (ap G (whole n m l) ∙ gap G n (m - n) (λ k a b e. h k a (subst (λ z. k < z) (sym (whole n m l)) b) e))
-  where
-    whole : (n m : ℕ) → n ≤ m → m ≡ n + (m - n)
-    whole n m l = omega arith
+gap_to G n m l h = sym (ap G (whole_of_rest n m l) ∙ gap G n (m - n) (λ k a b e. h k a (subst (λ z. k < z) (sym (whole_of_rest n m l)) b) e))
 
 pub filter_gap : (p : ℕ → Bool) (n m : ℕ) → n ≤ m → ((k : ℕ) → n ≤ k → k < m → p k ≡ false) → filter p (below n) ≡ filter p (below m)
 filter_gap p n m l h = gap_to (λ k. filter p (below k)) n m l (λ k a b e. filter-below p k ∙ ap (λ t. filter p (below k) ++ cond t (k ∷ []) []) (h k a b) ∙ append-nil (filter p (below k)) ∙ e)
@@ -73,28 +68,19 @@ tidy_then s t v a = record {
     there k l = subst (λ c. k < c) (ap (λ c. length c.shape.deps) a.setting) l
 
     before : (k : ℕ) → has t.touched k ≡ false → has s.touched k ≡ false
-    before k e = not_before (has s.touched k) (has t.touched k) (a.touched.grows k) e
+    before k e = false_before (has s.touched k) (has t.touched k) (a.touched.grows k) e
 
     same : (k : ℕ) → k < keys (facts t) → has t.touched k ≡ false → SameAt (facts s) (facts t) k
     same k l e = a.touched.kept k (there k l) e
 
 -- a key that a walk passes over was not touched before it
 pub passed : (s t : Tasks) (from key k : ℕ) → Follows s t → IsFirst (has t.touched) from (Some key) → from ≤ k → k < key → has s.touched k ≡ false
-passed s t from key k a h l m = not_before (has s.touched k) (has t.touched k) (a.touched.grows k) (h.2 k l m)
+passed s t from key k a h l m = false_before (has s.touched k) (has t.touched k) (a.touched.grows k) (h.2 k l m)
 
 pub passed_all : (s t : Tasks) (from k : ℕ) → Follows s t → IsFirst (has t.touched) from None → from ≤ k → has s.touched k ≡ false
-passed_all s t from k a h l = not_before (has s.touched k) (has t.touched k) (a.touched.grows k) (h k l)
+passed_all s t from k a h l = false_before (has s.touched k) (has t.touched k) (a.touched.grows k) (h k l)
 
 -- ## What settling leaves as it is
-
-is_low : (k n : ℕ) → k < n → ltb k n ≡ true
-is_low k n l = grind (arith, nat_tests)
-
-low_from : (k n : ℕ) → ltb k n ≡ true → k < n
-low_from k n e = grind (arith, nat_tests)
-
-high_from : (k n : ℕ) → ltb k n ≡ false → n ≤ k
-high_from k n e = grind (arith, nat_tests)
 
 pub over : {A : Type 0} (k n m : ℕ) (p : Bool) (d x : A) → n ≤ m → (n ≤ k → k < m → (p ≡ true) ⊎ (x ≡ d)) → cond (ltb k n && not p) d x ≡ cond (ltb k m && not p) d x
 over {A} k n m p d x l h = pick (ltb k n) (ltb k m) refl refl
@@ -112,8 +98,8 @@ over {A} k n m p d x l h = pick (ltb k n) (ltb k m) refl refl
 
     pick : (a b : Bool) → ltb k n ≡ a → ltb k m ≡ b → cond (a && not p) d x ≡ cond (b && not p) d x
     pick true true u v = refl
-    pick true false u v = absurd (false≢true (sym v ∙ is_low k m (wider k n m l (low_from k n u))))
-    pick false true u v = there (h (high_from k n u) (low_from k m v))
+    pick true false u v = absurd (false≢true (sym v ∙ lt-ltb k m (wider k n m l (ltb-true k n u))))
+    pick false true u v = there (h (ltb-false k n u) (ltb-true k m v))
     pick false false u v = refl
 
 pub bad_over : (passes : ℕ → Bool) (f : Facts) (n m : ℕ) → n ≤ m → ((k : ℕ) → n ≤ k → k < m → f.bad k ≡ true → passes k ≡ true) → bad_below passes f n ≡ bad_below passes f m
@@ -160,8 +146,8 @@ lost_over o q k n m l h = pick (ltb k n) (ltb k m) refl refl
 
     pick : (a b : Bool) → ltb k n ≡ a → ltb k m ≡ b → (o && (a && not q)) ≡ (o && (b && not q))
     pick true true u v = refl
-    pick true false u v = absurd (false≢true (sym v ∙ is_low k m (wider k n m l (low_from k n u))))
-    pick false true u v = none o q (h (high_from k n u) (low_from k m v))
+    pick true false u v = absurd (false≢true (sym v ∙ lt-ltb k m (wider k n m l (ltb-true k n u))))
+    pick false true u v = none o q (h (ltb-false k n u) (ltb-true k m v))
     pick false false u v = refl
 
 -- ## What is derived while facts go
@@ -174,10 +160,6 @@ pub ready_on : (passes : ℕ → Bool) (f : Facts) (n : ℕ) → ready (on_below
 unfolding ready need held erred wanted on_below
 ready_on passes f n = refl
 
-only_kept : {A : Type 0} (b : Bool) (o : Option A) → is_some (cond b None o) ≡ true → is_some o ≡ true
-only_kept true o e = absurd (false≢true e)
-only_kept false o e = e
-
 needed_stays : (t u : Bool) (o : Option ℕ) → u ≡ true → is_some o ≡ true → is_some (cond (t && not u) None o) ≡ true
 needed_stays t u o e h = ap (λ b. is_some (cond (t && not b) None o)) e ∙ off t ∙ h
   where
@@ -189,7 +171,7 @@ thinned : (f : Facts) (n : ℕ) → IsSound f → IsThinned (deps f) (keys f) (w
 unfolding need held has_below erred
 thinned f n s = record {
   low = s.shape.below;
-  less = λ k e. any_weaken (λ w. is_some (cond (ltb k n && not (need f k)) None (f.has w k))) (λ w. holds f w k) (from_one f.last_worker) (λ w x. only_kept (ltb k n && not (need f k)) (f.has w k) x) e;
+  less = λ k e. any_weaken (λ w. is_some (cond (ltb k n && not (need f k)) None (f.has w k))) (λ w. holds f w k) (from_one f.last_worker) (λ w x. is_some_cond (ltb k n && not (need f k)) (f.has w k) x) e;
   stays = λ k u h. any_weaken (λ w. holds f w k) (λ w. is_some (cond (ltb k n && not (need f k)) None (f.has w k))) (from_one f.last_worker) (λ w x. needed_stays (ltb k n) (need f k) (f.has w k) u x) h;
   inside = λ k u. there k u (ltb k (keys f)) refl;
 }
@@ -198,11 +180,8 @@ thinned f n s = record {
     inner k c l = omega arith
 
     there : (k : ℕ) → need f k ≡ true → (b : Bool) → ltb k (keys f) ≡ b → is_in k (below (keys f)) ≡ true
-    there k u true e = in_range 0 (keys f) k (zero_least k) (inner k (keys f) (low_from k (keys f) e))
-      where
-        zero_least : (k : ℕ) → 0 ≤ k
-        zero_least k = omega arith
-    there k u false e = absurd (false≢true (sym (need-past f s k (high_from k (keys f) e)) ∙ u))
+    there k u true e = in_range 0 (keys f) k (key_low k) (inner k (keys f) (ltb-true k (keys f) e))
+    there k u false e = absurd (false≢true (sym (need-past f s k (ltb-false k (keys f) e)) ∙ u))
 
 -- a key that is not needed lets no need through, held or not
 pub need_has : (f : Facts) (n : ℕ) → IsSound f → (k : ℕ) → need (has_below (need f) f n) k ≡ need f k
@@ -214,9 +193,6 @@ need_has f n s k = thinned-need (deps f) (keys f) (wanted f) (held f) (held (has
 pub in_setting : (s t : Tasks) (k : ℕ) → Follows s t → k < keys (facts t) → k < keys (facts s)
 in_setting s t k a l = subst (λ (c : Setting). k < length c.shape.deps) a.setting l
 
-pub past_all : (n m : ℕ) → n ≤ n + m
-past_all n m = omega arith
-
 -- of keys that are not there nothing is to be said
 pub bad_there : {P : Type 0} (f : Facts) (k : ℕ) → IsSound f → f.bad k ≡ true → (k < keys f → P) → P
 bad_there f k s e h = ⊎_elim h (λ l. absurd (false≢true (sym (s.bad k l) ∙ e))) (cases_lt k (keys f))
@@ -227,9 +203,5 @@ copy_there f w k s e h = ⊎_elim h (λ l. absurd (false≢true (sym (ap is_some
 pub place_there : {P : Type 0} (f : Facts) (k : ℕ) → IsSound f → is_some (f.on k) ≡ true → (k < keys f → P) → P
 place_there f k s e h = ⊎_elim h (λ l. absurd (false≢true (sym (ap is_some (s.on k l)) ∙ e))) (cases_lt k (keys f))
 
-on_is_some : (w : ℕ) (o : Option (ℕ × ℕ)) → is_for w o ≡ true → is_some o ≡ true
-on_is_some w None e = absurd (false≢true e)
-on_is_some w (Some p) e = refl
-
 pub is_placed : (f : Facts) (w k : ℕ) → is_on f w k ≡ true → is_some (f.on k) ≡ true
-is_placed f w k e = on_is_some w (f.on k) e
+is_placed f w k e = on_some w (f.on k) e

@@ -1,7 +1,5 @@
 -- What the client of a simulated plan got: the blocks of its saves, and with them a value of each key.
-use Rattle.std.proofs.Common.{◌≡◌, ℕ, ◌<◌, List, length, map, get_or, ap, sym, ◌∙◌, subst, arith, Option, Some, None, inl, inr}
-use Rattle.std.proofs.lemmas.Bool.{cases_lt}
-use Rattle.std.proofs.lemmas.List.{get_or_past}
+use Rattle.std.proofs.Common.{◌≡◌, ℕ, ◌<◌, List, length, map, sym, ◌∙◌, subst, arith, Option, Some, None}
 use Rattle.nd_shape.specs.Block.{Array}
 use Rattle.array_expr.specs.Node.{IsExpression}
 use Rattle.block_kernels.specs.Kernels.{result_shape}
@@ -13,18 +11,17 @@ use Rattle.cluster_sim.specs.Openings.{AreWanted}
 use Rattle.cluster_sim.specs.Simulations.{HasAll, IsNeededFault}
 use Rattle.task_graph.specs.Graphs.{operation, shape_of, task_at, value}
 use Rattle.lowering_laws.specs.Lowered.{lowered}
-use Rattle.lowering_laws.specs.Named.{layout_of, name_of}
+use Rattle.lowering_laws.specs.Named.{layout_of}
 use Rattle.lowering_laws.specs.Faults.{DividesByZero, IsZeroDivide}
 use Rattle.lowering_laws.specs.Whole.{saved_key}
 use Rattle.lowering_laws.proofs.Limits.{limits-law}
 use Rattle.lowering_laws.proofs.Runs.{order-law}
 use Rattle.job_run.specs.Evaluating.{HasLaws, HaveAll, array_at}
-use Rattle.job_run.specs.Lowering.{HasBlock}
 use Rattle.job_run.specs.Plan.{IsRunnable, Plan, nodes_saved}
 use Rattle.job_run.specs.Runs.{IsSmall}
 use Rattle.job_run.specs.Saving.{HasSaves, IsGot}
 use Rattle.job_run.specs.Values.{IsFaulty, MeetsNone, Named, tasks_of}
-use Rattle.job_run.proofs.KeyValues.{has-block, lacks-none}
+use Rattle.job_run.proofs.KeyValues.{lacks-none}
 use Rattle.job_run.proofs.Laws.{saves-there}
 use Rattle.job_run.proofs.SavedBlocks.{count-saves, has-saves, is-got}
 use Rattle.sim_run.specs.Client.{HasGot}
@@ -78,15 +75,6 @@ module _ {J F : Type 0} (p : Plan) (named : Named) (s : State J Array F) (runs :
   saves-got = is-got p named ((cluster s).blocks.got 1) runs laws (got_value named p.nodes (nodes_saved p) s r) have_all
 
 -- ## A zero divisor
-
--- a name that is found at a key is a block's
-pub name-has : (p : Plan) (named : Named) (key : ℕ) (names : List (Option (ℕ × ℕ))) (name : Option (ℕ × ℕ)) → HasLaws p named → names ≡ (lowered p.nodes (nodes_saved p)).names → name ≡ get_or names key None → HasBlock p.nodes name
-name-has p named key names name laws all is =
-    let at : name_of p.nodes (nodes_saved p) key ≡ name = sym (is ∙ ap (λ (ns : List (Option (ℕ × ℕ))). get_or ns key None) all) in
-    elim (cases_lt key (length (tasks_of p))) [
-      | inl lt ↦ has-block p named key name laws lt at
-      | inr ge ↦ subst (HasBlock p.nodes) (sym (get_or_past (lowered p.nodes (nodes_saved p)).names key None (omega (arith, ge, laws.names.number))) ∙ at) tt
-    ]
 
 abbrev DividesAt : Plan → Named → Option (ℕ × ℕ) → Type 0
 DividesAt p named None = ⊥

@@ -3,6 +3,11 @@ use Rattle.std.proofs.Common.{◌≡◌, ℕ, zero, suc, ◌+◌, ◌%◌, ◌�
 use Rattle.std.specs.Prelude.{◌==◌, Contains, slice_get}
 use Rattle.std.specs.List.{AllByRecursion, range_with_len}
 use Rattle.std.proofs.lemmas.Bool.{true≢false}
+use Rattle.std.proofs.Math.Nat.{zero-add, add-zero, add_comm}
+use Rattle.std.proofs.lemmas.Option.{none-some, same_Some}
+use Rattle.small_facts.proofs.Every.{all_push}
+use Rattle.small_facts.proofs.Lists.{same_tail}
+use Rattle.small_facts.proofs.Numbers.{none_plus, unequal_turned}
 use Rattle.cluster_msgs.specs.declared.events.Item.{Item}
 use Rattle.cluster_msgs.specs.declared.events.Item.TheVariants.{Lose as LoseItem, Suspect as SuspectItem, Join as JoinItem}
 use Rattle.cluster_msgs.specs.declared.events.Event.{Event}
@@ -14,12 +19,13 @@ use Rattle.cluster_rules.specs.Runs.{run_from, reached}
 use Rattle.cluster_rules.specs.Draw.{Plan, Sim, Next, Over, Scripted, Evicts, Balances, Spent, Drawn, Verdict, DrawnFrom, over, is_reached, is_idle, is_blocked, item_event, scripted, evicts_now, balances_now, drawn, draw_one, turn, unscripted, next_by, next, event_of, moved, opening_events, sim_from}
 use Rattle.cluster_laws.proofs.WorldLemmas.{progress_enabled}
 use Rattle.safety_laws.proofs.Attempts.{run-append}
-use Rattle.safety_laws.proofs.Staying.{takes_away, not_same, IsUnseen, unseen, alive_stays, connected_stays, joined_alive, joined_connected}
+use Rattle.safety_laws.proofs.Staying.{takes_away, IsUnseen, unseen, alive_stays, connected_stays, joined_alive, joined_connected}
 use Rattle.cluster_sim.proofs.WorldKeeps.{joins, world_keeps}
 use Rattle.cluster_sim.proofs.CourseLemmas.{moved_world}
 use Rattle.cluster_sim.proofs.NextLemmas.{progress_is}
 use Rattle.cluster_sim.specs.Simulations.{IsSimulated}
 use Rattle.command_words.specs.Walks.{Crew, without, joined, after_item, after_items, crew_of, TakesOneOf, IsItemAt, IsWalk}
+use Rattle.command_words.proofs.Walking.{after_more}
 
 -- ## Who is there
 
@@ -52,10 +58,6 @@ all_but P Q v (x ∷ xs) f h = pick (x == v) refl (all_but P Q v xs f h.1)
     pick true e r = r
     pick false e r = (f x e h.0, r)
 
-all_more : (P : ℕ → Type 0) (xs : List ℕ) (x : ℕ) → AllByRecursion P xs → P x → AllByRecursion P (xs ++ x ∷ [])
-all_more P [] x h p = (p, tt)
-all_more P (y ∷ ys) x h p = (h.0, all_more P ys x h.1 p)
-
 -- ## One event
 
 stays_there : (j : Job) (w : World) (e : Event) (i : ℕ) → IsUnseen w e → takes_away e i ≡ false → IsThere w i → IsThere (world_step j w e) i
@@ -70,7 +72,7 @@ manned_still j c w e u t z h = record { there = all_to (IsThere w) (IsThere (wor
 
 manned_joined : (j : Job) (c : Crew) (w : World) (threads : ℕ) → IsManned c w → IsManned (joined c) (world_step j w (Join threads))
 manned_joined j c w threads h = record {
-  there = all_more (IsThere (world_step j w (Join threads))) c.there (c.last + 1)
+  there = all_push (IsThere (world_step j w (Join threads))) c.there (c.last + 1)
       (all_to (IsThere w) (IsThere (world_step j w (Join threads))) c.there (λ i. stays_there j w (Join threads) i not_seen refl) h.there)
       (subst (λ n. IsThere (world_step j w (Join threads)) (n + 1)) h.last (joined_alive j w threads, joined_connected j w threads));
   last = let k = (world_keeps j w (Join threads)).last in let l = h.last in omega (arith, k, l);
@@ -83,7 +85,7 @@ manned_joined j c w threads h = record {
         no q = cc
 
 manned_lost : (j : Job) (c : Crew) (w : World) (v : ℕ) → IsManned c w → IsManned (without c v) (world_step j w (Lose v))
-manned_lost j c w v h = record { there = all_but (IsThere w) (IsThere (world_step j w (Lose v))) v c.there (λ i e. stays_there j w (Lose v) i not_seen (not_same v i e)) h.there; last = same_last j w (Lose v) c.last refl h.last }
+manned_lost j c w v h = record { there = all_but (IsThere w) (IsThere (world_step j w (Lose v))) v c.there (λ i e. stays_there j w (Lose v) i not_seen (unequal_turned v i e)) h.there; last = same_last j w (Lose v) c.last refl h.last }
   where
     not_seen : IsUnseen w (Lose v)
     not_seen x q = absurd (no q)
@@ -92,7 +94,7 @@ manned_lost j c w v h = record { there = all_but (IsThere w) (IsThere (world_ste
         no q = cc
 
 manned_suspected : (j : Job) (c : Crew) (w : World) (v : ℕ) → IsManned c w → IsManned (without c v) (world_step j w (Suspect v))
-manned_suspected j c w v h = record { there = all_but (IsThere w) (IsThere (world_step j w (Suspect v))) v c.there (λ i e. stays_there j w (Suspect v) i not_seen (not_same v i e)) h.there; last = same_last j w (Suspect v) c.last refl h.last }
+manned_suspected j c w v h = record { there = all_but (IsThere w) (IsThere (world_step j w (Suspect v))) v c.there (λ i e. stays_there j w (Suspect v) i not_seen (unequal_turned v i e)) h.there; last = same_last j w (Suspect v) c.last refl h.last }
   where
     not_seen : IsUnseen w (Suspect v)
     not_seen x q = absurd (no q)
@@ -109,10 +111,7 @@ manned_item j c w threads (JoinItem at) h = manned_joined j c w threads h
 -- ## The opening
 
 range_more : (a n : ℕ) → range_with_len a n ++ (a + n) ∷ [] ≡ range_with_len a (suc n)
-range_more a zero = ap (λ x. x ∷ []) (plus_zero a)
-  where
-    plus_zero : (a : ℕ) → a + 0 ≡ a
-    plus_zero a = omega arith
+range_more a zero = ap (λ x. x ∷ []) (add-zero a)
 range_more a (suc n) = ap (λ l. a ∷ l) (ap (λ x. range_with_len (a + 1) n ++ x ∷ []) (next a n) ∙ range_more (a + 1) n)
   where
     next : (a n : ℕ) → a + suc n ≡ (a + 1) + n
@@ -124,18 +123,12 @@ one_more k = λ i. record { there = there i; last = last k i }
     last : (k : ℕ) → k + 1 ≡ suc k
     last k = omega arith
 
-    flip : (k : ℕ) → k + 1 ≡ 1 + k
-    flip k = omega arith
-
     there : range_with_len 1 k ++ (k + 1) ∷ [] ≡ range_with_len 1 (suc k)
-    there = ap (λ x. range_with_len 1 k ++ x ∷ []) (flip k) ∙ range_more 1 k
+    there = ap (λ x. range_with_len 1 k ++ x ∷ []) (add_comm k 1) ∙ range_more 1 k
 
 opened : (j : Job) (w : World) (threads n k : ℕ) (wanted : List ℕ) → IsManned (crew_of k) w → IsManned (crew_of (k + n)) (run_from j w (replicate n (Join threads) ++ Want 1 wanted ∷ []))
-opened j w threads zero k wanted h = subst (λ m. IsManned (crew_of m) (world_step j w (Want 1 wanted))) (plus_zero k) (manned_still j (crew_of k) w (Want 1 wanted) not_seen (λ i. refl) refl h)
+opened j w threads zero k wanted h = subst (λ m. IsManned (crew_of m) (world_step j w (Want 1 wanted))) (none_plus k) (manned_still j (crew_of k) w (Want 1 wanted) not_seen (λ i. refl) refl h)
   where
-    plus_zero : (k : ℕ) → k ≡ k + 0
-    plus_zero k = omega arith
-
     not_seen : IsUnseen w (Want 1 wanted)
     not_seen x q = absurd (no q)
       where
@@ -174,12 +167,9 @@ first_item threads w (i ∷ is) e later busy h = waits (not (is_reached w i)) h
     no : ◌≡◌ {A = Option (Event × List Item)} None (Some (e, later)) → ⊥
     no h = cc
 
-    pair : (p q : Event × List Item) → Some p ≡ Some q → p ≡ q
-    pair p q h = cc
-
     blocked : (b : Bool) → cond {A = Option (Event × List Item)} b None (Some (item_event threads i, is)) ≡ Some (e, later) → (item : Item) × (i ∷ is ≡ item ∷ later) × (item_event threads item ≡ e)
     blocked true q = absurd (no q)
-    blocked false q = let p = pair (item_event threads i, is) (e, later) q in (i, ap (λ (x : Event × List Item). i ∷ x.1) p, ap (λ (x : Event × List Item). x.0) p)
+    blocked false q = let p = same_Some (item_event threads i, is) (e, later) q in (i, ap (λ (x : Event × List Item). i ∷ x.1) p, ap (λ (x : Event × List Item). x.0) p)
 
     idle : (b : Bool) → b ≡ false → cond {A = Option (Event × List Item)} b (scripted threads w is) (cond {A = Option (Event × List Item)} (is_blocked w i) None (Some (item_event threads i, is))) ≡ Some (e, later) → (item : Item) × (i ∷ is ≡ item ∷ later) × (item_event threads item ≡ e)
     idle true f q = absurd (true≢false f)
@@ -233,22 +223,15 @@ at_drop zero [] x ys h = absurd (no h)
   where
     no : ◌≡◌ {A = List Item} [] (x ∷ ys) → ⊥
     no h = cc
-at_drop zero (z ∷ zs) x ys h = record { at = (omega arith, head h); rest = tail h; front = ap (λ y. y ∷ []) (head h) }
+at_drop zero (z ∷ zs) x ys h = record { at = (omega arith, head h); rest = same_tail z x zs ys h; front = ap (λ y. y ∷ []) (head h) }
   where
     head : z ∷ zs ≡ x ∷ ys → z ≡ x
     head h = cc
-
-    tail : z ∷ zs ≡ x ∷ ys → zs ≡ ys
-    tail h = cc
 at_drop (suc n) [] x ys h = absurd (no h)
   where
     no : ◌≡◌ {A = List Item} [] (x ∷ ys) → ⊥
     no h = cc
 at_drop (suc n) (z ∷ zs) x ys h = let r = at_drop n zs x ys h in record { at = (let l = r.at.0 in omega (arith, l), r.at.1); rest = r.rest; front = ap (λ l. z ∷ l) r.front }
-
-after_more : (c : Crew) (xs : List Item) (x : Item) → after_items c (xs ++ x ∷ []) ≡ after_item (after_items c xs) x
-after_more c [] x = refl
-after_more c (y ∷ ys) x = after_more (after_item c y) ys x
 
 -- ## The simulation
 
@@ -287,14 +270,8 @@ module _ (p : Plan) (walk : IsWalk p.workers p.threads p.script) where
       by (x ∷ xs) e = not_idle x (walk.takes h.passed x (at_drop h.passed p.script x xs (sym h.left ∙ e)).at)
 
   crewed_next : (j : Job) (s : Sim) (n : Next) (e : Event) → Mild p.threads s n → event_of n ≡ Some e → IsCrewed s → IsCrewed (moved j s n)
-  crewed_next j s (Over failure) e m q h = absurd (no q)
-    where
-      no : None ≡ Some e → ⊥
-      no q = cc
-  crewed_next j s Spent e m q h = absurd (no q)
-    where
-      no : None ≡ Some e → ⊥
-      no q = cc
+  crewed_next j s (Over failure) e m q h = absurd (none-some e q)
+  crewed_next j s Spent e m q h = absurd (none-some e q)
   crewed_next j s (Scripted x later) e m q h =
       let r = at_drop h.passed p.script m.0 later (sym h.left ∙ m.1) in
       let c : after_item (crew_after h.passed) m.0 ≡ crew_after (suc h.passed) = sym (ap (after_items (crew_of p.workers)) r.front ∙ after_more (crew_of p.workers) (take h.passed p.script) m.0) in
@@ -331,11 +308,8 @@ module _ (p : Plan) (walk : IsWalk p.workers p.threads p.script) where
     passed = 0;
     within = omega arith;
     left = refl;
-    manned = subst (λ n. IsManned (crew_of n) (run_from j (opening j) (opening_events p wanted))) (zero_plus p.workers) (opened j (opening j) p.threads p.workers 0 wanted (record { there = tt; last = refl }));
+    manned = subst (λ n. IsManned (crew_of n) (run_from j (opening j) (opening_events p wanted))) (zero-add p.workers) (opened j (opening j) p.threads p.workers 0 wanted (record { there = tt; last = refl }));
   }
-    where
-      zero_plus : (n : ℕ) → 0 + n ≡ n
-      zero_plus n = omega arith
 
   -- when a simulation ends, somebody is there
   pub manned_at_end : (j : Job) (words : ℕ → ℕ) (wanted : List ℕ) (es : List Event) (v : Verdict) (w : World) → IsSimulated j words p wanted es v w → (i : ℕ) × ((w.alive i ≡ true) × (is_connected w i ≡ true))

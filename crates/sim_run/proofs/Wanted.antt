@@ -1,10 +1,11 @@
 -- The keys that are wanted: those of all saved blocks, each a key of the graph.
-use Rattle.std.proofs.Common.{◌≡◌, ℕ, zero, suc, ◌<◌, Bool, true, false, ◌||◌, List, [], ◌∷◌, ◌++◌, length, get_or, refl, subst, arith, inl, inr, ◌⊎◌, eq-eqb}
+use Rattle.std.proofs.Common.{◌≡◌, ℕ, zero, suc, ◌<◌, true, List, [], ◌∷◌, ◌++◌, length, get_or, refl, subst, arith, inl, inr, eq-eqb}
 use Rattle.std.specs.Prelude.{All, ◌==◌}
 use Rattle.std.specs.List.{AllByRecursion, flat_map}
-use Rattle.std.proofs.lemmas.Bool.{eqb-true}
+use Rattle.std.proofs.lemmas.Bool.{eqb-true, or_left, or_right, or_cases}
 use Rattle.std.proofs.lemmas.List.{length-map}
 use Rattle.std.proofs.Math.Nat.{mul-pos}
+use Rattle.small_facts.proofs.Every.{all_join, all_from_places}
 use Rattle.array_expr.specs.declared.expr.Node.{Node}
 use Rattle.array_expr.specs.Node.{IsExpression}
 use Rattle.chunk_layout.specs.Layouts.{blocks}
@@ -23,7 +24,6 @@ use Rattle.lowering_laws.specs.Named.{LawOfNames, layout_of}
 use Rattle.lowering_laws.specs.Whole.{LawOfOrder, saved_key}
 use Rattle.lowering_laws.proofs.NamesLaw.{names-law}
 use Rattle.lowering_laws.proofs.Order.{lowering-order}
-use Rattle.task_graph.proofs.Rising.{all-join}
 use Rattle.lowering_laws.proofs.Runs.{order-law}
 
 -- ## Lists of lists
@@ -34,35 +34,19 @@ row xss j = get_or xss j []
 abbrev pub flat : List (List ℕ) → List ℕ
 flat xss = flat_map (λ ks. ks) xss
 
-each-of : (P : ℕ → Type 0) (xs : List ℕ) → ((c : ℕ) → c < length xs → P (get_or xs c 0)) → AllByRecursion P xs
-each-of P [] h = tt
-each-of P (x ∷ xs) h = (h 0 (omega arith), each-of P xs (λ c l. h (suc c) (omega arith)))
-
 -- a fact of each member of each list
 pub all-flat : (P : ℕ → Type 0) (xss : List (List ℕ)) → ((j c : ℕ) → j < length xss → c < length (row xss j) → P (get_or (row xss j) c 0)) → AllByRecursion P (flat xss)
 all-flat P [] h = tt
-all-flat P (xs ∷ xss) h = all-join P xs (flat xss) (each-of P xs (λ c l. h 0 c (omega arith) l)) (all-flat P xss (λ j c lj lc. h (suc j) c (omega arith) lc))
-
-or-left : (a b : Bool) → a ≡ true → (a || b) ≡ true
-or-left true b h = refl
-or-left false b h = cc
-
-or-right : (a b : Bool) → b ≡ true → (a || b) ≡ true
-or-right true b h = refl
-or-right false b h = h
-
-or-cases : (a b : Bool) → (a || b) ≡ true → (a ≡ true) ⊎ (b ≡ true)
-or-cases true b h = inl refl
-or-cases false b h = inr h
+all-flat P (xs ∷ xss) h = all_join P xs (flat xss) (all_from_places P xs (λ c l. h 0 c (omega arith) l)) (all-flat P xss (λ j c lj lc. h (suc j) c (omega arith) lc))
 
 in-front : (xs ys : List ℕ) (c : ℕ) → c < length xs → is_in (get_or xs c 0) (xs ++ ys) ≡ true
 in-front [] ys c h = absurd (omega (arith, h))
-in-front (x ∷ xs) ys zero h = or-left (x == x) (is_in x (xs ++ ys)) (eq-eqb x x refl)
-in-front (x ∷ xs) ys (suc c) h = or-right (x == get_or xs c 0) (is_in (get_or xs c 0) (xs ++ ys)) (in-front xs ys c (omega arith))
+in-front (x ∷ xs) ys zero h = or_left (x == x) (is_in x (xs ++ ys)) (eq-eqb x x refl)
+in-front (x ∷ xs) ys (suc c) h = or_right (x == get_or xs c 0) (is_in (get_or xs c 0) (xs ++ ys)) (in-front xs ys c (omega arith))
 
 in-back : (k : ℕ) (xs ys : List ℕ) → is_in k ys ≡ true → is_in k (xs ++ ys) ≡ true
 in-back k [] ys h = h
-in-back k (x ∷ xs) ys h = or-right (x == k) (is_in k (xs ++ ys)) (in-back k xs ys h)
+in-back k (x ∷ xs) ys h = or_right (x == k) (is_in k (xs ++ ys)) (in-back k xs ys h)
 
 pub in-flat : (xss : List (List ℕ)) (j c : ℕ) → j < length xss → c < length (row xss j) → is_in (get_or (row xss j) c 0) (flat xss) ≡ true
 in-flat [] j c lj lc = absurd (omega (arith, lj))
@@ -72,7 +56,7 @@ in-flat (xs ∷ xss) (suc j) c lj lc = in-back (get_or (row xss j) c 0) xs (flat
 -- a fact of all members, of one of them
 of-member : (P : ℕ → Type 0) (k : ℕ) (xs : List ℕ) → AllByRecursion P xs → is_in k xs ≡ true → P k
 of-member P k [] a h = absurd cc
-of-member P k (x ∷ xs) a h = elim (or-cases (x == k) (is_in k xs) h) [ inl e ↦ subst P (eqb-true x k e) a.0 | inr t ↦ of-member P k xs a.1 t ]
+of-member P k (x ∷ xs) a h = elim (or_cases (x == k) (is_in k xs) h) [ inl e ↦ subst P (eqb-true x k e) a.0 | inr t ↦ of-member P k xs a.1 t ]
 
 some-member : (k : ℕ) (xs : List ℕ) → is_in k xs ≡ true → has_any xs ≡ true
 some-member k [] h = cc
@@ -117,7 +101,7 @@ module _ (nodes : List Node) (saves : List ℕ) (ex : IsExpression nodes) (insid
 -- a key that is needed for some of these is no larger than they
 pub needed-small : (deps : ℕ → List ℕ) → IsEarlier deps → (count : ℕ) (wanted : List ℕ) (b : ℕ) → AllByRecursion (λ k. k < count) wanted → needed deps wanted b ≡ true → b < count
 needed-small deps earlier count [] b a h = absurd cc
-needed-small deps earlier count (k ∷ ks) b a h = elim (or-cases (cone deps k b) (needed deps ks b) h) [
+needed-small deps earlier count (k ∷ ks) b a h = elim (or_cases (cone deps k b) (needed deps ks b) h) [
   | inl e ↦ omega (arith, a.0, cone-below deps earlier k b e)
   | inr e ↦ needed-small deps earlier count ks b a.1 e
 ]

@@ -6,7 +6,7 @@ use Rattle.std.specs.List.{flat_map}
 use Rattle.std.specs.Simd.{first_chunks}
 use Rattle.std.proofs.lemmas.Int.{of_z-to_z, to_z-of_z}
 use Rattle.std.proofs.lemmas.List.{map-append, take_all, take_more, take-append-drop}
-use Rattle.std.proofs.lemmas.List.Elements.{All-append}
+use Rattle.std.proofs.lemmas.List.Elements.{All-append, All-tail}
 use Rattle.std.proofs.lemmas.List.Folds.{flat_map-map}
 use Rattle.std.proofs.lemmas.Nat.{from_le_bytes-to_le_bytes_8, le_bytes_8}
 use Rattle.std.proofs.Math.Facts.{Fits-of_z}
@@ -29,9 +29,6 @@ bytes-cell bytes n z long each fits is turned =
     let u : cast_unsigned w64 z ≡ n = ap (cast_unsigned w64) turned ∙ of_z-to_z w64 n fits in
     ap (λ m. to_le_bytes w64 (cast_unsigned w64 (cast_signed w64 m))) u ∙ ap (to_le_bytes w64) (of_z-to_z w64 n fits) ∙ le_bytes_8 bytes n long each is
 
-tail_fits : (z : ℤ) (zs : List ℤ) → All (FitsSigned w64) (z ∷ zs) → All (FitsSigned w64) zs
-tail_fits z zs fits = λ k d h. fits (suc k) d (omega arith)
-
 pub length-bytes : (zs : List ℤ) → length (flat_map cell_bytes zs) ≡ 8 * length zs
 length-bytes [] = refl
 length-bytes (z ∷ zs) = let r = length-bytes zs in let e : length (cell_bytes z) ≡ 8 = refl in omega (arith, r, length-append (cell_bytes z) (flat_map cell_bytes zs), e)
@@ -43,7 +40,7 @@ same_cells [] (y ∷ ys) f g e = absurd (omega (arith, ap length e, length-bytes
 same_cells (x ∷ xs) [] f g e = absurd (omega (arith, ap length e, length-bytes (x ∷ xs)))
 same_cells (x ∷ xs) (y ∷ ys) f g e =
     let first : x ≡ y = sym (cell-bytes x (f 0 x (omega arith))) ∙ ap (λ bs. cell (take 8 bs)) e ∙ cell-bytes y (g 0 y (omega arith)) in
-    ap₂ (λ z zs. z ∷ zs) first (same_cells xs ys (tail_fits x xs f) (tail_fits y ys g) (ap (drop 8) e))
+    ap₂ (λ z zs. z ∷ zs) first (same_cells xs ys (All-tail (FitsSigned w64) x xs f) (All-tail (FitsSigned w64) y ys g) (ap (drop 8) e))
 
 pub size_is : (a : Array) → IsBlock a → length (block_bytes a) ≡ size_of_block a
 size_is a whole = length-bytes a.cells ∙ ap (λ n. 8 * n) whole.count

@@ -4,6 +4,7 @@ use Rattle.std.specs.Prelude.{All, FitsSigned, IfSome, IsTrue, nat_eq}
 use Rattle.std.specs.Int.{w64}
 use Rattle.std.specs.Map.{lookup}
 use Rattle.std.proofs.lemmas.Bool.{eqb-true}
+use Rattle.small_facts.proofs.Options.{if_some_weaker}
 use Rattle.sha2.specs.Sha512.{sha512_256}
 use Rattle.nd_shape.specs.Block.{Array}
 use Rattle.io_edge.specs.Disk.{DiskView, Copies, HoldsAt, KeepsAll, KeepsOthers, ReadsAt}
@@ -17,10 +18,6 @@ use Rattle.spill_store.proofs.Tables.{over}
 
 -- ## What stays on the disk
 
-if_some : {X : Type 0} (P Q : X → Type 0) (o : Option X) → ((x : X) → P x → Q x) → IfSome o P → IfSome o Q
-if_some P Q None f h = tt
-if_some P Q (Some x) f h = f x h
-
 still_held : (v w : DiskView) (k : ℕ) (bytes : List ℕ) → w.tells ≡ v.tells → w.held k ≡ v.held k → HoldsAt v k bytes → HoldsAt w k bytes
 still_held v w k bytes tells same h = λ t. same ∙ h (subst IsTrue tells t)
 
@@ -29,19 +26,19 @@ there_with v w key a ws vs there c tells holds others = record { told = λ k. su
   where
     by_key : (k : ℕ) (t : Bool) → nat_eq key k ≡ t → IfSome (cond t (Some a) (lookup (nat_eq k) ws)) (λ b. HoldsAt w k (block_bytes b))
     by_key k true e = subst (λ j. HoldsAt w j (block_bytes a)) (eqb-true key k e) holds
-    by_key k false e = if_some (λ b. HoldsAt v k (block_bytes b)) (λ b. HoldsAt w k (block_bytes b)) (lookup (nat_eq k) ws) (λ b. still_held v w k (block_bytes b) tells (others.each k e)) (there.told k)
+    by_key k false e = if_some_weaker (λ b. HoldsAt v k (block_bytes b)) (λ b. HoldsAt w k (block_bytes b)) (lookup (nat_eq k) ws) (λ b. still_held v w k (block_bytes b) tells (others.each k e)) (there.told k)
 
 pub there_without : (v w : DiskView) (key : ℕ) (ws vs : List (ℕ × Array)) → AreThere v ws → ChangesAt key None ws vs → w.tells ≡ v.tells → KeepsOthers key v w → AreThere w vs
 there_without v w key ws vs there c tells others = record { told = λ k. subst (λ o. IfSome o (λ b. HoldsAt w k (block_bytes b))) (sym (c.each k)) (by_key k (nat_eq key k) refl) }
   where
     by_key : (k : ℕ) (t : Bool) → nat_eq key k ≡ t → IfSome (cond t None (lookup (nat_eq k) ws)) (λ b. HoldsAt w k (block_bytes b))
     by_key k true e = tt
-    by_key k false e = if_some (λ b. HoldsAt v k (block_bytes b)) (λ b. HoldsAt w k (block_bytes b)) (lookup (nat_eq k) ws) (λ b. still_held v w k (block_bytes b) tells (others.each k e)) (there.told k)
+    by_key k false e = if_some_weaker (λ b. HoldsAt v k (block_bytes b)) (λ b. HoldsAt w k (block_bytes b)) (lookup (nat_eq k) ws) (λ b. still_held v w k (block_bytes b) tells (others.each k e)) (there.told k)
 
 pub still_there : (v w : DiskView) (ws : List (ℕ × Array)) → AreThere v ws → w.tells ≡ v.tells → KeepsAll v w → AreThere w ws
 still_there v w ws there tells all = record {
   told = λ k.
-      if_some (λ b. HoldsAt v k (block_bytes b)) (λ b. HoldsAt w k (block_bytes b)) (lookup (nat_eq k) ws) (λ b. still_held v w k (block_bytes b) tells (all.each k)) (there.told k);
+      if_some_weaker (λ b. HoldsAt v k (block_bytes b)) (λ b. HoldsAt w k (block_bytes b)) (lookup (nat_eq k) ws) (λ b. still_held v w k (block_bytes b) tells (all.each k)) (there.told k);
 }
 
 pub nothing_there : (v : DiskView) → AreThere v []

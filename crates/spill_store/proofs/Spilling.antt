@@ -2,6 +2,7 @@
 use Rattle.std.proofs.Common.{◌≡◌, ℕ, zero, suc, ◌+◌, ◌≤◌, ◌<◌, Bool, true, false, cond, List, [], ◌∷◌, ◌++◌, length, take, Option, Some, None, refl, sym, ap, subst, ◌∙◌, arith, append_assoc, append-nil}
 use Rattle.std.specs.Prelude.{is_some, nat_eq}
 use Rattle.std.specs.Map.{lookup}
+use Rattle.std.proofs.Math.Numerals.{add-one}
 use Rattle.io_edge.specs.Disk.{DiskView}
 use Rattle.io_edge.specs.View.{raised}
 use Rattle.io_edge.proofs.OpeningLaws.{raised_again, raised_zero}
@@ -83,14 +84,11 @@ module _ {D : Type 0} (view : D → DiskView) where
     few = λ h. subst (λ n. n < 8) so.same step.few;
     same = step.same ∙ so.same;
     taken = takes_another e so.gone s t u so.taken step.taken;
-    times = step.times ∙ ap (λ n. raised n 1) so.times ∙ raised_again s.times (length so.gone) 1 ∙ ap (raised s.times) (one_more (length so.gone));
+    times = step.times ∙ ap (λ n. raised n 1) so.times ∙ raised_again s.times (length so.gone) 1 ∙ ap (raised s.times) (add-one (length so.gone));
   }
     where
       e : ℕ × InMemory
       e = (step.key, step.held)
-
-      one_more : (n : ℕ) → n + 1 ≡ suc n
-      one_more n = omega arith
 
       each : (n : ℕ) → n < length (e ∷ so.gone) → IsCrowded u.limit (u.memory ++ take (suc n) (e ∷ so.gone))
       each zero h = subst (λ ms. IsCrowded u.limit ms) step.order (subst (λ l. IsCrowded l t.memory) limit crowded)

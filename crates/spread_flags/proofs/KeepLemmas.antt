@@ -1,9 +1,12 @@
 -- What is kept over one change.
 use Rattle.std.proofs.Common.{◌≡◌, ℕ, ◌+◌, ◌<◌, ◌≤◌, ◌^◌, Bool, true, false, not, cond, ◌&&◌, ◌||◌, List, [], ◌∷◌, refl, sym, ap, ◌∙◌, arith, length, ltb, Option, Some, None, ⊎_elim}
 use Rattle.std.specs.List.{AllByRecursion}
-use Rattle.std.proofs.lemmas.Bool.{false≢true, eqb-true, cases_lt}
+use Rattle.std.proofs.lemmas.Bool.{false≢true, eqb-true, cases_lt, or_parts}
 use Rattle.std.proofs.lemmas.Bool.Decides.{nat_tests}
 use Rattle.std.proofs.Math.Dec.{eqb}
+use Rattle.std.proofs.Math.Bool.{and-false, or-false}
+use Rattle.small_facts.proofs.Numbers.{below_or_unequal, unequal_past}
+use Rattle.small_facts.proofs.Truth.{cond_same}
 use mathlib.Core.Bool.{beq}
 use Rattle.fact_rows.specs.Rows.{read}
 use Rattle.cluster_rules.specs.Functions.{put, count}
@@ -58,23 +61,15 @@ kept-new s linked sl gl fl cl sr cr seeds flags counts stale changed = record {
   stale = λ k m. stale k;
   changed = λ k m. changed k;
   counted = λ k. counts k ∙ sym (none (below (size s)) k);
-  fresh = λ k m e. flags k ∙ sym (ap (λ b. gate s k && (b || ltb 0 (leaders s k))) (seeds k) ∙ ap (λ n. gate s k && ltb 0 n) (counts k) ∙ and_false (gate s k));
+  fresh = λ k m e. flags k ∙ sym (ap (λ b. gate s k && (b || ltb 0 (leaders s k))) (seeds k) ∙ ap (λ n. gate s k && ltb 0 n) (counts k) ∙ and-false (gate s k));
 }
   where
-    and_false : (b : Bool) → (b && false) ≡ false
-    and_false true = refl
-    and_false false = refl
-
     none : (xs : List ℕ) (k : ℕ) → count (λ j. is_in k (targets s j) && flag s j) xs ≡ 0
     none [] k = refl
     none (x ∷ xs) k =
         let rest : count (λ j. is_in k (targets s j) && flag s j) xs ≡ 0 = none xs k in
-        let first : ◌≡◌ {A = ℕ} (cond (is_in k (targets s x) && flag s x) 1 0) 0 = ap (λ b. cond (is_in k (targets s x) && b) 1 0) (flags x) ∙ ap (λ b. cond b 1 0) (and_false (is_in k (targets s x))) in
+        let first : ◌≡◌ {A = ℕ} (cond (is_in k (targets s x) && flag s x) 1 0) 0 = ap (λ b. cond (is_in k (targets s x) && b) 1 0) (flags x) ∙ ap (λ b. cond b 1 0) (and-false (is_in k (targets s x))) in
         omega (arith, rest, first)
-
-split_or : (a b : Bool) → (a || b) ≡ false → (a ≡ false) × (b ≡ false)
-split_or true b e = absurd (false≢true (sym e))
-split_or false b e = (refl, e)
 
 -- the flag of a key is another
 pub kept-turned : (s : Spread) (key : ℕ) (to : Bool) (flags : List Bool) (counts stale stale_two changed : List ℕ) → IsKept s → key < size s
@@ -94,23 +89,12 @@ kept-turned s key to flags counts stale stale_two changed h l d f fl fn st sn mk
   count_row = cl ∙ h.count_row;
   stale_room = omega (arith, h.stale_room, sn, mn);
   changed_room = omega (arith, h.changed_room, cn);
-  stale = λ k m. mk k ∙ ap (λ b. has stale k || b) (away k m) ∙ or_false (has stale k) ∙ st k ∙ ap (cond (eqb k key) false) (h.stale k m) ∙ both (eqb k key);
-  changed = λ k m. ch k ∙ ap (λ b. cond b (not (has s.changed k)) (has s.changed k)) (apart k key l m) ∙ h.changed k m;
+  stale = λ k m. mk k ∙ ap (λ b. has stale k || b) (away k m) ∙ or-false (has stale k) ∙ st k ∙ ap (cond (eqb k key) false) (h.stale k m) ∙ cond_same (eqb k key) false;
+  changed = λ k m. ch k ∙ ap (λ b. cond b (not (has s.changed k)) (has s.changed k)) (unequal_past k key (size s) l m) ∙ h.changed k m;
   counted = counted_again;
   fresh = fresh_again;
 }
   where
-    or_false : (b : Bool) → (b || false) ≡ b
-    or_false true = refl
-    or_false false = refl
-
-    both : (b : Bool) → cond b false false ≡ false
-    both true = refl
-    both false = refl
-
-    apart : (k key : ℕ) → key < size s → size s ≤ k → eqb k key ≡ false
-    apart k key a b = grind (arith, nat_tests)
-
     flag_at : (j : ℕ) → read flags false j ≡ cond (eqb j key) to (flag s j)
     flag_at j = ap (λ g. g j) fl
 
@@ -126,7 +110,7 @@ kept-turned s key to flags counts stale stale_two changed h l d f fl fn st sn mk
 
     fresh_again : (k : ℕ) → k < size s → has stale_two k ≡ false → read flags false k ≡ (gate s k && (seed s k || ltb 0 (read counts 0 k)))
     fresh_again k m e =
-        let p = split_or (has stale k) (is_in k (targets s key)) (sym (mk k) ∙ e) in
+        let p = or_parts (has stale k) (is_in k (targets s key)) (sym (mk k) ∙ e) in
         let same : read counts 0 k ≡ read s.counts 0 k = alike (read counts 0 k) (read s.counts 0 k) (is_in k (targets s key)) p.1 (ct k) in
         flag_at k ∙ pick (eqb k key) refl p.0 ∙ ap (λ n. gate s k && (seed s k || ltb 0 n)) (sym same)
       where
@@ -150,16 +134,12 @@ kept-looked s key stale h l d st sn = record {
   count_row = h.count_row;
   stale_room = omega (arith, h.stale_room, sn);
   changed_room = h.changed_room;
-  stale = λ k m. st k ∙ ap (cond (eqb k key) false) (h.stale k m) ∙ both (eqb k key);
+  stale = λ k m. st k ∙ ap (cond (eqb k key) false) (h.stale k m) ∙ cond_same (eqb k key) false;
   changed = h.changed;
   counted = h.counted;
   fresh = λ k m e. pick k m (eqb k key) refl (sym (st k) ∙ e);
 }
   where
-    both : (b : Bool) → cond b false false ≡ false
-    both true = refl
-    both false = refl
-
     pick : (k : ℕ) → k < size s → (b : Bool) → eqb k key ≡ b → cond b false (has s.stale k) ≡ false → flag s k ≡ due s k
     pick k m true q r = ap (flag s) (eqb-true k key q) ∙ d ∙ ap (due s) (sym (eqb-true k key q))
     pick k m false q r = h.fresh k m r
@@ -195,15 +175,12 @@ kept-told s key seeds gates stale h l sl gl se ge st sn = record {
   count_row = h.count_row;
   stale_room = omega (arith, h.stale_room, sn);
   changed_room = h.changed_room;
-  stale = λ k m. st k ∙ ap (λ b. cond b true (has s.stale k)) (apart k key l m) ∙ h.stale k m;
+  stale = λ k m. st k ∙ ap (λ b. cond b true (has s.stale k)) (unequal_past k key (size s) l m) ∙ h.stale k m;
   changed = h.changed;
   counted = h.counted;
   fresh = λ k m e. pick k m (eqb k key) refl (sym (st k) ∙ e);
 }
   where
-    apart : (k key : ℕ) → key < size s → size s ≤ k → eqb k key ≡ false
-    apart k key a b = grind (arith, nat_tests)
-
     pick : (k : ℕ) → k < size s → (b : Bool) → eqb k key ≡ b → cond b true (has s.stale k) ≡ false → flag s k ≡ (read gates false k && (read seeds false k || ltb 0 (leaders s k)))
     pick k m true q r = absurd (false≢true (sym r))
     pick k m false q r = h.fresh k m r ∙ ap (λ g. g && (seed s k || ltb 0 (leaders s k))) (sym (ge k q)) ∙ ap (λ b. read gates false k && (b || ltb 0 (leaders s k))) (sym (se k q))
@@ -229,12 +206,9 @@ pub done_up : (s : Spread) (stale : List ℕ) (from key : ℕ) → IsFirst (has 
     → ((k : ℕ) → is_in k (targets s key) ≡ false → has stale k ≡ cond (eqb k key) false (has s.stale k)) → (k : ℕ) → k < key + 1 → has stale k ≡ false
 done_up s stale from key first done up st k l = st k (none_above k key (targets s key) up (omega arith)) ∙ pick (eqb k key) refl
   where
-    lower : (k key : ℕ) → k < key + 1 → eqb k key ≡ false → k < key
-    lower k key a e = grind (arith, nat_tests)
-
     pick : (b : Bool) → eqb k key ≡ b → cond b false (has s.stale k) ≡ false
     pick true e = refl
-    pick false e = ⊎_elim (λ m. done k m) (λ m. first.2 k m (lower k key l e)) (cases_lt k from)
+    pick false e = ⊎_elim (λ m. done k m) (λ m. first.2 k m (below_or_unequal k key l e)) (cases_lt k from)
 
 -- the same downwards
 pub done_down : (s : Spread) (stale : List ℕ) (below key : ℕ) → IsLast (has s.stale) below (Some key) → ((k : ℕ) → below ≤ k → has s.stale k ≡ false) → AllByRecursion (λ d. d < key) (targets s key)

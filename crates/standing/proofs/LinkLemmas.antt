@@ -4,25 +4,25 @@ use Rattle.std.specs.List.{AllByRecursion}
 use Rattle.std.specs.List.Sorted.{IsStrictlyIncreasing}
 use Rattle.std.proofs.lemmas.List.{get_or_past, take_more, length_push}
 use Rattle.std.proofs.lemmas.List.Kept.{AllPairs-from_increasing}
-use Rattle.std.proofs.lemmas.Bool.{eqb-true, cases_lt, false≢true}
+use Rattle.std.proofs.lemmas.Bool.{eqb-true, cases_lt, false≢true, lt-ltb}
 use Rattle.std.proofs.lemmas.Bool.Decides.{nat_tests}
 use Rattle.std.proofs.lemmas.Grind.{elements}
 use Rattle.std.proofs.Math.Dec.{eqb}
+use Rattle.std.proofs.Math.Bool.{or-true, or-false}
+use Rattle.small_facts.proofs.Every.{all_below_weaker, all_push}
+use Rattle.small_facts.proofs.Lists.{any_push}
+use Rattle.small_facts.proofs.Numbers.{none_below_zero, eqb_turned}
 use Rattle.cluster_msgs.specs.Shape.{Shape, IsShape, key_count, deps_of}
 use Rattle.cluster_rules.specs.Derived.{is_in}
-use Rattle.cluster_rules.proofs.DerivedLemmas.{eqb_comm, none_in}
+use Rattle.cluster_rules.proofs.DerivedLemmas.{none_in}
 use Rattle.spread_flags.specs.Spread.{IsLinked}
-use Rattle.spread_flags.proofs.CountLemmas.{any_push, none_before, rec_at}
+use Rattle.spread_flags.proofs.CountLemmas.{none_before, rec_at}
 use Rattle.standing.specs.Links.{IsReverse, IsReverseBelow, linked_to}
-
-weaken : (k n : ℕ) (xs : List ℕ) → k ≤ n → AllByRecursion (λ d. d < k) xs → AllByRecursion (λ d. d < n) xs
-weaken k n [] l h = tt
-weaken k n (x ∷ xs) l h = (omega (arith, h.0), weaken k n xs l h.1)
 
 pub shape-linked : (g : Shape) → IsShape g → IsLinked g.deps
 shape-linked g s = record {
   few = s.few;
-  within = λ k. ⊎_elim (λ l. weaken k (length g.deps) (deps_of g k) (omega arith) (s.below k)) (λ l. subst (λ (xs : List ℕ). AllByRecursion (λ d. d < length g.deps) xs) (sym (get_or_past g.deps k [] l)) tt) (cases_lt k (length g.deps));
+  within = λ k. ⊎_elim (λ l. all_below_weaker k (length g.deps) (deps_of g k) (omega arith) (s.below k)) (λ l. subst (λ (xs : List ℕ). AllByRecursion (λ d. d < length g.deps) xs) (sym (get_or_past g.deps k [] l)) tt) (cases_lt k (length g.deps));
   rising = s.rising;
 }
 
@@ -37,33 +37,18 @@ added_more before old new xs i x key v up l at low was val now j =
     ap (λ ls. linked_to ls j) now ∙ set_there old x j v low ∙ pick (eqb j x) refl ∙ ap (λ b. cond b (linked_to before j ++ key ∷ []) (linked_to before j)) (sym taken)
   where
     taken : is_in j (take (i + 1) xs) ≡ (is_in j (take i xs) || eqb j x)
-    taken = ap (is_in j) (take_more xs i 0 l) ∙ any_push (λ d. eqb d j) (take i xs) (get_or xs i 0) ∙ ap (λ y. is_in j (take i xs) || eqb y j) (sym at) ∙ ap (λ b. is_in j (take i xs) || b) (eqb_comm x j)
+    taken = ap (is_in j) (take_more xs i 0 l) ∙ any_push (λ d. eqb d j) (take i xs) (get_or xs i 0) ∙ ap (λ y. is_in j (take i xs) || eqb y j) (sym at) ∙ ap (λ b. is_in j (take i xs) || b) (eqb_turned x j)
 
     fresh : is_in x (take i xs) ≡ false
     fresh = ap (λ y. is_in y (take i xs)) at ∙ none_before xs (get_or xs i 0) i (λ m n. AllPairs-from_increasing xs up m i 0 n l) (omega arith)
 
-    or_true : (b : Bool) → (b || true) ≡ true
-    or_true true = refl
-    or_true false = refl
-
-    or_false : (b : Bool) → (b || false) ≡ b
-    or_false true = refl
-    or_false false = refl
-
     pick : (b : Bool) → eqb j x ≡ b → cond b v (linked_to old j) ≡ cond (is_in j (take i xs) || b) (linked_to before j ++ key ∷ []) (linked_to before j)
-    pick true e = val ∙ ap (λ ls. ls ++ key ∷ []) (was x ∙ ap (λ b. cond b (linked_to before x ++ key ∷ []) (linked_to before x)) fresh) ∙ ap (λ y. linked_to before y ++ key ∷ []) (sym (eqb-true j x e)) ∙ ap (λ b. cond b (linked_to before j ++ key ∷ []) (linked_to before j)) (sym (or_true (is_in j (take i xs))))
-    pick false e = was j ∙ ap (λ b. cond b (linked_to before j ++ key ∷ []) (linked_to before j)) (sym (or_false (is_in j (take i xs))))
-
-all_push : (P : ℕ → Type 0) (xs : List ℕ) (x : ℕ) → AllByRecursion P xs → P x → AllByRecursion P (xs ++ x ∷ [])
-all_push P [] x h p = (p, tt)
-all_push P (y ∷ xs) x h p = (h.0, all_push P xs x h.1 p)
+    pick true e = val ∙ ap (λ ls. ls ++ key ∷ []) (was x ∙ ap (λ b. cond b (linked_to before x ++ key ∷ []) (linked_to before x)) fresh) ∙ ap (λ y. linked_to before y ++ key ∷ []) (sym (eqb-true j x e)) ∙ ap (λ b. cond b (linked_to before j ++ key ∷ []) (linked_to before j)) (sym (or-true (is_in j (take i xs))))
+    pick false e = was j ∙ ap (λ b. cond b (linked_to before j ++ key ∷ []) (linked_to before j)) (sym (or-false (is_in j (take i xs))))
 
 rising_push : (xs : List ℕ) (x : ℕ) → IsStrictlyIncreasing xs → ((i d : ℕ) → i < length xs → get_or xs i d < x) → IsStrictlyIncreasing (xs ++ x ∷ [])
 rising_push xs x up low k l = ⊎_elim (λ m. inner m) (λ m. outer m) (cases_lt (k + 1) (length xs))
   where
-    long : length (xs ++ x ∷ []) ≡ length xs + 1
-    long = length_push xs x
-
     first : (i : ℕ) → i < length xs → get_or (xs ++ x ∷ []) i 0 ≡ get_or xs i 0
     first i m = grind (arith, elements)
 
@@ -74,20 +59,17 @@ rising_push xs x up low k l = ⊎_elim (λ m. inner m) (λ m. outer m) (cases_lt
     inner m = let u = up k m in omega (arith, u, first k (omega arith), first (k + 1) m)
 
     outer : length xs ≤ k + 1 → get_or (xs ++ x ∷ []) k 0 < get_or (xs ++ x ∷ []) (k + 1) 0
-    outer m = let u = low k 0 (omega (arith, long)) in omega (arith, u, first k (omega (arith, long)), last (k + 1) (omega (arith, long)))
+    outer m = let u = low k 0 (omega (arith, length_push xs x)) in omega (arith, u, first k (omega (arith, length_push xs x)), last (k + 1) (omega (arith, length_push xs x)))
 
 -- no dependent yet
 pub reverse-none : (g : Shape) (links : List (List ℕ)) → length links ≡ key_count g → ((j : ℕ) → linked_to links j ≡ []) → IsReverseBelow g links 0
 reverse-none g links long empty = record {
   same = long;
-  each = λ j k l m. ap (is_in k) (empty j) ∙ ap (λ b. b && is_in j (deps_of g k)) (sym (nothing k));
+  each = λ j k l m. ap (is_in k) (empty j) ∙ ap (λ b. b && is_in j (deps_of g k)) (sym (none_below_zero k));
   above = λ k. subst (λ (xs : List ℕ). AllByRecursion (λ d. k < d) xs) (sym (empty k)) tt;
   low = λ k. subst (λ (xs : List ℕ). AllByRecursion (λ d. d < 0) xs) (sym (empty k)) tt;
   rising = λ k. subst (λ (xs : List ℕ). IsStrictlyIncreasing xs) (sym (empty k)) (λ i l. absurd (omega arith));
 }
-  where
-    nothing : (k : ℕ) → ltb k 0 ≡ false
-    nothing k = grind (arith, nat_tests)
 
 -- one more key's dependencies
 pub reverse-more : (g : Shape) (old new : List (List ℕ)) (n : ℕ) → IsShape g → n < key_count g → IsReverseBelow g old n → length new ≡ length old
@@ -101,8 +83,8 @@ reverse-more g old new n s l h long now = record {
 }
   where
     lower : (b : Bool) (k : ℕ) → AllByRecursion (λ d. d < n + 1) (cond b (linked_to old k ++ n ∷ []) (linked_to old k))
-    lower true k = all_push (λ d. d < n + 1) (linked_to old k) n (weaken n (n + 1) (linked_to old k) (omega arith) (h.low k)) (omega arith)
-    lower false k = weaken n (n + 1) (linked_to old k) (omega arith) (h.low k)
+    lower true k = all_push (λ d. d < n + 1) (linked_to old k) n (all_below_weaker n (n + 1) (linked_to old k) (omega arith) (h.low k)) (omega arith)
+    lower false k = all_below_weaker n (n + 1) (linked_to old k) (omega arith) (h.low k)
 
     rising : (b : Bool) (k : ℕ) → IsStrictlyIncreasing (cond b (linked_to old k ++ n ∷ []) (linked_to old k))
     rising true k = rising_push (linked_to old k) n (h.rising k) (λ i d m. rec_at (λ y. y < n) (linked_to old k) (h.low k) i d m)
@@ -153,16 +135,13 @@ reverse-more g old new n s l h long now = record {
 pub reverse-all : (g : Shape) (links : List (List ℕ)) (n : ℕ) → IsShape g → n ≡ key_count g → IsReverseBelow g links n → IsReverse g links
 reverse-all g links n s e h = record {
   same = h.same;
-  each = λ j k a b. h.each j k a b ∙ ap (λ c. c && is_in j (deps_of g k)) (there k n (omega (arith, e)));
+  each = λ j k a b. h.each j k a b ∙ ap (λ c. c && is_in j (deps_of g k)) (lt-ltb k n (omega (arith, e)));
   above = h.above;
 }
-  where
-    there : (k n : ℕ) → k < n → ltb k n ≡ true
-    there k n l = grind (arith, nat_tests)
 
 pub reverse-linked : (g : Shape) (links : List (List ℕ)) (n : ℕ) → IsShape g → n ≡ key_count g → IsReverseBelow g links n → IsLinked links
 reverse-linked g links n s e h = record {
   few = omega (arith, h.same, s.few);
-  within = λ k. weaken n (length links) (linked_to links k) (omega (arith, e, h.same)) (h.low k);
+  within = λ k. all_below_weaker n (length links) (linked_to links k) (omega (arith, e, h.same)) (h.low k);
   rising = h.rising;
 }

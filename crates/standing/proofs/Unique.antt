@@ -4,32 +4,26 @@ use Rattle.std.specs.List.{list_any, list_all, range_with_len, AllByRecursion}
 use Rattle.std.proofs.lemmas.Bool.{or_cases, eqb-true, true≢false}
 use Rattle.std.proofs.lemmas.Bool.Decides.{nat_tests}
 use Rattle.std.proofs.Math.Dec.{eqb}
+use Rattle.std.proofs.Math.Bool.{or-false, and_comm, and-true}
+use Rattle.small_facts.proofs.Numbers.{unequal_below}
+use Rattle.small_facts.proofs.Truth.{and_where_true}
 use Rattle.cluster_rules.specs.Functions.{count}
 use Rattle.cluster_rules.specs.Derived.{IsBelow, below, is_in}
 use Rattle.cluster_rules.specs.Sched.{Facts, IsSound, keys, deps, held, wanted, known, need, erred, open_key, waiters, fed, ready}
-use Rattle.cluster_rules.proofs.DerivedLemmas.{list_any-agree, All_below, any_none}
+use Rattle.cluster_rules.proofs.DerivedLemmas.{list_any-agree, All_below, any_none, in_below}
 use Rattle.cluster_rules.proofs.SchedLemmas.{known-is, need-is, erred-is}
 use Rattle.spread_flags.specs.Spread.{IsSpread, led_to}
 use Rattle.spread_flags.proofs.CountLemmas.{any-count}
 use Rattle.standing.specs.Links.{IsReverse, linked_to}
-
-in_below : (k j : ℕ) (xs : List ℕ) → AllByRecursion (λ d. d < j) xs → is_in k xs ≡ true → k < j
-in_below k j [] h e = absurd (true≢false (sym e))
-in_below k j (x ∷ xs) h e =
-    ⊎_elim (λ c. subst (λ y. y < j) (eqb-true x k c) h.0) (λ c. in_below k j xs h.1 c) (or_cases (eqb x k) (is_in k xs) e)
 
 in_above : (k j : ℕ) (xs : List ℕ) → AllByRecursion (λ d. j < d) xs → is_in k xs ≡ true → j < k
 in_above k j [] h e = absurd (true≢false (sym e))
 in_above k j (x ∷ xs) h e =
     ⊎_elim (λ c. subst (λ y. j < y) (eqb-true x k c) h.0) (λ c. in_above k j xs h.1 c) (or_cases (eqb x k) (is_in k xs) e)
 
-and_agree : (b x y : Bool) → (b ≡ true → x ≡ y) → (b && x) ≡ (b && y)
-and_agree true x y h = h refl
-and_agree false x y h = refl
-
 -- led to by flags that agree where they lead
 led-agree : (out : ℕ → List ℕ) (n : ℕ) (p q : ℕ → Bool) (k : ℕ) → ((j : ℕ) → j < n → is_in k (out j) ≡ true → p j ≡ q j) → led_to out n p k ≡ led_to out n q k
-led-agree out n p q k same = list_any-agree (λ j. is_in k (out j) && p j) (λ j. is_in k (out j) && q j) (below n) (All_below 0 n (λ j l m. and_agree (is_in k (out j)) (p j) (q j) (λ e. same j (omega arith) e)))
+led-agree out n p q k same = list_any-agree (λ j. is_in k (out j) && p j) (λ j. is_in k (out j) && q j) (below n) (All_below 0 n (λ j l m. and_where_true (is_in k (out j)) (p j) (q j) (λ e. same j (omega arith) e)))
 
 -- where links lead down
 pub unique_down : (out : ℕ → List ℕ) (n : ℕ) (seeds gates p q : ℕ → Bool) → IsBelow out → IsSpread out n seeds gates p → IsSpread out n seeds gates q → (k : ℕ) → k < n → p k ≡ q k
@@ -63,20 +57,13 @@ any_one : (p : ℕ → Bool) (a n x : ℕ) → a ≤ x → x < a + n → list_an
 any_one p a zero x l m = absurd (omega arith)
 any_one p a (suc n) x l m = pick (eqb x a) refl (λ i. any_one p (a + 1) n x i (omega arith))
   where
-    apart : (x j : ℕ) → x < j → eqb x j ≡ false
-    apart x j h = grind (arith, nat_tests)
-
     next : (x a : ℕ) → a ≤ x → eqb x a ≡ false → a + 1 ≤ x
     next x a h e = grind (arith, nat_tests)
-
-    or_false : (b : Bool) → (b || false) ≡ b
-    or_false true = refl
-    or_false false = refl
 
     pick : (b : Bool) → eqb x a ≡ b → (a + 1 ≤ x → list_any (λ j. eqb x j && p j) (range_with_len (a + 1) n) ≡ p x) → ((b && p a) || list_any (λ j. eqb x j && p j) (range_with_len (a + 1) n)) ≡ p x
     pick true e rest =
         let same : x ≡ a = eqb-true x a e in
-        ap (λ b. p a || b) (any_none (λ j. eqb x j && p j) (range_with_len (a + 1) n) (All_below (a + 1) n (λ j i o. ap (λ b. b && p j) (apart x j (omega arith))))) ∙ or_false (p a) ∙ ap p (sym same)
+        ap (λ b. p a || b) (any_none (λ j. eqb x j && p j) (range_with_len (a + 1) n) (All_below (a + 1) n (λ j i o. ap (λ b. b && p j) (unequal_below x j (omega arith))))) ∙ or-false (p a) ∙ ap p (sym same)
     pick false e rest = rest (next x a l e)
 
 any_or : (p q : ℕ → Bool) (xs : List ℕ) → list_any (λ j. p j || q j) xs ≡ (list_any p xs || list_any q xs)
@@ -123,27 +110,15 @@ count-agree p q (x ∷ xs) h =
 
 pub waiters-counted : (f : Facts) (p : ℕ → Bool) (k : ℕ) → ((j : ℕ) → j < keys f → p j ≡ (open_key f j && need f j)) → count (λ j. is_in k (deps f j) && p j) (below (keys f)) ≡ waiters f k
 unfolding waiters
-waiters-counted f p k same = count-agree (λ j. is_in k (deps f j) && p j) (λ j. is_in k (deps f j) && (need f j && open_key f j)) (below (keys f)) (All_below 0 (keys f) (λ j l m. ap (λ b. is_in k (deps f j) && b) (same j (omega arith) ∙ swap (open_key f j) (need f j))))
-  where
-    swap : (a b : Bool) → (a && b) ≡ (b && a)
-    swap true true = refl
-    swap true false = refl
-    swap false true = refl
-    swap false false = refl
+waiters-counted f p k same = count-agree (λ j. is_in k (deps f j) && p j) (λ j. is_in k (deps f j) && (need f j && open_key f j)) (below (keys f)) (All_below 0 (keys f) (λ j l m. ap (λ b. is_in k (deps f j) && b) (same j (omega arith) ∙ and_comm (open_key f j) (need f j))))
 
 -- a key is needed where it is wanted or some dependent waits for it
 pub need-waited : (f : Facts) → IsSound f → (k : ℕ) → (wanted f k || ltb 0 (waiters f k)) ≡ need f k
 unfolding waiters
 need-waited f s k =
     ap (λ b. wanted f k || b) (sym (any-count (λ j. is_in k (deps f j) && (need f j && open_key f j)) (below (keys f)))
-    ∙ list_any-agree (λ j. is_in k (deps f j) && (need f j && open_key f j)) (λ j. is_in k (deps f j) && (open_key f j && need f j)) (below (keys f)) (All_below 0 (keys f) (λ j l m. ap (λ b. is_in k (deps f j) && b) (swap (need f j) (open_key f j)))))
+    ∙ list_any-agree (λ j. is_in k (deps f j) && (need f j && open_key f j)) (λ j. is_in k (deps f j) && (open_key f j && need f j)) (below (keys f)) (All_below 0 (keys f) (λ j l m. ap (λ b. is_in k (deps f j) && b) (and_comm (need f j) (open_key f j)))))
     ∙ sym (need-is f s k)
-  where
-    swap : (a b : Bool) → (a && b) ≡ (b && a)
-    swap true true = refl
-    swap true false = refl
-    swap false true = refl
-    swap false false = refl
 
 -- not all are held where some are not
 not_all : (p : ℕ → Bool) (xs : List ℕ) → list_any (λ d. not (p d)) xs ≡ not (list_all p xs)
@@ -156,11 +131,7 @@ not_all p (x ∷ xs) = ap (λ b. not (p x) || b) (not_all p xs) ∙ pick (p x) (
 
 -- what is not held, as flags that spread no further
 pub missing-flags : (out : ℕ → List ℕ) (n : ℕ) (s g p h : ℕ → Bool) → ((k : ℕ) → k < n → s k ≡ true) → ((k : ℕ) → k < n → g k ≡ h k) → IsSpread out n s g p → (k : ℕ) → k < n → p k ≡ h k
-missing-flags out n s g p h e f spread k l = spread k l ∙ ap (λ b. g k && (b || led_to out n p k)) (e k l) ∙ and_true (g k) ∙ f k l
-  where
-    and_true : (b : Bool) → (b && true) ≡ b
-    and_true true = refl
-    and_true false = refl
+missing-flags out n s g p h e f spread k l = spread k l ∙ ap (λ b. g k && (b || led_to out n p k)) (e k l) ∙ and-true (g k) ∙ f k l
 
 pub fed-missing : (f : Facts) (links : List (List ℕ)) (p : ℕ → Bool) → IsSound f → IsReverse f.setting.shape links → ((j : ℕ) → j < keys f → p j ≡ not (held f j)) → (k : ℕ) → k < keys f
     → ltb 0 (count (λ j. is_in k (linked_to links j) && p j) (below (keys f))) ≡ not (fed f k)

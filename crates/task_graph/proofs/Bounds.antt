@@ -1,12 +1,13 @@
 -- A graph under new numbers keeps its bounds.
-use Rattle.std.proofs.Common.{◌≡◌, ◌≢◌, ℕ, zero, suc, ◌+◌, ◌<◌, ◌≤◌, ◌^◌, true, false, cond, List, [], ◌∷◌, length, map, take, get_or, refl, ap, sym, subst, ◌∙◌, arith, inl, inr}
+use Rattle.std.proofs.Common.{◌≡◌, ◌≢◌, ℕ, zero, suc, ◌+◌, ◌<◌, ◌≤◌, ◌^◌, false, cond, List, [], ◌∷◌, length, map, take, get_or, refl, ap, sym, subst, ◌∙◌, arith, inl, inr}
 use Rattle.std.specs.Prelude.{eqb}
 use Rattle.std.specs.List.{AllByRecursion, IsDistinct}
 use Rattle.std.specs.List.Sorted.{IsStrictlyIncreasing}
 use Rattle.std.proofs.Math.ListN.{get_or-map}
-use Rattle.std.proofs.lemmas.Bool.{cases_eq, cases_lt}
+use Rattle.std.proofs.lemmas.Bool.{cases_eq, cases_lt, ne_eqb}
 use Rattle.std.proofs.lemmas.List.{length-map, get_or_past, take_more, take_all}
 use Rattle.std.proofs.lemmas.Map.Keys.{IsDistinct-head, IsDistinct-tail}
+use Rattle.small_facts.proofs.Numbers.{eqb_self, unequal_over}
 use Rattle.cluster_msgs.specs.Shape.{IsShape, total_length, edge_count, deps_of}
 use Rattle.cluster_msgs.proofs.ShapeLemmas.{total_length-append}
 use Rattle.task_graph.specs.declared.graph.Task.{Task}
@@ -36,10 +37,7 @@ without-other : (x : ℕ) (w : ℕ → ℕ) (k : ℕ) → eqb x k ≡ false → 
 without-other x w k h = ap (λ b. cond b 0 (w k)) h
 
 without-it : (x : ℕ) (w : ℕ → ℕ) → without x w x ≡ 0
-without-it x w = ap (λ b. cond b 0 (w x)) (same x)
-  where
-    same : (x : ℕ) → eqb x x ≡ true
-    same x = grind arith
+without-it x w = ap (λ b. cond b 0 (w x)) (eqb_self x)
 
 same-below : (v w : ℕ → ℕ) (n : ℕ) → ((k : ℕ) → k < n → v k ≡ w k) → sum_below v n ≡ sum_below w n
 same-below v w zero h = refl
@@ -49,21 +47,15 @@ one-less : (x : ℕ) (w : ℕ → ℕ) (n : ℕ) → x < n → sum_below w n ≡
 one-less x w zero lt = absurd (omega arith)
 one-less x w (suc n) lt = elim (cases_eq x n) [
   | inl e ↦
-      let a : sum_below w n ≡ sum_below (without x w) n = same-below w (without x w) n (λ k h. sym (without-other x w k (apart x k (omega arith)))) in
+      let a : sum_below w n ≡ sum_below (without x w) n = same-below w (without x w) n (λ k h. sym (without-other x w k (unequal_over x k (omega arith)))) in
       let b : without x w n ≡ 0 = subst (λ m. without x w m ≡ 0) e (without-it x w) in
       let c : w x ≡ w n = ap w e in
       omega arith
   | inr d ↦
       let a : sum_below w n ≡ sum_below (without x w) n + w x = one-less x w n (omega arith) in
-      let b : without x w n ≡ w n = without-other x w n (other x n d) in
+      let b : without x w n ≡ w n = without-other x w n (ne_eqb x n d) in
       omega arith
 ]
-  where
-    apart : (x k : ℕ) → k < x → eqb x k ≡ false
-    apart x k h = grind arith
-
-    other : (x k : ℕ) → x ≢ k → eqb x k ≡ false
-    other x k h = grind arith
 
 same-sums : (x : ℕ) (w : ℕ → ℕ) (xs : List ℕ) → AllByRecursion (λ y. eqb x y ≡ false) xs → sums w xs ≡ sums (without x w) xs
 same-sums x w [] a = refl
@@ -79,7 +71,7 @@ sums-within w n (x ∷ xs) a d =
 
 -- ---- dependencies
 
-with-length : (k : ℕ) (js : List ℕ) → length (with_key k js) ≤ suc (length js)
+pub with-length : (k : ℕ) (js : List ℕ) → length (with_key k js) ≤ suc (length js)
 with-length k [] = omega arith
 with-length k (j ∷ js) = elim (cases_lt k j) [
   | inl lt ↦ let e : with_key k (j ∷ js) ≡ k ∷ j ∷ js = less lt in let l : length (with_key k (j ∷ js)) ≡ suc (suc (length js)) = ap (λ (xs : List ℕ). length xs) e in omega arith

@@ -1,12 +1,15 @@
 -- Keys that are needed, by marks and as a numbering.
-use Rattle.std.proofs.Common.{◌≡◌, ℕ, zero, suc, ◌+◌, ◌<◌, ◌≤◌, Bool, true, false, ◌&&◌, ◌||◌, cond, List, [], ◌∷◌, ◌++◌, length, get_or, refl, ap, sym, subst, ◌∙◌, arith, inl, inr, ◌⊎◌, eq-eqb, ne_eqb}
+use Rattle.std.proofs.Common.{◌≡◌, ℕ, zero, suc, ◌+◌, ◌<◌, ◌≤◌, Bool, true, false, ◌&&◌, ◌||◌, cond, List, [], ◌∷◌, ◌++◌, length, get_or, refl, ap, sym, subst, ◌∙◌, arith, inl, inr, eq-eqb, ne_eqb}
 use Rattle.std.specs.Prelude.{nat_eq, Contains}
 use Rattle.std.specs.List.{AllByRecursion, filter, range_with_len}
-use Rattle.std.proofs.lemmas.Bool.{cases_eq, cases_lt}
+use Rattle.std.proofs.lemmas.Bool.{cases_eq, cases_lt, eqb-true, or_left, or_right, or_cases, and_parts, and_from}
 use Rattle.std.proofs.Math.ListN.{set}
 use Rattle.std.proofs.lemmas.List.{get_or-set_same, get_or-set_other, length-set}
 use Rattle.std.proofs.lemmas.List.{get_or_past, get_or_default}
 use Rattle.std.proofs.lemmas.List.Elements.{filter-append}
+use Rattle.small_facts.proofs.Every.{all_of_filter}
+use Rattle.small_facts.proofs.Ranges.{range_has, range_all_below}
+use Rattle.small_facts.proofs.Truth.{with_or_false, same_truth}
 use Rattle.cluster_msgs.specs.Dags.{IsEarlier}
 use Rattle.cluster_msgs.specs.Shape.{deps_of}
 use Rattle.cluster_msgs.specs.Values.{cone, needed}
@@ -19,67 +22,42 @@ use Rattle.task_graph.specs.Numberings.{AreBehind}
 use Rattle.task_graph.specs.Culls.{mark_at, AreMarked, IsMarked, AreNeeded, listed_if, marked_keys}
 use Rattle.task_graph.proofs.Keys.{contains-here, contains-later}
 use Rattle.task_graph.proofs.Numbered.{in-more}
-use Rattle.task_graph.proofs.Rising.{Rising, rising-at, range-rises, range-below, all-member}
+use Rattle.task_graph.proofs.Rising.{Rising, rising-at, range-rises, all-member}
 use Rattle.task_graph.proofs.Visits.{in-from}
+use Rattle.task_graph.proofs.Edges.{range-ends}
 
 -- ---- tests
-
-or-left : (a b : Bool) → a ≡ true → (a || b) ≡ true
-or-left a b h = ap (λ x. x || b) h
-
-or-right : (a b : Bool) → b ≡ true → (a || b) ≡ true
-or-right true b h = refl
-or-right false b h = h
-
-either : (a b : Bool) → (a || b) ≡ true → (a ≡ true) ⊎ (b ≡ true)
-either true b h = inl refl
-either false b h = inr h
-
-both : (a b : Bool) → (a && b) ≡ true → (a ≡ true) × (b ≡ true)
-both true b h = (refl, h)
-both false b h = absurd cc
-
-and-both : (a b : Bool) → a ≡ true → b ≡ true → (a && b) ≡ true
-and-both a b h k = ap (λ x. x && b) h ∙ k
-
-same-tests : (a b : Bool) → (a ≡ true → b ≡ true) → (b ≡ true → a ≡ true) → a ≡ b
-same-tests true b f g = sym (f refl)
-same-tests false true f g = g refl
-same-tests false false f g = refl
 
 pub in-to : (xs : List ℕ) (k : ℕ) → Contains xs k → is_in xs k ≡ true
 in-to [] k c = absurd (omega (arith, c.1))
 in-to (x ∷ xs) k c = at c.0 c.1 c.2 (in-to xs k)
   where
     at : (i : ℕ) → i < length (x ∷ xs) → get_or (x ∷ xs) i k ≡ k → (Contains xs k → is_in xs k ≡ true) → is_in (x ∷ xs) k ≡ true
-    at zero h e f = or-left (nat_eq k x) (is_in xs k) (eq-eqb k x (sym e))
-    at (suc i) h e f = or-right (nat_eq k x) (is_in xs k) (f (i, omega arith, e))
+    at zero h e f = or_left (nat_eq k x) (is_in xs k) (eq-eqb k x (sym e))
+    at (suc i) h e f = or_right (nat_eq k x) (is_in xs k) (f (i, omega arith, e))
 
 -- ---- what is needed
 
 pub needed-wanted : (deps : ℕ → List ℕ) → IsEarlier deps → (wanted : List ℕ) (k : ℕ) → is_in wanted k ≡ true → needed deps wanted k ≡ true
 needed-wanted deps e [] k h = absurd cc
-needed-wanted deps e (w ∷ wanted) k h = elim (either (nat_eq k w) (is_in wanted k) h) [
-  | inl a ↦ or-left (cone deps w k) (needed deps wanted k) (subst (λ j. cone deps j k ≡ true) (same k w a) (cone-itself deps e k))
-  | inr b ↦ or-right (cone deps w k) (needed deps wanted k) (needed-wanted deps e wanted k b)
+needed-wanted deps e (w ∷ wanted) k h = elim (or_cases (nat_eq k w) (is_in wanted k) h) [
+  | inl a ↦ or_left (cone deps w k) (needed deps wanted k) (subst (λ j. cone deps j k ≡ true) (eqb-true k w a) (cone-itself deps e k))
+  | inr b ↦ or_right (cone deps w k) (needed deps wanted k) (needed-wanted deps e wanted k b)
 ]
-  where
-    same : (k w : ℕ) → nat_eq k w ≡ true → k ≡ w
-    same k w h = grind arith
 
 pub needed-closed : (deps : ℕ → List ℕ) → IsEarlier deps → (wanted : List ℕ) (j d : ℕ) → needed deps wanted j ≡ true → Contains (deps j) d → needed deps wanted d ≡ true
 needed-closed deps e [] j d h c = absurd cc
-needed-closed deps e (w ∷ wanted) j d h c = elim (either (cone deps w j) (needed deps wanted j) h) [
-  | inl a ↦ or-left (cone deps w d) (needed deps wanted d) (cone-closed deps e w j d a c)
-  | inr b ↦ or-right (cone deps w d) (needed deps wanted d) (needed-closed deps e wanted j d b c)
+needed-closed deps e (w ∷ wanted) j d h c = elim (or_cases (cone deps w j) (needed deps wanted j) h) [
+  | inl a ↦ or_left (cone deps w d) (needed deps wanted d) (cone-closed deps e w j d a c)
+  | inr b ↦ or_right (cone deps w d) (needed deps wanted d) (needed-closed deps e wanted j d b c)
 ]
 
 needed-least : (deps : ℕ → List ℕ) → IsEarlier deps → (wanted : List ℕ) (set : ℕ → Bool) → ((k : ℕ) → is_in wanted k ≡ true → set k ≡ true) → ((j d : ℕ) → set j ≡ true → Contains (deps j) d → set d ≡ true)
     → (j : ℕ) → needed deps wanted j ≡ true → set j ≡ true
 needed-least deps e [] set w closed j h = absurd cc
-needed-least deps e (x ∷ wanted) set w closed j h = elim (either (cone deps x j) (needed deps wanted j) h) [
-  | inl a ↦ cone-least deps e set x (w x (or-left (nat_eq x x) (is_in wanted x) (eq-eqb x x refl))) closed j a
-  | inr b ↦ needed-least deps e wanted set (λ k i. w k (or-right (nat_eq k x) (is_in wanted k) i)) closed j b
+needed-least deps e (x ∷ wanted) set w closed j h = elim (or_cases (cone deps x j) (needed deps wanted j) h) [
+  | inl a ↦ cone-least deps e set x (w x (or_left (nat_eq x x) (is_in wanted x) (eq-eqb x x refl))) closed j a
+  | inr b ↦ needed-least deps e wanted set (λ k i. w k (or_right (nat_eq k x) (is_in wanted k) i)) closed j b
 ]
 
 -- ---- marks, of which the keys from a place on have handed theirs down
@@ -110,23 +88,23 @@ pass-begins deps e wanted count none marks empty n m =
 
 pub pass-goes-on : (deps : ℕ → List ℕ) → IsEarlier deps → (wanted : List ℕ) (count key : ℕ) (old new : List Bool) → IsPass deps wanted count (suc key) old → IsMarked old key (deps key) new → IsPass deps wanted count key new
 pass-goes-on deps e wanted count key old new p m =
-    let kept_mark : (j : ℕ) → mark_at old j ≡ true → mark_at new j ≡ true = λ j h. m.each j ∙ or-left (mark_at old j) (mark_at old key && is_in (deps key) j) h in
+    let kept_mark : (j : ℕ) → mark_at old j ≡ true → mark_at new j ≡ true = λ j h. m.each j ∙ or_left (mark_at old j) (mark_at old key && is_in (deps key) j) h in
     let handed : (j : ℕ) → mark_at old key ≡ true → Contains (deps key) j → mark_at new j ≡ true = λ j h c.
-    m.each j ∙ or-right (mark_at old j) (mark_at old key && is_in (deps key) j) (and-both (mark_at old key) (is_in (deps key) j) h (in-to (deps key) j c)) in
+    m.each j ∙ or_right (mark_at old j) (mark_at old key && is_in (deps key) j) (and_from (mark_at old key) (is_in (deps key) j) h (in-to (deps key) j c)) in
     record {
       low = let l = p.low in omega arith;
       count_is = m.count ∙ p.count_is;
-      sound = λ j h. elim (either (mark_at old j) (mark_at old key && is_in (deps key) j) (sym (m.each j) ∙ h)) [
+      sound = λ j h. elim (or_cases (mark_at old j) (mark_at old key && is_in (deps key) j) (sym (m.each j) ∙ h)) [
         | inl a ↦ p.sound j a
-        | inr b ↦ let r = both (mark_at old key) (is_in (deps key) j) b in needed-closed deps e wanted key j (p.sound key r.0) (in-from (deps key) j r.1)
+        | inr b ↦ let r = and_parts (mark_at old key) (is_in (deps key) j) b in needed-closed deps e wanted key j (p.sound key r.0) (in-from (deps key) j r.1)
       ];
       wanted_are = λ j h. kept_mark j (p.wanted_are j h);
-      closed = λ k d le h c. elim (either (mark_at old k) (mark_at old key && is_in (deps key) k) (sym (m.each k) ∙ h)) [
+      closed = λ k d le h c. elim (or_cases (mark_at old k) (mark_at old key && is_in (deps key) k) (sym (m.each k) ∙ h)) [
         | inl a ↦ elim (cases_eq key k) [
           | inl s ↦ handed d (subst (λ x. mark_at old x ≡ true) (sym s) a) (subst (λ x. Contains (deps x) d) (sym s) c)
           | inr n ↦ kept_mark d (p.closed k d (omega arith) a c)
         ]
-        | inr b ↦ let r = both (mark_at old key) (is_in (deps key) k) b in
+        | inr b ↦ let r = and_parts (mark_at old key) (is_in (deps key) k) b in
             let i = in-from (deps key) k r.1 in
             let low : get_or (deps key) i.0 k < key = all-member (λ x. x < key) (deps key) i.0 k (e.below key) i.1 in
             let same : get_or (deps key) i.0 k ≡ k = i.2 in
@@ -136,7 +114,7 @@ pass-goes-on deps e wanted count key old new p m =
 
 pub pass-ends : (deps : ℕ → List ℕ) → IsEarlier deps → (wanted : List ℕ) (count : ℕ) (marks : List Bool) → IsPass deps wanted count 0 marks → (k : ℕ) → mark_at marks k ≡ needed deps wanted k
 pass-ends deps e wanted count marks p k =
-    same-tests (mark_at marks k) (needed deps wanted k) (p.sound k) (needed-least deps e wanted (mark_at marks) p.wanted_are (λ j d h c. p.closed j d (omega arith) h c) k)
+    same_truth (mark_at marks k) (needed deps wanted k) (p.sound k) (needed-least deps e wanted (mark_at marks) p.wanted_are (λ j d h c. p.closed j d (omega arith) h c) k)
 
 -- ---- one key marked
 
@@ -164,15 +142,11 @@ filter-same p q (x ∷ xs) a = ap (λ b. cond b (x ∷ filter p xs) (filter p xs
 pub kept-marked : (tasks : List Task) (wanted : List ℕ) (marks : List Bool) → AreNeeded tasks wanted marks → marked_keys marks ≡ kept tasks wanted
 kept-marked tasks wanted marks n =
     ap (λ c. filter (mark_at marks) (range_with_len 0 c)) n.count
-    ∙ filter-same (mark_at marks) (needed (deps_of (shape_of tasks)) wanted) (range_with_len 0 (length tasks)) (all-weaker (λ k. k < length tasks) _ (range_with_len 0 (length tasks)) (λ k h. n.each k h) (range-below 0 (length tasks) (length tasks) (omega arith)))
+    ∙ filter-same (mark_at marks) (needed (deps_of (shape_of tasks)) wanted) (range_with_len 0 (length tasks)) (all-weaker (λ k. k < length tasks) _ (range_with_len 0 (length tasks)) (λ k h. n.each k h) (range_all_below 0 (length tasks) (length tasks) (omega arith)))
 
 all-if : (P : ℕ → Type 0) (x : ℕ) (ys : List ℕ) (b : Bool) → P x → AllByRecursion P ys → AllByRecursion P (cond b (x ∷ ys) ys)
 all-if P x ys true p a = (p, a)
 all-if P x ys false p a = a
-
-filter-all : (P : ℕ → Type 0) (p : ℕ → Bool) (xs : List ℕ) → AllByRecursion P xs → AllByRecursion P (filter p xs)
-filter-all P p [] a = tt
-filter-all P p (x ∷ xs) a = all-if P x (filter p xs) (p x) a.0 (filter-all P p xs a.1)
 
 rises-if : (x : ℕ) (ys : List ℕ) (b : Bool) → AllByRecursion (λ y. x < y) ys → Rising ys → Rising (cond b (x ∷ ys) ys)
 rises-if x ys true a r = (a, r)
@@ -180,7 +154,7 @@ rises-if x ys false a r = r
 
 filter-rises : (p : ℕ → Bool) (xs : List ℕ) → Rising xs → Rising (filter p xs)
 filter-rises p [] r = tt
-filter-rises p (x ∷ xs) r = rises-if x (filter p xs) (p x) (filter-all (λ y. x < y) p xs r.0) (filter-rises p xs r.1)
+filter-rises p (x ∷ xs) r = rises-if x (filter p xs) (p x) (all_of_filter (λ y. x < y) p xs r.0) (filter-rises p xs r.1)
 
 has-if : (x : ℕ) (ys : List ℕ) (b : Bool) (k : ℕ) → Contains ys k → Contains (cond b (x ∷ ys) ys) k
 has-if x ys true k c = contains-later k x ys c
@@ -194,13 +168,6 @@ filter-has p (x ∷ xs) k c h = at c.0 c.1 c.2 (λ m. filter-has p xs k m h)
     at zero lt e f = subst (λ b. Contains (cond b (x ∷ filter p xs) (filter p xs)) k) (sym (ap p e ∙ h)) (subst (λ y. Contains (y ∷ filter p xs) k) (sym e) (contains-here k (filter p xs)))
     at (suc i) lt e f = has-if x (filter p xs) (p x) k (f (i, omega arith, e))
 
-range-has : (a n k : ℕ) → a ≤ k → k < a + n → Contains (range_with_len a n) k
-range-has a zero k h lt = absurd (omega arith)
-range-has a (suc n) k h lt = elim (cases_eq a k) [
-  | inl e ↦ subst (λ x. Contains (x ∷ range_with_len (a + 1) n) k) (sym e) (contains-here k (range_with_len (a + 1) n))
-  | inr d ↦ contains-later k a (range_with_len (a + 1) n) (range-has (a + 1) n k (omega arith) (omega arith))
-]
-
 passes-if : (p : ℕ → Bool) (x : ℕ) (ys : List ℕ) (b : Bool) → p x ≡ b → AllByRecursion (λ k. p k ≡ true) ys → AllByRecursion (λ k. p k ≡ true) (cond b (x ∷ ys) ys)
 passes-if p x ys true e a = (e, a)
 passes-if p x ys false e a = a
@@ -210,7 +177,7 @@ filter-passes p [] = tt
 filter-passes p (x ∷ xs) = passes-if p x (filter p xs) (p x) refl (filter-passes p xs)
 
 pub kept-below : (tasks : List Task) (wanted : List ℕ) → AllByRecursion (λ k. k < length tasks) (kept tasks wanted)
-kept-below tasks wanted = filter-all (λ k. k < length tasks) (needed (deps_of (shape_of tasks)) wanted) (range_with_len 0 (length tasks)) (range-below 0 (length tasks) (length tasks) (omega arith))
+kept-below tasks wanted = all_of_filter (λ k. k < length tasks) (needed (deps_of (shape_of tasks)) wanted) (range_with_len 0 (length tasks)) (range_all_below 0 (length tasks) (length tasks) (omega arith))
 
 pub kept-rises : (tasks : List Task) (wanted : List ℕ) → Rising (kept tasks wanted)
 kept-rises tasks wanted = filter-rises (needed (deps_of (shape_of tasks)) wanted) (range_with_len 0 (length tasks)) (range-rises 0 (length tasks))
@@ -228,7 +195,7 @@ kept-behind tasks wanted e =
           let there : get_or (kept tasks wanted) j 0 < length tasks = all-member (λ x. x < length tasks) (kept tasks wanted) j 0 (kept-below tasks wanted) b in
           let low : get_or (deps_of (shape_of tasks) (get_or (kept tasks wanted) j 0)) c.0 d < get_or (kept tasks wanted) j 0 = all-member (λ x. x < get_or (kept tasks wanted) j 0) (deps_of (shape_of tasks) (get_or (kept tasks wanted) j 0)) c.0 d (e.below (get_or (kept tasks wanted) j 0)) c.1 in
           let same : get_or (deps_of (shape_of tasks) (get_or (kept tasks wanted) j 0)) c.0 d ≡ d = c.2 in
-          let has : Contains (kept tasks wanted) d = filter-has (needed (deps_of (shape_of tasks)) wanted) (range_with_len 0 (length tasks)) d (range-has 0 (length tasks) d (omega arith) (omega arith))
+          let has : Contains (kept tasks wanted) d = filter-has (needed (deps_of (shape_of tasks)) wanted) (range_with_len 0 (length tasks)) d (range_has 0 (length tasks) d (omega arith) (omega arith))
           (needed-closed (deps_of (shape_of tasks)) e wanted (get_or (kept tasks wanted) j 0) d need c) in
           let at : get_or (kept tasks wanted) has.0 0 ≡ d = sym (get_or_default (kept tasks wanted) has.0 d 0 has.1) ∙ has.2 in (
             has.0,
@@ -249,7 +216,7 @@ mark-more old keys now key m lt = record {
   count = length-set now key true ∙ m.count;
   each = λ k. elim (cases_eq k key) [
     | inl e ↦ subst (λ j. mark_at (set now key true) j ≡ (mark_at old j || is_in (keys ++ key ∷ []) j)) (sym e)
-        (get_or-set_same now key true false lt ∙ sym (or-right (mark_at old key) (is_in (keys ++ key ∷ []) key) (in-more keys key key ∙ or-right (is_in keys key) (nat_eq key key || false) (or-left (nat_eq key key) false (eq-eqb key key refl)))))
+        (get_or-set_same now key true false lt ∙ sym (or_right (mark_at old key) (is_in (keys ++ key ∷ []) key) (in-more keys key key ∙ or_right (is_in keys key) (nat_eq key key || false) (or_left (nat_eq key key) false (eq-eqb key key refl)))))
     | inr d ↦
         get_or-set_other now key k true false d
         ∙ m.each k
@@ -262,25 +229,17 @@ mark-more old keys now key m lt = record {
     plain false = refl
 
 pub mark-none : (old : List Bool) → AreMarked old [] old
-mark-none old = record { count = refl; each = λ k. plain (mark_at old k) }
-  where
-    plain : (b : Bool) → b ≡ (b || false)
-    plain true = refl
-    plain false = refl
+mark-none old = record { count = refl; each = λ k. with_or_false (mark_at old k) }
 
 -- the marked keys below one more
 pub marked-more : (p : ℕ → Bool) (n : ℕ) → filter p (range_with_len 0 (n + 1)) ≡ filter p (range_with_len 0 n) ++ listed_if n (p n)
-marked-more p n = ap (filter p) (ends 0 n n (omega arith)) ∙ filter-append p (range_with_len 0 n) (n ∷ []) ∙ ap (λ xs. filter p (range_with_len 0 n) ++ xs) (one (p n))
+marked-more p n = ap (filter p) (range-ends 0 n n (omega arith)) ∙ filter-append p (range_with_len 0 n) (n ∷ []) ∙ ap (λ xs. filter p (range_with_len 0 n) ++ xs) (one (p n))
   where
     one : (b : Bool) → cond b (n ∷ []) [] ≡ listed_if n b
     one b = refl
 
-    ends : (a n j : ℕ) → a + n ≡ j → range_with_len a (n + 1) ≡ range_with_len a n ++ j ∷ []
-    ends a zero j e = ap (λ x. x ∷ []) (omega arith)
-    ends a (suc n) j e = let one : suc n + 1 ≡ suc (n + 1) = omega arith in ap (range_with_len a) one ∙ ap (λ xs. a ∷ xs) (ends (a + 1) n j (omega arith))
-
 pub marked-fresh : (p : ℕ → Bool) (n : ℕ) → is_in (filter p (range_with_len 0 n)) n ≡ false
-marked-fresh p n = absent (filter p (range_with_len 0 n)) (filter-all (λ k. k < n) p (range_with_len 0 n) (range-below 0 n n (omega arith)))
+marked-fresh p n = absent (filter p (range_with_len 0 n)) (all_of_filter (λ k. k < n) p (range_with_len 0 n) (range_all_below 0 n n (omega arith)))
   where
     absent : (xs : List ℕ) → AllByRecursion (λ k. k < n) xs → is_in xs n ≡ false
     absent [] a = refl

@@ -2,7 +2,7 @@
 use Rattle.std.proofs.Common.{◌≡◌, ℕ, ◌<◌, ◌≤◌, List, [], ◌∷◌, length, map, get_or, ap, sym, subst, ◌∙◌, arith, inl, inr}
 use Rattle.std.specs.Prelude.{Contains}
 use Rattle.std.proofs.lemmas.Bool.{cases_lt}
-use Rattle.std.proofs.lemmas.List.{length-map, get_or-map, get_or_default, get_or_past}
+use Rattle.std.proofs.lemmas.List.{length-map, get_or-map, get_or_past}
 use Rattle.nd_shape.specs.declared.region.Piece.{Piece}
 use Rattle.nd_grid.specs.Grid.{kept_shape}
 use Rattle.nd_grid.proofs.Turning.{position-below}
@@ -18,11 +18,8 @@ use Rattle.task_graph.specs.Orders.{position, ascending, moved_operand, moved_pi
 use Rattle.task_graph.specs.Numberings.{OperandFits, PlacesFit, AreFit}
 use Rattle.task_graph.proofs.Rising.{all-mapped}
 use Rattle.task_graph.proofs.Keys.{ascending-has}
-use Rattle.task_graph.proofs.Renumbered.{ascending-from}
+use Rattle.task_graph.proofs.Renumbered.{ascending-from, contains-at}
 use Rattle.task_graph.proofs.Rising.{rising-once, ascending-rises}
-
-pub contains-at : (keys : List ℕ) (p : ℕ) → p < length keys → Contains keys (get_or keys p 0)
-contains-at keys p h = (p, h, sym (get_or_default keys p 0 (get_or keys p 0) h))
 
 -- where the dependency at a place stands now
 abbrev pub place_now : List ℕ → ℕ → ℕ

@@ -7,6 +7,9 @@ use Rattle.std.proofs.Math.ListN.{set}
 use Rattle.std.proofs.lemmas.List.{get_or-set_other, length-set}
 use Rattle.std.proofs.lemmas.List.{length-map, get_or-map, take_more}
 use Rattle.std.proofs.lemmas.Map.Keys.{IsDistinct-from_apart, sorted_from_strictly_increasing, below_from_sorted, apart_from_distinct}
+use Rattle.std.proofs.lemmas.Option.{same_Some}
+use Rattle.small_facts.proofs.Every.{all_from_members}
+use Rattle.small_facts.proofs.Numbers.{unequal_below}
 use Rattle.nd_grid.proofs.Turning.{position-at}
 use Rattle.cluster_msgs.specs.Shape.{IsShape, total_length, edge_count, deps_of}
 use Rattle.cluster_msgs.proofs.Dags.{all-weaker}
@@ -17,7 +20,7 @@ use Rattle.task_graph.specs.Numberings.{IsNumbering}
 use Rattle.task_graph.proofs.Culled.{in-to}
 use Rattle.task_graph.proofs.Making.{deps-at}
 use Rattle.task_graph.proofs.Rising.{all-member}
-use Rattle.task_graph.proofs.Visits.{all-from, in-from}
+use Rattle.task_graph.proofs.Visits.{in-from}
 
 -- so many tasks were taken, and stand under their new numbers; the others are where they were
 pub record IsMoving (tasks : List Task) (order : List ℕ) (j : ℕ) (new : List Task) (slots : List (Option Task)) : Type 0 where
@@ -62,16 +65,13 @@ moving-on tasks order j new slots m n b lt =
 
 -- ---- what the dependencies of a task are
 
-member-edges : (xss : List (List ℕ)) (k : ℕ) → length (get_or xss k []) ≤ total_length xss
+pub member-edges : (xss : List (List ℕ)) (k : ℕ) → length (get_or xss k []) ≤ total_length xss
 member-edges [] k = omega arith
 member-edges (xs ∷ xss) zero = omega arith
 member-edges (xs ∷ xss) (suc k) = let r = member-edges xss k in omega arith
 
 rising-apart : (xs : List ℕ) → IsStrictlyIncreasing xs → IsDistinct eqb xs
-rising-apart xs r = IsDistinct-from_apart eqb xs (λ i j d a b. let lt : get_or xs i d < get_or xs j d = below_from_sorted xs i j d (sorted_from_strictly_increasing xs r) a b in apart (get_or xs i d) (get_or xs j d) lt)
-  where
-    apart : (a b : ℕ) → a < b → eqb a b ≡ false
-    apart a b h = grind arith
+rising-apart xs r = IsDistinct-from_apart eqb xs (λ i j d a b. let lt : get_or xs i d < get_or xs j d = below_from_sorted xs i j d (sorted_from_strictly_increasing xs r) a b in unequal_below (get_or xs i d) (get_or xs j d) lt)
 
 -- what a task has to have to be moved
 pub record AreMovable (keys : ℕ) (order deps : List ℕ) : Type 0 where
@@ -89,7 +89,7 @@ movable tasks order j s n b lt =
     subst (AreMovable (length tasks) order) e (record {
       few = let m : length (deps_of (shape_of tasks) (get_or order j 0)) ≤ edge_count (shape_of tasks) = member-edges (map (λ (t : Task). t.deps) tasks) (get_or order j 0) in omega arith;
       there = all-weaker (λ d. d < get_or order j 0) (λ d. d < length tasks) (deps_of (shape_of tasks) (get_or order j 0)) (λ d h. omega arith) (s.below (get_or order j 0));
-      kept = all-from (λ k. is_in order k ≡ true) (deps_of (shape_of tasks) (get_or order j 0)) (λ k c. in-to order k (n.there j k lt (subst (λ (ds : List ℕ). Contains ds k) e c)));
+      kept = all_from_members (λ k. is_in order k ≡ true) (deps_of (shape_of tasks) (get_or order j 0)) (λ k c. in-to order k (n.there j k lt (subst (λ (ds : List ℕ). Contains ds k) e c)));
       once = rising-apart (deps_of (shape_of tasks) (get_or order j 0)) (s.rising (get_or order j 0));
     })
 
@@ -121,11 +121,8 @@ moving-taken tasks order j new slots keys t s w m n b lt is =
     let below : AllByRecursion (λ k. k < length tasks) order = subst (λ c. AllByRecursion (λ k. k < c) order) w b in
     let there = moving-there tasks order j new slots m n below lt in
     let one : Some t ≡ Some (task_at tasks (get_or order j 0)) = sym is ∙ there.1 in
-    let same : t ≡ task_at tasks (get_or order j 0) = same-some t (task_at tasks (get_or order j 0)) one in
+    let same : t ≡ task_at tasks (get_or order j 0) = same_Some t (task_at tasks (get_or order j 0)) one in
     record {
       task_is = same;
       movable_deps = subst (λ c. AreMovable c order t.deps) (sym w) (subst (λ (u : Task). AreMovable (length tasks) order u.deps) (sym same) (movable tasks order j s n below lt));
     }
-  where
-    same-some : (a b : Task) → Some a ≡ Some b → a ≡ b
-    same-some a b e = cc

@@ -1,20 +1,20 @@
 -- New numbers when one more key is kept.
 use Rattle.std.proofs.Common.{◌≡◌, ◌≢◌, ℕ, ◌+◌, ◌<◌, ◌≤◌, Bool, true, false, ◌||◌, cond, List, [], ◌∷◌, ◌++◌, length, get_or, refl, ap, sym, subst, ◌∙◌, arith, inl, inr, Some, None, eq-eqb, ne_eqb, length-append}
 use Rattle.std.specs.Prelude.{nat_eq, eqb, Option, slice_index_or, replicate}
-use Rattle.std.specs.Cmp.{IsEquivalence}
 use Rattle.std.specs.List.{AllByRecursion, IsDistinct, list_any}
 use Rattle.std.proofs.lemmas.List.{get_or_append_left, get_or_push, length-replicate, get_or-replicate}
 use Rattle.std.proofs.lemmas.List.Sums.{position_or_len_is}
-use Rattle.std.proofs.lemmas.Bool.{cases_eq}
+use Rattle.std.proofs.lemmas.Bool.{cases_eq, eqb-true}
 use Rattle.std.proofs.Math.ListN.{set}
 use Rattle.std.proofs.lemmas.List.{get_or-set_same, get_or-set_other, length-set}
 use Rattle.std.proofs.lemmas.List.Folds.{list_any-append, position_or_len_push}
 use Rattle.std.proofs.lemmas.Map.Keys.{IsDistinct-push}
 use Rattle.std.proofs.lemmas.Map.Steps.{length-le_from_distinct_below}
+use Rattle.std.proofs.lemmas.Cmp.{nat_eq_equiv}
+use Rattle.small_facts.proofs.Every.{all_join}
 use Rattle.task_graph.specs.Orders.{is_in, position}
 use Rattle.task_graph.specs.Numbers.{number_of, AreNumbered}
 use Rattle.nd_grid.proofs.Turning.{position-below}
-use Rattle.task_graph.proofs.Rising.{all-join}
 use Rattle.task_graph.proofs.Visits.{in-from, not-in}
 
 pub in-more : (xs : List ℕ) (k j : ℕ) → is_in (xs ++ k ∷ []) j ≡ (is_in xs j || (nat_eq j k || false))
@@ -27,18 +27,9 @@ below-count order n b d = length-le_from_distinct_below order n d (λ q h. membe
     member [] q a h = absurd cc
     member (x ∷ xs) q a h = by_case x q (list_any (eqb q) xs) (eqb q x) refl a.0 h (member xs q a.1)
       where
-        same : (q x : ℕ) → eqb q x ≡ true → q ≡ x
-        same q x e = grind arith
-
         by_case : (x q : ℕ) (more b : Bool) → eqb q x ≡ b → x < n → (b || more) ≡ true → (more ≡ true → q < n) → q < n
-        by_case x q more true e l h f = let s : q ≡ x = same q x e in omega arith
+        by_case x q more true e l h f = let s : q ≡ x = eqb-true q x e in omega arith
         by_case x q more false e l h f = f h
-
-equal-numbers : IsEquivalence eqb
-equal-numbers = record { refl = λ x. grind arith; symm = λ x y. grind arith; congr = λ x y z h. ap (λ n. eqb n z) (same x y h) }
-  where
-    same : (x y : ℕ) → eqb x y ≡ true → x ≡ y
-    same x y h = grind arith
 
 -- the key that was added last
 pub number-new : (order : List ℕ) (old : ℕ) → is_in order old ≡ false → number_of (order ++ old ∷ []) old ≡ Some (length order)
@@ -74,8 +65,8 @@ more-numbered order places old a lt fresh =
         | inl e ↦ subst (λ j. slice_index_or (set places old (Some (length order))) j None ≡ number_of (order ++ old ∷ []) j) e (get_or-set_same places old (Some (length order)) None lt ∙ sym (number-new order old fresh))
         | inr d ↦ get_or-set_other places old k (Some (length order)) None (λ z. d (sym z)) ∙ a.each k (omega arith) ∙ sym (number-other order old k d)
       ];
-      below = subst (λ n. AllByRecursion (λ k. k < n) (order ++ old ∷ [])) (sym count) (all-join (λ k. k < length places) order (old ∷ []) a.below (lt, tt));
-      once = IsDistinct-push equal-numbers order old a.once fresh;
+      below = subst (λ n. AllByRecursion (λ k. k < n) (order ++ old ∷ [])) (sym count) (all_join (λ k. k < length places) order (old ∷ []) a.below (lt, tt));
+      once = IsDistinct-push nat_eq_equiv order old a.once fresh;
     }
 
 none-once : IsDistinct eqb []

@@ -5,12 +5,14 @@ use Rattle.std.specs.Ordering.{nat_cmp, is_lt, ordering_then}
 use Rattle.std.specs.declared.cmp.Ordering.TheVariants.{Less, Equal, Greater}
 use Rattle.std.specs.List.{AllByRecursion, IsDistinct}
 use Rattle.std.specs.List.Sorted.{IsPermutation, IsNonDecreasing, IsSorted, IsBinarySearchResult}
-use Rattle.std.proofs.lemmas.Bool.{cases_eq, cases_lt}
+use Rattle.std.proofs.lemmas.Bool.{cases_eq, cases_lt, lt-ltb}
 use Rattle.std.proofs.lemmas.List.{length-map, get_or-map, get_or_default}
 use Rattle.std.proofs.lemmas.List.Sums.{position_or_len_is}
 use Rattle.std.proofs.lemmas.List.Sorted.{IsPermutation-map, IsPermutation-sym, Contains-permutation, IsNonDecreasingBy-from_all_adjacent, searched}
 use Rattle.std.proofs.lemmas.List.FromFn.{get_or-range_with_len}
 use Rattle.std.proofs.lemmas.Map.Keys.{IsDistinct-IsPermutation, IsStrictlyIncreasing-from_distinct, sorted_from_strictly_increasing, below_from_sorted, apart_from_distinct}
+use Rattle.std.proofs.lemmas.Simd.{map-map}
+use Rattle.small_facts.proofs.Numbers.{eqb_turned, unequal_turned}
 use Rattle.task_graph.specs.Orders.{ascending, position}
 use Rattle.task_graph.specs.Moves.{AreOrdered, ArePlaced, shapes_now}
 use Rattle.task_graph.proofs.Bounds.{ascending-length}
@@ -62,10 +64,7 @@ rising-same (x ∷ xs) (y ∷ ys) r s f g =
 
 pub once-of : (keys : List ℕ) (p : ℕ) → IsDistinct eqb keys → p < length keys → position keys (get_or keys p 0) ≡ p
 once-of keys p d h =
-    position_or_len_is (nat_eq (get_or keys p 0)) keys p 0 (omega arith) (λ i lt. let a : eqb (get_or keys i 0) (get_or keys p 0) ≡ false = apart_from_distinct eqb keys i p 0 d lt h in turned (get_or keys i 0) (get_or keys p 0) a) (λ lt. eq-eqb (get_or keys p 0) (get_or keys p 0) refl)
-  where
-    turned : (a b : ℕ) → eqb a b ≡ false → nat_eq b a ≡ false
-    turned a b e = grind arith
+    position_or_len_is (nat_eq (get_or keys p 0)) keys p 0 (omega arith) (λ i lt. let a : eqb (get_or keys i 0) (get_or keys p 0) ≡ false = apart_from_distinct eqb keys i p 0 d lt h in unequal_turned (get_or keys p 0) (get_or keys i 0) a) (λ lt. eq-eqb (get_or keys p 0) (get_or keys p 0) refl)
 
 -- ---- pairs of a key and its place, sorted
 
@@ -90,7 +89,7 @@ ordered keys placed sorted few once a perm up =
     let deps = map (λ (p : ℕ × ℕ). p.0) sorted in
     let count : length (map (λ (p : ℕ × ℕ). p.0) sorted) ≡ length sorted = length-map sorted (λ (p : ℕ × ℕ). p.0) in
     let moved : IsPermutation keys (map (λ (p : ℕ × ℕ). p.0) sorted) = subst (λ (ks : List ℕ). IsPermutation ks (map (λ (p : ℕ × ℕ). p.0) sorted)) a.keys_are (IsPermutation-map (λ (p : ℕ × ℕ). p.0) placed sorted perm) in
-    let apart : IsDistinct eqb (map (λ (p : ℕ × ℕ). p.0) sorted) = IsDistinct-IsPermutation eqb flips keys (map (λ (p : ℕ × ℕ). p.0) sorted) moved once in
+    let apart : IsDistinct eqb (map (λ (p : ℕ × ℕ). p.0) sorted) = IsDistinct-IsPermutation eqb eqb_turned keys (map (λ (p : ℕ × ℕ). p.0) sorted) moved once in
     let not_falling : IsNonDecreasing (map (λ (p : ℕ × ℕ). p.0) sorted) = λ i j d le lt.
     let li : i < length sorted = omega arith in
     let lj : j < length sorted = omega arith in
@@ -114,9 +113,6 @@ ordered keys placed sorted few once a perm up =
       sources_are = places sorted (λ i d h. pair-at-sorted i d h);
     }
   where
-    flips : (x y : ℕ) → eqb x y ≡ eqb y x
-    flips x y = grind arith
-
     pair-at-sorted : (i : ℕ) (d : ℕ × ℕ) → i < length sorted → IsPair keys (get_or sorted i d)
     pair-at-sorted i d h =
         let x = get_or sorted i d in
@@ -161,21 +157,14 @@ place-searched xs x (Err i) up s = let f = searched xs x (Err i) s (λ i j le lt
 
 pair-order : (a b c d : ℕ) → is_lt (ordering_then (nat_cmp a c) (nat_cmp b d)) ≡ false → c ≤ a
 pair-order a b c d h = elim (cases_lt a c) [
-  | inl lt ↦ absurd (let t : nat_lt a c ≡ true = below a c lt in let e : is_lt (ordering_then (cond (nat_lt a c) Less (cond (a == c) Equal Greater)) (nat_cmp b d)) ≡ true = ap (λ x. is_lt (ordering_then (cond x Less (cond (a == c) Equal Greater)) (nat_cmp b d))) t in let no : true ≡ false = sym e ∙ h in cc)
+  | inl lt ↦ absurd (let t : nat_lt a c ≡ true = lt-ltb a c lt in let e : is_lt (ordering_then (cond (nat_lt a c) Less (cond (a == c) Equal Greater)) (nat_cmp b d)) ≡ true = ap (λ x. is_lt (ordering_then (cond x Less (cond (a == c) Equal Greater)) (nat_cmp b d))) t in let no : true ≡ false = sym e ∙ h in cc)
   | inr ge ↦ ge
 ]
-  where
-    below : (a b : ℕ) → a < b → nat_lt a b ≡ true
-    below a b h = grind arith
 
 pub pairs-rise : (pairs : List (ℕ × ℕ)) → IsSorted (λ (x y : ℕ × ℕ). ordering_then (nat_cmp x.0 y.0) (nat_cmp x.1 y.1)) pairs → (i j : ℕ) (d : ℕ × ℕ) → i ≤ j → j < length pairs → (get_or pairs i d).0 ≤ (get_or pairs j d).0
 pairs-rise pairs s = IsNonDecreasingBy-from_all_adjacent (λ (p : ℕ × ℕ). p.0) pairs (λ k d lt. pair-order (get_or pairs (k + 1) d).0 (get_or pairs (k + 1) d).1 (get_or pairs k d).0 (get_or pairs k d).1 (s k d (omega arith) lt))
 
 -- ---- the shapes of inputs
-
-map-map : {A B C : Type 0} (f : B → C) (g : A → B) (xs : List A) → map f (map g xs) ≡ map (λ x. f (g x)) xs
-map-map f g [] = refl
-map-map f g (x ∷ xs) = ap (λ ys. f (g x) ∷ ys) (map-map f g xs)
 
 pub shapes-of : (keys deps sources : List ℕ) (inputs : List (List ℕ)) → AreOrdered keys deps sources → map (λ p. get_or inputs p []) sources ≡ shapes_now keys inputs
 shapes-of keys deps sources inputs o =

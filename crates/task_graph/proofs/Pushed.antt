@@ -4,6 +4,8 @@ use Rattle.std.specs.Prelude.{nat_lt, not, Option}
 use Rattle.std.specs.List.{AllByRecursion}
 use Rattle.std.specs.List.Sorted.{IsStrictlyIncreasing}
 use Rattle.std.proofs.lemmas.List.{map_push}
+use Rattle.std.proofs.Math.Numerals.{suc-eq-add-one}
+use Rattle.std.proofs.lemmas.Bool.{ltb-false, ltb-true, le-ltb, lt-ltb}
 use Rattle.cluster_msgs.specs.Shape.{IsShape, Follows, pushed, edge_count}
 use Rattle.cluster_msgs.specs.Stored.{told, IsUnfit}
 use Rattle.cluster_msgs.specs.declared.shape.GraphRow.{GraphRow}
@@ -24,49 +26,28 @@ record IsNext (key least d : ℕ) (ds : List ℕ) : Type 0 where
 next-of : (key least d : ℕ) (ds : List ℕ) → first_bad key least (d ∷ ds) ≡ None → IsNext key least d ds
 next-of key least d ds h = by_tests (nat_lt d least) (nat_lt d key) refl refl h
   where
-    below : (a b : ℕ) → nat_lt a b ≡ false → b ≤ a
-    below a b e = grind arith
-
-    above : (a b : ℕ) → nat_lt a b ≡ true → a < b
-    above a b e = grind arith
-
     by_tests : (a b : Bool) → nat_lt d least ≡ a → nat_lt d key ≡ b → cond (a || not b) (Some d) (first_bad key (suc d) ds) ≡ None → IsNext key least d ds
     by_tests true b p q h = absurd cc
-    by_tests false true p q h = record { low = below d least p; high = above d key q; rest = h }
+    by_tests false true p q h = record { low = ltb-false d least p; high = ltb-true d key q; rest = h }
     by_tests false false p q h = absurd cc
 
 -- where the next dependency isn't at fault, those behind it decide
 pub bad-later : (key least d : ℕ) (ds : List ℕ) → least ≤ d → d < key → first_bad key least (d ∷ ds) ≡ first_bad key (d + 1) ds
-bad-later key least d ds low high = ap (λ b. cond (b || not (nat_lt d key)) (Some d) (first_bad key (suc d) ds)) (above d least low) ∙ ap (λ b. cond (not b) (Some d) (first_bad key (suc d) ds)) (below d key high)
-    ∙ ap (λ n. first_bad key n ds) one
-  where
-    above : (a b : ℕ) → b ≤ a → nat_lt a b ≡ false
-    above a b h = grind arith
-
-    below : (a b : ℕ) → a < b → nat_lt a b ≡ true
-    below a b h = grind arith
-
-    one : suc d ≡ d + 1
-    one = omega arith
+bad-later key least d ds low high = ap (λ b. cond (b || not (nat_lt d key)) (Some d) (first_bad key (suc d) ds)) (le-ltb d least low) ∙ ap (λ b. cond (not b) (Some d) (first_bad key (suc d) ds)) (lt-ltb d key high)
+    ∙ ap (λ n. first_bad key n ds) (suc-eq-add-one d)
 
 pub bad-below : (key least d : ℕ) (ds : List ℕ) → d < least → first_bad key least (d ∷ ds) ≡ Some d
-bad-below key least d ds h = ap (λ b. cond (b || not (nat_lt d key)) (Some d) (first_bad key (suc d) ds)) (below d least h)
-  where
-    below : (a b : ℕ) → a < b → nat_lt a b ≡ true
-    below a b h = grind arith
+bad-below key least d ds h = ap (λ b. cond (b || not (nat_lt d key)) (Some d) (first_bad key (suc d) ds)) (lt-ltb d least h)
 
 pub bad-above : (key least d : ℕ) (ds : List ℕ) → key ≤ d → first_bad key least (d ∷ ds) ≡ Some d
 bad-above key least d ds h = by_test (nat_lt d least) ∙ refl
   where
-    above : (a b : ℕ) → b ≤ a → nat_lt a b ≡ false
-    above a b h = grind arith
-
     first : (b : Bool) → cond (b || true) (Some d) (first_bad key (suc d) ds) ≡ Some d
     first true = refl
     first false = refl
 
     by_test : (b : Bool) → cond (b || not (nat_lt d key)) (Some d) (first_bad key (suc d) ds) ≡ Some d
-    by_test b = ap (λ x. cond (b || not x) (Some d) (first_bad key (suc d) ds)) (above d key h) ∙ first b
+    by_test b = ap (λ x. cond (b || not x) (Some d) (first_bad key (suc d) ds)) (le-ltb d key h) ∙ first b
 
 pub deps-below : (key least : ℕ) (ds : List ℕ) → first_bad key least ds ≡ None → AllByRecursion (λ d. d < key) ds
 deps-below key least [] h = tt
@@ -94,18 +75,15 @@ record IsWithin (keys edges : ℕ) (t : Task) : Type 0 where
 within : (keys edges : ℕ) (t : Task) → limit_passed keys edges t ≡ None → IsWithin keys edges t
 within keys edges t h = by_tests (nat_lt 32767 keys) (nat_lt 262144 (edges + length t.deps)) (nat_lt 134217728 t.nbytes) refl refl refl h
   where
-    below : (a b : ℕ) → nat_lt a b ≡ false → b ≤ a
-    below a b e = grind arith
-
     by_tests : (a b c : Bool) → nat_lt 32767 keys ≡ a → nat_lt 262144 (edges + length t.deps) ≡ b → nat_lt 134217728 t.nbytes ≡ c
         → cond a (Some Keys) (cond b (Some Edges) (cond c (Some BlockBytes) None)) ≡ None → IsWithin keys edges t
     by_tests true b c p q r h = absurd cc
     by_tests false true c p q r h = absurd cc
     by_tests false false true p q r h = absurd cc
     by_tests false false false p q r h = record {
-      room = let x : keys ≤ 32767 = below 32767 keys p in omega arith;
-      edges_fit = below 262144 (edges + length t.deps) q;
-      small = below 134217728 t.nbytes r;
+      room = let x : keys ≤ 32767 = ltb-false 32767 keys p in omega arith;
+      edges_fit = ltb-false 262144 (edges + length t.deps) q;
+      small = ltb-false 134217728 t.nbytes r;
     }
 
 -- ---- a task that isn't refused

@@ -5,6 +5,7 @@ use Rattle.std.specs.List.{AllByRecursion}
 use Rattle.std.proofs.lemmas.Bool.{cases_eq, cases_lt}
 use Rattle.std.proofs.lemmas.List.{length-map, get_or-map, get_or_default}
 use Rattle.std.proofs.lemmas.List.Sums.{position_or_len_is}
+use Rattle.std.proofs.lemmas.Simd.{map-map}
 use Rattle.nd_shape.specs.Block.{Array}
 use Rattle.nd_shape.specs.Shape.{elements}
 use Rattle.nd_shape.specs.Index.{index_at}
@@ -57,13 +58,13 @@ abbrev AllDistinct : List ℕ → Type 0
 AllDistinct [] = Unit {0}
 AllDistinct (k ∷ ks) = Fresh k ks × AllDistinct ks
 
-with-less : (k j : ℕ) (js : List ℕ) → k < j → with_key k (j ∷ js) ≡ k ∷ j ∷ js
+pub with-less : (k j : ℕ) (js : List ℕ) → k < j → with_key k (j ∷ js) ≡ k ∷ j ∷ js
 with-less k j js h = grind arith
 
-with-same : (k j : ℕ) (js : List ℕ) → k ≡ j → with_key k (j ∷ js) ≡ j ∷ js
+pub with-same : (k j : ℕ) (js : List ℕ) → k ≡ j → with_key k (j ∷ js) ≡ j ∷ js
 with-same k j js h = grind arith
 
-with-more : (k j : ℕ) (js : List ℕ) → j ≤ k → k ≢ j → with_key k (j ∷ js) ≡ j ∷ with_key k js
+pub with-more : (k j : ℕ) (js : List ℕ) → j ≤ k → k ≢ j → with_key k (j ∷ js) ≡ j ∷ with_key k js
 with-more k j js h d = grind arith
 
 fresh-with : (x k : ℕ) (js : List ℕ) → x ≢ k → Fresh x js → Fresh x (with_key k js)
@@ -220,10 +221,6 @@ block-moved files keys blocks (Reduce fold axes inputs) o n f =
     ∙ folded-ascending fold (λ k. (reduced fold axes (grid_of (get_or blocks (position keys k) no_array))).at i) keys (distinct-from keys (once-distinct keys o))
     ∙ ap (folded fold) (by-keys (λ (b : Array). (reduced fold axes (grid_of b)).at i) keys blocks o n ∙ sym (elements-of fold axes blocks i)))
   where
-    map-map : {A B C : Type 0} (f : B → C) (g : A → B) (xs : List A) → map f (map g xs) ≡ map (λ x. f (g x)) xs
-    map-map f g [] = refl
-    map-map f g (x ∷ xs) = ap (λ ys. f (g x) ∷ ys) (map-map f g xs)
-
     same-lists : {A : Type 0} (xs ys : List A) (d : A) → length xs ≡ length ys → ((p : ℕ) → p < length xs → get_or xs p d ≡ get_or ys p d) → xs ≡ ys
     same-lists [] [] d e h = refl
     same-lists [] (y ∷ ys) d e h = absurd (omega arith)

@@ -1,16 +1,14 @@
 -- Lists along which a number rises.
-use Rattle.std.proofs.Common.{◌≡◌, ◌≢◌, ℕ, zero, suc, ◌+◌, ◌<◌, ◌≤◌, List, [], ◌∷◌, ◌++◌, length, map, get_or, refl, sym, subst, arith, inl, inr, eq-eqb, ne_eqb}
+use Rattle.std.proofs.Common.{◌≡◌, ℕ, zero, suc, ◌+◌, ◌<◌, ◌≤◌, List, [], ◌∷◌, ◌++◌, length, map, get_or, refl, sym, subst, arith, inl, inr, eq-eqb, ne_eqb}
 use Rattle.std.specs.Prelude.{nat_eq}
 use Rattle.std.specs.List.{AllByRecursion, range_with_len}
 use Rattle.std.specs.List.Sorted.{IsStrictlyIncreasing}
 use Rattle.std.proofs.lemmas.Bool.{cases_lt, cases_eq}
 use Rattle.std.proofs.lemmas.List.Sums.{position_or_len_is}
+use Rattle.small_facts.proofs.Every.{all_join}
 use Rattle.cluster_msgs.proofs.Dags.{all-weaker}
 use Rattle.task_graph.specs.Orders.{with_key, ascending, position}
-
-pub all-join : {A : Type 0} (P : A → Type 0) (xs ys : List A) → AllByRecursion P xs → AllByRecursion P ys → AllByRecursion P (xs ++ ys)
-all-join P [] ys a b = b
-all-join P (x ∷ xs) ys a b = (a.0, all-join P xs ys a.1 b)
+use Rattle.task_graph.proofs.Renumbered.{with-less, with-same, with-more}
 
 pub all-mapped : {A B : Type 0} (P : A → Type 0) (Q : B → Type 0) (f : A → B) (xs : List A) → ((x : A) → P x → Q (f x)) → AllByRecursion P xs → AllByRecursion Q (map f xs)
 all-mapped P Q f [] h a = tt
@@ -48,47 +46,29 @@ rises-mapped f g (x ∷ xs) r = (all-mapped (λ y. f (g x) < f (g y)) (λ y. f (
 pub rises-join : {A : Type 0} (f : A → ℕ) (bound : ℕ) (xs ys : List A) → Rises f xs → Rises f ys → AllByRecursion (λ x. f x < bound) xs → AllByRecursion (λ y. bound ≤ f y) ys → Rises f (xs ++ ys)
 rises-join f bound [] ys a b c d = b
 rises-join f bound (x ∷ xs) ys a b c d =
-    (all-join (λ y. f x < f y) xs ys a.0 (all-weaker (λ y. bound ≤ f y) (λ y. f x < f y) ys (λ y h. let q : f x < bound = c.0 in omega arith) d), rises-join f bound xs ys a.1 b c.1 d)
+    (all_join (λ y. f x < f y) xs ys a.0 (all-weaker (λ y. bound ≤ f y) (λ y. f x < f y) ys (λ y h. let q : f x < bound = c.0 in omega arith) d), rises-join f bound xs ys a.1 b c.1 d)
 
 -- ---- keys in ascending order
 
 with-all : (P : ℕ → Type 0) (k : ℕ) (js : List ℕ) → P k → AllByRecursion P js → AllByRecursion P (with_key k js)
 with-all P k [] p a = (p, tt)
 with-all P k (j ∷ js) p a = elim (cases_lt k j) [
-  | inl lt ↦ subst (AllByRecursion P) (sym (less k j js lt)) (p, a)
+  | inl lt ↦ subst (AllByRecursion P) (sym (with-less k j js lt)) (p, a)
   | inr ge ↦ elim (cases_eq k j) [
-    | inl e ↦ subst (AllByRecursion P) (sym (same k j js e)) a
-    | inr d ↦ subst (AllByRecursion P) (sym (more k j js ge d)) (a.0, with-all P k js p a.1)
+    | inl e ↦ subst (AllByRecursion P) (sym (with-same k j js e)) a
+    | inr d ↦ subst (AllByRecursion P) (sym (with-more k j js ge d)) (a.0, with-all P k js p a.1)
   ]
 ]
-  where
-    less : (k j : ℕ) (js : List ℕ) → k < j → with_key k (j ∷ js) ≡ k ∷ j ∷ js
-    less k j js h = grind arith
-
-    same : (k j : ℕ) (js : List ℕ) → k ≡ j → with_key k (j ∷ js) ≡ j ∷ js
-    same k j js h = grind arith
-
-    more : (k j : ℕ) (js : List ℕ) → j ≤ k → k ≢ j → with_key k (j ∷ js) ≡ j ∷ with_key k js
-    more k j js h d = grind arith
 
 with-rising : (k : ℕ) (js : List ℕ) → Rising js → Rising (with_key k js)
 with-rising k [] r = (tt, tt)
 with-rising k (j ∷ js) r = elim (cases_lt k j) [
-  | inl lt ↦ subst Rising (sym (less k j js lt)) ((lt, all-weaker (λ y. j < y) (λ y. k < y) js (λ y h. omega arith) r.0), r)
+  | inl lt ↦ subst Rising (sym (with-less k j js lt)) ((lt, all-weaker (λ y. j < y) (λ y. k < y) js (λ y h. omega arith) r.0), r)
   | inr ge ↦ elim (cases_eq k j) [
-    | inl e ↦ subst Rising (sym (same k j js e)) r
-    | inr d ↦ subst Rising (sym (more k j js ge d)) (with-all (λ y. j < y) k js (omega arith) r.0, with-rising k js r.1)
+    | inl e ↦ subst Rising (sym (with-same k j js e)) r
+    | inr d ↦ subst Rising (sym (with-more k j js ge d)) (with-all (λ y. j < y) k js (omega arith) r.0, with-rising k js r.1)
   ]
 ]
-  where
-    less : (k j : ℕ) (js : List ℕ) → k < j → with_key k (j ∷ js) ≡ k ∷ j ∷ js
-    less k j js h = grind arith
-
-    same : (k j : ℕ) (js : List ℕ) → k ≡ j → with_key k (j ∷ js) ≡ j ∷ js
-    same k j js h = grind arith
-
-    more : (k j : ℕ) (js : List ℕ) → j ≤ k → k ≢ j → with_key k (j ∷ js) ≡ j ∷ with_key k js
-    more k j js h d = grind arith
 
 pub ascending-rises : (ks : List ℕ) → Rising (ascending ks)
 ascending-rises [] = tt
@@ -103,10 +83,6 @@ ascending-all P (k ∷ ks) a = with-all P k (ascending ks) a.0 (ascending-all P 
 range-from : (a b n : ℕ) → a ≤ b → AllByRecursion (λ k. a ≤ k) (range_with_len b n)
 range-from a b zero h = tt
 range-from a b (suc n) h = (h, range-from a (b + 1) n (omega arith))
-
-pub range-below : (a n bound : ℕ) → a + n ≤ bound → AllByRecursion (λ k. k < bound) (range_with_len a n)
-range-below a zero bound h = tt
-range-below a (suc n) bound h = (omega arith, range-below (a + 1) n bound (omega arith))
 
 pub range-rises : (a n : ℕ) → Rising (range_with_len a n)
 range-rises a zero = tt

@@ -5,6 +5,9 @@ use Rattle.std.specs.List.{AllByRecursion}
 use Rattle.std.proofs.lemmas.Bool.{cases_eq, cases_lt}
 use Rattle.std.proofs.lemmas.List.{get_or_append_left, get_or-append_right, get_or_push, get_or_default, get_or_past, get_or-map, length-map}
 use Rattle.std.proofs.lemmas.List.Sums.{position_or_len_is}
+use Rattle.std.proofs.lemmas.List.Elements.{Contains-append_left}
+use Rattle.small_facts.proofs.Every.{all_join, all_below_weaker, all_below_at, all_from_members}
+use Rattle.small_facts.proofs.Numbers.{equal_turned}
 use Rattle.cluster_msgs.specs.Dags.{IsEarlier}
 use Rattle.cluster_msgs.specs.Shape.{deps_of}
 use Rattle.task_graph.specs.declared.graph.Task.{Task}
@@ -25,11 +28,8 @@ pub in-from : (xs : List ℕ) (k : ℕ) → is_in xs k ≡ true → Contains xs 
 in-from [] k h = cc
 in-from (x ∷ xs) k h = by_case (nat_eq k x) refl h (in-from xs k)
   where
-    same : (k x : ℕ) → nat_eq k x ≡ true → x ≡ k
-    same k x e = grind arith
-
     by_case : (b : Bool) → nat_eq k x ≡ b → (b || is_in xs k) ≡ true → (is_in xs k ≡ true → Contains xs k) → Contains (x ∷ xs) k
-    by_case true e h f = (0, omega arith, same k x e)
+    by_case true e h f = (0, omega arith, equal_turned k x e)
     by_case false e h f = let c = f h in (suc c.0, omega (arith, c.1), c.2)
 
 pub not-in : (xs : List ℕ) (k : ℕ) → is_in xs k ≡ false → (i : ℕ) → i < length xs → get_or xs i 0 ≢ k
@@ -43,22 +43,6 @@ not-in (x ∷ xs) k h i lt e = by_case (nat_eq k x) refl h (not-in xs k) i lt e
     by_case true t h f i lt e = cc
     by_case false t h f zero lt e = other k x t e
     by_case false t h f (suc i) lt e = f h i (omega arith) e
-
-all-join : {A : Type 0} (P : A → Type 0) (xs ys : List A) → AllByRecursion P xs → AllByRecursion P ys → AllByRecursion P (xs ++ ys)
-all-join P [] ys a b = b
-all-join P (x ∷ xs) ys a b = (a.0, all-join P xs ys a.1 b)
-
-all-weaker : (m n : ℕ) (xs : List ℕ) → m ≤ n → AllByRecursion (λ k. k < m) xs → AllByRecursion (λ k. k < n) xs
-all-weaker m n [] h a = tt
-all-weaker m n (x ∷ xs) h a = (omega (arith, a.0), all-weaker m n xs h a.1)
-
-pub member-small : (xs : List ℕ) (n i : ℕ) → AllByRecursion (λ k. k < n) xs → i < length xs → get_or xs i 0 < n
-member-small [] n i a h = absurd (omega arith)
-member-small (x ∷ xs) n zero a h = a.0
-member-small (x ∷ xs) n (suc i) a h = member-small xs n i a.1 (omega arith)
-
-contains-front : (xs ys : List ℕ) (k : ℕ) → Contains xs k → Contains (xs ++ ys) k
-contains-front xs ys k c = (c.0, omega (arith, c.1, length-append xs ys), get_or_append_left xs ys k c.0 c.1 ∙ c.2)
 
 -- one more key, behind what it depends on
 push-behind : (deps : ℕ → List ℕ) (all : List ℕ) (k : ℕ) → AreBehind deps all → ((i : ℕ) → i < length all → get_or all i 0 ≢ k) → ((d : ℕ) → Contains (deps k) d → Contains all d) → AreBehind deps (all ++ k ∷ [])
@@ -97,10 +81,10 @@ visits-all deps f bound visit well le (x ∷ ks) done a s =
         sound = r.sound;
         more = v.more ++ r.more;
         all_is = r.all_is ∙ ap (λ (xs : List ℕ). xs ++ r.more) v.all_is ∙ append_assoc done v.more r.more;
-        small = all-join (λ k. k < bound) v.more r.more (all-weaker (suc x) bound v.more (omega (arith, a.0)) v.small) r.small;
+        small = all_join (λ k. k < bound) v.more r.more (all_below_weaker (suc x) bound v.more (omega (arith, a.0)) v.small) r.small;
       },
       λ k c. elim (cases_eq x k) [
-        | inl e ↦ subst (λ xs. Contains xs k) (sym r.all_is) (contains-front (visit x done) r.more k (subst (Contains (visit x done)) e one.1))
+        | inl e ↦ subst (λ xs. Contains xs k) (sym r.all_is) (Contains-append_left (visit x done) r.more k (subst (Contains (visit x done)) e one.1))
         | inr d ↦ rest.1 k (later k x ks c d)
       ],
     )
@@ -127,7 +111,7 @@ visit-well deps e (suc f) k done h s =
         let new : (i : ℕ) → i < length all → get_or all i 0 ≢ k = λ i lt q.
         elim (cases_lt i (length done)) [
           | inl a ↦ not-in done k t i a (sym (ap (λ (xs : List ℕ). get_or xs i 0) v.all_is ∙ get_or_append_left done v.more 0 i a) ∙ q)
-          | inr a ↦ let m : get_or v.more (i - length done) 0 < k = member-small v.more k (i - length done) v.small (omega arith) in
+          | inr a ↦ let m : get_or v.more (i - length done) 0 < k = all_below_at v.more k (i - length done) v.small (omega arith) in
               let x : get_or all i 0 ≡ get_or v.more (i - length done) 0 = ap (λ (xs : List ℕ). get_or xs i 0) v.all_is ∙ get_or-append_right done v.more (length done) i 0 refl a in
               absurd (omega arith)
         ] in (
@@ -135,7 +119,7 @@ visit-well deps e (suc f) k done h s =
             sound = push-behind deps all k v.sound new r.1;
             more = v.more ++ k ∷ [];
             all_is = ap (λ (xs : List ℕ). xs ++ k ∷ []) v.all_is ∙ append_assoc done v.more (k ∷ []);
-            small = all-join (λ x. x < suc k) v.more (k ∷ []) (all-weaker k (suc k) v.more (omega arith) v.small) (omega arith, tt);
+            small = all_join (λ x. x < suc k) v.more (k ∷ []) (all_below_weaker k (suc k) v.more (omega arith) v.small) (omega arith, tt);
           },
           (length all, omega (arith, length-append all (k ∷ [])), get_or_push all k k (length all) refl),
         )
@@ -171,10 +155,6 @@ numbering tasks order s =
       before = λ j d h c. let r = s.behind j d h (old j d c) in let z : position order d ≡ r.0 = ap (position order) (sym r.2) ∙ once r.0 (omega (arith, r.1)) in omega (arith, r.1);
     }
 
-pub all-from : (P : ℕ → Type 0) (xs : List ℕ) → ((k : ℕ) → Contains xs k → P k) → AllByRecursion P xs
-all-from P [] h = tt
-all-from P (x ∷ xs) h = (h x (0, omega arith, refl), all-from P xs (λ k c. h k (suc c.0, omega (arith, c.1), c.2)))
-
 -- under the new numbers each dependency stays below its key
 pub renumbered-earlier : (tasks : List Task) (order : List ℕ) → IsNumbering tasks order → IsEarlier (deps_of (shape_of (renumbered tasks order)))
 renumbered-earlier tasks order n = record {
@@ -183,7 +163,7 @@ renumbered-earlier tasks order n = record {
         let is : deps_of (shape_of (renumbered tasks order)) j ≡ ascending (map (position order) (task_at tasks (get_or order j 0)).deps) =
         deps-at (renumbered tasks order) j ∙ ap (λ (t : Task). t.deps) (get_or-map (λ old. moved_task (map (position order) (deps_of (shape_of tasks) old)) (task_at tasks old)) order j 0 no_task lt)
         ∙ ap (λ ds. ascending (map (position order) ds)) (deps-at tasks (get_or order j 0)) in
-        subst (AllByRecursion (λ d. d < j)) (sym is) (all-from (λ d. d < j) (ascending (map (position order) (task_at tasks (get_or order j 0)).deps)) (λ k c.
+        subst (AllByRecursion (λ d. d < j)) (sym is) (all_from_members (λ d. d < j) (ascending (map (position order) (task_at tasks (get_or order j 0)).deps)) (λ k c.
         let m = ascending-from (map (position order) (task_at tasks (get_or order j 0)).deps) k c in
         let q : m.0 < length (task_at tasks (get_or order j 0)).deps = omega (arith, m.1, length-map (task_at tasks (get_or order j 0)).deps (position order)) in
         let d = get_or (task_at tasks (get_or order j 0)).deps m.0 0 in

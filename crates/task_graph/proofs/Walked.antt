@@ -3,13 +3,14 @@ use Rattle.std.proofs.Common.{◌≡◌, ℕ, zero, suc, ◌+◌, ◌<◌, Bool,
 use Rattle.std.specs.Prelude.{nat_eq}
 use Rattle.std.specs.List.{AllByRecursion}
 use Rattle.std.proofs.Math.Seq.{drop-cons}
-use Rattle.std.proofs.lemmas.List.Folds.{list_any-append}
+use Rattle.small_facts.proofs.Numbers.{unequal_over}
 use Rattle.cluster_msgs.specs.Dags.{IsEarlier}
 use Rattle.cluster_msgs.proofs.Dags.{dag-step, all-weaker}
 use Rattle.task_graph.specs.declared.orders.Frame.{Frame}
 use Rattle.task_graph.specs.Numbers.{Numbers}
 use Rattle.task_graph.specs.Orders.{is_in, visit_all, visit_within}
 use Rattle.task_graph.specs.Walks.{with_visit, visit, visits_rest, costs, weight_step, weight, frame_weight, AreUnderWay, IsStep}
+use Rattle.task_graph.proofs.Numbered.{in-more}
 
 -- ---- visits
 
@@ -60,14 +61,8 @@ weight-is deps e k = dag-step deps weight_step 0 e k
 
 -- ---- steps
 
-is-in-more : (xs : List ℕ) (k j : ℕ) → is_in (xs ++ k ∷ []) j ≡ (is_in xs j || (nat_eq j k || false))
-is-in-more xs k j = list_any-append (nat_eq j) xs (k ∷ [])
-
 fresh-more : (xs : List ℕ) (k j : ℕ) → is_in xs j ≡ false → k < j → is_in (xs ++ k ∷ []) j ≡ false
-fresh-more xs k j h lt = is-in-more xs k j ∙ ap (λ b. b || (nat_eq j k || false)) h ∙ ap (λ b. b || false) (apart j k lt)
-  where
-    apart : (j k : ℕ) → k < j → nat_eq j k ≡ false
-    apart j k lt = grind arith
+fresh-more xs k j h lt = in-more xs k j ∙ ap (λ b. b || (nat_eq j k || false)) h ∙ ap (λ b. b || false) (unequal_over j k lt)
 
 under-more : (deps : ℕ → List ℕ) (keys : ℕ) (done : List ℕ) (k : ℕ) (fs : List Frame) → AllByRecursion (λ (g : Frame). k < g.key) fs → AreUnderWay deps keys done fs → AreUnderWay deps keys (done ++ k ∷ []) fs
 under-more deps keys done k [] a u = tt

@@ -2,10 +2,13 @@
 use Rattle.std.proofs.Common.{◌≡◌, ℕ, ◌+◌, ◌<◌, ◌≤◌, Bool, true, false, ◌||◌, eqb, [], ◌∷◌, Option, Some, None, refl, sym, ap, ◌∙◌, subst, arith}
 use Rattle.std.proofs.lemmas.Bool.{false≢true, eqb-true}
 use Rattle.std.specs.List.{list_any}
+use Rattle.std.proofs.Math.Bool.{or-false}
+use Rattle.std.proofs.lemmas.List.Folds.{list_any-append}
+use Rattle.std.proofs.lemmas.Option.{same_Some}
+use Rattle.small_facts.proofs.Ranges.{range_push}
 use Rattle.cluster_rules.specs.Functions.{from_one}
 use Rattle.cluster_rules.specs.Sched.{Facts, IsSound, keys, held, holds}
 use Rattle.cluster_rules.specs.SchedTable.{joined}
-use Rattle.cluster_rules.proofs.DerivedLemmas.{range_more, any_append}
 use Rattle.key_sets.specs.Sets.{has}
 use Rattle.task_table.specs.Changes.{with_change, changed_key, Fits}
 use Rattle.task_table.specs.Tasks.{Tasks, SameAt, IsTouched, IsRemembered}
@@ -13,7 +16,7 @@ use Rattle.task_table.specs.Parts.{IsParts, IsNearly, IsFollowed}
 use Rattle.task_table.specs.declared.change.Change.{Change}
 use Rattle.task_table.specs.declared.change.Change.TheVariants.{Want, Unwant, Hold, Lose, Assign, Unassign, Steal, Unsteal, Fail, Forgive, Connect, Disconnect, Send, Fence, Finish}
 use Rattle.task_table.specs.declared.parts.Parts.{Parts}
-use Rattle.task_table.proofs.Near.{IsNear, near_change, wanted_same, held_same, some_key, no_key, the_key}
+use Rattle.task_table.proofs.Near.{IsNear, near_change, wanted_same, held_same, some_key, no_key}
 use Rattle.task_table.proofs.Alike.{IsAlike, same_alike, parts_alike, parts_near, same_levels}
 
 -- what derived facts rest on is the same, and so is who holds and wants what
@@ -39,8 +42,8 @@ equal_fields f g s w h l b o = record {
 held_more : (f : Facts) → IsSound f → (k : ℕ) → list_any (λ w. holds f w k) (from_one (f.last_worker + 1)) ≡ held f k
 unfolding held
 held_more f s k =
-    ap (list_any (λ w. holds f w k)) (range_more 1 f.last_worker) ∙ any_append (λ w. holds f w k) (from_one f.last_worker) ((1 + f.last_worker) ∷ [])
-    ∙ ap (λ t. list_any (λ w. holds f w k) (from_one f.last_worker) || (t || false)) (nobody (holds f (1 + f.last_worker) k) refl) ∙ or_false (list_any (λ w. holds f w k) (from_one f.last_worker))
+    ap (list_any (λ w. holds f w k)) (range_push 1 f.last_worker) ∙ list_any-append (λ w. holds f w k) (from_one f.last_worker) ((1 + f.last_worker) ∷ [])
+    ∙ ap (λ t. list_any (λ w. holds f w k) (from_one f.last_worker) || (t || false)) (nobody (holds f (1 + f.last_worker) k) refl) ∙ or-false (list_any (λ w. holds f w k) (from_one f.last_worker))
   where
     nobody : (t : Bool) → holds f (1 + f.last_worker) k ≡ t → t ≡ false
     nobody true e = let a = s.numbers (1 + f.last_worker) (s.holders (1 + f.last_worker) k e) in absurd (over f.last_worker a.1)
@@ -48,10 +51,6 @@ held_more f s k =
         over : (n : ℕ) → 1 + n ≤ n → ⊥
         over n l = omega (arith, l)
     nobody false e = refl
-
-    or_false : (a : Bool) → (a || false) ≡ a
-    or_false true = refl
-    or_false false = refl
 
 held_joined : (f : Facts) → IsSound f → (threads k : ℕ) → held (joined f threads) k ≡ held f k
 unfolding held joined
@@ -142,16 +141,16 @@ remembered_after f g s t r u n w = record {
 
 -- the key of a change is there
 pub key_low : (f : Facts) (rows : ℕ) (c : Change) (k : ℕ) → Fits f rows c → changed_key c ≡ Some k → k < keys f
-key_low f rows (Want c k) q h e = subst (λ (x : ℕ). x < keys f) (the_key k q e) h.key
-key_low f rows (Unwant c k) q h e = subst (λ (x : ℕ). x < keys f) (the_key k q e) h.key
-key_low f rows (Hold w k) q h e = subst (λ (x : ℕ). x < keys f) (the_key k q e) h.key
-key_low f rows (Lose w k) q h e = subst (λ (x : ℕ). x < keys f) (the_key k q e) h.key
-key_low f rows (Assign k w) q h e = subst (λ (x : ℕ). x < keys f) (the_key k q e) h.key
-key_low f rows (Unassign k) q h e = subst (λ (x : ℕ). x < keys f) (the_key k q e) h
+key_low f rows (Want c k) q h e = subst (λ (x : ℕ). x < keys f) (same_Some k q e) h.key
+key_low f rows (Unwant c k) q h e = subst (λ (x : ℕ). x < keys f) (same_Some k q e) h.key
+key_low f rows (Hold w k) q h e = subst (λ (x : ℕ). x < keys f) (same_Some k q e) h.key
+key_low f rows (Lose w k) q h e = subst (λ (x : ℕ). x < keys f) (same_Some k q e) h.key
+key_low f rows (Assign k w) q h e = subst (λ (x : ℕ). x < keys f) (same_Some k q e) h.key
+key_low f rows (Unassign k) q h e = subst (λ (x : ℕ). x < keys f) (same_Some k q e) h
 key_low f rows (Steal k thief refused) q h e = no_key q e
 key_low f rows (Unsteal k) q h e = no_key q e
-key_low f rows (Fail k) q h e = subst (λ (x : ℕ). x < keys f) (the_key k q e) h
-key_low f rows (Forgive k) q h e = subst (λ (x : ℕ). x < keys f) (the_key k q e) h
+key_low f rows (Fail k) q h e = subst (λ (x : ℕ). x < keys f) (same_Some k q e) h
+key_low f rows (Forgive k) q h e = subst (λ (x : ℕ). x < keys f) (same_Some k q e) h
 key_low f rows (Connect threads) q h e = no_key q e
 key_low f rows (Disconnect w) q h e = no_key q e
 key_low f rows (Send w) q h e = no_key q e

@@ -2,13 +2,13 @@
 use Rattle.std.proofs.Common.{◌≡◌, ℕ, ◌<◌, ◌≤◌, Bool, true, false, ◌&&◌, not, nat_lt, cond, List, [], ◌∷◌, Some, None, find, refl, sym, ap, ◌∙◌, subst, arith, ⊎_elim}
 use Rattle.std.specs.List.{AllByRecursion}
 use Rattle.std.specs.Option.{option_or}
-use Rattle.std.proofs.lemmas.Bool.{false≢true, cases_lt}
+use Rattle.std.proofs.lemmas.Bool.{false≢true, cases_lt, lt-ltb, le-ltb}
+use Rattle.std.proofs.lemmas.Option.{same_Some}
 use Rattle.cluster_rules.specs.Sched.{Facts, IsSound, keys, deps, erred, blame, blame_from}
 use Rattle.cluster_rules.proofs.DerivedLemmas.{All-weaken}
 use Rattle.cluster_rules.proofs.SchedLemmas.{blame-is, erred-past}
 use Rattle.task_table.specs.Tasks.{first_where, next_blamed, own_blame}
-use Rattle.task_table.proofs.Near.{the_key, no_key}
-use Rattle.task_table.proofs.Opening.{yes_below, not_below}
+use Rattle.task_table.proofs.Near.{no_key}
 
 find_first : (p q : ℕ → Bool) (ds : List ℕ) → AllByRecursion (λ d. p d ≡ q d) ds → find q ds ≡ first_where p ds
 find_first p q [] a = refl
@@ -25,7 +25,7 @@ first_low p n d [] a e = no_key d e
 first_low p n d (j ∷ ds) a e = pick (p j) e (first_low p n d ds a.1)
   where
     pick : (x : Bool) → option_or (cond x (Some j) None) (first_where p ds) ≡ Some d → (first_where p ds ≡ Some d → d < n) → d < n
-    pick true h rest = subst (λ (m : ℕ). m < n) (the_key j d h) a.0
+    pick true h rest = subst (λ (m : ℕ). m < n) (same_Some j d h) a.0
     pick false h rest = rest h
 
 agree : (f : Facts) (p : ℕ → Bool) (k : ℕ) → IsSound f → ((j : ℕ) → j < keys f → p j ≡ erred f j) → k < keys f → find (erred f) (deps f k) ≡ first_where p (deps f k)
@@ -67,10 +67,10 @@ low_any f p k d s e = pick (nat_lt k (keys f)) e
     pick false h = no_key d h
 
 pub same_any : (f : Facts) (p : ℕ → Bool) (k d : ℕ) → IsSound f → ((j : ℕ) → j < keys f → p j ≡ erred f j) → cond (nat_lt k (keys f)) (next_blamed f p k) None ≡ Some d → blame f d ≡ blame f k
-same_any f p k d s h e = ⊎_elim (λ l. same_step f p k d s h l (ap (λ t. cond t (next_blamed f p k) None) (sym (yes_below k (keys f) l)) ∙ e)) (λ m. no_key d (ap (λ t. cond t (next_blamed f p k) None) (sym (not_below k (keys f) m)) ∙ e)) (cases_lt k (keys f))
+same_any f p k d s h e = ⊎_elim (λ l. same_step f p k d s h l (ap (λ t. cond t (next_blamed f p k) None) (sym (lt-ltb k (keys f) l)) ∙ e)) (λ m. no_key d (ap (λ t. cond t (next_blamed f p k) None) (sym (le-ltb k (keys f) m)) ∙ e)) (cases_lt k (keys f))
 
 pub last_any : (f : Facts) (p : ℕ → Bool) (k : ℕ) → IsSound f → ((j : ℕ) → j < keys f → p j ≡ erred f j) → cond (nat_lt k (keys f)) (next_blamed f p k) None ≡ None → blame f k ≡ own_blame f k
-last_any f p k s h e = ⊎_elim (λ l. last_step f p k s h l (ap (λ t. cond t (next_blamed f p k) None) (sym (yes_below k (keys f) l)) ∙ e)) (λ m. past m) (cases_lt k (keys f))
+last_any f p k s h e = ⊎_elim (λ l. last_step f p k s h l (ap (λ t. cond t (next_blamed f p k) None) (sym (lt-ltb k (keys f) l)) ∙ e)) (λ m. past m) (cases_lt k (keys f))
   where
     past : keys f ≤ k → blame f k ≡ own_blame f k
     past m = blame-is f s k ∙ ap (λ t. cond t (cond (f.bad k) (Some k) (blame_from (blame f) (find (erred f) (deps f k)))) None) (erred-past f s k m) ∙ sym (ap (λ t. cond t (cond (f.bad k) (Some k) None) None) (erred-past f s k m))

@@ -1,7 +1,8 @@
 -- What a change of one key's facts makes of flags, queues and touched keys.
 use Rattle.std.proofs.Common.{◌≡◌, ℕ, ◌<◌, ◌≤◌, Bool, true, false, ◌&&◌, ◌||◌, eqb, cond, not, List, is_none, refl, sym, ap, ◌∙◌, arith, ⊎_elim}
-use Rattle.std.proofs.lemmas.Bool.{false≢true, cases_lt, eqb-true}
-use Rattle.std.proofs.lemmas.Bool.Decides.{nat_tests}
+use Rattle.std.proofs.lemmas.Bool.{false≢true, cases_lt, eqb-true, or_parts}
+use Rattle.std.proofs.Math.Bool.{or-true}
+use Rattle.small_facts.proofs.Numbers.{eqb_self, unequal_over}
 use Rattle.cluster_rules.specs.Sched.{Facts, keys}
 use Rattle.key_sets.specs.Sets.{has, room}
 use Rattle.spread_flags.specs.Spread.{IsKept}
@@ -48,16 +49,10 @@ pub record IsStep (g : Facts) (p q : Parts) (n m : Levels) (marked marks : List 
 
 -- the marks before the walk and after it
 pub key_marked : (xs ms : List ℕ) (key : ℕ) → ((k : ℕ) → has xs k ≡ cond (eqb k key) true (has ms k)) → has xs key ≡ true
-key_marked xs ms key f = f key ∙ ap (λ t. cond t true (has ms key)) (same_key key)
-  where
-    same_key : (a : ℕ) → eqb a a ≡ true
-    same_key a = grind (arith, nat_tests)
+key_marked xs ms key f = f key ∙ ap (λ t. cond t true (has ms key)) (eqb_self key)
 
 pub marks_low : (n : ℕ) (ms xs ys : List ℕ) (key : ℕ) → key < n → ((k : ℕ) → has ms k ≡ false) → ((k : ℕ) → has xs k ≡ cond (eqb k key) true (has ms k)) → ((k : ℕ) → n ≤ k → has ys k ≡ has xs k) → (k : ℕ) → has ys k ≡ true → k < n
-marks_low n ms xs ys key l none f w k e = ⊎_elim (λ a. a) (λ a. absurd (false≢true (sym (w k a ∙ f k ∙ ap (λ t. cond t true (has ms k)) (apart k key (omega (arith, l, a))) ∙ none k) ∙ e))) (cases_lt k n)
-  where
-    apart : (a b : ℕ) → b < a → eqb a b ≡ false
-    apart a b m = grind (arith, nat_tests)
+marks_low n ms xs ys key l none f w k e = ⊎_elim (λ a. a) (λ a. absurd (false≢true (sym (w k a ∙ f k ∙ ap (λ t. cond t true (has ms k)) (unequal_over k key (omega (arith, l, a))) ∙ none k) ∙ e))) (cases_lt k n)
 
 not_key : (g : Facts) (p q : Parts) (n m : Levels) (xs ys : List ℕ) (key : ℕ) → IsStep g p q n m xs ys key → (k : ℕ) → has ys k ≡ false → eqb k key ≡ false
 not_key g p q n m xs ys key s k e = pick (eqb k key) refl
@@ -76,10 +71,6 @@ step_same g p q n m xs ys key s k e = untold_same p.levels n m k s.old_waiting s
       waiting = s.links.waiting ∙ s.noted_links.waiting;
       missing = s.links.missing ∙ s.noted_links.missing;
     }
-
-or_either : (a b : Bool) → (a || b) ≡ false → (a ≡ false) × (b ≡ false)
-or_either true b e = absurd (false≢true (sym e))
-or_either false b e = (refl, e)
 
 -- a queue is that of the facts where its key is marked, and elsewhere stays
 queue_is : (ys : List ℕ) (k : ℕ) (new by old due : Bool) → new ≡ cond (has ys k) by old → (has ys k ≡ true → by ≡ due) → (has ys k ≡ false → old ≡ due) → new ≡ due
@@ -132,11 +123,7 @@ step_parts g p q n m xs ys key s =
 
 pub step_followed : (g : Facts) (p q : Parts) (n m : Levels) (xs ys : List ℕ) (key : ℕ) → IsStep g p q n m xs ys key → IsFollowed (keys g) p q key
 step_followed g p q n m xs ys key s = record {
-  kept = λ k l e. levels_then p.levels m q.levels k (step_same g p q n m xs ys key s k (or_either (has p.touched k) (has ys k) (sym (s.added k) ∙ e)).1) (levels_forgot m q.levels k s.known s.erred s.waiting s.missing);
+  kept = λ k l e. levels_then p.levels m q.levels k (step_same g p q n m xs ys key s k (or_parts (has p.touched k) (has ys k) (sym (s.added k) ∙ e)).1) (levels_forgot m q.levels k s.known s.erred s.waiting s.missing);
   grows = λ k e. s.added k ∙ ap (λ t. t || has ys k) e;
-  named = s.added key ∙ ap (λ t. has p.touched key || t) (s.grows key (key_marked xs p.marks key s.first)) ∙ or_true (has p.touched key);
+  named = s.added key ∙ ap (λ t. has p.touched key || t) (s.grows key (key_marked xs p.marks key s.first)) ∙ or-true (has p.touched key);
 }
-  where
-    or_true : (a : Bool) → (a || true) ≡ true
-    or_true true = refl
-    or_true false = refl

@@ -1,14 +1,13 @@
 -- The lists of keys follow each change of one fact.
-use Rattle.std.proofs.Common.{◌≡◌, ℕ, ◌+◌, ◌<◌, ◌≤◌, Bool, true, false, ◌&&◌, ◌||◌, eqb, ltb, cond, List, [], ◌∷◌, Option, Some, None, is_some, option_map, refl, sym, ap, ◌∙◌, subst, arith, ⊎_elim}
+use Rattle.std.proofs.Common.{◌≡◌, ℕ, ◌<◌, ◌≤◌, Bool, true, false, ◌&&◌, ◌||◌, eqb, ltb, cond, List, Option, Some, None, is_some, option_map, refl, sym, ap, ◌∙◌, subst, arith, ⊎_elim}
 use Rattle.std.proofs.lemmas.Bool.{false≢true, cases_lt, eqb-true}
 use Rattle.std.proofs.lemmas.Bool.Decides.{nat_tests}
+use Rattle.std.proofs.Math.Bool.{and-false}
+use Rattle.small_facts.proofs.Numbers.{eqb_turned}
 use Rattle.cluster_msgs.specs.Shape.{key_count}
-use Rattle.cluster_rules.specs.Functions.{from_one, count, total}
+use Rattle.cluster_rules.specs.Functions.{from_one, count}
 use Rattle.cluster_rules.specs.Sched.{Facts, Setting, IsSound, keys, holds, is_on, is_for, connected, holder_count, sched_opening}
-use Rattle.cluster_rules.specs.SchedTable.{joined}
-use Rattle.cluster_rules.proofs.DerivedLemmas.{eqb_comm, range_more}
-use Rattle.cluster_rules.proofs.NothingLemmas.{holder_count-nowhere}
-use Rattle.cluster_rules.proofs.TotalLemmas.{total-push}
+use Rattle.cluster_rules.proofs.NothingLemmas.{holder_count-nowhere, total-zero}
 use Rattle.key_sets.specs.Sets.{has, room}
 use Rattle.task_table.specs.Changes.{with_change, changed_key, changed_worker}
 use Rattle.task_table.specs.Lists.{IsListed, IsListedBut, IsSetOf, AreRows, in_row, names, is_at, is_placed, is_shared}
@@ -17,6 +16,7 @@ use Rattle.task_table.specs.declared.change.Change.TheVariants.{Want, Unwant, Ho
 use Rattle.task_table.specs.declared.lists.Lists.{Lists}
 use Rattle.task_table.proofs.Near.{IsNear, near_change, some_key, no_key}
 use Rattle.task_table.proofs.Applied.{IsEqual, equal_change}
+use Rattle.sched_facts.proofs.Rooms.{holders_joined}
 
 names_place : (o : Option (ℕ × ℕ)) (w : ℕ) → names (option_map (λ p. p.0) o) w ≡ is_for w o
 names_place None w = refl
@@ -44,24 +44,6 @@ count_same : (f g : Facts) (k : ℕ) → g.last_worker ≡ f.last_worker → ((w
 unfolding holder_count
 count_same f g k l h = λ i. count (λ w. is_some (h w i)) (from_one (l i))
 
-nobody_next : (f : Facts) (k : ℕ) → IsSound f → holds f (1 + f.last_worker) k ≡ false
-nobody_next f k s = pick (holds f (1 + f.last_worker) k) refl
-  where
-    pick : (b : Bool) → holds f (1 + f.last_worker) k ≡ b → b ≡ false
-    pick false e = refl
-    pick true e = absurd (let n : 1 + f.last_worker ≤ f.last_worker = (s.numbers (1 + f.last_worker) (s.holders (1 + f.last_worker) k e)).1 in omega arith)
-
-count_joined : (f : Facts) (n k : ℕ) → IsSound f → holder_count (joined f n) k ≡ holder_count f k
-unfolding holder_count joined
-count_joined f n k s =
-    ap (count (λ w. holds f w k)) (range_more 1 f.last_worker)
-    ∙ total-push (λ w. cond (holds f w k) 1 0) (from_one f.last_worker) (1 + f.last_worker)
-    ∙ ap (λ b. count (λ w. holds f w k) (from_one f.last_worker) + cond b 1 0) (nobody_next f k s)
-    ∙ plain (count (λ w. holds f w k) (from_one f.last_worker))
-  where
-    plain : (x : ℕ) → x + 0 ≡ x
-    plain x = omega arith
-
 count_rest : (f : Facts) → IsSound f → (c : Change) → changed_key c ≡ None → (k : ℕ) → holder_count (with_change f c) k ≡ holder_count f k
 unfolding holder_count
 count_rest f s (Want c k) e j = some_key k e
@@ -74,7 +56,7 @@ count_rest f s (Steal k thief refused) e j = refl
 count_rest f s (Unsteal k) e j = refl
 count_rest f s (Fail k) e j = some_key k e
 count_rest f s (Forgive k) e j = some_key k e
-count_rest f s (Connect threads) e j = count_joined f threads j s
+count_rest f s (Connect threads) e j = holders_joined f threads j s
 count_rest f s (Disconnect w) e j = refl
 count_rest f s (Send w) e j = refl
 count_rest f s (Fence w k) e j = refl
@@ -92,8 +74,8 @@ moved_off false w o e = refl
 at_key : (f : Facts) (c : Change) (key w : ℕ) → changed_key c ≡ Some key → names (changed_worker c) w ≡ false → is_on f w key ≡ false → is_at (with_change f c) w key ≡ is_at f w key
 at_key f (Want c k) key w e n o = refl
 at_key f (Unwant c k) key w e n o = refl
-at_key f (Hold v k) key w e n o = ap (λ t. is_some (cond (t && eqb key k) (Some f.counter) (f.has w key)) || is_on f w key) (eqb_comm w v ∙ n)
-at_key f (Lose v k) key w e n o = ap (λ t. is_some (cond (t && eqb key k) None (f.has w key)) || is_on f w key) (eqb_comm w v ∙ n)
+at_key f (Hold v k) key w e n o = ap (λ t. is_some (cond (t && eqb key k) (Some f.counter) (f.has w key)) || is_on f w key) (eqb_turned w v ∙ n)
+at_key f (Lose v k) key w e n o = ap (λ t. is_some (cond (t && eqb key k) None (f.has w key)) || is_on f w key) (eqb_turned w v ∙ n)
 at_key f (Assign k v) key w e n o = ap (λ t. holds f w key || t) (moved_to (eqb key k) w v f.counter (f.on key) n o)
 at_key f (Unassign k) key w e n o = ap (λ t. holds f w key || t) (moved_off (eqb key k) w (f.on key) o)
 at_key f (Steal k thief refused) key w e n o = no_key key e
@@ -179,12 +161,8 @@ row_is p key k a b now mid old d e r = e ∙ ap (cond (b && eqb key k) (p key)) 
     here : eqb key k ≡ true → p key ≡ p k
     here i = ap p (eqb-true key k i)
 
-    and_false : (x : Bool) → (x && false) ≡ false
-    and_false true = refl
-    and_false false = refl
-
     far : eqb key k ≡ false → old ≡ p k
-    far i = r (ap (λ t. (a || b) && t) (eqb_comm k key ∙ i) ∙ and_false (a || b))
+    far i = r (ap (λ t. (a || b) && t) (eqb_turned k key ∙ i) ∙ and-false (a || b))
 
     pick : (x y t : Bool) → a ≡ x → b ≡ y → eqb key k ≡ t → cond (y && t) (p key) (cond (x && t) (p key) old) ≡ p k
     pick true true true u v i = here i
@@ -220,13 +198,9 @@ at_there f w k n s l = pick (is_at f w k) refl
     yes : (a b : ℕ) → a < b → (ltb a b && true) ≡ true
     yes a b m = grind (arith, nat_tests)
 
-    no : (b : Bool) → (b && false) ≡ false
-    no true = refl
-    no false = refl
-
     pick : (b : Bool) → is_at f w k ≡ b → (ltb w n && b) ≡ b
     pick true e = let m : w ≤ f.last_worker = (s.numbers w (at_connected f w k s e)).1 in yes w n (omega (arith, m, s.few_numbers, l))
-    pick false e = no (ltb w n)
+    pick false e = and-false (ltb w n)
 
 pub row_named : (f : Facts) (v key w k : ℕ) (z : Bool) → cond (eqb v w && eqb key k) (is_at f v key) z ≡ cond (eqb v w && eqb key k) (is_at f w key) z
 row_named f v key w k z = pick (eqb v w) refl
@@ -253,13 +227,9 @@ listed_first f l e p s r a b c = record {
 pub placed_keys : (f : Facts) (l : Lists) → IsSound f → IsListed f l → IsSetOf (keys f) (is_placed f) l.placed
 placed_keys f l s h = record { exact = h.placed; within = λ k e. ⊎_elim (λ a. a) (λ a. absurd (false≢true (sym (ap is_some (s.on k a)) ∙ sym (h.placed k) ∙ e))) (cases_lt k (keys f)) }
 
-total_none : (g : ℕ → ℕ) (xs : List ℕ) → ((x : ℕ) → g x ≡ 0) → total g xs ≡ 0
-total_none g [] h = refl
-total_none g (x ∷ xs) h = ap (λ n. n + total g xs) (h x) ∙ ap (λ n. 0 + n) (total_none g xs h)
-
 count_past : (f : Facts) (k : ℕ) → IsSound f → keys f ≤ k → holder_count f k ≡ 0
 unfolding holder_count
-count_past f k s l = total_none (λ w. cond (holds f w k) 1 0) (from_one f.last_worker) (λ w. ap (λ o. cond (is_some o) 1 0) (s.has w k l))
+count_past f k s l = total-zero (λ w. cond (holds f w k) 1 0) (from_one f.last_worker) (λ w. ap (λ o. cond (is_some o) 1 0) (s.has w k l))
 
 pub shared_keys : (f : Facts) (l : Lists) → IsSound f → IsListed f l → IsSetOf (keys f) (is_shared f) l.shared
 shared_keys f l s h = record { exact = h.shared; within = λ k e. ⊎_elim (λ a. a) (λ a. absurd (false≢true (sym (ap (ltb 1) (count_past f k s a)) ∙ sym (h.shared k) ∙ e))) (cases_lt k (keys f)) }

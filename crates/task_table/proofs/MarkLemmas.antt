@@ -1,15 +1,8 @@
 -- Sets that grow along a walk over the members of another.
-use Rattle.std.proofs.Common.{◌≡◌, ℕ, ◌+◌, ◌<◌, ◌≤◌, Bool, true, false, ◌||◌, List, Some, refl, sym, ap, ◌∙◌, arith, ⊎_elim, subst}
-use Rattle.std.proofs.lemmas.Bool.{false≢true, cases_lt}
+use Rattle.std.proofs.Common.{◌≡◌, ℕ, ◌+◌, ◌<◌, ◌≤◌, Bool, true, false, ◌||◌, List, Some, sym, ◌∙◌, arith, ⊎_elim, subst}
+use Rattle.std.proofs.lemmas.Bool.{false≢true, cases_lt, or_right, or_left}
 use Rattle.cluster_rules.specs.Derived.{is_in}
 use Rattle.key_sets.specs.Sets.{IsFirst}
-
-pub or_right : (a b : Bool) → b ≡ true → (a || b) ≡ true
-or_right true b e = refl
-or_right false b e = e
-
-pub or_left : (a b : Bool) → a ≡ true → (a || b) ≡ true
-or_left a b e = ap (λ c. c || b) e
 
 -- a member below the next after the first is below it or is it
 pub led_next : (p : ℕ → Bool) (t : ℕ → List ℕ) (old new : ℕ → Bool) (from key : ℕ) → IsFirst p from (Some key) → ((j k : ℕ) → j < from → p j ≡ true → is_in k (t j) ≡ true → old k ≡ true) → ((k : ℕ) → new k ≡ (old k || is_in k (t key))) → (j k : ℕ) → j < key + 1 → p j ≡ true → is_in k (t j) ≡ true → new k ≡ true
@@ -20,7 +13,3 @@ led_next p t old new from key f led marked j k l e i = marked k ∙ ⊎_elim (λ
 
 pub led_all : (p : ℕ → Bool) (from : ℕ) → ((k : ℕ) → from ≤ k → p k ≡ false) → (j : ℕ) → p j ≡ true → j < from
 led_all p from h j e = ⊎_elim (λ a. a) (λ a. absurd (false≢true (sym (h j a) ∙ e))) (cases_lt j from)
-
-pub or_false : (a : Bool) → (a || false) ≡ a
-or_false true = refl
-or_false false = refl

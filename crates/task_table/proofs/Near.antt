@@ -1,6 +1,8 @@
 -- What a change of one fact leaves as it was.
 use Rattle.std.proofs.Common.{◌≡◌, ℕ, ◌+◌, Bool, true, false, ◌&&◌, eqb, cond, Option, Some, None, is_some, refl, sym, ap, ◌∙◌, subst}
 use Rattle.std.specs.List.{list_any}
+use Rattle.std.proofs.Math.Bool.{and-false}
+use Rattle.std.proofs.lemmas.Option.{same_Some}
 use Rattle.cluster_rules.specs.Functions.{put, put_pair, from_one}
 use Rattle.cluster_rules.specs.Sched.{Facts, held, wanted}
 use Rattle.task_table.specs.Changes.{with_change, changed_key}
@@ -17,15 +19,11 @@ pub record IsNear (f g : Facts) (key : ℕ) : Type 0 where
   pub has : (w k : ℕ) → eqb k key ≡ false → g.has w k ≡ f.has w k
   pub want : (c k : ℕ) → eqb k key ≡ false → g.want c k ≡ f.want c k
 
-and_false : (a : Bool) → (a && false) ≡ false
-and_false true = refl
-and_false false = refl
-
 put_other : {A : Type 0} (f : ℕ → A) (key k : ℕ) (x : A) → eqb k key ≡ false → put f key x k ≡ f k
 put_other f key k x e = ap (λ t. cond t x (f k)) e
 
 pair_other : {A : Type 0} (f : ℕ → ℕ → A) (w key v k : ℕ) (x : A) → eqb k key ≡ false → put_pair f w key x v k ≡ f v k
-pair_other f w key v k x e = ap (λ t. cond (eqb v w && t) x (f v k)) e ∙ ap (λ t. cond t x (f v k)) (and_false (eqb v w))
+pair_other f w key v k x e = ap (λ t. cond (eqb v w && t) x (f v k)) e ∙ ap (λ t. cond t x (f v k)) (and-false (eqb v w))
 
 wanted_by : (f : Facts) (want : ℕ → ℕ → Bool) (k : ℕ) → ((c : ℕ) → want c k ≡ f.want c k) → wanted (record f { want = want }) k ≡ wanted f k
 unfolding wanted
@@ -88,13 +86,6 @@ near_bad f key b = record {
   want = λ c k e. refl;
 }
 
-pub the_key : (a b : ℕ) → Some a ≡ Some b → a ≡ b
-the_key a b e = ap (λ (o : Option ℕ). key_or o) e
-  where
-    key_or : Option ℕ → ℕ
-    key_or None = a
-    key_or (Some x) = x
-
 pub no_key : {A : Type 0} (b : ℕ) → ◌≡◌ {A = Option ℕ} None (Some b) → A
 no_key {A} b e = subst (λ (o : Option ℕ). is_there o) e tt
   where
@@ -107,16 +98,16 @@ pub some_key : {A : Type 0} (b : ℕ) → ◌≡◌ {A = Option ℕ} (Some b) No
 some_key {A} b e = no_key b (sym e)
 
 pub near_change : (f : Facts) (c : Change) (key : ℕ) → changed_key c ≡ Some key → IsNear f (with_change f c) key
-near_change f (Want c k) key e = subst (λ (q : ℕ). IsNear f (with_change f (Want c k)) q) (the_key k key e) (near_want f c k true)
-near_change f (Unwant c k) key e = subst (λ (q : ℕ). IsNear f (with_change f (Unwant c k)) q) (the_key k key e) (near_want f c k false)
-near_change f (Hold w k) key e = subst (λ (q : ℕ). IsNear f (with_change f (Hold w k)) q) (the_key k key e) (near_has f w k (f.counter + 1) (Some f.counter))
-near_change f (Lose w k) key e = subst (λ (q : ℕ). IsNear f (with_change f (Lose w k)) q) (the_key k key e) (near_has f w k f.counter None)
-near_change f (Assign k w) key e = subst (λ (q : ℕ). IsNear f (with_change f (Assign k w)) q) (the_key k key e) (near_on f k (f.counter + 1) (Some (w, f.counter)) (put f.steal k None))
-near_change f (Unassign k) key e = subst (λ (q : ℕ). IsNear f (with_change f (Unassign k)) q) (the_key k key e) (near_on f k f.counter None (put f.steal k None))
+near_change f (Want c k) key e = subst (λ (q : ℕ). IsNear f (with_change f (Want c k)) q) (same_Some k key e) (near_want f c k true)
+near_change f (Unwant c k) key e = subst (λ (q : ℕ). IsNear f (with_change f (Unwant c k)) q) (same_Some k key e) (near_want f c k false)
+near_change f (Hold w k) key e = subst (λ (q : ℕ). IsNear f (with_change f (Hold w k)) q) (same_Some k key e) (near_has f w k (f.counter + 1) (Some f.counter))
+near_change f (Lose w k) key e = subst (λ (q : ℕ). IsNear f (with_change f (Lose w k)) q) (same_Some k key e) (near_has f w k f.counter None)
+near_change f (Assign k w) key e = subst (λ (q : ℕ). IsNear f (with_change f (Assign k w)) q) (same_Some k key e) (near_on f k (f.counter + 1) (Some (w, f.counter)) (put f.steal k None))
+near_change f (Unassign k) key e = subst (λ (q : ℕ). IsNear f (with_change f (Unassign k)) q) (same_Some k key e) (near_on f k f.counter None (put f.steal k None))
 near_change f (Steal k thief refused) key e = no_key key e
 near_change f (Unsteal k) key e = no_key key e
-near_change f (Fail k) key e = subst (λ (q : ℕ). IsNear f (with_change f (Fail k)) q) (the_key k key e) (near_bad f k true)
-near_change f (Forgive k) key e = subst (λ (q : ℕ). IsNear f (with_change f (Forgive k)) q) (the_key k key e) (near_bad f k false)
+near_change f (Fail k) key e = subst (λ (q : ℕ). IsNear f (with_change f (Fail k)) q) (same_Some k key e) (near_bad f k true)
+near_change f (Forgive k) key e = subst (λ (q : ℕ). IsNear f (with_change f (Forgive k)) q) (same_Some k key e) (near_bad f k false)
 near_change f (Connect threads) key e = no_key key e
 near_change f (Disconnect w) key e = no_key key e
 near_change f (Send w) key e = no_key key e

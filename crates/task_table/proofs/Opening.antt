@@ -1,7 +1,6 @@
 -- The parts of a table at first, and after touched keys were forgotten.
-use Rattle.std.proofs.Common.{◌≡◌, ℕ, ◌<◌, ◌≤◌, Bool, true, false, ◌&&◌, cond, not, nat_lt, List, [], ◌∷◌, length, None, is_none, refl, sym, ap, ◌∙◌, subst, arith, ⊎_elim}
-use Rattle.std.proofs.lemmas.Bool.{false≢true, cases_lt}
-use Rattle.std.proofs.lemmas.Bool.Decides.{nat_tests}
+use Rattle.std.proofs.Common.{◌≡◌, ℕ, ◌<◌, Bool, true, false, ◌&&◌, cond, not, nat_lt, List, [], ◌∷◌, length, None, is_none, refl, sym, ap, ◌∙◌, subst, arith, ⊎_elim}
+use Rattle.std.proofs.lemmas.Bool.{false≢true, cases_lt, lt-ltb, le-ltb}
 use Rattle.std.specs.List.{list_any}
 use Rattle.cluster_rules.specs.Functions.{from_one}
 use Rattle.cluster_rules.specs.Sched.{Facts, IsSound, keys, wanted, held, known, erred, ready, fed, open_key, sched_opening}
@@ -103,18 +102,12 @@ remembered_now f s t p r e a b n = record {
     either true x y z h i = h refl
     either false x y z h i = i refl
 
-pub yes_below : (a b : ℕ) → a < b → nat_lt a b ≡ true
-yes_below a b l = grind (arith, nat_tests)
-
-pub not_below : (a b : ℕ) → b ≤ a → nat_lt a b ≡ false
-not_below a b l = grind (arith, nat_tests)
-
 -- questions of any number
 pub known_there : (f : Facts) (l : Levels) (k : ℕ) → IsSound f → IsStanding f l → (nat_lt k (keys f) && flag l.known k) ≡ known f k
-known_there f l k s t = ⊎_elim (λ a. ap (λ b. b && flag l.known k) (yes_below k (keys f) a) ∙ (t.derived k a).known) (λ a. ap (λ b. b && flag l.known k) (not_below k (keys f) a) ∙ sym (known-past f s k a)) (cases_lt k (keys f))
+known_there f l k s t = ⊎_elim (λ a. ap (λ b. b && flag l.known k) (lt-ltb k (keys f) a) ∙ (t.derived k a).known) (λ a. ap (λ b. b && flag l.known k) (le-ltb k (keys f) a) ∙ sym (known-past f s k a)) (cases_lt k (keys f))
 
 pub erred_there : (f : Facts) (l : Levels) (k : ℕ) → IsSound f → IsStanding f l → (nat_lt k (keys f) && flag l.erred k) ≡ erred f k
-erred_there f l k s t = ⊎_elim (λ a. ap (λ b. b && flag l.erred k) (yes_below k (keys f) a) ∙ (t.derived k a).erred) (λ a. ap (λ b. b && flag l.erred k) (not_below k (keys f) a) ∙ sym (erred-past f s k a)) (cases_lt k (keys f))
+erred_there f l k s t = ⊎_elim (λ a. ap (λ b. b && flag l.erred k) (lt-ltb k (keys f) a) ∙ (t.derived k a).erred) (λ a. ap (λ b. b && flag l.erred k) (le-ltb k (keys f) a) ∙ sym (erred-past f s k a)) (cases_lt k (keys f))
 
 pub roots_all : (f : Facts) (p : Parts) → IsSound f → IsParts f p → (k : ℕ) → has p.queues.roots k ≡ queued_root f k
 roots_all f p s h k = ⊎_elim (λ a. h.roots k a) (λ a. h.roomy.few_roots k a ∙ sym (ap (λ t. (t && is_none (f.on k)) && is_root f k) (ready-past f s k a))) (cases_lt k (keys f))

@@ -1,11 +1,11 @@
 -- Sets by worker.
 use Rattle.std.proofs.Common.{◌≡◌, ℕ, ◌+◌, ◌%◌, ◌<◌, ◌≤◌, Bool, true, false, ◌&&◌, eqb, ltb, cond, List, [], ◌∷◌, ◌++◌, length, get_or, set, Option, refl, sym, ap, ◌∙◌, subst, arith, ⊎_elim}
-use Rattle.std.proofs.lemmas.Bool.{cases_lt, eqb-true}
+use Rattle.std.proofs.lemmas.Bool.{cases_lt, eqb-true, lt-ltb, le-ltb}
 use Rattle.std.proofs.lemmas.Bool.Decides.{nat_tests}
 use Rattle.std.proofs.lemmas.List.{get_or_default, get_or_past, get_or_at, get_or_append_left, length_push}
 use Rattle.std.proofs.lemmas.Nat.Bits.{bit_at-zero}
+use Rattle.small_facts.proofs.Numbers.{below_or_unequal, eqb_turned}
 use Rattle.cluster_rules.proofs.FunctionLemmas.{set_at}
-use Rattle.cluster_rules.proofs.DerivedLemmas.{eqb_comm}
 use Rattle.key_sets.specs.Sets.{has, room, IsFirst}
 use Rattle.task_table.specs.Lists.{AreRows, in_row}
 
@@ -22,17 +22,14 @@ pub row_put : (rows : List (List ℕ)) (worker key : ℕ) (to : Bool) (old new :
     → (w k : ℕ) → in_row (set rows worker new) w k ≡ cond (eqb worker w && eqb key k) (ltb worker (length rows) && to) (in_row rows w k)
 row_put rows worker key to old new l was now w k =
     ap (λ r. has r k) (set_at rows worker new [] l w) ∙ pick (eqb w worker) refl
-    ∙ (λ i. cond (eqb_comm w worker i && eqb_comm k key i) (ltb worker (length rows) && to) (in_row rows w k))
+    ∙ (λ i. cond (eqb_turned w worker i && eqb_turned k key i) (ltb worker (length rows) && to) (in_row rows w k))
   where
     before : old ≡ get_or rows worker []
     before = was ∙ get_or_default rows worker old [] l
 
-    yes : (a b : ℕ) → a < b → ltb a b ≡ true
-    yes a b l = grind (arith, nat_tests)
-
     pick : (b : Bool) → eqb w worker ≡ b → has (cond b new (get_or rows w [])) k ≡ cond (b && eqb k key) (ltb worker (length rows) && to) (in_row rows w k)
     pick true e =
-        now k ∙ ap (λ t. cond (eqb k key) (t && to) (has old k)) (sym (yes worker (length rows) l))
+        now k ∙ ap (λ t. cond (eqb k key) (t && to) (has old k)) (sym (lt-ltb worker (length rows) l))
         ∙ ap (λ r. cond (eqb k key) (ltb worker (length rows) && to) (has r k)) before
         ∙ ap (λ v. cond (eqb k key) (ltb worker (length rows) && to) (in_row rows v k)) (sym (eqb-true w worker e))
     pick false e = refl
@@ -41,11 +38,8 @@ row_put rows worker key to old new l was now w k =
 pub row_missed : (rows : List (List ℕ)) (worker key : ℕ) (to : Bool) → length rows ≤ worker → (w k : ℕ) → in_row rows w k ≡ cond (eqb worker w && eqb key k) (ltb worker (length rows) && to) (in_row rows w k)
 row_missed rows worker key to l w k = pick (eqb worker w) (eqb key k) refl
   where
-    no : (a b : ℕ) → b ≤ a → ltb a b ≡ false
-    no a b l = grind (arith, nat_tests)
-
     pick : (a b : Bool) → eqb worker w ≡ a → in_row rows w k ≡ cond (a && b) (ltb worker (length rows) && to) (in_row rows w k)
-    pick true true e = ap (λ v. in_row rows v k) (sym (eqb-true worker w e)) ∙ row_past rows worker k l ∙ sym (ap (λ t. t && to) (no worker (length rows) l))
+    pick true true e = ap (λ v. in_row rows v k) (sym (eqb-true worker w e)) ∙ row_past rows worker k l ∙ sym (ap (λ t. t && to) (le-ltb worker (length rows) l))
     pick true false e = refl
     pick false b e = refl
 
@@ -92,12 +86,9 @@ row_pushed rows new h e w k = ap (λ r. has r k) (push_at rows new w) ∙ pick (
 pub wide_pushed : (n : ℕ) (rows : List (List ℕ)) (new : List ℕ) → ((w : ℕ) → w < length rows → n ≤ room (get_or rows w [])) → n ≤ room new → (w : ℕ) → w < length (rows ++ new ∷ []) → n ≤ room (get_or (rows ++ new ∷ []) w [])
 wide_pushed n rows new h e w l = subst (λ (ks : List ℕ). n ≤ room ks) (sym (push_at rows new w)) (pick (eqb w (length rows)) refl)
   where
-    low : (a b : ℕ) → a < b + 1 → eqb a b ≡ false → a < b
-    low a b g i = grind (arith, nat_tests)
-
     pick : (b : Bool) → eqb w (length rows) ≡ b → n ≤ room (cond b new (get_or rows w []))
     pick true i = e
-    pick false i = h w (low w (length rows) (omega (arith, l, length_push rows new)) i)
+    pick false i = h w (below_or_unequal w (length rows) (omega (arith, l, length_push rows new)) i)
 
 -- a question of one set
 pub first_there : (rows : List (List ℕ)) (worker from : ℕ) (r : Option ℕ) (ks : List ℕ) → worker < length rows → ks ≡ get_or rows worker ks → IsFirst (has ks) from r → IsFirst (in_row rows worker) from r

@@ -2,6 +2,7 @@
 use Rattle.std.proofs.Common.{◌≡◌, refl, sym, ◌∙◌, subst, Bool, Option, Some, None}
 use Rattle.std.specs.Prelude.{IfSome, IsTrue}
 use Rattle.std.proofs.lemmas.Bool.{false≢true}
+use Rattle.small_facts.proofs.Options.{if_some_weaker}
 use Rattle.io_edge.specs.Disk.{DiskView, fresh_disk}
 use Rattle.io_edge.specs.View.{View, Files, OnlySpills}
 use Rattle.nd_shape.specs.Block.{Array}
@@ -9,7 +10,6 @@ use Rattle.cluster_msgs.specs.Labels.{LabelFacts}
 use Rattle.block_lowering.specs.Jobs.{Job}
 use Rattle.worker_store.specs.Keeping.{IsDiskFor}
 use Rattle.job_run.specs.Values.{Named}
-use Rattle.thread_run.proofs.Fixed.{if-some}
 use Rattle.thread_run.proofs.Saved.{facts_of}
 
 -- ## Calls for disks, one after another
@@ -38,7 +38,7 @@ disk-for (Some job) inside named told tells t = record { shape = λ a b e. e; to
 
 -- a disk that was just made, if one was
 pub made-for : {D : Type 0} (facts : LabelFacts Array) (v : DiskView) (view : D → DiskView) (disk : Option D) → IsDiskFor facts v → IfSome disk (λ d. view d ≡ v) → IfSome disk (λ d. IsDiskFor facts (view d))
-made-for facts v view disk for made = if-some (λ d. view d ≡ v) (λ d. IsDiskFor facts (view d)) disk (λ d is. subst (IsDiskFor facts) (sym is) for) made
+made-for facts v view disk for made = if_some_weaker (λ d. view d ≡ v) (λ d. IsDiskFor facts (view d)) disk (λ d is. subst (IsDiskFor facts) (sym is) for) made
 
 -- after other calls for disks the site makes the same
 pub still-for : (facts : LabelFacts Array) (old new : View) → OnlySpills old new → IsDiskFor facts (fresh_disk old.files.tells) → IsDiskFor facts (fresh_disk new.files.tells)

@@ -2,6 +2,7 @@
 use Rattle.std.proofs.Common.{◌≡◌, ℕ, List, ◌++◌, refl, ap, sym, ◌∙◌, subst, inl, inr, arith, Bool, true, false, ◌&&◌, Option, Some, None, is_some}
 use Rattle.std.specs.Prelude.{IfSome, IsTrue}
 use Rattle.std.proofs.lemmas.Bool.{false≢true}
+use Rattle.small_facts.proofs.Options.{if_some_weaker}
 use Rattle.io_edge.specs.Cause.{Rose}
 use Rattle.io_edge.specs.Content.{Content, PrintsPart, followed_by}
 use Rattle.io_edge.specs.Given.{GivesMore}
@@ -30,7 +31,6 @@ use Rattle.thread_run.specs.Ends.{Cause, HasValues, Looked, Opened, Prints, Prin
 use Rattle.thread_run.specs.Feeding.{is_told}
 use Rattle.thread_run.specs.Reports.{IsReportBy, IsToldRun, label}
 use Rattle.thread_run.specs.Serving.{ServesAll, ServesFiles, ServesPart}
-use Rattle.thread_run.proofs.Fixed.{if-some}
 
 -- ## Counts
 
@@ -154,7 +154,7 @@ module _ (p : Plan) (w : RunWords) (old mid : View) (files : List Content) (head
 
   -- and what holds only where it tells, holds there
   on-telling : (P : Named → Type 0) (b : Bool) → (IsTrue b → OnInputs p old.files (λ blocks. P (held_in blocks))) → OnInputs p old.files (λ blocks. IsTrue b → P (held_in blocks))
-  on-telling P true holds = if-some _ _ (told_all old.files.held p.inputs) (λ contents h blocks hold t. h blocks hold) (holds refl)
+  on-telling P true holds = if_some_weaker _ _ (told_all old.files.held p.inputs) (λ contents h blocks hold t. h blocks hold) (holds refl)
   on-telling P false holds = all-some (told_all old.files.held p.inputs) _ (λ contents blocks hold t. absurd (false≢true t))
 
   follows : (new : View) → ServesFiles p (feeds w) mid new → Follows p w old new

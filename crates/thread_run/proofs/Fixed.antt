@@ -1,8 +1,9 @@
 -- A site that fixed what files of these names hold: each later store of them fits the same graph.
-use Rattle.std.proofs.Common.{◌≡◌, ℕ, ◌<◌, ◌≤◌, ℤ, List, [], length, get_or, refl, ap, sym, ◌∙◌, subst, arith, Bool, true, false, ◌&&◌, Option, Some, None, is_some}
+use Rattle.std.proofs.Common.{◌≡◌, ℕ, ◌<◌, ◌≤◌, ℤ, List, [], length, get_or, refl, sym, ◌∙◌, subst, arith, Bool, true, false, ◌&&◌, Option, Some, None, is_some}
 use Rattle.std.proofs.lemmas.Bool.{and_parts}
-use Rattle.std.specs.Prelude.{IfSome, IsSome, IsTrue, unwrap_or}
-use Rattle.io_edge.specs.Content.{Content, Told, OnTold, file_at, size_of, told_bytes}
+use Rattle.std.specs.Prelude.{IfSome, IsTrue}
+use Rattle.small_facts.proofs.Options.{same_in_some}
+use Rattle.io_edge.specs.Content.{Content, Told, OnTold, file_at, size_of}
 use Rattle.io_edge.specs.View.{Files, Opens, Shows}
 use Rattle.nd_shape.specs.Index.{IsIn}
 use Rattle.npy_codec.specs.declared.head.Head.{Head}
@@ -13,6 +14,7 @@ use Rattle.job_run.proofs.Told.{told_at}
 use Rattle.node_runner.specs.Naming.{FitsRun}
 use Rattle.thread_run.specs.Feeding.{IsFixed, is_told, veiled}
 use Rattle.thread_run.proofs.Veiled.{count_veiled, file_hidden, size_veiled}
+use Rattle.job_run.proofs.Naming.{some_told}
 
 abbrev Named : Type 0
 Named = ℕ → List ℕ → ℤ
@@ -61,19 +63,13 @@ some-of : {A : Type 0} (o : Option A) → true ≡ is_some o → (x : A) × (o �
 some-of None e = absurd cc
 some-of (Some x) e = (x, refl)
 
-same-size : (o : Option ℕ) (a b : ℕ) → o ≡ Some a → o ≡ Some b → a ≡ b
-same-size o a b l r = ap (λ x. unwrap_or x 0) (sym l ∙ r)
-
-own-told : (file : Content) (bytes : List ℕ) → file ≡ Told bytes → IsSome (told_bytes file)
-own-told file bytes e = let P : Content → Type 0 = λ f. IsSome (told_bytes f) in subst P (sym e) refl
-
 module _ (named : Named) (names : List (List ℕ)) (heads : List Head) (old new : Files) (files : List Content) (opens : Opens names old new) (shows : Shows names old new files) where
   few : (told : Bool) → IsFixed named told names heads old → length heads ≤ length names
   few told f = omega (arith, f.fits.all_there.file, f.places)
 
   sizes-same : (told : Bool) (f : IsFixed named told names heads old) (k : ℕ) → k < length names → size_of (file_at files k) ≡ size_of (file_at f.first k)
   sizes-same told f k h =
-      same-size (new.size (get_or names k [])) (size_of (file_at files k)) (size_of (file_at f.first k)) (shows.each k h).size (opens.size_kept (get_or names k []) (size_of (file_at f.first k)) (f.sizes k h))
+      same_in_some (new.size (get_or names k [])) (size_of (file_at files k)) (size_of (file_at f.first k)) (shows.each k h).size (opens.size_kept (get_or names k []) (size_of (file_at f.first k)) (f.sizes k h))
 
   data-there : (told : Bool) → IsFixed named told names heads old → HaveData heads (veiled told files)
   data-there told f = record {
@@ -104,14 +100,10 @@ module _ (named : Named) (names : List (List ℕ)) (heads : List Head) (old new 
   later-fits false f = record { all_there = data-there false f; named_is = λ j h. subst (Elements j) (sym (file_hidden files j)) tt }
 
   pub later-tells : (told : Bool) → IsFixed named told names heads old → IsTrue told → TellsFeed heads (veiled told files)
-  later-tells true f t = record { each = λ j h. let b = same-bytes f j (omega (arith, h, few true f)) in own-told (file_at files j) b.0 b.1 }
+  later-tells true f t = record { each = λ j h. let b = same-bytes f j (omega (arith, h, few true f)) in some_told (file_at files j) b.0 b.1 }
   later-tells false f t = absurd cc
 
 -- ## The feed of a run whose job is picked, or isn't
-
-pub if-some : {J : Type 0} (P Q : J → Type 0) (o : Option J) → ((j : J) → P j → Q j) → IfSome o P → IfSome o Q
-if-some P Q None f h = tt
-if-some P Q (Some j) f h = f j h
 
 pub fits-run : {J F : Type 0} (fits tells : J → F → Type 0) (told : Bool) (job : Option J) (feed : F) → IfSome job (λ j. fits j feed × (IsTrue told → tells j feed)) → FitsRun fits tells told job feed
 fits-run fits tells told None feed h = tt

@@ -1,19 +1,15 @@
 -- The plan of a run by words that can be followed.
-use Rattle.std.proofs.Common.{◌≡◌, ℕ, ◌+◌, List, [], ◌∷◌, map, refl, arith}
+use Rattle.std.proofs.Common.{◌≡◌, ◌+◌, List, [], ◌∷◌, map, refl, arith}
 use Rattle.std.specs.Prelude.{sum}
-use Rattle.std.specs.List.{fold}
+use Rattle.small_facts.proofs.Lists.{fold_is_sum}
 use Rattle.cluster_msgs.specs.declared.events.Item.{Item}
 use Rattle.cluster_msgs.specs.declared.events.Item.TheVariants.{Lose, Suspect, Join}
 use Rattle.node_states.specs.Order.{joins_of}
 use Rattle.command_words.specs.Walks.{joins_in}
 
-sum-from : (a : ℕ) (xs : List ℕ) → fold ◌+◌ a xs ≡ a + sum xs
-sum-from a [] = omega arith
-sum-from a (x ∷ xs) = omega (arith, sum-from (a + x) xs, sum-from (0 + x) xs)
-
 -- the joins of a script, counted either way
 pub joins-same : (items : List Item) → sum (map joins_of items) ≡ joins_in items
 joins-same [] = refl
-joins-same (Lose w at ∷ items) = omega (arith, sum-from (0 + 0) (map joins_of items), joins-same items)
-joins-same (Suspect w at ∷ items) = omega (arith, sum-from (0 + 0) (map joins_of items), joins-same items)
-joins-same (Join at ∷ items) = omega (arith, sum-from (0 + 1) (map joins_of items), joins-same items)
+joins-same (Lose w at ∷ items) = omega (arith, fold_is_sum (0 + 0) (map joins_of items), joins-same items)
+joins-same (Suspect w at ∷ items) = omega (arith, fold_is_sum (0 + 0) (map joins_of items), joins-same items)
+joins-same (Join at ∷ items) = omega (arith, fold_is_sum (0 + 1) (map joins_of items), joins-same items)

@@ -1,7 +1,8 @@
 -- What the files of a plan's saves are in the end, of which blocks were written as they came.
 use Rattle.std.proofs.Common.{◌≡◌, ℕ, ◌<◌, Bool, true, false, List, [], length, get_or, refl, ap, ap₂, sym, ◌∙◌, subst, arith, Option, Some, None, inr}
 use Rattle.std.specs.Prelude.{All, IfSome, IsSome, IsTrue, bytes_eq, is_some, slice_index_or}
-use Rattle.std.proofs.lemmas.List.{get_or-map, length-map}
+use Rattle.std.proofs.lemmas.List.{get_or-map}
+use Rattle.std.proofs.lemmas.Option.{same_Some}
 use Rattle.io_edge.specs.declared.edge.OpenFault.{OpenFault}
 use Rattle.io_edge.specs.Cause.{Rose}
 use Rattle.io_edge.specs.Content.{Content, Told, Untold, OnTold, told_bytes}
@@ -28,10 +29,10 @@ use Rattle.saved_files.specs.Saving.{GivesBack, IsLeft, IsOf, Saving, TakesAll, 
 use Rattle.job_run.specs.Evaluating.{AreFresh, AreOpenFor, AreSameFiles, FilesRight, FilesWhole, HasFailed, HasLaws, LeavesAll, array_at, node_at}
 use Rattle.job_run.specs.Filling.{keys_at, layout_at}
 use Rattle.job_run.specs.Part.{AreLeft, AreWhole, IsNoneOf}
-use Rattle.job_run.specs.Plan.{IsRunnable, Plan, Saved, name_at, names_saved, nodes_saved}
+use Rattle.job_run.specs.Plan.{IsRunnable, Plan, name_at, names_saved, nodes_saved}
 use Rattle.job_run.specs.Values.{MeetsNone, Named, files_of, tasks_of}
 use Rattle.job_run.specs.Wanted.{IsWantedOf, wanted_of}
-use Rattle.job_run.proofs.Evaluated.{file_saved}
+use Rattle.job_run.proofs.Evaluated.{file_saved, whole_told, part_told}
 use Rattle.job_run.proofs.Reached.{each, member}
 use Rattle.job_run.proofs.SavedArrays.{holds-saved, part-of, saved-is}
 use Rattle.job_run.proofs.SavedBlocks.{count-saves}
@@ -40,6 +41,7 @@ use Rattle.thread_run.specs.Reports.{label}
 use Rattle.thread_run.specs.Saver.{AreSaved, HasBoxes, IsAmong, IsFitted, IsLabelOf, IsMadeOf, Saves, SavesOn, had_in}
 use Rattle.thread_run.specs.Serving.{ServesAll}
 use Rattle.thread_run.proofs.SaverOpen.{keys-small, saves-known}
+use Rattle.job_run.proofs.Creating.{count_names}
 
 -- ## A block of a key
 
@@ -52,15 +54,12 @@ sound-key : (p : Plan) (named : Named) (key : ℕ) (block : Array) → HasLaws p
 sound-key p named key block laws is j inside fault =
     some-none (value named (tasks_of p) key) block is (bad-above (deps_of (shape_of (tasks_of p))) (operation named (tasks_of p)) laws.order.run.below key j inside fault)
 
-one-of : (a b : Array) → Some a ≡ Some b → a ≡ b
-one-of a b e = cc
-
 -- the block of a key with a name holds its node's elements, whatever the other keys have
 key-holds : (p : Plan) (named : Named) (key n c : ℕ) (block : Array) → HasLaws p named → key < length (tasks_of p) → value named (tasks_of p) key ≡ Some block → name_of p.nodes (nodes_saved p) key ≡ Some (n, c) →
     Holds (grid_of block) (whole named p.nodes n) (box_of p.nodes n c)
 key-holds p named key n c block laws lt is name =
     let h = laws.named_is key n c lt name (sound-key p named key block laws is) in
-    let same : h.0 ≡ block = one-of h.0 block (sym h.1 ∙ is) in
+    let same : h.0 ≡ block = same_Some h.0 block (sym h.1 ∙ is) in
     subst (λ (b : Array). Holds (grid_of b) (whole named p.nodes n) (box_of p.nodes n c)) same h.2
 
 pub key-fits : (p : Plan) (named : Named) (k c key : ℕ) (block : Array) → HasLaws p named → k < length p.saves → key < length (tasks_of p) → name_of p.nodes (nodes_saved p) key ≡ Some (node_at p k, c) → value named (tasks_of p) key ≡ Some block →
@@ -101,18 +100,7 @@ module _ (facts : LabelFacts Array) (layout : List (List ℕ)) (keys : List ℕ)
       filled-whole a here.boxes bytes (made.lengths_are.count ∙ ap elements (sym made.lengths_are.shape)) here.filling (subst (λ ns. Cover ns here.boxes) (sym made.lengths_are.shape) cover)
   whole-file (Untold size) sound count all h = tt
 
-whole-told : (c : Content) (bytes : List ℕ) → IsSome (told_bytes c) → OnTold c (λ b. b ≡ bytes) → told_bytes c ≡ Some bytes
-whole-told (Told b) bytes some e = ap Some e
-whole-told (Untold size) bytes some e = cc
-
-part-told : (c : Content) (final : List ℕ) → OnTold c (λ b. IsPart b final) → IfSome (told_bytes c) (λ b. IsPart b final)
-part-told (Told b) final part = part
-part-told (Untold size) final part = tt
-
 -- ## All files
-
-many : (p : Plan) → length (names_saved p) ≡ length p.saves
-many p = length-map p.saves (λ (x : Saved). x.file)
 
 -- files that were created, written, and given back
 pub record IsGiven (p : Plan) (created written : List Saving) (old mid new : Files) : Type 0 where
@@ -132,7 +120,7 @@ module _ (p : Plan) (named : Named) (created written : List Saving) (old mid new
   are-apart : (j k : ℕ) → j < k → k < length written → bytes_eq (saving_at written k).name (saving_at written j).name ≡ false
   are-apart j k h lt =
       let lk : k < length p.saves = omega (arith, lt, count) in
-      ap₂ bytes_eq (name-is k lk) (name-is j (omega (arith, h, lk))) ∙ r.runs.apart j k h (omega (arith, lk, many p))
+      ap₂ bytes_eq (name-is k lk) (name-is j (omega (arith, h, lk))) ∙ r.runs.apart j k h (omega (arith, lk, count_names p))
 
   held-at : (k : ℕ) → k < length p.saves → new.held (name_at (names_saved p) k) ≡ told_bytes (saving_at written k).content
   held-at k lt = ap new.held (sym (name-is k lt)) ∙ r.gives.held are-apart k (omega (arith, lt, count))
@@ -142,19 +130,19 @@ module _ (p : Plan) (named : Named) (created written : List Saving) (old mid new
 
   pub given-others : (n : List ℕ) → IsNoneOf n (names_saved p) → mid.held n ≡ old.held n → new.held n ≡ old.held n
   given-others n apart before =
-      r.gives.others n (λ k lt. let l : k < length p.saves = omega (arith, lt, count) in ap (λ m. bytes_eq m n) (name-is k l) ∙ apart k (omega (arith, l, many p))) ∙ before
+      r.gives.others n (λ k lt. let l : k < length p.saves = omega (arith, lt, count) in ap (λ m. bytes_eq m n) (name-is k l) ∙ apart k (omega (arith, l, count_names p))) ∙ before
 
   pub given-whole : FilesWhole p named written → IsTrue old.tells → AreWhole (names_saved p) (files_of p named) new
   given-whole all tells k lt =
-      let l : k < length p.saves = omega (arith, lt, many p) in
-      held-at k l ∙ (whole-told (saving_at written k).content (bytes_of (array_at p named k)) (still-told tells k l) (all k l) ∙ ap Some (file_saved p named k l))
+      let l : k < length p.saves = omega (arith, lt, count_names p) in
+      held-at k l ∙ (whole_told (saving_at written k).content (bytes_of (array_at p named k)) (still-told tells k l) (all k l) ∙ ap Some (file_saved p named k l))
 
   pub given-left : FilesRight p named written → AreLeft (names_saved p) (files_of p named) old new
   given-left right k lt =
-      let l : k < length p.saves = omega (arith, lt, many p) in
+      let l : k < length p.saves = omega (arith, lt, count_names p) in
       let P : Option (List ℕ) → Type 0 = λ o. IfSome o (λ held. IsPart held (bytes_of (array_at p named k))) × (IsTrue old.tells → IsSome o) in
       let L : List ℕ → Type 0 = λ bytes. IsLeft (name_at (names_saved p) k) bytes old new in
-      subst L (file_saved p named k l) (inr (subst P (sym (held-at k l)) (part-told (saving_at written k).content (bytes_of (array_at p named k)) (right k l), λ tells. still-told tells k l)))
+      subst L (file_saved p named k l) (inr (subst P (sym (held-at k l)) (part_told (saving_at written k).content (bytes_of (array_at p named k)) (right k l), λ tells. still-told tells k l)))
 
 -- ## What was had of a plan
 
@@ -272,7 +260,7 @@ still-created old new at later same is created k lt =
 -- the files couldn't be created
 pub open-left : (p : Plan) (named : Named) (old new : Files) → IsRunnable p → HasLaws p named → LeavesAll p old new → AreLeft (names_saved p) (files_of p named) old new
 open-left p named old new runs laws leaves k lt =
-    let l : k < length p.saves = omega (arith, lt, many p) in
+    let l : k < length p.saves = omega (arith, lt, count_names p) in
     let L : List ℕ → Type 0 = λ bytes. IsLeft (name_at (names_saved p) k) bytes old new in
     subst L (file_saved p named k l) (leaves k (array_at p named k) l (saved-is p named k runs laws.expression l))
 

@@ -1,7 +1,9 @@
 -- One block, written at all its places, and what is held of all of them then.
-use Rattle.std.proofs.Common.{◌≡◌, ◌⊎◌, ℕ, zero, suc, ◌+◌, ◌<◌, ◌≤◌, Bool, true, false, List, [], ◌∷◌, ◌++◌, length, get_or, set, refl, ap, sym, ◌∙◌, subst, inl, inr, arith, Option, Some, None}
+use Rattle.std.proofs.Common.{◌≡◌, ℕ, zero, suc, ◌+◌, ◌<◌, ◌≤◌, Bool, true, false, List, [], ◌∷◌, ◌++◌, length, get_or, set, refl, ap, sym, ◌∙◌, subst, inl, inr, arith, Option, Some, None}
 use Rattle.std.specs.Prelude.{IsSome, is_some, slice_index_or}
 use Rattle.std.proofs.lemmas.List.{get_or-set_other, get_or-set_same, get_or_append_left, get_or_past, get_or_push, length-set, length_push}
+use Rattle.std.proofs.lemmas.Bool.{cases_eq}
+use Rattle.small_facts.proofs.Numbers.{below_or_equal}
 use Rattle.io_edge.specs.declared.edge.OpenFault.{OpenFault}
 use Rattle.io_edge.specs.declared.edge.OpenFault.TheVariants.{Failed}
 use Rattle.io_edge.specs.Content.{Content, Told, Untold, OnTold, told_bytes}
@@ -16,7 +18,7 @@ use Rattle.job_run.specs.declared.wanted.Wanted.{Wanted}
 use Rattle.job_run.specs.Evaluating.{AreSameFiles, HasFailed}
 use Rattle.job_run.specs.Filling.{keys_at, layout_at}
 use Rattle.job_run.proofs.Filling.{changes-none}
-use Rattle.job_run.proofs.SavingSteps.{other-or, same-files, same-then}
+use Rattle.job_run.proofs.SavingSteps.{same-files, same-then}
 use Rattle.thread_run.specs.Saver.{AreSaved, AreSavedKeys, HasBoxes, IsAmong, IsMadeOf, Saves, SavesOn, had_in}
 use Rattle.thread_run.specs.Writes.{HasMore, Marks, StandsAt, Writes, WritesAll, WritesAt, WrittenBelow}
 
@@ -179,21 +181,18 @@ item-of w place saved layouts item keys layout same all count lt is same-keys at
   layout_is = item-at layouts place layout [] (omega (arith, lt, ap (λ (ss : List (List ℕ)). length ss) same, ap (λ (ls : List (List (List ℕ))). length ls) all, count)) at ∙ ap (λ (ls : List (List (List ℕ))). get_or ls place []) all;
 }
 
-below-next : (k place : ℕ) → k < place + 1 → (k < place) ⊎ (place ≡ k)
-below-next k place h = grind arith
-
 changes-same : (place : ℕ) (old new : List Saving) → ChangesAt place old new → (IsSome (told_bytes (saving_at old place).content) → IsSome (told_bytes (saving_at new place).content)) → AreSameFiles old new
 changes-same place old new c told = record {
   count = c.count;
-  names = λ k h. elim (other-or k place) [
+  names = λ k h. elim (cases_eq k place) [
     | inl e ↦ subst (λ j. (saving_at new j).name ≡ (saving_at old j).name) (sym e) c.name_is
     | inr ne ↦ ap (λ (s : Saving). s.name) (c.others k ne)
   ];
-  dims = λ k h. elim (other-or k place) [
+  dims = λ k h. elim (cases_eq k place) [
     | inl e ↦ subst (λ j. (saving_at new j).dims ≡ (saving_at old j).dims) (sym e) c.dims_are
     | inr ne ↦ ap (λ (s : Saving). s.dims) (c.others k ne)
   ];
-  told = λ k h. elim (other-or k place) [
+  told = λ k h. elim (cases_eq k place) [
     | inl e ↦ subst (λ j. IsSome (told_bytes (saving_at old j).content) → IsSome (told_bytes (saving_at new j).content)) (sym e) told
     | inr ne ↦ λ t. subst (λ (s : Saving). IsSome (told_bytes s.content)) (sym (c.others k ne)) t
   ];
@@ -216,7 +215,7 @@ module _ (facts : LabelFacts Array) (w : Wanted) (key : ℕ) where
       let stays : IsSome m → n ≡ m = λ s. (at.stays s).0 in
       record {
         same = same-then old mid new b.same (changes-same place mid new at.changes (writes-told facts (layout_at w.layouts place) (keys_at w.saved place) key n (saving_at mid place).content (saving_at new place).content at.writes));
-        below = λ k h lt. elim (below-next k place h) [
+        below = λ k h lt. elim (below_or_equal k place h) [
           | inl a ↦ subst (λ (s : Saving). WritesIn k n (saving_at old k).content s.content) (sym (at.changes.others k (λ e. absurd (omega (arith, a, e)))))
               (writes-later facts (layout_at w.layouts k) (keys_at w.saved k) key m n (saving_at old k).content (saving_at mid k).content (none-before m n stays) (b.below k a lt))
           | inr e ↦ subst (λ j. WritesIn j n (saving_at old j).content (saving_at new j).content) e (subst (λ (s : Saving). WritesIn place n s.content (saving_at new place).content) (b.above place (omega arith)) at.writes)
@@ -295,7 +294,7 @@ module _ (facts : LabelFacts Array) (w : Wanted) (key : ℕ) (files now : List S
       record {
         boxes = more.boxes;
         filling = more.filling;
-        all = λ e c lc was. elim (other-or (slice_index_or keys c 0) key) [
+        all = λ e c lc was. elim (cases_eq (slice_index_or keys c 0) key) [
           | inl is ↦ more.here e c lc is
           | inr ne ↦ more.still e (region layout c) (h.all (sound e) c lc (sym (marks.others (slice_index_or keys c 0) ne) ∙ was))
         ];
@@ -310,7 +309,7 @@ module _ (facts : LabelFacts Array) (w : Wanted) (key : ℕ) (files now : List S
     small = λ k c lk lc. omega (arith, s.small k c lk lc, marks.count);
     count = all.same.count ∙ s.count;
     dims = λ k lt. let l : k < length files = omega (arith, lt, all.same.count) in all.same.dims k l ∙ s.dims k l;
-    fit = λ j lj e. elim (other-or j key) [
+    fit = λ j lj e. elim (cases_eq j key) [
       | inl is ↦ record { block = block; fits = subst (λ i. BlockFits facts i block) (sym is) fits }
       | inr ne ↦ s.fit j (omega (arith, lj, marks.count)) (sym (marks.others j ne) ∙ e)
     ];
@@ -325,7 +324,7 @@ module _ (facts : LabelFacts Array) (w : Wanted) (key : ℕ) (files now : List S
     wanted_is = refl;
     same = all.same;
     keys_are = marks.count;
-    had_still = λ j e. elim (other-or j key) [
+    had_still = λ j e. elim (cases_eq j key) [
       | inl is ↦ subst (λ i. had_in after i ≡ true) (sym is) marks.here
       | inr ne ↦ marks.others j ne ∙ e
     ];

@@ -1,6 +1,6 @@
 -- Relations place by place.
-use Rattle.std.proofs.Common.{◌≡◌, ◌≢◌, ℕ, zero, suc, map, ◌+◌, ◌<◌, ◌≤◌, List, [], ◌∷◌, ◌++◌, length, set, get_or, sym, ap, ◌∙◌, subst, refl, arith, length-set, get_or-set_other}
-use Rattle.std.proofs.lemmas.List.{length-append, length-map}
+use Rattle.std.proofs.Common.{◌≡◌, ◌≢◌, ℕ, map, ◌+◌, ◌<◌, ◌≤◌, List, [], ◌∷◌, ◌++◌, length, set, get_or, sym, ap, ◌∙◌, subst, refl, arith, length-set, get_or-set_other}
+use Rattle.std.proofs.lemmas.List.{length-append, length-map, get_or-map}
 use Rattle.std.proofs.lemmas.Grind.{get_or-set_at}
 use Rattle.std.proofs.lemmas.List.{get_or_default, get_or_append_left, get_or_push}
 use mathlib.Core.Logic.{dite}
@@ -91,14 +91,9 @@ module _ {A B : Type 0} (P : ℕ → A → B → Type 0) (n : ℕ) (xs : List A)
 pub each_at_none : {A B : Type 0} (R : A → B → Type 0) (xs : List A) (ys : List B) → ys ≡ [] → EachAt R xs ys
 each_at_none R xs ys e = record { each = λ k a b less. absurd (omega (arith, ap length e)) }
 
-get_or-map_at : {A B : Type 0} (f : B → A) (ys : List B) (k : ℕ) (a : A) (b : B) → k < length ys → get_or (map f ys) k a ≡ f (get_or ys k b)
-get_or-map_at f [] k a b less = absurd (omega arith)
-get_or-map_at f (y ∷ ys) zero a b less = refl
-get_or-map_at f (y ∷ ys) (suc k) a b less = get_or-map_at f ys k a b (omega arith)
-
 -- a list with what is told of each member
 pub by_map : {A B : Type 0} (R : ℕ → A → B → Type 0) (f : B → A) (ys : List B) → ((k : ℕ) (b : B) → k < length ys → R k (f (get_or ys k b)) (get_or ys k b)) → AllBy R (map f ys) ys
-by_map R f ys h = record { long = sym (length-map ys f); each = λ k a b less. subst (λ x. R k x (get_or ys k b)) (sym (get_or-map_at f ys k a b less)) (h k b less) }
+by_map R f ys h = record { long = sym (length-map ys f); each = λ k a b less. subst (λ x. R k x (get_or ys k b)) (sym (get_or-map f ys k b a less)) (h k b less) }
 
 -- some element of a list that is not empty
 pub some_of : {A : Type 0} (xs : List A) (i : ℕ) → i < length xs → A
@@ -129,7 +124,7 @@ pub all_at_map : {A B C : Type 0} (R : A → B → Type 0) (f : C → A) (cs : L
 all_at_map R f [] ys h = record { long = h.long; at = record { each = λ k a b less. absurd (omega (arith, h.long)) } }
 all_at_map R f (c ∷ cs) ys h = record {
   long = h.long ∙ sym (length-map (c ∷ cs) f);
-  at = record { each = λ k a b less. subst (λ x. R x (get_or ys k b)) (sym (get_or-map_at f (c ∷ cs) k a c (omega (arith, h.long)))) (h.at.each k c b less) };
+  at = record { each = λ k a b less. subst (λ x. R x (get_or ys k b)) (sym (get_or-map f (c ∷ cs) k c a (omega (arith, h.long)))) (h.at.each k c b less) };
 }
 
 abbrev pub EachOf : {B : Type 0} → (B → Type 0) → List B → Type 0

@@ -6,6 +6,8 @@ use Rattle.std.specs.List.{slice_get, find}
 use Rattle.std.specs.Option.{option_or, option_map, is_some, ok_or}
 use Rattle.std.specs.Result.{IfOk}
 use Rattle.std.specs.Str.{bytes_eq}
+use Rattle.small_facts.proofs.Lists.{same_bytes}
+use Rattle.small_facts.proofs.Options.{none_from_is_some, find_passes}
 use Rattle.cluster_msgs.specs.declared.messages.Message.{Message}
 use Rattle.msgpack_frames.specs.Data.{Data, nil, boolean, integer, text, binary, array, dictionary, Pairs, no_pairs, pair}
 use Rattle.msgpack_frames.specs.View.{pairs_of}
@@ -20,7 +22,6 @@ use Rattle.wire_msgs.specs.Finding.{names, under, pair_list, flaw_of, field_faul
 use Rattle.wire_msgs.specs.Messages.{operation_in, operation_of, unless_fault, by_operation, message_of, answer}
 use Rattle.wire_msgs.specs.Names.{op_name, operations, operation_named, fields_of}
 use Rattle.wire_msgs.proofs.Contents.{holds}
-use Rattle.wire_msgs.proofs.Exact.{bytes_same, find_passes}
 
 or-none : {X : Type 0} (a b : Option X) → option_or a b ≡ None → (a ≡ None) × (b ≡ None)
 or-none None b h = (refl, h)
@@ -41,10 +42,6 @@ none-cond : {X : Type 0} (b : Bool) (x : X) (o : Option X) → cond b (Some x) o
 none-cond true x o h = absurd (cc)
 none-cond false x o h = refl
 
-not-some : {X : Type 0} (o : Option X) → is_some o ≡ false → o ≡ None
-not-some None h = refl
-not-some (Some x) h = absurd (cc)
-
 found_one : (o : Option Field) (i : ℕ) (earlier : List (Data × Data)) (d : Data) → named_fault o i earlier d ≡ None → IsSome o
 found_one None i earlier d h = absurd (cc)
 found_one (Some f) i earlier d h = refl
@@ -59,7 +56,7 @@ faultless op ps h i p e =
 
 first_here : (f : Field) (earlier : List (Data × Data)) (d : Data) → field_fault f earlier d ≡ None → under f earlier ≡ None
 unfolding field_fault
-first_here f earlier d h = not-some (under f earlier) (none-cond (is_some (under f earlier)) (wire.Repeated f) (option_map (at f) (flaw_of f d)) h)
+first_here f earlier d h = none_from_is_some (under f earlier) (none-cond (is_some (under f earlier)) (wire.Repeated f) (option_map (at f) (flaw_of f d)) h)
 
 no_others : (op : Operation) (ps : List (Data × Data)) → first_below (fault_at op ps) (length ps) ≡ None → HasNoOthers ps op
 no_others op ps h = record {
@@ -71,7 +68,7 @@ no_others op ps h = record {
 
 named-op : (t : List ℕ) (o : Option Operation) (op : Operation) → operation_named t ≡ o → o ≡ Some op → t ≡ op_name op
 unfolding operation_named
-named-op t o op e h = bytes_same t (op_name op) (find_passes (λ x. bytes_eq t (op_name x)) operations op (e ∙ h))
+named-op t o op e h = same_bytes t (op_name op) (find_passes (λ x. bytes_eq t (op_name x)) operations op (e ∙ h))
 
 op-text : (t : List ℕ) (o : Option Operation) (op : Operation) → operation_named t ≡ o → ok_or o wire.UnknownOp ≡ Ok op → t ≡ op_name op
 op-text t None op e h = absurd (cc)

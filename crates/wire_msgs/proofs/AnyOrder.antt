@@ -4,6 +4,7 @@ use Rattle.std.proofs.lemmas.Option.{slice_get-get_or}
 use Rattle.std.specs.List.{slice_get, find, AllByRecursion}
 use Rattle.std.specs.Map.{lookup}
 use Rattle.std.specs.Result.{result_err}
+use Rattle.small_facts.proofs.Options.{find_passes}
 use Rattle.cluster_msgs.specs.declared.messages.Down.TheVariants as down
 use Rattle.cluster_msgs.specs.declared.messages.Up.TheVariants as up
 use Rattle.cluster_msgs.specs.declared.messages.ToClient.TheVariants as to_client
@@ -21,7 +22,6 @@ use Rattle.wire_msgs.specs.Finding.{names, under, flaw_of, field_fault, named_fa
 use Rattle.wire_msgs.specs.Messages.{operation_of, found, message_of, map_answer, answer}
 use Rattle.wire_msgs.specs.Names.{op_name, operations, operation_named, fields_of}
 use Rattle.wire_msgs.specs.Written.{Reads}
-use Rattle.wire_msgs.proofs.Exact.{find_passes}
 use Rattle.wire_msgs.proofs.Values.{answer-map}
 
 named-self : (op : Operation) → operation_named (op_name op) ≡ Some op

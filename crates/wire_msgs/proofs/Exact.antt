@@ -1,9 +1,9 @@
 -- A value that reads as a content is how this content is written.
 use Rattle.std.proofs.Common.{◌≡◌, ℕ, ◌^◌, Bool, true, false, cond, nat_lt, List, [], ◌∷◌, map, pos, negsuc, Some, None, Option, Result, Ok, Err, refl, ap, subst, ◌∙◌}
-use Rattle.std.specs.List.{find}
 use Rattle.std.specs.Option.{ok_or}
 use Rattle.std.specs.Str.{bytes_eq}
-use Rattle.std.proofs.lemmas.Slice.Eq.{bytes_eq-Decides}
+use Rattle.small_facts.proofs.Lists.{same_bytes}
+use Rattle.small_facts.proofs.Options.{find_passes}
 use Rattle.cluster_msgs.specs.declared.messages.Role.{Role}
 use Rattle.cluster_msgs.specs.declared.messages.Role.TheVariants.{Scheduler, Worker, Client}
 use Rattle.msgpack_frames.specs.Data.{Data, nil, boolean, integer, text, binary, array, dictionary, Items, no_items, item}
@@ -106,19 +106,11 @@ find-passes-cond : {X : Type 0} (test : X → Bool) (b : Bool) (x y : X) (rest :
 find-passes-cond test true x y rest here later h = let e : x ≡ y = cc in subst (λ z. test z ≡ true) e here
 find-passes-cond test false x y rest here later h = later h
 
--- what is found passes the test
-pub find_passes : {X : Type 0} (test : X → Bool) (xs : List X) (y : X) → find test xs ≡ Some y → test y ≡ true
-find_passes test [] y h = absurd (cc)
-find_passes test (x ∷ xs) y h = find-passes-cond test (test x) x y (find test xs) refl (find_passes test xs y) h
-
-pub bytes_same : (xs ys : List ℕ) → bytes_eq xs ys ≡ true → xs ≡ ys
-bytes_same xs ys h = (bytes_eq-Decides xs ys).0 h
-
 role-exact-text : (t : List ℕ) (r : Role) (o : Option Role) → role_named t ≡ o → ok_or o Range ≡ Ok r → t ≡ role_name r
 unfolding role_named
 role-exact-text t r (Some x) h e =
     let same : x ≡ r = cc in
-    bytes_same t (role_name r) (find_passes (λ q. bytes_eq t (role_name q)) (Scheduler ∷ Worker ∷ Client ∷ []) r (h ∙ ap Some same))
+    same_bytes t (role_name r) (find_passes (λ q. bytes_eq t (role_name q)) (Scheduler ∷ Worker ∷ Client ∷ []) r (h ∙ ap Some same))
 role-exact-text t r None h e = absurd (cc)
 
 pub role_exact : (d : Data) (r : Role) → role_in d ≡ Ok r → d ≡ role_data r

@@ -1,9 +1,10 @@
 -- The first pair at fault, as a loop seeks it.
-use Rattle.std.proofs.Common.{◌≡◌, ℕ, zero, suc, ◌+◌, ◌<◌, ◌⊎◌, List, [], ◌∷◌, length, take, get_or, Option, Some, None, refl, sym, ap, inl, inr, subst, arith, add-one}
+use Rattle.std.proofs.Common.{◌≡◌, ℕ, zero, suc, ◌+◌, ◌<◌, ◌⊎◌, List, length, take, get_or, Option, Some, None, refl, inl, inr, subst, arith, add-one}
 use Rattle.std.proofs.Math.Nat.{eq-or-lt_of_le}
 use Rattle.std.proofs.lemmas.List.{take-map}
 use Rattle.std.proofs.lemmas.Option.{slice_get-map}
-use Rattle.std.specs.List.{slice_get, find}
+use Rattle.std.specs.List.{find}
+use Rattle.small_facts.proofs.Options.{slice_get_at}
 use Rattle.msgpack_frames.specs.Data.{Data}
 use Rattle.msgpack_frames.specs.declared.value.Value.{Value}
 use Rattle.wire_msgs.specs.declared.field.Field.{Field}
@@ -16,14 +17,9 @@ pub pair_fault-named : (op : Operation) (i : ℕ) (earlier : List (Data × Data)
 unfolding pair_fault
 pair_fault-named op i earlier key value f h = rw h refl
 
-slice_get-here : {X : Type 0} (xs : List X) (i : ℕ) (x : X) → i < length xs → x ≡ get_or xs i x → slice_get xs i ≡ Some x
-slice_get-here [] i x lt h = absurd (omega arith)
-slice_get-here (y ∷ xs) zero x lt h = ap Some (sym h)
-slice_get-here (y ∷ xs) (suc i) x lt h = slice_get-here xs i x (omega arith) h
-
 pub fault_at-seen : (op : Operation) (ps : List (Value × Value)) (i : ℕ) (p : Value × Value) → i < length ps → p ≡ get_or ps i p → fault_at op (seen ps) i ≡ pair_fault op i (seen (take i ps)) (seen_pair p)
 unfolding fault_at
-fault_at-seen op ps i p lt h = rw (slice_get-map seen_pair ps i, slice_get-here ps i p lt h, take-map seen_pair i ps) refl
+fault_at-seen op ps i p lt h = rw (slice_get-map seen_pair ps i, slice_get_at ps i p lt h, take-map seen_pair i ps) refl
 
 pub first_below-next : {X : Type 0} (f : ℕ → Option X) (i : ℕ) → first_below f i ≡ None → f i ≡ None → first_below f (i + 1) ≡ None
 first_below-next f i before here = rw (add-one, before, here) refl

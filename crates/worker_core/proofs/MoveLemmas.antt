@@ -3,9 +3,9 @@ use Rattle.std.proofs.Common.{◌≡◌, ℕ, ◌+◌, ◌<◌, ◌≤◌, Bool,
 use Rattle.std.specs.Prelude.{◌==◌, ◌↔◌, is_some}
 use Rattle.std.proofs.lemmas.Bool.{false≢true, eqb-true}
 use Rattle.std.proofs.lemmas.List.Elements.{All-head, All-tail}
+use Rattle.small_facts.proofs.Numbers.{eqb_turned}
 use Rattle.cluster_rules.specs.Derived.{below, is_in}
 use Rattle.cluster_rules.specs.Worker.{WorkerFacts, wstate, is_fetch_state}
-use Rattle.cluster_rules.proofs.DerivedLemmas.{eqb_comm}
 use Rattle.cluster_rules.proofs.SchedLemmas.{filter-below}
 use Rattle.key_sets.specs.Sets.{IsFirst}
 use Rattle.worker_table.proofs.SearchLemmas.{filter-gap}
@@ -21,7 +21,7 @@ none_fetched w None b h e = ((λ n k. h k (omega arith)), (λ n. e))
 none_fetched w (Some r) b h e = ((λ n k. absurd (false≢true (sym n ∙ e))), (λ n. absurd (false≢true (sym (n r) ∙ h.1))))
 
 pub named_more : (a b : Bool) (k x : ℕ) → cond (k == x) true (a || b) ≡ (a || (b || (x == k)))
-named_more a b k x = pick a b (k == x) (x == k) (eqb_comm k x)
+named_more a b k x = pick a b (k == x) (x == k) (eqb_turned k x)
   where
     pick : (a b s t : Bool) → s ≡ t → cond s true (a || b) ≡ (a || (b || t))
     pick true b true t e = refl
@@ -42,10 +42,6 @@ in_all P k (x ∷ xs) e a = pick (x == k) refl e (λ h. in_all P k xs h (All-tai
     pick : (b : Bool) → (x == k) ≡ b → (b || is_in k xs) ≡ true → (is_in k xs ≡ true → P k) → P k
     pick true g h r = subst P (eqb-true x k g) (All-head P x xs a)
     pick false g h r = r h
-
-pub and_none : (a b : Bool) → a ≡ false → (a && b) ≡ false
-and_none true b e = absurd (false≢true (sym e))
-and_none false b e = refl
 
 pub and_named : (a b : Bool) → a ≡ true → b ≡ (a && b)
 and_named true b e = refl

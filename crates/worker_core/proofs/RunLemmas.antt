@@ -1,8 +1,7 @@
 -- No more tasks run than there are threads.
 use Rattle.std.proofs.Common.{◌≡◌, ℕ, ◌+◌, ◌<◌, Bool, true, false, List, [], ◌∷◌, Option, Some, None, refl, ap, ◌∙◌, arith, cond, find}
 use Rattle.std.specs.Prelude.{◌==◌, nat_lt}
-use Rattle.std.proofs.lemmas.Bool.{and_parts}
-use Rattle.std.proofs.lemmas.Bool.Decides.{nat_tests}
+use Rattle.std.proofs.lemmas.Bool.{and_parts, ltb-true}
 use Rattle.cluster_msgs.specs.Shape.{Shape, key_count}
 use Rattle.cluster_msgs.specs.declared.cores.WorkerEvent.{WorkerEvent}
 use Rattle.cluster_msgs.specs.declared.cores.WorkerEvent.TheVariants.{Down as Told, Start, Done, Ask as AskPeer, Gathered, GatherFailed, DataLost}
@@ -54,12 +53,9 @@ few_started w (Some k) e h = more (free (nat_lt (running_count w) w.threads) (fi
     free true o x = refl
     free false o x = absurd (none x)
 
-    less : (a b : ℕ) → nat_lt a b ≡ true → a < b
-    less a b x = grind (arith, nat_tests)
-
     more : nat_lt (running_count w) w.threads ≡ true → RunsFew (start w (Some k)).facts
     more t =
-        let l : running_count w < w.threads = less _ _ t in
+        let l : running_count w < w.threads = ltb-true _ _ t in
         let c : count (put w.running k true) (below (key_count w.shape)) + cond (w.running k) 1 0 ≡ count w.running (below (key_count w.shape)) + 1 = count-put w.running k true (key_count w.shape) (start_below w k e) in
         omega (arith, c, l)
 
@@ -67,10 +63,7 @@ few_row : (w : WorkerFacts) (e : WorkerEvent) → worker_takes w e ≡ true → 
 unfolding worker_row worker_takes ask_peer gathered
 few_row w (Told m) t h = few_same w _ (record { shape = (same_down (taken w) m).runs.shape; threads = (same_down (taken w) m).runs.threads; running = (same_down (taken w) m).runs.running }) h
 few_row w Start t h = few_started w (would_start w) refl h
-few_row w (Done k z) t h = few_same (stopped w k) _ (same_done w k z).runs (few_stopped w k (less k (and_parts (is_key w k) (w.running k) t).0) h)
-  where
-    less : (a : ℕ) → nat_lt a (key_count w.shape) ≡ true → a < key_count w.shape
-    less a x = grind (arith, nat_tests)
+few_row w (Done k z) t h = few_same (stopped w k) _ (same_done w k z).runs (few_stopped w k (ltb-true k (key_count w.shape) (and_parts (is_key w k) (w.running k) t).0) h)
 few_row w (AskPeer p) t h = few_same w _ (record { shape = refl; threads = refl; running = refl }) h
 few_row w (Gathered p n found) t h = few_same w _ (same_gathered_by w p n found (ask_to w.asks p)).runs h
 few_row w (GatherFailed p n) t h = few_same w _ (same_gathered_by w p n [] (ask_to w.asks p)).runs h

@@ -1,37 +1,35 @@
 -- Lemmas on what a worker keeps by key.
-use Rattle.std.proofs.Common.{◌≡◌, ℕ, zero, suc, ◌+◌, ◌-◌, ◌*◌, ◌<◌, ◌≤◌, ◌^◌, Bool, true, false, not, ◌&&◌, ◌||◌, List, [], ◌∷◌, ◌++◌, Option, Some, None, refl, sym, ap, ◌∙◌, subst, arith, cond, is_some, is_none, take, drop, filter, find, map, length, get_or, ⊎_elim, length-append}
-use Rattle.std.specs.Prelude.{◌==◌, nat_lt, min}
+use Rattle.std.proofs.Common.{◌≡◌, ℕ, zero, suc, ◌+◌, ◌-◌, ◌*◌, ◌<◌, ◌≤◌, ◌^◌, Bool, true, false, not, ◌&&◌, ◌||◌, List, [], ◌∷◌, ◌++◌, Option, Some, None, refl, sym, ap, ◌∙◌, subst, arith, cond, is_some, take, drop, filter, find, map, length, get_or, ⊎_elim, length-append}
+use Rattle.std.specs.Prelude.{◌==◌, nat_lt}
 use Rattle.std.specs.List.{list_any, filter_map, cons_option, range_with_len, position_or_len, insert, AllByRecursion}
 use Rattle.std.specs.Option.{option_or, option_map}
 use Rattle.std.specs.List.Sorted.{IsStrictlyIncreasing}
-use Rattle.std.proofs.lemmas.Bool.{true≢false, false≢true, eqb-true, eq-eqb, cases_lt, lt-ltb}
+use Rattle.std.proofs.lemmas.Bool.{true≢false, false≢true, eqb-true, eq-eqb, cases_lt, le-ltb, ltb-true}
 use Rattle.std.proofs.lemmas.Bool.Decides.{nat_tests}
-use Rattle.std.proofs.lemmas.List.Folds.{list_any_more, find-append}
+use Rattle.std.proofs.lemmas.List.Folds.{list_any_more, find-append, list_any-append}
 use Rattle.std.proofs.lemmas.List.Sums.{prefix_len-le-length}
 use Rattle.std.proofs.lemmas.List.{get_or_past, take_more, map-append}
 use Rattle.std.proofs.lemmas.List.Elements.{filter_map-append, Contains-get_or}
 use Rattle.std.proofs.lemmas.List.FromFn.{length-range_with_len}
+use Rattle.std.proofs.Math.Bool.{or-true, or-false}
+use Rattle.std.proofs.lemmas.Option.{same_Some}
+use Rattle.small_facts.proofs.Every.{all_of_filter}
+use Rattle.small_facts.proofs.Numbers.{eqb_turned, unequal_below}
+use Rattle.small_facts.proofs.Ranges.{range_has}
+use Rattle.small_facts.proofs.Truth.{one_at_most}
 use mir.Val.{bool_byte}
 use Rattle.cluster_msgs.specs.Shape.{Shape, key_count, deps_of, nbytes_of}
 use Rattle.cluster_rules.specs.Functions.{put, total, count, from_one}
 use Rattle.cluster_rules.specs.Derived.{below, is_in}
 use Rattle.cluster_rules.specs.Worker.{Ask, names_key, is_asked_for, with_ask, without_ask, has_any, total_bytes, WorkerFacts, worker_keys, wstate, is_fetch_state, item_at, copy_at, fetchable, ask_items}
-use Rattle.cluster_rules.proofs.DerivedLemmas.{any_append, below_split, eqb_comm}
+use Rattle.cluster_rules.proofs.DerivedLemmas.{below_split}
 use Rattle.cluster_rules.proofs.FunctionLemmas.{same_function}
 use Rattle.cluster_rules.proofs.SchedLemmas.{below-more, filter-below, filter-more}
 use Rattle.cluster_rules.proofs.TotalLemmas.{total-agree, total-bound, total-push}
-use Rattle.cluster_rules.proofs.InsideWorker.{all_take_in, all_filter_in, keys_below}
-use Rattle.cluster_rules.proofs.Members.{range_from, range_to, any_some}
+use Rattle.cluster_rules.proofs.InsideWorker.{all_take_in, keys_below}
+use Rattle.cluster_rules.proofs.Members.{range_from, any_some}
 use Rattle.fact_rows.specs.Rows.{read}
 use Rattle.worker_facts.specs.Stored.{pends, waiters}
-
-or_true : (b : Bool) → (b || true) ≡ true
-or_true true = refl
-or_true false = refl
-
-or_false : (b : Bool) → (b || false) ≡ b
-or_false true = refl
-or_false false = refl
 
 -- a test of some member counts more than none
 pub any_count : (p : ℕ → Bool) (xs : List ℕ) → list_any p xs ≡ nat_lt 0 (count p xs)
@@ -48,9 +46,6 @@ any_count p (x ∷ xs) = pick (p x) (any_count p xs)
     pick true r = more (count p xs)
     pick false r = r ∙ none (count p xs)
 
-unlike_below : (x j : ℕ) → x < j → (x == j) ≡ false
-unlike_below x j h = grind (arith, nat_tests)
-
 unlike_above : (x j : ℕ) → j + 1 ≤ x → (x == j) ≡ false
 unlike_above x j h = grind (arith, nat_tests)
 
@@ -65,7 +60,7 @@ total-put g j v a (suc n) l m = ⊎_elim (λ h. later h (total-put g j v (a + 1)
   where
     later : a < j → total (put g j v) (range_with_len (a + 1) n) + g j ≡ total g (range_with_len (a + 1) n) + v → put g j v a + total (put g j v) (range_with_len (a + 1) n) + g j ≡ g a + total g (range_with_len (a + 1) n) + v
     later h r =
-        let e : put g j v a ≡ g a = ap (λ b. cond b v (g a)) (unlike_below a j h) in
+        let e : put g j v a ≡ g a = ap (λ b. cond b v (g a)) (unequal_below a j h) in
         omega (arith, r, e)
 
     here : j ≤ a → put g j v a + total (put g j v) (range_with_len (a + 1) n) + g j ≡ g a + total g (range_with_len (a + 1) n) + v
@@ -97,12 +92,8 @@ waiters-put g pend j b k l =
 
 pub waiters-bound : (g : Shape) (pend : ℕ → Bool) (k : ℕ) → waiters g pend k ≤ key_count g
 waiters-bound g pend k =
-    let r : waiters g pend k ≤ length (below (key_count g)) * 1 = total-bound (λ j. cond (pend j && is_in k (deps_of g j)) 1 0) 1 (below (key_count g)) (λ j. small (pend j && is_in k (deps_of g j))) in
+    let r : waiters g pend k ≤ length (below (key_count g)) * 1 = total-bound (λ j. cond (pend j && is_in k (deps_of g j)) 1 0) 1 (below (key_count g)) (λ j. one_at_most (pend j && is_in k (deps_of g j))) in
     omega (arith, r, length-range_with_len 0 (key_count g))
-  where
-    small : (b : Bool) → cond b 1 0 ≤ 1
-    small true = omega arith
-    small false = omega arith
 
 pub waiters-there : (g : Shape) (pend : ℕ → Bool) (j k : ℕ) → j < key_count g → pend j ≡ true → is_in k (deps_of g j) ≡ true → 0 < waiters g pend k
 waiters-there g pend j k l e m =
@@ -146,10 +137,10 @@ pends-running mine running running' key to e = same_function _ _ at_place
 
 -- searches over the keys
 pub any_below : (p : ℕ → Bool) (j n : ℕ) → j < n → p j ≡ true → list_any p (below n) ≡ true
-any_below p j n l e = any_some p (below n) j (range_to 0 n j (omega arith) (omega arith)) e
+any_below p j n l e = any_some p (below n) j (range_has 0 n j (omega arith) (omega arith)) e
 
 pub any_push : (p : ℕ → Bool) (n : ℕ) → list_any p (below n) ≡ false → p n ≡ false → list_any p (below (n + 1)) ≡ false
-any_push p n h e = ap (list_any p) (below-more n) ∙ any_append p (below n) (n ∷ []) ∙ ap (λ b. b || (p n || false)) h ∙ ap (λ b. b || false) e
+any_push p n h e = ap (list_any p) (below-more n) ∙ list_any-append p (below n) (n ∷ []) ∙ ap (λ b. b || (p n || false)) h ∙ ap (λ b. b || false) e
 
 pub find_below : (p : ℕ → Bool) (j n : ℕ) → j < n → find p (below j) ≡ None → p j ≡ true → find p (below n) ≡ Some j
 find_below p j n l h e =
@@ -204,19 +195,12 @@ and_last true true false d e f = refl
 and_last true false c d e f = refl
 and_last false b c d e f = refl
 
-pub none_is : {A : Type 0} (o : Option A) → is_none o ≡ not (is_some o)
-none_is None = refl
-none_is (Some x) = refl
-
 pub ready-of : (a b c d e : Bool) → (a && (b && (c && d))) ≡ true → e ≡ (a && (b && (c && (d && e))))
 ready-of true true true true e h = refl
 ready-of true true true false e h = absurd (false≢true h)
 ready-of true true false d e h = absurd (false≢true h)
 ready-of true false c d e h = absurd (false≢true h)
 ready-of false b c d e h = absurd (false≢true h)
-
-ends : (n m : ℕ) → n ≤ m → nat_lt n m ≡ false → m ≡ n
-ends n m l h = grind (arith, nat_tests)
 
 -- a member of a rising list isn't among those before it
 pub not_yet : (keys : List ℕ) (i : ℕ) → i < length keys → IsStrictlyIncreasing keys → is_in (get_or keys i 0) (take i keys) ≡ false
@@ -239,7 +223,7 @@ not_yet keys i l r = front i (omega arith)
         ap (λ m. is_in (get_or keys i 0) (take m keys)) (let e : suc j ≡ j + 1 = omega arith in e)
         ∙ list_any_more (λ d. d == get_or keys i 0) keys j 0 (omega arith)
         ∙ ap (λ b. b || (get_or keys j 0 == get_or keys i 0)) (front j (omega arith))
-        ∙ unlike_below (get_or keys j 0) (get_or keys i 0) (before j (omega arith))
+        ∙ unequal_below (get_or keys j 0) (get_or keys i 0) (before j (omega arith))
 
 pub there : (keys : List ℕ) (i : ℕ) → i < length keys → is_in (get_or keys i 0) keys ≡ true
 there keys i l = any_some (λ d. d == get_or keys i 0) keys (get_or keys i 0) (Contains-get_or keys i 0 l) (eq-eqb (get_or keys i 0) (get_or keys i 0) refl)
@@ -255,14 +239,14 @@ added row row' base keys i l r old new k = ap (λ f. f k) new ∙ pick (k == get
 
     here : (x : ℕ) → x ≡ get_or keys i 0 → read row 0 (get_or keys i 0) + 1 ≡ base x + cond (is_in x (take i keys) || (get_or keys i 0 == x)) 1 0
     here x e =
-        let a : (is_in x (take i keys) || (get_or keys i 0 == x)) ≡ true = ap (λ b. is_in x (take i keys) || b) (eq-eqb (get_or keys i 0) x (sym e)) ∙ or_true (is_in x (take i keys)) in
+        let a : (is_in x (take i keys) || (get_or keys i 0 == x)) ≡ true = ap (λ b. is_in x (take i keys) || b) (eq-eqb (get_or keys i 0) x (sym e)) ∙ or-true (is_in x (take i keys)) in
         let b : ◌≡◌ {A = ℕ} (cond (is_in x (take i keys) || (get_or keys i 0 == x)) 1 0) 1 = ap (λ t. cond t 1 0) a in
         let n : read row 0 (get_or keys i 0) ≡ base x + 0 = none ∙ ap (λ y. base y + 0) (sym e) in
         omega (arith, b, n)
 
     pick : (b : Bool) → (k == get_or keys i 0) ≡ b → cond b (read row 0 (get_or keys i 0) + 1) (read row 0 k) ≡ base k + cond (is_in k (take i keys) || (get_or keys i 0 == k)) 1 0
     pick true e = here k (eqb-true k (get_or keys i 0) e)
-    pick false e = old k ∙ ap (λ b. base k + cond b 1 0) (sym (or_false (is_in k (take i keys)) ∙ refl)) ∙ ap (λ b. base k + cond (is_in k (take i keys) || b) 1 0) (sym (eqb_comm (get_or keys i 0) k ∙ e))
+    pick false e = old k ∙ ap (λ b. base k + cond b 1 0) (sym (or-false (is_in k (take i keys)) ∙ refl)) ∙ ap (λ b. base k + cond (is_in k (take i keys) || b) 1 0) (sym (eqb_turned (get_or keys i 0) k ∙ e))
 
 -- one less at the next key
 pub enough : (row : List ℕ) (base : ℕ → ℕ) (keys : List ℕ) (i : ℕ) → i < length keys → IsStrictlyIncreasing keys
@@ -279,7 +263,7 @@ taken_off row row' base keys i l r old full new k =
   where
     here : (x : ℕ) → x ≡ get_or keys i 0 → (read row 0 (get_or keys i 0) - 1) + cond (is_in x (take i keys) || (get_or keys i 0 == x)) 1 0 ≡ base x
     here x e =
-        let a : (is_in x (take i keys) || (get_or keys i 0 == x)) ≡ true = ap (λ b. is_in x (take i keys) || b) (eq-eqb (get_or keys i 0) x (sym e)) ∙ or_true (is_in x (take i keys)) in
+        let a : (is_in x (take i keys) || (get_or keys i 0 == x)) ≡ true = ap (λ b. is_in x (take i keys) || b) (eq-eqb (get_or keys i 0) x (sym e)) ∙ or-true (is_in x (take i keys)) in
         let b : ◌≡◌ {A = ℕ} (cond (is_in x (take i keys) || (get_or keys i 0 == x)) 1 0) 1 = ap (λ t. cond t 1 0) a in
         let z : ◌≡◌ {A = ℕ} (cond (is_in (get_or keys i 0) (take i keys)) 1 0) 0 = ap (λ t. cond t 1 0) (not_yet keys i l r) in
         let n : base (get_or keys i 0) ≡ base x = ap base (sym e) in
@@ -287,27 +271,10 @@ taken_off row row' base keys i l r old full new k =
 
     pick : (b : Bool) → (k == get_or keys i 0) ≡ b → cond b (read row 0 (get_or keys i 0) - 1) (read row 0 k) + cond (is_in k (take i keys) || (get_or keys i 0 == k)) 1 0 ≡ base k
     pick true e = here k (eqb-true k (get_or keys i 0) e)
-    pick false e = ap (λ b. read row 0 k + cond (is_in k (take i keys) || b) 1 0) (eqb_comm (get_or keys i 0) k ∙ e) ∙ ap (λ b. read row 0 k + cond b 1 0) (or_false (is_in k (take i keys))) ∙ old k
-
-pub ask_then : {A : Type 0} (o : Option A) (b h : Bool) → h ≡ is_some o → h ≡ false → b ≡ (is_none o && b)
-ask_then None b h e z = refl
-ask_then (Some x) b h e z = absurd (false≢true (sym z ∙ e))
-
-pub ask_else : {A : Type 0} (o : Option A) (b h : Bool) → h ≡ is_some o → h ≡ true → false ≡ (is_none o && b)
-ask_else None b h e z = absurd (false≢true (sym e ∙ z))
-ask_else (Some x) b h e z = refl
-
-pub start_then : {A : Type 0} (a b : ℕ) (x y : A) → a < b → x ≡ cond (nat_lt a b) x y
-start_then a b x y h = sym (ap (λ t. cond t x y) (lt-ltb a b h))
+    pick false e = ap (λ b. read row 0 k + cond (is_in k (take i keys) || b) 1 0) (eqb_turned (get_or keys i 0) k ∙ e) ∙ ap (λ b. read row 0 k + cond b 1 0) (or-false (is_in k (take i keys))) ∙ old k
 
 pub start_else : {A : Type 0} (a b : ℕ) (x y : A) → b ≤ a → y ≡ cond (nat_lt a b) x y
-start_else a b x y h = sym (ap (λ t. cond t x y) (not_less a b h))
-  where
-    not_less : (a b : ℕ) → b ≤ a → nat_lt a b ≡ false
-    not_less a b h = grind (arith, nat_tests)
-
-pub pair_more : (t p l m : ℕ) → t ≡ min p m → min (t + l) m ≡ min (p + l) m
-pair_more t p l m h = omega (arith, h)
+start_else a b x y h = sym (ap (λ t. cond t x y) (le-ltb a b h))
 
 pub none_waits : (g : Shape) (pend : ℕ → Bool) → ((j : ℕ) → pend j ≡ false) → (k : ℕ) → 0 ≡ waiters g pend k
 none_waits g pend h k = sym (total-agree (λ j. cond (pend j && is_in k (deps_of g j)) 1 0) (λ j. 0) (below (key_count g)) (λ j m. ap (λ b. cond (b && is_in k (deps_of g j)) 1 0) (h j)) ∙ zeros (below (key_count g)))
@@ -331,22 +298,16 @@ own_item p k hs i h = pick (copy_at p hs) h
     none : ◌≡◌ {A = Option (ℕ × ℕ)} None (Some i) → ⊥
     none e = cc
 
-    some_is : (x y : ℕ × ℕ) → Some x ≡ Some y → x ≡ y
-    some_is x y e = cc
-
     pick : (o : Option ℕ) → option_map (λ (c : ℕ). (k, c)) o ≡ Some i → i.0 ≡ k
     pick None e = absurd (none e)
-    pick (Some c) e = ap (λ (x : ℕ × ℕ). x.0) (sym (some_is (k, c) i e))
+    pick (Some c) e = ap (λ (x : ℕ × ℕ). x.0) (sym (same_Some (k, c) i e))
 
 any_below_all : (n k : ℕ) (is : List (ℕ × ℕ)) → AllByRecursion (λ i. nat_lt i.0 n ≡ true) is → list_any (λ i. i.0 == k) is ≡ true → k < n
 any_below_all n k [] a h = absurd (false≢true h)
 any_below_all n k (i ∷ is) a h = pick (i.0 == k) refl (λ e. any_below_all n k is a.1 e) h
   where
-    less : (x : ℕ) → nat_lt x n ≡ true → x < n
-    less x e = grind (arith, nat_tests)
-
     pick : (b : Bool) → (i.0 == k) ≡ b → (list_any (λ j. j.0 == k) is ≡ true → k < n) → (b || list_any (λ j. j.0 == k) is) ≡ true → k < n
-    pick true e r q = subst (λ x. x < n) (eqb-true i.0 k e) (less i.0 a.0)
+    pick true e r q = subst (λ x. x < n) (eqb-true i.0 k e) (ltb-true i.0 n a.0)
     pick false e r q = r q
 
 pub asked_below : (w : WorkerFacts) (p k : ℕ) → list_any (λ i. i.0 == k) (ask_items w.shape (fetchable w p)) ≡ true → k < key_count w.shape
@@ -354,5 +315,5 @@ unfolding ask_items fetchable
 asked_below w p k h = any_below_all (key_count w.shape) k _
     (all_take_in (λ i. nat_lt i.0 (key_count w.shape) ≡ true) _ _
     (fetched_below (λ j. item_at p j (w.holders j)) (key_count w.shape) (λ j i e. own_item p j (w.holders j) i e) _
-    (all_filter_in (λ j. nat_lt j (key_count w.shape) ≡ true) (λ j. is_fetch_state (wstate w j)) (worker_keys w) (keys_below w.shape))))
+    (all_of_filter (λ j. nat_lt j (key_count w.shape) ≡ true) (λ j. is_fetch_state (wstate w j)) (worker_keys w) (keys_below w.shape))))
     h

@@ -4,6 +4,7 @@ use Rattle.std.specs.Prelude.{◌==◌, is_some, nat_eq}
 use Rattle.std.specs.Cmp.{nat_eq_equiv}
 use Rattle.std.specs.Map.{lookup}
 use Rattle.std.proofs.lemmas.Bool.{eqb-true}
+use Rattle.small_facts.proofs.Truth.{cond_same}
 use Rattle.nd_shape.specs.Block.{Array}
 use Rattle.io_edge.specs.Disk.{DiskView}
 use Rattle.io_edge.specs.View.{raised}
@@ -38,10 +39,6 @@ module _ {D : Type 0} where
 
 -- ## What was put aside
 
-still_true : (b : Bool) → cond b true true ≡ true
-still_true true = refl
-still_true false = refl
-
 -- a count that stands still below its end rose by nothing
 pub calm_none : (n m k : ℕ) → m ≡ raised n k → m ≡ n → m < 2 ^ 64 - 1 → k ≡ 0
 unfolding raised
@@ -58,7 +55,7 @@ module _ {D : Type 0} where
       → PutsAside before (stock_of s) (stock_of u)
   aside_by before gone s u each times = record {
     later = subst (λ n. s.times ≤ n) (sym times) (raised_bounds s.times (length gone)).0;
-    stays = λ q h. each q ∙ ap (cond (is_among q gone) true) h ∙ still_true (is_among q gone);
+    stays = λ q h. each q ∙ ap (cond (is_among q gone) true) h ∙ cond_same (is_among q gone) true;
     calm = λ c q h.
         ap (λ b. cond b true (before q)) (sym (none_among gone q (calm_none s.times u.times (length gone) times c.same c.below))) ∙ sym (each q) ∙ h;
   }

@@ -1,10 +1,11 @@
 -- The keys that an open ask names.
-use Rattle.std.proofs.Common.{◌≡◌, ℕ, ◌<◌, Bool, true, false, not, ◌||◌, List, [], ◌∷◌, Option, Some, None, is_some, refl, sym, ap, ◌∙◌, subst, arith, cond, All, find, length, get_or, suc, ◌+◌}
+use Rattle.std.proofs.Common.{◌≡◌, ℕ, ◌<◌, Bool, true, false, not, ◌||◌, List, [], ◌∷◌, Some, None, is_some, refl, sym, ap, ◌∙◌, subst, arith, cond, All, find, length, get_or, suc, ◌+◌}
 use Rattle.std.specs.Prelude.{◌==◌, nat_lt}
 use Rattle.std.specs.List.{list_any, insert, position_or_len}
-use Rattle.std.proofs.lemmas.Bool.{true≢false, false≢true, eq-eqb}
+use Rattle.std.proofs.lemmas.Bool.{false≢true, eq-eqb, or_right}
 use Rattle.std.proofs.lemmas.List.Sums.{prefix_len-le-length}
 use Rattle.std.proofs.lemmas.List.Elements.{All-nil, All-cons}
+use Rattle.small_facts.proofs.Options.{none_from_is_some}
 use Rattle.cluster_rules.specs.Worker.{Ask, WorkerFacts, names_key, is_asked_for, ask_to, with_ask, without_ask}
 use Rattle.open_asks.specs.Kept.{without_first}
 use Rattle.open_asks.proofs.FirstLemmas.{asked-first, without_first-none}
@@ -14,15 +15,11 @@ use Rattle.open_asks.proofs.AskLemmas.{with_ask-insert}
 -- each item of a list whose keys are all named below n
 pub items_below : (n : ℕ) (is : List (ℕ × ℕ)) → ((k : ℕ) → list_any (λ (i : ℕ × ℕ). i.0 == k) is ≡ true → k < n) → All (λ (i : ℕ × ℕ). i.0 < n) is
 items_below n [] h = All-nil (λ (i : ℕ × ℕ). i.0 < n)
-items_below n (i ∷ is) h = All-cons (λ (j : ℕ × ℕ). j.0 < n) i is (h i.0 (here (i.0 == i.0) (eq-eqb i.0 i.0 refl))) (items_below n is (λ k e. h k (later (i.0 == k) (list_any (λ (j : ℕ × ℕ). j.0 == k) is) e)))
+items_below n (i ∷ is) h = All-cons (λ (j : ℕ × ℕ). j.0 < n) i is (h i.0 (here (i.0 == i.0) (eq-eqb i.0 i.0 refl))) (items_below n is (λ k e. h k (or_right (i.0 == k) (list_any (λ (j : ℕ × ℕ). j.0 == k) is) e)))
   where
     here : (b : Bool) → b ≡ true → (b || list_any (λ (j : ℕ × ℕ). j.0 == i.0) is) ≡ true
     here true e = refl
     here false e = absurd (false≢true e)
-
-    later : (a b : Bool) → b ≡ true → (a || b) ≡ true
-    later true b e = refl
-    later false b e = e
 
 pub named_below : (asks : List Ask) (p : ℕ) (a : Ask) (n : ℕ) → ask_to asks p ≡ Some a → ((k : ℕ) → is_asked_for asks k ≡ true → k < n) → All (λ (i : ℕ × ℕ). i.0 < n) a.items
 named_below asks p a n found h = items_below n a.items (λ k e. h k (asked-first p asks a k found ∙ ap (λ b. b || is_asked_for (without_first asks p) k) e))
@@ -52,10 +49,6 @@ first_shorter p (b ∷ bs) h = pick (b.peer == p) h (first_shorter p bs)
     pick true e r = omega arith
     pick false e r = let s = r e in omega (arith, s)
 
-none_of : {A : Type 0} (o : Option A) → is_some o ≡ false → o ≡ None
-none_of None e = refl
-none_of (Some x) e = absurd (true≢false e)
-
 -- one more is closed
 pub closed_one : (p : ℕ) (w v h : WorkerFacts) → v ≡ record w { asks = v.asks } → h ≡ record v { asks = without_first v.asks p } → h ≡ record w { asks = h.asks }
 closed_one p w v h same e = e ∙ ap (λ (u : WorkerFacts). record u { asks = without_first v.asks p }) same ∙ ap (λ (bs : List Ask). record w { asks = bs }) (sym (ap (λ (u : WorkerFacts). u.asks) e))
@@ -66,7 +59,7 @@ closed_rest p w v h rest e = ap (λ (u : WorkerFacts). without_ask u.asks p) e �
 -- none is left
 pub closed_all : (p : ℕ) (w v h : WorkerFacts) → v ≡ record w { asks = v.asks } → without_ask v.asks p ≡ without_ask w.asks p → h ≡ record v { asks = without_first v.asks p } → is_some (ask_to v.asks p) ≡ false → h ≡ record w { asks = without_ask w.asks p }
 closed_all p w v h same rest e none =
-    let n : ask_to v.asks p ≡ None = none_of (ask_to v.asks p) none in
+    let n : ask_to v.asks p ≡ None = none_from_is_some (ask_to v.asks p) none in
     e ∙ ap (λ (u : WorkerFacts). record u { asks = without_first v.asks p }) same ∙ ap (λ (bs : List Ask). record w { asks = bs }) (without_first-none p v.asks n ∙ sym (without-none p v.asks n) ∙ rest)
 
 -- an ask that was opened is at its place

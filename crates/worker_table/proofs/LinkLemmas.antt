@@ -2,23 +2,17 @@
 use Rattle.std.proofs.Common.{◌≡◌, ℕ, ◌+◌, ◌<◌, ◌≤◌, Bool, true, false, ◌||◌, List, [], ◌∷◌, ◌++◌, refl, sym, ap, ◌∙◌, subst, arith, cond, get_or, set, length, take, All, ⊎_elim, length-set}
 use Rattle.std.specs.Prelude.{◌==◌}
 use Rattle.std.specs.List.{list_any, AllByRecursion}
-use Rattle.std.proofs.lemmas.Bool.{true≢false, false≢true, eqb-true, eq-eqb, cases_lt}
-use Rattle.std.proofs.lemmas.List.Folds.{list_any_more}
+use Rattle.std.proofs.lemmas.Bool.{true≢false, false≢true, eqb-true, eq-eqb, cases_lt, or_left}
+use Rattle.std.proofs.lemmas.List.Folds.{list_any_more, list_any-append}
 use Rattle.std.proofs.lemmas.List.Elements.{All-push, All-nil, All-from_recursion, All-weaker}
+use Rattle.std.proofs.Math.Bool.{or-false, or-true}
+use Rattle.small_facts.proofs.Numbers.{eqb_turned}
+use Rattle.small_facts.proofs.Truth.{or_without}
 use Rattle.cluster_msgs.specs.Shape.{Shape, IsShape, key_count, deps_of}
 use Rattle.cluster_rules.specs.Functions.{put}
 use Rattle.cluster_rules.specs.Derived.{is_in}
-use Rattle.cluster_rules.proofs.DerivedLemmas.{any_append, eqb_comm}
 use Rattle.cluster_rules.proofs.FunctionLemmas.{set_at}
 use Rattle.worker_table.specs.Links.{dependents, IsAdded, IsLinkedBelow}
-
-or_true : (b : Bool) → (b || true) ≡ true
-or_true true = refl
-or_true false = refl
-
-or_left : (a b : Bool) → a ≡ true → (a || b) ≡ true
-or_left true b e = refl
-or_left false b e = absurd (false≢true e)
 
 pub added_none : (key : ℕ) (old : List (List ℕ)) → IsAdded key [] old old
 added_none key old = record {
@@ -44,19 +38,11 @@ added_more key before old v deps i l low val was = record {
     new_at d = set_at old x v [] low d
 
     named : (j : ℕ) → is_in j v ≡ (is_in j (dependents old x) || (key == j))
-    named j = ap (is_in j) val ∙ any_append (λ y. y == j) (dependents old x) (key ∷ []) ∙ ap (λ b. is_in j (dependents old x) || b) (ends (key == j))
-      where
-        ends : (b : Bool) → (b || false) ≡ b
-        ends true = refl
-        ends false = refl
+    named j = ap (is_in j) val ∙ list_any-append (λ y. y == j) (dependents old x) (key ∷ []) ∙ ap (λ b. is_in j (dependents old x) || b) (or-false (key == j))
 
     at_there : (d : ℕ) (b : Bool) → (d == x) ≡ b → (is_in d (take i deps) || (x == d)) ≡ true → is_in key (dependents (set old x v) d) ≡ true
-    at_there d true e h = ap (is_in key) (new_at d ∙ ap (λ b. cond b v (dependents old d)) e) ∙ named key ∙ ap (λ b. is_in key (dependents old x) || b) (eq-eqb key key refl) ∙ or_true (is_in key (dependents old x))
-    at_there d false e h = ap (is_in key) (new_at d ∙ ap (λ b. cond b v (dependents old d)) e) ∙ was.there d (first (is_in d (take i deps)) (x == d) h (eqb_comm x d ∙ e))
-      where
-        first : (a b : Bool) → (a || b) ≡ true → b ≡ false → a ≡ true
-        first true b h e = refl
-        first false b h e = absurd (false≢true (sym e ∙ h))
+    at_there d true e h = ap (is_in key) (new_at d ∙ ap (λ b. cond b v (dependents old d)) e) ∙ named key ∙ ap (λ b. is_in key (dependents old x) || b) (eq-eqb key key refl) ∙ or-true (is_in key (dependents old x))
+    at_there d false e h = ap (is_in key) (new_at d ∙ ap (λ b. cond b v (dependents old d)) e) ∙ was.there d (or_without (is_in d (take i deps)) (x == d) h (eqb_turned x d ∙ e))
 
     still : (d j : ℕ) (b : Bool) → (d == x) ≡ b → is_in j (dependents old d) ≡ true → is_in j (dependents (set old x v) d) ≡ true
     still d j true e h = ap (is_in j) (new_at d ∙ ap (λ b. cond b v (dependents old d)) e) ∙ named j ∙ or_left (is_in j (dependents old x)) (key == j) (ap (λ y. is_in j (dependents old y)) (sym (eqb-true d x e)) ∙ h)

@@ -2,13 +2,14 @@
 use Rattle.std.proofs.Common.{◌≡◌, ℕ, ◌+◌, ◌<◌, ◌≤◌, Bool, true, false, not, ◌&&◌, ◌||◌, List, [], ◌∷◌, Option, Some, None, refl, sym, ap, ◌∙◌, subst, arith, cond, is_some, get_or, length, ⊎_elim}
 use Rattle.std.specs.Prelude.{◌==◌}
 use Rattle.std.specs.List.{list_any, list_all}
-use Rattle.std.proofs.lemmas.Bool.{true≢false, false≢true, eqb-true, cases_lt}
+use Rattle.std.proofs.lemmas.Bool.{true≢false, false≢true, eqb-true, cases_lt, and_right}
 use Rattle.std.proofs.lemmas.List.{get_or_past}
 use Rattle.cluster_msgs.specs.Shape.{Shape, key_count, deps_of}
 use Rattle.cluster_rules.specs.Functions.{put, count, total}
 use Rattle.cluster_rules.specs.Derived.{below, is_in}
 use Rattle.cluster_rules.specs.Worker.{Ask, WorkerFacts, new_worker, worker_keys, names_key, is_asked_for, flying, pending, awaited, is_fed, has_any, ask_to, with_ask, running_count, wstate, is_ready_state, is_fetch_state, is_missing_state}
 use Rattle.std.proofs.lemmas.List.FromFn.{length-range_with_len}
+use Rattle.small_facts.proofs.Truth.{one_at_most}
 use Rattle.cluster_rules.proofs.TotalLemmas.{total-bound}
 use Rattle.cluster_rules.proofs.FunctionLemmas.{same_function}
 use Rattle.cluster_rules.proofs.WorkerLemmas.{ready_state-is, fetch_state-is, missing_state-is}
@@ -67,14 +68,10 @@ any_apart : (p q : ℕ → Bool) (g : Shape) (key k : ℕ) → ((j : ℕ) → (j
     → list_any (λ j. p j && is_in k (deps_of g j)) (below (key_count g)) ≡ list_any (λ j. q j && is_in k (deps_of g j)) (below (key_count g))
 any_apart p q g key k same out = ap (λ (t : ℕ → Bool). list_any t (below (key_count g))) (same_function _ _ (λ j. at_key j (j == key) refl))
   where
-    none : (a b : Bool) → b ≡ false → (a && b) ≡ false
-    none true b e = e
-    none false b e = refl
-
     at_key : (j : ℕ) (b : Bool) → (j == key) ≡ b → (p j && is_in k (deps_of g j)) ≡ (q j && is_in k (deps_of g j))
     at_key j true e =
         let z : is_in k (deps_of g j) ≡ false = ap (λ x. is_in k (deps_of g x)) (eqb-true j key e) ∙ out in
-        none (p j) _ z ∙ sym (none (q j) _ z)
+        and_right (p j) _ z ∙ sym (and_right (q j) _ z)
     at_key j false e = ap (λ b. b && is_in k (deps_of g j)) (same j e)
 
 pub mine_apart : (f : WorkerFacts) (key k : ℕ) (to : Option ℕ) → (k == key) ≡ false → is_in k (deps_of f.shape key) ≡ false → parts f k ≡ parts (record f { mine = put f.mine key to }) k
@@ -134,11 +131,7 @@ count_there f key m l was e =
 
 pub count_few : (f : WorkerFacts) (m : ℕ) → m ≡ running_count f → m ≤ key_count f.shape
 unfolding running_count
-count_few f m e = let r = total-bound (λ (j : ℕ). cond (f.running j) 1 0) 1 (below (key_count f.shape)) (λ j. small (f.running j)) in omega (arith, e, r, length-range_with_len 0 (key_count f.shape))
-  where
-    small : (b : Bool) → cond b 1 0 ≤ 1
-    small true = omega arith
-    small false = omega arith
+count_few f m e = let r = total-bound (λ (j : ℕ). cond (f.running j) 1 0) 1 (below (key_count f.shape)) (λ j. one_at_most (f.running j)) in omega (arith, e, r, length-range_with_len 0 (key_count f.shape))
 
 -- a worker as it starts
 no_one : (xs : List ℕ) (t : ℕ → Bool) → list_any (λ j. false && t j) xs ≡ false

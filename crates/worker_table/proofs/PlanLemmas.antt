@@ -2,12 +2,13 @@
 use Rattle.std.proofs.Common.{◌≡◌, ℕ, ◌+◌, ◌<◌, ◌≤◌, Bool, true, false, not, ◌&&◌, ◌||◌, List, [], ◌∷◌, Some, None, refl, sym, ap, ◌∙◌, subst, arith, cond, is_some, get_or, length, take, ⊎_elim}
 use Rattle.std.specs.Prelude.{◌==◌}
 use Rattle.std.specs.List.{list_any}
-use Rattle.std.proofs.lemmas.Bool.{true≢false, false≢true, eqb-true, cases_lt}
+use Rattle.std.proofs.lemmas.Bool.{true≢false, eqb-true, cases_lt}
 use Rattle.std.proofs.lemmas.List.Folds.{list_any_more}
+use Rattle.small_facts.proofs.Numbers.{eqb_turned}
+use Rattle.small_facts.proofs.Truth.{or_first_false, or_second_false, or_without}
 use Rattle.cluster_msgs.specs.Shape.{Shape, key_count}
 use Rattle.cluster_rules.specs.Derived.{is_in}
 use Rattle.cluster_rules.specs.Worker.{WorkerFacts, new_worker, flying, awaited}
-use Rattle.cluster_rules.proofs.DerivedLemmas.{eqb_comm}
 use Rattle.key_sets.specs.Sets.{has}
 use Rattle.worker_table.specs.Parts.{Parts, parts, fetch_of, unasked_of}
 use Rattle.worker_table.specs.Plan.{IsAt, IsNowhere}
@@ -44,19 +45,7 @@ looked_twice t u f h old mid new was same here others here' others' k = pick (u 
 
 -- one more key of a list
 more_is : {A : Type 0} (at : A → ℕ) (xs : List A) (i k : ℕ) (d : A) → i < length xs → list_any (λ x. at x == k) (take (i + 1) xs) ≡ (list_any (λ x. at x == k) (take i xs) || (k == at (get_or xs i d)))
-more_is at xs i k d l = list_any_more (λ x. at x == k) xs i d l ∙ ap (λ b. list_any (λ x. at x == k) (take i xs) || b) (eqb_comm (at (get_or xs i d)) k)
-
-first_none : (a b : Bool) → (a || b) ≡ false → a ≡ false
-first_none true b h = absurd (true≢false h)
-first_none false b h = refl
-
-second_none : (a b : Bool) → (a || b) ≡ false → b ≡ false
-second_none true b h = absurd (true≢false h)
-second_none false b h = h
-
-first_then : (a b : Bool) → (a || b) ≡ true → b ≡ false → a ≡ true
-first_then true b h e = refl
-first_then false b h e = absurd (false≢true (sym e ∙ h))
+more_is at xs i k d l = list_any_more (λ x. at x == k) xs i d l ∙ ap (λ b. list_any (λ x. at x == k) (take i xs) || b) (eqb_turned (at (get_or xs i d)) k)
 
 pub looked_more : {A : Type 0} (at : A → ℕ) (h : WorkerFacts) (old new : Plan) (xs : List A) (i : ℕ) (d : A) → i < length xs → Looked (λ k. list_any (λ x. at x == k) (take i xs)) h old
     → IsAt (parts h (at (get_or xs i d))) new (at (get_or xs i d)) → Leaves (λ k. k == at (get_or xs i d)) old new → Looked (λ k. list_any (λ x. at x == k) (take (i + 1) xs)) h new
@@ -64,13 +53,13 @@ looked_more at h old new xs i d l was here others k e = pick (k == at (get_or xs
   where
     pick : (b : Bool) → (k == at (get_or xs i d)) ≡ b → IsAt (parts h k) new k
     pick true g = one_looked h new (at (get_or xs i d)) here k g
-    pick false g = others (parts h k) k g (was k (first_then _ _ (sym (more_is at xs i k d l) ∙ e) g))
+    pick false g = others (parts h k) k g (was k (or_without _ _ (sym (more_is at xs i k d l) ∙ e) g))
 
 pub leaves_more : {A : Type 0} (at : A → ℕ) (first old new : Plan) (xs : List A) (i : ℕ) (d : A) → i < length xs → Leaves (λ k. list_any (λ x. at x == k) (take i xs)) first old
     → Leaves (λ k. k == at (get_or xs i d)) old new → Leaves (λ k. list_any (λ x. at x == k) (take (i + 1) xs)) first new
 leaves_more at first old new xs i d l was others q k e a =
     let g = sym (more_is at xs i k d l) ∙ e in
-    others q k (second_none _ _ g) (was q k (first_none _ _ g) a)
+    others q k (or_second_false _ _ g) (was q k (or_first_false _ _ g) a)
 
 -- a worker as it starts is in no set
 pub at_first : (g : Shape) (id threads : ℕ) (p : Plan) (k : ℕ) → IsNowhere p k → IsAt (parts (new_worker g id threads) k) p k

@@ -4,6 +4,7 @@ use Rattle.std.specs.Prelude.{◌==◌}
 use Rattle.std.specs.List.{list_any, filter_map, cons_option}
 use Rattle.std.specs.Option.{option_map}
 use Rattle.std.proofs.lemmas.Bool.{true≢false, cases_lt}
+use Rattle.std.proofs.lemmas.List.{append-nil}
 use Rattle.cluster_rules.specs.Derived.{below}
 use Rattle.cluster_rules.specs.Worker.{has_any, item_at}
 use Rattle.cluster_rules.proofs.FunctionLemmas.{same_function}
@@ -29,12 +30,8 @@ gap p a (suc d) h =
     ap (λ m. filter p (below m)) (let e : a + suc d ≡ a + d + 1 = omega arith in e)
     ∙ filter-below p (a + d)
     ∙ ap (λ b. filter p (below (a + d)) ++ cond b ((a + d) ∷ []) []) (h (a + d) (omega arith) (omega arith))
-    ∙ ends (filter p (below (a + d)))
+    ∙ append-nil (filter p (below (a + d)))
     ∙ gap p a d (λ k l m. h k l (omega arith))
-  where
-    ends : (xs : List ℕ) → xs ++ [] ≡ xs
-    ends [] = refl
-    ends (x ∷ xs) = ap (λ ys. x ∷ ys) (ends xs)
 
 pub filter-gap : (p : ℕ → Bool) (a b : ℕ) → a ≤ b → ((k : ℕ) → a ≤ k → k < b → p k ≡ false) → filter p (below b) ≡ filter p (below a)
 filter-gap p a b l h = subst (λ m. filter p (below m) ≡ filter p (below a)) (let e : a + (b - a) ≡ b = omega arith in e) (gap p a (b - a) (λ k m n. h k m (omega arith)))

@@ -1,10 +1,11 @@
 -- The sets fit the facts after the keys that a change touches were looked at.
-use Rattle.std.proofs.Common.{◌≡◌, ℕ, ◌<◌, ◌≤◌, Bool, true, false, ◌||◌, List, [], ◌∷◌, refl, sym, ap, ◌∙◌, subst, arith, All, length}
+use Rattle.std.proofs.Common.{◌≡◌, ℕ, ◌<◌, ◌≤◌, Bool, true, false, List, [], ◌∷◌, refl, sym, ap, ◌∙◌, subst, arith, All, length}
 use Rattle.std.specs.Prelude.{◌==◌}
 use Rattle.std.specs.List.{list_any}
-use Rattle.std.proofs.lemmas.Bool.{true≢false, false≢true}
+use Rattle.std.proofs.lemmas.Bool.{true≢false, false≢true, or_from}
 use Rattle.std.proofs.lemmas.Bool.Decides.{nat_tests}
 use Rattle.std.proofs.lemmas.List.Elements.{All-head, All-tail, All-take}
+use Rattle.small_facts.proofs.Numbers.{unequal_between}
 use Rattle.cluster_msgs.specs.Shape.{Shape, IsShape, key_count, deps_of}
 use Rattle.cluster_rules.specs.Functions.{put}
 use Rattle.cluster_rules.specs.Derived.{is_in}
@@ -23,13 +24,7 @@ unlike k key n h l = grind (arith, nat_tests)
 -- a list of keys doesn't name a greater number
 none_named : {A : Type 0} (at : A → ℕ) (n k : ℕ) (xs : List A) → All (λ x. at x < n) xs → n ≤ k → list_any (λ x. at x == k) xs ≡ false
 none_named at n k [] a l = refl
-none_named at n k (x ∷ xs) a l = both (at x == k) (list_any (λ y. at y == k) xs) (less (at x) k n (All-head (λ y. at y < n) x xs a) l) (none_named at n k xs (All-tail (λ y. at y < n) x xs a) l)
-  where
-    less : (i j m : ℕ) → i < m → m ≤ j → (i == j) ≡ false
-    less i j m h e = grind (arith, nat_tests)
-
-    both : (a b : Bool) → a ≡ false → b ≡ false → (a || b) ≡ false
-    both a b e d = ap (λ x. x || b) e ∙ d
+none_named at n k (x ∷ xs) a l = or_from (at x == k) (list_any (λ y. at y == k) xs) (unequal_between (at x) k n (All-head (λ y. at y < n) x xs a) l) (none_named at n k xs (All-tail (λ y. at y < n) x xs a) l)
 
 room_in : (f h : WorkerFacts) (p : Plan) → h.shape ≡ f.shape → HasRoom (key_count f.shape) p → HasRoom (key_count h.shape) p
 room_in f h p s r = subst (λ (g : Shape). HasRoom (key_count g) p) (sym s) r

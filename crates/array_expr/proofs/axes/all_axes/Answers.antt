@@ -1,7 +1,7 @@
 use Rattle.std.proofs.Common.{◌≡◌, ℕ, ◌+◌, zero, suc, List, [], ◌∷◌, ◌++◌, refl, ap, sym, ◌∙◌, arith}
 use Rattle.std.specs.List.{range_with_len}
-use Rattle.array_expr.proofs.Listed.{range-more}
+use Rattle.small_facts.proofs.Ranges.{range_upto}
 use Rattle.array_expr.proofs.axes.all_axes.Goals as goal
 
 pub loop-axis-preserved : goal.loop-axis-preserved
-loop-axis-preserved c = c.in_ok-push.ensures.items ∙ ap (λ xs. xs ++ c.loop-axis.axis ∷ []) c.loop-axis.invariant ∙ sym (range-more c.loop-axis.axis)
+loop-axis-preserved c = c.in_ok-push.ensures.items ∙ ap (λ xs. xs ++ c.loop-axis.axis ∷ []) c.loop-axis.invariant ∙ sym (range_upto c.loop-axis.axis)

@@ -1,8 +1,8 @@
 use Rattle.std.proofs.Common.{◌≡◌, ◌<◌, true, length, Some, slice_get, ap, sym, subst, refl, ◌∙◌, arith, rules}
+use Rattle.small_facts.proofs.Options.{slice_get_at}
 use Rattle.array_expr.specs.Elem.{is_input, next_input}
 use Rattle.plain_eval.specs.Eval.{block_at}
 use Rattle.plain_eval.proofs.Arrays.{inputs-next, next-few}
-use Rattle.plain_eval.proofs.Nodes.{node-is}
 use Rattle.array_table.proofs.FirstInputs.{HasBlock, blocks-none, blocks-more}
 use Rattle.array_table.proofs.inputs.have_blocks.Goals as goal
 
@@ -15,7 +15,7 @@ loop-k-preserved c =
     let blocks = c.args.blocks.now in
     let k = c.loop-k.k in
     let node = c.index-nodes-k.result in
-    let is : slice_get nodes k ≡ Some node = node-is nodes k node (omega (arith, c.loop-k-test.true, c.requires)) c.index-nodes-k.is in
+    let is : slice_get nodes k ≡ Some node = slice_get_at nodes k node (omega (arith, c.loop-k-test.true, c.requires)) c.index-nodes-k.is in
     let there : is_input node.op ≡ true → c.loop-k.input < length blocks = search rules in
     let shape : is_input node.op ≡ true → (block_at blocks c.loop-k.input).shape ≡ node.shape = search rules in
     record {

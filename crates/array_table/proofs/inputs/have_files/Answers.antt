@@ -1,7 +1,7 @@
 use Rattle.std.proofs.Common.{◌≡◌, ◌<◌, ◌≤◌, ◌^◌, true, length, Some, slice_get, ap, sym, subst, refl, ◌∙◌, arith, rules}
+use Rattle.small_facts.proofs.Options.{slice_get_at}
 use Rattle.array_expr.specs.Elem.{is_input, next_input}
 use Rattle.plain_eval.proofs.Arrays.{inputs-next, next-few}
-use Rattle.plain_eval.proofs.Nodes.{node-is}
 use Rattle.plain_eval.specs.Eval.{inputs_before}
 use Rattle.plain_block.specs.Files.{head_at}
 use Rattle.array_table.proofs.FirstInputs.{HasFile, files-none, files-more}
@@ -16,7 +16,7 @@ loop-k-preserved c =
     let heads = c.args.heads.now in
     let k = c.loop-k.k in
     let node = c.index-nodes-k.result in
-    let is : slice_get nodes k ≡ Some node = node-is nodes k node (omega (arith, c.loop-k-test.true, c.requires)) c.index-nodes-k.is in
+    let is : slice_get nodes k ≡ Some node = slice_get_at nodes k node (omega (arith, c.loop-k-test.true, c.requires)) c.index-nodes-k.is in
     let file : is_input node.op ≡ true → c.loop-k.input < c.args.files = search rules in
     let head : is_input node.op ≡ true → c.loop-k.input < length heads = search rules in
     let shape : is_input node.op ≡ true → (head_at heads c.loop-k.input).shape ≡ node.shape = search rules in

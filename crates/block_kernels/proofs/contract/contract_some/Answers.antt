@@ -3,9 +3,9 @@ use Rattle.std.specs.Prelude.{All}
 use Rattle.std.proofs.Math.Nat.{mul_comm}
 use Rattle.nd_shape.specs.Shape.{elements, IsShape}
 use Rattle.nd_grid.specs.Grid.{kept_shape}
-use Rattle.block_kernels.proofs.Contracting.{elements-append}
 use Rattle.block_kernels.proofs.Paired.{first-shape, last-shape, paired-shape, paired-parts}
 use Rattle.block_kernels.proofs.contract.contract_some.Goals as goal
+use Rattle.block_kernels.proofs.Broadcasts.{elements-append}
 
 pub listed_dims-requires : goal.listed_dims-requires
 listed_dims-requires c = subst (λ (ns : List ℕ). All (λ a. a < length ns) c.args.left_axes.now) (sym (c.dims-2.ensures.dims ∙ c.shape-2.ensures.value)) c.requires.left.inside

@@ -2,10 +2,11 @@ use Rattle.std.proofs.Common.{arith, ◌≡◌, ◌∙◌, ◌+◌, ◌*◌, ◌
 use Rattle.std.specs.Prelude.{Option}
 use Rattle.std.proofs.lemmas.Int.{to_z-of_z}
 use Rattle.std.proofs.lemmas.List.{length_push}
+use Rattle.small_facts.proofs.Numbers.{below_product_right}
 use mir.Val.{SFits}
 use Rattle.nd_shape.specs.Shape.{elements}
 use Rattle.block_kernels.specs.Contracting.{woven_at}
-use Rattle.block_kernels.proofs.Contracting.{elements-more, some-divisor, quotient-below, rest-below-divisor}
+use Rattle.block_kernels.proofs.Contracting.{elements-more, quotient-below, rest-below-divisor}
 use Rattle.block_kernels.proofs.contract.paired_rows.Goals as goal
 
 pub overflow_mul-count : goal.overflow_mul-count
@@ -17,10 +18,10 @@ pub loop-x-init : goal.loop-x-init
 loop-x-init c = record { size = ap length c.in_ok-cells.ensures.items; at = λ y h. absurd (omega arith) }
 
 pub nonzero_div-x : goal.nonzero_div-x
-nonzero_div-x c = some-divisor c.elements.result c.elements-width.result c.loop-x.x c.loop-x-test.true
+nonzero_div-x c = below_product_right c.elements.result c.elements-width.result c.loop-x.x c.loop-x-test.true
 
 pub nonzero_rem-x : goal.nonzero_rem-x
-nonzero_rem-x c = some-divisor c.elements.result c.elements-width.result c.loop-x.x c.loop-x-test.true
+nonzero_rem-x c = below_product_right c.elements.result c.elements-width.result c.loop-x.x c.loop-x-test.true
 
 pub woven_cell-requires-clause-row : goal.woven_cell-requires-clause-row
 woven_cell-requires-clause-row c = subst (λ n. c.loop-x.x % c.elements-width.result < n) c.elements-width.ensures (rest-below-divisor c.elements.result c.elements-width.result c.loop-x.x c.loop-x-test.true)

@@ -2,9 +2,10 @@ use Rattle.std.proofs.Common.{◌≡◌, ◌<◌, length, get_or, ap, sym, subst
 use Rattle.std.specs.List.{AllByRecursion}
 use Rattle.std.proofs.lemmas.List.{get_or_read}
 use Rattle.std.proofs.lemmas.List.Elements.{All-get_or}
+use Rattle.small_facts.proofs.Every.{all_push}
 use Rattle.lowering_laws.specs.Stages.{no_source}
 use Rattle.lowering_laws.specs.Lowered.{source_at, keys_of}
-use Rattle.block_lowering.proofs.Finishing.{all-push, map-push}
+use Rattle.block_lowering.proofs.Finishing.{map-push}
 use Rattle.block_lowering.proofs.finish.wanted_keys.Goals as goal
 
 pub loop-node-preserved : goal.loop-node-preserved
@@ -21,6 +22,6 @@ loop-node-preserved c =
     record {
       value = map-push (λ n. keys_of (source_at sources n)) saves at 0 c.loop-node.wanted.items c.push.new.self.items c.from_vec.result lt c.loop-node.invariant.value c.in_ok-push.ensures.items keys;
       there = subst (AllByRecursion (AllByRecursion (λ k. k < c.args.bound))) (sym c.in_ok-push.ensures.items)
-          (all-push (AllByRecursion (λ k. k < c.args.bound)) c.loop-node.wanted.items c.from_vec.result c.loop-node.invariant.there
+          (all_push (AllByRecursion (λ k. k < c.args.bound)) c.loop-node.wanted.items c.from_vec.result c.loop-node.invariant.there
           (subst (AllByRecursion (λ k. k < c.args.bound)) (sym c.from_vec.ensures) c.in_ok-keys.ensures.there));
     }

@@ -1,15 +1,12 @@
 use Rattle.std.proofs.Common.{◌≡◌, ◌∙◌, Bool, true, false, ◌&&◌, refl, sym}
+use Rattle.std.proofs.Math.Bool.{and-false}
 use Rattle.fact_rows.specs.Rows.{cell}
 use Rattle.worker_core.specs.Core.{facts}
 use Rattle.cluster_nodes.proofs.Places.{touch_all}
 use Rattle.cluster_nodes.proofs.cores.unspill.Goals as goal
 
 kept : (x m : Bool) → (m ≡ false → x ≡ false) → (x && m) ≡ x
-kept x false f = off x ∙ sym (f refl)
-  where
-    off : (x : Bool) → (x && false) ≡ false
-    off true = refl
-    off false = refl
+kept x false f = and-false x ∙ sym (f refl)
 kept true true f = refl
 kept false true f = refl
 

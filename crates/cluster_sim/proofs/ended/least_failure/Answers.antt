@@ -1,9 +1,10 @@
 use Rattle.std.proofs.Common.{◌≡◌, ◌∙◌, sym, ap, arith, below_more, is_some}
+use Rattle.small_facts.proofs.Options.{none_from_is_some}
 use Rattle.cluster_msgs.specs.Shape.{key_count}
 use Rattle.cluster_rules.specs.Sched.{Setting}
 use Rattle.cluster_world.specs.Worlds.{world}
 use Rattle.quiet_bound.proofs.WorldBound.{setting-world}
-use Rattle.cluster_sim.proofs.EndLemmas.{least_none, least_some, none_of}
+use Rattle.cluster_sim.proofs.EndLemmas.{least_none, least_some}
 use Rattle.cluster_sim.proofs.ended.least_failure.Goals as goal
 
 pub failure_of-failure-requires : goal.failure_of-failure-requires
@@ -17,7 +18,7 @@ returns-then-is_some g c =
     ∙ least_some d c.keys-count.result c.loop-key.key n c.loop-key-test.true c.loop-key.invariant (sym (ap is_some c.failure_of-failure.ensures) ∙ sym c.is_some.ensures ∙ c.if-is_some.true)
 
 pub loop-key-preserved : goal.loop-key-preserved
-loop-key-preserved g c = below_more _ _ c.loop-key.invariant (sym c.failure_of-failure.ensures ∙ none_of c.failure_of-failure.result (sym c.is_some.ensures ∙ c.if-is_some.false))
+loop-key-preserved g c = below_more _ _ c.loop-key.invariant (sym c.failure_of-failure.ensures ∙ none_from_is_some c.failure_of-failure.result (sym c.is_some.ensures ∙ c.if-is_some.false))
 
 pub returns : goal.returns
 returns g c =

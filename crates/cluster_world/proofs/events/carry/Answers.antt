@@ -1,6 +1,6 @@
 use Rattle.std.proofs.Common.{None, sym, ap, subst}
+use Rattle.std.proofs.lemmas.Option.{none-some}
 use Rattle.cluster_world.proofs.Acting as acting
-use Rattle.cluster_laws.proofs.Deliveries.{none_some}
 use Rattle.cluster_world.specs.Outcomes.{IsUnended}
 use Rattle.cluster_world.proofs.Finishing as finishing
 use Rattle.cluster_world.proofs.events.carry.Goals as goal
@@ -15,4 +15,4 @@ returns-in_err-act g c =
 
 pub returns : goal.returns
 returns g c =
-    let k = c.act.ensures.kept in record { performed = record { outcome = None; turned = c.in_ok-act.ensures.moved; fits = λ i k b e x. absurd (none_some b x); told = λ t i k e. absurd (subst IsUnended e c.requires.unended) }; same = k.same; fits = subst (λ f. g.J.JobSpec.feed_fits c.args.state.now.job f) (sym k.feed) c.requires.feed; tells = (λ t. subst (λ f. g.J.JobSpec.feed_tells c.args.state.now.job f) k.feed t, λ t. subst (λ f. g.J.JobSpec.feed_tells c.args.state.now.job f) (sym k.feed) t); faults = ap g.J.JobSpec.fault_count k.feed; left = tt }
+    let k = c.act.ensures.kept in record { performed = record { outcome = None; turned = c.in_ok-act.ensures.moved; fits = λ i k b e x. absurd (none-some b x); told = λ t i k e. absurd (subst IsUnended e c.requires.unended) }; same = k.same; fits = subst (λ f. g.J.JobSpec.feed_fits c.args.state.now.job f) (sym k.feed) c.requires.feed; tells = (λ t. subst (λ f. g.J.JobSpec.feed_tells c.args.state.now.job f) k.feed t, λ t. subst (λ f. g.J.JobSpec.feed_tells c.args.state.now.job f) (sym k.feed) t); faults = ap g.J.JobSpec.fault_count k.feed; left = tt }

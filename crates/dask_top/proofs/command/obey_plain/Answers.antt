@@ -1,7 +1,8 @@
 use Rattle.std.proofs.Common.{map, string_bytes, get_or, codes, [], subst, inl, inr}
+use Rattle.small_facts.proofs.Lists.{same_bytes}
 use Rattle.command_words.specs.Words.{IsNoPlain}
 use Rattle.command_words.specs.declared.fail.WordsFail.{WordsFail}
-use Rattle.dask_top.proofs.Obeying.{is_name, only_plain, evaluated, refused_words, unread_words}
+use Rattle.dask_top.proofs.Obeying.{only_plain, evaluated, refused_words, unread_words}
 use Rattle.dask_top.proofs.command.obey_plain.Goals as goal
 
 pub returns-in-Ok : goal.returns-in-Ok
@@ -12,12 +13,12 @@ returns-in-Err-Refused g c =
     let words = map string_bytes c.args.words.now in
     let why : WordsFail → Type 0 = λ e. IsNoPlain words e in
     refused_words words (g.S.Site.view c.args.site.now) (g.S.Site.view c.tell_text.new.site) c.tell_text.result
-    (only_plain words (is_name (get_or words 0 []) (codes "plain") c.requires) (subst why c.in-Err-Refused.field-0-is c.in-Err-Refused.ensures.refused))
+    (only_plain words (same_bytes (get_or words 0 []) (codes "plain") c.requires) (subst why c.in-Err-Refused.field-0-is c.in-Err-Refused.ensures.refused))
     c.tell_text.ensures.told c.tell_text.ensures.only c.tell_text.ensures.notes
 
 pub returns-in-Err-OutOfMemory : goal.returns-in-Err-OutOfMemory
 returns-in-Err-OutOfMemory g c =
     let words = map string_bytes c.args.words.now in
     unread_words words (g.S.Site.view c.args.site.now) (g.S.Site.view c.tell_text-in-Err-OutOfMemory.new.site) c.tell_text-in-Err-OutOfMemory.result
-    (inr (inl (is_name (get_or words 0 []) (codes "plain") c.requires))) c.tell_text-in-Err-OutOfMemory.ensures.told
+    (inr (inl (same_bytes (get_or words 0 []) (codes "plain") c.requires))) c.tell_text-in-Err-OutOfMemory.ensures.told
     c.tell_text-in-Err-OutOfMemory.ensures.only c.tell_text-in-Err-OutOfMemory.ensures.notes

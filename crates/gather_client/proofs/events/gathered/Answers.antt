@@ -2,6 +2,7 @@ use Rattle.std.proofs.Common.{◌≡◌, ◌<◌, ◌∙◌, ◌++◌, ℕ, Some
 use Rattle.std.specs.Prelude.{All, IfSome, filter}
 use Rattle.std.specs.List.{filter_map}
 use Rattle.std.specs.Option.{option_map}
+use Rattle.std.proofs.lemmas.Result.{on_ok_weaker}
 use Rattle.cluster_msgs.specs.Shape.{key_count}
 use Rattle.cluster_rules.specs.Worker.{ask_to, without_ask}
 use Rattle.cluster_rules.specs.WorkerStep.{keys_of}
@@ -9,7 +10,7 @@ use Rattle.cluster_rules.specs.Client.{ClientFacts, ClientStep}
 use Rattle.open_asks.specs.Kept.{asked_items}
 use Rattle.gather_client.specs.Stored.{facts_of}
 use Rattle.gather_client.specs.Steps.{is_found, after_found, after_missed, miss_message}
-use Rattle.gather_client.proofs.FoldLemmas.{gathered-none, gathered-facts, gathered-out, gets-shape, on_map}
+use Rattle.gather_client.proofs.FoldLemmas.{gathered-none, gathered-facts, gathered-out, gets-shape}
 use Rattle.gather_client.proofs.events.gathered.Goals as goal
 
 pub returns-in-None-clause-facts : goal.returns-in-None-clause-facts
@@ -43,7 +44,7 @@ returns-in-Some-clause-facts c =
     let taken : facts_of c.take_found.new.table ≡ after_found d c.args.found.now is
     = c.take_found.ensures ∙ ap (λ (g : ClientFacts). after_found g c.args.found.now c.as_slice.result.now) c.close_ask.ensures ∙ ap (after_found d c.args.found.now) c.as_slice.ensures.value in
     let some : Some is ≡ asked_items (ask_to f.asks c.args.peer) c.args.number = ap (option_map (λ v. v.items)) (sym c.in-Some.is) ∙ c.in_ok-open_items.ensures.items in
-    on_map c.miss_others.result
+    on_ok_weaker c.miss_others.result
     (λ e. e ∙ ap (λ (g : ClientFacts). after_missed g c.args.found.now c.as_slice-in-Some.result.now) taken ∙ ap (after_missed (after_found d c.args.found.now is) c.args.found.now) c.as_slice-in-Some.ensures.value ∙ gathered-facts f c.args.peer c.args.number c.args.found.now is some)
     c.miss_others.ensures.facts
 
@@ -55,7 +56,7 @@ returns-in-Some-clause-instructions c =
     let taken : facts_of c.take_found.new.table ≡ after_found d c.args.found.now is
     = c.take_found.ensures ∙ ap (λ (g : ClientFacts). after_found g c.args.found.now c.as_slice.result.now) c.close_ask.ensures ∙ ap (after_found d c.args.found.now) c.as_slice.ensures.value in
     let some : Some is ≡ asked_items (ask_to f.asks c.args.peer) c.args.number = ap (option_map (λ v. v.items)) (sym c.in-Some.is) ∙ c.in_ok-open_items.ensures.items in
-    on_map c.miss_others.result
+    on_ok_weaker c.miss_others.result
     (λ e. e
     ∙ ap (λ (g : ClientFacts). c.args.out.now ++ filter_map (miss_message c.args.found.now g c.args.peer) c.as_slice-in-Some.result.now) taken
     ∙ ap (λ xs. c.args.out.now ++ filter_map (miss_message c.args.found.now (after_found d c.args.found.now is) c.args.peer) xs) c.as_slice-in-Some.ensures.value

@@ -1,13 +1,14 @@
 use Rattle.std.proofs.Common.{◌∙◌, ap}
 use Rattle.std.specs.Prelude.{fold}
+use Rattle.small_facts.proofs.Results.{on_ok_from}
 use Rattle.cluster_rules.specs.Client.{client_releases}
 use Rattle.gather_client.specs.Stored.{facts_of}
 use Rattle.gather_client.specs.Steps.{released}
-use Rattle.gather_client.proofs.FoldLemmas.{releases-all, on_ok}
+use Rattle.gather_client.proofs.FoldLemmas.{releases-all}
 use Rattle.gather_client.proofs.events.release.Goals as goal
 
 pub returns-clause-facts : goal.returns-clause-facts
-returns-clause-facts c = on_ok c.push.result (c.release_each.ensures ∙ ap (fold released (facts_of c.args.table.now)) c.as_slice.ensures ∙ releases-all (facts_of c.args.table.now) c.args.keys)
+returns-clause-facts c = on_ok_from c.push.result (c.release_each.ensures ∙ ap (fold released (facts_of c.args.table.now)) c.as_slice.ensures ∙ releases-all (facts_of c.args.table.now) c.args.keys)
 
 pub returns-clause-instructions : goal.returns-clause-instructions
 unfolding client_releases

@@ -1,7 +1,8 @@
 use Rattle.std.proofs.Common.{true, map, string_bytes, take, ◌≡◌, arith}
 use Rattle.std.proofs.lemmas.List.{map_push, take_all, length-map}
+use Rattle.small_facts.proofs.Results.{on_err_from}
 use Rattle.io_edge.specs.Book.{book_files}
-use Rattle.io_edge.proofs.OpeningLaws.{on_err, one_more_name, knows_item, knows_kept, opens_then, opens_no_names, opens_up_to, shows_then, shows_none, shown_as}
+use Rattle.io_edge.proofs.OpeningLaws.{one_more_name, knows_item, knows_kept, opens_then, opens_no_names, opens_up_to, shows_then, shows_none, shown_as}
 use Rattle.io_edge.proofs.opening.open_each.Goals as goal
 
 pub loop-at-init : goal.loop-at-init
@@ -13,7 +14,7 @@ open_one-requires c = knows_item c.args.names.now c.loop-at.at c.index-names-at.
 pub returns-in_err-open_one-clause-err : goal.returns-in_err-open_one-clause-err
 returns-in_err-open_one-clause-err c =
     let e = one_more_name c.args.names.now c.loop-at.at c.index-names-at.result c.as_str.result.now c.loop-at-test.true c.index-names-at.is c.as_str.ensures.value in
-    on_err c.from_residual.result (opens_up_to (map string_bytes c.args.names.now) c.loop-at.at (book_files true c.args.book.now) (book_files true c.open_one.new.book)
+    on_err_from c.from_residual.result (opens_up_to (map string_bytes c.args.names.now) c.loop-at.at (book_files true c.args.book.now) (book_files true c.open_one.new.book)
     (omega (arith, c.loop-at-test.true, length-map c.args.names.now string_bytes))
     (rw e (opens_then _ _ (book_files true c.args.book.now) (book_files true c.loop-at.book) (book_files true c.open_one.new.book) c.loop-at.invariant.opens c.open_one.ensures.opens)))
 

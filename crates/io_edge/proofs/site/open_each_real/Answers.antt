@@ -1,7 +1,8 @@
 use Rattle.std.proofs.Common.{map, string_bytes, length, ◌+◌, ◌∙◌, ap, refl, arith}
 use Rattle.std.proofs.lemmas.List.{map_push, length_push, length-map}
+use Rattle.small_facts.proofs.Results.{on_err_from}
 use Rattle.io_edge.specs.Real.{real_files}
-use Rattle.io_edge.proofs.OpeningLaws.{on_err, one_more_name, knows_item, knows_kept, opens_then, opens_no_names, opens_up_to, shows_then, shows_none}
+use Rattle.io_edge.proofs.OpeningLaws.{one_more_name, knows_item, knows_kept, opens_then, opens_no_names, opens_up_to, shows_then, shows_none}
 use Rattle.io_edge.proofs.site.open_each_real.Goals as goal
 
 pub loop-name-init : goal.loop-name-init
@@ -22,7 +23,7 @@ open_real-requires g c = knows_item c.args.names.now c.loop-name.name-index c.na
 pub returns-in_err-file-clause-err : goal.returns-in_err-file-clause-err
 returns-in_err-file-clause-err g c =
     let e = one_more_name c.args.names.now c.loop-name.name-index c.name-item.result c.as_str.result.now c.loop-name-test.true c.name-item.is c.as_str.ensures.value in
-    on_err c.from_residual.result (opens_up_to (map string_bytes c.args.names.now) c.loop-name.name-index (real_files c.args.book.now) (real_files c.open_real.new.book)
+    on_err_from c.from_residual.result (opens_up_to (map string_bytes c.args.names.now) c.loop-name.name-index (real_files c.args.book.now) (real_files c.open_real.new.book)
     (omega (arith, c.loop-name-test.true, length-map c.args.names.now string_bytes))
     (rw e (opens_then _ _ (real_files c.args.book.now) (real_files c.loop-name.book) (real_files c.open_real.new.book) c.loop-name.invariant.opens c.open_real.ensures.opens)))
 

@@ -1,5 +1,5 @@
 use Rattle.std.proofs.Common.{◌<◌, ◌+◌, length, arith}
-use Rattle.io_edge.proofs.OpeningLaws.{on_err}
+use Rattle.small_facts.proofs.Results.{on_err_from}
 use Rattle.lowering_laws.specs.Lowered.{lowered}
 use Rattle.job_run.specs.Evaluating.{boxes_made}
 use Rattle.job_run.specs.Grouping.{waiting_of}
@@ -11,7 +11,7 @@ use Rattle.job_run.proofs.blocks.make_block.Goals as goal
 pub returns-in_err-made-clause-right : goal.returns-in_err-made-clause-right
 returns-in_err-made-clause-right g c =
     let p = plan_of c.args.job.now in
-    on_err c.from_residual.result (λ told held. held-right p g.E.Elements.named (boxes_made p c.args.evaluation.now.next) (waiting_of c.args.group.now) c.args.files.now held)
+    on_err_from c.from_residual.result (λ told held. held-right p g.E.Elements.named (boxes_made p c.args.evaluation.now.next) (waiting_of c.args.group.now) c.args.files.now held)
 
 pub returns-in-Ok-clause-holds : goal.returns-in-Ok-clause-holds
 returns-in-Ok-clause-holds g c told held =

@@ -1,7 +1,7 @@
 use Rattle.std.proofs.Common.{◌≡◌, ◌≤◌, ◌+◌, length, ap, refl, subst, ◌∙◌, rules, arith}
 use Rattle.std.proofs.lemmas.Result.{err_from_is_err_and}
 use Rattle.std.specs.Prelude.{List, Option, ℕ}
-use Rattle.io_edge.proofs.OpeningLaws.{on_err}
+use Rattle.small_facts.proofs.Results.{on_err_from}
 use Rattle.block_lowering.specs.Jobs.{TellsFeed}
 use Rattle.lowering_laws.specs.Lowered.{lowered}
 use Rattle.job_run.specs.Evaluating.{boxes_made}
@@ -19,7 +19,7 @@ use Rattle.job_run.proofs.blocks.make_blocks.Goals as goal
 pub returns-in_err-make_block-clause-right : goal.returns-in_err-make_block-clause-right
 returns-in_err-make_block-clause-right g c =
     let right = rw c.loop-name.invariant.next at (rw c.loop-name.invariant.job at c.in_err-make_block.ensures.right) in
-    on_err c.from_residual.result (λ t. right (c.loop-name.invariant.tells.1 t) (c.loop-name.invariant.holds t))
+    on_err_from c.from_residual.result (λ t. right (c.loop-name.invariant.tells.1 t) (c.loop-name.invariant.holds t))
 
 pub returns-in_err-make_block-clause-cause : goal.returns-in_err-make_block-clause-cause
 returns-in_err-make_block-clause-cause g c =

@@ -1,7 +1,7 @@
 use Rattle.std.proofs.Common.{◌≤◌, ◌<◌, ◌+◌, List, length, ap, sym, subst, ◌∙◌, arith}
 use Rattle.std.proofs.lemmas.List.{length-map}
 use Rattle.std.specs.Arc.{arc_value}
-use Rattle.io_edge.proofs.OpeningLaws.{on_err}
+use Rattle.small_facts.proofs.Results.{on_err_from}
 use Rattle.array_expr.specs.Node.{shape_at}
 use Rattle.chunk_layout.specs.Layouts.{region, blocks}
 use Rattle.saved_files.specs.Saving.{Saving}
@@ -38,7 +38,7 @@ returns-in_err-save_at-clause-right g c =
     let p = plan_of c.args.job.now in
     let at = save-place c.args.job.now c.deref-save-items.result.now c.args.layouts.now c.loop-place.place c.args.node c.save-item.result c.index-layouts-place.result c.requires.runs c.nodes-nodes.ensures.sound c.requires.layouts c.deref-save-items.ensures.value
     c.loop-place-test.true c.save-item.is (sym c.number.ensures ∙ c.if-number-node.true) c.index-layouts-place.is in
-    on_err c.from_residual.result (λ named boxes holds held. below-right p named (c.args.node, c.args.number) c.loop-place.place boxes (waiting_of c.loop-place.group) c.loop-place.files c.save_at.new.files
+    on_err_from c.from_residual.result (λ named boxes holds held. below-right p named (c.args.node, c.args.number) c.loop-place.place boxes (waiting_of c.loop-place.group) c.loop-place.files c.save_at.new.files
     (λ before h. c.in_err-save_at.ensures.right named before (holds-at p named c.loop-place.place c.args.node c.args.number c.index-layouts-place.result (arc_value c.args.block.now) at holds) h) (c.loop-place.invariant.held named boxes holds held))
 
 pub loop-place-preserved : goal.loop-place-preserved

@@ -1,6 +1,6 @@
 use Rattle.std.proofs.Common.{◌≡◌, ℕ, List, ◌<◌, ◌∙◌, refl, ap, sym, subst, length, get_or, arith}
 use Rattle.std.proofs.lemmas.List.{length-map}
-use Rattle.io_edge.proofs.OpeningLaws.{on_err}
+use Rattle.small_facts.proofs.Results.{on_err_from}
 use Rattle.array_expr.specs.Node.{shape_at}
 use Rattle.saved_files.specs.Saving.{Saving}
 use Rattle.job_plan.specs.declared.job.Save.{Save}
@@ -39,7 +39,7 @@ returns-in_err-create-clause-some g c =
     let i = c.loop-save.save-index in
     let h = subst L e c.loop-save-test.true in
     let is = subst I e c.save-item.is in
-    on_err c.from_residual.result (fails_next (plan_of c.args.job.now) i c.as_str.result.now c.shape_of-shape.result.now
+    on_err_from c.from_residual.result (fails_next (plan_of c.args.job.now) i c.as_str.result.now c.shape_of-shape.result.now
     (g.S.Site.view c.args.site.now).files (g.S.Site.view c.loop-save.site).files (g.S.Site.view c.create.new.site).files c.loop-save.files c.create.new.self (omega (arith, h, length-map saves saved_of))
     (c.as_str.ensures.value ∙ sym (saved_name saves i c.save-item.result h is)) (c.shape_of-shape.ensures ∙ ap (shape_at c.args.job.now.expr) (sym (saved_node saves i c.save-item.result h is)))
     c.loop-save.invariant.first c.in_err-create.ensures.kept c.create.ensures.creates c.in_err-create.ensures.left)

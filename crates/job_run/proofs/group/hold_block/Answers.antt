@@ -1,17 +1,17 @@
 use Rattle.std.proofs.lemmas.Result.{on_err_weaker, on_ok_weaker}
-use Rattle.io_edge.proofs.OpeningLaws.{on_err}
 use Rattle.std.specs.Arc.{arc_value}
+use Rattle.small_facts.proofs.Results.{on_err_from}
 use Rattle.job_run.specs.Grouping.{waiting_of}
 use Rattle.job_run.specs.Jobs.{plan_of}
 use Rattle.job_run.proofs.WaitingBlocks.{adds-put, held-right, pushed, pushed-group, put_box}
 use Rattle.job_run.proofs.group.hold_block.Goals as goal
 
 pub returns-in_err-make_way-clause-right : goal.returns-in_err-make_way-clause-right
-returns-in_err-make_way-clause-right g c = on_err c.from_residual-in_err-make_way.result (λ named boxes holds held. c.in_err-make_way.ensures.right named boxes held)
+returns-in_err-make_way-clause-right g c = on_err_from c.from_residual-in_err-make_way.result (λ named boxes holds held. c.in_err-make_way.ensures.right named boxes held)
 
 pub returns-in_err-push-clause-right : goal.returns-in_err-push-clause-right
 returns-in_err-push-clause-right g c =
-    on_err c.from_residual-in_err-push.result (λ named boxes holds held. held-right (plan_of c.args.job.now) named boxes (waiting_of c.make_way.new.group) c.make_way.new.files (c.in_ok-make_way.ensures.held named boxes held))
+    on_err_from c.from_residual-in_err-push.result (λ named boxes holds held. held-right (plan_of c.args.job.now) named boxes (waiting_of c.make_way.new.group) c.make_way.new.files (c.in_ok-make_way.ensures.held named boxes held))
 
 pub write_full_group-requires-clause-group : goal.write_full_group-requires-clause-group
 write_full_group-requires-clause-group g c =

@@ -1,5 +1,6 @@
 use Rattle.std.proofs.Common.{refl, ap, length, ◌∙◌, arith}
-use Rattle.npy_region.proofs.WriteLemmas.{always_err, first_all, first_more, first_none, first_stopped, next_run, run_fits}
+use Rattle.small_facts.proofs.Results.{on_err_from}
+use Rattle.npy_region.proofs.WriteLemmas.{first_all, first_more, first_none, first_stopped, next_run, run_fits}
 use Rattle.npy_region.proofs.write.write_runs.Goals as goal
 
 pub loop-run-init : goal.loop-run-init
@@ -31,7 +32,7 @@ pub returns-in_err-write_cells-clause-part : goal.returns-in_err-write_cells-cla
 returns-in_err-write_cells-clause-part g c =
     let next = next_run c.args.head.now c.args.region.now c.args.block.now c.args.runs.now c.loop-run.run-index c.cells-cells.result.now c.cells_of-part.result.now (g.F.OutFile.content c.args.file.now) (g.F.OutFile.content c.loop-run.file)
     c.requires.runs c.requires.part c.cells-cells.ensures.cells c.requires.shape c.requires.room c.loop-run-test.true c.cells-cells.ensures.value c.cells_of-part.ensures c.loop-run.invariant.size c.loop-run.invariant.written in
-    always_err c.from_residual.result
+    on_err_from c.from_residual.result
     (first_stopped c.args.head.now c.args.region.now c.args.block.now c.args.runs.now c.loop-run.run-index c.cells_of-part.result.now (g.F.OutFile.content c.args.file.now) (g.F.OutFile.content c.loop-run.file) (g.F.OutFile.content c.write_cells.new.file) next c.in_err-write_cells.ensures.part)
 
 pub loop-run-preserved : goal.loop-run-preserved

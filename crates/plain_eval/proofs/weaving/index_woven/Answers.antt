@@ -1,8 +1,9 @@
 use Rattle.std.proofs.Common.{arith, ◌<◌, ◌∙◌, length, length-set, take, sym}
 use Rattle.nd_grid.specs.Grid.{woven}
 use Rattle.nd_grid.proofs.Slicing.{next-le}
-use Rattle.plain_eval.proofs.Woven.{weave_step, weaving_written, weaving_end, among-place}
+use Rattle.plain_eval.proofs.Woven.{weave_step, weaving_written, weaving_end}
 use Rattle.plain_eval.proofs.weaving.index_woven.Goals as goal
+use Rattle.nd_grid.proofs.Woven.{among-place}
 
 pub one_of-requires-clause-rest : goal.one_of-requires-clause-rest
 one_of-requires-clause-rest c = λ e. omega (arith, c.requires.rest, c.place_in_list-place.ensures, among-place c.args.axes.now c.loop-axis.axis (sym c.is_in_list-paired.ensures ∙ e))

@@ -1,11 +1,11 @@
 use Rattle.std.proofs.Common.{◌∙◌}
-use Rattle.io_edge.proofs.OpeningLaws.{on_err}
+use Rattle.small_facts.proofs.Results.{on_err_from}
 use Rattle.saved_files.proofs.Created.{leaves_all, leaves_part}
 use Rattle.saved_files.proofs.open.create_with.Goals as goal
 
 pub returns-in_err-file-clause-left : goal.returns-in_err-file-clause-left
 returns-in_err-file-clause-left g c =
-    on_err c.from_residual.result (leaves_all c.args.name.now c.args.shape.now (g.S.Site.view c.args.site.now).files (g.S.Site.view c.create.new.self).files c.in_err-file.ensures.failed)
+    on_err_from c.from_residual.result (leaves_all c.args.name.now c.args.shape.now (g.S.Site.view c.args.site.now).files (g.S.Site.view c.create.new.self).files c.in_err-file.ensures.failed)
 
 pub returns-in-Err-clause-left : goal.returns-in-Err-clause-left
 returns-in-Err-clause-left g c =

@@ -1,6 +1,6 @@
 use Rattle.std.proofs.Common.{length, ap, ◌∙◌, arith}
 use Rattle.std.specs.List.{flat_map}
-use Rattle.npy_region.proofs.WriteLemmas.{always_err}
+use Rattle.small_facts.proofs.Results.{on_err_from}
 use Rattle.saved_files.proofs.RowLemmas.{AreRows, file_all, file_more, file_some, file_stopped, has_row, ready, runs_is}
 use Rattle.saved_files.proofs.rows.write_rows.Goals as goal
 
@@ -12,7 +12,7 @@ gather_row-requires-clause-rows g c k k_in =
 
 pub returns-in_err-gather_row-clause-part : goal.returns-in_err-gather_row-clause-part
 returns-in_err-gather_row-clause-part g c =
-    always_err c.from_residual.result
+    on_err_from c.from_residual.result
     (file_some c.args.head.now c.args.regions.now c.args.blocks.now c.args.all.now c.loop-row.row (g.F.OutFile.content c.args.file.now) (g.F.OutFile.content c.loop-row.file) c.loop-row.invariant.written)
 
 pub write_full-requires-clause-room : goal.write_full-requires-clause-room
@@ -39,7 +39,7 @@ returns-in_err-write_full-clause-part g c =
     let bytes = c.as_flattened.ensures.value ∙ (ap (flat_map (λ x. x)) c.as_slice.ensures.value ∙ c.in_ok-gather_row.ensures.bytes) in
     let r = ready c.args.head.now c.args.regions.now c.args.blocks.now c.args.all.now c.loop-row.row c.as_slice-run-items.result.now c.as_flattened.result.now (g.F.OutFile.content c.args.file.now) (g.F.OutFile.content c.loop-row.file)
     rows c.in_ok-gather_row.ensures.full first c.loop-row-test.true bytes c.requires.room c.loop-row.invariant.size in
-    always_err c.from_residual-in_err-write_full.result
+    on_err_from c.from_residual-in_err-write_full.result
     (file_stopped c.args.head.now c.args.regions.now c.args.blocks.now c.args.all.now c.loop-row.row _ c.as_flattened.result.now (g.F.OutFile.content c.args.file.now) (g.F.OutFile.content c.loop-row.file) (g.F.OutFile.content c.write_full.new.file)
     r.front r.room c.loop-row.invariant.written c.in_err-write_full.ensures.part)
 

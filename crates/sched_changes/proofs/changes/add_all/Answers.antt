@@ -1,5 +1,6 @@
-use Rattle.std.proofs.Common.{◌<◌, ◌≤◌, ◌+◌, ◌∙◌, ℕ, Option, is_some, subst, sym, ap, arith, get_or, take, length}
+use Rattle.std.proofs.Common.{◌<◌, ◌+◌, ◌∙◌, ℕ, Option, is_some, subst, sym, ap, arith, get_or, take, length}
 use Rattle.std.proofs.lemmas.List.{take_more}
+use Rattle.std.proofs.Math.Nat.{le_refl}
 use Rattle.cluster_rules.specs.Sched.{Facts, Setting, keys}
 use Rattle.cluster_rules.specs.SchedTable.{Changed, add_key, add_keys}
 use Rattle.task_table.specs.Tasks.{facts}
@@ -11,9 +12,6 @@ use Rattle.sched_changes.proofs.changes.add_all.Goals as goal
 pub loop-key-init : goal.loop-key-init
 loop-key-init c = let f = facts c.args.table.now in record { change = add_none c.args.worker c.args.seen (so_far f c.args.freed.now) c.args.added.now; follows = follows_self c.args.table.now; kept = added_self f c.args.worker (keys f) }
 
-no_more : (n : ℕ) → n ≤ n
-no_more n = omega arith
-
 same_keys : (f g : Facts) (w n x : ℕ) → IsAdded f g w n → x < keys f → x < keys g
 same_keys f g w n x p l = subst (λ (z : Setting). x < length z.shape.deps) (sym p.setting) l
 
@@ -24,7 +22,7 @@ add-requires c =
     record {
       worker = ap (λ (t : ℕ → Option ℕ). is_some (t c.args.worker)) c.loop-key.invariant.kept.threads ∙ c.requires.worker;
       key = same_keys f g c.args.worker (keys f) (get_or c.args.added.now c.loop-key.key-index 0) c.loop-key.invariant.kept (c.requires.keys c.loop-key.key-index 0 (omega arith));
-      room = omega (arith, added_room f g c.args.worker (keys f) (f.counter + keys f) c.loop-key.invariant.kept (no_more (f.counter + keys f)), c.requires.room);
+      room = omega (arith, added_room f g c.args.worker (keys f) (f.counter + keys f) c.loop-key.invariant.kept (le_refl (f.counter + keys f)), c.requires.room);
     }
 
 pub loop-key-preserved : goal.loop-key-preserved

@@ -1,12 +1,13 @@
 use Rattle.std.proofs.Common.{◌≡◌, ◌<◌, ◌≤◌, ◌+◌, ◌&&◌, ◌||◌, ℕ, true, not, ap, ◌∙◌, arith, is_some}
 use Rattle.std.proofs.Math.Dec.{eqb}
+use Rattle.std.proofs.Math.Nat.{le-add_right}
 use Rattle.cluster_rules.specs.Sched.{Facts, keys, need, holds}
 use Rattle.task_table.specs.Tasks.{facts}
 use Rattle.sched_changes.specs.Pairs.{has_pair}
 use Rattle.sched_changes.proofs.Following.{follows_self, follows_then}
 use Rattle.scheduler_core.specs.Dropped.{held_nowhere}
 use Rattle.scheduler_core.proofs.DropLemmas.{has_none, has_more, has_all, lost_copies_more, lost_none, lost_all}
-use Rattle.scheduler_core.proofs.WalkLemmas.{passed, passed_all, has_over, lost_over, need_has, in_setting, past_all, copy_there}
+use Rattle.scheduler_core.proofs.WalkLemmas.{passed, passed_all, has_over, lost_over, need_has, in_setting, copy_there}
 use Rattle.scheduler_core.proofs.settling.drop_copies.Goals as goal
 
 pub loop-key-init : goal.loop-key-init
@@ -39,7 +40,7 @@ returns-clause-facts c =
     let t = c.loop-key.table in
     let f = facts s in
     let n = c.loop-key.from in
-    c.loop-key.invariant.facts ∙ has_over (need f) f n (n + keys f) (past_all n (keys f)) (λ w k a b e. copy_there f w k c.sound.ensures e (λ l. c.requires.copies w k l (passed_all s t n k c.loop-key.invariant.follows c.in_default.ensures.first a) e)) ∙ has_all f (n + keys f) c.sound.ensures (omega arith)
+    c.loop-key.invariant.facts ∙ has_over (need f) f n (n + keys f) (le-add_right n (keys f)) (λ w k a b e. copy_there f w k c.sound.ensures e (λ l. c.requires.copies w k l (passed_all s t n k c.loop-key.invariant.follows c.in_default.ensures.first a) e)) ∙ has_all f (n + keys f) c.sound.ensures (omega arith)
 
 pub returns-clause-lost : goal.returns-clause-lost
 returns-clause-lost c w k =
@@ -48,5 +49,5 @@ returns-clause-lost c w k =
     let f = facts s in
     let n = c.loop-key.from in
     c.loop-key.invariant.lost w k
-    ∙ ap (λ b. has_pair c.args.lost.now w k || b) (lost_over (holds f w k) (need f k) k n (n + keys f) (past_all n (keys f)) (λ a b e. copy_there f w k c.sound.ensures e (λ l. c.requires.copies w k l (passed_all s t n k c.loop-key.invariant.follows c.in_default.ensures.first a) e)))
+    ∙ ap (λ b. has_pair c.args.lost.now w k || b) (lost_over (holds f w k) (need f k) k n (n + keys f) (le-add_right n (keys f)) (λ a b e. copy_there f w k c.sound.ensures e (λ l. c.requires.copies w k l (passed_all s t n k c.loop-key.invariant.follows c.in_default.ensures.first a) e)))
     ∙ lost_all (has_pair c.args.lost.now w k) (holds f w k) (need f k) k (n + keys f) (keys f) (omega arith) (λ h. ap is_some (c.sound.ensures.has w k h))

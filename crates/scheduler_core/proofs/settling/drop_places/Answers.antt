@@ -1,12 +1,13 @@
 use Rattle.std.proofs.Common.{◌≡◌, ◌<◌, ◌≤◌, ◌+◌, ◌&&◌, ◌||◌, ℕ, Bool, true, not, ap, ◌∙◌, arith, is_some}
 use Rattle.std.proofs.Math.Dec.{eqb}
+use Rattle.std.proofs.Math.Nat.{le-add_right}
 use Rattle.cluster_rules.specs.Sched.{Facts, keys, ready, is_on, is_for}
 use Rattle.task_table.specs.Tasks.{facts}
 use Rattle.sched_changes.specs.Pairs.{has_pair}
 use Rattle.sched_changes.proofs.Following.{follows_self, follows_then}
 use Rattle.scheduler_core.specs.Dropped.{placed_nowhere}
 use Rattle.scheduler_core.proofs.DropLemmas.{on_none, on_more, on_all, lost_places_more, lost_none, lost_all}
-use Rattle.scheduler_core.proofs.WalkLemmas.{passed, passed_all, on_over, lost_over, ready_on, in_setting, past_all, place_there, is_placed}
+use Rattle.scheduler_core.proofs.WalkLemmas.{passed, passed_all, on_over, lost_over, ready_on, in_setting, place_there, is_placed}
 use Rattle.scheduler_core.proofs.settling.drop_places.Goals as goal
 
 pub loop-key-init : goal.loop-key-init
@@ -39,7 +40,7 @@ returns-clause-facts c =
     let t = c.loop-key.table in
     let f = facts s in
     let n = c.loop-key.from in
-    c.loop-key.invariant.facts ∙ on_over (ready f) f n (n + keys f) c.sound.ensures (past_all n (keys f)) (λ k a b e. place_there f k c.sound.ensures e (λ l. c.requires.places k l (passed_all s t n k c.loop-key.invariant.follows c.in_default.ensures.first a) e)) ∙ on_all f (n + keys f) c.sound.ensures (omega arith)
+    c.loop-key.invariant.facts ∙ on_over (ready f) f n (n + keys f) c.sound.ensures (le-add_right n (keys f)) (λ k a b e. place_there f k c.sound.ensures e (λ l. c.requires.places k l (passed_all s t n k c.loop-key.invariant.follows c.in_default.ensures.first a) e)) ∙ on_all f (n + keys f) c.sound.ensures (omega arith)
 
 pub returns-clause-lost : goal.returns-clause-lost
 returns-clause-lost c w k =
@@ -48,5 +49,5 @@ returns-clause-lost c w k =
     let f = facts s in
     let n = c.loop-key.from in
     c.loop-key.invariant.lost w k
-    ∙ ap (λ b. has_pair c.args.lost.now w k || b) (lost_over (is_on f w k) (ready f k) k n (n + keys f) (past_all n (keys f)) (λ a b e. place_there f k c.sound.ensures (is_placed f w k e) (λ l. c.requires.places k l (passed_all s t n k c.loop-key.invariant.follows c.in_default.ensures.first a) (is_placed f w k e))))
+    ∙ ap (λ b. has_pair c.args.lost.now w k || b) (lost_over (is_on f w k) (ready f k) k n (n + keys f) (le-add_right n (keys f)) (λ a b e. place_there f k c.sound.ensures (is_placed f w k e) (λ l. c.requires.places k l (passed_all s t n k c.loop-key.invariant.follows c.in_default.ensures.first a) (is_placed f w k e))))
     ∙ lost_all (has_pair c.args.lost.now w k) (is_on f w k) (ready f k) k (n + keys f) (keys f) (omega arith) (λ h. ap (is_for w) (c.sound.ensures.on k h))

@@ -1,10 +1,11 @@
 use Rattle.std.proofs.Common.{◌<◌, ◌+◌, ◌&&◌, ℕ, Bool, false, not, cond, ap, ◌∙◌, arith}
 use Rattle.std.proofs.Math.Dec.{eqb}
+use Rattle.std.proofs.Math.Nat.{le-add_right}
 use Rattle.cluster_rules.specs.Sched.{Facts, keys, known}
 use Rattle.task_table.specs.Tasks.{facts}
 use Rattle.sched_changes.proofs.Following.{follows_self, follows_then}
 use Rattle.scheduler_core.proofs.DropLemmas.{bad_none, bad_more, bad_all}
-use Rattle.scheduler_core.proofs.WalkLemmas.{passed, passed_all, bad_over, known_bad, in_setting, past_all, bad_there}
+use Rattle.scheduler_core.proofs.WalkLemmas.{passed, passed_all, bad_over, known_bad, in_setting, bad_there}
 use Rattle.scheduler_core.proofs.settling.forget_errors.Goals as goal
 
 pub loop-key-init : goal.loop-key-init
@@ -31,4 +32,4 @@ returns-clause-facts c =
     let t = c.loop-key.table in
     let f = facts s in
     let n = c.loop-key.from in
-    c.loop-key.invariant.facts ∙ bad_over (known f) f n (n + keys f) (past_all n (keys f)) (λ k a b e. bad_there f k c.sound.ensures e (λ l. c.requires.errors k l (passed_all s t n k c.loop-key.invariant.follows c.in_default.ensures.first a) e)) ∙ bad_all f (n + keys f) c.sound.ensures (omega arith)
+    c.loop-key.invariant.facts ∙ bad_over (known f) f n (n + keys f) (le-add_right n (keys f)) (λ k a b e. bad_there f k c.sound.ensures e (λ l. c.requires.errors k l (passed_all s t n k c.loop-key.invariant.follows c.in_default.ensures.first a) e)) ∙ bad_all f (n + keys f) c.sound.ensures (omega arith)

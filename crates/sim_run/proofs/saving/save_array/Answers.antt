@@ -1,5 +1,6 @@
 use Rattle.std.proofs.Common.{◌≡◌, ℕ, List, arith, sym, ◌∙◌, subst}
 use Rattle.std.proofs.lemmas.Bool.{false≢true}
+use Rattle.small_facts.proofs.Results.{on_err_from}
 use Rattle.nd_shape.specs.Region.{Box, IsPart}
 use Rattle.nd_shape.proofs.Places.{index_at-in}
 use Rattle.chunk_layout.specs.Layouts.{counts, lengths}
@@ -7,7 +8,7 @@ use Rattle.lowering_laws.proofs.Formed.{box-part}
 use Rattle.cluster_world.specs.Worlds.{cluster}
 use Rattle.cluster_world.proofs.Stepwise.{going_starved}
 use Rattle.saved_files.specs.Saving.{saving_at}
-use Rattle.job_run.proofs.Filling.{always-err, changes-then, fills-cut, fills-next}
+use Rattle.job_run.proofs.Filling.{changes-then, fills-cut, fills-next}
 use Rattle.sim_run.proofs.saving.save_array.Goals as goal
 
 pub write-requires-clause-inside : goal.write-requires-clause-inside
@@ -34,7 +35,7 @@ returns-in_err-write-in-Some-clause-part g c =
     let old = saving_at c.args.files.now c.args.place in
     let mid = saving_at c.loop-number.files c.args.place in
     let new = saving_at c.write.new.self c.args.place in
-    always-err c.from_residual.result
+    on_err_from c.from_residual.result
     (fills-cut c.args.layout.now c.args.keys.now ((cluster c.args.world.now).blocks.got 1) c.loop-number.number mid.dims c.block_region.new.out c.in-Some.block.now old.content mid.content new.content c.loop-number-test.true
     (sym c.in-Some.ensures.block) (c.loop-number.invariant.changes.dims_are ∙ c.requires.dims) c.block_region.ensures c.loop-number.invariant.fills c.in_err-write-in-Some.ensures.part)
 

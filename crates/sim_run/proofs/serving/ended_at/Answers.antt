@@ -1,8 +1,8 @@
 use Rattle.std.proofs.Common.{◌∙◌, pos}
 use Rattle.job_run.specs.Jobs.{plan_of}
 use Rattle.job_run.specs.Values.{Named}
-use Rattle.sim_run.proofs.Got.{name-has}
 use Rattle.sim_run.proofs.serving.ended_at.Goals as goal
+use Rattle.job_run.proofs.SavedKeys.{name-has}
 
 pub halt_at-requires-clause-there : goal.halt_at-requires-clause-there
 halt_at-requires-clause-there c =

@@ -1,13 +1,13 @@
 use Rattle.std.proofs.Common.{◌≡◌, ◌≢◌, ℕ, ◌+◌, ◌<◌, ◌≤◌, ◌^◌, true, List, length, Some, slice_get, ap, sym, subst, refl, ◌∙◌, arith, rules, inl, inr, ◌⊎◌}
 use Rattle.std.proofs.lemmas.Option.{same_Some}
 use Rattle.std.proofs.lemmas.Bool.{cases_eq}
+use Rattle.small_facts.proofs.Options.{slice_get_at}
 use Rattle.io_edge.specs.Content.{Content}
 use Rattle.npy_codec.specs.declared.head.Head.{Head}
 use Rattle.array_expr.specs.declared.expr.Node.{Node}
 use Rattle.array_expr.specs.Elem.{is_input, next_input}
 use Rattle.plain_eval.specs.Eval.{inputs_before}
 use Rattle.plain_eval.proofs.Arrays.{inputs-next, next-few}
-use Rattle.plain_eval.proofs.Nodes.{node-is}
 use Rattle.plain_block.specs.Files.{HaveFiles, head_at}
 use Rattle.site_table.proofs.block.have_files.Goals as goal
 
@@ -55,7 +55,7 @@ loop-k-preserved c =
     let heads = c.args.heads.now in
     let k = c.loop-k.k in
     let node = c.index-nodes-k.result in
-    let is : slice_get nodes k ≡ Some node = node-is nodes k node (omega (arith, c.loop-k-test.true, c.requires)) c.index-nodes-k.is in
+    let is : slice_get nodes k ≡ Some node = slice_get_at nodes k node (omega (arith, c.loop-k-test.true, c.requires)) c.index-nodes-k.is in
     let file : is_input node.op ≡ true → c.loop-k.input < c.args.files = search rules in
     let head : is_input node.op ≡ true → c.loop-k.input < length heads = search rules in
     let shape : is_input node.op ≡ true → (head_at heads c.loop-k.input).shape ≡ node.shape = search rules in

@@ -1,9 +1,9 @@
 use Rattle.std.proofs.Common.{◌∙◌, ℕ, List, ap, sym, subst}
 use Rattle.std.specs.Prelude.{IsSomeAnd}
 use Rattle.std.specs.Option.{option_map}
+use Rattle.std.proofs.lemmas.Result.{on_ok_weaker}
 use Rattle.message_queues.specs.Transit.{parcel_of_transit}
 use Rattle.message_queues.specs.declared.transit.InTransit.{InTransit}
-use Rattle.message_queues.proofs.QueueLemmas.{on_ok}
 use Rattle.cluster_msgs.specs.Jobs.{blocks_of}
 use Rattle.cluster_laws.specs.Moves.{block_among}
 use Rattle.cluster_nodes.specs.Nodes.{cluster_of, world_of}
@@ -23,7 +23,7 @@ pub returns-in-None-clause-nodes : goal.returns-in-None-clause-nodes
 returns-in-None-clause-nodes g c = nodes_moving c.args.self.now c.args.self.now.requests c.take.new.self c.requires.nodes.sorted.requests (answers_left c.args.asker c.args.peer c.args.ask c.args.self.now.answers c.take.new.self c.in-None.ensures.rest c.requires.nodes.sorted.answers) c.requires.nodes
 
 pub returns-in_ok-brought-in-Some-clause-cluster : goal.returns-in_ok-brought-in-Some-clause-cluster
-returns-in_ok-brought-in-Some-clause-cluster g c = on_ok c.gathered.result
+returns-in_ok-brought-in-Some-clause-cluster g c = on_ok_weaker c.gathered.result
     (λ h f.
     let old = c.args.self.now in
     let t = c.in-Some.answer in

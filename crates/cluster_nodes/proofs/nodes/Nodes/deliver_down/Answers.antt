@@ -2,9 +2,9 @@ use Rattle.std.proofs.Common.{◌≡◌, ◌∙◌, ℕ, List, false, ap, refl, 
 use Rattle.std.specs.Prelude.{IsSomeAnd}
 use Rattle.std.specs.declared.sync.Arc.{Arc}
 use Rattle.std.specs.declared.alloc.Global.{Global}
+use Rattle.std.proofs.lemmas.Result.{on_ok_weaker}
 use Rattle.cluster_msgs.specs.declared.cores.WorkerEvent.TheVariants.{Down as Told}
 use Rattle.cluster_rules.specs.WorkerStep.{worker_takes}
-use Rattle.message_queues.proofs.QueueLemmas.{on_ok}
 use Rattle.cluster_laws.specs.Blocks.{Cluster}
 use Rattle.cluster_nodes.specs.Nodes.{world_of, cluster_of}
 use Rattle.cluster_nodes.specs.Turns.{among, nothing, worker_turned}
@@ -25,7 +25,7 @@ worker_turn-requires-clause-nodes g c =
 
 pub returns-in-Some-clause-cluster : goal.returns-in-Some-clause-cluster
 unfolding world_of
-returns-in-Some-clause-cluster g c = on_ok c.worker_turn.result
+returns-in-Some-clause-cluster g c = on_ok_weaker c.worker_turn.result
     (λ h f. h f
     ∙ ap (λ (l : List (ℕ × Arc g.row.B.Denot Global)). worker_turned (cluster_of f (record c.args.self.now { down = c.pop_down.new.down })) c.args.worker (Told c.in-Some.message) (among l)) c.new-none.ensures.items
     ∙ ap (λ (x : Cluster g.row.B.Denot). worker_turned x c.args.worker (Told c.in-Some.message) nothing) (with_down f c.args.self.now c.pop_down.new.down _ c.pop_down.ensures.rest)

@@ -2,9 +2,9 @@ use Rattle.std.proofs.Common.{◌≡◌, ◌∙◌, ℕ, List, false, ap, refl, 
 use Rattle.std.specs.Prelude.{IsSomeAnd}
 use Rattle.std.specs.declared.sync.Arc.{Arc}
 use Rattle.std.specs.declared.alloc.Global.{Global}
+use Rattle.std.proofs.lemmas.Result.{on_ok_weaker}
 use Rattle.cluster_msgs.specs.declared.cores.ClientEvent.TheVariants.{FromScheduler}
 use Rattle.cluster_rules.specs.Client.{client_takes}
-use Rattle.message_queues.proofs.QueueLemmas.{on_ok}
 use Rattle.cluster_laws.specs.Blocks.{Cluster}
 use Rattle.cluster_nodes.specs.Nodes.{world_of, cluster_of}
 use Rattle.cluster_nodes.specs.Turns.{among, nothing, client_turned}
@@ -25,7 +25,7 @@ client_turn-requires-clause-nodes g c =
 
 pub returns-in-Some-clause-cluster : goal.returns-in-Some-clause-cluster
 unfolding world_of
-returns-in-Some-clause-cluster g c = on_ok c.client_turn.result
+returns-in-Some-clause-cluster g c = on_ok_weaker c.client_turn.result
     (λ h f. h f
     ∙ ap (λ (l : List (ℕ × Arc g.row.B.Denot Global)). client_turned (cluster_of f (record c.args.self.now { to_client = c.pop_to_client.new.to_client })) c.args.client (FromScheduler c.in-Some.message) (among l)) c.new-none.ensures.items
     ∙ ap (λ (x : Cluster g.row.B.Denot). client_turned x c.args.client (FromScheduler c.in-Some.message) nothing) (with_to_client f c.args.self.now c.pop_to_client.new.to_client _ c.pop_to_client.ensures.rest)

@@ -1,8 +1,9 @@
 use Rattle.std.proofs.Common.{◌∙◌, None, ap, sym, filter}
 use Rattle.std.specs.List.{filter_map}
+use Rattle.std.proofs.lemmas.Result.{on_ok_weaker}
 use Rattle.cluster_rules.specs.Worker.{WorkerFacts}
 use Rattle.fact_rows.specs.Rows.{cell}
-use Rattle.message_queues.proofs.QueueLemmas.{on_ok, answer_kind}
+use Rattle.message_queues.proofs.QueueLemmas.{answer_kind}
 use Rattle.message_queues.specs.Transit.{named_by}
 use Rattle.worker_core.specs.Core.{facts}
 use Rattle.cluster_nodes.specs.Nodes.{block_at, world_of}
@@ -19,7 +20,7 @@ returns-in-None-clause-nodes g c = nodes_moving c.args.self.now c.take.new.self 
 
 pub returns-in_ok-blocks-in-Some-clause-cluster : goal.returns-in_ok-blocks-in-Some-clause-cluster
 unfolding world_of
-returns-in_ok-blocks-in-Some-clause-cluster g c = on_ok c.insert.result
+returns-in_ok-blocks-in-Some-clause-cluster g c = on_ok_weaker c.insert.result
     (λ ok f.
     let old = c.args.self.now in
     let t = c.in-Some.request in
@@ -31,7 +32,7 @@ returns-in_ok-blocks-in-Some-clause-cluster g c = on_ok c.insert.result
     c.insert.ensures.ok
 
 pub returns-in_ok-blocks-in-Some-clause-nodes : goal.returns-in_ok-blocks-in-Some-clause-nodes
-returns-in_ok-blocks-in-Some-clause-nodes g c = on_ok c.insert.result (λ ok. nodes_moving c.args.self.now c.take.new.self c.insert.new.self
+returns-in_ok-blocks-in-Some-clause-nodes g c = on_ok_weaker c.insert.result (λ ok. nodes_moving c.args.self.now c.take.new.self c.insert.new.self
     (requests_left c.args.asker c.args.peer c.args.ask c.args.self.now.requests c.take.new.self c.in-Some.ensures.rest c.requires.nodes.sorted.requests)
     (answers_more c.answer.result c.args.self.now.answers c.insert.new.self ok (answer_kind c.answer.result _ _ _ _ c.answer.ensures.parcel c.answer.ensures.message) c.requires.nodes.sorted.answers)
     c.requires.nodes) c.insert.ensures.ok
@@ -40,4 +41,4 @@ pub returns-in-None-clause-few : goal.returns-in-None-clause-few
 returns-in-None-clause-few g c n h = h
 
 pub returns-in_ok-blocks-in-Some-clause-few : goal.returns-in_ok-blocks-in-Some-clause-few
-returns-in_ok-blocks-in-Some-clause-few g c = on_ok c.insert.result (λ ok n h. h) c.insert.ensures.ok
+returns-in_ok-blocks-in-Some-clause-few g c = on_ok_weaker c.insert.result (λ ok n h. h) c.insert.ensures.ok

@@ -1,11 +1,11 @@
 use Rattle.std.proofs.Common.{◌≡◌, ◌∙◌, ◌+◌, ◌-◌, ◌^◌, ap, sym, arith, length, ℕ}
 use Rattle.std.specs.Prelude.{min}
+use Rattle.small_facts.proofs.Numbers.{capped_more}
 use Rattle.cluster_msgs.specs.Shape.{key_count}
 use Rattle.cluster_rules.specs.Derived.{below}
 use Rattle.cluster_rules.specs.Worker.{pair_count}
 use Rattle.cluster_rules.specs.Client.{client_pairs}
 use Rattle.cluster_rules.proofs.TotalLemmas.{total-below}
-use Rattle.gather_client.proofs.TableLemmas.{pair_more}
 use Rattle.gather_client.specs.Stored.{facts_of}
 use Rattle.gather_client.proofs.table.ClientTable.pairs.Goals as goal
 
@@ -14,7 +14,7 @@ loop-key-preserved c =
     let f = facts_of c.args.self.now in
     c.saturating_add-total.ensures
     ∙ ap (λ n. min (c.loop-key.total + n) (2 ^ 64 - 1)) (ap length c.located.ensures)
-    ∙ pair_more c.loop-key.total (pair_count f.located (below c.loop-key.key)) (length (f.located c.loop-key.key)) (2 ^ 64 - 1) c.loop-key.invariant
+    ∙ capped_more c.loop-key.total (pair_count f.located (below c.loop-key.key)) (length (f.located c.loop-key.key)) (2 ^ 64 - 1) c.loop-key.invariant
     ∙ ap (λ n. min n (2 ^ 64 - 1)) (sym (total-below (λ (k : ℕ). length (f.located k)) c.loop-key.key))
 
 pub returns : goal.returns

@@ -1,22 +1,24 @@
 use Rattle.std.proofs.Common.{◌≡◌, ◌∙◌, sym, ap, rules, not, None, Some, filter, get_or}
 use Rattle.std.specs.List.{position, position_or_len, remove}
 use Rattle.std.proofs.lemmas.Fn.{filter_same}
+use Rattle.small_facts.proofs.Lists.{place_at_end}
+use Rattle.small_facts.proofs.Options.{cond_some_none}
 use Rattle.message_queues.specs.declared.transit.InTransit.{InTransit}
 use Rattle.message_queues.specs.Transit.{is_transit, transit_of, without_transit}
-use Rattle.message_queues.proofs.QueueLemmas.{place_some, place_none, place_end, none_found, first_found, without_first}
+use Rattle.message_queues.proofs.QueueLemmas.{place_some, none_found, first_found, without_first}
 use Rattle.message_queues.proofs.transit.Transits.take.Goals as goal
 
 pub returns-in-None-clause-item : goal.returns-in-None-clause-item
 returns-in-None-clause-item g c =
     let p = is_transit {B = g.row.B.Denot} c.args.asker c.args.peer c.args.ask in
     let xs = c.self.inside.items.items in
-    rw (← c.self.view_is) (sym (none_found p xs (place_end p xs (place_none _ _ (c.in-None.ensures ∙ ap (position p) c.as_slice.ensures.value)))).nothing)
+    rw (← c.self.view_is) (sym (none_found p xs (place_at_end p xs (cond_some_none _ _ (c.in-None.ensures ∙ ap (position p) c.as_slice.ensures.value)))).nothing)
 
 pub returns-in-None-clause-rest : goal.returns-in-None-clause-rest
 returns-in-None-clause-rest g c =
     let p = is_transit {B = g.row.B.Denot} c.args.asker c.args.peer c.args.ask in
     let xs = c.self.inside.items.items in
-    rw (← c.self.view_is) (sym (none_found p xs (place_end p xs (place_none _ _ (c.in-None.ensures ∙ ap (position p) c.as_slice.ensures.value)))).whole)
+    rw (← c.self.view_is) (sym (none_found p xs (place_at_end p xs (cond_some_none _ _ (c.in-None.ensures ∙ ap (position p) c.as_slice.ensures.value)))).whole)
 
 pub returns-in-Some-clause-item : goal.returns-in-Some-clause-item
 returns-in-Some-clause-item g c =

@@ -2,9 +2,11 @@ use Rattle.std.proofs.Common.{◌≡◌, ◌<◌, ◌≤◌, ◌∙◌, ◌||◌
 use Rattle.std.specs.Prelude.{◌==◌, nat_lt}
 use Rattle.std.specs.List.{list_any, insert, position_or_len}
 use Rattle.std.proofs.lemmas.List.{get_or_past}
+use Rattle.std.proofs.Math.Bool.{or_comm}
+use Rattle.std.proofs.lemmas.Bool.{false_from_ne_true}
 use Rattle.cluster_rules.specs.Worker.{Ask, is_asked_for, names_key, with_ask}
-use Rattle.open_asks.proofs.MarkLemmas.{put_in, or_turn}
-use Rattle.open_asks.proofs.AskLemmas.{flying_all, asked-with, with_ask-insert, not_true}
+use Rattle.open_asks.proofs.MarkLemmas.{put_in}
+use Rattle.open_asks.proofs.AskLemmas.{flying_all, asked-with, with_ask-insert}
 use Rattle.open_asks.proofs.asks.Asks.open.Goals as goal
 
 pub invariant_of-self-2 : goal.invariant_of-self-2
@@ -28,9 +30,9 @@ invariant_of-self-2 c =
           (λ k h. c.mark_items.ensures.marked k h
           ∙ ap (λ b. b || list_any (λ (i : ℕ × ℕ). i.0 == k) c.items.result.now) (v.flying k)
           ∙ ap (λ is. is_asked_for a.asks.items k || list_any (λ (i : ℕ × ℕ). i.0 == k) is) (c.items.ensures ∙ ap (λ (x : Ask). x.items) opened)
-          ∙ or_turn (is_asked_for a.asks.items k) (names_key k ask) ∙ sym (asked-with ask a.asks.items k) ∙ sym (ap (λ bs. is_asked_for bs k) kept))
+          ∙ or_comm (is_asked_for a.asks.items k) (names_key k ask) ∙ sym (asked-with ask a.asks.items k) ∙ sym (ap (λ bs. is_asked_for bs k) kept))
           (λ k h. ap (λ bs. is_asked_for bs k) kept ∙ asked-with ask a.asks.items k
-          ∙ ap (λ b. b || is_asked_for a.asks.items k) (not_true (names_key k ask) (λ e. let l : k < length a.flying = named k e in omega (arith, l, h)))
+          ∙ ap (λ b. b || is_asked_for a.asks.items k) (false_from_ne_true (names_key k ask) (λ e. let l : k < length a.flying = named k e in omega (arith, l, h)))
           ∙ sym (v.flying k) ∙ get_or_past a.flying k false h);
     }
 

@@ -1,7 +1,8 @@
 use Rattle.std.proofs.Common.{◌∙◌}
 use Rattle.std.specs.Option.{option_copied}
+use Rattle.small_facts.proofs.Results.{on_err_from}
 use Rattle.run_report.specs.declared.tally.Tally.{Tally}
-use Rattle.run_report.proofs.TallyLemmas.{count_goes, on_err}
+use Rattle.run_report.proofs.TallyLemmas.{count_goes}
 use Rattle.run_report.proofs.tally.Tally.count.Goals as goal
 
 pub returns-clause-ok : goal.returns-clause-ok
@@ -30,7 +31,7 @@ returns-clause-ok c es few rare h =
     }) few rare h
 
 pub returns-in_err-note-clause-err : goal.returns-in_err-note-clause-err
-returns-in_err-note-clause-err c = on_err c.from_residual.result (λ es h. record {
+returns-in_err-note-clause-err c = on_err_from c.from_residual.result (λ es h. record {
   joins = h.joins;
   started = h.started;
   starts = λ i. c.in_err-note.ensures.err i ∙ h.starts i;

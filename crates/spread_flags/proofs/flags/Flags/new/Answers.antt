@@ -1,7 +1,7 @@
 use Rattle.std.proofs.Common.{arith, false, ◌∙◌}
+use Rattle.std.proofs.lemmas.List.{get_or_default}
 use Rattle.spread_flags.specs.Spreads.{spread_of}
 use Rattle.spread_flags.proofs.KeepLemmas.{kept-new}
-use Rattle.spread_flags.proofs.CountLemmas.{any_default}
 use Rattle.spread_flags.proofs.flags.Flags.new.Goals as goal
 
 pub invariant_of-result : goal.invariant_of-result
@@ -17,4 +17,4 @@ invariant_of-result c =
     c.in_ok-seeds.ensures.same c.in_ok-flags.ensures.same c.in_ok-counts.ensures.same c.in_ok-stale.ensures.keys c.in_ok-changed.ensures.keys
 
 pub returns-clause-gates : goal.returns-clause-gates
-returns-clause-gates c k l = any_default c.in_ok-gate_row.gate_row k false c.args.gates (omega (arith, l, c.in_ok-gate_row.ensures.length, c.len-count.ensures)) ∙ c.in_ok-gate_row.ensures.same k
+returns-clause-gates c k l = get_or_default c.in_ok-gate_row.gate_row k false c.args.gates (omega (arith, l, c.in_ok-gate_row.ensures.length, c.len-count.ensures)) ∙ c.in_ok-gate_row.ensures.same k
