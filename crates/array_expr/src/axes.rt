@@ -84,7 +84,7 @@ pub fn axes_folded(alloc: Global, axes: &Option<Axes>, count: u64) -> Result<Axe
     ensures { IfOk result (λ folded. folded ≡ folded_axes axes.now count) }
 {
     match axes {
-        Some(axes) => axes.copy(alloc),
+        Some(axes) => axes.copy(),
         None => all_axes(alloc, count),
     }
 }

@@ -2,9 +2,8 @@
 ghost use Rattle.std.specs.Prelude.{◌≡◌, ◌<◌, ◌^◌, IfOk};
 
 use nd_grid::{Binary, Fold};
-use nd_shape::sequence::Copied;
-use nd_shape::{Axes, Dims, Parts, Sequence, Specs};
-use std::alloc::{AllocError, Global};
+use nd_shape::{Axes, Dims, Duplicate, Parts, Sequence, Specs};
+use std::alloc::AllocError;
 use std::marker::Model;
 
 /// The number of a node in its expression, from 0 in the order in which the nodes were added.
@@ -41,8 +40,8 @@ impl NodeId {
     }
 }
 
-impl Copied for NodeId {
-    fn copied(&self, _alloc: Global) -> Result<NodeId, AllocError> {
+impl Duplicate for NodeId {
+    fn duplicate(&self) -> Result<NodeId, AllocError> {
         Ok(*self)
     }
 }

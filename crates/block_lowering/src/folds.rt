@@ -78,7 +78,7 @@ pub fn fold_task(
     Ok(Task {
         spec: Spec::Reduce {
             fold,
-            axes: axes.copy(alloc)?,
+            axes: axes.copy()?,
             inputs,
         },
         deps,

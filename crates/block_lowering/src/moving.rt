@@ -121,7 +121,7 @@ impl<'a> Stage for Sliced<'a> {
         Ok(Task {
             spec: Spec::Slice {
                 steps: StepList::from_vec(taken.steps),
-                dropped: self.dropped.copy(alloc)?,
+                dropped: self.dropped.copy()?,
                 input,
             },
             deps: one_key(alloc, key)?,
@@ -252,7 +252,7 @@ impl<'a> Stage for Transposed<'a> {
         let key = self.source.key(numbers.as_slice())?;
         Ok(Task {
             spec: Spec::Transpose {
-                axes: self.axes.copy(alloc)?,
+                axes: self.axes.copy()?,
                 input,
             },
             deps: one_key(alloc, key)?,

@@ -205,8 +205,8 @@ fn product_task(
         spec: Spec::Contract {
             left: first as u32,
             right: second as u32,
-            left_axes: left_axes.copy(alloc)?,
-            right_axes: right_axes.copy(alloc)?,
+            left_axes: left_axes.copy()?,
+            right_axes: right_axes.copy()?,
             inputs,
         },
         deps: uses.into_deps(),

@@ -1,6 +1,6 @@
 //! What the scheduler, its workers and its clients tell each other, and what a job is to them.
 //!
-//! Nothing of this repository stands below. The definitions of the machines, their cores, the links and the wire
+//! Of this repository only `sequences`, for its lists, and the facts of `small_facts` stand below. The definitions of the machines, their cores, the links and the wire
 //! stand above, and all cite the types here. It says what value correctness speaks of: the value of a key, its cone,
 //! the keys at fault (`laws`), what a job's `run` answers, and what fits the label of a run. Besides, a copy equals its
 //! source, and a graph's dependencies are below their keys.

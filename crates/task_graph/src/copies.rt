@@ -20,7 +20,7 @@ fn copied_spec(alloc: Global, spec: &Spec) -> Result<Spec, AllocError>
             op: *op,
             left: *left,
             right: *right,
-            inputs: inputs.copy(alloc)?,
+            inputs: inputs.copy()?,
             shape: shape.copy(alloc)?,
         }),
         Spec::Where {
@@ -33,7 +33,7 @@ fn copied_spec(alloc: Global, spec: &Spec) -> Result<Spec, AllocError>
             cond: *cond,
             yes: *yes,
             no: *no,
-            inputs: inputs.copy(alloc)?,
+            inputs: inputs.copy()?,
             shape: shape.copy(alloc)?,
         }),
         Spec::Slice {
@@ -41,12 +41,12 @@ fn copied_spec(alloc: Global, spec: &Spec) -> Result<Spec, AllocError>
             dropped,
             input,
         } => Ok(Spec::Slice {
-            steps: steps.copy(alloc)?,
-            dropped: dropped.copy(alloc)?,
+            steps: steps.copy()?,
+            dropped: dropped.copy()?,
             input: input.copy(alloc)?,
         }),
         Spec::Transpose { axes, input } => Ok(Spec::Transpose {
-            axes: axes.copy(alloc)?,
+            axes: axes.copy()?,
             input: input.copy(alloc)?,
         }),
         Spec::Assemble {
@@ -54,14 +54,14 @@ fn copied_spec(alloc: Global, spec: &Spec) -> Result<Spec, AllocError>
             inputs,
             shape,
         } => Ok(Spec::Assemble {
-            pieces: pieces.copy(alloc)?,
-            inputs: inputs.copy(alloc)?,
+            pieces: pieces.copy()?,
+            inputs: inputs.copy()?,
             shape: shape.copy(alloc)?,
         }),
         Spec::Reduce { fold, axes, inputs } => Ok(Spec::Reduce {
             fold: *fold,
-            axes: axes.copy(alloc)?,
-            inputs: inputs.copy(alloc)?,
+            axes: axes.copy()?,
+            inputs: inputs.copy()?,
         }),
         Spec::Contract {
             left,
@@ -72,9 +72,9 @@ fn copied_spec(alloc: Global, spec: &Spec) -> Result<Spec, AllocError>
         } => Ok(Spec::Contract {
             left: *left,
             right: *right,
-            left_axes: left_axes.copy(alloc)?,
-            right_axes: right_axes.copy(alloc)?,
-            inputs: inputs.copy(alloc)?,
+            left_axes: left_axes.copy()?,
+            right_axes: right_axes.copy()?,
+            inputs: inputs.copy()?,
         }),
         Spec::Fill {
             dims,

@@ -1,5 +1,5 @@
 use Rattle.std.proofs.Common.{◌≡◌, take}
-use Rattle.nd_shape.proofs.sequence.Sequence.copy.Given as goal
+use Rattle.sequences.proofs.list.Sequence.copy.Given as goal
 
 abbrev pub invariant-loop-item : goal.invariant-loop-item
 invariant-loop-item g l = l.items.items ≡ take l.item-index l.item-items
