@@ -55,7 +55,7 @@ pub fn blocks_here<B: Drop>(
 {
     let mut blocks = Sequence::new(alloc);
     for key in keys {
-        push_block(&mut blocks, shelf.get(node, *key))?;
+        push_block(&mut blocks, shelf.look(node, *key))?;
     }
     Ok(blocks)
 }

@@ -118,7 +118,7 @@ impl<B: Drop> Nodes<B> {
     {
         self.alive.set(worker, false);
         self.spilled.fill_row(worker, false);
-        self.held.clear(worker);
+        self.held.vacate(worker);
     }
 
     /// The messages of a worker's links go.

@@ -90,9 +90,9 @@ impl<B: Drop> Nodes<B> {
             from_client: Links::new(alloc),
             requests: Transits::new(alloc),
             answers: Transits::new(alloc),
-            held: Shelf::new(alloc, keys),
-            inputs: Shelf::new(alloc, keys),
-            got: Shelf::new(alloc, keys),
+            held: Shelf::empty(alloc, keys),
+            inputs: Shelf::empty(alloc, keys),
+            got: Shelf::empty(alloc, keys),
         };
         match nodes.begin(clients + 1) {
             Ok(()) => Ok(nodes),

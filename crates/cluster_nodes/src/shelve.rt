@@ -94,7 +94,7 @@ fn bring_one<B: Drop, H: Holder>(
     if !holder.counts(key) {
         return;
     }
-    if shelf.get(node, key).is_some() {
+    if shelf.look(node, key).is_some() {
         return;
     }
     shelf.put(node, key, block);
@@ -122,7 +122,7 @@ fn keep_one<B: Drop, H: Holder>(shelf: &mut Shelf<Arc<B>>, node: u32, holder: &H
     if holder.counts(key) {
         return;
     }
-    if shelf.get(node, key).is_some() {
+    if shelf.look(node, key).is_some() {
         shelf.sound();
         let _gone = shelf.take(node, key);
     }

@@ -136,7 +136,7 @@ fn inputs_of<'a, B: Drop>(
     requires { none.now ≡ [] }
     ensures { blocks_of result.now ≡ blocks_at (cell shelf.now None worker key) }
 {
-    match shelf.get(worker, key) {
+    match shelf.look(worker, key) {
         Some(inputs) => inputs.as_slice(),
         None => none.as_slice(),
     }

@@ -1,5 +1,5 @@
 -- A grid after a write.
-use Rattle.std.proofs.Common.{◌≡◌, ℕ, ◌<◌, Bool, true, false, cond, ◌&&◌, List, [], refl, sym, ap, ◌∙◌, arith, length, get_or, set, ⊎_elim, All, ◌≤◌, ◌+◌, ltb}
+use Rattle.std.proofs.Common.{◌≡◌, ℕ, zero, suc, ◌<◌, Bool, true, false, cond, ◌&&◌, List, [], ◌∷◌, ◌++◌, Option, None, refl, sym, ap, ◌∙◌, arith, length, get_or, set, ⊎_elim, All, ◌≤◌, ◌+◌, ltb}
 use Rattle.std.proofs.lemmas.Bool.Decides.{nat_tests}
 use Rattle.std.proofs.Math.Dec.{eqb}
 use Rattle.std.proofs.lemmas.Bool.{eqb-true, cases_lt, lt-ltb}
@@ -85,3 +85,13 @@ kept_all base rows mask other i same l done w k = ⊎_elim (λ h. inside h) (λ 
         let none_here : get_or rows w [] ≡ [] = get_or_past rows w [] (omega arith) in
         let none_there : get_or base w [] ≡ [] = get_or_past base w [] (omega (arith, same)) in
         ap (λ r. get_or r k other) none_here ∙ either (mask k) ∙ ap (λ r. cond (mask k) (get_or r k other) other) (sym none_there)
+
+-- one more row, with nothing in it, changes nothing
+row_more : {A : Type 0} (rows : List (List (Option A))) (new : List (Option A)) → ((k : ℕ) → get_or new k None ≡ None) → (w k : ℕ) → get_or (get_or (rows ++ new ∷ []) w []) k None ≡ get_or (get_or rows w []) k None
+row_more [] new e zero k = e k
+row_more [] new e (suc w) k = refl
+row_more (x ∷ rows) new e zero k = refl
+row_more (x ∷ rows) new e (suc w) k = row_more rows new e w k
+
+pub cell-more : {A : Type 0} (n : ℕ) (rows : List (List (Option A))) (new : List (Option A)) → ((k : ℕ) → get_or new k None ≡ None) → cell (n, rows ++ new ∷ []) None ≡ cell (n, rows) None
+cell-more n rows new e = λ i w k. row_more rows new e w k i

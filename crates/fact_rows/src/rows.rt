@@ -1,6 +1,7 @@
 // Rows and grids of facts, which contracts read as functions.
-ghost use Rattle.std.specs.Prelude.{◌≡◌, ℕ, ◌+◌, ◌<◌, ◌≤◌, length, IfOk, OnOk, OnErr, ◌++◌, ◌∷◌, ◌==◌, [], false, None, cond, List};
+ghost use Rattle.std.specs.Prelude.{◌≡◌, ℕ, ◌+◌, ◌<◌, ◌≤◌, length, IfOk, OnOk, OnErr, ◌++◌, ◌∷◌, ◌==◌, [], false, None, Some, cond, List, Option};
 ghost use Rattle.std.specs.List.{list_any, list_all};
+ghost use Rattle.std.specs.Option.{option_copied};
 ghost use Rattle.cluster_rules.specs.Functions.{put, put_pair};
 ghost use Rattle.fact_rows.specs.Rows.{read, cell, width, height};
 
@@ -21,7 +22,7 @@ impl<T> Model for Row<T> {
     ghost view = { λ s. s.items.items };
 }
 
-impl<T: Copy + Drop> Row<T> {
+impl<T: Drop> Row<T> {
     /// A row without members. It takes no memory.
     pub fn empty(alloc: Global) -> Self
         ensures { result ≡ [] }
@@ -31,15 +32,31 @@ impl<T: Copy + Drop> Row<T> {
         }
     }
 
+    /// How many members there are.
+    pub fn len(&self) -> usize
+        ensures { result ≡ length self.now }
+    {
+        self.items.len()
+    }
+
+    /// One more member at the end; after want of memory the row is as it was.
+    pub fn push(&mut self, value: T) -> Result<(), AllocError>
+        ensures ok { OnOk result (self.new ≡ self.old ++ value ∷ []) }
+        ensures err { OnErr result (self.new ≡ self.old) }
+    {
+        self.items.push(value)?;
+        Ok(())
+    }
+}
+
+impl<T: Copy + Drop> Row<T> {
     /// A row of this many equal members, or want of memory.
     pub fn filled(alloc: Global, count: usize, value: T) -> Result<Self, AllocError>
         ensures length { IfOk result (λ row. length row ≡ count) }
         ensures same { IfOk result (λ row. (k : ℕ) → read row value k ≡ value) }
     {
         let mut items = Vec::with_capacity(alloc, count)?;
-        for _i in 0..count {
-            items.push(value)?;
-        }
+        items.resize(count, value)?;
         Ok(Row { items })
     }
 
@@ -50,13 +67,6 @@ impl<T: Copy + Drop> Row<T> {
         Ok(Row {
             items: Vec::from_slice(alloc, self.items.as_slice())?,
         })
-    }
-
-    /// How many members there are.
-    pub fn len(&self) -> usize
-        ensures { result ≡ length self.now }
-    {
-        self.items.len()
     }
 
     /// The member of a key.
@@ -74,15 +84,6 @@ impl<T: Copy + Drop> Row<T> {
         ensures length { length self.new ≡ length self.old }
     {
         self.items[key as usize] = value;
-    }
-
-    /// One more member at the end; after want of memory the row is as it was.
-    pub fn push(&mut self, value: T) -> Result<(), AllocError>
-        ensures ok { OnOk result (self.new ≡ self.old ++ value ∷ []) }
-        ensures err { OnErr result (self.new ≡ self.old) }
-    {
-        self.items.push(value)?;
-        Ok(())
     }
 
     /// Makes all members equal.
@@ -117,6 +118,60 @@ impl<T: Copy + Drop> Row<Option<T>> {
             self.items[key as usize]
         } else {
             None
+        }
+    }
+}
+
+impl<T: Drop> Row<Option<T>> {
+    /// This many places with nothing in them.
+    pub fn vacant(alloc: Global, count: usize) -> Result<Self, AllocError>
+        ensures length { IfOk result (λ row. length row ≡ count) }
+        ensures none { IfOk result (λ row. (k : ℕ) → read row None k ≡ None) }
+    {
+        let mut items = Vec::with_capacity(alloc, count)?;
+        for _place in 0..count {
+            items.push(None)?;
+        }
+        Ok(Row { items })
+    }
+
+    /// What stands at a key, if anything does. Past the end nothing stands.
+    pub fn look(&self, key: u32) -> Option<&T>
+        ensures { option_copied result ≡ read self.now None key }
+    {
+        if (key as usize) < self.items.len() {
+            self.items[key as usize].as_ref()
+        } else {
+            None
+        }
+    }
+
+    /// Puts something at a key; what stood there is dropped.
+    pub fn put(&mut self, key: u32, item: T)
+        requires { key < length self.old }
+        ensures meaning { read self.new None ≡ put (read self.old None) key (Some item) }
+        ensures length { length self.new ≡ length self.old }
+    {
+        self.items[key as usize] = Some(item);
+    }
+
+    /// Takes what stands at a key away.
+    pub fn take(&mut self, key: u32) -> Option<T>
+        requires { key < length self.old }
+        ensures item { result ≡ read self.old None key }
+        ensures meaning { read self.new None ≡ put (read self.old None) key None }
+        ensures length { length self.new ≡ length self.old }
+    {
+        self.items[key as usize].take()
+    }
+
+    /// Takes all away.
+    pub fn vacate(&mut self)
+        ensures meaning { (k : ℕ) → read self.new None k ≡ None }
+        ensures length { length self.new ≡ length self.old }
+    {
+        for place in 0..self.items.len() {
+            self.items[place] = None;
         }
     }
 }
@@ -176,7 +231,7 @@ impl<T> Model for Grid<T> {
     ghost invariant = { λ s. EachOf s.wide s.rows.items };
 }
 
-impl<T: Copy + Drop> Grid<T> {
+impl<T: Drop> Grid<T> {
     /// A grid without rows, of this width. It takes no memory.
     pub fn empty(alloc: Global, wide: u32) -> Self
         ensures { result ≡ (wide, []) }
@@ -201,6 +256,18 @@ impl<T: Copy + Drop> Grid<T> {
         self.rows.len()
     }
 
+    /// One more row; after want of memory the grid is as it was.
+    pub fn push(&mut self, row: Row<T>) -> Result<(), AllocError>
+        requires { length row ≡ width self.old }
+        ensures ok { OnOk result (self.new ≡ (width self.old, self.old.1 ++ row ∷ [])) }
+        ensures err { OnErr result (self.new ≡ self.old) }
+    {
+        self.rows.push(row)?;
+        Ok(())
+    }
+}
+
+impl<T: Copy + Drop> Grid<T> {
     /// The member at a row and a key.
     pub fn get(&self, row: u32, key: u32) -> T
         requires row { row < height self.now }
@@ -241,16 +308,6 @@ impl<T: Copy + Drop> Grid<T> {
     {
         self.rows[row as usize].fill(value);
     }
-
-    /// One more row; after want of memory the grid is as it was.
-    pub fn push(&mut self, row: Row<T>) -> Result<(), AllocError>
-        requires { length row ≡ width self.old }
-        ensures ok { OnOk result (self.new ≡ (width self.old, self.old.1 ++ row ∷ [])) }
-        ensures err { OnErr result (self.new ≡ self.old) }
-    {
-        self.rows.push(row)?;
-        Ok(())
-    }
 }
 
 impl<T: Copy + Drop> Grid<Option<T>> {
@@ -263,6 +320,67 @@ impl<T: Copy + Drop> Grid<Option<T>> {
         } else {
             None
         }
+    }
+}
+
+impl<T: Drop> Grid<Option<T>> {
+    /// One more row, with nothing in it.
+    ///
+    /// # Errors
+    /// Where no memory is left; all is then as before.
+    pub fn add(&mut self) -> Result<(), AllocError>
+        ensures height { OnOk result (height self.new ≡ height self.old + 1) }
+        ensures width { width self.new ≡ width self.old }
+        ensures meaning { cell self.new None ≡ cell self.old None }
+        ensures err { OnErr result (self.new ≡ self.old) }
+    {
+        let row = Row::vacant(*self.rows.allocator(), self.wide as usize)?;
+        self.rows.push(row)?;
+        Ok(())
+    }
+
+    /// What stands at a row and a key, if anything does.
+    pub fn look(&self, row: u32, key: u32) -> Option<&T>
+        ensures { option_copied result ≡ cell self.now None row key }
+    {
+        if (row as usize) < self.rows.len() {
+            self.rows[row as usize].look(key)
+        } else {
+            None
+        }
+    }
+
+    /// Puts something at a row and a key; what stood there is dropped.
+    pub fn put(&mut self, row: u32, key: u32, item: T)
+        requires row { row < height self.old }
+        requires key { key < width self.old }
+        ensures meaning { cell self.new None ≡ put_pair (cell self.old None) row key (Some item) }
+        ensures height { height self.new ≡ height self.old }
+        ensures width { width self.new ≡ width self.old }
+    {
+        self.rows[row as usize].put(key, item);
+    }
+
+    /// Takes what stands at a row and a key away.
+    pub fn take(&mut self, row: u32, key: u32) -> Option<T>
+        requires row { row < height self.old }
+        requires key { key < width self.old }
+        ensures item { result ≡ cell self.old None row key }
+        ensures meaning { cell self.new None ≡ put_pair (cell self.old None) row key None }
+        ensures height { height self.new ≡ height self.old }
+        ensures width { width self.new ≡ width self.old }
+    {
+        self.rows[row as usize].take(key)
+    }
+
+    /// Takes all away that stands in a row.
+    pub fn vacate(&mut self, row: u32)
+        requires { row < height self.old }
+        ensures meaning { cell self.new None ≡ (λ w k. cond (w == row) None (cell self.old None w k)) }
+        ensures height { height self.new ≡ height self.old }
+        ensures width { width self.new ≡ width self.old }
+    {
+        self.rows[row as usize].vacate();
     }
 }
 

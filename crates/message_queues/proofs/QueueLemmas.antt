@@ -1,5 +1,5 @@
 -- Places in lists: of queues by node, and of what is under way.
-use Rattle.std.proofs.Common.{◌≡◌, ℕ, zero, suc, ◌+◌, ◌<◌, ◌-◌, ◌^◌, Bool, true, false, not, ◌&&◌, List, [], ◌∷◌, ◌++◌, Option, Some, None, refl, sym, ap, ◌∙◌, subst, arith, cond, take, drop, filter, find, length, get_or}
+use Rattle.std.proofs.Common.{◌≡◌, ℕ, zero, suc, ◌+◌, ◌<◌, ◌-◌, ◌^◌, Bool, true, false, not, ◌&&◌, List, [], ◌∷◌, ◌++◌, Some, None, refl, sym, ap, ◌∙◌, subst, arith, cond, take, drop, filter, find, length, get_or}
 use Rattle.std.specs.Prelude.{nat_lt}
 use Rattle.std.specs.List.{position_or_len, insert, remove, AllByRecursion}
 use Rattle.std.proofs.lemmas.Bool.{true≢false, false≢true}
@@ -20,7 +20,6 @@ use Rattle.cluster_msgs.specs.declared.events.Asker.{Asker}
 use Rattle.cluster_rules.specs.Functions.{put}
 use Rattle.cluster_rules.specs.World.{Parcel, parcel_before, with_parcel}
 use Rattle.cluster_rules.specs.WorldStep.{sends, requested, client_sends, client_requested}
-use Rattle.fact_rows.specs.Rows.{cell}
 use Rattle.message_queues.specs.declared.transit.InTransit.{InTransit}
 use Rattle.message_queues.specs.Queues.{waiting}
 use Rattle.message_queues.specs.Transit.{parcel_of_transit, parcels, with_transit, IsRequest, IsAnswer}
@@ -34,16 +33,6 @@ more_none (x ∷ queues) (suc k) = more_none queues k
 
 pub waiting-more : {A : Type 0} (queues : List (List A)) → waiting (queues ++ [] ∷ []) ≡ waiting queues
 waiting-more queues = λ i k. more_none queues k i
-
--- one more row, with nothing in it, changes nothing
-row_more : {A : Type 0} (rows : List (List (Option A))) (new : List (Option A)) → ((k : ℕ) → get_or new k None ≡ None) → (w k : ℕ) → get_or (get_or (rows ++ new ∷ []) w []) k None ≡ get_or (get_or rows w []) k None
-row_more [] new e zero k = e k
-row_more [] new e (suc w) k = refl
-row_more (x ∷ rows) new e zero k = refl
-row_more (x ∷ rows) new e (suc w) k = row_more rows new e w k
-
-pub cell-more : {A : Type 0} (n : ℕ) (rows : List (List (Option A))) (new : List (Option A)) → ((k : ℕ) → get_or new k None ≡ None) → cell (n, rows ++ new ∷ []) None ≡ cell (n, rows) None
-cell-more n rows new e = λ i w k. row_more rows new e w k i
 
 -- what a search answers
 pub place_some : (b : Bool) (n i : ℕ) → Some i ≡ cond b (Some n) None → (i ≡ n) × (b ≡ true)

@@ -3,7 +3,7 @@ use Rattle.std.proofs.Common.{[], ◌≡◌, Some, None, false, Option, refl, tr
 use Rattle.std.proofs.lemmas.Bool.{false≢true}
 use Rattle.std.proofs.lemmas.Option.{same_Some}
 use Rattle.std.specs.Option.{option_map}
-use Rattle.std.specs.Prelude.{unwrap_or, slice_get, IfSome}
+use Rattle.std.specs.Prelude.{slice_get, IfSome}
 
 pub some_not_none : {A : Type 0} (x : A) → Some x ≡ None → ⊥
 some_not_none x h = cc

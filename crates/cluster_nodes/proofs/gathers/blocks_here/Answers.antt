@@ -16,6 +16,6 @@ loop-key-preserved g c =
     let l : i < length ks = omega arith in
     let at = λ (k : ℕ). block_at (cell c.args.shelf.now None c.args.node k) in
     c.in_ok-push_block.ensures
-    ∙ ap (λ (bs : List g.row.B.Denot). bs ++ cons_option (block_at (option_copied c.get.result)) []) c.loop-key.invariant
-    ∙ ap (λ (o : Option (Arc g.row.B.Denot Global)). filter_map at (take i ks) ++ cons_option (block_at o) []) c.get.ensures
+    ∙ ap (λ (bs : List g.row.B.Denot). bs ++ cons_option (block_at (option_copied c.look.result)) []) c.loop-key.invariant
+    ∙ ap (λ (o : Option (Arc g.row.B.Denot Global)). filter_map at (take i ks) ++ cons_option (block_at o) []) c.look.ensures
     ∙ sym (ap (filter_map at) (take_more ks i 0 l) ∙ filter_map-append at (take i ks) (get_or ks i 0 ∷ []))

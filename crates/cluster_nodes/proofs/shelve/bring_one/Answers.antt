@@ -13,4 +13,4 @@ none_there (Some b) x e h = absurd (true≢false h)
 pub returns-clause-meaning : goal.returns-clause-meaning
 returns-clause-meaning g c =
     put_there (cell c.args.shelf.now None) (cell c.put.new.self None) c.args.node c.args.key (g.H.Holder.counted c.args.holder.now) c.args.block
-    (sym c.counts.ensures ∙ c.if-not-counts.false) (none_there c.get.result _ c.get.ensures (sym c.is_some.ensures ∙ c.if-is_some.false)) c.put.ensures.meaning
+    (sym c.counts.ensures ∙ c.if-not-counts.false) (none_there c.look.result _ c.look.ensures (sym c.is_some.ensures ∙ c.if-is_some.false)) c.put.ensures.meaning

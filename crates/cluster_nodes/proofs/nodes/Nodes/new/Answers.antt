@@ -14,7 +14,7 @@ begin-requires g c =
       from_client = c.new-6.ensures;
       requests = c.new-7.ensures;
       answers = c.new-8.ensures;
-      held = c.new-9.ensures ∙ ap (λ (n : ℕ). (n, [])) c.keys-keys.ensures;
-      inputs = c.new-10.ensures ∙ ap (λ (n : ℕ). (n, [])) c.keys-keys.ensures;
-      got = c.new-11.ensures ∙ ap (λ (n : ℕ). (n, [])) c.keys-keys.ensures;
+      held = c.empty-3.ensures ∙ ap (λ (n : ℕ). (n, [])) c.keys-keys.ensures;
+      inputs = c.empty-4.ensures ∙ ap (λ (n : ℕ). (n, [])) c.keys-keys.ensures;
+      got = c.empty-5.ensures ∙ ap (λ (n : ℕ). (n, [])) c.keys-keys.ensures;
     }

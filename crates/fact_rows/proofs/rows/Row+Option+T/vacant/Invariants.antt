@@ -1,5 +1,5 @@
 use Rattle.std.proofs.Common.{◌≡◌, ℕ, None, length, get_or}
-use Rattle.message_queues.proofs.shelf.Places.empty.Given as goal
+use Rattle.fact_rows.proofs.rows.Row+Option+T.vacant.Given as goal
 
 abbrev pub invariant-loop-place : goal.invariant-loop-place
 invariant-loop-place g l = record {

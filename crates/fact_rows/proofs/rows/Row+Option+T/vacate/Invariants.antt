@@ -1,5 +1,5 @@
 use Rattle.std.proofs.Common.{◌≡◌, ℕ, None, cond, length, get_or, ltb}
-use Rattle.message_queues.proofs.shelf.Places.clear.Given as goal
+use Rattle.fact_rows.proofs.rows.Row+Option+T.vacate.Given as goal
 
 abbrev pub invariant-loop-place : goal.invariant-loop-place
 invariant-loop-place g l = record {
