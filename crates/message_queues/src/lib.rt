@@ -13,10 +13,9 @@ mod post;
 pub mod transit;
 
 use fact_rows::Grid;
-
-/// What stands at a node for a key: a block, say, or the inputs of a task that runs. A row is a node.
-pub type Shelf<T> = Grid<Option<T>>;
-
 pub use links::{Links, Queue};
 pub use post::{post_client, post_down, post_to_clients, post_worker};
 pub use transit::{InTransit, Transits};
+
+/// What stands at a node for a key: a block, say, or the inputs of a task that runs. A row is a node.
+pub type Shelf<T> = Grid<Option<T>>;
