@@ -27,7 +27,8 @@ pub(crate) fn read_part<S: Store>(
     ensures later { S.count store.old ≤ S.count store.new }
     ensures kept { OnOk result (S.count store.new ≡ S.count store.old) }
     ensures part { IfOk result (λ v. OnTold (file_at (S.files store.old) file) (λ bytes. v.items ≡ take size (drop offset bytes))) }
-    ensures given { IfOk result (λ v. GivesOf (S.names store.old) file (S.gave store.old) (S.gave store.new) (λ bytes. v.items ≡ take size (drop offset bytes))) }
+    ensures given { IfOk result (λ v. GivesOf (S.names store.old) file (S.gave store.old) (S.gave store.new)
+        (λ bytes. v.items ≡ take size (drop offset bytes))) }
     ensures size { IfOk result (λ v. length v.items ≡ size) }
     ensures cause { IfErr result IsFaultOrMemory }
     ensures refused { IfErr result (λ error. OnTold (file_at (S.files store.old) file) (λ bytes. IsRefusedAs bytes error)) }

@@ -107,8 +107,10 @@ fn read_fixed<S: Store>(alloc: Global, store: &mut S, file: u32, size: u64) -> R
     ensures long { OnOk result (10 ≤ size) }
     ensures small { IfOk result (λ n. n < 2 ^ 16) }
     ensures value { IfOk result (λ n. OnTold (file_at (S.files store.old) file) (HasTextLen n)) }
-    ensures given { IfOk result (λ n. GivesOf (S.names store.old) file (S.gave store.old) (S.gave store.new) (λ bytes. length bytes ≡ size → HasTextLen n bytes)) }
-    ensures given_refusal { IfErr result (λ error. GivesOf (S.names store.old) file (S.gave store.old) (S.gave store.new) (λ bytes. length bytes ≡ size → IsRefusedAs bytes error)) }
+    ensures given { IfOk result (λ n. GivesOf (S.names store.old) file (S.gave store.old) (S.gave store.new)
+        (λ bytes. length bytes ≡ size → HasTextLen n bytes)) }
+    ensures given_refusal { IfErr result (λ error. GivesOf (S.names store.old) file (S.gave store.old) (S.gave store.new)
+        (λ bytes. length bytes ≡ size → IsRefusedAs bytes error)) }
     ensures refused { IfErr result (λ error. OnTold (file_at (S.files store.old) file) (λ bytes. IsRefusedAs bytes error)) }
     ensures fault { IsErrOf result NpyError.ReadFault → Rose (S.count store.old) (S.count store.new) }
 {
@@ -129,8 +131,10 @@ fn read_text<S: Store>(alloc: Global, store: &mut S, file: u32, len: u64) -> Res
     ensures kept { OnOk result (S.count store.new ≡ S.count store.old) }
     ensures at { IfOk result (λ head. head.data_at ≡ 10 + len) }
     ensures declared { IfOk result (λ head. OnTold (file_at (S.files store.old) file) (λ bytes. DeclaresHead bytes head)) }
-    ensures given { IfOk result (λ head. GivesOf (S.names store.old) file (S.gave store.old) (S.gave store.new) (λ bytes. HasTextLen len bytes → 10 + len ≤ length bytes → DeclaresHead bytes head)) }
-    ensures given_refusal { IfErr result (λ error. GivesOf (S.names store.old) file (S.gave store.old) (S.gave store.new) (λ bytes. HasTextLen len bytes → 10 + len ≤ length bytes → IsRefusedAs bytes error)) }
+    ensures given { IfOk result (λ head. GivesOf (S.names store.old) file (S.gave store.old) (S.gave store.new)
+        (λ bytes. HasTextLen len bytes → 10 + len ≤ length bytes → DeclaresHead bytes head)) }
+    ensures given_refusal { IfErr result (λ error. GivesOf (S.names store.old) file (S.gave store.old) (S.gave store.new)
+        (λ bytes. HasTextLen len bytes → 10 + len ≤ length bytes → IsRefusedAs bytes error)) }
     ensures refused { IfErr result (λ error. OnTold (file_at (S.files store.old) file) (λ bytes. IsRefusedAs bytes error)) }
     ensures fault { IsErrOf result NpyError.ReadFault → Rose (S.count store.old) (S.count store.new) }
 {

@@ -49,8 +49,10 @@ pub(crate) fn read_cells<S: Store>(
     ensures only { GivesOnly (IsWithin offset (8 * count)) (S.gave store.old) (S.gave store.new) }
     ensures later { S.count store.old ≤ S.count store.new }
     ensures kept { OnOk result (S.count store.new ≡ S.count store.old) }
-    ensures cells { OnOk result (OnTold (file_at (S.files store.old) file) (λ bytes. out.new.items ≡ out.old.items ++ cells (take (8 * count) (drop offset bytes)))) }
-    ensures given { OnOk result (GivesOf (S.names store.old) file (S.gave store.old) (S.gave store.new) (λ bytes. offset + 8 * count ≤ length bytes → out.new.items ≡ out.old.items ++ cells (take (8 * count) (drop offset bytes)))) }
+    ensures cells { OnOk result (OnTold (file_at (S.files store.old) file)
+        (λ bytes. out.new.items ≡ out.old.items ++ cells (take (8 * count) (drop offset bytes)))) }
+    ensures given { OnOk result (GivesOf (S.names store.old) file (S.gave store.old) (S.gave store.new)
+        (λ bytes. offset + 8 * count ≤ length bytes → out.new.items ≡ out.old.items ++ cells (take (8 * count) (drop offset bytes)))) }
     ensures size { OnOk result (length out.new.items ≡ length out.old.items + count) }
     ensures cause { IfErr result IsFaultOrMemory }
     ensures fault { IsErrOf result NpyError.ReadFault → Rose (S.count store.old) (S.count store.new) }

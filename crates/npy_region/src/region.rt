@@ -60,7 +60,8 @@ fn read_rows<S: Store>(
     ensures later { S.count store.old ≤ S.count store.new }
     ensures kept { OnOk result (S.count store.new ≡ S.count store.old) }
     ensures cells { OnOk result (OnTold (file_at (S.files store.old) file) (λ bytes. AreStored bytes data_at walk.old (count_of walk.old) cells.new.items)) }
-    ensures given { OnOk result (GivesOf (S.names store.old) file (S.gave store.old) (S.gave store.new) (λ bytes. EndsWithin walk.old data_at (length bytes) → AreStored bytes data_at walk.old (count_of walk.old) cells.new.items)) }
+    ensures given { OnOk result (GivesOf (S.names store.old) file (S.gave store.old) (S.gave store.new)
+        (λ bytes. EndsWithin walk.old data_at (length bytes) → AreStored bytes data_at walk.old (count_of walk.old) cells.new.items)) }
     ensures size { OnOk result (length cells.new.items ≡ count_of walk.old) }
     ensures cause { IfErr result IsFaultOrMemory }
     ensures fault { IsErrOf result NpyError.ReadFault → Rose (S.count store.old) (S.count store.new) }
@@ -93,7 +94,8 @@ fn read_stored<S: Store>(
     ensures later { S.count store.old ≤ S.count store.new }
     ensures kept { OnOk result (S.count store.new ≡ S.count store.old) }
     ensures cells { IfOk result (λ v. OnTold (file_at (S.files store.old) file) (λ bytes. AreStored bytes data_at walk.old (count_of walk.old) v.items)) }
-    ensures given { IfOk result (λ v. GivesOf (S.names store.old) file (S.gave store.old) (S.gave store.new) (λ bytes. EndsWithin walk.old data_at (length bytes) → AreStored bytes data_at walk.old (count_of walk.old) v.items)) }
+    ensures given { IfOk result (λ v. GivesOf (S.names store.old) file (S.gave store.old) (S.gave store.new)
+        (λ bytes. EndsWithin walk.old data_at (length bytes) → AreStored bytes data_at walk.old (count_of walk.old) v.items)) }
     ensures size { IfOk result (λ v. length v.items ≡ count_of walk.old) }
     ensures cause { IfErr result IsFaultOrMemory }
     ensures fault { IsErrOf result NpyError.ReadFault → Rose (S.count store.old) (S.count store.new) }
@@ -143,7 +145,8 @@ fn read_walk<S: Store>(
     ensures kept { OnOk result (S.count store.new ≡ S.count store.old) }
     ensures shape { IfOk result (λ block. block.shape ≡ region.now.lengths) }
     ensures cells { IfOk result (λ block. OnTold (file_at (S.files store.old) file) (λ bytes. HoldsRegion bytes head.now region.now block)) }
-    ensures given { IfOk result (λ block. GivesOf (S.names store.old) file (S.gave store.old) (S.gave store.new) (λ bytes. HoldsRegion bytes head.now region.now block)) }
+    ensures given { IfOk result (λ block. GivesOf (S.names store.old) file (S.gave store.old) (S.gave store.new)
+        (λ bytes. HoldsRegion bytes head.now region.now block)) }
     ensures room { OnOk result (needed head.now region.now ≤ size_of (file_at (S.files store.old) file) - head.now.data_at) }
     ensures refused { IfErr result (RegionRefusedAs (size_of (file_at (S.files store.old) file)) head.now region.now) }
     ensures fault { IsErrOf result NpyError.ReadFault → Rose (S.count store.old) (S.count store.new) }
@@ -188,7 +191,8 @@ pub fn read_region<S: Store>(
     ensures kept { OnOk result (S.count store.new ≡ S.count store.old) }
     ensures shape { IfOk result (λ block. block.shape ≡ region.now.lengths) }
     ensures cells { IfOk result (λ block. OnTold (file_at (S.files store.old) file) (λ bytes. HoldsRegion bytes head.now region.now block)) }
-    ensures given { IfOk result (λ block. GivesOf (S.names store.old) file (S.gave store.old) (S.gave store.new) (λ bytes. HoldsRegion bytes head.now region.now block)) }
+    ensures given { IfOk result (λ block. GivesOf (S.names store.old) file (S.gave store.old) (S.gave store.new)
+        (λ bytes. HoldsRegion bytes head.now region.now block)) }
     ensures room { OnOk result (needed head.now region.now ≤ size_of (file_at (S.files store.old) file) - head.now.data_at) }
     ensures refused { IfErr result (RegionRefusedAs (size_of (file_at (S.files store.old) file)) head.now region.now) }
     ensures fault { IsErrOf result NpyError.ReadFault → Rose (S.count store.old) (S.count store.new) }
