@@ -1,6 +1,6 @@
 -- Shapes of operands, and what is made of them along an axis.
-use Rattle.std.proofs.Common.{◌≡◌, ◌≢◌, ℕ, zero, suc, ◌+◌, ◌^◌, ◌<◌, ◌≤◌, List, [], ◌∷◌, length, map, take, get_or, set, Some, refl, ap, sym, subst, ◌∙◌, arith, inl, inr, length-set, get_or-set_same, add_assoc}
-use Rattle.std.specs.Prelude.{All, Any, min, slice_get}
+use Rattle.std.proofs.Common.{◌≡◌, ◌≢◌, ℕ, zero, suc, ◌+◌, ◌^◌, ◌<◌, ◌≤◌, List, [], ◌∷◌, length, map, take, get_or, set, Some, ap, sym, subst, ◌∙◌, arith, inl, inr, length-set, get_or-set_same, add_assoc}
+use Rattle.std.specs.Prelude.{All, min, slice_get}
 use Rattle.std.proofs.lemmas.List.{get_or-map, length-map, take_all}
 use Rattle.std.proofs.lemmas.List.Elements.{All-more}
 use Rattle.std.proofs.lemmas.Option.{slice_get-get_or}

@@ -1,11 +1,10 @@
 -- What each node of an expression is: its operation fits its operands, and its shape is made of theirs, by NumPy's pages
 -- on broadcasting, indexing and the manipulation of arrays, and by Dask's page on arrays.
-use Rattle.std.specs.Prelude.{◌≡◌, ◌≢◌, ℕ, zero, suc, ◌+◌, ◌<◌, ◌≤◌, Bool, true, false, cond, List, [], ◌∷◌, ◌++◌, length, map, take, slice_index, slice_index_or, slice_set, slice_get, All, Option, Some, None}
+use Rattle.std.specs.Prelude.{◌≡◌, ◌≢◌, ℕ, suc, ◌+◌, ◌<◌, ◌≤◌, Bool, true, false, cond, List, [], ◌∷◌, ◌++◌, length, map, take, slice_index, slice_index_or, slice_set, slice_get, All, Option, Some, None}
 use Rattle.std.specs.List.{range_with_len}
 use Rattle.nd_shape.specs.declared.slice.Part.{Part}
 use Rattle.nd_shape.specs.declared.slice.Part.TheVariants.{At, Range}
 use Rattle.nd_shape.specs.declared.slice.Steps.{Steps}
-use Rattle.nd_shape.specs.declared.chunk.ChunkSpec.{ChunkSpec}
 use Rattle.nd_shape.specs.Shape.{IsShape}
 use Rattle.nd_shape.specs.Broadcast.{broadcast, Agree}
 use Rattle.nd_shape.specs.Slice.{Resolves, StepsFitAxis}

@@ -1,11 +1,10 @@
 -- Why an operation isn't taken as a node, in the order in which the causes are looked at.
-use Rattle.std.specs.Prelude.{◌≡◌, ◌≢◌, ℕ, ◌<◌, ◌⊎◌, min, ◌≤◌, ◌^◌, List, [], ◌∷◌, ◌++◌, length, map, take, slice_index, slice_get, All, Contains, Option, Some, None}
+use Rattle.std.specs.Prelude.{◌≡◌, ◌≢◌, ℕ, ◌<◌, ◌⊎◌, min, ◌≤◌, ◌^◌, List, [], ◌∷◌, ◌++◌, length, map, take, slice_index, slice_get, All, Some}
 use Rattle.nd_shape.specs.declared.slice.Part.{Part}
-use Rattle.nd_shape.specs.declared.slice.Part.TheVariants.{At, Range}
 use Rattle.nd_shape.specs.declared.slice.Steps.{Steps}
 use Rattle.nd_shape.specs.declared.chunk.ChunkSpec.{ChunkSpec}
 use Rattle.nd_shape.specs.declared.error.ShapeError.{ShapeError}
-use Rattle.nd_shape.specs.declared.error.ShapeError.TheVariants.{Misfit, BadAxis, BadIndex, ZeroStep, EmptyReduce, TooManyParts, BadSplit, Elements as TooLarge, OutOfMemory as NoMemory}
+use Rattle.nd_shape.specs.declared.error.ShapeError.TheVariants.{Misfit, BadAxis, EmptyReduce, TooManyParts, BadSplit}
 use Rattle.nd_shape.specs.declared.shape.ShapeLimit.TheVariants.{Axes as AxesLimit, Elements as ElementsLimit}
 use Rattle.nd_shape.specs.Shape.{IsShape, elements}
 use Rattle.nd_shape.specs.Limits.{IsPassed}

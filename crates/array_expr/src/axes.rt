@@ -1,5 +1,5 @@
 // Lists of axes, and the lengths on them.
-ghost use Rattle.std.specs.Prelude.{◌≡◌, ◌≢◌, ◌<◌, ◌≤◌, ◌⊎◌, ◌↔◌, ◌++◌, [], ◌∷◌, ℕ, length, cond, map, slice_index, All, Contains, IfOk, OnOk, IsTrue, MatchOption};
+ghost use Rattle.std.specs.Prelude.{◌≡◌, ◌≢◌, ◌<◌, ◌≤◌, ◌⊎◌, ◌↔◌, ◌++◌, [], ◌∷◌, length, cond, map, slice_index, All, Contains, IfOk, OnOk, IsTrue, MatchOption};
 ghost use Rattle.nd_grid.specs.Grid.{is_among, kept_shape};
 ghost use Rattle.array_expr.specs.Axes.{AreAxes, IsFirstBadAxis};
 ghost use Rattle.std.specs.List.{range_with_len};

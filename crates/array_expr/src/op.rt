@@ -1,5 +1,5 @@
 // The operations of expressions, and the numbers of nodes.
-ghost use Rattle.std.specs.Prelude.{◌≡◌, ◌<◌, ◌^◌, IfOk};
+ghost use Rattle.std.specs.Prelude.{◌≡◌, ◌<◌, ◌^◌};
 
 use nd_grid::{Binary, Fold};
 use nd_shape::{Axes, Dims, Duplicate, Parts, Sequence, Specs};

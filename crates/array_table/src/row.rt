@@ -1,5 +1,5 @@
 // The words of a line, which are taken from the left.
-ghost use Rattle.std.specs.Prelude.{◌≡◌, ◌<◌, ◌≤◌, All, IfSome, length};
+ghost use Rattle.std.specs.Prelude.{◌≡◌, ◌<◌, All, IfSome, length};
 ghost use Rattle.nd_shape.specs.Shape.{elements};
 
 use crate::text::Answer;

@@ -1,7 +1,6 @@
 //! Assembly: parts of blocks put together to a block, by runs of elements that lie side by side.
-ghost use Rattle.std.specs.Prelude.{◌≡◌, ◌+◌, ◌*◌, ◌<◌, ◌≤◌, ◌^◌, ℕ, List, [], ◌∷◌, length, cond, true, All, Ok, IfOk, OnOk};
-ghost use Rattle.nd_shape.specs.Block.{Array};
-ghost use Rattle.nd_shape.specs.Shape.{elements, IsShape};
+ghost use Rattle.std.specs.Prelude.{◌≡◌, ◌+◌, ◌*◌, ◌<◌, ◌≤◌, ◌^◌, length, cond, true, All, Ok, IfOk, OnOk};
+ghost use Rattle.nd_shape.specs.Shape.{elements};
 ghost use Rattle.nd_shape.specs.Index.{place, index_at};
 ghost use Rattle.nd_shape.specs.Region.{IsPart, moved};
 ghost use Rattle.nd_grid.specs.Grid.{block_of};

@@ -1,5 +1,5 @@
 // The choice between two rows, element by element.
-ghost use Rattle.std.specs.Prelude.{◌≡◌, ℕ, ℤ, ◌<◌, length, get_or, pos};
+ghost use Rattle.std.specs.Prelude.{◌≡◌, ℕ, ◌<◌, length, get_or, pos};
 ghost use Rattle.nd_grid.specs.Operation.{pick};
 ghost use Rattle.block_kernels.specs.Rows.{item, HoldsItems};
 

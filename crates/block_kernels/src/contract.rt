@@ -1,11 +1,10 @@
 //! Contraction: the products over paired axes of two blocks, summed, as a product of two matrices.
-ghost use Rattle.std.specs.Prelude.{◌≡◌, ◌+◌, ◌*◌, ◌<◌, ◌≤◌, ◌++◌, ◌^◌, ◌*ℤ◌, ℕ, [], ◌∷◌, length, map, slice_index, slice_index_or, pos, All, Some, Ok, IfOk};
+ghost use Rattle.std.specs.Prelude.{◌≡◌, ◌+◌, ◌*◌, ◌<◌, ◌≤◌, ◌++◌, ◌^◌, ◌*ℤ◌, ℕ, length, map, slice_index, slice_index_or, pos, All, Some, Ok, IfOk};
 ghost use Rattle.nd_shape.specs.Shape.{elements, IsShape};
-ghost use Rattle.nd_shape.specs.Index.{IsIn, index_at};
 ghost use Rattle.nd_grid.specs.Int64.{wrap};
 ghost use Rattle.nd_grid.specs.declared.operation.Fold.TheVariants.{Sum};
 ghost use Rattle.nd_grid.specs.Operation.{fold_two};
-ghost use Rattle.nd_grid.specs.Grid.{grid_of, block_of, kept_shape, woven, contracted};
+ghost use Rattle.nd_grid.specs.Grid.{grid_of, block_of, kept_shape, contracted};
 ghost use Rattle.block_kernels.specs.Inputs.{blocks_of, shapes_of};
 ghost use Rattle.block_kernels.specs.WellFormed.{AreAxes, FitsContract};
 ghost use Rattle.block_kernels.specs.Contracting.{woven_at, AreKeptRows, ArePairedRows, IsContraction, AddsRow, AddsProducts, IsProduct};

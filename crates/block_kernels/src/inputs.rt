@@ -1,5 +1,5 @@
 // The blocks that operations take.
-ghost use Rattle.std.specs.Prelude.{◌≡◌, ◌<◌, [], ◌∷◌, length, IfOk, slice_index_or};
+ghost use Rattle.std.specs.Prelude.{◌≡◌, ◌<◌, [], length, IfOk, slice_index_or};
 ghost use Rattle.nd_grid.specs.Grid.{grid_of};
 ghost use Rattle.block_kernels.specs.Kernels.{nth, operand};
 ghost use Rattle.block_kernels.specs.Inputs.{blocks_of, grids_of, shapes_of, IsPlace, operand_shape, number_of, number_array};

@@ -1,10 +1,9 @@
 // What a task makes of the blocks of its dependencies.
 ghost use Rattle.std.specs.Prelude.{◌≡◌, ℕ, ℤ, List, IfOk, IfErr, Ok, [], ◌∷◌, ◌++◌, length, map, get_or, slice_index_or};
 ghost use Rattle.nd_shape.specs.Shape.{IsShape};
-ghost use Rattle.nd_shape.specs.Region.{IsPart};
-ghost use Rattle.nd_grid.specs.Grid.{grid_of, block_of, elementwise, chosen, sliced, sliced_shape, transposed, ramp, part, IsTranspose, kept_shape, contracted};
+ghost use Rattle.nd_grid.specs.Grid.{block_of, elementwise, sliced, sliced_shape, transposed, IsTranspose, kept_shape};
 ghost use Rattle.nd_grid.specs.Computed.{FailsAs};
-ghost use Rattle.block_kernels.specs.Kernels.{kernel, operand, nth, input_shapes, result_shape, reduced_all, assembled};
+ghost use Rattle.block_kernels.specs.Kernels.{kernel, nth, input_shapes, result_shape, reduced_all, assembled};
 ghost use Rattle.block_kernels.specs.Inputs.{blocks_of, grids_of, shapes_of};
 ghost use Rattle.block_kernels.specs.Pairing.{paired_at, chosen_at};
 ghost use Rattle.block_kernels.specs.Contracting.{contracted_at};

@@ -1,5 +1,5 @@
 // Shapes of results.
-ghost use Rattle.std.specs.Prelude.{◌≡◌, ℕ, ◌∷◌, [], ◌++◌, cond, map, slice_index, OnOk, IfOk};
+ghost use Rattle.std.specs.Prelude.{◌≡◌, ◌∷◌, [], ◌++◌, cond, map, slice_index, OnOk, IfOk};
 ghost use Rattle.nd_grid.specs.Grid.{sliced_shape};
 
 use nd_grid::operand::is_in_list;

@@ -1,5 +1,5 @@
 // Slices and transposes of blocks.
-ghost use Rattle.std.specs.Prelude.{◌≡◌, ℕ, ◌+◌, ◌-◌, ◌<◌, ◌^◌, min, length, map, get_or, IfOk, IfErr, Ok};
+ghost use Rattle.std.specs.Prelude.{◌≡◌, ◌+◌, ◌-◌, ◌<◌, ◌^◌, min, length, map, get_or, IfOk, IfErr, Ok};
 ghost use Rattle.nd_shape.specs.Shape.{IsShape, elements};
 ghost use Rattle.nd_shape.specs.Index.{place, index_at};
 ghost use Rattle.nd_grid.specs.Grid.{grid_of, block_of, sliced, sliced_shape, sliced_from, SlicesFit, transposed, turned, IsTranspose};

@@ -1,5 +1,5 @@
 //! Concatenations: each block is one block of an operand, once the operands have the same chunks on the other axes.
-ghost use Rattle.std.specs.Prelude.{◌≡◌, ◌<◌, ◌^◌, ◌++◌, ◌∷◌, [], ℕ, List, length, map, cond, nat_eq, get_or, IfOk, IfErr, OnOk};
+ghost use Rattle.std.specs.Prelude.{◌≡◌, ◌<◌, ◌^◌, ◌++◌, ◌∷◌, [], length, map, cond, nat_eq, get_or, IfOk, IfErr, OnOk};
 ghost use Rattle.lowering_laws.specs.Stages.{Along, along_at as along_place, along_from, along_all, or_empty, joined_all, common_layout, fitted_along, whole_piece, concatenated_blocks};
 ghost use Rattle.block_lowering.specs.Args.{AreCommon, OfCommon};
 ghost use Rattle.block_lowering.specs.Growing.{Refuses, IsGrown};

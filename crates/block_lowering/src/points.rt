@@ -4,7 +4,7 @@ ghost use Rattle.nd_shape.specs.Chunk.{total};
 ghost use Rattle.nd_grid.specs.Grid.{under};
 ghost use Rattle.chunk_layout.specs.Layouts.{counts};
 ghost use Rattle.block_kernels.specs.declared.spec.Operand.TheVariants.{Input as At};
-ghost use Rattle.lowering_laws.specs.Stages.{Blocks, arg_layout, sizes_on, joined_all, point_layout, arg_target, fitted_arg, fitted_args, uses_of, uses_of_arg, inputs_among, operand_of, nth_arg, point_spec, pointwise};
+ghost use Rattle.lowering_laws.specs.Stages.{Blocks, sizes_on, joined_all, point_layout, arg_target, fitted_arg, fitted_args, uses_of, uses_of_arg, inputs_among, operand_of, nth_arg, point_spec, pointwise};
 ghost use Rattle.block_lowering.specs.Args.{point_of, arg_of, args_of, layouts_of, sizes_given};
 ghost use Rattle.block_lowering.specs.Growing.{Refuses, IsGrown};
 ghost use Rattle.block_lowering.specs.Pointing.{ArgGrown, ArgsGrown};

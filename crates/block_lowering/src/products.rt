@@ -1,5 +1,5 @@
 //! Products over paired axes: a product for each pair of blocks that meet, and trees that add them.
-ghost use Rattle.std.specs.Prelude.{◌≡◌, ◌≤◌, ◌++◌, [], ℕ, List, cond, nat_eq, drop, get_or, length, map, slice_index_or, IfOk, IfErr};
+ghost use Rattle.std.specs.Prelude.{◌≡◌, ◌≤◌, ◌++◌, [], cond, nat_eq, drop, get_or, length, slice_index_or, IfOk, IfErr};
 ghost use Rattle.std.specs.List.{position_or_len};
 ghost use Rattle.nd_grid.specs.Grid.{is_among};
 ghost use Rattle.chunk_layout.specs.Layouts.{counts as counts_in};

@@ -1,5 +1,5 @@
 //! Nodes that only count.
-ghost use Rattle.std.specs.Prelude.{◌≡◌, ℕ, ◌≤◌, [], IfSome, false};
+ghost use Rattle.std.specs.Prelude.{◌≡◌, [], IfSome, false};
 ghost use Rattle.node_links.specs.Books.{IsRecorded, Steps};
 
 use cluster_msgs::{Event, KeyList, Named, Stop};

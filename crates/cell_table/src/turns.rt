@@ -1,5 +1,5 @@
 //! One cell with two drivers, in one thread.
-ghost use Rattle.std.specs.Prelude.{◌≡◌, ℕ, ◌+◌, ◌<◌, ◌≤◌, map, length};
+ghost use Rattle.std.specs.Prelude.{◌≡◌, ◌+◌, ◌<◌, map, length};
 ghost use Rattle.turn_cell.specs.Rows.{berth_of};
 
 use crate::node::{CountOne, Node, Plain};

@@ -1,5 +1,5 @@
 //! The union of the boundaries of chunks.
-ghost use Rattle.std.specs.Prelude.{◌≡◌, ◌<◌, ◌≤◌, ◌^◌, IfOk, OnOk, cond, nat_eq};
+ghost use Rattle.std.specs.Prelude.{◌≡◌, ◌<◌, IfOk, cond, nat_eq};
 ghost use Rattle.nd_shape.specs.Chunk.{total};
 ghost use Rattle.chunk_layout.specs.Layouts.{lengths};
 ghost use Rattle.chunk_layout.specs.Cuts.{IsCut, IsLayout};

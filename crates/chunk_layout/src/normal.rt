@@ -1,5 +1,5 @@
 //! Layouts from specifications of chunks.
-ghost use Rattle.std.specs.Prelude.{◌≡◌, ◌≢◌, ◌≤◌, ◌^◌, ◌-◌, length, min, IfOk, OnOk, IfErr};
+ghost use Rattle.std.specs.Prelude.{◌≡◌, ◌≢◌, ◌^◌, ◌-◌, min, IfOk, OnOk, IfErr};
 ghost use Rattle.nd_shape.specs.Shape.{IsShape};
 ghost use Rattle.chunk_layout.specs.Layouts.{blocks, lengths, normalized};
 ghost use Rattle.chunk_layout.specs.Cuts.{IsLayout};

@@ -1,5 +1,5 @@
 //! What slices take of the chunks of a layout.
-ghost use Rattle.std.specs.Prelude.{◌≡◌, ◌≢◌, ◌+◌, ◌<◌, ◌≤◌, ◌^◌, ℕ, pos, ◌≤ℤ◌, [], ◌∷◌, IfOk};
+ghost use Rattle.std.specs.Prelude.{◌≡◌, ◌+◌, ◌<◌, ◌≤◌, ◌^◌, pos, ◌≤ℤ◌, [], ◌∷◌, IfOk};
 ghost use Rattle.nd_shape.specs.Chunk.{total};
 ghost use Rattle.nd_shape.specs.Slice.{position, coordinate};
 ghost use Rattle.chunk_layout.specs.Cuts.{IsLayout, IsCut};

@@ -1,5 +1,5 @@
 -- The least of some keys that failed, and one more key.
-use Rattle.std.proofs.Common.{◌≡◌, ◌≢◌, ◌<◌, ◌≤◌, ◌+◌, ℕ, List, length, take, get_or, Option, Some, None, All, Contains, arith, rules, ap, sym, subst, ◌∙◌, cond, nat_le, Bool, true, false, refl}
+use Rattle.std.proofs.Common.{◌≡◌, ◌≢◌, ◌<◌, ◌≤◌, ◌+◌, ℕ, List, length, take, get_or, Option, Some, None, All, Contains, arith, rules, sym, subst, ◌∙◌, cond, nat_le, Bool, true, false, refl}
 use Rattle.std.proofs.lemmas.List.{get_or-take, length-take-le}
 use Rattle.std.proofs.lemmas.List.Elements.{All-more, Contains-get_or}
 use Rattle.cluster_msgs.specs.declared.cores.End.{End}

@@ -1,5 +1,5 @@
 -- What a driver keeps of keys.
-use Rattle.std.specs.Prelude.{◌≡◌, ◌≢◌, ℕ, Bool, true, false, List, Option, Some, None, slice_index_or}
+use Rattle.std.specs.Prelude.{Bool, List, Option, Some, None, slice_index_or}
 use Rattle.std.specs.Arc.{arc_value}
 use Rattle.cluster_msgs.specs.declared.cores.End.{End}
 use Rattle.cluster_msgs.specs.declared.cores.End.TheVariants.{Got, Erred}

@@ -1,5 +1,5 @@
 //! What futures over keys ask of a driver, and how they end.
-ghost use Rattle.std.specs.Prelude.{◌≡◌, true, false, ℕ, is_err, IfSome, IfNone, OnSome};
+ghost use Rattle.std.specs.Prelude.{◌≡◌, true, false, is_err, IfSome, IfNone, OnSome};
 ghost use Rattle.std.specs.Arc.{arc_value};
 ghost use Rattle.client_futures.specs.Seen.{Seen, Lends, LetsGo, NoneErred};
 

@@ -1,8 +1,8 @@
 -- Nothing in the world names a key that isn't there, whatever operations give.
-use Rattle.std.proofs.Common.{◌≡◌, ℕ, zero, suc, ◌+◌, Bool, true, false, not, ◌&&◌, List, [], ◌∷◌, ◌++◌, Option, Some, None, refl, sym, ap, ◌∙◌, subst, cond, is_some, filter, find}
-use Rattle.std.specs.Prelude.{◌==◌, nat_lt}
+use Rattle.std.proofs.Common.{◌≡◌, ℕ, zero, ◌+◌, Bool, true, false, ◌&&◌, List, [], ◌∷◌, ◌++◌, Option, Some, None, refl, ap, ◌∙◌, subst, cond}
+use Rattle.std.specs.Prelude.{nat_lt}
 use Rattle.std.specs.List.{list_all, AllByRecursion}
-use Rattle.std.proofs.lemmas.Bool.{true≢false, false≢true, and_parts, and_from}
+use Rattle.std.proofs.lemmas.Bool.{false≢true, and_parts}
 use Rattle.small_facts.proofs.Every.{all_join, all_of_filter}
 use Rattle.cluster_msgs.specs.Shape.{Shape, IsShape, key_count}
 use Rattle.cluster_msgs.specs.declared.messages.Down.{Down}
@@ -20,18 +20,18 @@ use Rattle.cluster_msgs.specs.declared.events.Asker.TheVariants.{Worker, Client}
 use Rattle.cluster_msgs.specs.declared.events.Event.{Event}
 use Rattle.cluster_msgs.specs.declared.events.Event.TheVariants.{Want, Release, Join, Lose, SeeLoss, Suspect, DeliverDown, DeliverUp, DeliverToClient, DeliverFromClient, Start, Finish, SendGather, ServeGather, ArriveGather, FailGather, Balance, Evict, Spill, LoseSpilled}
 use Rattle.cluster_rules.specs.Functions.{put}
-use Rattle.cluster_rules.specs.Sched.{Setting, Facts}
+use Rattle.cluster_rules.specs.Sched.{Setting}
 use Rattle.cluster_rules.specs.SchedTable.{up_keys, client_keys, change}
 use Rattle.cluster_rules.specs.SchedStep.{sched_step}
 use Rattle.cluster_rules.specs.Worker.{Ask, new_worker, has_any}
-use Rattle.cluster_rules.specs.WorkerStep.{WorkerStep, worker_step}
-use Rattle.cluster_rules.specs.Client.{ClientStep, client_step}
-use Rattle.cluster_rules.specs.World.{Job, World, Parcel, opening, is_connected, open_ask, parcel_of, without_parcel}
+use Rattle.cluster_rules.specs.WorkerStep.{worker_step}
+use Rattle.cluster_rules.specs.Client.{client_step}
+use Rattle.cluster_rules.specs.World.{Job, World, Parcel, opening, is_connected, open_ask, parcel_of}
 use Rattle.cluster_rules.specs.WorldStep.{scheduled, sends, client_sends, worked, client_worked, at_scheduler, at_worker, at_client, new_at, died, cut_off, take_down_first, take_up, take_up_first, take_to_client, take_from_client, ask_by, gathered_at, failed_at, serve, take_answer, fail_ask, spill, world_step}
 use Rattle.cluster_rules.specs.Enabled.{enabled}
 use Rattle.cluster_rules.specs.Runs.{LegalFrom, run_from, legal, reached}
 use Rattle.cluster_laws.specs.Moves.{world_after}
-use Rattle.cluster_rules.specs.Inside.{IsKey, AreKeys, down_keys, news_keys, item_keys, IsInsideWorker, IsInsideClient, IsInsideWorld}
+use Rattle.cluster_rules.specs.Inside.{IsKey, AreKeys, down_keys, news_keys, IsInsideWorker, IsInsideClient, IsInsideWorld}
 use Rattle.cluster_rules.proofs.WorkerLemmas.{at_one}
 use Rattle.cluster_laws.proofs.Framed.{change_framed, step_setting}
 use Rattle.cluster_rules.proofs.InsideWorker.{IsInsideStep, IsInsideEvent, in_step, sends_in, requested_in, parcels_with}

@@ -1,13 +1,12 @@
 -- The scheduler's errors are of faulty keys, and so is each failure that it tells a client. A client's steps keep what is true of it.
-use Rattle.std.proofs.Common.{◌≡◌, inl, ℕ, zero, suc, ◌+◌, Bool, true, false, not, ◌&&◌, ◌||◌, List, [], ◌∷◌, Option, Some, None, refl, sym, ◌∙◌, subst, cond, filter, find, fold}
+use Rattle.std.proofs.Common.{◌≡◌, inl, ℕ, zero, suc, ◌+◌, Bool, true, false, not, ◌&&◌, List, [], ◌∷◌, Option, Some, None, refl, sym, ◌∙◌, subst, cond, filter, fold}
 use Rattle.std.specs.Prelude.{◌==◌, nat_le, option_map, filter_map, flat_map}
 use Rattle.std.specs.List.{list_any, cons_option, AllByRecursion}
-use Rattle.std.proofs.lemmas.Bool.{false≢true, and_parts}
+use Rattle.std.proofs.lemmas.Bool.{and_parts}
 use Rattle.std.proofs.lemmas.Option.{none-some, same_Some}
 use Rattle.small_facts.proofs.Every.{all_join}
 use Rattle.cluster_msgs.specs.Dags.{IsEarlier}
 use Rattle.cluster_msgs.specs.Values.{cone}
-use Rattle.cluster_msgs.proofs.ValueLemmas.{cone-itself, cone-above}
 use Rattle.cluster_msgs.specs.Shape.{IsShape, deps_of}
 use Rattle.cluster_msgs.specs.declared.messages.Up.TheVariants.{TaskFinished, TaskErred, AddKeys, ReleaseWorkerData, MissingData, RequestRefreshWhoHas, StealResponse}
 use Rattle.cluster_msgs.specs.declared.messages.ToClient.{ToClient}
@@ -21,7 +20,7 @@ use Rattle.cluster_msgs.specs.declared.cores.ClientEvent.TheVariants.{Want, Rele
 use Rattle.cluster_rules.proofs.BlameLemmas.{blame_below}
 use Rattle.cluster_rules.specs.Functions.{put, put_pair, from_one}
 use Rattle.cluster_rules.specs.Derived.{below, is_in}
-use Rattle.cluster_rules.specs.Sched.{Setting, Facts, keys, deps, connected, holds, held, erred, is_on, holders, blame, blame_in, blame_from}
+use Rattle.cluster_rules.specs.Sched.{Setting, Facts, keys, deps, connected, holds, held, erred, is_on, holders, blame}
 use Rattle.cluster_rules.specs.Policies.{next_steal, next_drop}
 use Rattle.cluster_rules.specs.SchedTable.{Changed, plain, joined, left, is_this, finished, failed, add_key, add_keys, released, is_copy, lost_copy, is_asked_back, stolen_to, refused, answered, wants_more, wants_less, balanced, evicted, nothing_freed, change}
 use Rattle.cluster_rules.specs.SchedStep.{Stages, settle, was_held, was_erred, client_message, to_clients, tells_held, reply_message, client_messages, posted, finish_step, sched_step}

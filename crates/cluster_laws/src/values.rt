@@ -1,14 +1,13 @@
 //! Laws of the blocks that a cluster makes, keeps, sends and hands to a client: each is the value of its key. A world speaks
 //! of keys alone; here it has its blocks besides: each event moves them, and an operation runs on what its worker holds.
 ghost use Rattle.std.specs.Prelude.{◌≡◌, ◌↔◌, ℕ, true, List, Option, Some, is_some};
-ghost use Rattle.cluster_msgs.specs.Shape.{Shape, IsShape, deps_of};
+ghost use Rattle.cluster_msgs.specs.Shape.{IsShape, deps_of};
 ghost use Rattle.cluster_msgs.specs.Values.{val};
 ghost use Rattle.cluster_msgs.specs.declared.events.Event.{Event};
 ghost use Rattle.cluster_rules.specs.Sched.{Setting};
 ghost use Rattle.cluster_rules.specs.Runs.{legal, reached};
-ghost use Rattle.cluster_rules.specs.World.{World};
-ghost use Rattle.cluster_laws.specs.Blocks.{Cluster, job_of, setting_of, opening_cluster};
-ghost use Rattle.cluster_laws.specs.Moves.{cluster_step, cluster_run, LegalWithBlocks};
+ghost use Rattle.cluster_laws.specs.Blocks.{job_of, setting_of, opening_cluster};
+ghost use Rattle.cluster_laws.specs.Moves.{cluster_run, LegalWithBlocks};
 ghost use Rattle.cluster_laws.specs.AreValues.{AreValues, IsBlamed};
 
 use cluster_msgs::JobSpec;

@@ -1,5 +1,5 @@
 //! Laws of the world. Each is a function with an empty body.
-ghost use Rattle.std.specs.Prelude.{◌≡◌, ◌==◌, ◌&&◌, not, is_some, ◌∷◌, ◌<◌, ℕ, true, false, Bool, List, Some, length, slice_get};
+ghost use Rattle.std.specs.Prelude.{◌≡◌, ◌&&◌, not, is_some, ◌∷◌, ℕ, true, false, List, Some, slice_get};
 ghost use Rattle.cluster_msgs.specs.declared.messages.Down.{Down};
 ghost use Rattle.cluster_msgs.specs.declared.messages.Up.{Up};
 ghost use Rattle.cluster_msgs.specs.declared.messages.ToClient.{ToClient};

@@ -1,5 +1,5 @@
 //! Messages that come to workers and clients, and those that the scheduler takes.
-ghost use Rattle.std.specs.Prelude.{◌≡◌, ◌<◌, ◌≤◌, ◌+◌, ℕ, Err, true, false, drop, length, IsSomeAnd, OnOk};
+ghost use Rattle.std.specs.Prelude.{◌≡◌, ◌<◌, ◌≤◌, ◌+◌, ℕ, Err, true, false, length, IsSomeAnd, OnOk};
 ghost use Rattle.cluster_rules.specs.Runs.{event_limit};
 ghost use Rattle.cluster_rules.specs.Enabled.{front as first_of};
 ghost use Rattle.cluster_msgs.specs.declared.cores.WorkerEvent.TheVariants as to_worker;

@@ -1,5 +1,5 @@
 //! Requests that are served, and answers that arrive.
-ghost use Rattle.std.specs.Prelude.{◌≡◌, ◌<◌, ◌≤◌, ◌+◌, ◌++◌, ◌∷◌, [], ℕ, Err, true, false, cond, filter, length, IfOk, IsSomeAnd, OnOk};
+ghost use Rattle.std.specs.Prelude.{◌≡◌, ◌<◌, ◌≤◌, ◌+◌, ◌++◌, [], ℕ, Err, true, false, filter, length, IfOk, IsSomeAnd, OnOk};
 ghost use Rattle.std.specs.List.{filter_map, cons_option};
 ghost use Rattle.std.specs.Option.{option_copied};
 ghost use Rattle.cluster_msgs.specs.Jobs.{blocks_of};

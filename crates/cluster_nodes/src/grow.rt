@@ -1,5 +1,5 @@
 //! Workers that join, die, are cut off and spill.
-ghost use Rattle.std.specs.Prelude.{◌≡◌, ◌<◌, ◌≤◌, ◌+◌, ◌++◌, ◌∷◌, [], ℕ, true, false, None, length, IfOk, OnOk};
+ghost use Rattle.std.specs.Prelude.{◌≡◌, ◌<◌, ◌≤◌, ◌+◌, ◌++◌, ◌∷◌, [], ℕ, true, false, None, length, OnOk};
 ghost use Rattle.cluster_msgs.specs.Shape.{Shape, key_count};
 ghost use Rattle.cluster_rules.specs.Sched.{Facts};
 ghost use Rattle.cluster_rules.specs.WorldStep.{cut_off, spill};

@@ -1,7 +1,6 @@
 //! The nodes of a cluster that starts.
-ghost use Rattle.std.specs.Prelude.{◌≡◌, ◌≤◌, ◌+◌, ℕ, false, None, [], length, IfOk, OnOk};
+ghost use Rattle.std.specs.Prelude.{◌≡◌, ◌≤◌, ◌+◌, false, None, [], length, IfOk, OnOk};
 ghost use Rattle.std.specs.List.{AllByRecursion};
-ghost use Rattle.cluster_msgs.specs.Shape.{key_count};
 ghost use Rattle.cluster_rules.specs.Client.{new_client};
 ghost use Rattle.cluster_rules.specs.Sched.{Setting, sched_opening};
 ghost use Rattle.cluster_rules.specs.World.{opening};

@@ -1,5 +1,5 @@
 //! Where blocks stand: what came is put where it is missing, and what isn't counted goes.
-ghost use Rattle.std.specs.Prelude.{◌≡◌, ◌<◌, ◌≤◌, ◌&&◌, ◌==◌, ℕ, Bool, false, None, Some, cond, nat_lt};
+ghost use Rattle.std.specs.Prelude.{◌≡◌, ◌<◌, ◌≤◌, ◌&&◌, ◌==◌, ℕ, Bool, false, None, Some, cond};
 ghost use Rattle.cluster_rules.specs.Derived.{is_in};
 ghost use Rattle.cluster_rules.specs.Functions.{put, put_pair};
 ghost use Rattle.fact_rows.specs.Rows.{cell, height, width};

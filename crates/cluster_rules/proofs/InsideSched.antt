@@ -1,20 +1,18 @@
 -- The scheduler and the clients name no key that isn't there.
-use Rattle.std.proofs.Common.{◌≡◌, ℕ, zero, suc, ◌+◌, ◌<◌, ◌≤◌, Bool, true, false, not, ◌&&◌, ◌||◌, List, [], ◌∷◌, ◌++◌, Option, Some, None, refl, sym, ap, ◌∙◌, subst, arith, cond, is_some, filter, map, find, fold}
-use Rattle.std.specs.Prelude.{◌==◌, nat_lt, nat_le, option_map, filter_map, flat_map}
-use Rattle.std.specs.List.{list_any, cons_option, range_with_len, AllByRecursion}
-use Rattle.std.proofs.lemmas.Bool.{true≢false, false≢true, ltb-true, lt-ltb, and_parts}
+use Rattle.std.proofs.Common.{◌≡◌, ℕ, suc, ◌+◌, ◌<◌, Bool, true, false, not, ◌&&◌, List, [], ◌∷◌, Option, Some, None, refl, sym, ap, ◌∙◌, subst, arith, cond, filter, map, find, fold}
+use Rattle.std.specs.Prelude.{◌==◌, nat_le, option_map, filter_map, flat_map}
+use Rattle.std.specs.List.{list_any, cons_option, AllByRecursion}
+use Rattle.std.proofs.lemmas.Bool.{ltb-true, lt-ltb}
 use Rattle.std.proofs.lemmas.Option.{same_Some}
 use Rattle.small_facts.proofs.Every.{all_join, all_weaker, all_of_filter, all_of_map}
 use Rattle.cluster_msgs.specs.Dags.{IsEarlier}
 use Rattle.cluster_msgs.proofs.ValueLemmas.{cone-below}
 use Rattle.cluster_msgs.specs.Shape.{Shape, IsShape, key_count, deps_of}
 use Rattle.cluster_msgs.specs.declared.messages.Down.{Down}
-use Rattle.cluster_msgs.specs.declared.messages.Down.TheVariants.{ComputeTask, FreeKeys, StealRequest, RemoveReplicas, RefreshWhoHas}
-use Rattle.cluster_msgs.specs.declared.messages.Up.{Up}
+use Rattle.cluster_msgs.specs.declared.messages.Down.TheVariants.{ComputeTask, StealRequest, RemoveReplicas, RefreshWhoHas}
 use Rattle.cluster_msgs.specs.declared.messages.Up.TheVariants.{TaskFinished, TaskErred, AddKeys, ReleaseWorkerData, MissingData, RequestRefreshWhoHas, StealResponse}
 use Rattle.cluster_msgs.specs.declared.messages.ToClient.{ToClient}
 use Rattle.cluster_msgs.specs.declared.messages.ToClient.TheVariants.{KeyInMemory, LostData, ClientTaskErred}
-use Rattle.cluster_msgs.specs.declared.messages.FromClient.{FromClient as ClientMessage}
 use Rattle.cluster_msgs.specs.declared.messages.FromClient.TheVariants.{Want as WantMessage, Release as ReleaseMessage, Missing as MissingMessage}
 use Rattle.cluster_msgs.specs.declared.cores.Steal.{Steal}
 use Rattle.cluster_msgs.specs.declared.cores.SchedEvent.{SchedEvent}
@@ -26,17 +24,15 @@ use Rattle.cluster_msgs.specs.declared.cores.ClientEvent.TheVariants.{Want, Rele
 use Rattle.cluster_msgs.specs.declared.events.Asker.{Asker}
 use Rattle.cluster_rules.specs.Functions.{put, put_pair, from_one}
 use Rattle.cluster_rules.specs.Derived.{below, is_in}
-use Rattle.cluster_rules.specs.Choice.{is_before, unbeaten, least_by}
 use Rattle.cluster_rules.specs.Sched.{Facts, Setting, keys, deps, holds, held, erred, is_on, workers, holders, who_has, blame}
-use Rattle.cluster_rules.specs.Policies.{may_steal, steal_choices, steal_rank, next_steal, may_drop, most_loaded, drop_of, next_drop}
-use Rattle.cluster_rules.specs.SchedTable.{Changed, plain, joined, left, finished, failed, add_key, add_keys, released, is_copy, lost_copy, answered, wants_more, wants_less, nothing_freed, ask_message, balanced, evicted, change_up, change_client, change, up_keys, client_keys}
-use Rattle.cluster_rules.specs.SchedStep.{Stages, settle, lost, lost_keys, free_message, task_message, task_messages, all_to, to_worker, down_messages, was_held, was_erred, client_message, to_clients, tells_held, reply_message, client_messages, posted, mail, finish_step, sched_step}
+use Rattle.cluster_rules.specs.Policies.{may_steal, steal_choices, next_steal, may_drop, most_loaded, drop_of, next_drop}
+use Rattle.cluster_rules.specs.SchedTable.{Changed, plain, add_key, add_keys, is_copy, lost_copy, nothing_freed, ask_message, balanced, evicted, change, up_keys, client_keys}
+use Rattle.cluster_rules.specs.SchedStep.{Stages, settle, lost, lost_keys, free_message, task_message, task_messages, to_worker, down_messages, was_held, was_erred, client_message, to_clients, tells_held, reply_message, client_messages, posted, mail, finish_step, sched_step}
 use Rattle.cluster_rules.specs.Worker.{Ask, ask_to, without_ask}
 use Rattle.cluster_rules.specs.WorkerStep.{keys_of}
 use Rattle.cluster_rules.specs.Client.{ClientFacts, is_open, client_keys as own_keys, client_fetchable, client_wants, client_releases, hears, hear, client_ask, client_gets, client_misses, missing_message, client_answered, client_gathered_by, client_gathered, keeps_still, ClientStep, client_step}
 use Rattle.cluster_rules.specs.World.{Job, Parcel}
 use Rattle.cluster_rules.specs.WorldStep.{letters, client_sends, client_requested}
-use Rattle.cluster_rules.specs.Frame.{IsSettling}
 use Rattle.cluster_rules.proofs.SchedFrame.{step_settles}
 use Rattle.cluster_rules.specs.Inside.{IsKey, AreKeys, named_keys, down_keys, news_keys, item_keys, IsInsideClient}
 use Rattle.cluster_rules.proofs.BlameLemmas.{blame_below}

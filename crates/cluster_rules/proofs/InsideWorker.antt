@@ -1,15 +1,14 @@
 -- A worker names no key that isn't there.
-use Rattle.std.proofs.Common.{◌≡◌, ℕ, zero, suc, ◌+◌, ◌<◌, ◌≤◌, Bool, true, false, not, ◌&&◌, ◌||◌, List, [], ◌∷◌, ◌++◌, Option, Some, None, refl, sym, ap, ◌∙◌, subst, arith, cond, is_some, filter, map, fold, take, find}
+use Rattle.std.proofs.Common.{◌≡◌, ℕ, zero, suc, ◌+◌, ◌≤◌, Bool, true, false, not, ◌&&◌, List, [], ◌∷◌, ◌++◌, Option, Some, None, refl, sym, subst, arith, cond, filter, map, fold, take, find}
 use Rattle.std.specs.Prelude.{◌==◌, nat_lt, option_map}
-use Rattle.std.specs.List.{list_any, list_all, filter_map, cons_option, range_with_len, AllByRecursion}
-use Rattle.std.proofs.lemmas.Bool.{true≢false, false≢true, eqb-true, eq-eqb, and_parts, and_from, lt-ltb}
+use Rattle.std.specs.List.{filter_map, cons_option, range_with_len, AllByRecursion}
+use Rattle.std.proofs.lemmas.Bool.{false≢true, lt-ltb}
 use Rattle.std.proofs.lemmas.Option.{same_Some}
 use Rattle.small_facts.proofs.Every.{all_join, all_of_filter, all_of_map}
-use Rattle.cluster_msgs.specs.Shape.{Shape, key_count, deps_of}
+use Rattle.cluster_msgs.specs.Shape.{Shape, key_count}
 use Rattle.cluster_msgs.specs.declared.messages.Down.{Down}
 use Rattle.cluster_msgs.specs.declared.messages.Down.TheVariants.{ComputeTask, FreeKeys, StealRequest, RemoveReplicas, AcquireReplicas, RefreshWhoHas}
-use Rattle.cluster_msgs.specs.declared.messages.Up.{Up}
-use Rattle.cluster_msgs.specs.declared.messages.Up.TheVariants.{TaskFinished, TaskErred, AddKeys, ReleaseWorkerData, MissingData, RequestRefreshWhoHas, StealResponse}
+use Rattle.cluster_msgs.specs.declared.messages.Up.TheVariants.{TaskFinished, MissingData, RequestRefreshWhoHas, StealResponse}
 use Rattle.cluster_msgs.specs.declared.cores.Instruction.{Instruction}
 use Rattle.cluster_msgs.specs.declared.cores.Instruction.TheVariants.{Execute, Gather, Keep, Drop, Send}
 use Rattle.cluster_msgs.specs.declared.cores.WorkerEvent.{WorkerEvent}
@@ -19,10 +18,10 @@ use Rattle.cluster_rules.specs.Functions.{put}
 use Rattle.cluster_rules.specs.Derived.{below, is_in}
 use Rattle.cluster_rules.specs.SchedTable.{up_keys}
 use Rattle.cluster_rules.specs.Worker.{Ask, WorkerFacts, worker_keys, awaited, is_wanted, wstate, is_ready_state, is_fetch_state, is_missing_state, would_start, item_at, copy_at, fetchable, ask_items, ask_to, without_ask, with_ask}
-use Rattle.cluster_rules.specs.WorkerStep.{WorkerStep, quiet, after_out, each_key, taken, set_holders, into_mem, give_up, given, free_key, yields, asked_back, remove_replica, add_message, and_then, remove_replicas, acquire, refresh, take_down, start, Arrivals, arrive_as, arrive, counted, arrived, stopped, erred_as, done, keys_of, ask_with, ask_peer, lose_holders, report_missing, not_found, answered_ask, gathered_by, gathered, lose_data, worker_row, unasked_keys, ask_holders, seek_missing, worker_step, is_key, worker_takes}
+use Rattle.cluster_rules.specs.WorkerStep.{WorkerStep, quiet, after_out, each_key, taken, set_holders, into_mem, give_up, given, free_key, yields, asked_back, remove_replica, add_message, remove_replicas, acquire, refresh, take_down, start, Arrivals, arrive_as, arrive, arrived, stopped, erred_as, done, keys_of, ask_peer, lose_holders, not_found, answered_ask, gathered_by, gathered, worker_row, unasked_keys, worker_step}
 use Rattle.cluster_rules.specs.World.{Parcel, parcel_before, with_parcel}
 use Rattle.cluster_rules.specs.WorldStep.{sends, requested}
-use Rattle.cluster_rules.specs.Inside.{IsKey, AreKeys, named_keys, down_keys, item_keys, IsInsideWorker}
+use Rattle.cluster_rules.specs.Inside.{IsKey, AreKeys, down_keys, item_keys, IsInsideWorker}
 use Rattle.cluster_rules.proofs.WorkerLemmas.{at_one}
 
 pub all_take_in : {A : Type 0} (P : A → Type 0) (n : ℕ) (xs : List A) → AllByRecursion P xs → AllByRecursion P (take n xs)

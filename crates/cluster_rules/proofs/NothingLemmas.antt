@@ -1,13 +1,13 @@
 -- Facts by which nothing is wanted, held or given to anybody.
-use Rattle.std.proofs.Common.{◌≡◌, ℕ, zero, suc, ◌+◌, ◌*◌, ◌<◌, arith, Bool, false, not, cond, ◌&&◌, ◌||◌, List, [], ◌∷◌, Option, Some, None, refl, sym, ap, ◌∙◌, is_some}
+use Rattle.std.proofs.Common.{◌≡◌, ℕ, zero, suc, ◌+◌, ◌*◌, ◌<◌, arith, Bool, false, not, cond, ◌&&◌, ◌||◌, List, [], ◌∷◌, None, refl, ap, ◌∙◌, is_some}
 use Rattle.std.specs.Prelude.{nat_le}
 use Rattle.std.proofs.lemmas.Bool.Decides.{nat_tests}
 use Rattle.std.specs.List.{list_any}
 use Rattle.std.proofs.Math.Bool.{and-false}
 use Rattle.cluster_msgs.specs.Shape.{work_of, nbytes_of}
-use Rattle.cluster_rules.specs.Functions.{total, count, from_one}
+use Rattle.cluster_rules.specs.Functions.{total, from_one}
 use Rattle.cluster_rules.specs.Derived.{below, is_in, err, err_in, reach, reach_in}
-use Rattle.cluster_rules.specs.Sched.{Facts, IsSound, keys, deps, holds, held, erred, wanted, need, open_key, is_on, tasks, occupancy, bytes_held, holder_count, waiters, threads_of, full}
+use Rattle.cluster_rules.specs.Sched.{Facts, keys, deps, holds, held, erred, wanted, need, open_key, is_on, tasks, occupancy, bytes_held, holder_count, waiters, threads_of, full}
 
 none_any : {A : Type 0} (p : A → Bool) (xs : List A) → ((x : A) → p x ≡ false) → list_any p xs ≡ false
 none_any p [] h = refl

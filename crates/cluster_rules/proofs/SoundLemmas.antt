@@ -1,31 +1,17 @@
 -- Each event that is taken keeps every fact in range.
-use Rattle.std.proofs.Common.{◌≡◌, ℕ, zero, suc, ◌+◌, ◌<◌, ◌≤◌, Bool, true, false, not, cond, ◌&&◌, ◌||◌, List, [], ◌∷◌, ◌++◌, length, Option, Some, None, refl, sym, ap, ◌∙◌, subst, is_some, is_none, inl, inr, ◌⊎◌, ⊎_elim, zero-add}
+use Rattle.std.proofs.Common.{◌≡◌, ℕ, ◌+◌, ◌<◌, ◌≤◌, Bool, true, false, cond, ◌&&◌, List, [], ◌∷◌, length, Option, Some, None, refl, sym, ap, ◌∙◌, subst, is_some}
 use Rattle.std.specs.Prelude.{nat_le, nat_lt}
-use Rattle.std.proofs.lemmas.Bool.{false≢true, true≢false, eqb-true, ltb-true, leb-true, and_parts, or_parts, or_from}
-use Rattle.std.proofs.lemmas.List.Elements.{filter-append}
+use Rattle.std.proofs.lemmas.Bool.{false≢true, eqb-true, ltb-true, and_parts}
 use Rattle.std.proofs.Math.Dec.{eqb, ltb}
-use Rattle.std.specs.List.{filter, range_with_len, list_all, Contains}
+use Rattle.std.specs.List.{filter, list_all}
 use Rattle.std.proofs.Math.Bool.{and-false}
 use Rattle.small_facts.proofs.Numbers.{unequal_past}
 use Rattle.small_facts.proofs.Options.{cond_none, some_not_none}
 use Rattle.cluster_msgs.specs.Shape.{IsShape}
-use Rattle.cluster_msgs.specs.declared.messages.Up.{Up}
-use Rattle.cluster_msgs.specs.declared.messages.Up.TheVariants.{TaskFinished, TaskErred, AddKeys, ReleaseWorkerData, MissingData, RequestRefreshWhoHas, StealResponse}
-use Rattle.cluster_msgs.specs.declared.messages.FromClient.{FromClient as FromClientMessage}
-use Rattle.cluster_msgs.specs.declared.messages.FromClient.TheVariants.{Want, Release, Missing}
-use Rattle.cluster_msgs.specs.declared.cores.Steal.{Steal}
-use Rattle.cluster_msgs.specs.declared.cores.SchedEvent.{SchedEvent}
-use Rattle.cluster_msgs.specs.declared.cores.SchedEvent.TheVariants.{Join, Leave, FromWorker, FromClient, Balance, Evict}
 use Rattle.cluster_rules.specs.Functions.{put, put_pair, from_one}
-use Rattle.cluster_rules.specs.Derived.{below, is_in}
-use Rattle.cluster_rules.specs.Choice.{IsBest, IsLeastOf}
-use Rattle.cluster_rules.specs.Sched.{Setting, Facts, IsSound, sched_opening, keys, known, need, ready, holds, held, is_on, is_for, workers, connected}
-use Rattle.cluster_rules.specs.Policies.{place, place_rank, candidates, candidates_by, or_else, next_steal, steal_rank, steal_choices, may_steal, IsStealChoice, next_drop}
-use Rattle.cluster_rules.specs.SchedTable.{Changed, plain, change, change_up, change_client, joined, left, finished, failed, add_key, add_keys, released, lost_copy, is_copy, is_this, answered, stolen_by, stolen_to, refused, is_asked_back, wants_more, wants_less, balanced, evicted, are_keys, sched_takes}
-use Rattle.cluster_rules.specs.SchedStep.{drop_bad, drop_has, drop_on, give, place_one, place_keys, place_all, settle, posted, down_messages, finish_step, sched_step}
-use Rattle.cluster_rules.proofs.ChoiceLemmas.{least_by_least}
-use Rattle.cluster_rules.proofs.Members.{filter_from}
-use Rattle.cluster_rules.proofs.PolicyLemmas.{worker_from, steal_choice_from}
+use Rattle.cluster_rules.specs.Sched.{Setting, Facts, IsSound, keys, holds, held, is_on, is_for, connected}
+use Rattle.cluster_rules.specs.Policies.{place}
+use Rattle.cluster_rules.specs.SchedTable.{Changed, plain, change, finished, failed, add_key, add_keys, released, lost_copy, is_copy, is_this, answered, stolen_by, stolen_to, refused, is_asked_back, are_keys}
 
 -- what a change of facts has to keep where nobody joins or leaves
 pub record IsBounded (f g : Facts) : Type 0 where

@@ -1,10 +1,10 @@
 -- Each event that is taken keeps every fact in range: joining, leaving, settling, and the whole step.
-use Rattle.std.proofs.Common.{◌≡◌, ℕ, zero, suc, ◌+◌, ◌<◌, ◌≤◌, Bool, true, false, not, cond, ◌&&◌, ◌||◌, List, [], ◌∷◌, ◌++◌, length, Option, Some, None, refl, sym, ap, ◌∙◌, subst, arith, is_some, is_none, inl, inr, ◌⊎◌, ⊎_elim, length-append}
+use Rattle.std.proofs.Common.{◌≡◌, ℕ, ◌+◌, ◌<◌, ◌≤◌, Bool, true, false, not, cond, ◌&&◌, ◌||◌, List, [], ◌∷◌, ◌++◌, length, Option, Some, None, refl, sym, ap, ◌∙◌, subst, arith, is_some, is_none, inl, inr, ◌⊎◌, ⊎_elim, length-append}
 use Rattle.std.specs.Prelude.{nat_le, nat_lt}
-use Rattle.std.proofs.lemmas.Bool.{false≢true, true≢false, eqb-true, ltb-true, leb-true, and_parts}
+use Rattle.std.proofs.lemmas.Bool.{false≢true, eqb-true, ltb-true, leb-true, and_parts}
 use Rattle.std.proofs.lemmas.List.Elements.{filter-append}
 use Rattle.std.proofs.Math.Dec.{eqb, ltb}
-use Rattle.std.specs.List.{filter, range_with_len, list_any, list_all, Contains, AllByRecursion}
+use Rattle.std.specs.List.{filter, list_any, Contains, AllByRecursion}
 use Rattle.std.proofs.Math.Bool.{and-false}
 use Rattle.std.proofs.lemmas.Option.{none-some}
 use Rattle.small_facts.proofs.Numbers.{unequal_between}
@@ -20,9 +20,9 @@ use Rattle.cluster_msgs.specs.declared.cores.SchedEvent.{SchedEvent}
 use Rattle.cluster_msgs.specs.declared.cores.SchedEvent.TheVariants.{Join, Leave, FromWorker, FromClient, Balance, Evict}
 use Rattle.cluster_rules.specs.Functions.{put, from_one}
 use Rattle.cluster_rules.specs.Derived.{below, is_in}
-use Rattle.cluster_rules.specs.Choice.{IsBest, IsLeastOf}
+use Rattle.cluster_rules.specs.Choice.{IsLeastOf}
 use Rattle.cluster_rules.specs.Sched.{Setting, Facts, IsSound, sched_opening, keys, deps, known, need, ready, holds, is_on, is_for, workers, connected, full}
-use Rattle.cluster_rules.specs.Policies.{place, place_rank, candidates, candidates_by, or_else, next_steal, steal_rank, steal_choices, may_steal, IsStealChoice, next_drop}
+use Rattle.cluster_rules.specs.Policies.{place, place_rank, candidates, candidates_by, or_else, next_steal, steal_rank, steal_choices, may_steal, next_drop}
 use Rattle.cluster_rules.specs.SchedTable.{Changed, plain, change, change_up, change_client, joined, left, wants_more, wants_less, balanced, evicted, are_keys, up_keys, client_keys, sched_takes}
 use Rattle.cluster_rules.specs.SchedStep.{drop_bad, drop_has, drop_on, give, place_one, place_keys, place_all, settle, posted, down_messages, finish_step, sched_step}
 use Rattle.cluster_rules.proofs.ChoiceLemmas.{least_by_least, contains_head, contains_tail}

@@ -1,10 +1,10 @@
 -- Sums and counts over lists of numbers.
-use Rattle.std.proofs.Common.{◌≡◌, ℕ, zero, suc, suc-mul, ◌+◌, ◌*◌, ◌<◌, ◌≤◌, ◌^◌, Bool, true, false, cond, List, [], ◌∷◌, ◌++◌, length, refl, sym, ap, ◌∙◌, arith}
+use Rattle.std.proofs.Common.{◌≡◌, ℕ, suc, suc-mul, ◌+◌, ◌*◌, ◌≤◌, ◌^◌, Bool, true, false, cond, List, [], ◌∷◌, ◌++◌, length, refl, ap, ◌∙◌, arith}
 use Rattle.std.specs.List.{filter, Contains}
 use Rattle.std.proofs.lemmas.List.FromFn.{length-range_with_len}
 use Rattle.cluster_msgs.specs.Shape.{work_of, nbytes_of}
 use Rattle.cluster_rules.specs.Sched.{Facts, IsSound, keys, holds, is_on, tasks, occupancy, bytes_held}
-use Rattle.cluster_rules.specs.Functions.{total, count, put}
+use Rattle.cluster_rules.specs.Functions.{total, count}
 use Rattle.cluster_rules.specs.Derived.{below}
 use Rattle.cluster_rules.proofs.SchedLemmas.{below-more}
 use Rattle.cluster_rules.proofs.ChoiceLemmas.{contains_head, contains_tail}

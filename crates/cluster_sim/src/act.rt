@@ -1,6 +1,5 @@
 //! One event of the world, counted.
 ghost use Rattle.std.specs.Prelude.{◌≡◌, ◌++◌, ◌∷◌, ◌<◌, ◌^◌, ◌-◌, true, [], List, length, OnOk, Err};
-ghost use Rattle.cluster_msgs.specs.declared.messages.Message.{Message as AnyMessage};
 ghost use Rattle.cluster_rules.specs.Enabled.{enabled, message};
 ghost use Rattle.cluster_rules.specs.Report.{Taken, is_join, how_many};
 ghost use Rattle.cluster_world.specs.Worlds.{world as world_of};

@@ -1,6 +1,5 @@
 //! Whether the client's wait is over.
 ghost use Rattle.std.specs.Prelude.{◌≡◌, ◌<◌, ℕ, true, false, is_some, find, option_and_then, Some, None};
-ghost use Rattle.std.specs.List.{list_all};
 ghost use Rattle.std.specs.Option.{option_map};
 ghost use Rattle.cluster_rules.specs.Client.{ClientFacts, client_keys};
 ghost use Rattle.cluster_rules.specs.Derived.{is_in};

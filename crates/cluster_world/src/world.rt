@@ -1,7 +1,6 @@
 //! The world of a whole cluster.
 ghost use Rattle.std.specs.Prelude.{List, [], ◌∷◌, ◌++◌, ◌≡◌, ◌≢◌, ◌↔◌, ◌+◌, ◌-◌, ◌≤◌, ◌^◌, Bool, true, false, length, min, slice_get, IfOk, OnOk, Err, Some, None, is_some, IfSome};
-ghost use Rattle.std.specs.Option.{option_map, option_copied};
-ghost use Rattle.cluster_msgs.specs.Jobs.{Rose};
+ghost use Rattle.std.specs.Option.{option_copied};
 ghost use Rattle.cluster_msgs.specs.Shape.{deps_of};
 ghost use Rattle.cluster_msgs.specs.Values.{val};
 ghost use Rattle.cluster_rules.specs.Client.{done};

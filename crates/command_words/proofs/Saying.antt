@@ -1,17 +1,13 @@
 -- What the words say, in one way.
-use Rattle.std.proofs.Common.{◌≡◌, ℕ, ◌≤◌, ◌-◌, ◌*◌, ◌^◌, Bool, true, false, List, [], length, take, codes, string_bytes, refl, sym, subst, ◌∙◌, arith, Option, Some, None, true≢false}
-use Rattle.std.specs.Prelude.{slice_index_or, is_some}
+use Rattle.std.proofs.Common.{◌≡◌, ℕ, ◌≤◌, ◌-◌, ◌*◌, ◌^◌, Bool, true, false, List, [], length, take, codes, string_bytes, refl, sym, subst, ◌∙◌, arith, Option, Some, None}
 use Rattle.std.proofs.lemmas.List.FromFn.{length-range_with_len}
 use Rattle.std.proofs.Math.Seq.{take-nil}
 use Rattle.small_facts.proofs.Options.{same_in_some}
-use Rattle.clap.specs.declared.parser.matches.ArgMatches.{ArgMatches}
 use Rattle.cluster_msgs.specs.declared.events.Item.{Item}
 use Rattle.cluster_rules.specs.Functions.{from_one}
-use Rattle.command_words.specs.Apps.{run_app, sim_app, plain_app, gen_app}
-use Rattle.command_words.specs.Given.{HasFlag, HasNumber, IsNoText, IsRead, IsUnread, text_in}
-use Rattle.command_words.specs.Scripts.{IsNoScript}
+use Rattle.command_words.specs.Given.{HasFlag, HasNumber}
 use Rattle.command_words.specs.Walks.{IsCrew, IsWalk, after_items, crew_of}
-use Rattle.command_words.specs.Words.{AreGenSettings, AreRunSettings, HasGenNumbers, HasNoWalk, HasScript, HasSeed, HasSettings, HasTransport, IsGen, IsNoGen, IsNoPlain, IsNoRun, IsNotGiven, IsPlain, IsRun, IsSettings, IsSim, IsWhy, SameRun, SameSim, SaysGen, SaysNoGen, SaysNoRun, SaysNoSim, SaysRun, SaysSim}
+use Rattle.command_words.specs.Words.{AreGenSettings, AreRunSettings, HasGenNumbers, HasNoWalk, HasScript, HasSeed, HasSettings, IsGen, IsNotGiven, IsPlain, IsRun, IsSettings, IsSim, SameRun, SameSim}
 use Rattle.command_words.specs.declared.settings.RunSettings.{RunSettings}
 use Rattle.command_words.specs.declared.run.RunWords.{RunWords}
 use Rattle.command_words.specs.declared.sim.Settings.{Settings}

@@ -1,5 +1,5 @@
 //! All words of `gen`.
-ghost use Rattle.std.specs.Prelude.{◌≤◌, ◌*◌, ℕ, IfOk, IfErr, map, string_bytes, MatchBool, MatchOption};
+ghost use Rattle.std.specs.Prelude.{◌≤◌, ◌*◌, IfOk, IfErr, map, string_bytes, MatchBool, MatchOption};
 ghost use Rattle.command_words.specs.Given.{text_in};
 ghost use Rattle.command_words.specs.Words.{HasGenNumbers, IsGen, IsNoGen, SaysGen, SaysNoGen};
 ghost use Rattle.command_words.specs.declared.generate.GenWords.{GenWords as AnyWords};

@@ -1,6 +1,6 @@
 //! All words of `run`.
-ghost use Rattle.std.specs.Prelude.{◌≡◌, ◌^◌, ℕ, IfOk, IfErr, Some, codes, map, string_bytes, MatchBool, MatchOption};
-ghost use Rattle.command_words.specs.Given.{HasFlag, HasNumber, text_in};
+ghost use Rattle.std.specs.Prelude.{◌^◌, ℕ, IfOk, IfErr, Some, codes, map, string_bytes, MatchBool, MatchOption};
+ghost use Rattle.command_words.specs.Given.{HasNumber, text_in};
 ghost use Rattle.command_words.specs.Words.{HasSettings, HasTransport, IsNoRun, IsRun, SaysNoRun, SaysRun};
 
 use crate::apps::run_matches;

@@ -1,5 +1,5 @@
 //! All words of `sim`.
-ghost use Rattle.std.specs.Prelude.{◌≡◌, ◌-◌, ◌^◌, ℕ, IfOk, IfErr, codes, map, string_bytes, MatchOption};
+ghost use Rattle.std.specs.Prelude.{◌-◌, ◌^◌, ℕ, IfOk, IfErr, codes, map, string_bytes, MatchOption};
 ghost use Rattle.command_words.specs.Given.{text_in};
 ghost use Rattle.command_words.specs.Numbers.{IsNumber};
 ghost use Rattle.command_words.specs.Words.{HasSeed, IsSettings, IsSim, IsWhy, SaysNoSim, SaysSim};

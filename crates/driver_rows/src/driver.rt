@@ -1,6 +1,6 @@
 //! Drivers, each with a pass of every cell.
 
-ghost use Rattle.std.specs.Prelude.{◌≡◌, ℕ, ◌<◌, length};
+ghost use Rattle.std.specs.Prelude.{◌≡◌, ◌<◌, length};
 ghost use Rattle.std.specs.Thread.{IsSend, IsSync};
 
 use crate::bell::{Bell, Manner};

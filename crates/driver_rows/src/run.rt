@@ -1,6 +1,5 @@
 //! Drivers are made, run, and taken back; then all cells are closed.
-ghost use Rattle.std.specs.Prelude.{◌≡◌, ℕ, ◌+◌, ◌<◌, ◌≤◌, ◌^◌, [], IfOk, IfErr, map, length, vec_len};
-ghost use Rattle.std.specs.Vec.{vec_capacity};
+ghost use Rattle.std.specs.Prelude.{◌≡◌, ◌+◌, ◌<◌, ◌≤◌, ◌^◌, [], IfOk, IfErr, map, vec_len};
 ghost use Rattle.turn_cell.specs.Rows.{berth_of};
 ghost use Rattle.driver_rows.specs.Closing.{AreClosed};
 

@@ -1,5 +1,4 @@
 //! What nodes do in their turns, as whoever runs them tells.
-ghost use Rattle.std.specs.Prelude.{◌≡◌};
 
 use cluster_msgs::Label;
 use std::sync::Wait;

@@ -1,9 +1,9 @@
 //! What each event makes of a client's facts, and the instructions that it gives.
-ghost use Rattle.std.specs.Prelude.{◌≡◌, ◌++◌, ◌<◌, ◌^◌, ℕ, true, cond, [], ◌∷◌, fold, filter, not, All, OnOk, OnErr};
+ghost use Rattle.std.specs.Prelude.{◌≡◌, ◌++◌, ◌<◌, ◌^◌, true, [], fold, All, OnOk, OnErr};
 ghost use Rattle.std.specs.List.{cons_option, filter_map};
 ghost use Rattle.cluster_msgs.specs.Shape.{key_count};
 ghost use Rattle.cluster_rules.specs.Derived.{is_in};
-ghost use Rattle.cluster_rules.specs.Client.{client_wants, client_releases, client_ask, client_gathered, client_gets, client_misses, client_step, client_takes, can_hear, hear, are_client_keys, missing_message};
+ghost use Rattle.cluster_rules.specs.Client.{client_wants, client_releases, client_ask, client_gathered, client_gets, client_step, client_takes, can_hear, hear, are_client_keys, missing_message};
 ghost use Rattle.gather_client.specs.Stored.{facts_of};
 ghost use Rattle.gather_client.specs.Steps.{wanted, released, is_found, take_step, miss_step, miss_message, after_found, after_missed};
 ghost use Rattle.gather_client.specs.Inner.{IsGrown};

@@ -1,7 +1,7 @@
 //! The stored facts of a client. Each call changes one fact, or answers one.
 #![tactic(auto, unfolding(crate::specs::Stored::facts_of))]
 
-ghost use Rattle.std.specs.Prelude.{◌≡◌, ◌==◌, ◌&&◌, ◌+◌, ◌<◌, ◌≤◌, ◌^◌, ℕ, true, false, None, Some, [], not, is_some, nat_eq, cond, length, All, IfOk, IfSome, OnOk, OnErr};
+ghost use Rattle.std.specs.Prelude.{◌≡◌, ◌==◌, ◌&&◌, ◌+◌, ◌<◌, ◌≤◌, ◌^◌, ℕ, true, false, None, [], not, is_some, nat_eq, cond, length, All, IfOk, IfSome, OnOk, OnErr};
 ghost use Rattle.std.specs.Option.{option_map};
 ghost use Rattle.std.specs.List.{list_any};
 ghost use Rattle.cluster_msgs.specs.Shape.{IsShape, key_count};

@@ -1,5 +1,5 @@
 -- A table that the test passes is closed and has no conflict.
-use Rattle.std.proofs.Common.{◌≡◌, ℕ, zero, suc, ◌<◌, ◌≤◌, ◌+◌, ◌*◌, ◌/◌, ◌%◌, ◌^◌, Bool, true, false, ◌||◌, ◌&&◌, not, cond, nat_eq, nat_lt, is_some, List, [], ◌∷◌, ◌++◌, inl, inr, length, Some, None, refl, ap, sym, subst, ◌∙◌, arith}
+use Rattle.std.proofs.Common.{◌≡◌, ℕ, zero, suc, ◌<◌, ◌≤◌, ◌+◌, ◌^◌, Bool, true, false, ◌||◌, ◌&&◌, not, cond, nat_eq, nat_lt, is_some, List, [], ◌∷◌, inl, inr, length, Some, None, refl, ap, sym, subst, ◌∙◌, arith}
 use Rattle.std.specs.Prelude.{Option, bit_and, bit_or, slice_get, slice_index_or}
 use Rattle.std.specs.Int.{bit_at}
 use Rattle.std.proofs.lemmas.Nat.Bits.{bit_at_or, bit_at_and, bit_at-pow_same, bit_at-zero, bit_at-lt}
@@ -7,10 +7,10 @@ use Rattle.std.proofs.lemmas.Bool.{and_parts, or_cases, eqb-true, ltb-true, fals
 use Rattle.std.proofs.lemmas.Option.{get_or_from_slice_get}
 use Rattle.grammar.specs.declared.symbol.Symbol.{Symbol}
 use Rattle.grammar.specs.declared.symbol.Symbol.TheVariants.{Token, Part, Action}
-use Rattle.grammar.specs.Grammars.{Grammar, cost}
+use Rattle.grammar.specs.Grammars.{cost}
 use Rattle.grammar.specs.Tables.{Rows, rule_maybe, entry_rule, on_row, grammar_of, all_at, costs_less, moves_end}
-use Rattle.grammar.specs.Tests.{Certificate, mask_at, flag_at, begin_mask, may_be_empty, within, followed, named, ranked, on_passes, on_mask, other_passes, lower_rule, lower_on, row_of, row_passes, is_ll1}
-use Rattle.grammar.specs.Follow.{Tables, begins, empties, Followed, tables_of}
+use Rattle.grammar.specs.Tests.{Certificate, mask_at, flag_at, begin_mask, may_be_empty, within, followed, named, on_passes, on_mask, other_passes, lower_rule, lower_on, row_of, row_passes, is_ll1}
+use Rattle.grammar.specs.Follow.{begins, empties, Followed, tables_of}
 use Rattle.grammar.proofs.Clean.{IsClean, IsBounded}
 
 is-one : (n : ℕ) → nat_eq n 1 ≡ true → n ≡ 1

@@ -1,11 +1,11 @@
 -- Where the tables are closed and no rule is in conflict, the next token decides.
-use Rattle.std.proofs.Common.{◌≡◌, ℕ, zero, suc, ◌<◌, ◌≤◌, ◌+◌, Bool, true, false, ◌||◌, ◌&&◌, List, [], ◌∷◌, ◌++◌, ◌⊎◌, inl, inr, Some, None, refl, ap, sym, subst, ◌∙◌, arith}
+use Rattle.std.proofs.Common.{◌≡◌, ℕ, zero, suc, ◌<◌, ◌≤◌, ◌+◌, Bool, true, false, ◌||◌, ◌&&◌, List, [], ◌∷◌, ◌++◌, ◌⊎◌, inl, inr, Some, refl, ap, sym, subst, ◌∙◌, arith}
 use Rattle.std.proofs.lemmas.Bool.{or_cases, and_parts, or_left, or_right, and_from, eq-eqb}
 use Rattle.small_facts.proofs.Options.{same_in_some}
 use Rattle.grammar.specs.declared.symbol.Symbol.{Symbol}
 use Rattle.grammar.specs.declared.symbol.Symbol.TheVariants.{Token, Part, Action}
 use Rattle.grammar.specs.Follow.{Tables, begins, empties, Followed, nothing}
-use Rattle.grammar.specs.Grammars.{Grammar, Event, took, did, tokens, DerivesIn, Derives, cost, effort}
+use Rattle.grammar.specs.Grammars.{Grammar, Event, took, tokens, DerivesIn, cost, effort}
 
 pub record IsClean (g : Grammar) (t : Tables) : Type 0 where
   pub starts_on : (p k : ℕ) (rule : List Symbol) → g.on p k ≡ Some rule → t.starts p k ≡ true

@@ -1,6 +1,5 @@
 -- Derivations put together and taken apart.
-use Rattle.std.proofs.Common.{◌≡◌, ℕ, zero, suc, ◌+◌, List, [], ◌∷◌, ◌++◌, ◌⊎◌, inl, inr, Some, None, refl, ap, sym, subst, ◌∙◌, append_assoc}
-use Rattle.std.specs.Prelude.{Option}
+use Rattle.std.proofs.Common.{◌≡◌, ℕ, zero, suc, ◌+◌, List, [], ◌∷◌, ◌++◌, inl, inr, Some, refl, ap, sym, subst, append_assoc}
 use Rattle.grammar.specs.declared.symbol.Symbol.{Symbol}
 use Rattle.grammar.specs.declared.symbol.Symbol.TheVariants.{Token, Part, Action}
 use Rattle.grammar.specs.Grammars.{Grammar, Event, took, did, did_all, tokens, DerivesIn, Derives}

@@ -1,13 +1,13 @@
 -- What each move means for what is derived.
-use Rattle.std.proofs.Common.{◌≡◌, ℕ, zero, suc, ◌<◌, ◌≤◌, ◌+◌, Bool, true, false, nat_eq, List, [], ◌∷◌, ◌++◌, ◌⊎◌, inl, inr, Some, None, refl, ap, sym, subst, ◌∙◌, arith}
+use Rattle.std.proofs.Common.{◌≡◌, ℕ, zero, suc, ◌<◌, ◌+◌, Bool, true, false, nat_eq, List, [], ◌∷◌, ◌++◌, inl, inr, Some, None, refl, ap, sym, subst, ◌∙◌, arith}
 use Rattle.std.specs.Prelude.{Option}
 use Rattle.std.proofs.lemmas.Bool.{eqb-true, eqb-false}
 use Rattle.small_facts.proofs.Options.{same_in_some}
 use Rattle.grammar.specs.declared.symbol.Symbol.{Symbol}
 use Rattle.grammar.specs.declared.symbol.Symbol.TheVariants.{Token, Part, Action}
 use Rattle.grammar.specs.Follow.{Tables, Followed, nothing}
-use Rattle.grammar.specs.Grammars.{Grammar, Event, took, did, tokens, Begins, DerivesIn, Derives, Move, takes, does, turns, stops, ends, on_next, turned, taken_if, move, cost, effort}
-use Rattle.grammar.proofs.Clean.{IsClean, IsBounded, decide-on, followed-on, followed-other, effort-append}
+use Rattle.grammar.specs.Grammars.{Grammar, Event, took, did, tokens, Begins, DerivesIn, Derives, takes, does, turns, stops, ends, on_next, turned, taken_if, move, effort}
+use Rattle.grammar.proofs.Clean.{IsClean, IsBounded, decide-on, effort-append}
 
 -- ---- which moves there are
 

@@ -1,17 +1,15 @@
 -- What one move of the reader does to the step that it is part of.
-use Rattle.std.proofs.Common.{◌≡◌, ℕ, zero, suc, ◌<◌, ◌≤◌, ◌+◌, Bool, true, List, [], ◌∷◌, ◌++◌, Some, None, refl, ap, sym, subst, ◌∙◌, arith, append-nil, append_assoc}
+use Rattle.std.proofs.Common.{◌≡◌, ℕ, ◌<◌, ◌+◌, List, [], ◌∷◌, ◌++◌, Some, None, refl, ap, sym, subst, ◌∙◌, arith, append-nil, append_assoc}
 use Rattle.std.specs.Prelude.{Option}
 use Rattle.grammar.specs.declared.symbol.Symbol.{Symbol}
-use Rattle.grammar.specs.declared.symbol.Symbol.TheVariants.{Token, Part, Action}
+use Rattle.grammar.specs.declared.symbol.Symbol.TheVariants.{Token}
 use Rattle.grammar.specs.declared.reply.Reply.{Reply}
 use Rattle.grammar.specs.declared.reply.Reply.TheVariants.{Taken, Refused}
 use Rattle.grammar.specs.Grammars.{Grammar, Move, takes, does, turns, stops, ends, move, effort, Step, taken, refused, doing, after_move, step}
-use Rattle.grammar.specs.Tables.{Rows, grammar_of, moves_end}
 use Rattle.grammar.specs.Reading.{step_of, after_actions, Moved}
 use Rattle.grammar.proofs.Clean.{IsBounded}
 use Rattle.grammar.proofs.Moves.{turns-effort, does-effort}
 use Rattle.grammar.proofs.Steps.{first-move}
-use Rattle.grammar.proofs.Checked.{rows-bounded}
 
 pub moved-nothing : (g : Grammar) (next : Option ℕ) (l left : List Symbol) (r : Reply) (old : List ℕ) → l ≡ [] → left ≡ [] → Moved (move g [] next) (Some r) [] old old → Moved (move g l next) (Some r) left old old
 moved-nothing g next l left r old a b m = subst (λ x. Moved (move g x next) (Some r) left old old) (sym a) (subst (λ x. Moved (move g [] next) (Some r) x old old) (sym b) m)

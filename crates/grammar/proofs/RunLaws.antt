@@ -1,15 +1,15 @@
 -- The laws of steps and runs, for a table that passes its tests.
-use Rattle.std.proofs.Common.{◌≡◌, ℕ, zero, suc, ◌<◌, ◌≤◌, ◌+◌, Bool, true, false, List, [], ◌∷◌, ◌++◌, length, Some, None, refl, ap, sym, subst, ◌∙◌, arith, append_assoc}
+use Rattle.std.proofs.Common.{◌≡◌, ℕ, ◌<◌, ◌+◌, true, false, List, [], ◌∷◌, ◌++◌, length, Some, None, refl, ap, sym, subst, ◌∙◌, arith, append_assoc}
 use Rattle.std.specs.Prelude.{Option}
 use Rattle.std.proofs.lemmas.Bool.{lt-ltb}
 use Rattle.grammar.specs.declared.symbol.Symbol.{Symbol}
 use Rattle.grammar.specs.declared.symbol.Symbol.TheVariants.{Token, Part, Action}
-use Rattle.grammar.specs.Grammars.{Grammar, Event, took, did, did_all, tokens, Begins, Derives, Step, taken, refused, step_in, step, effort}
+use Rattle.grammar.specs.Grammars.{Grammar, Event, took, did_all, tokens, Derives, taken, refused, step, effort}
 use Rattle.grammar.specs.Tables.{Rows, grammar_of, moves_end}
 use Rattle.grammar.specs.Tests.{Certificate, named, is_ll1}
 use Rattle.grammar.specs.Follow.{Tables, Followed, nothing, tables_of}
 use Rattle.grammar.specs.Runs.{IsReady, Leaves, RefusesNext, Ends, HasKinds}
-use Rattle.grammar.proofs.Clean.{IsClean, IsBounded, followed-on, followed-other}
+use Rattle.grammar.proofs.Clean.{followed-on, followed-other}
 use Rattle.grammar.proofs.Moves.{IsKept}
 use Rattle.grammar.proofs.Steps.{onward-in, back-in, kept-in, refused-in, ended-onward-in, ended-back-in}
 use Rattle.grammar.proofs.Derivations.{tokens-append, tokens-did_all}

@@ -1,8 +1,8 @@
 -- What a run of steps means for what is derived, where the next token decides.
-use Rattle.std.specs.Prelude.{◌≡◌, ℕ, ◌<◌, true, List, [], ◌∷◌, ◌++◌, Option, Some, None, length}
+use Rattle.std.specs.Prelude.{◌≡◌, ℕ, ◌<◌, true, List, [], ◌++◌, Option, None, length}
 use Rattle.grammar.specs.declared.symbol.Symbol.{Symbol}
-use Rattle.grammar.specs.Grammars.{Grammar, Event, took, did, did_all, tokens, Begins, Derives, Step, taken, refused, step}
-use Rattle.grammar.specs.Tables.{Rows, grammar_of}
+use Rattle.grammar.specs.Grammars.{Grammar, Event, did_all, tokens, Begins, Derives}
+use Rattle.grammar.specs.Tables.{Rows}
 use Rattle.grammar.specs.Tests.{Certificate, named}
 use Rattle.grammar.specs.Follow.{Followed, nothing, tables_of}
 

@@ -1,7 +1,6 @@
 -- The grammar of a table: for each part and kind of token the number of a rule.
-use Rattle.std.specs.Prelude.{ℕ, ◌+◌, Bool, true, false, cond, ◌&&◌, nat_lt, nat_le, List, [], ◌∷◌, Option, Some, None, reverse, length, slice_get, slice_index_or, slice_range}
+use Rattle.std.specs.Prelude.{ℕ, ◌+◌, Bool, true, cond, ◌&&◌, nat_lt, nat_le, List, [], ◌∷◌, Option, Some, None, reverse, length, slice_get, slice_index_or, slice_range}
 use Rattle.grammar.specs.declared.symbol.Symbol.{Symbol}
-use Rattle.grammar.specs.declared.symbol.Symbol.TheVariants.{Token, Part, Action}
 use Rattle.grammar.specs.declared.symbol.Rule.{Rule}
 use Rattle.grammar.specs.Grammars.{Grammar, cost}
 

@@ -1,6 +1,6 @@
 // A reader takes one token after another, and does actions as they are complete.
-ghost use Rattle.std.specs.Prelude.{List, ◌≡◌, ◌∷◌, ◌++◌, [], ℕ, true, Some, None, Ok, IfOk, OnErr, ◌≢◌};
-ghost use Rattle.grammar.specs.Grammars.{Grammar, move, on_next, turned, taken_if, step};
+ghost use Rattle.std.specs.Prelude.{List, ◌≡◌, ◌∷◌, [], ℕ, true, Some, None, Ok, IfOk, ◌≢◌};
+ghost use Rattle.grammar.specs.Grammars.{Grammar, move, on_next, turned, step};
 ghost use Rattle.grammar.specs.declared.symbol.Symbol.{Symbol};
 ghost use Rattle.grammar.specs.declared.symbol.Symbol.TheVariants.{Token, Part};
 ghost use Rattle.grammar.specs.Tables.{grammar_of, moves_end};

@@ -1,7 +1,7 @@
 // A grammar's table, and the rules that it has for a part.
-ghost use Rattle.std.specs.Prelude.{◌≡◌, Option, reverse, slice_get, slice_index_or};
+ghost use Rattle.std.specs.Prelude.{◌≡◌, Option, reverse, slice_get};
 ghost use Rattle.std.specs.Option.{option_map};
-ghost use Rattle.grammar.specs.Tables.{Rows, rule_of, rule_maybe, entry_rule, on_row, grammar_of};
+ghost use Rattle.grammar.specs.Tables.{Rows, rule_of, rule_maybe, entry_rule, grammar_of};
 ghost use Rattle.grammar.specs.Grammars.{on_next};
 
 use crate::symbol::{Row, Rule, Symbol};

@@ -1,5 +1,5 @@
 // What elements use of an operand all along some of its axes.
-ghost use Rattle.std.specs.Prelude.{◌≡◌, ◌≢◌, ◌<◌, ◌≤◌, ◌-◌, ◌+◌, ◌^◌, ℕ, List, true, false, cond, length, All, slice_index, Contains, IfOk, IsTrue, OnOk, ◌↔◌};
+ghost use Rattle.std.specs.Prelude.{◌≡◌, ◌<◌, ◌≤◌, ◌-◌, ◌+◌, ◌^◌, ℕ, List, true, false, cond, length, slice_index, Contains, IfOk, IsTrue, OnOk, ◌↔◌};
 ghost use Rattle.nd_shape.specs.Index.{IsIn};
 ghost use Rattle.nd_grid.specs.Grid.{kept_shape};
 ghost use Rattle.array_expr.specs.Node.{shape_at};

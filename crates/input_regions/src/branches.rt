@@ -1,5 +1,5 @@
 // What elements use of the operands of a concatenation.
-ghost use Rattle.std.specs.Prelude.{◌≡◌, ◌<◌, ◌≤◌, ◌+◌, ◌-◌, ◌^◌, ℕ, List, length, All, slice_index, slice_set};
+ghost use Rattle.std.specs.Prelude.{◌≡◌, ◌<◌, ◌+◌, ◌-◌, length, slice_set};
 ghost use Rattle.array_expr.specs.Node.{shape_at};
 ghost use Rattle.input_regions.specs.Uses.{IsInBranch, IsInBranches, before_operand};
 ghost use Rattle.input_regions.specs.Widening.{AreFit, CanAskAll, IsFromTo, IsJoinedRange, IsUsed, Widens};

@@ -1,5 +1,5 @@
 // What the elements of a node from a first to a last index use of its operands.
-ghost use Rattle.std.specs.Prelude.{◌≡◌, ◌<◌, ◌≤◌, ◌++◌, ◌⊎◌, ℕ, List, length, take, drop, OnOk};
+ghost use Rattle.std.specs.Prelude.{◌<◌, ◌≤◌, ◌++◌, ◌⊎◌, ℕ, List, length, take, drop, OnOk};
 ghost use Rattle.nd_shape.specs.Index.{IsIn};
 ghost use Rattle.nd_grid.specs.Grid.{kept_shape, under};
 ghost use Rattle.array_expr.specs.Node.{IsExpression, folded_axes, shape_at};

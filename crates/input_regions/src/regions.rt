@@ -1,5 +1,5 @@
 // The needed region of each node, from the last node to the first.
-ghost use Rattle.std.specs.Prelude.{◌≡◌, ◌≤◌, ◌<◌, ◌+◌, ◌-◌, ◌^◌, ℕ, List, Option, length, IfOk, OnOk};
+ghost use Rattle.std.specs.Prelude.{◌≡◌, ◌≤◌, ◌<◌, ◌+◌, ◌-◌, List, Option, length, IfOk, OnOk};
 ghost use Rattle.nd_shape.specs.Region.{Box, IsPart};
 ghost use Rattle.array_expr.specs.Node.{IsExpression, shape_at};
 ghost use Rattle.input_regions.specs.Needed.{AreNeeded};

@@ -1,9 +1,9 @@
 // What elements use of one operand.
-ghost use Rattle.std.specs.Prelude.{◌≡◌, ◌<◌, ◌≤◌, ℕ, List, length, map, slice_index, IfOk, OnOk};
+ghost use Rattle.std.specs.Prelude.{◌≡◌, ◌<◌, ℕ, List, length, map, slice_index, OnOk};
 ghost use Rattle.nd_shape.specs.Index.{IsIn};
 ghost use Rattle.nd_shape.specs.Shape.{IsShape};
 ghost use Rattle.nd_grid.specs.Grid.{IsTranspose, SlicesFit, sliced_from, sliced_shape, turned, under};
-ghost use Rattle.array_expr.specs.Node.{IsExpression, dropped, shape_at};
+ghost use Rattle.array_expr.specs.Node.{dropped, shape_at};
 ghost use Rattle.input_regions.specs.Uses.{IsAt};
 ghost use Rattle.input_regions.specs.Widening.{AreFit, CanAsk, IsFromTo, IsUsed, Widens};
 

@@ -1,5 +1,5 @@
 -- What a written record of a worker's disks does to the counts of all workers.
-use Rattle.std.proofs.Common.{◌≡◌, ℕ, ◌≤◌, Some, ap, sym, ◌∙◌, subst, false, nat_eq}
+use Rattle.std.proofs.Common.{◌≡◌, ℕ, ◌≤◌, Some, ap, sym, ◌∙◌, subst}
 use Rattle.std.specs.Prelude.{unwrap_or}
 use Rattle.std.specs.Ordering.{nat_cmp}
 use Rattle.std.specs.BTreeMap.{UpdatesBy, get}

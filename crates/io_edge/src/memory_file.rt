@@ -1,6 +1,6 @@
 // The stores and files of the site in memory.
-ghost use Rattle.std.specs.Prelude.{◌≡◌, ◌≤◌, ◌<◌, ◌+◌, length, map, string_bytes};
-ghost use Rattle.io_edge.specs.Content.{Told, overwritten, Reads};
+ghost use Rattle.std.specs.Prelude.{◌<◌, ◌+◌, map, string_bytes};
+ghost use Rattle.io_edge.specs.Content.{Told, Reads};
 
 use crate::script::{Kind, Most, Script};
 use crate::transcript::Transcript;

@@ -1,5 +1,5 @@
 -- Heads that are read one after another: what follows of whatever the files hold that gave what was read.
-use Rattle.std.proofs.Common.{◌≡◌, ℕ, zero, suc, ◌+◌, ◌<◌, ◌≤◌, List, [], ◌∷◌, ◌++◌, length, get_or, map, refl, ap, sym, ◌∙◌, subst, inl, inr, arith}
+use Rattle.std.proofs.Common.{◌≡◌, ℕ, zero, suc, ◌+◌, ◌<◌, List, [], ◌∷◌, ◌++◌, length, get_or, map, refl, sym, ◌∙◌, subst, inl, inr, arith}
 use Rattle.std.proofs.lemmas.Option.{get_or_from_slice_get, slice_get_read}
 use Rattle.io_edge.specs.Content.{Content, Told}
 use Rattle.io_edge.specs.Given.{Gives, GivesOf, OnGiven, Piece}
@@ -14,8 +14,8 @@ use Rattle.job_run.specs.declared.ends.Ended.TheVariants.{Done, Limit, File, Zer
 use Rattle.job_run.specs.declared.ends.FileError.{FileError}
 use Rattle.job_run.specs.declared.ends.FileError.TheVariants.{Npy, Shape}
 use Rattle.job_run.specs.Inputs.{FirstRefusal, FitInputs, FitsShape, HoldsArray, IsOfFile, RefusesFile}
-use Rattle.job_run.specs.Loading.{FitNamed, HeadEnds, HeadGiven, IsRefusedNamed, LoadEnds, LoadGiven}
-use Rattle.job_run.specs.Plan.{Plan, input_shapes, name_at}
+use Rattle.job_run.specs.Loading.{FitNamed, HeadEnds, HeadGiven, IsRefusedNamed, LoadGiven}
+use Rattle.job_run.specs.Plan.{Plan, input_shapes}
 use Rattle.job_run.specs.Told.{array_told}
 use Rattle.job_run.proofs.Told.{held_array}
 

@@ -1,5 +1,5 @@
 // Whether a job can be run.
-ghost use Rattle.std.specs.Prelude.{◌≡◌, ◌<◌, ◌+◌, ◌^◌, ℕ, [], length, map, cond, slice_index_or, true, false, bytes_eq, IsTrue, string_bytes};
+ghost use Rattle.std.specs.Prelude.{◌≡◌, ◌<◌, ◌+◌, ◌^◌, ℕ, length, map, cond, slice_index_or, true, false, bytes_eq};
 ghost use Rattle.array_expr.specs.Elem.{is_input};
 ghost use Rattle.job_run.specs.Jobs.{plan_of, saved_of};
 ghost use Rattle.job_run.specs.Plan.{AreApart, IsRunnable, input_shapes, name_at};

@@ -1,6 +1,5 @@
 // How a run of a job ends.
-ghost use Rattle.std.specs.Prelude.{◌≡◌, Some};
-ghost use Rattle.job_run.specs.Inputs.{file_error_text};
+ghost use Rattle.std.specs.Prelude.{◌≡◌};
 ghost use Rattle.job_run.specs.declared.ends.Ended.TheVariants.{OutOfMemory};
 
 use array_expr::NodeId;

@@ -1,5 +1,5 @@
 // The inputs of a job, opened, and their heads read.
-ghost use Rattle.std.specs.Prelude.{◌≡◌, ◌≤◌, ◌++◌, [], ◌∷◌, length, cond, map, IfOk, IfErr, OnOk, string_bytes};
+ghost use Rattle.std.specs.Prelude.{◌≡◌, ◌≤◌, ◌++◌, [], ◌∷◌, length, cond, map, IfOk, IfErr, OnOk};
 ghost use Rattle.io_edge.specs.Given.{OnGiven};
 ghost use Rattle.io_edge.specs.View.{Opens, OnlyReads, Shows, raised_by};
 ghost use Rattle.array_expr.specs.Elem.{is_input};

@@ -1,6 +1,6 @@
 // Reads of the inputs' heads from an open store.
-ghost use Rattle.std.specs.Prelude.{◌≡◌, ◌⊎◌, ◌≤◌, ◌<◌, ◌+◌, ◌*◌, ◌^◌, [], length, slice_index_or, IfOk, IfErr, OnOk, IsErrOf, IsTrue, ◌↔◌};
-ghost use Rattle.io_edge.specs.Content.{OnTold, file_at};
+ghost use Rattle.std.specs.Prelude.{◌≡◌, ◌≤◌, ◌<◌, ◌^◌, length, IfOk, IfErr, OnOk, IsTrue, ◌↔◌};
+ghost use Rattle.io_edge.specs.Content.{file_at};
 ghost use Rattle.io_edge.specs.Given.{Gives, GivesOf};
 ghost use Rattle.job_run.specs.Inputs.{FitsShape};
 ghost use Rattle.job_run.specs.Loading.{AreHeads, FitNamed, HeadEnds, HeadGiven, IsHeadFor, LoadEnds, LoadGiven};

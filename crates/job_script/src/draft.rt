@@ -1,10 +1,10 @@
 // A text's steps, done one after another.
-ghost use Rattle.std.specs.Prelude.{◌≡◌, ◌<◌, ◌≤◌, ◌^◌, pos, not, nat_eq, length, Ok, OnOk, IfOk, IfErr};
+ghost use Rattle.std.specs.Prelude.{◌≡◌, ◌<◌, ◌≤◌, ◌^◌, not, nat_eq, length, Ok, OnOk, IfOk, IfErr};
 ghost use Rattle.job_script.specs.declared.asked.Fault.TheVariants.{Refused};
 ghost use Rattle.job_script.specs.declared.asked.Why.TheVariants.{Number};
-ghost use Rattle.job_script.specs.Words.{number_at, negative};
+ghost use Rattle.job_script.specs.Words.{number_at};
 ghost use Rattle.job_script.specs.Follows.{RefusedAs};
-ghost use Rattle.job_script.specs.Drafts.{empty_draft, with_given, with_mark, with_scoped, asking, asking_op, with_number, with_negative, or_refused, named_let, literal, combine, negate, slice, reduce, choose, transpose, rechunk, concatenate, tensordot, full, ramp, input, refer, enter};
+ghost use Rattle.job_script.specs.Drafts.{empty_draft, with_given, with_mark, with_scoped, asking, asking_op, with_number, named_let, literal, combine, negate, slice, reduce, choose, transpose, rechunk, concatenate, tensordot, full, ramp, input, refer, enter};
 ghost use Rattle.job_script.specs.Arguments.{given_after, given_with};
 ghost use Rattle.job_script.specs.Scopes.{begun};
 ghost use Rattle.job_grammar.specs.declared.action.Action.TheVariants.{Literal, NegativeLiteral, ReverseAxes, Refer, SaveFile, Negative, OpenParts};
@@ -39,7 +39,7 @@ pub(crate) struct Draft {
 }
 
 impl Model for Draft {
-    ghost use Rattle.job_script.specs.Drafts.{empty_draft, with_given, with_mark, with_scoped, asking, asking_op, with_number, with_negative, or_refused, named_let, literal, combine, negate, slice, reduce, choose, transpose, rechunk, concatenate, tensordot, full, ramp, input, refer, enter};
+    ghost use Rattle.job_script.specs.Drafts.{empty_draft, with_given, with_mark, with_scoped, asking, asking_op, with_number, named_let, literal, combine, negate, slice, reduce, choose, transpose, rechunk, concatenate, tensordot, full, ramp, input, refer, enter};
     ghost use Rattle.job_script.specs.Arguments.{given_after, given_with};
     ghost use Rattle.job_script.specs.Scopes.{begun};
     ghost use Rattle.job_grammar.specs.declared.action.Action.TheVariants.{Literal, NegativeLiteral, ReverseAxes, Refer, SaveFile, Negative, OpenParts};

@@ -1,7 +1,6 @@
 // Operands that wait for their operation, and operations that wait for their operands.
 ghost use Rattle.std.specs.Prelude.{◌≡◌, ◌+◌, ◌-◌, ◌<◌, ◌^◌, ◌∷◌, ◌++◌, [], take, drop, length, IfOk, OnOk};
-ghost use Rattle.job_steps.specs.Steps.{nothing_yet};
-ghost use Rattle.job_script.specs.Operands.{nothing_waits, last_or, without_last, top_node, top_mark, top_list, with_node, without_node, without_mark};
+ghost use Rattle.job_script.specs.Operands.{nothing_waits, without_last, top_node, top_mark, top_list, with_node, without_node, without_mark};
 
 use array_expr::NodeId;
 use job_tokens::{Kind, Token};

@@ -1,7 +1,6 @@
 // What tokens say.
 ghost use Rattle.std.specs.Prelude.{◌≡◌, ◌≤◌, ◌^◌};
 ghost use Rattle.job_script.specs.Words.{bytes_of, number_at, file_at, binary_of, fold_of, negative};
-ghost use Rattle.std.specs.Prelude.{pos};
 
 use array_expr::{Binary, Fold};
 use job_tokens::{Kind, Token, number};

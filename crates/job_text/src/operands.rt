@@ -1,7 +1,7 @@
 // The operations that are asked for, as operations over the nodes before them.
 ghost use Rattle.std.specs.Prelude.{◌≡◌, ◌<◌, length, IfOk};
 ghost use Rattle.job_script.specs.Earlier.{NamesEarlier};
-ghost use Rattle.array_expr.specs.Node.{NamesNodes, shape_at};
+ghost use Rattle.array_expr.specs.Node.{NamesNodes};
 ghost use Rattle.job_text.specs.Nodes.{axes_down, op_of};
 
 use array_expr::{Expr, Op};

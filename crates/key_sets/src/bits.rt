@@ -1,7 +1,6 @@
 //! The bits of one word.
-ghost use Rattle.std.specs.Prelude.{◌≡◌, ℕ, ◌+◌, ◌<◌, ◌≤◌, ◌^◌, cond, nat_eq, true, false, Some};
+ghost use Rattle.std.specs.Prelude.{◌≡◌, ℕ, ◌+◌, ◌<◌, cond, nat_eq, true, false, Some};
 ghost use Rattle.key_sets.specs.Sets.{bit, IsFirst, IsLast};
-ghost use Rattle.std.specs.Int.{bit_at};
 
 /// Whether the bit is set.
 pub fn test(word: u64, place: u32) -> bool

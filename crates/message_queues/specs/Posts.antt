@@ -1,5 +1,5 @@
 -- Messages as links carry them, and what is posted.
-use Rattle.std.specs.Prelude.{ℕ, ◌==◌, List, [], ◌∷◌, ◌++◌, map, cond}
+use Rattle.std.specs.Prelude.{ℕ, List, ◌++◌, map}
 use Rattle.cluster_msgs.specs.declared.messages.Down.{Down}
 use Rattle.cluster_msgs.specs.declared.messages.Up.{Up}
 use Rattle.cluster_msgs.specs.declared.messages.ToClient.{ToClient}

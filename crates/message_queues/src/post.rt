@@ -1,5 +1,5 @@
 //! What a core's answer puts on the links and under way.
-ghost use Rattle.std.specs.Prelude.{◌≡◌, ◌<◌, ◌++◌, ◌∷◌, [], All, List, length, OnOk, OnErr};
+ghost use Rattle.std.specs.Prelude.{◌≡◌, ◌<◌, ◌++◌, ◌∷◌, [], All, length, OnOk, OnErr};
 ghost use Rattle.cluster_msgs.specs.declared.messages.Message.TheVariants as message;
 ghost use Rattle.cluster_msgs.specs.declared.events.Asker.TheVariants.{Worker, Client};
 ghost use Rattle.cluster_rules.specs.Functions.{put};

@@ -1,10 +1,10 @@
 //! Requests and answers under way between askers and peers.
-ghost use Rattle.std.specs.Prelude.{◌≡◌, ◌&&◌, ◌||◌, ◌==◌, ◌≤◌, [], length, nat_lt, OnOk, OnErr};
+ghost use Rattle.std.specs.Prelude.{◌≡◌, ◌&&◌, ◌||◌, ◌==◌, ◌≤◌, [], length, OnOk, OnErr};
 ghost use Rattle.std.specs.List.{position, position_or_len};
 ghost use Rattle.std.specs.Option.{option_copied};
 ghost use Rattle.cluster_msgs.specs.declared.messages.Message.TheVariants as message;
 ghost use Rattle.cluster_msgs.specs.declared.messages.Peer.TheVariants.{GetData, Data};
-ghost use Rattle.cluster_rules.specs.World.{parcel_before, with_parcel, Parcel};
+ghost use Rattle.cluster_rules.specs.World.{parcel_before, with_parcel};
 ghost use Rattle.message_queues.specs.declared.transit.InTransit.{InTransit};
 ghost use Rattle.message_queues.specs.Transit.{parcel_of_transit, parcels, is_transit, with_transit, transit_of, without_transit};
 

@@ -1,6 +1,6 @@
 //! From bytes to a value.
 
-ghost use Rattle.std.specs.Prelude.{◌≡◌, ℕ, ◌-◌, ◌^◌, ◌<◌, ◌≤◌, ◌++◌, List, length, IfOk, IfErr, Ok};
+ghost use Rattle.std.specs.Prelude.{◌≡◌, ℕ, ◌-◌, ◌^◌, ◌<◌, ◌++◌, List, length, IfOk, IfErr, Ok};
 ghost use Rattle.std.specs.Int.{cast_signed};
 ghost use Rattle.msgpack_frames.specs.Forms.{width, bound};
 ghost use Rattle.msgpack_frames.specs.Data.{Data, IsWithin};

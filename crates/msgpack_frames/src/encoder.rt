@@ -1,10 +1,9 @@
 //! From a value to bytes.
 
-ghost use Rattle.std.specs.Prelude.{◌≡◌, ℕ, ◌-◌, ◌^◌, ◌<◌, ◌≤◌, ◌++◌, ◌∷◌, [], List, length, negsuc, neg_ℤ, pos, ◌<ℤ◌, ◌≤ℤ◌, OnOk, IfOk, IfErr, Ok, None, Some};
+ghost use Rattle.std.specs.Prelude.{◌≡◌, ℕ, ◌-◌, ◌^◌, ◌<◌, ◌≤◌, ◌++◌, ◌∷◌, [], List, length, OnOk, IfOk, IfErr, Ok};
 ghost use Rattle.std.specs.Int.{to_be_bytes};
-ghost use Rattle.msgpack_frames.specs.Data.{Data, array, dictionary, text, binary, max_depth, max_len, IsInRange, IsWithin};
+ghost use Rattle.msgpack_frames.specs.Data.{array, dictionary, text, binary, max_depth, max_len, IsInRange, IsWithin};
 ghost use Rattle.msgpack_frames.specs.Encoding.{Encodes};
-ghost use Rattle.msgpack_frames.specs.Forms.{bound, width};
 ghost use Rattle.msgpack_frames.specs.Reading.{outcome};
 ghost use Rattle.msgpack_frames.specs.Spelling.{sized, head, unsigned, negative, number, spelling, items_spelling, pairs_spelling, IsValid, AreValid, PairsAreValid, fault_of, items_fault, pairs_fault, len_fault, Tells, IsFaultOf};
 ghost use Rattle.msgpack_frames.specs.View.{view, items_view, pairs_view};

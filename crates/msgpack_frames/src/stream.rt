@@ -1,7 +1,7 @@
 //! Frame groups out of a stream that comes in pieces.
 
 ghost use Rattle.std.specs.Prelude.{◌≡◌, ◌-◌, ◌≤◌, ◌++◌, ◌∷◌, ◌⊎◌, [], List, ℕ, length, take, drop, IfOk, IfErr, IfSome, IfNone, OnOk, OnErr, IsNone, ◌↔◌, None, Some, Err};
-ghost use Rattle.msgpack_frames.specs.Groups.{Group, Found, Advances, IsReading};
+ghost use Rattle.msgpack_frames.specs.Groups.{Group, Advances, IsReading};
 
 use crate::error::FrameError;
 use crate::group::{Frames, Stop, group_of};

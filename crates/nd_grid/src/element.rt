@@ -1,5 +1,5 @@
 // Elements of blocks, by an index of what they are operands of.
-ghost use Rattle.std.specs.Prelude.{◌≡◌, ◌+◌, ◌<◌, ◌≤◌, length, cond, nat_eq, Some};
+ghost use Rattle.std.specs.Prelude.{◌≡◌, ◌+◌, ◌≤◌, length, cond, nat_eq, Some};
 ghost use Rattle.nd_shape.specs.Shape.{IsShape};
 ghost use Rattle.nd_shape.specs.Index.{IsIn};
 ghost use Rattle.nd_grid.specs.Grid.{grid_of, under};

@@ -1,6 +1,6 @@
 // What has an element, or nothing, at each index of a shape, and its block.
-ghost use Rattle.std.specs.Prelude.{◌≡◌, ◌<◌, ◌≤◌, ◌^◌, length, IfOk, IfErr, Some, Ok};
-ghost use Rattle.nd_shape.specs.Shape.{IsShape, elements};
+ghost use Rattle.std.specs.Prelude.{◌≡◌, ◌<◌, length, IfOk, IfErr, Some, Ok};
+ghost use Rattle.nd_shape.specs.Shape.{elements};
 ghost use Rattle.nd_shape.specs.Index.{IsIn, index_at};
 ghost use Rattle.nd_grid.specs.Grid.{Grid, block_of, cells_up_to};
 ghost use Rattle.nd_grid.specs.Computed.{FailsAs};

@@ -1,6 +1,6 @@
 // Indexes of operands behind indexes of slices, transposes, parts, reductions and products.
-ghost use Rattle.std.specs.Prelude.{◌≡◌, ◌+◌, ◌<◌, ◌≤◌, ◌^◌, ℕ, false, true, length, All, cond, nat_eq, pos, ◌≤ℤ◌, slice_index, map};
-ghost use Rattle.std.specs.List.{position_or_len, range_with_len};
+ghost use Rattle.std.specs.Prelude.{◌≡◌, ◌+◌, ◌<◌, ◌≤◌, ◌^◌, ℕ, false, true, length, All, cond, nat_eq, pos, ◌≤ℤ◌, slice_index};
+ghost use Rattle.std.specs.List.{position_or_len};
 ghost use Rattle.nd_shape.specs.Index.{IsIn};
 ghost use Rattle.nd_shape.specs.Slice.{position, coordinate};
 ghost use Rattle.nd_shape.specs.Region.{moved};

@@ -1,5 +1,5 @@
 // Operations on blocks, one element after another by the operation's formula.
-ghost use Rattle.std.specs.Prelude.{◌≡◌, ◌<◌, ◌≤◌, ◌^◌, [], ◌∷◌, length, map, slice_index, IfOk, IfErr, Ok, Some};
+ghost use Rattle.std.specs.Prelude.{◌≡◌, ◌<◌, ◌^◌, [], ◌∷◌, length, map, slice_index, IfOk, IfErr, Ok, Some};
 ghost use Rattle.nd_shape.specs.Broadcast.{broadcast, Agree};
 ghost use Rattle.nd_shape.specs.Shape.{elements};
 ghost use Rattle.nd_shape.specs.Index.{IsIn, index_at};

@@ -1,7 +1,7 @@
 // Blocks in column-major order, turned to row-major order.
-ghost use Rattle.std.specs.Prelude.{◌≡◌, ◌≤◌, ◌<◌, ◌+◌, ◌-◌, ◌*◌, ◌^◌, ℕ, List, length, reverse, get_or, slice_index_or, pos, IfOk};
+ghost use Rattle.std.specs.Prelude.{◌≡◌, ◌≤◌, ◌<◌, ◌+◌, ◌-◌, ◌*◌, ◌^◌, ℕ, length, reverse, get_or, slice_index_or, pos, IfOk};
 ghost use Rattle.nd_shape.specs.Shape.{elements};
-ghost use Rattle.nd_shape.specs.Index.{IsIn, index_at, place};
+ghost use Rattle.nd_shape.specs.Index.{index_at, place};
 ghost use Rattle.nd_rows.specs.Storage.{column_place, from_column};
 
 use crate::walk::stored_dims;

@@ -1,6 +1,6 @@
 // A region's elements in the order of storage.
 ghost use Rattle.std.specs.Prelude.{◌≡◌, ◌≤◌, ◌<◌, ◌+◌, ◌^◌, ℕ, length, reverse, slice_index, IfOk};
-ghost use Rattle.nd_shape.specs.Shape.{elements, IsShape};
+ghost use Rattle.nd_shape.specs.Shape.{elements};
 ghost use Rattle.nd_shape.specs.Index.{index_at, place};
 ghost use Rattle.nd_shape.specs.Region.{IsPart, moved};
 ghost use Rattle.nd_rows.specs.Storage.{IsRow, count_of, spot, stored, walk_of};

@@ -1,9 +1,9 @@
 -- The ranges of slices, by how many steps begin within a distance.
-use Rattle.std.proofs.Common.{◌≡◌, ℕ, zero, suc, ◌+◌, ◌-◌, ◌*◌, ◌<◌, ◌≤◌, cond, refl, ap, sym, subst, ◌∙◌, arith, w64, to_z, of_z, ℤ, pos, negsuc, ◌+ℤ◌, ◌-ℤ◌, ◌*ℤ◌, ◌<ℤ◌, ◌≤ℤ◌}
+use Rattle.std.proofs.Common.{◌≡◌, ℕ, suc, ◌+◌, ◌-◌, ◌*◌, ◌<◌, ◌≤◌, cond, refl, ap, sym, subst, ◌∙◌, arith, w64, to_z, of_z, ℤ, pos, negsuc, ◌+ℤ◌, ◌<ℤ◌}
 use Rattle.std.specs.Prelude.{nat_eq, unsigned_abs}
 use Rattle.std.proofs.lemmas.Int.{ints, to_z-of_z}
 use mir.Val.{SFits}
-use Rattle.nd_shape.specs.Slice.{IsRange, IsBefore}
+use Rattle.nd_shape.specs.Slice.{IsRange}
 
 started : (count f start : ℕ) → start ≡ cond (nat_eq count 0) 0 f → 0 < count → start ≡ f
 started count f start e h = grind arith

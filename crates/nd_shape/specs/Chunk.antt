@@ -1,5 +1,5 @@
 -- How an axis is cut into chunks, in the words of Dask's page on chunks.
-use Rattle.std.specs.Prelude.{◌≡◌, ◌≢◌, ℕ, zero, suc, ◌+◌, ◌*◌, ◌/◌, ◌%◌, ◌<◌, ◌⊎◌, cond, nat_eq, List, [], ◌∷◌, ◌++◌, replicate, All, Contains}
+use Rattle.std.specs.Prelude.{◌≡◌, ◌≢◌, ℕ, zero, suc, ◌+◌, ◌/◌, ◌%◌, ◌⊎◌, cond, nat_eq, List, [], ◌∷◌, ◌++◌, replicate, All, Contains}
 use Rattle.nd_shape.specs.declared.chunk.ChunkSpec.{ChunkSpec}
 use Rattle.nd_shape.specs.declared.chunk.ChunkSpec.TheVariants.{Even, List as Listed}
 use Rattle.nd_shape.specs.declared.error.ChunkError.{ChunkError}

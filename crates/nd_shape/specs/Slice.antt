@@ -5,7 +5,7 @@ use Rattle.nd_shape.specs.declared.slice.Part.{Part}
 use Rattle.nd_shape.specs.declared.slice.Part.TheVariants.{At, Range}
 use Rattle.nd_shape.specs.declared.slice.Steps.{Steps}
 use Rattle.nd_shape.specs.declared.error.ShapeError.{ShapeError}
-use Rattle.nd_shape.specs.declared.error.ShapeError.TheVariants.{Misfit, BadAxis, BadIndex, ZeroStep, EmptyReduce, TooManyParts, BadSplit, Elements, OutOfMemory}
+use Rattle.nd_shape.specs.declared.error.ShapeError.TheVariants.{BadIndex, ZeroStep}
 
 -- an index below 0 counts from the end
 abbrev pub from_end : ℕ → ℤ → ℤ

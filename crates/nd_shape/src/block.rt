@@ -1,6 +1,6 @@
 // Blocks: arrays in memory.
 ghost use Rattle.std.specs.Prelude.{◌≡◌, length, IfOk};
-ghost use Rattle.nd_shape.specs.Shape.{elements, IsShape};
+ghost use Rattle.nd_shape.specs.Shape.{elements};
 
 use crate::shape::Shape;
 use std::alloc::{AllocError, Global};

@@ -1,6 +1,6 @@
 // Broadcasting, by NumPy's rules.
-ghost use Rattle.std.specs.Prelude.{◌≡◌, ◌+◌, ◌-◌, ◌<◌, ◌≤◌, ◌^◌, List, ℕ, [], ◌∷◌, length, max, All, IfOk, IfErr, OnOk, IsTrue, ◌↔◌};
-ghost use Rattle.nd_shape.specs.Shape.{IsShape, elements};
+ghost use Rattle.std.specs.Prelude.{◌≡◌, ◌-◌, ◌<◌, ◌≤◌, ◌^◌, [], ◌∷◌, length, max, All, IfOk, IfErr, OnOk};
+ghost use Rattle.nd_shape.specs.Shape.{elements};
 ghost use Rattle.nd_shape.specs.Broadcast.{broadcast, Agree, RefusesBroadcast, RefusesDims, axes_of, length_on, agrees, common, first_misfit};
 
 use crate::error::ShapeError;

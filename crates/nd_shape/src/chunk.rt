@@ -1,5 +1,5 @@
 // How an axis is cut into chunks.
-ghost use Rattle.std.specs.Prelude.{◌≡◌, ◌≢◌, ◌+◌, ◌*◌, ◌/◌, ◌%◌, ◌<◌, ◌≤◌, ◌^◌, ℕ, length, All, IfOk, IfErr, OnOk, IsTrue, ◌↔◌, [], ◌∷◌, Contains, ◌⊎◌};
+ghost use Rattle.std.specs.Prelude.{◌≡◌, ◌≢◌, ◌+◌, ◌*◌, ◌/◌, ◌%◌, ◌<◌, ◌≤◌, ◌^◌, length, IfOk, IfErr, OnOk, [], ◌∷◌};
 ghost use Rattle.nd_shape.specs.Chunk.{chunks_of, even_chunks, CanCut, RefusesChunks, total};
 
 use crate::error::ChunkError;

@@ -1,5 +1,5 @@
 // Regions: boxes of indexes.
-ghost use Rattle.std.specs.Prelude.{◌≡◌, ◌+◌, ◌<◌, ◌≤◌, ℕ, [], ◌∷◌, ◌++◌, length, take, replicate, IsTrue, ◌↔◌, IfOk};
+ghost use Rattle.std.specs.Prelude.{◌≡◌, ◌+◌, ◌<◌, ◌≤◌, [], ◌∷◌, ◌++◌, length, take, replicate, IsTrue, ◌↔◌, IfOk};
 ghost use Rattle.nd_shape.specs.Region.{Box, IsPart};
 
 use crate::shape::{AXES, Shape};

@@ -1,6 +1,5 @@
 -- What is posted, where a packet more is given to a port, or the first that waits is sent.
-use Rattle.std.proofs.Common.{◌≡◌, List, [], ◌∷◌, ◌++◌, sym, ap, ◌∙◌, refl, subst, append_assoc, Option, Some, None}
-use Rattle.std.proofs.lemmas.List.{append-nil}
+use Rattle.std.proofs.Common.{◌≡◌, List, [], ◌∷◌, ◌++◌, sym, ap, ◌∙◌, append_assoc, Option, Some, None}
 use Rattle.cluster_msgs.specs.declared.packets.Packet.{Packet}
 use Rattle.node_links.specs.Links.{posted, Begins}
 

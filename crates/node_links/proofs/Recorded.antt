@@ -1,11 +1,11 @@
 -- A book after one entry.
-use Rattle.std.proofs.Common.{◌≡◌, ◌⊎◌, ◌∙◌, sym, ap, subst, inl, inr, ⊎_elim, ℕ, Bool, true, false, refl, List, [], ◌∷◌, ◌++◌, Option, is_some}
+use Rattle.std.proofs.Common.{◌≡◌, ◌⊎◌, ◌∙◌, sym, ap, subst, inl, inr, ⊎_elim, ℕ, [], ◌∷◌, ◌++◌, Option, is_some}
 use Rattle.cluster_msgs.specs.declared.events.Entry.{Entry}
 use Rattle.cluster_msgs.specs.declared.events.Event.{Event}
 use Rattle.cluster_msgs.specs.declared.messages.Message.{Message}
 use Rattle.turn_cell.specs.Histories.{Ascending}
 use Rattle.turn_cell.specs.Turns.{Went}
-use Rattle.node_links.specs.Books.{BookState, Logged, IsPushed, IsStored, IsLeftOut, IsLater, OneEntry, IsRecorded, IsEntered, Steps, StepsBy}
+use Rattle.node_links.specs.Books.{BookState, Logged, IsPushed, IsStored, IsLeftOut, IsLater, IsRecorded, IsEntered, Steps, StepsBy}
 
 pub recorded : {C E : Type 0} (says : C → Event → Option Message → Option E → Type 0) (by : C → E → C → Type 0) (x y : BookState C) (old new : Logged) (e : Entry) (o : Option E)
     → says x.core e.event e.message o → StepsBy by o x.core y.core → x.entries ≡ old.entries → x.cut ≡ is_some old.cut → y.entries ≡ new.entries → y.cut ≡ is_some new.cut → IsPushed old e new → Ascending new.entries

@@ -1,4 +1,4 @@
-use Rattle.std.proofs.Common.{◌≡◌, ℕ, ◌+◌, ◌<◌, ◌≤◌, List, [], ◌∷◌, ◌++◌, sym, ap, ◌∙◌, refl, arith, subst}
+use Rattle.std.proofs.Common.{◌≡◌, ℕ, ◌+◌, ◌<◌, List, [], ◌∷◌, ◌++◌, arith}
 use Rattle.cluster_msgs.specs.declared.events.Entry.{Entry}
 use Rattle.turn_cell.specs.Histories.{Ascending, AllAbove}
 use Rattle.node_links.specs.Books.{AllBelow, AllUpTo, history_bytes, entry_bytes}

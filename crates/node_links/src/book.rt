@@ -1,6 +1,5 @@
 //! A core with its history.
-ghost use Rattle.std.specs.Prelude.{◌≡◌, ℕ, Option, OnOk, OnErr, IfOk, IfErr, IfSome, is_some, Err, Some, None, [], false, cond, length};
-ghost use Rattle.cluster_msgs.specs.declared.events.Entry.{Entry as AnyEntry};
+ghost use Rattle.std.specs.Prelude.{◌≡◌, Option, OnOk, OnErr, IfOk, IfErr, IfSome, is_some, Err, Some, None, [], false, cond, length};
 ghost use Rattle.node_links.specs.Books.{IsRecorded, IsEntered, AllBelow};
 ghost use Rattle.node_links.specs.Books.{Steps, StepsBy};
 

@@ -1,5 +1,5 @@
 //! Blocks that fit the label of a run.
-ghost use Rattle.std.specs.Prelude.{◌≡◌, ◌<◌, ◌∷◌, ◌++◌, [], IfOk, OnOk, OnErr, get_or, length};
+ghost use Rattle.std.specs.Prelude.{◌≡◌, ◌<◌, ◌∷◌, ◌++◌, [], IfOk, OnOk, OnErr, length};
 ghost use Rattle.cluster_msgs.specs.declared.messages.Message.TheVariants as message;
 ghost use Rattle.cluster_msgs.specs.declared.messages.Peer.TheVariants as peer;
 ghost use Rattle.std.specs.Arc.{arc_value};

@@ -1,7 +1,7 @@
 //! The entries of a node.
-ghost use Rattle.std.specs.Prelude.{◌≡◌, ℕ, ◌<◌, ◌≤◌, ◌+◌, ◌*◌, ◌++◌, ◌∷◌, ◌^◌, [], true, false, length, IfOk, OnOk, OnErr, None, Some};
+ghost use Rattle.std.specs.Prelude.{◌≡◌, ◌<◌, ◌≤◌, ◌+◌, ◌*◌, ◌^◌, [], true, length, IfOk, OnOk, None, Some};
 ghost use Rattle.turn_cell.specs.Histories.{Ascending};
-ghost use Rattle.node_links.specs.Books.{AllBelow, IsPushed, IsStored, IsLeftOut, history_bytes, entry_bytes, message_members, members};
+ghost use Rattle.node_links.specs.Books.{AllBelow, IsPushed, IsStored, IsLeftOut, history_bytes, entry_bytes, members};
 
 use cluster_msgs::{Down, Entry, FromClient, History, Message, Peer, Sequence, ToClient, Up};
 use std::alloc::{AllocError, Global};

@@ -1,5 +1,5 @@
 //! The near ends of the links to another node.
-ghost use Rattle.std.specs.Prelude.{◌≡◌, ℕ, ◌<◌, ◌∷◌, ◌++◌, [], None, IfOk, IfSome, IfNone, OnOk, OnErr};
+ghost use Rattle.std.specs.Prelude.{◌≡◌, ◌<◌, ◌∷◌, ◌++◌, [], None, IfOk, IfSome, IfNone, OnOk, OnErr};
 ghost use Rattle.crossbeam_queue.specs.Passes.{view};
 ghost use Rattle.cluster_msgs.specs.Labels.{PacketFits, MessageFits, found};
 ghost use Rattle.node_links.specs.Links.{posted, Begins};

@@ -1,6 +1,6 @@
 -- Marks, one after another.
-use Rattle.std.proofs.Common.{◌≡◌, ◌≢◌, ℕ, zero, suc, ◌+◌, ◌-◌, ◌<◌, ◌≤◌, List, length, get_or, set, take, refl, ap, sym, ◌∙◌, subst, inl, inr, arith, Option, Some, None, Bool, true, false, eqb}
-use Rattle.std.specs.Prelude.{◌||◌, ◌&&◌, ◌⊎◌, slice_get, All, Any, replicate}
+use Rattle.std.proofs.Common.{◌≡◌, ◌≢◌, ℕ, zero, suc, ◌+◌, ◌-◌, ◌<◌, ◌≤◌, List, length, get_or, set, refl, ap, sym, ◌∙◌, inl, inr, arith, Option, Some, None, Bool, true, false, eqb}
+use Rattle.std.specs.Prelude.{◌||◌, ◌&&◌, slice_get, All, Any, replicate}
 use Rattle.std.specs.List.{list_any}
 use Rattle.std.proofs.Math.Bool.{or-false, or-true, or_assoc}
 use Rattle.std.proofs.lemmas.Bool.{eqb-true, eq-eqb, or_cases, cases_order, false≢true}
@@ -14,8 +14,8 @@ use Rattle.array_expr.specs.declared.expr.Node.{Node}
 use Rattle.array_expr.specs.declared.op.Op.{Op}
 use Rattle.array_expr.specs.declared.op.Op.TheVariants.{Input, Full, Ramp, Negate, Elementwise, Where, Slice, Transpose, Rechunk, Concatenate, Reduce, Tensordot}
 use Rattle.array_expr.specs.Node.{NamesEarlier}
-use Rattle.node_reach.specs.Marks.{Grows, HasOperands, IsIn, Marks, marked}
-use Rattle.node_reach.specs.Reach.{IsClosed, Reaches, is_operand}
+use Rattle.node_reach.specs.Marks.{Grows, HasOperands, Marks, marked}
+use Rattle.node_reach.specs.Reach.{Reaches, is_operand}
 
 -- ## One mark
 

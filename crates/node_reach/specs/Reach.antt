@@ -1,5 +1,5 @@
 -- Which nodes of an expression are needed: those that are saved, and with each node its operands.
-use Rattle.std.specs.Prelude.{◌≡◌, ◌<◌, ℕ, List, [], ◌∷◌, length, slice_get, slice_index_or, Some, Bool, true, false, nat_eq, ◌||◌}
+use Rattle.std.specs.Prelude.{◌≡◌, ◌<◌, ℕ, List, length, slice_get, slice_index_or, Some, Bool, true, false, nat_eq, ◌||◌}
 use Rattle.std.specs.List.{list_any}
 use Rattle.array_expr.specs.declared.expr.Node.{Node}
 use Rattle.array_expr.specs.declared.op.Op.{Op}

@@ -1,9 +1,9 @@
 // Marks on the nodes that are needed.
-ghost use Rattle.std.specs.Prelude.{◌≡◌, ◌<◌, ◌≤◌, ℕ, Bool, length, true, nat_eq, ◌||◌, ◌&&◌, All, IfOk, OnOk, slice_index_or, false};
+ghost use Rattle.std.specs.Prelude.{◌≡◌, ◌<◌, ℕ, length, true, nat_eq, ◌||◌, ◌&&◌, All, IfOk, slice_index_or, false};
 ghost use Rattle.std.specs.List.{list_any};
 ghost use Rattle.array_expr.specs.Node.{IsExpression, NamesEarlier};
 ghost use Rattle.node_reach.specs.Marks.{Grows, HasOperands, Marks, marked};
-ghost use Rattle.node_reach.specs.Reach.{IsClosed, Reaches, is_operand};
+ghost use Rattle.node_reach.specs.Reach.{Reaches, is_operand};
 
 use array_expr::{Expr, Node, NodeId, Op};
 use std::alloc::{AllocError, Global};

@@ -1,12 +1,12 @@
 -- What the closed nodes tell of a run.
-use Rattle.std.proofs.Common.{◌≡◌, ◌∙◌, ◌⊎◌, ℕ, ◌+◌, ◌<◌, Bool, true, false, List, [], ◌∷◌, map, length, get_or, sym, ap, subst, inl, inr, ⊎_elim, arith}
+use Rattle.std.proofs.Common.{◌≡◌, ◌∙◌, ℕ, ◌+◌, ◌<◌, Bool, true, false, List, [], ◌∷◌, map, length, get_or, sym, ap, subst, arith}
 use Rattle.std.specs.Prelude.{Option, Some, None, IfOk, IfSome, is_some, Result, Ok, Err, Contains}
 use Rattle.std.proofs.lemmas.List.{length-map, get_or-map}
 use Rattle.cluster_msgs.specs.Labels.{LabelFacts, BlameFits}
 use Rattle.cluster_msgs.specs.Shape.{Shape}
 use Rattle.cluster_msgs.specs.declared.events.Entry.{Entry}
 use Rattle.cluster_msgs.specs.declared.events.History.{History}
-use Rattle.cluster_rules.specs.Sched.{Facts, Setting, connected, sched_opening}
+use Rattle.cluster_rules.specs.Sched.{Facts, sched_opening}
 use Rattle.cluster_rules.specs.Worker.{WorkerFacts, new_worker}
 use Rattle.cluster_rules.specs.Client.{ClientFacts, new_client}
 use Rattle.scheduler_core.specs.Cores.{facts}
@@ -21,7 +21,7 @@ use Rattle.node_runner.specs.declared.ends.RunStatus.{RunStatus}
 use Rattle.node_runner.specs.declared.ends.RunStatus.TheVariants.{Zero, Read, Memory}
 use Rattle.node_runner.specs.declared.ends.Histories.{Histories}
 use Rattle.node_runner.specs.Runs.{IsBookOf, IsTakenFrom, IsHistory, IsSchedulersBook, IsWorkersBook, IsClientsBook, WorkerSteps, ClientSteps, SchedSteps}
-use Rattle.node_runner.specs.Runs.{AreHistories, LastFacts, last_facts, IsLeft, HasCause, HasGot, IfStatus, IsBlamed, HasRun, course_of, setting_of}
+use Rattle.node_runner.specs.Runs.{last_facts, IsLeft, HasCause, HasGot, IfStatus, IsBlamed, HasRun, course_of, setting_of}
 use Rattle.node_runner.proofs.Places.{all_by_through}
 
 -- a history that was taken from a closed node's book

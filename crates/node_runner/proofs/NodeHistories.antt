@@ -1,10 +1,8 @@
 -- The histories of the three kinds of node, in their facts.
-use Rattle.std.proofs.Common.{◌≡◌, ◌∙◌, ℕ, ◌+◌, List, refl, sym, ap, subst}
-use Rattle.std.specs.Prelude.{Option, Some, None}
+use Rattle.std.proofs.Common.{◌≡◌, ◌∙◌, ℕ, List, subst}
 use Rattle.cluster_msgs.specs.Labels.{LabelFacts}
 use Rattle.cluster_msgs.specs.declared.events.Entry.{Entry}
-use Rattle.cluster_msgs.specs.declared.cores.SchedEvent.{SchedEvent}
-use Rattle.cluster_rules.specs.Sched.{Facts, Setting}
+use Rattle.cluster_rules.specs.Sched.{Setting}
 use Rattle.cluster_rules.specs.Worker.{WorkerFacts}
 use Rattle.cluster_rules.specs.Client.{ClientFacts}
 use Rattle.scheduler_core.specs.Cores.{facts}

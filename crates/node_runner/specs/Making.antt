@@ -1,5 +1,5 @@
 -- With which states the cells of a run are made, and what is known of them once they are closed.
-use Rattle.std.specs.Prelude.{◌≡◌, ℕ, ◌+◌, ◌<◌, Bool, false, List, [], length, slice_index_or, Option, Some}
+use Rattle.std.specs.Prelude.{◌≡◌, ℕ, ◌<◌, Bool, false, List, length, slice_index_or, Option, Some}
 use Rattle.cluster_msgs.specs.declared.events.Entry.{Entry}
 use Rattle.atomic_table.specs.Seated.{TableId}
 use Rattle.turn_cell.specs.Histories.{Ascending, Replays}

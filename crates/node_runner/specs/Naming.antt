@@ -1,5 +1,5 @@
 -- What is said of a run.
-use Rattle.std.specs.Prelude.{◌≡◌, ℕ, Bool, false, List, [], Option, Some, None, IsTrue}
+use Rattle.std.specs.Prelude.{ℕ, Bool, false, List, [], Option, Some, None, IsTrue}
 use Rattle.cluster_msgs.specs.Shape.{Shape}
 use Rattle.cluster_msgs.specs.Labels.{LabelFacts, label_of}
 

@@ -1,5 +1,5 @@
 -- How a run by threads ended.
-use Rattle.std.specs.Prelude.{◌≡◌, ◌≢◌, ℕ, ◌+◌, ◌<◌, ◌≤◌, ◌⊎◌, Bool, true, false, List, [], ◌++◌, length, map, sum, slice_index_or, Option, Some, None, All, IfOk, IfSome, is_some, Result, Ok, Err, Contains}
+use Rattle.std.specs.Prelude.{◌≡◌, ◌≢◌, ℕ, ◌+◌, ◌<◌, ◌≤◌, ◌⊎◌, Bool, true, false, List, [], map, sum, slice_index_or, Option, Some, None, All, IfOk, IfSome, is_some, Result, Ok, Err, Contains}
 use Rattle.cluster_msgs.specs.Shape.{Shape}
 use Rattle.cluster_msgs.specs.Labels.{LabelFacts, BlameFits}
 use Rattle.cluster_msgs.specs.declared.events.Entry.{Entry}

@@ -1,5 +1,5 @@
 //! How a run ended, as the closed nodes tell.
-ghost use Rattle.std.specs.Prelude.{◌≡◌, ◌≢◌, ◌≤◌, ◌+◌, ◌<◌, ◌++◌, ◌∷◌, [], ℕ, true, false, None, map, length, slice_index_or, All, Contains, IfOk, IfSome, Some};
+ghost use Rattle.std.specs.Prelude.{◌≡◌, ◌≢◌, ◌≤◌, ◌+◌, ◌<◌, ◌++◌, ◌∷◌, [], ℕ, true, false, None, slice_index_or, All, Contains, IfOk, IfSome, Some};
 ghost use Rattle.cluster_msgs.specs.Labels.{BlameFits};
 ghost use Rattle.cluster_rules.specs.Sched.{Facts as SchedFacts, connected};
 ghost use Rattle.cluster_msgs.specs.declared.cores.End.TheVariants.{Got};
@@ -7,7 +7,6 @@ ghost use Rattle.cluster_rules.specs.Client.{done};
 ghost use Rattle.gather_client.specs.CoreState.{client_facts};
 ghost use Rattle.scheduler_core.specs.Cores.{facts};
 ghost use Rattle.turn_cell.specs.Rows.{AllBy};
-ghost use Rattle.worker_core.specs.Core.{facts as worker_facts};
 ghost use Rattle.node_states.specs.Fitting.{ClientFits};
 ghost use Rattle.node_states.specs.declared.why.Why.TheVariants as why;
 ghost use Rattle.node_runner.specs.Runs.{HasGot, IsGivenUp, IsLeft, IsNamed, IsTakenFrom};

@@ -1,5 +1,5 @@
 //! A client's node.
-ghost use Rattle.std.specs.Prelude.{◌≡◌, ℕ, ◌<◌, [], false, true, IfOk, IfSome, Ok, Some, None};
+ghost use Rattle.std.specs.Prelude.{◌≡◌, ◌<◌, [], false, true, IfOk, IfSome, Ok, Some, None};
 ghost use Rattle.cluster_msgs.specs.Labels.{PacketFits};
 ghost use Rattle.cluster_msgs.specs.declared.cores.ClientEvent.TheVariants as client;
 ghost use Rattle.cluster_msgs.specs.declared.events.Asker.TheVariants.{Client};

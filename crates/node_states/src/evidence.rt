@@ -1,7 +1,7 @@
 //! Events, instructions and blames that fit the label of a run, by their types.
-ghost use Rattle.std.specs.Prelude.{◌≡◌, ◌∷◌, ◌<◌, ◌≤◌, [], true, false};
+ghost use Rattle.std.specs.Prelude.{◌≡◌, ◌<◌, ◌≤◌, []};
 ghost use Rattle.cluster_msgs.specs.Shape.{deps_of, key_count};
-ghost use Rattle.cluster_msgs.specs.Labels.{ErrorFits, BlameFits, UpFits, ToClientFits};
+ghost use Rattle.cluster_msgs.specs.Labels.{ErrorFits, BlameFits};
 ghost use Rattle.node_states.specs.Fitting.{SchedEventFits, ClientEventFits, WorkerEventFits, InstructionsFit, LettersFit};
 
 use cluster_msgs::{

@@ -1,5 +1,5 @@
 //! A worker's core with its history.
-ghost use Rattle.std.specs.Prelude.{◌≡◌, ℕ, [], true, false, IfOk, IfErr, IfSome, OnOk, OnErr, None, is_some};
+ghost use Rattle.std.specs.Prelude.{◌≡◌, ℕ, [], true, false, IfOk, IfSome, OnOk, OnErr, None, is_some};
 ghost use Rattle.cluster_msgs.specs.declared.events.Event.TheVariants as event;
 ghost use Rattle.cluster_rules.specs.Derived.{is_in};
 ghost use Rattle.worker_core.specs.Core.{facts};

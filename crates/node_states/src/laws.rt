@@ -1,5 +1,4 @@
 //! What errors a cluster's nodes tell of, where the blocks that they work on fit the label of the run.
-ghost use Rattle.std.specs.Prelude.{◌≡◌, ℕ};
 ghost use Rattle.cluster_msgs.specs.Shape.{IsShape};
 ghost use Rattle.cluster_msgs.specs.declared.cores.SchedEvent.{SchedEvent};
 ghost use Rattle.cluster_msgs.specs.declared.cores.WorkerEvent.{WorkerEvent};

@@ -5,12 +5,12 @@ ghost use Rattle.cluster_msgs.specs.Shape.{key_count};
 ghost use Rattle.cluster_msgs.specs.declared.messages.Message.TheVariants as message;
 ghost use Rattle.cluster_msgs.specs.declared.messages.Peer.TheVariants as peer;
 ghost use Rattle.cluster_msgs.specs.declared.events.Event.TheVariants as event;
-ghost use Rattle.cluster_rules.specs.Worker.{WorkerFacts, would_start};
+ghost use Rattle.cluster_rules.specs.Worker.{would_start};
 ghost use Rattle.worker_core.specs.Core.{facts};
 ghost use Rattle.node_links.specs.Books.{IsRecorded, IsEntered, Steps};
 ghost use Rattle.node_states.specs.Order.{Adds};
 ghost use Rattle.node_states.specs.Reading.{IfWhole, MatchNext};
-ghost use Rattle.node_states.specs.Spills.{AddsInOrder, IsLookedUp, IsNextDue, MayMake, Marked, NoneDue};
+ghost use Rattle.node_states.specs.Spills.{AddsInOrder, IsLookedUp, IsNextDue, MayMake, NoneDue};
 ghost use Rattle.node_states.specs.Workers.{no_end, ends_last};
 ghost use Rattle.node_states.specs.Causes.{IsTurnsCause, why_of};
 

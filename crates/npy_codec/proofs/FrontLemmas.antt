@@ -1,7 +1,7 @@
 -- What the first bytes of a file, and its header, say of the whole file.
-use Rattle.std.proofs.Common.{◌≡◌, ◌≢◌, ℕ, suc, ◌+◌, ◌-◌, ◌*◌, ◌≤◌, ◌<◌, ◌^◌, ◌⊎◌, inl, inr, List, [], ◌∷◌, length, take, drop, get_or, refl, ap, sym, ◌∙◌, arith, subst, min}
-use Rattle.std.specs.Prelude.{slice_index, map, All, Any, Result, Ok, Err, IfOk, IfErr, OnOk}
-use Rattle.std.proofs.lemmas.List.{length-take, length-take-le, length-drop, get_or-take, take_min, length-map, get_or-map, take-take}
+use Rattle.std.proofs.Common.{◌≡◌, ℕ, suc, ◌+◌, ◌-◌, ◌*◌, ◌≤◌, ◌<◌, ◌^◌, inl, inr, List, [], ◌∷◌, length, take, drop, get_or, refl, ap, sym, ◌∙◌, arith, subst, min}
+use Rattle.std.specs.Prelude.{slice_index, map, All, Result, Ok, Err, IfOk, IfErr, OnOk}
+use Rattle.std.proofs.lemmas.List.{length-take, length-take-le, length-drop, get_or-take, take_min, take-take}
 use Rattle.std.proofs.Math.Nat.{min_comm}
 use Rattle.nd_shape.specs.Shape.{elements, IsShape}
 use Rattle.nd_shape.specs.Limits.{IsPassed}
@@ -13,7 +13,7 @@ use Rattle.io_edge.specs.Content.{Content, Told, Untold, OnTold, size_of}
 use Rattle.npy_codec.specs.declared.head.Head.{Head}
 use Rattle.npy_codec.specs.declared.error.NpyError.{NpyError}
 use Rattle.npy_codec.specs.declared.error.NpyError.TheVariants.{NotNpy, Version, Truncated, HeaderText, Descr, ShapeLimit, ReadFault, OutOfMemory}
-use Rattle.npy_codec.specs.Files.{magic, HasFixed, HasText, HasHead, Declares, IsNotMagic, IsOtherVersion, IsShortFixed, IsShortText, IsShortData, IsRefusedAs, text_len_at, text_of, int64_descr}
+use Rattle.npy_codec.specs.Files.{HasFixed, HasText, HasHead, IsNotMagic, IsOtherVersion, IsShortFixed, IsRefusedAs, text_len_at, text_of}
 use Rattle.npy_codec.specs.Fronts.{HasTextLen, DeclaresHead, FixedRefusedAs, IsHeadOfFields, FieldsRefusedAs, IsHeadOfText, TextRefusedAs}
 
 -- ---- the first ten bytes

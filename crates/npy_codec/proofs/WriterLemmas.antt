@@ -1,10 +1,10 @@
 -- What the writer writes is a header that says the array's shape, and a file that has it.
-use Rattle.std.proofs.Common.{◌≡◌, ◌≢◌, ℕ, ℤ, pos, zero, suc, ◌≤◌, ◌<◌, ◌+◌, ◌-◌, ◌*◌, ◌/◌, ◌%◌, ◌^◌, ◌⊎◌, inl, inr, List, [], ◌∷◌, ◌++◌, length, take, drop, get_or, refl, ap, ap₂, sym, ◌∙◌, arith, subst, append_assoc, length-append, codes}
-use Rattle.std.specs.Prelude.{replicate, true, false, All}
+use Rattle.std.proofs.Common.{◌≡◌, ℕ, zero, suc, ◌≤◌, ◌<◌, ◌+◌, ◌-◌, ◌*◌, ◌/◌, ◌%◌, ◌^◌, inl, inr, List, [], ◌∷◌, ◌++◌, length, refl, sym, ◌∙◌, arith, append_assoc, codes}
+use Rattle.std.specs.Prelude.{replicate, false, All}
 use Rattle.std.specs.Fmt.{decimal}
 use Rattle.std.proofs.lemmas.Fmt.{decimal_by_steps}
-use Rattle.nd_shape.specs.Shape.{elements, IsShape, shape_text, comma_list}
-use Rattle.npy_header.specs.Headers.{Fields, IsHeader, IsNumber, IsDigit, AllBytes, AreSpaces, AreAxes, IsTuple, IsItem, AreMore, EachOnce, IsInside, descr, fortran, shape, single, blank, with_entries}
+use Rattle.nd_shape.specs.Shape.{IsShape, shape_text, comma_list}
+use Rattle.npy_header.specs.Headers.{Fields, IsHeader, IsNumber, IsDigit, AllBytes, AreSpaces, AreAxes, IsTuple, IsItem, IsInside, descr, fortran, shape, single}
 use Rattle.npy_header.specs.Headers.{decimal as value_of}
 use Rattle.npy_codec.specs.Npy.{dictionary, spaces_after}
 use Rattle.npy_codec.specs.Files.{int64_descr}

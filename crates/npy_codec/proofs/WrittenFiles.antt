@@ -1,21 +1,20 @@
 -- The file that the writer begins is one that is read as the same array.
-use Rattle.std.proofs.Common.{◌≡◌, ℕ, ℤ, pos, zero, suc, ◌≤◌, ◌<◌, ◌+◌, ◌-◌, ◌*◌, ◌/◌, ◌%◌, ◌^◌, List, [], ◌∷◌, ◌++◌, length, take, drop, get_or, refl, ap, ap₂, sym, ◌∙◌, arith, subst, append_assoc, length-append}
-use Rattle.std.specs.Prelude.{replicate, true, false, All, FitsSigned}
-use Rattle.std.specs.Int.{w64, cast_unsigned, cast_signed, from_le_bytes, to_le_bytes}
+use Rattle.std.proofs.Common.{◌≡◌, ℕ, ℤ, pos, zero, suc, ◌<◌, ◌+◌, ◌-◌, ◌*◌, ◌/◌, ◌%◌, ◌^◌, List, [], ◌∷◌, ◌++◌, length, take, drop, get_or, refl, ap, ap₂, sym, ◌∙◌, arith, subst, append_assoc, length-append}
+use Rattle.std.specs.Prelude.{replicate, false, All, FitsSigned}
+use Rattle.std.specs.Int.{w64, cast_unsigned, cast_signed, from_le_bytes}
 use Rattle.std.proofs.lemmas.Int.{to_z-of_z}
 use Rattle.std.proofs.lemmas.Nat.{from_le_bytes-to_le_bytes_8}
 use Rattle.std.proofs.Math.Facts.{Fits-of_z}
 use Rattle.std.proofs.lemmas.List.{length-replicate, take-append-le, take_all}
 use Rattle.nd_shape.specs.Shape.{elements, IsShape}
 use Rattle.nd_shape.specs.Index.{IsIn, place}
-use Rattle.nd_shape.specs.Block.{Array}
 use Rattle.nd_shape.specs.Region.{moved}
 use Rattle.nd_shape.proofs.Places.{place-below, IsIn-length}
 use Rattle.npy_codec.specs.declared.head.Head.{Head}
-use Rattle.npy_codec.specs.Npy.{dictionary, spaces_after, text_len, header, header_of, cell, cell_bytes, cells_bytes, npy}
+use Rattle.npy_codec.specs.Npy.{dictionary, spaces_after, text_len, header, cell, cell_bytes, cells_bytes, npy}
 use Rattle.npy_header.specs.Headers.{IsHeader}
-use Rattle.npy_codec.specs.Files.{HasFixed, HasText, HasHead, IsNpy, text_len_at, text_of, int64_descr}
-use Rattle.npy_codec.specs.Regions.{HoldsRegion, whole, element}
+use Rattle.npy_codec.specs.Files.{HasHead, IsNpy, text_len_at, text_of}
+use Rattle.npy_codec.specs.Regions.{whole}
 use Rattle.npy_codec.proofs.WriterLemmas.{written_text, written_fields, is_written_header}
 
 -- ---- elements

@@ -1,6 +1,6 @@
 -- What the parts of a file's front say: its fixed bytes by themselves, and its header by itself.
-use Rattle.std.specs.Prelude.{◌≡◌, ◌≢◌, ◌≤◌, ◌<◌, ◌+◌, ℕ, List, length, take}
-use Rattle.nd_shape.specs.Shape.{elements, IsShape}
+use Rattle.std.specs.Prelude.{◌≡◌, ◌≢◌, ◌+◌, ℕ, List, length}
+use Rattle.nd_shape.specs.Shape.{IsShape}
 use Rattle.npy_header.specs.Headers.{Fields, IsHeader}
 use Rattle.npy_header.specs.Reading.{IsRefused}
 use Rattle.npy_codec.specs.declared.head.Head.{Head}

@@ -1,17 +1,16 @@
 -- Each header is derived by the rows, with events that leave its fields.
-use Rattle.std.proofs.Common.{◌≡◌, ℕ, zero, suc, ◌<◌, ◌≤◌, ◌+◌, ◌-◌, ◌*◌, Bool, true, false, ◌||◌, ◌&&◌, not, cond, nat_eq, List, [], ◌∷◌, ◌++◌, ◌⊎◌, inl, inr, Some, None, refl, ap, sym, subst, ◌∙◌, arith, append_assoc, append-nil}
-use Rattle.std.specs.Prelude.{Option}
+use Rattle.std.proofs.Common.{◌≡◌, ℕ, zero, ◌+◌, ◌-◌, ◌*◌, Bool, true, false, ◌||◌, cond, nat_eq, List, [], ◌∷◌, ◌++◌, ◌⊎◌, inl, inr, Some, None, refl, ap, sym, subst, ◌∙◌, arith, append_assoc, append-nil}
 use Rattle.std.proofs.lemmas.Bool.{eqb-true, eqb-false}
 use Rattle.grammar.specs.Grammars.{Event, took, did, tokens}
-use Rattle.npy_header.specs.Headers.{Fields, blank, Quote, single, double, quote_byte, AllBytes, AreSpaces, IsInside, IsDigit, decimal, IsNumber, Entry, descr, fortran, shape, key_text, bool_text, AreAxes, IsTuple, IsValue, IsItem, AreMore, Keys, has, without, EachOnce, with_entry, with_entries, IsHeader}
+use Rattle.npy_header.specs.Headers.{Fields, Quote, single, double, quote_byte, AllBytes, AreSpaces, IsInside, IsDigit, decimal, IsNumber, Entry, descr, fortran, shape, key_text, bool_text, AreAxes, IsValue, IsItem, AreMore, Keys, has, without, EachOnce, with_entry, with_entries, IsHeader}
 use Rattle.npy_header.specs.Kinds.{kind_of}
-use Rattle.npy_header.specs.Scans.{Scan, fresh, fields_of, after_byte, after_action, after_events}
-use Rattle.npy_header.specs.Typed.{HPart, start, tail, spaces, descr_value, fortran_value, shape_value, string, tuple, axes, axis, digits, items, key, more, HSym, letter, sub, act, quote_kind, may_stand_in, letters, descr_rest, fortran_rest, shape_rest, item_rest, if_kind, on_items, on_key, on_more, on_part, other_part}
+use Rattle.npy_header.specs.Scans.{fresh, fields_of, after_byte, after_action, after_events}
+use Rattle.npy_header.specs.Typed.{HPart, start, tail, spaces, descr_value, fortran_value, shape_value, string, tuple, axes, axis, digits, items, key, more, HSym, letter, sub, act, quote_kind, may_stand_in, letters, descr_rest, fortran_rest, shape_rest, item_rest, on_part, other_part}
 use Rattle.npy_header.proofs.KindLaws.{kind-quote, digit-kind, inside-kind}
 use Rattle.npy_header.proofs.Meaning.{MeansAs, DerivesPart, derives-on-part, derives-other-part}
-use Rattle.npy_header.proofs.Effects.{Does, does-nothing, does-took, does-append, does-same, does-all, does-descr, does-number, text-all, digits-all, pushes, taken_all}
+use Rattle.npy_header.proofs.Effects.{Does, does-nothing, does-took, does-append, does-all, does-descr, does-number, text-all, digits-all, pushes, taken_all}
 use Rattle.npy_header.proofs.Meanings.{same, keys}
-use Rattle.npy_header.proofs.Sound.{does-bool, push-none, does-close, does-other, item-assoc, push-more}
+use Rattle.npy_header.proofs.Sound.{does-bool, does-close, does-other, item-assoc, push-more}
 
 -- events that a part derives, with these bytes and this effect
 record Built (p : HPart) (w : List ℕ) (f : Fields → Fields) : Type 0 where

@@ -1,13 +1,13 @@
 -- What the rows derive, by the named parts: any meaning of the parts that their rules keep holds of what is derived; and what
 -- is put together by the rules is derived.
-use Rattle.std.proofs.Common.{◌≡◌, ℕ, zero, suc, ◌<◌, ◌≤◌, ◌+◌, Bool, true, false, ◌&&◌, nat_lt, List, [], ◌∷◌, ◌++◌, ◌⊎◌, inl, inr, map, length, Some, None, refl, ap, sym, subst, ◌∙◌, arith, append_assoc, append-nil}
+use Rattle.std.proofs.Common.{◌≡◌, ℕ, zero, suc, ◌<◌, ◌+◌, true, nat_lt, List, [], ◌∷◌, ◌++◌, inl, inr, map, length, Some, None, refl, ap, sym, subst, ◌∙◌, arith, append_assoc, append-nil}
 use Rattle.std.specs.Prelude.{Option, slice_get}
 use Rattle.std.proofs.lemmas.Bool.{and_parts, ltb-true}
 use Rattle.std.proofs.lemmas.Option.{get_or_from_slice_get, slice_get-get_or}
 use Rattle.grammar.specs.declared.symbol.Symbol.{Symbol}
 use Rattle.grammar.specs.declared.symbol.Symbol.TheVariants.{Token, Part, Action}
 use Rattle.grammar.specs.Grammars.{Grammar, Event, took, did, DerivesIn, Derives}
-use Rattle.grammar.specs.Tables.{Rows, rule_maybe, entry_rule, on_row, grammar_of}
+use Rattle.grammar.specs.Tables.{rule_maybe, entry_rule, on_row, grammar_of}
 use Rattle.grammar.specs.Tests.{named}
 use Rattle.grammar.proofs.Checked.{on-found, other-found, on-ok, other-ok}
 use Rattle.grammar.proofs.Derivations.{derives-nothing, derives-token, derives-action, derives-on, derives-other, derives-append}

@@ -1,8 +1,8 @@
 -- What each named part means: which bytes it takes, and what it does to the fields.
-use Rattle.std.proofs.Common.{◌≡◌, ◌≢◌, ℕ, ◌+◌, ◌-◌, Bool, true, false, List, [], ◌∷◌, ◌++◌, ◌⊎◌, refl}
-use Rattle.grammar.specs.Grammars.{Event, took, did, tokens}
+use Rattle.std.proofs.Common.{◌≡◌, ℕ, ◌+◌, ◌-◌, Bool, List, [], ◌∷◌, ◌++◌, ◌⊎◌}
+use Rattle.grammar.specs.Grammars.{Event, tokens}
 use Rattle.npy_header.specs.Headers.{Fields, Quote, quote_byte, AllBytes, AreSpaces, IsInside, IsDigit, IsNumber, Entry, descr, fortran, shape, AreAxes, IsValue, IsItem, AreMore, Keys, EachOnce, with_entry, with_entries, IsHeader}
-use Rattle.npy_header.specs.Scans.{Scan, fresh, fields_of, after_events}
+use Rattle.npy_header.specs.Scans.{fresh, fields_of, after_events}
 use Rattle.npy_header.specs.Typed.{HPart, start, tail, spaces, descr_value, fortran_value, shape_value, string, tuple, axes, axis, digits, items, key, more}
 use Rattle.npy_header.proofs.Effects.{Does, DoesText, DoesDigits, pushes}
 

@@ -1,31 +1,31 @@
 -- Each byte that the reader takes, and each that it refuses, is one that headers take or refuse.
-use Rattle.std.proofs.Common.{◌≡◌, ◌≢◌, ℕ, zero, suc, ◌<◌, ◌≤◌, ◌+◌, ◌-◌, ◌*◌, ◌^◌, min, Bool, true, false, List, [], ◌∷◌, ◌++◌, map, length, take, drop, get_or, Some, None, refl, ap, sym, subst, ◌∙◌, arith, append_assoc, append-nil}
+use Rattle.std.proofs.Common.{◌≡◌, ℕ, zero, suc, ◌<◌, ◌+◌, ◌-◌, ◌*◌, List, [], ◌∷◌, ◌++◌, map, length, take, drop, get_or, Some, None, refl, ap, sym, subst, ◌∙◌, arith, append_assoc, append-nil}
 use Rattle.std.specs.Prelude.{Option, slice_get, slice_index_or}
 use Rattle.std.proofs.lemmas.List.{map-append, take-append-drop, take_all}
 use Rattle.std.proofs.Math.Seq.{take-suc}
 use Rattle.std.proofs.lemmas.Option.{get_or_from_slice_get}
 use Rattle.grammar.specs.declared.symbol.Symbol.{Symbol}
 use Rattle.grammar.specs.declared.symbol.Symbol.TheVariants.{Part}
-use Rattle.grammar.specs.Grammars.{Grammar, Event, took, did, did_all, tokens, Begins, Derives, taken, refused, step}
+use Rattle.grammar.specs.Grammars.{Event, took, did_all, tokens, Begins, Derives, taken, refused, step}
 use Rattle.grammar.specs.Tables.{Rows, grammar_of}
 use Rattle.grammar.specs.Reading.{step_of}
 use Rattle.grammar.specs.declared.reply.Reply.{Reply}
 use Rattle.grammar.specs.declared.reply.Reply.TheVariants.{Taken, Refused}
-use Rattle.grammar.specs.Runs.{IsReady, Leaves, RefusesNext, Ends, HasKinds}
+use Rattle.grammar.specs.Runs.{RefusesNext, Ends, HasKinds}
 use Rattle.grammar.proofs.Derivations.{tokens-append, tokens-did_all}
 use Rattle.grammar.proofs.RunLaws.{ready-start, ready-taken, leaves-start, leaves-taken, refused-next, ended, viable}
 use Rattle.npy_header.specs.Headers.{Fields, IsHeader}
 use Rattle.npy_header.specs.Kinds.{kind_of}
 use Rattle.npy_header.specs.HeaderRows.{header_rows, certificate}
 use Rattle.npy_header.specs.Typed.{start, parts}
-use Rattle.npy_header.specs.Scans.{Scan, fresh, fields_of, after_byte, after_action, after_event, after_events}
+use Rattle.npy_header.specs.Scans.{Scan, fresh, fields_of, after_byte, after_action, after_events}
 use Rattle.npy_header.specs.Reading.{cap, capped, capped_scan, after_byte_capped, after_actions, IsReading, IsRefused, Says}
 use Rattle.npy_header.proofs.Table.{numbers, header_ll1, header_moves}
-use Rattle.npy_header.proofs.Meaning.{G, MeansAs, means, get-map, get-map-back, at-numbers}
+use Rattle.npy_header.proofs.Meaning.{G, means, get-map, get-map-back, at-numbers}
 use Rattle.npy_header.proofs.Effects.{events-append}
 use Rattle.npy_header.proofs.Sound.{closed}
 use Rattle.npy_header.proofs.Meanings.{M}
-use Rattle.npy_header.proofs.Complete.{BuiltHeader, built-header}
+use Rattle.npy_header.proofs.Complete.{built-header}
 
 -- ---- numbers that are capped
 

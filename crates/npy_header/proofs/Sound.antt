@@ -1,17 +1,17 @@
 -- What the rows derive is a header, with the fields that its events leave.
-use Rattle.std.proofs.Common.{◌≡◌, ◌≢◌, ℕ, zero, suc, ◌<◌, ◌≤◌, ◌+◌, ◌-◌, ◌*◌, Bool, true, false, ◌||◌, ◌&&◌, not, cond, nat_eq, List, [], ◌∷◌, ◌++◌, ◌⊎◌, inl, inr, Some, None, refl, ap, sym, subst, ◌∙◌, arith, append_assoc, append-nil}
+use Rattle.std.proofs.Common.{◌≡◌, ℕ, zero, ◌<◌, ◌+◌, ◌-◌, ◌*◌, Bool, true, false, ◌||◌, ◌&&◌, cond, nat_eq, List, [], ◌∷◌, ◌++◌, ◌⊎◌, inl, inr, Some, None, refl, ap, sym, subst, ◌∙◌, arith, append_assoc, append-nil}
 use Rattle.std.specs.Prelude.{Option, slice_get}
 use Rattle.std.proofs.lemmas.Bool.{eqb-true, and_parts, or_cases}
 use Rattle.std.proofs.lemmas.Option.{none-some}
-use Rattle.grammar.specs.Grammars.{Event, took, did, tokens, DerivesIn, Derives}
-use Rattle.npy_header.specs.Headers.{Fields, Quote, single, double, quote_byte, AllBytes, AreSpaces, IsInside, IsDigit, decimal, IsNumber, Entry, descr, fortran, shape, key_text, bool_text, AreAxes, IsTuple, IsValue, IsItem, AreMore, Keys, has, without, EachOnce, with_entry, with_entries, IsHeader}
+use Rattle.grammar.specs.Grammars.{Event, took, did}
+use Rattle.npy_header.specs.Headers.{Fields, Quote, single, double, quote_byte, AreSpaces, IsDigit, decimal, Entry, descr, fortran, shape, key_text, bool_text, IsTuple, IsValue, Keys, has, without, with_entry, with_entries}
 use Rattle.npy_header.specs.Kinds.{singles, kind_of}
-use Rattle.npy_header.specs.Scans.{Scan, fresh, fields_of, after_byte, after_action, after_events}
-use Rattle.npy_header.specs.Typed.{HPart, start, tail, spaces, descr_value, fortran_value, shape_value, string, tuple, axes, axis, digits, items, key, more, HSym, letter, sub, act, quote_kind, may_stand_in, letters, descr_rest, fortran_rest, shape_rest, item_rest, if_kind, on_items, on_key, on_more, on_part, other_part}
+use Rattle.npy_header.specs.Scans.{Scan, fresh, fields_of, after_byte, after_action}
+use Rattle.npy_header.specs.Typed.{HPart, start, tail, spaces, descr_value, fortran_value, shape_value, string, tuple, axes, axis, digits, items, key, more, HSym, letter, sub, act, quote_kind, may_stand_in, letters, descr_rest, fortran_rest, shape_rest, item_rest, if_kind, on_part, other_part}
 use Rattle.npy_header.proofs.KindLaws.{one-byte, quote-byte, zero-digit, digit-from, kind-inside}
 use Rattle.npy_header.proofs.Meaning.{MeansAs, IsClosed}
-use Rattle.npy_header.proofs.Effects.{Does, does-nothing, does-took, does-append, does-same, does-all, does-descr, does-number, DoesText, text-nothing, text-took, DoesDigits, digits-nothing, digits-took, pushes, taken_all, events-append}
-use Rattle.npy_header.proofs.Meanings.{same, keys, TailMeans, SpacesMean, StringMeans, DigitsMean, ValueMeans, NumbersMean, NumberMeans, AfterOpen, AfterNumber, ItemsMean, MoreMeans, M}
+use Rattle.npy_header.proofs.Effects.{Does, does-nothing, does-took, does-append, does-all, does-descr, does-number, DoesText, text-nothing, text-took, DoesDigits, digits-nothing, digits-took, pushes, taken_all}
+use Rattle.npy_header.proofs.Meanings.{same, keys, NumberMeans, AfterOpen, ItemsMean, MoreMeans, M}
 
 -- ---- which rule it is
 

@@ -1,12 +1,11 @@
 -- The rows of the code are the rules of the named parts, and pass the tests of the crate grammar.
-use Rattle.std.proofs.Common.{◌≡◌, ℕ, zero, suc, ◌+◌, Bool, true, false, List, [], ◌∷◌, ◌++◌, map, Some, None, refl}
+use Rattle.std.proofs.Common.{◌≡◌, ℕ, zero, suc, ◌+◌, true, List, [], ◌∷◌, map, Some, None, refl}
 use Rattle.std.specs.Prelude.{Option, slice_index_or}
-use Rattle.std.specs.Option.{option_map}
 use Rattle.grammar.specs.declared.symbol.Symbol.{Symbol}
 use Rattle.grammar.specs.declared.symbol.Symbol.TheVariants.{Token, Part, Action}
-use Rattle.grammar.specs.Tables.{Rows, rule_maybe, grammar_of, moves_end}
-use Rattle.grammar.specs.Tests.{Certificate, is_ll1}
-use Rattle.npy_header.specs.declared.rows.TheConstants.{ON, OTHER, MOVES, RULES, SYMBOLS}
+use Rattle.grammar.specs.Tables.{rule_maybe, moves_end}
+use Rattle.grammar.specs.Tests.{is_ll1}
+use Rattle.npy_header.specs.declared.rows.TheConstants.{ON, OTHER}
 use Rattle.npy_header.specs.HeaderRows.{header_rows, certificate}
 use Rattle.npy_header.specs.Typed.{HPart, start, HSym, letter, sub, act, on_part, other_part, parts}
 

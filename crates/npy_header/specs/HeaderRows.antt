@@ -1,5 +1,5 @@
 -- The rows of the code, and the tables by which they pass the tests of the crate grammar.
-use Rattle.std.specs.Prelude.{ℕ, true, false, List, [], ◌∷◌}
+use Rattle.std.specs.Prelude.{true, false, [], ◌∷◌}
 use Rattle.grammar.specs.Tables.{Rows}
 use Rattle.grammar.specs.Tests.{Certificate}
 use Rattle.npy_header.specs.declared.rows.TheConstants.{ON, OTHER, MOVES, RULES, SYMBOLS}

@@ -1,7 +1,7 @@
 -- The header of a .npy file of version 1.0: a Python dictionary with exactly the keys descr, fortran_order and shape, then
 -- spaces, then a newline. This is the format of NEP 1, "A simple file format for NumPy arrays", read as a relation by cases
 -- between bytes and what they say; between tokens there may be any number of spaces.
-use Rattle.std.specs.Prelude.{◌≡◌, ◌≢◌, ℕ, ◌+◌, ◌-◌, ◌*◌, ◌<◌, ◌≤◌, Bool, true, false, IsTrue, not, List, [], ◌∷◌, ◌++◌, ◌⊎◌}
+use Rattle.std.specs.Prelude.{◌≡◌, ◌≢◌, ℕ, ◌+◌, ◌-◌, ◌*◌, ◌≤◌, Bool, true, false, List, [], ◌∷◌, ◌++◌, ◌⊎◌}
 
 -- what a header says
 pub record Fields : Type 0 where

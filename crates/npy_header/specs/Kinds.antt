@@ -1,5 +1,5 @@
 -- The kind of a byte of a header: bytes that stand in a token of their own, or in a word, have a kind each.
-use Rattle.std.specs.Prelude.{ℕ, ◌+◌, Bool, true, false, cond, ◌&&◌, not, nat_eq, nat_le, List, [], ◌∷◌}
+use Rattle.std.specs.Prelude.{ℕ, ◌+◌, cond, ◌&&◌, not, nat_eq, nat_le, List, [], ◌∷◌}
 
 -- space, newline, braces, parentheses, colon, comma, quotes, the letters of the words, and 0
 abbrev pub singles : List ℕ

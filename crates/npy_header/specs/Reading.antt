@@ -1,5 +1,5 @@
 -- What a header's reader holds after some bytes, and what its answers mean.
-use Rattle.std.specs.Prelude.{◌≡◌, ℕ, ◌+◌, ◌-◌, ◌*◌, ◌^◌, ◌<◌, ◌≤◌, min, map, take, length, List, [], ◌∷◌, ◌++◌, Some}
+use Rattle.std.specs.Prelude.{◌≡◌, ℕ, ◌+◌, ◌-◌, ◌*◌, ◌^◌, ◌<◌, ◌≤◌, min, map, take, length, List, [], ◌∷◌, ◌++◌}
 use Rattle.grammar.specs.declared.symbol.Symbol.{Symbol}
 use Rattle.grammar.specs.declared.symbol.Symbol.TheVariants.{Part}
 use Rattle.grammar.specs.Grammars.{Event, tokens}
@@ -10,7 +10,7 @@ use Rattle.npy_header.specs.declared.fields.HeaderError.TheVariants.{Refused, Ou
 use Rattle.npy_header.specs.Headers.{Fields, IsHeader}
 use Rattle.npy_header.specs.Kinds.{kind_of}
 use Rattle.npy_header.specs.HeaderRows.{header_rows, certificate}
-use Rattle.npy_header.specs.Scans.{Scan, fresh, fields_of, after_action, after_events}
+use Rattle.npy_header.specs.Scans.{Scan, fresh, after_action, after_events}
 
 -- ---- numbers of any length in 64 bits
 

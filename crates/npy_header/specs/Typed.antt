@@ -1,5 +1,5 @@
 -- The grammar of headers by named parts, in which the next byte decides.
-use Rattle.std.specs.Prelude.{ℕ, suc, zero, ◌+◌, Bool, true, false, cond, ◌&&◌, ◌||◌, not, nat_eq, nat_lt, List, [], ◌∷◌, ◌++◌, Option, Some, None}
+use Rattle.std.specs.Prelude.{ℕ, Bool, true, false, cond, ◌&&◌, ◌||◌, not, nat_eq, nat_lt, List, [], ◌∷◌, Option, Some, None}
 use Rattle.npy_header.specs.Headers.{Quote, single, double}
 
 pub data HPart : Type 0 where

@@ -12,7 +12,7 @@ use Rattle.npy_codec.specs.Npy.{cells}
 use Rattle.npy_codec.specs.Regions.{HoldsRegion}
 use Rattle.npy_region.specs.Cells.{AreStored, EndsWithin, InRowMajor}
 use Rattle.npy_region.proofs.CellLemmas.{ReadTo, read_none, read_step}
-use Rattle.npy_region.proofs.RegionLemmas.{StoredTo, first_stored, row_more, row_room, told_block, told_empty}
+use Rattle.npy_region.proofs.RegionLemmas.{first_stored, row_more, row_room, told_block, told_empty}
 
 -- ## Elements, piece by piece
 

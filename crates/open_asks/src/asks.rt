@@ -1,5 +1,5 @@
 //! The open asks, ascending by peer.
-ghost use Rattle.std.specs.Prelude.{◌≡◌, ◌==◌, ◌+◌, ◌<◌, ◌≤◌, ℕ, [], true, Some, nat_lt, is_some, length, slice_index_or, All, IfOk, IfSome, OnOk, OnErr};
+ghost use Rattle.std.specs.Prelude.{◌≡◌, ◌==◌, ◌<◌, ◌≤◌, ℕ, [], true, Some, nat_lt, is_some, length, slice_index_or, All, IfOk, IfSome, OnOk, OnErr};
 ghost use Rattle.std.specs.List.{list_any, position, position_or_len};
 ghost use Rattle.std.specs.Option.{option_copied, option_map};
 ghost use Rattle.cluster_rules.specs.Worker.{Ask, ask_to, with_ask, without_ask, is_asked_for};

@@ -1,13 +1,11 @@
 // Reads what is needed of the arrays of inputs.
-ghost use Rattle.std.specs.Prelude.{◌≡◌, ◌≤◌, ◌<◌, ◌+◌, ◌-◌, ◌^◌, length, true, Some, IfOk, IfErr, OnOk, OnErr, IsErrOf};
+ghost use Rattle.std.specs.Prelude.{◌≡◌, ◌≤◌, ◌<◌, ◌-◌, ◌^◌, length, true, Some, IfOk, IfErr, OnOk, OnErr, IsErrOf};
 ghost use Rattle.io_edge.specs.Cause.{Rose};
-ghost use Rattle.io_edge.specs.Content.{file_at, size_of, OnTold};
+ghost use Rattle.io_edge.specs.Content.{file_at, size_of};
 ghost use Rattle.nd_shape.specs.Region.{Box, IsPart};
 ghost use Rattle.npy_codec.specs.Regions.{RegionRefusedAs};
 ghost use Rattle.array_expr.specs.Node.{IsExpression};
 ghost use Rattle.array_expr.specs.Elem.{is_input};
-ghost use Rattle.plain_eval.specs.Eval.{inputs_before};
-ghost use Rattle.input_regions.specs.Needed.{region_at};
 ghost use Rattle.input_regions.specs.Widening.{AreFit};
 ghost use Rattle.plain_block.specs.Files.{HaveFiles, AddsBlock, AreRead, IsRead, IsRefusedRegion, RefusesRegions, head_at};
 

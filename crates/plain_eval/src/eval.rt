@@ -1,11 +1,9 @@
 // The array of one node over those before it.
-ghost use Rattle.std.specs.Prelude.{◌≡◌, ◌<◌, ◌≤◌, ◌+◌, ◌++◌, [], ◌∷◌, ℕ, ℤ, List, Option, length, map, take, slice_index, true, false, cond, IfOk, OnOk};
-ghost use Rattle.nd_shape.specs.Shape.{elements};
-ghost use Rattle.nd_shape.specs.Broadcast.{broadcast};
-ghost use Rattle.nd_grid.specs.Grid.{elementwise, chosen, sliced, sliced_shape, transposed, reduced, kept_shape, folded_shape, concatenated, contracted};
-ghost use Rattle.array_expr.specs.Node.{IsExpression, dropped, folded_axes, shape_at, shapes_of};
-ghost use Rattle.array_expr.specs.Elem.{array_at, cells_of, formula, is_input, next_input, arrays};
-ghost use Rattle.plain_eval.specs.Fits.{CanPair, CanChoose, CanTake, CanTurn, CanJoin, CanContractKnown};
+ghost use Rattle.std.specs.Prelude.{◌≡◌, ◌<◌, ◌+◌, ◌++◌, [], ◌∷◌, length, take, cond, IfOk, OnOk};
+ghost use Rattle.nd_grid.specs.Grid.{sliced, sliced_shape, reduced, kept_shape, folded_shape, contracted};
+ghost use Rattle.array_expr.specs.Node.{IsExpression, dropped};
+ghost use Rattle.array_expr.specs.Elem.{array_at, cells_of};
+ghost use Rattle.plain_eval.specs.Fits.{CanTake, CanContractKnown};
 ghost use Rattle.plain_eval.specs.Eval.{HaveShapes, HaveBlocks, MadeOf, inputs_before, held_in};
 
 use crate::contraction::Contraction;

@@ -1,5 +1,5 @@
 // The formula of a concatenation.
-ghost use Rattle.std.specs.Prelude.{◌≡◌, ◌<◌, length, map};
+ghost use Rattle.std.specs.Prelude.{◌≡◌, ◌<◌, map};
 ghost use Rattle.nd_shape.specs.Index.{IsIn};
 ghost use Rattle.nd_grid.specs.Grid.{concatenated};
 ghost use Rattle.array_expr.specs.Elem.{array_at};

@@ -1,7 +1,6 @@
 // The elements of a region of a node.
 ghost use Rattle.std.specs.Prelude.{◌≡◌, ◌<◌, ◌≤◌, ◌+◌, ◌^◌, length, take, IfOk};
 ghost use Rattle.nd_shape.specs.Region.{IsPart};
-ghost use Rattle.nd_grid.specs.Grid.{part, block_of};
 ghost use Rattle.array_expr.specs.Node.{IsExpression, shape_at};
 ghost use Rattle.array_expr.specs.Elem.{array_at, arrays, next_input};
 ghost use Rattle.plain_eval.specs.Fits.{CanCut};

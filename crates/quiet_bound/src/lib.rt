@@ -5,7 +5,7 @@
 //! events are no longer is not proved here.
 #![tactic(auto)]
 
-ghost use Rattle.std.specs.Prelude.{◌≡◌, ◌≢◌, ℕ, ◌+◌, ◌*◌, ◌-◌, ◌^◌, ◌≤◌, ◌<◌, nat_le, max, min};
+ghost use Rattle.std.specs.Prelude.{◌≡◌, ◌≢◌, ◌+◌, ◌*◌, ◌-◌, ◌^◌, ◌≤◌, ◌<◌, nat_le, max, min};
 ghost use Rattle.cluster_msgs.specs.Shape.{key_count, edge_count};
 ghost use Rattle.cluster_rules.specs.World.{quiet_bound, rest_of, rest, worker_count};
 ghost use Rattle.cluster_world.specs.Worlds.{world as world_of, setting};

@@ -1,5 +1,5 @@
 //! Counts over the events of a run.
-ghost use Rattle.std.specs.Prelude.{◌≡◌, ◌++◌, ◌∷◌, ◌<◌, ◌^◌, ◌+◌, ◌-◌, ℕ, [], List, length, min, cond, IfOk, OnOk, OnErr};
+ghost use Rattle.std.specs.Prelude.{◌≡◌, ◌++◌, ◌∷◌, ◌<◌, ◌^◌, ◌+◌, ◌-◌, [], List, length, min, cond, IfOk, OnOk, OnErr};
 ghost use Rattle.std.specs.Option.{option_copied};
 ghost use Rattle.cluster_rules.specs.Report.{Taken, is_join, how_many, report};
 ghost use Rattle.run_report.specs.Counts.{IsCountOf, starts_of};

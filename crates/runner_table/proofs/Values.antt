@@ -1,5 +1,5 @@
 -- A value that is put at its key's place.
-use Rattle.std.proofs.Common.{◌≡◌, ℕ, ◌<◌, List, [], replicate, length, get_or, set, sym, ◌∙◌, ap, subst, Option, Some, None, inl, inr, zero, suc, refl, Bool, true, is_some}
+use Rattle.std.proofs.Common.{◌≡◌, ℕ, ◌<◌, List, [], replicate, length, get_or, set, sym, ◌∙◌, ap, subst, Option, Some, None, inl, inr, zero, suc, refl, true, is_some}
 use Rattle.std.proofs.lemmas.List.{get_or-set_other, get_or-set_same}
 use Rattle.std.specs.Prelude.{IfSome}
 use Rattle.std.proofs.lemmas.Bool.{cases_eq}

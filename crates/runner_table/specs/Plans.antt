@@ -1,5 +1,5 @@
 -- Which plans the program runs.
-use Rattle.std.specs.Prelude.{ℕ, ◌*◌, ◌<◌, ◌≤◌}
+use Rattle.std.specs.Prelude.{◌*◌, ◌<◌, ◌≤◌}
 use Rattle.node_runner.specs.Runs.{numbers}
 use Rattle.node_runner.specs.declared.plan.RunPlan.{RunPlan}
 

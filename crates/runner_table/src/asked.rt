@@ -1,5 +1,5 @@
 //! What a line asks for.
-ghost use Rattle.std.specs.Prelude.{◌≤◌, length};
+ghost use Rattle.std.specs.Prelude.{◌≤◌};
 ghost use Rattle.runner_table.specs.Plans.{IsRunnable};
 
 use cluster_msgs::{Item, KeyList, Script};

@@ -1,13 +1,13 @@
 //! What each event of the scheduler changes by itself, before the facts settle.
-ghost use Rattle.std.specs.Prelude.{◌≡◌, ℕ, ◌+◌, ◌<◌, ◌≤◌, ◌^◌, ◌==◌, ◌&&◌, true, false, None, Some, OnOk, OnErr, is_some, [], ◌++◌, ◌∷◌, List, All, length, cond};
+ghost use Rattle.std.specs.Prelude.{◌≡◌, ◌+◌, ◌<◌, ◌≤◌, ◌^◌, ◌==◌, ◌&&◌, true, false, None, Some, OnOk, is_some, [], ◌++◌, ◌∷◌, All, cond};
 ghost use Rattle.cluster_rules.specs.Functions.{put, put_pair};
 ghost use Rattle.cluster_rules.specs.Derived.{is_in};
 ghost use Rattle.cluster_rules.specs.Sched.{keys, connected, holds};
-ghost use Rattle.cluster_rules.specs.SchedTable.{Changed, plain, is_this, is_copy, is_asked_back, refused, finished, failed, add_key, add_keys, released, lost_copy, stolen_by, stolen_to, answered, wants_more, wants_less};
+ghost use Rattle.cluster_rules.specs.SchedTable.{is_this, is_copy, is_asked_back, refused, finished, failed, add_key, add_keys, released, lost_copy, stolen_by, stolen_to, answered, wants_more, wants_less};
 ghost use Rattle.task_table.specs.Tasks.{facts};
 ghost use Rattle.sched_changes.specs.Follows.{Follows, AreTouched};
 ghost use Rattle.key_sets.specs.Sets.{has};
-ghost use Rattle.sched_changes.specs.Pairs.{has_pair, so_far};
+ghost use Rattle.sched_changes.specs.Pairs.{so_far};
 ghost use Rattle.sched_changes.specs.Rows.{news_of, refused_at};
 
 use crate::asking::{copy_of, fence_of, place_of, steal_of};

@@ -1,8 +1,8 @@
 //! The rows of the scheduler's table: what each event changes, frees, answers and leaves to be told.
-ghost use Rattle.std.specs.Prelude.{◌≡◌, ℕ, ◌+◌, ◌<◌, ◌≤◌, ◌^◌, nat_lt, nat_le, ◌&&◌, true, false, None, Some, IfOk, OnOk, OnErr, [], List, length};
+ghost use Rattle.std.specs.Prelude.{◌≡◌, ◌+◌, ◌<◌, ◌≤◌, ◌^◌, nat_lt, true, false, None, Some, IfOk, [], length};
 ghost use Rattle.std.specs.List.{list_all};
 ghost use Rattle.cluster_msgs.specs.declared.cores.SchedEvent.TheVariants.{Join};
-ghost use Rattle.cluster_rules.specs.Sched.{Facts as SchedFacts, keys, connected, workers};
+ghost use Rattle.cluster_rules.specs.Sched.{keys, connected, workers};
 ghost use Rattle.cluster_rules.specs.SchedTable.{change_up, change_client, change, up_keys, client_keys, sched_takes, joined, left, balanced, evicted};
 ghost use Rattle.cluster_rules.specs.Policies.{next_steal, next_drop};
 ghost use Rattle.task_table.specs.Tasks.{facts};

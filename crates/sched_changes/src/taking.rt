@@ -1,9 +1,9 @@
 //! Which events are taken. All others are refused.
-ghost use Rattle.std.specs.Prelude.{◌≡◌, ℕ, ◌+◌, ◌<◌, ◌≤◌, ◌&&◌, nat_lt, nat_le, true, Bool, is_some, List, length};
+ghost use Rattle.std.specs.Prelude.{◌≡◌, ◌<◌, ◌&&◌, nat_lt, nat_le, true, is_some, length};
 ghost use Rattle.std.specs.List.{list_all};
 ghost use Rattle.cluster_msgs.specs.declared.cores.SchedEvent.{SchedEvent};
-ghost use Rattle.cluster_rules.specs.Sched.{Facts as SchedFacts, keys, workers, connected};
-ghost use Rattle.cluster_rules.specs.SchedTable.{are_keys, up_keys, client_keys, sched_takes};
+ghost use Rattle.cluster_rules.specs.Sched.{keys, workers, connected};
+ghost use Rattle.cluster_rules.specs.SchedTable.{up_keys, client_keys, sched_takes};
 ghost use Rattle.task_table.specs.Tasks.{facts};
 ghost use Rattle.sched_changes.specs.Choices.{steal_for, drop_for};
 

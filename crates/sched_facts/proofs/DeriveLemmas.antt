@@ -1,5 +1,5 @@
 -- Rows that are filled with a derived fact, key by key.
-use Rattle.std.proofs.Common.{◌≡◌, ℕ, zero, suc, ◌+◌, ◌*◌, ◌<◌, ◌≤◌, ◌^◌, Bool, true, false, not, cond, ◌&&◌, ◌||◌, List, [], ◌∷◌, ◌++◌, Option, Some, None, is_some, refl, sym, ap, ◌∙◌, subst, arith, length, get_or, ⊎_elim, inl, inr, ◌⊎◌, take, ◌-◌, add-one}
+use Rattle.std.proofs.Common.{◌≡◌, ℕ, zero, suc, ◌+◌, ◌*◌, ◌<◌, ◌≤◌, Bool, true, false, not, cond, ◌&&◌, ◌||◌, List, [], ◌∷◌, ◌++◌, Option, Some, None, is_some, refl, sym, ap, ◌∙◌, arith, length, get_or, ⊎_elim, ◌⊎◌, take, ◌-◌, add-one}
 use Rattle.std.specs.List.{list_any, range_with_len, find, AllByRecursion}
 use Rattle.std.specs.Option.{option_or}
 use Rattle.std.proofs.lemmas.List.{get_or_past, take_more}
@@ -17,7 +17,7 @@ use Rattle.small_facts.proofs.Truth.{one_at_most}
 use Rattle.fact_rows.specs.Rows.{read}
 use Rattle.cluster_rules.specs.Functions.{put, total, count}
 use Rattle.cluster_rules.specs.Derived.{IsBelow, below, is_in, reach}
-use Rattle.cluster_rules.specs.Sched.{Facts, IsSound, keys, deps, held, erred, need, open_key, blame, blame_step, blame_from, waiters}
+use Rattle.cluster_rules.specs.Sched.{Facts, IsSound, keys, deps, held, erred, need, open_key, blame, blame_from}
 use Rattle.cluster_rules.proofs.FunctionLemmas.{same_function}
 use Rattle.cluster_rules.proofs.DerivedLemmas.{reach-is, any_none, All_below, none_in, below_split}
 use Rattle.cluster_rules.proofs.SchedLemmas.{erred-is, is_some-blame, blame-is, deps-past}

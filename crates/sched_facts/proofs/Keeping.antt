@@ -1,14 +1,13 @@
 -- What a `FactTable` keeps, after each of its changes.
-use Rattle.std.proofs.Common.{◌≡◌, ℕ, ◌+◌, ◌-◌, ◌<◌, ◌≤◌, ◌^◌, Bool, true, false, cond, ◌&&◌, List, length, get_or, Option, Some, None, is_some, refl, sym, ap, ◌∙◌, subst, arith}
-use Rattle.std.proofs.lemmas.Bool.{false≢true, eqb-true}
+use Rattle.std.proofs.Common.{◌≡◌, ℕ, ◌+◌, ◌-◌, ◌<◌, ◌≤◌, Bool, true, false, cond, List, length, Option, Some, None, is_some, refl, sym, ap, ◌∙◌, subst, arith}
+use Rattle.std.proofs.lemmas.Bool.{eqb-true}
 use Rattle.std.proofs.Math.Dec.{eqb}
 use Rattle.small_facts.proofs.Numbers.{eqb_self}
 use Rattle.fact_rows.specs.Rows.{read}
 use Rattle.cluster_msgs.specs.Shape.{work_of, nbytes_of}
 use Rattle.cluster_rules.specs.Functions.{put, put_pair}
-use Rattle.cluster_rules.specs.Sched.{Facts, IsSound, keys, holds, is_on, is_for, connected, tasks, occupancy, bytes_held, holder_count}
-use Rattle.cluster_rules.proofs.TotalLemmas.{tasks_fit, occupancy_fits, bytes_held_fit}
-use Rattle.sched_facts.specs.Kept.{IsFresh, IsSummed, IsKeeping, want_count}
+use Rattle.cluster_rules.specs.Sched.{Facts, keys, holds, is_on, is_for, connected, tasks, occupancy, bytes_held, holder_count}
+use Rattle.sched_facts.specs.Kept.{IsSummed, IsKeeping, want_count}
 use Rattle.sched_facts.proofs.SumLemmas.{tasks-placed, occupancy-placed, bytes-copied, holders-copied, wanters-put}
 use Rattle.sched_facts.proofs.SoundTable.{sound-counted, sound-sent, sound-want, sound-bad, sound-copied, sound-placed, sound-marked, fresh-counted, fresh-copied, fresh-placed}
 

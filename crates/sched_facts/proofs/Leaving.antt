@@ -1,6 +1,6 @@
 -- A worker leaves key by key.
-use Rattle.std.proofs.Common.{◌≡◌, ℕ, ◌+◌, ◌≤◌, Bool, true, false, cond, ◌&&◌, ◌||◌, Option, Some, None, is_some, refl, sym, ap, ◌∙◌, subst, arith, ltb, ⊎_elim}
-use Rattle.std.proofs.lemmas.Bool.{false≢true, eqb-true, cases_lt, lt-ltb}
+use Rattle.std.proofs.Common.{◌≡◌, ℕ, ◌+◌, ◌≤◌, Bool, true, false, cond, ◌&&◌, ◌||◌, Option, None, is_some, refl, sym, ap, ◌∙◌, arith, ltb, ⊎_elim}
+use Rattle.std.proofs.lemmas.Bool.{eqb-true, cases_lt, lt-ltb}
 use Rattle.std.proofs.Math.Dec.{eqb}
 use Rattle.std.proofs.Math.Bool.{and-false, and-true}
 use Rattle.small_facts.proofs.Numbers.{equal_below_next, below_below_next, past_next, eqb_self, not_below_self, none_below_zero}
@@ -8,7 +8,7 @@ use Rattle.small_facts.proofs.Options.{cond_none}
 use Rattle.cluster_rules.specs.Functions.{put, put_pair}
 use Rattle.cluster_rules.specs.Sched.{Facts, IsSound, keys, holds, is_on, is_for, connected}
 use Rattle.cluster_rules.specs.SchedTable.{left}
-use Rattle.sched_facts.specs.Kept.{left_key, left_below, taken_back}
+use Rattle.sched_facts.specs.Kept.{left_key, left_below}
 
 next : (j i : ℕ) → ltb j (i + 1) ≡ (eqb j i || ltb j i)
 next j i = pick (eqb j i) (ltb j i) refl refl

@@ -1,5 +1,5 @@
 -- What the sums need before they change, and what they stand for.
-use Rattle.std.proofs.Common.{◌≡◌, ℕ, zero, suc, ◌+◌, ◌-◌, ◌*◌, ◌<◌, ◌≤◌, ◌^◌, Bool, true, false, cond, ◌&&◌, List, [], ◌∷◌, ◌++◌, length, get_or, Option, Some, None, refl, sym, ap, ◌∙◌, subst, arith, ltb, length-append}
+use Rattle.std.proofs.Common.{◌≡◌, ℕ, zero, ◌+◌, ◌-◌, ◌*◌, ◌<◌, ◌≤◌, ◌^◌, Bool, true, false, cond, ◌&&◌, List, [], ◌∷◌, length, Option, Some, None, refl, sym, ap, ◌∙◌, subst, arith, ltb, length-append}
 use Rattle.std.proofs.lemmas.Bool.{eqb-true, le-leb, lt-ltb}
 use Rattle.std.proofs.Math.Dec.{eqb}
 use Rattle.std.specs.Prelude.{nat_lt, nat_le}
@@ -21,7 +21,7 @@ use Rattle.cluster_rules.proofs.TotalLemmas.{tasks_fit, occupancy_fits, bytes_he
 use Rattle.cluster_rules.proofs.SoundStep.{sound_changed, sound_opening}
 use Rattle.cluster_rules.proofs.SchedLemmas.{filter-more}
 use Rattle.cluster_rules.proofs.NothingLemmas.{tasks-nowhere, occupancy-nowhere, bytes_held-nowhere, holder_count-nowhere}
-use Rattle.sched_facts.specs.Kept.{IsFresh, IsSummed, IsKeeping, want_count, left_key, left_below, taken_back}
+use Rattle.sched_facts.specs.Kept.{IsKeeping, want_count}
 use Rattle.sched_facts.proofs.SumLemmas.{any-count, wanters-put, holders-copied, bytes-copied}
 use Rattle.sched_facts.proofs.Keeping.{has_row, placed_at, task_counted, work_counted}
 

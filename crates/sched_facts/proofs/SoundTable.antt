@@ -6,8 +6,8 @@ use Rattle.std.proofs.Math.Bool.{and-false}
 use Rattle.small_facts.proofs.Numbers.{unequal_past}
 use Rattle.small_facts.proofs.Truth.{and_first}
 use Rattle.cluster_rules.specs.Functions.{put, put_pair}
-use Rattle.cluster_rules.specs.Sched.{Facts, IsSound, keys, holds, is_on, is_for, connected}
-use Rattle.cluster_rules.proofs.SoundLemmas.{IsBounded, sound_bounded, bounded_marked, put_past}
+use Rattle.cluster_rules.specs.Sched.{Facts, IsSound, keys, is_for, connected}
+use Rattle.cluster_rules.proofs.SoundLemmas.{sound_bounded, bounded_marked, put_past}
 use Rattle.sched_facts.specs.Kept.{IsFresh}
 
 pair_past : {A : Type 0} (f : ℕ → ℕ → A) (w k n v j : ℕ) (x d : A) → k < n → n ≤ j → f v j ≡ d → put_pair f w k x v j ≡ d

@@ -1,5 +1,5 @@
 -- Sums after one write.
-use Rattle.std.proofs.Common.{◌≡◌, ℕ, zero, suc, ◌+◌, ◌-◌, ◌<◌, ◌≤◌, Bool, true, false, cond, ◌&&◌, ◌||◌, List, [], ◌∷◌, Option, Some, None, is_some, refl, sym, ap, ◌∙◌, arith, ⊎_elim, ◌⊎◌, ltb}
+use Rattle.std.proofs.Common.{◌≡◌, ℕ, zero, suc, ◌+◌, ◌-◌, ◌<◌, ◌≤◌, Bool, true, false, cond, ◌&&◌, ◌||◌, List, [], ◌∷◌, Option, is_some, refl, sym, ap, ◌∙◌, arith, ⊎_elim, ◌⊎◌, ltb}
 use Rattle.std.proofs.Math.Dec.{eqb}
 use Rattle.std.proofs.lemmas.Bool.{eqb-true}
 use Rattle.std.specs.List.{range_with_len, list_any}
@@ -9,7 +9,7 @@ use Rattle.small_facts.proofs.Numbers.{next_positive, unequal_next, none_plus, e
 use Rattle.cluster_msgs.specs.Shape.{work_of, nbytes_of}
 use Rattle.cluster_rules.specs.Functions.{put, put_pair, from_one, total, count}
 use Rattle.cluster_rules.specs.Derived.{below}
-use Rattle.cluster_rules.specs.Sched.{Facts, keys, holds, held, wanted, is_on, is_for, tasks, occupancy, bytes_held, holder_count}
+use Rattle.cluster_rules.specs.Sched.{Facts, keys, holds, is_for, tasks, occupancy, bytes_held, holder_count}
 use Rattle.sched_facts.specs.Kept.{want_count}
 
 -- above the changed place

@@ -1,9 +1,8 @@
 //! What is derived anew from the facts after an event: which keys are known, to blame, needed and ready, and how many wait.
-ghost use Rattle.std.specs.Prelude.{◌≡◌, ℕ, ◌+◌, ◌<◌, ◌≤◌, ◌^◌, length, IfOk, false, true, None, Some, not, cond, List, ◌&&◌, ◌||◌, All, is_some, is_none};
-ghost use Rattle.std.specs.List.{list_any, list_all, AllByRecursion};
+ghost use Rattle.std.specs.Prelude.{◌≡◌, ℕ, ◌+◌, ◌<◌, ◌^◌, length, IfOk, false, true, None, Some, not, cond, ◌&&◌, ◌||◌, All, is_some};
+ghost use Rattle.std.specs.List.{list_all};
 ghost use Rattle.std.specs.List.Sorted.{IsStrictlyIncreasing};
-ghost use Rattle.cluster_msgs.specs.Shape.{deps_of};
-ghost use Rattle.cluster_rules.specs.Sched.{Facts, keys, deps, held, wanted, known, need, ready, open_key, fed, blame, waiters};
+ghost use Rattle.cluster_rules.specs.Sched.{keys, deps, held, wanted, known, need, ready, open_key, fed, blame, waiters};
 ghost use Rattle.cluster_rules.specs.Derived.{reach, is_in};
 ghost use Rattle.fact_rows.specs.Rows.{read};
 ghost use Rattle.sched_facts.specs.Stored.{facts_of};

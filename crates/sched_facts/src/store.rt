@@ -1,11 +1,11 @@
 //! The facts in rows. Each call changes one fact, or answers one.
 #![tactic(auto, unfolding(crate::specs::Stored::facts_of))]
 
-ghost use Rattle.std.specs.Prelude.{◌≡◌, ℕ, ◌+◌, ◌<◌, ◌≤◌, ◌^◌, false, length, None, Some, IfOk, OnOk, OnErr};
+ghost use Rattle.std.specs.Prelude.{◌≡◌, ℕ, ◌+◌, ◌<◌, ◌≤◌, ◌^◌, false, length, None, IfOk, OnOk};
 ghost use Rattle.fact_rows.specs.Rows.{cell, height, read, width};
-ghost use Rattle.cluster_msgs.specs.Shape.{deps_of, work_of, nbytes_of};
+ghost use Rattle.cluster_msgs.specs.Shape.{work_of, nbytes_of};
 ghost use Rattle.cluster_rules.specs.Functions.{put, put_pair};
-ghost use Rattle.cluster_rules.specs.Sched.{Facts, Setting, keys, holds, sched_opening};
+ghost use Rattle.cluster_rules.specs.Sched.{keys, holds, sched_opening};
 ghost use Rattle.sched_facts.specs.Stored.{Stored, facts_of, IsStored};
 
 use crate::sheets::Sheets;

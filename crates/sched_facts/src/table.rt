@@ -2,10 +2,9 @@
 //!
 //! Beside the facts it keeps running sums: how many keys, how much work and how many bytes are at each worker, and how
 //! many workers hold and how many clients want each key. So no question visits all keys.
-ghost use Rattle.std.specs.Prelude.{◌≡◌, ℕ, ◌+◌, ◌<◌, ◌≤◌, ◌^◌, true, false, None, Some, IfOk, OnOk, OnErr, length, is_some};
-ghost use Rattle.cluster_msgs.specs.Shape.{deps_of, work_of, nbytes_of};
+ghost use Rattle.std.specs.Prelude.{◌≡◌, ℕ, ◌+◌, ◌<◌, ◌≤◌, ◌^◌, true, false, None, Some, IfOk, OnOk, length, is_some};
 ghost use Rattle.cluster_rules.specs.Functions.{put, put_pair};
-ghost use Rattle.cluster_rules.specs.Sched.{Facts, Setting, IsSound, sched_opening, keys, held, wanted, holds, is_on, connected, workers, tasks, occupancy, bytes_held, holder_count};
+ghost use Rattle.cluster_rules.specs.Sched.{IsSound, sched_opening, keys, held, wanted, holds, is_on, connected, workers, tasks, occupancy, bytes_held, holder_count};
 ghost use Rattle.cluster_rules.specs.SchedTable.{joined, left};
 ghost use Rattle.sched_facts.specs.Stored.{facts_of};
 ghost use Rattle.sched_facts.specs.Kept.{IsFresh, left_key, taken_back};

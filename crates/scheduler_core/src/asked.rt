@@ -1,5 +1,5 @@
 //! The keys of an event's own want. They count as neither held nor erred before it, so that the client hears of them.
-ghost use Rattle.std.specs.Prelude.{◌≡◌, ℕ, ◌<◌, ◌≤◌, ◌||◌, ◌^◌, true, false, length, All, IfOk};
+ghost use Rattle.std.specs.Prelude.{◌≡◌, ℕ, ◌<◌, ◌≤◌, ◌||◌, true, All, IfOk};
 ghost use Rattle.cluster_rules.specs.Derived.{is_in};
 ghost use Rattle.cluster_rules.specs.Sched.{keys};
 ghost use Rattle.cluster_rules.specs.SchedTable.{sched_takes};

@@ -1,5 +1,5 @@
 //! What is new of the keys.
-ghost use Rattle.std.specs.Prelude.{◌≡◌, ◌<◌, ◌++◌, [], ℕ, true, Bool, Option, false, None, Some, not, ◌&&◌, cond, IfOk, OnOk};
+ghost use Rattle.std.specs.Prelude.{◌≡◌, ◌<◌, ◌++◌, [], ℕ, true, Option, None, Some, not, ◌&&◌, cond, IfOk, OnOk};
 ghost use Rattle.std.specs.List.{cons_option};
 ghost use Rattle.std.specs.Option.{option_map};
 ghost use Rattle.cluster_rules.specs.Sched.{keys, held, blame};

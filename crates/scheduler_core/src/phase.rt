@@ -3,7 +3,7 @@ ghost use Rattle.std.specs.Prelude.{◌≡◌, ◌<◌, not, cond, is_some};
 ghost use Rattle.std.specs.List.{list_any};
 ghost use Rattle.cluster_rules.specs.Functions.{from_one};
 ghost use Rattle.cluster_msgs.specs.declared.cores.Phase.TheVariants.{Erred, Released, Memory, Waiting, Processing, NoWorker, Queued, Forgotten};
-ghost use Rattle.cluster_rules.specs.Sched.{keys, connected, fed, phase};
+ghost use Rattle.cluster_rules.specs.Sched.{keys, connected, phase};
 ghost use Rattle.task_table.specs.Tasks.{facts};
 
 use cluster_msgs::Phase;

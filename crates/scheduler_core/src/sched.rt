@@ -1,6 +1,6 @@
 //! The scheduler's core.
-ghost use Rattle.std.specs.Prelude.{◌≡◌, ◌↔◌, ◌++◌, ◌+◌, ◌*◌, ◌<◌, ◌≤◌, ◌^◌, ℕ, List, false, true, IfOk, OnOk, OnErr, None};
-ghost use Rattle.cluster_rules.specs.Sched.{Facts as SchedFacts, sched_opening, keys, known, blame, phase};
+ghost use Rattle.std.specs.Prelude.{◌≡◌, ◌↔◌, ◌+◌, ◌<◌, ◌≤◌, ◌^◌, false, true, IfOk, OnOk, None};
+ghost use Rattle.cluster_rules.specs.Sched.{sched_opening, keys, known, blame, phase};
 ghost use Rattle.cluster_rules.specs.SchedTable.{sched_takes};
 ghost use Rattle.cluster_rules.specs.SchedStep.{sched_step};
 ghost use Rattle.cluster_laws.specs.Settled.{IsSettled};

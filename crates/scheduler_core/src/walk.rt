@@ -1,5 +1,5 @@
 //! Walks over the touched keys.
-ghost use Rattle.std.specs.Prelude.{◌<◌, ℕ};
+ghost use Rattle.std.specs.Prelude.{◌<◌};
 ghost use Rattle.std.specs.Prelude.{IfSome};
 ghost use Rattle.cluster_rules.specs.Sched.{keys};
 ghost use Rattle.key_sets.specs.Sets.{has, IsFirst};

@@ -1,5 +1,5 @@
 //! The simulation of a job's graph over its open inputs.
-ghost use Rattle.std.specs.Prelude.{◌≡◌, ◌++◌, [], length, slice_index_or, None, IfOk, IfErr, OnOk};
+ghost use Rattle.std.specs.Prelude.{◌≡◌, ◌++◌, length, slice_index_or, None, IfOk, IfErr, OnOk};
 ghost use Rattle.std.specs.List.{flat_map};
 ghost use Rattle.io_edge.specs.Cause.{Rose};
 ghost use Rattle.block_lowering.specs.Jobs.{FitsFeed, TellsFeed};

@@ -1,7 +1,5 @@
 // Heads and regions of arrays' files.
-ghost use Rattle.std.specs.Prelude.{◌≡◌, ◌≤◌, ◌<◌, ◌^◌, length, IfOk, OnOk, IsTrue};
-ghost use Rattle.io_edge.specs.Content.{file_at, size_of};
-ghost use Rattle.nd_shape.specs.Region.{IsPart};
+ghost use Rattle.std.specs.Prelude.{◌≡◌, ◌<◌, length};
 
 use crate::say::say;
 use crate::words::{Trouble, number};

@@ -1,7 +1,6 @@
 -- What stays on a disk, and what it gives back.
 use Rattle.std.proofs.Common.{◌≡◌, ℕ, Bool, true, false, cond, List, [], length, Option, Some, None, refl, sym, ap, subst, ◌∙◌}
-use Rattle.std.specs.Prelude.{All, FitsSigned, IfSome, IsTrue, nat_eq}
-use Rattle.std.specs.Int.{w64}
+use Rattle.std.specs.Prelude.{IfSome, IsTrue, nat_eq}
 use Rattle.std.specs.Map.{lookup}
 use Rattle.std.proofs.lemmas.Bool.{eqb-true}
 use Rattle.small_facts.proofs.Options.{if_some_weaker}

@@ -1,5 +1,4 @@
 //! A disk that gives other bytes than it was given.
-ghost use Rattle.std.specs.Prelude.{false, None};
 ghost use Rattle.spill_table.specs.Views.{spoiled_view};
 
 use io_edge::{Failed, MemoryDisk, SpillDisk};

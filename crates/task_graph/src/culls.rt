@@ -7,7 +7,6 @@ ghost use Rattle.task_graph.specs.Graphs.{shape_of};
 ghost use Rattle.task_graph.specs.Orders.{is_in, kept, renumbered};
 ghost use Rattle.task_graph.specs.Culls.{IsMarked, AreMarked, AreNeeded, mark_at, listed_if, marked_keys};
 ghost use Rattle.task_graph.specs.Numberings.{IsNumbering};
-ghost use Rattle.task_graph.specs.Numbers.{Numbers};
 
 use crate::graph::{Graph, Task, deps_at};
 use crate::moves::renumber;

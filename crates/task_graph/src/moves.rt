@@ -1,5 +1,5 @@
 //! Tasks under new numbers.
-ghost use Rattle.std.specs.Prelude.{◌≡◌, ◌<◌, ◌≤◌, ◌∷◌, [], ℕ, eqb, true, length, map, Contains, IsSome, Some, None, slice_set, slice_index, slice_index_or, IfOk, OnOk, OnErr};
+ghost use Rattle.std.specs.Prelude.{◌≡◌, ◌<◌, ◌≤◌, [], ℕ, eqb, true, length, map, IsSome, Some, None, slice_set, slice_index, slice_index_or, IfOk};
 ghost use Rattle.std.specs.List.{AllByRecursion, IsDistinct};
 ghost use Rattle.cluster_msgs.specs.Shape.{IsShape, edge_count};
 ghost use Rattle.task_graph.specs.Graphs.{shape_of};

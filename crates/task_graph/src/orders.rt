@@ -2,14 +2,13 @@
 //!
 //! A visit of a key that isn't numbered yet visits its dependencies in ascending order, then numbers the key. Chains of
 //! dependencies are as long as the graph, so the visits under way stand on a stack of their own.
-ghost use Rattle.std.specs.Prelude.{◌≡◌, ◌<◌, ◌∷◌, [], length, IfOk, OnOk, OnErr, MatchOption};
+ghost use Rattle.std.specs.Prelude.{◌≡◌, ◌<◌, ◌∷◌, [], length, IfOk, OnOk, MatchOption};
 ghost use Rattle.std.specs.List.{AllByRecursion};
 ghost use Rattle.cluster_msgs.specs.Dags.{IsEarlier};
 ghost use Rattle.cluster_msgs.specs.Shape.{deps_of};
 ghost use Rattle.task_graph.specs.Graphs.{shape_of};
 ghost use Rattle.task_graph.specs.Orders.{is_in, depth_first};
 ghost use Rattle.task_graph.specs.Numberings.{IsNumbering};
-ghost use Rattle.task_graph.specs.Numbers.{Numbers};
 ghost use Rattle.task_graph.specs.Walks.{visit, with_visit, with_visits, AreUnderWay, IsStep};
 
 use crate::graph::{Graph, Task, deps_at};

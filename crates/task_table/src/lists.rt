@@ -1,10 +1,9 @@
 //! The keys on a worker, those that two workers or more hold, and those at each worker.
-ghost use Rattle.std.specs.Prelude.{◌≡◌, ℕ, ◌<◌, ◌≤◌, ◌==◌, ◌&&◌, nat_lt, false, cond, length, Some, None, IfOk};
+ghost use Rattle.std.specs.Prelude.{◌≡◌, ℕ, ◌<◌, ◌≤◌, ◌==◌, ◌&&◌, false, cond, Some, None, IfOk};
 ghost use Rattle.std.specs.Option.{option_map};
 ghost use Rattle.cluster_rules.specs.Sched.{keys};
 ghost use Rattle.sched_facts.specs.Stored.{facts_of};
 ghost use Rattle.key_sets.specs.Sets.{has, room};
-ghost use Rattle.task_table.specs.Changes.{changed_worker};
 ghost use Rattle.task_table.specs.Lists.{IsListed, IsListedBut, AreRows, in_row, is_at, is_placed, is_shared, names};
 
 use crate::change::Change;

@@ -1,5 +1,5 @@
 //! The cell, its passes and its turns.
-ghost use Rattle.std.specs.Prelude.{◌≡◌, ℕ, ◌^◌, ◌<◌, ◌≤◌, [], IfOk, IfErr, length};
+ghost use Rattle.std.specs.Prelude.{◌≡◌, ◌<◌, ◌≤◌, [], IfOk, IfErr, length};
 ghost use Rattle.cluster_msgs.specs.declared.events.Entry.{Entry};
 ghost use Rattle.turn_cell.specs.Turns.{Rests, Holds, Entered, WasTaken, Went, WentBy, Stayed, Ended};
 ghost use Rattle.turn_cell.specs.Turns.{left_with, left_view, right_view, both_views, opening_view};

@@ -1,5 +1,5 @@
 //! What a state must tell to be kept in a cell.
-ghost use Rattle.std.specs.Prelude.{◌≡◌, ℕ, List, Bool, Option, length};
+ghost use Rattle.std.specs.Prelude.{◌≡◌, List, Bool, length};
 
 use cluster_msgs::Label;
 
@@ -9,7 +9,7 @@ pub trait Kept {
 
     type Core;
 
-    ghost use Rattle.std.specs.Prelude.{ℕ, List, Bool};
+    ghost use Rattle.std.specs.Prelude.{List, Bool};
     ghost use Rattle.cluster_msgs.specs.declared.events.Entry.{Entry};
     ghost use Rattle.cluster_msgs.specs.Labels.{LabelFacts};
 

@@ -1,7 +1,7 @@
 //! A row of cells while it is made, and what is left of it.
 ghost use Rattle.std.specs.Prelude.{◌≡◌, ◌+◌, ◌<◌, ◌≤◌, ◌++◌, ◌∷◌, [], All, Some, true, false, map, length, vec_len};
 ghost use Rattle.std.specs.Vec.{vec_capacity};
-ghost use Rattle.turn_cell.specs.Rows.{AllAt, HasParts, IsClosed, IsWhole, berth_of};
+ghost use Rattle.turn_cell.specs.Rows.{AllAt, IsClosed, IsWhole, berth_of};
 
 use crate::cell::{Pass, TurnCell};
 use crate::kept::Kept;

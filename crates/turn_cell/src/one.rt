@@ -1,5 +1,5 @@
 //! One cell and one pass, with what a row needs to know of them.
-ghost use Rattle.std.specs.Prelude.{◌≡◌, ℕ, ◌+◌, ◌≤◌, [], None, Option, IfErr};
+ghost use Rattle.std.specs.Prelude.{◌≡◌, ℕ, ◌≤◌, [], None, Option, IfErr};
 ghost use Rattle.turn_cell.specs.Rows.{HasParts, IsClosed, KeepsParts, LosesPart, GivesPart, GainsPart};
 
 use crate::cell::{Pass, TurnCell};

@@ -1,5 +1,5 @@
 //! Numbers that threads draw, each once.
-ghost use Rattle.std.specs.Prelude.{◌≡◌, ℕ, ◌+◌, ◌-◌, ◌^◌, ◌<◌, ◌≤◌, [], ◌∷◌, ◌++◌, IfOk};
+ghost use Rattle.std.specs.Prelude.{◌≡◌, ℕ, ◌+◌, ◌-◌, ◌^◌, ◌<◌, ◌≤◌, [], IfOk};
 ghost use Rattle.turn_cell.specs.Ticks.{drawn, both_drawn, IsOnce, Drew as Drawing};
 
 use crate::cell::OutOfMemory;

@@ -1,6 +1,6 @@
 //! Lists and pairs as contents of fields: a list is an array, a pair an array of exactly two.
 
-ghost use Rattle.std.specs.Prelude.{◌≡◌, OnOk, IfOk, Ok, map, length};
+ghost use Rattle.std.specs.Prelude.{◌≡◌, OnOk, IfOk, Ok, map};
 ghost use Rattle.std.specs.Option.{option_map};
 ghost use Rattle.std.specs.Result.{result_err};
 ghost use Rattle.msgpack_frames.specs.View.{view, items_of, items_view};

@@ -1,6 +1,6 @@
 //! What stands under a field: numbers, truth values, and lists and pairs of what stands there.
 
-ghost use Rattle.std.specs.Prelude.{◌≡◌, OnOk, IfOk, Ok, ◌^◌, ◌<◌};
+ghost use Rattle.std.specs.Prelude.{◌≡◌, OnOk, IfOk, Ok, ◌<◌};
 ghost use Rattle.std.specs.Result.{result_err};
 ghost use Rattle.msgpack_frames.specs.View.{view};
 ghost use Rattle.wire_msgs.specs.Answers.{Tells};

@@ -1,6 +1,6 @@
 //! From a value to a message.
 
-ghost use Rattle.std.specs.Prelude.{◌≡◌, IfOk};
+ghost use Rattle.std.specs.Prelude.{IfOk};
 ghost use Rattle.msgpack_frames.specs.View.{view};
 ghost use Rattle.wire_msgs.specs.Answers.{Answers};
 ghost use Rattle.wire_msgs.specs.Fields.{IsMessage};

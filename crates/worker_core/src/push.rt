@@ -1,5 +1,5 @@
 //! Instructions and keys that are appended.
-ghost use Rattle.std.specs.Prelude.{◌≡◌, ◌++◌, ◌∷◌, [], List, cond, map, ℕ, IfOk, OnOk, OnErr};
+ghost use Rattle.std.specs.Prelude.{◌≡◌, ◌++◌, ◌∷◌, [], List, cond, map, IfOk, OnOk, OnErr};
 ghost use Rattle.cluster_msgs.specs.declared.cores.Instruction.{Instruction};
 ghost use Rattle.cluster_rules.specs.WorkerStep.{add_message, keys_of};
 

@@ -1,7 +1,7 @@
 //! One event: its own row, and then the questions for the holders of missing keys.
 #![tactic(auto)]
 
-ghost use Rattle.std.specs.Prelude.{◌≡◌, ◌∷◌, ◌<◌, ◌^◌, All, [], true, IfOk, OnOk};
+ghost use Rattle.std.specs.Prelude.{◌≡◌, ◌<◌, ◌^◌, All, [], true, IfOk, OnOk};
 ghost use Rattle.cluster_msgs.specs.Shape.{key_count};
 ghost use Rattle.cluster_rules.specs.Worker.{would_start};
 ghost use Rattle.cluster_rules.specs.WorkerStep.{start, lose_data, ask_holders, worker_row, worker_step, worker_takes};

@@ -1,10 +1,9 @@
 //! What the scheduler's messages do.
 #![tactic(auto)]
 
-ghost use Rattle.std.specs.Prelude.{◌≡◌, ◌++◌, ◌∷◌, ◌||◌, ◌&&◌, ◌<◌, ◌^◌, ℕ, All, [], filter, cond, false, true, IfOk, OnOk, Some};
+ghost use Rattle.std.specs.Prelude.{◌≡◌, ◌++◌, ◌||◌, ◌<◌, ◌^◌, ℕ, All, filter, false, true, IfOk, OnOk, Some};
 ghost use Rattle.std.specs.List.{fold};
 ghost use Rattle.cluster_msgs.specs.Shape.{key_count};
-ghost use Rattle.cluster_rules.specs.Worker.{worker_keys, awaited};
 ghost use Rattle.cluster_rules.specs.Derived.{is_in};
 ghost use Rattle.cluster_rules.specs.WorkerStep.{others, set_holders, given, free_key, each_key, quiet, yields, asked_back, remove_replica, remove_replicas, acquire, refresh, take_down, taken, takes_down};
 ghost use Rattle.key_sets.specs.Sets.{has, room};

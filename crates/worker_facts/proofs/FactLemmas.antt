@@ -1,14 +1,12 @@
 -- Lemmas on what a worker keeps by key.
-use Rattle.std.proofs.Common.{◌≡◌, ℕ, zero, suc, ◌+◌, ◌-◌, ◌*◌, ◌<◌, ◌≤◌, ◌^◌, Bool, true, false, not, ◌&&◌, ◌||◌, List, [], ◌∷◌, ◌++◌, Option, Some, None, refl, sym, ap, ◌∙◌, subst, arith, cond, is_some, take, drop, filter, find, map, length, get_or, ⊎_elim, length-append}
+use Rattle.std.proofs.Common.{◌≡◌, ℕ, zero, suc, ◌+◌, ◌-◌, ◌*◌, ◌<◌, ◌≤◌, Bool, true, false, not, ◌&&◌, ◌||◌, List, [], ◌∷◌, ◌++◌, Option, Some, None, refl, sym, ap, ◌∙◌, subst, arith, cond, is_some, take, filter, find, length, get_or, ⊎_elim}
 use Rattle.std.specs.Prelude.{◌==◌, nat_lt}
-use Rattle.std.specs.List.{list_any, filter_map, cons_option, range_with_len, position_or_len, insert, AllByRecursion}
+use Rattle.std.specs.List.{list_any, filter_map, cons_option, range_with_len, AllByRecursion}
 use Rattle.std.specs.Option.{option_or, option_map}
 use Rattle.std.specs.List.Sorted.{IsStrictlyIncreasing}
-use Rattle.std.proofs.lemmas.Bool.{true≢false, false≢true, eqb-true, eq-eqb, cases_lt, le-ltb, ltb-true}
+use Rattle.std.proofs.lemmas.Bool.{false≢true, eqb-true, eq-eqb, cases_lt, le-ltb, ltb-true}
 use Rattle.std.proofs.lemmas.Bool.Decides.{nat_tests}
 use Rattle.std.proofs.lemmas.List.Folds.{list_any_more, find-append, list_any-append}
-use Rattle.std.proofs.lemmas.List.Sums.{prefix_len-le-length}
-use Rattle.std.proofs.lemmas.List.{get_or_past, take_more, map-append}
 use Rattle.std.proofs.lemmas.List.Elements.{filter_map-append, Contains-get_or}
 use Rattle.std.proofs.lemmas.List.FromFn.{length-range_with_len}
 use Rattle.std.proofs.Math.Bool.{or-true, or-false}
@@ -17,15 +15,14 @@ use Rattle.small_facts.proofs.Every.{all_of_filter}
 use Rattle.small_facts.proofs.Numbers.{eqb_turned, unequal_below}
 use Rattle.small_facts.proofs.Ranges.{range_has}
 use Rattle.small_facts.proofs.Truth.{one_at_most}
-use mir.Val.{bool_byte}
-use Rattle.cluster_msgs.specs.Shape.{Shape, key_count, deps_of, nbytes_of}
-use Rattle.cluster_rules.specs.Functions.{put, total, count, from_one}
+use Rattle.cluster_msgs.specs.Shape.{Shape, key_count, deps_of}
+use Rattle.cluster_rules.specs.Functions.{put, total, count}
 use Rattle.cluster_rules.specs.Derived.{below, is_in}
-use Rattle.cluster_rules.specs.Worker.{Ask, names_key, is_asked_for, with_ask, without_ask, has_any, total_bytes, WorkerFacts, worker_keys, wstate, is_fetch_state, item_at, copy_at, fetchable, ask_items}
+use Rattle.cluster_rules.specs.Worker.{has_any, WorkerFacts, worker_keys, wstate, is_fetch_state, item_at, copy_at, fetchable, ask_items}
 use Rattle.cluster_rules.proofs.DerivedLemmas.{below_split}
 use Rattle.cluster_rules.proofs.FunctionLemmas.{same_function}
-use Rattle.cluster_rules.proofs.SchedLemmas.{below-more, filter-below, filter-more}
-use Rattle.cluster_rules.proofs.TotalLemmas.{total-agree, total-bound, total-push}
+use Rattle.cluster_rules.proofs.SchedLemmas.{below-more, filter-below}
+use Rattle.cluster_rules.proofs.TotalLemmas.{total-agree, total-bound}
 use Rattle.cluster_rules.proofs.InsideWorker.{all_take_in, keys_below}
 use Rattle.cluster_rules.proofs.Members.{range_from, any_some}
 use Rattle.fact_rows.specs.Rows.{read}

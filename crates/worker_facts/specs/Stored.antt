@@ -1,5 +1,5 @@
 -- The facts of a worker as they are kept, in rows by key, and what the rows mean.
-use Rattle.std.specs.Prelude.{◌≡◌, ℕ, Bool, false, not, ◌&&◌, List, [], ◌∷◌, Option, Some, None, is_some, length, ◌==◌, cond, filter, find, min}
+use Rattle.std.specs.Prelude.{◌≡◌, ℕ, Bool, false, not, ◌&&◌, List, [], Option, None, is_some, length, filter, find, min}
 use Rattle.cluster_msgs.specs.Shape.{Shape, key_count, deps_of, IsShape}
 use Rattle.cluster_rules.specs.Functions.{count, from_one}
 use Rattle.cluster_rules.specs.Derived.{below, is_in}

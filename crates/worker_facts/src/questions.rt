@@ -1,5 +1,5 @@
 //! The questions about a worker's facts: the state of a key, and how much goes into one ask. None takes memory.
-ghost use Rattle.std.specs.Prelude.{◌≡◌, ℕ, ◌-◌, ◌<◌, ◌≤◌, ◌^◌, cond, min};
+ghost use Rattle.std.specs.Prelude.{◌≡◌, ◌-◌, ◌<◌, ◌^◌, cond, min};
 ghost use Rattle.cluster_msgs.specs.Shape.{key_count};
 ghost use Rattle.cluster_rules.specs.Worker.{wstate, is_ready_state, is_fetch_state, is_missing_state, is_unstarted_state, is_wanted, used, pairs};
 ghost use Rattle.worker_facts.specs.Stored.{facts_of, uses_key, is_lacking};

@@ -1,12 +1,12 @@
 //! The stored facts of a worker. Each call changes one fact, or answers one.
 #![tactic(auto, unfolding(crate::specs::Stored::facts_of))]
 
-ghost use Rattle.std.specs.Prelude.{◌≡◌, ◌==◌, ◌&&◌, ◌+◌, ◌<◌, ◌≤◌, ◌^◌, ℕ, true, false, None, Some, [], is_some, nat_lt, length, slice_index_or, IfOk, OnOk, OnErr};
+ghost use Rattle.std.specs.Prelude.{◌≡◌, ◌==◌, ◌+◌, ◌<◌, ◌≤◌, ◌^◌, ℕ, true, false, None, [], is_some, nat_lt, length, slice_index_or, IfOk, OnOk, OnErr};
 ghost use Rattle.std.specs.Option.{option_map};
 ghost use Rattle.std.specs.List.{list_any, position_or_len};
-ghost use Rattle.cluster_msgs.specs.Shape.{Shape, IsShape, key_count, deps_of, nbytes_of};
+ghost use Rattle.cluster_msgs.specs.Shape.{IsShape, key_count, deps_of, nbytes_of};
 ghost use Rattle.cluster_rules.specs.Functions.{put};
-ghost use Rattle.cluster_rules.specs.Worker.{Ask, WorkerFacts, new_worker, flying, awaited, pending, is_fed, has_any, is_asked_for, ask_to, with_ask};
+ghost use Rattle.cluster_rules.specs.Worker.{Ask, new_worker, flying, awaited, pending, is_fed, has_any, is_asked_for, ask_to, with_ask};
 ghost use Rattle.fact_rows.specs.Rows.{read};
 ghost use Rattle.open_asks.specs.Kept.{asked_items, without_first};
 ghost use Rattle.worker_facts.specs.Stored.{facts_of, fitting_count};

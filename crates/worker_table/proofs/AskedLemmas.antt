@@ -1,12 +1,12 @@
 -- The keys that an open ask names.
-use Rattle.std.proofs.Common.{◌≡◌, ℕ, ◌<◌, Bool, true, false, not, ◌||◌, List, [], ◌∷◌, Some, None, is_some, refl, sym, ap, ◌∙◌, subst, arith, cond, All, find, length, get_or, suc, ◌+◌}
+use Rattle.std.proofs.Common.{◌≡◌, ℕ, ◌<◌, Bool, true, false, not, ◌||◌, List, [], ◌∷◌, Some, None, is_some, refl, sym, ap, ◌∙◌, arith, cond, All, length, get_or, suc}
 use Rattle.std.specs.Prelude.{◌==◌, nat_lt}
 use Rattle.std.specs.List.{list_any, insert, position_or_len}
 use Rattle.std.proofs.lemmas.Bool.{false≢true, eq-eqb, or_right}
 use Rattle.std.proofs.lemmas.List.Sums.{prefix_len-le-length}
 use Rattle.std.proofs.lemmas.List.Elements.{All-nil, All-cons}
 use Rattle.small_facts.proofs.Options.{none_from_is_some}
-use Rattle.cluster_rules.specs.Worker.{Ask, WorkerFacts, names_key, is_asked_for, ask_to, with_ask, without_ask}
+use Rattle.cluster_rules.specs.Worker.{Ask, WorkerFacts, is_asked_for, ask_to, with_ask, without_ask}
 use Rattle.open_asks.specs.Kept.{without_first}
 use Rattle.open_asks.proofs.FirstLemmas.{asked-first, without_first-none}
 use Rattle.open_asks.proofs.MarkLemmas.{put_in}

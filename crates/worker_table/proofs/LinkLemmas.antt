@@ -1,15 +1,14 @@
 -- The keys that depend on each key.
-use Rattle.std.proofs.Common.{◌≡◌, ℕ, ◌+◌, ◌<◌, ◌≤◌, Bool, true, false, ◌||◌, List, [], ◌∷◌, ◌++◌, refl, sym, ap, ◌∙◌, subst, arith, cond, get_or, set, length, take, All, ⊎_elim, length-set}
+use Rattle.std.proofs.Common.{◌≡◌, ℕ, ◌+◌, ◌<◌, Bool, true, false, ◌||◌, List, [], ◌∷◌, ◌++◌, refl, sym, ap, ◌∙◌, subst, arith, cond, get_or, set, length, take, All, ⊎_elim, length-set}
 use Rattle.std.specs.Prelude.{◌==◌}
-use Rattle.std.specs.List.{list_any, AllByRecursion}
-use Rattle.std.proofs.lemmas.Bool.{true≢false, false≢true, eqb-true, eq-eqb, cases_lt, or_left}
+use Rattle.std.specs.List.{list_any}
+use Rattle.std.proofs.lemmas.Bool.{false≢true, eqb-true, eq-eqb, cases_lt, or_left}
 use Rattle.std.proofs.lemmas.List.Folds.{list_any_more, list_any-append}
 use Rattle.std.proofs.lemmas.List.Elements.{All-push, All-nil, All-from_recursion, All-weaker}
 use Rattle.std.proofs.Math.Bool.{or-false, or-true}
 use Rattle.small_facts.proofs.Numbers.{eqb_turned}
 use Rattle.small_facts.proofs.Truth.{or_without}
 use Rattle.cluster_msgs.specs.Shape.{Shape, IsShape, key_count, deps_of}
-use Rattle.cluster_rules.specs.Functions.{put}
 use Rattle.cluster_rules.specs.Derived.{is_in}
 use Rattle.cluster_rules.proofs.FunctionLemmas.{set_at}
 use Rattle.worker_table.specs.Links.{dependents, IsAdded, IsLinkedBelow}

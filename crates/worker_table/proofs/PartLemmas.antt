@@ -1,13 +1,13 @@
 -- A change of one fact leaves the parts of the keys that it doesn't touch.
-use Rattle.std.proofs.Common.{◌≡◌, ℕ, ◌+◌, ◌<◌, ◌≤◌, Bool, true, false, not, ◌&&◌, ◌||◌, List, [], ◌∷◌, Option, Some, None, refl, sym, ap, ◌∙◌, subst, arith, cond, is_some, get_or, length, ⊎_elim}
+use Rattle.std.proofs.Common.{◌≡◌, ℕ, ◌+◌, ◌<◌, ◌≤◌, Bool, true, false, not, ◌&&◌, ◌||◌, List, [], ◌∷◌, Option, Some, None, refl, sym, ap, ◌∙◌, arith, cond, is_some, length, ⊎_elim}
 use Rattle.std.specs.Prelude.{◌==◌}
 use Rattle.std.specs.List.{list_any, list_all}
-use Rattle.std.proofs.lemmas.Bool.{true≢false, false≢true, eqb-true, cases_lt, and_right}
+use Rattle.std.proofs.lemmas.Bool.{true≢false, eqb-true, cases_lt, and_right}
 use Rattle.std.proofs.lemmas.List.{get_or_past}
 use Rattle.cluster_msgs.specs.Shape.{Shape, key_count, deps_of}
 use Rattle.cluster_rules.specs.Functions.{put, count, total}
 use Rattle.cluster_rules.specs.Derived.{below, is_in}
-use Rattle.cluster_rules.specs.Worker.{Ask, WorkerFacts, new_worker, worker_keys, names_key, is_asked_for, flying, pending, awaited, is_fed, has_any, ask_to, with_ask, running_count, wstate, is_ready_state, is_fetch_state, is_missing_state}
+use Rattle.cluster_rules.specs.Worker.{Ask, WorkerFacts, new_worker, names_key, is_asked_for, flying, pending, awaited, has_any, ask_to, with_ask, running_count, wstate, is_ready_state, is_fetch_state, is_missing_state}
 use Rattle.std.proofs.lemmas.List.FromFn.{length-range_with_len}
 use Rattle.small_facts.proofs.Truth.{one_at_most}
 use Rattle.cluster_rules.proofs.TotalLemmas.{total-bound}
@@ -17,7 +17,7 @@ use Rattle.open_asks.specs.Kept.{without_first}
 use Rattle.open_asks.proofs.AskLemmas.{asked-with}
 use Rattle.open_asks.proofs.FirstLemmas.{asked-first, without_first-none}
 use Rattle.worker_facts.proofs.FactLemmas.{total-put}
-use Rattle.worker_table.specs.Parts.{Parts, parts, ready_of, fetch_of, unasked_of}
+use Rattle.worker_table.specs.Parts.{parts, ready_of, fetch_of, unasked_of}
 
 -- the states of a key are read off its parts
 pub ready-is : (w : WorkerFacts) (k : ℕ) → is_ready_state (wstate w k) ≡ ready_of (parts w k)

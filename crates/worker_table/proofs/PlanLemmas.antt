@@ -1,15 +1,13 @@
 -- Keys that were looked at are in the sets that they belong to, and all others stay where they were.
-use Rattle.std.proofs.Common.{◌≡◌, ℕ, ◌+◌, ◌<◌, ◌≤◌, Bool, true, false, not, ◌&&◌, ◌||◌, List, [], ◌∷◌, Some, None, refl, sym, ap, ◌∙◌, subst, arith, cond, is_some, get_or, length, take, ⊎_elim}
+use Rattle.std.proofs.Common.{◌≡◌, ℕ, ◌+◌, ◌<◌, Bool, true, false, ◌||◌, List, refl, sym, ap, ◌∙◌, subst, get_or, length, take}
 use Rattle.std.specs.Prelude.{◌==◌}
 use Rattle.std.specs.List.{list_any}
-use Rattle.std.proofs.lemmas.Bool.{true≢false, eqb-true, cases_lt}
+use Rattle.std.proofs.lemmas.Bool.{true≢false, eqb-true}
 use Rattle.std.proofs.lemmas.List.Folds.{list_any_more}
 use Rattle.small_facts.proofs.Numbers.{eqb_turned}
 use Rattle.small_facts.proofs.Truth.{or_first_false, or_second_false, or_without}
-use Rattle.cluster_msgs.specs.Shape.{Shape, key_count}
-use Rattle.cluster_rules.specs.Derived.{is_in}
+use Rattle.cluster_msgs.specs.Shape.{Shape}
 use Rattle.cluster_rules.specs.Worker.{WorkerFacts, new_worker, flying, awaited}
-use Rattle.key_sets.specs.Sets.{has}
 use Rattle.worker_table.specs.Parts.{Parts, parts, fetch_of, unasked_of}
 use Rattle.worker_table.specs.Plan.{IsAt, IsNowhere}
 use Rattle.worker_table.specs.declared.plan.Plan.{Plan}

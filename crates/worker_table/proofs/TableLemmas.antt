@@ -1,18 +1,17 @@
 -- The sets fit the facts after the keys that a change touches were looked at.
-use Rattle.std.proofs.Common.{◌≡◌, ℕ, ◌<◌, ◌≤◌, Bool, true, false, List, [], ◌∷◌, refl, sym, ap, ◌∙◌, subst, arith, All, length}
+use Rattle.std.proofs.Common.{◌≡◌, ℕ, ◌<◌, ◌≤◌, Bool, true, false, List, [], ◌∷◌, refl, sym, ap, ◌∙◌, subst, arith, All}
 use Rattle.std.specs.Prelude.{◌==◌}
 use Rattle.std.specs.List.{list_any}
-use Rattle.std.proofs.lemmas.Bool.{true≢false, false≢true, or_from}
+use Rattle.std.proofs.lemmas.Bool.{false≢true, or_from}
 use Rattle.std.proofs.lemmas.Bool.Decides.{nat_tests}
-use Rattle.std.proofs.lemmas.List.Elements.{All-head, All-tail, All-take}
+use Rattle.std.proofs.lemmas.List.Elements.{All-head, All-tail}
 use Rattle.small_facts.proofs.Numbers.{unequal_between}
-use Rattle.cluster_msgs.specs.Shape.{Shape, IsShape, key_count, deps_of}
-use Rattle.cluster_rules.specs.Functions.{put}
+use Rattle.cluster_msgs.specs.Shape.{Shape, key_count, deps_of}
 use Rattle.cluster_rules.specs.Derived.{is_in}
 use Rattle.cluster_rules.specs.Worker.{WorkerFacts, running_count}
 use Rattle.worker_table.specs.Links.{dependents, IsLinked}
-use Rattle.worker_table.specs.Parts.{Parts, parts}
-use Rattle.worker_table.specs.Plan.{IsAt, IsNowhere, HasRoom, nothing}
+use Rattle.worker_table.specs.Parts.{parts}
+use Rattle.worker_table.specs.Plan.{IsAt, HasRoom, nothing}
 use Rattle.worker_table.specs.Table.{Fits}
 use Rattle.worker_table.specs.declared.plan.Plan.{Plan}
 use Rattle.worker_table.proofs.PartLemmas.{depends_within}

@@ -1,7 +1,6 @@
 //! The keys that depend on each key.
-ghost use Rattle.std.specs.Prelude.{◌≡◌, ℕ, ◌<◌, ◌≤◌, true, [], length, All, IfOk, OnOk};
-ghost use Rattle.cluster_msgs.specs.Shape.{Shape, key_count, deps_of};
-ghost use Rattle.worker_table.specs.Links.{dependents, IsLinked, IsLinkedBelow, IsAdded};
+ghost use Rattle.std.specs.Prelude.{◌≡◌, ℕ, ◌<◌, [], length, All, IfOk, OnOk};
+ghost use Rattle.worker_table.specs.Links.{dependents, IsLinked, IsAdded};
 
 use cluster_msgs::{GraphShape, KeyList};
 use std::alloc::{AllocError, Global};

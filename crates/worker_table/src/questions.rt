@@ -2,9 +2,9 @@
 ghost use Rattle.std.specs.Prelude.{◌≡◌, ◌==◌, ◌&&◌, ℕ, ◌-◌, ◌^◌, ◌<◌, true, not, min, IfOk, IfSome};
 ghost use Rattle.std.specs.List.{list_any};
 ghost use Rattle.cluster_msgs.specs.Shape.{key_count};
-ghost use Rattle.cluster_rules.specs.Worker.{wstate, is_ready_state, is_fetch_state, is_missing_state, is_unstarted_state, running_count, would_start, would_ask, fetchable, ask_items, has_any, pairs};
+ghost use Rattle.cluster_rules.specs.Worker.{wstate, is_fetch_state, is_missing_state, is_unstarted_state, running_count, would_start, would_ask, fetchable, ask_items, has_any, pairs};
 ghost use Rattle.cluster_rules.specs.WorkerStep.{unasked_keys};
-ghost use Rattle.key_sets.specs.Sets.{has, IsFirst};
+ghost use Rattle.key_sets.specs.Sets.{IsFirst};
 ghost use Rattle.worker_facts.specs.Stored.{facts_of, first_ready};
 
 use crate::table::WorkerTable;

@@ -6,7 +6,7 @@ ghost use Rattle.std.specs.Option.{option_map};
 ghost use Rattle.std.specs.List.{list_any};
 ghost use Rattle.cluster_msgs.specs.Shape.{IsShape, key_count};
 ghost use Rattle.cluster_rules.specs.Functions.{put};
-ghost use Rattle.cluster_rules.specs.Worker.{new_worker, awaited, has_any, is_asked_for, ask_to, with_ask, without_ask, is_wanted};
+ghost use Rattle.cluster_rules.specs.Worker.{new_worker, awaited, is_asked_for, ask_to, with_ask, without_ask, is_wanted};
 ghost use Rattle.open_asks.specs.Kept.{asked_items, without_first};
 ghost use Rattle.worker_facts.specs.Stored.{facts_of};
 

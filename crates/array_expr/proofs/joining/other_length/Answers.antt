@@ -1,4 +1,4 @@
-use Rattle.std.proofs.Common.{◌≡◌, ◌<◌, ◌≤◌, [], length, map, get_or, arith, ap, sym, subst, refl, ◌∙◌}
+use Rattle.std.proofs.Common.{◌<◌, [], length, map, get_or, arith, sym, refl, ◌∙◌}
 use Rattle.std.proofs.lemmas.List.{length-map}
 use Rattle.array_expr.specs.Node.{shape_at}
 use Rattle.array_expr.proofs.Joined.{operand-shape, operand-count, operand-axis, first-other, same-more, same-all}

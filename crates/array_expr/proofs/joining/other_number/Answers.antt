@@ -1,4 +1,4 @@
-use Rattle.std.proofs.Common.{◌≡◌, ◌<◌, ◌≤◌, List, ℕ, [], length, map, get_or, arith, ap, sym, refl, ◌∙◌}
+use Rattle.std.proofs.Common.{List, ℕ, [], length, map, arith, sym, ◌∙◌}
 use Rattle.std.proofs.lemmas.List.{length-map}
 use Rattle.array_expr.specs.Node.{shape_at}
 use Rattle.array_expr.proofs.Joined.{operand-shape, operand-count, same-more, same-all}

@@ -1,5 +1,4 @@
-use Rattle.std.proofs.Common.{◌≡◌, ◌+◌, ◌<◌, [], ◌∷◌, length, get_or, arith, ap, sym, subst, ◌∙◌, length-append}
-use Rattle.nd_shape.specs.Slice.{Resolves, RefusesPart}
+use Rattle.std.proofs.Common.{[], ◌∷◌, length, arith, ap, sym, subst, length-append}
 use Rattle.array_expr.specs.Node.{TakesFirst}
 use Rattle.array_expr.proofs.Parted.{part-refused, takes-more}
 use Rattle.array_expr.proofs.slicing.resolved.Goals as goal

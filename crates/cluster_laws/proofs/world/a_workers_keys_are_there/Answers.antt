@@ -1,6 +1,5 @@
 use Rattle.cluster_msgs.specs.declared.cores.WorkerEvent.TheVariants.{Down as Told}
 use Rattle.cluster_rules.proofs.InsideWorker.{in_step, sends_in}
-use Rattle.cluster_rules.proofs.InsideSched.{down_in, mail_in, news_in, letters_in, client_in, client_sends_in, client_requested_in}
 use Rattle.cluster_laws.proofs.world.a_workers_keys_are_there.Goals as goal
 
 pub returns : goal.returns

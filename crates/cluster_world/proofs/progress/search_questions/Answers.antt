@@ -1,4 +1,4 @@
-use Rattle.std.proofs.Common.{sym, ◌∙◌}
+use Rattle.std.proofs.Common.{sym}
 use Rattle.cluster_msgs.specs.declared.events.Event.TheVariants.{SendGather}
 use Rattle.cluster_rules.specs.World.{all_workers}
 use Rattle.cluster_rules.specs.Enabled.{enabled}

@@ -1,5 +1,3 @@
-use Rattle.std.proofs.Common.{arith}
-use Rattle.cluster_rules.specs.World.{World}
 use Rattle.cluster_world.proofs.Searches.{one_more_alive}
 use Rattle.cluster_world.proofs.progress.some_died.Goals as goal
 

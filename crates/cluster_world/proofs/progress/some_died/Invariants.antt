@@ -1,6 +1,5 @@
 -- all before are alive
 use Rattle.std.proofs.Common.{◌≡◌, ℕ, ◌<◌, ◌+◌, true}
-use Rattle.cluster_rules.specs.World.{World}
 use Rattle.cluster_world.proofs.progress.some_died.Given as goal
 
 abbrev pub invariant-loop-before : goal.invariant-loop-before

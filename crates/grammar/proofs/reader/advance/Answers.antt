@@ -1,5 +1,5 @@
 -- A move that is the last ends the step, and another one leaves less to do.
-use Rattle.std.proofs.Common.{Some, None, subst, ◌∙◌}
+use Rattle.std.proofs.Common.{Some, subst, ◌∙◌}
 use Rattle.grammar.specs.Grammars.{move}
 use Rattle.grammar.specs.Tables.{grammar_of}
 use Rattle.grammar.specs.Reading.{Moved}

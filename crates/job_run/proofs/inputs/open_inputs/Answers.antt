@@ -3,7 +3,7 @@ use Rattle.io_edge.proofs.GivenLaws.{reads_then}
 use Rattle.job_run.specs.Jobs.{plan_of}
 use Rattle.job_run.specs.Plan.{input_shapes}
 use Rattle.job_run.proofs.GivenLoads.{accepted_given}
-use Rattle.job_run.proofs.Loads.{GivenBack, few_shapes, load_cause, loaded_fit}
+use Rattle.job_run.proofs.Loads.{few_shapes, load_cause, loaded_fit}
 use Rattle.job_run.proofs.inputs.open_inputs.Goals as goal
 
 pub read_heads-requires-clause-small : goal.read_heads-requires-clause-small

@@ -1,4 +1,4 @@
-use Rattle.std.proofs.Common.{◌≡◌, ◌∙◌, ◌++◌, ◌∷◌, [], List, ap, sym}
+use Rattle.std.proofs.Common.{◌∙◌, ◌++◌, ◌∷◌, [], List, ap, sym}
 use Rattle.std.proofs.lemmas.List.{map-append}
 use Rattle.cluster_msgs.specs.declared.messages.FromClient.{FromClient}
 use Rattle.cluster_msgs.specs.declared.messages.Message.{Message}

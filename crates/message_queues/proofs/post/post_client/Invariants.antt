@@ -1,4 +1,4 @@
-use Rattle.std.proofs.Common.{◌≡◌, ◌++◌}
+use Rattle.std.proofs.Common.{◌≡◌}
 use Rattle.cluster_msgs.specs.declared.events.Asker.TheVariants.{Client}
 use Rattle.cluster_rules.specs.WorldStep.{client_sends, client_requested}
 use Rattle.message_queues.specs.Posts.{from_clients}

@@ -1,4 +1,4 @@
-use Rattle.std.proofs.Common.{◌≡◌, ◌++◌, length}
+use Rattle.std.proofs.Common.{◌≡◌, length}
 use Rattle.cluster_rules.specs.SchedStep.{mail}
 use Rattle.message_queues.specs.Queues.{waiting}
 use Rattle.message_queues.specs.Posts.{downs, posted}

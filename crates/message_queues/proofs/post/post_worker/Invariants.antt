@@ -1,4 +1,4 @@
-use Rattle.std.proofs.Common.{◌≡◌, ◌++◌}
+use Rattle.std.proofs.Common.{◌≡◌}
 use Rattle.cluster_msgs.specs.declared.events.Asker.TheVariants.{Worker}
 use Rattle.cluster_rules.specs.WorldStep.{sends, requested}
 use Rattle.message_queues.specs.Posts.{ups}

@@ -1,4 +1,4 @@
-use Rattle.std.proofs.Common.{arith, ◌≡◌, ◌<◌, ◌∙◌, sym, ap, subst, [], ◌∷◌, below_more}
+use Rattle.std.proofs.Common.{◌<◌, ◌∙◌, sym, ap, subst, [], ◌∷◌, below_more}
 use Rattle.nd_shape.specs.Broadcast.{lengths_on, first_misfit}
 use Rattle.nd_shape.proofs.Broadcasts.{lengths_on-three, dims-more}
 use Rattle.nd_shape.proofs.broadcasting.broadcast_dims.Goals as goal

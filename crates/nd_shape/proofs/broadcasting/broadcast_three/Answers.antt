@@ -1,5 +1,4 @@
-use Rattle.std.proofs.Common.{refl, []}
-use Rattle.nd_shape.proofs.Broadcasts.{made-axes, made-lengths, made-err, made-err_two, no_axes}
+use Rattle.nd_shape.proofs.Broadcasts.{made-axes, made-lengths, made-err}
 use Rattle.nd_shape.proofs.broadcasting.broadcast_three.Goals as goal
 
 pub made-requires-clause-axes : goal.made-requires-clause-axes

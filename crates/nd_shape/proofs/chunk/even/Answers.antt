@@ -1,4 +1,3 @@
-use Rattle.std.proofs.Common.{arith, ◌≡◌, ◌∙◌, sym, ap, refl, ◌++◌, ◌%◌, [], ◌∷◌}
 use Rattle.nd_shape.proofs.Totals.{exit_whole, exit_rest}
 use Rattle.nd_shape.proofs.chunk.even.Goals as goal
 use Rattle.nd_shape.proofs.chunk.even.Goals.{then-len-size-ne0+in_ok-push, else-len-size-ne0}

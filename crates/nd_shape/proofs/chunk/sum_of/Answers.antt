@@ -1,4 +1,4 @@
-use Rattle.std.proofs.Common.{arith, ◌≡◌, ◌≤◌, sym, ap, ◌∙◌, ◌+◌, get_or}
+use Rattle.std.proofs.Common.{arith, sym, ap, ◌∙◌, ◌+◌, get_or}
 use Rattle.nd_shape.proofs.Totals.{total-more}
 use Rattle.nd_shape.proofs.chunk.sum_of.Goals as goal
 

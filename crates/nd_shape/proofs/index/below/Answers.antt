@@ -1,4 +1,4 @@
-use Rattle.std.proofs.Common.{arith, refl, ◌≡◌, ◌<◌, get_or}
+use Rattle.std.proofs.Common.{arith, refl, ◌<◌, get_or}
 use Rattle.nd_shape.proofs.Axes.{IsIn-at, IsIn-from}
 use Rattle.nd_shape.proofs.index.below.Goals as goal
 

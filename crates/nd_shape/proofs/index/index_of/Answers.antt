@@ -1,4 +1,4 @@
-use Rattle.std.proofs.Common.{arith, ◌<◌, length, ap, sym, ◌∙◌}
+use Rattle.std.proofs.Common.{arith, ◌<◌, length}
 use Rattle.nd_shape.proofs.Places.{unfolded}
 use Rattle.nd_shape.proofs.index.index_of.Goals as goal
 

@@ -1,4 +1,4 @@
-use Rattle.std.proofs.Common.{arith, ◌≡◌, sym, ap, ◌∙◌, length, subst}
+use Rattle.std.proofs.Common.{sym, ap, ◌∙◌, length, subst}
 use Rattle.nd_shape.specs.Index.{IsIn}
 use Rattle.nd_shape.proofs.Places.{IsIn-length}
 use Rattle.nd_shape.proofs.index.is_inside.Goals as goal

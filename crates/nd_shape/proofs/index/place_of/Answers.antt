@@ -1,4 +1,4 @@
-use Rattle.std.proofs.Common.{arith, ◌<◌, ◌+◌, ◌*◌, ◌^◌, slice_index_or}
+use Rattle.std.proofs.Common.{arith}
 use Rattle.nd_shape.proofs.Places.{along-fits}
 use Rattle.nd_shape.proofs.index.place_of.Goals as goal
 

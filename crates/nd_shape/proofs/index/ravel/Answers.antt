@@ -1,4 +1,3 @@
-use Rattle.std.proofs.Common.{arith, ◌≡◌}
 use Rattle.nd_shape.proofs.Places.{place-below, index_at-place}
 use Rattle.nd_shape.proofs.index.ravel.Goals as goal
 

@@ -1,4 +1,3 @@
-use Rattle.std.proofs.Common.{arith, ◌≡◌}
 use Rattle.nd_shape.proofs.Places.{index_at-in, place-index_at}
 use Rattle.nd_shape.proofs.index.unravel.Goals as goal
 

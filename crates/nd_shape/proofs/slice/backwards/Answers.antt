@@ -1,4 +1,4 @@
-use Rattle.std.proofs.Common.{◌≡◌, ap, ◌∙◌, cond}
+use Rattle.std.proofs.Common.{ap, ◌∙◌, cond}
 use Rattle.std.specs.Prelude.{nat_eq}
 use Rattle.nd_shape.specs.Slice.{first_index, end_index}
 use Rattle.nd_shape.proofs.Ranges.{exit_backwards}

@@ -1,5 +1,3 @@
-use Rattle.std.proofs.Common.{◌≡◌, ap, ◌∙◌, cond}
-use Rattle.std.specs.Prelude.{nat_eq}
 use Rattle.nd_shape.specs.Slice.{first_index, end_index}
 use Rattle.nd_shape.proofs.Ranges.{exit_forwards}
 use Rattle.nd_shape.proofs.slice.forwards.Goals as goal

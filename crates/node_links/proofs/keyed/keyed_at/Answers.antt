@@ -1,4 +1,4 @@
-use Rattle.std.proofs.Common.{◌≡◌, ◌∙◌, sym, ap, subst, get_or}
+use Rattle.std.proofs.Common.{◌∙◌, sym, ap, subst, get_or}
 use Rattle.std.specs.Arc.{arc_value}
 use Rattle.cluster_msgs.specs.Labels.{BlockFits}
 use Rattle.node_links.proofs.Parcels.{fits_at}

@@ -1,4 +1,4 @@
-use Rattle.std.proofs.Common.{◌≡◌, ◌∙◌, sym, ap}
+use Rattle.std.proofs.Common.{◌∙◌, sym, ap}
 use Rattle.cluster_msgs.specs.declared.messages.Message.TheVariants as message
 use Rattle.node_links.specs.Books.{members}
 use Rattle.node_links.proofs.log.members_of.Goals as goal

@@ -1,4 +1,4 @@
-use Rattle.std.proofs.Common.{◌≡◌, ℕ, ◌≤◌, List, ◌++◌, length, take, drop, ap, sym, ◌∙◌, subst, arith, Bool, true}
+use Rattle.std.proofs.Common.{◌≡◌, ℕ, List, ◌++◌, length, take, drop, ap, sym, ◌∙◌, arith, Bool}
 use Rattle.std.proofs.lemmas.List.{take-append-le, take_all}
 use Rattle.node_reach.specs.Marks.{marked}
 use Rattle.node_reach.proofs.Marking.{marked-reaches, reaches-marked}

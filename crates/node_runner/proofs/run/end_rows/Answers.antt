@@ -1,4 +1,4 @@
-use Rattle.std.proofs.Common.{◌≡◌, ◌+◌, ◌<◌, ℕ, map, sym, subst}
+use Rattle.std.proofs.Common.{◌+◌, ◌<◌, ℕ, map, sym, subst}
 use Rattle.std.specs.Prelude.{vec_len, slice_index_or}
 use Rattle.std.proofs.lemmas.Option.{IfSome_then}
 use Rattle.std.proofs.lemmas.List.Elements.{All-contains}
@@ -7,7 +7,6 @@ use Rattle.scheduler_core.specs.Cores.{facts}
 use Rattle.worker_core.specs.Core.{facts as worker_facts}
 use Rattle.node_states.specs.declared.worker.WorkerNode.{WorkerNode}
 use Rattle.node_runner.specs.Runs.{IsSchedulersBook, IsWorkersBook, IsClientsBook, last_facts}
-use Rattle.node_runner.proofs.FeedFaults.{none_ok, none_told}
 use Rattle.node_runner.proofs.run.end_rows.Goals as goal
 
 pub end_nodes-requires-clause-scheduler : goal.end_nodes-requires-clause-scheduler

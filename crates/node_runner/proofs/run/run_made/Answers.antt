@@ -1,5 +1,5 @@
-use Rattle.std.proofs.Common.{◌≡◌, ◌+◌, ◌<◌, ◌⊎◌, ℕ, map, true, subst, sym}
-use Rattle.std.specs.Prelude.{All, Contains, IfSome, slice_index_or}
+use Rattle.std.proofs.Common.{◌≡◌, ◌+◌, ◌<◌, ◌⊎◌, true, subst, sym}
+use Rattle.std.specs.Prelude.{All, Contains, slice_index_or}
 use Rattle.gather_client.specs.CoreState.{client_facts}
 use Rattle.worker_core.specs.Core.{facts as worker_facts}
 use Rattle.node_runner.specs.Naming.{run_facts}

@@ -1,4 +1,3 @@
-use Rattle.std.proofs.Common.{◌+◌, length}
 use Rattle.npy_codec.proofs.FrontLemmas.{heads_of_said, errors_said}
 use Rattle.npy_codec.proofs.read.head_of_text.Goals as goal
 

@@ -1,5 +1,5 @@
 -- The loop's invariant begins, and each way out is what is promised of the bytes.
-use Rattle.std.proofs.Common.{◌≡◌, true, false, Ok, get_or, refl, ap, subst}
+use Rattle.std.proofs.Common.{true, false, Ok, get_or, refl, ap, subst}
 use Rattle.std.proofs.lemmas.List.{take_all}
 use Rattle.npy_header.specs.Reading.{IsReading}
 use Rattle.npy_header.proofs.Readings.{refused-byte, refused-end}

@@ -1,5 +1,4 @@
 use Rattle.std.proofs.Common.{◌≡◌, ◌<◌, ◌&&◌, not, ℕ, false, length, take, get_or}
-use Rattle.std.specs.Prelude.{◌==◌}
 use Rattle.std.specs.List.{list_any}
 use Rattle.open_asks.specs.Flying.{names_to}
 use Rattle.open_asks.proofs.marks.unmark_asked.Given as goal

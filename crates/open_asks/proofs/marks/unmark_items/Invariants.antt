@@ -1,7 +1,6 @@
 use Rattle.std.proofs.Common.{◌≡◌, ◌<◌, ◌&&◌, not, ℕ, false, length, take, get_or}
 use Rattle.std.specs.Prelude.{◌==◌}
 use Rattle.std.specs.List.{list_any}
-use Rattle.open_asks.specs.Flying.{names_to}
 use Rattle.open_asks.proofs.marks.unmark_items.Given as goal
 
 abbrev pub invariant-loop-item : goal.invariant-loop-item

@@ -1,5 +1,4 @@
-use Rattle.std.proofs.Common.{◌≡◌, None, Some, cond, sym, ap, ◌∙◌, get_or}
-use Rattle.std.specs.List.{AllByRecursion}
+use Rattle.std.proofs.Common.{◌≡◌, None, Some, cond, sym, ap, ◌∙◌}
 use Rattle.fact_rows.specs.Rows.{read}
 use Rattle.cluster_rules.specs.Sched.{blame, held, deps}
 use Rattle.cluster_rules.proofs.DerivedLemmas.{All-weaken}

@@ -1,4 +1,4 @@
-use Rattle.std.proofs.Common.{◌≡◌, ◌+◌, arith, ap, ◌∙◌, refl, get_or}
+use Rattle.std.proofs.Common.{◌+◌, arith, ap, ◌∙◌, refl, get_or}
 use Rattle.fact_rows.specs.Rows.{read}
 use Rattle.cluster_rules.specs.Functions.{put}
 use Rattle.sched_facts.proofs.DeriveLemmas.{counted_more}

@@ -1,4 +1,4 @@
-use Rattle.std.proofs.Common.{◌≡◌, sym, ap, ◌∙◌, ℕ, Bool, true, false, refl, ◌&&◌, ◌+◌, cond}
+use Rattle.std.proofs.Common.{◌≡◌, sym, ap, ◌∙◌, Bool, true, false, refl, ◌&&◌, ◌+◌, cond}
 use Rattle.cluster_rules.specs.Derived.{is_in}
 use Rattle.fact_rows.specs.Rows.{read}
 use Rattle.sched_facts.proofs.derived.count_where.Goals as goal

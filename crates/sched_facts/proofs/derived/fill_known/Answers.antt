@@ -1,4 +1,4 @@
-use Rattle.std.proofs.Common.{◌≡◌, sym, ap, ◌∙◌, ℕ, Bool, true, false}
+use Rattle.std.proofs.Common.{ap, ◌∙◌, true, false}
 use Rattle.cluster_rules.specs.Derived.{reach}
 use Rattle.cluster_rules.specs.Sched.{keys, deps, known, wanted}
 use Rattle.cluster_rules.proofs.DerivedLemmas.{reach-pass}

@@ -1,4 +1,4 @@
-use Rattle.std.proofs.Common.{◌≡◌, sym, ap, ◌∙◌, ℕ, false}
+use Rattle.std.proofs.Common.{ap, ◌∙◌, false}
 use Rattle.cluster_rules.specs.Derived.{reach}
 use Rattle.cluster_rules.specs.Sched.{keys, deps, need, wanted, open_key}
 use Rattle.cluster_rules.proofs.DerivedLemmas.{reach-pass}

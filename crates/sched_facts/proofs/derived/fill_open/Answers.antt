@@ -1,5 +1,5 @@
-use Rattle.std.proofs.Common.{◌≡◌, ℕ, Option, false, arith, sym, ap, ◌∙◌, not, ◌&&◌, is_some}
-use Rattle.cluster_rules.specs.Sched.{open_key, held, erred, blame, keys}
+use Rattle.std.proofs.Common.{◌≡◌, ℕ, Option, false, ap, ◌∙◌, not, ◌&&◌, is_some}
+use Rattle.cluster_rules.specs.Sched.{open_key, held, blame, keys}
 use Rattle.cluster_rules.proofs.SchedLemmas.{is_some-blame}
 use Rattle.sched_facts.specs.Stored.{facts_of}
 use Rattle.sched_facts.proofs.DeriveLemmas.{filled_none, filled_more}

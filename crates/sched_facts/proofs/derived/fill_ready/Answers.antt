@@ -1,5 +1,5 @@
-use Rattle.std.proofs.Common.{◌≡◌, false, arith, sym, ap, ◌∙◌, ◌&&◌}
-use Rattle.cluster_rules.specs.Sched.{ready, need, open_key, fed, keys}
+use Rattle.std.proofs.Common.{◌≡◌, false, arith, ap, ◌∙◌, ◌&&◌}
+use Rattle.cluster_rules.specs.Sched.{ready, need, fed, keys}
 use Rattle.cluster_rules.proofs.SchedLemmas.{ready-past}
 use Rattle.fact_rows.specs.Rows.{read}
 use Rattle.sched_facts.specs.Stored.{facts_of}

@@ -1,4 +1,4 @@
-use Rattle.std.proofs.Common.{◌≡◌, ◌<◌, ◌≤◌, ◌+◌, ◌^◌, ℕ, cond, arith, sym, ap, ◌∙◌, ◌&&◌}
+use Rattle.std.proofs.Common.{◌≡◌, ◌+◌, cond, arith, ap, ◌∙◌, ◌&&◌}
 use Rattle.cluster_msgs.specs.Shape.{deps_of}
 use Rattle.fact_rows.specs.Rows.{read}
 use Rattle.cluster_rules.specs.Functions.{count}

@@ -1,5 +1,4 @@
-use Rattle.std.proofs.Common.{None, sym, ap, ◌∙◌, get_or, take, ◌∷◌, [], ◌+◌}
-use Rattle.std.specs.Option.{option_or}
+use Rattle.std.proofs.Common.{None, sym, ap, ◌∙◌, get_or, take}
 use Rattle.std.proofs.lemmas.List.{take_more}
 use Rattle.fact_rows.specs.Rows.{read}
 use Rattle.sched_facts.specs.Derived.{first_some}

@@ -1,4 +1,4 @@
-use Rattle.std.proofs.Common.{arith, ◌≡◌, sym, ap, ◌∙◌, ℕ, false, get_or, length, refl}
+use Rattle.std.proofs.Common.{arith, ◌∙◌, false, length, refl}
 use Rattle.fact_rows.specs.Rows.{read}
 use Rattle.sched_facts.proofs.DeriveLemmas.{marked_more}
 use Rattle.sched_facts.proofs.derived.mark.Goals as goal

@@ -1,6 +1,6 @@
-use Rattle.std.proofs.Common.{arith, ◌≡◌, ◌≤◌, ◌<◌, ◌-◌, ◌+◌, sym, ℕ, false, ap, ◌∙◌, ◌&&◌, ◌||◌}
+use Rattle.std.proofs.Common.{arith, ◌≡◌, ◌-◌, ℕ, false, ap, ◌∙◌, ◌&&◌, ◌||◌}
 use Rattle.cluster_msgs.specs.Shape.{deps_of}
-use Rattle.cluster_rules.specs.Derived.{is_in, reach}
+use Rattle.cluster_rules.specs.Derived.{is_in}
 use Rattle.cluster_rules.specs.Sched.{keys, deps}
 use Rattle.fact_rows.specs.Rows.{read}
 use Rattle.sched_facts.specs.Stored.{facts_of}

@@ -1,4 +1,4 @@
-use Rattle.std.proofs.Common.{◌≡◌, length}
+use Rattle.std.proofs.Common.{◌≡◌}
 use Rattle.io_edge.specs.Content.{size_of}
 use Rattle.site_table.proofs.calls.call_file_often.Given as goal
 

@@ -1,4 +1,4 @@
-use Rattle.std.proofs.Common.{◌≡◌, ◌∙◌, ◌||◌, ℕ, Option, Some, None, ap, sym, arith, is_some, filter, get_or, length}
+use Rattle.std.proofs.Common.{◌∙◌, ◌||◌, ℕ, Some, ap, sym, arith, filter, length}
 use Rattle.std.specs.Prelude.{◌==◌}
 use Rattle.std.specs.List.{list_any, filter_map}
 use Rattle.cluster_msgs.specs.Shape.{key_count}

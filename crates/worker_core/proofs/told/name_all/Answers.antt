@@ -1,4 +1,4 @@
-use Rattle.std.proofs.Common.{◌≡◌, ◌∙◌, ◌||◌, ℕ, true, false, cond, get_or, take, ap, sym, refl, arith}
+use Rattle.std.proofs.Common.{◌∙◌, ◌||◌, ℕ, true, cond, get_or, take, ap, sym, arith}
 use Rattle.std.specs.Prelude.{◌==◌}
 use Rattle.std.proofs.lemmas.List.Folds.{list_any_more}
 use Rattle.cluster_rules.specs.Derived.{is_in}

@@ -1,4 +1,4 @@
-use Rattle.std.proofs.Common.{◌≡◌, ◌∙◌, ◌+◌, ap, get_or}
+use Rattle.std.proofs.Common.{◌∙◌, ◌+◌, ap, get_or}
 use Rattle.cluster_rules.specs.Functions.{put}
 use Rattle.fact_rows.specs.Rows.{read}
 use Rattle.worker_facts.proofs.FactLemmas.{added}

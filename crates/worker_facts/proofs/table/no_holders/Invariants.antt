@@ -1,4 +1,4 @@
-use Rattle.std.proofs.Common.{◌≡◌, ℕ, List, [], length, get_or}
+use Rattle.std.proofs.Common.{◌≡◌, ℕ, [], length, get_or}
 use Rattle.worker_facts.proofs.table.no_holders.Given as goal
 
 abbrev pub invariant-loop-key : goal.invariant-loop-key

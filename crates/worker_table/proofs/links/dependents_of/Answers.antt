@@ -1,5 +1,5 @@
-use Rattle.std.proofs.Common.{◌≡◌, ◌<◌, ℕ, List, All, ap, sym, subst, ◌∙◌, arith, length}
-use Rattle.cluster_msgs.specs.Shape.{key_count, deps_of}
+use Rattle.std.proofs.Common.{◌≡◌, ◌<◌, ℕ, List, subst, ◌∙◌, arith, length}
+use Rattle.cluster_msgs.specs.Shape.{key_count}
 use Rattle.worker_table.specs.Links.{IsLinkedBelow, IsAdded}
 use Rattle.worker_table.proofs.LinkLemmas.{linked_none, linked_more, deps_within}
 use Rattle.worker_table.proofs.links.dependents_of.Goals as goal

@@ -1,5 +1,4 @@
-use Rattle.std.proofs.Common.{rules, arith, ◌≡◌, ◌≤◌, ◌+◌, ◌<◌, length}
-use Rattle.cluster_msgs.specs.Shape.{Follows, IsShape}
+use Rattle.std.proofs.Common.{rules, arith, ◌≤◌, ◌+◌, length}
 use Rattle.cluster_msgs.proofs.StoredLemmas.{next-row, row-follows, unfit-row}
 use Rattle.cluster_msgs.proofs.shape.GraphShape.from_rows.Goals as goal
 

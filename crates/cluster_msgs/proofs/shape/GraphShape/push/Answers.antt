@@ -1,8 +1,5 @@
-use Rattle.std.proofs.Common.{◌≡◌, ◌+◌, ◌<◌, ◌≤◌, ◌^◌, ◌++◌, ◌∷◌, [], ℕ, List, length, map, sym, ap, ◌∙◌}
-use Rattle.std.proofs.lemmas.List.{map_push}
-use Rattle.std.specs.List.{AllByRecursion}
-use Rattle.std.specs.List.Sorted.{IsStrictlyIncreasing}
-use Rattle.cluster_msgs.specs.Shape.{Shape, IsShape, Follows, pushed, edge_count, key_count}
+use Rattle.std.proofs.Common.{◌+◌, ℕ, List, length, sym, ap, ◌∙◌}
+use Rattle.cluster_msgs.specs.Shape.{Follows, edge_count}
 use Rattle.cluster_msgs.specs.Stored.{rows_of, told}
 use Rattle.cluster_msgs.specs.declared.shape.GraphRow.{GraphRow}
 use Rattle.cluster_msgs.proofs.StoredLemmas.{more-shape, more-edges}

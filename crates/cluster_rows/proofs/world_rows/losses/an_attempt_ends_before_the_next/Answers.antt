@@ -1,4 +1,4 @@
-use Rattle.std.proofs.Common.{◌≡◌, ℕ, List, [], ◌∷◌, ◌++◌, refl, arith, ◌≤◌}
+use Rattle.std.proofs.Common.{[], ◌∷◌, refl, arith}
 use Rattle.cluster_rules.specs.Derived.{err, reach}
 use Rattle.cluster_rules.specs.Sched.{held, erred, wanted, known, need, ready, blame, phase, tasks, occupancy, bytes_held, full, holders, who_has, holder_count, waiters}
 use Rattle.cluster_rules.specs.Policies.{missing_bytes, candidates, place_rank, place, may_steal, steal_choices, level, steal_rank, next_steal, may_drop, most_loaded, next_drop}
@@ -14,10 +14,8 @@ use Rattle.cluster_rules.specs.Runs.{ends_attempt}
 use Rattle.cluster_rules.specs.Report.{report}
 use Rattle.cluster_rules.specs.Draw.{next}
 use Rattle.cluster_msgs.specs.declared.events.Event.TheVariants.{Suspect, DeliverDown, DeliverFromClient, Start}
-use Rattle.cluster_rules.specs.Runs.{Gives, Ended}
 use Rattle.cluster_rules.specs.Draw.{opening_events}
-use Rattle.cluster_rows.specs.WorkerTalk.{one_key}
-use Rattle.cluster_rows.specs.SmallWorlds.{plain_job, plan, one_started}
+use Rattle.cluster_rows.specs.SmallWorlds.{plan}
 use Rattle.cluster_rows.proofs.world_rows.losses.an_attempt_ends_before_the_next.Goals as goal
 
 pub returns-clause-ended : goal.returns-clause-ended

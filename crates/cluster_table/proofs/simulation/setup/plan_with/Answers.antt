@@ -1,4 +1,4 @@
-use Rattle.std.proofs.Common.{rules, arith}
+use Rattle.std.proofs.Common.{rules}
 use Rattle.cluster_sim.specs.Plans.{plan_of}
 use Rattle.cluster_table.proofs.Setups.{plan_is}
 use Rattle.cluster_table.proofs.simulation.setup.plan_with.Goals as goal

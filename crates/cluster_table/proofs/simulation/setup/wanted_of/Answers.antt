@@ -1,4 +1,4 @@
-use Rattle.std.proofs.Common.{rules, arith}
+use Rattle.std.proofs.Common.{rules}
 use Rattle.cluster_table.proofs.Setups.{are_wanted}
 use Rattle.cluster_table.proofs.simulation.setup.wanted_of.Goals as goal
 

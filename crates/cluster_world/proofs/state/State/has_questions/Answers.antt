@@ -1,4 +1,4 @@
-use Rattle.std.proofs.Common.{ap, sym, ◌∙◌}
+use Rattle.std.proofs.Common.{ap, ◌∙◌}
 use Rattle.cluster_msgs.specs.declared.events.Event.TheVariants.{SendGather}
 use Rattle.cluster_rules.specs.Enabled.{enabled}
 use Rattle.cluster_world.specs.Worlds.{world}

@@ -1,6 +1,5 @@
 use Rattle.std.proofs.Common.{◌&&◌, ap}
 use Rattle.cluster_rules.specs.Worker.{would_ask}
-use Rattle.worker_core.specs.Core.{facts}
 use Rattle.cluster_world.specs.Worlds.{world}
 use Rattle.cluster_world.proofs.Searches.{asks_none}
 use Rattle.cluster_world.proofs.state.State.worker_fetches.Goals as goal

@@ -1,4 +1,4 @@
-use Rattle.std.proofs.Common.{◌≡◌, ◌++◌, ◌∙◌, [], ℕ, ap, sym, arith, filter}
+use Rattle.std.proofs.Common.{◌++◌, ◌∙◌, [], ℕ, ap, sym, arith, filter}
 use Rattle.std.specs.List.{filter_map, cons_option}
 use Rattle.cluster_msgs.specs.Shape.{key_count}
 use Rattle.cluster_rules.specs.Derived.{below}

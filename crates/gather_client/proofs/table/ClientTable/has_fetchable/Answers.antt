@@ -1,7 +1,5 @@
-use Rattle.std.proofs.Common.{◌≡◌, ◌∙◌, ℕ, ap, sym, arith, is_some}
-use Rattle.std.specs.List.{list_any}
+use Rattle.std.proofs.Common.{◌∙◌, ℕ, ap, sym, arith, is_some}
 use Rattle.cluster_msgs.specs.Shape.{key_count}
-use Rattle.cluster_rules.specs.Derived.{below}
 use Rattle.cluster_rules.specs.Worker.{item_at}
 use Rattle.cluster_rules.specs.Client.{is_open, client_fetchable, client_keys}
 use Rattle.gather_client.proofs.TableLemmas.{any_below, any_push, any_picked, any-gap, unheld}

@@ -1,4 +1,4 @@
-use Rattle.std.proofs.Common.{◌≡◌, ◌<◌, ◌≤◌, ◌∙◌, ap, sym, subst, arith, ℕ, Option, [], false, IfSome}
+use Rattle.std.proofs.Common.{◌<◌, ◌∙◌, ap, subst, arith, [], IfSome}
 use Rattle.std.proofs.lemmas.List.{get_or_past}
 use Rattle.cluster_msgs.specs.Shape.{key_count}
 use Rattle.cluster_rules.specs.Worker.{has_any}

@@ -1,6 +1,5 @@
-use Rattle.std.proofs.Common.{◌≡◌, ◌<◌, ◌∙◌, ap, sym, refl, arith, not, set, length, length-set, []}
+use Rattle.std.proofs.Common.{◌<◌, ◌∙◌, ap, arith, not, set, length, length-set, []}
 use Rattle.cluster_msgs.specs.Shape.{key_count}
-use Rattle.cluster_rules.specs.Worker.{has_any}
 use Rattle.cluster_rules.proofs.FunctionLemmas.{set_at}
 use Rattle.gather_client.specs.Stored.{facts_of}
 use Rattle.gather_client.proofs.TableLemmas.{held_put, any_is}

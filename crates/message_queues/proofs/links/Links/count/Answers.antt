@@ -1,4 +1,4 @@
-use Rattle.std.proofs.Common.{◌≡◌, ◌∙◌, ◌+◌, ◌-◌, ◌^◌, ◌<◌, ℕ, [], ap, sym, arith, length, List}
+use Rattle.std.proofs.Common.{◌≡◌, ◌∙◌, ◌+◌, ◌-◌, ◌^◌, ◌<◌, ℕ, [], ap, sym, arith, length}
 use Rattle.std.specs.Prelude.{min}
 use Rattle.std.proofs.lemmas.List.{get_or_default}
 use Rattle.small_facts.proofs.Numbers.{capped_more}

@@ -1,10 +1,10 @@
 use Rattle.std.proofs.Common.{◌≡◌, ◌∙◌, sym, ap, rules, not, None, Some, filter, get_or}
-use Rattle.std.specs.List.{position, position_or_len, remove}
+use Rattle.std.specs.List.{position, remove}
 use Rattle.std.proofs.lemmas.Fn.{filter_same}
 use Rattle.small_facts.proofs.Lists.{place_at_end}
 use Rattle.small_facts.proofs.Options.{cond_some_none}
 use Rattle.message_queues.specs.declared.transit.InTransit.{InTransit}
-use Rattle.message_queues.specs.Transit.{is_transit, transit_of, without_transit}
+use Rattle.message_queues.specs.Transit.{is_transit}
 use Rattle.message_queues.proofs.QueueLemmas.{place_some, none_found, first_found, without_first}
 use Rattle.message_queues.proofs.transit.Transits.take.Goals as goal
 

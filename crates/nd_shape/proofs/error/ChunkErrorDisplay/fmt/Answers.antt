@@ -1,6 +1,4 @@
-use Rattle.std.proofs.Common.{◌≡◌, ◌++◌, append_assoc, codes}
-use Rattle.std.specs.Prelude.{decimal}
-use Rattle.nd_shape.specs.Texts.{chunk_error_text}
+use Rattle.std.proofs.Common.{append_assoc}
 use Rattle.nd_shape.proofs.error.ChunkErrorDisplay.fmt.Goals as goal
 
 pub returns-in-AxisCount-clause-writes : goal.returns-in-AxisCount-clause-writes

@@ -1,4 +1,4 @@
-use Rattle.std.proofs.Common.{◌≡◌, ◌++◌, append_assoc}
+use Rattle.std.proofs.Common.{append_assoc}
 use Rattle.nd_shape.proofs.error.ShapeErrorDisplay.fmt.Goals as goal
 
 pub returns-in-BadIndex-clause-writes : goal.returns-in-BadIndex-clause-writes

@@ -1,4 +1,4 @@
-use Rattle.std.proofs.Common.{◌≡◌, ℕ, ◌+◌, ◌<◌, ◌≤◌, get_or}
+use Rattle.std.proofs.Common.{ℕ, ◌+◌, ◌<◌, ◌≤◌, get_or}
 use Rattle.nd_shape.proofs.region.Region.is_part.Given as goal
 
 abbrev pub invariant-loop-axis : goal.invariant-loop-axis

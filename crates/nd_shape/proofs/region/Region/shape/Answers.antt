@@ -1,4 +1,3 @@
-use Rattle.std.proofs.Common.{◌∙◌}
 use Rattle.nd_shape.proofs.Axes.{part-shape}
 use Rattle.nd_shape.proofs.region.Region.shape.Goals as goal
 

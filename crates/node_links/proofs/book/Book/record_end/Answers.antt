@@ -1,5 +1,4 @@
-use Rattle.std.proofs.Common.{◌≡◌, ◌∙◌, sym, ap, subst, refl, None, cond, is_some}
-use Rattle.node_links.specs.Books.{BookState}
+use Rattle.std.proofs.Common.{◌∙◌, sym, ap, refl, None, cond, is_some}
 use Rattle.node_links.proofs.Recorded.{recorded, entered}
 use Rattle.node_links.proofs.book.Book.record_end.Goals as goal
 

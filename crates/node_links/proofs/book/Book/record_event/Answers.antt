@@ -1,6 +1,5 @@
 use Rattle.std.proofs.Common.{◌≡◌, ◌∙◌, sym, ap, subst, refl, Some, cond, false, is_some}
 use Rattle.std.proofs.lemmas.Bool.{cond-false}
-use Rattle.node_links.specs.Books.{BookState}
 use Rattle.node_links.proofs.Recorded.{recorded, entered}
 use Rattle.node_links.proofs.book.Book.record_event.Goals as goal
 

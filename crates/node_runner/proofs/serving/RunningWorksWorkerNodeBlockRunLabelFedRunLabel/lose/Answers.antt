@@ -1,6 +1,4 @@
 use Rattle.std.proofs.Common.{ap}
-use Rattle.std.specs.Arc.{arc_value}
-use Rattle.cluster_msgs.specs.Labels.{BlockFits}
 use Rattle.node_runner.proofs.TurnLemmas.{went_from}
 use Rattle.node_runner.proofs.serving.RunningWorksWorkerNodeBlockRunLabelFedRunLabel.lose.Goals as goal
 

@@ -1,6 +1,4 @@
 use Rattle.std.proofs.Common.{get_or}
-use Rattle.std.specs.Arc.{arc_value}
-use Rattle.cluster_msgs.specs.Labels.{BlockFits}
 use Rattle.gather_client.specs.CoreState.{client_facts}
 use Rattle.node_links.proofs.Recorded.{went_of}
 use Rattle.node_states.specs.Fitting.{ClientFits}

@@ -1,4 +1,4 @@
-use Rattle.std.proofs.Common.{◌≡◌, ℕ, ◌+◌, ◌/◌, refl, ap, ◌∙◌, arith, get_or, vec_capacity}
+use Rattle.std.proofs.Common.{◌+◌, ◌/◌, refl, ap, ◌∙◌, arith, get_or, vec_capacity}
 use Rattle.std.proofs.lemmas.List.FromFn.{length-map-range_with_len}
 use Rattle.sched_facts.specs.Sheets.{member}
 use Rattle.sched_facts.proofs.SheetLemmas.{sheet_none, members_none}

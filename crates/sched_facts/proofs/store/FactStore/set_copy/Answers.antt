@@ -1,4 +1,4 @@
-use Rattle.std.proofs.Common.{refl, Bool, false, None}
+use Rattle.std.proofs.Common.{refl, None}
 use Rattle.sched_facts.specs.Stored.{facts_of}
 use Rattle.sched_facts.proofs.store.FactStore.set_copy.Goals as goal
 

@@ -1,4 +1,4 @@
-use Rattle.std.proofs.Common.{◌≡◌, ◌≤◌, ℕ, true, false, subst, sym, arith}
+use Rattle.std.proofs.Common.{◌≡◌, ℕ, true, false, subst, sym}
 use Rattle.cluster_rules.specs.Sched.{connected, holds, is_on}
 use Rattle.sched_facts.specs.Stored.{Stored, facts_of}
 use Rattle.sched_facts.proofs.Keeping.{has_row}

@@ -1,4 +1,4 @@
-use Rattle.std.proofs.Common.{◌≡◌, ◌<◌, ◌+◌, length, Some, subst, sym, ap, ◌∙◌}
+use Rattle.std.proofs.Common.{◌<◌, ◌+◌, length, Some, subst, sym, ap, ◌∙◌}
 use Rattle.cluster_rules.specs.Functions.{put}
 use Rattle.cluster_rules.specs.Sched.{Facts, workers}
 use Rattle.cluster_rules.specs.SchedTable.{joined}

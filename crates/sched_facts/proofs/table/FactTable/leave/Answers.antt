@@ -1,8 +1,8 @@
 use Rattle.std.proofs.Common.{◌≡◌, ◌<◌, ◌≤◌, ℕ, None, true, false, subst, sym, ap, ◌∙◌, arith}
 use Rattle.cluster_rules.specs.Functions.{put}
 use Rattle.cluster_rules.specs.Sched.{Facts, keys, connected, holds, is_on}
-use Rattle.sched_facts.specs.Stored.{Stored, facts_of}
-use Rattle.sched_facts.specs.Kept.{left_key, left_below}
+use Rattle.sched_facts.specs.Stored.{facts_of}
+use Rattle.sched_facts.specs.Kept.{left_key}
 use Rattle.sched_facts.proofs.Leaving.{left_none, left_more, left_all, left_holds, left_places, left_setting, left_connected}
 use Rattle.sched_facts.proofs.table.FactTable.leave.Goals as goal
 

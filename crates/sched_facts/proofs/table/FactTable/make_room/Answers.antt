@@ -1,4 +1,4 @@
-use Rattle.std.proofs.Common.{◌≡◌, ◌≤◌, ◌<◌, ◌+◌, length, refl, arith}
+use Rattle.std.proofs.Common.{refl, arith}
 use Rattle.sched_facts.specs.Stored.{facts_of}
 use Rattle.sched_facts.proofs.Rooms.{keep-room}
 use Rattle.sched_facts.proofs.table.FactTable.make_room.Goals as goal

@@ -1,5 +1,4 @@
-use Rattle.std.proofs.Common.{◌≡◌, ◌<◌, ℕ, true, Some, None, subst, sym, ap, ◌∙◌, cond}
-use Rattle.cluster_msgs.specs.Shape.{work_of}
+use Rattle.std.proofs.Common.{◌≡◌, ◌<◌, ℕ, true, Some, None, subst, sym, ap, ◌∙◌}
 use Rattle.cluster_rules.specs.Functions.{put}
 use Rattle.cluster_rules.specs.Sched.{Facts, keys, connected}
 use Rattle.sched_facts.specs.Stored.{Stored, facts_of}

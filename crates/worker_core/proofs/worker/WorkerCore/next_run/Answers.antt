@@ -1,4 +1,4 @@
-use Rattle.std.proofs.Common.{ℕ, subst}
+use Rattle.std.proofs.Common.{subst}
 use Rattle.worker_core.specs.Core.{Core, facts}
 use Rattle.worker_core.specs.Runs.{IsNextRun}
 use Rattle.worker_facts.specs.Stored.{facts_of}

@@ -1,5 +1,5 @@
 use Rattle.std.proofs.Common.{◌∙◌, sym, not, is_some}
-use Rattle.cluster_rules.specs.Worker.{wstate, is_ready_state, is_fetch_state, is_missing_state, is_unstarted_state, is_wanted, is_fed, has_any, flying}
+use Rattle.cluster_rules.specs.Worker.{is_wanted, has_any, flying}
 use Rattle.cluster_rules.proofs.WorkerLemmas.{fetch_state-is}
 use Rattle.worker_facts.proofs.FactLemmas.{and_last}
 use Rattle.worker_facts.specs.Stored.{facts_of}

@@ -1,4 +1,4 @@
-use Rattle.std.proofs.Common.{◌≡◌, ◌∙◌, ◌&&◌, ap, sym, not, is_some, false}
+use Rattle.std.proofs.Common.{◌∙◌, ◌&&◌, ap, not, is_some, false}
 use Rattle.open_asks.specs.Kept.{Kept}
 use Rattle.fact_rows.specs.Rows.{read}
 use Rattle.worker_facts.proofs.FactLemmas.{none_waits}

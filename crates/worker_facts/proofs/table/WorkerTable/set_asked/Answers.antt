@@ -1,4 +1,4 @@
-use Rattle.std.proofs.Common.{refl, Bool, false}
+use Rattle.std.proofs.Common.{refl, false}
 use Rattle.worker_facts.specs.Stored.{facts_of}
 use Rattle.worker_facts.proofs.table.WorkerTable.set_asked.Goals as goal
 

@@ -1,9 +1,9 @@
-use Rattle.std.proofs.Common.{◌≡◌, ◌<◌, ◌∙◌, ◌+◌, ◌&&◌, not, is_some, cond, ap, sym, refl, arith, ℕ, Option, None, Bool, false}
-use Rattle.cluster_msgs.specs.Shape.{key_count, deps_of}
+use Rattle.std.proofs.Common.{◌≡◌, ◌<◌, ◌∙◌, ◌+◌, ◌&&◌, not, is_some, cond, ap, sym, refl, arith, None, false}
+use Rattle.cluster_msgs.specs.Shape.{key_count}
 use Rattle.cluster_rules.specs.Functions.{put}
 use Rattle.cluster_rules.specs.Derived.{is_in}
 use Rattle.fact_rows.specs.Rows.{read}
-use Rattle.worker_facts.proofs.FactLemmas.{waiters-bound, waiters-there, recounted, pends-mine, pends-running}
+use Rattle.worker_facts.proofs.FactLemmas.{waiters-bound, waiters-there, recounted, pends-running}
 use Rattle.worker_facts.specs.Stored.{facts_of, pends}
 use Rattle.worker_facts.proofs.table.WorkerTable.set_running.Goals as goal
 

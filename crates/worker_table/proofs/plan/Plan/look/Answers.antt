@@ -1,4 +1,4 @@
-use Rattle.std.proofs.Common.{◌≡◌, ◌∙◌, ◌&&◌, not, cond, refl, ap, sym, ℕ}
+use Rattle.std.proofs.Common.{◌∙◌, ◌&&◌, not, cond, refl, ap}
 use Rattle.std.proofs.lemmas.Bool.{eq-eqb}
 use Rattle.cluster_rules.specs.Worker.{wstate, is_missing_state}
 use Rattle.key_sets.specs.Sets.{has}

@@ -1,4 +1,4 @@
-use Rattle.std.proofs.Common.{ℕ, true, false, arith, get_or}
+use Rattle.std.proofs.Common.{ℕ, true, false, arith}
 use Rattle.std.proofs.lemmas.Bool.{false≢true}
 use Rattle.worker_facts.specs.Stored.{facts_of}
 use Rattle.worker_table.proofs.PlanLemmas.{looked_more, leaves_more}

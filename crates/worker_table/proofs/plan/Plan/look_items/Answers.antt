@@ -1,4 +1,4 @@
-use Rattle.std.proofs.Common.{ℕ, true, false, ap, ◌∙◌, arith, get_or}
+use Rattle.std.proofs.Common.{ℕ, true, false, ap, ◌∙◌, arith}
 use Rattle.std.specs.Prelude.{◌==◌}
 use Rattle.std.specs.List.{list_any}
 use Rattle.std.proofs.lemmas.List.{take_all}

@@ -1,8 +1,8 @@
-use Rattle.std.proofs.Common.{◌≡◌, ◌<◌, ◌∙◌, ap, sym, refl, arith, ℕ, None, Some, true, false}
+use Rattle.std.proofs.Common.{◌≡◌, ◌∙◌, ap, sym, ℕ, None, Some}
 use Rattle.std.specs.Prelude.{◌==◌}
 use Rattle.std.specs.List.{list_any}
 use Rattle.cluster_msgs.specs.Shape.{key_count}
-use Rattle.cluster_rules.specs.Worker.{Ask, ask_to}
+use Rattle.cluster_rules.specs.Worker.{ask_to}
 use Rattle.open_asks.specs.Kept.{without_first}
 use Rattle.worker_facts.specs.Stored.{facts_of}
 use Rattle.worker_table.specs.Parts.{parts}

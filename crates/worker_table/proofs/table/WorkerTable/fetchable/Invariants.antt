@@ -1,4 +1,4 @@
-use Rattle.std.proofs.Common.{◌≡◌, ◌≤◌, ◌-◌, ℕ, filter}
+use Rattle.std.proofs.Common.{◌≡◌, ◌≤◌, ◌-◌, filter}
 use Rattle.std.specs.List.{filter_map}
 use Rattle.cluster_msgs.specs.Shape.{key_count}
 use Rattle.cluster_rules.specs.Derived.{below}

@@ -1,5 +1,5 @@
-use Rattle.std.proofs.Common.{◌≡◌, ◌∙◌, ◌∷◌, ◌++◌, ◌||◌, [], ℕ, ap, sym, arith, filter, is_some}
-use Rattle.std.specs.List.{filter_map, cons_option}
+use Rattle.std.proofs.Common.{◌∙◌, ◌||◌, ℕ, ap, sym, arith, filter, is_some}
+use Rattle.std.specs.List.{filter_map}
 use Rattle.cluster_msgs.specs.Shape.{key_count}
 use Rattle.cluster_rules.specs.Derived.{below}
 use Rattle.cluster_rules.specs.Worker.{wstate, is_fetch_state, item_at, fetchable, has_any}

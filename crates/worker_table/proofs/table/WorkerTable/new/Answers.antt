@@ -1,5 +1,4 @@
-use Rattle.std.proofs.Common.{◌≡◌, ◌≤◌, ℕ, ap, sym, subst, ◌∙◌, arith}
-use Rattle.cluster_msgs.specs.Shape.{key_count}
+use Rattle.std.proofs.Common.{sym, subst}
 use Rattle.cluster_rules.specs.Worker.{WorkerFacts, new_worker}
 use Rattle.worker_table.specs.Table.{Fits}
 use Rattle.worker_table.proofs.PartLemmas.{count_none}

@@ -1,4 +1,4 @@
-use Rattle.std.proofs.Common.{◌≡◌, ◌<◌, ◌≤◌, ◌∙◌, ◌&&◌, not, ap, sym, subst, ℕ, Option, Some, None, true, false, IfSome}
+use Rattle.std.proofs.Common.{◌<◌, ◌∙◌, ap, sym, subst, IfSome}
 use Rattle.cluster_msgs.specs.Shape.{key_count}
 use Rattle.cluster_rules.specs.Worker.{wstate, is_fetch_state}
 use Rattle.key_sets.specs.Sets.{has}

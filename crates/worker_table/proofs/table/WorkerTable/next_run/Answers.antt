@@ -1,4 +1,4 @@
-use Rattle.std.proofs.Common.{◌≡◌, ◌∙◌, ap, sym, ℕ}
+use Rattle.std.proofs.Common.{◌∙◌, ap}
 use Rattle.key_sets.specs.Sets.{has}
 use Rattle.worker_facts.specs.Stored.{facts_of}
 use Rattle.worker_table.proofs.SearchLemmas.{first_same}

@@ -1,12 +1,11 @@
-use Rattle.std.proofs.Common.{◌≡◌, ◌<◌, ◌∙◌, ◌+◌, cond, ap, sym, refl, arith, ℕ, None, Some, Bool, true, false, [], length}
+use Rattle.std.proofs.Common.{◌≡◌, ◌<◌, ◌∙◌, ap, sym, arith, []}
 use Rattle.std.proofs.lemmas.List.{get_or_read}
-use Rattle.cluster_msgs.specs.Shape.{key_count, deps_of}
+use Rattle.cluster_msgs.specs.Shape.{key_count}
 use Rattle.cluster_rules.specs.Functions.{put}
 use Rattle.cluster_rules.specs.Derived.{is_in}
 use Rattle.worker_facts.specs.Stored.{facts_of}
 use Rattle.worker_table.specs.Links.{dependents}
 use Rattle.worker_table.specs.Parts.{parts}
-use Rattle.worker_table.proofs.LinkLemmas.{deps_within}
 use Rattle.worker_table.proofs.PartLemmas.{mem_apart, count_same}
 use Rattle.worker_table.proofs.TableLemmas.{fits_twice, not_dependent}
 use Rattle.worker_table.proofs.table.WorkerTable.set_in_memory.Goals as goal

@@ -1,5 +1,4 @@
-use Rattle.std.proofs.Common.{◌≡◌, ◌<◌, ◌∙◌, ◌+◌, cond, ap, sym, refl, arith, ℕ, None, Some, Bool, true, false, [], length}
-use Rattle.std.proofs.lemmas.List.{get_or_read}
+use Rattle.std.proofs.Common.{◌≡◌, ◌<◌, ◌∙◌, ap, sym}
 use Rattle.cluster_msgs.specs.Shape.{key_count, deps_of}
 use Rattle.cluster_rules.specs.Functions.{put}
 use Rattle.cluster_rules.specs.Derived.{is_in}
@@ -8,7 +7,7 @@ use Rattle.worker_table.specs.Links.{dependents}
 use Rattle.worker_table.specs.Parts.{parts}
 use Rattle.worker_table.proofs.LinkLemmas.{deps_within}
 use Rattle.worker_table.proofs.PartLemmas.{mine_apart, count_same}
-use Rattle.worker_table.proofs.TableLemmas.{fits_twice, not_dependent}
+use Rattle.worker_table.proofs.TableLemmas.{fits_twice}
 use Rattle.worker_table.proofs.table.WorkerTable.set_mine.Goals as goal
 
 pub look-requires-clause-key : goal.look-requires-clause-key

@@ -1,5 +1,4 @@
-use Rattle.std.proofs.Common.{◌≡◌, ◌<◌, ◌∙◌, ◌+◌, cond, ap, sym, refl, arith, ℕ, None, Some, Bool, true, false, [], length}
-use Rattle.std.proofs.lemmas.List.{get_or_read}
+use Rattle.std.proofs.Common.{◌≡◌, ◌<◌, ◌∙◌, ◌+◌, cond, ap, sym, arith}
 use Rattle.cluster_msgs.specs.Shape.{key_count, deps_of}
 use Rattle.cluster_rules.specs.Functions.{put}
 use Rattle.cluster_rules.specs.Derived.{is_in}
@@ -7,8 +6,8 @@ use Rattle.worker_facts.specs.Stored.{facts_of}
 use Rattle.worker_table.specs.Links.{dependents}
 use Rattle.worker_table.specs.Parts.{parts}
 use Rattle.worker_table.proofs.LinkLemmas.{deps_within}
-use Rattle.worker_table.proofs.PartLemmas.{running_apart, count_same, count_put, count_few, count_there}
-use Rattle.worker_table.proofs.TableLemmas.{fits_twice, not_dependent}
+use Rattle.worker_table.proofs.PartLemmas.{running_apart, count_put, count_few, count_there}
+use Rattle.worker_table.proofs.TableLemmas.{fits_twice}
 use Rattle.worker_table.proofs.table.WorkerTable.set_running.Goals as goal
 
 pub look-requires-clause-key : goal.look-requires-clause-key

@@ -1,6 +1,5 @@
-use Rattle.std.proofs.Common.{◌≡◌, ◌<◌, ◌∙◌, ◌+◌, cond, ap, sym, refl, arith, ℕ, None, Some, Bool, true, false, [], length}
-use Rattle.std.proofs.lemmas.List.{get_or_read}
-use Rattle.cluster_msgs.specs.Shape.{key_count, deps_of}
+use Rattle.std.proofs.Common.{◌≡◌, ◌<◌, ◌∙◌, ap, sym}
+use Rattle.cluster_msgs.specs.Shape.{key_count}
 use Rattle.cluster_rules.specs.Functions.{put}
 use Rattle.worker_facts.specs.Stored.{facts_of}
 use Rattle.worker_table.specs.Links.{dependents}

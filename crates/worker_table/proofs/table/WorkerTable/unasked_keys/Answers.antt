@@ -1,6 +1,5 @@
-use Rattle.std.proofs.Common.{◌≡◌, ◌∙◌, ◌∷◌, ◌++◌, ◌&&◌, [], not, ℕ, ap, sym, arith, filter}
+use Rattle.std.proofs.Common.{◌∙◌, ◌∷◌, ◌++◌, ◌&&◌, [], not, ℕ, ap, sym, arith, filter}
 use Rattle.cluster_msgs.specs.Shape.{key_count}
-use Rattle.cluster_rules.specs.Derived.{below}
 use Rattle.cluster_rules.specs.Worker.{wstate, is_missing_state}
 use Rattle.cluster_rules.specs.WorkerStep.{unasked_keys}
 use Rattle.worker_facts.specs.Stored.{facts_of}

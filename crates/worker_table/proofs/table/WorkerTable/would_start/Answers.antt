@@ -1,5 +1,5 @@
 use Rattle.worker_facts.proofs.FactLemmas.{start_else}
-use Rattle.std.proofs.Common.{◌≡◌, ◌<◌, ◌≤◌, ◌∙◌, ap, arith, Option, Some, None, ℕ}
+use Rattle.std.proofs.Common.{◌∙◌, ap, arith, None}
 use Rattle.std.proofs.lemmas.Bool.{cond_below}
 use Rattle.cluster_rules.specs.Worker.{would_start, running_count}
 use Rattle.worker_facts.specs.Stored.{facts_of, first_ready}
