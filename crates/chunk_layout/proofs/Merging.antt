@@ -97,8 +97,8 @@ pub has-some : (xs : List ℕ) → 0 < total xs → 0 < length xs
 has-some [] h = absurd (omega arith)
 has-some (x ∷ xs) h = omega arith
 
-pub is_cut-union : (xs ys : List ℕ) → IsCut xs → IsCut ys → total xs ≡ total ys → IsCut (union xs ys)
-is_cut-union xs ys c d t = elim (cases_eq (total xs) 0) [
+pub cut_of_union : (xs ys : List ℕ) → IsCut xs → IsCut ys → total xs ≡ total ys → IsCut (union xs ys)
+cut_of_union xs ys c d t = elim (cases_eq (total xs) 0) [
   | inl z ↦ subst IsCut (zero-union xs ys c d t z) c
   | inr n ↦ let e : total (union xs ys) ≡ total xs = total-union xs ys t in
       let s : total xs ≤ 2 ^ 31 = c.small in
@@ -326,4 +326,4 @@ pub union_of_none : (zs xs ys : List ℕ) → zs ≡ xs → IsCut xs → IsCut y
 union_of_none zs xs ys e c d t z = e ∙ zero-union xs ys c d t z
 
 pub union_is_cut : (zs xs ys : List ℕ) → zs ≡ union xs ys → IsCut xs → IsCut ys → total xs ≡ total ys → IsCut zs
-union_is_cut zs xs ys e c d t = subst IsCut (sym e) (is_cut-union xs ys c d t)
+union_is_cut zs xs ys e c d t = subst IsCut (sym e) (cut_of_union xs ys c d t)
