@@ -67,5 +67,3 @@ is_job nodes tasks files heads formed loaded fed are count = record {
   loads = λ k h. load_there nodes files heads (task_at tasks k).spec are count (loaded k h);
   near = λ j h. let x = are.each j (record { shape = []; fortran = false; data_at = 0 }) h in omega (arith, x.near);
 }
-
--- ## The nodes that are saved
