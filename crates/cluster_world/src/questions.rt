@@ -21,7 +21,7 @@ impl<J: Drop, B: Drop, F: Drop> State<J, B, F> {
     pub fn block(&self, client: u32, key: u32) -> Option<&B>
         ensures { option_copied result ≡ (cluster self.now).blocks.got client key }
     {
-        match self.nodes.got.get(client, key) {
+        match self.nodes.got.look(client, key) {
             Some(block) => Some(&**block),
             None => None,
         }
