@@ -6,6 +6,7 @@ use Rattle.msgpack_frames.specs.declared.error.FrameError.{FrameError}
 use Rattle.msgpack_frames.specs.declared.error.FrameError.TheVariants.{TooMany, TooLong}
 use Rattle.msgpack_frames.specs.declared.group.Stop.{Stop}
 use Rattle.msgpack_frames.specs.declared.group.Stop.TheVariants as stops
+use Rattle.msgpack_frames.specs.Reading.{◌>>=◌}
 
 abbrev pub Group : Type 0
 Group = List (List ℕ)

@@ -27,7 +27,7 @@ returns-in_err-worker_turn g c =
 pub put-requires : goal.put-requires
 put-requires g c =
     let t = c.in_ok-worker_turn.ensures.turned in let n = acting.worker_number c.args.self.now c.requires.joint c.args.worker c.requires.alive in let k = acting.start_key c.args.self.now c.requires.joint c.args.worker c.args.key c.requires.key in
-    let a = t.more in let h = t.nodes.sized.inputs in let v = t.nodes.sized.inputs_keys in let g = ap key_count t.shape in record { node = omega (arith, n, a, h); key = omega (arith, k, v, g) }
+    let a = t.more in let h = t.nodes.sized.inputs in let v = t.nodes.sized.inputs_keys in let g = ap key_count t.shape in record { row = omega (arith, n, a, h); key = omega (arith, k, v, g) }
 
 pub returns : goal.returns
 returns g c =
