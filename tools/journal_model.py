@@ -160,6 +160,7 @@ class Replay:
         self.line, self.printed = line, printed
         self.world = JobWorld(line.job, line.saturation, slow)
         self.taken, self.last, self.made = [], 0, 0
+        self.let_go = set()
 
     def play(self):
         for entry in self.printed.entries:
@@ -182,6 +183,8 @@ class Replay:
         if not self.world.enabled(event):
             raise Differs("the event isn't enabled")
         self.in_time(event)
+        if event[0] == "release":
+            self.release(*event[1:])
         first = self.world.message(event)
         self.hold("the message", message if bar else None, first and f"{KINDS[event[0]]} {message_text(first)}")
         try:
@@ -189,6 +192,12 @@ class Replay:
         except Refused:
             raise Differs("a core refuses the event") from None
         self.taken.append((event, first))
+
+    def release(self, client, keys):
+        """A client lets only those keys go that it has got."""
+        if not all(key in self.world.clients[client].got for key in keys):
+            raise Differs("a key is let go that wasn't got")
+        self.let_go.update(keys)
 
     def hold(self, what, got, wanted):
         if got != wanted:
@@ -262,10 +271,10 @@ class Replay:
         return "read fault" if (failed or short) and "memory" not in self.printed.left.values() else "no memory"
 
     def ends(self):
-        """The blocks of the wanted keys, the key to blame, or that no worker is left."""
+        """The blocks of the wanted keys, each of which is got or was let go since, the key to blame, or that no worker is left."""
         client = self.world.clients[1]
         failed = [client.failed[key] for key in self.line.wanted if key in client.failed]
-        if all(key in client.got for key in self.line.wanted):
+        if all(key in client.got or key in self.let_go for key in self.line.wanted):
             ends = [f"key {key} is {self.line.job.values[key]}" for key in self.line.wanted]
         elif failed:
             ends = [f"zero divisor at {failed[0]}"]

@@ -6,7 +6,7 @@ use nd_shape::{ChunkSpec, Dims, Shapes};
 /// `dims NUMBERS`.
 pub fn dims(row: &mut Row, out: &mut Answer) {
     let list = Dims::from_vec(row.naturals());
-    match list.copy(out.alloc()) {
+    match list.copy() {
         Ok(copied) => out.put_list(&copied.into_vec()),
         Err(_) => out.fail(),
     }
@@ -34,7 +34,7 @@ fn put_specs(out: &mut Answer, list: &[ChunkSpec]) {
 /// `specs COUNT`, and for each axis a size, or -1, a number of sizes, and so many.
 pub fn specs(row: &mut Row, out: &mut Answer) {
     let list = row.specs();
-    match list.copy(out.alloc()) {
+    match list.copy() {
         Ok(copied) => put_specs(out, copied.as_slice()),
         Err(_) => out.fail(),
     }
@@ -49,7 +49,7 @@ fn put_shapes(out: &mut Answer, list: &Shapes) {
 /// `shapes LENGTHS LENGTHS`.
 pub fn shapes(row: &mut Row, out: &mut Answer) {
     let list = Shapes::from_vec(row.shapes(2, out));
-    match list.copy(out.alloc()) {
+    match list.copy() {
         Ok(copied) => put_shapes(out, &copied),
         Err(_) => out.fail(),
     }

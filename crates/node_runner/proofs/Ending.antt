@@ -83,7 +83,7 @@ pub has_run : {B W C D A : Type 0} (l : LabelFacts B) (graph : Shape) (p : RunPl
     → IsTakenFrom b h.scheduler → AllBy (λ k w x. IsTakenFrom (book w) x) ws h.workers.items → IsTakenFrom d h.client
     → (b.cut ≡ false → AreInTime b.core.plan (start_of (facts b.core.core).setting) b.entries)
     → AllBy (λ k w o. IfSome o (IsLeft p (facts b.core.core) (k + 1) (book w).entries (book w).cut)) ws left
-    → IfOk r (λ x. HasGot (client d.core) wanted)
+    → IfOk r (λ x. HasGot (client d.core) d.entries d.cut wanted)
     → IfStatus (IsBlamed blame) r → IfSome blame (λ b. (k : ℕ) × Contains wanted k × BlameFits l k b)
     → HasRun l graph p wanted ⊥ (last_facts (facts b.core.core) (map (λ w. core (book w).core) ws) (client d.core)) r left h
 has_run l graph p wanted b book core ws d client h left blame r scheduler workers clients of_scheduler of_workers of_client timed rows gets blamed some = record {
@@ -94,7 +94,7 @@ has_run l graph p wanted b book core ws d client h left blame r scheduler worker
     in_time = in_time_is l graph p b h.scheduler scheduler of_scheduler timed;
   };
   left_are = left_is l graph p (facts b.core.core) book ws h.workers.items left rows of_workers;
-  got = gets;
+  got = subst (λ (z : List Entry × Bool). IfOk r (λ x. HasGot (client d.core) z.0 z.1 wanted)) (λ j. (sym of_client.entries j, sym of_client.cut j)) gets;
   cause = cause_is l wanted (facts b.core.core) left blame r blamed some;
 }
 

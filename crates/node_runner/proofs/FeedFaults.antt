@@ -1,6 +1,6 @@
 -- How a run ended, where a feed had failed.
 use Rattle.std.proofs.Common.{◌≡◌, ◌⊎◌, ℕ, List, refl, sym, subst, ⊎_elim}
-use Rattle.std.specs.Prelude.{Option, Some, None, IfSome, IfOk, Result, Ok, Err}
+use Rattle.std.specs.Prelude.{Option, Some, None, IfSome, IfOk, is_some, Result, Ok, Err}
 use Rattle.cluster_msgs.specs.Labels.{LabelFacts}
 use Rattle.cluster_msgs.specs.Shape.{Shape}
 use Rattle.cluster_rules.specs.Sched.{Facts}
@@ -35,7 +35,7 @@ run_ended l graph p wanted Failed r s left (Some h) Given run none same changed 
   record {
     histories = run.1.histories;
     left_are = run.1.left_are;
-    got = still_ok (λ x. HasGot run.0.client wanted) r s Given Failed changed run.1.got;
+    got = still_ok (λ x. HasGot run.0.client h.client.entries (is_some h.client.cut) wanted) r s Given Failed changed run.1.got;
     cause = ⊎_elim
         (λ e. subst (IfStatus (HasCause l wanted run.0.scheduler left Failed)) (sym e) (cause_more l wanted run.0.scheduler left Failed r run.1.cause))
         (λ read. subst (IfStatus (HasCause l wanted run.0.scheduler left Failed)) (sym read.0) (run.2 read.1, read.2))

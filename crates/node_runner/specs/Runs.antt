@@ -17,6 +17,7 @@ use Rattle.node_states.specs.Fitting.{SchedEventFits, WorkerEventFits, ClientEve
 use Rattle.scheduler_core.specs.Cores.{facts}
 use Rattle.node_states.specs.Machines.{SchedState, SchedSays, SchedBy, WorkerSays, WorkerBy, ClientSays, ClientBy}
 use Rattle.node_states.specs.Order.{AreInTime, start_of, joins_of}
+use Rattle.node_states.specs.Released.{WasReleased}
 use Rattle.node_states.specs.Workers.{ends_last}
 use Rattle.node_states.specs.declared.choice.Plan.{Plan}
 use Rattle.node_states.specs.declared.why.Why.{Why}
@@ -148,9 +149,13 @@ abbrev pub IfStatus : {A : Type 0} → (RunStatus → Type 0) → Result A RunSt
 IfStatus P (Ok x) = Unit {0}
 IfStatus P (Err s) = P s
 
--- the client got each of these keys
-abbrev pub HasGot : ClientFacts → List ℕ → Type 0
-HasGot c keys = All (λ k. done c k ≡ Some Got) keys
+-- the client of these last facts and entries got the key: it has it, or an entry lets it go, before which it had it, unless one was left out
+abbrev pub IsGot : ClientFacts → List Entry → Bool → ℕ → Type 0
+IsGot c entries cut k = (done c k ≡ Some Got) ⊎ WasReleased k entries cut
+
+-- it got each of these keys
+abbrev pub HasGot : ClientFacts → List Entry → Bool → List ℕ → Type 0
+HasGot c entries cut keys = All (IsGot c entries cut) keys
 
 -- the key to blame was found; or there was none, or want of memory
 abbrev pub IsBlamed : Option ℕ → RunStatus → Type 0
@@ -163,7 +168,7 @@ pub record HasRun {B A : Type 0} (l : LabelFacts B) (graph : Shape) (p : RunPlan
     (result : Result A RunStatus) (left : List (Option Why)) (h : Histories) : Type 0 where
   pub histories : AreHistories l graph p last h
   pub left_are : AreLeft p last h.workers.items left
-  pub got : IfOk result (λ blocks. HasGot last.client wanted)
+  pub got : IfOk result (λ blocks. HasGot last.client h.client.entries (is_some h.client.cut) wanted)
   pub cause : IfStatus (HasCause l wanted last.scheduler left Failed) result
 
 -- a run that couldn't be started, or not be told of, for want of memory

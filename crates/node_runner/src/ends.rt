@@ -2,14 +2,12 @@
 ghost use Rattle.std.specs.Prelude.{◌≡◌, ◌≢◌, ◌≤◌, ◌+◌, ◌<◌, ◌++◌, ◌∷◌, [], ℕ, true, false, None, slice_index_or, All, Contains, IfOk, IfSome, Some};
 ghost use Rattle.cluster_msgs.specs.Labels.{BlameFits};
 ghost use Rattle.cluster_rules.specs.Sched.{Facts as SchedFacts, connected};
-ghost use Rattle.cluster_msgs.specs.declared.cores.End.TheVariants.{Got};
-ghost use Rattle.cluster_rules.specs.Client.{done};
 ghost use Rattle.gather_client.specs.CoreState.{client_facts};
 ghost use Rattle.scheduler_core.specs.Cores.{facts};
 ghost use Rattle.turn_cell.specs.Rows.{AllBy};
 ghost use Rattle.node_states.specs.Fitting.{ClientFits};
 ghost use Rattle.node_states.specs.declared.why.Why.TheVariants as why;
-ghost use Rattle.node_runner.specs.Runs.{HasGot, IsGivenUp, IsLeft, IsNamed, IsTakenFrom};
+ghost use Rattle.node_runner.specs.Runs.{HasGot, IsGivenUp, IsGot, IsLeft, IsNamed, IsTakenFrom};
 
 use crate::plan::RunPlan;
 use crate::sink::Sink;
@@ -51,7 +49,7 @@ pub struct Ends<F: Drop, S: Drop> {
 
 /// Whether the client got each of these keys.
 pub fn has_got<B: Drop, L: Label<Block = B>>(wanted: &[u32], client: &ClientNode<B, L>) -> bool
-    ensures { result ≡ true → HasGot (client_facts client.now.book.core.core) wanted.now }
+    ensures { result ≡ true → HasGot (client_facts client.now.book.core.core) client.now.book.entries client.now.book.cut wanted.now }
 {
     for key in wanted {
         if !is_got(*key, client) {
@@ -61,13 +59,14 @@ pub fn has_got<B: Drop, L: Label<Block = B>>(wanted: &[u32], client: &ClientNode
     true
 }
 
-/// Whether the client got a key.
+/// Whether the client got a key: it has it, or has let it go since.
 fn is_got<B: Drop, L: Label<Block = B>>(key: u32, client: &ClientNode<B, L>) -> bool
-    ensures { result ≡ true → done (client_facts client.now.book.core.core) key ≡ Some Got }
+    ensures { result ≡ true → IsGot (client_facts client.now.book.core.core) client.now.book.entries client.now.book.cut key }
 {
     match client.end(key) {
         Some(End::Got) => true,
-        Some(End::Erred { blame: _ }) | None => false,
+        Some(End::Erred { blame: _ }) => false,
+        None => client.has_let_go(key),
     }
 }
 

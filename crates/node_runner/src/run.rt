@@ -60,6 +60,7 @@ where
     G: Gate,
     K: RunName<J> + Send + Sync,
     S: BlockStore<J::Block, RunLabel<J, K>> + Send + Sync,
+    S::Ready: Send + Sync,
     Z: Sink<J::Block, RunLabel<J, K>> + Drop,
     requires named { K.job ≡ Some job.now }
     requires saturation { (1 ≤ plan.now.saturation) × (plan.now.saturation ≤ 1000) }
@@ -144,6 +145,7 @@ where
     G: Gate,
     K: RunName<J> + Send + Sync,
     S: BlockStore<J::Block, RunLabel<J, K>> + Send + Sync,
+    S::Ready: Send + Sync,
     Z: Sink<J::Block, RunLabel<J, K>> + Drop,
     requires named { K.job ≡ Some job.now }
     requires parts { (rows.workers.parts ≡ rows.scheduler.parts) × (rows.clients.parts ≡ rows.scheduler.parts) }
@@ -208,6 +210,7 @@ where
     G: Gate,
     K: RunName<J> + Send + Sync,
     S: BlockStore<J::Block, RunLabel<J, K>> + Send + Sync,
+    S::Ready: Send + Sync,
     Z: Sink<J::Block, RunLabel<J, K>> + Drop,
     requires named { K.job ≡ Some job.now }
     requires parts { (rows.workers.parts ≡ rows.scheduler.parts) × (rows.clients.parts ≡ rows.scheduler.parts) }
@@ -263,6 +266,7 @@ where
     L: Label<Block = B> + Send + Sync,
     F: Drop + Send + Sync,
     S: BlockStore<B, L> + Send + Sync,
+    S::Ready: Send + Sync,
     X: Schedules<SchedulerNode<B, L>, L>
         + Works<WorkerNode<B, L, F, S>, L>
         + Attends<ClientNode<B, L>, L>

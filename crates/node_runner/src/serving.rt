@@ -1,7 +1,7 @@
 //! The turns of the nodes of a run.
 
 use crate::label::{Fed, RunLabel, RunName};
-use crate::tasks::{Lent, Returned, Running, run_lent};
+use crate::tasks::{Lent, Returned, Running, lend, run_lent};
 use crate::watching::Watch;
 use cluster_msgs::JobSpec;
 use driver_rows::{Attends, ClientNews, SchedulerNews, Schedules, WorkerNews, Works};
@@ -59,7 +59,7 @@ impl<'a, J: JobSpec, G: Gate, K: RunName<J>, S: BlockStore<J::Block, RunLabel<J,
 > for Running<'a, J, G, K> {
     type Task = Lent<J::Block, RunLabel<J, K>, Fed<J, K>>;
 
-    type Done = Returned<J::Block, RunLabel<J, K>, Fed<J, K>>;
+    type Done = Returned<J::Block, RunLabel<J, K>, Fed<J, K>, S::Ready>;
 
     fn work<R: Wait>(
         &self,
@@ -77,10 +77,7 @@ impl<'a, J: JobSpec, G: Gate, K: RunName<J>, S: BlockStore<J::Block, RunLabel<J,
             dead: ended,
         };
         let (moved, task) = turn.act(state);
-        let task = match task {
-            Some(task) => Some(Lent { worker, task }),
-            None => None,
-        };
+        let task = lend(worker, &*state, task);
         WorkerNews {
             moved,
             ended: state.ended(),
@@ -114,8 +111,10 @@ impl<'a, J: JobSpec, G: Gate, K: RunName<J>, S: BlockStore<J::Block, RunLabel<J,
     fn run(
         &self,
         task: Lent<J::Block, RunLabel<J, K>, Fed<J, K>>,
-    ) -> Returned<J::Block, RunLabel<J, K>, Fed<J, K>> {
-        run_lent(self.alloc, self, task)
+    ) -> Returned<J::Block, RunLabel<J, K>, Fed<J, K>, S::Ready> {
+        run_lent::<J::Block, RunLabel<J, K>, Fed<J, K>, Running<'a, J, G, K>, S>(
+            self.alloc, self, task,
+        )
     }
 
     fn take_back<R: Wait>(
@@ -123,14 +122,21 @@ impl<'a, J: JobSpec, G: Gate, K: RunName<J>, S: BlockStore<J::Block, RunLabel<J,
         rt: &R,
         state: &mut WorkerNode<J::Block, RunLabel<J, K>, Fed<J, K>, S>,
         stamps: &mut Stamps,
-        done: Returned<J::Block, RunLabel<J, K>, Fed<J, K>>,
+        done: Returned<J::Block, RunLabel<J, K>, Fed<J, K>, S::Ready>,
     ) {
-        let Returned { made, feed } = done;
+        let Returned {
+            made,
+            feed,
+            next_out,
+            own,
+        } = done;
         let turn = TaskEnd {
             rt,
             stamps,
             made,
             feed,
+            next_out,
+            own,
         };
         turn.act(state);
     }

@@ -10,7 +10,7 @@ use crate::label::{Fed, RunLabel, RunName};
 use cluster_msgs::{JobSpec, KeyList, Label, Outcome, RunFail};
 use io_edge::{Gate, Point};
 use node_links::Keyed;
-use node_states::{Fault, Finished, Task};
+use node_states::{BlockStore, Fault, Finished, Task, WorkerNode};
 use std::alloc::{AllocError, Global};
 use std::marker::PhantomData;
 use std::sync::Arc;
@@ -26,18 +26,23 @@ pub struct Running<'a, J: JobSpec, G: Gate, K: RunName<J>> {
     ghost named: { K.job ≡ Some job.now },
 }
 
-/// A task that a worker lends.
+/// A task that a worker lends, and what is to be prepared after it: its own block, where the worker's store is short of room, and the block that goes
+/// out of the store next.
 #[derive(Drop)]
 pub struct Lent<B: Drop, L: Label<Block = B>, F: Drop> {
     pub worker: u32,
     pub task: Task<B, L, F>,
+    short: bool,
+    next_out: Option<(u32, Arc<B>)>,
 }
 
-/// What a task left: what it made, and its feed.
+/// What a task left: what it made, its feed, and what was prepared of the block that goes out next and of its own.
 #[derive(Drop)]
-pub struct Returned<B: Drop, L: Label<Block = B>, F: Drop> {
+pub struct Returned<B: Drop, L: Label<Block = B>, F: Drop, Y: Drop> {
     pub made: Result<Finished<B, L>, RunFail>,
     pub feed: F,
+    pub next_out: Option<Y>,
+    pub own: Option<Y>,
 }
 
 impl<'a, J: JobSpec, G: Gate, K: RunName<J>> Running<'a, J, G, K> {
@@ -105,21 +110,83 @@ impl<'a, J: JobSpec, G: Gate, K: RunName<J>> Operates<J::Block, RunLabel<J, K>, 
     }
 }
 
-/// Runs a task, and tells of it before and after.
-pub fn run_lent<B, L, F, T>(alloc: Global, operates: &T, lent: Lent<B, L, F>) -> Returned<B, L, F>
+/// A worker lends a task, if it started one.
+pub fn lend<B: Drop, L: Label<Block = B>, F: Drop, S: BlockStore<B, L>>(
+    worker: u32,
+    node: &WorkerNode<B, L, F, S>,
+    task: Option<Task<B, L, F>>,
+) -> Option<Lent<B, L, F>> {
+    match task {
+        Some(task) => Some(Lent {
+            worker,
+            task,
+            short: node.is_short(),
+            next_out: node.next_out(),
+        }),
+        None => None,
+    }
+}
+
+/// Runs a task, and tells of it before and after. Then it prepares for the worker's store, outside of the turns, what may go out of it: the block that
+/// was made, while it is in the processor's cache, and the one that goes next.
+pub fn run_lent<B, L, F, T, S>(
+    alloc: Global,
+    operates: &T,
+    lent: Lent<B, L, F>,
+) -> Returned<B, L, F, S::Ready>
 where
     B: Drop,
     L: Label<Block = B>,
     F: Drop,
     T: Operates<B, L, F>,
+    S: BlockStore<B, L>,
 {
-    let Lent { worker, task } = lent;
+    let Lent {
+        worker,
+        task,
+        short,
+        next_out,
+    } = lent;
     let Task { key, inputs, feed } = task;
     let mut feed = feed;
     operates.tell(Point::Started { worker, key });
     let made = run_task(alloc, operates, key, inputs, &mut feed);
     operates.tell(Point::Ended { worker, key });
-    Returned { made, feed }
+    let own = own_ready::<B, L, S>(alloc, short, &made);
+    let next_out = next_ready::<B, L, S>(alloc, next_out);
+    Returned {
+        made,
+        feed,
+        next_out,
+        own,
+    }
+}
+
+/// What is prepared of the block that a task made, where its worker's store is short of room.
+fn own_ready<B: Drop, L: Label<Block = B>, S: BlockStore<B, L>>(
+    alloc: Global,
+    short: bool,
+    made: &Result<Finished<B, L>, RunFail>,
+) -> Option<S::Ready> {
+    if !short {
+        return None;
+    }
+    let Ok(Finished::Value(keyed)) = made else {
+        return None;
+    };
+    match keyed.share() {
+        Ok(shared) => S::prepare(alloc, keyed.key(), shared.into_block()),
+        Err(_) => None,
+    }
+}
+
+/// What is prepared of the block that goes out next, if one does.
+fn next_ready<B: Drop, L: Label<Block = B>, S: BlockStore<B, L>>(
+    alloc: Global,
+    next_out: Option<(u32, Arc<B>)>,
+) -> Option<S::Ready> {
+    let (key, block) = next_out?;
+    S::prepare(alloc, key, block)
 }
 
 /// Runs a key's operation on the blocks of its dependencies. What it makes fits the label of the run: a block is the key's value where the feeds tell

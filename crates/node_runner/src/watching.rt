@@ -22,6 +22,8 @@ pub struct Watch<B: Drop, L: Label<Block = B>> {
     front: usize,
     takes: bool,
     brought: Option<Keyed<B, L>>,
+    /// A key whose block was handed on, which the client is to let go.
+    given: Option<u32>,
     /// The client is to go on no more.
     quits: bool,
 }
@@ -35,6 +37,7 @@ impl<B: Drop, L: Label<Block = B>> Watch<B, L> {
             front: usize::MAX,
             takes: false,
             brought: None,
+            given: None,
             quits: false,
         }
     }
@@ -51,11 +54,13 @@ impl<B: Drop, L: Label<Block = B>> Watch<B, L> {
             front: 0,
             takes: true,
             brought: None,
+            given: None,
             quits: false,
         }
     }
 
-    /// Looks at the wanted keys, in a turn of the client, and takes a block that came. Whether it took one.
+    /// Looks at the wanted keys, in a turn of the client, has it let the key go whose block was handed on, and takes a block that came. Whether it took
+    /// one.
     pub fn look(&mut self, client: &mut ClientNode<B, L>, wanted: &[u32]) -> bool
         ensures { client.new.book ≡ client.old.book }
     {
@@ -63,11 +68,23 @@ impl<B: Drop, L: Label<Block = B>> Watch<B, L> {
         if self.quits {
             client.give_up();
         }
-        if !self.takes || self.brought.is_some() {
+        self.let_go(client);
+        if !self.takes || self.brought.is_some() || self.given.is_some() {
             return false;
         }
         self.brought = client.hand_over();
         self.brought.is_some()
+    }
+
+    /// Has the client let the key go whose block was handed on, unless it is to let another go first.
+    fn let_go(&mut self, client: &mut ClientNode<B, L>)
+        ensures { client.new.book ≡ client.old.book }
+    {
+        if let Some(key) = self.given {
+            if client.let_go(key) {
+                self.given = None;
+            }
+        }
     }
 
     /// Notes which keys have ended.
@@ -80,12 +97,12 @@ impl<B: Drop, L: Label<Block = B>> Watch<B, L> {
         }
     }
 
-    /// Whether a key has ended, which is noted.
+    /// Whether a key has ended, which is noted. One that was let go was got.
     fn has_ended(&mut self, client: &ClientNode<B, L>, key: u32) -> bool {
         match client.end(key) {
             Some(End::Got) => self.note_got(key),
             Some(End::Erred { blame }) => self.sight.note_erred(key, blame),
-            None => false,
+            None => client.has_let_go(key) && self.note_got(key),
         }
     }
 
@@ -115,8 +132,10 @@ impl<B: Drop, L: Label<Block = B>, D: Drives<Watch<B, L>>, Z: Sink<B, L>> Waitin
         ensures same { self.new.watch.sight ≡ self.old.watch.sight }
     {
         if let Some(keyed) = self.watch.brought.take() {
-            self.sink.take(keyed.key(), keyed.into_block());
+            let key = keyed.key();
+            self.sink.take(key, keyed.into_block());
             self.watch.quits = self.sink.is_full();
+            self.watch.given = Some(key);
         }
     }
 

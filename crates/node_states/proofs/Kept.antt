@@ -1,6 +1,7 @@
 -- What a turn keeps of a core, whatever it records, and what holds of all blocks by their type.
-use Rattle.std.proofs.Common.{List, Option, Some, None, IfSome, sym, subst, ⊎_elim}
+use Rattle.std.proofs.Common.{◌≡◌, List, Option, Some, None, IfSome, sym, subst, ⊎_elim}
 use Rattle.std.specs.Prelude.{All, slice_index_or}
+use Rattle.cluster_msgs.specs.declared.events.Entry.{Entry}
 use Rattle.cluster_msgs.specs.declared.events.Event.{Event}
 use Rattle.cluster_msgs.specs.declared.messages.Message.{Message}
 use Rattle.node_links.specs.Books.{BookState, IsRecorded, Steps, StepsBy}
@@ -18,6 +19,10 @@ kept_by says by P keeps x y h p = ⊎_elim
     (λ a. by_step by P keeps a.4.0 x.core y.core a.4.2 p)
     (λ b. by_step by P keeps b.2.1.0 x.core y.core b.2.1.2 p) k)
     h.is
+
+-- books that are the same recorded the same
+pub recorded_over : {C : Type 0} (steps : C → Entry → C → Type 0) (w x y z : BookState C) → x ≡ w → IsRecorded steps x y → z ≡ y → IsRecorded steps w z
+recorded_over steps w x y z e h f = subst (λ b. IsRecorded steps w b) (sym f) (subst (λ b. IsRecorded steps b y) e h)
 
 if_some : {X : Type 0} (P : X → Type 0) → ((x : X) → P x) → (o : Option X) → IfSome o P
 if_some P each None = tt

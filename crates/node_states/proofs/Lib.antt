@@ -14,3 +14,4 @@ pub mod ScriptLemmas
 pub mod StoreLemmas
 pub mod SpillLemmas
 pub mod RowLemmas
+pub mod Released

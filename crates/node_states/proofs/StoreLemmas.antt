@@ -1,5 +1,5 @@
 -- What calls of a store leave as it was.
-use Rattle.std.proofs.Common.{◌≡◌, ℕ, ◌-◌, ◌^◌, ◌<◌, Bool, true, false, ◌&&◌, cond, Option, Some, None, refl, sym, ap, ◌∙◌, arith}
+use Rattle.std.proofs.Common.{◌≡◌, ℕ, ◌-◌, ◌^◌, ◌<◌, Bool, true, false, ◌&&◌, cond, Option, Some, None, refl, sym, ap, subst, ◌∙◌, arith}
 use Rattle.std.specs.Prelude.{◌==◌}
 use Rattle.std.proofs.lemmas.Bool.{false≢true}
 use Rattle.small_facts.proofs.Numbers.{eqb_self}
@@ -119,6 +119,9 @@ pub looks_looked_up : (s0 s1 : Stock) (w : WorkerFacts) (m : Marked) → GoesOn 
 looks_looked_up s0 s1 w m f = same_looked_up s0 s1 w m w m f refl (record { each = λ k. refl })
 
 -- where nothing is in memory, nothing is to be recorded
+pub stays_looked_up : (keys looked : ℕ) (s t : Stock) (w : WorkerFacts) (m : Marked) → t ≡ s → IsLookedUp keys looked s w m → IsLookedUp keys looked t w m
+stays_looked_up keys looked s t w m e h = subst (λ x. IsLookedUp keys looked x w m) (sym e) h
+
 pub nothing_due : (keys : ℕ) (s : Stock) (w : WorkerFacts) (m : Marked) → ((k : ℕ) → w.mem k ≡ false) → IsLookedUp keys 0 s w m
 nothing_due keys s w m none = record {
   later = omega arith;

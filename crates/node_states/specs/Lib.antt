@@ -7,3 +7,4 @@ pub mod Opening
 pub mod Stores
 pub mod Reading
 pub mod Spills
+pub mod Released

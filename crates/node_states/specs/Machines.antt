@@ -1,5 +1,5 @@
 -- What each entry of a history asks of its node's core. An entry of a worker or a client names the number of its own node.
-use Rattle.std.specs.Prelude.{◌≡◌, ℕ, Bool, true, Option, Some, None, cond}
+use Rattle.std.specs.Prelude.{◌≡◌, ℕ, Bool, true, Option, Some, None, All, cond}
 use Rattle.std.specs.Option.{option_map}
 use Rattle.cluster_msgs.specs.declared.messages.Message.{Message}
 use Rattle.cluster_msgs.specs.declared.messages.Message.TheVariants as message
@@ -19,7 +19,8 @@ use Rattle.cluster_rules.specs.SchedTable.{sched_takes}
 use Rattle.cluster_rules.specs.SchedStep.{sched_step}
 use Rattle.cluster_rules.specs.Worker.{WorkerFacts, ask_to}
 use Rattle.cluster_rules.specs.WorkerStep.{worker_step, worker_takes}
-use Rattle.cluster_rules.specs.Client.{ClientFacts, client_step, client_takes}
+use Rattle.cluster_msgs.specs.declared.cores.End.TheVariants.{Got}
+use Rattle.cluster_rules.specs.Client.{ClientFacts, client_step, client_takes, done}
 use Rattle.node_states.specs.declared.choice.Plan.{Plan}
 
 -- the scheduler: a message of a worker that isn't connected is dropped
@@ -64,10 +65,10 @@ pub record WorkerBy (w : WorkerFacts) (e : WorkerEvent) (v : WorkerFacts) : Type
   pub takes : worker_takes w e ≡ true
   pub facts : v ≡ (worker_step w e).facts
 
--- client `id`
+-- client `id`: it lets go what it has got
 abbrev pub ClientSays : ℕ → ClientFacts → Event → Option Message → Option ClientEvent → Type 0
 ClientSays id c (event.Want x ks) None o = (x ≡ id) × (o ≡ Some (client.Want ks))
-ClientSays id c (event.Release x ks) None o = (x ≡ id) × (o ≡ Some (client.Release ks))
+ClientSays id c (event.Release x ks) None o = (x ≡ id) × (o ≡ Some (client.Release ks)) × All (λ k. done c k ≡ Some Got) ks
 ClientSays id c (event.DeliverToClient x) (Some (message.ToClient m)) o = (x ≡ id) × (o ≡ Some (client.FromScheduler m))
 ClientSays id c (event.SendGather a p) None o = (a ≡ Client id) × (o ≡ Some (client.Ask p))
 ClientSays id c (event.ArriveGather a p n) (Some (message.Peer (Data m ks))) o = (a ≡ Client id) × (m ≡ n) × (o ≡ Some (client.Gathered p n ks))

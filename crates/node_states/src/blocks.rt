@@ -51,6 +51,8 @@ impl<B: Drop, L: Label<Block = B>> Blocks<B, L> {
 }
 
 impl<B: Drop, L: Label<Block = B>> BlockStore<B, L> for Blocks<B, L> {
+    type Ready = ();
+
     ghost use Rattle.std.specs.Prelude.{All, IfSome, OnOk, OnErr};
     ghost use Rattle.std.specs.Arc.{arc_value};
     ghost use Rattle.cluster_msgs.specs.Labels.{BlockFits};
@@ -100,6 +102,20 @@ impl<B: Drop, L: Label<Block = B>> BlockStore<B, L> for Blocks<B, L> {
     fn spills(&self) -> u64 {
         0
     }
+
+    fn is_short(&self) -> bool {
+        false
+    }
+
+    fn next_out(&self) -> Option<(u32, Arc<B>)> {
+        None
+    }
+
+    fn prepare(_alloc: Global, _key: u32, _block: Arc<B>) -> Option<()> {
+        None
+    }
+
+    fn expect(&mut self, _ready: ()) {}
 
     #[tactic(auto, using(crate::proofs::RowLemmas::row_sound, crate::proofs::Kept::all_places))]
     fn sound(&self) {

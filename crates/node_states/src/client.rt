@@ -1,18 +1,20 @@
 //! A client's node.
-ghost use Rattle.std.specs.Prelude.{◌≡◌, ◌<◌, [], false, true, IfOk, IfSome, Ok, Some, None};
+ghost use Rattle.std.specs.Prelude.{◌≡◌, ◌<◌, ◌∷◌, [], false, true, IfOk, IfSome, OnOk, Ok, Some, None};
 ghost use Rattle.cluster_msgs.specs.Labels.{PacketFits};
 ghost use Rattle.cluster_msgs.specs.declared.cores.ClientEvent.TheVariants as client;
 ghost use Rattle.cluster_msgs.specs.declared.events.Asker.TheVariants.{Client};
 ghost use Rattle.cluster_msgs.specs.declared.events.Event.TheVariants as event;
 ghost use Rattle.cluster_rules.specs.Client.{ClientFacts, done};
 ghost use Rattle.gather_client.specs.CoreState.{client_facts};
-ghost use Rattle.node_links.specs.Books.{IsRecorded, Steps};
+ghost use Rattle.node_links.specs.Books.{IsEntered, IsRecorded, Steps};
 ghost use Rattle.node_states.specs.Fitting.{ClientFits};
 ghost use Rattle.node_states.specs.Machines.{ClientSays};
+ghost use Rattle.node_states.specs.Released.{AreReleased, WasReleased, lets_go};
 
 use crate::cores::GatheringCore;
 use crate::evidence::{Blame, ClientCause};
 use crate::links::{ClientLinks, is_dead, number};
+use crate::marks::Marks;
 use crate::worker_choice::paired;
 use cluster_msgs::{
     Asker, ClientEvent, ClientOut, End, Event, KeyList, Label, Message, Packet, Peer, Stop,
@@ -22,6 +24,9 @@ use node_links::{Book, Keyed, Machine, Port};
 use std::alloc::{AllocError, Global};
 use std::sync::Wait;
 use turn_cell::{Act, Kept, Stamps};
+
+/// The most keys that a graph has.
+const KEYS: u32 = 32_768;
 
 /// What a turn does next: an event with its message, what the core is told, and the blocks that come.
 #[derive(Drop)]
@@ -34,16 +39,23 @@ struct Choice<B: Drop, L: Label<Block = B>> {
 
 /// A client with its history, the blocks that came and weren't taken over yet, and its links. It wants its keys once, then takes what comes, asks
 /// workers for blocks, and gives up asks to workers that have ended. It asks for nothing while an answer is awaited or a block that came is still here,
-/// so that no more blocks than one answer has are ever under way to it.
+/// so that no more blocks than one answer has are ever under way to it. A key that it got is let go when it is told so, in a turn of its own.
 #[derive(Drop)]
 pub struct ClientNode<B: Drop, L: Label<Block = B>> {
     alloc: Global,
     pub book: Book<GatheringCore<L>>,
     came: Vec<Keyed<B, L>>,
     wanted: KeyList,
+    /// The place of the first wanted key that wasn't got.
+    front: usize,
     asked: bool,
+    /// A key that is to be let go next.
+    due: Option<u32>,
+    /// The keys that were let go.
+    released: Marks,
     links: ClientLinks<B, L>,
     stopped: Option<Stop>,
+    ghost told: { AreReleased released book },
 }
 
 impl<B: Drop, L: Label<Block = B>> ClientNode<B, L> {
@@ -63,18 +75,20 @@ impl<B: Drop, L: Label<Block = B>> ClientNode<B, L> {
         ensures entries { IfOk result (λ node. (node.book.entries ≡ []) × (node.book.cut ≡ false)) }
     {
         let links = ClientLinks::new(alloc, scheduler, workers);
-        match Book::new(alloc, core, limit) {
-            Ok(book) => Ok(ClientNode {
+        match begin(alloc, core, limit) {
+            Ok((book, released)) => Ok(ClientNode {
                 alloc,
                 book,
                 came: Vec::new(alloc),
                 wanted,
+                front: 0,
                 asked: false,
+                due: None,
+                released,
                 links,
                 stopped: None,
             }),
-            Err(core) => {
-                drop(core);
+            Err(_) => {
                 drop(wanted);
                 drop(links);
                 Err(AllocError)
@@ -89,7 +103,7 @@ impl<B: Drop, L: Label<Block = B>> ClientNode<B, L> {
         self.stopped
     }
 
-    /// How a key ended, as long as the core goes on.
+    /// How a key ended, as long as the core goes on. A key that was let go has no end any more.
     pub fn end(&self, key: u32) -> Option<End>
         ensures { IfSome result (λ end. done (client_facts self.now.book.core.core) key ≡ Some end) }
     {
@@ -104,6 +118,25 @@ impl<B: Drop, L: Label<Block = B>> ClientNode<B, L> {
         self.came.pop()
     }
 
+    /// A key that was got is let go in the next turn. False where that is so of another one still.
+    pub fn let_go(&mut self, key: u32) -> bool
+        ensures { self.new.book ≡ self.old.book }
+    {
+        if self.due.is_some() {
+            return false;
+        }
+        self.due = Some(key);
+        true
+    }
+
+    /// Whether a key was let go.
+    #[tactic(auto, using(crate::proofs::Released::is_told))]
+    pub fn has_let_go(&self, key: u32) -> bool
+        ensures { result ≡ true → WasReleased key self.now.book.entries self.now.book.cut }
+    {
+        self.released.has(key)
+    }
+
     /// The history, and the blocks that came and are still here.
     pub fn into_parts(self) -> (Book<GatheringCore<L>>, Vec<Keyed<B, L>>)
         ensures { result.0 ≡ self.book }
@@ -113,11 +146,15 @@ impl<B: Drop, L: Label<Block = B>> ClientNode<B, L> {
             book,
             came,
             wanted,
+            front: _,
             asked: _,
+            due: _,
+            released,
             links,
             stopped: _,
         } = self;
         drop(wanted);
+        drop(released);
         drop(links);
         (book, came)
     }
@@ -144,11 +181,14 @@ impl<B: Drop, L: Label<Block = B>> ClientNode<B, L> {
         }
     }
 
-    /// Whether each wanted key is got, or one failed.
+    /// Whether each wanted key was got, or the first that wasn't has failed.
     pub fn is_done(&self) -> bool {
-        match self.book.core() {
-            None => false,
-            Some(core) => all_end(&core.core, self.wanted.as_slice()),
+        let Some(core) = self.book.core() else {
+            return false;
+        };
+        match self.wanted.as_slice().get(self.front) {
+            Some(key) => has_failed(&core.core, *key),
+            None => true,
         }
     }
 
@@ -160,11 +200,23 @@ impl<B: Drop, L: Label<Block = B>> ClientNode<B, L> {
         if self.stopped.is_some() {
             return false;
         }
+        if self.release_due(rt, stamps) {
+            return true;
+        }
+        self.go_on(rt, stamps, dead)
+    }
+
+    /// A turn of a client that goes on and lets no key go.
+    fn go_on<R: Wait>(&mut self, rt: &R, stamps: &mut Stamps, dead: &[bool]) -> bool
+        ensures recorded { IsRecorded (Steps ⟦<GatheringCore<L> as Machine>⟧.says ⟦<GatheringCore<L> as Machine>⟧.by) self.old.book self.new.book }
+        ensures idle { result ≡ false → self.new.book ≡ self.old.book }
+    {
         let chosen = self.choose(rt, dead);
         match chosen {
             Some(choice) => {
                 let end = self.perform(rt, stamps, choice);
                 self.note(end);
+                self.front = self.first_open();
                 self.links.flush(rt);
                 true
             }
@@ -173,6 +225,97 @@ impl<B: Drop, L: Label<Block = B>> ClientNode<B, L> {
                 self.links.flush(rt);
                 false
             }
+        }
+    }
+
+    /// The place of the first wanted key that wasn't got, as far as the core goes on.
+    fn first_open(&self) -> usize {
+        let Some(core) = self.book.core() else {
+            return self.front;
+        };
+        let wanted = self.wanted.as_slice();
+        for at in self.front..wanted.len() {
+            if !core.core.has_got(wanted[at]) && !self.released.has(wanted[at]) {
+                return at;
+            }
+        }
+        wanted.len()
+    }
+
+    /// Lets the key go that is due, where it is got and there is memory. Whether it tried.
+    fn release_due<R: Wait>(&mut self, rt: &R, stamps: &mut Stamps) -> bool
+        ensures recorded { IsRecorded (Steps ⟦<GatheringCore<L> as Machine>⟧.says ⟦<GatheringCore<L> as Machine>⟧.by) self.old.book self.new.book }
+        ensures idle { result ≡ false → self.new.book ≡ self.old.book }
+    {
+        let Some(key) = self.due.take() else {
+            return false;
+        };
+        let chosen = self.release_of(key);
+        match chosen {
+            Some(choice) => {
+                let end = self.release(rt, stamps, key, choice);
+                self.note(end);
+                self.links.flush(rt);
+                true
+            }
+            None => {
+                drop(chosen);
+                false
+            }
+        }
+    }
+
+    /// The release of a key, where it is got and there is memory.
+    #[tactic(auto, using(crate::proofs::Released::names_key, crate::proofs::Released::one_got))]
+    fn release_of(&self, key: u32) -> Option<Choice<B, L>>
+        ensures says { IfSome result (λ c. ClientSays self.now.book.core.id (client_facts self.now.book.core.core) c.event c.message c.said) }
+        ensures names { IfSome result (λ c. lets_go key c.event ≡ true) }
+    {
+        let core = self.book.core()?;
+        if !core.core.has_got(key) {
+            return None;
+        }
+        let keys = just(self.alloc, key)?;
+        let Ok(again) = keys.copy() else {
+            drop(keys);
+            return None;
+        };
+        Some(Choice {
+            event: Event::Release {
+                client: core.id,
+                keys,
+            },
+            message: None,
+            said: Some(ClientCause::new(ClientEvent::Release(again))),
+            brought: Vec::new(self.alloc),
+        })
+    }
+
+    /// Records the release of a key, which is marked then.
+    fn release<R: Wait>(
+        &mut self,
+        rt: &R,
+        stamps: &mut Stamps,
+        key: u32,
+        choice: Choice<B, L>,
+    ) -> Result<(), Stop>
+        requires says { ClientSays self.old.book.core.id (client_facts self.old.book.core.core) choice.event choice.message choice.said }
+        requires names { lets_go key choice.event ≡ true }
+        ensures recorded { IsRecorded (Steps ⟦<GatheringCore<L> as Machine>⟧.says ⟦<GatheringCore<L> as Machine>⟧.by) self.old.book self.new.book }
+    {
+        self.perform(rt, stamps, choice)?;
+        self.mark(key);
+        Ok(())
+    }
+
+    /// Marks a key that was let go.
+    #[tactic(auto, using(crate::proofs::Released::marked_besides))]
+    fn mark(&mut self, key: u32)
+        requires { WasReleased key self.old.book.entries self.old.book.cut }
+        ensures { self.new.book ≡ self.old.book }
+    {
+        if self.released.has_room(Some(key)) {
+            self.released.mark(Some(key));
         }
     }
 
@@ -380,6 +523,7 @@ impl<B: Drop, L: Label<Block = B>> ClientNode<B, L> {
         }))
     }
 
+    #[tactic(auto, using(crate::proofs::Released::still_released))]
     fn perform<R: Wait>(
         &mut self,
         rt: &R,
@@ -388,6 +532,7 @@ impl<B: Drop, L: Label<Block = B>> ClientNode<B, L> {
     ) -> Result<(), Stop>
         requires says { ClientSays self.old.book.core.id (client_facts self.old.book.core.core) choice.event choice.message choice.said }
         ensures recorded { IsRecorded (Steps ⟦<GatheringCore<L> as Machine>⟧.says ⟦<GatheringCore<L> as Machine>⟧.by) self.old.book self.new.book }
+        ensures entered { OnOk result (IsEntered choice.event choice.message self.old.book self.new.book) }
     {
         let Choice {
             event,
@@ -428,16 +573,51 @@ fn keep<B: Drop, L: Label<Block = B>>(
     Ok(())
 }
 
-/// Whether each of these keys is got, or one of them failed.
-fn all_end(core: &ClientCore, keys: &[u32]) -> bool {
-    for key in keys {
-        match core.done(*key) {
-            Some(End::Got) => {}
-            Some(End::Erred { blame: _ }) => return true,
-            None => return false,
+/// Whether a key failed.
+fn has_failed(core: &ClientCore, key: u32) -> bool {
+    match core.done(key) {
+        Some(End::Erred { blame: _ }) => true,
+        Some(End::Got) | None => false,
+    }
+}
+
+/// A list of this key alone, where there is memory.
+fn just(alloc: Global, key: u32) -> Option<KeyList>
+    ensures { IfSome result (λ keys. keys ≡ key ∷ []) }
+{
+    let mut keys = KeyList::new(alloc);
+    match keys.push(key) {
+        Ok(()) => Some(keys),
+        Err(_) => {
+            drop(keys);
+            None
         }
     }
-    true
+}
+
+/// A book without entries, and marks of no key.
+#[tactic(auto, using(crate::proofs::Released::none_released))]
+fn begin<L: Label>(
+    alloc: Global,
+    core: GatheringCore<L>,
+    limit: u64,
+) -> Result<(Book<GatheringCore<L>>, Marks), AllocError>
+    ensures core { IfOk result (λ begun. begun.0.core ≡ core) }
+    ensures entries { IfOk result (λ begun. (begun.0.entries ≡ []) × (begun.0.cut ≡ false)) }
+    ensures told { IfOk result (λ begun. AreReleased begun.1 begun.0) }
+{
+    let Ok(released) = Marks::new(alloc, KEYS) else {
+        drop(core);
+        return Err(AllocError);
+    };
+    match Book::new(alloc, core, limit) {
+        Ok(book) => Ok((book, released)),
+        Err(core) => {
+            drop(core);
+            drop(released);
+            Err(AllocError)
+        }
+    }
 }
 
 impl<B: Drop, L: Label<Block = B>> Kept for ClientNode<B, L> {

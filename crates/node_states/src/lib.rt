@@ -14,6 +14,7 @@ mod laws;
 mod links;
 mod marks;
 mod past;
+mod preparing;
 mod scheduler;
 mod script;
 mod store;

@@ -5,7 +5,7 @@ ghost use Rattle.cluster_msgs.specs.Labels.{BlockFits, LabelFacts};
 ghost use Rattle.node_states.specs.Stores.{Stock, Puts, Gives, Removes, IsSame, IsStock, IfHere};
 
 use cluster_msgs::Label;
-use std::alloc::AllocError;
+use std::alloc::{AllocError, Global};
 use std::sync::Arc;
 
 /// What a look at a store gives.
@@ -22,6 +22,9 @@ pub enum Got<T> {
 /// A store of the blocks of a worker, by key. It may put blocks aside, as on a disk, and lose such blocks. What it hands out fits its key under the
 /// label, whatever came of it in between.
 pub trait BlockStore<B: Drop, L: Label<Block = B>>: Drop {
+    /// What is prepared of a block outside of the turns, so that the store doesn't do it in the turn in which it puts the block aside.
+    type Ready: Drop;
+
     /// What it keeps.
     ghost stock: { Self → Stock };
 
@@ -57,6 +60,19 @@ pub trait BlockStore<B: Drop, L: Label<Block = B>>: Drop {
     /// How often blocks were put aside. It never falls, and stands still at its type's end.
     fn spills(&self) -> u64
         ensures { result ≡ (stock self.now).times };
+
+    /// Whether blocks are put aside, or will be soon.
+    fn is_short(&self) -> bool;
+
+    /// The block that is put aside next with its key, which both share from then on, where it is likely to be and nothing was prepared of it.
+    fn next_out(&self) -> Option<(u32, Arc<B>)>;
+
+    /// What is prepared of a block that is kept under this key. There is none where nothing has to be, or where there is no memory.
+    fn prepare(alloc: Global, key: u32, block: Arc<B>) -> Option<Self::Ready>;
+
+    /// Takes what was prepared of a block. What it keeps is as before.
+    fn expect(&mut self, ready: Self::Ready)
+        ensures { stock self.new ≡ stock self.old };
 
     /// What it holds in memory fits the label, whatever calls were made. It does nothing.
     fn sound(&self)

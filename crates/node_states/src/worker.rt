@@ -53,7 +53,7 @@ pub struct WorkerNode<B: Drop, L: Label<Block = B>, F: Drop, S: BlockStore<B, L>
     alloc: Global,
     pub history: WorkerHistory<L>,
     graph: RunGraph<L>,
-    store: S,
+    pub(crate) store: S,
     looked: u64,
     lost: Option<u32>,
     held: Option<Request>,

@@ -32,18 +32,21 @@ impl<'a, R: Wait, B: Drop, L: Label<Block = B>, F: Drop, S: BlockStore<B, L>> Ac
     }
 }
 
-/// The turn after a task.
-pub struct TaskEnd<'a, R: Wait, B: Drop, L: Label<Block = B>, F: Drop> {
+/// The turn after a task. What was prepared of the block that goes out next is there before the task's block comes, which itself goes out in a later
+/// turn at the earliest.
+pub struct TaskEnd<'a, R: Wait, B: Drop, L: Label<Block = B>, F: Drop, Y: Drop> {
     pub rt: &'a R,
     pub stamps: &'a mut Stamps,
     pub made: Result<Finished<B, L>, RunFail>,
     pub feed: F,
+    pub next_out: Option<Y>,
+    pub own: Option<Y>,
 }
 
 impl<'a, R: Wait, B: Drop, L: Label<Block = B>, F: Drop, S: BlockStore<B, L>> Act<
     WorkerNode<B, L, F, S>,
     L,
-> for TaskEnd<'a, R, B, L, F> {
+> for TaskEnd<'a, R, B, L, F, S::Ready> {
     type Out = Option<F>;
 
     fn act(self, state: &mut WorkerNode<B, L, F, S>) -> Option<F> {
@@ -52,8 +55,12 @@ impl<'a, R: Wait, B: Drop, L: Label<Block = B>, F: Drop, S: BlockStore<B, L>> Ac
             stamps,
             made,
             feed,
+            next_out,
+            own,
         } = self;
+        state.expect(next_out);
         let back = state.finish(rt, stamps, made, feed);
+        state.expect(own);
         state.sound();
         back
     }

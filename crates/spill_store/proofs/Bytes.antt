@@ -1,11 +1,12 @@
 -- Elements as bytes and back, and what a disk gives that tells what it holds.
-use Rattle.std.proofs.Common.{◌≡◌, ℕ, ℤ, zero, suc, ◌<◌, ◌+◌, ◌*◌, ◌^◌, List, [], ◌∷◌, ◌++◌, length, get_or, take, drop, refl, sym, ap, ap₂, subst, ◌∙◌, arith, length-append, length-drop}
+use Rattle.std.proofs.Common.{◌≡◌, ℕ, ℤ, zero, suc, ◌<◌, ◌+◌, ◌*◌, ◌^◌, List, [], ◌∷◌, ◌++◌, length, get_or, take, drop, refl, sym, ap, ap₂, subst, ◌∙◌, arith, append-nil, length-append, length-drop}
 use Rattle.std.specs.Prelude.{All, FitsSigned, map, min, slice_index_or}
 use Rattle.std.specs.Int.{w64, cast_signed, cast_unsigned, from_le_bytes, to_le_bytes}
 use Rattle.std.specs.List.{flat_map}
 use Rattle.std.specs.Simd.{first_chunks}
 use Rattle.std.proofs.lemmas.Int.{of_z-to_z, to_z-of_z}
 use Rattle.std.proofs.lemmas.List.{map-append, take_all, take_more, take-append-drop}
+use Rattle.std.proofs.lemmas.List.Concat.{flat_map-append}
 use Rattle.std.proofs.lemmas.List.Elements.{All-append, All-tail}
 use Rattle.std.proofs.lemmas.List.Folds.{flat_map-map}
 use Rattle.std.proofs.lemmas.Nat.{from_le_bytes-to_le_bytes_8, le_bytes_8}
@@ -56,6 +57,12 @@ flat_words (suc k) bytes h =
 -- the words of elements are their bytes
 pub flat_cells : (zs : List ℤ) → flat_map (λ x. x) (map cell_bytes zs) ≡ flat_map cell_bytes zs
 flat_cells zs = flat_map-map (λ x. x) cell_bytes zs
+
+-- the bytes of one element more
+pub bytes_more : (cells : List ℤ) (i : ℕ) (d : ℤ) (w : List ℕ) → i < length cells → w ≡ cell_bytes (get_or cells i d) → flat_map cell_bytes (take i cells) ++ w ≡ flat_map cell_bytes (take (i + 1) cells)
+bytes_more cells i d w h e =
+    ap (λ bs. flat_map cell_bytes (take i cells) ++ bs) (e ∙ sym (append-nil (cell_bytes (get_or cells i d)))) ∙ sym (flat_map-append cell_bytes (take i cells) (get_or cells i d ∷ []))
+    ∙ sym (ap (flat_map cell_bytes) (take_more cells i d h))
 
 -- one word more
 pub words_more : (cells new : List ℤ) (words : List (List ℕ)) (i : ℕ) (w : List ℕ) (z : ℤ) → i < length words → map cell_bytes cells ≡ take i words → cell_bytes z ≡ w → w ≡ get_or words i w → new ≡ cells ++ z ∷ [] → map cell_bytes new ≡ take (i + 1) words

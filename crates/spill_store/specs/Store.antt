@@ -1,5 +1,5 @@
 -- The store: a map from keys to blocks, some of them on a disk, and the rule by which blocks go there.
-use Rattle.std.specs.Prelude.{◌≡◌, ◌≤◌, ◌<◌, ◌⊎◌, ℕ, suc, nat_eq, List, [], ◌++◌, length, take, Option, Some, None, is_some, Bool, true, false, cond}
+use Rattle.std.specs.Prelude.{◌≡◌, ◌≤◌, ◌<◌, ◌*◌, ◌⊎◌, ℕ, suc, nat_eq, List, [], ◌++◌, length, take, Option, Some, None, is_some, Bool, true, false, cond}
 use Rattle.std.specs.Option.{option_map, option_map_or}
 use Rattle.std.specs.Map.{lookup, remove_entry}
 use Rattle.io_edge.specs.Cause.{Rose}
@@ -7,7 +7,7 @@ use Rattle.nd_shape.specs.Block.{Array}
 use Rattle.io_edge.specs.Disk.{DiskView}
 use Rattle.io_edge.specs.View.{raised}
 use Rattle.spill_store.specs.Table.{put_first}
-use Rattle.spill_store.specs.Memory.{InMemory, IsCrowded, UsesBlock}
+use Rattle.spill_store.specs.Memory.{InMemory, IsCrowded, UsesBlock, bytes_in}
 use Rattle.spill_store.specs.Shelves.{Shelved, ComesBack, LosesBy}
 use Rattle.spill_store.specs.declared.lost.Got.{Got}
 use Rattle.spill_store.specs.declared.lost.Got.TheVariants.{Found, Absent, Lost}
@@ -96,6 +96,16 @@ pub record Spills {D : Type 0} (view : D → DiskView) (order : List (ℕ × InM
   pub few : 0 < length gone → faults < 8
   pub ends : Ends view faults new rest
   pub times : new.times ≡ raised old.times (length gone)
+
+-- there is a disk that has failed less than eight times
+abbrev pub CanSpill : {D : Type 0} → (D → DiskView) → Option (Shelved D) → Type 0
+CanSpill view None = ⊥
+CanSpill view (Some h) = (view h.disk).faults < 8
+
+-- blocks go to the disk, or will soon: one went there before, or those in memory have more than half of the limit
+pub record IsShort {D : Type 0} (view : D → DiskView) (s : Kept D) : Type 0 where
+  pub disk : CanSpill view s.shelf
+  pub near : (0 < s.times) ⊎ (s.limit < 2 * bytes_in s.memory)
 
 -- ## The calls
 

@@ -2,8 +2,10 @@
 ghost use Rattle.std.specs.Prelude.{◌≡◌, ◌%◌, All, FitsSigned, length, map, IfOk, OnOk};
 ghost use Rattle.std.specs.Int.{w64};
 ghost use Rattle.std.specs.List.{flat_map};
+ghost use Rattle.sha2.specs.Sha512.{sha512_256};
 ghost use Rattle.spill_store.specs.Blocks.{cell_bytes};
 
+use sha2::{Digest, Sha512_256};
 use std::alloc::{AllocError, Global};
 
 fn bytes_of(cell: i64) -> [u8; 8]
@@ -30,6 +32,18 @@ pub(crate) fn words_of(alloc: Global, cells: &[i64]) -> Result<Vec<[u8; 8]>, All
         words.push(bytes_of(*cell))?;
     }
     Ok(words)
+}
+
+/// The digest of the bytes of these elements, which are made one after another, so that they take no memory.
+pub(crate) fn digest_of(cells: &[i64]) -> [u8; 32]
+    ensures digest { result ≡ sha512_256 (flat_map cell_bytes cells.now) }
+    ensures fits { All (FitsSigned w64) cells.now }
+{
+    let mut hasher = Sha512_256::new();
+    for cell in cells {
+        hasher.update(bytes_of(*cell));
+    }
+    hasher.finalize()
 }
 
 // The element of each word.

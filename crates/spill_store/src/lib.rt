@@ -8,6 +8,7 @@
 #![tactic(auto)]
 
 mod block_bytes;
+mod digested;
 mod disk;
 mod lost;
 mod memory;
@@ -18,6 +19,7 @@ mod store;
 mod table;
 mod was;
 
+pub use digested::Digested;
 pub use disk::Disk;
 pub use lost::{Got, LostBy};
 pub use store::SpillStore;

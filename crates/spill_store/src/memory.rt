@@ -1,5 +1,5 @@
 // The blocks in memory, in the order of use.
-ghost use Rattle.std.specs.Prelude.{◌≡◌, ◌≤◌, ◌↔◌, [], nat_eq, option_map, unwrap_or, IfErr, IfOk, OnErr, OnOk, MatchOption, IsTrue, None, Some};
+ghost use Rattle.std.specs.Prelude.{◌≡◌, ◌≤◌, ◌<◌, ◌*◌, ◌↔◌, [], nat_eq, option_map, unwrap_or, IfErr, IfOk, IfSome, OnErr, OnOk, MatchOption, IsTrue, None, Some};
 ghost use Rattle.std.specs.Map.{lookup, remove_entry};
 ghost use Rattle.spill_store.specs.Blocks.{size_of_block};
 ghost use Rattle.spill_store.specs.Memory.{bytes_in, IsCrowded, IsOldest, UsesBlock};
@@ -169,6 +169,24 @@ impl Memory {
             Some((key, held)) => Some((key, held.block())),
             None => None,
         }
+    }
+
+    /// The same one, which both share from then on. There is none where memory is wanting.
+    pub(crate) fn share_oldest(&self) -> Option<(u32, Arc<Block>)>
+        ensures { IfSome result (λ e. IsOldest self.now e.0 e.1.value) }
+    {
+        let (key, held) = self.blocks.last()?;
+        match held.share() {
+            Ok(block) => Some((key, block)),
+            Err(_) => None,
+        }
+    }
+
+    /// Whether the blocks have more than half of so many bytes. No memory.
+    pub(crate) fn is_half(&self, limit: u64) -> bool
+        ensures { IsTrue result ↔ (limit < 2 * bytes_in self.now) }
+    {
+        2 * self.bytes as u128 > limit as u128
     }
 
     /// Whether the blocks have more than six tenths of so many bytes, and there is more than one. No memory.

@@ -6,6 +6,7 @@ ghost use Rattle.spill_store.specs.Shelves.{AreThere, ComesBack, Fetches, TakesB
 ghost use Rattle.spill_store.specs.Table.{ChangesAt};
 
 use crate::block_bytes::words_of;
+use crate::digested::{Digested, Known};
 use crate::disk::Disk;
 use crate::lost::LostBy;
 use crate::spilled::{Spilled, block_of};
@@ -34,31 +35,15 @@ pub(crate) enum Fetched {
     Lost(LostBy),
 }
 
-/// A block that is in memory again, and what is kept of it as long as the disk has it still. Contracts see the block.
-#[derive(Drop)]
-struct Twice {
-    spilled: Spilled,
-    block: Arc<Block>,
-}
-
-impl Model for Twice {
-    ghost use Rattle.std.specs.Prelude.{◌≡◌};
-    ghost use Rattle.nd_shape.specs.Block.{Array};
-
-    ghost Value = { Array };
-
-    ghost view = { λ t. t.block.value };
-
-    ghost invariant = { λ t. t.spilled ≡ t.block.value };
-}
-
 /// A disk, what is kept of the blocks that are there alone, and of those that are in memory again and there still, so that
-/// they need not be written once more.
+/// they need not be written once more; and what is to be kept of blocks in memory that aren't there, where it was made outside
+/// of the store.
 #[derive(Drop)]
 pub(crate) struct Shelf<D: Disk> {
     disk: D,
     blocks: Table<Spilled>,
-    twice: Table<Twice>,
+    twice: Table<Known>,
+    ready: Table<Known>,
 }
 
 impl<D: Disk> Model for Shelf<D> {
@@ -84,10 +69,14 @@ impl<D: Disk> Shelf<D> {
         let Ok(twice) = Table::new(alloc) else {
             return Err((disk, AllocError));
         };
+        let Ok(ready) = Table::new(alloc) else {
+            return Err((disk, AllocError));
+        };
         Ok(Shelf {
             disk,
             blocks,
             twice,
+            ready,
         })
     }
 
@@ -100,6 +89,7 @@ impl<D: Disk> Shelf<D> {
             disk,
             blocks: _,
             twice: _,
+            ready: _,
         } = self;
         disk
     }
@@ -118,6 +108,22 @@ impl<D: Disk> Shelf<D> {
         self.disk.faults() >= FAULTS
     }
 
+    /// Whether what is to be kept of the block of this key, which is in memory, is known. No memory.
+    pub(crate) fn knows(&self, key: u32) -> bool {
+        self.twice.get(key).is_some() | self.ready.get(key).is_some()
+    }
+
+    /// What is to be kept of a block in memory is known from now on, where there is memory for it and the disk hasn't got the
+    /// block.
+    pub(crate) fn expect(&mut self, ready: Digested)
+        ensures { self.new ≡ self.old }
+    {
+        let key = ready.key();
+        if self.twice.get(key).is_none() {
+            let _ = self.ready.put(key, ready.into_known());
+        }
+    }
+
     /// Puts a block on the disk, unless it is there still.
     pub(crate) fn take(&mut self, alloc: Global, key: u32, block: &Block) -> Taken
         ensures turns { Turns (D.view self.old.disk) (D.view self.new.disk) }
@@ -128,7 +134,8 @@ impl<D: Disk> Shelf<D> {
                 return Taken::Yes;
             }
         }
-        put_anew(&mut self.disk, &mut self.blocks, alloc, key, block)
+        let known = known_of(&mut self.ready, key, block);
+        put_anew(&mut self.disk, &mut self.blocks, alloc, key, block, known)
     }
 
     /// Reads a block from the disk. It stays there.
@@ -161,7 +168,7 @@ impl<D: Disk> Shelf<D> {
     {
         if let Some(spilled) = self.blocks.remove(key) {
             let spilled = spilled.renewed(&block);
-            let _ = self.twice.put(key, Twice { spilled, block });
+            let _ = self.twice.put(key, Known { spilled, block });
         }
     }
 
@@ -173,6 +180,7 @@ impl<D: Disk> Shelf<D> {
     {
         self.blocks.remove(key);
         self.twice.remove(key);
+        self.ready.remove(key);
         if on_disk {
             let _ = self.disk.delete(key);
         }
@@ -205,16 +213,31 @@ fn is_same(left: &Block, right: &Block) -> bool
 }
 
 // Keeps what is known of a block on the disk as of one that is there alone, where it is this block and there is memory for it.
-fn put_again(blocks: &mut Table<Spilled>, key: u32, twice: Twice, block: &Block) -> bool
+fn put_again(blocks: &mut Table<Spilled>, key: u32, twice: Known, block: &Block) -> bool
     ensures yes { IsTrue result → ChangesAt key (Some block.now) blocks.old blocks.new }
     ensures same { IsTrue result → twice ≡ block.now }
     ensures no { result ≡ false → blocks.new ≡ blocks.old }
 {
-    let Twice {
+    let Known {
         spilled,
         block: held,
     } = twice;
     is_same(&held, block) && blocks.put(key, spilled).is_ok()
+}
+
+// What is kept of this block, where that was made of the same one. It is known no more.
+fn known_of(ready: &mut Table<Known>, key: u32, block: &Block) -> Option<Spilled>
+    ensures { IfSome result (λ s. s ≡ block.now) }
+{
+    let Known {
+        spilled,
+        block: held,
+    } = ready.remove(key)?;
+    if is_same(&held, block) {
+        Some(spilled)
+    } else {
+        None
+    }
 }
 
 // Puts a block on a disk, of which these blocks are there.
@@ -224,7 +247,9 @@ fn put_anew<D: Disk>(
     alloc: Global,
     key: u32,
     block: &Block,
+    known: Option<Spilled>,
 ) -> Taken
+    requires known { IfSome known (λ s. s ≡ block.now) }
     requires there { AreThere (D.view disk.old) blocks.old }
     ensures there { AreThere (D.view disk.new) blocks.new }
     ensures tells { (D.view disk.new).tells ≡ (D.view disk.old).tells }
@@ -236,7 +261,7 @@ fn put_anew<D: Disk>(
         return Taken::OutOfMemory;
     };
     let bytes = words.as_slice().as_flattened();
-    let Ok(spilled) = Spilled::new(alloc, block, bytes) else {
+    let Ok(spilled) = Spilled::known_or_new(alloc, known, block, bytes) else {
         return Taken::OutOfMemory;
     };
     match blocks.put(key, spilled) {

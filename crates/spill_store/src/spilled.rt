@@ -1,10 +1,10 @@
 // What is kept in memory of a block that is on the disk.
-ghost use Rattle.std.specs.Prelude.{◌≡◌, ◌*◌, All, FitsSigned, length, IfOk, MatchOption};
+ghost use Rattle.std.specs.Prelude.{◌≡◌, ◌*◌, All, FitsSigned, length, IfOk, IfSome, MatchOption};
 ghost use Rattle.std.specs.Int.{w64};
 ghost use Rattle.nd_shape.specs.Shape.{elements};
 ghost use Rattle.spill_store.specs.Blocks.{block_bytes, size_of_block, DiffersIn, IsAlike, IsBlock, IsOf};
 
-use crate::block_bytes::cells_of;
+use crate::block_bytes::{cells_of, digest_of};
 use crate::lost::LostBy;
 use crate::was::Was;
 use nd_shape::{Block, Shape};
@@ -44,6 +44,36 @@ impl Spilled {
             digest: Sha512_256::digest(bytes),
             was: Was::new(block.cells()),
         })
+    }
+
+    /// What is kept of a block. Its bytes take no memory.
+    pub(crate) fn of(alloc: Global, block: &Block) -> Result<Self, AllocError>
+        ensures { IfOk result (λ s. s ≡ block.now) }
+    {
+        let shape = block.shape().copy(alloc)?;
+        Ok(Spilled {
+            shape,
+            digest: digest_of(block.cells()),
+            was: Was::new(block.cells()),
+        })
+    }
+
+    /// What is kept of a block with these bytes: what is known of it, where that is given.
+    pub(crate) fn known_or_new(
+        alloc: Global,
+        known: Option<Spilled>,
+        block: &Block,
+        bytes: &[u8],
+    ) -> Result<Self, AllocError>
+        requires known { IfSome known (λ s. s ≡ block.now) }
+        requires bytes { bytes.now ≡ block_bytes block.now }
+        requires fits { All (FitsSigned w64) block.now.cells }
+        ensures { IfOk result (λ s. s ≡ block.now) }
+    {
+        match known {
+            Some(spilled) => Ok(spilled),
+            None => Spilled::new(alloc, block, bytes),
+        }
     }
 
     /// The same of another block with this digest. No memory.

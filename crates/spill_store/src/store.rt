@@ -1,11 +1,13 @@
 // The store.
-ghost use Rattle.std.specs.Prelude.{◌≡◌, IfErr, IfOk, IfSome, OnErr, OnOk, None};
+ghost use Rattle.std.specs.Prelude.{◌≡◌, ◌↔◌, IfErr, IfOk, IfSome, IsTrue, OnErr, OnOk, None};
 ghost use Rattle.std.specs.Option.{option_map};
+ghost use Rattle.spill_store.specs.Memory.{IsOldest};
 ghost use Rattle.spill_store.specs.Shelves.{AreThere};
-ghost use Rattle.spill_store.specs.Store.{AllStay, IsSame, Gives, Puts, Removes, SameDisk, away_in, back, empty_store, fresh, is_spilled};
+ghost use Rattle.spill_store.specs.Store.{AllStay, IsSame, IsShort, Gives, Puts, Removes, SameDisk, away_in, back, empty_store, fresh, is_spilled};
 ghost use Rattle.spill_store.specs.Steps.{FetchesIn, Finds, IsBackIn, IsFound, SpillsOne, SpillsUntil};
 ghost use Rattle.spill_store.specs.Table.{ChangesAt, put_first};
 
+use crate::digested::Digested;
 use crate::disk::Disk;
 use crate::lost::Got;
 use crate::memory::Memory;
@@ -130,6 +132,51 @@ impl<D: Disk> SpillStore<D> {
         }
     }
 
+    /// Whether blocks go to the disk, or will soon: one went there before, or the blocks in memory have more than half of the
+    /// limit. So it never is without a disk, or with one that has failed eight times. No memory.
+    pub fn is_short(&self) -> bool
+        ensures { IsTrue result ↔ IsShort D.view self.now }
+    {
+        let Some(shelf) = &self.shelf else {
+            return false;
+        };
+        if shelf.is_worn() {
+            return false;
+        }
+        self.times > 0 || self.memory.is_half(self.limit)
+    }
+
+    /// The block that goes to the disk next, which both share from then on: the one in memory that was used least recently. It
+    /// is given only where blocks go there or will soon, and no digest of it is known. No memory.
+    pub fn next_out(&self) -> Option<(u32, Arc<Block>)>
+        ensures short { IfSome result (λ _. IsShort D.view self.now) }
+        ensures oldest { IfSome result (λ e. IsOldest self.now.memory e.0 e.1.value) }
+    {
+        if !self.is_short() {
+            return None;
+        }
+        let (key, block) = self.memory.share_oldest()?;
+        if self.knows(key) {
+            None
+        } else {
+            Some((key, block))
+        }
+    }
+
+    /// Takes the digest of a block that was made outside of the store, so that it need not be made in the call in which the
+    /// block goes to the disk. It serves the block that is in memory under its key at this time, and only where that is the same
+    /// one (they are held against each other when it goes). Where memory is wanting, it is made in that call.
+    pub fn expect(&mut self, ready: Digested)
+        ensures { self.new ≡ self.old }
+    {
+        if self.memory.is_taken(ready.key()).is_none() {
+            return;
+        }
+        if let Some(shelf) = &mut self.shelf {
+            shelf.expect(ready);
+        }
+    }
+
     /// How often a block went to the disk, written or there still. It never falls, and stands still at its type's end. No memory.
     pub fn spills(&self) -> u64
         ensures { result ≡ self.now.times }
@@ -152,6 +199,14 @@ impl<D: Disk> SpillStore<D> {
         match shelf {
             Some(shelf) => Some(shelf.into_disk()),
             None => None,
+        }
+    }
+
+    // Whether a digest of the block of a key, which is in memory, is known.
+    fn knows(&self, key: u32) -> bool {
+        match &self.shelf {
+            Some(shelf) => shelf.knows(key),
+            None => false,
         }
     }
 

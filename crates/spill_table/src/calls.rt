@@ -4,7 +4,7 @@ use crate::spoiled::SpoiledDisk;
 use crate::words::number;
 use io_edge::SpillDisk;
 use nd_shape::{Block, Shape};
-use spill_store::{Got, LostBy, SpillStore};
+use spill_store::{Digested, Got, LostBy, SpillStore};
 use std::alloc::{AllocError, Global};
 use std::io;
 use std::sync::Arc;
@@ -53,6 +53,25 @@ fn put(alloc: Global, store: &mut SpillStore<SpoiledDisk>, key: u32, count: u32)
     }
 }
 
+// Makes the digest of the block that goes out next, and hands it to the store. The block's key, if there is one.
+fn prepare(alloc: Global, store: &mut SpillStore<SpoiledDisk>) -> Option<u32> {
+    let (key, block) = store.next_out()?;
+    match Digested::new(alloc, key, block) {
+        Ok(ready) => {
+            store.expect(ready);
+            Some(key)
+        }
+        Err(_) => None,
+    }
+}
+
+fn print_prepared<R: Print>(rt: &R, key: Option<u32>) -> io::Result<()> {
+    match key {
+        Some(key) => print!(rt; "prepared {key}"),
+        None => print!(rt; "prepared nothing"),
+    }
+}
+
 fn print_spilled<R: Print>(rt: &R, store: &SpillStore<SpoiledDisk>) -> io::Result<()> {
     print!(rt; "; on the disk")?;
     for key in 0..10 {
@@ -95,6 +114,10 @@ fn play_one<R: Print>(
     } else if let Some(key) = name.strip_prefix('r') {
         store.remove(number(key));
         print!(rt; "{word}: removed")?;
+    } else if name == "n" {
+        let prepared = prepare(alloc, store);
+        print!(rt; "{word}: ")?;
+        print_prepared(rt, prepared)?;
     }
     print_spilled(rt, store)
 }

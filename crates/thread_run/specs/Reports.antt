@@ -1,5 +1,5 @@
 -- The report of a run: that of its nodes' histories.
-use Rattle.std.specs.Prelude.{◌≡◌, ℕ, List, [], ◌∷◌, ◌++◌, map, Bool, None}
+use Rattle.std.specs.Prelude.{◌≡◌, ℕ, List, [], ◌∷◌, ◌++◌, map, Bool, None, is_some}
 use Rattle.io_edge.specs.View.{Files}
 use Rattle.nd_shape.specs.Block.{Array}
 use Rattle.block_kernels.specs.Kernels.{result_shape}
@@ -45,11 +45,11 @@ pub record IsPlanOf (w : RunWords) (plan : RunPlan) : Type 0 where
   pub script : plan.script ≡ w.script
 
 -- histories of a run with this label of a graph by this plan, each of which leads from the opening facts of its node by the steps of the cluster's
--- rules, and of which the client's ends with all that is wanted
+-- rules, and of which the client's says that it got all that is wanted
 pub record IsServedRun (l : LabelFacts Array) (graph : Shape) (plan : RunPlan) (wanted : List ℕ) (h : Histories) : Type 0 where
   pub last : LastFacts
   pub are : AreHistories l graph plan last h
-  pub got : HasGot last.client wanted
+  pub got : HasGot last.client h.client.entries (is_some h.client.cut) wanted
 
 -- the report of such a run
 pub record IsReportOfRun (l : LabelFacts Array) (graph : Shape) (plan : RunPlan) (wanted : List ℕ) (r : Report) : Type 0 where

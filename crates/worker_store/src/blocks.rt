@@ -10,7 +10,7 @@ use cluster_msgs::Label;
 use io_edge::SpillDisk;
 use nd_shape::Block;
 use node_states::{BlockStore, Got};
-use spill_store::{Got as Found, SpillStore};
+use spill_store::{Digested, Got as Found, SpillStore};
 use std::alloc::{AllocError, Global};
 use std::marker::{Model, PhantomData};
 use std::sync::Arc;
@@ -69,6 +69,8 @@ impl<D: SpillDisk, L: Label<Block = Block>> SpillingBlocks<D, L> {
 }
 
 impl<D: SpillDisk, L: Label<Block = Block>> BlockStore<Block, L> for SpillingBlocks<D, L> {
+    type Ready = Digested;
+
     ghost use Rattle.std.specs.Prelude.{OnErr, OnOk};
     ghost use Rattle.std.specs.Arc.{arc_value};
     ghost use Rattle.cluster_msgs.specs.Labels.{BlockFits};
@@ -110,6 +112,25 @@ impl<D: SpillDisk, L: Label<Block = Block>> BlockStore<Block, L> for SpillingBlo
 
     fn spills(&self) -> u64 {
         self.store.spills()
+    }
+
+    fn is_short(&self) -> bool {
+        self.store.is_short()
+    }
+
+    fn next_out(&self) -> Option<(u32, Arc<Block>)> {
+        self.store.next_out()
+    }
+
+    fn prepare(alloc: Global, key: u32, block: Arc<Block>) -> Option<Digested> {
+        match Digested::new(alloc, key, block) {
+            Ok(ready) => Some(ready),
+            Err(_) => None,
+        }
+    }
+
+    fn expect(&mut self, ready: Digested) {
+        self.store.expect(ready);
     }
 
     #[tactic(auto, using(crate::proofs::Fitting::memory_fits, crate::proofs::Stocks::stock_sound))]

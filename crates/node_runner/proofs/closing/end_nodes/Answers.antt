@@ -26,8 +26,8 @@ returns-clause-ended g c =
     c.scheduler_history-scheduler.ensures.in_time
     (subst (λ ws. AllBy (λ k w o. IfSome o (IsLeft p (facts b.core.core) (k + 1) w.history.book.entries w.history.book.cut)) ws es.left.items) c.as_slice-3.ensures.value
     (subst (λ r. IfOk r (λ left. AllBy (λ k w o. IfSome o (IsLeft p (facts b.core.core) (k + 1) w.history.book.entries w.history.book.cut)) c.as_slice-3.result.now left.items)) t.3 c.all_left-left.ensures))
-    (subst (λ z. IfOk z (λ x. HasGot (client_facts c.args.client.book.core.core) c.args.wanted.now)) (sym e.1)
-    (true_there (HasGot (client_facts c.args.client.book.core.core) c.args.wanted.now) c.has_got-got.result c.result.result (rw c.as_slice.ensures at c.has_got-got.ensures) c.result.ensures.got))
+    (subst (λ z. IfOk z (λ x. HasGot (client_facts c.args.client.book.core.core) c.args.client.book.entries c.args.client.book.cut c.args.wanted.now)) (sym e.1)
+    (true_there (HasGot (client_facts c.args.client.book.core.core) c.args.client.book.entries c.args.client.book.cut c.args.wanted.now) c.has_got-got.result c.result.result (rw c.as_slice.ensures at c.has_got-got.ensures) c.result.ensures.got))
     (subst (IfStatus (IsBlamed c.first_blame-blame.result)) (sym e.1) c.result.ensures.cause)
     (subst (λ ks. IfSome c.first_blame-blame.result (λ blame. (k : ℕ) × Contains ks k × BlameFits g.L.Label.facts k blame)) c.as_slice-2.ensures c.first_blame-blame.ensures))
 

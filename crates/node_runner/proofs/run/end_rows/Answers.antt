@@ -15,7 +15,7 @@ end_nodes-requires-clause-scheduler g c = All-contains (λ s. IsSchedulersBook g
 
 pub end_nodes-requires-clause-workers : goal.end_nodes-requires-clause-workers
 end_nodes-requires-clause-workers g c =
-    subst (λ v. (k : ℕ) (w : WorkerNode g.row.B.Denot g.row.L.Denot g.row.F.Denot g.row.S.Denot g.L.Label g.S.BlockStore) → k < vec_len v → IsWorkersBook g.L.Label.facts c.args.graph.now c.args.plan.now.threads (k + 1)
+    subst (λ v. (k : ℕ) (w : WorkerNode g.row.B.Denot g.row.L.Denot g.row.F.Denot g.row.S.Denot _ g.L.Label g.S.BlockStore) → k < vec_len v → IsWorkersBook g.L.Label.facts c.args.graph.now c.args.plan.now.threads (k + 1)
     (λ c. worker_facts c.core) (slice_index_or v.items k w).history.book) (sym c.in-Ok.ensures.workers) c.requires.workers
 
 pub end_nodes-requires-clause-client : goal.end_nodes-requires-clause-client
