@@ -8,12 +8,12 @@ use driver_rows::{Attends, ClientNews, SchedulerNews, Schedules, WorkerNews, Wor
 use io_edge::Gate;
 use node_states::{
     BlockStore, ClientNode, ClientTurn, Course, SchedulerNode, SchedulerTurn, TaskEnd, Why,
-    WorkerNode, WorkerTurn,
+    WorkerNode, WorkerStep, WorkerTurn,
 };
 use std::sync::Wait;
 use turn_cell::{Act, Stamps};
 
-/// A task of so much work in bytes, and more, is long.
+/// A task of so much work in bytes, and more, is long, and each with a block to be prepared.
 const LONG: u64 = 32_768;
 
 impl<'a, J: JobSpec, G: Gate, K: RunName<J>> Schedules<
@@ -76,12 +76,15 @@ impl<'a, J: JobSpec, G: Gate, K: RunName<J>, S: BlockStore<J::Block, RunLabel<J,
             joined,
             dead: ended,
         };
-        let (moved, task) = turn.act(state);
-        let task = lend(worker, &*state, task);
+        let WorkerStep {
+            moved,
+            task,
+            next_out,
+        } = turn.act(state);
         WorkerNews {
             moved,
             ended: state.ended(),
-            task,
+            task: lend(worker, task, next_out),
         }
     }
 
@@ -103,6 +106,9 @@ impl<'a, J: JobSpec, G: Gate, K: RunName<J>, S: BlockStore<J::Block, RunLabel<J,
     }
 
     fn is_long(&self, task: &Lent<J::Block, RunLabel<J, K>, Fed<J, K>>) -> bool {
+        if task.next_out.is_some() {
+            return true;
+        }
         let graph = self.job.shape();
         graph.sound();
         task.task.key < graph.keys() && graph.work(task.task.key) >= LONG
@@ -124,19 +130,13 @@ impl<'a, J: JobSpec, G: Gate, K: RunName<J>, S: BlockStore<J::Block, RunLabel<J,
         stamps: &mut Stamps,
         done: Returned<J::Block, RunLabel<J, K>, Fed<J, K>, S::Ready>,
     ) {
-        let Returned {
-            made,
-            feed,
-            next_out,
-            own,
-        } = done;
+        let Returned { made, feed, ready } = done;
         let turn = TaskEnd {
             rt,
             stamps,
             made,
             feed,
-            next_out,
-            own,
+            ready,
         };
         turn.act(state);
     }

@@ -10,7 +10,7 @@ use crate::label::{Fed, RunLabel, RunName};
 use cluster_msgs::{JobSpec, KeyList, Label, Outcome, RunFail};
 use io_edge::{Gate, Point};
 use node_links::Keyed;
-use node_states::{BlockStore, Fault, Finished, Task, WorkerNode};
+use node_states::{BlockStore, Fault, Finished, Task};
 use std::alloc::{AllocError, Global};
 use std::marker::PhantomData;
 use std::sync::Arc;
@@ -26,23 +26,20 @@ pub struct Running<'a, J: JobSpec, G: Gate, K: RunName<J>> {
     ghost named: { K.job ≡ Some job.now },
 }
 
-/// A task that a worker lends, and what is to be prepared after it: its own block, where the worker's store is short of room, and the block that goes
-/// out of the store next.
+/// A task that a worker lends, and a block that is to be prepared beside it, since it is likely to go out of the worker's store soon.
 #[derive(Drop)]
 pub struct Lent<B: Drop, L: Label<Block = B>, F: Drop> {
     pub worker: u32,
     pub task: Task<B, L, F>,
-    short: bool,
-    next_out: Option<(u32, Arc<B>)>,
+    pub next_out: Option<(u32, Arc<B>)>,
 }
 
-/// What a task left: what it made, its feed, and what was prepared of the block that goes out next and of its own.
+/// What a task left: what it made, its feed, and what was prepared beside it.
 #[derive(Drop)]
 pub struct Returned<B: Drop, L: Label<Block = B>, F: Drop, Y: Drop> {
     pub made: Result<Finished<B, L>, RunFail>,
     pub feed: F,
-    pub next_out: Option<Y>,
-    pub own: Option<Y>,
+    pub ready: Option<Y>,
 }
 
 impl<'a, J: JobSpec, G: Gate, K: RunName<J>> Running<'a, J, G, K> {
@@ -110,25 +107,23 @@ impl<'a, J: JobSpec, G: Gate, K: RunName<J>> Operates<J::Block, RunLabel<J, K>, 
     }
 }
 
-/// A worker lends a task, if it started one.
-pub fn lend<B: Drop, L: Label<Block = B>, F: Drop, S: BlockStore<B, L>>(
+/// A worker lends a task, if it started one, and the block that is to be prepared beside it.
+pub fn lend<B: Drop, L: Label<Block = B>, F: Drop>(
     worker: u32,
-    node: &WorkerNode<B, L, F, S>,
     task: Option<Task<B, L, F>>,
+    next_out: Option<(u32, Arc<B>)>,
 ) -> Option<Lent<B, L, F>> {
     match task {
         Some(task) => Some(Lent {
             worker,
             task,
-            short: node.is_short(),
-            next_out: node.next_out(),
+            next_out,
         }),
         None => None,
     }
 }
 
-/// Runs a task, and tells of it before and after. Then it prepares for the worker's store, outside of the turns, what may go out of it: the block that
-/// was made, while it is in the processor's cache, and the one that goes next.
+/// Runs a task, and tells of it before and after. Before that it prepares, outside of the turns, what is likely to go out of the worker's store.
 pub fn run_lent<B, L, F, T, S>(
     alloc: Global,
     operates: &T,
@@ -144,44 +139,19 @@ where
     let Lent {
         worker,
         task,
-        short,
         next_out,
     } = lent;
+    let ready = prepared::<B, L, S>(alloc, next_out);
     let Task { key, inputs, feed } = task;
     let mut feed = feed;
     operates.tell(Point::Started { worker, key });
     let made = run_task(alloc, operates, key, inputs, &mut feed);
     operates.tell(Point::Ended { worker, key });
-    let own = own_ready::<B, L, S>(alloc, short, &made);
-    let next_out = next_ready::<B, L, S>(alloc, next_out);
-    Returned {
-        made,
-        feed,
-        next_out,
-        own,
-    }
+    Returned { made, feed, ready }
 }
 
-/// What is prepared of the block that a task made, where its worker's store is short of room.
-fn own_ready<B: Drop, L: Label<Block = B>, S: BlockStore<B, L>>(
-    alloc: Global,
-    short: bool,
-    made: &Result<Finished<B, L>, RunFail>,
-) -> Option<S::Ready> {
-    if !short {
-        return None;
-    }
-    let Ok(Finished::Value(keyed)) = made else {
-        return None;
-    };
-    match keyed.share() {
-        Ok(shared) => S::prepare(alloc, keyed.key(), shared.into_block()),
-        Err(_) => None,
-    }
-}
-
-/// What is prepared of the block that goes out next, if one does.
-fn next_ready<B: Drop, L: Label<Block = B>, S: BlockStore<B, L>>(
+/// What is prepared of a block that is likely to go out, if there is one.
+fn prepared<B: Drop, L: Label<Block = B>, S: BlockStore<B, L>>(
     alloc: Global,
     next_out: Option<(u32, Arc<B>)>,
 ) -> Option<S::Ready> {

@@ -103,11 +103,7 @@ impl<B: Drop, L: Label<Block = B>> BlockStore<B, L> for Blocks<B, L> {
         0
     }
 
-    fn is_short(&self) -> bool {
-        false
-    }
-
-    fn next_out(&self) -> Option<(u32, Arc<B>)> {
+    fn next_out(&mut self) -> Option<(u32, Arc<B>)> {
         None
     }
 

@@ -61,11 +61,10 @@ pub trait BlockStore<B: Drop, L: Label<Block = B>>: Drop {
     fn spills(&self) -> u64
         ensures { result ≡ (stock self.now).times };
 
-    /// Whether blocks are put aside, or will be soon.
-    fn is_short(&self) -> bool;
-
-    /// The block that is put aside next with its key, which both share from then on, where it is likely to be and nothing was prepared of it.
-    fn next_out(&self) -> Option<(u32, Arc<B>)>;
+    /// A block that is likely to be put aside soon with its key, which both share from then on, so that what it takes can be prepared. It is given once.
+    /// What it keeps is as before.
+    fn next_out(&mut self) -> Option<(u32, Arc<B>)>
+        ensures { stock self.new ≡ stock self.old };
 
     /// What is prepared of a block that is kept under this key. There is none where nothing has to be, or where there is no memory.
     fn prepare(alloc: Global, key: u32, block: Arc<B>) -> Option<Self::Ready>;

@@ -1,5 +1,5 @@
 -- Elements as bytes and back, and what a disk gives that tells what it holds.
-use Rattle.std.proofs.Common.{◌≡◌, ℕ, ℤ, zero, suc, ◌<◌, ◌+◌, ◌*◌, ◌^◌, List, [], ◌∷◌, ◌++◌, length, get_or, take, drop, refl, sym, ap, ap₂, subst, ◌∙◌, arith, append-nil, length-append, length-drop}
+use Rattle.std.proofs.Common.{◌≡◌, ℕ, ℤ, zero, suc, ◌<◌, ◌+◌, ◌*◌, ◌^◌, List, [], ◌∷◌, ◌++◌, length, get_or, take, drop, refl, sym, ap, ap₂, subst, ◌∙◌, arith, append-nil, append_assoc, length-append, length-drop}
 use Rattle.std.specs.Prelude.{All, FitsSigned, map, min, slice_index_or}
 use Rattle.std.specs.Int.{w64, cast_signed, cast_unsigned, from_le_bytes, to_le_bytes}
 use Rattle.std.specs.List.{flat_map}
@@ -11,6 +11,8 @@ use Rattle.std.proofs.lemmas.List.Elements.{All-append, All-tail}
 use Rattle.std.proofs.lemmas.List.Folds.{flat_map-map}
 use Rattle.std.proofs.lemmas.Nat.{from_le_bytes-to_le_bytes_8, le_bytes_8}
 use Rattle.std.proofs.Math.Facts.{Fits-of_z}
+use Rattle.sha2.specs.declared.Sha512_256.{Sha512_256}
+use Rattle.sha2.specs.Hashers.{Holds512_256}
 use Rattle.nd_shape.specs.Block.{Array}
 use Rattle.io_edge.specs.Disk.{Copies}
 use Rattle.spill_store.specs.Blocks.{block_bytes, cell_bytes, size_of_block, IsBlock}
@@ -81,3 +83,34 @@ pub copied : (bytes old new : List ℕ) (n : ℕ) → Copies bytes old new n →
 copied bytes old new n c same long =
     let m : min n (length old) ≡ length new = omega (arith, c.count) in
     sym (take_all (min n (length old)) new (omega arith)) ∙ c.front ∙ take_all (length old) bytes (omega arith)
+
+-- a hasher was fed the elements before the rest
+pub record Fed (cells rest : List ℤ) (hasher : Sha512_256) : Type 0 where
+  pub front : List ℤ
+  pub split : front ++ rest ≡ cells
+  pub holds : Holds512_256 hasher (flat_map cell_bytes front)
+  pub fits : All (FitsSigned w64) front
+
+-- before any piece
+pub fed_none : (cells : List ℤ) (hasher : Sha512_256) → Holds512_256 hasher [] → Fed cells cells hasher
+fed_none cells hasher h = record { front = []; split = refl; holds = h; fits = λ k d l. absurd (omega (arith, l)) }
+
+-- after one piece more
+pub fed_more : (cells rest piece behind : List ℤ) (words : List (List ℕ)) (old new : Sha512_256) → Fed cells rest old → rest ≡ piece ++ behind
+    → words ≡ map cell_bytes piece → All (FitsSigned w64) piece
+    → ((m : List ℕ) → Holds512_256 old m → Holds512_256 new (m ++ flat_map (λ x. x) words)) → Fed cells behind new
+fed_more cells rest piece behind words old new fed cut are fits fold = record {
+  front = fed.front ++ piece;
+  split = append_assoc fed.front piece behind ∙ ap (λ r. fed.front ++ r) (sym cut) ∙ fed.split;
+  holds =
+      let bytes : flat_map (λ x. x) words ≡ flat_map cell_bytes piece = ap (flat_map (λ x. x)) are ∙ flat_cells piece in
+      subst (Holds512_256 new) (ap (λ b. flat_map cell_bytes fed.front ++ b) bytes ∙ sym (flat_map-append cell_bytes fed.front piece)) (fold (flat_map cell_bytes fed.front) fed.holds);
+  fits = All-append (FitsSigned w64) fed.front piece fed.fits fits;
+}
+
+-- where no rest is left, all were fed
+pub fed_all : (cells rest : List ℤ) (hasher : Sha512_256) → Fed cells rest hasher → length rest ≡ 0 → (Holds512_256 hasher (flat_map cell_bytes cells)) × All (FitsSigned w64) cells
+fed_all cells [] hasher fed none =
+    let all : fed.front ≡ cells = sym (append-nil fed.front) ∙ fed.split in
+    (subst (λ cs. Holds512_256 hasher (flat_map cell_bytes cs)) all fed.holds, subst (All (FitsSigned w64)) all fed.fits)
+fed_all cells (x ∷ rest) hasher fed none = absurd (omega (arith, none))

@@ -10,7 +10,7 @@ use Rattle.std.proofs.lemmas.List.{take_all}
 use Rattle.std.proofs.lemmas.Map.{lookup-remove_entry}
 use Rattle.lru.specs.LruCache.{LruCache, lru_cache, put_entries, promoted}
 use Rattle.lru.proofs.CallerLemmas.{Contains-lookup_entry}
-use Rattle.spill_store.specs.Table.{put_first, ChangesAt, IsLast, SameValues}
+use Rattle.spill_store.specs.Table.{put_first, ChangesAt, IsLast, IsNearEnd, SameValues}
 
 is_test : (k x y : ℕ) → nat_eq k x ≡ true → nat_eq k y ≡ nat_eq x y
 is_test k x y h = nat_eq_equiv.congr k x y h
@@ -138,6 +138,10 @@ module _ {V : Type 0} where
   none_last (x ∷ es) h =
       let n : length (x ∷ es) - 1 ≡ length es = omega arith in
       absurd (none_at (x ∷ es) (length es) (omega arith) (subst (λ i. slice_get (x ∷ es) i ≡ None) n h))
+
+  -- the last entry is one of the last two
+  pub last_near : (es : List (ℕ × V)) (e : ℕ × V) → slice_get es (length es - 1) ≡ Some e → IsNearEnd es e.0 e.1
+  last_near es e h = record { at = length es - 1; near = omega arith; there = h }
 
   -- the capacity stays
   pub cap_stays : {T E : Type 0} (r : Result T E) (es : List (ℕ × V)) (old new : LruCache ℕ V) → OnOk r (new ≡ lru_cache es old.cap) → OnErr r (new ≡ old) → new.cap ≡ old.cap

@@ -4,7 +4,7 @@ use Rattle.std.specs.List.{sum_by}
 use Rattle.std.specs.Map.{lookup, values_of}
 use Rattle.nd_shape.specs.Block.{Array}
 use Rattle.spill_store.specs.Blocks.{size_of_block}
-use Rattle.spill_store.specs.Table.{put_first, IsLast}
+use Rattle.spill_store.specs.Table.{put_first, IsLast, IsNearEnd}
 
 -- a block in memory, and whether the disk has taken it since it was put
 pub record InMemory : Type 0 where
@@ -30,3 +30,8 @@ pub record UsesBlock (key : ℕ) (a : Array) (old new : List (ℕ × InMemory)) 
 pub record IsOldest (es : List (ℕ × InMemory)) (key : ℕ) (a : Array) : Type 0 where
   pub taken : Bool
   pub last : IsLast es key (record { array = a; taken = taken })
+
+-- one of the two blocks that were used least recently
+pub record IsNextOut (es : List (ℕ × InMemory)) (key : ℕ) (a : Array) : Type 0 where
+  pub taken : Bool
+  pub near : IsNearEnd es key (record { array = a; taken = taken })

@@ -8,6 +8,9 @@ ghost use Rattle.spill_store.specs.Blocks.{cell_bytes};
 use sha2::{Digest, Sha512_256};
 use std::alloc::{AllocError, Global};
 
+/// The bytes of so many elements, 4 KiB, are in the processor's cache when they are digested.
+const PIECE: usize = 512;
+
 fn bytes_of(cell: i64) -> [u8; 8]
     ensures bytes { result ≡ cell_bytes cell }
     ensures fits { FitsSigned w64 cell }
@@ -34,16 +37,23 @@ pub(crate) fn words_of(alloc: Global, cells: &[i64]) -> Result<Vec<[u8; 8]>, All
     Ok(words)
 }
 
-/// The digest of the bytes of these elements, which are made one after another, so that they take no memory.
-pub(crate) fn digest_of(cells: &[i64]) -> [u8; 32]
-    ensures digest { result ≡ sha512_256 (flat_map cell_bytes cells.now) }
-    ensures fits { All (FitsSigned w64) cells.now }
+/// The digest of the bytes of these elements, of which so many at a time are made.
+///
+/// # Errors
+/// Where memory is wanting.
+pub(crate) fn digest_of(alloc: Global, cells: &[i64]) -> Result<[u8; 32], AllocError>
+    ensures digest { IfOk result (λ digest. digest ≡ sha512_256 (flat_map cell_bytes cells.now)) }
+    ensures fits { OnOk result (All (FitsSigned w64) cells.now) }
 {
     let mut hasher = Sha512_256::new();
-    for cell in cells {
-        hasher.update(bytes_of(*cell));
+    let mut rest = cells;
+    while !rest.is_empty() {
+        let (piece, behind) = rest.split_at(rest.len().min(PIECE));
+        let words = words_of(alloc, piece)?;
+        hasher.update(words.as_slice().as_flattened());
+        rest = behind;
     }
-    hasher.finalize()
+    Ok(hasher.finalize())
 }
 
 // The element of each word.

@@ -1,8 +1,9 @@
 // The blocks in memory, in the order of use.
-ghost use Rattle.std.specs.Prelude.{◌≡◌, ◌≤◌, ◌<◌, ◌*◌, ◌↔◌, [], nat_eq, option_map, unwrap_or, IfErr, IfOk, IfSome, OnErr, OnOk, MatchOption, IsTrue, None, Some};
+ghost use Rattle.std.specs.Prelude.{◌≡◌, ◌≤◌, ◌<◌, ◌+◌, ◌*◌, ◌↔◌, []};
+ghost use Rattle.std.specs.Prelude.{nat_eq, option_map, unwrap_or, IfErr, IfOk, IfSome, OnErr, OnOk, MatchOption, IsTrue, None, Some};
 ghost use Rattle.std.specs.Map.{lookup, remove_entry};
 ghost use Rattle.spill_store.specs.Blocks.{size_of_block};
-ghost use Rattle.spill_store.specs.Memory.{bytes_in, IsCrowded, IsOldest, UsesBlock};
+ghost use Rattle.spill_store.specs.Memory.{bytes_in, IsCrowded, IsNextOut, IsOldest, UsesBlock};
 ghost use Rattle.spill_store.specs.Table.{put_first, ChangesAt, SameValues};
 
 use crate::table::Table;
@@ -83,6 +84,17 @@ impl Held {
     {
         let Held { block, taken: _ } = self;
         block
+    }
+}
+
+// A block with its key, shared, or none where memory is wanting.
+fn shared(key: u32, held: &Held) -> Option<(u32, Arc<Block>)>
+    ensures key { IfSome result (λ e. e.0 ≡ key) }
+    ensures block { IfSome result (λ e. e.1.value ≡ held.now.array) }
+{
+    match held.share() {
+        Ok(block) => Some((key, block)),
+        Err(_) => None,
     }
 }
 
@@ -173,20 +185,26 @@ impl Memory {
 
     /// The same one, which both share from then on. There is none where memory is wanting.
     pub(crate) fn share_oldest(&self) -> Option<(u32, Arc<Block>)>
-        ensures { IfSome result (λ e. IsOldest self.now e.0 e.1.value) }
+        ensures { IfSome result (λ e. IsNextOut self.now e.0 e.1.value) }
     {
         let (key, held) = self.blocks.last()?;
-        match held.share() {
-            Ok(block) => Some((key, block)),
-            Err(_) => None,
-        }
+        shared(key, held)
     }
 
-    /// Whether the blocks have more than half of so many bytes. No memory.
-    pub(crate) fn is_half(&self, limit: u64) -> bool
-        ensures { IsTrue result ↔ (limit < 2 * bytes_in self.now) }
+    /// The block that was used least recently but for that one, which both share from then on. There is none where memory is
+    /// wanting.
+    pub(crate) fn share_second(&self) -> Option<(u32, Arc<Block>)>
+        ensures { IfSome result (λ e. IsNextOut self.now e.0 e.1.value) }
     {
-        2 * self.bytes as u128 > limit as u128
+        let (key, held) = self.blocks.last_but_one()?;
+        shared(key, held)
+    }
+
+    /// Whether the blocks and one more that is as long as this one have more than six tenths of so many bytes. No memory.
+    pub(crate) fn is_full(&self, limit: u64, block: &Block) -> bool
+        ensures { IsTrue result ↔ (6 * limit < 10 * (bytes_in self.now + size_of_block block.now)) }
+    {
+        10 * (self.bytes as u128 + size_of(block) as u128) > 6 * limit as u128
     }
 
     /// Whether the blocks have more than six tenths of so many bytes, and there is more than one. No memory.

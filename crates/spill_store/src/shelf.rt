@@ -37,13 +37,13 @@ pub(crate) enum Fetched {
 
 /// A disk, what is kept of the blocks that are there alone, and of those that are in memory again and there still, so that
 /// they need not be written once more; and what is to be kept of blocks in memory that aren't there, where it was made outside
-/// of the store.
+/// of the store, or is being made there (`None`).
 #[derive(Drop)]
 pub(crate) struct Shelf<D: Disk> {
     disk: D,
     blocks: Table<Spilled>,
     twice: Table<Known>,
-    ready: Table<Known>,
+    ready: Table<Option<Known>>,
 }
 
 impl<D: Disk> Model for Shelf<D> {
@@ -108,7 +108,7 @@ impl<D: Disk> Shelf<D> {
         self.disk.faults() >= FAULTS
     }
 
-    /// Whether what is to be kept of the block of this key, which is in memory, is known. No memory.
+    /// Whether what is to be kept of the block of this key, which is in memory, is known or promised. No memory.
     pub(crate) fn knows(&self, key: u32) -> bool {
         self.twice.get(key).is_some() | self.ready.get(key).is_some()
     }
@@ -120,8 +120,15 @@ impl<D: Disk> Shelf<D> {
     {
         let key = ready.key();
         if self.twice.get(key).is_none() {
-            let _ = self.ready.put(key, ready.into_known());
+            let _ = self.ready.put(key, Some(ready.into_known()));
         }
+    }
+
+    /// What is to be kept of the block of this key is promised, if there is memory for the promise.
+    pub(crate) fn promise(&mut self, key: u32) -> bool
+        ensures { self.new ≡ self.old }
+    {
+        self.ready.put(key, None).is_ok()
     }
 
     /// Puts a block on the disk, unless it is there still.
@@ -226,13 +233,13 @@ fn put_again(blocks: &mut Table<Spilled>, key: u32, twice: Known, block: &Block)
 }
 
 // What is kept of this block, where that was made of the same one. It is known no more.
-fn known_of(ready: &mut Table<Known>, key: u32, block: &Block) -> Option<Spilled>
+fn known_of(ready: &mut Table<Option<Known>>, key: u32, block: &Block) -> Option<Spilled>
     ensures { IfSome result (λ s. s ≡ block.now) }
 {
     let Known {
         spilled,
         block: held,
-    } = ready.remove(key)?;
+    } = ready.remove(key)??;
     if is_same(&held, block) {
         Some(spilled)
     } else {

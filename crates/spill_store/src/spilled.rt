@@ -46,14 +46,14 @@ impl Spilled {
         })
     }
 
-    /// What is kept of a block. Its bytes take no memory.
+    /// What is kept of a block, of whose bytes a piece at a time is made.
     pub(crate) fn of(alloc: Global, block: &Block) -> Result<Self, AllocError>
         ensures { IfOk result (λ s. s ≡ block.now) }
     {
         let shape = block.shape().copy(alloc)?;
         Ok(Spilled {
             shape,
-            digest: digest_of(block.cells()),
+            digest: digest_of(alloc, block.cells())?,
             was: Was::new(block.cells()),
         })
     }

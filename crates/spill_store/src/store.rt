@@ -1,9 +1,10 @@
 // The store.
-ghost use Rattle.std.specs.Prelude.{◌≡◌, ◌↔◌, IfErr, IfOk, IfSome, IsTrue, OnErr, OnOk, None};
+ghost use Rattle.std.specs.Prelude.{◌≡◌, ◌<◌, ◌+◌, ◌*◌, IfErr, IfOk, IfSome, IsTrue, OnErr, OnOk, None};
 ghost use Rattle.std.specs.Option.{option_map};
-ghost use Rattle.spill_store.specs.Memory.{IsOldest};
+ghost use Rattle.spill_store.specs.Blocks.{size_of_block};
+ghost use Rattle.spill_store.specs.Memory.{bytes_in, IsNextOut};
 ghost use Rattle.spill_store.specs.Shelves.{AreThere};
-ghost use Rattle.spill_store.specs.Store.{AllStay, IsSame, IsShort, Gives, Puts, Removes, SameDisk, away_in, back, empty_store, fresh, is_spilled};
+ghost use Rattle.spill_store.specs.Store.{AllStay, CanSpill, IsFull, IsSame, Gives, Puts, Removes, SameDisk, away_in, back, empty_store, fresh, is_spilled};
 ghost use Rattle.spill_store.specs.Steps.{FetchesIn, Finds, IsBackIn, IsFound, SpillsOne, SpillsUntil};
 ghost use Rattle.spill_store.specs.Table.{ChangesAt, put_first};
 
@@ -132,34 +133,19 @@ impl<D: Disk> SpillStore<D> {
         }
     }
 
-    /// Whether blocks go to the disk, or will soon: one went there before, or the blocks in memory have more than half of the
-    /// limit. So it never is without a disk, or with one that has failed eight times. No memory.
-    pub fn is_short(&self) -> bool
-        ensures { IsTrue result ↔ IsShort D.view self.now }
+    /// A block that is about to go to the disk, so that its digest can be made outside of the store, which both share from then
+    /// on: one of the two in memory that were used least recently, where one goes once one more is put that is as long. It is
+    /// given once, and not where its digest is known. There is none where memory is wanting.
+    pub fn next_out(&mut self) -> Option<(u32, Arc<Block>)>
+        ensures same { self.new ≡ self.old }
+        ensures full { IfSome result (λ e. IsFull D.view self.old e.1.value) }
+        ensures next { IfSome result (λ e. IsNextOut self.old.memory e.0 e.1.value) }
     {
-        let Some(shelf) = &self.shelf else {
-            return false;
-        };
-        if shelf.is_worn() {
-            return false;
-        }
-        self.times > 0 || self.memory.is_half(self.limit)
-    }
-
-    /// The block that goes to the disk next, which both share from then on: the one in memory that was used least recently. It
-    /// is given only where blocks go there or will soon, and no digest of it is known. No memory.
-    pub fn next_out(&self) -> Option<(u32, Arc<Block>)>
-        ensures short { IfSome result (λ _. IsShort D.view self.now) }
-        ensures oldest { IfSome result (λ e. IsOldest self.now.memory e.0 e.1.value) }
-    {
-        if !self.is_short() {
-            return None;
-        }
-        let (key, block) = self.memory.share_oldest()?;
-        if self.knows(key) {
-            None
-        } else {
+        let (key, block) = self.unprepared()?;
+        if self.promise(key) {
             Some((key, block))
+        } else {
+            None
         }
     }
 
@@ -202,10 +188,41 @@ impl<D: Disk> SpillStore<D> {
         }
     }
 
-    // Whether a digest of the block of a key, which is in memory, is known.
-    fn knows(&self, key: u32) -> bool {
-        match &self.shelf {
+    // The first of the two blocks that were used least recently which goes soon and of which nothing is known.
+    fn unprepared(&self) -> Option<(u32, Arc<Block>)>
+        ensures much { IfSome result (λ e. 6 * self.now.limit < 10 * (bytes_in self.now.memory + size_of_block e.1.value)) }
+        ensures next { IfSome result (λ e. IsNextOut self.now.memory e.0 e.1.value) }
+    {
+        let (key, block) = self.memory.share_oldest()?;
+        if self.is_due(key, &block) {
+            return Some((key, block));
+        }
+        let (key, block) = self.memory.share_second()?;
+        if self.is_due(key, &block) {
+            Some((key, block))
+        } else {
+            None
+        }
+    }
+
+    // Whether blocks go once one more is put that is as long as that of this key, of which nothing is known.
+    fn is_due(&self, key: u32, block: &Block) -> bool
+        ensures { IsTrue result → 6 * self.now.limit < 10 * (bytes_in self.now.memory + size_of_block block.now) }
+    {
+        let known = match &self.shelf {
             Some(shelf) => shelf.knows(key),
+            None => false,
+        };
+        !known && self.memory.is_full(self.limit, block)
+    }
+
+    // A digest of the block of a key is promised, if there is a disk that is used, and memory for the promise.
+    fn promise(&mut self, key: u32) -> bool
+        ensures same { self.new ≡ self.old }
+        ensures disk { IsTrue result → CanSpill D.view self.old.shelf }
+    {
+        match &mut self.shelf {
+            Some(shelf) => !shelf.is_worn() && shelf.promise(key),
             None => false,
         }
     }

@@ -2,7 +2,7 @@
 ghost use Rattle.std.specs.Prelude.{◌≡◌, [], nat_eq, length, option_copied, IfErr, IfOk, IfSome, OnErr, OnOk, MatchOption, Some, None};
 ghost use Rattle.std.specs.List.{IsDistinct};
 ghost use Rattle.std.specs.Map.{keys_of, lookup, remove_entry};
-ghost use Rattle.spill_store.specs.Table.{put_first, ChangesAt, IsLast, SameValues};
+ghost use Rattle.spill_store.specs.Table.{put_first, ChangesAt, IsLast, IsNearEnd, SameValues};
 
 use lru::LruCache;
 use std::alloc::{AllocError, Global};
@@ -84,9 +84,22 @@ impl<V: Drop> Table<V> {
 
     /// The least recently used entry, if there is one. No memory.
     pub(crate) fn last(&self) -> Option<(u32, &V)>
-        ensures { MatchOption result (self.now ≡ []) (λ e. IsLast self.now e.0 e.1.now) }
+        ensures last { MatchOption result (self.now ≡ []) (λ e. IsLast self.now e.0 e.1.now) }
+        ensures near { IfSome result (λ e. IsNearEnd self.now e.0 e.1.now) }
     {
         match self.cache.peek_lru() {
+            Some((key, value)) => Some((*key, value)),
+            None => None,
+        }
+    }
+
+    /// The entry that is the least recently used one but for the last, if there are two. No memory.
+    pub(crate) fn last_but_one(&self) -> Option<(u32, &V)>
+        ensures { IfSome result (λ e. IsNearEnd self.now e.0 e.1.now) }
+    {
+        let mut entries = self.cache.iter();
+        entries.next_back()?;
+        match entries.next_back() {
             Some((key, value)) => Some((*key, value)),
             None => None,
         }

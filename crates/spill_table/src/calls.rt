@@ -53,7 +53,7 @@ fn put(alloc: Global, store: &mut SpillStore<SpoiledDisk>, key: u32, count: u32)
     }
 }
 
-// Makes the digest of the block that goes out next, and hands it to the store. The block's key, if there is one.
+// Makes the digest of a block that goes out soon, and hands it to the store. The block's key, if there is one.
 fn prepare(alloc: Global, store: &mut SpillStore<SpoiledDisk>) -> Option<u32> {
     let (key, block) = store.next_out()?;
     match Digested::new(alloc, key, block) {
@@ -65,10 +65,16 @@ fn prepare(alloc: Global, store: &mut SpillStore<SpoiledDisk>) -> Option<u32> {
     }
 }
 
-fn print_prepared<R: Print>(rt: &R, key: Option<u32>) -> io::Result<()> {
+// The key of a block that goes out soon, of which no digest is handed over.
+fn given(store: &mut SpillStore<SpoiledDisk>) -> Option<u32> {
+    let (key, _) = store.next_out()?;
+    Some(key)
+}
+
+fn print_key<R: Print>(rt: &R, word: &str, key: Option<u32>) -> io::Result<()> {
     match key {
-        Some(key) => print!(rt; "prepared {key}"),
-        None => print!(rt; "prepared nothing"),
+        Some(key) => print!(rt; "{word} {key}"),
+        None => print!(rt; "{word} nothing"),
     }
 }
 
@@ -117,7 +123,11 @@ fn play_one<R: Print>(
     } else if name == "n" {
         let prepared = prepare(alloc, store);
         print!(rt; "{word}: ")?;
-        print_prepared(rt, prepared)?;
+        print_key(rt, "prepared", prepared)?;
+    } else if name == "m" {
+        let given = given(store);
+        print!(rt; "{word}: ")?;
+        print_key(rt, "given", given)?;
     }
     print_spilled(rt, store)
 }

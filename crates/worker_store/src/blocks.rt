@@ -114,11 +114,7 @@ impl<D: SpillDisk, L: Label<Block = Block>> BlockStore<Block, L> for SpillingBlo
         self.store.spills()
     }
 
-    fn is_short(&self) -> bool {
-        self.store.is_short()
-    }
-
-    fn next_out(&self) -> Option<(u32, Arc<Block>)> {
+    fn next_out(&mut self) -> Option<(u32, Arc<Block>)> {
         self.store.next_out()
     }
 
