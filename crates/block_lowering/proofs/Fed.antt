@@ -42,3 +42,16 @@ pub counts-none : (result : Result (Outcome Array) RunFail) (n : ℕ) → IfErr 
 counts-none (Ok o) n h = refl
 counts-none (Err Feed) n h = absurd cc
 counts-none (Err OutOfMemory) n h = refl
+
+module _ {H N : Type 0} (A : H → Type 0) (T : H → N → Type 0) where
+  -- a value that is known of whatever is held, and by another name
+  pub given-value : (U : H → N → Type 0) (result : Result (Outcome Array) RunFail) (made named : N → Option Array) → IfOk result (λ o. (h : H) (n : N) → A h → T h n → value_of o ≡ made n)
+      → ((h : H) (n : N) → U h n → T h n) → ((n : N) → made n ≡ named n) → IfOk result (λ o. (h : H) (n : N) → A h → U h n → value_of o ≡ named n)
+  given-value U (Ok o) made named is from e = λ h n a u. is h n a (from h n u) ∙ e n
+  given-value U (Err f) made named is from e = tt
+
+  -- a value that is known whatever is held
+  pub any-value : (result : Result (Outcome Array) RunFail) (made named : N → Option Array) → ((n : N) → IfOk result (λ o. value_of o ≡ made n))
+      → ((n : N) → made n ≡ named n) → IfOk result (λ o. (h : H) (n : N) → A h → T h n → value_of o ≡ named n)
+  any-value (Ok o) made named is e = λ h n a t. is n ∙ e n
+  any-value (Err f) made named is e = tt

@@ -4,7 +4,7 @@ use Rattle.nd_shape.specs.Block.{Array}
 use Rattle.nd_shape.specs.Shape.{elements}
 use Rattle.nd_shape.specs.Index.{IsIn}
 use Rattle.nd_shape.specs.Region.{IsPart}
-use Rattle.io_edge.specs.Content.{Content, OnTold, file_at, size_of, told_bytes}
+use Rattle.io_edge.specs.Content.{Content, Told, OnTold, file_at, size_of, told_bytes}
 use Rattle.npy_codec.specs.declared.head.Head.{Head}
 use Rattle.npy_codec.specs.Regions.{element}
 use Rattle.cluster_msgs.specs.Shape.{Shape}
@@ -77,6 +77,14 @@ pub record FitsFeed (named : ℕ → List ℕ → ℤ) (heads : List Head) (file
   pub all_there : HaveData heads files
   pub named_is : (j : ℕ) → j < length heads
       → OnTold (file_at files j) (λ bytes. (i : List ℕ) → IsIn (head_at heads j).shape i → element bytes (head_at heads j) i ≡ named j i)
+
+-- the files of these names, where files hold this
+abbrev pub files_given : List (List ℕ) → (List ℕ → List ℕ) → List Content
+files_given names holds = map (λ n. Told (holds n)) names
+
+-- what is named is what the files of these names have, with these heads, where files hold this
+abbrev pub HaveNamed : List Head → List (List ℕ) → (List ℕ → List ℕ) → (ℕ → List ℕ → ℤ) → Type 0
+HaveNamed heads names holds named = FitsFeed named heads (files_given names holds)
 
 -- each file tells its bytes
 pub record TellsFeed (heads : List Head) (files : List Content) : Type 0 where

@@ -7,11 +7,13 @@ ghost use Rattle.block_kernels.specs.Inputs.{shapes_of};
 ghost use Rattle.task_graph.specs.Graphs.{task_at};
 ghost use Rattle.task_graph.specs.declared.graph.Task.{Task as AnyTask};
 ghost use Rattle.lowering_laws.specs.Each.{OfEachJob};
-ghost use Rattle.block_lowering.specs.Jobs.{head_at, IsJob, IsLoad, HaveData, OfTold, LawOfJobs, graph_of, dims_of};
+ghost use Rattle.block_lowering.specs.Jobs.{head_at, IsJob, IsLoad, HaveData, HaveNamed, OfTold, LawOfJobs, graph_of, dims_of};
+ghost use Rattle.io_edge.specs.Given.{Agree, GivesMore};
 
 use crate::reading::{load, shape_of_result};
 use block_kernels::{Spec, run as run_kernel};
 use cluster_msgs::{GraphShape, JobSpec, Outcome, RunFail};
+use graph_run::TracedJob;
 use io_edge::Store;
 use nd_grid::Fail;
 use nd_shape::{Block, Region, Shape};
@@ -151,6 +153,10 @@ fn run_load<S: Store>(
     requires feed { HaveData heads.now (S.files feed.old) }
     ensures same { S.files feed.new ≡ S.files feed.old }
     ensures value { OfTold heads.now (S.files feed.old) (λ named. IfOk result (λ o. value_of o ≡ made named (Spec.Load input region.now) [])) }
+    ensures named { S.names feed.new ≡ S.names feed.old }
+    ensures gave { GivesMore (S.gave feed.old) (S.gave feed.new) }
+    ensures given { IfOk result (λ o. (holds : List ℕ → List ℕ) (named : ℕ → List ℕ → ℤ) → Agree holds (S.gave feed.new)
+        → HaveNamed heads.now (S.names feed.old) holds named → value_of o ≡ made named (Spec.Load input region.now) []) }
     ensures dims { IfOk result (λ o. IfValue o (λ b. b.shape ≡ region.now.lengths)) }
     ensures faults { CountsFault result (S.count feed.old) (S.count feed.new) }
 {
@@ -216,6 +222,26 @@ impl<S: Store + Send + Sync, E: Elements + Send + Sync + Drop> JobSpec for JobGr
     }
 
     fn run(
+        &self,
+        feed: &mut S,
+        key: u32,
+        inputs: &[Arc<Block>],
+    ) -> Result<Outcome<Block>, RunFail> {
+        self.run_traced(feed, key, inputs)
+    }
+}
+
+impl<S: Store + Send + Sync, E: Elements + Send + Sync + Drop> TracedJob for JobGraph<S, E> {
+    ghost use Rattle.io_edge.specs.Given.{Agree};
+    ghost use Rattle.block_lowering.specs.Jobs.{HaveNamed, made_by};
+
+    ghost agrees = { λ f holds. Agree holds (S.gave f) };
+
+    ghost has = { λ j f. HaveNamed j.job.heads (S.names f) };
+
+    ghost made_of = { λ j named k blocks. made_by named j.job k blocks };
+
+    fn run_traced(
         &self,
         feed: &mut S,
         key: u32,

@@ -1,6 +1,7 @@
 //! What tasks read of inputs, and what they make.
 ghost use Rattle.std.specs.Prelude.{◌≡◌, ◌≤◌, ◌<◌, ◌+◌, ◌*◌, ◌^◌, ◌++◌, [], length, map, get_or, slice_index_or, IfOk, OnOk};
 ghost use Rattle.io_edge.specs.Content.{file_at, size_of, OnTold};
+ghost use Rattle.io_edge.specs.Given.{GivesMore, GivesOf};
 ghost use Rattle.nd_shape.specs.Shape.{elements};
 ghost use Rattle.nd_shape.specs.Region.{IsPart};
 ghost use Rattle.npy_codec.specs.Fronts.{IsFaultOrMemory};
@@ -53,6 +54,10 @@ pub fn load<S: Store>(
     ensures same { S.files feed.new ≡ S.files feed.old }
     ensures shape { IfOk result (λ block. block.shape ≡ region.now.lengths) }
     ensures cells { IfOk result (λ block. OnTold (file_at (S.files feed.old) input) (λ bytes. HoldsRegion bytes head.now region.now block)) }
+    ensures named { S.names feed.new ≡ S.names feed.old }
+    ensures gave { GivesMore (S.gave feed.old) (S.gave feed.new) }
+    ensures given { IfOk result (λ block. GivesOf (S.names feed.old) input (S.gave feed.old) (S.gave feed.new)
+        (λ bytes. HoldsRegion bytes head.now region.now block)) }
     ensures faults { FailsAsFeed result (S.count feed.old) (S.count feed.new) }
 {
     let before = feed.faults();

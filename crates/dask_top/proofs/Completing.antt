@@ -139,13 +139,17 @@ memory_ends (Running said) p old = threads_memory p old
 memory_ends Evaluation p old = run_memory p old
 memory_ends (Simulation said) p old = sim_memory p said old
 
-run_completes : (p : Plan) (old new : View) (end : Ended) → NoFault old new → RunCause p old new end → EndsByInputs p old (status_of (end_of end))
-run_completes p old new RunEnds.Done faults cause = record {
-  large = λ l. absurd (l cause.0);
-  unfit = λ s u. absurd (not_fit p old.files u cause.1.inputs);
-  some = λ s f m. absurd (not_all p old.files m cause.1);
+-- a job all of whose values are there
+done_ends : (p : Plan) (old : View) → IsSmall p → HasValues p old.files → EndsByInputs p old (status_of (end_of RunEnds.Done))
+done_ends p old small values = record {
+  large = λ l. absurd (l small);
+  unfit = λ s u. absurd (not_fit p old.files u values.inputs);
+  some = λ s f m. absurd (not_all p old.files m values);
   none = λ s f m. inl refl;
 }
+
+run_completes : (p : Plan) (old new : View) (end : Ended) → NoFault old new → RunCause p old new end → EndsByInputs p old (status_of (end_of end))
+run_completes p old new RunEnds.Done faults cause = done_ends p old cause.0 cause.1
 run_completes p old new (RunEnds.Limit quantity) faults cause = record {
   large = λ l. inl refl;
   unfit = λ s u. absurd (no_limit p quantity cause s);
@@ -259,7 +263,7 @@ threads_complete p old new RunEnds.WriteFault faults cause = absurd (elim cause.
 threads_complete p old new RunEnds.OutOfMemory faults cause = threads_memory p old
 
 sim_run_completes : (p : Plan) (said : SimWords) (old new : View) (end : Ended) → NoFault old new → SimCause p said old new (SimEnds.Ran end) → EndsByInputs p old (status_of (end_of end))
-sim_run_completes p said old new RunEnds.Done faults cause = run_completes p old new RunEnds.Done faults cause
+sim_run_completes p said old new RunEnds.Done faults cause = done_ends p old cause.0 cause.1
 sim_run_completes p said old new (RunEnds.Limit quantity) faults cause = run_completes p old new (RunEnds.Limit quantity) faults cause
 sim_run_completes p said old new (RunEnds.File place error) faults cause = run_completes p old new (RunEnds.File place error) faults cause
 sim_run_completes p said old new (RunEnds.Zero node block) faults cause = fault_ends p old node block cause.0 cause.1

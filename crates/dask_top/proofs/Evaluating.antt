@@ -27,10 +27,10 @@ use Rattle.job_run.proofs.Running.{left_alone}
 -- ## After it, only standard error got its line
 
 cause_told : (p : Plan) (old mid new : View) (end : Ended) → OnlyErr mid new → RunCause p old mid end → RunCause p old new end
-cause_told p old mid new RunEnds.Done only cause = cause
+cause_told p old mid new RunEnds.Done only cause = (cause.0, cause.1, given_later old.gave mid.gave new.gave _ cause.2 (more_same mid.gave new.gave only.gave))
 cause_told p old mid new (RunEnds.Limit quantity) only cause = cause
 cause_told p old mid new (RunEnds.File place error) only cause = (cause.0, cause.1, given_later old.gave mid.gave new.gave (λ holds. FirstRefusal p (map holds p.inputs) place error) cause.2 (more_same mid.gave new.gave only.gave))
-cause_told p old mid new (RunEnds.Zero node block) only cause = cause
+cause_told p old mid new (RunEnds.Zero node block) only cause = (cause.0, cause.1, given_later old.gave mid.gave new.gave _ cause.2 (more_same mid.gave new.gave only.gave))
 cause_told p old mid new RunEnds.ReadFault only cause = rw only.read_faults cause
 cause_told p old mid new RunEnds.WriteFault only cause = rw (only.write_faults, only.print_faults) cause
 cause_told p old mid new RunEnds.OutOfMemory only cause = tt
@@ -161,14 +161,18 @@ writes_before p old mid new held tells only fail = elim fail [
 ]
 
 pub cause_before : (p : Plan) (old mid new : View) (end : Ended) → mid.files.held ≡ old.files.held → mid.files.tells ≡ old.files.tells → OnlyReads old mid → old.read_faults ≤ mid.read_faults → RunCause p mid new end → RunCause p old new end
-cause_before p old mid new RunEnds.Done held tells only later cause = (cause.0, values_before p old.files mid.files held tells cause.1)
+cause_before p old mid new RunEnds.Done held tells only later cause = (cause.0, values_before p old.files mid.files held tells cause.1, given_before old.gave mid.gave new.gave _ only.gave cause.2)
 cause_before p old mid new (RunEnds.Limit quantity) held tells only later cause = cause
 cause_before p old mid new (RunEnds.File place error) held tells only later cause = (
   cause.0,
   record { within = cause.1.within; there = rw (← held, ← tells) cause.1.there; first = rw (← held) cause.1.first },
   given_before old.gave mid.gave new.gave (λ holds. FirstRefusal p (map holds p.inputs) place error) only.gave cause.2,
 )
-cause_before p old mid new (RunEnds.Zero node block) held tells only later cause = (cause.0, record { inputs = fit_before p old.files mid.files held tells cause.1.inputs; zero_at = rw (← held) cause.1.zero_at })
+cause_before p old mid new (RunEnds.Zero node block) held tells only later cause = (
+  cause.0,
+  record { inputs = fit_before p old.files mid.files held tells cause.1.inputs; zero_at = rw (← held) cause.1.zero_at },
+  given_before old.gave mid.gave new.gave _ only.gave cause.2,
+)
 cause_before p old mid new RunEnds.ReadFault held tells only later cause = (cause.0, rose_later old.read_faults mid.read_faults new.read_faults later cause.1)
 cause_before p old mid new RunEnds.WriteFault held tells only later cause = (cause.0, fit_before p old.files mid.files held tells cause.1, writes_before p old mid new held tells only cause.2)
 cause_before p old mid new RunEnds.OutOfMemory held tells only later cause = tt

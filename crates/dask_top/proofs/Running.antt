@@ -3,7 +3,7 @@ use Rattle.std.proofs.Common.{◌≡◌, ℕ, ◌≤◌, List, ◌++◌, refl, a
 use Rattle.std.specs.Prelude.{IfSome, IsTrue, map}
 use Rattle.cluster_msgs.specs.declared.events.Report.{Report}
 use Rattle.io_edge.specs.Content.{followed_by}
-use Rattle.io_edge.proofs.GivenLaws.{given_later, more_same, more_then}
+use Rattle.io_edge.proofs.GivenLaws.{given_before, given_later, more_same, more_then}
 use Rattle.io_edge.specs.View.{View, Files, Opens, OnlyReads, OnlyErr, raised_by, times}
 use Rattle.command_words.specs.declared.run.RunWords.{RunWords}
 use Rattle.job_run.specs.declared.ends.Ended.{Ended}
@@ -32,10 +32,10 @@ use Rattle.job_run.proofs.Running.{left_alone}
 -- ## After it, only standard error got its line
 
 cause_told : (p : Plan) (old mid new : View) (end : Ended) → OnlyErr mid new → Cause p old mid end → Cause p old new end
-cause_told p old mid new RunEnds.Done only cause = cause
+cause_told p old mid new RunEnds.Done only cause = (cause.0, cause.1, given_later old.gave mid.gave new.gave _ cause.2 (more_same mid.gave new.gave only.gave))
 cause_told p old mid new (RunEnds.Limit quantity) only cause = cause
 cause_told p old mid new (RunEnds.File place error) only cause = (cause.0, cause.1, given_later old.gave mid.gave new.gave (λ holds. FirstRefusal p (map holds p.inputs) place error) cause.2 (more_same mid.gave new.gave only.gave))
-cause_told p old mid new (RunEnds.Zero node block) only cause = cause
+cause_told p old mid new (RunEnds.Zero node block) only cause = (cause.0, cause.1, given_later old.gave mid.gave new.gave _ cause.2 (more_same mid.gave new.gave only.gave))
 cause_told p old mid new RunEnds.ReadFault only cause = rw only.read_faults cause
 cause_told p old mid new RunEnds.WriteFault only cause = rw (only.write_faults, only.print_faults) cause
 cause_told p old mid new RunEnds.OutOfMemory only cause = tt
@@ -136,11 +136,15 @@ writes_first p old mid new held tells only fail = elim fail [
 
 cause_first : (p : Plan) (old mid new : View) (end : Ended) → mid.files.held ≡ old.files.held → mid.files.tells ≡ old.files.tells → OnlyReads old mid → old.read_faults ≤ mid.read_faults → Cause p mid new end
     → Cause p old new end
-cause_first p old mid new RunEnds.Done held tells only later cause = (cause.0, values_first p old.files mid.files held tells cause.1)
+cause_first p old mid new RunEnds.Done held tells only later cause =
+    (cause.0, values_first p old.files mid.files held tells cause.1, given_before old.gave mid.gave new.gave _ only.gave cause.2)
 cause_first p old mid new (RunEnds.Limit quantity) held tells only later cause = cause
 cause_first p old mid new (RunEnds.File place error) held tells only later cause = cause_before p old mid new (RunEnds.File place error) held tells only later cause
-cause_first p old mid new (RunEnds.Zero node block) held tells only later cause =
-    (cause.0, record { inputs = fit_before p old.files mid.files held tells cause.1.inputs; zero_at = rw (← held, ← tells) cause.1.zero_at })
+cause_first p old mid new (RunEnds.Zero node block) held tells only later cause = (
+  cause.0,
+  record { inputs = fit_before p old.files mid.files held tells cause.1.inputs; zero_at = rw (← held, ← tells) cause.1.zero_at },
+  given_before old.gave mid.gave new.gave _ only.gave cause.2,
+)
 cause_first p old mid new RunEnds.ReadFault held tells only later cause = cause_before p old mid new RunEnds.ReadFault held tells only later cause
 cause_first p old mid new RunEnds.WriteFault held tells only later cause =
     (cause.0, fit_before p old.files mid.files held tells cause.1, writes_first p old mid new held tells only cause.2)

@@ -122,7 +122,7 @@ sim_cause_before : (p : Plan) (said : SimWords) (old mid new : View) (end : SimE
     SimCause p said mid new end → SimCause p said old new end
 sim_cause_before p said old mid new SimEnds.Events held tells only later cause = (cause.0, fit_before p old.files mid.files held tells cause.1, told_over p said old.files mid.files held (fit_before p old.files mid.files held tells) IsOutOfEvents cause.2)
 sim_cause_before p said old mid new SimEnds.Turns held tells only later cause = (cause.0, fit_before p old.files mid.files held tells cause.1, told_over p said old.files mid.files held (fit_before p old.files mid.files held tells) IsOutOfTurns cause.2)
-sim_cause_before p said old mid new (SimEnds.Ran RunEnds.Done) held tells only later cause = cause_before p old mid new RunEnds.Done held tells only later cause
+sim_cause_before p said old mid new (SimEnds.Ran RunEnds.Done) held tells only later cause = (cause.0, values_before p old.files mid.files held tells cause.1)
 sim_cause_before p said old mid new (SimEnds.Ran (RunEnds.Limit quantity)) held tells only later cause = cause
 sim_cause_before p said old mid new (SimEnds.Ran (RunEnds.File place error)) held tells only later cause = cause_before p old mid new (RunEnds.File place error) held tells only later cause
 sim_cause_before p said old mid new (SimEnds.Ran (RunEnds.Zero node block)) held tells only later cause = (cause.0, record { inputs = fit_before p old.files mid.files held tells cause.1.inputs; zero_at = rw (← held) cause.1.zero_at })

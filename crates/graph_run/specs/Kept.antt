@@ -26,3 +26,9 @@ pub record IsEvaluation {J B F : Type 0} (graph : J → Shape) (key_dims : J →
   pub dims : HaveDims block_dims (key_dims job) slots
   pub before : feed_tells job feed → HaveValues (deps_of (graph job)) (operation job) next
   pub values : feed_tells job feed → AreValues (deps_of (graph job)) (operation job) slots
+
+-- the same over whatever files hold that gave what the feed read
+pub record IsTraced {J B F H N : Type 0} (graph : J → Shape) (agrees : F → H → Type 0) (has : J → F → H → N → Type 0) (made_of : J → N → ℕ → List B → Option B)
+    (job : J) (feed : F) (next : ℕ) (slots : List (Option (Arc B Global))) : Type 0 where
+  pub before : (holds : H) (named : N) → agrees feed holds → has job feed holds named → HaveValues (deps_of (graph job)) (made_of job named) next
+  pub values : (holds : H) (named : N) → agrees feed holds → has job feed holds named → AreValues (deps_of (graph job)) (made_of job named) slots

@@ -1,5 +1,5 @@
 //! The evaluation of a job's keys in order.
-ghost use Rattle.std.specs.Prelude.{◌≡◌, ◌<◌, ◌↔◌, IfOk, IsTrue};
+ghost use Rattle.std.specs.Prelude.{◌≡◌, ◌<◌, ◌↔◌, ℕ, ℤ, List, IfOk, IsTrue};
 ghost use Rattle.cluster_msgs.specs.Shape.{key_count, deps_of};
 ghost use Rattle.cluster_msgs.specs.Values.{val};
 ghost use Rattle.graph_run.specs.Evaluations.{HaveValues, IfMade, CountsStep, value_of_step, next_after};
@@ -7,8 +7,9 @@ ghost use Rattle.graph_run.specs.Uses.{IsUsedFrom};
 
 use crate::running::run_key;
 use crate::slots::{empty, keep};
+use crate::traced::TracedJob;
 use crate::uses::last_uses;
-use cluster_msgs::{JobSpec, RunFail};
+use cluster_msgs::RunFail;
 use std::alloc::{AllocError, Global};
 use std::marker::Model;
 use std::sync::Arc;
@@ -23,7 +24,7 @@ pub enum Step<B> {
 /// A job whose keys are run in ascending order, with what it reads, and the blocks that later keys use. Contracts see the job,
 /// the feed and the key that comes next.
 #[derive(Drop)]
-pub struct Evaluation<J: JobSpec> {
+pub struct Evaluation<J: TracedJob> {
     alloc: Global,
     next: u32,
     last: Vec<u32>,
@@ -32,19 +33,20 @@ pub struct Evaluation<J: JobSpec> {
     feed: J::Feed,
 }
 
-impl<J: JobSpec> Model for Evaluation<J> {
+impl<J: TracedJob> Model for Evaluation<J> {
     ghost use Rattle.graph_run.specs.Evaluations.{Evaluation};
 
     ghost Value = { Evaluation J J.Feed };
 
     ghost view = { λ e. record { job = e.job; feed = e.feed; next = e.next } };
 
-    ghost use Rattle.graph_run.specs.Kept.{IsEvaluation};
+    ghost use Rattle.graph_run.specs.Kept.{IsEvaluation, IsTraced};
 
-    ghost invariant = { λ e. IsEvaluation J.graph J.key_dims J.block_dims J.operation J.feed_fits J.feed_tells e.job e.feed e.next e.last.items e.slots.items };
+    ghost invariant = { λ e. IsEvaluation J.graph J.key_dims J.block_dims J.operation J.feed_fits J.feed_tells e.job e.feed e.next e.last.items e.slots.items
+        × IsTraced J.graph J.agrees J.has J.made_of e.job e.feed e.next e.slots.items };
 }
 
-impl<J: JobSpec> Evaluation<J> {
+impl<J: TracedJob> Evaluation<J> {
     /// The evaluation of a job before its first key.
     ///
     /// # Errors
@@ -93,6 +95,15 @@ impl<J: JobSpec> Evaluation<J> {
             HaveValues (deps_of (J.graph self.old.job)) (J.operation self.old.job) self.old.next }
         ensures value { IfOk result (λ s. J.feed_tells self.old.job self.old.feed →
             value_of_step s ≡ val (deps_of (J.graph self.old.job)) (J.operation self.old.job) self.old.next) }
+        ensures agreed { (holds : List ℕ → List ℕ) → J.agrees self.new.feed holds → J.agrees self.old.feed holds }
+        ensures same { (holds : List ℕ → List ℕ) (named : ℕ → List ℕ → ℤ) →
+            J.has self.new.job self.new.feed holds named ↔ J.has self.old.job self.old.feed holds named }
+        ensures given_before { (holds : List ℕ → List ℕ) (named : ℕ → List ℕ → ℤ) → J.agrees self.old.feed holds
+            → J.has self.old.job self.old.feed holds named
+            → HaveValues (deps_of (J.graph self.old.job)) (J.made_of self.old.job named) self.old.next }
+        ensures given { IfOk result (λ s. (holds : List ℕ → List ℕ) (named : ℕ → List ℕ → ℤ) → J.agrees self.new.feed holds
+            → J.has self.old.job self.old.feed holds named
+            → value_of_step s ≡ val (deps_of (J.graph self.old.job)) (J.made_of self.old.job named) self.old.next) }
         ensures dims { IfOk result (λ s. IfMade s (λ b. J.block_dims b ≡ J.key_dims self.old.job self.old.next)) }
         ensures faults { CountsStep result (J.fault_count self.old.feed) (J.fault_count self.new.feed) }
     {
@@ -116,9 +127,13 @@ impl<J: JobSpec> Evaluation<J> {
         self.slots[key as usize].is_some()
     }
 
-    /// All keys before the next one have values, where the feed tells what it holds. It does nothing.
+    /// All keys before the next one have values, where the feed tells what it holds, and over whatever files hold that gave what it
+    /// read. It does nothing.
     pub fn sound(&self)
-        ensures { J.feed_tells self.now.job self.now.feed →
+        ensures given { (holds : List ℕ → List ℕ) (named : ℕ → List ℕ → ℤ) → J.agrees self.now.feed holds
+            → J.has self.now.job self.now.feed holds named
+            → HaveValues (deps_of (J.graph self.now.job)) (J.made_of self.now.job named) self.now.next }
+        ensures told { J.feed_tells self.now.job self.now.feed →
             HaveValues (deps_of (J.graph self.now.job)) (J.operation self.now.job) self.now.next }
     {
         let _next = self.next;

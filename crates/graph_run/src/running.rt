@@ -1,5 +1,5 @@
 //! One key's operation on the blocks that are kept.
-ghost use Rattle.std.specs.Prelude.{◌≡◌, ◌<◌, ◌↔◌, IsSome, IfOk};
+ghost use Rattle.std.specs.Prelude.{◌≡◌, ◌<◌, ◌↔◌, ℕ, ℤ, List, IsSome, IfOk};
 ghost use Rattle.std.specs.List.{All};
 ghost use Rattle.cluster_msgs.specs.Shape.{key_count, deps_of};
 ghost use Rattle.cluster_msgs.specs.Values.{val};
@@ -9,7 +9,8 @@ ghost use Rattle.graph_run.specs.Slots.{block_at};
 
 use crate::evaluation::Step;
 use crate::slots::gathered;
-use cluster_msgs::{JobSpec, Outcome, RunFail};
+use crate::traced::TracedJob;
+use cluster_msgs::{Outcome, RunFail};
 use std::alloc::Global;
 use std::sync::Arc;
 
@@ -17,7 +18,7 @@ use std::sync::Arc;
 ///
 /// # Errors
 /// `Feed` only where the feed's count of faults rose in this call, and `OutOfMemory` where no memory is left.
-pub fn run_key<J: JobSpec>(
+pub fn run_key<J: TracedJob>(
     alloc: Global,
     job: &J,
     feed: &mut J::Feed,
@@ -30,15 +31,22 @@ pub fn run_key<J: JobSpec>(
     requires dims { HaveDims J.block_dims (J.key_dims job.now) slots.now }
     ensures value { IfOk result (λ s. J.feed_tells job.now feed.old → AreValues (deps_of (J.graph job.now)) (J.operation job.now) slots.now →
         value_of_step s ≡ val (deps_of (J.graph job.now)) (J.operation job.now) key) }
+    ensures given { IfOk result (λ s. (holds : List ℕ → List ℕ) (named : ℕ → List ℕ → ℤ) → J.agrees feed.new holds
+        → J.has job.now feed.old holds named
+        → AreValues (deps_of (J.graph job.now)) (J.made_of job.now named) slots.now
+        → value_of_step s ≡ val (deps_of (J.graph job.now)) (J.made_of job.now named) key) }
     ensures dims { IfOk result (λ s. IfMade s (λ b. J.block_dims b ≡ J.key_dims job.now key)) }
     ensures fits { J.feed_fits job.now feed.new }
     ensures tells { J.feed_tells job.now feed.new ↔ J.feed_tells job.now feed.old }
+    ensures agreed { (holds : List ℕ → List ℕ) → J.agrees feed.new holds → J.agrees feed.old holds }
+    ensures same { (holds : List ℕ → List ℕ) (named : ℕ → List ℕ → ℤ) →
+        J.has job.now feed.new holds named ↔ J.has job.now feed.old holds named }
     ensures faults { CountsStep result (J.fault_count feed.old) (J.fault_count feed.new) }
 {
     let graph = job.shape();
     graph.sound();
     let inputs = gathered(alloc, slots, graph.deps(key))?;
-    let outcome = job.run(feed, key, inputs.as_slice())?;
+    let outcome = job.run_traced(feed, key, inputs.as_slice())?;
     match outcome {
         Outcome::Value(block) => {
             let block = Arc::new(alloc, block)?;

@@ -4,6 +4,7 @@ use Rattle.std.specs.Prelude.{Bool, bytes_eq, false, IfSome, IsSome, IsTrue, Opt
 use Rattle.std.proofs.lemmas.List.{get_or-map, length-map}
 use Rattle.io_edge.specs.Cause.{Rose, TakesFaults}
 use Rattle.io_edge.specs.Content.{Content, Told, Untold, OnTold, file_at, told_bytes}
+use Rattle.io_edge.specs.Given.{Piece}
 use Rattle.io_edge.proofs.GivenLaws.{more_around, more_same}
 use Rattle.io_edge.specs.View.{View, Files, OnlyReads, OnlyWrites, raised_by}
 use Rattle.nd_shape.specs.Block.{Array}
@@ -17,11 +18,11 @@ use Rattle.job_run.specs.declared.blocks.Halt.{Halt}
 use Rattle.job_run.specs.declared.blocks.Halt.TheVariants as halts
 use Rattle.job_run.specs.declared.ends.Ended.{Ended}
 use Rattle.job_run.specs.declared.ends.Ended.TheVariants.{Done, Zero, ReadFault, WriteFault, OutOfMemory}
-use Rattle.job_run.specs.Evaluating.{AreFresh, AreSameFiles, EvaluatesInputs, EvaluationCause, EvaluationCreates, EvaluationSaves, FilesHold, FilesRight, FilesWhole, HaltCause, LeavesAll, array_at, node_at}
+use Rattle.job_run.specs.Evaluating.{AreFresh, AreSameFiles, EvaluatesInputs, EvaluationCause, EvaluationCreates, EvaluationGiven, EvaluationSaves, FilesHold, FilesRight, FilesWhole, GivenOver, HaltCause, HaltGiven, LeavesAll, array_at, node_at}
 use Rattle.job_run.specs.Part.{AreLeft, AreWhole, IsNoneOf, RaisedAtMost}
 use Rattle.job_run.specs.Plan.{AreApart, Plan, Saved, name_at, names_saved}
 use Rattle.job_run.specs.Starting.{AreOfShapes, end_of}
-use Rattle.job_run.specs.Values.{MeetsNone, Named, file_of, files_of, cells_at, values_of}
+use Rattle.job_run.specs.Values.{MeetsNone, MeetsZero, Named, OfGiven, file_of, files_of, cells_at, values_of}
 use Rattle.job_run.proofs.Counting.{raised_at_most}
 use Rattle.job_run.proofs.SavedArrays.{array-saved}
 
@@ -137,9 +138,11 @@ module _ (p : Plan) (named : Named) (old mid between new : View) (files now : Li
   created_is = back.gives.created ∙ (ap (λ (f : Files). f.created) back.files_same ∙ made.created)
 
   -- all that is left, whatever the end
-  pub evaluated : (told : Type 0) (end : Ended) → AreApart (names_saved p) → (told → FilesRight p named now) → EvaluationCause p named told old new end → EvaluationSaves p named told old.files new.files end → EvaluatesInputs p named told old new end
-  evaluated told end apart right cause saves = record {
+  pub evaluated : (told : Type 0) (end : Ended) → AreApart (names_saved p) → (told → FilesRight p named now) → EvaluationCause p named told old new end
+      → EvaluationGiven p old new end → EvaluationSaves p named told old.files new.files end → EvaluatesInputs p named told old new end
+  evaluated told end apart right cause given_too saves = record {
     cause = cause;
+    given = given_too;
     saves = saves;
     left = λ t. are_left apart (right t);
     others = others_are;
@@ -188,26 +191,35 @@ whole_right a (Untold size) e = tt
 
 -- all blocks were made and written
 pub ended : (p : Plan) (named : Named) (old mid between new : View) (files now : List Saving) (given : ℕ) (told again : Type 0) → HaveCreated p old mid files → HaveGiven files now given mid between new → AreApart (names_saved p) →
-    (told → again) → (again → MeetsNone p named) → (again → FilesWhole p named now) → EvaluatesInputs p named told old new Done
-ended p named old mid between new files now given told again made back apart gives values whole =
-    evaluated p named old mid between new files now given made back told Done apart (λ t k h. whole_right (array_at p named k) (saving_at now k).content (whole (gives t) k h)) (λ t. values (gives t))
+    (told → again) → (again → MeetsNone p named) → OfGiven p old new (MeetsNone p) → (again → FilesWhole p named now) → EvaluatesInputs p named told old new Done
+ended p named old mid between new files now given told again made back apart gives values given_values whole =
+    evaluated p named old mid between new files now given made back told Done apart (λ t k h. whole_right (array_at p named k) (saving_at now k).content (whole (gives t) k h)) (λ t. values (gives t)) given_values
     (λ t tells. are_whole p named old mid between new files now given made back apart (whole (gives t)) tells)
 
 -- not all blocks were made and written; the two numbers are the feed's counts of faults
 pub halted : (p : Plan) (named : Named) (old mid between new : View) (files now : List Saving) (given before count : ℕ) (told again : Type 0) (halt : Halt) → HaveCreated p old mid files → HaveGiven files now given mid between new → AreApart (names_saved p) →
-    given ≡ count → (told → again) → (again → FilesRight p named now) → HaltCause p named again now before count halt → EvaluatesInputs p named told old new (end_of halt)
-halted p named old mid between new files now given before count told again (halts.Zero node block) made back apart same gives right cause =
-    evaluated p named old mid between new files now given made back told (Zero node block) apart (λ t. right (gives t)) (λ t. cause (gives t)) tt
-halted p named old mid between new files now given before count told again halts.ReadFault made back apart same gives right cause =
+    given ≡ count → (told → again) → (again → FilesRight p named now) → HaltCause p named again now before count halt → EvaluationGiven p old new (end_of halt)
+    → EvaluatesInputs p named told old new (end_of halt)
+halted p named old mid between new files now given before count told again (halts.Zero node block) made back apart same gives right cause given_too =
+    evaluated p named old mid between new files now given made back told (Zero node block) apart (λ t. right (gives t)) (λ t. cause (gives t)) given_too tt
+halted p named old mid between new files now given before count told again halts.ReadFault made back apart same gives right cause given_too =
     let rose : Rose mid.read_faults between.read_faults = back.faults.risen (omega (arith, same, cause)) in
     evaluated p named old mid between new files now given made back told ReadFault apart (λ t. right (gives t))
-    (rose_from old.read_faults mid.read_faults between.read_faults new.read_faults (omega (arith, made.only.read_faults)) (omega (arith, back.writes.read_faults)) rose) tt
-halted p named old mid between new files now given before count told again halts.WriteFault made back apart same gives right cause =
+    (rose_from old.read_faults mid.read_faults between.read_faults new.read_faults (omega (arith, made.only.read_faults)) (omega (arith, back.writes.read_faults)) rose) tt tt
+halted p named old mid between new files now given before count told again halts.WriteFault made back apart same gives right cause given_too =
     let rose : Rose between.write_faults new.write_faults = back.takes.risen cause.place cause.there cause.failed in
     evaluated p named old mid between new files now given made back told WriteFault apart (λ t. right (gives t))
-    (rose_from old.write_faults between.write_faults new.write_faults new.write_faults (omega (arith, made.later, back.reads.write_faults)) (omega arith) rose) tt
-halted p named old mid between new files now given before count told again halts.OutOfMemory made back apart same gives right cause =
-    evaluated p named old mid between new files now given made back told OutOfMemory apart (λ t. right (gives t)) tt tt
+    (rose_from old.write_faults between.write_faults new.write_faults new.write_faults (omega (arith, made.later, back.reads.write_faults)) (omega arith) rose) tt tt
+halted p named old mid between new files now given before count told again halts.OutOfMemory made back apart same gives right cause given_too =
+    evaluated p named old mid between new files now given made back told OutOfMemory apart (λ t. right (gives t)) tt tt tt
+
+-- what is said of a halt is said of the end that it makes
+pub halt_given : (p : Plan) (old new : View) (heads : List Head) (names : List (List ℕ)) (pieces : List Piece) (halt : Halt)
+    → ((P : Named → Type 0) → GivenOver heads names pieces P → OfGiven p old new P) → HaltGiven p heads names pieces halt → EvaluationGiven p old new (end_of halt)
+halt_given p old new heads names pieces (halts.Zero node block) over given = over (λ named. MeetsZero p named node block) given
+halt_given p old new heads names pieces halts.ReadFault over given = tt
+halt_given p old new heads names pieces halts.WriteFault over given = tt
+halt_given p old new heads names pieces halts.OutOfMemory over given = tt
 
 -- not all files were created, and those that were are given back
 pub record HaveRefused (p : Plan) (old mid : View) : Type 0 where
@@ -232,11 +244,12 @@ refused_left p named old mid new shapes r c k h =
     let Q : Files → Type 0 = λ f. IsLeft (name_at (names_saved p) k) (name_at (files_of p named) k) old.files f in
     subst Q (sym c.files_same) (subst P (file_saved p named k b) (r.left k (array_at p named k) b (shapes named k b)))
 
-pub refused : (p : Plan) (named : Named) (old mid new : View) (told : Type 0) (end : Ended) → AreOfShapes p → HaveRefused p old mid → HaveClosed mid new → EvaluationCause p named told old new end →
+pub refused : (p : Plan) (named : Named) (old mid new : View) (told : Type 0) (end : Ended) → AreOfShapes p → HaveRefused p old mid → HaveClosed mid new → EvaluationCause p named told old new end → EvaluationGiven p old new end →
     EvaluationSaves p named told old.files new.files end →
     (RaisedAtMost (names_saved p) old.files.created new.files.created → EvaluationCreates (names_saved p) old.files.created new.files.created end) → EvaluatesInputs p named told old new end
-refused p named old mid new told end shapes r c cause saves created = record {
+refused p named old mid new told end shapes r c cause given_too saves created = record {
   cause = cause;
+  given = given_too;
   saves = saves;
   left = λ t. refused_left p named old mid new shapes r c;
   others = λ n none. ap (λ (f : Files). f.held n) c.files_same ∙ r.others n none;

@@ -79,7 +79,7 @@ end_given names shapes old mid new k shape file before after WriteFault h is end
 
 -- ## The inputs of a job
 
-mapped_at : (f : List ℕ → List ℕ) (names : List (List ℕ)) (k : ℕ) → k < length names → get_or (map f names) k [] ≡ f (get_or names k [])
+pub mapped_at : (f : List ℕ → List ℕ) (names : List (List ℕ)) (k : ℕ) → k < length names → get_or (map f names) k [] ≡ f (get_or names k [])
 mapped_at f [] k h = absurd (omega (arith, h))
 mapped_at f (name ∷ names) zero h = refl
 mapped_at f (name ∷ names) (suc k) h = mapped_at f names k (omega (arith, h))

@@ -103,6 +103,17 @@ meets-zero p named key n c laws lt h e name =
     DividesAt p named None = ⊥
     DividesAt p named (Some x) = DividesByZero named p.nodes x.0 x.1
 
+-- the same, where the tasks are the plan's
+pub stops-at : (p : Plan) (named : Named) (tasks : List Task) (key n c : ℕ) → HasLaws p named → tasks ≡ tasks_of p → key < length (tasks_of p) → ((k : ℕ) → k < key → IsSome (value named tasks k)) → None ≡ value named tasks key
+    → name_of p.nodes (nodes_saved p) key ≡ Some (n, c) → MeetsZero p named n (index_of p n c)
+stops-at p named tasks key n c laws same lt all none name =
+    let h : HaveAll p named key = subst (λ (ts : List Task). (k : ℕ) → k < key → IsSome (value named ts k)) same all in
+    meets-zero p named key n c laws lt h (subst (λ (ts : List Task). value named ts key ≡ None) same (sym none)) name
+
+-- where tasks that are the plan's all have values, no needed block lacks an element
+pub ends-whole : (p : Plan) (named : Named) (tasks : List Task) (next : ℕ) → HasLaws p named → tasks ≡ tasks_of p → length (tasks_of p) ≤ next → ((k : ℕ) → k < next → IsSome (value named tasks k)) → MeetsNone p named
+ends-whole p named tasks next laws same le h = meets-none p named laws (have-all p named tasks next same le h)
+
 -- ## The name of a block
 
 pub block-named : (p : Plan) (named : Named) (key : ℕ) (name : Option (ℕ × ℕ)) (block : Array) → HasLaws p named → key < length (tasks_of p) → name_of p.nodes (nodes_saved p) key ≡ name

@@ -3,6 +3,7 @@ pub mod Creating
 pub mod Evaluated
 pub mod FilledFiles
 pub mod Filling
+pub mod Given
 pub mod GivenLoads
 pub mod Halting
 pub mod KeyValues
@@ -24,3 +25,4 @@ pub mod SavingSteps
 pub mod Starting
 pub mod Told
 pub mod WaitingBlocks
+pub mod Whatever

@@ -37,7 +37,7 @@ shapes_more nodes i node h is = ap input_shapes (take_more nodes i node h ∙ ap
 
 -- ## One more of a list
 
-pushed : {X : Type 0} (P : ℕ → X → Type 0) (xs : List X) (x d : X) → ((k : ℕ) → k < length xs → P k (get_or xs k d)) → P (length xs) x → (k : ℕ) → k < length (xs ++ x ∷ []) → P k (get_or (xs ++ x ∷ []) k d)
+pub pushed : {X : Type 0} (P : ℕ → X → Type 0) (xs : List X) (x d : X) → ((k : ℕ) → k < length xs → P k (get_or xs k d)) → P (length xs) x → (k : ℕ) → k < length (xs ++ x ∷ []) → P k (get_or (xs ++ x ∷ []) k d)
 pushed {X} P xs x d each next k h = elim (below_or k (length xs)) [
   | inl b ↦ subst (P k) (sym (get_or_append_left xs (x ∷ []) d k b)) (each k b)
   | inr b ↦

@@ -23,14 +23,14 @@ use Rattle.npy_codec.proofs.WrittenFiles.{moved_by_nothing}
 
 -- ## The array that a file tells
 
-told_here : (files : List Content) (heads : List Head) (j : ℕ) → j < length heads → block_at (arrays_told files heads) j ≡ array_told (file_at files j) (head_at heads j)
+pub told_here : (files : List Content) (heads : List Head) (j : ℕ) → j < length heads → block_at (arrays_told files heads) j ≡ array_told (file_at files j) (head_at heads j)
 told_here files [] j h = absurd (omega (arith, h))
 told_here [] (head ∷ heads) zero h = refl
 told_here [] (head ∷ heads) (suc j) h = told_here [] heads j (omega (arith, h))
 told_here (file ∷ files) (head ∷ heads) zero h = refl
 told_here (file ∷ files) (head ∷ heads) (suc j) h = told_here files heads j (omega (arith, h))
 
-count_told : (files : List Content) (heads : List Head) → length (arrays_told files heads) ≡ length heads
+pub count_told : (files : List Content) (heads : List Head) → length (arrays_told files heads) ≡ length heads
 count_told files [] = refl
 count_told [] (head ∷ heads) = omega (arith, count_told [] heads)
 count_told (file ∷ files) (head ∷ heads) = omega (arith, count_told files heads)

@@ -3,7 +3,7 @@ use Rattle.std.proofs.Common.{◌≡◌, ℕ, ◌≤◌, List, [], get_or, refl,
 use Rattle.std.specs.Prelude.{IfSome, IsTrue, Option, Some, None}
 use Rattle.io_edge.specs.Cause.{Rose}
 use Rattle.io_edge.specs.Content.{Content, followed_by, PrintsPart}
-use Rattle.io_edge.proofs.GivenLaws.{more_same, more_then}
+use Rattle.io_edge.proofs.GivenLaws.{given_before, given_later, more_same, more_then}
 use Rattle.io_edge.specs.View.{View, Files, Opens, OnlyReads, OnlyOut, raised_by}
 use Rattle.nd_shape.specs.Block.{Array}
 use Rattle.npy_codec.specs.declared.head.Head.{Head}
@@ -184,7 +184,11 @@ stopped_runs p old mid new files heads Done a e not = absurd (not refl)
 stopped_runs p old mid new files heads (Limit quantity) a e not = absurd e.cause
 stopped_runs p old mid new files heads (File place error) a e not = absurd e.cause
 stopped_runs p old mid new files heads (Zero node block) a e not =
-    evaluated_runs p old mid new files heads (Zero node block) a e (a.small, record { inputs = a.fit; zero_at = on_accepted p old mid files heads a (λ n. MeetsZero p n node block) e.cause })
+    evaluated_runs p old mid new files heads (Zero node block) a e (
+      a.small,
+      record { inputs = a.fit; zero_at = on_accepted p old mid files heads a (λ n. MeetsZero p n node block) e.cause },
+      given_before old.gave mid.gave new.gave _ a.only.gave e.given,
+    )
     (right_after p old mid new files heads (Zero node block) a e) (opened_after p old mid new files heads (Zero node block) a e)
     (e.created ∙ ap (raised_by (names_saved p)) a.opens.created) (e.out ∙ a.only.out)
 stopped_runs p old mid new files heads ReadFault a e not =
@@ -236,7 +240,8 @@ module _ (p : Plan) (old mid saved new : View) (files : List Content) (heads : L
   }
 
   pub done_runs : new.out ≡ followed_by saved.out (lines_of p) → RunsPlan p old new Done
-  done_runs printed = printed_runs Done (a.small, values_after) saved_after all_opened created_after (printed ∙ ap (λ o. followed_by o (lines_of p)) out_before)
+  done_runs printed = printed_runs Done
+      (a.small, values_after, given_later old.gave saved.gave new.gave _ (given_before old.gave mid.gave saved.gave _ a.only.gave e.given) (more_same saved.gave new.gave prints.gave)) saved_after all_opened created_after (printed ∙ ap (λ o. followed_by o (lines_of p)) out_before)
 
   pub print_fault_runs : PrintsPart saved.out new.out (lines_of p) → Rose saved.print_faults new.print_faults → RunsPlan p old new WriteFault
   print_fault_runs part rose =

@@ -2,7 +2,9 @@
 use Rattle.std.specs.Prelude.{◌≡◌, ◌≤◌, ◌<◌, ℕ, List, [], ◌∷◌, cond, nat_eq, length, take, slice_index_or, Option, Some, None, Bool, IsTrue, IsSome}
 use Rattle.io_edge.specs.Cause.{Rose}
 use Rattle.io_edge.specs.Content.{OnTold, told_bytes}
-use Rattle.io_edge.specs.Given.{GivesMore}
+use Rattle.io_edge.specs.Given.{Agree, GivesMore, Piece}
+use Rattle.npy_codec.specs.declared.head.Head.{Head}
+use Rattle.block_lowering.specs.Jobs.{HaveNamed}
 use Rattle.io_edge.specs.View.{View, Files, raised_by}
 use Rattle.nd_shape.specs.Block.{Array}
 use Rattle.nd_shape.specs.Region.{Box}
@@ -22,7 +24,7 @@ use Rattle.job_run.specs.declared.blocks.Halt.{Halt}
 use Rattle.job_run.specs.declared.blocks.Halt.TheVariants as halts
 use Rattle.job_run.specs.Part.{AreWhole, AreLeft, IsNoneOf, RaisedAtMost}
 use Rattle.job_run.specs.Plan.{Plan, names_saved, nodes_saved, name_at}
-use Rattle.job_run.specs.Values.{Named, MeetsZero, MeetsNone, arrays_saved, files_of, index_of, tasks_of}
+use Rattle.job_run.specs.Values.{Named, OfGiven, MeetsZero, MeetsNone, arrays_saved, files_of, index_of, tasks_of}
 
 abbrev pub node_at : Plan → ℕ → ℕ
 node_at p k = slice_index_or (nodes_saved p) k 0
@@ -123,6 +125,15 @@ HaltCause p named told files before now halts.ReadFault = Rose before now
 HaltCause p named told files before now halts.WriteFault = HasFailed files
 HaltCause p named told files before now halts.OutOfMemory = Unit {0}
 
+-- this holds of the elements that files of these names have, with these heads, whatever they hold that gave these pieces
+abbrev pub GivenOver : List Head → List (List ℕ) → List Piece → (Named → Type 0) → Type 0
+GivenOver heads names pieces P = (holds : List ℕ → List ℕ) (named : Named) → Agree holds pieces → HaveNamed heads names holds named → P named
+
+-- so the block that is named is the first that meets a zero divisor
+abbrev pub HaltGiven : Plan → List Head → List (List ℕ) → List Piece → Halt → Type 0
+HaltGiven p heads names pieces (halts.Zero node block) = GivenOver heads names pieces (λ named. MeetsZero p named node block)
+HaltGiven p heads names pieces halt = Unit {0}
+
 -- no file has failed before a halt that isn't a write's: one that wants memory may be
 abbrev pub HaltKeeps : List Saving → Halt → Type 0
 HaltKeeps files halts.WriteFault = Unit {0}
@@ -139,6 +150,12 @@ EvaluationCause p named told old new WriteFault = Rose old.write_faults new.writ
 EvaluationCause p named told old new OutOfMemory = Unit {0}
 EvaluationCause p named told old new end = ⊥
 
+-- the same of whatever the inputs hold that gave what was read, told or not
+abbrev pub EvaluationGiven : Plan → View → View → Ended → Type 0
+EvaluationGiven p old new Done = OfGiven p old new (MeetsNone p)
+EvaluationGiven p old new (Zero node block) = OfGiven p old new (λ named. MeetsZero p named node block)
+EvaluationGiven p old new end = Unit {0}
+
 -- all files are whole at the end, where the site tells
 abbrev pub EvaluationSaves : Plan → Named → Type 0 → Files → Files → Ended → Type 0
 EvaluationSaves p named told old new Done = told → IsTrue old.tells → AreWhole (names_saved p) (files_of p named) new
@@ -151,6 +168,7 @@ EvaluationCreates names old new end = RaisedAtMost names old new
 
 pub record EvaluatesInputs (p : Plan) (named : Named) (told : Type 0) (old new : View) (end : Ended) : Type 0 where
   pub cause : EvaluationCause p named told old new end
+  pub given : EvaluationGiven p old new end
   pub saves : EvaluationSaves p named told old.files new.files end
   pub left : told → AreLeft (names_saved p) (files_of p named) old.files new.files
   pub others : (n : List ℕ) → IsNoneOf n (names_saved p) → new.files.held n ≡ old.files.held n

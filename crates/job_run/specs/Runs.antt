@@ -9,10 +9,10 @@ use Rattle.lowering_laws.specs.Lowered.{limit_of}
 use Rattle.job_run.specs.declared.ends.Ended.{Ended}
 use Rattle.job_run.specs.declared.ends.Ended.TheVariants.{Done, Limit, File, Zero, ReadFault, WriteFault, OutOfMemory}
 use Rattle.job_run.specs.declared.ends.FileError.{FileError}
-use Rattle.job_run.specs.Inputs.{FirstRefusal, InputsFit, InputRefused}
+use Rattle.job_run.specs.Inputs.{FirstRefusal, FitInputs, InputsFit, InputRefused}
 use Rattle.job_run.specs.Part.{AreWhole, AreLeft, IsNoneOf, RaisedAtMost}
 use Rattle.job_run.specs.Plan.{Plan, names_saved}
-use Rattle.job_run.specs.Values.{OnInputs, IsFaulty, MeetsZero, MeetsNone, files_of, saved_lines}
+use Rattle.job_run.specs.Values.{OfGiven, OnInputs, IsFaulty, MeetsZero, MeetsNone, files_of, saved_lines}
 
 -- the graph of the job's blocks passes no limit
 abbrev pub IsSmall : Plan → Type 0
@@ -41,12 +41,16 @@ WritesFail p old new = Rose old.write_faults new.write_faults ⊎ (HasValues p o
 abbrev pub IsRefusedGiven : Plan → View → View → ℕ → FileError → Type 0
 IsRefusedGiven p old new place error = Gives old.gave new.gave (λ holds. FirstRefusal p (map holds p.inputs) place error)
 
+-- Told or not: whatever the files hold that gave what was read, the inputs are as declared.
+abbrev pub IsFitGiven : Plan → View → View → Type 0
+IsFitGiven p old new = Gives old.gave new.gave (λ holds. FitInputs p (map holds p.inputs))
+
 -- why a run ends so
 abbrev pub Cause : Plan → View → View → Ended → Type 0
-Cause p old new Done = IsSmall p × HasValues p old.files
+Cause p old new Done = IsSmall p × HasValues p old.files × OfGiven p old new (MeetsNone p)
 Cause p old new (Limit quantity) = limit_of p.nodes ≡ Some quantity
 Cause p old new (File place error) = IsSmall p × InputRefused p old.files place error × IsRefusedGiven p old new place error
-Cause p old new (Zero node block) = IsSmall p × HasZero p old.files node block
+Cause p old new (Zero node block) = IsSmall p × HasZero p old.files node block × OfGiven p old new (λ named. MeetsZero p named node block)
 Cause p old new ReadFault = IsSmall p × Rose old.read_faults new.read_faults
 Cause p old new WriteFault = IsSmall p × InputsFit p old.files × WritesFail p old new
 Cause p old new OutOfMemory = Unit {0}

@@ -1,6 +1,8 @@
 -- The sequential evaluation: what the nodes hold, which blocks are needed, where a zero divisor is met, and the files that are saved.
 use Rattle.std.specs.Prelude.{◌≡◌, ◌<◌, ℕ, ℤ, pos, List, [], ◌∷◌, ◌++◌, codes, map, slice_index_or, length, unwrap_or, Some, IfSome, true}
-use Rattle.io_edge.specs.View.{Files}
+use Rattle.io_edge.specs.Given.{Gives}
+use Rattle.io_edge.specs.View.{Files, View}
+use Rattle.plain_eval.specs.Eval.{held_in}
 use Rattle.nd_shape.specs.Block.{Array}
 use Rattle.nd_shape.specs.Index.{index_at}
 use Rattle.nd_shape.specs.Shape.{shape_text, comma_list}
@@ -16,7 +18,7 @@ use Rattle.task_graph.specs.Graphs.{shape_of, value}
 use Rattle.lowering_laws.specs.Lowered.{lowered}
 use Rattle.lowering_laws.specs.Named.{layout_of, name_of}
 use Rattle.lowering_laws.specs.Faults.{IsMissing, DividesByZero}
-use Rattle.job_run.specs.Inputs.{HoldArrays, told_all}
+use Rattle.job_run.specs.Inputs.{FitInputs, HoldArrays, told_all}
 use Rattle.job_run.specs.Plan.{Plan, Saved, input_shapes, nodes_saved}
 
 -- the elements of each input, by its number
@@ -34,6 +36,11 @@ cells_at known n = slice_index_or known n (record { shape = []; cells = [] })
 -- a fact of the arrays that the inputs hold, where they are told
 abbrev pub OnInputs : Plan → Files → (List Array → Type 0) → Type 0
 OnInputs p files P = IfSome (told_all files.held p.inputs) (λ contents. (blocks : List Array) → HoldArrays (input_shapes p.nodes) contents blocks → P blocks)
+
+-- Told or not: whatever the inputs' files hold that gave what was read, they are as declared, and this holds of what their arrays hold.
+abbrev pub OfGiven : Plan → View → View → (Named → Type 0) → Type 0
+OfGiven p old new P = Gives old.gave new.gave (λ holds. FitInputs p (map holds p.inputs)
+    × ((blocks : List Array) → HoldArrays (input_shapes p.nodes) (map holds p.inputs) blocks → P (held_in blocks)))
 
 -- ## Needed blocks
 

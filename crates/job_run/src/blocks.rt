@@ -6,12 +6,14 @@ ghost use Rattle.nd_shape.specs.Index.{index_at};
 ghost use Rattle.nd_shape.specs.Region.{Box};
 ghost use Rattle.nd_shape.specs.Shape.{elements};
 ghost use Rattle.chunk_layout.specs.Layouts.{region, lengths, blocks as block_count};
-ghost use Rattle.block_lowering.specs.Jobs.{TellsFeed};
+ghost use Rattle.block_lowering.specs.Jobs.{HaveNamed, TellsFeed};
+ghost use Rattle.io_edge.specs.Given.{Agree};
 ghost use Rattle.lowering_laws.specs.Lowered.{lowered};
 ghost use Rattle.lowering_laws.specs.Named.{layout_of, box_of, name_of};
 ghost use Rattle.saved_files.specs.Filling.{HoldsBox};
 ghost use Rattle.saved_files.specs.Saving.{saving_at};
-ghost use Rattle.job_run.specs.Evaluating.{array_at, node_at, AreOpenFor, AreSameFiles, HasFailed, HasNotFailed, HasLaws, HaltCause, HaltKeeps};
+ghost use Rattle.job_run.specs.Evaluating.{array_at, node_at, AreOpenFor, AreSameFiles, HasFailed};
+ghost use Rattle.job_run.specs.Evaluating.{HasNotFailed, HasLaws, HaltCause, GivenOver, HaltGiven, HaltKeeps};
 ghost use Rattle.job_run.specs.Evaluating.{FilesHold, FilesRight, FilesWhole, HoldsNamed, IsBlockNamed, IsZeroOf, boxes_made};
 ghost use Rattle.job_run.specs.Grouping.{AddsBox, AddsNamed, FilesHeld, IsGroup, waiting_of};
 ghost use Rattle.job_run.specs.Jobs.{plan_of};
@@ -223,6 +225,10 @@ fn next_block<S: Site, E: Elements + Send + Sync + Drop>(
     ensures named { IfOk result (λ b. IsBlockNamed (plan_of job.now) name (arc_value b)) }
     ensures holds { IfOk result (λ b. TellsFeed evaluation.old.job.job.heads (S.In.files evaluation.old.feed)
         → HoldsNamed (plan_of job.now) E.named name (arc_value b)) }
+    ensures agreed { (holds : List ℕ → List ℕ) → Agree holds (S.In.gave evaluation.new.feed) → Agree holds (S.In.gave evaluation.old.feed) }
+    ensures have { (holds : List ℕ → List ℕ) (named : Named) → HaveNamed evaluation.old.job.job.heads (S.In.names evaluation.new.feed) holds named
+        ↔ HaveNamed evaluation.old.job.job.heads (S.In.names evaluation.old.feed) holds named }
+    ensures given { IfErr result (HaltGiven (plan_of job.now) evaluation.old.job.job.heads (S.In.names evaluation.old.feed) (S.In.gave evaluation.new.feed)) }
     ensures cause { IfErr result (HaltCause (plan_of job.now) E.named (TellsFeed evaluation.old.job.job.heads (S.In.files evaluation.old.feed))
         [] (S.In.count evaluation.old.feed) (S.In.count evaluation.new.feed)) }
 {
@@ -269,6 +275,10 @@ fn make_block<S: Site, E: Elements + Send + Sync + Drop>(
         → FilesRight (plan_of job.now) E.named files.new) }
     ensures sound { OnOk result (HasNotFailed files.old → HasNotFailed files.new) }
     ensures keeps { IfErr result (λ halt. HasNotFailed files.old → HaltKeeps files.new halt) }
+    ensures agreed { (holds : List ℕ → List ℕ) → Agree holds (S.In.gave evaluation.new.feed) → Agree holds (S.In.gave evaluation.old.feed) }
+    ensures have { (holds : List ℕ → List ℕ) (named : Named) → HaveNamed evaluation.old.job.job.heads (S.In.names evaluation.new.feed) holds named
+        ↔ HaveNamed evaluation.old.job.job.heads (S.In.names evaluation.old.feed) holds named }
+    ensures given { IfErr result (HaltGiven (plan_of job.now) evaluation.old.job.job.heads (S.In.names evaluation.old.feed) (S.In.gave evaluation.new.feed)) }
     ensures cause { IfErr result (HaltCause (plan_of job.now) E.named (TellsFeed evaluation.old.job.job.heads (S.In.files evaluation.old.feed))
         files.new (S.In.count evaluation.old.feed) (S.In.count evaluation.new.feed)) }
 {
@@ -302,6 +312,12 @@ pub fn make_blocks<S: Site, E: Elements + Send + Sync + Drop>(
     requires sound { HasNotFailed files.old }
     ensures same { AreSameFiles files.old files.new }
     ensures values { OnOk result (TellsFeed evaluation.old.job.job.heads (S.In.files evaluation.old.feed) → MeetsNone (plan_of job.now) E.named) }
+    ensures agreed { (holds : List ℕ → List ℕ) → Agree holds (S.In.gave evaluation.new.feed) → Agree holds (S.In.gave evaluation.old.feed) }
+    ensures have { (holds : List ℕ → List ℕ) (named : Named) → HaveNamed evaluation.old.job.job.heads (S.In.names evaluation.new.feed) holds named
+        ↔ HaveNamed evaluation.old.job.job.heads (S.In.names evaluation.old.feed) holds named }
+    ensures given_values { OnOk result (GivenOver evaluation.old.job.job.heads (S.In.names evaluation.old.feed)
+        (S.In.gave evaluation.new.feed) (MeetsNone (plan_of job.now))) }
+    ensures given { IfErr result (HaltGiven (plan_of job.now) evaluation.old.job.job.heads (S.In.names evaluation.old.feed) (S.In.gave evaluation.new.feed)) }
     ensures whole { OnOk result (TellsFeed evaluation.old.job.job.heads (S.In.files evaluation.old.feed)
         → FilesWhole (plan_of job.now) E.named files.new) }
     ensures right { OnErr result (TellsFeed evaluation.old.job.job.heads (S.In.files evaluation.old.feed)

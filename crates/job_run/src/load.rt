@@ -3,7 +3,8 @@ ghost use Rattle.std.specs.Prelude.{◌≡◌, ◌≤◌, ◌<◌, ◌^◌, leng
 ghost use Rattle.io_edge.specs.Content.{file_at};
 ghost use Rattle.io_edge.specs.Given.{Gives, GivesOf};
 ghost use Rattle.job_run.specs.Inputs.{FitsShape};
-ghost use Rattle.job_run.specs.Loading.{AreHeads, FitNamed, HeadEnds, HeadGiven, IsHeadFor, LoadEnds, LoadGiven};
+ghost use Rattle.npy_codec.specs.Files.{HasHead};
+ghost use Rattle.job_run.specs.Loading.{AreHeads, FitNamed, HaveHeads, HeadEnds, HeadGiven, IsHeadFor, LoadEnds, LoadGiven};
 
 use crate::ends::{Ended, FileError};
 use io_edge::Store;
@@ -32,6 +33,7 @@ fn read_declared<I: Store>(
     ensures kept { OnOk result (I.count store.new ≡ I.count store.old) }
     ensures head { IfOk result (IsHeadFor shape.now (file_at (I.files store.old) input)) }
     ensures given { OnOk result (GivesOf (I.names store.old) input (I.gave store.old) (I.gave store.new) (FitsShape shape.now)) }
+    ensures given_head { IfOk result (λ head. GivesOf (I.names store.old) input (I.gave store.old) (I.gave store.new) (λ bytes. HasHead bytes head)) }
     ensures given_refusal { IfErr result (HeadGiven (I.names store.old) input shape.now (I.gave store.old) (I.gave store.new)) }
     ensures cause { IfErr result (HeadEnds shape.now (file_at (I.files store.old) input) input (I.count store.old) (I.count store.new)) }
 {
@@ -76,6 +78,7 @@ pub fn read_heads<I: Store>(
     ensures heads { IfOk result (λ v. AreHeads shapes.now (I.files store.old) v.items) }
     ensures count { IfOk result (λ v. length v.items ≡ length shapes.now) }
     ensures given { OnOk result (Gives (I.gave store.old) (I.gave store.new) (FitNamed (I.names store.old) shapes.now (length shapes.now))) }
+    ensures given_heads { IfOk result (λ v. Gives (I.gave store.old) (I.gave store.new) (HaveHeads (I.names store.old) v.items)) }
     ensures given_refusal { IfErr result (LoadGiven (I.names store.old) shapes.now (I.gave store.old) (I.gave store.new)) }
     ensures cause { IfErr result (LoadEnds shapes.now (I.files store.old) (I.count store.old) (I.count store.new)) }
 {

@@ -24,6 +24,7 @@ WhereTold p files P = IfSome (told_all files.held p.inputs) (λ contents. P)
 
 -- Why a run ends so, where it ends as other runs do. A zero divisor is met by some needed block: not always the first.
 abbrev pub RanCause : Plan → View → View → Ended → Type 0
+RanCause p old new Done = IsSmall p × HasValues p old.files
 RanCause p old new (Zero node block) = IsSmall p × HasFault p old.files node block
 RanCause p old new WriteFault = IsSmall p × HasValues p old.files × (Rose old.write_faults new.write_faults ⊎ Rose old.print_faults new.print_faults)
 RanCause p old new end = RunCause p old new end

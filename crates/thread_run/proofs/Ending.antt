@@ -6,7 +6,7 @@ use Rattle.small_facts.proofs.Options.{if_some_weaker}
 use Rattle.io_edge.specs.Cause.{Rose}
 use Rattle.io_edge.specs.Content.{Content, PrintsPart, followed_by}
 use Rattle.io_edge.specs.Given.{GivesMore}
-use Rattle.io_edge.proofs.GivenLaws.{more_same, more_then}
+use Rattle.io_edge.proofs.GivenLaws.{given_before, given_later, more_same, more_then}
 use Rattle.io_edge.specs.View.{View, Files, OnlyOut, OnlyReads, Opens, raised_by}
 use Rattle.npy_codec.specs.declared.head.Head.{Head}
 use Rattle.plain_eval.specs.Eval.{held_in}
@@ -18,7 +18,7 @@ use Rattle.job_run.specs.Inputs.{told_all}
 use Rattle.job_run.specs.Lowering.{LowerCause}
 use Rattle.job_run.specs.Part.{AreLeft, AreWhole, IsNoneOf, RaisedAtMost}
 use Rattle.job_run.specs.Plan.{Plan, names_saved}
-use Rattle.job_run.specs.Runs.{AreRight, AreSaved, Created, IsSmall, ReadCause, RunsPlan, StopsPrinting}
+use Rattle.job_run.specs.Runs.{AreRight, AreSaved, Created, IsFitGiven, IsSmall, ReadCause, RunsPlan, StopsPrinting}
 use Rattle.job_run.specs.Told.{named_told}
 use Rattle.job_run.specs.Values.{IsFaulty, MeetsNone, Named, OnInputs, files_of, tasks_of}
 use Rattle.job_run.specs.Wanted.{wanted_of}
@@ -188,23 +188,27 @@ module _ (p : Plan) (w : RunWords) (old mid : View) (files : List Content) (head
 
   -- ### Not all is saved
 
-  pub stopped-ends : (new : View) (end : Ended) → ServesFiles p (feeds w) mid new →
+  pub stopped-ends : (new : View) (end : Ended) → ServesFiles p (feeds w) mid new → IsFitGiven p mid new →
       ServesPart p (named_told files heads) (IsTrue told) (Rose mid.read_faults new.read_faults) (Rose mid.write_faults new.write_faults) mid.files new.files end → RunsByThreads p w old new end
-  stopped-ends new Done f part = absurd part.cause
-  stopped-ends new (Limit quantity) f part = absurd part.cause
-  stopped-ends new (File place error) f part = absurd part.cause
-  stopped-ends new (Zero node block) f part =
+  stopped-ends new Done f given part = absurd part.cause
+  stopped-ends new (Limit quantity) f given part = absurd part.cause
+  stopped-ends new (File place error) f given part = absurd part.cause
+  stopped-ends new (Zero node block) f given part =
       let g = follows new f in
-      ends p w old new (Zero node block) g (a.small, record { inputs = a.fit; zero_at = on-inputs (λ n. IsFaulty p n node block) told is part.cause }) (are-right new.files part.left) g.opened
+      ends p w old new (Zero node block) g (
+        a.small,
+        record { inputs = a.fit; zero_at = on-inputs (λ n. IsFaulty p n node block) told is part.cause },
+        given_before old.gave mid.gave new.gave _ a.only.gave given,
+      ) (are-right new.files part.left) g.opened
       (part.created ∙ ap (raised_by (names_saved p)) a.opens.created) (f.out ∙ a.only.out)
-  stopped-ends new ReadFault f part =
+  stopped-ends new ReadFault f given part =
       let g = follows new f in
       ends p w old new ReadFault g (a.small, rose_before old.read_faults mid.read_faults new.read_faults a.later part.cause) (are-right new.files part.left) g.opened.at_most (created-most new f) (f.out ∙ a.only.out)
-  stopped-ends new WriteFault f part =
+  stopped-ends new WriteFault f given part =
       let g = follows new f in
       ends p w old new WriteFault g (a.small, a.fit, inl (rose_before old.write_faults mid.write_faults new.write_faults (omega (arith, a.only.write_faults)) part.cause)) (are-right new.files part.left) g.opened (created-most new f)
       (inl (f.out ∙ a.only.out))
-  stopped-ends new OutOfMemory f part = let g = follows new f in ends p w old new OutOfMemory g tt (are-right new.files part.left) g.opened.at_most (created-most new f) (f.out ∙ a.only.out)
+  stopped-ends new OutOfMemory f given part = let g = follows new f in ends p w old new OutOfMemory g tt (are-right new.files part.left) g.opened.at_most (created-most new f) (f.out ∙ a.only.out)
 
   -- ### All is saved
 
@@ -229,11 +233,12 @@ module _ (p : Plan) (w : RunWords) (old mid : View) (files : List Content) (head
       prints-run : (Printed : List ℕ → Type 0) → Printed (lines_of p report) → PrintsRun p w old.files Printed
       prints-run Printed printed = record { told = report; asked = asked; of_run = of-run report by; printed = printed }
 
-      pub done-ends : (new : View) (text : List ℕ) → OnlyOut saved new → text ≡ lines_of p report → new.out ≡ followed_by saved.out text → RunsByThreads p w old new Done
-      done-ends new text only lines printed =
+      pub done-ends : (new : View) (text : List ℕ) → IsFitGiven p mid saved → OnlyOut saved new → text ≡ lines_of p report → new.out ≡ followed_by saved.out text → RunsByThreads p w old new Done
+      done-ends new text given only lines printed =
           let S : Files → Type 0 = λ x. AreSaved p old.files x in
           let g = follows-out p w old saved new only (follows saved f) in
-          ends p w old new Done g (a.small, has-values all.values) (subst S (sym only.files) (are-saved saved.files all.whole)) g.opened (ap (λ (x : Files). x.created) only.files ∙ created-all)
+          ends p w old new Done g (a.small, has-values all.values, given_later old.gave saved.gave new.gave _ (given_before old.gave mid.gave saved.gave _ a.only.gave given) (more_same saved.gave new.gave only.gave))
+          (subst S (sym only.files) (are-saved saved.files all.whole)) g.opened (ap (λ (x : Files). x.created) only.files ∙ created-all)
           (prints-run (λ shown. new.out ≡ followed_by old.out shown) (printed ∙ (ap (λ out. followed_by out text) (f.out ∙ a.only.out) ∙ ap (followed_by old.out) lines)))
 
       pub unprinted-ends : (new : View) (text : List ℕ) → OnlyOut saved new → text ≡ lines_of p report → PrintsPart saved.out new.out text → Rose saved.print_faults new.print_faults → RunsByThreads p w old new WriteFault

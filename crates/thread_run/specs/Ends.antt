@@ -13,7 +13,7 @@ use Rattle.job_run.specs.declared.ends.Ended.TheVariants.{Done, Limit, File, Zer
 use Rattle.job_run.specs.Inputs.{InputsFit}
 use Rattle.job_run.specs.Part.{IsNoneOf, RaisedAtMost}
 use Rattle.job_run.specs.Plan.{Plan, names_saved}
-use Rattle.job_run.specs.Runs.{AreRight, AreUntouched, IsSmall, Cause as RunCause, Saves as RunSaves, Created as RunCreated, StopsPrinting}
+use Rattle.job_run.specs.Runs.{AreRight, AreUntouched, IsFitGiven, IsSmall, Cause as RunCause, Saves as RunSaves, Created as RunCreated, StopsPrinting}
 use Rattle.job_run.specs.Values.{OnInputs, IsFaulty, MeetsNone, saved_lines}
 use Rattle.thread_run.specs.Counts.{RaisedBetween, feeds, repeated}
 use Rattle.thread_run.specs.Reports.{IsToldRun}
@@ -36,8 +36,8 @@ WritesFail p old new = Rose old.write_faults new.write_faults ⊎ (HasValues p o
 
 -- Why a run ends so. A zero divisor is met by some needed block: not always the first.
 abbrev pub Cause : Plan → View → View → Ended → Type 0
-Cause p old new Done = IsSmall p × HasValues p old.files
-Cause p old new (Zero node block) = IsSmall p × HasFault p old.files node block
+Cause p old new Done = IsSmall p × HasValues p old.files × IsFitGiven p old new
+Cause p old new (Zero node block) = IsSmall p × HasFault p old.files node block × IsFitGiven p old new
 Cause p old new WriteFault = IsSmall p × InputsFit p old.files × WritesFail p old new
 Cause p old new end = RunCause p old new end
 

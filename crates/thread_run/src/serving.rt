@@ -9,6 +9,9 @@ ghost use Rattle.job_run.specs.Plan.{IsRunnable, input_shapes};
 ghost use Rattle.job_run.specs.Values.{tasks_of};
 ghost use Rattle.job_run.specs.Wanted.{IsWantedOf, wanted_of};
 ghost use Rattle.block_lowering.specs.Jobs.{graph_of};
+ghost use Rattle.io_edge.specs.Given.{OnGiven};
+ghost use Rattle.job_run.specs.Inputs.{FitInputs};
+ghost use Rattle.job_run.specs.Runs.{IsFitGiven};
 ghost use Rattle.node_runner.specs.Runs.{numbers as numbers_of};
 ghost use Rattle.task_graph.specs.Graphs.{shape_of};
 ghost use Rattle.thread_run.specs.Counts.{feeds as feeds_of};
@@ -352,7 +355,9 @@ where
     requires fixed { IsFixed E.named V.told (plan_of job.now).inputs inputs.heads.items (S.view site.old).files }
     requires fresh { S.In.count inputs.store ≡ 0 }
     requires words { AreRunSettings words }
+    requires given { OnGiven (S.In.gave inputs.store) (λ holds. FitInputs (plan_of job.now) (map holds (plan_of job.now).inputs)) }
     ensures files { ServesFiles (plan_of job.now) (feeds_of words) (S.view site.old) (S.view site.new) }
+    ensures given { IsFitGiven (plan_of job.now) (S.view site.old) (S.view site.new) }
     ensures served { OnOk result (ServesAll (plan_of job.now) E.named (IsTrue V.told) (S.view site.old).files (S.view site.new).files) }
     ensures asked { IfOk result (λ told. is_some told ≡ words.report) }
     ensures told { IfOk result (λ told. IfSome told (IsReportBy (label V.told E.named (tasks_of (plan_of job.now)))

@@ -2,6 +2,7 @@ use Rattle.std.proofs.Common.{◌≡◌, ◌∙◌, ap, length, arith}
 use Rattle.io_edge.proofs.GivenLaws.{reads_then}
 use Rattle.job_run.specs.Jobs.{plan_of}
 use Rattle.job_run.specs.Plan.{input_shapes}
+use Rattle.job_run.proofs.Given.{opened_heads}
 use Rattle.job_run.proofs.GivenLoads.{accepted_given}
 use Rattle.job_run.proofs.Loads.{few_shapes, load_cause, loaded_fit}
 use Rattle.job_run.proofs.inputs.open_inputs.Goals as goal
@@ -21,6 +22,10 @@ pub returns-in-Ok-read_heads-clause-given : goal.returns-in-Ok-read_heads-clause
 returns-in-Ok-read_heads-clause-given g c =
     let e : c.deref.result.now ≡ input_shapes c.args.job.now.expr = c.deref.ensures.value ∙ (c.in_ok-shapes.ensures ∙ ap input_shapes c.nodes.ensures.value) in
     accepted_given (plan_of c.args.job.now) (g.S.In.Store.names c.in-Ok.store) c.deref.result.now (g.S.In.Store.gave c.in-Ok.store) (g.S.In.Store.gave c.read_heads.new.store) (rw c.as_slice.ensures.value at c.in-Ok.ensures.named) e c.requires.runs.inputs c.in-Ok-read_heads.ensures.given
+
+pub returns-in-Ok-read_heads-clause-given_heads : goal.returns-in-Ok-read_heads-clause-given_heads
+returns-in-Ok-read_heads-clause-given_heads g c =
+    opened_heads (plan_of c.args.job.now).inputs (g.S.In.Store.names c.in-Ok.store) (g.S.In.Store.gave c.in-Ok.store) (g.S.In.Store.gave c.read_heads.new.store) c.in-Ok-read_heads.heads.items (rw c.as_slice.ensures.value at c.in-Ok.ensures.named) c.in-Ok-read_heads.ensures.given_heads
 
 pub returns-clause-cause : goal.returns-clause-cause
 returns-clause-cause g c =

@@ -10,6 +10,7 @@ returns-in-Err g c = record {
   kept = tt;
   head = tt;
   given = tt;
+  given_head = tt;
   given_refusal = npy_given (g.I.Store.names c.args.store.now) c.args.input (g.I.Store.gave c.args.store.now) (g.I.Store.gave c.read_head.new.store) c.args.shape.now _ (search rules) c.in-Err.ensures.given_refusal;
   cause = search rules;
 }

@@ -47,7 +47,7 @@ returns-in-Err-serve g c =
     } in
     let told : Bool = is_told mid.files p.inputs in
     let is : told ≡ is_told old.files p.inputs = λ i. e.opens.tells i && is_some (told_all (e.opens.held i) p.inputs) in
-    stopped-ends p c.args.words old mid files heads a told is (g.S.Site.view c.serve.new.site) c.in-Err-serve.end c.serve.ensures.files c.in-Err-serve.ensures.stopped
+    stopped-ends p c.args.words old mid files heads a told is (g.S.Site.view c.serve.new.site) c.in-Err-serve.end c.serve.ensures.files c.serve.ensures.given c.in-Err-serve.ensures.stopped
 
 pub returns-in_default : goal.returns-in_default
 returns-in_default g c =
@@ -92,8 +92,8 @@ returns-in-Ok-print_full g c =
     let told : Bool = is_told mid.files p.inputs in
     let is : told ≡ is_told old.files p.inputs = λ i. e.opens.tells i && is_some (told_all (e.opens.held i) p.inputs) in
     done-ends p c.args.words old mid files heads a told is (g.S.Site.view c.serve.new.site) c.serve.ensures.files c.in-Ok-serve.ensures.served
-    c.in-Ok-serve.told c.in-Ok-serve.ensures.asked c.in-Ok-serve.ensures.told (g.S.Site.view c.print_full.new.site) c.as_bytes.result.now c.print_full.ensures.only
-    (◌∙◌ {c = lines_of p c.in-Ok-serve.told} c.as_bytes.ensures.value c.in-Ok-lines.ensures) c.in-Ok-print_full.ensures.printed
+    c.in-Ok-serve.told c.in-Ok-serve.ensures.asked c.in-Ok-serve.ensures.told (g.S.Site.view c.print_full.new.site) c.as_bytes.result.now c.serve.ensures.given
+    c.print_full.ensures.only (◌∙◌ {c = lines_of p c.in-Ok-serve.told} c.as_bytes.ensures.value c.in-Ok-lines.ensures) c.in-Ok-print_full.ensures.printed
 
 pub returns : goal.returns
 returns g c =

@@ -1,4 +1,5 @@
-use Rattle.std.proofs.Common.{ℕ, subst}
+use Rattle.std.proofs.Common.{ℕ, refl, subst}
+use Rattle.io_edge.proofs.GivenLaws.{given_back, given_later}
 use Rattle.io_edge.specs.View.{View}
 use Rattle.job_run.specs.Evaluating.{HasLaws}
 use Rattle.job_run.specs.Jobs.{plan_of}
@@ -26,3 +27,10 @@ returns-clause-files g c =
     let new : View = g.S.Site.view c.run_graph.new.site in
     let F : ℕ → Type 0 = λ n. ServesFiles p n mid new in
     serves-after p (feeds_of c.args.words) old mid new c.give_store.ensures.files c.give_store.ensures.only (c.give_store.ensures.kept c.requires.fresh) (subst F c.plan_in-plan.ensures.feeds c.run_graph.ensures.files)
+
+pub returns-clause-given : goal.returns-clause-given
+returns-clause-given g c =
+    let old : View = g.S.Site.view c.args.site.now in
+    let mid : View = g.S.Site.view c.give_store.new.self in
+    let new : View = g.S.Site.view c.run_graph.new.site in
+    given_later old.gave mid.gave new.gave _ (given_back old.gave old.gave mid.gave (g.S.In.Store.gave c.args.inputs.store) _ refl c.give_store.ensures.gave c.requires.given) c.run_graph.ensures.files.gave
