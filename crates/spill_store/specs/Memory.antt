@@ -1,5 +1,5 @@
 -- The blocks in memory, in the order of use.
-use Rattle.std.specs.Prelude.{◌≡◌, ◌<◌, ◌*◌, ℕ, nat_eq, List, length, Some, Bool}
+use Rattle.std.specs.Prelude.{◌≡◌, ◌≤◌, ◌<◌, ◌*◌, ℕ, nat_eq, List, length, Some, Bool}
 use Rattle.std.specs.List.{sum_by}
 use Rattle.std.specs.Map.{lookup, values_of}
 use Rattle.nd_shape.specs.Block.{Array}
@@ -31,7 +31,8 @@ pub record IsOldest (es : List (ℕ × InMemory)) (key : ℕ) (a : Array) : Type
   pub taken : Bool
   pub last : IsLast es key (record { array = a; taken = taken })
 
--- one of the two blocks that were used least recently
+-- one of the four blocks that were used least recently, of eight at least
 pub record IsNextOut (es : List (ℕ × InMemory)) (key : ℕ) (a : Array) : Type 0 where
   pub taken : Bool
+  pub several : 8 ≤ length es
   pub near : IsNearEnd es key (record { array = a; taken = taken })

@@ -11,10 +11,10 @@ pub record IsLast {V : Type 0} (es : List (ℕ × V)) (key : ℕ) (value : V) : 
   pub last : es ≡ remove_entry (nat_eq key) es ++ (key, value) ∷ []
   pub there : lookup (nat_eq key) es ≡ Some value
 
--- one of the two least recently used entries
+-- one of the four least recently used entries
 pub record IsNearEnd {V : Type 0} (es : List (ℕ × V)) (key : ℕ) (value : V) : Type 0 where
   pub at : ℕ
-  pub near : length es ≤ at + 2
+  pub near : length es ≤ at + 4
   pub there : slice_get es at ≡ Some (key, value)
 
 -- one key has another value, or none, and each other key the one that it had

@@ -87,17 +87,6 @@ impl Held {
     }
 }
 
-// A block with its key, shared, or none where memory is wanting.
-fn shared(key: u32, held: &Held) -> Option<(u32, Arc<Block>)>
-    ensures key { IfSome result (λ e. e.0 ≡ key) }
-    ensures block { IfSome result (λ e. e.1.value ≡ held.now.array) }
-{
-    match held.share() {
-        Ok(block) => Some((key, block)),
-        Err(_) => None,
-    }
-}
-
 // The bytes of the block of a key, or 0 where there is none.
 fn size_at(blocks: &Table<Held>, key: u32) -> u64
     ensures size { result ≡ unwrap_or (option_map (λ h. size_of_block h.array) (lookup (nat_eq key) blocks.now)) 0 }
@@ -183,21 +172,19 @@ impl Memory {
         }
     }
 
-    /// The same one, which both share from then on. There is none where memory is wanting.
-    pub(crate) fn share_oldest(&self) -> Option<(u32, Arc<Block>)>
+    /// The block that was used least recently but for three, where there are eight, which both share from then on. There is none
+    /// where memory is wanting.
+    pub(crate) fn share_late(&self) -> Option<(u32, Arc<Block>)>
         ensures { IfSome result (λ e. IsNextOut self.now e.0 e.1.value) }
     {
-        let (key, held) = self.blocks.last()?;
-        shared(key, held)
-    }
-
-    /// The block that was used least recently but for that one, which both share from then on. There is none where memory is
-    /// wanting.
-    pub(crate) fn share_second(&self) -> Option<(u32, Arc<Block>)>
-        ensures { IfSome result (λ e. IsNextOut self.now e.0 e.1.value) }
-    {
-        let (key, held) = self.blocks.last_but_one()?;
-        shared(key, held)
+        if self.blocks.len() < 8 {
+            return None;
+        }
+        let (key, held) = self.blocks.fourth_last()?;
+        match held.share() {
+            Ok(block) => Some((key, block)),
+            Err(_) => None,
+        }
     }
 
     /// Whether the blocks and one more that is as long as this one have more than six tenths of so many bytes. No memory.

@@ -133,16 +133,16 @@ impl<D: Disk> SpillStore<D> {
         }
     }
 
-    /// A block that is about to go to the disk, so that its digest can be made outside of the store, which both share from then
-    /// on: one of the two in memory that were used least recently, where one goes once one more is put that is as long. It is
-    /// given once, and not where its digest is known. There is none where memory is wanting.
+    /// A block that goes to the disk soon, so that its digest can be made outside of the store, which both share from then on: of
+    /// eight in memory at least the one that was used least recently but for three, where one goes once one more is put that is
+    /// as long. It is given once, and not where its digest is known. There is none where memory is wanting.
     pub fn next_out(&mut self) -> Option<(u32, Arc<Block>)>
         ensures same { self.new ≡ self.old }
         ensures full { IfSome result (λ e. IsFull D.view self.old e.1.value) }
         ensures next { IfSome result (λ e. IsNextOut self.old.memory e.0 e.1.value) }
     {
-        let (key, block) = self.unprepared()?;
-        if self.promise(key) {
+        let (key, block) = self.memory.share_late()?;
+        if self.is_due(key, &block) && self.promise(key) {
             Some((key, block))
         } else {
             None
@@ -185,23 +185,6 @@ impl<D: Disk> SpillStore<D> {
         match shelf {
             Some(shelf) => Some(shelf.into_disk()),
             None => None,
-        }
-    }
-
-    // The first of the two blocks that were used least recently which goes soon and of which nothing is known.
-    fn unprepared(&self) -> Option<(u32, Arc<Block>)>
-        ensures much { IfSome result (λ e. 6 * self.now.limit < 10 * (bytes_in self.now.memory + size_of_block e.1.value)) }
-        ensures next { IfSome result (λ e. IsNextOut self.now.memory e.0 e.1.value) }
-    {
-        let (key, block) = self.memory.share_oldest()?;
-        if self.is_due(key, &block) {
-            return Some((key, block));
-        }
-        let (key, block) = self.memory.share_second()?;
-        if self.is_due(key, &block) {
-            Some((key, block))
-        } else {
-            None
         }
     }
 

@@ -84,8 +84,7 @@ impl<V: Drop> Table<V> {
 
     /// The least recently used entry, if there is one. No memory.
     pub(crate) fn last(&self) -> Option<(u32, &V)>
-        ensures last { MatchOption result (self.now ≡ []) (λ e. IsLast self.now e.0 e.1.now) }
-        ensures near { IfSome result (λ e. IsNearEnd self.now e.0 e.1.now) }
+        ensures { MatchOption result (self.now ≡ []) (λ e. IsLast self.now e.0 e.1.now) }
     {
         match self.cache.peek_lru() {
             Some((key, value)) => Some((*key, value)),
@@ -93,11 +92,13 @@ impl<V: Drop> Table<V> {
         }
     }
 
-    /// The entry that is the least recently used one but for the last, if there are two. No memory.
-    pub(crate) fn last_but_one(&self) -> Option<(u32, &V)>
+    /// The least recently used entry but for three, if there are four. No memory.
+    pub(crate) fn fourth_last(&self) -> Option<(u32, &V)>
         ensures { IfSome result (λ e. IsNearEnd self.now e.0 e.1.now) }
     {
         let mut entries = self.cache.iter();
+        entries.next_back()?;
+        entries.next_back()?;
         entries.next_back()?;
         match entries.next_back() {
             Some((key, value)) => Some((*key, value)),
