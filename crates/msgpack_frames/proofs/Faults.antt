@@ -77,17 +77,17 @@ means_within S S' D D' H H' (Some (errors.NotUtf8 at)) keeps deep short m = m
 means_within S S' D D' H H' (Some errors.OutOfMemory) keeps deep short m = m
 
 -- two parts, the first one first
-means_both : (S1 S2 S D1 D2 D H1 H2 H : Type 0) (f g : Option MpError) → (S1 → S2 → S) → (D1 → D) → (D2 → D) → (H1 → H2 → H) → (H → H1 × H2)
-    → Means S1 D1 H1 f → Means S2 D2 H2 g → Means S D H (first_fault f g)
-means_both S1 S2 S D1 D2 D H1 H2 H None g shallow first second short parts m n = means_within S2 S D2 D H2 H g (λ s h. (shallow m.0 s, short m.1 h)) second (λ h. (parts h).1) n
-means_both S1 S2 S D1 D2 D H1 H2 H (Some errors.Depth) g shallow first second short parts m n = first m
-means_both S1 S2 S D1 D2 D H1 H2 H (Some errors.Limit) g shallow first second short parts m n = λ h. m (parts h).0
-means_both S1 S2 S D1 D2 D H1 H2 H (Some errors.Short) g shallow first second short parts m n = m
-means_both S1 S2 S D1 D2 D H1 H2 H (Some (errors.Float at)) g shallow first second short parts m n = m
-means_both S1 S2 S D1 D2 D H1 H2 H (Some (errors.Ext at)) g shallow first second short parts m n = m
-means_both S1 S2 S D1 D2 D H1 H2 H (Some (errors.Reserved at)) g shallow first second short parts m n = m
-means_both S1 S2 S D1 D2 D H1 H2 H (Some (errors.NotUtf8 at)) g shallow first second short parts m n = m
-means_both S1 S2 S D1 D2 D H1 H2 H (Some errors.OutOfMemory) g shallow first second short parts m n = m
+means_both : (SA SB S DA DB D HA HB H : Type 0) (f g : Option MpError) → (SA → SB → S) → (DA → D) → (DB → D) → (HA → HB → H) → (H → HA × HB)
+    → Means SA DA HA f → Means SB DB HB g → Means S D H (first_fault f g)
+means_both SA SB S DA DB D HA HB H None g shallow first second short parts m n = means_within SB S DB D HB H g (λ s h. (shallow m.0 s, short m.1 h)) second (λ h. (parts h).1) n
+means_both SA SB S DA DB D HA HB H (Some errors.Depth) g shallow first second short parts m n = first m
+means_both SA SB S DA DB D HA HB H (Some errors.Limit) g shallow first second short parts m n = λ h. m (parts h).0
+means_both SA SB S DA DB D HA HB H (Some errors.Short) g shallow first second short parts m n = m
+means_both SA SB S DA DB D HA HB H (Some (errors.Float at)) g shallow first second short parts m n = m
+means_both SA SB S DA DB D HA HB H (Some (errors.Ext at)) g shallow first second short parts m n = m
+means_both SA SB S DA DB D HA HB H (Some (errors.Reserved at)) g shallow first second short parts m n = m
+means_both SA SB S DA DB D HA HB H (Some (errors.NotUtf8 at)) g shallow first second short parts m n = m
+means_both SA SB S DA DB D HA HB H (Some errors.OutOfMemory) g shallow first second short parts m n = m
 
 len_means : (n : ℕ) (deep : Type 0) → Means (Unit {0}) deep (n ≤ max_len) (len_fault n)
 len_means n deep = cond_both (ltb max_len n) (Some errors.Limit) None (Means (Unit {0}) deep (n ≤ max_len)) (λ e. λ h. omega (arith, ltb-true max_len n e)) (λ e. (tt, ltb-false max_len n e))
