@@ -10,8 +10,6 @@ use Rattle.cluster_msgs.specs.Dags.{IsEarlier}
 use Rattle.cluster_msgs.specs.Values.{with_first, all_of, val_step, val, is_true, cone_step, cone, faulty}
 use Rattle.cluster_msgs.proofs.Dags.{dag-step, dag-induction, all-weaker, pair-all}
 
--- ## Tests
-
 -- ## Lists
 
 any-map : {A : Type 0} (f : A → Bool) (xs : List A) → list_any is_true (map f xs) ≡ list_any f xs

@@ -9,7 +9,7 @@ use Rattle.npy_codec.specs.Files.{HasHead}
 use Rattle.plain_eval.specs.Eval.{block_at, held_in}
 use Rattle.block_lowering.specs.Jobs.{FitsFeed, HaveNamed, files_given}
 use Rattle.job_run.specs.Inputs.{HoldArrays, HoldsArray}
-use Rattle.job_run.specs.Loading.{AreHeads, HaveHeads, IsHeadFor}
+use Rattle.job_run.specs.Loading.{AreHeads, HaveHeadsNamed, IsHeadFor}
 use Rattle.job_run.specs.Plan.{Plan, input_shapes}
 use Rattle.job_run.specs.Told.{array_told, arrays_told}
 use Rattle.job_run.proofs.GivenLoads.{mapped_at}
@@ -21,30 +21,30 @@ use Rattle.job_run.proofs.Told.{held_array}
 -- ## Heads that are read one after another
 
 -- no heads were read
-pub no_heads : (names : List (List ℕ)) (heads : List Head) (gave : List Piece) → heads ≡ [] → Gives gave gave (HaveHeads names heads)
+pub no_heads : (names : List (List ℕ)) (heads : List Head) (gave : List Piece) → heads ≡ [] → Gives gave gave (HaveHeadsNamed names heads)
 no_heads names heads gave e =
-    let G : List Head → Type 0 = λ hs. Gives gave gave (HaveHeads names hs) in
-    subst G (sym e) (given_any gave gave (HaveHeads names []) (λ holds. record { each = λ k none h. absurd (omega (arith, h)) }) (more_same gave gave refl))
+    let G : List Head → Type 0 = λ hs. Gives gave gave (HaveHeadsNamed names hs) in
+    subst G (sym e) (given_any gave gave (HaveHeadsNamed names []) (λ holds. record { each = λ k none h. absurd (omega (arith, h)) }) (more_same gave gave refl))
 
-head_next : (names : List (List ℕ)) (heads : List Head) (head : Head) (holds : List ℕ → List ℕ) → HaveHeads names heads holds → HasHead (holds (get_or names (length heads) [])) head → HaveHeads names (heads ++ head ∷ []) holds
+head_next : (names : List (List ℕ)) (heads : List Head) (head : Head) (holds : List ℕ → List ℕ) → HaveHeadsNamed names heads holds → HasHead (holds (get_or names (length heads) [])) head → HaveHeadsNamed names (heads ++ head ∷ []) holds
 head_next names heads head holds have here = record {
   each = λ j none h. pushed (λ i x. HasHead (holds (get_or names i [])) x) heads head none (λ i b. have.each i none b) here j h;
 }
 
 -- the head of one file more was read
-pub heads_given : (names : List (List ℕ)) (old mid new : List Piece) (heads after : List Head) (head : Head) (k : ℕ) → length heads ≡ k → after ≡ heads ++ head ∷ [] → Gives old mid (HaveHeads names heads) → GivesOf names k mid new (λ bytes. HasHead bytes head) →
-    Gives old new (HaveHeads names after)
+pub heads_given : (names : List (List ℕ)) (old mid new : List Piece) (heads after : List Head) (head : Head) (k : ℕ) → length heads ≡ k → after ≡ heads ++ head ∷ [] → Gives old mid (HaveHeadsNamed names heads) → GivesOf names k mid new (λ bytes. HasHead bytes head) →
+    Gives old new (HaveHeadsNamed names after)
 heads_given names old mid new heads after head k count is before here =
     let K : ℕ → Type 0 = λ i. GivesOf names i mid new (λ bytes. HasHead bytes head) in
-    let G : List Head → Type 0 = λ hs. Gives old new (HaveHeads names hs) in
+    let G : List Head → Type 0 = λ hs. Gives old new (HaveHeadsNamed names hs) in
     subst G (sym is)
-    (given_both old mid new (HaveHeads names heads) (λ holds. HasHead (holds (get_or names (length heads) [])) head) (HaveHeads names (heads ++ head ∷ [])) (λ holds have this. head_next names heads head holds have this) before (subst K (sym count) here))
+    (given_both old mid new (HaveHeadsNamed names heads) (λ holds. HasHead (holds (get_or names (length heads) [])) head) (HaveHeadsNamed names (heads ++ head ∷ [])) (λ holds have this. head_next names heads head holds have this) before (subst K (sym count) here))
 
 -- what the inputs hold that gave all that a store gave has these heads
-pub opened_heads : (inputs names : List (List ℕ)) (old new : List Piece) (heads : List Head) → names ≡ inputs → Gives old new (HaveHeads names heads) → OnGiven new (HaveHeads inputs heads)
+pub opened_heads : (inputs names : List (List ℕ)) (old new : List Piece) (heads : List Head) → names ≡ inputs → Gives old new (HaveHeadsNamed names heads) → OnGiven new (HaveHeadsNamed inputs heads)
 opened_heads inputs names old new heads is g =
-    let T : List (List ℕ) → Type 0 = λ ns. Gives old new (HaveHeads ns heads) in
-    given_on old new (HaveHeads inputs heads) (subst T is g)
+    let T : List (List ℕ) → Type 0 = λ ns. Gives old new (HaveHeadsNamed ns heads) in
+    given_on old new (HaveHeadsNamed inputs heads) (subst T is g)
 
 -- ## The elements of the inputs' arrays
 
@@ -59,7 +59,7 @@ files_count [] holds = refl
 files_count (name ∷ names) holds = omega (arith, files_count names holds)
 
 -- the heads are those of these files too
-heads_of_given : (shapes names : List (List ℕ)) (files : List Content) (heads : List Head) (holds : List ℕ → List ℕ) → length heads ≡ length names → AreHeads shapes files heads → HaveHeads names heads holds → AreHeads shapes (files_given names holds) heads
+heads_of_given : (shapes names : List (List ℕ)) (files : List Content) (heads : List Head) (holds : List ℕ → List ℕ) → length heads ≡ length names → AreHeads shapes files heads → HaveHeadsNamed names heads holds → AreHeads shapes (files_given names holds) heads
 heads_of_given shapes names files heads holds count are have = record {
   each = λ k none h.
       let head : Head = get_or heads k none in
@@ -70,7 +70,7 @@ heads_of_given shapes names files heads holds count are have = record {
 }
 
 -- the arrays of these files
-arrays_of_given : (shapes names : List (List ℕ)) (heads : List Head) (holds : List ℕ → List ℕ) → length names ≡ length shapes → length heads ≡ length shapes → AreHeads shapes (files_given names holds) heads → HaveHeads names heads holds →
+arrays_of_given : (shapes names : List (List ℕ)) (heads : List Head) (holds : List ℕ → List ℕ) → length names ≡ length shapes → length heads ≡ length shapes → AreHeads shapes (files_given names holds) heads → HaveHeadsNamed names heads holds →
     HoldArrays shapes (map holds names) (arrays_told (files_given names holds) heads)
 arrays_of_given shapes names heads holds declared count are have =
     let files : List Content = files_given names holds in
@@ -90,7 +90,7 @@ arrays_of_given shapes names heads holds declared count are have =
 
 -- Files that have the heads that were read have the elements of the arrays that they hold.
 pub have_named : (p : Plan) (files : List Content) (heads : List Head) (holds : List ℕ → List ℕ) (blocks : List Array) → length p.inputs ≡ length (input_shapes p.nodes) → AreHeads (input_shapes p.nodes) files heads → length heads ≡ length (input_shapes p.nodes) →
-    HaveHeads p.inputs heads holds → HoldArrays (input_shapes p.nodes) (map holds p.inputs) blocks → HaveNamed heads p.inputs holds (held_in blocks)
+    HaveHeadsNamed p.inputs heads holds → HoldArrays (input_shapes p.nodes) (map holds p.inputs) blocks → HaveNamed heads p.inputs holds (held_in blocks)
 have_named p files heads holds blocks declared are count have hold =
     let shapes : List (List ℕ) = input_shapes p.nodes in
     let given : List Content = files_given p.inputs holds in

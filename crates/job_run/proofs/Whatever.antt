@@ -7,7 +7,7 @@ use Rattle.npy_codec.specs.declared.head.Head.{Head}
 use Rattle.plain_eval.specs.Eval.{held_in}
 use Rattle.job_run.specs.Evaluating.{GivenOver}
 use Rattle.job_run.specs.Inputs.{FitInputs}
-use Rattle.job_run.specs.Loading.{AreHeads, HaveHeads}
+use Rattle.job_run.specs.Loading.{AreHeads, HaveHeadsNamed}
 use Rattle.job_run.specs.Plan.{Plan, input_shapes}
 use Rattle.job_run.specs.Values.{Named, OfGiven}
 use Rattle.job_run.proofs.Given.{have_named}
@@ -18,7 +18,7 @@ pub record Accepted (p : Plan) (files : List Content) (heads : List Head) (opene
   pub heads_are : AreHeads (input_shapes p.nodes) files heads
   pub count : length heads ≡ length (input_shapes p.nodes)
   pub fit : OnGiven opened (λ holds. FitInputs p (map holds p.inputs))
-  pub have : OnGiven opened (HaveHeads p.inputs heads)
+  pub have : OnGiven opened (HaveHeadsNamed p.inputs heads)
 
 -- what holds of the elements that the files have holds of those that their arrays have
 pub of_given : (p : Plan) (old new : View) (files : List Content) (heads : List Head) (opened store : List Piece) (P : Named → Type 0) → Accepted p files heads opened → ((holds : List ℕ → List ℕ) → Agree holds store → Agree holds opened) →

@@ -49,7 +49,7 @@ pub record FitNamed (names shapes : List (List ℕ)) (count : ℕ) (holds : List
   pub each : (k : ℕ) → k < count → FitsShape (slice_index_or shapes k []) (holds (slice_index_or names k []))
 
 -- the files of the first names have these heads
-pub record HaveHeads (names : List (List ℕ)) (heads : List Head) (holds : List ℕ → List ℕ) : Type 0 where
+pub record HaveHeadsNamed (names : List (List ℕ)) (heads : List Head) (holds : List ℕ → List ℕ) : Type 0 where
   pub each : (k : ℕ) (none : Head) → k < length heads → HasHead (holds (slice_index_or names k [])) (slice_index_or heads k none)
 
 -- the file of the name at this place is refused, and those before it are as declared

@@ -5,7 +5,7 @@ ghost use Rattle.job_run.specs.Inputs.{FitInputs};
 ghost use Rattle.block_lowering.specs.Jobs.{FitsFeed, IsJob, TellsFeed};
 ghost use Rattle.job_run.specs.Evaluating.{EvaluatesInputs};
 ghost use Rattle.job_run.specs.Jobs.{plan_of};
-ghost use Rattle.job_run.specs.Loading.{AreHeads, HaveHeads};
+ghost use Rattle.job_run.specs.Loading.{AreHeads, HaveHeadsNamed};
 ghost use Rattle.job_run.specs.Lowering.{IsGraphOf};
 ghost use Rattle.job_run.specs.Plan.{IsRunnable, input_shapes};
 ghost use Rattle.job_run.specs.Starting.{AreOfShapes, IsJobOver, end_of};
@@ -80,7 +80,7 @@ pub fn evaluate<S: Site, E: Elements + Send + Sync + Drop>(
     requires fresh { S.In.count inputs.store ≡ 0 }
     requires named { S.In.names inputs.store ≡ (plan_of job.now).inputs }
     requires given { OnGiven (S.In.gave inputs.store) (λ holds. FitInputs (plan_of job.now) (map holds (plan_of job.now).inputs)) }
-    requires given_heads { OnGiven (S.In.gave inputs.store) (HaveHeads (plan_of job.now).inputs inputs.heads.items) }
+    requires given_heads { OnGiven (S.In.gave inputs.store) (HaveHeadsNamed (plan_of job.now).inputs inputs.heads.items) }
     ensures { EvaluatesInputs (plan_of job.now) E.named (TellsFeed inputs.heads.items (S.In.files inputs.store)) (S.view site.old) (S.view site.new) result }
 {
     laws_of_start(job);

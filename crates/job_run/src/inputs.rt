@@ -5,7 +5,7 @@ ghost use Rattle.io_edge.specs.View.{Opens, OnlyReads, Shows, raised_by};
 ghost use Rattle.array_expr.specs.Elem.{is_input};
 ghost use Rattle.job_run.specs.Inputs.{FitInputs, InputsFit};
 ghost use Rattle.job_run.specs.Jobs.{plan_of};
-ghost use Rattle.job_run.specs.Loading.{HaveHeads, AreHeads};
+ghost use Rattle.job_run.specs.Loading.{HaveHeadsNamed, AreHeads};
 ghost use Rattle.job_run.specs.Plan.{IsRunnable, input_shapes};
 ghost use Rattle.job_run.specs.Runs.{ReadCause};
 
@@ -67,7 +67,7 @@ pub fn open_inputs<S: Site>(alloc: Global, site: &mut S, job: &Job) -> Result<In
     ensures fresh { IfOk result (λ i. S.In.count i.store ≡ 0) }
     ensures named { IfOk result (λ i. S.In.names i.store ≡ (plan_of job.now).inputs) }
     ensures given { IfOk result (λ i. OnGiven (S.In.gave i.store) (λ holds. FitInputs (plan_of job.now) (map holds (plan_of job.now).inputs))) }
-    ensures given_heads { IfOk result (λ i. OnGiven (S.In.gave i.store) (HaveHeads (plan_of job.now).inputs i.heads.items)) }
+    ensures given_heads { IfOk result (λ i. OnGiven (S.In.gave i.store) (HaveHeadsNamed (plan_of job.now).inputs i.heads.items)) }
     ensures only { OnlyReads (S.view site.old) (S.view site.new) }
     ensures later { (S.view site.old).read_faults ≤ (S.view site.new).read_faults }
     ensures cause { IfErr result (λ e. ReadCause (plan_of job.now) (S.view site.old) (S.view site.new) e) }

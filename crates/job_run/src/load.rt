@@ -4,7 +4,7 @@ ghost use Rattle.io_edge.specs.Content.{file_at};
 ghost use Rattle.io_edge.specs.Given.{Gives, GivesOf};
 ghost use Rattle.job_run.specs.Inputs.{FitsShape};
 ghost use Rattle.npy_codec.specs.Files.{HasHead};
-ghost use Rattle.job_run.specs.Loading.{AreHeads, FitNamed, HaveHeads, HeadEnds, HeadGiven, IsHeadFor, LoadEnds, LoadGiven};
+ghost use Rattle.job_run.specs.Loading.{AreHeads, FitNamed, HaveHeadsNamed, HeadEnds, HeadGiven, IsHeadFor, LoadEnds, LoadGiven};
 
 use crate::ends::{Ended, FileError};
 use io_edge::Store;
@@ -78,7 +78,7 @@ pub fn read_heads<I: Store>(
     ensures heads { IfOk result (λ v. AreHeads shapes.now (I.files store.old) v.items) }
     ensures count { IfOk result (λ v. length v.items ≡ length shapes.now) }
     ensures given { OnOk result (Gives (I.gave store.old) (I.gave store.new) (FitNamed (I.names store.old) shapes.now (length shapes.now))) }
-    ensures given_heads { IfOk result (λ v. Gives (I.gave store.old) (I.gave store.new) (HaveHeads (I.names store.old) v.items)) }
+    ensures given_heads { IfOk result (λ v. Gives (I.gave store.old) (I.gave store.new) (HaveHeadsNamed (I.names store.old) v.items)) }
     ensures given_refusal { IfErr result (LoadGiven (I.names store.old) shapes.now (I.gave store.old) (I.gave store.new)) }
     ensures cause { IfErr result (LoadEnds shapes.now (I.files store.old) (I.count store.old) (I.count store.new)) }
 {
