@@ -1,19 +1,19 @@
 //! The turns of the nodes of a run.
 
 use crate::label::{Fed, RunLabel, RunName};
-use crate::tasks::{Lent, Returned, Running, lend, run_lent};
+use crate::tasks::{Lent, Returned, Running, run_lent};
 use crate::watching::Watch;
-use cluster_msgs::JobSpec;
+use cluster_msgs::{JobSpec, Label};
 use driver_rows::{Attends, ClientNews, SchedulerNews, Schedules, WorkerNews, Works};
 use io_edge::Gate;
 use node_states::{
-    BlockStore, ClientNode, ClientTurn, Course, SchedulerNode, SchedulerTurn, TaskEnd, Why,
-    WorkerNode, WorkerStep, WorkerTurn,
+    BlockStore, ClientNode, ClientTurn, Course, Prepared, SchedulerNode, SchedulerTurn, TaskEnd,
+    Why, WorkerNode, WorkerStep, WorkerTurn,
 };
 use std::sync::Wait;
 use turn_cell::{Act, Stamps};
 
-/// A task of so much work in bytes, and more, is long, and each with a block to be prepared.
+/// A task of so much work in bytes, and more, is long, and so is what is prepared of its block.
 const LONG: u64 = 32_768;
 
 impl<'a, J: JobSpec, G: Gate, K: RunName<J>> Schedules<
@@ -53,6 +53,18 @@ fn news(course: Course, joined: u32) -> SchedulerNews {
     }
 }
 
+/// Whether a worker's turn made an event, and what it lends.
+fn lent<B: Drop, L: Label<Block = B>, F: Drop>(
+    worker: u32,
+    step: WorkerStep<B, L, F>,
+) -> (bool, Option<Lent<B, L, F>>) {
+    match step {
+        WorkerStep::Went(moved) => (moved, None),
+        WorkerStep::Started(task) => (true, Some(Lent::Runs { worker, task })),
+        WorkerStep::Prepares(key, block) => (false, Some(Lent::Prepares { key, block })),
+    }
+}
+
 impl<'a, J: JobSpec, G: Gate, K: RunName<J>, S: BlockStore<J::Block, RunLabel<J, K>>> Works<
     WorkerNode<J::Block, RunLabel<J, K>, Fed<J, K>, S>,
     RunLabel<J, K>,
@@ -76,15 +88,11 @@ impl<'a, J: JobSpec, G: Gate, K: RunName<J>, S: BlockStore<J::Block, RunLabel<J,
             joined,
             dead: ended,
         };
-        let WorkerStep {
-            moved,
-            task,
-            next_out,
-        } = turn.act(state);
+        let (moved, task) = lent(worker, turn.act(state));
         WorkerNews {
             moved,
             ended: state.ended(),
-            task: lend(worker, task, next_out),
+            task,
         }
     }
 
@@ -106,12 +114,13 @@ impl<'a, J: JobSpec, G: Gate, K: RunName<J>, S: BlockStore<J::Block, RunLabel<J,
     }
 
     fn is_long(&self, task: &Lent<J::Block, RunLabel<J, K>, Fed<J, K>>) -> bool {
-        if task.next_out.is_some() {
-            return true;
-        }
+        let key = match task {
+            Lent::Runs { task, .. } => task.key,
+            Lent::Prepares { key, .. } => *key,
+        };
         let graph = self.job.shape();
         graph.sound();
-        task.task.key < graph.keys() && graph.work(task.task.key) >= LONG
+        key < graph.keys() && graph.work(key) >= LONG
     }
 
     fn run(
@@ -130,15 +139,18 @@ impl<'a, J: JobSpec, G: Gate, K: RunName<J>, S: BlockStore<J::Block, RunLabel<J,
         stamps: &mut Stamps,
         done: Returned<J::Block, RunLabel<J, K>, Fed<J, K>, S::Ready>,
     ) {
-        let Returned { made, feed, ready } = done;
-        let turn = TaskEnd {
-            rt,
-            stamps,
-            made,
-            feed,
-            ready,
-        };
-        turn.act(state);
+        match done {
+            Returned::Ran { made, feed } => {
+                let turn = TaskEnd {
+                    rt,
+                    stamps,
+                    made,
+                    feed,
+                };
+                turn.act(state);
+            }
+            Returned::Prepared(ready) => Prepared { ready }.act(state),
+        }
     }
 }
 

@@ -26,20 +26,21 @@ pub struct Running<'a, J: JobSpec, G: Gate, K: RunName<J>> {
     ghost named: { K.job ≡ Some job.now },
 }
 
-/// A task that a worker lends, and a block that is to be prepared beside it, since it is likely to go out of the worker's store soon.
+/// What a worker lends, to be done outside of its turns: a task, or a block with its key, of which its store needs something prepared.
 #[derive(Drop)]
-pub struct Lent<B: Drop, L: Label<Block = B>, F: Drop> {
-    pub worker: u32,
-    pub task: Task<B, L, F>,
-    pub next_out: Option<(u32, Arc<B>)>,
+pub enum Lent<B: Drop, L: Label<Block = B>, F: Drop> {
+    Runs { worker: u32, task: Task<B, L, F> },
+    Prepares { key: u32, block: Arc<B> },
 }
 
-/// What a task left: what it made, its feed, and what was prepared beside it.
+/// What came of that: what a task made, and its feed, or what was prepared.
 #[derive(Drop)]
-pub struct Returned<B: Drop, L: Label<Block = B>, F: Drop, Y: Drop> {
-    pub made: Result<Finished<B, L>, RunFail>,
-    pub feed: F,
-    pub ready: Option<Y>,
+pub enum Returned<B: Drop, L: Label<Block = B>, F: Drop, Y: Drop> {
+    Ran {
+        made: Result<Finished<B, L>, RunFail>,
+        feed: F,
+    },
+    Prepared(Y),
 }
 
 impl<'a, J: JobSpec, G: Gate, K: RunName<J>> Running<'a, J, G, K> {
@@ -107,23 +108,7 @@ impl<'a, J: JobSpec, G: Gate, K: RunName<J>> Operates<J::Block, RunLabel<J, K>, 
     }
 }
 
-/// A worker lends a task, if it started one, and the block that is to be prepared beside it.
-pub fn lend<B: Drop, L: Label<Block = B>, F: Drop>(
-    worker: u32,
-    task: Option<Task<B, L, F>>,
-    next_out: Option<(u32, Arc<B>)>,
-) -> Option<Lent<B, L, F>> {
-    match task {
-        Some(task) => Some(Lent {
-            worker,
-            task,
-            next_out,
-        }),
-        None => None,
-    }
-}
-
-/// Runs a task, and tells of it before and after. Before that it prepares, outside of the turns, what is likely to go out of the worker's store.
+/// Does what a worker lends.
 pub fn run_lent<B, L, F, T, S>(
     alloc: Global,
     operates: &T,
@@ -136,27 +121,28 @@ where
     T: Operates<B, L, F>,
     S: BlockStore<B, L>,
 {
-    let Lent {
-        worker,
-        task,
-        next_out,
-    } = lent;
-    let ready = prepared::<B, L, S>(alloc, next_out);
+    match lent {
+        Lent::Runs { worker, task } => {
+            let (made, feed) = run_told(alloc, operates, worker, task);
+            Returned::Ran { made, feed }
+        }
+        Lent::Prepares { key, block } => Returned::Prepared(S::prepare(alloc, key, block)),
+    }
+}
+
+/// Runs a task, and tells of it before and after.
+fn run_told<B: Drop, L: Label<Block = B>, F: Drop, T: Operates<B, L, F>>(
+    alloc: Global,
+    operates: &T,
+    worker: u32,
+    task: Task<B, L, F>,
+) -> (Result<Finished<B, L>, RunFail>, F) {
     let Task { key, inputs, feed } = task;
     let mut feed = feed;
     operates.tell(Point::Started { worker, key });
     let made = run_task(alloc, operates, key, inputs, &mut feed);
     operates.tell(Point::Ended { worker, key });
-    Returned { made, feed, ready }
-}
-
-/// What is prepared of a block that is likely to go out, if there is one.
-fn prepared<B: Drop, L: Label<Block = B>, S: BlockStore<B, L>>(
-    alloc: Global,
-    next_out: Option<(u32, Arc<B>)>,
-) -> Option<S::Ready> {
-    let (key, block) = next_out?;
-    S::prepare(alloc, key, block)
+    (made, feed)
 }
 
 /// Runs a key's operation on the blocks of its dependencies. What it makes fits the label of the run: a block is the key's value where the feeds tell

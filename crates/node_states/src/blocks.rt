@@ -103,13 +103,15 @@ impl<B: Drop, L: Label<Block = B>> BlockStore<B, L> for Blocks<B, L> {
         0
     }
 
-    fn next_out(&mut self) -> Option<(u32, Arc<B>)> {
+    fn next_out(&mut self, _more: u32) -> Option<(u32, Arc<B>)> {
         None
     }
 
-    fn prepare(_alloc: Global, _key: u32, _block: Arc<B>) -> Option<()> {
-        None
+    fn awaits(&self, _more: u32) -> bool {
+        false
     }
+
+    fn prepare(_alloc: Global, _key: u32, _block: Arc<B>) {}
 
     fn expect(&mut self, _ready: ()) {}
 

@@ -40,4 +40,4 @@ pub use scheduler::{SchedulerNode, SchedulerTurn};
 pub use store::{BlockStore, Got};
 pub use why::Why;
 pub use worker::{Finished, Task, WorkerNode};
-pub use worker_turns::{TaskEnd, WorkerStep, WorkerTurn};
+pub use worker_turns::{Prepared, TaskEnd, WorkerStep, WorkerTurn};

@@ -61,13 +61,16 @@ pub trait BlockStore<B: Drop, L: Label<Block = B>>: Drop {
     fn spills(&self) -> u64
         ensures { result ≡ (stock self.now).times };
 
-    /// A block that is likely to be put aside soon with its key, which both share from then on, so that what it takes can be prepared. It is given once.
-    /// What it keeps is as before.
-    fn next_out(&mut self) -> Option<(u32, Arc<B>)>
+    /// A block, with its key, that is likely to be put aside by the time that so many more are put, so that what it takes can be prepared: both share it from
+    /// then on. It is given once while it is kept. What the store keeps is as before.
+    fn next_out(&mut self, more: u32) -> Option<(u32, Arc<B>)>
         ensures { stock self.new ≡ stock self.old };
 
-    /// What is prepared of a block that is kept under this key. There is none where nothing has to be, or where there is no memory.
-    fn prepare(alloc: Global, key: u32, block: Arc<B>) -> Option<Self::Ready>;
+    /// Whether such a block was given, and what was prepared of it isn't there yet.
+    fn awaits(&self, more: u32) -> bool;
+
+    /// What is prepared of a block that is kept under this key. It may be nothing.
+    fn prepare(alloc: Global, key: u32, block: Arc<B>) -> Self::Ready;
 
     /// Takes what was prepared of a block. What it keeps is as before.
     fn expect(&mut self, ready: Self::Ready)

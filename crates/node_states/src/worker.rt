@@ -57,7 +57,7 @@ pub struct WorkerNode<B: Drop, L: Label<Block = B>, F: Drop, S: BlockStore<B, L>
     looked: u64,
     lost: Option<u32>,
     held: Option<Request>,
-    feeds: Feeds<F>,
+    pub(crate) feeds: Feeds<F>,
     links: WorkerLinks<B, L>,
     heard: bool,
     ending: Option<Why>,

@@ -1,5 +1,5 @@
 -- The sum of the bytes of the blocks in memory.
-use Rattle.std.proofs.Common.{◌≡◌, ℕ, ◌+◌, ◌-◌, ◌≤◌, List, Some, ap, ◌∙◌, arith}
+use Rattle.std.proofs.Common.{◌≡◌, ℕ, ◌+◌, ◌-◌, ◌≤◌, List, [], ◌∷◌, ◌++◌, Some, ap, ◌∙◌, arith}
 use Rattle.std.specs.Prelude.{nat_eq}
 use Rattle.std.specs.Option.{option_map, unwrap_or}
 use Rattle.std.specs.Map.{lookup, remove_entry, values_of}
@@ -46,3 +46,21 @@ bytes_used key h es fs sum s there e =
     let w = bytes_without key es in
     let z = size_is_at key h es there in
     omega (arith, p, w, z, s)
+
+bytes_more : (fs : List (ℕ × InMemory)) (key : ℕ) (h : InMemory) → bytes_in (fs ++ (key, h) ∷ []) ≡ bytes_in fs + size_of_block h.array
+bytes_more [] key h = omega (arith, sum_by-cons (λ h. size_of_block h.array) h [])
+bytes_more (e ∷ fs) key h = omega (
+  arith,
+  bytes_more fs key h,
+  sum_by-cons (λ h. size_of_block h.array) e.1 (values_of (fs ++ (key, h) ∷ [])),
+  sum_by-cons (λ h. size_of_block h.array) e.1 (values_of fs),
+)
+
+-- the sum where the last block is taken
+pub bytes_taken : (es fs : List (ℕ × InMemory)) (key : ℕ) (h : InMemory) → es ≡ fs ++ (key, h) ∷ [] → bytes_in es ≡ bytes_in fs + size_of_block h.array
+bytes_taken es fs key h e = ap bytes_in e ∙ bytes_more fs key h
+
+-- blocks that weren't taken yet, the first of those that were, and the others
+pub record TakenOff (es left : List (ℕ × InMemory)) : Type 0 where
+  pub behind : List (ℕ × InMemory)
+  pub order : es ≡ left ++ behind

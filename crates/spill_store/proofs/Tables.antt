@@ -1,5 +1,5 @@
 -- Tables in the order of use: what their changes do to each key.
-use Rattle.std.proofs.Common.{◌≡◌, ℕ, zero, suc, ◌+◌, ◌-◌, ◌≤◌, ◌<◌, Bool, true, false, cond, List, [], ◌∷◌, ◌++◌, length, take, Option, Some, None, refl, sym, ap, ap₂, subst, ◌∙◌, append_assoc, length-append, arith}
+use Rattle.std.proofs.Common.{◌≡◌, ℕ, zero, suc, ◌-◌, ◌≤◌, ◌<◌, Bool, true, false, cond, List, [], ◌∷◌, ◌++◌, length, take, Option, Some, None, refl, sym, ap, ap₂, subst, ◌∙◌, arith}
 use Rattle.std.specs.Prelude.{IfSome, OnErr, OnOk, Result, Ok, Err, nat_eq, slice_get}
 use Rattle.std.specs.Cmp.{nat_eq_equiv}
 use Rattle.std.specs.List.{IsDistinct, AllByRecursion}
@@ -10,7 +10,7 @@ use Rattle.std.proofs.lemmas.List.{take_all}
 use Rattle.std.proofs.lemmas.Map.{lookup-remove_entry}
 use Rattle.lru.specs.LruCache.{LruCache, lru_cache, put_entries, promoted}
 use Rattle.lru.proofs.CallerLemmas.{Contains-lookup_entry}
-use Rattle.spill_store.specs.Table.{put_first, ChangesAt, IsLast, IsNearEnd, SameValues}
+use Rattle.spill_store.specs.Table.{put_first, ChangesAt, IsLast, SameValues}
 
 is_test : (k x y : ℕ) → nat_eq k x ≡ true → nat_eq k y ≡ nat_eq x y
 is_test k x y h = nat_eq_equiv.congr k x y h
@@ -138,23 +138,6 @@ module _ {V : Type 0} where
   none_last (x ∷ es) h =
       let n : length (x ∷ es) - 1 ≡ length es = omega arith in
       absurd (none_at (x ∷ es) (length es) (omega arith) (subst (λ i. slice_get (x ∷ es) i ≡ None) n h))
-
-  -- an entry is where it was once others stand behind it
-  at_end : (es fs : List (ℕ × V)) (e : ℕ × V) → slice_get (es ++ e ∷ fs) (length es) ≡ Some e
-  at_end [] fs e = refl
-  at_end (x ∷ es) fs e = at_end es fs e
-
-  -- the entry that is taken from the end after three others
-  pub fourth_near : (es a b c d : List (ℕ × V)) (x y z e : ℕ × V) → es ≡ a ++ x ∷ [] → a ≡ b ++ y ∷ [] → b ≡ c ++ z ∷ [] → c ≡ d ++ e ∷ [] → IsNearEnd es e.0 e.1
-  fourth_near es a b c d x y z e p q r s =
-      let two : a ≡ c ++ z ∷ y ∷ [] = q ∙ ap (λ l. l ++ y ∷ []) r ∙ append_assoc c (z ∷ []) (y ∷ []) in
-      let three : es ≡ c ++ z ∷ y ∷ x ∷ [] = p ∙ ap (λ l. l ++ x ∷ []) two ∙ append_assoc c (z ∷ y ∷ []) (x ∷ []) in
-      let four : es ≡ d ++ e ∷ z ∷ y ∷ x ∷ [] = three ∙ ap (λ l. l ++ z ∷ y ∷ x ∷ []) s ∙ append_assoc d (e ∷ []) (z ∷ y ∷ x ∷ []) in
-      record {
-        at = length d;
-        near = omega (arith, ap length four, length-append d (e ∷ z ∷ y ∷ x ∷ []));
-        there = subst (λ l. slice_get l (length d) ≡ Some e) (sym four) (at_end d (z ∷ y ∷ x ∷ []) e);
-      }
 
   -- the capacity stays
   pub cap_stays : {T E : Type 0} (r : Result T E) (es : List (ℕ × V)) (old new : LruCache ℕ V) → OnOk r (new ≡ lru_cache es old.cap) → OnErr r (new ≡ old) → new.cap ≡ old.cap

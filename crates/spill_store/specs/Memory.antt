@@ -1,10 +1,10 @@
 -- The blocks in memory, in the order of use.
-use Rattle.std.specs.Prelude.{◌≡◌, ◌≤◌, ◌<◌, ◌*◌, ℕ, nat_eq, List, length, Some, Bool}
+use Rattle.std.specs.Prelude.{◌≡◌, ◌<◌, ◌+◌, ◌*◌, ℕ, nat_eq, List, ◌∷◌, ◌++◌, length, Some, Bool}
 use Rattle.std.specs.List.{sum_by}
 use Rattle.std.specs.Map.{lookup, values_of}
 use Rattle.nd_shape.specs.Block.{Array}
 use Rattle.spill_store.specs.Blocks.{size_of_block}
-use Rattle.spill_store.specs.Table.{put_first, IsLast, IsNearEnd}
+use Rattle.spill_store.specs.Table.{put_first, IsLast}
 
 -- a block in memory, and whether the disk has taken it since it was put
 pub record InMemory : Type 0 where
@@ -31,8 +31,11 @@ pub record IsOldest (es : List (ℕ × InMemory)) (key : ℕ) (a : Array) : Type
   pub taken : Bool
   pub last : IsLast es key (record { array = a; taken = taken })
 
--- one of the four blocks that were used least recently, of eight at least
-pub record IsNextOut (es : List (ℕ × InMemory)) (key : ℕ) (a : Array) : Type 0 where
+-- A block goes to the disk by the time that so many more are put that are as long as it: once those are gone that were used less recently, it and the
+-- others with these have more than six tenths of the limit.
+pub record IsNextOut (limit more : ℕ) (es : List (ℕ × InMemory)) (key : ℕ) (a : Array) : Type 0 where
+  pub others : List (ℕ × InMemory)
+  pub behind : List (ℕ × InMemory)
   pub taken : Bool
-  pub several : 8 ≤ length es
-  pub near : IsNearEnd es key (record { array = a; taken = taken })
+  pub order : es ≡ others ++ (key, record { array = a; taken = taken }) ∷ behind
+  pub much : 6 * limit < 10 * (bytes_in others + (more + 1) * size_of_block a)

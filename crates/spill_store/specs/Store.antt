@@ -1,5 +1,5 @@
 -- The store: a map from keys to blocks, some of them on a disk, and the rule by which blocks go there.
-use Rattle.std.specs.Prelude.{◌≡◌, ◌≤◌, ◌<◌, ◌+◌, ◌*◌, ◌⊎◌, ℕ, suc, nat_eq, List, [], ◌++◌, length, take, Option, Some, None, is_some, Bool, true, false, cond}
+use Rattle.std.specs.Prelude.{◌≡◌, ◌≤◌, ◌<◌, ◌⊎◌, ℕ, suc, nat_eq, List, [], ◌++◌, length, take, Option, Some, None, is_some, Bool, true, false, cond}
 use Rattle.std.specs.Option.{option_map, option_map_or}
 use Rattle.std.specs.Map.{lookup, remove_entry}
 use Rattle.io_edge.specs.Cause.{Rose}
@@ -7,8 +7,7 @@ use Rattle.nd_shape.specs.Block.{Array}
 use Rattle.io_edge.specs.Disk.{DiskView}
 use Rattle.io_edge.specs.View.{raised}
 use Rattle.spill_store.specs.Table.{put_first}
-use Rattle.spill_store.specs.Blocks.{size_of_block}
-use Rattle.spill_store.specs.Memory.{InMemory, IsCrowded, UsesBlock, bytes_in}
+use Rattle.spill_store.specs.Memory.{InMemory, IsCrowded, UsesBlock}
 use Rattle.spill_store.specs.Shelves.{Shelved, ComesBack, LosesBy}
 use Rattle.spill_store.specs.declared.lost.Got.{Got}
 use Rattle.spill_store.specs.declared.lost.Got.TheVariants.{Found, Absent, Lost}
@@ -102,11 +101,6 @@ pub record Spills {D : Type 0} (view : D → DiskView) (order : List (ℕ × InM
 abbrev pub CanSpill : {D : Type 0} → (D → DiskView) → Option (Shelved D) → Type 0
 CanSpill view None = ⊥
 CanSpill view (Some h) = (view h.disk).faults < 8
-
--- a block goes to the disk once one more is put that is as long as this one
-pub record IsFull {D : Type 0} (view : D → DiskView) (s : Kept D) (a : Array) : Type 0 where
-  pub disk : CanSpill view s.shelf
-  pub much : 6 * s.limit < 10 * (bytes_in s.memory + size_of_block a)
 
 -- ## The calls
 

@@ -1,5 +1,5 @@
 -- Tables in the order of use: the entries, the most recently used first.
-use Rattle.std.specs.Prelude.{◌≡◌, ◌≤◌, ◌+◌, ℕ, nat_eq, List, [], ◌∷◌, ◌++◌, length, slice_get, cond, Option, Some}
+use Rattle.std.specs.Prelude.{◌≡◌, ℕ, nat_eq, List, [], ◌∷◌, ◌++◌, cond, Option, Some}
 use Rattle.std.specs.Map.{lookup, remove_entry}
 
 -- the key's value, as the most recently used one
@@ -10,12 +10,6 @@ put_first key value es = (key, value) ∷ remove_entry (nat_eq key) es
 pub record IsLast {V : Type 0} (es : List (ℕ × V)) (key : ℕ) (value : V) : Type 0 where
   pub last : es ≡ remove_entry (nat_eq key) es ++ (key, value) ∷ []
   pub there : lookup (nat_eq key) es ≡ Some value
-
--- one of the four least recently used entries
-pub record IsNearEnd {V : Type 0} (es : List (ℕ × V)) (key : ℕ) (value : V) : Type 0 where
-  pub at : ℕ
-  pub near : length es ≤ at + 4
-  pub there : slice_get es at ≡ Some (key, value)
 
 -- one key has another value, or none, and each other key the one that it had
 pub record ChangesAt {V : Type 0} (key : ℕ) (value : Option V) (old new : List (ℕ × V)) : Type 0 where

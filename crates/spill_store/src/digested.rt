@@ -1,9 +1,9 @@
 // Digests that are made outside of a store.
-ghost use Rattle.std.specs.Prelude.{◌≡◌, IfOk};
+ghost use Rattle.std.specs.Prelude.{◌≡◌, IfSome};
 
 use crate::spilled::Spilled;
 use nd_shape::Block;
-use std::alloc::{AllocError, Global};
+use std::alloc::Global;
 use std::marker::Model;
 use std::sync::Arc;
 
@@ -25,35 +25,45 @@ impl Model for Known {
     ghost invariant = { λ k. k.spilled ≡ k.block.value };
 }
 
-/// A block and the digest of its bytes, for the store that keeps the block under this key. Contracts see the key and the block.
+/// What is known of a block in memory beside the store: nothing yet, since it was given out to be digested; nothing, since no memory was there for that;
+/// or what is to be kept of it once the disk alone has it.
+#[derive(Drop)]
+pub(crate) enum Ahead {
+    Given,
+    Missing,
+    Known(Known),
+}
+
+/// The digest of the bytes of a block, for the store that keeps the block under this key, or none where memory was wanting. Contracts see the key and
+/// the block.
 #[derive(Drop)]
 pub struct Digested {
     key: u32,
-    known: Known,
+    known: Option<Known>,
 }
 
 impl Model for Digested {
-    ghost use Rattle.std.specs.Prelude.{ℕ};
+    ghost use Rattle.std.specs.Prelude.{ℕ, Option};
     ghost use Rattle.nd_shape.specs.Block.{Array};
 
-    ghost Value = { ℕ × Array };
+    ghost Value = { ℕ × Option Array };
 
     ghost view = { λ d. (d.key, d.known) };
 }
 
 impl Digested {
-    /// Computes the digest of a block's bytes.
-    ///
-    /// # Errors
-    /// Where memory is wanting.
-    pub fn new(alloc: Global, key: u32, block: Arc<Block>) -> Result<Digested, AllocError>
-        ensures { IfOk result (λ d. d ≡ (key, block.value)) }
+    /// Computes the digest of a block's bytes, if there is memory for that.
+    pub fn new(alloc: Global, key: u32, block: Arc<Block>) -> Digested
+        ensures key { result.0 ≡ key }
+        ensures block { IfSome result.1 (λ a. a ≡ block.value) }
     {
-        let spilled = Spilled::of(alloc, &block)?;
-        Ok(Digested {
-            key,
-            known: Known { spilled, block },
-        })
+        match Spilled::of(alloc, &block) {
+            Ok(spilled) => Digested {
+                key,
+                known: Some(Known { spilled, block }),
+            },
+            Err(_) => Digested { key, known: None },
+        }
     }
 
     /// Its key. No memory.
@@ -63,11 +73,12 @@ impl Digested {
         self.key
     }
 
-    /// The block with what is kept of it. No memory.
-    pub(crate) fn into_known(self) -> Known
-        ensures { result ≡ self.1 }
-    {
+    /// What is known of the block. No memory.
+    pub(crate) fn into_ahead(self) -> Ahead {
         let Digested { key: _, known } = self;
-        known
+        match known {
+            Some(known) => Ahead::Known(known),
+            None => Ahead::Missing,
+        }
     }
 }

@@ -1,12 +1,12 @@
 // The blocks in memory, in the order of use.
-ghost use Rattle.std.specs.Prelude.{◌≡◌, ◌≤◌, ◌<◌, ◌+◌, ◌*◌, ◌↔◌, []};
+ghost use Rattle.std.specs.Prelude.{◌≡◌, ◌≤◌, ◌<◌, ◌+◌, ◌*◌, ◌↔◌, ◌∷◌, ◌++◌, []};
 ghost use Rattle.std.specs.Prelude.{nat_eq, option_map, unwrap_or, IfErr, IfOk, IfSome, OnErr, OnOk, MatchOption, IsTrue, None, Some};
 ghost use Rattle.std.specs.Map.{lookup, remove_entry};
 ghost use Rattle.spill_store.specs.Blocks.{size_of_block};
-ghost use Rattle.spill_store.specs.Memory.{bytes_in, IsCrowded, IsNextOut, IsOldest, UsesBlock};
+ghost use Rattle.spill_store.specs.Memory.{bytes_in, IsCrowded, IsOldest, UsesBlock};
 ghost use Rattle.spill_store.specs.Table.{put_first, ChangesAt, SameValues};
 
-use crate::table::Table;
+use crate::table::{Late, Table};
 use nd_shape::Block;
 use std::alloc::{AllocError, Global};
 use std::marker::Model;
@@ -73,7 +73,7 @@ impl Held {
         self.taken
     }
 
-    fn share(&self) -> Result<Arc<Block>, AllocError>
+    pub(crate) fn share(&self) -> Result<Arc<Block>, AllocError>
         ensures { IfOk result (λ b. b.value ≡ self.now.array) }
     {
         Arc::try_clone(&self.block)
@@ -172,26 +172,14 @@ impl Memory {
         }
     }
 
-    /// The block that was used least recently but for three, where there are eight, which both share from then on. There is none
-    /// where memory is wanting.
-    pub(crate) fn share_late(&self) -> Option<(u32, Arc<Block>)>
-        ensures { IfSome result (λ e. IsNextOut self.now e.0 e.1.value) }
+    /// The blocks, to be taken from the one on that was used least recently. No memory.
+    pub(crate) fn late(&self) -> LateBlocks<'_>
+        ensures { result ≡ self.now }
     {
-        if self.blocks.len() < 8 {
-            return None;
+        LateBlocks {
+            blocks: self.blocks.late(),
+            bytes: self.bytes,
         }
-        let (key, held) = self.blocks.fourth_last()?;
-        match held.share() {
-            Ok(block) => Some((key, block)),
-            Err(_) => None,
-        }
-    }
-
-    /// Whether the blocks and one more that is as long as this one have more than six tenths of so many bytes. No memory.
-    pub(crate) fn is_full(&self, limit: u64, block: &Block) -> bool
-        ensures { IsTrue result ↔ (6 * limit < 10 * (bytes_in self.now + size_of_block block.now)) }
-    {
-        10 * (self.bytes as u128 + size_of(block) as u128) > 6 * limit as u128
     }
 
     /// Whether the blocks have more than six tenths of so many bytes, and there is more than one. No memory.
@@ -201,5 +189,39 @@ impl Memory {
         let much = 10 * self.bytes as u128 > 6 * limit as u128;
         let several = self.blocks.len() > 1;
         much & several
+    }
+}
+
+/// Blocks that weren't taken yet of those in memory, and the sum of their bytes. Contracts see their list, the most recently used first.
+#[derive(Drop)]
+pub(crate) struct LateBlocks<'a> {
+    blocks: Late<'a, Held>,
+    bytes: u64,
+}
+
+impl<'a> Model for LateBlocks<'a> {
+    ghost use Rattle.std.specs.Prelude.{◌≡◌, ℕ, List};
+    ghost use Rattle.spill_store.specs.Memory.{InMemory, bytes_in};
+
+    ghost Value = { List (ℕ × InMemory) };
+
+    ghost view = { λ l. l.blocks };
+
+    ghost invariant = { λ l. l.bytes ≡ bytes_in l.blocks };
+}
+
+impl<'a> LateBlocks<'a> {
+    /// Takes the one of those that are left which was used least recently, if there is one, and tells whether they have more than six tenths of so many
+    /// bytes with so many more that are as long as it. No memory.
+    #[tactic(auto, using(crate::proofs::Memories::bytes_taken))]
+    pub(crate) fn next(&mut self, limit: u64, more: u32) -> Option<(u32, &'a Held, bool)>
+        ensures took { IfSome result (λ e. self.old ≡ self.new ++ (e.0, e.1.now) ∷ []) }
+        ensures goes { IfSome result (λ e. IsTrue e.2 → 6 * limit < 10 * (bytes_in self.new + (more + 1) * size_of_block e.1.now.array)) }
+    {
+        let (key, held) = self.blocks.next()?;
+        let size = held.size();
+        let much = 10 * (self.bytes as u128 + more as u128 * size as u128);
+        self.bytes -= size;
+        Some((key, held, much > 6 * limit as u128))
     }
 }

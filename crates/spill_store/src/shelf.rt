@@ -6,7 +6,7 @@ ghost use Rattle.spill_store.specs.Shelves.{AreThere, ComesBack, Fetches, TakesB
 ghost use Rattle.spill_store.specs.Table.{ChangesAt};
 
 use crate::block_bytes::words_of;
-use crate::digested::{Digested, Known};
+use crate::digested::{Ahead, Digested, Known};
 use crate::disk::Disk;
 use crate::lost::LostBy;
 use crate::spilled::{Spilled, block_of};
@@ -27,6 +27,14 @@ pub(crate) enum Taken {
     OutOfMemory,
 }
 
+/// How far the digest of a block in memory is: nothing was done; it was given out; or all is done for it.
+#[derive(Clone, Copy, PartialEq, Eq)]
+pub(crate) enum Stage {
+    Open,
+    Given,
+    Settled,
+}
+
 /// What the disk has under a key.
 #[derive(Drop)]
 pub(crate) enum Fetched {
@@ -36,14 +44,14 @@ pub(crate) enum Fetched {
 }
 
 /// A disk, what is kept of the blocks that are there alone, and of those that are in memory again and there still, so that
-/// they need not be written once more; and what is to be kept of blocks in memory that aren't there, where it was made outside
-/// of the store, or is being made there (`None`).
+/// they need not be written once more; and what is known of blocks in memory that aren't there and were given out to be
+/// digested.
 #[derive(Drop)]
 pub(crate) struct Shelf<D: Disk> {
     disk: D,
     blocks: Table<Spilled>,
     twice: Table<Known>,
-    ready: Table<Option<Known>>,
+    ready: Table<Ahead>,
 }
 
 impl<D: Disk> Model for Shelf<D> {
@@ -108,27 +116,36 @@ impl<D: Disk> Shelf<D> {
         self.disk.faults() >= FAULTS
     }
 
-    /// Whether what is to be kept of the block of this key, which is in memory, is known or promised. No memory.
-    pub(crate) fn knows(&self, key: u32) -> bool {
-        self.twice.get(key).is_some() | self.ready.get(key).is_some()
+    /// How far the digest of the block of this key is, which is in memory. No memory.
+    pub(crate) fn stage(&self, key: u32) -> Stage {
+        if self.twice.get(key).is_some() {
+            return Stage::Settled;
+        }
+        match self.ready.get(key) {
+            Some(Ahead::Given) => Stage::Given,
+            Some(_) => Stage::Settled,
+            None => Stage::Open,
+        }
     }
 
-    /// What is to be kept of a block in memory is known from now on, where there is memory for it and the disk hasn't got the
-    /// block.
+    /// The block of this key is given out to be digested, if there is memory to note that.
+    pub(crate) fn give(&mut self, key: u32) -> bool
+        ensures { self.new ≡ self.old }
+    {
+        self.ready.put(key, Ahead::Given).is_ok()
+    }
+
+    /// What came of that is known from now on, where the block was given out and has neither gone since nor been let go.
     pub(crate) fn expect(&mut self, ready: Digested)
         ensures { self.new ≡ self.old }
     {
         let key = ready.key();
-        if self.twice.get(key).is_none() {
-            let _ = self.ready.put(key, Some(ready.into_known()));
+        if self.ready.get(key).is_none() {
+            return;
         }
-    }
-
-    /// What is to be kept of the block of this key is promised, if there is memory for the promise.
-    pub(crate) fn promise(&mut self, key: u32) -> bool
-        ensures { self.new ≡ self.old }
-    {
-        self.ready.put(key, None).is_ok()
+        if self.ready.put(key, ready.into_ahead()).is_err() {
+            self.ready.remove(key);
+        }
     }
 
     /// Puts a block on the disk, unless it is there still.
@@ -232,14 +249,17 @@ fn put_again(blocks: &mut Table<Spilled>, key: u32, twice: Known, block: &Block)
     is_same(&held, block) && blocks.put(key, spilled).is_ok()
 }
 
-// What is kept of this block, where that was made of the same one. It is known no more.
-fn known_of(ready: &mut Table<Option<Known>>, key: u32, block: &Block) -> Option<Spilled>
+// What is kept of this block, where that was made of the same one. Nothing is known of the key's block any more.
+fn known_of(ready: &mut Table<Ahead>, key: u32, block: &Block) -> Option<Spilled>
     ensures { IfSome result (λ s. s ≡ block.now) }
 {
+    let Ahead::Known(known) = ready.remove(key)? else {
+        return None;
+    };
     let Known {
         spilled,
         block: held,
-    } = ready.remove(key)??;
+    } = known;
     if is_same(&held, block) {
         Some(spilled)
     } else {

@@ -1,23 +1,26 @@
 // The store.
-ghost use Rattle.std.specs.Prelude.{◌≡◌, ◌<◌, ◌+◌, ◌*◌, IfErr, IfOk, IfSome, IsTrue, OnErr, OnOk, None};
+ghost use Rattle.std.specs.Prelude.{◌≡◌, ℕ, IfErr, IfOk, IfSome, IsTrue, OnErr, OnOk, None};
 ghost use Rattle.std.specs.Option.{option_map};
-ghost use Rattle.spill_store.specs.Blocks.{size_of_block};
-ghost use Rattle.spill_store.specs.Memory.{bytes_in, IsNextOut};
+ghost use Rattle.nd_shape.specs.Block.{Array};
+ghost use Rattle.spill_store.specs.Memory.{IsNextOut};
 ghost use Rattle.spill_store.specs.Shelves.{AreThere};
-ghost use Rattle.spill_store.specs.Store.{AllStay, CanSpill, IsFull, IsSame, Gives, Puts, Removes, SameDisk, away_in, back, empty_store, fresh, is_spilled};
+ghost use Rattle.spill_store.specs.Store.{AllStay, CanSpill, IsSame, Gives, Puts, Removes, SameDisk, away_in, back, empty_store, fresh, is_spilled};
 ghost use Rattle.spill_store.specs.Steps.{FetchesIn, Finds, IsBackIn, IsFound, SpillsOne, SpillsUntil};
 ghost use Rattle.spill_store.specs.Table.{ChangesAt, put_first};
 
 use crate::digested::Digested;
 use crate::disk::Disk;
 use crate::lost::Got;
-use crate::memory::Memory;
+use crate::memory::{Held, Memory};
 use crate::rest::Rest;
-use crate::shelf::{Fetched, Shelf, Taken};
+use crate::shelf::{Fetched, Shelf, Stage, Taken};
 use nd_shape::Block;
 use std::alloc::{AllocError, Global};
 use std::marker::Model;
 use std::sync::Arc;
+
+/// Among so many blocks, used least recently, one is looked for that goes soon.
+const LOOKED: u32 = 16;
 
 /// Blocks by key, some of them on a disk. Contracts see the blocks in memory in the order of use, those that the disk alone
 /// has, and the disk.
@@ -133,31 +136,38 @@ impl<D: Disk> SpillStore<D> {
         }
     }
 
-    /// A block that goes to the disk soon, so that its digest can be made outside of the store, which both share from then on: of
-    /// eight in memory at least the one that was used least recently but for three, where one goes once one more is put that is
-    /// as long. It is given once, and not where its digest is known. There is none where memory is wanting.
-    pub fn next_out(&mut self) -> Option<(u32, Arc<Block>)>
+    /// A block that goes to the disk by the time that so many more are put that are as long as it, which both share from then on, so that its digest can be
+    /// made outside of the store. It is given once while it is kept, and not where the disk has it. The 16 blocks that were used least recently are looked
+    /// at. There is none where memory is wanting.
+    pub fn next_out(&mut self, more: u32) -> Option<(u32, Arc<Block>)>
         ensures same { self.new ≡ self.old }
-        ensures full { IfSome result (λ e. IsFull D.view self.old e.1.value) }
-        ensures next { IfSome result (λ e. IsNextOut self.old.memory e.0 e.1.value) }
+        ensures disk { IfSome result (λ _. CanSpill D.view self.old.shelf) }
+        ensures next { IfSome result (λ e. IsNextOut self.old.limit more self.old.memory e.0 e.1.value) }
     {
-        let (key, block) = self.memory.share_late()?;
-        if self.is_due(key, &block) && self.promise(key) {
+        let (key, block) = self.due(more)?;
+        if self.give(key) {
             Some((key, block))
         } else {
             None
         }
     }
 
-    /// Takes the digest of a block that was made outside of the store, so that it need not be made in the call in which the
-    /// block goes to the disk. It serves the block that is in memory under its key at this time, and only where that is the same
-    /// one (they are held against each other when it goes). Where memory is wanting, it is made in that call.
+    /// Whether such a block was given out, and its digest wasn't handed over yet (`expect`). No memory.
+    pub fn awaits(&self, more: u32) -> bool
+        ensures { IsTrue result → (e : ℕ × Array) × IsNextOut self.now.limit more self.now.memory e.0 e.1 }
+    {
+        match self.next_at(more, Stage::Given) {
+            Some(_) => true,
+            None => false,
+        }
+    }
+
+    /// Takes the digest of a block that was given out, so that it need not be made in the call in which the block goes to the disk. It serves the block that
+    /// is in memory under its key at that time, and only where that is the same one (they are held against each other when it goes). Where there is none,
+    /// or no memory for it, it is made in that call.
     pub fn expect(&mut self, ready: Digested)
         ensures { self.new ≡ self.old }
     {
-        if self.memory.is_taken(ready.key()).is_none() {
-            return;
-        }
         if let Some(shelf) = &mut self.shelf {
             shelf.expect(ready);
         }
@@ -188,24 +198,38 @@ impl<D: Disk> SpillStore<D> {
         }
     }
 
-    // Whether blocks go once one more is put that is as long as that of this key, of which nothing is known.
-    fn is_due(&self, key: u32, block: &Block) -> bool
-        ensures { IsTrue result → 6 * self.now.limit < 10 * (bytes_in self.now.memory + size_of_block block.now) }
+    // The first block at this stage that goes once so many more are put. No memory.
+    fn next_at(&self, more: u32, stage: Stage) -> Option<(u32, &Held)>
+        ensures { IfSome result (λ e. IsNextOut self.now.limit more self.now.memory e.0 e.1.now.array) }
     {
-        let known = match &self.shelf {
-            Some(shelf) => shelf.knows(key),
-            None => false,
-        };
-        !known && self.memory.is_full(self.limit, block)
+        let mut late = self.memory.late();
+        for _ in 0..LOOKED {
+            let (key, held, goes) = late.next(self.limit, more)?;
+            if goes && stage_of(&self.shelf, key) == stage {
+                return Some((key, held));
+            }
+        }
+        None
     }
 
-    // A digest of the block of a key is promised, if there is a disk that is used, and memory for the promise.
-    fn promise(&mut self, key: u32) -> bool
+    // The first such block of which nothing was done, which both share from then on.
+    fn due(&self, more: u32) -> Option<(u32, Arc<Block>)>
+        ensures { IfSome result (λ e. IsNextOut self.now.limit more self.now.memory e.0 e.1.value) }
+    {
+        let (key, held) = self.next_at(more, Stage::Open)?;
+        match held.share() {
+            Ok(block) => Some((key, block)),
+            Err(_) => None,
+        }
+    }
+
+    // The block of a key is given out, if there is a disk that is used, and memory to note it.
+    fn give(&mut self, key: u32) -> bool
         ensures same { self.new ≡ self.old }
         ensures disk { IsTrue result → CanSpill D.view self.old.shelf }
     {
         match &mut self.shelf {
-            Some(shelf) => !shelf.is_worn() && shelf.promise(key),
+            Some(shelf) => !shelf.is_worn() && shelf.give(key),
             None => false,
         }
     }
@@ -359,5 +383,13 @@ impl<D: Disk> SpillStore<D> {
             Taken::Refused => Some(Rest::Refused),
             Taken::OutOfMemory => Some(Rest::OutOfMemory),
         }
+    }
+}
+
+// How far the digest of the block of a key is, which is in memory. No memory.
+fn stage_of<D: Disk>(shelf: &Option<Shelf<D>>, key: u32) -> Stage {
+    match shelf {
+        Some(shelf) => shelf.stage(key),
+        None => Stage::Settled,
     }
 }

@@ -1,10 +1,10 @@
 // Tables in the order of use.
-ghost use Rattle.std.specs.Prelude.{◌≡◌, [], nat_eq, length, option_copied, IfErr, IfOk, IfSome, OnErr, OnOk, MatchOption, Some, None};
+ghost use Rattle.std.specs.Prelude.{◌≡◌, ◌∷◌, ◌++◌, [], nat_eq, length, option_copied, IfErr, IfOk, IfSome, OnErr, OnOk, MatchOption, Some, None};
 ghost use Rattle.std.specs.List.{IsDistinct};
 ghost use Rattle.std.specs.Map.{keys_of, lookup, remove_entry};
-ghost use Rattle.spill_store.specs.Table.{put_first, ChangesAt, IsLast, IsNearEnd, SameValues};
+ghost use Rattle.spill_store.specs.Table.{put_first, ChangesAt, IsLast, SameValues};
 
-use lru::LruCache;
+use lru::{Iter, LruCache};
 use std::alloc::{AllocError, Global};
 use std::marker::Model;
 
@@ -92,17 +92,12 @@ impl<V: Drop> Table<V> {
         }
     }
 
-    /// The least recently used entry but for three, if there are four. No memory.
-    pub(crate) fn fourth_last(&self) -> Option<(u32, &V)>
-        ensures { IfSome result (λ e. IsNearEnd self.now e.0 e.1.now) }
+    /// The entries, to be taken from the least recently used one on. No memory.
+    pub(crate) fn late(&self) -> Late<'_, V>
+        ensures { result ≡ self.now }
     {
-        let mut entries = self.cache.iter();
-        entries.next_back()?;
-        entries.next_back()?;
-        entries.next_back()?;
-        match entries.next_back() {
-            Some((key, value)) => Some((*key, value)),
-            None => None,
+        Late {
+            entries: self.cache.iter(),
         }
     }
 
@@ -112,5 +107,31 @@ impl<V: Drop> Table<V> {
         ensures distinct { IsDistinct nat_eq (keys_of self.now) }
     {
         self.cache.len()
+    }
+}
+
+/// The entries of a table that weren't taken yet. Contracts see their list, the most recently used first.
+#[derive(Drop)]
+pub(crate) struct Late<'a, V> {
+    entries: Iter<'a, u32, V>,
+}
+
+impl<'a, V> Model for Late<'a, V> {
+    ghost use Rattle.std.specs.Prelude.{ℕ, List};
+
+    ghost Value = { List (ℕ × V) };
+
+    ghost view = { λ l. l.entries };
+}
+
+impl<'a, V> Late<'a, V> {
+    /// Takes the least recently used one of those that are left, if there is one. No memory.
+    pub(crate) fn next(&mut self) -> Option<(u32, &'a V)>
+        ensures { MatchOption result (self.new ≡ self.old) (λ e. self.old ≡ self.new ++ (e.0, e.1.now) ∷ []) }
+    {
+        match self.entries.next_back() {
+            Some((key, value)) => Some((*key, value)),
+            None => None,
+        }
     }
 }

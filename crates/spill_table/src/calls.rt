@@ -53,22 +53,28 @@ fn put(alloc: Global, store: &mut SpillStore<SpoiledDisk>, key: u32, count: u32)
     }
 }
 
-// Makes the digest of a block that goes out soon, and hands it to the store. The block's key, if there is one.
-fn prepare(alloc: Global, store: &mut SpillStore<SpoiledDisk>) -> Option<u32> {
-    let (key, block) = store.next_out()?;
-    match Digested::new(alloc, key, block) {
-        Ok(ready) => {
-            store.expect(ready);
-            Some(key)
-        }
-        Err(_) => None,
-    }
+// Makes the digest of a block that goes out once so many more are put, and hands it to the store. The block's key, if there is one.
+fn prepare(alloc: Global, store: &mut SpillStore<SpoiledDisk>, more: u32) -> Option<u32> {
+    let (key, block) = store.next_out(more)?;
+    store.expect(Digested::new(alloc, key, block));
+    Some(key)
 }
 
-// The key of a block that goes out soon, of which no digest is handed over.
-fn given(store: &mut SpillStore<SpoiledDisk>) -> Option<u32> {
-    let (key, _) = store.next_out()?;
+// The key of a block that goes out once so many more are put, of which no digest is handed over.
+fn given(store: &mut SpillStore<SpoiledDisk>, more: u32) -> Option<u32> {
+    let (key, _) = store.next_out(more)?;
     Some(key)
+}
+
+// Hands the digest of a block to the store. Whether there was memory for the block.
+fn hand_over(alloc: Global, store: &mut SpillStore<SpoiledDisk>, key: u32, count: u32) -> bool {
+    match block(alloc, key, count) {
+        Ok(block) => {
+            store.expect(Digested::new(alloc, key, block));
+            true
+        }
+        Err(_) => false,
+    }
 }
 
 fn print_key<R: Print>(rt: &R, word: &str, key: Option<u32>) -> io::Result<()> {
@@ -120,14 +126,20 @@ fn play_one<R: Print>(
     } else if let Some(key) = name.strip_prefix('r') {
         store.remove(number(key));
         print!(rt; "{word}: removed")?;
-    } else if name == "n" {
-        let prepared = prepare(alloc, store);
+    } else if let Some(more) = name.strip_prefix('n') {
+        let prepared = prepare(alloc, store, number(more));
         print!(rt; "{word}: ")?;
         print_key(rt, "prepared", prepared)?;
-    } else if name == "m" {
-        let given = given(store);
+    } else if let Some(more) = name.strip_prefix('m') {
+        let given = given(store, number(more));
         print!(rt; "{word}: ")?;
         print_key(rt, "given", given)?;
+    } else if let Some(key) = name.strip_prefix('h') {
+        let done = hand_over(alloc, store, number(key), number(count));
+        print!(rt; "{word}: handed over {done}")?;
+    } else if let Some(more) = name.strip_prefix('a') {
+        let awaits = store.awaits(number(more));
+        print!(rt; "{word}: awaits {awaits}")?;
     }
     print_spilled(rt, store)
 }

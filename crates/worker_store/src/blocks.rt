@@ -114,15 +114,16 @@ impl<D: SpillDisk, L: Label<Block = Block>> BlockStore<Block, L> for SpillingBlo
         self.store.spills()
     }
 
-    fn next_out(&mut self) -> Option<(u32, Arc<Block>)> {
-        self.store.next_out()
+    fn next_out(&mut self, more: u32) -> Option<(u32, Arc<Block>)> {
+        self.store.next_out(more)
     }
 
-    fn prepare(alloc: Global, key: u32, block: Arc<Block>) -> Option<Digested> {
-        match Digested::new(alloc, key, block) {
-            Ok(ready) => Some(ready),
-            Err(_) => None,
-        }
+    fn awaits(&self, more: u32) -> bool {
+        self.store.awaits(more)
+    }
+
+    fn prepare(alloc: Global, key: u32, block: Arc<Block>) -> Digested {
+        Digested::new(alloc, key, block)
     }
 
     fn expect(&mut self, ready: Digested) {

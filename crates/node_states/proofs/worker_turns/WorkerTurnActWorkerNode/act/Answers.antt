@@ -6,7 +6,7 @@ use Rattle.node_states.proofs.worker_turns.WorkerTurnActWorkerNode.act.Goals as 
 pub returns-clause-went : goal.returns-clause-went
 returns-clause-went g c =
     let before = c.args.state.now.history.book in
-    let between = c.go_on-moved.new.self.history.book in
-    let after = c.next_out-next_out.new.self.history.book in
-    went_of (λ s. s.history.book) _ c.args.state.now c.next_out-next_out.new.self
-    (recorded_over _ before before between after refl c.go_on-moved.ensures.recorded (ap (λ h. h.book) c.next_out-next_out.ensures.history))
+    let asked = c.next_out.new.self.history.book in
+    let after = c.go_on-moved.new.self.history.book in
+    went_of (λ s. s.history.book) _ c.args.state.now c.go_on-moved.new.self
+    (recorded_over _ before asked after after (ap (λ h. h.book) c.next_out.ensures.history) c.go_on-moved.ensures.recorded refl)
