@@ -22,6 +22,8 @@ use std::sync::Arc;
 #[derive(Drop)]
 pub struct SpillingBlocks<D: SpillDisk, L: Label<Block = Block>> {
     store: SpillStore<D>,
+    /// How many blocks were given out to be digested.
+    given: u64,
     label: PhantomData<L>,
 }
 
@@ -52,6 +54,7 @@ impl<D: SpillDisk, L: Label<Block = Block>> SpillingBlocks<D, L> {
         match SpillStore::new(alloc, disk, limit) {
             Ok(store) => Ok(SpillingBlocks {
                 store,
+                given: 0,
                 label: PhantomData,
             }),
             Err(error) => Err(error),
@@ -63,7 +66,11 @@ impl<D: SpillDisk, L: Label<Block = Block>> SpillingBlocks<D, L> {
         ensures disk { result ≡ option_map (λ h. h.disk) self.shelf }
         ensures there { IfSome result (λ d. AreThere (D.view d) (away_in self.shelf)) }
     {
-        let SpillingBlocks { store, label: _ } = self;
+        let SpillingBlocks {
+            store,
+            given: _,
+            label: _,
+        } = self;
         store.into_disk()
     }
 }
@@ -114,8 +121,15 @@ impl<D: SpillDisk, L: Label<Block = Block>> BlockStore<Block, L> for SpillingBlo
         self.store.spills()
     }
 
+    /// No more blocks are given than have gone to the disk, but for as many as are looked ahead for: where all that is needed fits in memory, next to none is
+    /// digested.
     fn next_out(&mut self, more: u32) -> Option<(u32, Arc<Block>)> {
-        self.store.next_out(more)
+        if self.given >= self.store.spills().saturating_add(more as u64) {
+            return None;
+        }
+        let next = self.store.next_out(more)?;
+        self.given = self.given.saturating_add(1);
+        Some(next)
     }
 
     fn awaits(&self, more: u32) -> bool {
