@@ -15,6 +15,7 @@ use Rattle.node_links.specs.contracts.packet.Sealed as Sealed
 use Rattle.node_links.specs.contracts.port.Port as Port
 use Rattle.node_links.proofs.Crosses.{log_send, log_sync}
 use Rattle.node_states.specs.contracts.history.WorkerHistory as WorkerHistory
+use Rattle.node_states.specs.contracts.links.WorkerLinks as WorkerLinks
 use Rattle.node_states.specs.contracts.past.SchedulerHistory as SchedulerHistory
 use Rattle.scheduler_core.specs.contracts.sched.Sched as Sched
 use Rattle.worker_core.specs.contracts.worker.WorkerCore as WorkerCore
@@ -54,6 +55,16 @@ module _ (B L : RattleType) (g : Ghosts L.Denot B.Denot) (sb : IsSend B) (yb : I
       let s : IsSend (Sealed.the_field B L g).row = search (sendable, crosses) depth 60 fits 6000 in
       let y : IsSync (Sealed.the_field B L g).row = search (sendable, crosses) depth 60 fits 6000 in
       search (sendable, crosses, seat.the_send, seat_sync, shared.the_send, shared.the_sync, lease.the_send, lease.the_sync) depth 60 fits 6000
+
+  pub links_send : IsSend (WorkerLinks.the_field B L g).row
+  links_send =
+      let p : IsSend (Port.the_field B L g).row = port_send in
+      search (sendable, crosses) depth 60 fits 6000
+
+  pub links_sync : IsSync (WorkerLinks.the_field B L g).row
+  links_sync =
+      let p : IsSync (Port.the_field B L g).row = port_sync in
+      search (sendable, crosses) depth 60 fits 6000
 
   pub keyed_send : IsSend (Keyed.the_field B L g).row
   keyed_send = search (sendable, crosses) depth 60 fits 6000

@@ -1,5 +1,6 @@
 -- Relations place by place, that know the place.
-use Rattle.std.proofs.Common.{◌≡◌, ◌&&◌, Bool, true, false, ℕ, ◌+◌, ◌<◌, List, [], ◌∷◌, ◌++◌, length, get_or, take, sym, ap, ◌∙◌, subst, refl, arith}
+use Rattle.std.proofs.Common.{◌≡◌, ◌&&◌, Bool, true, false, Option, Some, None, ℕ, ◌+◌, ◌<◌, List, [], ◌∷◌, ◌++◌, length, get_or, take, sym, ap, ◌∙◌, subst, refl, arith}
+use Rattle.std.specs.Prelude.{IfSome}
 use Rattle.std.proofs.lemmas.List.{length-append, length-take, take_more, get_or_append_left, get_or_push}
 use mathlib.Core.Logic.{dite}
 use native.Mathlib.Decide.{ℕ_discrete}
@@ -35,6 +36,11 @@ all_by_through R S Q (x ∷ xs) ys zs f h s = record {
   each = λ k b c less. let short : k < length ys = omega (arith, h.long, s.long) in
       f k (get_or (x ∷ xs) k x) (get_or ys k b) (get_or zs k c) (h.each k x c less) (s.each k x b short);
 }
+
+-- what holds of a value that is whole holds of what comes of it
+pub if_whole : {V : Type 0} (P : V → Type 0) (whole : Bool) (v : V) (o : Option V) → IfSome o (λ x. (whole ≡ true) × (x ≡ v)) → (whole ≡ true → P v) → IfSome o P
+if_whole P whole v None h k = tt
+if_whole P whole v (Some x) h k = subst P (sym h.1) (k h.0)
 
 -- three answers that are all true
 pub first_two : (a b c : Bool) → (a && b) && c ≡ true → (a ≡ true) × (b ≡ true)

@@ -103,12 +103,20 @@ impl<B: Drop, L: Label<Block = B>> BlockStore<B, L> for Blocks<B, L> {
         0
     }
 
-    fn next_out(&mut self, _more: u32) -> Option<(u32, Arc<B>)> {
+    fn comes_back(&self, _key: u32) -> bool {
+        false
+    }
+
+    fn next_out(&mut self, _coming: u64) -> Option<(u32, Arc<B>)> {
         None
     }
 
-    fn awaits(&self, _more: u32) -> bool {
+    fn awaits(&self, _coming: u64) -> bool {
         false
+    }
+
+    fn has_room(&self, _coming: u64) -> bool {
+        true
     }
 
     fn prepare(_alloc: Global, _key: u32, _block: Arc<B>) {}

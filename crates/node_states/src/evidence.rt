@@ -56,6 +56,15 @@ impl<L: Label> RunGraph<L> {
     {
         self.shape.deps(key)
     }
+
+    /// How many bytes the block of a key has, if it is a key of the graph.
+    pub fn size(&self, key: u32) -> u64 {
+        if key < self.keys() {
+            self.shape.nbytes(key)
+        } else {
+            0
+        }
+    }
 }
 
 /// A key whose own operation met a zero divisor. Whoever ran it makes this.

@@ -10,7 +10,7 @@ ghost use Rattle.node_states.specs.Stores.{GoesOn};
 ghost use Rattle.node_states.specs.Workers.{is_end};
 
 use crate::cores::WorkingCore;
-use crate::evidence::{WorkerCause, WorkerOut};
+use crate::evidence::{RunGraph, WorkerCause, WorkerOut};
 use crate::history::WorkerHistory;
 use crate::store::{BlockStore, Got};
 use cluster_msgs::{Event, Instruction, Label, Message, Stop, WorkerEvent};
@@ -147,15 +147,18 @@ pub fn unheld<B: Drop, L: Label<Block = B>>(
     Ok(fresh)
 }
 
-/// Records an event that isn't the worker's end, and keeps and lets go of blocks as it says. Where there is no memory after it is recorded, it stands.
+/// Records an event that isn't the worker's end, and keeps and lets go of blocks as it says; those for which the store has no room wait. Where there is no
+/// memory after it is recorded, it stands.
 ///
 /// # Errors
 /// Those of the core, and `Memory` where no memory or no right to a stamp is left.
 #[tactic(auto, using(crate::proofs::StoreLemmas::still_looked_up, crate::proofs::StoreLemmas::same_looked_up))]
 pub fn advance<B: Drop, L: Label<Block = B>, S: BlockStore<B, L>>(
     alloc: Global,
+    graph: &RunGraph<L>,
     history: &mut WorkerHistory<L>,
     store: &mut S,
+    waiting: &mut Vec<Keyed<B, L>>,
     stamps: &mut Stamps,
     event: Event,
     message: Option<Message>,
@@ -189,7 +192,7 @@ pub fn advance<B: Drop, L: Label<Block = B>, S: BlockStore<B, L>>(
     make_way(store, &core.core, &said);
     history.record(stamps, event, message, said, out)?;
     let_go(store, out);
-    keep(store, history.core(), fresh)?;
+    keep(graph, store, waiting, history.core(), fresh)?;
     Ok(())
 }
 
@@ -258,13 +261,15 @@ pub fn let_go<B: Drop, L: Label<Block = B>, S: BlockStore<B, L>>(store: &mut S, 
     }
 }
 
-/// Keeps the blocks of those keys that are in memory.
+/// Keeps the blocks of those keys that are in memory; those for which the store has no room wait.
 ///
 /// # Errors
 /// Where there is no memory.
-#[tactic(auto, using(crate::proofs::StoreLemmas::goes_nowhere, crate::proofs::StoreLemmas::goes_further, crate::proofs::StoreLemmas::goes_on_put, crate::proofs::StoreLemmas::goes_on_same))]
+#[tactic(auto, using(crate::proofs::StoreLemmas::goes_nowhere, crate::proofs::StoreLemmas::goes_further))]
 pub fn keep<B: Drop, L: Label<Block = B>, S: BlockStore<B, L>>(
+    graph: &RunGraph<L>,
     store: &mut S,
+    waiting: &mut Vec<Keyed<B, L>>,
     core: Option<&WorkingCore<L>>,
     fresh: Vec<Keyed<B, L>>,
 ) -> Result<(), AllocError>
@@ -276,8 +281,29 @@ pub fn keep<B: Drop, L: Label<Block = B>, S: BlockStore<B, L>>(
     };
     for keyed in fresh {
         if core.core.holds(keyed.key()) {
-            store.put(keyed.key(), keyed.into_block())?;
+            take_in(graph, store, waiting, keyed)?;
         }
+    }
+    Ok(())
+}
+
+/// Puts a block into the store, if that has room for it. Else it waits.
+///
+/// # Errors
+/// Where there is no memory.
+#[tactic(auto, using(crate::proofs::StoreLemmas::goes_nowhere, crate::proofs::StoreLemmas::goes_on_put, crate::proofs::StoreLemmas::goes_on_same))]
+fn take_in<B: Drop, L: Label<Block = B>, S: BlockStore<B, L>>(
+    graph: &RunGraph<L>,
+    store: &mut S,
+    waiting: &mut Vec<Keyed<B, L>>,
+    keyed: Keyed<B, L>,
+) -> Result<(), AllocError>
+    ensures { GoesOn (S.stock store.old) (S.stock store.new) }
+{
+    if store.has_room(graph.size(keyed.key())) {
+        store.put(keyed.key(), keyed.into_block())?;
+    } else {
+        waiting.push(keyed)?;
     }
     Ok(())
 }

@@ -8,6 +8,7 @@ mod client;
 mod cores;
 mod evidence;
 mod feeds;
+mod hearing;
 mod history;
 mod holding;
 mod laws;

@@ -61,13 +61,19 @@ pub trait BlockStore<B: Drop, L: Label<Block = B>>: Drop {
     fn spills(&self) -> u64
         ensures { result ≡ (stock self.now).times };
 
-    /// A block, with its key, that is likely to be put aside by the time that so many more are put, so that what it takes can be prepared: both share it from
-    /// then on. It is given once while it is kept. What the store keeps is as before.
-    fn next_out(&mut self, more: u32) -> Option<(u32, Arc<B>)>
+    /// Whether a look at the key's block is likely to bring it back into memory.
+    fn comes_back(&self, key: u32) -> bool;
+
+    /// A block, with its key, that is likely to be put aside once so many more bytes come into memory, so that what it takes can be prepared: both share it
+    /// from then on. It is given once while it is kept. What the store keeps is as before.
+    fn next_out(&mut self, coming: u64) -> Option<(u32, Arc<B>)>
         ensures { stock self.new ≡ stock self.old };
 
     /// Whether such a block was given, and what was prepared of it isn't there yet.
-    fn awaits(&self, more: u32) -> bool;
+    fn awaits(&self, coming: u64) -> bool;
+
+    /// Whether there is none such, given or not.
+    fn has_room(&self, coming: u64) -> bool;
 
     /// What is prepared of a block that is kept under this key. It may be nothing.
     fn prepare(alloc: Global, key: u32, block: Arc<B>) -> Self::Ready;

@@ -1,6 +1,5 @@
 //! A worker's node.
 ghost use Rattle.std.specs.Prelude.{◌≡◌, ◌≢◌, ◌⊎◌, ◌<◌, ◌+◌, ◌∷◌, ◌++◌, [], ℕ, true, false, map, filter, is_some, IfOk, IfErr, IfSome, OnOk, Ok, Some, None};
-ghost use Rattle.cluster_msgs.specs.Labels.{PacketFits};
 ghost use Rattle.cluster_msgs.specs.Shape.{key_count};
 ghost use Rattle.cluster_msgs.specs.declared.messages.Message.TheVariants as message;
 ghost use Rattle.cluster_msgs.specs.declared.messages.Peer.TheVariants as peer;
@@ -19,14 +18,14 @@ use crate::evidence::{Fault, RunGraph, WorkerOut};
 use crate::feeds::Feeds;
 use crate::history::WorkerHistory;
 use crate::holding::{Sought, advance, inputs, least_due, parcel};
-use crate::links::{Source, WorkerLinks, is_dead, unsent};
+use crate::links::{WorkerLinks, is_dead, unsent};
 use crate::store::BlockStore;
 use crate::why::Why;
-use crate::worker_choice::{Choice, Next, Request, down_of, paired, request_of, runs};
-use cluster_msgs::{Asker, Label, Message, Packet, Peer, RunFail, Stop};
+use crate::worker_choice::{Choice, Next, Request, runs};
+use cluster_msgs::{Label, RunFail, Stop};
 use node_links::{Keyed, Log, Machine, Sealed};
 use std::alloc::Global;
-use std::sync::Wait;
+use std::sync::{Arc, Wait};
 use turn_cell::{Kept, Stamps};
 
 /// What a task made: a block that fits its key, or evidence that the key is faulty.
@@ -47,16 +46,20 @@ pub struct Task<B: Drop, L: Label<Block = B>, F: Drop> {
 
 /// A worker with its history, the store of its blocks, its feeds and its links. `ending` says why it is to end; once its end is recorded it makes no
 /// entry more. All blocks that were put aside are recorded as such, up to so many (`looked`). A block that was found lost (`lost`) is recorded as
-/// lost before blocks are read again, and a request that was taken (`held`) is answered before a packet is taken again.
+/// lost before blocks are read again. Blocks of keys in memory for which its store has no room yet (`waiting`) go there before blocks are read or a
+/// packet is taken, and a request that was taken (`held`) is answered before a packet is taken again. A block that is to be prepared (`given`) leaves at the
+/// end of the turn.
 #[derive(Drop)]
 pub struct WorkerNode<B: Drop, L: Label<Block = B>, F: Drop, S: BlockStore<B, L>> {
-    alloc: Global,
+    pub(crate) alloc: Global,
     pub history: WorkerHistory<L>,
-    graph: RunGraph<L>,
+    pub(crate) graph: RunGraph<L>,
     pub(crate) store: S,
     looked: u64,
-    lost: Option<u32>,
-    held: Option<Request>,
+    pub(crate) lost: Option<u32>,
+    pub(crate) waiting: Vec<Keyed<B, L>>,
+    pub(crate) held: Option<Request>,
+    pub(crate) given: Option<(u32, Arc<B>)>,
     pub(crate) feeds: Feeds<F>,
     links: WorkerLinks<B, L>,
     heard: bool,
@@ -104,7 +107,9 @@ impl<B: Drop, L: Label<Block = B>, F: Drop, S: BlockStore<B, L>> WorkerNode<B, L
             store,
             looked: 0,
             lost: None,
+            waiting: Vec::new(alloc),
             held: None,
+            given: None,
             feeds,
             links,
             heard: false,
@@ -166,21 +171,26 @@ impl<B: Drop, L: Label<Block = B>, F: Drop, S: BlockStore<B, L>> WorkerNode<B, L
             history,
             graph,
             store,
+            waiting,
             held,
+            given,
             feeds,
             links,
             ..
         } = self;
         drop(graph);
+        drop(waiting);
         drop(held);
+        drop(given);
         drop(links);
         (history.into_log(), feeds, store)
     }
 
     /// One turn: its end where it is to end and has joined; else the least block that was put aside and isn't recorded as such, or one that was found
-    /// lost; else an answer to a request that waits for it; else a message that has come, which may tell of a task that goes before the others; else the
-    /// start of a task; else an ask, or none. Then what waits is sent. Such an end waits until a driver knows that the worker has joined, or the worker
-    /// has heard of the scheduler. Second in the answer is a task that was started, with a feed of the worker. First is `false` where nothing was tried.
+    /// lost; else a block that waits goes into the store, without an event; else an answer to a request that waits for it; else a message that has come, which
+    /// may tell of a task that goes before the others (a request is only taken); else the start of a task; else an ask, or none. Then what waits is sent. Such
+    /// an end waits until a driver knows that the worker has joined, or the worker has heard of the scheduler. Second in the answer is a task that was
+    /// started, with a feed of the worker. First is `false` where nothing was tried.
     #[tactic(auto, using(crate::proofs::Causes::then_cause, crate::proofs::SpillLemmas::none_first, crate::proofs::SpillLemmas::nothing_first))]
     pub fn go_on<R: Wait>(
         &mut self,
@@ -301,8 +311,8 @@ impl<B: Drop, L: Label<Block = B>, F: Drop, S: BlockStore<B, L>> WorkerNode<B, L
         self.history.lose(stamps)
     }
 
-    /// What goes before a start, if there is something: a block that was put aside, or one that was found lost, is recorded as such, or a request that
-    /// waits is answered, or a message is taken.
+    /// What goes before a start, if there is something: a block that was put aside, or one that was found lost, is recorded as such, or a block that waits
+    /// goes into the store, or a request that waits is answered, or a message is taken.
     #[tactic(auto, using(crate::proofs::Causes::no_cause, crate::proofs::SpillLemmas::none_first, crate::proofs::SpillLemmas::least_first, crate::proofs::SpillLemmas::nothing_first))]
     fn catch_up<R: Wait>(&mut self, rt: &R, stamps: &mut Stamps) -> bool
         requires live { self.old.history.ended ≡ false }
@@ -329,7 +339,7 @@ impl<B: Drop, L: Label<Block = B>, F: Drop, S: BlockStore<B, L>> WorkerNode<B, L
         }
     }
 
-    /// What waits, if something does: a block that was found lost is recorded as lost, or a request is answered; else a message.
+    /// What waits, if something does: a block that was found lost is recorded as lost, a block goes into the store, or a request is answered; else a message.
     #[tactic(auto, using(crate::proofs::Causes::no_cause))]
     fn resume<R: Wait>(&mut self, rt: &R, stamps: &mut Stamps) -> bool
         requires live { self.old.history.ended ≡ false }
@@ -340,6 +350,9 @@ impl<B: Drop, L: Label<Block = B>, F: Drop, S: BlockStore<B, L>> WorkerNode<B, L
     {
         if let Some(key) = self.lost {
             self.miss(rt, stamps, key);
+            return true;
+        }
+        if self.let_in() {
             return true;
         }
         match self.held.take() {
@@ -408,8 +421,8 @@ impl<B: Drop, L: Label<Block = B>, F: Drop, S: BlockStore<B, L>> WorkerNode<B, L
         Ok(Choice::spill(self.alloc, id, key))
     }
 
-    /// The task that would start, with the blocks of its dependencies and a feed, as long as the worker isn't to end, or one of these blocks that is
-    /// lost. Where a block isn't here the worker is to end.
+    /// The task that would start, with the blocks of its dependencies and a feed, as long as the worker isn't to end and nothing is to be prepared for it, or
+    /// one of these blocks that is lost. Where a block isn't here the worker is to end.
     #[tactic(auto, using(crate::proofs::Causes::no_cause, crate::proofs::Causes::memory_cause, crate::proofs::StoreLemmas::looks_looked_up))]
     fn next_task(&mut self) -> Next<Task<B, L, F>>
         ensures history { self.new.history ≡ self.old.history }
@@ -420,7 +433,7 @@ impl<B: Drop, L: Label<Block = B>, F: Drop, S: BlockStore<B, L>> WorkerNode<B, L
         ensures feeds { MatchNext result (λ task. (self.old.feeds.here ≡ self.new.feeds.here ++ task.feed ∷ []) × (self.new.feeds.out ≡ self.old.feeds.out + 1))
             (self.new.feeds ≡ self.old.feeds) }
     {
-        if self.ending.is_some() {
+        if self.ending.is_some() || self.prepares() {
             return Next::Other;
         }
         let Some(key) = self.would_start() else {
@@ -453,7 +466,7 @@ impl<B: Drop, L: Label<Block = B>, F: Drop, S: BlockStore<B, L>> WorkerNode<B, L
         }
     }
 
-    fn would_start(&self) -> Option<u32>
+    pub(crate) fn would_start(&self) -> Option<u32>
         ensures { IfSome result (λ key. would_start (facts self.now.history.book.core.core) ≡ Some key) }
     {
         let core = self.history.core()?;
@@ -520,7 +533,7 @@ impl<B: Drop, L: Label<Block = B>, F: Drop, S: BlockStore<B, L>> WorkerNode<B, L
         }
     }
 
-    /// A message that has come, if there is one. `false` where there is none.
+    /// A message that has come, if there is one; a request waits for a later turn. `false` where there is none.
     #[tactic(auto, using(crate::proofs::Causes::no_cause))]
     fn listen<R: Wait>(&mut self, rt: &R, stamps: &mut Stamps) -> bool
         requires live { self.old.history.ended ≡ false }
@@ -532,9 +545,14 @@ impl<B: Drop, L: Label<Block = B>, F: Drop, S: BlockStore<B, L>> WorkerNode<B, L
         let taken = self.links.take(rt);
         match taken {
             Some((source, packet)) => {
-                let chosen = self.deliver(source, packet);
-                self.heard = self.heard | chosen.is_ok();
-                self.carry_chosen(rt, stamps, chosen);
+                match self.deliver(source, packet) {
+                    Ok(Some(choice)) => {
+                        self.heard = true;
+                        self.carry(rt, stamps, choice);
+                    }
+                    Ok(None) => self.heard = true,
+                    Err(stop) => self.note(stop),
+                }
                 true
             }
             None => {
@@ -584,64 +602,6 @@ impl<B: Drop, L: Label<Block = B>, F: Drop, S: BlockStore<B, L>> WorkerNode<B, L
             }
         }
         None
-    }
-
-    fn deliver(&mut self, source: Source, packet: Packet<B>) -> Result<Choice<B, L>, Stop>
-        requires { PacketFits L.facts packet }
-        ensures same { (self.new.history ≡ self.old.history) × (self.new.feeds ≡ self.old.feeds) × (self.new.ending ≡ self.old.ending) }
-        ensures says { IfOk result
-            (λ c. MayMake self.old.history.id (facts self.old.history.book.core.core) self.old.history.recorded c.event c.message c.said) }
-    {
-        match source {
-            Source::Scheduler => self.hear(packet),
-            Source::Worker(peer) => self.meet(peer, packet),
-            Source::Client(client) => self.serve_client(client, packet),
-        }
-    }
-
-    /// A message of the scheduler.
-    fn hear(&self, packet: Packet<B>) -> Result<Choice<B, L>, Stop>
-        ensures { IfOk result (λ c. MayMake self.now.history.id (facts self.now.history.book.core.core) self.now.history.recorded c.event c.message c.said) }
-    {
-        let down = down_of(packet)?;
-        Ok(Choice::told(self.alloc, self.history.id(), down)?)
-    }
-
-    /// A request or an answer of another worker.
-    #[tactic(auto, using(node_links::proofs::Parcels::parcel_fits))]
-    fn meet(&mut self, peer: u32, packet: Packet<B>) -> Result<Choice<B, L>, Stop>
-        requires { PacketFits L.facts packet }
-        ensures same { (self.new.history ≡ self.old.history) × (self.new.feeds ≡ self.old.feeds) × (self.new.ending ≡ self.old.ending) }
-        ensures says { IfOk result
-            (λ c. MayMake self.old.history.id (facts self.old.history.book.core.core) self.old.history.recorded c.event c.message c.said) }
-    {
-        let Packet { message, blocks } = packet;
-        match message {
-            Message::Peer(Peer::GetData { ask, keys }) => {
-                drop(blocks);
-                let asker = Asker::Worker(peer);
-                self.give(Request { asker, ask, keys })
-            }
-            Message::Peer(Peer::Data { ask, found }) => {
-                let (found, brought) = paired(self.alloc, found, blocks)?;
-                let id = self.history.id();
-                Ok(Choice::gathered(self.alloc, id, peer, ask, found, brought)?)
-            }
-            other => {
-                drop(other);
-                drop(blocks);
-                Err(Stop::Refused)
-            }
-        }
-    }
-
-    /// A request of a client.
-    fn serve_client(&mut self, client: u32, packet: Packet<B>) -> Result<Choice<B, L>, Stop>
-        ensures same { (self.new.history ≡ self.old.history) × (self.new.feeds ≡ self.old.feeds) × (self.new.ending ≡ self.old.ending) }
-        ensures says { IfOk result
-            (λ c. MayMake self.old.history.id (facts self.old.history.book.core.core) self.old.history.recorded c.event c.message c.said) }
-    {
-        self.give(request_of(Asker::Client(client), packet)?)
     }
 
     /// What answers a request: the blocks of exactly those of its keys that the worker counts as in memory, in their order; or one of these that is
@@ -758,8 +718,10 @@ impl<B: Drop, L: Label<Block = B>, F: Drop, S: BlockStore<B, L>> WorkerNode<B, L
         let mut out = WorkerOut::nothing(self.alloc);
         let end = advance(
             self.alloc,
+            &self.graph,
             &mut self.history,
             &mut self.store,
+            &mut self.waiting,
             stamps,
             event,
             message,

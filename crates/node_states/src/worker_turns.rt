@@ -5,7 +5,7 @@ use cluster_msgs::{Label, RunFail};
 use std::sync::{Arc, Wait};
 use turn_cell::{Act, Stamps};
 
-/// What came of a worker's turn: whether it made an event, a task that it started, or, without an event, a block with its key that is to be prepared.
+/// What came of a worker's turn: whether it made an event, a task that it started, or a block with its key that is to be prepared.
 #[derive(Drop)]
 pub enum WorkerStep<B: Drop, L: Label<Block = B>, F: Drop> {
     Went(bool),
@@ -13,8 +13,21 @@ pub enum WorkerStep<B: Drop, L: Label<Block = B>, F: Drop> {
     Prepares(u32, Arc<B>),
 }
 
-/// A turn of a worker: it makes an event, or none, and may start a task. A block that is likely to go out of its store is given first, to be prepared, and
-/// while one is prepared that goes before the others, no event is made.
+/// What a turn that made an event, or none, gives: a task that it started, or a block that is to be prepared, which no such turn gives.
+fn step_of<B: Drop, L: Label<Block = B>, F: Drop>(
+    moved: bool,
+    task: Option<Task<B, L, F>>,
+    given: Option<(u32, Arc<B>)>,
+) -> WorkerStep<B, L, F> {
+    match (task, given) {
+        (Some(task), _) => WorkerStep::Started(task),
+        (None, Some((key, block))) => WorkerStep::Prepares(key, block),
+        (None, None) => WorkerStep::Went(moved),
+    }
+}
+
+/// A turn of a worker: it makes an event, or none, and may start a task. A block that is likely to go out of its store by the next block that waits, by the
+/// answer to a request or by the start of a task is given first, to be prepared, and while one is prepared these wait.
 pub struct WorkerTurn<'a, R: Wait> {
     pub rt: &'a R,
     pub stamps: &'a mut Stamps,
@@ -35,20 +48,15 @@ impl<'a, R: Wait, B: Drop, L: Label<Block = B>, F: Drop, S: BlockStore<B, L>> Ac
             joined,
             dead,
         } = self;
-        if let Some((key, block)) = state.next_out() {
+        if state.stays() {
+            let block = state.take_given();
             state.sound();
-            return WorkerStep::Prepares(key, block);
-        }
-        if state.awaits() {
-            state.sound();
-            return WorkerStep::Went(false);
+            return step_of(false, None, block);
         }
         let (moved, task) = state.go_on(rt, stamps, joined, dead);
+        let given = state.take_given();
         state.sound();
-        match task {
-            Some(task) => WorkerStep::Started(task),
-            None => WorkerStep::Went(moved),
-        }
+        step_of(moved, task, given)
     }
 }
 

@@ -31,11 +31,11 @@ pub record IsOldest (es : List (ℕ × InMemory)) (key : ℕ) (a : Array) : Type
   pub taken : Bool
   pub last : IsLast es key (record { array = a; taken = taken })
 
--- A block goes to the disk by the time that so many more are put that are as long as it: once those are gone that were used less recently, it and the
--- others with these have more than six tenths of the limit.
-pub record IsNextOut (limit more : ℕ) (es : List (ℕ × InMemory)) (key : ℕ) (a : Array) : Type 0 where
+-- A block goes to the disk once so many more bytes come into memory: when those are gone that were used less recently, it and the others with these
+-- bytes have more than six tenths of the limit.
+pub record IsNextOut (limit coming : ℕ) (es : List (ℕ × InMemory)) (key : ℕ) (a : Array) : Type 0 where
   pub others : List (ℕ × InMemory)
   pub behind : List (ℕ × InMemory)
   pub taken : Bool
   pub order : es ≡ others ++ (key, record { array = a; taken = taken }) ∷ behind
-  pub much : 6 * limit < 10 * (bytes_in others + (more + 1) * size_of_block a)
+  pub much : 6 * limit < 10 * (bytes_in others + size_of_block a + coming)

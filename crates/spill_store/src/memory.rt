@@ -182,6 +182,11 @@ impl Memory {
         }
     }
 
+    /// How many blocks there are. No memory.
+    pub(crate) fn len(&self) -> usize {
+        self.blocks.len()
+    }
+
     /// Whether the blocks have more than six tenths of so many bytes, and there is more than one. No memory.
     pub(crate) fn is_crowded(&self, limit: u64) -> bool
         ensures { IsTrue result ↔ IsCrowded limit self.now }
@@ -212,16 +217,15 @@ impl<'a> Model for LateBlocks<'a> {
 
 impl<'a> LateBlocks<'a> {
     /// Takes the one of those that are left which was used least recently, if there is one, and tells whether they have more than six tenths of so many
-    /// bytes with so many more that are as long as it. No memory.
+    /// bytes with those that are to come. No memory.
     #[tactic(auto, using(crate::proofs::Memories::bytes_taken))]
-    pub(crate) fn next(&mut self, limit: u64, more: u32) -> Option<(u32, &'a Held, bool)>
+    pub(crate) fn next(&mut self, limit: u64, coming: u64) -> Option<(u32, &'a Held, bool)>
         ensures took { IfSome result (λ e. self.old ≡ self.new ++ (e.0, e.1.now) ∷ []) }
-        ensures goes { IfSome result (λ e. IsTrue e.2 → 6 * limit < 10 * (bytes_in self.new + (more + 1) * size_of_block e.1.now.array)) }
+        ensures goes { IfSome result (λ e. IsTrue e.2 → 6 * limit < 10 * (bytes_in self.new + size_of_block e.1.now.array + coming)) }
     {
         let (key, held) = self.blocks.next()?;
-        let size = held.size();
-        let much = 10 * (self.bytes as u128 + more as u128 * size as u128);
-        self.bytes -= size;
+        let much = 10 * (self.bytes as u128 + coming as u128);
+        self.bytes -= held.size();
         Some((key, held, much > 6 * limit as u128))
     }
 }

@@ -116,9 +116,9 @@ impl<D: Disk> Shelf<D> {
         self.disk.faults() >= FAULTS
     }
 
-    /// How far the digest of the block of this key is, which is in memory. No memory.
+    /// How far the digest of the block of this key is, which is in memory. Nothing is left to do where the disk is used no more. No memory.
     pub(crate) fn stage(&self, key: u32) -> Stage {
-        if self.twice.get(key).is_some() {
+        if self.is_worn() || self.twice.get(key).is_some() {
             return Stage::Settled;
         }
         match self.ready.get(key) {

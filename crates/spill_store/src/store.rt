@@ -1,5 +1,6 @@
 // The store.
-ghost use Rattle.std.specs.Prelude.{◌≡◌, ℕ, IfErr, IfOk, IfSome, IsTrue, OnErr, OnOk, None};
+ghost use Rattle.std.specs.Prelude.{◌≡◌, ℕ, nat_eq, is_some, IfErr, IfOk, IfSome, IsTrue, OnErr, OnOk, None, false};
+ghost use Rattle.std.specs.Map.{lookup};
 ghost use Rattle.std.specs.Option.{option_map};
 ghost use Rattle.nd_shape.specs.Block.{Array};
 ghost use Rattle.spill_store.specs.Memory.{IsNextOut};
@@ -18,9 +19,6 @@ use nd_shape::Block;
 use std::alloc::{AllocError, Global};
 use std::marker::Model;
 use std::sync::Arc;
-
-/// Among so many blocks, used least recently, one is looked for that goes soon.
-const LOOKED: u32 = 16;
 
 /// Blocks by key, some of them on a disk. Contracts see the blocks in memory in the order of use, those that the disk alone
 /// has, and the disk.
@@ -136,15 +134,24 @@ impl<D: Disk> SpillStore<D> {
         }
     }
 
-    /// A block that goes to the disk by the time that so many more are put that are as long as it, which both share from then on, so that its digest can be
-    /// made outside of the store. It is given once while it is kept, and not where the disk has it. The 16 blocks that were used least recently are looked
-    /// at. There is none where memory is wanting.
-    pub fn next_out(&mut self, more: u32) -> Option<(u32, Arc<Block>)>
+    /// Whether the disk alone has the block of a key, so that `get` brings it into memory. No memory.
+    pub fn is_away(&self, key: u32) -> bool
+        ensures { result ≡ is_some (lookup (nat_eq key) (away_in self.now.shelf)) }
+    {
+        match &self.shelf {
+            Some(shelf) => shelf.has(key),
+            None => false,
+        }
+    }
+
+    /// A block that goes to the disk once so many more bytes come into memory, which both share from then on, so that its digest can be made outside of the
+    /// store. It is given once while it is kept, and not where the disk has it. Those that go first are given first. There is none where memory is wanting.
+    pub fn next_out(&mut self, coming: u64) -> Option<(u32, Arc<Block>)>
         ensures same { self.new ≡ self.old }
         ensures disk { IfSome result (λ _. CanSpill D.view self.old.shelf) }
-        ensures next { IfSome result (λ e. IsNextOut self.old.limit more self.old.memory e.0 e.1.value) }
+        ensures next { IfSome result (λ e. IsNextOut self.old.limit coming self.old.memory e.0 e.1.value) }
     {
-        let (key, block) = self.due(more)?;
+        let (key, block) = self.due(coming)?;
         if self.give(key) {
             Some((key, block))
         } else {
@@ -153,12 +160,22 @@ impl<D: Disk> SpillStore<D> {
     }
 
     /// Whether such a block was given out, and its digest wasn't handed over yet (`expect`). No memory.
-    pub fn awaits(&self, more: u32) -> bool
-        ensures { IsTrue result → (e : ℕ × Array) × IsNextOut self.now.limit more self.now.memory e.0 e.1 }
+    pub fn awaits(&self, coming: u64) -> bool
+        ensures { IsTrue result → (e : ℕ × Array) × IsNextOut self.now.limit coming self.now.memory e.0 e.1 }
     {
-        match self.next_at(more, Stage::Given) {
+        match self.next_at(coming, Stage::Given) {
             Some(_) => true,
             None => false,
+        }
+    }
+
+    /// Whether no digest need be made where so many more bytes come into memory: none is to be given out, and none is awaited. No memory.
+    pub fn has_room(&self, coming: u64) -> bool
+        ensures { result ≡ false → (e : ℕ × Array) × IsNextOut self.now.limit coming self.now.memory e.0 e.1 }
+    {
+        match self.next_at(coming, Stage::Open) {
+            Some(_) => false,
+            None => !self.awaits(coming),
         }
     }
 
@@ -198,14 +215,17 @@ impl<D: Disk> SpillStore<D> {
         }
     }
 
-    // The first block at this stage that goes once so many more are put. No memory.
-    fn next_at(&self, more: u32, stage: Stage) -> Option<(u32, &Held)>
-        ensures { IfSome result (λ e. IsNextOut self.now.limit more self.now.memory e.0 e.1.now.array) }
+    // The first block at this stage that goes once so many more bytes come into memory. No memory.
+    fn next_at(&self, coming: u64, stage: Stage) -> Option<(u32, &Held)>
+        ensures { IfSome result (λ e. IsNextOut self.now.limit coming self.now.memory e.0 e.1.now.array) }
     {
         let mut late = self.memory.late();
-        for _ in 0..LOOKED {
-            let (key, held, goes) = late.next(self.limit, more)?;
-            if goes && stage_of(&self.shelf, key) == stage {
+        for _ in 0..self.memory.len() {
+            let (key, held, goes) = late.next(self.limit, coming)?;
+            if !goes {
+                return None;
+            }
+            if stage_of(&self.shelf, key) == stage {
                 return Some((key, held));
             }
         }
@@ -213,10 +233,10 @@ impl<D: Disk> SpillStore<D> {
     }
 
     // The first such block of which nothing was done, which both share from then on.
-    fn due(&self, more: u32) -> Option<(u32, Arc<Block>)>
-        ensures { IfSome result (λ e. IsNextOut self.now.limit more self.now.memory e.0 e.1.value) }
+    fn due(&self, coming: u64) -> Option<(u32, Arc<Block>)>
+        ensures { IfSome result (λ e. IsNextOut self.now.limit coming self.now.memory e.0 e.1.value) }
     {
-        let (key, held) = self.next_at(more, Stage::Open)?;
+        let (key, held) = self.next_at(coming, Stage::Open)?;
         match held.share() {
             Ok(block) => Some((key, block)),
             Err(_) => None,

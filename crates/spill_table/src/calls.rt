@@ -53,16 +53,16 @@ fn put(alloc: Global, store: &mut SpillStore<SpoiledDisk>, key: u32, count: u32)
     }
 }
 
-// Makes the digest of a block that goes out once so many more are put, and hands it to the store. The block's key, if there is one.
-fn prepare(alloc: Global, store: &mut SpillStore<SpoiledDisk>, more: u32) -> Option<u32> {
-    let (key, block) = store.next_out(more)?;
+// Makes the digest of a block that goes out once so many more bytes come, and hands it to the store. The block's key, if there is one.
+fn prepare(alloc: Global, store: &mut SpillStore<SpoiledDisk>, coming: u32) -> Option<u32> {
+    let (key, block) = store.next_out(coming as u64)?;
     store.expect(Digested::new(alloc, key, block));
     Some(key)
 }
 
-// The key of a block that goes out once so many more are put, of which no digest is handed over.
-fn given(store: &mut SpillStore<SpoiledDisk>, more: u32) -> Option<u32> {
-    let (key, _) = store.next_out(more)?;
+// The key of a block that goes out once so many more bytes come, of which no digest is handed over.
+fn given(store: &mut SpillStore<SpoiledDisk>, coming: u32) -> Option<u32> {
+    let (key, _) = store.next_out(coming as u64)?;
     Some(key)
 }
 
@@ -126,20 +126,23 @@ fn play_one<R: Print>(
     } else if let Some(key) = name.strip_prefix('r') {
         store.remove(number(key));
         print!(rt; "{word}: removed")?;
-    } else if let Some(more) = name.strip_prefix('n') {
-        let prepared = prepare(alloc, store, number(more));
+    } else if let Some(coming) = name.strip_prefix('n') {
+        let prepared = prepare(alloc, store, number(coming));
         print!(rt; "{word}: ")?;
         print_key(rt, "prepared", prepared)?;
-    } else if let Some(more) = name.strip_prefix('m') {
-        let given = given(store, number(more));
+    } else if let Some(coming) = name.strip_prefix('m') {
+        let given = given(store, number(coming));
         print!(rt; "{word}: ")?;
         print_key(rt, "given", given)?;
     } else if let Some(key) = name.strip_prefix('h') {
         let done = hand_over(alloc, store, number(key), number(count));
         print!(rt; "{word}: handed over {done}")?;
-    } else if let Some(more) = name.strip_prefix('a') {
-        let awaits = store.awaits(number(more));
+    } else if let Some(coming) = name.strip_prefix('a') {
+        let awaits = store.awaits(number(coming) as u64);
         print!(rt; "{word}: awaits {awaits}")?;
+    } else if let Some(coming) = name.strip_prefix('f') {
+        let room = store.has_room(number(coming) as u64);
+        print!(rt; "{word}: room {room}")?;
     }
     print_spilled(rt, store)
 }

@@ -22,8 +22,6 @@ use std::sync::Arc;
 #[derive(Drop)]
 pub struct SpillingBlocks<D: SpillDisk, L: Label<Block = Block>> {
     store: SpillStore<D>,
-    /// How many blocks were given out to be digested.
-    given: u64,
     label: PhantomData<L>,
 }
 
@@ -54,7 +52,6 @@ impl<D: SpillDisk, L: Label<Block = Block>> SpillingBlocks<D, L> {
         match SpillStore::new(alloc, disk, limit) {
             Ok(store) => Ok(SpillingBlocks {
                 store,
-                given: 0,
                 label: PhantomData,
             }),
             Err(error) => Err(error),
@@ -66,11 +63,7 @@ impl<D: SpillDisk, L: Label<Block = Block>> SpillingBlocks<D, L> {
         ensures disk { result ≡ option_map (λ h. h.disk) self.shelf }
         ensures there { IfSome result (λ d. AreThere (D.view d) (away_in self.shelf)) }
     {
-        let SpillingBlocks {
-            store,
-            given: _,
-            label: _,
-        } = self;
+        let SpillingBlocks { store, label: _ } = self;
         store.into_disk()
     }
 }
@@ -121,19 +114,20 @@ impl<D: SpillDisk, L: Label<Block = Block>> BlockStore<Block, L> for SpillingBlo
         self.store.spills()
     }
 
-    /// No more blocks are given than have gone to the disk, but for as many as are looked ahead for: where all that is needed fits in memory, next to none is
-    /// digested.
-    fn next_out(&mut self, more: u32) -> Option<(u32, Arc<Block>)> {
-        if self.given >= self.store.spills().saturating_add(more as u64) {
-            return None;
-        }
-        let next = self.store.next_out(more)?;
-        self.given = self.given.saturating_add(1);
-        Some(next)
+    fn comes_back(&self, key: u32) -> bool {
+        self.store.is_away(key)
     }
 
-    fn awaits(&self, more: u32) -> bool {
-        self.store.awaits(more)
+    fn next_out(&mut self, coming: u64) -> Option<(u32, Arc<Block>)> {
+        self.store.next_out(coming)
+    }
+
+    fn awaits(&self, coming: u64) -> bool {
+        self.store.awaits(coming)
+    }
+
+    fn has_room(&self, coming: u64) -> bool {
+        self.store.has_room(coming)
     }
 
     fn prepare(alloc: Global, key: u32, block: Arc<Block>) -> Digested {

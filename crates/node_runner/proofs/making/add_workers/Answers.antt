@@ -1,7 +1,7 @@
 use Rattle.std.proofs.Common.{◌≡◌, ◌∙◌, ◌+◌, ◌∷◌, [], map, map-id, ap, sym, subst, rules, arith, length}
 use Rattle.std.specs.Prelude.{vec_len}
 use Rattle.std.proofs.lemmas.Iterator.Adapters.{YieldsList-from_vec}
-use Rattle.std.proofs.lemmas.Iterator.Consumers.{YieldsList-end}
+use Rattle.std.proofs.lemmas.Iterator.Consumers.{YieldsList-end, YieldsList-turn}
 use Rattle.std.proofs.lemmas.Bool.{and_parts}
 use Rattle.std.proofs.lemmas.List.{length-append}
 use Rattle.worker_core.specs.Core.{facts as worker_facts}
@@ -26,3 +26,9 @@ returns-clause-made g c = λ yes.
     let count : c.loop-ports.at ≡ vec_len c.args.ports = omega (arith, c.loop-ports.invariant.places, all, c.args.ports.ok.0) in
     subst (λ n. AreMade (λ k s. IsFirstWorker c.args.graph.now c.args.threads (k + 1) s.history.book.core.id (worker_facts s.history.book.core.core)) n (map (λ p. berth_of p.seat) c.loop-ports.row.passes.items))
     {x = c.loop-ports.at} {y = vec_len c.args.ports} count (c.loop-ports.invariant.made yes)
+
+pub overflow_add-at : goal.overflow_add-at
+overflow_add-at g c =
+    let turn = YieldsList-turn (YieldsList-from_vec {s = c.into_iter-ports-iterator.result} c.args.ports.items (search rules) (search rules)) c.loop-ports.yielded c.loop-ports.ports-iterator c.loop-ports.yielded_by
+    c.next.result c.next.new.self c.in-Some.ports c.in-Some.is c.next.ensures.steps in
+    omega (arith, turn.0, c.loop-ports.invariant.places, c.requires.few, c.args.ports.ok.0)

@@ -10,10 +10,11 @@ use Rattle.node_links.specs.contracts.log.Log as Log
 use Rattle.node_links.specs.contracts.port.Port as Port
 use Rattle.node_links.proofs.Crosses.{log_send, log_sync}
 use Rattle.node_states.specs.contracts.history.WorkerHistory as WorkerHistory
+use Rattle.node_states.specs.contracts.links.WorkerLinks as WorkerLinks
 use Rattle.node_states.specs.contracts.past.SchedulerHistory as SchedulerHistory
 use Rattle.node_runner.specs.Runs.{numbers}
 use Rattle.node_runner.proofs.ClosedRows.{schedulers_books, workers_books, clients_books}
-use Rattle.node_runner.proofs.Crossing.{client_send, client_sync, port_send, port_sync, keyed_send, keyed_sync, scheduler_history_send, scheduler_history_sync, worker_history_send, worker_history_sync}
+use Rattle.node_runner.proofs.Crossing.{client_send, client_sync, port_send, port_sync, links_send, links_sync, keyed_send, keyed_sync, scheduler_history_send, scheduler_history_sync, worker_history_send, worker_history_sync}
 use Rattle.node_runner.proofs.run.run_nodes.Goals as goal
 
 pub returns-clause-scheduler : goal.returns-clause-scheduler
@@ -39,9 +40,11 @@ run_cells-requires-send-S g c κs = λ outlives.
 pub run_cells-requires-send-W : goal.run_cells-requires-send-W
 run_cells-requires-send-W g c κs = λ outlives.
     let t = c.type_bounds in
-    let p : IsSend (Port.the_field (param 1 g.row.B) (param 2 g.row.L) g.L.Label).row = port_send (param 1 g.row.B) (param 2 g.row.L) g.L.Label t.send-B t.sync-B t.send-L t.sync-L in
+    let p : IsSend (WorkerLinks.the_field (param 1 g.row.B) (param 2 g.row.L) g.L.Label).row = links_send (param 1 g.row.B) (param 2 g.row.L) g.L.Label t.send-B t.sync-B t.send-L t.sync-L in
     let b : IsSend (Keyed.the_field (param 1 g.row.B) (param 2 g.row.L) g.L.Label).row = keyed_send (param 1 g.row.B) (param 2 g.row.L) g.L.Label t.send-B t.sync-B t.send-L t.sync-L in
     let h : IsSend (WorkerHistory.the_field (param 2 g.row.L) (param 1 g.row.B) g.L.Label).row = worker_history_send (param 1 g.row.B) (param 2 g.row.L) g.L.Label t.send-B t.sync-B t.send-L t.sync-L in
+    let o : IsSend (param 1 g.row.B) = t.send-B in
+    let y : IsSync (param 1 g.row.B) = t.sync-B in
     let f : IsSend (param 3 g.row.F) = t.send-F in
     let z : IsSend (param 4 g.row.S) = t.send-S in
     search (sendable, crosses) depth 60 fits 6000
@@ -65,9 +68,11 @@ run_cells-requires-sync-S g c κs = λ outlives.
 pub run_cells-requires-sync-W : goal.run_cells-requires-sync-W
 run_cells-requires-sync-W g c κs = λ outlives.
     let t = c.type_bounds in
-    let p : IsSync (Port.the_field (param 1 g.row.B) (param 2 g.row.L) g.L.Label).row = port_sync (param 1 g.row.B) (param 2 g.row.L) g.L.Label t.send-B t.sync-B t.send-L t.sync-L in
+    let p : IsSync (WorkerLinks.the_field (param 1 g.row.B) (param 2 g.row.L) g.L.Label).row = links_sync (param 1 g.row.B) (param 2 g.row.L) g.L.Label t.send-B t.sync-B t.send-L t.sync-L in
     let b : IsSync (Keyed.the_field (param 1 g.row.B) (param 2 g.row.L) g.L.Label).row = keyed_sync (param 1 g.row.B) (param 2 g.row.L) g.L.Label t.send-B t.sync-B t.send-L t.sync-L in
     let h : IsSync (WorkerHistory.the_field (param 2 g.row.L) (param 1 g.row.B) g.L.Label).row = worker_history_sync (param 1 g.row.B) (param 2 g.row.L) g.L.Label t.send-B t.sync-B t.send-L t.sync-L in
+    let o : IsSend (param 1 g.row.B) = t.send-B in
+    let y : IsSync (param 1 g.row.B) = t.sync-B in
     let f : IsSync (param 3 g.row.F) = t.sync-F in
     let z : IsSync (param 4 g.row.S) = t.sync-S in
     search (sendable, crosses) depth 60 fits 6000
