@@ -143,6 +143,9 @@ fn play_one<R: Print>(
     } else if let Some(coming) = name.strip_prefix('f') {
         let room = store.has_room(number(coming) as u64);
         print!(rt; "{word}: room {room}")?;
+    } else if let Some(key) = name.strip_prefix('w') {
+        let away = store.is_away(number(key));
+        print!(rt; "{word}: away {away}")?;
     }
     print_spilled(rt, store)
 }
