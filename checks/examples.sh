@@ -90,7 +90,7 @@ if /usr/bin/python3 -c 'import numpy' 2>/dev/null; then
     check "lines of $command large $options" "$(sed -n '1p;$p' <<< "$lines")" "saved examples/large/saved.npy (180,)
 finished by: $ended"
     check "file of $command large $options" "$(cmp "$folder/examples/large/saved.npy" "$folder/examples/large/expected.npy" && echo same)" same
-    check "what $command large $options leaves" "$(ls -A "$folder" "$folder/examples/large" | grep -c dask-spill)" 0
+    check "what $command large $options leaves" "$(ls -A "$folder" "$folder/examples/large" | grep -c '^\.dask')" 0
   done <<< 'cluster run
 cluster run --memory 16777216
 plain plain

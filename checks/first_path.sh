@@ -65,10 +65,15 @@ check 'a link that has the name' "$(readlink "$name")" aim.npy
 check 'what it leads to' "$(cmp "$folder/aim.npy" "$folder/whole.npy" && echo same)" same
 # what is no regular file is written in place
 rm "$name" && mkfifo "$name"
-(cd "$folder" && timeout 20 "$root/dask" plain job.txt > /dev/null) &
-timeout 20 cat "$name" > "$folder/piped.npy"
-wait $!
+line=$(cd "$folder" && timeout 20 "$root/dask" plain job.txt 2>&1)
+check 'status where a pipe that nobody reads has the name' "$?" 6
+check 'line where a pipe that nobody reads has the name' "$line" 'dask: write fault'
+# the shell has it open to be read from before the command on
+exec 8<> "$name" 9< "$name" 8>&-
+(cd "$folder" && timeout 20 "$root/dask" plain job.txt > /dev/null)
 check 'status where a pipe has the name' "$?" 0
+cat <&9 > "$folder/piped.npy"
+exec 9<&-
 check 'what came through the pipe' "$(cmp "$folder/piped.npy" "$folder/whole.npy" && echo same)" same
 rm "$name" && ln -s /dev/full "$name"
 line=$(cd "$folder" && "$root/dask" run job.txt 2>&1)

@@ -1,7 +1,7 @@
 #!/usr/bin/env bash
 # Runs by a cluster of threads whose workers keep few blocks in memory, on real files: the bytes are those of the evaluation in
-# the calling thread, also where blocks on the disk are spoiled while the run goes on, and no folder is left. DASK names another
-# program than the one of these sources.
+# the calling thread, also where blocks on the disk are spoiled while the run goes on, and nothing is left, even of runs that are killed. DASK names
+# another program than the one of these sources.
 cd "$(dirname "$0")/.." || exit 1
 about='spilling'
 . tools/checking.bash
@@ -43,20 +43,54 @@ spoiled=$(for seed in 1 2 3 4; do
   [ "$?" = 0 ] || echo "status $?"
   cmp s.npy wanted.npy || echo 'other bytes'
 done)
-check 'runs whose blocks are spoiled' "$(grep -cE '^flipped [0-9]+, cut [0-9]+, removed [0-9]+$' <<< "$spoiled")" 4
-check 'what went wrong where blocks are spoiled' "$(grep -vE '^flipped [0-9]+, cut [0-9]+, removed [0-9]+$' <<< "$spoiled")" ''
-for way in flipped cut removed; do
+check 'runs whose blocks are spoiled' "$(grep -cE '^flipped [0-9]+, cut [0-9]+, blanked [0-9]+$' <<< "$spoiled")" 4
+check 'what went wrong where blocks are spoiled' "$(grep -vE '^flipped [0-9]+, cut [0-9]+, blanked [0-9]+$' <<< "$spoiled")" ''
+for way in flipped cut blanked; do
   check "some blocks are $way" "$(grep -cE "$way [1-9]" <<< "$spoiled" | grep -c '[1-9]')" 1
 done
 check 'what is left where blocks are spoiled' "$(ls -A | sort | paste -sd ' ')" 'job.txt lines s.npy wanted.npy'
 
-# a folder that another run left is in nobody's way
-mkdir .dask-spill-0
-touch .dask-spill-0/1-0
+# what has a name that is tried is in nobody's way, and an empty file, as of a run that was killed there, goes
+mkdir .dask-spill-1-0
+echo kept > .dask-spill-1-1
+touch .dask-spill-1-2
+rm -f s.npy
+"$program" run job.txt --memory 1 --workers 1 > lines
+check 'status beside names that are taken' "$?" 0
+check 'bytes beside names that are taken' "$(cmp s.npy wanted.npy && echo equal)" equal
+check 'what is left beside them' "$(ls -A | sort | paste -sd ' ')" '.dask-spill-1-0 .dask-spill-1-1 job.txt lines s.npy wanted.npy'
+check 'what one of them holds' "$(cat .dask-spill-1-1)" kept
+rm -r .dask-spill-1-0 .dask-spill-1-1
+
+# the files of the disks lie where DASK_SPILL says, and there are as many as workers
+mkdir disk
+rm -f s.npy
+DASK_SPILL=$folder/disk "$program" run job.txt --memory 1 --workers 3 > lines &
+run=$!
+seen=$(while kill -0 "$run" 2> /dev/null; do
+  for descriptor in /proc/"$run"/fd/*; do readlink "$descriptor"; done
+done 2> /dev/null | grep -o '.*/\.dask-spill-[0-9]*-' | sort -u)
+wait "$run"
+check 'status where the blocks go elsewhere' "$?" 0
+check 'bytes where the blocks go elsewhere' "$(cmp s.npy wanted.npy && echo equal)" equal
+check 'where they go' "$seen" "$(printf "$folder/disk/.dask-spill-%s-\n" 1 2 3)"
+check 'what is left where they went' "$(ls -A disk)" ''
+rmdir disk
+rm -f s.npy
+DASK_SPILL=$folder/disk "$program" run job.txt --memory 1 > lines
+check 'status where no disk can be had' "$?" 0
+check 'bytes where no disk can be had' "$(cmp s.npy wanted.npy && echo equal)" equal
+
+# runs that are killed leave their parts alone, which the next one removes
+rm -f s.npy
+for wait in 0.02 0.05 0.1 0.15 0.2 0.25; do
+  timeout --foreground -s KILL "$wait" "$program" run job.txt --memory 1 > lines
+  check "disks that are left after $wait s" "$(find . -name '.dask*' | wc -l)" 0
+done
 rm -f s.npy
 "$program" run job.txt --memory 1 > lines
-check 'status beside a folder that was left' "$?" 0
-check 'bytes beside a folder that was left' "$(cmp s.npy wanted.npy && echo equal)" equal
-check 'what is left beside it' "$(ls -A | sort | paste -sd ' ')" '.dask-spill-0 job.txt lines s.npy wanted.npy'
+check 'status after runs that were killed' "$?" 0
+check 'bytes after runs that were killed' "$(cmp s.npy wanted.npy && echo equal)" equal
+check 'what is left after runs that were killed' "$(ls -A | sort | paste -sd ' ')" 'job.txt lines s.npy wanted.npy'
 
 summary

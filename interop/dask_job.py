@@ -8,6 +8,7 @@ each (2), which goes at the end. Every worker has to see the files under the nam
 """
 import argparse
 import contextlib
+import fcntl
 import itertools
 import logging
 import math
@@ -113,17 +114,20 @@ class Part:
         self.name, head = os.path.realpath(name), array_files.head(shape)
         if os.path.exists(self.name) and not os.path.isfile(self.name):
             raise OSError(name)
-        self.path, file = self.create()
+        self.path, self.file = self.create()
         self.target = SavedFile(self.path, shape, len(head))
-        with file:
-            file.write(head)
-            file.truncate(len(head) + 8 * math.prod(shape))
+        self.file.write(head)
+        self.file.truncate(len(head) + 8 * math.prod(shape))
 
     def create(self):
+        """It stays locked until it is closed, since the program removes parts that nobody has locked."""
         for number in itertools.count():
             path = f'{self.name}.{number}.part'
-            with contextlib.suppress(FileExistsError):
-                return path, open(path, 'xb')
+            with contextlib.suppress(FileExistsError, FileNotFoundError, BlockingIOError):
+                file = open(path, 'xb')
+                fcntl.flock(file, fcntl.LOCK_EX | fcntl.LOCK_NB)
+                if os.path.samestat(os.fstat(file.fileno()), os.stat(path)):
+                    return path, file
 
     def keep(self):
         if os.path.exists(self.name):
@@ -131,7 +135,7 @@ class Part:
         os.replace(self.path, self.name)
 
     def drop(self):
-        with contextlib.suppress(OSError):
+        with self.file, contextlib.suppress(OSError):
             os.remove(self.path)
 
 

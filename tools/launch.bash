@@ -19,8 +19,7 @@ case ${1-} in
     ;;
   *)
     program=$(cd "$root" && { find_program || { build_program && find_program; }; } && echo "$program") || exit 70
-    # as in dask
-    export GLIBC_TUNABLES="${GLIBC_TUNABLES-glibc.malloc.trim_threshold=1073741824:glibc.malloc.mmap_threshold=33554432:glibc.malloc.hugetlb=1:glibc.malloc.arena_max=1}"
-    exec "$root/$program" "$@"
+    # shellcheck source=tools/start.sh
+    . "$root/tools/start.sh"
     ;;
 esac

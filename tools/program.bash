@@ -103,10 +103,15 @@ is_of_sources() { # PROGRAM NOTE
 }
 
 # Sets `program` to the program that is of the sources as they stand, this clone's own build first, and `noted_kit` to its
-# kit's line. It leaves word of that in release/.checked, where the launcher looks first; nothing goes wrong where it can't.
+# kit's line. It leaves word of that in release/.checked, where the launcher looks first, or in a cache of the user's; nothing goes
+# wrong where it can't.
 find_program() {
-  local since note
-  since=$(mkdir -p release && mktemp release/.checked.XXXXXX) 2> /dev/null
+  local since note root=. cache checked=release/.checked
+  if ! since=$({ mkdir -p release && mktemp release/.checked.XXXXXX; } 2> /dev/null); then
+    # shellcheck source=tools/checked.sh
+    . tools/checked.sh
+    since=$([ -z "$checked" ] || mktemp "$checked.XXXXXX" 2> /dev/null)
+  fi
   if is_of_sources "$built" "$built_note"; then
     program=$built note=$built_note
   elif is_of_sources "$released" "$released_note"; then
@@ -116,8 +121,8 @@ find_program() {
     return 1
   fi
   # (the time is that before the look at the sources)
-  [ -z "$since" ] || { printf '%s\n' "$program" "$note" > "$since.new" && touch -r "$since" "$since.new" &&
-    mv "$since.new" release/.checked && rm "$since"; } 2> /dev/null || rm -f "$since" "$since.new"
+  [ -z "$since" ] || { (umask 022 && printf '%s\n' "$program" "$note" > "$since.new") && touch -r "$since" "$since.new" &&
+    mv "$since.new" "$checked" && rm "$since"; } 2> /dev/null || rm -f "$since" "$since.new"
 }
 
 # Sets `driver` to what this clone has built of a driver, if it is newer than the sources of the crates that it stands on.

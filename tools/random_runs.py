@@ -4,9 +4,10 @@
     tools/random_runs.py PROGRAM [COUNT [SEED]]
 
 Each job is evaluated by `plain`, and run by `run` with random workers, threads, saturation and a script of losses, suspicions
-and joins. Status, lines but the last, and saved bytes have to be equal. Where a divisor is 0, another block may be named, and of
-the saved files, each of which is there once it is whole, others may be there. A run that takes a minute counts as one that hangs.
-It prints a line for each difference, and the numbers of runs that are equal and that differ.
+and joins, about half of them with so little memory that workers put blocks on disk. Status, lines but the last, and saved bytes
+have to be equal. Where a divisor is 0, another block may be named, and of the saved files, each of which is there once it is whole,
+others may be there. A run that takes a minute counts as one that hangs. It prints a line for each difference, and the numbers of
+runs that are equal, that differ, that divide by 0, and that had little memory.
 """
 import concurrent.futures
 import os
@@ -73,7 +74,7 @@ def is_equal(plain, run):
 
 
 def one(program, seed):
-    """What differs, if something does, and the status."""
+    """What differs, if something does, the status, and whether the run had little memory."""
     draw = random.Random(seed)
     with tempfile.TemporaryDirectory() as folder:
         text = write_random(folder, draw)
@@ -82,9 +83,10 @@ def one(program, seed):
         options = words(draw)
         plain = answer(program, folder, ['plain', 'job.txt'])
         run = answer(program, folder, ['run', 'job.txt', *options])
-    if is_equal(plain, run):
-        return None, plain[0]
-    return f'seed {seed}: run {" ".join(options)}: {"hangs" if run is None else run[:3]}, plain {plain[:3]}\n{text}', plain[0]
+    differs = None
+    if not is_equal(plain, run):
+        differs = f'seed {seed}: run {" ".join(options)}: {"hangs" if run is None else run[:3]}, plain {plain[:3]}\n{text}'
+    return differs, plain[0], '--memory' in options
 
 
 def main(program, count='1000', seed='1'):
@@ -92,11 +94,11 @@ def main(program, count='1000', seed='1'):
     first = int(seed) * 1_000_000
     with concurrent.futures.ThreadPoolExecutor(os.cpu_count()) as pool:
         ends = list(pool.map(lambda at: one(program, at), range(first, first + int(count))))
-    differ = [text for text, _ in ends if text]
+    differ = [text for text, _, _ in ends if text]
     for text in differ:
         print(text)
-    zero = sum(status == 4 for _, status in ends)
-    print(f'{len(ends) - len(differ)} equal, {len(differ)} differ ({zero} with a divisor of 0)')
+    zero, little = sum(status == 4 for _, status, _ in ends), sum(little for _, _, little in ends)
+    print(f'{len(ends) - len(differ)} equal, {len(differ)} differ ({zero} with a divisor of 0, {little} with little memory)')
     return 1 if differ else 0
 
 

@@ -127,7 +127,7 @@ class Run:
         return array
 
     def simulate(self, number, workers=4, threads=2, saturation=11, script=()):
-        """The lines of a simulation but those of files, or the key to blame, or nothing where its turns are spent."""
+        """The lines of a simulation but those of files, or the key to blame, or nothing where nothing moves."""
         world = BlockWorld(ShapedGraph(self.lowered), saturation, self.values)
         wanted = [key for keys in self.lowered.saved for key in keys]
         played = Simulation(world, workers, threads, number, wanted, list(script))

@@ -292,24 +292,22 @@ def spills():
 
 
 def real_spills():
-    title('real disks, each block of which is a file, in a folder that is made at the first put and goes with the last disk')
+    title('real disks, each of which is one file without a name')
     last = '4294967295'
-    say(f'real spill 1,{last} get 0 7 8 delete 0 7 look .dask-spill-0 put 0 7 abcdef look .dask-spill-0 look .dask-spill-0/1-7 get 0 7 8 get 0 7 4 '
-        f'put 1 {last}  get 1 {last} 8 look .dask-spill-0/{last}-{last} put 0 7 xy get 0 7 8 delete 0 7 look .dask-spill-0/1-7 get 0 7 8 delete 0 7',
-        'real: spill the call failed done none done folder 6 abcdef 6 abcd 6 done  0 0 done xy 2 done none the call failed done faults 2 faults 0')
-    say('real look .dask-spill-0', 'real: look none')
-    # what another program has is left as it is, and what it does to the files of a disk is no longer what was put
-    say('disk write .dask-spill-0 x')
-    say('real spill 1 look .dask-spill-1 put 0 7 abc look .dask-spill-1/1-7 disk write .dask-spill-1/1-7 z get 0 7 8 disk remove .dask-spill-1/1-7 get 0 7 8',
-        'real: spill none done 3 z 1 the call failed faults 1')
-    say('real look .dask-spill-1', 'real: look none')
-    say('real look .dask-spill-0', 'real: look 1')
-    # a name that is there already is passed over: where none of the sixteen is free, each put fails
-    for number in range(1, 16):
-        say(f'disk write .dask-spill-{number} x')
-    say('real spill 1 put 0 7 a get 0 7 8 delete 0 7 put 0 7 b', 'real: spill the call failed the call failed done the call failed faults 3')
-    for number in range(16):
-        say(f'disk remove .dask-spill-{number}')
+    say(f'real spill 1,{last} get 0 7 8 delete 0 7 put 0 7 abcdef look .dask-spill-1-0 get 0 7 8 get 0 7 4 '
+        f'put 1 {last}  get 1 {last} 8 put 0 7 xy get 0 7 8 delete 0 7 get 0 7 8 delete 0 7',
+        'real: spill the call failed done done none abcdef 6 abcd 6 done  0 done xy 2 done the call failed done faults 2 faults 0')
+    # blocks of other lengths come and go, and the ones beside them stay
+    say('real spill 1 put 0 1 aaaa put 0 2 bbbb put 0 3 cccc delete 0 2 put 0 4 dd put 0 5 eee get 0 1 9 get 0 3 9 get 0 4 9 get 0 5 9 delete 0 1 '
+        'delete 0 4 put 0 6 ffffffff get 0 3 9 get 0 5 9 get 0 6 9 delete 0 5 delete 0 3 put 0 7 gg get 0 6 9 get 0 7 9',
+        'real: spill done done done done done done aaaa 4 cccc 4 dd 2 eee 3 done done done cccc 4 eee 3 ffffffff 8 done done done ffffffff 8 gg 2 faults 0')
+    # a name that is there already is passed over, but for an empty file, which goes
+    say('disk write .dask-spill-1-0 x')
+    say('disk write .dask-spill-1-1 ')
+    say('real spill 1 put 0 7 a get 0 7 8', 'real: spill done a 1 faults 0')
+    say('real look .dask-spill-1-0', 'real: look 1')
+    say('real look .dask-spill-1-1', 'real: look none')
+    say('disk remove .dask-spill-1-0')
     say('real spilled', 'real: spilled faults 0')
 
 

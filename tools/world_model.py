@@ -360,7 +360,7 @@ class Simulation:
         return True
 
     def play(self):
-        """Whether the client was served, or failed, before the turns were spent."""
+        """Whether the client was served, or failed, before nothing moved."""
         while self.end() is None:
             item = self.scripted()
             if item:
@@ -369,16 +369,15 @@ class Simulation:
                 self.act_anew(('evict',))
             elif self.timely('balance', 8):
                 self.act_anew(('balance',))
-            elif self.budget == 0:
-                return False
             elif not self.draw():
-                self.budget = 0
+                return False
         return True
 
     def draw(self):
         events = self.world.progress()
         if not events:
             return False
+        assert self.budget, 'a quiet list is longer than its bound'
         self.act(events[self.words.word() % len(events)])
         self.turns += 1
         self.budget -= 1
@@ -546,7 +545,7 @@ def play_simulation(setting, events):
             print(f'turns {simulation.turns}' + ('' if end == 'all' else f' blame {end}'))
             print(simulation.report())
         else:
-            print('the turns are spent')
+            print('nothing moves')
     except Feed:
         print('the feed failed')
     print(' '.join(['wanted:', *(world.key_text(1, key) for key in wanted)]))

@@ -3,7 +3,7 @@ ghost use Rattle.std.specs.Prelude.{◌≡◌, ◌<◌, ◌≤◌};
 
 use crate::node::Plain;
 use cluster_msgs::{FromClient, Message};
-use node_links::{Port, bare_packet, close_ports, port_pair};
+use node_links::{Port, Tally, bare_packet, close_ports, port_pair};
 use std::alloc::{AllocError, Global};
 use std::io;
 use std::sync::Wait;
@@ -74,7 +74,10 @@ fn take_rest<R: Wait>(
 fn relay<R: Wait>(rt: &R, alloc: Global, capacity: usize, count: u32) -> Option<(u32, u32)>
     requires { 0 < capacity }
 {
-    let (mut left, mut right) = port_pair::<u64, Plain>(alloc, capacity).ok()?;
+    let to_left = Tally::new(alloc).ok()?;
+    let to_right = Tally::new(alloc).ok()?;
+    let pair = port_pair::<u64, Plain>(alloc, capacity, &to_left, &to_right);
+    let (mut left, mut right) = pair.ok()?;
     post_all(rt, alloc, &mut left, count).ok()?;
     let first = take_all(rt, &mut right, 0, count);
     let taken = take_rest(rt, &mut left, &mut right, first, count);

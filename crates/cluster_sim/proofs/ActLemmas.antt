@@ -10,11 +10,17 @@ use Rattle.cluster_world.specs.declared.state.Course.TheVariants.{Going, Fed, St
 use Rattle.cluster_world.specs.declared.errors.StepError.{StepError}
 use Rattle.cluster_world.specs.declared.errors.StepError.TheVariants as step
 use Rattle.cluster_world.specs.Steps.{CountsStep}
-use Rattle.cluster_world.specs.Worlds.{world, running, IsReady, IsMadeBy}
+use Rattle.cluster_nodes.specs.Nodes.{world_of}
+use Rattle.cluster_world.specs.Worlds.{world, setting, running, IsReady, IsMadeBy}
 use Rattle.cluster_sim.specs.declared.act.SimError.{SimError}
-use Rattle.cluster_sim.specs.declared.act.SimError.TheVariants.{Turns, Feed, Spent, OutOfMemory}
+use Rattle.cluster_sim.specs.declared.act.SimError.TheVariants.{Stuck, Feed, Spent, OutOfMemory}
 use Rattle.cluster_sim.specs.Acts.{CountsSim, Stays, IsAct, IsCause, cause}
 use Rattle.cluster_world.proofs.Stepwise.{going_fed, going_starved}
+
+-- the setting of a world is its scheduler's
+pub setting-world : {J B F : Type 0} (s : State J B F) → (world s).sched.setting ≡ setting s
+unfolding world_of
+setting-world s = refl
 
 pub stays_none : {J B F : Type 0} (tells : J → F → Type 0) (s : State J B F) → Stays tells s s
 stays_none tells s = record { job = refl; setting = refl; tells = (λ h. h, λ h. h) }
@@ -50,7 +56,7 @@ not_starved c a b = going_starved (sym a ∙ b)
 
 -- an error of one call as that of another
 pub counts_as : (A B : Type 0) (e : SimError) (n m : ℕ) → CountsSim {A = A} (Err e) n m → CountsSim {A = B} (Err e) n m
-counts_as A B Turns n m h = h
+counts_as A B Stuck n m h = h
 counts_as A B Feed n m h = h
 counts_as A B Spent n m h = h
 counts_as A B OutOfMemory n m h = h
@@ -88,9 +94,9 @@ spent_cause step.Feed h q = cc
 spent_cause step.Spent h q = refl
 spent_cause step.OutOfMemory h q = cc
 
-pub turns_cause : {A : Type 0} (e : StepError) → IsCause e → ◌≡◌ {A = Result A SimError} (Err (cause e)) (Err Turns) → ⊥
-turns_cause step.NotEnabled h q = h
-turns_cause step.Stopped h q = h
-turns_cause step.Feed h q = cc
-turns_cause step.Spent h q = cc
-turns_cause step.OutOfMemory h q = cc
+pub stuck_cause : {A : Type 0} (e : StepError) → IsCause e → ◌≡◌ {A = Result A SimError} (Err (cause e)) (Err Stuck) → ⊥
+stuck_cause step.NotEnabled h q = h
+stuck_cause step.Stopped h q = h
+stuck_cause step.Feed h q = cc
+stuck_cause step.Spent h q = cc
+stuck_cause step.OutOfMemory h q = cc

@@ -1,11 +1,14 @@
 -- What comes next, rule by rule.
-use Rattle.std.proofs.Common.{◌≡◌, ℕ, ◌<◌, ◌%◌, Bool, true, false, ◌&&◌, cond, List, length, Option, Some, None, sym, ap, ◌∙◌}
-use Rattle.std.specs.Prelude.{nat_lt, slice_get}
-use Rattle.std.proofs.lemmas.Bool.{and_parts, ltb-true, eq-eqb, ne_eqb}
+use Rattle.std.proofs.Common.{◌≡◌, ℕ, ◌<◌, ◌%◌, Bool, true, false, ◌&&◌, cond, List, [], ◌∷◌, length, Option, Some, None, refl, sym, ap, ◌∙◌, arith}
+use Rattle.std.specs.Prelude.{◌==◌, nat_lt, slice_get}
+use Rattle.std.proofs.lemmas.Bool.{and_parts, ltb-true, ne_eqb}
+use Rattle.std.proofs.lemmas.Option.{none-some}
 use Rattle.cluster_msgs.specs.declared.events.Item.{Item}
 use Rattle.cluster_msgs.specs.declared.events.Event.{Event}
+use Rattle.cluster_rules.specs.Worker.{has_any}
 use Rattle.cluster_rules.specs.Enabled.{progress}
 use Rattle.cluster_rules.specs.Draw.{Plan, Sim, Next, Over, Scripted, Evicts, Balances, Spent, Drawn, over, scripted, evicts_now, balances_now, drawn, draw_one, turn, unscripted, next_by, next}
+use Rattle.cluster_sim.specs.Standing.{HasTurn}
 
 pub next_over : (words : ℕ → ℕ) (p : Plan) (s : Sim) (failure : Option ℕ) → Some failure ≡ over (s.world.clients 1) → Over failure ≡ next words p s
 unfolding next
@@ -32,16 +35,25 @@ pub unscripted_turns : (words : ℕ → ℕ) (s : Sim) (b d : Bool) (n : Next) �
 unscripted_turns words s b d n e h f q t =
     t ∙ sym (ap (λ x. cond x Evicts (cond (balances_now s) Balances (turn words s))) (sym e ∙ h) ∙ ap (λ x. cond x Balances (turn words s)) (sym f ∙ q))
 
-pub turn_none : (words : ℕ → ℕ) (s : Sim) → s.budget ≡ 0 → Spent ≡ turn words s
-turn_none words s h = sym (ap (λ x. cond x Spent (draw_one (words s.turns) (progress s.world))) (eq-eqb s.budget 0 h))
+-- what is picked from a list shows that it has a member
+some_picked : (es : List Event) (n : ℕ) (e : Event) → Some e ≡ slice_get es n → has_any es ≡ true
+some_picked [] n e q = absurd (none-some e (sym q))
+some_picked (x ∷ xs) n e q = refl
 
-pub turn_drawn : (words : ℕ → ℕ) (s : Sim) (word : ℕ) (e : Event) → (s.budget ≡ 0 → ⊥) → words s.turns ≡ word → Some e ≡ slice_get (progress s.world) (word % length (progress s.world)) → Drawn e ≡ turn words s
+pub turn_drawn : (words : ℕ → ℕ) (s : Sim) (word : ℕ) (e : Event) → HasTurn s.world s.budget → words s.turns ≡ word → Some e ≡ slice_get (progress s.world) (word % length (progress s.world)) → Drawn e ≡ turn words s
 turn_drawn words s word e h w q =
-    ap drawn q ∙ ap (λ n. draw_one n (progress s.world)) (sym w) ∙ sym (ap (λ x. cond x Spent (draw_one (words s.turns) (progress s.world))) (ne_eqb s.budget 0 h))
+    ap drawn q ∙ ap (λ n. draw_one n (progress s.world)) (sym w) ∙ sym (ap (λ x. cond x Spent (draw_one (words s.turns) (progress s.world))) (ne_eqb s.budget 0 left))
+  where
+    left : s.budget ≡ 0 → ⊥
+    left z = let l = h (some_picked (progress s.world) (word % length (progress s.world)) e q) in omega (arith, z, l)
 
-pub turn_still : (words : ℕ → ℕ) (s : Sim) (word : ℕ) → (s.budget ≡ 0 → ⊥) → words s.turns ≡ word → None ≡ slice_get (progress s.world) (word % length (progress s.world)) → Spent ≡ turn words s
-turn_still words s word h w q =
-    ap drawn q ∙ ap (λ n. draw_one n (progress s.world)) (sym w) ∙ sym (ap (λ x. cond x Spent (draw_one (words s.turns) (progress s.world))) (ne_eqb s.budget 0 h))
+-- nothing moves, whether or not a turn is left
+pub turn_still : (words : ℕ → ℕ) (s : Sim) (word : ℕ) → words s.turns ≡ word → None ≡ slice_get (progress s.world) (word % length (progress s.world)) → Spent ≡ turn words s
+turn_still words s word w q = by (s.budget == 0)
+  where
+    by : (b : Bool) → Spent ≡ cond b Spent (draw_one (words s.turns) (progress s.world))
+    by true = refl
+    by false = ap drawn q ∙ ap (λ n. draw_one n (progress s.world)) (sym w)
 
 pub due_then : (due t e r : Bool) → due ≡ t → due ≡ true → r ≡ e → r ≡ (t && e)
 due_then due t e r q h s = s ∙ ap (λ b. b && e) (sym h ∙ q)

@@ -15,11 +15,11 @@ use Rattle.run_report.specs.declared.tally.Tally.{Tally}
 use Rattle.cluster_world.specs.declared.state.State.{State}
 use Rattle.cluster_world.specs.Worlds.{cluster, world, setting, running, IsReady}
 use Rattle.cluster_rules.specs.Runs.{event_limit}
-use Rattle.quiet_bound.proofs.WorldBound.{setting-world}
 use Rattle.cluster_sim.specs.Acts.{Stays, IsAct}
 use Rattle.cluster_sim.specs.Courses.{IsCounted}
 use Rattle.cluster_sim.specs.Openings.{IsOpening, AreWanted, IsOpen, HasOpened}
 use Rattle.cluster_world.proofs.Making.{made_opening}
+use Rattle.cluster_sim.proofs.ActLemmas.{setting-world}
 use Rattle.cluster_sim.proofs.CourseLemmas.{counted_none, counted_more}
 use Rattle.cluster_sim.proofs.OpeningLemmas.{open_none, open_join, may_want, open_want}
 
@@ -73,17 +73,19 @@ want_on op tells n threads wanted keys old mid new t u h few same act before sta
 pub opening_goes : {J B F : Type 0} (op : J → ℕ → List B → Option B) (tells : J → F → Type 0) (n threads : ℕ) (old mid : State J B F) (t : Tally) → HasOpened op tells [] n (replicate n (Join threads)) old mid t → n ≤ 64 → mid.events ≡ event_limit → ⊥
 opening_goes op tells n threads old mid t h few e = let b = h.count in let c = length-replicate n (Join threads) in omega (arith, b, c, few, e)
 
--- a new world with clients is an opening one
-pub opening_is : {J B F : Type 0} (op : J → ℕ → List B → Option B) (s : State J B F) (g : Shape) (clients saturation : ℕ) → IsReady s → s.events ≡ 0 → cluster s ≡ opening_cluster (setting_of g clients saturation) (op s.job) → 1 ≤ clients → IsOpening op s
-opening_is {J} {B} {F} op s g clients saturation ready fresh h some = record {
+-- a new world with clients, within the limits, is an opening one
+pub opening_is : {J B F : Type 0} (op : J → ℕ → List B → Option B) (s : State J B F) (g : Shape) (clients saturation : ℕ) → IsReady s → s.events ≡ 0 → cluster s ≡ opening_cluster (setting_of g clients saturation) (op s.job) → (1 ≤ clients) × (clients ≤ 16) → (1 ≤ saturation) × (saturation ≤ 1000) → IsOpening op s
+opening_is {J} {B} {F} op s g clients saturation ready fresh h some most = record {
   going = ready.going;
   made = made_opening op s (h ∙ ap (λ (x : Setting). opening_cluster x (op s.job)) (sym same)) fresh;
-  client = subst (λ (x : Setting). 1 ≤ x.clients) (sym same) some;
+  client = subst (λ (x : Setting). 1 ≤ x.clients) (sym same) some.0;
+  few = subst (λ (x : Setting). x.clients ≤ 16) (sym same) some.1;
+  saturation = subst (λ (x : Setting). (1 ≤ x.saturation) × (x.saturation ≤ 1000)) (sym same) most;
 }
   where
     same : setting s ≡ setting_of g clients saturation
     same = sym (setting-world s) ∙ ap (λ (c : Blocks B). c.world.sched.setting) h
 
-pub opening_if : {J B F E : Type 0} (op : J → ℕ → List B → Option B) (r : Result (State J B F) E) (job : J) (g : Shape) (clients saturation : ℕ) → 1 ≤ clients → IfOk r (λ w. cluster w ≡ opening_cluster (setting_of g clients saturation) (op job)) → IfOk r (λ w. IsReady w) → IfOk r (λ w. w.events ≡ 0) → IfOk r (λ w. w.job ≡ job) → IfOk r (λ w. IsOpening op w)
-opening_if op (Ok w) job g clients saturation some a b e j = opening_is op w g clients saturation b e (a ∙ ap (λ i. opening_cluster (setting_of g clients saturation) (op i)) (sym j)) some
-opening_if op (Err x) job g clients saturation some a b e j = tt
+pub opening_if : {J B F E : Type 0} (op : J → ℕ → List B → Option B) (r : Result (State J B F) E) (job : J) (g : Shape) (clients saturation : ℕ) → (1 ≤ clients) × (clients ≤ 16) → (1 ≤ saturation) × (saturation ≤ 1000) → IfOk r (λ w. cluster w ≡ opening_cluster (setting_of g clients saturation) (op job)) → IfOk r (λ w. IsReady w) → IfOk r (λ w. w.events ≡ 0) → IfOk r (λ w. w.job ≡ job) → IfOk r (λ w. IsOpening op w)
+opening_if op (Ok w) job g clients saturation some most a b e j = opening_is op w g clients saturation b e (a ∙ ap (λ i. opening_cluster (setting_of g clients saturation) (op i)) (sym j)) some most
+opening_if op (Err x) job g clients saturation some most a b e j = tt

@@ -1,5 +1,5 @@
--- Where no turn is left, some list of progress events is longer than the bound, unless no worker is there.
-use Rattle.std.proofs.Common.{◌≡◌, ◌⊎◌, inl, inr, ℕ, zero, suc, ◌+◌, ◌-◌, ◌%◌, ◌≤◌, Bool, true, false, not, ◌&&◌, cond, List, [], ◌∷◌, ◌++◌, length, Option, Some, None, is_some, find, refl, sym, ap, ◌∙◌, subst, arith, append_assoc, append-nil}
+-- By quiet termination a turn is left wherever something moves, and something moves while the client waits and a worker is there.
+use Rattle.std.proofs.Common.{◌≡◌, ◌⊎◌, inl, inr, ℕ, zero, suc, ◌+◌, ◌-◌, ◌^◌, ◌%◌, ◌≤◌, ◌<◌, Bool, true, false, not, ◌&&◌, cond, List, [], ◌∷◌, ◌++◌, length, Option, Some, None, is_some, find, refl, sym, ap, ◌∙◌, subst, arith, append_assoc, append-nil}
 use Rattle.std.specs.Prelude.{◌==◌, Contains, slice_get}
 use Rattle.std.specs.List.{list_all}
 use Rattle.std.proofs.Math.Nat.{mod-lt, zero-add}
@@ -12,17 +12,19 @@ use Rattle.cluster_msgs.specs.declared.events.Event.{Event}
 use Rattle.cluster_rules.specs.Sched.{Setting}
 use Rattle.cluster_rules.specs.Worker.{has_any}
 use Rattle.cluster_rules.specs.Client.{ClientFacts, client_keys, is_unfinished}
-use Rattle.cluster_rules.specs.World.{Job, World, opening, rest, is_connected, unfinished}
+use Rattle.cluster_rules.specs.World.{Job, IsJob, World, opening, rest, is_connected, unfinished}
 use Rattle.cluster_rules.specs.WorldStep.{world_step}
 use Rattle.cluster_rules.specs.Enabled.{progress}
-use Rattle.cluster_rules.specs.Runs.{run_from, reached, Safe}
-use Rattle.cluster_rules.specs.Draw.{Plan, Sim, Next, Over, Scripted, Evicts, Balances, Spent, Drawn, OutOfTurns, over, over_by, opening_events, sim_from, scripted, evicts_now, balances_now, drawn, draw_one, turn, unscripted, next_by, next, event_of, moved, verdict, DrawsTo}
-use Rattle.cluster_sim.specs.Quiet.{QuietFrom, IsPastBound}
+use Rattle.cluster_rules.specs.Runs.{legal, run_from, reached, event_limit}
+use Rattle.cluster_rules.specs.Draw.{Plan, Sim, Next, Over, Scripted, Evicts, Balances, Spent, Drawn, over, over_by, opening_events, sim_from, scripted, evicts_now, balances_now, drawn, draw_one, turn, unscripted, next_by, next, event_of, moved, DrawsTo}
+use Rattle.quiet_laws.specs.Quiet.{IsQuiet}
+use Rattle.quiet_laws.proofs.Rest.{comes_to_rest}
+use Rattle.quiet_laws.proofs.Bounded.{none_longer}
+use Rattle.cluster_sim.specs.Standing.{HasTurn}
 use Rattle.cluster_sim.proofs.WorldKeeps.{world_keeps}
 use Rattle.cluster_sim.proofs.CourseLemmas.{moved_world}
-use Rattle.cluster_sim.proofs.NextLemmas.{spent_waits}
 use Rattle.cluster_world.proofs.Making.{world_more}
-use Rattle.safety_laws.proofs.Attempts.{run-append}
+use Rattle.safety_laws.proofs.Attempts.{run-append, legal_first}
 
 -- ## What a drawn event is
 
@@ -80,11 +82,11 @@ record Tail (j : Job) (w : World) (done : List Event) (s : Sim) : Type 0 where
   before : List Event
   quiet : List Event
   whole : done ≡ before ++ quiet
-  moves : QuietFrom j (run_from j w before) quiet
+  moves : IsQuiet j (run_from j w before) quiet
   count : length quiet + s.budget ≡ rest (run_from j w before)
   here : s.world ≡ run_from j w done
 
-quiet_more : (j : Job) (w : World) (es : List Event) (e : Event) → QuietFrom j w es → Contains (progress (run_from j w es)) e → QuietFrom j w (es ++ e ∷ [])
+quiet_more : (j : Job) (w : World) (es : List Event) (e : Event) → IsQuiet j w es → Contains (progress (run_from j w es)) e → IsQuiet j w (es ++ e ∷ [])
 quiet_more j w [] e q h = (h, tt)
 quiet_more j w (x ∷ xs) e q h = (q.0, quiet_more j (world_step j w x) xs e q.1 h)
 
@@ -144,7 +146,7 @@ picked word (e ∷ es) h = absurd (no _ (sym (ap drawn (slice_get-get_or (e ∷ 
     no x q = cc
 
 -- the turns are spent, or no progress event is enabled
-why_spent : (words : ℕ → ℕ) (p : Plan) (s : Sim) → next words p s ≡ Spent → (s.budget ≡ 0) ⊎ (has_any (progress s.world) ≡ false)
+pub why_spent : (words : ℕ → ℕ) (p : Plan) (s : Sim) → next words p s ≡ Spent → (s.budget ≡ 0) ⊎ (has_any (progress s.world) ≡ false)
 unfolding next
 why_spent words p s h = ended (over (s.world.clients 1)) (scripted p.threads s.world s.script) h
   where
@@ -176,29 +178,6 @@ why_spent words p s h = ended (over (s.world.clients 1)) (scripted p.threads s.w
     ended (Some failure) i q = absurd (not_over failure q)
     ended None (Some i) q = absurd (not_scripted i.0 i.1 q)
     ended None None q = evict (evicts_now s) q
-
-spent_is : (s : Sim) (n : Next) → verdict s n ≡ Some OutOfTurns → n ≡ Spent
-spent_is s (Over failure) h = absurd (no h)
-  where
-    no : verdict s (Over failure) ≡ Some OutOfTurns → ⊥
-    no q = cc
-spent_is s Spent h = refl
-spent_is s (Scripted e later) h = absurd (no h)
-  where
-    no : ◌≡◌ {A = Option _} None (Some OutOfTurns) → ⊥
-    no q = cc
-spent_is s Evicts h = absurd (no h)
-  where
-    no : ◌≡◌ {A = Option _} None (Some OutOfTurns) → ⊥
-    no q = cc
-spent_is s Balances h = absurd (no h)
-  where
-    no : ◌≡◌ {A = Option _} None (Some OutOfTurns) → ⊥
-    no q = cc
-spent_is s (Drawn e) h = absurd (no h)
-  where
-    no : ◌≡◌ {A = Option _} None (Some OutOfTurns) → ⊥
-    no q = cc
 
 -- ## A client that has not ended waits for a key
 
@@ -241,45 +220,63 @@ settings_stay : (j : Job) (w : World) (es : List Event) → (run_from j w es).sc
 settings_stay j w [] = refl
 settings_stay j w (e ∷ es) = settings_stay j (world_step j w e) es ∙ (world_keeps j w e).setting
 
--- ## Put together
+-- ## What the law says
 
-pub past_bound : (j : Job) (words : ℕ → ℕ) (p : Plan) (wanted : List ℕ) (s : Sim) (later : List Event) → DrawsTo j words p (sim_from p (reached j (opening_events p wanted))) later s → reached j (opening_events p wanted ++ later) ≡ s.world → Safe j (opening_events p wanted ++ later) → 1 ≤ j.setting.clients → verdict s (next words p s) ≡ Some OutOfTurns
-    → (i : ℕ) → s.world.alive i ≡ true → is_connected s.world i ≡ true → IsPastBound j (opening_events p wanted ++ later)
-past_bound j words p wanted s later draws led safe some v i alive linked = by_cause (why_spent words p s (spent_is s (next words p s) v))
+-- some progress event is enabled, or none
+none_moves : (es : List Event) → has_any es ≡ false → es ≡ []
+none_moves [] h = refl
+none_moves (e ∷ es) h = absurd (true≢false h)
+
+module _ (j : Job) (job : IsJob j) (words : ℕ → ℕ) (p : Plan) (wanted : List ℕ) (s : Sim) (later : List Event) (draws : DrawsTo j words p (sim_from p (reached j (opening_events p wanted))) later s)
+    (lawful : legal j (opening_events p wanted ++ later)) where
+  abbrev start : World
+  start = reached j (opening_events p wanted)
+
+  tail : Tail j start later s
+  tail = tail_end j words p start later [] (sim_from p start) s (tail_start j p start) draws
+
+  -- the events up to the last that wasn't drawn
+  abbrev front : List Event
+  front = opening_events p wanted ++ tail.before
+
+  whole : opening_events p wanted ++ later ≡ front ++ tail.quiet
+  whole = ap (λ l. opening_events p wanted ++ l) tail.whole ∙ sym (append_assoc (opening_events p wanted) tail.before tail.quiet)
+
+  front_world : run_from j start tail.before ≡ reached j front
+  front_world = sym (run-append j (opening j) (opening_events p wanted) tail.before)
+
+  here : s.world ≡ run_from j (reached j front) tail.quiet
+  here = tail.here ∙ ap (run_from j start) tail.whole ∙ run-append j start tail.before tail.quiet ∙ ap (λ w. run_from j w tail.quiet) front_world
+
+  -- so many events that a world takes are fewer than the bound at its cap
+  few : length (opening_events p wanted ++ later) ≤ event_limit → length tail.quiet < 2 ^ 128 - 1
+  few short = let l = ap length whole ∙ length-append front tail.quiet in omega (arith, l, short)
+
+  -- while something moves a turn is left
+  pub turn_left : length (opening_events p wanted ++ later) ≤ event_limit → HasTurn s.world s.budget
+  turn_left short moves = by s.budget refl
+    where
+      no_turn : s.budget ≡ 0 → ⊥
+      no_turn z = absurd (true≢false (sym moves ∙ ap has_any (ap progress here ∙ none_longer j job front tail.quiet (legal_first j (opening j) front tail.quiet (subst (λ es. legal j es) whole lawful))
+          (subst (λ w. IsQuiet j w tail.quiet) front_world tail.moves) (few short) (none_left (length tail.quiet) s.budget _ z tail.count ∙ ap rest front_world))))
+        where
+          none_left : (a b m : ℕ) → b ≡ 0 → a + b ≡ m → a ≡ m
+          none_left a b m e h = omega arith
+
+      by : (n : ℕ) → s.budget ≡ n → 1 ≤ s.budget
+      by zero e = absurd (no_turn e)
+      by (suc n) e = omega (arith, e)
+
+-- while the client waits and a worker is there, something moves
+pub nobody_there : (j : Job) → IsJob j → (es : List Event) (w : World) → legal j es → reached j es ≡ w → 1 ≤ j.setting.clients → over (w.clients 1) ≡ None → has_any (progress w) ≡ false → (i : ℕ) → w.alive i ≡ true → is_connected w i ≡ true → ⊥
+nobody_there j job es w lawful led some ends still i alive linked =
+    (comes_to_rest j job es lawful [] tt).finished (none_moves (progress (reached j es)) (ap (λ x. has_any (progress x)) led ∙ still)) 1 k.0 i
+    (client (reached j es) (settings_stay j (opening j) es) k.0 (subst (λ (x : World). is_unfinished (x.clients 1) k.0 ≡ true) (sym led) k.1))
+    (subst (λ (x : World). x.alive i ≡ true) (sym led) alive)
+    (subst (λ x. is_connected x i ≡ true) (sym led) linked)
   where
-    all : List Event
-    all = opening_events p wanted ++ later
+    k : (k : ℕ) × (is_unfinished (w.clients 1) k ≡ true)
+    k = waits (w.clients 1) ends
 
-    start : World
-    start = run_from j (opening j) (opening_events p wanted)
-
-    tail : Tail j start later s
-    tail = tail_end j words p start later [] (sim_from p start) s (tail_start j p start) draws
-
-    here : s.world ≡ reached j all
-    here = sym led
-
-    client : (w : World) → w.sched.setting ≡ j.setting → (k : ℕ) → is_unfinished (w.clients 1) k ≡ true → unfinished w 1 k ≡ true
-    client w e k u = and_from _ _ (and_from _ _ refl (le-leb 1 w.sched.setting.clients (subst (λ (x : Setting). 1 ≤ x.clients) (sym e) some))) u
-
-    moving : has_any (progress (reached j all)) ≡ true
-    moving =
-        let k = waits (s.world.clients 1) (spent_waits words p s (spent_is s (next words p s) v)) in
-        safe.lively all [] (sym (append-nil all)) 1 k.0 i
-        (client (reached j all) (settings_stay j (opening j) all) k.0 (subst (λ (w : World). is_unfinished (w.clients 1) k.0 ≡ true) here k.1))
-        (subst (λ (w : World). w.alive i ≡ true) here alive)
-        (subst (λ w. is_connected w i ≡ true) here linked)
-
-    by_cause : (s.budget ≡ 0) ⊎ (has_any (progress s.world) ≡ false) → IsPastBound j all
-    by_cause (inr none) = absurd (true≢false (sym moving ∙ ap (λ w. has_any (progress w)) (sym here) ∙ none))
-    by_cause (inl spent) = record {
-      before = opening_events p wanted ++ tail.before;
-      quiet = tail.quiet;
-      whole = ap (λ l. opening_events p wanted ++ l) tail.whole ∙ sym (append_assoc (opening_events p wanted) tail.before tail.quiet);
-      moves = subst (λ w. QuietFrom j w tail.quiet) (sym (run-append j (opening j) (opening_events p wanted) tail.before)) tail.moves;
-      count = none_left (length tail.quiet) s.budget (rest (run_from j start tail.before)) spent tail.count ∙ ap rest (sym (run-append j (opening j) (opening_events p wanted) tail.before));
-      more = moving;
-    }
-      where
-        none_left : (a b m : ℕ) → b ≡ 0 → a + b ≡ m → a ≡ m
-        none_left a b m e h = omega arith
+    client : (x : World) → x.sched.setting ≡ j.setting → (k : ℕ) → is_unfinished (x.clients 1) k ≡ true → unfinished x 1 k ≡ true
+    client x e k u = and_from _ _ (and_from _ _ refl (le-leb 1 x.sched.setting.clients (subst (λ (y : Setting). 1 ≤ y.clients) (sym e) some))) u

@@ -5,41 +5,36 @@ use Rattle.cluster_msgs.specs.Values.{val}
 use Rattle.cluster_msgs.specs.declared.events.Event.{Event}
 use Rattle.cluster_msgs.specs.declared.events.Report.{Report}
 use Rattle.cluster_rules.specs.Sched.{Setting}
-use Rattle.cluster_rules.specs.World.{Job, World as Cluster, opening, rest}
+use Rattle.cluster_rules.specs.World.{Job, IsJob, opening, rest}
 use Rattle.cluster_rules.specs.Runs.{legal, Safe}
 use Rattle.cluster_rules.specs.Report.{Taken, taken, report}
 use Rattle.cluster_rules.specs.Draw.{Plan, Verdict, Served, OutOfTurns, opening_events, sim_from}
 use Rattle.run_report.specs.Counts.{IsCountOf}
 use Rattle.cluster_world.specs.declared.state.State.{State}
 use Rattle.cluster_world.specs.Worlds.{world, setting, running}
-use Rattle.quiet_bound.proofs.WorldBound.{setting-world}
 use Rattle.cluster_sim.specs.Acts.{Stays}
 use Rattle.cluster_sim.specs.Drawn.{word_of, IsAtTurn}
 use Rattle.cluster_sim.specs.Plans.{IsPlan}
 use Rattle.cluster_sim.specs.Seen.{IsSeen}
 use Rattle.cluster_sim.specs.Standing.{sim_of, IsStanding}
 use Rattle.cluster_sim.specs.Passing.{first_standing}
-use Rattle.cluster_sim.specs.Openings.{AreWanted, HasOpened}
+use Rattle.cluster_sim.specs.Openings.{IsOpening, AreWanted, HasOpened}
 use Rattle.cluster_sim.specs.Turns.{IsBetween, IsDrawn, HasServed, HasPlayed}
-use Rattle.cluster_sim.specs.Simulations.{IsReported, IsCut, IsExhausted, GoesOn, IsUnfinished, IfBlamed}
+use Rattle.cluster_sim.specs.Simulations.{IsReported, IsCut, IsStuck, IsDeserted, GoesOn, IsUnfinished, IfBlamed}
 use Rattle.cluster_sim.specs.declared.position.Standing.{Standing}
 use Rattle.cluster_sim.specs.declared.run.Run.{Run}
 use Rattle.cluster_sim.proofs.CourseLemmas.{course_start, course_end}
 use Rattle.cluster_sim.proofs.SimulateLemmas.{standing_first, blame_is}
-use Rattle.cluster_sim.proofs.QuietLemmas.{past_bound}
-use Rattle.cluster_sim.proofs.ActLemmas.{same_job}
-use Rattle.cluster_sim.proofs.TurnLemmas.{budgeted}
-
-first_sim : (p : Plan) (w : Cluster) (b : ℕ) → b ≡ rest w → sim_of p w (first_standing b) ≡ sim_from p w
-first_sim p w b e = ap (budgeted (sim_of p w (first_standing b))) e
+use Rattle.cluster_sim.proofs.QuietLemmas.{nobody_there}
+use Rattle.cluster_sim.proofs.ActLemmas.{same_job, setting-world}
 
 -- a simulation that has opened stands before its first turn
-pub opened_between : {J B F : Type 0} (op : J → ℕ → List B → Option B) (tells : J → F → Type 0) (p : Plan) (wanted : List ℕ) (old new : State J B F) (r : Run) (b : ℕ) → IsPlan p → AreWanted (key_count (setting old).shape) wanted
-    → HasOpened op tells wanted p.workers (opening_events p wanted) old new r.tally → Stays tells old new → r.standing ≡ first_standing b → IsSeen wanted ((world new).clients 1) r.seen → IsBetween p wanted new r
-opened_between {J} {B} {F} op tells p wanted old new r b plan keys h stays is seen = record {
+pub opened_between : {J B F : Type 0} (op : J → ℕ → List B → Option B) (tells : J → F → Type 0) (p : Plan) (wanted : List ℕ) (old new : State J B F) (r : Run) → IsPlan p → AreWanted (key_count (setting old).shape) wanted
+    → HasOpened op tells wanted p.workers (opening_events p wanted) old new r.tally → Stays tells old new → r.standing ≡ first_standing → IsSeen wanted ((world new).clients 1) r.seen → IsBetween p wanted new r
+opened_between {J} {B} {F} op tells p wanted old new r plan keys h stays is seen = record {
   going = h.going;
   standing = subst (λ (s : Standing). IsStanding p wanted (world new) s) (sym is)
-      (standing_first p wanted (world new) (first_standing b) plan h.opened (λ k q. subst (λ (s : Setting). k < key_count s.shape) (sym same) (keys.keys k q)) refl refl refl);
+      (standing_first p wanted (world new) first_standing plan h.opened (λ k q. subst (λ (s : Setting). k < key_count s.shape) (sym same) (keys.keys k q)) refl refl refl);
   seen = seen;
   turns = subst (λ (s : Standing). s.turns ≤ new.events) (sym is) (omega arith);
 }
@@ -47,13 +42,14 @@ opened_between {J} {B} {F} op tells p wanted old new r b plan keys h stays is se
     same : (world new).sched.setting ≡ setting old
     same = setting-world new ∙ stays.setting
 
-pub opened_drawn : {J B F : Type 0} (op : J → ℕ → List B → Option B) (tells : J → F → Type 0) (p : Plan) (wanted : List ℕ) (number : ℕ) (old new : State J B F) (r : Run) (b : ℕ)
-    → HasOpened op tells wanted p.workers (opening_events p wanted) old new r.tally → Stays tells old new → r.standing ≡ first_standing b → b ≡ rest (world new) → IsAtTurn r.words number 0 → tells old.job old.feed → IsDrawn op tells p wanted number new r
-opened_drawn op tells p wanted number old new r b h stays is bound words told = record {
+pub opened_drawn : {J B F : Type 0} (op : J → ℕ → List B → Option B) (tells : J → F → Type 0) (p : Plan) (wanted : List ℕ) (number : ℕ) (old new : State J B F) (r : Run)
+    → IsOpening op old → IsShape (setting old).shape → HasOpened op tells wanted p.workers (opening_events p wanted) old new r.tally → Stays tells old new → r.standing ≡ first_standing → IsAtTurn r.words number 0 → tells old.job old.feed → IsDrawn op tells p wanted number new r
+opened_drawn {J} {B} {F} op tells p wanted number old new r begins shape h stays is words told = record {
   told = stays.tells.1 told;
+  job = subst IsJob (sym (same_job op tells old new stays)) (record { shape = shape; clients = begins.few; some = begins.saturation.0; most = begins.saturation.1 });
   words = subst (λ (s : Standing). IsAtTurn r.words number s.turns) (sym is) words;
-  course = course_start op (word_of number) p wanted new (sim_of p (world new) r.standing) r.tally (h.all told)
-      (ap (λ (s : Standing). sim_of p (world new) s) is ∙ first_sim p (world new) b bound);
+  budget = rest (world new);
+  course = course_start op (word_of number) p wanted new (sim_of p (world new) r.standing (rest (world new))) r.tally (h.all told) (ap (λ (s : Standing). sim_of p (world new) s (rest (world new))) is);
 }
 
 -- of what holds of each legal list of the job, as it was when it began
@@ -67,7 +63,7 @@ reported op tells p wanted number v old new r made g stays shape count safe h =
     let c = h.drawn.course in
     subst (λ (j : Job). IsReported j (word_of number) p wanted v (world new) made) (same_job op tells old new stays) (record {
       events = opening_events p wanted ++ c.later;
-      simulated = course_end op (word_of number) p wanted (sim_of p (world new) r.standing) new r.tally v c (still op tells old new stays safe) h.ends;
+      simulated = course_end op (word_of number) p wanted (sim_of p (world new) r.standing h.drawn.budget) new r.tally v c (still op tells old new stays safe) h.ends;
       report = count _ c.all.counted ∙ ap (λ x. report x (taken (running op new) (opening (running op new)) (opening_events p wanted ++ c.later))) shape;
     })
 
@@ -77,28 +73,27 @@ cut_off op tells p wanted number v old new r stays safe h =
     let c = h.drawn.course in
     subst (λ (j : Job). IsCut j (word_of number) p wanted v (world new)) (same_job op tells old new stays) (record {
       events = opening_events p wanted ++ c.later;
-      simulated = course_end op (word_of number) p wanted (sim_of p (world new) r.standing) new r.tally v c (still op tells old new stays safe) h.ends;
+      simulated = course_end op (word_of number) p wanted (sim_of p (world new) r.standing h.drawn.budget) new r.tally v c (still op tells old new stays safe) h.ends;
     })
 
--- no turn was left
-pub exhausted_by : {J B F : Type 0} (op : J → ℕ → List B → Option B) (tells : J → F → Type 0) (p : Plan) (wanted : List ℕ) (number : ℕ) (old new : State J B F) (r : Run) → Stays tells old new → ((es : List Event) → legal (running op old) es → Safe (running op old) es) → 1 ≤ (setting old).clients → HasPlayed op tells p wanted number OutOfTurns new r
-    → IsExhausted (running op old) (word_of number) p wanted (world new)
-exhausted_by op tells p wanted number old new r stays safe some h =
+-- nothing moves, and no worker is there
+pub deserted_by : {J B F : Type 0} (op : J → ℕ → List B → Option B) (tells : J → F → Type 0) (p : Plan) (wanted : List ℕ) (number : ℕ) (old new : State J B F) (r : Run) → Stays tells old new → ((es : List Event) → legal (running op old) es → Safe (running op old) es) → 1 ≤ (setting old).clients
+    → IsStuck (world new) → HasPlayed op tells p wanted number OutOfTurns new r → IsDeserted (running op old) (word_of number) p wanted (world new)
+deserted_by op tells p wanted number old new r stays safe some stuck h =
     let c = h.drawn.course in
-    let sure = still op tells old new stays safe in
-    subst (λ (j : Job). IsExhausted j (word_of number) p wanted (world new)) (same_job op tells old new stays) (record {
+    subst (λ (j : Job). IsDeserted j (word_of number) p wanted (world new)) (same_job op tells old new stays) (record {
       cut = record {
         events = opening_events p wanted ++ c.later;
-        simulated = course_end op (word_of number) p wanted (sim_of p (world new) r.standing) new r.tally OutOfTurns c sure h.ends;
+        simulated = course_end op (word_of number) p wanted (sim_of p (world new) r.standing h.drawn.budget) new r.tally OutOfTurns c (still op tells old new stays safe) h.ends;
       };
-      past = λ i a l. past_bound (running op new) (word_of number) p wanted (sim_of p (world new) r.standing) c.later c.drawn c.all.made.run.reached (sure _ c.all.made.run.legal) (subst (λ (s : Setting). 1 ≤ s.clients) (sym stays.setting) some) h.ends i a l;
+      nobody = λ i a l. nobody_there (running op new) h.drawn.job (opening_events p wanted ++ c.later) (world new) c.all.made.run.legal c.all.made.run.reached (subst (λ (s : Setting). 1 ≤ s.clients) (sym stays.setting) some) stuck.waits stuck.still i a l;
     })
 
 pub unfinished_by : (j : Job) (words : ℕ → ℕ) (p : Plan) (wanted : List ℕ) (many : ℕ) → ((es : List Event) → legal j es → Safe j es) → GoesOn j words p wanted many → IsUnfinished j words p wanted many
 unfinished_by j words p wanted many safe h = record { made = h; safe = safe (opening_events p wanted ++ h.later) h.legal }
 
-pub blamed_by : {J B F : Type 0} (op : J → ℕ → List B → Option B) (tells : J → F → Type 0) (p : Plan) (wanted : List ℕ) (number : ℕ) (failure : Option ℕ) (old new : State J B F) (r : Run) (g : Shape) → IsShape g → g ≡ (setting new).shape → Stays tells old new
+pub blamed_by : {J B F : Type 0} (op : J → ℕ → List B → Option B) (tells : J → F → Type 0) (p : Plan) (wanted : List ℕ) (number : ℕ) (failure : Option ℕ) (old new : State J B F) (r : Run) → IsShape (setting old).shape → Stays tells old new
     → HasServed p wanted failure new r → ((es : List Event) → legal (running op old) es → Safe (running op old) es) → HasPlayed op tells p wanted number (Served r.standing.turns failure) new r → IfBlamed (deps_of (setting old).shape) (val (deps_of (setting old).shape) (op old.job)) wanted failure
-blamed_by op tells p wanted number failure old new r g sound shape stays served safe h =
+blamed_by op tells p wanted number failure old new r sound stays served safe h =
     let c = cut_off op tells p wanted number (Served r.standing.turns failure) old new r stays safe h in
-    blame_is (setting old) (op old.job) wanted c.events (world new) failure (subst IsShape (shape ∙ ap (λ (s : Setting). s.shape) stays.setting) sound) c.simulated.legal c.simulated.reached served.between.standing.client served.over
+    blame_is (setting old) (op old.job) wanted c.events (world new) failure sound c.simulated.legal c.simulated.reached served.between.standing.client served.over

@@ -11,13 +11,13 @@ use Rattle.cluster_world.specs.declared.errors.StepError.TheVariants as step
 use Rattle.cluster_world.specs.Worlds.{world, setting, running, IsMadeBy}
 use Rattle.cluster_rules.specs.Runs.{event_limit}
 use Rattle.cluster_sim.specs.declared.act.SimError.{SimError}
-use Rattle.cluster_sim.specs.declared.act.SimError.TheVariants.{Turns, Feed, Spent, OutOfMemory}
+use Rattle.cluster_sim.specs.declared.act.SimError.TheVariants.{Stuck, Feed, Spent, OutOfMemory}
 
 -- the feed's count of faults rose in a call exactly where it answers so; else it stays
 abbrev pub CountsSim : {A : Type 0} → Result A SimError → ℕ → ℕ → Type 0
 CountsSim (Ok done) before now = now ≡ before
 CountsSim (Err Feed) before now = Rose before now
-CountsSim (Err Turns) before now = now ≡ before
+CountsSim (Err Stuck) before now = now ≡ before
 CountsSim (Err Spent) before now = now ≡ before
 CountsSim (Err OutOfMemory) before now = now ≡ before
 

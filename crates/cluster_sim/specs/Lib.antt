@@ -9,4 +9,3 @@ pub mod Acts
 pub mod Turns
 pub mod Openings
 pub mod Simulations
-pub mod Quiet

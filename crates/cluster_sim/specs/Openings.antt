@@ -11,11 +11,13 @@ use Rattle.run_report.specs.declared.tally.Tally.{Tally}
 use Rattle.cluster_sim.specs.Courses.{IsCounted}
 use Rattle.cluster_sim.specs.Standing.{IsFor}
 
--- it goes on, no event made it, and it has a client
+-- it goes on, no event made it, it has a client, and its setting is within the limits of a job
 pub record IsOpening {J B F : Type 0} (op : J → ℕ → List B → Option B) (s : State J B F) : Type 0 where
   pub going : s.course ≡ Going
   pub made : IsMadeBy op [] s
   pub client : 1 ≤ (setting s).clients
+  pub few : (setting s).clients ≤ 16
+  pub saturation : (1 ≤ (setting s).saturation) × ((setting s).saturation ≤ 1000)
 
 -- some keys, all of the graph
 pub record AreWanted (count : ℕ) (wanted : List ℕ) : Type 0 where

@@ -1,11 +1,13 @@
 -- Where a simulation stands, and what it does next, as the code keeps them.
-use Rattle.std.specs.Prelude.{◌≡◌, ℕ, ◌+◌, ◌*◌, ◌-◌, ◌^◌, ◌≤◌, ◌<◌, true, false, is_some, List, drop, length}
+use Rattle.std.specs.Prelude.{◌≡◌, ℕ, ◌+◌, ◌≤◌, ◌<◌, true, false, is_some, List, drop, length}
 use Rattle.cluster_msgs.specs.Shape.{key_count}
 use Rattle.cluster_msgs.specs.declared.events.Item.{Item}
 use Rattle.cluster_msgs.specs.declared.events.Event.{Event}
 use Rattle.cluster_rules.specs.Derived.{is_in}
+use Rattle.cluster_rules.specs.Worker.{has_any}
 use Rattle.cluster_rules.specs.Client.{ClientFacts}
 use Rattle.cluster_rules.specs.World.{World, shape_of}
+use Rattle.cluster_rules.specs.Enabled.{progress}
 use Rattle.cluster_rules.specs.Draw.{Plan, Sim, Next, Over, Scripted, Evicts, Balances, Spent, Drawn}
 use Rattle.cluster_sim.specs.Plans.{joins_in}
 use Rattle.cluster_sim.specs.declared.position.Standing.{Standing}
@@ -14,18 +16,22 @@ use Rattle.cluster_sim.specs.declared.choice.Kind.TheVariants as kind
 use Rattle.cluster_sim.specs.declared.choice.Choice.{Choice}
 use Rattle.cluster_sim.specs.declared.choice.Choice.TheVariants as choice
 
--- the simulation that stands so in this world
-abbrev pub sim_of : Plan → World → Standing → Sim
-sim_of p w s = record {
+-- the simulation that stands so in this world, with so many turns left. The code keeps no such number
+abbrev pub sim_of : Plan → World → Standing → ℕ → Sim
+sim_of p w s budget = record {
   world = w;
   script = drop s.passed p.script;
   turns = s.turns;
-  budget = s.budget;
+  budget = budget;
   evicts = s.evicts;
   evicted_at = s.evicted_at;
   balances = s.balances;
   balanced_at = s.balanced_at;
 }
+
+-- a turn is left where something moves
+abbrev pub HasTurn : World → ℕ → Type 0
+HasTurn w budget = has_any (progress w) ≡ true → 1 ≤ budget
 
 -- what a choice is among the rules
 abbrev pub made_by : List Item → Event → Kind → Next
@@ -36,7 +42,7 @@ made_by script e kind.Drawn = Drawn e
 
 abbrev pub next_by : List Item → Choice → Next
 next_by script (choice.Over failure) = Over failure
-next_by script choice.Spent = Spent
+next_by script choice.Still = Spent
 next_by script (choice.Make e k) = made_by script e k
 
 -- the client waits for these keys alone, and where it was told of a failure, for one of them that it hasn't got
@@ -53,10 +59,3 @@ pub record IsStanding (p : Plan) (wanted : List ℕ) (w : World) (s : Standing) 
   pub joins : w.sched.last_worker + joins_in (drop s.passed p.script) ≤ 128
   pub evicts : s.evicts ≤ key_count (shape_of w)
   pub balances : s.balances ≤ key_count (shape_of w)
-
--- what is left of a simulation: no event but a turn is made more often than this, and each lets at most 2^128 turns follow
-abbrev pub events_left : ℕ → ℕ → Standing → ℕ
-events_left keys items s = (items - s.passed) + ((keys - s.evicts) + (keys - s.balances))
-
-abbrev pub left : ℕ → ℕ → Standing → ℕ
-left keys items s = events_left keys items s * 2 ^ 128 + s.budget

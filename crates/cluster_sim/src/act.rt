@@ -17,8 +17,8 @@ use thiserror::Error;
 /// Why a simulation gave no result.
 #[derive(Clone, Copy, Debug, Error)]
 pub enum SimError {
-    #[error("the turns are spent")]
-    Turns,
+    #[error("nothing moves")]
+    Stuck,
     #[error("the feed failed")]
     Feed,
     #[error("all events were taken")]
@@ -54,7 +54,7 @@ pub fn act<J: JobSpec>(
     ensures spent { result ≡ Err SimError.Spent → world.new.events ≡ event_limit }
     ensures spent_stays { result ≡ Err SimError.Spent → world.new ≡ world.old }
     ensures spent_before { result ≡ Err SimError.Spent → world.old.events ≡ event_limit }
-    ensures turns { result ≡ Err SimError.Turns → ⊥ }
+    ensures stuck { result ≡ Err SimError.Stuck → ⊥ }
 {
     tally.count(event, world.message(event))?;
     match world.step(event) {

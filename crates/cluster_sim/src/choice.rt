@@ -11,10 +11,10 @@ pub enum Kind {
     Drawn,
 }
 
-/// The end, with the key to blame where the client was told of a failure; no turn left; or an event.
+/// The end, with the key to blame where the client was told of a failure; that nothing moves; or an event.
 #[derive(Drop)]
 pub enum Choice {
     Over { failure: Option<u32> },
-    Spent,
+    Still,
     Make { event: Event, kind: Kind },
 }

@@ -9,7 +9,7 @@ ghost use Rattle.cluster_world.specs.Worlds.{world as world_of};
 ghost use Rattle.cluster_world.specs.declared.state.Course.TheVariants.{Going};
 ghost use Rattle.cluster_sim.specs.Plans.{plan_of, IsPlan};
 ghost use Rattle.cluster_sim.specs.Seen.{IsSeen};
-ghost use Rattle.cluster_sim.specs.Standing.{sim_of, next_by, IsStanding};
+ghost use Rattle.cluster_sim.specs.Standing.{sim_of, next_by, HasTurn, IsStanding};
 ghost use Rattle.cluster_sim.specs.Passing.{IsChoice};
 
 use crate::choice::{Choice, Kind};
@@ -26,7 +26,8 @@ const EVICT_EVERY: u64 = 32;
 
 const BALANCE_EVERY: u64 = 8;
 
-/// What comes next where the simulation stands so, and `word` is the word of its turn.
+/// What comes next where the simulation stands so, and `word` is the word of its turn. The rules say the same where a turn is
+/// left for what moves.
 pub fn choose<J: JobSpec>(
     world: &World<J>,
     plan: &SimPlan,
@@ -39,8 +40,8 @@ pub fn choose<J: JobSpec>(
     requires plan { IsPlan (plan_of plan.now) }
     requires standing { IsStanding (plan_of plan.now) wanted.now (world_of world.now) standing.now }
     requires seen { IsSeen wanted.now ((world_of world.now).clients 1) seen.now }
-    ensures next { (words : ℕ → ℕ) → words standing.now.turns ≡ word →
-        next_by plan.now.script result ≡ next words (plan_of plan.now) (sim_of (plan_of plan.now) (world_of world.now) standing.now) }
+    ensures next { (words : ℕ → ℕ) (budget : ℕ) → words standing.now.turns ≡ word → HasTurn (world_of world.now) budget →
+        next_by plan.now.script result ≡ next words (plan_of plan.now) (sim_of (plan_of plan.now) (world_of world.now) standing.now budget) }
     ensures kind { IsChoice ((world_of world.now).clients 1) (key_count (shape_of (world_of world.now))) (length plan.now.script) standing.now result }
 {
     match end_of(seen, wanted) {
@@ -57,8 +58,9 @@ fn go_on<J: JobSpec>(world: &World<J>, plan: &SimPlan, standing: &Standing, word
     requires passed { standing.now.passed ≤ length plan.now.script }
     requires threads { (1 ≤ plan.now.threads) × (plan.now.threads ≤ 16) }
     requires numbers { (world_of world.now).sched.last_worker < 1024 }
-    ensures next { (words : ℕ → ℕ) → words standing.now.turns ≡ word →
-        next_by plan.now.script result ≡ after_script words (sim_of (plan_of plan.now) (world_of world.now) standing.now) None (scripted plan.now.threads (world_of world.now) (drop standing.now.passed plan.now.script)) }
+    ensures next { (words : ℕ → ℕ) (budget : ℕ) → words standing.now.turns ≡ word → HasTurn (world_of world.now) budget →
+        next_by plan.now.script result ≡ after_script words (sim_of (plan_of plan.now) (world_of world.now) standing.now budget) None
+        (scripted plan.now.threads (world_of world.now) (drop standing.now.passed plan.now.script)) }
     ensures kind { (c : ClientFacts) → IsChoice c (key_count (shape_of (world_of world.now))) (length plan.now.script) standing.now result }
 {
     match next_item(world, plan, standing.passed) {
@@ -75,8 +77,8 @@ fn go_on<J: JobSpec>(world: &World<J>, plan: &SimPlan, standing: &Standing, word
 /// What comes where no item of the script does.
 fn unscripted<J: JobSpec>(world: &World<J>, standing: &Standing, word: u32) -> Choice
     requires going { world.now.course ≡ Going }
-    ensures next { (p : Plan) (words : ℕ → ℕ) → words standing.now.turns ≡ word →
-        next_by p.script result ≡ unscripted words (sim_of p (world_of world.now) standing.now) }
+    ensures next { (p : Plan) (words : ℕ → ℕ) (budget : ℕ) → words standing.now.turns ≡ word → HasTurn (world_of world.now) budget →
+        next_by p.script result ≡ unscripted words (sim_of p (world_of world.now) standing.now budget) }
     ensures kind { (c : ClientFacts) (items : ℕ) → IsChoice c (key_count (shape_of (world_of world.now))) items standing.now result }
 {
     if is_evicting(world, standing) {
@@ -94,30 +96,26 @@ fn unscripted<J: JobSpec>(world: &World<J>, standing: &Standing, word: u32) -> C
     }
 }
 
-/// A turn, if one is left and something moves.
+/// A turn, if something moves.
 fn turn<J: JobSpec>(world: &World<J>, standing: &Standing, word: u32) -> Choice
     requires going { world.now.course ≡ Going }
-    ensures next { (p : Plan) (words : ℕ → ℕ) → words standing.now.turns ≡ word →
-        next_by p.script result ≡ turn words (sim_of p (world_of world.now) standing.now) }
+    ensures next { (p : Plan) (words : ℕ → ℕ) (budget : ℕ) → words standing.now.turns ≡ word → HasTurn (world_of world.now) budget →
+        next_by p.script result ≡ turn words (sim_of p (world_of world.now) standing.now budget) }
     ensures kind { (c : ClientFacts) (keys items : ℕ) → IsChoice c keys items standing.now result }
 {
-    let budget = standing.budget;
-    if budget == 0 {
-        return Choice::Spent;
-    }
     match draw(world, word) {
         Some(event) => Choice::Make {
             event,
             kind: Kind::Drawn,
         },
-        None => Choice::Spent,
+        None => Choice::Still,
     }
 }
 
 /// Whether an eviction comes.
 fn is_evicting<J: JobSpec>(world: &World<J>, standing: &Standing) -> bool
     requires going { world.now.course ≡ Going }
-    ensures now { (p : Plan) → result ≡ evicts_now (sim_of p (world_of world.now) standing.now) }
+    ensures now { (p : Plan) (budget : ℕ) → result ≡ evicts_now (sim_of p (world_of world.now) standing.now budget) }
     ensures some { IsTrue result → (standing.now.evicts < key_count (shape_of (world_of world.now))) × (key_count (shape_of (world_of world.now)) < 2 ^ 32) }
 {
     let keys = world.shape().keys();
@@ -137,7 +135,7 @@ fn is_evicting<J: JobSpec>(world: &World<J>, standing: &Standing) -> bool
 /// Whether a steal comes.
 fn is_balancing<J: JobSpec>(world: &World<J>, standing: &Standing) -> bool
     requires going { world.now.course ≡ Going }
-    ensures now { (p : Plan) → result ≡ balances_now (sim_of p (world_of world.now) standing.now) }
+    ensures now { (p : Plan) (budget : ℕ) → result ≡ balances_now (sim_of p (world_of world.now) standing.now budget) }
     ensures some { IsTrue result → (standing.now.balances < key_count (shape_of (world_of world.now))) × (key_count (shape_of (world_of world.now)) < 2 ^ 32) }
 {
     let keys = world.shape().keys();

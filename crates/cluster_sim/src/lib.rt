@@ -1,9 +1,10 @@
 //! A simulated cluster: which event comes next is drawn from a number, so that the same number makes the same run.
 //!
-//! `cluster_world` stands below, with the world whose events are made, `quiet_bound`, with the bound that is its budget of
-//! turns, `run_report`, with the report, and `cluster_rules`, with the definition of the events that are drawn. The program
+//! `cluster_world` stands below, with the world whose events are made, `quiet_laws`, by which a turn is left wherever something
+//! moves, `run_report`, with the report, and `cluster_rules`, with the definition of the events that are drawn. The program
 //! stands above. It carries its share of *value correctness*: exactly the events that the rules draw are made, and where the
-//! client was told of a failure, a faulty key that is needed is named. It always returns.
+//! client was told of a failure, a faulty key that is needed is named. It carries *quiet termination*: while a worker is there it
+//! comes to an end, or makes as many events as a world takes. It always returns.
 #![tactic(auto)]
 
 pub mod act;

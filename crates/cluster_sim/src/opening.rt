@@ -34,7 +34,7 @@ pub fn make_opening<J: JobSpec>(
     ensures stays { Stays J.feed_tells world.old world.new }
     ensures faults { CountsSim result (J.fault_count world.old.feed) (J.fault_count world.new.feed) }
     ensures spent { result ≡ Err SimError.Spent → ⊥ }
-    ensures turns { result ≡ Err SimError.Turns → ⊥ }
+    ensures stuck { result ≡ Err SimError.Stuck → ⊥ }
 {
     join_all(world, plan, tally)?;
     let keys = wanted.copy()?;
@@ -58,7 +58,7 @@ fn join_all<J: JobSpec>(
     ensures stays { Stays J.feed_tells world.old world.new }
     ensures faults { CountsSim result (J.fault_count world.old.feed) (J.fault_count world.new.feed) }
     ensures spent { result ≡ Err SimError.Spent → ⊥ }
-    ensures turns { result ≡ Err SimError.Turns → ⊥ }
+    ensures stuck { result ≡ Err SimError.Stuck → ⊥ }
 {
     for _number in 0..plan.workers {
         let join = Event::Join {

@@ -19,15 +19,15 @@ pub struct Run {
 }
 
 impl Run {
-    /// Goes on after an event of this kind, where `budget` is the bound of the world that it led to.
-    pub fn go_on(&mut self, kind: Kind, budget: u128)
+    /// Goes on after an event of this kind.
+    pub fn go_on(&mut self, kind: Kind)
         requires { CanPass self.old.standing kind }
-        ensures standing { self.new.standing ≡ after self.old.standing kind budget }
+        ensures standing { self.new.standing ≡ after self.old.standing kind }
         ensures words { (number : ℕ) → IsAtTurn self.old.words number self.old.standing.turns → IsAtTurn self.new.words number self.new.standing.turns }
         ensures tally { self.new.tally ≡ self.old.tally }
         ensures seen { self.new.seen ≡ self.old.seen }
     {
-        self.standing.pass(kind, budget);
+        self.standing.pass(kind);
         if let Kind::Drawn = kind {
             self.words.advance();
         }

@@ -11,7 +11,7 @@ ghost use Rattle.cluster_sim.specs.Drawn.{word_of};
 ghost use Rattle.cluster_sim.specs.Plans.{plan_of, IsPlan};
 ghost use Rattle.cluster_sim.specs.Openings.{IsOpening, AreWanted};
 ghost use Rattle.cluster_sim.specs.Turns.{IsBetween, IsDrawn, AfterPlay, DrawnPlay};
-ghost use Rattle.cluster_sim.specs.Simulations.{IsReported, IsExhausted, IsUnfinished, HasAll, IfBlamed};
+ghost use Rattle.cluster_sim.specs.Simulations.{IsReported, IsStuck, IsDeserted, IsUnfinished, HasAll, IfBlamed};
 
 use crate::act::SimError;
 use crate::ended::Ending;
@@ -24,7 +24,6 @@ use crate::turn::turn;
 use crate::words::Words;
 use cluster_msgs::{JobSpec, KeyList, Report};
 use cluster_world::World;
-use quiet_bound::rest;
 use run_report::Tally;
 use std::alloc::Global;
 
@@ -42,12 +41,14 @@ pub struct SimEnd {
 /// `Lcg64Xsh32::new(number, 1)`, one word a turn; where the world's feed tells what it holds, each outcome is that of the
 /// job's definition, and the events are legal and safe. It always returns.
 ///
+/// The rules end a simulation too where its turns are spent, of which so many are left as progress events can follow one
+/// another. Here nobody counts them: by quiet termination a turn is left wherever something moves.
+///
 /// # Errors
-/// `Turns` and `Spent` only while the client waits still: it hasn't got all, and was told of no failure. Where the feed tells,
-/// `Turns` exactly where the rules then have no turn left: while a worker is there, never since nothing moves, but since as
-/// many progress events as the bound on them allows were made one after another and one more is enabled. `Spent` only once
-/// the world took 2^40 events, and where the feed tells, only where the rules go on after those. `Feed` only where the feed's
-/// count of faults rose in this call. `OutOfMemory` where no memory is left.
+/// `Stuck` and `Spent` only while the client waits still: it hasn't got all, and was told of no failure. `Stuck` only where
+/// nothing moves, and where the feed tells, only where no worker is alive and connected: so never by a plan that leaves a
+/// worker at every point. `Spent` only once the world took 2^40 events, and where the feed tells, only where the rules go on
+/// after those. `Feed` only where the feed's count of faults rose in this call. `OutOfMemory` where no memory is left.
 pub fn simulate<J: JobSpec>(
     alloc: Global,
     world: &mut World<J>,
@@ -62,8 +63,8 @@ pub fn simulate<J: JobSpec>(
     // The events are those that are drawn, to this end, with their report.
     ensures served { IfOk result (λ end. J.feed_tells world.old.job world.old.feed →
         IsReported (running J.operation world.old) (word_of number) (plan_of plan.now) wanted.now (Served end.turns end.zero) (world_of world.new) end.report) }
-    ensures turns { result ≡ Err SimError.Turns → J.feed_tells world.old.job world.old.feed →
-        IsExhausted (running J.operation world.old) (word_of number) (plan_of plan.now) wanted.now (world_of world.new) }
+    ensures deserted { result ≡ Err SimError.Stuck → J.feed_tells world.old.job world.old.feed →
+        IsDeserted (running J.operation world.old) (word_of number) (plan_of plan.now) wanted.now (world_of world.new) }
 
     ensures made { OnOk result (J.feed_tells world.old.job world.old.feed → IsMade J.operation world.new) }
     ensures going { OnOk result (world.new.course ≡ Going) }
@@ -75,7 +76,7 @@ pub fn simulate<J: JobSpec>(
 
     // The causes of what is no result, and what stays.
     ensures faults { CountsSim result (J.fault_count world.old.feed) (J.fault_count world.new.feed) }
-    ensures waits { result ≡ Err SimError.Turns → over ((world_of world.new).clients 1) ≡ None }
+    ensures stuck { result ≡ Err SimError.Stuck → IsStuck (world_of world.new) }
     ensures spent { result ≡ Err SimError.Spent → world.new.events ≡ event_limit }
     ensures spent_waits { result ≡ Err SimError.Spent → over ((world_of world.new).clients 1) ≡ None }
     ensures cut_off { result ≡ Err SimError.Spent → J.feed_tells world.old.job world.old.feed →
@@ -83,6 +84,7 @@ pub fn simulate<J: JobSpec>(
     ensures stays { Stays J.feed_tells world.old world.new }
 {
     world.is_safe();
+    world.shape().sound();
     let mut tally = Tally::new(alloc);
     make_opening(world, plan, wanted, &mut tally)?;
     let mut seen = Seen {
@@ -91,13 +93,12 @@ pub fn simulate<J: JobSpec>(
     };
     seen.look(world, wanted, false);
     let mut run = Run {
-        standing: Standing::new(rest(world)),
+        standing: Standing::new(),
         seen,
         words: Words::new(number),
         tally,
     };
     let end = play(world, plan, wanted, &mut run)?;
-    world.shape().sound();
     let report = run.tally.report(alloc, world.shape())?;
     Ok(SimEnd {
         turns: run.standing.turns,

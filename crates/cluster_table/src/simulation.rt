@@ -30,7 +30,7 @@ fn opened<J: JobSpec>(alloc: Global, job: J, feed: J::Feed) -> Result<World<J>, 
 
 fn cause_of(error: SimError) -> &'static str {
     match error {
-        SimError::Turns => "the turns are spent",
+        SimError::Stuck => "nothing moves",
         SimError::Feed => "the feed failed",
         SimError::Spent => "spent",
         SimError::OutOfMemory => "out of memory",

@@ -38,7 +38,7 @@ use Rattle.sim_run.specs.declared.ends.SimEnded.TheVariants as SimEnds
 use Rattle.sim_run.specs.Ends.{Cause as SimCause, WhereTold}
 use Rattle.thread_run.specs.Ends.{Cause as ThreadCause, HasFault as ThreadFault, HasValues as ThreadValues}
 use Rattle.command_words.proofs.Saying.{one_gen, one_plain, one_run, one_sim}
-use Rattle.dask_top.specs.declared.answer.End.TheVariants.{Words, Job, Limit, Graph, Events, Turns, Done, File, Zero, ReadFault, WriteFault, OutOfMemory}
+use Rattle.dask_top.specs.declared.answer.End.TheVariants.{Words, Job, Limit, Graph, Events, Done, File, Zero, ReadFault, WriteFault, OutOfMemory}
 use Rattle.dask_top.specs.Answers.{Answers, AskedDoes, CommandDoes, Performs}
 use Rattle.dask_top.specs.Commands.{Command, Run, Plain, Sim, Gen, Asks, Asked, IsAsked, Known, Unread, Work, Running, Evaluation, Simulation, sources_of}
 use Rattle.dask_top.specs.Completing.{CommandEnds, Completes, EndsByInputs, EndsByNumber, EndsByRun, EndsBySimulation, EndsByTexts, EndsByWork, MeetNoZero, MeetZero, NeverEnds, NoFault}
@@ -125,10 +125,10 @@ sim_memory : (p : Plan) (said : SimWords) (old : View) → EndsBySimulation p sa
 sim_memory p said old = record {
   large = λ l. inr refl;
   unfit = λ s u. inr refl;
-  some = λ s f m ends. inr (inr refl);
-  none = λ s f m ends. inr (inr refl);
-  some_limit = λ s f m. inr (inr (inr refl));
-  none_limit = λ s f m. inr (inr (inr refl));
+  some = λ s f m ends. inr refl;
+  none = λ s f m ends. inr refl;
+  some_limit = λ s f m. inr (inr refl);
+  none_limit = λ s f m. inr (inr refl);
 }
 
 threads_memory : (p : Plan) (old : View) → EndsByRun p old 8
@@ -179,10 +179,10 @@ run_ends : (p : Plan) (said : SimWords) (old : View) (status : ℕ) → EndsByIn
 run_ends p said old status ends = record {
   large = ends.large;
   unfit = ends.unfit;
-  some = λ s f m going. elim (ends.some s f m) [ inl zero ↦ inl zero | inr memory ↦ inr (inr memory) ];
-  none = λ s f m going. elim (ends.none s f m) [ inl well ↦ inl well | inr memory ↦ inr (inr memory) ];
-  some_limit = λ s f m. elim (ends.some s f m) [ inl zero ↦ inl zero | inr memory ↦ inr (inr (inr memory)) ];
-  none_limit = λ s f m. elim (ends.none s f m) [ inl well ↦ inl well | inr memory ↦ inr (inr (inr memory)) ];
+  some = λ s f m going. ends.some s f m;
+  none = λ s f m going. ends.none s f m;
+  some_limit = λ s f m. elim (ends.some s f m) [ inl zero ↦ inl zero | inr memory ↦ inr (inr memory) ];
+  none_limit = λ s f m. elim (ends.none s f m) [ inl well ↦ inl well | inr memory ↦ inr (inr memory) ];
 }
 
 -- the limit of events was passed
@@ -192,17 +192,6 @@ limit_ends p said old fit never = record {
   unfit = λ s u. absurd (not_fit p old.files u fit);
   some = λ s f m ends. absurd (ends (told_and (told_all old.files.held p.inputs) (FitInputs p) (λ contents. NeverEnds p said old) f never).2);
   none = λ s f m ends. absurd (ends (told_and (told_all old.files.held p.inputs) (FitInputs p) (λ contents. NeverEnds p said old) f never).2);
-  some_limit = λ s f m. inr (inr (inl refl));
-  none_limit = λ s f m. inr (inr (inl refl));
-}
-
--- the turns came to their end
-turns_end : (p : Plan) (said : SimWords) (old : View) → IsSmall p → InputsFit p old.files → EndsBySimulation p said old 10
-turns_end p said old small fit = record {
-  large = λ l. absurd (l small);
-  unfit = λ s u. absurd (not_fit p old.files u fit);
-  some = λ s f m ends. inr (inl refl);
-  none = λ s f m ends. inr (inl refl);
   some_limit = λ s f m. inr (inl refl);
   none_limit = λ s f m. inr (inl refl);
 }
@@ -273,7 +262,6 @@ sim_run_completes p said old new RunEnds.OutOfMemory faults cause = run_memory p
 
 sim_completes : (p : Plan) (said : SimWords) (old new : View) (end : SimEnded) → NoFault old new → SimCause p said old new end → EndsBySimulation p said old (status_of (sim_end_of end))
 sim_completes p said old new SimEnds.Events faults cause = limit_ends p said old cause.1 cause.2
-sim_completes p said old new SimEnds.Turns faults cause = turns_end p said old cause.0 cause.1
 sim_completes p said old new (SimEnds.Ran end) faults cause = run_ends p said old (status_of (end_of end)) (sim_run_completes p said old new end faults cause)
 
 -- ## The end of the work on a job
@@ -291,7 +279,6 @@ of_run P Q f (Job error) holds = absurd holds
 of_run P Q f (Limit quantity) holds = absurd holds
 of_run P Q f (Graph quantity) holds = f (RunEnds.Limit quantity) holds
 of_run P Q f Events holds = absurd holds
-of_run P Q f Turns holds = absurd holds
 
 of_sim : (P : SimEnded → Type 0) (Q : ℕ → Type 0) → ((e : SimEnded) → P e → Q (status_of (sim_end_of e))) → (end : End) → IsSomeAnd (sim_end end) P → Q (status_of end)
 of_sim P Q f Done holds = f (SimEnds.Ran RunEnds.Done) holds
@@ -302,7 +289,6 @@ of_sim P Q f WriteFault holds = f (SimEnds.Ran RunEnds.WriteFault) holds
 of_sim P Q f OutOfMemory holds = f (SimEnds.Ran RunEnds.OutOfMemory) holds
 of_sim P Q f (Graph quantity) holds = f (SimEnds.Ran (RunEnds.Limit quantity)) holds
 of_sim P Q f Events holds = f SimEnds.Events holds
-of_sim P Q f Turns holds = f SimEnds.Turns holds
 of_sim P Q f Words holds = absurd holds
 of_sim P Q f (Job error) holds = absurd holds
 of_sim P Q f (Limit quantity) holds = absurd holds
@@ -326,7 +312,6 @@ unread_memory old new (Job error) faults cause = absurd cause
 unread_memory old new (Limit quantity) faults cause = absurd cause
 unread_memory old new (Graph quantity) faults cause = absurd cause
 unread_memory old new Events faults cause = absurd cause
-unread_memory old new Turns faults cause = absurd cause
 
 abbrev IsRefusal : ℕ → Type 0
 IsRefusal status = (status ≡ 2) ⊎ ((status ≡ 9) ⊎ (status ≡ 8))
@@ -343,7 +328,6 @@ refusal_ends e WriteFault cause = absurd cause
 refusal_ends e Words cause = absurd cause
 refusal_ends e (Graph quantity) cause = absurd cause
 refusal_ends e Events cause = absurd cause
-refusal_ends e Turns cause = absurd cause
 
 refused_completes : (sources : List (List ℕ)) (work : Work) (reading : Reading) (old new : View) (end : End) → IsSomeAnd (told_all old.files.held sources) (λ texts. (p : Plan) → ¬ Reads texts (Ok p)) → IfSome reading (IsRead sources old.files) → NoFault old new → Does work sources reading old new end →
     IsRefusal (status_of end)
@@ -430,12 +414,11 @@ simulated said read old status same ends =
 -- ## The job that a number makes
 
 number_memory : (w : GenWords) → EndsByNumber w 8
-number_memory w = record { going = λ ends. inr (inr refl); limit = inr (inr (inr refl)) }
+number_memory w = record { going = λ ends. inr refl; limit = inr (inr refl) }
 
 number_completes : (w : GenWords) (old new : View) (end : End) → NoFault old new → GenCause w old new end → EndsByNumber w (status_of end)
 number_completes w old new Done faults cause = record { going = λ ends. inl refl; limit = inl refl }
-number_completes w old new Turns faults cause = record { going = λ ends. inr (inl refl); limit = inr (inl refl) }
-number_completes w old new Events faults cause = record { going = λ ends. absurd (ends cause); limit = inr (inr (inl refl)) }
+number_completes w old new Events faults cause = record { going = λ ends. absurd (ends cause); limit = inr (inl refl) }
 number_completes w old new WriteFault faults cause = absurd (faults.print cause)
 number_completes w old new OutOfMemory faults cause = number_memory w
 number_completes w old new Words faults cause = absurd cause

@@ -10,7 +10,7 @@ use Rattle.gen_run.specs.declared.ends.GenEnded.TheVariants as GenEnds
 use Rattle.gen_run.specs.Ends.{AreLines, Cause}
 use Rattle.gen_run.specs.Texts.{gen_text}
 use Rattle.dask_top.specs.declared.answer.End.{End}
-use Rattle.dask_top.specs.declared.answer.End.TheVariants.{Done, Events, OutOfMemory, Turns, WriteFault}
+use Rattle.dask_top.specs.declared.answer.End.TheVariants.{Done, Events, OutOfMemory, WriteFault}
 use Rattle.dask_top.specs.Ends.{Notes}
 use Rattle.dask_top.specs.Generating.{GenCause, GenPrints, Generates, IsGenCause, TellsNumber}
 use Rattle.dask_top.specs.Reading.{Reading, SaysPlan}
@@ -24,7 +24,6 @@ tells w p lines says are = record { plan = p; says = says; holds = are }
 
 pub cause_of : (w : GenWords) (p : Plan) (end : GenEnded) → SaysPlan (gen_text w.number) p → Cause p w end → IsGenCause w end
 cause_of w p GenEnds.Events says cause = record { plan = p; says = says; holds = cause }
-cause_of w p GenEnds.Turns says cause = record { plan = p; says = says; holds = cause }
 cause_of w p GenEnds.OutOfMemory says cause = tt
 
 pub memory_cause : (w : GenWords) (end : GenEnded) → end ≡ GenEnds.OutOfMemory → IsGenCause w end
@@ -34,7 +33,6 @@ memory_cause w end is = let C : GenEnded → Type 0 = λ e. IsGenCause w e in su
 
 pub of_text : (end : GenEnded) → IsOfText (gen_end_of end)
 of_text GenEnds.Events = tt
-of_text GenEnds.Turns = tt
 of_text GenEnds.OutOfMemory = tt
 
 -- an end that only gets its line
@@ -55,7 +53,6 @@ only_noted w old new end now not cause prints told only notes =
 
 pub stops : (w : GenWords) (old new : View) (end : GenEnded) (now : End) → IsGenCause w end → Told (gen_end_of end) now → OnlyErr old new → ((r : Reading) → Notes r old new now) → Generates w old new now
 stops w old new GenEnds.Events now cause told only notes = only_noted w old new Events now (λ r. r) cause only.out told only notes
-stops w old new GenEnds.Turns now cause told only notes = only_noted w old new Turns now (λ r. r) cause only.out told only notes
 stops w old new GenEnds.OutOfMemory now cause told only notes = only_noted w old new OutOfMemory now (λ r. r) tt only.out told only notes
 
 -- ## The lines were printed

@@ -14,7 +14,7 @@ use Rattle.command_words.specs.declared.sim.SimWords.{SimWords}
 use Rattle.sim_run.specs.declared.ends.SimEnded.{SimEnded}
 use Rattle.sim_run.specs.declared.ends.SimEnded.TheVariants as SimEnds
 use Rattle.sim_run.specs.Ends.{Cause as SimCause, Saves as SimSaves, RanSaves, Opened as SimOpens, Created as SimCreated, Prints as SimPrints, SimulatesPlan}
-use Rattle.sim_run.specs.Simulated.{IsOutOfEvents, IsOutOfTurns}
+use Rattle.sim_run.specs.Simulated.{IsOutOfEvents}
 use Rattle.dask_top.specs.declared.answer.End.{End}
 use Rattle.dask_top.specs.Answers.{Performs}
 use Rattle.dask_top.specs.Commands.{Simulation}
@@ -32,7 +32,6 @@ use Rattle.job_run.proofs.Running.{left_alone}
 
 cause_told : (p : Plan) (said : SimWords) (old mid new : View) (end : SimEnded) → OnlyErr mid new → SimCause p said old mid end → SimCause p said old new end
 cause_told p said old mid new SimEnds.Events only cause = cause
-cause_told p said old mid new SimEnds.Turns only cause = cause
 cause_told p said old mid new (SimEnds.Ran RunEnds.Done) only cause = cause
 cause_told p said old mid new (SimEnds.Ran (RunEnds.Limit quantity)) only cause = cause
 cause_told p said old mid new (SimEnds.Ran (RunEnds.File place error)) only cause = (cause.0, cause.1, given_later old.gave mid.gave new.gave (λ holds. FirstRefusal p (map holds p.inputs) place error) cause.2 (more_same mid.gave new.gave only.gave))
@@ -43,7 +42,6 @@ cause_told p said old mid new (SimEnds.Ran RunEnds.OutOfMemory) only cause = tt
 
 prints_told : (p : Plan) (said : SimWords) (old mid new : View) (end : SimEnded) → OnlyErr mid new → SimPrints p said old mid end → SimPrints p said old new end
 prints_told p said old mid new SimEnds.Events only prints = only.out ∙ prints
-prints_told p said old mid new SimEnds.Turns only prints = only.out ∙ prints
 prints_told p said old mid new (SimEnds.Ran RunEnds.Done) only prints =
     prints_over p said old.files old.files refl (λ fit. fit) (λ lines. mid.out ≡ followed_by old.out lines) (λ lines. new.out ≡ followed_by old.out lines) (λ lines printed. only.out ∙ printed) prints
 prints_told p said old mid new (SimEnds.Ran RunEnds.WriteFault) only prints =
@@ -93,13 +91,11 @@ simulates_starved sources p said old new (SimEnds.Ran RunEnds.ReadFault) is e = 
 simulates_starved sources p said old new (SimEnds.Ran RunEnds.WriteFault) is e = absurd is
 simulates_starved sources p said old new (SimEnds.Ran RunEnds.OutOfMemory) is e = absurd is
 simulates_starved sources p said old new SimEnds.Events is e = absurd is
-simulates_starved sources p said old new SimEnds.Turns is e = absurd is
 
 -- ## Its end as an end of the program
 
 sim_is : (P : SimEnded → Type 0) (end : SimEnded) → P end → IsSomeAnd (sim_end (sim_end_of end)) P
 sim_is P SimEnds.Events holds = holds
-sim_is P SimEnds.Turns holds = holds
 sim_is P (SimEnds.Ran RunEnds.Done) holds = holds
 sim_is P (SimEnds.Ran (RunEnds.Limit quantity)) holds = holds
 sim_is P (SimEnds.Ran (RunEnds.File place error)) holds = holds
@@ -121,7 +117,6 @@ simulated sources p said old mid new end now told only e =
 sim_cause_before : (p : Plan) (said : SimWords) (old mid new : View) (end : SimEnded) → mid.files.held ≡ old.files.held → mid.files.tells ≡ old.files.tells → OnlyReads old mid → old.read_faults ≤ mid.read_faults →
     SimCause p said mid new end → SimCause p said old new end
 sim_cause_before p said old mid new SimEnds.Events held tells only later cause = (cause.0, fit_before p old.files mid.files held tells cause.1, told_over p said old.files mid.files held (fit_before p old.files mid.files held tells) IsOutOfEvents cause.2)
-sim_cause_before p said old mid new SimEnds.Turns held tells only later cause = (cause.0, fit_before p old.files mid.files held tells cause.1, told_over p said old.files mid.files held (fit_before p old.files mid.files held tells) IsOutOfTurns cause.2)
 sim_cause_before p said old mid new (SimEnds.Ran RunEnds.Done) held tells only later cause = (cause.0, values_before p old.files mid.files held tells cause.1)
 sim_cause_before p said old mid new (SimEnds.Ran (RunEnds.Limit quantity)) held tells only later cause = cause
 sim_cause_before p said old mid new (SimEnds.Ran (RunEnds.File place error)) held tells only later cause = cause_before p old mid new (RunEnds.File place error) held tells only later cause
@@ -141,12 +136,10 @@ ran_saves_before p old mid new RunEnds.OutOfMemory held tells saves = right_befo
 
 sim_saves_before : (p : Plan) (old mid new : Files) (end : SimEnded) → mid.held ≡ old.held → mid.tells ≡ old.tells → SimSaves p mid new end → SimSaves p old new end
 sim_saves_before p old mid new SimEnds.Events held tells saves = saves ∙ held
-sim_saves_before p old mid new SimEnds.Turns held tells saves = saves ∙ held
 sim_saves_before p old mid new (SimEnds.Ran end) held tells saves = ran_saves_before p old mid new end held tells saves
 
 sim_opened_before : (names inputs : List (List ℕ)) (old mid : Files) (new : List ℕ → ℕ) (end : SimEnded) → Opens names old mid → mid.opened ≡ raised_by names old.opened → SimOpens inputs mid.opened new end → SimOpened names inputs old.opened new end
 sim_opened_before names inputs old mid new SimEnds.Events opens first opened = all_before names inputs old.opened mid.opened new first opened
-sim_opened_before names inputs old mid new SimEnds.Turns opens first opened = all_before names inputs old.opened mid.opened new first opened
 sim_opened_before names inputs old mid new (SimEnds.Ran end) opens first opened = opened_before names inputs old mid new end opens first opened
 
 sim_created_before : (names : List (List ℕ)) (old mid new : List ℕ → ℕ) (end : SimEnded) → mid ≡ old → SimCreated names mid new end → SimCreated names old new end
@@ -154,7 +147,6 @@ sim_created_before names old mid new end same created = let C : (List ℕ → �
 
 sim_prints_before : (p : Plan) (said : SimWords) (old mid new : View) (end : SimEnded) → mid.files.held ≡ old.files.held → mid.files.tells ≡ old.files.tells → mid.files.created ≡ old.files.created → OnlyReads old mid → SimPrints p said mid new end → SimPrints p said old new end
 sim_prints_before p said old mid new SimEnds.Events held tells created only prints = prints ∙ only.out
-sim_prints_before p said old mid new SimEnds.Turns held tells created only prints = prints ∙ only.out
 sim_prints_before p said old mid new (SimEnds.Ran RunEnds.Done) held tells created only prints =
     prints_over p said old.files mid.files held (fit_before p old.files mid.files held tells) (λ lines. new.out ≡ followed_by mid.out lines) (λ lines. new.out ≡ followed_by old.out lines) (λ lines printed. printed ∙ ap (λ o. followed_by o lines) only.out) prints
 sim_prints_before p said old mid new (SimEnds.Ran RunEnds.WriteFault) held tells created only prints =

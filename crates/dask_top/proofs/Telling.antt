@@ -2,7 +2,7 @@
 use Rattle.std.proofs.Common.{◌≡◌, ℕ, List, subst}
 use Rattle.io_edge.specs.View.{View}
 use Rattle.dask_top.specs.declared.answer.End.{End}
-use Rattle.dask_top.specs.declared.answer.End.TheVariants.{Words, Job, Limit, Graph, Events, Turns, Done, File, Zero, ReadFault, WriteFault, OutOfMemory}
+use Rattle.dask_top.specs.declared.answer.End.TheVariants.{Words, Job, Limit, Graph, Events, Done, File, Zero, ReadFault, WriteFault, OutOfMemory}
 use Rattle.dask_top.specs.Ends.{GetsLine, Notes, line_of}
 use Rattle.dask_top.specs.Reading.{Reading}
 use Rattle.dask_top.specs.Telling.{IsRefusal}
@@ -19,7 +19,6 @@ refusal_notes reading old new WriteFault is gets = absurd is
 refusal_notes reading old new OutOfMemory is gets = absurd is
 refusal_notes reading old new Words is gets = absurd is
 refusal_notes reading old new Events is gets = absurd is
-refusal_notes reading old new Turns is gets = absurd is
 
 pub printed_notes : (line : List ℕ) (reading : Reading) (old new : View) (end : End) → IsRefusal end → GetsLine line old new → line ≡ line_of reading end → Notes reading old new end
 printed_notes line reading old new end is gets same = let P : List ℕ → Type 0 = λ l. GetsLine l old new in refusal_notes reading old new end is (subst P same gets)

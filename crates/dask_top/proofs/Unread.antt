@@ -8,7 +8,7 @@ use Rattle.job_run.specs.Runs.{AreUntouched}
 use Rattle.job_run.proofs.Counting.{opened_most}
 use Rattle.job_text.specs.declared.error.JobError.{JobError}
 use Rattle.dask_top.specs.declared.answer.End.{End}
-use Rattle.dask_top.specs.declared.answer.End.TheVariants.{Words, Job, Limit, Graph, Events, Turns, Done, File, Zero, ReadFault, WriteFault, OutOfMemory}
+use Rattle.dask_top.specs.declared.answer.End.TheVariants.{Words, Job, Limit, Graph, Events, Done, File, Zero, ReadFault, WriteFault, OutOfMemory}
 use Rattle.dask_top.specs.Answers.{Performs}
 use Rattle.dask_top.specs.Commands.{Work}
 use Rattle.dask_top.specs.Ends.{GetsLine, Notes, line_of}
@@ -34,7 +34,6 @@ notes_before reading old mid new OutOfMemory err faults notes = gets_before (lin
 notes_before reading old mid new Words err faults notes = gets_before (line_of reading Words) old mid new err faults notes
 notes_before reading old mid new (Graph quantity) err faults notes = gets_before (line_of reading (Graph quantity)) old mid new err faults notes
 notes_before reading old mid new Events err faults notes = gets_before (line_of reading Events) old mid new err faults notes
-notes_before reading old mid new Turns err faults notes = gets_before (line_of reading Turns) old mid new err faults notes
 notes_before reading old mid new (Job error) err faults notes = gets_before (line_of reading (Job error)) old mid new err faults notes
 notes_before reading old mid new (Limit quantity) err faults notes = gets_before (line_of reading (Limit quantity)) old mid new err faults notes
 
@@ -106,4 +105,3 @@ text_performs names old mid new read WriteFault now t ends told only notes work 
 text_performs names old mid new read Words now t ends told only notes work = absurd ends
 text_performs names old mid new read (Graph quantity) now t ends told only notes work = absurd ends
 text_performs names old mid new read Events now t ends told only notes work = absurd ends
-text_performs names old mid new read Turns now t ends told only notes work = absurd ends

@@ -60,15 +60,15 @@ pub record EndsByRun (p : Plan) (old : View) (status : ℕ) : Type 0 where
 abbrev pub NeverEnds : Plan → SimWords → View → Type 0
 NeverEnds p said old = SimulatesTo (IsTextJob p old.files said) said IsOutOfEvents
 
--- How a simulation of a job by these words ends: as an evaluation of it does, or at the end of its turns, or after 2^40 events where as many are drawn
--- without an end. At each of these memory may be wanted instead.
+-- How a simulation of a job by these words ends: as an evaluation of it does, or after 2^40 events where as many are drawn without an end. At each of
+-- these memory may be wanted instead.
 pub record EndsBySimulation (p : Plan) (said : SimWords) (old : View) (status : ℕ) : Type 0 where
   pub large : ¬ IsSmall p → (status ≡ 9) ⊎ (status ≡ 8)
   pub unfit : IsSmall p → Tell p old (λ contents. ¬ FitInputs p contents) → (status ≡ 3) ⊎ (status ≡ 8)
-  pub some : IsSmall p → Tell p old (FitInputs p) → Tell p old (MeetZero p) → ¬ NeverEnds p said old → (status ≡ 4) ⊎ ((status ≡ 10) ⊎ (status ≡ 8))
-  pub none : IsSmall p → Tell p old (FitInputs p) → Tell p old (MeetNoZero p) → ¬ NeverEnds p said old → (status ≡ 0) ⊎ ((status ≡ 10) ⊎ (status ≡ 8))
-  pub some_limit : IsSmall p → Tell p old (FitInputs p) → Tell p old (MeetZero p) → (status ≡ 4) ⊎ ((status ≡ 10) ⊎ ((status ≡ 9) ⊎ (status ≡ 8)))
-  pub none_limit : IsSmall p → Tell p old (FitInputs p) → Tell p old (MeetNoZero p) → (status ≡ 0) ⊎ ((status ≡ 10) ⊎ ((status ≡ 9) ⊎ (status ≡ 8)))
+  pub some : IsSmall p → Tell p old (FitInputs p) → Tell p old (MeetZero p) → ¬ NeverEnds p said old → (status ≡ 4) ⊎ (status ≡ 8)
+  pub none : IsSmall p → Tell p old (FitInputs p) → Tell p old (MeetNoZero p) → ¬ NeverEnds p said old → (status ≡ 0) ⊎ (status ≡ 8)
+  pub some_limit : IsSmall p → Tell p old (FitInputs p) → Tell p old (MeetZero p) → (status ≡ 4) ⊎ ((status ≡ 9) ⊎ (status ≡ 8))
+  pub none_limit : IsSmall p → Tell p old (FitInputs p) → Tell p old (MeetNoZero p) → (status ≡ 0) ⊎ ((status ≡ 9) ⊎ (status ≡ 8))
 
 abbrev pub EndsByWork : Work → Plan → View → ℕ → Type 0
 EndsByWork (Running said) p old status = EndsByRun p old status
@@ -80,11 +80,10 @@ pub record EndsByTexts (sources : List (List ℕ)) (work : Work) (old : View) (s
   pub refused : IsSomeAnd (told_all old.files.held sources) (λ texts. (p : Plan) → ¬ Reads texts (Ok p)) → (status ≡ 2) ⊎ ((status ≡ 9) ⊎ (status ≡ 8))
   pub runs : (p : Plan) → IsSomeAnd (told_all old.files.held sources) (λ texts. Reads texts (Ok p)) → EndsByWork work p old status
 
--- How a simulation of the job that a number makes ends: well, or at the end of its turns, or after 2^40 events where as many are drawn without an end;
--- or memory was wanted.
+-- How a simulation of the job that a number makes ends: well, or after 2^40 events where as many are drawn without an end; or memory was wanted.
 pub record EndsByNumber (w : GenWords) (status : ℕ) : Type 0 where
-  pub going : ¬ NeverEndsAlone w → (status ≡ 0) ⊎ ((status ≡ 10) ⊎ (status ≡ 8))
-  pub limit : (status ≡ 0) ⊎ ((status ≡ 10) ⊎ ((status ≡ 9) ⊎ (status ≡ 8)))
+  pub going : ¬ NeverEndsAlone w → (status ≡ 0) ⊎ (status ≡ 8)
+  pub limit : (status ≡ 0) ⊎ ((status ≡ 9) ⊎ (status ≡ 8))
 
 abbrev pub CommandEnds : Command → View → ℕ → Type 0
 CommandEnds (Run said) old status = EndsByTexts (sources_of (Run said)) (Running said) old status

@@ -13,7 +13,7 @@ use Rattle.sim_run.specs.declared.ends.SimEnded.TheVariants as SimEnds
 use Rattle.task_graph.specs.declared.limit.Quantity.{Quantity}
 use Rattle.task_graph.specs.declared.limit.Quantity.TheVariants as Quantities
 use Rattle.dask_top.specs.declared.answer.End.{End}
-use Rattle.dask_top.specs.declared.answer.End.TheVariants.{Words, Job, Limit, Graph, Events, Turns, Done, File, Zero, ReadFault, WriteFault, OutOfMemory}
+use Rattle.dask_top.specs.declared.answer.End.TheVariants.{Words, Job, Limit, Graph, Events, Done, File, Zero, ReadFault, WriteFault, OutOfMemory}
 use Rattle.dask_top.specs.Reading.{Reading, plan_in}
 
 abbrev pub status_of : End → ℕ
@@ -22,7 +22,6 @@ status_of (Job error) = 2
 status_of (Limit quantity) = 9
 status_of (Graph quantity) = 9
 status_of Events = 9
-status_of Turns = 10
 status_of Done = 0
 status_of (File place error) = 3
 status_of (Zero node block) = 4
@@ -44,7 +43,6 @@ run_end end = None
 -- the end of a simulation that this is, if it is one
 abbrev pub sim_end : End → Option SimEnded
 sim_end Events = Some SimEnds.Events
-sim_end Turns = Some SimEnds.Turns
 sim_end Done = Some (SimEnds.Ran RunEnds.Done)
 sim_end (Graph quantity) = Some (SimEnds.Ran (RunEnds.Limit quantity))
 sim_end (File place error) = Some (SimEnds.Ran (RunEnds.File place error))
@@ -69,7 +67,6 @@ line_of reading (Job error) = codes "dask: job " ++ job_error_text error ++ code
 line_of reading (Limit quantity) = codes "dask: limit " ++ quantity_text quantity ++ codes "\n"
 line_of reading (Graph quantity) = codes "dask: limit " ++ graph_text quantity ++ codes "\n"
 line_of reading Events = codes "dask: limit events\n"
-line_of reading Turns = codes "dask: turns\n"
 line_of reading Done = []
 line_of reading (File place error) = codes "dask: file " ++ slice_index_or (plan_in reading).inputs place [] ++ codes ": " ++ file_error_text error ++ codes "\n"
 line_of reading (Zero node block) = codes "dask: zero division: node " ++ decimal node ++ codes " block " ++ index_text block ++ codes "\n"

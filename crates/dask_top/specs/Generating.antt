@@ -5,14 +5,14 @@ use Rattle.io_edge.specs.Content.{followed_by, PrintsPart}
 use Rattle.io_edge.specs.View.{View}
 use Rattle.job_run.specs.Plan.{Plan}
 use Rattle.command_words.specs.declared.generate.GenWords.{GenWords}
-use Rattle.sim_run.specs.Simulated.{IsOutOfEvents, IsOutOfTurns}
+use Rattle.sim_run.specs.Simulated.{IsOutOfEvents}
 use Rattle.gen_run.specs.declared.ends.GenEnded.{GenEnded}
 use Rattle.gen_run.specs.declared.ends.GenEnded.TheVariants as GenEnds
 use Rattle.gen_run.specs.Alone.{SimulatesAlone}
 use Rattle.gen_run.specs.Ends.{AreLines}
 use Rattle.gen_run.specs.Texts.{gen_text}
 use Rattle.dask_top.specs.declared.answer.End.{End}
-use Rattle.dask_top.specs.declared.answer.End.TheVariants.{Events, Turns, Done, WriteFault, OutOfMemory}
+use Rattle.dask_top.specs.declared.answer.End.TheVariants.{Events, Done, WriteFault, OutOfMemory}
 use Rattle.dask_top.specs.Ends.{Notes}
 use Rattle.dask_top.specs.Reading.{SaysPlan}
 
@@ -22,10 +22,7 @@ pub record OnNumber (w : GenWords) (P : Plan → Type 0) : Type 0 where
   pub says : SaysPlan (gen_text w.number) plan
   pub holds : P plan
 
--- the drawn events come to the end of their turns, or are as many as there can be without an end
-abbrev pub RunsOut : GenWords → Type 0
-RunsOut w = OnNumber w (λ p. SimulatesAlone p w IsOutOfTurns)
-
+-- the drawn events are as many as there can be without an end
 abbrev pub NeverEndsAlone : GenWords → Type 0
 NeverEndsAlone w = OnNumber w (λ p. SimulatesAlone p w IsOutOfEvents)
 
@@ -36,7 +33,6 @@ TellsNumber w lines = OnNumber w (λ p. AreLines p w lines)
 -- why it ends so
 abbrev pub GenCause : GenWords → View → View → End → Type 0
 GenCause w old new Events = NeverEndsAlone w
-GenCause w old new Turns = RunsOut w
 GenCause w old new Done = Unit {0}
 GenCause w old new WriteFault = Rose old.print_faults new.print_faults
 GenCause w old new OutOfMemory = Unit {0}
@@ -45,7 +41,6 @@ GenCause w old new end = ⊥
 -- why there are no lines
 abbrev pub IsGenCause : GenWords → GenEnded → Type 0
 IsGenCause w GenEnds.Events = NeverEndsAlone w
-IsGenCause w GenEnds.Turns = RunsOut w
 IsGenCause w GenEnds.OutOfMemory = Unit {0}
 
 -- these lines are told, and this is printed of them

@@ -8,7 +8,7 @@ use Rattle.gen_run.specs.declared.ends.GenEnded.TheVariants as GenEnds
 use Rattle.dask_top.specs.declared.answer.End.{End}
 use Rattle.sim_run.specs.declared.ends.SimEnded.{SimEnded}
 use Rattle.sim_run.specs.declared.ends.SimEnded.TheVariants as SimEnds
-use Rattle.dask_top.specs.declared.answer.End.TheVariants.{Job, Limit, Graph, Events, Turns, Done, File, Zero, ReadFault, WriteFault, OutOfMemory}
+use Rattle.dask_top.specs.declared.answer.End.TheVariants.{Job, Limit, Graph, Events, Done, File, Zero, ReadFault, WriteFault, OutOfMemory}
 use Rattle.dask_top.specs.Reading.{Reading, plan_in}
 
 -- an end whose line is made when it comes
@@ -48,13 +48,11 @@ end_of RunEnds.OutOfMemory = OutOfMemory
 -- and the one that a simulation's is
 abbrev pub sim_end_of : SimEnded → End
 sim_end_of SimEnds.Events = Events
-sim_end_of SimEnds.Turns = Turns
 sim_end_of (SimEnds.Ran end) = end_of end
 
 -- and the one that the end of a simulation over no file is
 abbrev pub gen_end_of : GenEnded → End
 gen_end_of GenEnds.Events = Events
-gen_end_of GenEnds.Turns = Turns
 gen_end_of GenEnds.OutOfMemory = OutOfMemory
 
 -- numbers as they are printed behind others

@@ -100,7 +100,6 @@ pub record Runs (sources : List (List ℕ)) (p : Plan) (said : RunWords) (old ne
 -- the same of a simulation
 abbrev pub SimOpened : List (List ℕ) → List (List ℕ) → (List ℕ → ℕ) → (List ℕ → ℕ) → SimEnded → Type 0
 SimOpened sources inputs old new SimEnds.Events = new ≡ raised_by (sources ++ inputs) old
-SimOpened sources inputs old new SimEnds.Turns = new ≡ raised_by (sources ++ inputs) old
 SimOpened sources inputs old new (SimEnds.Ran end) = JobOpened sources inputs old new end
 
 -- A simulation of a cluster by these words, on this job, read of these sources, that ends so.

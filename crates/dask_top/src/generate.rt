@@ -49,7 +49,6 @@ fn gen_end(end: GenEnded) -> End
 {
     match end {
         GenEnded::Events => End::Events,
-        GenEnded::Turns => End::Turns,
         GenEnded::OutOfMemory => End::OutOfMemory,
     }
 }

@@ -175,7 +175,6 @@ pub fn tell_text<S: Site>(alloc: Global, site: &mut S, end: End) -> End
         End::Limit(quantity) => return tell_refusal(site, end, limit_line(alloc, quantity)),
         End::Graph(quantity) => return tell_refusal(site, end, graph_line(alloc, quantity)),
         End::Events => note(site, b"dask: limit events\n"),
-        End::Turns => note(site, b"dask: turns\n"),
         End::Done => {}
         End::ReadFault => note(site, b"dask: read fault\n"),
         End::WriteFault => note(site, b"dask: write fault\n"),
@@ -234,7 +233,6 @@ pub fn tell_sim<S: Site>(alloc: Global, site: &mut S, job: &Job, end: SimEnded) 
 {
     match end {
         SimEnded::Events => tell_text(alloc, site, End::Events),
-        SimEnded::Turns => tell_text(alloc, site, End::Turns),
         SimEnded::Ran(end) => tell_run(alloc, site, job, end),
     }
 }

@@ -1,4 +1,4 @@
+pub mod AskLemmas
 pub mod FoldLemmas
 pub mod TableLemmas
 pub mod KeptLemmas
-pub mod PeerLemmas

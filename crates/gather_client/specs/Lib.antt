@@ -4,4 +4,3 @@ pub mod CoreState
 pub mod Table
 pub mod Kept
 pub mod Inner
-pub mod Peers

@@ -7,21 +7,18 @@ ghost use Rattle.cluster_rules.specs.Client.{new_client, done, client_step, clie
 ghost use Rattle.gather_client.specs.CoreState.{client_facts, IsTaken, IsRefused, IsSpent};
 ghost use Rattle.gather_client.specs.Kept.{KeysKept};
 ghost use Rattle.gather_client.specs.Inner.{IsGrown};
-ghost use Rattle.gather_client.specs.Peers.{HoldFetchable};
 ghost use Rattle.gather_client.specs.Stored.{facts_of};
 
 use crate::events::perform;
-use crate::peers::{mark_peers, marked_peers, would_ask};
 use crate::table::ClientTable;
 use cluster_msgs::{ClientEvent, ClientOut, End, GraphShape, Stop};
-use fact_rows::Row;
 use std::alloc::{AllocError, Global};
 use std::marker::Model;
 
 /// A core takes at most this many events, 2^40.
 const EVENT_LIMIT: u64 = 1_099_511_627_776;
 
-/// A client: its facts, how many events it took, whether memory ran out, and which peers hold a key to fetch.
+/// A client: its facts, how many events it took, and whether memory ran out.
 ///
 /// Contracts see the stored facts, of which `client_facts` makes functions of the key, and the count and the mark.
 #[derive(Drop)]
@@ -29,7 +26,6 @@ pub struct ClientCore {
     table: ClientTable,
     events: u64,
     stopped: bool,
-    peers: Row<bool>,
 }
 
 impl Model for ClientCore {
@@ -39,9 +35,9 @@ impl Model for ClientCore {
 
     ghost view = { λ s. record { stored = s.table; events = s.events; stopped = s.stopped } };
 
-    ghost use Rattle.gather_client.specs.Peers.{IsMarked};
+    ghost use Rattle.gather_client.specs.Kept.{IsCore};
 
-    ghost invariant = { λ s. IsMarked s.table s.events s.stopped s.peers };
+    ghost invariant = { λ s. IsCore s.table s.events s.stopped };
 }
 
 impl ClientCore {
@@ -55,12 +51,10 @@ impl ClientCore {
         ensures going { IfOk result (λ core. core.stopped ≡ false) }
     {
         let table = ClientTable::new(alloc, shape)?;
-        let peers = marked_peers(alloc, &table)?;
         Ok(ClientCore {
             table,
             events: 0,
             stopped: false,
-            peers,
         })
     }
 
@@ -97,7 +91,7 @@ impl ClientCore {
         if !self.table.takes(&e) {
             return Err(Stop::Refused);
         }
-        match carry_out(&mut self.table, &mut self.peers, e, out) {
+        match perform(&mut self.table, e, out) {
             Ok(()) => {
                 self.events += 1;
                 Ok(())
@@ -142,7 +136,7 @@ impl ClientCore {
     pub fn would_ask(&self, peer: u32) -> bool
         ensures { result ≡ client_would_ask (client_facts self.now) peer }
     {
-        would_ask(&self.peers, &self.table, peer)
+        self.table.would_ask(peer)
     }
 
     /// The number of the open ask to a peer, if one is open.
@@ -158,26 +152,4 @@ impl ClientCore {
     {
         self.table.pairs()
     }
-}
-
-/// Carries an event out that is possible, and marks the peers that hold a key to fetch.
-///
-/// # Errors
-/// Where no memory is left. The facts may then be amid the event.
-fn carry_out(
-    table: &mut ClientTable,
-    peers: &mut Row<bool>,
-    event: ClientEvent,
-    out: &mut ClientOut,
-) -> Result<(), AllocError>
-    requires possible { client_takes (facts_of table.old) event ≡ true }
-    requires room { (facts_of table.old).next_ask < 2 ^ 63 }
-    ensures facts { OnOk result (facts_of table.new ≡ (client_step (facts_of table.old) event).facts) }
-    ensures instructions { OnOk result (out.new ≡ out.old ++ (client_step (facts_of table.old) event).out) }
-    ensures err { OnErr result (IsGrown out.old out.new) }
-    ensures peers { HoldFetchable (facts_of table.new) peers.new }
-{
-    let end = perform(table, event, out);
-    mark_peers(peers, table);
-    end
 }

@@ -10,7 +10,6 @@
 
 pub mod client;
 mod events;
-mod peers;
 mod questions;
 pub mod table;
 

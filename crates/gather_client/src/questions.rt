@@ -1,6 +1,6 @@
 //! The questions about a client's facts: how a key ended, and what could be asked for next. None takes memory but the
 //! list of items to ask for.
-ghost use Rattle.std.specs.Prelude.{◌≡◌, ◌==◌, ◌-◌, ◌<◌, ◌^◌, ℕ, true, min, IfOk};
+ghost use Rattle.std.specs.Prelude.{◌≡◌, ◌==◌, ◌-◌, ◌<◌, ◌^◌, ℕ, true, min, take, IfOk};
 ghost use Rattle.std.specs.List.{list_any};
 ghost use Rattle.cluster_msgs.specs.Shape.{key_count};
 ghost use Rattle.cluster_rules.specs.Worker.{ask_items, has_any};
@@ -12,6 +12,9 @@ use crate::table::ClientTable;
 use cluster_msgs::{ClientEvent, End, ToClient};
 use open_asks::{fitting_count, item_at, push_item};
 use std::alloc::AllocError;
+
+/// At most this many keys go into one ask.
+const ASK_KEYS: usize = 16;
 
 impl ClientTable {
     /// How the key ended, where it did.
@@ -61,18 +64,21 @@ impl ClientTable {
         false
     }
 
-    /// The keys to fetch that the peer holds, ascending, with their copies.
+    /// The first keys to fetch that the peer holds, ascending, with their copies: as many as one ask may have.
     ///
     /// # Errors
     /// Where no memory is left.
-    fn fetchable(&self, peer: u32) -> Result<Vec<(u32, u64)>, AllocError>
-        ensures { IfOk result (λ items. items.items ≡ client_fetchable (facts_of self.now) peer) }
+    fn first_fetchable(&self, peer: u32) -> Result<Vec<(u32, u64)>, AllocError>
+        ensures { IfOk result (λ items. items.items ≡ take 16 (client_fetchable (facts_of self.now) peer)) }
     {
         self.sound();
         let mut items = Vec::new(self.allocator());
         let mut from = 0;
         'keys: while let Some(key) = self.next_held(from) {
             push_item(&mut items, self.open_item(peer, key))?;
+            if items.len() >= ASK_KEYS {
+                return Ok(items);
+            }
             from = key + 1;
         }
         Ok(items)
@@ -86,7 +92,7 @@ impl ClientTable {
         ensures items { IfOk result (λ items. items.items ≡ ask_items (facts_of self.now).shape (client_fetchable (facts_of self.now) peer)) }
         ensures keys { IfOk result (λ items. (k : ℕ) → list_any (λ i. i.0 == k) items.items ≡ true → k < key_count (facts_of self.now).shape) }
     {
-        let mut items = self.fetchable(peer)?;
+        let mut items = self.first_fetchable(peer)?;
         items.truncate(fitting_count(self.shape(), items.as_slice()));
         Ok(items)
     }

@@ -23,7 +23,7 @@ use Rattle.sim_run.specs.declared.ends.SimEnded.{SimEnded}
 use Rattle.sim_run.specs.declared.ends.SimEnded.TheVariants as SimEnds
 use Rattle.sim_run.specs.Ends.{SavesPlan, SimulatesPlan, WhereTold}
 use Rattle.sim_run.specs.Jobs.{IsTextJob}
-use Rattle.sim_run.specs.Simulated.{AreSettings, IsOutOfEvents, IsOutOfTurns, IsServed, SimulatesTo}
+use Rattle.sim_run.specs.Simulated.{AreSettings, IsOutOfEvents, IsServed, SimulatesTo}
 use Rattle.gen_run.specs.Alone.{IsUnscripted, SimulatesAlone, no_files}
 use Rattle.gen_run.specs.Ends.{AreLines, Cause, end_of}
 use Rattle.gen_run.specs.Lines.{first_file, lines_of}
@@ -79,9 +79,6 @@ module _ (p : Plan) (w : GenWords) (said : SimWords) (is : IsUnscripted w said) 
   cause-alone old new SimEnds.Events start r =
       let r' : SimulatesPlan p said new_view new SimEnds.Events = (let V : View → Type 0 = λ v. SimulatesPlan p said v new SimEnds.Events in subst V start r) in
       simulates-alone IsOutOfEvents r'.cause.1 r'.cause.2
-  cause-alone old new SimEnds.Turns start r =
-      let r' : SimulatesPlan p said new_view new SimEnds.Turns = (let V : View → Type 0 = λ v. SimulatesPlan p said v new SimEnds.Turns in subst V start r) in
-      simulates-alone IsOutOfTurns r'.cause.1 r'.cause.2
   cause-alone old new (SimEnds.Ran end) start r = tt
 
   module _ (runs : IsRunnable p) (old new : View) (report : Report) (turns : ℕ) (start : old ≡ new_view) (saves : SavesPlan p said old new report turns) where

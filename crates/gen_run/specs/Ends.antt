@@ -6,9 +6,9 @@ use Rattle.job_run.specs.Plan.{Plan}
 use Rattle.job_run.specs.Values.{MeetsNone}
 use Rattle.sim_run.specs.declared.ends.SimEnded.{SimEnded}
 use Rattle.sim_run.specs.declared.ends.SimEnded.TheVariants as SimEnds
-use Rattle.sim_run.specs.Simulated.{IsServed, IsOutOfEvents, IsOutOfTurns}
+use Rattle.sim_run.specs.Simulated.{IsServed, IsOutOfEvents}
 use Rattle.gen_run.specs.declared.ends.GenEnded.{GenEnded}
-use Rattle.gen_run.specs.declared.ends.GenEnded.TheVariants.{Events, Turns, OutOfMemory}
+use Rattle.gen_run.specs.declared.ends.GenEnded.TheVariants.{Events, OutOfMemory}
 use Rattle.gen_run.specs.Alone.{SimulatesAlone}
 use Rattle.gen_run.specs.Lines.{lines_of, no_elements}
 
@@ -24,11 +24,9 @@ pub record AreLines (p : Plan) (w : GenWords) (lines : List ℕ) : Type 0 where
 -- why there are no lines
 abbrev pub Cause : Plan → GenWords → GenEnded → Type 0
 Cause p w Events = SimulatesAlone p w IsOutOfEvents
-Cause p w Turns = SimulatesAlone p w IsOutOfTurns
 Cause p w OutOfMemory = Unit {0}
 
 -- the end that a simulated run's is, where its site is one in memory
 abbrev pub end_of : SimEnded → GenEnded
 end_of SimEnds.Events = Events
-end_of SimEnds.Turns = Turns
 end_of (SimEnds.Ran end) = OutOfMemory

@@ -11,8 +11,6 @@ use std::alloc::AllocError;
 pub enum GenEnded {
     /// The simulation took 2^40 events, and no end was reached.
     Events,
-    /// No turn was left of the bound on quiet runs, or nothing moved.
-    Turns,
     OutOfMemory,
 }
 
@@ -31,7 +29,6 @@ pub fn ended(end: &SimEnded) -> GenEnded
 {
     match end {
         SimEnded::Events => GenEnded::Events,
-        SimEnded::Turns => GenEnded::Turns,
         SimEnded::Ran(_) => GenEnded::OutOfMemory,
     }
 }

@@ -66,7 +66,7 @@ fn digest(
 /// it saves with its shape and the digest of its file, the report and the turns.
 ///
 /// # Errors
-/// `Turns` and `Events` where the simulation comes to no end, and else want of memory: also for a job that would end otherwise, as
+/// `Events` where the simulation comes to no end, and else want of memory: also for a job that would end otherwise, as
 /// one that reads a file.
 pub fn simulate_alone(alloc: Global, job: &Job, words: GenWords) -> Result<String, GenEnded>
     requires runs { IsRunnable (plan_of job.now) }

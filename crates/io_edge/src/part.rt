@@ -1,16 +1,17 @@
 // Real files that are created: their bytes go beside the name, and take it once all of them are there.
 
-use crate::Failed;
+use crate::{Failed, Lock, Lockable};
 use std::alloc::{AllocError, Global};
-use std::fs;
 use std::fs::{OpenFile, OpenOptions};
 use std::io::ErrorKind;
+use std::os::unix::fs::{FileTypeExt, MetadataExt};
 use std::rt::Files;
+use std::{fs, io};
 
 // How many names beside a target are tried.
 const PARTS: u32 = 16;
 
-/// A file beside the name that it is to take.
+/// A file beside the name that it is to take. While it is open its lock is held, so that it isn't taken for one that was left.
 #[derive(Drop)]
 pub(crate) struct Part<R> {
     rt: R,
@@ -50,12 +51,13 @@ pub(crate) struct Opened<R, F> {
 }
 
 impl<R: Files + Drop, F: Drop> Opened<R, F> {
-    /// Closes the file. What isn't whole is removed.
+    /// Closes the file. What isn't whole is removed before that, while its lock is held.
     pub(crate) fn end(self) {
-        let Opened { part, .. } = self;
+        let Opened { file, part, .. } = self;
         if let Some(part) = part {
             part.remove();
         }
+        drop(file);
     }
 }
 
@@ -77,17 +79,89 @@ fn target_of<R: Files>(alloc: Global, rt: &R, name: &str) -> Result<Option<Strin
     }
 }
 
-// Creates a file beside the target, with the target's permissions. There is none where that can't be had.
-fn create_part<R: Files>(
+// Whether the name is that of this open file.
+fn has_name<R: Files>(rt: &R, file: &R::File, name: &str) -> bool {
+    match (file.metadata(), fs::symlink_metadata(rt, name)) {
+        (Ok(own), Ok(there)) => own.dev() == there.dev() && own.ino() == there.ino(),
+        _ => false,
+    }
+}
+
+// Removes the part of this name where a program that was ended left it: nobody holds its lock.
+fn clear_part<R: Files>(rt: &R, name: &str)
+where
+    R::File: Lockable,
+{
+    let is_regular = matches!(&fs::symlink_metadata(rt, name), Ok(there) if there.is_file());
+    if !is_regular {
+        return;
+    }
+    // some file systems lock only what is open to be written, and what has the permissions of a target may not be
+    let opened = match OpenOptions::new().write(true).open(rt, name) {
+        Ok(file) => Ok(file),
+        Err(_) => fs::open(rt, name),
+    };
+    let Ok(file) = opened else {
+        return;
+    };
+    if let Lock::Held = file.try_to_lock() {
+        if has_name(rt, &file, name) {
+            let _ = fs::remove_file(rt, name);
+        }
+    }
+}
+
+// Whether no name leads to an open file any more. What tells no number tells no names either.
+fn is_removed<F: OpenFile>(file: &F) -> bool {
+    matches!(&file.metadata(), Ok(own) if own.ino() > 0 && own.nlink() == 0)
+}
+
+// Creates a file and takes its lock. There is none where another program took it for one that was left.
+fn create_locked<R: Files>(rt: &R, name: &str) -> io::Result<Option<R::File>>
+where
+    R::File: Lockable,
+{
+    let file = OpenOptions::new()
+        .write(true)
+        .create_new(true)
+        .open(rt, name)?;
+    match file.try_to_lock() {
+        Lock::Taken => Ok(None),
+        Lock::Held | Lock::Unknown => Ok((!is_removed(&file)).then_some(file)),
+    }
+}
+
+// The name of a part of this number.
+fn name_part(alloc: Global, stem: &str, number: u32) -> Result<String, AllocError> {
+    format!(in alloc; "{stem}.{number}.part")
+}
+
+// Removes what was left of parts with this stem.
+fn clear_parts<R: Files>(alloc: Global, rt: &R, stem: &str) -> Result<(), AllocError>
+where
+    R::File: Lockable,
+{
+    for number in 0..PARTS {
+        let name = name_part(alloc, stem, number)?;
+        clear_part(rt, name.as_str());
+    }
+    Ok(())
+}
+
+// Creates a part with this stem. There is none where that can't be had.
+fn create_first<R: Files>(
     alloc: Global,
     rt: &R,
-    target: &str,
-) -> Result<Option<(R::File, String)>, AllocError> {
+    stem: &str,
+) -> Result<Option<(R::File, String)>, AllocError>
+where
+    R::File: Lockable,
+{
     for number in 0..PARTS {
-        let name = format!(in alloc; "{target}.{number}.part")?;
-        let mut how = OpenOptions::new();
-        match how.write(true).create_new(true).open(rt, name.as_str()) {
-            Ok(file) => return Ok(Some((file, name))),
+        let name = name_part(alloc, stem, number)?;
+        match create_locked(rt, name.as_str()) {
+            Ok(Some(file)) => return Ok(Some((file, name))),
+            Ok(None) => {}
             Err(e) if e.kind() == ErrorKind::AlreadyExists => {}
             Err(_) => return Ok(None),
         }
@@ -95,9 +169,62 @@ fn create_part<R: Files>(
     Ok(None)
 }
 
+// A number that differs from name to name, as good as always (FNV-1a).
+fn digest(name: &str) -> u64 {
+    let mut digest = 0xcbf29ce484222325u64;
+    for byte in name.bytes() {
+        digest = (digest ^ u64::from(byte)).wrapping_mul(0x100000001b3);
+    }
+    digest
+}
+
+// A short stem in the folder of a target, whose own name may leave no room for the end of a part's.
+fn short_stem(alloc: Global, target: &str) -> Result<String, AllocError> {
+    match target.rsplit_once('/') {
+        Some((folder, name)) => format!(in alloc; "{folder}/.dask-{:016x}", digest(name)),
+        None => format!(in alloc; ".dask-{:016x}", digest(target)),
+    }
+}
+
+// Creates a file beside the target. What was left of others is removed before. There is none where that can't be had.
+fn create_part<R: Files>(
+    alloc: Global,
+    rt: &R,
+    target: &str,
+) -> Result<Option<(R::File, String)>, AllocError>
+where
+    R::File: Lockable,
+{
+    clear_parts(alloc, rt, target)?;
+    let made = create_first(alloc, rt, target)?;
+    if made.is_some() {
+        return Ok(made);
+    }
+    let stem = short_stem(alloc, target)?;
+    clear_parts(alloc, rt, stem.as_str())?;
+    create_first(alloc, rt, stem.as_str())
+}
+
+// Opens a pipe to be written. Its opening would wait for a reader, so one of this program's own is there for that time;
+// where no other is, the first write fails.
+fn open_pipe<R: Files>(rt: &R, name: &str) -> io::Result<R::File> {
+    let reader = OpenOptions::new().read(true).write(true).open(rt, name)?;
+    let file = fs::create(rt, name);
+    drop(reader);
+    file
+}
+
+// Opens what has the name to be written, or makes it.
+fn open_there<R: Files>(rt: &R, name: &str) -> io::Result<R::File> {
+    match fs::metadata(rt, name) {
+        Ok(there) if there.file_type().is_fifo() => open_pipe(rt, name),
+        _ => fs::create(rt, name),
+    }
+}
+
 // Opens what has the name, or makes it, and gives it the length where it is a regular file.
 fn open_in_place<R: Files>(rt: &R, name: &str, len: u64) -> Option<Opened<R, R::File>> {
-    let Ok(file) = fs::create(rt, name) else {
+    let Ok(file) = open_there(rt, name) else {
         return None;
     };
     let stream = match file.metadata() {
@@ -135,7 +262,10 @@ pub(crate) fn open_output<R: Files + Copy + Drop>(
     rt: &R,
     name: &str,
     len: u64,
-) -> Result<Option<Opened<R, R::File>>, AllocError> {
+) -> Result<Option<Opened<R, R::File>>, AllocError>
+where
+    R::File: Lockable,
+{
     if len > 0 {
         if let Some(target) = target_of(alloc, rt, name)? {
             if let Some((file, name)) = create_part(alloc, rt, target.as_str())? {
@@ -150,19 +280,4 @@ pub(crate) fn open_output<R: Files + Copy + Drop>(
         }
     }
     Ok(open_in_place(rt, name, len))
-}
-
-/// Opens a regular file to be read, with its length. Nothing else is opened: a pipe has no length, and its opening waits.
-pub(crate) fn open_regular<R: Files>(rt: &R, name: &str) -> Result<(R::File, u64), Failed> {
-    let is_regular = matches!(&fs::metadata(rt, name), Ok(there) if there.is_file());
-    if !is_regular {
-        return Err(Failed);
-    }
-    let Ok(file) = fs::open(rt, name) else {
-        return Err(Failed);
-    };
-    match file.metadata() {
-        Ok(there) if there.is_file() => Ok((file, there.len())),
-        _ => Err(Failed),
-    }
 }

@@ -1,192 +1,167 @@
-// Real disks for workers' blocks: a file for each block, in a folder that is made at the first put. They tell nothing of
-// what they hold.
+// Real disks for workers' blocks: one file for each, which is made at the first put and has no name from then on, so that
+// nothing stays of it however the program ends. They tell nothing of what they hold.
 ghost use Rattle.std.specs.Prelude.{◌≡◌, IfOk, OnOk};
 ghost use Rattle.io_edge.specs.Cause.{HasCause};
 ghost use Rattle.io_edge.specs.Real.{untold_disk};
 
-use crate::part::open_regular;
+use crate::slots::Slots;
 use crate::{Failed, SpillDisk};
 use std::alloc::{AllocError, Global};
-use std::fmt::Write;
 use std::fs;
-use std::fs::DirBuilder;
-use std::io::{ErrorKind, Read};
-use std::os::unix::fs::DirBuilderExt;
+use std::fs::{OpenFile, OpenOptions};
+use std::io::ErrorKind;
+use std::os::unix::fs::{FileExt, OpenOptionsExt};
 use std::rt::Files;
-use std::sync::Arc;
-use std::sync::atomic::{AtomicU64, Ordering};
 
-// How many names of folders are tried.
-const FOLDERS: u64 = 16;
+// How many names of a file are tried.
+const NAMES: u32 = 256;
 
-// How long the longest name of a file is, as `.dask-spill-15/4294967295-4294967295`.
-const NAME: usize = 36;
-
-/// The folder of a site's disks, which several threads may be the first to need. It is the number of the folder, plus 1,
-/// or 0 while there is none.
+/// A file without a name, or with the one that could not be taken from it.
 #[derive(Drop)]
-pub(crate) struct Folder {
-    alloc: Global,
-    made: AtomicU64,
+struct Nameless<F> {
+    file: F,
+    name: Option<String>,
 }
 
-// The name of the folder of this number.
-fn name_folder(name: &mut String, number: u64) -> Result<(), Failed> {
-    name.clear();
-    match write!(name, ".dask-spill-{number}") {
-        Ok(()) => Ok(()),
-        Err(_) => Err(Failed),
+// The name that the file of a worker's disk has for a moment.
+fn name_file(alloc: Global, folder: &str, worker: u32, number: u32) -> Result<String, AllocError> {
+    if folder.is_empty() {
+        return format!(in alloc; ".dask-spill-{worker}-{number}");
+    }
+    format!(in alloc; "{folder}/.dask-spill-{worker}-{number}")
+}
+
+// Takes the name from a file that was just made, and answers the name where that can't be done.
+fn unlink<R: Files>(rt: &R, name: String) -> Option<String> {
+    match fs::remove_file(rt, name.as_str()) {
+        Ok(()) => None,
+        Err(e) if e.kind() == ErrorKind::NotFound => None,
+        Err(_) => Some(name),
     }
 }
 
-// Makes the first folder whose name is free, which only its owner may look into, and answers its number.
-fn create_folder<R: Files>(rt: &R, name: &mut String) -> Result<u64, Failed> {
-    let mut how = DirBuilder::new();
-    how.mode(0o700);
-    for number in 0..FOLDERS {
-        name_folder(name, number)?;
-        match how.create(rt, name.as_str()) {
-            Ok(()) => return Ok(number),
-            Err(e) if e.kind() == ErrorKind::AlreadyExists => {}
+// Removes an empty file: it is of a program that was ended between making it and taking its name, or is about to take it.
+fn clear<R: Files>(rt: &R, name: &str) {
+    let is_empty =
+        matches!(&fs::symlink_metadata(rt, name), Ok(there) if there.is_file() && there.len() == 0);
+    if is_empty {
+        let _ = fs::remove_file(rt, name);
+    }
+}
+
+// Makes the file of a worker's disk, which only its owner may open while it has a name.
+fn create_file<R: Files>(
+    alloc: Global,
+    rt: &R,
+    folder: &str,
+    worker: u32,
+) -> Result<Nameless<R::File>, Failed> {
+    let mut how = OpenOptions::new();
+    how.read(true).write(true).create_new(true).mode(0o600);
+    for number in 0..NAMES {
+        let Ok(name) = name_file(alloc, folder, worker, number) else {
+            return Err(Failed);
+        };
+        match how.open(rt, name.as_str()) {
+            Ok(file) => {
+                let name = unlink(rt, name);
+                return Ok(Nameless { file, name });
+            }
+            Err(e) if e.kind() == ErrorKind::AlreadyExists => clear(rt, name.as_str()),
             Err(_) => return Err(Failed),
         }
     }
     Err(Failed)
 }
 
-impl Folder {
-    // The folder's number, if it was made.
-    fn number(&self) -> Option<u64> {
-        self.made.load(Ordering::SeqCst).checked_sub(1)
-    }
-
-    // The folder's number. It is made where there is none yet; where another thread has just made one, this one's goes.
-    fn number_or_make<R: Files>(&self, rt: &R, name: &mut String) -> Result<u64, Failed> {
-        if let Some(number) = self.number() {
-            return Ok(number);
-        }
-        let number = create_folder(rt, name)?;
-        let made = number.saturating_add(1);
-        match self
-            .made
-            .compare_exchange(0, made, Ordering::SeqCst, Ordering::SeqCst)
-        {
-            Ok(_) => Ok(number),
-            Err(other) => {
-                let _ = fs::remove_dir(rt, name.as_str());
-                Ok(other.saturating_sub(1))
-            }
-        }
-    }
-
-    // Removes the folder, if it was made, with all that is left in it.
-    fn remove<R: Files>(self, rt: &R, mut name: String) {
-        let Some(number) = self.number() else {
-            return;
-        };
-        if name_folder(&mut name, number).is_ok() {
-            let _ = rt.remove_dir_all(self.alloc, name.as_str());
-        }
-    }
-}
-
-// The name of the file of a key's block.
-fn name_file(name: &mut String, number: u64, worker: u32, key: u32) -> Result<(), Failed> {
-    name_folder(name, number)?;
-    match write!(name, "/{worker}-{key}") {
-        Ok(()) => Ok(()),
-        Err(_) => Err(Failed),
-    }
-}
-
-// Writes a file of these bytes. What can't be written whole is removed.
-fn write_whole<R: Files>(rt: &R, name: &str, bytes: &[u8]) -> Result<(), Failed> {
-    if fs::write(rt, name, bytes).is_err() {
-        let _ = fs::remove_file(rt, name);
-        return Err(Failed);
-    }
-    Ok(())
-}
-
-// Reads the front of a file, as much as the buffer takes, and answers the file's length.
-fn read_front<R: Files>(rt: &R, name: &str, buf: &mut [u8]) -> Result<usize, Failed> {
-    let (mut file, size) = open_regular(rt, name)?;
-    let count = size.min(buf.len() as u64) as usize;
-    match file.read_exact(&mut buf[..count]) {
-        Ok(()) => Ok(size as usize),
-        Err(_) => Err(Failed),
-    }
-}
-
-fn remove_block<R: Files>(rt: &R, name: &str) -> Result<(), Failed> {
-    match fs::remove_file(rt, name) {
-        Ok(()) => Ok(()),
-        Err(e) if e.kind() == ErrorKind::NotFound => Ok(()),
-        Err(_) => Err(Failed),
-    }
-}
-
 /// A real disk for a worker's blocks.
 #[derive(Drop)]
-pub struct RealDisk<R> {
+pub struct RealDisk<R: Files> {
     rt: R,
+    alloc: Global,
     /// The worker for which the site was asked for it.
     pub(crate) worker: u32,
     /// How many puts went well.
     pub(crate) taken: u64,
     pub(crate) faults: u64,
-    // room for the names of its files
-    name: String,
-    folder: Arc<Folder, Global>,
+    // where its file is made, or nothing for the folder of the call
+    folder: String,
+    file: Option<Nameless<R::File>>,
+    slots: Slots,
 }
 
-impl<R: Files + Drop> RealDisk<R> {
-    /// A disk of this worker with its files in this folder.
-    pub(crate) fn new(
-        alloc: Global,
-        rt: R,
-        worker: u32,
-        folder: Arc<Folder, Global>,
-    ) -> Result<RealDisk<R>, AllocError>
-        ensures { IfOk result (λ d. d.faults ≡ 0) }
+impl<R: Files + Drop> RealDisk<R>
+where
+    R::File: FileExt,
+{
+    /// A disk of this worker, with its file in this folder, or in that of the call where the folder has no name.
+    pub(crate) fn new(alloc: Global, rt: R, worker: u32, folder: String) -> RealDisk<R>
+        ensures { result.faults ≡ 0 }
     {
-        let name = String::with_capacity(alloc, NAME)?;
-        Ok(RealDisk {
+        RealDisk {
             rt,
+            alloc,
             worker,
             taken: 0,
             faults: 0,
-            name,
             folder,
-        })
+            file: None,
+            slots: Slots::new(alloc),
+        }
     }
 
-    fn put_file(&mut self, key: u32, bytes: &[u8]) -> Result<(), Failed>
+    // Has the key's slot free again. What is past the last slot is given back to the file system.
+    fn release(&mut self, key: u32)
         ensures { self.new.faults ≡ self.old.faults }
     {
-        let number = self.folder.number_or_make(&self.rt, &mut self.name)?;
-        name_file(&mut self.name, number, self.worker, key)?;
-        write_whole(&self.rt, self.name.as_str(), bytes)
+        if self.slots.release(key) {
+            if let Some(own) = &self.file {
+                let _ = own.file.set_len(self.slots.end());
+            }
+        }
     }
 
-    fn get_file(&mut self, key: u32, buf: &mut [u8]) -> Result<usize, Failed>
+    // Writes a block into a slot of its own, of a key that has none.
+    fn write(&mut self, key: u32, bytes: &[u8]) -> Result<(), Failed>
         ensures { self.new.faults ≡ self.old.faults }
     {
-        let Some(number) = self.folder.number() else {
+        let Some(own) = &self.file else {
             return Err(Failed);
         };
-        name_file(&mut self.name, number, self.worker, key)?;
-        read_front(&self.rt, self.name.as_str(), buf)
+        let Ok(Some(slot)) = self.slots.take(key, bytes.len() as u64) else {
+            return Err(Failed);
+        };
+        match own.file.write_all_at(bytes, slot.at) {
+            Ok(()) => Ok(()),
+            Err(_) => Err(Failed),
+        }
     }
 
-    fn delete_file(&mut self, key: u32) -> Result<(), Failed>
+    fn put_block(&mut self, key: u32, bytes: &[u8]) -> Result<(), Failed>
         ensures { self.new.faults ≡ self.old.faults }
     {
-        let Some(number) = self.folder.number() else {
-            return Ok(());
+        if self.file.is_none() {
+            let made = create_file(self.alloc, &self.rt, self.folder.as_str(), self.worker)?;
+            self.file = Some(made);
+        }
+        self.release(key);
+        let written = self.write(key, bytes);
+        if written.is_err() {
+            self.release(key);
+        }
+        written
+    }
+
+    // Reads the front of a block, as much as the buffer takes, and answers the block's length.
+    fn get_block(&self, key: u32, buf: &mut [u8]) -> Result<usize, Failed> {
+        let (Some(own), Some(slot)) = (&self.file, self.slots.find(key)) else {
+            return Err(Failed);
         };
-        name_file(&mut self.name, number, self.worker, key)?;
-        remove_block(&self.rt, self.name.as_str())
+        let count = slot.len.min(buf.len() as u64) as usize;
+        match own.file.read_exact_at(&mut buf[..count], slot.at) {
+            Ok(()) => Ok(slot.len as usize),
+            Err(_) => Err(Failed),
+        }
     }
 
     // Where a call failed, that is counted.
@@ -201,18 +176,29 @@ impl<R: Files + Drop> RealDisk<R> {
         done
     }
 
-    /// Gives the disk up, but for the room for names.
-    pub(crate) fn end(self) -> String {
-        let RealDisk { name, .. } = self;
-        name
+    /// Gives the disk up. Where its file still has a name, it is removed.
+    pub(crate) fn end(self) {
+        let RealDisk { rt, file, .. } = self;
+        let Some(own) = file else {
+            return;
+        };
+        let Nameless { file, name } = own;
+        // it is closed first, since not every file system removes what is open
+        drop(file);
+        if let Some(name) = name {
+            let _ = fs::remove_file(&rt, name.as_str());
+        }
     }
 }
 
-impl<R: Files + Send + Sync + Drop> SpillDisk for RealDisk<R> {
+impl<R: Files + Send + Sync + Drop> SpillDisk for RealDisk<R>
+where
+    R::File: FileExt + Send + Sync,
+{
     ghost view = { λ d. untold_disk d.faults };
 
     fn put(&mut self, key: u32, bytes: &[u8]) -> Result<(), Failed> {
-        let done = self.put_file(key, bytes);
+        let done = self.put_block(key, bytes);
         if done.is_ok() {
             self.taken = self.taken.saturating_add(1);
         }
@@ -220,46 +206,16 @@ impl<R: Files + Send + Sync + Drop> SpillDisk for RealDisk<R> {
     }
 
     fn get(&mut self, key: u32, buf: &mut [u8]) -> Result<usize, Failed> {
-        let done = self.get_file(key, buf);
+        let done = self.get_block(key, buf);
         self.count(done)
     }
 
     fn delete(&mut self, key: u32) -> Result<(), Failed> {
-        let done = self.delete_file(key);
-        self.count(done)
+        self.release(key);
+        Ok(())
     }
 
     fn faults(&self) -> u64 {
         self.faults
-    }
-}
-
-/// The folder of a site's disks, for one disk more.
-pub(crate) fn share(
-    folder: &mut Option<Arc<Folder, Global>>,
-    alloc: Global,
-) -> Result<Arc<Folder, Global>, AllocError> {
-    if let Some(folder) = folder {
-        return Arc::try_clone(folder);
-    }
-    let made = AtomicU64::new(0);
-    let first = Arc::new(alloc, Folder { alloc, made })?;
-    let own = Arc::try_clone(&first)?;
-    *folder = Some(own);
-    Ok(first)
-}
-
-/// Removes the folder where no disk is left that has it, with the help of the room for names. Else it stays.
-pub(crate) fn release<R: Files>(
-    rt: &R,
-    folder: Option<Arc<Folder, Global>>,
-    name: String,
-) -> Option<Arc<Folder, Global>> {
-    match Arc::try_unwrap(folder?) {
-        Ok(folder) => {
-            folder.remove(rt, name);
-            None
-        }
-        Err(folder) => Some(folder),
     }
 }

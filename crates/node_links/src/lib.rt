@@ -8,6 +8,7 @@ mod log;
 mod packet;
 mod port;
 mod rule;
+mod tally;
 
 pub use book::{Book, Machine};
 pub use ends::{OutOfMemory, Receiver, Sender, close, link};
@@ -16,3 +17,4 @@ pub use log::Log;
 pub use packet::Sealed;
 pub use port::{Port, bare_packet, close_ports, port_pair};
 pub use rule::{InOrder, Known};
+pub use tally::{Inbox, Tally};

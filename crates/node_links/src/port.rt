@@ -1,33 +1,40 @@
 //! The near ends of the links to another node.
-ghost use Rattle.std.specs.Prelude.{◌≡◌, ◌<◌, ◌∷◌, ◌++◌, [], None, IfOk, IfSome, IfNone, OnOk, OnErr};
+ghost use Rattle.std.specs.Prelude.{◌≡◌, ◌<◌, ◌∷◌, ◌++◌, [], None, is_some, IfOk, IfSome, IfNone, OnOk, OnErr};
 ghost use Rattle.crossbeam_queue.specs.Passes.{view};
 ghost use Rattle.cluster_msgs.specs.Labels.{PacketFits, MessageFits, found};
 ghost use Rattle.node_links.specs.Links.{posted, Begins};
 
 use crate::ends::{self, OutOfMemory, Receiver, Sender, link};
 use crate::packet::Sealed;
+use crate::tally::{Inbox, Tally};
 use cluster_msgs::{Label, Message, Packet, Sequence};
 use std::alloc::{AllocError, Global};
 use std::collections::VecDeque;
 use std::sync::Wait;
 
-/// What goes to another node, and what comes from it. Packets that don't fit into the link wait in their order.
+/// What goes to another node, and what comes from it. Packets that don't fit into the link wait in their order. Those that are sent are counted, for the
+/// other node and for its port to this one.
 #[derive(Drop)]
 pub struct Port<B: Drop, L: Label<Block = B>> {
     pub to: Sender<B, L>,
     pub from: Receiver<B, L>,
+    far: Tally,
+    sent: Tally,
+    inbox: Inbox,
     first: Option<Sealed<B, L>>,
     waiting: VecDeque<Sealed<B, L>>,
     ghost in_order: { first ≡ None → waiting.items ≡ [] },
 }
 
-/// The ports of two nodes to each other, each of whose links holds so many packets.
+/// The ports of two nodes to each other, each of whose links holds so many packets. The tallies count what is sent to the first node and to the second.
 ///
 /// # Errors
 /// Where there is no memory.
 pub fn port_pair<B: Drop, L: Label<Block = B>>(
     alloc: Global,
     capacity: usize,
+    left: &Tally,
+    right: &Tally,
 ) -> Result<(Port<B, L>, Port<B, L>), OutOfMemory>
     requires { 0 < capacity }
     ensures there { IfOk result (λ r. r.0.to.pass.table_id ≡ r.1.from.pass.table_id) }
@@ -38,20 +45,49 @@ pub fn port_pair<B: Drop, L: Label<Block = B>>(
 {
     let (to_right, from_left) = link::<B, L>(alloc, capacity)?;
     let (to_left, from_right) = link::<B, L>(alloc, capacity)?;
+    let (left, sent_left, inbox_left) = counts(alloc, left)?;
+    let (right, sent_right, inbox_right) = counts(alloc, right)?;
     Ok((
         Port {
             to: to_right,
             from: from_right,
+            far: right,
+            sent: sent_right,
+            inbox: inbox_left,
             first: None,
             waiting: VecDeque::new(alloc),
         },
         Port {
             to: to_left,
             from: from_left,
+            far: left,
+            sent: sent_left,
+            inbox: inbox_right,
             first: None,
             waiting: VecDeque::new(alloc),
         },
     ))
+}
+
+/// What counts the packets that are sent to a node, with what counts those of one link to it, for the port that sends and for the one that takes.
+fn counts(alloc: Global, node: &Tally) -> Result<(Tally, Tally, Inbox), OutOfMemory> {
+    match counted(alloc, node) {
+        Ok(counts) => Ok(counts),
+        Err(_) => Err(OutOfMemory),
+    }
+}
+
+fn counted(alloc: Global, node: &Tally) -> Result<(Tally, Tally, Inbox), AllocError> {
+    let node = node.share()?;
+    let sent = Tally::new(alloc)?;
+    let inbox = Inbox::new(sent.share()?);
+    Ok((node, sent, inbox))
+}
+
+// Counts a packet that was sent, first for the port that takes it, so that the other node doesn't look for it in vain.
+fn count(link: &Tally, node: &Tally) {
+    link.add();
+    node.add();
 }
 
 impl<B: Drop, L: Label<Block = B>> Port<B, L> {
@@ -73,10 +109,17 @@ impl<B: Drop, L: Label<Block = B>> Port<B, L> {
             return Ok(());
         }
         match self.to.send(rt, packet.into_packet()) {
-            Ok(()) => {}
+            Ok(()) => count(&self.sent, &self.far),
             Err(packet) => self.first = Some(Sealed::new(packet)),
         }
         Ok(())
+    }
+
+    /// Whether a packet waits.
+    pub fn waits(&self) -> bool
+        ensures { result ≡ is_some self.now.first }
+    {
+        self.first.is_some()
     }
 
     /// Sends those that wait, in their order, until none is left or the link is full.
@@ -106,6 +149,7 @@ impl<B: Drop, L: Label<Block = B>> Port<B, L> {
         };
         match self.to.send(rt, packet.into_packet()) {
             Ok(()) => {
+                count(&self.sent, &self.far);
                 self.first = self.waiting.pop_front();
                 true
             }
@@ -116,7 +160,7 @@ impl<B: Drop, L: Label<Block = B>> Port<B, L> {
         }
     }
 
-    /// Takes what came next. `None` only where nothing had come at some moment of the call.
+    /// Takes what came next. `None` only where nothing had come, or been counted, at some moment of the call.
     pub fn take<R: Wait>(&mut self, rt: &R) -> Option<Packet<B>>
         ensures from { self.new.from.pass.table_id ≡ self.old.from.pass.table_id }
         ensures to { self.new.to ≡ self.old.to }
@@ -125,7 +169,14 @@ impl<B: Drop, L: Label<Block = B>> Port<B, L> {
         ensures fits { IfSome result (λ p. PacketFits L.facts p) }
         ensures none { IfNone result ((view self.new.from.pass).got ≡ (view self.old.from.pass).got) }
     {
-        self.from.recv(rt)
+        if self.inbox.is_empty() {
+            return None;
+        }
+        let taken = self.from.recv(rt);
+        if taken.is_some() {
+            self.inbox.note();
+        }
+        taken
     }
 }
 
@@ -144,12 +195,18 @@ pub fn close_ports<B: Drop, L: Label<Block = B>, R: Wait>(
     let Port {
         to,
         from,
+        far: _,
+        sent: _,
+        inbox: _,
         first: _,
         waiting: _,
     } = left;
     let Port {
         to: to_left,
         from: from_left,
+        far: _,
+        sent: _,
+        inbox: _,
         first: _,
         waiting: _,
     } = right;

@@ -16,7 +16,7 @@ use crate::plan::RunPlan;
 use crate::wiring::{AllPorts, WorkerPorts, wire};
 use cluster_msgs::{GraphShape, JobSpec, KeyList, Label};
 use gather_client::ClientCore;
-use node_links::Port;
+use node_links::{Port, Tally};
 use node_states::{
     BlockStore, ClientNode, Feeds, GatheringCore, Plan, RunGraph, SchedulerLinks, SchedulerNode,
     SchedulingCore, Why, WorkerLinks, WorkerNode, WorkingCore,
@@ -118,10 +118,28 @@ fn fill<B: Drop, L: Label<Block = B>, F: Drop, S: BlockStore<B, L>>(
         from_client,
         to_client,
         to_scheduler,
+        scheduler_sent,
+        client_sent,
         workers: ports,
     } = ports;
-    let (scheduler, one) = add_scheduler(alloc, graph, plan, scheduler, to_workers, to_client);
-    let (clients, two) = add_client(alloc, graph, wanted, clients, to_scheduler, from_client);
+    let (scheduler, one) = add_scheduler(
+        alloc,
+        graph,
+        plan,
+        scheduler,
+        to_workers,
+        to_client,
+        scheduler_sent,
+    );
+    let (clients, two) = add_client(
+        alloc,
+        graph,
+        wanted,
+        clients,
+        to_scheduler,
+        from_client,
+        client_sent,
+    );
     let (workers, three) = add_workers(alloc, graph, plan.threads, workers, ports, feeds, stores);
     (
         Rows {
@@ -158,6 +176,7 @@ fn add_scheduler<B: Drop, L: Label<Block = B>>(
     row: Made<SchedulerNode<B, L>, L>,
     workers: Vec<Port<B, L>>,
     client: Port<B, L>,
+    sent: Tally,
 ) -> (Made<SchedulerNode<B, L>, L>, bool)
     requires graph { L.facts.deps ≡ deps_of graph.now }
     requires saturation { (1 ≤ plan.now.saturation) × (plan.now.saturation ≤ 1000) }
@@ -165,7 +184,7 @@ fn add_scheduler<B: Drop, L: Label<Block = B>>(
     ensures parts { result.0.parts ≡ row.parts }
     ensures made { result.1 ≡ true → AreMade (λ k s. IsFirstScheduler graph.now plan.now s.history.book.core) 1 (map (λ p. berth_of p.seat) result.0.passes.items) }
 {
-    let made = make_scheduler(alloc, graph, plan, workers, client);
+    let made = make_scheduler(alloc, graph, plan, workers, client, sent);
     add_made(alloc, row, made)
 }
 
@@ -176,6 +195,7 @@ fn make_scheduler<B: Drop, L: Label<Block = B>>(
     plan: &RunPlan,
     workers: Vec<Port<B, L>>,
     client: Port<B, L>,
+    sent: Tally,
 ) -> Result<SchedulerNode<B, L>, AllocError>
     requires graph { L.facts.deps ≡ deps_of graph.now }
     requires saturation { (1 ≤ plan.now.saturation) × (plan.now.saturation ≤ 1000) }
@@ -183,7 +203,7 @@ fn make_scheduler<B: Drop, L: Label<Block = B>>(
     ensures fits { IfOk result (λ s. SchedFits L.facts (facts s.history.book.core.core)) }
     ensures empty { IfOk result (λ s. s.history.book.entries ≡ []) }
 {
-    let links = SchedulerLinks::new(alloc, workers, just(alloc, client)?);
+    let links = SchedulerLinks::new(alloc, workers, just(alloc, client)?, sent);
     let core = scheduling_core(alloc, graph, plan)?;
     SchedulerNode::new(alloc, core, SCHEDULER_BYTES, links)
 }
@@ -230,13 +250,14 @@ fn add_client<B: Drop, L: Label<Block = B>>(
     row: Made<ClientNode<B, L>, L>,
     scheduler: Port<B, L>,
     workers: Vec<Port<B, L>>,
+    sent: Tally,
 ) -> (Made<ClientNode<B, L>, L>, bool)
     requires empty { row.passes.items ≡ [] }
     ensures parts { result.0.parts ≡ row.parts }
     ensures made { result.1 ≡ true → AreMade (λ k s. IsFirstClient graph.now s.book.core.id (client_facts s.book.core.core)) 1
         (map (λ p. berth_of p.seat) result.0.passes.items) }
 {
-    let made = make_client(alloc, graph, wanted, scheduler, workers);
+    let made = make_client(alloc, graph, wanted, scheduler, workers, sent);
     add_made(alloc, row, made)
 }
 
@@ -247,6 +268,7 @@ fn make_client<B: Drop, L: Label<Block = B>>(
     wanted: &KeyList,
     scheduler: Port<B, L>,
     workers: Vec<Port<B, L>>,
+    sent: Tally,
 ) -> Result<ClientNode<B, L>, AllocError>
     ensures first { IfOk result (λ s. IsFirstClient graph.now s.book.core.id (client_facts s.book.core.core)) }
     ensures fits { IfOk result (λ s. ClientFits L.facts (client_facts s.book.core.core)) }
@@ -254,7 +276,7 @@ fn make_client<B: Drop, L: Label<Block = B>>(
 {
     let wanted = wanted.copy()?;
     let core = gathering_core(alloc, graph)?;
-    ClientNode::new(alloc, core, NODE_BYTES, wanted, scheduler, workers)
+    ClientNode::new(alloc, core, NODE_BYTES, wanted, scheduler, workers, sent)
 }
 
 /// The client's core.
@@ -374,9 +396,10 @@ fn worker_links<B: Drop, L: Label<Block = B>>(
         scheduler,
         peers,
         client,
+        sent,
     } = ports;
     let clients = just(alloc, client)?;
-    Ok(WorkerLinks::new(alloc, id, scheduler, peers, clients))
+    Ok(WorkerLinks::new(alloc, id, scheduler, peers, clients, sent))
 }
 
 /// The core of a worker.

@@ -20,7 +20,7 @@ use cluster_msgs::{
     Asker, ClientEvent, ClientOut, End, Event, KeyList, Label, Message, Packet, Peer, Stop,
 };
 use gather_client::ClientCore;
-use node_links::{Book, Keyed, Machine, Port};
+use node_links::{Book, Keyed, Machine, Port, Tally};
 use std::alloc::{AllocError, Global};
 use std::sync::Wait;
 use turn_cell::{Act, Kept, Stamps};
@@ -49,6 +49,8 @@ pub struct ClientNode<B: Drop, L: Label<Block = B>> {
     /// The place of the first wanted key that wasn't got.
     front: usize,
     asked: bool,
+    /// The worker that was asked last; 0 where none was.
+    peer: u32,
     /// A key that is to be let go next.
     due: Option<u32>,
     /// The keys that were let go.
@@ -59,7 +61,8 @@ pub struct ClientNode<B: Drop, L: Label<Block = B>> {
 }
 
 impl<B: Drop, L: Label<Block = B>> ClientNode<B, L> {
-    /// A client that has made no entry, whose history may have so many bytes. It has a port to the scheduler and one to each worker, by number.
+    /// A client that has made no entry, whose history may have so many bytes. It has a port to the scheduler and one to each worker, by number, and `sent`
+    /// counts what is sent to it.
     ///
     /// # Errors
     /// Where there is no memory.
@@ -70,11 +73,12 @@ impl<B: Drop, L: Label<Block = B>> ClientNode<B, L> {
         wanted: KeyList,
         scheduler: Port<B, L>,
         workers: Vec<Port<B, L>>,
+        sent: Tally,
     ) -> Result<Self, AllocError>
         ensures core { IfOk result (λ node. node.book.core ≡ core) }
         ensures entries { IfOk result (λ node. (node.book.entries ≡ []) × (node.book.cut ≡ false)) }
     {
-        let links = ClientLinks::new(alloc, scheduler, workers);
+        let links = ClientLinks::new(alloc, scheduler, workers, sent);
         match begin(alloc, core, limit) {
             Ok((book, released)) => Ok(ClientNode {
                 alloc,
@@ -83,6 +87,7 @@ impl<B: Drop, L: Label<Block = B>> ClientNode<B, L> {
                 wanted,
                 front: 0,
                 asked: false,
+                peer: 0,
                 due: None,
                 released,
                 links,
@@ -148,6 +153,7 @@ impl<B: Drop, L: Label<Block = B>> ClientNode<B, L> {
             wanted,
             front: _,
             asked: _,
+            peer: _,
             due: _,
             released,
             links,
@@ -388,64 +394,36 @@ impl<B: Drop, L: Label<Block = B>> ClientNode<B, L> {
         }))
     }
 
-    /// An ask that is possible, or the end of one to a worker that has ended.
-    fn ask(&self, dead: &[bool]) -> Option<Choice<B, L>>
-        ensures { IfSome result (λ c. ClientSays self.now.book.core.id (client_facts self.now.book.core.core) c.event c.message c.said) }
+    /// An ask that is possible, or the end of the open one, where that is to a worker that has ended.
+    fn ask(&mut self, dead: &[bool]) -> Option<Choice<B, L>>
+        ensures book { self.new.book ≡ self.old.book }
+        ensures says { IfSome result (λ c. ClientSays self.old.book.core.id (client_facts self.old.book.core.core) c.event c.message c.said) }
     {
         let core = self.book.core()?;
-        let may_ask = self.came.is_empty() && !self.is_asking(&core.core);
+        let id = core.id;
+        if let Some(ask) = core.core.ask_number(self.peer) {
+            if is_dead(dead, self.peer) {
+                return Some(fail_ask(self.alloc, id, self.peer, ask));
+            }
+            return None;
+        }
+        if !self.came.is_empty() {
+            return None;
+        }
+        self.peer = self.next_peer()?;
+        Some(ask_of(self.alloc, id, self.peer))
+    }
+
+    /// The first worker that an ask is possible to.
+    fn next_peer(&self) -> Option<u32> {
+        let core = self.book.core()?;
         for at in 0..self.links.workers() {
             let peer = number(at);
-            if may_ask && core.core.would_ask(peer) {
-                return Some(self.ask_of(core.id, peer));
-            }
-            if is_dead(dead, peer) {
-                if let Some(ask) = core.core.ask_number(peer) {
-                    return Some(self.fail_ask(core.id, peer, ask));
-                }
+            if core.core.would_ask(peer) {
+                return Some(peer);
             }
         }
         None
-    }
-
-    /// Whether an answer is awaited.
-    fn is_asking(&self, core: &ClientCore) -> bool {
-        for at in 0..self.links.workers() {
-            if core.ask_number(number(at)).is_some() {
-                return true;
-            }
-        }
-        false
-    }
-
-    fn ask_of(&self, id: u32, peer: u32) -> Choice<B, L>
-        ensures { (c : ClientFacts) → ClientSays id c result.event result.message result.said }
-    {
-        Choice {
-            event: Event::SendGather {
-                asker: Asker::Client(id),
-                peer,
-            },
-            message: None,
-            said: Some(ClientCause::new(ClientEvent::Ask { peer })),
-            brought: Vec::new(self.alloc),
-        }
-    }
-
-    fn fail_ask(&self, id: u32, peer: u32, ask: u64) -> Choice<B, L>
-        ensures event { result.event ≡ event.FailGather (Client id) peer }
-        ensures message { result.message ≡ None }
-        ensures said { result.said ≡ Some (client.GatherFailed peer ask) }
-    {
-        Choice {
-            event: Event::FailGather {
-                asker: Asker::Client(id),
-                peer,
-            },
-            message: None,
-            said: Some(ClientCause::new(ClientEvent::GatherFailed { peer, ask })),
-            brought: Vec::new(self.alloc),
-        }
     }
 
     /// Takes a packet of the scheduler, or of a worker by its number.
@@ -552,6 +530,43 @@ impl<B: Drop, L: Label<Block = B>> ClientNode<B, L> {
             return Err(Stop::Memory);
         }
         self.links.post(rt, out)
+    }
+}
+
+/// An ask of a worker.
+fn ask_of<B: Drop, L: Label<Block = B>>(alloc: Global, id: u32, peer: u32) -> Choice<B, L>
+    ensures { (c : ClientFacts) → ClientSays id c result.event result.message result.said }
+{
+    Choice {
+        event: Event::SendGather {
+            asker: Asker::Client(id),
+            peer,
+        },
+        message: None,
+        said: Some(ClientCause::new(ClientEvent::Ask { peer })),
+        brought: Vec::new(alloc),
+    }
+}
+
+/// The end of an ask.
+fn fail_ask<B: Drop, L: Label<Block = B>>(
+    alloc: Global,
+    id: u32,
+    peer: u32,
+    ask: u64,
+) -> Choice<B, L>
+    ensures event { result.event ≡ event.FailGather (Client id) peer }
+    ensures message { result.message ≡ None }
+    ensures said { result.said ≡ Some (client.GatherFailed peer ask) }
+{
+    Choice {
+        event: Event::FailGather {
+            asker: Asker::Client(id),
+            peer,
+        },
+        message: None,
+        said: Some(ClientCause::new(ClientEvent::GatherFailed { peer, ask })),
+        brought: Vec::new(alloc),
     }
 }
 

@@ -1,6 +1,6 @@
 //! Events, instructions and blames that fit the label of a run, by their types.
 ghost use Rattle.std.specs.Prelude.{◌≡◌, ◌<◌, ◌≤◌, []};
-ghost use Rattle.cluster_msgs.specs.Shape.{deps_of, key_count};
+ghost use Rattle.cluster_msgs.specs.Shape.{deps_of, key_count, nbytes_of};
 ghost use Rattle.cluster_msgs.specs.Labels.{ErrorFits, BlameFits};
 ghost use Rattle.node_states.specs.Fitting.{SchedEventFits, ClientEventFits, WorkerEventFits, InstructionsFit, LettersFit};
 
@@ -57,8 +57,11 @@ impl<L: Label> RunGraph<L> {
         self.shape.deps(key)
     }
 
-    /// How many bytes the block of a key has, if it is a key of the graph.
-    pub fn size(&self, key: u32) -> u64 {
+    /// How many bytes the block of a key has; 0 where it is no key of the graph.
+    pub fn size(&self, key: u32) -> u64
+        ensures key { key < key_count self.now → result ≡ nbytes_of self.now key }
+        ensures past { key_count self.now ≤ key → result ≡ 0 }
+    {
         if key < self.keys() {
             self.shape.nbytes(key)
         } else {

@@ -52,13 +52,6 @@ impl<F: Drop> Feeds<F> {
         Ok(())
     }
 
-    /// How many are out.
-    pub fn out(&self) -> usize
-        ensures { result ≡ self.now.out }
-    {
-        self.out
-    }
-
     /// A feed, if one is here.
     pub fn take(&mut self) -> Option<F>
         ensures some { IfSome result (λ feed. (self.old.here ≡ self.new.here ++ feed ∷ []) × (self.new.out ≡ self.old.out + 1)) }

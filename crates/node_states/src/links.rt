@@ -10,8 +10,8 @@ use cluster_msgs::{
     Asker, ClientInstruction, ClientOut, Down, Instruction, Instructions, Label, Message, Outbox,
     Packet, Peer, Sequence, Stop, ToClient,
 };
-use node_links::{Port, Sealed, bare_packet};
-use std::alloc::Global;
+use node_links::{Inbox, Port, Sealed, Tally, bare_packet};
+use std::alloc::{AllocError, Global};
 use std::sync::Wait;
 
 /// The number of the node at a place, from 1.
@@ -59,15 +59,26 @@ pub struct ClientLinks<B: Drop, L: Label<Block = B>> {
     alloc: Global,
     scheduler: Port<B, L>,
     workers: Vec<Port<B, L>>,
+    inbox: Inbox,
+    /// Whether a packet may wait in a port.
+    waits: bool,
     next: usize,
 }
 
 impl<B: Drop, L: Label<Block = B>> ClientLinks<B, L> {
-    pub fn new(alloc: Global, scheduler: Port<B, L>, workers: Vec<Port<B, L>>) -> Self {
+    /// `sent` counts what is sent to the client.
+    pub fn new(
+        alloc: Global,
+        scheduler: Port<B, L>,
+        workers: Vec<Port<B, L>>,
+        sent: Tally,
+    ) -> Self {
         ClientLinks {
             alloc,
             scheduler,
             workers,
+            inbox: Inbox::new(sent),
+            waits: false,
             next: 0,
         }
     }
@@ -79,14 +90,26 @@ impl<B: Drop, L: Label<Block = B>> ClientLinks<B, L> {
 
     /// Sends what waits, as far as there is room.
     pub fn flush<R: Wait>(&mut self, rt: &R) {
-        self.scheduler.flush(rt);
-        for w in 0..self.workers.len() {
-            self.workers[w].flush(rt);
+        if self.waits {
+            self.waits = flush_one(rt, &mut self.scheduler) | flush_all(rt, &mut self.workers);
         }
     }
 
-    /// The next packet, of the scheduler or of a worker by its number, round robin over the links.
+    /// The next packet, of the scheduler or of a worker by its number, round robin over the links. It looks at none where all that was sent was taken.
     pub fn take<R: Wait>(&mut self, rt: &R) -> Option<(Option<u32>, Packet<B>)>
+        ensures { IfSome result (λ p. PacketFits L.facts p.1) }
+    {
+        if self.inbox.is_empty() {
+            return None;
+        }
+        let taken = self.look(rt);
+        if taken.is_some() {
+            self.inbox.note();
+        }
+        taken
+    }
+
+    fn look<R: Wait>(&mut self, rt: &R) -> Option<(Option<u32>, Packet<B>)>
         ensures { IfSome result (λ p. PacketFits L.facts p.1) }
     {
         for _ in 0..=self.workers.len() {
@@ -123,8 +146,8 @@ impl<B: Drop, L: Label<Block = B>> ClientLinks<B, L> {
     fn carry_out<R: Wait>(&mut self, rt: &R, instruction: ClientInstruction) -> Result<(), Stop> {
         match instruction {
             ClientInstruction::Send(message) => {
-                self.scheduler
-                    .post(rt, bare_packet(self.alloc, Message::FromClient(message)))?;
+                let packet = bare_packet(self.alloc, Message::FromClient(message));
+                self.waits |= post_to(rt, &mut self.scheduler, packet)?;
                 Ok(())
             }
             ClientInstruction::Gather { peer, ask, keys } => {
@@ -133,8 +156,8 @@ impl<B: Drop, L: Label<Block = B>> ClientLinks<B, L> {
                     drop(keys);
                     return Err(Stop::Refused);
                 }
-                let message = Message::Peer(Peer::GetData { ask, keys });
-                self.workers[at - 1].post(rt, bare_packet(self.alloc, message))?;
+                let packet = bare_packet(self.alloc, Message::Peer(Peer::GetData { ask, keys }));
+                self.waits |= post_to(rt, &mut self.workers[at - 1], packet)?;
                 Ok(())
             }
         }
@@ -157,16 +180,21 @@ pub struct WorkerLinks<B: Drop, L: Label<Block = B>> {
     scheduler: Port<B, L>,
     peers: Vec<Port<B, L>>,
     clients: Vec<Port<B, L>>,
+    inbox: Inbox,
+    /// Whether a packet may wait in a port.
+    waits: bool,
     next: usize,
 }
 
 impl<B: Drop, L: Label<Block = B>> WorkerLinks<B, L> {
+    /// `sent` counts what is sent to the worker.
     pub fn new(
         alloc: Global,
         id: u32,
         scheduler: Port<B, L>,
         peers: Vec<Port<B, L>>,
         clients: Vec<Port<B, L>>,
+        sent: Tally,
     ) -> Self {
         WorkerLinks {
             alloc,
@@ -174,6 +202,8 @@ impl<B: Drop, L: Label<Block = B>> WorkerLinks<B, L> {
             scheduler,
             peers,
             clients,
+            inbox: Inbox::new(sent),
+            waits: false,
             next: 0,
         }
     }
@@ -204,13 +234,28 @@ impl<B: Drop, L: Label<Block = B>> WorkerLinks<B, L> {
 
     /// Sends what waits, as far as there is room.
     pub fn flush<R: Wait>(&mut self, rt: &R) {
-        self.scheduler.flush(rt);
-        flush_all(rt, &mut self.peers);
-        flush_all(rt, &mut self.clients);
+        if self.waits {
+            self.waits = flush_one(rt, &mut self.scheduler)
+                | flush_all(rt, &mut self.peers)
+                | flush_all(rt, &mut self.clients);
+        }
     }
 
-    /// The next packet, round robin over the links.
+    /// The next packet, round robin over the links. It looks at none where all that was sent was taken.
     pub fn take<R: Wait>(&mut self, rt: &R) -> Option<(Source, Packet<B>)>
+        ensures { IfSome result (λ p. PacketFits L.facts p.1) }
+    {
+        if self.inbox.is_empty() {
+            return None;
+        }
+        let taken = self.look(rt);
+        if taken.is_some() {
+            self.inbox.note();
+        }
+        taken
+    }
+
+    fn look<R: Wait>(&mut self, rt: &R) -> Option<(Source, Packet<B>)>
         ensures { IfSome result (λ p. PacketFits L.facts p.1) }
     {
         for _ in 0..=self.peers.len().saturating_add(self.clients.len()) {
@@ -302,8 +347,8 @@ impl<B: Drop, L: Label<Block = B>> WorkerLinks<B, L> {
     {
         match instruction {
             Instruction::Send(up) => {
-                self.scheduler
-                    .post(rt, bare_packet(self.alloc, Message::Up(up)))?;
+                let packet = bare_packet(self.alloc, Message::Up(up));
+                self.waits |= post_to(rt, &mut self.scheduler, packet)?;
                 Ok(())
             }
             Instruction::Gather { peer, ask, keys } => {
@@ -323,7 +368,7 @@ impl<B: Drop, L: Label<Block = B>> WorkerLinks<B, L> {
             drop(packet);
             return Err(Stop::Refused);
         }
-        self.peers[at - 1].post(rt, packet)?;
+        self.waits |= post_to(rt, &mut self.peers[at - 1], packet)?;
         Ok(())
     }
 
@@ -336,7 +381,7 @@ impl<B: Drop, L: Label<Block = B>> WorkerLinks<B, L> {
                     drop(answer);
                     return Err(Stop::Refused);
                 }
-                self.clients[at - 1].post(rt, answer)?;
+                self.waits |= post_to(rt, &mut self.clients[at - 1], answer)?;
                 Ok(())
             }
         }
@@ -356,10 +401,32 @@ pub fn unsent<B: Drop, L: Label<Block = B>>(
     Err(stop)
 }
 
-fn flush_all<B: Drop, L: Label<Block = B>, R: Wait>(rt: &R, ports: &mut Vec<Port<B, L>>) {
+/// Gives a packet to a port. Whether one waits there then.
+///
+/// # Errors
+/// Where there is no memory for it to wait.
+fn post_to<B: Drop, L: Label<Block = B>, R: Wait>(
+    rt: &R,
+    port: &mut Port<B, L>,
+    packet: Sealed<B, L>,
+) -> Result<bool, AllocError> {
+    port.post(rt, packet)?;
+    Ok(port.waits())
+}
+
+/// Sends what waits in a port, as far as there is room. Whether a packet waits still.
+fn flush_one<B: Drop, L: Label<Block = B>, R: Wait>(rt: &R, port: &mut Port<B, L>) -> bool {
+    port.flush(rt);
+    port.waits()
+}
+
+/// The same in all of these.
+fn flush_all<B: Drop, L: Label<Block = B>, R: Wait>(rt: &R, ports: &mut Vec<Port<B, L>>) -> bool {
+    let mut waits = false;
     for at in 0..ports.len() {
-        ports[at].flush(rt);
+        waits |= flush_one(rt, &mut ports[at]);
     }
+    waits
 }
 
 /// The links of the scheduler: to each worker and each client, by their numbers.
@@ -368,15 +435,26 @@ pub struct SchedulerLinks<B: Drop, L: Label<Block = B>> {
     alloc: Global,
     workers: Vec<Port<B, L>>,
     clients: Vec<Port<B, L>>,
+    inbox: Inbox,
+    /// Whether a packet may wait in a port.
+    waits: bool,
     next: usize,
 }
 
 impl<B: Drop, L: Label<Block = B>> SchedulerLinks<B, L> {
-    pub fn new(alloc: Global, workers: Vec<Port<B, L>>, clients: Vec<Port<B, L>>) -> Self {
+    /// `sent` counts what is sent to the scheduler.
+    pub fn new(
+        alloc: Global,
+        workers: Vec<Port<B, L>>,
+        clients: Vec<Port<B, L>>,
+        sent: Tally,
+    ) -> Self {
         SchedulerLinks {
             alloc,
             workers,
             clients,
+            inbox: Inbox::new(sent),
+            waits: false,
             next: 0,
         }
     }
@@ -388,12 +466,27 @@ impl<B: Drop, L: Label<Block = B>> SchedulerLinks<B, L> {
 
     /// Sends what waits, as far as there is room.
     pub fn flush<R: Wait>(&mut self, rt: &R) {
-        flush_all(rt, &mut self.workers);
-        flush_all(rt, &mut self.clients);
+        if self.waits {
+            self.waits = flush_all(rt, &mut self.workers) | flush_all(rt, &mut self.clients);
+        }
     }
 
-    /// The next packet, round robin over the links but for those of workers that are gone.
+    /// The next packet, round robin over the links but for those of workers that are gone. It looks at none where all that was sent was taken.
     pub fn take<R: Wait>(&mut self, rt: &R, gone: &[bool]) -> Option<(Source, Packet<B>)>
+        ensures fits { IfSome result (λ p. PacketFits L.facts p.1) }
+        ensures heard { IfSome result (λ p. (w : ℕ) → p.0 ≡ origin.Worker w → is_gone gone.now w ≡ false) }
+    {
+        if self.inbox.is_empty() {
+            return None;
+        }
+        let taken = self.look(rt, gone);
+        if taken.is_some() {
+            self.inbox.note();
+        }
+        taken
+    }
+
+    fn look<R: Wait>(&mut self, rt: &R, gone: &[bool]) -> Option<(Source, Packet<B>)>
         ensures fits { IfSome result (λ p. PacketFits L.facts p.1) }
         ensures heard { IfSome result (λ p. (w : ℕ) → p.0 ≡ origin.Worker w → is_gone gone.now w ≡ false) }
     {
@@ -493,7 +586,8 @@ impl<B: Drop, L: Label<Block = B>> SchedulerLinks<B, L> {
             drop(message);
             return Err(Stop::Refused);
         }
-        self.workers[at - 1].post(rt, bare_packet(self.alloc, Message::Down(message)))?;
+        let packet = bare_packet(self.alloc, Message::Down(message));
+        self.waits |= post_to(rt, &mut self.workers[at - 1], packet)?;
         Ok(())
     }
 
@@ -505,7 +599,8 @@ impl<B: Drop, L: Label<Block = B>> SchedulerLinks<B, L> {
             drop(message);
             return Err(Stop::Refused);
         }
-        self.clients[at - 1].post(rt, bare_packet(self.alloc, Message::ToClient(message)))?;
+        let packet = bare_packet(self.alloc, Message::ToClient(message));
+        self.waits |= post_to(rt, &mut self.clients[at - 1], packet)?;
         Ok(())
     }
 }

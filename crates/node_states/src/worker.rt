@@ -60,7 +60,7 @@ pub struct WorkerNode<B: Drop, L: Label<Block = B>, F: Drop, S: BlockStore<B, L>
     pub(crate) waiting: Vec<Keyed<B, L>>,
     pub(crate) held: Option<Request>,
     pub(crate) given: Option<(u32, Arc<B>)>,
-    pub(crate) feeds: Feeds<F>,
+    feeds: Feeds<F>,
     links: WorkerLinks<B, L>,
     heard: bool,
     ending: Option<Why>,
@@ -584,12 +584,15 @@ impl<B: Drop, L: Label<Block = B>, F: Drop, S: BlockStore<B, L>> WorkerNode<B, L
         }
     }
 
-    /// An ask that is possible, or the end of one to a worker that has ended.
+    /// An ask that is possible, or the end of one to a worker that has ended. It looks at no worker where no key is to be fetched and none has ended.
     fn ask(&self, dead: &[bool]) -> Option<Choice<B, L>>
         ensures { IfSome result (λ c. MayMake self.now.history.id (facts self.now.history.book.core.core) self.now.history.recorded c.event c.message c.said) }
     {
         let id = self.history.id();
         let core = self.history.core()?;
+        if !core.core.is_fetching() && !dead.contains(&true) {
+            return None;
+        }
         for at in 0..self.links.peers() {
             let peer = self.links.peer_at(at);
             if core.core.would_ask(peer) {

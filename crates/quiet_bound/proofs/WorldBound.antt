@@ -1,5 +1,5 @@
 -- The bound over counts that a world tells, its messages held at a greatest number.
-use Rattle.std.proofs.Common.{◌≡◌, ℕ, ◌-◌, ◌^◌, ◌≤◌, ◌<◌, min, Bool, true, false, refl, sym, ap, ◌∙◌, arith, ⊎_elim}
+use Rattle.std.proofs.Common.{◌≡◌, ℕ, ◌-◌, ◌^◌, ◌≤◌, ◌<◌, min, refl, sym, ap, ◌∙◌, arith, ⊎_elim}
 use Rattle.std.specs.Prelude.{nat_le, max}
 use Rattle.std.proofs.Math.Nat.{min-eq_left, min-eq_right, le_refl}
 use Rattle.std.proofs.lemmas.Bool.{cases_lt, le-leb}
@@ -41,14 +41,3 @@ pub rest-starved : (g : Shape) (s : Setting) (w : World) (clients m workers k e 
     → rest_of (nat_le (2 ^ 64 - 1) m) (quiet_bound (max 1 clients) m workers k e) ≡ min (quiet_bound (max 1 s.clients) 0 (worker_count w) (key_count s.shape) (edge_count s.shape)) (2 ^ 128 - 1)
 rest-starved g s w clients m workers k e eg ek ee ec em ew =
     (λ i. rest_of (nat_le (2 ^ 64 - 1) (em i)) (quiet_bound (max 1 (ec i)) (em i) (ew i) ((ek ∙ ap key_count eg) i) ((ee ∙ ap edge_count eg) i)))
-
-pub rest-small : (w : World) → rest w < 2 ^ 128
-unfolding rest
-rest-small w = pick (nat_le (2 ^ 64 - 1) (under_way w))
-  where
-    held : (n : ℕ) → min n (2 ^ 128 - 1) < 2 ^ 128
-    held n = omega arith
-
-    pick : (b : Bool) → rest_of b (quiet_bound (max 1 w.sched.setting.clients) (under_way w) (worker_count w) (key_count (shape_of w)) (edge_count (shape_of w))) < 2 ^ 128
-    pick true = omega arith
-    pick false = held (quiet_bound (max 1 w.sched.setting.clients) (under_way w) (worker_count w) (key_count (shape_of w)) (edge_count (shape_of w)))

@@ -1,25 +1,29 @@
 //! How many events there can be while nothing fails and nobody asks for more: the bound's formula.
 //!
-//! `cluster_rules` stands below, with the definition `quiet_bound`, and `cluster_world`, with the world that it is of. The
-//! simulated cluster stands above: its budget of turns is this number. It carries the formula alone: that quiet lists of
-//! events are no longer is not proved here.
+//! `cluster_rules` stands below, with the definition `quiet_bound`, `cluster_world`, with the world that it is of, and
+//! `quiet_laws`, with the law that no quiet list of events is longer. It carries *quiet termination* for a world that runs.
 #![tactic(auto)]
 
 ghost use Rattle.std.specs.Prelude.{◌≡◌, ◌≢◌, ◌+◌, ◌*◌, ◌-◌, ◌^◌, ◌≤◌, ◌<◌, nat_le, max, min};
 ghost use Rattle.cluster_msgs.specs.Shape.{key_count, edge_count};
-ghost use Rattle.cluster_rules.specs.World.{quiet_bound, rest_of, rest, worker_count};
-ghost use Rattle.cluster_world.specs.Worlds.{world as world_of, setting};
+ghost use Rattle.cluster_rules.specs.World.{IsJob, quiet_bound, rest_of, rest, worker_count};
+ghost use Rattle.cluster_world.specs.Worlds.{world as world_of, setting, running, IsMade};
 ghost use Rattle.cluster_world.specs.declared.state.Course.TheVariants.{Starved};
+ghost use Rattle.quiet_laws.specs.Quiet.{QuietlyEnds};
 
 use cluster_msgs::JobSpec;
 use cluster_world::World;
 
 /// The bound of a world, in events: 2^128 - 1 stands for every larger one, and for where 2^64 - 1 messages or more are
 /// under way. Once memory ran out it is the bound with nothing under way. It takes no memory.
+///
+/// Of a world that legal events of a job made, a list of progress events has at most as many members as the formula says, and
+/// one that can't be made longer leaves no client that waits for a key, or no worker that is alive and connected.
 pub fn rest<J: JobSpec>(world: &World<J>) -> u128
     ensures bound { world.now.course ≢ Starved → result ≡ rest (world_of world.now) }
     ensures starved { world.now.course ≡ Starved → let s = setting world.now in
         result ≡ min (quiet_bound (max 1 s.clients) 0 (worker_count (world_of world.now)) (key_count s.shape) (edge_count s.shape)) (2 ^ 128 - 1) }
+    ensures quiet { let job = running J.operation world.now in IsJob job → IsMade J.operation world.now → QuietlyEnds job (world_of world.now) }
 {
     let shape = world.shape();
     quiet_events(

@@ -25,11 +25,11 @@ use Rattle.job_run.proofs.Running.{HaveAccepted, left_before, lowering_runs, mos
 use Rattle.job_run.proofs.Told.{on_told, told_fact}
 use Rattle.command_words.specs.declared.sim.SimWords.{SimWords}
 use Rattle.sim_run.specs.declared.ends.SimEnded.{SimEnded}
-use Rattle.sim_run.specs.declared.ends.SimEnded.TheVariants.{Events, Turns, Ran}
+use Rattle.sim_run.specs.declared.ends.SimEnded.TheVariants.{Events, Ran}
 use Rattle.sim_run.specs.Ends.{Cause, Created, Opened, PrintsServed, Prints, RanCause, RanCreated, RanPrints, RanSaves, Saves, SavesPlan, SimulatesPlan, WhereTold}
 use Rattle.sim_run.specs.Jobs.{IsTextJob, wanted_of}
 use Rattle.sim_run.specs.Serving.{ServesAll, ServesFiles, ServesPart, job_named}
-use Rattle.sim_run.specs.Simulated.{IsOutOfEvents, IsOutOfTurns, IsServed, SimulatesTo}
+use Rattle.sim_run.specs.Simulated.{IsOutOfEvents, IsServed, SimulatesTo}
 use Rattle.sim_run.specs.Texts.{lines_of}
 
 -- ## Before the inputs are accepted
@@ -193,9 +193,6 @@ module _ (p : Plan) (s : SimWords) (old mid : View) (files : List Content) (head
   stopped-ends new Events f part =
       let bare = part.bare tt in
       ends p s old new Events (follows new f) (a.small, a.fit, simulates IsOutOfEvents part.cause) (bare.0 ∙ a.opens.held) (f.opened ∙ a.opened) (bare.1 ∙ a.opens.created) (f.out ∙ a.only.out)
-  stopped-ends new Turns f part =
-      let bare = part.bare tt in
-      ends p s old new Turns (follows new f) (a.small, a.fit, simulates IsOutOfTurns part.cause) (bare.0 ∙ a.opens.held) (f.opened ∙ a.opened) (bare.1 ∙ a.opens.created) (f.out ∙ a.only.out)
   stopped-ends new (Ran Done) f part = absurd part.cause
   stopped-ends new (Ran (Limit quantity)) f part = absurd part.cause
   stopped-ends new (Ran (File place error)) f part = absurd part.cause

@@ -9,13 +9,12 @@ use Rattle.job_run.specs.Plan.{Plan}
 use Rattle.job_run.specs.Values.{Named}
 use Rattle.command_words.specs.declared.sim.SimWords.{SimWords}
 use Rattle.sim_run.specs.declared.ends.SimEnded.{SimEnded}
-use Rattle.sim_run.specs.declared.ends.SimEnded.TheVariants.{Events, Turns, Ran}
+use Rattle.sim_run.specs.declared.ends.SimEnded.TheVariants.{Events, Ran}
 use Rattle.sim_run.specs.Serving.{SavesFiles, ServesAll, ServesFiles, ServesPart, Stops}
 
 -- the same causes, said of other facts
 stops-as : (p : Plan) (s : SimWords) (named : Named) (told again reads reads' writes writes' : Type 0) (end : SimEnded) → (told → again) → (reads' → reads) → (writes' → writes) → Stops p s named again reads' writes' end → Stops p s named told reads writes end
 stops-as p s named told again reads reads' writes writes' Events f g k h = λ t. h (f t)
-stops-as p s named told again reads reads' writes writes' Turns f g k h = λ t. h (f t)
 stops-as p s named told again reads reads' writes writes' (Ran Done) f g k h = absurd h
 stops-as p s named told again reads reads' writes writes' (Ran (Limit quantity)) f g k h = absurd h
 stops-as p s named told again reads reads' writes writes' (Ran (File place error)) f g k h = absurd h

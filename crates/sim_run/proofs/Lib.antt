@@ -1,7 +1,7 @@
 pub mod Ending
 pub mod Given
 pub mod Got
-pub mod Manned
+pub mod MannedLemmas
 pub mod Simulating
 pub mod Stops
 pub mod Wanted

@@ -15,9 +15,8 @@ use Rattle.cluster_laws.specs.AreValues.{AreValues}
 use Rattle.cluster_laws.specs.Blocks.{Cluster, opening_cluster}
 use Rattle.cluster_laws.proofs.BlockValues.{values_of}
 use Rattle.cluster_world.specs.declared.state.State.{State}
-use Rattle.cluster_world.specs.Worlds.{IsMade, IsMadeBy, IsReady, cluster, setting, world}
-use Rattle.quiet_bound.proofs.WorldBound.{setting-world}
-use Rattle.cluster_sim.specs.Openings.{IsOpening}
+use Rattle.cluster_world.specs.Worlds.{IsMade, cluster, setting, world}
+use Rattle.cluster_sim.proofs.ActLemmas.{setting-world}
 use Rattle.cluster_sim.specs.Plans.{IsPlan, joins_in as plan_joins}
 use Rattle.cluster_sim.specs.Simulations.{HasAll}
 use Rattle.task_graph.specs.Graphs.{shape_of, value}
@@ -46,9 +45,6 @@ plan_is s are = record { workers = are.workers.1; threads = are.threads; joins =
 
 pub setting_is : {J B F : Type 0} (s : State J B F) (set : Setting) (op : ℕ → List B → Option B) → cluster s ≡ opening_cluster set op → setting s ≡ set
 setting_is {J} {B} {F} s set op e = sym (setting-world s) ∙ ap (λ (c : Cluster B). c.world.sched.setting) e
-
-pub opens : {J B F : Type 0} (op : J → ℕ → List B → Option B) (s : State J B F) (set : Setting) → setting s ≡ set → 1 ≤ set.clients → IsReady s → IsMadeBy op [] s → IsOpening op s
-opens op s set e clients ready none = record { going = ready.going; made = none; client = omega (arith, clients, ap (λ (x : Setting). x.clients) e) }
 
 -- ## What the client got
 

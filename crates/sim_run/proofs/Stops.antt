@@ -7,16 +7,16 @@ use Rattle.nd_shape.specs.Block.{Array}
 use Rattle.cluster_msgs.specs.Shape.{Shape, deps_of}
 use Rattle.cluster_msgs.specs.Values.{val}
 use Rattle.cluster_msgs.specs.declared.events.Report.{Report}
-use Rattle.cluster_rules.specs.Draw.{OutOfTurns, Served}
+use Rattle.cluster_rules.specs.Draw.{Served}
 use Rattle.cluster_rules.specs.Runs.{event_limit}
 use Rattle.cluster_rules.specs.Sched.{Setting}
-use Rattle.cluster_rules.specs.World.{Job, World}
+use Rattle.cluster_rules.specs.World.{Job}
 use Rattle.cluster_laws.specs.Blocks.{job_of, setting_of}
 use Rattle.cluster_world.specs.declared.state.State.{State}
 use Rattle.cluster_world.specs.Worlds.{cluster, world}
 use Rattle.cluster_sim.specs.Acts.{CountsSim}
 use Rattle.cluster_sim.specs.Drawn.{word_of}
-use Rattle.cluster_sim.specs.Simulations.{IfBlamed, IsExhausted, IsNeededFault, IsReported, IsUnfinished}
+use Rattle.cluster_sim.specs.Simulations.{IfBlamed, IsNeededFault, IsReported, IsUnfinished}
 use Rattle.cluster_sim.specs.declared.act.SimError.{SimError}
 use Rattle.cluster_sim.specs.declared.act.SimError.TheVariants as sim
 use Rattle.task_graph.specs.Graphs.{operation, shape_of, value}
@@ -37,24 +37,16 @@ use Rattle.job_run.specs.Saving.{SavesLeft, SavesWhole}
 use Rattle.sim_run.specs.Serving.{EndsAtKey, GotAll, RanStops, ServesAll, ServesPart, Stops, ended_of, job_named}
 use Rattle.sim_run.specs.Simulated.{IsServed, sim_plan}
 use Rattle.sim_run.proofs.Got.{is-faulty, meets-none, saves-got}
-use Rattle.sim_run.proofs.Manned.{manned_at_end}
 use Rattle.sim_run.proofs.Simulating.{HasRun}
 
 -- ## Why a simulation gave no result
 
-pub stops-by : (p : Plan) (s : SimWords) (named : Named) (told reads writes : Type 0) (w : World) (error : SimError) →
-    (error ≡ sim.Turns → told → IsExhausted (job_named p s named) (word_of s.settings.number) (sim_plan s) (wanted_of p) w) →
+pub stops-by : (p : Plan) (s : SimWords) (named : Named) (told reads writes : Type 0) (error : SimError) →
     (error ≡ sim.Spent → told → IsUnfinished (job_named p s named) (word_of s.settings.number) (sim_plan s) (wanted_of p) event_limit) → (error ≡ sim.Feed → reads) → Stops p s named told reads writes (ended_of error)
-stops-by p s named told reads writes w sim.Turns turns spent feed = λ t.
-    let e = turns refl t in
-    record {
-      world = w;
-      exhausted = e;
-      past = λ walk. let m = manned_at_end (sim_plan s) walk (job_named p s named) (word_of s.settings.number) (wanted_of p) e.cut.events OutOfTurns w e.cut.simulated in e.past m.0 m.1.0 m.1.1;
-    }
-stops-by p s named told reads writes w sim.Feed turns spent feed = feed refl
-stops-by p s named told reads writes w sim.Spent turns spent feed = λ t. spent refl t
-stops-by p s named told reads writes w sim.OutOfMemory turns spent feed = tt
+stops-by p s named told reads writes sim.Stuck spent feed = tt
+stops-by p s named told reads writes sim.Feed spent feed = feed refl
+stops-by p s named told reads writes sim.Spent spent feed = λ t. spent refl t
+stops-by p s named told reads writes sim.OutOfMemory spent feed = tt
 
 pub feed-rose : (A : Type 0) (error : SimError) (before now : ℕ) → CountsSim {A = A} (Err error) before now → error ≡ sim.Feed → Rose before now
 feed-rose A error before now counts is = let E : SimError → Type 0 = λ x. CountsSim {A = A} (Err x) before now in subst E is counts

@@ -13,9 +13,9 @@ use Rattle.job_run.specs.Plan.{Plan, names_saved}
 use Rattle.job_run.specs.Runs.{AreRight, AreSaved, HasFault, HasValues, IsSmall, Cause as RunCause, Saves as RunSaves, Opened as RunOpened, Created as RunCreated, PrintsFront, Looked}
 use Rattle.command_words.specs.declared.sim.SimWords.{SimWords}
 use Rattle.sim_run.specs.declared.ends.SimEnded.{SimEnded}
-use Rattle.sim_run.specs.declared.ends.SimEnded.TheVariants.{Events, Turns, Ran}
+use Rattle.sim_run.specs.declared.ends.SimEnded.TheVariants.{Events, Ran}
 use Rattle.sim_run.specs.Jobs.{IsTextJob}
-use Rattle.sim_run.specs.Simulated.{IsServed, IsOutOfTurns, IsOutOfEvents, SimulatesTo}
+use Rattle.sim_run.specs.Simulated.{IsServed, IsOutOfEvents, SimulatesTo}
 use Rattle.sim_run.specs.Texts.{lines_of}
 
 -- a fact of a simulation whose inputs are told
@@ -29,10 +29,9 @@ RanCause p old new (Zero node block) = IsSmall p × HasFault p old.files node bl
 RanCause p old new WriteFault = IsSmall p × HasValues p old.files × (Rose old.write_faults new.write_faults ⊎ Rose old.print_faults new.print_faults)
 RanCause p old new end = RunCause p old new end
 
--- Why a simulation ends so. Where the turns or the events come to their end, the inputs are as declared, and where they are told, the drawn events do so.
+-- Why a simulation ends so. Where the events come to their end, the inputs are as declared, and where they are told, the drawn events do so.
 abbrev pub Cause : Plan → SimWords → View → View → SimEnded → Type 0
 Cause p s old new Events = IsSmall p × InputsFit p old.files × WhereTold p old.files (SimulatesTo (IsTextJob p old.files s) s IsOutOfEvents)
-Cause p s old new Turns = IsSmall p × InputsFit p old.files × WhereTold p old.files (SimulatesTo (IsTextJob p old.files s) s IsOutOfTurns)
 Cause p s old new (Ran end) = RanCause p old new end
 
 -- The saved files: as a run of the same job in the calling thread leaves them, and as they were where the client didn't get all.
@@ -47,7 +46,6 @@ Saves p old new end = new.held ≡ old.held
 -- how often each name was opened: none before the limits are known to be kept
 abbrev pub Opened : List (List ℕ) → (List ℕ → ℕ) → (List ℕ → ℕ) → SimEnded → Type 0
 Opened names old new Events = new ≡ raised_by names old
-Opened names old new Turns = new ≡ raised_by names old
 Opened names old new (Ran end) = RunOpened names old new end
 
 -- the same of creations: none before the client got all

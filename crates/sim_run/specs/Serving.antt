@@ -18,10 +18,10 @@ use Rattle.job_run.specs.Runs.{IsSmall}
 use Rattle.job_run.specs.Values.{Named, IsFaulty, MeetsNone, files_of, index_of, tasks_of}
 use Rattle.command_words.specs.declared.sim.SimWords.{SimWords}
 use Rattle.sim_run.specs.declared.ends.SimEnded.{SimEnded}
-use Rattle.sim_run.specs.declared.ends.SimEnded.TheVariants.{Events, Turns, Ran}
+use Rattle.sim_run.specs.declared.ends.SimEnded.TheVariants.{Events, Ran}
 use Rattle.sim_run.specs.declared.serving.Wanted.{Wanted}
 use Rattle.sim_run.specs.Jobs.{wanted_of}
-use Rattle.sim_run.specs.Simulated.{running, IsServed, IsOutOfTurns, IsOutOfEvents}
+use Rattle.sim_run.specs.Simulated.{running, IsServed, IsOutOfEvents}
 
 -- the job that is simulated, where the inputs hold these elements
 abbrev pub job_named : Plan → SimWords → Named → Job
@@ -38,7 +38,7 @@ pub record IsWantedOf (p : Plan) (w : Wanted) : Type 0 where
 
 -- how a run ends whose simulation gave no result
 abbrev pub ended_of : SimError → SimEnded
-ended_of sim.Turns = Turns
+ended_of sim.Stuck = Ran OutOfMemory
 ended_of sim.Feed = Ran ReadFault
 ended_of sim.Spent = Events
 ended_of sim.OutOfMemory = Ran OutOfMemory
@@ -72,13 +72,11 @@ RanStops p s named told reads writes end = ⊥
 
 abbrev pub Stops : Plan → SimWords → Named → Type 0 → Type 0 → Type 0 → SimEnded → Type 0
 Stops p s named told reads writes Events = told → IsOutOfEvents (job_named p s named) (wanted_of p) s
-Stops p s named told reads writes Turns = told → IsOutOfTurns (job_named p s named) (wanted_of p) s
 Stops p s named told reads writes (Ran end) = RanStops p s named told reads writes end
 
 -- an end at which no file was created
 abbrev pub IsBare : SimEnded → Type 0
 IsBare Events = Unit {0}
-IsBare Turns = Unit {0}
 IsBare (Ran (Zero node block)) = Unit {0}
 IsBare (Ran ReadFault) = Unit {0}
 IsBare (Ran end) = ⊥

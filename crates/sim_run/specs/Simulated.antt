@@ -5,11 +5,10 @@ use Rattle.cluster_msgs.specs.declared.events.Report.{Report}
 use Rattle.cluster_rules.specs.World.{Job, World}
 use Rattle.cluster_rules.specs.Draw.{Plan as SimPlan, Served}
 use Rattle.cluster_sim.specs.Drawn.{word_of}
-use Rattle.cluster_sim.specs.Quiet.{IsPastBound}
-use Rattle.cluster_sim.specs.Simulations.{IsReported, IsExhausted, IsUnfinished}
+use Rattle.cluster_sim.specs.Simulations.{IsReported, IsUnfinished}
 use Rattle.cluster_rules.specs.Runs.{event_limit}
 use Rattle.cluster_laws.specs.Blocks.{job_of, setting_of}
-use Rattle.command_words.specs.Walks.{joins_in, IsWalk}
+use Rattle.command_words.specs.Walks.{joins_in}
 use Rattle.command_words.specs.declared.sim.SimWords.{SimWords}
 
 -- settings that can be followed: with 1 to 64 workers at the start and at most 64 more by the script, of 1 to 16 threads each
@@ -31,13 +30,6 @@ running s graph op = job_of (setting_of graph 1 s.settings.saturation) op
 pub record IsServed (job : Job) (wanted : List ℕ) (s : SimWords) (report : Report) (turns : ℕ) : Type 0 where
   pub world : World
   pub reported : IsReported job (word_of s.settings.number) (sim_plan s) wanted (Served turns None) world report
-
--- No turn was left. A script that can be followed leaves a worker at every point, so that isn't since nothing moves: some list of progress events is
--- longer than the bound on such lists.
-pub record IsOutOfTurns (job : Job) (wanted : List ℕ) (s : SimWords) : Type 0 where
-  pub world : World
-  pub exhausted : IsExhausted job (word_of s.settings.number) (sim_plan s) wanted world
-  pub past : IsWalk s.settings.workers s.settings.threads s.script → IsPastBound job exhausted.cut.events
 
 -- as many events were drawn as a world takes, and no end was reached
 abbrev pub IsOutOfEvents : Job → List ℕ → SimWords → Type 0

@@ -11,8 +11,6 @@ use std::alloc::AllocError;
 pub enum SimEnded {
     /// The simulation took 2^40 events, and no end was reached.
     Events,
-    /// No turn was left of the bound on quiet runs, or nothing moved.
-    Turns,
     /// It ended as a run in the calling thread does.
     Ran(Ended),
 }

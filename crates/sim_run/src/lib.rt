@@ -9,10 +9,12 @@
 
 pub mod ends;
 mod lines;
+pub mod manned;
 mod saving;
 mod serving;
 pub mod simulated;
 
 pub use ends::SimEnded;
+pub use manned::somebody_is_there;
 pub use serving::Served;
 pub use simulated::{save_simulated, simulate_job};

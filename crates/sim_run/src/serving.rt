@@ -48,15 +48,15 @@ pub struct Wanted {
     pub blocks: Sequence<Dims>,
 }
 
-// How the run ends where the simulation gave no result.
+// How the run ends where the simulation gave no result. Where the inputs are told, none is stuck by a script that leaves a worker at
+// every point (`somebody_is_there`); where they aren't, nothing is said of it, and it is told as want of memory.
 fn ended(error: SimError) -> SimEnded
     ensures { result ≡ ended_of error }
 {
     match error {
-        SimError::Turns => SimEnded::Turns,
         SimError::Feed => SimEnded::Ran(Ended::ReadFault),
         SimError::Spent => SimEnded::Events,
-        SimError::OutOfMemory => SimEnded::Ran(Ended::OutOfMemory),
+        SimError::Stuck | SimError::OutOfMemory => SimEnded::Ran(Ended::OutOfMemory),
     }
 }
 
@@ -167,8 +167,8 @@ fn simulate_world<S: Site, E: Elements + Send + Sync + Drop>(
 /// created.
 ///
 /// # Errors
-/// How the run ends: `Turns` and `Events` where the simulation came to no end, a zero divisor that the client was told of, a fault,
-/// or want of memory.
+/// How the run ends: `Events` where the simulation came to no end, a zero divisor that the client was told of, a fault, or want of
+/// memory.
 pub fn serve<S: Site, E: Elements + Send + Sync + Drop>(
     alloc: Global,
     site: &mut S,

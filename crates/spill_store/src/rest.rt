@@ -10,6 +10,6 @@ pub enum Rest {
     Worn,
     /// The disk has just failed.
     Refused,
-    /// There was no memory for what a block on the disk needs.
+    /// There was no memory for what a block on the disk needs, or the disk gave back eight blocks otherwise than they were.
     OutOfMemory,
 }

@@ -1,7 +1,8 @@
 // A disk, and the blocks that it has taken and that are nowhere else.
 ghost use Rattle.std.specs.Prelude.{◌≡◌, ◌≤◌, ◌↔◌, nat_eq, [], is_some, IfErr, IfOk, IfSome, None, Some, IsTrue, false};
 ghost use Rattle.std.specs.Map.{lookup};
-ghost use Rattle.io_edge.specs.Disk.{KeepsOthers};
+ghost use Rattle.io_edge.specs.Disk.{HoldsAt, KeepsOthers};
+ghost use Rattle.spill_store.specs.Blocks.{block_bytes};
 ghost use Rattle.spill_store.specs.Shelves.{AreThere, ComesBack, Fetches, TakesBlock, Turns};
 ghost use Rattle.spill_store.specs.Table.{ChangesAt};
 
@@ -16,10 +17,10 @@ use std::alloc::{AllocError, Global};
 use std::marker::Model;
 use std::sync::Arc;
 
-/// So many faults of a disk end its use.
+/// So many faults of a disk end its use, and so many blocks that it gave back otherwise than they were.
 const FAULTS: u64 = 8;
 
-/// What came of putting a block on the disk.
+/// What came of putting a block on the disk: it is there; the disk failed; or no memory was there, or the disk isn't trusted any more.
 #[derive(Clone, Copy)]
 pub(crate) enum Taken {
     Yes,
@@ -44,14 +45,15 @@ pub(crate) enum Fetched {
 }
 
 /// A disk, what is kept of the blocks that are there alone, and of those that are in memory again and there still, so that
-/// they need not be written once more; and what is known of blocks in memory that aren't there and were given out to be
-/// digested.
+/// they need not be written once more; what is known of blocks in memory that aren't there and were given out to be
+/// digested; and how many blocks it gave back otherwise than they were.
 #[derive(Drop)]
 pub(crate) struct Shelf<D: Disk> {
     disk: D,
     blocks: Table<Spilled>,
     twice: Table<Known>,
     ready: Table<Ahead>,
+    spoiled: u64,
 }
 
 impl<D: Disk> Model for Shelf<D> {
@@ -85,6 +87,7 @@ impl<D: Disk> Shelf<D> {
             blocks,
             twice,
             ready,
+            spoiled: 0,
         })
     }
 
@@ -98,6 +101,7 @@ impl<D: Disk> Shelf<D> {
             blocks: _,
             twice: _,
             ready: _,
+            spoiled: _,
         } = self;
         disk
     }
@@ -116,9 +120,14 @@ impl<D: Disk> Shelf<D> {
         self.disk.faults() >= FAULTS
     }
 
+    // Whether it gave back so many blocks otherwise than they were that nothing more is put there: each is made again, and would be lost again.
+    fn is_distrusted(&self) -> bool {
+        self.spoiled >= FAULTS
+    }
+
     /// How far the digest of the block of this key is, which is in memory. Nothing is left to do where the disk is used no more. No memory.
     pub(crate) fn stage(&self, key: u32) -> Stage {
-        if self.is_worn() || self.twice.get(key).is_some() {
+        if self.is_worn() || self.is_distrusted() || self.twice.get(key).is_some() {
             return Stage::Settled;
         }
         match self.ready.get(key) {
@@ -135,31 +144,60 @@ impl<D: Disk> Shelf<D> {
         self.ready.put(key, Ahead::Given).is_ok()
     }
 
-    /// What came of that is known from now on, where the block was given out and has neither gone since nor been let go.
+    /// What came of that is known from now on, where the block was given out and has neither gone since nor been let go. No memory.
     pub(crate) fn expect(&mut self, ready: Digested)
         ensures { self.new ≡ self.old }
     {
         let key = ready.key();
-        if self.ready.get(key).is_none() {
-            return;
-        }
-        if self.ready.put(key, ready.into_ahead()).is_err() {
-            self.ready.remove(key);
-        }
+        self.ready.replace(key, ready.into_ahead());
     }
 
-    /// Puts a block on the disk, unless it is there still.
+    /// Puts a block on the disk, unless it is there still. What is known of it stays as it is where it doesn't go, so that it isn't digested once more.
     pub(crate) fn take(&mut self, alloc: Global, key: u32, block: &Block) -> Taken
         ensures turns { Turns (D.view self.old.disk) (D.view self.new.disk) }
         ensures taken { TakesBlock D.view key block.now self.old self.new result }
     {
-        if let Some(twice) = self.twice.remove(key) {
-            if put_again(&mut self.blocks, key, twice, block) {
-                return Taken::Yes;
-            }
+        if self.is_distrusted() {
+            return Taken::OutOfMemory;
         }
-        let known = known_of(&mut self.ready, key, block);
-        put_anew(&mut self.disk, &mut self.blocks, alloc, key, block, known)
+        let Some(twice) = self.twice.get(key) else {
+            return self.take_anew(alloc, key, block);
+        };
+        match known_as(alloc, twice, block) {
+            Ok(Some(spilled)) => self.take_again(key, spilled),
+            Ok(None) => self.take_anew(alloc, key, block),
+            Err(_) => Taken::OutOfMemory,
+        }
+    }
+
+    // The disk, which has a block still, alone has it from now on.
+    fn take_again(&mut self, key: u32, spilled: Spilled) -> Taken
+        requires there { HoldsAt (D.view self.old.disk) key (block_bytes spilled) }
+        ensures turns { Turns (D.view self.old.disk) (D.view self.new.disk) }
+        ensures taken { TakesBlock D.view key spilled self.old self.new result }
+    {
+        if self.blocks.put(key, spilled).is_err() {
+            return Taken::OutOfMemory;
+        }
+        self.twice.remove(key);
+        self.ready.remove(key);
+        Taken::Yes
+    }
+
+    // Writes a block on the disk, in place of what that has under the key.
+    fn take_anew(&mut self, alloc: Global, key: u32, block: &Block) -> Taken
+        ensures turns { Turns (D.view self.old.disk) (D.view self.new.disk) }
+        ensures taken { TakesBlock D.view key block.now self.old self.new result }
+    {
+        let Ok(known) = known_of(&self.ready, alloc, key, block) else {
+            return Taken::OutOfMemory;
+        };
+        self.twice.remove(key);
+        let taken = put_anew(&mut self.disk, &mut self.blocks, alloc, key, block, known);
+        if let Taken::Yes = taken {
+            self.ready.remove(key);
+        }
+        taken
     }
 
     /// Reads a block from the disk. It stays there.
@@ -177,6 +215,7 @@ impl<D: Disk> Shelf<D> {
             return Ok(Fetched::Lost(LostBy::Fault));
         };
         if let Some(by) = spilled.differs(has, bytes.as_slice()) {
+            self.spoiled = self.spoiled.saturating_add(1);
             return Ok(Fetched::Lost(by));
         }
         let block = block_of(alloc, shape, bytes.as_slice())?;
@@ -236,34 +275,29 @@ fn is_same(left: &Block, right: &Block) -> bool
     has_cells(left, right)
 }
 
-// Keeps what is known of a block on the disk as of one that is there alone, where it is this block and there is memory for it.
-fn put_again(blocks: &mut Table<Spilled>, key: u32, twice: Known, block: &Block) -> bool
-    ensures yes { IsTrue result → ChangesAt key (Some block.now) blocks.old blocks.new }
-    ensures same { IsTrue result → twice ≡ block.now }
-    ensures no { result ≡ false → blocks.new ≡ blocks.old }
+// What is to be kept of a block on the disk, where it is the one that is known.
+fn known_as(alloc: Global, known: &Known, block: &Block) -> Result<Option<Spilled>, AllocError>
+    ensures { IfOk result (λ found. IfSome found (λ s. (s ≡ block.now) × (known.now ≡ block.now))) }
 {
-    let Known {
-        spilled,
-        block: held,
-    } = twice;
-    is_same(&held, block) && blocks.put(key, spilled).is_ok()
+    if !is_same(&known.block, block) {
+        return Ok(None);
+    }
+    let spilled = known.spilled.again(alloc, block)?;
+    Ok(Some(spilled))
 }
 
-// What is kept of this block, where that was made of the same one. Nothing is known of the key's block any more.
-fn known_of(ready: &mut Table<Ahead>, key: u32, block: &Block) -> Option<Spilled>
-    ensures { IfSome result (λ s. s ≡ block.now) }
+// The same, where such a one is known of the key.
+fn known_of(
+    ready: &Table<Ahead>,
+    alloc: Global,
+    key: u32,
+    block: &Block,
+) -> Result<Option<Spilled>, AllocError>
+    ensures { IfOk result (λ found. IfSome found (λ s. s ≡ block.now)) }
 {
-    let Ahead::Known(known) = ready.remove(key)? else {
-        return None;
-    };
-    let Known {
-        spilled,
-        block: held,
-    } = known;
-    if is_same(&held, block) {
-        Some(spilled)
-    } else {
-        None
+    match ready.get(key) {
+        Some(Ahead::Known(known)) => known_as(alloc, known, block),
+        _ => Ok(None),
     }
 }
 

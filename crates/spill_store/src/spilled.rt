@@ -76,6 +76,19 @@ impl Spilled {
         }
     }
 
+    /// The same once more, of this block.
+    pub(crate) fn again(&self, alloc: Global, block: &Block) -> Result<Self, AllocError>
+        requires { self.now ≡ block.now }
+        ensures { IfOk result (λ s. s ≡ block.now) }
+    {
+        let shape = self.shape.copy(alloc)?;
+        Ok(Spilled {
+            shape,
+            digest: self.digest,
+            was: Was::new(block.cells()),
+        })
+    }
+
     /// The same of another block with this digest. No memory.
     pub(crate) fn renewed(self, block: &Block) -> Self
         requires { IsAlike self block.now }

@@ -25,8 +25,8 @@ use std::sync::Arc;
 ///
 /// After each `put` and `get`, while the blocks in memory have more than six tenths of the limit and there is more than one
 /// of them, the one that was used least recently is put on the disk. This ends where there is no disk, where it has failed
-/// eight times, where it refuses the block, and where there is no memory for what a block on the disk needs: the block stays
-/// in memory then.
+/// eight times or has given back eight blocks otherwise than they were, where it refuses the block, and where there is no
+/// memory for what a block on the disk needs: the block stays in memory then.
 #[derive(Drop)]
 pub struct SpillStore<D: Disk> {
     alloc: Global,

@@ -55,6 +55,17 @@ impl<V: Drop> Table<V> {
         }
     }
 
+    /// Puts a value in the place of the one of a key, which it answers, if there is one. No memory.
+    pub(crate) fn replace(&mut self, key: u32, value: V) -> Option<V>
+        ensures value { result ≡ lookup (nat_eq key) self.old }
+    {
+        self.cache.len();
+        self.cache.peek(&key)?;
+        let stored = self.cache.put(key, value);
+        self.cache.len();
+        stored.ok().flatten()
+    }
+
     /// The value of a key, whose place in the order stays. No memory.
     pub(crate) fn get(&self, key: u32) -> Option<&V>
         ensures { option_copied result ≡ lookup (nat_eq key) self.now }

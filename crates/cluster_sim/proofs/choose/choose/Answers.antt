@@ -7,7 +7,7 @@ use Rattle.cluster_sim.proofs.ChooseLemmas.{next_over, next_on}
 use Rattle.cluster_sim.proofs.choose.choose.Goals as goal
 
 pub returns-in-Some-clause-next : goal.returns-in-Some-clause-next
-returns-in-Some-clause-next g c words e = next_over words (plan_of c.args.plan.now) (sim_of (plan_of c.args.plan.now) (world c.args.world.now) c.args.standing.now) c.in-Some.end.failure (c.in-Some.ensures ((world c.args.world.now).clients 1) c.requires.seen c.requires.standing.client (λ k q. subst (λ (x : Shape). k < key_count x) (sym c.requires.standing.shape) (c.requires.standing.keys k q)))
+returns-in-Some-clause-next g c words b e t = next_over words (plan_of c.args.plan.now) (sim_of (plan_of c.args.plan.now) (world c.args.world.now) c.args.standing.now b) c.in-Some.end.failure (c.in-Some.ensures ((world c.args.world.now).clients 1) c.requires.seen c.requires.standing.client (λ k q. subst (λ (x : Shape). k < key_count x) (sym c.requires.standing.shape) (c.requires.standing.keys k q)))
 
 pub returns-in-Some-clause-kind : goal.returns-in-Some-clause-kind
 returns-in-Some-clause-kind g c = sym (c.in-Some.ensures ((world c.args.world.now).clients 1) c.requires.seen c.requires.standing.client (λ k q. subst (λ (x : Shape). k < key_count x) (sym c.requires.standing.shape) (c.requires.standing.keys k q)))
@@ -22,7 +22,7 @@ pub go_on-requires-clause-numbers : goal.go_on-requires-clause-numbers
 go_on-requires-clause-numbers g c = λ κs lives. let n = c.requires.standing.joins in omega (arith, n)
 
 pub returns-in-None-clause-next : goal.returns-in-None-clause-next
-returns-in-None-clause-next g c words e = next_on words (plan_of c.args.plan.now) (sim_of (plan_of c.args.plan.now) (world c.args.world.now) c.args.standing.now) _ (c.in-None.ensures ((world c.args.world.now).clients 1) c.requires.seen c.requires.standing.client (λ k q. subst (λ (x : Shape). k < key_count x) (sym c.requires.standing.shape) (c.requires.standing.keys k q))) (c.go_on.ensures.next words e)
+returns-in-None-clause-next g c words b e t = next_on words (plan_of c.args.plan.now) (sim_of (plan_of c.args.plan.now) (world c.args.world.now) c.args.standing.now b) _ (c.in-None.ensures ((world c.args.world.now).clients 1) c.requires.seen c.requires.standing.client (λ k q. subst (λ (x : Shape). k < key_count x) (sym c.requires.standing.shape) (c.requires.standing.keys k q))) (c.go_on.ensures.next words b e t)
 
 pub returns-in-None-clause-kind : goal.returns-in-None-clause-kind
 returns-in-None-clause-kind g c = c.go_on.ensures.kind ((world c.args.world.now).clients 1)

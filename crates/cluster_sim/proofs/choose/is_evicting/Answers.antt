@@ -6,13 +6,12 @@ use Rattle.cluster_rules.specs.World.{shape_of}
 use Rattle.cluster_rules.specs.Enabled.{enabled}
 use Rattle.cluster_rules.specs.Draw.{is_time}
 use Rattle.cluster_world.specs.Worlds.{world}
-use Rattle.quiet_bound.proofs.WorldBound.{setting-world}
-use Rattle.cluster_sim.proofs.ActLemmas.{not_starved}
+use Rattle.cluster_sim.proofs.ActLemmas.{setting-world, not_starved}
 use Rattle.cluster_sim.proofs.ChooseLemmas.{due_then, due_else}
 use Rattle.cluster_sim.proofs.choose.is_evicting.Goals as goal
 
 pub returns-then-is_due-clause-now : goal.returns-then-is_due-clause-now
-returns-then-is_due-clause-now g c p =
+returns-then-is_due-clause-now g c p b =
     let w = world c.args.world.now in
     let s = c.args.standing.now in
     let k : c.keys-keys.result ≡ key_count (shape_of w) = c.keys-keys.ensures ∙ ap key_count (c.shape.ensures.setting ∙ sym (ap (λ (x : Setting). x.shape) (setting-world c.args.world.now))) in
@@ -27,7 +26,7 @@ returns-then-is_due-clause-some g c h =
     (omega (arith, f, k), omega (arith, u, k))
 
 pub returns-else-is_due-clause-now : goal.returns-else-is_due-clause-now
-returns-else-is_due-clause-now g c p =
+returns-else-is_due-clause-now g c p b =
     let w = world c.args.world.now in
     let s = c.args.standing.now in
     let k : c.keys-keys.result ≡ key_count (shape_of w) = c.keys-keys.ensures ∙ ap key_count (c.shape.ensures.setting ∙ sym (ap (λ (x : Setting). x.shape) (setting-world c.args.world.now))) in

@@ -3,7 +3,7 @@ use Rattle.small_facts.proofs.Options.{none_from_is_some}
 use Rattle.cluster_msgs.specs.Shape.{key_count}
 use Rattle.cluster_rules.specs.Sched.{Setting}
 use Rattle.cluster_world.specs.Worlds.{world}
-use Rattle.quiet_bound.proofs.WorldBound.{setting-world}
+use Rattle.cluster_sim.proofs.ActLemmas.{setting-world}
 use Rattle.cluster_sim.proofs.EndLemmas.{least_none, least_some}
 use Rattle.cluster_sim.proofs.ended.least_failure.Goals as goal
 

@@ -3,7 +3,7 @@ use Rattle.std.proofs.lemmas.Result.{err_from_is_err_and}
 use Rattle.cluster_sim.specs.declared.ended.Ending.{Ending}
 use Rattle.cluster_sim.specs.Plans.{plan_of}
 use Rattle.cluster_sim.proofs.ActLemmas.{stays_none, stays_both, counts_from}
-use Rattle.cluster_sim.proofs.PlayLemmas.{served_by, played_by, play_failed, drawn_play_failed, falls_there}
+use Rattle.cluster_sim.proofs.PlayLemmas.{served_by, played_by, play_failed, drawn_play_failed, fewer_left}
 use Rattle.cluster_sim.proofs.whole.play.Goals as goal
 
 pub turns-init : goal.turns-init
@@ -18,7 +18,7 @@ returns-in-Some-clause-play g c = served_by (plan_of c.args.plan.now) c.args.wan
 pub returns-in-Some-clause-drawn : goal.returns-in-Some-clause-drawn
 returns-in-Some-clause-drawn g c number d =
     let e = c.turns.invariant.drawn number d in
-    played_by _ _ (plan_of c.args.plan.now) c.args.wanted.now number _ c.turns.world c.turn.new.world c.turns.run c.turn.new.run e (rw c.in-Some.is at c.in_ok-next.ensures.turn).stayed (rw c.in-Some.is at (c.in_ok-next.ensures.drawn number e))
+    played_by _ _ (plan_of c.args.plan.now) c.args.wanted.now number _ c.turns.world c.turn.new.world c.turns.run c.turn.new.run (rw c.in-Some.is at c.in_ok-next.ensures.turn).stayed (rw c.in-Some.is at (c.in_ok-next.ensures.drawn number e))
 
 pub returns-in-Some-clause-stays : goal.returns-in-Some-clause-stays
 returns-in-Some-clause-stays g c = stays_both _ _ _ _ c.turns.invariant.stays c.turn.ensures.stays
@@ -32,7 +32,7 @@ turns-preserved g c = record {
 }
 
 pub turns-smaller : goal.turns-smaller
-turns-smaller g c = falls_there (plan_of c.args.plan.now) c.turns.world c.turn.new.world c.turns.run c.turn.new.run c.turn.ensures.stays.setting (rw c.in-None.is at c.in_ok-next.ensures.turn).falls
+turns-smaller g c = fewer_left (plan_of c.args.plan.now) c.args.wanted.now c.turns.world c.turn.new.world c.turn.new.run (rw c.in-None.is at c.in_ok-next.ensures.turn)
 
 -- where the turn failed
 pub returns-in_err-next-clause-play : goal.returns-in_err-next-clause-play
@@ -44,7 +44,7 @@ pub returns-in_err-next-clause-drawn : goal.returns-in_err-next-clause-drawn
 returns-in_err-next-clause-drawn g c number d =
     let p = err_from_is_err_and c.from_residual.result c.from_residual.ensures.1 in
     let e = c.turns.invariant.drawn number d in
-    rw (p.1, p.2) (drawn_play_failed _ _ (plan_of c.args.plan.now) c.args.wanted.now number c.turns.world c.turn.new.world c.turns.run c.turn.new.run _ c.turn.ensures.stays e c.in_err-next.ensures.turn (c.in_err-next.ensures.drawn number e))
+    rw (p.1, p.2) (drawn_play_failed _ _ (plan_of c.args.plan.now) c.args.wanted.now number c.turns.world c.turn.new.world c.turns.run c.turn.new.run _ c.turn.ensures.stays c.in_err-next.ensures.turn (c.in_err-next.ensures.drawn number e))
 
 pub returns-in_err-next-clause-faults : goal.returns-in_err-next-clause-faults
 returns-in_err-next-clause-faults g c =

@@ -1,9 +1,7 @@
-use Rattle.std.proofs.Common.{◌≡◌, ℕ, length}
-use Rattle.cluster_msgs.specs.Shape.{key_count}
-use Rattle.cluster_world.specs.Worlds.{setting}
+use Rattle.std.proofs.Common.{◌≡◌, ℕ, ◌-◌}
+use Rattle.cluster_rules.specs.Runs.{event_limit}
 use Rattle.cluster_sim.specs.Acts.{Stays}
 use Rattle.cluster_sim.specs.Plans.{plan_of}
-use Rattle.cluster_sim.specs.Standing.{left}
 use Rattle.cluster_sim.specs.Turns.{IsBetween, IsDrawn}
 use Rattle.cluster_sim.proofs.whole.play.Given as goal
 
@@ -17,4 +15,4 @@ invariant-turns g l = record {
 }
 
 abbrev pub decreases-turns : goal.decreases-turns
-decreases-turns g l = left (key_count (setting l.world).shape) (length l.plan.script) l.run.standing
+decreases-turns g l = event_limit - l.world.events

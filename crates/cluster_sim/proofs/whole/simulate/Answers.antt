@@ -1,20 +1,20 @@
 use Rattle.std.proofs.Common.{Err, ◌<◌, ◌∙◌, refl, sym, ap, subst, arith}
-use Rattle.cluster_msgs.specs.Shape.{Shape, key_count}
-use Rattle.cluster_world.specs.Worlds.{world}
+use Rattle.cluster_msgs.specs.Shape.{IsShape, Shape, key_count}
+use Rattle.cluster_world.specs.Worlds.{world, setting}
 use Rattle.cluster_sim.specs.declared.act.SimError.{SimError}
 use Rattle.cluster_sim.specs.declared.ended.Ending.{Ending}
 use Rattle.cluster_sim.specs.declared.whole.SimEnd.{SimEnd}
 use Rattle.cluster_sim.specs.Plans.{plan_of}
 use Rattle.std.proofs.lemmas.Result.{err_from_is_err_and}
-use Rattle.cluster_sim.proofs.ActLemmas.{not_starved, stays_both, counts_as, counts_from}
-use Rattle.cluster_sim.proofs.PlayLemmas.{spent_play, waiting_play, turns_play, unfinished_play, same_error}
+use Rattle.cluster_sim.proofs.ActLemmas.{stays_both, counts_as, counts_from}
+use Rattle.cluster_sim.proofs.PlayLemmas.{spent_play, stuck_play, cut_play, unfinished_play, same_error}
 use Rattle.cluster_sim.proofs.SimulateLemmas.{served_is}
-use Rattle.cluster_sim.proofs.SimulateRecords.{opened_between, opened_drawn, reported, exhausted_by, unfinished_by, blamed_by}
+use Rattle.cluster_sim.proofs.SimulateRecords.{opened_between, opened_drawn, reported, deserted_by, unfinished_by, blamed_by}
 use Rattle.cluster_sim.proofs.whole.simulate.Goals as goal
 
 pub play-requires-clause-between : goal.play-requires-clause-between
 play-requires-clause-between g c = λ κs lives.
-    opened_between _ _ (plan_of c.args.plan.now) c.args.wanted.now c.args.world.now c.make_opening.new.world _ c.rest.result c.requires.plan c.requires.wanted c.in_ok-make_opening.ensures.opened c.make_opening.ensures.stays c.new.ensures c.look.ensures
+    opened_between _ _ (plan_of c.args.plan.now) c.args.wanted.now c.args.world.now c.make_opening.new.world _ c.requires.plan c.requires.wanted c.in_ok-make_opening.ensures.opened c.make_opening.ensures.stays c.new.ensures c.look.ensures
 
 pub look-requires-clause-few : goal.look-requires-clause-few
 look-requires-clause-few g c = λ κs lives. omega arith
@@ -33,7 +33,7 @@ look-requires-clause-shape g c = λ κs lives. c.in_ok-make_opening.ensures.open
 
 pub returns-clause-served : goal.returns-clause-served
 returns-clause-served g c told =
-    let d = opened_drawn _ _ (plan_of c.args.plan.now) c.args.wanted.now c.args.number c.args.world.now c.make_opening.new.world _ c.rest.result c.in_ok-make_opening.ensures.opened c.make_opening.ensures.stays c.new.ensures (c.rest.ensures.bound (not_starved _ c.in_ok-make_opening.ensures.opened.going)) c.new-2.ensures told in
+    let d = opened_drawn _ _ (plan_of c.args.plan.now) c.args.wanted.now c.args.number c.args.world.now c.make_opening.new.world _ c.requires.opening (subst IsShape c.shape.ensures.setting c.sound.ensures) c.in_ok-make_opening.ensures.opened c.make_opening.ensures.stays c.new.ensures c.new-2.ensures told in
     reported _ _ (plan_of c.args.plan.now) c.args.wanted.now c.args.number _ c.args.world.now c.play.new.world c.play.new.run c.in_ok-report.report c.shape-2.result.now
     (stays_both _ _ _ _ c.make_opening.ensures.stays c.play.ensures.stays) c.shape-2.ensures.setting c.in_ok-report.ensures c.is_safe.ensures.events (c.in_ok-end.ensures.drawn c.args.number d)
 
@@ -44,8 +44,8 @@ returns-clause-all g c =
 
 pub returns-clause-blame : goal.returns-clause-blame
 returns-clause-blame g c told =
-    let d = opened_drawn _ _ (plan_of c.args.plan.now) c.args.wanted.now c.args.number c.args.world.now c.make_opening.new.world _ c.rest.result c.in_ok-make_opening.ensures.opened c.make_opening.ensures.stays c.new.ensures (c.rest.ensures.bound (not_starved _ c.in_ok-make_opening.ensures.opened.going)) c.new-2.ensures told in
-    blamed_by _ _ (plan_of c.args.plan.now) c.args.wanted.now c.args.number c.in_ok-end.end.failure c.args.world.now c.play.new.world c.play.new.run c.shape.result.now c.sound.ensures c.shape.ensures.setting
+    let d = opened_drawn _ _ (plan_of c.args.plan.now) c.args.wanted.now c.args.number c.args.world.now c.make_opening.new.world _ c.requires.opening (subst IsShape c.shape.ensures.setting c.sound.ensures) c.in_ok-make_opening.ensures.opened c.make_opening.ensures.stays c.new.ensures c.new-2.ensures told in
+    blamed_by _ _ (plan_of c.args.plan.now) c.args.wanted.now c.args.number c.in_ok-end.end.failure c.args.world.now c.play.new.world c.play.new.run (subst IsShape c.shape.ensures.setting c.sound.ensures)
     (stays_both _ _ _ _ c.make_opening.ensures.stays c.play.ensures.stays) c.in_ok-end.ensures.play c.is_safe.ensures.events (c.in_ok-end.ensures.drawn c.args.number d)
 
 pub returns-clause-stays : goal.returns-clause-stays
@@ -62,10 +62,10 @@ returns-in_err-make_opening-clause-spent g c q =
     let p = err_from_is_err_and c.from_residual.result c.from_residual.ensures.1 in
     absurd (c.in_err-make_opening.ensures.spent (ap (λ (x : SimError). Err x) (sym p.2 ∙ same_error _ _ (sym p.1 ∙ q))))
 
-pub returns-in_err-make_opening-clause-waits : goal.returns-in_err-make_opening-clause-waits
-returns-in_err-make_opening-clause-waits g c q =
+pub returns-in_err-make_opening-clause-stuck : goal.returns-in_err-make_opening-clause-stuck
+returns-in_err-make_opening-clause-stuck g c q =
     let p = err_from_is_err_and c.from_residual.result c.from_residual.ensures.1 in
-    absurd (c.in_err-make_opening.ensures.turns (ap (λ (x : SimError). Err x) (sym p.2 ∙ same_error _ _ (sym p.1 ∙ q))))
+    absurd (c.in_err-make_opening.ensures.stuck (ap (λ (x : SimError). Err x) (sym p.2 ∙ same_error _ _ (sym p.1 ∙ q))))
 
 pub returns-in_err-make_opening-clause-spent_waits : goal.returns-in_err-make_opening-clause-spent_waits
 returns-in_err-make_opening-clause-spent_waits g c q =
@@ -77,10 +77,10 @@ returns-in_err-make_opening-clause-cut_off g c q told =
     let p = err_from_is_err_and c.from_residual.result c.from_residual.ensures.1 in
     absurd (c.in_err-make_opening.ensures.spent (ap (λ (x : SimError). Err x) (sym p.2 ∙ same_error _ _ (sym p.1 ∙ q))))
 
-pub returns-in_err-make_opening-clause-turns : goal.returns-in_err-make_opening-clause-turns
-returns-in_err-make_opening-clause-turns g c q told =
+pub returns-in_err-make_opening-clause-deserted : goal.returns-in_err-make_opening-clause-deserted
+returns-in_err-make_opening-clause-deserted g c q told =
     let p = err_from_is_err_and c.from_residual.result c.from_residual.ensures.1 in
-    absurd (c.in_err-make_opening.ensures.turns (ap (λ (x : SimError). Err x) (sym p.2 ∙ same_error _ _ (sym p.1 ∙ q))))
+    absurd (c.in_err-make_opening.ensures.stuck (ap (λ (x : SimError). Err x) (sym p.2 ∙ same_error _ _ (sym p.1 ∙ q))))
 
 -- where the play failed
 pub returns-in_err-end-clause-faults : goal.returns-in_err-end-clause-faults
@@ -98,22 +98,24 @@ returns-in_err-end-clause-spent_waits g c q =
     let p = err_from_is_err_and c.from_residual-in_err-end.result c.from_residual-in_err-end.ensures.1 in
     (spent_play (plan_of c.args.plan.now) c.args.wanted.now c.play.new.world c.play.new.run _ (sym p.2 ∙ same_error _ _ (sym p.1 ∙ q)) c.in_err-end.ensures.play).waits
 
-pub returns-in_err-end-clause-waits : goal.returns-in_err-end-clause-waits
-returns-in_err-end-clause-waits g c q =
+pub returns-in_err-end-clause-stuck : goal.returns-in_err-end-clause-stuck
+returns-in_err-end-clause-stuck g c q =
     let p = err_from_is_err_and c.from_residual-in_err-end.result c.from_residual-in_err-end.ensures.1 in
-    waiting_play (plan_of c.args.plan.now) c.args.wanted.now c.play.new.world c.play.new.run _ (sym p.2 ∙ same_error _ _ (sym p.1 ∙ q)) c.in_err-end.ensures.play
+    stuck_play (plan_of c.args.plan.now) c.args.wanted.now c.play.new.world c.play.new.run _ (sym p.2 ∙ same_error _ _ (sym p.1 ∙ q)) c.in_err-end.ensures.play
 
-pub returns-in_err-end-clause-turns : goal.returns-in_err-end-clause-turns
-returns-in_err-end-clause-turns g c q told =
+pub returns-in_err-end-clause-deserted : goal.returns-in_err-end-clause-deserted
+returns-in_err-end-clause-deserted g c q told =
     let p = err_from_is_err_and c.from_residual-in_err-end.result c.from_residual-in_err-end.ensures.1 in
-    let d = opened_drawn _ _ (plan_of c.args.plan.now) c.args.wanted.now c.args.number c.args.world.now c.make_opening.new.world _ c.rest.result c.in_ok-make_opening.ensures.opened c.make_opening.ensures.stays c.new.ensures (c.rest.ensures.bound (not_starved _ c.in_ok-make_opening.ensures.opened.going)) c.new-2.ensures told in
-    exhausted_by _ _ (plan_of c.args.plan.now) c.args.wanted.now c.args.number c.args.world.now c.play.new.world c.play.new.run
-    (stays_both _ _ _ _ c.make_opening.ensures.stays c.play.ensures.stays) c.is_safe.ensures.events c.requires.opening.client (turns_play _ _ (plan_of c.args.plan.now) c.args.wanted.now c.args.number c.play.new.world c.play.new.run _ (sym p.2 ∙ same_error _ _ (sym p.1 ∙ q)) (c.in_err-end.ensures.drawn c.args.number d))
+    let d = opened_drawn _ _ (plan_of c.args.plan.now) c.args.wanted.now c.args.number c.args.world.now c.make_opening.new.world _ c.requires.opening (subst IsShape c.shape.ensures.setting c.sound.ensures) c.in_ok-make_opening.ensures.opened c.make_opening.ensures.stays c.new.ensures c.new-2.ensures told in
+    deserted_by _ _ (plan_of c.args.plan.now) c.args.wanted.now c.args.number c.args.world.now c.play.new.world c.play.new.run
+    (stays_both _ _ _ _ c.make_opening.ensures.stays c.play.ensures.stays) c.is_safe.ensures.events c.requires.opening.client
+    (stuck_play (plan_of c.args.plan.now) c.args.wanted.now c.play.new.world c.play.new.run _ (sym p.2 ∙ same_error _ _ (sym p.1 ∙ q)) c.in_err-end.ensures.play)
+    (cut_play _ _ (plan_of c.args.plan.now) c.args.wanted.now c.args.number c.play.new.world c.play.new.run _ (sym p.2 ∙ same_error _ _ (sym p.1 ∙ q)) (c.in_err-end.ensures.drawn c.args.number d))
 
 pub returns-in_err-end-clause-cut_off : goal.returns-in_err-end-clause-cut_off
 returns-in_err-end-clause-cut_off g c q told =
     let p = err_from_is_err_and c.from_residual-in_err-end.result c.from_residual-in_err-end.ensures.1 in
-    let d = opened_drawn _ _ (plan_of c.args.plan.now) c.args.wanted.now c.args.number c.args.world.now c.make_opening.new.world _ c.rest.result c.in_ok-make_opening.ensures.opened c.make_opening.ensures.stays c.new.ensures (c.rest.ensures.bound (not_starved _ c.in_ok-make_opening.ensures.opened.going)) c.new-2.ensures told in
+    let d = opened_drawn _ _ (plan_of c.args.plan.now) c.args.wanted.now c.args.number c.args.world.now c.make_opening.new.world _ c.requires.opening (subst IsShape c.shape.ensures.setting c.sound.ensures) c.in_ok-make_opening.ensures.opened c.make_opening.ensures.stays c.new.ensures c.new-2.ensures told in
     unfinished_by _ _ (plan_of c.args.plan.now) c.args.wanted.now _ c.is_safe.ensures.events
     (unfinished_play _ _ (plan_of c.args.plan.now) c.args.wanted.now c.args.number c.args.world.now c.play.new.world c.play.new.run c.in_err-end.field-0.0 (stays_both _ _ _ _ c.make_opening.ensures.stays c.play.ensures.stays)
     (sym p.2 ∙ same_error _ _ (sym p.1 ∙ q)) (c.in_err-end.ensures.drawn c.args.number d))
@@ -123,7 +125,7 @@ returns-clause-going g c = c.in_ok-end.ensures.play.between.going
 
 pub returns-clause-made : goal.returns-clause-made
 returns-clause-made g c told =
-    let d = opened_drawn _ _ (plan_of c.args.plan.now) c.args.wanted.now c.args.number c.args.world.now c.make_opening.new.world _ c.rest.result c.in_ok-make_opening.ensures.opened c.make_opening.ensures.stays c.new.ensures (c.rest.ensures.bound (not_starved _ c.in_ok-make_opening.ensures.opened.going)) c.new-2.ensures told in
+    let d = opened_drawn _ _ (plan_of c.args.plan.now) c.args.wanted.now c.args.number c.args.world.now c.make_opening.new.world _ c.requires.opening (subst IsShape c.shape.ensures.setting c.sound.ensures) c.in_ok-make_opening.ensures.opened c.make_opening.ensures.stays c.new.ensures c.new-2.ensures told in
     let h = (c.in_ok-end.ensures.drawn c.args.number d).drawn.course in
     record { events = _; made = h.all.made }
 

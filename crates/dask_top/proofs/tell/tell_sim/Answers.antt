@@ -4,6 +4,3 @@ use Rattle.dask_top.proofs.tell.tell_sim.Goals as goal
 
 pub returns-in-Events-clause-notes : goal.returns-in-Events-clause-notes
 returns-in-Events-clause-notes g c = c.tell_text.ensures.notes (Some (Ok (plan_of c.args.job.now)))
-
-pub returns-in-Turns-clause-notes : goal.returns-in-Turns-clause-notes
-returns-in-Turns-clause-notes g c = c.tell_text-in-Turns.ensures.notes (Some (Ok (plan_of c.args.job.now)))

@@ -1,4 +1,4 @@
-use Rattle.std.proofs.Common.{◌≡◌, ℕ, ap, arith, subst, ◌∙◌}
+use Rattle.std.proofs.Common.{◌≡◌, ℕ, ◌≤◌, ap, sym, arith, subst, ◌∙◌}
 use Rattle.std.proofs.lemmas.Result.{IfErr-weaker}
 use Rattle.io_edge.specs.Cause.{Rose, TakesFaults}
 use Rattle.io_edge.specs.View.{View}
@@ -32,7 +32,14 @@ pub simulate_world-served-requires-clause-opening : goal.simulate_world-served-r
 simulate_world-served-requires-clause-opening g c κs within =
     let tasks = c.in_ok-graph.graph.job.tasks in
     let e = setting_is c.in_ok-world.world (setting_of (shape_of tasks) 1 c.args.words.settings.saturation) (operation g.E.Elements.named tasks) c.in_ok-world.ensures.opening in
-    record { going = c.in_ok-world.ensures.ready.going; made = c.in_ok-world.ensures.made; client = omega (arith, ap (λ (x : Setting). x.clients) e) }
+    let one = ap (λ (x : Setting). x.clients) e in
+    record {
+      going = c.in_ok-world.ensures.ready.going;
+      made = c.in_ok-world.ensures.made;
+      client = omega (arith, one);
+      few = omega (arith, one);
+      saturation = subst (λ n. (1 ≤ n) × (n ≤ 1000)) (sym (ap (λ (x : Setting). x.saturation) e)) c.requires.words.saturation;
+    }
 
 -- the store was given back
 given-back : (g : Over) (c : After-give_store g) → IsGivenBack (plan_of c.args.job.now) (g.S.In.Store.count c.in_ok-world.world.feed) (g.S.In.Store.count c.simulate_world-served.new.world.feed) (g.S.Site.view c.args.site.now)

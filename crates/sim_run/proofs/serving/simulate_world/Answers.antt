@@ -13,7 +13,7 @@ use Rattle.cluster_rules.specs.World.{Job}
 use Rattle.cluster_laws.specs.Blocks.{job_of}
 use Rattle.cluster_world.specs.Worlds.{setting, world}
 use Rattle.cluster_sim.specs.Drawn.{word_of}
-use Rattle.cluster_sim.specs.Simulations.{IsExhausted, IsReported, IsUnfinished}
+use Rattle.cluster_sim.specs.Simulations.{IsReported, IsUnfinished}
 use Rattle.cluster_sim.specs.declared.whole.SimEnd.{SimEnd}
 use Rattle.job_run.specs.Evaluating.{HasLaws}
 use Rattle.job_run.specs.Jobs.{plan_of}
@@ -50,8 +50,7 @@ returns-in-Err-clause-stopped g c =
     let same = job-is p s named (setting old) op c.requires.setting (ap (operation named) c.requires.tasks) in
     let wanted = c.args.wanted.now.all in
     let E : SimEnded → Type 0 = Stops p s named told reads writes in
-    let stops : E (ended_of c.in-Err.error) = stops-by p s named told reads writes (world new) c.in-Err.error
-    (λ e t. of-plan p s named job wanted (λ (j : Job) ks. IsExhausted j (word_of s.settings.number) (sim_plan s) ks (world new)) same c.requires.wanted.all_is (c.in-Err.ensures.turns (ap Err e) t))
+    let stops : E (ended_of c.in-Err.error) = stops-by p s named told reads writes c.in-Err.error
     (λ e t. of-plan p s named job wanted (λ (j : Job) ks. IsUnfinished j (word_of s.settings.number) (sim_plan s) ks event_limit) same c.requires.wanted.all_is (c.in-Err.ensures.cut_off (ap Err e) t))
     (λ e. feed-rose SimEnd c.in-Err.error (g.S.In.Store.count old.feed) (g.S.In.Store.count new.feed) c.in-Err.ensures.faults e) in
     part-bare p s named told reads writes files c.ended.result (subst E (sym c.ended.ensures) stops)

@@ -1,0 +1,5 @@
+pub mod Old
+pub mod Events
+pub mod Copies
+pub mod Calm
+pub mod Quiet
