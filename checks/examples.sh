@@ -24,7 +24,7 @@ per_mille (40, 18)
 quota (52, 30)
 transpose (4, 6)'
 # by what each command says that a job is finished
-declare -A ends=([run]=cluster [plain]=plain)
+declare -A ends=([run]=$'cluster\naudit: agrees' [plain]=plain)
 while read -r name shape; do
   for command in run plain; do
     rm -f "examples/$name/saved.npy"
@@ -87,7 +87,7 @@ if /usr/bin/python3 -c 'import numpy' 2>/dev/null; then
     # shellcheck disable=SC2086
     lines=$(cd "$folder" && "$root/dask" $command examples/large/job.txt $options 2>&1)
     check "status of $command large $options" "$?" 0
-    check "lines of $command large $options" "$(sed -n '1p;$p' <<< "$lines")" "saved examples/large/saved.npy (180,)
+    check "lines of $command large $options" "$(sed -n '1p;/^finished by: /p' <<< "$lines")" "saved examples/large/saved.npy (180,)
 finished by: $ended"
     check "file of $command large $options" "$(cmp "$folder/examples/large/saved.npy" "$folder/examples/large/expected.npy" && echo same)" same
     check "what $command large $options leaves" "$(ls -A "$folder" "$folder/examples/large" | grep -c '^\.dask')" 0

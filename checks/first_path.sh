@@ -8,7 +8,8 @@ rm -f examples/first/raised.npy
 lines=$(./dask run examples/first/job.txt)
 check 'status' "$?" 0
 check 'lines' "$lines" 'saved examples/first/raised.npy (3,)
-finished by: cluster'
+finished by: cluster
+audit: agrees'
 check 'file' "$(cmp examples/first/raised.npy examples/first/expected.npy && echo same)" same
 if /usr/bin/python3 -c 'import numpy' 2>/dev/null; then
   check 'as NumPy reads it' "$(/usr/bin/python3 -c 'import numpy; print(numpy.load("examples/first/raised.npy"))')" '[2 3 4]'
@@ -25,7 +26,8 @@ cp examples/first/counts.npy "$folder/a.npy"
 lines=$(cd "$folder" && "$root/dask" run job.txt)
 check 'status in another folder' "$?" 0
 check 'lines in another folder' "$lines" 'saved b.npy (3,)
-finished by: cluster'
+finished by: cluster
+audit: agrees'
 check 'data in another folder' "$(tail -c 24 "$folder/b.npy" | od -An -v -t d8 | tr -s ' \n' ' ')" ' 41 42 43 '
 
 # each refusal has its status and its line

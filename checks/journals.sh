@@ -20,6 +20,12 @@ check 'status of 40 replays' "$?" 0
 check 'count of 40 replays' "$(grep -c ': agrees$' "$folder/lines")" 40
 [ "$failed" = 0 ] || cat "$folder/lines"
 
+# of a journal that the program spoils before, its audit says the very stamp at which the model differs first
+python3 tools/journal_model.py --program "$driver" --runs 60 --seed 2 --leaves 40 --spoiled --jobs "$(nproc)" > "$folder/lines"
+check 'status of 60 replays of spoiled journals' "$?" 0
+check 'count of 60 replays of spoiled journals' "$(grep -c ': agrees$' "$folder/lines")" 60
+[ "$failed" = 0 ] || cat "$folder/lines"
+
 # a journal with an entry left out, raised, twice or in another place is refused, but where nothing rests on it
 python3 tools/journal_model.py --program "$driver" --spoil 80 <<< 'sum 6 2 1 1 lose:1@3' > "$folder/spoiled"
 check 'status of a replay whose entries are then spoiled' "$?" 0

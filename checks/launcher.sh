@@ -111,7 +111,8 @@ tar cf - --exclude=out --exclude=specs --exclude=proofs --exclude=.checked dask 
 first() { (cd "$folder" && PATH="$folder/bin:$PATH" clone/dask run clone/job.txt 2>&1); }
 sed 's,examples/first/,clone/examples/first/,' examples/first/job.txt > "$folder/clone/job.txt"
 wanted='saved clone/examples/first/raised.npy (3,)
-finished by: cluster'
+finished by: cluster
+audit: agrees'
 source=$folder/clone/crates/dask_prog/src/main.rt
 check 'the program of a new clone' "$(first)" "$wanted"
 check 'which program that is' "$(head -1 "$folder/clone/release/.checked")" release/dask

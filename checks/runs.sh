@@ -1,7 +1,7 @@
 #!/usr/bin/env bash
-# Random jobs by a cluster of threads, with random workers, threads, memory and scripts, and one job of 280 keys whose workers are
-# lost, suspected and join: the bytes are those of the evaluation in the calling thread. DASK names another program than the one of
-# these sources.
+# Random jobs by a cluster of threads, with random workers, threads, memory and scripts, one job of 280 keys whose workers are
+# lost, suspected and join, and one with little memory: the bytes are those of the evaluation in the calling thread, and each
+# audit agrees. DASK names another program than the one of these sources.
 cd "$(dirname "$0")/.." || exit 1
 about='runs'
 . tools/checking.bash
@@ -39,7 +39,25 @@ for options in '' '--script lose:1@40' '--script suspect:2@40,join@80' '--script
     check "status of run $options" "$?" 0
     check "keys of run $options" "$(head -2 lines | tail -1)" 'keys 280'
     check "bytes of run $options" "$(cmp s.npy wanted.npy && echo equal)" equal
+    check "audit of run $options" "$(tail -1 lines)" 'audit: agrees'
   done
 done
+
+# a worker is lost after three finishes and another one joins after four, of 18 keys
+sed -i 's/(128, 128)/(512, 512)/' job.txt
+"$program" run job.txt --workers 2 --script lose:1@3,join@4 --report > lines
+check 'status of a run with a loss and a join' "$?" 0
+check 'bytes of a run with a loss and a join' "$(cmp s.npy wanted.npy && echo equal)" equal
+check 'keys, losses and audit of a run with a loss and a join' "$(grep -E '^(keys|losses|audit)' lines | paste -sd ,)" 'keys 18,losses 1,audit: agrees'
+check 'whether worker 3 has a line' "$(grep -c '^worker 3 started ' lines)" 1
+
+# blocks of 2 MiB, of which 64 MiB may stay in memory: sums whose values are known
+sed -i 's/(1024, 1024), 0, 1/(4096, 4096), 0, 1/' job.txt
+"$program" run job.txt --memory 67108864 --report > lines
+check 'status of a run with little memory' "$?" 0
+check 'keys and audit of a run with little memory' "$(grep -E '^(keys|audit)' lines | paste -sd ,)" 'keys 280,audit: agrees'
+check 'bytes in its file' "$(stat -c %s s.npy)" 32896
+check 'the first two sums and the last one' "$(tail -c 32768 s.npy | od -An -v -t d8 -w8 | sed -n '1p;2p;$p' | tr -d ' ' | paste -sd ' ')" \
+  '34359736320 34376517632 103079208960'
 
 summary

@@ -8,13 +8,16 @@ Build the program first, by `rt run < /dev/null` in crates/runner_table. Then
     tools/journal_model.py --runs N           replays N lines by chance
 
 with `--seed N`, `--leaves N` (at most so many), `--jobs N`, `--program FILE`, `--keep FOLDER` for what differed, `--slow` for the model as it stands,
-which keeps nothing that it derives, and `--spoil N`, which spoils each journal that agrees so often, each time at one entry by chance, and counts how
-many of these differ then.
+which keeps nothing that it derives, `--spoiled` for lines by chance of which the program spoils the journal, and `--spoil N`, which spoils here each journal
+that agrees so often, each time at one entry by chance, and counts how many of these differ then.
 
 Of each line it says `agrees`, or at which stamp it differs and why. An entry agrees where its stamp is above the last, its event is enabled in the
 world that the entries before it lead to, from the opening world on, its message is the one that is first under way there, and no other event of the
 scheduler was due: joins of the plan, Evict after each 64 entries, Balance after each 16, items of the script. In the end the counts of the report, the
-blocks or the key to blame, and the workers that left are held against that world too.
+blocks or the key to blame, and the workers that left are held against that world too, and the audit that the program prints has to agree.
+
+Of a line with `leave:N`, `mute:N` or `late:N` the program spoils the journal before it prints it. The printed audit is then held against the first stamp
+at which an event isn't enabled here or its message isn't the one under way, if there is one, and nothing else is asked.
 """
 import argparse
 import collections
@@ -87,6 +90,7 @@ class Line:
         kind, *numbers = text.split()[:5]
         self.workers, self.threads, self.capacity = map(int, numbers[1:])
         self.saturation, self.wanted, self.script, zero, times = 11, [], [], None, 1
+        self.spoiled = False
         # a worker without feeds, one whose feeds fail, and one whose feeds find no memory; 0 is none
         self.faulty = {"short": 0, "fail": 0, "hungry": 0}
         for word in text.split()[5:]:
@@ -101,6 +105,8 @@ class Line:
                 times = int(rest)
             elif name in self.faulty:
                 self.faulty[name] = int(rest)
+            elif name in ("leave", "mute", "late"):
+                self.spoiled = True
             elif name not in ("journal", "meet", "slow"):
                 self.script.append(self.item(word))
         self.job = Job(kind, int(numbers[0]), zero, times)
@@ -122,11 +128,13 @@ class Printed:
         rows = text.split("\n")
         if rows.pop(0) != line or rows.pop() != "":
             raise Differs("the text isn't whole")
-        self.ends, self.left, self.entries, self.report = [], {}, [], []
+        self.ends, self.left, self.entries, self.report, self.audit = [], {}, [], [], None
         for row in rows:
             words = row.split()
             if words[0].isdigit():
                 self.entries.append(row)
+            elif words[0] == "audit:":
+                self.audit = row
             elif self.entries:
                 self.report.append(row)
             elif row.endswith(" tasks at once: true"):
@@ -163,6 +171,9 @@ class Replay:
         self.let_go = set()
 
     def play(self):
+        if self.line.spoiled:
+            self.hold("the audit", self.printed.audit, self.first_wrong())
+            return
         for entry in self.printed.entries:
             stamp, _, rest = entry.partition(" ")
             try:
@@ -170,23 +181,45 @@ class Replay:
             except Differs as why:
                 raise Differs(f"stamp {stamp}: {why}: `{rest}`") from None
         self.hold("the report", self.printed.report, self.report())
+        self.hold("the audit", self.printed.audit, "audit: agrees")
         self.ends()
         self.lefts()
+
+    def first_wrong(self):
+        """What the audit is to say: whether each event is enabled and takes the message that was kept, whatever the stamps and the order of turns."""
+        for entry in self.printed.entries:
+            stamp, _, rest = entry.partition(" ")
+            try:
+                self.step(*self.read(rest))
+            # there is no worker of a number that never joined
+            except (Differs, KeyError, IndexError):
+                return f"audit: differs at {stamp}"
+        return "audit: agrees"
 
     def take(self, stamp, text):
         if stamp <= self.last:
             raise Differs(f"the stamp isn't above {self.last}")
         self.last = stamp
-        front, bar, message = text.partition(" | ")
-        event = read_event(front.split())
-        self.hold("the event as it is read", front, event_text(event))
+        event, message = self.read(text)
         if not self.world.enabled(event):
             raise Differs("the event isn't enabled")
         self.in_time(event)
         if event[0] == "release":
             self.release(*event[1:])
+        self.step(event, message)
+
+    def read(self, text):
+        """The event of an entry, and the text of its message, if it has one."""
+        front, bar, message = text.partition(" | ")
+        event = read_event(front.split())
+        self.hold("the event as it is read", front, event_text(event))
+        return event, message if bar else None
+
+    def step(self, event, message):
+        if not self.world.enabled(event):
+            raise Differs("the event isn't enabled")
         first = self.world.message(event)
-        self.hold("the message", message if bar else None, first and f"{KINDS[event[0]]} {message_text(first)}")
+        self.hold("the message", message, first and f"{KINDS[event[0]]} {message_text(first)}")
         try:
             self.world.step(event)
         except Refused:
@@ -429,6 +462,10 @@ def line_by_chance(pick, most):
     return " ".join([kind, str(leaves), str(workers), str(threads), str(capacity), *words, "journal"])
 
 
+def spoil_by_chance(pick):
+    return f" {pick.choice(['leave', 'mute', 'late'])}:{pick.randrange(1000)}"
+
+
 # The command.
 
 
@@ -442,13 +479,14 @@ def arguments():
     parser.add_argument("--keep")
     parser.add_argument("--spoil", type=int, default=0)
     parser.add_argument("--slow", action="store_true")
+    parser.add_argument("--spoiled", action="store_true")
     return parser.parse_args()
 
 
 def lines_of(asked):
     if asked.runs:
         pick = random.Random(asked.seed)
-        return [line_by_chance(pick, asked.leaves) for _ in range(asked.runs)]
+        return [line_by_chance(pick, asked.leaves) + (spoil_by_chance(pick) if asked.spoiled else "") for _ in range(asked.runs)]
     lines = [line for line in sys.stdin.read().split("\n") if line]
     return [line if "journal" in line.split() else line + " journal" for line in lines]
 

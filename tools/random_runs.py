@@ -5,9 +5,9 @@
 
 Each job is evaluated by `plain`, and run by `run` with random workers, threads, saturation and a script of losses, suspicions
 and joins, about half of them with so little memory that workers put blocks on disk. Status, lines but the last, and saved bytes
-have to be equal. Where a divisor is 0, another block may be named, and of the saved files, each of which is there once it is whole,
-others may be there. A run that takes a minute counts as one that hangs. It prints a line for each difference, and the numbers of
-runs that are equal, that differ, that divide by 0, and that had little memory.
+have to be equal, and the audit of each run agrees. Where a divisor is 0, another block may be named, and of the saved files, each of
+which is there once it is whole, others may be there. A run that takes a minute counts as one that hangs. It prints a line for each
+difference, and the numbers of runs that are equal, that differ, that divide by 0, and that had little memory.
 """
 import concurrent.futures
 import os
@@ -61,7 +61,11 @@ def answer(program, folder, command):
             with open(os.path.join(folder, name), 'rb') as it:
                 files[name] = it.read()
             os.remove(os.path.join(folder, name))
-    return done.returncode, done.stdout.splitlines()[:-1], done.stderr, files
+    lines = done.stdout.splitlines()
+    # the last line tells by whom the job was finished, and after a run how its audit ended
+    if command[0] == 'run' and lines and lines.pop() != 'audit: agrees':
+        lines += ['the audit does not agree', '']
+    return done.returncode, lines[:-1], done.stderr, files
 
 
 def is_equal(plain, run):

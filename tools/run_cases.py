@@ -4,7 +4,7 @@ What a line wants is the same whatever the threads do. site_table.py writes the 
 """
 import numpy as np
 
-from site_lines import (ARRAYS, INPUT, ONE_CELL, PAIR, PAIR_SAVES, STOPPED, SUM, UNPRINTED, UNWRITTEN, fail, fail_any, job, lines_of, often,
+from site_lines import (ARRAYS, INPUT, ONE_CELL, PAIR, PAIR_SAVES, STOPPED, SUM, UNPRINTED, UNWRITTEN, X_AND_D, fail, fail_any, job, lines_of, often,
                         partly, refusal, saved, say, text, title, told)
 
 RAISED = INPUT['a'] + 'let b = a + 1|save b "o.npy"|'
@@ -272,6 +272,7 @@ def faults():
     counts()
     losses()
     disks()
+    each_in_turn()
 
 
 def objects(lines):
@@ -369,3 +370,52 @@ def disks():
     say(f'top o.npy {run_of(ALONE)} --memory 1', 'top:' + done)
     say('putany 1', 'putany: asked 1 put false')
     say('spilled', 'spilled: faults 1')
+
+
+def every(kind, place='', first=0):
+    """Every such call from this one on, over all objects or at one."""
+    return ' '.join(f'{kind}:{call}{place}' for call in range(first, 64))
+
+
+def each_in_turn():
+    """One addition, of which each outside call fails by itself, or all of a kind do: what ends the run, and what ends a worker or its disk alone."""
+    job(RAISED)
+    held = text(saved(RAISED_SAVE[1]))
+    lines = lines_of('run', RAISED_SAVE)
+    first, last = lines.split('finished')
+    reported = f'{first}{report_of(4, 2)}finished{last}'
+    title('each outside call of one addition: every read from the third on, which is the first of the head, and every read of the stores of worker 1')
+    for command in (f'run job.txt {ALONE} --report', 'run job.txt'):
+        say(f'site 4096 0 {every("read", first=2)}')
+        say(f'top o.npy {command}', 'top:' + refusal(5, 'read fault'))
+    # the job and the input's head have a store each, then each thread of worker 1; whether it comes to a read is up to the threads
+    for threads in (1, 3):
+        say('site 4096 0 ' + ' '.join(every('read', f'@{2 + thread}') for thread in range(threads)))
+        say(f'saved o.npy run job.txt --workers 2 --threads {threads}', f'saved: 0 o.npy {held}')
+    title('any one creation, write and print of one addition')
+    done, told_all = (0, lines, '', '0 0 0 0', 'whole'), (0, reported, '', '0 0 0 0', 'whole')
+    for most in (0, 16):
+        say(f'site 4096 {most}')
+        for command, end in ((run_of(ALONE), done), (f'run job.txt {ALONE} --report', told_all)):
+            fail('create', 'o.npy', command, (*UNWRITTEN, 'none'), end, count=1)
+            fail_any('write', 'o.npy', command, (*UNWRITTEN, 'in part'), end)
+            fronts = [(6, end[1][:k], 'dask: write fault|', '0 0 1 0', 'whole') for k in range(0, len(end[1]) if most else 1, most or 1)]
+            fail('out', 'o.npy', command, *fronts, end)
+    title("a worker's disk of one addition: it isn't opened, no put, no get")
+    for calls in ('spill:0', every('put')):
+        say(f'site 4096 0 {calls}')
+        say(f'top o.npy run job.txt {ALONE} --report --memory 1', 'top:' + told(0, reported, '', '0 0 0 0', 'o.npy', held))
+    # what isn't had back is made again, so how often a key is started isn't told
+    say(f'site 4096 0 {every("get")}')
+    say(f'top o.npy run job.txt {ALONE} --memory 1', 'top:' + told(0, lines, '', '0 0 0 0', 'o.npy', held))
+    title('standard error, where the block of the only element that is asked for meets a zero divisor at another one')
+    job(X_AND_D + 'let q = (x // d)[0:1]|save q "o.npy"|')
+    line = 'dask: zero division: node 2 block (0)|'
+    for command in ('run job.txt', run_of(ALONE)):
+        say('site 4096 0')
+        fail('err', 'none.npy', command, (4, '', '', '0 0 0 1', 'none'), (4, '', line, '0 0 0 0', 'none'))
+        say('site 4096 10')
+        fronts = [(4, '', line[:k], '0 0 0 1', 'none') for k in range(0, len(line), 10)]
+        fail('err', 'none.npy', command, *fronts, (4, '', line, '0 0 0 0', 'none'))
+        say('site 4096 0 err:0')
+        partly(4, 'o.npy', np.zeros(1), command)

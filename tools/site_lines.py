@@ -70,8 +70,8 @@ def saved_lines(*saves):
     return ''.join(f'saved {name} {shape_text(array)}|' for name, array in saves)
 
 
-# by what each command finishes a job
-ENDS = {'plain': 'plain', 'run': 'cluster'}
+# by what each command finishes a job, and what else it says then
+ENDS = {'plain': 'plain', 'run': 'cluster|audit: agrees'}
 
 
 def lines_of(command, *saves):

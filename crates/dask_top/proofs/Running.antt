@@ -1,7 +1,6 @@
 -- A run of a job by a cluster of threads, whose text was read before it and whose end was told after it.
 use Rattle.std.proofs.Common.{◌≡◌, ℕ, ◌≤◌, List, ◌++◌, refl, ap, sym, ◌∙◌, subst, inl, inr, arith, Option, None, Some, Ok}
-use Rattle.std.specs.Prelude.{IfSome, IsTrue, map}
-use Rattle.cluster_msgs.specs.declared.events.Report.{Report}
+use Rattle.std.specs.Prelude.{IsTrue, map}
 use Rattle.io_edge.specs.Content.{followed_by}
 use Rattle.io_edge.proofs.GivenLaws.{given_before, given_later, more_same, more_then}
 use Rattle.io_edge.specs.View.{View, Files, Opens, OnlyReads, OnlyErr, raised_by, times}
@@ -16,6 +15,7 @@ use Rattle.job_run.proofs.Counting.{times-append}
 use Rattle.thread_run.specs.Counts.{RaisedBetween, feeds, repeated}
 use Rattle.thread_run.specs.Ends.{Cause, HasValues, Saves, Opened, Looked, Prints, PrintsRun, RunsByThreads, WritesFail, lines_of, openings}
 use Rattle.thread_run.specs.Reports.{IsToldRun}
+use Rattle.thread_run.specs.declared.verdict.Told.{Told as ToldOfRun}
 use Rattle.dask_top.specs.declared.answer.End.{End}
 use Rattle.dask_top.specs.Answers.{Performs}
 use Rattle.dask_top.specs.Commands.{Running}
@@ -41,9 +41,8 @@ cause_told p old mid new RunEnds.WriteFault only cause = rw (only.write_faults, 
 cause_told p old mid new RunEnds.OutOfMemory only cause = tt
 
 -- what is told of a run over files is told of it over files that hold the same
-told_first : (p : Plan) (said : RunWords) (old mid : Files) → mid.held ≡ old.held → mid.tells ≡ old.tells → (told : Option Report) → IfSome told (IsToldRun p said mid) → IfSome told (IsToldRun p said old)
-told_first p said old mid held tells None t = tt
-told_first p said old mid held tells (Some report) t = record { named = t.named; told = t.told; told_is = rw (← held, ← tells) t.told_is; held = rw (← held) t.held; run = t.run }
+told_first : (p : Plan) (said : RunWords) (old mid : Files) → mid.held ≡ old.held → mid.tells ≡ old.tells → (told : ToldOfRun) → IsToldRun p said mid told → IsToldRun p said old told
+told_first p said old mid held tells told t = record { named = t.named; told = t.told; told_is = rw (← held, ← tells) t.told_is; held = rw (← held) t.held; run = t.run }
 
 -- lines of a run whose files hold the same, printed otherwise
 over_run : (p : Plan) (said : RunWords) (old mid : Files) → mid.held ≡ old.held → mid.tells ≡ old.tells → (P Q : List ℕ → Type 0) → ((lines : List ℕ) → P lines → Q lines) → PrintsRun p said mid P

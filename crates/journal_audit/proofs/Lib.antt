@@ -1,1 +1,4 @@
-mod MergeLemmas
+mod AuditLemmas
+pub mod ClientLemmas
+pub mod ListLemmas
+pub mod MergeLemmas

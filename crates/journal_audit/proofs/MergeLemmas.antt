@@ -1,15 +1,17 @@
 -- Merges of lists by a number of their members.
-use Rattle.std.proofs.Common.{◌≡◌, ℕ, ◌≤◌, Bool, true, false, not, ◌&&◌, cond, eqb, List, [], ◌∷◌, length, filter, map, None, refl, sym, ap, ap₂, subst, ◌∙◌, arith, tests}
+use Rattle.std.proofs.Common.{◌≡◌, ℕ, ◌≤◌, Bool, true, false, not, ◌&&◌, cond, eqb, List, [], ◌∷◌, ◌++◌, length, filter, map, None, refl, sym, ap, ap₂, subst, ◌∙◌, arith, tests}
 use Rattle.std.specs.List.{All, flat_map}
 use Rattle.std.specs.List.Sorted.{IsNonDecreasingBy, IsStableByKey, ties}
 use Rattle.std.specs.Ordering.{is_lt, nat_cmp}
 use Rattle.std.proofs.lemmas.Bool.{eq-eqb}
-use Rattle.std.proofs.lemmas.List.Elements.{All-filter, All-head, filter_agree}
+use Rattle.std.proofs.lemmas.List.Elements.{All-filter, All-head, filter_agree, filter-append}
+use Rattle.std.proofs.lemmas.List.Kept.{IsNonDecreasingBy-filter}
 use Rattle.std.proofs.lemmas.List.Folds.{flat_map-map}
 use Rattle.std.proofs.lemmas.List.Sorted.{IsNonDecreasingBy-drop}
 use Rattle.cluster_msgs.specs.declared.events.Entry.{Entry}
 use Rattle.cluster_msgs.specs.declared.events.Event.TheVariants.{Balance}
 use Rattle.cluster_msgs.specs.declared.events.History.{History}
+use Rattle.journal_audit.specs.Clients.{is_own, own_entries}
 use Rattle.journal_audit.specs.Merges.{with_stamp, IsMerge}
 
 -- numbers that tie are equal
@@ -70,3 +72,31 @@ module _ {X : Type 0} (n : X → ℕ) where
 
 pub one-merge : (lists : List (List Entry)) (xs ys : List Entry) → IsMerge lists xs → IsMerge lists ys → xs ≡ ys
 one-merge lists xs ys a b = same-each (λ e. e.stamp) xs ys a.rising b.rising (λ s. a.each s ∙ sym (b.each s))
+
+-- ## What passes a test
+
+module _ (p : Entry → Bool) where
+  -- two tests one after the other, in either order
+  both-ways : (s : ℕ) (xs : List Entry) → with_stamp s (filter p xs) ≡ filter p (with_stamp s xs)
+  both-ways s [] = refl
+  both-ways s (x ∷ xs) = pick (p x) refl (eqb x.stamp s) refl (both-ways s xs)
+    where
+      pick : (b : Bool) → p x ≡ b → (c : Bool) → eqb x.stamp s ≡ c → with_stamp s (filter p xs) ≡ filter p (with_stamp s xs)
+          → with_stamp s (cond b (x ∷ filter p xs) (filter p xs)) ≡ filter p (cond c (x ∷ with_stamp s xs) (with_stamp s xs))
+      pick true i true e r = ap (λ c. cond c (x ∷ with_stamp s (filter p xs)) (with_stamp s (filter p xs))) e ∙ ap (λ ys. x ∷ ys) r ∙ ap (λ b. cond b (x ∷ filter p (with_stamp s xs)) (filter p (with_stamp s xs))) (sym i)
+      pick true i false e r = ap (λ c. cond c (x ∷ with_stamp s (filter p xs)) (with_stamp s (filter p xs))) e ∙ r
+      pick false i true e r = r ∙ ap (λ b. cond b (x ∷ filter p (with_stamp s xs)) (filter p (with_stamp s xs))) (sym i)
+      pick false i false e r = r
+
+  passes_each : (lists : List (List Entry)) → filter p (flat_map (λ es. es) lists) ≡ flat_map (filter p) lists
+  passes_each [] = refl
+  passes_each (xs ∷ xss) = filter-append p xs (flat_map (λ es. es) xss) ∙ ap (λ ys. filter p xs ++ ys) (passes_each xss)
+
+  -- of a merge it passes what it passes of the lists, where that rises
+  pub part_of_merge : (lists : List (List Entry)) (all part : List Entry) → IsMerge lists all → flat_map (filter p) lists ≡ part → IsNonDecreasingBy (λ e. e.stamp) part → filter p all ≡ part
+  part_of_merge lists all part m is up = same-each (λ e. e.stamp) (filter p all) part (IsNonDecreasingBy-filter (λ e. e.stamp) p all m.rising) up
+      (λ s. both-ways s all ∙ ap (filter p) (m.each s) ∙ sym (both-ways s (flat_map (λ es. es) lists)) ∙ ap (with_stamp s) (passes_each lists ∙ is))
+
+-- the entries of a client's own
+pub own_of_merge : (lists : List (List Entry)) (es own : List Entry) (c : ℕ) → IsMerge lists es → flat_map (own_entries c) lists ≡ own → IsNonDecreasingBy (λ e. e.stamp) own → own_entries c es ≡ own
+own_of_merge lists es own c m is up = part_of_merge (λ e. is_own c e.event) lists es own m is up

@@ -1,2 +1,6 @@
+pub mod Audits
+pub mod Clients
 pub mod Merges
+pub mod Replays
 pub mod Reports
+pub mod Shapes

@@ -1,16 +1,17 @@
 //! The program `journal_table`: merges the histories that lines tell of, and prints the journals and their reports.
 //!
 //! It stands on `journal_audit` and the crates of its types, and nothing stands above it. It carries no promise of its own. A
-//! line is `merge HISTORIES`, which prints the entries of the journal and their number, or `report HISTORIES`, which prints
-//! the journal's report for a graph of three keys. `HISTORIES` is `none` or histories with `|` between two. A history is words
+//! line is `merge HISTORIES`, which prints the entries of the journal and their number, `report HISTORIES`, which prints
+//! the journal's report for a graph of three keys, or `audit HISTORIES`, which prints what the audit says of the journal over
+//! this graph, with one client. `HISTORIES` is `none` or histories with `|` between two. A history is words
 //! with blanks between them, each an entry: `STAMP:KIND:NUMBER`, or `!STAMP:KIND:NUMBER` for the one that found no room.
 #![tactic(auto)]
 
 mod printed;
 mod told;
 
-use cluster_msgs::{GraphRow, GraphShape, KeyList};
-use journal_audit::{merge, report};
+use cluster_msgs::{GraphRow, GraphShape, KeyList, Report};
+use journal_audit::{Audit, ShapeJob, audit, merge, report};
 use run_report::push_report;
 use std::alloc::{AllocError, Global};
 use std::io;
@@ -51,9 +52,28 @@ fn print_report<R: Print>(rt: &R, alloc: Global, case: &str) -> io::Result<()> {
     };
     let journal = merge(alloc, told::histories(alloc, case)?)?;
     let made = report(alloc, &shape, &journal)?;
+    print_made(rt, alloc, &made)
+}
+
+fn print_made<R: Print>(rt: &R, alloc: Global, made: &Report) -> io::Result<()> {
     let mut text = String::new(alloc);
-    push_report(alloc, &mut text, &made)?;
+    push_report(alloc, &mut text, made)?;
     print!(rt; "{text}")
+}
+
+fn print_audit<R: Print>(rt: &R, alloc: Global, case: &str) -> io::Result<()> {
+    let Ok(shape) = GraphShape::from_rows(alloc, rows(alloc)?) else {
+        return println!(rt; "no graph");
+    };
+    let journal = merge(alloc, told::histories(alloc, case)?)?;
+    match audit(alloc, ShapeJob::new(shape), (), 1, 11, &journal) {
+        Ok(Audit::Agrees(made)) => {
+            println!(rt; "agrees")?;
+            print_made(rt, alloc, &made)
+        }
+        Ok(Audit::Differs { stamp }) => println!(rt; "differs at {stamp}"),
+        Err(_) => println!(rt; "no memory"),
+    }
 }
 
 fn play<R: Print>(rt: &R, alloc: Global, line: &str) -> io::Result<()> {
@@ -62,6 +82,7 @@ fn play<R: Print>(rt: &R, alloc: Global, line: &str) -> io::Result<()> {
     match word {
         "merge" => print_merged(rt, alloc, case),
         "report" => print_report(rt, alloc, case),
+        "audit" => print_audit(rt, alloc, case),
         _ => println!(rt; "no such line"),
     }
 }

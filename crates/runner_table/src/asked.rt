@@ -2,6 +2,7 @@
 ghost use Rattle.std.specs.Prelude.{◌≤◌};
 ghost use Rattle.runner_table.specs.Plans.{IsRunnable};
 
+use crate::spoils::{Spoil, Way};
 use cluster_msgs::{Item, KeyList, Script};
 use node_runner::RunPlan;
 use std::alloc::Global;
@@ -20,7 +21,7 @@ pub struct Asked {
 
 /// What goes wrong: a key that meets a zero divisor, a worker without feeds, one whose feeds fail, and one whose feeds find no memory. 0 stands for no
 /// worker. Also how often a key's work is its bytes, how often each task yields to other threads, how many tasks are to meet, if any, and whether the
-/// journal is printed.
+/// journal is printed, and how it is spoiled before.
 #[derive(Clone, Copy)]
 pub struct Manner {
     pub zero: Option<u32>,
@@ -31,6 +32,7 @@ pub struct Manner {
     pub slow: u32,
     pub meet: u32,
     pub journal: bool,
+    pub spoil: Option<Spoil>,
 }
 
 /// What is changed about a run: what the script makes happen, which keys are wanted besides, and what goes wrong. Also whether a word says nothing of
@@ -130,6 +132,7 @@ impl Changes {
                 slow: 0,
                 meet: 0,
                 journal: false,
+                spoil: None,
             },
             is_ill: false,
         }
@@ -155,8 +158,15 @@ impl Changes {
             "slow" => self.manner.slow = said,
             "meet" => self.manner.meet = said,
             "journal" => self.manner.journal = true,
+            "leave" => self.spoil(Way::LeftOut, said),
+            "mute" => self.spoil(Way::Mute, said),
+            "late" => self.spoil(Way::Late, said),
             _ => self.happen(name, rest),
         }
+    }
+
+    fn spoil(&mut self, way: Way, place: u32) {
+        self.manner.spoil = Some(Spoil { way, place });
     }
 
     /// What the script makes happen: `lose` or `suspect` with `W@N` behind it, or `join@N`.

@@ -1,20 +1,46 @@
-//! The entries of all nodes of a run by their stamps, printed, and the report that they tell.
+//! The entries of all nodes of a run by their stamps, printed, the report that they tell, and what the audit says of them.
+ghost use Rattle.std.specs.Prelude.{◌≤◌};
+
 use crate::events::print_entry;
 use crate::page::Page;
+use crate::spoils::{Spoil, spoil};
+use crate::sums::{Reader, Sums};
 use cluster_msgs::{Entry, GraphShape, History, Sequence};
-use journal_audit::{Journal, merge, report};
+use journal_audit::{Audit, Journal, audit, merge, report};
 use node_runner::Histories;
 use std::alloc::{AllocError, Global};
 
-/// Prints the entries of all nodes, and their report.
-pub fn print(page: &mut Page, alloc: Global, shape: &GraphShape, histories: Option<Histories>) {
+/// Prints the entries of all nodes, one of them spoiled where that is asked for, their report, and what the audit of them says over the job, with one
+/// client and this saturation.
+pub fn print(
+    page: &mut Page,
+    alloc: Global,
+    job: &Sums,
+    saturation: u32,
+    asked: Option<Spoil>,
+    histories: Option<Histories>,
+)
+    requires { (1 ≤ saturation) × (saturation ≤ 1000) }
+{
     match histories {
         Some(histories) => {
             let rows = rows(page, alloc, histories);
             print_cuts(page, &rows);
-            print_merged(page, alloc, shape, merge(alloc, rows));
+            print_merged(page, alloc, job, saturation, merged(alloc, rows, asked));
         }
         None => page.line("no histories"),
+    }
+}
+
+/// The histories as one journal, one entry of it spoiled where that is asked for.
+fn merged(
+    alloc: Global,
+    histories: Vec<History>,
+    asked: Option<Spoil>,
+) -> Result<Journal, AllocError> {
+    match asked {
+        Some(how) => merge(alloc, spoil(alloc, histories, how)?),
+        None => merge(alloc, histories),
     }
 }
 
@@ -47,13 +73,17 @@ fn print_cuts(page: &mut Page, histories: &[History]) {
 fn print_merged(
     page: &mut Page,
     alloc: Global,
-    shape: &GraphShape,
+    job: &Sums,
+    saturation: u32,
     journal: Result<Journal, AllocError>,
-) {
+)
+    requires { (1 ≤ saturation) × (saturation ≤ 1000) }
+{
     match journal {
         Ok(journal) => {
             print_entries(page, journal.as_slice());
-            print_report(page, alloc, shape, &journal);
+            print_report(page, alloc, &job.shape, &journal);
+            print_audit(page, alloc, job, saturation, &journal);
             drop(journal);
         }
         Err(_) => page.fail(),
@@ -70,6 +100,31 @@ fn print_entries(page: &mut Page, entries: &[Entry]) {
 fn print_report(page: &mut Page, alloc: Global, shape: &GraphShape, journal: &Journal) {
     match report(alloc, shape, journal) {
         Ok(report) => page.report(alloc, &report),
+        Err(_) => page.fail(),
+    }
+}
+
+/// What the audit of a journal says, over the job again with a feed that doesn't fail.
+fn print_audit(page: &mut Page, alloc: Global, job: &Sums, saturation: u32, journal: &Journal)
+    requires { (1 ≤ saturation) × (saturation ≤ 1000) }
+{
+    let Ok(shape) = job.shape.copy() else {
+        return page.fail();
+    };
+    let again = Sums {
+        shape,
+        zero: job.zero,
+    };
+    let feed = Reader {
+        fails: None,
+        faults: 0,
+    };
+    match audit(alloc, again, feed, 1, saturation, journal) {
+        Ok(Audit::Agrees(_)) => page.line("audit: agrees"),
+        Ok(Audit::Differs { stamp }) => {
+            page.item("audit: differs at ", stamp);
+            page.put("\n");
+        }
         Err(_) => page.fail(),
     }
 }

@@ -3,7 +3,8 @@
 //!
 //! It stands on `node_runner` and `journal_audit`, and nothing stands above it. A line is `sum` or `shared`, `LEAVES WORKERS THREADS CAPACITY`, and words:
 //! `lose:W@N`, `suspect:W@N`, `join@N`, `want:KEY`, `saturation:N`, `zero:KEY`, `short:W`, `fail:W`, `hungry:W`, `work:N`, `slow:N`;
-//! `meet:N`, which holds each task until N have started; and `journal`, which prints the entries of all nodes besides. These are others in each run.
+//! `meet:N`, which holds each task until N have started; and `journal`, which prints the entries of all nodes besides, with their report and their
+//! audit. These are others in each run. `leave:N`, `mute:N` and `late:N` spoil one of these entries before.
 #![tactic(auto)]
 
 mod asked;
@@ -15,6 +16,7 @@ mod name;
 mod page;
 mod play;
 mod results;
+mod spoils;
 mod sums;
 
 use page::Page;

@@ -324,7 +324,14 @@ fn print(page: &mut Page, alloc: Global, asked: &Asked, job: &Sums, told: Told) 
     }
     print_left(page, &left);
     if asked.manner.journal {
-        journal::print(page, alloc, &job.shape, histories);
+        journal::print(
+            page,
+            alloc,
+            job,
+            asked.plan.saturation,
+            asked.manner.spoil,
+            histories,
+        );
     } else {
         drop(histories);
     }

@@ -10,7 +10,6 @@ use Rattle.io_edge.proofs.GivenLaws.{given_before, given_later, more_same, more_
 use Rattle.io_edge.specs.View.{View, Files, OnlyOut, OnlyReads, Opens, raised_by}
 use Rattle.npy_codec.specs.declared.head.Head.{Head}
 use Rattle.plain_eval.specs.Eval.{held_in}
-use Rattle.cluster_msgs.specs.declared.events.Report.{Report}
 use Rattle.command_words.specs.declared.run.RunWords.{RunWords}
 use Rattle.job_run.specs.declared.ends.Ended.{Ended}
 use Rattle.job_run.specs.declared.ends.Ended.TheVariants.{Done, Limit, File, Zero, ReadFault, WriteFault, OutOfMemory}
@@ -29,7 +28,8 @@ use Rattle.job_run.proofs.Running.{HaveAccepted, left_before, lowering_runs, mos
 use Rattle.thread_run.specs.Counts.{RaisedBetween, feeds, repeated}
 use Rattle.thread_run.specs.Ends.{Cause, HasValues, Looked, Opened, Prints, PrintsRun, RunsByThreads, Saves, lines_of, openings}
 use Rattle.thread_run.specs.Feeding.{is_told}
-use Rattle.thread_run.specs.Reports.{IsReportBy, IsToldRun, label}
+use Rattle.thread_run.specs.Reports.{IsToldBy, IsToldRun, label}
+use Rattle.thread_run.specs.declared.verdict.Told.{Told}
 use Rattle.thread_run.specs.Serving.{ServesAll, ServesFiles, ServesPart}
 
 -- ## Counts
@@ -220,20 +220,15 @@ module _ (p : Plan) (w : RunWords) (old mid : View) (files : List Content) (head
     created-all : saved.files.created ≡ raised_by (names_saved p) old.files.created
     created-all = all.created ∙ ap (raised_by (names_saved p)) a.opens.created
 
-    -- what is said of a report
-    abbrev Reported : Report → Type 0
-    Reported r = IsReportBy (label told (named_told files heads) (tasks_of p)) (shape_of (tasks_of p)) w (wanted_of p) r
+    -- these are its lines, with what is told of the run
+    module _ (told-then : Told) (asked : is_some told-then.report ≡ w.report) (by : IsToldBy (label told (named_told files heads) (tasks_of p)) (shape_of (tasks_of p)) w (wanted_of p) told-then) where
+      of-run : IsToldRun p w old.files told-then
+      of-run = record { named = named_told files heads; told = told; told_is = is; held = on_named p old.files mid.files files heads (λ n. n ≡ named_told files heads) a.inputs (λ t. refl); run = by }
 
-    -- these are its lines, with the report of the run where one is asked for
-    module _ (report : Option Report) (asked : is_some report ≡ w.report) (by : IfSome report Reported) where
-      of-run : (r : Option Report) → IfSome r Reported → IfSome r (IsToldRun p w old.files)
-      of-run None given = tt
-      of-run (Some r) given = record { named = named_told files heads; told = told; told_is = is; held = on_named p old.files mid.files files heads (λ n. n ≡ named_told files heads) a.inputs (λ t. refl); run = given }
+      prints-run : (Printed : List ℕ → Type 0) → Printed (lines_of p told-then) → PrintsRun p w old.files Printed
+      prints-run Printed printed = record { told = told-then; asked = asked; of_run = of-run; printed = printed }
 
-      prints-run : (Printed : List ℕ → Type 0) → Printed (lines_of p report) → PrintsRun p w old.files Printed
-      prints-run Printed printed = record { told = report; asked = asked; of_run = of-run report by; printed = printed }
-
-      pub done-ends : (new : View) (text : List ℕ) → IsFitGiven p mid saved → OnlyOut saved new → text ≡ lines_of p report → new.out ≡ followed_by saved.out text → RunsByThreads p w old new Done
+      pub done-ends : (new : View) (text : List ℕ) → IsFitGiven p mid saved → OnlyOut saved new → text ≡ lines_of p told-then → new.out ≡ followed_by saved.out text → RunsByThreads p w old new Done
       done-ends new text given only lines printed =
           let S : Files → Type 0 = λ x. AreSaved p old.files x in
           let g = follows-out p w old saved new only (follows saved f) in
@@ -241,16 +236,16 @@ module _ (p : Plan) (w : RunWords) (old mid : View) (files : List Content) (head
           (subst S (sym only.files) (are-saved saved.files all.whole)) g.opened (ap (λ (x : Files). x.created) only.files ∙ created-all)
           (prints-run (λ shown. new.out ≡ followed_by old.out shown) (printed ∙ (ap (λ out. followed_by out text) (f.out ∙ a.only.out) ∙ ap (followed_by old.out) lines)))
 
-      pub unprinted-ends : (new : View) (text : List ℕ) → OnlyOut saved new → text ≡ lines_of p report → PrintsPart saved.out new.out text → Rose saved.print_faults new.print_faults → RunsByThreads p w old new WriteFault
+      pub unprinted-ends : (new : View) (text : List ℕ) → OnlyOut saved new → text ≡ lines_of p told-then → PrintsPart saved.out new.out text → Rose saved.print_faults new.print_faults → RunsByThreads p w old new WriteFault
       unprinted-ends new text only lines printed rose =
           let g = follows-out p w old saved new only (follows saved f) in
           let S : Files → Type 0 = λ x. AreSaved p old.files x in
           let R : Files → Type 0 = λ x. IsTrue old.files.tells → AreRight p old.files x in
-          let O : Option (List ℕ) → Type 0 = λ o. PrintsPart o new.out (lines_of p report) in
+          let O : Option (List ℕ) → Type 0 = λ o. PrintsPart o new.out (lines_of p told-then) in
           let T : List ℕ → Type 0 = λ t. PrintsPart saved.out new.out t in
           let risen : Rose old.print_faults new.print_faults = rose_before old.print_faults saved.print_faults new.print_faults (omega (arith, f.print_faults, a.only.print_faults)) rose in
           let created : new.files.created ≡ raised_by (names_saved p) old.files.created = ap (λ (x : Files). x.created) only.files ∙ created-all in
-          let stops : StopsPrinting p old new (lines_of p report) = record {
+          let stops : StopsPrinting p old new (lines_of p told-then) = record {
             saved = subst S (sym only.files) (are-saved saved.files all.whole);
             created = created;
             fault = risen;

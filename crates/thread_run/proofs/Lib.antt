@@ -1,3 +1,4 @@
+pub mod Agreed
 pub mod Ending
 pub mod Fixed
 pub mod Openings

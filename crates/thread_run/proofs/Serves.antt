@@ -1,6 +1,6 @@
 -- What a run of a graph leaves: feeds that are opened and given back, and files that are created, written and given back.
 use Rattle.std.proofs.Common.{◌≡◌, ℕ, ◌≤◌, Bool, List, [], refl, ap, sym, ◌∙◌, subst, arith, Option, Some, None, Result, Ok, Err, inl}
-use Rattle.std.specs.Prelude.{Contains, IfErr, IfOk, IfSome, IsOk, IsTrue, OnOk}
+use Rattle.std.specs.Prelude.{Contains, IfErr, IfOk, IsOk, IsTrue, OnOk}
 use Rattle.std.proofs.lemmas.Bool.{false≢true}
 use Rattle.io_edge.specs.Cause.{Rose}
 use Rattle.io_edge.specs.declared.edge.OpenFault.{OpenFault}
@@ -10,7 +10,6 @@ use Rattle.io_edge.specs.View.{View, Files, OnlyReads, OnlySpills, OnlyWrites, r
 use Rattle.nd_shape.specs.Block.{Array}
 use Rattle.cluster_msgs.specs.Labels.{BlameFits, LabelFacts}
 use Rattle.cluster_msgs.specs.Shape.{Shape}
-use Rattle.cluster_msgs.specs.declared.events.Report.{Report}
 use Rattle.node_states.specs.declared.why.Why.{Why}
 use Rattle.node_runner.specs.Runs.{HowItEnded}
 use Rattle.node_runner.specs.declared.ends.Histories.{Histories}
@@ -30,8 +29,10 @@ use Rattle.job_run.proofs.SavedKeys.{is-faulty}
 use Rattle.thread_run.specs.Counts.{repeated}
 use Rattle.thread_run.specs.Feeding.{OpensOften, TakesBack}
 use Rattle.thread_run.specs.Serving.{IsUnsaved, IsWhy, ServesAll, ServesFiles, ServesPart, Stops, StopsAt}
+use Rattle.thread_run.proofs.Agreed.{told_run}
 use Rattle.thread_run.proofs.SaverEnds.{open-left}
-use Rattle.thread_run.specs.Reports.{IsReportOf, IsReportOfRun, IsServedRun, entries_of, label}
+use Rattle.thread_run.specs.Reports.{IsServedRun, IsToldOf, IsToldOfRun, label}
+use Rattle.thread_run.specs.declared.verdict.Told.{Told}
 
 -- ## Results
 
@@ -74,13 +75,12 @@ served-run l graph p wanted Failed (Ok y) left h (Ok x) how given are =
     let run = subst (HowItEnded l graph p wanted Failed (Ok y) left) are how in
     record { last = run.0; are = run.1.histories; got = run.1.got }
 
--- the report of such a run, told of its plan
-pub told-of-run : (l m : LabelFacts Array) (g h : Shape) (plan : RunPlan) (keys wanted : List ℕ) (hs : Histories) (o : Option Report) → l ≡ m → g ≡ h → keys ≡ wanted → IsServedRun l g plan keys hs → IfSome o (IsReportOf g (entries_of hs)) →
-    IfSome o (IsReportOfRun m h plan wanted)
-told-of-run l m g h plan keys wanted hs None same over all run report = tt
-told-of-run l m g h plan keys wanted hs (Some r) same over all run report =
-    let R : LabelFacts Array × Shape × List ℕ → Type 0 = λ x. IsReportOfRun x.0 x.1 plan x.2 r in
-    subst R (λ i. (same i, over i, all i)) (record { histories = hs; run = run; report = report })
+-- what is told of such a run, of its plan
+pub told-of-run : (l m : LabelFacts Array) (g h : Shape) (plan : RunPlan) (keys wanted : List ℕ) (hs : Histories) (t : Told) → l ≡ m → g ≡ h → keys ≡ wanted → IsServedRun l g plan keys hs → IsToldOf g plan.saturation hs t
+    → IsToldOfRun m h plan wanted t
+told-of-run l m g h plan keys wanted hs t same over all run told =
+    let R : LabelFacts Array × Shape × List ℕ → Type 0 = λ x. IsToldOfRun x.0 x.1 plan x.2 t in
+    subst R (λ i. (same i, over i, all i)) (told_run l g plan keys hs t run told)
 
 -- ## The files
 

@@ -1,5 +1,5 @@
 -- How a run of a job by threads ends, why it ends so, and what it leaves.
-use Rattle.std.specs.Prelude.{◌≡◌, ◌⊎◌, ◌++◌, ℕ, List, [], codes, Option, None, Some, is_some, IfSome, IsTrue}
+use Rattle.std.specs.Prelude.{◌≡◌, ◌⊎◌, ◌++◌, ℕ, List, [], codes, decimal, Option, None, Some, is_some, IsTrue}
 use Rattle.io_edge.specs.Cause.{Rose}
 use Rattle.io_edge.specs.Content.{followed_by}
 use Rattle.io_edge.specs.Given.{GivesMore}
@@ -17,6 +17,9 @@ use Rattle.job_run.specs.Runs.{AreRight, AreUntouched, IsFitGiven, IsSmall, Caus
 use Rattle.job_run.specs.Values.{OnInputs, IsFaulty, MeetsNone, saved_lines}
 use Rattle.thread_run.specs.Counts.{RaisedBetween, feeds, repeated}
 use Rattle.thread_run.specs.Reports.{IsToldRun}
+use Rattle.thread_run.specs.declared.verdict.Told.{Told}
+use Rattle.thread_run.specs.declared.verdict.Verdict.{Verdict}
+use Rattle.thread_run.specs.declared.verdict.Verdict.TheVariants.{Agrees, Differs, NotComplete}
 
 -- A worker's blocks lie on disks of the site, too. So what a run says of values it says where the site tells what it holds.
 
@@ -68,15 +71,21 @@ abbrev pub told_text : Option Report → List ℕ
 told_text None = []
 told_text (Some r) = report_text r
 
--- the lines on standard output: of each saved file, of the report where there is one, and the last
-abbrev pub lines_of : Plan → Option Report → List ℕ
-lines_of p told = saved_lines p.nodes p.saves ++ told_text told ++ codes "finished by: cluster\n"
+-- the line of what the audit says
+abbrev pub audit_line : Verdict → List ℕ
+audit_line Agrees = codes "audit: agrees\n"
+audit_line (Differs stamp) = codes "audit: differs at " ++ decimal stamp ++ codes "\n"
+audit_line NotComplete = codes "audit: not complete\n"
 
--- the lines of a run in which all files were written: with its report where the words ask for it
+-- the lines on standard output: of each saved file, of the report where there is one, by whom the run was finished, and of its audit
+abbrev pub lines_of : Plan → Told → List ℕ
+lines_of p told = saved_lines p.nodes p.saves ++ told_text told.report ++ codes "finished by: cluster\n" ++ audit_line told.verdict
+
+-- the lines of a run in which all files were written: with its report where the words ask for it, and its audit
 pub record PrintsRun (p : Plan) (w : RunWords) (files : Files) (Printed : List ℕ → Type 0) : Type 0 where
-  pub told : Option Report
-  pub asked : is_some told ≡ w.report
-  pub of_run : IfSome told (IsToldRun p w files)
+  pub told : Told
+  pub asked : is_some told.report ≡ w.report
+  pub of_run : IsToldRun p w files told
   pub printed : Printed (lines_of p told)
 
 abbrev pub Prints : Plan → RunWords → View → View → Ended → Type 0

@@ -1,5 +1,5 @@
--- The report of a run: that of its nodes' histories.
-use Rattle.std.specs.Prelude.{◌≡◌, ℕ, List, [], ◌∷◌, ◌++◌, map, Bool, None, is_some}
+-- What is told of a run: the report of its nodes' histories, and whether they are a legal list of events together.
+use Rattle.std.specs.Prelude.{◌≡◌, ℕ, List, [], ◌∷◌, ◌++◌, map, All, Bool, None, is_some, IfSome}
 use Rattle.io_edge.specs.View.{Files}
 use Rattle.nd_shape.specs.Block.{Array}
 use Rattle.block_kernels.specs.Kernels.{result_shape}
@@ -7,13 +7,17 @@ use Rattle.cluster_msgs.specs.Labels.{LabelFacts, label_of}
 use Rattle.cluster_msgs.specs.Shape.{Shape}
 use Rattle.cluster_msgs.specs.declared.events.Entry.{Entry}
 use Rattle.cluster_msgs.specs.declared.events.History.{History}
-use Rattle.cluster_msgs.specs.declared.events.Report.{Report}
 use Rattle.cluster_rules.specs.Report.{report}
+use Rattle.cluster_rules.specs.World.{Job}
+use Rattle.cluster_laws.specs.Blocks.{setting_of}
 use Rattle.task_graph.specs.declared.graph.Task.{Task}
 use Rattle.task_graph.specs.Graphs.{operation, shape_of, task_at}
 use Rattle.plain_eval.specs.Eval.{held_in}
+use Rattle.journal_audit.specs.Audits.{DiffersAt, IsLegalJournal, events_of}
+use Rattle.journal_audit.specs.Clients.{Gets}
 use Rattle.journal_audit.specs.Merges.{IsMerge}
 use Rattle.journal_audit.specs.Reports.{taken_of}
+use Rattle.journal_audit.specs.Shapes.{shape_job}
 use Rattle.node_runner.specs.Runs.{AreHistories, HasGot, LastFacts}
 use Rattle.node_runner.specs.declared.ends.Histories.{Histories}
 use Rattle.node_runner.specs.declared.plan.RunPlan.{RunPlan}
@@ -22,6 +26,9 @@ use Rattle.job_run.specs.Plan.{Plan}
 use Rattle.job_run.specs.Values.{Named, OnInputs, tasks_of}
 use Rattle.job_run.specs.Wanted.{wanted_of}
 use Rattle.thread_run.specs.Feeding.{is_told}
+use Rattle.thread_run.specs.declared.verdict.Told.{Told}
+use Rattle.thread_run.specs.declared.verdict.Verdict.{Verdict}
+use Rattle.thread_run.specs.declared.verdict.Verdict.TheVariants.{Agrees, Differs, NotComplete}
 
 -- what the label of a run says where the inputs hold these elements
 abbrev pub label : Bool → Named → List Task → LabelFacts Array
@@ -31,11 +38,29 @@ label told named tasks = label_of told None (shape_of tasks) (operation named ta
 abbrev pub entries_of : Histories → List (List Entry)
 entries_of h = h.scheduler.entries ∷ (map (λ (x : History). x.entries) h.workers.items ++ h.client.entries ∷ [])
 
--- the report of entries by their stamps, over a graph
-pub record IsReportOf (graph : Shape) (entries : List (List Entry)) (r : Report) : Type 0 where
+-- none of the nodes left an entry out
+pub record AreWhole (h : Histories) : Type 0 where
+  pub scheduler : h.scheduler.cut ≡ None
+  pub workers : All (λ (x : History). x.cut ≡ None) h.workers.items
+  pub client : h.client.cut ≡ None
+
+-- the job that a run is audited by: its graph and one client
+abbrev pub audited : Shape → ℕ → Job
+audited graph saturation = shape_job (setting_of graph 1 saturation)
+
+-- what is said of the entries of whole histories by their stamps: that they are a legal list of events with the messages that they took, or the stamp
+-- of the first that isn't; of others that they aren't whole
+abbrev pub IsVerdictOf : Job → Histories → List Entry → Verdict → Type 0
+IsVerdictOf j h journal Agrees = AreWhole h × IsLegalJournal j journal
+IsVerdictOf j h journal (Differs stamp) = AreWhole h × DiffersAt j journal stamp
+IsVerdictOf j h journal NotComplete = AreWhole h → ⊥
+
+-- what is told of histories, over a graph and with this saturation: of their entries by their stamps, the report, if one is told, and the verdict
+pub record IsToldOf (graph : Shape) (saturation : ℕ) (h : Histories) (t : Told) : Type 0 where
   pub journal : List Entry
-  pub merged : IsMerge entries journal
-  pub is : r ≡ report graph (map taken_of journal)
+  pub merged : IsMerge (entries_of h) journal
+  pub report : IfSome t.report (λ r. r ≡ report graph (map taken_of journal))
+  pub verdict : IsVerdictOf (audited graph saturation) h journal t.verdict
 
 -- the plan of a run by these words
 pub record IsPlanOf (w : RunWords) (plan : RunPlan) : Type 0 where
@@ -51,22 +76,37 @@ pub record IsServedRun (l : LabelFacts Array) (graph : Shape) (plan : RunPlan) (
   pub are : AreHistories l graph plan last h
   pub got : HasGot last.client h.client.entries (is_some h.client.cut) wanted
 
--- the report of such a run
-pub record IsReportOfRun (l : LabelFacts Array) (graph : Shape) (plan : RunPlan) (wanted : List ℕ) (r : Report) : Type 0 where
+-- a legal list of a graph's events with the messages that they took, in the course of which the client got each wanted key
+pub record IsLegalRun (graph : Shape) (saturation : ℕ) (wanted : List ℕ) (journal : List Entry) : Type 0 where
+  pub legal : IsLegalJournal (audited graph saturation) journal
+  pub got : All (Gets (audited graph saturation) (events_of journal) 1) wanted
+
+-- what is said of a run by the verdict on its histories: that their entries together are a legal run; or, of histories that each go by the rules by
+-- themselves, that together they first aren't legal at this stamp, or that an entry was left out
+abbrev pub IsVerdictOn : LabelFacts Array → Shape → RunPlan → List ℕ → Histories → List Entry → Verdict → Type 0
+IsVerdictOn l graph plan wanted h journal Agrees = AreWhole h × IsLegalRun graph plan.saturation wanted journal
+IsVerdictOn l graph plan wanted h journal (Differs stamp) =
+    AreWhole h × IsServedRun l graph plan wanted h × DiffersAt (audited graph plan.saturation) journal stamp
+IsVerdictOn l graph plan wanted h journal NotComplete = IsServedRun l graph plan wanted h × (AreWhole h → ⊥)
+
+-- what is told of a run: of the entries of its histories by their stamps, the report, if one is told, and the verdict
+pub record IsToldOfRun (l : LabelFacts Array) (graph : Shape) (plan : RunPlan) (wanted : List ℕ) (t : Told) : Type 0 where
   pub histories : Histories
-  pub run : IsServedRun l graph plan wanted histories
-  pub report : IsReportOf graph (entries_of histories) r
+  pub journal : List Entry
+  pub merged : IsMerge (entries_of histories) journal
+  pub report : IfSome t.report (λ r. r ≡ report graph (map taken_of journal))
+  pub verdict : IsVerdictOn l graph plan wanted histories journal t.verdict
 
 -- the same of a run by these words
-pub record IsReportBy (l : LabelFacts Array) (graph : Shape) (w : RunWords) (wanted : List ℕ) (r : Report) : Type 0 where
+pub record IsToldBy (l : LabelFacts Array) (graph : Shape) (w : RunWords) (wanted : List ℕ) (t : Told) : Type 0 where
   pub plan : RunPlan
   pub plan_is : IsPlanOf w plan
-  pub run : IsReportOfRun l graph plan wanted r
+  pub run : IsToldOfRun l graph plan wanted t
 
--- the report of a run of a plan's graph by these words, over files that hold what the site tells
-pub record IsToldRun (p : Plan) (w : RunWords) (files : Files) (r : Report) : Type 0 where
+-- what is told of a run of a plan's graph by these words, over files that hold what the site tells
+pub record IsToldRun (p : Plan) (w : RunWords) (files : Files) (t : Told) : Type 0 where
   pub named : Named
   pub told : Bool
   pub told_is : told ≡ is_told files p.inputs
   pub held : OnInputs p files (λ blocks. held_in blocks ≡ named)
-  pub run : IsReportBy (label told named (tasks_of p)) (shape_of (tasks_of p)) w (wanted_of p) r
+  pub run : IsToldBy (label told named (tasks_of p)) (shape_of (tasks_of p)) w (wanted_of p) t

@@ -17,5 +17,6 @@ mod serving;
 mod stores;
 mod told;
 mod veil;
+mod verdict;
 
 pub use run::run_by_threads;

@@ -17,7 +17,7 @@ ghost use Rattle.task_graph.specs.Graphs.{shape_of};
 ghost use Rattle.thread_run.specs.Counts.{feeds as feeds_of};
 ghost use Rattle.thread_run.specs.Feeding.{IsFixed};
 ghost use Rattle.thread_run.specs.Planning.{IsRunPlan};
-ghost use Rattle.thread_run.specs.Reports.{IsPlanOf, IsReportBy, IsReportOfRun, IsServedRun, label};
+ghost use Rattle.thread_run.specs.Reports.{IsPlanOf, IsServedRun, IsToldBy, IsToldOfRun, label};
 ghost use Rattle.thread_run.specs.Serving.{HasShort, IsUnsaved, ServesAll, ServesFiles, ServesPart, StopsAt};
 
 use crate::feeds::{Feed, Graphed, give_all, give_feeds, open_feeds};
@@ -27,8 +27,9 @@ use crate::saver::Saver;
 use crate::stores::{give_stores, open_stores};
 use crate::told::told;
 use crate::veil::Veil;
+use crate::verdict::Told;
 use block_lowering::{Elements, JobGraph, Lowered};
-use cluster_msgs::{JobSpec, Label, Report};
+use cluster_msgs::{JobSpec, Label};
 use command_words::RunWords;
 use io_edge::{Gate, OpenFault, Site};
 use job_run::{Ended, Inputs, Job, Wanted, ended_at, joined_keys, laws_hold};
@@ -283,7 +284,7 @@ where
     served
 }
 
-// The same, with the report of the run where it is asked for.
+// The same, with what is told of the run: its report where it is asked for, and its audit.
 #[tactic(auto, using(crate::proofs::Serves::part_all))]
 fn run_graph<R, S, G, E, V, P>(
     rt: &R,
@@ -296,7 +297,7 @@ fn run_graph<R, S, G, E, V, P>(
     plan: &RunPlan,
     memory: u64,
     asked: bool,
-) -> Result<Option<Report>, Ended>
+) -> Result<Told, Ended>
 where
     R: Threads + Wait + RandomSource + AllocGlobal + Sync,
     S: Site,
@@ -312,9 +313,9 @@ where
     requires plan { IsRunPlan plan.now }
     ensures files { ServesFiles (plan_of job.now) (numbers_of plan.now * plan.now.threads) (S.view site.old) (S.view site.new) }
     ensures served { OnOk result (ServesAll (plan_of job.now) E.named (IsTrue V.told) (S.view site.old).files (S.view site.new).files) }
-    ensures asked { IfOk result (λ told. is_some told ≡ asked) }
-    ensures told { IfOk result (λ told. IfSome told (IsReportOfRun (label V.told E.named (tasks_of (plan_of job.now)))
-        (shape_of (tasks_of (plan_of job.now))) plan.now (wanted_of (plan_of job.now)))) }
+    ensures asked { IfOk result (λ told. is_some told.report ≡ asked) }
+    ensures told { IfOk result (IsToldOfRun (label V.told E.named (tasks_of (plan_of job.now)))
+        (shape_of (tasks_of (plan_of job.now))) plan.now (wanted_of (plan_of job.now))) }
     ensures stopped { IfErr result (ServesPart (plan_of job.now) E.named (IsTrue V.told)
         (Rose (S.view site.old).read_faults (S.view site.new).read_faults) (Rose (S.view site.old).write_faults (S.view site.new).write_faults)
         (S.view site.old).files (S.view site.new).files) }
@@ -322,8 +323,8 @@ where
     let histories = run_stored::<R, S, G, E, V, P>(
         rt, alloc, site, gate, job, graph, wanted, plan, memory,
     )?;
-    let report = told(alloc, graph.shape(), histories, asked)?;
-    Ok(report)
+    let told = told(alloc, graph.shape(), plan.saturation, histories, asked)?;
+    Ok(told)
 }
 
 /// Runs a job's graph by the cluster over its open inputs, saves each wanted block as it comes, and makes the report of the run where the
@@ -341,7 +342,7 @@ pub fn serve<R, S, G, E, V>(
     lowered: Lowered,
     inputs: Inputs<S::In>,
     words: RunWords,
-) -> Result<Option<Report>, Ended>
+) -> Result<Told, Ended>
 where
     R: Threads + Wait + RandomSource + AllocGlobal + Sync,
     S: Site,
@@ -359,9 +360,9 @@ where
     ensures files { ServesFiles (plan_of job.now) (feeds_of words) (S.view site.old) (S.view site.new) }
     ensures given { IsFitGiven (plan_of job.now) (S.view site.old) (S.view site.new) }
     ensures served { OnOk result (ServesAll (plan_of job.now) E.named (IsTrue V.told) (S.view site.old).files (S.view site.new).files) }
-    ensures asked { IfOk result (λ told. is_some told ≡ words.report) }
-    ensures told { IfOk result (λ told. IfSome told (IsReportBy (label V.told E.named (tasks_of (plan_of job.now)))
-        (shape_of (tasks_of (plan_of job.now))) words (wanted_of (plan_of job.now)))) }
+    ensures asked { IfOk result (λ told. is_some told.report ≡ words.report) }
+    ensures told { IfOk result (IsToldBy (label V.told E.named (tasks_of (plan_of job.now)))
+        (shape_of (tasks_of (plan_of job.now))) words (wanted_of (plan_of job.now))) }
     ensures stopped { IfErr result (ServesPart (plan_of job.now) E.named (IsTrue V.told)
         (Rose (S.view site.old).read_faults (S.view site.new).read_faults) (Rose (S.view site.old).write_faults (S.view site.new).write_faults)
         (S.view site.old).files (S.view site.new).files) }

@@ -15,6 +15,6 @@ returns-clause-told g c =
     let p : Plan = plan_of c.args.job.now in
     let graph = c.args.graph.now in
     told-of-run (facts_of g.P.Picks.picked (λ j. j.job) g.E.Elements.named g.V.Veil.told) (label g.V.Veil.told g.E.Elements.named (tasks_of p)) (graph_of graph.job) (shape_of (tasks_of p)) c.args.plan.now
-    c.args.wanted.now.all (wanted_of p) c.in_ok-histories.histories c.in_ok-report.report
+    c.args.wanted.now.all (wanted_of p) c.in_ok-histories.histories c.in_ok-told.told
     (facts-are g.P.Picks.picked graph (λ j. j.job) g.E.Elements.named g.V.Veil.told (tasks_of p) c.requires.picked c.requires.tasks) (ap shape_of c.requires.tasks) c.requires.wanted.all_is
-    c.in_ok-histories.ensures.histories (rw c.shape.ensures at c.in_ok-report.ensures.report)
+    c.in_ok-histories.ensures.histories (rw c.shape.ensures at c.in_ok-told.ensures.told)
