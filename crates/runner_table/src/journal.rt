@@ -3,7 +3,7 @@ ghost use Rattle.std.specs.Prelude.{◌≤◌};
 
 use crate::events::print_entry;
 use crate::page::Page;
-use crate::spoils::{Spoil, spoil};
+use crate::spoils::{Spoil, spoil_one_entry};
 use crate::sums::{Reader, Sums};
 use cluster_msgs::{Entry, GraphShape, History, Sequence};
 use journal_audit::{Audit, Journal, audit, merge, report};
@@ -39,7 +39,7 @@ fn merged(
     asked: Option<Spoil>,
 ) -> Result<Journal, AllocError> {
     match asked {
-        Some(how) => merge(alloc, spoil(alloc, histories, how)?),
+        Some(how) => merge(alloc, spoil_one_entry(alloc, histories, how)?),
         None => merge(alloc, histories),
     }
 }

@@ -71,7 +71,7 @@ fn spoil_one(
 }
 
 /// The histories, of which one entry is spoiled.
-pub fn spoil(
+pub fn spoil_one_entry(
     alloc: Global,
     histories: Vec<History>,
     spoil: Spoil,
