@@ -7,10 +7,26 @@ about='launcher'
 help=$(./dask --help 2>/dev/null)
 check 'status of --help' "$?" 0
 check 'help is --help' "$(./dask help 2>/dev/null)" "$help"
+check 'no words at all are --help' "$(./dask 2>/dev/null)" "$help"
 check 'nothing on standard error' "$(./dask --help 2>&1 >/dev/null)" ''
 for word in run plain sim gen --workers --threads --memory --saturation --script --transport --report --spill-folder --help --version --build; do
   check "--help names $word" "$(grep -c "^  ${word}[ ,]" <<< "$help")" 1
 done
+# the help of one command has its options, and no other's
+while read -r command words; do
+  for place in '' 'job.txt --memory 1'; do
+    # shellcheck disable=SC2086
+    check "the words of $command $place --help" "$(./dask $command $place --help 2>/dev/null | grep -oE '^  (--)?[a-z]+' | xargs)" "$command${words:+ $words}"
+  done
+  ./dask "$command" --help > /dev/null 2>&1
+  check "status of $command --help" "$?" 0
+done << 'OPTIONS'
+run --workers --threads --saturation --script --memory --transport --report
+plain
+sim --workers --threads --saturation --script
+gen --workers --threads --saturation --script
+OPTIONS
+check 'behind -- no word is --help' "$(./dask run -- --help 2>&1)" 'dask: read fault'
 # every example of a command ends well
 while read -r _ words; do
   # the words of an example
@@ -88,19 +104,33 @@ sys.stdout.write(held.decode().replace("\r", ""))' "$root/dask" "$@")
 root=$PWD
 disk='no file can be made in missing, so workers keep all blocks in memory'
 save='no file can be made beside missing/a.npy, so it can only be written in place'
+hint='hint: missing/a.npy can not be made: there is no folder missing'
 for words in 'run job.txt' 'plain -- job.txt' 'run --workers 2 --report --threads=1 job.txt' 'sim job.txt 7'; do
   # shellcheck disable=SC2086
-  check "what a terminal says of $words" "$(on_terminal $words)" "$(printf '%s\n' "note: $save" 'dask: write fault')"
+  check "what a terminal says of $words" "$(on_terminal $words)" "$(printf '%s\n' "note: $save" 'dask: write fault' "$hint")"
 done
 check 'what a terminal says of a folder for blocks on disk' "$(on_terminal --spill-folder missing run job.txt)" \
-  "$(printf '%s\n' "note: $disk; $save" 'dask: write fault')"
+  "$(printf '%s\n' "note: $disk; $save" 'dask: write fault' "$hint")"
 printf 'let a = full((3), 1, (3))\nsave a "there/a.npy"\n' > "$folder/job.txt"
 check 'what a terminal says of that alone' "$(on_terminal --spill-folder missing run job.txt)" "note: $disk"
 check 'what a terminal says of it where no worker runs' "$(on_terminal --spill-folder missing plain job.txt)" ''
 check 'what a terminal says where all is well' "$(on_terminal --spill-folder there run job.txt)" ''
-check 'what a terminal says of a job that is missing' "$(on_terminal run missing.txt)" 'dask: read fault'
+check 'what a terminal says of a job that is missing' "$(on_terminal run missing.txt)" \
+  "$(printf '%s\n' 'dask: read fault' "hint: there is no missing.txt in $(cd "$folder" && pwd -P)")"
 check 'what no terminal says' "$(cd "$folder" && "$root/dask" --spill-folder missing run job.txt 2>&1 > /dev/null)" ''
 rm -r "$folder"
+
+# what most likely lies behind each refusal
+for cases in hint_cases; do
+  lines=$(python3 "tools/$cases.py" dask 2>&1)
+  check "status of $cases" "$?" 0
+  read -r _ equal _ different < <(tail -n 1 <<< "$lines")
+  if [[ $equal$different =~ ^[0-9]+$ ]]; then
+    passed=$((passed + equal))
+    failed=$((failed + different))
+  fi
+  [ "${different:-1}" = 0 ] || printf '%s\n' "$lines"
+done
 
 # a copy with what the repository carries, where no command rt answers
 folder=$(mktemp -d)

@@ -19,7 +19,9 @@ case ${1-} in
     ;;
   *)
     program=$(cd "$root" && { find_program || { build_program && find_program; }; } && echo "$program") || exit 70
-    # shellcheck source=tools/start.sh
-    . "$root/tools/start.sh"
+    start=start
+    [ ! -t 2 ] || start=waited
+    # shellcheck source=tools/start.sh disable=SC1091
+    . "$root/tools/$start.sh"
     ;;
 esac

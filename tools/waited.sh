@@ -1,0 +1,38 @@
+# waited.sh: starts the program on a terminal and waits for its end, with a line on what is most likely below
+# the line of a refusal. `dask` and tools/launch.bash source it, with `root` and `program`. It is for any shell.
+
+# without a place for the program's line, or a way to leave the signals of a terminal to it, it is started as elsewhere
+if ! env --default-signal=INT true 2> /dev/null || ! line_file=$(mktemp 2> /dev/null); then
+  . "$root/tools/start.sh"
+fi
+exec 8> "$line_file" 9< "$line_file"
+rm -f "$line_file"
+
+# The signal goes on to the program, and to nothing else.
+pass() { kill -s "$1" "$child" 2> /dev/null; }
+
+# a shell has what is behind & ignore a terminal's signals; the program's place is that of the process that is started here
+root=$root program=$program env --default-signal=INT,QUIT sh -c '. "$root/tools/start.sh"' dask "$@" <&0 2>&8 8>&- 9<&- &
+child=$!
+for signal in INT TERM HUP QUIT; do
+  # the signal's name is the present one
+  # shellcheck disable=SC2064
+  trap "pass $signal" "$signal"
+done
+# a signal ends a wait
+while :; do
+  wait "$child"
+  status=$?
+  kill -0 "$child" 2> /dev/null || break
+done
+line=$(cat <&9)
+[ -z "$line" ] || printf '%s\n' "$line" >&2
+case $status in
+  1 | 2 | 3 | 5 | 6) ! command -v python3 > /dev/null || python3 "$root/tools/hints.py" "$status" "$line" "$@" >&2 ;;
+esac
+if [ "$status" -gt 128 ]; then
+  # this ends as the program did
+  trap - INT TERM HUP QUIT
+  kill -s "$((status - 128))" "$$"
+fi
+exit "$status"
