@@ -9,7 +9,7 @@ check 'status of --help' "$?" 0
 check 'help is --help' "$(./dask help 2>/dev/null)" "$help"
 check 'no words at all are --help' "$(./dask 2>/dev/null)" "$help"
 check 'nothing on standard error' "$(./dask --help 2>&1 >/dev/null)" ''
-for word in run plain sim gen --workers --threads --memory --saturation --script --transport --report --spill-folder --help --version --build; do
+for word in run plain sim gen --workers --threads --memory --saturation --script --transport --report --spill-folder --progress --help --version --build; do
   check "--help names $word" "$(grep -c "^  ${word}[ ,]" <<< "$help")" 1
 done
 # the help of one command has its options, and no other's
@@ -33,7 +33,7 @@ while read -r _ words; do
   # shellcheck disable=SC2086
   ./dask $words >/dev/null 2>&1
   check "status of the example $words" "$?" 0
-done < <(grep -E '^ +\./dask (run|plain|sim|gen|--spill-folder) ' <<< "$help")
+done < <(grep -E '^ +\./dask (run|plain|sim|gen|--spill-folder|--progress) ' <<< "$help")
 rm -f examples/first/raised.npy
 
 version=$(./dask --version 2>/dev/null)
@@ -120,8 +120,8 @@ check 'what a terminal says of a job that is missing' "$(on_terminal run missing
 check 'what no terminal says' "$(cd "$folder" && "$root/dask" --spill-folder missing run job.txt 2>&1 > /dev/null)" ''
 rm -r "$folder"
 
-# what most likely lies behind each refusal
-for cases in hint_cases; do
+# what most likely lies behind each refusal, and the line on how far a run is
+for cases in hint_cases terminal_cases; do
   lines=$(python3 "tools/$cases.py" dask 2>&1)
   check "status of $cases" "$?" 0
   read -r _ equal _ different < <(tail -n 1 <<< "$lines")

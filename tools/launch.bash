@@ -1,9 +1,12 @@
 # launch.bash ROOT WORDS ..: what `dask` does where it can't run the program at once: it looks which program is of the sources as
-# they stand, builds one where none is, and answers --version and --build.
+# they stand, builds one where none is, and answers --version and --build. --progress may stand before
+# the words.
 version=0.1.0
 
 root=$1
 shift
+progress=
+[ "${1-}" != --progress ] || { progress=$1 && shift; }
 # shellcheck source=tools/program.bash
 . "$root/tools/program.bash" || exit 70
 case ${1-} in

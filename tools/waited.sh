@@ -1,5 +1,6 @@
-# waited.sh: starts the program on a terminal and waits for its end, with a line on what is most likely below
-# the line of a refusal. `dask` and tools/launch.bash source it, with `root` and `program`. It is for any shell.
+# waited.sh: starts the program on a terminal and waits for its end, with a line on how far it is where --progress is wanted, and below
+# the line of a refusal one on what is most likely. `dask` and tools/launch.bash source it, with `root`, `program` and `progress`. It is
+# for any shell.
 
 # without a place for the program's line, or a way to leave the signals of a terminal to it, it is started as elsewhere
 if ! env --default-signal=INT true 2> /dev/null || ! line_file=$(mktemp 2> /dev/null); then
@@ -19,12 +20,22 @@ for signal in INT TERM HUP QUIT; do
   # shellcheck disable=SC2064
   trap "pass $signal" "$signal"
 done
+watcher=
+if [ -n "$progress" ] && command -v python3 > /dev/null; then
+  python3 "$root/tools/show_progress.py" "$child" "$@" 8>&- 9<&- &
+  watcher=$!
+fi
 # a signal ends a wait
 while :; do
   wait "$child"
   status=$?
   kill -0 "$child" 2> /dev/null || break
 done
+if [ -n "$watcher" ]; then
+  kill "$watcher" 2> /dev/null
+  wait "$watcher" 2> /dev/null
+  printf '\r\033[K' >&2
+fi
 line=$(cat <&9)
 [ -z "$line" ] || printf '%s\n' "$line" >&2
 case $status in
