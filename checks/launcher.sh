@@ -120,7 +120,7 @@ check 'what a terminal says of a job that is missing' "$(on_terminal run missing
 check 'what no terminal says' "$(cd "$folder" && "$root/dask" --spill-folder missing run job.txt 2>&1 > /dev/null)" ''
 rm -r "$folder"
 
-# what most likely lies behind each refusal, and the line on how far a run is
+# what most likely lies behind each refusal, the line on how far a run is, and ends from outside
 for cases in hint_cases terminal_cases; do
   lines=$(python3 "tools/$cases.py" dask 2>&1)
   check "status of $cases" "$?" 0

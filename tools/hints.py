@@ -1,5 +1,8 @@
 #!/usr/bin/env python3
-"""One line on what most likely lies behind a refusal: tools/hints.py STATUS LINE WORDS .., where LINE is what the program said."""
+"""One line on what most likely lies behind a refusal: tools/hints.py STATUS LINE WORDS .., where LINE is what the program said.
+
+With `ended` as STATUS it removes what a program that was ended from outside left beside its saved files.
+"""
 import os
 import re
 import sys
@@ -190,7 +193,19 @@ def of(status, line, words):
         return None
 
 
+def clean(words):
+    sys.path.insert(0, os.path.join(os.path.dirname(os.path.abspath(__file__)), '..', 'python', 'yitrovana'))
+    try:
+        import leftovers
+        leftovers.remove(texts(words, SAVE))
+    except (ImportError, OSError, TypeError):
+        pass
+
+
 if __name__ == '__main__':
-    found = of(sys.argv[1], sys.argv[2], sys.argv[3:])
-    if found:
-        print(f'hint: {found}')
+    if sys.argv[1] == 'ended':
+        clean(sys.argv[3:])
+    else:
+        found = of(sys.argv[1], sys.argv[2], sys.argv[3:])
+        if found:
+            print(f'hint: {found}')

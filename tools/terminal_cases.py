@@ -1,10 +1,11 @@
 #!/usr/bin/env python3
-"""The launcher on a terminal of its own: tools/terminal_cases.py LAUNCHER. A line on how far a run is."""
+"""The launcher on a terminal of its own: tools/terminal_cases.py LAUNCHER. A line on how far a run is, and the end by Ctrl-C."""
 import os
 import pty
 import signal
 import sys
 import tempfile
+import time
 
 # far longer than a look at a folder takes, so that it is ended in its course
 LONG = 'let a = ramp((4096, 4096), 0, 1, (256, 256))\nlet b = tensordot(a, a, (1), (0))\nsave b "b.npy"\n'
@@ -44,6 +45,33 @@ def status_of(child, own):
     return (-os.WTERMSIG(status) if os.WIFSIGNALED(status) else os.WEXITSTATUS(status)), rest
 
 
+def has_part(folder):
+    return any(name.endswith('.part') for name in os.listdir(folder))
+
+
+def after_part(launcher, folder, words, end):
+    """The status of a long run that is ended once it has a part of its file, and what is in the folder then."""
+    child, own = started(launcher, words, folder)
+    while not has_part(folder) and os.waitid(os.P_PID, child, os.WEXITED | os.WNOHANG | os.WNOWAIT) is None:
+        time.sleep(0.02)
+    end(child, own)
+    status, _ = status_of(child, own)
+    return status, sorted(os.listdir(folder))
+
+
+def ends(launcher, folder):
+    """Runs that are ended from outside: what, what came, and what is wanted."""
+    def interrupt(_, own):
+        os.write(own, b'\x03')
+
+    def terminate(child, _):
+        os.kill(child, signal.SIGTERM)
+
+    for words in (['run', 'job.txt'], ['--progress', 'run', 'job.txt', '--memory=1000000'], ['plain', 'job.txt']):
+        yield f'Ctrl-C, {words}', after_part(launcher, folder, words, interrupt), (-signal.SIGINT, ['job.txt'])
+    yield 'an end by SIGTERM', after_part(launcher, folder, ['run', 'job.txt'], terminate), (-signal.SIGTERM, ['job.txt'])
+
+
 def lines(launcher, folder):
     """The line on how far a run is."""
     child, own = started(launcher, ['--progress', 'run', 'job.txt'], folder)
@@ -63,7 +91,7 @@ def elsewhere(launcher, folder):
 
 def main(launcher):
     launcher, different, equal = os.path.abspath(launcher), 0, 0
-    for cases, text in ((lines, LONG), (elsewhere, SHORT)):
+    for cases, text in ((ends, LONG), (lines, LONG), (elsewhere, SHORT)):
         with tempfile.TemporaryDirectory() as folder:
             with open(os.path.join(folder, 'job.txt'), 'w', encoding='ascii') as file:
                 file.write(text)
