@@ -99,7 +99,7 @@ try:
         held += piece
 except OSError:
     pass
-sys.stdout.write(held.decode().replace("\r", ""))' "$root/dask" "$@")
+sys.stdout.write(held.decode().replace("\r", ""))' "${command:-$root/dask}" "$@")
 }
 root=$PWD
 disk='no file can be made in missing, so workers keep all blocks in memory'
@@ -159,6 +159,23 @@ check 'the program where a line of another crate came' "$(first)" "$wanted"
 echo more >> "$folder/clone/release/dask"
 check 'no program where it is not the noted one' "$(first)" 'the program is not built for these sources, and there is no command rt to build it with'
 rm -rf "$folder"
+
+# what `make install` makes
+folder=$(mktemp -d)
+bash tools/install.sh "$folder/place" > "$folder/lines" 2>&1
+check 'status of an installation' "$?" 0
+check 'the same once more' "$(bash tools/install.sh "$folder/place" 2>&1)" "$(cat "$folder/lines")"
+check 'what is in it' "$(ls -A "$folder/place" "$folder/place/lib" "$folder/place/bin" | xargs)" \
+  "$folder/place: bin lib $folder/place/bin: yitrovana $folder/place/lib: yitrovana"
+printf 'let a = full((3), 1, (3))\nsave a "a.npy"\n' > "$folder/job.txt"
+check 'the installed command' "$(cd "$folder" && place/bin/yitrovana plain job.txt 2>&1)" "$(printf '%s\n' 'saved a.npy (3,)' 'finished by: plain')"
+check 'its help' "$("$folder/place/bin/yitrovana" --help)" "$(sed 's,\./dask,yitrovana,; s,examples/first/,,' <<< "$help")"
+check 'its help of one command' "$("$folder/place/bin/yitrovana" run --help | head -n 1 | cut -d ' ' -f 1-3)" 'usage: yitrovana run'
+check 'its version' "$("$folder/place/bin/yitrovana" --version)" "$version"
+check 'its build' "$("$folder/place/bin/yitrovana" --build 2>&1)" 'there are no sources here to build the program of'
+check 'what it says on a terminal' "$(command=$folder/place/bin/yitrovana && on_terminal run none.txt | tail -n 1)" \
+  "hint: there is no none.txt in $(cd "$folder" && pwd -P)"
+rm -r "$folder"
 
 # a clone whose release/ can't be written: which program is of its sources is kept in the user's own cache. The superuser, who writes
 # everywhere, is somebody else here

@@ -32,6 +32,19 @@ fi
 check 'the example' "$(PYTHONPATH=python /usr/bin/python3 python/examples/climatology.py 2>&1 | sed 's/ as .* has/ as it has/')" \
   'normal (12, 12, 24) and anomaly (3, 12, 12, 24) are as it has them'
 
+# the job of README.md with one's own file
+between() { # WORD
+  awk -v word="$1" '/^```/ { inside = !inside; block = ""; next } inside { block = block $0 "\n" } !inside { next } block ~ word { kept = block } END { printf "%s", kept }' README.md
+}
+mkdir "$folder/own"
+between np.save > "$folder/own/make.py"
+between 'input months' > "$folder/own/job.txt"
+check 'the job of README.md' "$(cd "$folder/own" && /usr/bin/python3 make.py 2>&1 && "$YITROVANA" run job.txt 2>&1 | head -n 1)" 'saved anomaly.npy (12, 6)'
+check 'what NumPy makes of it' "$(cd "$folder/own" && /usr/bin/python3 -c '
+import numpy as np
+months = np.load("months.npy")
+print(np.array_equal(np.load("anomaly.npy"), months - months.sum(axis=0) // 12))' 2>&1)" True
+
 # as one installs it, from a copy, since pip leaves files where it builds
 small='import yitrovana as y; print(y.ramp((2, 3), 1, 2).sum(axis=0).compute())'
 if /usr/bin/python3 -c 'import setuptools, wheel, pip' 2> /dev/null; then

@@ -9,6 +9,13 @@ progress=
 [ "${1-}" != --progress ] || { progress=$1 && shift; }
 # shellcheck source=tools/program.bash
 . "$root/tools/program.bash" || exit 70
+if [ ! -e "$root/crates.txt" ]; then
+  # an installation, as tools/install.sh makes it
+  [ "${1-}" = --version ] || { echo 'there are no sources here to build the program of' >&2 && exit 70; }
+  echo "dask $version"
+  read_note "$root/$released_note" && echo "$noted_kit"
+  exit
+fi
 case ${1-} in
   --version)
     cd "$root" || exit 70
