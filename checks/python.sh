@@ -34,7 +34,10 @@ check 'the example' "$(PYTHONPATH=python /usr/bin/python3 python/examples/climat
 
 # the job of README.md with one's own file
 between() { # WORD
-  awk -v word="$1" '/^```/ { inside = !inside; block = ""; next } inside { block = block $0 "\n" } !inside { next } block ~ word { kept = block } END { printf "%s", kept }' README.md
+  awk -v word="$1" '
+    /^```/ { if (inside && block ~ word) kept = block; inside = !inside; block = ""; next }
+    inside { block = block $0 "\n" }
+    END { printf "%s", kept }' README.md
 }
 mkdir "$folder/own"
 between np.save > "$folder/own/make.py"

@@ -17,13 +17,14 @@ target=$prefix/lib/yitrovana
 new=$(mktemp -d "$prefix/lib/.yitrovana.XXXXXX")
 trap 'rm -rf "$new"' EXIT
 chmod 755 "$new"
-mkdir -p "$new/release" "$new/tools" "$new/python/yitrovana"
+mkdir -p "$new/release" "$new/tools" "$new/python/yitrovana/cluster"
 install -m 755 dask "$new/dask"
 install -m 755 "$program" "$new/$released"
 install -m 644 "$note" "$new/$released_note"
 install -m 644 tools/{start,waited,places}.sh tools/{launch,program}.bash tools/{hints,hints_of_text,show_progress}.py "$new/tools"
+install -m 644 python/yitrovana_work.py "$new/python"
 install -m 644 python/yitrovana/*.py "$new/python/yitrovana"
-install -m 644 -D -t "$new/interop" interop/job_text.py
+install -m 644 python/yitrovana/cluster/*.py "$new/python/yitrovana/cluster"
 rm -rf "$target"
 mv "$new" "$target"
 ln -sfn ../lib/yitrovana/dask "$prefix/bin/yitrovana"

@@ -5,7 +5,7 @@ import sys
 import time
 
 TOP = os.path.dirname(os.path.dirname(os.path.abspath(__file__)))
-sys.path += [os.path.join(TOP, 'python', 'yitrovana'), os.path.join(TOP, 'interop')]
+sys.path += [os.path.join(TOP, 'python', 'yitrovana'), os.path.join(TOP, 'python', 'yitrovana', 'cluster')]
 import job_text  # noqa: E402
 from hints import Words  # noqa: E402
 from progress import EVERY, Line, counts  # noqa: E402

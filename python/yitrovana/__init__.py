@@ -12,13 +12,19 @@ from .sources import arange, full, ones, open, ramp, zeros
 from .text import Job as _Job
 
 # without the names of Python's own functions
-__all__ = ['Array', 'LimitWarning', 'arange', 'concatenate', 'full', 'graph', 'job', 'matmul', 'maximum', 'minimum', 'ones', 'prod', 'ramp',
+__all__ = ['Array', 'LimitWarning', 'arange', 'concatenate', 'from_dask', 'full', 'graph', 'job', 'matmul', 'maximum', 'minimum', 'ones', 'prod', 'ramp',
            'rechunk', 'report', 'save', 'tensordot', 'transpose', 'where', 'zeros']
 
 
 def job(arrays):
     """The text of the job that saves arrays in files, `{"b.npy": b}`."""
     return _Job(arrays).text
+
+
+def from_dask(array, path):
+    """Has Dask compute an array of `dask.array` into the `.npy` file at `path`, and opens that."""
+    from .cluster import from_dask as convert
+    return convert(array, path)
 
 
 def graph(*arrays):

@@ -75,6 +75,11 @@ class Array:
         from .text import Job
         return Job({file: self}).text
 
+    def to_dask(self):
+        """The array of `dask.array` with the same elements and blocks, for what Dask alone does with it, as `to_zarr`."""
+        from .cluster import to_dask
+        return to_dask(self)
+
     def graph(self):
         """The operations that this array stands on, as a picture that a notebook shows, and with counts of tasks."""
         from .graphs import Graph

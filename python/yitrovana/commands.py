@@ -6,7 +6,7 @@ from operator import index
 HERE = os.path.dirname(os.path.abspath(__file__))
 INSTALLED, CLONE = os.path.join(HERE, 'program'), os.path.normpath(os.path.join(HERE, '..', '..', 'dask'))
 OPTIONS = {'run': ('workers', 'threads', 'memory', 'saturation', 'script'), 'plain': (),
-           'sim': ('workers', 'threads', 'saturation', 'script'), 'dask': ('workers', 'threads')}
+           'sim': ('workers', 'threads', 'saturation', 'script'), 'dask': ('workers', 'threads', 'scheduler', 'timeout')}
 RANGES = {'workers': (1, 64), 'threads': (1, 16), 'memory': (1, 2**40), 'saturation': (1, 1000)}
 WORKERS, THREADS, TOGETHER = 4, 2, 64  # without the options, and workers times threads
 UNITS = {'': 1, 'B': 1, **{f'{letter}{end}': 1000**power for power, letter in enumerate('KMGT', 1) for end in ('', 'B')},

@@ -6,7 +6,7 @@ import time
 
 import numpy as np
 
-from . import commands, leftovers, progress, reports
+from . import cluster, commands, leftovers, progress, reports
 from .failures import failure
 from .text import Job
 
@@ -14,26 +14,37 @@ LAST = {}  # the report of the last run
 
 
 def save(arrays, workers=None, threads=None, memory=None, command='run', number=0, saturation=None, script=None, spill_folder=None,
-         progress=False):
+         scheduler=None, timeout=None, progress=False):
     """Computes arrays into files, `{"b.npy": b}`, by one job.
 
     `command` is 'run', 'plain' or 'sim', whose events `number` draws. `memory` is bytes or a text as '1GiB', and workers put blocks
-    beyond it into `spill_folder`. `progress` is True, or is called twice a second with the counts of `yitrovana.progress.Counts`.
+    beyond it into `spill_folder`. Or it is 'dask', for a cluster of Dask.distributed: that of the address or the client `scheduler`,
+    which has to answer within `timeout` seconds, of the session's own client, or of threads that are started here. `progress` is True,
+    or is called twice a second with the counts of `yitrovana.progress.Counts`.
     """
-    options = {'workers': workers, 'threads': threads, 'memory': memory, 'saturation': saturation, 'script': script}
+    options = {'workers': workers, 'threads': threads, 'memory': memory, 'saturation': saturation, 'script': script, 'scheduler': scheduler,
+               'timeout': timeout}
     job = Job(arrays)
     commands.checked(command, options)
-    job.check_graph()
     began = time.monotonic()
+    if command == 'dask':
+        lines = cluster.run(job, scheduler, workers, threads, timeout, progress)
+    else:
+        job.check_graph()
+        lines = run(job, command, options, number, spill_folder, progress)
+    LAST.clear()
+    LAST.update(reports.read(lines), command=command, seconds=time.monotonic() - began)
+    reports.told(LAST)
+
+
+def run(job, command, options, number, spill_folder, wanted):
+    """What the program prints of a job."""
     with tempfile.TemporaryDirectory() as folder:
         path = os.path.join(folder, 'job.txt')
         with open(path, 'w', encoding='ascii') as file:
             file.write(job.text)
         words = commands.program() + commands.words(command, path, options, number)
-        lines = answered(words, job, spill_folder, progress)
-    LAST.clear()
-    LAST.update(reports.read(lines), command=command, seconds=time.monotonic() - began)
-    reports.told(LAST)
+        return answered(words, job, spill_folder, wanted)
 
 
 def report():
