@@ -9,17 +9,23 @@ fi
 exec 8> "$line_file" 9< "$line_file"
 rm -f "$line_file"
 
-# The signal goes on to the program, and to nothing else.
-pass() { kill -s "$1" "$child" 2> /dev/null; }
+# The signal goes on to the program, once that is started.
+child=
+early=
+pass() {
+  early=$1
+  [ -z "$child" ] || kill -s "$1" "$child" 2> /dev/null
+}
 
-# a shell has what is behind & ignore a terminal's signals; the program's place is that of the process that is started here
-root=$root program=$program env --default-signal=INT,QUIT sh -c '. "$root/tools/start.sh"' dask "$@" <&0 2>&8 8>&- 9<&- &
-child=$!
 for signal in INT TERM HUP QUIT; do
   # the signal's name is the present one
   # shellcheck disable=SC2064
   trap "pass $signal" "$signal"
 done
+# a shell has what is behind & ignore a terminal's signals; the program's place is that of the process that is started here
+root=$root program=$program env --default-signal=INT,QUIT sh -c '. "$root/tools/start.sh"' dask "$@" <&0 2>&8 8>&- 9<&- &
+child=$!
+[ -z "$early" ] || pass "$early"
 watcher=
 if [ -n "$progress" ] && command -v python3 > /dev/null; then
   python3 "$root/tools/show_progress.py" "$child" "$@" 8>&- 9<&- &

@@ -86,7 +86,9 @@ class Bar:
 
 
 def shown(total):
-    """A bar of tqdm where that is there, else a line of standard error."""
+    """A bar of tqdm where that is there, else a line of standard error; nothing where neither a terminal nor a notebook shows it."""
+    if not sys.stderr.isatty() and 'ipykernel' not in sys.modules:
+        return Line(sys.stderr)
     try:
         from tqdm.auto import tqdm
     except ImportError:
