@@ -17,7 +17,6 @@ import yitrovana_work as block_work
 from dask.distributed import Client, LocalCluster, progress, wait
 from distributed.diagnostics.plugin import UploadFile
 from distributed.scheduler import KilledWorker
-from yitrovana_work import ReadFault, SavedFile, WriteFault, ZeroDivision
 
 from . import array_files
 from .block_arrays import Arrays
@@ -79,7 +78,7 @@ def connected(scheduler=None, workers=None, threads=None, timeout=TIMEOUT, proce
 
 
 def send(client):
-    """Gives the workers what they are to run."""
+    """Gives the workers what they are to run. Those of this process load the module anew, so that its classes are named by it."""
     client.register_worker_plugin(UploadFile(block_work.__file__))
 
 
@@ -115,7 +114,7 @@ class Part:
         if os.path.exists(self.name) and not os.path.isfile(self.name) or not os.path.isdir(os.path.dirname(self.name)):
             raise OSError(name)
         self.path, self.file = self.create()
-        self.target = SavedFile(self.path, shape, len(head))
+        self.target = block_work.SavedFile(self.path, shape, len(head))
         self.file.write(head)
         self.file.truncate(len(head) + 8 * math.prod(shape))
 
@@ -156,7 +155,8 @@ def store(client, blocks, arrays, parts, show):
     """Has the cluster write each saved array into its part. Tasks are not nested into each other, as many would pass Python's stack."""
     saved = [arrays.array(node) for node in blocks.job.saves.values()]
     try:
-        with dask.config.set({'optimization.fuse.active': False}), answered(ReadFault, READ), answered(WriteFault, WRITE), answered(MemoryError, MEMORY), \
+        with dask.config.set({'optimization.fuse.active': False}), answered(block_work.ReadFault, READ), \
+                answered(block_work.WriteFault, WRITE), answered(MemoryError, MEMORY), \
                 answered((KilledWorker, OSError, CancelledError), CLUSTER):
             stored = client.compute(da.store(saved, [part.target for part in parts], lock=False, compute=False))
             if show:
@@ -164,7 +164,7 @@ def store(client, blocks, arrays, parts, show):
                 with contextlib.nullcontext() if show == 'notebook' else contextlib.redirect_stdout(sys.stderr):
                     progress(stored, notebook=show == 'notebook')
             stored.result()
-    except ZeroDivision as why:
+    except block_work.ZeroDivision as why:
         raise Refused(4, first_zero_division(client, blocks, arrays)) from why
 
 
