@@ -24,8 +24,12 @@ done << 'OPTIONS'
 run --workers --threads --saturation --script --memory --transport --report
 plain
 sim --workers --threads --saturation --script
-gen --workers --threads --saturation --script
+gen --workers --threads
 OPTIONS
+for words in '' --help 'run --help'; do
+  # shellcheck disable=SC2086
+  check "a help of '$words' that is read in part" "$(./dask $words 2>&1 > >(exec > /dev/null; head -c 1))" ''
+done
 check 'behind -- no word is --help' "$(./dask run -- --help 2>&1)" 'dask: read fault'
 # every example of a command ends well
 while read -r _ words; do
