@@ -161,7 +161,7 @@ def store(client, blocks, arrays, parts, show):
             stored = client.compute(da.store(saved, [part.target for part in parts], lock=False, compute=False))
             if show:
                 # Dask's own bar writes to standard output on a terminal, where the lines of the job are to stand alone
-                with contextlib.nullcontext() if show == 'notebook' else contextlib.redirect_stdout(sys.stderr):
+                with client.as_current(), contextlib.nullcontext() if show == 'notebook' else contextlib.redirect_stdout(sys.stderr):
                     progress(stored, notebook=show == 'notebook')
             stored.result()
     except block_work.ZeroDivision as why:
