@@ -32,9 +32,10 @@ SIZES = {
 
 DASK = '''
 import os, sys
-sys.path.insert(0, {interop!r})
+sys.path.insert(0, {python!r})
 import numpy as np, dask, dask.array as da
-import array_files, block_work
+import yitrovana_work as block_work
+from yitrovana.cluster import array_files
 
 def main():
     shape, chunks = {shape}, {chunks}
@@ -116,7 +117,7 @@ def commands(folder, shape, chunks, ours, numpy, dask):
     """Who runs the job, by which words, and into which file."""
     write(folder, 'job.txt', f'input a "a.npy" shape {shape} chunks {chunks}\nlet b = {ours}\nsave b "program.npy"\n')
     for name, compute in (('threads', THREADS), ('distributed', DISTRIBUTED)):
-        write(folder, f'by_{name}.py', DASK.format(interop=os.path.join(TOP, 'interop'), shape=shape, chunks=chunks, expression=dask,
+        write(folder, f'by_{name}.py', DASK.format(python=os.path.join(TOP, 'python'), shape=shape, chunks=chunks, expression=dask,
                                                 out=name + '.npy', compute=compute))
     return {
         'this program': ([jobs.PROGRAM, 'plain', 'job.txt'], 'program.npy'),

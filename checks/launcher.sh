@@ -7,17 +7,37 @@ about='launcher'
 help=$(./dask --help 2>/dev/null)
 check 'status of --help' "$?" 0
 check 'help is --help' "$(./dask help 2>/dev/null)" "$help"
+check 'no words at all are --help' "$(./dask 2>/dev/null)" "$help"
 check 'nothing on standard error' "$(./dask --help 2>&1 >/dev/null)" ''
-for word in run plain sim gen --workers --threads --memory --saturation --script --transport --report --spill-folder --help --version --build; do
+for word in run plain sim gen --workers --threads --memory --saturation --script --transport --report --spill-folder --progress --help --version --build; do
   check "--help names $word" "$(grep -c "^  ${word}[ ,]" <<< "$help")" 1
 done
+# the help of one command has its options, and no other's
+while read -r command words; do
+  for place in '' 'job.txt --memory 1'; do
+    # shellcheck disable=SC2086
+    check "the words of $command $place --help" "$(./dask $command $place --help 2>/dev/null | grep -oE '^  (--)?[a-z]+' | xargs)" "$command${words:+ $words}"
+  done
+  ./dask "$command" --help > /dev/null 2>&1
+  check "status of $command --help" "$?" 0
+done << 'OPTIONS'
+run --workers --threads --saturation --script --memory --transport --report
+plain
+sim --workers --threads --saturation --script
+gen --workers --threads
+OPTIONS
+for words in '' --help 'run --help'; do
+  # shellcheck disable=SC2086
+  check "a help of '$words' that is read in part" "$(./dask $words 2>&1 > >(exec > /dev/null; head -c 1))" ''
+done
+check 'behind -- no word is --help' "$(./dask run -- --help 2>&1)" 'dask: read fault'
 # every example of a command ends well
 while read -r _ words; do
   # the words of an example
   # shellcheck disable=SC2086
   ./dask $words >/dev/null 2>&1
   check "status of the example $words" "$?" 0
-done < <(grep -E '^ +\./dask (run|plain|sim|gen|--spill-folder) ' <<< "$help")
+done < <(grep -E '^ +\./dask (run|plain|sim|gen|--spill-folder|--progress) ' <<< "$help")
 rm -f examples/first/raised.npy
 
 version=$(./dask --version 2>/dev/null)
@@ -83,24 +103,38 @@ try:
         held += piece
 except OSError:
     pass
-sys.stdout.write(held.decode().replace("\r", ""))' "$root/dask" "$@")
+sys.stdout.write(held.decode().replace("\r", ""))' "${command:-$root/dask}" "$@")
 }
 root=$PWD
 disk='no file can be made in missing, so workers keep all blocks in memory'
 save='no file can be made beside missing/a.npy, so it can only be written in place'
+hint='hint: missing/a.npy can not be made: there is no folder missing'
 for words in 'run job.txt' 'plain -- job.txt' 'run --workers 2 --report --threads=1 job.txt' 'sim job.txt 7'; do
   # shellcheck disable=SC2086
-  check "what a terminal says of $words" "$(on_terminal $words)" "$(printf '%s\n' "note: $save" 'dask: write fault')"
+  check "what a terminal says of $words" "$(on_terminal $words)" "$(printf '%s\n' "note: $save" 'dask: write fault' "$hint")"
 done
 check 'what a terminal says of a folder for blocks on disk' "$(on_terminal --spill-folder missing run job.txt)" \
-  "$(printf '%s\n' "note: $disk; $save" 'dask: write fault')"
+  "$(printf '%s\n' "note: $disk; $save" 'dask: write fault' "$hint")"
 printf 'let a = full((3), 1, (3))\nsave a "there/a.npy"\n' > "$folder/job.txt"
 check 'what a terminal says of that alone' "$(on_terminal --spill-folder missing run job.txt)" "note: $disk"
 check 'what a terminal says of it where no worker runs' "$(on_terminal --spill-folder missing plain job.txt)" ''
 check 'what a terminal says where all is well' "$(on_terminal --spill-folder there run job.txt)" ''
-check 'what a terminal says of a job that is missing' "$(on_terminal run missing.txt)" 'dask: read fault'
+check 'what a terminal says of a job that is missing' "$(on_terminal run missing.txt)" \
+  "$(printf '%s\n' 'dask: read fault' "hint: there is no missing.txt in $(cd "$folder" && pwd -P)")"
 check 'what no terminal says' "$(cd "$folder" && "$root/dask" --spill-folder missing run job.txt 2>&1 > /dev/null)" ''
 rm -r "$folder"
+
+# what most likely lies behind each refusal, the line on how far a run is, and ends from outside
+for cases in hint_cases terminal_cases; do
+  lines=$(python3 "tools/$cases.py" dask 2>&1)
+  check "status of $cases" "$?" 0
+  read -r _ equal _ different < <(tail -n 1 <<< "$lines")
+  if [[ $equal$different =~ ^[0-9]+$ ]]; then
+    passed=$((passed + equal))
+    failed=$((failed + different))
+  fi
+  [ "${different:-1}" = 0 ] || printf '%s\n' "$lines"
+done
 
 # a copy with what the repository carries, where no command rt answers
 folder=$(mktemp -d)
@@ -130,6 +164,23 @@ check 'the program where a line of another crate came' "$(first)" "$wanted"
 echo more >> "$folder/clone/release/dask"
 check 'no program where it is not the noted one' "$(first)" 'the program is not built for these sources, and there is no command rt to build it with'
 rm -rf "$folder"
+
+# what `make install` makes
+folder=$(mktemp -d)
+bash tools/install.sh "$folder/place" > "$folder/lines" 2>&1
+check 'status of an installation' "$?" 0
+check 'the same once more' "$(bash tools/install.sh "$folder/place" 2>&1)" "$(cat "$folder/lines")"
+check 'what is in it' "$(ls -A "$folder/place" "$folder/place/lib" "$folder/place/bin" | xargs)" \
+  "$folder/place: bin lib $folder/place/bin: yitrovana $folder/place/lib: yitrovana"
+printf 'let a = full((3), 1, (3))\nsave a "a.npy"\n' > "$folder/job.txt"
+check 'the installed command' "$(cd "$folder" && place/bin/yitrovana plain job.txt 2>&1)" "$(printf '%s\n' 'saved a.npy (3,)' 'finished by: plain')"
+check 'its help' "$("$folder/place/bin/yitrovana" --help)" "$(sed 's,\./dask,yitrovana,; s,examples/first/,,' <<< "$help")"
+check 'its help of one command' "$("$folder/place/bin/yitrovana" run --help | head -n 1 | cut -d ' ' -f 1-3)" 'usage: yitrovana run'
+check 'its version' "$("$folder/place/bin/yitrovana" --version)" "$version"
+check 'its build' "$("$folder/place/bin/yitrovana" --build 2>&1)" 'there are no sources here to build the program of'
+check 'what it says on a terminal' "$(command=$folder/place/bin/yitrovana && on_terminal run none.txt | tail -n 1)" \
+  "hint: there is no none.txt in $(cd "$folder" && pwd -P)"
+rm -r "$folder"
 
 # a clone whose release/ can't be written: which program is of its sources is kept in the user's own cache. The superuser, who writes
 # everywhere, is somebody else here

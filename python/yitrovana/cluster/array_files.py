@@ -1,7 +1,7 @@
 """The heads of array files: what one says, why one is refused, and what is written. Written from docs/FORMATS.md."""
 from math import prod
 
-from job_text import AXES, ELEMENTS, Refused
+from .job_text import AXES, ELEMENTS, Refused
 
 MAGIC = b'\x93NUMPY'
 KEYS = (b'descr', b'fortran_order', b'shape')

@@ -1,10 +1,10 @@
-"""What the workers of the cluster run, block by block. It stands on NumPy alone, and the adapter sends it to every worker."""
+"""What the workers of the cluster run, block by block. It stands on NumPy alone, and `yitrovana.cluster` sends it to every worker."""
 import os
 
 import numpy as np
 
 
-class ZeroDivision(Exception):
+class ZeroDivision(ZeroDivisionError):
     """A node divides by 0 in a block: the node's number and the block's place."""
 
 
@@ -58,6 +58,11 @@ def divide(left, right, op, node, block_id=None):
         raise ZeroDivision(node, tuple(block_id))
     with np.errstate(all='ignore'):
         return np.asarray(ELEMENTWISE[op](left, right), np.int64)
+
+
+def divide_one(left, right, op, node):
+    """The same for an array without axes, of whose one block Dask can't tell the place: in some graphs it takes () for a task."""
+    return divide(left, right, op, node, ())
 
 
 def fold(block, axis, keepdims, op):

@@ -1,7 +1,7 @@
 #!/usr/bin/env python3
-"""Runs jobs by the program and by the adapter of interop/ on a cluster in this process, and compares status, lines and bytes.
+"""Runs jobs by the program and by the front in Python on a cluster of Dask in this process, and compares status, lines and bytes.
 
-    /usr/bin/python3 tools/interop_cases.py PROGRAM [COUNT [SEED]]
+    /usr/bin/python3 tools/dask_cases.py PROGRAM [COUNT [SEED]]
 
 The jobs are those of examples/, COUNT random ones (100) and some texts and files that are refused. It prints a line for each
 difference, and the numbers of jobs that are equal and that differ.
@@ -21,7 +21,7 @@ import numpy as np
 from random_jobs import write_random
 
 TOP = os.path.dirname(os.path.dirname(os.path.abspath(__file__)))
-sys.path.insert(0, os.path.join(TOP, 'interop'))
+sys.path.insert(0, os.path.join(TOP, 'python'))
 
 
 # ---- texts and files that are refused
@@ -72,12 +72,12 @@ def by_program(program, folder):
     return done.returncode, done.stdout, done.stderr, saved(folder)
 
 
-def by_adapter(client, folder):
-    import dask_job
-    from job_text import Refused
+def by_cluster(client, folder):
+    from yitrovana.cluster import dask_job
+    from yitrovana.cluster.job_text import Refused
     with contextlib.chdir(folder):
         try:
-            lines = dask_job.run('job.txt', contextlib.nullcontext(client))
+            lines = dask_job.run(dask_job.read_text('job.txt'), contextlib.nullcontext(client))
             return 0, lines.replace('dask.distributed', 'plain'), '', saved(folder)
         except Refused as why:
             return why.status, '', f'dask: {why.line}\n', saved(folder)
@@ -102,7 +102,7 @@ class Cases:
     def compare(self, name, text, folder):
         with open(os.path.join(folder, 'job.txt'), 'w', encoding='ascii') as job:
             job.write(text)
-        ours, theirs = by_program(self.program, folder), by_adapter(self.client, folder)
+        ours, theirs = by_program(self.program, folder), by_cluster(self.client, folder)
         self.ends[ours[0]] += 1
         if ours[0]:
             # what is left of a run that ends otherwise is no promise
@@ -111,7 +111,7 @@ class Cases:
             self.equal += 1
         else:
             self.different += 1
-            print(f'interop: {name}:\n{text}the program: {shown(ours)}\nthe adapter: {shown(theirs)}')
+            print(f'dask: {name}:\n{text}the program: {shown(ours)}\nthe cluster: {shown(theirs)}')
 
     def examples(self, folder):
         for name in sorted(os.listdir(os.path.join(TOP, 'examples'))):
@@ -150,11 +150,13 @@ def shown(answer):
 
 
 def main(program, count='100', seed='1'):
-    import dask_job  # before Dask, whose log it turns off
+    os.environ.setdefault('DASK_LOGGING__DISTRIBUTED', 'critical')  # before Dask is imported
     from dask.distributed import Client
+    from yitrovana.cluster.dask_job import send
     sys.setrecursionlimit(10000)
     cluster = {'processes': False, 'dashboard_address': '127.0.0.1:0', 'silence_logs': 50}
     with tempfile.TemporaryDirectory() as folder, Client(n_workers=2, threads_per_worker=2, **cluster) as client:
+        send(client)
         cases = Cases(program, client)
         cases.examples(folder)
         cases.refused(folder)

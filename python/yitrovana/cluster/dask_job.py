@@ -1,11 +1,4 @@
-#!/usr/bin/python3
-"""Runs a job text on a cluster of Dask.distributed, for those who outgrow one machine. Nothing here is proved.
-
-    /usr/bin/python3 interop/dask_job.py JOB [--scheduler ADDRESS | --workers N] [--threads N]
-
-It runs on the cluster of the scheduler at ADDRESS, or starts one on this machine, of N processes (4) with as many threads
-each (2), which goes at the end. Every worker has to see the files under the names that they have here. See interop/README.md.
-"""
+"""Runs job texts on a cluster of Dask.distributed. The words of its command are those of `python3 -m yitrovana.cluster`."""
 import argparse
 import contextlib
 import fcntl
@@ -18,22 +11,19 @@ import stat
 import sys
 from concurrent.futures import CancelledError
 
-# read when Dask is imported, here and in the workers that are started here: the answer's line is the only one of standard error
-os.environ.setdefault('DASK_LOGGING__DISTRIBUTED', 'critical')
-
 import dask
 import dask.array as da
-from dask.distributed import Client, LocalCluster, wait
+import yitrovana_work as block_work
+from dask.distributed import Client, LocalCluster, progress, wait
 from distributed.diagnostics.plugin import UploadFile
 from distributed.scheduler import KilledWorker
 
-import array_files
-import block_work
-from block_arrays import Arrays
-from block_layouts import Blocks
-from block_work import ReadFault, SavedFile, WriteFault, ZeroDivision
-from job_text import Refused, read
+from . import array_files
+from .block_arrays import Arrays
+from .block_layouts import Blocks
+from .job_text import Refused, read
 
+TIMEOUT = 30  # seconds for a connection that doesn't come
 READ, WRITE, CLUSTER, MEMORY = (5, 'read fault'), (6, 'write fault'), (7, 'cluster'), (8, 'out of memory')
 
 
@@ -59,11 +49,15 @@ def positive(word):
 
 
 def parse(words):
-    parser = Words(allow_abbrev=False, add_help=False)
-    parser.add_argument('job')
-    parser.add_argument('--scheduler')
-    parser.add_argument('--workers', type=positive)
-    parser.add_argument('--threads', type=positive)
+    parser = Words(prog='python3 -m yitrovana.cluster', allow_abbrev=False,
+                   description='Runs a job text on a cluster of Dask.distributed, and saves the same files as the program. '
+                               'Every worker has to see the files under the names that they have here.')
+    parser.add_argument('job', metavar='JOB', help='the file of the job text')
+    parser.add_argument('--scheduler', metavar='ADDRESS', help='that of a cluster, as tcp://127.0.0.1:8786; without it one is started here')
+    parser.add_argument('--workers', type=positive, metavar='N', help='how many processes a cluster that is started here has; without it 4')
+    parser.add_argument('--threads', type=positive, metavar='N', help='how many threads each of them has; without it 2')
+    parser.add_argument('--timeout', type=positive, metavar='S', default=TIMEOUT, help=f'how many seconds a connection may take; without it {TIMEOUT}')
+    parser.add_argument('--progress', action='store_true', help="shows Dask's own bar on a terminal's standard error")
     options = parser.parse_args(words)
     if options.scheduler and (options.workers or options.threads):
         parser.error('a cluster that is there has its own workers')
@@ -71,15 +65,21 @@ def parse(words):
 
 
 @contextlib.contextmanager
-def connected(options):
-    """A client of the cluster that the options name, whose workers have what they are to run."""
+def connected(scheduler=None, workers=None, threads=None, timeout=TIMEOUT, processes=True):
+    """A client of the cluster at an address, or of one that is started here, whose workers have what they are to run."""
     with contextlib.ExitStack() as stack:
         with answered((OSError, ValueError), CLUSTER):
-            address = options.scheduler or stack.enter_context(LocalCluster(
-                options.workers or 4, options.threads or 2, host='127.0.0.1', dashboard_address='127.0.0.1:0', silence_logs=logging.CRITICAL))
-            client = stack.enter_context(Client(address))
-            client.register_worker_plugin(UploadFile(block_work.__file__))
+            address = scheduler or stack.enter_context(LocalCluster(
+                workers or 4, threads or 2, processes=processes, host='127.0.0.1' if processes else None, dashboard_address='127.0.0.1:0',
+                silence_logs=logging.CRITICAL))
+            client = stack.enter_context(Client(address, timeout=timeout, set_as_default=False))
+            send(client)
         yield client
+
+
+def send(client):
+    """Gives the workers what they are to run. Those of this process load the module anew, so that its classes are named by it."""
+    client.register_worker_plugin(UploadFile(block_work.__file__))
 
 
 # ---- files
@@ -92,10 +92,9 @@ def open_regular(name):
     return file
 
 
-def read_job(name):
+def read_text(name):
     with answered(OSError, READ), open_regular(name) as file:
-        text = file.read()
-    return read(text)
+        return file.read()
 
 
 def read_heads(job):
@@ -112,10 +111,10 @@ class Part:
 
     def __init__(self, name, shape):
         self.name, head = os.path.realpath(name), array_files.head(shape)
-        if os.path.exists(self.name) and not os.path.isfile(self.name):
+        if os.path.exists(self.name) and not os.path.isfile(self.name) or not os.path.isdir(os.path.dirname(self.name)):
             raise OSError(name)
         self.path, self.file = self.create()
-        self.target = SavedFile(self.path, shape, len(head))
+        self.target = block_work.SavedFile(self.path, shape, len(head))
         self.file.write(head)
         self.file.truncate(len(head) + 8 * math.prod(shape))
 
@@ -152,19 +151,24 @@ def first_zero_division(client, blocks, arrays):
     return f'zero division: node {node} block (' + ', '.join(map(str, index)) + ')'
 
 
-def store(client, blocks, arrays, parts):
+def store(client, blocks, arrays, parts, show):
     """Has the cluster write each saved array into its part. Tasks are not nested into each other, as many would pass Python's stack."""
-    dask.config.set({'optimization.fuse.active': False})
     saved = [arrays.array(node) for node in blocks.job.saves.values()]
     try:
-        with answered(ReadFault, READ), answered(WriteFault, WRITE), answered(MemoryError, MEMORY), \
+        with dask.config.set({'optimization.fuse.active': False}), answered(block_work.ReadFault, READ), \
+                answered(block_work.WriteFault, WRITE), answered(MemoryError, MEMORY), \
                 answered((KilledWorker, OSError, CancelledError), CLUSTER):
-            client.compute(da.store(saved, [part.target for part in parts], lock=False, compute=False)).result()
-    except ZeroDivision as why:
+            stored = client.compute(da.store(saved, [part.target for part in parts], lock=False, compute=False))
+            if show:
+                # Dask's own bar writes to standard output on a terminal, where the lines of the job are to stand alone
+                with client.as_current(), contextlib.nullcontext() if show == 'notebook' else contextlib.redirect_stdout(sys.stderr):
+                    progress(stored, notebook=show == 'notebook')
+            stored.result()
+    except block_work.ZeroDivision as why:
         raise Refused(4, first_zero_division(client, blocks, arrays)) from why
 
 
-def save(client, blocks, arrays):
+def save(client, blocks, arrays, show):
     """Makes all parts, and gives them their names once all are whole."""
     with contextlib.ExitStack() as stack:
         parts = []
@@ -172,19 +176,19 @@ def save(client, blocks, arrays):
             with answered(OSError, WRITE):
                 parts.append(Part(name, blocks.job.nodes[node].shape))
             stack.callback(parts[-1].drop)
-        store(client, blocks, arrays, parts)
+        store(client, blocks, arrays, parts, show)
         for part in parts:
             with answered(OSError, WRITE):
                 part.keep()
 
 
-def run(name, connection):
-    """The lines of a job, on the client that the context `connection` gives."""
-    job = read_job(name)
+def run(text, connection, show=False):
+    """The lines of a job, on the client that the context `connection` gives; `show` is False, True, or 'notebook'."""
+    job = read(text)
     blocks = Blocks(job)
     files = read_heads(job)
     with connection as client:
-        save(client, blocks, Arrays(blocks, files))
+        save(client, blocks, Arrays(blocks, files), show)
     saved = [f'saved {file} {array_files.shape_text(job.nodes[node].shape)}\n' for file, node in job.saves.items()]
     return ''.join(saved) + 'finished by: dask.distributed\n'
 
@@ -199,7 +203,8 @@ def main(words):
     sys.setrecursionlimit(10000)
     try:
         options = parse(words)
-        show(run(options.job, connected(options)))
+        connection = connected(options.scheduler, options.workers, options.threads, options.timeout)
+        show(run(read_text(options.job), connection, options.progress and sys.stderr.isatty()))
         return 0
     except Refused as why:
         print(f'dask: {why.line}', file=sys.stderr)
@@ -208,6 +213,3 @@ def main(words):
         print('dask: out of memory', file=sys.stderr)
         return 8
 
-
-if __name__ == '__main__':
-    sys.exit(main(sys.argv[1:]))

@@ -5,12 +5,11 @@ from functools import partial
 import dask.array as da
 import numpy as np
 
-import block_work
-from block_layouts import joined_layouts, joined_operands, product_layouts, under
-from job_text import FOLDS
+import yitrovana_work as block_work
 
-# The layout is given, so no advice on it is wanted.
-warnings.simplefilter('ignore', da.PerformanceWarning)
+from .block_layouts import joined_layouts, joined_operands, product_layouts, under
+from .job_text import FOLDS
+
 # A rechunking goes in one step and not over other chunks, so that a block rests on no more blocks than it is made of.
 AT_ONCE = {'threshold': 2**62, 'block_size_limit': 2**62}
 
@@ -59,7 +58,10 @@ class Arrays:
         of = {'input': self.input, 'full': self.full, 'ramp': self.ramp, 'slice': self.slice, 'transpose': self.transpose,
               'rechunk': self.rechunk, 'concatenate': self.concatenate, 'tensordot': self.tensordot, '//': self.division,
               '%': self.division, **dict.fromkeys(FOLDS, self.fold)}
-        array = of.get(node.op, self.elementwise)(number, node)
+        with warnings.catch_warnings():
+            # the layout is given, so no advice on it is wanted
+            warnings.simplefilter('ignore', da.PerformanceWarning)
+            array = of.get(node.op, self.elementwise)(number, node)
         assert array.chunks == self.layouts[number] and array.shape == node.shape, (node, array.chunks, self.layouts[number])
         return array
 
@@ -88,7 +90,8 @@ class Arrays:
         return self.blockwise(block_work.combine, number, *self.aligned(number, node), op=node.op)
 
     def division(self, number, node):
-        return self.blockwise(block_work.divide, number, *self.aligned(number, node), op=node.op, node=number)
+        function = block_work.divide if node.shape else block_work.divide_one
+        return self.blockwise(function, number, *self.aligned(number, node), op=node.op, node=number)
 
     def slice(self, _, node):
         return self.operands(node)[0][tuple(map(slice_of, node.fields['parts'], self.job.nodes[node.operands[0]].shape))]

@@ -6,7 +6,7 @@ from bisect import bisect_right
 from itertools import accumulate, product
 from math import prod
 
-from job_text import FOLDS, Refused
+from .job_text import FOLDS, Refused
 
 BLOCKS = 2**20  # more blocks than the program takes; fewer than fill a client's memory
 
