@@ -45,7 +45,7 @@ pub fn agrees(text: &str, notes: &Notes, workers: u64) -> bool {
 
 /// Whether a line is the same in each run.
 pub fn is_fixed(line: &str) -> bool {
-    for name in ["saved", "keys", "edges", "losses", "finished"] {
+    for name in ["saved", "keys", "edges", "losses", "finished", "audit"] {
         if line.starts_with(name) {
             return true;
         }
