@@ -76,7 +76,7 @@ rm -r "$folder"
 
 # a folder for blocks on disk, and words that don't fit
 check 'the program where a folder for blocks on disk is named' "$(./dask --spill-folder=/tmp run examples/first/job.txt 2>&1)" \
-  "$(printf '%s\n' 'saved examples/first/raised.npy (3,)' 'finished by: cluster')"
+  "$(printf '%s\n' 'saved examples/first/raised.npy (3,)' 'finished by: cluster' 'audit: agrees')"
 rm -f examples/first/raised.npy
 check 'a folder for blocks on disk alone' "$(./dask --spill-folder /tmp 2>&1)" 'dask: words'
 check 'no folder for blocks on disk' "$(./dask --spill-folder 2>&1)" 'dask: words'
@@ -199,7 +199,8 @@ chmod 555 "$folder/clone/release"
 # through the program that is found, or by the word of a shell that has nothing but the short way
 call() { (cd "$folder/clone" && as_other env HOME="$folder/home" XDG_CACHE_HOME="$1" TMPDIR="$folder/home" PATH="$2$PATH" ./dask run examples/first/job.txt 2>&1); }
 wanted='saved examples/first/raised.npy (3,)
-finished by: cluster'
+finished by: cluster
+audit: agrees'
 for cache in '' "$folder/home/other"; do
   kept=${cache:-$folder/home/.cache}/dask
   check "the program of a clone that can't be written" "$(call "$cache" '')" "$wanted"
