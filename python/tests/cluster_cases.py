@@ -90,8 +90,10 @@ def main():
         cases = [*trees(client), *uses(client)]
         cases += [(what, answer(kind, part, call), True) for what, kind, part, call in refusals(client)]
         for what, got, wanted in cases:
-            equal, different = equal + (got == wanted), different + (got != wanted)
-            if got != wanted:
+            # an answer of NumPy is no bool of Python
+            same = bool(got == wanted)
+            equal, different = equal + same, different + (not same)
+            if not same:
                 print(f'{what}: got\n{got}\nwanted\n{wanted}')
         os.chdir('/')
     print(f'equal {equal} different {different}')
