@@ -5,8 +5,8 @@ about='examples'
 . tools/checking.bash
 
 # words that are none end with status 1
-./dask >/dev/null 2>&1
-check 'status without words' "$?" 1
+./dask run >/dev/null 2>&1
+check 'status without the words of a command' "$?" 1
 
 # the shape that each job saves, as the program prints it
 shapes='anomaly (12, 6)
