@@ -1,6 +1,7 @@
 #!/usr/bin/env bash
 # The front in Python on a cluster of Dask.distributed, beside the program: all examples, 100 random jobs, and texts and files that are
-# refused, on a cluster in one process; its arrays from and to dask.array; and its command, which starts a cluster of several processes.
+# refused, on a cluster in one process; its arrays from and to dask.array, and which of them are taken over without computing; and its
+# command, which starts a cluster of several processes.
 # DASK names another program than the one of these sources.
 cd "$(dirname "$0")/.." || exit 1
 about='dask'
@@ -17,11 +18,12 @@ if [ -z "$program" ] && ! find_program; then
   echo 'dask: there is no program of these sources'
   exit 1
 fi
-export PYTHONDONTWRITEBYTECODE=1 PYTHONPATH=$PWD/python
+YITROVANA=$(realpath "$program")
+export YITROVANA PYTHONDONTWRITEBYTECODE=1 PYTHONPATH=$PWD/python
 
 folder=$(mktemp -d)
 trap 'rm -rf "$folder"' EXIT
-for cases in "tools/dask_cases.py $(realpath "$program") 100 1" python/tests/cluster_cases.py; do
+for cases in "tools/dask_cases.py $YITROVANA 100 1" python/tests/cluster_cases.py "python/tests/expression_cases.py 100 1"; do
   # shellcheck disable=SC2086
   /usr/bin/python3 $cases > "$folder/lines" 2>&1
   check "status of $cases" "$?" 0

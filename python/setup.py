@@ -1,4 +1,4 @@
-"""Takes the program along that the repository carries, with the script that starts it. All else stands in pyproject.toml."""
+"""Takes the program along that the repository carries, with the script that starts it. All else stands in setup.cfg."""
 import os
 
 from setuptools import setup
@@ -9,7 +9,16 @@ try:
 except ImportError:
     from wheel.bdist_wheel import bdist_wheel
 
-CLONE = os.path.dirname(os.path.dirname(os.path.abspath(__file__)))
+CARRIED = ('release/dask', 'tools/start.sh')
+
+
+def clone():
+    """The repository. pip before 21.3 builds in a copy of this folder, so that it is looked for where pip was called, too."""
+    called = os.environ.get('PWD', os.curdir)
+    for folder in (os.path.dirname(os.path.dirname(os.path.abspath(__file__))), called, os.path.dirname(called)):
+        if all(os.path.isfile(os.path.join(folder, file)) for file in CARRIED):
+            return folder
+    raise FileNotFoundError(f'{", ".join(CARRIED)}: call pip in the clone of the repository')
 
 
 class Build(build_py):
@@ -19,8 +28,8 @@ class Build(build_py):
             return  # the package finds the clone itself
         target = os.path.join(self.build_lib, 'yitrovana', 'program')
         self.mkpath(target)
-        for source in ('release/dask', 'tools/start.sh'):
-            self.copy_file(os.path.join(CLONE, source), os.path.join(target, os.path.basename(source)))
+        for source in CARRIED:
+            self.copy_file(os.path.join(clone(), source), os.path.join(target, os.path.basename(source)))
 
 
 class Wheel(bdist_wheel):

@@ -1,15 +1,14 @@
 #!/usr/bin/env python3
 """Checks the model of graphs by NumPy and Dask: /usr/bin/python3 tools/check_job_graphs.py, where Debian's python3-dask is.
 
-Graphs are evaluated block by block, against NumPy's results on whole arrays; layouts, pieces and trees are compared with
-Dask's own.
+Graphs are evaluated block by block, against NumPy's results on whole arrays, which is why these are evaluated here once more; layouts,
+pieces and trees are compared with Dask's own.
 """
 
 import itertools
 import math
 
 from graph_model import (
-    ELEMENTS,
     Graph,
     Job,
     Limit,
@@ -25,6 +24,7 @@ from graph_model import (
     union,
 )
 from job_graphs import Chance, cases, is_so
+from job_reader import ELEMENTS
 
 # Checks by NumPy and Dask
 

@@ -1,7 +1,8 @@
-"""A model of the scheduler, of a worker and of a client.
+"""A model of the cluster's rules: the scheduler, a worker and a client. `world_model.py` puts them together.
 
-It is written from the tables of events that docs/CLUSTER.md explains, apart from the program, and never runs it.
-`world_model.py` puts the parts together, and plays stories.
+It is written from the tables of events that docs/CLUSTER.md explains, apart from the program, and never runs it. A rule is written as if all
+that it goes by were derived from the facts anew; what `KEPT` names is kept until one of its facts changes, since an event of a job of some
+hundred keys would take a second and more without that.
 """
 
 
@@ -73,24 +74,31 @@ def message_text(message):
 
 
 class Graph:
-    def __init__(self, words):
-        self.work, self.nbytes, self.deps = [], [], []
-        for word in words:
-            work, nbytes, deps = (word.split(':') + ['-'])[:3]
-            self.work.append(int(work))
-            self.nbytes.append(int(nbytes))
-            self.deps.append(read_keys(deps))
+    """The dependencies of each key, its work and its bytes."""
 
-    @property
-    def keys(self):
-        return range(len(self.work))
-
-    @property
-    def edges(self):
-        return sum(len(deps) for deps in self.deps)
+    def __init__(self, deps, work, nbytes):
+        self.deps, self.work, self.nbytes, self.keys = deps, work, nbytes, range(len(deps))
+        self.edges = sum(map(len, deps))
+        self.above = [[] for _ in deps]
+        for key in self.keys:
+            for dep in deps[key]:
+                self.above[dep].append(key)
 
     def dependents(self, key):
-        return [other for other in self.keys if key in self.deps[other]]
+        return self.above[key]
+
+    def has(self, keys):
+        return all(key in self.keys for key in keys)
+
+
+def read_row(word):
+    work, nbytes, deps = (word.split(':') + ['-'])[:3]
+    return int(work), int(nbytes), read_keys(deps)
+
+
+def read_graph(words):
+    rows = [read_row(word) for word in words]
+    return Graph([deps for _, _, deps in rows], [work for work, _, _ in rows], [nbytes for _, nbytes, _ in rows])
 
 
 def fitting(graph, items):
@@ -108,10 +116,72 @@ class Refused(Exception):
     pass
 
 
+# What is derived, and kept until a fact changes.
+
+
+def watched(kind, names):
+    """A set or a dict that tells each change."""
+
+    def telling(method):
+        def change(self, *values):
+            self.changed()
+            return method(self, *values)
+        return change
+    return type(f'Watched{kind.__name__}', (kind,), {name: telling(getattr(kind, name)) for name in names})
+
+
+WATCHED = {
+    dict: watched(dict, ['__setitem__', '__delitem__', 'pop', 'setdefault', 'clear', 'update']),
+    set: watched(set, ['add', 'discard', 'remove', 'update', '__ior__', '__isub__', 'clear']),
+}
+
+
+class Keeping:
+    """Keeps what some of its methods derive. A row of `KEPT` has the names of facts, and those of the methods that go by these facts alone."""
+
+    KEPT, rows = (), {}
+
+    def __init_subclass__(cls):
+        if 'KEPT' not in cls.__dict__:
+            return
+        cls.rows = {}
+        for number, (facts, methods) in enumerate(cls.KEPT):
+            for fact in facts.split():
+                cls.rows.setdefault(fact, []).append(number)
+            for name in methods.split():
+                setattr(cls, name, kept_method(number, name, getattr(cls, name)))
+
+    def __setattr__(self, name, value):
+        rows = self.rows.get(name)
+        if rows:
+            value = WATCHED[type(value)](value) if type(value) in WATCHED else value
+            value.changed = lambda: self.forget(rows)
+            self.forget(rows)
+        super().__setattr__(name, value)
+
+    def forget(self, rows):
+        for number in rows:
+            self.__dict__.setdefault('kept', {})[number] = {}
+
+
+def kept_method(number, name, method):
+    def call(self, *values):
+        kept, at = self.kept[number], (name, values)
+        if at not in kept:
+            kept[at] = method(self, *values)
+        return kept[at]
+    return call
+
+
 # The scheduler.
 
 
-class Scheduler:
+class Scheduler(Keeping):
+    KEPT = [
+        ('want has bad threads', 'workers holders held wanted erred known waits need ready missing_bytes bytes_held'),
+        ('on threads', 'tasks occupancy full'),
+    ]
+
     def __init__(self, graph, clients, saturation):
         self.graph, self.clients, self.saturation = graph, clients, saturation
         self.want, self.has, self.on, self.steal, self.bad = set(), {}, {}, {}, set()
@@ -154,6 +224,19 @@ class Scheduler:
     def ready(self, key):
         return self.waits(key) and all(self.held(d) for d in self.graph.deps[key])
 
+    def phase(self, key):
+        if key not in self.graph.keys or not self.known(key):
+            return 'forgotten'
+        tests = [
+            ('erred', self.erred(key)),
+            ('released', not self.need(key)),
+            ('memory', self.held(key)),
+            ('waiting', not self.ready(key)),
+            ('processing', key in self.on),
+            ('no-worker', not self.threads),
+        ]
+        return next((name for name, fits in tests if fits), 'queued')
+
     def tasks(self, worker):
         return [key for key, (w, _) in self.on.items() if w == worker]
 
@@ -193,11 +276,13 @@ class Scheduler:
                 choices.append((level, victim, key, thief))
         return min(choices, default=None)
 
+    def waiters(self, key):
+        return [other for other in self.graph.dependents(key) if self.waits(other)]
+
     def next_drop(self):
         for key in self.graph.keys:
             holders = [w for w, _ in self.holders(key)]
-            waiting = sum(self.waits(d) for d in self.graph.dependents(key))
-            if holders and len(holders) > waiting + 1:
+            if len(holders) > len(self.waiters(key)) + 1:
                 return key, max(holders, key=lambda w: (self.bytes_held(w), -w))
         return None
 
@@ -209,7 +294,12 @@ class Scheduler:
             return self.next_steal() is not None
         if name == 'evict':
             return self.next_drop() is not None
-        return True
+        if name == 'leave':
+            return fields[0] in self.threads
+        of_client = name in ('want', 'release', 'missing')
+        known = fields[0] in (range(1, self.clients + 1) if of_client else self.threads)
+        named = fields[1 if of_client else 2]
+        return known and self.graph.has(named if isinstance(named, list) else [named])
 
     def step(self, event):
         """The messages to workers, and those to clients."""
@@ -376,18 +466,50 @@ class Scheduler:
         return messages
 
 
-# A worker.
+# Who asks peers for blocks: a worker or a client.
 
 
-class Worker:
-    def __init__(self, graph, number, threads):
-        self.graph, self.number, self.threads = graph, number, threads
-        self.seen, self.next_ask = 0, 1
-        self.mine, self.asks, self.holders = {}, {}, {}
-        self.mem, self.running, self.asked, self.sought, self.failed = set(), set(), set(), set(), set()
+class Asker(Keeping):
+    """Its `asks` have the number and the items of the ask that is open at a peer; `fetchable` says which items it would ask a peer for."""
+
+    def __init__(self, graph):
+        self.graph, self.next_ask, self.asks = graph, 1, {}
 
     def flying(self, key):
         return any(key == k for _, items in self.asks.values() for k, _ in items)
+
+    def would_ask(self, peer):
+        return peer not in self.asks and bool(self.fetchable(peer))
+
+    def ask_number(self, peer):
+        return self.asks[peer][0] if peer in self.asks else None
+
+    def peer_items(self, keys, holders, peer):
+        """Those of these keys that the peer is known to hold, each with its copy."""
+        rows = ((key, dict(holders.get(key, [])).get(peer)) for key in keys)
+        return [(key, copy) for key, copy in rows if copy is not None]
+
+    def on_ask(self, peer):
+        items = fitting(self.graph, self.fetchable(peer))
+        self.asks[peer] = (self.next_ask, items)
+        self.out.append(('gather', peer, self.next_ask, [key for key, _ in items]))
+        self.next_ask += 1
+
+    def on_gather_failed(self, peer, ask):
+        self.on_gathered(peer, ask, [])
+
+
+# A worker.
+
+
+class Worker(Asker):
+    KEPT = [('mine asks holders mem running sought failed', 'flying pending wanted touched state')]
+
+    def __init__(self, graph, number, threads):
+        super().__init__(graph)
+        self.number, self.threads, self.seen = number, threads, 0
+        self.mine, self.holders = {}, {}
+        self.mem, self.running, self.asked, self.sought, self.failed = set(), set(), set(), set(), set()
 
     def pending(self):
         return [key for key in self.mine if key not in self.running]
@@ -395,7 +517,15 @@ class Worker:
     def wanted(self, key):
         return key not in self.mem and (key in self.sought or any(key in self.graph.deps[j] for j in self.pending()))
 
+    def touched(self):
+        """The keys that a fact names, and those that a key of the worker depends on."""
+        flying = {key for _, items in self.asks.values() for key, _ in items}
+        below = {dep for key in self.mine for dep in self.graph.deps[key]}
+        return below.union(self.mem, self.mine, self.running, flying, self.holders, self.sought, self.failed)
+
     def state(self, key):
+        if key not in self.touched():
+            return 'forgotten'
         mine, wanted = key in self.mine, self.wanted(key)
         tests = [
             ('memory', key in self.mem),
@@ -419,17 +549,10 @@ class Worker:
         return ready[0] if ready and len(self.running) < self.threads else None
 
     def fetchable(self, peer):
-        rows = ((key, dict(self.holders.get(key, [])).get(peer)) for key in self.graph.keys if self.state(key) == 'fetch')
-        return [(key, copy) for key, copy in rows if copy is not None]
-
-    def would_ask(self, peer):
-        return peer not in self.asks and bool(self.fetchable(peer))
+        return self.peer_items([key for key in self.graph.keys if self.state(key) == 'fetch'], self.holders, peer)
 
     def pairs(self):
         return sum(len(holders) for holders in self.holders.values())
-
-    def are_keys(self, keys):
-        return all(key in self.graph.keys for key in keys)
 
     def takes(self, event):
         name, *fields = event
@@ -440,16 +563,16 @@ class Worker:
         if name == 'ask':
             return self.would_ask(fields[0])
         if name == 'gathered':
-            return self.are_keys(fields[2])
+            return self.graph.has(fields[2])
         if name == 'data-lost':
             return fields[0] in self.mem
         if name in ('compute-task', 'steal-request'):
             named = fields[:1] + ([key for key, _ in fields[2]] if name == 'compute-task' else [])
-            return self.are_keys(named)
+            return self.graph.has(named)
         if name in ('acquire-replicas', 'refresh-who-has'):
-            return self.are_keys([key for key, _ in fields[0]])
+            return self.graph.has([key for key, _ in fields[0]])
         if name in ('free-keys', 'remove-replicas'):
-            return self.are_keys(fields[0])
+            return self.graph.has(fields[0])
         return True
 
     def step(self, event):
@@ -557,14 +680,8 @@ class Worker:
             self.failed.add(key)
             self.send('task-erred', key, self.mine.pop(key))
 
-    def on_ask(self, peer):
-        items = fitting(self.graph, self.fetchable(peer))
-        self.asks[peer] = (self.next_ask, items)
-        self.out.append(('gather', peer, self.next_ask, [key for key, _ in items]))
-        self.next_ask += 1
-
     def on_gathered(self, peer, ask, found):
-        if self.asks.get(peer, (0, []))[0] != ask or peer not in self.asks:
+        if self.ask_number(peer) != ask:
             return
         items = sorted(self.asks.pop(peer)[1])
         added = []
@@ -581,36 +698,21 @@ class Worker:
                     self.asked.add(key)
                     self.send('missing-data', key, peer, copy)
 
-    def on_gather_failed(self, peer, ask):
-        self.on_gathered(peer, ask, [])
-
     def on_data_lost(self, key):
         self.mem.discard(key)
         self.send('release-worker-data', key)
-
-    def ask_number(self, peer):
-        return self.asks[peer][0] if peer in self.asks else None
 
 
 # A client.
 
 
-class Client:
+class Client(Asker):
     def __init__(self, graph):
-        self.graph, self.next_ask = graph, 1
-        self.wants, self.got, self.located, self.failed, self.asks = set(), set(), {}, {}, {}
-
-    flying = Worker.flying
-    are_keys = Worker.are_keys
-    would_ask = Worker.would_ask
-    on_gather_failed = Worker.on_gather_failed
-    ask_number = Worker.ask_number
-    on_ask = Worker.on_ask
+        super().__init__(graph)
+        self.wants, self.got, self.located, self.failed = set(), set(), {}, {}
 
     def fetchable(self, peer):
-        open_keys = [key for key in sorted(self.wants) if key not in self.got and not self.flying(key)]
-        rows = ((key, dict(self.located.get(key, [])).get(peer)) for key in open_keys)
-        return [(key, copy) for key, copy in rows if copy is not None]
+        return self.peer_items([key for key in sorted(self.wants) if key not in self.got and not self.flying(key)], self.located, peer)
 
     def pairs(self):
         return sum(len(holders) for holders in self.located.values())
@@ -618,15 +720,15 @@ class Client:
     def takes(self, event):
         name, *fields = event
         if name in ('want', 'release'):
-            return self.are_keys(fields[0])
+            return self.graph.has(fields[0])
         if name in ('key-in-memory', 'lost-data'):
-            return self.are_keys(fields[:1])
+            return self.graph.has(fields[:1])
         if name == 'client-task-erred':
-            return self.are_keys(fields)
+            return self.graph.has(fields)
         if name == 'ask':
             return self.would_ask(fields[0])
         if name == 'gathered':
-            return self.are_keys(fields[2])
+            return self.graph.has(fields[2])
         return True
 
     def step(self, event):

@@ -1,16 +1,15 @@
 #!/usr/bin/env bash
 # Prints the table of docs/GATE.md: of each crate its functions, the lines of its code and of its specs and proofs, the
-# processor seconds of its proof from nothing, and its must-fail edits. Below it come the functions above ten seconds.
+# processor seconds of its proof from nothing, and its must-fail edits.
 #
-# usage: tools/gate_times.sh [PREFIX [CLONE]]
+# usage: tools/gate_times.sh [PREFIX]
 #
 # Without a word it proves all crates from nothing, in a fresh clone of what is committed: about as long as a whole gate. With
-# PREFIX it takes the logs of an earlier such run, the files PREFIXNAME.log, whose last line is `cpu USER SYS`, and with CLONE
-# the functions of what that run left in CLONE/crates/*/out. A crate that was not proved from nothing, since rt took over what
-# another clone on the machine had proved, is marked by a star: its seconds say too little.
+# PREFIX it takes the logs of an earlier such run, the files PREFIXNAME.log, whose last line is `cpu USER SYS`. A crate that was
+# not proved from nothing, since rt took over what another clone on the machine had proved, is marked by a star: its seconds say
+# too little.
 cd "$(dirname "$0")/.." || exit 1
 prefix=${1-}
-clone=${2-}
 if [ -z "$prefix" ]; then
   room=$(mktemp -d) || exit 1
   readonly room
@@ -42,4 +41,3 @@ sort -k5,5nr -k1,1 <<< "${rows%$'\n'}" | awk '
     for (i = 2; i <= 6; i++) sum[i] += $i; if ($7 == "*") some = 1 }
   END { print "| " NR " crates | " sum[2] " | " sum[3] " | " sum[4] " | " sum[5] " | " sum[6] " |"
     if (some) print "\n\\* not from nothing: rt took over what another clone on the machine had proved" }'
-[ -z "$clone" ] || python3 tools/dear_functions.py "$clone" "$prefix"

@@ -1,6 +1,6 @@
 """A model of the graphs that jobs are lowered to, made of the rules alone.
 
-It has a reader of job texts, layouts as tuples of chunk sizes for each axis, tasks in the order of making, limits,
+It has layouts of what `job_reader.py` reads, as tuples of chunk sizes for each axis, tasks in the order of making, limits,
 culling, and depth-first numbers. Each task has its formula for NumPy besides. `job_graphs.py` writes a driver's lines by
 it, and `check_job_graphs.py` holds it against NumPy and Dask.
 """
@@ -9,14 +9,10 @@ import bisect
 import functools
 import itertools
 import math
-import re
+
+from job_reader import Reader
 
 KEYS, EDGES, BLOCK_BYTES = 32768, 262144, 2**27
-AXES, ELEMENTS = 8, 2**31
-
-
-class Refused(Exception):
-    """The text is no job."""
 
 
 class Limit(Exception):
@@ -27,18 +23,10 @@ class Limit(Exception):
 
 
 def cut(length, spec):
-    """The chunks of one axis, given a number or a list."""
-    if isinstance(spec, int):
-        if length == 0:
-            return (0,)
-        if spec == 0:
-            raise Refused("zero chunk")
-        return (spec,) * (length // spec) + ((length % spec,) if length % spec else ())
-    if length == 0 and tuple(spec) == (0,):
-        return (0,)
-    if 0 in spec or sum(spec) != length or not spec:
-        raise Refused("chunks")
-    return tuple(spec)
+    """The chunks of one axis, given a number or a list that fits."""
+    if not isinstance(spec, int):
+        return tuple(spec)
+    return (spec,) * (length // spec) + ((length % spec,) if length % spec else ()) if length else (0,)
 
 
 def starts(sizes):
@@ -71,17 +59,6 @@ def region(layout, index):
     """The slice of each axis that a block stands for."""
     firsts = (sum(sizes[:i]) for sizes, i in zip(layout, index))
     return tuple(slice(first, first + n) for first, n in zip(firsts, block_shape(layout, index)))
-
-
-def broadcast(shapes):
-    axes = max(map(len, shapes))
-    result = []
-    for lengths in zip(*((1,) * (axes - len(shape)) + tuple(shape) for shape in shapes)):
-        longer = {n for n in lengths if n != 1}
-        if len(longer) > 1:
-            raise Refused("misfit")
-        result.append(longer.pop() if longer else 1)
-    return tuple(result)
 
 
 def common_layout(shape, operands):
@@ -128,303 +105,59 @@ def axis_crossings(old, new):
 # Jobs
 
 
-class Node:
-    def __init__(self, op, of, shape, layout, **fields):
-        self.op, self.of, self.shape, self.layout, self.fields = op, of, tuple(shape), tuple(layout), fields
-        self.literal = op == "full" and not self.shape
-        if len(self.shape) > AXES or max(self.shape, default=0) > ELEMENTS or math.prod(self.shape) > ELEMENTS:
-            raise Refused("limit")
-
-
-TOKEN = re.compile(r'\s*(?:(\d+)|([A-Za-z_]\w*)|"([ !#-\[\]-~]{1,255})"|(//|\.T(?!\w)|[-+*%()\[\],:=]))', re.ASCII)
-FOLDS = ("sum", "prod", "min", "max")
-RESERVED = {"input", "let", "save", "shape", "chunks", "axis", "split_every", "minimum", "maximum", "where", "transpose", "rechunk"}
-RESERVED |= {"concatenate", "tensordot", "full", "ramp", *FOLDS}
-
-
-def tokens(line):
-    place, line = 0, line.strip()
-    while place < len(line):
-        found = TOKEN.match(line, place)
-        if not found:
-            raise Refused(f"token at {place}: {line}")
-        kind = ("number", "word", "file", "sign")[found.lastindex - 1]
-        yield kind, int(found.group(1)) if kind == "number" else found.group(found.lastindex)
-        place = found.end()
-
-
 class Job:
-    """A job's nodes, in the order in which their operations are complete, its names, and the node of each save."""
+    """A job's nodes with their layouts, in the order in which their operations are complete, its names, and the node of each save.
 
-    def __init__(self, text):
-        self.text, self.nodes, self.names, self.saves = text, [], {}, []
-        self.inputs, self.saved = [], []
-        for line in re.split(r" ; | ;$", text):
-            self.line, self.at = list(tokens(line)), 0
-            self.statement()
+    A semicolon between blanks may stand for the end of a line.
+    """
 
-    # Reading
+    def __init__(self, text, saves=True):
+        read = Reader(text.removesuffix(" ;").replace(" ; ", "\n").encode()).job(saves)
+        self.text, self.nodes, self.names, self.saves = text, read.nodes, read.names, list(read.saves.values())
+        for node in self.nodes:
+            node.literal = node.op == "full" and not node.shape
+            node.layout = tuple(self.layout(node, [self.nodes[of] for of in node.of]))
 
-    def peek(self, token):
-        return self.at < len(self.line) and self.line[self.at][1] == token and self.line[self.at][0] != "file"
+    def layout(self, node, operands):
+        """The layout of a node's shape. What its tasks need besides goes to its fields."""
+        if node.op in ("input", "full", "ramp", "rechunk"):
+            return [cut(n, spec) for n, spec in zip(node.shape, node.fields["chunks"])]
+        if node.op == "reverse":
+            node.op, node.fields["axes"] = "transpose", range(len(node.shape))[::-1]
+        layouts = {"slice": slice_layout, "transpose": transpose_layout, "concatenate": concatenate_layout, "reduce": reduce_layout,
+                   "tensordot": tensordot_layout}
+        return layouts[node.op](node.fields, *operands) if node.op in layouts else common_layout(node.shape, operands)
 
-    def taken(self, token):
-        if not self.peek(token):
-            return False
-        self.at += 1
-        return True
 
-    def need(self, token):
-        if not self.taken(token):
-            raise Refused(f"{token} at {self.at} of {self.line}")
+def slice_layout(fields, of):
+    parts = itertools.zip_longest(of.shape, fields["parts"], fillvalue=slice(None))
+    indexes = [range(n)[part] if isinstance(part, slice) else [range(n)[part]] for n, part in parts]
+    fields["kept"] = [axis for axis, taken in enumerate(indexes) if isinstance(taken, range)]
+    fields["pieces"] = [slice_pieces(sizes, taken) for sizes, taken in zip(of.layout, indexes)]
+    return [tuple(len(taken) for _, taken in fields["pieces"][axis]) for axis in fields["kept"]]
 
-    def kind(self, kind):
-        if self.at == len(self.line) or self.line[self.at][0] != kind:
-            raise Refused(f"{kind} at {self.at} of {self.line}")
-        self.at += 1
-        return self.line[self.at - 1][1]
 
-    def is_number(self, at):
-        return at < len(self.line) and self.line[at][0] == "number"
+def transpose_layout(fields, of):
+    fields["axes"] = list(fields["axes"])
+    return [of.layout[axis] for axis in fields["axes"]]
 
-    def statement(self):
-        if self.taken("input"):
-            name, file = self.new_name(), self.new_file(self.saved)
-            self.inputs.append(file)
-            self.need("shape")
-            dims = self.dims()
-            self.need("chunks")
-            self.names[name] = self.source("input", dims, self.chunks())
-        elif self.taken("let"):
-            name = self.new_name()
-            self.need("=")
-            self.names[name] = self.expr()
-        elif self.taken("save"):
-            self.saves.append(self.names[self.kind("word")])
-            self.saved.append(self.new_file(self.inputs + self.saved))
-        if self.at != len(self.line):
-            raise Refused(f"{self.line[self.at:]}")
 
-    def new_name(self):
-        name = self.kind("word")
-        if name in self.names or name in RESERVED:
-            raise Refused(f"name {name}")
-        return name
+def concatenate_layout(fields, *operands):
+    axis = fields["axis"]
+    layout = [union([of.layout[a] for of in operands]) for a in range(len(operands[0].shape)) if a != axis]
+    layout.insert(axis, tuple(n for of in operands for n in of.layout[axis] if n) or (0,))
+    return layout
 
-    def new_file(self, others):
-        file = self.kind("file")
-        if file in others:
-            raise Refused(f"file {file}")
-        return file
 
-    def listed(self, item):
-        self.need("(")
-        items = []
-        while not self.peek(")"):
-            items.append(item())
-            if not self.taken(","):
-                break
-        self.need(")")
-        return items
+def reduce_layout(fields, of):
+    every = range(len(of.shape))
+    fields["axes"] = sorted(every if fields["axes"] is None else fields["axes"])
+    return [of.layout[axis] for axis in every if axis not in fields["axes"]]
 
-    def number(self):
-        return self.kind("number")
 
-    def dims(self):
-        return self.listed(self.number)
-
-    def chunks(self):
-        return self.listed(lambda: self.listed(self.number) if self.peek("(") else self.number())
-
-    def int(self):
-        return -self.number() if self.taken("-") else self.number()
-
-    def expr(self):
-        left = self.product()
-        while self.peek("+") or self.peek("-"):
-            op = self.kind("sign")
-            left = self.elementwise(op, [left, self.product()])
-        return left
-
-    def product(self):
-        left = self.unary()
-        while self.peek("*") or self.peek("//") or self.peek("%"):
-            op = self.kind("sign")
-            left = self.elementwise(op, [left, self.unary()])
-        return left
-
-    def unary(self):
-        if self.peek("-") and not self.is_number(self.at + 1):
-            self.at += 1
-            return self.elementwise("negate", [self.unary()])
-        return self.postfix()
-
-    def postfix(self):
-        node = self.primary()
-        while True:
-            if self.taken(".T"):
-                node = self.transpose(node, range(len(self.nodes[node].shape))[::-1])
-            elif self.taken("["):
-                parts = [self.part()]
-                while self.taken(","):
-                    parts.append(self.part())
-                self.need("]")
-                node = self.slice(node, parts)
-            else:
-                return node
-
-    def part(self):
-        ends = [self.maybe_int()]
-        while len(ends) < 3 and self.taken(":"):
-            ends.append(self.maybe_int())
-        if len(ends) > 1:
-            return slice(*ends)
-        if ends[0] is None:
-            raise Refused("part")
-        return ends[0]
-
-    def maybe_int(self):
-        return self.int() if self.peek("-") or self.is_number(self.at) else None
-
-    def primary(self):
-        if self.peek("-") or self.is_number(self.at):
-            return self.source("full", (), (), start=self.int(), step=0)
-        if self.taken("("):
-            node = self.expr()
-            self.need(")")
-            return node
-        word = self.kind("word")
-        if self.taken("("):
-            node = self.call(word)
-            self.need(")")
-            return node
-        return self.names[word]
-
-    def call(self, word):
-        if word in ("full", "ramp"):
-            dims = self.dims()
-            self.need(",")
-            start, step = self.int(), 0
-            if word == "ramp":
-                self.need(",")
-                step = self.int()
-            self.need(",")
-            return self.source(word, dims, self.chunks(), start=start, step=step)
-        if word == "concatenate":
-            self.need("[")
-            of = [self.expr()]
-            while self.taken(","):
-                of.append(self.expr())
-            self.need("]")
-            self.need(",")
-            self.need("axis")
-            self.need("=")
-            return self.concatenate(of, self.number())
-        node = self.expr()
-        if word in FOLDS:
-            axes, split = None, 4
-            while self.taken(","):
-                option = self.kind("word")
-                self.need("=")
-                axes, split = (self.dims(), split) if option == "axis" else (axes, self.number())
-            return self.reduce(word, node, axes, split)
-        self.need(",")
-        if word == "transpose":
-            return self.transpose(node, self.dims())
-        if word == "rechunk":
-            return self.rechunk(node, self.chunks())
-        other = self.expr()
-        if word in ("minimum", "maximum"):
-            return self.elementwise(word, [node, other])
-        self.need(",")
-        if word == "where":
-            return self.elementwise("where", [node, other, self.expr()])
-        axes = self.dims()
-        self.need(",")
-        return self.tensordot(node, other, axes, self.dims())
-
-    # Nodes
-
-    def add(self, *args, **fields):
-        self.nodes.append(Node(*args, **fields))
-        return len(self.nodes) - 1
-
-    def source(self, op, dims, specs, **fields):
-        if len(dims) != len(specs):
-            raise Refused("numbers of axes")
-        return self.add(op, [], dims, [cut(n, spec) for n, spec in zip(dims, specs)], **fields)
-
-    def elementwise(self, op, of):
-        operands = [self.nodes[o] for o in of]
-        shape = broadcast([o.shape for o in operands])
-        return self.add(op, of, shape, common_layout(shape, operands))
-
-    def slice(self, of, parts):
-        node = self.nodes[of]
-        if len(parts) > len(node.shape):
-            raise Refused("parts")
-        indexes, kept = [], []
-        for axis, (length, part) in enumerate(itertools.zip_longest(node.shape, parts, fillvalue=slice(None))):
-            if isinstance(part, slice):
-                if part.step == 0:
-                    raise Refused("step 0")
-                indexes.append(range(length)[part])
-                kept.append(axis)
-            elif -length <= part < length:
-                indexes.append([range(length)[part]])
-            else:
-                raise Refused("index")
-        pieces = [slice_pieces(sizes, taken) for sizes, taken in zip(node.layout, indexes)]
-        layout = [tuple(len(taken) for _, taken in pieces[axis]) for axis in kept]
-        return self.add("slice", [of], [len(indexes[a]) for a in kept], layout, parts=parts, pieces=pieces, kept=kept)
-
-    def transpose(self, of, axes):
-        node, axes = self.nodes[of], list(axes)
-        if sorted(axes) != list(range(len(node.shape))):
-            raise Refused("axes")
-        return self.add("transpose", [of], [node.shape[a] for a in axes], [node.layout[a] for a in axes], axes=axes)
-
-    def rechunk(self, of, specs):
-        shape = self.nodes[of].shape
-        if len(specs) != len(shape):
-            raise Refused("numbers of axes")
-        return self.add("rechunk", [of], shape, [cut(n, spec) for n, spec in zip(shape, specs)])
-
-    def concatenate(self, of, axis):
-        operands = [self.nodes[o] for o in of]
-        shape = list(operands[0].shape)
-        rest = {(o.shape[:axis], o.shape[axis + 1:], len(o.shape)) for o in operands}
-        if axis >= len(shape) or len(rest) > 1:
-            raise Refused("concatenate")
-        layout = [union([o.layout[a] for o in operands]) for a in range(len(shape)) if a != axis]
-        shape[axis] = sum(o.shape[axis] for o in operands)
-        layout.insert(axis, tuple(n for o in operands for n in o.layout[axis] if n) or (0,))
-        return self.add("concatenate", of, shape, layout, axis=axis)
-
-    def reduce(self, fold, of, axes, split):
-        node = self.nodes[of]
-        axes = list(range(len(node.shape))) if axes is None else axes
-        if len(set(axes)) < len(axes) or any(a >= len(node.shape) for a in axes) or split < 2:
-            raise Refused("axes")
-        if fold in ("min", "max") and any(node.shape[a] == 0 for a in axes):
-            raise Refused("empty")
-        kept = [a for a in range(len(node.shape)) if a not in axes]
-        shape, layout = [node.shape[a] for a in kept], [node.layout[a] for a in kept]
-        return self.add("reduce", [of], shape, layout, fold=fold, axes=sorted(axes), split=split)
-
-    def tensordot(self, left, right, left_axes, right_axes):
-        a, b = self.nodes[left], self.nodes[right]
-        for axes, node in ((left_axes, a), (right_axes, b)):
-            if len(set(axes)) < len(axes) or any(axis >= len(node.shape) for axis in axes):
-                raise Refused("axes")
-        if [a.shape[i] for i in left_axes] != [b.shape[j] for j in right_axes]:
-            raise Refused("misfit")
-        kept = [(a, i) for i in range(len(a.shape)) if i not in left_axes]
-        kept += [(b, j) for j in range(len(b.shape)) if j not in right_axes]
-        shape, layout = [node.shape[axis] for node, axis in kept], [node.layout[axis] for node, axis in kept]
-        paired = [union([a.layout[i], b.layout[j]]) for i, j in zip(left_axes, right_axes)]
-        axes = [left_axes, right_axes]
-        return self.add("tensordot", [left, right], shape, layout, axes=axes, paired=paired)
+def tensordot_layout(fields, *pair):
+    fields["paired"] = [union([pair[0].layout[i], pair[1].layout[j]]) for i, j in zip(*fields["axes"])]
+    return [of.layout[axis] for of, axes in zip(pair, fields["axes"]) for axis in range(len(of.shape)) if axis not in axes]
 
 
 # Graphs
@@ -615,8 +348,6 @@ class Lowered:
 
     def __init__(self, text):
         self.job = Job(text)
-        if not self.job.saves:
-            raise Refused("no save")
         made = Graph(self.job)
         self.made = len(made.tasks), made.edges
         self.numbers = depth_first(made.tasks, [key for node in self.job.saves for key in made.own[node]])

@@ -10,6 +10,9 @@ import tempfile
 
 import hints_of_text
 
+sys.path.append(os.path.join(os.path.dirname(os.path.dirname(os.path.abspath(__file__))), 'python', 'yitrovana', 'cluster'))
+import job_text  # noqa: E402
+
 COMMANDS = {'run': 1, 'plain': 1, 'sim': 2, 'gen': 1}  # and how many words behind them are no options
 NUMBERED = ('sim', 'gen')
 BOTH = ('--workers', '--threads')
@@ -17,8 +20,6 @@ OPTIONS = {'run': (*BOTH, '--memory', '--saturation', '--script', '--transport',
            'sim': (*BOTH, '--saturation', '--script'), 'gen': BOTH}
 RANGES = {'--workers': (1, 64), '--threads': (1, 16), '--memory': (1, 2**40), '--saturation': (1, 1000)}
 UNITS = {unit: 1000**power for power, unit in enumerate(('', 'k', 'm', 'g', 't'))}
-INPUT = re.compile(rb'^[ \t]*input[ \t]+[A-Za-z_]\w*[ \t]*"([^"\n]*)"', re.M)
-SAVE = re.compile(rb'^[ \t]*save[ \t]+[A-Za-z_]\w*[ \t]*"([^"\n]*)"', re.M)
 
 
 class Words:
@@ -140,16 +141,16 @@ def of_file(line, _):
                 reason, 'it is no .npy file as np.save writes it: load it with what wrote it, and np.save it')
 
 
-def texts(words, pattern):
-    """The names of files in a job."""
+def read(words):
+    """What the job asks for."""
     with open(Words(words).job, 'rb') as file:
-        return [name.decode('latin-1') for name in pattern.findall(file.read())]
+        return job_text.read(file.read())
 
 
 def of_reading(_, words):
     """Status 5: the first named file that can't be opened."""
     job = Words(words).job
-    for name in [job] + (texts(words, INPUT) if os.path.isfile(job) and os.access(job, os.R_OK) else []):
+    for name in [job, *(read(words).inputs.values() if os.path.isfile(job) and os.access(job, os.R_OK) else ())]:
         if not os.path.exists(name):
             return f'there is no {name} in {os.getcwd()}' if not os.path.isabs(name) else f'there is no {name}'
         if not os.path.isfile(name):
@@ -161,7 +162,7 @@ def of_reading(_, words):
 
 def of_writing(_, words):
     """Status 6: the first saved file that can't be made."""
-    for name in texts(words, SAVE) if Words(words).job else []:
+    for name in read(words).saves if Words(words).job else ():
         folder = os.path.dirname(os.path.realpath(name)) or '.'
         if not os.path.isdir(folder):
             return f'{name} can not be made: there is no folder {os.path.dirname(name)}'
@@ -189,7 +190,7 @@ def of(status, line, words):
         if status == '1':
             return of_words(words)
         return {'2': of_job, '3': of_file, '5': of_reading, '6': of_writing}[status](line, words)
-    except (OSError, TypeError, ValueError):
+    except (OSError, TypeError, ValueError, RecursionError, job_text.Refused):
         return None
 
 
@@ -197,12 +198,13 @@ def clean(words):
     sys.path.insert(0, os.path.join(os.path.dirname(os.path.abspath(__file__)), '..', 'python', 'yitrovana'))
     try:
         import leftovers
-        leftovers.remove(texts(words, SAVE))
-    except (ImportError, OSError, TypeError):
+        leftovers.remove(read(words).saves, os.environ.get('DASK_SPILL'))
+    except (ImportError, OSError, TypeError, RecursionError, job_text.Refused):
         pass
 
 
 if __name__ == '__main__':
+    sys.setrecursionlimit(10000)
     if sys.argv[1] == 'ended':
         clean(sys.argv[3:])
     else:

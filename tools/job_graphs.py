@@ -14,7 +14,8 @@ hand, stand beside their jobs, and are found again before a line is given. `bloc
 
 import random
 
-from graph_model import FOLDS, Job, Limit, Lowered, Refused, answer, union
+from graph_model import Job, Limit, Lowered, answer, union
+from job_reader import FOLDS, Refused
 
 # Cases: jobs with their number of keys and of edges where these are known, and None where only the model tells.
 
@@ -393,7 +394,7 @@ class Chance:
                     lines.append(f"let {letter} = {self.source(dims)}")
             else:
                 lines.append(f"let {letter} = {self.step(names)}")
-            job = Job(" ; ".join(lines))
+            job = Job(" ; ".join(lines), saves=False)
             names.append((letter, job.nodes[job.names[letter]].shape))
             if len(job.nodes) >= count:
                 return
@@ -418,8 +419,8 @@ def examples():
     is_so(first, "keys 4 edges 2; 0.0 () load 16 16; 2.0 0 elementwise 32 16; 0.1 () load 8 8; 2.1 2 elementwise 16 8; saved 1,3")
     is_so(union([(4, 4, 2), (5, 5)]), (4, 1, 3, 2))
     is_so([n.layout for n in Job(BY_HAND[9][1]).nodes][2], ((4, 1, 3, 2),))
-    is_so(Job(f"{FIVE} ; let b = a[::-2]").nodes[1].layout, ((1, 1, 1),))
-    is_so(Job(f"{FIVE} ; let b = a[5:2]").nodes[1].layout, ((0,),))
+    is_so(Job(f"{FIVE} ; let b = a[::-2]", saves=False).nodes[1].layout, ((1, 1, 1),))
+    is_so(Job(f"{FIVE} ; let b = a[5:2]", saves=False).nodes[1].layout, ((0,),))
     # Block 0 of the quotient is culled; an empty slice depends on it, and a slice of one element too.
     named = [{name for name in Lowered(text).names() if name[0] == "2"} for text in (STATED[1][1], BY_HAND[2][1], BY_HAND[3][1])]
     is_so(named, [{"2.1"}, {"2.0"}, {"2.0"}])

@@ -1,341 +1,6 @@
-"""Texts of jobs, whole and refused, with their tokens and steps: cases of format_table.
-
-What is wanted is worked out here from the rules of docs/FORMATS.md, by a reader that goes down the grammar and shares nothing
-with the program: it is another one's reading of the same rules, and not a copy of the program's answers. An action stands where
-the grammar has it, at the last token before it; the numbers of kinds and actions are their places in the lists below.
-"""
-
-import re
-
+"""Texts of jobs, whole and refused, with their tokens and steps: cases of format_table. What is wanted is what `job_reader.py` reads."""
 from case_lines import escaped, place
-
-WORDS = (
-    "input shape chunks let save sum prod min max axis split_every minimum maximum where transpose rechunk concatenate tensordot "
-    "full ramp"
-).split()
-SIGNS = ["//", ".T", "=", "+", "-", "*", "%", "(", ")", ",", "[", "]", ":"]
-KINDS = ["NEWLINE", "NAME", "FILE", "NUMBER", "=", "+", "-", "*", "//", "%", "(", ")", ",", "[", "]", ":", ".T"] + WORDS
-ACTIONS = (
-    "Begin Declare InputFile AddInput Define SavedName SaveFile OpenDims Dim OpenChunks Even OpenSizes Size Sizes Mark Combine "
-    "Negate Literal NegativeLiteral Refer Enter Leave OpenParts AddSlice ReverseAxes OpenPart Positive Negative Index Bound Range "
-    "PlainFold FoldAxes FoldSplit Reduce Choose AddTranspose AddRechunk OpenList ListAxis AddConcatenate LeftAxes AddTensordot "
-    "Value Step AddFull AddRamp"
-).split()
-
-
-class Refused(Exception):
-    pass
-
-
-class Text:
-    """The tokens of a text, one looked at at a time."""
-
-    def __init__(self, text):
-        self.text, self.at, self.depth = text, 0, 0
-        self.last, self.taken, self.steps = 0, [], []
-        self.look()
-
-    def look(self):
-        text, at = self.text, self.at
-        while at < len(text):
-            c = text[at : at + 1]
-            if c in (b" ", b"\t", b"\r") or (c == b"\n" and self.depth > 0):
-                at += 1
-            elif c == b"#":
-                while at < len(text) and text[at : at + 1] != b"\n":
-                    at += 1
-            else:
-                break
-        self.start, rest = at, text[at:]
-        self.kind, self.end = "END", at
-        if not rest:
-            return
-        for kind, pattern in (("WORD", rb"[A-Za-z_][A-Za-z0-9_]*"), ("NUMBER", rb"[0-9]+"), ("FILE", rb'"[ !#-\[\]-~]{1,255}"')):
-            found = re.match(pattern, rest)
-            if found:
-                self.end = at + found.end()
-                word = found.group().decode()
-                self.kind = kind if kind != "WORD" else (word if word in WORDS else "NAME")
-                return
-        if rest[:1] == b"\n":
-            self.kind, self.end = "NEWLINE", at + 1
-            return
-        for sign in SIGNS:
-            if rest.startswith(sign.encode()):
-                self.kind, self.end = sign, at + len(sign)
-                return
-        self.kind = "BAD"
-
-    def refuse(self):
-        raise Refused(self.start, "token" if self.kind == "BAD" else "grammar")
-
-    def take(self, *kinds):
-        if self.kind not in kinds:
-            self.refuse()
-        if self.kind in "([":
-            self.depth += 1
-        elif self.kind in ")]":
-            self.depth = max(0, self.depth - 1)
-        self.taken.append((self.kind, self.start, self.end))
-        self.last, self.at = self.start, self.end
-        self.look()
-
-    def act(self, *names):
-        """Actions that are complete before the token that is looked at: their numbers, and how many tokens were taken."""
-        for name in names:
-            self.steps.append((ACTIONS.index(name), self.last, len(self.taken)))
-
-    def at_any(self, *kinds):
-        return self.kind in kinds
-
-
-def job(t):
-    if t.at_any("input", "let", "save"):
-        statement(t)
-    while t.at_any("NEWLINE"):
-        t.take("NEWLINE")
-        if t.at_any("input", "let", "save"):
-            statement(t)
-    if t.kind != "END":
-        t.refuse()
-
-
-def taken(t, *kinds_and_actions):
-    """Tokens, each with the action behind it, or None."""
-    for kind, action in kinds_and_actions:
-        t.take(kind)
-        if action:
-            t.act(action)
-
-
-def statement(t):
-    if t.at_any("input"):
-        taken(t, ("input", "Begin"), ("NAME", "Declare"), ("FILE", "InputFile"), ("shape", None))
-        dims(t)
-        t.take("chunks")
-        chunks(t)
-        t.act("AddInput")
-    elif t.at_any("let"):
-        taken(t, ("let", "Begin"), ("NAME", "Declare"), ("=", None))
-        expr(t)
-        t.act("Define")
-    else:
-        taken(t, ("save", "Begin"), ("NAME", "SavedName"), ("FILE", "SaveFile"))
-
-
-def listed(t, opened, one, firsts, least):
-    taken(t, ("(", opened))
-    count = 0
-    while True:
-        if t.at_any(*firsts):
-            one(t)
-            count += 1
-            if t.at_any(","):
-                t.take(",")
-                continue
-        elif count < least:
-            t.refuse()
-        t.take(")")
-        return
-
-
-def dims(t):
-    listed(t, "OpenDims", lambda t: taken(t, ("NUMBER", "Dim")), ["NUMBER"], 0)
-
-
-def item(t):
-    if t.at_any("NUMBER"):
-        taken(t, ("NUMBER", "Even"))
-    else:
-        sizes(t)
-
-
-def sizes(t):
-    """At least one size, and no comma alone."""
-    listed(t, "OpenSizes", lambda t: taken(t, ("NUMBER", "Size")), ["NUMBER"], 1)
-    t.act("Sizes")
-
-
-def chunks(t):
-    listed(t, "OpenChunks", item, ["NUMBER", "("], 0)
-
-
-def chain(t, one, *signs):
-    one(t)
-    while t.at_any(*signs):
-        t.take(*signs)
-        t.act("Mark")
-        one(t)
-        t.act("Combine")
-
-
-def expr(t):
-    chain(t, product, "+", "-")
-
-
-def product(t):
-    chain(t, unary, "*", "//", "%")
-
-
-def unary(t):
-    if t.at_any("-"):
-        taken(t, ("-", "Mark"))
-        opposite(t)
-    elif t.at_any("NUMBER"):
-        taken(t, ("NUMBER", "Literal"))
-        suffixes(t)
-    else:
-        operand(t)
-        suffixes(t)
-
-
-def opposite(t):
-    if t.at_any("NUMBER"):
-        taken(t, ("NUMBER", "NegativeLiteral"))
-        suffixes(t)
-    elif t.at_any("-"):
-        taken(t, ("-", "Mark"))
-        opposite(t)
-        t.act("Negate")
-    else:
-        operand(t)
-        suffixes(t)
-        t.act("Negate")
-
-
-def suffixes(t):
-    while t.at_any("[", ".T"):
-        if t.at_any(".T"):
-            taken(t, (".T", "ReverseAxes"))
-            continue
-        taken(t, ("[", "OpenParts"))
-        piece(t)
-        while t.at_any(","):
-            t.take(",")
-            piece(t)
-        taken(t, ("]", "AddSlice"))
-
-
-def integer(t):
-    if t.at_any("-"):
-        t.take("-")
-        taken(t, ("NUMBER", "Negative"))
-    else:
-        taken(t, ("NUMBER", "Positive"))
-
-
-def piece(t):
-    t.act("OpenPart")
-    if t.at_any("NUMBER", "-"):
-        integer(t)
-        if not t.at_any(":"):
-            t.act("Index")
-            return
-    taken(t, (":", "Bound"))
-    if t.at_any("NUMBER", "-"):
-        integer(t)
-    if t.at_any(":"):
-        taken(t, (":", "Bound"))
-        if t.at_any("NUMBER", "-"):
-            integer(t)
-    t.act("Range")
-
-
-def operand(t):
-    if t.at_any("NAME"):
-        taken(t, ("NAME", "Refer"))
-    elif t.at_any("("):
-        taken(t, ("(", "Enter"))
-        expr(t)
-        taken(t, (")", "Leave"))
-    else:
-        call(t)
-
-
-def comma_and(t, one, *actions):
-    t.take(",")
-    one(t)
-    t.act(*actions)
-
-
-def call(t):
-    kind = t.kind
-    if kind not in WORDS[5:9] + WORDS[11:]:
-        t.refuse()
-    taken(t, (kind, "Mark"), ("(", "Enter"))
-    if kind in ("full", "ramp"):
-        dims(t)
-        comma_and(t, integer, "Value")
-        if kind == "ramp":
-            comma_and(t, integer, "Step")
-        comma_and(t, chunks)
-        action = "AddFull" if kind == "full" else "AddRamp"
-    elif kind == "concatenate":
-        taken(t, ("[", "Enter"))
-        t.act("OpenList")
-        expr(t)
-        while t.at_any(","):
-            comma_and(t, expr)
-        taken(t, ("]", "Leave"), (",", None), ("axis", None), ("=", None), ("NUMBER", "ListAxis"))
-        action = "AddConcatenate"
-    else:
-        expr(t)
-        action = rest_of_call(t, kind)
-    taken(t, (")", "Leave"))
-    t.act(action)
-
-
-def rest_of_call(t, kind):
-    """What stands behind the first operand, and the action of the call."""
-    if kind in WORDS[5:9]:
-        fold(t)
-        return "Reduce"
-    if kind in ("minimum", "maximum"):
-        comma_and(t, expr)
-        return "Combine"
-    if kind == "where":
-        comma_and(t, expr)
-        comma_and(t, expr)
-        return "Choose"
-    if kind == "transpose":
-        comma_and(t, dims)
-        return "AddTranspose"
-    if kind == "rechunk":
-        comma_and(t, chunks)
-        return "AddRechunk"
-    comma_and(t, expr)
-    comma_and(t, dims, "LeftAxes")
-    comma_and(t, dims)
-    return "AddTensordot"
-
-
-def fold(t):
-    t.act("PlainFold")
-    if t.at_any(","):
-        t.take(",")
-        if t.at_any("axis"):
-            taken(t, ("axis", None), ("=", None))
-            dims(t)
-            t.act("FoldAxes")
-            if t.at_any(","):
-                t.take(",")
-                split(t)
-        else:
-            split(t)
-
-
-def split(t):
-    taken(t, ("split_every", None), ("=", None), ("NUMBER", "FoldSplit"))
-
-
-def read(text):
-    """The reader at the text's end or at its first place that is no job's, and the kind of the refusal, or None."""
-    t = Text(text)
-    try:
-        job(t)
-    except Refused as r:
-        return t, r.args[1]
-    return t, None
+from job_reader import KINDS, WORDS, Tokens, actions
 
 
 def let(*exprs):
@@ -404,7 +69,7 @@ PLACES = [(b"let a = 1\n\nsave", at) for at in (0, 8, 9, 10, 11, 12, 15)] + [(b"
 
 def token_case(text):
     """All tokens up to the end or the first byte at which none begins."""
-    t = Text(text)
+    t = Tokens(text)
     while t.kind not in ("END", "BAD"):
         t.take(t.kind)
     answer = "tokens"
@@ -414,7 +79,7 @@ def token_case(text):
 
 
 def step_case(text):
-    t, refused = read(text)
+    t, refused = actions(text)
     ending = "whole"
     if refused:
         cause = "no token" if refused == "token" else "unfinished" if t.kind == "END" else "unexpected"
@@ -424,8 +89,8 @@ def step_case(text):
 
 def kind_case(text):
     """What is done at each token. Only where nothing but the last token of all is refused."""
-    t, refused = read(text)
-    last = Text(text[t.at :]) if refused else t
+    t, refused = actions(text)
+    last = Tokens(text[t.at :]) if refused else t
     answer = "kinds"
     done = ["".join(" %d" % action for action, _, count in t.steps if count == k) for k in range(len(t.taken) + 1)]
     for k in range(len(t.taken)):
@@ -434,13 +99,13 @@ def kind_case(text):
         answer += done[-1] + " finished"
     elif refused and t.kind != "END":
         answer += done[-1] + " refused"
-    whole = read(text[: t.at])[1] is None
+    whole = actions(text[: t.at])[1] is None
     return "kinds " + escaped(text), answer + done[-1] + (" taken" if whole else " refused")
 
 
 def ends_there(text):
     """Whether the text has no token behind the one that is refused."""
-    t, _ = read(text)
+    t, _ = actions(text)
     if t.kind in ("END", "BAD"):
         return True
     t.take(t.kind)
@@ -457,7 +122,7 @@ def place_case(text, at):
 
 def cases():
     assert len(CASES) == len(set(CASES))
-    assert all(read(text)[1] for text in CASES) and not any(read(text)[1] for text in JOBS)
+    assert all(actions(text)[1] for text in CASES) and not any(actions(text)[1] for text in JOBS)
     found = [("# tokens and steps of jobs", "tokens and steps of jobs")]
     found += [("number " + digits, "%d" % min(int(digits), 2**64 - 1)) for digits in NUMBERS]
     found += [place_case(text, at) for text, at in PLACES]

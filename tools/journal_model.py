@@ -7,9 +7,9 @@ Build the program first, by `rt run < /dev/null` in crates/runner_table. Then
     tools/journal_model.py                    replays the lines of standard input
     tools/journal_model.py --runs N           replays N lines by chance
 
-with `--seed N`, `--leaves N` (at most so many), `--jobs N`, `--program FILE`, `--keep FOLDER` for what differed, `--slow` for the model as it stands,
-which keeps nothing that it derives, `--spoiled` for lines by chance of which the program spoils the journal, and `--spoil N`, which spoils here each journal
-that agrees so often, each time at one entry by chance, and counts how many of these differ then.
+with `--seed N`, `--leaves N` (at most so many), `--jobs N`, `--program FILE`, `--keep FOLDER` for what differed, `--spoiled` for lines by chance of
+which the program spoils the journal, and `--spoil N`, which spoils here each journal that agrees so often, each time at one entry by chance, and counts
+how many of these differ then.
 
 Of each line it says `agrees`, or at which stamp it differs and why. An entry agrees where its stamp is above the last, its event is enabled in the
 world that the entries before it lead to, from the opening world on, its message is the one that is first under way there, and no other event of the
@@ -29,12 +29,10 @@ import subprocess
 import sys
 import time
 import traceback
-from types import SimpleNamespace
 
-from cluster_model import Refused, keys_text, message_text
-from quick_model import QuickScheduler, QuickWorker
+from cluster_model import Graph, Refused, message_text
 from runner_jobs import Job
-from world_model import KINDS, Simulation, World, asker_text, read_event
+from world_model import KINDS, World, event_text, read_event, report
 
 ROOT = os.path.dirname(os.path.dirname(os.path.abspath(__file__)))
 PROGRAM = os.path.join(ROOT, "crates/runner_table/out/runner_table")
@@ -43,42 +41,6 @@ SECONDS = 100
 
 class Differs(Exception):
     pass
-
-
-# The world of a job.
-
-
-class Graph:
-    """A job's graph as the model sees it."""
-
-    def __init__(self, job):
-        self.deps, self.work, self.nbytes, self.keys = job.deps, job.work, job.nbytes, job.keys
-        self.edges = sum(map(len, self.deps))
-        self.above = [[] for _ in self.keys]
-        for key in self.keys:
-            for dep in self.deps[key]:
-                self.above[dep].append(key)
-
-    def dependents(self, key):
-        return self.above[key]
-
-
-class JobWorld(World):
-    """A world whose keys have the values of a job."""
-
-    def __init__(self, job, saturation, slow=False):
-        super().__init__(Graph(job), 1, saturation, 0, False)
-        self.job, self.slow = job, slow
-        if not slow:
-            self.sched = QuickScheduler(self.graph, 1, saturation)
-
-    def on_join(self, threads):
-        super().on_join(threads)
-        if not self.slow:
-            self.workers[self.sched.last] = QuickWorker(self.graph, self.sched.last, threads)
-
-    def value(self, key):
-        return self.job.values[key]
 
 
 # A line, and what is printed of it.
@@ -110,6 +72,7 @@ class Line:
             elif name not in ("journal", "meet", "slow"):
                 self.script.append(self.item(word))
         self.job = Job(kind, int(numbers[0]), zero, times)
+        self.graph = Graph(self.job.deps, self.job.work, self.job.nbytes)
         self.wanted.append(self.job.last)
         # how many workers there may be
         self.numbers = self.workers + sum(what == "join" for what, *_ in self.script)
@@ -147,15 +110,6 @@ class Printed:
                 self.ends.append(row)
 
 
-def field_text(field):
-    texts = {tuple: asker_text, list: keys_text}
-    return texts.get(type(field), str)(field)
-
-
-def event_text(event):
-    return " ".join(map(field_text, event))
-
-
 # The replay.
 
 # The events that the scheduler's node keeps, and those of them that come where nothing is due.
@@ -164,9 +118,9 @@ FREE = ("see-loss", "deliver-up", "deliver-from-client")
 
 
 class Replay:
-    def __init__(self, line, printed, slow=False):
+    def __init__(self, line, printed):
         self.line, self.printed = line, printed
-        self.world = JobWorld(line.job, line.saturation, slow)
+        self.world = World(line.graph, 1, line.saturation, line.job.values)
         self.taken, self.last, self.made = [], 0, 0
         self.let_go = set()
 
@@ -180,7 +134,7 @@ class Replay:
                 self.take(int(stamp), rest)
             except Differs as why:
                 raise Differs(f"stamp {stamp}: {why}: `{rest}`") from None
-        self.hold("the report", self.printed.report, self.report())
+        self.hold("the report", self.printed.report, report(self.world.graph, self.taken))
         self.hold("the audit", self.printed.audit, "audit: agrees")
         self.ends()
         self.lefts()
@@ -269,18 +223,6 @@ class Replay:
                 return "see-loss" if what == "lose" else "suspect", worker
             joined += what == "join"
         return None
-
-    def report(self):
-        rows = []
-        for row in Simulation.report(SimpleNamespace(events=self.taken, world=self.world)).split("\n"):
-            words = row.split()
-            if words[0] == "keys":
-                rows += [f"keys {words[1]}", f"edges {words[3]}"]
-            elif words[0] == "steals":
-                rows += [f"steals confirmed {words[2]}", f"steals refused {words[4]}"]
-            else:
-                rows.append(row)
-        return rows
 
     def gone(self):
         return {w for w in self.world.workers if w not in self.world.alive or not self.world.connected(w)}
@@ -398,7 +340,7 @@ def refused(task, printed, times):
     return counts
 
 
-Task = collections.namedtuple("Task", "program text slow spoil")
+Task = collections.namedtuple("Task", "program text spoil")
 Answer = collections.namedtuple("Answer", "text says printed counts spoiled ran took")
 
 
@@ -409,7 +351,7 @@ def answer_of(task):
     counts, others = collections.Counter(), collections.Counter()
     try:
         printed, ran = said_of(program, text)
-        replay = Replay(Line(text), Printed(text, printed), task.slow)
+        replay = Replay(Line(text), Printed(text, printed))
         replay.play()
         says, counts = "agrees", replay.counts()
         others = refused(text, printed, task.spoil)
@@ -478,7 +420,6 @@ def arguments():
     parser.add_argument("--program", default=PROGRAM)
     parser.add_argument("--keep")
     parser.add_argument("--spoil", type=int, default=0)
-    parser.add_argument("--slow", action="store_true")
     parser.add_argument("--spoiled", action="store_true")
     return parser.parse_args()
 
@@ -502,7 +443,7 @@ def main():
     lines = lines_of(asked)
     counts, others, differ, entries = collections.Counter(), collections.Counter(), 0, 0
     ran = took = 0
-    tasks = [Task(asked.program, line, asked.slow, asked.spoil) for line in lines]
+    tasks = [Task(asked.program, line, asked.spoil) for line in lines]
     with multiprocessing.Pool(asked.jobs) as pool:
         for number, answer in enumerate(pool.imap(answer_of, tasks)):
             if answer.says != "agrees":

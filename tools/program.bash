@@ -9,10 +9,6 @@ built_note=crates/$program_crate/out/SOURCES
 released=release/dask
 released_note=release/SOURCES
 
-# THE MEASURED FIGURES, which `./dask` tells before a build: [PROCESSORS]=MINUTES by the clock that `./dask --build` took from
-# nothing on an otherwise idle machine with so many processors. docs/GATE.md says on which. Empty where none was measured.
-build_minutes=([2]='' [4]='')
-
 # Sets `crates` to the crates that the program stands on, its own among them, and `lines` to their lines of crates.txt, by name,
 # each with one space between words. A name that crates.txt does not list is a library of the kit.
 read_crates() {
@@ -81,16 +77,17 @@ TEXT
   printf 'crate %s\n' "${crates[@]}"
 }
 
-# Sets `noted_kit`, `noted_sources`, `noted_program` and `noted_crates` to what a note says, nothing where there is none.
+# Sets `noted_kit`, `noted_sources`, `noted_program`, `noted_crates` and `noted_minutes` to what a note says, nothing where there is none.
 read_note() { # NOTE
   local word rest
-  noted_kit='' noted_sources='' noted_program='' noted_crates=''
+  noted_kit='' noted_sources='' noted_program='' noted_crates='' noted_minutes=''
   [ -r "$1" ] || return 1
   while read -r word rest; do
     case $word in
       kit) noted_kit=$rest ;;
       sources) noted_sources=$rest ;;
       program) noted_program=$rest ;;
+      minutes) noted_minutes=$rest ;;
       crate) noted_crates+="$rest"$'\n' ;;
     esac
   done < "$1"
@@ -135,35 +132,33 @@ find_driver() { # NAME
   [ -x "$driver" ] && [ -z "$(find "${folders[@]/%//src}" -name '*.rt' -newer "$driver" -print -quit)" ]
 }
 
-# Notes that the program of this clone was built from the sources as they stand.
-note_built() { # KIT
-  note_of "$built" "$1" > "$built_note"
+# Notes that the program of this clone was built from the sources as they stand. The line `minutes PROCESSORS MINUTES` tells how long
+# a build from nothing took by the clock.
+note_built() { # KIT [LINE]
+  { note_of "$built" "$1" && [ -z "${2-}" ] || echo "$2"; } > "$built_note"
 }
 
 # Proves and builds the program in this clone, and says on standard error what it takes and how far it is.
 build_program() {
-  local kit before crates count processors=0
+  local kit before crates line
   local -A lines
   if ! kit=$(kit_line); then
     echo 'the program is not built for these sources, and there is no command rt to build it with' >&2
     return 1
   fi
   read_crates
-  count=$(nproc)
-  for it in "${!build_minutes[@]}"; do
-    [ -n "${build_minutes[it]}" ] && [ "$it" -le "$count" ] && processors=$it
-  done
-  echo "the program is proved and built first, of ${#crates[@]} crates, with $count processors" >&2
-  if [ "$processors" -gt 0 ]; then
-    echo "from nothing that took ${build_minutes[processors]} minutes on an idle machine with $processors processors; what is proved already is not proved again" >&2
+  echo "the program is proved and built first, of ${#crates[@]} crates, with $(nproc) processors" >&2
+  read_note "$released_note"
+  if [ -n "$noted_minutes" ]; then
+    echo "from nothing that took ${noted_minutes#* } minutes with ${noted_minutes% *} processors; what is proved already is not proved again" >&2
   else
-    echo 'how long that takes from nothing on so many processors was not measured; what is proved already is not proved again' >&2
+    echo 'how long that takes from nothing was not measured; what is proved already is not proved again' >&2
   fi
   before=$(sources_sum "$kit")
-  python3 tools/prove_crates.py --build "$program_crate" --caller "$$" || return 1
+  line=$(python3 tools/prove_crates.py --build "$program_crate" --caller "$$") || return 1
   if [ "$before" != "$(sources_sum "$kit")" ]; then
     echo 'the sources changed while the program was built: build it again' >&2
     return 1
   fi
-  note_built "$kit"
+  note_built "$kit" "$line"
 }

@@ -5,8 +5,8 @@ usage: prove_crates.py [--jobs N] [--logs FOLDER] [--build PROGRAM] [--caller PI
 
 Proves the crates NAME and the libraries below them, or all crates where neither a NAME nor a PROGRAM is given: the longest chain
 first, N at a time (as many as there are processors and memory, where it is not given). With --build it also builds the program,
-which stays as crates/PROGRAM/out/PROGRAM. What is proved stays in each crate's out/, also where the run is interrupted, and is
-not proved again. With --logs it goes over every crate, gives each proof one job, and leaves in FOLDER a file NAME.log for each:
+which stays as crates/PROGRAM/out/PROGRAM, and prints `minutes PROCESSORS MINUTES`, its time by the clock, where it began from
+nothing. What is proved stays in each crate's out/, also where the run is interrupted, and is not proved again. With --logs it goes over every crate, gives each proof one job, and leaves in FOLDER a file NAME.log for each:
 what rt said, and as the last line `cpu USER SYS`, its processor seconds. With --caller it ends once that process has ended.
 
 rt lets no second command work in a crate, nor in a library below it, at the same time. So the crates are proved in lanes:
@@ -204,7 +204,7 @@ class Run:
         self.crates, self.todo, self.processors, self.program, self.logs, self.caller = crates, todo, processors, program, logs, caller
         self.started, self.last = time.monotonic(), None
         self.proved = set() if logs else {it for it in todo if not crates.is_program(it) and crates.is_proved(it)}
-        self.left, self.running = todo - self.proved, {}
+        self.found, self.left, self.running = {*self.proved}, todo - self.proved, {}
         above = {name: [it for it in todo if name in crates.uses[it]] for name in todo}
         self.chain = functools.lru_cache(None)(lambda name: crates.lines(name) + max(map(self.chain, above[name]), default=0))
 
@@ -248,6 +248,14 @@ class Run:
             return status == 0
         with open(log, encoding="utf-8", errors="replace") as lines:
             return any(it.startswith("rt: running out/") for it in lines)
+
+    def minutes(self):
+        """Returns how long the run took, if it proved all its crates from nothing."""
+        for name in self.todo - self.found:
+            with open(f"{self.crates.folder(name)}/out/proof.log", encoding="utf-8", errors="replace") as it:
+                if self.found or any(line.startswith(f"rt: {name}: begins with what a check kept") for line in it):
+                    return None
+        return f"minutes {self.processors} {(time.monotonic() - self.started) / 60:.0f}"
 
     def over(self, lanes):
         """Proves all in these lanes, and returns the first crate that could not be proved, if there is one."""
@@ -306,6 +314,8 @@ def main(words):
             os.close(it)
     if sys.stderr.isatty():
         tell("")
+    if program and not failed and run.minutes():
+        print(run.minutes())
     if failed:
         tell(f"{failed} is not proved: crates/{failed}/out/proof.log says why")
     return 1 if failed else 0

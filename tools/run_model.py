@@ -1,13 +1,12 @@
 #!/usr/bin/env python3
 """What the program answers to a job: a model of its commands, written apart from the program, which it never runs.
 
-Graphs are those of graph_model.py, simulations those of world_model.py over the machines of quick_model.py, and blocks are NumPy's. Import it where NumPy is.
+Graphs are those of graph_model.py, simulations those of world_model.py, and blocks are NumPy's. Import it where NumPy is.
 """
 import numpy as np
 
-import graph_model
-from graph_model import Lowered, Limit, Refused, blocks
-from quick_model import QuickScheduler, QuickWorker
+from cluster_model import Graph
+from graph_model import Limit, Lowered, blocks, region
 from world_model import Simulation, World
 
 
@@ -15,57 +14,23 @@ class ZeroDivide(Exception):
     pass
 
 
-plain_elements = graph_model.by_elements
+class Dividing:
+    """NumPy, but for a divisor of 0, which stops it."""
 
+    def __getattr__(self, name):
+        return getattr(np, name)
 
-def elements(numpy, op, operands):
-    """An operation element by element, which a divisor of 0 stops."""
-    if op in ('//', '%') and np.size(np.broadcast_arrays(*operands)[1]) and (np.asarray(operands[1]) == 0).any():
-        raise ZeroDivide
-    with np.errstate(over='ignore'):
-        return plain_elements(numpy, op, operands)
+    def floor_divide(self, *operands):
+        return self.divided(np.floor_divide, *operands)
 
+    def remainder(self, *operands):
+        return self.divided(np.remainder, *operands)
 
-graph_model.by_elements = elements
-
-
-class ShapedGraph:
-    """A lowered graph as the scheduler's model sees it."""
-
-    def __init__(self, lowered):
-        self.deps = lowered.deps
-        self.work = [task.work for task in lowered.tasks]
-        self.nbytes = [task.bytes for task in lowered.tasks]
-        self.above = [[] for _ in self.work]
-        for key in self.keys:
-            for dep in self.deps[key]:
-                self.above[dep].append(key)
-
-    @property
-    def keys(self):
-        return range(len(self.work))
-
-    @property
-    def edges(self):
-        return sum(map(len, self.deps))
-
-    def dependents(self, key):
-        return self.above[key]
-
-
-class BlockWorld(World):
-    """A world whose keys have these values."""
-
-    def __init__(self, graph, saturation, values):
-        super().__init__(graph, 1, saturation, 1, False)
-        self.sched, self.values = QuickScheduler(graph, 1, saturation), values
-
-    def on_join(self, threads):
-        super().on_join(threads)
-        self.workers[self.sched.last] = QuickWorker(self.graph, self.sched.last, threads)
-
-    def value(self, key):
-        return self.values[key]
+    @staticmethod
+    def divided(call, left, right):
+        if np.broadcast(left, right).size and (np.asarray(right) == 0).any():
+            raise ZeroDivide
+        return call(left, right)
 
 
 def source_arrays(job, inputs):
@@ -93,7 +58,8 @@ class Run:
             made[old] = None
             if all(made[dep] is not None for dep in task.deps):
                 try:
-                    made[old] = np.asarray(task.formula(np, made.get, whole), np.int64)
+                    with np.errstate(over='ignore'):
+                        made[old] = np.asarray(task.formula(Dividing(), made.get, whole), np.int64)
                 except ZeroDivide:
                     pass
         self.values = [made[old] for old in lowered.old]
@@ -114,7 +80,7 @@ class Run:
         array = np.zeros(node.shape, np.int64)
         for key, index in zip(self.lowered.saved[save], blocks(node.layout)):
             if self.values[key] is not None:
-                array[graph_model.region(node.layout, index)] = self.values[key]
+                array[region(node.layout, index)] = self.values[key]
         return array
 
     def array_before(self, save, fault):
@@ -123,28 +89,21 @@ class Run:
         array = np.zeros(node.shape, np.int64)
         for key, index in zip(self.lowered.saved[save], blocks(node.layout)):
             if key < fault:
-                array[graph_model.region(node.layout, index)] = self.values[key]
+                array[region(node.layout, index)] = self.values[key]
         return array
 
     def simulate(self, number, workers=4, threads=2, saturation=11, script=()):
         """The lines of a simulation but those of files, or the key to blame, or nothing where nothing moves."""
-        world = BlockWorld(ShapedGraph(self.lowered), saturation, self.values)
+        tasks = self.lowered.tasks
+        graph = Graph(self.lowered.deps, [task.work for task in tasks], [task.bytes for task in tasks])
+        world = World(graph, 1, saturation, self.values)
         wanted = [key for keys in self.lowered.saved for key in keys]
         played = Simulation(world, workers, threads, number, wanted, list(script))
         if not played.play():
             return None
         if played.end() != 'all':
             return played.end()
-        lines = []
-        for line in played.report().split('\n'):
-            words = line.split()
-            if words[0] == 'keys':
-                lines += [f'keys {words[1]}', f'edges {words[3]}']
-            elif words[0] == 'steals':
-                lines += [f'steals confirmed {words[2]}', f'steals refused {words[4]}']
-            else:
-                lines.append(line)
-        return '|'.join([*lines, f'turns {played.turns}', 'finished by: simulation', ''])
+        return '|'.join([*played.report(), f'turns {played.turns}', 'finished by: simulation', ''])
 
 
 def lower(text):

@@ -5,20 +5,17 @@ import sys
 import time
 
 TOP = os.path.dirname(os.path.dirname(os.path.abspath(__file__)))
-sys.path += [os.path.join(TOP, 'python', 'yitrovana'), os.path.join(TOP, 'python', 'yitrovana', 'cluster')]
-import job_text  # noqa: E402
-from hints import Words  # noqa: E402
+sys.path.append(os.path.join(TOP, 'python', 'yitrovana'))
+from hints import job_text, read  # noqa: E402
 from progress import EVERY, Line, counts  # noqa: E402
 
 
-def sizes(name):
+def sizes(words):
     """The bytes of a job's inputs, and of the files that it saves; nothing of a job that can't be read."""
     try:
-        with open(name, 'rb') as file:
-            job = job_text.read(file.read())
-        read = sum(os.path.getsize(input) for input in set(job.inputs.values()))
-        return read, sum(saved_bytes(job.nodes[node].shape) for node in job.saves.values())
-    except (OSError, job_text.Refused):
+        job = read(words)
+        return sum(map(os.path.getsize, set(job.inputs.values()))), sum(saved_bytes(job.nodes[node].shape) for node in job.saves.values())
+    except (OSError, TypeError, job_text.Refused):
         return 0, 0
 
 
@@ -32,7 +29,7 @@ def saved_bytes(shape):
 
 def main(pid, words):
     began, show = time.monotonic(), Line(sys.stderr)
-    to_read, to_write = sizes(Words(words).job or '')
+    to_read, to_write = sizes(words)
     while True:
         time.sleep(EVERY)
         found = counts(pid, began, to_read, to_write)

@@ -67,6 +67,10 @@ def ends(launcher, folder):
     def terminate(child, _):
         os.kill(child, signal.SIGTERM)
 
+    # as of a worker's disk whose program was ended in the moment before it took the name
+    with open(os.path.join(folder, '.dask-spill-4-0'), 'w', encoding='ascii'):
+        pass
+
     for words in (['run', 'job.txt'], ['--progress', 'run', 'job.txt', '--memory=1000000'], ['plain', 'job.txt']):
         yield f'Ctrl-C, {words}', after_part(launcher, folder, words, interrupt), (-signal.SIGINT, ['job.txt'])
     yield 'an end by SIGTERM', after_part(launcher, folder, ['run', 'job.txt'], terminate), (-signal.SIGTERM, ['job.txt'])
@@ -90,6 +94,8 @@ def elsewhere(launcher, folder):
 
 
 def main(launcher):
+    # a shell that starts this in the background has it ignored, and what is started here would ignore it too
+    signal.signal(signal.SIGINT, signal.default_int_handler)
     launcher, different, equal = os.path.abspath(launcher), 0, 0
     for cases, text in ((ends, LONG), (lines, LONG), (elsewhere, SHORT)):
         with tempfile.TemporaryDirectory() as folder:

@@ -8,10 +8,9 @@ doesn't say its key: it is that of the worker of `cluster_model.py`, which takes
 """
 import sys
 
-from journal_model import Graph, Line, Printed
-from quick_model import QuickWorker
+from cluster_model import Worker, message_of
+from journal_model import Line, Printed
 from world_model import read_event
-from cluster_model import message_of
 
 # Sizes, in pixels.
 LEFT, RIGHT, TOP, LANE, STRIP, BETWEEN = 84, 20, 58, 18, 15, 10
@@ -36,7 +35,7 @@ class Bar:
         self.end, self.whole = None, False
 
 
-class Core(QuickWorker):
+class Core(Worker):
     """A worker of the model, with the bars of what it runs."""
 
     def __init__(self, graph, number, threads, joined):
@@ -68,7 +67,6 @@ class Picture:
     def __init__(self, text):
         first = text.partition("\n")[0]
         self.line, self.printed = Line(first), Printed(first, text)
-        self.graph = Graph(self.line.job)
         self.workers, self.bars, self.steals, self.seen, self.disks, self.ran = {}, [], [], [], [], set()
         self.stamps, self.tasks = set(), []
         for entry in self.printed.entries:
@@ -91,7 +89,7 @@ class Picture:
 
     def on_join(self, stamp, _, threads):
         number = len(self.workers) + 1
-        self.workers[number] = Core(self.graph, number, threads, stamp)
+        self.workers[number] = Core(self.line.graph, number, threads, stamp)
         self.draw(stamp)
 
     def on_deliver_down(self, stamp, words, worker):
@@ -332,7 +330,7 @@ class Drawing:
         text = picture.line.text.replace(" journal", "")
         self.text(LEFT, 20, text, "h")
         ends = "; ".join(picture.printed.ends)
-        self.text(LEFT, 38, f"{ends} · {len(picture.graph.keys)} keys, {len(picture.printed.entries)} events, of which {len(picture.columns)} are drawn", "n")
+        self.text(LEFT, 38, f"{ends} · {len(picture.line.graph.keys)} keys, {len(picture.printed.entries)} events, of which {len(picture.columns)} are drawn", "n")
         for number, core in picture.workers.items():
             self.row(number, core)
         self.axis()

@@ -48,7 +48,7 @@ case $status in
   1 | 2 | 3 | 5 | 6) ! command -v python3 > /dev/null || python3 "$root/tools/hints.py" "$status" "$line" "$@" >&2 ;;
 esac
 if [ "$status" -gt 128 ]; then
-  # parts of saved files that the ended program left go, and this ends as it did
+  # what the ended program left beside saved files and in the folder for blocks goes, and this ends as it did
   ! command -v python3 > /dev/null || python3 "$root/tools/hints.py" ended '' "$@"
   trap - INT TERM HUP QUIT
   kill -s "$((status - 128))" "$$"

@@ -1,21 +1,11 @@
-#!/usr/bin/env python3
-"""The stories of a worker, a client, a world and a simulation, played by a model of the rules.
+"""A model of a world of the parts of `cluster_model.py`, with its links, and of simulations of it.
 
-The model is written from the tables that docs/CLUSTER.md explains, apart from the program, and never runs it. It reads the
-stories of `crates/cluster_table/stdin`, and writes what those of its parts lead to, with an empty line behind each:
-
-    tools/world_model.py < crates/cluster_table/stdin
-
-Stories of other parts are left out.
+It is written from the tables that docs/CLUSTER.md explains, apart from the program, and never runs it. `world_stories.py` plays stories by it,
+`journal_model.py` replays what runs kept, and `run_model.py` says what jobs answer.
 """
-import sys
-
-from cluster_model import (FIELDS, Client, Graph, Refused, Scheduler, Worker, keys_text, message_of,
-                           message_text, read_keys)
+from cluster_model import Client, Refused, Scheduler, Worker, keys_text, read_keys
 
 MOST_BOUND = (1 << 128) - 1
-PEERS = [1, 2, 3, 4, 127, 128, 200, 201]
-SHOWN = 40
 
 
 class Feed(Exception):
@@ -24,10 +14,6 @@ class Feed(Exception):
 
 class Stopped(Exception):
     pass
-
-
-def asker_text(asker):
-    return f'{asker[0][0]}{asker[1]}'
 
 
 def bound(clients, under_way, workers, keys, edges):
@@ -41,8 +27,9 @@ class World:
     # workers come before clients where both ask
     ORDER = {'worker': 0, 'client': 1}
 
-    def __init__(self, graph, clients, saturation, content, fails):
-        self.graph, self.count, self.content, self.fails = graph, clients, content, fails
+    def __init__(self, graph, clients, saturation, values, fails=False):
+        """A key's value is none where it meets a zero divisor. With `fails` the first key without dependencies that ends stops the world."""
+        self.graph, self.count, self.values, self.fails = graph, clients, values, fails
         self.sched = Scheduler(graph, clients, saturation)
         self.clients = {c: Client(graph) for c in range(1, clients + 1)}
         self.workers, self.alive, self.spilled = {}, set(), set()
@@ -51,16 +38,6 @@ class World:
         self.from_client = {c: [] for c in self.clients}
         self.requests, self.answers = {}, {}
         self.stopped, self.faults = False, 0
-
-    # The job: a key without dependencies is the content, another 100 divided by its first dependency.
-
-    def value(self, key):
-        """The key's value, or none where a divisor is zero."""
-        deps = self.graph.deps[key]
-        if not deps:
-            return self.content
-        values = [self.value(dep) for dep in deps]
-        return 100 // values[0] if None not in values and values[0] else None
 
     # What may happen.
 
@@ -219,7 +196,7 @@ class World:
             self.faults += 1
             self.stopped = True
             raise Feed
-        self.work(worker, ('done' if self.value(key) is not None else 'zero', key))
+        self.work(worker, ('done' if self.values[key] is not None else 'zero', key))
 
     def on_send_gather(self, asker, peer):
         self.act(asker, ('ask', peer))
@@ -279,7 +256,7 @@ class World:
 
     def key_text(self, client, key):
         core = self.clients[client]
-        return core.done(key) + (f':{self.value(key)}' if key in core.got else '')
+        return core.done(key) + (f':{self.values[key]}' if key in core.got else '')
 
 
 # A simulation.
@@ -384,23 +361,31 @@ class Simulation:
         return True
 
     def report(self):
-        names = [event[0] for event, _ in self.events]
-        joined = range(1, names.count('join') + 1)
-        starts = [event[1] for event, _ in self.events if event[0] == 'start']
-        answers = [message[4] for event, message in self.events if event[0] == 'deliver-up' and message[0] == 'steal-response']
-        asks = [event for event, _ in self.events if event[0] == 'send-gather' and event[1][0] == 'worker']
-        graph, losses = self.world.graph, names.count('see-loss') + names.count('suspect')
-        return '\n'.join([
-            f'keys {len(graph.keys)} edges {graph.edges}', f'started {len(starts)}',
-            *(f'worker {w} started {starts.count(w)}' for w in joined), f'gathers {len(asks)}',
-            f'steals confirmed {answers.count("true")} refused {answers.count("false")}', f'losses {losses}'])
+        return report(self.world.graph, self.events)
 
 
-# Stories.
+def report(graph, events):
+    """The rows that a report of these events has, each of which stands with its message."""
+    names = [event[0] for event, _ in events]
+    starts = [event[1] for event, _ in events if event[0] == 'start']
+    answers = [message[4] for event, message in events if event[0] == 'deliver-up' and message[0] == 'steal-response']
+    gathers = sum(event[0] == 'send-gather' and event[1][0] == 'worker' for event, _ in events)
+    return [
+        f'keys {len(graph.keys)}', f'edges {graph.edges}', f'started {len(starts)}',
+        *(f'worker {w} started {starts.count(w)}' for w in range(1, names.count('join') + 1)), f'gathers {gathers}',
+        f'steals confirmed {answers.count("true")}', f'steals refused {answers.count("false")}',
+        f'losses {names.count("see-loss") + names.count("suspect")}']
+
+
+# Events, as stories and journals write them.
 
 
 def read_asker(word):
     return {'w': 'worker', 'c': 'client'}[word[0]], int(word[1:])
+
+
+def asker_text(asker):
+    return f'{asker[0][0]}{asker[1]}'
 
 
 EVENT_FIELDS = {
@@ -419,164 +404,10 @@ KINDS = {'deliver-down': 'down', 'deliver-up': 'up', 'deliver-to-client': 'to-cl
 
 
 def event_text(event):
-    return ' '.join(asker_text(field) if isinstance(field, tuple) else str(field) for field in event)
+    texts = {tuple: asker_text, list: keys_text}
+    return ' '.join(texts.get(type(field), str)(field) for field in event)
 
 
-def core_event(words):
-    name, *fields = words
-    if name in FIELDS:
-        return message_of(words)
-    if name in ('want', 'release'):
-        return name, read_keys(fields[0])
-    if name == 'gathered':
-        return name, int(fields[0]), int(fields[1]), read_keys(fields[2])
-    return (name, *map(int, fields))
-
-
-def instruction_text(instruction):
-    name, *fields = instruction
-    if name == 'gather':
-        return f'gather {fields[0]} {fields[1]} {keys_text(fields[2])}'
-    if name in ('execute', 'keep', 'drop'):
-        return f'{name} {fields[0]}'
-    return 'send ' + message_text(instruction)
-
-
-def ended(core, event):
-    try:
-        return ''.join([': taken', *(f', {instruction_text(i)}' for i in core.step(event))])
-    except Refused:
-        return ': refused'
-
-
-def asks_text(core):
-    asks = ''.join(f' {peer}' for peer in PEERS if core.would_ask(peer))
-    still = ''.join(f' {peer}@{core.ask_number(peer)}' for peer in PEERS if core.ask_number(peer))
-    return f'; ask{asks}; open{still}; pairs {core.pairs()}'
-
-
-def play_worker(setting, events):
-    core = Worker(Graph(setting[2:]), int(setting[0]), int(setting[1]))
-    for line in events:
-        print(line + ended(core, core_event(line.split())))
-        start = core.would_start()
-        states = ''.join(f' {core.state(key)}' for key in core.graph.keys)
-        starts = '' if start is None else f' {start}'
-        runs = ''.join(f' {key}' for key in sorted(core.running))
-        print(f' {states}; start{starts}; runs{runs}{asks_text(core)}')
-
-
-def play_client(setting, events):
-    core = Client(Graph(setting))
-    for line in events:
-        print(line + ended(core, core_event(line.split())))
-        ends = ''.join(f' {core.done(key)}' for key in core.graph.keys)
-        print(f' {ends}{asks_text(core)}')
-
-
-def world_of(setting):
-    clients, saturation, content, fails = setting[:4]
-    assert fails in ('true', 'false')
-    return World(Graph(setting[4:]), int(clients), int(saturation), int(content), fails == 'true')
-
-
-def taken(world, event):
-    message = world.message(event) if world.enabled(event) else None
-    takes = f' takes {KINDS[event[0]]} {message_text(message)}' if message else ''
-    try:
-        world.step(event)
-        return takes + ': taken'
-    except Refused:
-        return takes + ': not enabled'
-    except Stopped:
-        return takes + ': stopped'
-    except Feed:
-        return takes + ': the feed failed'
-
-
-def print_world(world):
-    nexts = world.progress()
-    shown = ''.join(f'; {event_text(event)}' for event in nexts[:SHOWN])
-    print(f'  under way {world.under_way()}; workers {world.worker_count()}; finishes {world.sched.finishes}; '
-          f'bound {world.rest()}')
-    print(f'  progress {len(nexts)}{shown}')
-    for client in world.clients:
-        print(f'  client {client}:' + ''.join(f' {world.key_text(client, key)}' for key in world.graph.keys))
-
-
-def play_world(setting, events):
-    world = world_of(setting)
-    for line in events:
-        name, *fields = line.split()
-        if name == 'go':
-            print(line)
-            for _ in range(int(fields[0])):
-                if not world.progress():
-                    break
-                event = world.progress()[0]
-                ended = taken(world, event)
-                print(event_text(event) + ended)
-                if not ended.endswith('taken'):
-                    break
-        else:
-            print(line + taken(world, read_event(line.split())))
-        print_world(world)
-    print(f'faults {world.faults}')
-
-
-def read_item(word):
-    what, at = word.split('@')
-    return tuple([*(int(w) if w.isdigit() else w for w in what.split(':')), int(at)])
-
-
-def play_simulation(setting, events):
-    assert not events
-    workers, threads, number, script, wanted = setting[:5]
-    world = world_of(['1', '11', *setting[5:]])
-    items = [] if script == '-' else [read_item(word) for word in script.split(',')]
-    wanted = read_keys(wanted)
-    if not (wanted and max(wanted) < len(world.graph.keys) and int(workers) <= 64 and 1 <= int(threads) <= 16):
-        print('ill')
-        return
-    try:
-        simulation = Simulation(world, int(workers), int(threads), int(number), wanted, items)
-        if simulation.play():
-            end = simulation.end()
-            print(f'turns {simulation.turns}' + ('' if end == 'all' else f' blame {end}'))
-            print(simulation.report())
-        else:
-            print('nothing moves')
-    except Feed:
-        print('the feed failed')
-    print(' '.join(['wanted:', *(world.key_text(1, key) for key in wanted)]))
-    print(f'faults {world.faults}')
-
-
-def play_bound(setting, events):
-    for line in events:
-        print(f'{line}: {bound(*map(int, line.split()))}')
-
-
-def play_generator(setting, events):
-    for line in events:
-        words = Words(int(line))
-        print(f'{line}: ' + ' '.join(str(words.word()) for _ in range(3)))
-
-
-PARTS = {'worker': play_worker, 'client': play_client, 'world': play_world, 'simulation': play_simulation,
-         'bound': play_bound, 'generator': play_generator}
-
-
-def main():
-    for story in sys.stdin.read().split('\n\n'):
-        lines = story.rstrip('\n').split('\n')
-        notes = [lines.pop(0)] if lines[0].startswith('#') else []
-        part, *setting = lines[0].split() or ['']
-        if part in PARTS:
-            print(*notes, lines[0], sep='\n')
-            PARTS[part](setting, lines[1:])
-            print()
-
-
-if __name__ == "__main__":
-    main()
+def report_text(rows):
+    """A report as stories have it, in fewer lines."""
+    return '\n'.join(rows).replace('\nedges', ' edges').replace('\nsteals refused', ' refused')

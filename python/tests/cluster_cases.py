@@ -43,6 +43,12 @@ def uses(client):
     yield "the session's own client", a.sum().compute(command='dask'), grid.sum()
     wide = y.from_dask(da.from_array(grid.astype('i4'), chunks=(3, 2)) * 3, 'wide.npy')
     yield 'from dask.array', (wide.chunks, (wide - 1).compute().tolist()), (((3, 1), (2, 2, 2)), (grid * 3 - 1).tolist())
+    whole = np.arange(4096).reshape(64, 64)
+    summed = y.from_dask(da.from_array(whole, chunks=(64, 1)).cumsum(axis=0).rechunk((1, 64)))
+    yield 'from dask.array without a path', (summed.chunks[1], summed.compute().tolist()), ((64,), whole.cumsum(axis=0).tolist())
+    path = summed.parameters[1]
+    del summed
+    yield 'a file that goes with its array', os.path.exists(path), False
     yield 'from and to', y.from_dask(a.to_dask() + 1, 'next.npy').compute().tolist(), (grid + 1).tolist()
     yield 'what is left', sorted(name for name in os.listdir() if name.endswith('.part')), []
     long = a

@@ -6,6 +6,7 @@ import yitrovana as y
 LEAST, LARGEST = -2**63, 2**63 - 1
 EXTREMES = [LEAST, LEAST + 1, -3, -1, 0, 1, 2, 7, LARGEST - 1, LARGEST]
 LENGTHS, AXES = (0, 1, 2, 3, 4, 4, 4, 5, 6), (0, 1, 1, 2, 2, 2, 3, 4)
+OLD = tuple(map(int, np.__version__.split('.')[:2])) < (1, 22)
 MOST, MOST_AXES, MOST_PRODUCTS = 4000, 6, 10**6  # elements and axes of an array of a tree, and multiplications of one operation
 
 
@@ -127,7 +128,7 @@ class Tree:
 
     def where(self, a, m):
         b, n = self.like(m)
-        c, o = self.like(np.broadcast_to(m, np.broadcast_shapes(m.shape, n.shape)))
+        c, o = self.like(np.broadcast_to(m, np.broadcast(m, n).shape))
         order = [(a, m), (b, n), (c, o)]
         self.draw.shuffle(order)
         return y.where(*(one for one, _ in order)), np.where(*(one for _, one in order))
@@ -221,8 +222,16 @@ class Tree:
 
 def signed(sign, a, b):
     if sign in '/%':
+        if OLD and not isinstance(a, y.Array) and not isinstance(b, y.Array):
+            return divided(sign, a, b)
         return a // b if sign == '/' else a % b
     return a + b if sign == '+' else a - b if sign == '-' else a * b
+
+
+def divided(sign, m, n):
+    """A quotient and a rest, also of -2^63 by -1, at which NumPy 1.19 fails."""
+    other = np.where(n == -1, 1, n)
+    return np.where(n == -1, -m, m // other) if sign == '/' else m % other
 
 
 def beside(made, axis):
@@ -231,6 +240,6 @@ def beside(made, axis):
 
 def fits(m, n):
     try:
-        return np.broadcast_shapes(m.shape, n.shape) is not None
+        return np.broadcast(m, n) is not None
     except ValueError:
         return False

@@ -21,8 +21,9 @@ def job(arrays):
     return _Job(arrays).text
 
 
-def from_dask(array, path):
-    """Has Dask compute an array of `dask.array` into the `.npy` file at `path`, and opens that."""
+def from_dask(array, path=None):
+    """The same array as one of `dask.array`. Where the language has its operations, nothing is computed; else Dask computes it into the
+    `.npy` file at `path`, without a path into a temporary one, and that is opened."""
     from .cluster import from_dask as convert
     return convert(array, path)
 

@@ -7,6 +7,7 @@ from .text import unique
 
 SIDE, LEAST, MOST = 120, 12, 48  # the longer side, the shorter one at least, and how many lines are drawn at most
 LAYER, LAYERS = 7, 4             # what stands behind for axes before the last two
+LETTER = 7                       # the width of a letter at most
 FILL, EDGE = '#e8d9b5', '#5b4a2e'
 
 
@@ -38,8 +39,8 @@ def svg(array):
     shift = LAYER * max(layers, 0)
     behind = ''.join(f'<rect x="{LAYER * k}" y="{-LAYER * k}" width="{width}" height="{height}" fill="{FILL}"/>' for k in range(layers, 0, -1))
     grid = f'<rect width="{width}" height="{height}" fill="{FILL}"/>' + lines(down, across, height, width)
-    box = f'-4 {-shift - 4} {width + shift + 80} {height + shift + 26}'
-    return (f'<svg xmlns="http://www.w3.org/2000/svg" width="{width + shift + 80}" height="{height + shift + 26}" viewBox="{box}" '
+    wide, high = width + shift + max(80, 16 + LETTER * len(before(array))), height + shift + 26
+    return (f'<svg xmlns="http://www.w3.org/2000/svg" width="{wide}" height="{high}" viewBox="-4 {-shift - 4} {wide} {high}" '
             f'stroke="{EDGE}" stroke-width="0.8">{behind}{grid}{labels(array, height, width, shift)}</svg>')
 
 
@@ -49,14 +50,20 @@ def lines(down, across, height, width):
     return result + ''.join(f'<line y1="0" y2="{height}" x1="{x}" x2="{x}"/>' for x in places(across, width))
 
 
+def before(array):
+    """The lengths of the axes before the last two."""
+    return ' '.join(f'{length} ×' for length in array.shape[:-2])
+
+
 def labels(array, height, width, shift):
     """The lengths of the axes: across below, down at the right, and those before above."""
     style = f'stroke="none" fill="{EDGE}" font-family="sans-serif" font-size="11"'
-    found = [f'<text x="{width / 2}" y="{height + 15}" text-anchor="middle" {style}>{array.shape[-1]}</text>'] if array.ndim else []
+    middle = max(width / 2, LETTER / 2 * len(str(array.shape[-1])))
+    found = [f'<text x="{middle}" y="{height + 15}" text-anchor="middle" {style}>{array.shape[-1]}</text>']
     if array.ndim > 1:
         found.append(f'<text x="{width + shift + 6}" y="{height / 2 + 4 - shift}" {style}>{array.shape[-2]}</text>')
     if array.ndim > 2:
-        found.append(f'<text x="{width + shift + 6}" y="{10 - shift}" {style}>{" × ".join(map(str, array.shape[:-2]))} ×</text>')
+        found.append(f'<text x="{width + shift + 6}" y="{10 - shift}" {style}>{before(array)}</text>')
     return ''.join(found)
 
 

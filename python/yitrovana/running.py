@@ -72,7 +72,7 @@ def answered(words, job, spill_folder, wanted):
         except BaseException:
             process.terminate()
             process.wait()
-            leftovers.remove(job.saves)
+            leftovers.remove(job.saves, environment.get('DASK_SPILL'))
             raise
         told, line = (read_whole(file) for file in (lines, fault))
     if status:

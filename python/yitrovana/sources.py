@@ -1,6 +1,8 @@
 """Arrays that are made of nothing: those of files, of one number, and that go up by a step."""
 import builtins
 import os
+import tempfile
+import weakref
 from operator import index
 
 import numpy as np
@@ -36,6 +38,25 @@ def head_of(path):
         except ValueError as why:
             raise ValueError(f'{path}: {why}') from None
     return mapped.shape, mapped.dtype
+
+
+class TemporaryFile:
+    """A file that goes with the array that is opened of it, or at once where none is."""
+
+    def __enter__(self):
+        file, self.path = tempfile.mkstemp(suffix='.npy')
+        os.close(file)
+        self.array = None
+        return self
+
+    def opened(self, chunks):
+        self.array = open(self.path, chunks)
+        weakref.finalize(self.array, os.remove, self.path)
+        return self.array
+
+    def __exit__(self, *_):
+        if self.array is None:
+            os.remove(self.path)
 
 
 def file_name(path):

@@ -42,7 +42,7 @@ act_is op tells old new e going ready goes counted some exact made = record {
   going = goes ∙ going;
   room = ready.room;
   counted = counted;
-  some = (record { setting = (world old).sched.setting; zero = λ k. some.0 }, some.1);
+  some = some;
   exact = exact;
   made = made;
 }

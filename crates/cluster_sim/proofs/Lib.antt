@@ -15,4 +15,5 @@ pub mod PlayLemmas
 pub mod ChooseLemmas
 pub mod OpeningRecords
 pub mod QuietLemmas
+pub mod LedLemmas
 pub mod SimulateRecords

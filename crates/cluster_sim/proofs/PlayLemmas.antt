@@ -9,9 +9,9 @@ use Rattle.cluster_sim.proofs.ActLemmas.{same_job}
 use Rattle.cluster_rules.specs.World.{Job}
 use Rattle.cluster_sim.specs.Acts.{Stays}
 use Rattle.cluster_sim.specs.Drawn.{word_of}
-use Rattle.cluster_sim.specs.Simulations.{GoesOn, IsStuck}
+use Rattle.cluster_sim.specs.Simulations.{GoesOn}
 use Rattle.cluster_sim.specs.Standing.{sim_of, HasTurn}
-use Rattle.cluster_sim.specs.Turns.{IsBetween, IsDrawn, HasGone, HasStayed, HasEnded, AfterTurn, DrawnTurn, HasServed, HasPlayed, AfterPlay, DrawnPlay, IsFull}
+use Rattle.cluster_sim.specs.Turns.{IsBetween, IsDrawn, HasGone, HasStayed, HasEnded, AfterTurn, DrawnTurn, HasServed, HasPlayed, HasHalted, AfterPlay, DrawnPlay, IsFull}
 use Rattle.cluster_sim.specs.declared.run.Run.{Run}
 use Rattle.cluster_sim.specs.declared.act.SimError.{SimError}
 use Rattle.cluster_sim.specs.declared.act.SimError.TheVariants.{Stuck, Feed, Spent, OutOfMemory}
@@ -40,11 +40,12 @@ played_by op tells p wanted number failure old new a b s v =
     subst (λ x. HasPlayed op tells p wanted number (Served b.standing.turns failure) x b) (sym s.world) (subst (λ (r : Run). HasPlayed op tells p wanted number (Served r.standing.turns failure) old r) (sym s.run) v)
 
 -- a play whose turn failed
-pub play_failed : {J B F : Type 0} (p : Plan) (wanted : List ℕ) (old new : State J B F) (a b : Run) (e : SimError) → AfterTurn p wanted old new a b (Err e) → AfterPlay p wanted new b (Err e)
-play_failed {J} {B} {F} p wanted old new a b Stuck h = subst (λ (s : State J B F). IsStuck (world s)) (sym h.stayed.world) h.stuck
-play_failed p wanted old new a b Feed h = tt
-play_failed p wanted old new a b Spent h = h
-play_failed p wanted old new a b OutOfMemory h = tt
+pub play_failed : {J B F : Type 0} (p : Plan) (wanted : List ℕ) (old new : State J B F) (a b : Run) (e : SimError) → IsBetween p wanted old a → AfterTurn p wanted old new a b (Err e) → AfterPlay p wanted new b (Err e)
+play_failed {J} {B} {F} p wanted old new a b Stuck g h =
+    subst (λ (s : State J B F). HasHalted p wanted s b) (sym h.stayed.world) (subst (λ (r : Run). HasHalted p wanted old r) (sym h.stayed.run) (record { between = g; stuck = h.stuck }))
+play_failed p wanted old new a b Feed g h = tt
+play_failed p wanted old new a b Spent g h = h
+play_failed p wanted old new a b OutOfMemory g h = tt
 
 pub drawn_play_failed : {J B F : Type 0} (op : J → ℕ → List B → Option B) (tells : J → F → Type 0) (p : Plan) (wanted : List ℕ) (number : ℕ) (old new : State J B F) (a b : Run) (e : SimError)
     → Stays tells old new → AfterTurn p wanted old new a b (Err e) → DrawnTurn op tells p wanted number old new a b (Err e) → DrawnPlay op tells p wanted number new b (Err e)
@@ -70,7 +71,7 @@ ends_by op tells p wanted number word v n s r d left at is e = record {
 pub spent_play : {J B F : Type 0} (p : Plan) (wanted : List ℕ) (s : State J B F) (r : Run) (e : SimError) → e ≡ Spent → AfterPlay p wanted s r (Err e) → IsFull s
 spent_play p wanted s r e q h = subst (λ x. AfterPlay p wanted s r (Err x)) q h
 
-pub stuck_play : {J B F : Type 0} (p : Plan) (wanted : List ℕ) (s : State J B F) (r : Run) (e : SimError) → e ≡ Stuck → AfterPlay p wanted s r (Err e) → IsStuck (world s)
+pub stuck_play : {J B F : Type 0} (p : Plan) (wanted : List ℕ) (s : State J B F) (r : Run) (e : SimError) → e ≡ Stuck → AfterPlay p wanted s r (Err e) → HasHalted p wanted s r
 stuck_play p wanted s r e q h = subst (λ x. AfterPlay p wanted s r (Err x)) q h
 
 pub unfinished_play : {J B F : Type 0} (op : J → ℕ → List B → Option B) (tells : J → F → Type 0) (p : Plan) (wanted : List ℕ) (number : ℕ) (old s : State J B F) (r : Run) (e : SimError) → Stays tells old s → e ≡ Spent → DrawnPlay op tells p wanted number s r (Err e)

@@ -205,8 +205,8 @@ waits_in c (k ∷ ks) f a = by_failed (λ g r. waits_in c ks g r) (c.failed k) r
     by_failed later None n g = by_got later (not (c.wants k && not (c.got k))) refl n g a
     by_failed later (Some x) n g = absurd (some_not_none k g)
 
-waits : (c : ClientFacts) → over c ≡ None → (k : ℕ) × (is_unfinished c k ≡ true)
-waits c h = by_found (find (λ k. is_some (c.failed k)) (client_keys c)) refl h
+pub waits_for : (c : ClientFacts) → over c ≡ None → (k : ℕ) × (is_unfinished c k ≡ true)
+waits_for c h = by_found (find (λ k. is_some (c.failed k)) (client_keys c)) refl h
   where
     all : (b : Bool) → cond {A = Option (Option ℕ)} b (Some None) None ≡ None → b ≡ false
     all true q = absurd (some_not_none None q)
@@ -276,7 +276,7 @@ nobody_there j job es w lawful led some ends still i alive linked =
     (subst (λ x. is_connected x i ≡ true) (sym led) linked)
   where
     k : (k : ℕ) × (is_unfinished (w.clients 1) k ≡ true)
-    k = waits (w.clients 1) ends
+    k = waits_for (w.clients 1) ends
 
     client : (x : World) → x.sched.setting ≡ j.setting → (k : ℕ) → is_unfinished (x.clients 1) k ≡ true → unfinished x 1 k ≡ true
     client x e k u = and_from _ _ (and_from _ _ refl (le-leb 1 x.sched.setting.clients (subst (λ (y : Setting). 1 ≤ y.clients) (sym e) some))) u

@@ -1,5 +1,5 @@
 -- A whole simulation, put together.
-use Rattle.std.proofs.Common.{◌≡◌, ℕ, ◌≤◌, ◌<◌, List, ◌++◌, Option, refl, sym, ap, ◌∙◌, arith, subst}
+use Rattle.std.proofs.Common.{◌≡◌, ℕ, ◌≤◌, ◌<◌, List, [], ◌++◌, Option, refl, sym, ap, ◌∙◌, arith, subst}
 use Rattle.cluster_msgs.specs.Shape.{Shape, IsShape, key_count, deps_of}
 use Rattle.cluster_msgs.specs.Values.{val}
 use Rattle.cluster_msgs.specs.declared.events.Event.{Event}
@@ -19,24 +19,33 @@ use Rattle.cluster_sim.specs.Seen.{IsSeen}
 use Rattle.cluster_sim.specs.Standing.{sim_of, IsStanding}
 use Rattle.cluster_sim.specs.Passing.{first_standing}
 use Rattle.cluster_sim.specs.Openings.{IsOpening, AreWanted, HasOpened}
-use Rattle.cluster_sim.specs.Turns.{IsBetween, IsDrawn, HasServed, HasPlayed}
+use Rattle.cluster_sim.specs.Led.{one_left, IsLed, IsLeftAlone}
+use Rattle.cluster_sim.specs.Turns.{IsBetween, IsDrawn, HasServed, HasPlayed, HasHalted}
 use Rattle.cluster_sim.specs.Simulations.{IsReported, IsCut, IsStuck, IsDeserted, GoesOn, IsUnfinished, IfBlamed}
 use Rattle.cluster_sim.specs.declared.position.Standing.{Standing}
 use Rattle.cluster_sim.specs.declared.run.Run.{Run}
 use Rattle.cluster_sim.proofs.CourseLemmas.{course_start, course_end}
 use Rattle.cluster_sim.proofs.SimulateLemmas.{standing_first, blame_is}
 use Rattle.cluster_sim.proofs.QuietLemmas.{nobody_there}
+use Rattle.cluster_sim.proofs.LedLemmas.{left_alone}
 use Rattle.cluster_sim.proofs.ActLemmas.{same_job, setting-world}
 
 -- a simulation that has opened stands before its first turn
-pub opened_between : {J B F : Type 0} (op : J → ℕ → List B → Option B) (tells : J → F → Type 0) (p : Plan) (wanted : List ℕ) (old new : State J B F) (r : Run) → IsPlan p → AreWanted (key_count (setting old).shape) wanted
+pub opened_between : {J B F : Type 0} (op : J → ℕ → List B → Option B) (tells : J → F → Type 0) (p : Plan) (wanted : List ℕ) (old new : State J B F) (r : Run) → IsOpening op old → IsShape (setting old).shape → IsPlan p → AreWanted (key_count (setting old).shape) wanted
     → HasOpened op tells wanted p.workers (opening_events p wanted) old new r.tally → Stays tells old new → r.standing ≡ first_standing → IsSeen wanted ((world new).clients 1) r.seen → IsBetween p wanted new r
-opened_between {J} {B} {F} op tells p wanted old new r plan keys h stays is seen = record {
+opened_between {J} {B} {F} op tells p wanted old new r begins shape plan keys h stays is seen = record {
   going = h.going;
   standing = subst (λ (s : Standing). IsStanding p wanted (world new) s) (sym is)
       (standing_first p wanted (world new) first_standing plan h.opened (λ k q. subst (λ (s : Setting). k < key_count s.shape) (sym same) (keys.keys k q)) refl refl refl);
   seen = seen;
   turns = subst (λ (s : Standing). s.turns ≤ new.events) (sym is) (omega arith);
+  led = subst (λ (x : Setting). IsLed x p wanted (sim_of p (world new) r.standing 1)) (sym stays.setting) (record {
+    job = record { shape = shape; clients = begins.few; some = begins.saturation.0; most = begins.saturation.1 };
+    client = begins.client;
+    opens = h.run.legal;
+    made = [];
+    led = ap (λ w. one_left (sim_from p w)) h.run.reached ∙ ap (λ (s : Standing). sim_of p (world new) s 1) (sym is);
+  });
 }
   where
     same : (world new).sched.setting ≡ setting old
@@ -88,6 +97,10 @@ deserted_by op tells p wanted number old new r stays safe some stuck h =
       };
       nobody = λ i a l. nobody_there (running op new) h.drawn.job (opening_events p wanted ++ c.later) (world new) c.all.made.run.legal c.all.made.run.reached (subst (λ (s : Setting). 1 ≤ s.clients) (sym stays.setting) some) stuck.waits stuck.still i a l;
     })
+
+-- the same whatever the feed answers
+pub halted_alone : {J B F : Type 0} (p : Plan) (wanted : List ℕ) (old new : State J B F) (r : Run) → setting new ≡ setting old → HasHalted p wanted new r → IsLeftAlone (setting old) p wanted (world new)
+halted_alone p wanted old new r same h = subst (λ (x : Setting). IsLeftAlone x p wanted (world new)) same (left_alone (setting new) p wanted (world new) (sim_of p (world new) r.standing 1) h.between.led refl h.stuck)
 
 pub unfinished_by : (j : Job) (words : ℕ → ℕ) (p : Plan) (wanted : List ℕ) (many : ℕ) → ((es : List Event) → legal j es → Safe j es) → GoesOn j words p wanted many → IsUnfinished j words p wanted many
 unfinished_by j words p wanted many safe h = record { made = h; safe = safe (opening_events p wanted ++ h.later) h.legal }

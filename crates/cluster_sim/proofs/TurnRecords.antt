@@ -2,14 +2,15 @@
 use Rattle.std.proofs.Common.{◌≡◌, ℕ, ◌+◌, ◌-◌, ◌^◌, ◌≤◌, ◌<◌, List, [], ◌∷◌, ◌++◌, length, drop, Option, Some, None, refl, sym, ap, ◌∙◌, arith, subst, ⊎_elim}
 use Rattle.cluster_msgs.specs.Shape.{key_count}
 use Rattle.cluster_msgs.specs.declared.events.Event.{Event}
-use Rattle.cluster_rules.specs.World.{World as Cluster, IsJob, shape_of}
+use Rattle.cluster_rules.specs.Sched.{Setting}
+use Rattle.cluster_rules.specs.World.{Job, World as Cluster, IsJob, shape_of}
 use Rattle.cluster_rules.specs.WorldStep.{world_step}
 use Rattle.cluster_rules.specs.Enabled.{message}
 use Rattle.cluster_rules.specs.Report.{Taken, is_join, how_many}
-use Rattle.cluster_rules.specs.Draw.{Plan, Spent, next, event_of, moved, over}
+use Rattle.cluster_rules.specs.Draw.{Plan, Sim, Spent, next, event_of, moved, over}
 use Rattle.run_report.specs.Counts.{IsCountOf}
 use Rattle.cluster_world.specs.declared.state.State.{State}
-use Rattle.cluster_world.specs.Worlds.{world, running}
+use Rattle.cluster_world.specs.Worlds.{world, setting, running}
 use Rattle.cluster_rules.specs.Runs.{event_limit}
 use Rattle.cluster_sim.specs.Acts.{Stays, IsAct}
 use Rattle.cluster_sim.specs.Drawn.{word_of, IsAtTurn}
@@ -18,12 +19,14 @@ use Rattle.cluster_sim.specs.Seen.{IsSeen, tells_failure}
 use Rattle.cluster_sim.specs.Standing.{sim_of, made_by, HasTurn, IsStanding}
 use Rattle.cluster_sim.specs.Passing.{IsKindOf, after, IsLeft}
 use Rattle.cluster_sim.specs.Simulations.{IsStuck}
+use Rattle.cluster_sim.specs.Led.{Made, one_left, after_next, LedTo, at_first, IsLed}
 use Rattle.cluster_sim.specs.Turns.{IsBetween, IsDrawn, HasGone, IsFull}
 use Rattle.cluster_sim.specs.declared.position.Standing.{Standing}
 use Rattle.cluster_sim.specs.declared.choice.Kind.{Kind}
 use Rattle.cluster_sim.specs.declared.run.Run.{Run}
 use Rattle.cluster_sim.proofs.ActLemmas.{same_job}
 use Rattle.cluster_sim.proofs.CourseLemmas.{course_more}
+use Rattle.cluster_sim.proofs.LedLemmas.{led_more}
 use Rattle.cluster_sim.proofs.NextLemmas.{MayCome, made_waits, spent_waits}
 use Rattle.cluster_sim.proofs.QuietLemmas.{turn_left, why_spent}
 use Rattle.cluster_sim.proofs.TurnLemmas.{event_made, moved_after, turns_after, may_come, standing_after, IsSeenSoFar, seen_after}
@@ -64,21 +67,55 @@ event_drawn p wanted number budget old a e k word h at left words = ap event_of 
 -- the simulation stands there, and what was seen of the client is seen so far
 pub stands_then : {J B F : Type 0} (op : J → ℕ → List B → Option B) (tells : J → F → Type 0) (p : Plan) (wanted : List ℕ) (old new : State J B F) (a : Run) (e : Event) (k : Kind) (word : ℕ)
     → IsChosen p wanted old a e k word → IsAct op tells old e new → IsStanding p wanted (world new) (after a.standing k)
-stands_then op tells p wanted old new a e k word h act = standing_after (λ t. word) p wanted act.some.0 (world old) (world new) a.standing e k h.plan h.between.standing h.own h.some (h.next (λ t. word) 1 refl (one_turn (world old))) act.some.1
+stands_then op tells p wanted old new a e k word h act = standing_after (λ t. word) p wanted (record { setting = (world old).sched.setting; zero = λ k. act.some.0 }) (world old) (world new) a.standing e k h.plan h.between.standing h.own h.some (h.next (λ t. word) 1 refl (one_turn (world old))) act.some.1
 
 pub seen_then : {J B F : Type 0} (op : J → ℕ → List B → Option B) (tells : J → F → Type 0) (p : Plan) (wanted : List ℕ) (old new : State J B F) (a : Run) (e : Event) (k : Kind) (word : ℕ)
     → IsChosen p wanted old a e k word → IsAct op tells old e new → IsSeenSoFar (tells_failure (message (world old) e)) wanted ((world new).clients 1) a.seen.got
 seen_then op tells p wanted old new a e k word h act =
-    seen_after (λ t. word) p wanted act.some.0 (world old) (world new) a.standing e k a.seen.got h.plan h.between.standing h.own (h.next (λ t. word) 1 refl (one_turn (world old))) act.some.1 h.between.seen.before
+    seen_after (λ t. word) p wanted (record { setting = (world old).sched.setting; zero = λ k. act.some.0 }) (world old) (world new) a.standing e k a.seen.got h.plan h.between.standing h.own (h.next (λ t. word) 1 refl (one_turn (world old))) act.some.1 h.between.seen.before
+
+-- the simulation was led on by it
+led_on : {J B F : Type 0} (op : J → ℕ → List B → Option B) (tells : J → F → Type 0) (p : Plan) (wanted : List ℕ) (old new : State J B F) (a b : Run) (e : Event) (k : Kind) (word : ℕ)
+    → IsChosen p wanted old a e k word → IsAct op tells old e new → b.standing ≡ after a.standing k → IsLed (setting old) p wanted (sim_of p (world new) b.standing 1)
+led_on op tells p wanted old new a b e k word h act is = record {
+  job = led.job;
+  client = led.client;
+  opens = led.opens;
+  made = led.made ++ m ∷ [];
+  led = subst (LedTo p (at_first (setting old) p wanted) (led.made ++ m ∷ [])) (sym there) (led_more p led.made (at_first (setting old) p wanted) here m led.led (record { enabled = (chosen_comes p wanted old a e k word h).enabled; next = ap event_of (sym comes) ∙ event_made p.script e k h.own }));
+}
+  where
+    led : IsLed (setting old) p wanted (sim_of p (world old) a.standing 1)
+    led = h.between.led
+
+    m : Made
+    m = record { event = e; word = word; met = act.some.0 }
+
+    here : Sim
+    here = sim_of p (world old) a.standing 1
+
+    other : Job
+    other = record { setting = (world old).sched.setting; zero = λ n. act.some.0 }
+
+    comes : made_by p.script e k ≡ next (λ t. word) p here
+    comes = h.next (λ t. word) 1 refl (one_turn (world old))
+
+    there : sim_of p (world new) b.standing 1 ≡ after_next m.met here (next (λ n. word) p here)
+    there =
+        ap (λ (s : Standing). sim_of p (world new) s 1) is
+        ∙ ap (λ (w : Cluster). sim_of p w (after a.standing k) 1) act.some.1
+        ∙ ap one_left (moved_after other p (world old) a.standing 1 e k h.own)
+        ∙ ap (λ n. one_left (moved other here n)) comes
 
 pub has_gone : {J B F : Type 0} (op : J → ℕ → List B → Option B) (tells : J → F → Type 0) (p : Plan) (wanted : List ℕ) (old new : State J B F) (a b : Run) (e : Event) (k : Kind) (word : ℕ)
-    → IsChosen p wanted old a e k word → IsAct op tells old e new → b.standing ≡ after a.standing k → IsSeen wanted ((world new).clients 1) b.seen → HasGone p wanted old new b
-has_gone op tells p wanted old new a b e k word h act is seen = record {
+    → IsChosen p wanted old a e k word → IsAct op tells old e new → setting new ≡ setting old → b.standing ≡ after a.standing k → IsSeen wanted ((world new).clients 1) b.seen → HasGone p wanted old new b
+has_gone op tells p wanted old new a b e k word h act same is seen = record {
   between = record {
     going = act.going;
     standing = subst (λ (s : Standing). IsStanding p wanted (world new) s) (sym is) (stands_then op tells p wanted old new a e k word h act);
     seen = seen;
     turns = subst (λ (s : Standing). s.turns ≤ new.events) (sym is) (let t = turns_after a.standing k old.events h.between.turns in let n = act.counted in omega (arith, t, n));
+    led = subst (λ (x : Setting). IsLed x p wanted (sim_of p (world new) b.standing 1)) (sym same) (led_on op tells p wanted old new a b e k word h act is);
   };
   room = act.room;
   counted = act.counted;

@@ -1,9 +1,9 @@
 -- What an event makes of a world that is simulated.
-use Rattle.std.specs.Prelude.{◌≡◌, ◌↔◌, ℕ, ◌+◌, ◌<◌, List, [], ◌∷◌, ◌++◌, Option, Result, Ok, Err}
+use Rattle.std.specs.Prelude.{◌≡◌, ◌↔◌, ℕ, ◌+◌, ◌<◌, Bool, List, [], ◌∷◌, ◌++◌, Option, Result, Ok, Err}
 use Rattle.cluster_msgs.specs.Jobs.{Rose}
 use Rattle.cluster_msgs.specs.declared.events.Event.{Event}
-use Rattle.cluster_rules.specs.World.{Job}
 use Rattle.cluster_rules.specs.WorldStep.{world_step}
+use Rattle.cluster_laws.specs.Moves.{world_after}
 use Rattle.cluster_world.specs.declared.state.State.{State}
 use Rattle.cluster_world.specs.declared.state.Course.TheVariants.{Going}
 use Rattle.cluster_world.specs.declared.errors.StepError.{StepError}
@@ -47,6 +47,6 @@ pub record IsAct {J B F : Type 0} (op : J → ℕ → List B → Option B) (tell
   pub going : new.course ≡ Going
   pub room : old.events < event_limit
   pub counted : new.events ≡ old.events + 1
-  pub some : (j : Job) × (world new ≡ world_step j (world old) e)
+  pub some : (met : Bool) × (world new ≡ world_after met (world old) e)
   pub exact : tells old.job old.feed → world new ≡ world_step (running op old) (world old) e
   pub made : tells old.job old.feed → (es : List Event) → IsMadeBy op es old → IsMadeBy op (es ++ e ∷ []) new

@@ -9,3 +9,4 @@ pub mod Acts
 pub mod Turns
 pub mod Openings
 pub mod Simulations
+pub mod Led

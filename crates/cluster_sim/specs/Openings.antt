@@ -4,12 +4,14 @@ use Rattle.cluster_msgs.specs.declared.events.Event.{Event}
 use Rattle.cluster_rules.specs.Derived.{is_in}
 use Rattle.cluster_rules.specs.World.{World as Cluster, shape_of}
 use Rattle.cluster_rules.specs.Worker.{has_any}
+use Rattle.cluster_rules.specs.Runs.{Run}
 use Rattle.cluster_world.specs.declared.state.State.{State}
 use Rattle.cluster_world.specs.declared.state.Course.TheVariants.{Going}
 use Rattle.cluster_world.specs.Worlds.{world, setting, IsMadeBy}
 use Rattle.run_report.specs.declared.tally.Tally.{Tally}
 use Rattle.cluster_sim.specs.Courses.{IsCounted}
 use Rattle.cluster_sim.specs.Standing.{IsFor}
+use Rattle.cluster_sim.specs.Led.{any_job}
 
 -- it goes on, no event made it, it has a client, and its setting is within the limits of a job
 pub record IsOpening {J B F : Type 0} (op : J → ℕ → List B → Option B) (s : State J B F) : Type 0 where
@@ -36,4 +38,5 @@ pub record HasOpened {J B F : Type 0} (op : J → ℕ → List B → Option B) (
   pub going : new.course ≡ Going
   pub opened : IsOpen wanted workers (world new)
   pub count : new.events ≡ length es
+  pub run : Run (any_job (setting old)) es (world new)
   pub all : tells old.job old.feed → IsCounted op es new t

@@ -4,12 +4,13 @@ use Rattle.cluster_rules.specs.World.{IsJob}
 use Rattle.cluster_rules.specs.Draw.{Plan, Verdict, Served, OutOfTurns, next, over, verdict}
 use Rattle.cluster_world.specs.declared.state.State.{State}
 use Rattle.cluster_world.specs.declared.state.Course.TheVariants.{Going}
-use Rattle.cluster_world.specs.Worlds.{world, running}
+use Rattle.cluster_world.specs.Worlds.{world, setting, running}
 use Rattle.cluster_rules.specs.Runs.{event_limit}
 use Rattle.cluster_sim.specs.Drawn.{word_of, IsAtTurn}
 use Rattle.cluster_sim.specs.Seen.{IsSeen}
 use Rattle.cluster_sim.specs.Standing.{sim_of, IsStanding}
 use Rattle.cluster_sim.specs.Courses.{Course}
+use Rattle.cluster_sim.specs.Led.{IsLed}
 use Rattle.cluster_sim.specs.Simulations.{GoesOn, IsStuck}
 use Rattle.cluster_sim.specs.declared.ended.Ending.{Ending}
 use Rattle.cluster_sim.specs.declared.run.Run.{Run}
@@ -22,6 +23,7 @@ pub record IsBetween {J B F : Type 0} (p : Plan) (wanted : List ℕ) (s : State 
   pub standing : IsStanding p wanted (world s) r.standing
   pub seen : IsSeen wanted ((world s).clients 1) r.seen
   pub turns : r.standing.turns ≤ s.events
+  pub led : IsLed (setting s) p wanted (sim_of p (world s) r.standing 1)
 
 -- What it is by a feed that tells what it holds: its events so far are those that the number draws. The rules count how many turns are left, which
 -- the run needn't.
@@ -89,9 +91,13 @@ pub record HasServed {J B F : Type 0} (p : Plan) (wanted : List ℕ) (failure : 
   pub between : IsBetween p wanted s r
   pub over : over ((world s).clients 1) ≡ Some failure
 
+pub record HasHalted {J B F : Type 0} (p : Plan) (wanted : List ℕ) (s : State J B F) (r : Run) : Type 0 where
+  pub between : IsBetween p wanted s r
+  pub stuck : IsStuck (world s)
+
 abbrev pub AfterPlay : {J B F : Type 0} → Plan → List ℕ → State J B F → Run → Result Ending SimError → Type 0
 AfterPlay p wanted s r (Ok end) = HasServed p wanted end.failure s r
-AfterPlay p wanted s r (Err Stuck) = IsStuck (world s)
+AfterPlay p wanted s r (Err Stuck) = HasHalted p wanted s r
 AfterPlay p wanted s r (Err Feed) = Unit {0}
 AfterPlay p wanted s r (Err Spent) = IsFull s
 AfterPlay p wanted s r (Err OutOfMemory) = Unit {0}

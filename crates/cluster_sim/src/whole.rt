@@ -11,7 +11,8 @@ ghost use Rattle.cluster_sim.specs.Drawn.{word_of};
 ghost use Rattle.cluster_sim.specs.Plans.{plan_of, IsPlan};
 ghost use Rattle.cluster_sim.specs.Openings.{IsOpening, AreWanted};
 ghost use Rattle.cluster_sim.specs.Turns.{IsBetween, IsDrawn, AfterPlay, DrawnPlay};
-ghost use Rattle.cluster_sim.specs.Simulations.{IsReported, IsStuck, IsDeserted, IsUnfinished, HasAll, IfBlamed};
+ghost use Rattle.cluster_sim.specs.Led.{IsLeftAlone};
+ghost use Rattle.cluster_sim.specs.Simulations.{IsReported, IsDeserted, IsUnfinished, HasAll, IfBlamed};
 
 use crate::act::SimError;
 use crate::ended::Ending;
@@ -46,8 +47,8 @@ pub struct SimEnd {
 ///
 /// # Errors
 /// `Stuck` and `Spent` only while the client waits still: it hasn't got all, and was told of no failure. `Stuck` only where
-/// nothing moves, and where the feed tells, only where no worker is alive and connected: so never by a plan that leaves a
-/// worker at every point. `Spent` only once the world took 2^40 events, and where the feed tells, only where the rules go on
+/// nothing moves and no worker is alive and connected, whatever the feed answers: so never by a plan that leaves a worker at
+/// every point. `Spent` only once the world took 2^40 events, and where the feed tells, only where the rules go on
 /// after those. `Feed` only where the feed's count of faults rose in this call. `OutOfMemory` where no memory is left.
 pub fn simulate<J: JobSpec>(
     alloc: Global,
@@ -76,7 +77,7 @@ pub fn simulate<J: JobSpec>(
 
     // The causes of what is no result, and what stays.
     ensures faults { CountsSim result (J.fault_count world.old.feed) (J.fault_count world.new.feed) }
-    ensures stuck { result ≡ Err SimError.Stuck → IsStuck (world_of world.new) }
+    ensures stuck { result ≡ Err SimError.Stuck → IsLeftAlone (setting world.old) (plan_of plan.now) wanted.now (world_of world.new) }
     ensures spent { result ≡ Err SimError.Spent → world.new.events ≡ event_limit }
     ensures spent_waits { result ≡ Err SimError.Spent → over ((world_of world.new).clients 1) ≡ None }
     ensures cut_off { result ≡ Err SimError.Spent → J.feed_tells world.old.job world.old.feed →

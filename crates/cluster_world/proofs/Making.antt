@@ -16,7 +16,7 @@ use Rattle.cluster_world.specs.declared.state.Course.TheVariants.{Fed}
 use Rattle.cluster_world.specs.Safe.{IsSafeWorld}
 use Rattle.cluster_world.specs.Worlds.{cluster, world, setting, running, IsMadeBy, IsMade}
 
-legal_more : (j : Job) (w : World) (es : List Event) (e : Event) → LegalFrom j w es → enabled (run_from j w es) e ≡ true → LegalFrom j w (es ++ e ∷ [])
+pub legal_more : (j : Job) (w : World) (es : List Event) (e : Event) → LegalFrom j w es → enabled (run_from j w es) e ≡ true → LegalFrom j w (es ++ e ∷ [])
 legal_more j w [] e l t = (t, tt)
 legal_more j w (d ∷ es) e l t = (l.0, legal_more j (world_step j w d) es e l.1 t)
 

@@ -28,7 +28,7 @@ use Rattle.cluster_world.specs.Orderly.{IsOrderly}
 use Rattle.cluster_laws.proofs.InsideWorld.{inside_after}
 use Rattle.cluster_world.proofs.Spills.{held_after}
 use Rattle.cluster_world.proofs.Letters.{addressed_after}
-use Rattle.safety_laws.proofs.Answered.{clients_same}
+use Rattle.safety_laws.proofs.Turns.{same_setting}
 use Rattle.safety_laws.proofs.Turns.{keys_there, key_there, down_there}
 
 pub orderly_opening : (j : Job) → IsOrderly (opening j)
@@ -53,7 +53,7 @@ orderly_opening j = record {
 -- where nothing is spilled at the number that joins next
 pub orderly_after : (met : Bool) (w : World) (e : Event) → IsShape (shape_of w) → enabled w e ≡ true → ((k : ℕ) → w.spilled (w.sched.last_worker + 1) k ≡ false) → IsOrderly w → IsOrderly (world_after met w e)
 orderly_after met w e low t bare h =
-    let same = clients_same (record { setting = w.sched.setting; zero = λ k. met }) w e in
+    let same = same_setting (record { setting = w.sched.setting; zero = λ k. met }) w e in
     let go = addressed_after met w e t h.to_client h.from_client in
     record {
       inside = subst (λ (s : Setting). IsInsideWorld s.shape (world_after met w e)) (sym same) (inside_after met w e low t h.inside);

@@ -139,6 +139,7 @@ are_settings words said is =
       threads = in_range _ 1 16 2 said.settings.threads (omega arith) (omega arith) s.threads;
       saturation = in_range _ 1 1000 11 said.settings.saturation (omega arith) (omega arith) s.saturation;
       joins = is.says.walk.joins;
+      manned = record { takes = is.says.walk.takes; some = λ i l. (is.says.walk.crews i l).some };
     }
 
 -- ## Words of a command

@@ -1,15 +1,16 @@
 -- A simulated run over a site in memory that holds no file.
-use Rattle.std.proofs.Common.{◌≡◌, ℕ, ◌≤◌, List, [], ◌∷◌, length, refl, ap, sym, ◌∙◌, subst, arith, Some}
+use Rattle.std.proofs.Common.{◌≡◌, ℕ, zero, suc, ◌≤◌, List, [], ◌∷◌, length, take, refl, ap, sym, ◌∙◌, subst, arith, Some}
 use Rattle.std.specs.Prelude.{IfSome, IsSome, IsTrue}
 use Rattle.std.proofs.lemmas.Bool.{false≢true}
 use Rattle.std.proofs.lemmas.List.{length-map}
+use Rattle.std.proofs.lemmas.List.FromFn.{length-range_with_len}
 use Rattle.io_edge.specs.Memory.{new_view}
 use Rattle.io_edge.specs.View.{View}
 use Rattle.nd_shape.specs.Block.{Array}
 use Rattle.cluster_msgs.specs.declared.events.Item.{Item}
 use Rattle.cluster_msgs.specs.declared.events.Report.{Report}
 use Rattle.cluster_rules.specs.World.{Job}
-use Rattle.command_words.specs.Walks.{joins_in}
+use Rattle.command_words.specs.Walks.{joins_in, crew_of, after_items}
 use Rattle.command_words.specs.Words.{AreGenSettings}
 use Rattle.command_words.specs.declared.generate.GenWords.{GenWords}
 use Rattle.command_words.specs.declared.sim.Settings.{Settings}
@@ -23,7 +24,7 @@ use Rattle.sim_run.specs.declared.ends.SimEnded.{SimEnded}
 use Rattle.sim_run.specs.declared.ends.SimEnded.TheVariants as SimEnds
 use Rattle.sim_run.specs.Ends.{SavesPlan, SimulatesPlan, WhereTold}
 use Rattle.sim_run.specs.Jobs.{IsTextJob}
-use Rattle.sim_run.specs.Simulated.{AreSettings, IsOutOfEvents, IsServed, SimulatesTo}
+use Rattle.sim_run.specs.Simulated.{AreSettings, LeavesSomebody, IsOutOfEvents, IsServed, SimulatesTo}
 use Rattle.gen_run.specs.Alone.{IsUnscripted, SimulatesAlone, no_files}
 use Rattle.gen_run.specs.Ends.{AreLines, Cause, end_of}
 use Rattle.gen_run.specs.Lines.{first_file, lines_of}
@@ -41,7 +42,12 @@ are-settings w said are is =
       threads = subst T (sym is.settings) are.threads;
       saturation = subst S (sym is.settings) (omega arith, omega arith);
       joins = subst J (sym is.script) (omega arith);
+      manned = subst (LeavesSomebody said.settings.workers) (sym is.script) (record { takes = λ i item at. absurd (omega (arith, at.0)); some = λ i l. somebody i l });
     }
+  where
+    somebody : (i : ℕ) → i ≤ 0 → 1 ≤ length (after_items (crew_of said.settings.workers) (take i [])).there
+    somebody zero l = let n = length-range_with_len 1 said.settings.workers in let m = (subst (λ (s : Settings). (1 ≤ s.workers) × (s.workers ≤ 64)) (sym is.settings) are.workers).0 in omega (arith, n, m)
+    somebody (suc i) l = absurd (omega (arith, l))
 
 -- ## A job whose inputs are there reads none
 

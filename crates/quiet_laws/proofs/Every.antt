@@ -53,7 +53,7 @@ module _ (j : Job) (w : World) (joint : IsJoint j w) (old : AreOld w) (fenced : 
   letter_falls c t = by (w.from_client c) refl t
     where
       there : is_client w c ≡ true
-      there = letter_from j w joint.values joint.inside joint.sound joint.home c t
+      there = letter_from j w joint.set joint.inside joint.sound joint.home c t
 
       by : (l : List ClientMessage) → w.from_client c ≡ l → has_any l ≡ true → Falls w (world_step j w (DeliverFromClient c))
       by [] e h = absurd (false≢true h)

@@ -72,7 +72,7 @@ pub record IsKeptAt (w : World) (i : ℕ) (P : Fact) : Type 0 where
 
 module _ (j : Job) (w : World) (joint : IsJoint j w) (i : ℕ) (P : Fact) (keeps : IsKeptAt w i P) (h : OfWorker P w i) where
   abbrev letters_from : (c : ℕ) → has_any (w.from_client c) ≡ true → is_client w c ≡ true
-  letters_from = letter_from j w joint.values joint.inside joint.sound joint.home
+  letters_from = letter_from j w joint.set joint.inside joint.sound joint.home
 
   given : w.alive i ≡ true → i ≤ w.sched.last_worker
   given a = ⊎_elim (λ l. absurd (true≢false (sym a ∙ (joint.home.bare i l).alive))) (λ l. l) (cases_lt w.sched.last_worker i)

@@ -39,10 +39,7 @@ use Rattle.cluster_msgs.specs.declared.cores.ClientInstruction.TheVariants.{Send
 use Rattle.cluster_rules.specs.World.{with_parcel, parcel_before, same_asker}
 use Rattle.cluster_rules.specs.WorldStep.{requested, client_requested, spill}
 use Rattle.cluster_rules.specs.Sched.{Facts, Setting}
-use Rattle.cluster_rules.specs.Runs.{sched_event}
-use Rattle.cluster_rules.proofs.SchedFrame.{step_settles}
-use Rattle.cluster_laws.proofs.Framed.{change_framed}
-use Rattle.safety_laws.proofs.Turns.{sched_after, sched_is}
+use Rattle.safety_laws.proofs.Turns.{same_setting}
 use Rattle.safety_laws.proofs.Lively.{same_asker_is}
 use Rattle.std.proofs.lemmas.Bool.{and_parts, and_from}
 use Rattle.std.proofs.Math.Bool.{and-false}
@@ -461,13 +458,6 @@ alive_is j w Evict = refl
 alive_is j w (Spill i k) = refl
 alive_is j w (LoseSpilled i k) = refl
 
-setting_after : (f : Facts) (o : Option SchedEvent) → (sched_after f o).setting ≡ f.setting
-setting_after f None = refl
-setting_after f (Some s) = (step_settles f s).setting ∙ (change_framed f s).setting
-
-pub clients_same : (j : Job) (w : World) (e : Event) → (world_step j w e).sched.setting ≡ w.sched.setting
-clients_same j w e = ap (λ (f : Facts). f.setting) (sched_is j w e) ∙ setting_after w.sched (sched_event w e)
-
 module _ (w : World) (h : (a : Asker) → is_asker w a ≡ true → Answers w a) where
   -- what an actor does, where its own asks are answered
   an_own : (v : World) (i : ℕ) (e : WorkerEvent) → IsNoAsk e → v.workers ≡ w.workers → v.requests ≡ w.requests → v.answers ≡ w.answers → v.clients ≡ w.clients → w.alive i ≡ true → (a : Asker) → is_asker w a ≡ true → Answers (at_worker v i e) a
@@ -582,10 +572,10 @@ module _ (w : World) (h : (a : Asker) → is_asker w a ≡ true → Answers w a)
   -- who may ask afterwards might before
   asked_before : (j : Job) (e : Event) → alive_after w e ≡ w.alive → (b : Asker) → is_asker (world_step j w e) b ≡ true → is_asker w b ≡ true
   asked_before j e s (Worker x) u = ap (λ (f : ℕ → Bool). f x) (sym (alive_is j w e ∙ s)) ∙ u
-  asked_before j e s (Client c) u = subst (λ (x : Setting). (nat_le 1 c && nat_le c x.clients) ≡ true) (clients_same j w e) u
+  asked_before j e s (Client c) u = subst (λ (x : Setting). (nat_le 1 c && nat_le c x.clients) ≡ true) (same_setting j w e) u
 
   client_before : (j : Job) (e : Event) (c : ℕ) → is_client (world_step j w e) c ≡ true → is_client w c ≡ true
-  client_before j e c u = subst (λ (x : Setting). (nat_le 1 c && nat_le c x.clients) ≡ true) (clients_same j w e) u
+  client_before j e c u = subst (λ (x : Setting). (nat_le 1 c && nat_le c x.clients) ≡ true) (same_setting j w e) u
 
   an_join : (j : Job) (threads : ℕ) (b : Asker) → is_asker (world_step j w (Join threads)) b ≡ true → Answers (at_scheduler (new_at w (w.sched.last_worker + 1) threads) (JoinSched threads)) b
   unfolding scheduled

@@ -45,7 +45,7 @@ world_attempts_end g j w e inside letters sound t k i a q = pick (sched_event w 
 -- ## The walk
 
 joint_ends : (j : Job) (w : World) → IsJoint j w → (e : Event) → enabled w e ≡ true → AttemptsEnd w e (world_step j w e)
-joint_ends j w h e t = world_attempts_end j.setting.shape j w e h.inside (letter_from j w h.values h.inside h.sound h.home) h.sound t
+joint_ends j w h e t = world_attempts_end j.setting.shape j w e h.inside (letter_from j w h.set h.inside h.sound h.home) h.sound t
 
 pub attempts_end_after : (j : Job) → IsJob j → (es : List Event) → legal j es → (e : Event) → enabled (reached j es) e ≡ true → AttemptsEnd (reached j es) e (world_step j (reached j es) e)
 attempts_end_after j job es l e t = joint_ends j (reached j es) (joint_after j job es l) e t

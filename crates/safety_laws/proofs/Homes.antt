@@ -26,7 +26,6 @@ use Rattle.cluster_rules.specs.Functions.{put}
 use Rattle.cluster_rules.specs.Sched.{Facts, Setting, IsSound, connected}
 use Rattle.cluster_rules.specs.SchedTable.{change, joined, sched_takes}
 use Rattle.cluster_rules.specs.SchedStep.{sched_step, mail}
-use Rattle.cluster_laws.specs.Truth.{no_excuse, IsTrueWorld}
 use Rattle.cluster_rules.proofs.SchedFrame.{step_settles}
 use Rattle.cluster_rules.proofs.SoundStep.{sound_step}
 use Rattle.cluster_laws.proofs.Framed.{change_framed}
@@ -217,12 +216,12 @@ module _ (j : Job) where
   abbrev Home : World → Type 0
   Home w = IsHome j.setting.shape j.setting.clients w.sched.last_worker w
 
-  module _ (w : World) (values : IsTrueWorld no_excuse j w) (inside : IsInsideWorld j.setting.shape w) (sound : IsSound w.sched) (h : Home w) where
+  module _ (w : World) (set : w.sched.setting ≡ j.setting) (inside : IsInsideWorld j.setting.shape w) (sound : IsSound w.sched) (h : Home w) where
     client_of : (c : ℕ) → is_client w c ≡ true → (nat_le 1 c && nat_le c j.setting.clients) ≡ true
-    client_of c e = subst (λ (s : Setting). (nat_le 1 c && nat_le c s.clients) ≡ true) values.sched.setting e
+    client_of c e = subst (λ (s : Setting). (nat_le 1 c && nat_le c s.clients) ≡ true) set e
 
     pub letter_from : (c : ℕ) → has_any (w.from_client c) ≡ true → is_client w c ≡ true
-    letter_from c e = subst (λ (s : Setting). (nat_le 1 c && nat_le c s.clients) ≡ true) (sym values.sched.setting) (h.letters c e)
+    letter_from c e = subst (λ (s : Setting). (nat_le 1 c && nat_le c s.clients) ≡ true) (sym set) (h.letters c e)
 
     leaves : (i : ℕ) → is_connected w i ≡ true → sched_takes w.sched (Leave i) ≡ true
     unfolding sched_takes

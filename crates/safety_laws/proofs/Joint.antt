@@ -14,9 +14,7 @@ use Rattle.cluster_rules.specs.World.{Job, IsJob, World, opening, shape_of, Drai
 use Rattle.cluster_rules.specs.WorldStep.{world_step}
 use Rattle.cluster_rules.specs.Enabled.{enabled}
 use Rattle.cluster_rules.specs.Inside.{IsInsideWorld}
-use Rattle.cluster_laws.specs.Truth.{no_excuse, IsTrueWorld}
 use Rattle.cluster_rules.specs.Runs.{LegalFrom, legal, run_from, reached, sched_event, OnlyKnown, Agrees}
-use Rattle.cluster_laws.proofs.TruthWorld.{true_world_step, true_opening}
 use Rattle.cluster_laws.proofs.InsideWorld.{in_world_step, in_after}
 use Rattle.cluster_rules.proofs.SoundStep.{sound_step, sound_opening}
 use Rattle.cluster_laws.specs.Settled.{IsSettled}
@@ -26,14 +24,14 @@ use Rattle.pair_machine.proofs.PairKept.{at_rest}
 use Rattle.pair_moves.specs.Projection.{notes, reports, at_worker, IsNumbered}
 use Rattle.pair_moves.proofs.Events.{numbered_step, numbered_opening}
 use Rattle.safety_laws.specs.Joint.{pair_at, IsPaired}
-use Rattle.safety_laws.proofs.Turns.{sched_after, sched_is, event_taken}
+use Rattle.safety_laws.proofs.Turns.{sched_after, sched_is, same_setting, event_taken}
 use Rattle.safety_laws.proofs.Homes.{IsHome, home_step, home_opening, letter_from}
 use Rattle.safety_laws.proofs.Paired.{IsUnsent, unsent_after, paired_step}
 
 -- ## The joint invariant
 
 pub record IsJoint (j : Job) (w : World) : Type 0 where
-  pub values : IsTrueWorld no_excuse j w
+  pub set : w.sched.setting ≡ j.setting
   pub inside : IsInsideWorld j.setting.shape w
   pub sound : IsSound w.sched
   pub settled : IsSettled w.sched
@@ -57,26 +55,26 @@ after_numbered f (Some s) g n = numbered_step f s g n
 
 module _ (j : Job) (job : IsJob j) where
   pub takes : (w : World) (e : Event) → enabled w e ≡ true → IsJoint j w → (s : SchedEvent) → sched_event w e ≡ Some s → sched_takes w.sched s ≡ true
-  takes w e t h s q = event_taken j.setting.shape w h.inside (letter_from j w h.values h.inside h.sound h.home) e s t q
+  takes w e t h s q = event_taken j.setting.shape w h.inside (letter_from j w h.set h.inside h.sound h.home) e s t q
 
   pub joint_step : (w : World) (e : Event) → enabled w e ≡ true → IsJoint j w → IsJoint j (world_step j w e)
   joint_step w e t h =
       let inside = in_world_step j job.shape w e t h.inside in
       record {
-        values = true_world_step no_excuse j job.shape w e t h.values;
+        set = same_setting j w e ∙ h.set;
         inside = inside;
         sound = subst IsSound (sym (sched_is j w e)) (after_sound w.sched (sched_event w e) (takes w e t h) h.sound);
         settled = subst IsSettled (sym (sched_is j w e)) (after_settled w.sched (sched_event w e) (takes w e t h) h.sound h.settled);
         numbered = subst IsNumbered (sym (sched_is j w e)) (after_numbered w.sched (sched_event w e) h.settled h.numbered);
         unsent = subst IsUnsent (sym (sched_is j w e)) (unsent_after w.sched (sched_event w e) h.sound (takes w e t h) h.unsent);
-        home = home_step j w h.values h.inside h.sound h.home e t;
-        paired = λ i k l. paired_step j w h.inside h.sound h.settled h.numbered h.unsent h.home (letter_from j w h.values h.inside h.sound h.home) h.paired i k
+        home = home_step j w h.set h.inside h.sound h.home e t;
+        paired = λ i k l. paired_step j w h.inside h.sound h.settled h.numbered h.unsent h.home (letter_from j w h.set h.inside h.sound h.home) h.paired i k
             (subst (λ (g : Shape). k < key_count g) (inside.shape ∙ sym h.inside.shape) l) e t;
       }
 
   pub joint_opening : IsJoint j (opening j)
   joint_opening = record {
-    values = true_opening no_excuse j job.shape;
+    set = refl;
     inside = in_after j job.shape [] tt;
     sound = sound_opening j.setting job.shape job.clients (job.some, job.most);
     settled = settled_opening j.setting;

@@ -1,5 +1,5 @@
 -- What is asked is under way, after every legal list.
-use Rattle.std.proofs.Common.{◌≡◌, ℕ, ◌&&◌, true, List, [], ◌∷◌, Some, None, refl, subst}
+use Rattle.std.proofs.Common.{◌≡◌, ℕ, ◌≤◌, Bool, ◌&&◌, true, List, [], ◌∷◌, Some, None, refl, sym, ◌∙◌, subst}
 use Rattle.std.proofs.lemmas.Bool.{false≢true, and_parts, leb-true}
 use Rattle.cluster_msgs.specs.declared.events.Asker.TheVariants.{Worker, Client}
 use Rattle.cluster_msgs.specs.declared.events.Event.{Event}
@@ -7,10 +7,15 @@ use Rattle.cluster_rules.specs.Worker.{Ask}
 use Rattle.cluster_rules.specs.World.{Job, IsJob, World, opening, is_client}
 use Rattle.cluster_rules.specs.WorldStep.{world_step}
 use Rattle.cluster_rules.specs.Enabled.{enabled}
+use Rattle.cluster_msgs.specs.Shape.{IsShape}
+use Rattle.cluster_rules.specs.Inside.{IsInsideWorld}
+use Rattle.cluster_laws.specs.Moves.{world_after}
 use Rattle.cluster_rules.specs.Runs.{LegalFrom, legal, run_from, reached, IsLively}
 use Rattle.safety_laws.specs.Lively.{IsAnswered, IsRefreshing, AreNamed, HaveThreads, AreServed}
 use Rattle.safety_laws.proofs.Joint.{IsJoint, joint_step, joint_opening, takes}
-use Rattle.safety_laws.proofs.Answered.{answered_step, clients_same}
+use Rattle.safety_laws.proofs.Turns.{same_setting}
+use Rattle.safety_laws.proofs.Homes.{IsHome}
+use Rattle.safety_laws.proofs.Answered.{answered_step}
 use Rattle.safety_laws.proofs.WorldServed.{AsksDiffer, differ_step, served_step}
 use Rattle.cluster_rules.specs.Sched.{Setting}
 use Rattle.std.specs.Prelude.{nat_le}
@@ -42,7 +47,7 @@ module _ (j : Job) (job : IsJob j) where
   }
     where
       client_before : (c : ℕ) → is_client (world_step j w e) c ≡ true → is_client w c ≡ true
-      client_before c u = subst (λ (x : Setting). (nat_le 1 c && nat_le c x.clients) ≡ true) (clients_same j w e) u
+      client_before c u = subst (λ (x : Setting). (nat_le 1 c && nat_le c x.clients) ≡ true) (same_setting j w e) u
 
   none_ask : (q : Ask) → None ≡ Some q → ⊥
   none_ask q e = cc
@@ -75,5 +80,41 @@ module _ (j : Job) (job : IsJob j) where
   pub responsive_after : (es : List Event) → legal j es → IsResponsive j (reached j es)
   responsive_after es l = responsive_from (opening j) es l responsive_opening
 
+-- ## Whatever the operations make
+
+-- a job of the same setting
+same_joint : (j i : Job) (w : World) → i.setting ≡ j.setting → IsJoint j w → IsJoint i w
+same_joint j i w e h = record {
+  set = h.set ∙ sym e;
+  inside = subst (λ (s : Setting). IsInsideWorld s.shape w) (sym e) h.inside;
+  sound = h.sound;
+  settled = h.settled;
+  numbered = h.numbered;
+  unsent = h.unsent;
+  home = subst (λ (s : Setting). IsHome s.shape s.clients w.sched.last_worker w) (sym e) h.home;
+  paired = h.paired;
+}
+
+same_responsive : (j i : Job) (w : World) → i.setting ≡ j.setting → IsResponsive j w → IsResponsive i w
+same_responsive j i w e h = record { joint = same_joint j i w e h.joint; answered = h.answered; refreshing = h.refreshing; named = h.named; threads = h.threads; differ = h.differ; served = h.served }
+
+-- an event, whether an operation that it ends meets a zero divisor or not
+pub responsive_any : (j : Job) → IsJob j → (met : Bool) (w : World) (e : Event) → enabled w e ≡ true → IsResponsive j w → IsResponsive j (world_after met w e)
+responsive_any j job met w e t h = same_responsive other j (world_after met w e) (sym h.joint.set) (responsive_step other is w e t (same_responsive j other w h.joint.set h))
+  where
+    other : Job
+    other = record { setting = w.sched.setting; zero = λ k. met }
+
+    is : IsJob other
+    is = record {
+      shape = subst (λ (s : Setting). IsShape s.shape) (sym h.joint.set) job.shape;
+      clients = subst (λ (s : Setting). s.clients ≤ 16) (sym h.joint.set) job.clients;
+      some = subst (λ (s : Setting). 1 ≤ s.saturation) (sym h.joint.set) job.some;
+      most = subst (λ (s : Setting). s.saturation ≤ 1000) (sym h.joint.set) job.most;
+    }
+
+pub is_lively : (j : Job) (w : World) → IsResponsive j w → IsLively w
+is_lively j w r = lively j w r.joint r.answered r.refreshing r.named r.threads r.served
+
 pub lively_after : (j : Job) → IsJob j → (es : List Event) → legal j es → IsLively (reached j es)
-lively_after j job es l = let r = responsive_after j job es l in lively j (reached j es) r.joint r.answered r.refreshing r.named r.threads r.served
+lively_after j job es l = is_lively j (reached j es) (responsive_after j job es l)

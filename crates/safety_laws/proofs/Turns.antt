@@ -24,7 +24,7 @@ use Rattle.cluster_rules.specs.SchedTable.{change}
 use Rattle.cluster_rules.specs.Functions.{put, from_one}
 use Rattle.cluster_rules.specs.Derived.{below, is_in}
 use Rattle.cluster_rules.specs.SchedStep.{Stages, sched_step, mail, settle, posted, finish_step, place_all, place_keys, drop_bad, drop_has, drop_on, down_messages, fence_after, to_worker}
-use Rattle.cluster_rules.proofs.SchedFrame.{IsPlacing, placing_keys, count_to-mail}
+use Rattle.cluster_rules.proofs.SchedFrame.{IsPlacing, placing_keys, count_to-mail, step_settles}
 use Rattle.cluster_laws.proofs.Framed.{change_framed}
 use Rattle.cluster_rules.specs.Worker.{Ask, WorkerFacts, has_any}
 use Rattle.cluster_rules.specs.WorkerStep.{takes_down}
@@ -113,6 +113,13 @@ sched_is j w Balance = refl
 sched_is j w Evict = refl
 sched_is j w (Spill i k) = refl
 sched_is j w (LoseSpilled i k) = refl
+
+setting_after : (f : Facts) (o : Option SchedEvent) → (sched_after f o).setting ≡ f.setting
+setting_after f None = refl
+setting_after f (Some s) = (step_settles f s).setting ∙ (change_framed f s).setting
+
+pub same_setting : (j : Job) (w : World) (e : Event) → (world_step j w e).sched.setting ≡ w.sched.setting
+same_setting j w e = ap (λ (f : Facts). f.setting) (sched_is j w e) ∙ setting_after w.sched (sched_event w e)
 
 -- ## Whoever is handed an enabled event takes it
 

@@ -12,6 +12,7 @@ use Rattle.cluster_msgs.specs.declared.events.Item.{Item}
 use Rattle.cluster_msgs.specs.declared.events.Item.TheVariants.{Lose as LoseItem, Suspect as SuspectItem, Join as JoinItem}
 use Rattle.cluster_msgs.specs.declared.events.Event.{Event}
 use Rattle.cluster_msgs.specs.declared.events.Event.TheVariants.{Want, Join, Lose, SeeLoss, Suspect, Balance, Evict}
+use Rattle.cluster_rules.specs.Sched.{Setting}
 use Rattle.cluster_rules.specs.World.{Job, World, opening, is_connected}
 use Rattle.cluster_rules.specs.WorldStep.{world_step}
 use Rattle.cluster_rules.specs.Enabled.{enabled, progress}
@@ -23,11 +24,12 @@ use Rattle.safety_laws.proofs.Staying.{takes_away, IsUnseen, unseen, alive_stays
 use Rattle.cluster_sim.proofs.WorldKeeps.{joins, world_keeps}
 use Rattle.cluster_sim.proofs.CourseLemmas.{moved_world}
 use Rattle.cluster_sim.proofs.NextLemmas.{progress_is}
+use Rattle.cluster_sim.specs.Led.{any_job, Made, one_left, after_next, next_of, LedTo, at_first, IsLeftAlone}
 use Rattle.cluster_sim.specs.Simulations.{IsSimulated, IsDeserted}
-use Rattle.command_words.specs.Walks.{Crew, without, joined, after_item, after_items, crew_of, TakesOneOf, IsItemAt, IsWalk}
+use Rattle.command_words.specs.Walks.{Crew, without, joined, after_item, after_items, crew_of, TakesOneOf, IsItemAt}
 use Rattle.command_words.specs.declared.sim.SimWords.{SimWords}
 use Rattle.command_words.proofs.Walking.{after_more}
-use Rattle.sim_run.specs.Simulated.{sim_plan}
+use Rattle.sim_run.specs.Simulated.{sim_plan, LeavesSomebody}
 
 -- ## Who is there
 
@@ -241,7 +243,7 @@ someone : (w : World) (xs : List ℕ) → 1 ≤ length xs → AllByRecursion (Is
 someone w [] l h = absurd (omega (arith, l))
 someone w (x ∷ xs) l h = (x, h.0)
 
-module _ (p : Plan) (walk : IsWalk p.workers p.threads p.script) where
+module _ (p : Plan) (walk : LeavesSomebody p.workers p.script) where
   -- the crew that so many items leave
   abbrev crew_after : ℕ → Crew
   crew_after n = after_items (crew_of p.workers) (take n p.script)
@@ -300,7 +302,7 @@ module _ (p : Plan) (walk : IsWalk p.workers p.threads p.script) where
   crewed_next j s (Drawn x) e m q h = record { passed = h.passed; within = h.within; left = h.left; manned = manned_still j (crew_after h.passed) s.world x (unseen s.world x m.0) m.1 m.2 h.manned }
 
   crewed_end : (j : Job) (words : ℕ → ℕ) (es : List Event) (s : Sim) (v : Verdict) → IsCrewed s → DrawnFrom j words p s es v → (i : ℕ) × IsThere (run_from j s.world es) i
-  crewed_end j words [] s v h d = someone s.world (crew_after h.passed).there (walk.crews h.passed h.within).some h.manned.there
+  crewed_end j words [] s v h d = someone s.world (crew_after h.passed).there (walk.some h.passed h.within) h.manned.there
   crewed_end j words (e ∷ es) s v h d =
       subst (λ w. (i : ℕ) × IsThere (run_from j w es) i) (moved_world j s (next words p s) e d.0)
       (crewed_end j words es (moved j s (next words p s)) v (crewed_next j s (next words p s) e (next_mild words p s (busy s h)) d.0 h) d.1)
@@ -313,6 +315,16 @@ module _ (p : Plan) (walk : IsWalk p.workers p.threads p.script) where
     manned = subst (λ n. IsManned (crew_of n) (run_from j (opening j) (opening_events p wanted))) (zero-add p.workers) (opened j (opening j) p.threads p.workers 0 wanted (record { there = tt; last = refl }));
   }
 
+  one_left_crewed : (s : Sim) → IsCrewed s → IsCrewed (one_left s)
+  one_left_crewed s h = record { passed = h.passed; within = h.within; left = h.left; manned = h.manned }
+
+  -- wherever a simulation was led, somebody is there
+  led_manned : (ms : List Made) (s t : Sim) → IsCrewed s → LedTo p s ms t → (i : ℕ) × IsThere t.world i
+  led_manned [] s t h l = subst (λ (x : Sim). (i : ℕ) × IsThere x.world i) l (someone s.world (crew_after h.passed).there (walk.some h.passed h.within) h.manned.there)
+  led_manned (m ∷ ms) s t h l =
+      led_manned ms (after_next m.met s (next_of p s m)) t
+      (one_left_crewed _ (crewed_next (record { setting = s.world.sched.setting; zero = λ k. m.met }) s (next_of p s m) m.event (next_mild (λ n. m.word) p s (busy s h)) l.0.next h)) l.1
+
   -- when a simulation ends, somebody is there
   manned_at_end : (j : Job) (words : ℕ → ℕ) (wanted : List ℕ) (es : List Event) (v : Verdict) (w : World) → IsSimulated j words p wanted es v w → (i : ℕ) × ((w.alive i ≡ true) × (is_connected w i ≡ true))
   manned_at_end j words wanted es v w h =
@@ -320,7 +332,13 @@ module _ (p : Plan) (walk : IsWalk p.workers p.threads p.script) where
       (crewed_end j words h.drawn.later (sim_from p (run_from j (opening j) (opening_events p wanted))) v (crewed_start j wanted) h.drawn.drawn)
 
 -- so it isn't deserted
-pub not_deserted : (j : Job) (words : ℕ → ℕ) (s : SimWords) (wanted : List ℕ) (w : World) → IsWalk s.settings.workers s.settings.threads s.script → IsDeserted j words (sim_plan s) wanted w → ⊥
+pub not_deserted : (j : Job) (words : ℕ → ℕ) (s : SimWords) (wanted : List ℕ) (w : World) → LeavesSomebody s.settings.workers s.script → IsDeserted j words (sim_plan s) wanted w → ⊥
 not_deserted j words s wanted w walk d =
     let m = manned_at_end (sim_plan s) walk j words wanted d.cut.events OutOfTurns w d.cut.simulated in
     d.nobody m.0 m.1.0 m.1.1
+
+-- nor left alone, whatever the feed answers
+pub not_left_alone : (set : Setting) (s : SimWords) (wanted : List ℕ) (w : World) → LeavesSomebody s.settings.workers s.script → IsLeftAlone set (sim_plan s) wanted w → ⊥
+not_left_alone set s wanted w walk d =
+    let m = led_manned (sim_plan s) walk d.led.made (at_first set (sim_plan s) wanted) d.stands (one_left_crewed (sim_plan s) walk _ (crewed_start (sim_plan s) walk (any_job set) wanted)) d.led.led in
+    d.nobody m.0 (subst (λ (x : World). x.alive m.0 ≡ true) d.there m.1.0) (subst (λ (x : World). is_connected x m.0 ≡ true) d.there m.1.1)

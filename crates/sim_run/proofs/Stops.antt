@@ -1,5 +1,5 @@
 -- How a simulation over open inputs ends, and what it leaves.
-use Rattle.std.proofs.Common.{◌≡◌, ℕ, ◌<◌, List, length, map, refl, ap, ◌∙◌, subst, inl, arith, Option, Some, None, Err}
+use Rattle.std.proofs.Common.{◌≡◌, ℕ, ◌<◌, List, length, map, refl, sym, ap, ◌∙◌, subst, inl, arith, Option, Some, None, Err}
 use Rattle.std.proofs.lemmas.List.{length-map}
 use Rattle.io_edge.specs.Cause.{Rose}
 use Rattle.io_edge.specs.View.{Files, raised_by}
@@ -34,19 +34,19 @@ use Rattle.command_words.specs.declared.sim.SimWords.{SimWords}
 use Rattle.sim_run.specs.declared.ends.SimEnded.{SimEnded}
 use Rattle.sim_run.specs.Jobs.{wanted_of}
 use Rattle.job_run.specs.Saving.{SavesLeft, SavesWhole}
-use Rattle.sim_run.specs.Serving.{EndsAtKey, GotAll, RanStops, ServesAll, ServesPart, Stops, ended_of, job_named}
+use Rattle.sim_run.specs.Serving.{EndsAtKey, GotAll, RanStops, ServesAll, ServesPart, Stops, IsEndOf, job_named}
 use Rattle.sim_run.specs.Simulated.{IsServed, sim_plan}
 use Rattle.sim_run.proofs.Got.{is-faulty, meets-none, saves-got}
 use Rattle.sim_run.proofs.Simulating.{HasRun}
 
 -- ## Why a simulation gave no result
 
-pub stops-by : (p : Plan) (s : SimWords) (named : Named) (told reads writes : Type 0) (error : SimError) →
-    (error ≡ sim.Spent → told → IsUnfinished (job_named p s named) (word_of s.settings.number) (sim_plan s) (wanted_of p) event_limit) → (error ≡ sim.Feed → reads) → Stops p s named told reads writes (ended_of error)
-stops-by p s named told reads writes sim.Stuck spent feed = tt
-stops-by p s named told reads writes sim.Feed spent feed = feed refl
-stops-by p s named told reads writes sim.Spent spent feed = λ t. spent refl t
-stops-by p s named told reads writes sim.OutOfMemory spent feed = tt
+pub stops-by : (p : Plan) (s : SimWords) (named : Named) (told reads writes : Type 0) (error : SimError) (end : SimEnded) → IsEndOf error end →
+    (error ≡ sim.Spent → told → IsUnfinished (job_named p s named) (word_of s.settings.number) (sim_plan s) (wanted_of p) event_limit) → (error ≡ sim.Feed → reads) → Stops p s named told reads writes end
+stops-by p s named told reads writes sim.Stuck end is spent feed = absurd is
+stops-by p s named told reads writes sim.Feed end is spent feed = subst (Stops p s named told reads writes) (sym is) (feed refl)
+stops-by p s named told reads writes sim.Spent end is spent feed = subst (Stops p s named told reads writes) (sym is) (λ t. spent refl t)
+stops-by p s named told reads writes sim.OutOfMemory end is spent feed = subst (Stops p s named told reads writes) (sym is) tt
 
 pub feed-rose : (A : Type 0) (error : SimError) (before now : ℕ) → CountsSim {A = A} (Err error) before now → error ≡ sim.Feed → Rose before now
 feed-rose A error before now counts is = let E : SimError → Type 0 = λ x. CountsSim {A = A} (Err x) before now in subst E is counts

@@ -36,12 +36,12 @@ pub record IsWantedOf (p : Plan) (w : Wanted) : Type 0 where
   pub blocks_are : w.blocks ≡ counts_made p.nodes
   pub small : IsSmall p
 
--- how a run ends whose simulation gave no result
-abbrev pub ended_of : SimError → SimEnded
-ended_of sim.Stuck = Ran OutOfMemory
-ended_of sim.Feed = Ran ReadFault
-ended_of sim.Spent = Events
-ended_of sim.OutOfMemory = Ran OutOfMemory
+-- how a run ends whose simulation gave no result. None is stuck
+abbrev pub IsEndOf : SimError → SimEnded → Type 0
+IsEndOf sim.Stuck end = ⊥
+IsEndOf sim.Feed end = end ≡ Ran ReadFault
+IsEndOf sim.Spent end = end ≡ Events
+IsEndOf sim.OutOfMemory end = end ≡ Ran OutOfMemory
 
 -- the block that a key is
 pub record IsBlockAt (p : Plan) (key node : ℕ) (block : List ℕ) : Type 0 where

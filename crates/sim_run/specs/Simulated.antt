@@ -1,5 +1,5 @@
 -- What is simulated, and how that ends: the events that the number draws, over any job and any keys that are wanted of it.
-use Rattle.std.specs.Prelude.{◌≤◌, ℕ, List, Option, None}
+use Rattle.std.specs.Prelude.{◌≤◌, ℕ, List, Option, None, length, take}
 use Rattle.cluster_msgs.specs.Shape.{Shape}
 use Rattle.cluster_msgs.specs.declared.events.Report.{Report}
 use Rattle.cluster_rules.specs.World.{Job, World}
@@ -8,15 +8,22 @@ use Rattle.cluster_sim.specs.Drawn.{word_of}
 use Rattle.cluster_sim.specs.Simulations.{IsReported, IsUnfinished}
 use Rattle.cluster_rules.specs.Runs.{event_limit}
 use Rattle.cluster_laws.specs.Blocks.{job_of, setting_of}
-use Rattle.command_words.specs.Walks.{joins_in}
+use Rattle.cluster_msgs.specs.declared.events.Item.{Item}
+use Rattle.command_words.specs.Walks.{joins_in, crew_of, after_items, TakesOneOf, IsItemAt}
 use Rattle.command_words.specs.declared.sim.SimWords.{SimWords}
 
--- settings that can be followed: with 1 to 64 workers at the start and at most 64 more by the script, of 1 to 16 threads each
+-- a script that leaves a worker at every point: each worker that an item takes away is there
+pub record LeavesSomebody (workers : ℕ) (items : List Item) : Type 0 where
+  pub takes : (i : ℕ) (item : Item) → IsItemAt items i item → TakesOneOf (after_items (crew_of workers) (take i items)) item
+  pub some : (i : ℕ) → i ≤ length items → 1 ≤ length (after_items (crew_of workers) (take i items)).there
+
+-- settings that can be followed: with 1 to 64 workers at the start and at most 64 more by the script, of 1 to 16 threads each, and never without one
 pub record AreSettings (s : SimWords) : Type 0 where
   pub workers : (1 ≤ s.settings.workers) × (s.settings.workers ≤ 64)
   pub threads : (1 ≤ s.settings.threads) × (s.settings.threads ≤ 16)
   pub saturation : (1 ≤ s.settings.saturation) × (s.settings.saturation ≤ 1000)
   pub joins : joins_in s.script ≤ 64
+  pub manned : LeavesSomebody s.settings.workers s.script
 
 -- the workers at the start, their threads, and the script
 abbrev pub sim_plan : SimWords → SimPlan

@@ -1,5 +1,5 @@
 //! The simulation of a job's graph over its open inputs.
-ghost use Rattle.std.specs.Prelude.{◌≡◌, ◌++◌, length, slice_index_or, None, IfOk, IfErr, OnOk};
+ghost use Rattle.std.specs.Prelude.{◌≡◌, ◌≢◌, ◌++◌, length, slice_index_or, None, IfOk, IfErr, OnOk};
 ghost use Rattle.std.specs.List.{flat_map};
 ghost use Rattle.io_edge.specs.Cause.{Rose};
 ghost use Rattle.block_lowering.specs.Jobs.{FitsFeed, TellsFeed};
@@ -12,7 +12,7 @@ ghost use Rattle.job_run.specs.Loading.{AreHeads};
 ghost use Rattle.job_run.specs.Lowering.{IsGraphOf};
 ghost use Rattle.job_run.specs.Plan.{IsRunnable, input_shapes};
 ghost use Rattle.job_run.specs.Values.{tasks_of};
-ghost use Rattle.sim_run.specs.Serving.{EndsAtKey, IsWantedOf, SavesFiles, ServesAll, ServesFiles, ServesPart, ended_of};
+ghost use Rattle.sim_run.specs.Serving.{EndsAtKey, IsWantedOf, SavesFiles, ServesAll, ServesFiles, ServesPart, IsEndOf};
 ghost use Rattle.sim_run.specs.Simulated.{AreSettings};
 
 use crate::ends::SimEnded;
@@ -48,15 +48,17 @@ pub struct Wanted {
     pub blocks: Sequence<Dims>,
 }
 
-// How the run ends where the simulation gave no result. Where the inputs are told, none is stuck by a script that leaves a worker at
-// every point (`somebody_is_there`); where they aren't, nothing is said of it, and it is told as want of memory.
+// How the run ends where the simulation gave no result. None is stuck by a script that leaves a worker at every point
+// (`somebody_is_there`).
 fn ended(error: SimError) -> SimEnded
-    ensures { result ≡ ended_of error }
+    requires { error ≢ SimError.Stuck }
+    ensures { IsEndOf error result }
 {
     match error {
         SimError::Feed => SimEnded::Ran(Ended::ReadFault),
         SimError::Spent => SimEnded::Events,
-        SimError::Stuck | SimError::OutOfMemory => SimEnded::Ran(Ended::OutOfMemory),
+        SimError::OutOfMemory => SimEnded::Ran(Ended::OutOfMemory),
+        SimError::Stuck => unreachable!(),
     }
 }
 

@@ -51,7 +51,7 @@ def shown(progress):
 def to_dask(array):
     """The array of `dask.array` that has the same elements and the same blocks."""
     from ..text import Job
-    from . import dask_job
+    from . import dask_job, expressions
     sys.setrecursionlimit(max(DEEP, sys.getrecursionlimit()))
     job = dask_job.read(Job({'.yitrovana.npy': array}).text.encode())
     number, = job.saves.values()
@@ -59,23 +59,39 @@ def to_dask(array):
     client = own_client()
     if client is not None:
         dask_job.send(client)
+    expressions.remember(made, array)
     return made
 
 
-def from_dask(array, path):
-    """Has Dask compute an array of whole numbers into the file at `path`, and opens that in the same chunks."""
-    import dask.array as da
-
+def from_dask(array, path=None):
+    """The same array of whole numbers: lazy where the language has its operations, else of the file at `path`, into which Dask computes it."""
     from ..refusals import refused
-    from ..sources import open
-    from . import dask_job
+    from ..sources import TemporaryFile, open
+    from . import dask_job, expressions
     if array.dtype.kind not in 'bui' or array.dtype == 'u8':
         raise refused('astype', f'dtype {array.dtype}')
     if any(length != length for length in array.shape):
         raise ValueError('the lengths of the array are not known before it is computed: call its compute_chunk_sizes()')
+    taken = expressions.taken_over(array)
+    if taken is not None:
+        return taken
     client = own_client()
     if client is not None:
         dask_job.send(client)
+    chunks = expressions.without_empty(array.chunks)
+    if path is not None:
+        store(array, path)
+        return open(path, chunks)
+    with TemporaryFile() as file:
+        store(array, file.path)
+        return file.opened(chunks)
+
+
+def store(array, path):
+    """Has Dask compute an array into a file."""
+    import dask.array as da
+
+    from . import dask_job
     part = dask_job.Part(path, array.shape)
     try:
         with warnings.catch_warnings():
@@ -84,4 +100,3 @@ def from_dask(array, path):
         part.keep()
     finally:
         part.drop()
-    return open(path, chunks=array.chunks)

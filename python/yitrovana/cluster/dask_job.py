@@ -79,7 +79,8 @@ def connected(scheduler=None, workers=None, threads=None, timeout=TIMEOUT, proce
 
 def send(client):
     """Gives the workers what they are to run. Those of this process load the module anew, so that its classes are named by it."""
-    client.register_worker_plugin(UploadFile(block_work.__file__))
+    register = getattr(client, 'register_plugin', None) or client.register_worker_plugin  # as it was named before 2023.9
+    register(UploadFile(block_work.__file__))
 
 
 # ---- files

@@ -24,7 +24,7 @@ loop-number-preserved g c =
     let t = c.loop-number-test.true in
     let i = c.loop-number.invariant in
     record {
-      opened = join_on _ _ c.loop-number._number c.args.plan.now.threads c.args.world.now c.loop-number.world c.act.new.world c.loop-number.tally c.act.new.tally i.opened (omega (arith, m, t)) c.in_ok-act.ensures.done i.stays c.act.ensures.stays c.in_ok-act.ensures.counted;
+      opened = join_on _ _ c.loop-number._number c.args.plan.now.threads c.args.world.now c.loop-number.world c.act.new.world c.loop-number.tally c.act.new.tally i.opened (omega (arith, m, t)) (let l = i.opened.opened.last in may_join (world c.loop-number.world) c.args.plan.now.threads c.requires.plan.threads (omega (arith, l, m, t))) c.in_ok-act.ensures.done i.stays c.act.ensures.stays c.in_ok-act.ensures.counted;
       stays = stays_both _ _ _ _ i.stays c.act.ensures.stays;
       faults = c.in_ok-act.ensures.faults ∙ i.faults;
     }

@@ -18,7 +18,8 @@ pub returns-clause-opened : goal.returns-clause-opened
 returns-clause-opened g c =
     on_ok_both c.act.result
     (λ done counted. want_on _ _ c.args.plan.now.workers c.args.plan.now.threads c.args.wanted.now c.in_ok-keys.keys c.args.world.now c.join_all.new.world c.act.new.world c.join_all.new.tally c.act.new.tally
-    c.in_ok-join_all.ensures.opened c.requires.plan.workers c.in_ok-keys.ensures done c.join_all.ensures.stays c.act.ensures.stays counted)
+    c.in_ok-join_all.ensures.opened c.requires.plan.workers c.in_ok-keys.ensures
+    (subst (λ ks. enabled (world c.join_all.new.world) (Want 1 ks) ≡ true) (sym c.in_ok-keys.ensures) (want_may _ _ c.args.world.now c.join_all.new.world c.args.wanted.now c.requires.opening c.join_all.ensures.stays c.requires.wanted)) done c.join_all.ensures.stays c.act.ensures.stays counted)
     c.act.ensures.done c.act.ensures.counted
 
 pub returns-clause-stays : goal.returns-clause-stays

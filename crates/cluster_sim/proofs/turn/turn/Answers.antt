@@ -112,7 +112,7 @@ pub returns-in_ok-act-in-Make-clause-turn : goal.returns-in_ok-act-in-Make-claus
 returns-in_ok-act-in-Make-clause-turn g c =
     has_gone g.J.JobSpec.operation g.J.JobSpec.feed_tells (plan_of c.args.plan.now) c.args.wanted.now c.args.world.now c.act.new.world c.args.run.now _ c.in-Make.event c.in-Make.kind c.word-word.result
     (record { plan = c.requires.plan; between = c.requires.between; next = c.in-Make.ensures.next; own = c.in-Make.ensures.kind.0; some = c.in-Make.ensures.kind.1 })
-    c.in_ok-act-in-Make.ensures.done c.go_on.ensures.standing c.look.ensures
+    c.in_ok-act-in-Make.ensures.done c.act.ensures.stays.setting c.go_on.ensures.standing c.look.ensures
 
 pub returns-in_ok-act-in-Make-clause-drawn : goal.returns-in_ok-act-in-Make-clause-drawn
 returns-in_ok-act-in-Make-clause-drawn g c number d =

@@ -38,7 +38,7 @@ turns-smaller g c = fewer_left (plan_of c.args.plan.now) c.args.wanted.now c.tur
 pub returns-in_err-next-clause-play : goal.returns-in_err-next-clause-play
 returns-in_err-next-clause-play g c =
     let p = err_from_is_err_and c.from_residual.result c.from_residual.ensures.1 in
-    rw (p.1, p.2) (play_failed (plan_of c.args.plan.now) c.args.wanted.now c.turns.world c.turn.new.world c.turns.run c.turn.new.run _ c.in_err-next.ensures.turn)
+    rw (p.1, p.2) (play_failed (plan_of c.args.plan.now) c.args.wanted.now c.turns.world c.turn.new.world c.turns.run c.turn.new.run _ c.turns.invariant.between c.in_err-next.ensures.turn)
 
 pub returns-in_err-next-clause-drawn : goal.returns-in_err-next-clause-drawn
 returns-in_err-next-clause-drawn g c number d =

@@ -9,12 +9,13 @@ use Rattle.std.proofs.lemmas.Result.{err_from_is_err_and}
 use Rattle.cluster_sim.proofs.ActLemmas.{stays_both, counts_as, counts_from}
 use Rattle.cluster_sim.proofs.PlayLemmas.{spent_play, stuck_play, cut_play, unfinished_play, same_error}
 use Rattle.cluster_sim.proofs.SimulateLemmas.{served_is}
-use Rattle.cluster_sim.proofs.SimulateRecords.{opened_between, opened_drawn, reported, deserted_by, unfinished_by, blamed_by}
+use Rattle.cluster_sim.proofs.SimulateRecords.{halted_alone, opened_between, opened_drawn, reported, deserted_by, unfinished_by, blamed_by}
 use Rattle.cluster_sim.proofs.whole.simulate.Goals as goal
 
 pub play-requires-clause-between : goal.play-requires-clause-between
 play-requires-clause-between g c = λ κs lives.
-    opened_between _ _ (plan_of c.args.plan.now) c.args.wanted.now c.args.world.now c.make_opening.new.world _ c.requires.plan c.requires.wanted c.in_ok-make_opening.ensures.opened c.make_opening.ensures.stays c.new.ensures c.look.ensures
+    opened_between _ _ (plan_of c.args.plan.now) c.args.wanted.now c.args.world.now c.make_opening.new.world _ c.requires.opening (subst IsShape c.shape.ensures.setting c.sound.ensures) c.requires.plan c.requires.wanted
+    c.in_ok-make_opening.ensures.opened c.make_opening.ensures.stays c.new.ensures c.look.ensures
 
 pub look-requires-clause-few : goal.look-requires-clause-few
 look-requires-clause-few g c = λ κs lives. omega arith
@@ -101,7 +102,8 @@ returns-in_err-end-clause-spent_waits g c q =
 pub returns-in_err-end-clause-stuck : goal.returns-in_err-end-clause-stuck
 returns-in_err-end-clause-stuck g c q =
     let p = err_from_is_err_and c.from_residual-in_err-end.result c.from_residual-in_err-end.ensures.1 in
-    stuck_play (plan_of c.args.plan.now) c.args.wanted.now c.play.new.world c.play.new.run _ (sym p.2 ∙ same_error _ _ (sym p.1 ∙ q)) c.in_err-end.ensures.play
+    halted_alone (plan_of c.args.plan.now) c.args.wanted.now c.args.world.now c.play.new.world c.play.new.run (stays_both _ _ _ _ c.make_opening.ensures.stays c.play.ensures.stays).setting
+    (stuck_play (plan_of c.args.plan.now) c.args.wanted.now c.play.new.world c.play.new.run _ (sym p.2 ∙ same_error _ _ (sym p.1 ∙ q)) c.in_err-end.ensures.play)
 
 pub returns-in_err-end-clause-deserted : goal.returns-in_err-end-clause-deserted
 returns-in_err-end-clause-deserted g c q told =
@@ -109,7 +111,7 @@ returns-in_err-end-clause-deserted g c q told =
     let d = opened_drawn _ _ (plan_of c.args.plan.now) c.args.wanted.now c.args.number c.args.world.now c.make_opening.new.world _ c.requires.opening (subst IsShape c.shape.ensures.setting c.sound.ensures) c.in_ok-make_opening.ensures.opened c.make_opening.ensures.stays c.new.ensures c.new-2.ensures told in
     deserted_by _ _ (plan_of c.args.plan.now) c.args.wanted.now c.args.number c.args.world.now c.play.new.world c.play.new.run
     (stays_both _ _ _ _ c.make_opening.ensures.stays c.play.ensures.stays) c.is_safe.ensures.events c.requires.opening.client
-    (stuck_play (plan_of c.args.plan.now) c.args.wanted.now c.play.new.world c.play.new.run _ (sym p.2 ∙ same_error _ _ (sym p.1 ∙ q)) c.in_err-end.ensures.play)
+    (stuck_play (plan_of c.args.plan.now) c.args.wanted.now c.play.new.world c.play.new.run _ (sym p.2 ∙ same_error _ _ (sym p.1 ∙ q)) c.in_err-end.ensures.play).stuck
     (cut_play _ _ (plan_of c.args.plan.now) c.args.wanted.now c.args.number c.play.new.world c.play.new.run _ (sym p.2 ∙ same_error _ _ (sym p.1 ∙ q)) (c.in_err-end.ensures.drawn c.args.number d))
 
 pub returns-in_err-end-clause-cut_off : goal.returns-in_err-end-clause-cut_off

@@ -20,9 +20,9 @@ use Rattle.job_run.specs.Jobs.{plan_of}
 use Rattle.job_run.specs.Plan.{Plan}
 use Rattle.job_run.specs.Values.{Named, tasks_of}
 use Rattle.sim_run.specs.declared.ends.SimEnded.{SimEnded}
-use Rattle.sim_run.specs.Serving.{Stops, ended_of}
 use Rattle.sim_run.specs.Simulated.{sim_plan}
 use Rattle.sim_run.proofs.Got.{has-all, has-run, wanted-for}
+use Rattle.sim_run.proofs.MannedLemmas.{not_left_alone}
 use Rattle.sim_run.proofs.Stops.{HasServed, blamed-at, feed-rose, got-all, job-is, left-right, of-plan, part-bare, serves-all, stops-by, zero-stops}
 use Rattle.sim_run.proofs.serving.simulate_world.Given.{Over}
 use Rattle.sim_run.proofs.serving.simulate_world.Goals as goal
@@ -33,6 +33,9 @@ simulate-requires-clause-wanted g c κs within =
     let p : Plan = plan_of c.args.job.now in
     let laws : HasLaws p g.E.Elements.named = c.laws_hold.ensures g.E.Elements.named in
     wanted-for p (setting c.args.world.now).shape c.args.wanted.now.all c.requires.runs laws.expression (ap (λ (x : Setting). x.shape) c.requires.setting) c.requires.wanted.all_is
+
+pub ended-requires : goal.ended-requires
+ended-requires g c = λ e. not_left_alone (setting c.args.world.now) c.args.words c.args.wanted.now.all (world c.simulate.new.world) c.requires.words.manned (c.in-Err.ensures.stuck (ap Err e))
 
 pub returns-in-Err-clause-stopped : goal.returns-in-Err-clause-stopped
 returns-in-Err-clause-stopped g c =
@@ -49,11 +52,10 @@ returns-in-Err-clause-stopped g c =
     let job = job_of (setting old) op in
     let same = job-is p s named (setting old) op c.requires.setting (ap (operation named) c.requires.tasks) in
     let wanted = c.args.wanted.now.all in
-    let E : SimEnded → Type 0 = Stops p s named told reads writes in
-    let stops : E (ended_of c.in-Err.error) = stops-by p s named told reads writes c.in-Err.error
+    let stops = stops-by p s named told reads writes c.in-Err.error c.ended.result c.ended.ensures
     (λ e t. of-plan p s named job wanted (λ (j : Job) ks. IsUnfinished j (word_of s.settings.number) (sim_plan s) ks event_limit) same c.requires.wanted.all_is (c.in-Err.ensures.cut_off (ap Err e) t))
     (λ e. feed-rose SimEnd c.in-Err.error (g.S.In.Store.count old.feed) (g.S.In.Store.count new.feed) c.in-Err.ensures.faults e) in
-    part-bare p s named told reads writes files c.ended.result (subst E (sym c.ended.ensures) stops)
+    part-bare p s named told reads writes files c.ended.result stops
 
 pub returns-in-Some-clause-stopped : goal.returns-in-Some-clause-stopped
 returns-in-Some-clause-stopped g c =
