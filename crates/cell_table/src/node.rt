@@ -26,6 +26,8 @@ impl Machine for Counter {
 
     ghost by = { λ s e t. Unit {0} };
 
+    ghost limited = { λ n. Unit {0} };
+
     fn take(&mut self, event: u64, _out: &mut KeyList) -> Result<(), Stop> {
         self.count = self.count.wrapping_add(event);
         Ok(())
@@ -82,13 +84,14 @@ impl Kept for Node {
 
     type Core = Counter;
 
+    ghost use Rattle.std.specs.Prelude.{false};
     ghost use Rattle.node_links.specs.Books.{Steps};
 
     ghost entries = { λ s. s.book.entries };
 
-    ghost core = { λ s. s.book.core };
+    ghost core = { λ s. s.book.kept };
 
-    ghost cut = { λ s. s.book.cut };
+    ghost cut = { λ s. false };
 
     ghost steps = { Steps ⟦<Counter as Machine>⟧.says ⟦<Counter as Machine>⟧.by };
 

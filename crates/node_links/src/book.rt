@@ -1,6 +1,6 @@
 //! A core with its history.
 ghost use Rattle.std.specs.Prelude.{◌≡◌, Option, OnOk, OnErr, IfOk, IfErr, IfSome, is_some, Err, Some, None, [], false, cond, length};
-ghost use Rattle.node_links.specs.Books.{IsRecorded, IsEntered, AllBelow};
+ghost use Rattle.node_links.specs.Books.{IsLogOf, IsRecorded, IsEntered, AllBelow};
 ghost use Rattle.node_links.specs.Books.{Steps, StepsBy};
 
 use crate::log::Log;
@@ -16,7 +16,7 @@ pub trait Machine: Drop {
 
     type Out: Drop;
 
-    ghost use Rattle.std.specs.Prelude.{Option};
+    ghost use Rattle.std.specs.Prelude.{ℕ, Option};
     ghost use Rattle.cluster_msgs.specs.declared.events.Event.{Event as AnyEvent};
     ghost use Rattle.cluster_msgs.specs.declared.messages.Message.{Message as AnyMessage};
 
@@ -26,6 +26,9 @@ pub trait Machine: Drop {
     /// What an event makes of the core.
     ghost by: { Self → Self.Event → Self → Type 0 };
 
+    /// For how many bytes a history of such a core may be made.
+    ghost limited: { ℕ → Type 0 };
+
     /// Takes one event. A refused one, and one past the last that it may take, change nothing. After `Memory` nothing is known of it.
     fn take(&mut self, event: Self::Event, out: &mut Self::Out) -> Result<(), Stop>
         ensures ok { OnOk result (by self.old event self.new) }
@@ -33,22 +36,27 @@ pub trait Machine: Drop {
         ensures spent { result ≡ Err Stop.Spent → self.new ≡ self.old };
 }
 
-/// A core with its history. A clause sees the core as it is, or where memory ran out inside it, as it was before: it then takes no event more.
+/// A core with its history. A clause sees the core as it is, or where memory ran out inside it, as it was before: it then takes no event more. It also
+/// sees the core that the stored entries lead to, which is another one only after an entry was left out; the first that was is its next step.
 #[derive(Drop)]
 pub struct Book<C: Machine> {
     core: C,
     before: Snapshot<C>,
     failed: bool,
+    kept: Snapshot<C>,
     log: Log,
 }
 
 impl<C: Machine> Model for Book<C> {
-    ghost use Rattle.std.specs.Prelude.{cond, is_some};
-    ghost use Rattle.node_links.specs.Books.{BookState};
+    ghost use Rattle.std.specs.Prelude.{◌≡◌, cond, false, is_some};
+    ghost use Rattle.node_links.specs.Books.{BookState, IsNext, Steps};
 
     ghost Value = { BookState C };
 
-    ghost view = { λ b. record { core = cond b.failed b.before.value b.core; entries = b.log.entries; cut = is_some b.log.cut } };
+    ghost view = { λ b. record { core = cond b.failed b.before.value b.core; entries = b.log.entries; kept = b.kept.value; cut = is_some b.log.cut } };
+
+    ghost invariant = { λ b. C.limited b.log.limit × (is_some b.log.cut ≡ false → b.kept.value ≡ cond b.failed b.before.value b.core)
+        × IsNext (Steps C.says C.by) b.kept.value b.log.cut };
 }
 
 impl<C: Machine> Book<C> {
@@ -57,7 +65,9 @@ impl<C: Machine> Book<C> {
     /// # Errors
     /// The core comes back where there is no memory for the first entries.
     pub fn new(alloc: Global, core: C, limit: u64) -> Result<Self, C>
+        requires limit { C.limited limit }
         ensures core { IfOk result (λ b. b.core ≡ core) }
+        ensures kept { IfOk result (λ b. b.kept ≡ core) }
         ensures entries { IfOk result (λ b. (b.entries ≡ []) × (b.cut ≡ false)) }
         ensures err { IfErr result (λ c. c ≡ core) }
     {
@@ -66,6 +76,7 @@ impl<C: Machine> Book<C> {
         };
         Ok(Book {
             before: Snapshot::of(&core),
+            kept: Snapshot::of(&core),
             core,
             failed: false,
             log,
@@ -98,13 +109,13 @@ impl<C: Machine> Book<C> {
 
     /// The history without the core.
     pub fn into_log(self) -> Log
-        ensures entries { result.entries ≡ self.entries }
-        ensures cut { is_some result.cut ≡ self.cut }
+        ensures { IsLogOf C.limited (Steps C.says C.by) self result }
     {
         let Book {
             core: _,
             before: _,
             failed: _,
+            kept: _,
             log,
         } = self;
         log
@@ -194,6 +205,7 @@ impl<C: Machine> Book<C> {
             event,
             message,
         });
+        follow(&mut self.kept, &self.core, self.log.is_cut());
         Ok(())
     }
 
@@ -245,6 +257,15 @@ fn take_event<C: Machine>(
             Err(Stop::Memory)
         }
         Err(stop) => Err(stop),
+    }
+}
+
+/// What is stored leads to the core as it is, unless an entry was left out.
+fn follow<C: Machine>(kept: &mut Snapshot<C>, core: &C, cut: bool)
+    ensures { kept.new.value ≡ cond cut kept.old.value core.now }
+{
+    if !cut {
+        *kept = Snapshot::of(core);
     }
 }
 

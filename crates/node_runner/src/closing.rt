@@ -5,7 +5,7 @@ ghost use Rattle.gather_client.specs.CoreState.{client_facts};
 ghost use Rattle.scheduler_core.specs.Cores.{facts};
 ghost use Rattle.worker_core.specs.Core.{facts as worker_facts};
 ghost use Rattle.node_states.specs.Order.{AreInTime, start_of};
-ghost use Rattle.node_runner.specs.Runs.{HasRun, HasNotRun, IsGivenUp, IsTakenFrom, IsSchedulersBook, IsWorkersBook, IsClientsBook, IfStatus, IsBlamed, last_facts};
+ghost use Rattle.node_runner.specs.Runs.{HasRun, HasNotRun, IsGivenUp, IsFromScheduler, IsFromClient, IsSchedulersBook, IsWorkersBook, IsClientsBook, IfStatus, IsBlamed, last_facts};
 
 use crate::ends::{
     Ends, Histories, RunStatus, all_left, first_blame, hand_all, has_all, has_got, is_given_up,
@@ -14,8 +14,8 @@ use crate::ends::{
 use crate::plan::RunPlan;
 use crate::sink::Sink;
 use cluster_msgs::{GraphShape, History, KeyList, Label};
-use node_links::{Book, Machine};
-use node_states::{BlockStore, ClientNode, SchedulerNode, Why, WorkerNode};
+use node_links::Book;
+use node_states::{BlockStore, ClientNode, GatheringCore, SchedulerNode, Why, WorkerNode};
 use std::alloc::{AllocError, Global};
 
 /// What is told of a run: the histories, and for each worker number why it left.
@@ -54,8 +54,8 @@ pub fn end_nodes<B: Drop, L: Label<Block = B>, F: Drop, S: BlockStore<B, L>, Z: 
 ) -> (Ends<F, S>, bool)
     requires scheduler { IsSchedulersBook L.facts _graph.now plan.now scheduler.history.book }
     requires workers { (k : ℕ) (w : _) → k < vec_len workers
-        → IsWorkersBook L.facts _graph.now plan.now.threads (k + 1) (λ c. worker_facts c.core) (slice_index_or workers.items k w).history.book }
-    requires client { IsClientsBook L.facts _graph.now (λ c. client_facts c.core) client.book }
+        → IsWorkersBook L.facts _graph.now plan.now.threads (k + 1) (λ c. c.id) (λ c. worker_facts c.core) (slice_index_or workers.items k w).history.book }
+    requires client { IsClientsBook L.facts _graph.now (λ c. c.id) (λ c. client_facts c.core) client.book }
     ensures had { IfOk result.0.result (λ _. All (λ k. Z.had sink.new k ≡ true) wanted.now) }
     ensures leads { Z.leads sink.old sink.new }
     ensures ended { IfSome result.0.histories (HasRun L.facts _graph.now plan.now wanted.now ⊥
@@ -80,8 +80,9 @@ pub fn end_nodes<B: Drop, L: Label<Block = B>, F: Drop, S: BlockStore<B, L>, Z: 
 }
 
 /// The history of a closed scheduler, whose entries came in time.
+#[tactic(auto, using(crate::proofs::Ending::taken_from))]
 fn scheduler_history<B: Drop, L: Label<Block = B>>(scheduler: SchedulerNode<B, L>) -> History
-    ensures taken { IsTakenFrom scheduler.history.book result }
+    ensures taken { IsFromScheduler L.facts scheduler.history.book result }
     ensures in_time { scheduler.history.book.cut ≡ false → AreInTime scheduler.history.book.core.plan
         (start_of (facts scheduler.history.book.core.core).setting) scheduler.history.book.entries }
 {
@@ -94,7 +95,7 @@ fn client_history<B: Drop, L: Label<Block = B>, Z: Sink<B, L>>(
     client: ClientNode<B, L>,
     sink: &mut Z,
 ) -> History
-    ensures taken { IsTakenFrom client.book result }
+    ensures taken { IsFromClient L.facts (λ c. c.id) (λ c. client_facts c.core) client.book result }
     ensures leads { Z.leads sink.old sink.new }
 {
     let (book, came) = client.into_parts();
@@ -102,9 +103,10 @@ fn client_history<B: Drop, L: Label<Block = B>, Z: Sink<B, L>>(
     history_of(book)
 }
 
-/// The history of a closed node.
-fn history_of<C: Machine>(book: Book<C>) -> History
-    ensures { IsTakenFrom book result }
+/// The history of a closed client's book.
+#[tactic(auto, using(crate::proofs::Ending::taken_from))]
+fn history_of<L: Label>(book: Book<GatheringCore<L>>) -> History
+    ensures { IsFromClient L.facts (λ c. c.id) (λ c. client_facts c.core) book result }
 {
     book.into_log().into_history()
 }

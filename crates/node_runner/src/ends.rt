@@ -4,10 +4,11 @@ ghost use Rattle.cluster_msgs.specs.Labels.{BlameFits};
 ghost use Rattle.cluster_rules.specs.Sched.{Facts as SchedFacts, connected};
 ghost use Rattle.gather_client.specs.CoreState.{client_facts};
 ghost use Rattle.scheduler_core.specs.Cores.{facts};
+ghost use Rattle.worker_core.specs.Core.{facts as worker_facts};
 ghost use Rattle.turn_cell.specs.Rows.{AllBy};
 ghost use Rattle.node_states.specs.Fitting.{ClientFits};
 ghost use Rattle.node_states.specs.declared.why.Why.TheVariants as why;
-ghost use Rattle.node_runner.specs.Runs.{HasGot, IsGivenUp, IsGot, IsLeft, IsNamed, IsTakenFrom};
+ghost use Rattle.node_runner.specs.Runs.{HasGot, IsGivenUp, IsGot, IsLeft, IsNamed, IsFromWorker};
 
 use crate::plan::RunPlan;
 use crate::sink::Sink;
@@ -237,7 +238,8 @@ pub fn take_apart<B: Drop, L: Label<Block = B>, F: Drop, S: BlockStore<B, L>>(
     alloc: Global,
     workers: Vec<WorkerNode<B, L, F, S>>,
 ) -> (Option<Vec<History>>, Vec<F>, Vec<S>)
-    ensures { IfSome result.0 (λ histories. AllBy (λ k w h. IsTakenFrom w.history.book h) workers.items histories.items) }
+    ensures { IfSome result.0 (λ histories. AllBy (λ k w h. IsFromWorker L.facts (λ c. c.id) (λ c. worker_facts c.core) w.history.book h)
+        workers.items histories.items) }
 {
     let mut histories = Vec::new(alloc);
     let mut feeds = Vec::new(alloc);
@@ -254,10 +256,11 @@ pub fn take_apart<B: Drop, L: Label<Block = B>, F: Drop, S: BlockStore<B, L>>(
 }
 
 /// The history, the feeds and the store of a closed worker.
+#[tactic(auto, using(crate::proofs::Ending::taken_from))]
 fn apart<B: Drop, L: Label<Block = B>, F: Drop, S: BlockStore<B, L>>(
     worker: WorkerNode<B, L, F, S>,
 ) -> (History, Feeds<F>, S)
-    ensures { IsTakenFrom worker.history.book result.0 }
+    ensures { IsFromWorker L.facts (λ c. c.id) (λ c. worker_facts c.core) worker.history.book result.0 }
 {
     let (log, own, store) = worker.into_parts();
     (log.into_history(), own, store)

@@ -1,12 +1,12 @@
 //! The scheduler's core with its history, whose entries come in their order.
-ghost use Rattle.std.specs.Prelude.{◌≡◌, ℕ, [], true, false, IfOk, IfSome, OnErr, length, is_some};
+ghost use Rattle.std.specs.Prelude.{◌≡◌, ℕ, [], true, false, IfOk, IfSome, OnErr, length};
 ghost use Rattle.cluster_msgs.specs.declared.events.Event.TheVariants as kind;
 ghost use Rattle.scheduler_core.specs.Cores.{facts};
-ghost use Rattle.node_links.specs.Books.{IsRecorded, Steps};
+ghost use Rattle.node_links.specs.Books.{IsLogOf, IsRecorded, Steps};
 ghost use Rattle.node_states.specs.Opening.{IsOpening};
 ghost use Rattle.node_states.specs.Order.{IsChosen, Adds, AreInTime, JoinFirst, start_of, is_gone};
 
-use crate::cores::SchedulingCore;
+use crate::cores::{SCHEDULER_BYTES, SchedulingCore};
 use crate::evidence::{SchedCause, SchedOut};
 use crate::links::let_go;
 use cluster_msgs::{Event, Label, Message, Stop};
@@ -35,21 +35,21 @@ impl<L: Label> Model for SchedulerHistory<L> {
 }
 
 impl<L: Label> SchedulerHistory<L> {
-    /// A scheduler that has made no entry, whose history may have so many bytes, with links to so many workers.
+    /// A scheduler that has made no entry, with links to so many workers.
     ///
     /// # Errors
     /// Where there is no memory.
     pub fn new(
         alloc: Global,
         core: SchedulingCore<L>,
-        limit: u64,
         workers: usize,
     ) -> Result<Self, AllocError>
         requires opening { IsOpening (facts core.core) }
         ensures core { IfOk result (λ h. h.book.core ≡ core) }
+        ensures kept { IfOk result (λ h. h.book.kept ≡ core) }
         ensures entries { IfOk result (λ h. (h.book.entries ≡ []) × (h.book.cut ≡ false)) }
     {
-        let (book, gone) = begin(alloc, core, limit, workers)?;
+        let (book, gone) = begin(alloc, core, SCHEDULER_BYTES, workers)?;
         Ok(SchedulerHistory { book, gone })
     }
 
@@ -118,8 +118,9 @@ impl<L: Label> SchedulerHistory<L> {
 
     /// The history without the core.
     pub fn into_log(self) -> Log
-        ensures entries { result.entries ≡ self.book.entries }
-        ensures cut { is_some result.cut ≡ self.book.cut }
+        ensures {
+            IsLogOf ⟦<SchedulingCore<L> as Machine>⟧.limited (Steps ⟦<SchedulingCore<L> as Machine>⟧.says ⟦<SchedulingCore<L> as Machine>⟧.by) self.book result
+        }
     {
         let SchedulerHistory { book, gone } = self;
         drop(gone);
@@ -134,7 +135,9 @@ fn begin<C: Machine>(
     limit: u64,
     workers: usize,
 ) -> Result<(Book<C>, Vec<bool>), AllocError>
+    requires limit { C.limited limit }
     ensures core { IfOk result (λ p. p.0.core ≡ core) }
+    ensures kept { IfOk result (λ p. p.0.kept ≡ core) }
     ensures entries { IfOk result (λ p. (p.0.entries ≡ []) × (p.0.cut ≡ false)) }
 {
     let Ok(gone) = none_gone(alloc, workers) else {
