@@ -141,7 +141,7 @@ cause_first p old mid new (RunEnds.Limit quantity) held tells only later cause =
 cause_first p old mid new (RunEnds.File place error) held tells only later cause = cause_before p old mid new (RunEnds.File place error) held tells only later cause
 cause_first p old mid new (RunEnds.Zero node block) held tells only later cause = (
   cause.0,
-  record { inputs = fit_before p old.files mid.files held tells cause.1.inputs; zero_at = rw (← held, ← tells) cause.1.zero_at },
+  record { inputs = fit_before p old.files mid.files held tells cause.1.inputs; needed = cause.1.needed; zero_at = rw (← held, ← tells) cause.1.zero_at },
   given_before old.gave mid.gave new.gave _ only.gave cause.2,
 )
 cause_first p old mid new RunEnds.ReadFault held tells only later cause = cause_before p old mid new RunEnds.ReadFault held tells only later cause

@@ -197,7 +197,7 @@ module _ (p : Plan) (w : RunWords) (old mid : View) (files : List Content) (head
       let g = follows new f in
       ends p w old new (Zero node block) g (
         a.small,
-        record { inputs = a.fit; zero_at = on-inputs (λ n. IsFaulty p n node block) told is part.cause },
+        record { inputs = a.fit; needed = part.cause.0; zero_at = on-inputs (λ n. IsFaulty p n node block) told is part.cause.1 },
         given_before old.gave mid.gave new.gave _ a.only.gave given,
       ) (are-right new.files part.left) g.opened
       (part.created ∙ ap (raised_by (names_saved p)) a.opens.created) (f.out ∙ a.only.out)

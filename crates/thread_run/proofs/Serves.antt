@@ -1,7 +1,8 @@
 -- What a run of a graph leaves: feeds that are opened and given back, and files that are created, written and given back.
-use Rattle.std.proofs.Common.{◌≡◌, ℕ, ◌≤◌, Bool, List, [], refl, ap, sym, ◌∙◌, subst, arith, Option, Some, None, Result, Ok, Err, inl}
+use Rattle.std.proofs.Common.{◌≡◌, ℕ, ◌<◌, ◌≤◌, Bool, List, [], length, refl, ap, sym, ◌∙◌, subst, arith, Option, Some, None, Result, Ok, Err, inl, inr}
 use Rattle.std.specs.Prelude.{Contains, IfErr, IfOk, IsOk, IsTrue, OnOk}
-use Rattle.std.proofs.lemmas.Bool.{false≢true}
+use Rattle.std.proofs.lemmas.Bool.{cases_lt, false≢true}
+use Rattle.std.proofs.lemmas.List.{get_or_past}
 use Rattle.io_edge.specs.Cause.{Rose}
 use Rattle.io_edge.specs.declared.edge.OpenFault.{OpenFault}
 use Rattle.io_edge.specs.declared.edge.OpenFault.TheVariants as fault
@@ -20,13 +21,15 @@ use Rattle.job_run.specs.declared.ends.Ended.{Ended}
 use Rattle.job_run.specs.declared.ends.Ended.TheVariants.{Done, Limit, File, Zero, ReadFault, WriteFault, OutOfMemory}
 use Rattle.job_run.specs.Evaluating.{EvaluationCreates, HasLaws, LeavesAll}
 use Rattle.job_run.specs.Part.{AreLeft, IsNoneOf, RaisedAtMost}
-use Rattle.job_run.specs.Plan.{IsRunnable, Plan, name_at, names_saved}
+use Rattle.lowering_laws.specs.Lowered.{lowered}
+use Rattle.job_run.specs.Plan.{IsRunnable, Plan, name_at, names_saved, nodes_saved}
 use Rattle.job_run.specs.Values.{Named, files_of, tasks_of}
-use Rattle.job_run.specs.Wanted.{EndsAtKey, wanted_of}
+use Rattle.job_run.specs.Wanted.{EndsAtKey, IsBlockAt, wanted_of}
 use Rattle.job_run.proofs.Counting.{none_raised, raised_at_most}
 use Rattle.job_run.proofs.Running.{left_before, most_before}
 use Rattle.job_run.proofs.SavedKeys.{is-faulty}
 use Rattle.thread_run.specs.Counts.{repeated}
+use Rattle.thread_run.specs.Ends.{IsNeededBlock}
 use Rattle.thread_run.specs.Feeding.{OpensOften, TakesBack}
 use Rattle.thread_run.specs.Serving.{IsUnsaved, IsWhy, ServesAll, ServesFiles, ServesPart, Stops, StopsAt}
 use Rattle.thread_run.proofs.Agreed.{told_run}
@@ -270,13 +273,27 @@ all-between p named told old mid served new before after all = let P : Files × 
 
 -- ## A zero divisor
 
+-- the block that a key is, is needed
+needed-block : (p : Plan) (named : Named) (key node : ℕ) (block : List ℕ) → HasLaws p named → IsBlockAt p key node block → IsNeededBlock p node block
+needed-block p named key node block laws at = record { key = key; number = at.number; needed = record { within = within; name = at.name }; is_block = at.is_block }
+  where
+    nothing : {n : ℕ} {c : ℕ} → ◌≡◌ {A = Option (ℕ × ℕ)} None (Some (n, c)) → ⊥
+    nothing e = cc
+
+    within : key < length (tasks_of p)
+    within = elim (cases_lt key (length (tasks_of p))) [
+      | inl lt ↦ lt
+      | inr ge ↦ absurd (nothing (sym (get_or_past (lowered p.nodes (nodes_saved p)).names key None (omega (arith, ge, laws.names.number))) ∙ at.name))
+    ]
+
 -- the client was told of one
 pub zero-stops : (p : Plan) (named : Named) (told : Bool) (reads writes : Type 0) (wanted key : ℕ) (end : Ended) → IsRunnable p → HasLaws p named → EndsAtKey p key end → Contains (wanted_of p) wanted → BlameFits (label told named (tasks_of p)) wanted key →
     Stops p named (IsTrue told) reads writes end
 zero-stops p named told reads writes wanted key Done runs laws at has blamed = absurd at
 zero-stops p named told reads writes wanted key (Limit quantity) runs laws at has blamed = absurd at
 zero-stops p named told reads writes wanted key (File place error) runs laws at has blamed = absurd at
-zero-stops p named told reads writes wanted key (Zero node block) runs laws at has blamed = λ t. is-faulty p named wanted key node block runs laws at has (blamed.below t) (blamed.fault refl t)
+zero-stops p named told reads writes wanted key (Zero node block) runs laws at has blamed =
+    (needed-block p named key node block laws at, λ t. is-faulty p named wanted key node block runs laws at has (blamed.below t) (blamed.fault refl t))
 zero-stops p named told reads writes wanted key ReadFault runs laws at has blamed = absurd at
 zero-stops p named told reads writes wanted key WriteFault runs laws at has blamed = absurd at
 zero-stops p named told reads writes wanted key OutOfMemory runs laws at has blamed = tt

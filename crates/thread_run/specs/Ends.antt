@@ -14,7 +14,7 @@ use Rattle.job_run.specs.Inputs.{InputsFit}
 use Rattle.job_run.specs.Part.{IsNoneOf, RaisedAtMost}
 use Rattle.job_run.specs.Plan.{Plan, names_saved}
 use Rattle.job_run.specs.Runs.{AreRight, AreUntouched, IsFitGiven, IsSmall, Cause as RunCause, Saves as RunSaves, Created as RunCreated, StopsPrinting}
-use Rattle.job_run.specs.Values.{OnInputs, IsFaulty, MeetsNone, saved_lines}
+use Rattle.job_run.specs.Values.{OnInputs, IsFaulty, IsNeeded, MeetsNone, index_of, saved_lines}
 use Rattle.thread_run.specs.Counts.{RaisedBetween, feeds, repeated}
 use Rattle.thread_run.specs.Reports.{IsToldRun}
 use Rattle.thread_run.specs.declared.verdict.Told.{Told}
@@ -28,9 +28,17 @@ pub record HasValues (p : Plan) (files : Files) : Type 0 where
   pub inputs : InputsFit p files
   pub values : IsTrue files.tells → OnInputs p files (λ blocks. MeetsNone p (held_in blocks))
 
--- the inputs are as declared, and there this is a needed block at which a divisor is zero
+-- the block of a node at this index is needed
+pub record IsNeededBlock (p : Plan) (node : ℕ) (block : List ℕ) : Type 0 where
+  pub key : ℕ
+  pub number : ℕ
+  pub needed : IsNeeded p key node number
+  pub is_block : block ≡ index_of p node number
+
+-- the inputs are as declared, and this is a needed block, at which a divisor is zero there
 pub record HasFault (p : Plan) (files : Files) (node : ℕ) (block : List ℕ) : Type 0 where
   pub inputs : InputsFit p files
+  pub needed : IsNeededBlock p node block
   pub zero_at : IsTrue files.tells → OnInputs p files (λ blocks. IsFaulty p (held_in blocks) node block)
 
 -- a file wasn't created or written, or all values are there and a line wasn't printed
