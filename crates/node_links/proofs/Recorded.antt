@@ -1,12 +1,13 @@
 -- A book after one entry.
-use Rattle.std.proofs.Common.{◌≡◌, ◌⊎◌, ◌∙◌, sym, ap, subst, refl, inl, inr, ⊎_elim, ℕ, true, false, [], ◌∷◌, ◌++◌, Option, is_some}
+use Rattle.std.proofs.Common.{◌≡◌, ◌⊎◌, ◌∙◌, sym, ap, subst, refl, inl, inr, ⊎_elim, ℕ, ◌+◌, ◌^◌, ◌≤◌, Bool, true, false, List, [], ◌∷◌, ◌++◌, length, Option, is_some, arith}
 use Rattle.std.proofs.lemmas.Bool.{false≢true}
+use Rattle.std.proofs.lemmas.List.{length-append}
 use Rattle.cluster_msgs.specs.declared.events.Entry.{Entry}
 use Rattle.cluster_msgs.specs.declared.events.Event.{Event}
 use Rattle.cluster_msgs.specs.declared.messages.Message.{Message}
 use Rattle.turn_cell.specs.Histories.{Ascending}
 use Rattle.turn_cell.specs.Turns.{Went}
-use Rattle.node_links.specs.Books.{BookState, Logged, IsPushed, IsStored, IsLeftOut, IsLater, IsRecorded, IsEntered, IsNext, Steps, StepsBy}
+use Rattle.node_links.specs.Books.{BookState, Logged, IsPushed, IsStored, IsLeftOut, IsLater, IsRecorded, IsEntered, IsNext, IsRuled, Steps, StepsBy}
 
 -- what is stored leads to the core as it is until an entry is left out, and from then on to the same as before
 pub record Follows {C : Type 0} (x y : BookState C) : Type 0 where
@@ -56,26 +57,60 @@ next_is steps was kept core still old new e step next leads stays pushed = ⊎_e
     (λ (r : IsLater old new). subst (IsNext steps still) (sym r.cut_is) (subst (λ c. IsNext steps c old.cut) (sym (stays (ap is_some r.cut_is ∙ r.was_cut))) next)) q)
     pushed
 
--- what holds of each book, after one more entry
-pub ruled : {C : Type 0} (limited : ℕ → Type 0) (steps : C → Entry → C → Type 0) (was kept core still : C) (first old new : Logged) (e : Entry)
-    → limited first.limit × (is_some first.cut ≡ false → kept ≡ was) × IsNext steps kept first.cut
-    → old.cut ≡ first.cut → old.limit ≡ first.limit → new.limit ≡ old.limit → IsPushed old e new → steps was e core
-    → (is_some new.cut ≡ false → still ≡ core) → (is_some new.cut ≡ true → still ≡ kept)
-    → limited new.limit × (is_some new.cut ≡ false → still ≡ core) × IsNext steps still new.cut
-ruled limited steps was kept core still first old new e rule same limit_was limit_is pushed step is stays = (
-  subst limited (sym (limit_is ∙ limit_was)) rule.0,
-  is,
-  next_is steps was kept core still old new e step (subst (IsNext steps kept) (sym same) rule.2) (λ open_still. rule.1 (ap is_some (sym same) ∙ open_still)) stays pushed,
-)
+-- what is stored is no shorter, and longer by the entry where none is left out
+pub stored_more : (old new : Logged) (e : Entry) → IsPushed old e new
+    → (length old.entries ≤ length new.entries) × (is_some new.cut ≡ false → length new.entries ≡ length old.entries + 1)
+stored_more old new e pushed = ⊎_elim
+    (λ (p : IsStored old e new). let l = ap length p.entries_are ∙ length-append old.entries (e ∷ []) in (omega (arith, l), λ _. l))
+    (λ q. ⊎_elim
+    (λ (r : IsLeftOut old e new). let l = ap length r.entries_are in (omega (arith, l), λ open_still. absurd (false≢true (sym open_still ∙ ap is_some r.cut_is))))
+    (λ (r : IsLater old new). let l = ap length r.entries_are in (omega (arith, l), λ open_still. absurd (false≢true (sym open_still ∙ ap is_some r.cut_is ∙ r.was_cut)))) q)
+    pushed
 
--- the same, where the core stays as it is
-pub ruled_still : {C : Type 0} (limited : ℕ → Type 0) (steps : C → Entry → C → Type 0) (core kept : C) (first old new : Logged) (e : Entry)
-    → limited first.limit × (is_some first.cut ≡ false → kept ≡ core) × IsNext steps kept first.cut
-    → old.cut ≡ first.cut → old.limit ≡ first.limit → new.limit ≡ old.limit → IsPushed old e new → steps core e core
-    → limited new.limit × (is_some new.cut ≡ false → kept ≡ core) × IsNext steps kept new.cut
-ruled_still limited steps core kept first old new e rule same limit_was limit_is pushed step =
-    ruled limited steps core kept core kept first old new e rule same limit_was limit_is pushed step
-    (λ open_still. rule.1 (ap is_some (sym same) ∙ was_open old new e pushed open_still)) (λ _. refl)
+-- how many events were taken by the core that what is stored leads to
+few_more : {C : Type 0} (taken : C → ℕ) (kept still core was : C) (n m : ℕ) (cut : Bool) → taken kept ≤ n → taken core ≤ taken was + 1 → (cut ≡ false → kept ≡ was) → n ≤ m → (cut ≡ false → m ≡ n + 1)
+    → (cut ≡ false → still ≡ core) → (cut ≡ true → still ≡ kept) → taken still ≤ m
+few_more taken kept still core was n m true few one leads longer more is stays = let s = ap taken (stays refl) in omega (arith, s, few, longer)
+few_more taken kept still core was n m false few one leads longer more is stays =
+    let s = ap taken (is refl) in let w = ap taken (leads refl) in let l = more refl in omega (arith, s, w, l, few, one)
+
+module _ {C : Type 0} (limited : ℕ → Type 0) (steps : C → Entry → C → Type 0) (taken : C → ℕ) where
+  -- what holds of each book, after one more entry
+  pub ruled : (was kept core still : C) (was_spent spent : Bool) (first old new : Logged) (e : Entry) → IsRuled limited steps taken was kept was_spent first
+      → old.entries ≡ first.entries → old.cut ≡ first.cut → old.limit ≡ first.limit → new.limit ≡ old.limit → IsPushed old e new → steps was e core → taken core ≤ taken was + 1
+      → (is_some new.cut ≡ false → still ≡ core) → (is_some new.cut ≡ true → still ≡ kept) → (spent ≡ true → 2 ^ 40 ≤ taken core)
+      → IsRuled limited steps taken core still spent new
+  ruled was kept core still was_spent spent first old new e rule entries same limit_was limit_is pushed step one is stays full =
+      let long = stored_more old new e pushed in
+      let was_long : length old.entries ≡ length first.entries = ap length entries in
+      (
+        subst limited (sym (limit_is ∙ limit_was)) rule.0,
+        is,
+        next_is steps was kept core still old new e step (subst (IsNext steps kept) (sym same) rule.2) (λ open_still. rule.1 (ap is_some (sym same) ∙ open_still)) stays pushed,
+        few_more taken kept still core was (length old.entries) (length new.entries) (is_some new.cut) (subst (λ n. taken kept ≤ n) (sym was_long) rule.3) one
+        (λ open_still. rule.1 (ap is_some (sym same) ∙ was_open old new e pushed open_still)) long.0 long.1 is stays,
+        full,
+      )
+
+  -- the same, where the core stays as it is
+  pub ruled_still : (core kept : C) (spent : Bool) (first old new : Logged) (e : Entry) → IsRuled limited steps taken core kept spent first
+      → old.entries ≡ first.entries → old.cut ≡ first.cut → old.limit ≡ first.limit → new.limit ≡ old.limit → IsPushed old e new → steps core e core
+      → IsRuled limited steps taken core kept spent new
+  ruled_still core kept spent first old new e rule entries same limit_was limit_is pushed step =
+      ruled core kept core kept spent spent first old new e rule entries same limit_was limit_is pushed step (omega arith)
+      (λ open_still. rule.1 (ap is_some (sym same) ∙ was_open old new e pushed open_still)) (λ _. refl) rule.4
+
+  -- and without an entry
+  pub ruled_same : (core was kept : C) (was_spent spent : Bool) (old new : Logged) → IsRuled limited steps taken was kept was_spent old
+      → new.entries ≡ old.entries → new.cut ≡ old.cut → new.limit ≡ old.limit → core ≡ was → (spent ≡ true → 2 ^ 40 ≤ taken core)
+      → IsRuled limited steps taken core kept spent new
+  ruled_same core was kept was_spent spent old new rule entries same limit_is is full = (
+    subst limited (sym limit_is) rule.0,
+    λ open_still. rule.1 (ap is_some (sym same) ∙ open_still) ∙ sym is,
+    subst (IsNext steps kept) (sym same) rule.2,
+    subst (λ (es : List Entry). taken kept ≤ length es) (sym entries) rule.3,
+    full,
+  )
 
 -- the entry is the one that was to be added
 pub entered : {C : Type 0} (x y : BookState C) (old new : Logged) (n : ℕ) (event : Event) (message : Option Message)

@@ -1,5 +1,5 @@
 -- A history, and a core with its history.
-use Rattle.std.specs.Prelude.{◌≡◌, ℕ, ◌+◌, ◌*◌, ◌<◌, ◌≤◌, ◌⊎◌, Bool, true, false, List, [], ◌∷◌, ◌++◌, Option, Some, None, is_some, length}
+use Rattle.std.specs.Prelude.{◌≡◌, ℕ, ◌+◌, ◌*◌, ◌^◌, ◌<◌, ◌≤◌, ◌⊎◌, Bool, true, false, List, [], ◌∷◌, ◌++◌, Option, Some, None, is_some, length}
 use Rattle.cluster_msgs.specs.declared.events.Entry.{Entry}
 use Rattle.cluster_msgs.specs.declared.events.Event.{Event}
 use Rattle.cluster_msgs.specs.declared.messages.Message.{Message}
@@ -123,13 +123,20 @@ abbrev pub IsNext : {C : Type 0} → (C → Entry → C → Type 0) → C → Op
 IsNext steps c None = Unit {0}
 IsNext {C} steps c (Some e) = (d : C) × steps c e d
 
+-- What holds of each book: its history has a limit of this kind. Until an entry is left out the stored ones lead to the core, and the first that is left
+-- out is the step after them. The core that they lead to took no more events than there are entries, and one that is spent took 2^40.
+abbrev pub IsRuled : {C : Type 0} → (ℕ → Type 0) → (C → Entry → C → Type 0) → (C → ℕ) → C → C → Bool → Logged → Type 0
+IsRuled limited steps taken core kept spent l = limited l.limit × (is_some l.cut ≡ false → kept ≡ core) × IsNext steps kept l.cut
+    × (taken kept ≤ length l.entries) × (spent ≡ true → 2 ^ 40 ≤ taken core)
+
 -- the history of a book, with a limit of this kind: the first entry that was left out comes after the stored ones, and without one they lead to the core
-pub record IsLogOf {C : Type 0} (limited : ℕ → Type 0) (steps : C → Entry → C → Type 0) (b : BookState C) (l : Logged) : Type 0 where
+pub record IsLogOf {C : Type 0} (limited : ℕ → Type 0) (steps : C → Entry → C → Type 0) (taken : C → ℕ) (b : BookState C) (l : Logged) : Type 0 where
   pub entries_are : l.entries ≡ b.entries
   pub cut_is : is_some l.cut ≡ b.cut
   pub limit_is : limited l.limit
   pub next : IsNext steps b.kept l.cut
   pub last : b.cut ≡ false → b.kept ≡ b.core
+  pub few : taken b.kept ≤ length l.entries
 
 -- what an event, or none, makes of a core
 abbrev pub StepsBy : {C E : Type 0} → (C → E → C → Type 0) → Option E → C → C → Type 0

@@ -1,5 +1,5 @@
 -- What the closed nodes tell of a run.
-use Rattle.std.proofs.Common.{◌≡◌, ◌∙◌, ℕ, ◌+◌, ◌<◌, Bool, true, false, List, [], ◌∷◌, ◌++◌, map, length, get_or, sym, ap, subst, arith}
+use Rattle.std.proofs.Common.{◌≡◌, ◌∙◌, ℕ, ◌+◌, ◌<◌, ◌≤◌, Bool, true, false, List, [], ◌∷◌, ◌++◌, map, length, get_or, sym, ap, subst, arith}
 use Rattle.std.specs.Prelude.{Option, Some, None, IfOk, IfSome, is_some, Result, Ok, Err, Contains}
 use Rattle.std.proofs.lemmas.List.{length-map, get_or-map}
 use Rattle.cluster_msgs.specs.Labels.{LabelFacts, BlameFits}
@@ -34,40 +34,41 @@ next_step view inner steps first b es (Some e) same book next = (view next.0, su
     (replays_on steps first b.entries (view b.kept) (e ∷ []) (view next.0) book.replays (book.onward e next.0 next.1)))
 
 -- a book's log as a history
-pub taken_from : {C : Type 0} (limit : ℕ) (inner : C → Entry → C → Type 0) (b : BookState C) (l : Logged) (h : History) → IsLogOf (λ n. n ≡ limit) inner b l
-    → (h.entries ≡ l.entries) × (h.cut ≡ l.cut) → IsWithin l.limit h.entries h.cut → IsTakenFrom limit inner b h
-taken_from limit inner b l h log same within = record {
+pub taken_from : {C : Type 0} (limit : ℕ) (inner : C → Entry → C → Type 0) (taken : C → ℕ) (b : BookState C) (l : Logged) (h : History) → IsLogOf (λ n. n ≡ limit) inner taken b l
+    → (h.entries ≡ l.entries) × (h.cut ≡ l.cut) → IsWithin l.limit h.entries h.cut → IsTakenFrom limit inner taken b h
+taken_from limit inner taken b l h log same within = record {
   entries = same.0 ∙ log.entries_are;
   cut = ap is_some same.1 ∙ log.cut_is;
   next = subst (IsNext inner b.kept) (sym same.1) log.next;
   last = log.last;
+  few = subst (λ (es : List Entry). taken b.kept ≤ length es) (sym same.0) log.few;
   within = subst (λ n. IsWithin n h.entries h.cut) log.limit_is within;
 }
 
 -- a history that was taken from a closed node's book
-pub history_is : {C F : Type 0} (limit : ℕ) (view : C → F) (inner : C → Entry → C → Type 0) (steps : F → Entry → F → Type 0) (first : F) (b : BookState C) (h : History)
-    → IsBookOf view inner steps first b → IsTakenFrom limit inner b h → IsHistory limit steps first (view b.core) h
-history_is limit view inner steps first b h book taken = record {
-  replays = λ none. subst (λ es. Replays steps first es (view b.core)) (sym taken.entries)
-      (subst (λ c. Replays steps first b.entries (view c)) (taken.last (sym taken.cut ∙ ap is_some none)) book.replays);
-  next = next_step view inner steps first b h.entries h.cut taken.entries book taken.next;
-  ascending = subst Ascending (sym taken.entries) book.ascending;
-  within = taken.within;
+pub history_is : {C F : Type 0} (limit : ℕ) (view : C → F) (inner : C → Entry → C → Type 0) (taken : C → ℕ) (steps : F → Entry → F → Type 0) (first : F) (b : BookState C) (h : History)
+    → IsBookOf view inner steps first b → IsTakenFrom limit inner taken b h → IsHistory limit steps first (view b.core) h
+history_is limit view inner taken steps first b h book from = record {
+  replays = λ none. subst (λ es. Replays steps first es (view b.core)) (sym from.entries)
+      (subst (λ c. Replays steps first b.entries (view c)) (from.last (sym from.cut ∙ ap is_some none)) book.replays);
+  next = next_step view inner steps first b h.entries h.cut from.entries book from.next;
+  ascending = subst Ascending (sym from.entries) book.ascending;
+  within = from.within;
 }
 
 module _ {B : Type 0} (l : LabelFacts B) (graph : Shape) (p : RunPlan) where
   -- the histories of the workers, by number
-  pub workers_are : {W C : Type 0} (book : W → BookState C) (number : C → ℕ) (core : C → WorkerFacts) (ws : List W) (hs : List History)
+  pub workers_are : {W C : Type 0} (book : W → BookState C) (number : C → ℕ) (core : C → WorkerFacts) (taken : C → ℕ) (ws : List W) (hs : List History)
       → ((k : ℕ) (w : W) → k < length ws → IsWorkersBook l graph p.threads (k + 1) number core (book (get_or ws k w)))
-      → AllBy (λ k w h. IsFromWorker l number core (book w) h) ws hs
+      → AllBy (λ k w h. IsFromWorker l number core taken (book w) h) ws hs
       → AllBy (λ k w x. IsHistory node_bytes (WorkerSteps l (k + 1)) (new_worker graph (k + 1) p.threads) w x) (map (λ w. core (book w).core) ws) hs
-  workers_are book number core [] hs books taken = record { long = taken.long; each = λ k a b less. absurd (omega (arith, taken.long)) }
-  workers_are book number core (w ∷ ws) hs books taken = record {
-    long = taken.long ∙ sym (length-map (w ∷ ws) (λ v. core (book v).core));
-    each = λ k a b less. let short : k < length (w ∷ ws) = omega (arith, taken.long) in
+  workers_are book number core taken [] hs books from = record { long = from.long; each = λ k a b less. absurd (omega (arith, from.long)) }
+  workers_are book number core taken (w ∷ ws) hs books from = record {
+    long = from.long ∙ sym (length-map (w ∷ ws) (λ v. core (book v).core));
+    each = λ k a b less. let short : k < length (w ∷ ws) = omega (arith, from.long) in
         subst (λ v. IsHistory node_bytes (WorkerSteps l (k + 1)) (new_worker graph (k + 1) p.threads) v (get_or hs k b)) (sym (get_or-map (λ v. core (book v).core) (w ∷ ws) k w a short))
-        (history_is node_bytes core (WorkerCoreSteps l number core) (WorkerSteps l (k + 1)) (new_worker graph (k + 1) p.threads) (book (get_or (w ∷ ws) k w)) (get_or hs k b)
-        (books k w short).book (taken.each k w b less));
+        (history_is node_bytes core (WorkerCoreSteps l number core) taken (WorkerSteps l (k + 1)) (new_worker graph (k + 1) p.threads) (book (get_or (w ∷ ws) k w)) (get_or hs k b)
+        (books k w short).book (from.each k w b less));
   }
 
   -- the scheduler's entries come in time
@@ -82,13 +83,13 @@ module _ {B : Type 0} (l : LabelFacts B) (graph : Shape) (p : RunPlan) where
       (subst (λ q. AreInTime q (start_of (facts b.core.core).setting) b.entries) (ap (λ (c : SchedState). c.plan) same ∙ book.plan_is) (timed open_still)))
 
   -- why the workers left, by their histories
-  pub left_is : {W C : Type 0} (limit : ℕ) (inner : C → Entry → C → Type 0) (f : Facts) (book : W → BookState C) (ws : List W) (hs : List History) (left : List (Option Why))
+  pub left_is : {W C : Type 0} (limit : ℕ) (inner : C → Entry → C → Type 0) (taken : C → ℕ) (f : Facts) (book : W → BookState C) (ws : List W) (hs : List History) (left : List (Option Why))
       → AllBy (λ k w o. IfSome o (IsLeft p f (k + 1) (book w).entries (book w).cut)) ws left
-      → AllBy (λ k w h. IsTakenFrom limit inner (book w) h) ws hs
+      → AllBy (λ k w h. IsTakenFrom limit inner taken (book w) h) ws hs
       → AllBy (λ k h o. IfSome o (IsLeft p f (k + 1) h.entries (is_some h.cut))) hs left
-  left_is limit inner f book ws hs left rows taken = all_by_through (λ k w o. IfSome o (IsLeft p f (k + 1) (book w).entries (book w).cut)) (λ w h. IsTakenFrom limit inner (book w) h)
+  left_is limit inner taken f book ws hs left rows from = all_by_through (λ k w o. IfSome o (IsLeft p f (k + 1) (book w).entries (book w).cut)) (λ w h. IsTakenFrom limit inner taken (book w) h)
       (λ k h o. IfSome o (IsLeft p f (k + 1) h.entries (is_some h.cut))) ws hs left
-      (λ k w h o row from. subst (λ (z : List Entry × Bool). IfSome o (IsLeft p f (k + 1) z.0 z.1)) (λ j. (sym from.entries j, sym from.cut j)) row) rows taken
+      (λ k w h o row own. subst (λ (z : List Entry × Bool). IfSome o (IsLeft p f (k + 1) z.0 z.1)) (λ j. (sym own.entries j, sym own.cut j)) row) rows from
 
 -- the cause of there being no blocks
 pub cause_is : {A B : Type 0} (l : LabelFacts B) (wanted : List ℕ) (f : Facts) (left : List (Option Why)) (blame : Option ℕ) (r : Result A RunStatus)
@@ -100,25 +101,25 @@ cause_is l wanted f left blame (Err Memory) is some = tt
 
 -- how a run ended, by the closed nodes and what was taken from them
 pub has_run : {B W C D A : Type 0} (l : LabelFacts B) (graph : Shape) (p : RunPlan) (wanted : List ℕ) (b : BookState SchedState)
-    (book : W → BookState C) (number : C → ℕ) (core : C → WorkerFacts) (ws : List W) (d : BookState D) (name : D → ℕ) (client : D → ClientFacts) (h : Histories) (left : List (Option Why))
+    (book : W → BookState C) (number : C → ℕ) (core : C → WorkerFacts) (taken : C → ℕ) (ws : List W) (d : BookState D) (name : D → ℕ) (client : D → ClientFacts) (asked : D → ℕ) (h : Histories) (left : List (Option Why))
     (blame : Option ℕ) (r : Result A RunStatus)
     → IsSchedulersBook l graph p b
     → ((k : ℕ) (w : W) → k < length ws → IsWorkersBook l graph p.threads (k + 1) number core (book (get_or ws k w)))
     → IsClientsBook l graph name client d
-    → IsFromScheduler l b h.scheduler → AllBy (λ k w x. IsFromWorker l number core (book w) x) ws h.workers.items → IsFromClient l name client d h.client
+    → IsFromScheduler l b h.scheduler → AllBy (λ k w x. IsFromWorker l number core taken (book w) x) ws h.workers.items → IsFromClient l name client asked d h.client
     → (b.cut ≡ false → AreInTime b.core.plan (start_of (facts b.core.core).setting) b.entries)
     → AllBy (λ k w o. IfSome o (IsLeft p (facts b.core.core) (k + 1) (book w).entries (book w).cut)) ws left
     → IfOk r (λ x. HasGot (client d.core) d.entries d.cut wanted)
     → IfStatus (IsBlamed blame) r → IfSome blame (λ b. (k : ℕ) × Contains wanted k × BlameFits l k b)
     → HasRun l graph p wanted ⊥ (last_facts (facts b.core.core) (map (λ w. core (book w).core) ws) (client d.core)) r left h
-has_run l graph p wanted b book number core ws d name client h left blame r scheduler workers clients of_scheduler of_workers of_client timed rows gets blamed some = record {
+has_run l graph p wanted b book number core taken ws d name client asked h left blame r scheduler workers clients of_scheduler of_workers of_client timed rows gets blamed some = record {
   histories = record {
-    scheduler = history_is scheduler_bytes (λ c. facts c.core) (SchedCoreSteps l) (SchedSteps l) (sched_opening (setting_of graph p)) b h.scheduler scheduler.book of_scheduler;
-    workers = workers_are l graph p book number core ws h.workers.items workers of_workers;
-    client = history_is node_bytes client (ClientCoreSteps l name client) (ClientSteps l) (new_client graph) d h.client clients.book of_client;
+    scheduler = history_is scheduler_bytes (λ c. facts c.core) (SchedCoreSteps l) (λ s. s.core.taken) (SchedSteps l) (sched_opening (setting_of graph p)) b h.scheduler scheduler.book of_scheduler;
+    workers = workers_are l graph p book number core taken ws h.workers.items workers of_workers;
+    client = history_is node_bytes client (ClientCoreSteps l name client) asked (ClientSteps l) (new_client graph) d h.client clients.book of_client;
     in_time = in_time_is l graph p b h.scheduler scheduler of_scheduler timed;
   };
-  left_are = left_is l graph p node_bytes (WorkerCoreSteps l number core) (facts b.core.core) book ws h.workers.items left rows of_workers;
+  left_are = left_is l graph p node_bytes (WorkerCoreSteps l number core) taken (facts b.core.core) book ws h.workers.items left rows of_workers;
   got = subst (λ (z : List Entry × Bool). IfOk r (λ x. HasGot (client d.core) z.0 z.1 wanted)) (λ j. (sym of_client.entries j, sym of_client.cut j)) gets;
   cause = cause_is l wanted (facts b.core.core) left blame r blamed some;
 }

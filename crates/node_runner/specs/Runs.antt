@@ -1,5 +1,5 @@
 -- How a run by threads ended.
-use Rattle.std.specs.Prelude.{◌≡◌, ◌≢◌, ℕ, ◌+◌, ◌<◌, ◌≤◌, ◌⊎◌, Bool, true, false, List, [], ◌∷◌, ◌++◌, map, sum, slice_index_or, Option, Some, None, All, IfOk, IfSome, is_some, Result, Ok, Err, Contains}
+use Rattle.std.specs.Prelude.{◌≡◌, ◌≢◌, ℕ, ◌+◌, ◌<◌, ◌≤◌, ◌⊎◌, Bool, true, false, List, [], ◌∷◌, ◌++◌, length, map, sum, slice_index_or, Option, Some, None, All, IfOk, IfSome, is_some, Result, Ok, Err, Contains}
 use Rattle.cluster_msgs.specs.Shape.{Shape}
 use Rattle.cluster_msgs.specs.Labels.{LabelFacts, BlameFits}
 use Rattle.cluster_msgs.specs.declared.events.Entry.{Entry}
@@ -108,23 +108,25 @@ pub record IsClientsBook {B C : Type 0} (l : LabelFacts B) (graph : Shape) (numb
   pub book : IsBookOf core (ClientCoreSteps l number core) (ClientSteps l) (new_client graph) b
   pub fits : ClientFits l (core b.core)
 
--- the history as it was taken from a book with this limit: the first entry that was left out is a step of the core that is kept, which without one is the core
-pub record IsTakenFrom {C : Type 0} (limit : ℕ) (inner : C → Entry → C → Type 0) (b : BookState C) (h : History) : Type 0 where
+-- the history as it was taken from a book with this limit: the first entry that was left out is a step of the core that is kept, which without one is
+-- the core, and which took no more events than there are entries
+pub record IsTakenFrom {C : Type 0} (limit : ℕ) (inner : C → Entry → C → Type 0) (taken : C → ℕ) (b : BookState C) (h : History) : Type 0 where
   pub entries : h.entries ≡ b.entries
   pub cut : is_some h.cut ≡ b.cut
   pub next : IsNext inner b.kept h.cut
   pub last : b.cut ≡ false → b.kept ≡ b.core
+  pub few : taken b.kept ≤ length h.entries
   pub within : IsWithin limit h.entries h.cut
 
 -- the scheduler's, a worker's and the client's
 abbrev pub IsFromScheduler : {B : Type 0} → LabelFacts B → BookState SchedState → History → Type 0
-IsFromScheduler l = IsTakenFrom scheduler_bytes (SchedCoreSteps l)
+IsFromScheduler l = IsTakenFrom scheduler_bytes (SchedCoreSteps l) (λ s. s.core.taken)
 
-abbrev pub IsFromWorker : {B C : Type 0} → LabelFacts B → (C → ℕ) → (C → WorkerFacts) → BookState C → History → Type 0
-IsFromWorker l number core = IsTakenFrom node_bytes (WorkerCoreSteps l number core)
+abbrev pub IsFromWorker : {B C : Type 0} → LabelFacts B → (C → ℕ) → (C → WorkerFacts) → (C → ℕ) → BookState C → History → Type 0
+IsFromWorker l number core taken = IsTakenFrom node_bytes (WorkerCoreSteps l number core) taken
 
-abbrev pub IsFromClient : {B C : Type 0} → LabelFacts B → (C → ℕ) → (C → ClientFacts) → BookState C → History → Type 0
-IsFromClient l number core = IsTakenFrom node_bytes (ClientCoreSteps l number core)
+abbrev pub IsFromClient : {B C : Type 0} → LabelFacts B → (C → ℕ) → (C → ClientFacts) → (C → ℕ) → BookState C → History → Type 0
+IsFromClient l number core taken = IsTakenFrom node_bytes (ClientCoreSteps l number core) taken
 
 -- what the nodes know at the end: the scheduler, each worker by its number, from 1, and the client
 pub record LastFacts : Type 0 where

@@ -95,7 +95,7 @@ fn client_history<B: Drop, L: Label<Block = B>, Z: Sink<B, L>>(
     client: ClientNode<B, L>,
     sink: &mut Z,
 ) -> History
-    ensures taken { IsFromClient L.facts (λ c. c.id) (λ c. client_facts c.core) client.book result }
+    ensures taken { IsFromClient L.facts (λ c. c.id) (λ c. client_facts c.core) (λ c. c.core.events) client.book result }
     ensures leads { Z.leads sink.old sink.new }
 {
     let (book, came) = client.into_parts();
@@ -106,7 +106,7 @@ fn client_history<B: Drop, L: Label<Block = B>, Z: Sink<B, L>>(
 /// The history of a closed client's book.
 #[tactic(auto, using(crate::proofs::Ending::taken_from))]
 fn history_of<L: Label>(book: Book<GatheringCore<L>>) -> History
-    ensures { IsFromClient L.facts (λ c. c.id) (λ c. client_facts c.core) book result }
+    ensures { IsFromClient L.facts (λ c. c.id) (λ c. client_facts c.core) (λ c. c.core.events) book result }
 {
     book.into_log().into_history()
 }

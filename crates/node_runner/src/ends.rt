@@ -238,7 +238,7 @@ pub fn take_apart<B: Drop, L: Label<Block = B>, F: Drop, S: BlockStore<B, L>>(
     alloc: Global,
     workers: Vec<WorkerNode<B, L, F, S>>,
 ) -> (Option<Vec<History>>, Vec<F>, Vec<S>)
-    ensures { IfSome result.0 (λ histories. AllBy (λ k w h. IsFromWorker L.facts (λ c. c.id) (λ c. worker_facts c.core) w.history.book h)
+    ensures { IfSome result.0 (λ histories. AllBy (λ k w h. IsFromWorker L.facts (λ c. c.id) (λ c. worker_facts c.core) (λ c. c.core.events) w.history.book h)
         workers.items histories.items) }
 {
     let mut histories = Vec::new(alloc);
@@ -260,7 +260,7 @@ pub fn take_apart<B: Drop, L: Label<Block = B>, F: Drop, S: BlockStore<B, L>>(
 fn apart<B: Drop, L: Label<Block = B>, F: Drop, S: BlockStore<B, L>>(
     worker: WorkerNode<B, L, F, S>,
 ) -> (History, Feeds<F>, S)
-    ensures { IsFromWorker L.facts (λ c. c.id) (λ c. worker_facts c.core) worker.history.book result.0 }
+    ensures { IsFromWorker L.facts (λ c. c.id) (λ c. worker_facts c.core) (λ c. c.core.events) worker.history.book result.0 }
 {
     let (log, own, store) = worker.into_parts();
     (log.into_history(), own, store)

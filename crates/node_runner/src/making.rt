@@ -214,6 +214,7 @@ fn scheduling_core<L: Label>(
     requires saturation { (1 ≤ plan.now.saturation) × (plan.now.saturation ≤ 1000) }
     ensures first { IfOk result (λ c. IsFirstScheduler graph.now plan.now c) }
     ensures opening { IfOk result (λ c. IsOpening (facts c.core)) }
+    ensures none { IfOk result (λ c. c.core.taken ≡ 0) }
     ensures fits { IfOk result (λ c. SchedFits L.facts (facts c.core)) }
 {
     let shape = graph.copy()?;
@@ -281,6 +282,7 @@ fn gathering_core<L: Label>(
     graph: &GraphShape,
 ) -> Result<GatheringCore<L>, AllocError>
     ensures first { IfOk result (λ c. IsFirstClient graph.now c.id (client_facts c.core)) }
+    ensures none { IfOk result (λ c. c.core.events ≡ 0) }
     ensures fits { IfOk result (λ c. ClientFits L.facts (client_facts c.core)) }
 {
     let core = ClientCore::new(alloc, graph.copy()?)?;
@@ -404,7 +406,8 @@ fn working_core<L: Label>(
     id: u32,
     threads: u32,
 ) -> Result<WorkingCore<L>, AllocError>
-    ensures { IfOk result (λ c. IsFirstWorker graph.now threads id c.id (worker_facts c.core)) }
+    ensures first { IfOk result (λ c. IsFirstWorker graph.now threads id c.id (worker_facts c.core)) }
+    ensures none { IfOk result (λ c. c.core.events ≡ 0) }
 {
     let core = WorkerCore::new(alloc, id, threads, graph.copy()?)?;
     Ok(WorkingCore::new(alloc, id, core))

@@ -73,6 +73,7 @@ impl<B: Drop, L: Label<Block = B>> ClientNode<B, L> {
         workers: Vec<Port<B, L>>,
         sent: Tally,
     ) -> Result<Self, AllocError>
+        requires none { core.core.events ≡ 0 }
         ensures core { IfOk result (λ node. node.book.core ≡ core) }
         ensures kept { IfOk result (λ node. node.book.kept ≡ core) }
         ensures entries { IfOk result (λ node. (node.book.entries ≡ []) × (node.book.cut ≡ false)) }
@@ -615,6 +616,7 @@ fn begin<L: Label>(
     alloc: Global,
     core: GatheringCore<L>,
 ) -> Result<(Book<GatheringCore<L>>, Marks), AllocError>
+    requires none { core.core.events ≡ 0 }
     ensures core { IfOk result (λ begun. begun.0.core ≡ core) }
     ensures kept { IfOk result (λ begun. begun.0.kept ≡ core) }
     ensures entries { IfOk result (λ begun. (begun.0.entries ≡ []) × (begun.0.cut ≡ false)) }

@@ -89,6 +89,8 @@ impl<L: Label> Machine for SchedulingCore<L> {
 
     ghost by = { λ s e t. (t.plan ≡ s.plan) × SchedBy (facts s.core) e (facts t.core) × SchedEventFits L.facts e };
 
+    ghost taken = { λ s. s.core.taken };
+
     ghost limited = { λ n. n ≡ scheduler_bytes };
 
     #[tactic(auto, using(crate::proofs::SchedLaw::sched_fits, crate::proofs::SchedLaw::made_fits))]
@@ -154,6 +156,8 @@ impl<L: Label> Machine for WorkingCore<L> {
 
     ghost by = { λ s e t. (t.id ≡ s.id) × WorkerBy (worker_facts s.core) e (worker_facts t.core) × WorkerEventFits L.facts e };
 
+    ghost taken = { λ s. s.core.events };
+
     ghost limited = { λ n. n ≡ node_bytes };
 
     #[tactic(auto, using(crate::proofs::WorkerLaw::out_fits))]
@@ -206,6 +210,8 @@ impl<L: Label> Machine for GatheringCore<L> {
     ghost says = { λ s. ClientSays s.id (client_facts s.core) };
 
     ghost by = { λ s e t. (t.id ≡ s.id) × ClientBy (client_facts s.core) e (client_facts t.core) × ClientEventFits L.facts e };
+
+    ghost taken = { λ s. s.core.events };
 
     ghost limited = { λ n. n ≡ node_bytes };
 

@@ -1,5 +1,5 @@
 //! The scheduler's core with its history, whose entries come in their order.
-ghost use Rattle.std.specs.Prelude.{◌≡◌, ℕ, [], true, false, IfOk, IfSome, OnErr, length};
+ghost use Rattle.std.specs.Prelude.{◌≡◌, ◌≤◌, ◌^◌, ℕ, [], true, false, IfOk, IfSome, OnErr, length};
 ghost use Rattle.cluster_msgs.specs.declared.events.Event.TheVariants as kind;
 ghost use Rattle.scheduler_core.specs.Cores.{facts};
 ghost use Rattle.node_links.specs.Books.{IsLogOf, IsRecorded, Steps};
@@ -45,6 +45,7 @@ impl<L: Label> SchedulerHistory<L> {
         workers: usize,
     ) -> Result<Self, AllocError>
         requires opening { IsOpening (facts core.core) }
+        requires none { core.core.taken ≡ 0 }
         ensures core { IfOk result (λ h. h.book.core ≡ core) }
         ensures kept { IfOk result (λ h. h.book.kept ≡ core) }
         ensures entries { IfOk result (λ h. (h.book.entries ≡ []) × (h.book.cut ≡ false)) }
@@ -58,6 +59,13 @@ impl<L: Label> SchedulerHistory<L> {
         ensures { IfSome result (λ c. c.now ≡ self.now.book.core) }
     {
         self.book.core()
+    }
+
+    /// Whether an event wasn't taken since the core has taken all that it takes.
+    pub fn is_spent(&self) -> bool
+        ensures { result ≡ true → 2 ^ 40 ≤ self.now.book.core.core.taken }
+    {
+        self.book.is_spent()
     }
 
     /// How many entries were made, those past the limit too.
@@ -119,7 +127,8 @@ impl<L: Label> SchedulerHistory<L> {
     /// The history without the core.
     pub fn into_log(self) -> Log
         ensures {
-            IsLogOf ⟦<SchedulingCore<L> as Machine>⟧.limited (Steps ⟦<SchedulingCore<L> as Machine>⟧.says ⟦<SchedulingCore<L> as Machine>⟧.by) self.book result
+            IsLogOf ⟦<SchedulingCore<L> as Machine>⟧.limited (Steps ⟦<SchedulingCore<L> as Machine>⟧.says ⟦<SchedulingCore<L> as Machine>⟧.by)
+            ⟦<SchedulingCore<L> as Machine>⟧.taken self.book result
         }
     {
         let SchedulerHistory { book, gone } = self;
@@ -136,6 +145,7 @@ fn begin<C: Machine>(
     workers: usize,
 ) -> Result<(Book<C>, Vec<bool>), AllocError>
     requires limit { C.limited limit }
+    requires none { C.taken core ≡ 0 }
     ensures core { IfOk result (λ p. p.0.core ≡ core) }
     ensures kept { IfOk result (λ p. p.0.kept ≡ core) }
     ensures entries { IfOk result (λ p. (p.0.entries ≡ []) × (p.0.cut ≡ false)) }

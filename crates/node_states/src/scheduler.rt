@@ -61,6 +61,7 @@ impl<B: Drop, L: Label<Block = B>> SchedulerNode<B, L> {
         links: SchedulerLinks<B, L>,
     ) -> Result<Self, AllocError>
         requires opening { IsOpening (facts core.core) }
+        requires none { core.core.taken ≡ 0 }
         ensures core { IfOk result (λ node. node.history.book.core ≡ core) }
         ensures kept { IfOk result (λ node. node.history.book.kept ≡ core) }
         ensures entries { IfOk result (λ node. (node.history.book.entries ≡ []) × (node.history.book.cut ≡ false)) }

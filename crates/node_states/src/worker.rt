@@ -83,7 +83,8 @@ impl<B: Drop, L: Label<Block = B>, F: Drop, S: BlockStore<B, L>> WorkerNode<B, L
         links: WorkerLinks<B, L>,
         ending: Option<Why>,
     ) -> Result<Self, (Feeds<F>, S)>
-        requires { (k : ℕ) → (facts core.core).mem k ≡ false }
+        requires empty { (k : ℕ) → (facts core.core).mem k ≡ false }
+        requires none { core.core.events ≡ 0 }
         ensures core { IfOk result (λ node. (node.history.book.core ≡ core) × (node.history.id ≡ core.id)) }
         ensures kept { IfOk result (λ node. node.history.book.kept ≡ core) }
         ensures entries { IfOk result (λ node. (node.history.book.entries ≡ []) × (node.history.book.cut ≡ false)) }
@@ -164,7 +165,8 @@ impl<B: Drop, L: Label<Block = B>, F: Drop, S: BlockStore<B, L>> WorkerNode<B, L
     /// Its history, its feeds and its store.
     pub fn into_parts(self) -> (Log, Feeds<F>, S)
         ensures log {
-            IsLogOf ⟦<WorkingCore<L> as Machine>⟧.limited (Steps ⟦<WorkingCore<L> as Machine>⟧.says ⟦<WorkingCore<L> as Machine>⟧.by) self.history.book result.0
+            IsLogOf ⟦<WorkingCore<L> as Machine>⟧.limited (Steps ⟦<WorkingCore<L> as Machine>⟧.says ⟦<WorkingCore<L> as Machine>⟧.by)
+            ⟦<WorkingCore<L> as Machine>⟧.taken self.history.book result.0
         }
         ensures feeds { result.1 ≡ self.feeds }
         ensures store { result.2 ≡ self.store }

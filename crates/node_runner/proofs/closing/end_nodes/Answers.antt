@@ -17,12 +17,12 @@ returns-clause-ended g c =
     if_told _ _ es.histories c.ends_of-ends.ensures.told (λ h e.
     let t = subst (λ o. IfSome o (λ t. (t.histories.scheduler ≡ c.scheduler_history-scheduler.result) × (c.take_apart-workers.result.0 ≡ Some t.histories.workers)
     × (t.histories.client ≡ c.client_history-client.result) × (c.all_left-left.result ≡ Ok t.left))) e.0 c.all_told-told.ensures in
-    has_run g.L.Label.facts c.args._graph.now p c.args.wanted.now b (λ w. w.history.book) (λ k. k.id) (λ k. worker_facts k.core) c.args.workers.items
-    c.args.client.book (λ k. k.id) (λ k. client_facts k.core) h es.left.items c.first_blame-blame.result es.result
+    has_run g.L.Label.facts c.args._graph.now p c.args.wanted.now b (λ w. w.history.book) (λ k. k.id) (λ k. worker_facts k.core) (λ k. k.core.events) c.args.workers.items
+    c.args.client.book (λ k. k.id) (λ k. client_facts k.core) (λ k. k.core.events) h es.left.items c.first_blame-blame.result es.result
     c.requires.scheduler (λ k w less. c.requires.workers k w (omega (arith, less, c.args.workers.ok.0))) c.requires.client
     (subst (IsFromScheduler g.L.Label.facts b) (sym t.0) c.scheduler_history-scheduler.ensures.taken)
-    (subst (λ o. IfSome o (λ hs. AllBy (λ k w x. IsFromWorker g.L.Label.facts (λ c. c.id) (λ c. worker_facts c.core) w.history.book x) c.args.workers.items hs.items)) t.1 c.take_apart-workers.ensures)
-    (subst (IsFromClient g.L.Label.facts (λ c. c.id) (λ c. client_facts c.core) c.args.client.book) (sym t.2) c.client_history-client.ensures.taken)
+    (subst (λ o. IfSome o (λ hs. AllBy (λ k w x. IsFromWorker g.L.Label.facts (λ c. c.id) (λ c. worker_facts c.core) (λ c. c.core.events) w.history.book x) c.args.workers.items hs.items)) t.1 c.take_apart-workers.ensures)
+    (subst (IsFromClient g.L.Label.facts (λ c. c.id) (λ c. client_facts c.core) (λ c. c.core.events) c.args.client.book) (sym t.2) c.client_history-client.ensures.taken)
     c.scheduler_history-scheduler.ensures.in_time
     (subst (λ ws. AllBy (λ k w o. IfSome o (IsLeft p (facts b.core.core) (k + 1) w.history.book.entries w.history.book.cut)) ws es.left.items) c.as_slice-3.ensures.value
     (subst (λ r. IfOk r (λ left. AllBy (λ k w o. IfSome o (IsLeft p (facts b.core.core) (k + 1) w.history.book.entries w.history.book.cut)) c.as_slice-3.result.now left.items)) t.3 c.all_left-left.ensures))

@@ -1,5 +1,5 @@
-use Rattle.std.proofs.Common.{◌≡◌, ◌∙◌, sym, ap, subst, refl, Some, cond, true, false, is_some}
-use Rattle.std.proofs.lemmas.Bool.{cond-false, cond-true}
+use Rattle.std.proofs.Common.{◌≡◌, ◌∙◌, sym, ap, subst, refl, arith, Some, cond, true, false, is_some}
+use Rattle.std.proofs.lemmas.Bool.{cond-false, cond-true, false≢true}
 use Rattle.cluster_msgs.specs.declared.events.Entry.{Entry}
 use Rattle.node_links.specs.Books.{BookState, Steps}
 use Rattle.node_links.proofs.Recorded.{recorded, entered, ruled}
@@ -52,12 +52,16 @@ invariant_of-self g c =
     let is : core ≡ t.core = cond-false t.failed t.before.value t.core ok.0 in
     let e : Entry = record { stamp = c.in_ok-stamp.stamp; event = c.args.event; message = c.args.message } in
     let kept : c.follow.new.kept.value ≡ cond (is_some new.cut) i.kept.value t.core = c.follow.ensures ∙ ap (λ b. cond b i.kept.value t.core) c.is_cut.ensures in
-    ruled g.C.Machine.limited (Steps g.C.Machine.says g.C.Machine.by) known i.kept.value core c.follow.new.kept.value i.log c.reserve.new.self new e
-    c.self.invariant r.1 r.2 c.push.ensures.limit c.push.ensures.pushed
+    let count = c.in_ok-take_event.ensures.counted in
+    let before = ap g.C.Machine.taken was in let after = ap g.C.Machine.taken is in
+    ruled g.C.Machine.limited (Steps g.C.Machine.says g.C.Machine.by) g.C.Machine.taken known i.kept.value core c.follow.new.kept.value i.spent c.take_event.new.spent i.log c.reserve.new.self new e
+    c.self.invariant r.0 r.1 r.2 c.push.ensures.limit c.push.ensures.pushed
     (
       Some c.args.said,
       subst (λ k. g.C.Machine.says k e.event e.message (Some c.args.said)) (ap (λ b. b.core) (sym c.self.view_is)) c.requires.says,
       subst (g.C.Machine.by known c.args.said) (sym is) (subst (λ z. g.C.Machine.by z c.args.said t.core) (sym was) ok.1),
     )
+    (omega (arith, count.1, before, after))
     (λ open_still. kept ∙ cond-false (is_some new.cut) i.kept.value t.core open_still ∙ sym is)
     (λ cut. kept ∙ cond-true (is_some new.cut) i.kept.value t.core cut)
+    (λ full. absurd (false≢true (sym count.0 ∙ full)))

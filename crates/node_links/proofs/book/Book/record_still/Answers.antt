@@ -27,6 +27,6 @@ pub invariant_of-self : goal.invariant_of-self
 invariant_of-self g c =
     let i = c.self.inside in let core = cond i.failed i.before.value i.core in let r = c.reserve.ensures.entries in
     let e : Entry = record { stamp = c.in_ok-stamp.stamp; event = c.args.event; message = c.args.message } in
-    ruled_still g.C.Machine.limited (Steps g.C.Machine.says g.C.Machine.by) core i.kept.value i.log c.reserve.new.self c.push.new.self e
-    c.self.invariant r.1 r.2 c.push.ensures.limit c.push.ensures.pushed
+    ruled_still g.C.Machine.limited (Steps g.C.Machine.says g.C.Machine.by) g.C.Machine.taken core i.kept.value i.spent i.log c.reserve.new.self c.push.new.self e
+    c.self.invariant r.0 r.1 r.2 c.push.ensures.limit c.push.ensures.pushed
     (None, subst (λ k. g.C.Machine.says k e.event e.message None) (ap (λ b. b.core) (sym c.self.view_is)) c.requires.says, refl)
