@@ -5,10 +5,10 @@ ghost use Rattle.gather_client.specs.CoreState.{client_facts};
 ghost use Rattle.scheduler_core.specs.Cores.{facts};
 ghost use Rattle.worker_core.specs.Core.{facts as worker_facts};
 ghost use Rattle.node_states.specs.Order.{AreInTime, start_of};
-ghost use Rattle.node_runner.specs.Runs.{HasRun, HasNotRun, IsGivenUp, IsFromScheduler, IsFromClient, IsSchedulersBook, IsWorkersBook, IsClientsBook, IfStatus, IsBlamed, last_facts};
+ghost use Rattle.node_runner.specs.Runs.{HasRun, HasNotRun, IsGivenUp, IsFromScheduler, IsFromClient, IsSchedulersBook, IsWorkersBook, IsClientsBook, IfStatus, IsBlamed, IsSpent, last_facts};
 
 use crate::ends::{
-    Ends, Histories, RunStatus, all_left, first_blame, hand_all, has_all, has_got, is_given_up,
+    Ends, Histories, RunStatus, all_left, any_spent, first_blame, hand_all, has_all, has_got, is_given_up,
     take_apart,
 };
 use crate::plan::RunPlan;
@@ -67,6 +67,7 @@ pub fn end_nodes<B: Drop, L: Label<Block = B>, F: Drop, S: BlockStore<B, L>, Z: 
 {
     let got = has_got(wanted.as_slice(), &client);
     let blame = first_blame(wanted.as_slice(), &client);
+    let spent = is_spent(&scheduler, workers.as_slice(), &client);
     let left = all_left(alloc, plan, &scheduler, workers.as_slice());
     let joined = scheduler.joined();
     let scheduler = scheduler_history(scheduler);
@@ -74,7 +75,7 @@ pub fn end_nodes<B: Drop, L: Label<Block = B>, F: Drop, S: BlockStore<B, L>, Z: 
     let all = has_all(wanted.as_slice(), &*sink);
     let (workers, feeds, stores) = take_apart(alloc, workers);
     let told = all_told(scheduler, workers, client, left);
-    let ends = ends_of(alloc, result(got, all, blame), told, feeds, stores);
+    let ends = ends_of(alloc, result(got, all, blame, spent), told, feeds, stores);
     let given_up = is_over(&ends, joined);
     (ends, given_up)
 }
@@ -171,17 +172,37 @@ fn is_over<F: Drop, S: Drop>(ends: &Ends<F, S>, joined: Option<u32>) -> bool
     }
 }
 
-/// How a run ended: well where the client got all and the sink has all; else by the key to blame, if one failed.
-fn result(got: bool, all: bool, blame: Option<u32>) -> Result<(), RunStatus>
+/// Whether a node's core has taken all events that it takes.
+fn is_spent<B: Drop, L: Label<Block = B>, F: Drop, S: BlockStore<B, L>>(
+    scheduler: &SchedulerNode<B, L>,
+    workers: &[WorkerNode<B, L, F, S>],
+    client: &ClientNode<B, L>,
+) -> bool
+    ensures { result ≡ true → IsSpent scheduler.now.history.book (λ w. w.history.book) (λ c. c.core.events) workers.now client.now.book (λ c. c.core.events) }
+{
+    if scheduler.history.is_spent() {
+        return true;
+    }
+    if client.book.is_spent() {
+        return true;
+    }
+    any_spent(workers)
+}
+
+/// How a run ended: well where the client got all and the sink has all; else by the key to blame, if one failed; else by a core that is spent.
+fn result(got: bool, all: bool, blame: Option<u32>, spent: bool) -> Result<(), RunStatus>
     ensures got { IfOk result (λ _. got ≡ true) }
     ensures all { IfOk result (λ _. all ≡ true) }
-    ensures cause { IfStatus (IsBlamed blame) result }
+    ensures cause { IfStatus (IsBlamed blame spent) result }
 {
     if got && all {
         return Ok(());
     }
-    match blame {
-        Some(key) => Err(RunStatus::Zero { key }),
-        None => Err(RunStatus::Memory),
+    if let Some(key) = blame {
+        return Err(RunStatus::Zero { key });
     }
+    if spent {
+        return Err(RunStatus::Events);
+    }
+    Err(RunStatus::Memory)
 }

@@ -1,5 +1,5 @@
 //! How a run ended, as the closed nodes tell.
-ghost use Rattle.std.specs.Prelude.{◌≡◌, ◌≢◌, ◌≤◌, ◌+◌, ◌<◌, ◌++◌, ◌∷◌, [], ℕ, true, false, None, slice_index_or, All, Contains, IfOk, IfSome, Some};
+ghost use Rattle.std.specs.Prelude.{◌≡◌, ◌≢◌, ◌≤◌, ◌+◌, ◌^◌, ◌<◌, ◌++◌, ◌∷◌, [], ℕ, true, false, None, slice_index_or, All, Contains, IfOk, IfSome, Some};
 ghost use Rattle.cluster_msgs.specs.Labels.{BlameFits};
 ghost use Rattle.cluster_rules.specs.Sched.{Facts as SchedFacts, connected};
 ghost use Rattle.gather_client.specs.CoreState.{client_facts};
@@ -25,6 +25,8 @@ pub enum RunStatus {
     Zero { key: u32 },
     /// No worker was left, and a feed had failed.
     Read,
+    /// A node's core has taken all events that it takes, 2^40.
+    Events,
     /// There was no memory.
     Memory,
 }
@@ -106,6 +108,20 @@ pub fn first_blame<B: Drop, L: Label<Block = B>>(
         }
     }
     None
+}
+
+/// Whether a worker's core has taken all events that it takes.
+pub fn any_spent<B: Drop, L: Label<Block = B>, F: Drop, S: BlockStore<B, L>>(
+    workers: &[WorkerNode<B, L, F, S>],
+) -> bool
+    ensures { result ≡ true → (w : _) × Contains workers.now w × (2 ^ 40 ≤ w.history.book.core.core.events) }
+{
+    for worker in workers {
+        if worker.history.book.is_spent() {
+            return true;
+        }
+    }
+    false
 }
 
 /// For each worker why it left, if it joined and left.

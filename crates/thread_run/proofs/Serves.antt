@@ -67,6 +67,7 @@ why-of l graph p wanted Failed reads result left None f how = why-status l wante
 why-of l graph p wanted Failed reads (Ok blocks) left (Some h) f how = tt
 why-of l graph p wanted Failed reads (Err (status.Zero key)) left (Some h) f how = how.1.cause
 why-of l graph p wanted Failed reads (Err status.Read) left (Some h) f how = f how.1.cause.1
+why-of l graph p wanted Failed reads (Err status.Events) left (Some h) f how = tt
 why-of l graph p wanted Failed reads (Err status.Memory) left (Some h) f how = tt
 
 -- the histories of a run that gave all blocks

@@ -21,6 +21,7 @@ use Rattle.thread_run.specs.Ends.{IsNeededBlock}
 abbrev pub IsWhy : {B : Type 0} → LabelFacts B → List ℕ → Type 0 → RunStatus → Type 0
 IsWhy facts wanted reads (status.Zero key) = (k : ℕ) × Contains wanted k × BlameFits facts k key
 IsWhy facts wanted reads status.Read = reads
+IsWhy facts wanted reads status.Events = Unit {0}
 IsWhy facts wanted reads status.Memory = Unit {0}
 
 -- how a run is stopped, by what the cluster tells and by whether all was written: a zero divisor or a failed feed comes before what couldn't be written

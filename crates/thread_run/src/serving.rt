@@ -82,7 +82,7 @@ fn all_done(
         },
         Err(RunStatus::Zero { key }) => Err(ended_at(alloc, job, wanted, key)),
         Err(RunStatus::Read) => Err(Ended::ReadFault),
-        Err(RunStatus::Memory) => match written {
+        Err(RunStatus::Events | RunStatus::Memory) => match written {
             Ok(()) => Err(Ended::OutOfMemory),
             Err(fault) => Err(unsaved(fault)),
         },
