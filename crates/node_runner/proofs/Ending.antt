@@ -23,7 +23,7 @@ use Rattle.node_runner.specs.declared.ends.RunStatus.TheVariants.{Zero, Read, Ev
 use Rattle.node_runner.specs.declared.ends.Histories.{Histories}
 use Rattle.node_runner.specs.Runs.{IsBookOf, IsTakenFrom, IsFromScheduler, IsFromWorker, IsFromClient, IsHistory, IsNextStep, IsSchedulersBook, IsWorkersBook, IsClientsBook}
 use Rattle.node_runner.specs.Runs.{WorkerSteps, ClientSteps, SchedSteps, WorkerCoreSteps, ClientCoreSteps, SchedCoreSteps}
-use Rattle.node_runner.specs.Runs.{AreUncut, IsSpent, last_facts, IsLeft, HasCause, HasGot, IfStatus, IsBlamed, HasRun, course_of, setting_of}
+use Rattle.node_runner.specs.Runs.{AreWhole, IsSpent, last_facts, IsLeft, HasCause, HasGot, IfStatus, IsBlamed, HasRun, course_of, setting_of}
 use Rattle.node_runner.proofs.Places.{all_by_through}
 use Rattle.node_runner.proofs.Replaying.{replays_on}
 
@@ -117,7 +117,7 @@ unspent_workers limit inner taken book ws (h ∷ hs) from small none = λ k d le
 cut_by : {B W C D : Type 0} (l : LabelFacts B) (b : BookState SchedState) (book : W → BookState C) (number : C → ℕ) (core : C → WorkerFacts) (taken : C → ℕ) (ws : List W) (d : BookState D)
     (name : D → ℕ) (client : D → ClientFacts) (asked : D → ℕ) (h : Histories)
     → IsFromScheduler l b h.scheduler → AllBy (λ k w x. IsFromWorker l number core taken (book w) x) ws h.workers.items → IsFromClient l name client asked d h.client
-    → IsSpent b book taken ws d asked → AreUncut h → ⊥
+    → IsSpent b book taken ws d asked → AreWhole h → ⊥
 cut_by l b book number core taken ws d name client asked h of_scheduler of_workers of_client spent none = ⊎_elim
     (λ s. unspent scheduler_bytes (SchedCoreSteps l) (λ s. s.core.taken) b h.scheduler of_scheduler (omega arith) s none.scheduler)
     (λ o. ⊎_elim
@@ -157,7 +157,7 @@ has_run l graph p wanted b book number core taken ws d name client asked h left 
   };
   left_are = left_is l graph p node_bytes (WorkerCoreSteps l number core) taken (facts b.core.core) book ws h.workers.items left rows of_workers;
   got = subst (λ (z : List Entry × Bool). IfOk r (λ x. HasGot (client d.core) z.0 z.1 wanted)) (λ j. (sym of_client.entries j, sym of_client.cut j)) gets;
-  cause = cause_is l wanted (facts b.core.core) left blame spent (AreUncut h → ⊥) r blamed some
+  cause = cause_is l wanted (facts b.core.core) left blame spent (AreWhole h → ⊥) r blamed some
       (λ yes. cut_by l b book number core taken ws d name client asked h of_scheduler of_workers of_client (full yes));
 }
 

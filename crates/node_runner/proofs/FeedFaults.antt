@@ -9,7 +9,7 @@ use Rattle.node_runner.specs.declared.plan.RunPlan.{RunPlan}
 use Rattle.node_runner.specs.declared.ends.RunStatus.{RunStatus}
 use Rattle.node_runner.specs.declared.ends.RunStatus.TheVariants.{Zero, Read, Events, Memory}
 use Rattle.node_runner.specs.declared.ends.Histories.{Histories}
-use Rattle.node_runner.specs.Runs.{AreUncut, LastFacts, HasCause, HasGot, IfStatus, IsGivenUp, HasRun, HasNotRun, HowItEnded}
+use Rattle.node_runner.specs.Runs.{AreWhole, LastFacts, HasCause, HasGot, IfStatus, IsGivenUp, HasRun, HasNotRun, HowItEnded}
 
 -- a cause without a feed that failed is one with it
 cause_more : {A B : Type 0} (l : LabelFacts B) (wanted : List ℕ) (f : Facts) (left : List (Option Why)) (Failed Cut : Type 0) (r : Result A RunStatus)
@@ -38,8 +38,8 @@ run_ended l graph p wanted Failed r s left (Some h) Given run none same changed 
     left_are = run.1.left_are;
     got = still_ok (λ x. HasGot run.0.client h.client.entries (is_some h.client.cut) wanted) r s Given Failed changed run.1.got;
     cause = ⊎_elim
-        (λ e. subst (IfStatus (HasCause l wanted run.0.scheduler left Failed (AreUncut h → ⊥))) (sym e) (cause_more l wanted run.0.scheduler left Failed (AreUncut h → ⊥) r run.1.cause))
-        (λ read. subst (IfStatus (HasCause l wanted run.0.scheduler left Failed (AreUncut h → ⊥))) (sym read.0) (run.2 read.1, read.2))
+        (λ e. subst (IfStatus (HasCause l wanted run.0.scheduler left Failed (AreWhole h → ⊥))) (sym e) (cause_more l wanted run.0.scheduler left Failed (AreWhole h → ⊥) r run.1.cause))
+        (λ read. subst (IfStatus (HasCause l wanted run.0.scheduler left Failed (AreWhole h → ⊥))) (sym read.0) (run.2 read.1, read.2))
         changed;
   },
 )
@@ -66,7 +66,7 @@ ended_more l graph p wanted F G r left (Some x) more h = (
     histories = h.1.histories;
     left_are = h.1.left_are;
     got = h.1.got;
-    cause = cause_of_more l wanted h.0.scheduler left F G (AreUncut x → ⊥) r more h.1.cause;
+    cause = cause_of_more l wanted h.0.scheduler left F G (AreWhole x → ⊥) r more h.1.cause;
   },
 )
 

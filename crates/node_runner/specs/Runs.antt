@@ -177,7 +177,7 @@ abbrev pub HasFeedFault : {F : Type 0} → (F → ℕ) → ℕ → List ℕ → 
 HasFeedFault {F} faults threads given back = ((n : ℕ) × Contains given n × (n < threads)) ⊎ ((f : F) × Contains back f × (0 < faults f))
 
 -- none of the nodes left an entry out
-pub record AreUncut (h : Histories) : Type 0 where
+pub record AreWhole (h : Histories) : Type 0 where
   pub scheduler : h.scheduler.cut ≡ None
   pub workers : All (λ (x : History). x.cut ≡ None) h.workers.items
   pub client : h.client.cut ≡ None
@@ -219,7 +219,7 @@ pub record HasRun {B A : Type 0} (l : LabelFacts B) (graph : Shape) (p : RunPlan
   pub histories : AreHistories l graph p last h
   pub left_are : AreLeft p last h.workers.items left
   pub got : IfOk result (λ blocks. HasGot last.client h.client.entries (is_some h.client.cut) wanted)
-  pub cause : IfStatus (HasCause l wanted last.scheduler left Failed (AreUncut h → ⊥)) result
+  pub cause : IfStatus (HasCause l wanted last.scheduler left Failed (AreWhole h → ⊥)) result
 
 -- a run that couldn't be started, or not be told of, for want of memory
 pub record HasNotRun {A : Type 0} (result : Result A RunStatus) (left : List (Option Why)) : Type 0 where

@@ -41,10 +41,10 @@ use Rattle.node_links.specs.Books.{Steps, StepsBy}
 use Rattle.node_states.specs.Fitting.{ClientEventFits}
 use Rattle.node_states.specs.Machines.{ClientBy, ClientSays, SchedSays, WorkerSays, node_bytes}
 use Rattle.node_states.specs.Released.{WasReleased, is_released, lets_go}
-use Rattle.node_runner.specs.Runs.{ClientSteps, IsGot, IsHistory, SchedSteps, WorkerSteps}
+use Rattle.node_runner.specs.Runs.{AreWhole, ClientSteps, IsGot, IsHistory, SchedSteps, WorkerSteps}
 use Rattle.node_runner.specs.declared.ends.Histories.{Histories}
 use Rattle.node_runner.specs.declared.plan.RunPlan.{RunPlan}
-use Rattle.thread_run.specs.Reports.{AreWhole, IsLegalRun, IsServedRun, IsToldOf, IsToldOfRun, IsVerdictOf, IsVerdictOn, audited, entries_of}
+use Rattle.thread_run.specs.Reports.{IsLegalRun, IsOutgrown, IsServedRun, IsToldOf, IsToldOfRun, IsVerdictOf, IsVerdictOn, audited, entries_of}
 use Rattle.thread_run.specs.declared.verdict.Told.{Told}
 use Rattle.thread_run.specs.declared.verdict.Verdict.{Verdict}
 use Rattle.thread_run.specs.declared.verdict.Verdict.TheVariants.{Agrees, Differs, NotComplete}

@@ -12,7 +12,7 @@ use Rattle.nd_shape.specs.Block.{Array}
 use Rattle.cluster_msgs.specs.Labels.{BlameFits, LabelFacts}
 use Rattle.cluster_msgs.specs.Shape.{Shape}
 use Rattle.node_states.specs.declared.why.Why.{Why}
-use Rattle.node_runner.specs.Runs.{HowItEnded}
+use Rattle.node_runner.specs.Runs.{AreWhole, HasCause, HowItEnded, IfStatus}
 use Rattle.node_runner.specs.declared.ends.Histories.{Histories}
 use Rattle.node_runner.specs.declared.ends.RunStatus.{RunStatus}
 use Rattle.node_runner.specs.declared.ends.RunStatus.TheVariants as status
@@ -34,7 +34,7 @@ use Rattle.thread_run.specs.Feeding.{OpensOften, TakesBack}
 use Rattle.thread_run.specs.Serving.{IsUnsaved, IsWhy, ServesAll, ServesFiles, ServesPart, Stops, StopsAt}
 use Rattle.thread_run.proofs.Agreed.{told_run}
 use Rattle.thread_run.proofs.SaverEnds.{open-left}
-use Rattle.thread_run.specs.Reports.{IsServedRun, IsToldOf, IsToldOfRun, label}
+use Rattle.thread_run.specs.Reports.{IsOutgrown, IsServedRun, IsToldOf, IsToldOfRun, label}
 use Rattle.thread_run.specs.declared.verdict.Told.{Told}
 
 -- ## Results
@@ -69,6 +69,21 @@ why-of l graph p wanted Failed reads (Err (status.Zero key)) left (Some h) f how
 why-of l graph p wanted Failed reads (Err status.Read) left (Some h) f how = f how.1.cause.1
 why-of l graph p wanted Failed reads (Err status.Events) left (Some h) f how = tt
 why-of l graph p wanted Failed reads (Err status.Memory) left (Some h) f how = tt
+
+-- a run whose core had taken all events has histories of which one passed its limit
+pub outgrew : {A : Type 0} (l : LabelFacts Array) (graph : Shape) (p : RunPlan) (wanted : List ℕ) (Failed : Type 0) (result : Result A RunStatus) (left : List (Option Why)) (h : Option Histories) → result ≡ Err status.Events →
+    HowItEnded l graph p wanted Failed result left h → IsOutgrown l graph p
+outgrew {A} l graph p wanted Failed result left None is how = absurd (other (sym is ∙ how.memory))
+  where
+    other : ◌≡◌ {A = Result A RunStatus} (Err status.Events) (Err status.Memory) → ⊥
+    other e = cc
+outgrew l graph p wanted Failed result left (Some h) is how =
+    let C : Type 0 = AreWhole h → ⊥ in
+    record { histories = h; last = how.0; are = how.1.histories; cut = subst (IfStatus (HasCause l wanted how.0.scheduler left Failed C)) is how.1.cause }
+
+-- the same of a label and a graph that are these
+pub outgrown-as : (l m : LabelFacts Array) (graph shape : Shape) (p : RunPlan) → l ≡ m → graph ≡ shape → IsOutgrown l graph p → IsOutgrown m shape p
+outgrown-as l m graph shape p e f o = let P : LabelFacts Array × Shape → Type 0 = λ x. IsOutgrown x.0 x.1 p in subst P (λ i. (e i, f i)) o
 
 -- the histories of a run that gave all blocks
 pub served-run : {A : Type 0} (l : LabelFacts Array) (graph : Shape) (p : RunPlan) (wanted : List ℕ) (Failed : Type 0) (result : Result A RunStatus) (left : List (Option Why)) (h : Option Histories) (end : Result Histories Ended) →
