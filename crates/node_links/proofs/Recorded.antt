@@ -1,5 +1,5 @@
 -- A book after one entry.
-use Rattle.std.proofs.Common.{◌≡◌, ◌⊎◌, ◌∙◌, sym, ap, subst, refl, inl, inr, ⊎_elim, ℕ, ◌+◌, ◌^◌, ◌≤◌, Bool, true, false, List, [], ◌∷◌, ◌++◌, length, Option, is_some, arith}
+use Rattle.std.proofs.Common.{◌≡◌, ◌∙◌, sym, ap, subst, refl, inl, inr, ⊎_elim, ℕ, ◌+◌, ◌^◌, ◌≤◌, Bool, true, false, [], ◌∷◌, ◌++◌, length, Option, is_some, arith}
 use Rattle.std.proofs.lemmas.Bool.{false≢true}
 use Rattle.std.proofs.lemmas.List.{length-append}
 use Rattle.cluster_msgs.specs.declared.events.Entry.{Entry}
@@ -21,7 +21,14 @@ pub recorded : {C E : Type 0} (says : C → Event → Option Message → Option 
 recorded says by x y old new e o said stepped a b c d f pushed ascending = record {
   is = ⊎_elim
       (λ (p : IsStored old e new). let was_open = b ∙ ap is_some p.was_open in let is_open = d ∙ ap is_some p.is_open in inr (inl (
-        e, c ∙ p.entries_are ∙ ap (λ es. es ++ e ∷ []) (sym a), was_open, is_open, (o, said, stepped), subst Ascending (sym c) ascending, f.was was_open, f.is is_open
+        e,
+        c ∙ p.entries_are ∙ ap (λ es. es ++ e ∷ []) (sym a),
+        was_open,
+        is_open,
+        (o, said, stepped),
+        subst Ascending (sym c) ascending,
+        f.was was_open,
+        f.is is_open,
       )))
       (λ q. inr (inr (⊎_elim
       (λ (r : IsLeftOut old e new). let cut = d ∙ ap is_some r.cut_is in (c ∙ r.entries_are ∙ sym a, cut, (e, (o, said, stepped)), f.stays cut))
@@ -74,43 +81,21 @@ few_more taken kept still core was n m true few one leads longer more is stays =
 few_more taken kept still core was n m false few one leads longer more is stays =
     let s = ap taken (is refl) in let w = ap taken (leads refl) in let l = more refl in omega (arith, s, w, l, few, one)
 
-module _ {C : Type 0} (limited : ℕ → Type 0) (steps : C → Entry → C → Type 0) (taken : C → ℕ) where
-  -- what holds of each book, after one more entry
-  pub ruled : (was kept core still : C) (was_spent spent : Bool) (first old new : Logged) (e : Entry) → IsRuled limited steps taken was kept was_spent first
-      → old.entries ≡ first.entries → old.cut ≡ first.cut → old.limit ≡ first.limit → new.limit ≡ old.limit → IsPushed old e new → steps was e core → taken core ≤ taken was + 1
-      → (is_some new.cut ≡ false → still ≡ core) → (is_some new.cut ≡ true → still ≡ kept) → (spent ≡ true → 2 ^ 40 ≤ taken core)
-      → IsRuled limited steps taken core still spent new
-  ruled was kept core still was_spent spent first old new e rule entries same limit_was limit_is pushed step one is stays full =
-      let long = stored_more old new e pushed in
-      let was_long : length old.entries ≡ length first.entries = ap length entries in
-      (
-        subst limited (sym (limit_is ∙ limit_was)) rule.0,
-        is,
-        next_is steps was kept core still old new e step (subst (IsNext steps kept) (sym same) rule.2) (λ open_still. rule.1 (ap is_some (sym same) ∙ open_still)) stays pushed,
-        few_more taken kept still core was (length old.entries) (length new.entries) (is_some new.cut) (subst (λ n. taken kept ≤ n) (sym was_long) rule.3) one
-        (λ open_still. rule.1 (ap is_some (sym same) ∙ was_open old new e pushed open_still)) long.0 long.1 is stays,
-        full,
-      )
-
-  -- the same, where the core stays as it is
-  pub ruled_still : (core kept : C) (spent : Bool) (first old new : Logged) (e : Entry) → IsRuled limited steps taken core kept spent first
-      → old.entries ≡ first.entries → old.cut ≡ first.cut → old.limit ≡ first.limit → new.limit ≡ old.limit → IsPushed old e new → steps core e core
-      → IsRuled limited steps taken core kept spent new
-  ruled_still core kept spent first old new e rule entries same limit_was limit_is pushed step =
-      ruled core kept core kept spent spent first old new e rule entries same limit_was limit_is pushed step (omega arith)
-      (λ open_still. rule.1 (ap is_some (sym same) ∙ was_open old new e pushed open_still)) (λ _. refl) rule.4
-
-  -- and without an entry
-  pub ruled_same : (core was kept : C) (was_spent spent : Bool) (old new : Logged) → IsRuled limited steps taken was kept was_spent old
-      → new.entries ≡ old.entries → new.cut ≡ old.cut → new.limit ≡ old.limit → core ≡ was → (spent ≡ true → 2 ^ 40 ≤ taken core)
-      → IsRuled limited steps taken core kept spent new
-  ruled_same core was kept was_spent spent old new rule entries same limit_is is full = (
-    subst limited (sym limit_is) rule.0,
-    λ open_still. rule.1 (ap is_some (sym same) ∙ open_still) ∙ sym is,
-    subst (IsNext steps kept) (sym same) rule.2,
-    subst (λ (es : List Entry). taken kept ≤ length es) (sym entries) rule.3,
-    full,
-  )
+-- what holds of each book, after one more entry
+pub ruled : {C : Type 0} (limited : ℕ → Type 0) (steps : C → Entry → C → Type 0) (taken : C → ℕ) (was kept core still : C) (was_spent spent : Bool) (first old new : Logged) (e : Entry) → IsRuled limited steps taken was kept was_spent first
+    → old.entries ≡ first.entries → old.cut ≡ first.cut → old.limit ≡ first.limit → new.limit ≡ old.limit → IsPushed old e new → steps was e core → taken core ≤ taken was + 1
+    → (is_some new.cut ≡ false → still ≡ core) → (is_some new.cut ≡ true → still ≡ kept) → (spent ≡ true → 2 ^ 40 ≤ taken core)
+    → IsRuled limited steps taken core still spent new
+ruled limited steps taken was kept core still was_spent spent first old new e rule entries same limit_was limit_is pushed step one is stays full =
+    let long = stored_more old new e pushed in
+    let was_long : length old.entries ≡ length first.entries = ap length entries in (
+      subst limited (sym (limit_is ∙ limit_was)) rule.0,
+      is,
+      next_is steps was kept core still old new e step (subst (IsNext steps kept) (sym same) rule.2) (λ open_still. rule.1 (ap is_some (sym same) ∙ open_still)) stays pushed,
+      few_more taken kept still core was (length old.entries) (length new.entries) (is_some new.cut) (subst (λ n. taken kept ≤ n) (sym was_long) rule.3) one
+          (λ open_still. rule.1 (ap is_some (sym same) ∙ was_open old new e pushed open_still)) long.0 long.1 is stays,
+      full,
+    )
 
 -- the entry is the one that was to be added
 pub entered : {C : Type 0} (x y : BookState C) (old new : Logged) (n : ℕ) (event : Event) (message : Option Message)

@@ -138,9 +138,7 @@ impl Log {
         self.cut = Some(entry);
     }
 
-    #[tactic(auto, using(
-        crate::proofs::Stamps::ascends, crate::proofs::Stamps::up_to_last, crate::proofs::Stamps::one_more, crate::proofs::Stamps::none_past
-    ))]
+    #[tactic(auto, using(crate::proofs::Stamps::ascends, crate::proofs::Stamps::up_to_last, crate::proofs::Stamps::one_more, crate::proofs::Stamps::none_past))]
     fn add(&mut self, entry: Entry, bytes: u128)
         requires below { AllBelow entry.stamp self.old.entries }
         requires size { bytes ≡ history_bytes self.old.entries + entry_bytes entry }

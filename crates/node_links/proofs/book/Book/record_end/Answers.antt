@@ -1,13 +1,13 @@
-use Rattle.std.proofs.Common.{◌≡◌, ◌∙◌, sym, ap, subst, refl, None, cond, false, is_some}
+use Rattle.std.proofs.Common.{◌≡◌, ◌∙◌, sym, ap, refl, None, cond, false, is_some}
 use Rattle.cluster_msgs.specs.declared.events.Entry.{Entry}
-use Rattle.node_links.specs.Books.{BookState, Steps}
-use Rattle.node_links.proofs.Recorded.{recorded, entered, follows_still, ruled_still}
+use Rattle.node_links.specs.Books.{BookState}
+use Rattle.node_links.proofs.Recorded.{recorded, entered, follows_still}
 use Rattle.node_links.proofs.book.Book.record_end.Goals as goal
 
 pub returns-clause-recorded : goal.returns-clause-recorded
 returns-clause-recorded g c =
     let i = c.self.inside in let x = c.args.self.now in let old = c.reserve_last.new.self in let new = c.push.new.self in
-    let y : BookState g.C = record { core = cond i.failed i.before.value i.core; entries = new.entries; kept = i.kept.value; cut = is_some new.cut } in
+    let y : BookState _ = record { core = cond i.failed i.before.value i.core; entries = new.entries; kept = i.kept.value; cut = is_some new.cut } in
     let e : Entry = record { stamp = c.in_ok-stamp.stamp; event = c.args.event; message = c.args.message } in
     let was_cut : x.cut ≡ is_some old.cut = ap (λ b. b.cut) (sym c.self.view_is) ∙ ap is_some (sym c.reserve_last.ensures.entries.1) in
     let same : x.core ≡ y.core = ap (λ b. b.core) (sym c.self.view_is) in
@@ -22,11 +22,3 @@ returns-clause-entered g c =
     let i = c.self.inside in let x = c.args.self.now in let old = c.reserve_last.new.self in let new = c.push.new.self in
     entered x (record { core = cond i.failed i.before.value i.core; entries = new.entries; kept = i.kept.value; cut = is_some new.cut }) old new c.in_ok-stamp.stamp c.args.event c.args.message
     (ap (λ b. b.entries) (sym c.self.view_is) ∙ sym c.reserve_last.ensures.entries.0) refl refl c.push.ensures.pushed
-
-pub invariant_of-self : goal.invariant_of-self
-invariant_of-self g c =
-    let i = c.self.inside in let core = cond i.failed i.before.value i.core in let r = c.reserve_last.ensures.entries in
-    let e : Entry = record { stamp = c.in_ok-stamp.stamp; event = c.args.event; message = c.args.message } in
-    ruled_still g.C.Machine.limited (Steps g.C.Machine.says g.C.Machine.by) g.C.Machine.taken core i.kept.value i.spent i.log c.reserve_last.new.self c.push.new.self e
-    c.self.invariant r.0 r.1 r.2 c.push.ensures.limit c.push.ensures.pushed
-    (None, subst (λ k. g.C.Machine.says k e.event e.message None) (ap (λ b. b.core) (sym c.self.view_is)) c.requires.says, refl)

@@ -1,4 +1,4 @@
-use Rattle.std.proofs.Common.{◌≡◌, ◌∙◌, sym, ap, subst, refl, arith, Some, cond, true, false, is_some}
+use Rattle.std.proofs.Common.{◌≡◌, ◌∙◌, sym, ap, subst, refl, arith, Some, cond, false, is_some}
 use Rattle.std.proofs.lemmas.Bool.{cond-false, cond-true, false≢true}
 use Rattle.cluster_msgs.specs.declared.events.Entry.{Entry}
 use Rattle.node_links.specs.Books.{BookState, Steps}
@@ -12,7 +12,7 @@ returns-clause-recorded g c =
     let k = c.follow.new.kept in
     let was : x.core ≡ i.core = ap (λ b. b.core) (sym c.self.view_is) ∙ cond-false i.failed i.before.value i.core c.if-self.false in
     let is : cond t.failed t.before.value t.core ≡ t.core = cond-false t.failed t.before.value t.core ok.0 in
-    let y : BookState g.C = record { core = cond t.failed t.before.value t.core; entries = new.entries; kept = k.value; cut = is_some new.cut } in
+    let y : BookState _ = record { core = cond t.failed t.before.value t.core; entries = new.entries; kept = k.value; cut = is_some new.cut } in
     let e : Entry = record { stamp = c.in_ok-stamp.stamp; event = c.args.event; message = c.args.message } in
     let was_kept : i.kept.value ≡ x.kept = ap (λ b. b.kept) c.self.view_is in
     let leads : x.cut ≡ false → x.kept ≡ x.core =
@@ -43,8 +43,8 @@ returns-clause-step g c =
     let is : cond t.failed t.before.value t.core ≡ t.core = cond-false t.failed t.before.value t.core ok.0 in
     subst (λ y. g.C.Machine.by x.core c.args.said y) (sym is) (subst (λ y. g.C.Machine.by y c.args.said t.core) (sym was) ok.1)
 
-pub invariant_of-self : goal.invariant_of-self
-invariant_of-self g c =
+pub invariant_of-self-2 : goal.invariant_of-self-2
+invariant_of-self-2 g c =
     let i = c.self.inside in let new = c.push.new.self in let t = c.take_event.new in let r = c.reserve.ensures.entries in
     let ok = c.in_ok-take_event.ensures.ok in
     let known = cond i.failed i.before.value i.core in let core = cond t.failed t.before.value t.core in
@@ -55,8 +55,7 @@ invariant_of-self g c =
     let count = c.in_ok-take_event.ensures.counted in
     let before = ap g.C.Machine.taken was in let after = ap g.C.Machine.taken is in
     ruled g.C.Machine.limited (Steps g.C.Machine.says g.C.Machine.by) g.C.Machine.taken known i.kept.value core c.follow.new.kept.value i.spent c.take_event.new.spent i.log c.reserve.new.self new e
-    c.self.invariant r.0 r.1 r.2 c.push.ensures.limit c.push.ensures.pushed
-    (
+    c.self.invariant r.0 r.1 r.2 c.push.ensures.limit c.push.ensures.pushed (
       Some c.args.said,
       subst (λ k. g.C.Machine.says k e.event e.message (Some c.args.said)) (ap (λ b. b.core) (sym c.self.view_is)) c.requires.says,
       subst (g.C.Machine.by known c.args.said) (sym is) (subst (λ z. g.C.Machine.by z c.args.said t.core) (sym was) ok.1),
