@@ -146,7 +146,7 @@ run_told sources p said old mid new end now told only e =
     elim told [
       | inl same ↦ subst W (sym same) (thread_is (RunsToEnd sources p said old new) end (record { runs = runs_told sources p said old mid new (left_as end) only e.runs; events = e.events }))
       | inr refused ↦ subst W (sym refused.1) (ran sources p said old new RunEnds.OutOfMemory
-      (runs_told sources p said old mid new RunEnds.OutOfMemory only (threads_starved sources p said old mid end refused.0 e)))
+          (runs_told sources p said old mid new RunEnds.OutOfMemory only (threads_starved sources p said old mid end refused.0 e)))
     ]
 
 -- ## Before it, only the text was read

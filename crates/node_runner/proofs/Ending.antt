@@ -31,8 +31,11 @@ use Rattle.node_runner.proofs.Replaying.{replays_on}
 next_step : {C F : Type 0} (view : C → F) (inner : C → Entry → C → Type 0) (steps : F → Entry → F → Type 0) (first : F) (b : BookState C) (es : List Entry) (cut : Option Entry)
     → es ≡ b.entries → IsBookOf view inner steps first b → IsNext inner b.kept cut → IsNextStep steps first es cut
 next_step view inner steps first b es None same book next = tt
-next_step view inner steps first b es (Some e) same book next = (view next.0, subst (λ xs. Replays steps first (xs ++ e ∷ []) (view next.0)) (sym same)
-    (replays_on steps first b.entries (view b.kept) (e ∷ []) (view next.0) book.replays (book.onward e next.0 next.1)))
+next_step view inner steps first b es (Some e) same book next = (
+  view next.0,
+  subst (λ xs. Replays steps first (xs ++ e ∷ []) (view next.0)) (sym same)
+      (replays_on steps first b.entries (view b.kept) (e ∷ []) (view next.0) book.replays (book.onward e next.0 next.1)),
+)
 
 -- a book's log as a history
 pub taken_from : {C : Type 0} (limit : ℕ) (inner : C → Entry → C → Type 0) (taken : C → ℕ) (b : BookState C) (l : Logged) (h : History) → IsLogOf (λ n. n ≡ limit) inner taken b l

@@ -8,8 +8,8 @@ ghost use Rattle.node_states.specs.Order.{AreInTime, start_of};
 ghost use Rattle.node_runner.specs.Runs.{HasRun, HasNotRun, IsGivenUp, IsFromScheduler, IsFromClient, IsSchedulersBook, IsWorkersBook, IsClientsBook, IfStatus, IsBlamed, IsSpent, last_facts};
 
 use crate::ends::{
-    Ends, Histories, RunStatus, all_left, any_spent, first_blame, hand_all, has_all, has_got, is_given_up,
-    take_apart,
+    Ends, Histories, RunStatus, all_left, any_spent, first_blame, hand_all, has_all, has_got,
+    is_given_up, take_apart,
 };
 use crate::plan::RunPlan;
 use crate::sink::Sink;

@@ -35,11 +35,7 @@ impl<L: Label> WorkerHistory<L> {
     /// # Errors
     /// Where there is no memory.
     #[tactic(auto, using(crate::proofs::Ends::alive_at_first))]
-    pub fn new(
-        alloc: Global,
-        core: WorkingCore<L>,
-        graph: &RunGraph<L>,
-    ) -> Result<Self, AllocError>
+    pub fn new(alloc: Global, core: WorkingCore<L>, graph: &RunGraph<L>) -> Result<Self, AllocError>
         requires none { core.core.events ≡ 0 }
         ensures core { IfOk result (λ h. (h.book.core ≡ core) × (h.id ≡ core.id)) }
         ensures kept { IfOk result (λ h. h.book.kept ≡ core) }
@@ -181,10 +177,8 @@ impl<L: Label> WorkerHistory<L> {
 
     /// The history without the core.
     pub fn into_log(self) -> Log
-        ensures {
-            IsLogOf ⟦<WorkingCore<L> as Machine>⟧.limited (Steps ⟦<WorkingCore<L> as Machine>⟧.says ⟦<WorkingCore<L> as Machine>⟧.by)
-            ⟦<WorkingCore<L> as Machine>⟧.taken self.book result
-        }
+        ensures { IsLogOf ⟦<WorkingCore<L> as Machine>⟧.limited (Steps ⟦<WorkingCore<L> as Machine>⟧.says ⟦<WorkingCore<L> as Machine>⟧.by)
+            ⟦<WorkingCore<L> as Machine>⟧.taken self.book result }
     {
         let WorkerHistory {
             id: _,

@@ -39,11 +39,7 @@ impl<L: Label> SchedulerHistory<L> {
     ///
     /// # Errors
     /// Where there is no memory.
-    pub fn new(
-        alloc: Global,
-        core: SchedulingCore<L>,
-        workers: usize,
-    ) -> Result<Self, AllocError>
+    pub fn new(alloc: Global, core: SchedulingCore<L>, workers: usize) -> Result<Self, AllocError>
         requires opening { IsOpening (facts core.core) }
         requires none { core.core.taken ≡ 0 }
         ensures core { IfOk result (λ h. h.book.core ≡ core) }
@@ -126,10 +122,8 @@ impl<L: Label> SchedulerHistory<L> {
 
     /// The history without the core.
     pub fn into_log(self) -> Log
-        ensures {
-            IsLogOf ⟦<SchedulingCore<L> as Machine>⟧.limited (Steps ⟦<SchedulingCore<L> as Machine>⟧.says ⟦<SchedulingCore<L> as Machine>⟧.by)
-            ⟦<SchedulingCore<L> as Machine>⟧.taken self.book result
-        }
+        ensures { IsLogOf ⟦<SchedulingCore<L> as Machine>⟧.limited (Steps ⟦<SchedulingCore<L> as Machine>⟧.says ⟦<SchedulingCore<L> as Machine>⟧.by)
+            ⟦<SchedulingCore<L> as Machine>⟧.taken self.book result }
     {
         let SchedulerHistory { book, gone } = self;
         drop(gone);

@@ -164,10 +164,8 @@ impl<B: Drop, L: Label<Block = B>, F: Drop, S: BlockStore<B, L>> WorkerNode<B, L
 
     /// Its history, its feeds and its store.
     pub fn into_parts(self) -> (Log, Feeds<F>, S)
-        ensures log {
-            IsLogOf ⟦<WorkingCore<L> as Machine>⟧.limited (Steps ⟦<WorkingCore<L> as Machine>⟧.says ⟦<WorkingCore<L> as Machine>⟧.by)
-            ⟦<WorkingCore<L> as Machine>⟧.taken self.history.book result.0
-        }
+        ensures log { IsLogOf ⟦<WorkingCore<L> as Machine>⟧.limited (Steps ⟦<WorkingCore<L> as Machine>⟧.says ⟦<WorkingCore<L> as Machine>⟧.by)
+            ⟦<WorkingCore<L> as Machine>⟧.taken self.history.book result.0 }
         ensures feeds { result.1 ≡ self.feeds }
         ensures store { result.2 ≡ self.store }
     {

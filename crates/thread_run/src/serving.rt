@@ -85,9 +85,7 @@ fn all_done(
             Ok(()) => Ok(()),
             Err(fault) => Err(ThreadEnded::Ran(unsaved(fault))),
         },
-        Err(RunStatus::Zero { key }) => {
-            Err(ThreadEnded::Ran(ended_at(alloc, job, wanted, key)))
-        }
+        Err(RunStatus::Zero { key }) => Err(ThreadEnded::Ran(ended_at(alloc, job, wanted, key))),
         Err(RunStatus::Read) => Err(ThreadEnded::Ran(Ended::ReadFault)),
         Err(RunStatus::Events) => match written {
             Ok(()) => Err(ThreadEnded::Events),
