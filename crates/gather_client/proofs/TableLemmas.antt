@@ -1,8 +1,7 @@
 -- What is kept of the keys that pass, and searches over them.
-use Rattle.std.proofs.Common.{◌≡◌, ℕ, zero, suc, ◌+◌, ◌-◌, ◌<◌, ◌≤◌, Bool, true, false, ◌||◌, List, [], ◌∷◌, ◌++◌, Option, Some, None, is_some, refl, sym, ap, ◌∙◌, arith, cond, filter, subst, IfSome, not, length, ⊎_elim}
+use Rattle.std.proofs.Common.{◌≡◌, ℕ, zero, suc, ◌+◌, ◌-◌, ◌<◌, ◌≤◌, Bool, true, false, ◌||◌, List, [], ◌∷◌, ◌++◌, Option, Some, None, is_some, refl, ap, ◌∙◌, arith, cond, filter, subst, not, length}
 use Rattle.std.specs.Prelude.{◌==◌}
 use Rattle.std.specs.List.{list_any, filter_map, cons_option}
-use Rattle.std.proofs.lemmas.Bool.{true≢false, cases_lt}
 use Rattle.std.proofs.lemmas.List.Elements.{filter_map-append}
 use Rattle.std.proofs.Math.Bool.{or-false}
 use Rattle.std.proofs.Math.Dec.{eqb-suc-zero}
@@ -10,12 +9,7 @@ use Rattle.std.proofs.lemmas.List.{append-nil}
 use Rattle.std.proofs.lemmas.List.Folds.{list_any-append}
 use Rattle.small_facts.proofs.Ranges.{range_has}
 use Rattle.cluster_rules.specs.Derived.{below}
-use Rattle.cluster_rules.specs.Worker.{has_any, item_at}
-use Rattle.cluster_rules.specs.Client.{ClientFacts, is_open}
-use Rattle.fact_rows.specs.Rows.{read}
-use Rattle.key_sets.specs.Sets.{has, IsFirst}
-use Rattle.gather_client.specs.Steps.{open_item}
-use Rattle.cluster_rules.proofs.FunctionLemmas.{same_function}
+use Rattle.cluster_rules.specs.Worker.{has_any}
 use Rattle.cluster_rules.proofs.SchedLemmas.{below-more, filter-below}
 use Rattle.cluster_rules.proofs.Members.{any_some}
 
@@ -72,32 +66,6 @@ picked-step h q a (suc d) n =
 
 pub picked-gap : {A : Type 0} (h : ℕ → Option A) (q : ℕ → Bool) (a b : ℕ) → a ≤ b → ((k : ℕ) → a ≤ k → k < b → cond (q k) (h k) None ≡ None) → filter_map h (filter q (below b)) ≡ filter_map h (filter q (below a))
 picked-gap h q a b l n = subst (λ m. filter_map h (filter q (below m)) ≡ filter_map h (filter q (below a))) (let e : a + (b - a) ≡ b = omega arith in e) (picked-step h q a (b - a) (λ k m i. n k m (omega arith)))
-
--- a key that nobody holds
-pub unheld : (c : ClientFacts) (p k : ℕ) → has_any (c.located k) ≡ false → open_item c p k ≡ None
-unheld c p k e = pick (is_open c k) (c.located k) e
-  where
-    pick : (b : Bool) (hs : List (ℕ × ℕ)) → has_any hs ≡ false → cond b (item_at p k hs) None ≡ None
-    pick true [] e = refl
-    pick false [] e = refl
-    pick b (x ∷ hs) e = absurd (true≢false e)
-
--- the set of the keys that somebody holds, after one key's list changed
-pub held_put : (set new : List ℕ) (rows rows' : List (List (ℕ × ℕ))) (key : ℕ) (to : List (ℕ × ℕ)) (b : Bool) → b ≡ has_any to → ((k : ℕ) → has set k ≡ has_any (read rows [] k)) → ((k : ℕ) → has new k ≡ cond (k == key) b (has set k))
-    → ((k : ℕ) → read rows' [] k ≡ cond (k == key) to (read rows [] k)) → (k : ℕ) → has new k ≡ has_any (read rows' [] k)
-held_put set new rows rows' key to b e was now put k = now k ∙ pick (k == key) ∙ sym (ap has_any (put k))
-  where
-    pick : (t : Bool) → cond t b (has set k) ≡ has_any (cond t to (read rows [] k))
-    pick true = e
-    pick false = was k
-
--- the first of a set, by what the set stands for
-pub first_same : (p q : ℕ → Bool) (a : ℕ) (o : Option ℕ) → ((k : ℕ) → p k ≡ q k) → IsFirst p a o → IsFirst q a o
-first_same p q a o e h = subst (λ (t : ℕ → Bool). IsFirst t a o) (same_function p q e) h
-
-pub first_within : (p : ℕ → Bool) (n a : ℕ) (o : Option ℕ) → ((k : ℕ) → n ≤ k → p k ≡ false) → IsFirst p a o → IfSome o (λ r. r < n)
-first_within p n a None out h = tt
-first_within p n a (Some r) out h = ⊎_elim (λ l. l) (λ l. absurd (true≢false (sym h.1 ∙ out r l))) (cases_lt r n)
 
 pub any_is : {A : Type 0} (xs : List A) → not (length xs == 0) ≡ has_any xs
 any_is [] = refl

@@ -1,4 +1,5 @@
 pub mod Stored
+pub mod Peers
 pub mod Steps
 pub mod CoreState
 pub mod Table

@@ -31,10 +31,7 @@ pub fn perform(
     match event {
         ClientEvent::Want(keys) => want(table, keys, out),
         ClientEvent::Release(keys) => release(table, keys, out),
-        ClientEvent::FromScheduler(message) => {
-            hear(table, message);
-            Ok(())
-        }
+        ClientEvent::FromScheduler(message) => hear(table, message),
         ClientEvent::Ask { peer } => ask(table, peer, out),
         ClientEvent::Gathered { peer, ask, found } => {
             gathered(table, peer, ask, found.as_slice(), out)
@@ -97,22 +94,28 @@ fn release_key(table: &mut ClientTable, key: u32)
 }
 
 /// News of the scheduler.
-fn hear(table: &mut ClientTable, message: ToClient)
+fn hear(table: &mut ClientTable, message: ToClient) -> Result<(), AllocError>
     requires { can_hear (facts_of table.old) message ≡ true }
-    ensures { facts_of table.new ≡ hear (facts_of table.old) message }
+    ensures { OnOk result (facts_of table.new ≡ hear (facts_of table.old) message) }
 {
     match message {
         ToClient::KeyInMemory { key, holders } => {
             if table.is_due(key) {
-                table.set_located(key, holders);
+                table.set_located(key, holders)
+            } else {
+                Ok(())
             }
         }
-        ToClient::LostData { key } => table.forget(key),
+        ToClient::LostData { key } => {
+            table.forget(key);
+            Ok(())
+        }
         ToClient::ClientTaskErred { key, blame } => {
             if table.is_due(key) {
                 table.set_failed(key, Some(blame));
                 table.forget(key);
             }
+            Ok(())
         }
     }
 }

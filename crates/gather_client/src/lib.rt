@@ -10,6 +10,7 @@
 
 pub mod client;
 mod events;
+mod peers;
 mod questions;
 pub mod table;
 

@@ -55,7 +55,7 @@ impl ClientTable {
     {
         self.sound();
         let mut from = 0;
-        'keys: while let Some(key) = self.next_held(from) {
+        'keys: while let Some(key) = self.next_held(peer, from) {
             if self.open_item(peer, key).is_some() {
                 return true;
             }
@@ -74,7 +74,7 @@ impl ClientTable {
         self.sound();
         let mut items = Vec::new(self.allocator());
         let mut from = 0;
-        'keys: while let Some(key) = self.next_held(from) {
+        'keys: while let Some(key) = self.next_held(peer, from) {
             push_item(&mut items, self.open_item(peer, key))?;
             if items.len() >= ASK_KEYS {
                 return Ok(items);

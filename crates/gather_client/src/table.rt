@@ -1,21 +1,21 @@
 //! The stored facts of a client. Each call changes one fact, or answers one.
 #![tactic(auto, unfolding(crate::specs::Stored::facts_of))]
 
-ghost use Rattle.std.specs.Prelude.{◌≡◌, ◌==◌, ◌&&◌, ◌+◌, ◌<◌, ◌≤◌, ◌^◌, ℕ, true, false, None, [], not, is_some, nat_eq, cond, length, All, IfOk, IfSome, OnOk, OnErr};
+ghost use Rattle.std.specs.Prelude.{◌≡◌, ◌==◌, ◌&&◌, ◌+◌, ◌<◌, ◌≤◌, ◌^◌, ℕ, true, false, None, [], not, is_some, length, All, IfOk, IfSome, OnOk, OnErr};
 ghost use Rattle.std.specs.Option.{option_map};
 ghost use Rattle.std.specs.List.{list_any};
 ghost use Rattle.cluster_msgs.specs.Shape.{IsShape, key_count};
 ghost use Rattle.cluster_rules.specs.Functions.{put};
-ghost use Rattle.cluster_rules.specs.Worker.{has_any, ask_to, with_ask, without_ask, is_asked_for};
+ghost use Rattle.cluster_rules.specs.Worker.{ask_to, with_ask, without_ask, is_asked_for};
 ghost use Rattle.cluster_rules.specs.Client.{new_client, is_open};
 ghost use Rattle.fact_rows.specs.Rows.{read};
-ghost use Rattle.key_sets.specs.Sets.{has, room, IsFirst};
 ghost use Rattle.open_asks.specs.Kept.{asked_items};
+ghost use Rattle.gather_client.specs.Peers.{IsNext};
 ghost use Rattle.gather_client.specs.Stored.{facts_of};
 
+use crate::peers::PeerKeys;
 use cluster_msgs::{GraphShape, Holders};
 use fact_rows::Row;
-use key_sets::KeySet;
 use open_asks::Asks;
 use std::alloc::{AllocError, Global};
 use std::marker::Model;
@@ -29,7 +29,7 @@ pub struct ClientTable {
     shape: GraphShape,
     wants: Row<bool>,
     located: Vec<Holders>,
-    held: KeySet,
+    peers: PeerKeys,
     asks: Asks,
     got: Row<bool>,
     failed: Row<Option<u32>>,
@@ -60,7 +60,7 @@ impl ClientTable {
         let count = shape.keys() as usize;
         let wants = Row::filled(alloc, count, false)?;
         let located = no_holders(alloc, count)?;
-        let held = KeySet::new(alloc, shape.keys())?;
+        let peers = PeerKeys::new(alloc, shape.keys())?;
         let asks = Asks::new(alloc, count)?;
         let got = Row::filled(alloc, count, false)?;
         let failed = Row::filled(alloc, count, None)?;
@@ -69,7 +69,7 @@ impl ClientTable {
             shape,
             wants,
             located,
-            held,
+            peers,
             asks,
             got,
             failed,
@@ -199,20 +199,21 @@ impl ClientTable {
     }
 
     /// Says who holds the key.
-    pub fn set_located(&mut self, key: u32, to: Holders)
+    ///
+    /// # Errors
+    /// Where no memory is left; all is then as before.
+    pub fn set_located(&mut self, key: u32, to: Holders) -> Result<(), AllocError>
         requires { key < key_count (facts_of self.old).shape }
-        ensures { facts_of self.new ≡ record (facts_of self.old) { located = put (facts_of self.old).located key to } }
+        ensures ok { OnOk result (facts_of self.new ≡ record (facts_of self.old) { located = put (facts_of self.old).located key to }) }
+        ensures err { OnErr result (facts_of self.new ≡ facts_of self.old) }
     {
-        put(&mut self.held, key, !to.is_empty());
-        self.located[key as usize] = to;
-    }
-
-    /// The least key from this one on that somebody is known to hold.
-    pub fn next_held(&self, from: u32) -> Option<u32>
-        ensures first { IsFirst (λ k. has_any ((facts_of self.now).located k)) from result }
-        ensures within { IfSome result (λ k. k < key_count (facts_of self.now).shape) }
-    {
-        self.held.first_from(from)
+        let place = key as usize;
+        self.peers.add_sets(self.alloc, to.as_slice())?;
+        self.peers
+            .put_all(self.located[place].as_slice(), key, false);
+        self.peers.put_all(to.as_slice(), key, true);
+        self.located[place] = to;
+        Ok(())
     }
 
     /// Nobody is known to hold the key.
@@ -220,8 +221,23 @@ impl ClientTable {
         requires { key < key_count (facts_of self.old).shape }
         ensures { facts_of self.new ≡ record (facts_of self.old) { located = put (facts_of self.old).located key [] } }
     {
-        let nobody = Holders::new(self.alloc);
-        self.set_located(key, nobody);
+        let place = key as usize;
+        self.peers
+            .put_all(self.located[place].as_slice(), key, false);
+        self.located[place] = Holders::new(self.alloc);
+    }
+
+    /// A key from this one on, before which the peer holds none. It is the least that it holds, where it has a number that a worker can have.
+    pub fn next_held(&self, peer: u32, from: u32) -> Option<u32>
+        ensures { IsNext (facts_of self.now).located (key_count (facts_of self.now).shape) peer from result }
+    {
+        if self.peers.has_place(peer) {
+            self.peers.next(peer, from)
+        } else if from < self.keys() {
+            Some(from)
+        } else {
+            None
+        }
     }
 
     /// The number of the open ask to a peer, if one is open.
@@ -265,19 +281,6 @@ impl ClientTable {
         ensures { facts_of self.new ≡ record (facts_of self.old) { asks = without_ask (facts_of self.old).asks peer } }
     {
         self.asks.close(peer);
-    }
-}
-
-/// Puts the key into the set, or takes it out.
-fn put(set: &mut KeySet, key: u32, to: bool)
-    requires { key < room set.old }
-    ensures keys { (k : ℕ) → has set.new k ≡ cond (nat_eq k key) to (has set.old k) }
-    ensures room { room set.new ≡ room set.old }
-{
-    if to {
-        set.insert(key);
-    } else {
-        set.remove(key);
     }
 }
 

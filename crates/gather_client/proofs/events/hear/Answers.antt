@@ -1,4 +1,5 @@
 use Rattle.std.proofs.Common.{◌∙◌, ap, Some, []}
+use Rattle.std.proofs.lemmas.Result.{on_ok_weaker}
 use Rattle.cluster_rules.specs.Functions.{put}
 use Rattle.cluster_rules.specs.Client.{ClientFacts, hear}
 use Rattle.gather_client.specs.Stored.{facts_of}
@@ -7,7 +8,9 @@ use Rattle.gather_client.proofs.events.hear.Goals as goal
 
 pub returns-then-is_due : goal.returns-then-is_due
 unfolding hear
-returns-then-is_due c = rw c.in-KeyInMemory.is (heard (facts_of c.args.table.now) (facts_of c.set_located.new.self) c.in-KeyInMemory.key c.is_due.result _ c.is_due.ensures c.if-is_due.true c.set_located.ensures)
+returns-then-is_due c =
+    let f = facts_of c.args.table.now in
+    rw c.in-KeyInMemory.is (on_ok_weaker c.set_located.result (λ e. heard f (facts_of c.set_located.new.self) c.in-KeyInMemory.key c.is_due.result _ c.is_due.ensures c.if-is_due.true e) c.set_located.ensures.ok)
 
 pub returns-else-is_due : goal.returns-else-is_due
 unfolding hear

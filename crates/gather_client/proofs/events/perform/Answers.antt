@@ -1,5 +1,6 @@
 use Rattle.std.proofs.Common.{sym, append-nil, subst, ◌≡◌, ◌++◌}
 use Rattle.std.specs.Prelude.{OnOk}
+use Rattle.small_facts.proofs.Results.{on_ok_from}
 use Rattle.cluster_rules.specs.Client.{client_step, client_takes, client_gathered}
 use Rattle.gather_client.specs.Stored.{facts_of}
 use Rattle.gather_client.proofs.events.perform.Goals as goal
@@ -38,7 +39,7 @@ returns-in-FromScheduler-clause-facts c = rw c.in-FromScheduler.is c.hear.ensure
 
 pub returns-in-FromScheduler-clause-instructions : goal.returns-in-FromScheduler-clause-instructions
 unfolding client_step
-returns-in-FromScheduler-clause-instructions c = rw c.in-FromScheduler.is (sym (append-nil c.args.out.now))
+returns-in-FromScheduler-clause-instructions c = rw c.in-FromScheduler.is (on_ok_from c.hear.result (sym (append-nil c.args.out.now)))
 
 pub returns-in-Ask-clause-facts : goal.returns-in-Ask-clause-facts
 unfolding client_step

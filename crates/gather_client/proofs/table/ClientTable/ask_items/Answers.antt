@@ -1,4 +1,4 @@
-use Rattle.std.proofs.Common.{◌≡◌, ◌∙◌, ℕ, true, subst}
+use Rattle.std.proofs.Common.{◌≡◌, ℕ, true, subst}
 use Rattle.std.specs.Prelude.{◌==◌}
 use Rattle.std.specs.List.{list_any}
 use Rattle.cluster_rules.specs.Worker.{ask_items}

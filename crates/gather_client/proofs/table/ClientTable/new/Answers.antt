@@ -1,6 +1,6 @@
-use Rattle.std.proofs.Common.{◌∙◌, ap, sym, arith}
-use Rattle.cluster_rules.specs.Worker.{has_any}
+use Rattle.std.proofs.Common.{◌∙◌, ap, sym}
 use Rattle.open_asks.specs.Kept.{Kept}
+use Rattle.gather_client.specs.Peers.{names}
 use Rattle.gather_client.specs.Stored.{facts_of}
 use Rattle.gather_client.proofs.table.ClientTable.new.Goals as goal
 
@@ -14,8 +14,8 @@ invariant_of-result c = record {
     failed = c.in_ok-failed.ensures.length ∙ c.keys-count.ensures;
   };
   wide = ap (λ (a : Kept). a.wide) c.in_ok-asks.ensures ∙ c.keys-count.ensures;
-  room = omega (arith, c.in_ok-held.ensures.room, c.keys.ensures);
-  held = λ k. c.in_ok-held.ensures.keys k ∙ sym (ap has_any (c.in_ok-located.ensures.empty k));
+  over = c.in_ok-peers.ensures.keys ∙ c.keys.ensures;
+  held = λ p k l. c.in_ok-peers.ensures.none p k ∙ sym (ap (names p) (c.in_ok-located.ensures.empty k));
 }
 
 pub returns : goal.returns

@@ -1,20 +1,27 @@
-use Rattle.std.proofs.Common.{◌<◌, ◌∙◌, ap, arith, not, set, length, length-set, []}
+use Rattle.std.proofs.Common.{◌<◌, ◌∙◌, ℕ, List, sym, arith, subst}
 use Rattle.cluster_msgs.specs.Shape.{key_count}
-use Rattle.cluster_rules.proofs.FunctionLemmas.{set_at}
+use Rattle.gather_client.specs.Peers.{AreReady}
 use Rattle.gather_client.specs.Stored.{facts_of}
-use Rattle.gather_client.proofs.TableLemmas.{held_put, any_is}
+use Rattle.gather_client.proofs.PeerLemmas.{ready_on}
 use Rattle.gather_client.proofs.table.ClientTable.set_located.Goals as goal
 
-pub invariant_of-self : goal.invariant_of-self
+pub put_all-requires-clause-key : goal.put_all-requires-clause-key
 unfolding facts_of
-invariant_of-self c =
-    let a = c.self.inside in
-    let v = c.self.invariant in
-    let key : c.args.key < key_count a.shape = rw (← c.self.view_is) at c.requires in
-    let rows = a.located.items in
-    record {
-      rows = record { shape = v.rows.shape; wants = v.rows.wants; located = length-set rows c.args.key c.args.to ∙ v.rows.located; got = v.rows.got; failed = v.rows.failed };
-      wide = v.wide;
-      room = omega (arith, v.room, c.put.ensures.room);
-      held = held_put a.held c.put.new.set rows (set rows c.args.key c.args.to) c.args.key c.args.to (not c.is_empty.result) (ap not c.is_empty.ensures ∙ any_is c.args.to) v.held c.put.ensures.keys (set_at rows c.args.key c.args.to [] (omega (arith, key, v.rows.located)));
-    }
+put_all-requires-clause-key c =
+    let key : c.args.key < key_count c.self.inside.shape = rw (← c.self.view_is) at c.requires in
+    let keys = c.in_ok-add_sets.ensures.same.over.keys in
+    let over = c.self.invariant.over in
+    omega arith
+
+pub put_all-requires-2-clause-key : goal.put_all-requires-2-clause-key
+unfolding facts_of
+put_all-requires-2-clause-key c =
+    let key : c.args.key < key_count c.self.inside.shape = rw (← c.self.view_is) at c.requires in
+    let keys = c.in_ok-add_sets.ensures.same.over.keys in
+    let more = c.put_all.ensures.over.keys in
+    let over = c.self.invariant.over in
+    omega arith
+
+pub put_all-requires-2-clause-ready : goal.put_all-requires-2-clause-ready
+put_all-requires-2-clause-ready c = λ t.
+    subst (λ (hs : List (ℕ × ℕ)). AreReady c.put_all.new.self hs) (c.as_slice.ensures ∙ sym c.as_slice-3.ensures) (ready_on c.add_sets.new.self c.put_all.new.self c.as_slice.result.now c.in_ok-add_sets.ensures.ready c.put_all.ensures.over)
