@@ -86,7 +86,7 @@ pub outgrown-as : (l m : LabelFacts Array) (graph shape : Shape) (p : RunPlan) �
 outgrown-as l m graph shape p e f o = let P : LabelFacts Array × Shape → Type 0 = λ x. IsOutgrown x.0 x.1 p in subst P (λ i. (e i, f i)) o
 
 -- the histories of a run that gave all blocks
-pub served-run : {A : Type 0} (l : LabelFacts Array) (graph : Shape) (p : RunPlan) (wanted : List ℕ) (Failed : Type 0) (result : Result A RunStatus) (left : List (Option Why)) (h : Option Histories) (end : Result Histories Ended) →
+pub served-run : {A E : Type 0} (l : LabelFacts Array) (graph : Shape) (p : RunPlan) (wanted : List ℕ) (Failed : Type 0) (result : Result A RunStatus) (left : List (Option Why)) (h : Option Histories) (end : Result Histories E) →
     HowItEnded l graph p wanted Failed result left h → OnOk end (IsOk result) → IfOk end (λ x. h ≡ Some x) → IfOk end (IsServedRun l graph p wanted)
 served-run l graph p wanted Failed result left h (Err e) how given are = tt
 served-run l graph p wanted Failed (Err e) left h (Ok x) how given are = absurd (false≢true given)
