@@ -1,5 +1,5 @@
-use Rattle.std.proofs.Common.{ap}
-use Rattle.std.proofs.lemmas.Result.{err_from_is_err_and}
+use Rattle.std.proofs.Common.{◌≡◌, Err, ap, refl}
+use Rattle.std.proofs.lemmas.Result.{IfErr-at_err, err_from_is_err_and}
 use Rattle.job_run.specs.Jobs.{plan_of}
 use Rattle.job_run.specs.Plan.{Plan}
 use Rattle.job_run.specs.Values.{tasks_of}
@@ -27,4 +27,4 @@ returns-in_err-histories-clause-outgrown g c =
     let from = err_from_is_err_and c.from_residual.result c.from_residual.ensures.1 in
     rw (from.1, from.2)
     (λ is. outgrown-as (facts_of g.P.Picks.picked (λ j. j.job) g.E.Elements.named g.V.Veil.told) (label g.V.Veil.told g.E.Elements.named (tasks_of p)) (graph_of graph.job) (shape_of (tasks_of p)) c.args.plan.now
-    (facts-are g.P.Picks.picked graph (λ j. j.job) g.E.Elements.named g.V.Veil.told (tasks_of p) c.requires.picked c.requires.tasks) (ap shape_of c.requires.tasks) (c.in_err-histories.ensures.outgrown is))
+    (facts-are g.P.Picks.picked graph (λ j. j.job) g.E.Elements.named g.V.Veil.told (tasks_of p) c.requires.picked c.requires.tasks) (ap shape_of c.requires.tasks) (c.in_err-histories.ensures.outgrown (ap Err (IfErr-at_err (λ e. c.in_err-histories.field-0.0 ≡ e) is refl))))
