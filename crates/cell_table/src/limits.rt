@@ -9,7 +9,7 @@ fn made(alloc: Global, limit: u64, count: u32) -> Option<(u64, u64, bool)> {
     let mut stamps = Stamps::new(alloc).ok()?;
     let mut node = Node::new(alloc, count as u64, limit)?;
     for _ in 0..count {
-        node.count_one(&mut stamps, 1);
+        node.count_one(&mut stamps);
     }
     let made = node.book.made();
     let history = node.into_log().into_history();

@@ -11,14 +11,14 @@ use turn_cell::{Act, Kept, Stamps};
 /// A run of which nothing is told.
 pub type Plain = Named<u64, Brand>;
 
-/// A core that counts.
+/// A core that counts its events.
 #[derive(Drop)]
 pub struct Counter {
     pub count: u64,
 }
 
 impl Machine for Counter {
-    type Event = u64;
+    type Event = ();
 
     type Out = KeyList;
 
@@ -26,8 +26,15 @@ impl Machine for Counter {
 
     ghost by = { λ s e t. Unit {0} };
 
-    fn take(&mut self, event: u64, _out: &mut KeyList) -> Result<(), Stop> {
-        self.count = self.count.wrapping_add(event);
+    ghost taken = { λ s. s.count };
+
+    ghost limited = { λ n. Unit {0} };
+
+    fn take(&mut self, _event: (), _out: &mut KeyList) -> Result<(), Stop> {
+        if self.count >= 1 << 40 {
+            return Err(Stop::Spent);
+        }
+        self.count += 1;
         Ok(())
     }
 }
@@ -52,7 +59,7 @@ impl Node {
     }
 
     /// Makes an entry, where one is left to make.
-    pub fn count_one(&mut self, stamps: &mut Stamps, by: u64) -> bool
+    pub fn count_one(&mut self, stamps: &mut Stamps) -> bool
         ensures { IsRecorded (Steps ⟦<Counter as Machine>⟧.says ⟦<Counter as Machine>⟧.by) self.old.book self.new.book }
     {
         if self.left == 0 {
@@ -62,7 +69,7 @@ impl Node {
         let mut out = KeyList::new(self.alloc);
         let event = Event::DeliverUp { worker: 1 };
         self.book
-            .record(stamps, event, None, Some(by), &mut out)
+            .record(stamps, event, None, Some(()), &mut out)
             .is_ok()
     }
 
@@ -82,13 +89,14 @@ impl Kept for Node {
 
     type Core = Counter;
 
+    ghost use Rattle.std.specs.Prelude.{false};
     ghost use Rattle.node_links.specs.Books.{Steps};
 
     ghost entries = { λ s. s.book.entries };
 
-    ghost core = { λ s. s.book.core };
+    ghost core = { λ s. s.book.kept };
 
-    ghost cut = { λ s. s.book.cut };
+    ghost cut = { λ s. false };
 
     ghost steps = { Steps ⟦<Counter as Machine>⟧.says ⟦<Counter as Machine>⟧.by };
 
@@ -109,7 +117,7 @@ impl<'a> Act<Node, Plain> for CountOne<'a> {
 
     fn act(self, state: &mut Node) -> u64 {
         let CountOne { stamps } = self;
-        state.count_one(stamps, 1);
+        state.count_one(stamps);
         state.book.stored()
     }
 }

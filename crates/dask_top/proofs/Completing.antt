@@ -1,5 +1,5 @@
 -- A job ends as its text, its inputs and its values say where nothing failed.
-use Rattle.std.proofs.Common.{◌≡◌, ℕ, List, [], ◌∷◌, get_or, string_bytes, refl, ap, sym, ◌∙◌, subst, inl, inr, Option, Some, None, Ok, Err}
+use Rattle.std.proofs.Common.{◌≡◌, ℕ, List, [], ◌∷◌, get_or, string_bytes, refl, ap, sym, ◌∙◌, subst, inl, inr, arith, Option, Some, None, Ok, Err}
 use Rattle.std.specs.Prelude.{◌⊎◌, IfSome, IsSomeAnd}
 use Rattle.io_edge.specs.View.{View, Files}
 use Rattle.nd_shape.specs.Block.{Array}
@@ -36,18 +36,20 @@ use Rattle.sim_run.specs.Jobs.{IsTextJob}
 use Rattle.sim_run.specs.declared.ends.SimEnded.{SimEnded}
 use Rattle.sim_run.specs.declared.ends.SimEnded.TheVariants as SimEnds
 use Rattle.sim_run.specs.Ends.{Cause as SimCause, WhereTold}
-use Rattle.thread_run.specs.Ends.{Cause as ThreadCause, HasFault as ThreadFault, HasValues as ThreadValues}
+use Rattle.thread_run.specs.Ends.{Cause as ThreadCause, HasFault as ThreadFault, HasValues as ThreadValues, IsOutgrownRun}
+use Rattle.thread_run.specs.declared.ends.ThreadEnded.{ThreadEnded}
+use Rattle.thread_run.specs.declared.ends.ThreadEnded.TheVariants as ThreadEnds
 use Rattle.command_words.proofs.Saying.{one_gen, one_plain, one_run, one_sim}
 use Rattle.dask_top.specs.declared.answer.End.TheVariants.{Words, Job, Limit, Graph, Events, Done, File, Zero, ReadFault, WriteFault, OutOfMemory}
 use Rattle.dask_top.specs.Answers.{Answers, AskedDoes, CommandDoes, Performs}
 use Rattle.dask_top.specs.Commands.{Command, Run, Plain, Sim, Gen, Asks, Asked, IsAsked, Known, Unread, Work, Running, Evaluation, Simulation, sources_of}
 use Rattle.dask_top.specs.Completing.{CommandEnds, Completes, EndsByInputs, EndsByNumber, EndsByRun, EndsBySimulation, EndsByTexts, EndsByWork, MeetNoZero, MeetZero, NeverEnds, NoFault}
-use Rattle.dask_top.specs.Ends.{run_end, sim_end, status_of}
+use Rattle.dask_top.specs.Ends.{run_end, sim_end, status_of, thread_end}
 use Rattle.dask_top.specs.Generating.{GenCause}
 use Rattle.dask_top.specs.Reading.{IsRead, Reading, Reads, plan_said}
-use Rattle.dask_top.specs.Telling.{end_of, sim_end_of}
+use Rattle.dask_top.specs.Telling.{end_of, sim_end_of, thread_end_of}
 use Rattle.dask_top.proofs.Obeying.{gen_or_plain, gen_or_run, gen_or_sim, plain_or_run, plain_or_sim, run_or_sim}
-use Rattle.dask_top.specs.Works.{Does, Evaluates, RefusalCause, Runs, Simulates, UnreadCause, WorkDoes}
+use Rattle.dask_top.specs.Works.{Does, Evaluates, RefusalCause, RunsToEnd, Simulates, UnreadCause, WorkDoes}
 
 told_and : {A : Type 0} (o : Option A) (P Q : A → Type 0) → IsSomeAnd o P → IfSome o Q → (x : A) × P x × Q x
 told_and None P Q both if = absurd both
@@ -131,11 +133,18 @@ sim_memory p said old = record {
   none_limit = λ s f m. inr (inr refl);
 }
 
-threads_memory : (p : Plan) (old : View) → EndsByRun p old 8
-threads_memory p old = record { large = λ l. inr refl; unfit = λ s u. inr refl; some = λ t s f m. inr refl; none = λ t s f m. inr refl; either = λ s f. inr (inr refl) }
+threads_memory : (p : Plan) (said : RunWords) (old : View) → EndsByRun p said old 8
+threads_memory p said old = record {
+  large = λ l. inr refl;
+  unfit = λ s u. inr refl;
+  some = λ t s f m. inr (inr refl);
+  none = λ t s f m. inr (inr refl);
+  either = λ s f. inr (inr (inr refl));
+  events = λ s e. absurd (omega (arith, e));
+}
 
 memory_ends : (work : Work) (p : Plan) (old : View) → EndsByWork work p old 8
-memory_ends (Running said) p old = threads_memory p old
+memory_ends (Running said) p old = threads_memory p said old
 memory_ends Evaluation p old = run_memory p old
 memory_ends (Simulation said) p old = sim_memory p said old
 
@@ -206,50 +215,70 @@ fault_ends p old node block small has = record {
 }
 
 -- a run of a job whose inputs are as declared, which met a zero divisor or gave all blocks: of zero divisors it tells where the site tells
-threads_zero : (p : Plan) (old : View) (node : ℕ) (block : List ℕ) → IsSmall p → ThreadFault p old.files node block → EndsByRun p old 4
-threads_zero p old node block small has = record {
+threads_zero : (p : Plan) (said : RunWords) (old : View) (node : ℕ) (block : List ℕ) → IsSmall p → ThreadFault p old.files node block → EndsByRun p said old 4
+threads_zero p said old node block small has = record {
   large = λ l. absurd (l small);
   unfit = λ s u. absurd (not_fit p old.files u has.inputs);
   some = λ t s f m. inl refl;
   none = λ t s f m. absurd (not_faulty p old.files node block m (record { inputs = has.inputs; zero_at = has.zero_at t }));
   either = λ s f. inr (inl refl);
+  events = λ s e. absurd (omega (arith, e));
 }
 
-threads_done : (p : Plan) (old : View) → IsSmall p → ThreadValues p old.files → EndsByRun p old 0
-threads_done p old small has = record {
+threads_done : (p : Plan) (said : RunWords) (old : View) → IsSmall p → ThreadValues p old.files → EndsByRun p said old 0
+threads_done p said old small has = record {
   large = λ l. absurd (l small);
   unfit = λ s u. absurd (not_fit p old.files u has.inputs);
   some = λ t s f m. absurd (not_all p old.files m (record { inputs = has.inputs; values = has.values t }));
   none = λ t s f m. inl refl;
   either = λ s f. inl refl;
+  events = λ s e. absurd (omega (arith, e));
 }
 
-threads_limit : (p : Plan) (old : View) (quantity : Quantity) → limit_of p.nodes ≡ Some quantity → EndsByRun p old 9
-threads_limit p old quantity passes = record {
+threads_limit : (p : Plan) (said : RunWords) (old : View) (quantity : Quantity) → limit_of p.nodes ≡ Some quantity → EndsByRun p said old 9
+threads_limit p said old quantity passes = record {
   large = λ l. inl refl;
   unfit = λ s u. absurd (no_limit p quantity passes s);
   some = λ t s f m. absurd (no_limit p quantity passes s);
   none = λ t s f m. absurd (no_limit p quantity passes s);
   either = λ s f. absurd (no_limit p quantity passes s);
+  events = λ s e. absurd (no_limit p quantity passes s);
 }
 
-threads_file : (p : Plan) (old : View) (place : ℕ) (error : FileError) → IsSmall p → InputRefused p old.files place error → EndsByRun p old 3
-threads_file p old place error small refused = record {
+threads_file : (p : Plan) (said : RunWords) (old : View) (place : ℕ) (error : FileError) → IsSmall p → InputRefused p old.files place error → EndsByRun p said old 3
+threads_file p said old place error small refused = record {
   large = λ l. absurd (l small);
   unfit = λ s u. inl refl;
   some = λ t s f m. absurd (not_refused_input p old.files place error f refused);
   none = λ t s f m. absurd (not_refused_input p old.files place error f refused);
   either = λ s f. absurd (not_refused_input p old.files place error f refused);
+  events = λ s e. absurd (omega (arith, e));
 }
 
-threads_complete : (p : Plan) (old new : View) (end : Ended) → NoFault old new → ThreadCause p old new end → EndsByRun p old (status_of (end_of end))
-threads_complete p old new RunEnds.Done faults cause = threads_done p old cause.0 cause.1
-threads_complete p old new (RunEnds.Limit quantity) faults cause = threads_limit p old quantity cause
-threads_complete p old new (RunEnds.File place error) faults cause = threads_file p old place error cause.0 cause.1
-threads_complete p old new (RunEnds.Zero node block) faults cause = threads_zero p old node block cause.0 cause.1
-threads_complete p old new RunEnds.ReadFault faults cause = absurd (faults.read cause.1)
-threads_complete p old new RunEnds.WriteFault faults cause = absurd (elim cause.2 [ inl w ↦ faults.write w | inr q ↦ faults.print q.1 ])
-threads_complete p old new RunEnds.OutOfMemory faults cause = threads_memory p old
+-- a node's core had taken all events: whether the inputs are as declared is known
+threads_events : (p : Plan) (said : RunWords) (old : View) → IsOutgrownRun p said old.files → EndsByRun p said old 9
+threads_events p said old has = record {
+  large = λ l. inl refl;
+  unfit = λ s u. absurd (not_fit p old.files u has.inputs);
+  some = λ t s f m. inr (inl refl);
+  none = λ t s f m. inr (inl refl);
+  either = λ s f. inr (inr (inl refl));
+  events = λ s e. has;
+}
+
+threads_ran : (p : Plan) (said : RunWords) (old new : View) (end : Ended) → NoFault old new → ThreadCause p old new end → EndsByRun p said old (status_of (end_of end))
+threads_ran p said old new RunEnds.Done faults cause = threads_done p said old cause.0 cause.1
+threads_ran p said old new (RunEnds.Limit quantity) faults cause = threads_limit p said old quantity cause
+threads_ran p said old new (RunEnds.File place error) faults cause = threads_file p said old place error cause.0 cause.1
+threads_ran p said old new (RunEnds.Zero node block) faults cause = threads_zero p said old node block cause.0 cause.1
+threads_ran p said old new RunEnds.ReadFault faults cause = absurd (faults.read cause.1)
+threads_ran p said old new RunEnds.WriteFault faults cause = absurd (elim cause.2 [ inl w ↦ faults.write w | inr q ↦ faults.print q.1 ])
+threads_ran p said old new RunEnds.OutOfMemory faults cause = threads_memory p said old
+
+threads_complete : (sources : List (List ℕ)) (p : Plan) (said : RunWords) (old new : View) (end : ThreadEnded) → NoFault old new → RunsToEnd sources p said old new end
+    → EndsByRun p said old (status_of (thread_end_of end))
+threads_complete sources p said old new ThreadEnds.Events faults does = threads_events p said old (does.events refl)
+threads_complete sources p said old new (ThreadEnds.Ran end) faults does = threads_ran p said old new end faults does.runs.cause
 
 sim_run_completes : (p : Plan) (said : SimWords) (old new : View) (end : Ended) → NoFault old new → SimCause p said old new (SimEnds.Ran end) → EndsByInputs p old (status_of (end_of end))
 sim_run_completes p said old new RunEnds.Done faults cause = done_ends p old cause.0 cause.1
@@ -293,8 +322,21 @@ of_sim P Q f Words holds = absurd holds
 of_sim P Q f (Job error) holds = absurd holds
 of_sim P Q f (Limit quantity) holds = absurd holds
 
+of_thread : (P : ThreadEnded → Type 0) (Q : ℕ → Type 0) → ((e : ThreadEnded) → P e → Q (status_of (thread_end_of e))) → (end : End) → IsSomeAnd (thread_end end) P → Q (status_of end)
+of_thread P Q f Done holds = f (ThreadEnds.Ran RunEnds.Done) holds
+of_thread P Q f (File place error) holds = f (ThreadEnds.Ran (RunEnds.File place error)) holds
+of_thread P Q f (Zero node block) holds = f (ThreadEnds.Ran (RunEnds.Zero node block)) holds
+of_thread P Q f ReadFault holds = f (ThreadEnds.Ran RunEnds.ReadFault) holds
+of_thread P Q f WriteFault holds = f (ThreadEnds.Ran RunEnds.WriteFault) holds
+of_thread P Q f OutOfMemory holds = f (ThreadEnds.Ran RunEnds.OutOfMemory) holds
+of_thread P Q f (Graph quantity) holds = f (ThreadEnds.Ran (RunEnds.Limit quantity)) holds
+of_thread P Q f Events holds = f ThreadEnds.Events holds
+of_thread P Q f Words holds = absurd holds
+of_thread P Q f (Job error) holds = absurd holds
+of_thread P Q f (Limit quantity) holds = absurd holds
+
 work_completes : (work : Work) (sources : List (List ℕ)) (p : Plan) (old new : View) (end : End) → NoFault old new → WorkDoes work sources p old new end → EndsByWork work p old (status_of end)
-work_completes (Running said) sources p old new end faults does = of_run (Runs sources p said old new) (EndsByRun p old) (λ e d. threads_complete p old new e faults d.cause) end does
+work_completes (Running said) sources p old new end faults does = of_thread (RunsToEnd sources p said old new) (EndsByRun p said old) (λ e d. threads_complete sources p said old new e faults d) end does
 work_completes Evaluation sources p old new end faults does = of_run (Evaluates sources p old new) (EndsByInputs p old) (λ e d. run_completes p old new e faults d.cause) end does
 work_completes (Simulation said) sources p old new end faults does = of_sim (Simulates sources p said old new) (EndsBySimulation p said old) (λ e d. sim_completes p said old new e faults d.cause) end does
 

@@ -1,6 +1,6 @@
 -- A run of a job by a cluster of threads, whose text was read before it and whose end was told after it.
 use Rattle.std.proofs.Common.{◌≡◌, ℕ, ◌≤◌, List, ◌++◌, refl, ap, sym, ◌∙◌, subst, inl, inr, arith, Option, None, Some, Ok}
-use Rattle.std.specs.Prelude.{IsTrue, map}
+use Rattle.std.specs.Prelude.{IsSomeAnd, IsTrue, map}
 use Rattle.io_edge.specs.Content.{followed_by}
 use Rattle.io_edge.proofs.GivenLaws.{given_before, given_later, more_same, more_then}
 use Rattle.io_edge.specs.View.{View, Files, Opens, OnlyReads, OnlyErr, raised_by, times}
@@ -13,17 +13,19 @@ use Rattle.job_run.specs.Plan.{Plan, names_saved}
 use Rattle.job_run.specs.Runs.{AreRight, Created, StopsPrinting}
 use Rattle.job_run.proofs.Counting.{times-append}
 use Rattle.thread_run.specs.Counts.{RaisedBetween, feeds, repeated}
-use Rattle.thread_run.specs.Ends.{Cause, HasValues, Saves, Opened, Looked, Prints, PrintsRun, RunsByThreads, WritesFail, lines_of, openings}
+use Rattle.thread_run.specs.Ends.{Cause, HasValues, Saves, Opened, Looked, Prints, PrintsRun, IsOutgrownRun, LeavesAs, RunsByThreads, WritesFail, left_as, lines_of, openings}
 use Rattle.thread_run.specs.Reports.{IsToldRun}
+use Rattle.thread_run.specs.declared.ends.ThreadEnded.{ThreadEnded}
+use Rattle.thread_run.specs.declared.ends.ThreadEnded.TheVariants as ThreadEnds
 use Rattle.thread_run.specs.declared.verdict.Told.{Told as ToldOfRun}
 use Rattle.dask_top.specs.declared.answer.End.{End}
 use Rattle.dask_top.specs.Answers.{Performs}
 use Rattle.dask_top.specs.Commands.{Running}
-use Rattle.dask_top.specs.Ends.{Notes}
+use Rattle.dask_top.specs.Ends.{Notes, thread_end}
 use Rattle.dask_top.specs.Opening.{TextRead, JobRead}
-use Rattle.dask_top.specs.Telling.{IsRefusal, Told, end_of}
-use Rattle.dask_top.specs.Works.{RunningOpened, Runs, WorkDoes}
-use Rattle.dask_top.proofs.Evaluating.{cause_before, fit_before, refusal_created, right_before, run_is, saves_before, stops_before, stops_told}
+use Rattle.dask_top.specs.Telling.{IsRefusal, Told, end_of, thread_end_of}
+use Rattle.dask_top.specs.Works.{RunningOpened, Runs, RunsToEnd, WorkDoes}
+use Rattle.dask_top.proofs.Evaluating.{cause_before, fit_before, refusal_created, right_before, saves_before, stops_before, stops_told}
 use Rattle.dask_top.proofs.Opening.{raised_by-append, raised_first, raised_more}
 use Rattle.dask_top.proofs.Reading.{is_given, is_read}
 use Rattle.dask_top.proofs.Unread.{notes_before}
@@ -113,13 +115,38 @@ runs_starved sources p said old new RunEnds.ReadFault is e = absurd is
 runs_starved sources p said old new RunEnds.WriteFault is e = absurd is
 runs_starved sources p said old new RunEnds.OutOfMemory is e = absurd is
 
-run_told : (sources : List (List ℕ)) (p : Plan) (said : RunWords) (old mid new : View) (end : Ended) (now : End) → Told (end_of end) now → OnlyErr mid new → Runs sources p said old mid end
+-- an end that a run in the calling thread may have is not that by the events of a core
+ran : (sources : List (List ℕ)) (p : Plan) (said : RunWords) (old new : View) (end : Ended) → Runs sources p said old new end → RunsToEnd sources p said old new (ThreadEnds.Ran end)
+ran sources p said old new end runs = record { runs = runs; events = λ is. absurd (other is) }
+  where
+    other : ◌≡◌ {A = ThreadEnded} (ThreadEnds.Ran end) ThreadEnds.Events → ⊥
+    other e = cc
+
+-- what holds of the end of a run holds of the end that is answered
+thread_is : (P : ThreadEnded → Type 0) (end : ThreadEnded) → P end → IsSomeAnd (thread_end (thread_end_of end)) P
+thread_is P ThreadEnds.Events holds = holds
+thread_is P (ThreadEnds.Ran RunEnds.Done) holds = holds
+thread_is P (ThreadEnds.Ran (RunEnds.Limit quantity)) holds = holds
+thread_is P (ThreadEnds.Ran (RunEnds.File place error)) holds = holds
+thread_is P (ThreadEnds.Ran (RunEnds.Zero node block)) holds = holds
+thread_is P (ThreadEnds.Ran RunEnds.ReadFault) holds = holds
+thread_is P (ThreadEnds.Ran RunEnds.WriteFault) holds = holds
+thread_is P (ThreadEnds.Ran RunEnds.OutOfMemory) holds = holds
+
+-- memory was wanted for a refusal's line
+threads_starved : (sources : List (List ℕ)) (p : Plan) (said : RunWords) (old new : View) (end : ThreadEnded) → IsRefusal (thread_end_of end) → RunsToEnd sources p said old new end
+    → Runs sources p said old new RunEnds.OutOfMemory
+threads_starved sources p said old new ThreadEnds.Events is e = absurd is
+threads_starved sources p said old new (ThreadEnds.Ran end) is e = runs_starved sources p said old new end is e.runs
+
+run_told : (sources : List (List ℕ)) (p : Plan) (said : RunWords) (old mid new : View) (end : ThreadEnded) (now : End) → Told (thread_end_of end) now → OnlyErr mid new → RunsToEnd sources p said old mid end
     → WorkDoes (Running said) sources p old new now
 run_told sources p said old mid new end now told only e =
     let W : End → Type 0 = λ x. WorkDoes (Running said) sources p old new x in
     elim told [
-      | inl same ↦ subst W (sym same) (run_is (Runs sources p said old new) end (runs_told sources p said old mid new end only e))
-      | inr refused ↦ subst W (sym refused.1) (runs_told sources p said old mid new RunEnds.OutOfMemory only (runs_starved sources p said old mid end refused.0 e))
+      | inl same ↦ subst W (sym same) (thread_is (RunsToEnd sources p said old new) end (record { runs = runs_told sources p said old mid new (left_as end) only e.runs; events = e.events }))
+      | inr refused ↦ subst W (sym refused.1) (ran sources p said old new RunEnds.OutOfMemory
+          (runs_told sources p said old mid new RunEnds.OutOfMemory only (threads_starved sources p said old mid end refused.0 e)))
     ]
 
 -- ## Before it, only the text was read
@@ -141,7 +168,7 @@ cause_first p old mid new (RunEnds.Limit quantity) held tells only later cause =
 cause_first p old mid new (RunEnds.File place error) held tells only later cause = cause_before p old mid new (RunEnds.File place error) held tells only later cause
 cause_first p old mid new (RunEnds.Zero node block) held tells only later cause = (
   cause.0,
-  record { inputs = fit_before p old.files mid.files held tells cause.1.inputs; zero_at = rw (← held, ← tells) cause.1.zero_at },
+  record { inputs = fit_before p old.files mid.files held tells cause.1.inputs; needed = cause.1.needed; zero_at = rw (← held, ← tells) cause.1.zero_at },
   given_before old.gave mid.gave new.gave _ only.gave cause.2,
 )
 cause_first p old mid new RunEnds.ReadFault held tells only later cause = cause_before p old mid new RunEnds.ReadFault held tells only later cause
@@ -206,7 +233,7 @@ prints_first p said old mid new (RunEnds.Zero node block) held tells created onl
 prints_first p said old mid new RunEnds.ReadFault held tells created only prints = prints ∙ only.out
 prints_first p said old mid new RunEnds.OutOfMemory held tells created only prints = prints ∙ only.out
 
-runs : (names : List (List ℕ)) (p : Plan) (said : RunWords) (old mid new : View) (read : List ℕ) (end : Ended) → TextRead names old mid read → RunsByThreads p said mid new end → Runs names p said old new end
+runs : (names : List (List ℕ)) (p : Plan) (said : RunWords) (old mid new : View) (read : List ℕ) (end : Ended) → TextRead names old mid read → LeavesAs p said mid new end → Runs names p said old new end
 runs names p said old mid new read end t by =
     let opens = t.opens in
     let C : (List ℕ → ℕ) → Type 0 = λ f. Created (names_saved p) f new.files.created end in
@@ -220,13 +247,28 @@ runs names p said old mid new read end t by =
       prints = prints_first p said old mid new end opens.held opens.tells opens.created t.only by.prints;
     }
 
-pub threads_perform : (names : List (List ℕ)) (p : Plan) (said : RunWords) (old mid done new : View) (end : Ended) (now : End) → JobRead names old mid p → RunsByThreads p said mid done end → Told (end_of end) now
+-- what is said of a run whose histories passed their limit, over files that hold the same
+outgrown_first : (p : Plan) (said : RunWords) (old mid : Files) → mid.held ≡ old.held → mid.tells ≡ old.tells → IsOutgrownRun p said mid → IsOutgrownRun p said old
+outgrown_first p said old mid held tells o = record {
+  small = o.small;
+  inputs = fit_before p old mid held tells o.inputs;
+  named = o.named;
+  told = o.told;
+  told_is = rw (← held, ← tells) o.told_is;
+  held = rw (← held) o.held;
+  run = o.run;
+}
+
+pub threads_perform : (names : List (List ℕ)) (p : Plan) (said : RunWords) (old mid done new : View) (end : ThreadEnded) (now : End) → JobRead names old mid p → RunsByThreads p said mid done end → Told (thread_end_of end) now
     → OnlyErr done new → Notes (Some (Ok p)) done new now → Performs names (Running said) old new now
 threads_perform names p said old mid done new end now j by told only notes = record {
   reading = Some (Ok p);
   read = is_read names old mid j.read (Ok p) j.text j.says;
-  given = is_given names old mid new j.read (Ok p) j.text j.says (more_then mid.gave done.gave new.gave by.gave (more_same done.gave new.gave only.gave));
-  does = run_told names p said old done new end now told only (runs names p said old mid done j.read end j.text by);
-  tells = ap (λ (x : Files). x.tells) only.files ∙ (by.tells ∙ j.text.opens.tells);
-  notes = notes_before (Some (Ok p)) old done new now (by.err ∙ j.text.only.err) (by.note_faults ∙ j.text.only.note_faults) notes;
+  given = is_given names old mid new j.read (Ok p) j.text j.says (more_then mid.gave done.gave new.gave by.leaves.gave (more_same done.gave new.gave only.gave));
+  does = run_told names p said old done new end now told only (record {
+    runs = runs names p said old mid done j.read (left_as end) j.text by.leaves;
+    events = λ is. outgrown_first p said old.files mid.files j.text.opens.held j.text.opens.tells (by.events is);
+  });
+  tells = ap (λ (x : Files). x.tells) only.files ∙ (by.leaves.tells ∙ j.text.opens.tells);
+  notes = notes_before (Some (Ok p)) old done new now (by.leaves.err ∙ j.text.only.err) (by.leaves.note_faults ∙ j.text.only.note_faults) notes;
 }

@@ -11,7 +11,9 @@ use Rattle.plain_eval.specs.Eval.{held_in}
 use Rattle.sim_run.specs.Jobs.{IsTextJob}
 use Rattle.sim_run.specs.Simulated.{IsOutOfEvents, SimulatesTo}
 use Rattle.command_words.specs.declared.generate.GenWords.{GenWords}
+use Rattle.command_words.specs.declared.run.RunWords.{RunWords}
 use Rattle.command_words.specs.declared.sim.SimWords.{SimWords}
+use Rattle.thread_run.specs.Ends.{IsOutgrownRun}
 use Rattle.dask_top.specs.Commands.{Command, Run, Plain, Sim, Gen, Asks, Work, Running, Evaluation, Simulation, sources_of}
 use Rattle.dask_top.specs.Generating.{NeverEndsAlone}
 use Rattle.dask_top.specs.Reading.{Reads}
@@ -47,14 +49,16 @@ pub record EndsByInputs (p : Plan) (old : View) (status : ℕ) : Type 0 where
   pub some : IsSmall p → Tell p old (FitInputs p) → Tell p old (MeetZero p) → (status ≡ 4) ⊎ (status ≡ 8)
   pub none : IsSmall p → Tell p old (FitInputs p) → Tell p old (MeetNoZero p) → (status ≡ 0) ⊎ (status ≡ 8)
 
--- How a run by threads ends: as an evaluation of its job does. Its workers' blocks lie on disks of the site, too: so zero divisors decide where it tells
--- what it holds.
-pub record EndsByRun (p : Plan) (old : View) (status : ℕ) : Type 0 where
+-- How a run by threads ends: as an evaluation of its job does, or after 2^40 events of a node's core. Its workers' blocks lie on disks of the site, too: so
+-- zero divisors decide where it tells what it holds.
+pub record EndsByRun (p : Plan) (said : RunWords) (old : View) (status : ℕ) : Type 0 where
   pub large : ¬ IsSmall p → (status ≡ 9) ⊎ (status ≡ 8)
   pub unfit : IsSmall p → Tell p old (λ contents. ¬ FitInputs p contents) → (status ≡ 3) ⊎ (status ≡ 8)
-  pub some : IsTrue old.files.tells → IsSmall p → Tell p old (FitInputs p) → Tell p old (MeetZero p) → (status ≡ 4) ⊎ (status ≡ 8)
-  pub none : IsTrue old.files.tells → IsSmall p → Tell p old (FitInputs p) → Tell p old (MeetNoZero p) → (status ≡ 0) ⊎ (status ≡ 8)
-  pub either : IsSmall p → Tell p old (FitInputs p) → (status ≡ 0) ⊎ ((status ≡ 4) ⊎ (status ≡ 8))
+  pub some : IsTrue old.files.tells → IsSmall p → Tell p old (FitInputs p) → Tell p old (MeetZero p) → (status ≡ 4) ⊎ ((status ≡ 9) ⊎ (status ≡ 8))
+  pub none : IsTrue old.files.tells → IsSmall p → Tell p old (FitInputs p) → Tell p old (MeetNoZero p) → (status ≡ 0) ⊎ ((status ≡ 9) ⊎ (status ≡ 8))
+  pub either : IsSmall p → Tell p old (FitInputs p) → (status ≡ 0) ⊎ ((status ≡ 4) ⊎ ((status ≡ 9) ⊎ (status ≡ 8)))
+  -- 9 comes of no other cause where no limit of the graph is passed
+  pub events : IsSmall p → status ≡ 9 → IsOutgrownRun p said old.files
 
 -- a simulation of a job by these words draws 2^40 events and comes to no end
 abbrev pub NeverEnds : Plan → SimWords → View → Type 0
@@ -71,7 +75,7 @@ pub record EndsBySimulation (p : Plan) (said : SimWords) (old : View) (status : 
   pub none_limit : IsSmall p → Tell p old (FitInputs p) → Tell p old (MeetNoZero p) → (status ≡ 0) ⊎ ((status ≡ 9) ⊎ (status ≡ 8))
 
 abbrev pub EndsByWork : Work → Plan → View → ℕ → Type 0
-EndsByWork (Running said) p old status = EndsByRun p old status
+EndsByWork (Running said) p old status = EndsByRun p said old status
 EndsByWork Evaluation p old status = EndsByInputs p old status
 EndsByWork (Simulation said) p old status = EndsBySimulation p said old status
 

@@ -12,6 +12,8 @@ use Rattle.sim_run.specs.declared.ends.SimEnded.{SimEnded}
 use Rattle.sim_run.specs.declared.ends.SimEnded.TheVariants as SimEnds
 use Rattle.task_graph.specs.declared.limit.Quantity.{Quantity}
 use Rattle.task_graph.specs.declared.limit.Quantity.TheVariants as Quantities
+use Rattle.thread_run.specs.declared.ends.ThreadEnded.{ThreadEnded}
+use Rattle.thread_run.specs.declared.ends.ThreadEnded.TheVariants as ThreadEnds
 use Rattle.dask_top.specs.declared.answer.End.{End}
 use Rattle.dask_top.specs.declared.answer.End.TheVariants.{Words, Job, Limit, Graph, Events, Done, File, Zero, ReadFault, WriteFault, OutOfMemory}
 use Rattle.dask_top.specs.Reading.{Reading, plan_in}
@@ -39,6 +41,18 @@ run_end ReadFault = Some RunEnds.ReadFault
 run_end WriteFault = Some RunEnds.WriteFault
 run_end OutOfMemory = Some RunEnds.OutOfMemory
 run_end end = None
+
+-- the end of a run by threads that this is, if it is one
+abbrev pub thread_end : End → Option ThreadEnded
+thread_end Events = Some ThreadEnds.Events
+thread_end Done = Some (ThreadEnds.Ran RunEnds.Done)
+thread_end (Graph quantity) = Some (ThreadEnds.Ran (RunEnds.Limit quantity))
+thread_end (File place error) = Some (ThreadEnds.Ran (RunEnds.File place error))
+thread_end (Zero node block) = Some (ThreadEnds.Ran (RunEnds.Zero node block))
+thread_end ReadFault = Some (ThreadEnds.Ran RunEnds.ReadFault)
+thread_end WriteFault = Some (ThreadEnds.Ran RunEnds.WriteFault)
+thread_end OutOfMemory = Some (ThreadEnds.Ran RunEnds.OutOfMemory)
+thread_end end = None
 
 -- the end of a simulation that this is, if it is one
 abbrev pub sim_end : End → Option SimEnded

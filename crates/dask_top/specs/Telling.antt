@@ -8,6 +8,8 @@ use Rattle.gen_run.specs.declared.ends.GenEnded.TheVariants as GenEnds
 use Rattle.dask_top.specs.declared.answer.End.{End}
 use Rattle.sim_run.specs.declared.ends.SimEnded.{SimEnded}
 use Rattle.sim_run.specs.declared.ends.SimEnded.TheVariants as SimEnds
+use Rattle.thread_run.specs.declared.ends.ThreadEnded.{ThreadEnded}
+use Rattle.thread_run.specs.declared.ends.ThreadEnded.TheVariants as ThreadEnds
 use Rattle.dask_top.specs.declared.answer.End.TheVariants.{Job, Limit, Graph, Events, Done, File, Zero, ReadFault, WriteFault, OutOfMemory}
 use Rattle.dask_top.specs.Reading.{Reading, plan_in}
 
@@ -44,6 +46,11 @@ end_of (RunEnds.Zero node block) = Zero node block
 end_of RunEnds.ReadFault = ReadFault
 end_of RunEnds.WriteFault = WriteFault
 end_of RunEnds.OutOfMemory = OutOfMemory
+
+-- and the one that a run's by threads is
+abbrev pub thread_end_of : ThreadEnded → End
+thread_end_of ThreadEnds.Events = Events
+thread_end_of (ThreadEnds.Ran end) = end_of end
 
 -- and the one that a simulation's is
 abbrev pub sim_end_of : SimEnded → End

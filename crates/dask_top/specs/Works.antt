@@ -15,11 +15,13 @@ use Rattle.sim_run.specs.declared.ends.SimEnded.TheVariants as SimEnds
 use Rattle.sim_run.specs.Ends.{Cause as SimCause, Saves as SimSaves, Created as SimCreated, Prints as SimPrints}
 use Rattle.command_words.specs.declared.run.RunWords.{RunWords}
 use Rattle.command_words.specs.declared.sim.SimWords.{SimWords}
-use Rattle.thread_run.specs.Ends.{Cause as ThreadCause, Saves as ThreadSaves, Looked as ThreadLooked, Opened as ThreadOpened, Prints as ThreadPrints, openings}
+use Rattle.thread_run.specs.Ends.{Cause as ThreadCause, Saves as ThreadSaves, Looked as ThreadLooked, Opened as ThreadOpened, Prints as ThreadPrints, IsOutgrownRun, left_as, openings}
+use Rattle.thread_run.specs.declared.ends.ThreadEnded.{ThreadEnded}
+use Rattle.thread_run.specs.declared.ends.ThreadEnded.TheVariants as ThreadEnds
 use Rattle.dask_top.specs.declared.answer.End.{End}
 use Rattle.dask_top.specs.declared.answer.End.TheVariants.{Job, Limit, ReadFault, OutOfMemory}
 use Rattle.dask_top.specs.Commands.{Work, Running, Evaluation, Simulation}
-use Rattle.dask_top.specs.Ends.{run_end, sim_end}
+use Rattle.dask_top.specs.Ends.{run_end, sim_end, thread_end}
 use Rattle.dask_top.specs.Reading.{Reading}
 
 -- ## Where there is no job
@@ -95,6 +97,11 @@ pub record Runs (sources : List (List ℕ)) (p : Plan) (said : RunWords) (old ne
   pub created : RunCreated (names_saved p) old.files.created new.files.created end
   pub prints : ThreadPrints p said old new end
 
+-- The same, by its own end: at the events of a core it leaves what a run leaves that wants memory, and a node's history has passed its limit.
+pub record RunsToEnd (sources : List (List ℕ)) (p : Plan) (said : RunWords) (old new : View) (end : ThreadEnded) : Type 0 where
+  pub runs : Runs sources p said old new (left_as end)
+  pub events : end ≡ ThreadEnds.Events → IsOutgrownRun p said old.files
+
 -- ## A simulation
 
 -- the same of a simulation
@@ -116,7 +123,7 @@ pub record Simulates (sources : List (List ℕ)) (p : Plan) (said : SimWords) (o
 
 -- the work on a job
 abbrev pub WorkDoes : Work → List (List ℕ) → Plan → View → View → End → Type 0
-WorkDoes (Running said) sources p old new end = IsSomeAnd (run_end end) (Runs sources p said old new)
+WorkDoes (Running said) sources p old new end = IsSomeAnd (thread_end end) (RunsToEnd sources p said old new)
 WorkDoes Evaluation sources p old new end = IsSomeAnd (run_end end) (Evaluates sources p old new)
 WorkDoes (Simulation said) sources p old new end = IsSomeAnd (sim_end end) (Simulates sources p said old new)
 

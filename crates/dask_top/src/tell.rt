@@ -8,7 +8,7 @@ ghost use Rattle.job_text.specs.Texts.{job_error_text, quantity_text};
 ghost use Rattle.nd_shape.specs.Shape.{comma_list};
 ghost use Rattle.dask_top.specs.Ends.{GetsLine, Notes, graph_text, line_of};
 ghost use Rattle.dask_top.specs.Reading.{Reading};
-ghost use Rattle.dask_top.specs.Telling.{IsOfText, IsPlaced, IsRefusal, Told, end_of, rest_of, sim_end_of};
+ghost use Rattle.dask_top.specs.Telling.{IsOfText, IsPlaced, IsRefusal, Told, end_of, rest_of, sim_end_of, thread_end_of};
 
 use crate::answer::End;
 use array_expr::NodeId;
@@ -18,6 +18,7 @@ use job_text::JobError;
 use sim_run::SimEnded;
 use std::alloc::{AllocError, Global};
 use task_graph::Quantity;
+use thread_run::ThreadEnded;
 
 // Prints a line to standard error. A failure there changes nothing more.
 fn note<S: Site>(site: &mut S, line: &[u8])
@@ -220,6 +221,20 @@ pub fn tell_run<S: Site>(alloc: Global, site: &mut S, job: &Job, end: Ended) -> 
             note(site, b"dask: out of memory\n");
             End::OutOfMemory
         }
+    }
+}
+
+/// Prints the line of the end of a run by threads. The end stays, but a refusal becomes `OutOfMemory` where memory for its line is
+/// wanted.
+pub fn tell_thread<S: Site>(alloc: Global, site: &mut S, job: &Job, end: ThreadEnded) -> End
+    requires { IsPlaced (Some (Ok (plan_of job.now))) (thread_end_of end) }
+    ensures told { Told (thread_end_of end) result }
+    ensures notes { Notes (Some (Ok (plan_of job.now))) (S.view site.old) (S.view site.new) result }
+    ensures only { OnlyErr (S.view site.old) (S.view site.new) }
+{
+    match end {
+        ThreadEnded::Events => tell_text(alloc, site, End::Events),
+        ThreadEnded::Ran(end) => tell_run(alloc, site, job, end),
     }
 }
 

@@ -1,6 +1,6 @@
 //! A core with its history.
-ghost use Rattle.std.specs.Prelude.{◌≡◌, Option, OnOk, OnErr, IfOk, IfErr, IfSome, is_some, Err, Some, None, [], false, cond, length};
-ghost use Rattle.node_links.specs.Books.{IsRecorded, IsEntered, AllBelow};
+ghost use Rattle.std.specs.Prelude.{◌≡◌, ◌+◌, ◌^◌, ◌≤◌, Option, OnOk, OnErr, IfOk, IfErr, IfSome, is_some, Err, Some, None, [], true, false, cond, length};
+ghost use Rattle.node_links.specs.Books.{IsLogOf, IsRecorded, IsEntered, AllBelow};
 ghost use Rattle.node_links.specs.Books.{Steps, StepsBy};
 
 use crate::log::Log;
@@ -16,7 +16,7 @@ pub trait Machine: Drop {
 
     type Out: Drop;
 
-    ghost use Rattle.std.specs.Prelude.{Option};
+    ghost use Rattle.std.specs.Prelude.{ℕ, Option};
     ghost use Rattle.cluster_msgs.specs.declared.events.Event.{Event as AnyEvent};
     ghost use Rattle.cluster_msgs.specs.declared.messages.Message.{Message as AnyMessage};
 
@@ -26,38 +26,54 @@ pub trait Machine: Drop {
     /// What an event makes of the core.
     ghost by: { Self → Self.Event → Self → Type 0 };
 
-    /// Takes one event. A refused one, and one past the last that it may take, change nothing. After `Memory` nothing is known of it.
+    /// How many events the core has taken.
+    ghost taken: { Self → ℕ };
+
+    /// For how many bytes a history of such a core may be made.
+    ghost limited: { ℕ → Type 0 };
+
+    /// Takes one event. A refused one, and one past the last that it may take, its 2^40th, change nothing. After `Memory` nothing is known of it.
     fn take(&mut self, event: Self::Event, out: &mut Self::Out) -> Result<(), Stop>
         ensures ok { OnOk result (by self.old event self.new) }
+        ensures counted { OnOk result (taken self.new ≡ taken self.old + 1) }
         ensures refused { result ≡ Err Stop.Refused → self.new ≡ self.old }
-        ensures spent { result ≡ Err Stop.Spent → self.new ≡ self.old };
+        ensures spent { result ≡ Err Stop.Spent → self.new ≡ self.old }
+        ensures full { result ≡ Err Stop.Spent → 2 ^ 40 ≤ taken self.old };
 }
 
-/// A core with its history. A clause sees the core as it is, or where memory ran out inside it, as it was before: it then takes no event more.
+/// A core with its history. A clause sees the core as it is, or where memory ran out inside it, as it was before: it then takes no event more. It also
+/// sees the core that the stored entries lead to, which is another one only after an entry was left out; the first that was is its next step.
 #[derive(Drop)]
 pub struct Book<C: Machine> {
     core: C,
     before: Snapshot<C>,
     failed: bool,
+    spent: bool,
+    kept: Snapshot<C>,
     log: Log,
 }
 
 impl<C: Machine> Model for Book<C> {
     ghost use Rattle.std.specs.Prelude.{cond, is_some};
-    ghost use Rattle.node_links.specs.Books.{BookState};
+    ghost use Rattle.node_links.specs.Books.{BookState, IsRuled, Steps};
 
     ghost Value = { BookState C };
 
-    ghost view = { λ b. record { core = cond b.failed b.before.value b.core; entries = b.log.entries; cut = is_some b.log.cut } };
+    ghost view = { λ b. record { core = cond b.failed b.before.value b.core; entries = b.log.entries; kept = b.kept.value; cut = is_some b.log.cut } };
+
+    ghost invariant = { λ b. IsRuled C.limited (Steps C.says C.by) C.taken (cond b.failed b.before.value b.core) b.kept.value b.spent b.log };
 }
 
 impl<C: Machine> Book<C> {
-    /// A core without entries, whose history may have so many bytes.
+    /// A core that has taken no event, without entries, whose history may have so many bytes.
     ///
     /// # Errors
     /// The core comes back where there is no memory for the first entries.
     pub fn new(alloc: Global, core: C, limit: u64) -> Result<Self, C>
+        requires limit { C.limited limit }
+        requires none { C.taken core ≡ 0 }
         ensures core { IfOk result (λ b. b.core ≡ core) }
+        ensures kept { IfOk result (λ b. b.kept ≡ core) }
         ensures entries { IfOk result (λ b. (b.entries ≡ []) × (b.cut ≡ false)) }
         ensures err { IfErr result (λ c. c ≡ core) }
     {
@@ -66,8 +82,10 @@ impl<C: Machine> Book<C> {
         };
         Ok(Book {
             before: Snapshot::of(&core),
+            kept: Snapshot::of(&core),
             core,
             failed: false,
+            spent: false,
             log,
         })
     }
@@ -80,6 +98,13 @@ impl<C: Machine> Book<C> {
             return None;
         }
         Some(&self.core)
+    }
+
+    /// Whether an event wasn't taken since the core has taken all that it takes.
+    pub fn is_spent(&self) -> bool
+        ensures { result ≡ true → 2 ^ 40 ≤ C.taken self.now.core }
+    {
+        self.spent
     }
 
     /// How many entries are stored.
@@ -98,13 +123,14 @@ impl<C: Machine> Book<C> {
 
     /// The history without the core.
     pub fn into_log(self) -> Log
-        ensures entries { result.entries ≡ self.entries }
-        ensures cut { is_some result.cut ≡ self.cut }
+        ensures { IsLogOf C.limited (Steps C.says C.by) C.taken self result }
     {
         let Book {
             core: _,
             before: _,
             failed: _,
+            spent: _,
+            kept: _,
             log,
         } = self;
         log
@@ -180,12 +206,16 @@ impl<C: Machine> Book<C> {
         if self.failed {
             return Err(Stop::Memory);
         }
+        if self.spent {
+            return Err(Stop::Spent);
+        }
         self.log.reserve()?;
         let stamp = draw(stamps, &self.log)?;
         take_event(
             &mut self.core,
             &mut self.before,
             &mut self.failed,
+            &mut self.spent,
             said,
             out,
         )?;
@@ -194,6 +224,7 @@ impl<C: Machine> Book<C> {
             event,
             message,
         });
+        follow(&mut self.kept, &self.core, self.log.is_cut());
         Ok(())
     }
 
@@ -224,17 +255,21 @@ impl<C: Machine> Book<C> {
     }
 }
 
-/// The core takes an event. Where memory runs out inside it, it is known as it was.
+/// The core takes an event. Where memory runs out inside it, it is known as it was; where it has taken all that it takes, that is noted.
 fn take_event<C: Machine>(
     core: &mut C,
     before: &mut Snapshot<C>,
     failed: &mut bool,
+    spent: &mut bool,
     event: C::Event,
     out: &mut C::Out,
 ) -> Result<(), Stop>
-    requires { failed.old ≡ false }
+    requires going { failed.old ≡ false }
+    requires unspent { spent.old ≡ false }
     ensures ok { OnOk result ((failed.new ≡ false) × C.by core.old event core.new) }
+    ensures counted { OnOk result ((spent.new ≡ false) × (C.taken core.new ≡ C.taken core.old + 1)) }
     ensures err { OnErr result (cond failed.new before.new.value core.new ≡ core.old) }
+    ensures full { spent.new ≡ true → 2 ^ 40 ≤ C.taken core.old }
 {
     let as_it_was = Snapshot::of(core);
     match core.take(event, out) {
@@ -244,7 +279,20 @@ fn take_event<C: Machine>(
             *failed = true;
             Err(Stop::Memory)
         }
-        Err(stop) => Err(stop),
+        Err(Stop::Spent) => {
+            *spent = true;
+            Err(Stop::Spent)
+        }
+        Err(Stop::Refused) => Err(Stop::Refused),
+    }
+}
+
+/// What is stored leads to the core as it is, unless an entry was left out.
+fn follow<C: Machine>(kept: &mut Snapshot<C>, core: &C, cut: bool)
+    ensures { kept.new.value ≡ cond cut kept.old.value core.now }
+{
+    if !cut {
+        *kept = Snapshot::of(core);
     }
 }
 

@@ -1,7 +1,7 @@
 //! The entries of a node.
-ghost use Rattle.std.specs.Prelude.{◌≡◌, ◌<◌, ◌≤◌, ◌+◌, ◌*◌, ◌^◌, [], true, length, IfOk, OnOk, None, Some};
+ghost use Rattle.std.specs.Prelude.{◌≡◌, ◌<◌, ◌≤◌, ◌+◌, ◌*◌, ◌^◌, [], true, length, IfOk, OnOk, None, Some, is_some};
 ghost use Rattle.turn_cell.specs.Histories.{Ascending};
-ghost use Rattle.node_links.specs.Books.{AllBelow, IsPushed, IsStored, IsLeftOut, history_bytes, entry_bytes, members};
+ghost use Rattle.node_links.specs.Books.{AllBelow, IsPushed, IsStored, IsLeftOut, IsWithin, history_bytes, entry_bytes, members};
 
 use cluster_msgs::{Down, Entry, FromClient, History, Message, Peer, Sequence, ToClient, Up};
 use std::alloc::{AllocError, Global};
@@ -23,13 +23,14 @@ impl Model for Log {
     ghost use Rattle.std.specs.Prelude.{◌≡◌, ◌≤◌};
     ghost use Rattle.std.specs.Vec.{vec_capacity};
     ghost use Rattle.turn_cell.specs.Histories.{Ascending};
-    ghost use Rattle.node_links.specs.Books.{Logged, AllUpTo, history_bytes};
+    ghost use Rattle.node_links.specs.Books.{Logged, AllUpTo, IsPast, history_bytes};
 
     ghost Value = { Logged };
 
     ghost view = { λ l. record { entries = l.entries.items; cut = l.cut; limit = l.limit; capacity = vec_capacity l.entries } };
 
-    ghost invariant = { λ l. Ascending l.entries.items × AllUpTo l.last l.entries.items × (l.bytes ≡ history_bytes l.entries.items) × (l.bytes ≤ l.limit) };
+    ghost invariant = { λ l. Ascending l.entries.items × AllUpTo l.last l.entries.items × (l.bytes ≡ history_bytes l.entries.items) × (l.bytes ≤ l.limit)
+        × IsPast l.limit l.entries.items l.cut };
 }
 
 impl Log {
@@ -67,6 +68,13 @@ impl Log {
             return self.stored();
         }
         self.made
+    }
+
+    /// Whether an entry was left out.
+    pub fn is_cut(&self) -> bool
+        ensures { result ≡ is_some self.now.cut }
+    {
+        self.cut.is_some()
     }
 
     /// Whether an entry may have this stamp: it is above those of all entries.
@@ -130,7 +138,7 @@ impl Log {
         self.cut = Some(entry);
     }
 
-    #[tactic(auto, using(crate::proofs::Stamps::ascends, crate::proofs::Stamps::up_to_last, crate::proofs::Stamps::one_more))]
+    #[tactic(auto, using(crate::proofs::Stamps::ascends, crate::proofs::Stamps::up_to_last, crate::proofs::Stamps::one_more, crate::proofs::Stamps::none_past))]
     fn add(&mut self, entry: Entry, bytes: u128)
         requires below { AllBelow entry.stamp self.old.entries }
         requires size { bytes ≡ history_bytes self.old.entries + entry_bytes entry }
@@ -147,9 +155,11 @@ impl Log {
         self.bytes = bytes;
     }
 
-    /// The history as it is handed out: the stored entries, and the first that was left out.
+    /// The history as it is handed out: the stored entries, and the first that was left out, with which they would pass the limit.
+    #[tactic(auto, using(crate::proofs::Stamps::is_within))]
     pub fn into_history(self) -> History
-        ensures { (result.entries ≡ self.entries) × (result.cut ≡ self.cut) }
+        ensures entries { (result.entries ≡ self.entries) × (result.cut ≡ self.cut) }
+        ensures within { IsWithin self.limit result.entries result.cut }
     {
         let Log {
             entries,

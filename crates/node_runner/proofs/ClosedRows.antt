@@ -1,5 +1,5 @@
 -- What is known of closed cells, of which it is known with which states they were made.
-use Rattle.std.proofs.Common.{◌≡◌, ◌∙◌, ℕ, ◌+◌, ◌<◌, Bool, false, List, [], ◌∷◌, length, get_or, sym, ap, subst, arith}
+use Rattle.std.proofs.Common.{◌≡◌, ◌∙◌, ℕ, ◌+◌, ◌<◌, Bool, false, List, [], ◌∷◌, length, get_or, refl, sym, ap, subst, arith}
 use Rattle.std.specs.Prelude.{Option}
 use Rattle.std.proofs.lemmas.Option.{same_Some}
 use Rattle.atomic_table.specs.Seated.{TableId}
@@ -11,13 +11,14 @@ use Rattle.cluster_rules.specs.Worker.{WorkerFacts}
 use Rattle.cluster_rules.specs.Client.{ClientFacts}
 use Rattle.scheduler_core.specs.Cores.{facts}
 use Rattle.turn_cell.specs.Histories.{Replays}
-use Rattle.node_links.specs.Books.{BookState, Steps}
+use Rattle.node_links.specs.Books.{BookState}
 use Rattle.driver_rows.specs.Closing.{AreClosed}
-use Rattle.node_states.specs.Fitting.{SchedEventFits, WorkerEventFits, ClientEventFits, ClientFits}
-use Rattle.node_states.specs.Machines.{SchedSays, SchedBy, SchedState, WorkerSays, WorkerBy, ClientSays, ClientBy}
+use Rattle.node_states.specs.Fitting.{ClientFits}
+use Rattle.node_states.specs.Machines.{SchedState}
 use Rattle.node_runner.specs.declared.plan.RunPlan.{RunPlan}
 use Rattle.node_runner.specs.Making.{AreMade, HasClosed}
 use Rattle.node_runner.specs.Runs.{IsFirstScheduler, IsFirstWorker, IsFirstClient, IsSchedulersBook, IsWorkersBook, IsClientsBook, SchedSteps, WorkerSteps, ClientSteps, course_of, setting_of}
+use Rattle.node_runner.specs.Runs.{SchedCoreSteps, WorkerCoreSteps, ClientCoreSteps}
 use Rattle.node_runner.proofs.NodeHistories.{sched_replays, worker_replays, client_replays}
 
 pub has_closed : {S C : Type 0} (entries : S → List Entry) (core : S → C) (cut : S → Bool) (steps : C → Entry → C → Type 0) (fits : S → Type 0)
@@ -39,82 +40,76 @@ has_closed entries core cut steps fits P count (b ∷ bs) states closed made k x
 
 module _ {B : Type 0} (l : LabelFacts B) (graph : Shape) where
   pub schedulers_book : {S : Type 0} (book : S → BookState SchedState) (p : RunPlan) (fits : S → Type 0) (x : S)
-      → HasClosed (λ s. (book s).entries) (λ s. (book s).core) (λ s. (book s).cut)
-      (Steps (λ s. SchedSays (facts s.core)) (λ s e t. (t.plan ≡ s.plan) × SchedBy (facts s.core) e (facts t.core) × SchedEventFits l e))
-      fits (λ s. IsFirstScheduler graph p (book s).core) x
+      → HasClosed (λ s. (book s).entries) (λ s. (book s).kept) (λ s. false) (SchedCoreSteps l) fits (λ s. IsFirstScheduler graph p (book s).kept) x
       → IsSchedulersBook l graph p (book x)
   schedulers_book book p fits x h =
-      let setting_is : (facts (book h.first).core.core).setting ≡ setting_of graph p = ap (λ (f : Facts). f.setting) h.began.facts_are in
-      let walk : (book x).cut ≡ false → (((book x).core.plan ≡ course_of p) × ((facts (book x).core.core).setting ≡ setting_of graph p)) × Replays (SchedSteps l) (facts (book h.first).core.core) (book x).entries (facts (book x).core.core) =
-      λ open_still. sched_replays l (course_of p) (setting_of graph p) (book h.first).core (book x).core (book x).entries h.began.plan_is setting_is (h.replay open_still) in
+      let setting_is : (facts (book h.first).kept.core).setting ≡ setting_of graph p = ap (λ (f : Facts). f.setting) h.began.facts_are in
+      let walk = sched_replays l (course_of p) (setting_of graph p) (book h.first).kept (book x).kept (book x).entries h.began.plan_is setting_is (h.replay refl) in
       record {
         book = record {
-          replays = λ open_still. subst (λ f. Replays (SchedSteps l) f (book x).entries (facts (book x).core.core)) h.began.facts_are (walk open_still).1;
+          replays = subst (λ f. Replays (SchedSteps l) f (book x).entries (facts (book x).kept.core)) h.began.facts_are walk.1;
+          onward = λ e d step. (sched_replays l (course_of p) (setting_of graph p) (book x).kept d (e ∷ []) walk.0.0 walk.0.1 (d, step, refl)).1;
           ascending = h.ascending;
         };
-        plan_is = λ open_still. (walk open_still).0.0;
-        setting_is = λ open_still. (walk open_still).0.1;
+        plan_is = walk.0.0;
+        setting_is = walk.0.1;
       }
 
   pub workers_book : {S C : Type 0} (book : S → BookState C) (number : C → ℕ) (core : C → WorkerFacts) (threads id : ℕ) (fits : S → Type 0) (x : S)
-      → HasClosed (λ s. (book s).entries) (λ s. (book s).core) (λ s. (book s).cut)
-      (Steps (λ s. WorkerSays (number s) (core s)) (λ s e t. (number t ≡ number s) × WorkerBy (core s) e (core t) × WorkerEventFits l e))
-      fits (λ s. IsFirstWorker graph threads id (number (book s).core) (core (book s).core)) x
-      → IsWorkersBook l graph threads id core (book x)
-  workers_book book number core threads id fits x h = record {
-    book = record {
-      replays = λ open_still. subst (λ w. Replays (WorkerSteps l id) w (book x).entries (core (book x).core)) h.began.facts_are
-          (worker_replays number core l id (book h.first).core (book x).core (book x).entries h.began.number_is (h.replay open_still)).1;
-      ascending = h.ascending;
-    };
-  }
+      → HasClosed (λ s. (book s).entries) (λ s. (book s).kept) (λ s. false) (WorkerCoreSteps l number core)
+      fits (λ s. IsFirstWorker graph threads id (number (book s).kept) (core (book s).kept)) x
+      → IsWorkersBook l graph threads id number core (book x)
+  workers_book book number core threads id fits x h =
+      let walk = worker_replays number core l id (book h.first).kept (book x).kept (book x).entries h.began.number_is (h.replay refl) in
+      record {
+        book = record {
+          replays = subst (λ w. Replays (WorkerSteps l id) w (book x).entries (core (book x).kept)) h.began.facts_are walk.1;
+          onward = λ e d step. (worker_replays number core l id (book x).kept d (e ∷ []) walk.0 (d, step, refl)).1;
+          ascending = h.ascending;
+        };
+      }
 
   pub clients_book : {S C : Type 0} (book : S → BookState C) (number : C → ℕ) (core : C → ClientFacts) (fits : S → Type 0) (x : S)
-      → HasClosed (λ s. (book s).entries) (λ s. (book s).core) (λ s. (book s).cut)
-      (Steps (λ s. ClientSays (number s) (core s)) (λ s e t. (number t ≡ number s) × ClientBy (core s) e (core t) × ClientEventFits l e))
-      fits (λ s. IsFirstClient graph (number (book s).core) (core (book s).core)) x
+      → HasClosed (λ s. (book s).entries) (λ s. (book s).kept) (λ s. false) (ClientCoreSteps l number core)
+      fits (λ s. IsFirstClient graph (number (book s).kept) (core (book s).kept)) x
       → ClientFits l (core (book x).core)
-      → IsClientsBook l graph core (book x)
-  clients_book book number core fits x h fit = record {
-    book = record {
-      replays = λ open_still. subst (λ c. Replays (ClientSteps l) c (book x).entries (core (book x).core)) h.began.facts_are
-          (client_replays number core l (book h.first).core (book x).core (book x).entries h.began.number_is (h.replay open_still)).1;
-      ascending = h.ascending;
-    };
-    fits = fit;
-  }
+      → IsClientsBook l graph number core (book x)
+  clients_book book number core fits x h fit =
+      let walk = client_replays number core l (book h.first).kept (book x).kept (book x).entries h.began.number_is (h.replay refl) in
+      record {
+        book = record {
+          replays = subst (λ c. Replays (ClientSteps l) c (book x).entries (core (book x).kept)) h.began.facts_are walk.1;
+          onward = λ e d step. (client_replays number core l (book x).kept d (e ∷ []) walk.0 (d, step, refl)).1;
+          ascending = h.ascending;
+        };
+        fits = fit;
+      }
 
   -- the books of rows
   pub schedulers_books : {S : Type 0} (book : S → BookState SchedState) (p : RunPlan) (fits : S → Type 0) (count : ℕ) (berths : List (TableId × Option S)) (states : List S)
-      → AreClosed (λ s. (book s).entries) (λ s. (book s).core) (λ s. (book s).cut)
-      (Steps (λ s. SchedSays (facts s.core)) (λ s e t. (t.plan ≡ s.plan) × SchedBy (facts s.core) e (facts t.core) × SchedEventFits l e)) fits berths states
-      → AreMade (λ k s. IsFirstScheduler graph p (book s).core) count berths
+      → AreClosed (λ s. (book s).entries) (λ s. (book s).kept) (λ s. false) (SchedCoreSteps l) fits berths states
+      → AreMade (λ k s. IsFirstScheduler graph p (book s).kept) count berths
       → (k : ℕ) (x : S) → k < length states → IsSchedulersBook l graph p (book (get_or states k x))
   schedulers_books book p fits count berths states closed made k x less = schedulers_book book p fits (get_or states k x)
-      (has_closed (λ s. (book s).entries) (λ s. (book s).core) (λ s. (book s).cut)
-      (Steps (λ s. SchedSays (facts s.core)) (λ s e t. (t.plan ≡ s.plan) × SchedBy (facts s.core) e (facts t.core) × SchedEventFits l e))
-      fits (λ k s. IsFirstScheduler graph p (book s).core) count berths states closed made k x less)
+      (has_closed (λ s. (book s).entries) (λ s. (book s).kept) (λ s. false) (SchedCoreSteps l)
+      fits (λ k s. IsFirstScheduler graph p (book s).kept) count berths states closed made k x less)
 
   pub workers_books : {S C : Type 0} (book : S → BookState C) (number : C → ℕ) (core : C → WorkerFacts) (threads : ℕ) (fits : S → Type 0) (count : ℕ)
       (berths : List (TableId × Option S)) (states : List S)
-      → AreClosed (λ s. (book s).entries) (λ s. (book s).core) (λ s. (book s).cut)
-      (Steps (λ s. WorkerSays (number s) (core s)) (λ s e t. (number t ≡ number s) × WorkerBy (core s) e (core t) × WorkerEventFits l e)) fits berths states
-      → AreMade (λ k s. IsFirstWorker graph threads (k + 1) (number (book s).core) (core (book s).core)) count berths
-      → (k : ℕ) (x : S) → k < length states → IsWorkersBook l graph threads (k + 1) core (book (get_or states k x))
+      → AreClosed (λ s. (book s).entries) (λ s. (book s).kept) (λ s. false) (WorkerCoreSteps l number core) fits berths states
+      → AreMade (λ k s. IsFirstWorker graph threads (k + 1) (number (book s).kept) (core (book s).kept)) count berths
+      → (k : ℕ) (x : S) → k < length states → IsWorkersBook l graph threads (k + 1) number core (book (get_or states k x))
   workers_books book number core threads fits count berths states closed made k x less = workers_book book number core threads (k + 1) fits (get_or states k x)
-      (has_closed (λ s. (book s).entries) (λ s. (book s).core) (λ s. (book s).cut)
-      (Steps (λ s. WorkerSays (number s) (core s)) (λ s e t. (number t ≡ number s) × WorkerBy (core s) e (core t) × WorkerEventFits l e))
-      fits (λ k s. IsFirstWorker graph threads (k + 1) (number (book s).core) (core (book s).core)) count berths states closed made k x less)
+      (has_closed (λ s. (book s).entries) (λ s. (book s).kept) (λ s. false) (WorkerCoreSteps l number core)
+      fits (λ k s. IsFirstWorker graph threads (k + 1) (number (book s).kept) (core (book s).kept)) count berths states closed made k x less)
 
   pub clients_books : {S C : Type 0} (book : S → BookState C) (number : C → ℕ) (core : C → ClientFacts) (fits : S → Type 0) (count : ℕ)
       (berths : List (TableId × Option S)) (states : List S)
-      → AreClosed (λ s. (book s).entries) (λ s. (book s).core) (λ s. (book s).cut)
-      (Steps (λ s. ClientSays (number s) (core s)) (λ s e t. (number t ≡ number s) × ClientBy (core s) e (core t) × ClientEventFits l e)) fits berths states
-      → AreMade (λ k s. IsFirstClient graph (number (book s).core) (core (book s).core)) count berths
+      → AreClosed (λ s. (book s).entries) (λ s. (book s).kept) (λ s. false) (ClientCoreSteps l number core) fits berths states
+      → AreMade (λ k s. IsFirstClient graph (number (book s).kept) (core (book s).kept)) count berths
       → ((s : S) → fits s → ClientFits l (core (book s).core))
-      → (k : ℕ) (x : S) → k < length states → IsClientsBook l graph core (book (get_or states k x))
+      → (k : ℕ) (x : S) → k < length states → IsClientsBook l graph number core (book (get_or states k x))
   clients_books book number core fits count berths states closed made fit k x less =
-      let here = has_closed (λ s. (book s).entries) (λ s. (book s).core) (λ s. (book s).cut)
-      (Steps (λ s. ClientSays (number s) (core s)) (λ s e t. (number t ≡ number s) × ClientBy (core s) e (core t) × ClientEventFits l e))
-      fits (λ k s. IsFirstClient graph (number (book s).core) (core (book s).core)) count berths states closed made k x less in
+      let here = has_closed (λ s. (book s).entries) (λ s. (book s).kept) (λ s. false) (ClientCoreSteps l number core)
+      fits (λ k s. IsFirstClient graph (number (book s).kept) (core (book s).kept)) count berths states closed made k x less in
       clients_book book number core fits (get_or states k x) here (fit (get_or states k x) here.fit)

@@ -7,17 +7,18 @@ use Rattle.cluster_rules.specs.Sched.{Facts}
 use Rattle.node_states.specs.declared.why.Why.{Why}
 use Rattle.node_runner.specs.declared.plan.RunPlan.{RunPlan}
 use Rattle.node_runner.specs.declared.ends.RunStatus.{RunStatus}
-use Rattle.node_runner.specs.declared.ends.RunStatus.TheVariants.{Zero, Read, Memory}
+use Rattle.node_runner.specs.declared.ends.RunStatus.TheVariants.{Zero, Read, Events, Memory}
 use Rattle.node_runner.specs.declared.ends.Histories.{Histories}
-use Rattle.node_runner.specs.Runs.{LastFacts, HasCause, HasGot, IfStatus, IsGivenUp, HasRun, HasNotRun, HowItEnded}
+use Rattle.node_runner.specs.Runs.{AreWhole, LastFacts, HasCause, HasGot, IfStatus, IsGivenUp, HasRun, HasNotRun, HowItEnded}
 
 -- a cause without a feed that failed is one with it
-cause_more : {A B : Type 0} (l : LabelFacts B) (wanted : List ℕ) (f : Facts) (left : List (Option Why)) (Failed : Type 0) (r : Result A RunStatus)
-    → IfStatus (HasCause l wanted f left ⊥) r → IfStatus (HasCause l wanted f left Failed) r
-cause_more l wanted f left Failed (Ok x) h = tt
-cause_more l wanted f left Failed (Err (Zero key)) h = h
-cause_more l wanted f left Failed (Err Read) h = absurd h.1
-cause_more l wanted f left Failed (Err Memory) h = tt
+cause_more : {A B : Type 0} (l : LabelFacts B) (wanted : List ℕ) (f : Facts) (left : List (Option Why)) (Failed Cut : Type 0) (r : Result A RunStatus)
+    → IfStatus (HasCause l wanted f left ⊥ Cut) r → IfStatus (HasCause l wanted f left Failed Cut) r
+cause_more l wanted f left Failed Cut (Ok x) h = tt
+cause_more l wanted f left Failed Cut (Err (Zero key)) h = h
+cause_more l wanted f left Failed Cut (Err Read) h = absurd h.1
+cause_more l wanted f left Failed Cut (Err Events) h = h
+cause_more l wanted f left Failed Cut (Err Memory) h = tt
 
 -- what holds of what a run gives goes on to hold
 pub still_ok : {A : Type 0} (P : A → Type 0) (r s : Result A RunStatus) (X Y : Type 0) → (s ≡ r) ⊎ ((s ≡ Err Read) × X × Y) → IfOk r P → IfOk s P
@@ -37,8 +38,8 @@ run_ended l graph p wanted Failed r s left (Some h) Given run none same changed 
     left_are = run.1.left_are;
     got = still_ok (λ x. HasGot run.0.client h.client.entries (is_some h.client.cut) wanted) r s Given Failed changed run.1.got;
     cause = ⊎_elim
-        (λ e. subst (IfStatus (HasCause l wanted run.0.scheduler left Failed)) (sym e) (cause_more l wanted run.0.scheduler left Failed r run.1.cause))
-        (λ read. subst (IfStatus (HasCause l wanted run.0.scheduler left Failed)) (sym read.0) (run.2 read.1, read.2))
+        (λ e. subst (IfStatus (HasCause l wanted run.0.scheduler left Failed (AreWhole h → ⊥))) (sym e) (cause_more l wanted run.0.scheduler left Failed (AreWhole h → ⊥) r run.1.cause))
+        (λ read. subst (IfStatus (HasCause l wanted run.0.scheduler left Failed (AreWhole h → ⊥))) (sym read.0) (run.2 read.1, read.2))
         changed;
   },
 )
@@ -48,12 +49,13 @@ pub none_ok : {A : Type 0} (P : A → Type 0) (r : Result A RunStatus) (s : RunS
 none_ok P r s is = subst (λ z. IfOk z P) (sym is) tt
 
 -- a run that ended where this may have failed, ended where more may have
-cause_of_more : {A B : Type 0} (l : LabelFacts B) (wanted : List ℕ) (f : Facts) (left : List (Option Why)) (F G : Type 0) (r : Result A RunStatus) → (F → G)
-    → IfStatus (HasCause l wanted f left F) r → IfStatus (HasCause l wanted f left G) r
-cause_of_more l wanted f left F G (Ok x) more h = tt
-cause_of_more l wanted f left F G (Err (Zero key)) more h = h
-cause_of_more l wanted f left F G (Err Read) more h = (h.0, more h.1)
-cause_of_more l wanted f left F G (Err Memory) more h = tt
+cause_of_more : {A B : Type 0} (l : LabelFacts B) (wanted : List ℕ) (f : Facts) (left : List (Option Why)) (F G Cut : Type 0) (r : Result A RunStatus) → (F → G)
+    → IfStatus (HasCause l wanted f left F Cut) r → IfStatus (HasCause l wanted f left G Cut) r
+cause_of_more l wanted f left F G Cut (Ok x) more h = tt
+cause_of_more l wanted f left F G Cut (Err (Zero key)) more h = h
+cause_of_more l wanted f left F G Cut (Err Read) more h = (h.0, more h.1)
+cause_of_more l wanted f left F G Cut (Err Events) more h = h
+cause_of_more l wanted f left F G Cut (Err Memory) more h = tt
 
 pub ended_more : {A B : Type 0} (l : LabelFacts B) (graph : Shape) (p : RunPlan) (wanted : List ℕ) (F G : Type 0) (r : Result A RunStatus) (left : List (Option Why))
     (o : Option Histories) → (F → G) → HowItEnded l graph p wanted F r left o → HowItEnded l graph p wanted G r left o
@@ -64,7 +66,7 @@ ended_more l graph p wanted F G r left (Some x) more h = (
     histories = h.1.histories;
     left_are = h.1.left_are;
     got = h.1.got;
-    cause = cause_of_more l wanted h.0.scheduler left F G r more h.1.cause;
+    cause = cause_of_more l wanted h.0.scheduler left F G (AreWhole x → ⊥) r more h.1.cause;
   },
 )
 

@@ -1,5 +1,5 @@
 -- Replays of cores are replays of their facts.
-use Rattle.std.proofs.Common.{List, [], ◌∷◌, sym, ap, subst}
+use Rattle.std.proofs.Common.{List, [], ◌∷◌, ◌++◌, sym, ap, subst}
 use Rattle.std.specs.Prelude.{Option, Some, None}
 use Rattle.cluster_msgs.specs.declared.events.Entry.{Entry}
 use Rattle.cluster_msgs.specs.declared.events.Event.{Event}
@@ -23,3 +23,9 @@ module _ {C D E : Type 0} (f : C → D) (says : C → Event → Option Message �
       let s = stepped o c r.0 i r.1.2 in
       let t = replays_of r.0 es d s.0 r.2 in
       (t.0, (f r.0, (o, tells c e.event e.message o i r.1.1, s.1), t.1))
+
+-- one after the other
+pub replays_on : {F : Type 0} (steps : F → Entry → F → Type 0) (a : F) (es : List Entry) (b : F) (fs : List Entry) (c : F)
+    → Replays steps a es b → Replays steps b fs c → Replays steps a (es ++ fs) c
+replays_on steps a [] b fs c r s = subst (λ x. Replays steps x fs c) (sym r) s
+replays_on steps a (e ∷ es) b fs c r s = (r.0, r.1, replays_on steps r.0 es b fs c r.2 s)

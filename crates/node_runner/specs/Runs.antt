@@ -1,5 +1,5 @@
 -- How a run by threads ended.
-use Rattle.std.specs.Prelude.{◌≡◌, ◌≢◌, ℕ, ◌+◌, ◌<◌, ◌≤◌, ◌⊎◌, Bool, true, false, List, [], map, sum, slice_index_or, Option, Some, None, All, IfOk, IfSome, is_some, Result, Ok, Err, Contains}
+use Rattle.std.specs.Prelude.{◌≡◌, ◌≢◌, ℕ, ◌+◌, ◌^◌, ◌<◌, ◌≤◌, ◌⊎◌, Bool, true, false, List, [], ◌∷◌, ◌++◌, length, map, sum, slice_index_or, Option, Some, None, All, IfOk, IfSome, is_some, Result, Ok, Err, Contains}
 use Rattle.cluster_msgs.specs.Shape.{Shape}
 use Rattle.cluster_msgs.specs.Labels.{LabelFacts, BlameFits}
 use Rattle.cluster_msgs.specs.declared.events.Entry.{Entry}
@@ -12,10 +12,10 @@ use Rattle.cluster_rules.specs.Client.{ClientFacts, done, new_client}
 use Rattle.cluster_msgs.specs.declared.cores.End.TheVariants.{Got}
 use Rattle.turn_cell.specs.Histories.{Ascending, Replays}
 use Rattle.turn_cell.specs.Rows.{AllBy}
-use Rattle.node_links.specs.Books.{BookState, Steps}
+use Rattle.node_links.specs.Books.{BookState, IsNext, IsWithin, Steps}
 use Rattle.node_states.specs.Fitting.{SchedEventFits, WorkerEventFits, ClientEventFits, ClientFits}
 use Rattle.scheduler_core.specs.Cores.{facts}
-use Rattle.node_states.specs.Machines.{SchedState, SchedSays, SchedBy, WorkerSays, WorkerBy, ClientSays, ClientBy}
+use Rattle.node_states.specs.Machines.{SchedState, SchedSays, SchedBy, WorkerSays, WorkerBy, ClientSays, ClientBy, scheduler_bytes, node_bytes}
 use Rattle.node_states.specs.Order.{AreInTime, start_of, joins_of}
 use Rattle.node_states.specs.Released.{WasReleased}
 use Rattle.node_states.specs.Workers.{ends_last}
@@ -62,34 +62,71 @@ WorkerSteps l id = Steps (WorkerSays id) (λ w e v. WorkerBy w e v × WorkerEven
 abbrev pub ClientSteps : {B : Type 0} → LabelFacts B → ClientFacts → Entry → ClientFacts → Type 0
 ClientSteps l = Steps (ClientSays 1) (λ c e d. ClientBy c e d × ClientEventFits l e)
 
--- a history that began with these facts: where no entry was left out it leads to the last ones, one step an entry; and its stamps ascend
-pub record IsHistory {F : Type 0} (steps : F → Entry → F → Type 0) (first last : F) (h : History) : Type 0 where
-  pub replays : h.cut ≡ None → Replays steps first h.entries last
-  pub ascending : Ascending h.entries
+-- the same of their cores: of the scheduler's with what its node goes by, of a worker's and of the client's with its number
+abbrev pub SchedCoreSteps : {B : Type 0} → LabelFacts B → SchedState → Entry → SchedState → Type 0
+SchedCoreSteps l = Steps (λ s. SchedSays (facts s.core)) (λ s e t. (t.plan ≡ s.plan) × SchedBy (facts s.core) e (facts t.core) × SchedEventFits l e)
 
--- a closed node's book, as its facts: where no entry was left out, the entries lead from the first facts to those of its core, and the stamps ascend
-pub record IsBookOf {C F : Type 0} (view : C → F) (steps : F → Entry → F → Type 0) (first : F) (b : BookState C) : Type 0 where
-  pub replays : b.cut ≡ false → Replays steps first b.entries (view b.core)
+abbrev pub WorkerCoreSteps : {B C : Type 0} → LabelFacts B → (C → ℕ) → (C → WorkerFacts) → C → Entry → C → Type 0
+WorkerCoreSteps l number core =
+    Steps (λ s. WorkerSays (number s) (core s)) (λ s e t. (number t ≡ number s) × WorkerBy (core s) e (core t) × WorkerEventFits l e)
+
+abbrev pub ClientCoreSteps : {B C : Type 0} → LabelFacts B → (C → ℕ) → (C → ClientFacts) → C → Entry → C → Type 0
+ClientCoreSteps l number core =
+    Steps (λ s. ClientSays (number s) (core s)) (λ s e t. (number t ≡ number s) × ClientBy (core s) e (core t) × ClientEventFits l e)
+
+-- the first entry that was left out, if one was, is the next step
+abbrev pub IsNextStep : {F : Type 0} → (F → Entry → F → Type 0) → F → List Entry → Option Entry → Type 0
+IsNextStep steps first entries None = Unit {0}
+IsNextStep {F} steps first entries (Some e) = (d : F) × Replays steps first (entries ++ e ∷ []) d
+
+-- a history that began with these facts: each entry is a step, and their stamps ascend. Where none was left out they lead to the last facts; else the
+-- first that was is the step after them, and with it the history would pass this limit
+pub record IsHistory {F : Type 0} (limit : ℕ) (steps : F → Entry → F → Type 0) (first last : F) (h : History) : Type 0 where
+  pub replays : h.cut ≡ None → Replays steps first h.entries last
+  pub next : IsNextStep steps first h.entries h.cut
+  pub ascending : Ascending h.entries
+  pub within : IsWithin limit h.entries h.cut
+
+-- a closed node's book, as its facts: the entries lead from the first facts to those of the core that is kept with them, from which a step of the core
+-- is one of the facts; and the stamps ascend
+pub record IsBookOf {C F : Type 0} (view : C → F) (inner : C → Entry → C → Type 0) (steps : F → Entry → F → Type 0) (first : F) (b : BookState C) : Type 0 where
+  pub replays : Replays steps first b.entries (view b.kept)
+  pub onward : (e : Entry) (d : C) → inner b.kept e d → Replays steps (view b.kept) (e ∷ []) (view d)
   pub ascending : Ascending b.entries
 
 -- the scheduler's: what it goes by, and the setting, are as at first
 pub record IsSchedulersBook {B : Type 0} (l : LabelFacts B) (graph : Shape) (p : RunPlan) (b : BookState SchedState) : Type 0 where
-  pub book : IsBookOf (λ c. facts c.core) (SchedSteps l) (sched_opening (setting_of graph p)) b
-  pub plan_is : b.cut ≡ false → b.core.plan ≡ course_of p
-  pub setting_is : b.cut ≡ false → (facts b.core.core).setting ≡ setting_of graph p
+  pub book : IsBookOf (λ c. facts c.core) (SchedCoreSteps l) (SchedSteps l) (sched_opening (setting_of graph p)) b
+  pub plan_is : b.kept.plan ≡ course_of p
+  pub setting_is : (facts b.kept.core).setting ≡ setting_of graph p
 
 -- a worker's, by its number, and the client's
-pub record IsWorkersBook {B C : Type 0} (l : LabelFacts B) (graph : Shape) (threads id : ℕ) (core : C → WorkerFacts) (b : BookState C) : Type 0 where
-  pub book : IsBookOf core (WorkerSteps l id) (new_worker graph id threads) b
+pub record IsWorkersBook {B C : Type 0} (l : LabelFacts B) (graph : Shape) (threads id : ℕ) (number : C → ℕ) (core : C → WorkerFacts) (b : BookState C) : Type 0 where
+  pub book : IsBookOf core (WorkerCoreSteps l number core) (WorkerSteps l id) (new_worker graph id threads) b
 
-pub record IsClientsBook {B C : Type 0} (l : LabelFacts B) (graph : Shape) (core : C → ClientFacts) (b : BookState C) : Type 0 where
-  pub book : IsBookOf core (ClientSteps l) (new_client graph) b
+pub record IsClientsBook {B C : Type 0} (l : LabelFacts B) (graph : Shape) (number : C → ℕ) (core : C → ClientFacts) (b : BookState C) : Type 0 where
+  pub book : IsBookOf core (ClientCoreSteps l number core) (ClientSteps l) (new_client graph) b
   pub fits : ClientFits l (core b.core)
 
--- the history as it was taken from a book
-pub record IsTakenFrom {C : Type 0} (b : BookState C) (h : History) : Type 0 where
+-- the history as it was taken from a book with this limit: the first entry that was left out is a step of the core that is kept, which without one is
+-- the core, and which took no more events than there are entries
+pub record IsTakenFrom {C : Type 0} (limit : ℕ) (inner : C → Entry → C → Type 0) (taken : C → ℕ) (b : BookState C) (h : History) : Type 0 where
   pub entries : h.entries ≡ b.entries
   pub cut : is_some h.cut ≡ b.cut
+  pub next : IsNext inner b.kept h.cut
+  pub last : b.cut ≡ false → b.kept ≡ b.core
+  pub few : taken b.kept ≤ length h.entries
+  pub within : IsWithin limit h.entries h.cut
+
+-- the scheduler's, a worker's and the client's
+abbrev pub IsFromScheduler : {B : Type 0} → LabelFacts B → BookState SchedState → History → Type 0
+IsFromScheduler l = IsTakenFrom scheduler_bytes (SchedCoreSteps l) (λ s. s.core.taken)
+
+abbrev pub IsFromWorker : {B C : Type 0} → LabelFacts B → (C → ℕ) → (C → WorkerFacts) → (C → ℕ) → BookState C → History → Type 0
+IsFromWorker l number core taken = IsTakenFrom node_bytes (WorkerCoreSteps l number core) taken
+
+abbrev pub IsFromClient : {B C : Type 0} → LabelFacts B → (C → ℕ) → (C → ClientFacts) → (C → ℕ) → BookState C → History → Type 0
+IsFromClient l number core taken = IsTakenFrom node_bytes (ClientCoreSteps l number core) taken
 
 -- what the nodes know at the end: the scheduler, each worker by its number, from 1, and the client
 pub record LastFacts : Type 0 where
@@ -100,11 +137,11 @@ pub record LastFacts : Type 0 where
 abbrev pub last_facts : Facts → List WorkerFacts → ClientFacts → LastFacts
 last_facts f ws c = record { scheduler = f; workers = ws; client = c }
 
--- the histories of the scheduler, of the workers by number and of the client
+-- the histories of the scheduler, of the workers by number and of the client, each within the limit of its node
 pub record AreHistories {B : Type 0} (l : LabelFacts B) (graph : Shape) (p : RunPlan) (last : LastFacts) (h : Histories) : Type 0 where
-  pub scheduler : IsHistory (SchedSteps l) (sched_opening (setting_of graph p)) last.scheduler h.scheduler
-  pub workers : AllBy (λ k w x. IsHistory (WorkerSteps l (k + 1)) (new_worker graph (k + 1) p.threads) w x) last.workers h.workers.items
-  pub client : IsHistory (ClientSteps l) (new_client graph) last.client h.client
+  pub scheduler : IsHistory scheduler_bytes (SchedSteps l) (sched_opening (setting_of graph p)) last.scheduler h.scheduler
+  pub workers : AllBy (λ k w x. IsHistory node_bytes (WorkerSteps l (k + 1)) (new_worker graph (k + 1) p.threads) w x) last.workers h.workers.items
+  pub client : IsHistory node_bytes (ClientSteps l) (new_client graph) last.client h.client
   -- the plan's workers join first, Evict comes after each 64 entries and Balance after each 16 where they have a choice, then the script's items
   pub in_time : h.scheduler.cut ≡ None → AreInTime (course_of p) (start_of (setting_of graph p)) h.scheduler.entries
 
@@ -139,11 +176,19 @@ pub record IsGivenUp (f : Facts) (left : List (Option Why)) : Type 0 where
 abbrev pub HasFeedFault : {F : Type 0} → (F → ℕ) → ℕ → List ℕ → List F → Type 0
 HasFeedFault {F} faults threads given back = ((n : ℕ) × Contains given n × (n < threads)) ⊎ ((f : F) × Contains back f × (0 < faults f))
 
--- the cause of there being no blocks: a wanted key failed and this one is to blame, or no worker was left and a feed had failed. Want of memory is free
-abbrev pub HasCause : {B : Type 0} → LabelFacts B → List ℕ → Facts → List (Option Why) → Type 0 → RunStatus → Type 0
-HasCause l wanted f left Failed (status.Zero blame) = (k : ℕ) × Contains wanted k × BlameFits l k blame
-HasCause l wanted f left Failed status.Read = IsGivenUp f left × Failed
-HasCause l wanted f left Failed status.Memory = Unit {0}
+-- none of the nodes left an entry out
+pub record AreWhole (h : Histories) : Type 0 where
+  pub scheduler : h.scheduler.cut ≡ None
+  pub workers : All (λ (x : History). x.cut ≡ None) h.workers.items
+  pub client : h.client.cut ≡ None
+
+-- the cause of there being no blocks: a wanted key failed and this one is to blame, no worker was left and a feed had failed, or a core had taken 2^40
+-- events, and so the history of its node has passed its limit. Want of memory is free
+abbrev pub HasCause : {B : Type 0} → LabelFacts B → List ℕ → Facts → List (Option Why) → Type 0 → Type 0 → RunStatus → Type 0
+HasCause l wanted f left Failed Cut (status.Zero blame) = (k : ℕ) × Contains wanted k × BlameFits l k blame
+HasCause l wanted f left Failed Cut status.Read = IsGivenUp f left × Failed
+HasCause l wanted f left Failed Cut status.Events = Cut
+HasCause l wanted f left Failed Cut status.Memory = Unit {0}
 
 abbrev pub IfStatus : {A : Type 0} → (RunStatus → Type 0) → Result A RunStatus → Type 0
 IfStatus P (Ok x) = Unit {0}
@@ -157,11 +202,16 @@ IsGot c entries cut k = (done c k ≡ Some Got) ⊎ WasReleased k entries cut
 abbrev pub HasGot : ClientFacts → List Entry → Bool → List ℕ → Type 0
 HasGot c entries cut keys = All (IsGot c entries cut) keys
 
--- the key to blame was found; or there was none, or want of memory
-abbrev pub IsBlamed : Option ℕ → RunStatus → Type 0
-IsBlamed blame (status.Zero key) = blame ≡ Some key
-IsBlamed blame status.Read = ⊥
-IsBlamed blame status.Memory = Unit {0}
+-- the core of the scheduler, of one of these workers or of the client has taken 2^40 events
+pub record IsSpent {W C D : Type 0} (b : BookState SchedState) (book : W → BookState C) (taken : C → ℕ) (ws : List W) (d : BookState D) (asked : D → ℕ) : Type 0 where
+  pub is : (2 ^ 40 ≤ b.core.core.taken) ⊎ (((w : W) × Contains ws w × (2 ^ 40 ≤ taken (book w).core)) ⊎ (2 ^ 40 ≤ asked d.core))
+
+-- the key to blame was found; or there was none, and a core was found spent, or memory is wanted
+abbrev pub IsBlamed : Option ℕ → Bool → RunStatus → Type 0
+IsBlamed blame spent (status.Zero key) = blame ≡ Some key
+IsBlamed blame spent status.Read = ⊥
+IsBlamed blame spent status.Events = spent ≡ true
+IsBlamed blame spent status.Memory = Unit {0}
 
 -- how a run ended, of whose nodes this was known at the end: where it gives blocks, the client of these histories got each key that is wanted
 pub record HasRun {B A : Type 0} (l : LabelFacts B) (graph : Shape) (p : RunPlan) (wanted : List ℕ) (Failed : Type 0) (last : LastFacts)
@@ -169,7 +219,7 @@ pub record HasRun {B A : Type 0} (l : LabelFacts B) (graph : Shape) (p : RunPlan
   pub histories : AreHistories l graph p last h
   pub left_are : AreLeft p last h.workers.items left
   pub got : IfOk result (λ blocks. HasGot last.client h.client.entries (is_some h.client.cut) wanted)
-  pub cause : IfStatus (HasCause l wanted last.scheduler left Failed) result
+  pub cause : IfStatus (HasCause l wanted last.scheduler left Failed (AreWhole h → ⊥)) result
 
 -- a run that couldn't be started, or not be told of, for want of memory
 pub record HasNotRun {A : Type 0} (result : Result A RunStatus) (left : List (Option Why)) : Type 0 where

@@ -5,17 +5,17 @@ ghost use Rattle.gather_client.specs.CoreState.{client_facts};
 ghost use Rattle.scheduler_core.specs.Cores.{facts};
 ghost use Rattle.worker_core.specs.Core.{facts as worker_facts};
 ghost use Rattle.node_states.specs.Order.{AreInTime, start_of};
-ghost use Rattle.node_runner.specs.Runs.{HasRun, HasNotRun, IsGivenUp, IsTakenFrom, IsSchedulersBook, IsWorkersBook, IsClientsBook, IfStatus, IsBlamed, last_facts};
+ghost use Rattle.node_runner.specs.Runs.{HasRun, HasNotRun, IsGivenUp, IsFromScheduler, IsFromClient, IsSchedulersBook, IsWorkersBook, IsClientsBook, IfStatus, IsBlamed, IsSpent, last_facts};
 
 use crate::ends::{
-    Ends, Histories, RunStatus, all_left, first_blame, hand_all, has_all, has_got, is_given_up,
-    take_apart,
+    Ends, Histories, RunStatus, all_left, any_spent, first_blame, hand_all, has_all, has_got,
+    is_given_up, take_apart,
 };
 use crate::plan::RunPlan;
 use crate::sink::Sink;
 use cluster_msgs::{GraphShape, History, KeyList, Label};
-use node_links::{Book, Machine};
-use node_states::{BlockStore, ClientNode, SchedulerNode, Why, WorkerNode};
+use node_links::Book;
+use node_states::{BlockStore, ClientNode, GatheringCore, SchedulerNode, Why, WorkerNode};
 use std::alloc::{AllocError, Global};
 
 /// What is told of a run: the histories, and for each worker number why it left.
@@ -54,8 +54,8 @@ pub fn end_nodes<B: Drop, L: Label<Block = B>, F: Drop, S: BlockStore<B, L>, Z: 
 ) -> (Ends<F, S>, bool)
     requires scheduler { IsSchedulersBook L.facts _graph.now plan.now scheduler.history.book }
     requires workers { (k : ℕ) (w : _) → k < vec_len workers
-        → IsWorkersBook L.facts _graph.now plan.now.threads (k + 1) (λ c. worker_facts c.core) (slice_index_or workers.items k w).history.book }
-    requires client { IsClientsBook L.facts _graph.now (λ c. client_facts c.core) client.book }
+        → IsWorkersBook L.facts _graph.now plan.now.threads (k + 1) (λ c. c.id) (λ c. worker_facts c.core) (slice_index_or workers.items k w).history.book }
+    requires client { IsClientsBook L.facts _graph.now (λ c. c.id) (λ c. client_facts c.core) client.book }
     ensures had { IfOk result.0.result (λ _. All (λ k. Z.had sink.new k ≡ true) wanted.now) }
     ensures leads { Z.leads sink.old sink.new }
     ensures ended { IfSome result.0.histories (HasRun L.facts _graph.now plan.now wanted.now ⊥
@@ -67,6 +67,7 @@ pub fn end_nodes<B: Drop, L: Label<Block = B>, F: Drop, S: BlockStore<B, L>, Z: 
 {
     let got = has_got(wanted.as_slice(), &client);
     let blame = first_blame(wanted.as_slice(), &client);
+    let spent = is_spent(&scheduler, workers.as_slice(), &client);
     let left = all_left(alloc, plan, &scheduler, workers.as_slice());
     let joined = scheduler.joined();
     let scheduler = scheduler_history(scheduler);
@@ -74,14 +75,15 @@ pub fn end_nodes<B: Drop, L: Label<Block = B>, F: Drop, S: BlockStore<B, L>, Z: 
     let all = has_all(wanted.as_slice(), &*sink);
     let (workers, feeds, stores) = take_apart(alloc, workers);
     let told = all_told(scheduler, workers, client, left);
-    let ends = ends_of(alloc, result(got, all, blame), told, feeds, stores);
+    let ends = ends_of(alloc, result(got, all, blame, spent), told, feeds, stores);
     let given_up = is_over(&ends, joined);
     (ends, given_up)
 }
 
 /// The history of a closed scheduler, whose entries came in time.
+#[tactic(auto, using(crate::proofs::Ending::taken_from))]
 fn scheduler_history<B: Drop, L: Label<Block = B>>(scheduler: SchedulerNode<B, L>) -> History
-    ensures taken { IsTakenFrom scheduler.history.book result }
+    ensures taken { IsFromScheduler L.facts scheduler.history.book result }
     ensures in_time { scheduler.history.book.cut ≡ false → AreInTime scheduler.history.book.core.plan
         (start_of (facts scheduler.history.book.core.core).setting) scheduler.history.book.entries }
 {
@@ -94,7 +96,7 @@ fn client_history<B: Drop, L: Label<Block = B>, Z: Sink<B, L>>(
     client: ClientNode<B, L>,
     sink: &mut Z,
 ) -> History
-    ensures taken { IsTakenFrom client.book result }
+    ensures taken { IsFromClient L.facts (λ c. c.id) (λ c. client_facts c.core) (λ c. c.core.events) client.book result }
     ensures leads { Z.leads sink.old sink.new }
 {
     let (book, came) = client.into_parts();
@@ -102,9 +104,10 @@ fn client_history<B: Drop, L: Label<Block = B>, Z: Sink<B, L>>(
     history_of(book)
 }
 
-/// The history of a closed node.
-fn history_of<C: Machine>(book: Book<C>) -> History
-    ensures { IsTakenFrom book result }
+/// The history of a closed client's book.
+#[tactic(auto, using(crate::proofs::Ending::taken_from))]
+fn history_of<L: Label>(book: Book<GatheringCore<L>>) -> History
+    ensures { IsFromClient L.facts (λ c. c.id) (λ c. client_facts c.core) (λ c. c.core.events) book result }
 {
     book.into_log().into_history()
 }
@@ -169,17 +172,37 @@ fn is_over<F: Drop, S: Drop>(ends: &Ends<F, S>, joined: Option<u32>) -> bool
     }
 }
 
-/// How a run ended: well where the client got all and the sink has all; else by the key to blame, if one failed.
-fn result(got: bool, all: bool, blame: Option<u32>) -> Result<(), RunStatus>
+/// Whether a node's core has taken all events that it takes.
+fn is_spent<B: Drop, L: Label<Block = B>, F: Drop, S: BlockStore<B, L>>(
+    scheduler: &SchedulerNode<B, L>,
+    workers: &[WorkerNode<B, L, F, S>],
+    client: &ClientNode<B, L>,
+) -> bool
+    ensures { result ≡ true → IsSpent scheduler.now.history.book (λ w. w.history.book) (λ c. c.core.events) workers.now client.now.book (λ c. c.core.events) }
+{
+    if scheduler.history.is_spent() {
+        return true;
+    }
+    if client.book.is_spent() {
+        return true;
+    }
+    any_spent(workers)
+}
+
+/// How a run ended: well where the client got all and the sink has all; else by the key to blame, if one failed; else by a core that is spent.
+fn result(got: bool, all: bool, blame: Option<u32>, spent: bool) -> Result<(), RunStatus>
     ensures got { IfOk result (λ _. got ≡ true) }
     ensures all { IfOk result (λ _. all ≡ true) }
-    ensures cause { IfStatus (IsBlamed blame) result }
+    ensures cause { IfStatus (IsBlamed blame spent) result }
 {
     if got && all {
         return Ok(());
     }
-    match blame {
-        Some(key) => Err(RunStatus::Zero { key }),
-        None => Err(RunStatus::Memory),
+    if let Some(key) = blame {
+        return Err(RunStatus::Zero { key });
     }
+    if spent {
+        return Err(RunStatus::Events);
+    }
+    Err(RunStatus::Memory)
 }

@@ -1,13 +1,14 @@
 //! How a run ended, as the closed nodes tell.
-ghost use Rattle.std.specs.Prelude.{◌≡◌, ◌≢◌, ◌≤◌, ◌+◌, ◌<◌, ◌++◌, ◌∷◌, [], ℕ, true, false, None, slice_index_or, All, Contains, IfOk, IfSome, Some};
+ghost use Rattle.std.specs.Prelude.{◌≡◌, ◌≢◌, ◌≤◌, ◌+◌, ◌^◌, ◌<◌, ◌++◌, ◌∷◌, [], ℕ, true, false, None, slice_index_or, All, Contains, IfOk, IfSome, Some};
 ghost use Rattle.cluster_msgs.specs.Labels.{BlameFits};
 ghost use Rattle.cluster_rules.specs.Sched.{Facts as SchedFacts, connected};
 ghost use Rattle.gather_client.specs.CoreState.{client_facts};
 ghost use Rattle.scheduler_core.specs.Cores.{facts};
+ghost use Rattle.worker_core.specs.Core.{facts as worker_facts};
 ghost use Rattle.turn_cell.specs.Rows.{AllBy};
 ghost use Rattle.node_states.specs.Fitting.{ClientFits};
 ghost use Rattle.node_states.specs.declared.why.Why.TheVariants as why;
-ghost use Rattle.node_runner.specs.Runs.{HasGot, IsGivenUp, IsGot, IsLeft, IsNamed, IsTakenFrom};
+ghost use Rattle.node_runner.specs.Runs.{HasGot, IsGivenUp, IsGot, IsLeft, IsNamed, IsFromWorker};
 
 use crate::plan::RunPlan;
 use crate::sink::Sink;
@@ -24,6 +25,8 @@ pub enum RunStatus {
     Zero { key: u32 },
     /// No worker was left, and a feed had failed.
     Read,
+    /// A node's core has taken all events that it takes, 2^40.
+    Events,
     /// There was no memory.
     Memory,
 }
@@ -105,6 +108,20 @@ pub fn first_blame<B: Drop, L: Label<Block = B>>(
         }
     }
     None
+}
+
+/// Whether a worker's core has taken all events that it takes.
+pub fn any_spent<B: Drop, L: Label<Block = B>, F: Drop, S: BlockStore<B, L>>(
+    workers: &[WorkerNode<B, L, F, S>],
+) -> bool
+    ensures { result ≡ true → (w : _) × Contains workers.now w × (2 ^ 40 ≤ w.history.book.core.core.events) }
+{
+    for worker in workers {
+        if worker.history.book.is_spent() {
+            return true;
+        }
+    }
+    false
 }
 
 /// For each worker why it left, if it joined and left.
@@ -237,7 +254,8 @@ pub fn take_apart<B: Drop, L: Label<Block = B>, F: Drop, S: BlockStore<B, L>>(
     alloc: Global,
     workers: Vec<WorkerNode<B, L, F, S>>,
 ) -> (Option<Vec<History>>, Vec<F>, Vec<S>)
-    ensures { IfSome result.0 (λ histories. AllBy (λ k w h. IsTakenFrom w.history.book h) workers.items histories.items) }
+    ensures { IfSome result.0 (λ histories. AllBy (λ k w h. IsFromWorker L.facts (λ c. c.id) (λ c. worker_facts c.core) (λ c. c.core.events) w.history.book h)
+        workers.items histories.items) }
 {
     let mut histories = Vec::new(alloc);
     let mut feeds = Vec::new(alloc);
@@ -254,10 +272,11 @@ pub fn take_apart<B: Drop, L: Label<Block = B>, F: Drop, S: BlockStore<B, L>>(
 }
 
 /// The history, the feeds and the store of a closed worker.
+#[tactic(auto, using(crate::proofs::Ending::taken_from))]
 fn apart<B: Drop, L: Label<Block = B>, F: Drop, S: BlockStore<B, L>>(
     worker: WorkerNode<B, L, F, S>,
 ) -> (History, Feeds<F>, S)
-    ensures { IsTakenFrom worker.history.book result.0 }
+    ensures { IsFromWorker L.facts (λ c. c.id) (λ c. worker_facts c.core) (λ c. c.core.events) worker.history.book result.0 }
 {
     let (log, own, store) = worker.into_parts();
     (log.into_history(), own, store)

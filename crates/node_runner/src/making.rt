@@ -26,11 +26,6 @@ use std::alloc::{AllocError, Global};
 use turn_cell::{Kept, Made};
 use worker_core::WorkerCore;
 
-/// The most bytes of the scheduler's history, and of another node's.
-const SCHEDULER_BYTES: u64 = 1 << 28;
-
-const NODE_BYTES: u64 = 1 << 25;
-
 /// The number of the client.
 const CLIENT: u32 = 1;
 
@@ -65,11 +60,11 @@ pub fn make_rows<J: JobSpec, K: RunName<J>, S: BlockStore<J::Block, RunLabel<J, 
     requires numbers { numbers plan.now ≤ 1024 }
     requires parts { 0 < parts }
     ensures parts { (result.0.scheduler.parts ≡ parts) × (result.0.workers.parts ≡ parts) × (result.0.clients.parts ≡ parts) }
-    ensures scheduler { result.1 ≡ true → AreMade (λ k s. IsFirstScheduler graph.now plan.now s.history.book.core) 1
+    ensures scheduler { result.1 ≡ true → AreMade (λ k s. IsFirstScheduler graph.now plan.now s.history.book.kept) 1
         (map (λ p. berth_of p.seat) result.0.scheduler.passes.items) }
-    ensures workers { result.1 ≡ true → AreMade (λ k s. IsFirstWorker graph.now plan.now.threads (k + 1) s.history.book.core.id (worker_facts s.history.book.core.core))
+    ensures workers { result.1 ≡ true → AreMade (λ k s. IsFirstWorker graph.now plan.now.threads (k + 1) s.history.book.kept.id (worker_facts s.history.book.kept.core))
         (numbers plan.now) (map (λ p. berth_of p.seat) result.0.workers.passes.items) }
-    ensures client { result.1 ≡ true → AreMade (λ k s. IsFirstClient graph.now s.book.core.id (client_facts s.book.core.core)) 1
+    ensures client { result.1 ≡ true → AreMade (λ k s. IsFirstClient graph.now s.book.kept.id (client_facts s.book.kept.core)) 1
         (map (λ p. berth_of p.seat) result.0.clients.passes.items) }
 {
     let rows = Rows {
@@ -101,11 +96,11 @@ fn fill<B: Drop, L: Label<Block = B>, F: Drop, S: BlockStore<B, L>>(
     ensures scheduler_parts { result.0.scheduler.parts ≡ rows.scheduler.parts }
     ensures worker_parts { result.0.workers.parts ≡ rows.workers.parts }
     ensures client_parts { result.0.clients.parts ≡ rows.clients.parts }
-    ensures scheduler { result.1 ≡ true → AreMade (λ k s. IsFirstScheduler graph.now plan.now s.history.book.core) 1
+    ensures scheduler { result.1 ≡ true → AreMade (λ k s. IsFirstScheduler graph.now plan.now s.history.book.kept) 1
         (map (λ p. berth_of p.seat) result.0.scheduler.passes.items) }
-    ensures workers { result.1 ≡ true → AreMade (λ k s. IsFirstWorker graph.now plan.now.threads (k + 1) s.history.book.core.id (worker_facts s.history.book.core.core))
+    ensures workers { result.1 ≡ true → AreMade (λ k s. IsFirstWorker graph.now plan.now.threads (k + 1) s.history.book.kept.id (worker_facts s.history.book.kept.core))
         (vec_len ports.workers) (map (λ p. berth_of p.seat) result.0.workers.passes.items) }
-    ensures client { result.1 ≡ true → AreMade (λ k s. IsFirstClient graph.now s.book.core.id (client_facts s.book.core.core)) 1
+    ensures client { result.1 ≡ true → AreMade (λ k s. IsFirstClient graph.now s.book.kept.id (client_facts s.book.kept.core)) 1
         (map (λ p. berth_of p.seat) result.0.clients.passes.items) }
 {
     let Rows {
@@ -182,7 +177,7 @@ fn add_scheduler<B: Drop, L: Label<Block = B>>(
     requires saturation { (1 ≤ plan.now.saturation) × (plan.now.saturation ≤ 1000) }
     requires empty { row.passes.items ≡ [] }
     ensures parts { result.0.parts ≡ row.parts }
-    ensures made { result.1 ≡ true → AreMade (λ k s. IsFirstScheduler graph.now plan.now s.history.book.core) 1 (map (λ p. berth_of p.seat) result.0.passes.items) }
+    ensures made { result.1 ≡ true → AreMade (λ k s. IsFirstScheduler graph.now plan.now s.history.book.kept) 1 (map (λ p. berth_of p.seat) result.0.passes.items) }
 {
     let made = make_scheduler(alloc, graph, plan, workers, client, sent);
     add_made(alloc, row, made)
@@ -199,13 +194,13 @@ fn make_scheduler<B: Drop, L: Label<Block = B>>(
 ) -> Result<SchedulerNode<B, L>, AllocError>
     requires graph { L.facts.deps ≡ deps_of graph.now }
     requires saturation { (1 ≤ plan.now.saturation) × (plan.now.saturation ≤ 1000) }
-    ensures first { IfOk result (λ s. IsFirstScheduler graph.now plan.now s.history.book.core) }
+    ensures first { IfOk result (λ s. IsFirstScheduler graph.now plan.now s.history.book.kept) }
     ensures fits { IfOk result (λ s. SchedFits L.facts (facts s.history.book.core.core)) }
     ensures empty { IfOk result (λ s. s.history.book.entries ≡ []) }
 {
     let links = SchedulerLinks::new(alloc, workers, just(alloc, client)?, sent);
     let core = scheduling_core(alloc, graph, plan)?;
-    SchedulerNode::new(alloc, core, SCHEDULER_BYTES, links)
+    SchedulerNode::new(alloc, core, links)
 }
 
 /// The scheduler's core, with what its node goes by.
@@ -219,6 +214,7 @@ fn scheduling_core<L: Label>(
     requires saturation { (1 ≤ plan.now.saturation) × (plan.now.saturation ≤ 1000) }
     ensures first { IfOk result (λ c. IsFirstScheduler graph.now plan.now c) }
     ensures opening { IfOk result (λ c. IsOpening (facts c.core)) }
+    ensures none { IfOk result (λ c. c.core.taken ≡ 0) }
     ensures fits { IfOk result (λ c. SchedFits L.facts (facts c.core)) }
 {
     let shape = graph.copy()?;
@@ -254,7 +250,7 @@ fn add_client<B: Drop, L: Label<Block = B>>(
 ) -> (Made<ClientNode<B, L>, L>, bool)
     requires empty { row.passes.items ≡ [] }
     ensures parts { result.0.parts ≡ row.parts }
-    ensures made { result.1 ≡ true → AreMade (λ k s. IsFirstClient graph.now s.book.core.id (client_facts s.book.core.core)) 1
+    ensures made { result.1 ≡ true → AreMade (λ k s. IsFirstClient graph.now s.book.kept.id (client_facts s.book.kept.core)) 1
         (map (λ p. berth_of p.seat) result.0.passes.items) }
 {
     let made = make_client(alloc, graph, wanted, scheduler, workers, sent);
@@ -270,13 +266,13 @@ fn make_client<B: Drop, L: Label<Block = B>>(
     workers: Vec<Port<B, L>>,
     sent: Tally,
 ) -> Result<ClientNode<B, L>, AllocError>
-    ensures first { IfOk result (λ s. IsFirstClient graph.now s.book.core.id (client_facts s.book.core.core)) }
+    ensures first { IfOk result (λ s. IsFirstClient graph.now s.book.kept.id (client_facts s.book.kept.core)) }
     ensures fits { IfOk result (λ s. ClientFits L.facts (client_facts s.book.core.core)) }
     ensures empty { IfOk result (λ s. s.book.entries ≡ []) }
 {
     let wanted = wanted.copy()?;
     let core = gathering_core(alloc, graph)?;
-    ClientNode::new(alloc, core, NODE_BYTES, wanted, scheduler, workers, sent)
+    ClientNode::new(alloc, core, wanted, scheduler, workers, sent)
 }
 
 /// The client's core.
@@ -286,6 +282,7 @@ fn gathering_core<L: Label>(
     graph: &GraphShape,
 ) -> Result<GatheringCore<L>, AllocError>
     ensures first { IfOk result (λ c. IsFirstClient graph.now c.id (client_facts c.core)) }
+    ensures none { IfOk result (λ c. c.core.events ≡ 0) }
     ensures fits { IfOk result (λ c. ClientFits L.facts (client_facts c.core)) }
 {
     let core = ClientCore::new(alloc, graph.copy()?)?;
@@ -306,7 +303,7 @@ fn add_workers<B: Drop, L: Label<Block = B>, F: Drop, S: BlockStore<B, L>>(
     requires few { vec_len ports ≤ 1024 }
     requires empty { row.passes.items ≡ [] }
     ensures parts { result.0.parts ≡ row.parts }
-    ensures made { result.1 ≡ true → AreMade (λ k s. IsFirstWorker graph.now threads (k + 1) s.history.book.core.id (worker_facts s.history.book.core.core))
+    ensures made { result.1 ≡ true → AreMade (λ k s. IsFirstWorker graph.now threads (k + 1) s.history.book.kept.id (worker_facts s.history.book.kept.core))
         (vec_len ports) (map (λ p. berth_of p.seat) result.0.passes.items) }
 {
     let mut row = row;
@@ -340,9 +337,9 @@ fn add_worker<B: Drop, L: Label<Block = B>, F: Drop, S: BlockStore<B, L>>(
     requires few { at < 1024 }
     ensures parts { result.0.parts ≡ row.parts }
     ensures made { result.1 ≡ true
-        → AreMade (λ k s. IsFirstWorker graph.now threads (k + 1) s.history.book.core.id (worker_facts s.history.book.core.core)) at
+        → AreMade (λ k s. IsFirstWorker graph.now threads (k + 1) s.history.book.kept.id (worker_facts s.history.book.kept.core)) at
         (map (λ p. berth_of p.seat) row.passes.items)
-        → AreMade (λ k s. IsFirstWorker graph.now threads (k + 1) s.history.book.core.id (worker_facts s.history.book.core.core)) (at + 1)
+        → AreMade (λ k s. IsFirstWorker graph.now threads (k + 1) s.history.book.kept.id (worker_facts s.history.book.kept.core)) (at + 1)
         (map (λ p. berth_of p.seat) result.0.passes.items) }
 {
     let own = match own {
@@ -364,7 +361,7 @@ fn make_worker<B: Drop, L: Label<Block = B>, F: Drop, S: BlockStore<B, L>>(
     store: Option<S>,
 ) -> Result<WorkerNode<B, L, F, S>, AllocError>
     requires graph { L.facts.deps ≡ deps_of graph.now }
-    ensures first { IfOk result (λ s. IsFirstWorker graph.now threads id s.history.book.core.id (worker_facts s.history.book.core.core)) }
+    ensures first { IfOk result (λ s. IsFirstWorker graph.now threads id s.history.book.kept.id (worker_facts s.history.book.kept.core)) }
     ensures empty { IfOk result (λ s. s.history.book.entries ≡ []) }
     ensures fits { IfOk result (λ s. S.fits L.facts s.store) }
 {
@@ -380,7 +377,7 @@ fn make_worker<B: Drop, L: Label<Block = B>, F: Drop, S: BlockStore<B, L>>(
     let links = worker_links(alloc, id, ports)?;
     let shape = RunGraph::new(graph.copy()?);
     let core = working_core(alloc, graph, id, threads)?;
-    match WorkerNode::new(alloc, core, NODE_BYTES, shape, store, feeds, links, ending) {
+    match WorkerNode::new(alloc, core, shape, store, feeds, links, ending) {
         Ok(node) => Ok(node),
         Err(_) => Err(AllocError),
     }
@@ -409,7 +406,8 @@ fn working_core<L: Label>(
     id: u32,
     threads: u32,
 ) -> Result<WorkingCore<L>, AllocError>
-    ensures { IfOk result (λ c. IsFirstWorker graph.now threads id c.id (worker_facts c.core)) }
+    ensures first { IfOk result (λ c. IsFirstWorker graph.now threads id c.id (worker_facts c.core)) }
+    ensures none { IfOk result (λ c. c.core.events ≡ 0) }
 {
     let core = WorkerCore::new(alloc, id, threads, graph.copy()?)?;
     Ok(WorkingCore::new(alloc, id, core))

@@ -101,11 +101,11 @@ fn begin<J: JobSpec, K: RunName<J>, S: BlockStore<J::Block, RunLabel<J, K>>>(
     requires threads { (1 ≤ plan.now.threads) × (plan.now.workers * plan.now.threads ≤ 64) }
     requires numbers { numbers plan.now ≤ 1024 }
     ensures parts { (result.0.workers.parts ≡ result.0.scheduler.parts) × (result.0.clients.parts ≡ result.0.scheduler.parts) }
-    ensures scheduler { IfSome result.1 (λ _. AreMade (λ k s. IsFirstScheduler (J.graph job.now) plan.now s.history.book.core) 1
+    ensures scheduler { IfSome result.1 (λ _. AreMade (λ k s. IsFirstScheduler (J.graph job.now) plan.now s.history.book.kept) 1
         (map (λ p. berth_of p.seat) result.0.scheduler.passes.items)) }
-    ensures workers { IfSome result.1 (λ _. AreMade (λ k s. IsFirstWorker (J.graph job.now) plan.now.threads (k + 1) s.history.book.core.id
-        (worker_facts s.history.book.core.core)) (numbers plan.now) (map (λ p. berth_of p.seat) result.0.workers.passes.items)) }
-    ensures client { IfSome result.1 (λ _. AreMade (λ k s. IsFirstClient (J.graph job.now) s.book.core.id (client_facts s.book.core.core)) 1
+    ensures workers { IfSome result.1 (λ _. AreMade (λ k s. IsFirstWorker (J.graph job.now) plan.now.threads (k + 1) s.history.book.kept.id
+        (worker_facts s.history.book.kept.core)) (numbers plan.now) (map (λ p. berth_of p.seat) result.0.workers.passes.items)) }
+    ensures client { IfSome result.1 (λ _. AreMade (λ k s. IsFirstClient (J.graph job.now) s.book.kept.id (client_facts s.book.kept.core)) 1
         (map (λ p. berth_of p.seat) result.0.clients.passes.items)) }
     ensures short { result.2 ≡ true → (n : ℕ) × Contains (map (λ v. vec_len v) feeds.items) n × (n < plan.now.threads) }
 {
@@ -149,11 +149,11 @@ where
     Z: Sink<J::Block, RunLabel<J, K>> + Drop,
     requires named { K.job ≡ Some job.now }
     requires parts { (rows.workers.parts ≡ rows.scheduler.parts) × (rows.clients.parts ≡ rows.scheduler.parts) }
-    requires scheduler { AreMade (λ k s. IsFirstScheduler (J.graph job.now) plan.now s.history.book.core) 1
+    requires scheduler { AreMade (λ k s. IsFirstScheduler (J.graph job.now) plan.now s.history.book.kept) 1
         (map (λ p. berth_of p.seat) rows.scheduler.passes.items) }
-    requires workers { AreMade (λ k s. IsFirstWorker (J.graph job.now) plan.now.threads (k + 1) s.history.book.core.id (worker_facts s.history.book.core.core))
+    requires workers { AreMade (λ k s. IsFirstWorker (J.graph job.now) plan.now.threads (k + 1) s.history.book.kept.id (worker_facts s.history.book.kept.core))
         (numbers plan.now) (map (λ p. berth_of p.seat) rows.workers.passes.items) }
-    requires client { AreMade (λ k s. IsFirstClient (J.graph job.now) s.book.core.id (client_facts s.book.core.core)) 1
+    requires client { AreMade (λ k s. IsFirstClient (J.graph job.now) s.book.kept.id (client_facts s.book.kept.core)) 1
         (map (λ p. berth_of p.seat) rows.clients.passes.items) }
     ensures had { IfOk result.0.result (λ _. All (λ k. Z.had result.1 k ≡ true) wanted.now) }
     ensures leads { Z.leads sink result.1 }
@@ -214,19 +214,19 @@ where
     Z: Sink<J::Block, RunLabel<J, K>> + Drop,
     requires named { K.job ≡ Some job.now }
     requires parts { (rows.workers.parts ≡ rows.scheduler.parts) × (rows.clients.parts ≡ rows.scheduler.parts) }
-    requires scheduler { AreMade (λ k s. IsFirstScheduler (J.graph job.now) plan.now s.history.book.core) 1
+    requires scheduler { AreMade (λ k s. IsFirstScheduler (J.graph job.now) plan.now s.history.book.kept) 1
         (map (λ p. berth_of p.seat) rows.scheduler.passes.items) }
-    requires workers { AreMade (λ k s. IsFirstWorker (J.graph job.now) plan.now.threads (k + 1) s.history.book.core.id (worker_facts s.history.book.core.core))
+    requires workers { AreMade (λ k s. IsFirstWorker (J.graph job.now) plan.now.threads (k + 1) s.history.book.kept.id (worker_facts s.history.book.kept.core))
         (numbers plan.now) (map (λ p. berth_of p.seat) rows.workers.passes.items) }
-    requires client { AreMade (λ k s. IsFirstClient (J.graph job.now) s.book.core.id (client_facts s.book.core.core)) 1
+    requires client { AreMade (λ k s. IsFirstClient (J.graph job.now) s.book.kept.id (client_facts s.book.kept.core)) 1
         (map (λ p. berth_of p.seat) rows.clients.passes.items) }
     ensures scheduler { All (λ s. IsSchedulersBook (run_facts J.graph J.operation J.key_dims J.block_dims K.told K.job) (J.graph job.now) plan.now
         s.history.book) result.0.scheduler.items }
     ensures workers { (k : ℕ) (w : _) → k < vec_len result.0.workers
         → IsWorkersBook (run_facts J.graph J.operation J.key_dims J.block_dims K.told K.job) (J.graph job.now) plan.now.threads (k + 1)
-        (λ c. worker_facts c.core) (slice_index_or result.0.workers.items k w).history.book }
+        (λ c. c.id) (λ c. worker_facts c.core) (slice_index_or result.0.workers.items k w).history.book }
     ensures clients { All (λ c. IsClientsBook (run_facts J.graph J.operation J.key_dims J.block_dims K.told K.job) (J.graph job.now)
-        (λ c. client_facts c.core) c.book) result.0.clients.items }
+        (λ c. c.id) (λ c. client_facts c.core) c.book) result.0.clients.items }
     ensures leads { Z.leads sink result.1 }
 {
     let room = Solo::new(rt, Doorbell::parking()).ok();
@@ -273,14 +273,14 @@ where
         + Sync,
     T: Waits<X::Sight>,
     requires parts { (rows.workers.parts ≡ rows.scheduler.parts) × (rows.clients.parts ≡ rows.scheduler.parts) }
-    ensures scheduler { (graph : Shape) → AreMade (λ k s. IsFirstScheduler graph plan.now s.history.book.core) 1
+    ensures scheduler { (graph : Shape) → AreMade (λ k s. IsFirstScheduler graph plan.now s.history.book.kept) 1
         (map (λ p. berth_of p.seat) rows.scheduler.passes.items) → All (λ s. IsSchedulersBook L.facts graph plan.now s.history.book) result.scheduler.items }
-    ensures workers { (graph : Shape) → AreMade (λ k s. IsFirstWorker graph plan.now.threads (k + 1) s.history.book.core.id
-        (worker_facts s.history.book.core.core)) (numbers plan.now) (map (λ p. berth_of p.seat) rows.workers.passes.items)
+    ensures workers { (graph : Shape) → AreMade (λ k s. IsFirstWorker graph plan.now.threads (k + 1) s.history.book.kept.id
+        (worker_facts s.history.book.kept.core)) (numbers plan.now) (map (λ p. berth_of p.seat) rows.workers.passes.items)
         → (k : ℕ) (w : _) → k < vec_len result.workers
-        → IsWorkersBook L.facts graph plan.now.threads (k + 1) (λ c. worker_facts c.core) (slice_index_or result.workers.items k w).history.book }
-    ensures clients { (graph : Shape) → AreMade (λ k s. IsFirstClient graph s.book.core.id (client_facts s.book.core.core)) 1
-        (map (λ p. berth_of p.seat) rows.clients.passes.items) → All (λ c. IsClientsBook L.facts graph (λ c. client_facts c.core) c.book) result.clients.items }
+        → IsWorkersBook L.facts graph plan.now.threads (k + 1) (λ c. c.id) (λ c. worker_facts c.core) (slice_index_or result.workers.items k w).history.book }
+    ensures clients { (graph : Shape) → AreMade (λ k s. IsFirstClient graph s.book.kept.id (client_facts s.book.kept.core)) 1
+        (map (λ p. berth_of p.seat) rows.clients.passes.items) → All (λ c. IsClientsBook L.facts graph (λ c. c.id) (λ c. client_facts c.core) c.book) result.clients.items }
     ensures waited { T.leads waiter.old waiter.new }
 {
     let manner = Manner {
@@ -309,8 +309,8 @@ fn end_rows<B: Drop, L: Label<Block = B>, F: Drop, S: BlockStore<B, L>, Z: Sink<
 ) -> (Ends<F, S>, bool)
     requires scheduler { All (λ s. IsSchedulersBook L.facts graph.now plan.now s.history.book) closed.scheduler.items }
     requires workers { (k : ℕ) (w : _) → k < vec_len closed.workers
-        → IsWorkersBook L.facts graph.now plan.now.threads (k + 1) (λ c. worker_facts c.core) (slice_index_or closed.workers.items k w).history.book }
-    requires clients { All (λ c. IsClientsBook L.facts graph.now (λ c. client_facts c.core) c.book) closed.clients.items }
+        → IsWorkersBook L.facts graph.now plan.now.threads (k + 1) (λ c. c.id) (λ c. worker_facts c.core) (slice_index_or closed.workers.items k w).history.book }
+    requires clients { All (λ c. IsClientsBook L.facts graph.now (λ c. c.id) (λ c. client_facts c.core) c.book) closed.clients.items }
     ensures had { IfOk result.0.result (λ _. All (λ k. Z.had sink.new k ≡ true) wanted.now) }
     ensures leads { Z.leads sink.old sink.new }
     ensures ended { IfSome result.0.histories (λ h. (last : LastFacts) × HasRun L.facts graph.now plan.now wanted.now ⊥ last result.0.result result.0.left.items h

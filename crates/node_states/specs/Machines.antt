@@ -1,5 +1,5 @@
 -- What each entry of a history asks of its node's core. An entry of a worker or a client names the number of its own node.
-use Rattle.std.specs.Prelude.{◌≡◌, ℕ, Bool, true, Option, Some, None, All, cond}
+use Rattle.std.specs.Prelude.{◌≡◌, ℕ, ◌^◌, Bool, true, Option, Some, None, All, cond}
 use Rattle.std.specs.Option.{option_map}
 use Rattle.cluster_msgs.specs.declared.messages.Message.{Message}
 use Rattle.cluster_msgs.specs.declared.messages.Message.TheVariants as message
@@ -79,3 +79,10 @@ ClientSays id c _ _ o = ⊥
 pub record ClientBy (c : ClientFacts) (e : ClientEvent) (d : ClientFacts) : Type 0 where
   pub takes : client_takes c e ≡ true
   pub facts : d ≡ (client_step c e).facts
+
+-- for how many bytes the history of the scheduler is, and that of another node
+abbrev pub scheduler_bytes : ℕ
+scheduler_bytes = 2 ^ 28
+
+abbrev pub node_bytes : ℕ
+node_bytes = 2 ^ 25

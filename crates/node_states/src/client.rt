@@ -11,7 +11,7 @@ ghost use Rattle.node_states.specs.Fitting.{ClientFits};
 ghost use Rattle.node_states.specs.Machines.{ClientSays};
 ghost use Rattle.node_states.specs.Released.{AreReleased, WasReleased, lets_go};
 
-use crate::cores::GatheringCore;
+use crate::cores::{GatheringCore, NODE_BYTES};
 use crate::evidence::{Blame, ClientCause};
 use crate::links::{ClientLinks, is_dead, number};
 use crate::marks::Marks;
@@ -61,25 +61,25 @@ pub struct ClientNode<B: Drop, L: Label<Block = B>> {
 }
 
 impl<B: Drop, L: Label<Block = B>> ClientNode<B, L> {
-    /// A client that has made no entry, whose history may have so many bytes. It has a port to the scheduler and one to each worker, by number, and `sent`
-    /// counts what is sent to it.
+    /// A client that has made no entry. It has a port to the scheduler and one to each worker, by number, and `sent` counts what is sent to it.
     ///
     /// # Errors
     /// Where there is no memory.
     pub fn new(
         alloc: Global,
         core: GatheringCore<L>,
-        limit: u64,
         wanted: KeyList,
         scheduler: Port<B, L>,
         workers: Vec<Port<B, L>>,
         sent: Tally,
     ) -> Result<Self, AllocError>
+        requires none { core.core.events ≡ 0 }
         ensures core { IfOk result (λ node. node.book.core ≡ core) }
+        ensures kept { IfOk result (λ node. node.book.kept ≡ core) }
         ensures entries { IfOk result (λ node. (node.book.entries ≡ []) × (node.book.cut ≡ false)) }
     {
         let links = ClientLinks::new(alloc, scheduler, workers, sent);
-        match begin(alloc, core, limit) {
+        match begin(alloc, core) {
             Ok((book, released)) => Ok(ClientNode {
                 alloc,
                 book,
@@ -615,9 +615,10 @@ fn just(alloc: Global, key: u32) -> Option<KeyList>
 fn begin<L: Label>(
     alloc: Global,
     core: GatheringCore<L>,
-    limit: u64,
 ) -> Result<(Book<GatheringCore<L>>, Marks), AllocError>
+    requires none { core.core.events ≡ 0 }
     ensures core { IfOk result (λ begun. begun.0.core ≡ core) }
+    ensures kept { IfOk result (λ begun. begun.0.kept ≡ core) }
     ensures entries { IfOk result (λ begun. (begun.0.entries ≡ []) × (begun.0.cut ≡ false)) }
     ensures told { IfOk result (λ begun. AreReleased begun.1 begun.0) }
 {
@@ -625,7 +626,7 @@ fn begin<L: Label>(
         drop(core);
         return Err(AllocError);
     };
-    match Book::new(alloc, core, limit) {
+    match Book::new(alloc, core, NODE_BYTES) {
         Ok(book) => Ok((book, released)),
         Err(core) => {
             drop(core);
@@ -649,9 +650,9 @@ impl<B: Drop, L: Label<Block = B>> Kept for ClientNode<B, L> {
 
     ghost entries = { λ s. s.book.entries };
 
-    ghost core = { λ s. s.book.core };
+    ghost core = { λ s. s.book.kept };
 
-    ghost cut = { λ s. s.book.cut };
+    ghost cut = { λ s. false };
 
     ghost steps = { Steps ⟦<GatheringCore<L> as Machine>⟧.says ⟦<GatheringCore<L> as Machine>⟧.by };
 

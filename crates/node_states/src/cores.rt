@@ -14,6 +14,11 @@ use std::alloc::Global;
 use std::marker::{Model, PhantomData};
 use worker_core::WorkerCore;
 
+/// The most bytes of the scheduler's history, and of another node's.
+pub const SCHEDULER_BYTES: u64 = 1 << 28;
+
+pub const NODE_BYTES: u64 = 1 << 25;
+
 /// The scheduler's core, with what its node goes by. As long as memory doesn't end inside it (`torn`), it goes by the label's graph, and each key
 /// that it counts as bad is faulty.
 #[derive(Drop)]
@@ -78,11 +83,15 @@ impl<L: Label> Machine for SchedulingCore<L> {
     ghost use Rattle.std.specs.Prelude.{◌≡◌};
     ghost use Rattle.scheduler_core.specs.Cores.{facts};
     ghost use Rattle.node_states.specs.Fitting.{SchedEventFits};
-    ghost use Rattle.node_states.specs.Machines.{SchedSays, SchedBy};
+    ghost use Rattle.node_states.specs.Machines.{SchedSays, SchedBy, scheduler_bytes};
 
     ghost says = { λ s. SchedSays (facts s.core) };
 
     ghost by = { λ s e t. (t.plan ≡ s.plan) × SchedBy (facts s.core) e (facts t.core) × SchedEventFits L.facts e };
+
+    ghost taken = { λ s. s.core.taken };
+
+    ghost limited = { λ n. n ≡ scheduler_bytes };
 
     #[tactic(auto, using(crate::proofs::SchedLaw::sched_fits, crate::proofs::SchedLaw::made_fits))]
     fn take(&mut self, event: SchedCause<L>, out: &mut SchedOut<L>) -> Result<(), Stop> {
@@ -141,11 +150,15 @@ impl<L: Label> Machine for WorkingCore<L> {
     ghost use Rattle.std.specs.Prelude.{◌≡◌};
     ghost use Rattle.worker_core.specs.Core.{facts as worker_facts};
     ghost use Rattle.node_states.specs.Fitting.{WorkerEventFits};
-    ghost use Rattle.node_states.specs.Machines.{WorkerSays, WorkerBy};
+    ghost use Rattle.node_states.specs.Machines.{WorkerSays, WorkerBy, node_bytes};
 
     ghost says = { λ s. WorkerSays s.id (worker_facts s.core) };
 
     ghost by = { λ s e t. (t.id ≡ s.id) × WorkerBy (worker_facts s.core) e (worker_facts t.core) × WorkerEventFits L.facts e };
+
+    ghost taken = { λ s. s.core.events };
+
+    ghost limited = { λ n. n ≡ node_bytes };
 
     #[tactic(auto, using(crate::proofs::WorkerLaw::out_fits))]
     fn take(&mut self, event: WorkerCause<L>, out: &mut WorkerOut<L>) -> Result<(), Stop> {
@@ -192,11 +205,15 @@ impl<L: Label> Machine for GatheringCore<L> {
     ghost use Rattle.std.specs.Prelude.{◌≡◌};
     ghost use Rattle.gather_client.specs.CoreState.{client_facts};
     ghost use Rattle.node_states.specs.Fitting.{ClientEventFits};
-    ghost use Rattle.node_states.specs.Machines.{ClientSays, ClientBy};
+    ghost use Rattle.node_states.specs.Machines.{ClientSays, ClientBy, node_bytes};
 
     ghost says = { λ s. ClientSays s.id (client_facts s.core) };
 
     ghost by = { λ s e t. (t.id ≡ s.id) × ClientBy (client_facts s.core) e (client_facts t.core) × ClientEventFits L.facts e };
+
+    ghost taken = { λ s. s.core.events };
+
+    ghost limited = { λ n. n ≡ node_bytes };
 
     fn take(&mut self, event: ClientCause<L>, out: &mut ClientOut) -> Result<(), Stop> {
         self.core.on(event.into_event(), out)

@@ -1,14 +1,14 @@
 //! A worker's core with its history.
-ghost use Rattle.std.specs.Prelude.{◌≡◌, ℕ, [], true, false, IfOk, IfSome, OnOk, OnErr, None, is_some};
+ghost use Rattle.std.specs.Prelude.{◌≡◌, ℕ, [], true, false, IfOk, IfSome, OnOk, OnErr, None};
 ghost use Rattle.cluster_msgs.specs.declared.events.Event.TheVariants as event;
 ghost use Rattle.cluster_rules.specs.Derived.{is_in};
 ghost use Rattle.worker_core.specs.Core.{facts};
-ghost use Rattle.node_links.specs.Books.{IsRecorded, IsEntered, Steps};
+ghost use Rattle.node_links.specs.Books.{IsLogOf, IsRecorded, IsEntered, Steps};
 ghost use Rattle.node_states.specs.Order.{Adds};
 ghost use Rattle.node_states.specs.Spills.{ComesAmong, MayMake, SpillsBy, SpillsSame, coming, is_marked, spilled_key};
 ghost use Rattle.node_states.specs.Workers.{is_end, no_end, ends_last, IsAlive};
 
-use crate::cores::WorkingCore;
+use crate::cores::{NODE_BYTES, WorkingCore};
 use crate::evidence::{RunGraph, WorkerCause, WorkerOut};
 use crate::marks::Marks;
 use cluster_msgs::{Event, Label, Message, Stop, WorkerEvent};
@@ -30,18 +30,15 @@ pub struct WorkerHistory<L: Label> {
 }
 
 impl<L: Label> WorkerHistory<L> {
-    /// A worker that has made no entry, whose history may have so many bytes.
+    /// A worker that has made no entry.
     ///
     /// # Errors
     /// Where there is no memory.
     #[tactic(auto, using(crate::proofs::Ends::alive_at_first))]
-    pub fn new(
-        alloc: Global,
-        core: WorkingCore<L>,
-        graph: &RunGraph<L>,
-        limit: u64,
-    ) -> Result<Self, AllocError>
+    pub fn new(alloc: Global, core: WorkingCore<L>, graph: &RunGraph<L>) -> Result<Self, AllocError>
+        requires none { core.core.events ≡ 0 }
         ensures core { IfOk result (λ h. (h.book.core ≡ core) × (h.id ≡ core.id)) }
+        ensures kept { IfOk result (λ h. h.book.kept ≡ core) }
         ensures entries { IfOk result (λ h. (h.book.entries ≡ []) × (h.book.cut ≡ false)) }
         ensures going { IfOk result (λ h. h.ended ≡ false) }
         ensures none { IfOk result (λ h. (k : ℕ) → is_marked h.recorded k ≡ false) }
@@ -51,7 +48,7 @@ impl<L: Label> WorkerHistory<L> {
             drop(core);
             return Err(AllocError);
         };
-        match Book::new(alloc, core, limit) {
+        match Book::new(alloc, core, NODE_BYTES) {
             Ok(book) => Ok(WorkerHistory {
                 id,
                 book,
@@ -180,8 +177,8 @@ impl<L: Label> WorkerHistory<L> {
 
     /// The history without the core.
     pub fn into_log(self) -> Log
-        ensures entries { result.entries ≡ self.book.entries }
-        ensures cut { is_some result.cut ≡ self.book.cut }
+        ensures { IsLogOf ⟦<WorkingCore<L> as Machine>⟧.limited (Steps ⟦<WorkingCore<L> as Machine>⟧.says ⟦<WorkingCore<L> as Machine>⟧.by)
+            ⟦<WorkingCore<L> as Machine>⟧.taken self.book result }
     {
         let WorkerHistory {
             id: _,

@@ -1,12 +1,12 @@
 //! The scheduler's core with its history, whose entries come in their order.
-ghost use Rattle.std.specs.Prelude.{◌≡◌, ℕ, [], true, false, IfOk, IfSome, OnErr, length, is_some};
+ghost use Rattle.std.specs.Prelude.{◌≡◌, ◌≤◌, ◌^◌, ℕ, [], true, false, IfOk, IfSome, OnErr, length};
 ghost use Rattle.cluster_msgs.specs.declared.events.Event.TheVariants as kind;
 ghost use Rattle.scheduler_core.specs.Cores.{facts};
-ghost use Rattle.node_links.specs.Books.{IsRecorded, Steps};
+ghost use Rattle.node_links.specs.Books.{IsLogOf, IsRecorded, Steps};
 ghost use Rattle.node_states.specs.Opening.{IsOpening};
 ghost use Rattle.node_states.specs.Order.{IsChosen, Adds, AreInTime, JoinFirst, start_of, is_gone};
 
-use crate::cores::SchedulingCore;
+use crate::cores::{SCHEDULER_BYTES, SchedulingCore};
 use crate::evidence::{SchedCause, SchedOut};
 use crate::links::let_go;
 use cluster_msgs::{Event, Label, Message, Stop};
@@ -35,21 +35,18 @@ impl<L: Label> Model for SchedulerHistory<L> {
 }
 
 impl<L: Label> SchedulerHistory<L> {
-    /// A scheduler that has made no entry, whose history may have so many bytes, with links to so many workers.
+    /// A scheduler that has made no entry, with links to so many workers.
     ///
     /// # Errors
     /// Where there is no memory.
-    pub fn new(
-        alloc: Global,
-        core: SchedulingCore<L>,
-        limit: u64,
-        workers: usize,
-    ) -> Result<Self, AllocError>
+    pub fn new(alloc: Global, core: SchedulingCore<L>, workers: usize) -> Result<Self, AllocError>
         requires opening { IsOpening (facts core.core) }
+        requires none { core.core.taken ≡ 0 }
         ensures core { IfOk result (λ h. h.book.core ≡ core) }
+        ensures kept { IfOk result (λ h. h.book.kept ≡ core) }
         ensures entries { IfOk result (λ h. (h.book.entries ≡ []) × (h.book.cut ≡ false)) }
     {
-        let (book, gone) = begin(alloc, core, limit, workers)?;
+        let (book, gone) = begin(alloc, core, SCHEDULER_BYTES, workers)?;
         Ok(SchedulerHistory { book, gone })
     }
 
@@ -58,6 +55,13 @@ impl<L: Label> SchedulerHistory<L> {
         ensures { IfSome result (λ c. c.now ≡ self.now.book.core) }
     {
         self.book.core()
+    }
+
+    /// Whether an event wasn't taken since the core has taken all that it takes.
+    pub fn is_spent(&self) -> bool
+        ensures { result ≡ true → 2 ^ 40 ≤ self.now.book.core.core.taken }
+    {
+        self.book.is_spent()
     }
 
     /// How many entries were made, those past the limit too.
@@ -118,8 +122,8 @@ impl<L: Label> SchedulerHistory<L> {
 
     /// The history without the core.
     pub fn into_log(self) -> Log
-        ensures entries { result.entries ≡ self.book.entries }
-        ensures cut { is_some result.cut ≡ self.book.cut }
+        ensures { IsLogOf ⟦<SchedulingCore<L> as Machine>⟧.limited (Steps ⟦<SchedulingCore<L> as Machine>⟧.says ⟦<SchedulingCore<L> as Machine>⟧.by)
+            ⟦<SchedulingCore<L> as Machine>⟧.taken self.book result }
     {
         let SchedulerHistory { book, gone } = self;
         drop(gone);
@@ -134,7 +138,10 @@ fn begin<C: Machine>(
     limit: u64,
     workers: usize,
 ) -> Result<(Book<C>, Vec<bool>), AllocError>
+    requires limit { C.limited limit }
+    requires none { C.taken core ≡ 0 }
     ensures core { IfOk result (λ p. p.0.core ≡ core) }
+    ensures kept { IfOk result (λ p. p.0.kept ≡ core) }
     ensures entries { IfOk result (λ p. (p.0.entries ≡ []) × (p.0.cut ≡ false)) }
 {
     let Ok(gone) = none_gone(alloc, workers) else {

@@ -51,21 +51,22 @@ pub struct SchedulerNode<B: Drop, L: Label<Block = B>> {
 }
 
 impl<B: Drop, L: Label<Block = B>> SchedulerNode<B, L> {
-    /// A scheduler that has made no entry, whose history may have so many bytes.
+    /// A scheduler that has made no entry.
     ///
     /// # Errors
     /// Where there is no memory.
     pub fn new(
         alloc: Global,
         core: SchedulingCore<L>,
-        limit: u64,
         links: SchedulerLinks<B, L>,
     ) -> Result<Self, AllocError>
         requires opening { IsOpening (facts core.core) }
+        requires none { core.core.taken ≡ 0 }
         ensures core { IfOk result (λ node. node.history.book.core ≡ core) }
+        ensures kept { IfOk result (λ node. node.history.book.kept ≡ core) }
         ensures entries { IfOk result (λ node. (node.history.book.entries ≡ []) × (node.history.book.cut ≡ false)) }
     {
-        let made = SchedulerHistory::new(alloc, core, limit, links.workers());
+        let made = SchedulerHistory::new(alloc, core, links.workers());
         let Ok(history) = made else {
             drop(made);
             drop(links);
@@ -478,9 +479,9 @@ impl<B: Drop, L: Label<Block = B>> Kept for SchedulerNode<B, L> {
 
     ghost entries = { λ s. s.history.book.entries };
 
-    ghost core = { λ s. s.history.book.core };
+    ghost core = { λ s. s.history.book.kept };
 
-    ghost cut = { λ s. s.history.book.cut };
+    ghost cut = { λ s. false };
 
     ghost steps = { Steps ⟦<SchedulingCore<L> as Machine>⟧.says ⟦<SchedulingCore<L> as Machine>⟧.by };
 

@@ -1,12 +1,12 @@
 //! A worker's node.
-ghost use Rattle.std.specs.Prelude.{◌≡◌, ◌≢◌, ◌⊎◌, ◌<◌, ◌+◌, ◌∷◌, ◌++◌, [], ℕ, true, false, map, filter, is_some, IfOk, IfErr, IfSome, OnOk, Ok, Some, None};
+ghost use Rattle.std.specs.Prelude.{◌≡◌, ◌≢◌, ◌⊎◌, ◌<◌, ◌+◌, ◌∷◌, ◌++◌, [], ℕ, true, false, map, filter, IfOk, IfErr, IfSome, OnOk, Ok, Some, None};
 ghost use Rattle.cluster_msgs.specs.Shape.{key_count};
 ghost use Rattle.cluster_msgs.specs.declared.messages.Message.TheVariants as message;
 ghost use Rattle.cluster_msgs.specs.declared.messages.Peer.TheVariants as peer;
 ghost use Rattle.cluster_msgs.specs.declared.events.Event.TheVariants as event;
 ghost use Rattle.cluster_rules.specs.Worker.{would_start};
 ghost use Rattle.worker_core.specs.Core.{facts};
-ghost use Rattle.node_links.specs.Books.{IsRecorded, IsEntered, Steps};
+ghost use Rattle.node_links.specs.Books.{IsLogOf, IsRecorded, IsEntered, Steps};
 ghost use Rattle.node_states.specs.Order.{Adds};
 ghost use Rattle.node_states.specs.Reading.{IfWhole, MatchNext};
 ghost use Rattle.node_states.specs.Spills.{AddsInOrder, IsLookedUp, IsNextDue, MayMake, NoneDue};
@@ -68,8 +68,8 @@ pub struct WorkerNode<B: Drop, L: Label<Block = B>, F: Drop, S: BlockStore<B, L>
 }
 
 impl<B: Drop, L: Label<Block = B>, F: Drop, S: BlockStore<B, L>> WorkerNode<B, L, F, S> {
-    /// A worker that has made no entry and has no key in memory, whose history may have so many bytes, with a feed for each of its threads. It may be
-    /// made as one that is to end, where a feed of it couldn't be opened.
+    /// A worker that has made no entry and has no key in memory, with a feed for each of its threads. It may be made as one that is to end, where a feed
+    /// of it couldn't be opened.
     ///
     /// # Errors
     /// Where there is no memory. The feeds and the store come back.
@@ -77,22 +77,23 @@ impl<B: Drop, L: Label<Block = B>, F: Drop, S: BlockStore<B, L>> WorkerNode<B, L
     pub fn new(
         alloc: Global,
         core: WorkingCore<L>,
-        limit: u64,
         graph: RunGraph<L>,
         store: S,
         feeds: Feeds<F>,
         links: WorkerLinks<B, L>,
         ending: Option<Why>,
     ) -> Result<Self, (Feeds<F>, S)>
-        requires { (k : ℕ) → (facts core.core).mem k ≡ false }
+        requires empty { (k : ℕ) → (facts core.core).mem k ≡ false }
+        requires none { core.core.events ≡ 0 }
         ensures core { IfOk result (λ node. (node.history.book.core ≡ core) × (node.history.id ≡ core.id)) }
+        ensures kept { IfOk result (λ node. node.history.book.kept ≡ core) }
         ensures entries { IfOk result (λ node. (node.history.book.entries ≡ []) × (node.history.book.cut ≡ false)) }
         ensures ending { IfOk result (λ node. (node.ending ≡ ending) × (node.history.ended ≡ false)) }
         ensures feeds { IfOk result (λ node. node.feeds ≡ feeds) }
         ensures fits { IfOk result (λ node. S.fits L.facts node.store) }
         ensures back { IfErr result (λ back. (back.0 ≡ feeds) × (back.1 ≡ store)) }
     {
-        let made = WorkerHistory::new(alloc, core, &graph, limit);
+        let made = WorkerHistory::new(alloc, core, &graph);
         let Ok(history) = made else {
             drop(made);
             drop(graph);
@@ -163,7 +164,8 @@ impl<B: Drop, L: Label<Block = B>, F: Drop, S: BlockStore<B, L>> WorkerNode<B, L
 
     /// Its history, its feeds and its store.
     pub fn into_parts(self) -> (Log, Feeds<F>, S)
-        ensures entries { (result.0.entries ≡ self.history.book.entries) × (is_some result.0.cut ≡ self.history.book.cut) }
+        ensures log { IsLogOf ⟦<WorkingCore<L> as Machine>⟧.limited (Steps ⟦<WorkingCore<L> as Machine>⟧.says ⟦<WorkingCore<L> as Machine>⟧.by)
+            ⟦<WorkingCore<L> as Machine>⟧.taken self.history.book result.0 }
         ensures feeds { result.1 ≡ self.feeds }
         ensures store { result.2 ≡ self.store }
     {
@@ -744,13 +746,14 @@ impl<B: Drop, L: Label<Block = B>, F: Drop, S: BlockStore<B, L>> Kept for Worker
 
     type Core = WorkingCore<L>;
 
+    ghost use Rattle.std.specs.Prelude.{false};
     ghost use Rattle.node_links.specs.Books.{Steps};
 
     ghost entries = { λ s. s.history.book.entries };
 
-    ghost core = { λ s. s.history.book.core };
+    ghost core = { λ s. s.history.book.kept };
 
-    ghost cut = { λ s. s.history.book.cut };
+    ghost cut = { λ s. false };
 
     ghost steps = { Steps ⟦<WorkingCore<L> as Machine>⟧.says ⟦<WorkingCore<L> as Machine>⟧.by };
 

@@ -320,6 +320,7 @@ fn print(page: &mut Page, alloc: Global, asked: &Asked, job: &Sums, told: Told) 
             page.put("\n");
         }
         Err(RunStatus::Read) => page.line("read fault"),
+        Err(RunStatus::Events) => page.line("events"),
         Err(RunStatus::Memory) => page.line("no memory"),
     }
     print_left(page, &left);

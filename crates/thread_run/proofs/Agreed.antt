@@ -39,12 +39,12 @@ use Rattle.turn_cell.specs.Histories.{AllAbove, Ascending, Replays}
 use Rattle.turn_cell.specs.Rows.{AllBy}
 use Rattle.node_links.specs.Books.{Steps, StepsBy}
 use Rattle.node_states.specs.Fitting.{ClientEventFits}
-use Rattle.node_states.specs.Machines.{ClientBy, ClientSays, SchedSays, WorkerSays}
+use Rattle.node_states.specs.Machines.{ClientBy, ClientSays, SchedSays, WorkerSays, node_bytes}
 use Rattle.node_states.specs.Released.{WasReleased, is_released, lets_go}
-use Rattle.node_runner.specs.Runs.{ClientSteps, IsGot, IsHistory, SchedSteps, WorkerSteps}
+use Rattle.node_runner.specs.Runs.{AreWhole, ClientSteps, IsGot, IsHistory, SchedSteps, WorkerSteps}
 use Rattle.node_runner.specs.declared.ends.Histories.{Histories}
 use Rattle.node_runner.specs.declared.plan.RunPlan.{RunPlan}
-use Rattle.thread_run.specs.Reports.{AreWhole, IsLegalRun, IsServedRun, IsToldOf, IsToldOfRun, IsVerdictOf, IsVerdictOn, audited, entries_of}
+use Rattle.thread_run.specs.Reports.{IsLegalRun, IsOutgrown, IsServedRun, IsToldOf, IsToldOfRun, IsVerdictOf, IsVerdictOn, audited, entries_of}
 use Rattle.thread_run.specs.declared.verdict.Told.{Told}
 use Rattle.thread_run.specs.declared.verdict.Verdict.{Verdict}
 use Rattle.thread_run.specs.declared.verdict.Verdict.TheVariants.{Agrees, Differs, NotComplete}
@@ -266,7 +266,7 @@ module _ {B : Type 0} (l : LabelFacts B) where
       subst (λ m. (get_or es k d).stamp ≤ (get_or es m d).stamp) (sym z) (next_above es up k d (omega (arith, lt))))
 
   -- of the workers' entries none is the client's
-  of-workers : (graph : Shape) (threads : ℕ) (ws : List WorkerFacts) (hs : List History) → AllBy (λ k w x. IsHistory (WorkerSteps l (k + 1)) (new_worker graph (k + 1) threads) w x) ws hs
+  of-workers : (graph : Shape) (threads : ℕ) (ws : List WorkerFacts) (hs : List History) → AllBy (λ k w x. IsHistory node_bytes (WorkerSteps l (k + 1)) (new_worker graph (k + 1) threads) w x) ws hs
       → All (λ (x : History). x.cut ≡ None) hs → (k : ℕ) (h : History) → k < length hs → own_entries 1 (get_or hs k h).entries ≡ []
   of-workers graph threads ws hs by whole k h lt =
       let w : WorkerFacts = new_worker graph (k + 1) threads in

@@ -26,9 +26,11 @@ use Rattle.job_run.proofs.Counting.{raised_at_most, times-append}
 use Rattle.job_run.proofs.Naming.{on_named}
 use Rattle.job_run.proofs.Running.{HaveAccepted, left_before, lowering_runs, most_before, reading_runs, rose_before}
 use Rattle.thread_run.specs.Counts.{RaisedBetween, feeds, repeated}
-use Rattle.thread_run.specs.Ends.{Cause, HasValues, Looked, Opened, Prints, PrintsRun, RunsByThreads, Saves, lines_of, openings}
+use Rattle.thread_run.specs.Ends.{Cause, HasValues, Looked, Opened, Prints, PrintsRun, IsOutgrownRun, LeavesAs, RunsByThreads, Saves, lines_of, openings}
 use Rattle.thread_run.specs.Feeding.{is_told}
-use Rattle.thread_run.specs.Reports.{IsToldBy, IsToldRun, label}
+use Rattle.thread_run.specs.Reports.{IsOutgrownBy, IsToldBy, IsToldRun, label}
+use Rattle.thread_run.specs.declared.ends.ThreadEnded.{ThreadEnded}
+use Rattle.thread_run.specs.declared.ends.ThreadEnded.TheVariants.{Events, Ran}
 use Rattle.thread_run.specs.declared.verdict.Told.{Told}
 use Rattle.thread_run.specs.Serving.{ServesAll, ServesFiles, ServesPart}
 
@@ -49,11 +51,19 @@ between xs ys old mid new all more = record {
   at_most = most-then xs ys old mid new (raised_at_most xs old mid all) more;
 }
 
+-- ## The ends as which a run in the calling thread may end
+
+pub ran-ends : (p : Plan) (w : RunWords) (old new : View) (end : Ended) → LeavesAs p w old new end → RunsByThreads p w old new (Ran end)
+ran-ends p w old new end leaves = record { leaves = leaves; events = λ is. absurd (other is) }
+  where
+    other : ◌≡◌ {A = ThreadEnded} (Ran end) Events → ⊥
+    other e = cc
+
 -- ## Before the inputs are accepted
 
 -- an end at which a run leaves what any other leaves, with the inputs opened at most once
 ran : (p : Plan) (w : RunWords) (old new : View) (end : Ended) → RunsPlan p old new end → new.files.held ≡ old.files.held → new.files.created ≡ old.files.created → Cause p old new end → Saves p old.files new.files end →
-    Opened p.inputs (openings p w) old.files.opened new.files.opened end → Created (names_saved p) old.files.created new.files.created end → Prints p w old new end → RunsByThreads p w old new end
+    Opened p.inputs (openings p w) old.files.opened new.files.opened end → Created (names_saved p) old.files.created new.files.created end → Prints p w old new end → LeavesAs p w old new end
 ran p w old new end r held made cause saves opened created prints = record {
   cause = cause;
   saves = saves;
@@ -69,7 +79,7 @@ ran p w old new end r held made cause saves opened created prints = record {
 }
 
 -- there is no graph
-pub lowering-ends : (p : Plan) (w : RunWords) (v : View) (end : Ended) → LowerCause p end → RunsByThreads p w v v end
+pub lowering-ends : (p : Plan) (w : RunWords) (v : View) (end : Ended) → LowerCause p end → LeavesAs p w v v end
 lowering-ends p w v Done cause = absurd cause
 lowering-ends p w v (Limit quantity) cause = let r = lowering_runs p v (Limit quantity) cause in ran p w v v (Limit quantity) r refl refl r.cause r.saves r.opened r.created r.prints
 lowering-ends p w v (File place error) cause = absurd cause
@@ -81,7 +91,7 @@ lowering-ends p w v OutOfMemory cause =
     ran p w v v OutOfMemory r refl refl r.cause (λ t. r.saves) (most-front p.inputs (repeated (feeds w) p.inputs) v.files.opened v.files.opened r.opened) r.created r.prints
 
 -- the inputs weren't opened, or one of them is refused
-pub reading-ends : (p : Plan) (w : RunWords) (old new : View) (end : Ended) → IsSmall p → ReadCause p old new end → Opens p.inputs old.files new.files → OnlyReads old new → RunsByThreads p w old new end
+pub reading-ends : (p : Plan) (w : RunWords) (old new : View) (end : Ended) → IsSmall p → ReadCause p old new end → Opens p.inputs old.files new.files → OnlyReads old new → LeavesAs p w old new end
 reading-ends p w old new Done small cause opens only = absurd cause
 reading-ends p w old new (Limit quantity) small cause opens only = absurd cause
 reading-ends p w old new (File place error) small cause opens only =
@@ -131,7 +141,7 @@ follows-out p w old saved new only f =
     }
 
 ends : (p : Plan) (w : RunWords) (old new : View) (end : Ended) → Follows p w old new → Cause p old new end → Saves p old.files new.files end → Opened p.inputs (openings p w) old.files.opened new.files.opened end →
-    Created (names_saved p) old.files.created new.files.created end → Prints p w old new end → RunsByThreads p w old new end
+    Created (names_saved p) old.files.created new.files.created end → Prints p w old new end → LeavesAs p w old new end
 ends p w old new end f cause saves opened created prints = record {
   cause = cause;
   saves = saves;
@@ -186,10 +196,23 @@ module _ (p : Plan) (w : RunWords) (old mid : View) (files : List Content) (head
   created-most : (new : View) → ServesFiles p (feeds w) mid new → RaisedAtMost (names_saved p) old.files.created new.files.created
   created-most new f = most_before (names_saved p) old.files.created mid.files.created new.files.created a.opens.created f.created
 
+  -- ### A core had taken all events
+
+  pub outgrown-run : IsOutgrownBy (label told (named_told files heads) (tasks_of p)) (shape_of (tasks_of p)) w → IsOutgrownRun p w old.files
+  outgrown-run by = record {
+    small = a.small;
+    inputs = a.fit;
+    named = named_told files heads;
+    told = told;
+    told_is = is;
+    held = on_named p old.files mid.files files heads (λ n. n ≡ named_told files heads) a.inputs (λ t. refl);
+    run = by;
+  }
+
   -- ### Not all is saved
 
   pub stopped-ends : (new : View) (end : Ended) → ServesFiles p (feeds w) mid new → IsFitGiven p mid new →
-      ServesPart p (named_told files heads) (IsTrue told) (Rose mid.read_faults new.read_faults) (Rose mid.write_faults new.write_faults) mid.files new.files end → RunsByThreads p w old new end
+      ServesPart p (named_told files heads) (IsTrue told) (Rose mid.read_faults new.read_faults) (Rose mid.write_faults new.write_faults) mid.files new.files end → LeavesAs p w old new end
   stopped-ends new Done f given part = absurd part.cause
   stopped-ends new (Limit quantity) f given part = absurd part.cause
   stopped-ends new (File place error) f given part = absurd part.cause
@@ -197,7 +220,7 @@ module _ (p : Plan) (w : RunWords) (old mid : View) (files : List Content) (head
       let g = follows new f in
       ends p w old new (Zero node block) g (
         a.small,
-        record { inputs = a.fit; zero_at = on-inputs (λ n. IsFaulty p n node block) told is part.cause },
+        record { inputs = a.fit; needed = part.cause.0; zero_at = on-inputs (λ n. IsFaulty p n node block) told is part.cause.1 },
         given_before old.gave mid.gave new.gave _ a.only.gave given,
       ) (are-right new.files part.left) g.opened
       (part.created ∙ ap (raised_by (names_saved p)) a.opens.created) (f.out ∙ a.only.out)
@@ -214,7 +237,7 @@ module _ (p : Plan) (w : RunWords) (old mid : View) (files : List Content) (head
 
   module _ (saved : View) (f : ServesFiles p (feeds w) mid saved) (all : ServesAll p (named_told files heads) (IsTrue told) mid.files saved.files) where
     -- no memory was left for the lines
-    pub starved-ends : RunsByThreads p w old saved OutOfMemory
+    pub starved-ends : LeavesAs p w old saved OutOfMemory
     starved-ends = let g = follows saved f in ends p w old saved OutOfMemory g tt (are-right saved.files all.left) g.opened.at_most (created-most saved f) (f.out ∙ a.only.out)
 
     created-all : saved.files.created ≡ raised_by (names_saved p) old.files.created
@@ -228,7 +251,7 @@ module _ (p : Plan) (w : RunWords) (old mid : View) (files : List Content) (head
       prints-run : (Printed : List ℕ → Type 0) → Printed (lines_of p told-then) → PrintsRun p w old.files Printed
       prints-run Printed printed = record { told = told-then; asked = asked; of_run = of-run; printed = printed }
 
-      pub done-ends : (new : View) (text : List ℕ) → IsFitGiven p mid saved → OnlyOut saved new → text ≡ lines_of p told-then → new.out ≡ followed_by saved.out text → RunsByThreads p w old new Done
+      pub done-ends : (new : View) (text : List ℕ) → IsFitGiven p mid saved → OnlyOut saved new → text ≡ lines_of p told-then → new.out ≡ followed_by saved.out text → LeavesAs p w old new Done
       done-ends new text given only lines printed =
           let S : Files → Type 0 = λ x. AreSaved p old.files x in
           let g = follows-out p w old saved new only (follows saved f) in
@@ -236,7 +259,7 @@ module _ (p : Plan) (w : RunWords) (old mid : View) (files : List Content) (head
           (subst S (sym only.files) (are-saved saved.files all.whole)) g.opened (ap (λ (x : Files). x.created) only.files ∙ created-all)
           (prints-run (λ shown. new.out ≡ followed_by old.out shown) (printed ∙ (ap (λ out. followed_by out text) (f.out ∙ a.only.out) ∙ ap (followed_by old.out) lines)))
 
-      pub unprinted-ends : (new : View) (text : List ℕ) → OnlyOut saved new → text ≡ lines_of p told-then → PrintsPart saved.out new.out text → Rose saved.print_faults new.print_faults → RunsByThreads p w old new WriteFault
+      pub unprinted-ends : (new : View) (text : List ℕ) → OnlyOut saved new → text ≡ lines_of p told-then → PrintsPart saved.out new.out text → Rose saved.print_faults new.print_faults → LeavesAs p w old new WriteFault
       unprinted-ends new text only lines printed rose =
           let g = follows-out p w old saved new only (follows saved f) in
           let S : Files → Type 0 = λ x. AreSaved p old.files x in

@@ -15,13 +15,14 @@ use Rattle.task_graph.specs.Graphs.{shape_of}
 use Rattle.saved_files.specs.Saving.{GivesBack, saving_at}
 use Rattle.node_runner.specs.Naming.{run_facts}
 use Rattle.node_runner.specs.declared.ends.RunStatus.{RunStatus}
-use Rattle.job_run.specs.declared.ends.Ended.{Ended}
 use Rattle.job_run.specs.Evaluating.{AreOpenFor}
 use Rattle.job_run.specs.Plan.{Plan, Saved, name_at, names_saved}
 use Rattle.job_run.specs.Values.{Named, tasks_of}
 use Rattle.job_run.specs.Wanted.{wanted_of}
 use Rattle.thread_run.specs.Reports.{label}
 use Rattle.thread_run.specs.Saver.{IsLabelOf, Saves, SavesOn, had_in}
+use Rattle.thread_run.specs.Ends.{left_as}
+use Rattle.thread_run.specs.declared.ends.ThreadEnded.{ThreadEnded}
 use Rattle.thread_run.specs.Serving.{IsWhy, ServesAll, ServesPart, StopsAt}
 use Rattle.thread_run.proofs.SaverEnds.{IsServed, served-all, served-left}
 use Rattle.thread_run.proofs.Serves.{LeavesFiles, both-ok, creates-all, ok-holds, stopped}
@@ -77,11 +78,11 @@ module _ (p : Plan) (named : Named) (told : Bool) (first last : Saves) (old mid 
       both-ok end given written (ServesAll p named (IsTrue told) old new) gave wrote (λ g s. served-all p named told first last old mid new r (subst H are (ok-holds given (H keys) g had)) (ok-holds written (last.fault ≡ None) s sound) created)
 
   -- it wasn't
-  pub part-served : {A B C : Type 0} (reads writes : Type 0) (facts : LabelFacts Array) (keys : List ℕ) (end : Result A Ended) (given : Result B RunStatus) (written : Result C OpenFault) → facts ≡ label told named (tasks_of p) → keys ≡ wanted_of p → IfErr given (IsWhy facts keys reads) →
-      (written ≡ Err fault.Failed → writes) → IfErr end (StopsAt p given written) → IfErr end (ServesPart p named (IsTrue told) reads writes old new)
+  pub part-served : {A B C : Type 0} (reads writes : Type 0) (facts : LabelFacts Array) (keys : List ℕ) (end : Result A ThreadEnded) (given : Result B RunStatus) (written : Result C OpenFault) → facts ≡ label told named (tasks_of p) → keys ≡ wanted_of p → IfErr given (IsWhy facts keys reads) →
+      (written ≡ Err fault.Failed → writes) → IfErr end (λ e. StopsAt p given written (left_as e)) → IfErr end (λ e. ServesPart p named (IsTrue told) reads writes old new (left_as e))
   part-served reads writes facts keys end given written is are why failed stops =
-      IfErr-weaker end (StopsAt p given written) (ServesPart p named (IsTrue told) reads writes old new) (λ e at. record {
-        cause = stopped p named told reads writes facts keys given written e r.runs r.laws is are why failed at;
+      IfErr-weaker end (λ e. StopsAt p given written (left_as e)) (λ e. ServesPart p named (IsTrue told) reads writes old new (left_as e)) (λ e at. record {
+        cause = stopped p named told reads writes facts keys given written (left_as e) r.runs r.laws is are why failed at;
         left = served-left p named told first last old mid new r;
-        created = creates-all (names_saved p) old.created new.created e (r.gives.created ∙ created);
+        created = creates-all (names_saved p) old.created new.created (left_as e) (r.gives.created ∙ created);
       }) stops

@@ -1,7 +1,8 @@
 -- What a run of a graph leaves: feeds that are opened and given back, and files that are created, written and given back.
-use Rattle.std.proofs.Common.{◌≡◌, ℕ, ◌≤◌, Bool, List, [], refl, ap, sym, ◌∙◌, subst, arith, Option, Some, None, Result, Ok, Err, inl}
+use Rattle.std.proofs.Common.{◌≡◌, ℕ, ◌<◌, ◌≤◌, Bool, List, [], length, refl, ap, sym, ◌∙◌, subst, arith, Option, Some, None, Result, Ok, Err, inl, inr}
 use Rattle.std.specs.Prelude.{Contains, IfErr, IfOk, IsOk, IsTrue, OnOk}
-use Rattle.std.proofs.lemmas.Bool.{false≢true}
+use Rattle.std.proofs.lemmas.Bool.{cases_lt, false≢true}
+use Rattle.std.proofs.lemmas.List.{get_or_past}
 use Rattle.io_edge.specs.Cause.{Rose}
 use Rattle.io_edge.specs.declared.edge.OpenFault.{OpenFault}
 use Rattle.io_edge.specs.declared.edge.OpenFault.TheVariants as fault
@@ -11,7 +12,7 @@ use Rattle.nd_shape.specs.Block.{Array}
 use Rattle.cluster_msgs.specs.Labels.{BlameFits, LabelFacts}
 use Rattle.cluster_msgs.specs.Shape.{Shape}
 use Rattle.node_states.specs.declared.why.Why.{Why}
-use Rattle.node_runner.specs.Runs.{HowItEnded}
+use Rattle.node_runner.specs.Runs.{AreWhole, HasCause, HowItEnded, IfStatus}
 use Rattle.node_runner.specs.declared.ends.Histories.{Histories}
 use Rattle.node_runner.specs.declared.ends.RunStatus.{RunStatus}
 use Rattle.node_runner.specs.declared.ends.RunStatus.TheVariants as status
@@ -20,18 +21,20 @@ use Rattle.job_run.specs.declared.ends.Ended.{Ended}
 use Rattle.job_run.specs.declared.ends.Ended.TheVariants.{Done, Limit, File, Zero, ReadFault, WriteFault, OutOfMemory}
 use Rattle.job_run.specs.Evaluating.{EvaluationCreates, HasLaws, LeavesAll}
 use Rattle.job_run.specs.Part.{AreLeft, IsNoneOf, RaisedAtMost}
-use Rattle.job_run.specs.Plan.{IsRunnable, Plan, name_at, names_saved}
+use Rattle.lowering_laws.specs.Lowered.{lowered}
+use Rattle.job_run.specs.Plan.{IsRunnable, Plan, name_at, names_saved, nodes_saved}
 use Rattle.job_run.specs.Values.{Named, files_of, tasks_of}
-use Rattle.job_run.specs.Wanted.{EndsAtKey, wanted_of}
+use Rattle.job_run.specs.Wanted.{EndsAtKey, IsBlockAt, wanted_of}
 use Rattle.job_run.proofs.Counting.{none_raised, raised_at_most}
 use Rattle.job_run.proofs.Running.{left_before, most_before}
 use Rattle.job_run.proofs.SavedKeys.{is-faulty}
 use Rattle.thread_run.specs.Counts.{repeated}
+use Rattle.thread_run.specs.Ends.{IsNeededBlock}
 use Rattle.thread_run.specs.Feeding.{OpensOften, TakesBack}
 use Rattle.thread_run.specs.Serving.{IsUnsaved, IsWhy, ServesAll, ServesFiles, ServesPart, Stops, StopsAt}
 use Rattle.thread_run.proofs.Agreed.{told_run}
 use Rattle.thread_run.proofs.SaverEnds.{open-left}
-use Rattle.thread_run.specs.Reports.{IsServedRun, IsToldOf, IsToldOfRun, label}
+use Rattle.thread_run.specs.Reports.{IsOutgrown, IsServedRun, IsToldOf, IsToldOfRun, label}
 use Rattle.thread_run.specs.declared.verdict.Told.{Told}
 
 -- ## Results
@@ -64,7 +67,23 @@ why-of l graph p wanted Failed reads result left None f how = why-status l wante
 why-of l graph p wanted Failed reads (Ok blocks) left (Some h) f how = tt
 why-of l graph p wanted Failed reads (Err (status.Zero key)) left (Some h) f how = how.1.cause
 why-of l graph p wanted Failed reads (Err status.Read) left (Some h) f how = f how.1.cause.1
+why-of l graph p wanted Failed reads (Err status.Events) left (Some h) f how = tt
 why-of l graph p wanted Failed reads (Err status.Memory) left (Some h) f how = tt
+
+-- a run whose core had taken all events has histories of which one passed its limit
+pub outgrew : {A : Type 0} (l : LabelFacts Array) (graph : Shape) (p : RunPlan) (wanted : List ℕ) (Failed : Type 0) (result : Result A RunStatus) (left : List (Option Why)) (h : Option Histories) → result ≡ Err status.Events →
+    HowItEnded l graph p wanted Failed result left h → IsOutgrown l graph p
+outgrew {A} l graph p wanted Failed result left None is how = absurd (other (sym is ∙ how.memory))
+  where
+    other : ◌≡◌ {A = Result A RunStatus} (Err status.Events) (Err status.Memory) → ⊥
+    other e = cc
+outgrew l graph p wanted Failed result left (Some h) is how =
+    let C : Type 0 = AreWhole h → ⊥ in
+    record { histories = h; last = how.0; are = how.1.histories; cut = subst (IfStatus (HasCause l wanted how.0.scheduler left Failed C)) is how.1.cause }
+
+-- the same of a label and a graph that are these
+pub outgrown-as : (l m : LabelFacts Array) (graph shape : Shape) (p : RunPlan) → l ≡ m → graph ≡ shape → IsOutgrown l graph p → IsOutgrown m shape p
+outgrown-as l m graph shape p e f o = let P : LabelFacts Array × Shape → Type 0 = λ x. IsOutgrown x.0 x.1 p in subst P (λ i. (e i, f i)) o
 
 -- the histories of a run that gave all blocks
 pub served-run : {A : Type 0} (l : LabelFacts Array) (graph : Shape) (p : RunPlan) (wanted : List ℕ) (Failed : Type 0) (result : Result A RunStatus) (left : List (Option Why)) (h : Option Histories) (end : Result Histories Ended) →
@@ -270,13 +289,27 @@ all-between p named told old mid served new before after all = let P : Files × 
 
 -- ## A zero divisor
 
+-- the block that a key is, is needed
+needed-block : (p : Plan) (named : Named) (key node : ℕ) (block : List ℕ) → HasLaws p named → IsBlockAt p key node block → IsNeededBlock p node block
+needed-block p named key node block laws at = record { key = key; number = at.number; needed = record { within = within; name = at.name }; is_block = at.is_block }
+  where
+    nothing : {n : ℕ} {c : ℕ} → ◌≡◌ {A = Option (ℕ × ℕ)} None (Some (n, c)) → ⊥
+    nothing e = cc
+
+    within : key < length (tasks_of p)
+    within = elim (cases_lt key (length (tasks_of p))) [
+      | inl lt ↦ lt
+      | inr ge ↦ absurd (nothing (sym (get_or_past (lowered p.nodes (nodes_saved p)).names key None (omega (arith, ge, laws.names.number))) ∙ at.name))
+    ]
+
 -- the client was told of one
 pub zero-stops : (p : Plan) (named : Named) (told : Bool) (reads writes : Type 0) (wanted key : ℕ) (end : Ended) → IsRunnable p → HasLaws p named → EndsAtKey p key end → Contains (wanted_of p) wanted → BlameFits (label told named (tasks_of p)) wanted key →
     Stops p named (IsTrue told) reads writes end
 zero-stops p named told reads writes wanted key Done runs laws at has blamed = absurd at
 zero-stops p named told reads writes wanted key (Limit quantity) runs laws at has blamed = absurd at
 zero-stops p named told reads writes wanted key (File place error) runs laws at has blamed = absurd at
-zero-stops p named told reads writes wanted key (Zero node block) runs laws at has blamed = λ t. is-faulty p named wanted key node block runs laws at has (blamed.below t) (blamed.fault refl t)
+zero-stops p named told reads writes wanted key (Zero node block) runs laws at has blamed =
+    (needed-block p named key node block laws at, λ t. is-faulty p named wanted key node block runs laws at has (blamed.below t) (blamed.fault refl t))
 zero-stops p named told reads writes wanted key ReadFault runs laws at has blamed = absurd at
 zero-stops p named told reads writes wanted key WriteFault runs laws at has blamed = absurd at
 zero-stops p named told reads writes wanted key OutOfMemory runs laws at has blamed = tt

@@ -1,5 +1,5 @@
 -- How a run of a job by threads ends, why it ends so, and what it leaves.
-use Rattle.std.specs.Prelude.{◌≡◌, ◌⊎◌, ◌++◌, ℕ, List, [], codes, decimal, Option, None, Some, is_some, IsTrue}
+use Rattle.std.specs.Prelude.{◌≡◌, ◌⊎◌, ◌++◌, ℕ, List, [], codes, decimal, Bool, Option, None, Some, is_some, IsTrue}
 use Rattle.io_edge.specs.Cause.{Rose}
 use Rattle.io_edge.specs.Content.{followed_by}
 use Rattle.io_edge.specs.Given.{GivesMore}
@@ -14,9 +14,13 @@ use Rattle.job_run.specs.Inputs.{InputsFit}
 use Rattle.job_run.specs.Part.{IsNoneOf, RaisedAtMost}
 use Rattle.job_run.specs.Plan.{Plan, names_saved}
 use Rattle.job_run.specs.Runs.{AreRight, AreUntouched, IsFitGiven, IsSmall, Cause as RunCause, Saves as RunSaves, Created as RunCreated, StopsPrinting}
-use Rattle.job_run.specs.Values.{OnInputs, IsFaulty, MeetsNone, saved_lines}
+use Rattle.job_run.specs.Values.{Named, OnInputs, IsFaulty, IsNeeded, MeetsNone, index_of, saved_lines, tasks_of}
 use Rattle.thread_run.specs.Counts.{RaisedBetween, feeds, repeated}
-use Rattle.thread_run.specs.Reports.{IsToldRun}
+use Rattle.task_graph.specs.Graphs.{shape_of}
+use Rattle.thread_run.specs.Feeding.{is_told}
+use Rattle.thread_run.specs.Reports.{IsOutgrownBy, IsToldRun, label}
+use Rattle.thread_run.specs.declared.ends.ThreadEnded.{ThreadEnded}
+use Rattle.thread_run.specs.declared.ends.ThreadEnded.TheVariants.{Events, Ran}
 use Rattle.thread_run.specs.declared.verdict.Told.{Told}
 use Rattle.thread_run.specs.declared.verdict.Verdict.{Verdict}
 use Rattle.thread_run.specs.declared.verdict.Verdict.TheVariants.{Agrees, Differs, NotComplete}
@@ -28,9 +32,17 @@ pub record HasValues (p : Plan) (files : Files) : Type 0 where
   pub inputs : InputsFit p files
   pub values : IsTrue files.tells → OnInputs p files (λ blocks. MeetsNone p (held_in blocks))
 
--- the inputs are as declared, and there this is a needed block at which a divisor is zero
+-- the block of a node at this index is needed
+pub record IsNeededBlock (p : Plan) (node : ℕ) (block : List ℕ) : Type 0 where
+  pub key : ℕ
+  pub number : ℕ
+  pub needed : IsNeeded p key node number
+  pub is_block : block ≡ index_of p node number
+
+-- the inputs are as declared, and this is a needed block, at which a divisor is zero there
 pub record HasFault (p : Plan) (files : Files) (node : ℕ) (block : List ℕ) : Type 0 where
   pub inputs : InputsFit p files
+  pub needed : IsNeededBlock p node block
   pub zero_at : IsTrue files.tells → OnInputs p files (λ blocks. IsFaulty p (held_in blocks) node block)
 
 -- a file wasn't created or written, or all values are there and a line wasn't printed
@@ -103,8 +115,8 @@ pub record IsAccepted (p : Plan) (names all : List (List ℕ)) (old new : Files)
 abbrev pub Looked : Plan → List (List ℕ) → List (List ℕ) → Files → Files → Type 0
 Looked p names all old new = AreUntouched old new ⊎ IsAccepted p names all old new
 
--- what a run of a job by threads does
-pub record RunsByThreads (p : Plan) (w : RunWords) (old new : View) (end : Ended) : Type 0 where
+-- what a run of a job by threads does, by the end as which it leaves the rest
+pub record LeavesAs (p : Plan) (w : RunWords) (old new : View) (end : Ended) : Type 0 where
   pub cause : Cause p old new end
   pub saves : Saves p old.files new.files end
   pub looked : Looked p p.inputs (openings p w) old.files new.files
@@ -116,3 +128,24 @@ pub record RunsByThreads (p : Plan) (w : RunWords) (old new : View) (end : Ended
   pub gave : GivesMore old.gave new.gave
   pub err : new.err ≡ old.err
   pub note_faults : new.note_faults ≡ old.note_faults
+
+-- an end for the events of a core leaves what one for want of memory leaves
+abbrev pub left_as : ThreadEnded → Ended
+left_as Events = OutOfMemory
+left_as (Ran end) = end
+
+-- The graph passes no limit, the inputs are as declared, and in a run of this graph by these words, over files that hold what the site tells, the history of
+-- a node has passed its limit. So it does long before the node's core has taken 2^40 events.
+pub record IsOutgrownRun (p : Plan) (w : RunWords) (files : Files) : Type 0 where
+  pub small : IsSmall p
+  pub inputs : InputsFit p files
+  pub named : Named
+  pub told : Bool
+  pub told_is : told ≡ is_told files p.inputs
+  pub held : OnInputs p files (λ blocks. held_in blocks ≡ named)
+  pub run : IsOutgrownBy (label told named (tasks_of p)) (shape_of (tasks_of p)) w
+
+-- what a run of a job by threads does
+pub record RunsByThreads (p : Plan) (w : RunWords) (old new : View) (end : ThreadEnded) : Type 0 where
+  pub leaves : LeavesAs p w old new (left_as end)
+  pub events : end ≡ Events → IsOutgrownRun p w old.files

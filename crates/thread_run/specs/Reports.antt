@@ -18,7 +18,7 @@ use Rattle.journal_audit.specs.Clients.{Gets}
 use Rattle.journal_audit.specs.Merges.{IsMerge}
 use Rattle.journal_audit.specs.Reports.{taken_of}
 use Rattle.journal_audit.specs.Shapes.{shape_job}
-use Rattle.node_runner.specs.Runs.{AreHistories, HasGot, LastFacts}
+use Rattle.node_runner.specs.Runs.{AreHistories, AreWhole, HasGot, LastFacts}
 use Rattle.node_runner.specs.declared.ends.Histories.{Histories}
 use Rattle.node_runner.specs.declared.plan.RunPlan.{RunPlan}
 use Rattle.command_words.specs.declared.run.RunWords.{RunWords}
@@ -37,12 +37,6 @@ label told named tasks = label_of told None (shape_of tasks) (operation named ta
 -- the entries of each node: the scheduler's, those of the workers by number, and the client's
 abbrev pub entries_of : Histories → List (List Entry)
 entries_of h = h.scheduler.entries ∷ (map (λ (x : History). x.entries) h.workers.items ++ h.client.entries ∷ [])
-
--- none of the nodes left an entry out
-pub record AreWhole (h : Histories) : Type 0 where
-  pub scheduler : h.scheduler.cut ≡ None
-  pub workers : All (λ (x : History). x.cut ≡ None) h.workers.items
-  pub client : h.client.cut ≡ None
 
 -- the job that a run is audited by: its graph and one client
 abbrev pub audited : Shape → ℕ → Job
@@ -75,6 +69,19 @@ pub record IsServedRun (l : LabelFacts Array) (graph : Shape) (plan : RunPlan) (
   pub last : LastFacts
   pub are : AreHistories l graph plan last h
   pub got : HasGot last.client h.client.entries (is_some h.client.cut) wanted
+
+-- histories of a run with this label of a graph by this plan, each as the rules say, of which one has passed its limit
+pub record IsOutgrown (l : LabelFacts Array) (graph : Shape) (plan : RunPlan) : Type 0 where
+  pub histories : Histories
+  pub last : LastFacts
+  pub are : AreHistories l graph plan last histories
+  pub cut : AreWhole histories → ⊥
+
+-- the same of a run by these words
+pub record IsOutgrownBy (l : LabelFacts Array) (graph : Shape) (w : RunWords) : Type 0 where
+  pub plan : RunPlan
+  pub plan_is : IsPlanOf w plan
+  pub run : IsOutgrown l graph plan
 
 -- a legal list of a graph's events with the messages that they took, in the course of which the client got each wanted key
 pub record IsLegalRun (graph : Shape) (saturation : ℕ) (wanted : List ℕ) (journal : List Entry) : Type 0 where

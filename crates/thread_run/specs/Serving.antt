@@ -15,11 +15,13 @@ use Rattle.job_run.specs.Plan.{Plan, names_saved}
 use Rattle.job_run.specs.Values.{Named, IsFaulty, MeetsNone, files_of}
 use Rattle.job_run.specs.Wanted.{EndsAtKey}
 use Rattle.thread_run.specs.Counts.{repeated}
+use Rattle.thread_run.specs.Ends.{IsNeededBlock}
 
 -- why the cluster didn't give all blocks: a key of this label is to blame for a wanted one, or feeds failed
 abbrev pub IsWhy : {B : Type 0} → LabelFacts B → List ℕ → Type 0 → RunStatus → Type 0
 IsWhy facts wanted reads (status.Zero key) = (k : ℕ) × Contains wanted k × BlameFits facts k key
 IsWhy facts wanted reads status.Read = reads
+IsWhy facts wanted reads status.Events = Unit {0}
 IsWhy facts wanted reads status.Memory = Unit {0}
 
 -- how a run is stopped, by what the cluster tells and by whether all was written: a zero divisor or a failed feed comes before what couldn't be written
@@ -41,7 +43,7 @@ HasShort lengths least = (n : ℕ) × Contains lengths n × (n < least)
 
 -- why not all is saved; the two facts are the causes of faults
 abbrev pub Stops : Plan → Named → Type 0 → Type 0 → Type 0 → Ended → Type 0
-Stops p named told reads writes (Zero node block) = told → IsFaulty p named node block
+Stops p named told reads writes (Zero node block) = IsNeededBlock p node block × (told → IsFaulty p named node block)
 Stops p named told reads writes ReadFault = reads
 Stops p named told reads writes WriteFault = writes
 Stops p named told reads writes OutOfMemory = Unit {0}

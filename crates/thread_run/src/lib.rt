@@ -7,6 +7,7 @@
 //! created before all inputs are accepted, and each saved block is written as it comes.
 #![tactic(auto)]
 
+mod ends;
 mod feeds;
 mod keeper;
 mod lines;
@@ -19,4 +20,5 @@ mod told;
 mod veil;
 mod verdict;
 
+pub use ends::ThreadEnded;
 pub use run::run_by_threads;

@@ -4,6 +4,7 @@ ghost use Rattle.job_run.specs.Jobs.{plan_of};
 ghost use Rattle.job_run.specs.Plan.{IsRunnable};
 ghost use Rattle.thread_run.specs.Ends.{RunsByThreads};
 
+use crate::ends::ThreadEnded;
 use crate::lines::lines;
 use crate::serving::serve;
 use command_words::RunWords;
@@ -30,7 +31,7 @@ pub fn run_by_threads<R, S, G>(
     gate: &G,
     job: &Job,
     words: RunWords,
-) -> Ended
+) -> ThreadEnded
 where
     R: Threads + Wait + RandomSource + AllocGlobal + Sync,
     S: Site,
@@ -41,11 +42,11 @@ where
 {
     let lowered = match lower_job(alloc, job) {
         Ok(lowered) => lowered,
-        Err(end) => return end,
+        Err(end) => return ThreadEnded::Ran(end),
     };
     let inputs = match open_inputs(alloc, site, job) {
         Ok(inputs) => inputs,
-        Err(end) => return end,
+        Err(end) => return ThreadEnded::Ran(end),
     };
     let told = match serve::<R, S, G, Brand, Brand>(
         rt, alloc, site, gate, job, lowered, inputs, words,
@@ -54,10 +55,10 @@ where
         Err(end) => return end,
     };
     let Ok(text) = lines(alloc, job, &told) else {
-        return Ended::OutOfMemory;
+        return ThreadEnded::Ran(Ended::OutOfMemory);
     };
     match print_full(site, text.as_bytes()) {
-        Ok(()) => Ended::Done,
-        Err(Failed) => Ended::WriteFault,
+        Ok(()) => ThreadEnded::Ran(Ended::Done),
+        Err(Failed) => ThreadEnded::Ran(Ended::WriteFault),
     }
 }

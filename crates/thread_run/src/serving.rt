@@ -1,5 +1,5 @@
 //! The run of a job's graph by the cluster, over its open inputs.
-ghost use Rattle.std.specs.Prelude.{◌≡◌, ◌*◌, ◌⊎◌, length, map, is_some, vec_len, IfOk, IfErr, IfSome, IsOk, IsTrue, OnOk, Some};
+ghost use Rattle.std.specs.Prelude.{◌≡◌, ◌*◌, ◌⊎◌, length, map, is_some, vec_len, IfOk, IfErr, IfSome, IsOk, IsTrue, OnOk, Err, Some};
 ghost use Rattle.io_edge.specs.Cause.{Rose};
 ghost use Rattle.command_words.specs.Words.{AreRunSettings};
 ghost use Rattle.job_run.specs.Jobs.{plan_of};
@@ -13,13 +13,17 @@ ghost use Rattle.io_edge.specs.Given.{OnGiven};
 ghost use Rattle.job_run.specs.Inputs.{FitInputs};
 ghost use Rattle.job_run.specs.Runs.{IsFitGiven};
 ghost use Rattle.node_runner.specs.Runs.{numbers as numbers_of};
+ghost use Rattle.node_runner.specs.declared.ends.RunStatus.TheVariants as status;
 ghost use Rattle.task_graph.specs.Graphs.{shape_of};
 ghost use Rattle.thread_run.specs.Counts.{feeds as feeds_of};
 ghost use Rattle.thread_run.specs.Feeding.{IsFixed};
 ghost use Rattle.thread_run.specs.Planning.{IsRunPlan};
-ghost use Rattle.thread_run.specs.Reports.{IsPlanOf, IsServedRun, IsToldBy, IsToldOfRun, label};
+ghost use Rattle.thread_run.specs.Ends.{left_as};
+ghost use Rattle.thread_run.specs.Reports.{IsOutgrown, IsOutgrownBy, IsPlanOf, IsServedRun, IsToldBy, IsToldOfRun, label};
+ghost use Rattle.thread_run.specs.declared.ends.ThreadEnded.TheVariants.{Events};
 ghost use Rattle.thread_run.specs.Serving.{HasShort, IsUnsaved, ServesAll, ServesFiles, ServesPart, StopsAt};
 
+use crate::ends::ThreadEnded;
 use crate::feeds::{Feed, Graphed, give_all, give_feeds, open_feeds};
 use crate::keeper::Keeper;
 use crate::name::{Named, Picks};
@@ -68,23 +72,28 @@ fn all_done(
     wanted: &Wanted,
     given: Result<(), RunStatus>,
     written: Result<(), OpenFault>,
-) -> Result<(), Ended>
+) -> Result<(), ThreadEnded>
     requires runs { IsRunnable (plan_of job.now) }
     requires wanted { IsWantedOf (plan_of job.now) wanted.now }
     ensures given { OnOk result (IsOk given) }
     ensures written { OnOk result (IsOk written) }
-    ensures stopped { IfErr result (StopsAt (plan_of job.now) given written) }
+    ensures stopped { IfErr result (λ end. StopsAt (plan_of job.now) given written (left_as end)) }
+    ensures events { result ≡ Err Events → given ≡ Err status.Events }
 {
     match given {
         Ok(()) => match written {
             Ok(()) => Ok(()),
-            Err(fault) => Err(unsaved(fault)),
+            Err(fault) => Err(ThreadEnded::Ran(unsaved(fault))),
         },
-        Err(RunStatus::Zero { key }) => Err(ended_at(alloc, job, wanted, key)),
-        Err(RunStatus::Read) => Err(Ended::ReadFault),
+        Err(RunStatus::Zero { key }) => Err(ThreadEnded::Ran(ended_at(alloc, job, wanted, key))),
+        Err(RunStatus::Read) => Err(ThreadEnded::Ran(Ended::ReadFault)),
+        Err(RunStatus::Events) => match written {
+            Ok(()) => Err(ThreadEnded::Events),
+            Err(fault) => Err(ThreadEnded::Ran(unsaved(fault))),
+        },
         Err(RunStatus::Memory) => match written {
-            Ok(()) => Err(Ended::OutOfMemory),
-            Err(fault) => Err(unsaved(fault)),
+            Ok(()) => Err(ThreadEnded::Ran(Ended::OutOfMemory)),
+            Err(fault) => Err(ThreadEnded::Ran(unsaved(fault))),
         },
     }
 }
@@ -97,16 +106,17 @@ fn ended(
     given: Result<(), RunStatus>,
     histories: Option<Histories>,
     written: Result<(), OpenFault>,
-) -> Result<Histories, Ended>
+) -> Result<Histories, ThreadEnded>
     requires runs { IsRunnable (plan_of job.now) }
     requires wanted { IsWantedOf (plan_of job.now) wanted.now }
     ensures given { OnOk result (IsOk given) }
     ensures histories { IfOk result (λ h. histories ≡ Some h) }
     ensures written { OnOk result (IsOk written) }
-    ensures stopped { IfErr result (StopsAt (plan_of job.now) given written) }
+    ensures stopped { IfErr result (λ end. StopsAt (plan_of job.now) given written (left_as end)) }
+    ensures events { result ≡ Err Events → given ≡ Err status.Events }
 {
     all_done(alloc, job, wanted, given, written)?;
-    histories.ok_or(Ended::OutOfMemory)
+    histories.ok_or(ThreadEnded::Ran(Ended::OutOfMemory))
 }
 
 // Runs a graph by the cluster over open feeds: creates the files of its saves, which are written as blocks come, and gives feeds and files
@@ -123,7 +133,7 @@ fn run_saved<R, S, G, E, V, P>(
     feeds: Vec<Vec<Feed<S::In, E, V, P>>>,
     stores: Vec<Store<S::Spill, S::In, E, V, P>>,
 ) -> (
-    Result<Histories, Ended>,
+    Result<Histories, ThreadEnded>,
     Vec<Store<S::Spill, S::In, E, V, P>>,
 )
 where
@@ -142,10 +152,11 @@ where
     ensures served { OnOk result.0 (ServesAll (plan_of job.now) E.named (IsTrue V.told) (S.view site.old).files (S.view site.new).files) }
     ensures histories { IfOk result.0 (IsServedRun ⟦<RunLabel<Graphed<S::In, E, V>, Named<V, P>> as Label>⟧.facts
         (graph_of graph.now.job) plan.now wanted.now.all) }
-    ensures stopped { IfErr result.0 (ServesPart (plan_of job.now) E.named (IsTrue V.told)
+    ensures outgrown { result.0 ≡ Err Events → IsOutgrown ⟦<RunLabel<Graphed<S::In, E, V>, Named<V, P>> as Label>⟧.facts (graph_of graph.now.job) plan.now }
+    ensures stopped { IfErr result.0 (λ end. ServesPart (plan_of job.now) E.named (IsTrue V.told)
         (HasShort (map (λ v. vec_len v) feeds.items) plan.now.threads ⊎ Rose (S.view site.old).read_faults (S.view site.new).read_faults)
         (Rose (S.view site.old).write_faults (S.view site.new).write_faults)
-        (S.view site.old).files (S.view site.new).files) }
+        (S.view site.old).files (S.view site.new).files (left_as end)) }
 {
     laws_hold(job);
     let keys = graph.shape().keys();
@@ -155,7 +166,7 @@ where
         Ok(saver) => saver,
         Err(fault) => {
             give_all::<S, E, V, P>(site, feeds);
-            return (Err(unsaved(fault)), stores);
+            return (Err(ThreadEnded::Ran(unsaved(fault))), stores);
         }
     };
     let keeper = Keeper { saver };
@@ -206,7 +217,7 @@ fn run_feeds<R, S, G, E, V, P>(
     plan: &RunPlan,
     stores: Vec<Store<S::Spill, S::In, E, V, P>>,
 ) -> (
-    Result<Histories, Ended>,
+    Result<Histories, ThreadEnded>,
     Vec<Store<S::Spill, S::In, E, V, P>>,
 )
 where
@@ -226,14 +237,15 @@ where
     ensures served { OnOk result.0 (ServesAll (plan_of job.now) E.named (IsTrue V.told) (S.view site.old).files (S.view site.new).files) }
     ensures histories { IfOk result.0 (IsServedRun ⟦<RunLabel<Graphed<S::In, E, V>, Named<V, P>> as Label>⟧.facts
         (graph_of graph.now.job) plan.now wanted.now.all) }
-    ensures stopped { IfErr result.0 (ServesPart (plan_of job.now) E.named (IsTrue V.told)
+    ensures outgrown { result.0 ≡ Err Events → IsOutgrown ⟦<RunLabel<Graphed<S::In, E, V>, Named<V, P>> as Label>⟧.facts (graph_of graph.now.job) plan.now }
+    ensures stopped { IfErr result.0 (λ end. ServesPart (plan_of job.now) E.named (IsTrue V.told)
         (Rose (S.view site.old).read_faults (S.view site.new).read_faults) (Rose (S.view site.old).write_faults (S.view site.new).write_faults)
-        (S.view site.old).files (S.view site.new).files) }
+        (S.view site.old).files (S.view site.new).files (left_as end)) }
 {
     let names = job.inputs.as_slice();
     let Ok(feeds) = open_feeds::<S, E, V, P>(alloc, site, names, plan.numbers(), plan.threads)
     else {
-        return (Err(Ended::OutOfMemory), stores);
+        return (Err(ThreadEnded::Ran(Ended::OutOfMemory)), stores);
     };
     run_saved::<R, S, G, E, V, P>(
         rt, alloc, site, gate, job, graph, wanted, plan, feeds, stores,
@@ -251,7 +263,7 @@ fn run_stored<R, S, G, E, V, P>(
     wanted: &Wanted,
     plan: &RunPlan,
     memory: u64,
-) -> Result<Histories, Ended>
+) -> Result<Histories, ThreadEnded>
 where
     R: Threads + Wait + RandomSource + AllocGlobal + Sync,
     S: Site,
@@ -269,13 +281,14 @@ where
     ensures served { OnOk result (ServesAll (plan_of job.now) E.named (IsTrue V.told) (S.view site.old).files (S.view site.new).files) }
     ensures histories { IfOk result (IsServedRun ⟦<RunLabel<Graphed<S::In, E, V>, Named<V, P>> as Label>⟧.facts
         (graph_of graph.now.job) plan.now wanted.now.all) }
-    ensures stopped { IfErr result (ServesPart (plan_of job.now) E.named (IsTrue V.told)
+    ensures outgrown { result ≡ Err Events → IsOutgrown ⟦<RunLabel<Graphed<S::In, E, V>, Named<V, P>> as Label>⟧.facts (graph_of graph.now.job) plan.now }
+    ensures stopped { IfErr result (λ end. ServesPart (plan_of job.now) E.named (IsTrue V.told)
         (Rose (S.view site.old).read_faults (S.view site.new).read_faults) (Rose (S.view site.old).write_faults (S.view site.new).write_faults)
-        (S.view site.old).files (S.view site.new).files) }
+        (S.view site.old).files (S.view site.new).files (left_as end)) }
 {
     let Ok(stores) = open_stores::<S, Marked<S::In, E, V, P>>(alloc, site, plan.numbers(), memory)
     else {
-        return Err(Ended::OutOfMemory);
+        return Err(ThreadEnded::Ran(Ended::OutOfMemory));
     };
     let (served, stores) = run_feeds::<R, S, G, E, V, P>(
         rt, alloc, site, gate, job, graph, wanted, plan, stores,
@@ -297,7 +310,7 @@ fn run_graph<R, S, G, E, V, P>(
     plan: &RunPlan,
     memory: u64,
     asked: bool,
-) -> Result<Told, Ended>
+) -> Result<Told, ThreadEnded>
 where
     R: Threads + Wait + RandomSource + AllocGlobal + Sync,
     S: Site,
@@ -316,9 +329,11 @@ where
     ensures asked { IfOk result (λ told. is_some told.report ≡ asked) }
     ensures told { IfOk result (IsToldOfRun (label V.told E.named (tasks_of (plan_of job.now)))
         (shape_of (tasks_of (plan_of job.now))) plan.now (wanted_of (plan_of job.now))) }
-    ensures stopped { IfErr result (ServesPart (plan_of job.now) E.named (IsTrue V.told)
+    ensures outgrown { result ≡ Err Events → IsOutgrown (label V.told E.named (tasks_of (plan_of job.now)))
+        (shape_of (tasks_of (plan_of job.now))) plan.now }
+    ensures stopped { IfErr result (λ end. ServesPart (plan_of job.now) E.named (IsTrue V.told)
         (Rose (S.view site.old).read_faults (S.view site.new).read_faults) (Rose (S.view site.old).write_faults (S.view site.new).write_faults)
-        (S.view site.old).files (S.view site.new).files) }
+        (S.view site.old).files (S.view site.new).files (left_as end)) }
 {
     let histories = run_stored::<R, S, G, E, V, P>(
         rt, alloc, site, gate, job, graph, wanted, plan, memory,
@@ -331,7 +346,7 @@ where
 /// words ask for it.
 ///
 /// # Errors
-/// How the run ends: a zero divisor that the client was told of, a fault, or want of memory.
+/// How the run ends: a zero divisor that the client was told of, a fault, a core that has taken all events that it takes, or want of memory.
 #[tactic(auto, using(crate::proofs::Serves::part_none))]
 pub fn serve<R, S, G, E, V>(
     rt: &R,
@@ -342,7 +357,7 @@ pub fn serve<R, S, G, E, V>(
     lowered: Lowered,
     inputs: Inputs<S::In>,
     words: RunWords,
-) -> Result<Told, Ended>
+) -> Result<Told, ThreadEnded>
 where
     R: Threads + Wait + RandomSource + AllocGlobal + Sync,
     S: Site,
@@ -363,9 +378,11 @@ where
     ensures asked { IfOk result (λ told. is_some told.report ≡ words.report) }
     ensures told { IfOk result (IsToldBy (label V.told E.named (tasks_of (plan_of job.now)))
         (shape_of (tasks_of (plan_of job.now))) words (wanted_of (plan_of job.now))) }
-    ensures stopped { IfErr result (ServesPart (plan_of job.now) E.named (IsTrue V.told)
+    ensures outgrown { result ≡ Err Events → IsOutgrownBy (label V.told E.named (tasks_of (plan_of job.now)))
+        (shape_of (tasks_of (plan_of job.now))) words }
+    ensures stopped { IfErr result (λ end. ServesPart (plan_of job.now) E.named (IsTrue V.told)
         (Rose (S.view site.old).read_faults (S.view site.new).read_faults) (Rose (S.view site.old).write_faults (S.view site.new).write_faults)
-        (S.view site.old).files (S.view site.new).files) }
+        (S.view site.old).files (S.view site.new).files (left_as end)) }
 {
     laws_hold(job);
     law_of_form();

@@ -4,7 +4,8 @@ ghost use Rattle.cluster_msgs.specs.declared.events.History.{History as AnyHisto
 ghost use Rattle.cluster_rules.specs.Report.{report as report_of};
 ghost use Rattle.journal_audit.specs.Reports.{taken_of};
 ghost use Rattle.node_runner.specs.declared.ends.Histories.{Histories as AnyHistories};
-ghost use Rattle.thread_run.specs.Reports.{AreWhole, IsToldOf, IsVerdictOf, audited};
+ghost use Rattle.node_runner.specs.Runs.{AreWhole};
+ghost use Rattle.thread_run.specs.Reports.{IsToldOf, IsVerdictOf, audited};
 
 use crate::verdict::{Told, Verdict};
 use cluster_msgs::{GraphShape, History, Report};

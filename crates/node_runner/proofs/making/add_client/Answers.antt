@@ -12,5 +12,5 @@ add_made-requires-clause-fits g c =
 
 pub returns-clause-made : goal.returns-clause-made
 returns-clause-made g c = λ yes.
-    made_one (λ p. berth_of p.seat) (λ k s. IsFirstClient c.args.graph.now s.book.core.id (client_facts s.book.core.core)) c.args.row.passes.items c.add_made.result.0.passes.items
+    made_one (λ p. berth_of p.seat) (λ k s. IsFirstClient c.args.graph.now s.book.kept.id (client_facts s.book.kept.core)) c.args.row.passes.items c.add_made.result.0.passes.items
     c.make_client-made.result c.requires.empty (c.add_made.ensures.added yes) c.make_client-made.ensures.first

@@ -7,5 +7,5 @@ use Rattle.node_runner.proofs.making.add_worker.Goals as goal
 
 pub returns-clause-made : goal.returns-clause-made
 returns-clause-made g c = λ yes made.
-    made_more (λ p. berth_of p.seat) (λ k s. IsFirstWorker c.args.graph.now c.args.threads (k + 1) s.history.book.core.id (worker_facts s.history.book.core.core)) c.args.at c.args.row.passes.items
+    made_more (λ p. berth_of p.seat) (λ k s. IsFirstWorker c.args.graph.now c.args.threads (k + 1) s.history.book.kept.id (worker_facts s.history.book.kept.core)) c.args.at c.args.row.passes.items
     c.add_made.result.0.passes.items c.make_worker-made.result (c.add_made.ensures.added yes) c.make_worker-made.ensures.first made

@@ -24,7 +24,7 @@ returns-clause-made g c = λ yes.
     let end = YieldsList-end (YieldsList-from_vec {s = c.into_iter-ports-iterator.result} c.args.ports.items (search rules) (search rules)) c.loop-ports.yielded c.loop-ports.ports-iterator c.loop-ports.yielded_by c.next.result c.next.new.self c.in-None.is c.next.ensures.steps in
     let all : length c.loop-ports.yielded ≡ length c.args.ports.items = ap length (sym (map-id c.loop-ports.yielded) ∙ end.0) in
     let count : c.loop-ports.at ≡ vec_len c.args.ports = omega (arith, c.loop-ports.invariant.places, all, c.args.ports.ok.0) in
-    subst (λ n. AreMade (λ k s. IsFirstWorker c.args.graph.now c.args.threads (k + 1) s.history.book.core.id (worker_facts s.history.book.core.core)) n (map (λ p. berth_of p.seat) c.loop-ports.row.passes.items))
+    subst (λ n. AreMade (λ k s. IsFirstWorker c.args.graph.now c.args.threads (k + 1) s.history.book.kept.id (worker_facts s.history.book.kept.core)) n (map (λ p. berth_of p.seat) c.loop-ports.row.passes.items))
     {x = c.loop-ports.at} {y = vec_len c.args.ports} count (c.loop-ports.invariant.made yes)
 
 pub overflow_add-at : goal.overflow_add-at

@@ -9,6 +9,6 @@ abbrev pub invariant-loop-ports : goal.invariant-loop-ports
 invariant-loop-ports g l = record {
   parts : l.row.parts ≡ l.fn.row.parts;
   places : l.at ≡ length l.yielded;
-  made : l.whole ≡ true → AreMade (λ k s. IsFirstWorker l.graph l.threads (k + 1) s.history.book.core.id (worker_facts s.history.book.core.core)) l.at
+  made : l.whole ≡ true → AreMade (λ k s. IsFirstWorker l.graph l.threads (k + 1) s.history.book.kept.id (worker_facts s.history.book.kept.core)) l.at
       (map (λ p. berth_of p.seat) l.row.passes.items);
 }

@@ -7,5 +7,5 @@ use Rattle.node_runner.proofs.making.make_rows.Goals as goal
 
 pub returns-in-Ok-clause-workers : goal.returns-in-Ok-clause-workers
 returns-in-Ok-clause-workers g c = λ yes. subst
-    (λ n. AreMade (λ k s. IsFirstWorker c.args.graph.now c.args.plan.now.threads (k + 1) s.history.book.core.id (worker_facts s.history.book.core.core)) n
+    (λ n. AreMade (λ k s. IsFirstWorker c.args.graph.now c.args.plan.now.threads (k + 1) s.history.book.kept.id (worker_facts s.history.book.kept.core)) n
     (map (λ p. berth_of p.seat) c.fill.result.0.workers.passes.items)) (c.in-Ok.ensures ∙ c.numbers.ensures) (c.fill.ensures.workers yes)

@@ -17,18 +17,18 @@ make_rows-rows-requires-clause-graph g c = λ κs within.
 
 pub returns-clause-scheduler : goal.returns-clause-scheduler
 returns-clause-scheduler g c = IfSome_then c.rights-stamps.result c.rights-stamps.ensures (λ _ yes.
-    subst (λ s. AreMade (λ k x. IsFirstScheduler s c.args.plan.now x.history.book.core) 1 (map (λ p. berth_of p.seat) c.make_rows-rows.result.0.scheduler.passes.items))
+    subst (λ s. AreMade (λ k x. IsFirstScheduler s c.args.plan.now x.history.book.kept) 1 (map (λ p. berth_of p.seat) c.make_rows-rows.result.0.scheduler.passes.items))
     c.shape.ensures (c.make_rows-rows.ensures.scheduler yes))
 
 pub returns-clause-workers : goal.returns-clause-workers
 returns-clause-workers g c = IfSome_then c.rights-stamps.result c.rights-stamps.ensures (λ _ yes.
-    subst (λ s. AreMade (λ k x. IsFirstWorker s c.args.plan.now.threads (k + 1) x.history.book.core.id (worker_facts x.history.book.core.core))
+    subst (λ s. AreMade (λ k x. IsFirstWorker s c.args.plan.now.threads (k + 1) x.history.book.kept.id (worker_facts x.history.book.kept.core))
     (numbers c.args.plan.now) (map (λ p. berth_of p.seat) c.make_rows-rows.result.0.workers.passes.items))
     c.shape.ensures (c.make_rows-rows.ensures.workers yes))
 
 pub returns-clause-client : goal.returns-clause-client
 returns-clause-client g c = IfSome_then c.rights-stamps.result c.rights-stamps.ensures (λ _ yes.
-    subst (λ s. AreMade (λ k x. IsFirstClient s x.book.core.id (client_facts x.book.core.core)) 1
+    subst (λ s. AreMade (λ k x. IsFirstClient s x.book.kept.id (client_facts x.book.kept.core)) 1
     (map (λ p. berth_of p.seat) c.make_rows-rows.result.0.clients.passes.items))
     c.shape.ensures (c.make_rows-rows.ensures.client yes))
 

@@ -16,10 +16,10 @@ end_nodes-requires-clause-scheduler g c = All-contains (λ s. IsSchedulersBook g
 pub end_nodes-requires-clause-workers : goal.end_nodes-requires-clause-workers
 end_nodes-requires-clause-workers g c =
     subst (λ v. (k : ℕ) (w : WorkerNode g.row.B.Denot g.row.L.Denot g.row.F.Denot g.row.S.Denot _ g.L.Label g.S.BlockStore) → k < vec_len v → IsWorkersBook g.L.Label.facts c.args.graph.now c.args.plan.now.threads (k + 1)
-    (λ c. worker_facts c.core) (slice_index_or v.items k w).history.book) (sym c.in-Ok.ensures.workers) c.requires.workers
+    (λ c. c.id) (λ c. worker_facts c.core) (slice_index_or v.items k w).history.book) (sym c.in-Ok.ensures.workers) c.requires.workers
 
 pub end_nodes-requires-clause-client : goal.end_nodes-requires-clause-client
-end_nodes-requires-clause-client g c = All-contains (λ x. IsClientsBook g.L.Label.facts c.args.graph.now (λ x. client_facts x.core) x.book)
+end_nodes-requires-clause-client g c = All-contains (λ x. IsClientsBook g.L.Label.facts c.args.graph.now (λ x. x.id) (λ x. client_facts x.core) x.book)
     c.args.closed.clients.items _ c.requires.clients c.in-Ok.ensures.client
 
 pub returns-in-Ok-clause-ended : goal.returns-in-Ok-clause-ended

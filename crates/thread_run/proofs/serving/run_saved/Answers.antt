@@ -14,7 +14,7 @@ use Rattle.thread_run.specs.Saver.{AreSaved, Saves}
 use Rattle.thread_run.specs.Serving.{HasShort}
 use Rattle.thread_run.proofs.Saved.{all-served, facts-are, facts_of, keys-are, label-of, leaves, part-served}
 use Rattle.thread_run.proofs.SaverEnds.{IsServed, still-created}
-use Rattle.thread_run.proofs.Serves.{SavesFiles, leaves-none, rose_after, rose_first, serves-saved, served-run, uncreated, why-of}
+use Rattle.thread_run.proofs.Serves.{SavesFiles, leaves-none, outgrew, rose_after, rose_first, serves-saved, served-run, uncreated, why-of}
 use Rattle.thread_run.proofs.serving.run_saved.Goals as goal
 
 pub open-requires-clause-keys : goal.open-requires-clause-keys
@@ -135,3 +135,9 @@ returns-clause-stopped g c =
       | inr failed ↦ inr (rose_after old.read_faults back.read_faults new.read_faults (omega (arith, c.give-written.ensures.only.read_faults)) (rose_first old.read_faults made.read_faults back.read_faults (omega (arith, c.open.ensures.only.read_faults)) (c.give_feeds.ensures.risen failed)))
     ]) c.run_cluster-ends.ensures.ended)
     (λ e. rose_first old.write_faults back.write_faults new.write_faults (omega (arith, c.open.ensures.cause.later, c.give_feeds.ensures.only.write_faults)) (c.give-written.ensures.failed e)) c.ended.ensures.stopped
+
+pub returns-clause-outgrown : goal.returns-clause-outgrown
+returns-clause-outgrown g c = λ is.
+    let ends = c.run_cluster-ends.result.0 in
+    outgrew (facts_of g.P.Picks.picked (λ j. j.job) g.E.Elements.named g.V.Veil.told) (graph_of c.args.graph.now.job) c.args.plan.now c.args.wanted.now.all _ ends.result ends.left.items ends.histories
+    (c.ended.ensures.events is) c.run_cluster-ends.ensures.ended

@@ -34,3 +34,6 @@ returns-clause-given g c =
     let mid : View = g.S.Site.view c.give_store.new.self in
     let new : View = g.S.Site.view c.run_graph.new.site in
     given_later old.gave mid.gave new.gave _ (given_back old.gave old.gave mid.gave (g.S.In.Store.gave c.args.inputs.store) _ refl c.give_store.ensures.gave c.requires.given) c.run_graph.ensures.files.gave
+
+pub returns-clause-outgrown : goal.returns-clause-outgrown
+returns-clause-outgrown g c = λ is. record { plan = c.plan_in-plan.result; plan_is = c.plan_in-plan.ensures.same; run = c.run_graph.ensures.outgrown is }
