@@ -13,10 +13,11 @@ use Rattle.io_edge.specs.Content.{Content, Told, Untold, OnTold, size_of}
 use Rattle.npy_codec.specs.declared.head.Head.{Head}
 use Rattle.npy_codec.specs.declared.error.NpyError.{NpyError}
 use Rattle.npy_codec.specs.declared.error.NpyError.TheVariants.{NotNpy, Version, HeaderLimit, Truncated, HeaderText, Descr, ShapeLimit, ReadFault, OutOfMemory}
-use Rattle.npy_codec.specs.Files.{little_eight, big_eight, little_four, big_four, little_two, big_two, one, CellType, HasFixed, HasVersion, HasText, HasHead, IsDescr, IsKnown, IsNotMagic, IsOtherVersion, IsShortFixed, IsShortVersion, IsRefusedAs, PassesHeaderLimit, data_bytes, fixed_len, fixed_of, header_limit, is_wide, text_len_at, text_of}
+use Rattle.npy_codec.specs.Files.{CellType, HasFixed, HasVersion, HasText, HasHead, IsDescr, IsKnown, IsNotMagic, IsOtherVersion, IsShortFixed, IsShortVersion, IsRefusedAs, PassesHeaderLimit, data_bytes, fixed_len, fixed_of, header_limit, is_wide, text_len_at, text_of}
 use Rattle.npy_codec.specs.Regions.{IsWidth}
 use Rattle.npy_codec.specs.declared.read.Front.{Front}
 use Rattle.npy_codec.specs.Fronts.{HasFront, DeclaresHead, FixedRefusedAs, IsHeadOfFields, FieldsRefusedAs, IsHeadOfText, TextRefusedAs}
+use Rattle.npy_codec.proofs.Types.{width_of}
 
 -- ---- the first twelve bytes
 
@@ -227,15 +228,6 @@ pub text_heads : (file : Content) (text : List ℕ) (wide : Bool) (fixed n : ℕ
 text_heads file text wide fixed n (Err error) front room t h = tt
 text_heads (Untold size) text wide fixed n (Ok head) front room t h = tt
 text_heads (Told bytes) text wide fixed n (Ok head) front room t h = declares_here bytes text wide fixed head (has_text bytes wide fixed n front room) front.wide_is front.fixed_is (text_is bytes text wide fixed n front t) h
-
-width_of : (d : List ℕ) (type : CellType) → IsDescr d type → IsWidth type.width
-width_of d type little_eight = inr (inr (inr refl))
-width_of d type big_eight = inr (inr (inr refl))
-width_of d type little_four = inr (inr (inl refl))
-width_of d type big_four = inr (inr (inl refl))
-width_of d type little_two = inr (inl refl)
-width_of d type big_two = inr (inl refl)
-width_of d type one = inl refl
 
 pub text_width : (text : List ℕ) (wide : Bool) (fixed : ℕ) (result : Result Head NpyError) → IfOk result (λ head. IsHeadOfText wide fixed text head) → IfOk result (λ head. IsWidth head.width)
 text_width text wide fixed (Err error) h = tt

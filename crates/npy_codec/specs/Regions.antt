@@ -1,5 +1,5 @@
 -- The part of a file that holds a region of its array.
-use Rattle.std.specs.Prelude.{◌≡◌, ◌<◌, ◌⊎◌, ◌+◌, ◌-◌, ◌*◌, ℕ, zero, suc, ℤ, pos, List, length, take, drop, get_or, replicate}
+use Rattle.std.specs.Prelude.{◌≡◌, ◌<◌, ◌⊎◌, ◌+◌, ◌-◌, ◌*◌, ℕ, zero, suc, ℤ, pos, false, List, [], length, take, drop, get_or, replicate}
 use Rattle.nd_shape.specs.Shape.{elements}
 use Rattle.nd_shape.specs.Index.{IsIn, place}
 use Rattle.nd_shape.specs.Block.{Array}
@@ -14,19 +14,31 @@ use Rattle.npy_codec.specs.Npy.{wide_cell}
 abbrev pub IsWidth : ℕ → Type 0
 IsWidth width = (width ≡ 1) ⊎ ((width ≡ 2) ⊎ ((width ≡ 4) ⊎ (width ≡ 8)))
 
+-- what stands for a head where a list of heads has none
+abbrev pub no_head : Head
+no_head = record { shape = []; fortran = false; data_at = 0; width = 8; big = false }
+
 -- ## Where an element stands
+
+-- where the data's element of this number begins in the file, in bytes
+abbrev pub number_at : Head → ℕ → ℕ
+number_at head number = head.data_at + head.width * number
+
+-- the data's element of this number
+abbrev pub cell_at : List ℕ → Head → ℕ → ℤ
+cell_at bytes head number = wide_cell head.width head.big (take head.width (drop (number_at head number) bytes))
 
 -- the number of the element at an index, among the elements of the data
 abbrev pub data_place : Head → List ℕ → ℕ
 data_place head i = place_by head.fortran head.shape i
 
--- its offset in the file, in bytes
+-- its offset in the file
 abbrev pub offset_of : Head → List ℕ → ℕ
-offset_of head i = head.data_at + head.width * data_place head i
+offset_of head i = number_at head (data_place head i)
 
 -- the element of the file at an index of its array
 abbrev pub element : List ℕ → Head → List ℕ → ℤ
-element bytes head i = wide_cell head.width head.big (take head.width (drop (offset_of head i) bytes))
+element bytes head i = cell_at bytes head (data_place head i)
 
 -- ## Regions
 
