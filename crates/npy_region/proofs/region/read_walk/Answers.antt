@@ -25,7 +25,7 @@ pub read_stored-requires-clause-room : goal.read_stored-requires-clause-room
 read_stored-requires-clause-room g c =
     let size : size_of (file_at (g.S.Store.files c.len.new.self) c.args.file) ≡ c.in_ok-size.size = ap (λ (fs : List Content). size_of (file_at fs c.args.file)) c.len.ensures.same ∙ sym c.in_ok-size.ensures.size in
     ends_within c.args.walk.now c.bytes_needed-needs.new.walk c.args.head.now c.bytes_needed-needs.result (size_of (file_at (g.S.Store.files c.len.new.self) c.args.file))
-    c.bytes_needed-needs.ensures.same c.bytes_needed-needs.ensures.last (omega (arith, size, c.if-has-needs.false, c.saturating_sub-has.ensures))
+    (some_bytes c.args.head.now.width c.requires.width) c.bytes_needed-needs.ensures.same c.bytes_needed-needs.ensures.last (omega (arith, size, c.if-has-needs.false, c.saturating_sub-has.ensures))
 
 pub new-empty-requires : goal.new-empty-requires
 new-empty-requires g c =
