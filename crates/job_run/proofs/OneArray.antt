@@ -1,6 +1,6 @@
 -- A file holds one array, and is not refused where it holds one.
 use Rattle.std.proofs.Common.{◌≡◌, ◌≢◌, ℕ, pos, ◌<◌, List, [], length, take, get_or, ap, sym, ◌∙◌, subst, arith, inl, inr}
-use Rattle.std.specs.Prelude.{◌⊎◌, ◌*◌, cond, nat_eq, slice_index}
+use Rattle.std.specs.Prelude.{◌⊎◌, ◌*◌, slice_index}
 use Rattle.std.proofs.lemmas.List.{ext_get_or, get_or-take, length-take}
 use Rattle.nd_shape.specs.Block.{Array}
 use Rattle.nd_shape.specs.Index.{IsIn, place, index_at}
@@ -9,30 +9,17 @@ use Rattle.nd_shape.proofs.Places.{index_at-in, place-index_at}
 use Rattle.npy_codec.specs.declared.head.Head.{Head}
 use Rattle.npy_codec.specs.declared.error.NpyError.{NpyError}
 use Rattle.npy_codec.specs.declared.error.NpyError.TheVariants.{NotNpy, Version, HeaderLimit, Truncated, HeaderText, Descr, ShapeLimit, ReadFault, OutOfMemory}
-use Rattle.npy_codec.specs.Files.{CellType, HasHead, IsDescr, IsKnown, IsNpy, IsRefusedAs, data_bytes, is_wide, text_of, magic, little_eight, big_eight, little_four, big_four, little_two, big_two, one}
+use Rattle.npy_codec.specs.Files.{CellType, HasHead, IsDescr, IsKnown, IsNpy, IsRefusedAs, data_bytes, is_wide, text_of, magic}
 use Rattle.npy_codec.specs.Regions.{HoldsRegion, whole}
+use Rattle.npy_codec.proofs.Types.{one_type}
 use Rattle.npy_header.specs.Headers.{Fields}
 use Rattle.job_run.specs.Inputs.{HoldArrays, IsOfFile}
 use Rattle.job_run.proofs.OneHeader.{one_header}
 
 -- ## One type
 
--- the type that a string of `descr` names, by its last byte and its first
-type_named : List ℕ → CellType
-type_named d = record { width = cond (nat_eq (slice_index d 2) 56) 8 (cond (nat_eq (slice_index d 2) 52) 4 (cond (nat_eq (slice_index d 2) 50) 2 1)); big = nat_eq (slice_index d 0) 62 }
-
-is_named : (d : List ℕ) (type : CellType) → IsDescr d type → type ≡ type_named d
-unfolding type_named
-is_named d type little_eight = refl
-is_named d type big_eight = refl
-is_named d type little_four = refl
-is_named d type big_four = refl
-is_named d type little_two = refl
-is_named d type big_two = refl
-is_named d type one = refl
-
-one_type : (f g : Fields) (a b : CellType) → f ≡ g → IsDescr f.descr a → IsDescr g.descr b → a ≡ b
-one_type f g a b e x y = is_named f.descr a x ∙ (ap (λ (h : Fields). type_named h.descr) e ∙ sym (is_named g.descr b y))
+same_type : (f g : Fields) (a b : CellType) → f ≡ g → IsDescr f.descr a → IsDescr g.descr b → a ≡ b
+same_type f g a b e x y = one_type g.descr a b (subst (λ (h : Fields). IsDescr h.descr a) e x) y
 
 -- ## One head
 
@@ -42,13 +29,13 @@ type_of head = record { width = head.width; big = head.big }
 pub one_head : (bytes : List ℕ) (a b : Head) → HasHead bytes a → HasHead bytes b → a ≡ b
 one_head bytes a b x y =
     let f : x.fields ≡ y.fields = one_header (is_wide bytes) (text_of bytes) x.fields y.fields x.declares.header y.declares.header in
-    let t : type_of a ≡ type_of b = one_type x.fields y.fields (type_of a) (type_of b) f x.descr y.descr in
+    let t : type_of a ≡ type_of b = same_type x.fields y.fields (type_of a) (type_of b) f x.descr y.descr in
     let w : a.width ≡ b.width = ap (λ (u : CellType). u.width) t in
-    let g : a.big ≡ b.big = ap (λ (u : CellType). u.big) t in
+    let r : a.big ≡ b.big = ap (λ (u : CellType). u.big) t in
     let s : a.shape ≡ b.shape = x.shape ∙ (ap (λ (g : Fields). g.shape) f ∙ sym y.shape) in
     let o : a.fortran ≡ b.fortran = x.fortran ∙ (ap (λ (g : Fields). g.fortran) f ∙ sym y.fortran) in
     let d : a.data_at ≡ b.data_at = x.data_at ∙ sym y.data_at in
-    λ i. record { shape = s i; fortran = o i; data_at = d i; width = w i; big = g i }
+    λ i. record { shape = s i; fortran = o i; data_at = d i; width = w i; big = r i }
 
 -- ## One array
 
@@ -95,7 +82,7 @@ not_refused bytes head (Truncated h needs) has is refused = elim refused [
       | inl text ↦ absurd (omega (arith, text.has_is, text.needs_is, text.short, has.declares.text.whole))
       | inr file ↦
           let f : file.fields ≡ has.fields = one_header (is_wide bytes) (text_of bytes) file.fields has.fields file.declares.header has.declares.header in
-          let t : file.type ≡ type_of head = one_type file.fields has.fields file.type (type_of head) f file.descr has.descr in
+          let t : file.type ≡ type_of head = same_type file.fields has.fields file.type (type_of head) f file.descr has.descr in
           let s : file.fields.shape ≡ head.shape = ap (λ (g : Fields). g.shape) f ∙ sym has.shape in
           absurd (omega (arith, file.has_is, file.needs_is, file.short, has.room, has.data_at, same_data file.fields file.type head t s))
     ]
