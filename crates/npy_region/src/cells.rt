@@ -41,7 +41,7 @@ pub(crate) fn read_cells<S: Store>(
     ensures cause { IfErr result IsFaultOrMemory }
     ensures fault { IsErrOf result NpyError.ReadFault → Rose (S.count store.old) (S.count store.new) }
 {
-    let width = u64::from(head.width);
+    let width = head.width as u64;
     let most = buffer.len() as u64 / width;
     let mut done = 0;
     while done < count {
