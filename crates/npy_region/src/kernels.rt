@@ -109,11 +109,7 @@ fn append_big<const N: usize, T: Element<N>>(
 }
 
 // Appends the elements of these bytes, which are of the head's type.
-pub(crate) fn append_cells(
-    head: &Head,
-    bytes: &[u8],
-    out: &mut Vec<i64>,
-) -> Result<(), AllocError>
+pub(crate) fn append_cells(head: &Head, bytes: &[u8], out: &mut Vec<i64>) -> Result<(), AllocError>
     requires { IsWidth head.now.width }
     ensures { OnOk result (out.new.items ≡ out.old.items ++ first_cells head.now.width head.now.big (length bytes.now / head.now.width) bytes.now) }
 {
