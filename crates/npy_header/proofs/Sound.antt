@@ -1,5 +1,5 @@
 -- What the rows derive is a header, with the fields that its events leave.
-use Rattle.std.proofs.Common.{◌≡◌, ℕ, zero, ◌<◌, ◌+◌, ◌-◌, ◌*◌, Bool, true, false, ◌||◌, ◌&&◌, cond, nat_eq, List, [], ◌∷◌, ◌++◌, ◌⊎◌, inl, inr, Some, None, refl, ap, sym, subst, ◌∙◌, arith, append_assoc, append-nil, ◌≤◌, ◌≢◌, nat_le}
+use Rattle.std.proofs.Common.{◌≡◌, ℕ, ◌<◌, ◌+◌, ◌-◌, ◌*◌, Bool, true, false, ◌||◌, ◌&&◌, cond, nat_eq, List, [], ◌∷◌, ◌++◌, ◌⊎◌, inl, inr, Some, None, refl, ap, sym, subst, ◌∙◌, arith, append_assoc, append-nil, ◌≤◌, ◌≢◌, nat_le}
 use Rattle.std.specs.Prelude.{Option, slice_get}
 use Rattle.std.proofs.lemmas.Bool.{eqb-true, and_parts, or_cases, leb-true, eqb-false}
 use Rattle.std.proofs.lemmas.Option.{none-some}
@@ -8,7 +8,7 @@ use Rattle.npy_header.specs.Headers.{Within, Continues, ArePastAscii, InString, 
 use Rattle.npy_header.specs.Kinds.{singles, kind_of}
 use Rattle.npy_header.specs.Scans.{Scan, fresh, fields_of, after_byte, after_action}
 use Rattle.npy_header.specs.Typed.{HPart, start, tail, spaces, descr_value, fortran_value, shape_value, string, tuple, axes, axis, digits, later, items, key, more, HSym, letter, sub, act, quote_kind, may_stand_in, letters, descr_rest, fortran_rest, shape_rest, item_rest, if_kind, on_past, on_part, other_part}
-use Rattle.npy_header.proofs.KindLaws.{one-byte, quote-byte, zero-digit, digit-from, kind-inside, Past, past-of}
+use Rattle.npy_header.proofs.KindLaws.{one-byte, quote-byte, zero-digit, digit-from, kind-inside, past-of}
 use Rattle.npy_header.proofs.Meaning.{MeansAs, IsClosed}
 use Rattle.npy_header.proofs.Effects.{Does, does-nothing, does-took, does-append, does-all, does-descr, does-number, DoesText, text-nothing, text-took, DoesDigits, digits-nothing, digits-took, pushes, taken_all}
 use Rattle.npy_header.proofs.Meanings.{same, keys, NumberMeans, AfterOpen, ItemsMean, MoreMeans, M}
@@ -225,33 +225,33 @@ past-string q t rs rule es e makes m =
 on-past-string : (q : Quote) (t : ℕ) (rule : List HSym) (es : List Event) → on_past q (kind_of t) ≡ Some rule → MeansAs (M true) rule es → M true (string q) (took t ∷ es)
 on-past-string q t rule es h m =
     elim (if-kind 33 (kind_of t) (behind ((30, 32) ∷ []) q) rule _ h) [
-    | inl a ↦ past-string q t ((30, 32) ∷ []) rule es a.1 (makes-33 t a.0) m
-    | inr n33 ↦
-      elim (if-kind 34 (kind_of t) (behind ((32, 32) ∷ (30, 32) ∷ []) q) rule _ n33) [
-      | inl a ↦ past-string q t ((32, 32) ∷ (30, 32) ∷ []) rule es a.1 (makes-34 t a.0) m
-      | inr n34 ↦
-        elim (if-kind 35 (kind_of t) (behind ((30, 32) ∷ (30, 32) ∷ []) q) rule _ n34) [
-        | inl a ↦ past-string q t ((30, 32) ∷ (30, 32) ∷ []) rule es a.1 (makes-35 t a.0) m
-        | inr n35 ↦
-          elim (if-kind 36 (kind_of t) (behind ((30, 31) ∷ (30, 32) ∷ []) q) rule _ n35) [
-          | inl a ↦ past-string q t ((30, 31) ∷ (30, 32) ∷ []) rule es a.1 (makes-36 t a.0) m
-          | inr n36 ↦
-            elim (if-kind 37 (kind_of t) (behind ((31, 32) ∷ (30, 32) ∷ (30, 32) ∷ []) q) rule _ n36) [
-            | inl a ↦ past-string q t ((31, 32) ∷ (30, 32) ∷ (30, 32) ∷ []) rule es a.1 (makes-37 t a.0) m
-            | inr n37 ↦
-              elim (if-kind 38 (kind_of t) (behind ((30, 32) ∷ (30, 32) ∷ (30, 32) ∷ []) q) rule _ n37) [
-              | inl a ↦ past-string q t ((30, 32) ∷ (30, 32) ∷ (30, 32) ∷ []) rule es a.1 (makes-38 t a.0) m
-              | inr n38 ↦
-                elim (if-kind 39 (kind_of t) (behind ((30, 30) ∷ (30, 32) ∷ (30, 32) ∷ []) q) rule None n38) [
-                | inl a ↦ past-string q t ((30, 30) ∷ (30, 32) ∷ (30, 32) ∷ []) rule es a.1 (makes-39 t a.0) m
-                | inr n39 ↦
-                  absurd (none-some rule n39)
+      | inl a ↦ past-string q t ((30, 32) ∷ []) rule es a.1 (makes-33 t a.0) m
+      | inr n33 ↦
+          elim (if-kind 34 (kind_of t) (behind ((32, 32) ∷ (30, 32) ∷ []) q) rule _ n33) [
+            | inl a ↦ past-string q t ((32, 32) ∷ (30, 32) ∷ []) rule es a.1 (makes-34 t a.0) m
+            | inr n34 ↦
+                elim (if-kind 35 (kind_of t) (behind ((30, 32) ∷ (30, 32) ∷ []) q) rule _ n34) [
+                  | inl a ↦ past-string q t ((30, 32) ∷ (30, 32) ∷ []) rule es a.1 (makes-35 t a.0) m
+                  | inr n35 ↦
+                      elim (if-kind 36 (kind_of t) (behind ((30, 31) ∷ (30, 32) ∷ []) q) rule _ n35) [
+                        | inl a ↦ past-string q t ((30, 31) ∷ (30, 32) ∷ []) rule es a.1 (makes-36 t a.0) m
+                        | inr n36 ↦
+                            elim (if-kind 37 (kind_of t) (behind ((31, 32) ∷ (30, 32) ∷ (30, 32) ∷ []) q) rule _ n36) [
+                              | inl a ↦ past-string q t ((31, 32) ∷ (30, 32) ∷ (30, 32) ∷ []) rule es a.1 (makes-37 t a.0) m
+                              | inr n37 ↦
+                                  elim (if-kind 38 (kind_of t) (behind ((30, 32) ∷ (30, 32) ∷ (30, 32) ∷ []) q) rule _ n37) [
+                                    | inl a ↦ past-string q t ((30, 32) ∷ (30, 32) ∷ (30, 32) ∷ []) rule es a.1 (makes-38 t a.0) m
+                                    | inr n38 ↦
+                                        elim (if-kind 39 (kind_of t) (behind ((30, 30) ∷ (30, 32) ∷ (30, 32) ∷ []) q) rule None n38) [
+                                          | inl a ↦ past-string q t ((30, 30) ∷ (30, 32) ∷ (30, 32) ∷ []) rule es a.1 (makes-39 t a.0) m
+                                          | inr n39 ↦
+                                              absurd (none-some rule n39)
+                                        ]
+                                  ]
+                            ]
+                      ]
                 ]
-              ]
-            ]
           ]
-        ]
-      ]
     ]
 
 on-string : (wide : Bool) (q : Quote) (t : ℕ) (rule : List HSym) (es : List Event) → on_part wide (string q) (kind_of t) ≡ Some rule → MeansAs (M wide) rule es → (M wide) (string q) (took t ∷ es)
