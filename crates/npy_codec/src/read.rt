@@ -151,13 +151,20 @@ fn head_of_text(alloc: Global, wide: bool, fixed: u64, text: &[u8]) -> Result<He
 {
     match read_header_text(alloc, wide, text) {
         Ok(fields) => head_of_fields(alloc, &fields, fixed + text.len() as u64),
-        Err(HeaderError::Refused { at }) => Err(NpyError::HeaderText { at: fixed + at as u64 }),
+        Err(HeaderError::Refused { at }) => Err(NpyError::HeaderText {
+            at: fixed + at as u64,
+        }),
         Err(HeaderError::OutOfMemory) => Err(NpyError::OutOfMemory),
     }
 }
 
 // What the fixed bytes of a file of this size say.
-fn read_fixed<S: Store>(alloc: Global, store: &mut S, file: u32, size: u64) -> Result<Front, NpyError>
+fn read_fixed<S: Store>(
+    alloc: Global,
+    store: &mut S,
+    file: u32,
+    size: u64,
+) -> Result<Front, NpyError>
     requires there { file < length (S.files store.old) }
     requires size { size ≡ size_of (file_at (S.files store.old) file) }
     ensures same { S.files store.new ≡ S.files store.old }
@@ -181,7 +188,12 @@ fn read_fixed<S: Store>(alloc: Global, store: &mut S, file: u32, size: u64) -> R
 }
 
 // The head that the header of a file declares, whose fixed bytes say this.
-fn read_text<S: Store>(alloc: Global, store: &mut S, file: u32, front: &Front) -> Result<Head, NpyError>
+fn read_text<S: Store>(
+    alloc: Global,
+    store: &mut S,
+    file: u32,
+    front: &Front,
+) -> Result<Head, NpyError>
     requires there { file < length (S.files store.old) }
     requires few { front.now.fixed ≤ 12 }
     requires small { front.now.len ≤ header_limit }

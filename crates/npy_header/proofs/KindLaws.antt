@@ -48,7 +48,8 @@ up-to P b n x y f g = by (nat_le b n) refl
 
 past0 : (b : ℕ) → 0 ≤ b → b ≤ 127 → Past b 40
 past0 b l u = record {
-  least = omega arith; most = omega arith;
+  least = omega arith;
+  most = omega arith;
   to0 = λ x y. absurd (omega arith);
   to1 = λ x y. absurd (omega arith);
   to2 = λ x y. absurd (omega arith);
@@ -74,7 +75,8 @@ past0 b l u = record {
 
 past1 : (b : ℕ) → 128 ≤ b → b ≤ 143 → Past b 30
 past1 b l u = record {
-  least = omega arith; most = omega arith;
+  least = omega arith;
+  most = omega arith;
   to0 = λ x y. refl;
   to1 = λ x y. absurd (omega arith);
   to2 = λ x y. absurd (omega arith);
@@ -100,7 +102,8 @@ past1 b l u = record {
 
 past2 : (b : ℕ) → 144 ≤ b → b ≤ 159 → Past b 31
 past2 b l u = record {
-  least = omega arith; most = omega arith;
+  least = omega arith;
+  most = omega arith;
   to0 = λ x y. absurd (omega arith);
   to1 = λ x y. refl;
   to2 = λ x y. absurd (omega arith);
@@ -126,7 +129,8 @@ past2 b l u = record {
 
 past3 : (b : ℕ) → 160 ≤ b → b ≤ 191 → Past b 32
 past3 b l u = record {
-  least = omega arith; most = omega arith;
+  least = omega arith;
+  most = omega arith;
   to0 = λ x y. absurd (omega arith);
   to1 = λ x y. absurd (omega arith);
   to2 = λ x y. refl;
@@ -152,7 +156,8 @@ past3 b l u = record {
 
 past4 : (b : ℕ) → 192 ≤ b → b ≤ 193 → Past b 40
 past4 b l u = record {
-  least = omega arith; most = omega arith;
+  least = omega arith;
+  most = omega arith;
   to0 = λ x y. absurd (omega arith);
   to1 = λ x y. absurd (omega arith);
   to2 = λ x y. absurd (omega arith);
@@ -178,7 +183,8 @@ past4 b l u = record {
 
 past5 : (b : ℕ) → 194 ≤ b → b ≤ 223 → Past b 33
 past5 b l u = record {
-  least = omega arith; most = omega arith;
+  least = omega arith;
+  most = omega arith;
   to0 = λ x y. absurd (omega arith);
   to1 = λ x y. absurd (omega arith);
   to2 = λ x y. absurd (omega arith);
@@ -204,7 +210,8 @@ past5 b l u = record {
 
 past6 : (b : ℕ) → 224 ≤ b → b ≤ 224 → Past b 34
 past6 b l u = record {
-  least = omega arith; most = omega arith;
+  least = omega arith;
+  most = omega arith;
   to0 = λ x y. absurd (omega arith);
   to1 = λ x y. absurd (omega arith);
   to2 = λ x y. absurd (omega arith);
@@ -230,7 +237,8 @@ past6 b l u = record {
 
 past7 : (b : ℕ) → 225 ≤ b → b ≤ 236 → Past b 35
 past7 b l u = record {
-  least = omega arith; most = omega arith;
+  least = omega arith;
+  most = omega arith;
   to0 = λ x y. absurd (omega arith);
   to1 = λ x y. absurd (omega arith);
   to2 = λ x y. absurd (omega arith);
@@ -256,7 +264,8 @@ past7 b l u = record {
 
 past8 : (b : ℕ) → 237 ≤ b → b ≤ 237 → Past b 36
 past8 b l u = record {
-  least = omega arith; most = omega arith;
+  least = omega arith;
+  most = omega arith;
   to0 = λ x y. absurd (omega arith);
   to1 = λ x y. absurd (omega arith);
   to2 = λ x y. absurd (omega arith);
@@ -282,7 +291,8 @@ past8 b l u = record {
 
 past9 : (b : ℕ) → 238 ≤ b → b ≤ 239 → Past b 35
 past9 b l u = record {
-  least = omega arith; most = omega arith;
+  least = omega arith;
+  most = omega arith;
   to0 = λ x y. absurd (omega arith);
   to1 = λ x y. absurd (omega arith);
   to2 = λ x y. absurd (omega arith);
@@ -308,7 +318,8 @@ past9 b l u = record {
 
 past10 : (b : ℕ) → 240 ≤ b → b ≤ 240 → Past b 37
 past10 b l u = record {
-  least = omega arith; most = omega arith;
+  least = omega arith;
+  most = omega arith;
   to0 = λ x y. absurd (omega arith);
   to1 = λ x y. absurd (omega arith);
   to2 = λ x y. absurd (omega arith);
@@ -334,7 +345,8 @@ past10 b l u = record {
 
 past11 : (b : ℕ) → 241 ≤ b → b ≤ 243 → Past b 38
 past11 b l u = record {
-  least = omega arith; most = omega arith;
+  least = omega arith;
+  most = omega arith;
   to0 = λ x y. absurd (omega arith);
   to1 = λ x y. absurd (omega arith);
   to2 = λ x y. absurd (omega arith);
@@ -360,7 +372,8 @@ past11 b l u = record {
 
 past12 : (b : ℕ) → 244 ≤ b → b ≤ 244 → Past b 39
 past12 b l u = record {
-  least = omega arith; most = omega arith;
+  least = omega arith;
+  most = omega arith;
   to0 = λ x y. absurd (omega arith);
   to1 = λ x y. absurd (omega arith);
   to2 = λ x y. absurd (omega arith);
@@ -386,7 +399,8 @@ past12 b l u = record {
 
 past13 : (b : ℕ) → 245 ≤ b → Past b 40
 past13 b l = record {
-  least = omega arith; most = omega arith;
+  least = omega arith;
+  most = omega arith;
   to0 = λ x y. absurd (omega arith);
   to1 = λ x y. absurd (omega arith);
   to2 = λ x y. absurd (omega arith);

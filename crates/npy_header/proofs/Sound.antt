@@ -225,33 +225,33 @@ past-string q t rs rule es e makes m =
 on-past-string : (q : Quote) (t : ℕ) (rule : List HSym) (es : List Event) → on_past q (kind_of t) ≡ Some rule → MeansAs (M true) rule es → M true (string q) (took t ∷ es)
 on-past-string q t rule es h m =
     elim (if-kind 33 (kind_of t) (behind ((30, 32) ∷ []) q) rule _ h) [
-    | inl a ↦ past-string q t ((30, 32) ∷ []) rule es a.1 (makes-33 t a.0) m
-    | inr n33 ↦
-      elim (if-kind 34 (kind_of t) (behind ((32, 32) ∷ (30, 32) ∷ []) q) rule _ n33) [
-      | inl a ↦ past-string q t ((32, 32) ∷ (30, 32) ∷ []) rule es a.1 (makes-34 t a.0) m
-      | inr n34 ↦
-        elim (if-kind 35 (kind_of t) (behind ((30, 32) ∷ (30, 32) ∷ []) q) rule _ n34) [
-        | inl a ↦ past-string q t ((30, 32) ∷ (30, 32) ∷ []) rule es a.1 (makes-35 t a.0) m
-        | inr n35 ↦
-          elim (if-kind 36 (kind_of t) (behind ((30, 31) ∷ (30, 32) ∷ []) q) rule _ n35) [
-          | inl a ↦ past-string q t ((30, 31) ∷ (30, 32) ∷ []) rule es a.1 (makes-36 t a.0) m
-          | inr n36 ↦
-            elim (if-kind 37 (kind_of t) (behind ((31, 32) ∷ (30, 32) ∷ (30, 32) ∷ []) q) rule _ n36) [
-            | inl a ↦ past-string q t ((31, 32) ∷ (30, 32) ∷ (30, 32) ∷ []) rule es a.1 (makes-37 t a.0) m
-            | inr n37 ↦
-              elim (if-kind 38 (kind_of t) (behind ((30, 32) ∷ (30, 32) ∷ (30, 32) ∷ []) q) rule _ n37) [
-              | inl a ↦ past-string q t ((30, 32) ∷ (30, 32) ∷ (30, 32) ∷ []) rule es a.1 (makes-38 t a.0) m
-              | inr n38 ↦
-                elim (if-kind 39 (kind_of t) (behind ((30, 30) ∷ (30, 32) ∷ (30, 32) ∷ []) q) rule None n38) [
-                | inl a ↦ past-string q t ((30, 30) ∷ (30, 32) ∷ (30, 32) ∷ []) rule es a.1 (makes-39 t a.0) m
-                | inr n39 ↦
-                  absurd (none-some rule n39)
+      | inl a ↦ past-string q t ((30, 32) ∷ []) rule es a.1 (makes-33 t a.0) m
+      | inr n33 ↦
+          elim (if-kind 34 (kind_of t) (behind ((32, 32) ∷ (30, 32) ∷ []) q) rule _ n33) [
+            | inl a ↦ past-string q t ((32, 32) ∷ (30, 32) ∷ []) rule es a.1 (makes-34 t a.0) m
+            | inr n34 ↦
+                elim (if-kind 35 (kind_of t) (behind ((30, 32) ∷ (30, 32) ∷ []) q) rule _ n34) [
+                  | inl a ↦ past-string q t ((30, 32) ∷ (30, 32) ∷ []) rule es a.1 (makes-35 t a.0) m
+                  | inr n35 ↦
+                      elim (if-kind 36 (kind_of t) (behind ((30, 31) ∷ (30, 32) ∷ []) q) rule _ n35) [
+                        | inl a ↦ past-string q t ((30, 31) ∷ (30, 32) ∷ []) rule es a.1 (makes-36 t a.0) m
+                        | inr n36 ↦
+                            elim (if-kind 37 (kind_of t) (behind ((31, 32) ∷ (30, 32) ∷ (30, 32) ∷ []) q) rule _ n36) [
+                              | inl a ↦ past-string q t ((31, 32) ∷ (30, 32) ∷ (30, 32) ∷ []) rule es a.1 (makes-37 t a.0) m
+                              | inr n37 ↦
+                                  elim (if-kind 38 (kind_of t) (behind ((30, 32) ∷ (30, 32) ∷ (30, 32) ∷ []) q) rule _ n37) [
+                                    | inl a ↦ past-string q t ((30, 32) ∷ (30, 32) ∷ (30, 32) ∷ []) rule es a.1 (makes-38 t a.0) m
+                                    | inr n38 ↦
+                                        elim (if-kind 39 (kind_of t) (behind ((30, 30) ∷ (30, 32) ∷ (30, 32) ∷ []) q) rule None n38) [
+                                          | inl a ↦ past-string q t ((30, 30) ∷ (30, 32) ∷ (30, 32) ∷ []) rule es a.1 (makes-39 t a.0) m
+                                          | inr n39 ↦
+                                              absurd (none-some rule n39)
+                                        ]
+                                  ]
+                            ]
+                      ]
                 ]
-              ]
-            ]
           ]
-        ]
-      ]
     ]
 
 on-string : (wide : Bool) (q : Quote) (t : ℕ) (rule : List HSym) (es : List Event) → on_part wide (string q) (kind_of t) ≡ Some rule → MeansAs (M wide) rule es → (M wide) (string q) (took t ∷ es)

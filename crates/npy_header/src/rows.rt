@@ -6,22 +6,17 @@ use grammar::{Row, Rule, Symbol, rules_on};
 
 /// The kind of each byte.
 pub(crate) static KIND_OF_BYTE: [u16; 256] = [
-    40, 40, 40, 40, 40, 40, 40, 40, 40, 40, 1, 40, 40, 40, 40, 40,
-    40, 40, 40, 40, 40, 40, 40, 40, 40, 40, 40, 40, 40, 40, 40, 40,
-    0, 29, 9, 29, 29, 29, 29, 8, 4, 5, 29, 29, 7, 29, 29, 29,
-    27, 28, 28, 28, 28, 28, 28, 28, 28, 28, 6, 29, 29, 29, 29, 29,
-    29, 29, 29, 29, 29, 29, 25, 29, 29, 29, 29, 29, 29, 29, 29, 29,
-    29, 29, 29, 29, 23, 29, 29, 29, 29, 29, 29, 29, 40, 29, 29, 20,
-    29, 18, 29, 13, 10, 11, 15, 29, 21, 29, 29, 29, 26, 29, 19, 16,
-    22, 29, 14, 12, 17, 24, 29, 29, 29, 29, 29, 2, 29, 3, 29, 40,
-    30, 30, 30, 30, 30, 30, 30, 30, 30, 30, 30, 30, 30, 30, 30, 30,
-    31, 31, 31, 31, 31, 31, 31, 31, 31, 31, 31, 31, 31, 31, 31, 31,
-    32, 32, 32, 32, 32, 32, 32, 32, 32, 32, 32, 32, 32, 32, 32, 32,
-    32, 32, 32, 32, 32, 32, 32, 32, 32, 32, 32, 32, 32, 32, 32, 32,
-    40, 40, 33, 33, 33, 33, 33, 33, 33, 33, 33, 33, 33, 33, 33, 33,
-    33, 33, 33, 33, 33, 33, 33, 33, 33, 33, 33, 33, 33, 33, 33, 33,
-    34, 35, 35, 35, 35, 35, 35, 35, 35, 35, 35, 35, 35, 36, 35, 35,
-    37, 38, 38, 38, 39, 40, 40, 40, 40, 40, 40, 40, 40, 40, 40, 40,
+    40, 40, 40, 40, 40, 40, 40, 40, 40, 40, 1, 40, 40, 40, 40, 40, 40, 40, 40, 40, 40, 40, 40, 40,
+    40, 40, 40, 40, 40, 40, 40, 40, 0, 29, 9, 29, 29, 29, 29, 8, 4, 5, 29, 29, 7, 29, 29, 29, 27,
+    28, 28, 28, 28, 28, 28, 28, 28, 28, 6, 29, 29, 29, 29, 29, 29, 29, 29, 29, 29, 29, 25, 29, 29,
+    29, 29, 29, 29, 29, 29, 29, 29, 29, 29, 29, 23, 29, 29, 29, 29, 29, 29, 29, 40, 29, 29, 20, 29,
+    18, 29, 13, 10, 11, 15, 29, 21, 29, 29, 29, 26, 29, 19, 16, 22, 29, 14, 12, 17, 24, 29, 29, 29,
+    29, 29, 2, 29, 3, 29, 40, 30, 30, 30, 30, 30, 30, 30, 30, 30, 30, 30, 30, 30, 30, 30, 30, 31,
+    31, 31, 31, 31, 31, 31, 31, 31, 31, 31, 31, 31, 31, 31, 31, 32, 32, 32, 32, 32, 32, 32, 32, 32,
+    32, 32, 32, 32, 32, 32, 32, 32, 32, 32, 32, 32, 32, 32, 32, 32, 32, 32, 32, 32, 32, 32, 32, 40,
+    40, 33, 33, 33, 33, 33, 33, 33, 33, 33, 33, 33, 33, 33, 33, 33, 33, 33, 33, 33, 33, 33, 33, 33,
+    33, 33, 33, 33, 33, 33, 33, 34, 35, 35, 35, 35, 35, 35, 35, 35, 35, 35, 35, 35, 36, 35, 35, 37,
+    38, 38, 38, 39, 40, 40, 40, 40, 40, 40, 40, 40, 40, 40, 40,
 ];
 
 pub(crate) static ON: [Row; 45] = [
@@ -259,7 +254,8 @@ pub(crate) static OTHER: [Option<u16>; 45] = [
 ];
 
 pub(crate) static MOVES: [u16; 45] = [
-    1, 1, 1, 1, 1, 1, 1, 1, 1, 1, 1, 1, 1, 1, 1, 1, 1, 1, 1, 1, 1, 1, 1, 1, 1, 1, 1, 1, 1, 1, 1, 1, 1, 1, 1, 1, 1, 1, 1, 1, 1, 1, 1, 1, 1,
+    1, 1, 1, 1, 1, 1, 1, 1, 1, 1, 1, 1, 1, 1, 1, 1, 1, 1, 1, 1, 1, 1, 1, 1, 1, 1, 1, 1, 1, 1, 1, 1,
+    1, 1, 1, 1, 1, 1, 1, 1, 1, 1, 1, 1, 1,
 ];
 
 pub(crate) static RULES: [Rule; 75] = [
@@ -276,68 +272,254 @@ pub(crate) static RULES: [Rule; 75] = [
     Rule { start: 60, end: 79 },
     Rule { start: 79, end: 90 },
     Rule { start: 90, end: 91 },
-    Rule { start: 91, end: 102 },
-    Rule { start: 102, end: 121 },
-    Rule { start: 121, end: 122 },
-    Rule { start: 122, end: 133 },
-    Rule { start: 133, end: 152 },
-    Rule { start: 152, end: 154 },
-    Rule { start: 154, end: 155 },
-    Rule { start: 155, end: 166 },
-    Rule { start: 166, end: 177 },
-    Rule { start: 177, end: 178 },
-    Rule { start: 178, end: 189 },
-    Rule { start: 189, end: 200 },
-    Rule { start: 200, end: 202 },
-    Rule { start: 202, end: 203 },
-    Rule { start: 203, end: 214 },
-    Rule { start: 214, end: 215 },
-    Rule { start: 215, end: 226 },
-    Rule { start: 226, end: 228 },
-    Rule { start: 228, end: 229 },
-    Rule { start: 229, end: 248 },
-    Rule { start: 248, end: 259 },
-    Rule { start: 259, end: 260 },
-    Rule { start: 260, end: 279 },
-    Rule { start: 279, end: 290 },
-    Rule { start: 290, end: 292 },
-    Rule { start: 292, end: 293 },
-    Rule { start: 293, end: 312 },
-    Rule { start: 312, end: 313 },
-    Rule { start: 313, end: 332 },
-    Rule { start: 332, end: 334 },
-    Rule { start: 334, end: 335 },
-    Rule { start: 335, end: 346 },
-    Rule { start: 346, end: 347 },
-    Rule { start: 347, end: 358 },
-    Rule { start: 358, end: 360 },
-    Rule { start: 360, end: 364 },
-    Rule { start: 364, end: 365 },
-    Rule { start: 365, end: 369 },
-    Rule { start: 369, end: 370 },
-    Rule { start: 370, end: 374 },
-    Rule { start: 374, end: 379 },
-    Rule { start: 379, end: 382 },
-    Rule { start: 382, end: 388 },
-    Rule { start: 388, end: 395 },
-    Rule { start: 395, end: 399 },
-    Rule { start: 399, end: 404 },
-    Rule { start: 404, end: 406 },
-    Rule { start: 406, end: 407 },
-    Rule { start: 407, end: 409 },
-    Rule { start: 409, end: 412 },
-    Rule { start: 412, end: 415 },
-    Rule { start: 415, end: 418 },
-    Rule { start: 418, end: 422 },
-    Rule { start: 422, end: 426 },
-    Rule { start: 426, end: 430 },
-    Rule { start: 430, end: 432 },
-    Rule { start: 432, end: 435 },
-    Rule { start: 435, end: 438 },
-    Rule { start: 438, end: 441 },
-    Rule { start: 441, end: 445 },
-    Rule { start: 445, end: 449 },
-    Rule { start: 449, end: 453 },
+    Rule {
+        start: 91,
+        end: 102,
+    },
+    Rule {
+        start: 102,
+        end: 121,
+    },
+    Rule {
+        start: 121,
+        end: 122,
+    },
+    Rule {
+        start: 122,
+        end: 133,
+    },
+    Rule {
+        start: 133,
+        end: 152,
+    },
+    Rule {
+        start: 152,
+        end: 154,
+    },
+    Rule {
+        start: 154,
+        end: 155,
+    },
+    Rule {
+        start: 155,
+        end: 166,
+    },
+    Rule {
+        start: 166,
+        end: 177,
+    },
+    Rule {
+        start: 177,
+        end: 178,
+    },
+    Rule {
+        start: 178,
+        end: 189,
+    },
+    Rule {
+        start: 189,
+        end: 200,
+    },
+    Rule {
+        start: 200,
+        end: 202,
+    },
+    Rule {
+        start: 202,
+        end: 203,
+    },
+    Rule {
+        start: 203,
+        end: 214,
+    },
+    Rule {
+        start: 214,
+        end: 215,
+    },
+    Rule {
+        start: 215,
+        end: 226,
+    },
+    Rule {
+        start: 226,
+        end: 228,
+    },
+    Rule {
+        start: 228,
+        end: 229,
+    },
+    Rule {
+        start: 229,
+        end: 248,
+    },
+    Rule {
+        start: 248,
+        end: 259,
+    },
+    Rule {
+        start: 259,
+        end: 260,
+    },
+    Rule {
+        start: 260,
+        end: 279,
+    },
+    Rule {
+        start: 279,
+        end: 290,
+    },
+    Rule {
+        start: 290,
+        end: 292,
+    },
+    Rule {
+        start: 292,
+        end: 293,
+    },
+    Rule {
+        start: 293,
+        end: 312,
+    },
+    Rule {
+        start: 312,
+        end: 313,
+    },
+    Rule {
+        start: 313,
+        end: 332,
+    },
+    Rule {
+        start: 332,
+        end: 334,
+    },
+    Rule {
+        start: 334,
+        end: 335,
+    },
+    Rule {
+        start: 335,
+        end: 346,
+    },
+    Rule {
+        start: 346,
+        end: 347,
+    },
+    Rule {
+        start: 347,
+        end: 358,
+    },
+    Rule {
+        start: 358,
+        end: 360,
+    },
+    Rule {
+        start: 360,
+        end: 364,
+    },
+    Rule {
+        start: 364,
+        end: 365,
+    },
+    Rule {
+        start: 365,
+        end: 369,
+    },
+    Rule {
+        start: 369,
+        end: 370,
+    },
+    Rule {
+        start: 370,
+        end: 374,
+    },
+    Rule {
+        start: 374,
+        end: 379,
+    },
+    Rule {
+        start: 379,
+        end: 382,
+    },
+    Rule {
+        start: 382,
+        end: 388,
+    },
+    Rule {
+        start: 388,
+        end: 395,
+    },
+    Rule {
+        start: 395,
+        end: 399,
+    },
+    Rule {
+        start: 399,
+        end: 404,
+    },
+    Rule {
+        start: 404,
+        end: 406,
+    },
+    Rule {
+        start: 406,
+        end: 407,
+    },
+    Rule {
+        start: 407,
+        end: 409,
+    },
+    Rule {
+        start: 409,
+        end: 412,
+    },
+    Rule {
+        start: 412,
+        end: 415,
+    },
+    Rule {
+        start: 415,
+        end: 418,
+    },
+    Rule {
+        start: 418,
+        end: 422,
+    },
+    Rule {
+        start: 422,
+        end: 426,
+    },
+    Rule {
+        start: 426,
+        end: 430,
+    },
+    Rule {
+        start: 430,
+        end: 432,
+    },
+    Rule {
+        start: 432,
+        end: 435,
+    },
+    Rule {
+        start: 435,
+        end: 438,
+    },
+    Rule {
+        start: 438,
+        end: 441,
+    },
+    Rule {
+        start: 441,
+        end: 445,
+    },
+    Rule {
+        start: 445,
+        end: 449,
+    },
+    Rule {
+        start: 449,
+        end: 453,
+    },
 ];
 
 /// Each rule from its last symbol to its first.

@@ -34,7 +34,12 @@ fn kind(byte: u8) -> u16
 }
 
 // Whether a header has a place for the next byte.
-fn take_byte(wide: bool, reader: &mut Reader, scanner: &mut Scanner, byte: u8) -> Result<bool, AllocError>
+fn take_byte(
+    wide: bool,
+    reader: &mut Reader,
+    scanner: &mut Scanner,
+    byte: u8,
+) -> Result<bool, AllocError>
     requires { reader.old.table ≡ rows_of wide }
     ensures table { reader.new.table ≡ rows_of wide }
     ensures taken { result ≡ Ok true → (w : List ℕ) → IsReading wide w reader.old.left scanner.old → IsReading wide (w ++ byte ∷ []) reader.new.left scanner.new }
@@ -68,7 +73,12 @@ fn take_end(wide: bool, reader: &mut Reader, scanner: &mut Scanner) -> Result<bo
 }
 
 // Reads all bytes of a header into what is kept of it.
-fn read_bytes(wide: bool, reader: &mut Reader, scanner: &mut Scanner, bytes: &[u8]) -> Result<(), HeaderError>
+fn read_bytes(
+    wide: bool,
+    reader: &mut Reader,
+    scanner: &mut Scanner,
+    bytes: &[u8],
+) -> Result<(), HeaderError>
     requires table { reader.old.table ≡ rows_of wide }
     requires reading { IsReading wide [] reader.old.left scanner.old }
     ensures ok { OnOk result (Says wide bytes.now (fields_of scanner.new)) }
@@ -92,7 +102,11 @@ fn read_bytes(wide: bool, reader: &mut Reader, scanner: &mut Scanner, bytes: &[u
 /// a last comma, and any number of spaces may follow it before the newline. Numbers may have any length. What is no header
 /// is refused at the first byte after which no header goes on, or at the end of the bytes.
 /// It takes memory for what the fields hold, for the bytes, and for what is left to be read.
-pub fn read_header_text(alloc: Global, wide: bool, bytes: &[u8]) -> Result<HeaderFields, HeaderError>
+pub fn read_header_text(
+    alloc: Global,
+    wide: bool,
+    bytes: &[u8],
+) -> Result<HeaderFields, HeaderError>
     ensures ok { IfOk result (Says wide bytes.now) }
     ensures refused { IfErr result (RefusedAs wide bytes.now) }
 {

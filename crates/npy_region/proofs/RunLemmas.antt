@@ -335,13 +335,13 @@ runs_end head region walk unit k count runs last part is_walk s is_count is_k c 
 
 -- ---- bounds
 
-pub run_length : (w : ℕ) (before after : List Run) (last next run : Run) (m : ℕ) → PutsRun head.width before last next after run → last.length ≤ m → run.length ≤ m + next.length
+pub run_length : (w : ℕ) (before after : List Run) (last next run : Run) (m : ℕ) → PutsRun w before last next after run → last.length ≤ m → run.length ≤ m + next.length
 run_length w before after last next run m puts h = elim puts [ inl x ↦ omega (arith, x.1.length_is) | inr x ↦ let e : run.length ≡ next.length = ap (λ (r : Run). r.length) x.1 in omega (arith, e) ]
 
-pub run_offset : (w : ℕ) (before after : List Run) (last next run : Run) (m : ℕ) → PutsRun head.width before last next after run → last.offset ≤ m → next.offset ≤ m → run.offset ≤ m
+pub run_offset : (w : ℕ) (before after : List Run) (last next run : Run) (m : ℕ) → PutsRun w before last next after run → last.offset ≤ m → next.offset ≤ m → run.offset ≤ m
 run_offset w before after last next run m puts h h' = elim puts [ inl x ↦ omega (arith, x.1.offset_is) | inr x ↦ let e : run.offset ≡ next.offset = ap (λ (r : Run). r.offset) x.1 in omega (arith, e) ]
 
-pub run_place : (w : ℕ) (before after : List Run) (last next run : Run) (m : ℕ) → PutsRun head.width before last next after run → last.place ≤ m → next.place ≤ m → run.place ≤ m
+pub run_place : (w : ℕ) (before after : List Run) (last next run : Run) (m : ℕ) → PutsRun w before last next after run → last.place ≤ m → next.place ≤ m → run.place ≤ m
 run_place w before after last next run m puts h h' = elim puts [ inl x ↦ omega (arith, x.1.place_is) | inr x ↦ let e : run.place ≡ next.place = ap (λ (r : Run). r.place) x.1 in omega (arith, e) ]
 
 pub unit_fits : (b : Bool) (walk : Walk) (unit count : ℕ) → Splits b walk unit → count ≡ count_of walk → 0 < count → unit ≤ count

@@ -36,12 +36,12 @@ pub(crate) fn read_cells<S: Store>(
         (λ bytes. out.new.items ≡ out.old.items ++ first_cells head.now.width head.now.big count (drop offset bytes))) }
     ensures given { OnOk result (GivesOf (S.names store.old) file (S.gave store.old) (S.gave store.new)
         (λ bytes. offset + head.now.width * count ≤ length bytes
-            → out.new.items ≡ out.old.items ++ first_cells head.now.width head.now.big count (drop offset bytes))) }
+        → out.new.items ≡ out.old.items ++ first_cells head.now.width head.now.big count (drop offset bytes))) }
     ensures size { OnOk result (length out.new.items ≡ length out.old.items + count) }
     ensures cause { IfErr result IsFaultOrMemory }
     ensures fault { IsErrOf result NpyError.ReadFault → Rose (S.count store.old) (S.count store.new) }
 {
-    let width = u64::from(head.width);
+    let width = head.width as u64;
     let most = buffer.len() as u64 / width;
     let mut done = 0;
     while done < count {

@@ -1,5 +1,5 @@
 // How elements of each type are read, with a loop of its own for each.
-ghost use Rattle.std.specs.Prelude.{◌≡◌, ◌<◌, ◌++◌, ◌/◌, true, false, length, OnOk};
+ghost use Rattle.std.specs.Prelude.{◌≡◌, ◌≤◌, ◌<◌, ◌++◌, ◌/◌, true, false, length, OnOk};
 ghost use Rattle.npy_codec.specs.Npy.{wide_cell};
 ghost use Rattle.npy_codec.specs.Regions.{IsWidth};
 ghost use Rattle.npy_region.specs.Cells.{first_cells};
@@ -10,48 +10,64 @@ use std::alloc::AllocError;
 // Signed integers of so many bytes, with their signs.
 trait Element<const N: usize> {
     fn from_little(bytes: [u8; N]) -> i64
-        ensures { result ≡ wide_cell N false bytes };
+        ensures { result ≡ wide_cell N false bytes.entry };
 
     fn from_big(bytes: [u8; N]) -> i64
-        ensures { result ≡ wide_cell N true bytes };
+        ensures { result ≡ wide_cell N true bytes.entry };
 }
 
 impl Element<8> for i64 {
-    fn from_little(bytes: [u8; 8]) -> i64 {
+    fn from_little(bytes: [u8; 8]) -> i64
+        ensures { result ≡ wide_cell 8 false bytes }
+    {
         u64::from_le_bytes(bytes).cast_signed()
     }
 
-    fn from_big(bytes: [u8; 8]) -> i64 {
+    fn from_big(bytes: [u8; 8]) -> i64
+        ensures { result ≡ wide_cell 8 true bytes }
+    {
         u64::from_be_bytes(bytes).cast_signed()
     }
 }
 
 impl Element<4> for i32 {
-    fn from_little(bytes: [u8; 4]) -> i64 {
+    fn from_little(bytes: [u8; 4]) -> i64
+        ensures { result ≡ wide_cell 4 false bytes }
+    {
         i64::from(u32::from_le_bytes(bytes).cast_signed())
     }
 
-    fn from_big(bytes: [u8; 4]) -> i64 {
+    fn from_big(bytes: [u8; 4]) -> i64
+        ensures { result ≡ wide_cell 4 true bytes }
+    {
         i64::from(u32::from_be_bytes(bytes).cast_signed())
     }
 }
 
 impl Element<2> for i16 {
-    fn from_little(bytes: [u8; 2]) -> i64 {
+    fn from_little(bytes: [u8; 2]) -> i64
+        ensures { result ≡ wide_cell 2 false bytes }
+    {
         i64::from(u16::from_le_bytes(bytes).cast_signed())
     }
 
-    fn from_big(bytes: [u8; 2]) -> i64 {
+    fn from_big(bytes: [u8; 2]) -> i64
+        ensures { result ≡ wide_cell 2 true bytes }
+    {
         i64::from(u16::from_be_bytes(bytes).cast_signed())
     }
 }
 
 impl Element<1> for i8 {
-    fn from_little(bytes: [u8; 1]) -> i64 {
+    fn from_little(bytes: [u8; 1]) -> i64
+        ensures { result ≡ wide_cell 1 false bytes }
+    {
         i64::from(u8::from_le_bytes(bytes).cast_signed())
     }
 
-    fn from_big(bytes: [u8; 1]) -> i64 {
+    fn from_big(bytes: [u8; 1]) -> i64
+        ensures { result ≡ wide_cell 1 true bytes }
+    {
         i64::from(u8::from_be_bytes(bytes).cast_signed())
     }
 }
@@ -61,7 +77,7 @@ fn append_little<const N: usize, T: Element<N>>(
     bytes: &[u8],
     out: &mut Vec<i64>,
 ) -> Result<(), AllocError>
-    requires { 0 < N }
+    requires { (0 < N) × (N ≤ 8) }
     ensures { OnOk result (out.new.items ≡ out.old.items ++ first_cells N false (length bytes.now / N) bytes.now) }
 {
     let (elements, _) = bytes.as_chunks::<N>();
@@ -79,7 +95,7 @@ fn append_big<const N: usize, T: Element<N>>(
     bytes: &[u8],
     out: &mut Vec<i64>,
 ) -> Result<(), AllocError>
-    requires { 0 < N }
+    requires { (0 < N) × (N ≤ 8) }
     ensures { OnOk result (out.new.items ≡ out.old.items ++ first_cells N true (length bytes.now / N) bytes.now) }
 {
     let (elements, _) = bytes.as_chunks::<N>();
@@ -93,11 +109,7 @@ fn append_big<const N: usize, T: Element<N>>(
 }
 
 // Appends the elements of these bytes, which are of the head's type.
-pub(crate) fn append_cells(
-    head: &Head,
-    bytes: &[u8],
-    out: &mut Vec<i64>,
-) -> Result<(), AllocError>
+pub(crate) fn append_cells(head: &Head, bytes: &[u8], out: &mut Vec<i64>) -> Result<(), AllocError>
     requires { IsWidth head.now.width }
     ensures { OnOk result (out.new.items ≡ out.old.items ++ first_cells head.now.width head.now.big (length bytes.now / head.now.width) bytes.now) }
 {

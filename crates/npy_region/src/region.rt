@@ -36,7 +36,7 @@ fn bytes_needed(head: &Head, region: &Region, walk: &mut RegionWalk) -> u64
     if count == 0 {
         return 0;
     }
-    u64::from(head.width) * (walk.place(count - 1) + 1)
+    head.width as u64 * (walk.place(count - 1) + 1)
 }
 
 // Appends the region's elements in the order in which the file has them, row by row.
@@ -71,7 +71,7 @@ fn read_rows<S: Store>(
     let count = walk.len();
     let row = walk.row_len();
     for k in 0..count / row {
-        let offset = head.data_at + u64::from(head.width) * walk.place(k * row);
+        let offset = head.data_at + head.width as u64 * walk.place(k * row);
         read_cells(store, file, head, offset, row, buffer, cells)?;
     }
     Ok(())

@@ -93,7 +93,7 @@ fn unit_run(
     ensures offset { result.offset ≤ 2 ^ 35 }
     ensures place { result.place ≤ 2 ^ 35 }
 {
-    let width = u64::from(head.width);
+    let width = head.width as u64;
     Run {
         offset: head.data_at + width * walk.place(element),
         length: width * unit,
@@ -130,7 +130,7 @@ fn push_runs(
     if count == 0 {
         return Ok(());
     }
-    let width = u64::from(head.width);
+    let width = head.width as u64;
     let unit = unit_len(head.fortran, walk);
     let mut last = unit_run(head, walk, targets, 0, unit);
     for k in 1..count / unit {

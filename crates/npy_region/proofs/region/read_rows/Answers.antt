@@ -33,8 +33,16 @@ place-requires g c =
     subst (λ (w : Walk). k * row < count_of w) (sym c.loop-k.invariant.walk) (subst (λ (n : ℕ). k * row < n) c.len-count.ensures.count starts)
 
 pub read_cells-requires-clause-fits : goal.read_cells-requires-clause-fits
-read_cells-requires-clause-fits g c = omega (arith, few_times c.args.head.now.width c.place.result c.requires.width, few_times c.args.head.now.width c.row_len-row.result c.requires.width,
-    c.place.ensures.limit, c.requires.near, row_fits c.args.walk.now c.row_len-row.result c.requires.some c.row_len-row.ensures, c.len-count.ensures.count, c.len-count.ensures.limit)
+read_cells-requires-clause-fits g c = omega (
+  arith,
+  few_times c.args.head.now.width c.place.result c.requires.width,
+  few_times c.args.head.now.width c.row_len-row.result c.requires.width,
+  c.place.ensures.limit,
+  c.requires.near,
+  row_fits c.args.walk.now c.row_len-row.result c.requires.some c.row_len-row.ensures,
+  c.len-count.ensures.count,
+  c.len-count.ensures.limit,
+)
 
 pub read_cells-requires-clause-room : goal.read_cells-requires-clause-room
 read_cells-requires-clause-room g c =

@@ -75,3 +75,10 @@ unit_run-next-requires-clause-inside c =
 pub unit_run-next-requires-clause-block : goal.unit_run-next-requires-clause-block
 unit_run-next-requires-clause-block c = same_lengths c.args.head.now.fortran c.args.head.now.shape c.args.region.now.lengths c.args.region.now c.loop-k.walk c.loop-k.targets c.loop-k.invariant.walk
     (c.loop-k.invariant.targets ∙ c.unit_run-last.ensures.targets ∙ c.requires.targets) refl
+
+pub put_run-requires-clause-next : goal.put_run-requires-clause-next
+put_run-requires-clause-next c =
+    let e : c.unit_run-next.result.length ≡ c.args.head.now.width * c.unit_len-unit.result = ap (λ (r : Run). r.length) c.unit_run-next.ensures.run in
+    let some : 0 < c.len-count.result = omega arith in
+    let unit = unit_fits c.args.head.now.fortran c.args.walk.now c.unit_len-unit.result c.len-count.result c.unit_len-unit.ensures c.len-count.ensures.count some in
+    omega (arith, e, few_times c.args.head.now.width c.unit_len-unit.result c.requires.width, unit, c.len-count.ensures.limit)

@@ -10,5 +10,5 @@ loop-region-preserved c =
           c.in_ok-push.ensures.items c.loop-region.invariant.count c.loop-region-test.true c.region-item.is c.loop-region.invariant.runs c.in_ok-runs.ensures h;
     }
 
-pub region_runs-runs-requires-clause-width : goal.region_runs-runs-requires-clause-width
-region_runs-runs-requires-clause-width c = inr (inr (inr c.requires.width))
+pub region_runs-requires-clause-width : goal.region_runs-requires-clause-width
+region_runs-requires-clause-width c = inr (inr (inr c.requires.width))

@@ -6,4 +6,4 @@ use Rattle.npy_region.proofs.kernels.fn.append_big.map+FnOnce.call_once.Goals as
 pub returns : goal.returns
 returns g c =
     let fits : SFits w64 c.map.result = search rules in
-    (tt, to_z-of_z w64 c.map.result fits ∙ c.map.ensures)
+    (c.args.arg1, to_z-of_z w64 c.map.result fits ∙ c.map.ensures)
