@@ -247,7 +247,7 @@ below-right p named x place boxes w files later right h = right h.after h.held
 
 -- ## A block that was put behind those that wait
 
-waiting-is : (P : Waiting → Type 0) (w new : Waiting) → new.place ≡ w.place → new.regions ≡ w.regions → new.blocks ≡ w.blocks → P w → P new
+pub waiting-is : (P : Waiting → Type 0) (w new : Waiting) → new.place ≡ w.place → new.regions ≡ w.regions → new.blocks ≡ w.blocks → P w → P new
 waiting-is P w new place regions blocks h =
     subst (λ bs. P (record { place = new.place; regions = new.regions; blocks = bs })) (sym blocks)
     (subst (λ rs. P (record { place = new.place; regions = rs; blocks = w.blocks })) (sym regions) (subst (λ n. P (record { place = n; regions = w.regions; blocks = w.blocks })) (sym place) h))

@@ -1,5 +1,6 @@
 -- Blocks that wait to be written, and what the files hold once they are.
-use Rattle.std.specs.Prelude.{◌≡◌, ◌≢◌, ◌⊎◌, ◌<◌, ◌++◌, ℕ, List, [], ◌∷◌, length, Option}
+use Rattle.std.specs.Prelude.{◌≡◌, ◌≢◌, ◌⊎◌, ◌<◌, ◌≤◌, ◌++◌, ℕ, List, [], ◌∷◌, length, Option}
+use Rattle.std.specs.List.{insert}
 use Rattle.std.specs.declared.sync.Arc.{Arc}
 use Rattle.std.specs.declared.alloc.Global.{Global}
 use Rattle.nd_shape.specs.Block.{Array}
@@ -21,6 +22,14 @@ pub record Waiting : Type 0 where
 
 abbrev pub waiting_of : Group → Waiting
 waiting_of g = record { place = g.place; regions = g.regions.items; blocks = g.blocks.items }
+
+-- one more block with its region, at the same place among the others
+pub record Inserts (box : Box) (block : Arc Array Global) (old new : Waiting) : Type 0 where
+  pub at : ℕ
+  pub within : at ≤ length old.regions
+  pub place_is : new.place ≡ old.place
+  pub regions_are : new.regions ≡ insert old.regions at box
+  pub blocks_are : new.blocks ≡ insert old.blocks at block
 
 -- the regions lie in the array of the save, and the blocks have their lengths
 pub record IsGroup (p : Plan) (w : Waiting) : Type 0 where

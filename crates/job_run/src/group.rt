@@ -1,12 +1,13 @@
 // Saved blocks that wait for those beside them, so that a row of all of them is written at once.
-ghost use Rattle.std.specs.Prelude.{◌≡◌, ◌<◌, ◌∷◌, ◌++◌, ℕ, [], List, length, OnOk, OnErr, IsErrOf, IsTrue};
+ghost use Rattle.std.specs.Prelude.{◌≡◌, ◌<◌, ◌≤◌, ◌∷◌, ◌++◌, ℕ, [], List, length, drop, OnOk, OnErr, IsErrOf, IsTrue};
 ghost use Rattle.std.specs.Arc.{arc_value};
+ghost use Rattle.std.specs.List.{insert};
 ghost use Rattle.array_expr.specs.Node.{shape_at};
 ghost use Rattle.nd_shape.specs.Region.{Box, IsPart};
 ghost use Rattle.saved_files.specs.Filling.{HoldsBox};
 ghost use Rattle.saved_files.specs.Saving.{saving_at};
 ghost use Rattle.job_run.specs.Evaluating.{array_at, node_at, AreOpenFor, AreSameFiles, FilesHold, FilesRight, HasFailed};
-ghost use Rattle.job_run.specs.Grouping.{AddsBox, FilesHeld, IsGroup, waiting_of};
+ghost use Rattle.job_run.specs.Grouping.{AddsBox, FilesHeld, Inserts, IsGroup, waiting_of};
 ghost use Rattle.job_run.specs.Jobs.{plan_of};
 ghost use Rattle.job_run.specs.Plan.{IsRunnable};
 ghost use Rattle.job_run.specs.Values.{Named};
@@ -27,7 +28,8 @@ const ROW: u64 = 8192;
 // Nor where they have so many elements in all.
 const MOST: u64 = 4194304;
 
-/// Blocks of the node of one save, which are still to be written, and the region of each.
+/// Blocks of the node of one save, which are still to be written, and the region of each. Which blocks wait together, and how long, no clause says: what a
+/// file holds doesn't go by it.
 #[derive(Drop)]
 pub struct Group {
     pub place: usize,
@@ -61,6 +63,42 @@ fn extent(region: &Region) -> (u64, u64) {
     (row, all)
 }
 
+// Whether a region begins before another one of its array, in row-major order. No memory.
+fn precedes(region: &Region, other: &Region) -> bool {
+    for (here, there) in region.starts().iter().zip(other.starts()) {
+        if here != there {
+            return here < there;
+        }
+    }
+    false
+}
+
+/// Whether a block of this region is to wait for others, in an array with rows of this length: it has elements enough, few in a row, and others may stand
+/// beside it. No memory.
+pub fn may_wait(region: &Region, width: u64) -> bool {
+    let (row, all) = extent(region);
+    all >= LEAST && row < ROW && row < width
+}
+
+// Puts an element at a place among others. Where no memory is left it is let go.
+fn put_at<T: Drop>(items: &mut Vec<T>, place: usize, item: T) -> Result<(), AllocError>
+    requires { place ≤ length items.old.items }
+    ensures { OnOk result (items.new.items ≡ insert items.old.items place item) }
+{
+    items.insert(place, item)?;
+    Ok(())
+}
+
+// Lets the first elements go, so many.
+fn let_go<T: Drop>(items: &mut Vec<T>, count: usize)
+    requires { count ≤ length items.old.items }
+    ensures { items.new.items ≡ drop count items.old.items }
+{
+    let left = items.len() - count;
+    items.rotate_left(count);
+    items.truncate(left);
+}
+
 impl Group {
     /// No blocks. No memory.
     pub fn new(alloc: Global) -> Group
@@ -87,19 +125,74 @@ impl Group {
         }
     }
 
-    // Whether nothing more is to wait with these blocks. No memory.
-    fn is_full(&self) -> bool {
+    /// How many blocks stand side by side, from the first on. No memory.
+    pub fn front(&self) -> usize
+        ensures within { result ≤ length self.now.regions.items }
+        ensures some { result ≡ 0 → self.now.regions.items ≡ [] }
+    {
+        let regions = self.regions.as_slice();
+        for next in 1..regions.len() {
+            if !is_beside(&regions[next - 1], &regions[next]) {
+                return next;
+            }
+        }
+        regions.len()
+    }
+
+    /// Whether nothing more is to wait with these blocks, of which the first stand side by side, so many. No memory.
+    pub fn is_full(&self, front: usize) -> bool {
         let mut row: u64 = 0;
         let mut all: u64 = 0;
-        for region in &self.regions {
+        for (place, region) in self.regions.as_slice().iter().enumerate() {
             let (wide, many) = extent(region);
-            row = row.saturating_add(wide);
+            if place < front {
+                row = row.saturating_add(wide);
+            }
             all = all.saturating_add(many);
             if many < LEAST {
                 return true;
             }
         }
         row >= ROW || all >= MOST
+    }
+
+    // Where a region stands among those that wait, in row-major order. No memory.
+    fn place_of(&self, region: &Region) -> usize
+        ensures { result ≤ length self.now.regions.items }
+    {
+        let regions = self.regions.as_slice();
+        for behind in 0..regions.len() {
+            let place = regions.len() - behind;
+            if !precedes(region, &regions[place - 1]) {
+                return place;
+            }
+        }
+        0
+    }
+
+    /// One more block, put among those that wait where it stands in row-major order.
+    ///
+    /// # Errors
+    /// Where no memory is left: the group is no longer one of regions with their blocks then.
+    pub fn insert(&mut self, region: Region, block: Arc<Block>) -> Result<(), AllocError>
+        requires { length self.old.blocks.items ≡ length self.old.regions.items }
+        ensures { OnOk result (Inserts region block (waiting_of self.old) (waiting_of self.new)) }
+    {
+        let place = self.place_of(&region);
+        put_at(&mut self.regions, place, region)?;
+        put_at(&mut self.blocks, place, block)
+    }
+
+    /// Lets the first blocks go, so many.
+    pub fn let_go(&mut self, count: usize)
+        requires within { count ≤ length self.old.regions.items }
+        requires blocks { length self.old.blocks.items ≡ length self.old.regions.items }
+        ensures place { self.new.place ≡ self.old.place }
+        ensures regions { self.new.regions.items ≡ drop count self.old.regions.items }
+        ensures blocks { self.new.blocks.items ≡ drop count self.old.blocks.items }
+    {
+        let_go(&mut self.regions, count);
+        let_go(&mut self.blocks, count);
     }
 
     // One more block.
@@ -199,7 +292,7 @@ fn write_full_group<F: OutFile>(
     ensures kept { OnOk result ((k : ℕ) → k < length files.old → (saving_at files.new k).faults ≡ (saving_at files.old k).faults) }
     ensures failed { IsErrOf result OpenFault.Failed → HasFailed files.new }
 {
-    if !group.is_full() {
+    if !group.is_full(group.regions.len()) {
         return Ok(());
     }
     write_group(alloc, files, group, job)?;

@@ -24,6 +24,7 @@ pub use blocks::{Halt, halt_at, laws_hold};
 pub use check::is_runnable;
 pub use create::create_files;
 pub use ends::{Ended, FileError};
+pub use group::{Group, may_wait};
 pub use inputs::{Inputs, open_inputs};
 pub use job_plan::{Job, Save};
 pub use lines::saved_lines;

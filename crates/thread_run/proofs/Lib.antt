@@ -7,6 +7,8 @@ pub mod Saved
 pub mod SaverEnds
 pub mod SaverOpen
 pub mod Serves
+pub mod Steps
 pub mod Disks
 pub mod Veiled
+pub mod Waits
 pub mod Writes

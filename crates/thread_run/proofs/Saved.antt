@@ -71,10 +71,12 @@ module _ (p : Plan) (first last : Saves) (created_for : AreOpenFor p first.files
 module _ (p : Plan) (named : Named) (told : Bool) (first last : Saves) (old mid new : Files) (r : IsServed p named told first last old mid new) (created : mid.created ≡ raised_by (names_saved p) old.created) where
   -- all was given and written
   pub all-served : {A B C E F G : Type 0} (keys : List ℕ) (end : Result A E) (given : Result B F) (written : Result C G) → keys ≡ wanted_of p → OnOk end (IsOk given) → OnOk end (IsOk written) → OnOk given (All (λ k. had_in last.had k ≡ true) keys) →
-      OnOk written (last.fault ≡ None) → OnOk end (ServesAll p named (IsTrue told) old new)
-  all-served keys end given written are gave wrote had sound =
+      OnOk written (last.fault ≡ None) → (last.fault ≡ None → length last.waiting.regions ≡ 0) → OnOk end (ServesAll p named (IsTrue told) old new)
+  all-served keys end given written are gave wrote had sound none =
       let H : List ℕ → Type 0 = λ ks. All (λ k. had_in last.had k ≡ true) ks in
-      both-ok end given written (ServesAll p named (IsTrue told) old new) gave wrote (λ g s. served-all p named told first last old mid new r (subst H are (ok-holds given (H keys) g had)) (ok-holds written (last.fault ≡ None) s sound) created)
+      both-ok end given written (ServesAll p named (IsTrue told) old new) gave wrote (λ g s.
+      let whole : last.fault ≡ None = ok-holds written (last.fault ≡ None) s sound in
+      served-all p named told first last old mid new r (subst H are (ok-holds given (H keys) g had)) whole (none whole) created)
 
   -- it wasn't
   pub part-served : {A B C : Type 0} (reads writes : Type 0) (facts : LabelFacts Array) (keys : List ℕ) (end : Result A Ended) (given : Result B RunStatus) (written : Result C OpenFault) → facts ≡ label told named (tasks_of p) → keys ≡ wanted_of p → IfErr given (IsWhy facts keys reads) →

@@ -1,5 +1,5 @@
 -- What the files of a plan's saves are in the end, of which blocks were written as they came.
-use Rattle.std.proofs.Common.{◌≡◌, ℕ, ◌<◌, Bool, true, false, List, [], length, get_or, refl, ap, ap₂, sym, ◌∙◌, subst, arith, Option, Some, None, inr}
+use Rattle.std.proofs.Common.{◌≡◌, ℕ, ◌<◌, Bool, true, false, List, [], length, get_or, refl, ap, ap₂, sym, ◌∙◌, subst, arith, Option, Some, None, inl, inr}
 use Rattle.std.specs.Prelude.{All, IfSome, IsSome, IsTrue, bytes_eq, is_some, slice_index_or}
 use Rattle.std.proofs.lemmas.List.{get_or-map}
 use Rattle.std.proofs.lemmas.Option.{same_Some}
@@ -41,6 +41,7 @@ use Rattle.thread_run.specs.Reports.{label}
 use Rattle.thread_run.specs.Saver.{AreSaved, HasBoxes, IsAmong, IsFitted, IsLabelOf, IsMadeOf, Saves, SavesOn, had_in}
 use Rattle.thread_run.specs.Serving.{ServesAll}
 use Rattle.thread_run.proofs.SaverOpen.{keys-small, saves-known}
+use Rattle.thread_run.proofs.Waits.{waits-none}
 use Rattle.job_run.proofs.Creating.{count_names}
 
 -- ## A block of a key
@@ -85,20 +86,26 @@ covers layout boxes h i inside =
 
 -- ## One file
 
-module _ (facts : LabelFacts Array) (layout : List (List ℕ)) (keys : List ℕ) (had : List Bool) (fault : Option OpenFault) (a : Array) (made : IsMadeOf facts layout keys a) where
+module _ (facts : LabelFacts Array) (s : Saves) (k : ℕ) (a : Array) (made : IsMadeOf facts (layout_at s.wanted.layouts k) (keys_at s.wanted.saved k) a) where
   abbrev AreHad : List ℕ → Type 0
-  AreHad bytes = (a : Array) → IsMadeOf facts layout keys a → HasBoxes layout keys had fault a bytes
+  AreHad bytes = (a : Array) → IsMadeOf facts (layout_at s.wanted.layouts k) (keys_at s.wanted.saved k) a → HasBoxes s k a bytes
 
   right-file : (c : Content) → OnTold c AreHad → OnTold c (λ bytes. IsPart bytes (bytes_of a))
   right-file (Told bytes) h = let boxes = h a made in boxes.filling.part
   right-file (Untold size) h = tt
 
-  whole-file : (c : Content) → fault ≡ None → length keys ≡ blocks layout → ((n : ℕ) → n < length keys → had_in had (slice_index_or keys n 0) ≡ true) → OnTold c AreHad → OnTold c (λ bytes. bytes ≡ bytes_of a)
-  whole-file (Told bytes) sound count all h =
-      let here : HasBoxes layout keys had fault a bytes = h a made in
-      let cover : Cover (lengths layout) here.boxes = covers layout here.boxes (λ n lt. here.all sound n (omega (arith, lt, count)) (all n (omega (arith, lt, count)))) in
+  whole-file : (c : Content) → s.fault ≡ None → length s.waiting.regions ≡ 0 → length (keys_at s.wanted.saved k) ≡ blocks (layout_at s.wanted.layouts k) →
+      ((n : ℕ) → n < length (keys_at s.wanted.saved k) → had_in s.had (slice_index_or (keys_at s.wanted.saved k) n 0) ≡ true) → OnTold c AreHad → OnTold c (λ bytes. bytes ≡ bytes_of a)
+  whole-file (Told bytes) sound none count all h =
+      let layout = layout_at s.wanted.layouts k in
+      let here : HasBoxes s k a bytes = h a made in
+      let there : (n : ℕ) → n < length (keys_at s.wanted.saved k) → IsAmong here.boxes (region (layout_at s.wanted.layouts k) n) = λ n lt. elim (here.all sound n lt (all n lt)) [
+        | inl is ↦ is
+        | inr waits ↦ absurd (waits-none s.waiting k (region (layout_at s.wanted.layouts k) n) none waits)
+      ] in
+      let cover : Cover (lengths (layout_at s.wanted.layouts k)) here.boxes = covers layout here.boxes (λ n lt. there n (omega (arith, lt, count))) in
       filled-whole a here.boxes bytes (made.lengths_are.count ∙ ap elements (sym made.lengths_are.shape)) here.filling (subst (λ ns. Cover ns here.boxes) (sym made.lengths_are.shape) cover)
-  whole-file (Untold size) sound count all h = tt
+  whole-file (Untold size) sound none count all h = tt
 
 -- ## All files
 
@@ -182,7 +189,7 @@ module _ (p : Plan) (named : Named) (told : Bool) (s : Saves) (runs : IsRunnable
   -- each file is right as far as it is written, however many keys were had, and whatever has failed
   pub files-right : IsTrue told → FilesRight p named s.files
   files-right t k lt =
-      right-file facts (layout_at s.wanted.layouts k) (keys_at s.wanted.saved k) s.had s.fault (array_at p named k) (made-of t k lt) (saving_at s.files k).content (saved.filled k (omega (arith, lt, number)))
+      right-file facts s k (array_at p named k) (made-of t k lt) (saving_at s.files k).content (saved.filled k (omega (arith, lt, number)))
 
   -- ## Where all was had
 
@@ -195,10 +202,10 @@ module _ (p : Plan) (named : Named) (told : Bool) (s : Saves) (runs : IsRunnable
         let lr : c < length (keys_at rows k) = omega (arith, lc, ap (λ (ss : List (List ℕ)). length (keys_at ss k)) wanted.saved_is) in
         subst H (sym wanted.saved_is) (each-joined (λ key. had_in s.had key ≡ true) rows (each (λ key. had_in s.had key ≡ true) (wanted_of p) (λ i l. all i 0 l)) k c lk lr)
 
-    pub files-whole : IsTrue told → s.fault ≡ None → FilesWhole p named s.files
-    files-whole t sound k lt =
+    pub files-whole : IsTrue told → s.fault ≡ None → length s.waiting.regions ≡ 0 → FilesWhole p named s.files
+    files-whole t sound none k lt =
         let known = saves-known p named facts s.wanted runs laws known-label wanted in
-        whole-file facts (layout_at s.wanted.layouts k) (keys_at s.wanted.saved k) s.had s.fault (array_at p named k) (made-of t k lt) (saving_at s.files k).content sound (known.blocks_are k lt).count
+        whole-file facts s k (array_at p named k) (made-of t k lt) (saving_at s.files k).content sound none (known.blocks_are k lt).count
         (λ c lc. had-at k c lt lc) (saved.filled k (omega (arith, lt, number)))
 
     -- no needed block lacks an element
@@ -241,11 +248,11 @@ module _ (p : Plan) (named : Named) (told : Bool) (created s : Saves) (old mid n
   pub served-values : All (λ k. had_in s.had k ≡ true) (wanted_of p) → IsTrue told → MeetsNone p named
   served-values all t = none-met p named told s r.runs r.laws wanted-still r.saved all t (r.on.keys_are ∙ r.keys)
 
-  -- and nothing failed
-  pub served-all : All (λ k. had_in s.had k ≡ true) (wanted_of p) → s.fault ≡ None → mid.created ≡ raised_by (names_saved p) old.created → ServesAll p named (IsTrue told) old new
-  served-all all sound created_is = record {
+  -- nothing failed, and nothing waits
+  pub served-all : All (λ k. had_in s.had k ≡ true) (wanted_of p) → s.fault ≡ None → length s.waiting.regions ≡ 0 → mid.created ≡ raised_by (names_saved p) old.created → ServesAll p named (IsTrue told) old new
+  served-all all sound none created_is = record {
     values = served-values all;
-    whole = λ t tells. given-whole p named created.files s.files old mid new given (files-whole p named told s r.runs r.laws wanted-still r.saved all t sound) tells;
+    whole = λ t tells. given-whole p named created.files s.files old mid new given (files-whole p named told s r.runs r.laws wanted-still r.saved all t sound none) tells;
     left = served-left;
     created = r.gives.created ∙ created_is;
   }

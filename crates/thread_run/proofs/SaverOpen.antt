@@ -1,10 +1,13 @@
 -- What is known of a plan's saved keys when its files are opened, and that nothing is had of them.
 use Rattle.std.proofs.Common.{◌≡◌, ℕ, ◌<◌, Bool, true, false, List, [], length, refl, ap, sym, ◌∙◌, subst, arith, Option, Some, None, inl}
 use Rattle.std.specs.Prelude.{replicate, slice_index_or}
+use Rattle.std.specs.declared.sync.Arc.{Arc}
+use Rattle.std.specs.declared.alloc.Global.{Global}
 use Rattle.std.proofs.lemmas.List.{get_or-replicate, length-replicate}
 use Rattle.io_edge.specs.Content.{Content, Told, Untold, OnTold}
 use Rattle.io_edge.specs.View.{Files}
 use Rattle.nd_shape.specs.Block.{Array}
+use Rattle.nd_shape.specs.Region.{Box}
 use Rattle.array_expr.specs.Node.{shape_at}
 use Rattle.block_kernels.specs.Kernels.{result_shape}
 use Rattle.chunk_layout.specs.Layouts.{blocks, lengths}
@@ -21,9 +24,11 @@ use Rattle.job_run.specs.Plan.{IsRunnable, Plan, nodes_saved}
 use Rattle.job_run.specs.Saving.{HasSaves}
 use Rattle.job_run.specs.Values.{Named, tasks_of}
 use Rattle.job_run.specs.Wanted.{IsWantedOf}
+use Rattle.job_run.specs.Grouping.{Waiting}
 use Rattle.job_run.proofs.SavedBlocks.{count-saves, has-saves}
 use Rattle.thread_run.specs.Reports.{label}
-use Rattle.thread_run.specs.Saver.{AreSaved, AreSavedKeys, HasBoxes, HasNone, IsLabelOf, IsMadeOf, had_in}
+use Rattle.thread_run.specs.Saver.{AreSaved, AreSavedKeys, HasBoxes, IsLabelOf, IsMadeOf, Saves, had_in}
+use Rattle.thread_run.proofs.Waits.{waiting-none}
 
 -- what fits a key has the lengths of its task's block
 fits-shape : (p : Plan) (facts : LabelFacts Array) → IsLabelOf p facts → (key : ℕ) (b : Array) → BlockFits facts key b → b.shape ≡ result_shape (task_at (tasks_of p) key).spec
@@ -70,18 +75,21 @@ module _ (p : Plan) (named : Named) (facts : LabelFacts Array) (w : Wanted) (run
   not-had true is never = cc
   not-had false is never = cc
 
-  fresh-boxes : (layout : List (List ℕ)) (keys : List ℕ) (had : List Bool) (dims : List ℕ) (c : Content) → lengths layout ≡ dims → ((n : ℕ) → n < length keys → had_in had (slice_index_or keys n 0) ≡ false) →
-      OnTold c (λ bytes. (a : Array) → IsOf dims a → IsFilling a [] bytes) → OnTold c (λ bytes. (a : Array) → IsMadeOf facts layout keys a → HasBoxes layout keys had None a bytes)
-  fresh-boxes layout keys had dims (Told bytes) same never filling = λ a made. record {
+  fresh-boxes : (s : Saves) (k : ℕ) (dims : List ℕ) (c : Content) → lengths (layout_at s.wanted.layouts k) ≡ dims →
+      ((n : ℕ) → n < length (keys_at s.wanted.saved k) → had_in s.had (slice_index_or (keys_at s.wanted.saved k) n 0) ≡ false) →
+      OnTold c (λ bytes. (a : Array) → IsOf dims a → IsFilling a [] bytes) → OnTold c (λ bytes. (a : Array) → IsMadeOf facts (layout_at s.wanted.layouts k) (keys_at s.wanted.saved k) a → HasBoxes s k a bytes)
+  fresh-boxes s k dims (Told bytes) same never filling = λ a made. record {
     boxes = [];
     filling = filling a (subst (λ ns. IsOf ns a) same made.lengths_are);
-    all = λ e n lt was. absurd (not-had (had_in had (slice_index_or keys n 0)) was (never n lt));
+    all = λ e n lt was. absurd (not-had (had_in s.had (slice_index_or (keys_at s.wanted.saved k) n 0)) was (never n lt));
   }
-  fresh-boxes layout keys had dims (Untold size) same never filling = tt
+  fresh-boxes s k dims (Untold size) same never filling = tt
 
-  pub none-saved : (keys : ℕ) (had : List Bool) (tells : Bool) (files : List Saving) → keys ≡ length (tasks_of p) → had ≡ replicate keys false → AreOpenFor p files → AreFresh p tells files → AreSaved facts (record { files = files; had = had; fault = None; wanted = w })
-  none-saved keys had tells files many none open_is fresh =
+  pub none-saved : (keys : ℕ) (had : List Bool) (tells : Bool) (files : List Saving) (g : Waiting) → keys ≡ length (tasks_of p) → had ≡ replicate keys false → AreOpenFor p files → AreFresh p tells files → g.regions ≡ [] → g.blocks ≡ [] →
+      AreSaved facts (record { files = files; had = had; fault = None; wanted = w; waiting = g })
+  none-saved keys had tells files g many none open_is fresh empty without =
       let all : length had ≡ keys = ap length none ∙ length-replicate keys false in
+      let n : length g.regions ≡ 0 = ap (λ (l : List Box). length l) empty in
       record {
         keys_are = keys-known;
         small = λ k c lk lc. omega (arith, keys-small k c lk lc, all, many);
@@ -91,18 +99,11 @@ module _ (p : Plan) (named : Named) (facts : LabelFacts Array) (w : Wanted) (run
         filled = λ k lt.
             let l : k < length p.saves = omega (arith, lt, open_is.count) in
             let lk : k < length w.saved = omega (arith, l, saves-known.keys) in
-            fresh-boxes (layout_at w.layouts k) (keys_at w.saved k) had (shape_at p.nodes (node_at p k)) (saving_at files k).content (sym (saves-known.shapes k l))
+            fresh-boxes (record { files = files; had = had; fault = None; wanted = w; waiting = g }) k (shape_at p.nodes (node_at p k)) (saving_at files k).content (sym (saves-known.shapes k l))
             (λ n ln. none-had had keys none (slice_index_or (keys_at w.saved k) n 0) (omega (arith, keys-small k n lk ln, many))) (fresh k l).filling;
+        waits = λ e. waiting-none facts w g n (ap (λ (l : List (Arc Array Global)). length l) without ∙ sym n);
         failed = λ e. absurd cc;
       }
-
-pub has-none : (keys : ℕ) (w : Wanted) (files : List Saving) (had : List Bool) → had ≡ replicate keys false → HasNone keys w (record { files = files; had = had; fault = None; wanted = w })
-has-none keys w files had is = record {
-  wanted_is = refl;
-  keys_are = ap length is ∙ length-replicate keys false;
-  none = λ key lt. ap (λ (h : List Bool). slice_index_or h key true) is ∙ get_or-replicate keys key false true lt;
-  sound = refl;
-}
 
 -- the files are all as they were
 pub leaves-none : (p : Plan) (files : Files) → LeavesAll p files files

@@ -1,177 +1,28 @@
--- One block, written at all its places, and what is held of all of them then.
-use Rattle.std.proofs.Common.{◌≡◌, ℕ, zero, suc, ◌+◌, ◌<◌, ◌≤◌, Bool, true, false, List, [], ◌∷◌, ◌++◌, length, get_or, set, refl, ap, sym, ◌∙◌, subst, inl, inr, arith, Option, Some, None}
-use Rattle.std.specs.Prelude.{IsSome, is_some, slice_index_or}
-use Rattle.std.proofs.lemmas.List.{get_or-set_other, get_or-set_same, get_or_append_left, get_or_past, get_or_push, length-set, length_push}
+-- One block, written at all its places or waiting there, and what is held of all of them then.
+use Rattle.std.proofs.Common.{◌≡◌, ◌≢◌, ℕ, zero, suc, ◌+◌, ◌<◌, ◌≤◌, ◌⊎◌, Bool, true, List, [], ◌∷◌, length, get_or, set, refl, ap, sym, ◌∙◌, subst, inl, inr, arith, Option, Some, None}
+use Rattle.std.specs.Prelude.{slice_index_or}
+use Rattle.std.proofs.lemmas.List.{get_or-set_other, get_or-set_same, get_or_past, length-set}
 use Rattle.std.proofs.lemmas.Bool.{cases_eq}
 use Rattle.small_facts.proofs.Numbers.{below_or_equal}
-use Rattle.io_edge.specs.declared.edge.OpenFault.{OpenFault}
-use Rattle.io_edge.specs.declared.edge.OpenFault.TheVariants.{Failed}
-use Rattle.io_edge.specs.Content.{Content, Told, Untold, OnTold, told_bytes}
+use Rattle.io_edge.specs.Content.{Content, Told, Untold, OnTold}
 use Rattle.nd_shape.specs.Block.{Array}
 use Rattle.nd_shape.specs.Region.{Box}
-use Rattle.chunk_layout.specs.Layouts.{lengths, region}
+use Rattle.chunk_layout.specs.Layouts.{region}
 use Rattle.cluster_msgs.specs.Labels.{BlockFits, LabelFacts}
-use Rattle.npy_region.specs.Writing.{Turns}
-use Rattle.saved_files.specs.Filling.{HoldsBox, IsFilling}
-use Rattle.saved_files.specs.Saving.{ChangesAt, FillsMore, FillsPart, Saving, saving_at}
+use Rattle.saved_files.specs.Saving.{Saving, saving_at}
 use Rattle.job_run.specs.declared.wanted.Wanted.{Wanted}
-use Rattle.job_run.specs.Evaluating.{AreSameFiles, HasFailed}
 use Rattle.job_run.specs.Filling.{keys_at, layout_at}
-use Rattle.job_run.proofs.Filling.{changes-none}
-use Rattle.job_run.proofs.SavingSteps.{same-files, same-then}
-use Rattle.thread_run.specs.Saver.{AreSaved, AreSavedKeys, HasBoxes, IsAmong, IsMadeOf, Saves, SavesOn, had_in}
-use Rattle.thread_run.specs.Writes.{HasMore, Marks, StandsAt, Writes, WritesAll, WritesAt, WrittenBelow}
+use Rattle.job_run.specs.Grouping.{Waiting}
+use Rattle.thread_run.specs.Saver.{AreSaved, AreSavedKeys, AreWaiting, HasBoxes, IsFitted, IsMadeOf, Saves, SavesOn, had_in}
+use Rattle.thread_run.specs.Writes.{HasMore, IsBoxOf, IsItem, Keeps, Marks, StandsAt, Writes, at_place, below, none_more, one_more}
+use Rattle.thread_run.proofs.Steps.{MayFail, keeps-as, keeps-none, keeps-then, none-before}
 
--- ## Faults
-
-abbrev pub MayFail : Type 0
-MayFail = Option OpenFault
-
-pub some-none : (f : OpenFault) → ◌≡◌ {A = MayFail} (Some f) None → ⊥
-some-none f e = cc
-
-pub is-none : (o : MayFail) → is_some o ≡ false → o ≡ None
-is-none None never = refl
-is-none (Some f) never = absurd cc
-
-none-some : (o : MayFail) → IsSome o → o ≡ None → ⊥
-none-some None some none = absurd cc
-none-some (Some f) some none = some-none f none
-
--- where a fault stays one, there was none before
-none-before : (m n : MayFail) → (IsSome m → n ≡ m) → n ≡ None → m ≡ None
-none-before None n stays e = refl
-none-before (Some f) n stays e = absurd (some-none f (sym (stays refl) ∙ e))
-
--- ## Boxes
-
-none : Box
-none = record { start = []; lengths = [] }
-
-among-more : (boxes : List Box) (new box : Box) → IsAmong boxes box → IsAmong (boxes ++ new ∷ []) box
-unfolding none
-among-more boxes new box m = record {
-  place = m.place;
-  there = omega (arith, m.there, length_push boxes new);
-  is = get_or_append_left boxes (new ∷ []) none m.place m.there ∙ m.is;
-}
-
-among-new : (boxes : List Box) (box : Box) → IsAmong (boxes ++ box ∷ []) box
-unfolding none
-among-new boxes box = record { place = length boxes; there = omega (arith, length_push boxes box); is = get_or_push boxes box none (length boxes) refl }
-
--- ## The file of one save
-
--- what follows of two contents of which the one turned into the other
-turns-as : (R S : List ℕ → List ℕ → Type 0) (old new : Content) → ((x y : List ℕ) → R x y → S x y) → Turns R old new → Turns S old new
-turns-as R S (Told x) (Told y) f t = f x y t
-turns-as R S (Told x) (Untold size) f t = absurd t
-turns-as R S (Untold size) (Told y) f t = absurd t
-turns-as R S (Untold size) (Untold now) f t = t
-
-turns-self : (R : List ℕ → List ℕ → Type 0) (c : Content) → ((x : List ℕ) → R x x) → Turns R c c
-turns-self R (Told x) f = f x
-turns-self R (Untold size) f = refl
-
-turns-told : (R : List ℕ → List ℕ → Type 0) (old new : Content) → Turns R old new → IsSome (told_bytes old) → IsSome (told_bytes new)
-turns-told R (Told x) (Told y) t some = refl
-turns-told R (Told x) (Untold size) t some = absurd t
-turns-told R (Untold size) new t some = absurd cc
-
-module _ (facts : LabelFacts Array) (layout : List (List ℕ)) (keys : List ℕ) (key : ℕ) where
-  abbrev Turn : MayFail → List ℕ → List ℕ → Type 0
-  Turn fault = λ before after. (a : Array) (boxes : List Box) → IsMadeOf facts layout keys a → IsFilling a boxes before → HasMore layout keys key fault a boxes after
-
-  writes-told : (fault : MayFail) (old new : Content) → Writes facts layout keys key fault old new → IsSome (told_bytes old) → IsSome (told_bytes new)
-  writes-told fault old new w = turns-told (Turn fault) old new w.turns
-
-  -- nothing is written
-  pub writes-none : (fault : MayFail) (c : Content) → (fault ≡ None → (n : ℕ) → n < length keys → slice_index_or keys n 0 ≡ key → ⊥) → Writes facts layout keys key fault c c
-  writes-none fault c never = record {
-    turns = turns-self (Turn fault) c (λ x a boxes made filling. record { boxes = boxes; filling = filling; still = λ e box m. m; here = λ e n lt is. absurd (never e n lt is) });
-  }
-
-  -- a block is, or a part of it
-  writes-box : (fault : MayFail) (number : ℕ) (block : Array) (dims : List ℕ) (old new : Content) → dims ≡ lengths layout → number < length keys → slice_index_or keys number 0 ≡ key → StandsAt keys key number → BlockFits facts key block →
-      (fault ≡ None → Turns (λ before after. (a : Array) (boxes : List Box) → a.shape ≡ dims → IsFilling a boxes before → HoldsBox a (region layout number) block → IsFilling a (boxes ++ region layout number ∷ []) after) old new) →
-      (IsSome fault → Turns (λ before after. (a : Array) (boxes : List Box) → a.shape ≡ dims → IsFilling a boxes before → HoldsBox a (region layout number) block → IsFilling a boxes after) old new) →
-      Writes facts layout keys key fault old new
-  writes-box None number block dims old new same lt is stands fits more part =
-      let box : Box = region layout number in
-      let R : List ℕ → List ℕ → Type 0 = λ before after. (a : Array) (boxes : List Box) → a.shape ≡ dims → IsFilling a boxes before → HoldsBox a box block → IsFilling a (boxes ++ box ∷ []) after in
-      record {
-        turns = turns-as R (Turn None) old new (λ x y t a boxes made filling. record {
-          boxes = boxes ++ box ∷ [];
-          filling = t a boxes (made.lengths_are.shape ∙ sym same) filling (made.each number block lt (subst (λ k. BlockFits facts k block) (sym is) fits));
-          still = λ e b m. among-more boxes box b m;
-          here = λ e c lc at. subst (λ n. IsAmong (boxes ++ box ∷ []) (region layout n)) (sym (stands c lc at)) (among-new boxes box);
-        }) (more refl);
-      }
-  writes-box (Some f) number block dims old new same lt is stands fits more part =
-      let box : Box = region layout number in
-      let R : List ℕ → List ℕ → Type 0 = λ before after. (a : Array) (boxes : List Box) → a.shape ≡ dims → IsFilling a boxes before → HoldsBox a box block → IsFilling a boxes after in
-      record {
-        turns = turns-as R (Turn (Some f)) old new (λ x y t a boxes made filling. record {
-          boxes = boxes;
-          filling = t a boxes (made.lengths_are.shape ∙ sym same) filling (made.each number block lt (subst (λ k. BlockFits facts k block) (sym is) fits));
-          still = λ e. absurd (some-none f e);
-          here = λ e. absurd (some-none f e);
-        }) (part refl);
-      }
-
-  -- something fails later
-  writes-later : (m n : MayFail) (old new : Content) → (n ≡ None → m ≡ None) → Writes facts layout keys key m old new → Writes facts layout keys key n old new
-  writes-later m n old new f w = record {
-    turns = turns-as (Turn m) (Turn n) old new (λ x y t a boxes made filling.
-        let more = t a boxes made filling in
-        record { boxes = more.boxes; filling = more.filling; still = λ e. more.still (f e); here = λ e. more.here (f e) }) w.turns;
-  }
-
-  -- ## The file at a place
-
-  -- something had failed
-  pub at-stopped : (place : ℕ) (before : MayFail) (files : List Saving) → is_some before ≡ true → WritesAt facts layout keys key place before before files files
-  at-stopped place before files some = record {
-    changes = changes-none place files;
-    writes = writes-none before (saving_at files place).content (λ e. absurd (none-some before some e));
-    stays = λ s. (refl, refl);
-    failed = λ e. absurd (none-some before some e);
-  }
-
-  -- the key doesn't stand there
-  pub at-none : (place number : ℕ) (before : MayFail) (files : List Saving) → before ≡ None → StandsAt keys key number → (number < length keys → slice_index_or keys number 0 ≡ key → ⊥) → WritesAt facts layout keys key place before None files files
-  at-none place number before files sound stands never = record {
-    changes = changes-none place files;
-    writes = writes-none None (saving_at files place).content (λ e n lt is.
-        let same : n ≡ number = stands n lt is in
-        never (subst (λ i. i < length keys) same lt) (subst (λ i. slice_index_or keys i 0 ≡ key) same is));
-    stays = λ s. absurd (none-some before s sound);
-    failed = λ e f. absurd cc;
-  }
-
-  -- it does
-  pub at-box : (place number : ℕ) (block : Array) (before after : MayFail) (old new : List Saving) → before ≡ None → (saving_at old place).dims ≡ lengths layout → number < length keys → slice_index_or keys number 0 ≡ key → StandsAt keys key number →
-      BlockFits facts key block → ChangesAt place old new → (after ≡ None → FillsMore (region layout number) block (saving_at old place) (saving_at new place)) → (IsSome after → FillsPart (region layout number) block (saving_at old place) (saving_at new place)) →
-      (after ≡ Some Failed → 0 < (saving_at new place).faults) → WritesAt facts layout keys key place before after old new
-  at-box place number block before after old new sound dims lt is stands fits changes more part failed = record {
-    changes = changes;
-    writes = writes-box after number block (saving_at old place).dims (saving_at old place).content (saving_at new place).content dims lt is stands fits more part;
-    stays = λ s. absurd (none-some before s sound);
-    failed = λ e. failed;
-  }
-
--- ## The files of all saves
+-- ## A key
 
 item-at : {A : Type 0} (xs : List A) (k : ℕ) (x d : A) → k < length xs → x ≡ get_or xs k x → x ≡ get_or xs k d
 item-at [] k x d lt e = absurd (omega (arith, lt))
 item-at (y ∷ ys) zero x d lt e = e
 item-at (y ∷ ys) (suc k) x d lt e = item-at ys k x d (omega (arith, lt)) e
-
--- the keys and the layout of the save at a place
-pub record IsItem (w : Wanted) (place : ℕ) (keys : List ℕ) (layout : List (List ℕ)) : Type 0 where
-  pub within : place < length w.saved
-  pub keys_are : keys ≡ keys_at w.saved place
-  pub layout_is : layout ≡ layout_at w.layouts place
 
 pub item-of : (w : Wanted) (place : ℕ) (saved : List (List ℕ)) (layouts : List (List (List ℕ))) (item keys : List ℕ) (layout : List (List ℕ)) → saved ≡ w.saved → layouts ≡ w.layouts → length w.layouts ≡ length w.saved → place < length saved →
     item ≡ get_or saved place item → keys ≡ item → layout ≡ get_or layouts place layout → IsItem w place keys layout
@@ -181,72 +32,52 @@ item-of w place saved layouts item keys layout same all count lt is same-keys at
   layout_is = item-at layouts place layout [] (omega (arith, lt, ap (λ (ss : List (List ℕ)). length ss) same, ap (λ (ls : List (List (List ℕ))). length ls) all, count)) at ∙ ap (λ (ls : List (List (List ℕ))). get_or ls place []) all;
 }
 
-changes-same : (place : ℕ) (old new : List Saving) → ChangesAt place old new → (IsSome (told_bytes (saving_at old place).content) → IsSome (told_bytes (saving_at new place).content)) → AreSameFiles old new
-changes-same place old new c told = record {
-  count = c.count;
-  names = λ k h. elim (cases_eq k place) [
-    | inl e ↦ subst (λ j. (saving_at new j).name ≡ (saving_at old j).name) (sym e) c.name_is
-    | inr ne ↦ ap (λ (s : Saving). s.name) (c.others k ne)
-  ];
-  dims = λ k h. elim (cases_eq k place) [
-    | inl e ↦ subst (λ j. (saving_at new j).dims ≡ (saving_at old j).dims) (sym e) c.dims_are
-    | inr ne ↦ ap (λ (s : Saving). s.dims) (c.others k ne)
-  ];
-  told = λ k h. elim (cases_eq k place) [
-    | inl e ↦ subst (λ j. IsSome (told_bytes (saving_at old j).content) → IsSome (told_bytes (saving_at new j).content)) (sym e) told
-    | inr ne ↦ λ t. subst (λ (s : Saving). IsSome (told_bytes s.content)) (sym (c.others k ne)) t
-  ];
-}
-
-failed-next : (place : ℕ) (m n : MayFail) (mid new : List Saving) → place < length new → (IsSome m → (n ≡ m) × (new ≡ mid)) → (m ≡ None → n ≡ Some Failed → 0 < (saving_at new place).faults) → (m ≡ Some Failed → HasFailed mid) → n ≡ Some Failed → HasFailed new
-failed-next place None n mid new lt stays failed before e = record { place = place; there = lt; failed = failed refl e }
-failed-next place (Some f) n mid new lt stays failed before e = let s = stays refl in subst HasFailed (sym s.1) (before (sym s.0 ∙ e))
-
 module _ (facts : LabelFacts Array) (w : Wanted) (key : ℕ) where
-  abbrev WritesIn : ℕ → MayFail → Content → Content → Type 0
-  WritesIn k fault old new = Writes facts (layout_at w.layouts k) (keys_at w.saved k) key fault old new
+  -- the key doesn't stand there
+  pub at-none : (place number : ℕ) (keys : List ℕ) (layout : List (List ℕ)) (before : MayFail) (files : List Saving) (g : Waiting) → before ≡ None → IsItem w place keys layout → StandsAt keys key number →
+      (number < length keys → slice_index_or keys number 0 ≡ key → ⊥) → (before ≡ None → AreWaiting facts w g) → Keeps facts w (at_place place (IsBoxOf w key)) before None files files g g
+  at-none place number keys layout before files g sound item stands never waits =
+      let K : MayFail → Type 0 = λ o. Keeps facts w (at_place place (IsBoxOf w key)) o None files files g g in
+      subst K (sym sound) (keeps-none facts w (at_place place (IsBoxOf w key)) None files g (λ e k box is.
+          let h : IsBoxOf w key k box = is.1 in
+          let same : keys ≡ keys_at w.saved k = item.keys_are ∙ ap (keys_at w.saved) (sym is.0) in
+          let there : h.number < length keys = subst (λ ks. h.number < length ks) (sym same) h.there in
+          let at : slice_index_or keys h.number 0 ≡ key = ap (λ ks. slice_index_or ks h.number 0) same ∙ h.key_is in
+          let one : h.number ≡ number = stands h.number there at in
+          never (subst (λ n. n < length keys) one there) (subst (λ n. slice_index_or keys n 0 ≡ key) one at)) (λ e. waits sound))
 
-  pub written-first : (before : MayFail) (files : List Saving) → WrittenBelow facts w key 0 before before files files
-  written-first before files = record { same = same-files files; below = λ k h. absurd (omega (arith, h)); above = λ k h. refl; stays = λ s. (refl, refl); failed = λ h. h }
+  -- it does
+  pub at-box : (place number : ℕ) (keys : List ℕ) (layout : List (List ℕ)) (before after : MayFail) (old new : List Saving) (g last : Waiting) → before ≡ None → IsItem w place keys layout → StandsAt keys key number →
+      Keeps facts w (one_more place (region layout number)) None after old new g last → Keeps facts w (at_place place (IsBoxOf w key)) before after old new g last
+  at-box place number keys layout before after old new g last sound item stands keeps =
+      let K : MayFail → Type 0 = λ o. Keeps facts w (at_place place (IsBoxOf w key)) o after old new g last in
+      subst K (sym sound) (keeps-as facts w (one_more place (region layout number)) (at_place place (IsBoxOf w key)) None after old new g last (λ e k lt box is.
+          let h : IsBoxOf w key k box = is.1 in
+          let same : keys ≡ keys_at w.saved k = item.keys_are ∙ ap (keys_at w.saved) (sym is.0) in
+          let there : h.number < length keys = subst (λ ks. h.number < length ks) (sym same) h.there in
+          let one : h.number ≡ number = stands h.number there (ap (λ ks. slice_index_or ks h.number 0) same ∙ h.key_is) in
+          let layout-is : layout_at w.layouts k ≡ layout = ap (layout_at w.layouts) is.0 ∙ sym item.layout_is in
+          (is.0, h.box_is ∙ (ap (region (layout_at w.layouts k)) one ∙ ap (λ l. region l number) layout-is))) keeps)
 
-  pub written-next : (place : ℕ) (before m n : MayFail) (old mid new : List Saving) → place < length mid → WrittenBelow facts w key place before m old mid → WritesAt facts (layout_at w.layouts place) (keys_at w.saved place) key place m n mid new →
-      WrittenBelow facts w key (place + 1) before n old new
-  written-next place before m n old mid new there b at =
-      let stays : IsSome m → n ≡ m = λ s. (at.stays s).0 in
-      record {
-        same = same-then old mid new b.same (changes-same place mid new at.changes (writes-told facts (layout_at w.layouts place) (keys_at w.saved place) key n (saving_at mid place).content (saving_at new place).content at.writes));
-        below = λ k h lt. elim (below_or_equal k place h) [
-          | inl a ↦ subst (λ (s : Saving). WritesIn k n (saving_at old k).content s.content) (sym (at.changes.others k (λ e. absurd (omega (arith, a, e)))))
-              (writes-later facts (layout_at w.layouts k) (keys_at w.saved k) key m n (saving_at old k).content (saving_at mid k).content (none-before m n stays) (b.below k a lt))
-          | inr e ↦ subst (λ j. WritesIn j n (saving_at old j).content (saving_at new j).content) e (subst (λ (s : Saving). WritesIn place n s.content (saving_at new place).content) (b.above place (omega arith)) at.writes)
-        ];
-        above = λ k h. at.changes.others k (λ e. absurd (omega (arith, h, e))) ∙ b.above k (omega (arith, h));
-        stays = λ s.
-            let first = b.stays s in
-            let next = at.stays (subst IsSome (sym first.0) s) in
-            (next.0 ∙ first.0, next.1 ∙ first.1);
-        failed = λ h. failed-next place m n mid new (omega (arith, there, at.changes.count)) at.stays at.failed (b.failed h);
-      }
+  -- the saves, one after another
+  pub each-first : (before : MayFail) (files : List Saving) (g : Waiting) → (before ≡ None → AreWaiting facts w g) → Keeps facts w (below 0 (IsBoxOf w key)) before before files files g g
+  each-first before files g waits = keeps-none facts w (below 0 (IsBoxOf w key)) before files g (λ e k box is. omega (arith, is.0)) waits
 
-  -- the same of an item of the two lists
-  pub written-step : (place : ℕ) (before m n : MayFail) (old mid new : List Saving) (keys : List ℕ) (layout : List (List ℕ)) → IsItem w place keys layout → length old ≡ length w.saved → WrittenBelow facts w key place before m old mid →
-      WritesAt facts layout keys key place m n mid new → WrittenBelow facts w key (place + 1) before n old new
-  written-step place before m n old mid new keys layout item count b at =
-      let A : List ℕ → List (List ℕ) → Type 0 = λ ks l. WritesAt facts l ks key place m n mid new in
-      let here : A (keys_at w.saved place) (layout_at w.layouts place) = subst (λ l. A (keys_at w.saved place) l) item.layout_is (subst (λ ks. A ks layout) item.keys_are at) in
-      written-next place before m n old mid new (omega (arith, item.within, count, b.same.count)) b here
+  pub each-next : (place : ℕ) (before m n : MayFail) (old mid new : List Saving) (first between last : Waiting) → Keeps facts w (below place (IsBoxOf w key)) before m old mid first between → Keeps facts w (at_place place (IsBoxOf w key)) m n mid new between last →
+      Keeps facts w (below (place + 1) (IsBoxOf w key)) before n old new first last
+  each-next place before m n old mid new first between last a b =
+      let More : ℕ → Box → Type 0 = λ k box. below place (IsBoxOf w key) k box ⊎ at_place place (IsBoxOf w key) k box in
+      keeps-as facts w More (below (place + 1) (IsBoxOf w key)) before n old new first last (λ e k lt box is. elim (below_or_equal k place is.0) [ inl low ↦ inl (low, is.1) | inr same ↦ inr (same, is.1) ])
+      (keeps-then facts w (below place (IsBoxOf w key)) (at_place place (IsBoxOf w key)) before m n old mid new first between last a b)
 
-  pub written-all : (place : ℕ) (before after : MayFail) (old new : List Saving) → length old ≤ place → WrittenBelow facts w key place before after old new → WritesAll facts w key before after old new
-  written-all place before after old new h b = record { same = b.same; each = λ k lt. b.below k (omega (arith, h, lt)) lt; stays = b.stays; failed = b.failed }
+  pub each-all : (place : ℕ) (before after : MayFail) (old new : List Saving) (first last : Waiting) → length old ≤ place → Keeps facts w (below place (IsBoxOf w key)) before after old new first last → Keeps facts w (IsBoxOf w key) before after old new first last
+  each-all place before after old new first last le a = keeps-as facts w (below place (IsBoxOf w key)) (IsBoxOf w key) before after old new first last (λ e k lt box is. (omega (arith, lt, le), is)) a
 
   -- the key stands nowhere
-  pub all-none : (before : MayFail) (files : List Saving) → ((k : ℕ) → k < length files → (n : ℕ) → n < length (keys_at w.saved k) → slice_index_or (keys_at w.saved k) n 0 ≡ key → ⊥) → WritesAll facts w key before before files files
-  all-none before files never = record {
-    same = same-files files;
-    each = λ k lt. writes-none facts (layout_at w.layouts k) (keys_at w.saved k) key before (saving_at files k).content (λ e. never k lt);
-    stays = λ s. (refl, refl);
-    failed = λ h. h;
-  }
+  pub all-none : (before : MayFail) (files : List Saving) (g : Waiting) → ((k : ℕ) → k < length files → (n : ℕ) → n < length (keys_at w.saved k) → slice_index_or (keys_at w.saved k) n 0 ≡ key → ⊥) → (before ≡ None → AreWaiting facts w g) →
+      Keeps facts w (IsBoxOf w key) before before files files g g
+  all-none before files g never waits =
+      keeps-as facts w none_more (IsBoxOf w key) before before files files g g (λ e k lt box is. never k lt is.number is.there is.key_is) (keeps-none facts w none_more before files g (λ e k box is. is) waits)
 
   -- ## The number of a key
 
@@ -279,48 +110,63 @@ marks-past key old le = record { count = refl; here = get_or_past old key true l
 
 -- ## All that is held
 
-module _ (facts : LabelFacts Array) (w : Wanted) (key : ℕ) (files now : List Saving) (had after : List Bool) (fault later : MayFail) where
-  abbrev Before : Saves
-  Before = record { files = files; had = had; fault = fault; wanted = w }
+-- a key that is had now: its boxes came, and a block fits it
+record IsNew (facts : LabelFacts Array) (w : Wanted) (more : ℕ → Box → Type 0) (key : ℕ) : Type 0 where
+  came : (k c : ℕ) → c < length (keys_at w.saved k) → slice_index_or (keys_at w.saved k) c 0 ≡ key → more k (region (layout_at w.layouts k) c)
+  fits : IsFitted facts key
 
-  abbrev After : Saves
-  After = record { files = now; had = after; fault = later; wanted = w }
+module _ (facts : LabelFacts Array) (w : Wanted) (files now : List Saving) (had after : List Bool) (fault later : MayFail) (first last : Waiting) where
+  abbrev pub Before : Saves
+  Before = record { files = files; had = had; fault = fault; wanted = w; waiting = first }
 
-  filled-more : (layout : List (List ℕ)) (keys : List ℕ) (old new : Content) → (later ≡ None → fault ≡ None) → Marks key had after → Writes facts layout keys key later old new →
-      OnTold old (λ bytes. (a : Array) → IsMadeOf facts layout keys a → HasBoxes layout keys had fault a bytes) → OnTold new (λ bytes. (a : Array) → IsMadeOf facts layout keys a → HasBoxes layout keys after later a bytes)
-  filled-more layout keys (Told x) (Told y) sound marks writes filled = λ a made.
-      let h = filled a made in
-      let more = writes.turns a h.boxes made h.filling in
+  abbrev pub After : Saves
+  After = record { files = now; had = after; fault = later; wanted = w; waiting = last }
+
+  filled-more : (more : ℕ → Box → Type 0) (k : ℕ) (old new : Content) → (later ≡ None → fault ≡ None) → ((key : ℕ) → had_in after key ≡ true → (had_in had key ≡ true) ⊎ IsNew facts w more key) → Writes facts w k (more k) later first last old new →
+      OnTold old (λ bytes. (a : Array) → IsMadeOf facts (layout_at w.layouts k) (keys_at w.saved k) a → HasBoxes Before k a bytes) → OnTold new (λ bytes. (a : Array) → IsMadeOf facts (layout_at w.layouts k) (keys_at w.saved k) a → HasBoxes After k a bytes)
+  filled-more more k (Told x) (Told y) sound news writes filled = λ a made.
+      let h : HasBoxes Before k a x = filled a made in
+      let next : HasMore (more k) k later a h.boxes first last y = writes.turns a h.boxes made h.filling in
       record {
-        boxes = more.boxes;
-        filling = more.filling;
-        all = λ e c lc was. elim (cases_eq (slice_index_or keys c 0) key) [
-          | inl is ↦ more.here e c lc is
-          | inr ne ↦ more.still e (region layout c) (h.all (sound e) c lc (sym (marks.others (slice_index_or keys c 0) ne) ∙ was))
+        boxes = next.boxes;
+        filling = next.filling;
+        all = λ e c lc was. elim (news (slice_index_or (keys_at w.saved k) c 0) was) [
+          | inl still ↦ next.still e (region (layout_at w.layouts k) c) (h.all (sound e) c lc still)
+          | inr new ↦ next.come e (region (layout_at w.layouts k) c) (new.came k c lc refl)
         ];
       }
-  filled-more layout keys (Told x) (Untold size) sound marks writes filled = absurd writes.turns
-  filled-more layout keys (Untold size) (Told y) sound marks writes filled = absurd writes.turns
-  filled-more layout keys (Untold size) (Untold now') sound marks writes filled = tt
+  filled-more more k (Told x) (Untold size) sound news writes filled = absurd writes.turns
+  filled-more more k (Untold size) (Told y) sound news writes filled = absurd writes.turns
+  filled-more more k (Untold size) (Untold now') sound news writes filled = tt
 
-  pub put-saved : (block : Array) → AreSaved facts Before → WritesAll facts w key fault later files now → Marks key had after → BlockFits facts key block → AreSaved facts After
-  put-saved block s all marks fits = record {
+  kept-saved : (more : ℕ → Box → Type 0) → AreSaved facts Before → Keeps facts w more fault later files now first last → length after ≡ length had → ((key : ℕ) → had_in after key ≡ true → (had_in had key ≡ true) ⊎ IsNew facts w more key) → AreSaved facts After
+  kept-saved more s all count news = record {
     keys_are = s.keys_are;
-    small = λ k c lk lc. omega (arith, s.small k c lk lc, marks.count);
+    small = λ k c lk lc. omega (arith, s.small k c lk lc, count);
     count = all.same.count ∙ s.count;
     dims = λ k lt. let l : k < length files = omega (arith, lt, all.same.count) in all.same.dims k l ∙ s.dims k l;
-    fit = λ j lj e. elim (cases_eq j key) [
-      | inl is ↦ record { block = block; fits = subst (λ i. BlockFits facts i block) (sym is) fits }
-      | inr ne ↦ s.fit j (omega (arith, lj, marks.count)) (sym (marks.others j ne) ∙ e)
+    fit = λ j lj e. elim (news j e) [
+      | inl still ↦ s.fit j (omega (arith, lj, count)) still
+      | inr new ↦ new.fits
     ];
     filled = λ k lt.
         let l : k < length files = omega (arith, lt, all.same.count) in
-        filled-more (layout_at w.layouts k) (keys_at w.saved k) (saving_at files k).content (saving_at now k).content (none-before fault later (λ s. (all.stays s).0)) marks (all.each k l) (s.filled k l);
+        filled-more more k (saving_at files k).content (saving_at now k).content (none-before fault later (λ s. (all.stays s).0)) news (all.each k l) (s.filled k l);
+    waits = all.waits;
     failed = all.failed s.failed;
   }
 
-  pub put-on : WritesAll facts w key fault later files now → Marks key had after → SavesOn Before After
-  put-on all marks = record {
+  pub put-saved : (key : ℕ) (block : Array) → AreSaved facts Before → Keeps facts w (IsBoxOf w key) fault later files now first last → Marks key had after → BlockFits facts key block → AreSaved facts After
+  put-saved key block s all marks fits = kept-saved (IsBoxOf w key) s all marks.count (λ j e. elim (cases_eq j key) [
+    | inl is ↦ inr (record {
+      came = λ k c lc at. record { number = c; there = lc; key_is = at ∙ is; box_is = refl };
+      fits = record { block = block; fits = subst (λ i. BlockFits facts i block) (sym is) fits };
+    })
+    | inr ne ↦ inl (sym (marks.others j ne) ∙ e)
+  ])
+
+  pub put-on : (key : ℕ) (more : ℕ → Box → Type 0) → Keeps facts w more fault later files now first last → Marks key had after → SavesOn Before After
+  put-on key more all marks = record {
     wanted_is = refl;
     same = all.same;
     keys_are = marks.count;
@@ -330,3 +176,12 @@ module _ (facts : LabelFacts Array) (w : Wanted) (key : ℕ) (files now : List S
     ];
     failed_still = all.stays;
   }
+
+-- what waited was written
+pub rest-saved : (facts : LabelFacts Array) (w : Wanted) (files now : List Saving) (had : List Bool) (fault later : MayFail) (first last : Waiting) → AreSaved facts (Before facts w files now had had fault later first last) →
+    Keeps facts w none_more fault later files now first last → AreSaved facts (After facts w files now had had fault later first last)
+rest-saved facts w files now had fault later first last s all = kept-saved facts w files now had had fault later first last none_more s all refl (λ key e. inl e)
+
+pub rest-on : (facts : LabelFacts Array) (w : Wanted) (files now : List Saving) (had : List Bool) (fault later : MayFail) (first last : Waiting) → Keeps facts w none_more fault later files now first last →
+    SavesOn (Before facts w files now had had fault later first last) (After facts w files now had had fault later first last)
+rest-on facts w files now had fault later first last all = put-on facts w files now had had fault later first last (length had) none_more all (marks-past (length had) had (omega arith))

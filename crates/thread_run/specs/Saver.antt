@@ -1,29 +1,34 @@
--- Saved blocks, each written at all its places as it comes: what is held of them, and what stays of it.
-use Rattle.std.specs.Prelude.{◌≡◌, ◌<◌, ℕ, List, length, slice_index_or, Bool, true, false, Option, Some, None, IsSome}
+-- Saved blocks, each written at all its places, or waiting there for those beside it: what is held of them, and what stays of it.
+use Rattle.std.specs.Prelude.{◌≡◌, ◌⊎◌, ◌<◌, ℕ, List, length, slice_index_or, Bool, true, false, Option, Some, None, IsSome, Result, OnOk, IfErr}
 use Rattle.io_edge.specs.declared.edge.OpenFault.{OpenFault}
 use Rattle.io_edge.specs.declared.edge.OpenFault.TheVariants.{Failed}
 use Rattle.io_edge.specs.Content.{OnTold}
+use Rattle.io_edge.specs.View.{Files}
 use Rattle.nd_shape.specs.Block.{Array}
 use Rattle.nd_shape.specs.Region.{Box}
 use Rattle.chunk_layout.specs.Layouts.{blocks, lengths, region}
 use Rattle.cluster_msgs.specs.Labels.{BlockFits, LabelFacts}
 use Rattle.saved_files.specs.Filling.{HoldsBox, IsFilling, box_of}
-use Rattle.saved_files.specs.Saving.{IsOf, Saving, saving_at}
+use Rattle.saved_files.specs.Rows.{ArePlaced}
+use Rattle.saved_files.specs.Saving.{GivesBack, HoldsBoxes, IsOf, Saving, saving_at}
 use Rattle.job_run.specs.declared.wanted.Wanted.{Wanted}
 use Rattle.job_run.specs.Evaluating.{AreSameFiles, HasFailed}
 use Rattle.job_run.specs.Filling.{keys_at, layout_at}
+use Rattle.job_run.specs.Grouping.{Waiting}
 use Rattle.job_run.specs.Plan.{Plan}
 use Rattle.job_run.specs.Values.{Named, tasks_of}
 use Rattle.thread_run.specs.Reports.{label}
 
 -- ## What contracts see
 
--- the open files of the saves, whether a block of each key was had, why the first write that failed did, and what is wanted
+-- the open files of the saves, whether a block of each key was had, why the first write that failed did, what is wanted, and the blocks that wait to be
+-- written
 pub record Saves : Type 0 where
   pub files : List Saving
   pub had : List Bool
   pub fault : Option OpenFault
   pub wanted : Wanted
+  pub waiting : Waiting
 
 -- whether a block of the key was had; what is no key of the graph counts as had
 abbrev pub had_in : List Bool → ℕ → Bool
@@ -78,19 +83,36 @@ pub record IsAmong (boxes : List Box) (box : Box) : Type 0 where
   pub there : place < length boxes
   pub is : box_of boxes place ≡ box
 
--- the file of an array has its header, boxes of its blocks and no wrong byte; where nothing has failed, it has the boxes of all keys that were had
-pub record HasBoxes (layout : List (List ℕ)) (keys : List ℕ) (had : List Bool) (fault : Option OpenFault) (a : Array) (bytes : List ℕ) : Type 0 where
+-- a block of the box waits for the file at a place
+pub record IsWaiting (g : Waiting) (place : ℕ) (box : Box) : Type 0 where
+  pub place_is : g.place ≡ place
+  pub among : IsAmong g.regions box
+
+-- the file at a place has these boxes, and the box is one of them, or its block waits
+abbrev pub IsKept : List Box → Waiting → ℕ → Box → Type 0
+IsKept boxes g place box = IsAmong boxes box ⊎ IsWaiting g place box
+
+-- Blocks that wait for the file of one save: each lies in its array, and has the elements there of whatever array is made of fitting blocks.
+pub record AreWaiting (facts : LabelFacts Array) (w : Wanted) (g : Waiting) : Type 0 where
+  pub there : 0 < length g.regions → g.place < length w.saved
+  pub placed : ArePlaced (lengths (layout_at w.layouts g.place)) g.regions g.blocks
+  pub holds : (a : Array) → IsMadeOf facts (layout_at w.layouts g.place) (keys_at w.saved g.place) a → HoldsBoxes a g.regions g.blocks
+
+-- the file of the array at a place has its header, boxes of its blocks and no wrong byte; where nothing has failed, each box of a key that was had is one of
+-- them, or its block waits
+pub record HasBoxes (s : Saves) (place : ℕ) (a : Array) (bytes : List ℕ) : Type 0 where
   pub boxes : List Box
   pub filling : IsFilling a boxes bytes
-  pub all : fault ≡ None → (c : ℕ) → c < length keys → had_in had (slice_index_or keys c 0) ≡ true → IsAmong boxes (region layout c)
+  pub all : s.fault ≡ None → (c : ℕ) → c < length (keys_at s.wanted.saved place) → had_in s.had (slice_index_or (keys_at s.wanted.saved place) c 0) ≡ true
+      → IsKept boxes s.waiting place (region (layout_at s.wanted.layouts place) c)
 
 -- a block of a key that fits it
 pub record IsFitted (facts : LabelFacts Array) (key : ℕ) : Type 0 where
   pub block : Array
   pub fits : BlockFits facts key block
 
--- Each key that was had has a block that fits it; and the file of each save, whatever array is made of such blocks, has what was had of it. A fault
--- is one of a file. No saved key is beyond those that are told of.
+-- Each key that was had has a block that fits it; and the file of each save, whatever array is made of such blocks, has what was had of it, or will once
+-- those that wait are written. A fault is one of a file. No saved key is beyond those that are told of.
 pub record AreSaved (facts : LabelFacts Array) (s : Saves) : Type 0 where
   pub keys_are : AreSavedKeys facts s.wanted
   pub small : (k c : ℕ) → k < length s.wanted.saved → c < length (keys_at s.wanted.saved k) → slice_index_or (keys_at s.wanted.saved k) c 0 < length s.had
@@ -98,6 +120,18 @@ pub record AreSaved (facts : LabelFacts Array) (s : Saves) : Type 0 where
   pub dims : (k : ℕ) → k < length s.files → (saving_at s.files k).dims ≡ lengths (layout_at s.wanted.layouts k)
   pub fit : (key : ℕ) → key < length s.had → had_in s.had key ≡ true → IsFitted facts key
   pub filled : (k : ℕ) → k < length s.files → OnTold (saving_at s.files k).content (λ bytes. (a : Array)
-      → IsMadeOf facts (layout_at s.wanted.layouts k) (keys_at s.wanted.saved k) a
-      → HasBoxes (layout_at s.wanted.layouts k) (keys_at s.wanted.saved k) s.had s.fault a bytes)
+      → IsMadeOf facts (layout_at s.wanted.layouts k) (keys_at s.wanted.saved k) a → HasBoxes s k a bytes)
+  pub waits : s.fault ≡ None → AreWaiting facts s.wanted s.waiting
   pub failed : s.fault ≡ Some Failed → HasFailed s.files
+
+-- ## In the end
+
+-- What a saver led to whose files are given back, and what is answered then: first all that waited is written, unless a write fails.
+pub record Closes {A : Type 0} (facts : LabelFacts Array) (s : Saves) (result : Result A OpenFault) (old new : Files) : Type 0 where
+  pub last : Saves
+  pub on : SavesOn s last
+  pub saved : AreSaved facts last
+  pub none : last.fault ≡ None → length last.waiting.regions ≡ 0
+  pub sound : OnOk result (last.fault ≡ None)
+  pub fault : IfErr result (λ f. last.fault ≡ Some f)
+  pub gives : GivesBack last.files old new

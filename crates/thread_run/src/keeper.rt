@@ -28,7 +28,7 @@ impl<'a, F: OutFile, L: Label<Block = Block>> Sink<Block, L> for Keeper<'a, F, L
         ensures taken { had_in self.new.saver.had key ≡ true }
         ensures leads { SavesOn self.old.saver self.new.saver }
     {
-        self.saver.put(key, &*block);
+        self.saver.put(key, &block);
     }
 
     fn has(&self, key: u32) -> bool {

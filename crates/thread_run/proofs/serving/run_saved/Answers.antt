@@ -1,5 +1,6 @@
-use Rattle.std.proofs.Common.{◌≡◌, ◌∙◌, ap, arith, inl, inr, map, sym, subst, Err}
-use Rattle.std.specs.Prelude.{◌⊎◌, IsTrue, vec_len}
+use Rattle.std.proofs.Common.{◌≡◌, ◌∙◌, ap, arith, get_or, inl, inr, map, sym, subst, true, Err}
+use Rattle.std.specs.Prelude.{◌⊎◌, All, IsTrue, vec_len}
+use Rattle.std.proofs.lemmas.Result.{on_ok_weaker}
 use Rattle.io_edge.specs.Cause.{Rose}
 use Rattle.io_edge.specs.View.{Files, View}
 use Rattle.nd_shape.specs.Block.{Array}
@@ -10,7 +11,8 @@ use Rattle.job_run.specs.Plan.{Plan}
 use Rattle.job_run.specs.Values.{Named, tasks_of}
 use Rattle.job_run.specs.Wanted.{IsWantedOf}
 use Rattle.thread_run.specs.Reports.{label}
-use Rattle.thread_run.specs.Saver.{AreSaved, Saves}
+use Rattle.thread_run.specs.Keeping.{saves-on}
+use Rattle.thread_run.specs.Saver.{AreSaved, Saves, had_in}
 use Rattle.thread_run.specs.Serving.{HasShort}
 use Rattle.thread_run.proofs.Saved.{all-served, facts-are, facts_of, keys-are, label-of, leaves, part-served}
 use Rattle.thread_run.proofs.SaverEnds.{IsServed, still-created}
@@ -61,7 +63,8 @@ returns-clause-files g c =
     let w = c.give-written.ensures in
     let made : SavesFiles p (s c.args.site.now) (s c.open.new.site) = record { others = o.others; tells = o.tells; opened = o.opened; created = o.some; only = o.only; later = o.cause.later } in
     serves-saved p _ (s c.args.site.now) (s c.open.new.site) (s c.give_feeds.new.site) (s c.give-written.new.site) made c.give_feeds.ensures
-    (leaves p c.in-Ok.saver c.run_cluster-ends.result.1.saver c.in-Ok.ensures.open c.run_cluster-ends.ensures.leads (s c.give_feeds.new.site) (s c.give-written.new.site) w.gives w.only w.later)
+    (leaves p c.in-Ok.saver w.closes.last c.in-Ok.ensures.open (saves-on c.in-Ok.saver c.run_cluster-ends.result.1.saver w.closes.last c.run_cluster-ends.ensures.leads w.closes.on) (s c.give_feeds.new.site) (s c.give-written.new.site)
+    w.closes.gives w.only w.later)
 
 pub returns-clause-histories : goal.returns-clause-histories
 returns-clause-histories g c =
@@ -79,7 +82,8 @@ returns-clause-served g c =
     let back : View = s c.give_feeds.new.site in
     let new : View = s c.give-written.new.site in
     let first : Saves = c.in-Ok.saver in
-    let last : Saves = c.run_cluster-ends.result.1.saver in
+    let had : Saves = c.run_cluster-ends.result.1.saver in
+    let last : Saves = c.give-written.ensures.closes.last in
     let is : facts_of g.P.Picks.picked (λ j. j.job) named told ≡ label told named (tasks_of p) = facts-are g.P.Picks.picked c.args.graph.now (λ j. j.job) named told (tasks_of p) c.requires.picked c.requires.tasks in
     let A : LabelFacts Array → Type 0 = λ l. AreSaved l last in
     let none = c.in-Ok.ensures.none in
@@ -90,12 +94,14 @@ returns-clause-served g c =
       keys = none.keys_are ∙ keys-are p c.args.graph.now.job.tasks c.shape.result.now c.keys-keys.result c.requires.tasks c.shape.ensures c.keys-keys.ensures;
       open_is = c.in-Ok.ensures.open;
       fresh = c.in-Ok.ensures.fresh;
-      on = c.run_cluster-ends.ensures.leads;
-      saved = subst A is c.give-written.ensures.saved;
-      gives = c.give-written.ensures.gives;
+      on = saves-on first c.run_cluster-ends.result.1.saver last c.run_cluster-ends.ensures.leads c.give-written.ensures.closes.on;
+      saved = subst A is c.give-written.ensures.closes.saved;
+      gives = c.give-written.ensures.closes.gives;
     } in
     all-served p named told first last old.files back.files new.files r (ap (λ (f : Files). f.created) c.give_feeds.ensures.files ∙ c.in-Ok.ensures.created) c.args.wanted.now.all c.ended.result c.run_cluster-ends.result.0.result c.give-written.result
-    c.requires.wanted.all_is c.ended.ensures.given c.ended.ensures.written c.run_cluster-ends.ensures.had c.give-written.ensures.sound
+    c.requires.wanted.all_is c.ended.ensures.given c.ended.ensures.written
+    (on_ok_weaker c.run_cluster-ends.result.0.result (λ (all : All (λ k. had_in had.had k ≡ true) c.args.wanted.now.all) i d lt. c.give-written.ensures.closes.on.had_still (get_or c.args.wanted.now.all i d) (all i d lt)) c.run_cluster-ends.ensures.had)
+    c.give-written.ensures.closes.sound c.give-written.ensures.closes.none
 
 pub returns-clause-stopped : goal.returns-clause-stopped
 returns-clause-stopped g c =
@@ -108,7 +114,7 @@ returns-clause-stopped g c =
     let back : View = s c.give_feeds.new.site in
     let new : View = s c.give-written.new.site in
     let first : Saves = c.in-Ok.saver in
-    let last : Saves = c.run_cluster-ends.result.1.saver in
+    let last : Saves = c.give-written.ensures.closes.last in
     let ends = c.run_cluster-ends.result.0 in
     let facts : LabelFacts Array = facts_of g.P.Picks.picked (λ j. j.job) named told in
     let is : facts ≡ label told named (tasks_of p) = facts-are g.P.Picks.picked c.args.graph.now (λ j. j.job) named told (tasks_of p) c.requires.picked c.requires.tasks in
@@ -121,9 +127,9 @@ returns-clause-stopped g c =
       keys = none.keys_are ∙ keys-are p c.args.graph.now.job.tasks c.shape.result.now c.keys-keys.result c.requires.tasks c.shape.ensures c.keys-keys.ensures;
       open_is = c.in-Ok.ensures.open;
       fresh = c.in-Ok.ensures.fresh;
-      on = c.run_cluster-ends.ensures.leads;
-      saved = subst A is c.give-written.ensures.saved;
-      gives = c.give-written.ensures.gives;
+      on = saves-on first c.run_cluster-ends.result.1.saver last c.run_cluster-ends.ensures.leads c.give-written.ensures.closes.on;
+      saved = subst A is c.give-written.ensures.closes.saved;
+      gives = c.give-written.ensures.closes.gives;
     } in
     let short : Type 0 = HasShort (map (λ v. vec_len v) c.args.feeds.items) c.args.plan.now.threads in
     let reads : Type 0 = short ⊎ Rose old.read_faults new.read_faults in
