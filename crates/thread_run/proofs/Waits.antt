@@ -118,7 +118,7 @@ each-insert P regions blocks at box b count le all new k lt =
             let above : at ≤ k - 1 = omega (arith, high, ne) in
             let there : k - 1 < length regions = omega (arith, lt, length-insert regions at box le, high, ne) in
             let here : Here ((k - 1) + 1) = both P (box_of rs ((k - 1) + 1)) (box_of regions (k - 1)) (block_at bs ((k - 1) + 1)) (block_at blocks (k - 1)) (get_or-insert_above regions at box none (k - 1) above le)
-                (ap (λ (l : List Array). get_or l ((k - 1) + 1) nothing) same ∙ get_or-insert_above cells at (arc_value b) nothing (k - 1) above within) (all (k - 1) there) in
+            (ap (λ (l : List Array). get_or l ((k - 1) + 1) nothing) same ∙ get_or-insert_above cells at (arc_value b) nothing (k - 1) above within) (all (k - 1) there) in
             subst Here next here
       ]
     ]

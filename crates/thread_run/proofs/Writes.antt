@@ -7,8 +7,9 @@ use Rattle.small_facts.proofs.Numbers.{below_or_equal}
 use Rattle.io_edge.specs.Content.{Content, Told, Untold, OnTold}
 use Rattle.nd_shape.specs.Block.{Array}
 use Rattle.nd_shape.specs.Region.{Box}
-use Rattle.chunk_layout.specs.Layouts.{region}
+use Rattle.chunk_layout.specs.Layouts.{blocks, region}
 use Rattle.cluster_msgs.specs.Labels.{BlockFits, LabelFacts}
+use Rattle.saved_files.specs.Filling.{HoldsBox}
 use Rattle.saved_files.specs.Saving.{Saving, saving_at}
 use Rattle.job_run.specs.declared.wanted.Wanted.{Wanted}
 use Rattle.job_run.specs.Filling.{keys_at, layout_at}
@@ -17,7 +18,7 @@ use Rattle.thread_run.specs.Saver.{AreSaved, AreSavedKeys, AreWaiting, HasBoxes,
 use Rattle.thread_run.specs.Writes.{HasMore, IsBoxOf, IsItem, Keeps, Marks, StandsAt, Writes, at_place, below, none_more, one_more}
 use Rattle.thread_run.proofs.Steps.{MayFail, keeps-as, keeps-none, keeps-then, none-before}
 
--- ## A key
+-- ## The saves
 
 item-at : {A : Type 0} (xs : List A) (k : ℕ) (x d : A) → k < length xs → x ≡ get_or xs k x → x ≡ get_or xs k d
 item-at [] k x d lt e = absurd (omega (arith, lt))
@@ -39,12 +40,12 @@ module _ (facts : LabelFacts Array) (w : Wanted) (key : ℕ) where
   at-none place number keys layout before files g sound item stands never waits =
       let K : MayFail → Type 0 = λ o. Keeps facts w (at_place place (IsBoxOf w key)) o None files files g g in
       subst K (sym sound) (keeps-none facts w (at_place place (IsBoxOf w key)) None files g (λ e k box is.
-          let h : IsBoxOf w key k box = is.1 in
-          let same : keys ≡ keys_at w.saved k = item.keys_are ∙ ap (keys_at w.saved) (sym is.0) in
-          let there : h.number < length keys = subst (λ ks. h.number < length ks) (sym same) h.there in
-          let at : slice_index_or keys h.number 0 ≡ key = ap (λ ks. slice_index_or ks h.number 0) same ∙ h.key_is in
-          let one : h.number ≡ number = stands h.number there at in
-          never (subst (λ n. n < length keys) one there) (subst (λ n. slice_index_or keys n 0 ≡ key) one at)) (λ e. waits sound))
+      let h : IsBoxOf w key k box = is.1 in
+      let same : keys ≡ keys_at w.saved k = item.keys_are ∙ ap (keys_at w.saved) (sym is.0) in
+      let there : h.number < length keys = subst (λ ks. h.number < length ks) (sym same) h.there in
+      let at : slice_index_or keys h.number 0 ≡ key = ap (λ ks. slice_index_or ks h.number 0) same ∙ h.key_is in
+      let one : h.number ≡ number = stands h.number there at in
+      never (subst (λ n. n < length keys) one there) (subst (λ n. slice_index_or keys n 0 ≡ key) one at)) (λ e. waits sound))
 
   -- it does
   pub at-box : (place number : ℕ) (keys : List ℕ) (layout : List (List ℕ)) (before after : MayFail) (old new : List Saving) (g last : Waiting) → before ≡ None → IsItem w place keys layout → StandsAt keys key number →
@@ -52,12 +53,12 @@ module _ (facts : LabelFacts Array) (w : Wanted) (key : ℕ) where
   at-box place number keys layout before after old new g last sound item stands keeps =
       let K : MayFail → Type 0 = λ o. Keeps facts w (at_place place (IsBoxOf w key)) o after old new g last in
       subst K (sym sound) (keeps-as facts w (one_more place (region layout number)) (at_place place (IsBoxOf w key)) None after old new g last (λ e k lt box is.
-          let h : IsBoxOf w key k box = is.1 in
-          let same : keys ≡ keys_at w.saved k = item.keys_are ∙ ap (keys_at w.saved) (sym is.0) in
-          let there : h.number < length keys = subst (λ ks. h.number < length ks) (sym same) h.there in
-          let one : h.number ≡ number = stands h.number there (ap (λ ks. slice_index_or ks h.number 0) same ∙ h.key_is) in
-          let layout-is : layout_at w.layouts k ≡ layout = ap (layout_at w.layouts) is.0 ∙ sym item.layout_is in
-          (is.0, h.box_is ∙ (ap (region (layout_at w.layouts k)) one ∙ ap (λ l. region l number) layout-is))) keeps)
+      let h : IsBoxOf w key k box = is.1 in
+      let same : keys ≡ keys_at w.saved k = item.keys_are ∙ ap (keys_at w.saved) (sym is.0) in
+      let there : h.number < length keys = subst (λ ks. h.number < length ks) (sym same) h.there in
+      let one : h.number ≡ number = stands h.number there (ap (λ ks. slice_index_or ks h.number 0) same ∙ h.key_is) in
+      let layout-is : layout_at w.layouts k ≡ layout = ap (layout_at w.layouts) is.0 ∙ sym item.layout_is in
+      (is.0, h.box_is ∙ (ap (region (layout_at w.layouts k)) one ∙ ap (λ l. region l number) layout-is))) keeps)
 
   -- the saves, one after another
   pub each-first : (before : MayFail) (files : List Saving) (g : Waiting) → (before ≡ None → AreWaiting facts w g) → Keeps facts w (below 0 (IsBoxOf w key)) before before files files g g
@@ -95,6 +96,24 @@ module _ (facts : LabelFacts Array) (w : Wanted) (key : ℕ) where
 
     pub stands-nowhere : result ≡ None → (k : ℕ) → k < length w.saved → (c : ℕ) → c < length (keys_at w.saved k) → slice_index_or (keys_at w.saved k) c 0 ≡ key → ⊥
     stands-nowhere e k lk c lc is = let both : None ≡ Some c = sym e ∙ number-told k c lk lc is in cc
+
+-- a block that fits the key at a number of a save
+module _ (facts : LabelFacts Array) (w : Wanted) (key place number : ℕ) (keys : List ℕ) (layout : List (List ℕ)) (b : Array) (known : AreSavedKeys facts w) (item : IsItem w place keys layout) (there : number < length keys) (is : slice_index_or keys number 0 ≡ key)
+    (fits : BlockFits facts key b) where
+  among-keys : number < length (keys_at w.saved place)
+  among-keys = subst (λ ks. number < length ks) item.keys_are there
+
+  fits-there : BlockFits facts (slice_index_or (keys_at w.saved place) number 0) b
+  fits-there = subst (λ k. BlockFits facts k b) (sym (ap (λ ks. slice_index_or ks number 0) (sym item.keys_are) ∙ is)) fits
+
+  pub number-in : number < blocks layout
+  number-in = subst (λ l. number < blocks l) (sym item.layout_is) (omega (arith, among-keys, known.blocks_are place item.within))
+
+  pub shape-is : b.shape ≡ (region layout number).lengths
+  shape-is = subst (λ l. b.shape ≡ (region l number).lengths) (sym item.layout_is) (known.shapes place number b item.within among-keys fits-there)
+
+  pub holds-there : (a : Array) → IsMadeOf facts (layout_at w.layouts place) (keys_at w.saved place) a → HoldsBox a (region layout number) b
+  holds-there a made = subst (λ l. HoldsBox a (region l number) b) (sym item.layout_is) (made.each number b among-keys fits-there)
 
 -- ## The keys that were had
 
