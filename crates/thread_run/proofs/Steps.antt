@@ -24,7 +24,7 @@ use Rattle.job_run.specs.Grouping.{Inserts, Waiting}
 use Rattle.job_run.proofs.SavingSteps.{same-files, same-then}
 use Rattle.thread_run.specs.Saver.{AreSaved, AreSavedKeys, AreWaiting, HasBoxes, IsAmong, IsFitted, IsKept, IsMadeOf, IsWaiting, Saves, SavesOn, had_in}
 use Rattle.thread_run.specs.Writes.{AreFilesOf, HasMore, IsBoxOf, IsItem, Keeps, Marks, StandsAt, Writes, at_place, below, none_more, one_more}
-use Rattle.thread_run.proofs.Waits.{among-left, among-new, among-right, among-split, each-front, rest_of, waiting-insert, waiting-none, waiting-rest, waits-new, waits-none, waits-still}
+use Rattle.thread_run.proofs.Waits.{among-left, among-new, among-right, among-split, each-front, rest_of, same-waiting, waiting-insert, waiting-none, waiting-rest, waits-new, waits-none, waits-still}
 
 -- ## Faults
 
@@ -323,3 +323,11 @@ files-still w old new f same = record {
   count = same.count ∙ f.count;
   dims = λ k lt. let l : k < length old = omega (arith, lt, same.count) in same.dims k l ∙ f.dims k l;
 }
+
+-- once more the first blocks that wait are written
+pub keeps-next : (facts : LabelFacts Array) (w : Wanted) (first g last : Waiting) (n : ℕ) (after : MayFail) (old mid new : List Saving) → AreFilesOf w old → Keeps facts w none_more None None old mid first g → 0 < n → n ≤ length g.regions → ChangesAt g.place mid new →
+    (after ≡ None → FillsAll (take n g.regions) (take n g.blocks) (saving_at mid g.place) (saving_at new g.place)) → (IsSome after → FillsSome (take n g.regions) (take n g.blocks) (saving_at mid g.place) (saving_at new g.place)) →
+    (after ≡ Some Failed → 0 < (saving_at new g.place).faults) → last.place ≡ g.place → (after ≡ None → last.regions ≡ drop n g.regions) → (after ≡ None → last.blocks ≡ drop n g.blocks) → Keeps facts w none_more None after old new first last
+keeps-next facts w first g last n after old mid new files keeps some within changes whole part failed place regions blocks =
+    keeps-on facts w none_more None None after old mid new first g last keeps
+    (keeps-front facts w g last n after mid new (files-still w old mid files keeps.same) some within (keeps.waits refl) changes whole part failed (λ e. same-waiting (rest_of n g) last place (regions e) (blocks e)))
