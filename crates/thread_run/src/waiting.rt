@@ -110,6 +110,32 @@ fn make_way<F: OutFile, L: Label<Block = Block>>(
     None
 }
 
+// Puts a block among those that wait at the file of its save, and writes those that wait no more.
+fn put_in<F: OutFile, L: Label<Block = Block>>(
+    alloc: Global,
+    files: &mut SavedFiles<F>,
+    group: &mut Group,
+    wanted: &Wanted,
+    place: usize,
+    region: Region,
+    block: Arc<Block>,
+) -> Option<OpenFault>
+    requires files { AreFilesOf wanted.now files.old }
+    requires waits { AreWaiting L.facts wanted.now (waiting_of group.old) }
+    requires place { group.old.place ≡ place }
+    requires there { place < length wanted.now.saved }
+    requires inside { IsPart region (lengths (layout_at wanted.now.layouts place)) }
+    requires shape { (arc_value block).shape ≡ region.lengths }
+    requires holds { (a : Array) → IsMadeOf L.facts (layout_at wanted.now.layouts place) (keys_at wanted.now.saved place) a
+        → HoldsBox a region (arc_value block) }
+    ensures { Keeps L.facts wanted.now (one_more place region) None result files.old files.new (waiting_of group.old) (waiting_of group.new) }
+{
+    match group.insert(region, block) {
+        Ok(()) => write_down::<F, L>(alloc, files, group, wanted, false),
+        Err(_) => Some(OpenFault::OutOfMemory),
+    }
+}
+
 /// Has a block wait at the file of a save, or writes it, with those that it stands beside.
 pub fn hold<F: OutFile, L: Label<Block = Block>>(
     alloc: Global,
@@ -136,9 +162,5 @@ pub fn hold<F: OutFile, L: Label<Block = Block>>(
     if fault.is_some() {
         return fault;
     }
-    let inserted = group.insert(region, shared);
-    if inserted.is_err() {
-        return Some(OpenFault::OutOfMemory);
-    }
-    write_down::<F, L>(alloc, files, group, wanted, false)
+    put_in::<F, L>(alloc, files, group, wanted, place, region, shared)
 }

@@ -1,4 +1,4 @@
-use Rattle.std.proofs.Common.{subst, sym}
+use Rattle.std.proofs.Common.{arith, subst, sym}
 use Rattle.job_run.specs.Grouping.{waiting_of}
 use Rattle.thread_run.specs.Writes.{IsItem, StandsAt}
 use Rattle.thread_run.proofs.Steps.{files-still}
@@ -26,3 +26,8 @@ pub loop-place-preserved : goal.loop-place-preserved
 loop-place-preserved g c =
     each-next g.L.Label.facts c.args.wanted.now c.args.key c.loop-place.place c.args.before c.loop-place.fault c.keep_at-fault.result c.args.files.now c.loop-place.files c.keep_at-fault.new.files (waiting_of c.args.group.now) (waiting_of c.loop-place.group)
     (waiting_of c.keep_at-fault.new.group) c.loop-place.invariant c.keep_at-fault.ensures
+
+pub returns : goal.returns
+returns g c =
+    each-all g.L.Label.facts c.args.wanted.now c.args.key c.loop-place.place c.args.before c.loop-place.fault c.args.files.now c.loop-place.files (waiting_of c.args.group.now) (waiting_of c.loop-place.group) (omega (arith, c.requires.files.count))
+    c.loop-place.invariant
