@@ -257,9 +257,20 @@ module _ (p : Plan) (named : Named) (told : Bool) (created s : Saves) (old mid n
     created = r.gives.created ∙ created_is;
   }
 
+-- files that are the same ones were created where those were
+pub still-created : (old new : List Saving) (at later : Files) → AreSameFiles old new → later.created ≡ at.created → WereCreated old at → WereCreated new later
+still-created old new at later same is created k lt =
+    let l : k < length old = omega (arith, lt, same.count) in
+    let P : (List ℕ → ℕ) → List ℕ → Type 0 = λ f n. 0 < f n in
+    subst (λ f. P f (saving_at new k).name) (sym is) (subst (P at.created) (sym (same.names k l)) (created k l))
+
 -- the files couldn't be created
 pub open-left : (p : Plan) (named : Named) (old new : Files) → IsRunnable p → HasLaws p named → LeavesAll p old new → AreLeft (names_saved p) (files_of p named) old new
 open-left p named old new runs laws leaves k lt =
     let l : k < length p.saves = omega (arith, lt, count_names p) in
     let L : List ℕ → Type 0 = λ bytes. IsLeft (name_at (names_saved p) k) bytes old new in
     subst L (file_saved p named k l) (leaves k (array_at p named k) l (saved-is p named k runs laws.expression l))
+
+-- a file that failed raises the site's count where it is given back
+pub give-failed : (files : List Saving) (before now : ℕ) → HasFailed files → TakesAll files before now → Rose before now
+give-failed files before now failed takes = takes.risen failed.place failed.there failed.failed

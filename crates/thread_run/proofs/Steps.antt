@@ -9,16 +9,14 @@ use Rattle.std.proofs.lemmas.Bool.{cases_eq}
 use Rattle.small_facts.proofs.Numbers.{below_or_equal}
 use Rattle.io_edge.specs.declared.edge.OpenFault.{OpenFault}
 use Rattle.io_edge.specs.declared.edge.OpenFault.TheVariants.{Failed, OutOfMemory}
-use Rattle.io_edge.specs.Cause.{Rose}
 use Rattle.io_edge.specs.Content.{Content, Told, Untold, OnTold, told_bytes}
-use Rattle.io_edge.specs.View.{Files}
 use Rattle.nd_shape.specs.Block.{Array}
 use Rattle.nd_shape.specs.Region.{Box, IsPart}
 use Rattle.chunk_layout.specs.Layouts.{blocks, lengths, region}
 use Rattle.cluster_msgs.specs.Labels.{BlockFits, LabelFacts}
 use Rattle.npy_region.specs.Writing.{Turns}
 use Rattle.saved_files.specs.Filling.{HoldsBox, IsFilling}
-use Rattle.saved_files.specs.Saving.{ChangesAt, FillsAll, FillsMore, FillsPart, FillsSome, HoldsBoxes, Saving, TakesAll, WereCreated, saving_at}
+use Rattle.saved_files.specs.Saving.{ChangesAt, FillsAll, FillsMore, FillsPart, FillsSome, HoldsBoxes, Saving, saving_at}
 use Rattle.job_run.specs.declared.wanted.Wanted.{Wanted}
 use Rattle.job_run.specs.Evaluating.{AreSameFiles, HasFailed}
 use Rattle.job_run.specs.Filling.{keys_at, layout_at}
@@ -333,16 +331,3 @@ pub keeps-next : (facts : LabelFacts Array) (w : Wanted) (first g last : Waiting
 keeps-next facts w first g last n after old mid new files keeps some within changes whole part failed place regions blocks =
     keeps-on facts w none_more None None after old mid new first g last keeps
     (keeps-front facts w g last n after mid new (files-still w old mid files keeps.same) some within (keeps.waits refl) changes whole part failed (λ e. same-waiting (rest_of n g) last place (regions e) (blocks e)))
-
--- ## The files at their site
-
--- files that are the same ones were created where those were
-pub still-created : (old new : List Saving) (at later : Files) → AreSameFiles old new → later.created ≡ at.created → WereCreated old at → WereCreated new later
-still-created old new at later same is created k lt =
-    let l : k < length old = omega (arith, lt, same.count) in
-    let P : (List ℕ → ℕ) → List ℕ → Type 0 = λ f n. 0 < f n in
-    subst (λ f. P f (saving_at new k).name) (sym is) (subst (P at.created) (sym (same.names k l)) (created k l))
-
--- a file that failed raises the site's count where it is given back
-pub give-failed : (files : List Saving) (before now : ℕ) → HasFailed files → TakesAll files before now → Rose before now
-give-failed files before now failed takes = takes.risen failed.place failed.there failed.failed

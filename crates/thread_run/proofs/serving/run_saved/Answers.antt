@@ -15,9 +15,8 @@ use Rattle.thread_run.specs.Keeping.{saves-on}
 use Rattle.thread_run.specs.Saver.{AreSaved, Saves, had_in}
 use Rattle.thread_run.specs.Serving.{HasShort}
 use Rattle.thread_run.proofs.Saved.{all-served, facts-are, facts_of, keys-are, label-of, leaves, part-served}
-use Rattle.thread_run.proofs.SaverEnds.{IsServed}
+use Rattle.thread_run.proofs.SaverEnds.{IsServed, still-created}
 use Rattle.thread_run.proofs.Serves.{SavesFiles, leaves-none, rose_after, rose_first, serves-saved, served-run, uncreated, why-of}
-use Rattle.thread_run.proofs.Steps.{still-created}
 use Rattle.thread_run.proofs.serving.run_saved.Goals as goal
 
 pub open-requires-clause-keys : goal.open-requires-clause-keys
