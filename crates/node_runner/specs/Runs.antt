@@ -1,5 +1,5 @@
 -- How a run by threads ended.
-use Rattle.std.specs.Prelude.{◌≡◌, ◌≢◌, ℕ, ◌+◌, ◌^◌, ◌<◌, ◌≤◌, ◌⊎◌, Bool, true, false, List, [], ◌∷◌, ◌++◌, length, map, sum, slice_index_or, Option, Some, None, All, IfOk, IfSome, is_some, Result, Ok, Err, Contains}
+use Rattle.std.specs.Prelude.{◌≡◌, ◌≢◌, ℕ, ◌+◌, ◌^◌, ◌<◌, ◌≤◌, ◌⊎◌, Bool, true, false, List, [], ◌∷◌, ◌++◌, length, map, sum, take, slice_index_or, Option, Some, None, All, IfOk, IfSome, is_some, Result, Ok, Err, Contains}
 use Rattle.cluster_msgs.specs.Shape.{Shape}
 use Rattle.cluster_msgs.specs.Labels.{LabelFacts, BlameFits}
 use Rattle.cluster_msgs.specs.declared.events.Entry.{Entry}
@@ -18,7 +18,7 @@ use Rattle.scheduler_core.specs.Cores.{facts}
 use Rattle.node_states.specs.Machines.{SchedState, SchedSays, SchedBy, WorkerSays, WorkerBy, ClientSays, ClientBy, scheduler_bytes, node_bytes}
 use Rattle.node_states.specs.Order.{AreInTime, start_of, joins_of}
 use Rattle.node_states.specs.Released.{WasReleased}
-use Rattle.node_states.specs.Workers.{ends_last}
+use Rattle.node_states.specs.Workers.{ends_last, no_end}
 use Rattle.node_states.specs.declared.choice.Plan.{Plan}
 use Rattle.node_states.specs.declared.why.Why.{Why}
 use Rattle.node_states.specs.declared.why.Why.TheVariants as why
@@ -151,22 +151,29 @@ Names w (item.Lose v at) = v ≡ w
 Names w (item.Suspect v at) = v ≡ w
 Names w (item.Join at) = ⊥
 
-pub record IsNamed (script : List Item) (w : ℕ) : Type 0 where
-  pub which : Item
-  pub among : Contains script which
-  pub names : Names w which
+-- an item of the script names the worker, and each join that stands before it was made, where so many workers joined
+pub record IsNamed (p : RunPlan) (joined w : ℕ) : Type 0 where
+  pub place : ℕ
+  pub within : place < length p.script
+  pub names : (d : Item) → Names w (slice_index_or p.script place d)
+  pub made : p.workers + sum (map joins_of (take place p.script)) ≤ joined
 
 -- a worker that joined left for this cause: these entries say its end, or one was left out, or it isn't connected any more. By the script only where an
 -- item names it, and by no link's end, which a run in one process doesn't have
 pub record IsLeft (p : RunPlan) (f : Facts) (w : ℕ) (entries : List Entry) (cut : Bool) (cause : Why) : Type 0 where
   pub joined : w ≤ f.last_worker
   pub gone : (cut ≡ false → ends_last w entries ≡ true) ⊎ (connected f w ≡ false)
-  pub script : cause ≡ why.Script → IsNamed p.script w
+  pub script : cause ≡ why.Script → IsNamed p f.last_worker w
   pub unlinked : cause ≢ why.Link
+
+-- a worker's row: why it left; and one that joined and has none has no end among its entries, and is connected
+abbrev pub IsRow : RunPlan → Facts → ℕ → List Entry → Bool → Option Why → Type 0
+IsRow p f w entries cut None = w ≤ f.last_worker → (no_end entries ≡ true) × (connected f w ≡ true)
+IsRow p f w entries cut (Some cause) = IsLeft p f w entries cut cause
 
 -- which workers left, by number from 1, and why
 abbrev pub AreLeft : RunPlan → LastFacts → List History → List (Option Why) → Type 0
-AreLeft p last histories left = AllBy (λ k h o. IfSome o (IsLeft p last.scheduler (k + 1) h.entries (is_some h.cut))) histories left
+AreLeft p last histories left = AllBy (λ k h o. IsRow p last.scheduler (k + 1) h.entries (is_some h.cut) o) histories left
 
 -- no worker is left: each that joined has a row, none for want of memory
 pub record IsGivenUp (f : Facts) (left : List (Option Why)) : Type 0 where

@@ -1,14 +1,14 @@
 //! How a run ended, as the closed nodes tell.
 ghost use Rattle.std.specs.Prelude.{◌≡◌, ◌≢◌, ◌≤◌, ◌+◌, ◌^◌, ◌<◌, ◌++◌, ◌∷◌, [], ℕ, true, false, None, slice_index_or, All, Contains, IfOk, IfSome, Some};
 ghost use Rattle.cluster_msgs.specs.Labels.{BlameFits};
-ghost use Rattle.cluster_rules.specs.Sched.{Facts as SchedFacts, connected};
+ghost use Rattle.cluster_rules.specs.Sched.{Facts as SchedFacts};
 ghost use Rattle.gather_client.specs.CoreState.{client_facts};
 ghost use Rattle.scheduler_core.specs.Cores.{facts};
 ghost use Rattle.worker_core.specs.Core.{facts as worker_facts};
 ghost use Rattle.turn_cell.specs.Rows.{AllBy};
 ghost use Rattle.node_states.specs.Fitting.{ClientFits};
 ghost use Rattle.node_states.specs.declared.why.Why.TheVariants as why;
-ghost use Rattle.node_runner.specs.Runs.{HasGot, IsGivenUp, IsGot, IsLeft, IsNamed, IsFromWorker};
+ghost use Rattle.node_runner.specs.Runs.{HasGot, IsGivenUp, IsGot, IsNamed, IsRow, IsFromWorker};
 
 use crate::plan::RunPlan;
 use crate::sink::Sink;
@@ -16,6 +16,7 @@ use cluster_msgs::{End, History, Label};
 use cluster_rules::Facts;
 use node_links::Keyed;
 use node_states::{BlockStore, ClientNode, Feeds, SchedulerNode, Why, WorkerNode};
+use scheduler_core::Sched;
 use std::alloc::{AllocError, Global};
 
 /// Why a run gave no blocks.
@@ -125,92 +126,85 @@ pub fn any_spent<B: Drop, L: Label<Block = B>, F: Drop, S: BlockStore<B, L>>(
 }
 
 /// For each worker why it left, if it joined and left.
+///
+/// # Errors
+/// Where there is no memory, or the scheduler's core met want of memory, so that nobody knows who joined.
 pub fn all_left<B: Drop, L: Label<Block = B>, F: Drop, S: BlockStore<B, L>>(
     alloc: Global,
     plan: &RunPlan,
     scheduler: &SchedulerNode<B, L>,
     workers: &[WorkerNode<B, L, F, S>],
 ) -> Result<Vec<Option<Why>>, AllocError>
-    ensures { IfOk result (λ left. AllBy (λ k w o. IfSome o (IsLeft plan.now (facts scheduler.now.history.book.core.core) (k + 1) w.history.book.entries w.history.book.cut))
+    ensures { IfOk result (λ left. AllBy (λ k w o. IsRow plan.now (facts scheduler.now.history.book.core.core) (k + 1) w.history.book.entries w.history.book.cut o)
         workers.now left.items) }
 {
-    let joined = joined(scheduler);
+    let Some(core) = scheduler.history.core() else {
+        return Err(AllocError);
+    };
+    let core = core.core();
     let mut left = Vec::new(alloc);
     for (at, worker) in workers.iter().enumerate() {
-        left.push(row(plan, scheduler, worker, joined, at))?;
+        let found = row(plan, core, worker, at)?;
+        left.push(found)?;
     }
     Ok(left)
 }
 
 /// Why the worker at a place left, if it is one of those that joined and left.
+///
+/// # Errors
+/// Where the worker at this place has another number, which no run makes.
 fn row<B: Drop, L: Label<Block = B>, F: Drop, S: BlockStore<B, L>>(
     plan: &RunPlan,
-    scheduler: &SchedulerNode<B, L>,
+    core: &Sched,
     worker: &WorkerNode<B, L, F, S>,
-    joined: u32,
     at: usize,
-) -> Option<Why>
-    requires joined { joined ≤ (facts scheduler.now.history.book.core.core).last_worker }
-    ensures { IfSome result (IsLeft plan.now (facts scheduler.now.history.book.core.core) (at + 1) worker.now.history.book.entries worker.now.history.book.cut) }
+) -> Result<Option<Why>, AllocError>
+    ensures { IfOk result (IsRow plan.now (facts core.now) (at + 1) worker.now.history.book.entries worker.now.history.book.cut) }
 {
-    if at < joined as usize {
-        why_left(plan, scheduler, worker, at as u32 + 1)
+    if at < core.last_worker() as usize {
+        why_left(plan, core, worker, at as u32 + 1)
     } else {
-        None
+        Ok(None)
     }
 }
 
-/// How many workers joined, as far as the scheduler goes on.
-fn joined<B: Drop, L: Label<Block = B>>(scheduler: &SchedulerNode<B, L>) -> u32
-    ensures { result ≤ (facts scheduler.now.history.book.core.core).last_worker }
-{
-    match scheduler.joined() {
-        Some(joined) => joined,
-        None => 0,
-    }
-}
-
-/// Why a worker left, if it did: it ended, or isn't connected any more.
+/// Why a worker that joined left, if it did: it ended, or isn't connected any more.
 fn why_left<B: Drop, L: Label<Block = B>, F: Drop, S: BlockStore<B, L>>(
     plan: &RunPlan,
-    scheduler: &SchedulerNode<B, L>,
+    core: &Sched,
     worker: &WorkerNode<B, L, F, S>,
     id: u32,
-) -> Option<Why>
-    requires joined { id ≤ (facts scheduler.now.history.book.core.core).last_worker }
-    ensures { IfSome result (IsLeft plan.now (facts scheduler.now.history.book.core.core) id worker.now.history.book.entries worker.now.history.book.cut) }
+) -> Result<Option<Why>, AllocError>
+    requires joined { id ≤ (facts core.now).last_worker }
+    ensures { IfOk result (IsRow plan.now (facts core.now) id worker.now.history.book.entries worker.now.history.book.cut) }
 {
-    if worker.id() == id && worker.ended() {
+    if worker.id() != id {
+        return Err(AllocError);
+    }
+    let joined = core.last_worker();
+    if worker.ended() {
         let why = match worker.why() {
             Some(why) => why,
             None => Why::Memory,
         };
-        return Some(told(plan, id, why));
+        return Ok(Some(told(plan, joined, id, why)));
     }
-    if is_gone(scheduler, id) {
-        return Some(told(plan, id, Why::Script));
+    if !core.connected(id) {
+        return Ok(Some(told(plan, joined, id, Why::Script)));
     }
-    None
+    Ok(None)
 }
 
-/// Whether a worker isn't connected, as far as the scheduler goes on.
-fn is_gone<B: Drop, L: Label<Block = B>>(scheduler: &SchedulerNode<B, L>, worker: u32) -> bool
-    ensures { result ≡ true → connected (facts scheduler.now.history.book.core.core) worker ≡ false }
-{
-    match scheduler.history.core() {
-        Some(core) => !core.core().connected(worker),
-        None => false,
-    }
-}
-
-/// The cause as it is told: the script only where an item names the worker, and no link's end, which a run in one process doesn't have.
-fn told(plan: &RunPlan, worker: u32, cause: Why) -> Why
-    ensures script { result ≡ why.Script → IsNamed plan.now.script worker }
+/// The cause as it is told, where so many workers joined: the script only where an item names the worker whose joins before it were made, and no link's
+/// end, which a run in one process doesn't have.
+fn told(plan: &RunPlan, joined: u32, worker: u32, cause: Why) -> Why
+    ensures script { result ≡ why.Script → IsNamed plan.now joined worker }
     ensures unlinked { result ≢ why.Link }
 {
     match cause {
         Why::Script => {
-            if plan.names(worker) {
+            if plan.names(worker, joined) {
                 Why::Script
             } else {
                 Why::Memory

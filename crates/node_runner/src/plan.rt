@@ -32,14 +32,19 @@ impl RunPlan {
         count
     }
 
-    /// Whether an item of the script names a worker.
-    pub fn names(&self, worker: u32) -> bool
-        ensures { result ≡ true → IsNamed self.now.script worker }
+    /// Whether an item of the script names a worker, and of so many workers that joined are all that join before the item.
+    #[tactic(auto, using(crate::proofs::Numbers::joins_before, crate::proofs::Numbers::joins_first))]
+    pub fn names(&self, worker: u32, joined: u32) -> bool
+        ensures { result ≡ true → IsNamed self.now joined worker }
     {
+        let mut before = self.workers as u64;
         for item in self.script.as_slice() {
-            if let Item::Lose { w, at: _ } | Item::Suspect { w, at: _ } = item {
-                if *w == worker {
-                    return true;
+            match item {
+                Item::Join { at: _ } => before += 1,
+                Item::Lose { w, at: _ } | Item::Suspect { w, at: _ } => {
+                    if *w == worker {
+                        return before <= joined as u64;
+                    }
                 }
             }
         }
