@@ -1,5 +1,5 @@
 -- How a run by threads ended.
-use Rattle.std.specs.Prelude.{◌≡◌, ◌≢◌, ℕ, ◌+◌, ◌^◌, ◌<◌, ◌≤◌, ◌⊎◌, Bool, true, false, List, [], ◌∷◌, ◌++◌, length, map, sum, take, slice_index_or, Option, Some, None, All, IfOk, IfSome, is_some, Result, Ok, Err, Contains}
+use Rattle.std.specs.Prelude.{◌≡◌, ◌≢◌, ℕ, ◌+◌, ◌-◌, ◌^◌, ◌<◌, nat_lt, ◌≤◌, ◌⊎◌, Bool, true, false, List, [], ◌∷◌, ◌++◌, length, map, filter, sum, take, slice_index_or, Option, Some, None, All, IfOk, IfSome, is_some, Result, Ok, Err, Contains}
 use Rattle.cluster_msgs.specs.Shape.{Shape}
 use Rattle.cluster_msgs.specs.Labels.{LabelFacts, BlameFits}
 use Rattle.cluster_msgs.specs.declared.events.Entry.{Entry}
@@ -170,6 +170,21 @@ pub record IsLeft (p : RunPlan) (f : Facts) (w : ℕ) (entries : List Entry) (cu
 abbrev pub IsRow : RunPlan → Facts → ℕ → List Entry → Bool → Option Why → Type 0
 IsRow p f w entries cut None = w ≤ f.last_worker → (no_end entries ≡ true) × (connected f w ≡ true)
 IsRow p f w entries cut (Some cause) = IsLeft p f w entries cut cause
+
+-- how many workers left for a feed
+abbrev pub is_feed_row : Option Why → Bool
+is_feed_row (Some why.Feed) = true
+is_feed_row o = false
+
+abbrev pub feed_rows : List (Option Why) → ℕ
+feed_rows left = length (filter is_feed_row left)
+
+-- how many workers had too few feeds, by the lengths of their lists of feeds; and how many of these feeds have failed
+abbrev pub lacking_feeds : RunPlan → List ℕ → ℕ
+lacking_feeds p given = (numbers p - length given) + length (filter (λ n. nat_lt n p.threads) given)
+
+abbrev pub failed_feeds : {F : Type 0} → (F → ℕ) → List F → ℕ
+failed_feeds faults back = length (filter (λ f. nat_lt 0 (faults f)) back)
 
 -- which workers left, by number from 1, and why
 abbrev pub AreLeft : RunPlan → LastFacts → List History → List (Option Why) → Type 0

@@ -1,5 +1,5 @@
 //! How a run ended, as the closed nodes tell.
-ghost use Rattle.std.specs.Prelude.{◌≡◌, ◌≢◌, ◌≤◌, ◌+◌, ◌^◌, ◌<◌, ◌++◌, ◌∷◌, [], ℕ, true, false, None, slice_index_or, All, Contains, IfOk, IfSome, Some};
+ghost use Rattle.std.specs.Prelude.{◌≡◌, ◌≢◌, ◌≤◌, ◌+◌, ◌^◌, ◌<◌, ◌++◌, ◌∷◌, [], ℕ, true, false, cond, None, slice_index_or, All, Contains, IfOk, IfSome, Some};
 ghost use Rattle.cluster_msgs.specs.Labels.{BlameFits};
 ghost use Rattle.cluster_rules.specs.Sched.{Facts as SchedFacts};
 ghost use Rattle.gather_client.specs.CoreState.{client_facts};
@@ -8,6 +8,7 @@ ghost use Rattle.worker_core.specs.Core.{facts as worker_facts};
 ghost use Rattle.turn_cell.specs.Rows.{AllBy};
 ghost use Rattle.node_states.specs.Fitting.{ClientFits};
 ghost use Rattle.node_states.specs.declared.why.Why.TheVariants as why;
+ghost use Rattle.node_runner.specs.Runs.{feed_rows as rows_for_feeds, is_feed_row};
 ghost use Rattle.node_runner.specs.Runs.{HasGot, IsGivenUp, IsGot, IsNamed, IsRow, IsFromWorker};
 
 use crate::plan::RunPlan;
@@ -241,6 +242,30 @@ fn is_row(left: &[Option<Why>], at: usize) -> bool
         },
         _ => false,
     }
+}
+
+/// How many workers left for a feed.
+pub fn feed_rows(left: &[Option<Why>]) -> u64
+    ensures { result ≡ rows_for_feeds left.now }
+{
+    let mut count: u64 = 0;
+    for row in left {
+        count += one_if(is_feed(row));
+    }
+    count
+}
+
+fn is_feed(row: &Option<Why>) -> bool
+    ensures { result ≡ is_feed_row row.now }
+{
+    matches!(row, Some(Why::Feed))
+}
+
+/// 1 for yes, 0 for no.
+pub fn one_if(yes: bool) -> u64
+    ensures { result ≡ cond yes 1 0 }
+{
+    if yes { 1 } else { 0 }
 }
 
 /// The histories, the feeds and the stores of closed workers. No histories where there is no memory for all of these but the stores.

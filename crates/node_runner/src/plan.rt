@@ -1,7 +1,8 @@
 //! What a run is to be like.
 ghost use Rattle.std.specs.Prelude.{◌≡◌, ◌<◌, ◌≤◌, ℕ, true, map, vec_len, Contains};
-ghost use Rattle.node_runner.specs.Runs.{IsNamed, numbers};
+ghost use Rattle.node_runner.specs.Runs.{IsNamed, lacking_feeds, numbers};
 
+use crate::ends::one_if;
 use cluster_msgs::{Item, Script};
 
 /// The workers that join first, how many tasks each may run at once, how full a worker is at which no more root tasks go to it, in tenths of its
@@ -49,6 +50,18 @@ impl RunPlan {
             }
         }
         false
+    }
+
+    /// How many workers have too few feeds: those without a list of them, and those whose list is shorter than a worker's threads.
+    pub fn lacking<F>(&self, feeds: &[Vec<F>]) -> u64
+        requires { numbers self.now ≤ 1024 }
+        ensures { result ≡ lacking_feeds self.now (map (λ v. vec_len v) feeds.now) }
+    {
+        let mut count = (self.numbers() as u64).saturating_sub(feeds.len() as u64);
+        for own in feeds {
+            count += one_if(own.len() < self.threads as usize);
+        }
+        count
     }
 
     /// Whether one of these numbers of feeds is less than a worker's threads.

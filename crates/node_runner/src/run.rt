@@ -7,11 +7,12 @@ ghost use Rattle.worker_core.specs.Core.{facts as worker_facts};
 ghost use Rattle.node_runner.specs.declared.ends.RunStatus.TheVariants as status;
 ghost use Rattle.node_runner.specs.Making.{AreMade};
 ghost use Rattle.node_runner.specs.Naming.{run_facts};
+ghost use Rattle.node_runner.specs.Runs.{failed_feeds, feed_rows, lacking_feeds};
 ghost use Rattle.node_runner.specs.Runs.{HasFeedFault, HasNotRun, HasRun, HowItEnded, IsGivenUp, LastFacts, numbers};
 ghost use Rattle.node_runner.specs.Runs.{IsFirstScheduler, IsFirstWorker, IsFirstClient, IsSchedulersBook, IsWorkersBook, IsClientsBook};
 
 use crate::closing::{end_nodes, not_run};
-use crate::ends::{Ends, RunStatus, take_apart};
+use crate::ends::{Ends, RunStatus, feed_rows as rows_of, one_if, take_apart};
 use crate::label::{Fed, RunLabel, RunName};
 use crate::making::{Rows, make_rows};
 use crate::plan::RunPlan;
@@ -72,17 +73,18 @@ where
     ensures ended { HowItEnded (run_facts J.graph J.operation J.key_dims J.block_dims K.told K.job) (J.graph job.now) plan.now wanted.now
         (HasFeedFault J.fault_count plan.now.threads (map (λ v. vec_len v) feeds.items) result.0.feeds.items)
         result.0.result result.0.left.items result.0.histories }
+    ensures rows { feed_rows result.0.left.items ≤ lacking_feeds plan.now (map (λ v. vec_len v) feeds.items) + failed_feeds J.fault_count result.0.feeds.items }
 {
-    let (rows, stamps, short) = begin(alloc, job, plan, wanted, feeds, stores);
+    let (rows, stamps, short, lacking) = begin(alloc, job, plan, wanted, feeds, stores);
     match stamps {
         Some(stamps) => run_made(
-            rt, alloc, job, gate, plan, wanted, short, rows, stamps, sink,
+            rt, alloc, job, gate, plan, wanted, short, lacking, rows, stamps, sink,
         ),
         None => (close_rows(alloc, rows), sink),
     }
 }
 
-/// The nodes, the right to draw stamps where all nodes are made and there is memory, and whether a worker has too few feeds.
+/// The nodes, the right to draw stamps where all nodes are made and there is memory, whether a worker has too few feeds, and how many have.
 fn begin<J: JobSpec, K: RunName<J>, S: BlockStore<J::Block, RunLabel<J, K>>>(
     alloc: Global,
     job: &J,
@@ -94,6 +96,7 @@ fn begin<J: JobSpec, K: RunName<J>, S: BlockStore<J::Block, RunLabel<J, K>>>(
     Rows<RunLabel<J, K>, Scheduler<J, K>, Worker<J, K, S>, Client<J, K>>,
     Option<Stamps>,
     bool,
+    u64,
 )
     requires named { K.job ≡ Some job.now }
     requires saturation { (1 ≤ plan.now.saturation) × (plan.now.saturation ≤ 1000) }
@@ -107,13 +110,15 @@ fn begin<J: JobSpec, K: RunName<J>, S: BlockStore<J::Block, RunLabel<J, K>>>(
         (worker_facts s.history.book.kept.core)) (numbers plan.now) (map (λ p. berth_of p.seat) result.0.workers.passes.items)) }
     ensures client { IfSome result.1 (λ _. AreMade (λ k s. IsFirstClient (J.graph job.now) s.book.kept.id (client_facts s.book.kept.core)) 1
         (map (λ p. berth_of p.seat) result.0.clients.passes.items)) }
+    ensures lacking { result.3 ≡ lacking_feeds plan.now (map (λ v. vec_len v) feeds.items) }
     ensures short { result.2 ≡ true → (n : ℕ) × Contains (map (λ v. vec_len v) feeds.items) n × (n < plan.now.threads) }
 {
     let short = plan.is_short(feeds.as_slice());
+    let lacking = plan.lacking(feeds.as_slice());
     let drivers = plan.workers * plan.threads + plan.workers + 1;
     let (rows, whole) = make_rows(alloc, job.shape(), plan, wanted, feeds, stores, drivers + 1);
     let stamps = rights(alloc, whole);
-    (rows, stamps, short)
+    (rows, stamps, short, lacking)
 }
 
 /// The right to draw stamps, where all nodes are made and there is memory.
@@ -126,7 +131,7 @@ fn rights(alloc: Global, whole: bool) -> Option<Stamps>
     Stamps::new(alloc).ok()
 }
 
-/// Runs the nodes that were made. `short` says that a worker has too few feeds.
+/// Runs the nodes that were made. `short` says that a worker has too few feeds, and `lacking` how many have.
 fn run_made<R, J, G, K, S, Z>(
     rt: &R,
     alloc: Global,
@@ -135,6 +140,7 @@ fn run_made<R, J, G, K, S, Z>(
     plan: &RunPlan,
     wanted: &KeyList,
     short: bool,
+    lacking: u64,
     rows: Rows<RunLabel<J, K>, Scheduler<J, K>, Worker<J, K, S>, Client<J, K>>,
     stamps: Stamps,
     sink: Z,
@@ -160,10 +166,50 @@ where
     ensures ended { HowItEnded (run_facts J.graph J.operation J.key_dims J.block_dims K.told K.job) (J.graph job.now) plan.now wanted.now
         ((short ≡ true) ⊎ ((f : _) × Contains result.0.feeds.items f × (0 < J.fault_count f)))
         result.0.result result.0.left.items result.0.histories }
+    ensures rows { feed_rows result.0.left.items ≤ lacking + failed_feeds J.fault_count result.0.feeds.items }
 {
     let (closed, mut sink) = run_rows(rt, alloc, job, gate, plan, wanted, rows, stamps, sink);
     let (ends, given_up) = end_rows(alloc, job.shape(), plan, wanted, closed, &mut sink);
-    (with_reads(job, short, given_up, ends), sink)
+    let ends = with_reads(job, short, given_up, ends);
+    (backed(alloc, job, lacking, ends), sink)
+}
+
+/// The same, where no more workers left for a feed than had too few feeds and than feeds have failed. Else it isn't told of, as for want of memory.
+fn backed<J: JobSpec, K: RunName<J>, S: Drop>(
+    alloc: Global,
+    job: &J,
+    lacking: u64,
+    ends: Ends<Fed<J, K>, S>,
+) -> Ends<Fed<J, K>, S>
+    ensures rows { feed_rows result.left.items ≤ lacking + failed_feeds J.fault_count result.feeds.items }
+    ensures ended { (result ≡ ends) ⊎ ((result.histories ≡ None) × HasNotRun result.result result.left.items × (result.feeds ≡ ends.feeds)) }
+{
+    let failed = count_failed(job, ends.feeds.as_slice());
+    let rows = rows_of(ends.left.as_slice());
+    if rows.saturating_sub(lacking) <= failed {
+        return ends;
+    }
+    let Ends {
+        result: _,
+        histories,
+        left,
+        feeds,
+        stores,
+    } = ends;
+    drop(histories);
+    drop(left);
+    not_run(alloc, feeds, stores)
+}
+
+/// How many of these feeds have failed.
+fn count_failed<J: JobSpec, K: RunName<J>>(job: &J, feeds: &[Fed<J, K>]) -> u64
+    ensures { result ≡ failed_feeds J.fault_count feeds.now }
+{
+    let mut count: u64 = 0;
+    for fed in feeds {
+        count += one_if(fed.faults(job) > 0);
+    }
+    count
 }
 
 /// Ends a run whose nodes couldn't all be made.

@@ -1,10 +1,10 @@
 use Rattle.std.proofs.Common.{◌≡◌, ◌+◌, ◌<◌, ◌⊎◌, true, subst, sym}
-use Rattle.std.specs.Prelude.{All, Contains, slice_index_or}
+use Rattle.std.specs.Prelude.{All, Contains, IfOk, slice_index_or}
 use Rattle.gather_client.specs.CoreState.{client_facts}
 use Rattle.worker_core.specs.Core.{facts as worker_facts}
 use Rattle.node_runner.specs.Naming.{run_facts}
 use Rattle.node_runner.specs.Runs.{IsSchedulersBook, IsWorkersBook, IsClientsBook, HowItEnded}
-use Rattle.node_runner.proofs.FeedFaults.{still_ok, told_end}
+use Rattle.node_runner.proofs.FeedFaults.{ended_none, none_ok, not_told, still_ok, told_end}
 use Rattle.node_runner.proofs.run.run_made.Goals as goal
 
 pub end_rows-ends-requires-clause-scheduler : goal.end_rows-ends-requires-clause-scheduler
@@ -30,9 +30,12 @@ end_rows-ends-requires-clause-clients g c =
     c.run_rows-closed.result.0.clients.items) (sym c.shape.ensures) c.run_rows-closed.ensures.clients
 
 pub returns-clause-had : goal.returns-clause-had
-returns-clause-had g c = still_ok (λ _. All (λ k. g.Z.Sink.had c.end_rows-ends.new.sink k ≡ true) c.args.wanted.now) c.end_rows-ends.result.0.result c.with_reads.result.result
+returns-clause-had g c = not_told (λ ends. IfOk ends.result (λ _. All (λ k. g.Z.Sink.had c.end_rows-ends.new.sink k ≡ true) c.args.wanted.now)) c.with_reads-ends.result c.backed.result
+    _ c.backed.ensures.ended
+    (λ n. none_ok (λ _. All (λ k. g.Z.Sink.had c.end_rows-ends.new.sink k ≡ true) c.args.wanted.now) c.backed.result.result _ n.1.memory)
+    (still_ok (λ _. All (λ k. g.Z.Sink.had c.end_rows-ends.new.sink k ≡ true) c.args.wanted.now) c.end_rows-ends.result.0.result c.with_reads-ends.result.result
     (c.end_rows-ends.result.1 ≡ true) ((c.args.short ≡ true) ⊎ ((f : _) × Contains c.end_rows-ends.result.0.feeds.items f × (0 < g.J.JobSpec.fault_count f)))
-    c.with_reads.ensures.changed c.end_rows-ends.ensures.had
+    c.with_reads-ends.ensures.changed c.end_rows-ends.ensures.had)
 
 pub returns-clause-leads : goal.returns-clause-leads
 returns-clause-leads g c = g.met.Z.Sink.on c.args.sink c.run_rows-closed.result.1 c.end_rows-ends.new.sink c.run_rows-closed.ensures.leads c.end_rows-ends.ensures.leads
@@ -43,9 +46,13 @@ returns-clause-ended g c =
     let k = g.K.RunName in
     let l = run_facts j.graph j.operation j.key_dims j.block_dims k.told k.job in
     let old = c.end_rows-ends.result.0 in
-    let new = c.with_reads.result in
-    subst (λ s. HowItEnded l s c.args.plan.now c.args.wanted.now ((c.args.short ≡ true) ⊎ ((f : _) × Contains new.feeds.items f × (0 < j.fault_count f))) new.result new.left.items new.histories) c.shape.ensures
+    let new = c.with_reads-ends.result in
+    let Failed = λ fs. (c.args.short ≡ true) ⊎ ((f : _) × Contains fs f × (0 < j.fault_count f)) in
+    let last = c.backed.result in
+    not_told (λ e. HowItEnded l (j.graph c.args.job.now) c.args.plan.now c.args.wanted.now (Failed e.feeds.items) e.result e.left.items e.histories) new last _ c.backed.ensures.ended
+    (λ n. ended_none l (j.graph c.args.job.now) c.args.plan.now c.args.wanted.now (Failed last.feeds.items) last.result last.left.items last.histories n.0 n.1)
+    (subst (λ s. HowItEnded l s c.args.plan.now c.args.wanted.now ((c.args.short ≡ true) ⊎ ((f : _) × Contains new.feeds.items f × (0 < j.fault_count f))) new.result new.left.items new.histories) c.shape.ensures
     (told_end l c.shape.result.now c.args.plan.now c.args.wanted.now
     (λ fs. (c.args.short ≡ true) ⊎ ((f : _) × Contains fs.items f × (0 < j.fault_count f))) old.result new.result (λ v. v.items) old.left new.left old.feeds new.feeds
-    old.histories new.histories (c.end_rows-ends.result.1 ≡ true) c.end_rows-ends.ensures.ended c.end_rows-ends.ensures.none c.with_reads.ensures.same
-    c.with_reads.ensures.none c.with_reads.ensures.changed)
+    old.histories new.histories (c.end_rows-ends.result.1 ≡ true) c.end_rows-ends.ensures.ended c.end_rows-ends.ensures.none c.with_reads-ends.ensures.same
+    c.with_reads-ends.ensures.none c.with_reads-ends.ensures.changed))
