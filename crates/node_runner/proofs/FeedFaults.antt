@@ -90,5 +90,5 @@ pub none_told : {A : Type 0} (P : A → Type 0) (o : Option A) → o ≡ None �
 none_told P o none = subst (λ z. IfSome z P) (sym none) tt
 
 -- what holds of a run and of one that isn't told of, where it is told of only by some
-pub not_told : {E : Type 0} (P : E → Type 0) (old new : E) (None : Type 0) → (new ≡ old) ⊎ None → (None → P new) → P old → P new
-not_told P old new None same none h = ⊎_elim (λ e. subst P (sym e) h) none same
+pub not_told : {E : Type 0} (P : E → Type 0) (old new : E) (Untold : Type 0) → (new ≡ old) ⊎ Untold → (Untold → P new) → P old → P new
+not_told P old new Untold same none h = ⊎_elim (λ e. subst P (sym e) h) none same
