@@ -1,4 +1,5 @@
-use Rattle.std.proofs.Common.{ap}
+use Rattle.std.proofs.Common.{◌≡◌, Err, ap, refl}
+use Rattle.std.proofs.lemmas.Result.{IfErr-at_err, err_from_is_err_and}
 use Rattle.job_run.specs.Jobs.{plan_of}
 use Rattle.job_run.specs.Plan.{Plan}
 use Rattle.job_run.specs.Values.{tasks_of}
@@ -7,7 +8,7 @@ use Rattle.block_lowering.specs.Jobs.{graph_of}
 use Rattle.task_graph.specs.Graphs.{shape_of}
 use Rattle.thread_run.specs.Reports.{label}
 use Rattle.thread_run.proofs.Saved.{facts-are, facts_of}
-use Rattle.thread_run.proofs.Serves.{outgrown-as, told-of-run}
+use Rattle.thread_run.proofs.Serves.{err-as, outgrown-as, told-of-run}
 use Rattle.thread_run.proofs.serving.run_graph.Goals as goal
 
 pub returns-clause-told : goal.returns-clause-told
@@ -20,8 +21,10 @@ returns-clause-told g c =
     c.in_ok-histories.ensures.histories (rw c.shape.ensures at c.in_ok-told.ensures.told)
 
 pub returns-in_err-histories-clause-outgrown : goal.returns-in_err-histories-clause-outgrown
-returns-in_err-histories-clause-outgrown g c = λ is.
+returns-in_err-histories-clause-outgrown g c =
     let p : Plan = plan_of c.args.job.now in
     let graph = c.args.graph.now in
-    outgrown-as (facts_of g.P.Picks.picked (λ j. j.job) g.E.Elements.named g.V.Veil.told) (label g.V.Veil.told g.E.Elements.named (tasks_of p)) (graph_of graph.job) (shape_of (tasks_of p)) c.args.plan.now
-    (facts-are g.P.Picks.picked graph (λ j. j.job) g.E.Elements.named g.V.Veil.told (tasks_of p) c.requires.picked c.requires.tasks) (ap shape_of c.requires.tasks) (c.run_stored-histories.ensures.outgrown is)
+    let from = err_from_is_err_and c.from_residual.result c.from_residual.ensures.1 in
+    rw (from.1, from.2)
+    (λ is. outgrown-as (facts_of g.P.Picks.picked (λ j. j.job) g.E.Elements.named g.V.Veil.told) (label g.V.Veil.told g.E.Elements.named (tasks_of p)) (graph_of graph.job) (shape_of (tasks_of p)) c.args.plan.now
+    (facts-are g.P.Picks.picked graph (λ j. j.job) g.E.Elements.named g.V.Veil.told (tasks_of p) c.requires.picked c.requires.tasks) (ap shape_of c.requires.tasks) (c.in_err-histories.ensures.outgrown (ap Err (IfErr-at_err (λ e. c.in_err-histories.field-0.0 ≡ e) is refl))))
