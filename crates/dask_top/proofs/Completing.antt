@@ -30,6 +30,7 @@ use Rattle.task_graph.specs.Graphs.{operation, shape_of}
 use Rattle.command_words.specs.Words.{SameRun, SameSim}
 use Rattle.command_words.specs.declared.generate.GenWords.{GenWords}
 use Rattle.command_words.specs.declared.run.RunWords.{RunWords}
+use Rattle.command_words.specs.declared.settings.RunSettings.{RunSettings}
 use Rattle.command_words.specs.declared.sim.Settings.{Settings}
 use Rattle.command_words.specs.declared.sim.SimWords.{SimWords}
 use Rattle.sim_run.specs.Jobs.{IsTextJob}
@@ -410,11 +411,42 @@ text_memory sources work old = record { refused = λ none. inr (inr refl); runs 
 same_source : (work : Work) (job other : List ℕ) (old : View) (status : ℕ) → job ≡ other → EndsByTexts (job ∷ []) work old status → EndsByTexts (other ∷ []) work old status
 same_source work job other old status same ends = let H : List ℕ → Type 0 = λ j. EndsByTexts (j ∷ []) work old status in subst H same ends
 
--- which workers there are, and what happens to them, doesn't decide how a run ends
+-- words of the same settings and script are those of a run whose histories passed their limit
+outgrown : (p : Plan) (said read : RunWords) (files : Files) → SameRun said read → IsOutgrownRun p said files → IsOutgrownRun p read files
+outgrown p said read files same has = record {
+  small = has.small;
+  inputs = has.inputs;
+  named = has.named;
+  told = has.told;
+  told_is = has.told_is;
+  held = has.held;
+  run = record {
+    plan = has.run.plan;
+    plan_is = record {
+      workers = has.run.plan_is.workers ∙ ap (λ (s : RunSettings). s.workers) same.settings;
+      threads = has.run.plan_is.threads ∙ ap (λ (s : RunSettings). s.threads) same.settings;
+      saturation = has.run.plan_is.saturation ∙ ap (λ (s : RunSettings). s.saturation) same.settings;
+      script = has.run.plan_is.script ∙ same.script;
+    };
+    run = has.run.run;
+  };
+}
+
+-- which workers there are, and what happens to them, decides only whether a history passes its limit
 ran : (said read : RunWords) (old : View) (status : ℕ) → SameRun said read → EndsByTexts (string_bytes said.job ∷ []) (Running said) old status → EndsByTexts (string_bytes read.job ∷ []) (Running read) old status
 ran said read old status same ends =
     let there = same_source (Running said) (string_bytes said.job) (string_bytes read.job) old status same.job ends in
-    record { refused = there.refused; runs = there.runs }
+    record {
+      refused = there.refused;
+      runs = λ p says. let e = there.runs p says in record {
+        large = e.large;
+        unfit = e.unfit;
+        some = e.some;
+        none = e.none;
+        either = e.either;
+        events = λ small is. outgrown p said read old.files same (e.events small is);
+      };
+    }
 
 -- a job of a text is one whatever the name of its file
 is_kind : (p : Plan) (files : Files) (said read : SimWords) (job : ClusterJob) (wanted : List ℕ) → said.settings ≡ read.settings → IsTextJob p files said job wanted → IsTextJob p files read job wanted

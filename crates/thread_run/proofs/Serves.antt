@@ -85,10 +85,6 @@ outgrew l graph p wanted Failed result left (Some h) is how =
 pub outgrown-as : (l m : LabelFacts Array) (graph shape : Shape) (p : RunPlan) → l ≡ m → graph ≡ shape → IsOutgrown l graph p → IsOutgrown m shape p
 outgrown-as l m graph shape p e f o = let P : LabelFacts Array × Shape → Type 0 = λ x. IsOutgrown x.0 x.1 p in subst P (λ i. (e i, f i)) o
 
--- an end is this one whatever is given where there is none
-pub err-as : {A B E : Type 0} (x y : E) → ◌≡◌ {A = Result A E} (Err x) (Err y) → ◌≡◌ {A = Result B E} (Err x) (Err y)
-err-as x y is = let same : x ≡ y = cc in ap Err same
-
 -- the histories of a run that gave all blocks
 pub served-run : {A E : Type 0} (l : LabelFacts Array) (graph : Shape) (p : RunPlan) (wanted : List ℕ) (Failed : Type 0) (result : Result A RunStatus) (left : List (Option Why)) (h : Option Histories) (end : Result Histories E) →
     HowItEnded l graph p wanted Failed result left h → OnOk end (IsOk result) → IfOk end (λ x. h ≡ Some x) → IfOk end (IsServedRun l graph p wanted)

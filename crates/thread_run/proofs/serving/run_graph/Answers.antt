@@ -8,7 +8,7 @@ use Rattle.block_lowering.specs.Jobs.{graph_of}
 use Rattle.task_graph.specs.Graphs.{shape_of}
 use Rattle.thread_run.specs.Reports.{label}
 use Rattle.thread_run.proofs.Saved.{facts-are, facts_of}
-use Rattle.thread_run.proofs.Serves.{err-as, outgrown-as, told-of-run}
+use Rattle.thread_run.proofs.Serves.{outgrown-as, told-of-run}
 use Rattle.thread_run.proofs.serving.run_graph.Goals as goal
 
 pub returns-clause-told : goal.returns-clause-told
