@@ -17,3 +17,4 @@ pub mod OpeningRecords
 pub mod QuietLemmas
 pub mod LedLemmas
 pub mod SimulateRecords
+pub mod FaultLemmas

@@ -22,5 +22,6 @@ pub mod whole;
 pub mod words;
 
 pub use act::SimError;
+pub use ended::Fault;
 pub use plan::SimPlan;
 pub use whole::{SimEnd, simulate};
