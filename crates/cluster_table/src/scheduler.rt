@@ -30,6 +30,10 @@ fn read_event(words: &mut Words<'_>) -> SchedEvent {
         },
         "balance" => SchedEvent::Balance,
         "evict" => SchedEvent::Evict,
+        "replicate" => SchedEvent::Replicate {
+            key: words.small(),
+            w: words.small(),
+        },
         _ => {
             words.mark_ill();
             SchedEvent::Evict
@@ -114,7 +118,7 @@ pub fn play(page: &mut Page, words: &mut Words<'_>, events: &str) {
         return page.fault(Fault::Ill);
     }
     match read_graph(words) {
-        Ok(shape) => match Sched::new(words.alloc(), shape, clients, saturation) {
+        Ok(shape) => match Sched::new(words.alloc(), shape, clients, saturation, None) {
             Ok(mut core) => {
                 play_lines(page, words.alloc(), &mut core, events);
                 drop(core);

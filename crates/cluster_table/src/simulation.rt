@@ -14,7 +14,7 @@ use crate::words::Words;
 use crate::world::quotients::Quotients;
 use crate::world::{print_faults, print_key};
 use cluster_msgs::JobSpec;
-use cluster_sim::{SimEnd, SimError, simulate};
+use cluster_sim::{Fault, SimEnd, SimError, simulate};
 use cluster_world::World;
 use setup::{Setup, read_setup};
 use std::alloc::{AllocError, Global};
@@ -25,7 +25,7 @@ fn opened<J: JobSpec>(alloc: Global, job: J, feed: J::Feed) -> Result<World<J>, 
     ensures opening { IfOk result (λ w. IsOpening J.operation w) }
     ensures graph { IfOk result (λ w. (setting w).shape ≡ J.graph job) }
 {
-    World::new(alloc, job, feed, 1, 11)
+    World::new(alloc, job, feed, 1, 11, None)
 }
 
 fn cause_of(error: SimError) -> &'static str {
@@ -39,8 +39,10 @@ fn cause_of(error: SimError) -> &'static str {
 
 fn print_told(page: &mut Page, end: &SimEnd) {
     page.item("turns ", end.turns);
-    if let Some(blame) = end.zero {
-        page.item(" blame ", blame);
+    match end.fault {
+        Some(Fault::Zero { key }) => page.item(" blame ", key),
+        Some(Fault::Killed { key, losses }) => page.numbers(" killed", &[key as u64, losses as u64]),
+        None => {}
     }
     page.put("\n");
     print_report(page, &end.report);

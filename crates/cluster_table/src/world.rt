@@ -185,7 +185,7 @@ fn play_opened(
     requires feed { opening.feed.value ≡ opening.job.content }
 {
     let Opening { job, feed } = opening;
-    match World::new(alloc, job, feed, clients, saturation) {
+    match World::new(alloc, job, feed, clients, saturation, None) {
         Ok(mut world) => {
             play_lines(page, alloc, &mut world, events);
             print_faults(page, world);
