@@ -44,6 +44,7 @@ impl<L: Label> SchedulingCore<L> {
     pub fn new(alloc: Global, core: Sched, plan: Plan) -> Self
         requires opening { IsOpening (facts core) }
         requires graph { L.facts.deps ≡ deps_of (facts core).setting.shape }
+        requires allowed { L.facts.allowed ≡ (facts core).setting.allowed }
         ensures { result ≡ record { core = core; plan = plan; torn = false } }
     {
         SchedulingCore {
