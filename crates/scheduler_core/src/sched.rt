@@ -1,11 +1,12 @@
 //! The scheduler's core.
-ghost use Rattle.std.specs.Prelude.{◌≡◌, ◌↔◌, ◌+◌, ◌<◌, ◌≤◌, ◌^◌, false, true, IfOk, OnOk, None};
-ghost use Rattle.cluster_rules.specs.Sched.{sched_opening, keys, known, blame, phase};
+ghost use Rattle.std.specs.Prelude.{◌≡◌, ◌↔◌, ◌+◌, ◌<◌, ◌≤◌, ◌^◌, false, true, IfOk, IfSome, OnOk, None};
+ghost use Rattle.cluster_rules.specs.Sched.{sched_opening, is_above, keys, known, blame, phase};
 ghost use Rattle.cluster_rules.specs.SchedTable.{sched_takes};
 ghost use Rattle.cluster_rules.specs.SchedStep.{sched_step};
 ghost use Rattle.cluster_laws.specs.Settled.{IsSettled};
 ghost use Rattle.cluster_laws.specs.Attempts.{AttemptsEndForACause};
 ghost use Rattle.scheduler_core.specs.Cores.{facts};
+ghost use Rattle.scheduler_core.specs.Killed.{IsKilled};
 ghost use Rattle.cluster_rules.specs.Runs.{event_limit};
 ghost use Rattle.scheduler_core.specs.Sent.{appended, sent_by, HasGrown};
 
@@ -14,7 +15,7 @@ use crate::phase::phase;
 use cluster_msgs::{GraphShape, Outbox, Phase, SchedEvent, Stop};
 use cluster_rules::Facts;
 use sched_changes::asking::{allowed_of, losses_of};
-use sched_changes::{drop_for, steal_for, takes};
+use sched_changes::{drop_for, is_above, steal_for, takes};
 use std::alloc::{AllocError, Global};
 use std::marker::Model;
 use task_table::TaskTable;
@@ -185,6 +186,32 @@ impl Sched {
         } else {
             0
         }
+    }
+
+    /// How often the key's worker left, where that is more often than is allowed: it is once more then, and the key has an error
+    /// of its own. None of every other key, and once the core has stopped. Takes no memory.
+    #[tactic(auto, using(crate::proofs::KilledLemmas::killed_is))]
+    pub fn killed(&self, key: u32) -> Option<u32>
+        ensures killed { IfSome result (IsKilled (facts self.now) key) }
+        ensures none { result ≡ None → self.now.stopped ≡ false → is_above (facts self.now).setting.allowed ((facts self.now).losses key) ≡ false }
+    {
+        if self.stopped {
+            return None;
+        }
+        self.settled();
+        let losses = self.losses(key);
+        if is_above(self.allowed(), losses) {
+            Some(losses)
+        } else {
+            None
+        }
+    }
+
+    /// Whether the key has an error of its own: it met a zero divisor, or was killed. Takes no memory.
+    pub fn is_bad(&self, key: u32) -> bool
+        ensures { result ≡ (facts self.now).bad key }
+    {
+        self.table.table().is_bad(key)
     }
 
     /// How often a key's worker may leave while the key is assigned to it, where that is bounded. Takes no memory.
