@@ -3,7 +3,7 @@ use Rattle.std.proofs.Common.{◌≡◌, ◌⊎◌, inl, inr, ℕ, ◌+◌, ◌�
 use Rattle.std.specs.List.{list_all, AllByRecursion}
 use Rattle.std.specs.Prelude.{IsTrue}
 use Rattle.std.proofs.lemmas.List.Elements.{All-from_recursion}
-use Rattle.std.proofs.lemmas.Bool.{false≢true, ltb-true, lt-ltb}
+use Rattle.std.proofs.lemmas.Bool.{false≢true, ltb-true, lt-ltb, and_parts, not-true}
 use Rattle.cluster_msgs.specs.Shape.{IsShape, deps_of}
 use Rattle.cluster_msgs.specs.Values.{cone, faulty}
 use Rattle.cluster_msgs.specs.Labels.{LabelFacts, ErrorFits, BlameFits, ToClientFits}
@@ -141,6 +141,14 @@ no_letters facts out is = record { each = All-from_recursion (λ (m : ℕ × ToC
 -- a scheduler that starts counts no key as bad
 pub opening_fits : {B : Type 0} (facts : LabelFacts B) (f : Facts) → IsOpening f → facts.deps ≡ deps_of f.setting.shape → facts.allowed ≡ f.setting.allowed → SchedFits facts f
 opening_fits facts f h graph allowed = record { graph = graph; allowed = allowed; bad = λ k b q. absurd (false≢true (ap (λ (x : Facts). x.bad k) (sym h.is) ∙ b)) }
+
+-- a key with an error of its own that isn't of its losses is faulty
+pub at_fault : {B : Type 0} (facts : LabelFacts B) (f : Facts) (k : ℕ) (torn bad above : Bool) → (torn ≡ false → SchedFits facts f) → bad ≡ f.bad k → above ≡ is_above f.setting.allowed (f.losses k)
+    → ((not torn && bad) && not above) ≡ true → ErrorFits facts k
+at_fault facts f k torn bad above fits b a h =
+    let p = and_parts (not torn && bad) (not above) h in
+    let q = and_parts (not torn) bad p.0 in
+    (fits (not-true torn q.0)).bad k (sym b ∙ q.1) (sym a ∙ not-true above p.1)
 
 -- what one step left in an empty outbox
 pub made_fits : {B : Type 0} (facts : LabelFacts B) (f : Facts) (e : SchedEvent) (o made : Outbox) → IsShape f.setting.shape → SchedEventFits facts e → SchedFits facts f → o.clients ≡ [] → made ≡ appended o (sent_by (sched_step f e)) → LettersFit facts made.clients
