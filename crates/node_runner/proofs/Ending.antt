@@ -1,8 +1,8 @@
 -- What the closed nodes tell of a run.
 use Rattle.std.proofs.Common.{◌≡◌, ◌∙◌, ℕ, ◌+◌, ◌<◌, Bool, true, false, List, [], ◌∷◌, map, length, get_or, sym, ap, subst, arith}
-use Rattle.std.specs.Prelude.{Option, Some, None, IfOk, IfSome, is_some, Result, Ok, Err, Contains}
+use Rattle.std.specs.Prelude.{Option, Some, None, IfOk, IfSome, is_some, Result, Ok, Err}
 use Rattle.std.proofs.lemmas.List.{length-map, get_or-map}
-use Rattle.cluster_msgs.specs.Labels.{LabelFacts, BlameFits}
+use Rattle.cluster_msgs.specs.Labels.{LabelFacts}
 use Rattle.cluster_msgs.specs.Shape.{Shape}
 use Rattle.cluster_msgs.specs.declared.events.Entry.{Entry}
 use Rattle.cluster_msgs.specs.declared.events.History.{History}
@@ -18,10 +18,13 @@ use Rattle.node_states.specs.Order.{AreInTime, start_of}
 use Rattle.node_states.specs.declared.why.Why.{Why}
 use Rattle.node_runner.specs.declared.plan.RunPlan.{RunPlan}
 use Rattle.node_runner.specs.declared.ends.RunStatus.{RunStatus}
-use Rattle.node_runner.specs.declared.ends.RunStatus.TheVariants.{Zero, Read, Memory}
+use Rattle.node_runner.specs.declared.ends.RunStatus.TheVariants.{Zero, Killed, Read, Memory}
+use Rattle.node_runner.specs.declared.ends.Failure.{Failure}
+use Rattle.node_runner.specs.declared.ends.Doubt.{Doubt}
+use Rattle.node_runner.specs.declared.ends.Doubt.TheVariants as doubt
 use Rattle.node_runner.specs.declared.ends.Histories.{Histories}
 use Rattle.node_runner.specs.Runs.{IsBookOf, IsTakenFrom, IsHistory, IsSchedulersBook, IsWorkersBook, IsClientsBook, WorkerSteps, ClientSteps, SchedSteps}
-use Rattle.node_runner.specs.Runs.{last_facts, IsLeft, HasCause, HasGot, IfStatus, IsBlamed, HasRun, course_of, setting_of}
+use Rattle.node_runner.specs.Runs.{last_facts, IsDoubt, IsDoubtBy, IsFailure, IsGivenUp, IsLeft, HasCause, HasGot, IfStatus, IsBlamed, HasRun, course_of, setting_of}
 use Rattle.node_runner.proofs.Places.{all_by_through}
 
 -- a history that was taken from a closed node's book
@@ -66,17 +69,25 @@ module _ {B : Type 0} (l : LabelFacts B) (graph : Shape) (p : RunPlan) where
       (λ k w h o row from. subst (λ (z : List Entry × Bool). IfSome o (IsLeft p f (k + 1) z.0 z.1)) (λ j. (sym from.entries j, sym from.cut j)) row) rows taken
 
 -- the cause of there being no blocks
-pub cause_is : {A B : Type 0} (l : LabelFacts B) (wanted : List ℕ) (f : Facts) (left : List (Option Why)) (blame : Option ℕ) (r : Result A RunStatus)
-    → IfStatus (IsBlamed blame) r → IfSome blame (λ b. (k : ℕ) × Contains wanted k × BlameFits l k b) → IfStatus (HasCause l wanted f left ⊥) r
-cause_is l wanted f left blame (Ok x) is some = tt
-cause_is l wanted f left blame (Err (Zero key)) is some = subst (λ o. IfSome o (λ b. (k : ℕ) × Contains wanted k × BlameFits l k b)) is some
-cause_is l wanted f left blame (Err Read) is some = absurd is
-cause_is l wanted f left blame (Err Memory) is some = tt
+pub cause_is : {A B : Type 0} (l : LabelFacts B) (p : RunPlan) (wanted : List ℕ) (f : Facts) (left : List (Option Why)) (failed : Option Failure) (r : Result A RunStatus)
+    → IfStatus (IsBlamed failed) r → IfSome failed (IsFailure l p wanted f) → IfStatus (HasCause l p wanted f left ⊥) r
+cause_is l p wanted f left failed (Ok x) is some = tt
+cause_is l p wanted f left failed (Err (Zero key)) is some = subst (λ o. IfSome o (IsFailure l p wanted f)) is some
+cause_is l p wanted f left failed (Err (Killed key losses)) is some = absurd is
+cause_is l p wanted f left failed (Err Read) is some = absurd is
+cause_is l p wanted f left failed (Err Memory) is some = tt
+
+-- what else than want of memory the run may have ended by
+pub doubt_is : {B : Type 0} (l : LabelFacts B) (p : RunPlan) (wanted : List ℕ) (f : Facts) (left : List (Option Why)) (failed : Option Failure) (d : Doubt)
+    → IfSome failed (IsFailure l p wanted f) → IsDoubtBy failed left (IsGivenUp f left) d → IsDoubt l p wanted f left d
+doubt_is l p wanted f left failed doubt.Memory some by = tt
+doubt_is l p wanted f left failed doubt.GivenUp some by = by
+doubt_is l p wanted f left failed (doubt.Killed key losses) some by = (subst (λ o. IfSome o (IsFailure l p wanted f)) by.0 some, by.1)
 
 -- how a run ended, by the closed nodes and what was taken from them
 pub has_run : {B W C D A : Type 0} (l : LabelFacts B) (graph : Shape) (p : RunPlan) (wanted : List ℕ) (b : BookState SchedState)
     (book : W → BookState C) (core : C → WorkerFacts) (ws : List W) (d : BookState D) (client : D → ClientFacts) (h : Histories) (left : List (Option Why))
-    (blame : Option ℕ) (r : Result A RunStatus)
+    (failed : Option Failure) (r : Result A RunStatus)
     → IsSchedulersBook l graph p b
     → ((k : ℕ) (w : W) → k < length ws → IsWorkersBook l graph p.threads (k + 1) core (book (get_or ws k w)))
     → IsClientsBook l graph client d
@@ -84,9 +95,9 @@ pub has_run : {B W C D A : Type 0} (l : LabelFacts B) (graph : Shape) (p : RunPl
     → (b.cut ≡ false → AreInTime b.core.plan (start_of (facts b.core.core).setting) b.entries)
     → AllBy (λ k w o. IfSome o (IsLeft p (facts b.core.core) (k + 1) (book w).entries (book w).cut)) ws left
     → IfOk r (λ x. HasGot (client d.core) d.entries d.cut wanted)
-    → IfStatus (IsBlamed blame) r → IfSome blame (λ b. (k : ℕ) × Contains wanted k × BlameFits l k b)
+    → IfStatus (IsBlamed failed) r → IfSome failed (IsFailure l p wanted (facts b.core.core))
     → HasRun l graph p wanted ⊥ (last_facts (facts b.core.core) (map (λ w. core (book w).core) ws) (client d.core)) r left h
-has_run l graph p wanted b book core ws d client h left blame r scheduler workers clients of_scheduler of_workers of_client timed rows gets blamed some = record {
+has_run l graph p wanted b book core ws d client h left failed r scheduler workers clients of_scheduler of_workers of_client timed rows gets blamed some = record {
   histories = record {
     scheduler = history_is (λ c. facts c.core) (SchedSteps l) (sched_opening (setting_of graph p)) b h.scheduler scheduler.book of_scheduler;
     workers = workers_are l graph p book core ws h.workers.items workers of_workers;
@@ -95,7 +106,7 @@ has_run l graph p wanted b book core ws d client h left blame r scheduler worker
   };
   left_are = left_is l graph p (facts b.core.core) book ws h.workers.items left rows of_workers;
   got = subst (λ (z : List Entry × Bool). IfOk r (λ x. HasGot (client d.core) z.0 z.1 wanted)) (λ j. (sym of_client.entries j, sym of_client.cut j)) gets;
-  cause = cause_is l wanted (facts b.core.core) left blame r blamed some;
+  cause = cause_is l p wanted (facts b.core.core) left failed r blamed some;
 }
 
 -- what is known of what is there

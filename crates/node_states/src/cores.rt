@@ -1,8 +1,9 @@
 //! The three cores, as a book has them.
-ghost use Rattle.std.specs.Prelude.{◌≡◌, false, true};
+ghost use Rattle.std.specs.Prelude.{◌≡◌, false, true, IfSome};
 ghost use Rattle.cluster_msgs.specs.Labels.{ErrorFits};
 ghost use Rattle.cluster_msgs.specs.Shape.{deps_of};
 ghost use Rattle.scheduler_core.specs.Cores.{facts};
+ghost use Rattle.scheduler_core.specs.Killed.{IsKilled};
 ghost use Rattle.node_states.specs.Opening.{IsOpening};
 
 use crate::choice::Plan;
@@ -74,6 +75,17 @@ impl<L: Label> SchedulingCore<L> {
         let is_bad = self.core.is_bad(key);
         let is_above = is_above(self.core.allowed(), self.core.losses(key));
         !self.torn & is_bad & !is_above
+    }
+
+    /// How often the key's worker left, where the key was killed and memory didn't end inside the core: once more than the label allows.
+    pub fn killed(&self, key: u32) -> Option<u32>
+        ensures killed { IfSome result (IsKilled (facts self.now.core) key) }
+        ensures allowed { IfSome result (λ _. L.facts.allowed ≡ (facts self.now.core).setting.allowed) }
+    {
+        if self.torn {
+            return None;
+        }
+        self.core.killed(key)
     }
 
     /// What its node goes by.
