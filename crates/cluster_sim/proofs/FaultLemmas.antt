@@ -3,7 +3,7 @@ use Rattle.std.proofs.Common.{◌≡◌, ◌⊎◌, inl, inr, ⊎_elim, ℕ, zer
 use Rattle.std.specs.Option.{option_map}
 use Rattle.std.proofs.lemmas.Bool.{true≢false, false≢true, ltb-true}
 use Rattle.std.proofs.lemmas.Option.{none-some, same_Some}
-use Rattle.std.specs.Prelude.{◌==◌, slice_get, nat_lt}
+use Rattle.std.specs.Prelude.{◌==◌, slice_get, nat_lt, IfSome}
 use Rattle.cluster_msgs.specs.Shape.{IsShape, deps_of}
 use Rattle.cluster_msgs.specs.Values.{val, needed}
 use Rattle.cluster_msgs.specs.declared.events.Item.{Item}
@@ -23,7 +23,7 @@ use Rattle.safety_laws.proofs.Unreleased.{killed_stays}
 use Rattle.cluster_world.specs.Safe.{LosesFew}
 use Rattle.cluster_sim.specs.declared.ended.Fault.{Fault}
 use Rattle.cluster_sim.specs.declared.ended.Fault.TheVariants.{Zero, Killed}
-use Rattle.cluster_sim.specs.Faults.{fault_at, key_of, IfBlamed}
+use Rattle.cluster_sim.specs.Faults.{fault_at, key_of, IsBounded, IfBlamed}
 use Rattle.cluster_sim.proofs.NextLemmas.{progress_is}
 use Rattle.cluster_sim.proofs.WorldKeeps.{is_gentle}
 
@@ -148,6 +148,15 @@ no_fault w (Some b) = ((λ e. absurd (some_none (fault_at w b) e)), (λ e. absur
 one_above : (o : Option ℕ) (n : ℕ) → is_above o n ≡ true → ((a : ℕ) → o ≡ Some a → n ≤ a + 1) → (a : ℕ) × (o ≡ Some a) × (n ≡ a + 1)
 one_above None n h few = absurd (false≢true h)
 one_above (Some a) n h few = let l = ltb-true a n h in let m = few a refl in (a, refl, omega (arith, l, m))
+
+-- so where losses are few, that is what a killed key has lost
+pub bounded : (w : World) (s : Setting) (o : Option ℕ) → w.sched.setting ≡ s → LosesFew w.sched → IfSome (option_map (fault_at w) o) (IsBounded s.allowed)
+bounded w s None e few = tt
+bounded w s (Some b) e few = pick (is_above w.sched.setting.allowed (w.sched.losses b)) refl
+  where
+    pick : (a : Bool) → is_above w.sched.setting.allowed (w.sched.losses b) ≡ a → IsBounded s.allowed (cond a (Killed b (w.sched.losses b)) (Zero b))
+    pick true q = let m = one_above w.sched.setting.allowed (w.sched.losses b) q (few b) in (m.0, ap (λ (x : Setting). x.allowed) (sym e) ∙ m.1, m.2)
+    pick false q = tt
 
 pub fault_is : {B : Type 0} (s : Setting) (op : ℕ → List B → Option B) (wanted : List ℕ) (es : List Event) (w : World) (k b : ℕ) → NoneReleases es → LosesFew (reached (job_of s op) es).sched → w.sched.setting ≡ s → reached (job_of s op) es ≡ w
     → IsBlamed (WasKilled (job_of s op) es) (deps_of s.shape) (val (deps_of s.shape) op) k b → needed (deps_of s.shape) wanted b ≡ true

@@ -29,6 +29,11 @@ pub record IsNeededKilled (j : Job) (es : List Event) (deps : ℕ → List ℕ) 
   pub bounded : j.setting.allowed ≡ Some allowed
   pub losses : n ≡ allowed + 1
 
+-- a key that was killed lost its worker once more than is allowed
+abbrev pub IsBounded : Option ℕ → Fault → Type 0
+IsBounded allowed (Zero b) = Unit {0}
+IsBounded allowed (Killed b n) = (a : ℕ) × (allowed ≡ Some a) × (n ≡ a + 1)
+
 abbrev pub IfBlamed : {B : Type 0} → Job → List Event → (ℕ → List ℕ) → (ℕ → Option B) → List ℕ → Option Fault → Type 0
 IfBlamed j es deps value wanted None = Unit {0}
 IfBlamed j es deps value wanted (Some (Zero b)) = IsNeededFault deps value wanted b

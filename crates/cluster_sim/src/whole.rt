@@ -1,5 +1,5 @@
 //! Whole simulations.
-ghost use Rattle.std.specs.Prelude.{◌≡◌, ◌↔◌, ℕ, List, None, Err, IfOk, OnOk};
+ghost use Rattle.std.specs.Prelude.{◌≡◌, ◌↔◌, ℕ, List, None, Err, IfOk, IfSome, OnOk};
 ghost use Rattle.std.specs.Option.{option_map};
 ghost use Rattle.cluster_msgs.specs.declared.events.Event.{Event};
 ghost use Rattle.cluster_msgs.specs.Shape.{key_count, deps_of};
@@ -15,7 +15,7 @@ ghost use Rattle.cluster_sim.specs.Openings.{IsOpening, AreWanted};
 ghost use Rattle.cluster_sim.specs.Turns.{IsBetween, IsDrawn, AfterPlay, DrawnPlay};
 ghost use Rattle.cluster_sim.specs.Led.{IsLeftAlone};
 ghost use Rattle.cluster_sim.specs.Simulations.{IsSimulated, IsReported, IsDeserted, IsUnfinished, HasAll};
-ghost use Rattle.cluster_sim.specs.Faults.{key_of, IfBlamed};
+ghost use Rattle.cluster_sim.specs.Faults.{key_of, IsBounded, IfBlamed};
 
 use crate::act::SimError;
 use crate::ended::{Ending, Fault, fault_of};
@@ -79,6 +79,9 @@ pub fn simulate<J: JobSpec>(
     ensures blame { IfOk result (λ end. J.feed_tells world.old.job world.old.feed →
         (es : List Event) → IsSimulated (running J.operation world.old) (word_of number) (plan_of plan.now) wanted.now es (Served end.turns (option_map key_of end.fault)) (world_of world.new) →
         IfBlamed (running J.operation world.old) es (deps_of (setting world.old).shape) (val (deps_of (setting world.old).shape) (J.operation world.old.job)) wanted.now end.fault) }
+
+    // Told or not, a killed key comes with one loss more than is allowed.
+    ensures bounded { IfOk result (λ end. IfSome end.fault (IsBounded (setting world.old).allowed)) }
 
     // The causes of what is no result, and what stays.
     ensures faults { CountsSim result (J.fault_count world.old.feed) (J.fault_count world.new.feed) }

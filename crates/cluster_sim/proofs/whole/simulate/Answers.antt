@@ -6,10 +6,11 @@ use Rattle.cluster_sim.specs.declared.ended.Ending.{Ending}
 use Rattle.cluster_sim.specs.declared.whole.SimEnd.{SimEnd}
 use Rattle.cluster_sim.specs.Plans.{plan_of}
 use Rattle.std.proofs.lemmas.Result.{err_from_is_err_and}
-use Rattle.cluster_sim.proofs.ActLemmas.{stays_both, counts_as, counts_from}
+use Rattle.cluster_sim.proofs.ActLemmas.{setting-world, stays_both, counts_as, counts_from}
 use Rattle.cluster_sim.proofs.PlayLemmas.{spent_play, stuck_play, cut_play, unfinished_play, same_error}
 use Rattle.cluster_sim.proofs.SimulateLemmas.{served_is}
-use Rattle.cluster_sim.proofs.FaultLemmas.{key_is, no_fault}
+use Rattle.cluster_sim.proofs.FaultLemmas.{bounded, key_is, no_fault}
+use Rattle.cluster_sim.proofs.LedLemmas.{few_losses}
 use Rattle.cluster_sim.proofs.SimulateRecords.{halted_alone, opened_between, opened_drawn, reported, deserted_by, unfinished_by, blamed_by}
 use Rattle.cluster_sim.proofs.whole.simulate.Goals as goal
 
@@ -51,6 +52,13 @@ pub returns-clause-blame : goal.returns-clause-blame
 returns-clause-blame g c told es h =
     rw c.fault_of-fault.ensures (blamed_by g.J.JobSpec.operation g.J.JobSpec.feed_tells (plan_of c.args.plan.now) c.args.wanted.now c.args.number _ c.in_ok-end.end.failure c.args.world.now c.play.new.world c.play.new.run (subst IsShape c.shape.ensures.setting c.sound.ensures)
     (stays_both _ _ _ _ c.make_opening.ensures.stays c.play.ensures.stays) c.in_ok-end.ensures.play c.is_safe.ensures.losses es h)
+
+pub returns-clause-bounded : goal.returns-clause-bounded
+returns-clause-bounded g c =
+    let new = c.play.new.world in
+    let stays = stays_both _ _ _ _ c.make_opening.ensures.stays c.play.ensures.stays in
+    rw c.fault_of-fault.ensures (bounded (world new) (setting c.args.world.now) c.in_ok-end.end.failure (setting-world new ∙ stays.setting)
+    (few_losses (setting new) (plan_of c.args.plan.now) c.args.wanted.now _ c.in_ok-end.ensures.play.between.led))
 
 pub returns-clause-stays : goal.returns-clause-stays
 returns-clause-stays g c = stays_both _ _ _ _ c.make_opening.ensures.stays c.play.ensures.stays
