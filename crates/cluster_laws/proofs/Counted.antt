@@ -11,7 +11,7 @@ use Rattle.cluster_laws.proofs.Losses.{step_losses}
 use Rattle.cluster_laws.proofs.SchedPart.{sched_after, sched_is}
 
 -- nothing is counted of a key that is not known
-abbrev CountsKnown : Facts → Type 0
+abbrev pub CountsKnown : Facts → Type 0
 CountsKnown f = (k : ℕ) → known f k ≡ false → f.losses k ≡ 0
 
 after_losses : (f : Facts) (o : Option SchedEvent) → CountsKnown f → (k : ℕ) → (sched_after f o).losses k ≡ cond (known (sched_after f o) k) (cond (loses f k o) (f.losses k + 1) (f.losses k)) 0
@@ -22,7 +22,7 @@ after_losses f None u k = pick (known f k) refl
     pick true e = refl
     pick false e = u k e
 
-world_losses : (j : Job) (w : World) (e : Event) → CountsKnown w.sched → (k : ℕ) → (world_step j w e).sched.losses k
+pub world_losses : (j : Job) (w : World) (e : Event) → CountsKnown w.sched → (k : ℕ) → (world_step j w e).sched.losses k
     ≡ cond (known (world_step j w e).sched k) (cond (loses w.sched k (sched_event w e)) (w.sched.losses k + 1) (w.sched.losses k)) 0
 world_losses j w e u k = ap (λ (f : Facts). f.losses k) (sched_is j w e) ∙ after_losses w.sched (sched_event w e) u k
     ∙ ap (λ (f : Facts). cond (known f k) (cond (loses w.sched k (sched_event w e)) (w.sched.losses k + 1) (w.sched.losses k)) 0) (sym (sched_is j w e))

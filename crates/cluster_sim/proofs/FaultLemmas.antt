@@ -4,6 +4,7 @@ use Rattle.std.specs.Option.{option_map}
 use Rattle.std.proofs.lemmas.Bool.{true≢false, false≢true, ltb-true}
 use Rattle.std.proofs.lemmas.Option.{none-some, same_Some}
 use Rattle.std.specs.Prelude.{◌==◌, slice_get, nat_lt, IfSome}
+use Rattle.cluster_msgs.specs.Scripts.{removes_in}
 use Rattle.cluster_msgs.specs.Shape.{IsShape, deps_of}
 use Rattle.cluster_msgs.specs.Values.{val, needed}
 use Rattle.cluster_msgs.specs.declared.events.Item.{Item}
@@ -150,12 +151,12 @@ one_above None n h few = absurd (false≢true h)
 one_above (Some a) n h few = let l = ltb-true a n h in let m = few a refl in (a, refl, omega (arith, l, m))
 
 -- so where losses are few, that is what a killed key has lost
-pub bounded : (w : World) (s : Setting) (o : Option ℕ) → w.sched.setting ≡ s → LosesFew w.sched → IfSome (option_map (fault_at w) o) (IsBounded s.allowed)
-bounded w s None e few = tt
-bounded w s (Some b) e few = pick (is_above w.sched.setting.allowed (w.sched.losses b)) refl
+pub bounded : (w : World) (s : Setting) (script : List Item) (o : Option ℕ) → w.sched.setting ≡ s → LosesFew w.sched → ((k : ℕ) → w.sched.losses k ≤ removes_in script) → IfSome (option_map (fault_at w) o) (IsBounded s.allowed script)
+bounded w s script None e few often = tt
+bounded w s script (Some b) e few often = pick (is_above w.sched.setting.allowed (w.sched.losses b)) refl
   where
-    pick : (a : Bool) → is_above w.sched.setting.allowed (w.sched.losses b) ≡ a → IsBounded s.allowed (cond a (Killed b (w.sched.losses b)) (Zero b))
-    pick true q = let m = one_above w.sched.setting.allowed (w.sched.losses b) q (few b) in (m.0, ap (λ (x : Setting). x.allowed) (sym e) ∙ m.1, m.2)
+    pick : (a : Bool) → is_above w.sched.setting.allowed (w.sched.losses b) ≡ a → IsBounded s.allowed script (cond a (Killed b (w.sched.losses b)) (Zero b))
+    pick true q = let m = one_above w.sched.setting.allowed (w.sched.losses b) q (few b) in record { above = (m.0, ap (λ (x : Setting). x.allowed) (sym e) ∙ m.1, m.2); often = often b }
     pick false q = tt
 
 pub fault_is : {B : Type 0} (s : Setting) (op : ℕ → List B → Option B) (wanted : List ℕ) (es : List Event) (w : World) (k b : ℕ) → NoneReleases es → LosesFew (reached (job_of s op) es).sched → w.sched.setting ≡ s → reached (job_of s op) es ≡ w

@@ -17,4 +17,5 @@ pub mod OpeningRecords
 pub mod QuietLemmas
 pub mod LedLemmas
 pub mod SimulateRecords
+pub mod RemovalLemmas
 pub mod FaultLemmas

@@ -1,7 +1,9 @@
 -- What the failure of a simulation is blamed on.
-use Rattle.std.specs.Prelude.{◌≡◌, ℕ, ◌+◌, true, List, Option, Some, None, cond}
+use Rattle.std.specs.Prelude.{◌≡◌, ◌≤◌, ℕ, ◌+◌, true, List, Option, Some, None, cond}
+use Rattle.cluster_msgs.specs.Scripts.{removes_in}
 use Rattle.cluster_msgs.specs.Values.{faulty, needed}
 use Rattle.cluster_msgs.specs.declared.events.Event.{Event}
+use Rattle.cluster_msgs.specs.declared.events.Item.{Item}
 use Rattle.cluster_rules.specs.Sched.{is_above}
 use Rattle.cluster_rules.specs.World.{Job, World}
 use Rattle.cluster_rules.specs.Runs.{killed}
@@ -29,10 +31,15 @@ pub record IsNeededKilled (j : Job) (es : List Event) (deps : ℕ → List ℕ) 
   pub bounded : j.setting.allowed ≡ Some allowed
   pub losses : n ≡ allowed + 1
 
--- a key that was killed lost its worker once more than is allowed
-abbrev pub IsBounded : Option ℕ → Fault → Type 0
-IsBounded allowed (Zero b) = Unit {0}
-IsBounded allowed (Killed b n) = (a : ℕ) × (allowed ≡ Some a) × (n ≡ a + 1)
+-- so many losses kill a key: they are one more than is allowed, and the script takes workers away as often
+pub record IsKill (allowed : Option ℕ) (script : List Item) (n : ℕ) : Type 0 where
+  pub above : (a : ℕ) × (allowed ≡ Some a) × (n ≡ a + 1)
+  pub often : n ≤ removes_in script
+
+-- a key that was killed lost its worker so often
+abbrev pub IsBounded : Option ℕ → List Item → Fault → Type 0
+IsBounded allowed script (Zero b) = Unit {0}
+IsBounded allowed script (Killed b n) = IsKill allowed script n
 
 abbrev pub IfBlamed : {B : Type 0} → Job → List Event → (ℕ → List ℕ) → (ℕ → Option B) → List ℕ → Option Fault → Type 0
 IfBlamed j es deps value wanted None = Unit {0}

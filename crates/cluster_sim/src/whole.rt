@@ -80,8 +80,8 @@ pub fn simulate<J: JobSpec>(
         (es : List Event) → IsSimulated (running J.operation world.old) (word_of number) (plan_of plan.now) wanted.now es (Served end.turns (option_map key_of end.fault)) (world_of world.new) →
         IfBlamed (running J.operation world.old) es (deps_of (setting world.old).shape) (val (deps_of (setting world.old).shape) (J.operation world.old.job)) wanted.now end.fault) }
 
-    // Told or not, a killed key comes with one loss more than is allowed.
-    ensures bounded { IfOk result (λ end. IfSome end.fault (IsBounded (setting world.old).allowed)) }
+    // Told or not, a killed key comes with one loss more than is allowed, and no more than the script takes workers away.
+    ensures bounded { IfOk result (λ end. IfSome end.fault (IsBounded (setting world.old).allowed (plan_of plan.now).script)) }
 
     // The causes of what is no result, and what stays.
     ensures faults { CountsSim result (J.fault_count world.old.feed) (J.fault_count world.new.feed) }

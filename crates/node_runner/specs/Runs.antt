@@ -2,6 +2,7 @@
 use Rattle.std.specs.Prelude.{◌≡◌, ◌≢◌, ℕ, ◌+◌, ◌<◌, ◌≤◌, ◌⊎◌, Bool, true, false, List, [], map, sum, slice_index_or, Option, Some, None, All, IfOk, IfSome, is_some, Result, Ok, Err, Contains, IsTrue}
 use Rattle.cluster_msgs.specs.Shape.{Shape}
 use Rattle.cluster_msgs.specs.Labels.{LabelFacts, BlameFits, ErrorFits}
+use Rattle.cluster_msgs.specs.Scripts.{removes_of}
 use Rattle.cluster_msgs.specs.Values.{cone}
 use Rattle.cluster_msgs.specs.declared.events.Entry.{Entry}
 use Rattle.cluster_msgs.specs.declared.events.Item.{Item}
@@ -45,11 +46,6 @@ abbrev pub setting_of : Shape → RunPlan → Setting
 setting_of graph p = record { shape = graph; clients = 1; saturation = p.saturation; allowed = p.allowed }
 
 -- how many items of the script take a worker away
-abbrev pub removes_of : Item → ℕ
-removes_of (item.Lose w at) = 1
-removes_of (item.Suspect w at) = 1
-removes_of (item.Join at) = 0
-
 abbrev pub removals : RunPlan → ℕ
 removals p = sum (map removes_of p.script)
 

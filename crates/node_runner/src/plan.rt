@@ -1,6 +1,7 @@
 //! What a run is to be like.
 ghost use Rattle.std.specs.Prelude.{◌≡◌, ◌<◌, ◌≤◌, ℕ, true, map, vec_len, Contains};
-ghost use Rattle.node_runner.specs.Runs.{IsNamed, numbers, removals, removes_of};
+ghost use Rattle.cluster_msgs.specs.Scripts.{removes_of};
+ghost use Rattle.node_runner.specs.Runs.{IsNamed, numbers, removals};
 
 use cluster_msgs::{Item, Script};
 

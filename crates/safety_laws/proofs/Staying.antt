@@ -132,6 +132,40 @@ connected_joined : (f : Facts) (threads : ℕ) → connected (sched_step f (Join
 unfolding joined
 connected_joined f threads = ap (λ (t : ℕ → Option ℕ). is_some (t (f.last_worker + 1))) (step_settles f (JoinSched threads)).threads ∙ ap (λ b. is_some (cond b (Some threads) (f.threads (f.last_worker + 1)))) (eq-eqb (f.last_worker + 1) (f.last_worker + 1) refl)
 
+-- a worker that left isn't connected
+pub left_gone : (f : Facts) (i : ℕ) → connected (sched_step f (Leave i)).facts i ≡ false
+unfolding left
+left_gone f i = ap (λ (t : ℕ → Option ℕ). is_some (t i)) (step_settles f (Leave i)).threads ∙ ap (λ b. is_some (cond b None (f.threads i))) (eq-eqb i i refl)
+
+-- the event takes that a worker joins
+abbrev pub lets_join : Option SchedEvent → Bool
+lets_join (Some (JoinSched threads)) = true
+lets_join o = false
+
+-- nobody but who joins is connected anew
+before_change : (f : Facts) (s : SchedEvent) (i : ℕ) → lets_join (Some s) ≡ false → connected (change f s).facts i ≡ true → connected f i ≡ true
+unfolding left
+before_change f (JoinSched threads) i l c = absurd (true≢false l)
+before_change f (Leave w) i l c = by (i == w) c
+  where
+    by : (b : Bool) → is_some (cond b None (f.threads i)) ≡ true → is_some (f.threads i) ≡ true
+    by true c = absurd (false≢true c)
+    by false c = c
+before_change f (FromWorker w m) i l c = sym (ap (λ (t : ℕ → Option ℕ). is_some (t i)) (up_alike f w m)) ∙ c
+before_change f (FromClient x m) i l c = sym (ap (λ (t : ℕ → Option ℕ). is_some (t i)) (client_alike f x m)) ∙ c
+before_change f BalanceSched i l c = sym (ap (λ (t : ℕ → Option ℕ). is_some (t i)) (balanced_alike f (next_steal f))) ∙ c
+before_change f EvictSched i l c = sym (ap (λ (t : ℕ → Option ℕ). is_some (t i)) (evicted_alike f (next_drop f))) ∙ c
+before_change f (ReplicateSched k w) i l c = c
+
+pub connected_before : (f : Facts) (o : Option SchedEvent) (i : ℕ) → lets_join o ≡ false → connected (sched_after f o) i ≡ true → connected f i ≡ true
+connected_before f None i l c = c
+connected_before f (Some s) i l c = before_change f s i l (sym (ap (λ (t : ℕ → Option ℕ). is_some (t i)) (step_settles f s).threads) ∙ c)
+
+pub joined_before : (f : Facts) (threads i : ℕ) → (i == f.last_worker + 1) ≡ false → connected (sched_step f (JoinSched threads)).facts i ≡ true → connected f i ≡ true
+unfolding joined
+joined_before f threads i other c =
+    sym (ap (λ (t : ℕ → Option ℕ). is_some (t i)) (step_settles f (JoinSched threads)).threads ∙ ap (λ b. is_some (cond b (Some threads) (f.threads i))) other) ∙ c
+
 -- ## Who is alive
 
 -- the event takes this very worker away

@@ -11,6 +11,7 @@ use Rattle.cluster_sim.proofs.PlayLemmas.{spent_play, stuck_play, cut_play, unfi
 use Rattle.cluster_sim.proofs.SimulateLemmas.{served_is}
 use Rattle.cluster_sim.proofs.FaultLemmas.{bounded, key_is, no_fault}
 use Rattle.cluster_sim.proofs.LedLemmas.{few_losses}
+use Rattle.cluster_sim.proofs.RemovalLemmas.{few_removed}
 use Rattle.cluster_sim.proofs.SimulateRecords.{halted_alone, opened_between, opened_drawn, reported, deserted_by, unfinished_by, blamed_by}
 use Rattle.cluster_sim.proofs.whole.simulate.Goals as goal
 
@@ -57,8 +58,9 @@ pub returns-clause-bounded : goal.returns-clause-bounded
 returns-clause-bounded g c =
     let new = c.play.new.world in
     let stays = stays_both _ _ _ _ c.make_opening.ensures.stays c.play.ensures.stays in
-    rw c.fault_of-fault.ensures (bounded (world new) (setting c.args.world.now) c.in_ok-end.end.failure (setting-world new ∙ stays.setting)
-    (few_losses (setting new) (plan_of c.args.plan.now) c.args.wanted.now _ c.in_ok-end.ensures.play.between.led))
+    let led = c.in_ok-end.ensures.play.between.led in
+    rw c.fault_of-fault.ensures (bounded (world new) (setting c.args.world.now) (plan_of c.args.plan.now).script c.in_ok-end.end.failure (setting-world new ∙ stays.setting)
+    (few_losses (setting new) (plan_of c.args.plan.now) c.args.wanted.now _ led) (few_removed (setting new) (plan_of c.args.plan.now) c.args.wanted.now _ led))
 
 pub returns-clause-stays : goal.returns-clause-stays
 returns-clause-stays g c = stays_both _ _ _ _ c.make_opening.ensures.stays c.play.ensures.stays
