@@ -19,7 +19,7 @@ use Rattle.cluster_world.specs.declared.state.State.{State}
 use Rattle.cluster_world.specs.Worlds.{cluster, world}
 use Rattle.cluster_sim.specs.Acts.{CountsSim}
 use Rattle.cluster_sim.specs.Drawn.{word_of}
-use Rattle.cluster_sim.specs.Faults.{key_of, IfBlamed, IsBounded, IsNeededFault, IsNeededKilled}
+use Rattle.cluster_sim.specs.Faults.{key_of, IfBlamed, IsBounded, IsKill, IsNeededFault, IsNeededKilled}
 use Rattle.cluster_sim.specs.Simulations.{IsReported, IsSimulated, IsUnfinished}
 use Rattle.cluster_sim.specs.declared.act.SimError.{SimError}
 use Rattle.cluster_sim.specs.declared.act.SimError.TheVariants as sim
@@ -41,7 +41,7 @@ use Rattle.sim_run.specs.declared.ends.SimEnded.{SimEnded}
 use Rattle.sim_run.specs.Jobs.{wanted_of}
 use Rattle.job_run.specs.Saving.{SavesLeft, SavesWhole}
 use Rattle.sim_run.specs.Serving.{EndsAtKey, GotAll, RanStops, ServesAll, ServesPart, Stops, IsEndOf, job_named}
-use Rattle.sim_run.specs.Simulated.{IsAbove, IsKilled, IsServed, sim_plan}
+use Rattle.sim_run.specs.Simulated.{IsKilled, IsServed, sim_plan}
 use Rattle.sim_run.proofs.Got.{is-faulty, meets-none, saves-got}
 use Rattle.sim_run.proofs.Simulating.{HasRun}
 
@@ -99,12 +99,12 @@ killed-at j wanted s values es turns w fault key losses is simulated blamed =
     let k : IsNeededKilled j es (deps_of j.setting.shape) wanted key losses = subst F is blamed in
     record { turns = turns; world = w; events = es; simulated = subst S is simulated; killed = k.killed; needed = k.needed }
 
--- told or not, its losses are one more than is allowed
-pub above-at : (s : SimWords) (allowed : Option ℕ) (fault : Option Fault) (key losses : ℕ) → allowed ≡ s.settings.allowed → fault ≡ Some (faults.Killed key losses) → IfSome fault (IsBounded allowed) → IsAbove s losses
-above-at s allowed fault key losses same is few =
-    let B : Option Fault → Type 0 = λ f. IfSome f (IsBounded allowed) in
-    let b : IsBounded allowed (faults.Killed key losses) = subst B is few in
-    (b.0, sym same ∙ b.1, b.2)
+-- told or not, it lost its worker so often
+pub kill-at : (s : SimWords) (allowed : Option ℕ) (fault : Option Fault) (key losses : ℕ) → allowed ≡ s.settings.allowed → fault ≡ Some (faults.Killed key losses) → IfSome fault (IsBounded allowed s.script) → IsKill s.settings.allowed s.script losses
+kill-at s allowed fault key losses same is few =
+    let B : Option Fault → Type 0 = λ f. IfSome f (IsBounded s.settings.allowed s.script) in
+    let A : Option ℕ → Type 0 = λ o. IfSome fault (IsBounded o s.script) in
+    subst B is (subst A same few)
 
 -- the job that is simulated is the plan's
 pub job-is : (p : Plan) (s : SimWords) (named : Named) (set : Setting) (op : ℕ → List Array → Option Array) → set ≡ setting_of (shape_of (tasks_of p)) 1 s.settings.saturation s.settings.allowed → op ≡ operation named (tasks_of p) → job_of set op ≡ job_named p s named

@@ -5,6 +5,7 @@ use Rattle.io_edge.specs.Content.{followed_by}
 use Rattle.io_edge.specs.Given.{GivesMore}
 use Rattle.io_edge.specs.View.{View, Files, raised_by}
 use Rattle.cluster_msgs.specs.declared.events.Report.{Report}
+use Rattle.cluster_sim.specs.Faults.{IsKill}
 use Rattle.job_run.specs.declared.ends.Ended.{Ended}
 use Rattle.job_run.specs.declared.ends.Ended.TheVariants.{Done, Zero, Killed, WriteFault}
 use Rattle.job_run.specs.Inputs.{InputsFit, told_all}
@@ -15,7 +16,7 @@ use Rattle.command_words.specs.declared.sim.SimWords.{SimWords}
 use Rattle.sim_run.specs.declared.ends.SimEnded.{SimEnded}
 use Rattle.sim_run.specs.declared.ends.SimEnded.TheVariants.{Events, Ran}
 use Rattle.sim_run.specs.Jobs.{IsTextJob}
-use Rattle.sim_run.specs.Simulated.{IsServed, IsKilled, IsAbove, IsOutOfEvents, SimulatesTo}
+use Rattle.sim_run.specs.Simulated.{IsServed, IsKilled, IsOutOfEvents, SimulatesTo}
 use Rattle.sim_run.specs.Texts.{lines_of}
 
 -- a fact of a simulation whose inputs are told
@@ -23,11 +24,11 @@ abbrev pub WhereTold : Plan → Files → Type 0 → Type 0
 WhereTold p files P = IfSome (told_all files.held p.inputs) (λ contents. P)
 
 -- Why a run ends so, where it ends as other runs do. A zero divisor is met by some needed block: not always the first. A killed key lost its worker
--- once more than is allowed, and where the inputs are told, the drawn events killed it.
+-- once more than is allowed, which the script takes workers away for, and where the inputs are told, the drawn events killed it.
 abbrev pub RanCause : Plan → SimWords → View → View → Ended → Type 0
 RanCause p s old new Done = IsSmall p × HasValues p old.files
 RanCause p s old new (Zero node block) = IsSmall p × HasFault p old.files node block
-RanCause p s old new (Killed key losses) = IsSmall p × InputsFit p old.files × IsAbove s losses
+RanCause p s old new (Killed key losses) = IsSmall p × InputsFit p old.files × IsKill s.settings.allowed s.script losses
     × WhereTold p old.files (SimulatesTo (IsTextJob p old.files s) s (λ job wanted s. IsKilled job wanted s key))
 RanCause p s old new WriteFault = IsSmall p × HasValues p old.files × (Rose old.write_faults new.write_faults ⊎ Rose old.print_faults new.print_faults)
 RanCause p s old new end = RunCause p old new end

@@ -5,6 +5,7 @@ use Rattle.io_edge.specs.View.{View, Files, OnlyWrites, raised_by}
 use Rattle.cluster_msgs.specs.declared.events.Report.{Report}
 use Rattle.cluster_rules.specs.World.{Job}
 use Rattle.task_graph.specs.Graphs.{operation, shape_of}
+use Rattle.cluster_sim.specs.Faults.{IsKill}
 use Rattle.cluster_sim.specs.declared.act.SimError.{SimError}
 use Rattle.cluster_sim.specs.declared.act.SimError.TheVariants as sim
 use Rattle.lowering_laws.specs.Lowered.{lowered}
@@ -21,7 +22,7 @@ use Rattle.sim_run.specs.declared.ends.SimEnded.{SimEnded}
 use Rattle.sim_run.specs.declared.ends.SimEnded.TheVariants.{Events, Ran}
 use Rattle.sim_run.specs.declared.serving.Wanted.{Wanted}
 use Rattle.sim_run.specs.Jobs.{wanted_of}
-use Rattle.sim_run.specs.Simulated.{running, IsServed, IsKilled, IsAbove, IsOutOfEvents}
+use Rattle.sim_run.specs.Simulated.{running, IsServed, IsKilled, IsOutOfEvents}
 
 -- the job that is simulated, where the inputs hold these elements
 abbrev pub job_named : Plan → SimWords → Named → Job
@@ -65,7 +66,7 @@ pub record GotAll (p : Plan) (s : SimWords) (named : Named) (told : Type 0) : Ty
 -- why the client's blocks weren't all saved; the two facts are the causes of faults
 abbrev pub RanStops : Plan → SimWords → Named → Type 0 → Type 0 → Type 0 → Ended → Type 0
 RanStops p s named told reads writes (Zero node block) = told → IsFaulty p named node block
-RanStops p s named told reads writes (Killed key losses) = IsAbove s losses × (told → IsKilled (job_named p s named) (wanted_of p) s key)
+RanStops p s named told reads writes (Killed key losses) = IsKill s.settings.allowed s.script losses × (told → IsKilled (job_named p s named) (wanted_of p) s key)
 RanStops p s named told reads writes ReadFault = reads
 RanStops p s named told reads writes WriteFault = GotAll p s named told × writes
 RanStops p s named told reads writes OutOfMemory = Unit {0}

@@ -1,5 +1,5 @@
 -- What is simulated, and how that ends: the events that the number draws, over any job and any keys that are wanted of it.
-use Rattle.std.specs.Prelude.{◌≡◌, ◌≤◌, ℕ, ◌+◌, true, List, Option, Some, None, length, take}
+use Rattle.std.specs.Prelude.{◌≡◌, ◌≤◌, ℕ, true, List, Option, Some, None, length, take}
 use Rattle.cluster_msgs.specs.Shape.{Shape, deps_of}
 use Rattle.cluster_msgs.specs.Values.{needed}
 use Rattle.cluster_msgs.specs.declared.events.Event.{Event}
@@ -48,10 +48,6 @@ pub record IsKilled (job : Job) (wanted : List ℕ) (s : SimWords) (key : ℕ) :
   pub simulated : IsSimulated job (word_of s.settings.number) (sim_plan s) wanted events (Served turns (Some key)) world
   pub killed : killed job events key ≡ true
   pub needed : needed (deps_of job.setting.shape) wanted key ≡ true
-
--- one loss more than is allowed
-abbrev pub IsAbove : SimWords → ℕ → Type 0
-IsAbove s losses = (a : ℕ) × (s.settings.allowed ≡ Some a) × (losses ≡ a + 1)
 
 -- as many events were drawn as a world takes, and no end was reached
 abbrev pub IsOutOfEvents : Job → List ℕ → SimWords → Type 0

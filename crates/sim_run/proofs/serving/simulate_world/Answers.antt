@@ -29,7 +29,7 @@ use Rattle.sim_run.specs.declared.ends.SimEnded.{SimEnded}
 use Rattle.sim_run.specs.Simulated.{IsKilled, sim_plan}
 use Rattle.sim_run.proofs.Got.{has-all, has-run, wanted-for}
 use Rattle.sim_run.proofs.MannedLemmas.{not_left_alone}
-use Rattle.sim_run.proofs.Stops.{HasServed, above-at, blamed-at, feed-rose, got-all, job-is, killed-at, left-right, of-plan, part-bare, serves-all, stops-by, zero-stops}
+use Rattle.sim_run.proofs.Stops.{HasServed, blamed-at, feed-rose, got-all, job-is, kill-at, killed-at, left-right, of-plan, part-bare, serves-all, stops-by, zero-stops}
 use Rattle.sim_run.proofs.serving.simulate_world.Given.{Over}
 use Rattle.sim_run.proofs.serving.simulate_world.Goals as goal
 use Rattle.sim_run.proofs.serving.simulate_world.Goals.{After-as_slice-2}
@@ -103,7 +103,7 @@ returns-in-Some-Killed-clause-stopped g c =
     let fault = c.in-Ok.end.fault in
     let is : fault ≡ Some (faults.Killed key losses) = c.in-Some-Killed.is ∙ ap (λ (f : Fault). Some f) c.in-Some-Killed.field-0-is in
     part-bare p s named told reads writes files _ (
-      above-at s (setting old).allowed fault key losses (ap (λ (x : Setting). x.allowed) c.requires.setting) is c.in-Ok.ensures.bounded,
+      kill-at s (setting old).allowed fault key losses (ap (λ (x : Setting). x.allowed) c.requires.setting) is c.in-Ok.ensures.bounded,
       λ t. let r = c.in-Ok.ensures.served t in
           of-plan p s named job wanted (λ (j : Job) ks. IsKilled j ks s key) same c.requires.wanted.all_is
           (killed-at job wanted s (val (deps_of (setting old).shape) op) r.events c.in-Ok.end.turns (world new) fault key losses is r.simulated (c.in-Ok.ensures.blame t r.events r.simulated)),
