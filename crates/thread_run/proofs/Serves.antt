@@ -34,6 +34,7 @@ use Rattle.thread_run.specs.Feeding.{OpensOften, TakesBack}
 use Rattle.thread_run.specs.Losses.{IsKill, IsNeeded, Losses, losses_in}
 use Rattle.thread_run.specs.Serving.{IsUnsaved, IsWhy, ServesAll, ServesFiles, ServesPart, Stops, StopsAt}
 use Rattle.thread_run.proofs.Agreed.{told_run}
+use Rattle.thread_run.proofs.Planning.{removes-same}
 use Rattle.thread_run.proofs.SaverEnds.{open-left}
 use Rattle.thread_run.specs.Reports.{IsServedRun, IsToldOf, IsToldOfRun, label}
 use Rattle.thread_run.specs.declared.verdict.Told.{Told}
@@ -77,7 +78,7 @@ why-of l graph p wanted Failed reads (Ok blocks) left (Some h) f how = tt
 why-of l graph p wanted Failed reads (Err (status.Zero key)) left (Some h) f how = how.1.cause
 why-of l graph p wanted Failed reads (Err (status.Killed key losses)) left (Some h) f how =
     let c = how.1.cause in
-    (c.0.failed, record { above = c.0.above; often = often-as f c.2 })
+    (c.0.failed, record { above = c.0.above; often = often-as f (subst (λ n. (losses ≤ n) ⊎ Failed) (removes-same p.script) c.2) })
 why-of l graph p wanted Failed reads (Err status.Read) left (Some h) f how = f how.1.cause.1
 why-of l graph p wanted Failed reads (Err status.Memory) left (Some h) f how = tt
 
