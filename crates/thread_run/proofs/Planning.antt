@@ -11,7 +11,9 @@ use Rattle.command_words.specs.Walks.{joins_in}
 -- the items of a script that take a worker away, counted either way
 pub removes-same : (items : List Item) → sum (map removes_of items) ≡ removes_in items
 removes-same [] = refl
-removes-same (item ∷ items) = omega (arith, fold_is_sum (0 + removes_of item) (map removes_of items), removes-same items)
+removes-same (Lose w at ∷ items) = omega (arith, fold_is_sum (0 + 1) (map removes_of items), removes-same items)
+removes-same (Suspect w at ∷ items) = omega (arith, fold_is_sum (0 + 1) (map removes_of items), removes-same items)
+removes-same (Join at ∷ items) = omega (arith, fold_is_sum (0 + 0) (map removes_of items), removes-same items)
 
 -- the joins of a script, counted either way
 pub joins-same : (items : List Item) → sum (map joins_of items) ≡ joins_in items
