@@ -1,5 +1,5 @@
-//! Stories of a simulation, which are their first lines: how many workers and threads, the number, the script, the
-//! wanted keys, what the feed has and whether it fails, and the graph.
+//! Stories of a simulation, which are their first lines: how many workers and threads, with the losses that are allowed behind
+//! these where they are bounded, the number, the script, the wanted keys, what the feed has and whether it fails, and the graph.
 ghost use Rattle.std.specs.Prelude.{◌≡◌, IfOk};
 ghost use Rattle.cluster_msgs.specs.Shape.{key_count};
 ghost use Rattle.cluster_world.specs.Worlds.{setting};
@@ -20,12 +20,17 @@ use setup::{Setup, read_setup};
 use std::alloc::{AllocError, Global};
 
 // A world with one client, in which nothing has happened.
-fn opened<J: JobSpec>(alloc: Global, job: J, feed: J::Feed) -> Result<World<J>, AllocError>
+fn opened<J: JobSpec>(
+    alloc: Global,
+    job: J,
+    feed: J::Feed,
+    allowed: Option<u32>,
+) -> Result<World<J>, AllocError>
     requires { J.feed_fits job feed }
     ensures opening { IfOk result (λ w. IsOpening J.operation w) }
     ensures graph { IfOk result (λ w. (setting w).shape ≡ J.graph job) }
 {
-    World::new(alloc, job, feed, 1, 11, None)
+    World::new(alloc, job, feed, 1, 11, allowed)
 }
 
 fn cause_of(error: SimError) -> &'static str {
@@ -72,12 +77,13 @@ fn run(page: &mut Page, alloc: Global, setup: Setup)
 {
     let Setup {
         plan,
+        allowed,
         number,
         wanted,
         job,
         feed,
     } = setup;
-    match opened(alloc, job, feed) {
+    match opened(alloc, job, feed, allowed) {
         Ok(mut world) => {
             print_end(page, &simulate(alloc, &mut world, number, &plan, &wanted));
             print_wanted(page, &world, wanted.as_slice());
