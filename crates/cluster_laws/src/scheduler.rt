@@ -145,8 +145,7 @@ pub fn attempts_end_for_a_cause()
 {}
 
 /// After an event a key that is known has one loss more where the event took that its worker leaves, and a key that is
-/// not known has none. A key that has lost its worker more often than is allowed has an error of its own, and loses no
-/// worker again.
+/// not known has none.
 pub fn losses_of_an_event()
     ensures { (f : SchedFacts) (e : SchedEvent) (k : ℕ) → (sched_step f e).facts.losses k ≡
         cond (known (sched_step f e).facts k) (cond (loses f k (Some e)) (f.losses k + 1) (f.losses k)) 0 }
