@@ -376,12 +376,12 @@ def killed():
          (11, '', 'dask: killed worker: key 1 losses 1|', '0 0 0 0', 'none'))
     title('a worker leaves since a read failed: once more than is allowed, as often, and until none is left')
     job(ONE_CELL)
-    for feeds, allowed, answer in ((1, 0, (11, 'killed worker: key 0 losses 1', 1)), (2, 1, (11, 'killed worker: key 0 losses 2', 2)),
-                                   (2, 2, (5, 'read fault', 2))):
-        status, line, faults = answer
+    for workers, feeds, allowed, answer in ((2, 1, 0, (11, 'killed worker: key 0 losses 1')), (3, 2, 1, (11, 'killed worker: key 0 losses 2')),
+                                            (2, 2, 2, (5, 'read fault'))):
+        status, line = answer
         say('site 4096 0 ' + at_feeds('read', range(feeds)))
-        say(f'top o.npy run job.txt --workers 2 --threads 1 --allowed-failures {allowed}',
-            'top:' + told(status, '', f'dask: {line}|', f'{faults} 0 0 0', 'o.npy', begun))
+        say(f'top o.npy run job.txt --workers {workers} --threads 1 --allowed-failures {allowed}',
+            'top:' + told(status, '', f'dask: {line}|', f'{feeds} 0 0 0', 'o.npy', begun))
     say('site 4096 0 ' + at_feeds('read', [0]))
     say('saved o.npy run job.txt --workers 2 --threads 1 --allowed-failures 1', 'saved: 0 o.npy ' + text(saved(ARRAYS['one.npy'] + 1)))
     title('a zero divisor is told where losses are bounded, too')

@@ -75,7 +75,6 @@ CASES = [
     # The worker with the wanted key leaves once more than is allowed, and as often as is allowed; no key is lost before one is assigned.
     ("sum 1 2 1 1 suspect:1@1 allowed:0", ["killed: 1 1", *left("s1")]),
     ("sum 1 2 1 1 lose:1@1 allowed:0", ["killed: 1 1", *left("s1")]),
-    ("sum 1 1 1 1 lose:1@1 allowed:0", ["killed: 1 1", *left("s1")]),
     ("sum 1 2 1 1 suspect:1@1 allowed:0 want:0", ["killed: 1 1", *left("s1")]),
     ("sum 1 2 1 1 suspect:1@1 allowed:1", served("sum", 1, *left("s1"))),
     ("sum 100 3 2 1 lose:2@5 allowed:1", served("sum", 100, *left("s2"))),
