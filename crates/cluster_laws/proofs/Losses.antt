@@ -1,15 +1,14 @@
 -- How often keys lose their workers: what each event counts, and that no more than one above what is allowed is ever counted.
-use Rattle.std.proofs.Common.{◌≡◌, ℕ, ◌+◌, ◌<◌, ◌≤◌, Bool, true, false, ◌&&◌, ◌||◌, cond, Option, Some, None, refl, sym, ap, ◌∙◌, subst, arith, ⊎_elim}
+use Rattle.std.proofs.Common.{◌≡◌, ℕ, ◌+◌, ◌≤◌, Bool, true, false, ◌&&◌, ◌||◌, cond, Option, Some, None, refl, sym, ap, ◌∙◌, subst, arith, ⊎_elim}
 use Rattle.std.specs.Prelude.{nat_lt}
 use Rattle.std.specs.List.{list_any}
-use Rattle.std.proofs.lemmas.Bool.{false≢true, or_left, or_right, or_cases, and_from, ltb-true, lt-ltb, cases_lt}
-use Rattle.std.proofs.lemmas.Option.{same_Some}
+use Rattle.std.proofs.lemmas.Bool.{false≢true, or_left, or_right, and_from, ltb-true, lt-ltb, cases_lt}
 use Rattle.cluster_msgs.specs.Shape.{deps_of, key_count}
 use Rattle.cluster_msgs.specs.declared.cores.SchedEvent.{SchedEvent}
 use Rattle.cluster_msgs.specs.declared.cores.SchedEvent.TheVariants.{Join, Leave, FromWorker, FromClient, Balance, Evict, Replicate}
 use Rattle.cluster_rules.specs.Functions.{from_one}
 use Rattle.cluster_rules.specs.Derived.{reach}
-use Rattle.cluster_rules.specs.Sched.{Setting, Facts, IsSound, is_on, is_above, wanted, known, ready}
+use Rattle.cluster_rules.specs.Sched.{Setting, Facts, IsSound, is_on, is_above, wanted, known}
 use Rattle.cluster_rules.specs.SchedTable.{change, left}
 use Rattle.cluster_rules.specs.SchedStep.{sched_step}
 use Rattle.cluster_rules.proofs.SchedFrame.{step_settles}

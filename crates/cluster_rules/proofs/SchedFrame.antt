@@ -6,7 +6,7 @@ use Rattle.std.proofs.Math.Dec.{eqb}
 use Rattle.std.proofs.Math.Bool.{or-true}
 use Rattle.std.proofs.lemmas.Option.{none-some}
 use Rattle.small_facts.proofs.Options.{same_second}
-use Rattle.small_facts.proofs.Truth.{and_second, cond_else_false}
+use Rattle.small_facts.proofs.Truth.{and_second}
 use Rattle.cluster_msgs.specs.declared.messages.Down.{Down}
 use Rattle.cluster_msgs.specs.declared.cores.SchedEvent.{SchedEvent}
 use Rattle.cluster_rules.specs.Derived.{below, is_in}

@@ -1,28 +1,27 @@
 -- What a simulation's failure is blamed on: no client of it lets a key go, so a key that was killed stays so.
-use Rattle.std.proofs.Common.{◌≡◌, ◌⊎◌, inl, inr, ⊎_elim, ℕ, zero, suc, ◌+◌, ◌≤◌, ◌<◌, Bool, true, false, not, cond, List, [], ◌∷◌, ◌++◌, replicate, Option, Some, None, refl, sym, ap, ◌∙◌, subst, arith}
+use Rattle.std.proofs.Common.{◌≡◌, ◌⊎◌, ⊎_elim, ℕ, zero, suc, ◌+◌, ◌≤◌, Bool, true, false, not, cond, List, [], ◌∷◌, ◌++◌, replicate, Option, Some, None, refl, sym, ap, ◌∙◌, subst, arith}
 use Rattle.std.specs.Option.{option_map}
-use Rattle.std.proofs.lemmas.Bool.{true≢false, false≢true, ltb-true}
+use Rattle.std.proofs.lemmas.Bool.{false≢true, ltb-true}
 use Rattle.std.proofs.lemmas.Option.{none-some, same_Some}
-use Rattle.std.specs.Prelude.{◌==◌, slice_get, nat_lt, IfSome}
+use Rattle.std.specs.Prelude.{◌==◌, IfSome}
 use Rattle.cluster_msgs.specs.Scripts.{removes_in}
-use Rattle.cluster_msgs.specs.Shape.{IsShape, deps_of}
+use Rattle.cluster_msgs.specs.Shape.{deps_of}
 use Rattle.cluster_msgs.specs.Values.{val, needed}
 use Rattle.cluster_msgs.specs.declared.events.Item.{Item}
 use Rattle.cluster_msgs.specs.declared.events.Item.TheVariants.{Lose as LoseItem, Suspect as SuspectItem, Join as JoinItem}
 use Rattle.cluster_msgs.specs.declared.events.Event.{Event}
 use Rattle.cluster_msgs.specs.declared.events.Event.TheVariants.{Want, Release, Join, Lose, SeeLoss, Suspect, DeliverDown, DeliverUp, DeliverToClient, DeliverFromClient, Start, Finish, SendGather, ServeGather, ArriveGather, FailGather, Balance, Evict, Replicate, Spill, LoseSpilled}
-use Rattle.cluster_rules.specs.Sched.{Setting, Facts, is_above}
-use Rattle.cluster_rules.specs.World.{Job, World, opening}
+use Rattle.cluster_rules.specs.Sched.{Setting, is_above}
+use Rattle.cluster_rules.specs.World.{Job, World}
 use Rattle.cluster_rules.specs.Enabled.{progress}
 use Rattle.cluster_rules.specs.Runs.{reached, killed, WasKilled}
-use Rattle.cluster_rules.specs.Draw.{Plan, Sim, Next, Over, Scripted, Evicts, Balances, Spent, Drawn, Verdict, Draw, DrawnFrom, opening_events, over, is_reached, is_idle, is_blocked, item_event, scripted, evicts_now, balances_now, drawn, draw_one, turn, unscripted, next_by, next, event_of, moved}
+use Rattle.cluster_rules.specs.Draw.{Plan, Sim, Evicts, Balances, Spent, Verdict, Draw, DrawnFrom, opening_events, over, is_reached, is_idle, is_blocked, item_event, scripted, evicts_now, balances_now, drawn, draw_one, turn, unscripted, next_by, next, event_of, moved}
 use Rattle.cluster_laws.specs.AreValues.{IsBlamed}
 use Rattle.cluster_laws.specs.Blocks.{job_of}
 use Rattle.cluster_laws.proofs.Counted.{killed_is}
 use Rattle.safety_laws.specs.Released.{is_release, NoneReleases}
 use Rattle.safety_laws.proofs.Unreleased.{killed_stays}
 use Rattle.cluster_world.specs.Safe.{LosesFew}
-use Rattle.cluster_sim.specs.declared.ended.Fault.{Fault}
 use Rattle.cluster_sim.specs.declared.ended.Fault.TheVariants.{Zero, Killed}
 use Rattle.cluster_sim.specs.Faults.{fault_at, key_of, IsBounded, IfBlamed}
 use Rattle.cluster_sim.proofs.NextLemmas.{progress_is}

@@ -15,11 +15,10 @@ use Rattle.cluster_msgs.specs.declared.cores.SchedEvent.{SchedEvent}
 use Rattle.cluster_msgs.specs.declared.cores.SchedEvent.TheVariants.{Join, Leave, FromWorker, FromClient, Balance, Evict, Replicate}
 use Rattle.cluster_rules.specs.Sched.{Facts, is_above, known}
 use Rattle.cluster_rules.specs.SchedStep.{sched_step}
-use Rattle.cluster_rules.specs.SchedTable.{change}
 use Rattle.cluster_rules.specs.Runs.{loses}
 use Rattle.cluster_rules.proofs.SchedFrame.{step_settles}
 use Rattle.cluster_rules.specs.World.{Job}
-use Rattle.cluster_laws.specs.Truth.{faulty_key, MayErr, IsKilledBy, IsBlame, IsTrueNews, IsTrueSched, IsTrueSchedEvent}
+use Rattle.cluster_laws.specs.Truth.{faulty_key, MayErr, IsBlame, IsTrueNews, IsTrueSched, IsTrueSchedEvent}
 use Rattle.cluster_laws.proofs.Losses.{step_known, step_losses}
 use Rattle.cluster_laws.proofs.TruthSched.{IsExcusing, true_sched_step, true_news}
 use Rattle.scheduler_core.specs.Sent.{appended, sent_by}

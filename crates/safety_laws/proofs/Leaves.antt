@@ -1,13 +1,13 @@
 -- Each loss of a key is by an event that takes that a worker leaves.
-use Rattle.std.proofs.Common.{◌≡◌, ℕ, ◌+◌, ◌≤◌, Bool, true, false, cond, List, [], ◌∷◌, Option, Some, None, refl, sym, ap, ◌∙◌, arith}
+use Rattle.std.proofs.Common.{◌≡◌, ℕ, ◌+◌, ◌≤◌, Bool, true, false, cond, List, [], ◌∷◌, Some, None, refl, sym, ap, ◌∙◌, arith}
 use Rattle.std.specs.Option.{option_map}
-use Rattle.std.proofs.lemmas.Bool.{true≢false, false≢true, ltb-true}
+use Rattle.std.proofs.lemmas.Bool.{true≢false, ltb-true}
 use Rattle.cluster_msgs.specs.declared.messages.Up.{Up}
 use Rattle.cluster_msgs.specs.declared.messages.FromClient.{FromClient as ClientMessage}
 use Rattle.cluster_msgs.specs.declared.cores.SchedEvent.TheVariants.{FromWorker, FromClient}
 use Rattle.cluster_msgs.specs.declared.events.Event.{Event}
 use Rattle.cluster_msgs.specs.declared.events.Event.TheVariants.{Want, Release, Join, Lose, SeeLoss, Suspect, DeliverDown, DeliverUp, DeliverToClient, DeliverFromClient, Start, Finish, SendGather, ServeGather, ArriveGather, FailGather, Balance, Evict, Replicate, Spill, LoseSpilled}
-use Rattle.cluster_rules.specs.Sched.{Facts, is_above, known}
+use Rattle.cluster_rules.specs.Sched.{is_above, known}
 use Rattle.cluster_rules.specs.World.{Job, World, opening, is_connected}
 use Rattle.cluster_rules.specs.WorldStep.{world_step}
 use Rattle.cluster_rules.specs.Enabled.{front}

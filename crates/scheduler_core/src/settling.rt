@@ -1,6 +1,6 @@
 //! What settling takes away: errors of keys that are not known, copies of keys that are not needed, and places of keys
 //! that are not ready. Each walk visits the touched keys alone: of all others there is nothing to take.
-ghost use Rattle.std.specs.Prelude.{◌≡◌, ℕ, ◌<◌, ◌==◌, ◌&&◌, ◌||◌, not, true, false, None, OnOk, cond, ◌++◌, ◌∷◌, []};
+ghost use Rattle.std.specs.Prelude.{◌≡◌, ℕ, ◌<◌, ◌==◌, ◌&&◌, ◌||◌, not, true, false, None, OnOk, ◌++◌, ◌∷◌, []};
 ghost use Rattle.cluster_rules.specs.Functions.{put, put_pair};
 ghost use Rattle.cluster_rules.specs.Sched.{keys, known, need, ready, holds, is_on};
 ghost use Rattle.cluster_rules.specs.SchedStep.{drop_bad, drop_has, drop_on};

@@ -1,6 +1,6 @@
 //! Losses of keys, and copies that a worker is asked to get.
 ghost use Rattle.std.specs.Prelude.{◌≡◌, ◌∷◌, [], true, false, Some, None};
-ghost use Rattle.cluster_msgs.specs.declared.messages.Down.TheVariants.{AcquireReplicas, ComputeTask, FreeKeys};
+ghost use Rattle.cluster_msgs.specs.declared.messages.Down.TheVariants.{AcquireReplicas, ComputeTask};
 ghost use Rattle.cluster_msgs.specs.declared.messages.ToClient.TheVariants.{ClientTaskErred};
 ghost use Rattle.cluster_msgs.specs.declared.messages.FromClient.TheVariants.{Want, Release};
 ghost use Rattle.cluster_msgs.specs.declared.cores.Phase.TheVariants.{Erred, Released};

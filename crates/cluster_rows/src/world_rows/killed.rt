@@ -2,7 +2,7 @@
 ghost use Rattle.std.specs.Prelude.{◌≡◌, ◌∷◌, ◌++◌, [], true, false, Some, None};
 ghost use Rattle.cluster_msgs.specs.declared.messages.Up.TheVariants.{AddKeys};
 ghost use Rattle.cluster_msgs.specs.declared.messages.ToClient.TheVariants.{ClientTaskErred};
-ghost use Rattle.cluster_msgs.specs.declared.events.Event.TheVariants.{DeliverDown, DeliverUp, DeliverToClient, Lose, Replicate, SeeLoss, Suspect};
+ghost use Rattle.cluster_msgs.specs.declared.events.Event.TheVariants.{DeliverDown, DeliverUp, DeliverToClient, Lose, Replicate, SeeLoss};
 ghost use Rattle.cluster_rules.specs.World.{opening};
 ghost use Rattle.cluster_rules.specs.Runs.{reached, killed};
 ghost use Rattle.cluster_rules.specs.Draw.{opening_events, Served};

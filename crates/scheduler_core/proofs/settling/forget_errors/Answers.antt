@@ -1,5 +1,4 @@
-use Rattle.std.proofs.Common.{◌<◌, ◌+◌, ◌&&◌, ℕ, Bool, false, not, cond, ap, ◌∙◌, arith}
-use Rattle.std.proofs.Math.Dec.{eqb}
+use Rattle.std.proofs.Common.{◌<◌, ◌+◌, ℕ, Bool, ap, ◌∙◌, arith}
 use Rattle.std.proofs.Math.Nat.{le-add_right}
 use Rattle.cluster_rules.specs.Sched.{Facts, keys, known}
 use Rattle.task_table.specs.Tasks.{facts}

@@ -1,4 +1,4 @@
-use Rattle.std.proofs.Common.{◌≡◌, ◌≤◌, ◌+◌, map, drop}
+use Rattle.std.proofs.Common.{◌≤◌, ◌+◌, map, drop}
 use Rattle.std.specs.Prelude.{sum}
 use Rattle.cluster_msgs.specs.Scripts.{removes_of}
 use Rattle.node_runner.specs.Runs.{removals}

@@ -1,4 +1,4 @@
-use Rattle.std.proofs.Common.{◌≡◌, ◌<◌, ◌≤◌, ℕ, false, cond, subst, sym, ap, ◌∙◌}
+use Rattle.std.proofs.Common.{◌<◌, false, cond, subst, sym, ap, ◌∙◌}
 use Rattle.small_facts.proofs.Numbers.{unequal_past}
 use Rattle.cluster_rules.specs.Functions.{put}
 use Rattle.cluster_rules.specs.Sched.{Facts, keys}

@@ -1,4 +1,4 @@
-use Rattle.std.proofs.Common.{◌∙◌, arith, None}
+use Rattle.std.proofs.Common.{◌∙◌, arith}
 use Rattle.sched_facts.specs.Stored.{facts_of}
 use Rattle.sched_facts.proofs.Rooms.{keep-opening}
 use Rattle.sched_facts.proofs.table.FactTable.new.Goals as goal
