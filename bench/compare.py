@@ -130,7 +130,7 @@ def commands(folder, shape, chunks, ours, numpy, dask):
 def compare(name, folder):
     shape, shown, dask = SIZES[name]
     _, chunks, ours, numpy = jobs.JOBS[name if name in jobs.JOBS else 'chain 1 GiB']
-    subprocess.run([sys.executable, '-c', jobs.MAKE, 'a.npy', ','.join(map(str, shape))], cwd=folder, check=True)
+    subprocess.run([sys.executable, '-c', jobs.MAKE, 'a.npy', ','.join(map(str, shape)), '<i8'], cwd=folder, check=True)
     size = 8 * shape[0] * shape[1]
     if size >= 2**20:
         shown += f', {size // 2**20} MiB'

@@ -1,12 +1,13 @@
 #!/usr/bin/env python3
-"""Reads files of int64 square by square with `read_head` and `read_region`, and with NumPy over a memory map, and prints
-the processor time of both. Run by hand at the top of the repository, with a Python that has NumPy and the command rt:
+"""Reads files of each type square by square with `read_head` and `read_region`, and with NumPy over a memory map, which makes int64
+of each square too, and prints the processor time of both. Run by hand at the top of the repository, with a Python that has NumPy and the command rt:
 
     python3 bench/regions.py [FOLDER]
 
-It works in FOLDER (a new one in /tmp by default), where it makes a file of 1 GiB in row-major order and one of 1 GiB in
-column-major order, and a copy of the crates with one small program more, which is proved and built there. Each program
-reads a file in squares of 512 by 512 elements and adds all elements up; the sums have to agree.
+It works in FOLDER (a new one in /tmp by default), where it makes files of 2^27 elements, one after another: of int64 in row-major
+and in column-major order, which is 1 GiB, and of the other types in row-major order; and a copy of the crates with one small program more, which is proved and built there. Each program
+reads a file in squares of 512 by 512 elements and adds all elements up; the sums have to agree. Of a type beside `<i8` it prints
+also how its time stands to that of `<i8`.
 """
 import os
 import resource
@@ -18,10 +19,12 @@ import tempfile
 import numpy as np
 
 ROWS, COLUMNS, SIDE = 16384, 8192, 512
+FILES = [('C', '<i8'), ('F', '<i8'), *(('C', dtype) for dtype in ('>i8', '<i4', '>i4', '<i2', '>i2', '|i1'))]
 
 MAIN = '''//! Adds up the elements of a file of two axes, square by square.
 #![tactic(auto)]
-ghost use Rattle.std.specs.Prelude.{◌≡◌, ◌<◌, length};
+ghost use Rattle.std.specs.Prelude.{◌≡◌, ◌<◌, IsTrue, length};
+ghost use Rattle.npy_codec.specs.Regions.{IsWidth};
 
 use io_edge::{RealSite, Site, Store};
 use nd_shape::Region;
@@ -49,6 +52,12 @@ fn total(cells: &[i64]) -> i64 {
     sum
 }
 
+fn is_width(width: u32) -> bool
+    ensures { IsTrue result → IsWidth width }
+{
+    matches!(width, 1 | 2 | 4 | 8)
+}
+
 fn sum_of<S: Store>(alloc: Global, store: &mut S, head: &Head, region: &Region) -> i64
     requires { 0 < length (S.files store.old) }
     ensures { S.files store.new ≡ S.files store.old }
@@ -56,7 +65,7 @@ fn sum_of<S: Store>(alloc: Global, store: &mut S, head: &Head, region: &Region) 
     if !region.is_part(head.shape.dims()) {
         return 0;
     }
-    if head.data_at > 2097152 {
+    if head.data_at > 2097152 || !is_width(head.width) {
         return 0;
     }
     match read_region(alloc, store, 0, head, region) {
@@ -137,7 +146,7 @@ array = np.load(sys.argv[1], mmap_mode='r')
 total = 0
 for row in range(0, array.shape[0], {side}):
     for column in range(0, array.shape[1], {side}):
-        block = np.array(array[row:row + {side}, column:column + {side}], order='C')
+        block = np.array(array[row:row + {side}, column:column + {side}], np.int64, order='C')
         total = (total + int(block.sum())) % 2**64
 print((total + 2**63) % 2**64 - 2**63)
 '''
@@ -165,10 +174,9 @@ def build(folder):
     return program
 
 
-def make(folder, order):
-    path = os.path.join(folder, order + '.npy')
-    count = ROWS * COLUMNS
-    values = np.arange(count, dtype='<i8') * 1234567890123
+def make(folder, order, dtype):
+    path = os.path.join(folder, 'array.npy')
+    values = (np.arange(ROWS * COLUMNS, dtype='<i8') * 1234567890123).astype(dtype)
     np.save(path, np.asarray(values.reshape((ROWS, COLUMNS), order=order)))
     return path
 
@@ -184,9 +192,9 @@ def main():
     folder = sys.argv[1] if len(sys.argv) > 1 else tempfile.mkdtemp(prefix='regions')
     os.makedirs(folder, exist_ok=True)
     program = build(folder)
-    script = NUMPY.format(side=SIDE)
-    for order, word in (('C', 'row-major'), ('F', 'column-major')):
-        path = make(folder, order)
+    script, base = NUMPY.format(side=SIDE), None
+    for order, dtype in FILES:
+        path = make(folder, order, dtype)
         ours, theirs = [], []
         for _ in range(5):
             (a, first), (b, second) = timed([program, path]), timed([sys.executable, '-c', script, path])
@@ -196,7 +204,10 @@ def main():
             theirs.append(second)
         os.remove(path)
         first, second = min(ours), min(theirs)
-        print(f'{word}: {first:.2f} s, NumPy {second:.2f} s, ratio {first / second:.2f} (least of 5, processor time)')
+        base = base or first
+        word = 'row-major' if order == 'C' else 'column-major'
+        print(f'{dtype} {word}: {first:.2f} s, NumPy {second:.2f} s, ratio {first / second:.2f}; {first / base:.2f} of <i8 row-major '
+              '(least of 5, processor time)', flush=True)
 
 
 if __name__ == '__main__':

@@ -50,7 +50,14 @@ HEAD = b"{'descr': '<i8', 'fortran_order': False, 'shape': (6,), }"
 
 def array_file(header, data=bytes(48), version=b'\x01\x00', short=0):
     header += b' ' * (117 - len(header)) + b'\n'
-    return b'\x93NUMPY' + version + (len(header) + short).to_bytes(2, 'little') + header + data
+    return b'\x93NUMPY' + version + (len(header) + short).to_bytes(2 if version[0] == 1 else 4, 'little') + header + data
+
+
+def typed(dtype, version, cut=0):
+    """A file of six elements of this type in this version, without so many of its last bytes."""
+    width = int(dtype[2:])
+    data = b''.join(bytes([200 + k] * width) if k % 2 else bytes(range(width)) for k in range(6))
+    return array_file(HEAD.replace(b'<i8', dtype), data[:len(data) - cut], version=bytes([version, 0]))
 
 
 FILES = [
@@ -62,6 +69,11 @@ FILES = [
     array_file(HEAD.replace(b' }', b'x}')), array_file(HEAD + b'\n'), array_file(HEAD + b' x'), array_file(HEAD.replace(b', }', b'}')),
     array_file(b"{ 'shape' :( 6 , ) ,\"fortran_order\":True,'descr':\"<i8\"}"), array_file(HEAD.replace(b'<i8', b'<i8\\')),
     array_file(HEAD.replace(b'(6,)', b'(6,,)')), array_file(HEAD.replace(b'(6,)', b'(,)')), array_file(HEAD.replace(b"'descr'", b"'descr\"")),
+    *(typed(dtype, version) for dtype in (b'<i8', b'>i8', b'<i4', b'>i4', b'<i2', b'>i2', b'|i1') for version in (1, 2, 3)),
+    *(typed(dtype, 2, 1) for dtype in (b'>i8', b'<i4', b'<i2', b'|i1')), typed(b'<u4', 2), typed(b'|b1', 3), typed(b'=i8', 1),
+    b'\x93NUMPY', b'\x93NUMPY\x01', b'\x93NUMPY\x04\x00', b'\x93NUMPY\x02\x00t\x00\x00', b'\x93NUMPY\x03\x00\x01\x00\x10\x00',
+    array_file(HEAD.replace(b'<i8', 'é'.encode()), version=b'\x03\x00'), array_file(HEAD.replace(b'<i8', 'é'.encode()), version=b'\x02\x00'),
+    array_file(HEAD.replace(b'<i8', b'\xe0\x9f\xbf'), version=b'\x03\x00'), array_file(HEAD.replace(b'<i8', b'\xf4\x90\x80\x80'), version=b'\x03\x00'),
 ]
 
 

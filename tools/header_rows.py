@@ -11,8 +11,15 @@ from grammar_tables import Tables, as_rust
 
 KINDS = 48
 SINGLE = "".join(dict.fromkeys(" \n{}():,'\"descrfotan_hpTuFl0"))
-DIGIT, TEXT, OTHER = len(SINGLE), len(SINGLE) + 1, len(SINGLE) + 2
-PRINTABLE = [k for k in range(OTHER) if k != 1]
+DIGIT, TEXT = len(SINGLE), len(SINGLE) + 1
+# Past ASCII, by UTF-8: the ranges of bytes of a kind each, and what follows those that begin a character, as first and last kind.
+PAST = [[(0x80, 0x8F)], [(0x90, 0x9F)], [(0xA0, 0xBF)], [(0xC2, 0xDF)], [(0xE0, 0xE0)], [(0xE1, 0xEC), (0xEE, 0xEF)]]
+PAST += [[(0xED, 0xED)], [(0xF0, 0xF0)], [(0xF1, 0xF3)], [(0xF4, 0xF4)]]
+LOW, HALF, HIGH = (TEXT + 1 + i for i in range(3))
+ANY = (LOW, HIGH)
+BEHIND = {3: [ANY], 4: [(HIGH, HIGH), ANY], 5: [ANY, ANY], 6: [(LOW, HALF), ANY], 7: [(HALF, HIGH), ANY, ANY], 8: [ANY, ANY, ANY], 9: [(LOW, LOW), ANY, ANY]}
+OTHER = TEXT + 1 + len(PAST)
+PRINTABLE = [k for k in range(TEXT + 1) if k != 1]
 FIRST, START, COPY, TRUE, FALSE, OPEN, NUMBER = range(7)
 KEYS = ("descr", "fortran_order", "shape")
 QUOTES = ("'", '"')
@@ -30,6 +37,9 @@ def kind_of_byte(byte):
         return DIGIT
     if 32 <= byte <= 126 and char != "\\":
         return TEXT
+    for i, ranges in enumerate(PAST):
+        if any(low <= byte <= high for low, high in ranges):
+            return TEXT + 1 + i
     return OTHER
 
 
@@ -39,6 +49,8 @@ parts = ["header", "tail", "spaces", "value0", "value1", "value2", "string'", 's
 parts += [("items", s) for s in SETS if s]
 parts += [("key", s, q) for s in SETS if s for q in QUOTES]
 parts += [("more", s) for s in SETS if len(s) < 3]
+LATER = [(LOW, HIGH), (LOW, HALF), (HALF, HIGH), (HIGH, HIGH), (LOW, LOW)]
+parts += [("later", r) for r in LATER]
 
 
 def tok(text):
@@ -99,9 +111,16 @@ rule("axis", [kind(")")], [])
 rule("digits", [kind("0"), DIGIT], part("digits"))
 other[parts.index("digits")] = []
 
+for low, high in LATER:
+    rule(("later", (low, high)), range(low, high + 1), [])
+narrow = dict(on)  # versions 1.0 and 2.0
+for q in QUOTES:
+    for i, later in BEHIND.items():
+        rule("string" + q, [TEXT + 1 + i], sum((part(("later", r)) for r in later), []) + part("string" + q))
+
 # ---- the tables of the test
 
-tables = Tables(len(parts), on, other)
+tables, narrow_tables = Tables(len(parts), on, other), Tables(len(parts), narrow, other)
 moves = [1] * len(parts)  # no other rule has a part or an action before a token
 
 # ---- what is written
@@ -111,15 +130,21 @@ def title(name):
     """A part's name, and for items the keys that are still to come."""
     if isinstance(name, str):
         return {"value0": "value of descr", "value1": "value of fortran_order", "value2": "value of shape"}.get(name, name)
+    if name[0] == "later":
+        return "later byte of kind %d to %d" % name[1]
     keys = ", ".join(KEYS[k] for k in name[1])
     return " ".join([name[0], "of (%s)" % keys] + (["in " + name[2]] if name[2:] else []))
 
 
 out = ["// The table of the grammar of headers, written by tools/header_rows.py.", "use grammar::{Row, Rule, Symbol, rules_on};", ""]
-out += ["// The kinds: %s, then the digits 1 to 9, what else may stand in a string, and any other byte." % ascii(SINGLE)[1:-1], ""]
+out += ["// The kinds: %s, then the digits 1 to 9, what else may stand in a string," % ascii(SINGLE)[1:-1]]
+out += ["// ten kinds of bytes past ASCII, and any other byte.", ""]
 out += ["/// The kind of each byte.", "pub(crate) static KIND_OF_BYTE: [u16; 256] = ["]
 out += ["    " + " ".join("%d," % kind_of_byte(b) for b in range(i, i + 16)) for i in range(0, 256, 16)] + ["];", ""]
-out += as_rust([title(name) for name in parts], KINDS, on, other, tables.rows, moves)
+lines = as_rust([title(name) for name in parts], KINDS, narrow, other, tables.rows, moves)
+wide_lines = as_rust([title(name) for name in parts], KINDS, on, other, tables.rows, moves)
+end = wide_lines.index("];") + 2
+out += lines[:end] + [wide_lines[0].replace("ON:", "ON_WIDE:")] + wide_lines[1:end] + lines[end:]
 open("crates/npy_header/src/rows.rt", "w").write("\n".join(out) + "\n")
 
 
@@ -129,9 +154,11 @@ def antt(xs):
 
 print("parts", len(parts), "rows", len(tables.rows))
 print("singles =", antt(ord(c) for c in SINGLE))
-print("starts =", antt(tables.starts))
-print("empty =", antt(str(e).lower() for e in tables.empty))
-print("follow =", antt(tables.follow))
-print("ranks =", antt(tables.ranks))
+for t in (narrow_tables, tables):
+    print("  kinds = %d;" % (OTHER + 1))
+    print("  starts = %s;" % antt(t.starts))
+    print("  empty = %s;" % antt(str(e).lower() for e in t.empty))
+    print("  follow = %s;" % antt(t.follow))
+    print("  ranks = %s;" % antt(t.ranks))
 for i, p in enumerate(parts):
     print(i, p)

@@ -74,8 +74,12 @@ TEXTS = [  # a second line of a job, and what is said of it
 ]
 FILES = [  # the files of a job, the status, and the line below the program's own
     ({'job.txt': INPUT.replace('4, 6', '6, 4') + 'save a "b.npy"'}, 3, 'the file has another shape: in the job write `shape (4, 6)`'),
-    ({'job.txt': 'input a "f.npy" shape (2) chunks (2)\nsave a "b.npy"'}, 3,
-     "elements are to be int64: np.save('f.npy', np.load('f.npy').astype('<i8')), once you know that they have no fractions"),
+    ({'job.txt': 'input a "f.npy" shape (2) chunks (2)\nsave a "b.npy"'}, 3, 'elements are to be signed integers of 1, 2, 4 or 8 bytes: '
+     "np.save('f.npy', np.load('f.npy').astype('<i8')), once you know that they have no fractions and none is above 2^63 - 1"),
+    ({'job.txt': 'input a "u.npy" shape (2) chunks (2)\nsave a "b.npy"'}, 3, 'elements are to be signed integers of 1, 2, 4 or 8 bytes: '
+     "np.save('u.npy', np.load('u.npy').astype('<i8')), once you know that they have no fractions and none is above 2^63 - 1"),
+    ({'job.txt': 'input a "half.npy" shape (2) chunks (2)\nsave a "b.npy"'}, 3, 'half.npy ends too early: it was cut off, so copy or save it again'),
+    ({'job.txt': 'input a "small.npy" shape (2) chunks (2)\nsave a "b.npy"'}, 3, 'the file has another shape: in the job write `shape (3)`'),
     ({'job.txt': 'input a "job.txt" shape (2) chunks (2)\nsave a "b.npy"'}, 3,
      'it is no .npy file as np.save writes it: load it with what wrote it, and np.save it'),
     ({'job.txt': 'input a "cut.npy" shape (4, 6) chunks (2, 3)\nsave a "b.npy"'}, 3,
@@ -136,7 +140,9 @@ def main(launcher):
         cases = Cases(os.path.abspath(launcher), folder)
         os.mkdir(os.path.join(folder, 'there'))
         data = bytes(8 * 24)
-        for name, content in (('a.npy', head('<i8', (4, 6)) + data), ('f.npy', head('<f8', (2,)) + data), ('cut.npy', head('<i8', (4, 6)) + data[8:]),
+        for name, content in (('a.npy', head('<i8', (4, 6)) + data), ('f.npy', head('<f8', (2,)) + data), ('u.npy', head('|u1', (2,)) + data),
+                              ('half.npy', head('>i4', (2,)) + data[:7]), ('small.npy', head('<i2', (3,)) + data[:6]),
+                              ('cut.npy', head('<i8', (4, 6)) + data[8:]),
                               ('nine.npy', head('<i8', (1,) * 9) + data), ('job.txt', INPUT.encode() + b'save a "b.npy"\n')):
             cases.write(name, content)
         for words, hint in WORDS:

@@ -136,7 +136,8 @@ def of_file(line, _):
     if reason.startswith('shape ('):
         own = re.sub(r',\)', ')', reason[len('shape '):].partition(' declared ')[0])
         return f'the file has another shape: in the job write `shape {own}`'
-    return {'descr': f"elements are to be int64: np.save('{name}', np.load('{name}').astype('<i8')), once you know that they have no fractions",
+    return {'descr': 'elements are to be signed integers of 1, 2, 4 or 8 bytes: '
+                     f"np.save('{name}', np.load('{name}').astype('<i8')), once you know that they have no fractions and none is above 2^63 - 1",
             'shape limit': 'an array has at most 8 axes and 2^31 elements: save parts of it'}.get(
                 reason, 'it is no .npy file as np.save writes it: load it with what wrote it, and np.save it')
 

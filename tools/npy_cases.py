@@ -1,4 +1,5 @@
-"""Files that numpy.save writes, and what NumPy has in them: cases of format_table.
+"""Files that NumPy writes, by numpy.save and in each version and type by numpy.lib.format, and what NumPy has in them: cases of
+format_table.
 
 The runs of bytes and the regions past a file's end are worked out by hand from docs/FORMATS.md, on the file SIX.
 """
@@ -8,6 +9,7 @@ import io
 import numpy as np
 
 from case_lines import escaped, numbers, order
+from header_cases import TYPES, type_text
 
 SHAPES = [(), (3,), (0,), (2, 3), (3, 0), (2, 3, 2), (1, 2, 1, 3), (2, 1, 2, 1, 2), (1, 1, 2, 1, 1, 2),
           (1, 2, 1, 1, 2, 1, 1), (1, 1, 2, 1, 1, 2, 1, 2)]
@@ -23,9 +25,9 @@ def array_of(shape, order):
     return np.array(np.array(values, dtype="<i8").reshape(shape), order=order)
 
 
-def file_of(array):
+def file_of(array, version=None):
     out = io.BytesIO()
-    np.save(out, array)
+    np.lib.format.write_array(out, array, version=(version, 0)) if version else np.save(out, array)
     return out.getvalue()
 
 
@@ -46,11 +48,11 @@ def cells_of(array, starts, lengths):
     return "".join(" %d" % v for v in part.ravel(order="C").tolist())
 
 
-def region_cases(array, starts, lengths):
+def region_cases(array, starts, lengths, version=None):
     """The region of the array's file, however short the reads are."""
-    data = file_of(array)
-    at = len(data) - 8 * array.size
-    answer = "%s (%s) at %d; (%s)" % (order(is_fortran(array)), numbers(array.shape), at, numbers(lengths))
+    data = file_of(array, version)
+    at = len(data) - array.nbytes
+    answer = "%s (%s) at %d of %s; (%s)" % (order(is_fortran(array)), numbers(array.shape), at, type_text(array.dtype.str), numbers(lengths))
     answer += cells_of(array, starts, lengths)
     return [(region_line(data, starts, lengths, most), answer) for most in (7, 100000)]
 
@@ -63,10 +65,25 @@ def header_case(shape, letter):
     return "header " + escaped(text), "%s (%s) of '<i8'" % (order(fortran), numbers(shape))
 
 
+def typed_cases():
+    """Regions of files of each type, in each version and order, with the ends of the type's range among the elements."""
+    found = []
+    for version in (1, 2, 3):
+        for descr in TYPES:
+            dtype = descr.decode()
+            limits = np.iinfo(dtype)
+            for letter in "CF":
+                array = array_of(CUBE, letter).astype(dtype, order=letter)
+                array[0, 0, 0], array[2, 3, 1], array[1, 1, 1] = limits.min, limits.max, -1
+                for starts, lengths in PARTS[:4]:
+                    found += region_cases(array, starts, lengths, version)
+    return found
+
+
 # A column-major file of shape (2, 3) with the data 1 to 6, and a header of 70 bytes.
 SIX = b"\x93NUMPY\x01\x00\x46\x00{'descr': '<i8', 'fortran_order': True, 'shape': (2, 3), }           \n"
 SIX += b"".join(n.to_bytes(8, "little") for n in range(1, 7))
-SIX_HEAD = "column-major (2,3) at 80; "
+SIX_HEAD = "column-major (2,3) at 80 of 8; "
 
 
 def six(starts, lengths, most, size, answer, fault="-"):
@@ -92,21 +109,46 @@ SIX_CASES = [
     six((0, 0), (2, 2), 7, 128, "read fault", "read:14"),
 ]
 
+# The same with elements of two bytes, in big-endian order, of which the fourth is -1 and the last -32768. Of 12 bytes of data 9 are
+# there where the file has 89.
+PAIRS = SIX[:80].replace(b"<i8", b">i2") + b"\x00\x01\x00\x02\x01\x03\xff\xff\x7f\xff\x80\x00"
+PAIRS_HEAD = "column-major (2,3) at 80 of 2 big; "
+PAIRS_CASES = [(region_line(PAIRS, starts, lengths, most, size), PAIRS_HEAD + answer) for starts, lengths, most, size, answer in [
+    ((0, 0), (2, 3), 7, 92, "(2,3) 1 259 32767 2 -1 -32768"),
+    ((0, 0), (2, 3), 1, 92, "(2,3) 1 259 32767 2 -1 -32768"),
+    ((1, 1), (1, 2), 3, 92, "(1,2) -1 -32768"),
+    ((0, 2), (1, 1), 9, 89, "truncated: has 9, needs 10"),
+    ((0, 0), (2, 3), 9, 89, "truncated: has 9, needs 12"),
+    ((0, 0), (2, 2), 9, 89, "(2,2) 1 259 2 -1"),
+    ((0, 0), (1, 1), 9, 0, "truncated: has 0, needs 2"),
+    ((0, 3), (2, 0), 9, 0, "(2,0)"),
+]]
+
 # The same header as `written 2,2` of format_table has, with -1, 0, the largest and the smallest number.
 WRITTEN = b"\x93NUMPY\x01\x00v\x00{'descr': '<i8', 'fortran_order': False, 'shape': (2, 2), }" + b" " * 58 + b"\n"
 WRITTEN += b"".join(n.to_bytes(8, "little", signed=True) for n in (-1, 0, 2**63 - 1, -(2**63)))
-WRITTEN_CELLS = "row-major (2,2) at 128; (2,2) -1 0 9223372036854775807 -9223372036854775808"
+WRITTEN_CELLS = "row-major (2,2) at 128 of 8; (2,2) -1 0 9223372036854775807 -9223372036854775808"
 WRITTEN_CASES = [(region_line(WRITTEN, (0, 0), (2, 2), most), WRITTEN_CELLS) for most in (7, 100000)]
 
-# The runs of a region of a file whose data begins at byte 80: the first byte, how many, and the place in the block.
+# The runs of a region of a file with elements of so many bytes whose data begins at byte 80: the first byte, how many, and the place
+# in the block.
 RUNS = [
-    ("runs row-major 2,3 0+2,0+3", "runs 80+48@0"),
-    ("runs row-major 2,3 0+2,1+2", "runs 88+16@0 112+16@2"),
-    ("runs column-major 2,3 0+2,1+2", "runs 96+8@0 104+8@2 112+8@1 120+8@3"),
-    ("runs column-major 2,3 0+2,1+1", "runs 96+16@0"),
-    ("runs column-major - -", "runs 80+8@0"),
-    ("runs column-major 2,3 0+0,1+1", "runs"),
-    ("runs row-major 2,3 0+2,2+2", "no part"),
+    ("runs row-major 8 2,3 0+2,0+3", "runs 80+48@0"),
+    ("runs row-major 8 2,3 0+2,1+2", "runs 88+16@0 112+16@2"),
+    ("runs column-major 8 2,3 0+2,1+2", "runs 96+8@0 104+8@2 112+8@1 120+8@3"),
+    ("runs column-major 8 2,3 0+2,1+1", "runs 96+16@0"),
+    ("runs column-major 8 - -", "runs 80+8@0"),
+    ("runs column-major 8 2,3 0+0,1+1", "runs"),
+    ("runs row-major 8 2,3 0+2,2+2", "no part"),
+    ("runs row-major 4 2,3 0+2,0+3", "runs 80+24@0"),
+    ("runs row-major 4 2,3 0+2,1+2", "runs 84+8@0 96+8@2"),
+    ("runs column-major 4 2,3 0+2,1+2", "runs 88+4@0 92+4@2 96+4@1 100+4@3"),
+    ("runs row-major 2 2,3 0+2,1+2", "runs 82+4@0 88+4@2"),
+    ("runs column-major 2 2,3 0+2,1+2", "runs 84+2@0 86+2@2 88+2@1 90+2@3"),
+    ("runs column-major 2 2,3 0+2,1+1", "runs 84+4@0"),
+    ("runs row-major 1 2,3 0+2,1+2", "runs 81+2@0 84+2@2"),
+    ("runs column-major 1 2,3 0+2,1+2", "runs 82+1@0 83+1@2 84+1@1 85+1@3"),
+    ("runs row-major 1 - -", "runs 80+1@0"),
 ]
 
 
@@ -118,4 +160,4 @@ def cases():
             found += region_cases(array_of(shape, letter), (0,) * len(shape), shape)
         for starts, lengths in PARTS:
             found += region_cases(array_of(CUBE, letter), starts, lengths)
-    return found + SIX_CASES + WRITTEN_CASES + RUNS
+    return found + typed_cases() + SIX_CASES + PAIRS_CASES + WRITTEN_CASES + RUNS

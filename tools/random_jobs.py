@@ -4,6 +4,9 @@ import math
 import os
 import struct
 
+TYPES, VERSIONS = ('<i8', '>i8', '<i4', '>i4', '<i2', '>i2', '|i1'), (1, 2, 3)
+CODES = {'8': 'q', '4': 'i', '2': 'h', '1': 'b'}
+
 
 class Writer:
     """Writes one job: names that are defined, each with its shape."""
@@ -169,20 +172,23 @@ def by_column(numbers, shape):
     return [numbers[sum(i * stride for i, stride in zip(reversed(place), strides))] for place in places]
 
 
-def array_bytes(numbers, shape, fortran):
-    """The file of an array in NumPy's format, version 1.0."""
-    head = f"{{'descr': '<i8', 'fortran_order': {fortran}, 'shape': ({''.join(f'{n}, ' for n in shape).rstrip(' ' if len(shape) == 1 else ', ')}), }}"
-    head = head.encode() + b' ' * (-(11 + len(head)) % 64) + b'\n'
+def array_bytes(numbers, shape, fortran, dtype='<i8', version=1):
+    """The file of an array in NumPy's format."""
+    head = f"{{'descr': '{dtype}', 'fortran_order': {fortran}, 'shape': ({''.join(f'{n}, ' for n in shape).rstrip(' ' if len(shape) == 1 else ', ')}), }}"
+    counted = 2 if version == 1 else 4
+    head = head.encode() + b' ' * (-(9 + counted + len(head)) % 64) + b'\n'
     data = by_column(numbers, shape) if fortran else numbers
-    return b'\x93NUMPY\x01\x00' + len(head).to_bytes(2, 'little') + head + struct.pack(f'<{len(data)}q', *data)
+    order = '>' if dtype[0] == '>' else '<'
+    return b'\x93NUMPY' + bytes([version, 0]) + len(head).to_bytes(counted, 'little') + head + struct.pack(f'{order}{len(data)}{CODES[dtype[2]]}', *data)
 
 
 def write_random(folder, draw):
-    """A random job with its inputs; some of its divisors are 0."""
+    """A random job with its inputs, of which half are int64 in version 1.0; some of its divisors are 0."""
     writer = Writer(draw)
     text = writer.job()
     for name, shape in writer.inputs.items():
         numbers = [draw.randint(-9, 9) for _ in range(math.prod(shape))]
         with open(os.path.join(folder, name + '.npy'), 'wb') as it:
-            it.write(array_bytes(numbers, shape, len(shape) > 1 and draw.random() < 0.3))
+            kind = (draw.choice(TYPES), draw.choice(VERSIONS)) if draw.random() < 0.5 else ()
+            it.write(array_bytes(numbers, shape, len(shape) > 1 and draw.random() < 0.3, *kind))
     return text

@@ -11,6 +11,7 @@ many turns a simulation takes, is said by run_model.py, a model that was written
 the program.
 """
 import hashlib
+import io
 import os
 import re
 
@@ -44,6 +45,14 @@ def both_save(file, *saves):
 
 COLUMNS = np.asfortranarray(np.array([[1, 3, 5], [2, 4, 6]], dtype=np.int64))
 A, ONE, MOST, LEAST, X, D, R, P, Q, M = (ARRAYS[k + '.npy'] for k in ('a', 'one', 'most', 'least', 'x', 'd', 'r', 'p', 'q', 'm'))
+
+
+TYPES = ('<i8', '>i8', '<i4', '>i4', '<i2', '>i2', '|i1')
+
+
+def type_file(dtype, version):
+    """The name of the file of this type in this version, as `2i4b.npy`."""
+    return f'{version}{dtype[1:]}{"b" if dtype[0] == ">" else "l"}.npy'
 
 
 def full(shape, value):
@@ -339,13 +348,13 @@ def real():
 def heads():
     title('the head of a file')
     say('site 4096 0')
-    say('open a.npy head 0', 'open: (3,) at 128 faults 0')
+    say('open a.npy head 0', 'open: (3,) at 128 8 little faults 0')
     for refused in ('length:0', 'read:0', 'read:1'):
         say(f'site 4096 0 {refused}')
         say('open a.npy head 0', 'open: read fault faults 1')
-        say('open a.npy head 0', 'open: (3,) at 128 faults 0')
+        say('open a.npy head 0', 'open: (3,) at 128 8 little faults 0')
         say('faults', 'faults: 1 0 0 0')
-    title('a region of a file: by nine bytes a call the ten fixed bytes are two reads, the 118 of the header 14, and 32 bytes of data 4')
+    title('a region of a file: by nine bytes a call the first twelve bytes are two reads, the 118 of the header 14, and 32 bytes of data 4')
     region = ' '.join(str(cell) for cell in COLUMNS[:2, :2].ravel())
     for refused in ('length:0', 'length:1', 'read:0', 'read:15', 'read:16', 'read:17', 'read:19'):
         say(f'site 4096 9 {refused}')
@@ -354,6 +363,56 @@ def heads():
     for sound in ('length:2', 'read:20'):
         say(f'site 4096 9 {sound}')
         say('open columns.npy region 0 0+2,0+2', f'open: {region} faults 0')
+
+
+def of_type(dtype, version):
+    """A file as NumPy writes it in this version, whose elements have the least and the largest of the type among them, and its array."""
+    limits = np.iinfo(dtype)
+    array = np.array([[limits.min, -1, 0], [1, 2, limits.max]], dtype=dtype)
+    out = io.BytesIO()
+    np.lib.format.write_array(out, np.asfortranarray(array) if version == 2 else array, version=(version, 0))
+    return out.getvalue(), array.astype(np.int64)
+
+
+def types():
+    title('files of each version and type')
+    files = {(version, dtype): of_type(dtype, version) for version in (1, 2, 3) for dtype in TYPES}
+    for (version, dtype), (data, _) in files.items():
+        shelve(type_file(dtype, version), data)
+    say('site 4096 0')
+    for (version, dtype), (data, array) in files.items():
+        name, width = type_file(dtype, version), int(dtype[2])
+        order = 'big' if dtype[0] == '>' else 'little'
+        say(f'open {name} head 0', f'open: (2, 3) at {len(data) - 6 * width} {width} {order} faults 0')
+        say(f'open {name} region 0 0+2,1+2', f'open: {" ".join(str(cell) for cell in array[:, 1:].ravel())} faults 0')
+        job(f'input a "{name}" shape (2, 3) chunks (1, 2)|let b = a + 1|save b "o.npy"|')
+        for command in ('plain job.txt', 'run job.txt'):
+            say(f'saved o.npy {command}', f'saved: 0 o.npy {text(saved(array + 1))}')
+        say('saved o.npy sim job.txt 7', f'saved: 0 o.npy {text(saved(array + 1))}')
+    title('inputs of three types')
+    for version, kinds in ((1, ('<i4', '>i8', '|i1')), (2, ('>i2', '<i8', '>i4')), (3, ('|i1', '<i2', '>i8'))):
+        inputs = ''.join(f'input {name} "{type_file(dtype, version)}" shape (2, 3) chunks (2, {k + 1})|' for k, (name, dtype) in enumerate(zip('abc', kinds)))
+        a, b, c = (files[version, dtype][1] for dtype in kinds)
+        job(inputs + 'let d = a + b * 2 - c|let e = sum(where(a % 2, b, c), axis=(0))|save d "o.npy"|save e "s.npy"|')
+        both_save('o.npy', ('o.npy', a + b * 2 - c), ('s.npy', np.where(a % 2, b, c).sum(axis=0)))
+        both_save('s.npy', ('o.npy', a + b * 2 - c), ('s.npy', np.where(a % 2, b, c).sum(axis=0)))
+    title('files of other versions and types, and shorter ones')
+    short = of_type('<i2', 1)[0][:-1]
+    for data, why in (
+            (b'\x93NUMPY\x04\x00', 'version 4.0'),
+            (b'\x93NUMPY\x01', 'truncated: has 7, needs 8'),
+            (b'\x93NUMPY\x01\x00\x76', 'truncated: has 9, needs 10'),
+            (b'\x93NUMPY\x02\x00\x74\x00\x00', 'truncated: has 11, needs 12'),
+            (b'\x93NUMPY\x03\x00\x01\x00\x10\x00', 'header limit 1048577'),
+            (b'\x93NUMPY\x02\x00\x00\x00\x10\x00', 'truncated: has 0, needs 1048576'),
+            (npy(np.zeros((2, 3), dtype='<u4')), 'descr'),
+            (npy(np.zeros((2, 3), dtype='|b1')), 'descr'),
+            (npy(np.zeros((2, 3), dtype='<f8')), 'descr'),
+            (short, 'truncated: has 11, needs 12')):
+        shelve('other.npy', data)
+        job('input a "other.npy" shape (2, 3) chunks (2, 2)|save a "o.npy"|')
+        for command in ('plain job.txt', 'run job.txt', 'sim job.txt 7'):
+            once('o.npy', command, told(3, '', f'dask: file other.npy: {why}|', '0 0 0 0', 'o.npy', 'none'))
 
 
 def blocks():
@@ -810,7 +869,7 @@ def main():
     shelve('short.npy', saved(A)[:-1])
     shelve('front.npy', saved(A)[:4])
     shelve('text.npy', b'nothing')
-    for part in (pieces, creations, room, alone, objects, lengths, spills, real, real_spills, heads, blocks, saves, divided, refusals, large, words, run_cases.words, run_cases.reports, faults, run_cases.faults, places, reports, simulations, numbers, folds, by_chance):
+    for part in (pieces, creations, room, alone, objects, lengths, spills, real, real_spills, heads, types, blocks, saves, divided, refusals, large, words, run_cases.words, run_cases.reports, faults, run_cases.faults, places, reports, simulations, numbers, folds, by_chance):
         part()
     here = os.path.join(os.path.dirname(os.path.abspath(__file__)), '..', 'crates', 'site_table')
     for name, lines in (('stdin', LINES), ('stdout', WANTED)):

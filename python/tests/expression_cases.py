@@ -103,6 +103,8 @@ def left(x):
     twice = np.load('grid.npy', mmap_mode='r')[::-1]
     yield 'integers of 32 bits', da.arange(5, dtype='i4', chunks=2), False
     yield 'a sum of 32 bits', x.astype('i4') + 1, False
+    np.save('small.npy', np.arange(5, dtype='i4'))
+    yield 'a map of 32 bits', da.from_array(np.load('small.npy', mmap_mode='r'), chunks=2), False
     yield 'bytes in another order', da.from_array(np.arange(4).astype('>i8'), chunks=2), False
     yield 'a function', x.map_blocks(lambda block: block + 1, dtype=x.dtype), False
     yield 'a function named as an operation', x.map_blocks(lambda block: block + 1, dtype=x.dtype, token='neg'), False

@@ -72,6 +72,9 @@ job_check = text.Job.check
 def cases():
     np.save('a.npy', np.arange(24).reshape(4, 6))
     np.save('float.npy', np.zeros(3))
+    np.save('unsigned.npy', np.zeros(3, '<u4'))
+    with open('other.npy', 'wb') as file:
+        file.write(b'\x93NUMPY\x04\x00')
     np.save('gone.npy', np.arange(3))
     np.save('changed.npy', np.arange(3))
     a, t, gone, changed = y.open('a.npy', chunks=(2, 3)), y.full((2, 3, 4), 1), y.open('gone.npy'), y.open('changed.npy')
@@ -145,6 +148,8 @@ def cases():
     yield 'no array file', ValueError, 'magic', lambda: y.open(__file__)
     yield 'chunks word', TypeError, 'auto', lambda: a.rechunk(('auto', 3))
     yield 'dtype', TypeError, 'astype', lambda: y.open('float.npy')
+    yield 'dtype without a sign', TypeError, 'where the program reads <i8, >i8, <i4,', lambda: y.open('unsigned.npy')
+    yield 'version', ValueError, 'version 4.0', lambda: y.open('other.npy')
     yield 'no file', FileNotFoundError, 'none.npy', lambda: y.open('none.npy')
     yield 'name', ValueError, 'ASCII', lambda: a.save('ü.npy')
     yield 'quote', ValueError, 'ASCII', lambda: a.save('a".npy')

@@ -4,6 +4,7 @@ import numpy as np
 import yitrovana as y
 
 LEAST, LARGEST = -2**63, 2**63 - 1
+TYPES, VERSIONS = ('<i8', '>i8', '<i4', '>i4', '<i2', '>i2', '|i1'), (1, 2, 3)
 EXTREMES = [LEAST, LEAST + 1, -3, -1, 0, 1, 2, 7, LARGEST - 1, LARGEST]
 LENGTHS, AXES = (0, 1, 2, 3, 4, 4, 4, 5, 6), (0, 1, 1, 2, 2, 2, 3, 4)
 OLD = tuple(map(int, np.__version__.split('.')[:2])) < (1, 22)
@@ -77,11 +78,14 @@ class Tree:
     # ---- arrays that are made of nothing
 
     def leaf(self, k):
-        shape = self.shape()
-        made = np.array([self.number() for _ in range(int(np.prod(shape)))], '<i8').reshape(shape)
+        """An array of a file of one of the types, most often int64, in one of the versions."""
+        shape, dtype = self.shape(), self.draw.choice(TYPES[:1] + TYPES)
+        made = np.array([self.number() for _ in range(int(np.prod(shape)))], '<i8').astype(dtype).reshape(shape)
         name = f'input {k}.npy'
-        np.save(name, np.asfortranarray(made) if made.ndim and self.draw.random() < 0.3 else made)
-        self.pool.append((y.open(name, chunks=self.draw.choice((None, self.chunks(shape)))), made))
+        with open(name, 'wb') as file:
+            whole = np.asfortranarray(made) if made.ndim and self.draw.random() < 0.3 else made
+            np.lib.format.write_array(file, whole, version=(self.draw.choice(VERSIONS), 0))
+        self.pool.append((y.open(name, chunks=self.draw.choice((None, self.chunks(shape)))), made.astype('<i8')))
 
     def make(self, shape):
         start, step = self.number(), self.number()

@@ -6,6 +6,7 @@ import xml.etree.ElementTree as tree
 import numpy as np
 
 import yitrovana as y
+from trees import TYPES, VERSIONS
 from yitrovana.refusals import INSTEAD
 from yitrovana.reports import read, told
 
@@ -42,6 +43,7 @@ def cases():
     yield 'a long sum', long.compute(command='plain').tolist(), (made + sum(range(4000))).tolist()
     yield 'deep', deep.compute(command='plain').tolist(), made.tolist()
     yield 'deep calls', wide.compute(command='plain').tolist(), wanted.tolist()
+    yield from files()
     yield from runs(a, made)
     yield from pictures(a)
     yield from reports()
@@ -50,6 +52,24 @@ def cases():
     os.chdir('other')
     yield 'another folder', a.compute().tolist(), made.tolist()
     os.chdir(folder)
+
+
+def files():
+    """Files of each type in each version, with the least and the largest number of the type, and three of them together."""
+    opened = {}
+    for version in VERSIONS:
+        for k, dtype in enumerate(TYPES):
+            limits = np.iinfo(dtype)
+            made = np.array([[limits.min, -1, 0], [1, 2, limits.max]], dtype)
+            with open(f'type {k} {version}.npy', 'wb') as file:
+                np.lib.format.write_array(file, made.T if k % 2 else made, version=(version, 0))
+            a = y.open(file.name, chunks=(1, 2))
+            opened[version, dtype] = a.T if k % 2 else a, made.astype('<i8')
+    for (version, dtype), (a, made) in opened.items():
+        yield f'elements of {dtype} in version {version}.0', (a.dtype, (a + 1).compute().tolist()), (np.dtype('<i8'), (made + 1).tolist())
+    for version, kinds in ((1, ('<i4', '>i8', '|i1')), (2, ('>i2', '<i8', '>i4')), (3, ('|i1', '<i2', '>i8'))):
+        (a, m), (b, n), (c, o) = (opened[version, dtype] for dtype in kinds)
+        yield f'elements of {", ".join(kinds)}', y.where(c, a + b, a * b).compute().tolist(), np.where(o, m + n, m * n).tolist()
 
 
 def runs(a, made):

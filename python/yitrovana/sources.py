@@ -12,11 +12,11 @@ from .elements import number
 from .layouts import layout
 
 # What the program reads of `.npy` files (docs/FORMATS.md): the types of elements, and the versions of headers.
-TYPES, VERSIONS = ('<i8',), ((1, 0),)
+TYPES, VERSIONS = ('<i8', '>i8', '<i4', '>i4', '<i2', '>i2', '|i1'), ((1, 0), (2, 0), (3, 0))
 
 
 def open(path, chunks=None):
-    """The array in a `.npy` file. Its head is read now, and its elements when they are computed."""
+    """The array in a `.npy` file, as int64. Its head is read now, and its elements when they are computed."""
     path = file_name(path)
     shape, dtype = head_of(path)
     if dtype.str not in TYPES:

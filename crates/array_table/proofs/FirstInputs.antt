@@ -5,6 +5,7 @@ use Rattle.std.proofs.lemmas.Bool.{cases_eq}
 use Rattle.io_edge.specs.Content.{Content}
 use Rattle.nd_shape.specs.Block.{Array}
 use Rattle.npy_codec.specs.declared.head.Head.{Head}
+use Rattle.npy_codec.specs.Regions.{IsWidth}
 use Rattle.array_expr.specs.declared.expr.Node.{Node}
 use Rattle.array_expr.specs.Elem.{is_input}
 use Rattle.plain_eval.specs.Eval.{HaveBlocks, block_at, inputs_before}
@@ -50,6 +51,7 @@ pub record HasFile (files : ℕ) (heads : List Head) (input : ℕ) (node : Node)
   pub head : input < length heads
   pub shape : (head_at heads input).shape ≡ node.shape
   pub near : (head_at heads input).data_at ≤ 2 ^ 21
+  pub width : IsWidth (head_at heads input).width
 
 pub files-none : (nodes : List Node) (held : List Content) (heads : List Head) → HaveFiles nodes 0 held heads
 files-none nodes held heads = record {
@@ -57,15 +59,17 @@ files-none nodes held heads = record {
   head = λ k node h is i. absurd (omega (arith, h));
   shape = λ k node h is i. absurd (omega (arith, h));
   near = λ k node h is i. absurd (omega (arith, h));
+  width = λ k node h is i. absurd (omega (arith, h));
 }
 
 pub files-more : (nodes : List Node) (k : ℕ) (node : Node) (held : List Content) (heads : List Head) → slice_get nodes k ≡ Some node → (is_input node.op ≡ true → HasFile (length held) heads (inputs_before nodes k) node) → HaveFiles nodes k held heads → HaveFiles nodes (k + 1) held heads
 files-more nodes k node held heads is f h =
-    let before : AreInputs (HasFile (length held) heads) nodes k = record { each = λ m other b at i. record { file = h.file m other b at i; head = h.head m other b at i; shape = h.shape m other b at i; near = h.near m other b at i } } in
+    let before : AreInputs (HasFile (length held) heads) nodes k = record { each = λ m other b at i. record { file = h.file m other b at i; head = h.head m other b at i; shape = h.shape m other b at i; near = h.near m other b at i; width = h.width m other b at i } } in
     let more : AreInputs (HasFile (length held) heads) nodes (k + 1) = inputs-more (HasFile (length held) heads) nodes k node is f before in
     record {
       file = λ m other b at i. (more.each m other b at i).file;
       head = λ m other b at i. (more.each m other b at i).head;
       shape = λ m other b at i. (more.each m other b at i).shape;
       near = λ m other b at i. (more.each m other b at i).near;
+      width = λ m other b at i. (more.each m other b at i).width;
     }

@@ -42,6 +42,8 @@ fn add_head(out: &mut Answer, heads: &mut Vec<Head>, block: &Block) {
                 shape,
                 fortran: false,
                 data_at: 128,
+                width: 8,
+                big: false,
             };
             if heads.push(head).is_err() {
                 out.fail();

@@ -55,12 +55,13 @@ pub fn have_blocks(nodes: &[Node], count: usize, blocks: &[Block]) -> bool
     true
 }
 
-// Whether a node is no input, or the one with this number, which has a file and a head of its shape.
+// Whether a node is no input, or the one with this number, which has a file and a head of its shape for `<i8`.
 fn has_file(node: &Node, input: usize, files: usize, heads: &[Head]) -> bool
     ensures file { IsTrue result → is_input node.now.op ≡ true → input < files }
     ensures head { IsTrue result → is_input node.now.op ≡ true → input < length heads.now }
     ensures shape { IsTrue result → is_input node.now.op ≡ true → (head_at heads.now input).shape ≡ node.now.shape }
     ensures near { IsTrue result → is_input node.now.op ≡ true → (head_at heads.now input).data_at ≤ 2 ^ 21 }
+    ensures width { IsTrue result → is_input node.now.op ≡ true → (head_at heads.now input).width ≡ 8 }
 {
     if !is_input(&node.op) {
         return true;
@@ -69,7 +70,7 @@ fn has_file(node: &Node, input: usize, files: usize, heads: &[Head]) -> bool
         return false;
     }
     let head = &heads[input];
-    head.shape.dims() == node.shape.dims() && head.data_at <= 128
+    head.shape.dims() == node.shape.dims() && head.data_at <= 128 && head.width == 8
 }
 
 /// Whether each input among the first so many nodes has a file, of so many, and a head of its shape.

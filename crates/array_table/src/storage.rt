@@ -96,7 +96,7 @@ fn put_all_runs(out: &mut Answer, runs: &[Run]) {
 }
 
 fn put_runs(out: &mut Answer, head: &Head, region: &Region) {
-    if !region.is_part(head.shape.dims()) || head.data_at > 128 {
+    if !region.is_part(head.shape.dims()) || head.data_at > 128 || head.width != 8 {
         return out.mark_ill();
     }
     match region_runs(out.alloc(), head, region) {
@@ -115,6 +115,8 @@ pub fn runs(row: &mut Row, out: &mut Answer) {
                 shape,
                 fortran,
                 data_at: 80,
+                width: 8,
+                big: false,
             };
             put_runs(out, &head, &region);
         }

@@ -33,4 +33,5 @@ lowered-job nodes saves heads form order h = record {
   fed = order.run_fed;
   loads = λ k lt. load-there nodes heads _ h (form.run_loads k lt);
   near = h.near;
+  width = h.width;
 }

@@ -1,5 +1,6 @@
 -- A region of an array is within the array's data, so that it isn't truncated where all of them are there.
 use Rattle.std.proofs.Common.{◌≡◌, ℕ, zero, suc, ◌+◌, ◌*◌, ◌<◌, ◌≤◌, List, [], ◌∷◌, length, arith}
+use Rattle.std.proofs.Math.Nat.{mul-le-mul_left}
 use Rattle.small_facts.proofs.Numbers.{below_product_right, product_left}
 use Rattle.nd_shape.specs.Shape.{elements}
 use Rattle.nd_shape.specs.Index.{IsIn}
@@ -8,7 +9,8 @@ use Rattle.nd_rows.specs.Storage.{last_index}
 use Rattle.nd_rows.proofs.Order.{number_of-below}
 use Rattle.npy_codec.specs.declared.head.Head.{Head}
 use Rattle.npy_codec.specs.declared.error.NpyError.{NpyError}
-use Rattle.npy_codec.specs.declared.error.NpyError.TheVariants.{NotNpy, Version, Truncated, HeaderText, Descr, ShapeLimit, ReadFault, OutOfMemory}
+use Rattle.npy_codec.specs.declared.error.NpyError.TheVariants.{NotNpy, Version, HeaderLimit, Truncated, HeaderText, Descr, ShapeLimit, ReadFault, OutOfMemory}
+use Rattle.npy_codec.specs.Files.{data_bytes}
 use Rattle.npy_codec.specs.Fronts.{IsFaultOrMemory}
 use Rattle.npy_codec.specs.Regions.{needed, bytes_up_to, data_place, RegionRefusedAs}
 
@@ -24,18 +26,19 @@ last-in (s ∷ ss) (l ∷ ls) (d ∷ ds) part some =
     let one : 0 < l = product_left l (elements ls) some in
     (omega (arith, first, one), last-in ss ls ds (record { starts = omega arith; lengths = omega arith; ends = λ k lt. part.ends (suc k) (omega arith) }) (below_product_right l (elements ls) 0 some))
 
-up-to : (n at all : ℕ) → (0 < n → at < all) → bytes_up_to n at ≤ 8 * all
-up-to zero at all h = omega arith
-up-to (suc n) at all h = let lt : at < all = h (omega arith) in omega (arith, lt)
+up-to : (width n at all : ℕ) → (0 < n → at < all) → bytes_up_to width n at ≤ width * all
+up-to width zero at all h = omega arith
+up-to width (suc n) at all h = let some : at < all = h (omega arith) in let last : at + 1 ≤ all = omega (arith, some) in mul-le-mul_left width last
 
-needed-within : (head : Head) (region : Box) → IsPart region head.shape → needed head region ≤ 8 * elements head.shape
+needed-within : (head : Head) (region : Box) → IsPart region head.shape → needed head region ≤ data_bytes head
 needed-within head region part =
-    up-to (elements region.lengths) (data_place head (last_index region.start region.lengths)) (elements head.shape)
+    up-to head.width (elements region.lengths) (data_place head (last_index region.start region.lengths)) (elements head.shape)
     (λ some. number_of-below head.fortran head.shape (last_index region.start region.lengths) (last-in region.start region.lengths head.shape part some))
 
-pub untruncated : (size : ℕ) (head : Head) (region : Box) (e : NpyError) → IsPart region head.shape → head.data_at + 8 * elements head.shape ≤ size → RegionRefusedAs size head region e → IsFaultOrMemory e
+pub untruncated : (size : ℕ) (head : Head) (region : Box) (e : NpyError) → IsPart region head.shape → head.data_at + data_bytes head ≤ size → RegionRefusedAs size head region e → IsFaultOrMemory e
 untruncated size head region (NotNpy at) part all r = r
 untruncated size head region (Version major minor) part all r = r
+untruncated size head region (HeaderLimit len) part all r = r
 untruncated size head region (Truncated has needs) part all r =
     let within = needed-within head region part in
     absurd (omega (arith, r.has_is, r.needs_is, r.short, within, all))

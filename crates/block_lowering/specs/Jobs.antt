@@ -1,12 +1,12 @@
 -- Graphs of block tasks as jobs that the cluster runs, and the feeds that they read.
-use Rattle.std.specs.Prelude.{◌≡◌, ℕ, ℤ, ◌+◌, ◌*◌, ◌<◌, ◌≤◌, ◌^◌, List, [], length, map, slice_get, slice_index_or, true, false, Option, Some, IsSome}
+use Rattle.std.specs.Prelude.{◌≡◌, ℕ, ℤ, ◌+◌, ◌<◌, ◌≤◌, ◌^◌, List, length, map, slice_get, slice_index_or, true, Option, Some, IsSome}
 use Rattle.nd_shape.specs.Block.{Array}
-use Rattle.nd_shape.specs.Shape.{elements}
 use Rattle.nd_shape.specs.Index.{IsIn}
 use Rattle.nd_shape.specs.Region.{IsPart}
 use Rattle.io_edge.specs.Content.{Content, Told, OnTold, file_at, size_of, told_bytes}
 use Rattle.npy_codec.specs.declared.head.Head.{Head}
-use Rattle.npy_codec.specs.Regions.{element}
+use Rattle.npy_codec.specs.Files.{data_bytes}
+use Rattle.npy_codec.specs.Regions.{IsWidth, element, no_head}
 use Rattle.cluster_msgs.specs.Shape.{Shape}
 use Rattle.block_kernels.specs.declared.spec.Spec.{Spec}
 use Rattle.block_kernels.specs.declared.spec.Spec.TheVariants.{Load}
@@ -23,7 +23,7 @@ use Rattle.block_lowering.specs.declared.job.BlockJob.TheInside.{Inside}
 
 -- the head of an input's file
 abbrev pub head_at : List Head → ℕ → Head
-head_at heads j = slice_index_or heads j (record { shape = []; fortran = false; data_at = 0 })
+head_at heads j = slice_index_or heads j no_head
 
 -- tasks, and the head of each input's file
 pub record Job : Type 0 where
@@ -51,12 +51,14 @@ pub record IsJob (tasks : List Task) (heads : List Head) : Type 0 where
   pub fed : AreFedAll tasks
   pub loads : (k : ℕ) → k < length tasks → IsLoad heads (task_at tasks k).spec
   pub near : (j : ℕ) → j < length heads → (head_at heads j).data_at ≤ 2 ^ 21
+  pub width : (j : ℕ) → j < length heads → IsWidth (head_at heads j).width
 
--- the input nodes have heads of their shapes, by the numbers of inputs, and each head's data begin near
+-- the input nodes have heads of their shapes, by the numbers of inputs; each head's data begin near, and have a width that is read
 pub record HaveHeads (nodes : List Node) (heads : List Head) : Type 0 where
   pub head : (k : ℕ) (node : Node) → slice_get nodes k ≡ Some node → is_input node.op ≡ true → inputs_before nodes k < length heads
   pub shape : (k : ℕ) (node : Node) → slice_get nodes k ≡ Some node → is_input node.op ≡ true → (head_at heads (inputs_before nodes k)).shape ≡ node.shape
   pub near : (j : ℕ) → j < length heads → (head_at heads j).data_at ≤ 2 ^ 21
+  pub width : (j : ℕ) → j < length heads → IsWidth (head_at heads j).width
 
 -- the graph of an expression that is lowered is a job, over heads of its inputs
 abbrev pub LawOfJobs : List Node → List ℕ → Type 0
@@ -70,7 +72,7 @@ pub record IsStored (s : Inside) : Type 0 where
 -- a file for each head, with all of its data
 pub record HaveData (heads : List Head) (files : List Content) : Type 0 where
   pub file : length heads ≤ length files
-  pub data_is : (j : ℕ) → j < length heads → (head_at heads j).data_at + 8 * elements (head_at heads j).shape ≤ size_of (file_at files j)
+  pub data_is : (j : ℕ) → j < length heads → (head_at heads j).data_at + data_bytes (head_at heads j) ≤ size_of (file_at files j)
 
 -- what is told of a file is what is named
 pub record FitsFeed (named : ℕ → List ℕ → ℤ) (heads : List Head) (files : List Content) : Type 0 where

@@ -9,6 +9,7 @@ ghost use Rattle.task_graph.specs.declared.graph.Task.{Task as AnyTask};
 ghost use Rattle.lowering_laws.specs.Each.{OfEachJob};
 ghost use Rattle.block_lowering.specs.Jobs.{head_at, IsJob, IsLoad, HaveData, HaveNamed, OfTold, LawOfJobs, graph_of, dims_of};
 ghost use Rattle.io_edge.specs.Given.{Agree, GivesMore};
+ghost use Rattle.npy_codec.specs.Regions.{IsWidth};
 
 use crate::reading::{load, shape_of_result};
 use block_kernels::{Spec, run as run_kernel};
@@ -150,6 +151,7 @@ fn run_load<S: Store>(
 ) -> Result<Outcome<Block>, RunFail>
     requires load { IsLoad heads.now (Spec.Load input region.now) }
     requires near { (head_at heads.now input).data_at ≤ 2 ^ 21 }
+    requires width { IsWidth (head_at heads.now input).width }
     requires feed { HaveData heads.now (S.files feed.old) }
     ensures same { S.files feed.new ≡ S.files feed.old }
     ensures value { OfTold heads.now (S.files feed.old) (λ named. IfOk result (λ o. value_of o ≡ made named (Spec.Load input region.now) [])) }

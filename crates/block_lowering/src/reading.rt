@@ -1,11 +1,11 @@
 //! What tasks read of inputs, and what they make.
-ghost use Rattle.std.specs.Prelude.{◌≡◌, ◌≤◌, ◌<◌, ◌+◌, ◌*◌, ◌^◌, ◌++◌, [], length, map, get_or, slice_index_or, IfOk, OnOk};
+ghost use Rattle.std.specs.Prelude.{◌≡◌, ◌≤◌, ◌<◌, ◌+◌, ◌^◌, ◌++◌, [], length, map, get_or, slice_index_or, IfOk, OnOk};
 ghost use Rattle.io_edge.specs.Content.{file_at, size_of, OnTold};
 ghost use Rattle.io_edge.specs.Given.{GivesMore, GivesOf};
-ghost use Rattle.nd_shape.specs.Shape.{elements};
 ghost use Rattle.nd_shape.specs.Region.{IsPart};
+ghost use Rattle.npy_codec.specs.Files.{data_bytes};
 ghost use Rattle.npy_codec.specs.Fronts.{IsFaultOrMemory};
-ghost use Rattle.npy_codec.specs.Regions.{HoldsRegion};
+ghost use Rattle.npy_codec.specs.Regions.{HoldsRegion, IsWidth};
 ghost use Rattle.block_kernels.specs.Kernels.{result_shape};
 ghost use Rattle.nd_grid.specs.Grid.{kept_shape};
 ghost use Rattle.block_lowering.specs.Reading.{FailsAsFeed, fail_of};
@@ -50,7 +50,8 @@ pub fn load<S: Store>(
     requires there { input < length (S.files feed.old) }
     requires part { IsPart region.now head.now.shape }
     requires near { head.now.data_at ≤ 2 ^ 21 }
-    requires whole { head.now.data_at + 8 * elements head.now.shape ≤ size_of (file_at (S.files feed.old) input) }
+    requires width { IsWidth head.now.width }
+    requires whole { head.now.data_at + data_bytes head.now ≤ size_of (file_at (S.files feed.old) input) }
     ensures same { S.files feed.new ≡ S.files feed.old }
     ensures shape { IfOk result (λ block. block.shape ≡ region.now.lengths) }
     ensures cells { IfOk result (λ block. OnTold (file_at (S.files feed.old) input) (λ bytes. HoldsRegion bytes head.now region.now block)) }

@@ -1,5 +1,6 @@
 // NumPy's files: heads, regions, and the runs of bytes that hold a region.
 ghost use Rattle.std.specs.Prelude.{◌≡◌, ◌<◌, ◌≤◌, ◌^◌, length};
+ghost use Rattle.npy_codec.specs.Regions.{IsWidth};
 
 use crate::answer::Answer;
 use crate::headers::order_name;
@@ -41,6 +42,10 @@ fn put_head(out: &mut Answer, head: &Head) {
     out.put(" (");
     out.put_numbers(head.shape.dims());
     out.put_item(") at ", &head.data_at);
+    out.put_item(" of ", &head.width);
+    if head.big {
+        out.put(" big");
+    }
 }
 
 fn put_block(out: &mut Answer, block: &Block) {
@@ -54,6 +59,7 @@ fn put_block(out: &mut Answer, block: &Block) {
 fn put_region<S: Store>(out: &mut Answer, store: &mut S, head: &Head, region: &Region)
     requires there { 1 < length (S.files store.old) }
     requires near { head.now.data_at ≤ 2 ^ 21 }
+    requires width { IsWidth head.now.width }
 {
     if !region.is_part(head.shape.dims()) {
         return out.put("; no part");
@@ -165,7 +171,9 @@ fn put_all_runs(out: &mut Answer, runs: &[Run]) {
     }
 }
 
-fn put_runs_of(out: &mut Answer, head: &Head, region: &Region) {
+fn put_runs_of(out: &mut Answer, head: &Head, region: &Region)
+    requires { IsWidth head.now.width }
+{
     if !region.is_part(head.shape.dims()) || head.data_at > 2097152 {
         return out.put("no part");
     }
@@ -175,9 +183,21 @@ fn put_runs_of(out: &mut Answer, head: &Head, region: &Region) {
     }
 }
 
-/// `runs ORDER LENGTHS AXES`: the runs of a region of a file whose data begins at byte 80.
+fn width_of(word: &str) -> u32
+    ensures { IsWidth result }
+{
+    match word {
+        "1" => 1,
+        "2" => 2,
+        "4" => 4,
+        _ => 8,
+    }
+}
+
+/// `runs ORDER WIDTH LENGTHS AXES`: the runs of a region of a file with elements of so many bytes whose data begins at byte 80.
 pub fn put_runs(out: &mut Answer, case: &str) {
     let (order, case) = next_word(case);
+    let (width, case) = next_word(case);
     let (lengths, axes) = next_word(case);
     match Shape::new(numbers(out, lengths)) {
         Ok(shape) => {
@@ -185,6 +205,8 @@ pub fn put_runs(out: &mut Answer, case: &str) {
                 shape,
                 fortran: order == "column-major",
                 data_at: 80,
+                width: width_of(width),
+                big: false,
             };
             put_runs_of(out, &head, &region_of(axes));
         }

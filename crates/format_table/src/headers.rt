@@ -19,10 +19,10 @@ fn put_fields(out: &mut Answer, fields: &HeaderFields) {
     out.put("'");
 }
 
-/// `header TEXT`: what the text of a header says.
-pub fn put_header(out: &mut Answer, case: &str) {
+/// `header TEXT`: what the text of a header of version 1.0 or 2.0 says; `wide TEXT`: of version 3.0.
+pub fn put_header(out: &mut Answer, wide: bool, case: &str) {
     let text = unescaped(out, case);
-    match read_header_text(out.alloc(), &text) {
+    match read_header_text(out.alloc(), wide, &text) {
         Ok(fields) => put_fields(out, &fields),
         Err(e) => out.put_item("", &e),
     }

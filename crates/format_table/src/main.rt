@@ -30,7 +30,8 @@ use std::io;
 // NumPy's files.
 fn put_file(out: &mut Answer, word: &str, case: &str) {
     match word {
-        "header" => headers::put_header(out, case),
+        "header" => headers::put_header(out, false, case),
+        "wide" => headers::put_header(out, true, case),
         "written" => headers::put_written(out, case),
         "head" => files::put_head_case(out, case),
         "region" => files::put_region_case(out, case),

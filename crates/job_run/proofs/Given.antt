@@ -1,11 +1,12 @@
 -- Whatever gave what was read: its heads, and the elements that its arrays have.
-use Rattle.std.proofs.Common.{◌≡◌, ℕ, zero, suc, ◌<◌, List, [], ◌∷◌, ◌++◌, length, get_or, map, refl, ap, sym, ◌∙◌, subst, arith, false}
+use Rattle.std.proofs.Common.{◌≡◌, ℕ, zero, suc, ◌<◌, List, [], ◌∷◌, ◌++◌, length, get_or, map, refl, ap, sym, ◌∙◌, subst, arith}
 use Rattle.io_edge.specs.Content.{Content, Told, file_at}
 use Rattle.io_edge.specs.Given.{Gives, GivesOf, OnGiven, Piece}
 use Rattle.io_edge.proofs.GivenLaws.{given_any, given_both, given_on, more_same}
 use Rattle.nd_shape.specs.Block.{Array}
 use Rattle.npy_codec.specs.declared.head.Head.{Head}
 use Rattle.npy_codec.specs.Files.{HasHead}
+use Rattle.npy_codec.specs.Regions.{no_head}
 use Rattle.plain_eval.specs.Eval.{block_at, held_in}
 use Rattle.block_lowering.specs.Jobs.{FitsFeed, HaveNamed, files_given}
 use Rattle.job_run.specs.Inputs.{HoldArrays, HoldsArray}
@@ -66,7 +67,7 @@ heads_of_given shapes names files heads holds count are have = record {
       let P : Content → Type 0 = λ f. IsHeadFor (get_or shapes k []) f head in
       let front : HasHead (holds (get_or names k [])) head = have.each k none h in
       subst P (sym (file_given names holds k (omega (arith, h, count))))
-      (record { front = front; declared = (are.each k none h).declared; near = (are.each k none h).near; room = front.room });
+      (record { front = front; declared = (are.each k none h).declared; near = (are.each k none h).near; width = (are.each k none h).width; room = front.room });
 }
 
 -- the arrays of these files
@@ -74,18 +75,17 @@ arrays_of_given : (shapes names : List (List ℕ)) (heads : List Head) (holds : 
     HoldArrays shapes (map holds names) (arrays_told (files_given names holds) heads)
 arrays_of_given shapes names heads holds declared count are have =
     let files : List Content = files_given names holds in
-    let none : Head = record { shape = []; fortran = false; data_at = 0 } in
     record {
       count = count_told files heads ∙ count;
       each = λ k h.
           let within : k < length names = omega (arith, h, declared) in
           let there : k < length heads = omega (arith, h, count) in
           let bytes : List ℕ = holds (get_or names k []) in
-          let head : Head = get_or heads k none in
+          let head : Head = get_or heads k no_head in
           let own : block_at (arrays_told files heads) k ≡ array_told (Told bytes) head = told_here files heads k there ∙ ap (λ (f : Content). array_told f head) (file_given names holds k within) in
           let A : Array → Type 0 = λ a. HoldsArray (get_or shapes k []) bytes a in
           let B : List ℕ → Type 0 = λ b. HoldsArray (get_or shapes k []) b (block_at (arrays_told files heads) k) in
-          subst B (sym (mapped_at holds names k within)) (subst A (sym own) (held_array (get_or shapes k []) bytes head (have.each k none there) (are.each k none there).declared));
+          subst B (sym (mapped_at holds names k within)) (subst A (sym own) (held_array (get_or shapes k []) bytes head (have.each k no_head there) (are.each k no_head there).declared));
     }
 
 -- Files that have the heads that were read have the elements of the arrays that they hold.

@@ -11,6 +11,7 @@ use Rattle.nd_rows.proofs.Turns.{split as below_or}
 use Rattle.array_expr.specs.declared.expr.Node.{Node}
 use Rattle.array_expr.specs.Elem.{is_input}
 use Rattle.npy_codec.specs.declared.head.Head.{Head}
+use Rattle.npy_codec.specs.Regions.{no_head}
 use Rattle.job_run.specs.declared.ends.Ended.{Ended}
 use Rattle.job_run.specs.declared.ends.Ended.TheVariants.{Done, Limit, File, Zero, ReadFault, WriteFault, OutOfMemory}
 use Rattle.job_run.specs.declared.ends.FileError.{FileError}
@@ -149,12 +150,11 @@ fits_file shape file head is = on_content file _ (λ bytes. (array : Array) × H
 
 pub loaded_fit : (p : Plan) (old mid : Files) (files : List Content) (heads : List Head) → Opened p old mid files → AreHeads (input_shapes p.nodes) files heads → length heads ≡ length (input_shapes p.nodes) → InputsFit p old
 loaded_fit p old mid files heads o are count =
-    let none : Head = record { shape = []; fortran = false; data_at = 0 } in
     record {
       there = λ t. inputs_there p.inputs old mid files o.shows t;
       fit = on_told (told_all old.held p.inputs) (FitInputs p) (λ contents e. record {
         each = λ k h. told_fact p.inputs old mid files contents k (λ bytes. (array : Array) × HoldsArray (get_or (input_shapes p.nodes) k []) bytes array) o.shows e h
-            (fits_file (get_or (input_shapes p.nodes) k []) (file_at files k) (get_or heads k none) (are.each k none (omega (arith, h, count, o.declared))));
+            (fits_file (get_or (input_shapes p.nodes) k []) (file_at files k) (get_or heads k no_head) (are.each k no_head (omega (arith, h, count, o.declared))));
       });
     }
 

@@ -1,5 +1,5 @@
 -- What open inputs tell is what is named, and what holds of that holds of the inputs' arrays.
-use Rattle.std.proofs.Common.{◌≡◌, ℕ, zero, suc, pos, ◌<◌, ◌≤◌, List, [], ◌∷◌, length, get_or, refl, ap, sym, ◌∙◌, subst, arith, false}
+use Rattle.std.proofs.Common.{◌≡◌, ℕ, zero, suc, pos, ◌<◌, ◌≤◌, List, [], ◌∷◌, length, get_or, refl, ap, sym, ◌∙◌, subst, arith}
 use Rattle.std.specs.Prelude.{IsSome}
 use Rattle.std.proofs.lemmas.List.FromFn.{get_or-map-range_with_len, length-map-range_with_len}
 use Rattle.io_edge.specs.Content.{Content, Told, Untold, OnTold, file_at, told_bytes}
@@ -9,7 +9,7 @@ use Rattle.nd_shape.specs.Index.{IsIn, place, index_at}
 use Rattle.nd_shape.specs.Shape.{elements}
 use Rattle.nd_shape.proofs.Places.{place-below, index_at-place, IsIn-length}
 use Rattle.npy_codec.specs.declared.head.Head.{Head}
-use Rattle.npy_codec.specs.Regions.{element}
+use Rattle.npy_codec.specs.Regions.{element, no_head}
 use Rattle.plain_eval.specs.Eval.{block_at, held_in}
 use Rattle.block_lowering.specs.Jobs.{FitsFeed, TellsFeed, head_at}
 use Rattle.job_run.specs.Inputs.{HoldArrays, HoldsArray, told_all}
@@ -50,7 +50,7 @@ cells_named (Untold size) head a e = tt
 
 pub fits_told : (shapes : List (List ℕ)) (files : List Content) (heads : List Head) → AreHeads shapes files heads → length heads ≤ length files → FitsFeed (named_told files heads) heads files
 fits_told shapes files heads are count = record {
-  all_there = record { file = count; data_is = λ j h. (are.each j (record { shape = []; fortran = false; data_at = 0 }) h).room };
+  all_there = record { file = count; data_is = λ j h. (are.each j no_head h).room };
   named_is = λ j h. cells_named (file_at files j) (head_at heads j) (block_at (arrays_told files heads) j) (told_here files heads j h);
 }
 
@@ -101,8 +101,7 @@ on_named p old mid files heads P o holds =
       count = count_told files heads ∙ o.count;
       each = λ k h.
           let there : k < length heads = omega (arith, h, o.count) in
-          let none : Head = record { shape = []; fortran = false; data_at = 0 } in
-          holds_told (get_or shapes k []) (get_or contents k []) (file_at files k) (get_or heads k none) (block_at (arrays_told files heads) k) (told k there) (told_here files heads k there) (o.heads_are.each k none there);
+          holds_told (get_or shapes k []) (get_or contents k []) (file_at files k) (get_or heads k no_head) (block_at (arrays_told files heads) k) (told k there) (told_here files heads k there) (o.heads_are.each k no_head there);
     } in
     let Q : List Array → Type 0 = λ bs. P (held_in bs) in
     subst Q (sym (one_list shapes contents blocks (arrays_told files heads) hold own)) (holds tells))

@@ -4,6 +4,7 @@ use Rattle.std.proofs.lemmas.List.Sums.{sum_by-cons}
 use Rattle.io_edge.specs.Content.{Content}
 use Rattle.nd_shape.specs.Region.{IsPart}
 use Rattle.npy_codec.specs.declared.head.Head.{Head}
+use Rattle.npy_codec.specs.Regions.{no_head}
 use Rattle.array_expr.specs.declared.expr.Node.{Node}
 use Rattle.array_expr.specs.Elem.{is_input}
 use Rattle.array_expr.specs.Node.{shape_at}
@@ -53,9 +54,8 @@ input_at (x ∷ nodes) (suc n) h is =
 load_there : (nodes : List Node) (files : List Content) (heads : List Head) (spec : Spec) → AreHeads (input_shapes nodes) files heads → length heads ≡ length (input_shapes nodes) → IsLoaded nodes spec → IsLoad heads spec
 load_there nodes files heads (Load input region) are count is =
     let i : InputAt (input_shapes nodes) input (shape_at nodes is.node) = let P : ℕ → Type 0 = λ n. InputAt (input_shapes nodes) n (shape_at nodes is.node) in subst P is.number (input_at nodes is.node is.there is.input_is) in
-    let none : Head = record { shape = []; fortran = false; data_at = 0 } in
     let within : input < length heads = omega (arith, i.within, count) in
-    let head = are.each input none within in
+    let head = are.each input no_head within in
     (within, subst (IsPart region) (sym (head.declared ∙ i.is)) is.part)
 load_there nodes files heads spec are count is = tt
 
@@ -65,5 +65,6 @@ is_job nodes tasks files heads formed loaded fed are count = record {
   formed = formed;
   fed = fed;
   loads = λ k h. load_there nodes files heads (task_at tasks k).spec are count (loaded k h);
-  near = λ j h. let x = are.each j (record { shape = []; fortran = false; data_at = 0 }) h in omega (arith, x.near);
+  near = λ j h. (are.each j no_head h).near;
+  width = λ j h. (are.each j no_head h).width;
 }

@@ -1,11 +1,11 @@
 -- How inputs are read one after another: what the private readers answer.
-use Rattle.std.specs.Prelude.{◌≡◌, ◌≤◌, ◌<◌, ◌+◌, ◌*◌, ◌^◌, ℕ, List, [], length, slice_index_or}
+use Rattle.std.specs.Prelude.{◌≡◌, ◌≤◌, ◌<◌, ◌+◌, ◌^◌, ℕ, List, [], length, slice_index_or}
 use Rattle.io_edge.specs.Cause.{Rose}
 use Rattle.io_edge.specs.Content.{Content, OnTold, file_at, size_of}
 use Rattle.io_edge.specs.Given.{Gives, GivesOf, Piece}
-use Rattle.nd_shape.specs.Shape.{elements}
 use Rattle.npy_codec.specs.declared.head.Head.{Head}
-use Rattle.npy_codec.specs.Files.{HasHead}
+use Rattle.npy_codec.specs.Files.{HasHead, data_bytes}
+use Rattle.npy_codec.specs.Regions.{IsWidth}
 use Rattle.job_run.specs.declared.ends.Ended.{Ended}
 use Rattle.job_run.specs.declared.ends.Ended.TheVariants.{File, ReadFault, OutOfMemory}
 use Rattle.job_run.specs.declared.ends.FileError.{FileError}
@@ -15,8 +15,9 @@ use Rattle.job_run.specs.Inputs.{FitsShape, RefusesFile}
 pub record IsHeadFor (shape : List ℕ) (file : Content) (head : Head) : Type 0 where
   pub front : OnTold file (λ bytes. HasHead bytes head)
   pub declared : head.shape ≡ shape
-  pub near : head.data_at < 2 ^ 17
-  pub room : head.data_at + 8 * elements head.shape ≤ size_of file
+  pub near : head.data_at ≤ 2 ^ 21
+  pub width : IsWidth head.width
+  pub room : head.data_at + data_bytes head ≤ size_of file
 
 -- heads of the first files
 pub record AreHeads (shapes : List (List ℕ)) (files : List Content) (heads : List Head) : Type 0 where

@@ -11,7 +11,7 @@ use task_graph::Quantity;
 /// Why an input file is refused.
 #[derive(Drop)]
 pub enum FileError {
-    /// It isn't a file of an array of int64, or its data isn't all there.
+    /// It isn't a file of an array of signed integers, or its data isn't all there.
     Npy(NpyError),
     /// Its array has another shape than the job declares.
     Shape { has: Shape, declared: Shape },

@@ -4,10 +4,9 @@ use Rattle.std.specs.Prelude.{replicate, false, All}
 use Rattle.std.specs.Fmt.{decimal}
 use Rattle.std.proofs.lemmas.Fmt.{decimal_by_steps}
 use Rattle.nd_shape.specs.Shape.{IsShape, shape_text, comma_list}
-use Rattle.npy_header.specs.Headers.{Fields, IsHeader, IsNumber, IsDigit, AllBytes, AreSpaces, AreAxes, IsTuple, IsItem, IsInside, descr, fortran, shape, single}
+use Rattle.npy_header.specs.Headers.{ascii, ends, Fields, IsHeader, IsNumber, IsDigit, AllBytes, AreSpaces, AreAxes, IsTuple, IsItem, IsInside, descr, fortran, shape, single}
 use Rattle.npy_header.specs.Headers.{decimal as value_of}
 use Rattle.npy_codec.specs.Npy.{dictionary, spaces_after}
-use Rattle.npy_codec.specs.Files.{int64_descr}
 
 -- ---- numbers
 
@@ -83,6 +82,10 @@ are_spaces : (n : ℕ) → AreSpaces (replicate n 32)
 are_spaces zero = tt
 are_spaces (suc n) = (refl, are_spaces n)
 
+-- <i8
+abbrev pub int64_descr : List ℕ
+int64_descr = 60 ∷ 105 ∷ 56 ∷ []
+
 abbrev pub written_fields : List ℕ → Fields
 written_fields dims = record { descr = int64_descr; fortran = false; shape = dims }
 
@@ -90,7 +93,7 @@ written_fields dims = record { descr = int64_descr; fortran = false; shape = dim
 abbrev pub written_text : List ℕ → List ℕ
 written_text dims = dictionary dims ++ replicate (spaces_after (length (dictionary dims))) 32 ++ 10 ∷ []
 
-pub is_written_header : (dims : List ℕ) → IsShape dims → IsHeader (written_text dims) (written_fields dims)
+pub is_written_header : (dims : List ℕ) → IsShape dims → IsHeader false (written_text dims) (written_fields dims)
 unfolding dictionary
 is_written_header dims h = record {
   first = descr int64_descr;
@@ -110,7 +113,7 @@ is_written_header dims h = record {
     value = codes "'<i8'";
     before_ok = tt;
     after_ok = (refl, tt);
-    value_ok = (single, (less, (letter_i, (eight, tt))), refl);
+    value_ok = (single, ascii 60 (105 ∷ 56 ∷ []) less (ascii 105 (56 ∷ []) letter_i (ascii 56 [] eight ends)), refl);
     text = refl;
   };
   behind_ok = tt;
@@ -138,10 +141,10 @@ is_written_header dims h = record {
     eight : IsInside single 56
     eight = record { low = omega arith; high = omega arith; no_quote = λ e. omega (arith, e); no_backslash = λ e. omega (arith, e) }
 
-    order_item : IsItem (fortran false) (codes "'fortran_order': False")
+    order_item : IsItem false (fortran false) (codes "'fortran_order': False")
     order_item = record { quote = single; before = []; after = 32 ∷ []; value = codes "False"; before_ok = tt; after_ok = (refl, tt); value_ok = refl; text = refl }
 
-    shape_item : (dims : List ℕ) → IsTuple dims (shape_text dims) → IsItem (shape dims) (codes "'shape': " ++ shape_text dims)
+    shape_item : (dims : List ℕ) → IsTuple dims (shape_text dims) → IsItem false (shape dims) (codes "'shape': " ++ shape_text dims)
     shape_item dims t = record { quote = single; before = []; after = 32 ∷ []; value = shape_text dims; before_ok = tt; after_ok = (refl, tt); value_ok = t; text = refl }
 
     shape_apart : (s : List ℕ) → codes ", 'shape': " ++ (s ++ codes ", ") ≡ 44 ∷ ((32 ∷ []) ++ ((codes "'shape': " ++ s) ++ ([] ++ codes ", ")))

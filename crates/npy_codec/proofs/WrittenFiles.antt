@@ -1,19 +1,19 @@
 -- The file that the writer begins is one that is read as the same array.
-use Rattle.std.proofs.Common.{◌≡◌, ℕ, ℤ, pos, zero, suc, ◌<◌, ◌+◌, ◌-◌, ◌*◌, ◌/◌, ◌%◌, ◌^◌, List, [], ◌∷◌, ◌++◌, length, take, drop, get_or, refl, ap, ap₂, sym, ◌∙◌, arith, subst, append_assoc, length-append}
+use Rattle.std.proofs.Common.{◌≡◌, ℕ, ℤ, pos, zero, suc, ◌<◌, ◌+◌, ◌-◌, ◌*◌, ◌/◌, ◌%◌, ◌^◌, List, [], ◌∷◌, ◌++◌, length, take, drop, get_or, refl, ap, ap₂, sym, ◌∙◌, arith, subst, append_assoc, length-append, inl}
 use Rattle.std.specs.Prelude.{replicate, false, All, FitsSigned}
-use Rattle.std.specs.Int.{w64, cast_unsigned, cast_signed, from_le_bytes}
+use Rattle.std.specs.Int.{w64, cast_unsigned, cast_signed}
 use Rattle.std.proofs.lemmas.Int.{to_z-of_z}
 use Rattle.std.proofs.lemmas.Nat.{from_le_bytes-to_le_bytes_8}
 use Rattle.std.proofs.Math.Facts.{Fits-of_z}
 use Rattle.std.proofs.lemmas.List.{length-replicate, take-append-le, take_all}
 use Rattle.nd_shape.specs.Shape.{elements, IsShape}
-use Rattle.nd_shape.specs.Index.{IsIn, place}
+use Rattle.nd_shape.specs.Index.{place}
 use Rattle.nd_shape.specs.Region.{moved}
 use Rattle.nd_shape.proofs.Places.{place-below, IsIn-length}
 use Rattle.npy_codec.specs.declared.head.Head.{Head}
 use Rattle.npy_codec.specs.Npy.{dictionary, spaces_after, text_len, header, cell, cell_bytes, cells_bytes, npy}
 use Rattle.npy_header.specs.Headers.{IsHeader}
-use Rattle.npy_codec.specs.Files.{HasHead, IsNpy, text_len_at, text_of}
+use Rattle.npy_codec.specs.Files.{little_eight, HasHead, IsNpy, text_len_at, text_of}
 use Rattle.npy_codec.specs.Regions.{whole}
 use Rattle.npy_codec.proofs.WriterLemmas.{written_text, written_fields, is_written_header}
 
@@ -64,14 +64,14 @@ header_len dims = simp (length-append, length-replicate) (omega arith)
 fixed_len_is : (n : ℕ) (rest : List ℕ) → n < 2 ^ 16 → text_len_at (fixed_for n ++ rest) ≡ n
 fixed_len_is n rest h = div_mod n
   where
-    div_mod : (n : ℕ) → n % 256 + 256 * (n / 256) ≡ n
+    div_mod : (n : ℕ) → n % 256 + 256 * (n / 256) + 0 ≡ n
     div_mod n = omega arith
 
 text_is : (n : ℕ) (text rest : List ℕ) → n < 2 ^ 16 → length text ≡ n → text_of (fixed_for n ++ (text ++ rest)) ≡ text
 text_is n text rest h e = ap (λ m. take m (text ++ rest)) (fixed_len_is n (text ++ rest) h) ∙ take-append-le n text rest (omega arith) ∙ take_all n text (omega arith)
 
 has_written_head : (dims : List ℕ) (zs : List ℤ) → IsShape dims → text_len (dictionary dims) < 2 ^ 16 → length zs ≡ elements dims →
-    HasHead (fixed_for (text_len (dictionary dims)) ++ (written_text dims ++ cells_bytes zs)) (record { shape = dims; fortran = false; data_at = length (header dims) })
+    HasHead (fixed_for (text_len (dictionary dims)) ++ (written_text dims ++ cells_bytes zs)) (record { shape = dims; fortran = false; data_at = length (header dims); width = 8; big = false })
 has_written_head dims zs shape small size =
     let n = text_len (dictionary dims) in
     let bytes = fixed_for n ++ (written_text dims ++ cells_bytes zs) in
@@ -83,12 +83,13 @@ has_written_head dims zs shape small size =
       fields = written_fields dims;
       declares = record {
         text = record {
-          fixed = record { begin = refl; long = omega (arith, total); major = refl; minor = refl };
+          fixed = record { version = record { begin = refl; long = omega (arith, total); known = (inl refl, refl) }; long = omega (arith, total) };
+          limit = omega (arith, m);
           whole = omega (arith, total, m);
         };
-        header = subst (λ x. IsHeader x (written_fields dims)) (sym t) (is_written_header dims shape);
+        header = subst (λ x. IsHeader false x (written_fields dims)) (sym t) (is_written_header dims shape);
       };
-      descr = refl;
+      descr = little_eight;
       limits = shape;
       shape = refl;
       fortran = refl;
@@ -105,7 +106,7 @@ moved_by_nothing (d ∷ dims) (k ∷ i) e = ap₂ (λ a b. a ∷ b) (omega arith
 -- the file of an array is a file of that array
 pub is_npy : (dims : List ℕ) (zs : List ℤ) → IsShape dims → text_len (dictionary dims) < 2 ^ 16 → length zs ≡ elements dims → All (FitsSigned w64) zs → IsNpy (npy dims zs) (record { shape = dims; cells = zs })
 is_npy dims zs shape small size fit =
-    let head : Head = record { shape = dims; fortran = false; data_at = length (header dims) } in
+    let head : Head = record { shape = dims; fortran = false; data_at = length (header dims); width = 8; big = false } in
     record {
       head = head;
       front = subst (λ bytes. HasHead bytes head) (sym (parts dims zs)) (has_written_head dims zs shape small size);

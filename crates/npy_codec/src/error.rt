@@ -13,13 +13,15 @@ use thiserror::Error;
 pub enum NpyError {
     /// The file doesn't begin with the magic: it differs or ends at this offset.
     NotNpy { at: u64 },
-    /// The version isn't 1.0.
+    /// The version is none of 1.0, 2.0 and 3.0.
     Version { major: u8, minor: u8 },
-    /// The file ends within its ten fixed bytes, its header or its data; each is counted by itself.
+    /// The header has more than 1,048,576 bytes.
+    HeaderLimit { len: u64 },
+    /// The file ends within its fixed bytes, its header or its data; each is counted by itself.
     Truncated { has: u64, needs: u64 },
     /// The header is none, from this offset in the file on.
     HeaderText { at: u64 },
-    /// The elements aren't little-endian int64.
+    /// The elements are of none of the seven types.
     Descr,
     /// The shape has more than 8 axes, or a length or the number of elements is above 2^31.
     ShapeLimit,
@@ -35,6 +37,7 @@ impl fmt::Display for NpyError {
         match self {
             NpyError::NotNpy { at } => write!(f, "not npy at {at}"),
             NpyError::Version { major, minor } => write!(f, "version {major}.{minor}"),
+            NpyError::HeaderLimit { len } => write!(f, "header limit {len}"),
             NpyError::Truncated { has, needs } => write!(f, "truncated: has {has}, needs {needs}"),
             NpyError::HeaderText { at } => write!(f, "header at {at}"),
             NpyError::Descr => f.write_str("descr"),

@@ -1,12 +1,11 @@
 -- The rows of the code are the rules of the named parts, and pass the tests of the crate grammar.
-use Rattle.std.proofs.Common.{◌≡◌, ℕ, zero, suc, ◌+◌, true, List, [], ◌∷◌, map, Some, None, refl}
+use Rattle.std.proofs.Common.{◌≡◌, ℕ, zero, suc, ◌+◌, Bool, true, false, List, [], ◌∷◌, map, Some, None, refl}
 use Rattle.std.specs.Prelude.{Option, slice_index_or}
 use Rattle.grammar.specs.declared.symbol.Symbol.{Symbol}
 use Rattle.grammar.specs.declared.symbol.Symbol.TheVariants.{Token, Part, Action}
 use Rattle.grammar.specs.Tables.{rule_maybe, moves_end}
 use Rattle.grammar.specs.Tests.{is_ll1}
-use Rattle.npy_header.specs.declared.rows.TheConstants.{ON, OTHER}
-use Rattle.npy_header.specs.HeaderRows.{header_rows, certificate}
+use Rattle.npy_header.specs.HeaderRows.{narrow_rows, wide_rows, rows_of, narrow_certificate, wide_certificate, certificate_of}
 use Rattle.npy_header.specs.Typed.{HPart, start, HSym, letter, sub, act, on_part, other_part, parts}
 
 abbrev pub part_at : ℕ → HPart
@@ -26,18 +25,22 @@ abbrev pub numbers : ℕ → ℕ → List ℕ
 numbers zero i = []
 numbers (suc n) i = i ∷ numbers n (i + 1)
 
-pub same_on : map (λ (row : List (Option ℕ)). map (λ o. typed_maybe (rule_maybe header_rows o)) row) ON ≡ map (λ p. map (λ k. on_part p k) (numbers 48 0)) parts
-unfolding header_rows parts
-same_on = refl
+pub same_on : (wide : Bool) → map (λ (row : List (Option ℕ)). map (λ o. typed_maybe (rule_maybe (rows_of wide) o)) row) (rows_of wide).on ≡ map (λ p. map (λ k. on_part wide p k) (numbers 48 0)) parts
+unfolding narrow_rows wide_rows parts
+same_on false = refl
+same_on true = refl
 
-pub same_other : map (λ o. typed_maybe (rule_maybe header_rows o)) OTHER ≡ map other_part parts
-unfolding header_rows parts
-same_other = refl
+pub same_other : (wide : Bool) → map (λ o. typed_maybe (rule_maybe (rows_of wide) o)) (rows_of wide).other ≡ map other_part parts
+unfolding narrow_rows wide_rows parts
+same_other false = refl
+same_other true = refl
 
-pub header_ll1 : is_ll1 header_rows certificate ≡ true
-unfolding header_rows certificate
-header_ll1 = refl
+pub header_ll1 : (wide : Bool) → is_ll1 (rows_of wide) (certificate_of wide) ≡ true
+unfolding narrow_rows wide_rows narrow_certificate wide_certificate
+header_ll1 false = refl
+header_ll1 true = refl
 
-pub header_moves : moves_end header_rows ≡ true
-unfolding header_rows
-header_moves = refl
+pub header_moves : (wide : Bool) → moves_end (rows_of wide) ≡ true
+unfolding narrow_rows wide_rows
+header_moves false = refl
+header_moves true = refl

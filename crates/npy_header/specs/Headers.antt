@@ -1,6 +1,7 @@
--- The header of a .npy file of version 1.0: a Python dictionary with exactly the keys descr, fortran_order and shape, then
--- spaces, then a newline. This is the format of NEP 1, "A simple file format for NumPy arrays", read as a relation by cases
--- between bytes and what they say; between tokens there may be any number of spaces.
+-- The header of a .npy file: a Python dictionary with exactly the keys descr, fortran_order and shape, then spaces, then a
+-- newline. This is the format of NEP 1, "A simple file format for NumPy arrays", read as a relation by cases between bytes and
+-- what they say; between tokens there may be any number of spaces. A wide header is one of version 3.0, whose string of descr
+-- may hold characters past ASCII in UTF-8; in versions 1.0 and 2.0 all is ASCII.
 use Rattle.std.specs.Prelude.{◌≡◌, ◌≢◌, ℕ, ◌+◌, ◌-◌, ◌*◌, ◌≤◌, Bool, true, false, List, [], ◌∷◌, ◌++◌, ◌⊎◌}
 
 -- what a header says
@@ -39,6 +40,39 @@ pub record IsInside (q : Quote) (b : ℕ) : Type 0 where
   pub high : b ≤ 126
   pub no_quote : b ≢ quote_byte q
   pub no_backslash : b ≢ 92
+
+-- ---- characters past ASCII
+
+pub record Within (low high b : ℕ) : Type 0 where
+  pub least : low ≤ b
+  pub most : b ≤ high
+
+abbrev pub Continues : ℕ → Type 0
+Continues b = Within 128 191 b
+
+-- the first two bytes of a character of three: neither a shorter form nor a surrogate
+abbrev pub AreFrontOfThree : ℕ → ℕ → Type 0
+AreFrontOfThree a b =
+    ((a ≡ 224) × Within 160 191 b) ⊎ ((Within 225 236 a × Continues b) ⊎ (((a ≡ 237) × Within 128 159 b) ⊎ (Within 238 239 a × Continues b)))
+
+-- the first two bytes of a character of four: neither a shorter form nor past U+10FFFF
+abbrev pub AreFrontOfFour : ℕ → ℕ → Type 0
+AreFrontOfFour a b = ((a ≡ 240) × Within 144 191 b) ⊎ ((Within 241 243 a × Continues b) ⊎ ((a ≡ 244) × Within 128 143 b))
+
+-- the bytes of one character past ASCII in well-formed UTF-8
+abbrev pub ArePastAscii : List ℕ → Type 0
+ArePastAscii [] = ⊥
+ArePastAscii (a ∷ []) = ⊥
+ArePastAscii (a ∷ b ∷ []) = Within 194 223 a × Continues b
+ArePastAscii (a ∷ b ∷ c ∷ []) = AreFrontOfThree a b × Continues c
+ArePastAscii (a ∷ b ∷ c ∷ d ∷ []) = AreFrontOfFour a b × (Continues c × Continues d)
+ArePastAscii (a ∷ b ∷ c ∷ d ∷ e ∷ w) = ⊥
+
+-- what stands within quotes, character by character
+pub data InString (wide : Bool) (q : Quote) : List ℕ → Type 0 where
+  ends : InString wide q []
+  ascii : (b : ℕ) (w : List ℕ) → IsInside q b → InString wide q w → InString wide q (b ∷ w)
+  past : (c w : List ℕ) → wide ≡ true → ArePastAscii c → InString wide q w → InString wide q (c ++ w)
 
 -- ---- numbers
 
@@ -90,29 +124,29 @@ IsTuple (n ∷ ns) w =
     (s d s' s'' r : List ℕ) × AreSpaces s × IsNumber n d × AreSpaces s' × AreSpaces s'' × AreAxes ns r
     × (w ≡ 40 ∷ (s ++ (d ++ (s' ++ 44 ∷ (s'' ++ r)))))
 
-abbrev pub IsValue : Entry → List ℕ → Type 0
-IsValue (descr t) w = (q : Quote) × AllBytes (IsInside q) t × (w ≡ quote_byte q ∷ (t ++ quote_byte q ∷ []))
-IsValue (fortran b) w = w ≡ bool_text b
-IsValue (shape ns) w = IsTuple ns w
+abbrev pub IsValue : Bool → Entry → List ℕ → Type 0
+IsValue wide (descr t) w = (q : Quote) × InString wide q t × (w ≡ quote_byte q ∷ (t ++ quote_byte q ∷ []))
+IsValue wide (fortran b) w = w ≡ bool_text b
+IsValue wide (shape ns) w = IsTuple ns w
 
 -- ---- the dictionary
 
 -- a quoted key, a colon and its value
-pub record IsItem (e : Entry) (w : List ℕ) : Type 0 where
+pub record IsItem (wide : Bool) (e : Entry) (w : List ℕ) : Type 0 where
   pub quote : Quote
   pub before : List ℕ
   pub after : List ℕ
   pub value : List ℕ
   pub before_ok : AreSpaces before
   pub after_ok : AreSpaces after
-  pub value_ok : IsValue e value
+  pub value_ok : IsValue wide e value
   pub text : w ≡ quote_byte quote ∷ (key_text e ++ quote_byte quote ∷ (before ++ 58 ∷ (after ++ value)))
 
 -- what stands behind an item: further ones with commas before them, or perhaps a last comma
-abbrev pub AreMore : List Entry → List ℕ → Type 0
-AreMore [] w = (w ≡ []) ⊎ ((s : List ℕ) × AreSpaces s × (w ≡ 44 ∷ s))
-AreMore (e ∷ es) w =
-    (s i s' r : List ℕ) × AreSpaces s × IsItem e i × AreSpaces s' × AreMore es r
+abbrev pub AreMore : Bool → List Entry → List ℕ → Type 0
+AreMore wide [] w = (w ≡ []) ⊎ ((s : List ℕ) × AreSpaces s × (w ≡ 44 ∷ s))
+AreMore wide (e ∷ es) w =
+    (s i s' r : List ℕ) × AreSpaces s × IsItem wide e i × AreSpaces s' × AreMore wide es r
     × (w ≡ 44 ∷ (s ++ (i ++ (s' ++ r))))
 
 -- which keys are still to come
@@ -148,7 +182,7 @@ abbrev pub with_entries : List Entry → Fields → Fields
 with_entries [] f = f
 with_entries (e ∷ es) f = with_entries es (with_entry e f)
 
-pub record IsHeader (w : List ℕ) (f : Fields) : Type 0 where
+pub record IsHeader (wide : Bool) (w : List ℕ) (f : Fields) : Type 0 where
   pub first : Entry
   pub others : List Entry
   pub spaces : List ℕ
@@ -159,8 +193,8 @@ pub record IsHeader (w : List ℕ) (f : Fields) : Type 0 where
   pub each_once : EachOnce all_keys (first ∷ others)
   pub fields : f ≡ with_entries (first ∷ others) blank
   pub spaces_ok : AreSpaces spaces
-  pub item_ok : IsItem first item
+  pub item_ok : IsItem wide first item
   pub behind_ok : AreSpaces behind
-  pub more_ok : AreMore others more
+  pub more_ok : AreMore wide others more
   pub padding_ok : AreSpaces padding
   pub text : w ≡ 123 ∷ (spaces ++ (item ++ (behind ++ (more ++ 125 ∷ (padding ++ 10 ∷ [])))))

@@ -1,5 +1,5 @@
 -- What a header's reader holds after some bytes, and what its answers mean.
-use Rattle.std.specs.Prelude.{◌≡◌, ℕ, ◌+◌, ◌-◌, ◌*◌, ◌^◌, ◌<◌, ◌≤◌, min, map, take, length, List, [], ◌∷◌, ◌++◌}
+use Rattle.std.specs.Prelude.{◌≡◌, ℕ, ◌+◌, ◌-◌, ◌*◌, ◌^◌, ◌<◌, ◌≤◌, Bool, min, map, take, length, List, [], ◌∷◌, ◌++◌}
 use Rattle.grammar.specs.declared.symbol.Symbol.{Symbol}
 use Rattle.grammar.specs.declared.symbol.Symbol.TheVariants.{Part}
 use Rattle.grammar.specs.Grammars.{Event, tokens}
@@ -9,7 +9,7 @@ use Rattle.npy_header.specs.declared.fields.HeaderError.{HeaderError}
 use Rattle.npy_header.specs.declared.fields.HeaderError.TheVariants.{Refused, OutOfMemory}
 use Rattle.npy_header.specs.Headers.{Fields, IsHeader}
 use Rattle.npy_header.specs.Kinds.{kind_of}
-use Rattle.npy_header.specs.HeaderRows.{header_rows, certificate}
+use Rattle.npy_header.specs.HeaderRows.{rows_of, certificate_of}
 use Rattle.npy_header.specs.Scans.{Scan, fresh, after_action, after_events}
 
 -- ---- numbers of any length in 64 bits
@@ -33,30 +33,30 @@ after_actions (a ∷ actions) st = after_actions actions (after_action a st)
 
 -- ---- reading
 
--- these bytes were taken, this is left, and this was kept of them
-pub record IsReading (w : List ℕ) (left : List Symbol) (scan : Scan) : Type 0 where
+-- these bytes were taken of a header that is wide or not, this is left, and this was kept of them
+pub record IsReading (wide : Bool) (w : List ℕ) (left : List Symbol) (scan : Scan) : Type 0 where
   pub past : List Event
   pub words : tokens past ≡ w
-  pub leaves : Leaves (grammar_of header_rows) kind_of (Part 0 ∷ []) past left
-  pub ready : IsReady header_rows certificate left
+  pub leaves : Leaves (grammar_of (rows_of wide)) kind_of (Part 0 ∷ []) past left
+  pub ready : IsReady (rows_of wide) (certificate_of wide) left
   pub scanned : scan ≡ capped_scan (after_events past fresh)
   pub byte : (after_events past fresh).last < 256
 
--- the first offset for which no header begins with the bytes up to and with it, or the end where there is none
-pub record IsRefused (w : List ℕ) (at : ℕ) : Type 0 where
+-- the first offset for which no such header begins with the bytes up to and with it, or the end where there is none
+pub record IsRefused (wide : Bool) (w : List ℕ) (at : ℕ) : Type 0 where
   pub within : at ≤ length w
-  pub begun : (more : List ℕ) × (f : Fields) × IsHeader (take at w ++ more) f
-  pub first : at < length w → (more : List ℕ) (f : Fields) → IsHeader (take (at + 1) w ++ more) f → ⊥
-  pub no_header : (f : Fields) → IsHeader w f → ⊥
+  pub begun : (more : List ℕ) × (f : Fields) × IsHeader wide (take at w ++ more) f
+  pub first : at < length w → (more : List ℕ) (f : Fields) → IsHeader wide (take (at + 1) w ++ more) f → ⊥
+  pub no_header : (f : Fields) → IsHeader wide w f → ⊥
 
 -- nothing where memory ran out
-abbrev pub RefusedAs : List ℕ → HeaderError → Type 0
-RefusedAs w (Refused at) = IsRefused w at
-RefusedAs w OutOfMemory = Unit {0}
+abbrev pub RefusedAs : Bool → List ℕ → HeaderError → Type 0
+RefusedAs wide w (Refused at) = IsRefused wide w at
+RefusedAs wide w OutOfMemory = Unit {0}
 
 -- the bytes are a header that says this and nothing else, and this is what it says
-pub record Says (w : List ℕ) (said : Fields) : Type 0 where
+pub record Says (wide : Bool) (w : List ℕ) (said : Fields) : Type 0 where
   pub fields : Fields
-  pub header : IsHeader w fields
-  pub only : (f : Fields) → IsHeader w f → f ≡ fields
+  pub header : IsHeader wide w fields
+  pub only : (f : Fields) → IsHeader wide w f → f ≡ fields
   pub capped_is : said ≡ capped fields

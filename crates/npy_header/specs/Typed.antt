@@ -1,5 +1,5 @@
 -- The grammar of headers by named parts, in which the next byte decides.
-use Rattle.std.specs.Prelude.{ℕ, Bool, true, false, cond, ◌&&◌, ◌||◌, not, nat_eq, nat_lt, List, [], ◌∷◌, Option, Some, None}
+use Rattle.std.specs.Prelude.{ℕ, Bool, true, false, cond, ◌&&◌, ◌||◌, not, nat_eq, nat_lt, nat_le, List, [], ◌∷◌, Option, Some, None}
 use Rattle.npy_header.specs.Headers.{Quote, single, double}
 
 pub data HPart : Type 0 where
@@ -14,6 +14,8 @@ pub data HPart : Type 0 where
   axes : HPart
   axis : HPart
   digits : HPart
+  -- a later byte of a character, of these kinds
+  later : ℕ → ℕ → HPart
   -- the keys that are still to come: descr, fortran_order, shape
   items : Bool → Bool → Bool → HPart
   key : Bool → Bool → Bool → Quote → HPart
@@ -90,25 +92,37 @@ on_key d f s q k =
 abbrev pub on_more : Bool → Bool → Bool → ℕ → Option (List HSym)
 on_more d f s k = if_kind 7 k (sub spaces ∷ cond (d || (f || s)) (sub (items d f s) ∷ []) []) None
 
-abbrev pub on_part : HPart → ℕ → Option (List HSym)
-on_part start k = if_kind 2 k (sub spaces ∷ sub (items true true true) ∷ letter 3 ∷ sub tail ∷ []) None
-on_part tail k = if_kind 0 k (sub tail ∷ []) (if_kind 1 k [] None)
-on_part spaces k = if_kind 0 k (sub spaces ∷ []) None
-on_part descr_value k =
+-- the characters past ASCII that a wide string holds, by their first byte
+abbrev pub on_past : Quote → ℕ → Option (List HSym)
+on_past q k =
+    if_kind 33 k (sub (later 30 32) ∷ sub (string q) ∷ [])
+    (if_kind 34 k (sub (later 32 32) ∷ sub (later 30 32) ∷ sub (string q) ∷ [])
+    (if_kind 35 k (sub (later 30 32) ∷ sub (later 30 32) ∷ sub (string q) ∷ [])
+    (if_kind 36 k (sub (later 30 31) ∷ sub (later 30 32) ∷ sub (string q) ∷ [])
+    (if_kind 37 k (sub (later 31 32) ∷ sub (later 30 32) ∷ sub (later 30 32) ∷ sub (string q) ∷ [])
+    (if_kind 38 k (sub (later 30 32) ∷ sub (later 30 32) ∷ sub (later 30 32) ∷ sub (string q) ∷ [])
+    (if_kind 39 k (sub (later 30 30) ∷ sub (later 30 32) ∷ sub (later 30 32) ∷ sub (string q) ∷ []) None))))))
+
+abbrev pub on_part : Bool → HPart → ℕ → Option (List HSym)
+on_part wide start k = if_kind 2 k (sub spaces ∷ sub (items true true true) ∷ letter 3 ∷ sub tail ∷ []) None
+on_part wide tail k = if_kind 0 k (sub tail ∷ []) (if_kind 1 k [] None)
+on_part wide spaces k = if_kind 0 k (sub spaces ∷ []) None
+on_part wide descr_value k =
     if_kind 8 k (act begin ∷ sub (string single) ∷ act copy ∷ letter 8 ∷ [])
     (if_kind 9 k (act begin ∷ sub (string double) ∷ act copy ∷ letter 9 ∷ []) None)
-on_part fortran_value k = if_kind 23 k (letters (14 ∷ 24 ∷ 11 ∷ []) (act is_true ∷ [])) (if_kind 25 k (letters (18 ∷ 26 ∷ 12 ∷ 11 ∷ []) (act is_false ∷ [])) None)
-on_part shape_value k = if_kind 4 k (act open_shape ∷ sub spaces ∷ sub tuple ∷ []) None
-on_part (string q) k = cond (may_stand_in q k) (Some (sub (string q) ∷ [])) None
-on_part tuple k =
+on_part wide fortran_value k = if_kind 23 k (letters (14 ∷ 24 ∷ 11 ∷ []) (act is_true ∷ [])) (if_kind 25 k (letters (18 ∷ 26 ∷ 12 ∷ 11 ∷ []) (act is_false ∷ [])) None)
+on_part wide shape_value k = if_kind 4 k (act open_shape ∷ sub spaces ∷ sub tuple ∷ []) None
+on_part wide (string q) k = cond (may_stand_in q k) (Some (sub (string q) ∷ [])) (cond wide (on_past q k) None)
+on_part wide (later low high) k = cond (nat_le low k && nat_le k high) (Some []) None
+on_part wide tuple k =
     if_kind 5 k [] (if_kind 27 k (act first ∷ act number ∷ sub spaces ∷ letter 7 ∷ sub spaces ∷ sub axes ∷ [])
     (if_kind 28 k (act first ∷ sub digits ∷ act number ∷ sub spaces ∷ letter 7 ∷ sub spaces ∷ sub axes ∷ []) None))
-on_part axes k = if_kind 5 k [] (if_kind 27 k (act first ∷ act number ∷ sub spaces ∷ sub axis ∷ []) (if_kind 28 k (act first ∷ sub digits ∷ act number ∷ sub spaces ∷ sub axis ∷ []) None))
-on_part axis k = if_kind 7 k (sub spaces ∷ sub axes ∷ []) (if_kind 5 k [] None)
-on_part digits k = cond (nat_eq k 27 || nat_eq k 28) (Some (sub digits ∷ [])) None
-on_part (items d f s) k = on_items d f s k
-on_part (key d f s q) k = on_key d f s q k
-on_part (more d f s) k = on_more d f s k
+on_part wide axes k = if_kind 5 k [] (if_kind 27 k (act first ∷ act number ∷ sub spaces ∷ sub axis ∷ []) (if_kind 28 k (act first ∷ sub digits ∷ act number ∷ sub spaces ∷ sub axis ∷ []) None))
+on_part wide axis k = if_kind 7 k (sub spaces ∷ sub axes ∷ []) (if_kind 5 k [] None)
+on_part wide digits k = cond (nat_eq k 27 || nat_eq k 28) (Some (sub digits ∷ [])) None
+on_part wide (items d f s) k = on_items d f s k
+on_part wide (key d f s q) k = on_key d f s q k
+on_part wide (more d f s) k = on_more d f s k
 
 abbrev pub other_part : HPart → Option (List HSym)
 other_part spaces = Some []
@@ -123,6 +137,7 @@ other_part shape_value = None
 other_part tuple = None
 other_part axes = None
 other_part axis = None
+other_part (later low high) = None
 other_part (items d f s) = None
 other_part (key d f s q) = None
 
@@ -137,4 +152,5 @@ parts =
     ∷ key false true true single ∷ key false true true double ∷ key false true false single ∷ key false true false double
     ∷ key false false true single ∷ key false false true double
     ∷ more true true false ∷ more true false true ∷ more true false false ∷ more false true true ∷ more false true false
-    ∷ more false false true ∷ more false false false ∷ []
+    ∷ more false false true ∷ more false false false
+    ∷ later 30 32 ∷ later 30 31 ∷ later 31 32 ∷ later 32 32 ∷ later 30 30 ∷ []

@@ -1,4 +1,4 @@
-//! Reads the header of a `.npy` file of version 1.0: the Python dictionary between the ten fixed bytes and the data.
+//! Reads the header of a `.npy` file of version 1.0, 2.0 or 3.0: the Python dictionary between the fixed bytes and the data.
 //!
 //! The format is that of NEP 1, "A simple file format for NumPy arrays". Which bytes are a header, and what it says, is the
 //! relation `IsHeader` of `specs/Headers.antt`, stated by cases on its own. The reader runs on the rows of `rows.rt`, which

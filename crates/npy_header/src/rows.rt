@@ -1,24 +1,25 @@
 // The table of the grammar of headers, written by tools/header_rows.py.
 use grammar::{Row, Rule, Symbol, rules_on};
 
-// The kinds:  \n{}():,\'"descrfotan_hpTuFl0, then the digits 1 to 9, what else may stand in a string, and any other byte.
+// The kinds:  \n{}():,\'"descrfotan_hpTuFl0, then the digits 1 to 9, what else may stand in a string,
+// ten kinds of bytes past ASCII, and any other byte.
 
 /// The kind of each byte.
 pub(crate) static KIND_OF_BYTE: [u16; 256] = [
-    30, 30, 30, 30, 30, 30, 30, 30, 30, 30, 1, 30, 30, 30, 30, 30, 30, 30, 30, 30, 30, 30, 30, 30,
-    30, 30, 30, 30, 30, 30, 30, 30, 0, 29, 9, 29, 29, 29, 29, 8, 4, 5, 29, 29, 7, 29, 29, 29, 27,
+    40, 40, 40, 40, 40, 40, 40, 40, 40, 40, 1, 40, 40, 40, 40, 40, 40, 40, 40, 40, 40, 40, 40, 40,
+    40, 40, 40, 40, 40, 40, 40, 40, 0, 29, 9, 29, 29, 29, 29, 8, 4, 5, 29, 29, 7, 29, 29, 29, 27,
     28, 28, 28, 28, 28, 28, 28, 28, 28, 6, 29, 29, 29, 29, 29, 29, 29, 29, 29, 29, 29, 25, 29, 29,
-    29, 29, 29, 29, 29, 29, 29, 29, 29, 29, 29, 23, 29, 29, 29, 29, 29, 29, 29, 30, 29, 29, 20, 29,
+    29, 29, 29, 29, 29, 29, 29, 29, 29, 29, 29, 23, 29, 29, 29, 29, 29, 29, 29, 40, 29, 29, 20, 29,
     18, 29, 13, 10, 11, 15, 29, 21, 29, 29, 29, 26, 29, 19, 16, 22, 29, 14, 12, 17, 24, 29, 29, 29,
-    29, 29, 2, 29, 3, 29, 30, 30, 30, 30, 30, 30, 30, 30, 30, 30, 30, 30, 30, 30, 30, 30, 30, 30,
-    30, 30, 30, 30, 30, 30, 30, 30, 30, 30, 30, 30, 30, 30, 30, 30, 30, 30, 30, 30, 30, 30, 30, 30,
-    30, 30, 30, 30, 30, 30, 30, 30, 30, 30, 30, 30, 30, 30, 30, 30, 30, 30, 30, 30, 30, 30, 30, 30,
-    30, 30, 30, 30, 30, 30, 30, 30, 30, 30, 30, 30, 30, 30, 30, 30, 30, 30, 30, 30, 30, 30, 30, 30,
-    30, 30, 30, 30, 30, 30, 30, 30, 30, 30, 30, 30, 30, 30, 30, 30, 30, 30, 30, 30, 30, 30, 30, 30,
-    30, 30, 30, 30, 30, 30, 30, 30, 30, 30, 30, 30, 30, 30, 30,
+    29, 29, 2, 29, 3, 29, 40, 30, 30, 30, 30, 30, 30, 30, 30, 30, 30, 30, 30, 30, 30, 30, 30, 31,
+    31, 31, 31, 31, 31, 31, 31, 31, 31, 31, 31, 31, 31, 31, 31, 32, 32, 32, 32, 32, 32, 32, 32, 32,
+    32, 32, 32, 32, 32, 32, 32, 32, 32, 32, 32, 32, 32, 32, 32, 32, 32, 32, 32, 32, 32, 32, 32, 40,
+    40, 33, 33, 33, 33, 33, 33, 33, 33, 33, 33, 33, 33, 33, 33, 33, 33, 33, 33, 33, 33, 33, 33, 33,
+    33, 33, 33, 33, 33, 33, 33, 34, 35, 35, 35, 35, 35, 35, 35, 35, 35, 35, 35, 35, 36, 35, 35, 37,
+    38, 38, 38, 39, 40, 40, 40, 40, 40, 40, 40, 40, 40, 40, 40,
 ];
 
-pub(crate) static ON: [Row; 40] = [
+pub(crate) static ON: [Row; 45] = [
     // 0: header
     rules_on!(- - 0 - - - - - - - - - - - - - - - - - - - - - - - - - - - - - - - - - - - - - - - - - - - - -),
     // 1: tail
@@ -99,57 +100,165 @@ pub(crate) static ON: [Row; 40] = [
     rules_on!(- - - - - - - 47 - - - - - - - - - - - - - - - - - - - - - - - - - - - - - - - - - - - - - - - -),
     // 39: more of ()
     rules_on!(- - - - - - - 3 - - - - - - - - - - - - - - - - - - - - - - - - - - - - - - - - - - - - - - - -),
+    // 40: later byte of kind 30 to 32
+    rules_on!(- - - - - - - - - - - - - - - - - - - - - - - - - - - - - - 2 2 2 - - - - - - - - - - - - - - -),
+    // 41: later byte of kind 30 to 31
+    rules_on!(- - - - - - - - - - - - - - - - - - - - - - - - - - - - - - 2 2 - - - - - - - - - - - - - - - -),
+    // 42: later byte of kind 31 to 32
+    rules_on!(- - - - - - - - - - - - - - - - - - - - - - - - - - - - - - - 2 2 - - - - - - - - - - - - - - -),
+    // 43: later byte of kind 32 to 32
+    rules_on!(- - - - - - - - - - - - - - - - - - - - - - - - - - - - - - - - 2 - - - - - - - - - - - - - - -),
+    // 44: later byte of kind 30 to 30
+    rules_on!(- - - - - - - - - - - - - - - - - - - - - - - - - - - - - - 2 - - - - - - - - - - - - - - - - -),
 ];
 
-pub(crate) static OTHER: [Option<u16>; 40] = [
-    None,
-    None,
-    Some(2),
-    None,
-    None,
-    None,
-    Some(2),
-    Some(2),
-    None,
-    None,
-    None,
-    Some(2),
-    None,
-    None,
-    None,
-    None,
-    None,
-    None,
-    None,
-    None,
-    None,
-    None,
-    None,
-    None,
-    None,
-    None,
-    None,
-    None,
-    None,
-    None,
-    None,
-    None,
-    None,
-    None,
-    None,
-    None,
-    None,
-    None,
-    None,
-    Some(2),
+pub(crate) static ON_WIDE: [Row; 45] = [
+    // 0: header
+    rules_on!(- - 0 - - - - - - - - - - - - - - - - - - - - - - - - - - - - - - - - - - - - - - - - - - - - -),
+    // 1: tail
+    rules_on!(1 2 - - - - - - - - - - - - - - - - - - - - - - - - - - - - - - - - - - - - - - - - - - - - - -),
+    // 2: spaces
+    rules_on!(3 - - - - - - - - - - - - - - - - - - - - - - - - - - - - - - - - - - - - - - - - - - - - - - -),
+    // 3: value of descr
+    rules_on!(- - - - - - - - 48 50 - - - - - - - - - - - - - - - - - - - - - - - - - - - - - - - - - - - - - -),
+    // 4: value of fortran_order
+    rules_on!(- - - - - - - - - - - - - - - - - - - - - - - 52 - 53 - - - - - - - - - - - - - - - - - - - - - -),
+    // 5: value of shape
+    rules_on!(- - - - 54 - - - - - - - - - - - - - - - - - - - - - - - - - - - - - - - - - - - - - - - - - - -),
+    // 6: string'
+    rules_on!(49 - 49 49 49 49 49 49 - 49 49 49 49 49 49 49 49 49 49 49 49 49 49 49 49 49 49 49 49 49 - - - 61 62 63 64 65 66 67 - - - - - - - -),
+    // 7: string"
+    rules_on!(51 - 51 51 51 51 51 51 51 - 51 51 51 51 51 51 51 51 51 51 51 51 51 51 51 51 51 51 51 51 - - - 68 69 70 71 72 73 74 - - - - - - - -),
+    // 8: tuple
+    rules_on!(- - - - - 2 - - - - - - - - - - - - - - - - - - - - - 55 56 - - - - - - - - - - - - - - - - - - -),
+    // 9: axes
+    rules_on!(- - - - - 2 - - - - - - - - - - - - - - - - - - - - - 57 58 - - - - - - - - - - - - - - - - - - -),
+    // 10: axis
+    rules_on!(- - - - - 2 - 59 - - - - - - - - - - - - - - - - - - - - - - - - - - - - - - - - - - - - - - - -),
+    // 11: digits
+    rules_on!(- - - - - - - - - - - - - - - - - - - - - - - - - - - 60 60 - - - - - - - - - - - - - - - - - - -),
+    // 12: items of (descr, fortran_order, shape)
+    rules_on!(- - - - - - - - 4 8 - - - - - - - - - - - - - - - - - - - - - - - - - - - - - - - - - - - - - -),
+    // 13: items of (descr, fortran_order)
+    rules_on!(- - - - - - - - 12 15 - - - - - - - - - - - - - - - - - - - - - - - - - - - - - - - - - - - - - -),
+    // 14: items of (descr, shape)
+    rules_on!(- - - - - - - - 19 22 - - - - - - - - - - - - - - - - - - - - - - - - - - - - - - - - - - - - - -),
+    // 15: items of (descr)
+    rules_on!(- - - - - - - - 26 28 - - - - - - - - - - - - - - - - - - - - - - - - - - - - - - - - - - - - - -),
+    // 16: items of (fortran_order, shape)
+    rules_on!(- - - - - - - - 31 34 - - - - - - - - - - - - - - - - - - - - - - - - - - - - - - - - - - - - - -),
+    // 17: items of (fortran_order)
+    rules_on!(- - - - - - - - 38 40 - - - - - - - - - - - - - - - - - - - - - - - - - - - - - - - - - - - - - -),
+    // 18: items of (shape)
+    rules_on!(- - - - - - - - 43 45 - - - - - - - - - - - - - - - - - - - - - - - - - - - - - - - - - - - - - -),
+    // 19: key of (descr, fortran_order, shape) in '
+    rules_on!(- - - - - - - - - - 5 - 7 - - 6 - - - - - - - - - - - - - - - - - - - - - - - - - - - - - - - -),
+    // 20: key of (descr, fortran_order, shape) in "
+    rules_on!(- - - - - - - - - - 9 - 11 - - 10 - - - - - - - - - - - - - - - - - - - - - - - - - - - - - - - -),
+    // 21: key of (descr, fortran_order) in '
+    rules_on!(- - - - - - - - - - 13 - - - - 14 - - - - - - - - - - - - - - - - - - - - - - - - - - - - - - - -),
+    // 22: key of (descr, fortran_order) in "
+    rules_on!(- - - - - - - - - - 16 - - - - 17 - - - - - - - - - - - - - - - - - - - - - - - - - - - - - - - -),
+    // 23: key of (descr, shape) in '
+    rules_on!(- - - - - - - - - - 20 - 21 - - - - - - - - - - - - - - - - - - - - - - - - - - - - - - - - - - -),
+    // 24: key of (descr, shape) in "
+    rules_on!(- - - - - - - - - - 23 - 24 - - - - - - - - - - - - - - - - - - - - - - - - - - - - - - - - - - -),
+    // 25: key of (descr) in '
+    rules_on!(- - - - - - - - - - 27 - - - - - - - - - - - - - - - - - - - - - - - - - - - - - - - - - - - - -),
+    // 26: key of (descr) in "
+    rules_on!(- - - - - - - - - - 29 - - - - - - - - - - - - - - - - - - - - - - - - - - - - - - - - - - - - -),
+    // 27: key of (fortran_order, shape) in '
+    rules_on!(- - - - - - - - - - - - 33 - - 32 - - - - - - - - - - - - - - - - - - - - - - - - - - - - - - - -),
+    // 28: key of (fortran_order, shape) in "
+    rules_on!(- - - - - - - - - - - - 36 - - 35 - - - - - - - - - - - - - - - - - - - - - - - - - - - - - - - -),
+    // 29: key of (fortran_order) in '
+    rules_on!(- - - - - - - - - - - - - - - 39 - - - - - - - - - - - - - - - - - - - - - - - - - - - - - - - -),
+    // 30: key of (fortran_order) in "
+    rules_on!(- - - - - - - - - - - - - - - 41 - - - - - - - - - - - - - - - - - - - - - - - - - - - - - - - -),
+    // 31: key of (shape) in '
+    rules_on!(- - - - - - - - - - - - 44 - - - - - - - - - - - - - - - - - - - - - - - - - - - - - - - - - - -),
+    // 32: key of (shape) in "
+    rules_on!(- - - - - - - - - - - - 46 - - - - - - - - - - - - - - - - - - - - - - - - - - - - - - - - - - -),
+    // 33: more of (descr, fortran_order)
+    rules_on!(- - - - - - - 18 - - - - - - - - - - - - - - - - - - - - - - - - - - - - - - - - - - - - - - - -),
+    // 34: more of (descr, shape)
+    rules_on!(- - - - - - - 25 - - - - - - - - - - - - - - - - - - - - - - - - - - - - - - - - - - - - - - - -),
+    // 35: more of (descr)
+    rules_on!(- - - - - - - 30 - - - - - - - - - - - - - - - - - - - - - - - - - - - - - - - - - - - - - - - -),
+    // 36: more of (fortran_order, shape)
+    rules_on!(- - - - - - - 37 - - - - - - - - - - - - - - - - - - - - - - - - - - - - - - - - - - - - - - - -),
+    // 37: more of (fortran_order)
+    rules_on!(- - - - - - - 42 - - - - - - - - - - - - - - - - - - - - - - - - - - - - - - - - - - - - - - - -),
+    // 38: more of (shape)
+    rules_on!(- - - - - - - 47 - - - - - - - - - - - - - - - - - - - - - - - - - - - - - - - - - - - - - - - -),
+    // 39: more of ()
+    rules_on!(- - - - - - - 3 - - - - - - - - - - - - - - - - - - - - - - - - - - - - - - - - - - - - - - - -),
+    // 40: later byte of kind 30 to 32
+    rules_on!(- - - - - - - - - - - - - - - - - - - - - - - - - - - - - - 2 2 2 - - - - - - - - - - - - - - -),
+    // 41: later byte of kind 30 to 31
+    rules_on!(- - - - - - - - - - - - - - - - - - - - - - - - - - - - - - 2 2 - - - - - - - - - - - - - - - -),
+    // 42: later byte of kind 31 to 32
+    rules_on!(- - - - - - - - - - - - - - - - - - - - - - - - - - - - - - - 2 2 - - - - - - - - - - - - - - -),
+    // 43: later byte of kind 32 to 32
+    rules_on!(- - - - - - - - - - - - - - - - - - - - - - - - - - - - - - - - 2 - - - - - - - - - - - - - - -),
+    // 44: later byte of kind 30 to 30
+    rules_on!(- - - - - - - - - - - - - - - - - - - - - - - - - - - - - - 2 - - - - - - - - - - - - - - - - -),
 ];
 
-pub(crate) static MOVES: [u16; 40] = [
+pub(crate) static OTHER: [Option<u16>; 45] = [
+    None,
+    None,
+    Some(2),
+    None,
+    None,
+    None,
+    Some(2),
+    Some(2),
+    None,
+    None,
+    None,
+    Some(2),
+    None,
+    None,
+    None,
+    None,
+    None,
+    None,
+    None,
+    None,
+    None,
+    None,
+    None,
+    None,
+    None,
+    None,
+    None,
+    None,
+    None,
+    None,
+    None,
+    None,
+    None,
+    None,
+    None,
+    None,
+    None,
+    None,
+    None,
+    Some(2),
+    None,
+    None,
+    None,
+    None,
+    None,
+];
+
+pub(crate) static MOVES: [u16; 45] = [
     1, 1, 1, 1, 1, 1, 1, 1, 1, 1, 1, 1, 1, 1, 1, 1, 1, 1, 1, 1, 1, 1, 1, 1, 1, 1, 1, 1, 1, 1, 1, 1,
-    1, 1, 1, 1, 1, 1, 1, 1,
+    1, 1, 1, 1, 1, 1, 1, 1, 1, 1, 1, 1, 1,
 ];
 
-pub(crate) static RULES: [Rule; 61] = [
+pub(crate) static RULES: [Rule; 75] = [
     Rule { start: 0, end: 4 },
     Rule { start: 4, end: 5 },
     Rule { start: 5, end: 5 },
@@ -355,10 +464,66 @@ pub(crate) static RULES: [Rule; 61] = [
         start: 406,
         end: 407,
     },
+    Rule {
+        start: 407,
+        end: 409,
+    },
+    Rule {
+        start: 409,
+        end: 412,
+    },
+    Rule {
+        start: 412,
+        end: 415,
+    },
+    Rule {
+        start: 415,
+        end: 418,
+    },
+    Rule {
+        start: 418,
+        end: 422,
+    },
+    Rule {
+        start: 422,
+        end: 426,
+    },
+    Rule {
+        start: 426,
+        end: 430,
+    },
+    Rule {
+        start: 430,
+        end: 432,
+    },
+    Rule {
+        start: 432,
+        end: 435,
+    },
+    Rule {
+        start: 435,
+        end: 438,
+    },
+    Rule {
+        start: 438,
+        end: 441,
+    },
+    Rule {
+        start: 441,
+        end: 445,
+    },
+    Rule {
+        start: 445,
+        end: 449,
+    },
+    Rule {
+        start: 449,
+        end: 453,
+    },
 ];
 
 /// Each rule from its last symbol to its first.
-pub(crate) static SYMBOLS: [Symbol; 407] = [
+pub(crate) static SYMBOLS: [Symbol; 453] = [
     Symbol::Part(1),
     Symbol::Token(3),
     Symbol::Part(12),
@@ -766,4 +931,50 @@ pub(crate) static SYMBOLS: [Symbol; 407] = [
     Symbol::Part(9),
     Symbol::Part(2),
     Symbol::Part(11),
+    Symbol::Part(6),
+    Symbol::Part(40),
+    Symbol::Part(6),
+    Symbol::Part(40),
+    Symbol::Part(43),
+    Symbol::Part(6),
+    Symbol::Part(40),
+    Symbol::Part(40),
+    Symbol::Part(6),
+    Symbol::Part(40),
+    Symbol::Part(41),
+    Symbol::Part(6),
+    Symbol::Part(40),
+    Symbol::Part(40),
+    Symbol::Part(42),
+    Symbol::Part(6),
+    Symbol::Part(40),
+    Symbol::Part(40),
+    Symbol::Part(40),
+    Symbol::Part(6),
+    Symbol::Part(40),
+    Symbol::Part(40),
+    Symbol::Part(44),
+    Symbol::Part(7),
+    Symbol::Part(40),
+    Symbol::Part(7),
+    Symbol::Part(40),
+    Symbol::Part(43),
+    Symbol::Part(7),
+    Symbol::Part(40),
+    Symbol::Part(40),
+    Symbol::Part(7),
+    Symbol::Part(40),
+    Symbol::Part(41),
+    Symbol::Part(7),
+    Symbol::Part(40),
+    Symbol::Part(40),
+    Symbol::Part(42),
+    Symbol::Part(7),
+    Symbol::Part(40),
+    Symbol::Part(40),
+    Symbol::Part(40),
+    Symbol::Part(7),
+    Symbol::Part(40),
+    Symbol::Part(40),
+    Symbol::Part(44),
 ];

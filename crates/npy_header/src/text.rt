@@ -3,12 +3,12 @@ ghost use Rattle.std.specs.Prelude.{◌≡◌, ◌∷◌, ◌++◌, [], List, �
 ghost use Rattle.grammar.specs.Tables.{grammar_of, moves_end};
 ghost use Rattle.grammar.specs.Runs.{RefusesNext};
 ghost use Rattle.npy_header.specs.Kinds.{kind_of};
-ghost use Rattle.npy_header.specs.HeaderRows.{header_rows};
+ghost use Rattle.npy_header.specs.HeaderRows.{rows_of};
 ghost use Rattle.npy_header.specs.Scans.{fields_of};
 ghost use Rattle.npy_header.specs.Reading.{IsReading, RefusedAs, Says};
 
 use crate::fields::{HeaderError, HeaderFields};
-use crate::rows::{KIND_OF_BYTE, MOVES, ON, OTHER, RULES, SYMBOLS};
+use crate::rows::{KIND_OF_BYTE, MOVES, ON, ON_WIDE, OTHER, RULES, SYMBOLS};
 use crate::scanner::Scanner;
 use grammar::{Reader, Reply, Table};
 use std::alloc::{AllocError, Global};
@@ -16,11 +16,15 @@ use std::alloc::{AllocError, Global};
 // The part of the table that stands for a whole header.
 const HEADER: u16 = 0;
 
-fn table() -> Table
-    ensures rows { result ≡ header_rows }
+fn table(wide: bool) -> Table
+    ensures rows { result ≡ rows_of wide }
     ensures moves { moves_end result ≡ true }
 {
-    Table::new(&ON, &OTHER, &MOVES, &RULES, &SYMBOLS)
+    if wide {
+        Table::new(&ON_WIDE, &OTHER, &MOVES, &RULES, &SYMBOLS)
+    } else {
+        Table::new(&ON, &OTHER, &MOVES, &RULES, &SYMBOLS)
+    }
 }
 
 fn kind(byte: u8) -> u16
@@ -30,12 +34,18 @@ fn kind(byte: u8) -> u16
 }
 
 // Whether a header has a place for the next byte.
-fn take_byte(reader: &mut Reader, scanner: &mut Scanner, byte: u8) -> Result<bool, AllocError>
-    requires { reader.old.table ≡ header_rows }
-    ensures table { reader.new.table ≡ header_rows }
-    ensures taken { result ≡ Ok true → (w : List ℕ) → IsReading w reader.old.left scanner.old → IsReading (w ++ byte ∷ []) reader.new.left scanner.new }
-    ensures refused { result ≡ Ok false → RefusesNext (grammar_of header_rows) kind_of reader.old.left (Some (kind_of byte)) }
+fn take_byte(
+    wide: bool,
+    reader: &mut Reader,
+    scanner: &mut Scanner,
+    byte: u8,
+) -> Result<bool, AllocError>
+    requires { reader.old.table ≡ rows_of wide }
+    ensures table { reader.new.table ≡ rows_of wide }
+    ensures taken { result ≡ Ok true → (w : List ℕ) → IsReading wide w reader.old.left scanner.old → IsReading wide (w ++ byte ∷ []) reader.new.left scanner.new }
+    ensures refused { result ≡ Ok false → RefusesNext (grammar_of (rows_of wide)) kind_of reader.old.left (Some (kind_of byte)) }
 {
+    let _ = wide;
     match reader.step(kind(byte))? {
         Reply::Refused => Ok(false),
         Reply::Taken => {
@@ -47,11 +57,12 @@ fn take_byte(reader: &mut Reader, scanner: &mut Scanner, byte: u8) -> Result<boo
 }
 
 // Whether a header may end here.
-fn take_end(reader: &mut Reader, scanner: &mut Scanner) -> Result<bool, AllocError>
-    requires { reader.old.table ≡ header_rows }
-    ensures taken { result ≡ Ok true → (w : List ℕ) → IsReading w reader.old.left scanner.old → Says w (fields_of scanner.new) }
-    ensures refused { result ≡ Ok false → RefusesNext (grammar_of header_rows) kind_of reader.old.left None }
+fn take_end(wide: bool, reader: &mut Reader, scanner: &mut Scanner) -> Result<bool, AllocError>
+    requires { reader.old.table ≡ rows_of wide }
+    ensures taken { result ≡ Ok true → (w : List ℕ) → IsReading wide w reader.old.left scanner.old → Says wide w (fields_of scanner.new) }
+    ensures refused { result ≡ Ok false → RefusesNext (grammar_of (rows_of wide)) kind_of reader.old.left None }
 {
+    let _ = wide;
     match reader.end()? {
         Reply::Refused => Ok(false),
         Reply::Taken => {
@@ -62,35 +73,45 @@ fn take_end(reader: &mut Reader, scanner: &mut Scanner) -> Result<bool, AllocErr
 }
 
 // Reads all bytes of a header into what is kept of it.
-fn read_bytes(reader: &mut Reader, scanner: &mut Scanner, bytes: &[u8]) -> Result<(), HeaderError>
-    requires table { reader.old.table ≡ header_rows }
-    requires reading { IsReading [] reader.old.left scanner.old }
-    ensures ok { OnOk result (Says bytes.now (fields_of scanner.new)) }
-    ensures refused { IfErr result (RefusedAs bytes.now) }
+fn read_bytes(
+    wide: bool,
+    reader: &mut Reader,
+    scanner: &mut Scanner,
+    bytes: &[u8],
+) -> Result<(), HeaderError>
+    requires table { reader.old.table ≡ rows_of wide }
+    requires reading { IsReading wide [] reader.old.left scanner.old }
+    ensures ok { OnOk result (Says wide bytes.now (fields_of scanner.new)) }
+    ensures refused { IfErr result (RefusedAs wide bytes.now) }
 {
     for (at, byte) in bytes.iter().enumerate() {
-        if !take_byte(reader, scanner, *byte)? {
+        if !take_byte(wide, reader, scanner, *byte)? {
             return Err(HeaderError::Refused { at });
         }
     }
-    if !take_end(reader, scanner)? {
+    if !take_end(wide, reader, scanner)? {
         return Err(HeaderError::Refused { at: bytes.len() });
     }
     Ok(())
 }
 
-/// Reads a header: all bytes between the ten fixed bytes of the file and the data, as NEP 1 has them.
+/// Reads a header: all bytes between the fixed bytes of the file and the data, as NEP 1 has them: a wide one where the
+/// version is 3.0.
 ///
 /// The dictionary's keys may stand in any order, in either quotes, with any number of spaces between tokens, with or without
 /// a last comma, and any number of spaces may follow it before the newline. Numbers may have any length. What is no header
 /// is refused at the first byte after which no header goes on, or at the end of the bytes.
 /// It takes memory for what the fields hold, for the bytes, and for what is left to be read.
-pub fn read_header_text(alloc: Global, bytes: &[u8]) -> Result<HeaderFields, HeaderError>
-    ensures ok { IfOk result (Says bytes.now) }
-    ensures refused { IfErr result (RefusedAs bytes.now) }
+pub fn read_header_text(
+    alloc: Global,
+    wide: bool,
+    bytes: &[u8],
+) -> Result<HeaderFields, HeaderError>
+    ensures ok { IfOk result (Says wide bytes.now) }
+    ensures refused { IfErr result (RefusedAs wide bytes.now) }
 {
-    let mut reader = Reader::new(alloc, table(), HEADER)?;
+    let mut reader = Reader::new(alloc, table(wide), HEADER)?;
     let mut scanner = Scanner::new(alloc);
-    read_bytes(&mut reader, &mut scanner, bytes)?;
+    read_bytes(wide, &mut reader, &mut scanner, bytes)?;
     Ok(scanner.into_fields())
 }

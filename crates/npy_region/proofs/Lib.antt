@@ -3,3 +3,4 @@ pub mod GivenCells
 pub mod RegionLemmas
 pub mod RunLemmas
 pub mod WriteLemmas
+pub mod Widths

@@ -153,9 +153,39 @@ patched old bytes at p room =
 
 -- ## Runs
 
+-- an element of eight bytes of the region stands in the run's j-th word
+pub record StandsAt (head : Head) (region : Box) (run : Run) (j : ℕ) (i : List ℕ) : Type 0 where
+  pub inside : IsIn region.lengths i
+  pub word : 8 * j + 8 ≤ run.length
+  pub offset : offset_of head (moved region.start i) ≡ run.offset + 8 * j
+  pub target : place region.lengths i ≡ run.place + j
+
+-- the runs of a region whose elements have eight bytes
+pub record AreEights (head : Head) (region : Box) (runs : List Run) : Type 0 where
+  pub eight : head.width ≡ 8
+  pub words : (k : ℕ) → k < length runs → (n : ℕ) × (0 < n) × ((get_or runs k no_run).length ≡ 8 * n)
+  pub only : (k j : ℕ) → k < length runs → 8 * j + 8 ≤ (get_or runs k no_run).length → (i : List ℕ) × StandsAt head region (get_or runs k no_run) j i
+  pub all : (i : List ℕ) → IsIn region.lengths i → (k j : ℕ) × (k < length runs) × StandsAt head region (get_or runs k no_run) j i
+
+stands_eight : (head : Head) (region : Box) (run : Run) (j : ℕ) (i : List ℕ) → head.width ≡ 8 → StandsIn head region run j i → StandsAt head region run j i
+stands_eight head region run j i eight s = record {
+  inside = s.inside;
+  word = subst (λ w. w * j + w ≤ run.length) eight s.word;
+  offset = s.offset ∙ ap (λ w. run.offset + w * j) eight;
+  target = s.target;
+}
+
+pub eights : (head : Head) (region : Box) (runs : List Run) → head.width ≡ 8 → AreRuns head region runs → AreEights head region runs
+eights head region runs eight are = record {
+  eight = eight;
+  words = λ k h. let n = are.words k h in (n.0, n.1, n.2 ∙ ap (λ w. w * n.0) eight);
+  only = λ k j h word. let x = are.only k j h (subst (λ w. w * j + w ≤ (get_or runs k no_run).length) (sym eight) word) in (x.0, stands_eight head region (get_or runs k no_run) j x.0 eight x.1);
+  all = λ i i_in. let x = are.all i i_in in (x.0, x.1, x.2, stands_eight head region (get_or runs x.0 no_run) x.1 i eight x.3);
+}
+
 -- each word of the run is an element of the region
 abbrev pub IsOfRegion : Head → Box → Run → Type 0
-IsOfRegion head region run = (j : ℕ) → 8 * j + 8 ≤ run.length → (i : List ℕ) × StandsIn head region run j i
+IsOfRegion head region run = (j : ℕ) → 8 * j + 8 ≤ run.length → (i : List ℕ) × StandsAt head region run j i
 
 abbrev pub run_cells : Array → Run → List ℤ
 run_cells block run = take (run.length / 8) (drop run.place block.cells)
@@ -248,7 +278,7 @@ some_written head region block runs k n zs bytes old mid h room before =
     }
 
 -- where all runs are written, what they leave out is no element's
-all_written : (head : Head) (region : Box) (block : Array) (runs : List Run) (k : ℕ) (old new : List ℕ) → AreRuns head region runs → length runs ≤ k → WritesFirst head region block runs k old new → WritesRegion head region block old new
+all_written : (head : Head) (region : Box) (block : Array) (runs : List Run) (k : ℕ) (old new : List ℕ) → AreEights head region runs → length runs ≤ k → WritesFirst head region block runs k old new → WritesRegion head region block old new
 all_written head region block runs k old new are h w = record {
   size = w.size;
   each = λ p p_in. elim (w.each p p_in) [
@@ -315,7 +345,7 @@ place_by-below : (by_column : Bool) (dims i : List ℕ) → IsIn dims i → plac
 place_by-below false dims i h = place-below dims i h
 place_by-below true dims i h = column_place-below dims i h
 
-pub run_fits : (head : Head) (region : Box) (block : Array) (runs : List Run) (k : ℕ) → AreRuns head region runs → IsPart region head.shape → length block.cells ≡ elements block.shape → block.shape ≡ region.lengths → k < length runs →
+pub run_fits : (head : Head) (region : Box) (block : Array) (runs : List Run) (k : ℕ) → AreEights head region runs → IsPart region head.shape → length block.cells ≡ elements block.shape → block.shape ≡ region.lengths → k < length runs →
     RunFits head block (get_or runs k no_run)
 run_fits head region block runs k are part size shape k_in =
     let run = get_or runs k no_run in
@@ -324,7 +354,7 @@ run_fits head region block runs k are part size shape k_in =
     let len : run.length ≡ 8 * n.0 = n.2 in
     let last = are.only k (n.0 - 1) k_in (omega arith) in
     let stands = last.1 in
-    let at : offset_of head (moved region.start last.0) ≡ run.offset + 8 * (n.0 - 1) = stands.offset in
+    let at : head.data_at + 8 * place_by head.fortran head.shape (moved region.start last.0) ≡ run.offset + 8 * (n.0 - 1) = ap (λ w. head.data_at + w * place_by head.fortran head.shape (moved region.start last.0)) (sym are.eight) ∙ stands.offset in
     let to : place region.lengths last.0 ≡ run.place + (n.0 - 1) = stands.target in
     let in_file : place_by head.fortran head.shape (moved region.start last.0) < elements head.shape = place_by-below head.fortran head.shape (moved region.start last.0) (moved-in region.start region.lengths head.shape last.0 part stands.inside) in
     let in_block : place region.lengths last.0 < elements region.lengths = place-below region.lengths last.0 stands.inside in
@@ -341,7 +371,7 @@ pub record NextRun (head : Head) (region : Box) (block : Array) (runs : List Run
   pub before : FirstWritten head region block runs k c d
 
 -- the same, by what the calls say
-pub next_run : (head : Head) (region : Box) (block : Array) (runs : List Run) (k : ℕ) (cells zs : List ℤ) (c d : Content) → AreRuns head region runs → IsPart region head.shape → length block.cells ≡ elements block.shape → block.shape ≡ region.lengths →
+pub next_run : (head : Head) (region : Box) (block : Array) (runs : List Run) (k : ℕ) (cells zs : List ℤ) (c d : Content) → AreEights head region runs → IsPart region head.shape → length block.cells ≡ elements block.shape → block.shape ≡ region.lengths →
     head.data_at + 8 * elements head.shape ≤ size_of c → k < length runs → cells ≡ block.cells → zs ≡ take ((get_or runs k no_run).length / 8) (drop (get_or runs k no_run).place cells) → size_of d ≡ size_of c → FirstWritten head region block runs k c d →
     NextRun head region block runs k zs c d
 next_run head region block runs k cells zs c d are part size shape room k_in is_cells is_zs same before =
@@ -382,5 +412,5 @@ first_stopped head region block runs k zs c d e next wrote =
     turns_pasted (WritesFirst head region block runs k) (WritesSome head region block) c d e (get_or runs k no_run).offset bytes (omega (arith, next.room, length-cells_bytes zs, size)) next.before wrote.content
     (λ old mid fits so_far. some_written head region block runs k n zs bytes old mid pasted fits so_far)
 
-pub first_all : (head : Head) (region : Box) (block : Array) (runs : List Run) (k : ℕ) (c d : Content) → AreRuns head region runs → length runs ≤ k → FirstWritten head region block runs k c d → Turns (WritesRegion head region block) c d
+pub first_all : (head : Head) (region : Box) (block : Array) (runs : List Run) (k : ℕ) (c d : Content) → AreEights head region runs → length runs ≤ k → FirstWritten head region block runs k c d → Turns (WritesRegion head region block) c d
 first_all head region block runs k c d are h w = turns_weaker (WritesFirst head region block runs k) (WritesRegion head region block) c d w (λ old new so_far. all_written head region block runs k old new are h so_far)

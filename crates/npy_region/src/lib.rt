@@ -2,12 +2,14 @@
 //!
 //! It stands on the heads of `npy_codec` and on the walks of `nd_rows`, and the sequential evaluation and all that loads
 //! blocks stand on it. It carries the promise that what is read of a region is its elements, in row-major order whichever
-//! order the file has, that a region is refused exactly where its last run ends past the file, that runs hold each
-//! element once and are as few as there can be, and that a region is written with a block's elements and nothing beside it.
-//! A fault of reading comes only where the store counted one, and one of writing only where the file did.
+//! order the file has and widened from whichever type, that a region is refused exactly where its last run ends past the
+//! file, that runs hold each element once and are as few as there can be, and that a region is written with a block's
+//! elements and nothing beside it. A fault of reading comes only where the store counted one, and one of writing only where
+//! the file did.
 #![tactic(auto)]
 
 mod cells;
+mod kernels;
 mod region;
 mod runs;
 mod write;

@@ -8,7 +8,7 @@ ghost use Rattle.nd_shape.specs.Shape.{elements};
 ghost use Rattle.nd_rows.specs.Storage.{count_of, spot, walk_of};
 ghost use Rattle.npy_region.specs.Cells.{AreStored, EndsWithin, InRowMajor, IsStoredByte, IsByteIn};
 ghost use Rattle.npy_codec.specs.Fronts.{IsFaultOrMemory};
-ghost use Rattle.npy_codec.specs.Regions.{HoldsRegion, RegionRefusedAs, needed};
+ghost use Rattle.npy_codec.specs.Regions.{HoldsRegion, IsWidth, RegionRefusedAs, needed};
 
 use crate::cells::read_cells;
 use io_edge::Store;
@@ -23,10 +23,11 @@ const PIECE: usize = 65536;
 // The data bytes up to the end of the region's last element.
 fn bytes_needed(head: &Head, region: &Region, walk: &mut RegionWalk) -> u64
     requires part { IsPart region.now head.now.shape }
+    requires width { IsWidth head.now.width }
     requires walk { walk.old ≡ walk_of head.now.fortran head.now.shape region.now }
     ensures same { walk.new ≡ walk.old }
     ensures needed { result ≡ needed head.now region.now }
-    ensures last { (q : ℕ) → q < count_of walk.old → 8 * (spot walk.old q + 1) ≤ result }
+    ensures last { (q : ℕ) → q < count_of walk.old → head.now.width * (spot walk.old q + 1) ≤ result }
     ensures limit { result ≤ 2 ^ 34 }
 {
     let _ = head.fortran;
@@ -35,33 +36,34 @@ fn bytes_needed(head: &Head, region: &Region, walk: &mut RegionWalk) -> u64
     if count == 0 {
         return 0;
     }
-    8 * (walk.place(count - 1) + 1)
+    head.width as u64 * (walk.place(count - 1) + 1)
 }
 
 // Appends the region's elements in the order in which the file has them, row by row.
 fn read_rows<S: Store>(
     store: &mut S,
     file: u32,
-    data_at: u64,
+    head: &Head,
     walk: &mut RegionWalk,
     buffer: &mut [u8],
     cells: &mut Vec<i64>,
 ) -> Result<(), NpyError>
     requires there { file < length (S.files store.old) }
-    requires near { data_at ≤ 2 ^ 21 }
+    requires width { IsWidth head.now.width }
+    requires near { head.now.data_at ≤ 2 ^ 21 }
     requires some { 0 < count_of walk.old }
-    requires room { EndsWithin walk.old data_at (size_of (file_at (S.files store.old) file)) }
+    requires room { EndsWithin walk.old head.now (size_of (file_at (S.files store.old) file)) }
     requires buffer { 8 ≤ length buffer.old }
     requires none { cells.old.items ≡ [] }
     ensures same { S.files store.new ≡ S.files store.old }
     ensures named { S.names store.new ≡ S.names store.old }
-    ensures only { GivesOnly (IsStoredByte walk.old data_at) (S.gave store.old) (S.gave store.new) }
+    ensures only { GivesOnly (IsStoredByte walk.old head.now) (S.gave store.old) (S.gave store.new) }
     ensures walk { walk.new ≡ walk.old }
     ensures later { S.count store.old ≤ S.count store.new }
     ensures kept { OnOk result (S.count store.new ≡ S.count store.old) }
-    ensures cells { OnOk result (OnTold (file_at (S.files store.old) file) (λ bytes. AreStored bytes data_at walk.old (count_of walk.old) cells.new.items)) }
+    ensures cells { OnOk result (OnTold (file_at (S.files store.old) file) (λ bytes. AreStored bytes head.now walk.old (count_of walk.old) cells.new.items)) }
     ensures given { OnOk result (GivesOf (S.names store.old) file (S.gave store.old) (S.gave store.new)
-        (λ bytes. EndsWithin walk.old data_at (length bytes) → AreStored bytes data_at walk.old (count_of walk.old) cells.new.items)) }
+        (λ bytes. EndsWithin walk.old head.now (length bytes) → AreStored bytes head.now walk.old (count_of walk.old) cells.new.items)) }
     ensures size { OnOk result (length cells.new.items ≡ count_of walk.old) }
     ensures cause { IfErr result IsFaultOrMemory }
     ensures fault { IsErrOf result NpyError.ReadFault → Rose (S.count store.old) (S.count store.new) }
@@ -69,8 +71,8 @@ fn read_rows<S: Store>(
     let count = walk.len();
     let row = walk.row_len();
     for k in 0..count / row {
-        let offset = data_at + 8 * walk.place(k * row);
-        read_cells(store, file, offset, row, buffer, cells)?;
+        let offset = head.data_at + head.width as u64 * walk.place(k * row);
+        read_cells(store, file, head, offset, row, buffer, cells)?;
     }
     Ok(())
 }
@@ -80,22 +82,23 @@ fn read_stored<S: Store>(
     alloc: Global,
     store: &mut S,
     file: u32,
-    data_at: u64,
+    head: &Head,
     walk: &mut RegionWalk,
 ) -> Result<Vec<i64>, NpyError>
     requires there { file < length (S.files store.old) }
-    requires near { data_at ≤ 2 ^ 21 }
+    requires width { IsWidth head.now.width }
+    requires near { head.now.data_at ≤ 2 ^ 21 }
     requires some { 0 < count_of walk.old }
-    requires room { EndsWithin walk.old data_at (size_of (file_at (S.files store.old) file)) }
+    requires room { EndsWithin walk.old head.now (size_of (file_at (S.files store.old) file)) }
     ensures same { S.files store.new ≡ S.files store.old }
     ensures named { S.names store.new ≡ S.names store.old }
-    ensures only { GivesOnly (IsStoredByte walk.old data_at) (S.gave store.old) (S.gave store.new) }
+    ensures only { GivesOnly (IsStoredByte walk.old head.now) (S.gave store.old) (S.gave store.new) }
     ensures walk { walk.new ≡ walk.old }
     ensures later { S.count store.old ≤ S.count store.new }
     ensures kept { OnOk result (S.count store.new ≡ S.count store.old) }
-    ensures cells { IfOk result (λ v. OnTold (file_at (S.files store.old) file) (λ bytes. AreStored bytes data_at walk.old (count_of walk.old) v.items)) }
+    ensures cells { IfOk result (λ v. OnTold (file_at (S.files store.old) file) (λ bytes. AreStored bytes head.now walk.old (count_of walk.old) v.items)) }
     ensures given { IfOk result (λ v. GivesOf (S.names store.old) file (S.gave store.old) (S.gave store.new)
-        (λ bytes. EndsWithin walk.old data_at (length bytes) → AreStored bytes data_at walk.old (count_of walk.old) v.items)) }
+        (λ bytes. EndsWithin walk.old head.now (length bytes) → AreStored bytes head.now walk.old (count_of walk.old) v.items)) }
     ensures size { IfOk result (λ v. length v.items ≡ count_of walk.old) }
     ensures cause { IfErr result IsFaultOrMemory }
     ensures fault { IsErrOf result NpyError.ReadFault → Rose (S.count store.old) (S.count store.new) }
@@ -103,7 +106,7 @@ fn read_stored<S: Store>(
     let count = walk.len();
     let mut cells = Vec::with_capacity(alloc, count as usize)?;
     let mut room = vec![in alloc; 0; PIECE]?;
-    read_rows(store, file, data_at, walk, room.as_mut_slice(), &mut cells)?;
+    read_rows(store, file, head, walk, room.as_mut_slice(), &mut cells)?;
     Ok(cells)
 }
 
@@ -136,6 +139,7 @@ fn read_walk<S: Store>(
 ) -> Result<Block, NpyError>
     requires there { file < length (S.files store.old) }
     requires part { IsPart region.now head.now.shape }
+    requires width { IsWidth head.now.width }
     requires near { head.now.data_at ≤ 2 ^ 21 }
     requires walk { walk.old ≡ walk_of head.now.fortran head.now.shape region.now }
     ensures same { S.files store.new ≡ S.files store.old }
@@ -163,14 +167,14 @@ fn read_walk<S: Store>(
         let empty = Block::new(shape, Vec::new(alloc));
         return Ok(empty);
     }
-    let stored = read_stored(alloc, store, file, head.data_at, walk)?;
+    let stored = read_stored(alloc, store, file, head, walk)?;
     let cells = in_row_major(alloc, head.fortran, &shape, stored)?;
     let block = Block::new(shape, cells);
     Ok(block)
 }
 
-/// Reads a region of a file's array into a block, in row-major order, whichever order the file has. It is refused as
-/// `Truncated` exactly where the region's last run ends past the file; the two counts are of data bytes.
+/// Reads a region of a file's array into a block, in row-major order, whichever order the file has; each element is widened to
+/// 64 bits with its sign. It is refused as `Truncated` exactly where the region's last run ends past the file; the two counts are of data bytes.
 ///
 /// Whether or not the store tells what the file holds: the elements are those of whatever the file holds that gave the pieces of
 /// this call. Whatever comes of it, the bytes that the store gives stand at offsets of the region's elements.
@@ -183,6 +187,7 @@ pub fn read_region<S: Store>(
 ) -> Result<Block, NpyError>
     requires there { file < length (S.files store.old) }
     requires part { IsPart region.now head.now.shape }
+    requires width { IsWidth head.now.width }
     requires near { head.now.data_at ≤ 2 ^ 21 }
     ensures same { S.files store.new ≡ S.files store.old }
     ensures named { S.names store.new ≡ S.names store.old }

@@ -1,6 +1,7 @@
 // The byte runs of a file that hold a region.
 ghost use Rattle.std.specs.Prelude.{◌≡◌, ◌≤◌, ◌<◌, ◌+◌, ◌*◌, ◌^◌, [], None, IfOk, IfSome, OnOk};
 ghost use Rattle.nd_shape.specs.Region.{IsPart};
+ghost use Rattle.npy_codec.specs.Regions.{IsWidth, number_at};
 ghost use Rattle.nd_rows.specs.Storage.{count_of, spot, stored, target, walk_of};
 ghost use Rattle.npy_region.specs.Building.{IsJoined, PutsRun, Splits};
 ghost use Rattle.npy_region.specs.Runs.{AreRuns, GoesOn};
@@ -25,18 +26,19 @@ pub struct Run {
 pub type RunList = Sequence<Run>;
 
 // The first run with the second, where that goes on at its end.
-fn joined(first: Run, second: Run) -> Option<Run>
+fn joined(width: u64, first: Run, second: Run) -> Option<Run>
+    requires some { 0 < width }
     requires offset { first.offset ≤ 2 ^ 35 }
     requires place { first.place ≤ 2 ^ 35 }
     requires first { first.length ≤ 2 ^ 35 }
     requires second { second.length ≤ 2 ^ 35 }
-    ensures value { IfSome result (λ run. IsJoined first second run) }
-    ensures apart { result ≡ None → GoesOn first second → ⊥ }
+    ensures value { IfSome result (λ run. IsJoined width first second run) }
+    ensures apart { result ≡ None → GoesOn width first second → ⊥ }
 {
     if second.offset != first.offset + first.length {
         return None;
     }
-    if second.place != first.place + first.length / 8 {
+    if second.place != first.place + first.length / width {
         return None;
     }
     Some(Run {
@@ -47,14 +49,15 @@ fn joined(first: Run, second: Run) -> Option<Run>
 }
 
 // Puts one more run behind others: the last one is put together with it, or is finished.
-fn put_run(runs: &mut Vec<Run>, last: Run, next: Run) -> Result<Run, AllocError>
+fn put_run(width: u64, runs: &mut Vec<Run>, last: Run, next: Run) -> Result<Run, AllocError>
+    requires some { 0 < width }
     requires offset { last.offset ≤ 2 ^ 35 }
     requires place { last.place ≤ 2 ^ 35 }
     requires last { last.length ≤ 2 ^ 35 }
     requires next { next.length ≤ 2 ^ 35 }
-    ensures { IfOk result (λ run. PutsRun runs.old.items last next runs.new.items run) }
+    ensures { IfOk result (λ run. PutsRun width runs.old.items last next runs.new.items run) }
 {
-    match joined(last, next) {
+    match joined(width, last, next) {
         Some(run) => Ok(run),
         None => {
             runs.push(last)?;
@@ -73,25 +76,27 @@ fn unit_len(column_major: bool, walk: &RegionWalk) -> u64
 
 // The run of some elements from this number on.
 fn unit_run(
-    data_at: u64,
+    head: &Head,
     walk: &mut RegionWalk,
     targets: &mut BlockTargets,
     element: u64,
     unit: u64,
 ) -> Run
-    requires near { data_at ≤ 2 ^ 21 }
+    requires width { IsWidth head.now.width }
+    requires near { head.now.data_at ≤ 2 ^ 21 }
     requires inside { element < count_of walk.old }
     requires block { targets.old.lengths ≡ walk.old.region.lengths }
     requires small { unit ≤ 2 ^ 31 }
     ensures walk { walk.new ≡ walk.old }
     ensures targets { targets.new ≡ targets.old }
-    ensures run { result ≡ record { offset = data_at + 8 * spot walk.old element; length = 8 * unit; place = target targets.old.by_column targets.old.lengths element } }
+    ensures run { result ≡ record { offset = number_at head.now (spot walk.old element); length = head.now.width * unit; place = target targets.old.by_column targets.old.lengths element } }
     ensures offset { result.offset ≤ 2 ^ 35 }
     ensures place { result.place ≤ 2 ^ 35 }
 {
+    let width = head.width as u64;
     Run {
-        offset: data_at + 8 * walk.place(element),
-        length: 8 * unit,
+        offset: head.data_at + width * walk.place(element),
+        length: width * unit,
         place: targets.place(element),
     }
 }
@@ -114,6 +119,7 @@ fn push_runs(
     runs: &mut Vec<Run>,
 ) -> Result<(), AllocError>
     requires part { IsPart region.now head.now.shape }
+    requires width { IsWidth head.now.width }
     requires near { head.now.data_at ≤ 2 ^ 21 }
     requires walk { walk.old ≡ walk_of head.now.fortran head.now.shape region.now }
     requires targets { targets.old ≡ record { by_column = head.now.fortran; lengths = stored head.now.fortran region.now.lengths } }
@@ -124,11 +130,12 @@ fn push_runs(
     if count == 0 {
         return Ok(());
     }
+    let width = head.width as u64;
     let unit = unit_len(head.fortran, walk);
-    let mut last = unit_run(head.data_at, walk, targets, 0, unit);
+    let mut last = unit_run(head, walk, targets, 0, unit);
     for k in 1..count / unit {
-        let next = unit_run(head.data_at, walk, targets, k * unit, unit);
-        let joined = put_run(runs, last, next)?;
+        let next = unit_run(head, walk, targets, k * unit, unit);
+        let joined = put_run(width, runs, last, next)?;
         last = joined;
     }
     runs.push(last)?;
@@ -143,6 +150,7 @@ fn walk_runs(
     walk: &mut RegionWalk,
 ) -> Result<RunList, AllocError>
     requires part { IsPart region.now head.now.shape }
+    requires width { IsWidth head.now.width }
     requires near { head.now.data_at ≤ 2 ^ 21 }
     requires walk { walk.old ≡ walk_of head.now.fortran head.now.shape region.now }
     ensures { IfOk result (λ runs. AreRuns head.now region.now runs) }
@@ -157,6 +165,7 @@ fn walk_runs(
 /// ascending by offset.
 pub fn region_runs(alloc: Global, head: &Head, region: &Region) -> Result<RunList, AllocError>
     requires part { IsPart region.now head.now.shape }
+    requires width { IsWidth head.now.width }
     requires near { head.now.data_at ≤ 2 ^ 21 }
     ensures { IfOk result (λ runs. AreRuns head.now region.now runs) }
 {

@@ -84,6 +84,7 @@ fn write_runs<F: OutFile>(
 ) -> Result<(), OpenFault>
     requires runs { AreRuns head.now region.now runs.now }
     requires part { IsPart region.now head.now.shape }
+    requires width { head.now.width ≡ 8 }
     requires near { head.now.data_at ≤ 2 ^ 21 }
     requires shape { block.now.shape ≡ region.now.lengths }
     requires room { head.now.data_at + 8 * elements head.now.shape ≤ size_of (F.content file.old) }
@@ -103,7 +104,7 @@ fn write_runs<F: OutFile>(
 }
 
 /// Writes a block's elements at the places of a region of a file's array, run by run. The head is that of the file, whose data
-/// is in row-major order, and the block has the region's lengths.
+/// is `<i8` in row-major order, and the block has the region's lengths.
 ///
 /// # Errors
 /// `Failed` only where the file's count of faults rose, and `OutOfMemory` where no memory is left: some of the region's bytes
@@ -116,8 +117,10 @@ pub fn write_region<F: OutFile>(
     block: &Block,
 ) -> Result<(), OpenFault>
     requires part { IsPart region.now head.now.shape }
+    requires width { head.now.width ≡ 8 }
     requires near { head.now.data_at ≤ 2 ^ 21 }
     requires rows { head.now.fortran ≡ false }
+    requires little { head.now.big ≡ false }
     requires shape { block.now.shape ≡ region.now.lengths }
     requires room { head.now.data_at + 8 * elements head.now.shape ≤ size_of (F.content file.old) }
     ensures named { F.named file.new ≡ F.named file.old }

@@ -10,7 +10,7 @@ use Rattle.nd_shape.specs.Index.{place}
 use Rattle.nd_shape.specs.Region.{Box, IsPart}
 use Rattle.npy_codec.specs.declared.head.Head.{Head}
 use Rattle.npy_codec.specs.declared.error.NpyError.{NpyError}
-use Rattle.npy_codec.specs.declared.error.NpyError.TheVariants.{NotNpy, Version, Truncated, HeaderText, Descr, ShapeLimit, ReadFault, OutOfMemory}
+use Rattle.npy_codec.specs.declared.error.NpyError.TheVariants.{NotNpy, Version, HeaderLimit, Truncated, HeaderText, Descr, ShapeLimit, ReadFault, OutOfMemory}
 use Rattle.npy_codec.specs.Regions.{element, needed, EndsInside, RegionRefusedAs}
 use Rattle.array_expr.specs.declared.expr.Node.{Node}
 use Rattle.array_expr.specs.Elem.{is_input, next_input}
@@ -120,6 +120,7 @@ refused-at nodes files heads regions blocks count k node ReadFault a h is i r = 
 refused-at nodes files heads regions blocks count k node OutOfMemory a h is i r = tt
 refused-at nodes files heads regions blocks count k node (NotNpy at) a h is i r = r
 refused-at nodes files heads regions blocks count k node (Version major minor) a h is i r = r
+refused-at nodes files heads regions blocks count k node (HeaderLimit len) a h is i r = r
 refused-at nodes files heads regions blocks count k node (HeaderText at) a h is i r = r
 refused-at nodes files heads regions blocks count k node Descr a h is i r = r
 refused-at nodes files heads regions blocks count k node ShapeLimit a h is i r = r
@@ -130,6 +131,7 @@ refused-files nodes n box files heads regions ReadFault a r = tt
 refused-files nodes n box files heads regions OutOfMemory a r = tt
 refused-files nodes n box files heads regions (NotNpy at) a r = r
 refused-files nodes n box files heads regions (Version major minor) a r = r
+refused-files nodes n box files heads regions (HeaderLimit len) a r = r
 refused-files nodes n box files heads regions (HeaderText at) a r = r
 refused-files nodes n box files heads regions Descr a r = r
 refused-files nodes n box files heads regions ShapeLimit a r = r
@@ -145,6 +147,7 @@ refused-some file head box ReadFault r = tt
 refused-some file head box OutOfMemory r = tt
 refused-some file head box (NotNpy at) r = r
 refused-some file head box (Version major minor) r = r
+refused-some file head box (HeaderLimit len) r = r
 refused-some file head box (HeaderText at) r = r
 refused-some file head box Descr r = r
 refused-some file head box ShapeLimit r = r

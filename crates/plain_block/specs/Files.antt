@@ -7,8 +7,8 @@ use Rattle.nd_shape.specs.Index.{place}
 use Rattle.nd_shape.specs.Region.{Box}
 use Rattle.npy_codec.specs.declared.head.Head.{Head}
 use Rattle.npy_codec.specs.declared.error.NpyError.{NpyError}
-use Rattle.npy_codec.specs.declared.error.NpyError.TheVariants.{NotNpy, Version, Truncated, HeaderText, Descr, ShapeLimit, ReadFault, OutOfMemory}
-use Rattle.npy_codec.specs.Regions.{element, needed, EndsInside}
+use Rattle.npy_codec.specs.declared.error.NpyError.TheVariants.{NotNpy, Version, HeaderLimit, Truncated, HeaderText, Descr, ShapeLimit, ReadFault, OutOfMemory}
+use Rattle.npy_codec.specs.Regions.{EndsInside, IsWidth, element, needed, no_head}
 use Rattle.array_expr.specs.declared.expr.Node.{Node}
 use Rattle.array_expr.specs.Elem.{is_input}
 use Rattle.plain_eval.specs.Eval.{inputs_before, block_at}
@@ -16,14 +16,16 @@ use Rattle.input_regions.specs.Boxes.{IsInRegion}
 use Rattle.input_regions.specs.Needed.{AreNeeded, region_at}
 
 abbrev pub head_at : List Head → ℕ → Head
-head_at heads j = slice_index_or heads j (record { shape = []; fortran = false; data_at = 0 })
+head_at heads j = slice_index_or heads j no_head
 
--- each input among the first so many nodes has a file and a head of its shape
+-- each input among the first so many nodes has a file and a head of its shape, whose data begin near and are of a width that is read
 pub record HaveFiles (nodes : List Node) (count : ℕ) (files : List Content) (heads : List Head) : Type 0 where
   pub file : (k : ℕ) (node : Node) → k < count → slice_get nodes k ≡ Some node → is_input node.op ≡ true → inputs_before nodes k < length files
   pub head : (k : ℕ) (node : Node) → k < count → slice_get nodes k ≡ Some node → is_input node.op ≡ true → inputs_before nodes k < length heads
   pub shape : (k : ℕ) (node : Node) → k < count → slice_get nodes k ≡ Some node → is_input node.op ≡ true → (head_at heads (inputs_before nodes k)).shape ≡ node.shape
   pub near : (k : ℕ) (node : Node) → k < count → slice_get nodes k ≡ Some node → is_input node.op ≡ true → (head_at heads (inputs_before nodes k)).data_at ≤ 2 ^ 21
+  pub width : (k : ℕ) (node : Node) → k < count → slice_get nodes k ≡ Some node → is_input node.op ≡ true
+      → IsWidth (head_at heads (inputs_before nodes k)).width
 
 -- the bytes of a file, where they are told
 abbrev pub bytes_at : List Content → ℕ → List ℕ
@@ -81,6 +83,7 @@ RefusesRegions nodes files heads regions count ReadFault = Unit {0}
 RefusesRegions nodes files heads regions count OutOfMemory = Unit {0}
 RefusesRegions nodes files heads regions count (NotNpy at) = ⊥
 RefusesRegions nodes files heads regions count (Version major minor) = ⊥
+RefusesRegions nodes files heads regions count (HeaderLimit len) = ⊥
 RefusesRegions nodes files heads regions count (HeaderText at) = ⊥
 RefusesRegions nodes files heads regions count Descr = ⊥
 RefusesRegions nodes files heads regions count ShapeLimit = ⊥
@@ -104,6 +107,7 @@ RefusesFiles nodes n box files heads ReadFault = Unit {0}
 RefusesFiles nodes n box files heads OutOfMemory = Unit {0}
 RefusesFiles nodes n box files heads (NotNpy at) = ⊥
 RefusesFiles nodes n box files heads (Version major minor) = ⊥
+RefusesFiles nodes n box files heads (HeaderLimit len) = ⊥
 RefusesFiles nodes n box files heads (HeaderText at) = ⊥
 RefusesFiles nodes n box files heads Descr = ⊥
 RefusesFiles nodes n box files heads ShapeLimit = ⊥
@@ -120,6 +124,7 @@ IsRefusedRegion file head region ReadFault = Unit {0}
 IsRefusedRegion file head region OutOfMemory = Unit {0}
 IsRefusedRegion file head region (NotNpy at) = ⊥
 IsRefusedRegion file head region (Version major minor) = ⊥
+IsRefusedRegion file head region (HeaderLimit len) = ⊥
 IsRefusedRegion file head region (HeaderText at) = ⊥
 IsRefusedRegion file head region Descr = ⊥
 IsRefusedRegion file head region ShapeLimit = ⊥

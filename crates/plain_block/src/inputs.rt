@@ -3,7 +3,7 @@ ghost use Rattle.std.specs.Prelude.{◌≡◌, ◌≤◌, ◌<◌, ◌-◌, ◌^
 ghost use Rattle.io_edge.specs.Cause.{Rose};
 ghost use Rattle.io_edge.specs.Content.{file_at, size_of};
 ghost use Rattle.nd_shape.specs.Region.{Box, IsPart};
-ghost use Rattle.npy_codec.specs.Regions.{RegionRefusedAs};
+ghost use Rattle.npy_codec.specs.Regions.{IsWidth, RegionRefusedAs};
 ghost use Rattle.array_expr.specs.Node.{IsExpression};
 ghost use Rattle.array_expr.specs.Elem.{is_input};
 ghost use Rattle.input_regions.specs.Widening.{AreFit};
@@ -27,6 +27,7 @@ fn read_box<S: Store>(
 ) -> Result<Block, NpyError>
     requires there { file < length (S.files store.old) }
     requires near { head.now.data_at ≤ 2 ^ 21 }
+    requires width { IsWidth head.now.width }
     requires part { IsPart region.now head.now.shape }
     ensures same { S.files store.new ≡ S.files store.old }
     ensures later { S.count store.old ≤ S.count store.new }
@@ -50,6 +51,7 @@ fn read_part<S: Store>(
 ) -> Result<Block, NpyError>
     requires there { file < length (S.files store.old) }
     requires near { head.now.data_at ≤ 2 ^ 21 }
+    requires width { IsWidth head.now.width }
     requires part { (box : Box) → region.now ≡ Some box → IsPart box head.now.shape }
     ensures same { S.files store.new ≡ S.files store.old }
     ensures later { S.count store.old ≤ S.count store.new }
@@ -80,6 +82,7 @@ fn read_input<S: Store>(
     requires file { is_input node.now.op ≡ true → length blocks.old.items < length (S.files store.old) }
     requires head { is_input node.now.op ≡ true → length blocks.old.items < length heads.now }
     requires near { is_input node.now.op ≡ true → (head_at heads.now (length blocks.old.items)).data_at ≤ 2 ^ 21 }
+    requires width { is_input node.now.op ≡ true → IsWidth (head_at heads.now (length blocks.old.items)).width }
     requires part { is_input node.now.op ≡ true → (box : Box) → region.now ≡ Some box → IsPart box (head_at heads.now (length blocks.old.items)).shape }
     ensures same { S.files store.new ≡ S.files store.old }
     ensures later { S.count store.old ≤ S.count store.new }

@@ -129,10 +129,12 @@ room_of tells dims front content is content_is =
     let z = size_of-zeros tells (length front + 8 * elements dims) in
     ap size_of content_is ∙ (size_of-overwritten (zeros tells (length front + 8 * elements dims)) 0 front (omega (arith, z)) ∙ (z ∙ ap (λ l. length l + 8 * elements dims) is))
 
-pub kept_of : {F : Type 0} (content : F → Content) (tells : Bool) (dims front : List ℕ) (f : OpenFile F) → f.head.fortran ≡ false → f.head.shape ≡ dims → f.head.data_at ≡ length front → length (header dims) ≤ 512 → front ≡ header dims →
+pub kept_of : {F : Type 0} (content : F → Content) (tells : Bool) (dims front : List ℕ) (f : OpenFile F) → f.head.fortran ≡ false → f.head.width ≡ 8 → f.head.big ≡ false → f.head.shape ≡ dims → f.head.data_at ≡ length front → length (header dims) ≤ 512 → front ≡ header dims →
     content f.file ≡ begun_with tells dims front → IsKept content f
-kept_of content tells dims front f rows shape at short is content_is = record {
+kept_of content tells dims front f rows width little shape at short is content_is = record {
   rows = rows;
+  width = width;
+  little = little;
   begins = at ∙ (ap length is ∙ ap (λ d. length (header d)) (sym shape));
   near = omega (arith, at, short, ap length is);
   room = room_of tells dims front (content f.file) is content_is ∙ ap (λ d. length (header d) + 8 * elements d) (sym shape);

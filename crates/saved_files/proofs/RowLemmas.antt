@@ -19,17 +19,17 @@ use Rattle.npy_codec.specs.declared.head.Head.{Head}
 use Rattle.npy_codec.specs.Npy.{cell_bytes, cells_bytes}
 use Rattle.npy_codec.specs.Regions.{offset_of}
 use Rattle.npy_region.specs.declared.runs.Run.{Run}
-use Rattle.npy_region.specs.Runs.{AreRuns, StandsIn, no_run}
+use Rattle.npy_region.specs.Runs.{AreRuns, no_run}
 use Rattle.npy_region.specs.Writing.{byte_at, IsByteOf, IsOutside, Turns, WritesRegion, WritesSome}
 use Rattle.saved_files.specs.Filling.{box_of}
 use Rattle.saved_files.specs.Rows.{block_at, runs_at, row_bytes, run_cells, AreFull, ArePlaced, HasRow, AreSideBySide, IsByteOfOne, WritesAll, WritesSomeOf}
-use Rattle.npy_region.proofs.WriteLemmas.{byte_of_cells, flat_bytes, patched, run_fits, RunFits}
+use Rattle.npy_region.proofs.WriteLemmas.{AreEights, RunFits, StandsAt, byte_of_cells, eights, flat_bytes, patched, run_fits}
 use Rattle.npy_codec.proofs.WrittenFiles.{length-cells_bytes}
 
 -- ## One run, and the contents of an open file
 
 abbrev IsOfRegion : Head → Box → Run → Type 0
-IsOfRegion head region run = (j : ℕ) → 8 * j + 8 ≤ run.length → (i : List ℕ) × StandsIn head region run j i
+IsOfRegion head region run = (j : ℕ) → 8 * j + 8 ≤ run.length → (i : List ℕ) × StandsAt head region run j i
 
 -- a byte of a run's elements belongs at its place of the file
 byte_of_run : (head : Head) (region : Box) (block : Array) (run : Run) (zs : List ℤ) (j p b : ℕ) → zs ≡ run_cells block run → IsOfRegion head region run → j < length (cells_bytes zs) → p ≡ run.offset + j → b ≡ byte_at (cells_bytes zs) j →
@@ -104,7 +104,7 @@ run_at all k row = get_or (runs_at all k) row no_run
 pub record AreRows (head : Head) (regions : List Box) (blocks : List (Arc Array Global)) (all : List (List Run)) : Type 0 where
   pub some : 0 < length regions
   pub count : length all ≡ length regions
-  pub runs : (k : ℕ) → k < length regions → AreRuns head (box_of regions k) (runs_at all k)
+  pub runs : (k : ℕ) → k < length regions → AreEights head (box_of regions k) (runs_at all k)
   pub beside : AreSideBySide all
   pub placed : ArePlaced head.shape regions blocks
 
@@ -352,6 +352,16 @@ pub some_none : (head : Head) (regions : List Box) (blocks : List (Arc Array Glo
 some_none head regions blocks c = turns_same (WritesSomeOf head regions blocks) c (λ bytes. record { size = refl; each = λ p p_in. inl refl })
 
 -- ## What the calls say
+
+pub rows_are : (head : Head) (regions : List Box) (blocks : List (Arc Array Global)) (all : List (List Run)) → 0 < length regions → length all ≡ length regions → head.width ≡ 8 → ((k : ℕ) → k < length regions → AreRuns head (box_of regions k) (runs_at all k)) →
+    AreSideBySide all → ArePlaced head.shape regions blocks → AreRows head regions blocks all
+rows_are head regions blocks all some count eight runs beside placed = record {
+  some = some;
+  count = count;
+  runs = λ k h. eights head (box_of regions k) (runs_at all k) eight (runs k h);
+  beside = beside;
+  placed = placed;
+}
 
 pub runs_is : (all : List (List Run)) (k : ℕ) (runs : List Run) → k < length all → runs ≡ get_or all k runs → runs ≡ runs_at all k
 runs_is all k runs h is = is ∙ get_or_default all k runs [] h

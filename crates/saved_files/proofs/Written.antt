@@ -25,14 +25,16 @@ use Rattle.npy_region.proofs.WriteLemmas.{size-turns}
 -- the array that a head stands before
 pub record IsHeadOf (head : Head) (a : Array) : Type 0 where
   pub rows : head.fortran ≡ false
+  pub eight : head.width ≡ 8
   pub begins : head.data_at ≡ length (header head.shape)
   pub shape : a.shape ≡ head.shape
   pub count : length a.cells ≡ elements a.shape
 
 offset_is : (head : Head) (a : Array) (i : List ℕ) → IsHeadOf head a → offset_of head i ≡ spot a.shape i
 offset_is head a i h =
-    ap (λ b. head.data_at + 8 * place_by b head.shape i) h.rows
-    ∙ (ap (λ n. n + 8 * place head.shape i) h.begins ∙ ap (λ (dims : List ℕ). spot dims i) (sym h.shape))
+    ap (λ w. head.data_at + w * place_by head.fortran head.shape i) h.eight
+    ∙ (ap (λ b. head.data_at + 8 * place_by b head.shape i) h.rows
+    ∙ (ap (λ n. n + 8 * place head.shape i) h.begins ∙ ap (λ (dims : List ℕ). spot dims i) (sym h.shape)))
 
 -- a byte of the block is the right one for its place
 right : (head : Head) (a : Array) (box : Box) (block : Array) (p b : ℕ) → IsHeadOf head a → HoldsBox a box block → IsByteOf head box block p b → b ≡ byte_at (file_of a) p
@@ -204,12 +206,12 @@ turns_weaker R Q (Told x) (Untold n) f t = t
 turns_weaker R Q (Untold n) (Told y) f t = t
 turns_weaker R Q (Untold n) (Untold m) f t = t
 
-head_of : (head : Head) (a : Array) (size : ℕ) (bytes : List ℕ) → head.fortran ≡ false → head.data_at ≡ length (header head.shape) → size ≡ length (header head.shape) + 8 * elements head.shape → a.shape ≡ head.shape →
+head_of : (head : Head) (a : Array) (size : ℕ) (bytes : List ℕ) → head.fortran ≡ false → head.width ≡ 8 → head.data_at ≡ length (header head.shape) → size ≡ length (header head.shape) + 8 * elements head.shape → a.shape ≡ head.shape →
     length bytes ≡ size → length bytes ≡ length (file_of a) → IsHeadOf head a
-head_of head a size bytes rows begins room shape is_size is_file =
+head_of head a size bytes rows eight begins room shape is_size is_file =
     let l : length (header a.shape) ≡ length (header head.shape) = ap (λ dims. length (header dims)) shape in
     let n : elements a.shape ≡ elements head.shape = ap elements shape in
-    record { rows = rows; begins = begins; shape = shape; count = same_count (length (header a.shape)) (length a.cells) (elements a.shape) (sym (length-file a) ∙ (sym is_file ∙ (is_size ∙ (room ∙ sums l n)))) }
+    record { rows = rows; eight = eight; begins = begins; shape = shape; count = same_count (length (header a.shape)) (length a.cells) (elements a.shape) (sym (length-file a) ∙ (sym is_file ∙ (is_size ∙ (room ∙ sums l n)))) }
   where
     same_count : (f m n : ℕ) → f + 8 * m ≡ f + 8 * n → m ≡ n
     same_count f m n e = omega (arith, e)
@@ -220,12 +222,13 @@ head_of head a size bytes rows begins room shape is_size is_file =
 -- a head that fits what is kept of a file
 pub record Heads (head : Head) (s : Saving) : Type 0 where
   pub rows : head.fortran ≡ false
+  pub eight : head.width ≡ 8
   pub begins : head.data_at ≡ length (header head.shape)
   pub room : size_of s.content ≡ length (header head.shape) + 8 * elements head.shape
   pub dims : s.dims ≡ head.shape
 
 headed : (head : Head) (a : Array) (s : Saving) (bytes : List ℕ) → Heads head s → a.shape ≡ s.dims → length bytes ≡ size_of s.content → length bytes ≡ length (file_of a) → IsHeadOf head a
-headed head a s bytes h shape is_size is_file = head_of head a (size_of s.content) bytes h.rows h.begins h.room (shape ∙ h.dims) is_size is_file
+headed head a s bytes h shape is_size is_file = head_of head a (size_of s.content) bytes h.rows h.eight h.begins h.room (shape ∙ h.dims) is_size is_file
 
 pub fills_more : (head : Head) (box : Box) (block : Array) (old new : Saving) → Heads head old → Turns (WritesRegion head box block) old.content new.content → FillsMore box block old new
 fills_more head box block old new h t = turns_weaker (WritesRegion head box block) _ old.content new.content (λ before after is_size wrote. λ a boxes shape filling holds.

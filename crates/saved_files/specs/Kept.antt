@@ -14,9 +14,11 @@ saving_of named content faults f = record { name = named f.file; dims = f.head.s
 abbrev pub begun_with : Bool → List ℕ → List ℕ → Content
 begun_with tells dims front = overwritten (zeros tells (length front + 8 * elements dims)) 0 front
 
--- the file has room for its header and its data, which is in row-major order and begins behind the header
+-- the file has room for its header and its data, which is `<i8` in row-major order and begins behind the header
 pub record IsKept {F : Type 0} (content : F → Content) (f : OpenFile F) : Type 0 where
   pub rows : f.head.fortran ≡ false
+  pub width : f.head.width ≡ 8
+  pub little : f.head.big ≡ false
   pub begins : f.head.data_at ≡ length (header f.head.shape)
   pub near : f.head.data_at ≤ 512
   pub room : size_of (content f.file) ≡ length (header f.head.shape) + 8 * elements f.head.shape

@@ -84,6 +84,8 @@ pub fn open_file<S: Site>(
         shape: shape.copy(alloc)?,
         fortran: false,
         data_at: front.len() as u64,
+        width: 8,
+        big: false,
     };
     let file = create_with(alloc, site, name, shape, &front)?;
     Ok(OpenFile { file, head })

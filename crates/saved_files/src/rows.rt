@@ -37,6 +37,7 @@ fn cells_of<'a>(cells: &'a [i64], run: &Run) -> &'a [i64]
 // The runs of each region.
 fn all_runs(alloc: Global, head: &Head, regions: &[Region]) -> Result<Vec<RunList>, AllocError>
     requires parts { (k : ℕ) → k < length regions.now → IsPart (box_of regions.now k) head.now.shape }
+    requires width { head.now.width ≡ 8 }
     requires near { head.now.data_at ≤ 2 ^ 21 }
     ensures count { IfOk result (λ v. length v.items ≡ length regions.now) }
     ensures runs { IfOk result (λ v. (k : ℕ) → k < length regions.now → AreRuns head.now (box_of regions.now k) (runs_at v.items k)) }
@@ -125,6 +126,7 @@ fn write_rows<F: OutFile>(
     requires runs { (k : ℕ) → k < length regions.now → AreRuns head.now (box_of regions.now k) (runs_at all.now k) }
     requires beside { AreSideBySide all.now }
     requires placed { ArePlaced head.now.shape regions.now blocks.now }
+    requires width { head.now.width ≡ 8 }
     requires near { head.now.data_at ≤ 2 ^ 21 }
     requires room { head.now.data_at + 8 * elements head.now.shape ≤ size_of (F.content file.old) }
     ensures named { F.named file.new ≡ F.named file.old }
@@ -150,8 +152,10 @@ fn write_each<F: OutFile>(
     blocks: &[Arc<Block>],
 ) -> Result<(), OpenFault>
     requires placed { ArePlaced head.now.shape regions.now blocks.now }
+    requires width { head.now.width ≡ 8 }
     requires near { head.now.data_at ≤ 2 ^ 21 }
     requires order { head.now.fortran ≡ false }
+    requires little { head.now.big ≡ false }
     requires room { head.now.data_at + 8 * elements head.now.shape ≤ size_of (F.content file.old) }
     ensures named { F.named file.new ≡ F.named file.old }
     ensures written { OnOk result (Turns (WritesAll head.now regions.now blocks.now) (F.content file.old) (F.content file.new)) }
@@ -166,8 +170,8 @@ fn write_each<F: OutFile>(
 }
 
 /// Writes blocks' elements at the places of regions of a file's array. Where the runs of the regions go on one behind the
-/// other in the file, a row of all blocks is written at once. The head is that of the file, whose data is in row-major
-/// order, and each block has the lengths of its region.
+/// other in the file, a row of all blocks is written at once. The head is that of the file, whose data is `<i8` in
+/// row-major order, and each block has the lengths of its region.
 ///
 /// # Errors
 /// `Failed` only where the file's count of faults rose, and `OutOfMemory` where no memory is left: some of the regions' bytes
@@ -180,8 +184,10 @@ pub fn write_regions<F: OutFile>(
     blocks: &[Arc<Block>],
 ) -> Result<(), OpenFault>
     requires placed { ArePlaced head.now.shape regions.now blocks.now }
+    requires width { head.now.width ≡ 8 }
     requires near { head.now.data_at ≤ 2 ^ 21 }
     requires order { head.now.fortran ≡ false }
+    requires little { head.now.big ≡ false }
     requires room { head.now.data_at + 8 * elements head.now.shape ≤ size_of (F.content file.old) }
     ensures named { F.named file.new ≡ F.named file.old }
     ensures written { OnOk result (Turns (WritesAll head.now regions.now blocks.now) (F.content file.old) (F.content file.new)) }

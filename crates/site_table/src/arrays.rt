@@ -1,5 +1,6 @@
 // Heads and regions of arrays' files.
-ghost use Rattle.std.specs.Prelude.{◌≡◌, ◌<◌, length};
+ghost use Rattle.std.specs.Prelude.{◌≡◌, ◌≤◌, ◌<◌, ◌^◌, length};
+ghost use Rattle.npy_codec.specs.Regions.{IsWidth};
 
 use crate::say::say;
 use crate::words::{Trouble, number};
@@ -12,6 +13,12 @@ use std::alloc::Global;
 /// Prints why a file isn't read.
 pub fn say_refusal<R: Print>(rt: &R, error: NpyError) -> Result<(), Trouble> {
     say(rt, Err::<u64, NpyError>(error))
+}
+
+// How many bytes an element has, and their order.
+fn print_type<R: Print>(rt: &R, head: &Head) -> Result<(), Trouble> {
+    let order = if head.big { "big" } else { "little" };
+    Ok(print!(rt; " {} {order}", head.width)?)
 }
 
 /// The head of an array's file.
@@ -27,7 +34,8 @@ pub fn print_head<R: Print, I: Store>(
     match read_head(alloc, store, file) {
         Ok(head) => {
             let shape = head.shape.text(alloc)?;
-            Ok(print!(rt; " {shape} at {}", head.data_at)?)
+            print!(rt; " {shape} at {}", head.data_at)?;
+            print_type(rt, &head)
         }
         Err(error) => say_refusal(rt, error),
     }
@@ -81,10 +89,12 @@ fn print_part<R: Print, I: Store>(
     head: &Head,
     region: &Region,
 ) -> Result<(), Trouble>
-    requires { file < length (I.files store.old) }
+    requires there { file < length (I.files store.old) }
+    requires near { head.now.data_at ≤ 2 ^ 21 }
+    requires width { IsWidth head.now.width }
     ensures { I.files store.new ≡ I.files store.old }
 {
-    if !region.is_part(head.shape.dims()) || head.data_at > 2097152 {
+    if !region.is_part(head.shape.dims()) {
         return Err(Trouble::Ill);
     }
     print_block(rt, read_region(alloc, store, file, head, region))

@@ -4,6 +4,7 @@ ghost use Rattle.io_edge.specs.Content.{Content};
 ghost use Rattle.nd_shape.specs.Region.{IsPart};
 ghost use Rattle.array_expr.specs.Elem.{is_input, next_input};
 ghost use Rattle.array_expr.specs.Node.{shape_at};
+ghost use Rattle.npy_codec.specs.Regions.{IsWidth};
 ghost use Rattle.plain_block.specs.Files.{HaveFiles, head_at};
 
 use crate::arrays::{print_cells, region_of, say_refusal};
@@ -36,6 +37,7 @@ fn has_file(node: &Node, input: usize, files: usize, heads: &[Head]) -> bool
     ensures head { IsTrue result → is_input node.now.op ≡ true → input < length heads.now }
     ensures shape { IsTrue result → is_input node.now.op ≡ true → (head_at heads.now input).shape ≡ node.now.shape }
     ensures near { IsTrue result → is_input node.now.op ≡ true → (head_at heads.now input).data_at ≤ 2 ^ 21 }
+    ensures width { IsTrue result → is_input node.now.op ≡ true → IsWidth (head_at heads.now input).width }
 {
     if !is_input(&node.op) {
         return true;
@@ -44,7 +46,13 @@ fn has_file(node: &Node, input: usize, files: usize, heads: &[Head]) -> bool
         return false;
     }
     let head = &heads[input];
-    head.shape.dims() == node.shape.dims() && head.data_at <= 2097152
+    head.shape.dims() == node.shape.dims() && head.data_at <= 2097152 && is_width(head.width)
+}
+
+fn is_width(width: u32) -> bool
+    ensures { IsTrue result → IsWidth width }
+{
+    matches!(width, 1 | 2 | 4 | 8)
 }
 
 fn is_input(op: &Op) -> bool

@@ -34,7 +34,7 @@ def slice_of(part, length):
 
 
 class Arrays:
-    """The arrays of a job's nodes, each made when it is asked for. `files` has each input's path, order and first byte of data."""
+    """The arrays of a job's nodes, each made when it is asked for. `files` has each input's path, type, order and first byte of data."""
 
     def __init__(self, blocks, files):
         self.job, self.blocks, self.layouts, self.files, self.made = blocks.job, blocks, blocks.layouts, files, {}
@@ -73,8 +73,8 @@ class Arrays:
         return da.map_blocks(function, *arrays, chunks=self.layouts[number], dtype=np.int64, meta=meta(shape), **words)
 
     def input(self, number, node):
-        path, order, data = self.files[number]
-        return self.blockwise(block_work.read_block, number, path=path, shape=node.shape, order=order, data=data)
+        path, dtype, order, data = self.files[number]
+        return self.blockwise(block_work.read_block, number, path=path, shape=node.shape, dtype=dtype, order=order, data=data)
 
     def full(self, number, node):
         return da.full(node.shape, node.fields['value'], dtype=np.int64, chunks=self.layouts[number])

@@ -99,7 +99,7 @@ def read_text(name):
 
 
 def read_heads(job):
-    """Each input's path, order and first byte of data; all are opened before the first is read."""
+    """Each input's path, type, order and first byte of data; all are opened before the first is read."""
     with answered(OSError, READ), contextlib.ExitStack() as stack:
         opened = {node: stack.enter_context(open_regular(name)) for node, name in job.inputs.items()}
         return {node: (os.path.realpath(job.inputs[node]),

@@ -292,7 +292,7 @@ def said_chunks(layer):
 def mapped(name, _, graph, __):
     """`from_array` of a map of a whole file, of which later versions of Dask take a copy in memory."""
     whole, chunks = plain(only(graph.layers[f'original-{name}'].values())), said_chunks(graph.layers[name])
-    if type(whole) is not np.memmap:
+    if type(whole) is not np.memmap or whole.dtype != NUMBER:
         raise Unfit(name)
     yield da.from_array(whole, chunks=chunks), lambda: opened(whole, chunks)
 

@@ -1,4 +1,4 @@
-use Rattle.std.proofs.Common.{◌≡◌, ◌<◌, ◌≤◌, ◌^◌, true, length, Some, slice_get, ap, sym, subst, refl, ◌∙◌, arith, rules}
+use Rattle.std.proofs.Common.{◌≡◌, ◌<◌, ◌≤◌, ◌^◌, true, length, Some, slice_get, ap, sym, subst, refl, ◌∙◌, arith, inr, rules}
 use Rattle.small_facts.proofs.Options.{slice_get_at}
 use Rattle.array_expr.specs.Elem.{is_input, next_input}
 use Rattle.plain_eval.proofs.Arrays.{inputs-next, next-few}
@@ -21,7 +21,8 @@ loop-k-preserved c =
     let head : is_input node.op ≡ true → c.loop-k.input < length heads = search rules in
     let shape : is_input node.op ≡ true → (head_at heads c.loop-k.input).shape ≡ node.shape = search rules in
     let near : is_input node.op ≡ true → (head_at heads c.loop-k.input).data_at ≤ 2 ^ 21 = search rules in
-    let has : is_input node.op ≡ true → HasFile c.args.files heads c.loop-k.input node = λ i. record { file = file i; head = head i; shape = shape i; near = near i } in
+    let width : is_input node.op ≡ true → (head_at heads c.loop-k.input).width ≡ 8 = search rules in
+    let has : is_input node.op ≡ true → HasFile c.args.files heads c.loop-k.input node = λ i. record { file = file i; head = head i; shape = shape i; near = near i; width = inr (inr (inr (width i))) } in
     record {
       input = c.next_input-input.ensures ∙ ap (next_input node.op) c.loop-k.invariant.input ∙ sym (inputs-next nodes k node is);
       few = omega (arith, c.next_input-input.ensures, next-few node.op c.loop-k.input, c.loop-k.invariant.few);

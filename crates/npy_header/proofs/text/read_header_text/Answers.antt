@@ -8,4 +8,4 @@ pub read_bytes-requires-clause-table : goal.read_bytes-requires-clause-table
 read_bytes-requires-clause-table c = ap (λ (r : Reading). r.table) c.in_ok-reader.ensures ∙ c.table.ensures.rows
 
 pub read_bytes-requires-clause-reading : goal.read_bytes-requires-clause-reading
-read_bytes-requires-clause-reading c = reading-first c.in_ok-reader.reader.left c.new-scanner.result (ap (λ (r : Reading). r.left) c.in_ok-reader.ensures) c.new-scanner.ensures
+read_bytes-requires-clause-reading c = reading-first c.args.wide c.in_ok-reader.reader.left c.new-scanner.result (ap (λ (r : Reading). r.left) c.in_ok-reader.ensures) c.new-scanner.ensures

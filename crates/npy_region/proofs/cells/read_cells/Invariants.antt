@@ -10,10 +10,10 @@ invariant-loop-done g l = record {
   within : l.done ≤ l.count;
   same : g.S.Store.files l.store ≡ g.S.Store.files l.fn.store;
   named : g.S.Store.names l.store ≡ g.S.Store.names l.fn.store;
-  only : GivesOnly (IsWithin l.offset (8 * l.count)) (g.S.Store.gave l.fn.store) (g.S.Store.gave l.store);
+  only : GivesOnly (IsWithin l.offset (l.head.width * l.count)) (g.S.Store.gave l.fn.store) (g.S.Store.gave l.store);
   kept : g.S.Store.count l.store ≡ g.S.Store.count l.fn.store;
-  read : ReadTo (file_at (g.S.Store.files l.fn.store) l.file) l.offset l.done l.initial.out.items l.out.items;
-  given : GivesTo (g.S.Store.names l.fn.store) l.file (g.S.Store.gave l.fn.store) (g.S.Store.gave l.store) l.offset l.count l.done l.initial.out.items l.out.items;
+  read : ReadTo (file_at (g.S.Store.files l.fn.store) l.file) l.head l.offset l.done l.initial.out.items l.out.items;
+  given : GivesTo (g.S.Store.names l.fn.store) l.file (g.S.Store.gave l.fn.store) (g.S.Store.gave l.store) l.head l.offset l.count l.done l.initial.out.items l.out.items;
   size : length l.out.items ≡ length l.initial.out.items + l.done;
 }
 

@@ -10,10 +10,10 @@ abbrev pub invariant-loop-k : goal.invariant-loop-k
 invariant-loop-k g l = record {
   same : g.S.Store.files l.store ≡ g.S.Store.files l.fn.store;
   named : g.S.Store.names l.store ≡ g.S.Store.names l.fn.store;
-  only : GivesOnly (IsStoredByte l.fn.walk l.data_at) (g.S.Store.gave l.fn.store) (g.S.Store.gave l.store);
+  only : GivesOnly (IsStoredByte l.fn.walk l.head) (g.S.Store.gave l.fn.store) (g.S.Store.gave l.store);
   kept : g.S.Store.count l.store ≡ g.S.Store.count l.fn.store;
   walk : l.walk ≡ l.fn.walk;
-  cells : StoredTo (file_at (g.S.Store.files l.fn.store) l.file) l.data_at l.fn.walk (l.k * l.row) l.cells.items;
-  given : GivesRows (g.S.Store.names l.fn.store) l.file (g.S.Store.gave l.fn.store) (g.S.Store.gave l.store) l.data_at l.fn.walk (l.k * l.row) l.cells.items;
+  cells : StoredTo (file_at (g.S.Store.files l.fn.store) l.file) l.head l.fn.walk (l.k * l.row) l.cells.items;
+  given : GivesRows (g.S.Store.names l.fn.store) l.file (g.S.Store.gave l.fn.store) (g.S.Store.gave l.store) l.head l.fn.walk (l.k * l.row) l.cells.items;
   size : length l.cells.items ≡ l.k * l.row;
 }

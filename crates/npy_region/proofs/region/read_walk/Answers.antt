@@ -6,6 +6,7 @@ use Rattle.npy_region.specs.Cells.{InRowMajor, IsByteIn}
 use Rattle.io_edge.proofs.GivenLaws.{only_none}
 use Rattle.npy_region.proofs.RegionLemmas.{told_block, told_empty, elements_are, ends_within, length_only, walk_only}
 use Rattle.npy_region.proofs.GivenCells.{block_given, empty_given}
+use Rattle.npy_region.proofs.Widths.{some_bytes}
 use Rattle.npy_region.proofs.region.read_walk.Goals as goal
 
 pub returns-then-has-needs-clause-refused : goal.returns-then-has-needs-clause-refused
@@ -23,8 +24,8 @@ returns-then-count-eq0-clause-cells g c =
 pub read_stored-requires-clause-room : goal.read_stored-requires-clause-room
 read_stored-requires-clause-room g c =
     let size : size_of (file_at (g.S.Store.files c.len.new.self) c.args.file) ≡ c.in_ok-size.size = ap (λ (fs : List Content). size_of (file_at fs c.args.file)) c.len.ensures.same ∙ sym c.in_ok-size.ensures.size in
-    ends_within c.args.walk.now c.bytes_needed-needs.new.walk c.args.head.now.data_at c.bytes_needed-needs.result (size_of (file_at (g.S.Store.files c.len.new.self) c.args.file))
-    c.bytes_needed-needs.ensures.same c.bytes_needed-needs.ensures.last (omega (arith, size, c.if-has-needs.false, c.saturating_sub-has.ensures))
+    ends_within c.args.walk.now c.bytes_needed-needs.new.walk c.args.head.now c.bytes_needed-needs.result (size_of (file_at (g.S.Store.files c.len.new.self) c.args.file))
+    (some_bytes c.args.head.now.width c.requires.width) c.bytes_needed-needs.ensures.same c.bytes_needed-needs.ensures.last (omega (arith, size, c.if-has-needs.false, c.saturating_sub-has.ensures))
 
 pub new-empty-requires : goal.new-empty-requires
 new-empty-requires g c =
@@ -76,6 +77,6 @@ returns-clause-given g c =
     let cells = ap (λ (a : Array). a.cells) c.new-block.ensures in
     let rows = subst (λ (xs : List ℤ). InRowMajor c.args.head.now.fortran c.args.region.now.lengths c.in_ok-stored.stored.items xs) (sym cells)
     (subst (λ (ns : List ℕ). InRowMajor c.args.head.now.fortran ns c.in_ok-stored.stored.items c.in_ok-cells.cells.items) c.in_ok-shape.ensures c.in_ok-cells.ensures.cells) in
-    let ends = ends_within c.args.walk.now c.bytes_needed-needs.new.walk c.args.head.now.data_at c.bytes_needed-needs.result c.in_ok-size.size c.bytes_needed-needs.ensures.same c.bytes_needed-needs.ensures.last (omega (arith, c.if-has-needs.false, c.saturating_sub-has.ensures)) in
+    let ends = ends_within c.args.walk.now c.bytes_needed-needs.new.walk c.args.head.now c.bytes_needed-needs.result c.in_ok-size.size (some_bytes c.args.head.now.width c.requires.width) c.bytes_needed-needs.ensures.same c.bytes_needed-needs.ensures.last (omega (arith, c.if-has-needs.false, c.saturating_sub-has.ensures)) in
     block_given (g.S.Store.names c.args.store.now) c.args.file (g.S.Store.gave c.args.store.now) (g.S.Store.gave c.len.new.self) (g.S.Store.gave c.read_stored.new.store) c.in_ok-size.size c.args.head.now c.args.region.now c.bytes_needed-needs.new.walk c.new-block.result c.in_ok-stored.stored.items c.requires.part
     (c.bytes_needed-needs.ensures.same ∙ c.requires.walk) shape (ap length cells ∙ c.in_ok-cells.ensures.count ∙ ap elements c.in_ok-shape.ensures) rows ends c.in_ok-size.ensures.gives (rw c.len.ensures.named at c.in_ok-stored.ensures.given)

@@ -7,6 +7,7 @@ use Rattle.npy_region.specs.Building.{Splits}
 use Rattle.npy_region.specs.Runs.{AreRuns}
 use Rattle.npy_region.specs.declared.runs.Run.{Run}
 use Rattle.npy_region.proofs.RunLemmas.{first_here, next_here, runs_end, units_some, no_runs, run_length, run_offset, run_place, unit_fits, unit_starts, same_lengths}
+use Rattle.npy_region.proofs.Widths.{few_times, some_bytes}
 use Rattle.npy_region.proofs.runs.push_runs.Goals as goal
 
 pub loop-k-init : goal.loop-k-init
@@ -16,8 +17,8 @@ loop-k-init c =
       walk = c.unit_run-last.ensures.walk ∙ c.requires.walk;
       targets = refl;
       covers = rw c.requires.none (first_here c.args.head.now c.args.region.now c.args.walk.now c.args.targets.now c.args.region.now.lengths c.unit_len-unit.result c.len-count.result c.unit_run-last.result
-          c.requires.walk c.requires.targets refl c.unit_len-unit.ensures c.len-count.ensures.count some c.unit_run-last.ensures.run);
-      length = let e : c.unit_run-last.result.length ≡ 8 * c.unit_len-unit.result = ap (λ (r : Run). r.length) c.unit_run-last.ensures.run in omega (arith, e);
+          (some_bytes c.args.head.now.width c.requires.width) c.requires.walk c.requires.targets refl c.unit_len-unit.ensures c.len-count.ensures.count some c.unit_run-last.ensures.run);
+      length = let e : c.unit_run-last.result.length ≡ c.args.head.now.width * c.unit_len-unit.result = ap (λ (r : Run). r.length) c.unit_run-last.ensures.run in omega (arith, e, few_times c.args.head.now.width c.unit_len-unit.result c.requires.width);
       offset = c.unit_run-last.ensures.offset;
       place = c.unit_run-last.ensures.place;
     }
@@ -31,13 +32,13 @@ loop-k-preserved c =
       walk = c.unit_run-next.ensures.walk ∙ c.loop-k.invariant.walk;
       targets = c.unit_run-next.ensures.targets ∙ c.loop-k.invariant.targets;
       covers = next_here c.args.head.now c.args.region.now c.loop-k.walk c.loop-k.targets c.args.region.now.lengths c.unit_len-unit.result c.loop-k.k c.len-count.result c.loop-k.runs.items c.put_run.new.runs.items c.loop-k.last c.unit_run-next.result c.in_ok-joined.joined
-          c.requires.part c.loop-k.invariant.walk (c.loop-k.invariant.targets ∙ c.unit_run-last.ensures.targets ∙ c.requires.targets) refl splits count c.loop-k-test.true c.unit_run-next.ensures.run c.in_ok-joined.ensures c.loop-k.invariant.covers;
+          (some_bytes c.args.head.now.width c.requires.width) c.requires.part c.loop-k.invariant.walk (c.loop-k.invariant.targets ∙ c.unit_run-last.ensures.targets ∙ c.requires.targets) refl splits count c.loop-k-test.true c.unit_run-next.ensures.run c.in_ok-joined.ensures c.loop-k.invariant.covers;
       length =
-          let e : c.unit_run-next.result.length ≡ 8 * c.unit_len-unit.result = ap (λ (r : Run). r.length) c.unit_run-next.ensures.run in
-          let l = run_length c.loop-k.runs.items c.put_run.new.runs.items c.loop-k.last c.unit_run-next.result c.in_ok-joined.joined (8 * (c.loop-k.k * c.unit_len-unit.result)) c.in_ok-joined.ensures c.loop-k.invariant.length in
-          omega (arith, e, l);
-      offset = run_offset c.loop-k.runs.items c.put_run.new.runs.items c.loop-k.last c.unit_run-next.result c.in_ok-joined.joined (2 ^ 35) c.in_ok-joined.ensures c.loop-k.invariant.offset c.unit_run-next.ensures.offset;
-      place = run_place c.loop-k.runs.items c.put_run.new.runs.items c.loop-k.last c.unit_run-next.result c.in_ok-joined.joined (2 ^ 35) c.in_ok-joined.ensures c.loop-k.invariant.place c.unit_run-next.ensures.place;
+          let e : c.unit_run-next.result.length ≡ c.args.head.now.width * c.unit_len-unit.result = ap (λ (r : Run). r.length) c.unit_run-next.ensures.run in
+          let l = run_length c.args.head.now.width c.loop-k.runs.items c.put_run.new.runs.items c.loop-k.last c.unit_run-next.result c.in_ok-joined.joined (8 * (c.loop-k.k * c.unit_len-unit.result)) c.in_ok-joined.ensures c.loop-k.invariant.length in
+          omega (arith, e, l, few_times c.args.head.now.width c.unit_len-unit.result c.requires.width);
+      offset = run_offset c.args.head.now.width c.loop-k.runs.items c.put_run.new.runs.items c.loop-k.last c.unit_run-next.result c.in_ok-joined.joined (2 ^ 35) c.in_ok-joined.ensures c.loop-k.invariant.offset c.unit_run-next.ensures.offset;
+      place = run_place c.args.head.now.width c.loop-k.runs.items c.put_run.new.runs.items c.loop-k.last c.unit_run-next.result c.in_ok-joined.joined (2 ^ 35) c.in_ok-joined.ensures c.loop-k.invariant.place c.unit_run-next.ensures.place;
     }
 
 pub returns : goal.returns
@@ -74,3 +75,10 @@ unit_run-next-requires-clause-inside c =
 pub unit_run-next-requires-clause-block : goal.unit_run-next-requires-clause-block
 unit_run-next-requires-clause-block c = same_lengths c.args.head.now.fortran c.args.head.now.shape c.args.region.now.lengths c.args.region.now c.loop-k.walk c.loop-k.targets c.loop-k.invariant.walk
     (c.loop-k.invariant.targets ∙ c.unit_run-last.ensures.targets ∙ c.requires.targets) refl
+
+pub put_run-requires-clause-next : goal.put_run-requires-clause-next
+put_run-requires-clause-next c =
+    let e : c.unit_run-next.result.length ≡ c.args.head.now.width * c.unit_len-unit.result = ap (λ (r : Run). r.length) c.unit_run-next.ensures.run in
+    let some : 0 < c.len-count.result = omega arith in
+    let unit = unit_fits c.args.head.now.fortran c.args.walk.now c.unit_len-unit.result c.len-count.result c.unit_len-unit.ensures c.len-count.ensures.count some in
+    omega (arith, e, few_times c.args.head.now.width c.unit_len-unit.result c.requires.width, unit, c.len-count.ensures.limit)

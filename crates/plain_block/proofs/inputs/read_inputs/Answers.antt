@@ -29,6 +29,11 @@ read_input-requires-clause-near g c = λ i.
     let is = slice_get_at c.args.nodes.now c.loop-k.k c.index-nodes-k.result (omega (arith, c.loop-k-test.true, c.requires.inside)) c.index-nodes-k.is in
     rw c.loop-k.invariant.read.number (c.requires.files.near c.loop-k.k c.index-nodes-k.result c.loop-k-test.true is i)
 
+pub read_input-requires-clause-width : goal.read_input-requires-clause-width
+read_input-requires-clause-width g c = λ i.
+    let is = slice_get_at c.args.nodes.now c.loop-k.k c.index-nodes-k.result (omega (arith, c.loop-k-test.true, c.requires.inside)) c.index-nodes-k.is in
+    rw c.loop-k.invariant.read.number (c.requires.files.width c.loop-k.k c.index-nodes-k.result c.loop-k-test.true is i)
+
 pub read_input-requires-clause-part : goal.read_input-requires-clause-part
 read_input-requires-clause-part g c = λ i.
     let is = slice_get_at c.args.nodes.now c.loop-k.k c.index-nodes-k.result (omega (arith, c.loop-k-test.true, c.requires.inside)) c.index-nodes-k.is in

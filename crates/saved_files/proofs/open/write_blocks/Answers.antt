@@ -10,7 +10,7 @@ returns-clause-filled g c =
     let f = saving_of g.F.OutFile.named g.F.OutFile.content g.F.OutFile.count in
     let head = c.args.out.now.head in
     on_ok_weaker c.write_regions.result (λ t. fills_all head c.args.regions.now c.args.blocks.now (f c.args.out.now) (f (record { file = c.write_regions.new.file; head = head }))
-    (record { rows = k.rows; begins = k.begins; room = k.room; dims = refl }) t) c.write_regions.ensures.written
+    (record { rows = k.rows; eight = k.width; begins = k.begins; room = k.room; dims = refl }) t) c.write_regions.ensures.written
 
 pub returns-clause-part : goal.returns-clause-part
 returns-clause-part g c =
@@ -18,10 +18,10 @@ returns-clause-part g c =
     let f = saving_of g.F.OutFile.named g.F.OutFile.content g.F.OutFile.count in
     let head = c.args.out.now.head in
     on_err_weaker c.write_regions.result (λ t. fills_some head c.args.regions.now c.args.blocks.now (f c.args.out.now) (f (record { file = c.write_regions.new.file; head = head }))
-    (record { rows = k.rows; begins = k.begins; room = k.room; dims = refl }) t) c.write_regions.ensures.part
+    (record { rows = k.rows; eight = k.width; begins = k.begins; room = k.room; dims = refl }) t) c.write_regions.ensures.part
 
 pub returns-clause-still : goal.returns-clause-still
 returns-clause-still g c =
     let k = c.requires.kept in
     let e = size_kept_all c.write_regions.result c.args.out.now.head c.args.regions.now c.args.blocks.now (g.F.OutFile.content c.args.out.now.file) (g.F.OutFile.content c.write_regions.new.file) c.write_regions.ensures.written c.write_regions.ensures.part in
-    record { rows = k.rows; begins = k.begins; near = k.near; room = e ∙ k.room }
+    record { rows = k.rows; width = k.width; little = k.little; begins = k.begins; near = k.near; room = e ∙ k.room }
