@@ -1,6 +1,6 @@
 -- What the first bytes of a file, and its header, say of the whole file.
 use Rattle.std.proofs.Common.{◌≡◌, ℕ, suc, ◌+◌, ◌-◌, ◌*◌, ◌≤◌, ◌<◌, ◌^◌, inl, inr, List, [], ◌∷◌, length, take, drop, get_or, refl, ap, sym, ◌∙◌, arith, subst, min, Bool, true, false, cond, nat_eq}
-use Rattle.std.specs.Prelude.{slice_index, map, All, Result, Ok, Err, IfOk, IfErr}
+use Rattle.std.specs.Prelude.{slice_index, map, All, Result, Ok, Err, IfOk, IfErr, OnOk}
 use Rattle.std.proofs.lemmas.List.{length-take, length-take-le, length-drop, get_or-take, take_min, take-take}
 use Rattle.std.proofs.Math.Nat.{min_comm}
 use Rattle.nd_shape.specs.Shape.{elements, IsShape}
@@ -13,7 +13,7 @@ use Rattle.io_edge.specs.Content.{Content, Told, Untold, OnTold, size_of}
 use Rattle.npy_codec.specs.declared.head.Head.{Head}
 use Rattle.npy_codec.specs.declared.error.NpyError.{NpyError}
 use Rattle.npy_codec.specs.declared.error.NpyError.TheVariants.{NotNpy, Version, HeaderLimit, Truncated, HeaderText, Descr, ShapeLimit, ReadFault, OutOfMemory}
-use Rattle.npy_codec.specs.Files.{HasFixed, HasVersion, HasText, HasHead, IsDescr, IsKnown, IsNotMagic, IsOtherVersion, IsShortFixed, IsShortVersion, IsRefusedAs, PassesHeaderLimit, data_bytes, fixed_len, fixed_of, header_limit, is_wide, text_len_at, text_of}
+use Rattle.npy_codec.specs.Files.{CellType, HasFixed, HasVersion, HasText, HasHead, IsDescr, IsKnown, IsNotMagic, IsOtherVersion, IsShortFixed, IsShortVersion, IsRefusedAs, PassesHeaderLimit, data_bytes, fixed_len, fixed_of, header_limit, is_wide, text_len_at, text_of}
 use Rattle.npy_codec.specs.Regions.{IsWidth}
 use Rattle.npy_codec.specs.declared.read.Front.{Front}
 use Rattle.npy_codec.specs.Fronts.{HasFront, DeclaresHead, FixedRefusedAs, IsHeadOfFields, FieldsRefusedAs, IsHeadOfText, TextRefusedAs}

@@ -1,6 +1,7 @@
 -- What the pieces that were read of a file's front say of whatever it holds.
-use Rattle.std.proofs.Common.{◌≡◌, ℕ, zero, suc, ◌+◌, ◌-◌, ◌≤◌, ◌<◌, List, [], ◌++◌, length, take, drop, min, sym, ap, subst, ◌∙◌, arith, Bool}
-use Rattle.std.specs.Prelude.{Result, Ok, Err, IfOk, IfErr}
+use Rattle.std.proofs.Common.{◌≡◌, ℕ, zero, suc, ◌+◌, ◌-◌, ◌*◌, ◌≤◌, ◌<◌, List, [], ◌++◌, length, take, drop, min, sym, ap, subst, ◌∙◌, arith, Bool}
+use Rattle.std.specs.Prelude.{Result, Ok, Err, IfOk, IfErr, OnOk}
+use Rattle.nd_shape.specs.Shape.{elements}
 use Rattle.io_edge.specs.Content.{Content, Told, ReadsAll, size_of}
 use Rattle.io_edge.specs.Given.{GivesMore, GivesOf, Piece, with_read}
 use Rattle.io_edge.proofs.GivenLaws.{file_any, file_as, file_both, file_long}

@@ -1,13 +1,13 @@
 -- The file that the writer begins is one that is read as the same array.
 use Rattle.std.proofs.Common.{◌≡◌, ℕ, ℤ, pos, zero, suc, ◌<◌, ◌+◌, ◌-◌, ◌*◌, ◌/◌, ◌%◌, ◌^◌, List, [], ◌∷◌, ◌++◌, length, take, drop, get_or, refl, ap, ap₂, sym, ◌∙◌, arith, subst, append_assoc, length-append, inl}
 use Rattle.std.specs.Prelude.{replicate, false, All, FitsSigned}
-use Rattle.std.specs.Int.{w64, cast_unsigned, cast_signed}
+use Rattle.std.specs.Int.{w64, cast_unsigned, cast_signed, from_le_bytes}
 use Rattle.std.proofs.lemmas.Int.{to_z-of_z}
 use Rattle.std.proofs.lemmas.Nat.{from_le_bytes-to_le_bytes_8}
 use Rattle.std.proofs.Math.Facts.{Fits-of_z}
 use Rattle.std.proofs.lemmas.List.{length-replicate, take-append-le, take_all}
 use Rattle.nd_shape.specs.Shape.{elements, IsShape}
-use Rattle.nd_shape.specs.Index.{place}
+use Rattle.nd_shape.specs.Index.{IsIn, place}
 use Rattle.nd_shape.specs.Region.{moved}
 use Rattle.nd_shape.proofs.Places.{place-below, IsIn-length}
 use Rattle.npy_codec.specs.declared.head.Head.{Head}

@@ -6,7 +6,7 @@ use Rattle.npy_header.specs.Reading.{IsRefused}
 use Rattle.npy_codec.specs.declared.head.Head.{Head}
 use Rattle.npy_codec.specs.declared.error.NpyError.{NpyError}
 use Rattle.npy_codec.specs.declared.error.NpyError.TheVariants.{NotNpy, Version, HeaderLimit, Truncated, HeaderText, Descr, ShapeLimit, ReadFault, OutOfMemory}
-use Rattle.npy_codec.specs.Files.{CellType, Declares, HasFixed, IsDescr, IsNotMagic, IsOtherVersion, IsShortFixed, IsShortVersion, PassesHeaderLimit, fixed_len, header_limit, is_wide, text_len_at}
+use Rattle.npy_codec.specs.Files.{CellType, Declares, HasFixed, HasText, IsDescr, IsNotMagic, IsOtherVersion, IsShortFixed, IsShortVersion, PassesHeaderLimit, fixed_len, header_limit, is_wide, text_len_at}
 
 abbrev pub IsFaultOrMemory : NpyError → Type 0
 IsFaultOrMemory (NotNpy at) = ⊥

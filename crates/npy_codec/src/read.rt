@@ -4,7 +4,7 @@ ghost use Rattle.io_edge.specs.Cause.{Rose};
 ghost use Rattle.io_edge.specs.Content.{size_of, file_at, OnTold};
 ghost use Rattle.io_edge.specs.Given.{GivesMore, GivesOf};
 ghost use Rattle.nd_shape.specs.Shape.{elements};
-ghost use Rattle.npy_codec.specs.Files.{magic, CellType, HasHead, IsDescr, IsNotMagic, IsRefusedAs, data_bytes, fixed_of, header_limit, text_len_of};
+ghost use Rattle.npy_codec.specs.Files.{magic, CellType, HasFixed, HasHead, IsDescr, IsNotMagic, IsRefusedAs, data_bytes, fixed_of, header_limit, text_len_of};
 ghost use Rattle.npy_codec.specs.Fronts.{DeclaresHead, FieldsRefusedAs, FixedRefusedAs, HasFront, IsHeadOfFields, IsHeadOfText, TextRefusedAs};
 ghost use Rattle.npy_codec.specs.Regions.{IsWidth};
 

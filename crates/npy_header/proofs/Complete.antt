@@ -1,11 +1,11 @@
 -- Each header is derived by the rows, with events that leave its fields.
-use Rattle.std.proofs.Common.{◌≡◌, ℕ, ◌+◌, ◌-◌, ◌*◌, Bool, true, false, ◌||◌, cond, nat_eq, List, [], ◌∷◌, ◌++◌, ◌⊎◌, inl, inr, Some, None, refl, ap, sym, subst, ◌∙◌, arith, append_assoc, append-nil, ◌≤◌, nat_le}
+use Rattle.std.proofs.Common.{◌≡◌, ℕ, zero, ◌+◌, ◌-◌, ◌*◌, Bool, true, false, ◌||◌, cond, nat_eq, List, [], ◌∷◌, ◌++◌, ◌⊎◌, inl, inr, Some, None, refl, ap, sym, subst, ◌∙◌, arith, append_assoc, append-nil, ◌≤◌, nat_le}
 use Rattle.std.proofs.lemmas.Bool.{eqb-true, eqb-false, leb-true, leb-false, le-leb}
 use Rattle.grammar.specs.Grammars.{Event, took, did, tokens}
-use Rattle.npy_header.specs.Headers.{Within, Continues, ArePastAscii, InString, ascii, ends, past, Fields, Quote, single, double, quote_byte, AllBytes, AreSpaces, IsDigit, decimal, IsNumber, Entry, descr, fortran, shape, key_text, bool_text, AreAxes, IsValue, IsItem, AreMore, Keys, has, without, EachOnce, with_entry, with_entries, IsHeader}
+use Rattle.npy_header.specs.Headers.{Within, Continues, ArePastAscii, InString, ascii, ends, past, Fields, Quote, single, double, quote_byte, AllBytes, AreSpaces, IsInside, IsDigit, decimal, IsNumber, Entry, descr, fortran, shape, key_text, bool_text, AreAxes, IsValue, IsItem, AreMore, Keys, has, without, EachOnce, with_entry, with_entries, IsHeader}
 use Rattle.npy_header.specs.Kinds.{kind_of}
 use Rattle.npy_header.specs.Scans.{fresh, fields_of, after_byte, after_action, after_events}
-use Rattle.npy_header.specs.Typed.{HPart, start, tail, spaces, descr_value, fortran_value, shape_value, string, tuple, axes, axis, digits, later, items, key, more, HSym, letter, sub, act, quote_kind, letters, descr_rest, fortran_rest, shape_rest, item_rest, on_past, on_part, other_part}
+use Rattle.npy_header.specs.Typed.{HPart, start, tail, spaces, descr_value, fortran_value, shape_value, string, tuple, axes, axis, digits, later, items, key, more, HSym, letter, sub, act, quote_kind, may_stand_in, letters, descr_rest, fortran_rest, shape_rest, item_rest, on_past, on_part, other_part}
 use Rattle.npy_header.proofs.KindLaws.{Past, past-to, kind-quote, digit-kind, inside-kind}
 use Rattle.npy_header.proofs.Meaning.{MeansAs, DerivesPart, derives-on-part, derives-other-part}
 use Rattle.npy_header.proofs.Effects.{Does, does-nothing, does-took, does-append, does-all, does-descr, does-number, text-all, digits-all, pushes, taken_all}

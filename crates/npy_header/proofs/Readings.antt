@@ -21,7 +21,7 @@ use Rattle.npy_header.specs.Typed.{start, parts}
 use Rattle.npy_header.specs.Scans.{Scan, fresh, fields_of, after_byte, after_action, after_events}
 use Rattle.npy_header.specs.Reading.{cap, capped, capped_scan, after_byte_capped, after_actions, IsReading, IsRefused, Says}
 use Rattle.npy_header.proofs.Table.{numbers, header_ll1, header_moves}
-use Rattle.npy_header.proofs.Meaning.{G, means, get-map-back, at-numbers}
+use Rattle.npy_header.proofs.Meaning.{G, means, get-map, get-map-back, at-numbers}
 use Rattle.npy_header.proofs.Effects.{events-append}
 use Rattle.npy_header.proofs.Sound.{closed}
 use Rattle.npy_header.proofs.Meanings.{M}

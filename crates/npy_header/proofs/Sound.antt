@@ -1,5 +1,5 @@
 -- What the rows derive is a header, with the fields that its events leave.
-use Rattle.std.proofs.Common.{◌≡◌, ℕ, ◌<◌, ◌+◌, ◌-◌, ◌*◌, Bool, true, false, ◌||◌, ◌&&◌, cond, nat_eq, List, [], ◌∷◌, ◌++◌, ◌⊎◌, inl, inr, Some, None, refl, ap, sym, subst, ◌∙◌, arith, append_assoc, append-nil, ◌≤◌, ◌≢◌, nat_le}
+use Rattle.std.proofs.Common.{◌≡◌, ℕ, zero, ◌<◌, ◌+◌, ◌-◌, ◌*◌, Bool, true, false, ◌||◌, ◌&&◌, cond, nat_eq, List, [], ◌∷◌, ◌++◌, ◌⊎◌, inl, inr, Some, None, refl, ap, sym, subst, ◌∙◌, arith, append_assoc, append-nil, ◌≤◌, ◌≢◌, nat_le}
 use Rattle.std.specs.Prelude.{Option, slice_get}
 use Rattle.std.proofs.lemmas.Bool.{eqb-true, and_parts, or_cases, leb-true, eqb-false}
 use Rattle.std.proofs.lemmas.Option.{none-some}
@@ -8,7 +8,7 @@ use Rattle.npy_header.specs.Headers.{Within, Continues, ArePastAscii, InString, 
 use Rattle.npy_header.specs.Kinds.{singles, kind_of}
 use Rattle.npy_header.specs.Scans.{Scan, fresh, fields_of, after_byte, after_action}
 use Rattle.npy_header.specs.Typed.{HPart, start, tail, spaces, descr_value, fortran_value, shape_value, string, tuple, axes, axis, digits, later, items, key, more, HSym, letter, sub, act, quote_kind, may_stand_in, letters, descr_rest, fortran_rest, shape_rest, item_rest, if_kind, on_past, on_part, other_part}
-use Rattle.npy_header.proofs.KindLaws.{one-byte, quote-byte, zero-digit, digit-from, kind-inside, past-of}
+use Rattle.npy_header.proofs.KindLaws.{one-byte, quote-byte, zero-digit, digit-from, kind-inside, Past, past-of}
 use Rattle.npy_header.proofs.Meaning.{MeansAs, IsClosed}
 use Rattle.npy_header.proofs.Effects.{Does, does-nothing, does-took, does-append, does-all, does-descr, does-number, DoesText, text-nothing, text-took, DoesDigits, digits-nothing, digits-took, pushes, taken_all}
 use Rattle.npy_header.proofs.Meanings.{same, keys, NumberMeans, AfterOpen, ItemsMean, MoreMeans, M}

@@ -5,7 +5,7 @@ use Rattle.std.proofs.lemmas.Nat.{div-mul-add, div-add-mod', div_below, mod_belo
 use Rattle.std.proofs.lemmas.List.{drop-drop, get_or_append_left, get_or-append_right}
 use Rattle.std.proofs.Math.Arith.{digits_lt}
 use Rattle.std.proofs.Math.Nat.{mul-le-mul_left, mul-le-mul_right}
-use Rattle.io_edge.specs.Content.{Content, Told, Untold, OnTold}
+use Rattle.io_edge.specs.Content.{Content, Told, Untold, OnTold, size_of}
 use Rattle.nd_shape.specs.Shape.{elements}
 use Rattle.nd_shape.specs.Index.{place}
 use Rattle.nd_shape.specs.Block.{Array}
