@@ -45,6 +45,9 @@ fn put_simulation(out: &mut Answer, sim: &SimWords) {
     let settings = sim.settings;
     put_run(out, settings.number, settings.workers, settings.threads);
     out.put_item(", saturation ", &settings.saturation);
+    if let Some(most) = settings.allowed {
+        out.put_item(", allowed ", &most);
+    }
     for item in sim.script.as_slice() {
         put_item(out, item);
     }

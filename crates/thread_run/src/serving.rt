@@ -17,6 +17,7 @@ ghost use Rattle.node_runner.specs.declared.ends.RunStatus.TheVariants as status
 ghost use Rattle.task_graph.specs.Graphs.{shape_of};
 ghost use Rattle.thread_run.specs.Counts.{feeds as feeds_of};
 ghost use Rattle.thread_run.specs.Feeding.{IsFixed};
+ghost use Rattle.thread_run.specs.Losses.{losses_by, losses_in};
 ghost use Rattle.thread_run.specs.Planning.{IsRunPlan};
 ghost use Rattle.thread_run.specs.Ends.{left_as};
 ghost use Rattle.thread_run.specs.Reports.{IsOutgrown, IsOutgrownBy, IsPlanOf, IsServedRun, IsToldBy, IsToldOfRun, label};
@@ -64,7 +65,8 @@ fn unsaved(fault: OpenFault) -> Ended
     }
 }
 
-// Whether all was given and written, or how the run is stopped: a zero divisor or a failed feed comes before what couldn't be written.
+// Whether all was given and written, or how the run is stopped: a zero divisor, a killed key or a failed feed comes before what couldn't
+// be written.
 #[tactic(auto, using(crate::proofs::Serves::stops_unsaved, crate::proofs::Serves::stops_zero))]
 fn all_done(
     alloc: Global,
@@ -91,6 +93,12 @@ fn all_done(
             Ok(()) => Err(ThreadEnded::Events),
             Err(fault) => Err(ThreadEnded::Ran(unsaved(fault))),
         },
+<<<<<<< ours
+=======
+        Err(RunStatus::Zero { key }) => Err(ended_at(alloc, job, wanted, key)),
+        Err(RunStatus::Killed { key, losses }) => Err(Ended::Killed { key, losses }),
+        Err(RunStatus::Read) => Err(Ended::ReadFault),
+>>>>>>> theirs
         Err(RunStatus::Memory) => match written {
             Ok(()) => Err(ThreadEnded::Ran(Ended::OutOfMemory)),
             Err(fault) => Err(ThreadEnded::Ran(unsaved(fault))),
@@ -146,14 +154,19 @@ where
     requires runs { IsRunnable (plan_of job.now) }
     requires wanted { IsWantedOf (plan_of job.now) wanted.now }
     requires picked { P.picked ≡ Some graph.now }
+    requires allowed { P.allowed ≡ plan.now.allowed }
     requires tasks { graph.now.job.tasks ≡ tasks_of (plan_of job.now) }
     requires plan { IsRunPlan plan.now }
     ensures files { ServesFiles (plan_of job.now) 0 (S.view site.old) (S.view site.new) }
     ensures served { OnOk result.0 (ServesAll (plan_of job.now) E.named (IsTrue V.told) (S.view site.old).files (S.view site.new).files) }
     ensures histories { IfOk result.0 (IsServedRun ⟦<RunLabel<Graphed<S::In, E, V>, Named<V, P>> as Label>⟧.facts
         (graph_of graph.now.job) plan.now wanted.now.all) }
+<<<<<<< ours
     ensures outgrown { result.0 ≡ Err Events → IsOutgrown ⟦<RunLabel<Graphed<S::In, E, V>, Named<V, P>> as Label>⟧.facts (graph_of graph.now.job) plan.now }
     ensures stopped { IfErr result.0 (λ end. ServesPart (plan_of job.now) E.named (IsTrue V.told)
+=======
+    ensures stopped { IfErr result.0 (ServesPart (plan_of job.now) (losses_in plan.now) E.named (IsTrue V.told)
+>>>>>>> theirs
         (HasShort (map (λ v. vec_len v) feeds.items) plan.now.threads ⊎ Rose (S.view site.old).read_faults (S.view site.new).read_faults)
         (Rose (S.view site.old).write_faults (S.view site.new).write_faults)
         (S.view site.old).files (S.view site.new).files (left_as end)) }
@@ -230,6 +243,7 @@ where
     requires runs { IsRunnable (plan_of job.now) }
     requires wanted { IsWantedOf (plan_of job.now) wanted.now }
     requires picked { P.picked ≡ Some graph.now }
+    requires allowed { P.allowed ≡ plan.now.allowed }
     requires tasks { graph.now.job.tasks ≡ tasks_of (plan_of job.now) }
     requires fixed { IsFixed E.named V.told (plan_of job.now).inputs graph.now.job.heads (S.view site.old).files }
     requires plan { IsRunPlan plan.now }
@@ -237,8 +251,12 @@ where
     ensures served { OnOk result.0 (ServesAll (plan_of job.now) E.named (IsTrue V.told) (S.view site.old).files (S.view site.new).files) }
     ensures histories { IfOk result.0 (IsServedRun ⟦<RunLabel<Graphed<S::In, E, V>, Named<V, P>> as Label>⟧.facts
         (graph_of graph.now.job) plan.now wanted.now.all) }
+<<<<<<< ours
     ensures outgrown { result.0 ≡ Err Events → IsOutgrown ⟦<RunLabel<Graphed<S::In, E, V>, Named<V, P>> as Label>⟧.facts (graph_of graph.now.job) plan.now }
     ensures stopped { IfErr result.0 (λ end. ServesPart (plan_of job.now) E.named (IsTrue V.told)
+=======
+    ensures stopped { IfErr result.0 (ServesPart (plan_of job.now) (losses_in plan.now) E.named (IsTrue V.told)
+>>>>>>> theirs
         (Rose (S.view site.old).read_faults (S.view site.new).read_faults) (Rose (S.view site.old).write_faults (S.view site.new).write_faults)
         (S.view site.old).files (S.view site.new).files (left_as end)) }
 {
@@ -274,6 +292,7 @@ where
     requires runs { IsRunnable (plan_of job.now) }
     requires wanted { IsWantedOf (plan_of job.now) wanted.now }
     requires picked { P.picked ≡ Some graph.now }
+    requires allowed { P.allowed ≡ plan.now.allowed }
     requires tasks { graph.now.job.tasks ≡ tasks_of (plan_of job.now) }
     requires fixed { IsFixed E.named V.told (plan_of job.now).inputs graph.now.job.heads (S.view site.old).files }
     requires plan { IsRunPlan plan.now }
@@ -281,8 +300,12 @@ where
     ensures served { OnOk result (ServesAll (plan_of job.now) E.named (IsTrue V.told) (S.view site.old).files (S.view site.new).files) }
     ensures histories { IfOk result (IsServedRun ⟦<RunLabel<Graphed<S::In, E, V>, Named<V, P>> as Label>⟧.facts
         (graph_of graph.now.job) plan.now wanted.now.all) }
+<<<<<<< ours
     ensures outgrown { result ≡ Err Events → IsOutgrown ⟦<RunLabel<Graphed<S::In, E, V>, Named<V, P>> as Label>⟧.facts (graph_of graph.now.job) plan.now }
     ensures stopped { IfErr result (λ end. ServesPart (plan_of job.now) E.named (IsTrue V.told)
+=======
+    ensures stopped { IfErr result (ServesPart (plan_of job.now) (losses_in plan.now) E.named (IsTrue V.told)
+>>>>>>> theirs
         (Rose (S.view site.old).read_faults (S.view site.new).read_faults) (Rose (S.view site.old).write_faults (S.view site.new).write_faults)
         (S.view site.old).files (S.view site.new).files (left_as end)) }
 {
@@ -321,24 +344,36 @@ where
     requires runs { IsRunnable (plan_of job.now) }
     requires wanted { IsWantedOf (plan_of job.now) wanted.now }
     requires picked { P.picked ≡ Some graph.now }
+    requires allowed { P.allowed ≡ plan.now.allowed }
     requires tasks { graph.now.job.tasks ≡ tasks_of (plan_of job.now) }
     requires fixed { IsFixed E.named V.told (plan_of job.now).inputs graph.now.job.heads (S.view site.old).files }
     requires plan { IsRunPlan plan.now }
     ensures files { ServesFiles (plan_of job.now) (numbers_of plan.now * plan.now.threads) (S.view site.old) (S.view site.new) }
     ensures served { OnOk result (ServesAll (plan_of job.now) E.named (IsTrue V.told) (S.view site.old).files (S.view site.new).files) }
     ensures asked { IfOk result (λ told. is_some told.report ≡ asked) }
-    ensures told { IfOk result (IsToldOfRun (label V.told E.named (tasks_of (plan_of job.now)))
+    ensures told { IfOk result (IsToldOfRun (label V.told plan.now.allowed E.named (tasks_of (plan_of job.now)))
         (shape_of (tasks_of (plan_of job.now))) plan.now (wanted_of (plan_of job.now))) }
+<<<<<<< ours
     ensures outgrown { result ≡ Err Events → IsOutgrown (label V.told E.named (tasks_of (plan_of job.now)))
         (shape_of (tasks_of (plan_of job.now))) plan.now }
     ensures stopped { IfErr result (λ end. ServesPart (plan_of job.now) E.named (IsTrue V.told)
+=======
+    ensures stopped { IfErr result (ServesPart (plan_of job.now) (losses_in plan.now) E.named (IsTrue V.told)
+>>>>>>> theirs
         (Rose (S.view site.old).read_faults (S.view site.new).read_faults) (Rose (S.view site.old).write_faults (S.view site.new).write_faults)
         (S.view site.old).files (S.view site.new).files (left_as end)) }
 {
     let histories = run_stored::<R, S, G, E, V, P>(
         rt, alloc, site, gate, job, graph, wanted, plan, memory,
     )?;
-    let told = told(alloc, graph.shape(), plan.saturation, histories, asked)?;
+    let told = told(
+        alloc,
+        graph.shape(),
+        plan.saturation,
+        plan.allowed,
+        histories,
+        asked,
+    )?;
     Ok(told)
 }
 
@@ -346,7 +381,11 @@ where
 /// words ask for it.
 ///
 /// # Errors
+<<<<<<< ours
 /// How the run ends: a zero divisor that the client was told of, a fault, a core that has taken all events that it takes, or want of memory.
+=======
+/// How the run ends: a zero divisor or a killed key that the client was told of, a fault, or want of memory.
+>>>>>>> theirs
 #[tactic(auto, using(crate::proofs::Serves::part_none))]
 pub fn serve<R, S, G, E, V>(
     rt: &R,
@@ -376,11 +415,15 @@ where
     ensures given { IsFitGiven (plan_of job.now) (S.view site.old) (S.view site.new) }
     ensures served { OnOk result (ServesAll (plan_of job.now) E.named (IsTrue V.told) (S.view site.old).files (S.view site.new).files) }
     ensures asked { IfOk result (λ told. is_some told.report ≡ words.report) }
-    ensures told { IfOk result (IsToldBy (label V.told E.named (tasks_of (plan_of job.now)))
+    ensures told { IfOk result (IsToldBy (label V.told words.settings.allowed E.named (tasks_of (plan_of job.now)))
         (shape_of (tasks_of (plan_of job.now))) words (wanted_of (plan_of job.now))) }
+<<<<<<< ours
     ensures outgrown { result ≡ Err Events → IsOutgrownBy (label V.told E.named (tasks_of (plan_of job.now)))
         (shape_of (tasks_of (plan_of job.now))) words }
     ensures stopped { IfErr result (λ end. ServesPart (plan_of job.now) E.named (IsTrue V.told)
+=======
+    ensures stopped { IfErr result (ServesPart (plan_of job.now) (losses_by words) E.named (IsTrue V.told)
+>>>>>>> theirs
         (Rose (S.view site.old).read_faults (S.view site.new).read_faults) (Rose (S.view site.old).write_faults (S.view site.new).write_faults)
         (S.view site.old).files (S.view site.new).files (left_as end)) }
 {
@@ -430,6 +473,7 @@ fn plan_in(words: RunWords) -> RunPlan
         workers: settings.workers,
         threads: settings.threads,
         saturation: settings.saturation,
+        allowed: settings.allowed,
         script,
         capacity: CAPACITY,
     }
