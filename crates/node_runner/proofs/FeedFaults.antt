@@ -7,42 +7,29 @@ use Rattle.cluster_rules.specs.Sched.{Facts}
 use Rattle.node_states.specs.declared.why.Why.{Why}
 use Rattle.node_runner.specs.declared.plan.RunPlan.{RunPlan}
 use Rattle.node_runner.specs.declared.ends.RunStatus.{RunStatus}
-<<<<<<< ours
-use Rattle.node_runner.specs.declared.ends.RunStatus.TheVariants.{Zero, Read, Events, Memory}
-use Rattle.node_runner.specs.declared.ends.Histories.{Histories}
-use Rattle.node_runner.specs.Runs.{AreWhole, LastFacts, HasCause, HasGot, IfStatus, IsGivenUp, HasRun, HasNotRun, HowItEnded}
-
--- a cause without a feed that failed is one with it
-cause_more : {A B : Type 0} (l : LabelFacts B) (wanted : List ℕ) (f : Facts) (left : List (Option Why)) (Failed Cut : Type 0) (r : Result A RunStatus)
-    → IfStatus (HasCause l wanted f left ⊥ Cut) r → IfStatus (HasCause l wanted f left Failed Cut) r
-cause_more l wanted f left Failed Cut (Ok x) h = tt
-cause_more l wanted f left Failed Cut (Err (Zero key)) h = h
-cause_more l wanted f left Failed Cut (Err Read) h = absurd h.1
-cause_more l wanted f left Failed Cut (Err Events) h = h
-cause_more l wanted f left Failed Cut (Err Memory) h = tt
-=======
-use Rattle.node_runner.specs.declared.ends.RunStatus.TheVariants.{Zero, Killed, Read, Memory}
+use Rattle.node_runner.specs.declared.ends.RunStatus.TheVariants.{Zero, Killed, Read, Events, Memory}
 use Rattle.node_runner.specs.declared.ends.Doubt.{Doubt}
 use Rattle.node_runner.specs.declared.ends.Histories.{Histories}
-use Rattle.node_runner.specs.Runs.{LastFacts, HasCause, HasGot, IfStatus, IsDecided, IsDoubt, HasRun, HasNotRun, HowItEnded}
+use Rattle.node_runner.specs.Runs.{AreWhole, LastFacts, HasCause, HasGot, IfStatus, IsDecided, IsDoubt, HasRun, HasNotRun, HowItEnded}
 
 -- a run that ended where this may have failed, ended where more may have
-cause_of_more : {A B : Type 0} (l : LabelFacts B) (p : RunPlan) (wanted : List ℕ) (f : Facts) (left : List (Option Why)) (F G : Type 0) (r : Result A RunStatus) → (F → G)
-    → IfStatus (HasCause l p wanted f left F) r → IfStatus (HasCause l p wanted f left G) r
-cause_of_more l p wanted f left F G (Ok x) more h = tt
-cause_of_more l p wanted f left F G (Err (Zero key)) more h = h
-cause_of_more l p wanted f left F G (Err (Killed key losses)) more h = (h.0, h.1, ⊎_elim (λ often. inl often) (λ x. inr (more x)) h.2)
-cause_of_more l p wanted f left F G (Err Read) more h = (h.0, more h.1)
-cause_of_more l p wanted f left F G (Err Memory) more h = tt
+cause_of_more : {A B : Type 0} (l : LabelFacts B) (p : RunPlan) (wanted : List ℕ) (f : Facts) (left : List (Option Why)) (F G Cut : Type 0) (r : Result A RunStatus) → (F → G)
+    → IfStatus (HasCause l p wanted f left F Cut) r → IfStatus (HasCause l p wanted f left G Cut) r
+cause_of_more l p wanted f left F G Cut (Ok x) more h = tt
+cause_of_more l p wanted f left F G Cut (Err (Zero key)) more h = h
+cause_of_more l p wanted f left F G Cut (Err (Killed key losses)) more h = (h.0, h.1, ⊎_elim (λ often. inl often) (λ x. inr (more x)) h.2)
+cause_of_more l p wanted f left F G Cut (Err Read) more h = (h.0, more h.1)
+cause_of_more l p wanted f left F G Cut (Err Events) more h = h
+cause_of_more l p wanted f left F G Cut (Err Memory) more h = tt
 
 -- what was in doubt has its cause, as it is decided
-decided_cause : {B : Type 0} (l : LabelFacts B) (p : RunPlan) (wanted : List ℕ) (f : Facts) (left : List (Option Why)) (Failed : Type 0) (d : Doubt) (t : RunStatus)
-    → IsDoubt l p wanted f left d → IsDecided p Failed d t → HasCause l p wanted f left Failed t
-decided_cause l p wanted f left Failed d (Zero key) in_doubt is = absurd is
-decided_cause l p wanted f left Failed d (Killed key losses) in_doubt is = let k = subst (IsDoubt l p wanted f left) is.0 in_doubt in (k.0, k.1, is.1)
-decided_cause l p wanted f left Failed d Read in_doubt is = (subst (IsDoubt l p wanted f left) is.0 in_doubt, is.1)
-decided_cause l p wanted f left Failed d Memory in_doubt is = tt
->>>>>>> theirs
+decided_cause : {B : Type 0} (l : LabelFacts B) (p : RunPlan) (wanted : List ℕ) (f : Facts) (left : List (Option Why)) (Failed Cut : Type 0) (d : Doubt) (t : RunStatus)
+    → IsDoubt l p wanted f left d → IsDecided p Failed d t → HasCause l p wanted f left Failed Cut t
+decided_cause l p wanted f left Failed Cut d (Zero key) in_doubt is = absurd is
+decided_cause l p wanted f left Failed Cut d (Killed key losses) in_doubt is = let k = subst (IsDoubt l p wanted f left) is.0 in_doubt in (k.0, k.1, is.1)
+decided_cause l p wanted f left Failed Cut d Read in_doubt is = (subst (IsDoubt l p wanted f left) is.0 in_doubt, is.1)
+decided_cause l p wanted f left Failed Cut d Events in_doubt is = absurd is
+decided_cause l p wanted f left Failed Cut d Memory in_doubt is = tt
 
 -- what holds of what a run gives goes on to hold
 pub still_ok : {A : Type 0} (P : A → Type 0) (r s : Result A RunStatus) (X : RunStatus → Type 0) → (s ≡ r) ⊎ ((t : RunStatus) × (s ≡ Err t) × X t) → IfOk r P → IfOk s P
@@ -62,13 +49,8 @@ run_ended l graph p wanted Failed r s left (Some h) d run none same changed = (
     left_are = run.1.left_are;
     got = still_ok (λ x. HasGot run.0.client h.client.entries (is_some h.client.cut) wanted) r s (IsDecided p Failed d) changed run.1.got;
     cause = ⊎_elim
-<<<<<<< ours
-        (λ e. subst (IfStatus (HasCause l wanted run.0.scheduler left Failed (AreWhole h → ⊥))) (sym e) (cause_more l wanted run.0.scheduler left Failed (AreWhole h → ⊥) r run.1.cause))
-        (λ read. subst (IfStatus (HasCause l wanted run.0.scheduler left Failed (AreWhole h → ⊥))) (sym read.0) (run.2 read.1, read.2))
-=======
-        (λ e. subst (IfStatus (HasCause l p wanted run.0.scheduler left Failed)) (sym e) (cause_of_more l p wanted run.0.scheduler left ⊥ Failed r (λ x. absurd x) run.1.cause))
-        (λ t. subst (IfStatus (HasCause l p wanted run.0.scheduler left Failed)) (sym t.1) (decided_cause l p wanted run.0.scheduler left Failed d t.0 run.2 t.2))
->>>>>>> theirs
+        (λ e. subst (IfStatus (HasCause l p wanted run.0.scheduler left Failed (AreWhole h → ⊥))) (sym e) (cause_of_more l p wanted run.0.scheduler left ⊥ Failed (AreWhole h → ⊥) r (λ x. absurd x) run.1.cause))
+        (λ t. subst (IfStatus (HasCause l p wanted run.0.scheduler left Failed (AreWhole h → ⊥))) (sym t.1) (decided_cause l p wanted run.0.scheduler left Failed (AreWhole h → ⊥) d t.0 run.2 t.2))
         changed;
   },
 )
@@ -77,18 +59,6 @@ run_ended l graph p wanted Failed r s left (Some h) d run none same changed = (
 pub none_ok : {A : Type 0} (P : A → Type 0) (r : Result A RunStatus) (s : RunStatus) → r ≡ Err s → IfOk r P
 none_ok P r s is = subst (λ z. IfOk z P) (sym is) tt
 
-<<<<<<< ours
--- a run that ended where this may have failed, ended where more may have
-cause_of_more : {A B : Type 0} (l : LabelFacts B) (wanted : List ℕ) (f : Facts) (left : List (Option Why)) (F G Cut : Type 0) (r : Result A RunStatus) → (F → G)
-    → IfStatus (HasCause l wanted f left F Cut) r → IfStatus (HasCause l wanted f left G Cut) r
-cause_of_more l wanted f left F G Cut (Ok x) more h = tt
-cause_of_more l wanted f left F G Cut (Err (Zero key)) more h = h
-cause_of_more l wanted f left F G Cut (Err Read) more h = (h.0, more h.1)
-cause_of_more l wanted f left F G Cut (Err Events) more h = h
-cause_of_more l wanted f left F G Cut (Err Memory) more h = tt
-
-=======
->>>>>>> theirs
 pub ended_more : {A B : Type 0} (l : LabelFacts B) (graph : Shape) (p : RunPlan) (wanted : List ℕ) (F G : Type 0) (r : Result A RunStatus) (left : List (Option Why))
     (o : Option Histories) → (F → G) → HowItEnded l graph p wanted F r left o → HowItEnded l graph p wanted G r left o
 ended_more l graph p wanted F G r left None more h = h
@@ -98,11 +68,7 @@ ended_more l graph p wanted F G r left (Some x) more h = (
     histories = h.1.histories;
     left_are = h.1.left_are;
     got = h.1.got;
-<<<<<<< ours
-    cause = cause_of_more l wanted h.0.scheduler left F G (AreWhole x → ⊥) r more h.1.cause;
-=======
-    cause = cause_of_more l p wanted h.0.scheduler left F G r more h.1.cause;
->>>>>>> theirs
+    cause = cause_of_more l p wanted h.0.scheduler left F G (AreWhole x → ⊥) r more h.1.cause;
   },
 )
 

@@ -1,9 +1,5 @@
 -- How a run by threads ended.
-<<<<<<< ours
-use Rattle.std.specs.Prelude.{◌≡◌, ◌≢◌, ℕ, ◌+◌, ◌^◌, ◌<◌, ◌≤◌, ◌⊎◌, Bool, true, false, List, [], ◌∷◌, ◌++◌, length, map, sum, slice_index_or, Option, Some, None, All, IfOk, IfSome, is_some, Result, Ok, Err, Contains}
-=======
-use Rattle.std.specs.Prelude.{◌≡◌, ◌≢◌, ℕ, ◌+◌, ◌<◌, ◌≤◌, ◌⊎◌, Bool, true, false, List, [], map, sum, slice_index_or, Option, Some, None, All, IfOk, IfSome, is_some, Result, Ok, Err, Contains, IsTrue}
->>>>>>> theirs
+use Rattle.std.specs.Prelude.{◌≡◌, ◌≢◌, ℕ, ◌+◌, ◌^◌, ◌<◌, ◌≤◌, ◌⊎◌, Bool, true, false, List, [], ◌∷◌, ◌++◌, length, map, sum, slice_index_or, Option, Some, None, All, IfOk, IfSome, is_some, Result, Ok, Err, Contains, IsTrue}
 use Rattle.cluster_msgs.specs.Shape.{Shape}
 use Rattle.cluster_msgs.specs.Labels.{LabelFacts, BlameFits, ErrorFits}
 use Rattle.cluster_msgs.specs.Scripts.{removes_of}
@@ -190,21 +186,12 @@ pub record IsGivenUp (f : Facts) (left : List (Option Why)) : Type 0 where
 abbrev pub HasFeedFault : {F : Type 0} → (F → ℕ) → ℕ → List ℕ → List F → Type 0
 HasFeedFault {F} faults threads given back = ((n : ℕ) × Contains given n × (n < threads)) ⊎ ((f : F) × Contains back f × (0 < faults f))
 
-<<<<<<< ours
 -- none of the nodes left an entry out
 pub record AreWhole (h : Histories) : Type 0 where
   pub scheduler : h.scheduler.cut ≡ None
   pub workers : All (λ (x : History). x.cut ≡ None) h.workers.items
   pub client : h.client.cut ≡ None
 
--- the cause of there being no blocks: a wanted key failed and this one is to blame, no worker was left and a feed had failed, or a core had taken 2^40
--- events, and so the history of its node has passed its limit. Want of memory is free
-abbrev pub HasCause : {B : Type 0} → LabelFacts B → List ℕ → Facts → List (Option Why) → Type 0 → Type 0 → RunStatus → Type 0
-HasCause l wanted f left Failed Cut (status.Zero blame) = (k : ℕ) × Contains wanted k × BlameFits l k blame
-HasCause l wanted f left Failed Cut status.Read = IsGivenUp f left × Failed
-HasCause l wanted f left Failed Cut status.Events = Cut
-HasCause l wanted f left Failed Cut status.Memory = Unit {0}
-=======
 -- a wanted key failed, and this key is to blame
 abbrev pub HasBlame : {B : Type 0} → LabelFacts B → List ℕ → ℕ → Type 0
 HasBlame l wanted blame = (k : ℕ) × Contains wanted k × BlameFits l k blame
@@ -250,16 +237,18 @@ abbrev pub IsDecided : RunPlan → Type 0 → Doubt → RunStatus → Type 0
 IsDecided p Failed d (status.Zero blame) = ⊥
 IsDecided p Failed d (status.Killed blame losses) = (d ≡ doubt.Killed blame losses) × ((losses ≤ removals p) ⊎ Failed)
 IsDecided p Failed d status.Read = (d ≡ doubt.GivenUp) × Failed
+IsDecided p Failed d status.Events = ⊥
 IsDecided p Failed d status.Memory = Unit {0}
 
--- the cause of there being no blocks: a wanted key failed and this one is to blame, or no worker was left and a feed had failed. A key is killed only
--- where no worker left for want of memory, and the script takes workers away as often, or a feed had failed. Want of memory is free
-abbrev pub HasCause : {B : Type 0} → LabelFacts B → RunPlan → List ℕ → Facts → List (Option Why) → Type 0 → RunStatus → Type 0
-HasCause l p wanted f left Failed (status.Zero blame) = IsAtFault l wanted blame
-HasCause l p wanted f left Failed (status.Killed blame losses) = IsKilled l p wanted f blame losses × NoneForMemory left × ((losses ≤ removals p) ⊎ Failed)
-HasCause l p wanted f left Failed status.Read = IsGivenUp f left × Failed
-HasCause l p wanted f left Failed status.Memory = Unit {0}
->>>>>>> theirs
+-- the cause of there being no blocks: a wanted key failed and this one is to blame, no worker was left and a feed had failed, or a core had taken 2^40
+-- events, and so the history of its node has passed its limit. A key is killed only where no worker left for want of memory, and the script takes workers
+-- away as often, or a feed had failed. Want of memory is free
+abbrev pub HasCause : {B : Type 0} → LabelFacts B → RunPlan → List ℕ → Facts → List (Option Why) → Type 0 → Type 0 → RunStatus → Type 0
+HasCause l p wanted f left Failed Cut (status.Zero blame) = IsAtFault l wanted blame
+HasCause l p wanted f left Failed Cut (status.Killed blame losses) = IsKilled l p wanted f blame losses × NoneForMemory left × ((losses ≤ removals p) ⊎ Failed)
+HasCause l p wanted f left Failed Cut status.Read = IsGivenUp f left × Failed
+HasCause l p wanted f left Failed Cut status.Events = Cut
+HasCause l p wanted f left Failed Cut status.Memory = Unit {0}
 
 abbrev pub IfStatus : {A : Type 0} → (RunStatus → Type 0) → Result A RunStatus → Type 0
 IfStatus P (Ok x) = Unit {0}
@@ -273,25 +262,17 @@ IsGot c entries cut k = (done c k ≡ Some Got) ⊎ WasReleased k entries cut
 abbrev pub HasGot : ClientFacts → List Entry → Bool → List ℕ → Type 0
 HasGot c entries cut keys = All (IsGot c entries cut) keys
 
-<<<<<<< ours
 -- the core of the scheduler, of one of these workers or of the client has taken 2^40 events
 pub record IsSpent {W C D : Type 0} (b : BookState SchedState) (book : W → BookState C) (taken : C → ℕ) (ws : List W) (d : BookState D) (asked : D → ℕ) : Type 0 where
   pub is : (2 ^ 40 ≤ b.core.core.taken) ⊎ (((w : W) × Contains ws w × (2 ^ 40 ≤ taken (book w).core)) ⊎ (2 ^ 40 ≤ asked d.core))
 
--- the key to blame was found; or there was none, and a core was found spent, or memory is wanted
-abbrev pub IsBlamed : Option ℕ → Bool → RunStatus → Type 0
-IsBlamed blame spent (status.Zero key) = blame ≡ Some key
-IsBlamed blame spent status.Read = ⊥
-IsBlamed blame spent status.Events = spent ≡ true
-IsBlamed blame spent status.Memory = Unit {0}
-=======
--- the key at fault was found; or there was none, or it is in doubt
-abbrev pub IsBlamed : Option Failure → RunStatus → Type 0
-IsBlamed failed (status.Zero key) = failed ≡ Some (failure.Zero key)
-IsBlamed failed (status.Killed key losses) = ⊥
-IsBlamed failed status.Read = ⊥
-IsBlamed failed status.Memory = Unit {0}
->>>>>>> theirs
+-- the key at fault was found; or there was none, or it is in doubt, and a core was found spent, or memory is wanted
+abbrev pub IsBlamed : Option Failure → Bool → RunStatus → Type 0
+IsBlamed failed spent (status.Zero key) = failed ≡ Some (failure.Zero key)
+IsBlamed failed spent (status.Killed key losses) = ⊥
+IsBlamed failed spent status.Read = ⊥
+IsBlamed failed spent status.Events = spent ≡ true
+IsBlamed failed spent status.Memory = Unit {0}
 
 -- how a run ended, of whose nodes this was known at the end: where it gives blocks, the client of these histories got each key that is wanted
 pub record HasRun {B A : Type 0} (l : LabelFacts B) (graph : Shape) (p : RunPlan) (wanted : List ℕ) (Failed : Type 0) (last : LastFacts)
@@ -299,11 +280,7 @@ pub record HasRun {B A : Type 0} (l : LabelFacts B) (graph : Shape) (p : RunPlan
   pub histories : AreHistories l graph p last h
   pub left_are : AreLeft p last h.workers.items left
   pub got : IfOk result (λ blocks. HasGot last.client h.client.entries (is_some h.client.cut) wanted)
-<<<<<<< ours
-  pub cause : IfStatus (HasCause l wanted last.scheduler left Failed (AreWhole h → ⊥)) result
-=======
-  pub cause : IfStatus (HasCause l p wanted last.scheduler left Failed) result
->>>>>>> theirs
+  pub cause : IfStatus (HasCause l p wanted last.scheduler left Failed (AreWhole h → ⊥)) result
 
 -- a run that couldn't be started, or not be told of, for want of memory
 pub record HasNotRun {A : Type 0} (result : Result A RunStatus) (left : List (Option Why)) : Type 0 where

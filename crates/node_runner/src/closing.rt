@@ -5,19 +5,11 @@ ghost use Rattle.gather_client.specs.CoreState.{client_facts};
 ghost use Rattle.scheduler_core.specs.Cores.{facts};
 ghost use Rattle.worker_core.specs.Core.{facts as worker_facts};
 ghost use Rattle.node_states.specs.Order.{AreInTime, start_of};
-<<<<<<< ours
-ghost use Rattle.node_runner.specs.Runs.{HasRun, HasNotRun, IsGivenUp, IsFromScheduler, IsFromClient, IsSchedulersBook, IsWorkersBook, IsClientsBook, IfStatus, IsBlamed, IsSpent, last_facts};
+ghost use Rattle.node_runner.specs.Runs.{HasRun, HasNotRun, IsDoubt, IsDoubtBy, IsGivenUp, IsFromScheduler, IsFromClient, IsSchedulersBook, IsWorkersBook, IsClientsBook, IfStatus, IsBlamed, IsSpent, last_facts};
 
 use crate::ends::{
-    Ends, Histories, RunStatus, all_left, any_spent, first_blame, hand_all, has_all, has_got,
-    is_given_up, take_apart,
-=======
-ghost use Rattle.node_runner.specs.Runs.{HasRun, HasNotRun, IsDoubt, IsDoubtBy, IsGivenUp, IsTakenFrom, IsSchedulersBook, IsWorkersBook, IsClientsBook, IfStatus, IsBlamed, last_facts};
-
-use crate::ends::{
-    Doubt, Ends, Failure, Histories, RunStatus, all_left, first_failure, hand_all, has_all,
-    has_got, is_given_up, none_starved, take_apart,
->>>>>>> theirs
+    Doubt, Ends, Failure, Histories, RunStatus, all_left, any_spent, first_failure, hand_all,
+    has_all, has_got, is_given_up, none_starved, take_apart,
 };
 use crate::plan::RunPlan;
 use crate::sink::Sink;
@@ -74,12 +66,8 @@ pub fn end_nodes<B: Drop, L: Label<Block = B>, F: Drop, S: BlockStore<B, L>, Z: 
     ensures doubt { IsDoubt L.facts plan.now wanted.now (facts scheduler.history.book.core.core) result.0.left.items result.1 }
 {
     let got = has_got(wanted.as_slice(), &client);
-<<<<<<< ours
-    let blame = first_blame(wanted.as_slice(), &client);
-    let spent = is_spent(&scheduler, workers.as_slice(), &client);
-=======
     let failed = first_failure(plan, wanted.as_slice(), &client, &scheduler);
->>>>>>> theirs
+    let spent = is_spent(&scheduler, workers.as_slice(), &client);
     let left = all_left(alloc, plan, &scheduler, workers.as_slice());
     let joined = scheduler.joined();
     let scheduler = scheduler_history(scheduler);
@@ -87,15 +75,9 @@ pub fn end_nodes<B: Drop, L: Label<Block = B>, F: Drop, S: BlockStore<B, L>, Z: 
     let all = has_all(wanted.as_slice(), &*sink);
     let (workers, feeds, stores) = take_apart(alloc, workers);
     let told = all_told(scheduler, workers, client, left);
-<<<<<<< ours
-    let ends = ends_of(alloc, result(got, all, blame, spent), told, feeds, stores);
-    let given_up = is_over(&ends, joined);
-    (ends, given_up)
-=======
-    let ends = ends_of(alloc, result(got, all, failed), told, feeds, stores);
+    let ends = ends_of(alloc, result(got, all, failed, spent), told, feeds, stores);
     let doubt = doubt_of(ends.left.as_slice(), joined, failed);
     (ends, doubt)
->>>>>>> theirs
 }
 
 /// The history of a closed scheduler, whose entries came in time.
@@ -202,7 +184,6 @@ fn doubt_of(left: &[Option<Why>], joined: Option<u32>, failed: Option<Failure>) 
     }
 }
 
-<<<<<<< ours
 /// Whether a node's core has taken all events that it takes.
 fn is_spent<B: Drop, L: Label<Block = B>, F: Drop, S: BlockStore<B, L>>(
     scheduler: &SchedulerNode<B, L>,
@@ -220,34 +201,21 @@ fn is_spent<B: Drop, L: Label<Block = B>, F: Drop, S: BlockStore<B, L>>(
     any_spent(workers)
 }
 
-/// How a run ended: well where the client got all and the sink has all; else by the key to blame, if one failed; else by a core that is spent.
-fn result(got: bool, all: bool, blame: Option<u32>, spent: bool) -> Result<(), RunStatus>
+/// How a run ended: well where the client got all and the sink has all; else by the key at fault, if one failed by a zero divisor; else by a core that
+/// is spent.
+fn result(got: bool, all: bool, failed: Option<Failure>, spent: bool) -> Result<(), RunStatus>
     ensures got { IfOk result (λ _. got ≡ true) }
     ensures all { IfOk result (λ _. all ≡ true) }
-    ensures cause { IfStatus (IsBlamed blame spent) result }
-=======
-/// How a run ended: well where the client got all and the sink has all; else by the key at fault, if one failed by a zero divisor.
-fn result(got: bool, all: bool, failed: Option<Failure>) -> Result<(), RunStatus>
-    ensures got { IfOk result (λ _. got ≡ true) }
-    ensures all { IfOk result (λ _. all ≡ true) }
-    ensures cause { IfStatus (IsBlamed failed) result }
->>>>>>> theirs
+    ensures cause { IfStatus (IsBlamed failed spent) result }
 {
     if got && all {
         return Ok(());
     }
-<<<<<<< ours
-    if let Some(key) = blame {
+    if let Some(Failure::Zero { key }) = failed {
         return Err(RunStatus::Zero { key });
     }
     if spent {
         return Err(RunStatus::Events);
-=======
-    match failed {
-        Some(Failure::Zero { key }) => Err(RunStatus::Zero { key }),
-        Some(Failure::Killed { key: _, losses: _ }) => Err(RunStatus::Memory),
-        None => Err(RunStatus::Memory),
->>>>>>> theirs
     }
     Err(RunStatus::Memory)
 }

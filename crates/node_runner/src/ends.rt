@@ -1,10 +1,5 @@
 //! How a run ended, as the closed nodes tell.
-<<<<<<< ours
-ghost use Rattle.std.specs.Prelude.{◌≡◌, ◌≢◌, ◌≤◌, ◌+◌, ◌^◌, ◌<◌, ◌++◌, ◌∷◌, [], ℕ, true, false, None, slice_index_or, All, Contains, IfOk, IfSome, Some};
-ghost use Rattle.cluster_msgs.specs.Labels.{BlameFits};
-=======
-ghost use Rattle.std.specs.Prelude.{◌≡◌, ◌≢◌, ◌≤◌, ◌+◌, ◌<◌, ◌++◌, ◌∷◌, [], ℕ, List, true, false, None, slice_index_or, All, IfOk, IfSome, Some};
->>>>>>> theirs
+ghost use Rattle.std.specs.Prelude.{◌≡◌, ◌≢◌, ◌≤◌, ◌+◌, ◌^◌, ◌<◌, ◌++◌, ◌∷◌, [], ℕ, List, true, false, None, slice_index_or, All, Contains, IfOk, IfSome, Some};
 ghost use Rattle.cluster_rules.specs.Sched.{Facts as SchedFacts, connected};
 ghost use Rattle.gather_client.specs.CoreState.{client_facts};
 ghost use Rattle.scheduler_core.specs.Cores.{facts};
@@ -12,12 +7,8 @@ ghost use Rattle.worker_core.specs.Core.{facts as worker_facts};
 ghost use Rattle.turn_cell.specs.Rows.{AllBy};
 ghost use Rattle.node_states.specs.Fitting.{ClientFits};
 ghost use Rattle.node_states.specs.declared.why.Why.TheVariants as why;
-<<<<<<< ours
-ghost use Rattle.node_runner.specs.Runs.{HasGot, IsGivenUp, IsGot, IsLeft, IsNamed, IsFromWorker};
-=======
 ghost use Rattle.node_runner.specs.declared.plan.RunPlan.{RunPlan as AnyPlan};
-ghost use Rattle.node_runner.specs.Runs.{HasBlame, HasGot, IsFailure, IsGivenUp, IsGot, IsLeft, IsNamed, IsTakenFrom, NoneForMemory};
->>>>>>> theirs
+ghost use Rattle.node_runner.specs.Runs.{HasBlame, HasGot, IsFailure, IsFromWorker, IsGivenUp, IsGot, IsLeft, IsNamed, NoneForMemory};
 
 use crate::plan::RunPlan;
 use crate::sink::Sink;
@@ -139,20 +130,6 @@ fn first_blame<B: Drop, L: Label<Block = B>>(
     None
 }
 
-<<<<<<< ours
-/// Whether a worker's core has taken all events that it takes.
-pub fn any_spent<B: Drop, L: Label<Block = B>, F: Drop, S: BlockStore<B, L>>(
-    workers: &[WorkerNode<B, L, F, S>],
-) -> bool
-    ensures { result ≡ true → (w : _) × Contains workers.now w × (2 ^ 40 ≤ w.history.book.core.core.events) }
-{
-    for worker in workers {
-        if worker.history.book.is_spent() {
-            return true;
-        }
-    }
-    false
-=======
 /// Why the first of these keys that failed did so, as far as the scheduler's core tells: where losses aren't bounded, by a zero divisor.
 pub fn first_failure<B: Drop, L: Label<Block = B>>(
     plan: &RunPlan,
@@ -223,7 +200,20 @@ fn is_starved(cause: Option<Why>) -> bool
         Some(Why::Script | Why::Feed | Why::Link) => false,
         None => false,
     }
->>>>>>> theirs
+}
+
+/// Whether a worker's core has taken all events that it takes.
+pub fn any_spent<B: Drop, L: Label<Block = B>, F: Drop, S: BlockStore<B, L>>(
+    workers: &[WorkerNode<B, L, F, S>],
+) -> bool
+    ensures { result ≡ true → (w : _) × Contains workers.now w × (2 ^ 40 ≤ w.history.book.core.core.events) }
+{
+    for worker in workers {
+        if worker.history.book.is_spent() {
+            return true;
+        }
+    }
+    false
 }
 
 /// For each worker why it left, if it joined and left.

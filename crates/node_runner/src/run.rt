@@ -226,17 +226,10 @@ where
     ensures scheduler { All (λ s. IsSchedulersBook (run_facts J.graph J.operation J.key_dims J.block_dims K.told K.allowed K.job) (J.graph job.now) plan.now
         s.history.book) result.0.scheduler.items }
     ensures workers { (k : ℕ) (w : _) → k < vec_len result.0.workers
-<<<<<<< ours
-        → IsWorkersBook (run_facts J.graph J.operation J.key_dims J.block_dims K.told K.job) (J.graph job.now) plan.now.threads (k + 1)
-        (λ c. c.id) (λ c. worker_facts c.core) (slice_index_or result.0.workers.items k w).history.book }
-    ensures clients { All (λ c. IsClientsBook (run_facts J.graph J.operation J.key_dims J.block_dims K.told K.job) (J.graph job.now)
-        (λ c. c.id) (λ c. client_facts c.core) c.book) result.0.clients.items }
-=======
         → IsWorkersBook (run_facts J.graph J.operation J.key_dims J.block_dims K.told K.allowed K.job) (J.graph job.now) plan.now.threads (k + 1)
-        (λ c. worker_facts c.core) (slice_index_or result.0.workers.items k w).history.book }
+        (λ c. c.id) (λ c. worker_facts c.core) (slice_index_or result.0.workers.items k w).history.book }
     ensures clients { All (λ c. IsClientsBook (run_facts J.graph J.operation J.key_dims J.block_dims K.told K.allowed K.job) (J.graph job.now)
-        (λ c. client_facts c.core) c.book) result.0.clients.items }
->>>>>>> theirs
+        (λ c. c.id) (λ c. client_facts c.core) c.book) result.0.clients.items }
     ensures leads { Z.leads sink result.1 }
 {
     let room = Solo::new(rt, Doorbell::parking()).ok();

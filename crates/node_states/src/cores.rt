@@ -17,18 +17,13 @@ use std::alloc::Global;
 use std::marker::{Model, PhantomData};
 use worker_core::WorkerCore;
 
-<<<<<<< ours
 /// The most bytes of the scheduler's history, and of another node's.
 pub const SCHEDULER_BYTES: u64 = 1 << 28;
 
 pub const NODE_BYTES: u64 = 1 << 25;
 
-/// The scheduler's core, with what its node goes by. As long as memory doesn't end inside it (`torn`), it goes by the label's graph, and each key
-/// that it counts as bad is faulty.
-=======
 /// The scheduler's core, with what its node goes by. As long as memory doesn't end inside it (`torn`), it goes by the label's graph and by what the
 /// label allows, and each key that it counts as bad is faulty, or its worker left more often than is allowed.
->>>>>>> theirs
 #[derive(Drop)]
 pub struct SchedulingCore<L: Label> {
     alloc: Global,

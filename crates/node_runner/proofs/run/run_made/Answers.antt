@@ -25,24 +25,15 @@ pub end_rows-ends-requires-clause-workers : goal.end_rows-ends-requires-clause-w
 end_rows-ends-requires-clause-workers g c =
     let j = g.J.JobSpec in
     let k = g.K.RunName in
-<<<<<<< ours
-    λ at w less. subst (λ s. IsWorkersBook (run_facts j.graph j.operation j.key_dims j.block_dims k.told k.job) s c.args.plan.now.threads (at + 1)
-    (λ x. x.id) (λ x. worker_facts x.core) (slice_index_or c.run_rows-closed.result.0.workers.items at w).history.book) (sym c.shape.ensures)
-=======
     λ at w less. subst (λ s. IsWorkersBook (run_facts j.graph j.operation j.key_dims j.block_dims k.told k.allowed k.job) s c.args.plan.now.threads (at + 1)
-    (λ x. worker_facts x.core) (slice_index_or c.run_rows-closed.result.0.workers.items at w).history.book) (sym c.shape.ensures)
->>>>>>> theirs
+    (λ x. x.id) (λ x. worker_facts x.core) (slice_index_or c.run_rows-closed.result.0.workers.items at w).history.book) (sym c.shape.ensures)
     (c.run_rows-closed.ensures.workers at w less)
 
 pub end_rows-ends-requires-clause-clients : goal.end_rows-ends-requires-clause-clients
 end_rows-ends-requires-clause-clients g c =
     let j = g.J.JobSpec in
     let k = g.K.RunName in
-<<<<<<< ours
-    subst (λ s. All (λ x. IsClientsBook (run_facts j.graph j.operation j.key_dims j.block_dims k.told k.job) s (λ x. x.id) (λ x. client_facts x.core) x.book)
-=======
-    subst (λ s. All (λ x. IsClientsBook (run_facts j.graph j.operation j.key_dims j.block_dims k.told k.allowed k.job) s (λ x. client_facts x.core) x.book)
->>>>>>> theirs
+    subst (λ s. All (λ x. IsClientsBook (run_facts j.graph j.operation j.key_dims j.block_dims k.told k.allowed k.job) s (λ x. x.id) (λ x. client_facts x.core) x.book)
     c.run_rows-closed.result.0.clients.items) (sym c.shape.ensures) c.run_rows-closed.ensures.clients
 
 pub returns-clause-had : goal.returns-clause-had
