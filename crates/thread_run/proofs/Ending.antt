@@ -28,14 +28,10 @@ use Rattle.job_run.proofs.Running.{HaveAccepted, left_before, lowering_runs, mos
 use Rattle.thread_run.specs.Counts.{RaisedBetween, feeds, repeated}
 use Rattle.thread_run.specs.Ends.{Cause, HasValues, Looked, Opened, Prints, PrintsRun, IsOutgrownRun, LeavesAs, RunsByThreads, Saves, lines_of, openings}
 use Rattle.thread_run.specs.Feeding.{is_told}
-<<<<<<< ours
+use Rattle.thread_run.specs.Losses.{losses_by}
 use Rattle.thread_run.specs.Reports.{IsOutgrownBy, IsToldBy, IsToldRun, label}
 use Rattle.thread_run.specs.declared.ends.ThreadEnded.{ThreadEnded}
 use Rattle.thread_run.specs.declared.ends.ThreadEnded.TheVariants.{Events, Ran}
-=======
-use Rattle.thread_run.specs.Losses.{losses_by}
-use Rattle.thread_run.specs.Reports.{IsToldBy, IsToldRun, label}
->>>>>>> theirs
 use Rattle.thread_run.specs.declared.verdict.Told.{Told}
 use Rattle.thread_run.specs.Serving.{ServesAll, ServesFiles, ServesPart}
 use Rattle.thread_run.proofs.Serves.{kill-as}
@@ -68,13 +64,8 @@ ran-ends p w old new end leaves = record { leaves = leaves; events = λ is. absu
 -- ## Before the inputs are accepted
 
 -- an end at which a run leaves what any other leaves, with the inputs opened at most once
-<<<<<<< ours
-ran : (p : Plan) (w : RunWords) (old new : View) (end : Ended) → RunsPlan p old new end → new.files.held ≡ old.files.held → new.files.created ≡ old.files.created → Cause p old new end → Saves p old.files new.files end →
-    Opened p.inputs (openings p w) old.files.opened new.files.opened end → Created (names_saved p) old.files.created new.files.created end → Prints p w old new end → LeavesAs p w old new end
-=======
 ran : (p : Plan) (w : RunWords) (old new : View) (end : Ended) → RunsPlan p old new end → new.files.held ≡ old.files.held → new.files.created ≡ old.files.created → Cause p w old new end → Saves p old.files new.files end →
-    Opened p.inputs (openings p w) old.files.opened new.files.opened end → Created (names_saved p) old.files.created new.files.created end → Prints p w old new end → RunsByThreads p w old new end
->>>>>>> theirs
+    Opened p.inputs (openings p w) old.files.opened new.files.opened end → Created (names_saved p) old.files.created new.files.created end → Prints p w old new end → LeavesAs p w old new end
 ran p w old new end r held made cause saves opened created prints = record {
   cause = cause;
   saves = saves;
@@ -153,13 +144,8 @@ follows-out p w old saved new only f =
       note_faults = only.note_faults ∙ f.note_faults;
     }
 
-<<<<<<< ours
-ends : (p : Plan) (w : RunWords) (old new : View) (end : Ended) → Follows p w old new → Cause p old new end → Saves p old.files new.files end → Opened p.inputs (openings p w) old.files.opened new.files.opened end →
-    Created (names_saved p) old.files.created new.files.created end → Prints p w old new end → LeavesAs p w old new end
-=======
 ends : (p : Plan) (w : RunWords) (old new : View) (end : Ended) → Follows p w old new → Cause p w old new end → Saves p old.files new.files end → Opened p.inputs (openings p w) old.files.opened new.files.opened end →
-    Created (names_saved p) old.files.created new.files.created end → Prints p w old new end → RunsByThreads p w old new end
->>>>>>> theirs
+    Created (names_saved p) old.files.created new.files.created end → Prints p w old new end → LeavesAs p w old new end
 ends p w old new end f cause saves opened created prints = record {
   cause = cause;
   saves = saves;
@@ -216,7 +202,7 @@ module _ (p : Plan) (w : RunWords) (old mid : View) (files : List Content) (head
 
   -- ### A core had taken all events
 
-  pub outgrown-run : IsOutgrownBy (label told (named_told files heads) (tasks_of p)) (shape_of (tasks_of p)) w → IsOutgrownRun p w old.files
+  pub outgrown-run : IsOutgrownBy (label told w.settings.allowed (named_told files heads) (tasks_of p)) (shape_of (tasks_of p)) w → IsOutgrownRun p w old.files
   outgrown-run by = record {
     small = a.small;
     inputs = a.fit;
@@ -230,11 +216,7 @@ module _ (p : Plan) (w : RunWords) (old mid : View) (files : List Content) (head
   -- ### Not all is saved
 
   pub stopped-ends : (new : View) (end : Ended) → ServesFiles p (feeds w) mid new → IsFitGiven p mid new →
-<<<<<<< ours
-      ServesPart p (named_told files heads) (IsTrue told) (Rose mid.read_faults new.read_faults) (Rose mid.write_faults new.write_faults) mid.files new.files end → LeavesAs p w old new end
-=======
-      ServesPart p (losses_by w) (named_told files heads) (IsTrue told) (Rose mid.read_faults new.read_faults) (Rose mid.write_faults new.write_faults) mid.files new.files end → RunsByThreads p w old new end
->>>>>>> theirs
+      ServesPart p (losses_by w) (named_told files heads) (IsTrue told) (Rose mid.read_faults new.read_faults) (Rose mid.write_faults new.write_faults) mid.files new.files end → LeavesAs p w old new end
   stopped-ends new Done f given part = absurd part.cause
   stopped-ends new (Limit quantity) f given part = absurd part.cause
   stopped-ends new (File place error) f given part = absurd part.cause

@@ -86,21 +86,11 @@ module _ (p : Plan) (named : Named) (told : Bool) (allowed : Option ℕ) (first 
       both-ok end given written (ServesAll p named (IsTrue told) old new) gave wrote (λ g s. served-all p named told allowed first last old mid new r (subst H are (ok-holds given (H keys) g had)) (ok-holds written (last.fault ≡ None) s sound) created)
 
   -- it wasn't
-<<<<<<< ours
-  pub part-served : {A B C : Type 0} (reads writes : Type 0) (facts : LabelFacts Array) (keys : List ℕ) (end : Result A ThreadEnded) (given : Result B RunStatus) (written : Result C OpenFault) → facts ≡ label told named (tasks_of p) → keys ≡ wanted_of p → IfErr given (IsWhy facts keys reads) →
-      (written ≡ Err fault.Failed → writes) → IfErr end (λ e. StopsAt p given written (left_as e)) → IfErr end (λ e. ServesPart p named (IsTrue told) reads writes old new (left_as e))
-  part-served reads writes facts keys end given written is are why failed stops =
-      IfErr-weaker end (λ e. StopsAt p given written (left_as e)) (λ e. ServesPart p named (IsTrue told) reads writes old new (left_as e)) (λ e at. record {
-        cause = stopped p named told reads writes facts keys given written (left_as e) r.runs r.laws is are why failed at;
-        left = served-left p named told first last old mid new r;
-        created = creates-all (names_saved p) old.created new.created (left_as e) (r.gives.created ∙ created);
-=======
-  pub part-served : {A B C : Type 0} (most : Losses) (reads writes : Type 0) (facts : LabelFacts Array) (keys : List ℕ) (end : Result A Ended) (given : Result B RunStatus) (written : Result C OpenFault) → facts ≡ label told allowed named (tasks_of p) → keys ≡ wanted_of p → IfErr given (IsWhy facts most keys reads) →
-      (written ≡ Err fault.Failed → writes) → IfErr end (StopsAt p given written) → IfErr end (ServesPart p most named (IsTrue told) reads writes old new)
+  pub part-served : {A B C : Type 0} (most : Losses) (reads writes : Type 0) (facts : LabelFacts Array) (keys : List ℕ) (end : Result A ThreadEnded) (given : Result B RunStatus) (written : Result C OpenFault) → facts ≡ label told allowed named (tasks_of p) → keys ≡ wanted_of p → IfErr given (IsWhy facts most keys reads) →
+      (written ≡ Err fault.Failed → writes) → IfErr end (λ e. StopsAt p given written (left_as e)) → IfErr end (λ e. ServesPart p most named (IsTrue told) reads writes old new (left_as e))
   part-served most reads writes facts keys end given written is are why failed stops =
-      IfErr-weaker end (StopsAt p given written) (ServesPart p most named (IsTrue told) reads writes old new) (λ e at. record {
-        cause = stopped p most named told allowed reads writes facts keys given written e r.runs r.laws is are why failed at;
+      IfErr-weaker end (λ e. StopsAt p given written (left_as e)) (λ e. ServesPart p most named (IsTrue told) reads writes old new (left_as e)) (λ e at. record {
+        cause = stopped p most named told allowed reads writes facts keys given written (left_as e) r.runs r.laws is are why failed at;
         left = served-left p named told allowed first last old mid new r;
-        created = creates-all (names_saved p) old.created new.created e (r.gives.created ∙ created);
->>>>>>> theirs
+        created = creates-all (names_saved p) old.created new.created (left_as e) (r.gives.created ∙ created);
       }) stops

@@ -1,14 +1,8 @@
 -- What a run of a graph leaves: feeds that are opened and given back, and files that are created, written and given back.
-<<<<<<< ours
-use Rattle.std.proofs.Common.{◌≡◌, ℕ, ◌<◌, ◌≤◌, Bool, List, [], length, refl, ap, sym, ◌∙◌, subst, arith, Option, Some, None, Result, Ok, Err, inl, inr}
-use Rattle.std.specs.Prelude.{Contains, IfErr, IfOk, IsOk, IsTrue, OnOk}
+use Rattle.std.proofs.Common.{◌≡◌, ◌⊎◌, ℕ, ◌<◌, ◌≤◌, Bool, List, [], length, refl, ap, sym, ◌∙◌, subst, arith, Option, Some, None, Result, Ok, Err, inl, inr}
+use Rattle.std.specs.Prelude.{IfErr, IfOk, IsOk, IsTrue, OnOk}
 use Rattle.std.proofs.lemmas.Bool.{cases_lt, false≢true}
 use Rattle.std.proofs.lemmas.List.{get_or_past}
-=======
-use Rattle.std.proofs.Common.{◌≡◌, ◌⊎◌, ℕ, ◌≤◌, Bool, List, [], refl, ap, sym, ◌∙◌, subst, arith, Option, Some, None, Result, Ok, Err, inl, inr}
-use Rattle.std.specs.Prelude.{IfErr, IfOk, IsOk, IsTrue, OnOk}
-use Rattle.std.proofs.lemmas.Bool.{false≢true}
->>>>>>> theirs
 use Rattle.io_edge.specs.Cause.{Rose}
 use Rattle.io_edge.specs.declared.edge.OpenFault.{OpenFault}
 use Rattle.io_edge.specs.declared.edge.OpenFault.TheVariants as fault
@@ -20,11 +14,7 @@ use Rattle.cluster_msgs.specs.Shape.{Shape, deps_of}
 use Rattle.cluster_msgs.specs.Values.{cone}
 use Rattle.cluster_rules.proofs.Members.{any_some}
 use Rattle.node_states.specs.declared.why.Why.{Why}
-<<<<<<< ours
-use Rattle.node_runner.specs.Runs.{AreWhole, HasCause, HowItEnded, IfStatus}
-=======
-use Rattle.node_runner.specs.Runs.{HasFailed, HowItEnded, IsAtFault}
->>>>>>> theirs
+use Rattle.node_runner.specs.Runs.{AreWhole, HasCause, HasFailed, HowItEnded, IfStatus, IsAtFault}
 use Rattle.node_runner.specs.declared.ends.Histories.{Histories}
 use Rattle.node_runner.specs.declared.ends.RunStatus.{RunStatus}
 use Rattle.node_runner.specs.declared.ends.RunStatus.TheVariants as status
@@ -36,19 +26,15 @@ use Rattle.job_run.specs.Part.{AreLeft, IsNoneOf, RaisedAtMost}
 use Rattle.lowering_laws.specs.Lowered.{lowered}
 use Rattle.job_run.specs.Plan.{IsRunnable, Plan, name_at, names_saved, nodes_saved}
 use Rattle.job_run.specs.Values.{Named, files_of, tasks_of}
-<<<<<<< ours
 use Rattle.job_run.specs.Wanted.{EndsAtKey, IsBlockAt, wanted_of}
-=======
-use Rattle.job_run.specs.Wanted.{EndsAtKey, wanted_of}
 use Rattle.task_graph.specs.Graphs.{shape_of}
->>>>>>> theirs
 use Rattle.job_run.proofs.Counting.{none_raised, raised_at_most}
 use Rattle.job_run.proofs.Running.{left_before, most_before}
 use Rattle.job_run.proofs.SavedKeys.{is-faulty}
 use Rattle.thread_run.specs.Counts.{repeated}
 use Rattle.thread_run.specs.Ends.{IsNeededBlock}
 use Rattle.thread_run.specs.Feeding.{OpensOften, TakesBack}
-use Rattle.thread_run.specs.Losses.{IsKill, IsNeeded, Losses, losses_in}
+use Rattle.thread_run.specs.Losses.{IsKill, IsNeededKey, Losses, losses_in}
 use Rattle.thread_run.specs.Serving.{IsUnsaved, IsWhy, ServesAll, ServesFiles, ServesPart, Stops, StopsAt}
 use Rattle.thread_run.proofs.Agreed.{told_run}
 use Rattle.thread_run.proofs.Planning.{removes-same}
@@ -109,7 +95,7 @@ outgrew {A} l graph p wanted Failed result left None is how = absurd (other (sym
     other e = cc
 outgrew l graph p wanted Failed result left (Some h) is how =
     let C : Type 0 = AreWhole h → ⊥ in
-    record { histories = h; last = how.0; are = how.1.histories; cut = subst (IfStatus (HasCause l wanted how.0.scheduler left Failed C)) is how.1.cause }
+    record { histories = h; last = how.0; are = how.1.histories; cut = subst (IfStatus (HasCause l p wanted how.0.scheduler left Failed C)) is how.1.cause }
 
 -- the same of a label and a graph that are these
 pub outgrown-as : (l m : LabelFacts Array) (graph shape : Shape) (p : RunPlan) → l ≡ m → graph ≡ shape → IsOutgrown l graph p → IsOutgrown m shape p
@@ -321,19 +307,6 @@ all-between p named told old mid served new before after all = let P : Files × 
 
 -- ## A zero divisor, and a killed key
 
--- the client was told of a zero divisor
-pub zero-stops : (p : Plan) (most : Losses) (named : Named) (told : Bool) (allowed : Option ℕ) (reads writes : Type 0) (key : ℕ) (end : Ended) → IsRunnable p → HasLaws p named → EndsAtKey p key end → IsAtFault (label told allowed named (tasks_of p)) (wanted_of p) key →
-    Stops p most named (IsTrue told) reads writes end
-zero-stops p most named told allowed reads writes key Done runs laws at said = absurd at
-zero-stops p most named told allowed reads writes key (Limit quantity) runs laws at said = absurd at
-zero-stops p most named told allowed reads writes key (File place error) runs laws at said = absurd at
-zero-stops p most named told allowed reads writes key (Zero node block) runs laws at said = λ t. is-faulty p named said.failed.0 key node block runs laws at said.failed.1 (said.failed.2 t) (said.fault t)
-zero-stops p most named told allowed reads writes key (Killed k losses) runs laws at said = absurd at
-zero-stops p most named told allowed reads writes key ReadFault runs laws at said = absurd at
-zero-stops p most named told allowed reads writes key WriteFault runs laws at said = absurd at
-zero-stops p most named told allowed reads writes key OutOfMemory runs laws at said = tt
-
-<<<<<<< ours
 -- the block that a key is, is needed
 needed-block : (p : Plan) (named : Named) (key node : ℕ) (block : List ℕ) → HasLaws p named → IsBlockAt p key node block → IsNeededBlock p node block
 needed-block p named key node block laws at = record { key = key; number = at.number; needed = record { within = within; name = at.name }; is_block = at.is_block }
@@ -347,22 +320,22 @@ needed-block p named key node block laws at = record { key = key; number = at.nu
       | inr ge ↦ absurd (nothing (sym (get_or_past (lowered p.nodes (nodes_saved p)).names key None (omega (arith, ge, laws.names.number))) ∙ at.name))
     ]
 
--- the client was told of one
-pub zero-stops : (p : Plan) (named : Named) (told : Bool) (reads writes : Type 0) (wanted key : ℕ) (end : Ended) → IsRunnable p → HasLaws p named → EndsAtKey p key end → Contains (wanted_of p) wanted → BlameFits (label told named (tasks_of p)) wanted key →
-    Stops p named (IsTrue told) reads writes end
-zero-stops p named told reads writes wanted key Done runs laws at has blamed = absurd at
-zero-stops p named told reads writes wanted key (Limit quantity) runs laws at has blamed = absurd at
-zero-stops p named told reads writes wanted key (File place error) runs laws at has blamed = absurd at
-zero-stops p named told reads writes wanted key (Zero node block) runs laws at has blamed =
-    (needed-block p named key node block laws at, λ t. is-faulty p named wanted key node block runs laws at has (blamed.below t) (blamed.fault refl t))
-zero-stops p named told reads writes wanted key ReadFault runs laws at has blamed = absurd at
-zero-stops p named told reads writes wanted key WriteFault runs laws at has blamed = absurd at
-zero-stops p named told reads writes wanted key OutOfMemory runs laws at has blamed = tt
-=======
+-- the client was told of a zero divisor
+pub zero-stops : (p : Plan) (most : Losses) (named : Named) (told : Bool) (allowed : Option ℕ) (reads writes : Type 0) (key : ℕ) (end : Ended) → IsRunnable p → HasLaws p named → EndsAtKey p key end → IsAtFault (label told allowed named (tasks_of p)) (wanted_of p) key →
+    Stops p most named (IsTrue told) reads writes end
+zero-stops p most named told allowed reads writes key Done runs laws at said = absurd at
+zero-stops p most named told allowed reads writes key (Limit quantity) runs laws at said = absurd at
+zero-stops p most named told allowed reads writes key (File place error) runs laws at said = absurd at
+zero-stops p most named told allowed reads writes key (Zero node block) runs laws at said =
+    (needed-block p named key node block laws at, λ t. is-faulty p named said.failed.0 key node block runs laws at said.failed.1 (said.failed.2 t) (said.fault t))
+zero-stops p most named told allowed reads writes key (Killed k losses) runs laws at said = absurd at
+zero-stops p most named told allowed reads writes key ReadFault runs laws at said = absurd at
+zero-stops p most named told allowed reads writes key WriteFault runs laws at said = absurd at
+zero-stops p most named told allowed reads writes key OutOfMemory runs laws at said = tt
+
 -- a key that something wanted failed by is needed
-is-needed : (p : Plan) (named : Named) (told : Bool) (allowed : Option ℕ) (key : ℕ) → HasFailed (label told allowed named (tasks_of p)) (wanted_of p) key → IsTrue told → IsNeeded p key
+is-needed : (p : Plan) (named : Named) (told : Bool) (allowed : Option ℕ) (key : ℕ) → HasFailed (label told allowed named (tasks_of p)) (wanted_of p) key → IsTrue told → IsNeededKey p key
 is-needed p named told allowed key failed t = any_some (λ k. cone (deps_of (shape_of (tasks_of p))) k key) (wanted_of p) failed.0 failed.1 (failed.2 t)
->>>>>>> theirs
 
 -- how the cluster ended, and what was written, say why the run is stopped
 pub stopped : {A B : Type 0} (p : Plan) (most : Losses) (named : Named) (told : Bool) (allowed : Option ℕ) (reads writes : Type 0) (facts : LabelFacts Array) (all : List ℕ) (given : Result A RunStatus) (written : Result B OpenFault) (end : Ended) → IsRunnable p → HasLaws p named →
@@ -406,9 +379,9 @@ pub uncreated : (p : Plan) (most : Losses) (named : Named) (told reads writes : 
 uncreated p most named told reads writes old made new why end runs laws leaves same created failed unsaved =
     let M : Files → Type 0 = λ x. AreLeft (names_saved p) (files_of p named) old x in
     let left : AreLeft (names_saved p) (files_of p named) old new = subst M (sym same) (open-left p named old made runs laws leaves) in
-    let most : RaisedAtMost (names_saved p) old.created new.created = subst (λ (x : Files). RaisedAtMost (names_saved p) old.created x.created) (sym same) created in
-    turn why failed unsaved left most
+    let raised : RaisedAtMost (names_saved p) old.created new.created = subst (λ (x : Files). RaisedAtMost (names_saved p) old.created x.created) (sym same) created in
+    turn why failed unsaved left raised
   where
     turn : (f : OpenFault) → (f ≡ fault.Failed → writes) → IsUnsaved f end → AreLeft (names_saved p) (files_of p named) old new → RaisedAtMost (names_saved p) old.created new.created → ServesPart p most named told reads writes old new end
-    turn fault.Failed failed is left most = subst (ServesPart p most named told reads writes old new) (sym is) (record { cause = failed refl; left = λ t. left; created = most })
-    turn fault.OutOfMemory failed is left most = subst (ServesPart p most named told reads writes old new) (sym is) (record { cause = tt; left = λ t. left; created = most })
+    turn fault.Failed failed is left raised = subst (ServesPart p most named told reads writes old new) (sym is) (record { cause = failed refl; left = λ t. left; created = raised })
+    turn fault.OutOfMemory failed is left raised = subst (ServesPart p most named told reads writes old new) (sym is) (record { cause = tt; left = λ t. left; created = raised })

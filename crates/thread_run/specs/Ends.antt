@@ -16,17 +16,12 @@ use Rattle.job_run.specs.Plan.{Plan, names_saved}
 use Rattle.job_run.specs.Runs.{AreRight, AreUntouched, IsFitGiven, IsSmall, Cause as RunCause, Saves as RunSaves, Created as RunCreated, StopsPrinting}
 use Rattle.job_run.specs.Values.{Named, OnInputs, IsFaulty, IsNeeded, MeetsNone, index_of, saved_lines, tasks_of}
 use Rattle.thread_run.specs.Counts.{RaisedBetween, feeds, repeated}
-<<<<<<< ours
 use Rattle.task_graph.specs.Graphs.{shape_of}
 use Rattle.thread_run.specs.Feeding.{is_told}
+use Rattle.thread_run.specs.Losses.{IsKill, IsNeededKey, losses_by}
 use Rattle.thread_run.specs.Reports.{IsOutgrownBy, IsToldRun, label}
 use Rattle.thread_run.specs.declared.ends.ThreadEnded.{ThreadEnded}
 use Rattle.thread_run.specs.declared.ends.ThreadEnded.TheVariants.{Events, Ran}
-=======
-use Rattle.thread_run.specs.Feeding.{is_told}
-use Rattle.thread_run.specs.Losses.{IsKill, IsNeeded, losses_by}
-use Rattle.thread_run.specs.Reports.{IsToldRun}
->>>>>>> theirs
 use Rattle.thread_run.specs.declared.verdict.Told.{Told}
 use Rattle.thread_run.specs.declared.verdict.Verdict.{Verdict}
 use Rattle.thread_run.specs.declared.verdict.Verdict.TheVariants.{Agrees, Differs, NotComplete}
@@ -59,7 +54,7 @@ WritesFail p old new = Rose old.write_faults new.write_faults ⊎ (HasValues p o
 -- a read failed. Where the site tells the inputs, it is needed
 pub record HasKilled (p : Plan) (w : RunWords) (old new : View) (key losses : ℕ) : Type 0 where
   pub inputs : InputsFit p old.files
-  pub needed : IsTrue (is_told old.files p.inputs) → IsNeeded p key
+  pub needed : IsTrue (is_told old.files p.inputs) → IsNeededKey p key
   pub kill : IsKill (losses_by w) (Rose old.read_faults new.read_faults) losses
 
 -- Why a run ends so. A zero divisor is met by some needed block: not always the first.
@@ -131,15 +126,9 @@ pub record IsAccepted (p : Plan) (names all : List (List ℕ)) (old new : Files)
 abbrev pub Looked : Plan → List (List ℕ) → List (List ℕ) → Files → Files → Type 0
 Looked p names all old new = AreUntouched old new ⊎ IsAccepted p names all old new
 
-<<<<<<< ours
 -- what a run of a job by threads does, by the end as which it leaves the rest
 pub record LeavesAs (p : Plan) (w : RunWords) (old new : View) (end : Ended) : Type 0 where
-  pub cause : Cause p old new end
-=======
--- what a run of a job by threads does
-pub record RunsByThreads (p : Plan) (w : RunWords) (old new : View) (end : Ended) : Type 0 where
   pub cause : Cause p w old new end
->>>>>>> theirs
   pub saves : Saves p old.files new.files end
   pub looked : Looked p p.inputs (openings p w) old.files new.files
   pub others : (n : List ℕ) → IsNoneOf n (names_saved p) → new.files.held n ≡ old.files.held n
@@ -165,7 +154,7 @@ pub record IsOutgrownRun (p : Plan) (w : RunWords) (files : Files) : Type 0 wher
   pub told : Bool
   pub told_is : told ≡ is_told files p.inputs
   pub held : OnInputs p files (λ blocks. held_in blocks ≡ named)
-  pub run : IsOutgrownBy (label told named (tasks_of p)) (shape_of (tasks_of p)) w
+  pub run : IsOutgrownBy (label told w.settings.allowed named (tasks_of p)) (shape_of (tasks_of p)) w
 
 -- what a run of a job by threads does
 pub record RunsByThreads (p : Plan) (w : RunWords) (old new : View) (end : ThreadEnded) : Type 0 where

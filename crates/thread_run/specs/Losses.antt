@@ -28,5 +28,5 @@ pub record IsKill (l : Losses) (reads : Type 0) (losses : ℕ) : Type 0 where
   pub often : (losses ≤ removes_in l.script) ⊎ reads
 
 -- the key is in the cone of a saved block's
-abbrev pub IsNeeded : Plan → ℕ → Type 0
-IsNeeded p key = needed (deps_of (shape_of (tasks_of p))) (wanted_of p) key ≡ true
+abbrev pub IsNeededKey : Plan → ℕ → Type 0
+IsNeededKey p key = needed (deps_of (shape_of (tasks_of p))) (wanted_of p) key ≡ true

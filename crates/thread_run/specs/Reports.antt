@@ -1,5 +1,5 @@
 -- What is told of a run: the report of its nodes' histories, and whether they are a legal list of events together.
-use Rattle.std.specs.Prelude.{◌≡◌, ℕ, List, [], ◌∷◌, ◌++◌, map, All, Bool, Option, None, is_some, IfSome}
+use Rattle.std.specs.Prelude.{◌≡◌, ℕ, List, [], ◌∷◌, ◌++◌, map, All, Bool, Option, is_some, IfSome}
 use Rattle.io_edge.specs.View.{Files}
 use Rattle.nd_shape.specs.Block.{Array}
 use Rattle.block_kernels.specs.Kernels.{result_shape}
@@ -39,21 +39,9 @@ label told allowed named tasks =
 abbrev pub entries_of : Histories → List (List Entry)
 entries_of h = h.scheduler.entries ∷ (map (λ (x : History). x.entries) h.workers.items ++ h.client.entries ∷ [])
 
-<<<<<<< ours
--- the job that a run is audited by: its graph and one client
-abbrev pub audited : Shape → ℕ → Job
-audited graph saturation = shape_job (setting_of graph 1 saturation)
-=======
--- none of the nodes left an entry out
-pub record AreWhole (h : Histories) : Type 0 where
-  pub scheduler : h.scheduler.cut ≡ None
-  pub workers : All (λ (x : History). x.cut ≡ None) h.workers.items
-  pub client : h.client.cut ≡ None
-
 -- the job that a run is audited by: its graph, one client, and what losses are allowed
 abbrev pub audited : Shape → ℕ → Option ℕ → Job
 audited graph saturation allowed = shape_job (setting_of graph 1 saturation allowed)
->>>>>>> theirs
 
 -- what is said of the entries of whole histories by their stamps: that they are a legal list of events with the messages that they took, or the stamp
 -- of the first that isn't; of others that they aren't whole

@@ -16,25 +16,16 @@ use Rattle.job_run.specs.Plan.{Plan, names_saved}
 use Rattle.job_run.specs.Values.{Named, IsFaulty, MeetsNone, files_of}
 use Rattle.job_run.specs.Wanted.{EndsAtKey}
 use Rattle.thread_run.specs.Counts.{repeated}
-<<<<<<< ours
 use Rattle.thread_run.specs.Ends.{IsNeededBlock}
-
--- why the cluster didn't give all blocks: a key of this label is to blame for a wanted one, or feeds failed
-abbrev pub IsWhy : {B : Type 0} → LabelFacts B → List ℕ → Type 0 → RunStatus → Type 0
-IsWhy facts wanted reads (status.Zero key) = (k : ℕ) × Contains wanted k × BlameFits facts k key
-IsWhy facts wanted reads status.Read = reads
-IsWhy facts wanted reads status.Events = Unit {0}
-IsWhy facts wanted reads status.Memory = Unit {0}
-=======
-use Rattle.thread_run.specs.Losses.{Losses, IsKill, IsNeeded}
+use Rattle.thread_run.specs.Losses.{Losses, IsKill, IsNeededKey}
 
 -- why the cluster didn't give all blocks: a key of this label is to blame for a wanted one, since it is at fault or was killed, or feeds failed
 abbrev pub IsWhy : {B : Type 0} → LabelFacts B → Losses → List ℕ → Type 0 → RunStatus → Type 0
 IsWhy facts most wanted reads (status.Zero key) = IsAtFault facts wanted key
 IsWhy facts most wanted reads (status.Killed key losses) = HasFailed facts wanted key × IsKill most reads losses
 IsWhy facts most wanted reads status.Read = reads
+IsWhy facts most wanted reads status.Events = Unit {0}
 IsWhy facts most wanted reads status.Memory = Unit {0}
->>>>>>> theirs
 
 -- how a run is stopped, by what the cluster tells and by whether all was written: a zero divisor, a killed key or a failed feed comes before what
 -- couldn't be written
@@ -56,22 +47,13 @@ abbrev pub HasShort : List ℕ → ℕ → Type 0
 HasShort lengths least = (n : ℕ) × Contains lengths n × (n < least)
 
 -- why not all is saved; the two facts are the causes of faults
-<<<<<<< ours
-abbrev pub Stops : Plan → Named → Type 0 → Type 0 → Type 0 → Ended → Type 0
-Stops p named told reads writes (Zero node block) = IsNeededBlock p node block × (told → IsFaulty p named node block)
-Stops p named told reads writes ReadFault = reads
-Stops p named told reads writes WriteFault = writes
-Stops p named told reads writes OutOfMemory = Unit {0}
-Stops p named told reads writes end = ⊥
-=======
 abbrev pub Stops : Plan → Losses → Named → Type 0 → Type 0 → Type 0 → Ended → Type 0
-Stops p most named told reads writes (Zero node block) = told → IsFaulty p named node block
-Stops p most named told reads writes (Killed key losses) = (told → IsNeeded p key) × IsKill most reads losses
+Stops p most named told reads writes (Zero node block) = IsNeededBlock p node block × (told → IsFaulty p named node block)
+Stops p most named told reads writes (Killed key losses) = (told → IsNeededKey p key) × IsKill most reads losses
 Stops p most named told reads writes ReadFault = reads
 Stops p most named told reads writes WriteFault = writes
 Stops p most named told reads writes OutOfMemory = Unit {0}
 Stops p most named told reads writes end = ⊥
->>>>>>> theirs
 
 -- nothing but at most so many openings of the inputs, reads, creations and writes of the saved files
 pub record ServesFiles (p : Plan) (most : ℕ) (old new : View) : Type 0 where

@@ -88,17 +88,14 @@ fn all_done(
             Err(fault) => Err(ThreadEnded::Ran(unsaved(fault))),
         },
         Err(RunStatus::Zero { key }) => Err(ThreadEnded::Ran(ended_at(alloc, job, wanted, key))),
+        Err(RunStatus::Killed { key, losses }) => {
+            Err(ThreadEnded::Ran(Ended::Killed { key, losses }))
+        }
         Err(RunStatus::Read) => Err(ThreadEnded::Ran(Ended::ReadFault)),
         Err(RunStatus::Events) => match written {
             Ok(()) => Err(ThreadEnded::Events),
             Err(fault) => Err(ThreadEnded::Ran(unsaved(fault))),
         },
-<<<<<<< ours
-=======
-        Err(RunStatus::Zero { key }) => Err(ended_at(alloc, job, wanted, key)),
-        Err(RunStatus::Killed { key, losses }) => Err(Ended::Killed { key, losses }),
-        Err(RunStatus::Read) => Err(Ended::ReadFault),
->>>>>>> theirs
         Err(RunStatus::Memory) => match written {
             Ok(()) => Err(ThreadEnded::Ran(Ended::OutOfMemory)),
             Err(fault) => Err(ThreadEnded::Ran(unsaved(fault))),
@@ -161,12 +158,8 @@ where
     ensures served { OnOk result.0 (ServesAll (plan_of job.now) E.named (IsTrue V.told) (S.view site.old).files (S.view site.new).files) }
     ensures histories { IfOk result.0 (IsServedRun ⟦<RunLabel<Graphed<S::In, E, V>, Named<V, P>> as Label>⟧.facts
         (graph_of graph.now.job) plan.now wanted.now.all) }
-<<<<<<< ours
     ensures outgrown { result.0 ≡ Err Events → IsOutgrown ⟦<RunLabel<Graphed<S::In, E, V>, Named<V, P>> as Label>⟧.facts (graph_of graph.now.job) plan.now }
-    ensures stopped { IfErr result.0 (λ end. ServesPart (plan_of job.now) E.named (IsTrue V.told)
-=======
-    ensures stopped { IfErr result.0 (ServesPart (plan_of job.now) (losses_in plan.now) E.named (IsTrue V.told)
->>>>>>> theirs
+    ensures stopped { IfErr result.0 (λ end. ServesPart (plan_of job.now) (losses_in plan.now) E.named (IsTrue V.told)
         (HasShort (map (λ v. vec_len v) feeds.items) plan.now.threads ⊎ Rose (S.view site.old).read_faults (S.view site.new).read_faults)
         (Rose (S.view site.old).write_faults (S.view site.new).write_faults)
         (S.view site.old).files (S.view site.new).files (left_as end)) }
@@ -251,12 +244,8 @@ where
     ensures served { OnOk result.0 (ServesAll (plan_of job.now) E.named (IsTrue V.told) (S.view site.old).files (S.view site.new).files) }
     ensures histories { IfOk result.0 (IsServedRun ⟦<RunLabel<Graphed<S::In, E, V>, Named<V, P>> as Label>⟧.facts
         (graph_of graph.now.job) plan.now wanted.now.all) }
-<<<<<<< ours
     ensures outgrown { result.0 ≡ Err Events → IsOutgrown ⟦<RunLabel<Graphed<S::In, E, V>, Named<V, P>> as Label>⟧.facts (graph_of graph.now.job) plan.now }
-    ensures stopped { IfErr result.0 (λ end. ServesPart (plan_of job.now) E.named (IsTrue V.told)
-=======
-    ensures stopped { IfErr result.0 (ServesPart (plan_of job.now) (losses_in plan.now) E.named (IsTrue V.told)
->>>>>>> theirs
+    ensures stopped { IfErr result.0 (λ end. ServesPart (plan_of job.now) (losses_in plan.now) E.named (IsTrue V.told)
         (Rose (S.view site.old).read_faults (S.view site.new).read_faults) (Rose (S.view site.old).write_faults (S.view site.new).write_faults)
         (S.view site.old).files (S.view site.new).files (left_as end)) }
 {
@@ -300,12 +289,8 @@ where
     ensures served { OnOk result (ServesAll (plan_of job.now) E.named (IsTrue V.told) (S.view site.old).files (S.view site.new).files) }
     ensures histories { IfOk result (IsServedRun ⟦<RunLabel<Graphed<S::In, E, V>, Named<V, P>> as Label>⟧.facts
         (graph_of graph.now.job) plan.now wanted.now.all) }
-<<<<<<< ours
     ensures outgrown { result ≡ Err Events → IsOutgrown ⟦<RunLabel<Graphed<S::In, E, V>, Named<V, P>> as Label>⟧.facts (graph_of graph.now.job) plan.now }
-    ensures stopped { IfErr result (λ end. ServesPart (plan_of job.now) E.named (IsTrue V.told)
-=======
-    ensures stopped { IfErr result (ServesPart (plan_of job.now) (losses_in plan.now) E.named (IsTrue V.told)
->>>>>>> theirs
+    ensures stopped { IfErr result (λ end. ServesPart (plan_of job.now) (losses_in plan.now) E.named (IsTrue V.told)
         (Rose (S.view site.old).read_faults (S.view site.new).read_faults) (Rose (S.view site.old).write_faults (S.view site.new).write_faults)
         (S.view site.old).files (S.view site.new).files (left_as end)) }
 {
@@ -353,13 +338,9 @@ where
     ensures asked { IfOk result (λ told. is_some told.report ≡ asked) }
     ensures told { IfOk result (IsToldOfRun (label V.told plan.now.allowed E.named (tasks_of (plan_of job.now)))
         (shape_of (tasks_of (plan_of job.now))) plan.now (wanted_of (plan_of job.now))) }
-<<<<<<< ours
-    ensures outgrown { result ≡ Err Events → IsOutgrown (label V.told E.named (tasks_of (plan_of job.now)))
+    ensures outgrown { result ≡ Err Events → IsOutgrown (label V.told plan.now.allowed E.named (tasks_of (plan_of job.now)))
         (shape_of (tasks_of (plan_of job.now))) plan.now }
-    ensures stopped { IfErr result (λ end. ServesPart (plan_of job.now) E.named (IsTrue V.told)
-=======
-    ensures stopped { IfErr result (ServesPart (plan_of job.now) (losses_in plan.now) E.named (IsTrue V.told)
->>>>>>> theirs
+    ensures stopped { IfErr result (λ end. ServesPart (plan_of job.now) (losses_in plan.now) E.named (IsTrue V.told)
         (Rose (S.view site.old).read_faults (S.view site.new).read_faults) (Rose (S.view site.old).write_faults (S.view site.new).write_faults)
         (S.view site.old).files (S.view site.new).files (left_as end)) }
 {
@@ -381,11 +362,8 @@ where
 /// words ask for it.
 ///
 /// # Errors
-<<<<<<< ours
-/// How the run ends: a zero divisor that the client was told of, a fault, a core that has taken all events that it takes, or want of memory.
-=======
-/// How the run ends: a zero divisor or a killed key that the client was told of, a fault, or want of memory.
->>>>>>> theirs
+/// How the run ends: a zero divisor or a killed key that the client was told of, a fault, a core that has taken all events that it takes, or want of
+/// memory.
 #[tactic(auto, using(crate::proofs::Serves::part_none))]
 pub fn serve<R, S, G, E, V>(
     rt: &R,
@@ -417,13 +395,9 @@ where
     ensures asked { IfOk result (λ told. is_some told.report ≡ words.report) }
     ensures told { IfOk result (IsToldBy (label V.told words.settings.allowed E.named (tasks_of (plan_of job.now)))
         (shape_of (tasks_of (plan_of job.now))) words (wanted_of (plan_of job.now))) }
-<<<<<<< ours
-    ensures outgrown { result ≡ Err Events → IsOutgrownBy (label V.told E.named (tasks_of (plan_of job.now)))
+    ensures outgrown { result ≡ Err Events → IsOutgrownBy (label V.told words.settings.allowed E.named (tasks_of (plan_of job.now)))
         (shape_of (tasks_of (plan_of job.now))) words }
-    ensures stopped { IfErr result (λ end. ServesPart (plan_of job.now) E.named (IsTrue V.told)
-=======
-    ensures stopped { IfErr result (ServesPart (plan_of job.now) (losses_by words) E.named (IsTrue V.told)
->>>>>>> theirs
+    ensures stopped { IfErr result (λ end. ServesPart (plan_of job.now) (losses_by words) E.named (IsTrue V.told)
         (Rose (S.view site.old).read_faults (S.view site.new).read_faults) (Rose (S.view site.old).write_faults (S.view site.new).write_faults)
         (S.view site.old).files (S.view site.new).files (left_as end)) }
 {

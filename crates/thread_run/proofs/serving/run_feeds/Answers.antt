@@ -7,11 +7,8 @@ use Rattle.job_run.specs.Jobs.{plan_of}
 use Rattle.job_run.specs.Plan.{Plan}
 use Rattle.job_run.specs.Values.{Named}
 use Rattle.node_runner.specs.Runs.{numbers as numbers_of}
-<<<<<<< ours
 use Rattle.thread_run.specs.Ends.{left_as}
-=======
 use Rattle.thread_run.specs.Losses.{losses_in}
->>>>>>> theirs
 use Rattle.thread_run.specs.Serving.{HasShort, ServesAll, ServesPart}
 use Rattle.thread_run.proofs.Openings.{opens-as}
 use Rattle.thread_run.proofs.Serves.{all-before, part-before, part_none, rose_after, rose_first, serves-none, serves-opened}
@@ -75,13 +72,8 @@ returns-clause-stopped g c =
     let most = losses_in c.args.plan.now in
     let reads : Type 0 = HasShort (map (λ v. vec_len v) c.in-Ok.feeds.items) c.args.plan.now.threads ⊎ Rose mid.read_faults new.read_faults in
     let writes : Type 0 = Rose mid.write_faults new.write_faults in
-<<<<<<< ours
-    IfErr-weaker c.run_saved.result.0 (λ e. ServesPart p named told reads writes mid.files new.files (left_as e)) (λ e. ServesPart p named told (Rose old.read_faults new.read_faults) (Rose old.write_faults new.write_faults) old.files new.files (left_as e))
-    (λ end part. part-before p named told (Rose old.read_faults new.read_faults) reads (Rose old.write_faults new.write_faults) writes old.files mid.files new.files (left_as end) o.held o.created o.tells
-=======
-    IfErr-weaker c.run_saved.result.0 (ServesPart p most named told reads writes mid.files new.files) (ServesPart p most named told (Rose old.read_faults new.read_faults) (Rose old.write_faults new.write_faults) old.files new.files)
-    (λ end part. part-before p most named told (Rose old.read_faults new.read_faults) reads (Rose old.write_faults new.write_faults) writes old.files mid.files new.files end o.held o.created o.tells
->>>>>>> theirs
+    IfErr-weaker c.run_saved.result.0 (λ e. ServesPart p most named told reads writes mid.files new.files (left_as e)) (λ e. ServesPart p most named told (Rose old.read_faults new.read_faults) (Rose old.write_faults new.write_faults) old.files new.files (left_as e))
+    (λ end part. part-before p most named told (Rose old.read_faults new.read_faults) reads (Rose old.write_faults new.write_faults) writes old.files mid.files new.files (left_as end) o.held o.created o.tells
     (λ why. elim why [
       | inl short ↦ rose_after old.read_faults mid.read_faults new.read_faults c.run_saved.ensures.files.read_later (c.in-Ok.ensures.short short.0 short.1 short.2)
       | inr rose ↦ rose_first old.read_faults mid.read_faults new.read_faults o.later rose

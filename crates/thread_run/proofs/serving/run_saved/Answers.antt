@@ -142,5 +142,5 @@ returns-clause-stopped g c =
 pub returns-clause-outgrown : goal.returns-clause-outgrown
 returns-clause-outgrown g c = λ is.
     let ends = c.run_cluster-ends.result.0 in
-    outgrew (facts_of g.P.Picks.picked (λ j. j.job) g.E.Elements.named g.V.Veil.told) (graph_of c.args.graph.now.job) c.args.plan.now c.args.wanted.now.all _ ends.result ends.left.items ends.histories
+    outgrew (facts_of g.P.Picks.picked (λ j. j.job) g.E.Elements.named g.V.Veil.told g.P.Picks.allowed) (graph_of c.args.graph.now.job) c.args.plan.now c.args.wanted.now.all _ ends.result ends.left.items ends.histories
     (c.ended.ensures.events is) c.run_cluster-ends.ensures.ended

@@ -7,11 +7,8 @@ use Rattle.job_run.specs.Jobs.{plan_of}
 use Rattle.job_run.specs.Plan.{Plan}
 use Rattle.job_run.specs.Values.{Named}
 use Rattle.node_runner.specs.Runs.{numbers as numbers_of}
-<<<<<<< ours
 use Rattle.thread_run.specs.Ends.{left_as}
-=======
 use Rattle.thread_run.specs.Losses.{losses_in}
->>>>>>> theirs
 use Rattle.thread_run.specs.Serving.{ServesAll, ServesPart}
 use Rattle.thread_run.proofs.Disks.{disk-for}
 use Rattle.thread_run.proofs.Fixed.{fixed-kept, told-tells}
@@ -78,13 +75,8 @@ returns-clause-stopped g c =
     let most = losses_in c.args.plan.now in
     let reads : Type 0 = Rose disks.read_faults mid.read_faults in
     let writes : Type 0 = Rose disks.write_faults mid.write_faults in
-<<<<<<< ours
-    IfErr-weaker c.run_feeds-served.result.0 (λ e. ServesPart p named told reads writes disks.files mid.files (left_as e)) (λ e. ServesPart p named told (Rose old.read_faults new.read_faults) (Rose old.write_faults new.write_faults) old.files new.files (left_as e))
-    (λ end part. part-between p named told (Rose old.read_faults new.read_faults) reads (Rose old.write_faults new.write_faults) writes old.files disks.files mid.files new.files (left_as end) c.open_stores.ensures.files c.give_stores.ensures.files
-=======
-    IfErr-weaker c.run_feeds-served.result.0 (ServesPart p most named told reads writes disks.files mid.files) (ServesPart p most named told (Rose old.read_faults new.read_faults) (Rose old.write_faults new.write_faults) old.files new.files)
-    (λ end part. part-between p most named told (Rose old.read_faults new.read_faults) reads (Rose old.write_faults new.write_faults) writes old.files disks.files mid.files new.files end c.open_stores.ensures.files c.give_stores.ensures.files
->>>>>>> theirs
+    IfErr-weaker c.run_feeds-served.result.0 (λ e. ServesPart p most named told reads writes disks.files mid.files (left_as e)) (λ e. ServesPart p most named told (Rose old.read_faults new.read_faults) (Rose old.write_faults new.write_faults) old.files new.files (left_as e))
+    (λ end part. part-between p most named told (Rose old.read_faults new.read_faults) reads (Rose old.write_faults new.write_faults) writes old.files disks.files mid.files new.files (left_as end) c.open_stores.ensures.files c.give_stores.ensures.files
     (λ rose. rose_after old.read_faults mid.read_faults new.read_faults (omega (arith, c.give_stores.ensures.read_faults)) (rose_first old.read_faults disks.read_faults mid.read_faults (omega (arith, c.open_stores.ensures.read_faults)) rose))
     (λ rose. rose_after old.write_faults mid.write_faults new.write_faults (omega (arith, c.give_stores.ensures.write_faults)) (rose_first old.write_faults disks.write_faults mid.write_faults (omega (arith, c.open_stores.ensures.write_faults)) rose)) part)
     c.run_feeds-served.ensures.stopped
