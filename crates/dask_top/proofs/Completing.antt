@@ -1,9 +1,5 @@
 -- A job ends as its text, its inputs and its values say where nothing failed.
-<<<<<<< ours
-use Rattle.std.proofs.Common.{◌≡◌, ℕ, List, [], ◌∷◌, get_or, string_bytes, refl, ap, sym, ◌∙◌, subst, inl, inr, arith, Option, Some, None, Ok, Err}
-=======
-use Rattle.std.proofs.Common.{◌≡◌, ◌+◌, ◌≤◌, ℕ, List, [], ◌∷◌, get_or, string_bytes, refl, ap, sym, ◌∙◌, subst, inl, inr, Option, Some, None, Ok, Err, arith}
->>>>>>> theirs
+use Rattle.std.proofs.Common.{◌≡◌, ◌+◌, ◌≤◌, ℕ, List, [], ◌∷◌, get_or, string_bytes, refl, ap, sym, ◌∙◌, subst, inl, inr, arith, Option, Some, None, Ok, Err}
 use Rattle.std.specs.Prelude.{◌⊎◌, IfSome, IsSomeAnd}
 use Rattle.io_edge.specs.View.{View, Files}
 use Rattle.nd_shape.specs.Block.{Array}
@@ -41,27 +37,19 @@ use Rattle.sim_run.specs.Jobs.{IsTextJob}
 use Rattle.sim_run.specs.declared.ends.SimEnded.{SimEnded}
 use Rattle.sim_run.specs.declared.ends.SimEnded.TheVariants as SimEnds
 use Rattle.sim_run.specs.Ends.{Cause as SimCause, WhereTold}
-<<<<<<< ours
+use Rattle.cluster_sim.specs.Faults.{IsKill}
+use Rattle.thread_run.specs.Losses.{IsKill as ThreadKill, losses_by}
 use Rattle.thread_run.specs.Ends.{Cause as ThreadCause, HasFault as ThreadFault, HasValues as ThreadValues, IsOutgrownRun}
+use Rattle.thread_run.specs.Reports.{IsOutgrown, label}
 use Rattle.thread_run.specs.declared.ends.ThreadEnded.{ThreadEnded}
 use Rattle.thread_run.specs.declared.ends.ThreadEnded.TheVariants as ThreadEnds
-=======
-use Rattle.cluster_sim.specs.Faults.{IsKill}
-use Rattle.thread_run.specs.Losses.{IsKill as ThreadKill}
-use Rattle.thread_run.specs.Ends.{Cause as ThreadCause, HasFault as ThreadFault, HasValues as ThreadValues}
->>>>>>> theirs
 use Rattle.command_words.proofs.Saying.{one_gen, one_plain, one_run, one_sim}
 use Rattle.dask_top.specs.declared.answer.End.TheVariants.{Words, Job, Limit, Graph, Events, Done, File, Zero, Killed, ReadFault, WriteFault, OutOfMemory}
 use Rattle.dask_top.specs.Answers.{Answers, AskedDoes, CommandDoes, Performs}
 use Rattle.dask_top.specs.Commands.{Command, Run, Plain, Sim, Gen, Asks, Asked, IsAsked, Known, Unread, Work, Running, Evaluation, Simulation, sources_of}
-<<<<<<< ours
-use Rattle.dask_top.specs.Completing.{CommandEnds, Completes, EndsByInputs, EndsByNumber, EndsByRun, EndsBySimulation, EndsByTexts, EndsByWork, MeetNoZero, MeetZero, NeverEnds, NoFault}
-use Rattle.dask_top.specs.Ends.{run_end, sim_end, status_of, thread_end}
-=======
 use Rattle.cluster_msgs.specs.Scripts.{removes_in}
-use Rattle.dask_top.specs.Completing.{Allows, AllowsAll, CommandEnds, Completes, EndsByInputs, EndsByNumber, EndsByRun, EndsBySimulation, EndsByTexts, EndsByWork, MeetNoZero, MeetZero, NeverEnds, NoFault}
-use Rattle.dask_top.specs.Ends.{run_end, sim_end, status_of}
->>>>>>> theirs
+use Rattle.dask_top.specs.Completing.{Allows, AllowsAll, AllowsRun, CommandEnds, Completes, EndsByInputs, EndsByNumber, EndsByRun, EndsBySimulation, EndsByTexts, EndsByWork, MeetNoZero, MeetZero, NeverEnds, NoFault}
+use Rattle.dask_top.specs.Ends.{run_end, sim_end, status_of, thread_end}
 use Rattle.dask_top.specs.Generating.{GenCause}
 use Rattle.dask_top.specs.Reading.{IsRead, Reading, Reads, plan_said}
 use Rattle.dask_top.specs.Telling.{end_of, sim_end_of, thread_end_of}
@@ -152,35 +140,21 @@ sim_memory p said old = record {
   none_killed = λ s f m. inr (inr (inr refl));
 }
 
-<<<<<<< ours
 threads_memory : (p : Plan) (said : RunWords) (old : View) → EndsByRun p said old 8
 threads_memory p said old = record {
   large = λ l. inr refl;
   unfit = λ s u. inr refl;
-  some = λ t s f m. inr (inr refl);
-  none = λ t s f m. inr (inr refl);
-  either = λ s f. inr (inr (inr refl));
+  some = λ t s f m all. inr (inr refl);
+  none = λ t s f m all. inr (inr refl);
+  either = λ s f all. inr (inr (inr refl));
+  some_killed = λ t s f m. inr (inr (inr refl));
+  none_killed = λ t s f m. inr (inr (inr refl));
+  either_killed = λ s f. inr (inr (inr (inr refl)));
   events = λ s e. absurd (omega (arith, e));
 }
 
 memory_ends : (work : Work) (p : Plan) (old : View) → EndsByWork work p old 8
 memory_ends (Running said) p old = threads_memory p said old
-=======
-threads_memory : (p : Plan) (allowed : Option ℕ) (script : List Item) (old : View) → EndsByRun p allowed script old 8
-threads_memory p allowed script old = record {
-  large = λ l. inr refl;
-  unfit = λ s u. inr refl;
-  some = λ t s f m all. inr refl;
-  none = λ t s f m all. inr refl;
-  either = λ s f all. inr (inr refl);
-  some_killed = λ t s f m. inr (inr refl);
-  none_killed = λ t s f m. inr (inr refl);
-  either_killed = λ s f. inr (inr (inr refl));
-}
-
-memory_ends : (work : Work) (p : Plan) (old : View) → EndsByWork work p old 8
-memory_ends (Running said) p old = threads_memory p said.settings.allowed said.script old
->>>>>>> theirs
 memory_ends Evaluation p old = run_memory p old
 memory_ends (Simulation said) p old = sim_memory p said old
 
@@ -255,79 +229,6 @@ fault_ends p old node block small has = record {
   none = λ s f m. absurd (not_faulty p old.files node block m has);
 }
 
-<<<<<<< ours
--- a run of a job whose inputs are as declared, which met a zero divisor or gave all blocks: of zero divisors it tells where the site tells
-threads_zero : (p : Plan) (said : RunWords) (old : View) (node : ℕ) (block : List ℕ) → IsSmall p → ThreadFault p old.files node block → EndsByRun p said old 4
-threads_zero p said old node block small has = record {
-  large = λ l. absurd (l small);
-  unfit = λ s u. absurd (not_fit p old.files u has.inputs);
-  some = λ t s f m. inl refl;
-  none = λ t s f m. absurd (not_faulty p old.files node block m (record { inputs = has.inputs; zero_at = has.zero_at t }));
-  either = λ s f. inr (inl refl);
-  events = λ s e. absurd (omega (arith, e));
-}
-
-threads_done : (p : Plan) (said : RunWords) (old : View) → IsSmall p → ThreadValues p old.files → EndsByRun p said old 0
-threads_done p said old small has = record {
-  large = λ l. absurd (l small);
-  unfit = λ s u. absurd (not_fit p old.files u has.inputs);
-  some = λ t s f m. absurd (not_all p old.files m (record { inputs = has.inputs; values = has.values t }));
-  none = λ t s f m. inl refl;
-  either = λ s f. inl refl;
-  events = λ s e. absurd (omega (arith, e));
-}
-
-threads_limit : (p : Plan) (said : RunWords) (old : View) (quantity : Quantity) → limit_of p.nodes ≡ Some quantity → EndsByRun p said old 9
-threads_limit p said old quantity passes = record {
-  large = λ l. inl refl;
-  unfit = λ s u. absurd (no_limit p quantity passes s);
-  some = λ t s f m. absurd (no_limit p quantity passes s);
-  none = λ t s f m. absurd (no_limit p quantity passes s);
-  either = λ s f. absurd (no_limit p quantity passes s);
-  events = λ s e. absurd (no_limit p quantity passes s);
-}
-
-threads_file : (p : Plan) (said : RunWords) (old : View) (place : ℕ) (error : FileError) → IsSmall p → InputRefused p old.files place error → EndsByRun p said old 3
-threads_file p said old place error small refused = record {
-  large = λ l. absurd (l small);
-  unfit = λ s u. inl refl;
-  some = λ t s f m. absurd (not_refused_input p old.files place error f refused);
-  none = λ t s f m. absurd (not_refused_input p old.files place error f refused);
-  either = λ s f. absurd (not_refused_input p old.files place error f refused);
-  events = λ s e. absurd (omega (arith, e));
-}
-
--- a node's core had taken all events: whether the inputs are as declared is known
-threads_events : (p : Plan) (said : RunWords) (old : View) → IsOutgrownRun p said old.files → EndsByRun p said old 9
-threads_events p said old has = record {
-  large = λ l. inl refl;
-  unfit = λ s u. absurd (not_fit p old.files u has.inputs);
-  some = λ t s f m. inr (inl refl);
-  none = λ t s f m. inr (inl refl);
-  either = λ s f. inr (inr (inl refl));
-  events = λ s e. has;
-}
-
-threads_ran : (p : Plan) (said : RunWords) (old new : View) (end : Ended) → NoFault old new → ThreadCause p old new end → EndsByRun p said old (status_of (end_of end))
-threads_ran p said old new RunEnds.Done faults cause = threads_done p said old cause.0 cause.1
-threads_ran p said old new (RunEnds.Limit quantity) faults cause = threads_limit p said old quantity cause
-threads_ran p said old new (RunEnds.File place error) faults cause = threads_file p said old place error cause.0 cause.1
-threads_ran p said old new (RunEnds.Zero node block) faults cause = threads_zero p said old node block cause.0 cause.1
-threads_ran p said old new RunEnds.ReadFault faults cause = absurd (faults.read cause.1)
-threads_ran p said old new RunEnds.WriteFault faults cause = absurd (elim cause.2 [ inl w ↦ faults.write w | inr q ↦ faults.print q.1 ])
-threads_ran p said old new RunEnds.OutOfMemory faults cause = threads_memory p said old
-
-threads_complete : (sources : List (List ℕ)) (p : Plan) (said : RunWords) (old new : View) (end : ThreadEnded) → NoFault old new → RunsToEnd sources p said old new end
-    → EndsByRun p said old (status_of (thread_end_of end))
-threads_complete sources p said old new ThreadEnds.Events faults does = threads_events p said old (does.events refl)
-threads_complete sources p said old new (ThreadEnds.Ran end) faults does = threads_ran p said old new end faults does.runs.cause
-
-sim_run_completes : (p : Plan) (said : SimWords) (old new : View) (end : Ended) → NoFault old new → SimCause p said old new (SimEnds.Ran end) → EndsByInputs p old (status_of (end_of end))
-sim_run_completes p said old new RunEnds.Done faults cause = done_ends p old cause.0 cause.1
-sim_run_completes p said old new (RunEnds.Limit quantity) faults cause = run_completes p old new (RunEnds.Limit quantity) faults cause
-sim_run_completes p said old new (RunEnds.File place error) faults cause = run_completes p old new (RunEnds.File place error) faults cause
-sim_run_completes p said old new (RunEnds.Zero node block) faults cause = fault_ends p old node block cause.0 cause.1
-=======
 -- so many losses as kill a key are more than the script takes away
 too_few : (allowed : Option ℕ) (script : List Item) (losses a : ℕ) → AllowsAll allowed script → allowed ≡ Some a → losses ≡ a + 1 → losses ≤ removes_in script → ⊥
 too_few allowed script losses a all is above often = let few : removes_in script ≤ a = subst (λ o. AllowsAll o script) is all in omega (arith, few, above, often)
@@ -348,8 +249,8 @@ sim_killed p said old losses small fit kill =
     }
 
 -- a run of a job whose inputs are as declared, which met a zero divisor or gave all blocks: of zero divisors it tells where the site tells
-module _ (p : Plan) (allowed : Option ℕ) (script : List Item) (old : View) where
-  threads_zero : (node : ℕ) (block : List ℕ) → IsSmall p → ThreadFault p old.files node block → EndsByRun p allowed script old 4
+module _ (p : Plan) (said : RunWords) (old : View) where
+  threads_zero : (node : ℕ) (block : List ℕ) → IsSmall p → ThreadFault p old.files node block → EndsByRun p said old 4
   threads_zero node block small has = record {
     large = λ l. absurd (l small);
     unfit = λ s u. absurd (not_fit p old.files u has.inputs);
@@ -359,9 +260,10 @@ module _ (p : Plan) (allowed : Option ℕ) (script : List Item) (old : View) whe
     some_killed = λ t s f m. inl refl;
     none_killed = λ t s f m. absurd (not_faulty p old.files node block m (record { inputs = has.inputs; zero_at = has.zero_at t }));
     either_killed = λ s f. inr (inl refl);
+    events = λ s e. absurd (omega (arith, e));
   }
 
-  threads_done : IsSmall p → ThreadValues p old.files → EndsByRun p allowed script old 0
+  threads_done : IsSmall p → ThreadValues p old.files → EndsByRun p said old 0
   threads_done small has = record {
     large = λ l. absurd (l small);
     unfit = λ s u. absurd (not_fit p old.files u has.inputs);
@@ -371,9 +273,10 @@ module _ (p : Plan) (allowed : Option ℕ) (script : List Item) (old : View) whe
     some_killed = λ t s f m. absurd (not_all p old.files m (record { inputs = has.inputs; values = has.values t }));
     none_killed = λ t s f m. inl refl;
     either_killed = λ s f. inl refl;
+    events = λ s e. absurd (omega (arith, e));
   }
 
-  threads_limit : (quantity : Quantity) → limit_of p.nodes ≡ Some quantity → EndsByRun p allowed script old 9
+  threads_limit : (quantity : Quantity) → limit_of p.nodes ≡ Some quantity → EndsByRun p said old 9
   threads_limit quantity passes = record {
     large = λ l. inl refl;
     unfit = λ s u. absurd (no_limit p quantity passes s);
@@ -383,9 +286,10 @@ module _ (p : Plan) (allowed : Option ℕ) (script : List Item) (old : View) whe
     some_killed = λ t s f m. absurd (no_limit p quantity passes s);
     none_killed = λ t s f m. absurd (no_limit p quantity passes s);
     either_killed = λ s f. absurd (no_limit p quantity passes s);
+    events = λ s e. absurd (no_limit p quantity passes s);
   }
 
-  threads_file : (place : ℕ) (error : FileError) → IsSmall p → InputRefused p old.files place error → EndsByRun p allowed script old 3
+  threads_file : (place : ℕ) (error : FileError) → IsSmall p → InputRefused p old.files place error → EndsByRun p said old 3
   threads_file place error small refused = record {
     large = λ l. absurd (l small);
     unfit = λ s u. inl refl;
@@ -395,13 +299,14 @@ module _ (p : Plan) (allowed : Option ℕ) (script : List Item) (old : View) whe
     some_killed = λ t s f m. absurd (not_refused_input p old.files place error f refused);
     none_killed = λ t s f m. absurd (not_refused_input p old.files place error f refused);
     either_killed = λ s f. absurd (not_refused_input p old.files place error f refused);
+    events = λ s e. absurd (omega (arith, e));
   }
 
   -- a key was killed, and all reads went well
-  threads_killed : (losses : ℕ) (reads : Type 0) → (reads → ⊥) → IsSmall p → InputsFit p old.files → ThreadKill (record { allowed = allowed; script = script }) reads losses → EndsByRun p allowed script old 11
+  threads_killed : (losses : ℕ) (reads : Type 0) → (reads → ⊥) → IsSmall p → InputsFit p old.files → ThreadKill (losses_by said) reads losses → EndsByRun p said old 11
   threads_killed losses reads read small fit kill =
-      let never : AllowsAll allowed script → ⊥ = λ all. elim kill.often [
-        | inl often ↦ too_few allowed script losses kill.above.0 all kill.above.1 kill.above.2 often
+      let never : AllowsRun said → ⊥ = λ all. elim kill.often [
+        | inl often ↦ too_few said.settings.allowed said.script losses kill.above.0 all kill.above.1 kill.above.2 often
         | inr rose ↦ read rose
       ] in
       record {
@@ -413,17 +318,37 @@ module _ (p : Plan) (allowed : Option ℕ) (script : List Item) (old : View) whe
         some_killed = λ t s f m. inr (inl refl);
         none_killed = λ t s f m. inr (inl refl);
         either_killed = λ s f. inr (inr (inl refl));
+        events = λ s e. absurd (omega (arith, e));
       }
 
-threads_complete : (p : Plan) (said : RunWords) (old new : View) (end : Ended) → NoFault old new → ThreadCause p said old new end → EndsByRun p said.settings.allowed said.script old (status_of (end_of end))
-threads_complete p said old new RunEnds.Done faults cause = threads_done p said.settings.allowed said.script old cause.0 cause.1
-threads_complete p said old new (RunEnds.Limit quantity) faults cause = threads_limit p said.settings.allowed said.script old quantity cause
-threads_complete p said old new (RunEnds.File place error) faults cause = threads_file p said.settings.allowed said.script old place error cause.0 cause.1
-threads_complete p said old new (RunEnds.Zero node block) faults cause = threads_zero p said.settings.allowed said.script old node block cause.0 cause.1
-threads_complete p said old new (RunEnds.Killed key losses) faults cause = threads_killed p said.settings.allowed said.script old losses _ faults.read cause.0 cause.1.inputs cause.1.kill
-threads_complete p said old new RunEnds.ReadFault faults cause = absurd (faults.read cause.1)
-threads_complete p said old new RunEnds.WriteFault faults cause = absurd (elim cause.2 [ inl w ↦ faults.write w | inr q ↦ faults.print q.1 ])
-threads_complete p said old new RunEnds.OutOfMemory faults cause = threads_memory p said.settings.allowed said.script old
+  -- a node's core had taken all events: whether the inputs are as declared is known
+  threads_events : IsOutgrownRun p said old.files → EndsByRun p said old 9
+  threads_events has = record {
+    large = λ l. inl refl;
+    unfit = λ s u. absurd (not_fit p old.files u has.inputs);
+    some = λ t s f m all. inr (inl refl);
+    none = λ t s f m all. inr (inl refl);
+    either = λ s f all. inr (inr (inl refl));
+    some_killed = λ t s f m. inr (inr (inl refl));
+    none_killed = λ t s f m. inr (inr (inl refl));
+    either_killed = λ s f. inr (inr (inr (inl refl)));
+    events = λ s e. has;
+  }
+
+threads_ran : (p : Plan) (said : RunWords) (old new : View) (end : Ended) → NoFault old new → ThreadCause p said old new end → EndsByRun p said old (status_of (end_of end))
+threads_ran p said old new RunEnds.Done faults cause = threads_done p said old cause.0 cause.1
+threads_ran p said old new (RunEnds.Limit quantity) faults cause = threads_limit p said old quantity cause
+threads_ran p said old new (RunEnds.File place error) faults cause = threads_file p said old place error cause.0 cause.1
+threads_ran p said old new (RunEnds.Zero node block) faults cause = threads_zero p said old node block cause.0 cause.1
+threads_ran p said old new (RunEnds.Killed key losses) faults cause = threads_killed p said old losses _ faults.read cause.0 cause.1.inputs cause.1.kill
+threads_ran p said old new RunEnds.ReadFault faults cause = absurd (faults.read cause.1)
+threads_ran p said old new RunEnds.WriteFault faults cause = absurd (elim cause.2 [ inl w ↦ faults.write w | inr q ↦ faults.print q.1 ])
+threads_ran p said old new RunEnds.OutOfMemory faults cause = threads_memory p said old
+
+threads_complete : (sources : List (List ℕ)) (p : Plan) (said : RunWords) (old new : View) (end : ThreadEnded) → NoFault old new → RunsToEnd sources p said old new end
+    → EndsByRun p said old (status_of (thread_end_of end))
+threads_complete sources p said old new ThreadEnds.Events faults does = threads_events p said old (does.events refl)
+threads_complete sources p said old new (ThreadEnds.Ran end) faults does = threads_ran p said old new end faults does.runs.cause
 
 sim_run_completes : (p : Plan) (said : SimWords) (old new : View) (end : Ended) → NoFault old new → SimCause p said old new (SimEnds.Ran end) → EndsBySimulation p said old (status_of (end_of end))
 sim_run_completes p said old new RunEnds.Done faults cause = run_ends p said old 0 (done_ends p old cause.0 cause.1)
@@ -431,7 +356,6 @@ sim_run_completes p said old new (RunEnds.Limit quantity) faults cause = run_end
 sim_run_completes p said old new (RunEnds.File place error) faults cause = run_ends p said old 3 (run_completes p old new (RunEnds.File place error) faults cause)
 sim_run_completes p said old new (RunEnds.Zero node block) faults cause = run_ends p said old 4 (fault_ends p old node block cause.0 cause.1)
 sim_run_completes p said old new (RunEnds.Killed key losses) faults cause = sim_killed p said old losses cause.0 cause.1 cause.2
->>>>>>> theirs
 sim_run_completes p said old new RunEnds.ReadFault faults cause = absurd (faults.read cause.1)
 sim_run_completes p said old new RunEnds.WriteFault faults cause = absurd (elim cause.2 [ inl w ↦ faults.write w | inr q ↦ faults.print q ])
 sim_run_completes p said old new RunEnds.OutOfMemory faults cause = run_ends p said old 8 (run_memory p old)
@@ -475,6 +399,7 @@ of_thread : (P : ThreadEnded → Type 0) (Q : ℕ → Type 0) → ((e : ThreadEn
 of_thread P Q f Done holds = f (ThreadEnds.Ran RunEnds.Done) holds
 of_thread P Q f (File place error) holds = f (ThreadEnds.Ran (RunEnds.File place error)) holds
 of_thread P Q f (Zero node block) holds = f (ThreadEnds.Ran (RunEnds.Zero node block)) holds
+of_thread P Q f (Killed key losses) holds = f (ThreadEnds.Ran (RunEnds.Killed key losses)) holds
 of_thread P Q f ReadFault holds = f (ThreadEnds.Ran RunEnds.ReadFault) holds
 of_thread P Q f WriteFault holds = f (ThreadEnds.Ran RunEnds.WriteFault) holds
 of_thread P Q f OutOfMemory holds = f (ThreadEnds.Ran RunEnds.OutOfMemory) holds
@@ -485,11 +410,7 @@ of_thread P Q f (Job error) holds = absurd holds
 of_thread P Q f (Limit quantity) holds = absurd holds
 
 work_completes : (work : Work) (sources : List (List ℕ)) (p : Plan) (old new : View) (end : End) → NoFault old new → WorkDoes work sources p old new end → EndsByWork work p old (status_of end)
-<<<<<<< ours
 work_completes (Running said) sources p old new end faults does = of_thread (RunsToEnd sources p said old new) (EndsByRun p said old) (λ e d. threads_complete sources p said old new e faults d) end does
-=======
-work_completes (Running said) sources p old new end faults does = of_run (Runs sources p said old new) (EndsByRun p said.settings.allowed said.script old) (λ e d. threads_complete p said old new e faults d.cause) end does
->>>>>>> theirs
 work_completes Evaluation sources p old new end faults does = of_run (Evaluates sources p old new) (EndsByInputs p old) (λ e d. run_completes p old new e faults d.cause) end does
 work_completes (Simulation said) sources p old new end faults does = of_sim (Simulates sources p said old new) (EndsBySimulation p said old) (λ e d. sim_completes p said old new e faults d.cause) end does
 
@@ -565,7 +486,6 @@ text_memory sources work old = record { refused = λ none. inr (inr refl); runs 
 same_source : (work : Work) (job other : List ℕ) (old : View) (status : ℕ) → job ≡ other → EndsByTexts (job ∷ []) work old status → EndsByTexts (other ∷ []) work old status
 same_source work job other old status same ends = let H : List ℕ → Type 0 = λ j. EndsByTexts (j ∷ []) work old status in subst H same ends
 
-<<<<<<< ours
 -- words of the same settings and script make a run of the same plan
 same_outgrown : (p : Plan) (said read : RunWords) (files : Files) → SameRun said read → IsOutgrownRun p said files → IsOutgrownRun p read files
 same_outgrown p said read files same is = record {
@@ -581,13 +501,17 @@ same_outgrown p said read files same is = record {
       workers = is.run.plan_is.workers ∙ ap (λ (s : RunSettings). s.workers) same.settings;
       threads = is.run.plan_is.threads ∙ ap (λ (s : RunSettings). s.threads) same.settings;
       saturation = is.run.plan_is.saturation ∙ ap (λ (s : RunSettings). s.saturation) same.settings;
+      allowed = is.run.plan_is.allowed ∙ ap (λ (s : RunSettings). s.allowed) same.settings;
       script = is.run.plan_is.script ∙ same.script;
     };
-    run = is.run.run;
+    run = subst (λ (s : RunSettings). IsOutgrown (label is.told s.allowed is.named (tasks_of p)) (shape_of (tasks_of p)) is.run.plan) same.settings is.run.run;
   };
 }
 
--- which workers there are, and what happens to them, decides of how a run ends only whether a core has taken all events
+allows_run : (said read : RunWords) → SameRun said read → AllowsRun read → AllowsRun said
+allows_run said read same all = let A : Option ℕ × List Item → Type 0 = λ x. AllowsAll x.0 x.1 in subst A (λ i. ((sym same.settings i).allowed, sym same.script i)) all
+
+-- of the words it is what losses are allowed, and the script, that decide how a run ends, and all of the plan only whether a core has taken all events
 ran : (said read : RunWords) (old : View) (status : ℕ) → SameRun said read → EndsByTexts (string_bytes said.job ∷ []) (Running said) old status → EndsByTexts (string_bytes read.job ∷ []) (Running read) old status
 ran said read old status same ends =
     let there = same_source (Running said) (string_bytes said.job) (string_bytes read.job) old status same.job ends in
@@ -596,20 +520,15 @@ ran said read old status same ends =
       runs = λ p says. let e = there.runs p says in record {
         large = e.large;
         unfit = e.unfit;
-        some = e.some;
-        none = e.none;
-        either = e.either;
+        some = λ tells small fit meet all. e.some tells small fit meet (allows_run said read same all);
+        none = λ tells small fit meet all. e.none tells small fit meet (allows_run said read same all);
+        either = λ small fit all. e.either small fit (allows_run said read same all);
+        some_killed = e.some_killed;
+        none_killed = e.none_killed;
+        either_killed = e.either_killed;
         events = λ small is. same_outgrown p said read old.files same (e.events small is);
       };
     }
-=======
--- of the words it is only what losses are allowed, and the script, that decides how a run ends
-ran : (said read : RunWords) (old : View) (status : ℕ) → SameRun said read → EndsByTexts (string_bytes said.job ∷ []) (Running said) old status → EndsByTexts (string_bytes read.job ∷ []) (Running read) old status
-ran said read old status same ends =
-    let there = same_source (Running said) (string_bytes said.job) (string_bytes read.job) old status same.job ends in
-    let E : Plan → Option ℕ × List Item → Type 0 = λ p x. EndsByRun p x.0 x.1 old status in
-    record { refused = there.refused; runs = λ p says. subst (E p) (λ i. ((same.settings i).allowed, same.script i)) (there.runs p says) }
->>>>>>> theirs
 
 -- a job of a text is one whatever the name of its file
 is_kind : (p : Plan) (files : Files) (said read : SimWords) (job : ClusterJob) (wanted : List ℕ) → said.settings ≡ read.settings → IsTextJob p files said job wanted → IsTextJob p files read job wanted

@@ -13,12 +13,8 @@ use Rattle.job_run.specs.Plan.{Plan, names_saved}
 use Rattle.job_run.specs.Runs.{AreRight, Created, StopsPrinting}
 use Rattle.job_run.proofs.Counting.{times-append}
 use Rattle.thread_run.specs.Counts.{RaisedBetween, feeds, repeated}
-<<<<<<< ours
 use Rattle.thread_run.specs.Ends.{Cause, HasValues, Saves, Opened, Looked, Prints, PrintsRun, IsOutgrownRun, LeavesAs, RunsByThreads, WritesFail, left_as, lines_of, openings}
-=======
-use Rattle.thread_run.specs.Ends.{Cause, HasValues, Saves, Opened, Looked, Prints, PrintsRun, RunsByThreads, WritesFail, lines_of, openings}
 use Rattle.thread_run.specs.Losses.{losses_by}
->>>>>>> theirs
 use Rattle.thread_run.specs.Reports.{IsToldRun}
 use Rattle.thread_run.specs.declared.ends.ThreadEnded.{ThreadEnded}
 use Rattle.thread_run.specs.declared.ends.ThreadEnded.TheVariants as ThreadEnds
@@ -29,15 +25,9 @@ use Rattle.dask_top.specs.Answers.{Performs}
 use Rattle.dask_top.specs.Commands.{Running}
 use Rattle.dask_top.specs.Ends.{Notes, thread_end}
 use Rattle.dask_top.specs.Opening.{TextRead, JobRead}
-<<<<<<< ours
 use Rattle.dask_top.specs.Telling.{IsRefusal, Told, end_of, thread_end_of}
 use Rattle.dask_top.specs.Works.{RunningOpened, Runs, RunsToEnd, WorkDoes}
-use Rattle.dask_top.proofs.Evaluating.{cause_before, fit_before, refusal_created, right_before, saves_before, stops_before, stops_told}
-=======
-use Rattle.dask_top.specs.Telling.{IsRefusal, Told, end_of}
-use Rattle.dask_top.specs.Works.{RunningOpened, Runs, WorkDoes}
-use Rattle.dask_top.proofs.Evaluating.{cause_before, fit_before, refusal_created, right_before, rose_later, run_is, saves_before, stops_before, stops_told}
->>>>>>> theirs
+use Rattle.dask_top.proofs.Evaluating.{cause_before, fit_before, refusal_created, right_before, rose_later, saves_before, stops_before, stops_told}
 use Rattle.dask_top.proofs.Opening.{raised_by-append, raised_first, raised_more}
 use Rattle.dask_top.proofs.Reading.{is_given, is_read}
 use Rattle.dask_top.proofs.Unread.{notes_before}
@@ -148,6 +138,7 @@ thread_is P (ThreadEnds.Ran RunEnds.Done) holds = holds
 thread_is P (ThreadEnds.Ran (RunEnds.Limit quantity)) holds = holds
 thread_is P (ThreadEnds.Ran (RunEnds.File place error)) holds = holds
 thread_is P (ThreadEnds.Ran (RunEnds.Zero node block)) holds = holds
+thread_is P (ThreadEnds.Ran (RunEnds.Killed key losses)) holds = holds
 thread_is P (ThreadEnds.Ran RunEnds.ReadFault) holds = holds
 thread_is P (ThreadEnds.Ran RunEnds.WriteFault) holds = holds
 thread_is P (ThreadEnds.Ran RunEnds.OutOfMemory) holds = holds

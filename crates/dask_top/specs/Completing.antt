@@ -51,35 +51,29 @@ pub record EndsByInputs (p : Plan) (old : View) (status : ℕ) : Type 0 where
   pub some : IsSmall p → Tell p old (FitInputs p) → Tell p old (MeetZero p) → (status ≡ 4) ⊎ (status ≡ 8)
   pub none : IsSmall p → Tell p old (FitInputs p) → Tell p old (MeetNoZero p) → (status ≡ 0) ⊎ (status ≡ 8)
 
-<<<<<<< ours
--- How a run by threads ends: as an evaluation of its job does, or after 2^40 events of a node's core. Its workers' blocks lie on disks of the site, too: so
--- zero divisors decide where it tells what it holds.
-pub record EndsByRun (p : Plan) (said : RunWords) (old : View) (status : ℕ) : Type 0 where
-  pub large : ¬ IsSmall p → (status ≡ 9) ⊎ (status ≡ 8)
-  pub unfit : IsSmall p → Tell p old (λ contents. ¬ FitInputs p contents) → (status ≡ 3) ⊎ (status ≡ 8)
-  pub some : IsTrue old.files.tells → IsSmall p → Tell p old (FitInputs p) → Tell p old (MeetZero p) → (status ≡ 4) ⊎ ((status ≡ 9) ⊎ (status ≡ 8))
-  pub none : IsTrue old.files.tells → IsSmall p → Tell p old (FitInputs p) → Tell p old (MeetNoZero p) → (status ≡ 0) ⊎ ((status ≡ 9) ⊎ (status ≡ 8))
-  pub either : IsSmall p → Tell p old (FitInputs p) → (status ≡ 0) ⊎ ((status ≡ 4) ⊎ ((status ≡ 9) ⊎ (status ≡ 8)))
-  -- 9 comes of no other cause where no limit of the graph is passed
-  pub events : IsSmall p → status ≡ 9 → IsOutgrownRun p said old.files
-=======
 -- a script takes workers away no more often than a key's worker may leave, where that is bounded
 abbrev pub AllowsAll : Option ℕ → List Item → Type 0
 AllowsAll None script = Unit {0}
 AllowsAll (Some most) script = removes_in script ≤ most
 
--- How a run by threads ends, by what losses are allowed and its script: as an evaluation of its job does, where all that the script takes away is
--- allowed; else a key may be killed. Its workers' blocks lie on disks of the site, too: so zero divisors decide where it tells what it holds.
-pub record EndsByRun (p : Plan) (allowed : Option ℕ) (script : List Item) (old : View) (status : ℕ) : Type 0 where
+abbrev pub AllowsRun : RunWords → Type 0
+AllowsRun said = AllowsAll said.settings.allowed said.script
+
+-- How a run by threads ends: as an evaluation of its job does, where all that the script takes away is allowed, or after 2^40 events of a node's core; else
+-- a key may be killed. Its workers' blocks lie on disks of the site, too: so zero divisors decide where it tells what it holds.
+pub record EndsByRun (p : Plan) (said : RunWords) (old : View) (status : ℕ) : Type 0 where
   pub large : ¬ IsSmall p → (status ≡ 9) ⊎ (status ≡ 8)
   pub unfit : IsSmall p → Tell p old (λ contents. ¬ FitInputs p contents) → (status ≡ 3) ⊎ (status ≡ 8)
-  pub some : IsTrue old.files.tells → IsSmall p → Tell p old (FitInputs p) → Tell p old (MeetZero p) → AllowsAll allowed script → (status ≡ 4) ⊎ (status ≡ 8)
-  pub none : IsTrue old.files.tells → IsSmall p → Tell p old (FitInputs p) → Tell p old (MeetNoZero p) → AllowsAll allowed script → (status ≡ 0) ⊎ (status ≡ 8)
-  pub either : IsSmall p → Tell p old (FitInputs p) → AllowsAll allowed script → (status ≡ 0) ⊎ ((status ≡ 4) ⊎ (status ≡ 8))
-  pub some_killed : IsTrue old.files.tells → IsSmall p → Tell p old (FitInputs p) → Tell p old (MeetZero p) → (status ≡ 4) ⊎ ((status ≡ 11) ⊎ (status ≡ 8))
-  pub none_killed : IsTrue old.files.tells → IsSmall p → Tell p old (FitInputs p) → Tell p old (MeetNoZero p) → (status ≡ 0) ⊎ ((status ≡ 11) ⊎ (status ≡ 8))
-  pub either_killed : IsSmall p → Tell p old (FitInputs p) → (status ≡ 0) ⊎ ((status ≡ 4) ⊎ ((status ≡ 11) ⊎ (status ≡ 8)))
->>>>>>> theirs
+  pub some : IsTrue old.files.tells → IsSmall p → Tell p old (FitInputs p) → Tell p old (MeetZero p) → AllowsRun said → (status ≡ 4) ⊎ ((status ≡ 9) ⊎ (status ≡ 8))
+  pub none : IsTrue old.files.tells → IsSmall p → Tell p old (FitInputs p) → Tell p old (MeetNoZero p) → AllowsRun said → (status ≡ 0) ⊎ ((status ≡ 9) ⊎ (status ≡ 8))
+  pub either : IsSmall p → Tell p old (FitInputs p) → AllowsRun said → (status ≡ 0) ⊎ ((status ≡ 4) ⊎ ((status ≡ 9) ⊎ (status ≡ 8)))
+  pub some_killed : IsTrue old.files.tells → IsSmall p → Tell p old (FitInputs p) → Tell p old (MeetZero p)
+      → (status ≡ 4) ⊎ ((status ≡ 11) ⊎ ((status ≡ 9) ⊎ (status ≡ 8)))
+  pub none_killed : IsTrue old.files.tells → IsSmall p → Tell p old (FitInputs p) → Tell p old (MeetNoZero p)
+      → (status ≡ 0) ⊎ ((status ≡ 11) ⊎ ((status ≡ 9) ⊎ (status ≡ 8)))
+  pub either_killed : IsSmall p → Tell p old (FitInputs p) → (status ≡ 0) ⊎ ((status ≡ 4) ⊎ ((status ≡ 11) ⊎ ((status ≡ 9) ⊎ (status ≡ 8))))
+  -- 9 comes of no other cause where no limit of the graph is passed
+  pub events : IsSmall p → status ≡ 9 → IsOutgrownRun p said old.files
 
 -- a simulation of a job by these words draws 2^40 events and comes to no end
 abbrev pub NeverEnds : Plan → SimWords → View → Type 0
@@ -101,11 +95,7 @@ pub record EndsBySimulation (p : Plan) (said : SimWords) (old : View) (status : 
   pub none_killed : IsSmall p → Tell p old (FitInputs p) → Tell p old (MeetNoZero p) → (status ≡ 0) ⊎ ((status ≡ 11) ⊎ ((status ≡ 9) ⊎ (status ≡ 8)))
 
 abbrev pub EndsByWork : Work → Plan → View → ℕ → Type 0
-<<<<<<< ours
 EndsByWork (Running said) p old status = EndsByRun p said old status
-=======
-EndsByWork (Running said) p old status = EndsByRun p said.settings.allowed said.script old status
->>>>>>> theirs
 EndsByWork Evaluation p old status = EndsByInputs p old status
 EndsByWork (Simulation said) p old status = EndsBySimulation p said old status
 

@@ -8,13 +8,9 @@ use Rattle.gen_run.specs.declared.ends.GenEnded.TheVariants as GenEnds
 use Rattle.dask_top.specs.declared.answer.End.{End}
 use Rattle.sim_run.specs.declared.ends.SimEnded.{SimEnded}
 use Rattle.sim_run.specs.declared.ends.SimEnded.TheVariants as SimEnds
-<<<<<<< ours
 use Rattle.thread_run.specs.declared.ends.ThreadEnded.{ThreadEnded}
 use Rattle.thread_run.specs.declared.ends.ThreadEnded.TheVariants as ThreadEnds
-use Rattle.dask_top.specs.declared.answer.End.TheVariants.{Job, Limit, Graph, Events, Done, File, Zero, ReadFault, WriteFault, OutOfMemory}
-=======
 use Rattle.dask_top.specs.declared.answer.End.TheVariants.{Job, Limit, Graph, Events, Done, File, Zero, Killed, ReadFault, WriteFault, OutOfMemory}
->>>>>>> theirs
 use Rattle.dask_top.specs.Reading.{Reading, plan_in}
 
 -- an end whose line is made when it comes
