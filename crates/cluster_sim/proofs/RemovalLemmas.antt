@@ -66,11 +66,11 @@ module _ (k total : ℕ) (j : Job) (w : Cluster) (script : List Item) (u : IsNum
         lost = λ x c a. h.lost x (before j w (SeeLoss v) refl x c) (dead_before j w (SeeLoss v) x refl a);
         low = λ x i. let b = h.low x i in let l = (world_keeps j w (SeeLoss v)).last in omega (arith, b, l);
         losses = (
-          let a = one_more j w (SeeLoss v) k u.counted in
-          let b = h.losses in
-          let g = one_gone (is_connected w) (is_connected (world_step j w (SeeLoss v))) v h.taken (λ x i c. before j w (SeeLoss v) refl x c) among both.1 (seen_gone j w v) in
-          omega (arith, a, b, g)
-        );
+            let a = one_more j w (SeeLoss v) k u.counted in
+            let b = h.losses in
+            let g = one_gone (is_connected w) (is_connected (world_step j w (SeeLoss v))) v h.taken (λ x i c. before j w (SeeLoss v) refl x c) among both.1 (seen_gone j w v) in
+            omega (arith, a, b, g)
+            );
       }
 
   module _ (later : List Item) where
@@ -85,12 +85,12 @@ module _ (k total : ℕ) (j : Job) (w : Cluster) (script : List Item) (u : IsNum
           (λ i. let b = h.low x i in omega (arith, b, l))
           (or_cases (v == x) (is_in x h.taken) i);
       losses = (
-        let a = no_more j w (Lose v) k u.counted refl in
-        let b = h.losses in
-        let g = more_gone (is_connected w) (is_connected (world_step j w (Lose v))) h.taken (λ x i c. before j w (Lose v) refl x c) in
-        let m = longer (not (is_connected (world_step j w (Lose v)) v)) v (filter (λ x. not (is_connected (world_step j w (Lose v)) x)) h.taken) in
-        omega (arith, a, b, g, m)
-      );
+          let a = no_more j w (Lose v) k u.counted refl in
+          let b = h.losses in
+          let g = more_gone (is_connected w) (is_connected (world_step j w (Lose v))) h.taken (λ x i c. before j w (Lose v) refl x c) in
+          let m = longer (not (is_connected (world_step j w (Lose v)) v)) v (filter (λ x. not (is_connected (world_step j w (Lose v)) x)) h.taken) in
+          omega (arith, a, b, g, m)
+          );
     }
       where
         by : (x : ℕ) → is_connected (world_step j w (Lose v)) x ≡ true → (world_step j w (Lose v)).alive x ≡ false → (b : Bool) → (v == x) ≡ b → is_in x (v ∷ h.taken) ≡ true
@@ -108,12 +108,12 @@ module _ (k total : ℕ) (j : Job) (w : Cluster) (script : List Item) (u : IsNum
           (λ i. let b = h.low x i in omega (arith, b, l))
           (or_cases (v == x) (is_in x h.taken) i);
       losses = (
-        let a = one_more j w (Suspect v) k u.counted in
-        let b = h.losses in
-        let g = more_gone (is_connected w) (is_connected (world_step j w (Suspect v))) h.taken (λ x i c. before j w (Suspect v) refl x c) in
-        let m = longer_by_one (is_connected (world_step j w (Suspect v)) v) v (filter (λ x. not (is_connected (world_step j w (Suspect v)) x)) h.taken) (suspected_gone j w v) in
-        omega (arith, a, b, g, m)
-      );
+          let a = one_more j w (Suspect v) k u.counted in
+          let b = h.losses in
+          let g = more_gone (is_connected w) (is_connected (world_step j w (Suspect v))) h.taken (λ x i c. before j w (Suspect v) refl x c) in
+          let m = longer_by_one (is_connected (world_step j w (Suspect v)) v) v (filter (λ x. not (is_connected (world_step j w (Suspect v)) x)) h.taken) (suspected_gone j w v) in
+          omega (arith, a, b, g, m)
+          );
     }
       where
         by : (x : ℕ) → is_connected (world_step j w (Suspect v)) x ≡ true → (world_step j w (Suspect v)).alive x ≡ false → (b : Bool) → (v == x) ≡ b → is_in x (v ∷ h.taken) ≡ true
@@ -128,11 +128,11 @@ module _ (k total : ℕ) (j : Job) (w : Cluster) (script : List Item) (u : IsNum
       lost = λ x c a. by x c a (x == w.sched.last_worker + 1) refl;
       low = λ x i. let b = h.low x i in let l = (world_keeps j w (Join threads)).last in omega (arith, b, l);
       losses = (
-        let a = no_more j w (Join threads) k u.counted refl in
-        let b = h.losses in
-        let g = more_gone (is_connected w) (is_connected (world_step j w (Join threads))) h.taken (λ x i c. before_join j w threads x (old x i) c) in
-        omega (arith, a, b, g)
-      );
+          let a = no_more j w (Join threads) k u.counted refl in
+          let b = h.losses in
+          let g = more_gone (is_connected w) (is_connected (world_step j w (Join threads))) h.taken (λ x i c. before_join j w threads x (old x i) c) in
+          omega (arith, a, b, g)
+          );
     }
       where
         by : (x : ℕ) → is_connected (world_step j w (Join threads)) x ≡ true → (world_step j w (Join threads)).alive x ≡ false → (b : Bool) → (x == w.sched.last_worker + 1) ≡ b → is_in x h.taken ≡ true

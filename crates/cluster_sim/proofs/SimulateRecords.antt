@@ -114,4 +114,4 @@ pub blamed_by : {J B F : Type 0} (op : J → ℕ → List B → Option B) (tells
     → IfBlamed (running op old) es (deps_of (setting old).shape) (val (deps_of (setting old).shape) (op old.job)) wanted (option_map (fault_at (world new)) failure)
 blamed_by op tells p wanted number v failure old new r sound stays served few es h =
     blame_is (setting old) (op old.job) wanted es (world new) failure sound h.legal
-        (draw_keeps (running op old) (word_of number) p wanted es v h.drawn) (few es h.legal) (setting-world new ∙ stays.setting) h.reached served.between.standing.client served.over
+    (draw_keeps (running op old) (word_of number) p wanted es v h.drawn) (few es h.legal) (setting-world new ∙ stays.setting) h.reached served.between.standing.client served.over

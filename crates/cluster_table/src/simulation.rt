@@ -46,7 +46,10 @@ fn print_told(page: &mut Page, end: &SimEnd) {
     page.item("turns ", end.turns);
     match end.fault {
         Some(Fault::Zero { key }) => page.item(" blame ", key),
-        Some(Fault::Killed { key, losses }) => page.numbers(" killed", &[key as u64, losses as u64]),
+        Some(Fault::Killed { key, losses }) => page.numbers(
+            " killed",
+            &[key as u64, losses as u64],
+        ),
         None => {}
     }
     page.put("\n");

@@ -143,10 +143,14 @@ fn tell_answer(
             worker: holder,
             key,
         } => tell_remove(alloc, worker == holder, worker, key, out),
-        Answer::Acquire {
-            worker: taker,
+        Answer::Acquire { worker: taker, key } => tell_acquire(
+            alloc,
+            table,
+            worker == taker,
+            worker,
             key,
-        } => tell_acquire(alloc, table, worker == taker, worker, key, out),
+            out,
+        ),
     }
 }
 
