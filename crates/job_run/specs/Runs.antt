@@ -59,8 +59,7 @@ Cause p old new OutOfMemory = Unit {0}
 -- why the inputs weren't opened, or one of them is refused
 abbrev pub ReadCause : Plan → View → View → Ended → Type 0
 ReadCause p old new (File place error) = InputRefused p old.files place error × IsRefusedGiven p old new place error
-ReadCause p old new (Killed key losses) = ⊥
-Cause p old new ReadFault = Rose old.read_faults new.read_faults
+ReadCause p old new ReadFault = Rose old.read_faults new.read_faults
 ReadCause p old new OutOfMemory = Unit {0}
 ReadCause p old new end = ⊥
 
