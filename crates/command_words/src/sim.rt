@@ -99,10 +99,10 @@ fn sim_of(alloc: Global, matches: &ArgMatches<'_>) -> Result<SimWords, WordsFail
 /// What the words `sim JOB NUMBER` with their options say.
 ///
 /// The options are `--workers N` (1 to 64, else 4), `--threads N` (1 to 16, else 2), `--saturation N` (1 to 1000, else 11),
-/// `--allowed-failures N` (0 to 1000, else losses aren't bounded) and `--script S`, each at most once, in any order. A script is up to 1,000 items `lose:W@N`, `suspect:W@N` or `join@N` with
-/// commas between, with N not falling, that takes away only workers that are there, lets at most 64 join, and leaves always
-/// at least one worker, at most 64, and at most 64 threads. The words behind `sim` are read with `clap`, so `--workers=N` is
-/// accepted, and behind `--` a job may begin with a hyphen.
+/// `--allowed-failures N` (0 to 1000, else losses aren't bounded) and `--script S`, each at most once, in any order. A script
+/// is up to 1,000 items `lose:W@N`, `suspect:W@N` or `join@N` with commas between, with N not falling, that takes away only
+/// workers that are there, lets at most 64 join, and leaves always at least one worker, at most 64, and at most 64 threads.
+/// The words behind `sim` are read with `clap`, so `--workers=N` is accepted, and behind `--` a job may begin with a hyphen.
 ///
 /// # Errors
 /// `Refused` exactly where the words say nothing of this form, and `OutOfMemory` where no memory is left.
