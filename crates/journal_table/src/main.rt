@@ -3,8 +3,9 @@
 //! It stands on `journal_audit` and the crates of its types, and nothing stands above it. It carries no promise of its own. A
 //! line is `merge HISTORIES`, which prints the entries of the journal and their number, `report HISTORIES`, which prints
 //! the journal's report for a graph of three keys, or `audit HISTORIES`, which prints what the audit says of the journal over
-//! this graph, with one client; in `audit/N HISTORIES` a key's worker may leave N times. `HISTORIES` is `none` or histories with `|` between two. A history is words
-//! with blanks between them, each an entry: `STAMP:KIND:NUMBER`, or `!STAMP:KIND:NUMBER` for the one that found no room.
+//! this graph, with one client; in `audit/N HISTORIES` a key's worker may leave N times. `HISTORIES` is `none` or histories
+//! with `|` between two. A history is words with blanks between them, each an entry: `STAMP:KIND:NUMBER`, or
+//! `!STAMP:KIND:NUMBER` for the one that found no room.
 #![tactic(auto)]
 
 mod printed;
