@@ -17,4 +17,4 @@ returns-in-Yes-clause-step g c =
     let fits : c.self.inside.times < 2 ^ 64 = search rules in
     rw (← c.self.view_is) (took view key a _ _ c.in-Some-oldest.ensures c.remove.ensures.entries c.remove.ensures.changes
     (subst (λ s. ChangesAt key (Some a) (away_in s) c.take.new.self.away) here taken.0) few
-    (subst (λ s. (view c.take.new.self.disk).faults ≡ faults_of view s) here taken.1) (raised_one c.self.inside.times c.saturating_add-self-inside.result fits c.saturating_add-self-inside.ensures))
+    (subst (λ s. (view c.take.new.self.disk).faults ≡ faults_of view s) here taken.1) (raised_one c.self.inside.times c.saturating_add-self-inside.result fits c.saturating_add-self-inside.ensures) (c.push_reserved.ensures.items ∙ ap (λ ks. ks ++ key ∷ []) c.reserve.ensures.items))
