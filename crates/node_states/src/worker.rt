@@ -46,10 +46,10 @@ pub struct Task<B: Drop, L: Label<Block = B>, F: Drop> {
 }
 
 /// A worker with its history, the store of its blocks, its feeds and its links. `ending` says why it is to end; once its end is recorded it makes no
-/// entry more. Of the blocks that were put aside, those that aren't recorded as such are known (`aside`), or the store has yet to tell of them. A block that was found lost (`lost`) is recorded as
-/// lost before blocks are read again. Blocks of keys in memory for which its store has no room yet (`waiting`) go there before blocks are read or a
-/// packet is taken, and a request that was taken (`held`) is answered before a packet is taken again. A block that is to be prepared (`given`) leaves at the
-/// end of the turn.
+/// entry more. Of the blocks that were put aside, those that aren't recorded as such are known (`aside`), or the store has yet to tell of them. A block that
+/// was found lost (`lost`) is recorded as lost before blocks are read again. Blocks of keys in memory for which its store has no room yet (`waiting`) go
+/// there before blocks are read or a packet is taken, and a request that was taken (`held`) is answered before a packet is taken again. A block that is to be
+/// prepared (`given`) leaves at the end of the turn.
 #[derive(Drop)]
 pub struct WorkerNode<B: Drop, L: Label<Block = B>, F: Drop, S: BlockStore<B, L>> {
     pub(crate) alloc: Global,
@@ -95,17 +95,13 @@ impl<B: Drop, L: Label<Block = B>, F: Drop, S: BlockStore<B, L>> WorkerNode<B, L
         ensures fits { IfOk result (λ node. S.fits L.facts node.store) }
         ensures back { IfErr result (λ back. (back.0 ≡ feeds) × (back.1 ≡ store)) }
     {
-<<<<<<< ours
-        let made = WorkerHistory::new(alloc, core, &graph);
-=======
         let Ok(aside) = Marks::new(alloc, graph.keys()) else {
             drop(core);
             drop(graph);
             drop(links);
             return Err((feeds, store));
         };
-        let made = WorkerHistory::new(alloc, core, &graph, limit);
->>>>>>> theirs
+        let made = WorkerHistory::new(alloc, core, &graph);
         let Ok(history) = made else {
             drop(made);
             drop(aside);
