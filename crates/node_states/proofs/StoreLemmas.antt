@@ -83,18 +83,18 @@ pub still_heard_of : (s0 s1 s2 : Stock) (w : WorkerFacts) (m : Marked) (o : Opti
     → GoesOn s0 s1 → ((k : ℕ) → w.mem k ≡ false → is_in k (coming o) ≡ true → s1.aside k ≡ false) → SpillsBy w m e v n → ComesAmong (coming o) w.mem v.mem → GoesOn s1 s2
     → (keys : ℕ) (known : Marked) → IsHeardOf keys known s0 w m → IsHeardOf keys known s2 v n
 still_heard_of s0 s1 s2 w m o e v n f gone spills comes g keys known h = record {
-  each = λ k l a i no un. let none = no_news s1 s2 g.news k no in held k l (g.fresh k no a) i (no_news s0 s1 f.news k none) none un (w.mem k) refl;
+  each = λ k l a i quiet un. let none = no_news s1 s2 g.news k quiet in held k l (g.fresh k quiet a) i (no_news s0 s1 f.news k none) none un (w.mem k) refl;
 }
   where
     held : (k : ℕ) → k < keys → s1.aside k ≡ true → v.mem k ≡ true → is_in k s0.news ≡ false → is_in k s1.news ≡ false → is_marked known k ≡ false → (b : Bool) → b ≡ w.mem k → is_marked n k ≡ true
-    held k l a i no none un true t = marked (more (spilled m w.mem) (spilled_key e) k (both (h.each k l (f.fresh k none a) (sym t) no un) (sym t)))
+    held k l a i quiet none un true t = marked (more (spilled m w.mem) (spilled_key e) k (both (h.each k l (f.fresh k none a) (sym t) quiet un) (sym t)))
       where
         both : is_marked m k ≡ true → w.mem k ≡ true → spilled m w.mem k ≡ true
         both x y = ap (λ b. b && w.mem k) x ∙ y
 
         marked : with_key (spilled m w.mem) (spilled_key e) k ≡ true → is_marked n k ≡ true
         marked x = and_first (is_marked n k) (v.mem k) (spills.each k ∙ ap (λ b. b && v.mem k) x ∙ i)
-    held k l a i no none un false t = pick (is_in k (coming o)) refl
+    held k l a i quiet none un false t = pick (is_in k (coming o)) refl
       where
         pick : (b : Bool) → b ≡ is_in k (coming o) → is_marked n k ≡ true
         pick true y = absurd (false≢true (sym (gone k (sym t) (sym y)) ∙ a))
@@ -103,9 +103,9 @@ still_heard_of s0 s1 s2 w m o e v n f gone spills comes g keys known h = record 
 pub same_heard_of : (s0 s1 : Stock) (w : WorkerFacts) (m : Marked) (v : WorkerFacts) (n : Marked) → GoesOn s0 s1 → v ≡ w → SpillsSame w m v n
     → (keys : ℕ) (known : Marked) → IsHeardOf keys known s0 w m → IsHeardOf keys known s1 v n
 same_heard_of s0 s1 w m v n f e spills keys known h = record {
-  each = λ k l a i no un.
+  each = λ k l a i quiet un.
       let here : w.mem k ≡ true = ap (λ (u : WorkerFacts). u.mem k) (sym e) ∙ i in
-      and_first (is_marked n k) (v.mem k) (spills.each k ∙ both k (h.each k l (f.fresh k no a) here (no_news s0 s1 f.news k no) un) here);
+      and_first (is_marked n k) (v.mem k) (spills.each k ∙ both k (h.each k l (f.fresh k quiet a) here (no_news s0 s1 f.news k quiet) un) here);
 }
   where
     both : (k : ℕ) → is_marked m k ≡ true → w.mem k ≡ true → spilled m w.mem k ≡ true
@@ -120,34 +120,34 @@ pub stays_heard_of : (keys : ℕ) (known : Marked) (s t : Stock) (w : WorkerFact
 stays_heard_of keys known s t w m e h = subst (λ x. IsHeardOf keys known x w m) (sym e) h
 
 pub nothing_due : (keys : ℕ) (known : Marked) (s : Stock) (w : WorkerFacts) (m : Marked) → ((k : ℕ) → w.mem k ≡ false) → IsHeardOf keys known s w m
-nothing_due keys known s w m none = record { each = λ k l a i no un. absurd (false≢true (sym (none k) ∙ i)) }
+nothing_due keys known s w m none = record { each = λ k l a i quiet un. absurd (false≢true (sym (none k) ∙ i)) }
 
 -- ## What was put aside is heard of
 
 -- one more key is known, which was news
-pub heard_more : (s t : Stock) (known more : Marked) (key : ℕ) → TellsOf key s t → ((k : ℕ) → k < known.keys → is_marked more k ≡ put (is_marked known) key true k)
-    → (keys : ℕ) (w : WorkerFacts) (m : Marked) → keys ≤ known.keys → IsHeardOf keys known s w m → IsHeardOf keys more t w m
-heard_more s t known more key tells marks keys w m room h = record {
-  each = λ k l a i no un. pick k l a i no (sym (marks k (omega arith)) ∙ un) (k == key) refl;
+pub heard_more : (s t : Stock) (known grown : Marked) (key : ℕ) → TellsOf key s t → ((k : ℕ) → k < known.keys → is_marked grown k ≡ put (is_marked known) key true k)
+    → (keys : ℕ) (w : WorkerFacts) (m : Marked) → keys ≤ known.keys → IsHeardOf keys known s w m → IsHeardOf keys grown t w m
+heard_more s t known grown key tells marks keys w m room h = record {
+  each = λ k l a i quiet un. pick k l a i quiet (sym (marks k (omega arith)) ∙ un) (k == key) refl;
 }
   where
     pick : (k : ℕ) → k < keys → t.aside k ≡ true → w.mem k ≡ true → is_in k t.news ≡ false → put (is_marked known) key true k ≡ false → (b : Bool) → (k == key) ≡ b → is_marked m k ≡ true
-    pick k l a i no un true e = absurd (true≢false (sym (ap (λ b. cond b true (is_marked known k)) e) ∙ un))
-    pick k l a i no un false e =
+    pick k l a i quiet un true e = absurd (true≢false (sym (ap (λ b. cond b true (is_marked known k)) e) ∙ un))
+    pick k l a i quiet un false e =
         h.each k l (sym (tells.aside k) ∙ a) i
-        (ap (is_in k) tells.one ∙ any_push (λ x. x == k) t.news key ∙ or_from (is_in k t.news) (key == k) no (eqb_turned key k ∙ e))
+        (ap (is_in k) tells.one ∙ any_push (λ x. x == k) t.news key ∙ or_from (is_in k t.news) (key == k) quiet (eqb_turned key k ∙ e))
         (sym (ap (λ b. cond b true (is_marked known k)) e) ∙ un)
 
 -- a key that isn't to be recorded need not be known
-pub heard_without : (s : Stock) (known less : Marked) (key : ℕ) (w : WorkerFacts) (m : Marked) (keys : ℕ) → ((k : ℕ) → is_marked less k ≡ put (is_marked known) key false k)
-    → (s.aside key ≡ true → w.mem key ≡ true → is_marked m key ≡ true) → IsHeardOf keys known s w m → IsHeardOf keys less s w m
-heard_without s known less key w m keys marks not_due h = record { each = λ k l a i no un. pick k l a i no (sym (marks k) ∙ un) (k == key) refl }
+pub heard_without : (s : Stock) (known fewer : Marked) (key : ℕ) (w : WorkerFacts) (m : Marked) (keys : ℕ) → ((k : ℕ) → is_marked fewer k ≡ put (is_marked known) key false k)
+    → (s.aside key ≡ true → w.mem key ≡ true → is_marked m key ≡ true) → IsHeardOf keys known s w m → IsHeardOf keys fewer s w m
+heard_without s known fewer key w m keys marks not_due h = record { each = λ k l a i quiet un. pick k l a i quiet (sym (marks k) ∙ un) (k == key) refl }
   where
     pick : (k : ℕ) → k < keys → s.aside k ≡ true → w.mem k ≡ true → is_in k s.news ≡ false → put (is_marked known) key false k ≡ false → (b : Bool) → (k == key) ≡ b → is_marked m k ≡ true
-    pick k l a i no un true e =
+    pick k l a i quiet un true e =
         let same : k ≡ key = eqb-true k key e in
         subst (λ j. is_marked m j ≡ true) (sym same) (not_due (subst (λ j. s.aside j ≡ true) same a) (subst (λ j. w.mem j ≡ true) same i))
-    pick k l a i no un false e = h.each k l a i no (sym (ap (λ b. cond b false (is_marked known k)) e) ∙ un)
+    pick k l a i quiet un false e = h.each k l a i quiet (sym (ap (λ b. cond b false (is_marked known k)) e) ∙ un)
 
 -- none below a number is to be recorded, nor any from there to the next one that is known
 pub none_until : (s : Stock) (known : Marked) (w : WorkerFacts) (m : Marked) (keys from next : ℕ) → s.news ≡ [] → next ≤ keys → NoneDue from s w m → IsHeardOf keys known s w m
