@@ -1,11 +1,11 @@
-use Rattle.std.proofs.Common.{None, ap, subst, ◌∙◌}
+use Rattle.std.proofs.Common.{None}
 use Rattle.cluster_msgs.specs.Shape.{key_count}
 use Rattle.worker_core.specs.Core.{facts}
 use Rattle.node_states.proofs.StoreLemmas.{due_same, none_known}
 use Rattle.node_states.proofs.worker.WorkerNode.due.Goals as goal
 
-pub returns-else-clause-due : goal.returns-else-clause-due
-returns-else-clause-due g c =
+pub returns-in_default-clause-due : goal.returns-in_default-clause-due
+returns-in_default-clause-due g c =
     let stock = g.S.BlockStore.stock in
     let old = c.args.self.now in
     let keys = key_count old.graph in
