@@ -8,7 +8,8 @@ ghost use Rattle.npy_header.specs.Scans.{fields_of};
 ghost use Rattle.npy_header.specs.Reading.{IsReading, RefusedAs, Says};
 
 use crate::fields::{HeaderError, HeaderFields};
-use crate::rows::{KIND_OF_BYTE, MOVES, ON, ON_WIDE, OTHER, RULES, SYMBOLS};
+use crate::rows::{KIND_OF_BYTE, MOVES, ON, ON_WIDE, OTHER};
+use crate::rules::{RULES, SYMBOLS};
 use crate::scanner::Scanner;
 use grammar::{Reader, Reply, Table};
 use std::alloc::{AllocError, Global};
