@@ -1,4 +1,4 @@
-// The table of the grammar of headers, written by tools/header_rows.py.
+//! The table of the grammar of headers, written by tools/header_rows.py.
 use grammar::{Row, Rule, Symbol, rules_on};
 
 // The kinds:  \n{}():,\'"descrfotan_hpTuFl0, then the digits 1 to 9, what else may stand in a string,

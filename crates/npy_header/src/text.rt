@@ -1,4 +1,4 @@
-// The reader of a header's bytes.
+//! The reader of a header's bytes.
 ghost use Rattle.std.specs.Prelude.{◌≡◌, ◌∷◌, ◌++◌, [], List, ℕ, true, false, Ok, Some, None, IfOk, IfErr, OnOk};
 ghost use Rattle.grammar.specs.Tables.{grammar_of, moves_end};
 ghost use Rattle.grammar.specs.Runs.{RefusesNext};
