@@ -404,7 +404,8 @@ def other_heads():
     # HEADER_LEN may be 1,048,576 and no more, also where nothing follows
     files += [MAGIC + version + size.to_bytes(4, "little") for version in (b"\x02\x00", b"\x03\x00") for size in (2**20, 2**20 + 1, 2**32 - 1)]
     files += [file_of(SHORT, 8), file_of(SHORT, 23), file_of(SHORT, 24), file_of(LONG, 24)]
-    return [head_case(data) for data in files]
+    long = [file_of(SHORT[:-1] + b" " * (size - len(SHORT)) + b"\n", 24, version) for version in (2, 3) for size in (65536, 2**20)]
+    return [head_case(data) for data in files] + [head_case(data, 100000) for data in long]
 
 
 def failed_heads():

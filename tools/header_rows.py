@@ -1,4 +1,4 @@
-"""Writes the table of the grammar of .npy headers: crates/npy_header/src/rows.rt.
+"""Writes the table of the grammar of .npy headers: crates/npy_header/src/rows.rt and rules.rt.
 
 Run it at the top of the repository: python3 tools/header_rows.py
 The rows are proved equal to specs/Typed.antt, and that to derive exactly the headers of specs/Headers.antt, so nothing here
@@ -136,7 +136,7 @@ def title(name):
     return " ".join([name[0], "of (%s)" % keys] + (["in " + name[2]] if name[2:] else []))
 
 
-out = ["// The table of the grammar of headers, written by tools/header_rows.py.", "use grammar::{Row, Rule, Symbol, rules_on};", ""]
+out = ["//! The table of the grammar of headers, by parts and kinds; tools/header_rows.py writes it.", "use grammar::{Row, rules_on};", ""]
 out += ["// The kinds: %s, then the digits 1 to 9, what else may stand in a string," % ascii(SINGLE)[1:-1]]
 out += ["// ten kinds of bytes past ASCII, and any other byte.", ""]
 out += ["/// The kind of each byte.", "pub(crate) static KIND_OF_BYTE: [u16; 256] = ["]
@@ -144,8 +144,11 @@ out += ["    " + " ".join("%d," % kind_of_byte(b) for b in range(i, i + 16)) for
 lines = as_rust([title(name) for name in parts], KINDS, narrow, other, tables.rows, moves)
 wide_lines = as_rust([title(name) for name in parts], KINDS, on, other, tables.rows, moves)
 end = wide_lines.index("];") + 2
-out += lines[:end] + [wide_lines[0].replace("ON:", "ON_WIDE:")] + wide_lines[1:end] + lines[end:]
+rules = next(k for k, line in enumerate(lines) if "static RULES" in line)
+out += lines[:end] + [wide_lines[0].replace("ON:", "ON_WIDE:")] + wide_lines[1:end] + lines[end:rules - 1]
 open("crates/npy_header/src/rows.rt", "w").write("\n".join(out) + "\n")
+out = ["//! The rules of the grammar of headers, and their symbols; tools/header_rows.py writes them.", "use grammar::{Rule, Symbol};", ""]
+open("crates/npy_header/src/rules.rt", "w").write("\n".join(out + lines[rules:]) + "\n")
 
 
 def antt(xs):

@@ -130,6 +130,20 @@ WRITTEN += b"".join(n.to_bytes(8, "little", signed=True) for n in (-1, 0, 2**63 
 WRITTEN_CELLS = "row-major (2,2) at 128 of 8; (2,2) -1 0 9223372036854775807 -9223372036854775808"
 WRITTEN_CASES = [(region_line(WRITTEN, (0, 0), (2, 2), most), WRITTEN_CELLS) for most in (7, 100000)]
 
+def by_hand(descr, count, version, size, data):
+    text = b"{'descr': '%s', 'fortran_order': False, 'shape': (%d,), }" % (descr, count)
+    return b"\x93NUMPY" + bytes([version, 0]) + size.to_bytes(2 if version == 1 else 4, "little") + text.ljust(size - 1) + b"\n" + data
+
+
+THREE = by_hand(b"<i4", 3, 2, 116, b"\xff\xff\xff\xff\x01\x00\x00\x00\x00\x00\x00\x80")
+assert len(THREE) == 140
+HAND_CASES = [
+    (region_line(THREE, (0,), (3,), 7), "row-major (3) at 128 of 4; (3) -1 1 -2147483648"),
+    (region_line(by_hand(b">i8", 1, 1, 118, bytes(7) + b"\x02"), (0,), (1,), 7), "row-major (1) at 128 of 8 big; (1) 2"),
+    (region_line(by_hand(b"|i1", 1, 1, 118, b"\x80"), (0,), (1,), 7), "row-major (1) at 128 of 1; (1) -128"),
+    (region_line(by_hand(b"<i2", 3, 1, 118, bytes(5)), (0,), (3,), 7), "truncated: has 5, needs 6"),
+]
+
 # The runs of a region of a file with elements of so many bytes whose data begins at byte 80: the first byte, how many, and the place
 # in the block.
 RUNS = [
@@ -160,4 +174,4 @@ def cases():
             found += region_cases(array_of(shape, letter), (0,) * len(shape), shape)
         for starts, lengths in PARTS:
             found += region_cases(array_of(CUBE, letter), starts, lengths)
-    return found + typed_cases() + SIX_CASES + PAIRS_CASES + WRITTEN_CASES + RUNS
+    return found + typed_cases() + SIX_CASES + PAIRS_CASES + WRITTEN_CASES + HAND_CASES + RUNS

@@ -3,7 +3,8 @@
 use Rattle.std.specs.Prelude.{Bool, true, false, [], ◌∷◌}
 use Rattle.grammar.specs.Tables.{Rows}
 use Rattle.grammar.specs.Tests.{Certificate}
-use Rattle.npy_header.specs.declared.rows.TheConstants.{ON, ON_WIDE, OTHER, MOVES, RULES, SYMBOLS}
+use Rattle.npy_header.specs.declared.rows.TheConstants.{ON, ON_WIDE, OTHER, MOVES}
+use Rattle.npy_header.specs.declared.rules.TheConstants.{RULES, SYMBOLS}
 
 unfoldable pub narrow_rows : Rows
 narrow_rows = record { on = ON; other = OTHER; moves = MOVES; rules = RULES; symbols = SYMBOLS }

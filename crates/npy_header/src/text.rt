@@ -8,7 +8,8 @@ ghost use Rattle.npy_header.specs.Scans.{fields_of};
 ghost use Rattle.npy_header.specs.Reading.{IsReading, RefusedAs, Says};
 
 use crate::fields::{HeaderError, HeaderFields};
-use crate::rows::{KIND_OF_BYTE, MOVES, ON, ON_WIDE, OTHER, RULES, SYMBOLS};
+use crate::rows::{KIND_OF_BYTE, MOVES, ON, ON_WIDE, OTHER};
+use crate::rules::{RULES, SYMBOLS};
 use crate::scanner::Scanner;
 use grammar::{Reader, Reply, Table};
 use std::alloc::{AllocError, Global};
@@ -42,7 +43,8 @@ fn take_byte(
 ) -> Result<bool, AllocError>
     requires { reader.old.table ≡ rows_of wide }
     ensures table { reader.new.table ≡ rows_of wide }
-    ensures taken { result ≡ Ok true → (w : List ℕ) → IsReading wide w reader.old.left scanner.old → IsReading wide (w ++ byte ∷ []) reader.new.left scanner.new }
+    ensures taken { result ≡ Ok true → (w : List ℕ) → IsReading wide w reader.old.left scanner.old
+        → IsReading wide (w ++ byte ∷ []) reader.new.left scanner.new }
     ensures refused { result ≡ Ok false → RefusesNext (grammar_of (rows_of wide)) kind_of reader.old.left (Some (kind_of byte)) }
 {
     let _ = wide;
