@@ -25,13 +25,13 @@ def location(block_info):
     return tuple(slice(*ends) for ends in block_info[None]['array-location'])
 
 
-def read_block(path, shape, dtype, order, data, block_info=None):
+def read_block(path, shape, descr, order, data, block_info=None):
     """A block of an array file, whose elements begin at the byte `data`, as int64."""
     part = location(block_info)
     try:
         if 0 in shape:
             return np.empty(shape, np.int64)[part]
-        whole = np.memmap(path, dtype, 'r', data, shape or (1,), order)
+        whole = np.memmap(path, descr, 'r', data, shape or (1,), order)
         return np.array(whole.reshape(shape, order=order)[part], np.int64, order='C')
     except (OSError, ValueError) as why:
         raise ReadFault(path) from why

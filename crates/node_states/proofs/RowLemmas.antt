@@ -7,7 +7,7 @@ use Rattle.std.proofs.lemmas.Bool.Decides.{nat_tests}
 use Rattle.std.proofs.lemmas.List.{get_or-set_same, get_or-set_other, get_or_past}
 use Rattle.small_facts.proofs.Truth.{cond_same}
 use Rattle.cluster_rules.specs.Functions.{put}
-use Rattle.node_states.specs.Stores.{PutsAside, Puts, Finds, Misses, Removes, IsSame, IsStock, KeepsNone, is_at, row_stock}
+use Rattle.node_states.specs.Stores.{PutsAside, Puts, Finds, Misses, Removes, IsSame, IsStock, KeepsNone, HasTold, is_at, row_stock}
 
 module _ {K : Type 0} (f : K → ℕ) where
   abbrev is_key : Option K → ℕ → Bool
@@ -32,13 +32,13 @@ module _ {K : Type 0} (f : K → ℕ) where
 
   no_one_aside : (at : ℕ) (xs ys : List (Option K)) → PutsAside (put (λ k. false) at false) (row_stock f xs) (row_stock f ys)
   no_one_aside at xs ys = record {
-    later = omega arith;
     stays = λ q h. absurd (false≢true (sym (nowhere at q) ∙ h));
-    calm = λ c q h. absurd (false≢true h);
+    news = λ q h. h;
+    fresh = λ q n h. absurd (false≢true h);
   }
 
   none_aside : (xs ys : List (Option K)) → PutsAside (λ k. false) (row_stock f xs) (row_stock f ys)
-  none_aside xs ys = record { later = omega arith; stays = λ q h. absurd (false≢true h); calm = λ c q h. absurd (false≢true h) }
+  none_aside xs ys = record { stays = λ q h. absurd (false≢true h); news = λ q h. h; fresh = λ q n h. absurd (false≢true h) }
 
   -- a block at its place
   pub row_puts : (xs : List (Option K)) (x : K) (at : ℕ) → f x ≡ at → at < length xs → Puts at (row_stock f xs) (row_stock f (set xs at (Some x)))
@@ -52,14 +52,14 @@ module _ {K : Type 0} (f : K → ℕ) where
       pick q false h = refl
 
   pub row_removes : (xs : List (Option K)) (at : ℕ) → at < length xs → Removes at (row_stock f xs) (row_stock f (set xs at None))
-  row_removes xs at l = record { kept = record { each = λ q. at_set xs at q None l }; aside = λ q. sym (nowhere at q); times = refl }
+  row_removes xs at l = record { kept = record { each = λ q. at_set xs at q None l }; aside = λ q. sym (nowhere at q); news = refl }
 
   -- a key past the end
   pub row_past : (xs : List (Option K)) (at : ℕ) → length xs ≤ at → is_at f xs at ≡ false
   row_past xs at l = ap (λ o. is_key o at) (get_or_past xs at None l)
 
   pub row_keeps : (xs : List (Option K)) (at : ℕ) → length xs ≤ at → Removes at (row_stock f xs) (row_stock f xs)
-  row_keeps xs at l = record { kept = record { each = λ q. pick q (q == at) refl }; aside = λ q. sym (nowhere at q); times = refl }
+  row_keeps xs at l = record { kept = record { each = λ q. pick q (q == at) refl }; aside = λ q. sym (nowhere at q); news = refl }
     where
       pick : (q : ℕ) (b : Bool) → b ≡ (q == at) → is_at f xs q ≡ cond b false (is_at f xs q)
       pick q true h = subst (λ (j : ℕ). is_at f xs j ≡ false) (sym (eqb-true q at (sym h))) (row_past xs at l)
@@ -72,7 +72,10 @@ module _ {K : Type 0} (f : K → ℕ) where
   row_misses xs at h = record { was = h; kept = record { each = λ q. refl }; aside = none_aside xs xs }
 
   pub row_same : (xs : List (Option K)) → IsSame (row_stock f xs) (row_stock f xs)
-  row_same xs = record { kept = record { each = λ q. refl }; aside = λ q. refl; times = refl }
+  row_same xs = record { kept = record { each = λ q. refl }; aside = λ q. refl; news = refl }
+
+  pub row_tells : (xs : List (Option K)) → HasTold (row_stock f xs) (row_stock f xs)
+  row_tells xs = record { all = refl; same = row_same xs }
 
   pub row_sound : (xs : List (Option K)) → IsStock (row_stock f xs)
   row_sound xs = record { kept = λ q h. absurd (false≢true h) }

@@ -11,7 +11,7 @@ use Rattle.cluster_rules.specs.Functions.{put}
 use Rattle.cluster_rules.specs.Worker.{WorkerFacts}
 use Rattle.key_sets.specs.Sets.{has}
 use Rattle.node_states.specs.Machines.{WorkerSays}
-use Rattle.node_states.specs.Stores.{Stock, IsCalm}
+use Rattle.node_states.specs.Stores.{Stock}
 
 -- some of the keys below a number, as the words of a set
 pub record Marked : Type 0 where
@@ -92,11 +92,14 @@ IsInOrder keys s w m _ = NoneDue keys s w m
 pub record AddsInOrder (keys : ℕ) (s : Stock) (w : WorkerFacts) (m : Marked) (old new : List Entry) : Type 0 where
   pub each : (e : Entry) → new ≡ old ++ e ∷ [] → IsInOrder keys s w m e.event
 
--- none is to be, as long as the store puts no more aside than so often
-pub record IsLookedUp (keys looked : ℕ) (s : Stock) (w : WorkerFacts) (m : Marked) : Type 0 where
-  pub later : looked ≤ s.times
-  pub calm : IsCalm looked s.times → NoneDue keys s w m
+-- each key that is to be recorded is news of the store, or among these
+pub record IsHeardOf (keys : ℕ) (known : Marked) (s : Stock) (w : WorkerFacts) (m : Marked) : Type 0 where
+  pub each : (k : ℕ) → k < keys → s.aside k ≡ true → w.mem k ≡ true → is_in k s.news ≡ false → is_marked known k ≡ false → is_marked m k ≡ true
 
 -- what is made of a store, facts and marks keeps that
-abbrev pub KeepsLookedUp : Stock → WorkerFacts → Marked → Stock → WorkerFacts → Marked → Type 0
-KeepsLookedUp s w m t v n = (keys looked : ℕ) → IsLookedUp keys looked s w m → IsLookedUp keys looked t v n
+abbrev pub KeepsHeardOf : Stock → WorkerFacts → Marked → Stock → WorkerFacts → Marked → Type 0
+KeepsHeardOf s w m t v n = (keys : ℕ) (known : Marked) → IsHeardOf keys known s w m → IsHeardOf keys known t v n
+
+-- the same, whatever the facts are, of keys below a number for which there is room
+abbrev pub HearsOf : Stock → Marked → Stock → Marked → Type 0
+HearsOf s known t more = (keys : ℕ) (w : WorkerFacts) (m : Marked) → keys ≤ known.keys → IsHeardOf keys known s w m → IsHeardOf keys more t w m

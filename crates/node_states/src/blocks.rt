@@ -103,6 +103,11 @@ impl<B: Drop, L: Label<Block = B>> BlockStore<B, L> for Blocks<B, L> {
         0
     }
 
+    #[tactic(auto, using(crate::proofs::RowLemmas::row_tells))]
+    fn tell(&mut self) -> Option<u32> {
+        None
+    }
+
     fn comes_back(&self, _key: u32) -> bool {
         false
     }

@@ -5,13 +5,14 @@ ghost use Rattle.worker_core.specs.Core.{facts};
 ghost use Rattle.node_links.specs.Books.{IsRecorded, IsEntered, Steps};
 ghost use Rattle.node_states.specs.Order.{Adds};
 ghost use Rattle.node_states.specs.Reading.{IfWhole};
-ghost use Rattle.node_states.specs.Spills.{IsNextDue, KeepsLookedUp, MayMake, coming, is_marked};
+ghost use Rattle.node_states.specs.Spills.{HearsOf, IsHeardOf, IsNextDue, KeepsHeardOf, MayMake, coming, is_marked};
 ghost use Rattle.node_states.specs.Stores.{GoesOn};
 ghost use Rattle.node_states.specs.Workers.{is_end};
 
 use crate::cores::WorkingCore;
 use crate::evidence::{RunGraph, WorkerCause, WorkerOut};
 use crate::history::WorkerHistory;
+use crate::marks::Marks;
 use crate::store::{BlockStore, Got};
 use cluster_msgs::{Event, Instruction, Label, Message, Stop, WorkerEvent};
 use node_links::{Keyed, Machine, Parcel};
@@ -152,7 +153,7 @@ pub fn unheld<B: Drop, L: Label<Block = B>>(
 ///
 /// # Errors
 /// Those of the core, and `Memory` where no memory or no right to a stamp is left.
-#[tactic(auto, using(crate::proofs::StoreLemmas::still_looked_up, crate::proofs::StoreLemmas::same_looked_up))]
+#[tactic(auto, using(crate::proofs::StoreLemmas::still_heard_of, crate::proofs::StoreLemmas::same_heard_of))]
 pub fn advance<B: Drop, L: Label<Block = B>, S: BlockStore<B, L>>(
     alloc: Global,
     graph: &RunGraph<L>,
@@ -173,7 +174,7 @@ pub fn advance<B: Drop, L: Label<Block = B>, S: BlockStore<B, L>>(
     ensures entered { OnOk result (IsEntered event message history.old.book history.new.book) }
     ensures entry { Adds event history.old.book.entries history.new.book.entries }
     ensures same { (history.new.id ≡ history.old.id) × (history.new.ended ≡ false) }
-    ensures looked_up { KeepsLookedUp (S.stock store.old) (facts history.old.book.core.core) history.old.recorded
+    ensures heard_of { KeepsHeardOf (S.stock store.old) (facts history.old.book.core.core) history.old.recorded
         (S.stock store.new) (facts history.new.book.core.core) history.new.recorded }
 {
     let Some(core) = history.core() else {
@@ -308,19 +309,43 @@ fn take_in<B: Drop, L: Label<Block = B>, S: BlockStore<B, L>>(
     Ok(())
 }
 
-/// The least key below this number that is in memory and whose block was put aside, and isn't recorded as such.
+/// Hears of the blocks that were put aside: their keys are known from now on.
+pub fn hear_of<B: Drop, L: Label<Block = B>, S: BlockStore<B, L>>(store: &mut S, known: &mut Marks)
+    ensures told { (S.stock store.new).news ≡ [] }
+    ensures aside { (q : ℕ) → (S.stock store.new).aside q ≡ (S.stock store.old).aside q }
+    ensures heard { HearsOf (S.stock store.old) known.old (S.stock store.new) known.new }
+    ensures keys { known.new.keys ≡ known.old.keys }
+{
+    'news: while let Some(key) = store.tell() {
+        known.add(key);
+    }
+}
+
+/// The least key below this number that is in memory and whose block was put aside, and isn't recorded as such. It is known; those that are known and
+/// aren't to be recorded are known no longer as far as they were looked at.
 pub fn least_due<B: Drop, L: Label<Block = B>, S: BlockStore<B, L>>(
+    known: &mut Marks,
     keys: u32,
     store: &S,
     core: &WorkerCore,
     history: &WorkerHistory<L>,
 ) -> Option<u32>
-    ensures { IsNextDue keys (S.stock store.now) (facts core.now) history.now.recorded result }
+    requires told { (S.stock store.now).news ≡ [] }
+    requires heard { IsHeardOf keys known.old (S.stock store.now) (facts core.now) history.now.recorded }
+    ensures next { IsNextDue keys (S.stock store.now) (facts core.now) history.now.recorded result }
+    ensures heard { IsHeardOf keys known.new (S.stock store.now) (facts core.now) history.now.recorded }
+    ensures keys { known.new.keys ≡ known.old.keys }
 {
-    for key in 0..keys {
+    let mut from = 0;
+    'known: while let Some(key) = known.first(from) {
+        if key >= keys {
+            return None;
+        }
         if is_due(store, core, history, key) {
             return Some(key);
         }
+        known.unmark(key);
+        from = key + 1;
     }
     None
 }

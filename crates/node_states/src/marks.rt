@@ -1,6 +1,7 @@
 //! A set of keys of a graph.
 ghost use Rattle.std.specs.Prelude.{◌≡◌, ℕ, ◌<◌, ◌≤◌, true, false, IfOk, IfSome};
 ghost use Rattle.cluster_rules.specs.Functions.{put};
+ghost use Rattle.key_sets.specs.Sets.{IsFirst};
 ghost use Rattle.node_states.specs.Spills.{is_marked, with_key};
 
 use key_sets::KeySet;
@@ -33,7 +34,8 @@ impl Marks {
     /// Where there is no memory.
     pub fn new(alloc: Global, keys: u32) -> Result<Self, AllocError>
         requires { keys ≤ 32768 }
-        ensures { IfOk result (λ marks. (k : ℕ) → is_marked marks k ≡ false) }
+        ensures none { IfOk result (λ marks. (k : ℕ) → is_marked marks k ≡ false) }
+        ensures keys { IfOk result (λ marks. marks.keys ≡ keys) }
     {
         let set = KeySet::new(alloc, keys)?;
         Ok(Marks { set, keys })
@@ -65,6 +67,23 @@ impl Marks {
         if let Some(key) = key {
             self.set.insert(key);
         }
+    }
+
+    /// The key is marked from now on, if it is below the number.
+    pub fn add(&mut self, key: u32)
+        ensures marks { (k : ℕ) → k < self.old.keys → is_marked self.new k ≡ put (is_marked self.old) key true k }
+        ensures keys { self.new.keys ≡ self.old.keys }
+    {
+        if key < self.keys {
+            self.set.insert(key);
+        }
+    }
+
+    /// The first key from this one on that is marked.
+    pub fn first(&self, from: u32) -> Option<u32>
+        ensures { IsFirst (is_marked self.now) from result }
+    {
+        self.set.first_from(from)
     }
 
     /// The key is no longer marked.

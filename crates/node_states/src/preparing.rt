@@ -22,7 +22,7 @@ impl<B: Drop, L: Label<Block = B>, F: Drop, S: BlockStore<B, L>> WorkerNode<B, L
 
     /// Whether a block is prepared that its store is likely to put aside for a block that waits, or where none does for the request that waits or the task that
     /// would start. Where one is to be, it is given: it is given once, and for all blocks that wait.
-    #[tactic(auto, using(crate::proofs::StoreLemmas::stays_looked_up))]
+    #[tactic(auto, using(crate::proofs::StoreLemmas::stays_heard_of))]
     pub(crate) fn prepares(&mut self) -> bool
         ensures history { self.new.history ≡ self.old.history }
         ensures same { (self.new.feeds ≡ self.old.feeds) × (self.new.ending ≡ self.old.ending) }
@@ -45,7 +45,7 @@ impl<B: Drop, L: Label<Block = B>, F: Drop, S: BlockStore<B, L>> WorkerNode<B, L
     }
 
     /// Its store takes what was prepared of a block.
-    #[tactic(auto, using(crate::proofs::StoreLemmas::stays_looked_up))]
+    #[tactic(auto, using(crate::proofs::StoreLemmas::stays_heard_of))]
     pub(crate) fn expect(&mut self, ready: S::Ready)
         ensures history { self.new.history ≡ self.old.history }
         ensures same { (self.new.feeds ≡ self.old.feeds) × (self.new.ending ≡ self.old.ending) }
@@ -54,7 +54,7 @@ impl<B: Drop, L: Label<Block = B>, F: Drop, S: BlockStore<B, L>> WorkerNode<B, L
     }
 
     /// A block that waits goes into its store, if its key is in memory still. Whether one waited. Where there is no memory, the worker is to end.
-    #[tactic(auto, using(crate::proofs::Causes::no_cause, crate::proofs::Causes::memory_cause, crate::proofs::StoreLemmas::looks_looked_up, crate::proofs::StoreLemmas::goes_on_put, crate::proofs::StoreLemmas::goes_on_same))]
+    #[tactic(auto, using(crate::proofs::Causes::no_cause, crate::proofs::Causes::memory_cause, crate::proofs::StoreLemmas::looks_heard_of, crate::proofs::StoreLemmas::goes_on_put, crate::proofs::StoreLemmas::goes_on_same))]
     pub(crate) fn let_in(&mut self) -> bool
         ensures history { self.new.history ≡ self.old.history }
         ensures feeds { self.new.feeds ≡ self.old.feeds }
@@ -113,7 +113,7 @@ impl<B: Drop, L: Label<Block = B>, F: Drop, S: BlockStore<B, L>> WorkerNode<B, L
     }
 
     // What is read for the request that waits, or else for the task that would start, and is in memory, counts as used, so that other blocks go first.
-    #[tactic(auto, using(crate::proofs::StoreLemmas::looks_looked_up))]
+    #[tactic(auto, using(crate::proofs::StoreLemmas::looks_heard_of))]
     fn use_next(&mut self)
         ensures history { self.new.history ≡ self.old.history }
         ensures same { (self.new.feeds ≡ self.old.feeds) × (self.new.ending ≡ self.old.ending) }

@@ -2,7 +2,7 @@
 ghost use Rattle.std.specs.Prelude.{◌≡◌, IfOk, OnOk, OnErr};
 ghost use Rattle.std.specs.Arc.{arc_value};
 ghost use Rattle.cluster_msgs.specs.Labels.{BlockFits, LabelFacts};
-ghost use Rattle.node_states.specs.Stores.{Stock, Puts, Gives, Removes, IsSame, IsStock, IfHere};
+ghost use Rattle.node_states.specs.Stores.{Stock, Puts, Gives, Removes, Tells, IsSame, IsStock, IfHere};
 
 use cluster_msgs::Label;
 use std::alloc::{AllocError, Global};
@@ -57,9 +57,12 @@ pub trait BlockStore<B: Drop, L: Label<Block = B>>: Drop {
     fn spilled(&self, key: u32) -> bool
         ensures { result ≡ (stock self.now).aside key };
 
-    /// How often blocks were put aside. It never falls, and stands still at its type's end.
-    fn spills(&self) -> u64
-        ensures { result ≡ (stock self.now).times };
+    /// How often blocks were put aside.
+    fn spills(&self) -> u64;
+
+    /// The key of a block that was put aside and that it didn't tell of since, if there is one. It tells of each once. It takes no memory.
+    fn tell(&mut self) -> Option<u32>
+        ensures { Tells (stock self.old) (stock self.new) result };
 
     /// Whether a look at the key's block is likely to bring it back into memory.
     fn comes_back(&self, key: u32) -> bool;

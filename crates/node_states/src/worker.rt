@@ -1,5 +1,5 @@
 //! A worker's node.
-ghost use Rattle.std.specs.Prelude.{◌≡◌, ◌≢◌, ◌⊎◌, ◌<◌, ◌+◌, ◌∷◌, ◌++◌, [], ℕ, true, false, map, filter, IfOk, IfErr, IfSome, OnOk, Ok, Some, None};
+ghost use Rattle.std.specs.Prelude.{◌≡◌, ◌≢◌, ◌⊎◌, ◌<◌, ◌≤◌, ◌+◌, ◌∷◌, ◌++◌, [], ℕ, true, false, map, filter, IfOk, IfErr, IfSome, OnOk, Ok, Some, None};
 ghost use Rattle.cluster_msgs.specs.Shape.{key_count};
 ghost use Rattle.cluster_msgs.specs.declared.messages.Message.TheVariants as message;
 ghost use Rattle.cluster_msgs.specs.declared.messages.Peer.TheVariants as peer;
@@ -9,7 +9,7 @@ ghost use Rattle.worker_core.specs.Core.{facts};
 ghost use Rattle.node_links.specs.Books.{IsLogOf, IsRecorded, IsEntered, Steps};
 ghost use Rattle.node_states.specs.Order.{Adds};
 ghost use Rattle.node_states.specs.Reading.{IfWhole, MatchNext};
-ghost use Rattle.node_states.specs.Spills.{AddsInOrder, IsLookedUp, IsNextDue, MayMake, NoneDue};
+ghost use Rattle.node_states.specs.Spills.{AddsInOrder, IsHeardOf, IsNextDue, MayMake, NoneDue};
 ghost use Rattle.node_states.specs.Workers.{no_end, ends_last};
 ghost use Rattle.node_states.specs.Causes.{IsTurnsCause, why_of};
 
@@ -17,8 +17,9 @@ use crate::cores::WorkingCore;
 use crate::evidence::{Fault, RunGraph, WorkerOut};
 use crate::feeds::Feeds;
 use crate::history::WorkerHistory;
-use crate::holding::{Sought, advance, inputs, least_due, parcel};
+use crate::holding::{Sought, advance, hear_of, inputs, least_due, parcel};
 use crate::links::{WorkerLinks, is_dead, unsent};
+use crate::marks::Marks;
 use crate::store::BlockStore;
 use crate::why::Why;
 use crate::worker_choice::{Choice, Next, Request, runs};
@@ -45,17 +46,17 @@ pub struct Task<B: Drop, L: Label<Block = B>, F: Drop> {
 }
 
 /// A worker with its history, the store of its blocks, its feeds and its links. `ending` says why it is to end; once its end is recorded it makes no
-/// entry more. All blocks that were put aside are recorded as such, up to so many (`looked`). A block that was found lost (`lost`) is recorded as
-/// lost before blocks are read again. Blocks of keys in memory for which its store has no room yet (`waiting`) go there before blocks are read or a
-/// packet is taken, and a request that was taken (`held`) is answered before a packet is taken again. A block that is to be prepared (`given`) leaves at the
-/// end of the turn.
+/// entry more. Of the blocks that were put aside, those that aren't recorded as such are known (`aside`), or the store has yet to tell of them. A block that
+/// was found lost (`lost`) is recorded as lost before blocks are read again. Blocks of keys in memory for which its store has no room yet (`waiting`) go
+/// there before blocks are read or a packet is taken, and a request that was taken (`held`) is answered before a packet is taken again. A block that is to be
+/// prepared (`given`) leaves at the end of the turn.
 #[derive(Drop)]
 pub struct WorkerNode<B: Drop, L: Label<Block = B>, F: Drop, S: BlockStore<B, L>> {
     pub(crate) alloc: Global,
     pub history: WorkerHistory<L>,
     pub(crate) graph: RunGraph<L>,
     pub(crate) store: S,
-    looked: u64,
+    aside: Marks,
     pub(crate) lost: Option<u32>,
     pub(crate) waiting: Vec<Keyed<B, L>>,
     pub(crate) held: Option<Request>,
@@ -64,7 +65,8 @@ pub struct WorkerNode<B: Drop, L: Label<Block = B>, F: Drop, S: BlockStore<B, L>
     links: WorkerLinks<B, L>,
     heard: bool,
     ending: Option<Why>,
-    ghost looked_up: { IsLookedUp (key_count graph) looked (S.stock store) (facts history.book.core.core) history.recorded },
+    ghost room: { key_count graph ≤ aside.keys },
+    ghost heard_of: { IsHeardOf (key_count graph) aside (S.stock store) (facts history.book.core.core) history.recorded },
 }
 
 impl<B: Drop, L: Label<Block = B>, F: Drop, S: BlockStore<B, L>> WorkerNode<B, L, F, S> {
@@ -93,9 +95,16 @@ impl<B: Drop, L: Label<Block = B>, F: Drop, S: BlockStore<B, L>> WorkerNode<B, L
         ensures fits { IfOk result (λ node. S.fits L.facts node.store) }
         ensures back { IfErr result (λ back. (back.0 ≡ feeds) × (back.1 ≡ store)) }
     {
+        let Ok(aside) = Marks::new(alloc, graph.keys()) else {
+            drop(core);
+            drop(graph);
+            drop(links);
+            return Err((feeds, store));
+        };
         let made = WorkerHistory::new(alloc, core, &graph);
         let Ok(history) = made else {
             drop(made);
+            drop(aside);
             drop(graph);
             drop(links);
             return Err((feeds, store));
@@ -106,7 +115,7 @@ impl<B: Drop, L: Label<Block = B>, F: Drop, S: BlockStore<B, L>> WorkerNode<B, L
             history,
             graph,
             store,
-            looked: 0,
+            aside,
             lost: None,
             waiting: Vec::new(alloc),
             held: None,
@@ -173,6 +182,7 @@ impl<B: Drop, L: Label<Block = B>, F: Drop, S: BlockStore<B, L>> WorkerNode<B, L
             history,
             graph,
             store,
+            aside,
             waiting,
             held,
             given,
@@ -181,6 +191,7 @@ impl<B: Drop, L: Label<Block = B>, F: Drop, S: BlockStore<B, L>> WorkerNode<B, L
             ..
         } = self;
         drop(graph);
+        drop(aside);
         drop(waiting);
         drop(held);
         drop(given);
@@ -367,31 +378,29 @@ impl<B: Drop, L: Label<Block = B>, F: Drop, S: BlockStore<B, L>> WorkerNode<B, L
         }
     }
 
-    /// The least key in memory whose block was put aside and isn't recorded as such. It is looked for only where blocks were put aside since all that
-    /// were are recorded.
+    /// The least key in memory whose block was put aside and isn't recorded as such.
     ///
     /// # Errors
     /// `Memory` where the core goes on no more.
-    #[tactic(auto, using(crate::proofs::StoreLemmas::now_looked_up, crate::proofs::StoreLemmas::none_now))]
     fn due(&mut self) -> Result<Option<u32>, Stop>
         ensures due { IfOk result
             (λ key. IsNextDue (key_count self.old.graph) (S.stock self.old.store) (facts self.old.history.book.core.core) self.old.history.recorded key) }
         ensures same { (self.new.history ≡ self.old.history) × (self.new.feeds ≡ self.old.feeds) × (self.new.ending ≡ self.old.ending) }
     {
-        let spills = self.store.spills();
-        if spills == self.looked && spills < u64::MAX {
+        hear_of(&mut self.store, &mut self.aside);
+        let Some(_) = self.aside.first(0) else {
             return Ok(None);
-        }
+        };
         let Some(core) = self.history.core() else {
             return Err(Stop::Memory);
         };
-        match least_due(self.graph.keys(), &self.store, &core.core, &self.history) {
-            Some(key) => Ok(Some(key)),
-            None => {
-                self.looked = spills;
-                Ok(None)
-            }
-        }
+        Ok(least_due(
+            &mut self.aside,
+            self.graph.keys(),
+            &self.store,
+            &core.core,
+            &self.history,
+        ))
     }
 
     /// A block was found lost: that is recorded, where it is recorded that it was put aside. Else this is recorded first.
@@ -425,7 +434,7 @@ impl<B: Drop, L: Label<Block = B>, F: Drop, S: BlockStore<B, L>> WorkerNode<B, L
 
     /// The task that would start, with the blocks of its dependencies and a feed, as long as the worker isn't to end and nothing is to be prepared for it, or
     /// one of these blocks that is lost. Where a block isn't here the worker is to end.
-    #[tactic(auto, using(crate::proofs::Causes::no_cause, crate::proofs::Causes::memory_cause, crate::proofs::StoreLemmas::looks_looked_up))]
+    #[tactic(auto, using(crate::proofs::Causes::no_cause, crate::proofs::Causes::memory_cause, crate::proofs::StoreLemmas::looks_heard_of))]
     fn next_task(&mut self) -> Next<Task<B, L, F>>
         ensures history { self.new.history ≡ self.old.history }
         ensures why { IsTurnsCause self.old.ending self.new.ending }
@@ -614,7 +623,7 @@ impl<B: Drop, L: Label<Block = B>, F: Drop, S: BlockStore<B, L>> WorkerNode<B, L
     ///
     /// # Errors
     /// Where there is no memory, or such a block isn't here though nothing said that it is lost.
-    #[tactic(auto, using(crate::proofs::StoreLemmas::looks_looked_up))]
+    #[tactic(auto, using(crate::proofs::StoreLemmas::looks_heard_of))]
     pub fn answer(&mut self, ask: u64, keys: &[u32]) -> Result<Sought<Sealed<B, L>>, Stop>
         ensures named { IfOk result
             (λ sought. IfWhole sought (λ p. p.message ≡ message.Peer (peer.Data ask (filter (facts self.old.history.book.core.core).mem keys.now)))) }

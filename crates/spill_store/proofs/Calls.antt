@@ -66,11 +66,11 @@ module _ {D : Type 0} (view : D → DiskView) where
   }
 
   pub put_done : (key : ℕ) (a : Array) (s t u : Kept D) (rest : Rest) → t.memory ≡ put_first key (fresh a) s.memory → ChangesAt key (Some (fresh a)) s.memory t.memory → ChangesAt key None (away_in s.shelf) (away_in t.shelf)
-      → t.times ≡ s.times → SameDisk view s.shelf t.shelf → SameDisk view t.shelf u.shelf → AllStay t u → SpillsUntil view t u rest → Puts view key a s u
-  put_done key a s t u rest order c d n f g all so = record {
+      → t.times ≡ s.times → t.news ≡ s.news → SameDisk view s.shelf t.shelf → SameDisk view t.shelf u.shelf → AllStay t u → SpillsUntil view t u rest → Puts view key a s u
+  put_done key a s t u rest order c d n m f g all so = record {
     here = set_here key (fresh a) s t u c d all;
     others = set_others key (fresh a) s t u c d all;
-    spills = spilled_from view (put_first key (fresh a) s.memory) s t u rest order n f g so;
+    spills = spilled_from view (put_first key (fresh a) s.memory) s t u rest order n m f g so;
     taken = takes_anew view key so.gone s t u (unset_taken key (Some (fresh a)) s t refl c d) so.taken;
   }
 
@@ -95,36 +95,36 @@ module _ {D : Type 0} (view : D → DiskView) where
   lost_later (Some g) (Some h) None a by l f = absurd f
   lost_later (Some g) (Some h) (Some k) a by l f = loses_later (view g.disk) (view h.disk) (view k.disk) a by l f.1
 
-  here_done : (key : ℕ) (a : Array) (s t u : Kept D) (rest : Rest) → Reads key a s t → t.times ≡ s.times → SameDisk view s.shelf t.shelf → SameDisk view t.shelf u.shelf → AllStay t u → SpillsUntil view t u rest → FindsHere view key a s u
-  here_done key a s t u rest r n f g all so = record {
+  here_done : (key : ℕ) (a : Array) (s t u : Kept D) (rest : Rest) → Reads key a s t → t.times ≡ s.times → t.news ≡ s.news → SameDisk view s.shelf t.shelf → SameDisk view t.shelf u.shelf → AllStay t u → SpillsUntil view t u rest → FindsHere view key a s u
+  here_done key a s t u rest r n m f g all so = record {
     order = t.memory;
     uses = r.uses;
     all = all_then view s t u (all_by s t r.same r.away) all;
-    spills = spilled_from view t.memory s t u rest refl n f g so;
+    spills = spilled_from view t.memory s t u rest refl n m f g so;
     taken = takes_after view so.gone s t u (taken_stays s t r.same r.away) so.taken;
   }
 
-  there_done : (key : ℕ) (b : Array) (s t u : Kept D) (rest : Rest) → BringsBack view key b s t → t.times ≡ s.times → SameDisk view s.shelf t.shelf → SameDisk view t.shelf u.shelf → AllStay t u → SpillsUntil view t u rest → FindsThere view key b s u
-  there_done key b s t u rest r n f g all so = record {
+  there_done : (key : ℕ) (b : Array) (s t u : Kept D) (rest : Rest) → BringsBack view key b s t → t.times ≡ s.times → t.news ≡ s.news → SameDisk view s.shelf t.shelf → SameDisk view t.shelf u.shelf → AllStay t u → SpillsUntil view t u rest → FindsThere view key b s u
+  there_done key b s t u rest r n m f g all so = record {
     array = r.array;
     was = r.was;
     comes = r.comes;
     here = set_here key (back b) s t u r.changes r.away all;
     others = set_others key (back b) s t u r.changes r.away all;
-    spills = spilled_from view (put_first key (back b) s.memory) s t u rest r.memory n f g so;
+    spills = spilled_from view (put_first key (back b) s.memory) s t u rest r.memory n m f g so;
     taken = takes_after view so.gone s t u (taken_back key r.array b s t r.was r.changes r.away) so.taken;
   }
 
-  pub got : (key : ℕ) (s t u : Kept D) (rest : Rest) (found : Got) → Finds view key s t found → t.times ≡ s.times → SameDisk view s.shelf t.shelf → SameDisk view t.shelf u.shelf → AllStay t u → SpillsUntil view t u rest → Gives view key s u found
-  got key s t u rest (Found block) (inl r) n f g all so = inl (here_done key block.value s t u rest r n f g all so)
-  got key s t u rest (Found block) (inr r) n f g all so = inr (there_done key block.value s t u rest r n f g all so)
-  got key s t u rest Absent r n f g all so = record {
+  pub got : (key : ℕ) (s t u : Kept D) (rest : Rest) (found : Got) → Finds view key s t found → t.times ≡ s.times → t.news ≡ s.news → SameDisk view s.shelf t.shelf → SameDisk view t.shelf u.shelf → AllStay t u → SpillsUntil view t u rest → Gives view key s u found
+  got key s t u rest (Found block) (inl r) n m f g all so = inl (here_done key block.value s t u rest r n m f g all so)
+  got key s t u rest (Found block) (inr r) n m f g all so = inr (there_done key block.value s t u rest r n m f g all so)
+  got key s t u rest Absent r n m f g all so = record {
     was = ap₂ block_by r.not_here r.not_there;
     all = all_then view s t u (all_by s t (same_values s.memory t.memory r.memory) r.away) all;
-    spills = spilled_from view s.memory s t u rest r.memory n f g so;
+    spills = spilled_from view s.memory s t u rest r.memory n m f g so;
     taken = takes_after view so.gone s t u (taken_stays s t (same_values s.memory t.memory r.memory) r.away) so.taken;
   }
-  got key s t u rest (Lost by) r n f g all so =
+  got key s t u rest (Lost by) r n m f g all so =
       let c = none_by key s.memory t.memory r.was.not_here r.memory in
       record {
         array = r.array;
@@ -132,18 +132,19 @@ module _ {D : Type 0} (view : D → DiskView) where
         lost = lost_later s.shelf t.shelf u.shelf r.array by r.lost g;
         gone = unset_here key s t u c r.away all;
         others = unset_others key s t u c r.away all;
-        spills = spilled_from view s.memory s t u rest r.memory n f g so;
+        spills = spilled_from view s.memory s t u rest r.memory n m f g so;
         taken = takes_anew view key so.gone s t u (unset_taken key None s t refl c r.away) so.taken;
       }
 
   -- a key that isn't kept any more
-  pub removed : (key : ℕ) (s u : Kept D) → u.memory ≡ remove_entry (nat_eq key) s.memory → ChangesAt key None s.memory u.memory → ChangesAt key None (away_in s.shelf) (away_in u.shelf) → u.times ≡ s.times → Removes key s u
-  removed key s u order c d n = record {
+  pub removed : (key : ℕ) (s u : Kept D) → u.memory ≡ remove_entry (nat_eq key) s.memory → ChangesAt key None s.memory u.memory → ChangesAt key None (away_in s.shelf) (away_in u.shelf) → u.times ≡ s.times → u.news ≡ s.news → Removes key s u
+  removed key s u order c d n m = record {
     gone = unset_here key s u u c d (record { each = λ q. refl });
     others = unset_others key s u u c d (record { each = λ q. refl });
     memory = order;
     taken = unset_taken key None s u refl c d;
     times = n;
+    news = m;
   }
 
   -- ## One block goes to the disk
@@ -159,8 +160,8 @@ module _ {D : Type 0} (view : D → DiskView) where
       by_test false = refl
 
   pub took : (key : ℕ) (a : Array) (s t : Kept D) → IsOldest s.memory key a → t.memory ≡ remove_entry (nat_eq key) s.memory → ChangesAt key None s.memory t.memory → ChangesAt key (Some a) (away_in s.shelf) (away_in t.shelf)
-      → faults_of view s.shelf < 8 → faults_of view t.shelf ≡ faults_of view s.shelf → t.times ≡ raised s.times 1 → GoesOut view s t
-  took key a s t old order c d few same counted = record {
+      → faults_of view s.shelf < 8 → faults_of view t.shelf ≡ faults_of view s.shelf → t.times ≡ raised s.times 1 → t.news ≡ s.news ++ key ∷ [] → GoesOut view s t
+  took key a s t old order c d few same counted told = record {
     key = key;
     held = held;
     order = old.last.last ∙ ap (λ ms. ms ++ (key, held) ∷ []) (sym order);
@@ -168,6 +169,7 @@ module _ {D : Type 0} (view : D → DiskView) where
     same = same;
     taken = record { each = λ q. taken_went key a s.memory t.memory (away_in s.shelf) (away_in t.shelf) c d q ∙ alone key q held (is_spilled s q) };
     times = counted;
+    news = told;
   }
     where
       held : InMemory

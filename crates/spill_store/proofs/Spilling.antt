@@ -1,14 +1,16 @@
 -- Blocks that go to the disk one after another.
-use Rattle.std.proofs.Common.{◌≡◌, ℕ, zero, suc, ◌≤◌, ◌<◌, Bool, true, false, cond, List, [], ◌∷◌, ◌++◌, length, take, Option, Some, None, refl, sym, ap, subst, ◌∙◌, arith, append_assoc, append-nil}
+use Rattle.std.proofs.Common.{◌≡◌, ℕ, zero, suc, ◌≤◌, ◌<◌, Bool, true, false, ◌||◌, cond, List, [], ◌∷◌, ◌++◌, length, take, Option, Some, None, refl, sym, ap, subst, ◌∙◌, arith, append_assoc, append-nil}
 use Rattle.std.specs.Prelude.{is_some, nat_eq}
+use Rattle.std.specs.List.{list_any}
 use Rattle.std.specs.Map.{lookup}
+use Rattle.std.proofs.lemmas.List.Folds.{list_any-append}
 use Rattle.std.proofs.Math.Numerals.{add-one}
 use Rattle.io_edge.specs.Disk.{DiskView}
 use Rattle.io_edge.specs.View.{raised}
 use Rattle.io_edge.proofs.OpeningLaws.{raised_again, raised_zero}
 use Rattle.spill_store.specs.Memory.{InMemory, IsCrowded}
 use Rattle.spill_store.specs.Shelves.{Shelved}
-use Rattle.spill_store.specs.Store.{Kept, AllStay, SameDisk, Spills, Ends, TakesAnew, TakesMore, faults_of, is_among, is_spilled}
+use Rattle.spill_store.specs.Store.{Kept, AllStay, SameDisk, Spills, Ends, TakesAnew, TakesMore, faults_of, is_among, is_news, is_spilled}
 use Rattle.spill_store.specs.Steps.{GoesOut, StaysIn, SpillsSome, SpillsUntil}
 use Rattle.spill_store.specs.declared.rest.Rest.{Rest}
 use Rattle.spill_store.specs.declared.rest.Rest.TheVariants.{Room}
@@ -73,7 +75,19 @@ module _ {D : Type 0} (view : D → DiskView) where
     same = refl;
     taken = takes_none s;
     times = sym (raised_zero s.times);
+    news = λ q. refl;
   }
+
+  news_more : (q key : ℕ) (h : InMemory) (gone : List (ℕ × InMemory)) (b : Bool) → ((is_among q gone || b) || (nat_eq q key || false)) ≡ (is_among q ((key, h) ∷ gone) || b)
+  news_more q key h gone b = by_test (nat_eq q key) (lookup (nat_eq q) gone) b
+    where
+      by_test : (t : Bool) (o : Option InMemory) (b : Bool) → ((is_some o || b) || (t || false)) ≡ (is_some (cond t (Some h) o) || b)
+      by_test true None true = refl
+      by_test true None false = refl
+      by_test true (Some x) b = refl
+      by_test false None true = refl
+      by_test false None false = refl
+      by_test false (Some x) b = refl
 
   -- one more
   pub spills_more : (s t u : Kept D) → SpillsSome view s t → GoesOut view t u → t.limit ≡ u.limit → IsCrowded t.limit t.memory → SpillsSome view s u
@@ -85,6 +99,9 @@ module _ {D : Type 0} (view : D → DiskView) where
     same = step.same ∙ so.same;
     taken = takes_another e so.gone s t u so.taken step.taken;
     times = step.times ∙ ap (λ n. raised n 1) so.times ∙ raised_again s.times (length so.gone) 1 ∙ ap (raised s.times) (add-one (length so.gone));
+    news = λ q.
+        ap (list_any (nat_eq q)) step.news ∙ list_any-append (nat_eq q) t.news (step.key ∷ [])
+        ∙ ap (λ b. b || (nat_eq q step.key || false)) (so.news q) ∙ news_more q step.key step.held so.gone (is_news s q);
   }
     where
       e : ℕ × InMemory
@@ -106,14 +123,15 @@ module _ {D : Type 0} (view : D → DiskView) where
     ends = subst (λ n. Ends view n u rest) so.same stop.ends;
     taken = takes_still so.gone s t u so.taken stop.taken;
     times = stop.times ∙ so.times;
+    news = λ q. ap (list_any (nat_eq q)) stop.news ∙ so.news q;
   }
 
   pub spills_to_room : (s t : Kept D) → SpillsSome view s t → ¬ IsCrowded t.limit t.memory → SpillsUntil view s t Room
-  spills_to_room s t so room = record { gone = so.gone; from_end = so.from_end; crowded = so.crowded; few = so.few; ends = room; taken = so.taken; times = so.times }
+  spills_to_room s t so room = record { gone = so.gone; from_end = so.from_end; crowded = so.crowded; few = so.few; ends = room; taken = so.taken; times = so.times; news = so.news }
 
   -- the rule, from the order in which a call left the blocks
-  abbrev pub spilled_from : (order : List (ℕ × InMemory)) (s t u : Kept D) (rest : Rest) → t.memory ≡ order → t.times ≡ s.times → SameDisk view s.shelf t.shelf → SameDisk view t.shelf u.shelf → SpillsUntil view t u rest → Spills view order s u
-  spilled_from order s t u rest e n f g so = record {
+  abbrev pub spilled_from : (order : List (ℕ × InMemory)) (s t u : Kept D) (rest : Rest) → t.memory ≡ order → t.times ≡ s.times → t.news ≡ s.news → SameDisk view s.shelf t.shelf → SameDisk view t.shelf u.shelf → SpillsUntil view t u rest → Spills view order s u
+  spilled_from order s t u rest e n m f g so = record {
     gone = so.gone;
     rest = rest;
     faults = faults_of view t.shelf;
@@ -123,5 +141,6 @@ module _ {D : Type 0} (view : D → DiskView) where
     sooner = later_faults t.shelf u.shelf g;
     few = so.few;
     ends = so.ends;
-    times = so.times ∙ ap (λ m. raised m (length so.gone)) n;
+    times = so.times ∙ ap (λ k. raised k (length so.gone)) n;
+    news = λ q. so.news q ∙ ap (λ ks. is_among q so.gone || list_any (nat_eq q) ks) m;
   }

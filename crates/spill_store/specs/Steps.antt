@@ -1,5 +1,5 @@
 -- The steps of the store's calls.
-use Rattle.std.specs.Prelude.{◌≡◌, ◌<◌, ◌⊎◌, ℕ, suc, nat_eq, List, [], ◌∷◌, ◌++◌, length, take, Option, Some, None, IfSome}
+use Rattle.std.specs.Prelude.{◌≡◌, ◌<◌, ◌⊎◌, ◌||◌, ℕ, suc, nat_eq, List, [], ◌∷◌, ◌++◌, length, take, Option, Some, None, IfSome}
 use Rattle.std.specs.Map.{lookup}
 use Rattle.nd_shape.specs.Block.{Array}
 use Rattle.io_edge.specs.Disk.{DiskView}
@@ -7,7 +7,7 @@ use Rattle.io_edge.specs.View.{raised}
 use Rattle.spill_store.specs.Table.{ChangesAt, SameValues, put_first}
 use Rattle.spill_store.specs.Memory.{InMemory, IsCrowded, UsesBlock}
 use Rattle.spill_store.specs.Shelves.{ComesBack, Shelved, Fetches}
-use Rattle.spill_store.specs.Store.{Kept, ComesFrom, Ends, IsAway, IsLost, TakesMore, away_in, back, faults_of}
+use Rattle.spill_store.specs.Store.{Kept, ComesFrom, Ends, IsAway, IsLost, TakesMore, away_in, back, faults_of, is_among, is_news}
 use Rattle.spill_store.specs.declared.lost.Got.{Got}
 use Rattle.spill_store.specs.declared.lost.Got.TheVariants.{Found, Absent, Lost}
 use Rattle.spill_store.specs.declared.lost.LostBy.{LostBy}
@@ -78,6 +78,7 @@ pub record GoesOut {D : Type 0} (view : D → DiskView) (old new : Kept D) : Typ
   pub same : faults_of view new.shelf ≡ faults_of view old.shelf
   pub taken : TakesMore ((key, held) ∷ []) old new
   pub times : new.times ≡ raised old.times 1
+  pub news : new.news ≡ old.news ++ key ∷ []
 
 -- none does
 pub record StaysIn {D : Type 0} (view : D → DiskView) (rest : Rest) (old new : Kept D) : Type 0 where
@@ -85,6 +86,7 @@ pub record StaysIn {D : Type 0} (view : D → DiskView) (rest : Rest) (old new :
   pub ends : Ends view (faults_of view old.shelf) new rest
   pub taken : TakesMore [] old new
   pub times : new.times ≡ old.times
+  pub news : new.news ≡ old.news
 
 abbrev pub SpillsOne : {D : Type 0} → (D → DiskView) → Kept D → Kept D → Option Rest → Type 0
 SpillsOne view old new None = GoesOut view old new
@@ -99,6 +101,7 @@ pub record SpillsSome {D : Type 0} (view : D → DiskView) (old new : Kept D) : 
   pub same : faults_of view new.shelf ≡ faults_of view old.shelf
   pub taken : TakesMore gone old new
   pub times : new.times ≡ raised old.times (length gone)
+  pub news : (q : ℕ) → is_news new q ≡ (is_among q gone || is_news old q)
 
 -- and then no more
 pub record SpillsUntil {D : Type 0} (view : D → DiskView) (old new : Kept D) (rest : Rest) : Type 0 where
@@ -109,3 +112,4 @@ pub record SpillsUntil {D : Type 0} (view : D → DiskView) (old new : Kept D) (
   pub ends : Ends view (faults_of view old.shelf) new rest
   pub taken : TakesMore gone old new
   pub times : new.times ≡ raised old.times (length gone)
+  pub news : (q : ℕ) → is_news new q ≡ (is_among q gone || is_news old q)

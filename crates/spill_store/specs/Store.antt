@@ -1,5 +1,6 @@
 -- The store: a map from keys to blocks, some of them on a disk, and the rule by which blocks go there.
-use Rattle.std.specs.Prelude.{◌≡◌, ◌≤◌, ◌<◌, ◌⊎◌, ℕ, suc, nat_eq, List, [], ◌++◌, length, take, Option, Some, None, is_some, Bool, true, false, cond}
+use Rattle.std.specs.Prelude.{◌≡◌, ◌≤◌, ◌<◌, ◌⊎◌, ◌||◌, ℕ, suc, nat_eq, List, [], ◌∷◌, ◌++◌, length, take, Option, Some, None, is_some, Bool, true, false, cond}
+use Rattle.std.specs.List.{list_any}
 use Rattle.std.specs.Option.{option_map, option_map_or}
 use Rattle.std.specs.Map.{lookup, remove_entry}
 use Rattle.io_edge.specs.Cause.{Rose}
@@ -15,13 +16,14 @@ use Rattle.spill_store.specs.declared.lost.LostBy.{LostBy}
 use Rattle.spill_store.specs.declared.rest.Rest.{Rest}
 use Rattle.spill_store.specs.declared.rest.Rest.TheVariants.{Room, NoDisk, Worn, Refused, OutOfMemory}
 
--- a store: the blocks in memory, the most recently used first, the disk with those that are there alone, the limit, and how
--- often a block was put on the disk
+-- a store: the blocks in memory, the most recently used first, the disk with those that are there alone, the limit, how often
+-- a block was put on the disk, and the keys of those that were and that it didn't tell of
 pub record Kept (D : Type 0) : Type 0 where
   pub memory : List (ℕ × InMemory)
   pub shelf : Option (Shelved D)
   pub limit : ℕ
   pub times : ℕ
+  pub news : List ℕ
 
 -- ## The map
 
@@ -36,6 +38,10 @@ block_at s k = option_map_or (λ h. Some h.array) (lookup (nat_eq k) s.memory) (
 -- whether the disk has taken the block of a key since it was put
 abbrev pub is_spilled : {D : Type 0} → Kept D → ℕ → Bool
 is_spilled s k = option_map_or (λ h. h.taken) (lookup (nat_eq k) s.memory) (is_some (lookup (nat_eq k) (away_in s.shelf)))
+
+-- whether a block of the key was put on the disk and the store didn't tell of it
+abbrev pub is_news : {D : Type 0} → Kept D → ℕ → Bool
+is_news s k = list_any (nat_eq k) s.news
 
 -- whether a key is that of one of these entries
 abbrev pub is_among : ℕ → List (ℕ × InMemory) → Bool
@@ -83,7 +89,7 @@ Ends view faults new Refused = Rose faults (faults_of view new.shelf)
 Ends view faults new OutOfMemory = Unit {0}
 
 -- Of the blocks in memory in this order of use, those used least recently went to the disk, one after another, each while
--- memory was crowded and the disk had failed less than eight times. The count of such blocks rose by each.
+-- memory was crowded and the disk had failed less than eight times. The count of such blocks rose by each, and each is news.
 pub record Spills {D : Type 0} (view : D → DiskView) (order : List (ℕ × InMemory)) (old new : Kept D) : Type 0 where
   pub gone : List (ℕ × InMemory)
   pub rest : Rest
@@ -96,6 +102,7 @@ pub record Spills {D : Type 0} (view : D → DiskView) (order : List (ℕ × InM
   pub few : 0 < length gone → faults < 8
   pub ends : Ends view faults new rest
   pub times : new.times ≡ raised old.times (length gone)
+  pub news : (q : ℕ) → is_news new q ≡ (is_among q gone || is_news old q)
 
 -- there is a disk that has failed less than eight times
 abbrev pub CanSpill : {D : Type 0} → (D → DiskView) → Option (Shelved D) → Type 0
@@ -184,13 +191,20 @@ pub record Removes {D : Type 0} (key : ℕ) (old new : Kept D) : Type 0 where
   pub memory : new.memory ≡ remove_entry (nat_eq key) old.memory
   pub taken : TakesAnew key [] old new
   pub times : new.times ≡ old.times
+  pub news : new.news ≡ old.news
 
 -- nothing that is kept changes
 pub record IsSame {D : Type 0} (old new : Kept D) : Type 0 where
   pub memory : new.memory ≡ old.memory
   pub away : away_in new.shelf ≡ away_in old.shelf
   pub times : new.times ≡ old.times
+  pub news : new.news ≡ old.news
+
+-- it told of a key, which is no longer news, or there is none
+abbrev pub Tells : {D : Type 0} → Kept D → Kept D → Option ℕ → Type 0
+Tells old new None = (old.news ≡ []) × (new ≡ old)
+Tells old new (Some k) = (old.news ≡ new.news ++ k ∷ []) × (new ≡ record old { news = new.news })
 
 -- a store that keeps nothing
 abbrev pub empty_store : {D : Type 0} → Option D → ℕ → Kept D
-empty_store disk limit = record { memory = []; shelf = option_map (λ d. record { disk = d; away = [] }) disk; limit = limit; times = 0 }
+empty_store disk limit = record { memory = []; shelf = option_map (λ d. record { disk = d; away = [] }) disk; limit = limit; times = 0; news = [] }

@@ -5,7 +5,7 @@ ghost use Rattle.std.specs.Option.{option_map};
 ghost use Rattle.nd_shape.specs.Block.{Array};
 ghost use Rattle.spill_store.specs.Memory.{IsNextOut};
 ghost use Rattle.spill_store.specs.Shelves.{AreThere};
-ghost use Rattle.spill_store.specs.Store.{AllStay, CanSpill, IsSame, Gives, Puts, Removes, SameDisk, away_in, back, empty_store, fresh, is_spilled};
+ghost use Rattle.spill_store.specs.Store.{AllStay, CanSpill, IsSame, Gives, Puts, Removes, SameDisk, Tells, away_in, back, empty_store, fresh, is_spilled};
 ghost use Rattle.spill_store.specs.Steps.{FetchesIn, Finds, IsBackIn, IsFound, SpillsOne, SpillsUntil};
 ghost use Rattle.spill_store.specs.Table.{ChangesAt, put_first};
 
@@ -21,7 +21,7 @@ use std::marker::Model;
 use std::sync::Arc;
 
 /// Blocks by key, some of them on a disk. Contracts see the blocks in memory in the order of use, those that the disk alone
-/// has, and the disk.
+/// has, the disk, and the keys of blocks that went there and that the store didn't tell of.
 ///
 /// After each `put` and `get`, while the blocks in memory have more than six tenths of the limit and there is more than one
 /// of them, the one that was used least recently is put on the disk. This ends where there is no disk, where it has failed
@@ -34,6 +34,7 @@ pub struct SpillStore<D: Disk> {
     shelf: Option<Shelf<D>>,
     limit: u64,
     times: u64,
+    news: Vec<u32>,
 }
 
 impl<D: Disk> Model for SpillStore<D> {
@@ -42,7 +43,7 @@ impl<D: Disk> Model for SpillStore<D> {
 
     ghost Value = { Kept D };
 
-    ghost view = { λ s. record { memory = s.memory; shelf = s.shelf; limit = s.limit; times = s.times } };
+    ghost view = { λ s. record { memory = s.memory; shelf = s.shelf; limit = s.limit; times = s.times; news = s.news.items } };
 }
 
 impl<D: Disk> SpillStore<D> {
@@ -76,6 +77,7 @@ impl<D: Disk> SpillStore<D> {
             shelf,
             limit,
             times: 0,
+            news: Vec::new(alloc),
         })
     }
 
@@ -197,6 +199,14 @@ impl<D: Disk> SpillStore<D> {
         self.times
     }
 
+    /// The key of a block that went to the disk, the last one that it didn't tell of since. It tells of each once, and a caller who asks until there is
+    /// none has heard of all. No memory.
+    pub fn tell(&mut self) -> Option<u32>
+        ensures { Tells self.old self.new result }
+    {
+        self.news.pop()
+    }
+
     /// Gives the disk back, which holds the blocks that weren't in memory. The blocks are dropped. No memory.
     pub fn into_disk(self) -> Option<D>
         ensures disk { result ≡ option_map (λ h. h.disk) self.shelf }
@@ -208,6 +218,7 @@ impl<D: Disk> SpillStore<D> {
             shelf,
             limit: _,
             times: _,
+            news: _,
         } = self;
         match shelf {
             Some(shelf) => Some(shelf.into_disk()),
@@ -259,6 +270,7 @@ impl<D: Disk> SpillStore<D> {
         ensures memory { self.new.memory ≡ self.old.memory }
         ensures limit { self.new.limit ≡ self.old.limit }
         ensures times { self.new.times ≡ self.old.times }
+        ensures news { self.new.news ≡ self.old.news }
         ensures disk { SameDisk D.view self.old.shelf self.new.shelf }
         ensures gone { ChangesAt key None (away_in self.old.shelf) (away_in self.new.shelf) }
     {
@@ -271,6 +283,7 @@ impl<D: Disk> SpillStore<D> {
     fn place(&mut self, key: u32, block: Arc<Block>) -> Result<(), (Arc<Block>, AllocError)>
         ensures limit { self.new.limit ≡ self.old.limit }
         ensures times { self.new.times ≡ self.old.times }
+        ensures news { self.new.news ≡ self.old.news }
         ensures disk { SameDisk D.view self.old.shelf self.new.shelf }
         ensures memory { OnOk result (self.new.memory ≡ put_first key (fresh block.value) self.old.memory) }
         ensures changes { OnOk result (ChangesAt key (Some (fresh block.value)) self.old.memory self.new.memory) }
@@ -292,6 +305,7 @@ impl<D: Disk> SpillStore<D> {
     fn find(&mut self, key: u32) -> Result<Got, AllocError>
         ensures limit { self.new.limit ≡ self.old.limit }
         ensures times { self.new.times ≡ self.old.times }
+        ensures news { self.new.news ≡ self.old.news }
         ensures disk { SameDisk D.view self.old.shelf self.new.shelf }
         ensures ok { IfOk result (Finds D.view key self.old self.new) }
         ensures err { OnErr result (IsSame self.old self.new) }
@@ -313,6 +327,7 @@ impl<D: Disk> SpillStore<D> {
     fn fetch(&mut self, key: u32) -> Result<Fetched, AllocError>
         ensures limit { self.new.limit ≡ self.old.limit }
         ensures times { self.new.times ≡ self.old.times }
+        ensures news { self.new.news ≡ self.old.news }
         ensures same { IsSame self.old self.new }
         ensures disk { SameDisk D.view self.old.shelf self.new.shelf }
         ensures ok { IfOk result (FetchesIn D.view key self.old.shelf self.new.shelf) }
@@ -329,6 +344,7 @@ impl<D: Disk> SpillStore<D> {
         ensures memory { self.new.memory ≡ self.old.memory }
         ensures limit { self.new.limit ≡ self.old.limit }
         ensures times { self.new.times ≡ self.old.times }
+        ensures news { self.new.news ≡ self.old.news }
         ensures disk { SameDisk D.view self.old.shelf self.new.shelf }
         ensures gone { ChangesAt key None (away_in self.old.shelf) (away_in self.new.shelf) }
     {
@@ -345,6 +361,7 @@ impl<D: Disk> SpillStore<D> {
         requires comes { IsBackIn D.view key self.old.shelf block }
         ensures limit { self.new.limit ≡ self.old.limit }
         ensures times { self.new.times ≡ self.old.times }
+        ensures news { self.new.news ≡ self.old.news }
         ensures disk { SameDisk D.view self.old.shelf self.new.shelf }
         ensures found { IfOk result (IsFound block) }
         ensures memory { OnOk result (self.new.memory ≡ put_first key (back block) self.old.memory) }
@@ -394,10 +411,14 @@ impl<D: Disk> SpillStore<D> {
         let Some((key, block)) = self.memory.oldest() else {
             return Some(Rest::Room);
         };
+        let Ok(()) = self.news.reserve(1) else {
+            return Some(Rest::OutOfMemory);
+        };
         match shelf.take(self.alloc, key, block) {
             Taken::Yes => {
                 self.memory.remove(key);
                 self.times = self.times.saturating_add(1);
+                self.news.push_reserved(key);
                 None
             }
             Taken::Refused => Some(Rest::Refused),

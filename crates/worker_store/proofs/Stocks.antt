@@ -1,19 +1,19 @@
 -- What the calls of a store make of what it keeps.
-use Rattle.std.proofs.Common.{◌≡◌, ◌⊎◌, ℕ, ◌-◌, ◌^◌, ◌<◌, ◌≤◌, Bool, true, false, cond, List, [], ◌∷◌, length, Option, Some, None, inl, inr, refl, sym, ap, ap₂, ◌∙◌, subst, arith}
+use Rattle.std.proofs.Common.{◌≡◌, ◌⊎◌, ℕ, Bool, true, false, ◌||◌, cond, List, [], ◌∷◌, Option, Some, None, inl, inr, refl, sym, ap, ap₂, ◌∙◌, subst}
 use Rattle.std.specs.Prelude.{◌==◌, is_some, nat_eq}
 use Rattle.std.specs.Cmp.{nat_eq_equiv}
+use Rattle.std.specs.List.{list_any}
 use Rattle.std.specs.Map.{lookup}
-use Rattle.std.proofs.lemmas.Bool.{eqb-true}
+use Rattle.std.proofs.lemmas.Bool.{eqb-true, or_parts, or_right}
 use Rattle.small_facts.proofs.Truth.{cond_same}
 use Rattle.nd_shape.specs.Block.{Array}
 use Rattle.io_edge.specs.Disk.{DiskView}
-use Rattle.io_edge.specs.View.{raised}
-use Rattle.io_edge.proofs.OpeningLaws.{raised_bounds}
+use Rattle.cluster_rules.specs.Derived.{is_in}
 use Rattle.cluster_rules.specs.Functions.{put}
-use Rattle.node_states.specs.Stores.{Keeps, PutsAside, Puts, Finds, Misses, Loses, Removes, IsSame, IsStock, KeepsNone}
+use Rattle.node_states.specs.Stores.{Keeps, PutsAside, Puts, Finds, Misses, Loses, Removes, IsSame, IsStock, KeepsNone, Tells}
 use Rattle.spill_store.specs.Memory.{InMemory}
-use Rattle.spill_store.specs.Store.{Kept, AllStay, FindsHere, FindsThere, IsAway, OthersStay, TakesAnew, TakesMore, away_in, block_at, empty_store, is_among, is_spilled}
-use Rattle.spill_store.specs.Store.{Puts as PutsIn, FindsNone, Loses as LosesIn, Removes as RemovesIn, IsSame as IsSameIn}
+use Rattle.spill_store.specs.Store.{Kept, AllStay, FindsHere, FindsThere, IsAway, OthersStay, TakesAnew, TakesMore, away_in, block_at, empty_store, is_among, is_news, is_spilled}
+use Rattle.spill_store.specs.Store.{Puts as PutsIn, FindsNone, Loses as LosesIn, Removes as RemovesIn, IsSame as IsSameIn, Tells as TellsIn}
 use Rattle.spill_store.specs.declared.lost.LostBy.{LostBy}
 use Rattle.spill_store.proofs.Maps.{block_by, taken_by}
 use Rattle.worker_store.specs.Keeping.{stock_of}
@@ -39,34 +39,32 @@ module _ {D : Type 0} where
 
 -- ## What was put aside
 
--- a count that stands still below its end rose by nothing
-pub calm_none : (n m k : ℕ) → m ≡ raised n k → m ≡ n → m < 2 ^ 64 - 1 → k ≡ 0
-unfolding raised
-calm_none n m k e f l = omega arith
-
-pub none_among : (gone : List (ℕ × InMemory)) (q : ℕ) → length gone ≡ 0 → is_among q gone ≡ false
-none_among [] q e = refl
-none_among (x ∷ xs) q e = absurd (omega (arith, e))
-
 module _ {D : Type 0} where
+  -- whether a key is news, by the words of either store
+  news_is : (q : ℕ) (s : Kept D) → is_news s q ≡ is_in q s.news
+  news_is q s = by_list s.news
+    where
+      by_list : (ks : List ℕ) → list_any (nat_eq q) ks ≡ is_in q ks
+      by_list [] = refl
+      by_list (k ∷ ks) = ap₂ ◌||◌ (nat_eq_equiv.symm q k) (by_list ks)
+
   -- some more were put aside than those that had been
   pub aside_by : (before : ℕ → Bool) (gone : List (ℕ × InMemory)) (s u : Kept D)
-      → ((q : ℕ) → is_spilled u q ≡ cond (is_among q gone) true (before q)) → u.times ≡ raised s.times (length gone)
+      → ((q : ℕ) → is_spilled u q ≡ cond (is_among q gone) true (before q)) → ((q : ℕ) → is_news u q ≡ (is_among q gone || is_news s q))
       → PutsAside before (stock_of s) (stock_of u)
-  aside_by before gone s u each times = record {
-    later = subst (λ n. s.times ≤ n) (sym times) (raised_bounds s.times (length gone)).0;
+  aside_by before gone s u each news = record {
     stays = λ q h. each q ∙ ap (cond (is_among q gone) true) h ∙ cond_same (is_among q gone) true;
-    calm = λ c q h.
-        ap (λ b. cond b true (before q)) (sym (none_among gone q (calm_none s.times u.times (length gone) times c.same c.below))) ∙ sym (each q) ∙ h;
+    news = λ q h. sym (news_is q u) ∙ news q ∙ or_right (is_among q gone) (is_news s q) (news_is q s ∙ h);
+    fresh = λ q n h. ap (λ b. cond b true (before q)) (sym (or_parts (is_among q gone) (is_news s q) (sym (news q) ∙ news_is q u ∙ n)).0) ∙ sym (each q) ∙ h;
   }
 
-  pub aside_more : (gone : List (ℕ × InMemory)) (s u : Kept D) → TakesMore gone s u → u.times ≡ raised s.times (length gone)
+  pub aside_more : (gone : List (ℕ × InMemory)) (s u : Kept D) → TakesMore gone s u → ((q : ℕ) → is_news u q ≡ (is_among q gone || is_news s q))
       → PutsAside (stock_of s).aside (stock_of s) (stock_of u)
-  aside_more gone s u t times = aside_by (is_spilled s) gone s u t.each times
+  aside_more gone s u t news = aside_by (is_spilled s) gone s u t.each news
 
-  pub aside_anew : (key : ℕ) (gone : List (ℕ × InMemory)) (s u : Kept D) → TakesAnew key gone s u → u.times ≡ raised s.times (length gone)
+  pub aside_anew : (key : ℕ) (gone : List (ℕ × InMemory)) (s u : Kept D) → TakesAnew key gone s u → ((q : ℕ) → is_news u q ≡ (is_among q gone || is_news s q))
       → PutsAside (put (stock_of s).aside key false) (stock_of s) (stock_of u)
-  aside_anew key gone s u t times = aside_by (put (is_spilled s) key false) gone s u (λ q. t.each q ∙ ap (cond (is_among q gone) true) (turned key q false (is_spilled s q))) times
+  aside_anew key gone s u t news = aside_by (put (is_spilled s) key false) gone s u (λ q. t.each q ∙ ap (cond (is_among q gone) true) (turned key q false (is_spilled s q))) news
 
   -- a block on the disk alone
   pub away_is : (key : ℕ) (a : Array) (s : Kept D) → IsAway s key a → block_at s key ≡ Some a
@@ -91,7 +89,7 @@ module _ {D : Type 0} where
   stock_same s u e = record {
     kept = record { each = λ q. ap is_some (ap₂ block_by (ap (lookup (nat_eq q)) e.memory) (ap (lookup (nat_eq q)) e.away)) };
     aside = λ q. ap₂ taken_by (ap (lookup (nat_eq q)) e.memory) (ap (lookup (nat_eq q)) e.away);
-    times = e.times;
+    news = e.news;
   }
 
 -- ## The calls
@@ -100,21 +98,21 @@ module _ {D : Type 0} (view : D → DiskView) where
   pub stock_puts : (key : ℕ) (a : Array) (s u : Kept D) → PutsIn view key a s u → Puts key (stock_of s) (stock_of u)
   stock_puts key a s u p = record {
     kept = record { each = kept_at key (Some a) s u p.here p.others };
-    aside = aside_anew key p.spills.gone s u p.taken p.spills.times;
+    aside = aside_anew key p.spills.gone s u p.taken p.spills.news;
   }
 
   here_finds : (key : ℕ) (a : Array) (s u : Kept D) → FindsHere view key a s u → Finds key (stock_of s) (stock_of u)
   here_finds key a s u f = record {
     was = ap is_some (ap (λ m. block_by m (lookup (nat_eq key) (away_in s.shelf))) f.uses.was);
     kept = kept_still s u f.all;
-    aside = aside_more f.spills.gone s u f.taken f.spills.times;
+    aside = aside_more f.spills.gone s u f.taken f.spills.news;
   }
 
   there_finds : (key : ℕ) (a : Array) (s u : Kept D) → FindsThere view key a s u → Finds key (stock_of s) (stock_of u)
   there_finds key a s u f = record {
     was = was;
     kept = record { each = λ q. kept_at key (Some a) s u f.here f.others q ∙ by_key q (nat_eq q key) refl };
-    aside = aside_more f.spills.gone s u f.taken f.spills.times;
+    aside = aside_more f.spills.gone s u f.taken f.spills.news;
   }
     where
       was : is_some (block_at s key) ≡ true
@@ -132,14 +130,14 @@ module _ {D : Type 0} (view : D → DiskView) where
   stock_misses key s u f = record {
     was = ap is_some f.was;
     kept = kept_still s u f.all;
-    aside = aside_more f.spills.gone s u f.taken f.spills.times;
+    aside = aside_more f.spills.gone s u f.taken f.spills.news;
   }
 
   pub stock_loses : (key : ℕ) (by : LostBy) (s u : Kept D) → LosesIn view key by s u → Loses key (stock_of s) (stock_of u)
   stock_loses key by s u f = record {
     was = away_spilled key f.array s f.was;
     kept = record { each = kept_at key None s u f.gone f.others };
-    aside = aside_anew key f.spills.gone s u f.taken f.spills.times;
+    aside = aside_anew key f.spills.gone s u f.taken f.spills.news;
   }
 
 module _ {D : Type 0} where
@@ -147,5 +145,10 @@ module _ {D : Type 0} where
   stock_removes key s u r = record {
     kept = record { each = kept_at key None s u r.gone r.others };
     aside = λ q. r.taken.each q ∙ turned key q false (is_spilled s q);
-    times = r.times;
+    news = r.news;
   }
+
+  -- it tells of a block that was put aside
+  pub stock_tells : (s u : Kept D) (o : Option ℕ) → TellsIn s u o → Tells (stock_of s) (stock_of u) o
+  stock_tells s u None t = record { all = t.0; same = record { kept = record { each = λ q. ap (λ (v : Kept D). is_some (block_at v q)) t.1 }; aside = λ q. ap (λ (v : Kept D). is_spilled v q) t.1; news = ap (λ (v : Kept D). v.news) t.1 } }
+  stock_tells s u (Some k) t = record { one = t.0; kept = record { each = λ q. ap (λ (v : Kept D). is_some (block_at v q)) t.1 }; aside = λ q. ap (λ (v : Kept D). is_spilled v q) t.1 }

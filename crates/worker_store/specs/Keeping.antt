@@ -7,10 +7,10 @@ use Rattle.cluster_msgs.specs.Labels.{LabelFacts, BlockFits}
 use Rattle.spill_store.specs.Store.{Kept, block_at, is_spilled}
 use Rattle.node_states.specs.Stores.{Stock}
 
--- The keys whose block is in memory or on the disk alone, those whose block the disk has taken since it was put, and how often a block was put on the
--- disk.
+-- The keys whose block is in memory or on the disk alone, those whose block the disk has taken since it was put, and those of blocks that went there
+-- and that it didn't tell of.
 abbrev pub stock_of : {D : Type 0} → Kept D → Stock
-stock_of s = record { kept = λ q. is_some (block_at s q); aside = is_spilled s; times = s.times }
+stock_of s = record { kept = λ q. is_some (block_at s q); aside = is_spilled s; news = s.news }
 
 -- Blocks that come back from such a disk fit the label as those do that were put there: the label asks of a block what its shape tells, and where the
 -- run is told the disk tells what it holds.

@@ -114,6 +114,11 @@ impl<D: SpillDisk, L: Label<Block = Block>> BlockStore<Block, L> for SpillingBlo
         self.store.spills()
     }
 
+    #[tactic(auto, using(crate::proofs::Stocks::stock_tells))]
+    fn tell(&mut self) -> Option<u32> {
+        self.store.tell()
+    }
+
     fn comes_back(&self, key: u32) -> bool {
         self.store.is_away(key)
     }

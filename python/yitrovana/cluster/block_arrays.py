@@ -73,8 +73,8 @@ class Arrays:
         return da.map_blocks(function, *arrays, chunks=self.layouts[number], dtype=np.int64, meta=meta(shape), **words)
 
     def input(self, number, node):
-        path, dtype, order, data = self.files[number]
-        return self.blockwise(block_work.read_block, number, path=path, shape=node.shape, dtype=dtype, order=order, data=data)
+        path, descr, order, data = self.files[number]
+        return self.blockwise(block_work.read_block, number, path=path, shape=node.shape, descr=descr, order=order, data=data)
 
     def full(self, number, node):
         return da.full(node.shape, node.fields['value'], dtype=np.int64, chunks=self.layouts[number])

@@ -8,4 +8,4 @@ returns-clause-disk g c = same_then g.D.Disk.view c.args.self.now.shelf c.find.n
 pub returns-clause-ok : goal.returns-clause-ok
 returns-clause-ok g c =
     got g.D.Disk.view c.args.key c.args.self.now c.find.new.self c.spill.new.self c.spill.result c.in_ok-got.got c.in_ok-got.ensures.ok
-    c.find.ensures.times c.find.ensures.disk c.spill.ensures.disk c.spill.ensures.all c.spill.ensures.spills
+    c.find.ensures.times c.find.ensures.news c.find.ensures.disk c.spill.ensures.disk c.spill.ensures.all c.spill.ensures.spills

@@ -8,4 +8,4 @@ returns-clause-disk g c = same_then g.D.Disk.view c.args.self.now.shelf c.place.
 pub returns-clause-ok : goal.returns-clause-ok
 returns-clause-ok g c =
     put_done g.D.Disk.view c.args.key c.args.block.value c.args.self.now c.place.new.self c.spill.new.self c.spill.result c.in_ok-place.ensures.memory c.in_ok-place.ensures.changes c.in_ok-place.ensures.away
-    c.place.ensures.times c.place.ensures.disk c.spill.ensures.disk c.spill.ensures.all c.spill.ensures.spills
+    c.place.ensures.times c.place.ensures.news c.place.ensures.disk c.spill.ensures.disk c.spill.ensures.all c.spill.ensures.spills

@@ -1,4 +1,4 @@
-use Rattle.std.proofs.Common.{◌≡◌, ◌<◌, ◌≤◌, ◌^◌, Some, sym, subst, ◌∙◌, arith, rules}
+use Rattle.std.proofs.Common.{◌≡◌, ◌<◌, ◌≤◌, ◌^◌, ◌∷◌, ◌++◌, [], Some, sym, ap, subst, ◌∙◌, arith, rules}
 use Rattle.std.proofs.lemmas.Bool.{false≢true}
 use Rattle.spill_store.specs.Store.{away_in, faults_of}
 use Rattle.spill_store.specs.Table.{ChangesAt}
@@ -17,4 +17,4 @@ returns-in-Yes-clause-step g c =
     let fits : c.self.inside.times < 2 ^ 64 = search rules in
     rw (← c.self.view_is) (took view key a _ _ c.in-Some-oldest.ensures c.remove.ensures.entries c.remove.ensures.changes
     (subst (λ s. ChangesAt key (Some a) (away_in s) c.take.new.self.away) here taken.0) few
-    (subst (λ s. (view c.take.new.self.disk).faults ≡ faults_of view s) here taken.1) (raised_one c.self.inside.times c.saturating_add-self-inside.result fits c.saturating_add-self-inside.ensures))
+    (subst (λ s. (view c.take.new.self.disk).faults ≡ faults_of view s) here taken.1) (raised_one c.self.inside.times c.saturating_add-self-inside.result fits c.saturating_add-self-inside.ensures) (c.push_reserved.ensures.items ∙ ap (λ ks. ks ++ key ∷ []) c.reserve.ensures.items))
