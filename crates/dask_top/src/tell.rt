@@ -1,4 +1,4 @@
-// The line on standard error.
+//! The line on standard error.
 ghost use Rattle.std.specs.Prelude.{◌≡◌, ◌<◌, ◌++◌, ◌∷◌, codes, decimal, string_bytes, IfOk, OnOk, Some, Ok};
 ghost use Rattle.io_edge.specs.View.{OnlyErr};
 ghost use Rattle.job_run.specs.Inputs.{file_error_text};

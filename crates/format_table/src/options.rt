@@ -1,4 +1,4 @@
-// The words of the commands `sim` and `gen`.
+//! The words of the commands `sim` and `gen`.
 use crate::answer::Answer;
 use cluster_msgs::Item;
 use command_words::{SimWords, read_gen, read_sim};

@@ -1,4 +1,4 @@
-// How a run of a job ends.
+//! How a run of a job ends.
 ghost use Rattle.std.specs.Prelude.{◌≡◌};
 ghost use Rattle.job_run.specs.declared.ends.Ended.TheVariants.{OutOfMemory};
 

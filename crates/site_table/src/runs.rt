@@ -1,4 +1,4 @@
-// Runs of the program over sites in memory.
+//! Runs of the program over sites in memory.
 use crate::calls::faults;
 use crate::desk::Desk;
 use crate::text::text_of;
