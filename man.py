@@ -9,6 +9,9 @@ rt = importlib.util.module_from_spec(spec)
 loader.exec_module(rt)
 rtlib = rt.rtlib
 clone, name, flags = os.path.abspath(sys.argv[1]), sys.argv[2], sys.argv[3:]
+print('man: waits until the gate has ended', flush=True)
+while os.path.exists('/work/x/hold'):
+    time.sleep(5)
 os.chdir(clone)
 rt.Crate.allowed = ('Threads', 'Wait', 'Net')
 made = rtlib.Crate.__init__

@@ -1,11 +1,16 @@
 #!/bin/bash
-# all checks that aren't on the way of the chain go last
+# crates of /work/x/chain0 go first and are the last to be killed where memory lacks
 while :; do
   for p in $(pgrep 'rattle|antt-kernel'); do
-    args=$(tr '\0' ' ' < /proc/$p/cmdline 2>/dev/null); cwd=$(readlink /proc/$p/cwd 2>/dev/null)
-    n=0; [[ "$cwd" =~ rt-copy-[^/]*/repo/crates/(cluster_table|array_table|format_table|runner_table)$ ]] && n=-10; [[ "$cwd" =~ ^/tmp/pieces|/work/x/(wider|widerhigh|losses|peers) ]] && n=19
-    [[ "$cwd" =~ rt-copy-[^/]*/repo/crates/($(cat /work/x/chainlist))$ ]] && n=-18
-    [[ "$cwd" =~ /work/x/($(cat /work/x/manlist))$ ]] && n=-12
+    cwd=$(readlink /proc/$p/cwd 2>/dev/null)
+    n=0; o=300
+    [[ "$cwd" =~ ^/work/x/(losses|lossup) ]] && n=19 && o=600
+    [[ "$cwd" =~ ^/work/x/mine ]] && n=-8 && o=0
+    [[ "$cwd" =~ ^(/work/x/spills/|/tmp/spills-scratch) ]] && n=-1 && o=500
+    [[ "$cwd" =~ rt-copy-[^/]*/repo/crates/($(cat /work/x/chain))$ ]] && n=-4
+    [[ "$cwd" =~ rt-copy-[^/]*/repo/crates/($(cat /work/x/chain0))$ ]] && n=-10 && o=-900
+    [[ "$cwd" =~ rt-edit ]] && n=-12 && o=100
+    [ "$(cat /proc/$p/oom_score_adj)" = $o ] || echo $o > /proc/$p/oom_score_adj
     now=$(ps -o ni= -p $p | tr -d ' ')
     [ "$now" = "$n" ] || for t in /proc/$p/task/*; do renice -n $n -p ${t##*/} > /dev/null 2>&1; done
   done
