@@ -374,7 +374,12 @@ fn without_doubt<J: JobSpec, K: RunName<J>, S: Drop>(
 }
 
 /// The same with how it is decided in the place of want of memory, where the run can be told of.
-fn decide<F: Drop, S: Drop>(plan: &RunPlan, failed: bool, doubt: Doubt, ends: Ends<F, S>) -> Ends<F, S>
+fn decide<F: Drop, S: Drop>(
+    plan: &RunPlan,
+    failed: bool,
+    doubt: Doubt,
+    ends: Ends<F, S>,
+) -> Ends<F, S>
     ensures same { (result.histories ≡ ends.histories) × (result.left ≡ ends.left) × (result.feeds ≡ ends.feeds) }
     ensures none { ends.histories ≡ None → result.result ≡ ends.result }
     ensures changed { (result.result ≡ ends.result) ⊎ ((s : AnyStatus) × (result.result ≡ Err s) × IsDecided plan.now (failed ≡ true) doubt s) }

@@ -80,8 +80,8 @@ returns-in-Some-Zero-clause-stopped g c =
     part-bare p s named told reads writes files _
     (zero-stops p s named told reads writes c.in-Some-Zero.key c.ended_at.result c.requires.runs (c.laws_hold.ensures named) c.ended_at.ensures
     (λ t. let r = c.in-Ok.ensures.served t in
-        blamed-at p named (job_of (setting old) op) r.events (setting old).shape op c.args.wanted.now.all fault c.in-Some-Zero.key (ap (λ (x : Setting). x.shape) c.requires.setting) (ap (operation named) c.requires.tasks) c.requires.wanted.all_is is
-        (c.in-Ok.ensures.blame t r.events r.simulated)))
+    blamed-at p named (job_of (setting old) op) r.events (setting old).shape op c.args.wanted.now.all fault c.in-Some-Zero.key (ap (λ (x : Setting). x.shape) c.requires.setting) (ap (operation named) c.requires.tasks) c.requires.wanted.all_is is
+    (c.in-Ok.ensures.blame t r.events r.simulated)))
 
 pub returns-in-Some-Killed-clause-stopped : goal.returns-in-Some-Killed-clause-stopped
 returns-in-Some-Killed-clause-stopped g c =
