@@ -468,3 +468,23 @@ def each_in_turn():
         fail('err', 'none.npy', command, *fronts, (4, '', line, '0 0 0 0', 'none'))
         say('site 4096 0 err:0')
         partly(4, 'o.npy', np.zeros(1), command)
+
+
+# the sum of an array of 4 blocks and its transpose, by columns: 4 tasks each for the array, its transpose, the sum of both and the
+# partial sums, and 2 that join these, with 4, 8, 4 and 4 dependencies
+JOINED = 'let a = ramp((1024, 1024), 0, 1, (512, 512))|let s = sum(a + a.T, axis=(0))|save s "s.npy"|'
+
+
+def noted():
+    title('runs whose started and ended tasks are counted, against their report')
+    say('site 4096 0')
+    job(JOINED)
+    for workers, losses, options in ((2, 0, '--workers 2 --threads 2 --report'), (2, 0, '--workers=2 --threads=2 --report'),
+                                     (1, 0, '--report --threads 1 --workers 1'), (3, 1, '--workers 2 --script lose:1@3,join@4 --report'),
+                                     (4, 0, '--report'), (8, 0, '--workers 8 --threads 8 --report --saturation 1000'),
+                                     (5, 2, '--workers 3 --threads 1 --report --script suspect:2@0,join@0,join@1,lose:4@6'), (2, None, '--workers 2')):
+        counted = [] if losses is None else ['each key was started: true', 'each start has its end: true', 'workers started what their lines say: true']
+        report = [] if losses is None else ['keys 18', 'edges 20', f'losses {losses}']
+        say(f'noted {workers} s.npy run job.txt {options}', 'noted: 0', 'saved s.npy (1024,)', *report, 'finished by: cluster', 'audit: agrees', *counted,
+            'the file is that of plain: true')
+    say('noted 0 s.npy run job.txt --report --report', 'noted: 1', 'the file is that of plain: false')

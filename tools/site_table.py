@@ -900,7 +900,7 @@ def main():
     shelve('short.npy', saved(A)[:-1])
     shelve('front.npy', saved(A)[:4])
     shelve('text.npy', b'nothing')
-    for part in (pieces, creations, room, alone, objects, lengths, spills, real, real_spills, heads, types, blocks, saves, divided, refusals, large, words, run_cases.words, run_cases.reports, faults, run_cases.faults, places, reports, simulations, killed, run_cases.killed, numbers, folds, by_chance):
+    for part in (pieces, creations, room, alone, objects, lengths, spills, real, real_spills, heads, types, blocks, saves, divided, refusals, large, words, run_cases.words, run_cases.reports, faults, run_cases.faults, places, reports, simulations, killed, run_cases.killed, run_cases.noted, numbers, folds, by_chance):
         part()
     here = os.path.join(os.path.dirname(os.path.abspath(__file__)), '..', 'crates', 'site_table')
     for name, lines in (('stdin', LINES), ('stdout', WANTED)):
