@@ -57,6 +57,7 @@ module _ (k total : ℕ) (j : Job) (w : Cluster) (script : List Item) (u : IsNum
 
   -- the loss of a worker that was taken away is seen
   seen_taken : (v : ℕ) → enabled w (SeeLoss v) ≡ true → IsTaken k total (world_step j w (SeeLoss v)) script
+  unfolding enabled
   seen_taken v on =
       let both = and_parts (not (w.alive v)) (is_connected w v) on in
       let among : is_in v h.taken ≡ true = h.lost v both.1 (not-true (w.alive v) both.0) in
@@ -150,7 +151,7 @@ module _ (k total : ℕ) (j : Job) (w : Cluster) (script : List Item) (u : IsNum
     item_taken : (threads : ℕ) (item : Item) → is_idle w item ≡ false → removes_of item + removes_in later ≤ removes_in script → IsTaken k total (world_step j w (item_event threads item)) later
     item_taken threads (LoseItem v at) busy fewer = lose_taken v (and_parts (w.alive v) (is_connected w v) (not-false (w.alive v && is_connected w v) busy)).1 fewer
     item_taken threads (SuspectItem v at) busy fewer = suspect_taken v (and_parts (w.alive v) (is_connected w v) (not-false (w.alive v && is_connected w v) busy)).1 fewer
-    item_taken threads (JoinItem at) busy fewer = join_taken threads fewer
+    item_taken threads (JoinItem at) busy fewer = join_taken threads (omega (arith, fewer))
 
   -- a drawn event
   drawn_taken : (e : Event) → enabled w e ≡ true → ((v : ℕ) → takes_away e v ≡ false) → joins e ≡ 0 → IsTaken k total (world_step j w e) script

@@ -38,7 +38,7 @@ module _ (c d : ℕ → Bool) where
   pub one_gone : (v : ℕ) (xs : List ℕ) → ((u : ℕ) → is_in u xs ≡ true → d u ≡ true → c u ≡ true) → is_in v xs ≡ true → c v ≡ true → d v ≡ false
       → length (filter (λ u. not (c u)) xs) + 1 ≤ length (filter (λ u. not (d u)) xs)
   one_gone v [] f i cv dv = absurd (false≢true i)
-  one_gone v (x ∷ xs) f i cv dv = ⊎_elim here there (or_cases (x == v) (is_in v xs) i)
+  one_gone v (x ∷ xs) f i cv dv = ⊎_elim here (λ i. there (one_gone v xs later i cv dv)) (or_cases (x == v) (is_in v xs) i)
     where
       later : (u : ℕ) → is_in u xs ≡ true → d u ≡ true → c u ≡ true
       later u i = f u (or_right (x == u) (is_in u xs) i)
@@ -59,8 +59,8 @@ module _ (c d : ℕ → Bool) where
       here : (x == v) ≡ true → length (filter (λ u. not (c u)) (x ∷ xs)) + 1 ≤ length (filter (λ u. not (d u)) (x ∷ xs))
       here e = let q : x ≡ v = eqb-true x v e in first (c x) (d x) (ap c q ∙ cv) (ap d q ∙ dv) (more_gone xs later)
 
-      there : is_in v xs ≡ true → length (filter (λ u. not (c u)) (x ∷ xs)) + 1 ≤ length (filter (λ u. not (d u)) (x ∷ xs))
-      there i = rest (c x) (d x) (f x (ap (λ b. b || is_in x xs) (eq-eqb x x refl))) (one_gone v xs later i cv dv)
+      there : length (filter (λ u. not (c u)) xs) + 1 ≤ length (filter (λ u. not (d u)) xs) → length (filter (λ u. not (c u)) (x ∷ xs)) + 1 ≤ length (filter (λ u. not (d u)) (x ∷ xs))
+      there r = rest (c x) (d x) (f x (ap (λ b. b || is_in x xs) (eq-eqb x x refl))) r
 
 pub few_pass : (p : ℕ → Bool) (xs : List ℕ) → length (filter p xs) ≤ length xs
 few_pass p [] = omega arith
