@@ -30,9 +30,10 @@ def taken(scheduler, event):
 
 
 def phases(scheduler):
-    """Those of all keys, and of a number that is no key."""
-    names = ((key, scheduler.phase(key)) for key in range(len(scheduler.graph.keys) + 1))
-    shown = ' '.join(name + (f' by {scheduler.blame(key)}' if name == 'erred' else '') for key, name in names)
+    """Those of all keys, and of a number that is no key. What hangs on a bad key is blamed on it, wanted or not."""
+    keys = scheduler.graph.keys
+    names = ((key, scheduler.phase(key)) for key in range(len(keys) + 1))
+    shown = ' '.join(name + (f' by {scheduler.blame(key)}' if key in keys and scheduler.erred(key) else '') for key, name in names)
     return f'finishes {scheduler.finishes}: {shown}'
 
 

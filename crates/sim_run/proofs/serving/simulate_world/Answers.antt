@@ -76,7 +76,7 @@ returns-in-Some-Zero-clause-stopped g c =
     let writes : Type 0 = Rose (g.S.Site.view c.args.site.now).write_faults (g.S.Site.view c.args.site.now).write_faults in
     let op = operation named old.job.job.tasks in
     let fault = c.in-Ok.end.fault in
-    let is : fault ≡ Some (faults.Zero c.in-Some-Zero.key) = c.in-Some-Zero.is ∙ ap (λ (f : Fault). Some f) c.in-Some-Zero.field-0-is in
+    let is : fault ≡ Some (faults.Zero c.in-Some-Zero.key) = c.in-Some-Zero.is ∙ ap (λ (f : Fault). Some f) (rw c.in-Some-Zero.is at c.in-Some-Zero.field-0-is) in
     part-bare p s named told reads writes files _
     (zero-stops p s named told reads writes c.in-Some-Zero.key c.ended_at.result c.requires.runs (c.laws_hold.ensures named) c.ended_at.ensures
     (λ t. let r = c.in-Ok.ensures.served t in
@@ -101,7 +101,7 @@ returns-in-Some-Killed-clause-stopped g c =
     let key = c.in-Some-Killed.key in
     let losses = c.in-Some-Killed.losses in
     let fault = c.in-Ok.end.fault in
-    let is : fault ≡ Some (faults.Killed key losses) = c.in-Some-Killed.is ∙ ap (λ (f : Fault). Some f) c.in-Some-Killed.field-0-is in
+    let is : fault ≡ Some (faults.Killed key losses) = c.in-Some-Killed.is ∙ ap (λ (f : Fault). Some f) (rw c.in-Some-Killed.is at c.in-Some-Killed.field-0-is) in
     part-bare p s named told reads writes files _ (
       kill-at s (setting old).allowed fault key losses (ap (λ (x : Setting). x.allowed) c.requires.setting) is c.in-Ok.ensures.bounded,
       λ t. let r = c.in-Ok.ensures.served t in
