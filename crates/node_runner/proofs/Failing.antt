@@ -10,7 +10,7 @@ use Rattle.node_runner.specs.Runs.{HasBlame, HasFailed, IsFailure}
 
 -- the blame of a key, without its cause
 failed_by : {B : Type 0} (l : LabelFacts B) (wanted : List ℕ) (blame : ℕ) → HasBlame l wanted blame → HasFailed l wanted blame
-failed_by l wanted blame h = (h.0, (h.1, h.2.below))
+failed_by l wanted blame h = (h.0, h.1, h.2.below)
 
 -- where losses aren't bounded it is a zero divisor
 pub fault_where_unbounded : {B : Type 0} (l : LabelFacts B) (p : RunPlan) (f : Facts) (wanted : List ℕ) (blame : ℕ) → l.allowed ≡ p.allowed → p.allowed ≡ None → HasBlame l wanted blame → IsFailure l p wanted f (Zero blame)
@@ -26,7 +26,7 @@ pub killed_at : {B : Type 0} (l : LabelFacts B) (p : RunPlan) (f : Facts) (wante
 killed_at l p f wanted blame losses same own lost h = record {
   failed = failed_by l wanted blame h;
   counted = lost.counted;
-  above = (lost.above.0, (sym same ∙ own ∙ lost.above.1, lost.above.2));
+  above = (lost.above.0, sym same ∙ own ∙ lost.above.1, lost.above.2);
 }
 
 -- the script takes workers away as often, or a feed had failed
