@@ -141,4 +141,14 @@ done
 check 'the report of sim and of gen' "$(sed '1d;$d' "$folder/lines")" "$(sed 1d <<< "$lines")"
 rm -rf "$folder"
 
+# random simulations, most of them with a bound on losses, beside the model of tools/
+if /usr/bin/python3 -c 'import numpy' 2> /dev/null; then
+  lines=$(/usr/bin/python3 tools/random_simulations.py ./dask 100 1)
+  check 'status of 100 random simulations' "$?" 0
+  check 'last line of 100 random simulations' "$(tail -1 <<< "$lines" | cut -d ' ' -f 1-4)" '100 equal, 0 differ'
+  [ "$failed" = 0 ] || echo "$lines"
+else
+  echo 'simulation: the random ones are left out, since NumPy is not here (Debian: apt-get install python3-numpy)'
+fi
+
 summary
