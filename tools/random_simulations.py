@@ -11,12 +11,14 @@ by 0, and that ended since a task lost its worker too often.
 import concurrent.futures
 import os
 import random
+import re
 import subprocess
 import sys
 import tempfile
 
 import numpy as np
 
+from job_reader import Refused
 from random_jobs import write_random
 from random_runs import script
 from run_model import Run, lower
@@ -46,8 +48,11 @@ def items(text):
 
 
 def wanted(text, inputs, names, number, chosen):
-    """Status, lines on both outputs, and the saved arrays, by the model."""
-    run = Run(lower(text), inputs)
+    """Status, lines on both outputs, and the saved arrays, by the model. Of a refused text it has the reason, and not the place."""
+    try:
+        run = Run(lower(text), inputs)
+    except Refused as refused:
+        return 2, [], refused.args[1] + '\n', {}
     answer = run.simulate(number, **{**chosen, 'script': items(chosen['script'])})
     if isinstance(answer, str):
         arrays = [run.array(k) for k in range(len(names))]
@@ -66,7 +71,8 @@ def given(program, folder, words):
     """The same, by the program."""
     done = subprocess.run([program, *words], cwd=folder, capture_output=True, text=True, check=False, timeout=SECONDS)
     files = {name: np.load(os.path.join(folder, name)) for name in sorted(os.listdir(folder)) if name.endswith('.saved.npy')}
-    return done.returncode, done.stdout.splitlines(), done.stderr, files
+    note = re.sub('^dask: job [0-9]+:[0-9]+: ', '', done.stderr) if done.returncode == 2 else done.stderr
+    return done.returncode, done.stdout.splitlines(), note, files
 
 
 def is_equal(one, other):
