@@ -8,7 +8,8 @@
 //! ready key waits only where no worker could take it, and a key loses its attempt only for a cause that the event names.
 //! `worker` and `world` say what each worker keeps, whose event is whose, and that no message names a key that isn't there.
 //! `values` carries *value correctness* over the cluster: whatever the order of deliveries, steals, spills, losses and
-//! joins, a block that came is the key's value, and a failure that was told names a faulty key that the key depends on.
+//! joins, a block that came is the key's value, and a failure that was told names a key that is faulty or was killed, and that the
+//! key depends on.
 #![tactic(auto)]
 
 pub mod scheduler;

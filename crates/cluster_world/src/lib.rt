@@ -5,7 +5,7 @@
 //! every legal list of events. The simulator and the audit of histories stand above. It carries *value correctness* over a
 //! cluster: an event that is enabled takes the world to exactly what the definition says, and so the blocks; in a world that
 //! legal events made, each block that a client got is the value of its key, and each failure that it was told of names a
-//! faulty key. And it carries *schedule safety*: of every legal list of events, of the world that such a list made, and of each
+//! key that is faulty or was killed. And it carries *schedule safety*: of every legal list of events, of the world that such a list made, and of each
 //! step, over which an attempt ends only for a cause.
 #![tactic(auto)]
 

@@ -38,6 +38,7 @@ said_is f (event.DeliverUp w) (Some (message.Up up)) o h = h
 said_is f (event.DeliverFromClient x) (Some (message.FromClient m)) o h = h
 said_is f event.Balance None o h = h
 said_is f event.Evict None o h = h
+said_is f (event.Replicate k w) None o h = h
 said_is f _ _ o h = absurd h
 
 -- what no worker that is gone says is of none that was seen as lost

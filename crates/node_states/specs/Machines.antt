@@ -32,6 +32,7 @@ SchedSays f (event.DeliverUp w) (Some (message.Up up)) o = o ≡ cond (connected
 SchedSays f (event.DeliverFromClient x) (Some (message.FromClient m)) o = o ≡ Some (sched.FromClient x m)
 SchedSays f event.Balance None o = o ≡ Some sched.Balance
 SchedSays f event.Evict None o = o ≡ Some sched.Evict
+SchedSays f (event.Replicate k w) None o = o ≡ Some (sched.Replicate k w)
 SchedSays f _ _ o = ⊥
 
 -- what an event that is taken makes of the scheduler's facts

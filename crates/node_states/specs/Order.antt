@@ -106,6 +106,7 @@ said f (event.DeliverUp w) (Some (message.Up up)) = cond (connected f w) (Some (
 said f (event.DeliverFromClient x) (Some (message.FromClient m)) = Some (sched.FromClient x m)
 said f event.Balance None = Some sched.Balance
 said f event.Evict None = Some sched.Evict
+said f (event.Replicate k w) None = Some (sched.Replicate k w)
 said f _ _ = None
 
 abbrev pub facts_by : Facts → Option SchedEvent → Facts
