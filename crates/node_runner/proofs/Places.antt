@@ -1,7 +1,7 @@
 -- Relations place by place, that know the place.
-use Rattle.std.proofs.Common.{◌≡◌, ◌&&◌, Bool, true, false, Option, Some, None, ℕ, ◌+◌, ◌<◌, List, [], ◌∷◌, ◌++◌, length, get_or, take, sym, ap, ◌∙◌, subst, refl, arith}
+use Rattle.std.proofs.Common.{◌≡◌, ◌&&◌, map, Bool, true, false, Option, Some, None, ℕ, ◌+◌, ◌<◌, List, [], ◌∷◌, ◌++◌, length, get_or, take, sym, ap, ◌∙◌, subst, refl, arith}
 use Rattle.std.specs.Prelude.{IfSome}
-use Rattle.std.proofs.lemmas.List.{length-append, length-take, take_more, get_or_append_left, get_or_push}
+use Rattle.std.proofs.lemmas.List.{length-map, get_or-map, length-append, length-take, take_more, get_or_append_left, get_or_push}
 use mathlib.Core.Logic.{dite}
 use native.Mathlib.Decide.{ℕ_discrete}
 use Rattle.turn_cell.specs.Rows.{AllBy}
@@ -35,6 +35,16 @@ all_by_through R S Q (x ∷ xs) ys zs f h s = record {
   long = h.long ∙ sym s.long;
   each = λ k b c less. let short : k < length ys = omega (arith, h.long, s.long) in
       f k (get_or (x ∷ xs) k x) (get_or ys k b) (get_or zs k c) (h.each k x c less) (s.each k x b short);
+}
+
+-- each of the second made to another
+pub all_by_mapped : {A B : Type 0} (R : ℕ → A → B → Type 0) (f : B → B) (xs : List A) (ys : List B)
+    → ((k : ℕ) (a : A) (b : B) → R k a b → R k a (f b)) → AllBy R xs ys → AllBy R xs (map f ys)
+all_by_mapped R f xs [] g h = record { long = h.long; each = λ k a b less. absurd (omega (arith, less)) }
+all_by_mapped R f xs (y ∷ ys) g h = record {
+  long = length-map (y ∷ ys) f ∙ h.long;
+  each = λ k a b less. let short : k < length (y ∷ ys) = omega (arith, less, length-map (y ∷ ys) f) in
+      subst (R k (get_or xs k a)) (sym (get_or-map f (y ∷ ys) k y b short)) (g k (get_or xs k a) (get_or (y ∷ ys) k y) (h.each k a y short));
 }
 
 -- what holds of a value that is whole holds of what comes of it
