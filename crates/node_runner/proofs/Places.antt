@@ -1,5 +1,5 @@
 -- Relations place by place, that know the place.
-use Rattle.std.proofs.Common.{◌≡◌, ◌&&◌, map, Bool, true, false, Option, Some, None, ℕ, ◌+◌, ◌<◌, List, [], ◌∷◌, ◌++◌, length, get_or, take, sym, ap, ◌∙◌, subst, refl, arith}
+use Rattle.std.proofs.Common.{◌≡◌, ◌&&◌, map, set, drop, zero, suc, Bool, true, false, Option, Some, None, ℕ, ◌+◌, ◌<◌, ◌≤◌, List, [], ◌∷◌, ◌++◌, length, get_or, take, sym, ap, ◌∙◌, subst, refl, arith}
 use Rattle.std.specs.Prelude.{IfSome}
 use Rattle.std.proofs.lemmas.List.{length-map, get_or-map, length-append, length-take, take_more, get_or_append_left, get_or_push}
 use mathlib.Core.Logic.{dite}
@@ -57,3 +57,16 @@ pub first_two : (a b c : Bool) → (a && b) && c ≡ true → (a ≡ true) × (b
 first_two true true c e = (refl, refl)
 first_two true false c e = let no : ⊥ = cc in absurd no
 first_two false b c e = let no : ⊥ = cc in absurd no
+
+-- one more of a list made to another in its place
+pub mapped_next : {B : Type 0} (f : B → B) (xs : List B) (i : ℕ) (d : B) → i < length xs
+    → set (map f (take i xs) ++ drop i xs) i (f (get_or (map f (take i xs) ++ drop i xs) i d)) ≡ map f (take (i + 1) xs) ++ drop (i + 1) xs
+mapped_next f [] i d less = absurd (omega (arith, less))
+mapped_next f (x ∷ xs) zero d less = refl
+mapped_next f (x ∷ xs) (suc i) d less = ap (λ ys. f x ∷ ys) (mapped_next f xs i d (omega (arith, less)))
+
+pub mapped_all : {B : Type 0} (f : B → B) (xs : List B) (i : ℕ) → length xs ≤ i → map f (take i xs) ++ drop i xs ≡ map f xs
+mapped_all f [] zero less = refl
+mapped_all f [] (suc i) less = refl
+mapped_all f (x ∷ xs) zero less = absurd (omega (arith, less))
+mapped_all f (x ∷ xs) (suc i) less = ap (λ ys. f x ∷ ys) (mapped_all f xs i (omega (arith, less)))
